@@ -1,0 +1,28 @@
+-- The status and the text of a report.
+use Rattle.std.specs.Prelude.{ℕ, List, ◌++◌, codes, encode_utf8_all}
+use Rattle.std.specs.Fmt.{decimal}
+use Rattle.qgm_app.specs.declared.report.Report.{Report}
+use Rattle.qgm_app.specs.declared.report.Report.TheVariants.{Rows, Usage, SchemaRefused, DataRefused, QueryRefused}
+use Rattle.qgm_app.specs.declared.report.Said.{Said}
+
+abbrev pub status_of : Report → ℕ
+status_of (Rows bytes) = 0
+status_of Usage = 2
+status_of (SchemaRefused number) = 5
+status_of (DataRefused number table row) = 6
+status_of (QueryRefused number) = 7
+
+abbrev pub printed : Report → List ℕ
+printed (Rows bytes) = bytes
+printed Usage = codes "USAGE\n"
+printed (SchemaRefused number) = codes "SCHEMA S" ++ (decimal number ++ codes "\n")
+printed (DataRefused number table row) = codes "DATA X" ++ (decimal number ++ (codes " " ++ (encode_utf8_all table ++ (codes " " ++ (decimal row ++ codes "\n")))))
+printed (QueryRefused number) = codes "QUERY Q" ++ (decimal number ++ codes "\n")
+
+-- a status and what is printed, as a report has them
+abbrev pub said_of : Report → Said
+said_of report = record { status = status_of report; text = printed report }
+
+-- the same of a read that failed: the name that was asked for
+abbrev pub read_failed : List ℕ → Said
+read_failed name = record { status = 3; text = codes "READ " ++ (name ++ codes "\n") }

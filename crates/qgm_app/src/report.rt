@@ -1,0 +1,80 @@
+// What a run answers, its status and its text.
+ghost use Rattle.std.specs.Prelude.{◌≡◌, IfOk, encode_utf8_all};
+ghost use Rattle.qgm_app.specs.declared.report.Report.TheVariants.{DataRefused};
+ghost use Rattle.qgm_app.specs.Printed.{read_failed, said_of};
+
+use qgm_base::{OutOfMemory, Text};
+use sql_text::Name;
+use sqlite_items::Items;
+use std::alloc::Global;
+
+/// What a run answers, where no read fails.
+#[derive(Debug, Drop)]
+pub enum Report {
+    /// A header and rows, in CSV.
+    Rows(Items<u8>),
+    /// The words are no command.
+    Usage,
+    /// The schema is refused with this number.
+    SchemaRefused(u8),
+    /// A record (0 for the header) of a table is refused with a number.
+    DataRefused { number: u8, table: Name, row: u64 },
+    /// The query is refused with this number.
+    QueryRefused(u8),
+}
+
+/// A status, and what is printed.
+#[derive(Debug, Drop)]
+pub struct Said {
+    pub status: u8,
+    pub text: Items<u8>,
+}
+
+// A status and a text.
+fn say(alloc: Global, status: u8, text: &str) -> Result<Said, OutOfMemory>
+    ensures { IfOk result (λ said. said ≡ record { status = status; text = text.now }) }
+{
+    Ok(Said {
+        status,
+        text: Items::from_vec(text.as_bytes().to_vec(alloc)?),
+    })
+}
+
+// What is said of a table that is refused.
+fn say_data(alloc: Global, number: u8, table: &Name, row: u64) -> Result<Said, OutOfMemory>
+    ensures { IfOk result (λ said. said ≡ said_of (DataRefused number table.now row)) }
+{
+    let table = table.to_utf8(alloc)?;
+    let line = format!(in alloc; "DATA X{number} {table} {row}\n")?;
+    say(alloc, 6, line.as_str())
+}
+
+/// What is said of a read that failed: the name that was asked for.
+pub fn say_fault(alloc: Global, name: &Text) -> Result<Said, OutOfMemory>
+    ensures { IfOk result (λ said. said ≡ read_failed (encode_utf8_all name.now)) }
+{
+    let name = name.to_utf8(alloc)?;
+    let line = format!(in alloc; "READ {name}\n")?;
+    say(alloc, 3, line.as_str())
+}
+
+impl Report {
+    /// The status and the text of the report.
+    pub fn said(self, alloc: Global) -> Result<Said, OutOfMemory>
+        ensures { IfOk result (λ said. said ≡ said_of self) }
+    {
+        match self {
+            Report::Rows(text) => Ok(Said { status: 0, text }),
+            Report::Usage => say(alloc, 2, "USAGE\n"),
+            Report::SchemaRefused(number) => {
+                let line = format!(in alloc; "SCHEMA S{number}\n")?;
+                say(alloc, 5, line.as_str())
+            }
+            Report::DataRefused { number, table, row } => say_data(alloc, number, &table, row),
+            Report::QueryRefused(number) => {
+                let line = format!(in alloc; "QUERY Q{number}\n")?;
+                say(alloc, 7, line.as_str())
+            }
+        }
+    }
+}
