@@ -1,7 +1,7 @@
-//! Cells, and the names of columns.
+//! Cells, their order, and the names of columns.
 #![tactic(auto)]
 
 mod cell;
 
-pub use cell::{Cell, OutNames};
+pub use cell::{Cell, OutNames, cell_order, copy};
 pub use qgm_base::Text;

@@ -1,0 +1,3 @@
+mod Inserted
+mod Order
+mod SortedOnce

@@ -1,0 +1,63 @@
+// The rows of a table or of a query's result.
+ghost use Rattle.std.specs.Prelude.{◌≡◌, ◌++◌, ◌∷◌, [], List, OnOk, OnErr};
+ghost use Rattle.row_bag.specs.declared.row.Row.{Row};
+
+use crate::row::Row;
+use qgm_base::OutOfMemory;
+use std::alloc::Global;
+use std::marker::Model;
+
+/// Rows, of which several may be equal. Contracts see it as the list of the rows.
+#[derive(Debug, Drop)]
+pub struct Bag {
+    rows: Vec<Row>,
+}
+
+impl Model for Bag {
+    ghost Value = { List Row };
+
+    ghost view = { λ b. b.rows.items };
+}
+
+impl Bag {
+    /// No row.
+    pub fn new(alloc: Global) -> Bag
+        ensures { result ≡ [] }
+    {
+        Bag {
+            rows: Vec::new(alloc),
+        }
+    }
+
+    /// The rows of a vector, which takes no memory.
+    pub fn from_rows(rows: Vec<Row>) -> Bag
+        ensures { result ≡ rows.items }
+    {
+        Bag { rows }
+    }
+
+    /// The vector of the rows, which takes no memory.
+    pub fn into_rows(self) -> Vec<Row>
+        ensures { result.items ≡ self }
+    {
+        self.rows
+    }
+
+    /// The rows.
+    pub fn rows(&self) -> &[Row]
+        ensures { result.now ≡ self.now }
+    {
+        &self.rows
+    }
+
+    /// Adds a row at the end.
+    pub fn push(&mut self, row: Row) -> Result<(), OutOfMemory>
+        ensures ok { OnOk result (self.new ≡ self.old ++ row ∷ []) }
+        ensures err { OnErr result (self.new ≡ self.old) }
+    {
+        match self.rows.push(row) {
+            Ok(()) => Ok(()),
+            Err(_) => Err(OutOfMemory),
+        }
+    }
+}

@@ -1,0 +1,69 @@
+// The tables that a query reads.
+ghost use Rattle.std.specs.Prelude.{◌≡◌, ◌++◌, ◌∷◌, [], List, OnOk, OnErr, option_map};
+ghost use Rattle.row_bag.specs.declared.tables.Table.{Table};
+ghost use Rattle.row_bag.specs.Tables.{bag_named};
+
+use crate::bag::Bag;
+use qgm_base::{OutOfMemory, Text};
+use std::alloc::Global;
+use std::marker::Model;
+
+/// A table: its name and its rows.
+#[derive(Debug, Drop)]
+pub struct Table {
+    pub name: Text,
+    pub bag: Bag,
+}
+
+/// Tables, in declared order. Contracts see it as the list of them.
+#[derive(Debug, Drop)]
+pub struct Tables {
+    tables: Vec<Table>,
+}
+
+impl Model for Tables {
+    ghost Value = { List Table };
+
+    ghost view = { λ t. t.tables.items };
+}
+
+impl Tables {
+    /// No table.
+    pub fn new(alloc: Global) -> Tables
+        ensures { result ≡ [] }
+    {
+        Tables {
+            tables: Vec::new(alloc),
+        }
+    }
+
+    /// The tables.
+    pub fn as_slice(&self) -> &[Table]
+        ensures { result.now ≡ self.now }
+    {
+        &self.tables
+    }
+
+    /// Adds a table at the end.
+    pub fn push(&mut self, table: Table) -> Result<(), OutOfMemory>
+        ensures ok { OnOk result (self.new ≡ self.old ++ table ∷ []) }
+        ensures err { OnErr result (self.new ≡ self.old) }
+    {
+        match self.tables.push(table) {
+            Ok(()) => Ok(()),
+            Err(_) => Err(OutOfMemory),
+        }
+    }
+
+    /// The rows of the first table of a name; none exactly where no table has the name.
+    pub fn find(&self, name: &Text) -> Option<&Bag>
+        ensures { option_map (λ b. b.now) result ≡ bag_named self.now name.now }
+    {
+        for table in self.as_slice() {
+            if table.name == *name {
+                return Some(&table.bag);
+            }
+        }
+        None
+    }
+}
