@@ -1,7 +1,9 @@
 -- What files and a sink in memory hold.
-use Rattle.std.specs.Prelude.{List, map}
+use Rattle.std.specs.Prelude.{ℕ, ◌≡◌, ◌⊎◌, ⊤, List, map, Contains, Option, None, Result, Ok, Err}
 use Rattle.std.specs.String.{string_bytes}
 use Rattle.io_edge.specs.Outside.{File, Ask, Told}
+use Rattle.io_edge.specs.declared.files.ReadRefusal.{ReadRefusal}
+use Rattle.io_edge.specs.declared.files.ReadRefusal.TheVariants.{TooLarge, Failed, Memory}
 use Rattle.io_edge.specs.declared.mem_files.Entry.{Entry}
 use Rattle.io_edge.specs.declared.mem_files.Read.{Read}
 
@@ -13,3 +15,14 @@ ask_of r = (string_bytes r.name, r.failed)
 
 abbrev pub told_by : List Entry → List Read → Told
 told_by entries reads = record { files = map file_of entries; asked = map ask_of reads }
+
+-- a read is to fail: the number of the call is listed, or no file has the name
+abbrev pub IsToFail : List ℕ → ℕ → Option (List ℕ) → Type 0
+IsToFail failing call bytes = Contains failing call ⊎ (bytes ≡ None)
+
+-- a read fails exactly where it is to fail, want of memory aside
+abbrev pub FailsWhere : Result (Unit {0}) ReadRefusal → Type 0 → Type 0
+FailsWhere (Ok done) to_fail = to_fail → ⊥
+FailsWhere (Err TooLarge) to_fail = to_fail → ⊥
+FailsWhere (Err Failed) to_fail = to_fail
+FailsWhere (Err Memory) to_fail = ⊤

@@ -1,6 +1,7 @@
 -- What files and a sink tell of themselves, and what a call does to it.
 use Rattle.std.specs.Prelude.{ℕ, ◌≡◌, ◌<◌, ◌≤◌, Bool, true, false, List, [], ◌∷◌, ◌++◌, length, take, Option, Some, None, IfSome, option_map, Result, Ok, Err, if◌then◌else◌}
 use Rattle.std.specs.Str.{bytes_eq}
+use Rattle.io_edge.specs.Causes.{raised}
 use Rattle.io_edge.specs.declared.files.ReadRefusal.{ReadRefusal}
 use Rattle.io_edge.specs.declared.files.ReadRefusal.TheVariants.{TooLarge, Failed, Memory}
 
@@ -43,6 +44,13 @@ StandsFor told name bytes = IfSome told (λ t. found t.files name ≡ Some bytes
 -- the name stands for more bytes than the limit, where it is told
 abbrev pub IsOver : Option Told → List ℕ → ℕ → Type 0
 IsOver told name limit = IfSome told (λ t. IfSome (found t.files name) (λ bytes. limit < length bytes) × (found t.files name ≡ None → ⊥))
+
+-- the count of faults after a read that raises it where it fails, and nowhere else
+abbrev pub faults_after : Result (Unit {0}) ReadRefusal → ℕ → ℕ
+faults_after (Ok done) count = count
+faults_after (Err TooLarge) count = count
+faults_after (Err Failed) count = raised count
+faults_after (Err Memory) count = count
 
 -- how many bytes a write took
 abbrev pub taken : {E : Type 0} → Result ℕ E → ℕ

@@ -1,5 +1,5 @@
 // One read, whose refusals but the limit end the caller's work.
-ghost use Rattle.std.specs.Prelude.{◌≡◌, ◌≤◌, IfErr, OnErr};
+ghost use Rattle.std.specs.Prelude.{◌≡◌, ◌≤◌, length, IfOk, IfSome};
 ghost use Rattle.io_edge.specs.Causes.{Rose};
 ghost use Rattle.io_edge.specs.Outcome.{Comes, ended, read, RoseIfFault};
 
@@ -31,7 +31,8 @@ impl From<OutOfMemory> for Interruption {
     }
 }
 
-/// The bytes of a name, or none where they are more than the limit.
+/// The bytes of a name, or none where they are more than the limit. It reads once, and answers
+/// `ReadFault` with that name where the read fails.
 pub fn fetch_file<F: Files>(
     alloc: Global,
     files: &mut F,
@@ -39,6 +40,7 @@ pub fn fetch_file<F: Files>(
     limit: usize,
 ) -> Result<Option<Items<u8>>, Interruption>
     ensures comes { Comes (F.told files.old) (F.told files.new) (λ fs. read fs name.now limit) (ended result) }
+    ensures fits { IfOk result (λ bytes. IfSome bytes (λ b. length b ≤ limit)) }
     ensures later { F.faults files.old ≤ F.faults files.new }
     ensures failed { RoseIfFault result (F.faults files.old) (F.faults files.new) }
 {

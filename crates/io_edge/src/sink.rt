@@ -5,11 +5,12 @@ ghost use Rattle.io_edge.specs.Outside.{TakesSome, taken, written_after, StopsSh
 
 use thiserror::Error;
 
-/// A write failed.
+/// A write failed: a fault, which the count of faults shows.
 #[derive(Clone, Copy, Debug, PartialEq, Eq, Error)]
 #[error("the write failed")]
 pub struct Failed;
 
+/// Where bytes are written, piece by piece.
 pub trait Sink {
     /// What was written, where it is told.
     ghost written: { Self → Option (List ℕ) };
@@ -25,7 +26,8 @@ pub trait Sink {
         ensures failed { OnErr result (Rose (faults self.old) (faults self.new)) };
 }
 
-/// Writes all of the bytes, or a proper prefix of them.
+/// Writes all of the bytes, or a proper prefix of them where a write fails. For no byte it makes no
+/// write.
 pub fn write_all<K: Sink>(out: &mut K, bytes: &[u8]) -> Result<(), Failed>
     ensures all { OnOk result (K.written out.new ≡ written_after bytes.now (K.written out.old)) }
     ensures short { OnErr result (StopsShort (K.written out.old) (K.written out.new) bytes.now) }
