@@ -22,5 +22,5 @@ fault_over block (Some table) =
     else None
 
 -- the least number that holds of a query, or none where it is valid
-unfoldable pub fault : QueryText → List TableDecl → Option ℕ
+abbrev pub fault : QueryText → List TableDecl → Option ℕ
 fault query catalog = fault_over query.block (table_named catalog query.block.table)
