@@ -1,6 +1,6 @@
 //! The plain program that runs a checked query: loops over the rows of its table.
 #![tactic(auto)]
 
-mod execute;
+mod loops;
 
-pub use crate::execute::execute_query;
+pub use loops::execute;

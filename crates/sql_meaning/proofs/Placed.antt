@@ -15,8 +15,8 @@ pub placed : (columns : List (List ℕ)) (name : List ℕ) (k : ℕ) → place_o
 placed [] name k e cells = cc e
 placed (column ∷ columns) name k e [] = refl
 placed (column ∷ columns) name k e (cell ∷ cells) = elim (cases_Bool (same_name column name)) [
-    | inl is ↦ let first : Some 0 ≡ Some k = rw is at e in let zeroth : k ≡ 0 = cc first in rw (zeroth, is) refl
-    | inr other ↦
-        let after = later (place_of columns name) k (rw other at e) in
-        rw (after.2, other) (placed columns name after.0 after.1 cells)
-  ]
+  | inl is ↦ let first : Some 0 ≡ Some k = rw is at e in let zeroth : k ≡ 0 = cc first in rw (zeroth, is) refl
+  | inr other ↦
+      let after = later (place_of columns name) k (rw other at e) in
+      rw (after.2, other) (placed columns name after.0 after.1 cells)
+]

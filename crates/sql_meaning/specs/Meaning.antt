@@ -42,5 +42,5 @@ pub record Answer : Type 0 where
 abbrev pub answer : QueryText → List TableDecl → List Table → Answer
 answer query catalog tables = record {
   names = map (λ name. Some name) query.block.columns;
-  rows = sorted_rows (rows query.block catalog tables)
+  rows = sorted_rows (rows query.block catalog tables);
 }

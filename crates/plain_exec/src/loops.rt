@@ -24,13 +24,9 @@ fn cell(alloc: Global, row: &Row, place: usize) -> Result<Cell, OutOfMemory>
 fn project(alloc: Global, row: &Row, places: &[usize]) -> Result<Row, OutOfMemory>
     ensures { IfOk result (λ made. made ≡ row_at places.now row.now) }
 {
-    let Ok(mut cells) = Vec::with_capacity(alloc, places.len()) else {
-        return Err(OutOfMemory);
-    };
+    let mut cells = Vec::with_capacity(alloc, places.len())?;
     for place in places {
-        if cells.push(cell(alloc, row, *place)?).is_err() {
-            return Err(OutOfMemory);
-        }
+        cells.push(cell(alloc, row, *place)?)?;
     }
     Ok(Row {
         cells: Items::from_vec(cells),
@@ -41,24 +37,16 @@ fn project(alloc: Global, row: &Row, places: &[usize]) -> Result<Row, OutOfMemor
 fn project_all(alloc: Global, rows: &[Row], places: &[usize]) -> Result<Bag, OutOfMemory>
     ensures { IfOk result (λ bag. bag ≡ map (row_at places.now) rows.now) }
 {
-    let Ok(mut made) = Vec::with_capacity(alloc, rows.len()) else {
-        return Err(OutOfMemory);
-    };
+    let mut made = Vec::with_capacity(alloc, rows.len())?;
     for row in rows {
-        if made.push(project(alloc, row, places)?).is_err() {
-            return Err(OutOfMemory);
-        }
+        made.push(project(alloc, row, places)?)?;
     }
     Ok(Bag::from_rows(made))
 }
 
 /// The rows of a checked query over these tables, in the order of its table's rows. It is the
 /// nested loop that the meaning of a query is, with a column's place for its name.
-pub fn execute_query(
-    alloc: Global,
-    checked: &Checked,
-    tables: &Tables,
-) -> Result<Bag, OutOfMemory>
+pub fn execute(alloc: Global, checked: &Checked, tables: &Tables) -> Result<Bag, OutOfMemory>
     ensures { IfOk result (λ bag. bag ≡ rows_at checked.now tables.now) }
 {
     match tables.find(&checked.table) {

@@ -25,9 +25,7 @@ fn output_names(alloc: Global, names: &[Name]) -> Result<OutNames, OutOfMemory>
 {
     let mut out = Items::new(alloc);
     for name in names {
-        if out.push(Some(name.copy(alloc)?)).is_err() {
-            return Err(OutOfMemory);
-        }
+        out.push(Some(name.copy(alloc)?))?;
     }
     Ok(out)
 }
@@ -46,19 +44,13 @@ fn places(
         let Some(place) = column_place(columns, name) else {
             return Ok(None);
         };
-        if places.push(place).is_err() {
-            return Err(OutOfMemory);
-        }
+        places.push(place)?;
     }
     Ok(Some(places))
 }
 
 /// The query with its names resolved, or why it is not valid. Its rows by places are those by names.
-pub fn check_query(
-    alloc: Global,
-    query: &QueryText,
-    catalog: &Catalog,
-) -> Result<Checked, QueryRefusal>
+pub fn check(alloc: Global, query: &QueryText, catalog: &Catalog) -> Result<Checked, QueryRefusal>
     ensures valid { IfOk result (λ checked. fault query.now catalog.now ≡ None) }
     ensures unknown_table { IsErrOf result QueryRefusal.UnknownTable → fault query.now catalog.now ≡ Some 6 }
     ensures unknown_column { IsErrOf result QueryRefusal.UnknownColumn → fault query.now catalog.now ≡ Some 8 }
