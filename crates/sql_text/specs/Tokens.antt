@@ -9,8 +9,8 @@ use Rattle.sql_text.specs.declared.key.Key.{Key}
 use Rattle.sql_text.specs.declared.token.Token.{Token}
 use Rattle.sql_text.specs.declared.token.Token.TheVariants as t
 use Rattle.sql_text.specs.declared.token.Spanned.{Spanned}
-use Rattle.sql_text.specs.declared.lex.LexRefusal.{LexRefusal}
-use Rattle.sql_text.specs.declared.lex.LexRefusal.TheVariants as r
+use Rattle.sql_text.specs.declared.lexer.LexRefusal.{LexRefusal}
+use Rattle.sql_text.specs.declared.lexer.LexRefusal.TheVariants as r
 
 -- space, tab, line feed, carriage return
 abbrev pub is_blank : ℕ → Bool

@@ -2,10 +2,10 @@
 #![tactic(auto)]
 
 mod key;
-mod lex;
+mod lexer;
 mod token;
 mod words;
 
 pub use key::Key;
-pub use lex::LexRefusal;
+pub use lexer::{LexRefusal, lex};
 pub use token::{Name, Spanned, Token};

@@ -95,10 +95,17 @@ pub fn word_length(bytes: &[u8]) -> usize
 }
 
 /// Whether a word has these letters in upper case.
-fn has_letters(word: &[u8], letters: &[u8]) -> bool
-    ensures { result ≡ bytes_eq letters.now (spec.folded word.now) }
+fn has_letters(mut word: &[u8], mut letters: &[u8]) -> bool
+    ensures { result ≡ bytes_eq letters.entry.now (spec.folded word.entry.now) }
 {
-    word.iter().map(|byte| byte.to_ascii_uppercase()).eq(letters.iter().copied())
+    'letters: while let ([byte, more @ ..], [letter, others @ ..]) = (word, letters) {
+        if *letter != byte.to_ascii_uppercase() {
+            return false;
+        }
+        word = more;
+        letters = others;
+    }
+    word.is_empty() && letters.is_empty()
 }
 
 /// The key word of a table that a word is.

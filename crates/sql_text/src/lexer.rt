@@ -21,7 +21,7 @@ pub enum LexRefusal {
 
 impl From<OutOfMemory> for LexRefusal {
     ghost use Rattle.std.specs.Prelude.{◌≡◌};
-    ghost use Rattle.sql_text.specs.declared.lex.LexRefusal.TheVariants.{Memory};
+    ghost use Rattle.sql_text.specs.declared.lexer.LexRefusal.TheVariants.{Memory};
 
     ghost from_gives = { λ _ e. e ≡ Memory };
 
@@ -32,7 +32,7 @@ impl From<OutOfMemory> for LexRefusal {
 
 impl<T: Drop> From<AllocFailed<T>> for LexRefusal {
     ghost use Rattle.std.specs.Prelude.{◌≡◌};
-    ghost use Rattle.sql_text.specs.declared.lex.LexRefusal.TheVariants.{Memory};
+    ghost use Rattle.sql_text.specs.declared.lexer.LexRefusal.TheVariants.{Memory};
 
     ghost from_gives = { λ _ e. e ≡ Memory };
 
@@ -62,7 +62,8 @@ fn sign(byte: u8) -> Result<(Token, usize), LexRefusal>
 
 /// The token that stands first, and how many bytes it has.
 fn first(alloc: Global, bytes: &[u8]) -> Result<(Token, usize), LexRefusal>
-    ensures { spec.Gives result (spec.first bytes.now) }
+    ensures found { spec.Gives result (spec.first bytes.now) }
+    ensures size { IfOk result (λ found. (1 ≤ found.1) × (found.1 ≤ length bytes.now)) }
 {
     match bytes {
         [] => Err(LexRefusal::BadCharacter),
@@ -75,4 +76,34 @@ fn first(alloc: Global, bytes: &[u8]) -> Result<(Token, usize), LexRefusal>
             }
         }
     }
+}
+
+/// The tokens of a text in UTF-8, by the longest match from the left (SQL-92, 5.2). It stops at
+/// the first byte with which no token begins.
+pub fn lex(alloc: Global, bytes: &[u8]) -> Result<Vec<Spanned>, LexRefusal>
+    ensures tokens { IfOk result (λ spans. spec.tokens bytes.now ≡ Ok spans.items) }
+    ensures bad_character { IsErrOf result LexRefusal.BadCharacter → spec.tokens bytes.now ≡ Err 1 }
+    ensures ascending { IfOk result (λ spans. spec.Ascends 0 spans.items (length bytes.now)) }
+    ensures slices { IfOk result (λ spans. All (λ s. spec.IsTextOf s.token (spec.slice bytes.now s.start s.end)) spans.items) }
+{
+    let mut spans = Vec::new(alloc);
+    let mut place = 0;
+    let mut rest = bytes;
+    'text: while let [byte, more @ ..] = rest {
+        if is_blank(*byte) {
+            place += 1;
+            rest = more;
+        } else {
+            let (token, size) = first(alloc, rest)?;
+            let end = place + size;
+            spans.push(Spanned {
+                token,
+                start: place,
+                end,
+            })?;
+            place = end;
+            rest = &rest[size..];
+        }
+    }
+    Ok(spans)
 }
