@@ -102,7 +102,7 @@ pub fn lex(alloc: Global, bytes: &[u8]) -> Result<Vec<Spanned>, LexRefusal>
                 end,
             })?;
             place = end;
-            rest = &rest[size..];
+            (_, rest) = rest.split_at(size);
         }
     }
     Ok(spans)
