@@ -2,7 +2,10 @@
 #![tactic(auto)]
 
 mod key;
+mod lexer;
 mod token;
+mod words;
 
 pub use key::Key;
+pub use lexer::{LexRefusal, lex};
 pub use token::{Name, Spanned, Token};
