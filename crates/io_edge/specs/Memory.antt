@@ -1,10 +1,11 @@
 -- What files and a sink in memory hold.
-use Rattle.std.specs.Prelude.{ℕ, ◌≡◌, ◌⊎◌, ⊤, List, map, Contains, Option, None, Result, Ok, Err}
+use Rattle.std.specs.Prelude.{ℕ, ◌≡◌, ◌⊎◌, ⊤, List, map, Contains, Option, Some, None, Result, Ok, Err}
 use Rattle.std.specs.String.{string_bytes}
 use Rattle.io_edge.specs.Outside.{File, Ask, Told}
 use Rattle.io_edge.specs.declared.files.ReadRefusal.{ReadRefusal}
 use Rattle.io_edge.specs.declared.files.ReadRefusal.TheVariants.{TooLarge, Failed, Memory}
 use Rattle.io_edge.specs.declared.mem_files.Entry.{Entry}
+use Rattle.io_edge.specs.declared.mem_files.MemFiles.{MemFiles}
 use Rattle.io_edge.specs.declared.mem_files.Read.{Read}
 
 abbrev pub file_of : Entry → File
@@ -13,8 +14,9 @@ file_of e = (string_bytes e.name, e.bytes.items)
 abbrev pub ask_of : Read → Ask
 ask_of r = (string_bytes r.name, r.failed)
 
-abbrev pub told_by : List Entry → List Read → Told
-told_by entries reads = record { files = map file_of entries; asked = map ask_of reads }
+-- what files in memory tell: all
+abbrev pub told_of : MemFiles → Option Told
+told_of files = Some (record { files = map file_of files.entries.items; asked = map ask_of files.reads.items })
 
 -- a read is to fail: the number of the call is listed, or no file has the name
 abbrev pub IsToFail : List ℕ → ℕ → Option (List ℕ) → Type 0
