@@ -1,7 +1,6 @@
 -- Reading: the tree that tokens spell, if there is one.
-use Rattle.std.specs.Prelude.{◌≡◌, ℕ, Bool, true, false, List, [], ◌∷◌, map, Option, Some, None, Result, Ok, Err}
+use Rattle.std.specs.Prelude.{◌≡◌, ℕ, Bool, true, false, List, [], ◌∷◌, Option, Some, None, Result, Ok, Err}
 use Rattle.sql_text.specs.declared.key.Key.TheVariants.{Create, From, Integer, Select, Table}
-use Rattle.sql_text.specs.declared.token.Spanned.{Spanned}
 use Rattle.sql_text.specs.declared.token.Token.{Token}
 use Rattle.sql_text.specs.declared.token.Token.TheVariants as t
 use Rattle.sql_ast.specs.declared.tree.Block.{Block}
@@ -10,10 +9,6 @@ use Rattle.sql_ast.specs.declared.tree.Schema.{Schema}
 use Rattle.sql_ast.specs.declared.tree.TableDecl.{TableDecl}
 use Rattle.sql_parser.specs.declared.refusal.ParseRefusal.{ParseRefusal}
 use Rattle.sql_parser.specs.declared.refusal.ParseRefusal.TheVariants.{Syntax, Memory}
-
--- the tokens without their places
-abbrev pub token_list : List Spanned → List Token
-token_list spans = map (λ s. s.token) spans
 
 -- a value, and the tokens after it
 abbrev pub Found : Type 0 → Type 0

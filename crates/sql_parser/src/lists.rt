@@ -3,7 +3,8 @@ ghost use Rattle.std.specs.Prelude.{◌≡◌, ◌∷◌, ◌<◌, [], IfSome, I
 ghost use Rattle.sql_text.specs.declared.key.Key.TheVariants.{Integer};
 ghost use Rattle.sql_text.specs.declared.token.Token.TheVariants as t;
 ghost use Rattle.sql_parser.specs.Read as read;
-ghost use Rattle.sql_parser.specs.Read.{GivesSeen, token_list};
+ghost use Rattle.sql_text.specs.Tokens.{token_list};
+ghost use Rattle.sql_parser.specs.Read.{GivesSeen};
 
 use crate::refusal::ParseRefusal;
 use sql_ast::Names;

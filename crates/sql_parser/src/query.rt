@@ -4,7 +4,8 @@ ghost use Rattle.sql_ast.specs.declared.tree.QueryText.{QueryText};
 ghost use Rattle.sql_ast.specs.Spelling.{SpellsQuery};
 ghost use Rattle.sql_parser.specs.declared.refusal.ParseRefusal.TheVariants.{Syntax};
 ghost use Rattle.sql_parser.specs.Read as read;
-ghost use Rattle.sql_parser.specs.Read.{Gives, GivesSeen, query_tree, token_list};
+ghost use Rattle.sql_text.specs.Tokens.{token_list};
+ghost use Rattle.sql_parser.specs.Read.{Gives, GivesSeen, query_tree};
 
 use crate::lists::names;
 use crate::refusal::ParseRefusal;

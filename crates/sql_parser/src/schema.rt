@@ -4,7 +4,8 @@ ghost use Rattle.sql_ast.specs.declared.tree.Schema.{Schema};
 ghost use Rattle.sql_ast.specs.Spelling.{SpellsSchema};
 ghost use Rattle.sql_parser.specs.declared.refusal.ParseRefusal.TheVariants.{Syntax};
 ghost use Rattle.sql_parser.specs.Read as read;
-ghost use Rattle.sql_parser.specs.Read.{Gives, GivesSeen, schema_tree, token_list};
+ghost use Rattle.sql_text.specs.Tokens.{token_list};
+ghost use Rattle.sql_parser.specs.Read.{Gives, GivesSeen, schema_tree};
 
 use crate::lists::elements;
 use crate::refusal::ParseRefusal;

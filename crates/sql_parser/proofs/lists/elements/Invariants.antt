@@ -1,5 +1,6 @@
 use Rattle.std.proofs.Common.{◌≡◌, ◌++◌, Some, length}
-use Rattle.sql_parser.specs.Read.{elements, more_elements, token_list}
+use Rattle.sql_text.specs.Tokens.{token_list}
+use Rattle.sql_parser.specs.Read.{elements, more_elements}
 use Rattle.sql_parser.proofs.lists.elements.Given as goal
 
 abbrev pub invariant-elements : goal.invariant-elements

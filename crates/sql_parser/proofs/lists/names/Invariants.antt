@@ -1,5 +1,6 @@
 use Rattle.std.proofs.Common.{◌≡◌, ◌++◌, Some, length}
-use Rattle.sql_parser.specs.Read.{names, more_names, token_list}
+use Rattle.sql_text.specs.Tokens.{token_list}
+use Rattle.sql_parser.specs.Read.{names, more_names}
 use Rattle.sql_parser.proofs.lists.names.Given as goal
 
 abbrev pub invariant-names : goal.invariant-names

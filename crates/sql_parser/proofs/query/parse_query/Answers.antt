@@ -1,5 +1,6 @@
 use Rattle.sql_ast.specs.Spelling.{SpellsQuery}
-use Rattle.sql_parser.specs.Read.{query_tree, token_list}
+use Rattle.sql_text.specs.Tokens.{token_list}
+use Rattle.sql_parser.specs.Read.{query_tree}
 use Rattle.sql_parser.proofs.Sound.{query_sound}
 use Rattle.sql_parser.proofs.Complete.{query_complete}
 use Rattle.sql_parser.proofs.Laws.{found_of, only_of, none_of, one_of}

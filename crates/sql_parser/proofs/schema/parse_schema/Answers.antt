@@ -1,5 +1,6 @@
 use Rattle.sql_ast.specs.Spelling.{SpellsSchema}
-use Rattle.sql_parser.specs.Read.{schema_tree, token_list}
+use Rattle.sql_text.specs.Tokens.{token_list}
+use Rattle.sql_parser.specs.Read.{schema_tree}
 use Rattle.sql_parser.proofs.Sound.{schema_sound}
 use Rattle.sql_parser.proofs.Complete.{schema_complete}
 use Rattle.sql_parser.proofs.Laws.{found_of, only_of, none_of, one_of}
