@@ -2,7 +2,9 @@
 #![tactic(auto)]
 
 mod report;
+mod texts;
 mod words;
 
 pub use crate::report::{Report, Said, say_fault};
+pub use texts::{read_catalog, read_query};
 pub use words::{Line, read_line};
