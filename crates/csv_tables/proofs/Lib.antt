@@ -1,0 +1,4 @@
+mod Integers
+mod Left
+mod Printed
+mod Walks

@@ -1,0 +1,4 @@
+pub mod Records
+pub mod Cells
+pub mod Tables
+pub mod Printed
