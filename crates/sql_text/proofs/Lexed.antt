@@ -1,7 +1,6 @@
 -- What the tokens of a text are: a slice each, one after the other.
-use Rattle.std.proofs.Common.{◌≡◌, refl, sym, ap, subst, ◌==◌, ◌∙◌, ℕ, zero, suc, ◌+◌, ◌-◌, ◌<◌, ◌≤◌, Bool, true, false, List, [], ◌∷◌, ◌++◌, length, map, take, drop, arith, rules}
+use Rattle.std.proofs.Common.{◌≡◌, refl, sym, ap, subst, ◌==◌, ◌∙◌, ℕ, zero, suc, ◌+◌, ◌-◌, ◌<◌, ◌≤◌, Bool, true, false, List, [], ◌∷◌, ◌++◌, length, take, drop, arith}
 use Rattle.std.specs.Prelude.{All, Contains, Option, Some, None, Result, Ok, Err, if◌then◌else◌, slice_index}
-use Rattle.std.proofs.lemmas.Grind.{common_steps}
 use Rattle.std.proofs.lemmas.List.{append_assoc, append-nil}
 use Rattle.std.proofs.lemmas.Bool.{eqb-true}
 use Rattle.std.proofs.lemmas.List.Elements.{All-cons}
@@ -123,9 +122,9 @@ tokens_ascend place zero start end (byte ∷ rest) spans low high within h =
     either (is_blank byte) _ _ _
     (λ _ h. tokens_ascend (suc place) 0 start end rest spans (omega arith) (omega arith) (omega arith) h)
     (λ _ h.
-      let (found, others, read, following, e) = and_then_ok place (first (byte ∷ rest)) (λ size. tokens_at (suc place) (size - 1) rest) spans h in
-      let (some, within, text) = first_is (byte ∷ rest) found read in
-      rw e (omega arith, omega arith, tokens_ascend (suc place) (found.1 - 1) (place + found.1) end rest others (omega arith) (omega arith) (omega arith) following))
+    let (found, others, read, following, e) = and_then_ok place (first (byte ∷ rest)) (λ size. tokens_at (suc place) (size - 1) rest) spans h in
+    let (some, within, text) = first_is (byte ∷ rest) found read in
+    rw e (omega arith, omega arith, tokens_ascend (suc place) (found.1 - 1) (place + found.1) end rest others (omega arith) (omega arith) (omega arith) following))
     h
 
 -- each token's text stands at its place
@@ -143,8 +142,8 @@ tokens_have_text text place zero (byte ∷ rest) spans here h =
     either (is_blank byte) _ _ _
     (λ _ h. tokens_have_text text (suc place) 0 rest spans (drop_tail place byte text rest here) h)
     (λ _ h.
-      let (found, others, read, following, e) = and_then_ok place (first (byte ∷ rest)) (λ size. tokens_at (suc place) (size - 1) rest) spans h in
-      let (some, within, written) = first_is (byte ∷ rest) found read in
-      let size : (place + found.1) - place ≡ found.1 = omega arith in
-      rw e (All-cons (HasText text) (spanned place found) others (rw (size, ← here) written) (tokens_have_text text (suc place) (found.1 - 1) rest others (drop_tail place byte text rest here) following)))
+    let (found, others, read, following, e) = and_then_ok place (first (byte ∷ rest)) (λ size. tokens_at (suc place) (size - 1) rest) spans h in
+    let (some, within, written) = first_is (byte ∷ rest) found read in
+    let size : (place + found.1) - place ≡ found.1 = omega arith in
+    rw e (All-cons (HasText text) (spanned place found) others (rw (size, ← here) written) (tokens_have_text text (suc place) (found.1 - 1) rest others (drop_tail place byte text rest here) following)))
     h

@@ -1,5 +1,5 @@
 -- The tokens of a text, by the longest match from the left. The text is its bytes in UTF-8.
-use Rattle.std.specs.Prelude.{◌≡◌, ℕ, zero, suc, ◌+◌, ◌-◌, ◌<◌, ◌≤◌, ◌==◌, ◌||◌, Bool, if◌then◌else◌, List, [], ◌∷◌, map, take, drop, All, Contains, Option, Some, None, Result, Ok, Err, codes}
+use Rattle.std.specs.Prelude.{◌≡◌, ℕ, zero, suc, ◌+◌, ◌-◌, ◌<◌, ◌≤◌, ◌==◌, ◌||◌, Bool, if◌then◌else◌, List, [], ◌∷◌, map, take, drop, Contains, Option, Some, None, Result, Ok, Err, codes}
 use Rattle.std.specs.Char.{is_ascii_alphabetic, is_ascii_digit, to_ascii_uppercase}
 use Rattle.std.specs.List.{take_while, prefix_len, find}
 use Rattle.std.specs.Option.{option_map}
@@ -33,9 +33,6 @@ word_length = prefix_len in_word
 -- the word that stands first, the longest there is
 abbrev pub word : List ℕ → List ℕ
 word = take_while in_word
-
-abbrev pub past_word : List ℕ → List ℕ
-past_word bytes = drop (word_length bytes) bytes
 
 -- in upper case
 abbrev pub folded : List ℕ → List ℕ

@@ -1,8 +1,8 @@
-// The tokens of bytes.
-ghost use Rattle.std.specs.Prelude.{◌≡◌, ◌<◌, ◌≤◌, Ok, Err, IfOk, IfErr, IsErrOf, All, length, drop};
+// The tokens of a text.
+ghost use Rattle.std.specs.Prelude.{◌≡◌, ◌≤◌, Ok, Err, IfOk, IsErrOf, All, length};
 ghost use Rattle.sql_text.specs.Tokens as spec;
 
-use crate::token::{Name, Spanned, Token};
+use crate::token::{Spanned, Token};
 use crate::words::{is_letter, word_length, word_token};
 use qgm_base::OutOfMemory;
 use std::alloc::{AllocFailed, Global};
@@ -78,8 +78,8 @@ fn first(alloc: Global, bytes: &[u8]) -> Result<(Token, usize), LexRefusal>
     }
 }
 
-/// The tokens of a text in UTF-8, by the longest match from the left (SQL-92, 5.2). It stops at
-/// the first byte with which no token begins.
+/// The tokens of a text in UTF-8 with their places, by the longest match from the left (SQL-92,
+/// 5.2). Fails at the first byte with which no token begins, or where memory runs out.
 pub fn lex(alloc: Global, bytes: &[u8]) -> Result<Vec<Spanned>, LexRefusal>
     ensures tokens { IfOk result (λ spans. spec.tokens bytes.now ≡ Ok spans.items) }
     ensures bad_character { IsErrOf result LexRefusal.BadCharacter → spec.tokens bytes.now ≡ Err 1 }

@@ -3,6 +3,8 @@
 
 mod key;
 mod lexer;
+#[cfg(test)]
+mod tests;
 mod token;
 mod words;
 

@@ -1,6 +1,5 @@
 // Words: key words and names.
-ghost use Rattle.std.specs.Prelude.{◌≡◌, ◌<◌, ◌≤◌, Ok, Err, IfOk, IfErr, IsErrOf, All, length, map, drop};
-ghost use Rattle.std.specs.Option.{option_copied, option_map};
+ghost use Rattle.std.specs.Prelude.{◌≡◌, IfOk, map};
 ghost use Rattle.std.specs.Str.{bytes_eq};
 ghost use Rattle.sql_text.specs.Tokens as spec;
 
@@ -9,6 +8,7 @@ use crate::token::{Name, Token};
 use qgm_base::{OutOfMemory, Text};
 use std::alloc::Global;
 
+/// The key words with their letters, as `specs/Keys.antt` has them.
 const KEY_WORDS: [(&str, Key); 63] = [
     ("ALL", Key::All),
     ("AND", Key::And),
@@ -75,12 +75,14 @@ const KEY_WORDS: [(&str, Key); 63] = [
     ("WHERE", Key::Where),
 ];
 
+/// Whether a byte is a letter from A to Z in either case.
 pub fn is_letter(byte: u8) -> bool
     ensures { result ≡ spec.is_letter byte }
 {
     byte.is_ascii_alphabetic()
 }
 
+/// Whether a byte may stand in a word after its first letter.
 fn in_word(byte: u8) -> bool
     ensures { result ≡ spec.in_word byte }
 {
@@ -120,6 +122,7 @@ fn lookup(table: &[(&str, Key)], word: &[u8]) -> Option<Key>
     None
 }
 
+/// The key word that a word is.
 fn key_word(word: &[u8]) -> Option<Key>
     ensures { result ≡ spec.key_word (spec.folded word.now) }
 {

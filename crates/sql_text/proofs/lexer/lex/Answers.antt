@@ -1,4 +1,4 @@
-use Rattle.std.proofs.Common.{◌≡◌, ◌+◌, [], drop, sym, ◌∙◌, arith, refl, Ok}
+use Rattle.std.proofs.Common.{◌≡◌, sym, ◌∙◌, arith, refl, Ok}
 use Rattle.sql_text.specs.Tokens as spec
 use Rattle.sql_text.proofs.Lexed.{tokens_step, tokens_end, tokens_ascend, tokens_have_text}
 use Rattle.sql_text.proofs.lexer.lex.Goals as goal

@@ -1,4 +1,3 @@
-use Rattle.std.proofs.Common.{◌≡◌}
 use Rattle.sql_text.specs.Keys.{key_words}
 use Rattle.sql_text.specs.Tokens as spec
 use Rattle.sql_text.proofs.words.key_word.Goals as goal
