@@ -2,9 +2,10 @@
 #![tactic(auto)]
 
 mod report;
+mod respond;
+mod run;
+mod stages;
 mod texts;
 mod words;
 
-pub use crate::report::{Report, Said, say_fault};
-pub use texts::{read_catalog, read_query};
-pub use words::{Line, read_line};
+pub use run::run_command;

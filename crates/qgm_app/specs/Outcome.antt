@@ -1,0 +1,62 @@
+-- What a run is to come to over the files that it is given: the names that it reads, in order, and its report.
+-- The order is one: words, schema, query, tables, answer. The first refusal in this order is the report.
+use Rattle.std.specs.Prelude.{ℕ, List, Option, Some, None, Result, Ok, Err}
+use Rattle.csv_tables.specs.Load.{tables_of}
+use Rattle.csv_tables.specs.Printed.{printed_rows}
+use Rattle.csv_tables.specs.TableFile.{Refusal}
+use Rattle.io_edge.specs.Outcome.{Outcome, done, read, ◌>>=◌}
+use Rattle.io_edge.specs.Outside.{File}
+use Rattle.row_bag.specs.Sorted.{sorted_rows}
+use Rattle.row_bag.specs.declared.tables.Table.{Table}
+use Rattle.sql_ast.specs.declared.tree.QueryText.{QueryText}
+use Rattle.sql_ast.specs.declared.tree.TableDecl.{TableDecl}
+use Rattle.sql_check.specs.Resolved.{rows_at}
+use Rattle.sql_check.specs.declared.checked.Checked.{Checked}
+use Rattle.sql_meaning.specs.Meaning.{Answer, answer}
+use Rattle.qgm_app.specs.Texts.{catalog_of, valid_query}
+use Rattle.qgm_app.specs.Words.{Line, line_of}
+use Rattle.qgm_app.specs.declared.report.Report.{Report}
+use Rattle.qgm_app.specs.declared.report.Report.TheVariants.{Rows, Usage, SchemaRefused, DataRefused, QueryRefused}
+
+-- the bytes of an answer: its names and rows in CSV
+abbrev pub printed_answer : Answer → List ℕ
+printed_answer a = printed_rows a.names a.rows
+
+-- the report, once the tables are read or refused
+abbrev pub reported : QueryText → List TableDecl → Result (List Table) Refusal → Report
+reported query catalog (Ok tables) = Rows (printed_answer (answer query catalog tables))
+reported query catalog (Err why) = DataRefused why.number why.table why.row
+
+-- the query, or none where it is refused; and then the tables
+unfoldable pub with_query : List ℕ → List TableDecl → List File → Option QueryText → Outcome Report
+with_query dir catalog files None = done (QueryRefused 4)
+with_query dir catalog files (Some query) = tables_of catalog dir files >>= (λ tables. done (reported query catalog tables))
+
+-- the bytes of the query's text, or none where they are too many
+abbrev pub with_query_text : List ℕ → List TableDecl → List File → Option (List ℕ) → Outcome Report
+with_query_text dir catalog files None = done (QueryRefused 4)
+with_query_text dir catalog files (Some bytes) = with_query dir catalog files (valid_query catalog bytes)
+
+-- the catalog, or none where the schema is refused; and then the query's text
+unfoldable pub with_catalog : List ℕ → List ℕ → List File → Option (List TableDecl) → Outcome Report
+with_catalog query dir files None = done (SchemaRefused 4)
+with_catalog query dir files (Some catalog) = read files query 65536 >>= (λ text. with_query_text dir catalog files text)
+
+-- the bytes of the schema's text, or none where they are too many
+abbrev pub with_schema_text : List ℕ → List ℕ → List File → Option (List ℕ) → Outcome Report
+with_schema_text query dir files None = done (SchemaRefused 4)
+with_schema_text query dir files (Some bytes) = with_catalog query dir files (catalog_of bytes)
+
+-- the command, or none where the words are none; and then the schema's text
+unfoldable pub with_line : Option Line → List File → Outcome Report
+with_line None files = done Usage
+with_line (Some line) files = read files line.schema 65536 >>= (λ text. with_schema_text line.query line.dir files text)
+
+-- the outcome of a command line over these files
+abbrev pub outcome : List (List ℕ) → List File → Outcome Report
+outcome words files = with_line (line_of words) files
+
+-- the report of a query whose names are resolved
+abbrev pub reported_by : Checked → Result (List Table) Refusal → Report
+reported_by checked (Ok tables) = Rows (printed_rows checked.names (sorted_rows (rows_at checked tables)))
+reported_by checked (Err why) = DataRefused why.number why.table why.row

@@ -1,0 +1,41 @@
+-- What a run has done, held against the outcome that it is to come to.
+use Rattle.std.specs.Prelude.{ℕ, ◌≡◌, ◌≢◌, ⊤, List, length, Option, Some, None, IfSome, Result, Ok, Err}
+use Rattle.io_edge.specs.Outcome.{AskedOf, Outcome, failed_name}
+use Rattle.io_edge.specs.Outside.{Ask, File, StopsShort, Told, with_asked, written_after}
+use Rattle.qgm_base.specs.declared.memory.OutOfMemory.{OutOfMemory}
+use Rattle.qgm_app.specs.Printed.{read_failed, said_of}
+use Rattle.qgm_app.specs.declared.report.Report.{Report}
+use Rattle.qgm_app.specs.declared.report.Said.{Said}
+
+-- what is said after these reads: the outcome's report, all of its names having been read, or the name whose read failed
+abbrev pub IsSaid : Outcome Report → List Ask → Option (List ℕ) → Said → Type 0
+IsSaid o asks None said = (length asks ≡ length o.names) × (report : Report) × (o.end ≡ Some report) × (said ≡ said_of report)
+IsSaid o asks (Some name) said = said ≡ read_failed name
+
+-- what was prepared over files that tell of themselves: they were read as the outcome says and left as they were
+abbrev pub IsPrepared : Outcome Report → List Ask → Result Said OutOfMemory → Type 0
+IsPrepared o asks (Ok said) = AskedOf o.names asks × IsSaid o asks (failed_name asks) said
+IsPrepared o asks (Err e) = AskedOf o.names asks
+
+abbrev pub Prepares : Option Told → Option Told → (List File → Outcome Report) → Result Said OutOfMemory → Type 0
+Prepares None after o result = ⊤
+Prepares (Some t) None o result = ⊥
+Prepares (Some t) (Some u) o result = (asks : List Ask) × (u ≡ with_asked asks t) × IsPrepared (o t.files) asks result
+
+-- how a run ended after these reads
+pub record RanAs (o : Outcome Report) (asks : List Ask) (old new : Option (List ℕ)) (status : ℕ) : Type 0 where
+  pub asked : AskedOf o.names asks
+  -- where the sink took all and memory sufficed, all of what is to be said, under its status
+  pub said : status ≢ 4 → status ≢ 8 → (said : Said) × IsSaid o asks (failed_name asks) said × (status ≡ said.status) × (new ≡ written_after said.text old)
+  -- where the sink failed, a proper prefix of it
+  pub short : status ≡ 4 → (said : Said) × IsSaid o asks (failed_name asks) said × StopsShort old new said.text
+
+-- how a run ended over files that tell of themselves; over others nothing is said
+abbrev pub Runs : Option Told → Option Told → (List File → Outcome Report) → Option (List ℕ) → Option (List ℕ) → ℕ → Type 0
+Runs None after o old new status = ⊤
+Runs (Some t) None o old new status = ⊥
+Runs (Some t) (Some u) o old new status = (asks : List Ask) × (u ≡ with_asked asks t) × RanAs (o t.files) asks old new status
+
+-- over files that tell of themselves, the outcome has a report of which this holds
+abbrev pub ComesTo : Option Told → (List File → Outcome Report) → (Report → Type 0) → Type 0
+ComesTo told o holds = IfSome told (λ t. (report : Report) × ((o t.files).end ≡ Some report) × holds report)
