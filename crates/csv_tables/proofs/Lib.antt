@@ -1,4 +1,6 @@
+mod Fits
 mod Integers
 mod Left
+mod Loads
 mod Printed
 mod Walks

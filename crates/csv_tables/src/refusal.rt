@@ -1,0 +1,44 @@
+// Why files hold no tables of a catalog.
+use io_edge::Interruption;
+use qgm_base::{OutOfMemory, Text};
+use thiserror::Error;
+
+/// Why the files do not hold the tables of a catalog.
+#[derive(Debug, Drop, Error)]
+pub enum DataRefusal {
+    /// A file is not of the form: the number of the rule that it breaks, the table, and the
+    /// record, where the header is record 0.
+    #[error("a table's file is refused")]
+    Refused { number: u8, table: Text, row: u64 },
+    /// A read failed: the name that was asked for.
+    #[error("a read failed")]
+    ReadFault { name: Text },
+    /// Memory ran out.
+    #[error("out of memory")]
+    Memory,
+}
+
+impl From<OutOfMemory> for DataRefusal {
+    ghost use Rattle.std.specs.Prelude.{◌≡◌};
+    ghost use Rattle.csv_tables.specs.declared.refusal.DataRefusal.TheVariants.{Memory};
+
+    ghost from_gives = { λ _ e. e ≡ Memory };
+
+    fn from(_: OutOfMemory) -> Self {
+        DataRefusal::Memory
+    }
+}
+
+impl From<Interruption> for DataRefusal {
+    ghost use Rattle.std.specs.Prelude.{◌≡◌};
+    ghost use Rattle.csv_tables.specs.Loaded.{interrupted};
+
+    ghost from_gives = { λ i e. e ≡ interrupted i };
+
+    fn from(interruption: Interruption) -> Self {
+        match interruption {
+            Interruption::ReadFault { name } => DataRefusal::ReadFault { name },
+            Interruption::Memory => DataRefusal::Memory,
+        }
+    }
+}
