@@ -37,20 +37,28 @@ abbrev pub with_query_text : List ℕ → List TableDecl → List File → Optio
 with_query_text dir catalog files None = done (QueryRefused 4)
 with_query_text dir catalog files (Some bytes) = with_query dir catalog files (valid_query catalog bytes)
 
--- the catalog, or none where the schema is refused; and then the query's text
+-- the query's file is read, and then the tables' files
+abbrev pub from_query : List ℕ → List ℕ → List TableDecl → List File → Outcome Report
+from_query query dir catalog files = read files query 65536 >>= (λ text. with_query_text dir catalog files text)
+
+-- the catalog, or none where the schema is refused; and then the query
 unfoldable pub with_catalog : List ℕ → List ℕ → List File → Option (List TableDecl) → Outcome Report
 with_catalog query dir files None = done (SchemaRefused 4)
-with_catalog query dir files (Some catalog) = read files query 65536 >>= (λ text. with_query_text dir catalog files text)
+with_catalog query dir files (Some catalog) = from_query query dir catalog files
 
 -- the bytes of the schema's text, or none where they are too many
 abbrev pub with_schema_text : List ℕ → List ℕ → List File → Option (List ℕ) → Outcome Report
 with_schema_text query dir files None = done (SchemaRefused 4)
 with_schema_text query dir files (Some bytes) = with_catalog query dir files (catalog_of bytes)
 
--- the command, or none where the words are none; and then the schema's text
+-- the schema's file is read, and then the query's
+abbrev pub from_schema : List ℕ → List ℕ → List ℕ → List File → Outcome Report
+from_schema schema query dir files = read files schema 65536 >>= (λ text. with_schema_text query dir files text)
+
+-- the command, or none where the words are none; and then the schema
 unfoldable pub with_line : Option Line → List File → Outcome Report
 with_line None files = done Usage
-with_line (Some line) files = read files line.schema 65536 >>= (λ text. with_schema_text line.query line.dir files text)
+with_line (Some line) files = from_schema line.schema line.query line.dir files
 
 -- the outcome of a command line over these files
 abbrev pub outcome : List (List ℕ) → List File → Outcome Report
@@ -60,3 +68,7 @@ outcome words files = with_line (line_of words) files
 abbrev pub reported_by : Checked → Result (List Table) Refusal → Report
 reported_by checked (Ok tables) = Rows (printed_rows checked.names (sorted_rows (rows_at checked tables)))
 reported_by checked (Err why) = DataRefused why.number why.table why.row
+
+-- the tables' files are read, and then the query is answered by its places
+abbrev pub from_tables : List ℕ → List TableDecl → Checked → List File → Outcome Report
+from_tables dir catalog checked files = tables_of catalog dir files >>= (λ tables. done (reported_by checked tables))

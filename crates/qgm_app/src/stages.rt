@@ -1,12 +1,11 @@
 // The stages of a run: each reads a file, and hands what it holds to the next.
 ghost use Rattle.std.specs.Prelude.{◌≡◌, ◌≢◌, ◌≤◌, IfOk};
-ghost use Rattle.csv_tables.specs.Load.{tables_of};
 ghost use Rattle.csv_tables.specs.Printed.{printed_rows};
-ghost use Rattle.io_edge.specs.Outcome.{Comes, RoseIfFault, done, ended, read, ◌>>=◌};
+ghost use Rattle.io_edge.specs.Outcome.{Comes, RoseIfFault, ended};
 ghost use Rattle.row_bag.specs.Sorted.{sorted_rows};
 ghost use Rattle.sql_check.specs.Resolved.{rows_at};
 ghost use Rattle.qgm_app.specs.declared.report.Report.TheVariants.{Usage};
-ghost use Rattle.qgm_app.specs.Outcome.{reported_by, with_query_text, with_schema_text};
+ghost use Rattle.qgm_app.specs.Outcome.{from_query, from_schema, from_tables};
 
 use crate::report::Report;
 use crate::texts::{read_catalog, read_query};
@@ -44,7 +43,7 @@ fn run_tables<F: Files>(
     checked: &Checked,
     files: &mut F,
 ) -> Result<Report, Interruption>
-    ensures comes { Comes (F.told files.old) (F.told files.new) (λ fs. tables_of catalog.now dir.now fs >>= (λ tables. done (reported_by checked.now tables))) (ended result) }
+    ensures comes { Comes (F.told files.old) (F.told files.new) (λ fs. from_tables dir.now catalog.now checked.now fs) (ended result) }
     ensures later { F.faults files.old ≤ F.faults files.new }
     ensures failed { RoseIfFault result (F.faults files.old) (F.faults files.new) }
     ensures line { IfOk result (λ report. report ≢ Usage) }
@@ -67,7 +66,7 @@ fn run_query<F: Files>(
     catalog: &Catalog,
     files: &mut F,
 ) -> Result<Report, Interruption>
-    ensures comes { Comes (F.told files.old) (F.told files.new) (λ fs. read fs query.now 65536 >>= (λ text. with_query_text dir.now catalog.now fs text)) (ended result) }
+    ensures comes { Comes (F.told files.old) (F.told files.new) (λ fs. from_query query.now dir.now catalog.now fs) (ended result) }
     ensures later { F.faults files.old ≤ F.faults files.new }
     ensures failed { RoseIfFault result (F.faults files.old) (F.faults files.new) }
     ensures line { IfOk result (λ report. report ≢ Usage) }
@@ -89,7 +88,7 @@ pub fn run_schema<F: Files>(
     dir: &str,
     files: &mut F,
 ) -> Result<Report, Interruption>
-    ensures comes { Comes (F.told files.old) (F.told files.new) (λ fs. read fs schema.now 65536 >>= (λ text. with_schema_text query.now dir.now fs text)) (ended result) }
+    ensures comes { Comes (F.told files.old) (F.told files.new) (λ fs. from_schema schema.now query.now dir.now fs) (ended result) }
     ensures later { F.faults files.old ≤ F.faults files.new }
     ensures failed { RoseIfFault result (F.faults files.old) (F.faults files.new) }
     ensures line { IfOk result (λ report. report ≢ Usage) }
