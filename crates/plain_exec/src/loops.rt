@@ -10,7 +10,7 @@ use sql_value::{Cell, copy};
 use sqlite_items::Items;
 use std::alloc::Global;
 
-// The cell at a place of a row.
+// The cell at a place of a row, or null past its end.
 fn cell(alloc: Global, row: &Row, place: usize) -> Result<Cell, OutOfMemory>
     ensures { IfOk result (λ cell. cell ≡ cell_at place row.now.cells) }
 {
@@ -44,8 +44,9 @@ fn project_all(alloc: Global, rows: &[Row], places: &[usize]) -> Result<Bag, Out
     Ok(Bag::from_rows(made))
 }
 
-/// The rows of a checked query over these tables, in the order of its table's rows. It is the
-/// nested loop that the meaning of a query is, with a column's place for its name.
+/// The rows of a checked query over these tables: for each row of its table, in their order, the
+/// cells at the query's places. There are none where no table has the name of its table. It fails
+/// only for want of memory.
 pub fn execute(alloc: Global, checked: &Checked, tables: &Tables) -> Result<Bag, OutOfMemory>
     ensures { IfOk result (λ bag. bag ≡ rows_at checked.now tables.now) }
 {

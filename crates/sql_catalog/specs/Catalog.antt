@@ -1,5 +1,6 @@
 -- What a schema declares.
-use Rattle.std.specs.Prelude.{ℕ, ◌==◌, ◌||◌, nat_eq, nat_lt, if◌then◌else◌, Bool, true, false, List, [], ◌∷◌, length, Option, Some, None, Result, Ok, Err}
+use Rattle.std.specs.Prelude.{ℕ, ◌==◌, ◌||◌, nat_eq, nat_lt, if◌then◌else◌, Bool, false, List, [], ◌∷◌, length, Option, Result, Ok, Err, find}
+use Rattle.std.specs.List.{list_any}
 use Rattle.std.specs.Cmp.Lexicographic.{pointwise}
 use Rattle.sql_ast.specs.declared.tree.Schema.{Schema}
 use Rattle.sql_ast.specs.declared.tree.TableDecl.{TableDecl}
@@ -8,10 +9,9 @@ use Rattle.sql_ast.specs.declared.tree.TableDecl.{TableDecl}
 abbrev pub same_name : List ℕ → List ℕ → Bool
 same_name a b = pointwise nat_eq a b
 
--- a name is among these
+-- one of these names is this name
 abbrev pub contains : List (List ℕ) → List ℕ → Bool
-contains [] name = false
-contains (n ∷ ns) name = same_name n name || contains ns name
+contains names name = list_any (λ n. same_name n name) names
 
 -- two of the names are equal
 abbrev pub has_twins : List (List ℕ) → Bool
@@ -25,7 +25,6 @@ declared s =
     else if (length s.table.columns == 0) || nat_lt 64 (length s.table.columns) then Err 10
     else Ok (s.table ∷ [])
 
--- the table of a name
+-- the first table of a name, or none
 abbrev pub table_named : List TableDecl → List ℕ → Option TableDecl
-table_named [] name = None
-table_named (t ∷ ts) name = if same_name t.name name then Some t else table_named ts name
+table_named tables name = find (λ t. same_name t.name name) tables

@@ -24,7 +24,7 @@ impl Model for Catalog {
 }
 
 impl Catalog {
-    /// The catalog of these tables.
+    /// The catalog of these tables, which are in declared order.
     pub fn new(tables: TableList) -> Catalog
         ensures { result ≡ tables }
     {
@@ -38,15 +38,13 @@ impl Catalog {
         &self.tables
     }
 
-    /// The table of a name; none exactly where the catalog has none of the name.
+    /// The first table of a name; none exactly where the catalog has none of the name.
     pub fn table(&self, name: &Name) -> Option<&TableDecl>
         ensures { option_map (λ t. t.now) result ≡ table_named self.now name.now }
     {
-        for table in self.tables.as_slice() {
-            if table.name == *name {
-                return Some(table);
-            }
-        }
-        None
+        self.tables
+            .as_slice()
+            .iter()
+            .find(|table| table.name == *name)
     }
 }

@@ -1,6 +1,6 @@
 // From a schema's tree to its catalog.
 ghost use Rattle.std.specs.Prelude.{◌≡◌, Ok, Err, IfOk, IsErrOf};
-ghost use Rattle.sql_catalog.specs.Catalog.{contains, has_twins, declared};
+ghost use Rattle.sql_catalog.specs.Catalog.{has_twins, declared};
 ghost use Rattle.sql_catalog.specs.declared.refusal.SchemaRefusal.TheVariants as SchemaRefusal;
 
 use crate::catalog::Catalog;
@@ -10,33 +10,24 @@ use sql_text::Name;
 use sqlite_items::Items;
 use std::alloc::Global;
 
+// The most columns of a table.
 const MAX_COLUMNS: usize = 64;
-
-// Whether a name is among these.
-fn contains(names: &[Name], name: &Name) -> bool
-    ensures { result ≡ contains names.now name.now }
-{
-    for other in names {
-        if *other == *name {
-            return true;
-        }
-    }
-    false
-}
 
 // Whether two of the names are equal.
 fn has_twins(names: &[Name]) -> bool
     ensures { result ≡ has_twins names.now }
 {
     for i in 0..names.len() {
-        if contains(&names[i + 1..], &names[i]) {
+        if names[i + 1..].contains(&names[i]) {
             return true;
         }
     }
     false
 }
 
-/// The catalog that a schema declares, or why it declares none.
+/// The catalog that a schema declares: its table. It is `DuplicateName` exactly where two columns
+/// have one name, else `Limits` exactly where the table has no column or more than 64. `Memory` may
+/// come in place of any of these.
 pub fn build(alloc: Global, schema: Schema) -> Result<Catalog, SchemaRefusal>
     ensures built { IfOk result (λ c. declared schema ≡ Ok c) }
     ensures duplicate_name { IsErrOf result SchemaRefusal.DuplicateName → declared schema ≡ Err 8 }

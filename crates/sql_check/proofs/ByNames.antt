@@ -1,5 +1,5 @@
 -- The rows by places are the rows by names.
-use Rattle.std.proofs.Common.{ℕ, ◌≡◌, ◌∙◌, List, [], ◌∷◌, map, Option, Some, None, refl, sym, ap, ap₂}
+use Rattle.std.proofs.Common.{ℕ, ◌≡◌, List, [], ◌∷◌, map, Some, refl, ap, ap₂}
 use Rattle.row_bag.specs.Tables.{bag_named}
 use Rattle.row_bag.specs.declared.row.Row.{Row}
 use Rattle.row_bag.specs.declared.tables.Table.{Table}
@@ -7,7 +7,7 @@ use Rattle.sql_ast.specs.declared.tree.Block.{Block}
 use Rattle.sql_ast.specs.declared.tree.TableDecl.{TableDecl}
 use Rattle.sql_catalog.specs.Catalog.{table_named}
 use Rattle.sql_value.specs.declared.cell.Cell.{Cell}
-use Rattle.sql_meaning.specs.Meaning.{columns_of, rows, rows_of, selected}
+use Rattle.sql_meaning.specs.Meaning.{rows, rows_of, selected}
 use Rattle.sql_check.specs.Resolved.{HoldPlaces, row_at, rows_at}
 use Rattle.sql_check.specs.declared.checked.Checked.{Checked}
 

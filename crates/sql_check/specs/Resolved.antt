@@ -12,16 +12,16 @@ use Rattle.sql_check.specs.declared.checked.Checked.{Checked}
 abbrev pub row_at : List ℕ → Row → Row
 row_at places row = record { cells = map (λ place. cell_at place row.cells) places }
 
--- for each row of the query's table the cells at its places
+-- for each row of the query's table, in their order, the cells at its places
 abbrev pub rows_at : Checked → List Table → List Row
 rows_at checked tables = map (row_at checked.places) (rows_of (bag_named tables checked.table))
 
--- places are found exactly where each name is a column
+-- there are places exactly where each name is known
 abbrev pub IsFound : Option (List ℕ) → Bool → Type 0
 IsFound (Some places) known = known ≡ true
 IsFound None known = known ≡ false
 
--- in any row the cells at these places are the values of these names
+-- where there are places, in any row of a table with these columns the cells at them are the values of these names
 abbrev pub HoldPlaces : Option (List ℕ) → List (List ℕ) → List (List ℕ) → Type 0
 HoldPlaces None columns names = ⊤
 HoldPlaces (Some places) columns names = (cells : List Cell) → map (λ place. cell_at place cells) places ≡ map (λ name. value name columns cells) names

@@ -5,18 +5,20 @@ ghost use Rattle.sql_check.specs.declared.refusal.QueryRefusal.TheVariants.{Memo
 use qgm_base::OutOfMemory;
 use thiserror::Error;
 
-/// Why a query is not valid; of several causes, the first of these.
+/// Why a query is not valid. Of several causes it is the first in this order; want of memory has no
+/// place in it.
 #[derive(Clone, Copy, Debug, PartialEq, Eq, Error)]
 pub enum QueryRefusal {
-    /// The table's name is none of the catalog.
+    /// The table's name is none of the catalog (SQL-92, 6.3).
     #[error("there is no such table")]
     UnknownTable,
-    /// A column is none of the table.
+    /// A name of the list is no column of the table (SQL-92, 6.4).
     #[error("there is no such column")]
     UnknownColumn,
-    /// The query has over 1,024 columns.
+    /// The list has over 1,024 names.
     #[error("there are too many columns")]
     Degree,
+    /// Memory ran out. It says nothing of the query.
     #[error("out of memory")]
     Memory,
 }

@@ -17,9 +17,10 @@ use sql_value::OutNames;
 use sqlite_items::Items;
 use std::alloc::Global;
 
+// The most output columns of a query.
 const MAX_COLUMNS: usize = 1024;
 
-// The names of the output columns.
+// The names of the output columns: those of the list.
 fn output_names(alloc: Global, names: &[Name]) -> Result<OutNames, OutOfMemory>
     ensures { IfOk result (λ out. out ≡ map (λ name. Some name) names.now) }
 {
@@ -49,7 +50,10 @@ fn places(
     Ok(Some(places))
 }
 
-/// The query with its names resolved, or why it is not valid. Its rows by places are those by names.
+/// The query with its names resolved: over any tables its rows by places are the query's rows by
+/// names. It is `UnknownTable` exactly where the table's name is none of the catalog, else
+/// `UnknownColumn` exactly where a name of the list is no column of the table, else `Degree` exactly
+/// where the list has over 1,024 names. `Memory` may come in place of any of these.
 pub fn check(alloc: Global, query: &QueryText, catalog: &Catalog) -> Result<Checked, QueryRefusal>
     ensures valid { IfOk result (λ checked. fault query.now catalog.now ≡ None) }
     ensures unknown_table { IsErrOf result QueryRefusal.UnknownTable → fault query.now catalog.now ≡ Some 6 }

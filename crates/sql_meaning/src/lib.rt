@@ -1,4 +1,4 @@
-//! What queries mean, and the look-up of columns that computes it.
+//! What a query means, by the names of its columns, and the look-up of a name's place.
 #![tactic(auto)]
 
 mod place;

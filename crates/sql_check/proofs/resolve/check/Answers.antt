@@ -1,4 +1,4 @@
-use Rattle.std.proofs.Common.{rules, arith, ◌≡◌, sym}
+use Rattle.std.proofs.Common.{rules}
 use Rattle.sql_check.proofs.ByNames.{by-names}
 use Rattle.sql_check.proofs.resolve.check.Goals as goal
 
