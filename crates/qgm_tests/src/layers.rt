@@ -1,0 +1,78 @@
+use csv_tables::{load, write_rows};
+use io_edge::{Entry, MemFiles, fetch_file};
+use plain_exec::execute;
+use qgm_base::Text;
+use row_bag::sorted;
+use sql_catalog::build;
+use sql_check::check;
+use sql_parser::{parse_query, parse_schema};
+use sql_text::lex;
+use sql_value::{Cell, cell_order, copy};
+use std::alloc::Global;
+use std::cmp::Ordering;
+use std::test::Fail;
+
+// One file in memory.
+fn one_file(alloc: Global, name: &str, text: &str) -> Result<MemFiles, Fail> {
+    let mut entries = Vec::new(alloc);
+    entries.push(Entry {
+        name: String::from_str(alloc, name)?,
+        bytes: text.as_bytes().to_vec(alloc)?,
+    })?;
+    Ok(MemFiles::new(alloc, entries, Vec::new(alloc)))
+}
+
+// The text of the rows of a query over one table, by each layer's public call in turn.
+fn by_layers(alloc: Global, schema: &str, query: &str, table: &str) -> Result<Vec<u8>, Fail> {
+    let mut files = one_file(alloc, "d/T.csv", table)?;
+    let tokens = lex(alloc, schema.as_bytes())?;
+    let schema = parse_schema(alloc, tokens.as_slice())?;
+    let catalog = build(alloc, schema)?;
+    let tokens = lex(alloc, query.as_bytes())?;
+    let query = parse_query(alloc, tokens.as_slice())?;
+    let checked = check(alloc, &query, &catalog)?;
+    let tables = load(alloc, &catalog, "d", &mut files)?;
+    let rows = sorted(execute(alloc, &checked, &tables)?)?;
+    Ok(write_rows(alloc, &checked.names, &rows)?)
+}
+
+#[test]
+fn the_layers_in_turn_give_the_rows(rt: HostRuntime) -> Result<(), Fail> {
+    let printed = by_layers(
+        rt.alloc(),
+        "create table t (a integer, b integer);",
+        "select b, a from t;",
+        "A,B\n3,-4\n2,\n\"1\",+01\n",
+    )?;
+    assert_eq!(rt; printed.as_slice(), b"B,A\n\\N,2\n-4,3\n1,1\n".as_slice());
+    Ok(())
+}
+
+#[test]
+fn null_is_first_and_a_copy_is_equal(rt: HostRuntime) -> Result<(), Fail> {
+    let two = Cell::Int(2);
+    let same = copy(rt.alloc(), &two)?;
+    assert_eq!(rt; cell_order(&two, &same), Ordering::Equal);
+    assert_eq!(rt; cell_order(&Cell::Null, &Cell::Int(-3)), Ordering::Less);
+    assert_eq!(rt; cell_order(&Cell::Int(10), &Cell::Int(9)), Ordering::Greater);
+    Ok(())
+}
+
+#[test]
+fn a_text_is_read_and_written_in_utf8(rt: HostRuntime) -> Result<(), Fail> {
+    let name = Text::from_utf8(rt.alloc(), "A\u{e9}\u{1f600}")?;
+    let same = name.copy(rt.alloc())?;
+    assert_eq!(rt; same.as_slice().len(), 3);
+    assert_eq!(rt; same.to_utf8(rt.alloc())?.as_str(), "A\u{e9}\u{1f600}");
+    Ok(())
+}
+
+#[test]
+fn one_read_gives_the_bytes_up_to_the_limit(rt: HostRuntime) -> Result<(), Fail> {
+    let mut files = one_file(rt.alloc(), "f", "abc")?;
+    let whole = fetch_file(rt.alloc(), &mut files, "f", 3)?;
+    assert!(rt; whole.is_some_and(|bytes| bytes.as_slice() == b"abc".as_slice()));
+    let over = fetch_file(rt.alloc(), &mut files, "f", 2)?;
+    assert!(rt; over.is_none());
+    Ok(())
+}
