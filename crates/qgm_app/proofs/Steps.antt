@@ -1,13 +1,13 @@
 -- How the stages of a run fit together.
-use Rattle.std.proofs.Common.{ℕ, ◌≡◌, ◌∙◌, ◌++◌, List, map, Option, Some, None, Result, Ok, Err, refl, sym, ap, ap₂, subst}
+use Rattle.std.proofs.Common.{ℕ, ◌≡◌, ◌++◌, List, Option, Some, None, Result, Ok, Err, refl, ap, ap₂, subst}
 use Rattle.csv_tables.specs.Load.{tables_of}
 use Rattle.csv_tables.specs.Printed.{printed_rows}
 use Rattle.csv_tables.specs.TableFile.{Refusal}
-use Rattle.io_edge.specs.Outcome.{Comes, Ended, Outcome, answered, done, ended, faulted, onward, read, starved, ◌>>=◌}
+use Rattle.io_edge.specs.Outcome.{Comes, Ended, Outcome, answered, done, ended, onward, read, ◌>>=◌}
 use Rattle.io_edge.specs.Outside.{File, Told}
 use Rattle.io_edge.specs.declared.fetch.Interruption.{Interruption}
 use Rattle.io_edge.specs.declared.fetch.Interruption.TheVariants.{ReadFault, Memory}
-use Rattle.io_edge.proofs.Order.{comes-bind, comes-bind-faulted, comes-bind-starved, comes-done, comes-same, comes-starved}
+use Rattle.io_edge.proofs.Order.{comes-bind, comes-bind-faulted, comes-bind-starved, comes-done, comes-same}
 use Rattle.row_bag.specs.Sorted.{sorted_rows}
 use Rattle.row_bag.specs.declared.row.Row.{Row}
 use Rattle.row_bag.specs.declared.tables.Table.{Table}
@@ -53,8 +53,8 @@ unfolding with_query
 query-taken-by t u dir catalog checked None end is h = absurd is
 query-taken-by t u dir catalog checked (Some query) end is h =
     comes-same t u (λ fs. tables_of catalog dir fs >>= (λ tables. done (reported_by checked tables))) (λ fs. tables_of catalog dir fs >>= (λ tables. done (reported query catalog tables))) end
-        (λ fs. bind-same (tables_of catalog dir fs) (λ tables. done (reported_by checked tables)) (λ tables. done (reported query catalog tables))
-            (λ tables. ap (λ (report : Report). done report) (reported-same query catalog checked is tables))) h
+    (λ fs. bind-same (tables_of catalog dir fs) (λ tables. done (reported_by checked tables)) (λ tables. done (reported query catalog tables))
+    (λ tables. ap (λ (report : Report). done report) (reported-same query catalog checked is tables))) h
 
 -- the query's text was read, and then this was done with it
 pub text-of-query : (t u v : Option Told) (name dir : List ℕ) (catalog : List TableDecl) (text : Option (List ℕ)) (end : Ended Report)

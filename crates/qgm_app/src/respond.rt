@@ -17,11 +17,7 @@ use qgm_base::OutOfMemory;
 use std::alloc::Global;
 
 // The report on the command that the words are.
-fn prepare<F: Files>(
-    alloc: Global,
-    words: &[String],
-    files: &mut F,
-) -> Result<Report, Interruption>
+fn prepare<F: Files>(alloc: Global, words: &[String], files: &mut F) -> Result<Report, Interruption>
     ensures comes { Comes (F.told files.old) (F.told files.new) (outcome (map (λ w. string_bytes w) words.now)) (ended result) }
     ensures no_line { line_of (map (λ w. string_bytes w) words.now) ≡ None → (files.new ≡ files.old) × (result ≡ Ok Usage) }
     ensures line { IfOk result (λ report. report ≡ Usage → line_of (map (λ w. string_bytes w) words.now) ≡ None) }

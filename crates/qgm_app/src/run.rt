@@ -19,6 +19,7 @@ use std::sync::ledger::Ledger;
 use step_count::Steps;
 
 const WRITE_FAULT: u8 = 4;
+
 const NO_MEMORY: u8 = 8;
 
 /// Runs the command that the words are (those after the program's name): reads the files that it

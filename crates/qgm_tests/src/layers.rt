@@ -54,7 +54,10 @@ fn null_is_first_and_a_copy_is_equal(rt: HostRuntime) -> Result<(), Fail> {
     let same = copy(rt.alloc(), &two)?;
     assert_eq!(rt; cell_order(&two, &same), Ordering::Equal);
     assert_eq!(rt; cell_order(&Cell::Null, &Cell::Int(-3)), Ordering::Less);
-    assert_eq!(rt; cell_order(&Cell::Int(10), &Cell::Int(9)), Ordering::Greater);
+    assert_eq!(rt;
+        cell_order(&Cell::Int(10), &Cell::Int(9)),
+        Ordering::Greater
+    );
     Ok(())
 }
 

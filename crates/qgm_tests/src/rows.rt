@@ -9,6 +9,7 @@ use std::test::Fail;
 use step_count::Steps;
 
 const SCHEMA: &str = "CREATE TABLE T (A INTEGER, B INTEGER);\n";
+
 const TABLE: &str = "A,B\n1,1\n1,1\n2,\\N\n";
 
 fn entry(alloc: Global, name: &str, text: &str) -> Result<Entry, Fail> {
@@ -49,8 +50,13 @@ fn run<L: Ledger>(
 
 #[test]
 fn plain_select_prints_all_rows_sorted(rt: HostRuntime) -> Result<(), Fail> {
-    let (status, bytes) =
-        run::<Brand>(rt.alloc(), Blank::new(1), "SELECT A, B FROM T", Some(TABLE), 100)?;
+    let (status, bytes) = run::<Brand>(
+        rt.alloc(),
+        Blank::new(1),
+        "SELECT A, B FROM T",
+        Some(TABLE),
+        100,
+    )?;
     assert_eq!(rt; status, 0);
     assert_eq!(rt; bytes.as_slice(), b"A,B\n1,1\n1,1\n2,\\N\n".as_slice());
     Ok(())
@@ -58,8 +64,13 @@ fn plain_select_prints_all_rows_sorted(rt: HostRuntime) -> Result<(), Fail> {
 
 #[test]
 fn a_sink_that_fails_after_three_bytes_takes_a_proper_prefix(rt: HostRuntime) -> Result<(), Fail> {
-    let (status, bytes) =
-        run::<Brand>(rt.alloc(), Blank::new(1), "SELECT A, B FROM T", Some(TABLE), 3)?;
+    let (status, bytes) = run::<Brand>(
+        rt.alloc(),
+        Blank::new(1),
+        "SELECT A, B FROM T",
+        Some(TABLE),
+        3,
+    )?;
     assert_eq!(rt; status, 4);
     assert_eq!(rt; bytes.as_slice(), b"A,B".as_slice());
     Ok(())
@@ -67,8 +78,7 @@ fn a_sink_that_fails_after_three_bytes_takes_a_proper_prefix(rt: HostRuntime) ->
 
 #[test]
 fn a_missing_file_is_named(rt: HostRuntime) -> Result<(), Fail> {
-    let (status, bytes) =
-        run::<Brand>(rt.alloc(), Blank::new(1), "SELECT A, B FROM T", None, 100)?;
+    let (status, bytes) = run::<Brand>(rt.alloc(), Blank::new(1), "SELECT A, B FROM T", None, 100)?;
     assert_eq!(rt; status, 3);
     assert_eq!(rt; bytes.as_slice(), b"READ d/T.csv\n".as_slice());
     Ok(())
@@ -76,8 +86,13 @@ fn a_missing_file_is_named(rt: HostRuntime) -> Result<(), Fail> {
 
 #[test]
 fn a_star_is_refused(rt: HostRuntime) -> Result<(), Fail> {
-    let (status, bytes) =
-        run::<Brand>(rt.alloc(), Blank::new(1), "SELECT * FROM T", Some(TABLE), 100)?;
+    let (status, bytes) = run::<Brand>(
+        rt.alloc(),
+        Blank::new(1),
+        "SELECT * FROM T",
+        Some(TABLE),
+        100,
+    )?;
     assert_eq!(rt; status, 7);
     assert_eq!(rt; bytes.as_slice(), b"QUERY Q4\n".as_slice());
     Ok(())

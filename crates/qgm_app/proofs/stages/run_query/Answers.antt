@@ -1,4 +1,4 @@
-use Rattle.std.proofs.Common.{◌≡◌, Some}
+use Rattle.std.proofs.Common.{Some}
 use Rattle.std.proofs.lemmas.Result.{err_from_is_err_and}
 use Rattle.io_edge.specs.Outcome.{answered, ended, read, starved}
 use Rattle.io_edge.proofs.Order.{comes-starved}
@@ -23,11 +23,11 @@ returns-in_default-2-clause-comes g c =
     let text = rw c.in-Some.is at c.in_ok-text.ensures.comes in
     let checked = rw (c.in_default-2.is, c.as_slice.ensures) at c.in_ok-checked.ensures in
     text-of-query _ _ _ c.args.query.now c.args.dir.now c.args.catalog.now (Some c.in-Some.text) (answered (QueryRefused 4)) text
-        (query-refused _ c.args.dir.now c.args.catalog.now c.in-Some.text checked)
+    (query-refused _ c.args.dir.now c.args.catalog.now c.in-Some.text checked)
 
 pub returns-clause-comes : goal.returns-clause-comes
 returns-clause-comes g c =
     let text = rw c.in-Some.is at c.in_ok-text.ensures.comes in
     let checked = rw (c.in-Some-2.is, c.as_slice.ensures) at c.in_ok-checked.ensures in
     text-of-query _ _ _ c.args.query.now c.args.dir.now c.args.catalog.now (Some c.in-Some.text) (ended c.run_tables.result) text
-        (query-taken _ _ c.args.dir.now c.args.catalog.now c.in-Some-2.checked c.in-Some.text (ended c.run_tables.result) checked c.run_tables.ensures.comes)
+    (query-taken _ _ c.args.dir.now c.args.catalog.now c.in-Some-2.checked c.in-Some.text (ended c.run_tables.result) checked c.run_tables.ensures.comes)

@@ -1,4 +1,4 @@
-use Rattle.std.proofs.Common.{◌≡◌, Some}
+use Rattle.std.proofs.Common.{Some}
 use Rattle.std.proofs.lemmas.Result.{err_from_is_err_and}
 use Rattle.io_edge.specs.Outcome.{answered, ended, read, starved}
 use Rattle.io_edge.proofs.Order.{comes-starved}
@@ -23,11 +23,11 @@ returns-in_default-2-clause-comes g c =
     let text = rw c.in-Some.is at c.in_ok-text.ensures.comes in
     let catalog = rw (c.in_default-2.is, c.as_slice.ensures) at c.in_ok-catalog.ensures in
     text-of-schema _ _ _ c.args.schema.now c.args.query.now c.args.dir.now (Some c.in-Some.text) (answered (SchemaRefused 4)) text
-        (schema-refused _ c.args.query.now c.args.dir.now c.in-Some.text catalog)
+    (schema-refused _ c.args.query.now c.args.dir.now c.in-Some.text catalog)
 
 pub returns-clause-comes : goal.returns-clause-comes
 returns-clause-comes g c =
     let text = rw c.in-Some.is at c.in_ok-text.ensures.comes in
     let catalog = rw (c.in-Some-2.is, c.as_slice.ensures) at c.in_ok-catalog.ensures in
     text-of-schema _ _ _ c.args.schema.now c.args.query.now c.args.dir.now (Some c.in-Some.text) (ended c.run_query.result) text
-        (schema-taken _ _ c.args.query.now c.args.dir.now c.in-Some.text c.in-Some-2.catalog (ended c.run_query.result) catalog c.run_query.ensures.comes)
+    (schema-taken _ _ c.args.query.now c.args.dir.now c.in-Some.text c.in-Some-2.catalog (ended c.run_query.result) catalog c.run_query.ensures.comes)
