@@ -14,10 +14,7 @@ fn upper_case(alloc: Global, bytes: &[u8]) -> Result<Vec<u8>, OutOfMemory>
     ensures { IfOk result (λ v. v.items ≡ map to_ascii_uppercase bytes.now) }
 {
     let upper = bytes.iter().map(|byte| byte.to_ascii_uppercase());
-    match upper.collect::<Vec<u8>>(alloc) {
-        Ok(bytes) => Ok(bytes),
-        Err(_) => Err(OutOfMemory),
-    }
+    Ok(upper.collect(alloc)?)
 }
 
 // Whether a field of a header is for the column of a name.

@@ -24,10 +24,7 @@ fn path(alloc: Global, dir: &str, name: &Text) -> Result<String, OutOfMemory>
     ensures { IfOk result (λ s. string_bytes s ≡ path_of dir.now name.now) }
 {
     let name = name.to_utf8(alloc)?;
-    match format!(in alloc; "{dir}/{name}.csv") {
-        Ok(path) => Ok(path),
-        Err(_) => Err(OutOfMemory),
-    }
+    Ok(format!(in alloc; "{dir}/{name}.csv")?)
 }
 
 // The refusal of a file that is not of the form.

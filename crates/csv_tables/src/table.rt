@@ -21,9 +21,7 @@ fn row(alloc: Global, width: usize, fields: &ByteRecord) -> Result<Option<Row>, 
     if fields.len() != width {
         return Ok(None);
     }
-    let Ok(mut cells) = Vec::with_capacity(alloc, width) else {
-        return Err(OutOfMemory);
-    };
+    let mut cells = Vec::with_capacity(alloc, width)?;
     for i in 0..fields.len() {
         let Some(field) = fields.get(i) else {
             return Ok(None);
@@ -31,9 +29,7 @@ fn row(alloc: Global, width: usize, fields: &ByteRecord) -> Result<Option<Row>, 
         let Some(cell) = read_cell(field) else {
             return Ok(None);
         };
-        if cells.push(cell).is_err() {
-            return Err(OutOfMemory);
-        }
+        cells.push(cell)?;
     }
     Ok(Some(Row {
         cells: Items::from_vec(cells),
@@ -53,9 +49,7 @@ fn rows(alloc: Global, width: usize, records: &mut Records) -> Result<Option<Bag
         let Some(row) = row(alloc, width, &fields)? else {
             return Ok(None);
         };
-        if rows.push(row).is_err() {
-            return Err(OutOfMemory);
-        }
+        rows.push(row)?;
     }
     Ok(Some(Bag::from_rows(rows)))
 }

@@ -27,14 +27,11 @@ impl MemSink {
         ensures room { IfOk result (λ s. s.room ≡ room) }
         ensures faults { IfOk result (λ s. s.faults ≡ 0) }
     {
-        match Vec::with_capacity(alloc, room) {
-            Ok(bytes) => Ok(MemSink {
-                bytes,
-                room,
-                faults: 0,
-            }),
-            Err(_) => Err(OutOfMemory),
-        }
+        Ok(MemSink {
+            bytes: Vec::with_capacity(alloc, room)?,
+            room,
+            faults: 0,
+        })
     }
 }
 

@@ -43,10 +43,10 @@ pub fn run_command<F: Files, K: Sink, L: Ledger>(
     // The whole, over files that tell of themselves: what was read, and what was written of the report.
     ensures runs { Runs (F.told files.old) (F.told files.new) (outcome (map (λ w. string_bytes w) words.now)) (K.written out.old) (K.written out.new) result }
     // The headline: where no read or write failed and memory sufficed, the report that words and files mean was written, and nothing else.
-    ensures exact { result ≢ 3 → result ≢ 4 → result ≢ 8 → ComesTo (F.told files.old) (outcome (map (λ w. string_bytes w) words.now))
+    ensures headline { result ≢ 3 → result ≢ 4 → result ≢ 8 → ComesTo (F.told files.old) (outcome (map (λ w. string_bytes w) words.now))
         (λ report. (result ≡ status_of report) × (K.written out.new ≡ written_after (printed report) (K.written out.old))) }
     // Completeness: where neither count of faults rose, the report was written, or memory ran out.
-    ensures complete { (Rose (F.faults files.old) (F.faults files.new) → ⊥) → (Rose (K.faults out.old) (K.faults out.new) → ⊥) → result ≢ 8
+    ensures completeness { (Rose (F.faults files.old) (F.faults files.new) → ⊥) → (Rose (K.faults out.old) (K.faults out.new) → ⊥) → result ≢ 8
         → ComesTo (F.told files.old) (outcome (map (λ w. string_bytes w) words.now))
         (λ report. (result ≡ status_of report) × (K.written out.new ≡ written_after (printed report) (K.written out.old))) }
     ensures rows { result ≡ 0 → ComesTo (F.told files.old) (outcome (map (λ w. string_bytes w) words.now))

@@ -41,20 +41,18 @@ impl Text {
     pub fn from_chars(alloc: Global, chars: &[char]) -> Result<Text, OutOfMemory>
         ensures { IfOk result (λ t. t ≡ chars.now) }
     {
-        match Vec::from_slice(alloc, chars) {
-            Ok(chars) => Ok(Text { chars }),
-            Err(_) => Err(OutOfMemory),
-        }
+        Ok(Text {
+            chars: Vec::from_slice(alloc, chars)?,
+        })
     }
 
     /// The characters that UTF-8 bytes write.
     pub fn from_utf8(alloc: Global, text: &str) -> Result<Text, OutOfMemory>
         ensures { IfOk result (λ t. encode_utf8_all t ≡ text.now) }
     {
-        match text.chars().collect::<Vec<char>>(alloc) {
-            Ok(chars) => Ok(Text { chars }),
-            Err(_) => Err(OutOfMemory),
-        }
+        Ok(Text {
+            chars: text.chars().collect(alloc)?,
+        })
     }
 
     /// The characters.
@@ -69,10 +67,8 @@ impl Text {
         ensures ok { OnOk result (self.new ≡ self.old ++ c ∷ []) }
         ensures err { OnErr result (self.new ≡ self.old) }
     {
-        match self.chars.push(c) {
-            Ok(()) => Ok(()),
-            Err(_) => Err(OutOfMemory),
-        }
+        self.chars.push(c)?;
+        Ok(())
     }
 
     /// An equal text.
@@ -88,9 +84,7 @@ impl Text {
     {
         let mut text = String::new(alloc);
         for c in self.as_slice() {
-            if text.push(*c).is_err() {
-                return Err(OutOfMemory);
-            }
+            text.push(*c)?;
         }
         Ok(text)
     }

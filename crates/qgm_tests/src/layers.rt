@@ -10,6 +10,7 @@ use sql_text::lex;
 use sql_value::{Cell, cell_order, copy};
 use std::alloc::Global;
 use std::cmp::Ordering;
+use std::collections::HashMap;
 use std::test::Fail;
 
 // One file in memory.
@@ -77,5 +78,18 @@ fn one_read_gives_the_bytes_up_to_the_limit(rt: HostRuntime) -> Result<(), Fail>
     assert!(rt; whole.is_some_and(|bytes| bytes.as_slice() == b"abc".as_slice()));
     let over = fetch_file(rt.alloc(), &mut files, "f", 2)?;
     assert!(rt; over.is_none());
+    Ok(())
+}
+
+#[test]
+fn names_are_ordered_and_looked_up_by_their_characters(rt: HostRuntime) -> Result<(), Fail> {
+    let mut places = HashMap::new(rt.alloc());
+    for (place, letters) in ["B", "A", "AB"].into_iter().enumerate() {
+        places.insert(Text::from_utf8(rt.alloc(), letters)?, place)?;
+    }
+    let name = Text::from_utf8(rt.alloc(), "AB")?;
+    assert!(rt; places.get(&name).is_some_and(|place| *place == 2));
+    assert!(rt; Text::from_utf8(rt.alloc(), "A")? < name);
+    assert!(rt; name < Text::from_utf8(rt.alloc(), "B")?);
     Ok(())
 }

@@ -19,24 +19,28 @@ fn entry(alloc: Global, name: &str, text: &str) -> Result<Entry, Fail> {
     })
 }
 
+// The file of table T.
+fn table(alloc: Global) -> Result<Vec<Entry>, Fail> {
+    let mut entries = Vec::new(alloc);
+    entries.push(entry(alloc, "d/T.csv", TABLE)?)?;
+    Ok(entries)
+}
+
 // The status of a query over these files, and what a sink that fails after so many bytes took.
 fn run<L: Ledger>(
     alloc: Global,
     blank: Blank,
     query: &str,
-    table: Option<&str>,
+    tables: Vec<Entry>,
     room: usize,
 ) -> Result<(u8, Vec<u8>), Fail>
     requires name { blank.name ≡ L.name }
     requires parts { blank.parts ≡ L.parts }
     requires some { 0 < blank.parts }
 {
-    let mut entries = Vec::new(alloc);
+    let mut entries = tables;
     entries.push(entry(alloc, "s", SCHEMA)?)?;
     entries.push(entry(alloc, "q", query)?)?;
-    if let Some(table) = table {
-        entries.push(entry(alloc, "d/T.csv", table)?)?;
-    }
     let mut files = MemFiles::new(alloc, entries, Vec::new(alloc));
     let mut out = MemSink::new(alloc, room)?;
     let mut words = Vec::new(alloc);
@@ -54,7 +58,7 @@ fn plain_select_prints_all_rows_sorted(rt: HostRuntime) -> Result<(), Fail> {
         rt.alloc(),
         Blank::new(1),
         "SELECT A, B FROM T",
-        Some(TABLE),
+        table(rt.alloc())?,
         100,
     )?;
     assert_eq!(rt; status, 0);
@@ -68,7 +72,7 @@ fn a_sink_that_fails_after_three_bytes_takes_a_proper_prefix(rt: HostRuntime) ->
         rt.alloc(),
         Blank::new(1),
         "SELECT A, B FROM T",
-        Some(TABLE),
+        table(rt.alloc())?,
         3,
     )?;
     assert_eq!(rt; status, 4);
@@ -78,7 +82,13 @@ fn a_sink_that_fails_after_three_bytes_takes_a_proper_prefix(rt: HostRuntime) ->
 
 #[test]
 fn a_missing_file_is_named(rt: HostRuntime) -> Result<(), Fail> {
-    let (status, bytes) = run::<Brand>(rt.alloc(), Blank::new(1), "SELECT A, B FROM T", None, 100)?;
+    let (status, bytes) = run::<Brand>(
+        rt.alloc(),
+        Blank::new(1),
+        "SELECT A, B FROM T",
+        Vec::new(rt.alloc()),
+        100,
+    )?;
     assert_eq!(rt; status, 3);
     assert_eq!(rt; bytes.as_slice(), b"READ d/T.csv\n".as_slice());
     Ok(())
@@ -90,7 +100,7 @@ fn a_star_is_refused(rt: HostRuntime) -> Result<(), Fail> {
         rt.alloc(),
         Blank::new(1),
         "SELECT * FROM T",
-        Some(TABLE),
+        table(rt.alloc())?,
         100,
     )?;
     assert_eq!(rt; status, 7);

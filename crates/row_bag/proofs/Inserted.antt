@@ -5,7 +5,8 @@ use Rattle.std.specs.List.Sorted.{IsPermutation, IsSortedBy}
 use Rattle.std.specs.Ordering.{is_gt}
 use Rattle.row_bag.specs.Sorted.{insert_row, row_compare, sorted_rows}
 use Rattle.row_bag.specs.declared.row.Row.{Row}
-use Rattle.row_bag.proofs.Order.{above-not-less, less-apart, less-ranks, not-above-upto, row_less, row_same, same-equal, same-itself}
+use Rattle.row_bag.specs.Sorted.{row_less}
+use Rattle.row_bag.proofs.Order.{above-not-less, less-apart, less-ranks, not-above-upto, row_same, same-equal, same-itself}
 use Rattle.row_bag.proofs.SortedOnce.{Ascends, NoneBelow, ascends-once, ascends-sorted, occurs, occurs-moved}
 
 none-inserted : (h r : Row) (rows : List Row) → row_less r h ≡ false → NoneBelow row_less h rows → NoneBelow row_less h (insert_row r rows)

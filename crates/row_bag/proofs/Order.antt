@@ -10,7 +10,7 @@ use Rattle.std.specs.declared.cmp.Ordering.TheVariants.{Less, Equal, Greater}
 use Rattle.sql_value.specs.Cells.{cell_compare}
 use Rattle.sql_value.specs.declared.cell.Cell.{Cell}
 use Rattle.sql_value.proofs.Total.{cell-ties, cell-total}
-use Rattle.row_bag.specs.Sorted.{row_compare}
+use Rattle.row_bag.specs.Sorted.{row_compare, row_less}
 use Rattle.row_bag.specs.declared.row.Row.{Row}
 
 one-more : (o : Ordering) (m n : ℕ) → MatchOrdering o (m < n) (m ≡ n) (n < m) → MatchOrdering o (suc m < suc n) (suc m ≡ suc n) (suc n < suc m)
@@ -53,9 +53,6 @@ cells-tie (x ∷ xs) (y ∷ ys) e =
 -- rows that tie are equal
 pub row-ties : (a b : Row) → row_compare a b ≡ Equal → a ≡ b
 row-ties a b e = ap (λ (cells : List Cell). record a { cells = cells }) (cells-tie a.cells b.cells e)
-
-abbrev pub row_less : Row → Row → Bool
-row_less a b = is_lt (row_compare a b)
 
 abbrev pub row_same : Row → Row → Bool
 row_same a b = is_eq (row_compare a b)

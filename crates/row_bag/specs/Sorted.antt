@@ -1,7 +1,7 @@
 -- Rows in ascending order.
-use Rattle.std.specs.Prelude.{List, [], ◌∷◌, if◌then◌else◌}
+use Rattle.std.specs.Prelude.{Bool, List, [], ◌∷◌, if◌then◌else◌}
 use Rattle.std.specs.Cmp.Lexicographic.{slice_cmp}
-use Rattle.std.specs.Ordering.{is_gt}
+use Rattle.std.specs.Ordering.{is_gt, is_lt}
 use Rattle.std.specs.declared.cmp.Ordering.{Ordering}
 use Rattle.sql_value.specs.Cells.{cell_compare}
 use Rattle.row_bag.specs.declared.row.Row.{Row}
@@ -9,6 +9,10 @@ use Rattle.row_bag.specs.declared.row.Row.{Row}
 -- the first cells that differ decide, from the left, and else the numbers of cells
 abbrev pub row_compare : Row → Row → Ordering
 row_compare a b = slice_cmp cell_compare a.cells b.cells
+
+-- the first row stands below the second
+abbrev pub row_less : Row → Row → Bool
+row_less a b = is_lt (row_compare a b)
 
 -- the row before the first of the rows that it is not above
 unfoldable pub insert_row : Row → List Row → List Row

@@ -55,9 +55,7 @@ impl Bag {
         ensures ok { OnOk result (self.new ≡ self.old ++ row ∷ []) }
         ensures err { OnErr result (self.new ≡ self.old) }
     {
-        match self.rows.push(row) {
-            Ok(()) => Ok(()),
-            Err(_) => Err(OutOfMemory),
-        }
+        self.rows.push(row)?;
+        Ok(())
     }
 }

@@ -49,10 +49,8 @@ impl Tables {
         ensures ok { OnOk result (self.new ≡ self.old ++ table ∷ []) }
         ensures err { OnErr result (self.new ≡ self.old) }
     {
-        match self.tables.push(table) {
-            Ok(()) => Ok(()),
-            Err(_) => Err(OutOfMemory),
-        }
+        self.tables.push(table)?;
+        Ok(())
     }
 
     /// The rows of the first table of a name; none exactly where no table has the name.

@@ -4,8 +4,8 @@ use Rattle.csv.specs.Records.{fields_of}
 use Rattle.csv_tables.proofs.Walks.{at-none, cells-all, cells-more, cells-none, row-none, row-some}
 use Rattle.csv_tables.proofs.table.row.Goals as goal
 
-pub returns-in_default-get : goal.returns-in_default-get
-returns-in_default-get c = absurd (at-none (fields_of c.args.fields.now) c.loop-i.i (rw c.len-i-end.ensures at c.loop-i-test.true) (sym c.in_default-get.ensures.value))
+pub returns-in_default : goal.returns-in_default
+returns-in_default c = absurd (at-none (fields_of c.args.fields.now) c.loop-i.i (rw c.len-i-end.ensures at c.loop-i-test.true) (sym c.in_default.ensures.value))
 
 pub returns-in_default-read_cell : goal.returns-in_default-read_cell
 returns-in_default-read_cell c = row-none c.args.width (fields_of c.args.fields.now) (sym c.len.ensures ∙ c.if-len-width.false)
