@@ -1,0 +1,37 @@
+// What a run of the rewrite rules is given.
+use crate::classes::Classes;
+
+/// How the next firing is picked among the candidates.
+#[derive(Clone, Copy, Debug, PartialEq, Eq)]
+pub enum Order {
+    /// The first of them.
+    Sequence,
+    /// The one whose class is tried first.
+    Priority,
+    /// One that the seed picks.
+    Scatter,
+}
+
+/// How the boxes of a graph are listed.
+#[derive(Clone, Copy, Debug, PartialEq, Eq)]
+pub enum Walk {
+    /// Depth first.
+    Depth,
+    /// Breadth first.
+    Breadth,
+}
+
+/// How a query is to be rewritten.
+#[derive(Debug, Drop)]
+pub struct Plan {
+    /// The classes of rules that may fire, in the order in which they are to be tried.
+    pub classes: Classes,
+    /// How the next firing is picked.
+    pub order: Order,
+    /// How the boxes are listed.
+    pub walk: Walk,
+    /// What `Order::Scatter` picks by.
+    pub seed: u64,
+    /// The greatest number of firings.
+    pub budget: u64,
+}
