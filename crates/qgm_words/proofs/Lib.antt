@@ -1,0 +1,3 @@
+mod ClassLemmas
+mod ReaderLemmas
+mod Refusals
