@@ -1,5 +1,5 @@
 -- How the stages of a run fit together.
-use Rattle.std.proofs.Common.{ℕ, ◌≡◌, ◌++◌, List, Option, Some, None, Result, Ok, Err, refl, ap, ap₂, subst}
+use Rattle.std.proofs.Common.{ℕ, ◌≡◌, ◌++◌, List, Option, Some, None, Result, Ok, Err, refl, sym, ap, ap₂, subst}
 use Rattle.csv_tables.specs.Load.{tables_of}
 use Rattle.csv_tables.specs.Printed.{printed_rows}
 use Rattle.csv_tables.specs.TableFile.{Refusal}
@@ -14,9 +14,10 @@ use Rattle.row_bag.specs.declared.tables.Table.{Table}
 use Rattle.sql_ast.specs.declared.tree.QueryText.{QueryText}
 use Rattle.sql_ast.specs.declared.tree.TableDecl.{TableDecl}
 use Rattle.sql_check.specs.declared.checked.Checked.{Checked}
-use Rattle.qgm_app.specs.Outcome.{outcome, reported, reported_by, with_catalog, with_line, with_query, with_query_text, with_schema_text}
+use Rattle.qgm_app.specs.Outcome.{outcome, reported, reported_by, with_catalog, with_line, with_task, with_query, with_query_text, with_schema_text}
 use Rattle.qgm_app.specs.Texts.{IsChecked, catalog_of, valid_query}
-use Rattle.qgm_app.specs.Words.{Line, line_of}
+use Rattle.qgm_words.specs.Line.{LineText}
+use Rattle.qgm_words.specs.Reading.{line}
 use Rattle.qgm_app.specs.declared.report.Report.{Report}
 use Rattle.qgm_app.specs.declared.report.Report.TheVariants.{Rows, Usage, SchemaRefused, QueryRefused}
 
@@ -87,13 +88,13 @@ pub schema-taken : (t u : Option Told) (query dir bytes : List ℕ) (catalog : L
 unfolding with_catalog
 schema-taken t u query dir bytes catalog end is h = subst (λ (c : Option (List TableDecl)). Comes t u (λ fs. with_catalog query dir fs c) end) is h
 
--- the words are no command
-pub no-line : (t : Option Told) (words : List (List ℕ)) → None ≡ line_of words → Comes t t (outcome words) (answered Usage)
+-- the words are no command line
+pub no-line : (t : Option Told) (words : List (List ℕ)) → line words ≡ None → Comes t t (outcome words) (answered Usage)
 unfolding with_line
-no-line t words is = subst (λ (line : Option Line). Comes t t (λ fs. with_line line fs) (answered Usage)) is (comes-done t Usage)
+no-line t words is = subst (λ (l : Option LineText). Comes t t (λ fs. with_line l fs) (answered Usage)) (sym is) (comes-done t Usage)
 
--- the words are a command, and the schema is next
-pub line-taken : (t u : Option Told) (words : List (List ℕ)) (line : Line) (end : Ended Report) → Some line ≡ line_of words
-    → Comes t u (λ fs. read fs line.schema 65536 >>= (λ text. with_schema_text line.query line.dir fs text)) end → Comes t u (outcome words) end
+-- the words are a command line, and what it comes to is next
+pub line-taken : (t u : Option Told) (words : List (List ℕ)) (taken : LineText) (end : Ended Report) → line words ≡ Some taken
+    → Comes t u (λ fs. with_task taken.task fs) end → Comes t u (outcome words) end
 unfolding with_line
-line-taken t u words line end is h = subst (λ (l : Option Line). Comes t u (λ fs. with_line l fs) end) is h
+line-taken t u words taken end is h = subst (λ (l : Option LineText). Comes t u (λ fs. with_line l fs) end) (sym is) h

@@ -13,8 +13,9 @@ use Rattle.sql_ast.specs.declared.tree.TableDecl.{TableDecl}
 use Rattle.sql_check.specs.Resolved.{rows_at}
 use Rattle.sql_check.specs.declared.checked.Checked.{Checked}
 use Rattle.sql_meaning.specs.Meaning.{Answer, answer}
+use Rattle.qgm_words.specs.Line.{LineText, TaskText, explain, gen, run}
+use Rattle.qgm_words.specs.Reading.{line}
 use Rattle.qgm_app.specs.Texts.{catalog_of, valid_query}
-use Rattle.qgm_app.specs.Words.{Line, line_of}
 use Rattle.qgm_app.specs.declared.report.Report.{Report}
 use Rattle.qgm_app.specs.declared.report.Report.TheVariants.{Rows, Usage, SchemaRefused, DataRefused, QueryRefused}
 
@@ -55,14 +56,20 @@ with_schema_text query dir files (Some bytes) = with_catalog query dir files (ca
 abbrev pub from_schema : List ℕ → List ℕ → List ℕ → List File → Outcome Report
 from_schema schema query dir files = read files schema 65536 >>= (λ text. with_schema_text query dir files text)
 
--- the command, or none where the words are none; and then the schema
-unfoldable pub with_line : Option Line → List File → Outcome Report
+-- what a command comes to; those that aren't built yet are in no command line
+abbrev pub with_task : TaskText → List File → Outcome Report
+with_task (run schema query dir) files = from_schema schema query dir files
+with_task (explain schema query dir) files = done Usage
+with_task (gen seed rows) files = done Usage
+
+-- the command line, or none where the words are none; and then what it comes to
+unfoldable pub with_line : Option LineText → List File → Outcome Report
 with_line None files = done Usage
-with_line (Some line) files = from_schema line.schema line.query line.dir files
+with_line (Some taken) files = with_task taken.task files
 
 -- the outcome of a command line over these files
 abbrev pub outcome : List (List ℕ) → List File → Outcome Report
-outcome words files = with_line (line_of words) files
+outcome words files = with_line (line words) files
 
 -- the report of a query whose names are resolved
 abbrev pub reported_by : Checked → Result (List Table) Refusal → Report

@@ -2,9 +2,12 @@
 use Rattle.std.specs.Prelude.{ℕ, ◌≡◌, ◌≢◌, ⊤, List, length, Option, Some, None, IfSome, Result, Ok, Err}
 use Rattle.io_edge.specs.Outcome.{AskedOf, Outcome, failed_name}
 use Rattle.io_edge.specs.Outside.{Ask, File, StopsShort, Told, with_asked, written_after}
+use Rattle.io_edge.specs.declared.fetch.Interruption.{Interruption}
+use Rattle.io_edge.specs.declared.fetch.Interruption.TheVariants.{ReadFault, Memory}
 use Rattle.qgm_base.specs.declared.memory.OutOfMemory.{OutOfMemory}
 use Rattle.qgm_app.specs.Printed.{read_failed, said_of}
 use Rattle.qgm_app.specs.declared.report.Report.{Report}
+use Rattle.qgm_app.specs.declared.report.Report.TheVariants.{Usage}
 use Rattle.qgm_app.specs.declared.report.Said.{Said}
 
 -- what is said after these reads: the outcome's report, all of its names having been read, or the name whose read failed
@@ -35,6 +38,12 @@ abbrev pub Runs : Option Told → Option Told → (List File → Outcome Report)
 Runs None after o old new status = ⊤
 Runs (Some t) None o old new status = ⊥
 Runs (Some t) (Some u) o old new status = (asks : List Ask) × (u ≡ with_asked asks t) × RanAs (o t.files) asks old new status
+
+-- the answer to words that are no command line, or want of memory
+abbrev pub IsUsage : Result Report Interruption → Type 0
+IsUsage (Ok report) = report ≡ Usage
+IsUsage (Err (ReadFault name)) = ⊥
+IsUsage (Err Memory) = ⊤
 
 -- over files that tell of themselves, the outcome has a report of which this holds
 abbrev pub ComesTo : Option Told → (List File → Outcome Report) → (Report → Type 0) → Type 0

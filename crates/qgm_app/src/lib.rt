@@ -6,6 +6,5 @@ mod respond;
 mod run;
 mod stages;
 mod texts;
-mod words;
 
 pub use run::run_command;

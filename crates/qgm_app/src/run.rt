@@ -4,13 +4,13 @@ ghost use Rattle.std.specs.String.{string_bytes};
 ghost use Rattle.io_edge.specs.Causes.{Rose};
 ghost use Rattle.io_edge.specs.Outcome.{AskedOf, failed_name};
 ghost use Rattle.io_edge.specs.Outside.{Ask, StopsShort, written_after};
+ghost use Rattle.qgm_words.specs.Reading.{line};
 ghost use Rattle.qgm_app.specs.declared.report.Report.{Report};
 ghost use Rattle.qgm_app.specs.declared.report.Report.TheVariants.{Rows, SchemaRefused, DataRefused, QueryRefused};
 ghost use Rattle.qgm_app.specs.declared.report.Said.{Said};
 ghost use Rattle.qgm_app.specs.Outcome.{outcome};
 ghost use Rattle.qgm_app.specs.Printed.{printed, status_of};
 ghost use Rattle.qgm_app.specs.Runs.{ComesTo, IsSaid, Runs};
-ghost use Rattle.qgm_app.specs.Words.{line_of};
 
 use crate::respond::respond;
 use io_edge::{Files, Sink, write_all};
@@ -52,8 +52,8 @@ pub fn run_command<F: Files, K: Sink, L: Ledger>(
     ensures rows { result ≡ 0 → ComesTo (F.told files.old) (outcome (map (λ w. string_bytes w) words.now))
         (λ report. (bytes : List ℕ) × (report ≡ Rows bytes) × (K.written out.new ≡ written_after bytes (K.written out.old))) }
     ensures no_error { result ≢ 1 }
-    ensures usage { result ≡ 2 → (line_of (map (λ w. string_bytes w) words.now) ≡ None) × (K.written out.new ≡ written_after (codes "USAGE\n") (K.written out.old)) }
-    ensures no_line { line_of (map (λ w. string_bytes w) words.now) ≡ None → (files.new ≡ files.old) × ((result ≡ 2) ⊎ (result ≡ 4) ⊎ (result ≡ 8)) }
+    ensures usage { result ≡ 2 → (line (map (λ w. string_bytes w) words.now) ≡ None) × (K.written out.new ≡ written_after (codes "USAGE\n") (K.written out.old)) }
+    ensures no_line { line (map (λ w. string_bytes w) words.now) ≡ None → (files.new ≡ files.old) × ((result ≡ 2) ⊎ (result ≡ 4) ⊎ (result ≡ 8)) }
     ensures read_fault { result ≡ 3 → Rose (F.faults files.old) (F.faults files.new) }
     ensures read_named { result ≡ 3 → IfSome (F.told files.old) (λ t. IfSome (F.told files.new) (λ u. (asks : List Ask) × (name : List ℕ) × (u.asked ≡ t.asked ++ asks)
         × (failed_name asks ≡ Some name) × (K.written out.new ≡ written_after (codes "READ " ++ (name ++ codes "\n")) (K.written out.old)))) }

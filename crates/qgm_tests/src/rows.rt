@@ -8,14 +8,14 @@ use std::sync::ledger::{Blank, Ledger};
 use std::test::Fail;
 use step_count::Steps;
 
-const SCHEMA: &str = "CREATE TABLE T (A INTEGER, B INTEGER);\n";
+const SCHEMA: &[u8] = b"CREATE TABLE T (A INTEGER, B INTEGER);\n";
 
-const TABLE: &str = "A,B\n1,1\n1,1\n2,\\N\n";
+const TABLE: &[u8] = b"A,B\n1,1\n1,1\n2,\\N\n";
 
-fn entry(alloc: Global, name: &str, text: &str) -> Result<Entry, Fail> {
+fn entry(alloc: Global, name: &str, bytes: &[u8]) -> Result<Entry, Fail> {
     Ok(Entry {
         name: String::from_str(alloc, name)?,
-        bytes: text.as_bytes().to_vec(alloc)?,
+        bytes: bytes.to_vec(alloc)?,
     })
 }
 
@@ -30,7 +30,7 @@ fn table(alloc: Global) -> Result<Vec<Entry>, Fail> {
 fn run<L: Ledger>(
     alloc: Global,
     blank: Blank,
-    query: &str,
+    query: &[u8],
     tables: Vec<Entry>,
     room: usize,
 ) -> Result<(u8, Vec<u8>), Fail>
@@ -57,7 +57,7 @@ fn plain_select_prints_all_rows_sorted(rt: HostRuntime) -> Result<(), Fail> {
     let (status, bytes) = run::<Brand>(
         rt.alloc(),
         Blank::new(1),
-        "SELECT A, B FROM T",
+        b"SELECT A, B FROM T",
         table(rt.alloc())?,
         100,
     )?;
@@ -71,7 +71,7 @@ fn a_sink_that_fails_after_three_bytes_takes_a_proper_prefix(rt: HostRuntime) ->
     let (status, bytes) = run::<Brand>(
         rt.alloc(),
         Blank::new(1),
-        "SELECT A, B FROM T",
+        b"SELECT A, B FROM T",
         table(rt.alloc())?,
         3,
     )?;
@@ -85,7 +85,7 @@ fn a_missing_file_is_named(rt: HostRuntime) -> Result<(), Fail> {
     let (status, bytes) = run::<Brand>(
         rt.alloc(),
         Blank::new(1),
-        "SELECT A, B FROM T",
+        b"SELECT A, B FROM T",
         Vec::new(rt.alloc()),
         100,
     )?;
@@ -99,7 +99,7 @@ fn a_star_is_refused(rt: HostRuntime) -> Result<(), Fail> {
     let (status, bytes) = run::<Brand>(
         rt.alloc(),
         Blank::new(1),
-        "SELECT * FROM T",
+        b"SELECT * FROM T",
         table(rt.alloc())?,
         100,
     )?;

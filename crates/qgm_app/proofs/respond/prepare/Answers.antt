@@ -1,13 +1,13 @@
-use Rattle.std.proofs.Common.{map}
+use Rattle.std.proofs.Common.{◌≡◌, map, refl}
 use Rattle.std.specs.String.{string_bytes}
 use Rattle.io_edge.specs.Outcome.{ended}
+use Rattle.qgm_words.specs.Line.{line_text}
 use Rattle.qgm_app.proofs.Steps.{line-taken, no-line}
 use Rattle.qgm_app.proofs.respond.prepare.Goals as goal
 
-pub returns-in-Some-clause-comes : goal.returns-in-Some-clause-comes
-returns-in-Some-clause-comes g c =
-    line-taken _ _ (map (λ w. string_bytes w) c.args.words.now) (record { schema = c.in-Some.line.schema.now; query = c.in-Some.line.query.now; dir = c.in-Some.line.dir.now })
-    (ended c.run_schema.result) c.in-Some.ensures c.run_schema.ensures.comes
+pub returns-in-Ok-clause-comes : goal.returns-in-Ok-clause-comes
+returns-in-Ok-clause-comes g c =
+    line-taken _ _ (map (λ w. string_bytes w) c.args.words.now) (line_text c.in-Ok.line) (ended c.run_line.result) c.in-Ok.ensures.ok c.run_line.ensures.comes
 
-pub returns-in-None-clause-comes : goal.returns-in-None-clause-comes
-returns-in-None-clause-comes g c = no-line _ (map (λ w. string_bytes w) c.args.words.now) c.in-None.ensures
+pub returns-in-Err-Usage-clause-comes : goal.returns-in-Err-Usage-clause-comes
+returns-in-Err-Usage-clause-comes g c = no-line _ (map (λ w. string_bytes w) c.args.words.now) (c.in-Err-Usage.ensures.usage refl)
