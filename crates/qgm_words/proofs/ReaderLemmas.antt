@@ -1,7 +1,7 @@
 -- What the proofs of the reader cite.
-use Rattle.std.proofs.Common.{◌≡◌, ◌&&◌, ℕ, Bool, true, false, refl, sym, List, [], ◌∷◌, length, Option, Some, None, Result, Ok, Err, IfOk, inl, inr, true≢false, nat_lt, lt-ltb, ltb-true}
+use Rattle.std.proofs.Common.{◌≡◌, ◌&&◌, ℕ, Bool, true, false, refl, sym, List, [], ◌∷◌, length, Option, Some, None, Result, Ok, Err, inl, inr, true≢false, nat_lt, lt-ltb, ltb-true}
 use Rattle.std.specs.List.{list_all}
-use Rattle.std.specs.Option.{option_map, ok_or, unwrap_or}
+use Rattle.std.specs.Option.{option_map, unwrap_or}
 use Rattle.std.specs.Result.{result_unwrap_or}
 use Rattle.std.specs.Prelude.{Box, option_and_then}
 use Rattle.std.specs.Box.{box_value}

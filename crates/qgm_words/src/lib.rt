@@ -6,6 +6,8 @@ mod command;
 mod reader;
 mod refusal;
 mod task;
+#[cfg(test)]
+mod tests;
 
 pub use reader::read_line;
 pub use refusal::WordsRefusal;

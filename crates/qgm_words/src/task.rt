@@ -22,7 +22,10 @@ pub enum Task<'a> {
     },
     /// Makes a schema, tables and a query: what they are drawn by (0 to 2147483647), and the number
     /// of rows (0 to 100000).
-    Gen { seed: u64, rows: u64 },
+    Gen {
+        seed: u64,
+        rows: u64,
+    },
 }
 
 /// A command line: what is to be done, and how queries are to be rewritten.

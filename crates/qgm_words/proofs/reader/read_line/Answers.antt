@@ -1,6 +1,5 @@
-use Rattle.std.proofs.Common.{◌≡◌, ◌∙◌, refl, sym}
+use Rattle.std.proofs.Common.{refl}
 use Rattle.qgm_words.specs.Reading.{line}
-use Rattle.qgm_words.proofs.Refusals.{same_refusal}
 use Rattle.qgm_words.proofs.reader.read_line.Goals as goal
 
 pub returns-then-is_built-clause-ok : goal.returns-then-is_built-clause-ok
