@@ -18,11 +18,7 @@ use qgm_words::{Line, Task, WordsRefusal, read_line};
 use std::alloc::Global;
 
 // The report on a command line.
-fn run_line<F: Files>(
-    alloc: Global,
-    line: &Line<'_>,
-    files: &mut F,
-) -> Result<Report, Interruption>
+fn run_line<F: Files>(alloc: Global, line: &Line<'_>, files: &mut F) -> Result<Report, Interruption>
     ensures comes { Comes (F.told files.old) (F.told files.new) (λ fs. with_task (task_text line.now.task) fs) (ended result) }
     ensures built { is_built (task_text line.now.task) ≡ true → IfOk result (λ report. report ≢ Usage) }
     ensures later { F.faults files.old ≤ F.faults files.new }
