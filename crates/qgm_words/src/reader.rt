@@ -1,8 +1,8 @@
 // What the words of a command line say.
-ghost use Rattle.std.specs.Prelude.{◌≡◌, ◌≢◌, Err, IfOk, IsErrOf, None, Some, map, option_and_then, option_map};
+ghost use Rattle.std.specs.Prelude.{◌≡◌, ◌≢◌, Err, IfOk, IsErrOf, None, Some, map, option_and_then, option_map, true};
 ghost use Rattle.std.specs.Prelude.{string_bytes};
 ghost use Rattle.clap.specs.Words.{found_of, rows_of, subcommand_rows_of};
-ghost use Rattle.qgm_words.specs.Line.{line_text, task_text};
+ghost use Rattle.qgm_words.specs.Line.{is_built, line_text, task_text};
 ghost use Rattle.qgm_words.specs.Reading.{command_at, known_line, line, number, order_named};
 ghost use Rattle.qgm_words.specs.Reading.{plan_at, task_at, text_at, walk_named};
 
@@ -151,6 +151,7 @@ fn known_line<'a>(alloc: Global, words: &'a [String]) -> Result<Line<'a>, WordsR
 /// isn't one of those listed, a class stands twice, or the command isn't built yet.
 pub fn read_line<'a>(alloc: Global, words: &'a [String]) -> Result<Line<'a>, WordsRefusal>
     ensures ok { IfOk result (λ l. line (map (λ w. string_bytes w) words.now) ≡ Some (line_text l)) }
+    ensures built { IfOk result (λ l. is_built (task_text l.task) ≡ true) }
     ensures usage { IsErrOf result WordsRefusal.Usage → line (map (λ w. string_bytes w) words.now) ≡ None }
 {
     match known_line(alloc, words) {
