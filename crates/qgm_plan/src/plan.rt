@@ -6,9 +6,9 @@ use crate::classes::Classes;
 pub enum Order {
     /// The first of them.
     Sequence,
-    /// The one whose class is tried first.
+    /// The first of those whose rule ranks first.
     Priority,
-    /// One that the seed picks.
+    /// One that is drawn by the seed.
     Scatter,
 }
 
@@ -30,7 +30,7 @@ pub struct Plan {
     pub order: Order,
     /// How the boxes are listed.
     pub walk: Walk,
-    /// What `Order::Scatter` picks by.
+    /// What `Order::Scatter` draws by.
     pub seed: u64,
     /// The greatest number of firings.
     pub budget: u64,

@@ -7,31 +7,39 @@ use qgm_plan::Plan;
 /// A command with its arguments.
 #[derive(Clone, Copy, Debug)]
 pub enum Task<'a> {
-    /// Answers a query: the name of the schema's file, that of the query's file, and that of the
-    /// folder of tables.
+    /// Answers a query.
     Run {
+        /// The name of the schema's file.
         schema: &'a str,
+        /// The name of the query's file.
         query: &'a str,
+        /// The name of the folder of tables.
         dir: &'a str,
     },
-    /// Shows how a query is rewritten, with the arguments of `Run`.
+    /// Shows how a query is rewritten.
     Explain {
+        /// The name of the schema's file.
         schema: &'a str,
+        /// The name of the query's file.
         query: &'a str,
+        /// The name of the folder of tables.
         dir: &'a str,
     },
-    /// Makes a schema, tables and a query: what they are drawn by (0 to 2147483647), and the number
-    /// of rows (0 to 100000).
+    /// Makes a schema, its tables and a query.
     Gen {
+        /// What they are drawn by, 0 to 2147483647.
         seed: u64,
+        /// The number of rows, 0 to 100000.
         rows: u64,
     },
 }
 
-/// A command line: what is to be done, and how queries are to be rewritten.
+/// A command line.
 #[derive(Debug, Drop)]
 pub struct Line<'a> {
+    /// What is to be done.
     pub task: Task<'a>,
+    /// How queries are to be rewritten.
     pub plan: Plan,
 }
 
