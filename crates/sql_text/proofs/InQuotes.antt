@@ -1,5 +1,5 @@
 -- What is quoted, a character at a time.
-use Rattle.std.proofs.Common.{◌≡◌, refl, sym, ap, ◌==◌, ◌∙◌, ℕ, zero, suc, ◌+◌, ◌≤◌, Bool, true, false, List, [], ◌∷◌, ◌++◌, length, take, arith}
+use Rattle.std.proofs.Common.{◌≡◌, refl, ap, ◌==◌, ℕ, suc, ◌+◌, ◌≤◌, Bool, true, false, List, [], ◌∷◌, ◌++◌, length, take, arith}
 use Rattle.std.specs.Prelude.{Result, Ok, Err, if◌then◌else◌}
 use Rattle.std.proofs.lemmas.Bool.{eqb-true, eq-eqb}
 use Rattle.sql_text.specs.Tokens.{with_character, quoted, quoted_text}
@@ -44,8 +44,8 @@ quoted_is quote (c ∷ []) found h = either (c == quote) _ _ _ (λ same h. closi
 quoted_is quote (c ∷ d ∷ rest) found h =
     either (c == quote) _ _ _
     (λ same h. either (d == quote) _ _ _
-        (λ second h. let (inner, read, e) = with_ok quote 2 (quoted quote rest) found h in two_more quote c d rest found inner same second e (quoted_is quote rest inner read))
-        (λ other h. closing quote c (d ∷ rest) found same h)
-        h)
+    (λ second h. let (inner, read, e) = with_ok quote 2 (quoted quote rest) found h in two_more quote c d rest found inner same second e (quoted_is quote rest inner read))
+    (λ other h. closing quote c (d ∷ rest) found same h)
+    h)
     (λ other h. let (inner, read, e) = with_ok c 1 (quoted quote (d ∷ rest)) found h in one_more quote c (d ∷ rest) found inner other e (quoted_is quote (d ∷ rest) inner read))
     h

@@ -1,10 +1,10 @@
 -- What the tokens of a text are: a slice each, one after the other.
-use Rattle.std.proofs.Common.{Vec, Global, ◌≡◌, refl, sym, ap, subst, inl, inr, ◌==◌, ◌∙◌, ℕ, zero, suc, ◌+◌, ◌-◌, ◌<◌, ◌≤◌, Bool, true, false, ◌&&◌, not, List, [], ◌∷◌, ◌++◌, length, take, drop, arith}
-use Rattle.std.specs.Prelude.{All, IfOk, Contains, Option, Some, None, Result, Ok, Err, if◌then◌else◌, nat_le, pos, codes, encode_utf8, encode_utf8_all, IsUtf8}
+use Rattle.std.proofs.Common.{Vec, Global, ◌≡◌, refl, sym, ap, subst, inl, inr, ◌==◌, ◌∙◌, ℕ, zero, suc, ◌+◌, ◌-◌, ◌≤◌, Bool, true, false, ◌&&◌, not, List, [], ◌∷◌, ◌++◌, length, take, drop, arith}
+use Rattle.std.specs.Prelude.{All, IfOk, Contains, Option, Some, None, Result, Ok, Err, if◌then◌else◌, nat_le, pos, encode_utf8, encode_utf8_all, IsUtf8}
 use Rattle.std.proofs.lemmas.List.{append_assoc, append-nil, length-append, take_at, take-append-drop}
 use Rattle.std.proofs.lemmas.Bool.{eqb-true}
 use Rattle.std.proofs.lemmas.List.Elements.{All-cons}
-use Rattle.std.proofs.lemmas.List.Sums.{prefix_len-le-length, sum_by-cons, sum_by-take-drop}
+use Rattle.std.proofs.lemmas.List.Sums.{prefix_len-le-length, sum_by-cons}
 use Rattle.std.proofs.lemmas.Slice.Eq.{bytes_eq-Decides}
 use Rattle.std.proofs.lemmas.Str.{len_utf8_bounds, length-encode, encodes-append, drop_past_char, chars_from_encodes, is_utf8-from_IsUtf8, IsUtf8-from_is_utf8}
 use Rattle.std.specs.Str.{bytes_eq, chars, is_utf8}
@@ -15,7 +15,7 @@ use Rattle.sql_text.specs.declared.token.Token.TheVariants as t
 use Rattle.sql_text.specs.declared.token.Spanned.{Spanned}
 use Rattle.sql_text.specs.declared.refusal.LexRefusal.{LexRefusal}
 use Rattle.sql_text.specs.Keys.{key_words}
-use Rattle.sql_text.specs.Tokens.{Found, is_blank, is_letter, is_digit, in_word, word, folded, entry_of, key_in, key_word, key_or_name, word_token, word_length, starts_comment, comment_length, digits, digits_length, value, starts_like_letter, number, quoted, quoted_text, string, name_of_some, delimited_name, long_sign, short_sign, found_short, found_long, sign, first, width, widths, before, before_rest, and_then, tokens_at, tokens, Ascends, IsTextOf, slice, StandsIn, GivesSeen}
+use Rattle.sql_text.specs.Tokens.{Found, is_blank, is_letter, is_digit, in_word, word, folded, entry_of, key_in, key_word, key_or_name, word_token, word_length, starts_comment, comment_length, digits, digits_length, value, starts_like_letter, number, quoted, string, name_of_some, delimited_name, long_sign, short_sign, found_short, found_long, sign, first, width, widths, before, before_rest, and_then, tokens_at, tokens, Ascends, IsTextOf, StandsIn, GivesSeen}
 use Rattle.sql_text.proofs.Numbers.{digits_again}
 use Rattle.sql_text.proofs.InQuotes.{either, IsQuoted, quoted_is}
 
@@ -129,9 +129,9 @@ number_is : (c : ℕ) (rest : List ℕ) (found : Option Token × ℕ) → is_dig
 number_is c rest found digit h =
     either (starts_like_letter (drop (digits_length (c ∷ rest)) (c ∷ rest))) _ _ _ (λ _ h. absurd (cc))
     (λ _ h. either (nat_le (value (digits (c ∷ rest))) 9223372036854775807) _ _ _
-        (λ _ h. is_found (c ∷ rest) (Some (t.Number (pos (value (digits (c ∷ rest))))), digits_length (c ∷ rest)) found (digits_size c rest digit, prefix_len-le-length is_digit (c ∷ rest), (digits_again (c ∷ rest), refl)) h)
-        (λ _ h. absurd (cc))
-        h)
+    (λ _ h. is_found (c ∷ rest) (Some (t.Number (pos (value (digits (c ∷ rest))))), digits_length (c ∷ rest)) found (digits_size c rest digit, prefix_len-le-length is_digit (c ∷ rest), (digits_again (c ∷ rest), refl)) h)
+    (λ _ h. absurd (cc))
+    h)
     h
 
 string_is : (c : ℕ) (rest : List ℕ) (told : Result (List ℕ × ℕ) ℕ) (found : Option Token × ℕ) → c ≡ 39 → quoted 39 rest ≡ told → string told ≡ Ok found → IsFirst (c ∷ rest) found
@@ -169,8 +169,8 @@ short_text c token =
     (λ _. either (c == 59) _ _ _ (is 59 t.Semicolon refl)
     (λ _ h. absurd (cc)))))))))))))
   where
-  is : (sign : ℕ) (known : Token) → IsTextOf known (sign ∷ []) → (c == sign) ≡ true → Some known ≡ Some token → IsTextOf token (c ∷ [])
-  is sign known fact same h = known_sign known token (c ∷ []) (sign ∷ []) (ap (λ b. b ∷ []) (eqb-true c sign same)) fact h
+    is : (sign : ℕ) (known : Token) → IsTextOf known (sign ∷ []) → (c == sign) ≡ true → Some known ≡ Some token → IsTextOf token (c ∷ [])
+    is sign known fact same h = known_sign known token (c ∷ []) (sign ∷ []) (ap (λ b. b ∷ []) (eqb-true c sign same)) fact h
 
 long_text : (c d : ℕ) (token : Token) → long_sign c d ≡ Some token → IsTextOf token (c ∷ d ∷ [])
 long_text c d token =
@@ -180,12 +180,13 @@ long_text c d token =
     (λ _. either (c == 124 && d == 124) _ _ _ (is 124 124 t.Concat refl)
     (λ _ h. absurd (cc)))))
   where
-  pair : (a b : Bool) (x y : ℕ) → (a ≡ true → c ≡ x) → (b ≡ true → d ≡ y) → (a && b) ≡ true → c ∷ d ∷ [] ≡ x ∷ y ∷ []
-  pair true true x y f g h = rw (f refl, g refl) refl
-  pair true false x y f g h = absurd (cc)
-  pair false b x y f g h = absurd (cc)
-  is : (x y : ℕ) (known : Token) → IsTextOf known (x ∷ y ∷ []) → (c == x && d == y) ≡ true → Some known ≡ Some token → IsTextOf token (c ∷ d ∷ [])
-  is x y known fact same h = known_sign known token (c ∷ d ∷ []) (x ∷ y ∷ []) (pair (c == x) (d == y) x y (eqb-true c x) (eqb-true d y) same) fact h
+    pair : (a b : Bool) (x y : ℕ) → (a ≡ true → c ≡ x) → (b ≡ true → d ≡ y) → (a && b) ≡ true → c ∷ d ∷ [] ≡ x ∷ y ∷ []
+    pair true true x y f g h = rw (f refl, g refl) refl
+    pair true false x y f g h = absurd (cc)
+    pair false b x y f g h = absurd (cc)
+
+    is : (x y : ℕ) (known : Token) → IsTextOf known (x ∷ y ∷ []) → (c == x && d == y) ≡ true → Some known ≡ Some token → IsTextOf token (c ∷ d ∷ [])
+    is x y known fact same h = known_sign known token (c ∷ d ∷ []) (x ∷ y ∷ []) (pair (c == x) (d == y) x y (eqb-true c x) (eqb-true d y) same) fact h
 
 short_is : (c : ℕ) (rest : List ℕ) (told : Option Token) (found : Option Token × ℕ) → short_sign c ≡ told → found_short told ≡ Ok found → IsFirst (c ∷ rest) found
 short_is c rest None found read h = absurd (cc)
@@ -236,7 +237,7 @@ tokens_ascend place zero start end (c ∷ rest) spans low high h =
     let (some, within, text) = first_is (c ∷ rest) found read in
     let bytes : widths (take found.1 (c ∷ rest)) ≡ width c + widths (take (found.1 - 1) rest) = found_widths found.1 c rest some in
     rw e (ascend_found place (widths (take found.1 (c ∷ rest))) start found.0 others end (omega (arith, low)) (omega (arith, bytes, width_some c))
-        (λ from h. tokens_ascend (place + width c) (found.1 - 1) from end rest others (omega (arith, h, bytes)) (omega (arith, high, sum_by-cons width c rest)) following))
+    (λ from h. tokens_ascend (place + width c) (found.1 - 1) from end rest others (omega (arith, h, bytes)) (omega (arith, high, sum_by-cons width c rest)) following))
 
 -- Each token's text stands at its place.
 take_written : (size : ℕ) (cs : List ℕ) → take (widths (take size cs)) (encode_utf8_all cs) ≡ encode_utf8_all (take size cs)
@@ -261,7 +262,7 @@ tokens_stand bytes place zero (c ∷ rest) spans here h =
     let (found, others, read, following, e) = and_then_ok place (c ∷ rest) (first (c ∷ rest)) (λ size. tokens_at (place + width c) (size - 1) rest) spans h in
     let (some, within, text) = first_is (c ∷ rest) found read in
     rw e (stands_found bytes (c ∷ rest) place found.1 found.0 others here text
-        (tokens_stand bytes (place + width c) (found.1 - 1) rest others (past_char c place rest bytes here) following))
+    (tokens_stand bytes (place + width c) (found.1 - 1) rest others (past_char c place rest bytes here) following))
 
 -- The characters of the bytes.
 pub utf8_tokens : (bytes cs : List ℕ) → IsUtf8 bytes → encode_utf8_all cs ≡ bytes → tokens bytes ≡ tokens_at 0 0 cs

@@ -1,5 +1,5 @@
 -- Which texts are too deep to be read.
-use Rattle.std.specs.Prelude.{ℕ, zero, suc, Bool, true, false, not, ◌||◌, nat_lt, List, [], ◌∷◌, if◌then◌else◌}
+use Rattle.std.specs.Prelude.{ℕ, zero, suc, Bool, true, false, not, ◌||◌, nat_lt, List, [], ◌∷◌}
 use Rattle.std.specs.List.{list_any, count_by, slice_split}
 use Rattle.sql_text.specs.declared.depth.Counted.{Counted}
 use Rattle.sql_text.specs.declared.depth.Counted.TheVariants.{Tables, Values}

@@ -1,9 +1,9 @@
 -- The tokens of a text, by the longest match from the left. A text is characters, which its bytes write in UTF-8.
-use Rattle.std.specs.Prelude.{◌≡◌, ℕ, zero, suc, ◌+◌, ◌-◌, ◌*◌, ◌<◌, ◌≤◌, ◌==◌, ◌&&◌, ◌||◌, not, nat_le, pos, Bool, true, false, if◌then◌else◌, List, [], ◌∷◌, ◌++◌, map, take, drop, All, Contains, Option, Some, None, Result, Ok, Err, codes, encode_utf8_all, ◌⊎◌}
+use Rattle.std.specs.Prelude.{◌≡◌, ℕ, zero, suc, ◌+◌, ◌-◌, ◌*◌, ◌<◌, ◌≤◌, ◌==◌, ◌&&◌, ◌||◌, not, nat_le, pos, Bool, false, if◌then◌else◌, List, [], ◌∷◌, map, take, drop, Contains, Option, Some, None, Result, Ok, Err, codes, encode_utf8_all, ◌⊎◌}
 use Rattle.std.specs.Char.{is_ascii_alphabetic, is_ascii_digit, to_ascii_uppercase, len_utf8}
 use Rattle.std.specs.List.{take_while, prefix_len, find, sum_by}
 use Rattle.std.specs.Option.{option_map}
-use Rattle.std.specs.Str.{bytes_eq, byte, chars, is_utf8}
+use Rattle.std.specs.Str.{bytes_eq, chars, is_utf8}
 use Rattle.qgm_base.specs.declared.compare.CmpOp.TheVariants as op
 use Rattle.sql_text.specs.Keys.{key_words}
 use Rattle.sql_text.specs.declared.key.Key.{Key}
@@ -168,6 +168,7 @@ sign [] = Err 1
 sign (c ∷ []) = found_short (short_sign c)
 sign (c ∷ d ∷ rest) = found_long (long_sign c d) c
 
+-- What stands first. 39 is `'` and 34 is `"`.
 abbrev pub first : List ℕ → Found
 first [] = Err 1
 first (c ∷ rest) =

@@ -1,6 +1,5 @@
-use Rattle.std.proofs.Common.{◌≡◌, ◌∙◌, ap, ℕ, List, length, arith}
+use Rattle.std.proofs.Common.{◌≡◌, ◌∙◌, ap, length, arith}
 use Rattle.std.specs.Prelude.{encode_utf8_all}
-use Rattle.sql_text.specs.Tokens.{widths}
 use Rattle.sql_text.specs.declared.refusal.LexRefusal.TheVariants as r
 use Rattle.sql_text.proofs.Lexed.{widths_are, not_utf8_tokens, lexed, lexed_ok, lexed_fault, lexed_ascend, lexed_stand}
 use Rattle.sql_text.proofs.lexer.lex.Goals as goal
