@@ -17,7 +17,8 @@ fn read_schema_tree(alloc: Global, bytes: &[u8]) -> Result<Option<Schema>, OutOf
 {
     let tokens = match lex(alloc, bytes) {
         Ok(tokens) => tokens,
-        Err(LexRefusal::BadCharacter) => return Ok(None),
+        Err(LexRefusal::BadCharacter | LexRefusal::Unterminated | LexRefusal::NumberTooLarge) =>
+            return Ok(None),
         Err(LexRefusal::Memory) => return Err(OutOfMemory),
     };
     match parse_schema(alloc, tokens.as_slice()) {
@@ -49,7 +50,8 @@ fn read_query_tree(alloc: Global, bytes: &[u8]) -> Result<Option<QueryText>, Out
 {
     let tokens = match lex(alloc, bytes) {
         Ok(tokens) => tokens,
-        Err(LexRefusal::BadCharacter) => return Ok(None),
+        Err(LexRefusal::BadCharacter | LexRefusal::Unterminated | LexRefusal::NumberTooLarge) =>
+            return Ok(None),
         Err(LexRefusal::Memory) => return Err(OutOfMemory),
     };
     match parse_query(alloc, tokens.as_slice()) {

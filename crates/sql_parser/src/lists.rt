@@ -1,5 +1,5 @@
 // Lists of names, with a comma before each but the first.
-ghost use Rattle.std.specs.Prelude.{◌≡◌, ◌∷◌, ◌<◌, [], IfSome, IfNone, length};
+ghost use Rattle.std.specs.Prelude.{◌≡◌, ◌∷◌, ◌<◌, ℕ, List, [], IfSome, IfNone, length};
 ghost use Rattle.sql_text.specs.declared.key.Key.TheVariants.{Integer};
 ghost use Rattle.sql_text.specs.declared.token.Token.TheVariants as t;
 ghost use Rattle.sql_parser.specs.Read as read;
@@ -58,29 +58,36 @@ pub(crate) fn names(alloc: Global, tokens: &[Spanned]) -> Result<(Names, &[Spann
     Ok((names, rest))
 }
 
+/// The tokens after INTEGER.
+fn integer(tokens: &[Spanned]) -> Option<&[Spanned]>
+    ensures found { IfSome result (λ r. token_list tokens.now ≡ t.Key Integer ∷ token_list r.now) }
+    ensures shorter { IfSome result (λ r. length r.now < length tokens.now) }
+    ensures none { IfNone result ((name : List ℕ) → read.more_elements (t.Comma ∷ t.Name name ∷ token_list tokens.now) ≡ ([], t.Comma ∷ t.Name name ∷ token_list tokens.now)) }
+{
+    match tokens {
+        [
+            Spanned {
+                token: Token::Key(Key::Integer),
+                ..
+            },
+            rest @ ..,
+        ] => Some(rest),
+        _ => None,
+    }
+}
+
 /// The name of an element after a comma, and the tokens after the element.
 fn comma_element(tokens: &[Spanned]) -> Option<(&Name, &[Spanned])>
     ensures found { IfSome result (λ r. token_list tokens.now ≡ t.Comma ∷ t.Name r.0.now ∷ t.Key Integer ∷ token_list r.1.now) }
     ensures shorter { IfSome result (λ r. length r.1.now < length tokens.now) }
     ensures none { IfNone result (read.more_elements (token_list tokens.now) ≡ ([], token_list tokens.now)) }
 {
-    match tokens {
-        [
-            Spanned {
-                token: Token::Comma,
-                ..
-            },
-            Spanned {
-                token: Token::Name(name),
-                ..
-            },
-            Spanned {
-                token: Token::Key(Key::Integer),
-                ..
-            },
-            rest @ ..,
-        ] => Some((name, rest)),
-        _ => None,
+    let Some((name, after)) = comma_name(tokens) else {
+        return None;
+    };
+    match integer(after) {
+        Some(rest) => Some((name, rest)),
+        None => None,
     }
 }
 

@@ -1,1 +1,4 @@
+pub mod Crowds
 pub mod Lexed
+pub mod Numbers
+pub mod InQuotes

@@ -1,13 +1,21 @@
 //! The text of a schema or a query as tokens.
 #![tactic(auto)]
 
+mod depth;
 mod key;
 mod lexer;
+mod number;
+mod quoted;
+mod refusal;
+mod sign;
 #[cfg(test)]
 mod tests;
 mod token;
 mod words;
 
+pub use depth::too_deep;
 pub use key::Key;
-pub use lexer::{LexRefusal, lex};
+pub use lexer::lex;
+pub use qgm_base::CmpOp;
+pub use refusal::LexRefusal;
 pub use token::{Name, Spanned, Token};

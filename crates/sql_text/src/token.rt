@@ -1,6 +1,6 @@
 // The tokens of a text, and where they stand in it.
 use crate::key::Key;
-use qgm_base::Text;
+use qgm_base::{CmpOp, Text};
 
 /// A name, in upper case where it was written without quotes. Contracts see it as the list of its
 /// characters.
@@ -11,11 +11,24 @@ pub type Name = Text;
 pub enum Token {
     /// A key word.
     Key(Key),
-    /// A name: a letter, and then letters, digits and `_`, that is no key word.
+    /// A name: a word that is no key word, in upper case; or what stands between double quotes.
     Name(Name),
+    /// An unsigned integer, at most 9223372036854775807.
+    Number(i64),
+    /// The characters between single quotes.
+    Str(Text),
     LeftParen,
     RightParen,
     Comma,
+    Dot,
+    Star,
+    Plus,
+    Minus,
+    Slash,
+    /// `=`, `<>`, `<`, `<=`, `>`, `>=`.
+    Compare(CmpOp),
+    /// `||`.
+    Concat,
     Semicolon,
 }
 

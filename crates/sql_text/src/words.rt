@@ -75,33 +75,33 @@ const KEY_WORDS: [(&str, Key); 63] = [
     ("WHERE", Key::Where),
 ];
 
-/// Whether a byte is a letter from A to Z in either case.
-pub fn is_letter(byte: u8) -> bool
-    ensures { result ≡ spec.is_letter byte }
+/// Whether a character is a letter from A to Z in either case.
+pub fn is_letter(c: char) -> bool
+    ensures { result ≡ spec.is_letter c }
 {
-    byte.is_ascii_alphabetic()
+    c.is_ascii_alphabetic()
 }
 
-/// Whether a byte may stand in a word after its first letter.
-fn in_word(byte: u8) -> bool
-    ensures { result ≡ spec.in_word byte }
+/// Whether a character may stand in a word after its first letter.
+fn in_word(c: char) -> bool
+    ensures { result ≡ spec.in_word c }
 {
-    is_letter(byte) || byte.is_ascii_digit() || byte == b'_'
+    is_letter(c) || c.is_ascii_digit() || c == '_'
 }
 
-/// How many bytes the word has that stands first.
-pub fn word_length(bytes: &[u8]) -> usize
-    ensures { result ≡ spec.word_length bytes.now }
+/// How many characters the word has that stands first.
+pub fn word_length(chars: &[char]) -> usize
+    ensures { result ≡ spec.word_length chars.now }
 {
-    bytes.iter().take_while(|byte| in_word(**byte)).count()
+    chars.iter().take_while(|c| in_word(**c)).count()
 }
 
 /// Whether a word has these letters in upper case.
-fn has_letters(mut word: &[u8], mut letters: &[u8]) -> bool
+fn has_letters(mut word: &[char], mut letters: &[u8]) -> bool
     ensures { result ≡ bytes_eq letters.entry.now (spec.folded word.entry.now) }
 {
-    'letters: while let ([byte, more @ ..], [letter, others @ ..]) = (word, letters) {
-        if *letter != byte.to_ascii_uppercase() {
+    'letters: while let ([c, more @ ..], [letter, others @ ..]) = (word, letters) {
+        if char::from(*letter) != c.to_ascii_uppercase() {
             return false;
         }
         word = more;
@@ -111,7 +111,7 @@ fn has_letters(mut word: &[u8], mut letters: &[u8]) -> bool
 }
 
 /// The key word of a table that a word is.
-fn lookup(table: &[(&str, Key)], word: &[u8]) -> Option<Key>
+fn lookup(table: &[(&str, Key)], word: &[char]) -> Option<Key>
     ensures { result ≡ spec.key_in (spec.entry_of (map (λ entry. (entry.0.now, entry.1)) table.now) (spec.folded word.now)) }
 {
     for (letters, key) in table {
@@ -123,25 +123,25 @@ fn lookup(table: &[(&str, Key)], word: &[u8]) -> Option<Key>
 }
 
 /// The key word that a word is.
-fn key_word(word: &[u8]) -> Option<Key>
+fn key_word(word: &[char]) -> Option<Key>
     ensures { result ≡ spec.key_word (spec.folded word.now) }
 {
     lookup(&KEY_WORDS, word)
 }
 
-/// A name of these bytes in upper case.
-fn name(alloc: Global, word: &[u8]) -> Result<Name, OutOfMemory>
+/// A name of these characters in upper case.
+fn name(alloc: Global, word: &[char]) -> Result<Name, OutOfMemory>
     ensures { IfOk result (λ name. name ≡ spec.folded word.now) }
 {
     let mut name = Text::new(alloc);
-    for byte in word {
-        name.push(char::from(byte.to_ascii_uppercase()))?;
+    for c in word {
+        name.push(c.to_ascii_uppercase())?;
     }
     Ok(name)
 }
 
 /// The token that a word is.
-pub fn word_token(alloc: Global, word: &[u8]) -> Result<Token, OutOfMemory>
+pub fn word_token(alloc: Global, word: &[char]) -> Result<Token, OutOfMemory>
     ensures { IfOk result (λ token. token ≡ spec.word_token (spec.folded word.now)) }
 {
     match key_word(word) {

@@ -4,4 +4,4 @@
 mod cell;
 
 pub use cell::{Cell, OutNames, cell_order, copy};
-pub use qgm_base::Text;
+pub use qgm_base::{CmpOp, Text};
