@@ -151,7 +151,6 @@ fn known_line<'a>(alloc: Global, words: &'a [String]) -> Result<Line<'a>, WordsR
 /// isn't one of those listed, a class stands twice, or the command isn't built yet.
 pub fn read_line<'a>(alloc: Global, words: &'a [String]) -> Result<Line<'a>, WordsRefusal>
     ensures ok { IfOk result (λ l. line (map (λ w. string_bytes w) words.now) ≡ Some (line_text l)) }
-    ensures built { IfOk result (λ l. is_built (task_text l.task) ≡ true) }
     ensures usage { IsErrOf result WordsRefusal.Usage → line (map (λ w. string_bytes w) words.now) ≡ None }
     ensures built { IfOk result (λ l. is_built (task_text l.task) ≡ true) }
 {
