@@ -1,12 +1,13 @@
 -- Counting within statements, from the left.
-use Rattle.std.proofs.Common.{◌≡◌, refl, sym, ◌∙◌, ℕ, ◌+◌, ◌<◌, ◌≤◌, Bool, true, false, ◌||◌, ◌==◌, List, [], ◌∷◌, length, arith}
+use Rattle.std.proofs.Common.{◌≡◌, refl, sym, ◌∙◌, ℕ, ◌+◌, ◌<◌, ◌≤◌, Bool, true, false, ◌||◌, not, ◌==◌, List, [], ◌∷◌, length, arith}
 use Rattle.std.specs.Prelude.{if◌then◌else◌, nat_lt, cond}
 use Rattle.std.specs.List.{list_any, count_by, onto_first}
 use Rattle.std.proofs.lemmas.Bool.{eqb-true}
 use Rattle.std.proofs.lemmas.List.Sums.{sum_by-cons}
 use Rattle.std.proofs.lemmas.List.Splits.{length-slice_split}
 use Rattle.sql_text.specs.declared.token.Token.{Token}
-use Rattle.sql_text.specs.Depth.{is_semicolon, statements, crowded}
+use Rattle.sql_text.specs.declared.depth.Counted.TheVariants.{Tables, Values}
+use Rattle.sql_text.specs.Depth.{is_counted, is_semicolon, shallow, statements, crowded, too_deep}
 
 -- after `count` tokens of the statement that stands first: some statement has over `limit`
 abbrev pub running : (Token → Bool) → ℕ → ℕ → List Token → Bool
@@ -78,3 +79,12 @@ running_is test limit count (token ∷ others) low =
 
 pub crowded_is : (test : Token → Bool) (limit : ℕ) (tokens : List Token) → crowded test limit tokens ≡ running test limit 0 tokens
 crowded_is test limit tokens = sym (running_is test limit 0 tokens (omega arith) ∙ from_none test limit (statements tokens))
+
+-- what a text that is not too deep keeps to
+within_budget : (shallows tables values : Bool) → (not shallows || tables || values) ≡ false → shallows ≡ true
+within_budget true tables values h = refl
+within_budget false tables values h = absurd (cc)
+
+pub shallow_if_read : (tokens : List Token) → too_deep tokens ≡ false → shallow 64 tokens ≡ true
+unfolding too_deep
+shallow_if_read tokens h = within_budget (shallow 64 tokens) (crowded (is_counted Tables) 64 tokens) (crowded (is_counted Values) 2048 tokens) h

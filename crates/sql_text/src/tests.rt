@@ -99,7 +99,7 @@ fn signs_are_the_longest_from_the_left(rt: HostRuntime) -> Result<(), Fail> {
 
 #[test]
 fn tokens_have_their_places_in_bytes(rt: HostRuntime) -> Result<(), Fail> {
-    let expected = [(0, 4), (4, 5), (12, 14), (14, 15)];
+    let expected = [(0, 4), (4, 5), (11, 13), (13, 14)];
     assert!(rt; places(rt, "'é'* --é\n10-".as_bytes())?.as_slice() == expected.as_slice());
     Ok(())
 }
