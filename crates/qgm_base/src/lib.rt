@@ -1,8 +1,10 @@
-//! What every layer stands on: want of memory, and characters in a row.
+//! What every layer stands on: want of memory, characters in a row, and the comparison operators.
 #![tactic(auto)]
 
+mod compare;
 mod memory;
 mod text;
 
+pub use compare::CmpOp;
 pub use memory::OutOfMemory;
 pub use text::Text;
