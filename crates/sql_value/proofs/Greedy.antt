@@ -1,5 +1,5 @@
 -- The rest of a pattern after `%` may be tried from each place of a text on, up to the next `%`.
-use Rattle.std.proofs.Common.{ℕ, zero, suc, ◌+◌, ◌-◌, ◌*◌, ◌<◌, ◌≤◌, ◌≡◌, ◌∙◌, Bool, true, false, not, ◌==◌, ◌&&◌, ◌||◌, if◌then◌else◌, List, [], ◌∷◌, drop, length, Option, Some, None, inl, inr, refl, sym, ap, arith, add-one, drop-cons, get_or}
+use Rattle.std.proofs.Common.{ℕ, zero, suc, ◌+◌, ◌-◌, ◌*◌, ◌<◌, ◌≤◌, ◌≡◌, ◌∙◌, Bool, true, false, ◌==◌, ◌&&◌, ◌||◌, List, [], ◌∷◌, drop, length, Option, Some, None, inl, inr, refl, sym, ap, arith, add-one, drop-cons, get_or}
 use Rattle.std.proofs.Math.ListN.{drop_of_length-le}
 use Rattle.std.proofs.lemmas.Bool.{cases_Bool}
 use Rattle.std.proofs.lemmas.List.{drop-drop}
@@ -87,9 +87,13 @@ any-more p t i j r whole follows e =
     ∙ ap (λ (u : List ℕ). fits (drop (j + 1) p) (drop i t) || some_end (fits (drop (j + 1) p)) u) (drop-next i t)
 
 pub follows-itself : (p t : List ℕ) (i j : ℕ) → Follows p t i j (Some (i, j))
-follows-itself p t i j = (omega arith, refl, λ k h.
-    let none : k ≡ k + (j - j) = omega arith in
-    rw none at h)
+follows-itself p t i j = (
+  omega arith,
+  refl,
+  λ k h.
+      let none : k ≡ k + (j - j) = omega arith in
+      rw none at h,
+)
 
 one-there : (p : List ℕ) (j c : ℕ) (t : List ℕ) → begins_one (drop j p) c ≡ true → fits (drop j p) (c ∷ t) ≡ fits (drop (j + 1) p) t
 one-there [] zero c t e = cc e
@@ -120,10 +124,13 @@ pub follows-more : (p t : List ℕ) (i j c : ℕ) (r : Option (ℕ × ℕ)) → 
 follows-more p t i j c None e f = tt
 follows-more p t i j c (Some (start, after)) e f =
     let low = f.0 in
-    let same = f.1 in
-    (omega arith, omega arith, λ k h.
-      let one : k + (j - after) + 1 ≡ k + (j + 1 - after) = omega arith in
-      rw one at (rw drop-next at (one-rest p j c (drop (k + (j - after)) t) e (f.2 k h))))
+    let same = f.1 in (
+      omega arith,
+      omega arith,
+      λ k h.
+          let one : k + (j - after) + 1 ≡ k + (j + 1 - after) = omega arith in
+          rw one at (rw drop-next at (one-rest p j c (drop (k + (j - after)) t) e (f.2 k h))),
+    )
 
 none-there : (p : List ℕ) (j c : ℕ) (t : List ℕ) → begins_any (drop j p) ≡ false → begins_one (drop j p) c ≡ false → fits (drop j p) (c ∷ t) ≡ false
 none-there [] zero c t a e = refl
@@ -161,3 +168,15 @@ all-tried p t i j (Some (start, after)) past whole follows =
     let same = follows.1 in
     let ended : fits p t ≡ (fits (drop j p) [] || retried p t (Some (start, after))) = rw (drop_of_length-le t past) at whole in
     ended ∙ or-first _ _ (λ h. ends-past (fits (drop after p)) (fits (drop j p)) t (j - after) follows.2 (drop (start + 1) t) (start + 1) refl (omega arith) h)
+
+pub any-within : (p : List ℕ) (j : ℕ) → begins_any (drop j p) ≡ true → j + 1 ≤ length p
+any-within [] zero e = cc e
+any-within [] (suc j) e = cc e
+any-within (x ∷ p) zero e = omega arith
+any-within (x ∷ p) (suc j) e = let low = any-within p j e in omega arith
+
+pub one-within : (p : List ℕ) (j c : ℕ) → begins_one (drop j p) c ≡ true → j + 1 ≤ length p
+one-within [] zero c e = cc e
+one-within [] (suc j) c e = cc e
+one-within (x ∷ p) zero c e = omega arith
+one-within (x ∷ p) (suc j) c e = let low = one-within p j c e in omega arith
