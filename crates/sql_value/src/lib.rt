@@ -7,6 +7,8 @@ mod comparison;
 mod level;
 mod order_key;
 mod pattern;
+#[cfg(test)]
+mod tests;
 mod truth;
 
 pub use arithmetic::{add, concat, div, mul, neg, sub};
