@@ -1,5 +1,6 @@
 -- What the two texts declare and ask.
-use Rattle.std.specs.Prelude.{ℕ, ◌≡◌, ⊤, List, map, Option, Some, None, Result, Ok, Err}
+use Rattle.std.specs.Prelude.{ℕ, ◌≡◌, ◌==◌, ◌||◌, if◌then◌else◌, ⊤, Bool, List, map, Option, Some, None, Result, Ok, Err}
+use Rattle.std.specs.List.{list_all}
 use Rattle.row_bag.specs.declared.tables.Table.{Table}
 use Rattle.sql_ast.specs.declared.tree.QueryText.{QueryText}
 use Rattle.sql_ast.specs.declared.tree.Schema.{Schema}
@@ -10,16 +11,28 @@ use Rattle.sql_check.specs.Valid.{fault}
 use Rattle.sql_check.specs.declared.checked.Checked.{Checked}
 use Rattle.sql_meaning.specs.Meaning.{rows}
 use Rattle.sql_parser.specs.Read.{query_tree, schema_tree}
-use Rattle.sql_text.specs.Tokens.{token_list, tokens}
+use Rattle.sql_text.specs.Tokens.{in_word, is_blank, token_list, tokens}
 use Rattle.sql_text.specs.declared.token.Spanned.{Spanned}
 
+-- The texts that are taken as yet hold letters, digits, `_`, blanks, and the signs `(`, `)`, `,`, `;`: so names are plain, and there is no comment.
+abbrev pub is_plain : ℕ → Bool
+is_plain byte = in_word byte || is_blank byte || byte == 40 || byte == 41 || byte == 44 || byte == 59
+
+abbrev pub if_read : Result (List Spanned) ℕ → Option (List Spanned)
+if_read (Ok spans) = Some spans
+if_read (Err number) = None
+
+-- the tokens of a text, or none where it has none or isn't taken as yet
+unfoldable pub tokens_of : List ℕ → Option (List Spanned)
+tokens_of bytes = if list_all is_plain bytes then if_read (tokens bytes) else None
+
 -- the tree that the tokens of a schema's text spell, or none
-abbrev pub schema_spelled : Result (List Spanned) ℕ → Option Schema
-schema_spelled (Ok spans) = schema_tree (token_list spans)
-schema_spelled (Err number) = None
+abbrev pub schema_spelled : Option (List Spanned) → Option Schema
+schema_spelled None = None
+schema_spelled (Some spans) = schema_tree (token_list spans)
 
 unfoldable pub schema_of : List ℕ → Option Schema
-schema_of bytes = schema_spelled (tokens bytes)
+schema_of bytes = schema_spelled (tokens_of bytes)
 
 -- the tables, or none where there is a refusal
 abbrev pub if_declared : Result (List TableDecl) ℕ → Option (List TableDecl)
@@ -35,12 +48,12 @@ unfoldable pub catalog_of : List ℕ → Option (List TableDecl)
 catalog_of bytes = declared_by (schema_of bytes)
 
 -- the tree that the tokens of a query's text spell, or none
-abbrev pub query_spelled : Result (List Spanned) ℕ → Option QueryText
-query_spelled (Ok spans) = query_tree (token_list spans)
-query_spelled (Err number) = None
+abbrev pub query_spelled : Option (List Spanned) → Option QueryText
+query_spelled None = None
+query_spelled (Some spans) = query_tree (token_list spans)
 
 unfoldable pub query_of : List ℕ → Option QueryText
-query_of bytes = query_spelled (tokens bytes)
+query_of bytes = query_spelled (tokens_of bytes)
 
 -- the query, or none where a number holds of it
 abbrev pub if_faultless : QueryText → Option ℕ → Option QueryText
