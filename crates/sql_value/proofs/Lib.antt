@@ -1,3 +1,1 @@
-mod Greedy
-pub mod Laws
 pub mod Total
