@@ -1,10 +1,10 @@
 -- The cell that a field stands for, and how a cell is written.
-use Rattle.std.specs.Prelude.{ℕ, ◌^◌, ◌==◌, ◌&&◌, ◌||◌, if◌then◌else◌, nat_lt, nat_le, Bool, ℤ, pos, neg_ℤ, List, [], ◌∷◌, drop, length, slice_index, Option, Some, None, option_map}
+use Rattle.std.specs.Prelude.{ℕ, ◌^◌, ◌==◌, ◌&&◌, ◌||◌, if◌then◌else◌, nat_lt, nat_le, Bool, ℤ, pos, neg_ℤ, List, [], ◌∷◌, drop, length, slice_index, Option, Some, None, option_map, false, encode_utf8_all}
 use Rattle.std.specs.Str.{all_ascii_digits, bytes_eq}
 use Rattle.std.specs.Str.Parse.{digits_value}
 use Rattle.std.specs.Fmt.{signed_decimal}
 use Rattle.sql_value.specs.declared.cell.Cell.{Cell}
-use Rattle.sql_value.specs.declared.cell.Cell.TheVariants.{Int, Null}
+use Rattle.sql_value.specs.declared.cell.Cell.TheVariants.{Int, Text, Null, Err}
 
 -- one digit or more
 abbrev pub is_number : List ℕ → Bool
@@ -31,7 +31,17 @@ is_null bs = (length bs == 0) || bytes_eq bs null_text
 unfoldable pub cell_of : List ℕ → Option Cell
 cell_of bs = if is_null bs then Some Null else option_map (λ z. Int z) (integer_of bs)
 
--- how a cell is written
+abbrev pub begins_with_backslash : List ℕ → Bool
+begins_with_backslash [] = false
+begins_with_backslash (c ∷ text) = c == 92
+
+-- a text that begins with `\` has that sign twice, so that none is written as null is
+abbrev pub escaped : List ℕ → List ℕ
+escaped text = if begins_with_backslash text then 92 ∷ text else text
+
+-- how a cell is written; an error, which is never written, as nothing
 abbrev pub cell_text : Cell → List ℕ
 cell_text (Int z) = signed_decimal z
+cell_text (Text text) = encode_utf8_all (escaped text)
 cell_text Null = null_text
+cell_text (Err k) = []

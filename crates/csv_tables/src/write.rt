@@ -1,6 +1,8 @@
 // The text of a header and rows.
-ghost use Rattle.std.specs.Prelude.{◌≡◌, ◌++◌, ◌∷◌, ◌+◌, [], IfOk, OnOk, map};
+ghost use Rattle.std.specs.Prelude.{◌≡◌, ◌++◌, ◌∷◌, ◌+◌, [], IfOk, OnOk, map, encode_utf8_all};
+ghost use Rattle.std.specs.String.{string_bytes};
 ghost use Rattle.csv.specs.Records.{fields_of, partial_of};
+ghost use Rattle.csv_tables.specs.Cells as spec;
 ghost use Rattle.csv_tables.specs.Cells.{cell_text};
 ghost use Rattle.csv_tables.specs.Printed.{column_text, header_from, printed_rows};
 
@@ -58,24 +60,65 @@ fn put_names(alloc: Global, names: &OutNames, fields: &mut ByteRecord) -> Result
     Ok(())
 }
 
+// The characters of a text in UTF-8; a text that begins with `\` has that sign twice.
+fn escaped(alloc: Global, text: &Text) -> Result<String, OutOfMemory>
+    ensures { IfOk result (λ s. string_bytes s ≡ encode_utf8_all (spec.escaped text.now)) }
+{
+    let written = text.to_utf8(alloc)?;
+    if !begins_with_backslash(text.as_slice()) {
+        return Ok(written);
+    }
+    let mut doubled = String::new(alloc);
+    doubled.push('\\')?;
+    doubled.push_str(&written)?;
+    Ok(doubled)
+}
+
+// Whether a text begins with `\`.
+fn begins_with_backslash(text: &[char]) -> bool
+    ensures { result ≡ spec.begins_with_backslash text.now }
+{
+    match text.first() {
+        Some(c) => *c == '\\',
+        None => false,
+    }
+}
+
+// Adds the field of a cell. An error cell is never written, since an answer with one is that
+// error: its field is empty.
+fn put_cell(alloc: Global, cell: &Cell, fields: &mut ByteRecord) -> Result<(), OutOfMemory>
+    ensures fields { OnOk result (fields_of fields.new ≡ fields_of fields.old ++ (partial_of fields.old ++ cell_text cell.now) ∷ []) }
+    ensures whole { OnOk result (partial_of fields.new ≡ []) }
+{
+    match cell {
+        Cell::Int(number) => {
+            let mut buffer = Buffer::new();
+            put_field(buffer.format(*number).as_bytes(), fields)
+        }
+        Cell::Text(text) => {
+            let text = escaped(alloc, text)?;
+            put_field(text.as_bytes(), fields)
+        }
+        Cell::Null => put_field(b"\\N", fields),
+        Cell::Err(_) => put_field(b"", fields),
+    }
+}
+
 // The fields of a row.
-fn put_cells(cells: &[Cell], fields: &mut ByteRecord) -> Result<(), OutOfMemory>
+fn put_cells(alloc: Global, cells: &[Cell], fields: &mut ByteRecord) -> Result<(), OutOfMemory>
     ensures { OnOk result (fields_of fields.new ≡ map cell_text cells.now) }
 {
     fields.clear();
-    let mut buffer = Buffer::new();
     for cell in cells {
-        match cell {
-            Cell::Int(number) => put_field(buffer.format(*number).as_bytes(), fields)?,
-            Cell::Null => put_field(b"\\N", fields)?,
-        }
+        put_cell(alloc, cell, fields)?;
     }
     Ok(())
 }
 
 /// The text of a header of the names and of the rows, as `csv` writes them by default, with a
-/// line feed at the end of each. Null is `\N`. A column without a name has the name `COLn`, where
-/// n is its place from 1. It fails for want of memory alone.
+/// line feed at the end of each. Null is `\N`, and a text that begins with `\` has that sign
+/// twice. A column without a name has the name `COLn`, where n is its place from 1. It fails for
+/// want of memory alone.
 pub fn write_rows(alloc: Global, names: &OutNames, bag: &Bag) -> Result<Vec<u8>, OutOfMemory>
     ensures { IfOk result (λ v. v.items ≡ printed_rows names.now bag.now) }
 {
@@ -88,7 +131,7 @@ pub fn write_rows(alloc: Global, names: &OutNames, bag: &Bag) -> Result<Vec<u8>,
         return Err(OutOfMemory);
     }
     for row in bag.rows() {
-        put_cells(row.cells.as_slice(), &mut fields)?;
+        put_cells(alloc, row.cells.as_slice(), &mut fields)?;
         if writer.write_byte_record(&fields).is_err() {
             return Err(OutOfMemory);
         }

@@ -1,1 +1,3 @@
+mod Greedy
+pub mod Laws
 pub mod Total

@@ -1,7 +1,21 @@
-//! Cells, their order, and the names of columns.
+//! Cells, their operations and order, truth, and the names of columns.
 #![tactic(auto)]
 
+mod arithmetic;
 mod cell;
+mod comparison;
+mod level;
+mod order_key;
+mod pattern;
+#[cfg(test)]
+mod tests;
+mod truth;
 
-pub use cell::{Cell, OutNames, cell_order, copy};
+pub use arithmetic::{add, concat, div, mul, neg, sub};
+pub use cell::{Cell, Kind, OutNames, cell_order, copy};
+pub use comparison::{compare, is_null, same};
+pub use level::Level;
+pub use order_key::{OrderKey, OrderKeys, SqlType};
+pub use pattern::like;
 pub use qgm_base::{CmpOp, Text};
+pub use truth::{Truth, and, keep, not, or};
