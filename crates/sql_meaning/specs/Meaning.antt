@@ -16,9 +16,9 @@ abbrev pub value : List ℕ → List (List ℕ) → List Cell → Cell
 value name (column ∷ columns) (cell ∷ cells) = if same_name column name then cell else value name columns cells
 value name columns cells = Null
 
--- the row that a block gives for a row of its table, whose columns these are: the value of each name of its list
-abbrev pub selected : Block → List (List ℕ) → Row → Row
-selected block columns row = record { cells = map (λ name. value name columns row.cells) block.columns }
+-- the row that a block gives for a row of its table, whose columns these are: the value of each name of its list, at the row's level
+abbrev pub selected : Block → List (List ℕ) → Row (List Cell) → Row (List Cell)
+selected block columns row = record { cells = map (λ name. value name columns row.cells) block.columns; level = row.level }
 
 -- the columns of a table of the catalog, or none where the catalog lacks the table
 abbrev pub columns_of : Option TableDecl → List (List ℕ)
@@ -26,18 +26,18 @@ columns_of None = []
 columns_of (Some table) = table.columns
 
 -- the rows of a table, or none where there is no such table
-abbrev pub rows_of : Option (List Row) → List Row
+abbrev pub rows_of : Option (List (Row (List Cell))) → List (Row (List Cell))
 rows_of None = []
 rows_of (Some rows) = rows
 
 -- the rows of a block, in the order of the rows of its table: one for each of them
-abbrev pub rows : Block → List TableDecl → List Table → List Row
+abbrev pub rows : Block → List TableDecl → List Table → List (Row (List Cell))
 rows block catalog tables = map (selected block (columns_of (table_named catalog block.table))) (rows_of (bag_named tables block.table))
 
 -- the answer of a query: a name for each column, and the rows
 pub record Answer : Type 0 where
   pub names : List (Option (List ℕ))
-  pub rows : List Row
+  pub rows : List (Row (List Cell))
 
 -- the names of the query's list, and the rows of its block in ascending order of all columns
 abbrev pub answer : QueryText → List TableDecl → List Table → Answer
