@@ -7,6 +7,6 @@ mod sort;
 mod tables;
 
 pub use bag::Bag;
-pub use row::{Row, row_order};
+pub use row::{Row, order_by, row_order};
 pub use sort::sorted;
 pub use tables::{Table, Tables};
