@@ -1,8 +1,8 @@
 -- The order of rows is total, and its ties are equal.
-use Rattle.std.proofs.Common.{ℕ, zero, suc, ◌<◌, ◌≡◌, ◌∙◌, Bool, true, false, List, [], ◌∷◌, drop, length, min, refl, ap, arith}
+use Rattle.std.proofs.Common.{ℕ, zero, suc, ◌<◌, ◌≡◌, ◌∙◌, Bool, true, false, if◌then◌else◌, List, [], ◌∷◌, drop, length, min, refl, ap, arith}
 use Rattle.std.proofs.lemmas.List.Sorted.{ranks_by}
 use Rattle.std.proofs.lemmas.Cmp.{tied_itself}
-use Rattle.std.specs.Cmp.{IsStrictWeakOrder, IsTotalOrder, nat_cmp_is, nat_cmp_total, on_total, then_total}
+use Rattle.std.specs.Cmp.{IsStrictWeakOrder, IsTotalOrder, nat_cmp_is, back_total, nat_cmp_total, on_total, then_total}
 use Rattle.std.specs.Cmp.Lexicographic.{lists_total, slice_cmp}
 use Rattle.std.specs.Ordering.{is_eq, is_gt, is_lt, MatchOrdering, nat_cmp, ordering_reverse, ordering_then}
 use Rattle.std.specs.declared.cmp.Ordering.{Ordering}
@@ -10,7 +10,8 @@ use Rattle.std.specs.declared.cmp.Ordering.TheVariants.{Less, Equal, Greater}
 use Rattle.sql_value.specs.Cells.{cell_compare}
 use Rattle.sql_value.specs.declared.cell.Cell.{Cell}
 use Rattle.sql_value.proofs.Total.{cell-ties, cell-total}
-use Rattle.row_bag.specs.Sorted.{row_compare, row_less}
+use Rattle.sql_value.specs.declared.order_key.OrderKey.{OrderKey}
+use Rattle.row_bag.specs.Order.{cell_of, compare_by, key_compare, row_compare, row_less}
 use Rattle.sql_value.specs.Level.{rank}
 use Rattle.sql_value.specs.declared.level.Level.{Level}
 use Rattle.sql_value.specs.declared.level.Level.TheVariants.{No, Cardinality, Division, Overflow, Yes}
@@ -89,22 +90,39 @@ row-ties a b e =
 row-total : IsTotalOrder row_compare
 row-total = then_total (on_total (λ (r : Row (List Cell)). r.cells) cells-total) (on_total (λ (r : Row (List Cell)). rank r.level) nat_cmp_total)
 
-abbrev pub row_same : Row (List Cell) → Row (List Cell) → Bool
-row_same a b = is_eq (row_compare a b)
+either-way : {X : Type 0} {R : X → X → Ordering} → IsTotalOrder R → (back : Bool) → IsTotalOrder (λ x y. if back then R y x else R x y)
+either-way o true = back_total o
+either-way o false = o
 
-pub less-ranks : IsStrictWeakOrder row_less
-less-ranks = ranks_by row-total (λ (r : Row (List Cell)). r)
+key-total : (key : OrderKey) → IsTotalOrder (key_compare key)
+key-total key = either-way (on_total (λ (r : Row (List Cell)). cell_of key.column r.cells) cell-total) key.descending
+
+-- the order by keys is total
+pub by-total : (keys : List OrderKey) → IsTotalOrder (compare_by keys)
+by-total [] = row-total
+by-total (key ∷ keys) = then_total (key-total key) (by-total keys)
+
+-- rows that tie are equal
+pub by-ties : (keys : List OrderKey) (a b : Row (List Cell)) → compare_by keys a b ≡ Equal → a ≡ b
+by-ties [] a b e = row-ties a b e
+by-ties (key ∷ keys) a b e = by-ties keys a b (both-tie (key_compare key a b) (compare_by keys a b) e).1
+
+abbrev pub row_same : List OrderKey → Row (List Cell) → Row (List Cell) → Bool
+row_same keys a b = is_eq (compare_by keys a b)
+
+pub less-ranks : (keys : List OrderKey) → IsStrictWeakOrder (row_less keys)
+less-ranks keys = ranks_by (by-total keys) (λ (r : Row (List Cell)). r)
 
 level : (o : Ordering) → is_eq o ≡ true → o ≡ Equal
 level Less e = cc e
 level Equal e = refl
 level Greater e = cc e
 
-pub same-equal : (a b : Row (List Cell)) → row_same a b ≡ true → a ≡ b
-same-equal a b e = row-ties a b (level (row_compare a b) e)
+pub same-equal : (keys : List OrderKey) (a b : Row (List Cell)) → row_same keys a b ≡ true → a ≡ b
+same-equal keys a b e = by-ties keys a b (level (compare_by keys a b) e)
 
-pub same-itself : (a : Row (List Cell)) → row_same a a ≡ true
-same-itself a = rw (tied_itself row-total a) refl
+pub same-itself : (keys : List OrderKey) (a : Row (List Cell)) → row_same keys a a ≡ true
+same-itself keys a = rw (tied_itself (by-total keys) a) refl
 
 neither : (o : Ordering) → is_lt o ≡ false → is_lt (ordering_reverse o) ≡ false → o ≡ Equal
 neither Less p q = cc p
@@ -112,21 +130,21 @@ neither Equal p q = refl
 neither Greater p q = cc q
 
 -- of two rows that are not equal one is less
-pub less-apart : (a b : Row (List Cell)) → row_less a b ≡ false → row_less b a ≡ false → a ≡ b
-less-apart a b p q = row-ties a b (neither (row_compare a b) p (rw (row-total.antisymm b a) at q))
+pub less-apart : (keys : List OrderKey) (a b : Row (List Cell)) → row_less keys a b ≡ false → row_less keys b a ≡ false → a ≡ b
+less-apart keys a b p q = by-ties keys a b (neither (compare_by keys a b) p (rw ((by-total keys).antisymm b a) at q))
 
 above : (o : Ordering) → is_gt o ≡ true → is_lt o ≡ false
 above Less e = cc e
 above Equal e = refl
 above Greater e = refl
 
-pub above-not-less : (a b : Row (List Cell)) → is_gt (row_compare a b) ≡ true → row_less a b ≡ false
-above-not-less a b e = above (row_compare a b) e
+pub above-not-less : (keys : List OrderKey) (a b : Row (List Cell)) → is_gt (compare_by keys a b) ≡ true → row_less keys a b ≡ false
+above-not-less keys a b e = above (compare_by keys a b) e
 
 upto : (o : Ordering) → is_gt o ≡ false → is_lt (ordering_reverse o) ≡ false
 upto Less e = refl
 upto Equal e = refl
 upto Greater e = cc e
 
-pub not-above-upto : (a b : Row (List Cell)) → is_gt (row_compare a b) ≡ false → row_less b a ≡ false
-not-above-upto a b e = rw (row-total.antisymm b a) (upto (row_compare a b) e)
+pub not-above-upto : (keys : List OrderKey) (a b : Row (List Cell)) → is_gt (compare_by keys a b) ≡ false → row_less keys b a ≡ false
+not-above-upto keys a b e = rw ((by-total keys).antisymm b a) (upto (compare_by keys a b) e)
