@@ -2,6 +2,9 @@
 use Rattle.std.specs.Prelude.{ℕ, List, [], ◌∷◌, map, Option, Some, None, if◌then◌else◌}
 use Rattle.row_bag.specs.Sorted.{sorted_rows}
 use Rattle.row_bag.specs.Tables.{bag_named}
+use Rattle.row_bag.specs.Verdict.{verdict}
+use Rattle.row_bag.specs.declared.outcome.Verdict.{Verdict}
+use Rattle.row_bag.specs.declared.outcome.Verdict.TheVariants.{Rows, Error}
 use Rattle.row_bag.specs.declared.row.Row.{Row}
 use Rattle.row_bag.specs.declared.tables.Table.{Table}
 use Rattle.sql_ast.specs.declared.tree.Block.{Block}
@@ -34,14 +37,19 @@ rows_of (Some rows) = rows
 abbrev pub rows : Block → List TableDecl → List Table → List (Row (List Cell))
 rows block catalog tables = map (selected block (columns_of (table_named catalog block.table))) (rows_of (bag_named tables block.table))
 
--- the answer of a query: a name for each column, and the rows
+-- the answer of a query: a name for each column, and the rows or the error
 pub record Answer : Type 0 where
   pub names : List (Option (List ℕ))
-  pub rows : List (Row (List Cell))
+  pub rows_or_error : Verdict
 
--- the names of the query's list, and the rows of its block in ascending order of all columns
+-- the rows in ascending order of all columns; an error stays
+abbrev pub in_order : Verdict → Verdict
+in_order (Rows rows) = Rows (sorted_rows [] rows)
+in_order (Error kind) = Error kind
+
+-- the names of the query's list, and the greatest error among the rows of its block or else those rows in order
 abbrev pub answer : QueryText → List TableDecl → List Table → Answer
 answer query catalog tables = record {
   names = map (λ name. Some name) query.block.columns;
-  rows = sorted_rows (rows query.block catalog tables);
+  rows_or_error = in_order (verdict (rows query.block catalog tables));
 }
