@@ -1,12 +1,14 @@
 pub mod Agreement
+pub mod Answered
 pub mod Binds
 pub mod Counts
 pub mod Folds
 pub mod GreatestLevels
-mod Inserted
+pub mod Inserted
 pub mod Levels
-mod Order
+pub mod Order
 pub mod SetLaws
-mod SortedOnce
+pub mod SortedOnce
 mod Taken
+pub mod Tuples
 pub mod Worst
