@@ -7,6 +7,8 @@ mod outcome;
 mod row;
 mod sort;
 mod tables;
+#[cfg(test)]
+mod tests;
 
 pub use answer::verdict;
 pub use bag::Bag;
