@@ -3,6 +3,7 @@
 
 mod answer;
 mod bag;
+mod laws;
 mod outcome;
 mod row;
 mod sort;
@@ -12,6 +13,7 @@ mod tests;
 
 pub use answer::verdict;
 pub use bag::Bag;
+pub use laws::bag_laws;
 pub use outcome::Verdict;
 pub use row::{Row, order_by, row_order};
 pub use sort::sorted;
