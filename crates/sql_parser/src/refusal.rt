@@ -6,6 +6,9 @@ use thiserror::Error;
 /// Why tokens give no tree.
 #[derive(Clone, Copy, Debug, PartialEq, Eq, Error)]
 pub enum ParseRefusal {
+    /// The tokens nest too deep, or a statement has too many of one kind.
+    #[error("too deep")]
+    OverLimit,
     /// The tokens spell no tree of the grammar.
     #[error("not of the grammar")]
     Syntax,
