@@ -13,7 +13,7 @@ use Rattle.csv_tables.specs.Cells.{cell_of}
 use Rattle.csv_tables.specs.Loaded.{Answers, FitsSchema, FitsTable, loaded}
 use Rattle.csv_tables.specs.Records.{Fields, records_of}
 use Rattle.csv_tables.specs.TableFile.{table_of, table_with}
-use Rattle.csv_tables.specs.Tables.{bag_of, cells_of, fits_name, row_of, rows_of, table_rows, under_header}
+use Rattle.csv_tables.specs.Tables.{bag_of, cells_of, fits_name, row_of, rows_of, table_row, table_rows, under_header}
 use Rattle.csv_tables.specs.declared.refusal.DataRefusal.{DataRefusal}
 
 -- both parts of a step that gave something
@@ -30,41 +30,41 @@ cells-length (f ∷ fs) cells e =
     let (x, xs, first, rest, is) = both-some (cell_of f) (cells_of fs) (λ (c : Cell) (cs : List Cell). c ∷ cs) cells e in
     rw (← is) (let h = cells-length fs xs rest in omega (arith, h))
 
-row-width : (width : ℕ) (fs : Fields) (row : Row) → row_of width fs ≡ Some row → length row.cells ≡ width
+row-width : (width : ℕ) (fs : Fields) (row : Row (List Cell)) → row_of width fs ≡ Some row → length row.cells ≡ width
 row-width width fs row e = elim (cases_Bool (length fs == width)) [
   | inl same ↦ made (cells_of fs) refl (rw same at e) (eqb-true (length fs) width same)
   | inr other ↦ let h = rw other at e in absurd (cc h)
 ]
   where
-    made : (o : Option (List Cell)) → cells_of fs ≡ o → option_map (λ (cs : List Cell). record { cells = cs }) o ≡ Some row → length fs ≡ width → length row.cells ≡ width
+    made : (o : Option (List Cell)) → cells_of fs ≡ o → option_map table_row o ≡ Some row → length fs ≡ width → length row.cells ≡ width
     made None is h same = absurd (cc h)
-    made (Some cs) is h same = let r : record { cells = cs } ≡ row = cc h in rw (← r) (cells-length fs cs is ∙ same)
+    made (Some cs) is h same = let r : table_row cs ≡ row = cc h in rw (← r) (cells-length fs cs is ∙ same)
 
-rows-width : (width : ℕ) (rs : List Fields) (rows : List Row) → rows_of width rs ≡ Some rows → All (λ row. length row.cells ≡ width) rows
+rows-width : (width : ℕ) (rs : List Fields) (rows : List (Row (List Cell))) → rows_of width rs ≡ Some rows → All (λ row. length row.cells ≡ width) rows
 unfolding rows_of
-rows-width width [] rows e = let is : [] ≡ rows = cc e in rw (← is) (All-nil (λ (row : Row). length row.cells ≡ width))
+rows-width width [] rows e = let is : [] ≡ rows = cc e in rw (← is) (All-nil (λ (row : Row (List Cell)). length row.cells ≡ width))
 rows-width width (r ∷ rs) rows e =
-    let (x, xs, first, rest, is) = both-some (row_of width r) (rows_of width rs) (λ (a : Row) (b : List Row). a ∷ b) rows e in
-    rw (← is) (All-cons (λ (row : Row). length row.cells ≡ width) x xs (row-width width r x first) (rows-width width rs xs rest))
+    let (x, xs, first, rest, is) = both-some (row_of width r) (rows_of width rs) (λ (a : Row (List Cell)) (b : List (Row (List Cell))). a ∷ b) rows e in
+    rw (← is) (All-cons (λ (row : Row (List Cell)). length row.cells ≡ width) x xs (row-width width r x first) (rows-width width rs xs rest))
 
-bag-width : (width : ℕ) (rs : List Fields) (rows : List Row) → bag_of width rs ≡ Some rows → All (λ row. length row.cells ≡ width) rows
+bag-width : (width : ℕ) (rs : List Fields) (rows : List (Row (List Cell))) → bag_of width rs ≡ Some rows → All (λ row. length row.cells ≡ width) rows
 bag-width width rs rows e = elim (cases_Bool (nat_le (length rs) 1000000)) [
   | inl few ↦ rows-width width rs rows (rw few at e)
   | inr many ↦ let h = rw many at e in absurd (cc h)
 ]
 
-under-width : (columns : List (List ℕ)) (rs : List Fields) (rows : List Row) → under_header columns rs ≡ Some rows → All (λ row. length row.cells ≡ length columns) rows
+under-width : (columns : List (List ℕ)) (rs : List Fields) (rows : List (Row (List Cell))) → under_header columns rs ≡ Some rows → All (λ row. length row.cells ≡ length columns) rows
 under-width columns [] rows e = absurd (cc e)
 under-width columns (header ∷ rs) rows e = elim (cases_Bool (pointwise fits_name columns header)) [
   | inl same ↦ bag-width (length columns) rs rows (rw same at e)
   | inr other ↦ let h = rw other at e in absurd (cc h)
 ]
 
-table-width : (columns : List (List ℕ)) (bytes : List ℕ) (rows : List Row) → table_rows columns bytes ≡ Some rows → All (λ row. length row.cells ≡ length columns) rows
+table-width : (columns : List (List ℕ)) (bytes : List ℕ) (rows : List (Row (List Cell))) → table_rows columns bytes ≡ Some rows → All (λ row. length row.cells ≡ length columns) rows
 unfolding table_rows
 table-width columns bytes rows e = under-width columns (records_of bytes) rows e
 
-with-fits : (d : TableDecl) (bytes : List ℕ) (o : Option (List Row)) (t : Table) → table_rows d.columns bytes ≡ o → Ok t ≡ table_with d o → FitsTable d t
+with-fits : (d : TableDecl) (bytes : List ℕ) (o : Option (List (Row (List Cell)))) (t : Table) → table_rows d.columns bytes ≡ o → Ok t ≡ table_with d o → FitsTable d t
 with-fits d bytes None t is e = absurd (cc e)
 with-fits d bytes (Some rows) t is e =
     let made : record { name = d.name; bag = rows } ≡ t = cc e in

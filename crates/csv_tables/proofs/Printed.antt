@@ -6,6 +6,7 @@ use Rattle.std.proofs.lemmas.Grind.{flat_map-append}
 use Rattle.std.specs.Io.KnownBytes.{Appends}
 use Rattle.csv.specs.Writing.{row_text}
 use Rattle.row_bag.specs.declared.row.Row.{Row}
+use Rattle.sql_value.specs.declared.cell.Cell.{Cell}
 use Rattle.csv_tables.specs.Records.{Fields}
 use Rattle.csv_tables.specs.Printed.{column_text, header_from, printed_rows, row_fields, row_writer, rows_text}
 
@@ -23,10 +24,10 @@ header-all names i fields all p e = sym (append-nil fields) ∙ (rw (drop_of_len
 rows-last : (rows : List Fields) (r : Fields) → rows_text (rows ++ r ∷ []) ≡ rows_text rows ++ row_text row_writer r
 rows-last rows r = flat_map-append (row_text row_writer) rows (r ∷ []) ∙ ap (λ (x : List ℕ). rows_text rows ++ x) (append-nil (row_text row_writer r))
 
-printed-last : (names : List (Option (List ℕ))) (done : List Row) (row : Row) → printed_rows names (done ++ row ∷ []) ≡ printed_rows names done ++ row_text row_writer (row_fields row)
+printed-last : (names : List (Option (List ℕ))) (done : List (Row (List Cell))) (row : Row (List Cell)) → printed_rows names (done ++ row ∷ []) ≡ printed_rows names done ++ row_text row_writer (row_fields row)
 printed-last names done row = rw (map-append row_fields done (row ∷ [])) (rows-last (header_from 1 names ∷ map row_fields done) (row_fields row))
 
-pub text-more : (old new : Option (List ℕ)) (names : List (Option (List ℕ))) (done : List Row) (row : Row) (fields : Fields) → old ≡ Some (printed_rows names done)
+pub text-more : (old new : Option (List ℕ)) (names : List (Option (List ℕ))) (done : List (Row (List Cell))) (row : Row (List Cell)) (fields : Fields) → old ≡ Some (printed_rows names done)
     → fields ≡ row_fields row → Appends old new (row_text row_writer fields) → new ≡ Some (printed_rows names (done ++ row ∷ []))
 text-more None new names done row fields e f h = cc e
 text-more (Some w) None names done row fields e f h = absurd h

@@ -10,7 +10,7 @@ use Rattle.row_bag.specs.declared.row.Row.{Row}
 use Rattle.sql_value.specs.declared.cell.Cell.{Cell}
 use Rattle.csv_tables.specs.Records.{Fields, records_of}
 use Rattle.csv_tables.specs.Cells.{cell_of}
-use Rattle.csv_tables.specs.Tables.{bag_of, cells_of, fits_name, row_of, rows_of, table_rows}
+use Rattle.csv_tables.specs.Tables.{bag_of, cells_of, fits_name, row_of, rows_of, table_row, table_rows}
 
 -- what stands already, before the rest
 abbrev pub after : {X : Type 0} → List X → Option (List X) → Option (List X)
@@ -51,44 +51,44 @@ unfolding cells_of
 cells-all fs i done all p e = (rw (drop_of_length-le fs p) at e) ∙ ap (λ (x : List Cell). Some x) (append-nil done)
 
 -- the row of a record with as many fields as there are columns
-row-is : (width : ℕ) (fs : Fields) (cells : Option (List Cell)) → length fs ≡ width → cells_of fs ≡ cells → row_of width fs ≡ option_map (λ (cs : List Cell). record { cells = cs }) cells
+row-is : (width : ℕ) (fs : Fields) (cells : Option (List Cell)) → length fs ≡ width → cells_of fs ≡ cells → row_of width fs ≡ option_map table_row cells
 row-is width fs cells same is = rw (eq-eqb (length fs) width same, is) refl
 
 pub row-none : (width : ℕ) (fs : Fields) → length fs ≡ width → cells_of fs ≡ None → None ≡ row_of width fs
 row-none width fs same is = sym (row-is width fs None same is)
 
-pub row-some : (width : ℕ) (fs : Fields) (cells made : List Cell) → length fs ≡ width → cells_of fs ≡ Some cells → made ≡ cells → Some (record { cells = made }) ≡ row_of width fs
+pub row-some : (width : ℕ) (fs : Fields) (cells made : List Cell) → length fs ≡ width → cells_of fs ≡ Some cells → made ≡ cells → Some (table_row made) ≡ row_of width fs
 row-some width fs cells made same is made_is = rw made_is (sym (row-is width fs (Some cells) same is))
 
 -- one more row
-pub rows-more : (width : ℕ) (r : Fields) (rs : List Fields) (row : Row) (done : List Row) (all : Option (List Row)) → row_of width r ≡ Some row
+pub rows-more : (width : ℕ) (r : Fields) (rs : List Fields) (row : Row (List Cell)) (done : List (Row (List Cell))) (all : Option (List (Row (List Cell)))) → row_of width r ≡ Some row
     → all ≡ after done (rows_of width (r ∷ rs)) → all ≡ after (done ++ row ∷ []) (rows_of width rs)
 unfolding rows_of
-rows-more width r rs row done all is e = (rw is at e) ∙ (elim (rows_of width rs) as (λ o. after done (option_and_then (λ (rows : List Row). Some (row ∷ rows)) o) ≡ after (done ++ row ∷ []) o) [
+rows-more width r rs row done all is e = (rw is at e) ∙ (elim (rows_of width rs) as (λ o. after done (option_and_then (λ (rows : List (Row (List Cell))). Some (row ∷ rows)) o) ≡ after (done ++ row ∷ []) o) [
   | None ↦ refl
-  | Some rows ↦ ap (λ (x : List Row). Some x) (sym (append_assoc done (row ∷ []) rows))
+  | Some rows ↦ ap (λ (x : List (Row (List Cell))). Some x) (sym (append_assoc done (row ∷ []) rows))
 ])
 
 -- a record that is no row
-rows-none : (width : ℕ) (r : Fields) (rs : List Fields) (done : List Row) (all : Option (List Row)) → row_of width r ≡ None → all ≡ after done (rows_of width (r ∷ rs)) → all ≡ None
+rows-none : (width : ℕ) (r : Fields) (rs : List Fields) (done : List (Row (List Cell))) (all : Option (List (Row (List Cell)))) → row_of width r ≡ None → all ≡ after done (rows_of width (r ∷ rs)) → all ≡ None
 unfolding rows_of
 rows-none width r rs done all is e = rw is at e
 
-pub bag-none : (width : ℕ) (r : Fields) (rs whole : List Fields) (done : List Row) → row_of width r ≡ None → rows_of width whole ≡ after done (rows_of width (r ∷ rs)) → None ≡ bag_of width whole
+pub bag-none : (width : ℕ) (r : Fields) (rs whole : List Fields) (done : List (Row (List Cell))) → row_of width r ≡ None → rows_of width whole ≡ after done (rows_of width (r ∷ rs)) → None ≡ bag_of width whole
 bag-none width r rs whole done is e = elim (cases_Bool (nat_le (length whole) 1000000)) [
   | inl few ↦ rw (few, rows-none width r rs done (rows_of width whole) is e) refl
   | inr many ↦ rw many refl
 ]
 
 -- no record is left
-pub bag-some : (width : ℕ) (whole : List Fields) (done rows : List Row) → length whole ≤ 1000000 → rows_of width whole ≡ after done (rows_of width []) → rows ≡ done → Some rows ≡ bag_of width whole
+pub bag-some : (width : ℕ) (whole : List Fields) (done rows : List (Row (List Cell))) → length whole ≤ 1000000 → rows_of width whole ≡ after done (rows_of width []) → rows ≡ done → Some rows ≡ bag_of width whole
 unfolding rows_of
-bag-some width whole done rows few e is = rw (le-leb (length whole) 1000000 few, e, is) (ap (λ (x : List Row). Some x) (sym (append-nil done)))
+bag-some width whole done rows few e is = rw (le-leb (length whole) 1000000 few, e, is) (ap (λ (x : List (Row (List Cell))). Some x) (sym (append-nil done)))
 
-pub count-more : (done : List Row) (row : Row) (r : Fields) (rs : List Fields) (n : ℕ) → n ≡ length done + length (r ∷ rs) → n ≡ length (done ++ row ∷ []) + length rs
+pub count-more : (done : List (Row (List Cell))) (row : Row (List Cell)) (r : Fields) (rs : List Fields) (n : ℕ) → n ≡ length done + length (r ∷ rs) → n ≡ length (done ++ row ∷ []) + length rs
 count-more done row r rs n e = rw (length-append done (row ∷ [])) (omega arith)
 
-pub count-end : (done : List Row) (whole : List Fields) → length whole ≡ length done + length {A = Fields} [] → length done ≤ 1000000 → length whole ≤ 1000000
+pub count-end : (done : List (Row (List Cell))) (whole : List Fields) → length whole ≡ length done + length {A = Fields} [] → length done ≤ 1000000 → length whole ≤ 1000000
 count-end done whole e few = omega arith
 
 header-length : (ns : List (List ℕ)) (fs : Fields) → (length fs ≡ length ns → ⊥) → pointwise fits_name ns fs ≡ false

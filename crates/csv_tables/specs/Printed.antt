@@ -4,6 +4,7 @@ use Rattle.std.specs.List.{flat_map}
 use Rattle.csv.specs.Writing.{default_writer, row_text, with_flexible}
 use Rattle.csv.specs.declared.writer.WriterBuilder.{WriterBuilder}
 use Rattle.row_bag.specs.declared.row.Row.{Row}
+use Rattle.sql_value.specs.declared.cell.Cell.{Cell}
 use Rattle.csv_tables.specs.Cells.{cell_text}
 use Rattle.csv_tables.specs.Records.{Fields}
 
@@ -24,8 +25,8 @@ row_writer = with_flexible default_writer true
 abbrev pub rows_text : List Fields → List ℕ
 rows_text rows = flat_map (row_text row_writer) rows
 
-abbrev pub row_fields : Row → Fields
+abbrev pub row_fields : Row (List Cell) → Fields
 row_fields row = map cell_text row.cells
 
-abbrev pub printed_rows : List (Option (List ℕ)) → List Row → List ℕ
+abbrev pub printed_rows : List (Option (List ℕ)) → List (Row (List Cell)) → List ℕ
 printed_rows names rows = rows_text (header_from 1 names ∷ map row_fields rows)

@@ -3,6 +3,7 @@ use Rattle.std.specs.Prelude.{ℕ, List, ◌++◌, Option, Some, None, Result, O
 use Rattle.io_edge.specs.Outcome.{Outcome, done, read, ◌>>=◌}
 use Rattle.io_edge.specs.Outside.{File}
 use Rattle.row_bag.specs.declared.row.Row.{Row}
+use Rattle.sql_value.specs.declared.cell.Cell.{Cell}
 use Rattle.row_bag.specs.declared.tables.Table.{Table}
 use Rattle.sql_ast.specs.declared.tree.TableDecl.{TableDecl}
 use Rattle.csv_tables.specs.Tables.{table_rows}
@@ -17,7 +18,7 @@ pub record Refusal : Type 0 where
 abbrev pub not_of_form : TableDecl → Refusal
 not_of_form d = record { number = 1; table = d.name; row = 0 }
 
-abbrev pub table_with : TableDecl → Option (List Row) → Result Table Refusal
+abbrev pub table_with : TableDecl → Option (List (Row (List Cell))) → Result Table Refusal
 table_with d None = Err (not_of_form d)
 table_with d (Some rows) = Ok (record { name = d.name; bag = rows })
 

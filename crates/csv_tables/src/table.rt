@@ -9,6 +9,7 @@ use crate::records::Records;
 use csv::ByteRecord;
 use qgm_base::{OutOfMemory, Text};
 use row_bag::{Bag, Row};
+use sql_value::Level;
 use sqlite_items::Items;
 use std::alloc::Global;
 
@@ -33,6 +34,7 @@ fn row(alloc: Global, width: usize, fields: &ByteRecord) -> Result<Option<Row>, 
     }
     Ok(Some(Row {
         cells: Items::from_vec(cells),
+        level: Level::Yes,
     }))
 }
 

@@ -10,6 +10,7 @@ use Rattle.io_edge.specs.declared.fetch.Interruption.TheVariants.{ReadFault, Mem
 use Rattle.io_edge.proofs.Order.{comes-bind, comes-bind-faulted, comes-bind-starved, comes-done, comes-same}
 use Rattle.row_bag.specs.Sorted.{sorted_rows}
 use Rattle.row_bag.specs.declared.row.Row.{Row}
+use Rattle.sql_value.specs.declared.cell.Cell.{Cell}
 use Rattle.row_bag.specs.declared.tables.Table.{Table}
 use Rattle.sql_ast.specs.declared.tree.QueryText.{QueryText}
 use Rattle.sql_ast.specs.declared.tree.TableDecl.{TableDecl}
@@ -37,7 +38,7 @@ bind-same o f g same = ap (λ second. record { names = o.names ++ second.names; 
 -- the report of a checked query is that of the query
 reported-same : (query : QueryText) (catalog : List TableDecl) (checked : Checked) → IsChecked catalog (Some checked) (Some query) → (tables : Result (List Table) Refusal)
     → reported_by checked tables ≡ reported query catalog tables
-reported-same query catalog checked is (Ok tables) = ap₂ (λ (names : List (Option (List ℕ))) (rows : List Row). Rows (printed_rows names (sorted_rows rows))) is.0 (is.1 tables)
+reported-same query catalog checked is (Ok tables) = ap₂ (λ (names : List (Option (List ℕ))) (rows : List (Row (List Cell))). Rows (printed_rows names (sorted_rows rows))) is.0 (is.1 tables)
 reported-same query catalog checked is (Err why) = refl
 
 -- the query is refused

@@ -18,41 +18,45 @@ use std::marker::Model;
 /// order and hash are those of that list.
 #[derive(Debug, Drop)]
 pub struct Text {
-    chars: Vec<char>,
+    // Boxed, so that a text takes one word where many stand in a row, as in cells.
+    chars: Box<Vec<char>>,
 }
 
 impl Model for Text {
     ghost Value = { List ℕ };
 
-    ghost view = { λ t. t.chars.items };
+    ghost view = { λ t. t.chars.value.items };
 }
 
 impl Text {
-    /// No character.
-    pub fn new(alloc: Global) -> Text
-        ensures { result ≡ [] }
+    // The characters of a vector.
+    fn from_vec(alloc: Global, chars: Vec<char>) -> Result<Text, OutOfMemory>
+        ensures { IfOk result (λ t. t ≡ chars.items) }
     {
-        Text {
-            chars: Vec::new(alloc),
-        }
+        Ok(Text {
+            chars: Box::new(alloc, chars)?,
+        })
+    }
+
+    /// No character.
+    pub fn new(alloc: Global) -> Result<Text, OutOfMemory>
+        ensures { IfOk result (λ t. t ≡ []) }
+    {
+        Text::from_vec(alloc, Vec::new(alloc))
     }
 
     /// The characters of a slice.
     pub fn from_chars(alloc: Global, chars: &[char]) -> Result<Text, OutOfMemory>
         ensures { IfOk result (λ t. t ≡ chars.now) }
     {
-        Ok(Text {
-            chars: Vec::from_slice(alloc, chars)?,
-        })
+        Text::from_vec(alloc, Vec::from_slice(alloc, chars)?)
     }
 
     /// The characters that UTF-8 bytes write.
     pub fn from_utf8(alloc: Global, text: &str) -> Result<Text, OutOfMemory>
         ensures { IfOk result (λ t. encode_utf8_all t ≡ text.now) }
     {
-        Ok(Text {
-            chars: text.chars().collect(alloc)?,
-        })
+        Text::from_vec(alloc, text.chars().collect(alloc)?)
     }
 
     /// The characters.

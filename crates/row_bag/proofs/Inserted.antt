@@ -3,52 +3,56 @@ use Rattle.std.proofs.Common.{◌+◌, ◌≡◌, ◌∙◌, false, if◌then◌
 use Rattle.std.proofs.lemmas.Bool.{cases_Bool}
 use Rattle.std.specs.List.Sorted.{IsPermutation, IsSortedBy}
 use Rattle.std.specs.Ordering.{is_gt}
-use Rattle.row_bag.specs.Sorted.{insert_row, row_compare, sorted_rows}
+use Rattle.sql_value.specs.declared.cell.Cell.{Cell}
+use Rattle.sql_value.specs.declared.order_key.OrderKey.{OrderKey}
 use Rattle.row_bag.specs.declared.row.Row.{Row}
-use Rattle.row_bag.specs.Sorted.{row_less}
+use Rattle.row_bag.specs.Order.{compare_by, row_less}
+use Rattle.row_bag.specs.Sorted.{insert_row, sorted_rows}
 use Rattle.row_bag.proofs.Order.{above-not-less, less-apart, less-ranks, not-above-upto, row_same, same-equal, same-itself}
 use Rattle.row_bag.proofs.SortedOnce.{Ascends, NoneBelow, ascends-once, ascends-sorted, occurs, occurs-moved}
 
-none-inserted : (h r : Row) (rows : List Row) → row_less r h ≡ false → NoneBelow row_less h rows → NoneBelow row_less h (insert_row r rows)
+none-inserted : (keys : List OrderKey) (h r : Row (List Cell)) (rows : List (Row (List Cell))) → row_less keys r h ≡ false → NoneBelow (row_less keys) h rows
+    → NoneBelow (row_less keys) h (insert_row keys r rows)
 unfolding insert_row
-none-inserted h r [] first none = (first, tt)
-none-inserted h r (x ∷ rows) first none = elim (cases_Bool (is_gt (row_compare r x))) [
-  | inl above ↦ rw above (none.0, none-inserted h r rows first none.1)
+none-inserted keys h r [] first none = (first, tt)
+none-inserted keys h r (x ∷ rows) first none = elim (cases_Bool (is_gt (compare_by keys r x))) [
+  | inl above ↦ rw above (none.0, none-inserted keys h r rows first none.1)
   | inr upto ↦ rw upto (first, none)
 ]
 
-none-chained : (h x : Row) (rows : List Row) → row_less x h ≡ false → NoneBelow row_less x rows → NoneBelow row_less h rows
-none-chained h x [] first none = tt
-none-chained h x (y ∷ rows) first none = (less-ranks.chain y x h none.0 first, none-chained h x rows first none.1)
+none-chained : (keys : List OrderKey) (h x : Row (List Cell)) (rows : List (Row (List Cell))) → row_less keys x h ≡ false → NoneBelow (row_less keys) x rows
+    → NoneBelow (row_less keys) h rows
+none-chained keys h x [] first none = tt
+none-chained keys h x (y ∷ rows) first none = ((less-ranks keys).chain y x h none.0 first, none-chained keys h x rows first none.1)
 
-inserted-ascends : (r : Row) (rows : List Row) → Ascends row_less rows → Ascends row_less (insert_row r rows)
+inserted-ascends : (keys : List OrderKey) (r : Row (List Cell)) (rows : List (Row (List Cell))) → Ascends (row_less keys) rows → Ascends (row_less keys) (insert_row keys r rows)
 unfolding insert_row
-inserted-ascends r [] up = (tt, tt)
-inserted-ascends r (x ∷ rows) up = elim (cases_Bool (is_gt (row_compare r x))) [
-  | inl above ↦ rw above (none-inserted x r rows (above-not-less r x above) up.0, inserted-ascends r rows up.1)
-  | inr upto ↦ rw upto ((not-above-upto r x upto, none-chained r x rows (not-above-upto r x upto) up.0), up)
+inserted-ascends keys r [] up = (tt, tt)
+inserted-ascends keys r (x ∷ rows) up = elim (cases_Bool (is_gt (compare_by keys r x))) [
+  | inl above ↦ rw above (none-inserted keys x r rows (above-not-less keys r x above) up.0, inserted-ascends keys r rows up.1)
+  | inr upto ↦ rw upto ((not-above-upto keys r x upto, none-chained keys r x rows (not-above-upto keys r x upto) up.0), up)
 ]
 
-inserted-occurs : (z r : Row) (rows : List Row) → occurs row_same z (insert_row r rows) ≡ occurs row_same z (r ∷ rows)
+inserted-occurs : (keys : List OrderKey) (z r : Row (List Cell)) (rows : List (Row (List Cell))) → occurs (row_same keys) z (insert_row keys r rows) ≡ occurs (row_same keys) z (r ∷ rows)
 unfolding insert_row
-inserted-occurs z r [] = refl
-inserted-occurs z r (x ∷ rows) = elim (cases_Bool (is_gt (row_compare r x))) [
-  | inl above ↦ rw above (let h = inserted-occurs z r rows in omega arith)
+inserted-occurs keys z r [] = refl
+inserted-occurs keys z r (x ∷ rows) = elim (cases_Bool (is_gt (compare_by keys r x))) [
+  | inl above ↦ rw above (let h = inserted-occurs keys z r rows in omega arith)
   | inr upto ↦ rw upto refl
 ]
 
-sorted-ascends : (rows : List Row) → Ascends row_less (sorted_rows rows)
+sorted-ascends : (keys : List OrderKey) (rows : List (Row (List Cell))) → Ascends (row_less keys) (sorted_rows keys rows)
 unfolding sorted_rows
-sorted-ascends [] = tt
-sorted-ascends (r ∷ rows) = inserted-ascends r (sorted_rows rows) (sorted-ascends rows)
+sorted-ascends keys [] = tt
+sorted-ascends keys (r ∷ rows) = inserted-ascends keys r (sorted_rows keys rows) (sorted-ascends keys rows)
 
-sorted-occurs : (z : Row) (rows : List Row) → occurs row_same z (sorted_rows rows) ≡ occurs row_same z rows
+sorted-occurs : (keys : List OrderKey) (z : Row (List Cell)) (rows : List (Row (List Cell))) → occurs (row_same keys) z (sorted_rows keys rows) ≡ occurs (row_same keys) z rows
 unfolding sorted_rows
-sorted-occurs z [] = refl
-sorted-occurs z (r ∷ rows) = inserted-occurs z r (sorted_rows rows) ∙ ap (λ n. (if row_same z r then 1 else 0) + n) (sorted-occurs z rows)
+sorted-occurs keys z [] = refl
+sorted-occurs keys z (r ∷ rows) = inserted-occurs keys z r (sorted_rows keys rows) ∙ ap (λ n. (if row_same keys z r then 1 else 0) + n) (sorted-occurs keys z rows)
 
--- what a sort by the order of rows leaves
-pub sorted-once : (before after : List Row) → IsPermutation before after → IsSortedBy row_less after → after ≡ sorted_rows before
-sorted-once before after moved up =
-    ascends-once row_less row_same same-equal same-itself less-apart after (sorted_rows before) (ascends-sorted row_less less-ranks after up) (sorted-ascends before)
-    (λ z. sym (occurs-moved row_same z before after moved) ∙ sym (sorted-occurs z before))
+-- what a sort by the order of keys leaves
+pub sorted-once : (keys : List OrderKey) (before after : List (Row (List Cell))) → IsPermutation before after → IsSortedBy (row_less keys) after → after ≡ sorted_rows keys before
+sorted-once keys before after moved up =
+    ascends-once (row_less keys) (row_same keys) (same-equal keys) (same-itself keys) (less-apart keys) after (sorted_rows keys before) (ascends-sorted (row_less keys) (less-ranks keys) after up)
+    (sorted-ascends keys before) (λ z. sym (occurs-moved (row_same keys) z before after moved) ∙ sym (sorted-occurs keys z before))

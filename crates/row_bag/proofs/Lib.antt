@@ -1,3 +1,4 @@
 mod Inserted
 mod Order
 mod SortedOnce
+mod Taken

@@ -1,2 +1,5 @@
+pub mod Bags
+pub mod Order
 pub mod Sorted
 pub mod Tables
+pub mod Verdict

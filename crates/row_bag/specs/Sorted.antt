@@ -1,25 +1,17 @@
--- Rows in ascending order.
-use Rattle.std.specs.Prelude.{Bool, List, [], ◌∷◌, if◌then◌else◌}
-use Rattle.std.specs.Cmp.Lexicographic.{slice_cmp}
-use Rattle.std.specs.Ordering.{is_gt, is_lt}
-use Rattle.std.specs.declared.cmp.Ordering.{Ordering}
-use Rattle.sql_value.specs.Cells.{cell_compare}
+-- Rows in the order of keys.
+use Rattle.std.specs.Prelude.{List, [], ◌∷◌, if◌then◌else◌}
+use Rattle.std.specs.Ordering.{is_gt}
+use Rattle.sql_value.specs.declared.cell.Cell.{Cell}
+use Rattle.sql_value.specs.declared.order_key.OrderKey.{OrderKey}
 use Rattle.row_bag.specs.declared.row.Row.{Row}
-
--- the first cells that differ decide, from the left, and else the numbers of cells
-abbrev pub row_compare : Row → Row → Ordering
-row_compare a b = slice_cmp cell_compare a.cells b.cells
-
--- the first row stands below the second
-abbrev pub row_less : Row → Row → Bool
-row_less a b = is_lt (row_compare a b)
+use Rattle.row_bag.specs.Order.{compare_by}
 
 -- the row before the first of the rows that it is not above
-unfoldable pub insert_row : Row → List Row → List Row
-insert_row row [] = row ∷ []
-insert_row row (r ∷ rows) = if is_gt (row_compare row r) then r ∷ insert_row row rows else row ∷ r ∷ rows
+unfoldable pub insert_row : List OrderKey → Row (List Cell) → List (Row (List Cell)) → List (Row (List Cell))
+insert_row keys row [] = row ∷ []
+insert_row keys row (r ∷ rows) = if is_gt (compare_by keys row r) then r ∷ insert_row keys row rows else row ∷ r ∷ rows
 
--- the rows in ascending order of all their columns, from the left, null first
-unfoldable pub sorted_rows : List Row → List Row
-sorted_rows [] = []
-sorted_rows (row ∷ rows) = insert_row row (sorted_rows rows)
+-- the rows by the keys, and then by all columns ascending
+unfoldable pub sorted_rows : List OrderKey → List (Row (List Cell)) → List (Row (List Cell))
+sorted_rows keys [] = []
+sorted_rows keys (row ∷ rows) = insert_row keys row (sorted_rows keys rows)

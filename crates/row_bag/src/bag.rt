@@ -1,6 +1,7 @@
 // The rows of a table or of a query's result.
 ghost use Rattle.std.specs.Prelude.{◌≡◌, ◌++◌, ◌∷◌, [], List, OnOk, OnErr};
 ghost use Rattle.row_bag.specs.declared.row.Row.{Row};
+ghost use Rattle.sql_value.specs.declared.cell.Cell.{Cell};
 
 use crate::row::Row;
 use qgm_base::OutOfMemory;
@@ -14,7 +15,7 @@ pub struct Bag {
 }
 
 impl Model for Bag {
-    ghost Value = { List Row };
+    ghost Value = { List (Row (List Cell)) };
 
     ghost view = { λ b. b.rows.items };
 }

@@ -1,24 +1,27 @@
 // A row, and the order of two rows.
-ghost use Rattle.std.specs.Prelude.{◌≡◌};
-ghost use Rattle.row_bag.specs.Sorted.{row_compare};
+ghost use Rattle.std.specs.Prelude.{◌≡◌, List};
+ghost use Rattle.std.specs.Cmp.{IsTotalOrder};
+ghost use Rattle.std.specs.Cmp.Lexicographic.{slice_cmp};
+ghost use Rattle.sql_value.specs.Cells.{cell_compare};
+ghost use Rattle.row_bag.specs.Order as spec;
 
-use sql_value::{Cell, cell_order};
+use sql_value::{Cell, Level, OrderKey, cell_order};
 use sqlite_items::Items;
 use std::cmp::Ordering;
 
-/// A row: a cell for each column, in the columns' order.
+/// A row: a tuple, and the level at which it is there. The tuple of a table's or of a query's row
+/// is a cell for each column, in the columns' order; definitions speak of other tuples too.
 #[derive(Debug, Drop)]
-pub struct Row {
-    pub cells: Items<Cell>,
+pub struct Row<T = Items<Cell>> {
+    pub cells: T,
+    pub level: Level,
 }
 
-/// The order of two rows: that of their first cells that differ, from the left, and else that of
-/// their numbers of cells.
-pub fn row_order(a: &Row, b: &Row) -> Ordering
-    ensures { result ≡ row_compare a.now b.now }
+// The order of two lists of cells: that of their first cells that differ, from the left, and else
+// that of their numbers of cells.
+fn cells_order(left: &[Cell], right: &[Cell]) -> Ordering
+    ensures { result ≡ slice_cmp cell_compare left.now right.now }
 {
-    let left = a.cells.as_slice();
-    let right = b.cells.as_slice();
     for i in 0..left.len().min(right.len()) {
         let order = cell_order(&left[i], &right[i]);
         if order != Ordering::Equal {
@@ -26,4 +29,68 @@ pub fn row_order(a: &Row, b: &Row) -> Ordering
         }
     }
     left.len().cmp(&right.len())
+}
+
+/// The order of two rows: that of their first cells that differ, from the left, and else that of
+/// their numbers of cells, and else that of their levels.
+pub fn row_order(a: &Row, b: &Row) -> Ordering
+    ensures { result ≡ spec.row_compare a.now b.now }
+{
+    match cells_order(a.cells.as_slice(), b.cells.as_slice()) {
+        Ordering::Equal => a.level.cmp(&b.level),
+        order => order,
+    }
+}
+
+// The cell of a column, counted from 1, or this null where the row has no such column.
+fn cell_of<'a>(column: usize, cells: &'a [Cell], null: &'a Cell) -> &'a Cell
+    requires { null.now ≡ Cell.Null }
+    ensures { result.now ≡ spec.cell_of column cells.now }
+{
+    if column == 0 {
+        return null;
+    }
+    match cells.get(column - 1) {
+        Some(cell) => cell,
+        None => null,
+    }
+}
+
+// The order of two rows by a key.
+fn key_order(key: &OrderKey, a: &Row, b: &Row) -> Ordering
+    ensures { result ≡ spec.key_compare key.now a.now b.now }
+{
+    let null = Cell::Null;
+    let left = cell_of(key.column, a.cells.as_slice(), &null);
+    let right = cell_of(key.column, b.cells.as_slice(), &null);
+    if key.descending {
+        cell_order(right, left)
+    } else {
+        cell_order(left, right)
+    }
+}
+
+// The order of two rows by keys, and where they tie that of all their columns.
+fn compared_by(keys: &[OrderKey], a: &Row, b: &Row) -> Ordering
+    ensures { result ≡ spec.compare_by keys.now a.now b.now }
+{
+    for key in keys {
+        let order = key_order(key, a, b);
+        if order != Ordering::Equal {
+            return order;
+        }
+    }
+    row_order(a, b)
+}
+
+/// The order of two rows by keys, the first of which decides first, and where they tie that of
+/// `row_order`. A key's column counts from 1; ascending its cells stand null first, descending
+/// in the reverse order, and a row that has no such column stands as if it held null there. It
+/// is a total order, and rows that tie are equal.
+pub fn order_by(keys: &[OrderKey], a: &Row, b: &Row) -> Ordering
+    ensures order { result ≡ spec.compare_by keys.now a.now b.now }
+    ensures total { IsTotalOrder (spec.compare_by keys.now) }
+    ensures ties { (x : Row (List Cell)) → (y : Row (List Cell)) → spec.compare_by keys.now x y ≡ Ordering.Equal → x ≡ y }
+{
+    compared_by(keys, a, b)
 }

@@ -1,12 +1,13 @@
 // The tables that a query reads.
-ghost use Rattle.std.specs.Prelude.{◌≡◌, ◌++◌, ◌∷◌, [], List, OnOk, OnErr, option_map};
+ghost use Rattle.std.specs.Prelude.{◌≡◌, ◌++◌, ◌∷◌, [], List, OnOk, OnErr, option_map, position};
 ghost use Rattle.row_bag.specs.declared.tables.Table.{Table};
-ghost use Rattle.row_bag.specs.Tables.{bag_named};
+ghost use Rattle.row_bag.specs.Tables.{bag_named, has_name, without_rows};
 
 use crate::bag::Bag;
 use qgm_base::{OutOfMemory, Text};
 use std::alloc::Global;
 use std::marker::Model;
+use std::mem::replace;
 
 /// A table: its name and its rows.
 #[derive(Debug, Drop)]
@@ -25,6 +26,13 @@ impl Model for Tables {
     ghost Value = { List Table };
 
     ghost view = { λ t. t.tables.items };
+}
+
+// The place of the first table of a name.
+fn place_of(tables: &[Table], name: &Text) -> Option<usize>
+    ensures { result ≡ position (has_name name.now) tables.now }
+{
+    tables.iter().position(|table| table.name == *name)
 }
 
 impl Tables {
@@ -63,5 +71,16 @@ impl Tables {
             }
         }
         None
+    }
+
+    /// Gives up the rows of the first table of a name, and leaves that table without a row; none
+    /// exactly where no table has the name, and then all stays as it was. It takes no memory.
+    pub fn take(&mut self, alloc: Global, name: &Text) -> Option<Bag>
+        ensures bag { result ≡ bag_named self.old name.now }
+        ensures after { self.new ≡ without_rows self.old name.now }
+    {
+        let place = place_of(&self.tables, name)?;
+        let table = &mut self.tables[place];
+        Some(replace(&mut table.bag, Bag::new(alloc)))
     }
 }

@@ -11,11 +11,11 @@ use Rattle.sql_meaning.specs.Meaning.{rows, rows_of, selected}
 use Rattle.sql_check.specs.Resolved.{HoldPlaces, row_at, rows_at}
 use Rattle.sql_check.specs.declared.checked.Checked.{Checked}
 
-each-row : (block : Block) (columns : List (List ℕ)) (places : List ℕ) → HoldPlaces (Some places) columns block.columns → (bag : List Row)
+each-row : (block : Block) (columns : List (List ℕ)) (places : List ℕ) → HoldPlaces (Some places) columns block.columns → (bag : List (Row (List Cell)))
     → map (row_at places) bag ≡ map (selected block columns) bag
 each-row block columns places hold [] = refl
 each-row block columns places hold (r ∷ bag) =
-    ap₂ (λ (x : Row) (xs : List Row). x ∷ xs) (ap (λ (cs : List Cell). record { cells = cs }) (hold r.cells)) (each-row block columns places hold bag)
+    ap₂ (λ (x : Row (List Cell)) (xs : List (Row (List Cell))). x ∷ xs) (ap (λ (cs : List Cell). record { cells = cs; level = r.level }) (hold r.cells)) (each-row block columns places hold bag)
 
 pub by-names : (block : Block) (catalog : List TableDecl) (table : TableDecl) (checked : Checked) → table_named catalog block.table ≡ Some table → checked.table ≡ block.table
     → HoldPlaces (Some checked.places) table.columns block.columns → (tables : List Table) → rows_at checked tables ≡ rows block catalog tables

@@ -8,12 +8,12 @@ use Rattle.sql_meaning.specs.Places.{cell_at}
 use Rattle.sql_value.specs.declared.cell.Cell.{Cell}
 use Rattle.sql_check.specs.declared.checked.Checked.{Checked}
 
--- the cells at these places of a row
-abbrev pub row_at : List ℕ → Row → Row
-row_at places row = record { cells = map (λ place. cell_at place row.cells) places }
+-- the cells at these places of a row, at its level
+abbrev pub row_at : List ℕ → Row (List Cell) → Row (List Cell)
+row_at places row = record { cells = map (λ place. cell_at place row.cells) places; level = row.level }
 
 -- for each row of the query's table, in their order, the cells at its places
-abbrev pub rows_at : Checked → List Table → List Row
+abbrev pub rows_at : Checked → List Table → List (Row (List Cell))
 rows_at checked tables = map (row_at checked.places) (rows_of (bag_named tables checked.table))
 
 -- there are places exactly where each name is known

@@ -28,7 +28,7 @@ fn quoted(alloc: Global, quote: char, chars: &[char]) -> Result<(Text, usize), L
     ensures found { Gives result (spec.quoted quote chars.now) }
     ensures size { IfOk result (λ found. found.1 ≤ length chars.now) }
 {
-    let mut text = Text::new(alloc);
+    let mut text = Text::new(alloc)?;
     let mut size = 0;
     let mut rest = chars;
     'characters: while let Some((c, written)) = next_within(quote, rest) {

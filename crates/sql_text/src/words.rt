@@ -133,7 +133,7 @@ fn key_word(word: &[char]) -> Option<Key>
 fn name(alloc: Global, word: &[char]) -> Result<Name, OutOfMemory>
     ensures { IfOk result (λ name. name ≡ spec.folded word.now) }
 {
-    let mut name = Text::new(alloc);
+    let mut name = Text::new(alloc)?;
     for c in word {
         name.push(c.to_ascii_uppercase())?;
     }

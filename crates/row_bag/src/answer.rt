@@ -1,0 +1,106 @@
+// The answer of a query.
+ghost use Rattle.std.specs.Prelude.{◌≡◌};
+ghost use Rattle.sql_value.specs.Cells.{error_of, worst_of};
+ghost use Rattle.row_bag.specs.Verdict as spec;
+
+use crate::bag::Bag;
+use crate::outcome::Verdict;
+use crate::row::Row;
+use sql_value::{Cell, Kind, Level};
+
+// The greatest one of the errors that there are.
+fn worst_of(a: Option<Kind>, b: Option<Kind>) -> Option<Kind>
+    ensures { result ≡ worst_of a b }
+{
+    match (a, b) {
+        (Some(j), Some(k)) => Some(if j <= k { k } else { j }),
+        (Some(j), None) => Some(j),
+        (None, other) => other,
+    }
+}
+
+// The error that a cell is.
+fn error_of(cell: &Cell) -> Option<Kind>
+    ensures { result ≡ error_of cell.now }
+{
+    match cell {
+        Cell::Err(kind) => Some(*kind),
+        Cell::Int(_) | Cell::Text(_) | Cell::Null => None,
+    }
+}
+
+// The error that a level is.
+fn error_at(level: Level) -> Option<Kind>
+    ensures { result ≡ spec.error_at level }
+{
+    match level {
+        Level::Cardinality => Some(Kind::Cardinality),
+        Level::Division => Some(Kind::Division),
+        Level::Overflow => Some(Kind::Overflow),
+        Level::No | Level::Yes => None,
+    }
+}
+
+// The greatest error among cells.
+fn error_in(cells: &[Cell]) -> Option<Kind>
+    ensures { result ≡ spec.error_in cells.now }
+{
+    let mut found = None;
+    for cell in cells {
+        found = worst_of(found, error_of(cell));
+    }
+    found
+}
+
+// A row is there.
+fn is_there(row: &Row) -> bool
+    ensures { result ≡ spec.is_there row.now }
+{
+    match row.level {
+        Level::No => false,
+        Level::Cardinality | Level::Division | Level::Overflow | Level::Yes => true,
+    }
+}
+
+// The greatest error of a row that is there; none of a row that isn't.
+fn error_of_row(row: &Row) -> Option<Kind>
+    ensures { result ≡ spec.error_of_row row.now }
+{
+    if is_there(row) {
+        worst_of(error_at(row.level), error_in(row.cells.as_slice()))
+    } else {
+        None
+    }
+}
+
+// The greatest error among the levels and the cells of the rows that are there.
+fn error_among(rows: &[Row]) -> Option<Kind>
+    ensures { result ≡ spec.error_among rows.now }
+{
+    let mut found = None;
+    for row in rows {
+        found = worst_of(found, error_of_row(row));
+    }
+    found
+}
+
+// The rows that are there, in their order.
+fn those_there(bag: Bag) -> Bag
+    ensures { result ≡ spec.those_there bag }
+{
+    let mut rows = bag.into_rows();
+    rows.retain(|row| is_there(row));
+    Bag::from_rows(rows)
+}
+
+/// The answer of a query with these rows: where a row is at an error level or has an error cell,
+/// the greatest such error and no row, and else the rows. A row at `Level::No` isn't there: it
+/// gives no error, and is let go. It takes no memory.
+pub fn verdict(bag: Bag) -> Verdict
+    ensures { result ≡ spec.verdict bag }
+{
+    match error_among(bag.rows()) {
+        Some(kind) => Verdict::Error(kind),
+        None => Verdict::Rows(those_there(bag)),
+    }
+}

@@ -1,0 +1,12 @@
+// What a query answers.
+use crate::bag::Bag;
+use sql_value::Kind;
+
+/// What a query answers.
+#[derive(Debug, Drop)]
+pub enum Verdict {
+    /// The rows.
+    Rows(Bag),
+    /// A runtime error, and no row.
+    Error(Kind),
+}
