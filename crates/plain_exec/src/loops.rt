@@ -20,7 +20,7 @@ fn cell(alloc: Global, row: &Row, place: usize) -> Result<Cell, OutOfMemory>
     }
 }
 
-// The cells at these places of a row.
+// The cells at these places of a row, at its level.
 fn project(alloc: Global, row: &Row, places: &[usize]) -> Result<Row, OutOfMemory>
     ensures { IfOk result (λ made. made ≡ row_at places.now row.now) }
 {
@@ -30,28 +30,32 @@ fn project(alloc: Global, row: &Row, places: &[usize]) -> Result<Row, OutOfMemor
     }
     Ok(Row {
         cells: Items::from_vec(cells),
+        level: row.level,
     })
 }
 
-// The cells at these places of each of the rows.
-fn project_all(alloc: Global, rows: &[Row], places: &[usize]) -> Result<Bag, OutOfMemory>
-    ensures { IfOk result (λ bag. bag ≡ map (row_at places.now) rows.now) }
+// The cells at these places of each of the rows. Each row is let go once its cells are copied.
+fn project_all(alloc: Global, bag: Bag, places: &[usize]) -> Result<Bag, OutOfMemory>
+    ensures { IfOk result (λ made. made ≡ map (row_at places.now) bag) }
 {
-    let mut made = Vec::with_capacity(alloc, rows.len())?;
-    for row in rows {
-        made.push(project(alloc, row, places)?)?;
+    let mut rows = bag.into_rows();
+    for i in 0..rows.len() {
+        rows[i] = project(alloc, &rows[i], places)?;
     }
-    Ok(Bag::from_rows(made))
+    Ok(Bag::from_rows(rows))
 }
 
 /// The rows of a checked query over these tables: for each row of its table, in their order, the
-/// cells at the query's places. There are none where no table has the name of its table. It fails
-/// only for want of memory.
-pub fn execute(alloc: Global, checked: &Checked, tables: &Tables) -> Result<Bag, OutOfMemory>
-    ensures { IfOk result (λ bag. bag ≡ rows_at checked.now tables.now) }
+/// cells at the query's places. There are none where no table has the name of its table. The
+/// tables are let go on the way, so that their rows and those of the query never stand whole
+/// beside each other. It fails only for want of memory.
+pub fn execute(alloc: Global, checked: &Checked, mut tables: Tables) -> Result<Bag, OutOfMemory>
+    ensures { IfOk result (λ bag. bag ≡ rows_at checked.now tables) }
 {
-    match tables.find(&checked.table) {
-        Some(bag) => project_all(alloc, bag.rows(), checked.places.as_slice()),
+    let bag = tables.take(alloc, &checked.table);
+    drop(tables);
+    match bag {
+        Some(bag) => project_all(alloc, bag, checked.places.as_slice()),
         None => Ok(Bag::new(alloc)),
     }
 }

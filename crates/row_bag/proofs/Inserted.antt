@@ -41,12 +41,12 @@ inserted-occurs keys z r (x ∷ rows) = elim (cases_Bool (is_gt (compare_by keys
   | inr upto ↦ rw upto refl
 ]
 
-sorted-ascends : (keys : List OrderKey) (rows : List (Row (List Cell))) → Ascends (row_less keys) (sorted_rows keys rows)
+pub sorted-ascends : (keys : List OrderKey) (rows : List (Row (List Cell))) → Ascends (row_less keys) (sorted_rows keys rows)
 unfolding sorted_rows
 sorted-ascends keys [] = tt
 sorted-ascends keys (r ∷ rows) = inserted-ascends keys r (sorted_rows keys rows) (sorted-ascends keys rows)
 
-sorted-occurs : (keys : List OrderKey) (z : Row (List Cell)) (rows : List (Row (List Cell))) → occurs (row_same keys) z (sorted_rows keys rows) ≡ occurs (row_same keys) z rows
+pub sorted-occurs : (keys : List OrderKey) (z : Row (List Cell)) (rows : List (Row (List Cell))) → occurs (row_same keys) z (sorted_rows keys rows) ≡ occurs (row_same keys) z rows
 unfolding sorted_rows
 sorted-occurs keys z [] = refl
 sorted-occurs keys z (r ∷ rows) = inserted-occurs keys z r (sorted_rows keys rows) ∙ ap (λ n. (if row_same keys z r then 1 else 0) + n) (sorted-occurs keys z rows)

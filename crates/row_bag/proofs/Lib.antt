@@ -1,4 +1,14 @@
-mod Inserted
-mod Order
-mod SortedOnce
+pub mod Agreement
+pub mod Answered
+pub mod Binds
+pub mod Counts
+pub mod Folds
+pub mod GreatestLevels
+pub mod Inserted
+pub mod Levels
+pub mod Order
+pub mod SetLaws
+pub mod SortedOnce
 mod Taken
+pub mod Tuples
+pub mod Worst

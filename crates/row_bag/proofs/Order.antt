@@ -38,7 +38,7 @@ pub compare-ends : {X : Type 0} (R : X → X → Ordering) (xs ys : List X) (i :
     → whole ≡ slice_cmp R (drop i xs) (drop i ys) → whole ≡ nat_cmp (length xs) (length ys)
 compare-ends R xs ys i whole is w = w ∙ nat_cmp_is (length xs) (length ys) (slice_cmp R (drop i xs) (drop i ys)) (lengths-decide R xs ys i is)
 
-cells-total : IsTotalOrder (slice_cmp cell_compare)
+pub cells-total : IsTotalOrder (slice_cmp cell_compare)
 cells-total = lists_total cell-total
 
 both-tie : (o rest : Ordering) → ordering_then o rest ≡ Equal → (o ≡ Equal) × (rest ≡ Equal)
@@ -46,7 +46,7 @@ both-tie Less rest e = cc e
 both-tie Equal rest e = (refl, e)
 both-tie Greater rest e = cc e
 
-cells-tie : (xs ys : List Cell) → slice_cmp cell_compare xs ys ≡ Equal → xs ≡ ys
+pub cells-tie : (xs ys : List Cell) → slice_cmp cell_compare xs ys ≡ Equal → xs ≡ ys
 cells-tie [] [] e = refl
 cells-tie [] (y ∷ ys) e = cc e
 cells-tie (x ∷ xs) [] e = cc e
@@ -113,7 +113,7 @@ row_same keys a b = is_eq (compare_by keys a b)
 pub less-ranks : (keys : List OrderKey) → IsStrictWeakOrder (row_less keys)
 less-ranks keys = ranks_by (by-total keys) (λ (r : Row (List Cell)). r)
 
-level : (o : Ordering) → is_eq o ≡ true → o ≡ Equal
+pub level : (o : Ordering) → is_eq o ≡ true → o ≡ Equal
 level Less e = cc e
 level Equal e = refl
 level Greater e = cc e

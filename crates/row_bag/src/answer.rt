@@ -1,6 +1,7 @@
 // The answer of a query.
 ghost use Rattle.std.specs.Prelude.{◌≡◌};
 ghost use Rattle.sql_value.specs.Cells.{error_of, worst_of};
+ghost use Rattle.row_bag.specs.Errors as errors;
 ghost use Rattle.row_bag.specs.Verdict as spec;
 
 use crate::bag::Bag;
@@ -31,7 +32,7 @@ fn error_of(cell: &Cell) -> Option<Kind>
 
 // The error that a level is.
 fn error_at(level: Level) -> Option<Kind>
-    ensures { result ≡ spec.error_at level }
+    ensures { result ≡ errors.error_at level }
 {
     match level {
         Level::Cardinality => Some(Kind::Cardinality),
@@ -43,7 +44,7 @@ fn error_at(level: Level) -> Option<Kind>
 
 // The greatest error among cells.
 fn error_in(cells: &[Cell]) -> Option<Kind>
-    ensures { result ≡ spec.error_in cells.now }
+    ensures { result ≡ errors.error_in cells.now }
 {
     let mut found = None;
     for cell in cells {
@@ -75,7 +76,7 @@ fn error_of_row(row: &Row) -> Option<Kind>
 
 // The greatest error among the levels and the cells of the rows that are there.
 fn error_among(rows: &[Row]) -> Option<Kind>
-    ensures { result ≡ spec.error_among rows.now }
+    ensures { result ≡ errors.error_among errors.error_in rows.now }
 {
     let mut found = None;
     for row in rows {

@@ -1,6 +1,10 @@
-use Rattle.std.proofs.Common.{◌≡◌, ◌++◌, drop, map}
+use Rattle.std.proofs.Common.{◌≡◌, drop, length, map, take}
 use Rattle.sql_check.specs.Resolved.{row_at}
 use Rattle.plain_exec.proofs.loops.project_all.Given as goal
 
-abbrev pub invariant-loop-row : goal.invariant-loop-row
-invariant-loop-row l = l.made.items ++ map (row_at l.places) (drop l.row-index l.rows) ≡ map (row_at l.places) l.rows
+abbrev pub invariant-loop-i : goal.invariant-loop-i
+invariant-loop-i l = record {
+  done : take l.i l.rows.items ≡ map (row_at l.places) (take l.i l.fn.bag);
+  rest : drop l.i l.rows.items ≡ drop l.i l.fn.bag;
+  size : length l.rows.items ≡ length l.fn.bag;
+}

@@ -1,7 +1,8 @@
-use Rattle.std.proofs.Common.{◌≡◌, drop}
+use Rattle.std.proofs.Common.{◌≡◌, None, drop}
 use Rattle.sql_value.specs.Cells.{worst_of}
-use Rattle.row_bag.specs.Verdict.{error_among}
+use Rattle.row_bag.specs.Bags.{fold_map}
+use Rattle.row_bag.specs.Verdict.{error_of_row}
 use Rattle.row_bag.proofs.answer.error_among.Given as goal
 
 abbrev pub invariant-loop-row : goal.invariant-loop-row
-invariant-loop-row l = worst_of l.found (error_among (drop l.row-index l.rows)) ≡ error_among l.rows
+invariant-loop-row l = worst_of l.found (fold_map worst_of None error_of_row (drop l.row-index l.rows)) ≡ fold_map worst_of None error_of_row l.rows

@@ -1,6 +1,6 @@
 use Rattle.std.proofs.Common.{◌≡◌, drop}
 use Rattle.sql_value.specs.Cells.{worst_of}
-use Rattle.row_bag.specs.Verdict.{error_in}
+use Rattle.row_bag.specs.Errors.{error_in}
 use Rattle.row_bag.proofs.answer.error_in.Given as goal
 
 abbrev pub invariant-loop-cell : goal.invariant-loop-cell
