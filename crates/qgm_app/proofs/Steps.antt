@@ -1,26 +1,26 @@
 -- How the stages of a run fit together.
 use Rattle.std.proofs.Common.{ℕ, ◌≡◌, ◌++◌, List, Option, Some, None, Result, Ok, Err, refl, sym, ap, ap₂, subst}
 use Rattle.csv_tables.specs.Load.{tables_of}
-use Rattle.csv_tables.specs.Printed.{printed_rows}
 use Rattle.csv_tables.specs.TableFile.{Refusal}
 use Rattle.io_edge.specs.Outcome.{Comes, Ended, Outcome, answered, done, ended, onward, read, ◌>>=◌}
 use Rattle.io_edge.specs.Outside.{File, Told}
 use Rattle.io_edge.specs.declared.fetch.Interruption.{Interruption}
 use Rattle.io_edge.specs.declared.fetch.Interruption.TheVariants.{ReadFault, Memory}
 use Rattle.io_edge.proofs.Order.{comes-bind, comes-bind-faulted, comes-bind-starved, comes-done, comes-same}
-use Rattle.row_bag.specs.Sorted.{sorted_rows}
+use Rattle.row_bag.specs.Verdict.{verdict}
 use Rattle.row_bag.specs.declared.row.Row.{Row}
 use Rattle.sql_value.specs.declared.cell.Cell.{Cell}
 use Rattle.row_bag.specs.declared.tables.Table.{Table}
 use Rattle.sql_ast.specs.declared.tree.QueryText.{QueryText}
 use Rattle.sql_ast.specs.declared.tree.TableDecl.{TableDecl}
 use Rattle.sql_check.specs.declared.checked.Checked.{Checked}
-use Rattle.qgm_app.specs.Outcome.{outcome, reported, reported_by, with_catalog, with_line, with_task, with_query, with_query_text, with_schema_text}
+use Rattle.sql_meaning.specs.Meaning.{in_order}
+use Rattle.qgm_app.specs.Outcome.{outcome, report_under, reported, reported_by, with_catalog, with_line, with_task, with_query, with_query_text, with_schema_text}
 use Rattle.qgm_app.specs.Texts.{IsChecked, catalog_of, valid_query}
 use Rattle.qgm_words.specs.Line.{LineText}
 use Rattle.qgm_words.specs.Reading.{line}
 use Rattle.qgm_app.specs.declared.report.Report.{Report}
-use Rattle.qgm_app.specs.declared.report.Report.TheVariants.{Rows, Usage, SchemaRefused, QueryRefused}
+use Rattle.qgm_app.specs.declared.report.Report.TheVariants.{Usage, SchemaRefused, QueryRefused}
 
 -- a call that was interrupted interrupts what follows
 pub comes-interrupted : {X Y : Type 0} (t u : Option Told) (o : List File → Outcome X) (f : X → List File → Outcome Y) (e : Interruption)
@@ -38,7 +38,7 @@ bind-same o f g same = ap (λ second. record { names = o.names ++ second.names; 
 -- the report of a checked query is that of the query
 reported-same : (query : QueryText) (catalog : List TableDecl) (checked : Checked) → IsChecked catalog (Some checked) (Some query) → (tables : Result (List Table) Refusal)
     → reported_by checked tables ≡ reported query catalog tables
-reported-same query catalog checked is (Ok tables) = ap₂ (λ (names : List (Option (List ℕ))) (rows : List (Row (List Cell))). Rows (printed_rows names (sorted_rows rows))) is.0 (is.1 tables)
+reported-same query catalog checked is (Ok tables) = ap₂ (λ (names : List (Option (List ℕ))) (rows : List (Row (List Cell))). report_under names (in_order (verdict rows))) is.0 (is.1 tables)
 reported-same query catalog checked is (Err why) = refl
 
 -- the query is refused

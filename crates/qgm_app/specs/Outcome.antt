@@ -6,26 +6,33 @@ use Rattle.csv_tables.specs.Printed.{printed_rows}
 use Rattle.csv_tables.specs.TableFile.{Refusal}
 use Rattle.io_edge.specs.Outcome.{Outcome, done, read, ◌>>=◌}
 use Rattle.io_edge.specs.Outside.{File}
-use Rattle.row_bag.specs.Sorted.{sorted_rows}
+use Rattle.row_bag.specs.Verdict.{verdict}
+use Rattle.row_bag.specs.declared.outcome.Verdict.{Verdict}
+use Rattle.row_bag.specs.declared.outcome.Verdict.TheVariants as v
 use Rattle.row_bag.specs.declared.tables.Table.{Table}
 use Rattle.sql_ast.specs.declared.tree.QueryText.{QueryText}
 use Rattle.sql_ast.specs.declared.tree.TableDecl.{TableDecl}
 use Rattle.sql_check.specs.Resolved.{rows_at}
 use Rattle.sql_check.specs.declared.checked.Checked.{Checked}
-use Rattle.sql_meaning.specs.Meaning.{Answer, answer}
+use Rattle.sql_meaning.specs.Meaning.{Answer, answer, in_order}
 use Rattle.qgm_words.specs.Line.{LineText, TaskText, explain, gen, run}
 use Rattle.qgm_words.specs.Reading.{line}
 use Rattle.qgm_app.specs.Texts.{catalog_of, valid_query}
 use Rattle.qgm_app.specs.declared.report.Report.{Report}
-use Rattle.qgm_app.specs.declared.report.Report.TheVariants.{Rows, Usage, SchemaRefused, DataRefused, QueryRefused}
+use Rattle.qgm_app.specs.declared.report.Report.TheVariants.{Rows, Error, Usage, SchemaRefused, DataRefused, QueryRefused}
 
--- the bytes of an answer: its names and rows in CSV
-abbrev pub printed_answer : Answer → List ℕ
-printed_answer a = printed_rows a.names a.rows
+-- the report under these names: the rows in CSV, or the error
+abbrev pub report_under : List (Option (List ℕ)) → Verdict → Report
+report_under names (v.Rows rows) = Rows (printed_rows names rows)
+report_under names (v.Error kind) = Error kind
+
+-- the report of an answer
+abbrev pub report_of : Answer → Report
+report_of a = report_under a.names a.rows_or_error
 
 -- the report, once the tables are read or refused
 abbrev pub reported : QueryText → List TableDecl → Result (List Table) Refusal → Report
-reported query catalog (Ok tables) = Rows (printed_answer (answer query catalog tables))
+reported query catalog (Ok tables) = report_of (answer query catalog tables)
 reported query catalog (Err why) = DataRefused why.number why.table why.row
 
 -- the query, or none where it is refused; and then the tables
@@ -73,7 +80,7 @@ outcome words files = with_line (line words) files
 
 -- the report of a query whose names are resolved
 abbrev pub reported_by : Checked → Result (List Table) Refusal → Report
-reported_by checked (Ok tables) = Rows (printed_rows checked.names (sorted_rows (rows_at checked tables)))
+reported_by checked (Ok tables) = report_under checked.names (in_order (verdict (rows_at checked tables)))
 reported_by checked (Err why) = DataRefused why.number why.table why.row
 
 -- the tables' files are read, and then the query is answered by its places

@@ -1,12 +1,21 @@
 -- The status and the text of a report.
 use Rattle.std.specs.Prelude.{ℕ, List, ◌++◌, codes, encode_utf8_all}
 use Rattle.std.specs.Fmt.{decimal}
+use Rattle.sql_value.specs.declared.cell.Kind.{Kind}
+use Rattle.sql_value.specs.declared.cell.Kind.TheVariants.{Cardinality, Division, Overflow}
 use Rattle.qgm_app.specs.declared.report.Report.{Report}
-use Rattle.qgm_app.specs.declared.report.Report.TheVariants.{Rows, Usage, SchemaRefused, DataRefused, QueryRefused}
+use Rattle.qgm_app.specs.declared.report.Report.TheVariants.{Rows, Error, Usage, SchemaRefused, DataRefused, QueryRefused}
 use Rattle.qgm_app.specs.declared.report.Said.{Said}
+
+-- the SQLSTATE of a runtime error
+abbrev pub sqlstate : Kind → List ℕ
+sqlstate Cardinality = codes "21000"
+sqlstate Division = codes "22012"
+sqlstate Overflow = codes "22003"
 
 abbrev pub status_of : Report → ℕ
 status_of (Rows bytes) = 0
+status_of (Error kind) = 1
 status_of Usage = 2
 status_of (SchemaRefused number) = 5
 status_of (DataRefused number table row) = 6
@@ -14,6 +23,7 @@ status_of (QueryRefused number) = 7
 
 abbrev pub printed : Report → List ℕ
 printed (Rows bytes) = bytes
+printed (Error kind) = codes "ERROR " ++ (sqlstate kind ++ codes "\n")
 printed Usage = codes "USAGE\n"
 printed (SchemaRefused number) = codes "SCHEMA S" ++ (decimal number ++ codes "\n")
 printed (DataRefused number table row) = codes "DATA X" ++ (decimal number ++ (codes " " ++ (encode_utf8_all table ++ (codes " " ++ (decimal row ++ codes "\n")))))

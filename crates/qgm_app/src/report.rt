@@ -1,10 +1,11 @@
 // What a run answers, its status and its text.
 ghost use Rattle.std.specs.Prelude.{◌≡◌, IfOk, encode_utf8_all};
-ghost use Rattle.qgm_app.specs.declared.report.Report.TheVariants.{DataRefused};
+ghost use Rattle.qgm_app.specs.declared.report.Report.TheVariants.{DataRefused, Error};
 ghost use Rattle.qgm_app.specs.Printed.{read_failed, said_of};
 
 use qgm_base::{OutOfMemory, Text};
 use sql_text::Name;
+use sql_value::Kind;
 use sqlite_items::Items;
 use std::alloc::Global;
 
@@ -13,6 +14,8 @@ use std::alloc::Global;
 pub enum Report {
     /// A header and rows, in CSV.
     Rows(Items<u8>),
+    /// A runtime error.
+    Error(Kind),
     /// The words are no command.
     Usage,
     /// The schema is refused with this number.
@@ -40,6 +43,17 @@ fn say(alloc: Global, status: u8, text: &str) -> Result<Said, OutOfMemory>
     })
 }
 
+// What is said of a runtime error: its SQLSTATE.
+fn say_error(alloc: Global, kind: Kind) -> Result<Said, OutOfMemory>
+    ensures { IfOk result (λ said. said ≡ said_of (Error kind)) }
+{
+    match kind {
+        Kind::Cardinality => say(alloc, 1, "ERROR 21000\n"),
+        Kind::Division => say(alloc, 1, "ERROR 22012\n"),
+        Kind::Overflow => say(alloc, 1, "ERROR 22003\n"),
+    }
+}
+
 // What is said of a table that is refused.
 fn say_data(alloc: Global, number: u8, table: &Name, row: u64) -> Result<Said, OutOfMemory>
     ensures { IfOk result (λ said. said ≡ said_of (DataRefused number table.now row)) }
@@ -65,6 +79,7 @@ impl Report {
     {
         match self {
             Report::Rows(text) => Ok(Said { status: 0, text }),
+            Report::Error(kind) => say_error(alloc, kind),
             Report::Usage => say(alloc, 2, "USAGE\n"),
             Report::SchemaRefused(number) => {
                 let line = format!(in alloc; "SCHEMA S{number}\n")?;

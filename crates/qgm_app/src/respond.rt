@@ -56,7 +56,7 @@ pub fn respond<F: Files>(
     ensures usage { IfOk result (λ said. said.status ≡ 2 → (line (map (λ w. string_bytes w) words.now) ≡ None) × (said ≡ said_of Usage)) }
     ensures later { F.faults files.old ≤ F.faults files.new }
     ensures failed { IfOk result (λ said. said.status ≡ 3 → Rose (F.faults files.old) (F.faults files.new)) }
-    ensures status { IfOk result (λ said. (said.status ≢ 1) × (said.status ≢ 4) × (said.status < 8)) }
+    ensures status { IfOk result (λ said. (said.status ≢ 4) × (said.status < 8)) }
 {
     match prepare(alloc, words, files) {
         Ok(report) => report.said(alloc),

@@ -5,8 +5,9 @@ ghost use Rattle.io_edge.specs.Causes.{Rose};
 ghost use Rattle.io_edge.specs.Outcome.{AskedOf, failed_name};
 ghost use Rattle.io_edge.specs.Outside.{Ask, StopsShort, written_after};
 ghost use Rattle.qgm_words.specs.Reading.{line};
+ghost use Rattle.sql_value.specs.declared.cell.Kind.{Kind};
 ghost use Rattle.qgm_app.specs.declared.report.Report.{Report};
-ghost use Rattle.qgm_app.specs.declared.report.Report.TheVariants.{Rows, SchemaRefused, DataRefused, QueryRefused};
+ghost use Rattle.qgm_app.specs.declared.report.Report.TheVariants.{Rows, Error, SchemaRefused, DataRefused, QueryRefused};
 ghost use Rattle.qgm_app.specs.declared.report.Said.{Said};
 ghost use Rattle.qgm_app.specs.Outcome.{outcome};
 ghost use Rattle.qgm_app.specs.Printed.{printed, status_of};
@@ -26,6 +27,7 @@ const NO_MEMORY: u8 = 8;
 /// names, and writes its report to the sink. Answers the status:
 ///
 /// - 0: the answer, as a header and rows in CSV
+/// - 1: the answer is a runtime error, whose SQLSTATE was written
 /// - 2: the words are no command
 /// - 3: a read failed, and its name was written
 /// - 4: a write failed, and a proper prefix of what would else be written was
@@ -51,7 +53,8 @@ pub fn run_command<F: Files, K: Sink, L: Ledger>(
         (λ report. (result ≡ status_of report) × (K.written out.new ≡ written_after (printed report) (K.written out.old))) }
     ensures rows { result ≡ 0 → ComesTo (F.told files.old) (outcome (map (λ w. string_bytes w) words.now))
         (λ report. (bytes : List ℕ) × (report ≡ Rows bytes) × (K.written out.new ≡ written_after bytes (K.written out.old))) }
-    ensures no_error { result ≢ 1 }
+    ensures error { result ≡ 1 → ComesTo (F.told files.old) (outcome (map (λ w. string_bytes w) words.now))
+        (λ report. (kind : Kind) × (report ≡ Error kind) × (K.written out.new ≡ written_after (printed (Error kind)) (K.written out.old))) }
     ensures usage { result ≡ 2 → (line (map (λ w. string_bytes w) words.now) ≡ None) × (K.written out.new ≡ written_after (codes "USAGE\n") (K.written out.old)) }
     ensures no_line { line (map (λ w. string_bytes w) words.now) ≡ None → (files.new ≡ files.old) × ((result ≡ 2) ⊎ (result ≡ 4) ⊎ (result ≡ 8)) }
     ensures read_fault { result ≡ 3 → Rose (F.faults files.old) (F.faults files.new) }

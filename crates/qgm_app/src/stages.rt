@@ -1,11 +1,13 @@
 // The stages of a run: each reads a file, and hands what it holds to the next.
-ghost use Rattle.std.specs.Prelude.{◌≡◌, ◌≢◌, ◌≤◌, IfOk};
+ghost use Rattle.std.specs.Prelude.{◌≡◌, ◌≢◌, ◌≤◌, [], IfOk};
 ghost use Rattle.csv_tables.specs.Printed.{printed_rows};
 ghost use Rattle.io_edge.specs.Outcome.{Comes, RoseIfFault, ended};
 ghost use Rattle.row_bag.specs.Sorted.{sorted_rows};
+ghost use Rattle.row_bag.specs.Verdict.{verdict};
 ghost use Rattle.sql_check.specs.Resolved.{rows_at};
+ghost use Rattle.sql_meaning.specs.Meaning.{in_order};
 ghost use Rattle.qgm_app.specs.declared.report.Report.TheVariants.{Usage};
-ghost use Rattle.qgm_app.specs.Outcome.{from_query, from_schema, from_tables};
+ghost use Rattle.qgm_app.specs.Outcome.{from_query, from_schema, from_tables, report_under};
 
 use crate::report::Report;
 use crate::texts::{read_catalog, read_query};
@@ -13,9 +15,10 @@ use csv_tables::{DataRefusal, load, write_rows};
 use io_edge::{Files, Interruption, fetch_file};
 use plain_exec::execute;
 use qgm_base::OutOfMemory;
-use row_bag::{Tables, sorted};
+use row_bag::{Bag, Tables, Verdict, sorted, verdict};
 use sql_catalog::Catalog;
 use sql_check::Checked;
+use sql_value::{OrderKeys, OutNames};
 use sqlite_items::Items;
 use std::alloc::Global;
 
@@ -25,14 +28,24 @@ const MAX_TEXT: usize = 65_536;
 /// What is said of a text that is too long, that its grammar doesn't spell, or that isn't valid.
 const REFUSED: u8 = 4;
 
-// The header and rows of a query over these tables, in CSV.
-fn answer(alloc: Global, checked: &Checked, tables: Tables) -> Result<Items<u8>, OutOfMemory>
-    ensures { IfOk result (λ bytes. bytes ≡ printed_rows checked.now.names (sorted_rows (rows_at checked.now tables))) }
+// The header and the rows in ascending order, in CSV.
+fn print(alloc: Global, names: &OutNames, bag: Bag) -> Result<Items<u8>, OutOfMemory>
+    ensures { IfOk result (λ bytes. bytes ≡ printed_rows names.now (sorted_rows [] bag)) }
 {
-    let bag = execute(alloc, checked, &tables)?;
-    drop(tables);
-    let bag = sorted(bag)?;
-    Ok(Items::from_vec(write_rows(alloc, &checked.names, &bag)?))
+    let keys: OrderKeys = Items::from_vec(Vec::new(alloc));
+    let bag = sorted(bag, &keys)?;
+    Ok(Items::from_vec(write_rows(alloc, names, &bag)?))
+}
+
+// The report of a query over these tables.
+fn answer(alloc: Global, checked: &Checked, tables: Tables) -> Result<Report, OutOfMemory>
+    ensures report { IfOk result (λ report. report ≡ report_under checked.now.names (in_order (verdict (rows_at checked.now tables)))) }
+    ensures line { IfOk result (λ report. report ≢ Usage) }
+{
+    match verdict(execute(alloc, checked, tables)?) {
+        Verdict::Rows(bag) => Ok(Report::Rows(print(alloc, &checked.names, bag)?)),
+        Verdict::Error(kind) => Ok(Report::Error(kind)),
+    }
 }
 
 // Reads the tables, and answers the query.
@@ -49,7 +62,7 @@ fn run_tables<F: Files>(
     ensures line { IfOk result (λ report. report ≢ Usage) }
 {
     match load(alloc, catalog, dir, files) {
-        Ok(tables) => Ok(Report::Rows(answer(alloc, checked, tables)?)),
+        Ok(tables) => Ok(answer(alloc, checked, tables)?),
         Err(DataRefusal::Refused { number, table, row }) => {
             Ok(Report::DataRefused { number, table, row })
         }

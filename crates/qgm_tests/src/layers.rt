@@ -8,6 +8,7 @@ use sql_check::check;
 use sql_parser::{parse_query, parse_schema};
 use sql_text::lex;
 use sql_value::{Cell, cell_order, copy};
+use sqlite_items::Items;
 use std::alloc::Global;
 use std::cmp::Ordering;
 use std::collections::HashMap;
@@ -33,7 +34,8 @@ fn by_layers(alloc: Global, schema: &str, query: &str, table: &str) -> Result<Ve
     let query = parse_query(alloc, tokens.as_slice())?;
     let checked = check(alloc, &query, &catalog)?;
     let tables = load(alloc, &catalog, "d", &mut files)?;
-    let rows = sorted(execute(alloc, &checked, &tables)?)?;
+    let keys = Items::from_vec(Vec::new(alloc));
+    let rows = sorted(execute(alloc, &checked, tables)?, &keys)?;
     Ok(write_rows(alloc, &checked.names, &rows)?)
 }
 

@@ -1,5 +1,6 @@
 pub mod Agreement
 pub mod Answered
+pub mod BagLaws
 pub mod Binds
 pub mod Counts
 pub mod Folds

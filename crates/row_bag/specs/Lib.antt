@@ -1,5 +1,6 @@
 pub mod Bags
 pub mod Errors
+pub mod Laws
 pub mod Order
 pub mod Sets
 pub mod Sorted

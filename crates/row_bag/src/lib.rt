@@ -3,13 +3,17 @@
 
 mod answer;
 mod bag;
+mod laws;
 mod outcome;
 mod row;
 mod sort;
 mod tables;
+#[cfg(test)]
+mod tests;
 
 pub use answer::verdict;
 pub use bag::Bag;
+pub use laws::bag_laws;
 pub use outcome::Verdict;
 pub use row::{Row, order_by, row_order};
 pub use sort::sorted;
