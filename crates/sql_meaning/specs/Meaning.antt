@@ -177,16 +177,19 @@ is_descending _ = false
 abbrev pub order_key : List (Option (List ℕ)) → Sort → OrderKey
 order_key names sort = record { column = key_column names sort.key; descending = is_descending sort.direction }
 
--- what a query comes to: a name for each column and the rows in order, or the one error
-pub data Answer : Type 0 where
-  answer_rows : List (Option (List ℕ)) → List (Row (List Cell)) → Answer
-  answer_error : Kind → Answer
+-- the rows by the keys, and then by all columns ascending; or the error
+abbrev pub in_order : List OrderKey → Verdict → Verdict
+in_order keys (Rows rows) = Rows (sorted_rows keys rows)
+in_order keys (Error kind) = Error kind
 
--- the rows by the keys, and then by all columns ascending
-abbrev pub answer_of : List (Option (List ℕ)) → List OrderKey → Verdict → Answer
-answer_of names keys (Rows rows) = answer_rows names (sorted_rows keys rows)
-answer_of names keys (Error kind) = answer_error kind
+-- the answer to a query: a name for each column, and the rows in order or the one error
+pub record Answer : Type 0 where
+  pub names : List (Option (List ℕ))
+  pub rows_or_error : Verdict
 
--- the answer to a query's text: the greatest error among its rows, or all of them in order
+-- the answer to a query's text: all of its rows in order, or the greatest error among them
 abbrev pub answer : (List ℕ → Option Relation) → s.QueryText → Answer
-answer known text = answer_of (names known text.query) (map (order_key (names known text.query)) text.order) (verdict (rows known text.query []))
+answer known text = record {
+  names = names known text.query;
+  rows_or_error = in_order (map (order_key (names known text.query)) text.order) (verdict (rows known text.query []));
+}
