@@ -1,2 +1,4 @@
+pub mod Types
 pub mod Valid
-pub mod Resolved
+pub mod Taken
+pub mod Core

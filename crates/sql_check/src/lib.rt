@@ -3,8 +3,6 @@
 
 mod checked;
 mod refusal;
-mod resolve;
 
-pub use checked::Checked;
+pub use checked::{Addend, Arm, Checked, Choice, Multiplier, Test, Value};
 pub use refusal::QueryRefusal;
-pub use resolve::check;
