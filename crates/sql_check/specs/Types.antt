@@ -9,18 +9,10 @@ use Rattle.sql_ast.specs.declared.word.DataType.TheVariants as type
 use Rattle.sql_ast.specs.Syntax as s
 use Rattle.sql_catalog.specs.Names.{same_name}
 use Rattle.sql_meaning.specs.Scopes.{first_of}
+use Rattle.sql_check.specs.declared.scope.TypedColumn.{TypedColumn}
+use Rattle.sql_check.specs.declared.scope.TypedRange.{TypedRange}
 use Rattle.sql_value.specs.declared.order_key.SqlType.{SqlType}
 use Rattle.sql_value.specs.declared.order_key.SqlType.TheVariants.{Integer, Varchar}
-
--- a column as the checks see it: its name and its type
-pub record TypedColumn : Type 0 where
-  pub name : List ℕ
-  pub type : SqlType
-
--- a range as the checks see it
-pub record TypedRange : Type 0 where
-  pub name : List ℕ
-  pub columns : List TypedColumn
 
 -- the scopes as the checks see them: the ranges of each, the innermost first
 abbrev pub TypedScopes : Type 0
@@ -61,7 +53,7 @@ meant c scopes = elim c.range as (λ _. List TypedColumn) [ None ↦ unqualified
 -- the type of the first of these columns
 abbrev pub type_of_first : List TypedColumn → Option SqlType
 type_of_first [] = None
-type_of_first (c ∷ cs) = Some c.type
+type_of_first (c ∷ cs) = Some c.sort
 
 -- the type that a declaration gives
 abbrev pub type_of_declared : DataType → SqlType

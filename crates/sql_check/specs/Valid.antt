@@ -18,7 +18,9 @@ use Rattle.sql_ast.specs.declared.schema.TableDecl.{TableDecl}
 use Rattle.sql_catalog.specs.Catalog.{Declared, table_named}
 use Rattle.sql_catalog.specs.Keys.{columns_of as declared_columns}
 use Rattle.sql_meaning.specs.Meaning.{is_named, list_names, range_name}
-use Rattle.sql_check.specs.Types.{TypedColumn, TypedRange, TypedScopes, meant, range_of, type_of, type_of_declared, types_of, arm_types, choice_types, else_types}
+use Rattle.sql_check.specs.declared.scope.TypedColumn.{TypedColumn}
+use Rattle.sql_check.specs.declared.scope.TypedRange.{TypedRange}
+use Rattle.sql_check.specs.Types.{TypedScopes, meant, range_of, type_of, type_of_declared, types_of, arm_types, choice_types, else_types}
 
 -- the lesser of two numbers, of which 0 is none
 abbrev pub lesser : ℕ → ℕ → ℕ
@@ -232,7 +234,7 @@ output_names known _ = []
 
 -- the columns that a table declares, with their types
 abbrev pub typed : ColumnDecl → TypedColumn
-typed c = record { name = c.name; type = type_of_declared c.data_type }
+typed c = record { name = c.name; sort = type_of_declared c.data_type }
 
 abbrev pub typed_columns : Option TableDecl → Option (List TypedColumn)
 typed_columns None = None

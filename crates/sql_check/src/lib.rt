@@ -3,6 +3,8 @@
 
 mod checked;
 mod refusal;
+mod scope;
 
 pub use checked::{Addend, Arm, Checked, Choice, Multiplier, Test, Value};
 pub use refusal::QueryRefusal;
+pub use scope::{TypedColumn, TypedRange};
