@@ -1,2 +1,5 @@
+pub mod Types
+pub mod Scope
 pub mod Valid
-pub mod Resolved
+pub mod Taken
+pub mod Core

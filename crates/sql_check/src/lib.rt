@@ -3,8 +3,8 @@
 
 mod checked;
 mod refusal;
-mod resolve;
+mod scope;
 
-pub use checked::Checked;
+pub use checked::{Addend, Arm, Checked, Choice, Multiplier, Test, Value};
 pub use refusal::QueryRefusal;
-pub use resolve::check;
+pub use scope::{TypedColumn, TypedRange};

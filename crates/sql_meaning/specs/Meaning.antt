@@ -17,6 +17,10 @@ use Rattle.sql_ast.specs.declared.text.SortKey.TheVariants as sort_key
 use Rattle.sql_ast.specs.declared.word.Direction.{Direction}
 use Rattle.sql_ast.specs.declared.word.Direction.TheVariants as way
 use Rattle.sql_ast.specs.Syntax as s
+use Rattle.sql_ast.specs.declared.schema.TableDecl.{TableDecl}
+use Rattle.sql_catalog.specs.Catalog.{Declared, table_named}
+use Rattle.sql_catalog.specs.Keys.{names_of}
+use Rattle.sql_catalog.specs.Keys.{columns_of as declared_columns}
 use Rattle.sql_catalog.specs.Names.{same_name}
 use Rattle.sql_value.specs.Truths.{truth_of}
 use Rattle.sql_value.specs.declared.cell.Cell.{Cell}
@@ -193,3 +197,19 @@ answer known text = record {
   names = names known text.query;
   rows_or_error = in_order (map (order_key (names known text.query)) text.order) (verdict (rows known text.query []));
 }
+
+-- ---- the tables of a catalog
+
+-- the rows of a table; none where nothing was loaded for it
+abbrev pub rows_or_none : Option (List (Row (List Cell))) → List (Row (List Cell))
+rows_or_none None = []
+rows_or_none (Some rows) = rows
+
+-- a declared table with these rows
+abbrev pub relation_with : Option TableDecl → Option (List (Row (List Cell))) → Option Relation
+relation_with None bag = None
+relation_with (Some table) bag = Some (record { columns = names_of (declared_columns table.elements); rows = rows_or_none bag })
+
+-- what a table's name stands for, by the catalog and the loaded tables
+abbrev pub relation_of : Declared → List Table → List ℕ → Option Relation
+relation_of catalog tables name = relation_with (table_named catalog.tables name) (bag_named tables name)
