@@ -1,10 +1,4 @@
-//! The catalog that a schema declares.
+//! x
 #![tactic(auto)]
-
 mod catalog;
-mod declare;
-mod refusal;
-
-pub use catalog::{Catalog, TableList};
-pub use declare::build;
-pub use refusal::SchemaRefusal;
+pub use catalog::{Catalog, TableList, ViewList};
