@@ -1,12 +1,11 @@
 -- What is spelled so is read; and no tokens are spelled by two trees.
-use Rattle.std.proofs.Common.{◌≡◌, ℕ, suc, ◌<◌, max, true, List, Option, Some, refl, sym, ◌∙◌, ap, arith}
+use Rattle.std.proofs.Common.{◌≡◌, ℕ, suc, ◌<◌, max, true, List, Some, refl, sym, ◌∙◌, ap, arith}
 use Rattle.sql_text.specs.Depth.{shallow}
-use Rattle.sql_text.specs.declared.key.Key.TheVariants as k
 use Rattle.sql_text.specs.declared.token.Token.{Token}
 use Rattle.sql_ast.specs.Syntax as s
 use Rattle.sql_ast.specs.Spelling as sp
 use Rattle.sql_ast.specs.Grammatical.{is_query, SpellsQuery}
-use Rattle.sql_parser.specs.Read.{expr, cond, query, table}
+use Rattle.sql_parser.specs.Read.{query}
 use Rattle.sql_parser.specs.ReadText.{ended, ordered, query_end, query_tree}
 use Rattle.sql_parser.proofs.Steps.{some_inj}
 use Rattle.sql_parser.proofs.Balanced as balanced
@@ -21,8 +20,12 @@ use Rattle.sql_parser.proofs.CompleteTables as tables
 mutual
   pub read_expr : (x : s.Expr) → ReadExpr x
   read_expr (s.add a op b) =
-      record { as_prim = λ d ts p g tall low. absurd (cc); as_factor = λ d ts p g tall low. absurd (cc); as_term = λ d n m ts p g tall low turns. absurd (cc);
-        as_sum = exprs.add_read a b op (read_expr a) (read_expr b) }
+      record {
+        as_prim = λ d ts p g tall low. absurd (cc);
+        as_factor = λ d ts p g tall low. absurd (cc);
+        as_term = λ d n m ts p g tall low turns. absurd (cc);
+        as_sum = exprs.add_read a b op (read_expr a) (read_expr b);
+      }
   read_expr (s.multiply a op b) =
       let h = exprs.multiply_read a b op (read_expr a) (read_expr b) in
       record { as_prim = λ d ts p g tall low. absurd (cc); as_factor = λ d ts p g tall low. absurd (cc); as_term = h; as_sum = exprs.of_term (s.multiply a op b) refl refl h }
@@ -65,8 +68,12 @@ mutual
 
   pub read_cond : (x : s.Cond) → ReadCond x
   read_cond (s.either a b) =
-      record { as_test = λ d ts p g tall low. absurd (cc); as_neg = λ d ts p g tall low. absurd (cc); as_conj = λ d n m ts p g tall low turns. absurd (cc);
-        as_disj = conds.either_read a b (read_cond a) (read_cond b) }
+      record {
+        as_test = λ d ts p g tall low. absurd (cc);
+        as_neg = λ d ts p g tall low. absurd (cc);
+        as_conj = λ d n m ts p g tall low turns. absurd (cc);
+        as_disj = conds.either_read a b (read_cond a) (read_cond b);
+      }
   read_cond (s.both a b) =
       let h = conds.both_read a b (read_cond a) (read_cond b) in
       record { as_test = λ d ts p g tall low. absurd (cc); as_neg = λ d ts p g tall low. absurd (cc); as_conj = h; as_disj = conds.of_conj (s.both a b) refl refl h }
@@ -120,8 +127,11 @@ mutual
 
   pub read_query : (x : s.Query) → ReadQuery x
   read_query (s.combine a op all b) =
-      record { as_qprim = λ d ts p g tall low. absurd (cc); as_qterm = λ d n m ts p g tall low turns. absurd (cc);
-        as_combined = tables.combine_read a b op all (read_query a) (read_query b) }
+      record {
+        as_qprim = λ d ts p g tall low. absurd (cc);
+        as_qterm = λ d n m ts p g tall low turns. absurd (cc);
+        as_combined = tables.combine_read a b op all (read_query a) (read_query b);
+      }
   read_query (s.intersect a all b) =
       let h = tables.intersect_read a b all (read_query a) (read_query b) in
       record { as_qprim = λ d ts p g tall low. absurd (cc); as_qterm = h; as_combined = tables.of_qterm (s.intersect a all b) refl refl h }

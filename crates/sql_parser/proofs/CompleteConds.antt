@@ -1,5 +1,5 @@
 -- Conditions that are spelled so are read, where their parts are.
-use Rattle.std.proofs.Common.{◌≡◌, ℕ, zero, suc, ◌+◌, ◌<◌, ◌≤◌, Bool, true, false, List, [], ◌∷◌, Option, Some, None, refl, ◌∙◌, ap, length, arith}
+use Rattle.std.proofs.Common.{◌≡◌, ℕ, suc, ◌<◌, ◌≤◌, Bool, true, false, List, ◌∷◌, Some, refl, ◌∙◌, ap, arith}
 use Rattle.std.specs.Prelude.{◌&&◌, not}
 use Rattle.qgm_base.specs.declared.compare.CmpOp.{CmpOp}
 use Rattle.sql_text.specs.declared.key.Key.{Key}
@@ -11,17 +11,17 @@ use Rattle.sql_ast.specs.Syntax as s
 use Rattle.sql_ast.specs.Spelling as sp
 use Rattle.sql_ast.specs.Grammatical.{is_test, is_neg, is_conj, some_expr, lone_sub, is_expr, are_exprs, is_cond, is_query}
 use Rattle.sql_parser.specs.Ahead.{goes_on}
-use Rattle.sql_parser.specs.Words.{Parser, ◌>>=◌}
+use Rattle.sql_parser.specs.Words.{◌>>=◌}
 use Rattle.sql_parser.specs.Read as r
 use Rattle.sql_parser.specs.Read.{expr, cond, query, table}
 use Rattle.sql_parser.proofs.Steps.{and_ok, not_ok}
-use Rattle.sql_parser.proofs.Balanced.{tall, tall_exprs, tall_cond, tall_query}
+use Rattle.sql_parser.proofs.Balanced.{tall}
 use Rattle.sql_parser.proofs.Lookahead as look
 use Rattle.sql_parser.proofs.Lookahead.{rank}
 use Rattle.sql_parser.proofs.Stops as stops
 use Rattle.sql_parser.proofs.Links as links
 use Rattle.sql_parser.proofs.CompleteWords as words
-use Rattle.sql_parser.proofs.CompleteRules.{AsTest, AsNeg, AsConj, AsDisj, ReadExpr, ReadExprs, ReadCond, ReadFilter, ReadQuery, sum, pred_after, test, neg, negs, conj, conjs, sum_read, conj_read, disj_read, cond_in, query_in}
+use Rattle.sql_parser.proofs.CompleteRules.{AsTest, AsNeg, AsConj, AsDisj, ReadExpr, ReadExprs, ReadCond, ReadFilter, ReadQuery, pred_after, test, neg, negs, conjs, sum_read, conj_read, disj_read, cond_in, query_in}
 
 -- ---- levels
 

@@ -1,5 +1,5 @@
 -- Expressions that are spelled so are read, where their parts are.
-use Rattle.std.proofs.Common.{◌≡◌, ℕ, zero, suc, ◌+◌, ◌<◌, ◌≤◌, Bool, true, false, List, [], ◌∷◌, Option, Some, None, refl, ◌∙◌, ap, length, arith}
+use Rattle.std.proofs.Common.{◌≡◌, ℕ, zero, suc, ◌<◌, ◌≤◌, true, false, List, ◌∷◌, Option, Some, None, refl, ◌∙◌, ap, length, arith}
 use Rattle.std.specs.Prelude.{◌&&◌, not}
 use Rattle.sql_text.specs.declared.key.Key.TheVariants as k
 use Rattle.sql_text.specs.declared.token.Token.{Token}
@@ -16,18 +16,18 @@ use Rattle.sql_ast.specs.declared.word.Sign.{Sign}
 use Rattle.sql_ast.specs.declared.word.Sign.TheVariants as sign
 use Rattle.sql_ast.specs.Syntax as s
 use Rattle.sql_ast.specs.Spelling as sp
-use Rattle.sql_ast.specs.Grammatical.{is_prim, is_factor, is_term, is_sub, some_expr, some_arm, some_choice, is_expr, are_exprs, is_res, are_arms, are_choices, is_otherwise, is_cond, is_query}
-use Rattle.sql_parser.specs.Words.{Parser, ◌>>=◌, closed, set_quantifier_at}
+use Rattle.sql_ast.specs.Grammatical.{is_prim, is_factor, is_term, is_sub, some_arm, some_choice, is_expr, are_exprs, is_res, are_arms, are_choices, is_otherwise, is_cond}
+use Rattle.sql_parser.specs.Words.{◌>>=◌, closed}
 use Rattle.sql_parser.specs.Read as r
 use Rattle.sql_parser.specs.Read.{expr, cond, query, table}
 use Rattle.sql_parser.proofs.Steps.{and_ok, not_ok}
-use Rattle.sql_parser.proofs.Balanced.{tall, tall_exprs, tall_res, tall_arms, tall_choices, tall_otherwise, tall_cond, tall_query}
+use Rattle.sql_parser.proofs.Balanced.{tall, tall_exprs, tall_res, tall_arms, tall_choices, tall_cond}
 use Rattle.sql_parser.proofs.Lookahead as look
 use Rattle.sql_parser.proofs.Lookahead.{rank}
 use Rattle.sql_parser.proofs.Stops as stops
 use Rattle.sql_parser.proofs.Links as links
 use Rattle.sql_parser.proofs.CompleteWords as words
-use Rattle.sql_parser.proofs.CompleteRules.{AsPrim, AsFactor, AsTerm, AsSum, ReadExpr, ReadExprs, ReadRes, ReadArms, ReadChoices, ReadOtherwise, ReadCond, ReadQuery, prim, factor, factors, term, terms, more_exprs, exprs, res, more_arms, arms, more_choices, choices, otherwise, term_read, expr_in, cond_in, query_in}
+use Rattle.sql_parser.proofs.CompleteRules.{AsPrim, AsFactor, AsTerm, AsSum, ReadExpr, ReadExprs, ReadRes, ReadArms, ReadChoices, ReadOtherwise, ReadCond, ReadQuery, prim, factors, terms, more_exprs, more_arms, more_choices, term_read, expr_in, cond_in, query_in}
 
 -- ---- levels
 

@@ -1,6 +1,5 @@
 -- What is to be shown of a tree: each rule of the grammar that reads it gives it back, where brackets may nest d deep and what follows binds loosely enough.
-use Rattle.std.proofs.Common.{◌≡◌, ℕ, zero, suc, ◌+◌, ◌-◌, ◌<◌, ◌≤◌, Bool, true, false, List, [], ◌∷◌, Option, Some, None, refl, ◌∙◌, ap, length, arith}
-use Rattle.std.specs.Prelude.{◌&&◌}
+use Rattle.std.proofs.Common.{◌≡◌, ℕ, zero, suc, ◌+◌, ◌-◌, ◌<◌, ◌≤◌, true, List, ◌∷◌, Some, ◌∙◌, length, arith}
 use Rattle.sql_text.specs.declared.key.Key.TheVariants as k
 use Rattle.sql_text.specs.declared.token.Token.{Token}
 use Rattle.sql_text.specs.declared.token.Token.TheVariants as t
@@ -10,7 +9,6 @@ use Rattle.sql_ast.specs.Grammatical.{is_prim, is_factor, is_term, is_test, is_n
 use Rattle.sql_parser.specs.Words.{Parser, ◌>>=◌}
 use Rattle.sql_parser.specs.Read as r
 use Rattle.sql_parser.specs.Read.{expr, cond, query, table}
-use Rattle.sql_parser.proofs.Steps.{and_ok}
 use Rattle.sql_parser.proofs.Balanced.{tall, tall_exprs, tall_res, tall_arms, tall_choices, tall_otherwise, tall_cond, tall_filter, tall_item, tall_items, tall_list, tall_table, tall_tables, tall_query}
 use Rattle.sql_parser.proofs.Lookahead.{rank}
 use Rattle.sql_parser.proofs.Stops as stops

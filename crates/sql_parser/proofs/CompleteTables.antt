@@ -1,5 +1,5 @@
 -- Tables and queries that are spelled so are read, where their parts are.
-use Rattle.std.proofs.Common.{◌≡◌, ℕ, zero, suc, ◌+◌, ◌<◌, ◌≤◌, Bool, true, false, List, [], ◌∷◌, Option, Some, None, refl, ◌∙◌, ap, length, arith}
+use Rattle.std.proofs.Common.{◌≡◌, ℕ, zero, suc, ◌<◌, ◌≤◌, Bool, true, false, List, [], ◌∷◌, Option, Some, None, refl, ◌∙◌, ap, length, arith}
 use Rattle.std.specs.Prelude.{◌&&◌, not}
 use Rattle.sql_text.specs.declared.key.Key.TheVariants as k
 use Rattle.sql_text.specs.declared.token.Token.{Token}
@@ -15,18 +15,18 @@ use Rattle.sql_ast.specs.declared.word.Sign.{Sign}
 use Rattle.sql_ast.specs.declared.word.Sign.TheVariants as sign
 use Rattle.sql_ast.specs.Syntax as s
 use Rattle.sql_ast.specs.Spelling as sp
-use Rattle.sql_ast.specs.Grammatical.{is_tprim, is_qprim, is_qterm, some_item, some_table, cond_without_sub, is_expr, is_cond, is_filter, is_item, are_items, is_list, is_table, are_tables, is_query}
-use Rattle.sql_parser.specs.Words.{Parser, ◌>>=◌, all_of_at, alias_at, all_at, set_quantifier_at}
+use Rattle.sql_ast.specs.Grammatical.{is_tprim, is_qprim, is_qterm, some_item, some_table, cond_without_sub, is_cond, is_filter, is_item, are_items, is_list, is_table, are_tables, is_query}
+use Rattle.sql_parser.specs.Words.{◌>>=◌, all_of_at, all_at, set_quantifier_at}
 use Rattle.sql_parser.specs.Read as r
 use Rattle.sql_parser.specs.Read.{expr, cond, query, table}
 use Rattle.sql_parser.proofs.Steps.{and_ok, not_ok}
-use Rattle.sql_parser.proofs.Balanced.{tall, tall_cond, tall_filter, tall_item, tall_items, tall_list, tall_table, tall_tables, tall_query}
+use Rattle.sql_parser.proofs.Balanced.{tall, tall_items, tall_tables}
 use Rattle.sql_parser.proofs.Lookahead as look
 use Rattle.sql_parser.proofs.Lookahead.{rank, starts}
 use Rattle.sql_parser.proofs.Stops as stops
 use Rattle.sql_parser.proofs.Links as links
 use Rattle.sql_parser.proofs.CompleteWords as words
-use Rattle.sql_parser.proofs.CompleteRules.{AsTprim, AsTref, AsQprim, AsQterm, AsCombined, ReadExpr, ReadCond, ReadFilter, ReadItem, ReadItems, ReadList, ReadTable, ReadTables, ReadQuery, item, more_items, items, select_list, tprim, joins, tref, more_tables, tables, qprim, qprims, qterm, qterms, sum_read, disj_read, tref_read, qterm_read, query_in, table_in}
+use Rattle.sql_parser.proofs.CompleteRules.{AsTprim, AsTref, AsQprim, AsQterm, AsCombined, ReadExpr, ReadCond, ReadFilter, ReadItem, ReadItems, ReadList, ReadTable, ReadTables, ReadQuery, more_items, select_list, joins, more_tables, qprim, qprims, qterm, qterms, sum_read, disj_read, tref_read, qterm_read, query_in, table_in}
 
 -- ---- items
 
@@ -79,7 +79,7 @@ value_read a n ra = record {
       let us = sp.alias n ts in
       let next = alias_low n ts low in
       rw (r.item, expr_not_all a us (omega (arith, next)), sum_read a ra d us g tall next)
-        (ap (λ x. Some (s.item a x.0, x.1)) (words.alias_read n ts low));
+      (ap (λ x. Some (s.item a x.0, x.1)) (words.alias_read n ts low));
 }
 
 pub all_of_read : (n : List ℕ) → ReadItem (s.all_of n)
@@ -144,7 +144,7 @@ pub derived_read : (x : s.Query) (c : Correlation) → ReadQuery x → AsTprim (
 derived_read x c rx = λ d ts p g tall low.
     let us = sp.correlation c ts in
     rw (look.is_query x (t.RightParen ∷ us) refl, query_in x rx d (t.RightParen ∷ us) g (omega arith) (omega arith))
-      (ap (λ f. f >>= (λ c. λ us. Some (s.derived x c, us))) (words.correlation_read c ts low))
+    (ap (λ f. f >>= (λ c. λ us. Some (s.derived x c, us))) (words.correlation_read c ts low))
 
 pub joined_read : (x : s.TableRef) → ReadTable x → AsTprim (s.joined x)
 joined_read x rx = λ d ts p g tall low.
@@ -243,7 +243,7 @@ block_read each list from by group having rl rf rb rh = λ d ts p g tall low.
     let lv = group_low group us lu in
     let lw = where_low by vs lv in
     ap (λ v. select_list d v.1 >>= (λ list. λ us. r.from (expr d) (cond d) (query d) (table d) us >>= (λ tables. λ vs. r.block_end (expr d) (cond d) (query d) (table d) v.0 list tables vs)))
-      (words.set_quantifier_read each (sp.select_list list xs) (list_unquantified list xs gl.0))
+    (words.set_quantifier_read each (sp.select_list list xs) (list_unquantified list xs gl.0))
     ∙ rw (
       rl.as_list d xs gl.0 (omega arith) (omega arith),
       rf.as_tables d ws gs.0 gs.1 (omega arith) lw,
@@ -292,5 +292,5 @@ combine_read a b op all ra rb = λ d n m ts g tall low turns.
     let next = (look.set_operator_rank op us).0 in
     ra.as_combined d n (suc m) (sp.set_operator op ∷ us) ga.0 (omega arith) (omega (arith, next)) (omega arith)
     ∙ rw (r.more_qterms, words.set_operator_read op us) (
-      ap (λ v. qterm d v.1 >>= (λ right. qterms d m (s.combine a op v.0 right))) (words.all_read all (sp.query b ts) (no_all b ts))
-      ∙ ap (λ f. f >>= (λ right. qterms d m (s.combine a op all right))) (qterm_read b rb.as_qterm d ts gb.0 gb.1 (omega arith) low))
+    ap (λ v. qterm d v.1 >>= (λ right. qterms d m (s.combine a op v.0 right))) (words.all_read all (sp.query b ts) (no_all b ts))
+    ∙ ap (λ f. f >>= (λ right. qterms d m (s.combine a op all right))) (qterm_read b rb.as_qterm d ts gb.0 gb.1 (omega arith) low))

@@ -1,5 +1,5 @@
 -- Words, names, columns and types that are spelled so are read.
-use Rattle.std.proofs.Common.{◌≡◌, ℕ, zero, suc, ◌+◌, ◌<◌, ◌≤◌, Bool, true, false, List, [], ◌∷◌, Option, Some, None, refl, ◌∙◌, ap, length, arith}
+use Rattle.std.proofs.Common.{◌≡◌, ℕ, zero, suc, ◌<◌, ◌≤◌, Bool, true, false, List, [], ◌∷◌, Option, Some, None, refl, ◌∙◌, ap, length, arith}
 use Rattle.std.specs.Prelude.{if◌then◌else◌}
 use Rattle.sql_text.specs.declared.key.Key.TheVariants as k
 use Rattle.sql_text.specs.declared.token.Token.{Token}
@@ -223,8 +223,10 @@ order_by_read [] true = refl
 order_by_read [] false = refl
 order_by_read (x ∷ xs) b =
     let us = sp.more_sorts xs (sp.semicolon b) in
-    rw (sort_read x us (sorts_undirected xs (sp.semicolon b) (semicolon_after b)),
-      more_sorts_read xs (length us) (sp.semicolon b) (semicolon_after b) (sorts_fit xs (sp.semicolon b))) refl
+    rw (
+      sort_read x us (sorts_undirected xs (sp.semicolon b) (semicolon_after b)),
+      more_sorts_read xs (length us) (sp.semicolon b) (semicolon_after b) (sorts_fit xs (sp.semicolon b)),
+    ) refl
 
 pub semicolon_read : (b : Bool) → text.last_semicolon (sp.semicolon b) ≡ Some b
 semicolon_read true = refl
