@@ -9,10 +9,11 @@ use Rattle.sql_ast.specs.declared.word.Quantifier.{Quantifier}
 use Rattle.sql_ast.specs.Grammatical.{is_test, is_neg, is_conj, some_expr, are_exprs, is_expr, is_cond, is_filter, is_table, is_query}
 use Rattle.sql_ast.specs.Spelling as sp
 use Rattle.sql_ast.specs.Syntax as s
-use Rattle.sql_parser.specs.Ahead.{at_query, ends_query, opens_cond}
+use Rattle.sql_parser.specs.Ahead.{at_query, opens_cond}
 use Rattle.sql_parser.specs.Read as read
 use Rattle.sql_parser.specs.Words.{Found, Parser, ◌>>=◌, closed, quantifier_at, not_at}
-use Rattle.sql_parser.proofs.SoundSteps.{none_some, bind_ok, and_true, and_ok, Takes, Sound, inside, found}
+use Rattle.sql_parser.proofs.Steps.{none_some, bind_ok, and_true, and_ok}
+use Rattle.sql_parser.proofs.SoundSteps.{Takes, Sound, inside, found}
 use Rattle.sql_parser.proofs.SoundWords as word
 use Rattle.sql_parser.proofs.SoundExpressions as below
 use Rattle.sql_parser.proofs.SoundExpressions.{OkExprs, not_lone_list}
@@ -39,9 +40,9 @@ neg_conj (s.either a b) h = absurd (cc)
 neg_conj (s.both a b) h = absurd (cc)
 neg_conj _ h = h
 
-module _ (is : (q : s.Query) (us : List Token) → ends_query us ≡ true → at_query (sp.query q us) ≡ true) (e : Parser s.Expr) (c : Parser s.Cond) (q : Parser s.Query) (j : Parser s.TableRef) (se : Sound is_expr sp.expr e) (sc : Sound is_cond sp.cond c) (sq : Sound is_query sp.query q) (sj : Sound is_table sp.table j) where
+module _ (e : Parser s.Expr) (c : Parser s.Cond) (q : Parser s.Query) (j : Parser s.TableRef) (se : Sound is_expr sp.expr e) (sc : Sound is_cond sp.cond c) (sq : Sound is_query sp.query q) (sj : Sound is_table sp.table j) where
   sum_sound : (ts : List Token) (x : s.Expr × List Token) → read.sum e c q j ts ≡ Some x → Takes is_expr sp.expr ts x
-  sum_sound = below.sum_sound is e c q j se sc sq sj
+  sum_sound = below.sum_sound e c q j se sc sq sj
 
   -- ---- predicates
 
@@ -52,8 +53,8 @@ module _ (is : (q : s.Query) (us : List Token) → ends_query us ≡ true → at
       let i = inside is_query sp.query q sq (s.in_query a negative) ts x h in
       record { grammatical = ap OkTest i.is ∙ and_true _ _ g i.grammatical; tokens = rw i.is (ap (λ u. sp.expr a (sp.optional k.Not negative (t.Key k.In ∷ t.LeftParen ∷ u))) i.tokens) }
   in_at false a negative ts x g look h =
-      let i = inside OkExprs sp.exprs (read.exprs e c q j) (below.list_sound is e c q j se sc sq sj) (s.in_list a negative) ts x h in
-      let alone = not_lone_list is i.value x.1 (ap at_query (sym i.tokens) ∙ look) in
+      let i = inside OkExprs sp.exprs (read.exprs e c q j) (below.list_sound e c q j se sc sq sj) (s.in_list a negative) ts x h in
+      let alone = not_lone_list i.value x.1 (ap at_query (sym i.tokens) ∙ look) in
       let some = and_ok (some_expr i.value) (are_exprs i.value) i.grammatical in
       record {
         grammatical = ap OkTest i.is ∙ and_true _ _ g (and_true _ _ (and_true _ _ some.0 alone) some.1);
@@ -114,7 +115,7 @@ module _ (is : (q : s.Query) (us : List Token) → ends_query us ≡ true → at
       found OkTest sp.cond _ (s.compare a op b.0.0, b.0.1) x
       (record { grammatical = and_true _ _ g p.grammatical; tokens = ap (λ u. sp.expr a (t.Compare op ∷ u)) p.tokens }) b.2
   compared_at (Some each) a op ts x g look h =
-      let i = below.sub_sound is e c q j se sc sq sj (s.quantified a op each.0) each.1 x h in
+      let i = below.sub_sound e c q j se sc sq sj (s.quantified a op each.0) each.1 x h in
       record {
         grammatical = ap OkTest i.is ∙ and_true _ _ g i.grammatical;
         tokens = rw i.is (ap (λ u. sp.expr a (t.Compare op ∷ u)) (word.quantifier_sound ts each look ∙ ap (λ u. sp.quantifier each.0 ∷ u) i.tokens));
@@ -129,7 +130,7 @@ module _ (is : (q : s.Query) (us : List Token) → ends_query us ≡ true → at
 
   pred_sound : (ts : List Token) (x : s.Cond × List Token) → read.pred e c q j ts ≡ Some x → Takes OkTest sp.cond ts x
   pred_sound (t.Key k.Exists ∷ ts) x h =
-      let i = below.sub_sound is e c q j se sc sq sj s.exists ts x h in
+      let i = below.sub_sound e c q j se sc sq sj s.exists ts x h in
       record { grammatical = ap OkTest i.is ∙ i.grammatical; tokens = rw i.is (ap (λ u. t.Key k.Exists ∷ u) i.tokens) }
   pred_sound ts x h =
       let b = bind_ok (read.sum e c q j ts) (read.pred_after e c q j) x h in

@@ -13,25 +13,27 @@ use Rattle.sql_ast.specs.declared.word.Sign.TheVariants as sign
 use Rattle.sql_ast.specs.Grammatical.{is_term, is_factor, is_prim, is_sub, some_expr, some_arm, some_choice, lone_sub, is_expr, are_exprs, is_res, are_arms, are_choices, is_otherwise, is_cond, is_table, is_query}
 use Rattle.sql_ast.specs.Spelling as sp
 use Rattle.sql_ast.specs.Syntax as s
-use Rattle.sql_parser.specs.Ahead.{at_query, ends_query}
+use Rattle.sql_parser.specs.Ahead.{at_query}
 use Rattle.sql_parser.specs.Read as read
 use Rattle.sql_parser.specs.Read.{end_case, starts_when}
 use Rattle.sql_parser.specs.Words.{Found, Parser, ◌>>=◌, closed, additive_at, multiplicative_at, set_quantifier_at, column_after, data_type}
-use Rattle.sql_parser.proofs.SoundSteps.{some_inj, none_some, bind_ok, closed_ok, and_true, and_ok, Takes, Sound, Made, inside, ending, found, in_bracket, to_end}
+use Rattle.sql_parser.proofs.Lookahead as look
+use Rattle.sql_parser.proofs.Steps.{some_inj, none_some, bind_ok, closed_ok, and_true, and_ok}
+use Rattle.sql_parser.proofs.SoundSteps.{Takes, Sound, Made, inside, ending, found, in_bracket, to_end}
 use Rattle.sql_parser.proofs.SoundWords as word
 
 -- ---- what isn't a lone sub
 
-pub not_lone : (is : (q : s.Query) (us : List Token) → ends_query us ≡ true → at_query (sp.query q us) ≡ true) (x : s.Expr) (ts : List Token)
+pub not_lone : (x : s.Expr) (ts : List Token)
     → at_query (sp.expr x (t.RightParen ∷ ts)) ≡ false → not (is_sub x) ≡ true
-not_lone is (s.scalar q) ts h = absurd (let e = is (s.enclosed q) (t.RightParen ∷ ts) refl in cc)
-not_lone is _ ts h = refl
+not_lone (s.scalar q) ts h = absurd (let e = look.is_query (s.enclosed q) (t.RightParen ∷ ts) refl in cc)
+not_lone _ ts h = refl
 
-pub not_lone_list : (is : (q : s.Query) (us : List Token) → ends_query us ≡ true → at_query (sp.query q us) ≡ true) (xs : s.Exprs) (ts : List Token)
+pub not_lone_list : (xs : s.Exprs) (ts : List Token)
     → at_query (sp.exprs xs (t.RightParen ∷ ts)) ≡ false → not (lone_sub xs) ≡ true
-not_lone_list is s.no_expr ts h = refl
-not_lone_list is (s.one_expr a s.no_expr) ts h = not_lone is a ts h
-not_lone_list is (s.one_expr a (s.one_expr b xs)) ts h = refl
+not_lone_list s.no_expr ts h = refl
+not_lone_list (s.one_expr a s.no_expr) ts h = not_lone a ts h
+not_lone_list (s.one_expr a (s.one_expr b xs)) ts h = refl
 
 -- ---- the lines of the grammar
 
@@ -64,7 +66,7 @@ factor_term (s.add a op b) h = absurd (cc)
 factor_term (s.multiply a op b) h = absurd (cc)
 factor_term _ h = h
 
-module _ (is : (q : s.Query) (us : List Token) → ends_query us ≡ true → at_query (sp.query q us) ≡ true) (e : Parser s.Expr) (c : Parser s.Cond) (q : Parser s.Query) (j : Parser s.TableRef) (se : Sound is_expr sp.expr e) (sc : Sound is_cond sp.cond c) (sq : Sound is_query sp.query q) (sj : Sound is_table sp.table j) where
+module _ (e : Parser s.Expr) (c : Parser s.Cond) (q : Parser s.Query) (j : Parser s.TableRef) (se : Sound is_expr sp.expr e) (sc : Sound is_cond sp.cond c) (sq : Sound is_query sp.query q) (sj : Sound is_table sp.table j) where
   -- ---- lists of expressions
 
   more_exprs_sound : (n : ℕ) (ts : List Token) (x : s.Exprs × List Token) → read.more_exprs e c q j n ts ≡ Some x → Takes are_exprs sp.more_exprs ts x
@@ -228,7 +230,7 @@ module _ (is : (q : s.Query) (us : List Token) → ends_query us ≡ true → at
       record { grammatical = ap OkPrim i.is ∙ i.grammatical; tokens = rw i.is (ap (λ u. t.LeftParen ∷ u) i.tokens) }
   at_paren false ts x a h =
       let i = inside is_expr sp.expr e se s.paren ts x h in
-      let alone = not_lone is i.value x.1 (ap at_query (sym i.tokens) ∙ a) in
+      let alone = not_lone i.value x.1 (ap at_query (sym i.tokens) ∙ a) in
       record { grammatical = ap OkPrim i.is ∙ and_true _ _ alone i.grammatical; tokens = rw i.is (ap (λ u. t.LeftParen ∷ u) i.tokens) }
 
   aggregate_sound : (f : SetFunction) (ts : List Token) (x : s.Expr × List Token) → read.aggregate e c q j f ts ≡ Some x → Takes OkPrim sp.expr (sp.set_function f ∷ ts) x

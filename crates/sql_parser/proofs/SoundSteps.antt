@@ -1,34 +1,11 @@
--- What a step of reading that succeeds has done.
-use Rattle.std.proofs.Common.{◌≡◌, Bool, true, false, List, ◌∷◌, Some, None, refl, ◌∙◌, ap, subst}
-use Rattle.std.specs.Prelude.{◌&&◌, not}
+-- What it means that a reader is sound: the tokens that it takes are those of the tree that it gives, and the tree is the grammar's.
+use Rattle.std.proofs.Common.{◌≡◌, Bool, true, List, ◌∷◌, Some, None, refl, ◌∙◌, ap, subst}
 use Rattle.sql_text.specs.declared.key.Key.TheVariants as k
 use Rattle.sql_text.specs.declared.token.Token.{Token}
 use Rattle.sql_text.specs.declared.token.Token.TheVariants as t
 use Rattle.sql_parser.specs.Read.{end_case}
-use Rattle.sql_parser.specs.Words.{Found, Parser, ◌>>=◌, closed}
-
-pub some_inj : {A : Type 0} (x y : A) → Some x ≡ Some y → x ≡ y
-some_inj x y h = cc
-
-pub none_some : {A : Type 0} (y : A) → None ≡ Some y → ⊥
-none_some y h = cc
-
-pub bind_ok : {A B : Type 0} (m : Found A) (f : A → Parser B) (y : B × List Token) → (m >>= f) ≡ Some y
-    → (x : A × List Token) × (m ≡ Some x) × (f x.0 x.1 ≡ Some y)
-bind_ok None f y h = absurd (none_some y h)
-bind_ok (Some x) f y h = (x, refl, h)
-
-pub and_true : (a b : Bool) → a ≡ true → b ≡ true → a && b ≡ true
-and_true a b p q = rw (p, q) refl
-
-pub and_ok : (a b : Bool) → a && b ≡ true → (a ≡ true) × (b ≡ true)
-and_ok true b h = (refl, h)
-and_ok false b h = absurd (cc)
-
-pub closed_ok : {A B : Type 0} (f : A → B) (x : A) (ts : List Token) (r : B × List Token) → closed f x ts ≡ Some r
-    → (r.0 ≡ f x) × (ts ≡ t.RightParen ∷ r.1)
-closed_ok f x (t.RightParen ∷ ts) r h = (cc, cc)
-closed_ok f x _ r h = absurd (none_some r h)
+use Rattle.sql_parser.specs.Words.{Parser, ◌>>=◌, closed}
+use Rattle.sql_parser.proofs.Steps.{some_inj, none_some, bind_ok, closed_ok}
 
 pub end_case_ok : {A B : Type 0} (f : A → B) (x : A) (ts : List Token) (r : B × List Token) → end_case f x ts ≡ Some r
     → (r.0 ≡ f x) × (ts ≡ t.Key k.End ∷ r.1)

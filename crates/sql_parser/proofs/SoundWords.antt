@@ -20,7 +20,7 @@ use Rattle.sql_ast.specs.Grammatical.{some_of}
 use Rattle.sql_ast.specs.Spelling as sp
 use Rattle.sql_parser.specs.Words as w
 use Rattle.sql_parser.specs.Words.{Found, Parser, ◌>>=◌, closed, mapped, JoinKind, inner_join, left_join, cross_join}
-use Rattle.sql_parser.proofs.SoundSteps.{some_inj, none_some, bind_ok, closed_ok}
+use Rattle.sql_parser.proofs.Steps.{some_inj, none_some, bind_ok, mapped_ok, closed_ok}
 
 -- what was found stands for another value that it is
 pub told : {A : Type 0} (spell : A → List Token → List Token) (ts : List Token) (x y : A × List Token) → ts ≡ spell x.0 x.1 → Some x ≡ Some y → ts ≡ spell y.0 y.1
@@ -156,14 +156,11 @@ pub correlation_sound : (ts : List Token) (x : Correlation × List Token) → w.
 correlation_sound (t.Key k.As ∷ ts) x h = correlation_name_sound true ts x h
 correlation_sound ts x h = correlation_name_sound false ts x h
 
-mapped_sound : (o : Found Correlation) (ts : List Token) (x : Option Correlation × List Token)
-    → ((y : Correlation × List Token) → o ≡ Some y → ts ≡ sp.correlation y.0 y.1) → mapped Some o ≡ Some x → ts ≡ sp.optional_correlation x.0 x.1
-mapped_sound None ts x s h = absurd (none_some x h)
-mapped_sound (Some y) ts x s h = told sp.optional_correlation _ (Some y.0, y.1) x (s y refl) h
-
 optional_correlation_at : (b : Bool) (ts : List Token) (x : Option Correlation × List Token) → (if b then mapped Some (w.correlation ts) else Some (None, ts)) ≡ Some x
     → ts ≡ sp.optional_correlation x.0 x.1
-optional_correlation_at true ts x h = mapped_sound (w.correlation ts) ts x (correlation_sound ts) h
+optional_correlation_at true ts x h =
+    let m = mapped_ok Some (w.correlation ts) x h in
+    rw m.2 (correlation_sound ts m.0 m.1)
 optional_correlation_at false ts x h = told sp.optional_correlation _ (None, ts) x refl h
 
 pub optional_correlation_sound : (ts : List Token) (x : Option Correlation × List Token) → w.optional_correlation ts ≡ Some x → ts ≡ sp.optional_correlation x.0 x.1
