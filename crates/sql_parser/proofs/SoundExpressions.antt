@@ -195,18 +195,25 @@ module _ (e : Parser s.Expr) (c : Parser s.Cond) (q : Parser s.Query) (j : Parse
         tokens = rw i.is (ap (λ u. t.Key k.Case ∷ u) (first.tokens ∙ ap (sp.arms b.0.0) i.tokens));
       }
 
+  -- the parts of a simple CASE after its operand
+  choices_on_sound : (a : s.Expr) (ts : List Token) (x : s.Expr × List Token) → is_expr a ≡ true
+      → (read.choices e c q j ts >>= (λ xs. λ us. read.otherwise e c q j us >>= end_case (s.simple a xs))) ≡ Some x → Takes OkPrim sp.expr (t.Key k.Case ∷ sp.expr a ts) x
+  choices_on_sound a ts x g h =
+      let b = bind_ok (read.choices e c q j ts) (λ xs. λ us. read.otherwise e c q j us >>= end_case (s.simple a xs)) x h in
+      let first = choices_sound ts b.0 b.1 in
+      let some = and_ok (some_choice b.0.0) (are_choices b.0.0) first.grammatical in
+      let i = ending is_otherwise sp.otherwise (read.otherwise e c q j) else_sound (s.simple a b.0.0) b.0.1 x b.2 in
+      record {
+        grammatical = ap OkPrim i.is ∙ and_true _ _ g (and_true _ _ some.0 (and_true _ _ some.1 i.grammatical));
+        tokens = rw i.is (ap (λ u. t.Key k.Case ∷ sp.expr a u) (first.tokens ∙ ap (sp.choices b.0.0) i.tokens));
+      }
+
   simple_sound : (ts : List Token) (x : s.Expr × List Token) → read.simple e c q j ts ≡ Some x → Takes OkPrim sp.expr (t.Key k.Case ∷ ts) x
   simple_sound ts x h =
       let b = bind_ok (e ts) (λ a. λ us. read.choices e c q j us >>= (λ xs. λ vs. read.otherwise e c q j vs >>= end_case (s.simple a xs))) x h in
-      let m = bind_ok (read.choices e c q j b.0.1) (λ xs. λ vs. read.otherwise e c q j vs >>= end_case (s.simple b.0.0 xs)) x b.2 in
-      let first = se.holds ts b.0 b.1 in
-      let rest = choices_sound b.0.1 m.0 m.1 in
-      let some = and_ok (some_choice m.0.0) (are_choices m.0.0) rest.grammatical in
-      let i = ending is_otherwise sp.otherwise (read.otherwise e c q j) else_sound (s.simple b.0.0 m.0.0) m.0.1 x m.2 in
-      record {
-        grammatical = ap OkPrim i.is ∙ and_true _ _ first.grammatical (and_true _ _ some.0 (and_true _ _ some.1 i.grammatical));
-        tokens = rw i.is (ap (λ u. t.Key k.Case ∷ u) (first.tokens ∙ ap (sp.expr b.0.0) (rest.tokens ∙ ap (sp.choices m.0.0) i.tokens)));
-      }
+      let p = se.holds ts b.0 b.1 in
+      let m = choices_on_sound b.0.0 b.0.1 x p.grammatical b.2 in
+      record { grammatical = m.grammatical; tokens = ap (λ u. t.Key k.Case ∷ u) p.tokens ∙ m.tokens }
 
   case_at : (b : Bool) (ts : List Token) (x : s.Expr × List Token) → (if b then read.searched e c q j ts else read.simple e c q j ts) ≡ Some x → Takes OkPrim sp.expr (t.Key k.Case ∷ ts) x
   case_at true ts x h = searched_sound ts x h

@@ -6,7 +6,7 @@ use Rattle.sql_text.specs.declared.token.Token.{Token}
 use Rattle.sql_text.specs.declared.token.Token.TheVariants as t
 use Rattle.sql_ast.specs.declared.word.SetOperator.{SetOperator}
 use Rattle.sql_ast.specs.declared.word.SetQuantifier.{SetQuantifier}
-use Rattle.sql_ast.specs.Grammatical.{is_qterm, is_qprim, some_item, is_expr, is_cond, is_item, are_items, is_list, is_table, is_query}
+use Rattle.sql_ast.specs.Grammatical.{is_qterm, is_qprim, some_item, is_expr, is_cond, is_filter, is_item, are_items, is_list, is_table, is_query}
 use Rattle.sql_ast.specs.Spelling as sp
 use Rattle.sql_ast.specs.Syntax as s
 use Rattle.sql_parser.specs.Read as read
@@ -80,21 +80,31 @@ module _ (e : Parser s.Expr) (c : Parser s.Cond) (q : Parser s.Query) (j : Parse
 
   -- ---- SELECT
 
+  -- after WHERE
+  group_on_sound : (each : Option SetQuantifier) (list : s.SelectList) (from : s.TableRefs) (by : s.Filter) (ts : List Token) (x : s.Query × List Token)
+      → is_list list ≡ true → OkTables from ≡ true → is_filter by ≡ true
+      → (group_by ts >>= (λ group. λ us. read.having_filter e c q j us >>= (λ having. λ vs. Some (s.block each list from by group having, vs)))) ≡ Some x
+      → Takes OkQprim sp.query (t.Key k.Select ∷ sp.set_quantifier each (sp.select_list list (tables.spell_from from (sp.filter k.Where by ts)))) x
+  group_on_sound each list from by ts x gl gf gb h =
+      let b = bind_ok (group_by ts) (λ group. λ us. read.having_filter e c q j us >>= (λ having. λ vs. Some (s.block each list from by group having, vs))) x h in
+      let m = bind_ok (read.having_filter e c q j b.0.1) (λ having. λ vs. Some (s.block each list from by b.0.0 having, vs)) x b.2 in
+      let first = word.group_by_sound ts b.0 b.1 in
+      let rest = conditions.having_sound e c q j se sc sq sj b.0.1 m.0 m.1 in
+      found OkQprim sp.query _ (s.block each list from by b.0.0 m.0.0, m.0.1) x
+      (record {
+        grammatical = and_true _ _ gl (and_true _ _ gf (and_true _ _ gb rest.grammatical));
+        tokens =
+          ap (λ u. t.Key k.Select ∷ sp.set_quantifier each (sp.select_list list (tables.spell_from from (sp.filter k.Where by u)))) (first ∙ ap (sp.group_by b.0.0) rest.tokens);
+      }) m.2
+
   block_end_sound : (each : Option SetQuantifier) (list : s.SelectList) (from : s.TableRefs) (ts : List Token) (x : s.Query × List Token) → is_list list ≡ true → OkTables from ≡ true
       → read.block_end e c q j each list from ts ≡ Some x
       → Takes OkQprim sp.query (t.Key k.Select ∷ sp.set_quantifier each (sp.select_list list (tables.spell_from from ts))) x
   block_end_sound each list from ts x gl gf h =
-      let b0 = bind_ok (read.where_filter e c q j ts) (λ by. λ us. group_by us >>= (λ group. λ vs. read.having_filter e c q j vs >>= (λ having. λ ws. Some (s.block each list from by group having, ws)))) x h in
-      let b1 = bind_ok (group_by b0.0.1) (λ group. λ vs. read.having_filter e c q j vs >>= (λ having. λ ws. Some (s.block each list from b0.0.0 group having, ws))) x b0.2 in
-      let b2 = bind_ok (read.having_filter e c q j b1.0.1) (λ having. λ ws. Some (s.block each list from b0.0.0 b1.0.0 having, ws)) x b1.2 in
-      let p0 = conditions.where_sound e c q j se sc sq sj ts b0.0 b0.1 in
-      let p1 = word.group_by_sound b0.0.1 b1.0 b1.1 in
-      let p2 = conditions.having_sound e c q j se sc sq sj b1.0.1 b2.0 b2.1 in
-      found OkQprim sp.query _ (s.block each list from b0.0.0 b1.0.0 b2.0.0, b2.0.1) x
-      (record {
-        grammatical = and_true _ _ gl (and_true _ _ gf (and_true _ _ p0.grammatical p2.grammatical));
-        tokens = ap (λ u. t.Key k.Select ∷ sp.set_quantifier each (sp.select_list list (tables.spell_from from u))) (p0.tokens ∙ ap (sp.filter k.Where b0.0.0) (p1 ∙ ap (sp.group_by b1.0.0) p2.tokens));
-      }) b2.2
+      let b = bind_ok (read.where_filter e c q j ts) (λ by. λ us. group_by us >>= (λ group. λ vs. read.having_filter e c q j vs >>= (λ having. λ ws. Some (s.block each list from by group having, ws)))) x h in
+      let p = conditions.where_sound e c q j se sc sq sj ts b.0 b.1 in
+      let m = group_on_sound each list from b.0.0 b.0.1 x gl gf p.grammatical b.2 in
+      record { grammatical = m.grammatical; tokens = ap (λ u. t.Key k.Select ∷ sp.set_quantifier each (sp.select_list list (tables.spell_from from u))) p.tokens ∙ m.tokens }
 
   from_on_sound : (each : Option SetQuantifier) (list : s.SelectList) (ts : List Token) (x : s.Query × List Token) → is_list list ≡ true
       → (read.from e c q j ts >>= (λ from. λ us. read.block_end e c q j each list from us)) ≡ Some x

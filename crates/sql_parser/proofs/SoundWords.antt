@@ -19,8 +19,9 @@ use Rattle.sql_ast.specs.declared.word.SetOperator.TheVariants as set
 use Rattle.sql_ast.specs.Grammatical.{some_of}
 use Rattle.sql_ast.specs.Spelling as sp
 use Rattle.sql_parser.specs.Words as w
-use Rattle.sql_parser.specs.Words.{Found, Parser, ◌>>=◌, closed, mapped, JoinKind, inner_join, left_join, cross_join}
+use Rattle.sql_parser.specs.Words.{◌>>=◌, mapped, JoinKind, inner_join, left_join, cross_join}
 use Rattle.sql_parser.proofs.Steps.{some_inj, none_some, bind_ok, mapped_ok, closed_ok}
+use Rattle.sql_parser.proofs.SoundSteps.{Takes, inside, found}
 
 -- what was found stands for another value that it is
 pub told : {A : Type 0} (spell : A → List Token → List Token) (ts : List Token) (x y : A × List Token) → ts ≡ spell x.0 x.1 → Some x ≡ Some y → ts ≡ spell y.0 y.1
@@ -91,22 +92,19 @@ pub more_names_sound : (ts : List Token) → ts ≡ sp.more_names (w.more_names 
 more_names_sound (t.Comma ∷ t.Name n ∷ ts) = ap (λ us. t.Comma ∷ t.Name n ∷ us) (more_names_sound ts)
 more_names_sound ts = refl
 
-pub names_sound : (ts : List Token) (x : List (List ℕ) × List Token) → w.names ts ≡ Some x → (some_of x.0 ≡ true) × (ts ≡ sp.names x.0 x.1)
+pub names_sound : (ts : List Token) (x : List (List ℕ) × List Token) → w.names ts ≡ Some x → Takes some_of sp.names ts x
 names_sound (t.Name n ∷ ts) x h =
-    subst (λ y. (some_of y.0 ≡ true) × (t.Name n ∷ ts ≡ sp.names y.0 y.1)) (some_inj (n ∷ (w.more_names ts).0, (w.more_names ts).1) x h)
-    (refl, ap (λ us. t.Name n ∷ us) (more_names_sound ts))
+    found some_of sp.names _ (n ∷ (w.more_names ts).0, (w.more_names ts).1) x (record { grammatical = refl; tokens = ap (λ us. t.Name n ∷ us) (more_names_sound ts) }) h
 names_sound _ x h = absurd (none_some x h)
 
-pub column_list_of : (ns : List (List ℕ)) (ts : List Token) → some_of ns ≡ true → t.LeftParen ∷ sp.names ns (t.RightParen ∷ ts) ≡ sp.column_list ns ts
+column_list_of : (ns : List (List ℕ)) (ts : List Token) → some_of ns ≡ true → t.LeftParen ∷ sp.names ns (t.RightParen ∷ ts) ≡ sp.column_list ns ts
 column_list_of [] ts h = absurd (cc)
 column_list_of (n ∷ ns) ts h = refl
 
 pub column_list_sound : (ts : List Token) (x : List (List ℕ) × List Token) → w.column_list ts ≡ Some x → ts ≡ sp.column_list x.0 x.1
 column_list_sound (t.LeftParen ∷ ts) x h =
-    let b = bind_ok (w.names ts) (closed (λ ns. ns)) x h in
-    let e = closed_ok (λ ns. ns) b.0.0 b.0.1 x b.2 in
-    let p = names_sound ts b.0 b.1 in
-    ap (λ us. t.LeftParen ∷ us) (p.1 ∙ ap (sp.names b.0.0) e.1) ∙ column_list_of b.0.0 x.1 p.0 ∙ ap (λ ns. sp.column_list ns x.1) (sym e.0)
+    let i = inside some_of sp.names w.names (record { holds = names_sound }) (λ ns. ns) ts x h in
+    rw i.is (ap (λ us. t.LeftParen ∷ us) i.tokens ∙ column_list_of i.value x.1 i.grammatical)
 column_list_sound ts x h = told sp.column_list _ ([], ts) x refl h
 
 pub column_after_sound : (n : List ℕ) (ts : List Token) (x : Column × List Token) → w.column_after n ts ≡ Some x → t.Name n ∷ ts ≡ sp.column x.0 x.1
