@@ -1,5 +1,5 @@
 -- What it means that a reader is sound: the tokens that it takes are those of the tree that it gives, and the tree is the grammar's.
-use Rattle.std.proofs.Common.{◌≡◌, Bool, true, List, ◌∷◌, Some, None, refl, ◌∙◌, ap, subst}
+use Rattle.std.proofs.Common.{◌≡◌, Bool, true, List, ◌∷◌, Some, ◌∙◌, ap, subst}
 use Rattle.sql_text.specs.declared.key.Key.TheVariants as k
 use Rattle.sql_text.specs.declared.token.Token.{Token}
 use Rattle.sql_text.specs.declared.token.Token.TheVariants as t

@@ -1,5 +1,5 @@
 -- What is read is spelled so: tables and their joins.
-use Rattle.std.proofs.Common.{◌≡◌, ℕ, zero, suc, Bool, true, false, List, [], ◌∷◌, Some, None, refl, sym, ◌∙◌, ap, length}
+use Rattle.std.proofs.Common.{◌≡◌, ℕ, zero, suc, Bool, true, false, List, ◌∷◌, Some, None, refl, ◌∙◌, ap, length}
 use Rattle.std.specs.Prelude.{◌&&◌, not, if◌then◌else◌}
 use Rattle.sql_text.specs.declared.key.Key.TheVariants as k
 use Rattle.sql_text.specs.declared.token.Token.{Token}
@@ -19,11 +19,15 @@ use Rattle.sql_parser.proofs.SoundConditions as below
 
 -- ---- the lines of the grammar
 
-abbrev pub OkTprim : s.TableRef → Bool
-OkTprim x = is_tprim x && is_table x
+abbrev pub ok_tprim : s.TableRef → Bool
+ok_tprim x = is_tprim x && is_table x
 
-abbrev pub OkTables : s.TableRefs → Bool
-OkTables xs = some_table xs && are_tables xs
+abbrev pub ok_tables : s.TableRefs → Bool
+ok_tables xs = some_table xs && are_tables xs
+
+-- ON and its condition
+abbrev spell_on : s.Cond → List Token → List Token
+spell_on x ts = t.Key k.On ∷ sp.cond x ts
 
 -- FROM and its tables
 abbrev pub spell_from : s.TableRefs → List Token → List Token
@@ -31,24 +35,24 @@ spell_from xs ts = t.Key k.From ∷ sp.tables xs ts
 
 -- ---- what closes a bracket
 
-derived_sound : (x : s.Query) (ts : List Token) (y : s.TableRef × List Token) → is_query x ≡ true → name_derived x ts ≡ Some y → Takes OkTprim sp.table (t.LeftParen ∷ sp.query x ts) y
+derived_sound : (x : s.Query) (ts : List Token) (y : s.TableRef × List Token) → is_query x ≡ true → name_derived x ts ≡ Some y → Takes ok_tprim sp.table (t.LeftParen ∷ sp.query x ts) y
 derived_sound x (t.RightParen ∷ ts) y g h =
     let b = bind_ok (correlation ts) (λ c. λ us. Some (s.derived x c, us)) y h in
-    found OkTprim sp.table _ (s.derived x b.0.0, b.0.1) y
+    found ok_tprim sp.table _ (s.derived x b.0.0, b.0.1) y
     (record { grammatical = g; tokens = ap (λ u. t.LeftParen ∷ sp.query x (t.RightParen ∷ u)) (word.correlation_sound ts b.0 b.1) }) b.2
 derived_sound x _ y g h = absurd (none_some y h)
 
 close_join_at : (b : Bool) (x : s.TableRef) (ts : List Token) (y : s.TableRef × List Token) → is_tprim x ≡ b → is_table x ≡ true
-    → (if b then None else Some (s.joined x, ts)) ≡ Some y → Takes OkTprim sp.table (t.LeftParen ∷ sp.table x (t.RightParen ∷ ts)) y
+    → (if b then None else Some (s.joined x, ts)) ≡ Some y → Takes ok_tprim sp.table (t.LeftParen ∷ sp.table x (t.RightParen ∷ ts)) y
 close_join_at true x ts y p g h = absurd (none_some y h)
-close_join_at false x ts y p g h = found OkTprim sp.table _ (s.joined x, ts) y (record { grammatical = and_true _ _ (ap not p) g; tokens = refl }) h
+close_join_at false x ts y p g h = found ok_tprim sp.table _ (s.joined x, ts) y (record { grammatical = and_true _ _ (ap not p) g; tokens = refl }) h
 
-close_join_sound : (x : s.TableRef) (ts : List Token) (y : s.TableRef × List Token) → is_table x ≡ true → close_join x ts ≡ Some y → Takes OkTprim sp.table (t.LeftParen ∷ sp.table x ts) y
+close_join_sound : (x : s.TableRef) (ts : List Token) (y : s.TableRef × List Token) → is_table x ≡ true → close_join x ts ≡ Some y → Takes ok_tprim sp.table (t.LeftParen ∷ sp.table x ts) y
 close_join_sound x (t.RightParen ∷ ts) y g h = close_join_at (is_tprim x) x ts y refl g h
 close_join_sound x _ y g h = absurd (none_some y h)
 
 module _ (e : Parser s.Expr) (c : Parser s.Cond) (q : Parser s.Query) (j : Parser s.TableRef) (se : Sound is_expr sp.expr e) (sc : Sound is_cond sp.cond c) (sq : Sound is_query sp.query q) (sj : Sound is_table sp.table j) where
-  tprim_at : (b : Bool) (ts : List Token) (x : s.TableRef × List Token) → (if b then (q ts >>= name_derived) else (j ts >>= close_join)) ≡ Some x → Takes OkTprim sp.table (t.LeftParen ∷ ts) x
+  tprim_at : (b : Bool) (ts : List Token) (x : s.TableRef × List Token) → (if b then (q ts >>= name_derived) else (j ts >>= close_join)) ≡ Some x → Takes ok_tprim sp.table (t.LeftParen ∷ ts) x
   tprim_at true ts x h =
       let b = bind_ok (q ts) name_derived x h in
       let p = sq.holds ts b.0 b.1 in
@@ -60,18 +64,14 @@ module _ (e : Parser s.Expr) (c : Parser s.Cond) (q : Parser s.Query) (j : Parse
       let m = close_join_sound b.0.0 b.0.1 x p.grammatical b.2 in
       record { grammatical = m.grammatical; tokens = ap (λ u. t.LeftParen ∷ u) p.tokens ∙ m.tokens }
 
-  tprim_sound : (ts : List Token) (x : s.TableRef × List Token) → read.tprim e c q j ts ≡ Some x → Takes OkTprim sp.table ts x
+  tprim_sound : (ts : List Token) (x : s.TableRef × List Token) → read.tprim e c q j ts ≡ Some x → Takes ok_tprim sp.table ts x
   tprim_sound (t.Name n ∷ ts) x h =
       let b = bind_ok (optional_correlation ts) (λ y. λ us. Some (s.named n y, us)) x h in
-      found OkTprim sp.table _ (s.named n b.0.0, b.0.1) x (record { grammatical = refl; tokens = ap (λ u. t.Name n ∷ u) (word.optional_correlation_sound ts b.0 b.1) }) b.2
+      found ok_tprim sp.table _ (s.named n b.0.0, b.0.1) x (record { grammatical = refl; tokens = ap (λ u. t.Name n ∷ u) (word.optional_correlation_sound ts b.0 b.1) }) b.2
   tprim_sound (t.LeftParen ∷ ts) x h = tprim_at (at_query ts) ts x h
   tprim_sound _ x h = absurd (none_some x h)
 
   -- ---- joins
-
-  -- ON and its condition
-  abbrev spell_on : s.Cond → List Token → List Token
-  spell_on x ts = t.Key k.On ∷ sp.cond x ts
 
   on_sound : (ts : List Token) (x : s.Cond × List Token) → read.on e c q j ts ≡ Some x → Takes is_cond spell_on ts x
   on_sound (t.Key k.On ∷ ts) x h =
@@ -79,7 +79,7 @@ module _ (e : Parser s.Expr) (c : Parser s.Cond) (q : Parser s.Query) (j : Parse
       record { grammatical = p.grammatical; tokens = ap (λ u. t.Key k.On ∷ u) p.tokens }
   on_sound _ x h = absurd (none_some x h)
 
-  inner_sound : (left : s.TableRef) (inner : Bool) (right : s.TableRef) (ts : List Token) (x : s.TableRef × List Token) → is_table left ≡ true → OkTprim right ≡ true
+  inner_sound : (left : s.TableRef) (inner : Bool) (right : s.TableRef) (ts : List Token) (x : s.TableRef × List Token) → is_table left ≡ true → ok_tprim right ≡ true
       → (read.on e c q j ts >>= (λ y. λ us. Some (s.join left inner right y, us))) ≡ Some x
       → Takes is_table sp.table (sp.table left (join_words (inner_join inner) (sp.table right ts))) x
   inner_sound left inner right ts x gl gr h =
@@ -92,7 +92,7 @@ module _ (e : Parser s.Expr) (c : Parser s.Cond) (q : Parser s.Query) (j : Parse
       }) b.2
 
   left_at : (b : Bool) (left : s.TableRef) (outer : Bool) (right : s.TableRef) (y : s.Cond) (ts : List Token) (x : s.TableRef × List Token)
-      → is_table left ≡ true → OkTprim right ≡ true → is_cond y ≡ true → cond_without_sub y ≡ b
+      → is_table left ≡ true → ok_tprim right ≡ true → is_cond y ≡ true → cond_without_sub y ≡ b
       → (if b then Some (s.left_join left outer right y, ts) else None) ≡ Some x
       → Takes is_table sp.table (sp.table left (join_words (left_join outer) (sp.table right (spell_on y ts)))) x
   left_at true left outer right y ts x gl gr gy alone h =
@@ -100,7 +100,7 @@ module _ (e : Parser s.Expr) (c : Parser s.Cond) (q : Parser s.Query) (j : Parse
       (record { grammatical = and_true _ _ gl (and_true _ _ gr (and_true _ _ gy alone)); tokens = refl }) h
   left_at false left outer right y ts x gl gr gy alone h = absurd (none_some x h)
 
-  left_sound : (left : s.TableRef) (outer : Bool) (right : s.TableRef) (ts : List Token) (x : s.TableRef × List Token) → is_table left ≡ true → OkTprim right ≡ true
+  left_sound : (left : s.TableRef) (outer : Bool) (right : s.TableRef) (ts : List Token) (x : s.TableRef × List Token) → is_table left ≡ true → ok_tprim right ≡ true
       → (read.on e c q j ts >>= read.left_joined e c q j left outer right) ≡ Some x
       → Takes is_table sp.table (sp.table left (join_words (left_join outer) (sp.table right ts))) x
   left_sound left outer right ts x gl gr h =
@@ -164,16 +164,16 @@ module _ (e : Parser s.Expr) (c : Parser s.Cond) (q : Parser s.Query) (j : Parse
       (record { grammatical = and_true _ _ first.grammatical rest.grammatical; tokens = ap (λ u. t.Comma ∷ u) (first.tokens ∙ ap (sp.table b.0.0) rest.tokens) }) m.2
   more_tables_sound (suc n) ts x h = found are_tables sp.more_tables _ (s.no_table, ts) x (record { grammatical = refl; tokens = refl }) h
 
-  tables_sound : (ts : List Token) (x : s.TableRefs × List Token) → read.tables e c q j ts ≡ Some x → Takes OkTables sp.tables ts x
+  tables_sound : (ts : List Token) (x : s.TableRefs × List Token) → read.tables e c q j ts ≡ Some x → Takes ok_tables sp.tables ts x
   tables_sound ts x h =
       let b = bind_ok (read.tref e c q j ts) (λ y. λ us. read.more_tables e c q j (length us) us >>= (λ ys. λ vs. Some (s.one_table y ys, vs))) x h in
       let m = bind_ok (read.more_tables e c q j (length b.0.1) b.0.1) (λ ys. λ vs. Some (s.one_table b.0.0 ys, vs)) x b.2 in
       let first = tref_sound ts b.0 b.1 in
       let rest = more_tables_sound (length b.0.1) b.0.1 m.0 m.1 in
-      found OkTables sp.tables _ (s.one_table b.0.0 m.0.0, m.0.1) x
+      found ok_tables sp.tables _ (s.one_table b.0.0 m.0.0, m.0.1) x
       (record { grammatical = and_true _ _ first.grammatical rest.grammatical; tokens = first.tokens ∙ ap (sp.table b.0.0) rest.tokens }) m.2
 
-  pub from_sound : (ts : List Token) (x : s.TableRefs × List Token) → read.from e c q j ts ≡ Some x → Takes OkTables spell_from ts x
+  pub from_sound : (ts : List Token) (x : s.TableRefs × List Token) → read.from e c q j ts ≡ Some x → Takes ok_tables spell_from ts x
   from_sound (t.Key k.From ∷ ts) x h =
       let p = tables_sound ts x h in
       record { grammatical = p.grammatical; tokens = ap (λ u. t.Key k.From ∷ u) p.tokens }
