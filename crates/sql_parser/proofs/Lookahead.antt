@@ -16,7 +16,7 @@ use Rattle.sql_ast.specs.declared.word.Sign.{Sign}
 use Rattle.sql_ast.specs.declared.word.Sign.TheVariants as sign
 use Rattle.sql_ast.specs.Syntax as s
 use Rattle.sql_ast.specs.Spelling as sp
-use Rattle.sql_ast.specs.Grammatical.{is_sub, is_expr, are_exprs, some_expr, lone_sub, is_factor, is_term}
+use Rattle.sql_ast.specs.Grammatical.{is_sub, is_expr, are_exprs, some_expr, lone_sub, is_prim, is_factor, is_term}
 use Rattle.sql_parser.specs.Ahead.{after, ends_query, at_query, goes_on, opens_cond}
 use Rattle.sql_parser.proofs.Steps.{and_ok, and_false, not_ok}
 use Rattle.sql_parser.proofs.Balanced as balanced
@@ -104,11 +104,11 @@ starts (t.Key k.NullIf ∷ ts) = true
 starts (t.Key k.Cast ∷ ts) = true
 starts _ = false
 
--- a factor's, where it has no sign
-abbrev pub has_sign : List Token → Bool
-has_sign (t.Plus ∷ ts) = true
-has_sign (t.Minus ∷ ts) = true
-has_sign _ = false
+-- a prim's
+abbrev pub begins : List Token → Bool
+begins (t.Plus ∷ ts) = false
+begins (t.Minus ∷ ts) = false
+begins ts = starts ts
 
 column_starts : (range : Option (List ℕ)) (name : List ℕ) (ts : List Token) → starts (sp.column (record { range = range; name = name }) ts) ≡ true
 column_starts (Some r) name ts = refl
@@ -141,6 +141,34 @@ expr_starts (s.simple a xs o) ts = refl
 expr_starts (s.coalesce a xs) ts = refl
 expr_starts (s.null_if a b) ts = refl
 expr_starts (s.cast_null d) ts = refl
+
+column_begins : (range : Option (List ℕ)) (name : List ℕ) (ts : List Token) → begins (sp.column (record { range = range; name = name }) ts) ≡ true
+column_begins (Some r) name ts = refl
+column_begins None name ts = refl
+
+function_begins : (f : SetFunction) (ts : List Token) → begins (sp.set_function f ∷ ts) ≡ true
+function_begins of.Count ts = refl
+function_begins of.Sum ts = refl
+function_begins of.Avg ts = refl
+function_begins of.Min ts = refl
+function_begins of.Max ts = refl
+
+pub prim_begins : (x : s.Expr) (ts : List Token) → is_prim x ≡ true → begins (sp.expr x ts) ≡ true
+prim_begins (s.add a op b) ts p = absurd (cc)
+prim_begins (s.multiply a op b) ts p = absurd (cc)
+prim_begins (s.signed q a) ts p = absurd (cc)
+prim_begins (s.number n) ts p = refl
+prim_begins (s.string x) ts p = refl
+prim_begins (s.col c) ts p = column_begins c.range c.name ts
+prim_begins (s.paren a) ts p = refl
+prim_begins (s.scalar q) ts p = refl
+prim_begins s.count_all ts p = refl
+prim_begins (s.aggregate f each a) ts p = function_begins f _
+prim_begins (s.searched xs o) ts p = refl
+prim_begins (s.simple a xs o) ts p = refl
+prim_begins (s.coalesce a xs) ts p = refl
+prim_begins (s.null_if a b) ts p = refl
+prim_begins (s.cast_null d) ts p = refl
 
 -- ---- an operand isn't a condition in brackets
 
