@@ -1,6 +1,12 @@
 //! Schemas and queries from tokens.
 #![tactic(auto)]
 
+mod ahead;
+mod case;
+mod condition;
+mod expression;
+mod grammar;
 mod refusal;
+mod sub;
 
 pub use refusal::ParseRefusal;
