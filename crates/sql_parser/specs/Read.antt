@@ -182,8 +182,9 @@ module _ (e : Parser s.Expr) (c : Parser s.Cond) (q : Parser s.Query) (j : Parse
   abbrev pub more_factors : ℕ → s.Expr → Parser s.Expr
   more_factors zero left ts = Some (left, ts)
   more_factors (suc n) left ts = elim (multiplicative_at ts) as (λ _. Found s.Expr) [
-    None ↦ Some (left, ts)
-    | Some r ↦ factor r.1 >>= (λ right. more_factors n (s.multiply left r.0 right)) ]
+    | None ↦ Some (left, ts)
+    | Some r ↦ factor r.1 >>= (λ right. more_factors n (s.multiply left r.0 right))
+  ]
 
   -- term = factor { ( "*" | "/" ) factor }
   abbrev pub term : Parser s.Expr
@@ -193,8 +194,9 @@ module _ (e : Parser s.Expr) (c : Parser s.Cond) (q : Parser s.Query) (j : Parse
   abbrev pub more_terms : ℕ → s.Expr → Parser s.Expr
   more_terms zero left ts = Some (left, ts)
   more_terms (suc n) left ts = elim (additive_at ts) as (λ _. Found s.Expr) [
-    None ↦ Some (left, ts)
-    | Some r ↦ term r.1 >>= (λ right. more_terms n (s.add left r.0 right)) ]
+    | None ↦ Some (left, ts)
+    | Some r ↦ term r.1 >>= (λ right. more_terms n (s.add left r.0 right))
+  ]
 
   -- expr = term { ( "+" | "-" | "||" ) term }
   abbrev pub sum : Parser s.Expr
@@ -231,8 +233,9 @@ module _ (e : Parser s.Expr) (c : Parser s.Cond) (q : Parser s.Query) (j : Parse
   -- expr | ( ANY | SOME | ALL ) sub, after a comparison sign
   abbrev pub compared : s.Expr → CmpOp → Parser s.Cond
   compared x op ts = elim (quantifier_at ts) as (λ _. Found s.Cond) [
-    None ↦ sum ts >>= (λ a. λ us. Some (s.compare x op a, us))
-    | Some r ↦ sub (s.quantified x op r.0) r.1 ]
+    | None ↦ sum ts >>= (λ a. λ us. Some (s.compare x op a, us))
+    | Some r ↦ sub (s.quantified x op r.0) r.1
+  ]
 
   -- what follows the first operand of a predicate
   abbrev pub pred_after : s.Expr → Parser s.Cond
@@ -314,8 +317,9 @@ module _ (e : Parser s.Expr) (c : Parser s.Cond) (q : Parser s.Query) (j : Parse
   abbrev pub more_joins : ℕ → s.TableRef → Parser s.TableRef
   more_joins zero left ts = Some (left, ts)
   more_joins (suc n) left ts = elim (join_at ts) as (λ _. Found s.TableRef) [
-    None ↦ Some (left, ts)
-    | Some r ↦ join_after left r.0 r.1 >>= more_joins n ]
+    | None ↦ Some (left, ts)
+    | Some r ↦ join_after left r.0 r.1 >>= more_joins n
+  ]
 
   -- tref = tprim { join }
   abbrev pub tref : Parser s.TableRef
@@ -341,8 +345,9 @@ module _ (e : Parser s.Expr) (c : Parser s.Cond) (q : Parser s.Query) (j : Parse
   -- item = expr [ [ AS ] name ] | name "." "*"
   abbrev pub item : Parser s.Item
   item ts = elim (all_of_at ts) as (λ _. Found s.Item) [
-    None ↦ sum ts >>= (λ a. λ us. Some (s.item a (alias_at us).0, (alias_at us).1))
-    | Some r ↦ Some (s.all_of r.0, r.1) ]
+    | None ↦ sum ts >>= (λ a. λ us. Some (s.item a (alias_at us).0, (alias_at us).1))
+    | Some r ↦ Some (s.all_of r.0, r.1)
+  ]
 
   -- { "," item }
   abbrev pub more_items : ℕ → Parser s.Items
@@ -386,8 +391,9 @@ module _ (e : Parser s.Expr) (c : Parser s.Cond) (q : Parser s.Query) (j : Parse
   abbrev pub more_qterms : ℕ → s.Query → Parser s.Query
   more_qterms zero left ts = Some (left, ts)
   more_qterms (suc n) left ts = elim (set_operator_at ts) as (λ _. Found s.Query) [
-    None ↦ Some (left, ts)
-    | Some r ↦ qterm (all_at r.1).1 >>= (λ right. more_qterms n (s.combine left r.0 (all_at r.1).0 right)) ]
+    | None ↦ Some (left, ts)
+    | Some r ↦ qterm (all_at r.1).1 >>= (λ right. more_qterms n (s.combine left r.0 (all_at r.1).0 right))
+  ]
 
   -- query = qterm { ( UNION | EXCEPT ) [ ALL ] qterm }
   abbrev pub combined : Parser s.Query

@@ -151,23 +151,51 @@ pub(crate) fn join_at(ts: &[Spanned]) -> Option<(JoinKind, &[Spanned])>
     ensures { option_map (λ x. (x.0, token_list x.1.now)) result ≡ words.join_at (token_list ts.now) }
 {
     match ts {
-        [Spanned { token: Token::Key(Key::Join), .. }, rest @ ..] => {
-            Some((JoinKind::Inner(false), rest))
-        }
         [
-            Spanned { token: Token::Key(Key::Inner), .. },
-            Spanned { token: Token::Key(Key::Join), .. },
+            Spanned {
+                token: Token::Key(Key::Join),
+                ..
+            },
+            rest @ ..,
+        ] => { Some((JoinKind::Inner(false), rest)) }
+        [
+            Spanned {
+                token: Token::Key(Key::Inner),
+                ..
+            },
+            Spanned {
+                token: Token::Key(Key::Join),
+                ..
+            },
             rest @ ..,
         ] => Some((JoinKind::Inner(true), rest)),
         [
-            Spanned { token: Token::Key(Key::Left), .. },
-            Spanned { token: Token::Key(Key::Outer), .. },
+            Spanned {
+                token: Token::Key(Key::Left),
+                ..
+            },
+            Spanned {
+                token: Token::Key(Key::Outer),
+                ..
+            },
             rest @ ..,
         ] => after_left(true, rest),
-        [Spanned { token: Token::Key(Key::Left), .. }, rest @ ..] => after_left(false, rest),
         [
-            Spanned { token: Token::Key(Key::Cross), .. },
-            Spanned { token: Token::Key(Key::Join), .. },
+            Spanned {
+                token: Token::Key(Key::Left),
+                ..
+            },
+            rest @ ..,
+        ] => after_left(false, rest),
+        [
+            Spanned {
+                token: Token::Key(Key::Cross),
+                ..
+            },
+            Spanned {
+                token: Token::Key(Key::Join),
+                ..
+            },
             rest @ ..,
         ] => Some((JoinKind::Cross, rest)),
         _ => None,
@@ -182,8 +210,14 @@ fn comma_name(ts: &[Spanned]) -> Option<(&Name, &[Spanned])>
 {
     match ts {
         [
-            Spanned { token: Token::Comma, .. },
-            Spanned { token: Token::Name(name), .. },
+            Spanned {
+                token: Token::Comma,
+                ..
+            },
+            Spanned {
+                token: Token::Name(name),
+                ..
+            },
             rest @ ..,
         ] => Some((name, rest)),
         _ => None,
@@ -242,15 +276,33 @@ pub(crate) fn column_after<'a>(
 {
     match ts {
         [
-            Spanned { token: Token::Dot, .. },
-            Spanned { token: Token::Name(column), .. },
+            Spanned {
+                token: Token::Dot,
+                ..
+            },
+            Spanned {
+                token: Token::Name(column),
+                ..
+            },
             rest @ ..,
         ] => {
             let range = name.copy(alloc)?;
             let name = column.copy(alloc)?;
-            Ok((Column { range: Some(range), name }, rest))
+            Ok((
+                Column {
+                    range: Some(range),
+                    name,
+                },
+                rest,
+            ))
         }
-        [Spanned { token: Token::Dot, .. }, ..] => Err(ParseRefusal::Syntax),
+        [
+            Spanned {
+                token: Token::Dot,
+                ..
+            },
+            ..
+        ] => Err(ParseRefusal::Syntax),
         _ => {
             let name = name.copy(alloc)?;
             Ok((Column { range: None, name }, ts))
@@ -298,8 +350,14 @@ pub(crate) fn group_by(
 {
     match ts {
         [
-            Spanned { token: Token::Key(Key::Group), .. },
-            Spanned { token: Token::Key(Key::By), .. },
+            Spanned {
+                token: Token::Key(Key::Group),
+                ..
+            },
+            Spanned {
+                token: Token::Key(Key::By),
+                ..
+            },
             rest @ ..,
         ] => columns(alloc, rest),
         _ => Ok((Items::new(alloc), ts)),
@@ -315,14 +373,26 @@ pub(crate) fn alias_at(
 {
     match ts {
         [
-            Spanned { token: Token::Key(Key::As), .. },
-            Spanned { token: Token::Name(name), .. },
+            Spanned {
+                token: Token::Key(Key::As),
+                ..
+            },
+            Spanned {
+                token: Token::Name(name),
+                ..
+            },
             rest @ ..,
         ] => {
             let name = name.copy(alloc)?;
             Ok((Some(Alias { noise: true, name }), rest))
         }
-        [Spanned { token: Token::Name(name), .. }, rest @ ..] => {
+        [
+            Spanned {
+                token: Token::Name(name),
+                ..
+            },
+            rest @ ..,
+        ] => {
             let name = name.copy(alloc)?;
             Ok((Some(Alias { noise: false, name }), rest))
         }
@@ -343,7 +413,14 @@ fn correlation_name(
     };
     let (columns, rest) = column_list(alloc, rest)?;
     let name = name.copy(alloc)?;
-    Ok((Correlation { noise, name, columns }, rest))
+    Ok((
+        Correlation {
+            noise,
+            name,
+            columns,
+        },
+        rest,
+    ))
 }
 
 /// `[ AS ] name [ "(" names ")" ]`
@@ -387,9 +464,18 @@ pub(crate) fn all_of_at(ts: &[Spanned]) -> Option<(&Name, &[Spanned])>
 {
     match ts {
         [
-            Spanned { token: Token::Name(name), .. },
-            Spanned { token: Token::Dot, .. },
-            Spanned { token: Token::Star, .. },
+            Spanned {
+                token: Token::Name(name),
+                ..
+            },
+            Spanned {
+                token: Token::Dot,
+                ..
+            },
+            Spanned {
+                token: Token::Star,
+                ..
+            },
             rest @ ..,
         ] => Some((name, rest)),
         _ => None,
@@ -402,8 +488,14 @@ fn varchar_length(ts: &[Spanned]) -> Result<(DataType, &[Spanned]), ParseRefusal
 {
     match ts {
         [
-            Spanned { token: Token::LeftParen, .. },
-            Spanned { token: Token::Number(most), .. },
+            Spanned {
+                token: Token::LeftParen,
+                ..
+            },
+            Spanned {
+                token: Token::Number(most),
+                ..
+            },
             rest @ ..,
         ] => {
             let rest = close(rest)?;
