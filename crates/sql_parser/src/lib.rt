@@ -8,5 +8,6 @@ mod expression;
 mod grammar;
 mod refusal;
 mod sub;
+mod word;
 
 pub use refusal::ParseRefusal;
