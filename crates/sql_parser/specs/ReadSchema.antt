@@ -9,7 +9,7 @@ use Rattle.sql_ast.specs.declared.schema.Element.{Element}
 use Rattle.sql_ast.specs.declared.schema.Element.TheVariants as el
 use Rattle.sql_ast.specs.Syntax as s
 use Rattle.sql_parser.specs.Read.{query}
-use Rattle.sql_parser.specs.Words.{Found, Parser, ◌>>=◌, closed, names, closed_names, column_list, data_type}
+use Rattle.sql_parser.specs.Words.{Parser, ◌>>=◌, closed, names, column_list, data_type}
 
 -- { NOT NULL | PRIMARY KEY | UNIQUE }, as far as it goes
 abbrev pub constraints : List Token → List ColumnConstraint × List Token
