@@ -66,26 +66,34 @@ module _ (e : Parser s.Expr) (c : Parser s.Cond) (q : Parser s.Query) (j : Parse
   then_res a (t.Key k.Then ∷ ts) = res ts >>= (λ r. λ us. Some ((a, r), us))
   then_res a _ = None
 
+  -- cond THEN res, after WHEN
+  abbrev pub arm : Parser (s.Cond × s.Res)
+  arm ts = c ts >>= then_res
+
+  -- expr THEN res, after WHEN
+  abbrev pub choice : Parser (s.Expr × s.Res)
+  choice ts = e ts >>= then_res
+
   -- { WHEN cond THEN res }
   abbrev pub more_arms : ℕ → Parser s.Arms
   more_arms zero ts = Some (s.no_arm, ts)
-  more_arms (suc n) (t.Key k.When ∷ ts) = (c ts >>= then_res) >>= (λ a. λ us. more_arms n us >>= (λ xs. λ vs. Some (s.one_arm a.0 a.1 xs, vs)))
+  more_arms (suc n) (t.Key k.When ∷ ts) = arm ts >>= (λ a. λ us. more_arms n us >>= (λ xs. λ vs. Some (s.one_arm a.0 a.1 xs, vs)))
   more_arms (suc n) ts = Some (s.no_arm, ts)
 
   -- WHEN cond THEN res { WHEN cond THEN res }
   abbrev pub arms : Parser s.Arms
-  arms (t.Key k.When ∷ ts) = (c ts >>= then_res) >>= (λ a. λ us. more_arms (length us) us >>= (λ xs. λ vs. Some (s.one_arm a.0 a.1 xs, vs)))
+  arms (t.Key k.When ∷ ts) = arm ts >>= (λ a. λ us. more_arms (length us) us >>= (λ xs. λ vs. Some (s.one_arm a.0 a.1 xs, vs)))
   arms _ = None
 
   -- { WHEN expr THEN res }
   abbrev pub more_choices : ℕ → Parser s.Choices
   more_choices zero ts = Some (s.no_choice, ts)
-  more_choices (suc n) (t.Key k.When ∷ ts) = (e ts >>= then_res) >>= (λ a. λ us. more_choices n us >>= (λ xs. λ vs. Some (s.one_choice a.0 a.1 xs, vs)))
+  more_choices (suc n) (t.Key k.When ∷ ts) = choice ts >>= (λ a. λ us. more_choices n us >>= (λ xs. λ vs. Some (s.one_choice a.0 a.1 xs, vs)))
   more_choices (suc n) ts = Some (s.no_choice, ts)
 
   -- WHEN expr THEN res { WHEN expr THEN res }
   abbrev pub choices : Parser s.Choices
-  choices (t.Key k.When ∷ ts) = (e ts >>= then_res) >>= (λ a. λ us. more_choices (length us) us >>= (λ xs. λ vs. Some (s.one_choice a.0 a.1 xs, vs)))
+  choices (t.Key k.When ∷ ts) = choice ts >>= (λ a. λ us. more_choices (length us) us >>= (λ xs. λ vs. Some (s.one_choice a.0 a.1 xs, vs)))
   choices _ = None
 
   -- [ ELSE res ]

@@ -24,9 +24,7 @@ fn expr_without_sub(x: &Expr) -> bool
         Expr::Aggregate(_, _, a) => expr_without_sub(a),
         Expr::Searched(xs, o) => arms_without_sub(xs.as_slice()) && otherwise_without_sub(o),
         Expr::Simple(a, xs, o) => {
-            expr_without_sub(a)
-                && choices_without_sub(xs.as_slice())
-                && otherwise_without_sub(o)
+            expr_without_sub(a) && choices_without_sub(xs.as_slice()) && otherwise_without_sub(o)
         }
         Expr::Coalesce(a, xs) => expr_without_sub(a) && exprs_without_sub(xs.as_slice()),
         Expr::NullIf(a, b) => expr_without_sub(a) && expr_without_sub(b),

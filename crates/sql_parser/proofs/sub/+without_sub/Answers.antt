@@ -9,10 +9,10 @@ pub expr_without_sub-returns-then-choices_without_sub :
     goal.expr_without_sub-returns-then-choices_without_sub
 expr_without_sub-returns-then-choices_without_sub t c =
     elim c.if-expr_without_sub-3.branch [
-      expr_without_sub-then-expr_without_sub-3 w ↦
-        let first : gram.expr_without_sub (shown.expr c.in-Simple.a.value) ≡ true = cc in
-        let others : gram.choices_without_sub (shown.choice_list c.in-Simple.xs) ≡ true = cc in
-        c.otherwise_without_sub-then-choices_without_sub.ensures ∙ rw (c.in-Simple.is, choices_hidden c.in-Simple.xs, first, others) refl
+      | expr_without_sub-then-expr_without_sub-3 w ↦
+          let first : gram.expr_without_sub (shown.expr c.in-Simple.a.value) ≡ true = cc in
+          let others : gram.choices_without_sub (shown.choice_list c.in-Simple.xs) ≡ true = cc in
+          c.otherwise_without_sub-then-choices_without_sub.ensures ∙ rw (c.in-Simple.is, choices_hidden c.in-Simple.xs, first, others) refl
       | expr_without_sub-else-expr_without_sub-3 w ↦ absurd (cc)
     ]
 
@@ -20,13 +20,13 @@ pub expr_without_sub-returns-else-choices_without_sub :
     goal.expr_without_sub-returns-else-choices_without_sub
 expr_without_sub-returns-else-choices_without_sub t c =
     elim c.if-expr_without_sub-3.branch [
-      expr_without_sub-then-expr_without_sub-3 w ↦
-        let first : gram.expr_without_sub (shown.expr c.in-Simple.a.value) ≡ true = cc in
-        let others : gram.choices_without_sub (shown.choice_list c.in-Simple.xs) ≡ false = cc in
-        c.if-choices_without_sub.false ∙ rw (c.in-Simple.is, choices_hidden c.in-Simple.xs, first, others) refl
+      | expr_without_sub-then-expr_without_sub-3 w ↦
+          let first : gram.expr_without_sub (shown.expr c.in-Simple.a.value) ≡ true = cc in
+          let others : gram.choices_without_sub (shown.choice_list c.in-Simple.xs) ≡ false = cc in
+          c.if-choices_without_sub.false ∙ rw (c.in-Simple.is, choices_hidden c.in-Simple.xs, first, others) refl
       | expr_without_sub-else-expr_without_sub-3 w ↦
-        let first : gram.expr_without_sub (shown.expr c.in-Simple.a.value) ≡ false = cc in
-        c.if-choices_without_sub.false ∙ rw (c.in-Simple.is, choices_hidden c.in-Simple.xs, first) refl
+          let first : gram.expr_without_sub (shown.expr c.in-Simple.a.value) ≡ false = cc in
+          c.if-choices_without_sub.false ∙ rw (c.in-Simple.is, choices_hidden c.in-Simple.xs, first) refl
     ]
 
 pub expr_without_sub-returns-then-expr_without_sub-4 :
