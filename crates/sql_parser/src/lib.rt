@@ -1,6 +1,7 @@
 //! Schemas and queries from tokens.
 #![tactic(auto)]
 
+mod naming;
 mod refusal;
 mod word;
 
