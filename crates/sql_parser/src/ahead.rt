@@ -1,0 +1,1 @@
+// Looking ahead, past a bracket.
