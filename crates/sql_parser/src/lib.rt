@@ -6,6 +6,7 @@ mod case;
 mod condition;
 mod expression;
 mod grammar;
+mod naming;
 mod refusal;
 mod sub;
 mod word;

@@ -2,7 +2,7 @@ use Rattle.std.proofs.Common.{arith, ◌≡◌, ◌-◌, ◌∷◌, [], ◌++◌
 use Rattle.sql_text.specs.Tokens.{token_list}
 use Rattle.sql_parser.specs.Words as words
 use Rattle.sql_parser.proofs.TurnsTables.{one_more, no_turn, no_more, first_item, next_item, no_item, columns_stop}
-use Rattle.sql_parser.proofs.word.columns.Goals as goal
+use Rattle.sql_parser.proofs.naming.columns.Goals as goal
 
 pub columns-init : goal.columns-init
 columns-init c =

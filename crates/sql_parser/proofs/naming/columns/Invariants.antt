@@ -1,7 +1,7 @@
 use Rattle.std.proofs.Common.{◌≡◌, ◌-◌, ◌++◌}
 use Rattle.sql_text.specs.Tokens.{token_list}
 use Rattle.sql_parser.specs.Words as words
-use Rattle.sql_parser.proofs.word.columns.Given as goal
+use Rattle.sql_parser.proofs.naming.columns.Given as goal
 
 abbrev pub invariant-columns : goal.invariant-columns
 invariant-columns l =
