@@ -36,6 +36,16 @@ abbrev pub starts_when : List Token → Bool
 starts_when (t.Key k.When ∷ ts) = true
 starts_when _ = false
 
+-- AND stands first
+abbrev pub starts_and : List Token → Bool
+starts_and (t.Key k.And ∷ ts) = true
+starts_and _ = false
+
+-- OR stands first
+abbrev pub starts_or : List Token → Bool
+starts_or (t.Key k.Or ∷ ts) = true
+starts_or _ = false
+
 -- a comma stands first
 abbrev pub starts_comma : List Token → Bool
 starts_comma (t.Comma ∷ ts) = true
