@@ -46,6 +46,11 @@ abbrev pub starts_or : List Token → Bool
 starts_or (t.Key k.Or ∷ ts) = true
 starts_or _ = false
 
+-- INTERSECT stands first
+abbrev pub starts_intersect : List Token → Bool
+starts_intersect (t.Key k.Intersect ∷ ts) = true
+starts_intersect _ = false
+
 -- a comma stands first
 abbrev pub starts_comma : List Token → Bool
 starts_comma (t.Comma ∷ ts) = true
