@@ -7,8 +7,13 @@ mod condition;
 mod expression;
 mod grammar;
 mod naming;
+mod query;
 mod refusal;
+mod stubs;
 mod sub;
+mod table;
+mod text;
 mod word;
 
 pub use refusal::ParseRefusal;
+pub use text::parse_query;
