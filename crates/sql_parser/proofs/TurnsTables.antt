@@ -16,7 +16,7 @@ use Rattle.sql_ast.specs.Shown as shown
 use Rattle.sql_ast.specs.Syntax as s
 use Rattle.sql_parser.specs.declared.refusal.ParseRefusal.{ParseRefusal}
 use Rattle.sql_parser.specs.declared.refusal.ParseRefusal.TheVariants.{OverLimit, Syntax, Memory}
-use Rattle.sql_parser.specs.Read.{starts_comma, starts_intersect, join_after, more_joins, more_tables, more_items, more_qprims, qterm, more_qterms}
+use Rattle.sql_parser.specs.Read.{starts_comma, starts_intersect, join_after, more_joins, tref, tables, more_tables, item, items, more_items, more_qprims, qterm, more_qterms}
 use Rattle.sql_parser.specs.ReadText.{more_sorts}
 use Rattle.sql_parser.specs.Words.{Found, Parser, ◌>>=◌, Gives, mapped, join_at, all_at, set_operator_at, more_columns}
 
@@ -97,6 +97,15 @@ query_seen x = (shown.query x.0, token_list x.1.now)
 abbrev pub table_seen : TableRef × Bor (List Spanned) → s.TableRef × List Token
 table_seen x = (shown.table x.0, token_list x.1.now)
 
+abbrev pub tables_seen : List TableRef × Bor (List Spanned) → s.TableRefs × List Token
+tables_seen x = (shown.table_list x.0, token_list x.1.now)
+
+abbrev pub item_seen : Item × Bor (List Spanned) → s.Item × List Token
+item_seen x = (shown.item x.0, token_list x.1.now)
+
+abbrev pub items_seen : List Item × Bor (List Spanned) → s.Items × List Token
+items_seen x = (shown.item_list x.0, token_list x.1.now)
+
 -- ---- tables, one by one
 
 abbrev pub append_tables : s.TableRefs → s.TableRefs → s.TableRefs
@@ -115,7 +124,7 @@ pub table_one : (xs : List TableRef) (x : TableRef) → shown.table_list (xs ++ 
 table_one [] x = refl
 table_one (y ∷ xs) x = ap (s.one_table (shown.table y)) (table_one xs x)
 
-pub first_table : (x : s.TableRef) (m : Found s.TableRefs) → (m >>= (λ xs. λ vs. Some (s.one_table x xs, vs))) ≡ mapped (append_tables (s.one_table x s.no_table)) m
+first_table : (x : s.TableRef) (m : Found s.TableRefs) → (m >>= (λ xs. λ vs. Some (s.one_table x xs, vs))) ≡ mapped (append_tables (s.one_table x s.no_table)) m
 first_table x None = refl
 first_table x (Some r) = refl
 
@@ -145,7 +154,7 @@ pub item_one : (xs : List Item) (x : Item) → shown.item_list (xs ++ x ∷ []) 
 item_one [] x = refl
 item_one (y ∷ xs) x = ap (s.one_item (shown.item y)) (item_one xs x)
 
-pub first_item_of : (x : s.Item) (m : Found s.Items) → (m >>= (λ xs. λ vs. Some (s.one_item x xs, vs))) ≡ mapped (append_items (s.one_item x s.no_item)) m
+first_item_of : (x : s.Item) (m : Found s.Items) → (m >>= (λ xs. λ vs. Some (s.one_item x xs, vs))) ≡ mapped (append_items (s.one_item x s.no_item)) m
 first_item_of x None = refl
 first_item_of x (Some r) = refl
 
@@ -156,3 +165,18 @@ next_item_of out x (Some r) = ap (λ xs. Some (xs, r.1)) (append_one_item out r.
 
 pub no_more_items : (out : s.Items) (ts : List Token) → mapped (append_items out) (Some (s.no_item, ts)) ≡ Some (out, ts)
 no_more_items out ts = ap (λ xs. Some (xs, ts)) (append_no_item out)
+
+module _ (e : Parser s.Expr) (c : Parser s.Cond) (q : Parser s.Query) (j : Parser s.TableRef) where
+  pub tables_begin : (ts : List Token) (x : s.TableRef) (spans : List Spanned) → tref e c q j ts ≡ Some (x, token_list spans)
+      → tables e c q j ts ≡ mapped (append_tables (s.one_table x s.no_table)) (more_tables e c q j (length spans - 0) (token_list spans))
+  tables_begin ts x spans h =
+      ap (λ m. m >>= (λ x. λ us. more_tables e c q j (length us) us >>= (λ xs. λ vs. Some (s.one_table x xs, vs)))) h
+      ∙ first_table x (more_tables e c q j (length (token_list spans)) (token_list spans))
+      ∙ sym (no_turn (λ n. mapped (append_tables (s.one_table x s.no_table)) (more_tables e c q j n (token_list spans))) spans)
+
+  pub items_begin : (ts : List Token) (x : s.Item) (spans : List Spanned) → item e c q j ts ≡ Some (x, token_list spans)
+      → items e c q j ts ≡ mapped (append_items (s.one_item x s.no_item)) (more_items e c q j (length spans - 0) (token_list spans))
+  items_begin ts x spans h =
+      ap (λ m. m >>= (λ x. λ us. more_items e c q j (length us) us >>= (λ xs. λ vs. Some (s.one_item x xs, vs)))) h
+      ∙ first_item_of x (more_items e c q j (length (token_list spans)) (token_list spans))
+      ∙ sym (no_turn (λ n. mapped (append_items (s.one_item x s.no_item)) (more_items e c q j n (token_list spans))) spans)
