@@ -75,8 +75,9 @@ abbrev pub statements : ℕ → List Token → Option (List s.Statement)
 statements n [] = Some []
 statements zero ts = None
 statements (suc n) ts = elim (statement ts >>= semicolon) as (λ _. Option (List s.Statement)) [
-  None ↦ None
-  | Some r ↦ elim (statements n r.1) as (λ _. Option (List s.Statement)) [ None ↦ None | Some xs ↦ Some (r.0 ∷ xs) ] ]
+  | None ↦ None
+  | Some r ↦ elim (statements n r.1) as (λ _. Option (List s.Statement)) [ None ↦ None | Some xs ↦ Some (r.0 ∷ xs) ]
+]
 
 -- schema = { stmt ";" }
 unfoldable pub schema_tree : List Token → Option s.Schema

@@ -1,6 +1,19 @@
 //! Schemas and queries from tokens.
 #![tactic(auto)]
 
+mod ahead;
+mod case;
+mod condition;
+mod expression;
+mod grammar;
+mod naming;
+mod query;
 mod refusal;
+mod stubs;
+mod sub;
+mod table;
+mod text;
+mod word;
 
 pub use refusal::ParseRefusal;
+pub use text::parse_query;
