@@ -11,8 +11,10 @@ use Rattle.sql_ast.specs.declared.word.SetQuantifier.{SetQuantifier}
 use Rattle.sql_ast.specs.declared.word.Sign.TheVariants as sign
 use Rattle.sql_ast.specs.Grammatical.{cond_without_sub, is_tprim}
 use Rattle.sql_ast.specs.Syntax as s
+use Rattle.sql_parser.specs.declared.word.JoinKind.{JoinKind}
+use Rattle.sql_parser.specs.declared.word.JoinKind.TheVariants as join_of
 use Rattle.sql_parser.specs.Ahead.{at_query, opens_cond}
-use Rattle.sql_parser.specs.Words.{Found, Parser, ◌>>=◌, closed, additive_at, multiplicative_at, quantifier_at, set_operator_at, set_quantifier_at, all_at, not_at, JoinKind, inner_join, left_join, cross_join, join_at, column_after, group_by, alias_at, correlation, optional_correlation, all_of_at, data_type}
+use Rattle.sql_parser.specs.Words.{Found, Parser, ◌>>=◌, closed, additive_at, multiplicative_at, quantifier_at, set_operator_at, set_quantifier_at, all_at, not_at, join_at, column_after, group_by, alias_at, correlation, optional_correlation, all_of_at, data_type}
 
 -- ")", after the joins of a table in brackets
 abbrev pub close_join : s.TableRef → Parser s.TableRef
@@ -304,9 +306,9 @@ module _ (e : Parser s.Expr) (c : Parser s.Cond) (q : Parser s.Query) (j : Parse
 
   -- tprim, and its ON where the join has one
   abbrev pub join_after : s.TableRef → JoinKind → Parser s.TableRef
-  join_after left (inner_join inner) ts = tprim ts >>= (λ right. λ us. on us >>= (λ x. λ vs. Some (s.join left inner right x, vs)))
-  join_after left (left_join outer) ts = tprim ts >>= (λ right. λ us. on us >>= left_joined left outer right)
-  join_after left cross_join ts = tprim ts >>= (λ right. λ us. Some (s.cross_join left right, us))
+  join_after left (join_of.Inner inner) ts = tprim ts >>= (λ right. λ us. on us >>= (λ x. λ vs. Some (s.join left inner right x, vs)))
+  join_after left (join_of.Left outer) ts = tprim ts >>= (λ right. λ us. on us >>= left_joined left outer right)
+  join_after left join_of.Cross ts = tprim ts >>= (λ right. λ us. Some (s.cross_join left right, us))
 
   -- { join }
   abbrev pub more_joins : ℕ → s.TableRef → Parser s.TableRef

@@ -20,6 +20,8 @@ use Rattle.sql_ast.specs.declared.word.SetQuantifier.{SetQuantifier}
 use Rattle.sql_ast.specs.declared.word.SetQuantifier.TheVariants as each
 use Rattle.sql_parser.specs.declared.refusal.ParseRefusal.{ParseRefusal}
 use Rattle.sql_parser.specs.declared.refusal.ParseRefusal.TheVariants.{OverLimit, Syntax, Memory}
+use Rattle.sql_parser.specs.declared.word.JoinKind.{JoinKind}
+use Rattle.sql_parser.specs.declared.word.JoinKind.TheVariants as join_of
 
 -- a value, and the tokens after it
 abbrev pub Found : Type 0 → Type 0
@@ -39,6 +41,11 @@ mapped f None = None
 mapped f (Some r) = Some (f r.0, r.1)
 
 -- ")"
+abbrev pub close : List Token → Option (List Token)
+close (t.RightParen ∷ ts) = Some ts
+close _ = None
+
+-- ")", after a value
 abbrev pub closed : {A B : Type 0} → (A → B) → A → Parser B
 closed f x (t.RightParen ∷ ts) = Some (f x, ts)
 closed f x _ = None
@@ -87,23 +94,18 @@ abbrev pub not_at : List Token → Bool × List Token
 not_at (t.Key k.Not ∷ ts) = (true, ts)
 not_at ts = (false, ts)
 
--- which join the words before a tprim ask for
-pub data JoinKind : Type 0 where
-  inner_join : Bool → JoinKind
-  left_join : Bool → JoinKind
-  cross_join : JoinKind
-
--- [ INNER ] JOIN | LEFT [ OUTER ] JOIN | CROSS JOIN
+-- JOIN, after LEFT [ OUTER ]
 abbrev pub after_left : Bool → Parser JoinKind
-after_left outer (t.Key k.Join ∷ ts) = Some (left_join outer, ts)
+after_left outer (t.Key k.Join ∷ ts) = Some (join_of.Left outer, ts)
 after_left outer _ = None
 
+-- [ INNER ] JOIN | LEFT [ OUTER ] JOIN | CROSS JOIN
 abbrev pub join_at : Parser JoinKind
-join_at (t.Key k.Join ∷ ts) = Some (inner_join false, ts)
-join_at (t.Key k.Inner ∷ t.Key k.Join ∷ ts) = Some (inner_join true, ts)
+join_at (t.Key k.Join ∷ ts) = Some (join_of.Inner false, ts)
+join_at (t.Key k.Inner ∷ t.Key k.Join ∷ ts) = Some (join_of.Inner true, ts)
 join_at (t.Key k.Left ∷ t.Key k.Outer ∷ ts) = after_left true ts
 join_at (t.Key k.Left ∷ ts) = after_left false ts
-join_at (t.Key k.Cross ∷ t.Key k.Join ∷ ts) = Some (cross_join, ts)
+join_at (t.Key k.Cross ∷ t.Key k.Join ∷ ts) = Some (join_of.Cross, ts)
 join_at _ = None
 
 -- ---- names and columns

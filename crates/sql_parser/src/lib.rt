@@ -2,5 +2,6 @@
 #![tactic(auto)]
 
 mod refusal;
+mod word;
 
 pub use refusal::ParseRefusal;
