@@ -1,5 +1,6 @@
 -- What a schema's tokens spell is read.
 use Rattle.std.proofs.Common.{◌≡◌, ℕ, zero, suc, ◌+◌, ◌<◌, ◌≤◌, max, Bool, true, false, List, [], ◌∷◌, Option, Some, None, refl, sym, ◌∙◌, ap, length, arith}
+use Rattle.std.specs.Option.{option_map, option_and_then}
 use Rattle.std.specs.Prelude.{◌&&◌}
 use Rattle.sql_text.specs.declared.key.Key.TheVariants as k
 use Rattle.sql_text.specs.declared.token.Token.{Token}
@@ -192,8 +193,8 @@ module _ (tall : s.Query → ℕ) (query_longer : (q : s.Query) (ts : List Token
       → r.statements (suc n) ts ≡ Some (x ∷ xs)
   one_turn n [] x xs us h rest = absurd (cc)
   one_turn n (u ∷ ts) x xs us h rest =
-      ap (λ m. elim (m >>= r.semicolon) as (λ _. Option (List s.Statement)) [ None ↦ None | Some y ↦ elim (r.statements n y.1) as (λ _. Option (List s.Statement)) [ None ↦ None | Some ys ↦ Some (y.0 ∷ ys) ] ]) h
-      ∙ ap (λ m. elim m as (λ _. Option (List s.Statement)) [ None ↦ None | Some ys ↦ Some (x ∷ ys) ]) rest
+      ap (λ m. option_and_then (λ y. option_map (λ ys. y.0 ∷ ys) (r.statements n y.1)) (m >>= r.semicolon)) h
+      ∙ ap (option_map (λ ys. x ∷ ys)) rest
 
   statements_read : (xs : List s.Statement) (n : ℕ) → are_statements xs ≡ true → shallow 64 (sp.statements xs) ≡ true → length xs ≤ n → r.statements n (sp.statements xs) ≡ Some xs
   statements_read [] n g h fit = refl
@@ -209,7 +210,7 @@ module _ (tall : s.Query → ℕ) (query_longer : (q : s.Query) (ts : List Token
 
   schema_of : (ts : List Token) (x : s.Schema) → r.statements (length ts) ts ≡ Some x.statements → schema_tree ts ≡ Some x
   unfolding schema_tree
-  schema_of ts x h = ap (λ m. elim m as (λ _. Option s.Schema) [ None ↦ None | Some xs ↦ Some (record { statements = xs }) ]) h
+  schema_of ts x h = ap (option_map (λ xs. record { statements = xs })) h
 
   pub schema_complete : (ts : List Token) (x : s.Schema) → shallow 64 ts ≡ true → SpellsSchema x ts → schema_tree ts ≡ Some x
   schema_complete ts x flat spells = rw spells.spelled (

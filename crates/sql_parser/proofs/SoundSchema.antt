@@ -1,5 +1,6 @@
 -- What is read of a schema is spelled so.
 use Rattle.std.proofs.Common.{◌≡◌, ℕ, zero, suc, Bool, true, false, List, [], ◌∷◌, Option, Some, None, refl, sym, ◌∙◌, ap, subst, length}
+use Rattle.std.specs.Option.{option_map, option_and_then}
 use Rattle.std.specs.Prelude.{◌&&◌}
 use Rattle.sql_text.specs.declared.key.Key.TheVariants as k
 use Rattle.sql_text.specs.declared.token.Token.{Token}
@@ -26,6 +27,10 @@ none_some y h = cc
 bind_ok : {A B : Type 0} (m : Found A) (f : A → Parser B) (y : B × List Token) → (m >>= f) ≡ Some y → (x : A × List Token) × (m ≡ Some x) × (f x.0 x.1 ≡ Some y)
 bind_ok None f y h = absurd (none_some y h)
 bind_ok (Some x) f y h = (x, refl, h)
+
+map_ok : {A B : Type 0} (f : A → B) (m : Option A) (y : B) → option_map f m ≡ Some y → (x : A) × (m ≡ Some x) × (y ≡ f x)
+map_ok f None y h = absurd (none_some y h)
+map_ok f (Some x) y h = (x, refl, sym (some_inj (f x) y h))
 
 and_true : (a b : Bool) → a ≡ true → b ≡ true → a && b ≡ true
 and_true a b p q = rw (p, q) refl
@@ -159,19 +164,10 @@ semicolon_sound : (x : s.Statement) (ts : List Token) (y : s.Statement × List T
 semicolon_sound x (t.Semicolon ∷ ts) y h = (cc, cc)
 semicolon_sound x _ y h = absurd (none_some y h)
 
--- how a list of statements is read
-abbrev turn : ℕ → Found s.Statement → Option (List s.Statement)
-turn n m = elim m as (λ _. Option (List s.Statement)) [ None ↦ None | Some y ↦ elim (r.statements n y.1) as (λ _. Option (List s.Statement)) [ None ↦ None | Some ys ↦ Some (y.0 ∷ ys) ] ]
-
-turn_ok : (n : ℕ) (m : Found s.Statement) (xs : List s.Statement) → turn n m ≡ Some xs
+turn_ok : (n : ℕ) (m : Found s.Statement) (xs : List s.Statement) → option_and_then (λ x. option_map (λ xs. x.0 ∷ xs) (r.statements n x.1)) m ≡ Some xs
     → (y : s.Statement × List Token) × (ys : List s.Statement) × (m ≡ Some y) × (r.statements n y.1 ≡ Some ys) × (xs ≡ y.0 ∷ ys)
 turn_ok n None xs h = absurd (none_some xs h)
-turn_ok n (Some y) xs h = more (r.statements n y.1) refl h
-  where
-    more : (m : Option (List s.Statement)) → r.statements n y.1 ≡ m → elim m as (λ _. Option (List s.Statement)) [ None ↦ None | Some ys ↦ Some (y.0 ∷ ys) ] ≡ Some xs
-        → (z : s.Statement × List Token) × (ys : List s.Statement) × (Some y ≡ Some z) × (r.statements n z.1 ≡ Some ys) × (xs ≡ z.0 ∷ ys)
-    more None e h = absurd (none_some xs h)
-    more (Some ys) e h = (y, ys, refl, e, sym (some_inj (y.0 ∷ ys) xs h))
+turn_ok n (Some y) xs h = let ys = map_ok (λ ys. y.0 ∷ ys) (r.statements n y.1) xs h in (y, ys.0, refl, ys.1, ys.2)
 
 module _ (query_sound : (ts : List Token) (x : s.Query × List Token) → query 65 ts ≡ Some x → (is_query x.0 ≡ true) × (ts ≡ sp.query x.0 x.1)) where
   view_query_sound : (ts : List Token) (x : s.Query × List Token) → r.view_query ts ≡ Some x → (is_query x.0 ≡ true) × (ts ≡ t.Key k.As ∷ sp.query x.0 x.1)
@@ -196,7 +192,7 @@ module _ (query_sound : (ts : List Token) (x : s.Query × List Token) → query 
   statement_sound (t.Key k.Create ∷ t.Key k.View ∷ ts) x h = view_sound ts x h
   statement_sound _ x h = absurd (none_some x h)
 
-  ended_sound : (ts : List Token) (x : s.Statement × List Token) → (r.statement ts >>= r.semicolon) ≡ Some x → (is_statement x.0 ≡ true) × (ts ≡ sp.statement x.0 (t.Semicolon ∷ x.1))
+  ended_sound : (ts : List Token) (x : s.Statement × List Token) → r.ended ts ≡ Some x → (is_statement x.0 ≡ true) × (ts ≡ sp.statement x.0 (t.Semicolon ∷ x.1))
   ended_sound ts x h =
       let b = bind_ok (r.statement ts) r.semicolon x h in
       let one = statement_sound ts b.0 b.1 in
@@ -207,17 +203,14 @@ module _ (query_sound : (ts : List Token) (x : s.Query × List Token) → query 
   statements_sound n [] xs h = rw (sym (some_inj [] xs h)) (refl, refl)
   statements_sound zero (u ∷ ts) xs h = absurd (none_some xs h)
   statements_sound (suc n) (u ∷ ts) xs h =
-      let b = turn_ok n (r.statement (u ∷ ts) >>= r.semicolon) xs h in
+      let b = turn_ok n (r.ended (u ∷ ts)) xs h in
       let first = ended_sound (u ∷ ts) b.0 b.2 in
       let rest = statements_sound n b.0.1 b.1 b.3 in
       rw b.4 (and_true _ _ first.0 rest.0, first.1 ∙ ap (λ us. sp.statement b.0.0 (t.Semicolon ∷ us)) rest.1)
 
-  read_whole : (m : Option (List s.Statement)) (x : s.Schema) → elim m as (λ _. Option s.Schema) [ None ↦ None | Some xs ↦ Some (record { statements = xs }) ] ≡ Some x → m ≡ Some x.statements
-  read_whole None x h = absurd (none_some x h)
-  read_whole (Some xs) x h = ap (λ y. Some y.statements) (some_inj (record { statements = xs }) x h)
-
   pub schema_sound : (ts : List Token) (x : s.Schema) → schema_tree ts ≡ Some x → SpellsSchema x ts
   unfolding schema_tree
   schema_sound ts x h =
-      let all = statements_sound (length ts) ts x.statements (read_whole (r.statements (length ts) ts) x h) in
-      record { grammatical = all.0; spelled = all.1 }
+      let read = map_ok (λ xs. record { statements = xs }) (r.statements (length ts) ts) x h in
+      let all = statements_sound (length ts) ts read.0 read.1 in
+      rw read.2 (record { grammatical = all.0; spelled = all.1 })
