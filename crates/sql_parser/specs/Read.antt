@@ -1,5 +1,5 @@
 -- Reading of expressions, conditions, tables and queries: the tree that tokens spell first, and the tokens after it. One word a line of the grammar. What stands in brackets or in CASE is read by one of four readers `e`, `c`, `q`, `j` of what may stand there: an expression, a condition, a query, or a table with its joins. A chain or a list is read in so many turns at most.
-use Rattle.std.specs.Prelude.{◌≡◌, ℕ, zero, suc, Bool, true, false, not, List, [], ◌∷◌, length, if◌then◌else◌, Option, Some, None}
+use Rattle.std.specs.Prelude.{ℕ, zero, suc, Bool, true, false, List, ◌∷◌, length, if◌then◌else◌, Option, Some, None}
 use Rattle.qgm_base.specs.declared.compare.CmpOp.{CmpOp}
 use Rattle.sql_text.specs.declared.key.Key.{Key}
 use Rattle.sql_text.specs.declared.key.Key.TheVariants as k
@@ -36,6 +36,16 @@ abbrev pub starts_when : List Token → Bool
 starts_when (t.Key k.When ∷ ts) = true
 starts_when _ = false
 
+-- AND stands first
+abbrev pub starts_and : List Token → Bool
+starts_and (t.Key k.And ∷ ts) = true
+starts_and _ = false
+
+-- OR stands first
+abbrev pub starts_or : List Token → Bool
+starts_or (t.Key k.Or ∷ ts) = true
+starts_or _ = false
+
 -- a comma stands first
 abbrev pub starts_comma : List Token → Bool
 starts_comma (t.Comma ∷ ts) = true
@@ -66,26 +76,34 @@ module _ (e : Parser s.Expr) (c : Parser s.Cond) (q : Parser s.Query) (j : Parse
   then_res a (t.Key k.Then ∷ ts) = res ts >>= (λ r. λ us. Some ((a, r), us))
   then_res a _ = None
 
+  -- cond THEN res, after WHEN
+  abbrev pub arm : Parser (s.Cond × s.Res)
+  arm ts = c ts >>= then_res
+
+  -- expr THEN res, after WHEN
+  abbrev pub choice : Parser (s.Expr × s.Res)
+  choice ts = e ts >>= then_res
+
   -- { WHEN cond THEN res }
   abbrev pub more_arms : ℕ → Parser s.Arms
   more_arms zero ts = Some (s.no_arm, ts)
-  more_arms (suc n) (t.Key k.When ∷ ts) = (c ts >>= then_res) >>= (λ a. λ us. more_arms n us >>= (λ xs. λ vs. Some (s.one_arm a.0 a.1 xs, vs)))
+  more_arms (suc n) (t.Key k.When ∷ ts) = arm ts >>= (λ a. λ us. more_arms n us >>= (λ xs. λ vs. Some (s.one_arm a.0 a.1 xs, vs)))
   more_arms (suc n) ts = Some (s.no_arm, ts)
 
   -- WHEN cond THEN res { WHEN cond THEN res }
   abbrev pub arms : Parser s.Arms
-  arms (t.Key k.When ∷ ts) = (c ts >>= then_res) >>= (λ a. λ us. more_arms (length us) us >>= (λ xs. λ vs. Some (s.one_arm a.0 a.1 xs, vs)))
+  arms (t.Key k.When ∷ ts) = arm ts >>= (λ a. λ us. more_arms (length us) us >>= (λ xs. λ vs. Some (s.one_arm a.0 a.1 xs, vs)))
   arms _ = None
 
   -- { WHEN expr THEN res }
   abbrev pub more_choices : ℕ → Parser s.Choices
   more_choices zero ts = Some (s.no_choice, ts)
-  more_choices (suc n) (t.Key k.When ∷ ts) = (e ts >>= then_res) >>= (λ a. λ us. more_choices n us >>= (λ xs. λ vs. Some (s.one_choice a.0 a.1 xs, vs)))
+  more_choices (suc n) (t.Key k.When ∷ ts) = choice ts >>= (λ a. λ us. more_choices n us >>= (λ xs. λ vs. Some (s.one_choice a.0 a.1 xs, vs)))
   more_choices (suc n) ts = Some (s.no_choice, ts)
 
   -- WHEN expr THEN res { WHEN expr THEN res }
   abbrev pub choices : Parser s.Choices
-  choices (t.Key k.When ∷ ts) = (e ts >>= then_res) >>= (λ a. λ us. more_choices (length us) us >>= (λ xs. λ vs. Some (s.one_choice a.0 a.1 xs, vs)))
+  choices (t.Key k.When ∷ ts) = choice ts >>= (λ a. λ us. more_choices (length us) us >>= (λ xs. λ vs. Some (s.one_choice a.0 a.1 xs, vs)))
   choices _ = None
 
   -- [ ELSE res ]
@@ -182,8 +200,9 @@ module _ (e : Parser s.Expr) (c : Parser s.Cond) (q : Parser s.Query) (j : Parse
   abbrev pub more_factors : ℕ → s.Expr → Parser s.Expr
   more_factors zero left ts = Some (left, ts)
   more_factors (suc n) left ts = elim (multiplicative_at ts) as (λ _. Found s.Expr) [
-    None ↦ Some (left, ts)
-    | Some r ↦ factor r.1 >>= (λ right. more_factors n (s.multiply left r.0 right)) ]
+    | None ↦ Some (left, ts)
+    | Some r ↦ factor r.1 >>= (λ right. more_factors n (s.multiply left r.0 right))
+  ]
 
   -- term = factor { ( "*" | "/" ) factor }
   abbrev pub term : Parser s.Expr
@@ -193,8 +212,9 @@ module _ (e : Parser s.Expr) (c : Parser s.Cond) (q : Parser s.Query) (j : Parse
   abbrev pub more_terms : ℕ → s.Expr → Parser s.Expr
   more_terms zero left ts = Some (left, ts)
   more_terms (suc n) left ts = elim (additive_at ts) as (λ _. Found s.Expr) [
-    None ↦ Some (left, ts)
-    | Some r ↦ term r.1 >>= (λ right. more_terms n (s.add left r.0 right)) ]
+    | None ↦ Some (left, ts)
+    | Some r ↦ term r.1 >>= (λ right. more_terms n (s.add left r.0 right))
+  ]
 
   -- expr = term { ( "+" | "-" | "||" ) term }
   abbrev pub sum : Parser s.Expr
@@ -231,8 +251,9 @@ module _ (e : Parser s.Expr) (c : Parser s.Cond) (q : Parser s.Query) (j : Parse
   -- expr | ( ANY | SOME | ALL ) sub, after a comparison sign
   abbrev pub compared : s.Expr → CmpOp → Parser s.Cond
   compared x op ts = elim (quantifier_at ts) as (λ _. Found s.Cond) [
-    None ↦ sum ts >>= (λ a. λ us. Some (s.compare x op a, us))
-    | Some r ↦ sub (s.quantified x op r.0) r.1 ]
+    | None ↦ sum ts >>= (λ a. λ us. Some (s.compare x op a, us))
+    | Some r ↦ sub (s.quantified x op r.0) r.1
+  ]
 
   -- what follows the first operand of a predicate
   abbrev pub pred_after : s.Expr → Parser s.Cond
@@ -314,8 +335,9 @@ module _ (e : Parser s.Expr) (c : Parser s.Cond) (q : Parser s.Query) (j : Parse
   abbrev pub more_joins : ℕ → s.TableRef → Parser s.TableRef
   more_joins zero left ts = Some (left, ts)
   more_joins (suc n) left ts = elim (join_at ts) as (λ _. Found s.TableRef) [
-    None ↦ Some (left, ts)
-    | Some r ↦ join_after left r.0 r.1 >>= more_joins n ]
+    | None ↦ Some (left, ts)
+    | Some r ↦ join_after left r.0 r.1 >>= more_joins n
+  ]
 
   -- tref = tprim { join }
   abbrev pub tref : Parser s.TableRef
@@ -341,8 +363,9 @@ module _ (e : Parser s.Expr) (c : Parser s.Cond) (q : Parser s.Query) (j : Parse
   -- item = expr [ [ AS ] name ] | name "." "*"
   abbrev pub item : Parser s.Item
   item ts = elim (all_of_at ts) as (λ _. Found s.Item) [
-    None ↦ sum ts >>= (λ a. λ us. Some (s.item a (alias_at us).0, (alias_at us).1))
-    | Some r ↦ Some (s.all_of r.0, r.1) ]
+    | None ↦ sum ts >>= (λ a. λ us. Some (s.item a (alias_at us).0, (alias_at us).1))
+    | Some r ↦ Some (s.all_of r.0, r.1)
+  ]
 
   -- { "," item }
   abbrev pub more_items : ℕ → Parser s.Items
@@ -386,8 +409,9 @@ module _ (e : Parser s.Expr) (c : Parser s.Cond) (q : Parser s.Query) (j : Parse
   abbrev pub more_qterms : ℕ → s.Query → Parser s.Query
   more_qterms zero left ts = Some (left, ts)
   more_qterms (suc n) left ts = elim (set_operator_at ts) as (λ _. Found s.Query) [
-    None ↦ Some (left, ts)
-    | Some r ↦ qterm (all_at r.1).1 >>= (λ right. more_qterms n (s.combine left r.0 (all_at r.1).0 right)) ]
+    | None ↦ Some (left, ts)
+    | Some r ↦ qterm (all_at r.1).1 >>= (λ right. more_qterms n (s.combine left r.0 (all_at r.1).0 right))
+  ]
 
   -- query = qterm { ( UNION | EXCEPT ) [ ALL ] qterm }
   abbrev pub combined : Parser s.Query

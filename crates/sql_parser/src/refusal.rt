@@ -1,6 +1,6 @@
 // The refusals of the parser.
 use qgm_base::OutOfMemory;
-use std::alloc::AllocError;
+use std::alloc::{AllocError, AllocFailed};
 use thiserror::Error;
 
 /// Why tokens give no tree.
@@ -35,6 +35,17 @@ impl From<AllocError> for ParseRefusal {
     ghost from_gives = { λ _ e. e ≡ Memory };
 
     fn from(_: AllocError) -> Self {
+        ParseRefusal::Memory
+    }
+}
+
+impl<T: Drop> From<AllocFailed<T>> for ParseRefusal {
+    ghost use Rattle.std.specs.Prelude.{◌≡◌};
+    ghost use Rattle.sql_parser.specs.declared.refusal.ParseRefusal.TheVariants.{Memory};
+
+    ghost from_gives = { λ _ e. e ≡ Memory };
+
+    fn from(_: AllocFailed<T>) -> Self {
         ParseRefusal::Memory
     }
 }

@@ -1,0 +1,1 @@
+-- A recursion on a count of turns, beside a loop that counts up.
