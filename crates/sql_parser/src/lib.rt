@@ -4,11 +4,14 @@
 mod ahead;
 mod case;
 mod condition;
+mod elements;
 mod expression;
 mod grammar;
 mod naming;
 mod refusal;
+mod schema;
 mod sub;
+mod text;
 mod word;
 
 pub use refusal::ParseRefusal;

@@ -1,0 +1,16 @@
+use Rattle.std.proofs.Common.{◌++◌, ◌∙◌, map, sym, ap}
+use Rattle.std.specs.Option.{option_map}
+use Rattle.sql_ast.specs.Shown as shown
+use Rattle.sql_text.specs.Tokens.{token_list}
+use Rattle.sql_parser.specs.ReadSchema as read
+use Rattle.sql_parser.proofs.TurnsTables.{one_more, no_turn}
+use Rattle.sql_parser.proofs.TurnsSchema.{before_none, before_one}
+use Rattle.sql_parser.proofs.schema.statements.Goals as goal
+
+pub statements-init : goal.statements-init
+statements-init c = ?
+
+pub statements-preserved : goal.statements-preserved
+statements-preserved c =
+    let e = one_more (λ n. option_map (λ more. map shown.statement c.statements.statements ++ more) (read.statements n (token_list c.statements.rest.now))) _ c.statements._turn c.statements-test.true c.statements.invariant in
+    e ∙ ?
