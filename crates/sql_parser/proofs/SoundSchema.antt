@@ -1,5 +1,5 @@
 -- What is read of a schema is spelled so.
-use Rattle.std.proofs.Common.{◌≡◌, ℕ, zero, suc, Bool, true, false, List, [], ◌∷◌, Option, Some, None, refl, sym, ◌∙◌, ap, subst, length}
+use Rattle.std.proofs.Common.{◌≡◌, ℕ, zero, suc, Bool, true, List, [], ◌∷◌, Option, Some, None, refl, sym, ◌∙◌, ap, length}
 use Rattle.std.specs.Option.{option_map, option_and_then}
 use Rattle.std.specs.Prelude.{◌&&◌}
 use Rattle.sql_text.specs.declared.key.Key.TheVariants as k
@@ -7,86 +7,25 @@ use Rattle.sql_text.specs.declared.token.Token.{Token}
 use Rattle.sql_text.specs.declared.token.Token.TheVariants as t
 use Rattle.sql_ast.specs.declared.schema.Element.{Element}
 use Rattle.sql_ast.specs.declared.schema.Element.TheVariants as el
-use Rattle.sql_ast.specs.declared.word.DataType.{DataType}
-use Rattle.sql_ast.specs.declared.word.DataType.TheVariants as type
 use Rattle.sql_ast.specs.Grammatical.{SpellsSchema, is_query, is_element, are_elements, is_statement, are_statements, some_of}
 use Rattle.sql_ast.specs.Spelling as sp
 use Rattle.sql_ast.specs.Syntax as s
-use Rattle.sql_parser.specs.Read.{query}
 use Rattle.sql_parser.specs.ReadSchema as r
 use Rattle.sql_parser.specs.ReadSchema.{schema_tree}
 use Rattle.sql_parser.specs.Words as w
-use Rattle.sql_parser.specs.Words.{Found, Parser, ◌>>=◌, closed}
-
-some_inj : {A : Type 0} (x y : A) → Some x ≡ Some y → x ≡ y
-some_inj x y h = cc
-
-none_some : {A : Type 0} (y : A) → None ≡ Some y → ⊥
-none_some y h = cc
-
-bind_ok : {A B : Type 0} (m : Found A) (f : A → Parser B) (y : B × List Token) → (m >>= f) ≡ Some y → (x : A × List Token) × (m ≡ Some x) × (f x.0 x.1 ≡ Some y)
-bind_ok None f y h = absurd (none_some y h)
-bind_ok (Some x) f y h = (x, refl, h)
+use Rattle.sql_parser.specs.Words.{Found, ◌>>=◌, closed}
+use Rattle.sql_parser.proofs.Steps.{some_inj, none_some, bind_ok, closed_ok, and_true}
+use Rattle.sql_parser.proofs.SoundSteps.{Takes, Made, in_bracket, inside, found}
+use Rattle.sql_parser.proofs.SoundWords.{names_sound, column_list_sound, data_type_sound}
+use Rattle.sql_parser.proofs.Sound.{query_reads}
 
 map_ok : {A B : Type 0} (f : A → B) (m : Option A) (y : B) → option_map f m ≡ Some y → (x : A) × (m ≡ Some x) × (y ≡ f x)
 map_ok f None y h = absurd (none_some y h)
 map_ok f (Some x) y h = (x, refl, sym (some_inj (f x) y h))
 
-and_true : (a b : Bool) → a ≡ true → b ≡ true → a && b ≡ true
-and_true a b p q = rw (p, q) refl
-
-closed_ok : {A B : Type 0} (f : A → B) (x : A) (ts : List Token) (y : B × List Token) → closed f x ts ≡ Some y → (y.0 ≡ f x) × (ts ≡ t.RightParen ∷ y.1)
-closed_ok f x (t.RightParen ∷ ts) y h = (cc, cc)
-closed_ok f x _ y h = absurd (none_some y h)
-
--- the tokens are the tree's, and then the rest
-pub record Takes {A : Type 0} (ok : A → Bool) (spell : A → List Token → List Token) (ts : List Token) (x : A × List Token) : Type 0 where
-  pub grammatical : ok x.0 ≡ true
-  pub tokens : ts ≡ spell x.0 x.1
-
-found : {A : Type 0} (ok : A → Bool) (spell : A → List Token → List Token) (ts : List Token) (x y : A × List Token) → Takes ok spell ts x → Some x ≡ Some y → Takes ok spell ts y
-found ok spell ts x y h e = subst (λ z. Takes ok spell ts z) (some_inj x y e) h
-
--- ---- words
-
-more_names_sound : (ts : List Token) → ts ≡ sp.more_names (w.more_names ts).0 (w.more_names ts).1
-more_names_sound (t.Comma ∷ t.Name n ∷ ts) = ap (λ us. t.Comma ∷ t.Name n ∷ us) (more_names_sound ts)
-more_names_sound ts = refl
-
-names_sound : (ts : List Token) (x : List (List ℕ) × List Token) → w.names ts ≡ Some x → Takes some_of sp.names ts x
-names_sound (t.Name n ∷ ts) x h = found some_of sp.names _ _ x (record { grammatical = refl; tokens = ap (λ us. t.Name n ∷ us) (more_names_sound ts) }) h
-names_sound _ x h = absurd (none_some x h)
-
 -- names before ")"
-names_in : {B : Type 0} (f : List (List ℕ) → B) (ts : List Token) (y : B × List Token) → (w.names ts >>= closed f) ≡ Some y
-    → (ns : List (List ℕ)) × (y.0 ≡ f ns) × (some_of ns ≡ true) × (ts ≡ sp.names ns (t.RightParen ∷ y.1))
-names_in f ts y h =
-    let b = bind_ok (w.names ts) (closed f) y h in
-    let n = names_sound ts b.0 b.1 in
-    let e = closed_ok f b.0.0 b.0.1 y b.2 in
-    (b.0.0, e.0, n.grammatical, n.tokens ∙ ap (sp.names b.0.0) e.1)
-
-in_columns : (ns : List (List ℕ)) (ts : List Token) → some_of ns ≡ true → t.LeftParen ∷ sp.names ns (t.RightParen ∷ ts) ≡ sp.column_list ns ts
-in_columns [] ts some = absurd (cc)
-in_columns (n ∷ ns) ts some = refl
-
-column_list_sound : (ts : List Token) (x : List (List ℕ) × List Token) → w.column_list ts ≡ Some x → ts ≡ sp.column_list x.0 x.1
-column_list_sound (t.LeftParen ∷ ts) x h =
-    let i = names_in (λ ns. ns) ts x h in
-    ap (λ us. t.LeftParen ∷ us) i.3 ∙ in_columns i.0 x.1 i.2 ∙ ap (λ ns. sp.column_list ns x.1) (sym i.1)
-column_list_sound ts x h = ap (λ y. sp.column_list y.0 y.1) (some_inj ([], ts) x h)
-
-varchar_sound : (ts : List Token) (x : DataType × List Token) → w.varchar_length ts ≡ Some x → t.Key k.Varchar ∷ ts ≡ sp.data_type x.0 x.1
-varchar_sound (t.LeftParen ∷ t.Number n ∷ ts) x h =
-    let e = closed_ok type.Varchar n ts x h in
-    ap (λ us. t.Key k.Varchar ∷ t.LeftParen ∷ t.Number n ∷ us) e.1 ∙ ap (λ d. sp.data_type d x.1) (sym e.0)
-varchar_sound _ x h = absurd (none_some x h)
-
-data_type_sound : (ts : List Token) (x : DataType × List Token) → w.data_type ts ≡ Some x → ts ≡ sp.data_type x.0 x.1
-data_type_sound (t.Key k.Integer ∷ ts) x h = ap (λ y. sp.data_type y.0 y.1) (some_inj (type.Integer, ts) x h)
-data_type_sound (t.Key k.Int ∷ ts) x h = ap (λ y. sp.data_type y.0 y.1) (some_inj (type.Int, ts) x h)
-data_type_sound (t.Key k.Varchar ∷ ts) x h = varchar_sound ts x h
-data_type_sound _ x h = absurd (none_some x h)
+names_in : {B : Type 0} (f : List (List ℕ) → B) (ts : List Token) (y : B × List Token) → (w.names ts >>= closed f) ≡ Some y → Made some_of (in_bracket sp.names) f ts y
+names_in f ts y h = inside some_of sp.names w.names (record { holds = names_sound }) f ts y h
 
 -- ---- tables
 
@@ -106,13 +45,13 @@ column_sound n ts x h =
 primary_sound : (ts : List Token) (x : Element × List Token) → r.key_names el.PrimaryKey ts ≡ Some x → Takes is_element sp.element (t.Key k.Primary ∷ t.Key k.Key ∷ ts) x
 primary_sound (t.LeftParen ∷ ts) x h =
     let i = names_in el.PrimaryKey ts x h in
-    record { grammatical = ap is_element i.1 ∙ i.2; tokens = rw i.1 (ap (λ us. t.Key k.Primary ∷ t.Key k.Key ∷ t.LeftParen ∷ us) i.3) }
+    record { grammatical = ap is_element i.is ∙ i.grammatical; tokens = rw i.is (ap (λ us. t.Key k.Primary ∷ t.Key k.Key ∷ t.LeftParen ∷ us) i.tokens) }
 primary_sound _ x h = absurd (none_some x h)
 
 unique_sound : (ts : List Token) (x : Element × List Token) → r.key_names el.Unique ts ≡ Some x → Takes is_element sp.element (t.Key k.Unique ∷ ts) x
 unique_sound (t.LeftParen ∷ ts) x h =
     let i = names_in el.Unique ts x h in
-    record { grammatical = ap is_element i.1 ∙ i.2; tokens = rw i.1 (ap (λ us. t.Key k.Unique ∷ t.LeftParen ∷ us) i.3) }
+    record { grammatical = ap is_element i.is ∙ i.grammatical; tokens = rw i.is (ap (λ us. t.Key k.Unique ∷ t.LeftParen ∷ us) i.tokens) }
 unique_sound _ x h = absurd (none_some x h)
 
 element_sound : (ts : List Token) (x : Element × List Token) → r.element ts ≡ Some x → Takes is_element sp.element ts x
@@ -169,48 +108,47 @@ turn_ok : (n : ℕ) (m : Found s.Statement) (xs : List s.Statement) → option_a
 turn_ok n None xs h = absurd (none_some xs h)
 turn_ok n (Some y) xs h = let ys = map_ok (λ ys. y.0 ∷ ys) (r.statements n y.1) xs h in (y, ys.0, refl, ys.1, ys.2)
 
-module _ (query_sound : (ts : List Token) (x : s.Query × List Token) → query 65 ts ≡ Some x → (is_query x.0 ≡ true) × (ts ≡ sp.query x.0 x.1)) where
-  view_query_sound : (ts : List Token) (x : s.Query × List Token) → r.view_query ts ≡ Some x → (is_query x.0 ≡ true) × (ts ≡ t.Key k.As ∷ sp.query x.0 x.1)
-  view_query_sound (t.Key k.As ∷ ts) x h = let q = query_sound ts x h in (q.0, ap (λ us. t.Key k.As ∷ us) q.1)
-  view_query_sound _ x h = absurd (none_some x h)
+view_query_sound : (ts : List Token) (x : s.Query × List Token) → r.view_query ts ≡ Some x → (is_query x.0 ≡ true) × (ts ≡ t.Key k.As ∷ sp.query x.0 x.1)
+view_query_sound (t.Key k.As ∷ ts) x h = let q = query_reads 65 ts x.0 x.1 h in (q.0, ap (λ us. t.Key k.As ∷ us) q.1)
+view_query_sound _ x h = absurd (none_some x h)
 
-  view_sound : (ts : List Token) (x : s.Statement × List Token) → r.view_decl ts ≡ Some x → Takes is_statement sp.statement (t.Key k.Create ∷ t.Key k.View ∷ ts) x
-  view_sound (t.Name n ∷ ts) x h =
-      let b = bind_ok (w.column_list ts) (λ ns. λ us. r.view_query us >>= (λ q. λ vs. Some (s.view (record { name = n; columns = ns; query = q }), vs))) x h in
-      let m = bind_ok (r.view_query b.0.1) (λ q. λ vs. Some (s.view (record { name = n; columns = b.0.0; query = q }), vs)) x b.2 in
-      let columns = column_list_sound ts b.0 b.1 in
-      let q = view_query_sound b.0.1 m.0 m.1 in
-      found is_statement sp.statement _ (s.view (record { name = n; columns = b.0.0; query = m.0.0 }), m.0.1) x
-      (record {
-        grammatical = q.0;
-        tokens = ap (λ us. t.Key k.Create ∷ t.Key k.View ∷ t.Name n ∷ us) (columns ∙ ap (sp.column_list b.0.0) q.1);
-      }) m.2
-  view_sound _ x h = absurd (none_some x h)
+view_sound : (ts : List Token) (x : s.Statement × List Token) → r.view_decl ts ≡ Some x → Takes is_statement sp.statement (t.Key k.Create ∷ t.Key k.View ∷ ts) x
+view_sound (t.Name n ∷ ts) x h =
+    let b = bind_ok (w.column_list ts) (λ ns. λ us. r.view_query us >>= (λ q. λ vs. Some (s.view (record { name = n; columns = ns; query = q }), vs))) x h in
+    let m = bind_ok (r.view_query b.0.1) (λ q. λ vs. Some (s.view (record { name = n; columns = b.0.0; query = q }), vs)) x b.2 in
+    let columns = column_list_sound ts b.0 b.1 in
+    let q = view_query_sound b.0.1 m.0 m.1 in
+    found is_statement sp.statement _ (s.view (record { name = n; columns = b.0.0; query = m.0.0 }), m.0.1) x
+    (record {
+      grammatical = q.0;
+      tokens = ap (λ us. t.Key k.Create ∷ t.Key k.View ∷ t.Name n ∷ us) (columns ∙ ap (sp.column_list b.0.0) q.1);
+    }) m.2
+view_sound _ x h = absurd (none_some x h)
 
-  statement_sound : (ts : List Token) (x : s.Statement × List Token) → r.statement ts ≡ Some x → Takes is_statement sp.statement ts x
-  statement_sound (t.Key k.Create ∷ t.Key k.Table ∷ ts) x h = table_sound ts x h
-  statement_sound (t.Key k.Create ∷ t.Key k.View ∷ ts) x h = view_sound ts x h
-  statement_sound _ x h = absurd (none_some x h)
+statement_sound : (ts : List Token) (x : s.Statement × List Token) → r.statement ts ≡ Some x → Takes is_statement sp.statement ts x
+statement_sound (t.Key k.Create ∷ t.Key k.Table ∷ ts) x h = table_sound ts x h
+statement_sound (t.Key k.Create ∷ t.Key k.View ∷ ts) x h = view_sound ts x h
+statement_sound _ x h = absurd (none_some x h)
 
-  ended_sound : (ts : List Token) (x : s.Statement × List Token) → r.ended ts ≡ Some x → (is_statement x.0 ≡ true) × (ts ≡ sp.statement x.0 (t.Semicolon ∷ x.1))
-  ended_sound ts x h =
-      let b = bind_ok (r.statement ts) r.semicolon x h in
-      let one = statement_sound ts b.0 b.1 in
-      let e = semicolon_sound b.0.0 b.0.1 x b.2 in
-      rw e.0 (one.grammatical, one.tokens ∙ ap (sp.statement b.0.0) e.1)
+ended_sound : (ts : List Token) (x : s.Statement × List Token) → r.ended ts ≡ Some x → (is_statement x.0 ≡ true) × (ts ≡ sp.statement x.0 (t.Semicolon ∷ x.1))
+ended_sound ts x h =
+    let b = bind_ok (r.statement ts) r.semicolon x h in
+    let one = statement_sound ts b.0 b.1 in
+    let e = semicolon_sound b.0.0 b.0.1 x b.2 in
+    rw e.0 (one.grammatical, one.tokens ∙ ap (sp.statement b.0.0) e.1)
 
-  statements_sound : (n : ℕ) (ts : List Token) (xs : List s.Statement) → r.statements n ts ≡ Some xs → (are_statements xs ≡ true) × (ts ≡ sp.statements xs)
-  statements_sound n [] xs h = rw (sym (some_inj [] xs h)) (refl, refl)
-  statements_sound zero (u ∷ ts) xs h = absurd (none_some xs h)
-  statements_sound (suc n) (u ∷ ts) xs h =
-      let b = turn_ok n (r.ended (u ∷ ts)) xs h in
-      let first = ended_sound (u ∷ ts) b.0 b.2 in
-      let rest = statements_sound n b.0.1 b.1 b.3 in
-      rw b.4 (and_true _ _ first.0 rest.0, first.1 ∙ ap (λ us. sp.statement b.0.0 (t.Semicolon ∷ us)) rest.1)
+statements_sound : (n : ℕ) (ts : List Token) (xs : List s.Statement) → r.statements n ts ≡ Some xs → (are_statements xs ≡ true) × (ts ≡ sp.statements xs)
+statements_sound n [] xs h = rw (sym (some_inj [] xs h)) (refl, refl)
+statements_sound zero (u ∷ ts) xs h = absurd (none_some xs h)
+statements_sound (suc n) (u ∷ ts) xs h =
+    let b = turn_ok n (r.ended (u ∷ ts)) xs h in
+    let first = ended_sound (u ∷ ts) b.0 b.2 in
+    let rest = statements_sound n b.0.1 b.1 b.3 in
+    rw b.4 (and_true _ _ first.0 rest.0, first.1 ∙ ap (λ us. sp.statement b.0.0 (t.Semicolon ∷ us)) rest.1)
 
-  pub schema_sound : (ts : List Token) (x : s.Schema) → schema_tree ts ≡ Some x → SpellsSchema x ts
-  unfolding schema_tree
-  schema_sound ts x h =
-      let read = map_ok (λ xs. record { statements = xs }) (r.statements (length ts) ts) x h in
-      let all = statements_sound (length ts) ts read.0 read.1 in
-      rw read.2 (record { grammatical = all.0; spelled = all.1 })
+pub schema_sound : (ts : List Token) (x : s.Schema) → schema_tree ts ≡ Some x → SpellsSchema x ts
+unfolding schema_tree
+schema_sound ts x h =
+    let read = map_ok (λ xs. record { statements = xs }) (r.statements (length ts) ts) x h in
+    let all = statements_sound (length ts) ts read.0 read.1 in
+    rw read.2 (record { grammatical = all.0; spelled = all.1 })
