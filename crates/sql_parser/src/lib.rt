@@ -15,3 +15,4 @@ mod text;
 mod word;
 
 pub use refusal::ParseRefusal;
+pub use schema::parse_schema;

@@ -135,3 +135,24 @@ fn schema(alloc: Global, ts: &[Spanned]) -> Result<Schema, ParseRefusal>
     let statements = statements(alloc, ts)?;
     Ok(Schema { statements })
 }
+
+/// The schema that the tokens spell (SQL-92, 11.3 and 11.19). Fails with `OverLimit` where they
+/// are too deep to be read, with `Syntax` where they spell none, and with `Memory` where memory
+/// ran out.
+pub fn parse_schema(alloc: Global, tokens: &[Spanned]) -> Result<Schema, ParseRefusal>
+    ensures over { IsErrOf result OverLimit ↔ (too_deep (token_list tokens.now) ≡ true) }
+    ensures found { IfOk result (λ x. SpellsSchema (shown.schema x) (token_list tokens.now)) }
+    // It is the only one.
+    ensures only { IfOk result (λ x. (other : s.Schema) → SpellsSchema other (token_list tokens.now) → other ≡ shown.schema x) }
+    ensures none { IsErrOf result Syntax → (x : s.Schema) → SpellsSchema x (token_list tokens.now) → ⊥ }
+    ensures gives { too_deep (token_list tokens.now) ≡ false → Gives shown.schema result (schema_tree (token_list tokens.now)) }
+    // The definition gives the schema that the grammar says the tokens spell.
+    ensures reading { too_deep (token_list tokens.now) ≡ false → (x : s.Schema) → (schema_tree (token_list tokens.now) ≡ Some x) ↔ (SpellsSchema x (token_list tokens.now)) }
+    // No tokens spell two schemas.
+    ensures unique { (a b : s.Schema) → SpellsSchema a (token_list tokens.now) → SpellsSchema b (token_list tokens.now) → a ≡ b }
+{
+    if too_deep(tokens) {
+        return Err(ParseRefusal::OverLimit);
+    }
+    schema(alloc, tokens)
+}
