@@ -11,6 +11,8 @@ mod naming;
 mod refusal;
 mod schema;
 mod sub;
+#[cfg(test)]
+mod tests_schema;
 mod text;
 mod word;
 
