@@ -26,7 +26,8 @@ use Rattle.sql_ast.specs.declared.word.SetQuantifier.{SetQuantifier}
 use Rattle.sql_ast.specs.declared.word.SetQuantifier.TheVariants as each
 use Rattle.sql_ast.specs.Spelling as sp
 use Rattle.sql_parser.specs.Words as r
-use Rattle.sql_parser.specs.Words.{◌>>=◌, mapped, inner_join, left_join}
+use Rattle.sql_parser.specs.declared.word.JoinKind.TheVariants as join_of
+use Rattle.sql_parser.specs.Words.{◌>>=◌, mapped}
 use Rattle.sql_parser.specs.ReadText as text
 use Rattle.sql_parser.proofs.Lookahead.{rank}
 use Rattle.sql_parser.proofs.Stops as stops
@@ -61,11 +62,11 @@ pub all_read : (b : Bool) (ts : List Token) → r.all_at ts ≡ (false, ts) → 
 all_read true ts h = refl
 all_read false ts h = h
 
-pub inner_read : (b : Bool) (ts : List Token) → r.join_at (sp.optional k.Inner b (t.Key k.Join ∷ ts)) ≡ Some (inner_join b, ts)
+pub inner_read : (b : Bool) (ts : List Token) → r.join_at (sp.optional k.Inner b (t.Key k.Join ∷ ts)) ≡ Some (join_of.Inner b, ts)
 inner_read true ts = refl
 inner_read false ts = refl
 
-pub left_read : (b : Bool) (ts : List Token) → r.join_at (t.Key k.Left ∷ sp.optional k.Outer b (t.Key k.Join ∷ ts)) ≡ Some (left_join b, ts)
+pub left_read : (b : Bool) (ts : List Token) → r.join_at (t.Key k.Left ∷ sp.optional k.Outer b (t.Key k.Join ∷ ts)) ≡ Some (join_of.Left b, ts)
 left_read true ts = refl
 left_read false ts = refl
 

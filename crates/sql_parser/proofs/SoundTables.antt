@@ -10,7 +10,9 @@ use Rattle.sql_ast.specs.Syntax as s
 use Rattle.sql_parser.specs.Ahead.{at_query}
 use Rattle.sql_parser.specs.Read as read
 use Rattle.sql_parser.specs.Read.{close_join, name_derived}
-use Rattle.sql_parser.specs.Words.{Found, Parser, ◌>>=◌, correlation, optional_correlation, JoinKind, inner_join, left_join, cross_join, join_at}
+use Rattle.sql_parser.specs.declared.word.JoinKind.{JoinKind}
+use Rattle.sql_parser.specs.declared.word.JoinKind.TheVariants as join_of
+use Rattle.sql_parser.specs.Words.{Found, Parser, ◌>>=◌, correlation, optional_correlation, join_at}
 use Rattle.sql_parser.proofs.Steps.{none_some, bind_ok, and_true, and_ok}
 use Rattle.sql_parser.proofs.SoundSteps.{Takes, Sound, found}
 use Rattle.sql_parser.proofs.SoundWords as word
@@ -81,20 +83,20 @@ module _ (e : Parser s.Expr) (c : Parser s.Cond) (q : Parser s.Query) (j : Parse
 
   inner_sound : (left : s.TableRef) (inner : Bool) (right : s.TableRef) (ts : List Token) (x : s.TableRef × List Token) → is_table left ≡ true → ok_tprim right ≡ true
       → (read.on e c q j ts >>= (λ y. λ us. Some (s.join left inner right y, us))) ≡ Some x
-      → Takes is_table sp.table (sp.table left (join_words (inner_join inner) (sp.table right ts))) x
+      → Takes is_table sp.table (sp.table left (join_words (join_of.Inner inner) (sp.table right ts))) x
   inner_sound left inner right ts x gl gr h =
       let b = bind_ok (read.on e c q j ts) (λ y. λ us. Some (s.join left inner right y, us)) x h in
       let p = on_sound ts b.0 b.1 in
       found is_table sp.table _ (s.join left inner right b.0.0, b.0.1) x
       (record {
         grammatical = and_true _ _ gl (and_true _ _ gr p.grammatical);
-        tokens = ap (λ u. sp.table left (join_words (inner_join inner) (sp.table right u))) p.tokens;
+        tokens = ap (λ u. sp.table left (join_words (join_of.Inner inner) (sp.table right u))) p.tokens;
       }) b.2
 
   left_at : (b : Bool) (left : s.TableRef) (outer : Bool) (right : s.TableRef) (y : s.Cond) (ts : List Token) (x : s.TableRef × List Token)
       → is_table left ≡ true → ok_tprim right ≡ true → is_cond y ≡ true → cond_without_sub y ≡ b
       → (if b then Some (s.left_join left outer right y, ts) else None) ≡ Some x
-      → Takes is_table sp.table (sp.table left (join_words (left_join outer) (sp.table right (spell_on y ts)))) x
+      → Takes is_table sp.table (sp.table left (join_words (join_of.Left outer) (sp.table right (spell_on y ts)))) x
   left_at true left outer right y ts x gl gr gy alone h =
       found is_table sp.table _ (s.left_join left outer right y, ts) x
       (record { grammatical = and_true _ _ gl (and_true _ _ gr (and_true _ _ gy alone)); tokens = refl }) h
@@ -102,30 +104,30 @@ module _ (e : Parser s.Expr) (c : Parser s.Cond) (q : Parser s.Query) (j : Parse
 
   left_sound : (left : s.TableRef) (outer : Bool) (right : s.TableRef) (ts : List Token) (x : s.TableRef × List Token) → is_table left ≡ true → ok_tprim right ≡ true
       → (read.on e c q j ts >>= read.left_joined e c q j left outer right) ≡ Some x
-      → Takes is_table sp.table (sp.table left (join_words (left_join outer) (sp.table right ts))) x
+      → Takes is_table sp.table (sp.table left (join_words (join_of.Left outer) (sp.table right ts))) x
   left_sound left outer right ts x gl gr h =
       let b = bind_ok (read.on e c q j ts) (read.left_joined e c q j left outer right) x h in
       let p = on_sound ts b.0 b.1 in
       let m = left_at (cond_without_sub b.0.0) left outer right b.0.0 b.0.1 x gl gr p.grammatical refl b.2 in
-      record { grammatical = m.grammatical; tokens = ap (λ u. sp.table left (join_words (left_join outer) (sp.table right u))) p.tokens ∙ m.tokens }
+      record { grammatical = m.grammatical; tokens = ap (λ u. sp.table left (join_words (join_of.Left outer) (sp.table right u))) p.tokens ∙ m.tokens }
 
   join_after_sound : (left : s.TableRef) (kind : JoinKind) (ts : List Token) (x : s.TableRef × List Token) → is_table left ≡ true → read.join_after e c q j left kind ts ≡ Some x
       → Takes is_table sp.table (sp.table left (join_words kind ts)) x
-  join_after_sound left (inner_join inner) ts x g h =
+  join_after_sound left (join_of.Inner inner) ts x g h =
       let b = bind_ok (read.tprim e c q j ts) (λ right. λ us. read.on e c q j us >>= (λ y. λ vs. Some (s.join left inner right y, vs))) x h in
       let p = tprim_sound ts b.0 b.1 in
       let m = inner_sound left inner b.0.0 b.0.1 x g p.grammatical b.2 in
-      record { grammatical = m.grammatical; tokens = ap (λ u. sp.table left (join_words (inner_join inner) u)) p.tokens ∙ m.tokens }
-  join_after_sound left (left_join outer) ts x g h =
+      record { grammatical = m.grammatical; tokens = ap (λ u. sp.table left (join_words (join_of.Inner inner) u)) p.tokens ∙ m.tokens }
+  join_after_sound left (join_of.Left outer) ts x g h =
       let b = bind_ok (read.tprim e c q j ts) (λ right. λ us. read.on e c q j us >>= read.left_joined e c q j left outer right) x h in
       let p = tprim_sound ts b.0 b.1 in
       let m = left_sound left outer b.0.0 b.0.1 x g p.grammatical b.2 in
-      record { grammatical = m.grammatical; tokens = ap (λ u. sp.table left (join_words (left_join outer) u)) p.tokens ∙ m.tokens }
-  join_after_sound left cross_join ts x g h =
+      record { grammatical = m.grammatical; tokens = ap (λ u. sp.table left (join_words (join_of.Left outer) u)) p.tokens ∙ m.tokens }
+  join_after_sound left join_of.Cross ts x g h =
       let b = bind_ok (read.tprim e c q j ts) (λ right. λ us. Some (s.cross_join left right, us)) x h in
       let p = tprim_sound ts b.0 b.1 in
       found is_table sp.table _ (s.cross_join left b.0.0, b.0.1) x
-      (record { grammatical = and_true _ _ g p.grammatical; tokens = ap (λ u. sp.table left (join_words cross_join u)) p.tokens }) b.2
+      (record { grammatical = and_true _ _ g p.grammatical; tokens = ap (λ u. sp.table left (join_words join_of.Cross u)) p.tokens }) b.2
 
   join_turn : (o : Found JoinKind) (n : ℕ) (left : s.TableRef) (ts : List Token) (x : s.TableRef × List Token)
       → ((l : s.TableRef) (us : List Token) → is_table l ≡ true → read.more_joins e c q j n l us ≡ Some x → Takes is_table sp.table (sp.table l us) x)

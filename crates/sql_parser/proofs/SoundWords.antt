@@ -18,8 +18,10 @@ use Rattle.sql_ast.specs.declared.word.SetOperator.{SetOperator}
 use Rattle.sql_ast.specs.declared.word.SetOperator.TheVariants as set
 use Rattle.sql_ast.specs.Grammatical.{some_of}
 use Rattle.sql_ast.specs.Spelling as sp
+use Rattle.sql_parser.specs.declared.word.JoinKind.{JoinKind}
+use Rattle.sql_parser.specs.declared.word.JoinKind.TheVariants as join_of
 use Rattle.sql_parser.specs.Words as w
-use Rattle.sql_parser.specs.Words.{◌>>=◌, mapped, JoinKind, inner_join, left_join, cross_join}
+use Rattle.sql_parser.specs.Words.{◌>>=◌, mapped}
 use Rattle.sql_parser.proofs.Steps.{some_inj, none_some, bind_ok, mapped_ok, closed_ok}
 use Rattle.sql_parser.proofs.SoundSteps.{Takes, inside, found}
 
@@ -70,20 +72,20 @@ not_sound ts = refl
 
 -- the words of a join
 abbrev pub join_words : JoinKind → List Token → List Token
-join_words (inner_join inner) ts = sp.optional k.Inner inner (t.Key k.Join ∷ ts)
-join_words (left_join outer) ts = t.Key k.Left ∷ sp.optional k.Outer outer (t.Key k.Join ∷ ts)
-join_words cross_join ts = t.Key k.Cross ∷ t.Key k.Join ∷ ts
+join_words (join_of.Inner inner) ts = sp.optional k.Inner inner (t.Key k.Join ∷ ts)
+join_words (join_of.Left outer) ts = t.Key k.Left ∷ sp.optional k.Outer outer (t.Key k.Join ∷ ts)
+join_words join_of.Cross ts = t.Key k.Cross ∷ t.Key k.Join ∷ ts
 
 after_left_sound : (outer : Bool) (ts : List Token) (x : JoinKind × List Token) → w.after_left outer ts ≡ Some x → t.Key k.Left ∷ sp.optional k.Outer outer ts ≡ join_words x.0 x.1
-after_left_sound outer (t.Key k.Join ∷ ts) x h = told join_words _ (left_join outer, ts) x refl h
+after_left_sound outer (t.Key k.Join ∷ ts) x h = told join_words _ (join_of.Left outer, ts) x refl h
 after_left_sound outer _ x h = absurd (none_some x h)
 
 pub join_sound : (ts : List Token) (x : JoinKind × List Token) → w.join_at ts ≡ Some x → ts ≡ join_words x.0 x.1
-join_sound (t.Key k.Join ∷ ts) x h = told join_words _ (inner_join false, ts) x refl h
-join_sound (t.Key k.Inner ∷ t.Key k.Join ∷ ts) x h = told join_words _ (inner_join true, ts) x refl h
+join_sound (t.Key k.Join ∷ ts) x h = told join_words _ (join_of.Inner false, ts) x refl h
+join_sound (t.Key k.Inner ∷ t.Key k.Join ∷ ts) x h = told join_words _ (join_of.Inner true, ts) x refl h
 join_sound (t.Key k.Left ∷ t.Key k.Outer ∷ ts) x h = after_left_sound true ts x h
 join_sound (t.Key k.Left ∷ ts) x h = after_left_sound false ts x h
-join_sound (t.Key k.Cross ∷ t.Key k.Join ∷ ts) x h = told join_words _ (cross_join, ts) x refl h
+join_sound (t.Key k.Cross ∷ t.Key k.Join ∷ ts) x h = told join_words _ (join_of.Cross, ts) x refl h
 join_sound _ x h = absurd (none_some x h)
 
 -- ---- names and columns

@@ -1,5 +1,6 @@
 -- Reading of the text of a schema.
 use Rattle.std.specs.Prelude.{ℕ, zero, suc, List, [], ◌∷◌, length, Option, Some, None}
+use Rattle.std.specs.Option.{option_map, option_and_then}
 use Rattle.sql_text.specs.declared.key.Key.TheVariants as k
 use Rattle.sql_text.specs.declared.token.Token.{Token}
 use Rattle.sql_text.specs.declared.token.Token.TheVariants as t
@@ -70,15 +71,16 @@ abbrev pub semicolon : s.Statement → Parser s.Statement
 semicolon x (t.Semicolon ∷ ts) = Some (x, ts)
 semicolon x _ = None
 
--- { stmt ";" }, up to the end
+-- stmt ";"
+abbrev pub ended : Parser s.Statement
+ended ts = statement ts >>= semicolon
+
+-- { stmt ";" }, up to the end, in so many turns at most
 abbrev pub statements : ℕ → List Token → Option (List s.Statement)
 statements n [] = Some []
 statements zero ts = None
-statements (suc n) ts = elim (statement ts >>= semicolon) as (λ _. Option (List s.Statement)) [
-  | None ↦ None
-  | Some r ↦ elim (statements n r.1) as (λ _. Option (List s.Statement)) [ None ↦ None | Some xs ↦ Some (r.0 ∷ xs) ]
-]
+statements (suc n) ts = option_and_then (λ x. option_map (λ xs. x.0 ∷ xs) (statements n x.1)) (ended ts)
 
 -- schema = { stmt ";" }
 unfoldable pub schema_tree : List Token → Option s.Schema
-schema_tree ts = elim (statements (length ts) ts) as (λ _. Option s.Schema) [ None ↦ None | Some xs ↦ Some (record { statements = xs }) ]
+schema_tree ts = option_map (λ xs. record { statements = xs }) (statements (length ts) ts)

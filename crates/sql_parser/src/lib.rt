@@ -4,6 +4,7 @@
 mod ahead;
 mod case;
 mod condition;
+mod elements;
 mod expression;
 mod grammar;
 mod naming;
@@ -12,8 +13,12 @@ mod refusal;
 mod stubs;
 mod sub;
 mod table;
+mod schema;
+#[cfg(test)]
+mod tests_schema;
 mod text;
 mod word;
 
 pub use refusal::ParseRefusal;
 pub use text::parse_query;
+pub use schema::parse_schema;
