@@ -1,1 +1,5 @@
+pub mod Names
+pub mod TableNames
+pub mod Keys
+pub mod Nesting
 pub mod Catalog
