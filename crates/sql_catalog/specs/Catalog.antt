@@ -1,5 +1,5 @@
 -- What a schema declares: its tables and views, in declared order, or the least number that refuses it.
-use Rattle.std.specs.Prelude.{ℕ, ℤ, pos, negsuc, ◌==◌, ◌||◌, ◌&&◌, not, nat_eq, nat_le, nat_lt, if◌then◌else◌, Bool, true, false, List, [], ◌∷◌, ◌++◌, length, map, Option, None, Some, Result, Ok, Err, find}
+use Rattle.std.specs.Prelude.{ℕ, ℤ, pos, negsuc, ◌==◌, ◌||◌, ◌&&◌, not, nat_eq, nat_le, nat_lt, if◌then◌else◌, Bool, true, false, List, [], ◌∷◌, ◌++◌, length, map, Option, None, Some, Result, Ok, Err, find, count_by}
 use Rattle.std.specs.List.{list_any, list_all}
 use Rattle.sql_ast.specs.declared.schema.ColumnDecl.{ColumnDecl}
 use Rattle.sql_ast.specs.declared.schema.TableDecl.{TableDecl}
@@ -8,10 +8,11 @@ use Rattle.sql_ast.specs.declared.word.DataType.{DataType}
 use Rattle.sql_ast.specs.declared.word.DataType.TheVariants as types
 use Rattle.sql_ast.specs.Shown as shown
 use Rattle.sql_ast.specs.Syntax as s
-use Rattle.sql_catalog.specs.Keys.{columns_of, names_of, primary_keys, unique_keys}
+use Rattle.sql_catalog.specs.declared.key.Key.{Key}
+use Rattle.sql_catalog.specs.declared.reader.Reader.{Reader}
+use Rattle.sql_catalog.specs.Keys.{columns_of, names_of, types_of, keys_of}
 use Rattle.sql_catalog.specs.Names.{same_name, contains, has_twins}
-use Rattle.sql_catalog.specs.Nesting.{view_names, is_recursive, within}
-use Rattle.sql_catalog.specs.TableNames.{in_query}
+use Rattle.sql_catalog.specs.Nesting.{readers_of, is_recursive, nests_over}
 
 -- the tables and the views of a schema, each in declared order
 pub record Declared : Type 0 where
@@ -34,6 +35,10 @@ views_of (s.view v ∷ xs) = v ∷ views_of xs
 abbrev pub table_names : List TableDecl → List (List ℕ)
 table_names tables = map (λ (t : TableDecl). t.name) tables
 
+-- the views' names
+abbrev pub view_names : List s.ViewDecl → List (List ℕ)
+view_names views = map (λ (v : s.ViewDecl). v.name) views
+
 -- the names of tables and views
 abbrev pub known_names : Declared → List (List ℕ)
 known_names d = table_names d.tables ++ view_names d.views
@@ -41,72 +46,74 @@ known_names d = table_names d.tables ++ view_names d.views
 -- ---- what refuses a schema
 
 -- 6: a view's body names neither a table nor a view of the schema
-abbrev pub reads_unknown : Declared → Bool
-reads_unknown d = list_any (λ (v : s.ViewDecl). list_any (λ n. not (contains (known_names d) n)) (in_query v.query)) d.views
+abbrev pub reads_unknown : List (List ℕ) → List Reader → Bool
+reads_unknown known views = list_any (λ (v : Reader). list_any (λ n. not (contains known n)) v.reads) views
+
+-- two columns of a table are equal
+abbrev pub has_twin_columns : TableDecl → Bool
+has_twin_columns t = has_twins (names_of (columns_of t.elements))
 
 -- 8: two tables or views, two columns of a table, or two names in a view's list are equal
 abbrev pub has_duplicate : Declared → Bool
 has_duplicate d =
     has_twins (known_names d)
-    || (list_any (λ (t : TableDecl). has_twins (names_of (columns_of t.elements))) d.tables
+    || (list_any has_twin_columns d.tables
     || list_any (λ (v : s.ViewDecl). has_twins v.columns) d.views)
 
 -- a key names a column that the table lacks, or one column twice
-abbrev pub is_bad_key : List (List ℕ) → List (List ℕ) → Bool
-is_bad_key columns key = list_any (λ n. not (contains columns n)) key || has_twins key
+abbrev pub is_bad_key : List (List ℕ) → Key → Bool
+is_bad_key columns k = list_any (λ n. not (contains columns n)) k.columns || has_twins k.columns
 
 -- 9: a key of a table is bad, or a table has two primary keys
 abbrev pub has_bad_key : TableDecl → Bool
 has_bad_key t =
-    list_any (is_bad_key (names_of (columns_of t.elements))) (primary_keys t.elements ++ unique_keys t.elements)
-    || nat_lt 1 (length (primary_keys t.elements))
+    list_any (is_bad_key (names_of (columns_of t.elements))) (keys_of t.elements)
+    || nat_lt 1 (count_by (λ (k : Key). k.primary) (keys_of t.elements))
 
 -- a letter A to Z or a to z, a digit or `_`
 abbrev pub is_plain : ℕ → Bool
 is_plain c =
     (nat_le 65 c && nat_le c 90) || ((nat_le 97 c && nat_le c 122) || ((nat_le 48 c && nat_le c 57) || nat_eq c 95))
 
--- the length of a VARCHAR is 1 to 4,096
+-- a type is no VARCHAR, or its length is 1 to 4,096
 abbrev pub fits_length : DataType → Bool
 fits_length types.Integer = true
 fits_length types.Int = true
 fits_length (types.Varchar (pos n)) = nat_le 1 n && nat_le n 4096
 fits_length (types.Varchar (negsuc n)) = false
 
--- a table has no column, or over 64, or a VARCHAR of another length, or a name with another character
-abbrev pub is_table_over : TableDecl → Bool
-is_table_over t =
-    (length (columns_of t.elements) == 0)
-    || (nat_lt 64 (length (columns_of t.elements))
-    || (list_any (λ (c : ColumnDecl). not (fits_length c.data_type)) (columns_of t.elements)
-    || not (list_all is_plain t.name)))
+-- a table has no column or over 64, a VARCHAR of a length that does not fit, or a name with a character that is not plain
+abbrev pub is_over_limits : TableDecl → Bool
+is_over_limits t =
+    ((length (columns_of t.elements) == 0) || nat_lt 64 (length (columns_of t.elements)))
+    || (list_any (λ d. not (fits_length d)) (types_of (columns_of t.elements))
+    || not (list_all is_plain t.name))
 
 -- 10: there are over 64 tables or over 64 views, a table is over its limits, or views nest over 16 deep
-abbrev pub is_over_limits : Declared → Bool
-is_over_limits d =
-    nat_lt 64 (length d.tables)
-    || (nat_lt 64 (length d.views)
-    || (list_any is_table_over d.tables
-    || list_any (λ (v : s.ViewDecl). not (within d.views 16 v.name)) d.views))
+abbrev pub passes_limits : Declared → Bool
+passes_limits d =
+    (nat_lt 64 (length d.tables) || nat_lt 64 (length d.views))
+    || (list_any is_over_limits d.tables
+    || list_any (nests_over (readers_of d.views) 16) (readers_of d.views))
 
--- the least number that refuses these tables and views
+-- the least number that refuses these tables and views, or none
 abbrev pub fault : Declared → Option ℕ
 fault d =
-    if reads_unknown d then Some 6
-    else if is_recursive d.views then Some 7
+    if reads_unknown (known_names d) (readers_of d.views) then Some 6
+    else if is_recursive (readers_of d.views) then Some 7
     else if has_duplicate d then Some 8
     else if list_any has_bad_key d.tables then Some 9
-    else if is_over_limits d then Some 10
+    else if passes_limits d then Some 10
     else None
-
--- the tables and views of a schema, or the least number that refuses it
-abbrev pub unless : Declared → Option ℕ → Result Declared ℕ
-unless d None = Ok d
-unless d (Some n) = Err n
 
 abbrev pub all_of : s.Schema → Declared
 all_of x = record { tables = tables_of x.statements; views = views_of x.statements }
 
+abbrev pub unless : Declared → Option ℕ → Result Declared ℕ
+unless d None = Ok d
+unless d (Some n) = Err n
+
+-- the tables and views that a schema declares, or the least number that refuses it
 abbrev pub declared : s.Schema → Result Declared ℕ
 declared x = unless (all_of x) (fault (all_of x))
 

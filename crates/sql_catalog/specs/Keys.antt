@@ -5,7 +5,8 @@ use Rattle.sql_ast.specs.declared.schema.ColumnConstraint.TheVariants as constra
 use Rattle.sql_ast.specs.declared.schema.ColumnDecl.{ColumnDecl}
 use Rattle.sql_ast.specs.declared.schema.Element.{Element}
 use Rattle.sql_ast.specs.declared.schema.Element.TheVariants as element
-use Rattle.sql_ast.specs.declared.schema.TableDecl.{TableDecl}
+use Rattle.sql_ast.specs.declared.word.DataType.{DataType}
+use Rattle.sql_catalog.specs.declared.key.Key.{Key}
 
 -- the columns among a table's elements, in order
 abbrev pub columns_of : List Element → List ColumnDecl
@@ -18,30 +19,23 @@ columns_of (element.Unique ns ∷ es) = columns_of es
 abbrev pub names_of : List ColumnDecl → List (List ℕ)
 names_of columns = map (λ (c : ColumnDecl). c.name) columns
 
--- for each PRIMARY KEY after a column, the key that is this column
-abbrev pub primary_marks : List ℕ → List ColumnConstraint → List (List (List ℕ))
-primary_marks name [] = []
-primary_marks name (constraint.NotNull ∷ cs) = primary_marks name cs
-primary_marks name (constraint.PrimaryKey ∷ cs) = (name ∷ []) ∷ primary_marks name cs
-primary_marks name (constraint.Unique ∷ cs) = primary_marks name cs
+-- their types
+abbrev pub types_of : List ColumnDecl → List DataType
+types_of columns = map (λ (c : ColumnDecl). c.data_type) columns
 
--- for each UNIQUE after a column, the key that is this column
-abbrev pub unique_marks : List ℕ → List ColumnConstraint → List (List (List ℕ))
-unique_marks name [] = []
-unique_marks name (constraint.NotNull ∷ cs) = unique_marks name cs
-unique_marks name (constraint.PrimaryKey ∷ cs) = unique_marks name cs
-unique_marks name (constraint.Unique ∷ cs) = (name ∷ []) ∷ unique_marks name cs
+abbrev pub key : Bool → List (List ℕ) → Key
+key primary columns = record { primary = primary; columns = columns }
 
--- the primary keys among a table's elements, in order, each as the names of its columns
-abbrev pub primary_keys : List Element → List (List (List ℕ))
-primary_keys [] = []
-primary_keys (element.Column c ∷ es) = primary_marks c.name c.constraints ++ primary_keys es
-primary_keys (element.PrimaryKey ns ∷ es) = ns ∷ primary_keys es
-primary_keys (element.Unique ns ∷ es) = primary_keys es
+-- the keys that the constraints after a column of this name declare, in order
+abbrev pub column_keys : List ℕ → List ColumnConstraint → List Key
+column_keys name [] = []
+column_keys name (constraint.NotNull ∷ cs) = column_keys name cs
+column_keys name (constraint.PrimaryKey ∷ cs) = key true (name ∷ []) ∷ column_keys name cs
+column_keys name (constraint.Unique ∷ cs) = key false (name ∷ []) ∷ column_keys name cs
 
--- the keys by UNIQUE, in order
-abbrev pub unique_keys : List Element → List (List (List ℕ))
-unique_keys [] = []
-unique_keys (element.Column c ∷ es) = unique_marks c.name c.constraints ++ unique_keys es
-unique_keys (element.PrimaryKey ns ∷ es) = unique_keys es
-unique_keys (element.Unique ns ∷ es) = ns ∷ unique_keys es
+-- the keys that a table's elements declare, in order
+abbrev pub keys_of : List Element → List Key
+keys_of [] = []
+keys_of (element.Column c ∷ es) = column_keys c.name c.constraints ++ keys_of es
+keys_of (element.PrimaryKey ns ∷ es) = key true ns ∷ keys_of es
+keys_of (element.Unique ns ∷ es) = key false ns ∷ keys_of es

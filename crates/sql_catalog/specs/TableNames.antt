@@ -1,5 +1,7 @@
 -- The names of tables that a tree reads, in the order of the text: those that stand in a FROM, at any depth.
 use Rattle.std.specs.Prelude.{ℕ, List, [], ◌∷◌, ◌++◌}
+use Rattle.sql_ast.specs.declared.tree.Block.{Block}
+use Rattle.sql_ast.specs.Shown as shown
 use Rattle.sql_ast.specs.Syntax as s
 
 abbrev mutual
@@ -87,3 +89,7 @@ abbrev mutual
   in_query (s.intersect a all b) = in_query a ++ in_query b
   in_query (s.block each list from by group having) = in_list list ++ (in_tables from ++ (in_filter by ++ in_filter having))
   in_query (s.enclosed q) = in_query q
+
+-- the same of a block, as the code has it
+abbrev pub in_block : Block → List (List ℕ)
+in_block b = in_list (shown.select_list b.list) ++ (in_tables (shown.table_list b.from) ++ (in_filter (shown.filter b.filter) ++ in_filter (shown.filter b.having)))

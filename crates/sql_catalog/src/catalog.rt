@@ -44,4 +44,14 @@ impl Catalog {
             .iter()
             .find(|table| table.name == *name)
     }
+
+    /// The first view of a name; none exactly where the catalog has none of the name.
+    pub fn view(&self, name: &Name) -> Option<&ViewDecl>
+        ensures { option_map (λ v. shown.view v.now) result ≡ view_named (map shown.view self.now.views) name.now }
+    {
+        self.views
+            .as_slice()
+            .iter()
+            .find(|view| view.name == *name)
+    }
 }

@@ -1,4 +1,16 @@
-//! x
+//! The catalog that a schema declares.
 #![tactic(auto)]
+
 mod catalog;
+mod key;
+mod limits;
+mod name_set;
+mod nesting;
+mod reader;
+mod refusal;
+mod walk;
+
 pub use catalog::{Catalog, TableList, ViewList};
+pub use key::{Key, column_names, column_types, keys};
+pub use reader::{Reader, readers};
+pub use refusal::SchemaRefusal;
