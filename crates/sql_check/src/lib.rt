@@ -1,7 +1,9 @@
 //! Which queries are valid, and what their names stand for.
 #![tactic(auto)]
 
+mod chain;
 mod checked;
+mod faults;
 mod refusal;
 mod scope;
 
