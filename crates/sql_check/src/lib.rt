@@ -4,6 +4,7 @@
 mod chain;
 mod checked;
 mod faults;
+mod found;
 mod refusal;
 mod scope;
 
