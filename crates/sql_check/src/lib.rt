@@ -5,6 +5,7 @@ mod chain;
 mod checked;
 mod faults;
 mod found;
+mod parts;
 mod refusal;
 mod scope;
 
