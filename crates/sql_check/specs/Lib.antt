@@ -3,3 +3,5 @@ pub mod Scope
 pub mod Valid
 pub mod Taken
 pub mod Core
+pub mod CoreShown
+pub mod Agreed

@@ -18,9 +18,13 @@ use Rattle.sql_value.specs.declared.order_key.SqlType.TheVariants.{Integer, Varc
 abbrev pub TypedScopes : Type 0
 TypedScopes = List (List TypedRange)
 
+-- a column has this name
+abbrev pub of_name : List ℕ → TypedColumn → Bool
+of_name name c = same_name c.name name
+
 -- the columns of a name among these
 abbrev pub columns_named : List ℕ → List TypedColumn → List TypedColumn
-columns_named name columns = filter (λ c. same_name c.name name) columns
+columns_named name columns = filter (of_name name) columns
 
 -- the columns of a name in a scope
 abbrev pub named_in : List ℕ → List TypedRange → List TypedColumn

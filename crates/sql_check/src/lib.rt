@@ -1,7 +1,11 @@
 //! Which queries are valid, and what their names stand for.
 #![tactic(auto)]
 
+mod chain;
 mod checked;
+mod faults;
+mod found;
+mod parts;
 mod refusal;
 mod scope;
 
