@@ -14,8 +14,6 @@ mod stubs;
 mod sub;
 mod table;
 mod schema;
-#[cfg(test)]
-mod tests_schema;
 mod text;
 mod word;
 

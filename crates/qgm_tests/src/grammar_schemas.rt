@@ -1,5 +1,5 @@
 // Texts of schemas beside their trees, written out: a statement a line, its elements after `|`.
-use crate::{ParseRefusal, parse_schema};
+use sql_parser::{ParseRefusal, parse_schema};
 use sql_ast::{Element, Query, Schema, Statement};
 use sql_text::{Name, lex};
 use std::alloc::Global;
