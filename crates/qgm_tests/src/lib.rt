@@ -3,6 +3,8 @@
 #![tactic(auto)]
 
 #[cfg(test)]
+mod expressions;
+#[cfg(test)]
 mod grammar;
 #[cfg(test)]
 mod grammar_schemas;
@@ -10,5 +12,7 @@ mod grammar_schemas;
 mod layers;
 #[cfg(test)]
 mod rows;
+#[cfg(test)]
+mod running;
 #[cfg(test)]
 mod trees;
