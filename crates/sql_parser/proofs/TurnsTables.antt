@@ -8,6 +8,7 @@ use Rattle.sql_text.specs.declared.token.Token.TheVariants as t
 use Rattle.sql_text.specs.declared.key.Key.TheVariants as k
 use Rattle.sql_ast.specs.declared.tree.Item.{Item}
 use Rattle.sql_ast.specs.declared.tree.Query.{Query}
+use Rattle.sql_ast.specs.declared.tree.SelectList.{SelectList}
 use Rattle.sql_ast.specs.declared.tree.TableRef.{TableRef}
 use Rattle.sql_ast.specs.declared.word.SetOperator.{SetOperator}
 use Rattle.sql_parser.specs.declared.word.JoinKind.{JoinKind}
@@ -16,7 +17,7 @@ use Rattle.sql_ast.specs.Shown as shown
 use Rattle.sql_ast.specs.Syntax as s
 use Rattle.sql_parser.specs.declared.refusal.ParseRefusal.{ParseRefusal}
 use Rattle.sql_parser.specs.declared.refusal.ParseRefusal.TheVariants.{OverLimit, Syntax, Memory}
-use Rattle.sql_parser.specs.Read.{starts_comma, starts_intersect, join_after, more_joins, tref, tables, more_tables, item, items, more_items, more_qprims, qterm, more_qterms}
+use Rattle.sql_parser.specs.Read.{starts_comma, starts_intersect, starts_star, listed, select_list, join_after, more_joins, tref, tables, more_tables, item, items, more_items, more_qprims, qterm, more_qterms}
 use Rattle.sql_parser.specs.ReadText.{more_sorts}
 use Rattle.sql_parser.specs.Words.{Found, Parser, ◌>>=◌, Gives, mapped, join_at, all_at, set_operator_at, more_columns}
 
@@ -72,6 +73,11 @@ module _ (e : Parser s.Expr) (c : Parser s.Cond) (q : Parser s.Query) (j : Parse
   items_stop (suc n) (t.Comma ∷ ts) h = absurd (cc)
   items_stop (suc n) ts h = refl
 
+  pub no_star : (ts : List Token) → starts_star ts ≡ false → listed e c q j ts ≡ select_list e c q j ts
+  no_star [] h = refl
+  no_star (t.Star ∷ ts) h = absurd (cc)
+  no_star (_ ∷ ts) h = refl
+
   pub qprims_stop : (n : ℕ) (left : s.Query) (ts : List Token) → starts_intersect ts ≡ false → more_qprims e c q j n left ts ≡ Some (left, ts)
   qprims_stop zero left ts h = refl
   qprims_stop (suc n) left (t.Key k.Intersect ∷ ts) h = absurd (cc)
@@ -96,6 +102,9 @@ query_seen x = (shown.query x.0, token_list x.1.now)
 
 abbrev pub table_seen : TableRef × Bor (List Spanned) → s.TableRef × List Token
 table_seen x = (shown.table x.0, token_list x.1.now)
+
+abbrev pub list_seen : SelectList × Bor (List Spanned) → s.SelectList × List Token
+list_seen x = (shown.select_list x.0, token_list x.1.now)
 
 abbrev pub tables_seen : List TableRef × Bor (List Spanned) → s.TableRefs × List Token
 tables_seen x = (shown.table_list x.0, token_list x.1.now)

@@ -46,6 +46,11 @@ abbrev pub starts_or : List Token → Bool
 starts_or (t.Key k.Or ∷ ts) = true
 starts_or _ = false
 
+-- "*" stands first
+abbrev pub starts_star : List Token → Bool
+starts_star (t.Star ∷ ts) = true
+starts_star _ = false
+
 -- INTERSECT stands first
 abbrev pub starts_intersect : List Token → Bool
 starts_intersect (t.Key k.Intersect ∷ ts) = true
@@ -382,10 +387,14 @@ module _ (e : Parser s.Expr) (c : Parser s.Cond) (q : Parser s.Query) (j : Parse
   abbrev pub items : Parser s.Items
   items ts = item ts >>= (λ x. λ us. more_items (length us) us >>= (λ xs. λ vs. Some (s.one_item x xs, vs)))
 
+  -- item { "," item }, as a list
+  abbrev pub listed : Parser s.SelectList
+  listed ts = items ts >>= (λ xs. λ us. Some (s.items xs, us))
+
   -- list = "*" | item { "," item }
   abbrev pub select_list : Parser s.SelectList
   select_list (t.Star ∷ ts) = Some (s.star, ts)
-  select_list ts = items ts >>= (λ xs. λ us. Some (s.items xs, us))
+  select_list ts = listed ts
 
   -- [ WHERE cond ] [ GROUP BY col { "," col } ] [ HAVING cond ]
   abbrev pub block_end : Option SetQuantifier → s.SelectList → s.TableRefs → Parser s.Query

@@ -3,7 +3,7 @@ ghost use Rattle.std.specs.Prelude.{◌≡◌, ◌∷◌, false, IfSome, IfNone}
 ghost use Rattle.sql_ast.specs.Shown as shown;
 ghost use Rattle.sql_parser.specs.Nests.{Nests};
 ghost use Rattle.sql_parser.specs.Read as read;
-ghost use Rattle.sql_parser.specs.Read.{starts_intersect};
+ghost use Rattle.sql_parser.specs.Read.{starts_intersect, starts_star};
 ghost use Rattle.sql_parser.specs.Words.{Gives};
 ghost use Rattle.sql_text.specs.Tokens.{token_list};
 ghost use Rattle.sql_text.specs.declared.key.Key.TheVariants.{Intersect};
@@ -25,6 +25,17 @@ fn after_intersect(ts: &[Spanned]) -> Option<&[Spanned]>
 {
     match first(ts) {
         Some((Token::Key(Key::Intersect), rest)) => Some(rest),
+        _ => None,
+    }
+}
+
+/// The tokens after `"*"`.
+fn after_star(ts: &[Spanned]) -> Option<&[Spanned]>
+    ensures found { IfSome result (λ rest. token_list ts.now ≡ t.Star ∷ token_list rest.now) }
+    ensures none { IfNone result (starts_star (token_list ts.now) ≡ false) }
+{
+    match first(ts) {
+        Some((Token::Star, rest)) => Some(rest),
         _ => None,
     }
 }
@@ -82,8 +93,20 @@ impl<
         Ok((items, rest))
     }
 
-    /// `list = "*" | item { "," item }`
+    /// `item { "," item }`, as a list
     #[tactic(auto, using(sql_ast::specs::Shown::lists))]
+    fn listed<'a>(&self, ts: &'a [Spanned]) -> Result<(SelectList, &'a [Spanned]), ParseRefusal>
+        requires expr { Nests shown.expr (read.expr self.now.depth) self.now.depth (E.pre self.now.expr) (E.post self.now.expr) }
+        requires cond { Nests shown.cond (read.cond self.now.depth) self.now.depth (C.pre self.now.cond) (C.post self.now.cond) }
+        requires query { Nests shown.query (read.query self.now.depth) self.now.depth (Q.pre self.now.query) (Q.post self.now.query) }
+        requires table { Nests shown.table (read.table self.now.depth) self.now.depth (T.pre self.now.table) (T.post self.now.table) }
+        ensures { Gives (λ x. (shown.select_list x.0, token_list x.1.now)) result (read.listed (read.expr self.now.depth) (read.cond self.now.depth) (read.query self.now.depth) (read.table self.now.depth) (token_list ts.now)) }
+    {
+        let (items, rest) = self.items(ts)?;
+        Ok((SelectList::Items(items), rest))
+    }
+
+    /// `list = "*" | item { "," item }`
     fn select_list<'a>(
         &self,
         ts: &'a [Spanned],
@@ -94,12 +117,9 @@ impl<
         requires table { Nests shown.table (read.table self.now.depth) self.now.depth (T.pre self.now.table) (T.post self.now.table) }
         ensures { Gives (λ x. (shown.select_list x.0, token_list x.1.now)) result (read.select_list (read.expr self.now.depth) (read.cond self.now.depth) (read.query self.now.depth) (read.table self.now.depth) (token_list ts.now)) }
     {
-        match first(ts) {
-            Some((Token::Star, rest)) => Ok((SelectList::All, rest)),
-            _ => {
-                let (items, rest) = self.items(ts)?;
-                Ok((SelectList::Items(items), rest))
-            }
+        match after_star(ts) {
+            Some(rest) => Ok((SelectList::All, rest)),
+            None => self.listed(ts),
         }
     }
 

@@ -12,7 +12,7 @@ pub items-init : goal.items-init
 items-init g c =
     items_begin (read.expr c.args.self.now.depth) (read.cond c.args.self.now.depth) (read.query c.args.self.now.depth) (read.table c.args.self.now.depth) (token_list c.args.ts.now) (shown.item c.in_ok-item_first.item_first) c.in_ok-item_first.after_first.now c.in_ok-item_first.ensures
     ∙ ap (λ xs. mapped (append_items (shown.item_list xs)) (read.more_items (read.expr c.args.self.now.depth) (read.cond c.args.self.now.depth) (read.query c.args.self.now.depth) (read.table c.args.self.now.depth) (length c.in_ok-item_first.after_first.now - 0) (token_list c.in_ok-item_first.after_first.now)))
-        (sym (c.in_ok-push.ensures.ok ∙ ap (λ xs. xs ++ c.in_ok-item_first.item_first ∷ []) c.new-items.ensures))
+    (sym (c.in_ok-push.ensures.ok ∙ ap (λ xs. xs ++ c.in_ok-item_first.item_first ∷ []) c.new-items.ensures))
 
 pub returns-in-None : goal.returns-in-None
 returns-in-None g c =

@@ -12,7 +12,7 @@ pub tables-init : goal.tables-init
 tables-init g c =
     tables_begin (read.expr c.args.self.now.depth) (read.cond c.args.self.now.depth) (read.query c.args.self.now.depth) (read.table c.args.self.now.depth) (token_list c.args.ts.now) (shown.table c.in_ok-table_first.table_first) c.in_ok-table_first.after_first.now c.in_ok-table_first.ensures
     ∙ ap (λ xs. mapped (append_tables (shown.table_list xs)) (read.more_tables (read.expr c.args.self.now.depth) (read.cond c.args.self.now.depth) (read.query c.args.self.now.depth) (read.table c.args.self.now.depth) (length c.in_ok-table_first.after_first.now - 0) (token_list c.in_ok-table_first.after_first.now)))
-        (sym (c.in_ok-push.ensures.ok ∙ ap (λ xs. xs ++ c.in_ok-table_first.table_first ∷ []) c.new-tables.ensures))
+    (sym (c.in_ok-push.ensures.ok ∙ ap (λ xs. xs ++ c.in_ok-table_first.table_first ∷ []) c.new-tables.ensures))
 
 pub returns-in-None : goal.returns-in-None
 returns-in-None g c =
