@@ -1,10 +1,10 @@
 -- Totals over bags, and agreement by sums.
-use Rattle.std.proofs.Common.{◌≡◌, ℕ, ◌+◌, add_assoc, add_comm, zero-add, List, [], ◌∷◌, ◌++◌, refl, ap, ap₂, sym, ◌∙◌}
+use Rattle.std.proofs.Common.{◌≡◌, ℕ, ◌+◌, add_assoc, add_comm, zero-add, List, [], ◌++◌, refl, ap, ap₂, sym, ◌∙◌}
 use mathlib.Core.Path.{fun_ext}
 use Rattle.sql_value.specs.declared.level.Level.{Level}
 use Rattle.sql_value.specs.declared.level.Level.TheVariants.{No, Cardinality, Division, Overflow, Yes}
 use Rattle.sql_value.specs.Level.{least}
-use Rattle.row_bag.specs.Bags.{row, keep, unit, bind, fold_map, if_there, total, Alike, IsCommutativeMonoid}
+use Rattle.row_bag.specs.Bags.{row, keep, bind, fold_map, if_there, total, Alike, IsCommutativeMonoid}
 use Rattle.row_bag.specs.declared.row.Row.{Row}
 use Rattle.row_bag.proofs.Levels.{least-commutative, least-no}
 use Rattle.row_bag.proofs.Binds.{bind-keep, keep-keep}

@@ -1,5 +1,5 @@
 -- Rows that agree are answered alike.
-use Rattle.std.proofs.Common.{ℕ, ◌+◌, ◌≡◌, ◌∙◌, Bool, true, false, cond, List, [], ◌∷◌, filter, refl, sym, ap, zero-add}
+use Rattle.std.proofs.Common.{ℕ, ◌+◌, ◌≡◌, ◌∙◌, cond, List, [], ◌∷◌, refl, sym, ap, zero-add}
 use Rattle.std.proofs.lemmas.List.Sorted.{sum_by-IsPermutation}
 use Rattle.std.proofs.lemmas.List.Sums.{sum_by-cons}
 use Rattle.std.specs.List.{sum_by}

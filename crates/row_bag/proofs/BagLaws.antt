@@ -1,6 +1,6 @@
 -- The laws of bags, as the records that contracts cite.
 use Rattle.std.proofs.Common.{◌≡◌, Bool, List, Decides}
-use Rattle.row_bag.specs.Bags.{Agree, Alike, unit}
+use Rattle.row_bag.specs.Bags.{Agree, Alike}
 use Rattle.row_bag.specs.Laws.{Agreeing, AgreementLaws, BindLaws, KeptAgreement}
 use Rattle.row_bag.specs.declared.row.Row.{Row}
 use Rattle.row_bag.proofs.Agreement.{alike-append, alike-bind, alike-keep, alike-keep_no, alike-refl, alike-swap, alike-sym, alike-trans}

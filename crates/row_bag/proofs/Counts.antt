@@ -1,5 +1,5 @@
 -- Agreement by counts is agreement by sums, over any commutative monoid.
-use Rattle.std.proofs.Common.{◌≡◌, ◌≢◌, ℕ, ◌+◌, ◌<◌, Bool, true, false, cond, ◌&&◌, List, [], ◌∷◌, refl, ap, ap₂, sym, ◌∙◌, Decides, ◌⊎◌, inl, inr, ⊎_elim, arith}
+use Rattle.std.proofs.Common.{◌≡◌, ◌≢◌, ℕ, ◌+◌, ◌<◌, Bool, true, false, cond, ◌&&◌, List, [], ◌∷◌, refl, ap, ap₂, sym, ◌∙◌, Decides, ⊎_elim, arith}
 use Rattle.std.proofs.lemmas.Bool.{and_parts, and_from, cases_Bool, eq-eqb}
 use mathlib.Core.Path.{fun_ext}
 use Rattle.sql_value.specs.declared.level.Level.{Level}
@@ -7,7 +7,7 @@ use Rattle.sql_value.specs.declared.level.Level.TheVariants.{No, Cardinality, Di
 use Rattle.sql_value.specs.Level.{rank}
 use Rattle.row_bag.specs.Bags.{row, fold_map, if_there, total, same_level, count, Agree, Alike, IsCommutativeMonoid}
 use Rattle.row_bag.specs.declared.row.Row.{Row}
-use Rattle.row_bag.proofs.Levels.{level_is_no, same_level-true}
+use Rattle.row_bag.proofs.Levels.{level_is_no, no-other, same_level-true}
 use Rattle.row_bag.proofs.Folds.{swap_in}
 use Rattle.row_bag.proofs.Agreement.{sum-monoid}
 
@@ -20,13 +20,6 @@ abbrev pub take_out : {T : Type 0} → (T → T → Bool) → T → Level → Li
 take_out same c l [] = []
 take_out same c l (r ∷ rs) = cond (hit same c l r) rs (r ∷ take_out same c l rs)
 
-no_other : (l : Level) → l ≢ No → same_level No l ≡ false
-no_other No h = absurd (h refl)
-no_other Cardinality h = refl
-no_other Division h = refl
-no_other Overflow h = refl
-no_other Yes h = refl
-
 and_false : (a b : Bool) → b ≡ false → (a && b) ≡ false
 and_false a b h = elim a as (λ v. (v && b) ≡ false) [ true ↦ h | false ↦ refl ]
 
@@ -35,7 +28,7 @@ abbrev pub hits : {T : Type 0} → (T → T → Bool) → T → Level → T → 
 hits same c l k m = cond (same k c && same_level m l) 1 0
 
 pub hits_each : {T : Type 0} (same : T → T → Bool) (c : T) (l : Level) → l ≢ No → (k : T) (m : Level) → hits same c l k m ≡ if_there 0 (hits same c l) k m
-hits_each same c l n k No = ap (λ b. cond b 1 0) (and_false (same k c) (same_level No l) (no_other l n))
+hits_each same c l n k No = ap (λ b. cond b 1 0) (and_false (same k c) (same_level No l) (no-other l n))
 hits_each same c l n k Cardinality = refl
 hits_each same c l n k Division = refl
 hits_each same c l n k Overflow = refl

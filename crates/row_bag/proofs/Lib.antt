@@ -8,6 +8,7 @@ pub mod GreatestLevels
 pub mod Inserted
 pub mod Levels
 pub mod Order
+pub mod Runs
 pub mod SetLaws
 pub mod SortedOnce
 mod Taken

@@ -87,7 +87,7 @@ row-ties a b e =
     let (cells, level) = both-tie (slice_cmp cell_compare a.cells b.cells) (nat_cmp (rank a.level) (rank b.level)) e in
     λ i. record { cells = cells-tie a.cells b.cells cells i; level = levels-tie a.level b.level level i }
 
-row-total : IsTotalOrder row_compare
+pub row-total : IsTotalOrder row_compare
 row-total = then_total (on_total (λ (r : Row (List Cell)). r.cells) cells-total) (on_total (λ (r : Row (List Cell)). rank r.level) nat_cmp_total)
 
 either-way : {X : Type 0} {R : X → X → Ordering} → IsTotalOrder R → (back : Bool) → IsTotalOrder (λ x y. if back then R y x else R x y)

@@ -1,14 +1,14 @@
 -- Operations that go by how often a tuple occurs keep agreement.
-use Rattle.std.proofs.Common.{◌≡◌, ◌≢◌, ℕ, ◌+◌, ◌-◌, min, Bool, true, false, cond, nat_eq, ◌&&◌, List, [], ◌∷◌, ◌++◌, refl, ap, ap₂, sym, ◌∙◌, Decides, ⊎_elim, arith, eqb-true, Option, Some, None}
+use Rattle.std.proofs.Common.{◌≡◌, ◌≢◌, ℕ, ◌+◌, ◌-◌, min, Bool, true, false, cond, nat_eq, ◌&&◌, List, [], ◌∷◌, refl, ap, ap₂, sym, ◌∙◌, Decides, ⊎_elim, arith, eqb-true, Option, Some, None}
 use Rattle.std.proofs.lemmas.Bool.{eqb-false}
 use Rattle.sql_value.specs.declared.level.Level.{Level}
 use Rattle.sql_value.specs.declared.level.Level.TheVariants.{No, Cardinality, Division, Overflow, Yes}
 use Rattle.sql_value.specs.Cells.{worst_of}
-use Rattle.sql_value.specs.Level.{greatest, level_of}
+use Rattle.sql_value.specs.Level.{level_of}
 use Rattle.sql_value.specs.declared.cell.Kind.{Kind}
 use Rattle.row_bag.specs.Errors.{error_among, error_at}
 use Rattle.row_bag.proofs.Worst.{worst-monoid}
-use Rattle.row_bag.specs.Bags.{row, unit, bind, if_there, total, same_level, count, Alike, IsCommutativeMonoid}
+use Rattle.row_bag.specs.Bags.{row, unit, bind, if_there, same_level, count, Alike}
 use Rattle.row_bag.specs.declared.row.Row.{Row}
 use Rattle.row_bag.specs.Sets.{multiplicity, level_in, once, distinct, union, copies, intersect_all, intersect, except_all, except, of_group, grouped, collapsed, error_or_bag}
 use Rattle.row_bag.proofs.Levels.{greatest-monoid, level_is_no}

@@ -1,5 +1,5 @@
 -- Tuples of cells that compare as equal are equal.
-use Rattle.std.proofs.Common.{◌≡◌, ◌∙◌, Bool, true, List, refl, sym, ap, Decides}
+use Rattle.std.proofs.Common.{◌≡◌, ◌∙◌, List, ap, Decides}
 use Rattle.std.proofs.lemmas.Cmp.{tied_itself}
 use Rattle.std.specs.Cmp.Lexicographic.{slice_cmp}
 use Rattle.std.specs.Ordering.{is_eq}

@@ -86,7 +86,7 @@ fn error_among(rows: &[Row]) -> Option<Kind>
 }
 
 // The rows that are there, in their order.
-fn those_there(bag: Bag) -> Bag
+pub(crate) fn those_there(bag: Bag) -> Bag
     ensures { result ≡ spec.those_there bag }
 {
     let mut rows = bag.into_rows();

@@ -6,6 +6,7 @@ mod bag;
 mod laws;
 mod outcome;
 mod row;
+mod sets;
 mod sort;
 mod tables;
 #[cfg(test)]
@@ -16,5 +17,6 @@ pub use bag::Bag;
 pub use laws::bag_laws;
 pub use outcome::Verdict;
 pub use row::{Row, order_by, row_order};
+pub use sets::{distinct, union};
 pub use sort::sorted;
 pub use tables::{Table, Tables};

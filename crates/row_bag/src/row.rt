@@ -4,6 +4,7 @@ ghost use Rattle.std.specs.Cmp.{IsTotalOrder};
 ghost use Rattle.std.specs.Cmp.Lexicographic.{slice_cmp};
 ghost use Rattle.sql_value.specs.Cells.{cell_compare};
 ghost use Rattle.row_bag.specs.Order as spec;
+ghost use Rattle.row_bag.specs.Sets.{same_cells};
 
 use sql_value::{Cell, Level, OrderKey, cell_order};
 use sqlite_items::Items;
@@ -29,6 +30,13 @@ fn cells_order(left: &[Cell], right: &[Cell]) -> Ordering
         }
     }
     left.len().cmp(&right.len())
+}
+
+// Two tuples are equal: their cells are the same data.
+pub(crate) fn same_cells(left: &[Cell], right: &[Cell]) -> bool
+    ensures { result ≡ same_cells left.now right.now }
+{
+    cells_order(left, right).is_eq()
 }
 
 /// The order of two rows: that of their first cells that differ, from the left, and else that of
