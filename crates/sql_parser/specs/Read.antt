@@ -36,6 +36,16 @@ abbrev pub starts_when : List Token → Bool
 starts_when (t.Key k.When ∷ ts) = true
 starts_when _ = false
 
+-- NOT stands first
+abbrev pub starts_not : List Token → Bool
+starts_not (t.Key k.Not ∷ ts) = true
+starts_not _ = false
+
+-- EXISTS stands first
+abbrev pub starts_exists : List Token → Bool
+starts_exists (t.Key k.Exists ∷ ts) = true
+starts_exists _ = false
+
 -- AND stands first
 abbrev pub starts_and : List Token → Bool
 starts_and (t.Key k.And ∷ ts) = true
