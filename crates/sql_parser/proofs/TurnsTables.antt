@@ -17,7 +17,7 @@ use Rattle.sql_ast.specs.Shown as shown
 use Rattle.sql_ast.specs.Syntax as s
 use Rattle.sql_parser.specs.declared.refusal.ParseRefusal.{ParseRefusal}
 use Rattle.sql_parser.specs.declared.refusal.ParseRefusal.TheVariants.{OverLimit, Syntax, Memory}
-use Rattle.sql_parser.specs.Read.{starts_comma, starts_intersect, starts_star, listed, select_list, join_after, more_joins, tref, tables, more_tables, item, items, more_items, more_qprims, qterm, more_qterms}
+use Rattle.sql_parser.specs.Read.{starts_comma, starts_intersect, starts_star, listed, select_list, join_after, more_joins, tref, tables, more_tables, item, items, more_items, qprim, more_qprims, qterm, more_qterms, combined}
 use Rattle.sql_parser.specs.ReadText.{more_sorts}
 use Rattle.sql_parser.specs.Words.{Found, Parser, ◌>>=◌, Gives, mapped, join_at, all_at, set_operator_at, more_columns}
 
@@ -189,3 +189,11 @@ module _ (e : Parser s.Expr) (c : Parser s.Cond) (q : Parser s.Query) (j : Parse
       ap (λ m. m >>= (λ x. λ us. more_items e c q j (length us) us >>= (λ xs. λ vs. Some (s.one_item x xs, vs)))) h
       ∙ first_item_of x (more_items e c q j (length (token_list spans)) (token_list spans))
       ∙ sym (no_turn (λ n. mapped (append_items (s.one_item x s.no_item)) (more_items e c q j n (token_list spans))) spans)
+
+  pub qterm_begin : (spans : List Spanned) (left : s.Query) (rest : List Token) → qprim e c q j (token_list spans) ≡ Some (left, rest)
+      → qterm e c q j (token_list spans) ≡ more_qprims e c q j (length spans - 0) left rest
+  qterm_begin spans left rest h = ap (λ m. m >>= more_qprims e c q j (length (token_list spans))) h ∙ sym (no_turn (λ n. more_qprims e c q j n left rest) spans)
+
+  pub combined_begin : (spans : List Spanned) (left : s.Query) (rest : List Token) → qterm e c q j (token_list spans) ≡ Some (left, rest)
+      → combined e c q j (token_list spans) ≡ more_qterms e c q j (length spans - 0) left rest
+  combined_begin spans left rest h = ap (λ m. m >>= more_qterms e c q j (length (token_list spans))) h ∙ sym (no_turn (λ n. more_qterms e c q j n left rest) spans)
