@@ -6,6 +6,7 @@ use Rattle.sql_text.specs.declared.token.Spanned.{Spanned}
 use Rattle.sql_text.specs.declared.token.Token.{Token}
 use Rattle.sql_text.specs.declared.token.Token.TheVariants as t
 use Rattle.sql_text.specs.declared.key.Key.TheVariants as k
+use Rattle.sql_ast.specs.declared.text.Sort.{Sort}
 use Rattle.sql_ast.specs.declared.tree.Item.{Item}
 use Rattle.sql_ast.specs.declared.tree.Query.{Query}
 use Rattle.sql_ast.specs.declared.tree.SelectList.{SelectList}
@@ -102,6 +103,12 @@ query_seen x = (shown.query x.0, token_list x.1.now)
 
 abbrev pub table_seen : TableRef × Bor (List Spanned) → s.TableRef × List Token
 table_seen x = (shown.table x.0, token_list x.1.now)
+
+abbrev pub sort_seen : Sort × Bor (List Spanned) → Sort × List Token
+sort_seen x = (x.0, token_list x.1.now)
+
+abbrev pub sorts_seen : List Sort × Bor (List Spanned) → List Sort × List Token
+sorts_seen x = (x.0, token_list x.1.now)
 
 abbrev pub list_seen : SelectList × Bor (List Spanned) → s.SelectList × List Token
 list_seen x = (shown.select_list x.0, token_list x.1.now)
