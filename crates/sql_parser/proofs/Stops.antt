@@ -1,12 +1,12 @@
 -- Where a loop of the grammar ends, and which rule a first token picks.
-use Rattle.std.proofs.Common.{◌≡◌, ℕ, zero, suc, ◌<◌, Bool, true, false, List, [], ◌∷◌, Option, Some, None, refl, arith}
+use Rattle.std.proofs.Common.{◌≡◌, ℕ, zero, suc, ◌<◌, true, false, List, [], ◌∷◌, Some, None, refl, arith}
 use Rattle.sql_text.specs.declared.key.Key.TheVariants as k
 use Rattle.sql_text.specs.declared.token.Token.{Token}
 use Rattle.sql_text.specs.declared.token.Token.TheVariants as t
 use Rattle.sql_ast.specs.declared.word.SetFunction.TheVariants as of
 use Rattle.sql_ast.specs.Syntax as s
 use Rattle.sql_parser.specs.Ahead.{opens_cond}
-use Rattle.sql_parser.specs.Words.{Parser, ◌>>=◌, additive_at, multiplicative_at, quantifier_at, set_operator_at, set_quantifier_at, all_at, join_at, after_left, group_by, more_columns}
+use Rattle.sql_parser.specs.Words.{Parser, ◌>>=◌, additive_at, multiplicative_at, quantifier_at, set_operator_at, set_quantifier_at, join_at, group_by, more_columns}
 use Rattle.sql_parser.specs.Read as r
 use Rattle.sql_parser.proofs.Lookahead.{rank, starts, begins}
 
