@@ -6,6 +6,7 @@ use Rattle.sql_text.specs.declared.token.Spanned.{Spanned}
 use Rattle.sql_text.specs.declared.token.Token.{Token}
 use Rattle.sql_text.specs.declared.token.Token.TheVariants as t
 use Rattle.sql_text.specs.declared.key.Key.TheVariants as k
+use Rattle.sql_ast.specs.declared.text.Sort.{Sort}
 use Rattle.sql_ast.specs.declared.tree.Item.{Item}
 use Rattle.sql_ast.specs.declared.tree.Query.{Query}
 use Rattle.sql_ast.specs.declared.tree.SelectList.{SelectList}
@@ -17,7 +18,7 @@ use Rattle.sql_ast.specs.Shown as shown
 use Rattle.sql_ast.specs.Syntax as s
 use Rattle.sql_parser.specs.declared.refusal.ParseRefusal.{ParseRefusal}
 use Rattle.sql_parser.specs.declared.refusal.ParseRefusal.TheVariants.{OverLimit, Syntax, Memory}
-use Rattle.sql_parser.specs.Read.{starts_comma, starts_intersect, starts_star, listed, select_list, join_after, more_joins, tref, tables, more_tables, item, items, more_items, more_qprims, qterm, more_qterms}
+use Rattle.sql_parser.specs.Read.{starts_comma, starts_intersect, starts_star, listed, select_list, join_after, more_joins, tref, tables, more_tables, item, items, more_items, qprim, more_qprims, qterm, more_qterms, combined}
 use Rattle.sql_parser.specs.ReadText.{more_sorts}
 use Rattle.sql_parser.specs.Words.{Found, Parser, ◌>>=◌, Gives, mapped, join_at, all_at, set_operator_at, more_columns}
 
@@ -102,6 +103,12 @@ query_seen x = (shown.query x.0, token_list x.1.now)
 
 abbrev pub table_seen : TableRef × Bor (List Spanned) → s.TableRef × List Token
 table_seen x = (shown.table x.0, token_list x.1.now)
+
+abbrev pub sort_seen : Sort × Bor (List Spanned) → Sort × List Token
+sort_seen x = (x.0, token_list x.1.now)
+
+abbrev pub sorts_seen : List Sort × Bor (List Spanned) → List Sort × List Token
+sorts_seen x = (x.0, token_list x.1.now)
 
 abbrev pub list_seen : SelectList × Bor (List Spanned) → s.SelectList × List Token
 list_seen x = (shown.select_list x.0, token_list x.1.now)
@@ -189,3 +196,11 @@ module _ (e : Parser s.Expr) (c : Parser s.Cond) (q : Parser s.Query) (j : Parse
       ap (λ m. m >>= (λ x. λ us. more_items e c q j (length us) us >>= (λ xs. λ vs. Some (s.one_item x xs, vs)))) h
       ∙ first_item_of x (more_items e c q j (length (token_list spans)) (token_list spans))
       ∙ sym (no_turn (λ n. mapped (append_items (s.one_item x s.no_item)) (more_items e c q j n (token_list spans))) spans)
+
+  pub qterm_begin : (spans : List Spanned) (left : s.Query) (rest : List Token) → qprim e c q j (token_list spans) ≡ Some (left, rest)
+      → qterm e c q j (token_list spans) ≡ more_qprims e c q j (length spans - 0) left rest
+  qterm_begin spans left rest h = ap (λ m. m >>= more_qprims e c q j (length (token_list spans))) h ∙ sym (no_turn (λ n. more_qprims e c q j n left rest) spans)
+
+  pub combined_begin : (spans : List Spanned) (left : s.Query) (rest : List Token) → qterm e c q j (token_list spans) ≡ Some (left, rest)
+      → combined e c q j (token_list spans) ≡ more_qterms e c q j (length spans - 0) left rest
+  combined_begin spans left rest h = ap (λ m. m >>= more_qterms e c q j (length (token_list spans))) h ∙ sym (no_turn (λ n. more_qterms e c q j n left rest) spans)

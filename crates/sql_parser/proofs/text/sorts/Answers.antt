@@ -1,8 +1,9 @@
-use Rattle.std.proofs.Common.{arith, ◌≡◌, ◌-◌, ◌∷◌, [], ◌++◌, ◌∙◌, ap, sym, length}
+use Rattle.std.proofs.Common.{arith, ◌≡◌, ◌-◌, ◌∷◌, [], ◌++◌, ◌∙◌, ap, sym, length, refl}
+use Rattle.std.proofs.lemmas.Result.{err_from_is_err_and}
 use Rattle.sql_text.specs.Tokens.{token_list}
 use Rattle.sql_parser.specs.ReadText as text
 use Rattle.sql_parser.specs.Words.{mapped}
-use Rattle.sql_parser.proofs.TurnsTables.{one_more, no_turn, no_more, first_item, next_item, no_item, sorts_stop}
+use Rattle.sql_parser.proofs.TurnsTables.{fails, sort_seen, sorts_seen, one_more, no_turn, no_more, first_item, next_item, no_item, sorts_stop}
 use Rattle.sql_parser.proofs.text.sorts.Goals as goal
 
 pub sorts-init : goal.sorts-init
@@ -15,6 +16,12 @@ returns-in-None c =
     c.sorts.invariant
     ∙ ap (mapped (λ xs. c.sorts.sorts ++ xs)) (sorts_stop _ (token_list c.sorts.rest.now) c.in-None.ensures.none)
     ∙ no_item c.sorts.sorts (token_list c.sorts.rest.now)
+
+pub returns-in_err-next-in-Some : goal.returns-in_err-next-in-Some
+returns-in_err-next-in-Some c =
+    let p = err_from_is_err_and c.from_residual-in_err-next-in-Some.result c.from_residual-in_err-next-in-Some.ensures.1 in
+    let e = one_more (λ n. mapped (λ xs. c.sorts.sorts ++ xs) (text.more_sorts n (token_list c.sorts.rest.now))) _ c.sorts._turn c.sorts-test.true c.sorts.invariant in
+    rw (p.1, p.2) (fails sort_seen sorts_seen _ _ _ (λ none. e ∙ rw (c.in-Some.ensures.found, none) refl) c.in_err-next-in-Some.ensures)
 
 pub sorts-preserved : goal.sorts-preserved
 sorts-preserved c =

@@ -3,12 +3,12 @@ use Rattle.std.proofs.lemmas.Result.{err_from_is_err_and}
 use Rattle.sql_text.specs.Tokens.{token_list}
 use Rattle.sql_ast.specs.Shown as shown
 use Rattle.sql_parser.specs.Read as read
-use Rattle.sql_parser.proofs.TurnsTables.{qterms_stop, qterms_next, one_more, no_turn, fails, query_seen}
+use Rattle.sql_parser.proofs.TurnsTables.{qterms_stop, qterms_next, one_more, combined_begin, fails, query_seen}
 use Rattle.sql_parser.proofs.grammar.Grammar.combined.Goals as goal
 
 pub qterms-init : goal.qterms-init
 qterms-init g c =
-    rw c.in_ok-left.ensures (sym (no_turn (λ n. read.more_qterms (read.expr c.args.self.now.depth) (read.cond c.args.self.now.depth) (read.query c.args.self.now.depth) (read.table c.args.self.now.depth) n (shown.query c.in_ok-left.left) (token_list c.in_ok-left.rest.now)) c.args.ts.now))
+    combined_begin (read.expr c.args.self.now.depth) (read.cond c.args.self.now.depth) (read.query c.args.self.now.depth) (read.table c.args.self.now.depth) c.args.ts.now (shown.query c.in_ok-left.left) (token_list c.in_ok-left.rest.now) c.in_ok-left.ensures
 
 pub returns-in-None : goal.returns-in-None
 returns-in-None g c = c.qterms.invariant ∙ qterms_stop (read.expr c.args.self.now.depth) (read.cond c.args.self.now.depth) (read.query c.args.self.now.depth) (read.table c.args.self.now.depth) _ (shown.query c.qterms.left) (token_list c.qterms.rest.now) (sym c.in-None.ensures)

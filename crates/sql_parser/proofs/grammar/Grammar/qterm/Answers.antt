@@ -3,12 +3,12 @@ use Rattle.std.proofs.lemmas.Result.{err_from_is_err_and}
 use Rattle.sql_text.specs.Tokens.{token_list}
 use Rattle.sql_ast.specs.Shown as shown
 use Rattle.sql_parser.specs.Read as read
-use Rattle.sql_parser.proofs.TurnsTables.{qprims_stop, one_more, no_turn, fails, query_seen}
+use Rattle.sql_parser.proofs.TurnsTables.{qprims_stop, one_more, qterm_begin, fails, query_seen}
 use Rattle.sql_parser.proofs.grammar.Grammar.qterm.Goals as goal
 
 pub qprims-init : goal.qprims-init
 qprims-init g c =
-    rw c.in_ok-left.ensures (sym (no_turn (λ n. read.more_qprims (read.expr c.args.self.now.depth) (read.cond c.args.self.now.depth) (read.query c.args.self.now.depth) (read.table c.args.self.now.depth) n (shown.query c.in_ok-left.left) (token_list c.in_ok-left.rest.now)) c.args.ts.now))
+    qterm_begin (read.expr c.args.self.now.depth) (read.cond c.args.self.now.depth) (read.query c.args.self.now.depth) (read.table c.args.self.now.depth) c.args.ts.now (shown.query c.in_ok-left.left) (token_list c.in_ok-left.rest.now) c.in_ok-left.ensures
 
 pub returns-in-None : goal.returns-in-None
 returns-in-None g c = c.qprims.invariant ∙ qprims_stop (read.expr c.args.self.now.depth) (read.cond c.args.self.now.depth) (read.query c.args.self.now.depth) (read.table c.args.self.now.depth) _ (shown.query c.qprims.left) (token_list c.qprims.rest.now) c.in-None.ensures.none
