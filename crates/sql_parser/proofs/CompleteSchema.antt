@@ -151,9 +151,9 @@ schema_of ts x h = ap (option_map (λ xs. record { statements = xs })) h
 
 pub schema_complete : (ts : List Token) (x : s.Schema) → shallow 64 ts ≡ true → SpellsSchema x ts → schema_tree ts ≡ Some x
 schema_complete ts x flat spells = rw spells.spelled (
-  schema_of (sp.schema x) x
-  (statements_read x.statements (length (sp.schema x)) spells.grammatical (ap (shallow 64) (sym spells.spelled) ∙ flat) (statements_count x.statements))
-)
+    schema_of (sp.schema x) x
+    (statements_read x.statements (length (sp.schema x)) spells.grammatical (ap (shallow 64) (sym spells.spelled) ∙ flat) (statements_count x.statements))
+    )
 
 -- ---- no tokens spell two schemas
 

@@ -7,8 +7,8 @@ ghost use Rattle.sql_parser.specs.ReadSchema as read;
 ghost use Rattle.sql_parser.specs.Words.{Gives};
 ghost use Rattle.sql_text.specs.Tokens.{token_list};
 
-use crate::refusal::ParseRefusal;
 use crate::naming::names;
+use crate::refusal::ParseRefusal;
 use crate::word::{after_comma, close, data_type, first};
 use sql_ast::{ColumnConstraint, ColumnDecl, Element};
 use sql_text::{Key, Name, Spanned, Token};
@@ -22,7 +22,13 @@ fn after_null(ts: &[Spanned]) -> Option<&[Spanned]>
     ensures none { IfNone result (read.constraints (t.Key k.Not ∷ token_list ts.now) ≡ ([], t.Key k.Not ∷ token_list ts.now)) }
 {
     match ts {
-        [Spanned { token: Token::Key(Key::Null), .. }, rest @ ..] => Some(rest),
+        [
+            Spanned {
+                token: Token::Key(Key::Null),
+                ..
+            },
+            rest @ ..,
+        ] => Some(rest),
         _ => None,
     }
 }
@@ -34,7 +40,13 @@ fn after_key(ts: &[Spanned]) -> Option<&[Spanned]>
     ensures none { IfNone result (read.constraints (t.Key k.Primary ∷ token_list ts.now) ≡ ([], t.Key k.Primary ∷ token_list ts.now)) }
 {
     match ts {
-        [Spanned { token: Token::Key(Key::Key), .. }, rest @ ..] => Some(rest),
+        [
+            Spanned {
+                token: Token::Key(Key::Key),
+                ..
+            },
+            rest @ ..,
+        ] => Some(rest),
         _ => None,
     }
 }
@@ -46,15 +58,27 @@ fn constraint_at(ts: &[Spanned]) -> Option<(ColumnConstraint, &[Spanned])>
     ensures none { IfNone result (read.constraints (token_list ts.now) ≡ ([], token_list ts.now)) }
 {
     match ts {
-        [Spanned { token: Token::Key(Key::Not), .. }, rest @ ..] => {
-            after_null(rest).map(|rest| (ColumnConstraint::NotNull, rest))
-        }
-        [Spanned { token: Token::Key(Key::Primary), .. }, rest @ ..] => {
-            after_key(rest).map(|rest| (ColumnConstraint::PrimaryKey, rest))
-        }
-        [Spanned { token: Token::Key(Key::Unique), .. }, rest @ ..] => {
-            Some((ColumnConstraint::Unique, rest))
-        }
+        [
+            Spanned {
+                token: Token::Key(Key::Not),
+                ..
+            },
+            rest @ ..,
+        ] => { after_null(rest).map(|rest| (ColumnConstraint::NotNull, rest)) }
+        [
+            Spanned {
+                token: Token::Key(Key::Primary),
+                ..
+            },
+            rest @ ..,
+        ] => { after_key(rest).map(|rest| (ColumnConstraint::PrimaryKey, rest)) }
+        [
+            Spanned {
+                token: Token::Key(Key::Unique),
+                ..
+            },
+            rest @ ..,
+        ] => { Some((ColumnConstraint::Unique, rest)) }
         _ => None,
     }
 }
@@ -124,13 +148,31 @@ fn element(alloc: Global, ts: &[Spanned]) -> Result<(Element, &[Spanned]), Parse
     ensures { Gives (λ x. (x.0, token_list x.1.now)) result (read.element (token_list ts.now)) }
 {
     match ts {
-        [Spanned { token: Token::Name(name), .. }, rest @ ..] => column_decl(alloc, name, rest),
         [
-            Spanned { token: Token::Key(Key::Primary), .. },
-            Spanned { token: Token::Key(Key::Key), .. },
+            Spanned {
+                token: Token::Name(name),
+                ..
+            },
+            rest @ ..,
+        ] => column_decl(alloc, name, rest),
+        [
+            Spanned {
+                token: Token::Key(Key::Primary),
+                ..
+            },
+            Spanned {
+                token: Token::Key(Key::Key),
+                ..
+            },
             rest @ ..,
         ] => primary_key(alloc, rest),
-        [Spanned { token: Token::Key(Key::Unique), .. }, rest @ ..] => unique(alloc, rest),
+        [
+            Spanned {
+                token: Token::Key(Key::Unique),
+                ..
+            },
+            rest @ ..,
+        ] => unique(alloc, rest),
         _ => Err(ParseRefusal::Syntax),
     }
 }

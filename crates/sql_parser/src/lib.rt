@@ -10,13 +10,12 @@ mod grammar;
 mod naming;
 mod query;
 mod refusal;
-mod stubs;
+mod schema;
 mod sub;
 mod table;
-mod schema;
 mod text;
 mod word;
 
 pub use refusal::ParseRefusal;
-pub use text::parse_query;
 pub use schema::parse_schema;
+pub use text::parse_query;

@@ -25,8 +25,14 @@ fn table_decl(alloc: Global, ts: &[Spanned]) -> Result<(Statement, &[Spanned]), 
     ensures { Gives (λ x. (shown.statement x.0, token_list x.1.now)) result (read.table_decl (token_list ts.now)) }
 {
     let [
-        Spanned { token: Token::Name(name), .. },
-        Spanned { token: Token::LeftParen, .. },
+        Spanned {
+            token: Token::Name(name),
+            ..
+        },
+        Spanned {
+            token: Token::LeftParen,
+            ..
+        },
         rest @ ..,
     ] = ts
     else {
@@ -72,13 +78,25 @@ fn statement(alloc: Global, ts: &[Spanned]) -> Result<(Statement, &[Spanned]), P
 {
     match ts {
         [
-            Spanned { token: Token::Key(Key::Create), .. },
-            Spanned { token: Token::Key(Key::Table), .. },
+            Spanned {
+                token: Token::Key(Key::Create),
+                ..
+            },
+            Spanned {
+                token: Token::Key(Key::Table),
+                ..
+            },
             rest @ ..,
         ] => table_decl(alloc, rest),
         [
-            Spanned { token: Token::Key(Key::Create), .. },
-            Spanned { token: Token::Key(Key::View), .. },
+            Spanned {
+                token: Token::Key(Key::Create),
+                ..
+            },
+            Spanned {
+                token: Token::Key(Key::View),
+                ..
+            },
             rest @ ..,
         ] => view_decl(alloc, rest),
         _ => Err(ParseRefusal::Syntax),
@@ -86,10 +104,7 @@ fn statement(alloc: Global, ts: &[Spanned]) -> Result<(Statement, &[Spanned]), P
 }
 
 /// `";"`, after a statement
-fn semicolon(
-    statement: Statement,
-    ts: &[Spanned],
-) -> Result<(Statement, &[Spanned]), ParseRefusal>
+fn semicolon(statement: Statement, ts: &[Spanned]) -> Result<(Statement, &[Spanned]), ParseRefusal>
     ensures { Gives (λ x. (shown.statement x.0, token_list x.1.now)) result (read.semicolon (shown.statement statement) (token_list ts.now)) }
 {
     match first(ts) {
