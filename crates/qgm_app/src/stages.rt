@@ -4,6 +4,7 @@ ghost use Rattle.csv_tables.specs.Printed.{printed_rows};
 ghost use Rattle.io_edge.specs.Outcome.{Comes, RoseIfFault, ended};
 ghost use Rattle.row_bag.specs.Sorted.{sorted_rows};
 ghost use Rattle.row_bag.specs.Verdict.{verdict};
+ghost use Rattle.sql_catalog.specs.Shown as catalogs;
 ghost use Rattle.sql_check.specs.Resolved.{rows_at};
 ghost use Rattle.sql_meaning.specs.Meaning.{in_order};
 ghost use Rattle.qgm_app.specs.declared.report.Report.TheVariants.{Usage};
@@ -51,7 +52,7 @@ fn run_tables<F: Files>(
     checked: &Checked,
     files: &mut F,
 ) -> Result<Report, Interruption>
-    ensures comes { Comes (F.told files.old) (F.told files.new) (λ fs. from_tables dir.now catalog.now checked.now fs) (ended result) }
+    ensures comes { Comes (F.told files.old) (F.told files.new) (λ fs. from_tables dir.now (catalogs.catalog catalog.now) checked.now fs) (ended result) }
     ensures later { F.faults files.old ≤ F.faults files.new }
     ensures failed { RoseIfFault result (F.faults files.old) (F.faults files.new) }
     ensures line { IfOk result (λ report. report ≢ Usage) }
@@ -74,7 +75,7 @@ fn run_query<F: Files>(
     catalog: &Catalog,
     files: &mut F,
 ) -> Result<Report, Interruption>
-    ensures comes { Comes (F.told files.old) (F.told files.new) (λ fs. from_query query.now dir.now catalog.now fs) (ended result) }
+    ensures comes { Comes (F.told files.old) (F.told files.new) (λ fs. from_query query.now dir.now (catalogs.catalog catalog.now) fs) (ended result) }
     ensures later { F.faults files.old ≤ F.faults files.new }
     ensures failed { RoseIfFault result (F.faults files.old) (F.faults files.new) }
     ensures line { IfOk result (λ report. report ≢ Usage) }

@@ -1,6 +1,7 @@
 // From the two texts to a catalog and a checked query.
 ghost use Rattle.std.specs.Prelude.{◌≡◌};
 ghost use Rattle.sql_ast.specs.Shown as shown;
+ghost use Rattle.sql_catalog.specs.Shown as catalogs;
 ghost use Rattle.sql_parser.specs.ReadSchema.{schema_tree};
 ghost use Rattle.sql_parser.specs.ReadText.{query_tree};
 ghost use Rattle.qgm_app.specs.Texts.{Gives, GivesChecked, catalog_of, query_of, schema_of, spans_of, tree_of, valid_query};
@@ -130,7 +131,7 @@ pub fn read_query(
     catalog: &Catalog,
     text: &Option<Items<u8>>,
 ) -> Result<Checked, TextRefusal>
-    ensures { GivesChecked catalog.now result (valid_query catalog.now text.now) }
+    ensures { GivesChecked (catalogs.catalog catalog.now) result (valid_query (catalogs.catalog catalog.now) text.now) }
 {
     let query = read_query_text(alloc, text)?;
     match check(alloc, &query, catalog) {

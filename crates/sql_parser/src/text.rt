@@ -65,7 +65,7 @@ fn cond<'a>(
 }
 
 #[cycle(knot)]
-fn query<'a>(
+pub(crate) fn query<'a>(
     alloc: Global,
     depth: u8,
     ts: &'a [Spanned],
