@@ -1,6 +1,7 @@
 //! The plain program that runs a checked query: loops over the rows of its table.
 #![tactic(auto)]
 
-mod loops;
+mod chain;
+mod evaluate;
 
-pub use loops::execute;
+pub use evaluate::{evaluate, judge};

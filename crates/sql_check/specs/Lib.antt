@@ -5,3 +5,7 @@ pub mod Taken
 pub mod Core
 pub mod CoreShown
 pub mod Agreed
+pub mod Faults
+pub mod Blocks
+pub mod Checks
+pub mod Resolved

@@ -20,16 +20,8 @@ use Rattle.sql_parser.specs.declared.refusal.ParseRefusal.{ParseRefusal}
 use Rattle.sql_parser.specs.declared.refusal.ParseRefusal.TheVariants.{OverLimit, Syntax, Memory}
 use Rattle.sql_parser.specs.Read.{starts_comma, starts_intersect, starts_star, listed, select_list, join_after, more_joins, tref, tables, more_tables, item, items, more_items, qprim, more_qprims, qterm, more_qterms, combined}
 use Rattle.sql_parser.specs.ReadText.{more_sorts}
+use Rattle.sql_parser.proofs.Turns.{no_turn}
 use Rattle.sql_parser.specs.Words.{Found, Parser, ◌>>=◌, Gives, mapped, join_at, all_at, set_operator_at, more_columns}
-
-pub one_more : {X : Type 0} {x : X} (f : ℕ → X) (n at : ℕ) → at < n → x ≡ f (n - at) → x ≡ f (suc (n - (at + 1)))
-one_more f n at below e = let turn : n - at ≡ suc (n - (at + 1)) = omega arith in e ∙ ap f turn
-
-pub no_turn : {X : Type 0} (f : ℕ → X) (spans : List Spanned) → f (length spans - 0) ≡ f (length (token_list spans))
-no_turn f spans = let none_yet : length spans - 0 ≡ length spans = omega arith in ap f (none_yet ∙ sym (length-map spans (λ s. s.token)))
-
-pub no_more : {X : Type 0} {x : X} (f : ℕ → X) (n at : ℕ) → n ≤ at → x ≡ f (n - at) → x ≡ f 0
-no_more f n at done e = let none : n - at ≡ 0 = omega arith in e ∙ ap f none
 
 -- ---- lists that are plain
 
@@ -91,12 +83,7 @@ module _ (e : Parser s.Expr) (c : Parser s.Cond) (q : Parser s.Query) (j : Parse
   pub qterms_next : (n : ℕ) (left : s.Query) (ts : List Token) (r : SetOperator × List Token) → Some r ≡ set_operator_at ts → more_qterms e c q j (suc n) left ts ≡ (qterm e c q j (all_at r.1).1 >>= (λ right. more_qterms e c q j n (s.combine left r.0 (all_at r.1).0 right)))
   qterms_next n left ts r h = ap (λ o. elim o as (λ _. Found s.Query) [ None ↦ Some (left, ts) | Some r ↦ qterm e c q j (all_at r.1).1 >>= (λ right. more_qterms e c q j n (s.combine left r.0 (all_at r.1).0 right)) ]) (sym h)
 
--- ---- a step that fails ends the whole
-
-pub fails : {X Y Z W : Type 0} (v : X → Y) (w : Z → W) (x : ParseRefusal) (m : Option Y) (n : Option W) → (m ≡ None → n ≡ None) → Gives v (Err x) m → Gives w (Err x) n
-fails v w Syntax m n f h = f h
-fails v w Memory m n f h = tt
-fails v w OverLimit m n f h = h
+-- ---- how a call's answer is seen
 
 abbrev pub query_seen : Query × Bor (List Spanned) → s.Query × List Token
 query_seen x = (shown.query x.0, token_list x.1.now)
@@ -188,19 +175,19 @@ module _ (e : Parser s.Expr) (c : Parser s.Cond) (q : Parser s.Query) (j : Parse
   tables_begin ts x spans h =
       ap (λ m. m >>= (λ x. λ us. more_tables e c q j (length us) us >>= (λ xs. λ vs. Some (s.one_table x xs, vs)))) h
       ∙ first_table x (more_tables e c q j (length (token_list spans)) (token_list spans))
-      ∙ sym (no_turn (λ n. mapped (append_tables (s.one_table x s.no_table)) (more_tables e c q j n (token_list spans))) spans)
+      ∙ (no_turn (λ n. mapped (append_tables (s.one_table x s.no_table)) (more_tables e c q j n (token_list spans))) spans)
 
   pub items_begin : (ts : List Token) (x : s.Item) (spans : List Spanned) → item e c q j ts ≡ Some (x, token_list spans)
       → items e c q j ts ≡ mapped (append_items (s.one_item x s.no_item)) (more_items e c q j (length spans - 0) (token_list spans))
   items_begin ts x spans h =
       ap (λ m. m >>= (λ x. λ us. more_items e c q j (length us) us >>= (λ xs. λ vs. Some (s.one_item x xs, vs)))) h
       ∙ first_item_of x (more_items e c q j (length (token_list spans)) (token_list spans))
-      ∙ sym (no_turn (λ n. mapped (append_items (s.one_item x s.no_item)) (more_items e c q j n (token_list spans))) spans)
+      ∙ (no_turn (λ n. mapped (append_items (s.one_item x s.no_item)) (more_items e c q j n (token_list spans))) spans)
 
   pub qterm_begin : (spans : List Spanned) (left : s.Query) (rest : List Token) → qprim e c q j (token_list spans) ≡ Some (left, rest)
       → qterm e c q j (token_list spans) ≡ more_qprims e c q j (length spans - 0) left rest
-  qterm_begin spans left rest h = ap (λ m. m >>= more_qprims e c q j (length (token_list spans))) h ∙ sym (no_turn (λ n. more_qprims e c q j n left rest) spans)
+  qterm_begin spans left rest h = ap (λ m. m >>= more_qprims e c q j (length (token_list spans))) h ∙ (no_turn (λ n. more_qprims e c q j n left rest) spans)
 
   pub combined_begin : (spans : List Spanned) (left : s.Query) (rest : List Token) → qterm e c q j (token_list spans) ≡ Some (left, rest)
       → combined e c q j (token_list spans) ≡ more_qterms e c q j (length spans - 0) left rest
-  combined_begin spans left rest h = ap (λ m. m >>= more_qterms e c q j (length (token_list spans))) h ∙ sym (no_turn (λ n. more_qterms e c q j n left rest) spans)
+  combined_begin spans left rest h = ap (λ m. m >>= more_qterms e c q j (length (token_list spans))) h ∙ (no_turn (λ n. more_qterms e c q j n left rest) spans)

@@ -1,13 +1,14 @@
 use Rattle.std.proofs.Common.{arith, ◌≡◌, ◌-◌, ◌∷◌, [], ◌++◌, ◌∙◌, ap, sym, length}
 use Rattle.sql_text.specs.Tokens.{token_list}
 use Rattle.sql_parser.specs.Words as words
-use Rattle.sql_parser.proofs.TurnsTables.{one_more, no_turn, no_more, first_item, next_item, no_item, columns_stop}
+use Rattle.sql_parser.proofs.Turns.{one_more, no_turn, no_more}
+use Rattle.sql_parser.proofs.TurnsTables.{first_item, next_item, no_item, columns_stop}
 use Rattle.sql_parser.proofs.naming.columns.Goals as goal
 
 pub columns-init : goal.columns-init
 columns-init c =
     rw (c.in_ok-column_first.ensures, c.in_ok-push.ensures.ok, c.new-columns.ensures)
-    (first_item c.in_ok-column_first.column_first _ ∙ sym (no_turn (λ n. words.mapped (λ xs. (c.in_ok-column_first.column_first ∷ []) ++ xs) (words.more_columns n (token_list c.in_ok-column_first.after_first.now))) c.in_ok-column_first.after_first.now))
+    (first_item c.in_ok-column_first.column_first _ ∙ (no_turn (λ n. words.mapped (λ xs. (c.in_ok-column_first.column_first ∷ []) ++ xs) (words.more_columns n (token_list c.in_ok-column_first.after_first.now))) c.in_ok-column_first.after_first.now))
 
 pub returns-in-None : goal.returns-in-None
 returns-in-None c =

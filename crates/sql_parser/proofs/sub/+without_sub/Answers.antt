@@ -1,4 +1,4 @@
-use Rattle.std.proofs.Common.{◌≡◌, ◌∙◌, ◌&&◌, Bool, true, false, refl, sym, ap}
+use Rattle.std.proofs.Common.{◌≡◌, ◌∙◌, true, false, refl}
 use Rattle.sql_ast.specs.Grammatical as gram
 use Rattle.sql_ast.specs.Shown as shown
 use Rattle.sql_ast.specs.Shown.{choices_hidden, exprs_hidden}

@@ -3,13 +3,14 @@ use Rattle.std.proofs.lemmas.Result.{err_from_is_err_and}
 use Rattle.sql_text.specs.Tokens.{token_list}
 use Rattle.sql_parser.specs.ReadText as text
 use Rattle.sql_parser.specs.Words.{mapped}
-use Rattle.sql_parser.proofs.TurnsTables.{fails, sort_seen, sorts_seen, one_more, no_turn, no_more, first_item, next_item, no_item, sorts_stop}
+use Rattle.sql_parser.proofs.Turns.{fails, one_more, no_turn, no_more}
+use Rattle.sql_parser.proofs.TurnsTables.{sort_seen, sorts_seen, first_item, next_item, no_item, sorts_stop}
 use Rattle.sql_parser.proofs.text.sorts.Goals as goal
 
 pub sorts-init : goal.sorts-init
 sorts-init c =
     rw (c.in_ok-sort_first.ensures, c.in_ok-push.ensures.ok, c.new-sorts.ensures)
-    (first_item c.in_ok-sort_first.sort_first _ ∙ sym (no_turn (λ n. mapped (λ xs. (c.in_ok-sort_first.sort_first ∷ []) ++ xs) (text.more_sorts n (token_list c.in_ok-sort_first.after_first.now))) c.in_ok-sort_first.after_first.now))
+    (first_item c.in_ok-sort_first.sort_first _ ∙ (no_turn (λ n. mapped (λ xs. (c.in_ok-sort_first.sort_first ∷ []) ++ xs) (text.more_sorts n (token_list c.in_ok-sort_first.after_first.now))) c.in_ok-sort_first.after_first.now))
 
 pub returns-in-None : goal.returns-in-None
 returns-in-None c =

@@ -5,7 +5,8 @@ use Rattle.sql_ast.specs.Shown as shown
 use Rattle.sql_ast.specs.Syntax as s
 use Rattle.sql_parser.specs.Read as read
 use Rattle.sql_parser.specs.Words.{mapped}
-use Rattle.sql_parser.proofs.TurnsTables.{append_items, items_stop, no_more_items, next_item_of, item_one, items_begin, fails, item_seen, items_seen, one_more, no_more}
+use Rattle.sql_parser.proofs.Turns.{fails, one_more, no_more}
+use Rattle.sql_parser.proofs.TurnsTables.{append_items, items_stop, no_more_items, next_item_of, item_one, items_begin, item_seen, items_seen}
 use Rattle.sql_parser.proofs.grammar.Grammar.items.Goals as goal
 
 pub items-init : goal.items-init

@@ -3,7 +3,8 @@ use Rattle.std.proofs.lemmas.Result.{err_from_is_err_and}
 use Rattle.sql_text.specs.Tokens.{token_list}
 use Rattle.sql_ast.specs.Shown as shown
 use Rattle.sql_parser.specs.Read as read
-use Rattle.sql_parser.proofs.TurnsTables.{qprims_stop, one_more, qterm_begin, fails, query_seen}
+use Rattle.sql_parser.proofs.Turns.{one_more, fails}
+use Rattle.sql_parser.proofs.TurnsTables.{qprims_stop, qterm_begin, query_seen}
 use Rattle.sql_parser.proofs.grammar.Grammar.qterm.Goals as goal
 
 pub qprims-init : goal.qprims-init

@@ -5,7 +5,8 @@ use Rattle.sql_ast.specs.Shown as shown
 use Rattle.sql_ast.specs.Syntax as s
 use Rattle.sql_parser.specs.Read as read
 use Rattle.sql_parser.specs.Words.{mapped}
-use Rattle.sql_parser.proofs.TurnsTables.{append_tables, tables_stop, no_more_tables, next_table, table_one, tables_begin, fails, table_seen, tables_seen, one_more, no_more}
+use Rattle.sql_parser.proofs.Turns.{fails, one_more, no_more}
+use Rattle.sql_parser.proofs.TurnsTables.{append_tables, tables_stop, no_more_tables, next_table, table_one, tables_begin, table_seen, tables_seen}
 use Rattle.sql_parser.proofs.grammar.Grammar.tables.Goals as goal
 
 pub tables-init : goal.tables-init

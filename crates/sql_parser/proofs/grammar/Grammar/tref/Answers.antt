@@ -3,12 +3,13 @@ use Rattle.std.proofs.lemmas.Result.{err_from_is_err_and}
 use Rattle.sql_text.specs.Tokens.{token_list}
 use Rattle.sql_ast.specs.Shown as shown
 use Rattle.sql_parser.specs.Read as read
-use Rattle.sql_parser.proofs.TurnsTables.{joins_stop, joins_next, one_more, no_turn, fails, table_seen}
+use Rattle.sql_parser.proofs.Turns.{one_more, no_turn, fails}
+use Rattle.sql_parser.proofs.TurnsTables.{joins_stop, joins_next, table_seen}
 use Rattle.sql_parser.proofs.grammar.Grammar.tref.Goals as goal
 
 pub joins-init : goal.joins-init
 joins-init g c =
-    rw c.in_ok-left.ensures (sym (no_turn (λ n. read.more_joins (read.expr c.args.self.now.depth) (read.cond c.args.self.now.depth) (read.query c.args.self.now.depth) (read.table c.args.self.now.depth) n (shown.table c.in_ok-left.left) (token_list c.in_ok-left.rest.now)) c.args.ts.now))
+    rw c.in_ok-left.ensures (no_turn (λ n. read.more_joins (read.expr c.args.self.now.depth) (read.cond c.args.self.now.depth) (read.query c.args.self.now.depth) (read.table c.args.self.now.depth) n (shown.table c.in_ok-left.left) (token_list c.in_ok-left.rest.now)) c.args.ts.now)
 
 pub returns-in-None : goal.returns-in-None
 returns-in-None g c = c.joins.invariant ∙ joins_stop (read.expr c.args.self.now.depth) (read.cond c.args.self.now.depth) (read.query c.args.self.now.depth) (read.table c.args.self.now.depth) _ (shown.table c.joins.left) (token_list c.joins.rest.now) (sym c.in-None.ensures)
