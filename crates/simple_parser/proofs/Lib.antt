@@ -1,0 +1,4 @@
+mod Steps
+mod Sound
+mod Complete
+mod Laws
