@@ -3,6 +3,8 @@
 #![tactic(auto)]
 
 #[cfg(test)]
+mod catalogs;
+#[cfg(test)]
 mod grammar;
 #[cfg(test)]
 mod grammar_schemas;

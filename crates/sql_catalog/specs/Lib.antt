@@ -4,3 +4,4 @@ pub mod Keys
 pub mod Nesting
 pub mod Catalog
 pub mod Shown
+pub mod Descriptor

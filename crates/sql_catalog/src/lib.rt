@@ -3,6 +3,7 @@
 
 mod catalog;
 mod declare;
+mod descriptor;
 mod faults;
 mod key;
 mod limits;
@@ -14,6 +15,7 @@ mod walk;
 
 pub use catalog::{Catalog, TableList, ViewList};
 pub use declare::build;
+pub use descriptor::{ColumnDescriptor, KeyDescriptor, TableDescriptor, describe};
 pub use key::{Key, column_names, column_types, keys};
 pub use reader::{Reader, readers};
 pub use refusal::SchemaRefusal;

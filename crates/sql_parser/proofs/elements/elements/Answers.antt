@@ -2,7 +2,8 @@ use Rattle.std.proofs.Common.{◌++◌, ◌∙◌, ap}
 use Rattle.sql_text.specs.Tokens.{token_list}
 use Rattle.sql_parser.specs.ReadSchema as read
 use Rattle.sql_parser.specs.Words.{mapped}
-use Rattle.sql_parser.proofs.TurnsTables.{one_more, next_item, no_item}
+use Rattle.sql_parser.proofs.Turns.{one_more}
+use Rattle.sql_parser.proofs.TurnsTables.{next_item, no_item}
 use Rattle.sql_parser.proofs.TurnsSchema.{elements_stop}
 use Rattle.sql_parser.proofs.elements.elements.Goals as goal
 

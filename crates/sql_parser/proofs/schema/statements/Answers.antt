@@ -1,16 +1,16 @@
-use Rattle.std.proofs.Common.{◌++◌, ◌∙◌, map, sym, ap}
+use Rattle.std.proofs.Common.{◌++◌, ◌∙◌, map, ap}
 use Rattle.std.specs.Option.{option_map}
 use Rattle.sql_ast.specs.Shown as shown
 use Rattle.sql_text.specs.Tokens.{token_list}
 use Rattle.sql_parser.specs.ReadSchema as read
-use Rattle.sql_parser.proofs.TurnsTables.{one_more, no_turn}
+use Rattle.sql_parser.proofs.Turns.{one_more, no_turn}
 use Rattle.sql_parser.proofs.TurnsSchema.{before_none, before_one, statements_next}
 use Rattle.sql_parser.proofs.schema.statements.Goals as goal
 
 pub statements-init : goal.statements-init
 statements-init c =
     rw c.new-statements.ensures
-    (before_none _ ∙ sym (no_turn (λ n. option_map (λ more. more) (read.statements n (token_list c.args.ts.now))) c.args.ts.now))
+    (before_none _ ∙ (no_turn (λ n. option_map (λ more. more) (read.statements n (token_list c.args.ts.now))) c.args.ts.now))
 
 pub statements-preserved : goal.statements-preserved
 statements-preserved c =

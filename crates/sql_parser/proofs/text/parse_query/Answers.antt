@@ -21,16 +21,16 @@ pub returns-clause-only : goal.returns-clause-only
 returns-clause-only c =
     let ts = token_list c.args.tokens.now in
     let room = shallow_if_read ts (sym c.if-too_deep.ensures) in
-    only_of shown.query_text (λ x. SpellsQuery x ts) (query_tree ts) (λ x. query_complete x ts room) c.query_text.result c.query_text.ensures
+    only_of shown.query_text (λ x. SpellsQuery x ts) (query_tree ts) (λ x. λ spells. query_complete x ts spells room) c.query_text.result c.query_text.ensures
 
 pub returns-clause-none : goal.returns-clause-none
 returns-clause-none c =
     let ts = token_list c.args.tokens.now in
     let room = shallow_if_read ts (sym c.if-too_deep.ensures) in
-    none_of shown.query_text (λ x. SpellsQuery x ts) (query_tree ts) (λ x. query_complete x ts room) c.query_text.result c.query_text.ensures
+    none_of shown.query_text (λ x. SpellsQuery x ts) (query_tree ts) (λ x. λ spells. query_complete x ts spells room) c.query_text.result c.query_text.ensures
 
 pub returns-clause-reading : goal.returns-clause-reading
-returns-clause-reading c = λ flat. λ x. let ts = token_list c.args.tokens.now in (query_sound ts x, query_complete x ts (shallow_if_read ts flat))
+returns-clause-reading c = λ flat. λ x. let ts = token_list c.args.tokens.now in (query_sound ts x, λ spells. query_complete x ts spells (shallow_if_read ts flat))
 
 pub returns-clause-unique : goal.returns-clause-unique
 returns-clause-unique c = λ a b. query_unique a b (token_list c.args.tokens.now)
