@@ -7,7 +7,7 @@ use Rattle.std.specs.Cmp.Lexicographic.{pointwise}
 use Rattle.std.specs.List.{All}
 use Rattle.row_bag.specs.declared.row.Row.{Row}
 use Rattle.row_bag.specs.declared.tables.Table.{Table}
-use Rattle.sql_ast.specs.declared.tree.TableDecl.{TableDecl}
+use Rattle.simple_ast.specs.declared.tree.TableDecl.{TableDecl}
 use Rattle.sql_value.specs.declared.cell.Cell.{Cell}
 use Rattle.csv_tables.specs.Cells.{cell_of}
 use Rattle.csv_tables.specs.Loaded.{Answers, FitsSchema, FitsTable, loaded}

@@ -6,7 +6,7 @@ use Rattle.io_edge.specs.Outcome.{Ended, answered, faulted, starved}
 use Rattle.io_edge.specs.declared.fetch.Interruption.{Interruption}
 use Rattle.io_edge.specs.declared.fetch.Interruption.TheVariants as i
 use Rattle.row_bag.specs.declared.tables.Table.{Table}
-use Rattle.sql_ast.specs.declared.tree.TableDecl.{TableDecl}
+use Rattle.simple_ast.specs.declared.tree.TableDecl.{TableDecl}
 use Rattle.csv_tables.specs.TableFile.{Refusal}
 use Rattle.csv_tables.specs.declared.refusal.DataRefusal.{DataRefusal}
 use Rattle.csv_tables.specs.declared.refusal.DataRefusal.TheVariants.{Refused, ReadFault, Memory}

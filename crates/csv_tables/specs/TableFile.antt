@@ -5,7 +5,7 @@ use Rattle.io_edge.specs.Outside.{File}
 use Rattle.row_bag.specs.declared.row.Row.{Row}
 use Rattle.sql_value.specs.declared.cell.Cell.{Cell}
 use Rattle.row_bag.specs.declared.tables.Table.{Table}
-use Rattle.sql_ast.specs.declared.tree.TableDecl.{TableDecl}
+use Rattle.simple_ast.specs.declared.tree.TableDecl.{TableDecl}
 use Rattle.csv_tables.specs.Tables.{table_rows}
 
 -- the number of the rule that is broken, the table, and the record, where the header is record 0

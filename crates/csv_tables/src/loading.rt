@@ -11,8 +11,8 @@ use crate::table::read_table;
 use io_edge::{Files, fetch_file};
 use qgm_base::{OutOfMemory, Text};
 use row_bag::{Table, Tables};
-use sql_ast::TableDecl;
-use sql_catalog::Catalog;
+use simple_ast::TableDecl;
+use simple_catalog::Catalog;
 use sqlite_items::Items;
 use std::alloc::Global;
 

@@ -11,8 +11,8 @@ use Rattle.row_bag.specs.Verdict.{verdict}
 use Rattle.row_bag.specs.declared.row.Row.{Row}
 use Rattle.sql_value.specs.declared.cell.Cell.{Cell}
 use Rattle.row_bag.specs.declared.tables.Table.{Table}
-use Rattle.sql_ast.specs.declared.tree.QueryText.{QueryText}
-use Rattle.sql_ast.specs.declared.tree.TableDecl.{TableDecl}
+use Rattle.simple_ast.specs.declared.tree.QueryText.{QueryText}
+use Rattle.simple_ast.specs.declared.tree.TableDecl.{TableDecl}
 use Rattle.sql_check.specs.declared.checked.Checked.{Checked}
 use Rattle.sql_meaning.specs.Meaning.{in_order}
 use Rattle.qgm_app.specs.Outcome.{outcome, report_under, reported, reported_by, with_catalog, with_line, with_task, with_query, with_query_text, with_schema_text}

@@ -10,8 +10,8 @@ use Rattle.row_bag.specs.Verdict.{verdict}
 use Rattle.row_bag.specs.declared.outcome.Verdict.{Verdict}
 use Rattle.row_bag.specs.declared.outcome.Verdict.TheVariants as v
 use Rattle.row_bag.specs.declared.tables.Table.{Table}
-use Rattle.sql_ast.specs.declared.tree.QueryText.{QueryText}
-use Rattle.sql_ast.specs.declared.tree.TableDecl.{TableDecl}
+use Rattle.simple_ast.specs.declared.tree.QueryText.{QueryText}
+use Rattle.simple_ast.specs.declared.tree.TableDecl.{TableDecl}
 use Rattle.sql_check.specs.Resolved.{rows_at}
 use Rattle.sql_check.specs.declared.checked.Checked.{Checked}
 use Rattle.sql_meaning.specs.Meaning.{Answer, answer, in_order}

@@ -2,15 +2,15 @@
 use Rattle.std.specs.Prelude.{ℕ, ◌≡◌, ◌==◌, ◌||◌, if◌then◌else◌, ⊤, Bool, List, map, Option, Some, None, Result, Ok, Err}
 use Rattle.std.specs.List.{list_all}
 use Rattle.row_bag.specs.declared.tables.Table.{Table}
-use Rattle.sql_ast.specs.declared.tree.QueryText.{QueryText}
-use Rattle.sql_ast.specs.declared.tree.Schema.{Schema}
-use Rattle.sql_ast.specs.declared.tree.TableDecl.{TableDecl}
-use Rattle.sql_catalog.specs.Catalog.{declared}
+use Rattle.simple_ast.specs.declared.tree.QueryText.{QueryText}
+use Rattle.simple_ast.specs.declared.tree.Schema.{Schema}
+use Rattle.simple_ast.specs.declared.tree.TableDecl.{TableDecl}
+use Rattle.simple_catalog.specs.Catalog.{declared}
 use Rattle.sql_check.specs.Resolved.{rows_at}
 use Rattle.sql_check.specs.Valid.{fault}
 use Rattle.sql_check.specs.declared.checked.Checked.{Checked}
 use Rattle.sql_meaning.specs.Meaning.{rows}
-use Rattle.sql_parser.specs.Read.{query_tree, schema_tree}
+use Rattle.simple_parser.specs.Read.{query_tree, schema_tree}
 use Rattle.sql_text.specs.Tokens.{in_word, is_blank, token_list, tokens}
 use Rattle.sql_text.specs.declared.token.Spanned.{Spanned}
 

@@ -16,7 +16,7 @@ use io_edge::{Files, Interruption, fetch_file};
 use plain_exec::execute;
 use qgm_base::OutOfMemory;
 use row_bag::{Bag, Tables, Verdict, sorted, verdict};
-use sql_catalog::Catalog;
+use simple_catalog::Catalog;
 use sql_check::Checked;
 use sql_value::{OrderKeys, OutNames};
 use sqlite_items::Items;

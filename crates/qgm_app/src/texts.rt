@@ -4,10 +4,10 @@ ghost use Rattle.std.specs.List.{list_all};
 ghost use Rattle.qgm_app.specs.Texts.{IsChecked, catalog_of, is_plain, query_of, schema_of, tokens_of, valid_query};
 
 use qgm_base::OutOfMemory;
-use sql_ast::{QueryText, Schema};
-use sql_catalog::{Catalog, SchemaRefusal, build};
+use simple_ast::{QueryText, Schema};
+use simple_catalog::{Catalog, SchemaRefusal, build};
+use simple_parser::{ParseRefusal, parse_query, parse_schema};
 use sql_check::{Checked, QueryRefusal, check};
-use sql_parser::{ParseRefusal, parse_query, parse_schema};
 use sql_text::{LexRefusal, Spanned, lex};
 use sqlite_items::Items;
 use std::alloc::Global;

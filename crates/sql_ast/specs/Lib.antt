@@ -1,1 +1,4 @@
+pub mod Syntax
+pub mod Shown
 pub mod Spelling
+pub mod Grammatical

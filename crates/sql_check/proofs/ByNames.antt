@@ -3,9 +3,9 @@ use Rattle.std.proofs.Common.{ℕ, ◌≡◌, List, [], ◌∷◌, map, Some, re
 use Rattle.row_bag.specs.Tables.{bag_named}
 use Rattle.row_bag.specs.declared.row.Row.{Row}
 use Rattle.row_bag.specs.declared.tables.Table.{Table}
-use Rattle.sql_ast.specs.declared.tree.Block.{Block}
-use Rattle.sql_ast.specs.declared.tree.TableDecl.{TableDecl}
-use Rattle.sql_catalog.specs.Catalog.{table_named}
+use Rattle.simple_ast.specs.declared.tree.Block.{Block}
+use Rattle.simple_ast.specs.declared.tree.TableDecl.{TableDecl}
+use Rattle.simple_catalog.specs.Catalog.{table_named}
 use Rattle.sql_value.specs.declared.cell.Cell.{Cell}
 use Rattle.sql_meaning.specs.Meaning.{rows, rows_of, selected}
 use Rattle.sql_check.specs.Resolved.{HoldPlaces, row_at, rows_at}

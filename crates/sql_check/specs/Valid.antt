@@ -1,10 +1,10 @@
 -- Which queries are valid.
 use Rattle.std.specs.Prelude.{ℕ, not, nat_lt, if◌then◌else◌, Bool, List, length, Option, Some, None}
 use Rattle.std.specs.List.{list_all}
-use Rattle.sql_ast.specs.declared.tree.Block.{Block}
-use Rattle.sql_ast.specs.declared.tree.QueryText.{QueryText}
-use Rattle.sql_ast.specs.declared.tree.TableDecl.{TableDecl}
-use Rattle.sql_catalog.specs.Catalog.{contains, table_named}
+use Rattle.simple_ast.specs.declared.tree.Block.{Block}
+use Rattle.simple_ast.specs.declared.tree.QueryText.{QueryText}
+use Rattle.simple_ast.specs.declared.tree.TableDecl.{TableDecl}
+use Rattle.simple_catalog.specs.Catalog.{contains, table_named}
 
 -- each name is one of these columns
 abbrev pub all_known : List (List ℕ) → List (List ℕ) → Bool

@@ -9,8 +9,8 @@ ghost use Rattle.sql_check.specs.declared.refusal.QueryRefusal.TheVariants as Qu
 use crate::checked::Checked;
 use crate::refusal::QueryRefusal;
 use qgm_base::OutOfMemory;
-use sql_ast::QueryText;
-use sql_catalog::Catalog;
+use simple_ast::QueryText;
+use simple_catalog::Catalog;
 use sql_meaning::column_place;
 use sql_text::Name;
 use sql_value::OutNames;

@@ -3,7 +3,7 @@ use Rattle.std.proofs.Common.{ℕ, zero, suc, ◌+◌, ◌≤◌, ◌≡◌, inl
 use Rattle.std.specs.List.{list_any, position_from}
 use Rattle.std.proofs.lemmas.Bool.{cases_Bool}
 use Rattle.std.proofs.lemmas.Iterator.Adapters.{position_from-zero}
-use Rattle.sql_catalog.specs.Catalog.{contains, same_name}
+use Rattle.simple_catalog.specs.Catalog.{contains, same_name}
 use Rattle.sql_value.specs.declared.cell.Cell.{Cell}
 use Rattle.sql_meaning.specs.Meaning.{value}
 use Rattle.sql_meaning.specs.Places.{cell_at, place_of}

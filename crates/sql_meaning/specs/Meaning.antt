@@ -7,10 +7,10 @@ use Rattle.row_bag.specs.declared.outcome.Verdict.{Verdict}
 use Rattle.row_bag.specs.declared.outcome.Verdict.TheVariants.{Rows, Error}
 use Rattle.row_bag.specs.declared.row.Row.{Row}
 use Rattle.row_bag.specs.declared.tables.Table.{Table}
-use Rattle.sql_ast.specs.declared.tree.Block.{Block}
-use Rattle.sql_ast.specs.declared.tree.QueryText.{QueryText}
-use Rattle.sql_ast.specs.declared.tree.TableDecl.{TableDecl}
-use Rattle.sql_catalog.specs.Catalog.{same_name, table_named}
+use Rattle.simple_ast.specs.declared.tree.Block.{Block}
+use Rattle.simple_ast.specs.declared.tree.QueryText.{QueryText}
+use Rattle.simple_ast.specs.declared.tree.TableDecl.{TableDecl}
+use Rattle.simple_catalog.specs.Catalog.{same_name, table_named}
 use Rattle.sql_value.specs.declared.cell.Cell.{Cell}
 use Rattle.sql_value.specs.declared.cell.Cell.TheVariants.{Null}
 

@@ -1,6 +1,6 @@
 -- Columns by their places in place of their names.
 use Rattle.std.specs.Prelude.{ℕ, List, Option, get_or, position}
-use Rattle.sql_catalog.specs.Catalog.{same_name}
+use Rattle.simple_catalog.specs.Catalog.{same_name}
 use Rattle.sql_value.specs.declared.cell.Cell.{Cell}
 use Rattle.sql_value.specs.declared.cell.Cell.TheVariants.{Null}
 

@@ -1,7 +1,7 @@
 // From a column's name to its place.
 ghost use Rattle.std.specs.Prelude.{◌≡◌, IfSome, List, is_some};
 ghost use Rattle.sql_value.specs.declared.cell.Cell.{Cell};
-ghost use Rattle.sql_catalog.specs.Catalog.{contains};
+ghost use Rattle.simple_catalog.specs.Catalog.{contains};
 ghost use Rattle.sql_meaning.specs.Meaning.{value};
 ghost use Rattle.sql_meaning.specs.Places.{cell_at, place_of};
 

@@ -1,7 +1,7 @@
 use Rattle.std.proofs.Common.{◌≡◌, List, ℕ, rules, tests}
 use Rattle.std.proofs.lemmas.Iterator.{YieldsList-from_slice}
 use Rattle.std.proofs.lemmas.Iterator.Search.{position_from_yields_List}
-use Rattle.sql_catalog.specs.Catalog.{same_name}
+use Rattle.simple_catalog.specs.Catalog.{same_name}
 use Rattle.sql_meaning.specs.Places.{place_of}
 use Rattle.sql_meaning.proofs.Placed.{found, placed}
 use Rattle.sql_meaning.proofs.place.column_place.Goals.{After-position}

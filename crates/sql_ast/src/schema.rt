@@ -1,0 +1,60 @@
+// The text of a schema.
+use crate::name::Names;
+use crate::tree::Query;
+use crate::word::DataType;
+use sql_text::Name;
+use sqlite_items::Items;
+
+/// `NOT NULL | PRIMARY KEY | UNIQUE` after a column.
+#[derive(Clone, Copy, Debug, PartialEq, Eq)]
+pub enum ColumnConstraint {
+    NotNull,
+    PrimaryKey,
+    Unique,
+}
+
+/// `name type { NOT NULL | PRIMARY KEY | UNIQUE }` (SQL-92, 11.4).
+#[derive(Debug, Drop)]
+pub struct ColumnDecl {
+    pub name: Name,
+    pub data_type: DataType,
+    pub constraints: Items<ColumnConstraint>,
+}
+
+/// `element = name type { NOT NULL | PRIMARY KEY | UNIQUE } | PRIMARY KEY "(" names ")"
+/// | UNIQUE "(" names ")"` (SQL-92, 11.3 and 11.7).
+#[derive(Debug, Drop)]
+pub enum Element {
+    Column(ColumnDecl),
+    PrimaryKey(Names),
+    Unique(Names),
+}
+
+/// `CREATE TABLE name "(" element { "," element } ")"` (SQL-92, 11.3).
+#[derive(Debug, Drop)]
+pub struct TableDecl {
+    pub name: Name,
+    pub elements: Items<Element>,
+}
+
+/// `CREATE VIEW name [ "(" names ")" ] AS query` (SQL-92, 11.19).
+#[derive(Drop)]
+pub struct ViewDecl {
+    pub name: Name,
+    /// The column list; none is written where this is empty.
+    pub columns: Names,
+    pub query: Query,
+}
+
+/// `stmt`: a table or a view.
+#[derive(Drop)]
+pub enum Statement {
+    Table(TableDecl),
+    View(ViewDecl),
+}
+
+/// `schema = { stmt ";" }`: its statements, in order.
+#[derive(Drop)]
+pub struct Schema {
+    pub statements: Items<Statement>,
+}

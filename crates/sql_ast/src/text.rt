@@ -1,0 +1,28 @@
+// The text of a query.
+use crate::tree::Query;
+use crate::word::Direction;
+use sql_text::Name;
+use sqlite_items::Items;
+
+/// `name | number`: an output column by its name, or by its place from 1.
+#[derive(Debug, Drop)]
+pub enum SortKey {
+    Name(Name),
+    Number(i64),
+}
+
+/// `sort = ( name | number ) [ ASC | DESC ]` (SQL-92, 13.1).
+#[derive(Debug, Drop)]
+pub struct Sort {
+    pub key: SortKey,
+    pub direction: Option<Direction>,
+}
+
+/// `text = query [ ORDER BY sort { "," sort } ] [ ";" ]`.
+#[derive(Drop)]
+pub struct QueryText {
+    pub query: Query,
+    /// The keys; no ORDER BY is written where this is empty.
+    pub order: Items<Sort>,
+    pub semicolon: bool,
+}
