@@ -1,6 +1,8 @@
 -- Lists of parts with one more at their end, and lists as lists of cells.
-use Rattle.std.proofs.Common.{◌≡◌, List, [], ◌∷◌, ◌++◌, refl, ap, sym, ◌∙◌}
+use Rattle.std.proofs.Common.{◌≡◌, Some, List, [], ◌∷◌, ◌++◌, refl, ap, sym, ◌∙◌}
 use Rattle.qgm_base.specs.declared.compare.CmpOp.TheVariants.{Eq}
+use Rattle.sql_ast.specs.declared.word.AdditiveOp.{AdditiveOp}
+use Rattle.sql_ast.specs.declared.word.AdditiveOp.TheVariants.{Plus, Minus, Concat}
 use Rattle.sql_ast.specs.Syntax as s
 use Rattle.sql_meaning.specs.Scopes.{Scopes}
 use Rattle.sql_meaning.specs.Values as named
@@ -13,6 +15,8 @@ use Rattle.sql_check.specs.declared.checked.Value.{Value}
 use Rattle.sql_check.specs.Agreed.{cells_meant, cells_of, equals_some, first_not_null}
 use Rattle.sql_check.specs.Core as core
 use Rattle.sql_check.specs.CoreShown as shown
+use Rattle.sql_check.specs.Types.{TypedScopes, type_of}
+use Rattle.sql_check.specs.Valid.{operand_type}
 
 pub cells_more : (xs : List Value) (y : Value) (cells : List Cell) → cells_of (shown.value_list (xs ++ y ∷ [])) cells ≡ cells_of (shown.value_list xs) cells ++ core.value (shown.value y) cells ∷ []
 cells_more [] y cells = refl
@@ -44,3 +48,8 @@ equals_cells x (core.one_value v vs) cells = ap (t.or (c.compare Eq x (core.valu
 pub equals_meant : (x : Cell) (xs : s.Exprs) (scopes : Scopes) → equals_some x (cells_meant xs scopes) ≡ named.equals_one x xs scopes
 equals_meant x s.no_expr scopes = refl
 equals_meant x (s.one_expr y xs) scopes = ap (t.or (c.compare Eq x (named.value y scopes))) (equals_meant x xs scopes)
+
+pub sum_type : (x : s.Expr) (op : AdditiveOp) (y : s.Expr) (scopes : TypedScopes) → Some (operand_type op) ≡ type_of (s.add x op y) scopes
+sum_type x Plus y scopes = refl
+sum_type x Minus y scopes = refl
+sum_type x Concat y scopes = refl

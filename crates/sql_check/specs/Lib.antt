@@ -5,3 +5,4 @@ pub mod Taken
 pub mod Core
 pub mod CoreShown
 pub mod Agreed
+pub mod Faults

@@ -1,30 +1,74 @@
-// The numbers of faults, and types that don't fit.
-ghost use Rattle.std.specs.Prelude.{◌≡◌, ℕ};
+// Faults in their order, and types that don't fit.
+ghost use Rattle.std.specs.Prelude.{◌≡◌, Some};
 ghost use Rattle.std.specs.List.{list_any};
+ghost use Rattle.sql_check.specs.Faults.{number};
 ghost use Rattle.sql_check.specs.Types as types;
 ghost use Rattle.sql_check.specs.Valid as spec;
 
 use sql_ast::{AdditiveOp, DataType};
 use sql_value::SqlType;
 
-// The lesser of two numbers, of which 0 is none.
-pub(crate) fn lesser(a: u8, b: u8) -> u8
-    ensures { result ≡ spec.lesser a b }
+/// Why a query isn't valid, the first of several in this order.
+#[derive(Clone, Copy, Debug, PartialEq, Eq)]
+pub(crate) enum Fault {
+    UnknownTable,
+    DuplicateRange,
+    UnknownColumn,
+    Ambiguous,
+    TypeMismatch,
+    Degree,
+    Grouping,
+    AggregatePlace,
+    OrderColumn,
+}
+
+// The place of a fault in their order.
+fn place(fault: Fault) -> u8
+    ensures { result ≡ number (Some fault) }
 {
-    if a == 0 {
-        b
-    } else if b == 0 {
-        a
-    } else {
-        a.min(b)
+    match fault {
+        Fault::UnknownTable => 6,
+        Fault::DuplicateRange => 7,
+        Fault::UnknownColumn => 8,
+        Fault::Ambiguous => 9,
+        Fault::TypeMismatch => 10,
+        Fault::Degree => 11,
+        Fault::Grouping => 12,
+        Fault::AggregatePlace => 13,
+        Fault::OrderColumn => 14,
     }
 }
 
-// A number where a test fails, and else none.
-pub(crate) fn fault_if(test: bool, number: u8) -> u8
-    ensures { result ≡ spec.fault_if test number }
+// The first of two faults, where there are two.
+#[tactic(auto, using(crate::proofs::Orders::lesser_none, crate::proofs::Orders::lesser_first, crate::proofs::Orders::lesser_second))]
+pub(crate) fn lesser(a: Option<Fault>, b: Option<Fault>) -> Option<Fault>
+    ensures { number result ≡ spec.lesser (number a) (number b) }
 {
-    if test { number } else { 0 }
+    match (a, b) {
+        (None, other) => other,
+        (Some(a), None) => Some(a),
+        (Some(a), Some(b)) => {
+            if place(a) <= place(b) {
+                Some(a)
+            } else {
+                Some(b)
+            }
+        }
+    }
+}
+
+// A fault where a test says so.
+pub(crate) fn fault_if(test: bool, fault: Fault) -> Option<Fault>
+    ensures { number result ≡ spec.fault_if test (number (Some fault)) }
+{
+    if test { Some(fault) } else { None }
+}
+
+// The fault of types that don't fit, where a test says so.
+pub(crate) fn mismatch_if(test: bool) -> Option<Fault>
+    ensures { number result ≡ spec.fault_if test 10 }
+{
+    fault_if(test, Fault::TypeMismatch)
 }
 
 // Whether a type is known, and another one.
@@ -83,11 +127,11 @@ pub(crate) fn first_known(sorts: &[Option<SqlType>]) -> Option<SqlType>
     None
 }
 
-// 10 where an operand isn't of the type.
-pub(crate) fn wants(sort: SqlType, found: Option<SqlType>) -> u8
-    ensures { result ≡ spec.wants sort found }
+// The fault where an operand isn't of the type.
+pub(crate) fn wants(sort: SqlType, found: Option<SqlType>) -> Option<Fault>
+    ensures { number result ≡ spec.wants sort found }
 {
-    fault_if(is_other(sort, found), 10)
+    mismatch_if(is_other(sort, found))
 }
 
 // The type of the operands of `+` and `-`, and of `||`, which is that of the result too.
@@ -100,11 +144,11 @@ pub(crate) fn operand_type(op: AdditiveOp) -> SqlType
     }
 }
 
-// 10 where the results of a CASE differ in type, or all are NULL.
-pub(crate) fn results_fault(sorts: &[Option<SqlType>]) -> u8
-    ensures { result ≡ spec.results_fault sorts.now }
+// The fault where the results of a CASE differ in type, or all are NULL.
+pub(crate) fn results_fault(sorts: &[Option<SqlType>]) -> Option<Fault>
+    ensures { number result ≡ spec.results_fault sorts.now }
 {
-    fault_if(sorts.is_empty() || some_differ(sorts), 10)
+    mismatch_if(sorts.is_empty() || some_differ(sorts))
 }
 
 // The type that a declaration gives.
@@ -117,12 +161,12 @@ pub(crate) fn type_of_declared(data_type: &DataType) -> SqlType
     }
 }
 
-// 10 where the length of a declared type is outside 1 to 4,096.
-pub(crate) fn length_fault(data_type: &DataType) -> u8
-    ensures { result ≡ spec.length_fault data_type.now }
+// The fault where the length of a declared type is outside 1 to 4,096.
+pub(crate) fn length_fault(data_type: &DataType) -> Option<Fault>
+    ensures { number result ≡ spec.length_fault data_type.now }
 {
     match data_type {
-        DataType::Integer | DataType::Int => 0,
-        DataType::Varchar(length) => fault_if(!(1..=4096).contains(length), 10),
+        DataType::Integer | DataType::Int => None,
+        DataType::Varchar(length) => mismatch_if(!(1..=4096).contains(length)),
     }
 }

@@ -7,6 +7,7 @@ mod faults;
 mod found;
 mod parts;
 mod refusal;
+mod resolve;
 mod scope;
 
 pub use checked::{Addend, Arm, Checked, Choice, Multiplier, Test, Value};

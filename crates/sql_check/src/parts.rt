@@ -8,11 +8,12 @@ ghost use Rattle.sql_value.specs.declared.cell.Cell.{Cell};
 ghost use Rattle.sql_check.specs.Agreed.{cells_of, equals_some, first_not_null};
 ghost use Rattle.sql_check.specs.Core as core;
 ghost use Rattle.sql_check.specs.CoreShown as shown;
+ghost use Rattle.sql_check.specs.Faults.{number};
 ghost use Rattle.sql_check.specs.Types as types;
 ghost use Rattle.sql_check.specs.Valid as spec;
 
 use crate::checked::{Arm, Choice, Test, Value};
-use crate::faults::{any_differs, differ, fault_if, first_known, lesser, results_fault, some_differ};
+use crate::faults::{Fault, any_differs, differ, first_known, lesser, mismatch_if, results_fault, some_differ};
 use crate::found::{Decided, Found, perhaps_not};
 use qgm_base::OutOfMemory;
 use sql_value::SqlType;
@@ -22,34 +23,33 @@ use std::alloc::Global;
 // Types of expressions, each where it is known.
 pub(crate) type Sorts = Items<Option<SqlType>>;
 
-// Expressions with their names resolved: their values, their types, and the number of the least of
-// their faults, or 0.
+// Expressions with their names resolved: their values, their types, and the least of their faults.
 #[derive(Drop)]
 pub(crate) struct FoundList {
     pub values: Items<Value>,
     pub sorts: Sorts,
-    pub fault: u8,
+    pub fault: Option<Fault>,
 }
 
-// A result of a CASE, and the number of its fault, or 0.
+// A result of a CASE, and its fault.
 #[derive(Drop)]
 pub(crate) struct Outcome {
     pub value: Value,
-    pub fault: u8,
+    pub fault: Option<Fault>,
 }
 
-// Conditions with their results, and the number of the least of their faults, or 0.
+// Conditions with their results, and the least of their faults.
 #[derive(Drop)]
 pub(crate) struct FoundArms {
     pub arms: Items<Arm>,
-    pub fault: u8,
+    pub fault: Option<Fault>,
 }
 
-// Values with their results, and the number of the least of their faults, or 0.
+// Values with their results, and the least of their faults.
 #[derive(Drop)]
 pub(crate) struct FoundChoices {
     pub choices: Items<Choice>,
-    pub fault: u8,
+    pub fault: Option<Fault>,
 }
 
 
@@ -58,7 +58,7 @@ pub(crate) struct FoundChoices {
 pub(crate) fn push_value(list: &mut FoundList, found: Found) -> Result<(), OutOfMemory>
     ensures values { OnOk result ((cells : List Cell) → cells_of (shown.value_list list.new.values) cells ≡ cells_of (shown.value_list list.old.values) cells ++ core.value (shown.value found.value) cells ∷ []) }
     ensures sorts { OnOk result (list.new.sorts ≡ list.old.sorts ++ found.sort ∷ []) }
-    ensures fault { OnOk result (list.new.fault ≡ spec.lesser list.old.fault found.fault) }
+    ensures fault { OnOk result (number list.new.fault ≡ spec.lesser (number list.old.fault) (number found.fault)) }
 {
     list.fault = lesser(list.fault, found.fault);
     list.sorts.push(found.sort)?;
@@ -70,7 +70,7 @@ pub(crate) fn push_value(list: &mut FoundList, found: Found) -> Result<(), OutOf
 pub(crate) fn result_of(found: Found, sorts: &mut Sorts) -> Result<Outcome, OutOfMemory>
     ensures value { IfOk result (λ x. x.value ≡ found.value) }
     ensures sorts { IfOk result (λ x. sorts.new ≡ sorts.old ++ found.sort ∷ []) }
-    ensures fault { IfOk result (λ x. x.fault ≡ found.fault) }
+    ensures fault { IfOk result (λ x. number x.fault ≡ number found.fault) }
 {
     sorts.push(found.sort)?;
     Ok(Outcome {
@@ -87,7 +87,7 @@ pub(crate) fn push_arm(
     then: Outcome,
 ) -> Result<(), OutOfMemory>
     ensures arms { OnOk result ((cells : List Cell) → (last : Cell) → core.of_arms (shown.arm_list list.new.arms) last cells ≡ core.of_arms (shown.arm_list list.old.arms) (named.case_of (core.truth (shown.test when.test) cells) (core.value (shown.value then.value) cells) last) cells) }
-    ensures fault { OnOk result (list.new.fault ≡ spec.lesser list.old.fault (spec.lesser when.fault then.fault)) }
+    ensures fault { OnOk result (number list.new.fault ≡ spec.lesser (number list.old.fault) (spec.lesser (number when.fault) (number then.fault))) }
 {
     list.fault = lesser(list.fault, lesser(when.fault, then.fault));
     list.arms.push(Arm {
@@ -106,9 +106,9 @@ pub(crate) fn push_choice(
     then: Outcome,
 ) -> Result<(), OutOfMemory>
     ensures choices { OnOk result ((cells : List Cell) → (x : Cell) → (last : Cell) → core.of_choices x (shown.choice_list list.new.choices) last cells ≡ core.of_choices x (shown.choice_list list.old.choices) (named.case_of (comparison.compare Eq x (core.value (shown.value when.value) cells)) (core.value (shown.value then.value) cells) last) cells) }
-    ensures fault { OnOk result (list.new.fault ≡ spec.lesser list.old.fault (spec.lesser (spec.lesser when.fault (spec.fault_if (spec.differ operand when.sort) 10)) then.fault)) }
+    ensures fault { OnOk result (number list.new.fault ≡ spec.lesser (number list.old.fault) (spec.lesser (spec.lesser (number when.fault) (spec.fault_if (spec.differ operand when.sort) 10)) (number then.fault))) }
 {
-    let own = lesser(when.fault, fault_if(differ(operand, when.sort), 10));
+    let own = lesser(when.fault, mismatch_if(differ(operand, when.sort)));
     list.fault = lesser(list.fault, lesser(own, then.fault));
     list.choices.push(Choice {
         when: when.value,
@@ -127,7 +127,7 @@ pub(crate) fn searched(
 ) -> Result<Found, OutOfMemory>
     ensures value { IfOk result (λ x. (cells : List Cell) → core.value (shown.value x.value) cells ≡ core.of_arms (shown.arm_list list.arms) (core.value (shown.value last.value) cells) cells) }
     ensures sort { IfOk result (λ x. x.sort ≡ types.first_known sorts.now) }
-    ensures fault { IfOk result (λ x. x.fault ≡ spec.lesser (spec.lesser list.fault last.fault) (spec.results_fault sorts.now)) }
+    ensures fault { IfOk result (λ x. number x.fault ≡ spec.lesser (spec.lesser (number list.fault) (number last.fault)) (spec.results_fault sorts.now)) }
 {
     Ok(Found {
         value: Value::Searched(list.arms, Box::new(alloc, last.value)?),
@@ -147,7 +147,7 @@ pub(crate) fn simple(
 ) -> Result<Found, OutOfMemory>
     ensures value { IfOk result (λ x. (cells : List Cell) → core.value (shown.value x.value) cells ≡ core.of_choices (core.value (shown.value operand.value) cells) (shown.choice_list list.choices) (core.value (shown.value last.value) cells) cells) }
     ensures sort { IfOk result (λ x. x.sort ≡ types.first_known sorts.now) }
-    ensures fault { IfOk result (λ x. x.fault ≡ spec.lesser (spec.lesser operand.fault (spec.lesser list.fault last.fault)) (spec.results_fault sorts.now)) }
+    ensures fault { IfOk result (λ x. number x.fault ≡ spec.lesser (spec.lesser (number operand.fault) (spec.lesser (number list.fault) (number last.fault))) (spec.results_fault sorts.now)) }
 {
     let parts = lesser(operand.fault, lesser(list.fault, last.fault));
     let value = Box::new(alloc, operand.value)?;
@@ -177,10 +177,10 @@ fn with_first(
 pub(crate) fn coalesce(alloc: Global, a: Found, others: FoundList) -> Result<Found, OutOfMemory>
     ensures value { IfOk result (λ x. (cells : List Cell) → core.value (shown.value x.value) cells ≡ first_not_null (core.value (shown.value a.value) cells) (cells_of (shown.value_list others.values) cells)) }
     ensures sort { IfOk result (λ x. x.sort ≡ types.first_known (a.sort ∷ others.sorts)) }
-    ensures fault { IfOk result (λ x. x.fault ≡ spec.lesser (spec.lesser a.fault others.fault) (spec.fault_if (spec.some_differ (a.sort ∷ others.sorts)) 10)) }
+    ensures fault { IfOk result (λ x. number x.fault ≡ spec.lesser (spec.lesser (number a.fault) (number others.fault)) (spec.fault_if (spec.some_differ (a.sort ∷ others.sorts)) 10)) }
 {
     let sorts = with_first(alloc, a.sort, others.sorts)?;
-    let own = fault_if(some_differ(sorts.as_slice()), 10);
+    let own = mismatch_if(some_differ(sorts.as_slice()));
     Ok(Found {
         value: Value::Coalesce(Box::new(alloc, a.value)?, others.values),
         sort: first_known(sorts.as_slice()),
@@ -197,9 +197,9 @@ pub(crate) fn among(
     others: FoundList,
 ) -> Result<Decided, OutOfMemory>
     ensures truth { IfOk result (λ x. (cells : List Cell) → core.truth (shown.test x.test) cells ≡ named.perhaps_not negative (equals_some (core.value (shown.value a.value) cells) (cells_of (shown.value_list others.values) cells))) }
-    ensures fault { IfOk result (λ x. x.fault ≡ spec.lesser (spec.lesser a.fault others.fault) (spec.fault_if (list_any (spec.differ a.sort) others.sorts) 10)) }
+    ensures fault { IfOk result (λ x. number x.fault ≡ spec.lesser (spec.lesser (number a.fault) (number others.fault)) (spec.fault_if (list_any (spec.differ a.sort) others.sorts) 10)) }
 {
-    let own = fault_if(any_differs(a.sort, others.sorts.as_slice()), 10);
+    let own = mismatch_if(any_differs(a.sort, others.sorts.as_slice()));
     let fault = lesser(lesser(a.fault, others.fault), own);
     let test = Test::Among(Box::new(alloc, a.value)?, others.values);
     Ok(Decided {

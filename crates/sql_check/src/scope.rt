@@ -2,11 +2,13 @@
 ghost use Rattle.std.specs.Prelude.{◌≡◌, ℕ, List, [], length, position, option_map, find};
 ghost use Rattle.sql_value.specs.declared.cell.Cell.{Cell};
 ghost use Rattle.sql_meaning.specs.Scopes.{cell_named, column_value, or_null};
+ghost use Rattle.sql_check.specs.Faults.{number};
 ghost use Rattle.sql_check.specs.Scope.{alone, cell_at, names_of, scopes_of};
 ghost use Rattle.sql_check.specs.Types as types;
 ghost use Rattle.sql_check.specs.Types.{columns_named, of_name, type_of_first};
 ghost use Rattle.sql_check.specs.Valid.{one_of};
 
+use crate::faults::Fault;
 use sql_ast::Column;
 use sql_text::Name;
 use sql_value::SqlType;
@@ -26,11 +28,11 @@ pub struct TypedRange {
     pub columns: Items<TypedColumn>,
 }
 
-/// What a column's name stands for: the number of its fault, or 0; the type of the first column that
+/// What a column's name stands for: its fault; the type of the first column that
 /// it may mean; and the place of that column, from 0, in the row of the range.
 #[derive(Clone, Copy, Debug)]
 pub(crate) struct Target {
-    pub fault: u8,
+    pub fault: Option<Fault>,
     pub sort: Option<SqlType>,
     pub place: Option<usize>,
 }
@@ -46,16 +48,16 @@ fn count_named(columns: &[TypedColumn], name: &Name) -> usize
 }
 
 // The fault of a name among these columns.
-fn fault_of(columns: &[TypedColumn], name: &Name) -> u8
-    ensures { result ≡ one_of (columns_named name.now columns.now) }
+fn fault_of(columns: &[TypedColumn], name: &Name) -> Option<Fault>
+    ensures { number result ≡ one_of (columns_named name.now columns.now) }
 {
     let count = count_named(columns, name);
     if count == 0 {
-        8
+        Some(Fault::UnknownColumn)
     } else if count == 1 {
-        0
+        None
     } else {
-        9
+        Some(Fault::Ambiguous)
     }
 }
 
@@ -87,7 +89,7 @@ fn place_in(columns: &[TypedColumn], name: &Name) -> Option<usize>
 // What a name stands for among the columns of a range.
 #[tactic(auto, using(crate::proofs::Columns::named_at))]
 fn meant_in(columns: &[TypedColumn], name: &Name) -> Target
-    ensures fault { result.fault ≡ one_of (columns_named name.now columns.now) }
+    ensures fault { number result.fault ≡ one_of (columns_named name.now columns.now) }
     ensures sort { result.sort ≡ type_of_first (columns_named name.now columns.now) }
     ensures cell { (cells : List Cell) → cell_at result.place cells ≡ or_null (cell_named name.now (names_of columns.now) cells) }
 {
@@ -98,10 +100,10 @@ fn meant_in(columns: &[TypedColumn], name: &Name) -> Target
     }
 }
 
-/// What a column's name stands for in a FROM of this range alone (SQL-92, 6.4). The fault is 8 where
+/// What a column's name stands for in a FROM of this range alone (SQL-92, 6.4). It is unknown where
 /// there is no such range or no such column, and 9 where there is more than one such column.
 pub(crate) fn meant(column: &Column, range: &TypedRange) -> Target
-    ensures fault { result.fault ≡ one_of (types.meant column.now (alone range.now)) }
+    ensures fault { number result.fault ≡ one_of (types.meant column.now (alone range.now)) }
     ensures sort { result.sort ≡ type_of_first (types.meant column.now (alone range.now)) }
     ensures cell { (cells : List Cell) → cell_at result.place cells ≡ column_value column.now (scopes_of range.now cells) }
 {
@@ -112,7 +114,7 @@ pub(crate) fn meant(column: &Column, range: &TypedRange) -> Target
                 meant_in(columns, &column.name)
             } else {
                 Target {
-                    fault: 8,
+                    fault: Some(Fault::UnknownColumn),
                     sort: None,
                     place: None,
                 }
