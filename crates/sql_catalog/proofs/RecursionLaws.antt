@@ -76,7 +76,7 @@ leads_more all zero v x e = or_left (contains v.reads x) (list_any (λ w. leads 
 leads_more all (suc n) v x e = or_either (contains v.reads x) (list_any (λ w. leads all n w x) (read_by all v)) e
     (λ f. or_left (contains v.reads x) (list_any (λ w. leads all (suc n) w x) (read_by all v)) f)
     (λ f. or_right (contains v.reads x) (list_any (λ w. leads all (suc n) w x) (read_by all v))
-      (any_more (λ w. leads all n w x) (λ w. leads all (suc n) w x) (λ w g. leads_more all n w x g) (read_by all v) f))
+    (any_more (λ w. leads all n w x) (λ w. leads all (suc n) w x) (λ w g. leads_more all n w x g) (read_by all v) f))
 
 pub leads_up : (all : List Reader) (d n : ℕ) (v : Reader) (x : List ℕ) → leads all n v x ≡ true → leads all (d + n) v x ≡ true
 leads_up all zero n v x e = let same : n ≡ zero + n = omega arith in subst (λ (m : ℕ). leads all m v x ≡ true) same e
@@ -86,12 +86,12 @@ leads_up all (suc d) n v x e = let same : suc (d + n) ≡ suc d + n = omega arit
 pub leads_on : (all : List Reader) (m : ℕ) (p u : Reader) (x : List ℕ) → In u all → leads all m p u.name ≡ true → contains u.reads x ≡ true → leads all (suc m) p x ≡ true
 leads_on all zero p u x inside l r =
     or_right (contains p.reads x) (list_any (λ w. leads all zero w x) (read_by all p))
-      (in_filter (λ (w : Reader). contains p.reads w.name) all u inside l (λ w. leads all zero w x) r)
+    (in_filter (λ (w : Reader). contains p.reads w.name) all u inside l (λ w. leads all zero w x) r)
 leads_on all (suc m) p u x inside l r = or_either (contains p.reads u.name) (list_any (λ w. leads all m w u.name) (read_by all p)) l
     (λ e. or_right (contains p.reads x) (list_any (λ w. leads all (suc m) w x) (read_by all p))
-      (in_filter (λ (w : Reader). contains p.reads w.name) all u inside e (λ w. leads all (suc m) w x) (leads_now all (suc m) u x r)))
+    (in_filter (λ (w : Reader). contains p.reads w.name) all u inside e (λ w. leads all (suc m) w x) (leads_now all (suc m) u x r)))
     (λ e. or_right (contains p.reads x) (list_any (λ w. leads all (suc m) w x) (read_by all p))
-      (any_more (λ w. leads all m w u.name) (λ w. leads all (suc m) w x) (λ w h. leads_on all m w u x inside h r) (read_by all p) e))
+    (any_more (λ w. leads all m w u.name) (λ w. leads all (suc m) w x) (λ w h. leads_on all m w u x inside h r) (read_by all p) e))
 
 -- ---- a chain from a view to itself has no end
 
@@ -121,7 +121,7 @@ pub closed : (all : List Reader) (d m : ℕ) (x : List ℕ) → d + m ≡ length
 closed all d m x sum [] a e = false_apart e
 closed all d m x sum (p ∷ ps) a e = or_either (same_name p.name x) (contains (reader_names ps) x) e
     (λ h. a.0 (λ (v : Reader). leads all (length all) v v.name)
-      (subst (λ (n : ℕ). leads all n p p.name ≡ true) sum (leads_up all d m p p.name (subst (λ (y : List ℕ). leads all m p y ≡ true) (sym ((bytes_decides p.name x).0 h)) a.1))))
+    (subst (λ (n : ℕ). leads all n p p.name ≡ true) sum (leads_up all d m p p.name (subst (λ (y : List ℕ). leads all m p y ≡ true) (sym ((bytes_decides p.name x).0 h)) a.1))))
     (λ h. closed all d m x sum ps a.2 h)
 
 pub or_none : (a b : Bool) → (a || b) ≡ false → (a ≡ false) × (b ≡ false)
@@ -149,8 +149,8 @@ any_sides q ns = any_same (same_name q) (λ n. same_name n q) (λ n. nat_list_eq
 pub few : (all : List Reader) (ns : List (List ℕ)) → IsDistinct same_name ns → ((q : List ℕ) → contains ns q ≡ true → contains (reader_names all) q ≡ true) → length ns ≤ length all
 few all ns distinct known =
     subst (λ (n : ℕ). length ns ≤ n) (length-map all (λ (v : Reader). v.name))
-      (length-le_from_is_member nat_list_eq_equiv ns (reader_names all) distinct
-        (λ q h. any_sides q (reader_names all) ∙ known q (sym (any_sides q ns) ∙ h)))
+    (length-le_from_is_member nat_list_eq_equiv ns (reader_names all) distinct
+    (λ q h. any_sides q (reader_names all) ∙ known q (sym (any_sides q ns) ∙ h)))
 
 pub named : (all : List Reader) (u : Reader) (path : List Reader) → In u all → ((q : List ℕ) → contains (reader_names path) q ≡ true → contains (reader_names all) q ≡ true) → (q : List ℕ) → contains (reader_names (u ∷ path)) q ≡ true → contains (reader_names all) q ≡ true
 named all u path inside known q e = or_either (same_name u.name q) (contains (reader_names path) q) e (λ h. in_names all u q inside h) (λ h. known q h)
@@ -168,21 +168,21 @@ further all zero m path u inside a known distinct len sum over =
     in absurd (omega arith)
 further all (suc k) m path u inside a known distinct len sum over =
     pick (λ (w : Reader). contains u.reads w.name && nests_over all k w) all (sym (any_filter (λ (w : Reader). contains u.reads w.name) (nests_over all k) all) ∙ over)
-      (λ w among h.
-        let reads : contains u.reads w.name ≡ true = and_left (contains u.reads w.name) (nests_over all k w) h
-        in let ahead : Ahead all (suc m) w.name (u ∷ path) = (inside, leads_now all (suc m) u w.name reads, ahead_on all m u w.name inside reads path a)
-        in let left : k + suc m ≡ length all = omega arith
-        in let next : suc m + k ≡ length all = omega arith
-        in by_test (contains (reader_names (u ∷ path)) w.name)
-          (λ t. closed all k (suc m) w.name left (u ∷ path) ahead t)
-          (λ t. further all k (suc m) (u ∷ path) w among ahead (named all w (u ∷ path) among known)
-            (distinct_more w.name (reader_names (u ∷ path)) t distinct) (ap suc len) next (and_right (contains u.reads w.name) (nests_over all k w) h)))
+    (λ w among h.
+    let reads : contains u.reads w.name ≡ true = and_left (contains u.reads w.name) (nests_over all k w) h
+    in let ahead : Ahead all (suc m) w.name (u ∷ path) = (inside, leads_now all (suc m) u w.name reads, ahead_on all m u w.name inside reads path a)
+    in let left : k + suc m ≡ length all = omega arith
+    in let next : suc m + k ≡ length all = omega arith
+    in by_test (contains (reader_names (u ∷ path)) w.name)
+    (λ t. closed all k (suc m) w.name left (u ∷ path) ahead t)
+    (λ t. further all k (suc m) (u ∷ path) w among ahead (named all w (u ∷ path) among known)
+    (distinct_more w.name (reader_names (u ∷ path)) t distinct) (ap suc len) next (and_right (contains u.reads w.name) (nests_over all k w) h)))
 
 pub too_long : (all : List Reader) → list_any (nests_over all (length all)) all ≡ true → is_recursive all ≡ true
 too_long all e = pick (nests_over all (length all)) all e
     (λ v inside h.
-      let sum : zero + length all ≡ length all = omega arith
-      in further all (length all) zero [] v inside tt (named all v [] inside (λ q f. false_apart f)) (distinct_more v.name [] refl distinct_none) refl sum h)
+    let sum : zero + length all ≡ length all = omega arith
+    in further all (length all) zero [] v inside tt (named all v [] inside (λ q f. false_apart f)) (distinct_more v.name [] refl distinct_none) refl sum h)
 
 pub recursion : (all : List Reader) → list_any (nests_over all (length all)) all ≡ is_recursive all
 recursion all = same_truth (list_any (nests_over all (length all)) all) (is_recursive all) (too_long all) (no_end all (length all))

@@ -19,6 +19,9 @@ pub record Declared : Type 0 where
   pub tables : List TableDecl
   pub views : List s.ViewDecl
 
+abbrev pub declares : List TableDecl → List s.ViewDecl → Declared
+declares tables views = record { tables = tables; views = views }
+
 -- the tables among a schema's statements, in order
 abbrev pub tables_of : List s.Statement → List TableDecl
 tables_of [] = []
@@ -53,22 +56,30 @@ reads_unknown known views = list_any (λ (v : Reader). list_any (λ n. not (cont
 abbrev pub has_twin_columns : TableDecl → Bool
 has_twin_columns t = has_twins (names_of (columns_of t.elements))
 
+-- two names in a view's list are equal
+abbrev pub has_twin_list : List s.ViewDecl → Bool
+has_twin_list views = list_any (λ (v : s.ViewDecl). has_twins v.columns) views
+
 -- 8: two tables or views, two columns of a table, or two names in a view's list are equal
 abbrev pub has_duplicate : Declared → Bool
 has_duplicate d =
     has_twins (known_names d)
     || (list_any has_twin_columns d.tables
-    || list_any (λ (v : s.ViewDecl). has_twins v.columns) d.views)
+    || has_twin_list d.views)
 
 -- a key names a column that the table lacks, or one column twice
 abbrev pub is_bad_key : List (List ℕ) → Key → Bool
 is_bad_key columns k = list_any (λ n. not (contains columns n)) k.columns || has_twins k.columns
 
+-- a key is declared by PRIMARY KEY
+abbrev pub is_primary : Key → Bool
+is_primary k = k.primary
+
 -- 9: a key of a table is bad, or a table has two primary keys
 abbrev pub has_bad_key : TableDecl → Bool
 has_bad_key t =
     list_any (is_bad_key (names_of (columns_of t.elements))) (keys_of t.elements)
-    || nat_lt 1 (count_by (λ (k : Key). k.primary) (keys_of t.elements))
+    || nat_lt 1 (count_by is_primary (keys_of t.elements))
 
 -- a letter A to Z or a to z, a digit or `_`
 abbrev pub is_plain : ℕ → Bool
@@ -90,11 +101,11 @@ is_over_limits t =
     || not (list_all is_plain t.name))
 
 -- 10: there are over 64 tables or over 64 views, a table is over its limits, or views nest over 16 deep
-abbrev pub passes_limits : Declared → Bool
-passes_limits d =
-    (nat_lt 64 (length d.tables) || nat_lt 64 (length d.views))
-    || (list_any is_over_limits d.tables
-    || list_any (nests_over (readers_of d.views) 16) (readers_of d.views))
+abbrev pub passes_limits : List TableDecl → List Reader → Bool
+passes_limits tables views =
+    (nat_lt 64 (length tables) || nat_lt 64 (length views))
+    || (list_any is_over_limits tables
+    || list_any (nests_over views 16) views)
 
 -- the least number that refuses these tables and views, or none
 abbrev pub fault : Declared → Option ℕ
@@ -103,11 +114,11 @@ fault d =
     else if is_recursive (readers_of d.views) then Some 7
     else if has_duplicate d then Some 8
     else if list_any has_bad_key d.tables then Some 9
-    else if passes_limits d then Some 10
+    else if passes_limits d.tables (readers_of d.views) then Some 10
     else None
 
 abbrev pub all_of : s.Schema → Declared
-all_of x = record { tables = tables_of x.statements; views = views_of x.statements }
+all_of x = declares (tables_of x.statements) (views_of x.statements)
 
 abbrev pub unless : Declared → Option ℕ → Result Declared ℕ
 unless d None = Ok d

@@ -3,3 +3,4 @@ pub mod TableNames
 pub mod Keys
 pub mod Nesting
 pub mod Catalog
+pub mod Shown

@@ -1,7 +1,8 @@
 // The tables and views of a schema, in declared order.
-ghost use Rattle.std.specs.Prelude.{◌≡◌, option_map, map};
+ghost use Rattle.std.specs.Prelude.{◌≡◌, option_map, map, find};
 ghost use Rattle.sql_ast.specs.Shown as shown;
 ghost use Rattle.sql_catalog.specs.Catalog.{table_named, view_named};
+ghost use Rattle.sql_catalog.specs.Names.{same_name};
 
 use sql_ast::{TableDecl, ViewDecl};
 use sql_text::Name;
@@ -18,6 +19,13 @@ pub type ViewList = Items<ViewDecl>;
 pub struct Catalog {
     pub tables: TableList,
     pub views: ViewList,
+}
+
+// The first view of a name among these.
+fn view_among<'a>(views: &'a [ViewDecl], name: &Name) -> Option<&'a ViewDecl>
+    ensures { option_map (λ v. v.now) result ≡ find (λ v. same_name v.name name.now) views.now }
+{
+    views.iter().find(|view| view.name == *name)
 }
 
 impl Catalog {
@@ -49,9 +57,6 @@ impl Catalog {
     pub fn view(&self, name: &Name) -> Option<&ViewDecl>
         ensures { option_map (λ v. shown.view v.now) result ≡ view_named (map shown.view self.now.views) name.now }
     {
-        self.views
-            .as_slice()
-            .iter()
-            .find(|view| view.name == *name)
+        view_among(self.views.as_slice(), name)
     }
 }

@@ -2,6 +2,8 @@
 #![tactic(auto)]
 
 mod catalog;
+mod declare;
+mod faults;
 mod key;
 mod limits;
 mod name_set;
@@ -11,6 +13,7 @@ mod refusal;
 mod walk;
 
 pub use catalog::{Catalog, TableList, ViewList};
+pub use declare::build;
 pub use key::{Key, column_names, column_types, keys};
 pub use reader::{Reader, readers};
 pub use refusal::SchemaRefusal;

@@ -11,7 +11,9 @@ use std::alloc::Global;
 
 // The most tables of a schema, views of a schema, and columns of a table.
 const MAX_TABLES: usize = 64;
+
 const MAX_VIEWS: usize = 64;
+
 const MAX_COLUMNS: usize = 64;
 
 // The greatest length of a VARCHAR.
@@ -55,10 +57,12 @@ fn is_over_limits(alloc: Global, table: &TableDecl) -> Result<bool, OutOfMemory>
     ensures { IfOk result (λ over. over ≡ catalog.is_over_limits table.now) }
 {
     let types = column_types(alloc, table.elements.as_slice())?;
-    Ok(types.is_empty()
-        || types.len() > MAX_COLUMNS
-        || has_other_length(types.as_slice())
-        || !is_plain_name(&table.name))
+    Ok(
+        types.is_empty()
+            || types.len() > MAX_COLUMNS
+            || has_other_length(types.as_slice())
+            || !is_plain_name(&table.name),
+    )
 }
 
 /// Whether one of the tables is over its limits.

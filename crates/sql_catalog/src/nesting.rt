@@ -24,11 +24,7 @@ fn reader_names(alloc: Global, views: &[Reader]) -> Result<Names, OutOfMemory>
 }
 
 // The names of the views that read one of a set's names, in order.
-fn names_that_read(
-    alloc: Global,
-    views: &[Reader],
-    read: &NameSet,
-) -> Result<Names, OutOfMemory>
+fn names_that_read(alloc: Global, views: &[Reader], read: &NameSet) -> Result<Names, OutOfMemory>
     ensures { IfOk result (λ names. names ≡ reader_names (filter (λ v. list_any (contains read.now) v.reads) views.now)) }
 {
     let mut names = Items::new(alloc);
@@ -60,11 +56,7 @@ fn names_over(alloc: Global, views: &[Reader], depth: usize) -> Result<Names, Ou
 }
 
 /// Whether a view nests over this deep.
-pub fn one_nests_over(
-    alloc: Global,
-    views: &[Reader],
-    depth: usize,
-) -> Result<bool, OutOfMemory>
+pub fn one_nests_over(alloc: Global, views: &[Reader], depth: usize) -> Result<bool, OutOfMemory>
     ensures { IfOk result (λ found. found ≡ list_any (nests_over views.now depth) views.now) }
 {
     let over = names_over(alloc, views, depth)?;

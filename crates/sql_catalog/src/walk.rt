@@ -5,7 +5,8 @@ ghost use Rattle.sql_catalog.specs.TableNames as names;
 
 use qgm_base::OutOfMemory;
 use sql_ast::{
-    Arm, Block, Choice, Cond, Expr, Filter, Item, Names, Otherwise, Query, Res, SelectList, TableRef,
+    Arm, Block, Choice, Cond, Expr, Filter, Item, Names, Otherwise, Query, Res, SelectList,
+    TableRef,
 };
 use sql_text::Name;
 use std::alloc::Global;
@@ -115,11 +116,7 @@ fn choice_names(alloc: Global, choices: &[Choice], out: &mut Names) -> Result<()
 // Adds the names that `[ ELSE res ]` reads.
 #[cycle(walk)]
 #[tactic(auto, using(sql_ast::specs::Shown::lists))]
-fn otherwise_names(
-    alloc: Global,
-    otherwise: &Otherwise,
-    out: &mut Names,
-) -> Result<(), OutOfMemory>
+fn otherwise_names(alloc: Global, otherwise: &Otherwise, out: &mut Names) -> Result<(), OutOfMemory>
     ensures { OnOk result (out.new ≡ out.old ++ names.in_otherwise (shown.otherwise otherwise.now)) }
 {
     match otherwise {

@@ -11,5 +11,5 @@ pub returns : goal.returns
 returns c =
     subst (λ (views : List Reader). IfOk c.names_that_read.result (λ names. names ≡ reader_names views))
     (filter_same (λ (v : Reader). list_any (contains c.in_ok-read.read) v.reads) (λ (v : Reader). list_any (contains c.args.over.now) v.reads)
-      (λ v. any_same (contains c.in_ok-read.read) (contains c.args.over.now) c.in_ok-read.ensures v.reads) c.args.views.now)
+    (λ v. any_same (contains c.in_ok-read.read) (contains c.args.over.now) c.in_ok-read.ensures v.reads) c.args.views.now)
     c.names_that_read.ensures

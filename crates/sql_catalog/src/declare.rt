@@ -1,0 +1,60 @@
+// From a schema's tree to its catalog.
+ghost use Rattle.std.specs.Prelude.{◌≡◌, Ok, Err, IfOk, IsErrOf, reverse};
+ghost use Rattle.sql_ast.specs.Shown as shown;
+ghost use Rattle.sql_catalog.specs.Catalog.{all_of, declared};
+ghost use Rattle.sql_catalog.specs.Shown.{catalog};
+ghost use Rattle.sql_catalog.specs.declared.refusal.SchemaRefusal.TheVariants as SchemaRefusal;
+
+use crate::catalog::Catalog;
+use crate::faults::refuse;
+use crate::refusal::SchemaRefusal;
+use qgm_base::OutOfMemory;
+use sql_ast::{Schema, Statement};
+use sqlite_items::Items;
+use std::alloc::Global;
+
+// The items, last first.
+fn reversed<T: Drop>(alloc: Global, items: Items<T>) -> Result<Items<T>, OutOfMemory>
+    ensures { IfOk result (λ all. all ≡ reverse items) }
+{
+    let mut left = items;
+    let mut all = Items::new(alloc);
+    while let Some(item) = left.pop() {
+        all.push(item)?;
+    }
+    Ok(all)
+}
+
+// The tables and views of a schema, each in declared order.
+fn split(alloc: Global, schema: Schema) -> Result<Catalog, OutOfMemory>
+    ensures { IfOk result (λ c. catalog c ≡ all_of (shown.schema schema)) }
+{
+    let mut left = schema.statements;
+    let mut tables = Items::new(alloc);
+    let mut views = Items::new(alloc);
+    while let Some(statement) = left.pop() {
+        match statement {
+            Statement::Table(table) => tables.push(table)?,
+            Statement::View(view) => views.push(view)?,
+        }
+    }
+    let tables = reversed(alloc, tables)?;
+    let views = reversed(alloc, views)?;
+    Ok(Catalog { tables, views })
+}
+
+/// The catalog that a schema declares: its tables and its views. Else it is the first refusal that
+/// holds: `UnknownTable`, `RecursiveView`, `DuplicateName`, `BadKey`, `Limits`. `Memory` may come in
+/// place of any of these.
+pub fn build(alloc: Global, schema: Schema) -> Result<Catalog, SchemaRefusal>
+    ensures built { IfOk result (λ c. declared (shown.schema schema) ≡ Ok (catalog c)) }
+    ensures unknown_table { IsErrOf result SchemaRefusal.UnknownTable → declared (shown.schema schema) ≡ Err 6 }
+    ensures recursive_view { IsErrOf result SchemaRefusal.RecursiveView → declared (shown.schema schema) ≡ Err 7 }
+    ensures duplicate_name { IsErrOf result SchemaRefusal.DuplicateName → declared (shown.schema schema) ≡ Err 8 }
+    ensures bad_key { IsErrOf result SchemaRefusal.BadKey → declared (shown.schema schema) ≡ Err 9 }
+    ensures limits { IsErrOf result SchemaRefusal.Limits → declared (shown.schema schema) ≡ Err 10 }
+{
+    let catalog = split(alloc, schema)?;
+    refuse(alloc, catalog.tables.as_slice(), catalog.views.as_slice())?;
+    Ok(catalog)
+}
