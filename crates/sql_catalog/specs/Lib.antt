@@ -1,1 +1,6 @@
+pub mod Names
+pub mod TableNames
+pub mod Keys
+pub mod Nesting
 pub mod Catalog
+pub mod Shown

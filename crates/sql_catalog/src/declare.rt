@@ -1,48 +1,60 @@
 // From a schema's tree to its catalog.
-ghost use Rattle.std.specs.Prelude.{◌≡◌, Ok, Err, IfOk, IsErrOf};
-ghost use Rattle.sql_catalog.specs.Catalog.{has_twins, declared};
+ghost use Rattle.std.specs.Prelude.{◌≡◌, Ok, Err, IfOk, IsErrOf, reverse};
+ghost use Rattle.sql_ast.specs.Shown as shown;
+ghost use Rattle.sql_catalog.specs.Catalog.{all_of, declared};
+ghost use Rattle.sql_catalog.specs.Shown.{catalog};
 ghost use Rattle.sql_catalog.specs.declared.refusal.SchemaRefusal.TheVariants as SchemaRefusal;
 
 use crate::catalog::Catalog;
+use crate::faults::refuse;
 use crate::refusal::SchemaRefusal;
-use sql_ast::Schema;
-use sql_text::Name;
+use qgm_base::OutOfMemory;
+use sql_ast::{Schema, Statement};
 use sqlite_items::Items;
 use std::alloc::Global;
 
-// The most columns of a table.
-const MAX_COLUMNS: usize = 64;
-
-// Whether two of the names are equal.
-fn has_twins(names: &[Name]) -> bool
-    ensures { result ≡ has_twins names.now }
+// The items, last first.
+fn reversed<T: Drop>(alloc: Global, items: Items<T>) -> Result<Items<T>, OutOfMemory>
+    ensures { IfOk result (λ all. all ≡ reverse items) }
 {
-    for i in 0..names.len() {
-        if names[i + 1..].contains(&names[i]) {
-            return true;
-        }
+    let mut left = items;
+    let mut all = Items::new(alloc);
+    while let Some(item) = left.pop() {
+        all.push(item)?;
     }
-    false
+    Ok(all)
 }
 
-/// The catalog that a schema declares: its table. It is `DuplicateName` exactly where two columns
-/// have one name, else `Limits` exactly where the table has no column or more than 64. `Memory` may
-/// come in place of any of these.
-pub fn build(alloc: Global, schema: Schema) -> Result<Catalog, SchemaRefusal>
-    ensures built { IfOk result (λ c. declared schema ≡ Ok c) }
-    ensures duplicate_name { IsErrOf result SchemaRefusal.DuplicateName → declared schema ≡ Err 8 }
-    ensures limits { IsErrOf result SchemaRefusal.Limits → declared schema ≡ Err 10 }
+// The tables and views of a schema, each in declared order.
+fn split(alloc: Global, schema: Schema) -> Result<Catalog, OutOfMemory>
+    ensures { IfOk result (λ c. catalog c ≡ all_of (shown.schema schema)) }
 {
-    let columns = schema.table.columns.as_slice();
-    if has_twins(columns) {
-        return Err(SchemaRefusal::DuplicateName);
-    }
-    if columns.is_empty() || columns.len() > MAX_COLUMNS {
-        return Err(SchemaRefusal::Limits);
-    }
+    let mut left = schema.statements;
     let mut tables = Items::new(alloc);
-    match tables.push(schema.table) {
-        Ok(()) => Ok(Catalog::new(tables)),
-        Err(_) => Err(SchemaRefusal::Memory),
+    let mut views = Items::new(alloc);
+    while let Some(statement) = left.pop() {
+        match statement {
+            Statement::Table(table) => tables.push(table)?,
+            Statement::View(view) => views.push(view)?,
+        }
     }
+    let tables = reversed(alloc, tables)?;
+    let views = reversed(alloc, views)?;
+    Ok(Catalog { tables, views })
+}
+
+/// The catalog that a schema declares: its tables and its views. Else it is the first refusal that
+/// holds: `UnknownTable`, `RecursiveView`, `DuplicateName`, `BadKey`, `Limits`. `Memory` may come in
+/// place of any of these.
+pub fn build(alloc: Global, schema: Schema) -> Result<Catalog, SchemaRefusal>
+    ensures built { IfOk result (λ c. declared (shown.schema schema) ≡ Ok (catalog c)) }
+    ensures unknown_table { IsErrOf result SchemaRefusal.UnknownTable → declared (shown.schema schema) ≡ Err 6 }
+    ensures recursive_view { IsErrOf result SchemaRefusal.RecursiveView → declared (shown.schema schema) ≡ Err 7 }
+    ensures duplicate_name { IsErrOf result SchemaRefusal.DuplicateName → declared (shown.schema schema) ≡ Err 8 }
+    ensures bad_key { IsErrOf result SchemaRefusal.BadKey → declared (shown.schema schema) ≡ Err 9 }
+    ensures limits { IsErrOf result SchemaRefusal.Limits → declared (shown.schema schema) ≡ Err 10 }
+{
+    let catalog = split(alloc, schema)?;
+    refuse(alloc, catalog.tables.as_slice(), catalog.views.as_slice())?;
+    Ok(catalog)
 }

@@ -3,8 +3,17 @@
 
 mod catalog;
 mod declare;
+mod faults;
+mod key;
+mod limits;
+mod name_set;
+mod nesting;
+mod reader;
 mod refusal;
+mod walk;
 
-pub use catalog::{Catalog, TableList};
+pub use catalog::{Catalog, TableList, ViewList};
 pub use declare::build;
+pub use key::{Key, column_names, column_types, keys};
+pub use reader::{Reader, readers};
 pub use refusal::SchemaRefusal;

@@ -1,0 +1,25 @@
+use Rattle.std.proofs.Common.{◌≡◌, sym, ◌∙◌, map, true, false, Some, None}
+use Rattle.std.specs.List.{list_any}
+use Rattle.sql_ast.specs.Shown as shown
+use Rattle.sql_catalog.specs.Nesting.{readers_of, is_recursive}
+use Rattle.sql_catalog.specs.Catalog as catalog
+use Rattle.sql_catalog.proofs.FaultLaws.{fault_limits}
+use Rattle.sql_catalog.proofs.faults.refuse.Goals as goal
+
+pub returns-then-branch-5-clause-limits : goal.returns-then-branch-5-clause-limits
+returns-then-branch-5-clause-limits c = λ _. fault_limits (catalog.declares c.args.tables.now (map shown.view c.args.views.now))
+    (cc (c.if-branch.false, c.in_ok-reads_unknown.ensures, c.as_slice.ensures, c.as_slice-2.ensures, c.in_ok-known.ensures, c.in_ok-reads.ensures))
+    (cc (c.if-branch-2.false, c.in_ok-is_recursive.ensures, c.as_slice-3.ensures, c.in_ok-reads.ensures))
+    (cc (c.if-branch-3.false, c.in_ok-has_duplicate.ensures, c.as_slice-4.ensures, c.in_ok-known.ensures))
+    (cc (c.if-branch-4.false, c.in_ok-one_has_bad_key.ensures))
+    true
+    (cc (c.if-branch-5.true, c.in_ok-passes_limits.ensures, c.as_slice-5.ensures, c.in_ok-reads.ensures))
+
+pub returns-clause-valid : goal.returns-clause-valid
+returns-clause-valid c = fault_limits (catalog.declares c.args.tables.now (map shown.view c.args.views.now))
+    (cc (c.if-branch.false, c.in_ok-reads_unknown.ensures, c.as_slice.ensures, c.as_slice-2.ensures, c.in_ok-known.ensures, c.in_ok-reads.ensures))
+    (cc (c.if-branch-2.false, c.in_ok-is_recursive.ensures, c.as_slice-3.ensures, c.in_ok-reads.ensures))
+    (cc (c.if-branch-3.false, c.in_ok-has_duplicate.ensures, c.as_slice-4.ensures, c.in_ok-known.ensures))
+    (cc (c.if-branch-4.false, c.in_ok-one_has_bad_key.ensures))
+    false
+    (cc (c.if-branch-5.false, c.in_ok-passes_limits.ensures, c.as_slice-5.ensures, c.in_ok-reads.ensures))

@@ -1,0 +1,6 @@
+use Rattle.std.proofs.Common.{◌≡◌, ◌++◌, drop, map}
+use Rattle.sql_catalog.specs.Keys.{columns_of, names_of, types_of, key, column_keys, keys_of}
+use Rattle.sql_catalog.proofs.key.keys.Given as goal
+
+abbrev pub invariant-loop-element : goal.invariant-loop-element
+invariant-loop-element l = l.all ++ keys_of (drop l.element-index l.elements) ≡ keys_of l.elements

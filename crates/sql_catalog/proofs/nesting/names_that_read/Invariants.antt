@@ -1,0 +1,9 @@
+use Rattle.std.proofs.Common.{◌≡◌, ◌||◌, ◌++◌, drop, map, filter, List, ℕ}
+use Rattle.std.specs.List.{list_any}
+use Rattle.sql_catalog.specs.Names.{contains}
+use Rattle.sql_catalog.specs.declared.reader.Reader.{Reader}
+use Rattle.sql_catalog.specs.Nesting.{reader_names, nests_over}
+use Rattle.sql_catalog.proofs.nesting.names_that_read.Given as goal
+
+abbrev pub invariant-loop-view : goal.invariant-loop-view
+invariant-loop-view l = l.names ++ reader_names (filter (λ (v : Reader). list_any (contains l.read) v.reads) (drop l.view-index l.views)) ≡ reader_names (filter (λ (v : Reader). list_any (contains l.read) v.reads) l.views)

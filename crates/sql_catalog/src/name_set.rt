@@ -1,0 +1,87 @@
+// Sets of names.
+ghost use Rattle.std.specs.Prelude.{◌≡◌, ◌++◌, ◌∷◌, [], not, if◌then◌else◌, IfOk, OnOk, List, ℕ};
+ghost use Rattle.std.specs.List.{list_any};
+ghost use Rattle.sql_catalog.specs.Names.{contains, has_twins};
+
+use indexmap::IndexSet;
+use qgm_base::OutOfMemory;
+use sql_text::Name;
+use std::alloc::Global;
+use std::marker::Model;
+
+/// Names, each once, in the order in which they came. Contracts see it as their list.
+#[derive(Drop)]
+pub struct NameSet {
+    names: IndexSet<Name>,
+}
+
+impl Model for NameSet {
+    ghost Value = { List (List ℕ) };
+
+    ghost view = { λ s. s.names.keys };
+}
+
+impl NameSet {
+    /// No name.
+    pub fn new(alloc: Global) -> NameSet
+        ensures { result ≡ [] }
+    {
+        NameSet {
+            names: IndexSet::new(alloc),
+        }
+    }
+
+    /// Whether the set has the name.
+    pub fn contains(&self, name: &Name) -> bool
+        ensures { result ≡ contains self.now name.now }
+    {
+        self.names.contains(name)
+    }
+
+    /// Adds a name at the end if the set lacks it, and says whether it lacked it.
+    pub fn insert(&mut self, name: Name) -> Result<bool, OutOfMemory>
+        ensures added { IfOk result (λ added. added ≡ not (contains self.old name)) }
+        ensures names { OnOk result (self.new ≡ if contains self.old name then self.old else self.old ++ name ∷ []) }
+    {
+        let (_, added) = self.names.insert_full(name)?;
+        Ok(added)
+    }
+
+    /// The set of the names of a slice.
+    pub fn of(alloc: Global, names: &[Name]) -> Result<NameSet, OutOfMemory>
+        ensures { IfOk result (λ set. (name : List ℕ) → contains set name ≡ contains names.now name) }
+    {
+        let mut set = NameSet::new(alloc);
+        for name in names {
+            set.insert(name.copy(alloc)?)?;
+        }
+        Ok(set)
+    }
+}
+
+/// Whether the set has one of the names.
+pub fn has_one(set: &NameSet, names: &[Name]) -> bool
+    ensures { result ≡ list_any (contains set.now) names.now }
+{
+    names.iter().any(|name| set.contains(name))
+}
+
+/// Whether the set lacks one of the names.
+pub fn lacks_one(set: &NameSet, names: &[Name]) -> bool
+    ensures { result ≡ list_any (λ name. not (contains set.now name)) names.now }
+{
+    names.iter().any(|name| !set.contains(name))
+}
+
+/// Whether two of the names are equal.
+pub fn has_twins(alloc: Global, names: &[Name]) -> Result<bool, OutOfMemory>
+    ensures { IfOk result (λ twins. twins ≡ has_twins names.now) }
+{
+    let mut seen = NameSet::new(alloc);
+    for name in names {
+        if !seen.insert(name.copy(alloc)?)? {
+            return Ok(true);
+        }
+    }
+    Ok(false)
+}

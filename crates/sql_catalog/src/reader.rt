@@ -1,0 +1,32 @@
+// What views read.
+ghost use Rattle.std.specs.Prelude.{◌≡◌, IfOk, map};
+ghost use Rattle.sql_ast.specs.Shown as shown;
+ghost use Rattle.sql_catalog.specs.Nesting.{readers_of};
+
+use crate::walk::query_names;
+use qgm_base::OutOfMemory;
+use sql_ast::{Names, ViewDecl};
+use sql_text::Name;
+use sqlite_items::Items;
+use std::alloc::Global;
+
+/// A view's name, and the names of tables and views that its body reads, in the order of the text.
+#[derive(Debug, Drop)]
+pub struct Reader {
+    pub name: Name,
+    pub reads: Names,
+}
+
+/// For each view what it reads, in order.
+pub fn readers(alloc: Global, views: &[ViewDecl]) -> Result<Items<Reader>, OutOfMemory>
+    ensures { IfOk result (λ all. all ≡ readers_of (map shown.view views.now)) }
+{
+    let mut all = Items::new(alloc);
+    for view in views {
+        let name = view.name.copy(alloc)?;
+        let mut reads = Items::new(alloc);
+        query_names(alloc, &view.query, &mut reads)?;
+        all.push(Reader { name, reads })?;
+    }
+    Ok(all)
+}
