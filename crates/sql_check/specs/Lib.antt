@@ -6,3 +6,6 @@ pub mod Core
 pub mod CoreShown
 pub mod Agreed
 pub mod Faults
+pub mod Blocks
+pub mod Checks
+pub mod Resolved

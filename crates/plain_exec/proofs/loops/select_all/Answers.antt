@@ -1,9 +1,9 @@
 use Rattle.std.proofs.Common.{◌<◌, ◌∙◌, length, arith}
 use Rattle.std.proofs.lemmas.Grind.{common_steps}
 use Rattle.std.proofs.lemmas.List.{length-set}
-use Rattle.sql_check.specs.Resolved.{row_at}
+use Rattle.plain_exec.specs.Selected.{selected}
 use Rattle.plain_exec.proofs.InPlace.{done-more, rest-more}
-use Rattle.plain_exec.proofs.loops.project_all.Goals as goal
+use Rattle.plain_exec.proofs.loops.select_all.Goals as goal
 
 pub loop-i-preserved : goal.loop-i-preserved
 loop-i-preserved c =
@@ -13,7 +13,7 @@ loop-i-preserved c =
     let made = c.in_ok-rows.field-0 in
     let inside : c.loop-i.i < length c.loop-i.rows.items = grind (arith, common_steps) in
     record {
-      done = done-more (row_at c.args.places.now) xs c.args.bag c.loop-i.i c.index.result.now made inside size c.loop-i.invariant.done rest c.index.ensures c.in_ok-rows.ensures;
+      done = done-more (selected c.args.checked.now) xs c.args.bag c.loop-i.i c.index.result.now made inside size c.loop-i.invariant.done rest c.index.ensures c.in_ok-rows.ensures;
       rest = rest-more xs c.args.bag c.loop-i.i c.index.result.now made inside size rest;
       size = length-set xs c.loop-i.i made ∙ size;
     }

@@ -1,0 +1,24 @@
+-- The rows of a checked query: for each row of its table that the condition keeps, the cells of the list.
+use Rattle.std.specs.Prelude.{◌≡◌, ⊤, All, length, List, Option, Some, None}
+use Rattle.row_bag.specs.Bags.{bind, keep, unit}
+use Rattle.row_bag.specs.Tables.{bag_named}
+use Rattle.row_bag.specs.declared.row.Row.{Row}
+use Rattle.row_bag.specs.declared.tables.Table.{Table}
+use Rattle.sql_meaning.specs.Meaning.{Relation, rows_or_none}
+use Rattle.sql_value.specs.declared.cell.Cell.{Cell}
+use Rattle.sql_check.specs.Agreed.{cells_of}
+use Rattle.sql_check.specs.Core as core
+use Rattle.sql_check.specs.CoreShown as shown
+use Rattle.sql_check.specs.declared.checked.Checked.{Checked}
+
+-- what a row of the table gives
+abbrev pub row_at : Checked → List Cell → List (Row (List Cell))
+row_at checked cells = keep (core.truth (shown.test checked.test) cells).t (unit (cells_of (shown.value_list checked.list) cells))
+
+abbrev pub rows_at : Checked → List Table → List (Row (List Cell))
+rows_at checked tables = bind (rows_or_none (bag_named tables checked.table)) (row_at checked)
+
+-- each row of a table has a cell for each column
+abbrev pub IsWide : Option Relation → Type 0
+IsWide None = ⊤
+IsWide (Some table) = All (λ row. length row.cells ≡ length table.columns) table.rows
