@@ -1,78 +1,162 @@
 -- The tables are of their declarations.
-use Rattle.std.proofs.Common.{ℕ, ◌+◌, ◌<◌, ◌≡◌, ◌∙◌, ◌==◌, List, [], ◌∷◌, ◌++◌, Option, Some, None, Result, Ok, Err, IfOk, option_and_then, option_map, get_or, length, nat_le, take, refl, subst, arith, inl, inr}
+use Rattle.std.proofs.Common.{ℕ, ◌+◌, ◌<◌, ◌≡◌, ◌∙◌, ◌==◌, List, [], ◌∷◌, ◌++◌, Option, Some, None, Result, Ok, Err, IfOk, get_or, length, take, refl, sym, subst, arith, inl, inr, Bool, true, false, ◌||◌, if◌then◌else◌, ℤ}
 use Rattle.std.proofs.lemmas.Bool.{cases_Bool, eqb-true}
 use Rattle.std.proofs.lemmas.List.{take_more}
-use Rattle.std.proofs.lemmas.List.Elements.{All-cons, All-nil}
+use Rattle.std.proofs.lemmas.List.Elements.{All-append, All-cons, All-nil}
 use Rattle.std.specs.Cmp.Lexicographic.{pointwise}
-use Rattle.std.specs.List.{All}
+use Rattle.std.specs.List.{All, AllZip, list_any}
+use Rattle.std.specs.Str.{bytes_eq, chars, is_utf8}
 use Rattle.row_bag.specs.declared.row.Row.{Row}
 use Rattle.row_bag.specs.declared.tables.Table.{Table}
-use Rattle.simple_ast.specs.declared.tree.TableDecl.{TableDecl}
+use Rattle.sql_ast.specs.declared.schema.TableDecl.{TableDecl}
+use Rattle.sql_ast.specs.declared.word.DataType.{DataType}
+use Rattle.sql_ast.specs.declared.word.DataType.TheVariants as types
 use Rattle.sql_value.specs.declared.cell.Cell.{Cell}
-use Rattle.csv_tables.specs.Cells.{cell_of}
-use Rattle.csv_tables.specs.Loaded.{Answers, FitsSchema, FitsTable, loaded}
-use Rattle.csv_tables.specs.Records.{Fields, records_of}
-use Rattle.csv_tables.specs.TableFile.{table_of, table_with}
-use Rattle.csv_tables.specs.Tables.{bag_of, cells_of, fits_name, row_of, rows_of, table_row, table_rows, under_header}
+use Rattle.sql_value.specs.declared.cell.Cell.TheVariants as cell
+use Rattle.csv_tables.specs.declared.content.Content.{Content}
+use Rattle.csv_tables.specs.declared.content.Content.TheVariants.{Holds, BadInteger, TooLong, BadUtf8}
 use Rattle.csv_tables.specs.declared.refusal.DataRefusal.{DataRefusal}
+use Rattle.csv_tables.specs.declared.rule.Rule.{Rule}
+use Rattle.csv_tables.specs.declared.rule.Rule.TheVariants as rule
+use Rattle.csv_tables.specs.declared.shape.Shape.{Shape}
+use Rattle.csv_tables.specs.Cells.{integer_of, is_null, null_text}
+use Rattle.csv_tables.specs.Contents.{content_of, integer_content, is_longer, number_content, text_content, unescaped, within_length}
+use Rattle.csv_tables.specs.Fits.{FitsRow, FitsSchema, FitsTable, OfType}
+use Rattle.csv_tables.specs.Loaded.{Answers, loaded}
+use Rattle.csv_tables.specs.Records.{Fields, records_of}
+use Rattle.csv_tables.specs.Rules.{Fault}
+use Rattle.csv_tables.specs.Shapes.{shape_of}
+use Rattle.csv_tables.specs.TableFile.{table_of, table_with}
+use Rattle.csv_tables.specs.Tables.{◌>>=◌, broken_by, cells_of, contents_of, fits_name, is_bad_integer, is_bad_utf8, is_too_long, row_after, row_of_contents, row_unless, rows_after, table_row, table_rows, under_header}
+use Rattle.csv_tables.proofs.Rows.{unbroken}
 
--- both parts of a step that gave something
-both-some : {A B C : Type 0} (a : Option A) (b : Option B) (f : A → B → C) (c : C) → option_and_then (λ x. option_and_then (λ y. Some (f x y)) b) a ≡ Some c
-    → (x : A) × (y : B) × (a ≡ Some x) × (b ≡ Some y) × (f x y ≡ c)
-both-some None b f c e = absurd (cc e)
-both-some (Some x) None f c e = absurd (cc e)
-both-some (Some x) (Some y) f c e = (x, y, refl, refl, cc e)
+-- the cell of a content, where it is one
+abbrev HoldsOfType : DataType → Content → Type 0
+HoldsOfType t (Holds c) = OfType t c
+HoldsOfType t BadInteger = Unit {0}
+HoldsOfType t TooLong = Unit {0}
+HoldsOfType t BadUtf8 = Unit {0}
 
-cells-length : (fs : Fields) (cells : List Cell) → cells_of fs ≡ Some cells → length cells ≡ length fs
-unfolding cells_of
-cells-length [] cells e = let is : [] ≡ cells = cc e in rw (← is) refl
-cells-length (f ∷ fs) cells e =
-    let (x, xs, first, rest, is) = both-some (cell_of f) (cells_of fs) (λ (c : Cell) (cs : List Cell). c ∷ cs) cells e in
-    rw (← is) (let h = cells-length fs xs rest in omega (arith, h))
-
-row-width : (width : ℕ) (fs : Fields) (row : Row (List Cell)) → row_of width fs ≡ Some row → length row.cells ≡ width
-row-width width fs row e = elim (cases_Bool (length fs == width)) [
-  | inl same ↦ made (cells_of fs) refl (rw same at e) (eqb-true (length fs) width same)
-  | inr other ↦ let h = rw other at e in absurd (cc h)
+integer-fits : (bs : List ℕ) → HoldsOfType types.Integer (integer_content bs)
+integer-fits bs = elim (cases_Bool (is_null bs)) [
+  | inl null ↦ rw null tt
+  | inr other ↦ rw other (number (integer_of bs))
 ]
   where
-    made : (o : Option (List Cell)) → cells_of fs ≡ o → option_map table_row o ≡ Some row → length fs ≡ width → length row.cells ≡ width
-    made None is h same = absurd (cc h)
-    made (Some cs) is h same = let r : table_row cs ≡ row = cc h in rw (← r) (cells-length fs cs is ∙ same)
+    number : (o : Option ℤ) → HoldsOfType types.Integer (number_content o)
+    number None = tt
+    number (Some z) = tt
 
-rows-width : (width : ℕ) (rs : List Fields) (rows : List (Row (List Cell))) → rows_of width rs ≡ Some rows → All (λ row. length row.cells ≡ width) rows
-unfolding rows_of
-rows-width width [] rows e = let is : [] ≡ rows = cc e in rw (← is) (All-nil (λ (row : Row (List Cell)). length row.cells ≡ width))
-rows-width width (r ∷ rs) rows e =
-    let (x, xs, first, rest, is) = both-some (row_of width r) (rows_of width rs) (λ (a : Row (List Cell)) (b : List (Row (List Cell))). a ∷ b) rows e in
-    rw (← is) (All-cons (λ (row : Row (List Cell)). length row.cells ≡ width) x xs (row-width width r x first) (rows-width width rs xs rest))
+int-fits : (bs : List ℕ) → HoldsOfType types.Int (integer_content bs)
+int-fits bs = elim (cases_Bool (is_null bs)) [
+  | inl null ↦ rw null tt
+  | inr other ↦ rw other (number (integer_of bs))
+]
+  where
+    number : (o : Option ℤ) → HoldsOfType types.Int (number_content o)
+    number None = tt
+    number (Some z) = tt
 
-bag-width : (width : ℕ) (rs : List Fields) (rows : List (Row (List Cell))) → bag_of width rs ≡ Some rows → All (λ row. length row.cells ≡ width) rows
-bag-width width rs rows e = elim (cases_Bool (nat_le (length rs) 1000000)) [
-  | inl few ↦ rows-width width rs rows (rw few at e)
-  | inr many ↦ let h = rw many at e in absurd (cc h)
+sized-fits : (n : ℤ) (text : List ℕ) (long : Bool) → is_longer text n ≡ long → HoldsOfType (types.Varchar n) (if long then TooLong else Holds (cell.Text text))
+sized-fits n text true e = tt
+sized-fits n text false e = e
+
+text-fits : (n : ℤ) (bs : List ℕ) → HoldsOfType (types.Varchar n) (text_content n bs)
+unfolding text_content
+text-fits n bs = elim (cases_Bool (bytes_eq bs null_text)) [
+  | inl null ↦ rw null tt
+  | inr other ↦ rw other (elim (cases_Bool (is_utf8 bs)) [
+    | inl valid ↦ rw valid (sized-fits n (unescaped (chars bs)) (is_longer (unescaped (chars bs)) n) refl)
+    | inr not ↦ rw not tt
+  ])
 ]
 
-under-width : (columns : List (List ℕ)) (rs : List Fields) (rows : List (Row (List Cell))) → under_header columns rs ≡ Some rows → All (λ row. length row.cells ≡ length columns) rows
-under-width columns [] rows e = absurd (cc e)
-under-width columns (header ∷ rs) rows e = elim (cases_Bool (pointwise fits_name columns header)) [
-  | inl same ↦ bag-width (length columns) rs rows (rw same at e)
+content-fits : (t : DataType) (bs : List ℕ) → HoldsOfType t (content_of t bs)
+content-fits types.Integer bs = integer-fits bs
+content-fits types.Int bs = int-fits bs
+content-fits (types.Varchar n) bs = text-fits n bs
+
+-- a record that breaks no rule of its fields
+pub record Sound (xs : List Content) : Type 0 where
+  pub integers : list_any is_bad_integer xs ≡ false
+  pub texts : list_any is_too_long xs ≡ false
+  pub bytes : list_any is_bad_utf8 xs ≡ false
+
+cells-first : (t : DataType) (ts : List DataType) (x : Content) (xs : List Content) → HoldsOfType t x → Sound (x ∷ xs) → (Sound xs → AllZip OfType ts (cells_of xs)) → AllZip OfType (t ∷ ts) (cells_of (x ∷ xs))
+cells-first t ts (Holds c) xs fits sound others = (fits, others (record { integers = sound.integers; texts = sound.texts; bytes = sound.bytes }))
+cells-first t ts BadInteger xs fits sound others = absurd (cc sound.integers)
+cells-first t ts TooLong xs fits sound others = absurd (cc sound.texts)
+cells-first t ts BadUtf8 xs fits sound others = absurd (cc sound.bytes)
+
+cells-fit : (ts : List DataType) (fs : Fields) → length fs ≡ length ts → Sound (contents_of ts fs) → AllZip OfType ts (cells_of (contents_of ts fs))
+unfolding contents_of
+cells-fit [] fs same sound = tt
+cells-fit (t ∷ ts) [] same sound = absurd (omega (arith, same))
+cells-fit (t ∷ ts) (f ∷ fs) same sound = cells-first t ts (content_of t f) (contents_of ts fs) (content-fits t f) sound (cells-fit ts fs (omega (arith, same)))
+
+-- a row that a record has
+pub record Made (s : Shape) (before : List (Row (List Cell))) (fs : Fields) (row : Row (List Cell)) : Type 0 where
+  pub same : length fs ≡ length s.types
+  pub unbroken : broken_by s before (contents_of s.types fs) ≡ None
+  pub is : table_row (cells_of (contents_of s.types fs)) ≡ row
+
+made-of : (s : Shape) (before : List (Row (List Cell))) (fs : Fields) (row : Row (List Cell)) (broken : Option Rule) → length fs ≡ length s.types → broken_by s before (contents_of s.types fs) ≡ broken
+    → row_unless (length before) (cells_of (contents_of s.types fs)) broken ≡ Ok row → Made s before fs row
+made-of s before fs row None same by e = record { same = same; unbroken = by; is = cc e }
+made-of s before fs row (Some r) same by e = absurd (cc e)
+
+pub row-made : (s : Shape) (before : List (Row (List Cell))) (fs : Fields) (row : Row (List Cell)) → row_after s before fs ≡ Ok row → Made s before fs row
+unfolding row_after
+row-made s before fs row e = elim (cases_Bool (length fs == length s.types)) [
+  | inl same ↦ made-of s before fs row (broken_by s before (contents_of s.types fs)) (eqb-true (length fs) (length s.types) same) refl (rw same at e)
   | inr other ↦ let h = rw other at e in absurd (cc h)
 ]
 
-table-width : (columns : List (List ℕ)) (bytes : List ℕ) (rows : List (Row (List Cell))) → table_rows columns bytes ≡ Some rows → All (λ row. length row.cells ≡ length columns) rows
-unfolding table_rows
-table-width columns bytes rows e = under-width columns (records_of bytes) rows e
+sound-of : (s : Shape) (before : List (Row (List Cell))) (xs : List Content) → broken_by s before xs ≡ None → Sound xs
+unfolding broken_by
+sound-of s before xs e =
+    let integers = unbroken (list_any is_bad_integer xs) rule.BadInteger _ e in
+    let texts = unbroken (list_any is_too_long xs) rule.TooLong _ integers.1 in
+    let bytes = unbroken (list_any is_bad_utf8 xs) rule.BadUtf8 _ texts.1 in
+    record { integers = integers.0; texts = texts.0; bytes = bytes.0 }
 
-with-fits : (d : TableDecl) (bytes : List ℕ) (o : Option (List (Row (List Cell)))) (t : Table) → table_rows d.columns bytes ≡ o → Ok t ≡ table_with d o → FitsTable d t
-with-fits d bytes None t is e = absurd (cc e)
-with-fits d bytes (Some rows) t is e =
+made-fits : (s : Shape) (before : List (Row (List Cell))) (fs : Fields) (row : Row (List Cell)) → Made s before fs row → FitsRow s row
+made-fits s before fs row made =
+    subst (λ (r : Row (List Cell)). FitsRow s r) made.is (record { level = refl; cells = cells-fit s.types fs made.same (sound-of s before (contents_of s.types fs) made.unbroken) })
+
+rows-step : (s : Shape) (before : List (Row (List Cell))) (row : Row (List Cell)) → All (FitsRow s) before → FitsRow s row → All (FitsRow s) (before ++ row ∷ [])
+rows-step s before row all one = All-append (FitsRow s) before (row ∷ []) all (All-cons (FitsRow s) row [] one (All-nil (FitsRow s)))
+
+rows-next : (s : Shape) (before : List (Row (List Cell))) (r : Fields) (rs : List Fields) (rows : List (Row (List Cell))) (made : Result (Row (List Cell)) Fault) → All (FitsRow s) before → row_after s before r ≡ made
+    → (made >>= (λ row. rows_after s (before ++ row ∷ []) rs)) ≡ Ok rows → ((row : Row (List Cell)) → All (FitsRow s) (before ++ row ∷ []) → rows_after s (before ++ row ∷ []) rs ≡ Ok rows → All (FitsRow s) rows) → All (FitsRow s) rows
+rows-next s before r rs rows (Ok row) all is e others = others row (rows-step s before row all (made-fits s before r row (row-made s before r row is))) e
+rows-next s before r rs rows (Err fault) all is e others = absurd (cc e)
+
+rows-fit : (s : Shape) (before : List (Row (List Cell))) (rs : List Fields) (rows : List (Row (List Cell))) → All (FitsRow s) before → rows_after s before rs ≡ Ok rows → All (FitsRow s) rows
+unfolding rows_after
+rows-fit s before [] rows all e = let is : before ≡ rows = cc e in subst (λ (x : List (Row (List Cell))). All (FitsRow s) x) is all
+rows-fit s before (r ∷ rs) rows all e = rows-next s before r rs rows (row_after s before r) all refl e (λ row others rest. rows-fit s (before ++ row ∷ []) rs rows others rest)
+
+under-fits : (s : Shape) (rs : List Fields) (rows : List (Row (List Cell))) → under_header s rs ≡ Ok rows → All (FitsRow s) rows
+under-fits s [] rows e = absurd (cc e)
+under-fits s (header ∷ rs) rows e = elim (cases_Bool (pointwise fits_name s.names header)) [
+  | inl same ↦ rows-fit s [] rs rows (All-nil (FitsRow s)) (rw same at e)
+  | inr other ↦ let h = rw other at e in absurd (cc h)
+]
+
+table-rows-fit : (s : Shape) (bytes : List ℕ) (rows : List (Row (List Cell))) → table_rows s bytes ≡ Ok rows → All (FitsRow s) rows
+unfolding table_rows
+table-rows-fit s bytes rows e = under-fits s (records_of bytes) rows e
+
+with-fits : (d : TableDecl) (bytes : List ℕ) (r : Result (List (Row (List Cell))) Fault) (t : Table) → table_rows (shape_of d.elements) bytes ≡ r → Ok t ≡ table_with d r → FitsTable d t
+with-fits d bytes (Err fault) t is e = absurd (cc e)
+with-fits d bytes (Ok rows) t is e =
     let made : record { name = d.name; bag = rows } ≡ t = cc e in
-    subst (λ (x : Table). FitsTable d x) made (record { name = refl; rows = table-width d.columns bytes rows is })
+    subst (λ (x : Table). FitsTable d x) made (record { name = refl; rows = table-rows-fit (shape_of d.elements) bytes rows is })
 
 table-fits : (d : TableDecl) (bytes : Option (List ℕ)) (t : Table) → Ok t ≡ table_of d bytes → FitsTable d t
 table-fits d None t e = absurd (cc e)
-table-fits d (Some bytes) t e = with-fits d bytes (table_rows d.columns bytes) t refl e
+table-fits d (Some bytes) t e = with-fits d bytes (table_rows (shape_of d.elements) bytes) t refl e
 
 -- a table that its bytes hold
 pub answer-fits : (d : TableDecl) (bytes : Option (List ℕ)) (r : Result Table DataRefusal) → Answers (table_of d bytes) (loaded r) → IfOk r (λ t. FitsTable d t)

@@ -3,4 +3,6 @@ mod Integers
 mod Left
 mod Loads
 mod Printed
+mod Rows
+mod Texts
 mod Walks

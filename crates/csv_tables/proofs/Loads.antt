@@ -6,7 +6,7 @@ use Rattle.io_edge.specs.Outcome.{Comes, Ended, Outcome, answered, done, faulted
 use Rattle.io_edge.specs.Outside.{File, Told}
 use Rattle.io_edge.proofs.Order.{comes-bind, comes-bind-faulted, comes-bind-starved, comes-done, comes-starved}
 use Rattle.row_bag.specs.declared.tables.Table.{Table}
-use Rattle.simple_ast.specs.declared.tree.TableDecl.{TableDecl}
+use Rattle.sql_ast.specs.declared.schema.TableDecl.{TableDecl}
 use Rattle.std.specs.Prelude.{encode_utf8_all}
 use Rattle.csv_tables.specs.declared.refusal.DataRefusal.{DataRefusal}
 use Rattle.csv_tables.specs.declared.refusal.DataRefusal.TheVariants.{Refused, ReadFault, Memory}

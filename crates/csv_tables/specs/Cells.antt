@@ -1,5 +1,5 @@
 -- The cell that a field stands for, and how a cell is written.
-use Rattle.std.specs.Prelude.{ℕ, ◌^◌, ◌==◌, ◌&&◌, ◌||◌, if◌then◌else◌, nat_lt, nat_le, Bool, ℤ, pos, neg_ℤ, List, [], ◌∷◌, drop, length, slice_index, Option, Some, None, option_map, false, encode_utf8_all}
+use Rattle.std.specs.Prelude.{ℕ, ◌^◌, ◌==◌, ◌&&◌, ◌||◌, if◌then◌else◌, nat_lt, nat_le, Bool, ℤ, pos, neg_ℤ, List, [], ◌∷◌, drop, length, slice_index, Option, Some, None, false, encode_utf8_all}
 use Rattle.std.specs.Str.{all_ascii_digits, bytes_eq}
 use Rattle.std.specs.Str.Parse.{digits_value}
 use Rattle.std.specs.Fmt.{signed_decimal}
@@ -27,9 +27,6 @@ null_text = 92 ∷ 78 ∷ []
 -- no byte, or `\N`
 abbrev pub is_null : List ℕ → Bool
 is_null bs = (length bs == 0) || bytes_eq bs null_text
-
-unfoldable pub cell_of : List ℕ → Option Cell
-cell_of bs = if is_null bs then Some Null else option_map (λ z. Int z) (integer_of bs)
 
 abbrev pub begins_with_backslash : List ℕ → Bool
 begins_with_backslash [] = false

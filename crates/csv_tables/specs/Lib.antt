@@ -1,7 +1,11 @@
+pub mod Rules
 pub mod Records
 pub mod Cells
+pub mod Contents
+pub mod Shapes
 pub mod Tables
 pub mod Printed
 pub mod TableFile
 pub mod Load
 pub mod Loaded
+pub mod Fits

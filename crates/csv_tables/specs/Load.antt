@@ -3,7 +3,7 @@ use Rattle.std.specs.Prelude.{ℕ, List, [], ◌∷◌, Result, Ok}
 use Rattle.io_edge.specs.Outcome.{Outcome, done}
 use Rattle.io_edge.specs.Outside.{File}
 use Rattle.row_bag.specs.declared.tables.Table.{Table}
-use Rattle.simple_ast.specs.declared.tree.TableDecl.{TableDecl}
+use Rattle.sql_ast.specs.declared.schema.TableDecl.{TableDecl}
 use Rattle.csv_tables.specs.TableFile.{Refusal, table_read, unless_refused}
 
 infixl 10 ◌>>=◌

@@ -1,15 +1,15 @@
 -- What a call that loads tables tells.
-use Rattle.std.specs.Prelude.{ℕ, ◌≡◌, ⊤, List, length, All, Result, Ok, Err, encode_utf8_all}
-use Rattle.std.specs.List.{AllZip}
+use Rattle.std.specs.Prelude.{ℕ, ◌≡◌, ⊤, List, Result, Ok, Err, encode_utf8_all}
 use Rattle.io_edge.specs.Causes.{Rose}
 use Rattle.io_edge.specs.Outcome.{Ended, answered, faulted, starved}
 use Rattle.io_edge.specs.declared.fetch.Interruption.{Interruption}
 use Rattle.io_edge.specs.declared.fetch.Interruption.TheVariants as i
-use Rattle.row_bag.specs.declared.tables.Table.{Table}
-use Rattle.simple_ast.specs.declared.tree.TableDecl.{TableDecl}
 use Rattle.csv_tables.specs.TableFile.{Refusal}
+use Rattle.csv_tables.specs.Rules.{Fault}
 use Rattle.csv_tables.specs.declared.refusal.DataRefusal.{DataRefusal}
 use Rattle.csv_tables.specs.declared.refusal.DataRefusal.TheVariants.{Refused, ReadFault, Memory}
+use Rattle.csv_tables.specs.declared.refusal.TableRefusal.{TableRefusal}
+use Rattle.csv_tables.specs.declared.refusal.TableRefusal.TheVariants as from_table
 
 -- the end that a result tells of
 abbrev pub loaded : {X : Type 0} → Result X DataRefusal → Ended (Result X Refusal)
@@ -17,6 +17,12 @@ loaded (Ok x) = answered (Ok x)
 loaded (Err (Refused number table row)) = answered (Err (record { number = number; table = table; row = row }))
 loaded (Err (ReadFault name)) = faulted (encode_utf8_all name)
 loaded (Err Memory) = starved
+
+-- the rows, or the fault, are these, or memory ran out
+abbrev pub Gives : {X : Type 0} → Result X Fault → Result X TableRefusal → Type 0
+Gives expected (Ok x) = expected ≡ Ok x
+Gives expected (Err (from_table.Broken rule number)) = expected ≡ Err (record { rule = rule; record_number = number })
+Gives expected (Err from_table.Memory) = ⊤
 
 -- the refusal that a read ends in
 abbrev pub interrupted : Interruption → DataRefusal
@@ -35,12 +41,3 @@ RoseIfReadFault (Ok x) before now = ⊤
 RoseIfReadFault (Err (Refused number table row)) before now = ⊤
 RoseIfReadFault (Err (ReadFault name)) before now = Rose before now
 RoseIfReadFault (Err Memory) before now = ⊤
-
--- the table is of this declaration: it has its name, and each row has a cell for each column
-pub record FitsTable (d : TableDecl) (t : Table) : Type 0 where
-  pub name : t.name ≡ d.name
-  pub rows : All (λ row. length row.cells ≡ length d.columns) t.bag
-
--- the tables are of these declarations, one each, in declared order
-abbrev pub FitsSchema : List TableDecl → List Table → Type 0
-FitsSchema ds ts = AllZip FitsTable ds ts

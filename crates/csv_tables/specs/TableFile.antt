@@ -5,8 +5,11 @@ use Rattle.io_edge.specs.Outside.{File}
 use Rattle.row_bag.specs.declared.row.Row.{Row}
 use Rattle.sql_value.specs.declared.cell.Cell.{Cell}
 use Rattle.row_bag.specs.declared.tables.Table.{Table}
-use Rattle.simple_ast.specs.declared.tree.TableDecl.{TableDecl}
-use Rattle.csv_tables.specs.Tables.{table_rows}
+use Rattle.sql_ast.specs.declared.schema.TableDecl.{TableDecl}
+use Rattle.csv_tables.specs.declared.rule.Rule.TheVariants.{TooManyRows}
+use Rattle.csv_tables.specs.Rules.{Fault, number_of}
+use Rattle.csv_tables.specs.Shapes.{shape_of}
+use Rattle.csv_tables.specs.Tables.{at_header, table_rows}
 
 -- the number of the rule that is broken, the table, and the record, where the header is record 0
 pub record Refusal : Type 0 where
@@ -14,18 +17,17 @@ pub record Refusal : Type 0 where
   pub table : List ℕ
   pub row : ℕ
 
--- a file that is not of the form, whatever its fault
-abbrev pub not_of_form : TableDecl → Refusal
-not_of_form d = record { number = 1; table = d.name; row = 0 }
+abbrev pub refused : TableDecl → Fault → Refusal
+refused d fault = record { number = number_of fault.rule; table = d.name; row = fault.record_number }
 
-abbrev pub table_with : TableDecl → Option (List (Row (List Cell))) → Result Table Refusal
-table_with d None = Err (not_of_form d)
-table_with d (Some rows) = Ok (record { name = d.name; bag = rows })
+abbrev pub table_with : TableDecl → Result (List (Row (List Cell))) Fault → Result Table Refusal
+table_with d (Ok rows) = Ok (record { name = d.name; bag = rows })
+table_with d (Err fault) = Err (refused d fault)
 
 -- the table that these bytes hold; they are none where they are more than the limit
 abbrev pub table_of : TableDecl → Option (List ℕ) → Result Table Refusal
-table_of d None = Err (not_of_form d)
-table_of d (Some bytes) = table_with d (table_rows d.columns bytes)
+table_of d None = Err (refused d (at_header TooManyRows))
+table_of d (Some bytes) = table_with d (table_rows (shape_of d.elements) bytes)
 
 -- the directory, `/`, the table's name in UTF-8, and `.csv`
 abbrev pub path_of : List ℕ → List ℕ → List ℕ

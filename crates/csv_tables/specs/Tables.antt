@@ -1,56 +1,107 @@
--- The rows that the bytes of a table's file stand for.
-use Rattle.std.specs.Prelude.{ℕ, ◌==◌, ◌||◌, if◌then◌else◌, nat_le, Bool, map, List, [], ◌∷◌, length, Option, Some, None, option_map, option_and_then, encode_utf8_all}
+-- The rows that the bytes of a table's file stand for, or the first rule that is broken.
+use Rattle.std.specs.Prelude.{ℕ, ◌+◌, ◌==◌, ◌||◌, if◌then◌else◌, nat_le, Bool, true, false, map, List, [], ◌∷◌, ◌++◌, length, Option, Some, None, Result, Ok, Err, encode_utf8_all}
 use Rattle.std.specs.Char.{to_ascii_uppercase}
 use Rattle.std.specs.Cmp.Lexicographic.{pointwise}
+use Rattle.std.specs.List.{list_any}
 use Rattle.std.specs.Str.{bytes_eq}
 use Rattle.row_bag.specs.declared.row.Row.{Row}
+use Rattle.sql_ast.specs.declared.word.DataType.{DataType}
 use Rattle.sql_value.specs.declared.cell.Cell.{Cell}
 use Rattle.sql_value.specs.declared.level.Level.TheVariants.{Yes}
-use Rattle.csv_tables.specs.Cells.{cell_of}
+use Rattle.csv_tables.specs.declared.content.Content.{Content}
+use Rattle.csv_tables.specs.declared.content.Content.TheVariants as content
+use Rattle.csv_tables.specs.declared.rule.Rule.{Rule}
+use Rattle.csv_tables.specs.declared.rule.Rule.TheVariants.{Header, FieldCount, BadInteger, TooLong, BadUtf8, TooManyRows}
+use Rattle.csv_tables.specs.declared.shape.Shape.{Shape}
+use Rattle.csv_tables.specs.Contents.{content_of}
 use Rattle.csv_tables.specs.Records.{Fields, records_of}
+use Rattle.csv_tables.specs.Rules.{Fault}
 
--- the first, and then the rest with it; none where there is no first
+-- the first, and then the rest with it; a fault ends it
 infixl 10 ◌>>=◌
-abbrev pub ◌>>=◌ : {A B : Type 0} → Option A → (A → Option B) → Option B
-first >>= rest = option_and_then rest first
+abbrev pub ◌>>=◌ : {A B : Type 0} → Result A Fault → (A → Result B Fault) → Result B Fault
+Ok x >>= rest = rest x
+Err fault >>= rest = Err fault
 
--- a cell for each field, or none where a field has none
-unfoldable pub cells_of : Fields → Option (List Cell)
-cells_of [] = Some []
-cells_of (f ∷ fs) = do
-  cell ← cell_of f
-  cells ← cells_of fs
-  Some (cell ∷ cells)
+-- what the fields of a record hold, each by its column's type
+unfoldable pub contents_of : List DataType → Fields → List Content
+contents_of [] fs = []
+contents_of (t ∷ ts) [] = []
+contents_of (t ∷ ts) (f ∷ fs) = content_of t f ∷ contents_of ts fs
+
+-- the cells among them
+abbrev pub cells_of : List Content → List Cell
+cells_of [] = []
+cells_of (content.Holds c ∷ xs) = c ∷ cells_of xs
+cells_of (content.BadInteger ∷ xs) = cells_of xs
+cells_of (content.TooLong ∷ xs) = cells_of xs
+cells_of (content.BadUtf8 ∷ xs) = cells_of xs
+
+abbrev pub is_bad_integer : Content → Bool
+is_bad_integer (content.Holds c) = false
+is_bad_integer content.BadInteger = true
+is_bad_integer content.TooLong = false
+is_bad_integer content.BadUtf8 = false
+
+abbrev pub is_too_long : Content → Bool
+is_too_long (content.Holds c) = false
+is_too_long content.BadInteger = false
+is_too_long content.TooLong = true
+is_too_long content.BadUtf8 = false
+
+abbrev pub is_bad_utf8 : Content → Bool
+is_bad_utf8 (content.Holds c) = false
+is_bad_utf8 content.BadInteger = false
+is_bad_utf8 content.TooLong = false
+is_bad_utf8 content.BadUtf8 = true
+
+-- the rule of the least number that a record of these contents breaks after these rows; a table has at most 1,000,000 rows
+unfoldable pub broken_by : Shape → List (Row (List Cell)) → List Content → Option Rule
+broken_by s before xs =
+    if list_any is_bad_integer xs then Some BadInteger
+    else if list_any is_too_long xs then Some TooLong
+    else if list_any is_bad_utf8 xs then Some BadUtf8
+    else if nat_le 1000000 (length before) then Some TooManyRows
+    else None
 
 -- a row of a table, which is wholly there
 abbrev pub table_row : List Cell → Row (List Cell)
 table_row cells = record { cells = cells; level = Yes }
 
--- the row of a record: exactly one field for each column
-abbrev pub row_of : ℕ → Fields → Option (Row (List Cell))
-row_of width fields = if length fields == width then option_map table_row (cells_of fields) else None
+-- a row of these cells, unless the record breaks a rule; a record's number is one more than the number of the rows before it
+abbrev pub row_unless : ℕ → List Cell → Option Rule → Result (Row (List Cell)) Fault
+row_unless before cells None = Ok (table_row cells)
+row_unless before cells (Some rule) = Err (record { rule = rule; record_number = before + 1 })
 
--- a row for each record, or none where a record has none
-unfoldable pub rows_of : ℕ → List Fields → Option (List (Row (List Cell)))
-rows_of width [] = Some []
-rows_of width (r ∷ rs) = do
-  row ← row_of width r
-  rows ← rows_of width rs
-  Some (row ∷ rows)
+abbrev pub row_of_contents : Shape → List (Row (List Cell)) → List Content → Result (Row (List Cell)) Fault
+row_of_contents s before xs = row_unless (length before) (cells_of xs) (broken_by s before xs)
 
--- the same of at most 1,000,000 records
-abbrev pub bag_of : ℕ → List Fields → Option (List (Row (List Cell)))
-bag_of width records = if nat_le (length records) 1000000 then rows_of width records else None
+-- the row of a record that follows these rows: exactly one field for each column
+unfoldable pub row_after : Shape → List (Row (List Cell)) → Fields → Result (Row (List Cell)) Fault
+row_after s before fields =
+    if length fields == length s.types then row_of_contents s before (contents_of s.types fields)
+    else row_unless (length before) [] (Some FieldCount)
+
+-- these rows, and then a row for each record, up to the first that breaks a rule
+unfoldable pub rows_after : Shape → List (Row (List Cell)) → List Fields → Result (List (Row (List Cell))) Fault
+rows_after s before [] = Ok before
+rows_after s before (r ∷ rs) = do
+  row ← row_after s before r
+  rows_after s (before ++ row ∷ []) rs
 
 -- a field of the header is for the column of a name that it equals in UTF-8, or that its ASCII upper-case form equals
 abbrev pub fits_name : List ℕ → List ℕ → Bool
 fits_name name field = bytes_eq field (encode_utf8_all name) || bytes_eq (map to_ascii_uppercase field) (encode_utf8_all name)
 
--- the rows under a header that has exactly the columns, in declared order
-abbrev pub under_header : List (List ℕ) → List Fields → Option (List (Row (List Cell)))
-under_header columns [] = None
-under_header columns (header ∷ records) = if pointwise fits_name columns header then bag_of (length columns) records else None
+-- a rule that the header breaks, or the file as a whole
+abbrev pub at_header : Rule → Fault
+at_header rule = record { rule = rule; record_number = 0 }
 
--- the rows of a table's file, in its order; none where the file is not of the form
-unfoldable pub table_rows : List (List ℕ) → List ℕ → Option (List (Row (List Cell)))
-table_rows columns bytes = under_header columns (records_of bytes)
+-- the rows under a header that has exactly the columns, in declared order
+abbrev pub under_header : Shape → List Fields → Result (List (Row (List Cell))) Fault
+under_header s [] = Err (at_header Header)
+under_header s (header ∷ records) = if pointwise fits_name s.names header then rows_after s [] records else Err (at_header Header)
+
+-- the rows of a table's file, in its order
+unfoldable pub table_rows : Shape → List ℕ → Result (List (Row (List Cell))) Fault
+table_rows s bytes = under_header s (records_of bytes)

@@ -2,17 +2,19 @@
 ghost use Rattle.std.specs.Prelude.{◌≡◌, ◌≤◌, IfOk, Err};
 ghost use Rattle.std.specs.String.{string_bytes};
 ghost use Rattle.io_edge.specs.Outcome.{Comes};
-ghost use Rattle.csv_tables.specs.TableFile.{not_of_form, path_of, table_of, table_read};
+ghost use Rattle.csv_tables.specs.TableFile.{path_of, refused, table_of, table_read};
 ghost use Rattle.csv_tables.specs.Load.{tables_of};
-ghost use Rattle.csv_tables.specs.Loaded.{Answers, FitsSchema, FitsTable, loaded, RoseIfReadFault};
+ghost use Rattle.csv_tables.specs.Loaded.{Answers, loaded, RoseIfReadFault};
+ghost use Rattle.csv_tables.specs.Fits.{FitsSchema, FitsTable};
 
-use crate::refusal::DataRefusal;
+use crate::refusal::{DataRefusal, TableRefusal};
+use crate::rule::Rule;
 use crate::table::read_table;
 use io_edge::{Files, fetch_file};
 use qgm_base::{OutOfMemory, Text};
 use row_bag::{Table, Tables};
-use simple_ast::TableDecl;
-use simple_catalog::Catalog;
+use sql_ast::TableDecl;
+use sql_catalog::Catalog;
 use sqlite_items::Items;
 use std::alloc::Global;
 
@@ -27,14 +29,19 @@ fn path(alloc: Global, dir: &str, name: &Text) -> Result<String, OutOfMemory>
     Ok(format!(in alloc; "{dir}/{name}.csv")?)
 }
 
-// The refusal of a file that is not of the form.
-fn refuse(alloc: Global, decl: &TableDecl) -> Result<Table, DataRefusal>
-    ensures { Answers (Err (not_of_form decl.now)) (loaded result) }
+// The refusal of a table by a rule, at a record.
+fn refuse(
+    alloc: Global,
+    decl: &TableDecl,
+    rule: Rule,
+    record_number: u64,
+) -> Result<Table, DataRefusal>
+    ensures { Answers (Err (refused decl.now (record { rule = rule; record_number = record_number }))) (loaded result) }
 {
     Err(DataRefusal::Refused {
-        number: 1,
+        number: rule.number(),
         table: decl.name.copy(alloc)?,
-        row: 0,
+        row: record_number,
     })
 }
 
@@ -47,14 +54,20 @@ fn table_from(
     ensures { Answers (table_of decl.now bytes) (loaded result) }
 {
     let Some(bytes) = bytes else {
-        return refuse(alloc, decl);
+        return refuse(alloc, decl, Rule::TooManyRows, 0);
     };
-    match read_table(alloc, decl.columns.as_slice(), bytes.as_slice())? {
-        Some(bag) => Ok(Table {
+    match read_table(alloc, decl.elements.as_slice(), bytes.as_slice()) {
+        Ok(bag) => Ok(Table {
             name: decl.name.copy(alloc)?,
             bag,
         }),
-        None => refuse(alloc, decl),
+        Err(
+            TableRefusal::Broken {
+                rule,
+                record_number,
+            },
+        ) => refuse(alloc, decl, rule, record_number),
+        Err(TableRefusal::Memory) => Err(DataRefusal::Memory),
     }
 }
 
@@ -84,10 +97,10 @@ pub fn load<F: Files>(
     dir: &str,
     files: &mut F,
 ) -> Result<Tables, DataRefusal>
-    ensures comes { Comes (F.told files.old) (F.told files.new) (λ fs. tables_of catalog.now dir.now fs) (loaded result) }
+    ensures comes { Comes (F.told files.old) (F.told files.new) (λ fs. tables_of catalog.now.tables dir.now fs) (loaded result) }
     ensures later { F.faults files.old ≤ F.faults files.new }
     ensures failed { RoseIfReadFault result (F.faults files.old) (F.faults files.new) }
-    ensures fits { IfOk result (λ ts. FitsSchema catalog.now ts) }
+    ensures fits { IfOk result (λ ts. FitsSchema catalog.now.tables ts) }
 {
     let mut tables = Tables::new(alloc);
     for decl in catalog.tables().as_slice() {

@@ -1,4 +1,5 @@
 // Why files hold no tables of a catalog.
+use crate::rule::Rule;
 use io_edge::Interruption;
 use qgm_base::{OutOfMemory, Text};
 use thiserror::Error;
@@ -40,5 +41,27 @@ impl From<Interruption> for DataRefusal {
             Interruption::ReadFault { name } => DataRefusal::ReadFault { name },
             Interruption::Memory => DataRefusal::Memory,
         }
+    }
+}
+
+/// Why the bytes of a file are no rows of a table.
+#[derive(Debug, Drop, Error)]
+pub enum TableRefusal {
+    /// The rule that is broken, and the record that breaks it, where the header is record 0.
+    #[error("a table's file is refused")]
+    Broken { rule: Rule, record_number: u64 },
+    /// Memory ran out.
+    #[error("out of memory")]
+    Memory,
+}
+
+impl From<OutOfMemory> for TableRefusal {
+    ghost use Rattle.std.specs.Prelude.{◌≡◌};
+    ghost use Rattle.csv_tables.specs.declared.refusal.TableRefusal.TheVariants.{Memory};
+
+    ghost from_gives = { λ _ e. e ≡ Memory };
+
+    fn from(_: OutOfMemory) -> Self {
+        TableRefusal::Memory
     }
 }

@@ -1,26 +1,31 @@
 -- How the stages of a run fit together.
-use Rattle.std.proofs.Common.{ℕ, ◌≡◌, ◌++◌, List, Option, Some, None, Result, Ok, Err, refl, sym, ap, ap₂, subst}
+use Rattle.std.proofs.Common.{ℕ, ◌≡◌, ◌∙◌, List, Option, Some, None, Result, Ok, Err, map, refl, sym, ap, ap₂, subst}
+use Rattle.csv_tables.specs.Fits.{FitsSchema}
 use Rattle.csv_tables.specs.Load.{tables_of}
 use Rattle.csv_tables.specs.TableFile.{Refusal}
-use Rattle.io_edge.specs.Outcome.{Comes, Ended, Outcome, answered, done, ended, onward, read, ◌>>=◌}
+use Rattle.io_edge.specs.Outcome.{Comes, Ended, Outcome, answered, ended, read, ◌>>=◌}
 use Rattle.io_edge.specs.Outside.{File, Told}
 use Rattle.io_edge.specs.declared.fetch.Interruption.{Interruption}
 use Rattle.io_edge.specs.declared.fetch.Interruption.TheVariants.{ReadFault, Memory}
-use Rattle.io_edge.proofs.Order.{comes-bind, comes-bind-faulted, comes-bind-starved, comes-done, comes-same}
+use Rattle.io_edge.proofs.Order.{comes-bind, comes-bind-faulted, comes-bind-starved, comes-done, comes-mapped}
 use Rattle.row_bag.specs.Verdict.{verdict}
 use Rattle.row_bag.specs.declared.row.Row.{Row}
-use Rattle.sql_value.specs.declared.cell.Cell.{Cell}
 use Rattle.row_bag.specs.declared.tables.Table.{Table}
-use Rattle.simple_ast.specs.declared.tree.QueryText.{QueryText}
-use Rattle.simple_ast.specs.declared.tree.TableDecl.{TableDecl}
+use Rattle.sql_ast.specs.Syntax as s
+use Rattle.sql_catalog.specs.Catalog.{Declared}
 use Rattle.sql_check.specs.declared.checked.Checked.{Checked}
-use Rattle.sql_meaning.specs.Meaning.{in_order}
-use Rattle.qgm_app.specs.Outcome.{outcome, report_under, reported, reported_by, with_catalog, with_line, with_task, with_query, with_query_text, with_schema_text}
-use Rattle.qgm_app.specs.Texts.{IsChecked, catalog_of, valid_query}
+use Rattle.sql_check.specs.Resolved.{rows_at}
+use Rattle.sql_meaning.specs.Meaning.{answer_of, order_key}
+use Rattle.sql_value.specs.declared.cell.Cell.{Cell}
+use Rattle.sql_value.specs.declared.order_key.OrderKey.{OrderKey}
+use Rattle.qgm_app.specs.Outcome.{from_tables, outcome, report_of, reported, with_catalog, with_line, with_query, with_task}
+use Rattle.qgm_app.specs.Texts.{GivesChecked, IsChecked, catalog_of, valid_query}
 use Rattle.qgm_words.specs.Line.{LineText}
 use Rattle.qgm_words.specs.Reading.{line}
 use Rattle.qgm_app.specs.declared.report.Report.{Report}
-use Rattle.qgm_app.specs.declared.report.Report.TheVariants.{Usage, SchemaRefused, QueryRefused}
+use Rattle.qgm_app.specs.declared.report.Report.TheVariants.{Usage, SchemaRefused, DataRefused, QueryRefused}
+use Rattle.qgm_app.specs.declared.texts.TextRefusal.TheVariants.{Number}
+use Rattle.qgm_app.proofs.Wide.{wide-tables}
 
 -- a call that was interrupted interrupts what follows
 pub comes-interrupted : {X Y : Type 0} (t u : Option Told) (o : List File → Outcome X) (f : X → List File → Outcome Y) (e : Interruption)
@@ -28,66 +33,73 @@ pub comes-interrupted : {X Y : Type 0} (t u : Option Told) (o : List File → Ou
 comes-interrupted t u o f (ReadFault name) h = comes-bind-faulted t u o f _ h
 comes-interrupted t u o f Memory h = comes-bind-starved t u o f h
 
-onward-same : {X Y : Type 0} (o : Option X) (f g : X → Outcome Y) → ((x : X) → f x ≡ g x) → onward o f ≡ onward o g
-onward-same None f g same = refl
-onward-same (Some x) f g same = same x
+-- the report of a checked query over tables of its catalog is that of the query
+answered-same : (query : s.QueryText) (catalog : Declared) (checked : Checked) (tables : List Table) → IsChecked catalog checked query → FitsSchema catalog.tables tables
+    → reported query catalog (Ok tables) ≡ report_of (answer_of checked.names checked.order (verdict (rows_at checked tables)))
+answered-same query catalog checked tables is fits =
+    ap₂ (λ (w : List (Option (List ℕ)) × List OrderKey) (rows : List (Row (List Cell))). report_of (answer_of w.0 w.1 (verdict rows)))
+    (sym (ap₂ (λ (names : List (Option (List ℕ))) (keys : List OrderKey). (names, keys)) (is.names_are tables)
+    (is.order_is ∙ ap (λ (names : List (Option (List ℕ))). map (order_key names) query.order) (is.names_are tables))))
+    (sym (is.rows_are tables (wide-tables catalog.tables tables checked.table fits)))
 
-bind-same : {X Y : Type 0} (o : Outcome X) (f g : X → Outcome Y) → ((x : X) → f x ≡ g x) → (o >>= f) ≡ (o >>= g)
-bind-same o f g same = ap (λ second. record { names = o.names ++ second.names; end = second.end }) (onward-same o.end f g same)
+-- the tables were read, and the query that was checked is answered
+pub tables-read : (t u : Option Told) (dir : List ℕ) (catalog : Declared) (checked : Checked) (query : s.QueryText) (tables : List Table) → IsChecked catalog checked query → FitsSchema catalog.tables tables
+    → Comes t u (λ fs. tables_of catalog.tables dir fs) (answered (Ok tables))
+    → Comes t u (λ fs. from_tables dir catalog query fs) (answered (report_of (answer_of checked.names checked.order (verdict (rows_at checked tables)))))
+tables-read t u dir catalog checked query tables is fits h =
+    subst (λ (report : Report). Comes t u (λ fs. from_tables dir catalog query fs) (answered report)) (answered-same query catalog checked tables is fits)
+    (comes-mapped t u (λ fs. tables_of catalog.tables dir fs) (reported query catalog) (Ok tables) h)
 
--- the report of a checked query is that of the query
-reported-same : (query : QueryText) (catalog : List TableDecl) (checked : Checked) → IsChecked catalog (Some checked) (Some query) → (tables : Result (List Table) Refusal)
-    → reported_by checked tables ≡ reported query catalog tables
-reported-same query catalog checked is (Ok tables) = ap₂ (λ (names : List (Option (List ℕ))) (rows : List (Row (List Cell))). report_under names (in_order (verdict rows))) is.0 (is.1 tables)
-reported-same query catalog checked is (Err why) = refl
+-- a table is refused
+pub tables-refused : (t u : Option Told) (dir : List ℕ) (catalog : Declared) (query : s.QueryText) (why : Refusal)
+    → Comes t u (λ fs. tables_of catalog.tables dir fs) (answered (Err why))
+    → Comes t u (λ fs. from_tables dir catalog query fs) (answered (DataRefused why.number why.table why.row))
+tables-refused t u dir catalog query why h = comes-mapped t u (λ fs. tables_of catalog.tables dir fs) (reported query catalog) (Err why) h
 
 -- the query is refused
-query-refused-by : (t : Option Told) (dir : List ℕ) (catalog : List TableDecl) (query : Option QueryText) → IsChecked catalog None query
-    → Comes t t (λ fs. with_query dir catalog fs query) (answered (QueryRefused 4))
+query-refused-by : (t : Option Told) (dir : List ℕ) (catalog : Declared) (query : Result s.QueryText ℕ) (number : ℕ) → query ≡ Err number
+    → Comes t t (λ fs. with_query dir catalog fs query) (answered (QueryRefused number))
 unfolding with_query
-query-refused-by t dir catalog None is = comes-done t (QueryRefused 4)
-query-refused-by t dir catalog (Some query) is = absurd is
+query-refused-by t dir catalog query number is =
+    subst (λ (q : Result s.QueryText ℕ). Comes t t (λ fs. with_query dir catalog fs q) (answered (QueryRefused number))) (sym is) (comes-done t (QueryRefused number))
 
 -- the query is checked, and the tables are next
-query-taken-by : (t u : Option Told) (dir : List ℕ) (catalog : List TableDecl) (checked : Checked) (query : Option QueryText) (end : Ended Report) → IsChecked catalog (Some checked) query
-    → Comes t u (λ fs. tables_of catalog dir fs >>= (λ tables. done (reported_by checked tables))) end → Comes t u (λ fs. with_query dir catalog fs query) end
+query-taken-by : (t u : Option Told) (dir : List ℕ) (catalog : Declared) (checked : Checked) (query : Result s.QueryText ℕ) (end : Ended Report) → GivesChecked catalog (Ok checked) query
+    → ((q : s.QueryText) → IsChecked catalog checked q → Comes t u (λ fs. from_tables dir catalog q fs) end) → Comes t u (λ fs. with_query dir catalog fs query) end
 unfolding with_query
-query-taken-by t u dir catalog checked None end is h = absurd is
-query-taken-by t u dir catalog checked (Some query) end is h =
-    comes-same t u (λ fs. tables_of catalog dir fs >>= (λ tables. done (reported_by checked tables))) (λ fs. tables_of catalog dir fs >>= (λ tables. done (reported query catalog tables))) end
-    (λ fs. bind-same (tables_of catalog dir fs) (λ tables. done (reported_by checked tables)) (λ tables. done (reported query catalog tables))
-    (λ tables. ap (λ (report : Report). done report) (reported-same query catalog checked is tables))) h
+query-taken-by t u dir catalog checked (Err number) end is h = absurd is
+query-taken-by t u dir catalog checked (Ok query) end is h = h query is
 
 -- the query's text was read, and then this was done with it
-pub text-of-query : (t u v : Option Told) (name dir : List ℕ) (catalog : List TableDecl) (text : Option (List ℕ)) (end : Ended Report)
-    → Comes t u (λ fs. read fs name 65536) (answered text) → Comes u v (λ fs. with_query_text dir catalog fs text) end
-    → Comes t v (λ fs. read fs name 65536 >>= (λ x. with_query_text dir catalog fs x)) end
-text-of-query t u v name dir catalog text end h k = comes-bind t u v (λ fs. read fs name 65536) (λ x fs. with_query_text dir catalog fs x) text end h k
+pub text-of-query : (t u v : Option Told) (name dir : List ℕ) (catalog : Declared) (text : Option (List ℕ)) (end : Ended Report)
+    → Comes t u (λ fs. read fs name 65536) (answered text) → Comes u v (λ fs. with_query dir catalog fs (valid_query catalog text)) end
+    → Comes t v (λ fs. read fs name 65536 >>= (λ x. with_query dir catalog fs (valid_query catalog x))) end
+text-of-query t u v name dir catalog text end h k = comes-bind t u v (λ fs. read fs name 65536) (λ x fs. with_query dir catalog fs (valid_query catalog x)) text end h k
 
-pub query-refused : (t : Option Told) (dir : List ℕ) (catalog : List TableDecl) (bytes : List ℕ) → IsChecked catalog None (valid_query catalog bytes)
-    → Comes t t (λ fs. with_query_text dir catalog fs (Some bytes)) (answered (QueryRefused 4))
-query-refused t dir catalog bytes is = query-refused-by t dir catalog (valid_query catalog bytes) is
+pub query-refused : (t : Option Told) (dir : List ℕ) (catalog : Declared) (text : Option (List ℕ)) (number : ℕ) → GivesChecked catalog (Err (Number number)) (valid_query catalog text)
+    → Comes t t (λ fs. with_query dir catalog fs (valid_query catalog text)) (answered (QueryRefused number))
+query-refused t dir catalog text number is = query-refused-by t dir catalog (valid_query catalog text) number is
 
-pub query-taken : (t u : Option Told) (dir : List ℕ) (catalog : List TableDecl) (checked : Checked) (bytes : List ℕ) (end : Ended Report) → IsChecked catalog (Some checked) (valid_query catalog bytes)
-    → Comes t u (λ fs. tables_of catalog dir fs >>= (λ tables. done (reported_by checked tables))) end → Comes t u (λ fs. with_query_text dir catalog fs (Some bytes)) end
-query-taken t u dir catalog checked bytes end is h = query-taken-by t u dir catalog checked (valid_query catalog bytes) end is h
+pub query-taken : (t u : Option Told) (dir : List ℕ) (catalog : Declared) (checked : Checked) (text : Option (List ℕ)) (end : Ended Report) → GivesChecked catalog (Ok checked) (valid_query catalog text)
+    → ((q : s.QueryText) → IsChecked catalog checked q → Comes t u (λ fs. from_tables dir catalog q fs) end) → Comes t u (λ fs. with_query dir catalog fs (valid_query catalog text)) end
+query-taken t u dir catalog checked text end is h = query-taken-by t u dir catalog checked (valid_query catalog text) end is h
 
 -- the schema's text was read, and then this was done with it
 pub text-of-schema : (t u v : Option Told) (name query dir : List ℕ) (text : Option (List ℕ)) (end : Ended Report)
-    → Comes t u (λ fs. read fs name 65536) (answered text) → Comes u v (λ fs. with_schema_text query dir fs text) end
-    → Comes t v (λ fs. read fs name 65536 >>= (λ x. with_schema_text query dir fs x)) end
-text-of-schema t u v name query dir text end h k = comes-bind t u v (λ fs. read fs name 65536) (λ x fs. with_schema_text query dir fs x) text end h k
+    → Comes t u (λ fs. read fs name 65536) (answered text) → Comes u v (λ fs. with_catalog query dir fs (catalog_of text)) end
+    → Comes t v (λ fs. read fs name 65536 >>= (λ x. with_catalog query dir fs (catalog_of x))) end
+text-of-schema t u v name query dir text end h k = comes-bind t u v (λ fs. read fs name 65536) (λ x fs. with_catalog query dir fs (catalog_of x)) text end h k
 
-pub schema-refused : (t : Option Told) (query dir bytes : List ℕ) → None ≡ catalog_of bytes
-    → Comes t t (λ fs. with_schema_text query dir fs (Some bytes)) (answered (SchemaRefused 4))
+pub schema-refused : (t : Option Told) (query dir : List ℕ) (text : Option (List ℕ)) (number : ℕ) → catalog_of text ≡ Err number
+    → Comes t t (λ fs. with_catalog query dir fs (catalog_of text)) (answered (SchemaRefused number))
 unfolding with_catalog
-schema-refused t query dir bytes is =
-    subst (λ (catalog : Option (List TableDecl)). Comes t t (λ fs. with_catalog query dir fs catalog) (answered (SchemaRefused 4))) is (comes-done t (SchemaRefused 4))
+schema-refused t query dir text number is =
+    subst (λ (catalog : Result Declared ℕ). Comes t t (λ fs. with_catalog query dir fs catalog) (answered (SchemaRefused number))) (sym is) (comes-done t (SchemaRefused number))
 
-pub schema-taken : (t u : Option Told) (query dir bytes : List ℕ) (catalog : List TableDecl) (end : Ended Report) → Some catalog ≡ catalog_of bytes
-    → Comes t u (λ fs. read fs query 65536 >>= (λ text. with_query_text dir catalog fs text)) end → Comes t u (λ fs. with_schema_text query dir fs (Some bytes)) end
+pub schema-taken : (t u : Option Told) (query dir : List ℕ) (text : Option (List ℕ)) (catalog : Declared) (end : Ended Report) → catalog_of text ≡ Ok catalog
+    → Comes t u (λ fs. read fs query 65536 >>= (λ x. with_query dir catalog fs (valid_query catalog x))) end → Comes t u (λ fs. with_catalog query dir fs (catalog_of text)) end
 unfolding with_catalog
-schema-taken t u query dir bytes catalog end is h = subst (λ (c : Option (List TableDecl)). Comes t u (λ fs. with_catalog query dir fs c) end) is h
+schema-taken t u query dir text catalog end is h = subst (λ (c : Result Declared ℕ). Comes t u (λ fs. with_catalog query dir fs c) end) (sym is) h
 
 -- the words are no command line
 pub no-line : (t : Option Told) (words : List (List ℕ)) → line words ≡ None → Comes t t (outcome words) (answered Usage)

@@ -6,62 +6,47 @@ use Rattle.csv_tables.specs.Printed.{printed_rows}
 use Rattle.csv_tables.specs.TableFile.{Refusal}
 use Rattle.io_edge.specs.Outcome.{Outcome, done, read, ◌>>=◌}
 use Rattle.io_edge.specs.Outside.{File}
-use Rattle.row_bag.specs.Verdict.{verdict}
-use Rattle.row_bag.specs.declared.outcome.Verdict.{Verdict}
-use Rattle.row_bag.specs.declared.outcome.Verdict.TheVariants as v
 use Rattle.row_bag.specs.declared.tables.Table.{Table}
-use Rattle.simple_ast.specs.declared.tree.QueryText.{QueryText}
-use Rattle.simple_ast.specs.declared.tree.TableDecl.{TableDecl}
-use Rattle.sql_check.specs.Resolved.{rows_at}
-use Rattle.sql_check.specs.declared.checked.Checked.{Checked}
-use Rattle.sql_meaning.specs.Meaning.{Answer, answer, in_order}
+use Rattle.sql_ast.specs.Syntax as s
+use Rattle.sql_catalog.specs.Catalog.{Declared}
+use Rattle.sql_meaning.specs.Meaning.{Answer, answer, answer_error, answer_rows, relation_of}
 use Rattle.qgm_words.specs.Line.{LineText, TaskText, explain, gen, run}
 use Rattle.qgm_words.specs.Reading.{line}
 use Rattle.qgm_app.specs.Texts.{catalog_of, valid_query}
 use Rattle.qgm_app.specs.declared.report.Report.{Report}
 use Rattle.qgm_app.specs.declared.report.Report.TheVariants.{Rows, Error, Usage, SchemaRefused, DataRefused, QueryRefused}
 
--- the report under these names: the rows in CSV, or the error
-abbrev pub report_under : List (Option (List ℕ)) → Verdict → Report
-report_under names (v.Rows rows) = Rows (printed_rows names rows)
-report_under names (v.Error kind) = Error kind
-
--- the report of an answer
+-- the report of an answer: the rows in CSV, or the error
 abbrev pub report_of : Answer → Report
-report_of a = report_under a.names a.rows_or_error
+report_of (answer_rows names rows) = Rows (printed_rows names rows)
+report_of (answer_error kind) = Error kind
 
 -- the report, once the tables are read or refused
-abbrev pub reported : QueryText → List TableDecl → Result (List Table) Refusal → Report
-reported query catalog (Ok tables) = report_of (answer query catalog tables)
+abbrev pub reported : s.QueryText → Declared → Result (List Table) Refusal → Report
+reported query catalog (Ok tables) = report_of (answer (relation_of catalog tables) query)
 reported query catalog (Err why) = DataRefused why.number why.table why.row
 
--- the query, or none where it is refused; and then the tables
-unfoldable pub with_query : List ℕ → List TableDecl → List File → Option QueryText → Outcome Report
-with_query dir catalog files None = done (QueryRefused 4)
-with_query dir catalog files (Some query) = tables_of catalog dir files >>= (λ tables. done (reported query catalog tables))
+-- the tables' files are read, and then the query is answered
+abbrev pub from_tables : List ℕ → Declared → s.QueryText → List File → Outcome Report
+from_tables dir catalog query files = tables_of catalog.tables dir files >>= (λ tables. done (reported query catalog tables))
 
--- the bytes of the query's text, or none where they are too many
-abbrev pub with_query_text : List ℕ → List TableDecl → List File → Option (List ℕ) → Outcome Report
-with_query_text dir catalog files None = done (QueryRefused 4)
-with_query_text dir catalog files (Some bytes) = with_query dir catalog files (valid_query catalog bytes)
+-- the query, or the number that refuses it; and then the tables
+unfoldable pub with_query : List ℕ → Declared → List File → Result s.QueryText ℕ → Outcome Report
+with_query dir catalog files (Err number) = done (QueryRefused number)
+with_query dir catalog files (Ok query) = from_tables dir catalog query files
 
 -- the query's file is read, and then the tables' files
-abbrev pub from_query : List ℕ → List ℕ → List TableDecl → List File → Outcome Report
-from_query query dir catalog files = read files query 65536 >>= (λ text. with_query_text dir catalog files text)
+abbrev pub from_query : List ℕ → List ℕ → Declared → List File → Outcome Report
+from_query query dir catalog files = read files query 65536 >>= (λ text. with_query dir catalog files (valid_query catalog text))
 
--- the catalog, or none where the schema is refused; and then the query
-unfoldable pub with_catalog : List ℕ → List ℕ → List File → Option (List TableDecl) → Outcome Report
-with_catalog query dir files None = done (SchemaRefused 4)
-with_catalog query dir files (Some catalog) = from_query query dir catalog files
-
--- the bytes of the schema's text, or none where they are too many
-abbrev pub with_schema_text : List ℕ → List ℕ → List File → Option (List ℕ) → Outcome Report
-with_schema_text query dir files None = done (SchemaRefused 4)
-with_schema_text query dir files (Some bytes) = with_catalog query dir files (catalog_of bytes)
+-- the catalog, or the number that refuses the schema; and then the query
+unfoldable pub with_catalog : List ℕ → List ℕ → List File → Result Declared ℕ → Outcome Report
+with_catalog query dir files (Err number) = done (SchemaRefused number)
+with_catalog query dir files (Ok catalog) = from_query query dir catalog files
 
 -- the schema's file is read, and then the query's
 abbrev pub from_schema : List ℕ → List ℕ → List ℕ → List File → Outcome Report
-from_schema schema query dir files = read files schema 65536 >>= (λ text. with_schema_text query dir files text)
+from_schema schema query dir files = read files schema 65536 >>= (λ text. with_catalog query dir files (catalog_of text))
 
 -- what a command comes to; those that aren't built yet are in no command line
 abbrev pub with_task : TaskText → List File → Outcome Report
@@ -77,12 +62,3 @@ with_line (Some taken) files = with_task taken.task files
 -- the outcome of a command line over these files
 abbrev pub outcome : List (List ℕ) → List File → Outcome Report
 outcome words files = with_line (line words) files
-
--- the report of a query whose names are resolved
-abbrev pub reported_by : Checked → Result (List Table) Refusal → Report
-reported_by checked (Ok tables) = report_under checked.names (in_order (verdict (rows_at checked tables)))
-reported_by checked (Err why) = DataRefused why.number why.table why.row
-
--- the tables' files are read, and then the query is answered by its places
-abbrev pub from_tables : List ℕ → List TableDecl → Checked → List File → Outcome Report
-from_tables dir catalog checked files = tables_of catalog dir files >>= (λ tables. done (reported_by checked tables))

@@ -1,78 +1,89 @@
--- What the two texts declare and ask.
-use Rattle.std.specs.Prelude.{ℕ, ◌≡◌, ◌==◌, ◌||◌, if◌then◌else◌, ⊤, Bool, List, map, Option, Some, None, Result, Ok, Err}
-use Rattle.std.specs.List.{list_all}
+-- What the two texts declare and ask, or the number that refuses them. Of several causes the first in the order of these words counts.
+use Rattle.std.specs.Prelude.{ℕ, zero, suc, ◌≡◌, ⊤, Bool, true, false, not, List, map, Option, Some, None, Result, Ok, Err}
 use Rattle.row_bag.specs.declared.tables.Table.{Table}
-use Rattle.simple_ast.specs.declared.tree.QueryText.{QueryText}
-use Rattle.simple_ast.specs.declared.tree.Schema.{Schema}
-use Rattle.simple_ast.specs.declared.tree.TableDecl.{TableDecl}
-use Rattle.simple_catalog.specs.Catalog.{declared}
-use Rattle.sql_check.specs.Resolved.{rows_at}
+use Rattle.sql_ast.specs.Syntax as s
+use Rattle.sql_catalog.specs.Catalog.{Declared, declared}
+use Rattle.sql_check.specs.Resolved.{IsWide, rows_at}
+use Rattle.sql_check.specs.Taken.{is_taken}
 use Rattle.sql_check.specs.Valid.{fault}
 use Rattle.sql_check.specs.declared.checked.Checked.{Checked}
-use Rattle.sql_meaning.specs.Meaning.{rows}
-use Rattle.simple_parser.specs.Read.{query_tree, schema_tree}
-use Rattle.sql_text.specs.Tokens.{in_word, is_blank, token_list, tokens}
+use Rattle.sql_meaning.specs.Meaning.{names, order_key, relation_of, rows}
+use Rattle.sql_parser.specs.ReadSchema.{schema_tree}
+use Rattle.sql_parser.specs.ReadText.{query_tree}
+use Rattle.sql_text.specs.Depth.{too_deep}
+use Rattle.sql_text.specs.Tokens.{token_list, tokens}
 use Rattle.sql_text.specs.declared.token.Spanned.{Spanned}
+use Rattle.sql_text.specs.declared.token.Token.{Token}
+use Rattle.qgm_app.specs.Taken.{takes_schema}
+use Rattle.qgm_app.specs.declared.texts.TextRefusal.{TextRefusal}
+use Rattle.qgm_app.specs.declared.texts.TextRefusal.TheVariants.{Number, Memory}
 
--- The texts that are taken as yet hold letters, digits, `_`, blanks, and the signs `(`, `)`, `,`, `;`: so names are plain, and there is no comment.
-abbrev pub is_plain : ℕ → Bool
-is_plain byte = in_word byte || is_blank byte || byte == 40 || byte == 41 || byte == 44 || byte == 59
+-- the first, and then the rest with it, unless there is a number
+infixl 10 ◌>>=◌
+abbrev pub ◌>>=◌ : {A B : Type 0} → Result A ℕ → (A → Result B ℕ) → Result B ℕ
+(Ok x) >>= f = f x
+(Err number) >>= f = Err number
 
-abbrev pub if_read : Result (List Spanned) ℕ → Option (List Spanned)
-if_read (Ok spans) = Some spans
-if_read (Err number) = None
+-- this, or the number where there is none
+abbrev pub or_number : {A : Type 0} → ℕ → Option A → Result A ℕ
+or_number number (Some x) = Ok x
+or_number number None = Err number
 
--- the tokens of a text, or none where it has none or isn't taken as yet
-unfoldable pub tokens_of : List ℕ → Option (List Spanned)
-tokens_of bytes = if list_all is_plain bytes then if_read (tokens bytes) else None
+-- this, or the number where the test holds
+abbrev pub refused_if : {A : Type 0} → Bool → ℕ → A → Result A ℕ
+refused_if true number x = Err number
+refused_if false number x = Ok x
 
--- the tree that the tokens of a schema's text spell, or none
-abbrev pub schema_spelled : Option (List Spanned) → Option Schema
-schema_spelled None = None
-schema_spelled (Some spans) = schema_tree (token_list spans)
+-- this where the number is 0, else the number
+abbrev pub refused_by : {A : Type 0} → ℕ → A → Result A ℕ
+refused_by zero x = Ok x
+refused_by (suc n) x = Err (suc n)
 
-unfoldable pub schema_of : List ℕ → Option Schema
-schema_of bytes = schema_spelled (tokens_of bytes)
+-- the tokens of a text with their places: 5 where its bytes are too many (then there are none), else 1, 2 or 3
+unfoldable pub spans_of : Option (List ℕ) → Result (List Spanned) ℕ
+spans_of text = or_number 5 text >>= tokens
 
--- the tables, or none where there is a refusal
-abbrev pub if_declared : Result (List TableDecl) ℕ → Option (List TableDecl)
-if_declared (Ok tables) = Some tables
-if_declared (Err number) = None
+-- the tree that tokens spell: 5 where they are too deep, 4 where there is none
+abbrev pub tree_of : {A : Type 0} → (List Token → Option A) → List Spanned → Result A ℕ
+tree_of read spans = refused_if (too_deep (token_list spans)) 5 (token_list spans) >>= (λ ts. or_number 4 (read ts))
 
-abbrev pub declared_by : Option Schema → Option (List TableDecl)
-declared_by None = None
-declared_by (Some schema) = if_declared (declared schema)
+-- the tree of a schema's text: 4 also where it isn't taken as yet
+unfoldable pub schema_of : Option (List ℕ) → Result s.Schema ℕ
+schema_of text = do
+  spans ← spans_of text
+  tree ← tree_of schema_tree spans
+  refused_if (not (takes_schema tree)) 4 tree
 
--- the catalog of a schema's text, or none where the text is refused
-unfoldable pub catalog_of : List ℕ → Option (List TableDecl)
-catalog_of bytes = declared_by (schema_of bytes)
+-- the catalog of a schema's text, or the number that refuses it
+unfoldable pub catalog_of : Option (List ℕ) → Result Declared ℕ
+catalog_of text = schema_of text >>= declared
 
--- the tree that the tokens of a query's text spell, or none
-abbrev pub query_spelled : Option (List Spanned) → Option QueryText
-query_spelled None = None
-query_spelled (Some spans) = query_tree (token_list spans)
+-- the tree of a query's text: 4 also where it isn't taken as yet
+unfoldable pub query_of : Option (List ℕ) → Result s.QueryText ℕ
+query_of text = do
+  spans ← spans_of text
+  tree ← tree_of query_tree spans
+  refused_if (not (is_taken tree)) 4 tree
 
-unfoldable pub query_of : List ℕ → Option QueryText
-query_of bytes = query_spelled (tokens_of bytes)
+-- the query of a query's text, or the number that refuses it
+unfoldable pub valid_query : Declared → Option (List ℕ) → Result s.QueryText ℕ
+valid_query catalog text = query_of text >>= (λ query. refused_by (fault catalog query) query)
 
--- the query, or none where a number holds of it
-abbrev pub if_faultless : QueryText → Option ℕ → Option QueryText
-if_faultless query None = Some query
-if_faultless query (Some number) = None
+-- a call's answer is this, seen so, but where memory ran out
+abbrev pub Gives : {X Y : Type 0} → (X → Y) → Result X TextRefusal → Result Y ℕ → Type 0
+Gives seen (Ok x) what = what ≡ Ok (seen x)
+Gives seen (Err (Number number)) what = what ≡ Err number
+Gives seen (Err Memory) what = ⊤
 
-abbrev pub valid_by : List TableDecl → Option QueryText → Option QueryText
-valid_by catalog None = None
-valid_by catalog (Some query) = if_faultless query (fault query catalog)
+-- a query with its names resolved has the query's names and order, and, over tables whose rows have a cell for each column, its rows
+pub record IsChecked (catalog : Declared) (checked : Checked) (query : s.QueryText) : Type 0 where
+  pub names_are : (tables : List Table) → checked.names ≡ names (relation_of catalog tables) query.query
+  pub order_is : checked.order ≡ map (order_key checked.names) query.order
+  pub rows_are : (tables : List Table) → IsWide (relation_of catalog tables checked.table) → rows_at checked tables ≡ rows (relation_of catalog tables) query.query []
 
--- the query of a query's text, or none where the text is refused or the query isn't valid
-unfoldable pub valid_query : List TableDecl → List ℕ → Option QueryText
-valid_query catalog bytes = valid_by catalog (query_of bytes)
-
--- a query with its names resolved has its names and, over any tables, its rows; there is none where there is no query
-abbrev pub IsChecked : List TableDecl → Option Checked → Option QueryText → Type 0
-IsChecked catalog (Some checked) (Some query) =
-    (checked.names ≡ map (λ name. Some name) query.block.columns)
-    × ((tables : List Table) → rows_at checked tables ≡ rows query.block catalog tables)
-IsChecked catalog (Some checked) None = ⊥
-IsChecked catalog None (Some query) = ⊥
-IsChecked catalog None None = ⊤
+-- a call's answer is the query, with its names resolved, but where memory ran out
+abbrev pub GivesChecked : Declared → Result Checked TextRefusal → Result s.QueryText ℕ → Type 0
+GivesChecked catalog (Ok checked) (Ok query) = IsChecked catalog checked query
+GivesChecked catalog (Ok checked) (Err number) = ⊥
+GivesChecked catalog (Err (Number number)) what = what ≡ Err number
+GivesChecked catalog (Err Memory) what = ⊤

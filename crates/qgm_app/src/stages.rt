@@ -4,51 +4,49 @@ ghost use Rattle.csv_tables.specs.Printed.{printed_rows};
 ghost use Rattle.io_edge.specs.Outcome.{Comes, RoseIfFault, ended};
 ghost use Rattle.row_bag.specs.Sorted.{sorted_rows};
 ghost use Rattle.row_bag.specs.Verdict.{verdict};
+ghost use Rattle.sql_catalog.specs.Shown as catalogs;
 ghost use Rattle.sql_check.specs.Resolved.{rows_at};
-ghost use Rattle.sql_meaning.specs.Meaning.{in_order};
+ghost use Rattle.sql_ast.specs.Syntax.{QueryText};
+ghost use Rattle.sql_meaning.specs.Meaning.{answer_of};
 ghost use Rattle.qgm_app.specs.declared.report.Report.TheVariants.{Usage};
-ghost use Rattle.qgm_app.specs.Outcome.{from_query, from_schema, from_tables, report_under};
+ghost use Rattle.qgm_app.specs.Outcome.{from_query, from_schema, from_tables, report_of};
+ghost use Rattle.qgm_app.specs.Texts.{IsChecked};
 
 use crate::report::Report;
-use crate::texts::{read_catalog, read_query};
+use crate::texts::{TextRefusal, read_catalog, read_query};
 use csv_tables::{DataRefusal, load, write_rows};
 use io_edge::{Files, Interruption, fetch_file};
 use plain_exec::execute;
 use qgm_base::OutOfMemory;
 use row_bag::{Bag, Tables, Verdict, sorted, verdict};
-use simple_catalog::Catalog;
+use sql_catalog::Catalog;
 use sql_check::Checked;
-use sql_value::{OrderKeys, OutNames};
 use sqlite_items::Items;
 use std::alloc::Global;
 
 /// The greatest number of bytes of a text.
 const MAX_TEXT: usize = 65_536;
 
-/// What is said of a text that is too long, that its grammar doesn't spell, or that isn't valid.
-const REFUSED: u8 = 4;
-
-// The header and the rows in ascending order, in CSV.
-fn print(alloc: Global, names: &OutNames, bag: Bag) -> Result<Items<u8>, OutOfMemory>
-    ensures { IfOk result (λ bytes. bytes ≡ printed_rows names.now (sorted_rows [] bag)) }
+// The header and the rows in the order of the keys, in CSV.
+fn print(alloc: Global, checked: &Checked, bag: Bag) -> Result<Items<u8>, OutOfMemory>
+    ensures { IfOk result (λ bytes. bytes ≡ printed_rows checked.now.names (sorted_rows checked.now.order bag)) }
 {
-    let keys: OrderKeys = Items::from_vec(Vec::new(alloc));
-    let bag = sorted(bag, &keys)?;
-    Ok(Items::from_vec(write_rows(alloc, names, &bag)?))
+    let bag = sorted(bag, &checked.order)?;
+    Ok(Items::from_vec(write_rows(alloc, &checked.names, &bag)?))
 }
 
 // The report of a query over these tables.
 fn answer(alloc: Global, checked: &Checked, tables: Tables) -> Result<Report, OutOfMemory>
-    ensures report { IfOk result (λ report. report ≡ report_under checked.now.names (in_order (verdict (rows_at checked.now tables)))) }
+    ensures report { IfOk result (λ report. report ≡ report_of (answer_of checked.now.names checked.now.order (verdict (rows_at checked.now tables)))) }
     ensures line { IfOk result (λ report. report ≢ Usage) }
 {
     match verdict(execute(alloc, checked, tables)?) {
-        Verdict::Rows(bag) => Ok(Report::Rows(print(alloc, &checked.names, bag)?)),
+        Verdict::Rows(bag) => Ok(Report::Rows(print(alloc, checked, bag)?)),
         Verdict::Error(kind) => Ok(Report::Error(kind)),
     }
 }
 
-// Reads the tables, and answers the query.
+// Reads the tables, and answers the query that was checked.
 fn run_tables<F: Files>(
     alloc: Global,
     dir: &str,
@@ -56,7 +54,8 @@ fn run_tables<F: Files>(
     checked: &Checked,
     files: &mut F,
 ) -> Result<Report, Interruption>
-    ensures comes { Comes (F.told files.old) (F.told files.new) (λ fs. from_tables dir.now catalog.now checked.now fs) (ended result) }
+    ensures comes { (query : QueryText) → IsChecked (catalogs.catalog catalog.now) checked.now query
+        → Comes (F.told files.old) (F.told files.new) (λ fs. from_tables dir.now (catalogs.catalog catalog.now) query fs) (ended result) }
     ensures later { F.faults files.old ≤ F.faults files.new }
     ensures failed { RoseIfFault result (F.faults files.old) (F.faults files.new) }
     ensures line { IfOk result (λ report. report ≢ Usage) }
@@ -79,18 +78,17 @@ fn run_query<F: Files>(
     catalog: &Catalog,
     files: &mut F,
 ) -> Result<Report, Interruption>
-    ensures comes { Comes (F.told files.old) (F.told files.new) (λ fs. from_query query.now dir.now catalog.now fs) (ended result) }
+    ensures comes { Comes (F.told files.old) (F.told files.new) (λ fs. from_query query.now dir.now (catalogs.catalog catalog.now) fs) (ended result) }
     ensures later { F.faults files.old ≤ F.faults files.new }
     ensures failed { RoseIfFault result (F.faults files.old) (F.faults files.new) }
     ensures line { IfOk result (λ report. report ≢ Usage) }
 {
-    let Some(text) = fetch_file(alloc, files, query, MAX_TEXT)? else {
-        return Ok(Report::QueryRefused(REFUSED));
-    };
-    let Some(checked) = read_query(alloc, catalog, text.as_slice())? else {
-        return Ok(Report::QueryRefused(REFUSED));
-    };
-    run_tables(alloc, dir, catalog, &checked, files)
+    let text = fetch_file(alloc, files, query, MAX_TEXT)?;
+    match read_query(alloc, catalog, &text) {
+        Ok(checked) => run_tables(alloc, dir, catalog, &checked, files),
+        Err(TextRefusal::Number(number)) => Ok(Report::QueryRefused(number)),
+        Err(TextRefusal::Memory) => Err(Interruption::Memory),
+    }
 }
 
 /// Reads the schema, and goes on to the query.
@@ -106,11 +104,10 @@ pub fn run_schema<F: Files>(
     ensures failed { RoseIfFault result (F.faults files.old) (F.faults files.new) }
     ensures line { IfOk result (λ report. report ≢ Usage) }
 {
-    let Some(text) = fetch_file(alloc, files, schema, MAX_TEXT)? else {
-        return Ok(Report::SchemaRefused(REFUSED));
-    };
-    let Some(catalog) = read_catalog(alloc, text.as_slice())? else {
-        return Ok(Report::SchemaRefused(REFUSED));
-    };
-    run_query(alloc, query, dir, &catalog, files)
+    let text = fetch_file(alloc, files, schema, MAX_TEXT)?;
+    match read_catalog(alloc, &text) {
+        Ok(catalog) => run_query(alloc, query, dir, &catalog, files),
+        Err(TextRefusal::Number(number)) => Ok(Report::SchemaRefused(number)),
+        Err(TextRefusal::Memory) => Err(Interruption::Memory),
+    }
 }

@@ -1,112 +1,150 @@
 // From the two texts to a catalog and a checked query.
-ghost use Rattle.std.specs.Prelude.{◌≡◌, IfOk};
-ghost use Rattle.std.specs.List.{list_all};
-ghost use Rattle.qgm_app.specs.Texts.{IsChecked, catalog_of, is_plain, query_of, schema_of, tokens_of, valid_query};
+ghost use Rattle.std.specs.Prelude.{◌≡◌};
+ghost use Rattle.sql_ast.specs.Shown as shown;
+ghost use Rattle.sql_catalog.specs.Shown as catalogs;
+ghost use Rattle.sql_parser.specs.ReadSchema.{schema_tree};
+ghost use Rattle.sql_parser.specs.ReadText.{query_tree};
+ghost use Rattle.qgm_app.specs.Texts.{Gives, GivesChecked, catalog_of, query_of, schema_of, spans_of, tree_of, valid_query};
+ghost use Rattle.qgm_app.specs.declared.texts.TextRefusal.TheVariants.{Memory};
 
+use crate::taken::takes_schema;
 use qgm_base::OutOfMemory;
-use simple_ast::{QueryText, Schema};
-use simple_catalog::{Catalog, SchemaRefusal, build};
-use simple_parser::{ParseRefusal, parse_query, parse_schema};
-use sql_check::{Checked, QueryRefusal, check};
+use sql_ast::{QueryText, Schema};
+use sql_catalog::{Catalog, SchemaRefusal, build};
+use sql_check::{Checked, QueryRefusal, check, is_taken};
+use sql_parser::{ParseRefusal, parse_query, parse_schema};
 use sql_text::{LexRefusal, Spanned, lex};
 use sqlite_items::Items;
 use std::alloc::Global;
 
-// Whether a byte may stand in the texts that are taken as yet.
-fn is_plain(byte: u8) -> bool
-    ensures { result ≡ is_plain byte }
-{
-    let in_word = byte.is_ascii_alphabetic() || byte.is_ascii_digit() || byte == b'_';
-    let is_blank = byte == b' ' || byte == b'\t' || byte == b'\n' || byte == b'\r';
-    in_word || is_blank || byte == b'(' || byte == b')' || byte == b',' || byte == b';'
+/// Why a text is refused.
+#[derive(Clone, Copy, Debug, PartialEq, Eq)]
+pub enum TextRefusal {
+    /// By the rule of this number.
+    Number(u8),
+    /// Memory ran out. It says nothing of the text.
+    Memory,
 }
 
-// Whether a text is one of those that are taken as yet.
-fn is_plain_text(bytes: &[u8]) -> bool
-    ensures { result ≡ list_all is_plain bytes.now }
-{
-    bytes.iter().all(|byte| is_plain(*byte))
-}
+impl From<OutOfMemory> for TextRefusal {
+    ghost from_gives = { λ _ e. e ≡ Memory };
 
-// The tokens of a text; none where it has none or isn't taken as yet.
-#[tactic(auto, unfolding(crate::specs::Texts::tokens_of))]
-fn read_tokens(alloc: Global, bytes: &[u8]) -> Result<Option<Items<Spanned>>, OutOfMemory>
-    ensures { IfOk result (λ found. found ≡ tokens_of bytes.now) }
-{
-    if !is_plain_text(bytes) {
-        return Ok(None);
-    }
-    match lex(alloc, bytes) {
-        Ok(tokens) => Ok(Some(Items::from_vec(tokens))),
-        Err(LexRefusal::BadCharacter) => Ok(None),
-        Err(LexRefusal::Unterminated) => Ok(None),
-        Err(LexRefusal::NumberTooLarge) => Ok(None),
-        Err(LexRefusal::Memory) => Err(OutOfMemory),
+    fn from(_: OutOfMemory) -> Self {
+        TextRefusal::Memory
     }
 }
 
-// The tree of a schema's text; none where the text has none.
+// The number of a text that is too long or too deep.
+const OVER_LIMIT: u8 = 5;
+
+// The number of a text that no tree spells, or none that is taken as yet.
+const SYNTAX: u8 = 4;
+
+// The tokens of a text, whose bytes are none where they are too many.
+#[tactic(auto, unfolding(crate::specs::Texts::spans_of))]
+fn read_spans(alloc: Global, text: &Option<Items<u8>>) -> Result<Items<Spanned>, TextRefusal>
+    ensures { Gives (λ spans. spans) result (spans_of text.now) }
+{
+    let Some(bytes) = text else {
+        return Err(TextRefusal::Number(OVER_LIMIT));
+    };
+    match lex(alloc, bytes.as_slice()) {
+        Ok(spans) => Ok(Items::from_vec(spans)),
+        Err(LexRefusal::BadCharacter) => Err(TextRefusal::Number(1)),
+        Err(LexRefusal::Unterminated) => Err(TextRefusal::Number(2)),
+        Err(LexRefusal::NumberTooLarge) => Err(TextRefusal::Number(3)),
+        Err(LexRefusal::Memory) => Err(TextRefusal::Memory),
+    }
+}
+
+// The schema that these tokens spell.
+fn schema_spelled(alloc: Global, spans: &[Spanned]) -> Result<Schema, TextRefusal>
+    ensures { Gives shown.schema result (tree_of schema_tree spans.now) }
+{
+    match parse_schema(alloc, spans) {
+        Ok(schema) => Ok(schema),
+        Err(ParseRefusal::OverLimit) => Err(TextRefusal::Number(OVER_LIMIT)),
+        Err(ParseRefusal::Syntax) => Err(TextRefusal::Number(SYNTAX)),
+        Err(ParseRefusal::Memory) => Err(TextRefusal::Memory),
+    }
+}
+
+// The tree of a schema's text.
 #[tactic(auto, unfolding(crate::specs::Texts::schema_of))]
-fn read_schema_tree(alloc: Global, bytes: &[u8]) -> Result<Option<Schema>, OutOfMemory>
-    ensures { IfOk result (λ schema. schema ≡ schema_of bytes.now) }
+fn read_schema(alloc: Global, text: &Option<Items<u8>>) -> Result<Schema, TextRefusal>
+    ensures { Gives shown.schema result (schema_of text.now) }
 {
-    let Some(tokens) = read_tokens(alloc, bytes)? else {
-        return Ok(None);
-    };
-    match parse_schema(alloc, tokens.as_slice()) {
-        Ok(schema) => Ok(Some(schema)),
-        Err(ParseRefusal::Syntax) => Ok(None),
-        Err(ParseRefusal::Memory) => Err(OutOfMemory),
+    let spans = read_spans(alloc, text)?;
+    let schema = schema_spelled(alloc, spans.as_slice())?;
+    if !takes_schema(&schema) {
+        return Err(TextRefusal::Number(SYNTAX));
     }
+    Ok(schema)
 }
 
-/// The catalog of a schema's text; none where the text is refused.
+/// The catalog of a schema's text, whose bytes are none where they are too many.
 #[tactic(auto, unfolding(crate::specs::Texts::catalog_of))]
-pub fn read_catalog(alloc: Global, bytes: &[u8]) -> Result<Option<Catalog>, OutOfMemory>
-    ensures { IfOk result (λ catalog. catalog ≡ catalog_of bytes.now) }
+pub fn read_catalog(alloc: Global, text: &Option<Items<u8>>) -> Result<Catalog, TextRefusal>
+    ensures { Gives catalogs.catalog result (catalog_of text.now) }
 {
-    let Some(schema) = read_schema_tree(alloc, bytes)? else {
-        return Ok(None);
-    };
+    let schema = read_schema(alloc, text)?;
     match build(alloc, schema) {
-        Ok(catalog) => Ok(Some(catalog)),
-        Err(SchemaRefusal::DuplicateName | SchemaRefusal::Limits) => Ok(None),
-        Err(SchemaRefusal::Memory) => Err(OutOfMemory),
+        Ok(catalog) => Ok(catalog),
+        Err(SchemaRefusal::UnknownTable) => Err(TextRefusal::Number(6)),
+        Err(SchemaRefusal::RecursiveView) => Err(TextRefusal::Number(7)),
+        Err(SchemaRefusal::DuplicateName) => Err(TextRefusal::Number(8)),
+        Err(SchemaRefusal::BadKey) => Err(TextRefusal::Number(9)),
+        Err(SchemaRefusal::Limits) => Err(TextRefusal::Number(10)),
+        Err(SchemaRefusal::Memory) => Err(TextRefusal::Memory),
     }
 }
 
-// The tree of a query's text; none where the text has none.
-#[tactic(auto, unfolding(crate::specs::Texts::query_of))]
-fn read_query_tree(alloc: Global, bytes: &[u8]) -> Result<Option<QueryText>, OutOfMemory>
-    ensures { IfOk result (λ query. query ≡ query_of bytes.now) }
+// The query that these tokens spell.
+fn query_spelled(alloc: Global, spans: &[Spanned]) -> Result<QueryText, TextRefusal>
+    ensures { Gives shown.query_text result (tree_of query_tree spans.now) }
 {
-    let Some(tokens) = read_tokens(alloc, bytes)? else {
-        return Ok(None);
-    };
-    match parse_query(alloc, tokens.as_slice()) {
-        Ok(query) => Ok(Some(query)),
-        Err(ParseRefusal::Syntax) => Ok(None),
-        Err(ParseRefusal::Memory) => Err(OutOfMemory),
+    match parse_query(alloc, spans) {
+        Ok(query) => Ok(query),
+        Err(ParseRefusal::OverLimit) => Err(TextRefusal::Number(OVER_LIMIT)),
+        Err(ParseRefusal::Syntax) => Err(TextRefusal::Number(SYNTAX)),
+        Err(ParseRefusal::Memory) => Err(TextRefusal::Memory),
     }
 }
 
-/// The checked query of a query's text; none where the text is refused or the query isn't valid.
+// The tree of a query's text.
+#[tactic(auto, unfolding(crate::specs::Texts::query_of))]
+fn read_query_text(alloc: Global, text: &Option<Items<u8>>) -> Result<QueryText, TextRefusal>
+    ensures { Gives shown.query_text result (query_of text.now) }
+{
+    let spans = read_spans(alloc, text)?;
+    let query = query_spelled(alloc, spans.as_slice())?;
+    if !is_taken(&query) {
+        return Err(TextRefusal::Number(SYNTAX));
+    }
+    Ok(query)
+}
+
+/// The checked query of a query's text, whose bytes are none where they are too many.
 #[tactic(auto, unfolding(crate::specs::Texts::valid_query))]
 pub fn read_query(
     alloc: Global,
     catalog: &Catalog,
-    bytes: &[u8],
-) -> Result<Option<Checked>, OutOfMemory>
-    ensures { IfOk result (λ checked. IsChecked catalog.now checked (valid_query catalog.now bytes.now)) }
+    text: &Option<Items<u8>>,
+) -> Result<Checked, TextRefusal>
+    ensures { GivesChecked (catalogs.catalog catalog.now) result (valid_query (catalogs.catalog catalog.now) text.now) }
 {
-    let Some(query) = read_query_tree(alloc, bytes)? else {
-        return Ok(None);
-    };
+    let query = read_query_text(alloc, text)?;
     match check(alloc, &query, catalog) {
-        Ok(checked) => Ok(Some(checked)),
-        Err(QueryRefusal::UnknownTable) => Ok(None),
-        Err(QueryRefusal::UnknownColumn) => Ok(None),
-        Err(QueryRefusal::Degree) => Ok(None),
-        Err(QueryRefusal::Memory) => Err(OutOfMemory),
+        Ok(checked) => Ok(checked),
+        Err(QueryRefusal::UnknownTable) => Err(TextRefusal::Number(6)),
+        Err(QueryRefusal::DuplicateRange) => Err(TextRefusal::Number(7)),
+        Err(QueryRefusal::UnknownColumn) => Err(TextRefusal::Number(8)),
+        Err(QueryRefusal::Ambiguous) => Err(TextRefusal::Number(9)),
+        Err(QueryRefusal::TypeMismatch) => Err(TextRefusal::Number(10)),
+        Err(QueryRefusal::Degree) => Err(TextRefusal::Number(11)),
+        Err(QueryRefusal::Grouping) => Err(TextRefusal::Number(12)),
+        Err(QueryRefusal::AggregatePlace) => Err(TextRefusal::Number(13)),
+        Err(QueryRefusal::OrderColumn) => Err(TextRefusal::Number(14)),
+        Err(QueryRefusal::Memory) => Err(TextRefusal::Memory),
     }
 }

@@ -2,13 +2,12 @@ use csv_tables::{load, write_rows};
 use io_edge::{Entry, MemFiles, fetch_file};
 use plain_exec::execute;
 use qgm_base::Text;
-use row_bag::sorted;
-use simple_catalog::build;
-use simple_parser::{parse_query, parse_schema};
+use row_bag::{Bag, Verdict, sorted, verdict};
+use sql_catalog::build;
 use sql_check::check;
+use sql_parser::{parse_query, parse_schema};
 use sql_text::lex;
 use sql_value::{Cell, cell_order, copy};
-use sqlite_items::Items;
 use std::alloc::Global;
 use std::cmp::Ordering;
 use std::collections::HashMap;
@@ -34,8 +33,10 @@ fn by_layers(alloc: Global, schema: &str, query: &str, table: &str) -> Result<Ve
     let query = parse_query(alloc, tokens.as_slice())?;
     let checked = check(alloc, &query, &catalog)?;
     let tables = load(alloc, &catalog, "d", &mut files)?;
-    let keys = Items::from_vec(Vec::new(alloc));
-    let rows = sorted(execute(alloc, &checked, tables)?, &keys)?;
+    let rows = match verdict(execute(alloc, &checked, tables)?) {
+        Verdict::Rows(bag) => sorted(bag, &checked.order)?,
+        Verdict::Error(_) => Bag::new(alloc),
+    };
     Ok(write_rows(alloc, &checked.names, &rows)?)
 }
 

@@ -1,8 +1,12 @@
-//! Tests that cross crates: the worked rows over files and a sink in memory, and each layer's
-//! public call once with ample memory.
+//! Tests that cross crates: the worked rows over files and a sink in memory, the values of
+//! expressions, and each layer's public call once with ample memory.
 #![tactic(auto)]
 
+#[cfg(test)]
+mod expressions;
 #[cfg(test)]
 mod layers;
 #[cfg(test)]
 mod rows;
+#[cfg(test)]
+mod running;

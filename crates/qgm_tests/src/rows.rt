@@ -1,23 +1,14 @@
-ghost use Rattle.std.specs.Prelude.{◌≡◌, ◌<◌};
-
-use io_edge::{Entry, MemFiles, MemSink};
-use qgm_app::run_command;
+// The worked rows, through the one public call.
+use crate::running::{entry, over_t, run};
+use io_edge::Entry;
 use std::alloc::Global;
 use std::marker::Brand;
-use std::sync::ledger::{Blank, Ledger};
+use std::sync::ledger::Blank;
 use std::test::Fail;
-use step_count::Steps;
 
 const SCHEMA: &[u8] = b"CREATE TABLE T (A INTEGER, B INTEGER);\n";
 
 const TABLE: &[u8] = b"A,B\n1,1\n1,1\n2,\\N\n";
-
-fn entry(alloc: Global, name: &str, bytes: &[u8]) -> Result<Entry, Fail> {
-    Ok(Entry {
-        name: String::from_str(alloc, name)?,
-        bytes: bytes.to_vec(alloc)?,
-    })
-}
 
 // The file of table T.
 fn table(alloc: Global) -> Result<Vec<Entry>, Fail> {
@@ -26,55 +17,13 @@ fn table(alloc: Global) -> Result<Vec<Entry>, Fail> {
     Ok(entries)
 }
 
-// What a run came to.
-#[derive(Drop)]
-struct Ran {
-    status: u8,
-    written: Vec<u8>,
-    reads: usize,
-}
-
-// A run of a query over these files, with these words after the arguments, and with a sink that
-// fails after so many bytes.
-fn run<L: Ledger>(
-    alloc: Global,
-    blank: Blank,
-    query: &[u8],
-    tables: Vec<Entry>,
-    options: Vec<String>,
-    room: usize,
-) -> Result<Ran, Fail>
-    requires name { blank.name ≡ L.name }
-    requires parts { blank.parts ≡ L.parts }
-    requires some { 0 < blank.parts }
-{
-    let mut entries = tables;
-    entries.push(entry(alloc, "s", SCHEMA)?)?;
-    entries.push(entry(alloc, "q", query)?)?;
-    let mut files = MemFiles::new(alloc, entries, Vec::new(alloc));
-    let mut out = MemSink::new(alloc, room)?;
-    let mut words = Vec::new(alloc);
-    for word in ["run", "s", "q", "d"] {
-        words.push(String::from_str(alloc, word)?)?;
-    }
-    for option in options {
-        words.push(option)?;
-    }
-    let mut steps = Steps::<L>::new(blank);
-    let status = run_command(alloc, &words, &mut files, &mut out, &mut steps);
-    Ok(Ran {
-        status,
-        written: out.bytes.to_vec(alloc)?,
-        reads: files.reads.len(),
-    })
-}
-
 #[test]
 fn plain_select_prints_all_rows_sorted(rt: HostRuntime) -> Result<(), Fail> {
     let (alloc, query) = (rt.alloc(), b"SELECT A, B FROM T".as_slice());
     let ran = run::<Brand>(
         alloc,
         Blank::new(1),
+        SCHEMA,
         query,
         table(alloc)?,
         Vec::new(alloc),
@@ -94,6 +43,7 @@ fn a_sink_that_fails_after_three_bytes_takes_a_proper_prefix(rt: HostRuntime) ->
     let ran = run::<Brand>(
         alloc,
         Blank::new(1),
+        SCHEMA,
         query,
         table(alloc)?,
         Vec::new(alloc),
@@ -110,6 +60,7 @@ fn a_missing_file_is_named(rt: HostRuntime) -> Result<(), Fail> {
     let ran = run::<Brand>(
         alloc,
         Blank::new(1),
+        SCHEMA,
         query,
         Vec::new(alloc),
         Vec::new(alloc),
@@ -121,18 +72,35 @@ fn a_missing_file_is_named(rt: HostRuntime) -> Result<(), Fail> {
 }
 
 #[test]
-fn a_star_is_refused(rt: HostRuntime) -> Result<(), Fail> {
-    let (alloc, query) = (rt.alloc(), b"SELECT * FROM T".as_slice());
-    let ran = run::<Brand>(
-        alloc,
-        Blank::new(1),
-        query,
-        table(alloc)?,
-        Vec::new(alloc),
-        100,
-    )?;
-    assert_eq!(rt; ran.status, 7);
-    assert_eq!(rt; ran.written.as_slice(), b"QUERY Q4\n".as_slice());
+fn a_condition_keeps_the_rows_where_it_is_true(rt: HostRuntime) -> Result<(), Fail> {
+    for (query, printed) in [
+        ("SELECT A FROM T WHERE B = 1", "A\n1\n1\n"),
+        ("SELECT A FROM T WHERE B <> 1", "A\n"),
+        ("SELECT A FROM T WHERE A = 1 AND B <> A", "A\n"),
+        ("SELECT A FROM T WHERE 1 < A AND A >= 2", "A\n2\n"),
+    ] {
+        let (status, text) = over_t(rt.alloc(), SCHEMA, TABLE, query.as_bytes())?;
+        assert_eq!(rt; status, 0, "at {query}");
+        assert_eq!(rt; text.as_str(), printed, "at {query}");
+    }
+    Ok(())
+}
+
+#[test]
+fn a_query_is_refused_by_its_number(rt: HostRuntime) -> Result<(), Fail> {
+    for (query, printed) in [
+        ("SELECT ? FROM T", "QUERY Q1\n"),
+        ("SELECT 'ab FROM T", "QUERY Q2\n"),
+        ("SELECT 9223372036854775808 FROM T", "QUERY Q3\n"),
+        ("SELECT DNO FROM", "QUERY Q4\n"),
+        ("SELECT A FROM T WHERE A IN (SELECT B FROM T)", "QUERY Q4\n"),
+        ("SELECT A FROM NOPE", "QUERY Q6\n"),
+        ("SELECT FOO FROM T", "QUERY Q8\n"),
+    ] {
+        let (status, text) = over_t(rt.alloc(), SCHEMA, TABLE, query.as_bytes())?;
+        assert_eq!(rt; status, 7, "at {query}");
+        assert_eq!(rt; text.as_str(), printed, "at {query}");
+    }
     Ok(())
 }
 
@@ -142,7 +110,7 @@ fn a_faulty_option_is_usage_and_no_file_is_read(rt: HostRuntime) -> Result<(), F
     for option in ["--budget=10001", "--classes=foo"] {
         let mut options = Vec::new(alloc);
         options.push(String::from_str(alloc, option)?)?;
-        let ran = run::<Brand>(alloc, Blank::new(1), query, table(alloc)?, options, 100)?;
+        let ran = run::<Brand>(alloc, Blank::new(1), SCHEMA, query, table(alloc)?, options, 100)?;
         assert_eq!(rt; ran.status, 2, "at {option}");
         assert_eq!(rt; ran.written.as_slice(), b"USAGE\n".as_slice());
         assert_eq!(rt; ran.reads, 0);
@@ -164,7 +132,7 @@ fn options_leave_the_answer(rt: HostRuntime) -> Result<(), Fail> {
     ] {
         options.push(String::from_str(alloc, option)?)?;
     }
-    let ran = run::<Brand>(alloc, Blank::new(1), query, table(alloc)?, options, 100)?;
+    let ran = run::<Brand>(alloc, Blank::new(1), SCHEMA, query, table(alloc)?, options, 100)?;
     assert_eq!(rt; ran.status, 0);
     assert_eq!(rt;
         ran.written.as_slice(),

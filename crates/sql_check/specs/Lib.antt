@@ -1,2 +1,11 @@
+pub mod Types
+pub mod Scope
 pub mod Valid
+pub mod Taken
+pub mod Core
+pub mod CoreShown
+pub mod Agreed
+pub mod Faults
+pub mod Blocks
+pub mod Checks
 pub mod Resolved

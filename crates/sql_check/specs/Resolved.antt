@@ -1,27 +1,24 @@
--- The rows of a query whose columns are places.
-use Rattle.std.specs.Prelude.{ℕ, ◌≡◌, ⊤, Bool, true, false, List, map, Option, Some, None}
+-- The rows of a checked query: for each row of its table that the condition keeps, the cells of the list.
+use Rattle.std.specs.Prelude.{◌≡◌, ⊤, All, length, List, Option, Some, None}
+use Rattle.row_bag.specs.Bags.{bind, keep, unit}
 use Rattle.row_bag.specs.Tables.{bag_named}
 use Rattle.row_bag.specs.declared.row.Row.{Row}
 use Rattle.row_bag.specs.declared.tables.Table.{Table}
-use Rattle.sql_meaning.specs.Meaning.{rows_of, value}
-use Rattle.sql_meaning.specs.Places.{cell_at}
+use Rattle.sql_meaning.specs.Meaning.{Relation, rows_or_none}
 use Rattle.sql_value.specs.declared.cell.Cell.{Cell}
+use Rattle.sql_check.specs.Agreed.{cells_of}
+use Rattle.sql_check.specs.Core as core
+use Rattle.sql_check.specs.CoreShown as shown
 use Rattle.sql_check.specs.declared.checked.Checked.{Checked}
 
--- the cells at these places of a row, at its level
-abbrev pub row_at : List ℕ → Row (List Cell) → Row (List Cell)
-row_at places row = record { cells = map (λ place. cell_at place row.cells) places; level = row.level }
+-- what a row of the table gives
+abbrev pub row_at : Checked → List Cell → List (Row (List Cell))
+row_at checked cells = keep (core.truth (shown.test checked.test) cells).t (unit (cells_of (shown.value_list checked.list) cells))
 
--- for each row of the query's table, in their order, the cells at its places
 abbrev pub rows_at : Checked → List Table → List (Row (List Cell))
-rows_at checked tables = map (row_at checked.places) (rows_of (bag_named tables checked.table))
+rows_at checked tables = bind (rows_or_none (bag_named tables checked.table)) (row_at checked)
 
--- there are places exactly where each name is known
-abbrev pub IsFound : Option (List ℕ) → Bool → Type 0
-IsFound (Some places) known = known ≡ true
-IsFound None known = known ≡ false
-
--- where there are places, in any row of a table with these columns the cells at them are the values of these names
-abbrev pub HoldPlaces : Option (List ℕ) → List (List ℕ) → List (List ℕ) → Type 0
-HoldPlaces None columns names = ⊤
-HoldPlaces (Some places) columns names = (cells : List Cell) → map (λ place. cell_at place cells) places ≡ map (λ name. value name columns cells) names
+-- each row of a table has a cell for each column
+abbrev pub IsWide : Option Relation → Type 0
+IsWide None = ⊤
+IsWide (Some table) = All (λ row. length row.cells ≡ length table.columns) table.rows

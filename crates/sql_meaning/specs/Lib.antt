@@ -1,2 +1,3 @@
+pub mod Scopes
+pub mod Values
 pub mod Meaning
-pub mod Places

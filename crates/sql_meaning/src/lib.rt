@@ -1,6 +1,2 @@
-//! What a query means, by the names of its columns, and the look-up of a name's place.
+//! What a query means, by the names of its columns.
 #![tactic(auto)]
-
-mod place;
-
-pub use place::column_place;

@@ -1,5 +1,5 @@
 use Rattle.std.proofs.Common.{◌≤◌, drop, take}
-use Rattle.csv_tables.specs.Loaded.{FitsSchema}
+use Rattle.csv_tables.specs.Fits.{FitsSchema}
 use Rattle.csv_tables.proofs.Loads.{Carries}
 use Rattle.csv_tables.proofs.loading.load.Given as goal
 

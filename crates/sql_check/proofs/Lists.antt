@@ -1,0 +1,55 @@
+-- Lists of parts with one more at their end, and lists as lists of cells.
+use Rattle.std.proofs.Common.{◌≡◌, Some, List, [], ◌∷◌, ◌++◌, refl, ap, sym, ◌∙◌}
+use Rattle.qgm_base.specs.declared.compare.CmpOp.TheVariants.{Eq}
+use Rattle.sql_ast.specs.declared.word.AdditiveOp.{AdditiveOp}
+use Rattle.sql_ast.specs.declared.word.AdditiveOp.TheVariants.{Plus, Minus, Concat}
+use Rattle.sql_ast.specs.Syntax as s
+use Rattle.sql_meaning.specs.Scopes.{Scopes}
+use Rattle.sql_meaning.specs.Values as named
+use Rattle.sql_value.specs.Comparison as c
+use Rattle.sql_value.specs.Truths as t
+use Rattle.sql_value.specs.declared.cell.Cell.{Cell}
+use Rattle.sql_check.specs.declared.checked.Arm.{Arm}
+use Rattle.sql_check.specs.declared.checked.Choice.{Choice}
+use Rattle.sql_check.specs.declared.checked.Value.{Value}
+use Rattle.sql_check.specs.Agreed.{cells_meant, cells_of, equals_some, first_not_null}
+use Rattle.sql_check.specs.Core as core
+use Rattle.sql_check.specs.CoreShown as shown
+use Rattle.sql_check.specs.Types.{TypedScopes, type_of}
+use Rattle.sql_check.specs.Valid.{operand_type}
+
+pub cells_more : (xs : List Value) (y : Value) (cells : List Cell) → cells_of (shown.value_list (xs ++ y ∷ [])) cells ≡ cells_of (shown.value_list xs) cells ++ core.value (shown.value y) cells ∷ []
+cells_more [] y cells = refl
+cells_more (x ∷ xs) y cells = ap (λ (zs : List Cell). core.value (shown.value x) cells ∷ zs) (cells_more xs y cells)
+
+pub arms_more : (xs : List Arm) (y : Arm) (last : Cell) (cells : List Cell)
+    → core.of_arms (shown.arm_list (xs ++ y ∷ [])) last cells ≡ core.of_arms (shown.arm_list xs) (named.case_of (core.truth (shown.test y.when) cells) (core.value (shown.value y.then) cells) last) cells
+arms_more [] y last cells = refl
+arms_more (x ∷ xs) y last cells = ap (named.case_of (core.truth (shown.test x.when) cells) (core.value (shown.value x.then) cells)) (arms_more xs y last cells)
+
+pub choices_more : (x : Cell) (xs : List Choice) (y : Choice) (last : Cell) (cells : List Cell)
+    → core.of_choices x (shown.choice_list (xs ++ y ∷ [])) last cells
+    ≡ core.of_choices x (shown.choice_list xs) (named.case_of (c.compare Eq x (core.value (shown.value y.when) cells)) (core.value (shown.value y.then) cells) last) cells
+choices_more x [] y last cells = refl
+choices_more x (z ∷ xs) y last cells = ap (named.case_of (c.compare Eq x (core.value (shown.value z.when) cells)) (core.value (shown.value z.then) cells)) (choices_more x xs y last cells)
+
+pub coalesced_cells : (x : Cell) (vs : core.Values) (cells : List Cell) → core.coalesced x vs cells ≡ first_not_null x (cells_of vs cells)
+coalesced_cells x core.no_value cells = refl
+coalesced_cells x (core.one_value v vs) cells = ap (named.case_of (t.negated (c.is_null x)) x) (coalesced_cells (core.value v cells) vs cells)
+
+pub coalesced_meant : (x : Cell) (xs : s.Exprs) (scopes : Scopes) → first_not_null x (cells_meant xs scopes) ≡ named.coalesced x xs scopes
+coalesced_meant x s.no_expr scopes = refl
+coalesced_meant x (s.one_expr y xs) scopes = ap (named.case_of (t.negated (c.is_null x)) x) (coalesced_meant (named.value y scopes) xs scopes)
+
+pub equals_cells : (x : Cell) (vs : core.Values) (cells : List Cell) → core.equals_one x vs cells ≡ equals_some x (cells_of vs cells)
+equals_cells x core.no_value cells = refl
+equals_cells x (core.one_value v vs) cells = ap (t.or (c.compare Eq x (core.value v cells))) (equals_cells x vs cells)
+
+pub equals_meant : (x : Cell) (xs : s.Exprs) (scopes : Scopes) → equals_some x (cells_meant xs scopes) ≡ named.equals_one x xs scopes
+equals_meant x s.no_expr scopes = refl
+equals_meant x (s.one_expr y xs) scopes = ap (t.or (c.compare Eq x (named.value y scopes))) (equals_meant x xs scopes)
+
+pub sum_type : (x : s.Expr) (op : AdditiveOp) (y : s.Expr) (scopes : TypedScopes) → Some (operand_type op) ≡ type_of (s.add x op y) scopes
+sum_type x Plus y scopes = refl
+sum_type x Minus y scopes = refl
+sum_type x Concat y scopes = refl

@@ -1,0 +1,192 @@
+// The list of a SELECT: its columns with their names.
+ghost use Rattle.std.specs.Prelude.{◌≡◌, ◌++◌, ◌∷◌, [], List, length, IfOk, OnOk};
+ghost use Rattle.sql_ast.specs.Shown as written;
+ghost use Rattle.sql_meaning.specs.Meaning as named;
+ghost use Rattle.sql_meaning.specs.Values as values;
+ghost use Rattle.sql_value.specs.declared.cell.Cell.{Cell};
+ghost use Rattle.sql_check.specs.Agreed.{cells_of};
+ghost use Rattle.sql_check.specs.CoreShown as shown;
+ghost use Rattle.sql_check.specs.Faults.{number};
+ghost use Rattle.sql_check.specs.Scope.{alone, frame_of, names_of, scopes_of, shape_of};
+ghost use Rattle.sql_check.specs.Valid as spec;
+
+use crate::checked::Value;
+use crate::faults::{Fault, lesser};
+use crate::resolve::expr;
+use crate::scope::{TypedColumn, TypedRange};
+use qgm_base::OutOfMemory;
+use sql_ast::{Alias, Expr, Item, SelectList};
+use sql_text::Name;
+use sql_value::OutNames;
+use sqlite_items::Items;
+use std::alloc::Global;
+
+// Output columns: their values, their names, and the least of their faults.
+#[derive(Drop)]
+pub(crate) struct FoundColumns {
+    pub values: Items<Value>,
+    pub names: OutNames,
+    pub fault: Option<Fault>,
+}
+
+// Adds the cells of a row of this width at the end.
+#[tactic(auto, using(crate::proofs::Stars::places_more))]
+fn push_places(values: &mut Items<Value>, width: usize) -> Result<(), OutOfMemory>
+    ensures { OnOk result ((cells : List Cell) → length cells ≡ width → cells_of (shown.value_list values.new) cells ≡ cells_of (shown.value_list values.old) cells ++ cells) }
+{
+    for place in 0..width {
+        values.push(Value::Cell(place))?;
+    }
+    Ok(())
+}
+
+// Adds the names of columns at the end.
+fn push_names(
+    alloc: Global,
+    names: &mut OutNames,
+    columns: &[TypedColumn],
+) -> Result<(), OutOfMemory>
+    ensures { OnOk result (names.new ≡ names.old ++ named.all_named (names_of columns.now)) }
+{
+    for column in columns {
+        names.push(Some(column.name.copy(alloc)?))?;
+    }
+    Ok(())
+}
+
+// Adds all columns of a range at the end.
+fn push_all(
+    alloc: Global,
+    found: &mut FoundColumns,
+    range: &TypedRange,
+) -> Result<(), OutOfMemory>
+    ensures values { OnOk result ((cells : List Cell) → length cells ≡ length range.now.columns → cells_of (shown.value_list found.new.values) cells ≡ cells_of (shown.value_list found.old.values) cells ++ cells) }
+    ensures names { OnOk result (found.new.names ≡ found.old.names ++ named.all_named (names_of range.now.columns)) }
+    ensures fault { OnOk result (found.new.fault ≡ found.old.fault) }
+{
+    push_places(&mut found.values, range.columns.len())?;
+    push_names(alloc, &mut found.names, range.columns.as_slice())
+}
+
+// The name of an expression without an alias.
+fn own_name(alloc: Global, x: &Expr) -> Result<Option<Name>, OutOfMemory>
+    ensures { IfOk result (λ name. name ≡ named.own_name (written.expr x.now)) }
+{
+    match x {
+        Expr::Column(column) => Ok(Some(column.name.copy(alloc)?)),
+        Expr::Add(_, _, _)
+        | Expr::Multiply(_, _, _)
+        | Expr::Signed(_, _)
+        | Expr::Number(_)
+        | Expr::Str(_)
+        | Expr::Paren(_)
+        | Expr::Scalar(_)
+        | Expr::CountAll
+        | Expr::Aggregate(_, _, _)
+        | Expr::Searched(_, _)
+        | Expr::Simple(_, _, _)
+        | Expr::Coalesce(_, _)
+        | Expr::NullIf(_, _)
+        | Expr::CastNull(_) => Ok(None),
+    }
+}
+
+// The name of an output column.
+fn item_name(
+    alloc: Global,
+    x: &Expr,
+    alias: &Option<Alias>,
+) -> Result<Option<Name>, OutOfMemory>
+    ensures { IfOk result (λ name. name ≡ named.item_name (written.expr x.now) alias.now) }
+{
+    match alias {
+        Some(alias) => Ok(Some(alias.name.copy(alloc)?)),
+        None => own_name(alloc, x),
+    }
+}
+
+// Adds an expression at the end.
+#[tactic(auto, using(crate::proofs::Lists::cells_more))]
+fn push_expr(
+    alloc: Global,
+    found: &mut FoundColumns,
+    x: &Expr,
+    alias: &Option<Alias>,
+    range: &TypedRange,
+) -> Result<(), OutOfMemory>
+    ensures values { OnOk result ((cells : List Cell) → cells_of (shown.value_list found.new.values) cells ≡ cells_of (shown.value_list found.old.values) cells ++ values.value (written.expr x.now) (scopes_of range.now cells) ∷ []) }
+    ensures names { OnOk result (found.new.names ≡ found.old.names ++ named.item_name (written.expr x.now) alias.now ∷ []) }
+    ensures fault { OnOk result (number found.new.fault ≡ spec.lesser (number found.old.fault) (spec.expr_fault (written.expr x.now) (alone range.now))) }
+{
+    let name = item_name(alloc, x, alias)?;
+    let x = expr(alloc, x, range)?;
+    found.fault = lesser(found.fault, x.fault);
+    found.names.push(name)?;
+    found.values.push(x.value)?;
+    Ok(())
+}
+
+// Adds an item of a list at the end.
+fn push_item(
+    alloc: Global,
+    found: &mut FoundColumns,
+    item: &Item,
+    range: &TypedRange,
+) -> Result<(), OutOfMemory>
+    ensures values { OnOk result ((cells : List Cell) → length cells ≡ length range.now.columns → cells_of (shown.value_list found.new.values) cells ≡ cells_of (shown.value_list found.old.values) cells ++ named.item_cells (written.item item.now) (scopes_of range.now cells)) }
+    ensures names { OnOk result (found.new.names ≡ found.old.names ++ named.item_names (written.item item.now) (shape_of range.now)) }
+    ensures fault { OnOk result (number found.new.fault ≡ spec.lesser (number found.old.fault) (spec.item_fault (written.item item.now) (alone range.now))) }
+{
+    match item {
+        Item::Value(x, alias) => push_expr(alloc, found, x, alias, range),
+        Item::AllOf(name) => {
+            if range.name == *name {
+                push_all(alloc, found, range)
+            } else {
+                found.fault = lesser(found.fault, Some(Fault::UnknownColumn));
+                Ok(())
+            }
+        }
+    }
+}
+
+// Adds the items of a list at the end.
+#[tactic(auto, using(sql_ast::specs::Shown::lists, crate::proofs::Orders::lesser_joins))]
+fn push_items(
+    alloc: Global,
+    found: &mut FoundColumns,
+    items: &[Item],
+    range: &TypedRange,
+) -> Result<(), OutOfMemory>
+    ensures values { OnOk result ((cells : List Cell) → length cells ≡ length range.now.columns → cells_of (shown.value_list found.new.values) cells ≡ cells_of (shown.value_list found.old.values) cells ++ named.items_cells (written.item_list items.now) (scopes_of range.now cells)) }
+    ensures names { OnOk result (found.new.names ≡ found.old.names ++ named.items_names (written.item_list items.now) (shape_of range.now)) }
+    ensures fault { OnOk result (number found.new.fault ≡ spec.lesser (number found.old.fault) (spec.items_fault (written.item_list items.now) (alone range.now))) }
+{
+    for item in items {
+        push_item(alloc, found, item, range)?;
+    }
+    Ok(())
+}
+
+// The columns of a list over a FROM of this range alone.
+#[tactic(auto, using(sql_ast::specs::Shown::lists))]
+pub(crate) fn columns(
+    alloc: Global,
+    list: &SelectList,
+    range: &TypedRange,
+) -> Result<FoundColumns, OutOfMemory>
+    ensures values { IfOk result (λ found. (cells : List Cell) → length cells ≡ length range.now.columns → cells_of (shown.value_list found.values) cells ≡ named.list_cells (written.select_list list.now) (frame_of range.now cells) []) }
+    ensures names { IfOk result (λ found. found.names ≡ named.list_names (written.select_list list.now) (shape_of range.now)) }
+    ensures fault { IfOk result (λ found. number found.fault ≡ spec.list_fault (written.select_list list.now) (alone range.now)) }
+{
+    let mut found = FoundColumns {
+        values: Items::new(alloc),
+        names: Items::new(alloc),
+        fault: None,
+    };
+    match list {
+        SelectList::All => push_all(alloc, &mut found, range)?,
+        SelectList::Items(items) => push_items(alloc, &mut found, items.as_slice(), range)?,
+    }
+    Ok(found)
+}

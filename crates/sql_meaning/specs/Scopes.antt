@@ -1,0 +1,68 @@
+-- What names stand for: ranges, and the scopes in which they are looked up (SQL-92, 6.3 and 6.4).
+use Rattle.std.specs.Prelude.{ℕ, List, [], ◌∷◌, Option, Some, None, find, if◌then◌else◌}
+use Rattle.sql_ast.specs.declared.name.Column.{Column}
+use Rattle.sql_catalog.specs.Names.{same_name}
+use Rattle.sql_value.specs.declared.cell.Cell.{Cell}
+use Rattle.sql_value.specs.declared.cell.Cell.TheVariants.{Null}
+
+-- a table of a FROM under its range name: the names of its columns, and the cells of one of its rows
+pub record Range : Type 0 where
+  pub name : List ℕ
+  pub columns : List (List ℕ)
+  pub cells : List Cell
+
+-- the ranges of a FROM, in order
+abbrev pub Frame : Type 0
+Frame = List Range
+
+-- the frames of the blocks that enclose a place, the innermost first
+abbrev pub Scopes : Type 0
+Scopes = List Frame
+
+-- the first, or the second where there is no first
+abbrev pub first_of : {A : Type 0} → Option A → Option A → Option A
+first_of (Some x) other = Some x
+first_of None other = other
+
+-- the cell of the first column of a name
+abbrev pub cell_named : List ℕ → List (List ℕ) → List Cell → Option Cell
+cell_named name (column ∷ columns) (cell ∷ cells) = if same_name column name then Some cell else cell_named name columns cells
+cell_named name columns cells = None
+
+-- the cell of the first column of a name among these ranges
+abbrev pub cell_in : List ℕ → Frame → Option Cell
+cell_in name [] = None
+cell_in name (range ∷ frame) = first_of (cell_named name range.columns range.cells) (cell_in name frame)
+
+-- `c`: the cell of a column in the innermost scope that has one of the name
+abbrev pub unqualified : List ℕ → Scopes → Option Cell
+unqualified name [] = None
+unqualified name (frame ∷ scopes) = first_of (cell_in name frame) (unqualified name scopes)
+
+-- the first of these ranges that has a name
+abbrev pub range_in : List ℕ → Frame → Option Range
+range_in name frame = find (λ range. same_name range.name name) frame
+
+-- the range of a name in the innermost scope that has one
+abbrev pub range_of : List ℕ → Scopes → Option Range
+range_of name [] = None
+range_of name (frame ∷ scopes) = first_of (range_in name frame) (range_of name scopes)
+
+-- the cell of a column of a range that was found
+abbrev pub cell_of_range : List ℕ → Option Range → Option Cell
+cell_of_range name None = None
+cell_of_range name (Some range) = cell_named name range.columns range.cells
+
+-- `r.c`, or `c`
+abbrev pub found : Option (List ℕ) → List ℕ → Scopes → Option Cell
+found (Some range) name scopes = cell_of_range name (range_of range scopes)
+found None name scopes = unqualified name scopes
+
+-- null where nothing was found, which isn't so in a valid query
+abbrev pub or_null : Option Cell → Cell
+or_null (Some cell) = cell
+or_null None = Null
+
+-- the cell that a column's name stands for
+abbrev pub column_value : Column → Scopes → Cell
+column_value c scopes = or_null (found c.range c.name scopes)

@@ -1,0 +1,12 @@
+use Rattle.std.proofs.Common.{◌≡◌, ◌-◌}
+use Rattle.sql_text.specs.Tokens.{token_list}
+use Rattle.sql_ast.specs.Shown as shown
+use Rattle.sql_parser.specs.Read as read
+use Rattle.sql_parser.specs.Words.{mapped}
+use Rattle.sql_parser.proofs.TurnsTables.{append_tables}
+use Rattle.sql_parser.proofs.grammar.Grammar.tables.Given as goal
+
+abbrev pub invariant-tables : goal.invariant-tables
+invariant-tables g l =
+    read.tables (read.expr l.self.depth) (read.cond l.self.depth) (read.query l.self.depth) (read.table l.self.depth) (token_list l.ts)
+    ≡ mapped (append_tables (shown.table_list l.tables)) (read.more_tables (read.expr l.self.depth) (read.cond l.self.depth) (read.query l.self.depth) (read.table l.self.depth) (l._turn-end - l._turn) (token_list l.rest))

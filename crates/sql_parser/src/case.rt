@@ -1,0 +1,244 @@
+// CASE (SQL-92, 6.9).
+ghost use Rattle.std.specs.Prelude.{◌≡◌, ◌∷◌, false, IfSome, IfNone};
+ghost use Rattle.sql_ast.specs.Shown as shown;
+ghost use Rattle.sql_parser.specs.Nests.{Nests};
+ghost use Rattle.sql_parser.specs.Read as read;
+ghost use Rattle.sql_parser.specs.Words.{Gives};
+ghost use Rattle.sql_text.specs.Tokens.{token_list};
+ghost use Rattle.sql_text.specs.declared.key.Key.TheVariants as k;
+ghost use Rattle.sql_text.specs.declared.token.Token.TheVariants as t;
+
+use crate::grammar::Grammar;
+use crate::refusal::ParseRefusal;
+use crate::word::first;
+use sql_ast::{Arm, Choice, Cond, Expr, Otherwise, Query, Res, TableRef};
+use sql_text::{Key, Spanned, Token};
+use sqlite_items::Items;
+use std::alloc::Global;
+
+/// The tokens after `WHEN`.
+fn after_when(ts: &[Spanned]) -> Option<&[Spanned]>
+    ensures found { IfSome result (λ rest. token_list ts.now ≡ t.Key k.When ∷ token_list rest.now) }
+    ensures none { IfNone result (read.starts_when (token_list ts.now) ≡ false) }
+{
+    match first(ts) {
+        Some((Token::Key(Key::When), rest)) => Some(rest),
+        _ => None,
+    }
+}
+
+impl<
+    E: Fn(Global, u8, &[Spanned]) -> Result<(Expr, &[Spanned]), ParseRefusal>,
+    C: Fn(Global, u8, &[Spanned]) -> Result<(Cond, &[Spanned]), ParseRefusal>,
+    Q: Fn(Global, u8, &[Spanned]) -> Result<(Query, &[Spanned]), ParseRefusal>,
+    T: Fn(Global, u8, &[Spanned]) -> Result<(TableRef, &[Spanned]), ParseRefusal>,
+> Grammar<E, C, Q, T> {
+    /// `res = expr | NULL`
+    fn res<'a>(&self, ts: &'a [Spanned]) -> Result<(Res, &'a [Spanned]), ParseRefusal>
+        requires expr { Nests shown.expr (read.expr self.now.depth) self.now.depth (E.pre self.now.expr) (E.post self.now.expr) }
+        requires cond { Nests shown.cond (read.cond self.now.depth) self.now.depth (C.pre self.now.cond) (C.post self.now.cond) }
+        requires query { Nests shown.query (read.query self.now.depth) self.now.depth (Q.pre self.now.query) (Q.post self.now.query) }
+        requires table { Nests shown.table (read.table self.now.depth) self.now.depth (T.pre self.now.table) (T.post self.now.table) }
+        ensures { Gives (λ x. (shown.res x.0, token_list x.1.now)) result (read.res (read.expr self.now.depth) (read.cond self.now.depth) (read.query self.now.depth) (read.table self.now.depth) (token_list ts.now)) }
+    {
+        match first(ts) {
+            Some((Token::Key(Key::Null), rest)) => Ok((Res::Null, rest)),
+            _ => {
+                let (value, rest) = self.nested_expr(ts)?;
+                Ok((Res::Value(Box::new(self.alloc, value)?), rest))
+            }
+        }
+    }
+
+    /// `THEN res`, after `WHEN cond`
+    fn then_arm<'a>(
+        &self,
+        when: Cond,
+        ts: &'a [Spanned],
+    ) -> Result<(Arm, &'a [Spanned]), ParseRefusal>
+        requires expr { Nests shown.expr (read.expr self.now.depth) self.now.depth (E.pre self.now.expr) (E.post self.now.expr) }
+        requires cond { Nests shown.cond (read.cond self.now.depth) self.now.depth (C.pre self.now.cond) (C.post self.now.cond) }
+        requires query { Nests shown.query (read.query self.now.depth) self.now.depth (Q.pre self.now.query) (Q.post self.now.query) }
+        requires table { Nests shown.table (read.table self.now.depth) self.now.depth (T.pre self.now.table) (T.post self.now.table) }
+        ensures { Gives (λ x. ((shown.cond x.0.when, shown.res x.0.then), token_list x.1.now)) result (read.then_res (read.expr self.now.depth) (read.cond self.now.depth) (read.query self.now.depth) (read.table self.now.depth) (shown.cond when) (token_list ts.now)) }
+    {
+        match first(ts) {
+            Some((Token::Key(Key::Then), rest)) => {
+                let (then, rest) = self.res(rest)?;
+                Ok((Arm { when, then }, rest))
+            }
+            _ => Err(ParseRefusal::Syntax),
+        }
+    }
+
+    /// `cond THEN res`, after `WHEN`
+    fn arm<'a>(&self, ts: &'a [Spanned]) -> Result<(Arm, &'a [Spanned]), ParseRefusal>
+        requires expr { Nests shown.expr (read.expr self.now.depth) self.now.depth (E.pre self.now.expr) (E.post self.now.expr) }
+        requires cond { Nests shown.cond (read.cond self.now.depth) self.now.depth (C.pre self.now.cond) (C.post self.now.cond) }
+        requires query { Nests shown.query (read.query self.now.depth) self.now.depth (Q.pre self.now.query) (Q.post self.now.query) }
+        requires table { Nests shown.table (read.table self.now.depth) self.now.depth (T.pre self.now.table) (T.post self.now.table) }
+        ensures { Gives (λ x. ((shown.cond x.0.when, shown.res x.0.then), token_list x.1.now)) result (read.arm (read.expr self.now.depth) (read.cond self.now.depth) (read.query self.now.depth) (read.table self.now.depth) (token_list ts.now)) }
+    {
+        let (when, rest) = self.nested_cond(ts)?;
+        self.then_arm(when, rest)
+    }
+
+    /// `WHEN cond THEN res { WHEN cond THEN res }`
+    fn arms<'a>(&self, ts: &'a [Spanned]) -> Result<(Items<Arm>, &'a [Spanned]), ParseRefusal>
+        requires expr { Nests shown.expr (read.expr self.now.depth) self.now.depth (E.pre self.now.expr) (E.post self.now.expr) }
+        requires cond { Nests shown.cond (read.cond self.now.depth) self.now.depth (C.pre self.now.cond) (C.post self.now.cond) }
+        requires query { Nests shown.query (read.query self.now.depth) self.now.depth (Q.pre self.now.query) (Q.post self.now.query) }
+        requires table { Nests shown.table (read.table self.now.depth) self.now.depth (T.pre self.now.table) (T.post self.now.table) }
+        ensures { Gives (λ x. (shown.arm_list x.0, token_list x.1.now)) result (read.arms (read.expr self.now.depth) (read.cond self.now.depth) (read.query self.now.depth) (read.table self.now.depth) (token_list ts.now)) }
+    {
+        let Some(after) = after_when(ts) else {
+            return Err(ParseRefusal::Syntax);
+        };
+        let (first, after) = self.arm(after)?;
+        let mut arms = Items::new(self.alloc);
+        arms.push(first)?;
+        let mut rest = after;
+        'arms: for _turn in 0..after.len() {
+            match after_when(rest) {
+                None => return Ok((arms, rest)),
+                Some(next) => {
+                    let (item, next) = self.arm(next)?;
+                    arms.push(item)?;
+                    rest = next;
+                }
+            }
+        }
+        Ok((arms, rest))
+    }
+
+    /// `THEN res`, after `WHEN expr`
+    fn then_choice<'a>(
+        &self,
+        when: Expr,
+        ts: &'a [Spanned],
+    ) -> Result<(Choice, &'a [Spanned]), ParseRefusal>
+        requires expr { Nests shown.expr (read.expr self.now.depth) self.now.depth (E.pre self.now.expr) (E.post self.now.expr) }
+        requires cond { Nests shown.cond (read.cond self.now.depth) self.now.depth (C.pre self.now.cond) (C.post self.now.cond) }
+        requires query { Nests shown.query (read.query self.now.depth) self.now.depth (Q.pre self.now.query) (Q.post self.now.query) }
+        requires table { Nests shown.table (read.table self.now.depth) self.now.depth (T.pre self.now.table) (T.post self.now.table) }
+        ensures { Gives (λ x. ((shown.expr x.0.when, shown.res x.0.then), token_list x.1.now)) result (read.then_res (read.expr self.now.depth) (read.cond self.now.depth) (read.query self.now.depth) (read.table self.now.depth) (shown.expr when) (token_list ts.now)) }
+    {
+        match first(ts) {
+            Some((Token::Key(Key::Then), rest)) => {
+                let (then, rest) = self.res(rest)?;
+                Ok((Choice { when, then }, rest))
+            }
+            _ => Err(ParseRefusal::Syntax),
+        }
+    }
+
+    /// `expr THEN res`, after `WHEN`
+    fn choice<'a>(&self, ts: &'a [Spanned]) -> Result<(Choice, &'a [Spanned]), ParseRefusal>
+        requires expr { Nests shown.expr (read.expr self.now.depth) self.now.depth (E.pre self.now.expr) (E.post self.now.expr) }
+        requires cond { Nests shown.cond (read.cond self.now.depth) self.now.depth (C.pre self.now.cond) (C.post self.now.cond) }
+        requires query { Nests shown.query (read.query self.now.depth) self.now.depth (Q.pre self.now.query) (Q.post self.now.query) }
+        requires table { Nests shown.table (read.table self.now.depth) self.now.depth (T.pre self.now.table) (T.post self.now.table) }
+        ensures { Gives (λ x. ((shown.expr x.0.when, shown.res x.0.then), token_list x.1.now)) result (read.choice (read.expr self.now.depth) (read.cond self.now.depth) (read.query self.now.depth) (read.table self.now.depth) (token_list ts.now)) }
+    {
+        let (when, rest) = self.nested_expr(ts)?;
+        self.then_choice(when, rest)
+    }
+
+    /// `WHEN expr THEN res { WHEN expr THEN res }`
+    fn choices<'a>(&self, ts: &'a [Spanned]) -> Result<(Items<Choice>, &'a [Spanned]), ParseRefusal>
+        requires expr { Nests shown.expr (read.expr self.now.depth) self.now.depth (E.pre self.now.expr) (E.post self.now.expr) }
+        requires cond { Nests shown.cond (read.cond self.now.depth) self.now.depth (C.pre self.now.cond) (C.post self.now.cond) }
+        requires query { Nests shown.query (read.query self.now.depth) self.now.depth (Q.pre self.now.query) (Q.post self.now.query) }
+        requires table { Nests shown.table (read.table self.now.depth) self.now.depth (T.pre self.now.table) (T.post self.now.table) }
+        ensures { Gives (λ x. (shown.choice_list x.0, token_list x.1.now)) result (read.choices (read.expr self.now.depth) (read.cond self.now.depth) (read.query self.now.depth) (read.table self.now.depth) (token_list ts.now)) }
+    {
+        let Some(after) = after_when(ts) else {
+            return Err(ParseRefusal::Syntax);
+        };
+        let (first, after) = self.choice(after)?;
+        let mut choices = Items::new(self.alloc);
+        choices.push(first)?;
+        let mut rest = after;
+        'choices: for _turn in 0..after.len() {
+            match after_when(rest) {
+                None => return Ok((choices, rest)),
+                Some(next) => {
+                    let (item, next) = self.choice(next)?;
+                    choices.push(item)?;
+                    rest = next;
+                }
+            }
+        }
+        Ok((choices, rest))
+    }
+
+    /// `[ ELSE res ]`
+    fn otherwise<'a>(&self, ts: &'a [Spanned]) -> Result<(Otherwise, &'a [Spanned]), ParseRefusal>
+        requires expr { Nests shown.expr (read.expr self.now.depth) self.now.depth (E.pre self.now.expr) (E.post self.now.expr) }
+        requires cond { Nests shown.cond (read.cond self.now.depth) self.now.depth (C.pre self.now.cond) (C.post self.now.cond) }
+        requires query { Nests shown.query (read.query self.now.depth) self.now.depth (Q.pre self.now.query) (Q.post self.now.query) }
+        requires table { Nests shown.table (read.table self.now.depth) self.now.depth (T.pre self.now.table) (T.post self.now.table) }
+        ensures { Gives (λ x. (shown.otherwise x.0, token_list x.1.now)) result (read.otherwise (read.expr self.now.depth) (read.cond self.now.depth) (read.query self.now.depth) (read.table self.now.depth) (token_list ts.now)) }
+    {
+        match first(ts) {
+            Some((Token::Key(Key::Else), rest)) => {
+                let (value, rest) = self.res(rest)?;
+                Ok((Otherwise::Else(value), rest))
+            }
+            _ => Ok((Otherwise::Absent, ts)),
+        }
+    }
+
+    /// `{ WHEN cond THEN res } [ ELSE res ] END`, with one arm at least
+    #[tactic(auto, using(sql_ast::specs::Shown::lists))]
+    fn searched<'a>(&self, ts: &'a [Spanned]) -> Result<(Expr, &'a [Spanned]), ParseRefusal>
+        requires expr { Nests shown.expr (read.expr self.now.depth) self.now.depth (E.pre self.now.expr) (E.post self.now.expr) }
+        requires cond { Nests shown.cond (read.cond self.now.depth) self.now.depth (C.pre self.now.cond) (C.post self.now.cond) }
+        requires query { Nests shown.query (read.query self.now.depth) self.now.depth (Q.pre self.now.query) (Q.post self.now.query) }
+        requires table { Nests shown.table (read.table self.now.depth) self.now.depth (T.pre self.now.table) (T.post self.now.table) }
+        ensures { Gives (λ x. (shown.expr x.0, token_list x.1.now)) result (read.searched (read.expr self.now.depth) (read.cond self.now.depth) (read.query self.now.depth) (read.table self.now.depth) (token_list ts.now)) }
+    {
+        let (arms, rest) = self.arms(ts)?;
+        let (otherwise, rest) = self.otherwise(rest)?;
+        match first(rest) {
+            Some((Token::Key(Key::End), rest)) => Ok((Expr::Searched(arms, otherwise), rest)),
+            _ => Err(ParseRefusal::Syntax),
+        }
+    }
+
+    /// `expr { WHEN expr THEN res } [ ELSE res ] END`, with one choice at least
+    #[tactic(auto, using(sql_ast::specs::Shown::lists))]
+    fn simple<'a>(&self, ts: &'a [Spanned]) -> Result<(Expr, &'a [Spanned]), ParseRefusal>
+        requires expr { Nests shown.expr (read.expr self.now.depth) self.now.depth (E.pre self.now.expr) (E.post self.now.expr) }
+        requires cond { Nests shown.cond (read.cond self.now.depth) self.now.depth (C.pre self.now.cond) (C.post self.now.cond) }
+        requires query { Nests shown.query (read.query self.now.depth) self.now.depth (Q.pre self.now.query) (Q.post self.now.query) }
+        requires table { Nests shown.table (read.table self.now.depth) self.now.depth (T.pre self.now.table) (T.post self.now.table) }
+        ensures { Gives (λ x. (shown.expr x.0, token_list x.1.now)) result (read.simple (read.expr self.now.depth) (read.cond self.now.depth) (read.query self.now.depth) (read.table self.now.depth) (token_list ts.now)) }
+    {
+        let (operand, rest) = self.nested_expr(ts)?;
+        let operand = Box::new(self.alloc, operand)?;
+        let (choices, rest) = self.choices(rest)?;
+        let (otherwise, rest) = self.otherwise(rest)?;
+        match first(rest) {
+            Some((Token::Key(Key::End), rest)) => Ok((
+                Expr::Simple(operand, choices, otherwise),
+                rest,
+            )),
+            _ => Err(ParseRefusal::Syntax),
+        }
+    }
+
+    /// What follows `CASE`
+    pub fn case<'a>(&self, ts: &'a [Spanned]) -> Result<(Expr, &'a [Spanned]), ParseRefusal>
+        requires expr { Nests shown.expr (read.expr self.now.depth) self.now.depth (E.pre self.now.expr) (E.post self.now.expr) }
+        requires cond { Nests shown.cond (read.cond self.now.depth) self.now.depth (C.pre self.now.cond) (C.post self.now.cond) }
+        requires query { Nests shown.query (read.query self.now.depth) self.now.depth (Q.pre self.now.query) (Q.post self.now.query) }
+        requires table { Nests shown.table (read.table self.now.depth) self.now.depth (T.pre self.now.table) (T.post self.now.table) }
+        ensures { Gives (λ x. (shown.expr x.0, token_list x.1.now)) result (read.case (read.expr self.now.depth) (read.cond self.now.depth) (read.query self.now.depth) (read.table self.now.depth) (token_list ts.now)) }
+    {
+        match first(ts) {
+            Some((Token::Key(Key::When), _)) => self.searched(ts),
+            _ => self.simple(ts),
+        }
+    }
+}

@@ -1,0 +1,414 @@
+// Conditions (SQL-92, 8.2 to 8.8 and 8.12).
+ghost use Rattle.std.specs.Prelude.{◌≡◌, ◌∷◌, false, IfSome, IfNone};
+ghost use Rattle.sql_ast.specs.Shown as shown;
+ghost use Rattle.sql_parser.specs.Nests.{Nests};
+ghost use Rattle.sql_parser.specs.Read as read;
+ghost use Rattle.sql_parser.specs.Words.{Gives};
+ghost use Rattle.sql_text.specs.Tokens.{token_list};
+ghost use Rattle.sql_ast.specs.Syntax as s;
+ghost use Rattle.sql_text.specs.declared.key.Key.TheVariants as k;
+ghost use Rattle.sql_text.specs.declared.token.Token.TheVariants as t;
+
+use crate::ahead::{at_query, opens_cond};
+use crate::grammar::Grammar;
+use crate::refusal::ParseRefusal;
+use crate::word::{close, first, not_at, quantifier_at};
+use sql_ast::{Cond, Expr, Filter, Query, TableRef};
+use sql_text::{CmpOp, Key, Spanned, Token};
+use std::alloc::Global;
+
+/// The tokens after `NOT`.
+fn after_not(ts: &[Spanned]) -> Option<&[Spanned]>
+    ensures found { IfSome result (λ rest. token_list ts.now ≡ t.Key k.Not ∷ token_list rest.now) }
+    ensures none { IfNone result (read.starts_not (token_list ts.now) ≡ false) }
+{
+    match first(ts) {
+        Some((Token::Key(Key::Not), rest)) => Some(rest),
+        _ => None,
+    }
+}
+
+/// The tokens after `EXISTS`.
+fn after_exists(ts: &[Spanned]) -> Option<&[Spanned]>
+    ensures found { IfSome result (λ rest. token_list ts.now ≡ t.Key k.Exists ∷ token_list rest.now) }
+    ensures none { IfNone result (read.starts_exists (token_list ts.now) ≡ false) }
+{
+    match first(ts) {
+        Some((Token::Key(Key::Exists), rest)) => Some(rest),
+        _ => None,
+    }
+}
+
+/// The tokens after `AND`.
+fn after_and(ts: &[Spanned]) -> Option<&[Spanned]>
+    ensures found { IfSome result (λ rest. token_list ts.now ≡ t.Key k.And ∷ token_list rest.now) }
+    ensures none { IfNone result (read.starts_and (token_list ts.now) ≡ false) }
+{
+    match first(ts) {
+        Some((Token::Key(Key::And), rest)) => Some(rest),
+        _ => None,
+    }
+}
+
+/// The tokens after `OR`.
+fn after_or(ts: &[Spanned]) -> Option<&[Spanned]>
+    ensures found { IfSome result (λ rest. token_list ts.now ≡ t.Key k.Or ∷ token_list rest.now) }
+    ensures none { IfNone result (read.starts_or (token_list ts.now) ≡ false) }
+{
+    match first(ts) {
+        Some((Token::Key(Key::Or), rest)) => Some(rest),
+        _ => None,
+    }
+}
+
+impl<
+    E: Fn(Global, u8, &[Spanned]) -> Result<(Expr, &[Spanned]), ParseRefusal>,
+    C: Fn(Global, u8, &[Spanned]) -> Result<(Cond, &[Spanned]), ParseRefusal>,
+    Q: Fn(Global, u8, &[Spanned]) -> Result<(Query, &[Spanned]), ParseRefusal>,
+    T: Fn(Global, u8, &[Spanned]) -> Result<(TableRef, &[Spanned]), ParseRefusal>,
+> Grammar<E, C, Q, T> {
+    /// `AND expr`, after the lower bound
+    fn upper<'a>(
+        &self,
+        operand: Box<Expr>,
+        negative: bool,
+        low: Expr,
+        ts: &'a [Spanned],
+    ) -> Result<(Cond, &'a [Spanned]), ParseRefusal>
+        requires expr { Nests shown.expr (read.expr self.now.depth) self.now.depth (E.pre self.now.expr) (E.post self.now.expr) }
+        requires cond { Nests shown.cond (read.cond self.now.depth) self.now.depth (C.pre self.now.cond) (C.post self.now.cond) }
+        requires query { Nests shown.query (read.query self.now.depth) self.now.depth (Q.pre self.now.query) (Q.post self.now.query) }
+        requires table { Nests shown.table (read.table self.now.depth) self.now.depth (T.pre self.now.table) (T.post self.now.table) }
+        ensures { Gives (λ x. (shown.cond x.0, token_list x.1.now)) result (read.upper (read.expr self.now.depth) (read.cond self.now.depth) (read.query self.now.depth) (read.table self.now.depth) (shown.expr operand.value) negative (shown.expr low) (token_list ts.now)) }
+    {
+        let low = Box::new(self.alloc, low)?;
+        match first(ts) {
+            Some((Token::Key(Key::And), rest)) => {
+                let (high, rest) = self.sum(rest)?;
+                let high = Box::new(self.alloc, high)?;
+                Ok((Cond::Between(operand, negative, low, high), rest))
+            }
+            _ => Err(ParseRefusal::Syntax),
+        }
+    }
+
+    /// `expr AND expr`, after `BETWEEN`
+    fn between<'a>(
+        &self,
+        operand: Box<Expr>,
+        negative: bool,
+        ts: &'a [Spanned],
+    ) -> Result<(Cond, &'a [Spanned]), ParseRefusal>
+        requires expr { Nests shown.expr (read.expr self.now.depth) self.now.depth (E.pre self.now.expr) (E.post self.now.expr) }
+        requires cond { Nests shown.cond (read.cond self.now.depth) self.now.depth (C.pre self.now.cond) (C.post self.now.cond) }
+        requires query { Nests shown.query (read.query self.now.depth) self.now.depth (Q.pre self.now.query) (Q.post self.now.query) }
+        requires table { Nests shown.table (read.table self.now.depth) self.now.depth (T.pre self.now.table) (T.post self.now.table) }
+        ensures { Gives (λ x. (shown.cond x.0, token_list x.1.now)) result (read.between (read.expr self.now.depth) (read.cond self.now.depth) (read.query self.now.depth) (read.table self.now.depth) (shown.expr operand.value) negative (token_list ts.now)) }
+    {
+        let (low, rest) = self.sum(ts)?;
+        self.upper(operand, negative, low, rest)
+    }
+
+    /// `"(" query ")" | "(" expr { "," expr } ")"`, after `IN`
+    #[tactic(auto, using(sql_ast::specs::Shown::lists))]
+    fn in_after<'a>(
+        &self,
+        operand: Box<Expr>,
+        negative: bool,
+        ts: &'a [Spanned],
+    ) -> Result<(Cond, &'a [Spanned]), ParseRefusal>
+        requires expr { Nests shown.expr (read.expr self.now.depth) self.now.depth (E.pre self.now.expr) (E.post self.now.expr) }
+        requires cond { Nests shown.cond (read.cond self.now.depth) self.now.depth (C.pre self.now.cond) (C.post self.now.cond) }
+        requires query { Nests shown.query (read.query self.now.depth) self.now.depth (Q.pre self.now.query) (Q.post self.now.query) }
+        requires table { Nests shown.table (read.table self.now.depth) self.now.depth (T.pre self.now.table) (T.post self.now.table) }
+        ensures { Gives (λ x. (shown.cond x.0, token_list x.1.now)) result (read.in_after (read.expr self.now.depth) (read.cond self.now.depth) (read.query self.now.depth) (read.table self.now.depth) (shown.expr operand.value) negative (token_list ts.now)) }
+    {
+        match first(ts) {
+            Some((Token::LeftParen, rest)) => {
+                if at_query(rest) {
+                    let (query, rest) = self.nested_query(rest)?;
+                    let query = Box::new(self.alloc, query)?;
+                    let rest = close(rest)?;
+                    Ok((Cond::InQuery(operand, negative, query), rest))
+                } else {
+                    let (list, rest) = self.exprs(rest)?;
+                    let rest = close(rest)?;
+                    Ok((Cond::InList(operand, negative, list), rest))
+                }
+            }
+            _ => Err(ParseRefusal::Syntax),
+        }
+    }
+
+    /// `BETWEEN expr AND expr | IN .. | LIKE expr`, after `[ NOT ]`
+    fn negatable<'a>(
+        &self,
+        operand: Box<Expr>,
+        negative: bool,
+        ts: &'a [Spanned],
+    ) -> Result<(Cond, &'a [Spanned]), ParseRefusal>
+        requires expr { Nests shown.expr (read.expr self.now.depth) self.now.depth (E.pre self.now.expr) (E.post self.now.expr) }
+        requires cond { Nests shown.cond (read.cond self.now.depth) self.now.depth (C.pre self.now.cond) (C.post self.now.cond) }
+        requires query { Nests shown.query (read.query self.now.depth) self.now.depth (Q.pre self.now.query) (Q.post self.now.query) }
+        requires table { Nests shown.table (read.table self.now.depth) self.now.depth (T.pre self.now.table) (T.post self.now.table) }
+        ensures { Gives (λ x. (shown.cond x.0, token_list x.1.now)) result (read.negatable (read.expr self.now.depth) (read.cond self.now.depth) (read.query self.now.depth) (read.table self.now.depth) (shown.expr operand.value) negative (token_list ts.now)) }
+    {
+        match first(ts) {
+            Some((Token::Key(Key::Between), rest)) => self.between(operand, negative, rest),
+            Some((Token::Key(Key::In), rest)) => self.in_after(operand, negative, rest),
+            Some((Token::Key(Key::Like), rest)) => {
+                let (pattern, rest) = self.sum(rest)?;
+                let pattern = Box::new(self.alloc, pattern)?;
+                Ok((Cond::Like(operand, negative, pattern), rest))
+            }
+            _ => Err(ParseRefusal::Syntax),
+        }
+    }
+
+    /// `expr | ( ANY | SOME | ALL ) "(" query ")"`, after a comparison sign
+    fn compared<'a>(
+        &self,
+        operand: Box<Expr>,
+        op: CmpOp,
+        ts: &'a [Spanned],
+    ) -> Result<(Cond, &'a [Spanned]), ParseRefusal>
+        requires expr { Nests shown.expr (read.expr self.now.depth) self.now.depth (E.pre self.now.expr) (E.post self.now.expr) }
+        requires cond { Nests shown.cond (read.cond self.now.depth) self.now.depth (C.pre self.now.cond) (C.post self.now.cond) }
+        requires query { Nests shown.query (read.query self.now.depth) self.now.depth (Q.pre self.now.query) (Q.post self.now.query) }
+        requires table { Nests shown.table (read.table self.now.depth) self.now.depth (T.pre self.now.table) (T.post self.now.table) }
+        ensures { Gives (λ x. (shown.cond x.0, token_list x.1.now)) result (read.compared (read.expr self.now.depth) (read.cond self.now.depth) (read.query self.now.depth) (read.table self.now.depth) (shown.expr operand.value) op (token_list ts.now)) }
+    {
+        match quantifier_at(ts) {
+            None => {
+                let (right, rest) = self.sum(ts)?;
+                let right = Box::new(self.alloc, right)?;
+                Ok((Cond::Compare(operand, op, right), rest))
+            }
+            Some((quantifier, rest)) => match first(rest) {
+                Some((Token::LeftParen, rest)) => {
+                    let (query, rest) = self.nested_query(rest)?;
+                    let query = Box::new(self.alloc, query)?;
+                    let rest = close(rest)?;
+                    Ok((Cond::Quantified(operand, op, quantifier, query), rest))
+                }
+                _ => Err(ParseRefusal::Syntax),
+            },
+        }
+    }
+
+    /// `NULL`, after `IS [ NOT ]`
+    fn null_word<'a>(
+        &self,
+        operand: Box<Expr>,
+        negative: bool,
+        ts: &'a [Spanned],
+    ) -> Result<(Cond, &'a [Spanned]), ParseRefusal>
+        requires expr { Nests shown.expr (read.expr self.now.depth) self.now.depth (E.pre self.now.expr) (E.post self.now.expr) }
+        requires cond { Nests shown.cond (read.cond self.now.depth) self.now.depth (C.pre self.now.cond) (C.post self.now.cond) }
+        requires query { Nests shown.query (read.query self.now.depth) self.now.depth (Q.pre self.now.query) (Q.post self.now.query) }
+        requires table { Nests shown.table (read.table self.now.depth) self.now.depth (T.pre self.now.table) (T.post self.now.table) }
+        ensures { Gives (λ x. (shown.cond x.0, token_list x.1.now)) result (read.null_word (read.expr self.now.depth) (read.cond self.now.depth) (read.query self.now.depth) (read.table self.now.depth) (shown.expr operand.value) negative (token_list ts.now)) }
+    {
+        match first(ts) {
+            Some((Token::Key(Key::Null), rest)) => Ok((Cond::IsNull(operand, negative), rest)),
+            _ => Err(ParseRefusal::Syntax),
+        }
+    }
+
+    /// What follows the first operand of a predicate
+    fn pred_after<'a>(
+        &self,
+        operand: Expr,
+        ts: &'a [Spanned],
+    ) -> Result<(Cond, &'a [Spanned]), ParseRefusal>
+        requires expr { Nests shown.expr (read.expr self.now.depth) self.now.depth (E.pre self.now.expr) (E.post self.now.expr) }
+        requires cond { Nests shown.cond (read.cond self.now.depth) self.now.depth (C.pre self.now.cond) (C.post self.now.cond) }
+        requires query { Nests shown.query (read.query self.now.depth) self.now.depth (Q.pre self.now.query) (Q.post self.now.query) }
+        requires table { Nests shown.table (read.table self.now.depth) self.now.depth (T.pre self.now.table) (T.post self.now.table) }
+        ensures { Gives (λ x. (shown.cond x.0, token_list x.1.now)) result (read.pred_after (read.expr self.now.depth) (read.cond self.now.depth) (read.query self.now.depth) (read.table self.now.depth) (shown.expr operand) (token_list ts.now)) }
+    {
+        let operand = Box::new(self.alloc, operand)?;
+        match first(ts) {
+            Some((Token::Compare(op), rest)) => self.compared(operand, *op, rest),
+            Some((Token::Key(Key::Is), rest)) => {
+                let (negative, rest) = not_at(rest);
+                self.null_word(operand, negative, rest)
+            }
+            _ => {
+                let (negative, rest) = not_at(ts);
+                self.negatable(operand, negative, rest)
+            }
+        }
+    }
+
+    /// `"(" query ")"`, after `EXISTS`
+    fn exists<'a>(&self, ts: &'a [Spanned]) -> Result<(Cond, &'a [Spanned]), ParseRefusal>
+        requires expr { Nests shown.expr (read.expr self.now.depth) self.now.depth (E.pre self.now.expr) (E.post self.now.expr) }
+        requires cond { Nests shown.cond (read.cond self.now.depth) self.now.depth (C.pre self.now.cond) (C.post self.now.cond) }
+        requires query { Nests shown.query (read.query self.now.depth) self.now.depth (Q.pre self.now.query) (Q.post self.now.query) }
+        requires table { Nests shown.table (read.table self.now.depth) self.now.depth (T.pre self.now.table) (T.post self.now.table) }
+        ensures { Gives (λ x. (shown.cond x.0, token_list x.1.now)) result (read.sub (read.expr self.now.depth) (read.cond self.now.depth) (read.query self.now.depth) (read.table self.now.depth) s.exists (token_list ts.now)) }
+    {
+        match first(ts) {
+            Some((Token::LeftParen, rest)) => {
+                let (query, rest) = self.nested_query(rest)?;
+                let query = Box::new(self.alloc, query)?;
+                let rest = close(rest)?;
+                Ok((Cond::Exists(query), rest))
+            }
+            _ => Err(ParseRefusal::Syntax),
+        }
+    }
+
+    /// A predicate
+    fn pred<'a>(&self, ts: &'a [Spanned]) -> Result<(Cond, &'a [Spanned]), ParseRefusal>
+        requires expr { Nests shown.expr (read.expr self.now.depth) self.now.depth (E.pre self.now.expr) (E.post self.now.expr) }
+        requires cond { Nests shown.cond (read.cond self.now.depth) self.now.depth (C.pre self.now.cond) (C.post self.now.cond) }
+        requires query { Nests shown.query (read.query self.now.depth) self.now.depth (Q.pre self.now.query) (Q.post self.now.query) }
+        requires table { Nests shown.table (read.table self.now.depth) self.now.depth (T.pre self.now.table) (T.post self.now.table) }
+        ensures { Gives (λ x. (shown.cond x.0, token_list x.1.now)) result (read.pred (read.expr self.now.depth) (read.cond self.now.depth) (read.query self.now.depth) (read.table self.now.depth) (token_list ts.now)) }
+    {
+        match after_exists(ts) {
+            Some(rest) => self.exists(rest),
+            None => {
+                let (operand, rest) = self.sum(ts)?;
+                self.pred_after(operand, rest)
+            }
+        }
+    }
+
+    /// `"(" cond ")"`
+    fn bracket<'a>(&self, ts: &'a [Spanned]) -> Result<(Cond, &'a [Spanned]), ParseRefusal>
+        requires expr { Nests shown.expr (read.expr self.now.depth) self.now.depth (E.pre self.now.expr) (E.post self.now.expr) }
+        requires cond { Nests shown.cond (read.cond self.now.depth) self.now.depth (C.pre self.now.cond) (C.post self.now.cond) }
+        requires query { Nests shown.query (read.query self.now.depth) self.now.depth (Q.pre self.now.query) (Q.post self.now.query) }
+        requires table { Nests shown.table (read.table self.now.depth) self.now.depth (T.pre self.now.table) (T.post self.now.table) }
+        ensures { Gives (λ x. (shown.cond x.0, token_list x.1.now)) result (read.bracket (read.expr self.now.depth) (read.cond self.now.depth) (read.query self.now.depth) (read.table self.now.depth) (token_list ts.now)) }
+    {
+        match first(ts) {
+            Some((Token::LeftParen, rest)) => {
+                let (inner, rest) = self.nested_cond(rest)?;
+                let inner = Box::new(self.alloc, inner)?;
+                let rest = close(rest)?;
+                Ok((Cond::Bracket(inner), rest))
+            }
+            _ => Err(ParseRefusal::Syntax),
+        }
+    }
+
+    /// `pred | "(" cond ")"`
+    fn test<'a>(&self, ts: &'a [Spanned]) -> Result<(Cond, &'a [Spanned]), ParseRefusal>
+        requires expr { Nests shown.expr (read.expr self.now.depth) self.now.depth (E.pre self.now.expr) (E.post self.now.expr) }
+        requires cond { Nests shown.cond (read.cond self.now.depth) self.now.depth (C.pre self.now.cond) (C.post self.now.cond) }
+        requires query { Nests shown.query (read.query self.now.depth) self.now.depth (Q.pre self.now.query) (Q.post self.now.query) }
+        requires table { Nests shown.table (read.table self.now.depth) self.now.depth (T.pre self.now.table) (T.post self.now.table) }
+        ensures { Gives (λ x. (shown.cond x.0, token_list x.1.now)) result (read.test (read.expr self.now.depth) (read.cond self.now.depth) (read.query self.now.depth) (read.table self.now.depth) (token_list ts.now)) }
+    {
+        if opens_cond(ts) {
+            self.bracket(ts)
+        } else {
+            self.pred(ts)
+        }
+    }
+
+    /// `neg = [ NOT ] ( pred | "(" cond ")" )`
+    fn neg<'a>(&self, ts: &'a [Spanned]) -> Result<(Cond, &'a [Spanned]), ParseRefusal>
+        requires expr { Nests shown.expr (read.expr self.now.depth) self.now.depth (E.pre self.now.expr) (E.post self.now.expr) }
+        requires cond { Nests shown.cond (read.cond self.now.depth) self.now.depth (C.pre self.now.cond) (C.post self.now.cond) }
+        requires query { Nests shown.query (read.query self.now.depth) self.now.depth (Q.pre self.now.query) (Q.post self.now.query) }
+        requires table { Nests shown.table (read.table self.now.depth) self.now.depth (T.pre self.now.table) (T.post self.now.table) }
+        ensures { Gives (λ x. (shown.cond x.0, token_list x.1.now)) result (read.neg (read.expr self.now.depth) (read.cond self.now.depth) (read.query self.now.depth) (read.table self.now.depth) (token_list ts.now)) }
+    {
+        match after_not(ts) {
+            Some(rest) => {
+                let (inner, rest) = self.test(rest)?;
+                Ok((Cond::Not(Box::new(self.alloc, inner)?), rest))
+            }
+            None => self.test(ts),
+        }
+    }
+
+    /// `conj = neg { AND neg }`
+    fn conj<'a>(&self, ts: &'a [Spanned]) -> Result<(Cond, &'a [Spanned]), ParseRefusal>
+        requires expr { Nests shown.expr (read.expr self.now.depth) self.now.depth (E.pre self.now.expr) (E.post self.now.expr) }
+        requires cond { Nests shown.cond (read.cond self.now.depth) self.now.depth (C.pre self.now.cond) (C.post self.now.cond) }
+        requires query { Nests shown.query (read.query self.now.depth) self.now.depth (Q.pre self.now.query) (Q.post self.now.query) }
+        requires table { Nests shown.table (read.table self.now.depth) self.now.depth (T.pre self.now.table) (T.post self.now.table) }
+        ensures { Gives (λ x. (shown.cond x.0, token_list x.1.now)) result (read.conj (read.expr self.now.depth) (read.cond self.now.depth) (read.query self.now.depth) (read.table self.now.depth) (token_list ts.now)) }
+    {
+        let (mut left, mut rest) = self.neg(ts)?;
+        'negs: for _turn in 0..ts.len() {
+            match after_and(rest) {
+                None => return Ok((left, rest)),
+                Some(after) => {
+                    let (right, after) = self.neg(after)?;
+                    left = Cond::And(Box::new(self.alloc, left)?, Box::new(self.alloc, right)?);
+                    rest = after;
+                }
+            }
+        }
+        Ok((left, rest))
+    }
+
+    /// `cond = conj { OR conj }`
+    pub fn disj<'a>(&self, ts: &'a [Spanned]) -> Result<(Cond, &'a [Spanned]), ParseRefusal>
+        requires expr { Nests shown.expr (read.expr self.now.depth) self.now.depth (E.pre self.now.expr) (E.post self.now.expr) }
+        requires cond { Nests shown.cond (read.cond self.now.depth) self.now.depth (C.pre self.now.cond) (C.post self.now.cond) }
+        requires query { Nests shown.query (read.query self.now.depth) self.now.depth (Q.pre self.now.query) (Q.post self.now.query) }
+        requires table { Nests shown.table (read.table self.now.depth) self.now.depth (T.pre self.now.table) (T.post self.now.table) }
+        ensures { Gives (λ x. (shown.cond x.0, token_list x.1.now)) result (read.disj (read.expr self.now.depth) (read.cond self.now.depth) (read.query self.now.depth) (read.table self.now.depth) (token_list ts.now)) }
+    {
+        let (mut left, mut rest) = self.conj(ts)?;
+        'conjs: for _turn in 0..ts.len() {
+            match after_or(rest) {
+                None => return Ok((left, rest)),
+                Some(after) => {
+                    let (right, after) = self.conj(after)?;
+                    left = Cond::Or(Box::new(self.alloc, left)?, Box::new(self.alloc, right)?);
+                    rest = after;
+                }
+            }
+        }
+        Ok((left, rest))
+    }
+
+    /// `[ WHERE cond ]`
+    pub fn where_filter<'a>(
+        &self,
+        ts: &'a [Spanned],
+    ) -> Result<(Filter, &'a [Spanned]), ParseRefusal>
+        requires expr { Nests shown.expr (read.expr self.now.depth) self.now.depth (E.pre self.now.expr) (E.post self.now.expr) }
+        requires cond { Nests shown.cond (read.cond self.now.depth) self.now.depth (C.pre self.now.cond) (C.post self.now.cond) }
+        requires query { Nests shown.query (read.query self.now.depth) self.now.depth (Q.pre self.now.query) (Q.post self.now.query) }
+        requires table { Nests shown.table (read.table self.now.depth) self.now.depth (T.pre self.now.table) (T.post self.now.table) }
+        ensures { Gives (λ x. (shown.filter x.0, token_list x.1.now)) result (read.where_filter (read.expr self.now.depth) (read.cond self.now.depth) (read.query self.now.depth) (read.table self.now.depth) (token_list ts.now)) }
+    {
+        match first(ts) {
+            Some((Token::Key(Key::Where), rest)) => {
+                let (cond, rest) = self.disj(rest)?;
+                Ok((Filter::Given(Box::new(self.alloc, cond)?), rest))
+            }
+            _ => Ok((Filter::Absent, ts)),
+        }
+    }
+
+    /// `[ HAVING cond ]`
+    pub fn having_filter<'a>(
+        &self,
+        ts: &'a [Spanned],
+    ) -> Result<(Filter, &'a [Spanned]), ParseRefusal>
+        requires expr { Nests shown.expr (read.expr self.now.depth) self.now.depth (E.pre self.now.expr) (E.post self.now.expr) }
+        requires cond { Nests shown.cond (read.cond self.now.depth) self.now.depth (C.pre self.now.cond) (C.post self.now.cond) }
+        requires query { Nests shown.query (read.query self.now.depth) self.now.depth (Q.pre self.now.query) (Q.post self.now.query) }
+        requires table { Nests shown.table (read.table self.now.depth) self.now.depth (T.pre self.now.table) (T.post self.now.table) }
+        ensures { Gives (λ x. (shown.filter x.0, token_list x.1.now)) result (read.having_filter (read.expr self.now.depth) (read.cond self.now.depth) (read.query self.now.depth) (read.table self.now.depth) (token_list ts.now)) }
+    {
+        match first(ts) {
+            Some((Token::Key(Key::Having), rest)) => {
+                let (cond, rest) = self.disj(rest)?;
+                Ok((Filter::Given(Box::new(self.alloc, cond)?), rest))
+            }
+            _ => Ok((Filter::Absent, ts)),
+        }
+    }
+}

@@ -1,0 +1,364 @@
+// Expressions (SQL-92, 6.11 to 6.14, 6.5 and 6.9).
+ghost use Rattle.std.specs.Prelude.{◌≡◌};
+ghost use Rattle.sql_ast.specs.Shown as shown;
+ghost use Rattle.sql_parser.specs.Nests.{Nests};
+ghost use Rattle.sql_parser.specs.Read as read;
+ghost use Rattle.sql_parser.specs.Words.{Gives};
+ghost use Rattle.sql_text.specs.Tokens.{token_list};
+
+use crate::ahead::at_query;
+use crate::grammar::Grammar;
+use crate::naming::column_after;
+use crate::refusal::ParseRefusal;
+use crate::word::{
+    additive_at, after_comma, close, data_type, first, multiplicative_at, set_quantifier_at,
+};
+use sql_ast::{Cond, Expr, Query, SetFunction, Sign, TableRef};
+use sql_text::{Key, Spanned, Token};
+use sqlite_items::Items;
+use std::alloc::Global;
+
+impl<
+    E: Fn(Global, u8, &[Spanned]) -> Result<(Expr, &[Spanned]), ParseRefusal>,
+    C: Fn(Global, u8, &[Spanned]) -> Result<(Cond, &[Spanned]), ParseRefusal>,
+    Q: Fn(Global, u8, &[Spanned]) -> Result<(Query, &[Spanned]), ParseRefusal>,
+    T: Fn(Global, u8, &[Spanned]) -> Result<(TableRef, &[Spanned]), ParseRefusal>,
+> Grammar<E, C, Q, T> {
+    /// `expr { "," expr }`, in brackets
+    pub fn exprs<'a>(&self, ts: &'a [Spanned]) -> Result<(Items<Expr>, &'a [Spanned]), ParseRefusal>
+        requires expr { Nests shown.expr (read.expr self.now.depth) self.now.depth (E.pre self.now.expr) (E.post self.now.expr) }
+        requires cond { Nests shown.cond (read.cond self.now.depth) self.now.depth (C.pre self.now.cond) (C.post self.now.cond) }
+        requires query { Nests shown.query (read.query self.now.depth) self.now.depth (Q.pre self.now.query) (Q.post self.now.query) }
+        requires table { Nests shown.table (read.table self.now.depth) self.now.depth (T.pre self.now.table) (T.post self.now.table) }
+        ensures { Gives (λ x. (shown.expr_list x.0, token_list x.1.now)) result (read.exprs (read.expr self.now.depth) (read.cond self.now.depth) (read.query self.now.depth) (read.table self.now.depth) (token_list ts.now)) }
+    {
+        let (first, after) = self.nested_expr(ts)?;
+        let mut exprs = Items::new(self.alloc);
+        exprs.push(first)?;
+        let mut rest = after;
+        'exprs: for _turn in 0..after.len() {
+            match after_comma(rest) {
+                None => return Ok((exprs, rest)),
+                Some(next) => {
+                    let (item, next) = self.nested_expr(next)?;
+                    exprs.push(item)?;
+                    rest = next;
+                }
+            }
+        }
+        Ok((exprs, rest))
+    }
+
+    /// `"(" [ ALL | DISTINCT ] expr ")"`, after the name of an aggregate
+    fn aggregate<'a>(
+        &self,
+        function: SetFunction,
+        ts: &'a [Spanned],
+    ) -> Result<(Expr, &'a [Spanned]), ParseRefusal>
+        requires expr { Nests shown.expr (read.expr self.now.depth) self.now.depth (E.pre self.now.expr) (E.post self.now.expr) }
+        requires cond { Nests shown.cond (read.cond self.now.depth) self.now.depth (C.pre self.now.cond) (C.post self.now.cond) }
+        requires query { Nests shown.query (read.query self.now.depth) self.now.depth (Q.pre self.now.query) (Q.post self.now.query) }
+        requires table { Nests shown.table (read.table self.now.depth) self.now.depth (T.pre self.now.table) (T.post self.now.table) }
+        ensures { Gives (λ x. (shown.expr x.0, token_list x.1.now)) result (read.aggregate (read.expr self.now.depth) (read.cond self.now.depth) (read.query self.now.depth) (read.table self.now.depth) function (token_list ts.now)) }
+    {
+        match first(ts) {
+            Some((Token::LeftParen, rest)) => {
+                let (quantifier, rest) = set_quantifier_at(rest);
+                let (operand, rest) = self.nested_expr(rest)?;
+                let operand = Box::new(self.alloc, operand)?;
+                let rest = close(rest)?;
+                Ok((Expr::Aggregate(function, quantifier, operand), rest))
+            }
+            _ => Err(ParseRefusal::Syntax),
+        }
+    }
+
+    /// `"(" "*" ")" | "(" [ ALL | DISTINCT ] expr ")"`, after `COUNT`
+    fn count<'a>(&self, ts: &'a [Spanned]) -> Result<(Expr, &'a [Spanned]), ParseRefusal>
+        requires expr { Nests shown.expr (read.expr self.now.depth) self.now.depth (E.pre self.now.expr) (E.post self.now.expr) }
+        requires cond { Nests shown.cond (read.cond self.now.depth) self.now.depth (C.pre self.now.cond) (C.post self.now.cond) }
+        requires query { Nests shown.query (read.query self.now.depth) self.now.depth (Q.pre self.now.query) (Q.post self.now.query) }
+        requires table { Nests shown.table (read.table self.now.depth) self.now.depth (T.pre self.now.table) (T.post self.now.table) }
+        ensures { Gives (λ x. (shown.expr x.0, token_list x.1.now)) result (read.count (read.expr self.now.depth) (read.cond self.now.depth) (read.query self.now.depth) (read.table self.now.depth) (token_list ts.now)) }
+    {
+        match ts {
+            [
+                Spanned {
+                    token: Token::LeftParen,
+                    ..
+                },
+                Spanned {
+                    token: Token::Star,
+                    ..
+                },
+                rest @ ..,
+            ] => {
+                let rest = close(rest)?;
+                Ok((Expr::CountAll, rest))
+            }
+            _ => self.aggregate(SetFunction::Count, ts),
+        }
+    }
+
+    /// `{ "," expr } ")"`, with one expression at least, after the first of `COALESCE`
+    #[tactic(auto, using(sql_ast::specs::Shown::lists))]
+    fn coalesce_rest<'a>(
+        &self,
+        operand: Expr,
+        ts: &'a [Spanned],
+    ) -> Result<(Expr, &'a [Spanned]), ParseRefusal>
+        requires expr { Nests shown.expr (read.expr self.now.depth) self.now.depth (E.pre self.now.expr) (E.post self.now.expr) }
+        requires cond { Nests shown.cond (read.cond self.now.depth) self.now.depth (C.pre self.now.cond) (C.post self.now.cond) }
+        requires query { Nests shown.query (read.query self.now.depth) self.now.depth (Q.pre self.now.query) (Q.post self.now.query) }
+        requires table { Nests shown.table (read.table self.now.depth) self.now.depth (T.pre self.now.table) (T.post self.now.table) }
+        ensures { Gives (λ x. (shown.expr x.0, token_list x.1.now)) result (read.coalesce_rest (read.expr self.now.depth) (read.cond self.now.depth) (read.query self.now.depth) (read.table self.now.depth) (shown.expr operand) (token_list ts.now)) }
+    {
+        let operand = Box::new(self.alloc, operand)?;
+        match first(ts) {
+            Some((Token::Comma, rest)) => {
+                let (others, rest) = self.exprs(rest)?;
+                let rest = close(rest)?;
+                Ok((Expr::Coalesce(operand, others), rest))
+            }
+            _ => Err(ParseRefusal::Syntax),
+        }
+    }
+
+    /// `"(" expr "," expr { "," expr } ")"`, after `COALESCE`
+    fn coalesce<'a>(&self, ts: &'a [Spanned]) -> Result<(Expr, &'a [Spanned]), ParseRefusal>
+        requires expr { Nests shown.expr (read.expr self.now.depth) self.now.depth (E.pre self.now.expr) (E.post self.now.expr) }
+        requires cond { Nests shown.cond (read.cond self.now.depth) self.now.depth (C.pre self.now.cond) (C.post self.now.cond) }
+        requires query { Nests shown.query (read.query self.now.depth) self.now.depth (Q.pre self.now.query) (Q.post self.now.query) }
+        requires table { Nests shown.table (read.table self.now.depth) self.now.depth (T.pre self.now.table) (T.post self.now.table) }
+        ensures { Gives (λ x. (shown.expr x.0, token_list x.1.now)) result (read.coalesce (read.expr self.now.depth) (read.cond self.now.depth) (read.query self.now.depth) (read.table self.now.depth) (token_list ts.now)) }
+    {
+        match first(ts) {
+            Some((Token::LeftParen, rest)) => {
+                let (operand, rest) = self.nested_expr(rest)?;
+                self.coalesce_rest(operand, rest)
+            }
+            _ => Err(ParseRefusal::Syntax),
+        }
+    }
+
+    /// `"," expr ")"`, after the first of `NULLIF`
+    fn null_if_rest<'a>(
+        &self,
+        a: Expr,
+        ts: &'a [Spanned],
+    ) -> Result<(Expr, &'a [Spanned]), ParseRefusal>
+        requires expr { Nests shown.expr (read.expr self.now.depth) self.now.depth (E.pre self.now.expr) (E.post self.now.expr) }
+        requires cond { Nests shown.cond (read.cond self.now.depth) self.now.depth (C.pre self.now.cond) (C.post self.now.cond) }
+        requires query { Nests shown.query (read.query self.now.depth) self.now.depth (Q.pre self.now.query) (Q.post self.now.query) }
+        requires table { Nests shown.table (read.table self.now.depth) self.now.depth (T.pre self.now.table) (T.post self.now.table) }
+        ensures { Gives (λ x. (shown.expr x.0, token_list x.1.now)) result (read.null_if_rest (read.expr self.now.depth) (read.cond self.now.depth) (read.query self.now.depth) (read.table self.now.depth) (shown.expr a) (token_list ts.now)) }
+    {
+        let a = Box::new(self.alloc, a)?;
+        match first(ts) {
+            Some((Token::Comma, rest)) => {
+                let (b, rest) = self.nested_expr(rest)?;
+                let b = Box::new(self.alloc, b)?;
+                let rest = close(rest)?;
+                Ok((Expr::NullIf(a, b), rest))
+            }
+            _ => Err(ParseRefusal::Syntax),
+        }
+    }
+
+    /// `"(" expr "," expr ")"`, after `NULLIF`
+    fn null_if<'a>(&self, ts: &'a [Spanned]) -> Result<(Expr, &'a [Spanned]), ParseRefusal>
+        requires expr { Nests shown.expr (read.expr self.now.depth) self.now.depth (E.pre self.now.expr) (E.post self.now.expr) }
+        requires cond { Nests shown.cond (read.cond self.now.depth) self.now.depth (C.pre self.now.cond) (C.post self.now.cond) }
+        requires query { Nests shown.query (read.query self.now.depth) self.now.depth (Q.pre self.now.query) (Q.post self.now.query) }
+        requires table { Nests shown.table (read.table self.now.depth) self.now.depth (T.pre self.now.table) (T.post self.now.table) }
+        ensures { Gives (λ x. (shown.expr x.0, token_list x.1.now)) result (read.null_if (read.expr self.now.depth) (read.cond self.now.depth) (read.query self.now.depth) (read.table self.now.depth) (token_list ts.now)) }
+    {
+        match first(ts) {
+            Some((Token::LeftParen, rest)) => {
+                let (a, rest) = self.nested_expr(rest)?;
+                self.null_if_rest(a, rest)
+            }
+            _ => Err(ParseRefusal::Syntax),
+        }
+    }
+
+    /// `AS type ")"`, after `CAST "(" NULL`
+    fn cast_type<'a>(&self, ts: &'a [Spanned]) -> Result<(Expr, &'a [Spanned]), ParseRefusal>
+        requires expr { Nests shown.expr (read.expr self.now.depth) self.now.depth (E.pre self.now.expr) (E.post self.now.expr) }
+        requires cond { Nests shown.cond (read.cond self.now.depth) self.now.depth (C.pre self.now.cond) (C.post self.now.cond) }
+        requires query { Nests shown.query (read.query self.now.depth) self.now.depth (Q.pre self.now.query) (Q.post self.now.query) }
+        requires table { Nests shown.table (read.table self.now.depth) self.now.depth (T.pre self.now.table) (T.post self.now.table) }
+        ensures { Gives (λ x. (shown.expr x.0, token_list x.1.now)) result (read.cast_type (read.expr self.now.depth) (read.cond self.now.depth) (read.query self.now.depth) (read.table self.now.depth) (token_list ts.now)) }
+    {
+        match first(ts) {
+            Some((Token::Key(Key::As), rest)) => {
+                let (data_type, rest) = data_type(rest)?;
+                let rest = close(rest)?;
+                Ok((Expr::CastNull(data_type), rest))
+            }
+            _ => Err(ParseRefusal::Syntax),
+        }
+    }
+
+    /// `"(" NULL AS type ")"`, after `CAST`
+    fn cast<'a>(&self, ts: &'a [Spanned]) -> Result<(Expr, &'a [Spanned]), ParseRefusal>
+        requires expr { Nests shown.expr (read.expr self.now.depth) self.now.depth (E.pre self.now.expr) (E.post self.now.expr) }
+        requires cond { Nests shown.cond (read.cond self.now.depth) self.now.depth (C.pre self.now.cond) (C.post self.now.cond) }
+        requires query { Nests shown.query (read.query self.now.depth) self.now.depth (Q.pre self.now.query) (Q.post self.now.query) }
+        requires table { Nests shown.table (read.table self.now.depth) self.now.depth (T.pre self.now.table) (T.post self.now.table) }
+        ensures { Gives (λ x. (shown.expr x.0, token_list x.1.now)) result (read.cast (read.expr self.now.depth) (read.cond self.now.depth) (read.query self.now.depth) (read.table self.now.depth) (token_list ts.now)) }
+    {
+        match ts {
+            [
+                Spanned {
+                    token: Token::LeftParen,
+                    ..
+                },
+                Spanned {
+                    token: Token::Key(Key::Null),
+                    ..
+                },
+                rest @ ..,
+            ] => self.cast_type(rest),
+            _ => Err(ParseRefusal::Syntax),
+        }
+    }
+
+    /// A prim that begins with a key word, after that word
+    fn word_prim<'a>(
+        &self,
+        word: Key,
+        ts: &'a [Spanned],
+    ) -> Result<(Expr, &'a [Spanned]), ParseRefusal>
+        requires expr { Nests shown.expr (read.expr self.now.depth) self.now.depth (E.pre self.now.expr) (E.post self.now.expr) }
+        requires cond { Nests shown.cond (read.cond self.now.depth) self.now.depth (C.pre self.now.cond) (C.post self.now.cond) }
+        requires query { Nests shown.query (read.query self.now.depth) self.now.depth (Q.pre self.now.query) (Q.post self.now.query) }
+        requires table { Nests shown.table (read.table self.now.depth) self.now.depth (T.pre self.now.table) (T.post self.now.table) }
+        ensures { Gives (λ x. (shown.expr x.0, token_list x.1.now)) result (read.word_prim (read.expr self.now.depth) (read.cond self.now.depth) (read.query self.now.depth) (read.table self.now.depth) word (token_list ts.now)) }
+    {
+        match word {
+            Key::Case => self.case(ts),
+            Key::Count => self.count(ts),
+            Key::Sum => self.aggregate(SetFunction::Sum, ts),
+            Key::Avg => self.aggregate(SetFunction::Avg, ts),
+            Key::Min => self.aggregate(SetFunction::Min, ts),
+            Key::Max => self.aggregate(SetFunction::Max, ts),
+            Key::Coalesce => self.coalesce(ts),
+            Key::NullIf => self.null_if(ts),
+            Key::Cast => self.cast(ts),
+            _ => Err(ParseRefusal::Syntax),
+        }
+    }
+
+    /// A number, a string, a column, a bracket, or what begins with a key word
+    fn prim<'a>(&self, ts: &'a [Spanned]) -> Result<(Expr, &'a [Spanned]), ParseRefusal>
+        requires expr { Nests shown.expr (read.expr self.now.depth) self.now.depth (E.pre self.now.expr) (E.post self.now.expr) }
+        requires cond { Nests shown.cond (read.cond self.now.depth) self.now.depth (C.pre self.now.cond) (C.post self.now.cond) }
+        requires query { Nests shown.query (read.query self.now.depth) self.now.depth (Q.pre self.now.query) (Q.post self.now.query) }
+        requires table { Nests shown.table (read.table self.now.depth) self.now.depth (T.pre self.now.table) (T.post self.now.table) }
+        ensures { Gives (λ x. (shown.expr x.0, token_list x.1.now)) result (read.prim (read.expr self.now.depth) (read.cond self.now.depth) (read.query self.now.depth) (read.table self.now.depth) (token_list ts.now)) }
+    {
+        match first(ts) {
+            Some((Token::Number(n), rest)) => Ok((Expr::Number(*n), rest)),
+            Some((Token::Str(x), rest)) => Ok((Expr::Str(x.copy(self.alloc)?), rest)),
+            Some((Token::Name(name), rest)) => {
+                let (column, rest) = column_after(self.alloc, name, rest)?;
+                Ok((Expr::Column(column), rest))
+            }
+            Some((Token::LeftParen, rest)) => {
+                if at_query(rest) {
+                    let (query, rest) = self.nested_query(rest)?;
+                    let query = Box::new(self.alloc, query)?;
+                    let rest = close(rest)?;
+                    Ok((Expr::Scalar(query), rest))
+                } else {
+                    let (operand, rest) = self.nested_expr(rest)?;
+                    let operand = Box::new(self.alloc, operand)?;
+                    let rest = close(rest)?;
+                    Ok((Expr::Paren(operand), rest))
+                }
+            }
+            Some((Token::Key(word), rest)) => self.word_prim(*word, rest),
+            _ => Err(ParseRefusal::Syntax),
+        }
+    }
+
+    /// `factor = [ "+" | "-" ] prim`
+    fn factor<'a>(&self, ts: &'a [Spanned]) -> Result<(Expr, &'a [Spanned]), ParseRefusal>
+        requires expr { Nests shown.expr (read.expr self.now.depth) self.now.depth (E.pre self.now.expr) (E.post self.now.expr) }
+        requires cond { Nests shown.cond (read.cond self.now.depth) self.now.depth (C.pre self.now.cond) (C.post self.now.cond) }
+        requires query { Nests shown.query (read.query self.now.depth) self.now.depth (Q.pre self.now.query) (Q.post self.now.query) }
+        requires table { Nests shown.table (read.table self.now.depth) self.now.depth (T.pre self.now.table) (T.post self.now.table) }
+        ensures { Gives (λ x. (shown.expr x.0, token_list x.1.now)) result (read.factor (read.expr self.now.depth) (read.cond self.now.depth) (read.query self.now.depth) (read.table self.now.depth) (token_list ts.now)) }
+    {
+        match first(ts) {
+            Some((Token::Plus, rest)) => {
+                let (operand, rest) = self.prim(rest)?;
+                Ok((
+                    Expr::Signed(Sign::Plus, Box::new(self.alloc, operand)?),
+                    rest,
+                ))
+            }
+            Some((Token::Minus, rest)) => {
+                let (operand, rest) = self.prim(rest)?;
+                Ok((
+                    Expr::Signed(Sign::Minus, Box::new(self.alloc, operand)?),
+                    rest,
+                ))
+            }
+            _ => self.prim(ts),
+        }
+    }
+
+    /// `term = factor { ( "*" | "/" ) factor }`
+    fn term<'a>(&self, ts: &'a [Spanned]) -> Result<(Expr, &'a [Spanned]), ParseRefusal>
+        requires expr { Nests shown.expr (read.expr self.now.depth) self.now.depth (E.pre self.now.expr) (E.post self.now.expr) }
+        requires cond { Nests shown.cond (read.cond self.now.depth) self.now.depth (C.pre self.now.cond) (C.post self.now.cond) }
+        requires query { Nests shown.query (read.query self.now.depth) self.now.depth (Q.pre self.now.query) (Q.post self.now.query) }
+        requires table { Nests shown.table (read.table self.now.depth) self.now.depth (T.pre self.now.table) (T.post self.now.table) }
+        ensures { Gives (λ x. (shown.expr x.0, token_list x.1.now)) result (read.term (read.expr self.now.depth) (read.cond self.now.depth) (read.query self.now.depth) (read.table self.now.depth) (token_list ts.now)) }
+    {
+        let (mut left, mut rest) = self.factor(ts)?;
+        'factors: for _turn in 0..ts.len() {
+            match multiplicative_at(rest) {
+                None => return Ok((left, rest)),
+                Some((op, after)) => {
+                    let (right, after) = self.factor(after)?;
+                    left = Expr::Multiply(
+                        Box::new(self.alloc, left)?,
+                        op,
+                        Box::new(self.alloc, right)?,
+                    );
+                    rest = after;
+                }
+            }
+        }
+        Ok((left, rest))
+    }
+
+    /// `expr = term { ( "+" | "-" | "||" ) term }`
+    pub fn sum<'a>(&self, ts: &'a [Spanned]) -> Result<(Expr, &'a [Spanned]), ParseRefusal>
+        requires expr { Nests shown.expr (read.expr self.now.depth) self.now.depth (E.pre self.now.expr) (E.post self.now.expr) }
+        requires cond { Nests shown.cond (read.cond self.now.depth) self.now.depth (C.pre self.now.cond) (C.post self.now.cond) }
+        requires query { Nests shown.query (read.query self.now.depth) self.now.depth (Q.pre self.now.query) (Q.post self.now.query) }
+        requires table { Nests shown.table (read.table self.now.depth) self.now.depth (T.pre self.now.table) (T.post self.now.table) }
+        ensures { Gives (λ x. (shown.expr x.0, token_list x.1.now)) result (read.sum (read.expr self.now.depth) (read.cond self.now.depth) (read.query self.now.depth) (read.table self.now.depth) (token_list ts.now)) }
+    {
+        let (mut left, mut rest) = self.term(ts)?;
+        'terms: for _turn in 0..ts.len() {
+            match additive_at(rest) {
+                None => return Ok((left, rest)),
+                Some((op, after)) => {
+                    let (right, after) = self.term(after)?;
+                    left = Expr::Add(
+                        Box::new(self.alloc, left)?,
+                        op,
+                        Box::new(self.alloc, right)?,
+                    );
+                    rest = after;
+                }
+            }
+        }
+        Ok((left, rest))
+    }
+}

@@ -1,0 +1,255 @@
+// Tables of a FROM.
+ghost use Rattle.std.specs.Prelude.{◌≡◌};
+ghost use Rattle.sql_ast.specs.Grammatical as grammatical;
+ghost use Rattle.sql_ast.specs.Shown as shown;
+ghost use Rattle.sql_parser.specs.Nests.{Nests};
+ghost use Rattle.sql_parser.specs.Read as read;
+ghost use Rattle.sql_parser.specs.Words.{Gives};
+ghost use Rattle.sql_parser.specs.declared.word.JoinKind.TheVariants as join_of;
+ghost use Rattle.sql_text.specs.Tokens.{token_list};
+
+use crate::ahead::at_query;
+use crate::grammar::Grammar;
+use crate::naming::{correlation, optional_correlation};
+use crate::refusal::ParseRefusal;
+use crate::sub::without_sub;
+use crate::word::{JoinKind, after_comma, first, join_at};
+use sql_ast::{Cond, Expr, Query, TableRef};
+use sql_text::{Key, Spanned, Token};
+use sqlite_items::Items;
+use std::alloc::Global;
+
+/// `")" [ AS ] name [ "(" names ")" ]`, after a query
+fn name_derived<'a>(
+    alloc: Global,
+    query: Query,
+    ts: &'a [Spanned],
+) -> Result<(TableRef, &'a [Spanned]), ParseRefusal>
+    ensures { Gives (λ x. (shown.table x.0, token_list x.1.now)) result (read.name_derived (shown.query query) (token_list ts.now)) }
+{
+    let query = Box::new(alloc, query)?;
+    match first(ts) {
+        Some((Token::RightParen, rest)) => {
+            let (named, rest) = correlation(alloc, rest)?;
+            Ok((TableRef::Derived(query, named), rest))
+        }
+        _ => Err(ParseRefusal::Syntax),
+    }
+}
+
+/// Whether a table has no join outside of brackets.
+fn is_tprim(x: &TableRef) -> bool
+    ensures { result ≡ grammatical.is_tprim (shown.table x.now) }
+{
+    match x {
+        TableRef::Join(..) | TableRef::LeftJoin(..) | TableRef::CrossJoin(..) => false,
+        TableRef::Named(..) | TableRef::Derived(..) | TableRef::Joined(_) => true,
+    }
+}
+
+/// `")"`, after a table with its joins
+fn close_join<'a>(
+    alloc: Global,
+    x: TableRef,
+    ts: &'a [Spanned],
+) -> Result<(TableRef, &'a [Spanned]), ParseRefusal>
+    ensures { Gives (λ x. (shown.table x.0, token_list x.1.now)) result (read.close_join (shown.table x) (token_list ts.now)) }
+{
+    let lone = is_tprim(&x);
+    let x = Box::new(alloc, x)?;
+    match first(ts) {
+        Some((Token::RightParen, rest)) => {
+            if lone {
+                Err(ParseRefusal::Syntax)
+            } else {
+                Ok((TableRef::Joined(x), rest))
+            }
+        }
+        _ => Err(ParseRefusal::Syntax),
+    }
+}
+
+impl<
+    E: Fn(Global, u8, &[Spanned]) -> Result<(Expr, &[Spanned]), ParseRefusal>,
+    C: Fn(Global, u8, &[Spanned]) -> Result<(Cond, &[Spanned]), ParseRefusal>,
+    Q: Fn(Global, u8, &[Spanned]) -> Result<(Query, &[Spanned]), ParseRefusal>,
+    T: Fn(Global, u8, &[Spanned]) -> Result<(TableRef, &[Spanned]), ParseRefusal>,
+> Grammar<E, C, Q, T> {
+    /// `tprim`
+    fn tprim<'a>(&self, ts: &'a [Spanned]) -> Result<(TableRef, &'a [Spanned]), ParseRefusal>
+        requires expr { Nests shown.expr (read.expr self.now.depth) self.now.depth (E.pre self.now.expr) (E.post self.now.expr) }
+        requires cond { Nests shown.cond (read.cond self.now.depth) self.now.depth (C.pre self.now.cond) (C.post self.now.cond) }
+        requires query { Nests shown.query (read.query self.now.depth) self.now.depth (Q.pre self.now.query) (Q.post self.now.query) }
+        requires table { Nests shown.table (read.table self.now.depth) self.now.depth (T.pre self.now.table) (T.post self.now.table) }
+        ensures { Gives (λ x. (shown.table x.0, token_list x.1.now)) result (read.tprim (read.expr self.now.depth) (read.cond self.now.depth) (read.query self.now.depth) (read.table self.now.depth) (token_list ts.now)) }
+    {
+        match first(ts) {
+            Some((Token::Name(name), rest)) => {
+                let (named, rest) = optional_correlation(self.alloc, rest)?;
+                let name = name.copy(self.alloc)?;
+                Ok((TableRef::Named(name, named), rest))
+            }
+            Some((Token::LeftParen, rest)) => {
+                if at_query(rest) {
+                    let (query, rest) = self.nested_query(rest)?;
+                    name_derived(self.alloc, query, rest)
+                } else {
+                    let (table, rest) = self.nested_table(rest)?;
+                    close_join(self.alloc, table, rest)
+                }
+            }
+            _ => Err(ParseRefusal::Syntax),
+        }
+    }
+
+    /// `ON cond`
+    fn on<'a>(&self, ts: &'a [Spanned]) -> Result<(Cond, &'a [Spanned]), ParseRefusal>
+        requires expr { Nests shown.expr (read.expr self.now.depth) self.now.depth (E.pre self.now.expr) (E.post self.now.expr) }
+        requires cond { Nests shown.cond (read.cond self.now.depth) self.now.depth (C.pre self.now.cond) (C.post self.now.cond) }
+        requires query { Nests shown.query (read.query self.now.depth) self.now.depth (Q.pre self.now.query) (Q.post self.now.query) }
+        requires table { Nests shown.table (read.table self.now.depth) self.now.depth (T.pre self.now.table) (T.post self.now.table) }
+        ensures { Gives (λ x. (shown.cond x.0, token_list x.1.now)) result (read.on (read.expr self.now.depth) (read.cond self.now.depth) (read.query self.now.depth) (read.table self.now.depth) (token_list ts.now)) }
+    {
+        match first(ts) {
+            Some((Token::Key(Key::On), rest)) => self.disj(rest),
+            _ => Err(ParseRefusal::Syntax),
+        }
+    }
+
+    /// `tprim ON cond`, after `[ INNER ] JOIN`
+    fn inner_join<'a>(
+        &self,
+        left: Box<TableRef>,
+        inner: bool,
+        ts: &'a [Spanned],
+    ) -> Result<(TableRef, &'a [Spanned]), ParseRefusal>
+        requires expr { Nests shown.expr (read.expr self.now.depth) self.now.depth (E.pre self.now.expr) (E.post self.now.expr) }
+        requires cond { Nests shown.cond (read.cond self.now.depth) self.now.depth (C.pre self.now.cond) (C.post self.now.cond) }
+        requires query { Nests shown.query (read.query self.now.depth) self.now.depth (Q.pre self.now.query) (Q.post self.now.query) }
+        requires table { Nests shown.table (read.table self.now.depth) self.now.depth (T.pre self.now.table) (T.post self.now.table) }
+        ensures { Gives (λ x. (shown.table x.0, token_list x.1.now)) result (read.join_after (read.expr self.now.depth) (read.cond self.now.depth) (read.query self.now.depth) (read.table self.now.depth) (shown.table left.value) (join_of.Inner inner) (token_list ts.now)) }
+    {
+        let (right, rest) = self.tprim(ts)?;
+        let right = Box::new(self.alloc, right)?;
+        let (on, rest) = self.on(rest)?;
+        let on = Box::new(self.alloc, on)?;
+        Ok((TableRef::Join(left, inner, right, on), rest))
+    }
+
+    /// `tprim ON cond`, after `LEFT [ OUTER ] JOIN`, where the cond holds no sub
+    fn left_join<'a>(
+        &self,
+        left: Box<TableRef>,
+        outer: bool,
+        ts: &'a [Spanned],
+    ) -> Result<(TableRef, &'a [Spanned]), ParseRefusal>
+        requires expr { Nests shown.expr (read.expr self.now.depth) self.now.depth (E.pre self.now.expr) (E.post self.now.expr) }
+        requires cond { Nests shown.cond (read.cond self.now.depth) self.now.depth (C.pre self.now.cond) (C.post self.now.cond) }
+        requires query { Nests shown.query (read.query self.now.depth) self.now.depth (Q.pre self.now.query) (Q.post self.now.query) }
+        requires table { Nests shown.table (read.table self.now.depth) self.now.depth (T.pre self.now.table) (T.post self.now.table) }
+        ensures { Gives (λ x. (shown.table x.0, token_list x.1.now)) result (read.join_after (read.expr self.now.depth) (read.cond self.now.depth) (read.query self.now.depth) (read.table self.now.depth) (shown.table left.value) (join_of.Left outer) (token_list ts.now)) }
+    {
+        let (right, rest) = self.tprim(ts)?;
+        let right = Box::new(self.alloc, right)?;
+        let (on, rest) = self.on(rest)?;
+        let fits = without_sub(&on);
+        let on = Box::new(self.alloc, on)?;
+        if fits {
+            Ok((TableRef::LeftJoin(left, outer, right, on), rest))
+        } else {
+            Err(ParseRefusal::Syntax)
+        }
+    }
+
+    /// What follows the words of a join: `tprim`, and its `ON cond` where the join has one
+    fn join_after<'a>(
+        &self,
+        left: TableRef,
+        kind: JoinKind,
+        ts: &'a [Spanned],
+    ) -> Result<(TableRef, &'a [Spanned]), ParseRefusal>
+        requires expr { Nests shown.expr (read.expr self.now.depth) self.now.depth (E.pre self.now.expr) (E.post self.now.expr) }
+        requires cond { Nests shown.cond (read.cond self.now.depth) self.now.depth (C.pre self.now.cond) (C.post self.now.cond) }
+        requires query { Nests shown.query (read.query self.now.depth) self.now.depth (Q.pre self.now.query) (Q.post self.now.query) }
+        requires table { Nests shown.table (read.table self.now.depth) self.now.depth (T.pre self.now.table) (T.post self.now.table) }
+        ensures { Gives (λ x. (shown.table x.0, token_list x.1.now)) result (read.join_after (read.expr self.now.depth) (read.cond self.now.depth) (read.query self.now.depth) (read.table self.now.depth) (shown.table left) kind (token_list ts.now)) }
+    {
+        let left = Box::new(self.alloc, left)?;
+        match kind {
+            JoinKind::Inner(inner) => self.inner_join(left, inner, ts),
+            JoinKind::Left(outer) => self.left_join(left, outer, ts),
+            JoinKind::Cross => {
+                let (right, rest) = self.tprim(ts)?;
+                let right = Box::new(self.alloc, right)?;
+                Ok((TableRef::CrossJoin(left, right), rest))
+            }
+        }
+    }
+
+    /// `tref = tprim { join }`
+    pub fn tref<'a>(&self, ts: &'a [Spanned]) -> Result<(TableRef, &'a [Spanned]), ParseRefusal>
+        requires expr { Nests shown.expr (read.expr self.now.depth) self.now.depth (E.pre self.now.expr) (E.post self.now.expr) }
+        requires cond { Nests shown.cond (read.cond self.now.depth) self.now.depth (C.pre self.now.cond) (C.post self.now.cond) }
+        requires query { Nests shown.query (read.query self.now.depth) self.now.depth (Q.pre self.now.query) (Q.post self.now.query) }
+        requires table { Nests shown.table (read.table self.now.depth) self.now.depth (T.pre self.now.table) (T.post self.now.table) }
+        ensures { Gives (λ x. (shown.table x.0, token_list x.1.now)) result (read.tref (read.expr self.now.depth) (read.cond self.now.depth) (read.query self.now.depth) (read.table self.now.depth) (token_list ts.now)) }
+    {
+        let (mut left, mut rest) = self.tprim(ts)?;
+        'joins: for _turn in 0..ts.len() {
+            match join_at(rest) {
+                None => return Ok((left, rest)),
+                Some((kind, after)) => {
+                    let (next, after) = self.join_after(left, kind, after)?;
+                    left = next;
+                    rest = after;
+                }
+            }
+        }
+        Ok((left, rest))
+    }
+
+    /// `tref { "," tref }`
+    fn tables<'a>(
+        &self,
+        ts: &'a [Spanned],
+    ) -> Result<(Items<TableRef>, &'a [Spanned]), ParseRefusal>
+        requires expr { Nests shown.expr (read.expr self.now.depth) self.now.depth (E.pre self.now.expr) (E.post self.now.expr) }
+        requires cond { Nests shown.cond (read.cond self.now.depth) self.now.depth (C.pre self.now.cond) (C.post self.now.cond) }
+        requires query { Nests shown.query (read.query self.now.depth) self.now.depth (Q.pre self.now.query) (Q.post self.now.query) }
+        requires table { Nests shown.table (read.table self.now.depth) self.now.depth (T.pre self.now.table) (T.post self.now.table) }
+        ensures { Gives (λ x. (shown.table_list x.0, token_list x.1.now)) result (read.tables (read.expr self.now.depth) (read.cond self.now.depth) (read.query self.now.depth) (read.table self.now.depth) (token_list ts.now)) }
+    {
+        let (table_first, after_first) = self.tref(ts)?;
+        let mut tables = Items::new(self.alloc);
+        tables.push(table_first)?;
+        let mut rest = after_first;
+        'tables: for _turn in 0..after_first.len() {
+            match after_comma(rest) {
+                None => return Ok((tables, rest)),
+                Some(after) => {
+                    let (next, after) = self.tref(after)?;
+                    tables.push(next)?;
+                    rest = after;
+                }
+            }
+        }
+        Ok((tables, rest))
+    }
+
+    /// `FROM tref { "," tref }`
+    pub fn from<'a>(
+        &self,
+        ts: &'a [Spanned],
+    ) -> Result<(Items<TableRef>, &'a [Spanned]), ParseRefusal>
+        requires expr { Nests shown.expr (read.expr self.now.depth) self.now.depth (E.pre self.now.expr) (E.post self.now.expr) }
+        requires cond { Nests shown.cond (read.cond self.now.depth) self.now.depth (C.pre self.now.cond) (C.post self.now.cond) }
+        requires query { Nests shown.query (read.query self.now.depth) self.now.depth (Q.pre self.now.query) (Q.post self.now.query) }
+        requires table { Nests shown.table (read.table self.now.depth) self.now.depth (T.pre self.now.table) (T.post self.now.table) }
+        ensures { Gives (λ x. (shown.table_list x.0, token_list x.1.now)) result (read.from (read.expr self.now.depth) (read.cond self.now.depth) (read.query self.now.depth) (read.table self.now.depth) (token_list ts.now)) }
+    {
+        match first(ts) {
+            Some((Token::Key(Key::From), rest)) => self.tables(rest),
+            _ => Err(ParseRefusal::Syntax),
+        }
+    }
+}

@@ -1,0 +1,1 @@
+SELECT '\' || 'N' FROM T

@@ -1,0 +1,1 @@
+SELECT A FROM T WHERE 1/(A-2) = 5 OR A = 2

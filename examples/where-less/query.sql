@@ -1,0 +1,1 @@
+select b from t where 1 < a;
