@@ -1,8 +1,10 @@
 -- The tables are of their declarations.
-use Rattle.std.proofs.Common.{ℕ, ◌+◌, ◌<◌, ◌≡◌, ◌∙◌, ◌==◌, List, [], ◌∷◌, ◌++◌, Option, Some, None, Result, Ok, Err, IfOk, get_or, length, take, refl, sym, subst, arith, inl, inr, Bool, true, false, ◌||◌, if◌then◌else◌, ℤ}
+use Rattle.std.proofs.Common.{ℕ, ◌+◌, ◌<◌, ◌≡◌, ◌∙◌, ◌==◌, List, [], ◌∷◌, ◌++◌, Option, Some, None, Result, Ok, Err, IfOk, get_or, length, take, refl, subst, arith, inl, inr, Bool, true, false, ◌||◌, ◌&&◌, if◌then◌else◌, ℤ}
 use Rattle.std.proofs.lemmas.Bool.{cases_Bool, eqb-true}
 use Rattle.std.proofs.lemmas.List.{take_more}
 use Rattle.std.proofs.lemmas.List.Elements.{All-append, All-cons, All-nil}
+use Rattle.std.proofs.lemmas.List.Folds.{list_any-append}
+use Rattle.std.specs.Cmp.{IsEquivalence}
 use Rattle.std.specs.Cmp.Lexicographic.{pointwise}
 use Rattle.std.specs.List.{All, AllZip, list_any}
 use Rattle.std.specs.Str.{bytes_eq, chars, is_utf8}
@@ -17,18 +19,23 @@ use Rattle.csv_tables.specs.declared.content.Content.{Content}
 use Rattle.csv_tables.specs.declared.content.Content.TheVariants.{Holds, BadInteger, TooLong, BadUtf8}
 use Rattle.csv_tables.specs.declared.refusal.DataRefusal.{DataRefusal}
 use Rattle.csv_tables.specs.declared.rule.Rule.{Rule}
-use Rattle.csv_tables.specs.declared.rule.Rule.TheVariants as rule
-use Rattle.csv_tables.specs.declared.shape.Shape.{Shape}
+use Rattle.sql_catalog.specs.Descriptor.{describe}
+use Rattle.sql_catalog.specs.declared.descriptor.ColumnDescriptor.{ColumnDescriptor}
+use Rattle.sql_catalog.specs.declared.descriptor.KeyDescriptor.{KeyDescriptor}
+use Rattle.sql_catalog.specs.declared.descriptor.TableDescriptor.{TableDescriptor}
 use Rattle.csv_tables.specs.Cells.{integer_of, is_null, null_text}
-use Rattle.csv_tables.specs.Contents.{content_of, integer_content, is_longer, number_content, text_content, unescaped, within_length}
-use Rattle.csv_tables.specs.Fits.{FitsRow, FitsSchema, FitsTable, OfType}
+use Rattle.csv_tables.specs.Contents.{content_of, integer_content, is_longer, number_content, text_content, unescaped}
+use Rattle.csv_tables.specs.Fits.{Distinct, FitsColumn, FitsRow, FitsRows, FitsSchema, FitsTable, OfType}
+use Rattle.csv_tables.specs.KeyCells.{is_among, is_null_cell, key_cells, keys_in, repeats, same_cells}
 use Rattle.csv_tables.specs.Loaded.{Answers, loaded}
 use Rattle.csv_tables.specs.Records.{Fields, records_of}
 use Rattle.csv_tables.specs.Rules.{Fault}
-use Rattle.csv_tables.specs.Shapes.{shape_of}
+use Rattle.csv_tables.specs.Seen.{and_some}
+use Rattle.csv_tables.specs.Ties.{cells_equiv}
 use Rattle.csv_tables.specs.TableFile.{table_of, table_with}
-use Rattle.csv_tables.specs.Tables.{◌>>=◌, broken_by, cells_of, contents_of, fits_name, is_bad_integer, is_bad_utf8, is_too_long, row_after, row_of_contents, row_unless, rows_after, table_row, table_rows, under_header}
-use Rattle.csv_tables.proofs.Rows.{unbroken}
+use Rattle.csv_tables.specs.Tables.{◌>>=◌, broken_by, cells_of, contents_of, fits_column, has_refused_null, row_after, row_unless, rows_after, table_row, table_rows, under_header}
+use Rattle.csv_tables.proofs.Rows.{unbroken-of}
+use Rattle.csv_tables.proofs.SeenSteps.{Sound, contents-back, keys-push}
 
 -- the cell of a content, where it is one
 abbrev HoldsOfType : DataType → Content → Type 0
@@ -76,87 +83,113 @@ content-fits types.Integer bs = integer-fits bs
 content-fits types.Int bs = int-fits bs
 content-fits (types.Varchar n) bs = text-fits n bs
 
--- a record that breaks no rule of its fields
-pub record Sound (xs : List Content) : Type 0 where
-  pub integers : list_any is_bad_integer xs ≡ false
-  pub texts : list_any is_too_long xs ≡ false
-  pub bytes : list_any is_bad_utf8 xs ≡ false
+both-false : (a b : Bool) → (a || b) ≡ false → (a ≡ false) × (b ≡ false)
+both-false true b e = absurd (cc e)
+both-false false b e = (refl, e)
 
-cells-first : (t : DataType) (ts : List DataType) (x : Content) (xs : List Content) → HoldsOfType t x → Sound (x ∷ xs) → (Sound xs → AllZip OfType ts (cells_of xs)) → AllZip OfType (t ∷ ts) (cells_of (x ∷ xs))
-cells-first t ts (Holds c) xs fits sound others = (fits, others (record { integers = sound.integers; texts = sound.texts; bytes = sound.bytes }))
-cells-first t ts BadInteger xs fits sound others = absurd (cc sound.integers)
-cells-first t ts TooLong xs fits sound others = absurd (cc sound.texts)
-cells-first t ts BadUtf8 xs fits sound others = absurd (cc sound.bytes)
+allowed-of : (r : Bool) (x : Cell) → (r && is_null_cell x) ≡ false → r ≡ true → x ≡ cell.Null → ⊥
+allowed-of r x e required null = let h : (true && is_null_cell cell.Null) ≡ false = rw (required, null) at e in absurd (cc h)
 
-cells-fit : (ts : List DataType) (fs : Fields) → length fs ≡ length ts → Sound (contents_of ts fs) → AllZip OfType ts (cells_of (contents_of ts fs))
+cells-first : (c : ColumnDescriptor) (cs : List ColumnDescriptor) (x : Content) (xs : List Content) → HoldsOfType c.data_type x → Sound (x ∷ xs) → has_refused_null (c ∷ cs) (x ∷ xs) ≡ false
+    → (Sound xs → has_refused_null cs xs ≡ false → AllZip FitsColumn cs (cells_of xs)) → AllZip FitsColumn (c ∷ cs) (cells_of (x ∷ xs))
+cells-first c cs (Holds y) xs fits sound e others =
+    let h = both-false (c.not_null && is_null_cell y) (has_refused_null cs xs) e in
+    (record { of_type = fits; allowed = allowed-of c.not_null y h.0 }, others (record { integers = sound.integers; texts = sound.texts; bytes = sound.bytes }) h.1)
+cells-first c cs BadInteger xs fits sound e others = absurd (cc sound.integers)
+cells-first c cs TooLong xs fits sound e others = absurd (cc sound.texts)
+cells-first c cs BadUtf8 xs fits sound e others = absurd (cc sound.bytes)
+
+cells-fit : (cs : List ColumnDescriptor) (fs : Fields) → length fs ≡ length cs → Sound (contents_of cs fs) → has_refused_null cs (contents_of cs fs) ≡ false → AllZip FitsColumn cs (cells_of (contents_of cs fs))
 unfolding contents_of
-cells-fit [] fs same sound = tt
-cells-fit (t ∷ ts) [] same sound = absurd (omega (arith, same))
-cells-fit (t ∷ ts) (f ∷ fs) same sound = cells-first t ts (content_of t f) (contents_of ts fs) (content-fits t f) sound (cells-fit ts fs (omega (arith, same)))
+cells-fit [] [] same sound e = tt
+cells-fit [] (f ∷ fs) same sound e = absurd (omega (arith, same))
+cells-fit (c ∷ cs) [] same sound e = absurd (omega (arith, same))
+cells-fit (c ∷ cs) (f ∷ fs) same sound e = cells-first c cs (content_of c.data_type f) (contents_of cs fs) (content-fits c.data_type f) sound e (cells-fit cs fs (omega (arith, same)))
 
 -- a row that a record has
-pub record Made (s : Shape) (before : List (Row (List Cell))) (fs : Fields) (row : Row (List Cell)) : Type 0 where
-  pub same : length fs ≡ length s.types
-  pub unbroken : broken_by s before (contents_of s.types fs) ≡ None
-  pub is : table_row (cells_of (contents_of s.types fs)) ≡ row
+pub record Made (s : TableDescriptor) (before : List (Row (List Cell))) (fs : Fields) (row : Row (List Cell)) : Type 0 where
+  pub same : length fs ≡ length s.columns
+  pub unbroken : broken_by s before (contents_of s.columns fs) ≡ None
+  pub is : table_row (cells_of (contents_of s.columns fs)) ≡ row
 
-made-of : (s : Shape) (before : List (Row (List Cell))) (fs : Fields) (row : Row (List Cell)) (broken : Option Rule) → length fs ≡ length s.types → broken_by s before (contents_of s.types fs) ≡ broken
-    → row_unless (length before) (cells_of (contents_of s.types fs)) broken ≡ Ok row → Made s before fs row
+made-of : (s : TableDescriptor) (before : List (Row (List Cell))) (fs : Fields) (row : Row (List Cell)) (broken : Option Rule) → length fs ≡ length s.columns → broken_by s before (contents_of s.columns fs) ≡ broken
+    → row_unless (length before) (cells_of (contents_of s.columns fs)) broken ≡ Ok row → Made s before fs row
 made-of s before fs row None same by e = record { same = same; unbroken = by; is = cc e }
 made-of s before fs row (Some r) same by e = absurd (cc e)
 
-pub row-made : (s : Shape) (before : List (Row (List Cell))) (fs : Fields) (row : Row (List Cell)) → row_after s before fs ≡ Ok row → Made s before fs row
+pub row-made : (s : TableDescriptor) (before : List (Row (List Cell))) (fs : Fields) (row : Row (List Cell)) → row_after s before fs ≡ Ok row → Made s before fs row
 unfolding row_after
-row-made s before fs row e = elim (cases_Bool (length fs == length s.types)) [
-  | inl same ↦ made-of s before fs row (broken_by s before (contents_of s.types fs)) (eqb-true (length fs) (length s.types) same) refl (rw same at e)
+row-made s before fs row e = elim (cases_Bool (length fs == length s.columns)) [
+  | inl same ↦ made-of s before fs row (broken_by s before (contents_of s.columns fs)) (eqb-true (length fs) (length s.columns) same) refl (rw same at e)
   | inr other ↦ let h = rw other at e in absurd (cc h)
 ]
 
-sound-of : (s : Shape) (before : List (Row (List Cell))) (xs : List Content) → broken_by s before xs ≡ None → Sound xs
-unfolding broken_by
-sound-of s before xs e =
-    let integers = unbroken (list_any is_bad_integer xs) rule.BadInteger _ e in
-    let texts = unbroken (list_any is_too_long xs) rule.TooLong _ integers.1 in
-    let bytes = unbroken (list_any is_bad_utf8 xs) rule.BadUtf8 _ texts.1 in
-    record { integers = integers.0; texts = texts.0; bytes = bytes.0 }
-
-made-fits : (s : Shape) (before : List (Row (List Cell))) (fs : Fields) (row : Row (List Cell)) → Made s before fs row → FitsRow s row
+made-fits : (s : TableDescriptor) (before : List (Row (List Cell))) (fs : Fields) (row : Row (List Cell)) → Made s before fs row → FitsRow s row
 made-fits s before fs row made =
-    subst (λ (r : Row (List Cell)). FitsRow s r) made.is (record { level = refl; cells = cells-fit s.types fs made.same (sound-of s before (contents_of s.types fs) made.unbroken) })
+    let all = unbroken-of s before (contents_of s.columns fs) made.unbroken in
+    subst (λ (r : Row (List Cell)). FitsRow s r) made.is (record { level = refl; cells = cells-fit s.columns fs made.same all.sound all.nulls })
 
-rows-step : (s : Shape) (before : List (Row (List Cell))) (row : Row (List Cell)) → All (FitsRow s) before → FitsRow s row → All (FitsRow s) (before ++ row ∷ [])
-rows-step s before row all one = All-append (FitsRow s) before (row ∷ []) all (All-cons (FitsRow s) row [] one (All-nil (FitsRow s)))
+distinct-push : (ts : List (List Cell)) (t : List Cell) → Distinct ts → list_any (same_cells t) ts ≡ false → Distinct (ts ++ t ∷ [])
+distinct-push [] t all e = (refl, tt)
+distinct-push (u ∷ ts) t all e =
+    let h = both-false (same_cells t u) (list_any (same_cells t) ts) e in
+    let last : same_cells u t ≡ false = IsEquivalence.symm cells_equiv u t ∙ h.0 in
+    (rw (list_any-append (same_cells u) ts (t ∷ []), all.0, last) refl, distinct-push ts t all.1 h.1)
 
-rows-next : (s : Shape) (before : List (Row (List Cell))) (r : Fields) (rs : List Fields) (rows : List (Row (List Cell))) (made : Result (Row (List Cell)) Fault) → All (FitsRow s) before → row_after s before r ≡ made
-    → (made >>= (λ row. rows_after s (before ++ row ∷ []) rs)) ≡ Ok rows → ((row : Row (List Cell)) → All (FitsRow s) (before ++ row ∷ []) → rows_after s (before ++ row ∷ []) rs ≡ Ok rows → All (FitsRow s) rows) → All (FitsRow s) rows
-rows-next s before r rs rows (Ok row) all is e others = others row (rows-step s before row all (made-fits s before r row (row-made s before r row is))) e
+distinct-more : (ts : List (List Cell)) (o : Option (List Cell)) → Distinct ts → is_among ts o ≡ false → Distinct (and_some ts o)
+distinct-more ts None all e = all
+distinct-more ts (Some t) all e = distinct-push ts t all e
+
+none-true : (p : KeyDescriptor → Bool) (ks : List KeyDescriptor) → list_any p ks ≡ false → All (λ k. p k ≡ false) ks
+none-true p [] e = All-nil (λ k. p k ≡ false)
+none-true p (k ∷ ks) e = let h = both-false (p k) (list_any p ks) e in All-cons (λ k. p k ≡ false) k ks h.0 (none-true p ks h.1)
+
+key-more : (k : KeyDescriptor) (before : List (Row (List Cell))) (xs : List Content) → Sound xs → Distinct (keys_in k before) → repeats before xs k ≡ false → Distinct (keys_in k (before ++ table_row (cells_of xs) ∷ []))
+key-more k before xs sound all e = rw (keys-push k before (table_row (cells_of xs)), contents-back xs sound) (distinct-more (keys_in k before) (key_cells k xs) all e)
+
+rows-step : (s : TableDescriptor) (before : List (Row (List Cell))) (fs : Fields) (row : Row (List Cell)) → FitsRows s before → Made s before fs row → FitsRows s (before ++ row ∷ [])
+rows-step s before fs row all made =
+    let xs = contents_of s.columns fs in
+    let good = unbroken-of s before xs made.unbroken in
+    let apart = none-true (repeats before xs) s.keys good.keys in
+    record {
+      rows = All-append (FitsRow s) before (row ∷ []) all.rows (All-cons (FitsRow s) row [] (made-fits s before fs row made) (All-nil (FitsRow s)));
+      keys = subst (λ (r : Row (List Cell)). All (λ k. Distinct (keys_in k (before ++ r ∷ []))) s.keys) made.is (λ i d low. key-more (get_or s.keys i d) before xs good.sound (all.keys i d low) (apart i d low));
+    }
+
+rows-next : (s : TableDescriptor) (before : List (Row (List Cell))) (r : Fields) (rs : List Fields) (rows : List (Row (List Cell))) (made : Result (Row (List Cell)) Fault) → FitsRows s before → row_after s before r ≡ made
+    → (made >>= (λ row. rows_after s (before ++ row ∷ []) rs)) ≡ Ok rows → ((row : Row (List Cell)) → FitsRows s (before ++ row ∷ []) → rows_after s (before ++ row ∷ []) rs ≡ Ok rows → FitsRows s rows) → FitsRows s rows
+rows-next s before r rs rows (Ok row) all is e others = others row (rows-step s before r row all (row-made s before r row is)) e
 rows-next s before r rs rows (Err fault) all is e others = absurd (cc e)
 
-rows-fit : (s : Shape) (before : List (Row (List Cell))) (rs : List Fields) (rows : List (Row (List Cell))) → All (FitsRow s) before → rows_after s before rs ≡ Ok rows → All (FitsRow s) rows
+rows-fit : (s : TableDescriptor) (before : List (Row (List Cell))) (rs : List Fields) (rows : List (Row (List Cell))) → FitsRows s before → rows_after s before rs ≡ Ok rows → FitsRows s rows
 unfolding rows_after
-rows-fit s before [] rows all e = let is : before ≡ rows = cc e in subst (λ (x : List (Row (List Cell))). All (FitsRow s) x) is all
+rows-fit s before [] rows all e = let is : before ≡ rows = cc e in subst (λ (x : List (Row (List Cell))). FitsRows s x) is all
 rows-fit s before (r ∷ rs) rows all e = rows-next s before r rs rows (row_after s before r) all refl e (λ row others rest. rows-fit s (before ++ row ∷ []) rs rows others rest)
 
-under-fits : (s : Shape) (rs : List Fields) (rows : List (Row (List Cell))) → under_header s rs ≡ Ok rows → All (FitsRow s) rows
+none-fit : (s : TableDescriptor) → FitsRows s []
+none-fit s = record { rows = All-nil (FitsRow s); keys = λ i d low. tt }
+
+under-fits : (s : TableDescriptor) (rs : List Fields) (rows : List (Row (List Cell))) → under_header s rs ≡ Ok rows → FitsRows s rows
 under-fits s [] rows e = absurd (cc e)
-under-fits s (header ∷ rs) rows e = elim (cases_Bool (pointwise fits_name s.names header)) [
-  | inl same ↦ rows-fit s [] rs rows (All-nil (FitsRow s)) (rw same at e)
+under-fits s (header ∷ rs) rows e = elim (cases_Bool (pointwise fits_column s.columns header)) [
+  | inl same ↦ rows-fit s [] rs rows (none-fit s) (rw same at e)
   | inr other ↦ let h = rw other at e in absurd (cc h)
 ]
 
-table-rows-fit : (s : Shape) (bytes : List ℕ) (rows : List (Row (List Cell))) → table_rows s bytes ≡ Ok rows → All (FitsRow s) rows
+table-rows-fit : (s : TableDescriptor) (bytes : List ℕ) (rows : List (Row (List Cell))) → table_rows s bytes ≡ Ok rows → FitsRows s rows
 unfolding table_rows
 table-rows-fit s bytes rows e = under-fits s (records_of bytes) rows e
 
-with-fits : (d : TableDecl) (bytes : List ℕ) (r : Result (List (Row (List Cell))) Fault) (t : Table) → table_rows (shape_of d.elements) bytes ≡ r → Ok t ≡ table_with d r → FitsTable d t
+with-fits : (d : TableDecl) (bytes : List ℕ) (r : Result (List (Row (List Cell))) Fault) (t : Table) → table_rows (describe d.elements) bytes ≡ r → Ok t ≡ table_with d r → FitsTable d t
 with-fits d bytes (Err fault) t is e = absurd (cc e)
 with-fits d bytes (Ok rows) t is e =
     let made : record { name = d.name; bag = rows } ≡ t = cc e in
-    subst (λ (x : Table). FitsTable d x) made (record { name = refl; rows = table-rows-fit (shape_of d.elements) bytes rows is })
+    subst (λ (x : Table). FitsTable d x) made (record { name = refl; rows = table-rows-fit (describe d.elements) bytes rows is })
 
 table-fits : (d : TableDecl) (bytes : Option (List ℕ)) (t : Table) → Ok t ≡ table_of d bytes → FitsTable d t
 table-fits d None t e = absurd (cc e)
-table-fits d (Some bytes) t e = with-fits d bytes (table_rows (shape_of d.elements) bytes) t refl e
+table-fits d (Some bytes) t e = with-fits d bytes (table_rows (describe d.elements) bytes) t refl e
 
 -- a table that its bytes hold
 pub answer-fits : (d : TableDecl) (bytes : Option (List ℕ)) (r : Result Table DataRefusal) → Answers (table_of d bytes) (loaded r) → IfOk r (λ t. FitsTable d t)

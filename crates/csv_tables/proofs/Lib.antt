@@ -1,8 +1,10 @@
 mod Fits
 mod Integers
+mod KeySteps
 mod Left
 mod Loads
 mod Printed
 mod Rows
+mod SeenSteps
 mod Texts
 mod Walks

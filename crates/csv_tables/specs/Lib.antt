@@ -2,7 +2,9 @@ pub mod Rules
 pub mod Records
 pub mod Cells
 pub mod Contents
-pub mod Shapes
+pub mod KeyCells
+pub mod Ties
+pub mod Seen
 pub mod Tables
 pub mod Printed
 pub mod TableFile

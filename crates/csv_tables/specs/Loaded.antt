@@ -1,5 +1,5 @@
 -- What a call that loads tables tells.
-use Rattle.std.specs.Prelude.{ℕ, ◌≡◌, ⊤, List, Result, Ok, Err, encode_utf8_all}
+use Rattle.std.specs.Prelude.{ℕ, ◌≡◌, ⊤, Result, Ok, Err, encode_utf8_all}
 use Rattle.io_edge.specs.Causes.{Rose}
 use Rattle.io_edge.specs.Outcome.{Ended, answered, faulted, starved}
 use Rattle.io_edge.specs.declared.fetch.Interruption.{Interruption}

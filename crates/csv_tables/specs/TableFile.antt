@@ -6,9 +6,9 @@ use Rattle.row_bag.specs.declared.row.Row.{Row}
 use Rattle.sql_value.specs.declared.cell.Cell.{Cell}
 use Rattle.row_bag.specs.declared.tables.Table.{Table}
 use Rattle.sql_ast.specs.declared.schema.TableDecl.{TableDecl}
+use Rattle.sql_catalog.specs.Descriptor.{describe}
 use Rattle.csv_tables.specs.declared.rule.Rule.TheVariants.{TooManyRows}
 use Rattle.csv_tables.specs.Rules.{Fault, number_of}
-use Rattle.csv_tables.specs.Shapes.{shape_of}
 use Rattle.csv_tables.specs.Tables.{at_header, table_rows}
 
 -- the number of the rule that is broken, the table, and the record, where the header is record 0
@@ -27,7 +27,7 @@ table_with d (Err fault) = Err (refused d fault)
 -- the table that these bytes hold; they are none where they are more than the limit
 abbrev pub table_of : TableDecl → Option (List ℕ) → Result Table Refusal
 table_of d None = Err (refused d (at_header TooManyRows))
-table_of d (Some bytes) = table_with d (table_rows (shape_of d.elements) bytes)
+table_of d (Some bytes) = table_with d (table_rows (describe d.elements) bytes)
 
 -- the directory, `/`, the table's name in UTF-8, and `.csv`
 abbrev pub path_of : List ℕ → List ℕ → List ℕ

@@ -3,10 +3,11 @@ ghost use Rattle.std.specs.Prelude.{◌≡◌, IfOk, map};
 ghost use Rattle.std.specs.Char.{to_ascii_uppercase};
 ghost use Rattle.std.specs.Cmp.Lexicographic.{pointwise};
 ghost use Rattle.csv.specs.Records.{fields_of};
-ghost use Rattle.csv_tables.specs.Tables.{fits_name};
+ghost use Rattle.csv_tables.specs.Tables.{fits_column, fits_name};
 
 use csv::ByteRecord;
 use qgm_base::{OutOfMemory, Text};
+use sql_catalog::ColumnDescriptor;
 use std::alloc::Global;
 
 // The bytes, with ASCII letters in upper case.
@@ -32,10 +33,10 @@ fn fits_name(alloc: Global, name: &Text, field: &[u8]) -> Result<bool, OutOfMemo
 // Whether the fields are for the columns, in declared order.
 pub fn fits_header(
     alloc: Global,
-    columns: &[Text],
+    columns: &[ColumnDescriptor],
     fields: &ByteRecord,
 ) -> Result<bool, OutOfMemory>
-    ensures { IfOk result (λ b. b ≡ pointwise fits_name columns.now (fields_of fields.now)) }
+    ensures { IfOk result (λ b. b ≡ pointwise fits_column columns.now (fields_of fields.now)) }
 {
     if fields.len() != columns.len() {
         return Ok(false);
@@ -44,7 +45,7 @@ pub fn fits_header(
         let Some(field) = fields.get(i) else {
             return Ok(false);
         };
-        if !fits_name(alloc, &columns[i], field)? {
+        if !fits_name(alloc, &columns[i].name, field)? {
             return Ok(false);
         }
     }

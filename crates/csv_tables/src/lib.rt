@@ -3,12 +3,15 @@
 
 mod content;
 mod header;
+mod key_cells;
 mod loading;
 mod records;
 mod refusal;
 mod rule;
-mod shape;
+mod seen;
 mod table;
+#[cfg(test)]
+mod tests;
 mod write;
 
 pub use loading::load;

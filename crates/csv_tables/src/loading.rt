@@ -56,7 +56,7 @@ fn table_from(
     let Some(bytes) = bytes else {
         return refuse(alloc, decl, Rule::TooManyRows, 0);
     };
-    match read_table(alloc, decl.elements.as_slice(), bytes.as_slice()) {
+    match read_table(alloc, decl, bytes.as_slice()) {
         Ok(bag) => Ok(Table {
             name: decl.name.copy(alloc)?,
             bag,
@@ -90,7 +90,9 @@ fn load_table<F: Files>(
 
 /// The tables of a catalog, in declared order, from their files. The name of a table's file is
 /// the directory, `/`, the table's name in UTF-8, and `.csv`. The files are read in declared
-/// order, and the first that is refused ends it.
+/// order. It fails with `Refused` at the first table whose file breaks a rule, with the first
+/// record that breaks one and the least number of the rules that this record breaks, with
+/// `ReadFault` where a read fails, and with `Memory` where memory runs out.
 pub fn load<F: Files>(
     alloc: Global,
     catalog: &Catalog,

@@ -1,8 +1,10 @@
 // The rows of a table's file.
-ghost use Rattle.std.specs.Prelude.{◌≡◌, ◌<◌, ◌≤◌, [], IfOk, OnOk, length};
+ghost use Rattle.std.specs.Prelude.{◌≡◌, ◌<◌, ◌≤◌, ◌+◌, ◌++◌, ◌∷◌, ◌&&◌, [], IfOk, None, false, length, map};
 ghost use Rattle.std.specs.List.{list_any};
 ghost use Rattle.csv.specs.Records.{fields_of};
-ghost use Rattle.csv_tables.specs.Shapes.{shape_of};
+ghost use Rattle.csv_tables.specs.KeyCells as spec_keys;
+ghost use Rattle.csv_tables.specs.Seen.{seen_in, seen_with};
+ghost use Rattle.sql_catalog.specs.Descriptor.{describe};
 ghost use Rattle.csv_tables.specs.Loaded.{Gives};
 ghost use Rattle.csv_tables.specs.Tables as spec;
 
@@ -11,11 +13,12 @@ use crate::header::fits_header;
 use crate::records::Records;
 use crate::refusal::TableRefusal;
 use crate::rule::Rule;
-use crate::shape::{Shape, shape_of};
+use crate::seen::{SeenKey, nothing_seen, repeats};
 use csv::ByteRecord;
 use qgm_base::OutOfMemory;
 use row_bag::{Bag, Row};
-use sql_ast::{DataType, Element};
+use sql_ast::TableDecl;
+use sql_catalog::{ColumnDescriptor, TableDescriptor, describe};
 use sql_value::{Cell, Level};
 use sqlite_items::Items;
 use std::alloc::Global;
@@ -26,17 +29,17 @@ const MAX_ROWS: usize = 1_000_000;
 // What the fields of a record hold, each by its column's type.
 fn contents(
     alloc: Global,
-    types: &[DataType],
+    columns: &[ColumnDescriptor],
     fields: &ByteRecord,
 ) -> Result<Vec<Content>, OutOfMemory>
-    ensures { IfOk result (λ xs. xs.items ≡ spec.contents_of types.now (fields_of fields.now)) }
+    ensures { IfOk result (λ xs. xs.items ≡ spec.contents_of columns.now (fields_of fields.now)) }
 {
-    let mut contents = Vec::with_capacity(alloc, types.len())?;
-    for i in 0..types.len() {
+    let mut contents = Vec::with_capacity(alloc, columns.len())?;
+    for i in 0..columns.len() {
         let Some(field) = fields.get(i) else {
             return Ok(contents);
         };
-        contents.push(content_of(alloc, types[i], field)?)?;
+        contents.push(content_of(alloc, columns[i].data_type, field)?)?;
     }
     Ok(contents)
 }
@@ -82,48 +85,112 @@ fn has_bad_utf8(contents: &[Content]) -> bool
         .any(|content| matches!(content, Content::BadUtf8))
 }
 
-// The rule of the least number that a record of these contents breaks after these rows.
-#[tactic(auto, unfolding(crate::specs::Tables::broken_by))]
-fn broken_by(shape: &Shape, before: &[Row], contents: &[Content]) -> Option<Rule>
-    ensures { result ≡ spec.broken_by shape.now before.now contents.now }
+// Whether a field holds null.
+fn holds_null(content: &Content) -> bool
+    ensures { result ≡ spec.holds_null content.now }
 {
-    if has_bad_integer(contents) {
-        Some(Rule::BadInteger)
-    } else if has_long_text(contents) {
-        Some(Rule::TooLong)
-    } else if has_bad_utf8(contents) {
-        Some(Rule::BadUtf8)
-    } else if MAX_ROWS <= before.len() {
-        Some(Rule::TooManyRows)
-    } else {
-        None
+    match content {
+        Content::Holds(cell) => matches!(cell, Cell::Null),
+        Content::BadInteger | Content::TooLong | Content::BadUtf8 => false,
     }
 }
 
-// The row of a record that follows these rows.
+// Whether a field holds null in a column that takes none.
+fn is_refused_null(not_null: bool, content: &Content) -> bool
+    ensures { result ≡ (not_null && spec.holds_null content.now) }
+{
+    not_null && holds_null(content)
+}
+
+// Whether null stands in a column that takes none.
+fn has_refused_null(columns: &[ColumnDescriptor], contents: &[Content]) -> bool
+    ensures { result ≡ spec.has_refused_null columns.now contents.now }
+{
+    for i in 0..columns.len().min(contents.len()) {
+        if is_refused_null(columns[i].not_null, &contents[i]) {
+            return true;
+        }
+    }
+    false
+}
+
+// Whether the cells of a key equal those of an earlier row; else the keys are seen with them.
+fn repeats_key(
+    alloc: Global,
+    table: &TableDescriptor,
+    before: &[Row],
+    seen: &mut Vec<SeenKey>,
+    contents: &[Content],
+) -> Result<bool, OutOfMemory>
+    requires { seen.old.items ≡ map (seen_in before.now) table.now.keys }
+    ensures found { IfOk result (λ b. b ≡ list_any (spec_keys.repeats before.now contents.now) table.now.keys) }
+    ensures after { IfOk result (λ b. b ≡ false → seen.new.items ≡ map (seen_with contents.now) (map (seen_in before.now) table.now.keys)) }
+{
+    repeats(alloc, seen, contents)
+}
+
+// The rule of the least number that a record of these contents breaks after these rows; where it
+// breaks none, the keys are seen with its cells.
+#[tactic(auto, unfolding(crate::specs::Tables::broken_by))]
+fn broken_by(
+    alloc: Global,
+    table: &TableDescriptor,
+    before: &[Row],
+    seen: &mut Vec<SeenKey>,
+    contents: &[Content],
+) -> Result<Option<Rule>, OutOfMemory>
+    requires { seen.old.items ≡ map (seen_in before.now) table.now.keys }
+    ensures rule { IfOk result (λ b. b ≡ spec.broken_by table.now before.now contents.now) }
+    ensures after { IfOk result (λ b. b ≡ None → seen.new.items ≡ map (seen_with contents.now) (map (seen_in before.now) table.now.keys)) }
+{
+    if has_bad_integer(contents) {
+        Ok(Some(Rule::BadInteger))
+    } else if has_long_text(contents) {
+        Ok(Some(Rule::TooLong))
+    } else if has_refused_null(table.columns.as_slice(), contents) {
+        Ok(Some(Rule::NullInNotNull))
+    } else if repeats_key(alloc, table, before, seen, contents)? {
+        Ok(Some(Rule::DuplicateKey))
+    } else if has_bad_utf8(contents) {
+        Ok(Some(Rule::BadUtf8))
+    } else if MAX_ROWS <= before.len() {
+        Ok(Some(Rule::TooManyRows))
+    } else {
+        Ok(None)
+    }
+}
+
+// The refusal of the record that follows as many rows, by a rule.
+fn refusal(before: usize, rule: Rule) -> TableRefusal
+    requires { before ≤ 1000000 }
+    ensures { result ≡ TableRefusal.Broken rule (before + 1) }
+{
+    TableRefusal::Broken {
+        rule,
+        record_number: before as u64 + 1,
+    }
+}
+
+// The row of a record that follows these rows; the keys are then seen with its cells.
 fn row_after(
     alloc: Global,
-    shape: &Shape,
+    table: &TableDescriptor,
     before: &[Row],
+    seen: &mut Vec<SeenKey>,
     fields: &ByteRecord,
 ) -> Result<Row, TableRefusal>
-    requires { length before.now ≤ 1000000 }
-    ensures row { Gives (spec.row_after shape.now before.now (fields_of fields.now)) result }
+    requires few { length before.now ≤ 1000000 }
+    requires seen { seen.old.items ≡ map (seen_in before.now) table.now.keys }
+    ensures row { Gives (spec.row_after table.now before.now (fields_of fields.now)) result }
     ensures few { IfOk result (λ row. length before.now < 1000000) }
+    ensures seen { IfOk result (λ row. seen.new.items ≡ map (seen_in (before.now ++ row ∷ [])) table.now.keys) }
 {
-    let record_number = before.len() as u64 + 1;
-    if fields.len() != shape.types.len() {
-        return Err(TableRefusal::Broken {
-            rule: Rule::FieldCount,
-            record_number,
-        });
+    if fields.len() != table.columns.len() {
+        return Err(refusal(before.len(), Rule::FieldCount));
     }
-    let contents = contents(alloc, shape.types.as_slice(), fields)?;
-    match broken_by(shape, before, &contents) {
-        Some(rule) => Err(TableRefusal::Broken {
-            rule,
-            record_number,
-        }),
+    let contents = contents(alloc, table.columns.as_slice(), fields)?;
+    match broken_by(alloc, table, before, seen, &contents)? {
+        Some(rule) => Err(refusal(before.len(), rule)),
         None => Ok(Row {
             cells: cells(alloc, contents)?,
             level: Level::Yes,
@@ -132,13 +199,14 @@ fn row_after(
 }
 
 // The rows of the records, up to the first that breaks a rule.
-fn rows(alloc: Global, shape: &Shape, records: &mut Records) -> Result<Bag, TableRefusal>
-    ensures { Gives (spec.rows_after shape.now [] records.old) result }
+fn rows(alloc: Global, table: &TableDescriptor, records: &mut Records) -> Result<Bag, TableRefusal>
+    ensures { Gives (spec.rows_after table.now [] records.old) result }
 {
     let mut fields = ByteRecord::new(alloc);
     let mut rows = Bag::new(alloc);
+    let mut seen = nothing_seen(alloc, table.keys.as_slice())?;
     while records.next(&mut fields)? {
-        let row = row_after(alloc, shape, rows.rows(), &fields)?;
+        let row = row_after(alloc, table, rows.rows(), &mut seen, &fields)?;
         rows.push(row)?;
     }
     Ok(rows)
@@ -146,10 +214,10 @@ fn rows(alloc: Global, shape: &Shape, records: &mut Records) -> Result<Bag, Tabl
 
 /// The rows of a table's file, in the file's order. It fails at the first record that breaks a
 /// rule, with the rule of the least number that this record breaks, and for want of memory.
-pub fn read_table(alloc: Global, elements: &[Element], bytes: &[u8]) -> Result<Bag, TableRefusal>
-    ensures { Gives (spec.table_rows (shape_of elements.now) bytes.now) result }
+pub fn read_table(alloc: Global, decl: &TableDecl, bytes: &[u8]) -> Result<Bag, TableRefusal>
+    ensures { Gives (spec.table_rows (describe decl.now.elements) bytes.now) result }
 {
-    let shape = shape_of(alloc, elements)?;
+    let table = describe(alloc, decl)?;
     let mut records = Records::new(alloc, bytes);
     let mut header = ByteRecord::new(alloc);
     if !records.next(&mut header)? {
@@ -158,11 +226,11 @@ pub fn read_table(alloc: Global, elements: &[Element], bytes: &[u8]) -> Result<B
             record_number: 0,
         });
     }
-    if !fits_header(alloc, shape.names.as_slice(), &header)? {
+    if !fits_header(alloc, table.columns.as_slice(), &header)? {
         return Err(TableRefusal::Broken {
             rule: Rule::Header,
             record_number: 0,
         });
     }
-    rows(alloc, &shape, &mut records)
+    rows(alloc, &table, &mut records)
 }

@@ -1,9 +1,9 @@
 //! The plain program that runs a checked query: loops over the rows of its table.
 #![tactic(auto)]
 
-mod row;
+mod evaluation;
 mod loops;
 mod value;
 
-pub use row::{evaluate, hold};
+pub use evaluation::{evaluate, hold};
 pub use loops::execute;

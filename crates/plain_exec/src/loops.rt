@@ -5,7 +5,7 @@ ghost use Rattle.sql_check.specs.CoreShown as shown;
 ghost use Rattle.sql_check.specs.Resolved.{rows_at};
 ghost use Rattle.plain_exec.specs.Selected.{selected};
 
-use crate::row::{evaluate, hold};
+use crate::evaluation::{evaluate, hold};
 use qgm_base::OutOfMemory;
 use row_bag::{Bag, Row, Tables};
 use sql_check::{Checked, Value};

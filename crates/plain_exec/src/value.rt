@@ -8,9 +8,7 @@ ghost use Rattle.sql_value.specs.declared.cell.Cell.TheVariants.{Null};
 
 use qgm_base::OutOfMemory;
 use sql_ast::{AdditiveOp, MultiplicativeOp};
-use sql_value::{
-    Cell, CmpOp, Kind, Level, Truth, add, and, compare, concat, copy, div, mul, sub,
-};
+use sql_value::{Cell, CmpOp, Kind, Level, Truth, add, and, compare, concat, copy, div, mul, sub};
 use std::alloc::Global;
 
 // The cell at a place of a row, or null past its end.

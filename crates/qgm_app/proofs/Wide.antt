@@ -1,40 +1,41 @@
 -- Tables of a catalog have a cell for each column.
-use Rattle.std.proofs.Common.{ℕ, ◌≡◌, ◌∙◌, Bool, true, false, List, [], ◌∷◌, Option, Some, None, map, length, tt, refl, sym, ap, subst, inl, inr}
+use Rattle.std.proofs.Common.{ℕ, ◌≡◌, ◌∙◌, ◌+◌, Bool, true, false, List, [], ◌∷◌, Option, Some, None, map, length, tt, refl, sym, ap, inl, inr}
 use Rattle.std.specs.List.{All, AllZip}
 use Rattle.std.proofs.lemmas.Bool.{cases_Bool}
 use Rattle.std.proofs.lemmas.List.{length-map}
 use Rattle.std.proofs.lemmas.List.Elements.{All-weaker}
-use Rattle.csv_tables.specs.Fits.{FitsRow, FitsSchema, FitsTable, OfType}
-use Rattle.csv_tables.specs.Shapes.{shape_of}
+use Rattle.csv_tables.specs.Fits.{FitsColumn, FitsRow, FitsSchema, FitsTable}
 use Rattle.row_bag.specs.Tables.{bag_named}
 use Rattle.row_bag.specs.declared.row.Row.{Row}
 use Rattle.row_bag.specs.declared.tables.Table.{Table}
 use Rattle.sql_ast.specs.declared.schema.ColumnDecl.{ColumnDecl}
 use Rattle.sql_ast.specs.declared.schema.TableDecl.{TableDecl}
-use Rattle.sql_ast.specs.declared.word.DataType.{DataType}
 use Rattle.sql_catalog.specs.Catalog.{table_named}
-use Rattle.sql_catalog.specs.Keys.{columns_of, names_of, types_of}
+use Rattle.sql_catalog.specs.Descriptor.{describe, describe_column}
+use Rattle.sql_catalog.specs.Keys.{columns_of, keys_of, names_of}
 use Rattle.sql_catalog.specs.Names.{same_name}
+use Rattle.sql_catalog.specs.declared.descriptor.ColumnDescriptor.{ColumnDescriptor}
+use Rattle.sql_catalog.specs.declared.key.Key.{Key}
 use Rattle.sql_check.specs.Resolved.{IsWide}
 use Rattle.sql_meaning.specs.Meaning.{relation_with}
 use Rattle.sql_value.specs.declared.cell.Cell.{Cell}
 
--- cells that fit types are as many
-zip-length : (types : List DataType) (cells : List Cell) → AllZip OfType types cells → length cells ≡ length types
+-- cells that fit columns are as many
+zip-length : (columns : List ColumnDescriptor) (cells : List Cell) → AllZip FitsColumn columns cells → length cells ≡ length columns
 zip-length [] [] h = refl
 zip-length [] (c ∷ cells) h = absurd h
-zip-length (t ∷ types) [] h = absurd h
-zip-length (t ∷ types) (c ∷ cells) h = ap (λ (n : ℕ). n + 1) (zip-length types cells h.1)
+zip-length (t ∷ columns) [] h = absurd h
+zip-length (t ∷ columns) (c ∷ cells) h = ap (λ (n : ℕ). n + 1) (zip-length columns cells h.1)
 
--- as many types as names
-as-many : (columns : List ColumnDecl) → length (types_of columns) ≡ length (names_of columns)
-as-many columns = length-map columns (λ (c : ColumnDecl). c.data_type) ∙ sym (length-map columns (λ (c : ColumnDecl). c.name))
+-- a table is described by as many columns as it has names
+as-many : (keys : List Key) (columns : List ColumnDecl) → length (map (describe_column keys) columns) ≡ length (names_of columns)
+as-many keys columns = length-map columns (describe_column keys) ∙ sym (length-map columns (λ (c : ColumnDecl). c.name))
 
 -- a table that fits its declaration
-wide-table : (d : TableDecl) (rows : List (Row (List Cell))) → All (FitsRow (shape_of d.elements)) rows → IsWide (relation_with (Some d) (Some rows))
+wide-table : (d : TableDecl) (rows : List (Row (List Cell))) → All (FitsRow (describe d.elements)) rows → IsWide (relation_with (Some d) (Some rows))
 wide-table d rows fits =
-    All-weaker (FitsRow (shape_of d.elements)) (λ (row : Row (List Cell)). length row.cells ≡ length (names_of (columns_of d.elements)))
-    (λ row is. zip-length (types_of (columns_of d.elements)) row.cells is.cells ∙ as-many (columns_of d.elements)) rows fits
+    All-weaker (FitsRow (describe d.elements)) (λ (row : Row (List Cell)). length row.cells ≡ length (names_of (columns_of d.elements)))
+    (λ row is. zip-length (describe d.elements).columns row.cells is.cells ∙ as-many (keys_of d.elements) (columns_of d.elements)) rows fits
 
 -- the table of a name among those that fit
 pub wide-tables : (ds : List TableDecl) (ts : List Table) (name : List ℕ) → FitsSchema ds ts → IsWide (relation_with (table_named ds name) (bag_named ts name))
@@ -42,6 +43,6 @@ wide-tables [] [] name fits = tt
 wide-tables [] (t ∷ ts) name fits = absurd fits
 wide-tables (d ∷ ds) [] name fits = absurd fits
 wide-tables (d ∷ ds) (t ∷ ts) name fits = elim (cases_Bool (same_name d.name name)) [
-  | inl e ↦ rw (e, ap (λ (n : List ℕ). same_name n name) fits.0.name ∙ e) (wide-table d t.bag fits.0.rows)
+  | inl e ↦ rw (e, ap (λ (n : List ℕ). same_name n name) fits.0.name ∙ e) (wide-table d t.bag fits.0.rows.rows)
   | inr e ↦ rw (e, ap (λ (n : List ℕ). same_name n name) fits.0.name ∙ e) (wide-tables ds ts name fits.1)
 ]

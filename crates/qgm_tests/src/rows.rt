@@ -140,3 +140,75 @@ fn options_leave_the_answer(rt: HostRuntime) -> Result<(), Fail> {
     );
     Ok(())
 }
+
+#[test]
+fn a_schema_is_refused_by_its_number(rt: HostRuntime) -> Result<(), Fail> {
+    let query = b"SELECT A FROM T".as_slice();
+    for (schema, printed) in [
+        ("CREATE TABLE T (A ?", "SCHEMA S1\n"),
+        ("CREATE TABLE T (A 'x", "SCHEMA S2\n"),
+        ("CREATE TABLE T (A VARCHAR(9223372036854775808));", "SCHEMA S3\n"),
+        ("CREATE TABLE T (A INTEGER)", "SCHEMA S4\n"),
+        ("CREATE TABLE T (A INTEGER); CREATE VIEW V AS SELECT A FROM T;", "SCHEMA S4\n"),
+        ("CREATE TABLE T (A INTEGER, a INT);", "SCHEMA S8\n"),
+        ("CREATE TABLE T (A INT); CREATE TABLE T (B INT);", "SCHEMA S8\n"),
+        ("CREATE TABLE T (A INT, PRIMARY KEY (B));", "SCHEMA S9\n"),
+        ("CREATE TABLE T (A INT PRIMARY KEY, B INT PRIMARY KEY);", "SCHEMA S9\n"),
+        ("CREATE TABLE T (A VARCHAR(0));", "SCHEMA S10\n"),
+        ("CREATE TABLE T (A VARCHAR(4097));", "SCHEMA S10\n"),
+    ] {
+        let (status, text) = over_t(rt.alloc(), schema.as_bytes(), TABLE, query)?;
+        assert_eq!(rt; status, 5, "at {schema}");
+        assert_eq!(rt; text.as_str(), printed, "at {schema}");
+    }
+    Ok(())
+}
+
+#[test]
+fn a_table_is_refused_by_its_number_and_record(rt: HostRuntime) -> Result<(), Fail> {
+    let schema = b"CREATE TABLE T (A INTEGER, B VARCHAR(2));".as_slice();
+    let query = b"SELECT A FROM T".as_slice();
+    for (table, printed) in [
+        (b"".as_slice(), "DATA X1 T 0\n"),
+        (b"A,C\n1,x\n".as_slice(), "DATA X1 T 0\n"),
+        (b"A,B\n1,x\n2\n".as_slice(), "DATA X2 T 2\n"),
+        (b"A,B\n1,x,y\n".as_slice(), "DATA X2 T 1\n"),
+        (b"A,B\nx,y\n".as_slice(), "DATA X3 T 1\n"),
+        (b"A,B\n9223372036854775808,y\n".as_slice(), "DATA X3 T 1\n"),
+        (b"A,B\n1,x\n1,xyz\n".as_slice(), "DATA X4 T 2\n"),
+        (b"A,B\nx,xyz\n".as_slice(), "DATA X3 T 1\n"),
+        (b"A,B\n1,\xff\n".as_slice(), "DATA X7 T 1\n"),
+    ] {
+        let (status, text) = over_t(rt.alloc(), schema, table, query)?;
+        assert_eq!(rt; status, 6, "before {printed}");
+        assert_eq!(rt; text.as_str(), printed);
+    }
+    Ok(())
+}
+
+#[test]
+fn a_text_has_at_most_65536_bytes(rt: HostRuntime) -> Result<(), Fail> {
+    let alloc = rt.alloc();
+    let blanks = vec![in alloc; b' '; 65_537]?;
+    let (_, text) = over_t(alloc, SCHEMA, TABLE, &blanks[..65_536])?;
+    assert_eq!(rt; text.as_str(), "QUERY Q4\n");
+    let (_, text) = over_t(alloc, SCHEMA, TABLE, blanks.as_slice())?;
+    assert_eq!(rt; text.as_str(), "QUERY Q5\n");
+    Ok(())
+}
+
+#[test]
+fn a_query_has_at_most_1024_columns(rt: HostRuntime) -> Result<(), Fail> {
+    let alloc = rt.alloc();
+    let mut list = String::from_str(alloc, "A")?;
+    for _ in 0..1023 {
+        list.push_str(",A")?;
+    }
+    let query = format!(in alloc; "SELECT {list} FROM T")?;
+    let (status, _) = over_t(alloc, SCHEMA, TABLE, query.as_bytes())?;
+    assert_eq!(rt; status, 0);
+    let query = format!(in alloc; "SELECT {list},A FROM T")?;
+    let (_, text) = over_t(alloc, SCHEMA, TABLE, query.as_bytes())?;
+    assert_eq!(rt; text.as_str(), "QUERY Q11\n");
+    Ok(())
+}

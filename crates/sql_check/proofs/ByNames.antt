@@ -73,12 +73,12 @@ declared-rows : (table : TableDecl) (bag : Option (List (Row (List Cell)))) (nam
 declared-rows table bag name test list by cells_in truth cells wide =
     let columns = declared_columns table.elements in
     bind-same (λ (row : List Cell). length row ≡ length (keys.names_of columns))
-        (λ (row : List Cell). keep (test row).t (unit (list row)))
-        (λ (row : List Cell). keep (by (scopes_of (range_of name table) row)).t (unit (cells_in (frame_of (range_of name table) row))))
-        (λ row h. ap₂ (λ (p : Truth) (xs : List Cell). keep p.t (unit xs)) (truth row) (cells row (h ∙ typed_length columns)))
-        (rows_or_none bag) wide
+    (λ (row : List Cell). keep (test row).t (unit (list row)))
+    (λ (row : List Cell). keep (by (scopes_of (range_of name table) row)).t (unit (cells_in (frame_of (range_of name table) row))))
+    (λ row h. ap₂ (λ (p : Truth) (xs : List Cell). keep p.t (unit xs)) (truth row) (cells row (h ∙ typed_length columns)))
+    (rows_or_none bag) wide
     ∙ ap (λ (names : List (List ℕ)). bind (rows_or_none bag) (λ (row : List Cell). keep (by ((record { name = name; columns = names; cells = row } ∷ []) ∷ [])).t (unit (cells_in (record { name = name; columns = names; cells = row } ∷ [])))))
-        (typed_names columns)
+    (typed_names columns)
     ∙ sym (one-table name (record { columns = keys.names_of columns; rows = rows_or_none bag }) (λ (frame : Frame). keep (by (frame ∷ [])).t (unit (cells_in frame))))
 
 -- the table of a query whose table's name is known

@@ -1,5 +1,6 @@
 -- The lesser of two numbers of faults.
 use Rattle.std.proofs.Common.{◌≡◌, ◌∙◌, ◌≤◌, ◌<◌, ℕ, zero, suc, min, Some, refl, sym, arith}
+use Rattle.std.proofs.lemmas.Grind.{common_steps}
 use Rattle.sql_check.specs.Faults.{number}
 use Rattle.sql_check.specs.Valid.{lesser}
 use Rattle.sql_check.specs.declared.faults.Fault.{Fault}
@@ -48,3 +49,6 @@ lesser_joins (suc a) (suc b) zero = lesser_none (min (suc a) (suc b))
 lesser_joins (suc a) (suc b) (suc c) =
     lesser-min (min (suc a) (suc b)) (suc c) (omega arith) (omega arith) ∙ (let e : min (min (suc a) (suc b)) (suc c) ≡ min (suc a) (min (suc b) (suc c)) = omega arith in e)
     ∙ sym (lesser-min (suc a) (min (suc b) (suc c)) (omega arith) (omega arith))
+
+-- a step of a loop that keeps the least fault
+pub ruleset fault_steps = (common_steps, lesser_joins)

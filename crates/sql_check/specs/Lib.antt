@@ -6,6 +6,7 @@ pub mod Core
 pub mod CoreShown
 pub mod Agreed
 pub mod Faults
+pub mod Forms
 pub mod Blocks
 pub mod Checks
 pub mod Resolved

@@ -9,6 +9,7 @@ use sql_ast::{Block, Correlation, Query, TableRef};
 use sql_text::Name;
 
 // The block that a query is.
+#[tactic(auto, using(sql_ast::specs::Shown::lists))]
 pub(crate) fn only_block(query: &Query) -> Option<&Block>
     ensures some { IfSome result (λ block. written.query query.now ≡ block_of block.now) }
     ensures none { IfNone result (spec.takes_query (written.query query.now) ≡ false) }
@@ -25,7 +26,15 @@ pub(crate) fn only_table<'a>(from: &'a [TableRef]) -> Option<(&'a Name, &'a Opti
     ensures none { IfNone result (spec.takes_from (written.table_list from.now) ≡ false) }
 {
     match from {
+        [] => None,
         [TableRef::Named(name, alias)] => Some((name, alias)),
-        _ => None,
+        [
+            TableRef::Join(_, _, _, _)
+            | TableRef::LeftJoin(_, _, _, _)
+            | TableRef::CrossJoin(_, _)
+            | TableRef::Derived(_, _)
+            | TableRef::Joined(_),
+        ] => None,
+        [_, _, ..] => None,
     }
 }

@@ -38,6 +38,7 @@ use std::alloc::Global;
 const MAX_COLUMNS: usize = 1024;
 
 // The condition of a WHERE: true where there is none.
+#[tactic(auto, using(crate::specs::CoreShown::lists))]
 fn test_of(alloc: Global, filter: &Filter, range: &TypedRange) -> Result<Decided, OutOfMemory>
     ensures truth { IfOk result (λ found. (cells : List Cell) → core.truth (shown.test found.test) cells ≡ named.filtered (written.filter filter.now) (scopes_of range.now cells)) }
     ensures fault { IfOk result (λ found. number found.fault ≡ spec.filter_fault (written.filter filter.now) (alone range.now)) }
@@ -142,11 +143,7 @@ fn resolved(
 /// The query with its names resolved: over tables whose rows have a cell for each column, its rows by
 /// places are the query's rows by names. Else it is the refusal of the least number that holds of the
 /// query. `Memory` may come in place of any of these.
-pub fn check(
-    alloc: Global,
-    text: &QueryText,
-    catalog: &Catalog,
-) -> Result<Checked, QueryRefusal>
+pub fn check(alloc: Global, text: &QueryText, catalog: &Catalog) -> Result<Checked, QueryRefusal>
     requires taken { taken.is_taken (written.query_text text.now) ≡ true }
     ensures valid { IfOk result (λ checked. least_fault catalog.now text.now ≡ 0) }
     ensures unknown_table { IsErrOf result QueryRefusal.UnknownTable → least_fault catalog.now text.now ≡ 6 }

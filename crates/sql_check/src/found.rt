@@ -7,6 +7,7 @@ ghost use Rattle.sql_value.specs.Like as pattern;
 ghost use Rattle.sql_value.specs.Truths as truths;
 ghost use Rattle.qgm_base.specs.declared.compare.CmpOp.TheVariants.{Eq, Ge, Le};
 ghost use Rattle.sql_value.specs.declared.cell.Cell.{Cell};
+ghost use Rattle.sql_value.specs.declared.cell.Cell.TheVariants as cell;
 ghost use Rattle.sql_value.specs.declared.cell.Cell.TheVariants.{Null};
 ghost use Rattle.sql_value.specs.declared.order_key.SqlType.TheVariants.{Integer, Varchar};
 ghost use Rattle.sql_check.specs.Core as core;
@@ -22,7 +23,7 @@ use crate::faults::{Fault, differ, first_known, lesser, mismatch_if, operand_typ
 use crate::scope::{TypedRange, meant};
 use qgm_base::{CmpOp, OutOfMemory};
 use sql_ast::{AdditiveOp, Column, MultiplicativeOp, Sign};
-use sql_value::SqlType;
+use sql_value::{SqlType, Text};
 use sqlite_items::Items;
 use std::alloc::Global;
 
@@ -39,6 +40,45 @@ pub(crate) struct Found {
 pub(crate) struct Decided {
     pub test: Test,
     pub fault: Option<Fault>,
+}
+
+// A number.
+pub(crate) fn number_value(value: i64) -> Found
+    ensures value { (cells : List Cell) → core.value (shown.value result.value) cells ≡ cell.Int value }
+    ensures sort { result.sort ≡ Some Integer }
+    ensures fault { number result.fault ≡ 0 }
+{
+    Found {
+        value: Value::Number(value),
+        sort: Some(SqlType::Integer),
+        fault: None,
+    }
+}
+
+// A string.
+pub(crate) fn text_value(alloc: Global, value: &Text) -> Result<Found, OutOfMemory>
+    ensures value { IfOk result (λ x. (cells : List Cell) → core.value (shown.value x.value) cells ≡ cell.Text value.now) }
+    ensures sort { IfOk result (λ x. x.sort ≡ Some Varchar) }
+    ensures fault { IfOk result (λ x. number x.fault ≡ 0) }
+{
+    Ok(Found {
+        value: Value::Text(value.copy(alloc)?),
+        sort: Some(SqlType::Varchar),
+        fault: None,
+    })
+}
+
+// A null of this type, with this fault.
+pub(crate) fn null_value(sort: Option<SqlType>, fault: Option<Fault>) -> Found
+    ensures value { (cells : List Cell) → core.value (shown.value result.value) cells ≡ Null }
+    ensures sort { result.sort ≡ sort }
+    ensures fault { number result.fault ≡ number fault }
+{
+    Found {
+        value: Value::Null,
+        sort,
+        fault,
+    }
 }
 
 // The value of a column: the cell at its place.
@@ -71,16 +111,14 @@ fn operands_fault(a: &Found, sort: SqlType, b: &Found) -> Option<Fault>
 fn pair_fault(a: &Found, b: &Found) -> Option<Fault>
     ensures { number result ≡ spec.lesser (spec.lesser (number a.now.fault) (number b.now.fault)) (spec.fault_if (spec.differ a.now.sort b.now.sort) 10) }
 {
-    lesser(lesser(a.fault, b.fault), mismatch_if(differ(a.sort, b.sort)))
+    lesser(
+        lesser(a.fault, b.fault),
+        mismatch_if(differ(a.sort, b.sort)),
+    )
 }
 
 // `a + b`, `a - b` or `a || b`.
-pub(crate) fn add(
-    alloc: Global,
-    a: Found,
-    op: AdditiveOp,
-    b: Found,
-) -> Result<Found, OutOfMemory>
+pub(crate) fn add(alloc: Global, a: Found, op: AdditiveOp, b: Found) -> Result<Found, OutOfMemory>
     ensures value { IfOk result (λ x. (cells : List Cell) → core.value (shown.value x.value) cells ≡ named.additive op (core.value (shown.value a.value) cells) (core.value (shown.value b.value) cells)) }
     ensures sort { IfOk result (λ x. x.sort ≡ Some (spec.operand_type op)) }
     ensures fault { IfOk result (λ x. number x.fault ≡ spec.lesser (spec.lesser (number a.fault) (number b.fault)) (spec.lesser (spec.wants (spec.operand_type op) a.sort) (spec.wants (spec.operand_type op) b.sort))) }
@@ -177,11 +215,7 @@ pub(crate) fn not(alloc: Global, a: Decided) -> Result<Decided, OutOfMemory>
 }
 
 // The NOT of a condition, where NOT is written.
-pub(crate) fn perhaps_not(
-    alloc: Global,
-    negative: bool,
-    test: Test,
-) -> Result<Test, OutOfMemory>
+pub(crate) fn perhaps_not(alloc: Global, negative: bool, test: Test) -> Result<Test, OutOfMemory>
     ensures { IfOk result (λ p. (cells : List Cell) → core.truth (shown.test p) cells ≡ named.perhaps_not negative (core.truth (shown.test test) cells)) }
 {
     if negative {
@@ -202,12 +236,7 @@ pub(crate) fn unknown(alloc: Global) -> Result<Decided, OutOfMemory>
 }
 
 // `a op b`.
-pub(crate) fn compare(
-    alloc: Global,
-    a: Found,
-    op: CmpOp,
-    b: Found,
-) -> Result<Decided, OutOfMemory>
+pub(crate) fn compare(alloc: Global, a: Found, op: CmpOp, b: Found) -> Result<Decided, OutOfMemory>
     ensures truth { IfOk result (λ x. (cells : List Cell) → core.truth (shown.test x.test) cells ≡ comparison.compare op (core.value (shown.value a.value) cells) (core.value (shown.value b.value) cells)) }
     ensures fault { IfOk result (λ x. number x.fault ≡ spec.lesser (spec.lesser (number a.fault) (number b.fault)) (spec.fault_if (spec.differ a.sort b.sort) 10)) }
 {

@@ -16,8 +16,8 @@ mod resolve;
 mod scope;
 mod taken;
 
-pub use checking::check;
 pub use checked::{Addend, Arm, Checked, Choice, Multiplier, Test, Value};
+pub use checking::check;
 pub use refusal::QueryRefusal;
 pub use scope::{TypedColumn, TypedRange};
 pub use taken::is_taken;

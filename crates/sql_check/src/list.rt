@@ -55,11 +55,7 @@ fn push_names(
 }
 
 // Adds all columns of a range at the end.
-fn push_all(
-    alloc: Global,
-    found: &mut FoundColumns,
-    range: &TypedRange,
-) -> Result<(), OutOfMemory>
+fn push_all(alloc: Global, found: &mut FoundColumns, range: &TypedRange) -> Result<(), OutOfMemory>
     ensures values { OnOk result ((cells : List Cell) → length cells ≡ length range.now.columns → cells_of (shown.value_list found.new.values) cells ≡ cells_of (shown.value_list found.old.values) cells ++ cells) }
     ensures names { OnOk result (found.new.names ≡ found.old.names ++ named.all_named (names_of range.now.columns)) }
     ensures fault { OnOk result (found.new.fault ≡ found.old.fault) }
@@ -92,11 +88,7 @@ fn own_name(alloc: Global, x: &Expr) -> Result<Option<Name>, OutOfMemory>
 }
 
 // The name of an output column.
-fn item_name(
-    alloc: Global,
-    x: &Expr,
-    alias: &Option<Alias>,
-) -> Result<Option<Name>, OutOfMemory>
+fn item_name(alloc: Global, x: &Expr, alias: &Option<Alias>) -> Result<Option<Name>, OutOfMemory>
     ensures { IfOk result (λ name. name ≡ named.item_name (written.expr x.now) alias.now) }
 {
     match alias {
@@ -151,7 +143,7 @@ fn push_item(
 }
 
 // Adds the items of a list at the end.
-#[tactic(auto, using(sql_ast::specs::Shown::lists, crate::proofs::Orders::lesser_joins))]
+#[tactic(auto, using(sql_ast::specs::Shown::lists, crate::proofs::Orders::fault_steps))]
 fn push_items(
     alloc: Global,
     found: &mut FoundColumns,
@@ -168,8 +160,25 @@ fn push_items(
     Ok(())
 }
 
+// Adds the columns of a list over a FROM of this range alone at the end.
+#[tactic(auto, using(sql_ast::specs::Shown::lists, crate::proofs::Stars::star_steps))]
+fn push_list(
+    alloc: Global,
+    found: &mut FoundColumns,
+    list: &SelectList,
+    range: &TypedRange,
+) -> Result<(), OutOfMemory>
+    ensures values { OnOk result ((cells : List Cell) → length cells ≡ length range.now.columns → cells_of (shown.value_list found.new.values) cells ≡ cells_of (shown.value_list found.old.values) cells ++ named.list_cells (written.select_list list.now) (frame_of range.now cells) []) }
+    ensures names { OnOk result (found.new.names ≡ found.old.names ++ named.list_names (written.select_list list.now) (shape_of range.now)) }
+    ensures fault { OnOk result (number found.new.fault ≡ spec.lesser (number found.old.fault) (spec.list_fault (written.select_list list.now) (alone range.now))) }
+{
+    match list {
+        SelectList::All => push_all(alloc, found, range),
+        SelectList::Items(items) => push_items(alloc, found, items.as_slice(), range),
+    }
+}
+
 // The columns of a list over a FROM of this range alone.
-#[tactic(auto, using(sql_ast::specs::Shown::lists))]
 pub(crate) fn columns(
     alloc: Global,
     list: &SelectList,
@@ -184,9 +193,6 @@ pub(crate) fn columns(
         names: Items::new(alloc),
         fault: None,
     };
-    match list {
-        SelectList::All => push_all(alloc, &mut found, range)?,
-        SelectList::Items(items) => push_items(alloc, &mut found, items.as_slice(), range)?,
-    }
+    push_list(alloc, &mut found, list, range)?;
     Ok(found)
 }

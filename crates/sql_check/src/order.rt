@@ -26,14 +26,24 @@ fn is_named(name: &Name, column: &Option<Name>) -> bool
 fn how_many(name: &Name, names: &[Option<Name>]) -> usize
     ensures { result ≡ spec.how_many name.now names.now }
 {
-    names.iter().filter(|column| is_named(name, *column)).count()
+    names
+        .iter()
+        .filter(|column| is_named(name, *column))
+        .count()
+}
+
+// The place of the first column of this name, from 0.
+fn place_named(name: &Name, names: &[Option<Name>]) -> Option<usize>
+    ensures { result ≡ position (named.is_named name.now) names.now }
+{
+    names.iter().position(|column| is_named(name, column))
 }
 
 // The place of the first column of this name, from 1; 0 where there is none.
 fn column_named(name: &Name, names: &[Option<Name>]) -> usize
     ensures { result ≡ named.place_from_one (position (named.is_named name.now) names.now) }
 {
-    match names.iter().position(|column| is_named(name, column)) {
+    match place_named(name, names) {
         Some(place) => place + 1,
         None => 0,
     }
@@ -70,7 +80,7 @@ fn key_fault(names: &[Option<Name>], key: &SortKey) -> Option<Fault>
 }
 
 // The first fault of these keys.
-#[tactic(auto, using(crate::proofs::Orders::lesser_joins))]
+#[tactic(auto, using(crate::proofs::Orders::fault_steps))]
 pub(crate) fn order_fault(names: &[Option<Name>], sorts: &[Sort]) -> Option<Fault>
     ensures { number result ≡ spec.order_fault names.now sorts.now }
 {

@@ -13,7 +13,9 @@ ghost use Rattle.sql_check.specs.Types as types;
 ghost use Rattle.sql_check.specs.Valid as spec;
 
 use crate::checked::{Arm, Choice, Test, Value};
-use crate::faults::{Fault, any_differs, differ, first_known, lesser, mismatch_if, results_fault, some_differ};
+use crate::faults::{
+    Fault, any_differs, differ, first_known, lesser, mismatch_if, results_fault, some_differ,
+};
 use crate::found::{Decided, Found, perhaps_not};
 use qgm_base::OutOfMemory;
 use sql_value::SqlType;
@@ -51,7 +53,6 @@ pub(crate) struct FoundChoices {
     pub choices: Items<Choice>,
     pub fault: Option<Fault>,
 }
-
 
 // Adds an expression at the end.
 #[tactic(auto, using(crate::proofs::Lists::cells_more))]
@@ -159,11 +160,7 @@ pub(crate) fn simple(
 }
 
 // These types, with one before them.
-fn with_first(
-    alloc: Global,
-    sort: Option<SqlType>,
-    sorts: Sorts,
-) -> Result<Sorts, OutOfMemory>
+fn with_first(alloc: Global, sort: Option<SqlType>, sorts: Sorts) -> Result<Sorts, OutOfMemory>
     ensures { IfOk result (λ all. all ≡ sort ∷ sorts) }
 {
     let mut all = Items::new(alloc);

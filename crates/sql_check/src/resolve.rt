@@ -1,8 +1,8 @@
 // Expressions and conditions with their names resolved, in one pass for value, type and fault.
-ghost use Rattle.std.specs.Prelude.{◌≡◌, ◌++◌, List, IfOk, OnOk};
+ghost use Rattle.std.specs.Prelude.{◌≡◌, ◌++◌, ◌∷◌, false, true, List, IfOk, OnOk};
+ghost use Rattle.std.specs.List.{list_any};
 ghost use Rattle.qgm_base.specs.declared.compare.CmpOp.TheVariants.{Eq};
 ghost use Rattle.sql_ast.specs.Shown as written;
-ghost use Rattle.sql_ast.specs.Syntax as syntax;
 ghost use Rattle.sql_meaning.specs.Values as named;
 ghost use Rattle.sql_value.specs.Comparison as comparison;
 ghost use Rattle.sql_value.specs.declared.cell.Cell.{Cell};
@@ -10,6 +10,7 @@ ghost use Rattle.sql_check.specs.Agreed.{SameTruth, SameValue, cells_meant, cell
 ghost use Rattle.sql_check.specs.Core as core;
 ghost use Rattle.sql_check.specs.CoreShown as shown;
 ghost use Rattle.sql_check.specs.Faults.{number};
+ghost use Rattle.sql_check.specs.Forms.{is_conjunction, is_disjunction, is_product, is_sum};
 ghost use Rattle.sql_check.specs.Scope.{alone, scopes_of};
 ghost use Rattle.sql_check.specs.Types as types;
 ghost use Rattle.sql_check.specs.Valid as spec;
@@ -17,8 +18,8 @@ ghost use Rattle.sql_check.specs.Valid as spec;
 use crate::checked::Value;
 use crate::faults::{length_fault, type_of_declared};
 use crate::found::{
-    Decided, Found, add, and, between, column, compare, is_null, like, multiply, not, null_if, or,
-    signed, unknown,
+    Decided, Found, add, and, between, column, compare, is_null, like, multiply, not, null_if,
+    null_value, number_value, or, signed, text_value, unknown,
 };
 use crate::parts::{
     FoundArms, FoundChoices, FoundList, Outcome, Sorts, among, coalesce, push_arm, push_choice,
@@ -31,79 +32,110 @@ use sql_value::SqlType;
 use sqlite_items::Items;
 use std::alloc::Global;
 
-// An expression with its names resolved.
+// An expression with its names resolved. Chains of operators stand apart from all else, so that each
+// of thousands of operators takes little of the stack.
 #[cycle(resolve)]
-#[tactic(auto, using(sql_ast::specs::Shown::lists, crate::proofs::Lists::sum_type))]
-pub(crate) fn expr(
-    alloc: Global,
-    x: &Expr,
-    range: &TypedRange,
-) -> Result<Found, OutOfMemory>
+pub(crate) fn expr(alloc: Global, x: &Expr, range: &TypedRange) -> Result<Found, OutOfMemory>
     ensures value { IfOk result (λ found. SameValue (shown.value found.value) (written.expr x.now) range.now) }
     ensures sort { IfOk result (λ found. found.sort ≡ types.type_of (written.expr x.now) (alone range.now)) }
     ensures fault { IfOk result (λ found. number found.fault ≡ spec.expr_fault (written.expr x.now) (alone range.now)) }
 {
     match x {
-        Expr::Add(a, op, b) => {
-            let a = expr(alloc, a, range)?;
-            let b = expr(alloc, b, range)?;
-            add(alloc, a, *op, b)
-        }
-        Expr::Multiply(a, op, b) => {
-            let a = expr(alloc, a, range)?;
-            let b = expr(alloc, b, range)?;
-            multiply(alloc, a, *op, b)
-        }
-        Expr::Signed(sign, a) => {
-            let a = expr(alloc, a, range)?;
-            signed(alloc, *sign, a)
-        }
-        Expr::Number(number) => Ok(Found {
-            value: Value::Number(*number),
-            sort: Some(SqlType::Integer),
-            fault: None,
-        }),
-        Expr::Str(text) => Ok(Found {
-            value: Value::Text(text.copy(alloc)?),
-            sort: Some(SqlType::Varchar),
-            fault: None,
-        }),
+        Expr::Add(_, _, _) => sum(alloc, x, range),
+        Expr::Multiply(_, _, _) => product(alloc, x, range),
+        Expr::Signed(_, _)
+        | Expr::Number(_)
+        | Expr::Str(_)
+        | Expr::Column(_)
+        | Expr::Paren(_)
+        | Expr::Scalar(_)
+        | Expr::CountAll
+        | Expr::Aggregate(_, _, _)
+        | Expr::Searched(_, _)
+        | Expr::Simple(_, _, _)
+        | Expr::Coalesce(_, _)
+        | Expr::NullIf(_, _)
+        | Expr::CastNull(_) => operand(alloc, x, range),
+    }
+}
+
+// `a + b`, `a - b` or `a || b`.
+#[cycle(resolve)]
+#[tactic(auto, using(sql_ast::specs::Shown::lists, crate::proofs::Lists::sum_type))]
+fn sum(alloc: Global, x: &Expr, range: &TypedRange) -> Result<Found, OutOfMemory>
+    requires form { is_sum (written.expr x.now) ≡ true }
+    ensures value { IfOk result (λ found. SameValue (shown.value found.value) (written.expr x.now) range.now) }
+    ensures sort { IfOk result (λ found. found.sort ≡ types.type_of (written.expr x.now) (alone range.now)) }
+    ensures fault { IfOk result (λ found. number found.fault ≡ spec.expr_fault (written.expr x.now) (alone range.now)) }
+{
+    let Expr::Add(a, op, b) = x else {
+        unreachable!()
+    };
+    let a = expr(alloc, a, range)?;
+    let b = expr(alloc, b, range)?;
+    add(alloc, a, *op, b)
+}
+
+// `a * b` or `a / b`.
+#[cycle(resolve)]
+#[tactic(auto, using(sql_ast::specs::Shown::lists))]
+fn product(alloc: Global, x: &Expr, range: &TypedRange) -> Result<Found, OutOfMemory>
+    requires form { is_product (written.expr x.now) ≡ true }
+    ensures value { IfOk result (λ found. SameValue (shown.value found.value) (written.expr x.now) range.now) }
+    ensures sort { IfOk result (λ found. found.sort ≡ types.type_of (written.expr x.now) (alone range.now)) }
+    ensures fault { IfOk result (λ found. number found.fault ≡ spec.expr_fault (written.expr x.now) (alone range.now)) }
+{
+    let Expr::Multiply(a, op, b) = x else {
+        unreachable!()
+    };
+    let a = expr(alloc, a, range)?;
+    let b = expr(alloc, b, range)?;
+    multiply(alloc, a, *op, b)
+}
+
+// An expression that is no chain of operators.
+#[cycle(resolve)]
+#[tactic(auto, using(sql_ast::specs::Shown::lists))]
+fn operand(alloc: Global, x: &Expr, range: &TypedRange) -> Result<Found, OutOfMemory>
+    requires no_sum { is_sum (written.expr x.now) ≡ false }
+    requires no_product { is_product (written.expr x.now) ≡ false }
+    ensures value { IfOk result (λ found. SameValue (shown.value found.value) (written.expr x.now) range.now) }
+    ensures sort { IfOk result (λ found. found.sort ≡ types.type_of (written.expr x.now) (alone range.now)) }
+    ensures fault { IfOk result (λ found. number found.fault ≡ spec.expr_fault (written.expr x.now) (alone range.now)) }
+{
+    match x {
+        Expr::Signed(sign, a) => signed(alloc, *sign, expr(alloc, a, range)?),
+        Expr::Number(value) => Ok(number_value(*value)),
+        Expr::Str(value) => text_value(alloc, value),
         Expr::Column(name) => Ok(column(name, range)),
         Expr::Paren(a) => expr(alloc, a, range),
-        Expr::Scalar(_) | Expr::Aggregate(_, _, _) => Ok(Found {
-            value: Value::Null,
-            sort: None,
-            fault: None,
-        }),
-        Expr::CountAll => Ok(Found {
-            value: Value::Null,
-            sort: Some(SqlType::Integer),
-            fault: None,
-        }),
-        Expr::Searched(list, last) => searched_case(alloc, list.as_slice(), last, range),
-        Expr::Simple(a, list, last) => simple_case(alloc, a, list.as_slice(), last, range),
-        Expr::Coalesce(a, list) => coalesced(alloc, a, list.as_slice(), range),
-        Expr::NullIf(a, b) => {
-            let a = expr(alloc, a, range)?;
-            let b = expr(alloc, b, range)?;
-            null_if(alloc, a, b)
+        Expr::Scalar(_) | Expr::Aggregate(_, _, _) => Ok(null_value(None, None)),
+        Expr::CountAll => Ok(null_value(Some(SqlType::Integer), None)),
+        Expr::Searched(list, last) => {
+            let mut sorts = Items::new(alloc);
+            let list = arms(alloc, list.as_slice(), range, &mut sorts)?;
+            searched_case(alloc, list, last, range, sorts)
         }
-        Expr::CastNull(data_type) => Ok(Found {
-            value: Value::Null,
-            sort: Some(type_of_declared(data_type)),
-            fault: length_fault(data_type),
-        }),
+        Expr::Simple(a, list, last) => {
+            let a = expr(alloc, a, range)?;
+            let mut sorts = Items::new(alloc);
+            let list = choices(alloc, a.sort, list.as_slice(), range, &mut sorts)?;
+            simple_case(alloc, a, list, last, range, sorts)
+        }
+        Expr::Coalesce(a, list) => {
+            let a = expr(alloc, a, range)?;
+            coalesced(alloc, a, list.as_slice(), range)
+        }
+        Expr::NullIf(a, b) => null_if(alloc, expr(alloc, a, range)?, expr(alloc, b, range)?),
+        Expr::Add(_, _, _) | Expr::Multiply(_, _, _) => unreachable!(),
+        Expr::CastNull(to) => Ok(null_value(Some(type_of_declared(to)), length_fault(to))),
     }
 }
 
 // The expressions of a list.
 #[cycle(resolve)]
-#[tactic(auto, using(crate::proofs::Orders::lesser_joins))]
-fn exprs(
-    alloc: Global,
-    list: &[Expr],
-    range: &TypedRange,
-) -> Result<FoundList, OutOfMemory>
+#[tactic(auto, using(crate::proofs::Orders::fault_steps))]
+fn exprs(alloc: Global, list: &[Expr], range: &TypedRange) -> Result<FoundList, OutOfMemory>
     ensures values { IfOk result (λ found. (cells : List Cell) → cells_of (shown.value_list found.values) cells ≡ cells_meant (written.expr_list list.now) (scopes_of range.now cells)) }
     ensures sorts { IfOk result (λ found. found.sorts ≡ types.types_of (written.expr_list list.now) (alone range.now)) }
     ensures fault { IfOk result (λ found. number found.fault ≡ spec.exprs_fault (written.expr_list list.now) (alone range.now)) }
@@ -185,7 +217,7 @@ fn add_arm(
 
 // The conditions of a CASE with their results, whose types are added at the end.
 #[cycle(resolve)]
-#[tactic(auto, using(crate::proofs::Orders::lesser_joins))]
+#[tactic(auto, using(crate::proofs::Orders::fault_steps))]
 fn arms(
     alloc: Global,
     list: &[Arm],
@@ -229,7 +261,7 @@ fn add_choice(
 // The values of a CASE with their results, whose types are added at the end. The operand that they
 // are compared with has this type.
 #[cycle(resolve)]
-#[tactic(auto, using(crate::proofs::Orders::lesser_joins))]
+#[tactic(auto, using(crate::proofs::Orders::fault_steps))]
 fn choices(
     alloc: Global,
     operand: Option<SqlType>,
@@ -251,40 +283,37 @@ fn choices(
     Ok(found)
 }
 
-// `CASE WHEN .. END`.
+// `CASE WHEN .. END` over these conditions, with the types of their results.
 #[cycle(resolve)]
 fn searched_case(
     alloc: Global,
-    list: &[Arm],
+    list: FoundArms,
     last: &Otherwise,
     range: &TypedRange,
+    mut sorts: Sorts,
 ) -> Result<Found, OutOfMemory>
-    ensures value { IfOk result (λ found. SameValue (shown.value found.value) (syntax.searched (written.arm_list list.now) (written.otherwise last.now)) range.now) }
-    ensures sort { IfOk result (λ found. found.sort ≡ types.type_of (syntax.searched (written.arm_list list.now) (written.otherwise last.now)) (alone range.now)) }
-    ensures fault { IfOk result (λ found. number found.fault ≡ spec.expr_fault (syntax.searched (written.arm_list list.now) (written.otherwise last.now)) (alone range.now)) }
+    ensures value { IfOk result (λ found. (cells : List Cell) → core.value (shown.value found.value) cells ≡ core.of_arms (shown.arm_list list.arms) (named.otherwise (written.otherwise last.now) (scopes_of range.now cells)) cells) }
+    ensures sort { IfOk result (λ found. found.sort ≡ types.first_known (sorts ++ types.else_types (written.otherwise last.now) (alone range.now))) }
+    ensures fault { IfOk result (λ found. number found.fault ≡ spec.lesser (spec.lesser (number list.fault) (spec.else_fault (written.otherwise last.now) (alone range.now))) (spec.results_fault (sorts ++ types.else_types (written.otherwise last.now) (alone range.now)))) }
 {
-    let mut sorts = Items::new(alloc);
-    let list = arms(alloc, list, range, &mut sorts)?;
     let last = otherwise(alloc, last, range, &mut sorts)?;
     searched(alloc, list, last, sorts.as_slice())
 }
 
-// `CASE x WHEN .. END`.
+// `CASE x WHEN .. END` over these values, with the types of their results.
 #[cycle(resolve)]
 fn simple_case(
     alloc: Global,
-    x: &Expr,
-    list: &[Choice],
+    x: Found,
+    list: FoundChoices,
     last: &Otherwise,
     range: &TypedRange,
+    mut sorts: Sorts,
 ) -> Result<Found, OutOfMemory>
-    ensures value { IfOk result (λ found. SameValue (shown.value found.value) (syntax.simple (written.expr x.now) (written.choice_list list.now) (written.otherwise last.now)) range.now) }
-    ensures sort { IfOk result (λ found. found.sort ≡ types.type_of (syntax.simple (written.expr x.now) (written.choice_list list.now) (written.otherwise last.now)) (alone range.now)) }
-    ensures fault { IfOk result (λ found. number found.fault ≡ spec.expr_fault (syntax.simple (written.expr x.now) (written.choice_list list.now) (written.otherwise last.now)) (alone range.now)) }
+    ensures value { IfOk result (λ found. (cells : List Cell) → core.value (shown.value found.value) cells ≡ core.of_choices (core.value (shown.value x.value) cells) (shown.choice_list list.choices) (named.otherwise (written.otherwise last.now) (scopes_of range.now cells)) cells) }
+    ensures sort { IfOk result (λ found. found.sort ≡ types.first_known (sorts ++ types.else_types (written.otherwise last.now) (alone range.now))) }
+    ensures fault { IfOk result (λ found. number found.fault ≡ spec.lesser (spec.lesser (number x.fault) (spec.lesser (number list.fault) (spec.else_fault (written.otherwise last.now) (alone range.now)))) (spec.results_fault (sorts ++ types.else_types (written.otherwise last.now) (alone range.now)))) }
 {
-    let x = expr(alloc, x, range)?;
-    let mut sorts = Items::new(alloc);
-    let list = choices(alloc, x.sort, list, range, &mut sorts)?;
     let last = otherwise(alloc, last, range, &mut sorts)?;
     simple(alloc, x, list, last, sorts.as_slice())
 }
@@ -294,15 +323,14 @@ fn simple_case(
 #[tactic(auto, using(crate::proofs::Lists::coalesced_meant))]
 fn coalesced(
     alloc: Global,
-    x: &Expr,
+    x: Found,
     list: &[Expr],
     range: &TypedRange,
 ) -> Result<Found, OutOfMemory>
-    ensures value { IfOk result (λ found. SameValue (shown.value found.value) (syntax.coalesce (written.expr x.now) (written.expr_list list.now)) range.now) }
-    ensures sort { IfOk result (λ found. found.sort ≡ types.type_of (syntax.coalesce (written.expr x.now) (written.expr_list list.now)) (alone range.now)) }
-    ensures fault { IfOk result (λ found. number found.fault ≡ spec.expr_fault (syntax.coalesce (written.expr x.now) (written.expr_list list.now)) (alone range.now)) }
+    ensures value { IfOk result (λ found. (cells : List Cell) → core.value (shown.value found.value) cells ≡ named.coalesced (core.value (shown.value x.value) cells) (written.expr_list list.now) (scopes_of range.now cells)) }
+    ensures sort { IfOk result (λ found. found.sort ≡ types.first_known (x.sort ∷ types.types_of (written.expr_list list.now) (alone range.now))) }
+    ensures fault { IfOk result (λ found. number found.fault ≡ spec.lesser (spec.lesser (number x.fault) (spec.exprs_fault (written.expr_list list.now) (alone range.now))) (spec.fault_if (spec.some_differ (x.sort ∷ types.types_of (written.expr_list list.now) (alone range.now))) 10)) }
 {
-    let x = expr(alloc, x, range)?;
     let list = exprs(alloc, list, range)?;
     coalesce(alloc, x, list)
 }
@@ -312,45 +340,81 @@ fn coalesced(
 #[tactic(auto, using(crate::proofs::Lists::equals_meant))]
 fn in_list(
     alloc: Global,
-    x: &Expr,
+    x: Found,
     negative: bool,
     list: &[Expr],
     range: &TypedRange,
 ) -> Result<Decided, OutOfMemory>
-    ensures truth { IfOk result (λ found. SameTruth (shown.test found.test) (syntax.in_list (written.expr x.now) negative (written.expr_list list.now)) range.now) }
-    ensures fault { IfOk result (λ found. number found.fault ≡ spec.cond_fault (syntax.in_list (written.expr x.now) negative (written.expr_list list.now)) (alone range.now)) }
+    ensures truth { IfOk result (λ found. (cells : List Cell) → core.truth (shown.test found.test) cells ≡ named.perhaps_not negative (named.equals_one (core.value (shown.value x.value) cells) (written.expr_list list.now) (scopes_of range.now cells))) }
+    ensures fault { IfOk result (λ found. number found.fault ≡ spec.lesser (spec.lesser (number x.fault) (spec.exprs_fault (written.expr_list list.now) (alone range.now))) (spec.fault_if (list_any (spec.differ x.sort) (types.types_of (written.expr_list list.now) (alone range.now))) 10)) }
 {
-    let x = expr(alloc, x, range)?;
     let list = exprs(alloc, list, range)?;
     among(alloc, x, negative, list)
 }
 
-// A condition with its names resolved.
+// A condition with its names resolved. Chains stand apart, as above.
 #[cycle(resolve)]
-#[tactic(auto, using(sql_ast::specs::Shown::lists))]
-pub(crate) fn cond(
-    alloc: Global,
-    p: &Cond,
-    range: &TypedRange,
-) -> Result<Decided, OutOfMemory>
+pub(crate) fn cond(alloc: Global, p: &Cond, range: &TypedRange) -> Result<Decided, OutOfMemory>
     ensures truth { IfOk result (λ found. SameTruth (shown.test found.test) (written.cond p.now) range.now) }
     ensures fault { IfOk result (λ found. number found.fault ≡ spec.cond_fault (written.cond p.now) (alone range.now)) }
 {
     match p {
-        Cond::Or(a, b) => {
-            let a = cond(alloc, a, range)?;
-            let b = cond(alloc, b, range)?;
-            or(alloc, a, b)
-        }
-        Cond::And(a, b) => {
-            let a = cond(alloc, a, range)?;
-            let b = cond(alloc, b, range)?;
-            and(alloc, a, b)
-        }
-        Cond::Not(a) => {
-            let a = cond(alloc, a, range)?;
-            not(alloc, a)
-        }
+        Cond::Or(_, _) => disjunction(alloc, p, range),
+        Cond::And(_, _) => conjunction(alloc, p, range),
+        Cond::Not(_)
+        | Cond::Bracket(_)
+        | Cond::Compare(_, _, _)
+        | Cond::Between(_, _, _, _)
+        | Cond::InList(_, _, _)
+        | Cond::Like(_, _, _)
+        | Cond::IsNull(_, _)
+        | Cond::Quantified(_, _, _, _)
+        | Cond::InQuery(_, _, _)
+        | Cond::Exists(_) => conjunct(alloc, p, range),
+    }
+}
+
+// `a OR b`.
+#[cycle(resolve)]
+fn disjunction(alloc: Global, p: &Cond, range: &TypedRange) -> Result<Decided, OutOfMemory>
+    requires form { is_disjunction (written.cond p.now) ≡ true }
+    ensures truth { IfOk result (λ found. SameTruth (shown.test found.test) (written.cond p.now) range.now) }
+    ensures fault { IfOk result (λ found. number found.fault ≡ spec.cond_fault (written.cond p.now) (alone range.now)) }
+{
+    let Cond::Or(a, b) = p else {
+        unreachable!()
+    };
+    let a = cond(alloc, a, range)?;
+    let b = cond(alloc, b, range)?;
+    or(alloc, a, b)
+}
+
+// `a AND b`.
+#[cycle(resolve)]
+fn conjunction(alloc: Global, p: &Cond, range: &TypedRange) -> Result<Decided, OutOfMemory>
+    requires form { is_conjunction (written.cond p.now) ≡ true }
+    ensures truth { IfOk result (λ found. SameTruth (shown.test found.test) (written.cond p.now) range.now) }
+    ensures fault { IfOk result (λ found. number found.fault ≡ spec.cond_fault (written.cond p.now) (alone range.now)) }
+{
+    let Cond::And(a, b) = p else {
+        unreachable!()
+    };
+    let a = cond(alloc, a, range)?;
+    let b = cond(alloc, b, range)?;
+    and(alloc, a, b)
+}
+
+// A condition that is no chain of OR or AND. Those with a subquery have no meaning here yet.
+#[cycle(resolve)]
+#[tactic(auto, using(sql_ast::specs::Shown::lists))]
+fn conjunct(alloc: Global, p: &Cond, range: &TypedRange) -> Result<Decided, OutOfMemory>
+    requires no_disjunction { is_disjunction (written.cond p.now) ≡ false }
+    requires no_conjunction { is_conjunction (written.cond p.now) ≡ false }
+    ensures truth { IfOk result (λ found. SameTruth (shown.test found.test) (written.cond p.now) range.now) }
+    ensures fault { IfOk result (λ found. number found.fault ≡ spec.cond_fault (written.cond p.now) (alone range.now)) }
+{
+    match p {
+        Cond::Not(a) => not(alloc, cond(alloc, a, range)?),
         Cond::Bracket(a) => cond(alloc, a, range),
         Cond::Compare(a, op, b) => {
             let a = expr(alloc, a, range)?;
@@ -364,6 +428,7 @@ pub(crate) fn cond(
             between(alloc, a, *negative, b, c)
         }
         Cond::InList(a, negative, list) => {
+            let a = expr(alloc, a, range)?;
             in_list(alloc, a, *negative, list.as_slice(), range)
         }
         Cond::Like(a, negative, b) => {
@@ -371,10 +436,8 @@ pub(crate) fn cond(
             let b = expr(alloc, b, range)?;
             like(alloc, a, *negative, b)
         }
-        Cond::IsNull(a, negative) => {
-            let a = expr(alloc, a, range)?;
-            is_null(alloc, a, *negative)
-        }
+        Cond::IsNull(a, negative) => is_null(alloc, expr(alloc, a, range)?, *negative),
+        Cond::Or(_, _) | Cond::And(_, _) => unreachable!(),
         Cond::Quantified(_, _, _, _) | Cond::InQuery(_, _, _) | Cond::Exists(_) => unknown(alloc),
     }
 }

@@ -41,10 +41,7 @@ pub(crate) struct Target {
 fn count_named(columns: &[TypedColumn], name: &Name) -> usize
     ensures { result ≡ length (columns_named name.now columns.now) }
 {
-    columns
-        .iter()
-        .filter(|column| column.name == *name)
-        .count()
+    columns.iter().filter(|column| column.name == *name).count()
 }
 
 // The fault of a name among these columns.

@@ -6,8 +6,8 @@ ghost use Rattle.sql_check.specs.Taken as spec;
 
 use crate::block::{only_block, only_table};
 use sql_ast::{
-    Arm, Block, Choice, Cond, Correlation, Expr, Filter, Item, Otherwise, QueryText, Res, SelectList,
-    SetQuantifier,
+    Arm, Block, Choice, Cond, Correlation, Expr, Filter, Item, Otherwise, QueryText, Res,
+    SelectList, SetQuantifier,
 };
 
 // Whether neither a subquery nor an aggregate is in an expression.
@@ -25,7 +25,7 @@ fn takes_expr(x: &Expr) -> bool
         Expr::Scalar(_) | Expr::CountAll | Expr::Aggregate(_, _, _) => false,
         Expr::Searched(list, last) => takes_arms(list.as_slice()) && takes_else(last),
         Expr::Simple(a, list, last) => {
-            takes_expr(a) && takes_choices(list.as_slice()) && takes_else(last)
+            takes_expr(a) && (takes_choices(list.as_slice()) && takes_else(last))
         }
         Expr::Coalesce(a, list) => takes_expr(a) && takes_exprs(list.as_slice()),
         Expr::NullIf(a, b) => takes_expr(a) && takes_expr(b),

@@ -1,7 +1,7 @@
 -- A recursion on a count of turns, beside a loop that counts up: of elements and of statements.
 use Rattle.std.proofs.Common.{◌≡◌, ℕ, zero, suc, List, [], ◌∷◌, ◌++◌, map, false, Option, Some, None, ap, ◌∙◌, sym, refl}
 use Rattle.std.specs.Option.{option_map, option_and_then}
-use Rattle.std.proofs.lemmas.List.{append_assoc, append-nil, map-append}
+use Rattle.std.proofs.lemmas.List.{append_assoc, map-append}
 use Rattle.sql_text.specs.declared.token.Token.{Token}
 use Rattle.sql_text.specs.declared.token.Token.TheVariants as t
 use Rattle.sql_parser.specs.Read.{starts_comma}

@@ -1,6 +1,6 @@
 -- A recursion on a count of turns, beside a loop that counts up: of columns, of tables and of queries.
-use Rattle.std.proofs.Common.{◌≡◌, ℕ, zero, suc, ◌+◌, ◌-◌, ◌<◌, ◌≤◌, length, List, [], ◌∷◌, ◌++◌, false, Option, Some, None, Err, ap, ◌∙◌, sym, arith, refl}
-use Rattle.std.proofs.lemmas.List.{append-nil, append_assoc, length-map}
+use Rattle.std.proofs.Common.{◌≡◌, ℕ, zero, suc, ◌-◌, length, List, [], ◌∷◌, ◌++◌, false, Some, None, ap, ◌∙◌, sym, refl}
+use Rattle.std.proofs.lemmas.List.{append-nil, append_assoc}
 use Rattle.sql_text.specs.Tokens.{token_list}
 use Rattle.sql_text.specs.declared.token.Spanned.{Spanned}
 use Rattle.sql_text.specs.declared.token.Token.{Token}
@@ -16,12 +16,10 @@ use Rattle.sql_parser.specs.declared.word.JoinKind.{JoinKind}
 use denote.Bor.{Bor}
 use Rattle.sql_ast.specs.Shown as shown
 use Rattle.sql_ast.specs.Syntax as s
-use Rattle.sql_parser.specs.declared.refusal.ParseRefusal.{ParseRefusal}
-use Rattle.sql_parser.specs.declared.refusal.ParseRefusal.TheVariants.{OverLimit, Syntax, Memory}
 use Rattle.sql_parser.specs.Read.{starts_comma, starts_intersect, starts_star, listed, select_list, join_after, more_joins, tref, tables, more_tables, item, items, more_items, qprim, more_qprims, qterm, more_qterms, combined}
 use Rattle.sql_parser.specs.ReadText.{more_sorts}
 use Rattle.sql_parser.proofs.Turns.{no_turn}
-use Rattle.sql_parser.specs.Words.{Found, Parser, ◌>>=◌, Gives, mapped, join_at, all_at, set_operator_at, more_columns}
+use Rattle.sql_parser.specs.Words.{Found, Parser, ◌>>=◌, mapped, join_at, all_at, set_operator_at, more_columns}
 
 -- ---- lists that are plain
 

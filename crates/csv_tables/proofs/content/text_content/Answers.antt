@@ -1,4 +1,4 @@
-use Rattle.std.proofs.Common.{◌∙◌, ◌≡◌, sym, ap, true, false, w64}
+use Rattle.std.proofs.Common.{◌∙◌, sym, ap, true, false, w64}
 use Rattle.std.proofs.lemmas.Int.{to_z-of_z}
 use Rattle.csv_tables.specs.Contents.{is_longer}
 use Rattle.csv_tables.proofs.Texts.{text-invalid, text-null, text-within}

@@ -8,8 +8,8 @@ returns-in_default c = absurd (at-none (fields_of c.args.fields.now) c.loop-i.i 
 
 pub returns-then-not-branch : goal.returns-then-not-branch
 returns-then-not-branch c = header-differs c.args.columns.now (fields_of c.args.fields.now) c.loop-i.i c.in-Some.field.now c.index-columns-i.result _ c.loop-i-test.true (sym c.in-Some.ensures.value)
-    (rw (← c.index-columns-i.is) (sym c.in_ok-fits_name.ensures ∙ c.if-not-branch.true)) c.loop-i.invariant
+    (sym c.in_ok-fits_name.ensures ∙ c.if-not-branch.true) c.loop-i.invariant
 
 pub loop-i-preserved : goal.loop-i-preserved
 loop-i-preserved c = header-agrees c.args.columns.now (fields_of c.args.fields.now) c.loop-i.i c.in-Some.field.now c.index-columns-i.result _ c.loop-i-test.true (sym c.in-Some.ensures.value)
-    (rw (← c.index-columns-i.is) (sym c.in_ok-fits_name.ensures ∙ c.if-not-branch.false)) c.loop-i.invariant
+    (sym c.in_ok-fits_name.ensures ∙ c.if-not-branch.false) c.loop-i.invariant

@@ -1,4 +1,4 @@
-use Rattle.std.proofs.Common.{◌≡◌, ◌∙◌, sym}
+use Rattle.std.proofs.Common.{◌∙◌, sym}
 use Rattle.csv.specs.Records.{fields_of}
 use Rattle.csv_tables.proofs.Rows.{table-none, table-other, table-under}
 use Rattle.csv_tables.proofs.table.read_table.Goals as goal
@@ -11,9 +11,9 @@ returns-then-not-branch c =
 pub returns-then-not-branch-2 : goal.returns-then-not-branch-2
 returns-then-not-branch-2 c =
     let taken = rw c.if-not-branch.false at c.in_ok-next.ensures in
-    rw (← c.in_ok-shape.ensures) (table-other c.in_ok-shape.shape c.args.bytes.now (fields_of c.next.new.row) c.next.new.self (rw c.new-records.ensures at taken) (rw c.as_slice.ensures at (sym c.in_ok-fits_header.ensures ∙ c.if-not-branch-2.true)))
+    rw (← c.in_ok-table.ensures) (table-other c.in_ok-table.table c.args.bytes.now (fields_of c.next.new.row) c.next.new.self (rw c.new-records.ensures at taken) (rw c.as_slice.ensures at (sym c.in_ok-fits_header.ensures ∙ c.if-not-branch-2.true)))
 
 pub returns : goal.returns
 returns c =
     let taken = rw c.if-not-branch.false at c.in_ok-next.ensures in
-    rw (← c.in_ok-shape.ensures, table-under c.in_ok-shape.shape c.args.bytes.now (fields_of c.next.new.row) c.next.new.self (rw c.new-records.ensures at taken) (rw c.as_slice.ensures at (sym c.in_ok-fits_header.ensures ∙ c.if-not-branch-2.false))) c.rows.ensures
+    rw (← c.in_ok-table.ensures, table-under c.in_ok-table.table c.args.bytes.now (fields_of c.next.new.row) c.next.new.self (rw c.new-records.ensures at taken) (rw c.as_slice.ensures at (sym c.in_ok-fits_header.ensures ∙ c.if-not-branch-2.false))) c.rows.ensures

@@ -1,4 +1,4 @@
-use Rattle.std.proofs.Common.{arith, ◌≡◌, ◌-◌, ◌∷◌, [], ◌++◌, ◌∙◌, ap, sym, length}
+use Rattle.std.proofs.Common.{◌∷◌, [], ◌++◌, ◌∙◌, ap}
 use Rattle.sql_text.specs.Tokens.{token_list}
 use Rattle.sql_parser.specs.Words as words
 use Rattle.sql_parser.proofs.Turns.{one_more, no_turn, no_more}

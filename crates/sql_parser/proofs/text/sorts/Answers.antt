@@ -1,4 +1,4 @@
-use Rattle.std.proofs.Common.{arith, ◌≡◌, ◌-◌, ◌∷◌, [], ◌++◌, ◌∙◌, ap, sym, length, refl}
+use Rattle.std.proofs.Common.{◌∷◌, [], ◌++◌, ◌∙◌, ap, refl}
 use Rattle.std.proofs.lemmas.Result.{err_from_is_err_and}
 use Rattle.sql_text.specs.Tokens.{token_list}
 use Rattle.sql_parser.specs.ReadText as text

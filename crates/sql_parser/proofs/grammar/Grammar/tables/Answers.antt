@@ -1,8 +1,7 @@
-use Rattle.std.proofs.Common.{◌≡◌, ◌-◌, ◌∙◌, [], ◌∷◌, ◌++◌, length, ap, sym, refl}
+use Rattle.std.proofs.Common.{◌-◌, ◌∙◌, [], ◌∷◌, ◌++◌, length, ap, sym, refl}
 use Rattle.std.proofs.lemmas.Result.{err_from_is_err_and}
 use Rattle.sql_text.specs.Tokens.{token_list}
 use Rattle.sql_ast.specs.Shown as shown
-use Rattle.sql_ast.specs.Syntax as s
 use Rattle.sql_parser.specs.Read as read
 use Rattle.sql_parser.specs.Words.{mapped}
 use Rattle.sql_parser.proofs.Turns.{fails, one_more, no_more}

@@ -1,0 +1,12 @@
+use Rattle.std.proofs.Common.{◌∙◌, sym}
+use Rattle.csv_tables.specs.Seen.{has_seen, seen_with}
+use Rattle.csv_tables.proofs.KeySteps.{passed-more, set-more}
+use Rattle.csv_tables.proofs.seen.repeats.Goals as goal
+
+pub loop-i-preserved : goal.loop-i-preserved
+loop-i-preserved c = record {
+  passed = passed-more c.args.seen.now.items c.loop-i.seen.items c.loop-i.i (seen_with c.args.contents.now) (has_seen c.args.contents.now) c.index_mut.result.now (rw c.as_slice-i-end.ensures.value at c.loop-i-test.true) c.loop-i.invariant.items c.index_mut.ensures.value
+      (sym c.in_ok-add_to.ensures.found ∙ c.if-branch.false) c.loop-i.invariant.passed;
+  items = set-more c.args.seen.now.items c.loop-i.seen.items c.loop-i.i (seen_with c.args.contents.now) c.index_mut.result.now c.add_to.new.seen (rw c.as_slice-i-end.ensures.value at c.loop-i-test.true) c.loop-i.invariant.items c.index_mut.ensures.value
+      (c.in_ok-add_to.ensures.after c.if-branch.false);
+}

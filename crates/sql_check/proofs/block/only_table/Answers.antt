@@ -1,0 +1,22 @@
+use Rattle.std.proofs.Common.{◌≡◌, ◌≤◌, false, List, [], ◌∷◌, length, refl, arith}
+use Rattle.sql_ast.specs.declared.tree.TableRef.{TableRef}
+use Rattle.sql_ast.specs.Shown as written
+use Rattle.sql_ast.specs.Syntax as s
+use Rattle.sql_check.specs.Taken as spec
+use Rattle.sql_check.proofs.block.only_table.Goals as goal
+
+two_tables : (x y : s.TableRef) (xs : s.TableRefs) → spec.takes_from (s.one_table x (s.one_table y xs)) ≡ false
+two_tables (s.join a inner b p) y xs = refl
+two_tables (s.left_join a outer b p) y xs = refl
+two_tables (s.cross_join a b) y xs = refl
+two_tables (s.named name alias) y xs = refl
+two_tables (s.derived q alias) y xs = refl
+two_tables (s.joined a) y xs = refl
+
+more_tables : (xs : List TableRef) → 2 ≤ length xs → spec.takes_from (written.table_list xs) ≡ false
+more_tables [] h = absurd (omega arith)
+more_tables (x ∷ []) h = absurd (omega arith)
+more_tables (x ∷ y ∷ xs) h = two_tables (written.table x) (written.table y) (written.table_list xs)
+
+pub returns-in-len2-up-clause-none : goal.returns-in-len2-up-clause-none
+returns-in-len2-up-clause-none c = more_tables c.args.from.now (omega arith)
