@@ -1,6 +1,6 @@
 -- A list of which each element is replaced where it stands, from the first on.
-use Rattle.std.proofs.Common.{ℕ, ◌+◌, ◌<◌, ◌≡◌, ◌∙◌, List, [], ◌∷◌, ◌++◌, drop, get_or, length, map, set, take, refl, sym, arith}
-use Rattle.std.proofs.lemmas.List.{drop-set-lt, drop_more, length-set, map-append, take_more, take_more_set}
+use Rattle.std.proofs.Common.{ℕ, ◌+◌, ◌<◌, ◌≡◌, ◌∙◌, List, [], ◌∷◌, drop, get_or, length, map, set, take, refl, sym, arith}
+use Rattle.std.proofs.lemmas.List.{drop-set-lt, drop_more, map-append, take_more, take_more_set}
 
 left-same : {X : Type 0} (xs all : List X) (i : ℕ) (d : X) → i < length xs → length xs ≡ length all → drop i xs ≡ drop i all
     → get_or xs i d ∷ drop (i + 1) xs ≡ get_or all i d ∷ drop (i + 1) all

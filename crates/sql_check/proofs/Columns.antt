@@ -1,10 +1,9 @@
 -- The first column of a name.
-use Rattle.std.proofs.Common.{◌≡◌, ℕ, zero, suc, ◌+◌, Bool, true, false, cond, List, [], ◌∷◌, Option, Some, None, filter, find, length, get_or, position, nat_lt, option_map, ◌≢◌, refl, sym, ap, ◌∙◌, inl, inr, arith}
+use Rattle.std.proofs.Common.{◌≡◌, ℕ, suc, ◌+◌, Bool, cond, List, [], ◌∷◌, Option, Some, None, find, length, position, nat_lt, option_map, ◌≢◌, refl, ap, ◌∙◌, inl, inr, arith}
 use Rattle.std.specs.List.{position_or_len}
 use Rattle.std.proofs.lemmas.Bool.{cases_Bool, le-ltb, lt-ltb, ltb-false, ltb-true}
 use Rattle.sql_value.specs.declared.cell.Cell.{Cell}
 use Rattle.sql_value.specs.declared.cell.Cell.TheVariants.{Null}
-use Rattle.sql_value.specs.declared.order_key.SqlType.{SqlType}
 use Rattle.sql_catalog.specs.Names.{same_name}
 use Rattle.sql_meaning.specs.Scopes.{cell_named, or_null}
 use Rattle.sql_check.specs.Scope.{cell_at, names_of}

@@ -1,5 +1,5 @@
 -- Checked expressions and conditions without where they lie in memory, and what they mean for the row of a FROM.
-use Rattle.std.specs.Prelude.{ℕ, ℤ, Bool, true, false, List, [], ◌∷◌, get_or}
+use Rattle.std.specs.Prelude.{ℕ, ℤ, true, false, List, get_or}
 use Rattle.qgm_base.specs.declared.compare.CmpOp.{CmpOp}
 use Rattle.qgm_base.specs.declared.compare.CmpOp.TheVariants.{Eq, Ge, Le}
 use Rattle.sql_ast.specs.declared.word.AdditiveOp.{AdditiveOp}

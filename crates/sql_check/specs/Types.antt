@@ -1,8 +1,7 @@
 -- The types of expressions, as far as names tell them (SQL-92, 6.11 to 6.14 and 6.9). A type is unknown where a name stands for nothing.
-use Rattle.std.specs.Prelude.{ℕ, Bool, true, false, ◌&&◌, List, [], ◌∷◌, ◌++◌, Option, Some, None, map, filter, find, length, if◌then◌else◌}
-use Rattle.std.specs.List.{flat_map, list_any}
+use Rattle.std.specs.Prelude.{ℕ, Bool, List, [], ◌∷◌, ◌++◌, Option, Some, None, filter, find}
+use Rattle.std.specs.List.{flat_map}
 use Rattle.sql_ast.specs.declared.name.Column.{Column}
-use Rattle.sql_ast.specs.declared.word.AdditiveOp.{AdditiveOp}
 use Rattle.sql_ast.specs.declared.word.AdditiveOp.TheVariants as add
 use Rattle.sql_ast.specs.declared.word.DataType.{DataType}
 use Rattle.sql_ast.specs.declared.word.DataType.TheVariants as type

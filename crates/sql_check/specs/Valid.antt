@@ -1,8 +1,6 @@
 -- Which queries are valid: the least number that holds, or 0. A default stands where a name was not found, so that no lesser number is raised by it.
-use Rattle.std.specs.Prelude.{ℕ, zero, suc, min, ◌+◌, Bool, true, false, not, ◌&&◌, ◌||◌, nat_eq, nat_le, nat_lt, ℤ, pos, negsuc, List, [], ◌∷◌, ◌++◌, Option, Some, None, map, filter, length, if◌then◌else◌}
-use Rattle.std.specs.List.{list_any, sum_by}
-use Rattle.sql_ast.specs.declared.name.Column.{Column}
-use Rattle.sql_ast.specs.declared.name.Correlation.{Correlation}
+use Rattle.std.specs.Prelude.{ℕ, zero, suc, min, Bool, true, false, not, ◌&&◌, nat_eq, nat_le, nat_lt, ℤ, pos, negsuc, List, [], ◌∷◌, ◌++◌, Option, Some, None, map, filter, length}
+use Rattle.std.specs.List.{list_any}
 use Rattle.sql_ast.specs.declared.text.Sort.{Sort}
 use Rattle.sql_ast.specs.declared.text.SortKey.{SortKey}
 use Rattle.sql_ast.specs.declared.text.SortKey.TheVariants as sort_key

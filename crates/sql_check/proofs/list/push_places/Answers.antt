@@ -1,4 +1,4 @@
-use Rattle.std.proofs.Common.{◌≡◌, ◌<◌, ◌≤◌, ◌∙◌, drop, length, arith, sym, append-nil}
+use Rattle.std.proofs.Common.{◌<◌, ◌≤◌, ◌∙◌, length, arith, append-nil}
 use Rattle.std.proofs.lemmas.List.{drop_all}
 use Rattle.sql_check.proofs.Stars.{places_more}
 use Rattle.sql_check.proofs.list.push_places.Goals as goal
