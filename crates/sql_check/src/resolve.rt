@@ -381,9 +381,7 @@ fn disjunction(alloc: Global, p: &Cond, range: &TypedRange) -> Result<Decided, O
     ensures truth { IfOk result (λ found. SameTruth (shown.test found.test) (written.cond p.now) range.now) }
     ensures fault { IfOk result (λ found. number found.fault ≡ spec.cond_fault (written.cond p.now) (alone range.now)) }
 {
-    let Cond::Or(a, b) = p else {
-        unreachable!()
-    };
+    let Cond::Or(a, b) = p else { unreachable!() };
     let a = cond(alloc, a, range)?;
     let b = cond(alloc, b, range)?;
     or(alloc, a, b)
@@ -396,9 +394,7 @@ fn conjunction(alloc: Global, p: &Cond, range: &TypedRange) -> Result<Decided, O
     ensures truth { IfOk result (λ found. SameTruth (shown.test found.test) (written.cond p.now) range.now) }
     ensures fault { IfOk result (λ found. number found.fault ≡ spec.cond_fault (written.cond p.now) (alone range.now)) }
 {
-    let Cond::And(a, b) = p else {
-        unreachable!()
-    };
+    let Cond::And(a, b) = p else { unreachable!() };
     let a = cond(alloc, a, range)?;
     let b = cond(alloc, b, range)?;
     and(alloc, a, b)
