@@ -26,11 +26,35 @@ fn chains_are_answered_up_to_their_limits(rt: HostRuntime) -> Result<(), Fail> {
     for (head, count, piece, tail, printed) in [
         ("SELECT A", 2048, " + 1", " X FROM T", "X\n2049\n"),
         ("SELECT A", 2048, " * 1", " X FROM T", "X\n1\n"),
-        ("SELECT CASE WHEN 'a'", 2048, " || 'a'", " LIKE '%aa' THEN 1 END X FROM T", "X\n1\n"),
-        ("SELECT A FROM T WHERE A = 1", 2048, " AND A = 1", "", "A\n1\n"),
-        ("SELECT A FROM T WHERE A = 1", 2048, " OR A = 2", "", "A\n1\n"),
+        (
+            "SELECT CASE WHEN 'a'",
+            2048,
+            " || 'a'",
+            " LIKE '%aa' THEN 1 END X FROM T",
+            "X\n1\n",
+        ),
+        (
+            "SELECT A FROM T WHERE A = 1",
+            2048,
+            " AND A = 1",
+            "",
+            "A\n1\n",
+        ),
+        (
+            "SELECT A FROM T WHERE A = 1",
+            2048,
+            " OR A = 2",
+            "",
+            "A\n1\n",
+        ),
         ("SELECT A FROM T WHERE A IN (1", 2048, ",1", ")", "A\n1\n"),
-        ("SELECT A FROM T WHERE A = 1", 2049, " AND A = 1", "", "QUERY Q5\n"),
+        (
+            "SELECT A FROM T WHERE A = 1",
+            2049,
+            " AND A = 1",
+            "",
+            "QUERY Q5\n",
+        ),
     ] {
         let found = over_chain(rt.alloc(), head, count, piece, tail)?;
         assert_eq!(rt; found.as_str(), printed, "at {piece}");

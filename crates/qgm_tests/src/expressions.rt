@@ -18,7 +18,9 @@ fn valued(alloc: Global, expr: &str) -> Result<String, Fail> {
 
 // The same of a condition: t, f or u for true, false and unknown, or the line of its error.
 fn judged(alloc: Global, cond: &str) -> Result<String, Fail> {
-    let expr = format!(in alloc; "CASE WHEN {cond} THEN 't' WHEN NOT ({cond}) THEN 'f' ELSE 'u' END")?;
+    let expr = format!(in alloc;
+        "CASE WHEN {cond} THEN 't' WHEN NOT ({cond}) THEN 'f' ELSE 'u' END"
+    )?;
     valued(alloc, expr.as_str())
 }
 
@@ -70,7 +72,11 @@ fn expressions_have_their_values(rt: HostRuntime) -> Result<(), Fail> {
         ("CAST(NULL AS INTEGER)", "\\N"),
     ] {
         let wanted = format!(in rt.alloc(); "X\n{value}\n")?;
-        assert_eq!(rt; valued(rt.alloc(), expr)?.as_str(), wanted.as_str(), "at {expr}");
+        assert_eq!(rt;
+            valued(rt.alloc(), expr)?.as_str(),
+            wanted.as_str(),
+            "at {expr}"
+        );
     }
     Ok(())
 }
@@ -100,7 +106,11 @@ fn expressions_have_their_errors(rt: HostRuntime) -> Result<(), Fail> {
         ("NULLIF(2, G + 1)", 22003),
     ] {
         let wanted = format!(in rt.alloc(); "ERROR {number}\n")?;
-        assert_eq!(rt; valued(rt.alloc(), expr)?.as_str(), wanted.as_str(), "at {expr}");
+        assert_eq!(rt;
+            valued(rt.alloc(), expr)?.as_str(),
+            wanted.as_str(),
+            "at {expr}"
+        );
     }
     Ok(())
 }
@@ -160,7 +170,11 @@ fn conditions_are_true_false_or_unknown(rt: HostRuntime) -> Result<(), Fail> {
         ("CAST(NULL AS VARCHAR(1)) LIKE '%'", "u"),
     ] {
         let wanted = format!(in rt.alloc(); "X\n{truth}\n")?;
-        assert_eq!(rt; judged(rt.alloc(), cond)?.as_str(), wanted.as_str(), "at {cond}");
+        assert_eq!(rt;
+            judged(rt.alloc(), cond)?.as_str(),
+            wanted.as_str(),
+            "at {cond}"
+        );
     }
     Ok(())
 }
@@ -181,7 +195,11 @@ fn conditions_have_their_errors(rt: HostRuntime) -> Result<(), Fail> {
         ("G + 1 NOT IN (1)", 22003),
     ] {
         let wanted = format!(in rt.alloc(); "ERROR {number}\n")?;
-        assert_eq!(rt; judged(rt.alloc(), cond)?.as_str(), wanted.as_str(), "at {cond}");
+        assert_eq!(rt;
+            judged(rt.alloc(), cond)?.as_str(),
+            wanted.as_str(),
+            "at {cond}"
+        );
     }
     Ok(())
 }

@@ -110,7 +110,15 @@ fn a_faulty_option_is_usage_and_no_file_is_read(rt: HostRuntime) -> Result<(), F
     for option in ["--budget=10001", "--classes=foo"] {
         let mut options = Vec::new(alloc);
         options.push(String::from_str(alloc, option)?)?;
-        let ran = run::<Brand>(alloc, Blank::new(1), SCHEMA, query, table(alloc)?, options, 100)?;
+        let ran = run::<Brand>(
+            alloc,
+            Blank::new(1),
+            SCHEMA,
+            query,
+            table(alloc)?,
+            options,
+            100,
+        )?;
         assert_eq!(rt; ran.status, 2, "at {option}");
         assert_eq!(rt; ran.written.as_slice(), b"USAGE\n".as_slice());
         assert_eq!(rt; ran.reads, 0);
@@ -132,7 +140,15 @@ fn options_leave_the_answer(rt: HostRuntime) -> Result<(), Fail> {
     ] {
         options.push(String::from_str(alloc, option)?)?;
     }
-    let ran = run::<Brand>(alloc, Blank::new(1), SCHEMA, query, table(alloc)?, options, 100)?;
+    let ran = run::<Brand>(
+        alloc,
+        Blank::new(1),
+        SCHEMA,
+        query,
+        table(alloc)?,
+        options,
+        100,
+    )?;
     assert_eq!(rt; ran.status, 0);
     assert_eq!(rt;
         ran.written.as_slice(),
@@ -147,13 +163,25 @@ fn a_schema_is_refused_by_its_number(rt: HostRuntime) -> Result<(), Fail> {
     for (schema, printed) in [
         ("CREATE TABLE T (A ?", "SCHEMA S1\n"),
         ("CREATE TABLE T (A 'x", "SCHEMA S2\n"),
-        ("CREATE TABLE T (A VARCHAR(9223372036854775808));", "SCHEMA S3\n"),
+        (
+            "CREATE TABLE T (A VARCHAR(9223372036854775808));",
+            "SCHEMA S3\n",
+        ),
         ("CREATE TABLE T (A INTEGER)", "SCHEMA S4\n"),
-        ("CREATE TABLE T (A INTEGER); CREATE VIEW V AS SELECT A FROM T;", "SCHEMA S4\n"),
+        (
+            "CREATE TABLE T (A INTEGER); CREATE VIEW V AS SELECT A FROM T;",
+            "SCHEMA S4\n",
+        ),
         ("CREATE TABLE T (A INTEGER, a INT);", "SCHEMA S8\n"),
-        ("CREATE TABLE T (A INT); CREATE TABLE T (B INT);", "SCHEMA S8\n"),
+        (
+            "CREATE TABLE T (A INT); CREATE TABLE T (B INT);",
+            "SCHEMA S8\n",
+        ),
         ("CREATE TABLE T (A INT, PRIMARY KEY (B));", "SCHEMA S9\n"),
-        ("CREATE TABLE T (A INT PRIMARY KEY, B INT PRIMARY KEY);", "SCHEMA S9\n"),
+        (
+            "CREATE TABLE T (A INT PRIMARY KEY, B INT PRIMARY KEY);",
+            "SCHEMA S9\n",
+        ),
         ("CREATE TABLE T (A VARCHAR(0));", "SCHEMA S10\n"),
         ("CREATE TABLE T (A VARCHAR(4097));", "SCHEMA S10\n"),
     ] {

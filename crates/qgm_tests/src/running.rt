@@ -70,7 +70,15 @@ pub fn over_t(
 ) -> Result<(u8, String), Fail> {
     let mut tables = Vec::new(alloc);
     tables.push(entry(alloc, "d/T.csv", table)?)?;
-    let ran = run::<Brand>(alloc, Blank::new(1), schema, query, tables, Vec::new(alloc), 10_000)?;
+    let ran = run::<Brand>(
+        alloc,
+        Blank::new(1),
+        schema,
+        query,
+        tables,
+        Vec::new(alloc),
+        10_000,
+    )?;
     let text = std::str::from_utf8(ran.written.as_slice())?;
     Ok((ran.status, String::from_str(alloc, text)?))
 }
