@@ -441,30 +441,21 @@ fn chains_are_read_up_to_their_limits(rt: HostRuntime) -> Result<(), Fail> {
 #[test]
 fn brackets_are_read_up_to_their_limit(rt: HostRuntime) -> Result<(), Fail> {
     let alloc = rt.alloc();
-    for (open, inner, close) in [
-        ("(", "A", ")"),
-        ("(SELECT ", "A", " FROM T)"),
-        ("COALESCE(1, ", "A", ")"),
-        ("CASE WHEN A = 1 THEN ", "A", " END"),
-        ("CASE WHEN A IN (", "1", ") THEN 1 END"),
+    for (open, inner, close, most) in [
+        ("(", "A", ")", 64),
+        ("(SELECT ", "A", " FROM T)", 64),
+        ("COALESCE(1, ", "A", ")", 64),
+        ("CASE WHEN A = 1 THEN ", "A", " END", 64),
+        ("CASE WHEN A IN (", "1", ") THEN 1 END", 32),
     ] {
-        let each = if open == "CASE WHEN A IN (" { 32 } else { 64 };
-        let deep = repeated(alloc, "SELECT ", open, each, inner)?;
-        let text = repeated(alloc, deep.as_str(), close, each, " FROM T")?;
-        let tree = read(alloc, text.as_str())?;
-        assert!(rt;
-            tree.as_str() != "Syntax" && tree.as_str() != "OverLimit",
-            "at {open}"
-        );
-        let deep = repeated(alloc, "SELECT ", open, each + 1, inner)?;
-        let text = repeated(alloc, deep.as_str(), close, each + 1, " FROM T")?;
-        assert_eq!(rt;
-            read(alloc, text.as_str())?.as_str(),
-            "OverLimit",
-            "at {open}"
-        );
+        let deep = repeated(alloc, "SELECT ", open, most, inner)?;
+        let text = repeated(alloc, deep.as_str(), close, most, " FROM T")?;
+        assert_eq!(rt; outcome(alloc, text.as_str())?, "tree", "at {open}");
+        let deep = repeated(alloc, "SELECT ", open, most + 1, inner)?;
+        let text = repeated(alloc, deep.as_str(), close, most + 1, " FROM T")?;
+        assert_eq!(rt; outcome(alloc, text.as_str())?, "OverLimit", "at {open}");
     }
     let only = repeated(alloc, "", "(", 65, "")?;
-    assert_eq!(rt; read(alloc, only.as_str())?.as_str(), "OverLimit");
+    assert_eq!(rt; outcome(alloc, only.as_str())?, "OverLimit");
     Ok(())
 }

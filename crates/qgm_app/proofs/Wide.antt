@@ -1,5 +1,5 @@
 -- Tables of a catalog have a cell for each column.
-use Rattle.std.proofs.Common.{ℕ, ◌≡◌, ◌∙◌, ◌+◌, Bool, true, false, List, [], ◌∷◌, Option, Some, None, map, length, tt, refl, sym, ap, inl, inr}
+use Rattle.std.proofs.Common.{ℕ, ◌≡◌, ◌∙◌, Bool, true, false, List, [], ◌∷◌, Option, Some, None, map, length, suc, refl, sym, ap, inl, inr}
 use Rattle.std.specs.List.{All, AllZip}
 use Rattle.std.proofs.lemmas.Bool.{cases_Bool}
 use Rattle.std.proofs.lemmas.List.{length-map}
@@ -25,7 +25,7 @@ zip-length : (columns : List ColumnDescriptor) (cells : List Cell) → AllZip Fi
 zip-length [] [] h = refl
 zip-length [] (c ∷ cells) h = absurd h
 zip-length (t ∷ columns) [] h = absurd h
-zip-length (t ∷ columns) (c ∷ cells) h = ap (λ (n : ℕ). n + 1) (zip-length columns cells h.1)
+zip-length (t ∷ columns) (c ∷ cells) h = ap suc (zip-length columns cells h.1)
 
 -- a table is described by as many columns as it has names
 as-many : (keys : List Key) (columns : List ColumnDecl) → length (map (describe_column keys) columns) ≡ length (names_of columns)

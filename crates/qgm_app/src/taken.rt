@@ -1,5 +1,6 @@
 // Which schemas are taken as yet.
 ghost use Rattle.std.specs.Prelude.{◌≡◌};
+ghost use Rattle.std.specs.List.{list_all};
 ghost use Rattle.sql_ast.specs.Shown as shown;
 ghost use Rattle.qgm_app.specs.Taken as taken;
 
@@ -15,9 +16,16 @@ fn is_table(statement: &Statement) -> bool
     }
 }
 
+// Whether each statement declares a table.
+fn are_tables(statements: &[Statement]) -> bool
+    ensures { result ≡ list_all (λ x. taken.is_table (shown.statement x)) statements.now }
+{
+    statements.iter().all(|statement| is_table(statement))
+}
+
 /// Whether a schema is taken as yet: it declares no view.
 pub fn takes_schema(schema: &Schema) -> bool
     ensures { result ≡ taken.takes_schema (shown.schema schema.now) }
 {
-    schema.statements.as_slice().iter().all(|s| is_table(s))
+    are_tables(schema.statements.as_slice())
 }

@@ -1,7 +1,8 @@
 // From the two texts to a catalog and a checked query.
-ghost use Rattle.std.specs.Prelude.{◌≡◌};
+ghost use Rattle.std.specs.Prelude.{◌≡◌, true, IfOk};
 ghost use Rattle.sql_ast.specs.Shown as shown;
 ghost use Rattle.sql_catalog.specs.Shown as catalogs;
+ghost use Rattle.sql_check.specs.Taken.{is_taken};
 ghost use Rattle.sql_parser.specs.ReadSchema.{schema_tree};
 ghost use Rattle.sql_parser.specs.ReadText.{query_tree};
 ghost use Rattle.qgm_app.specs.Texts.{Gives, GivesChecked, catalog_of, query_of, schema_of, spans_of, tree_of, valid_query};
@@ -114,7 +115,8 @@ fn query_spelled(alloc: Global, spans: &[Spanned]) -> Result<QueryText, TextRefu
 // The tree of a query's text.
 #[tactic(auto, unfolding(crate::specs::Texts::query_of))]
 fn read_query_text(alloc: Global, text: &Option<Items<u8>>) -> Result<QueryText, TextRefusal>
-    ensures { Gives shown.query_text result (query_of text.now) }
+    ensures gives { Gives shown.query_text result (query_of text.now) }
+    ensures taken { IfOk result (λ query. is_taken (shown.query_text query) ≡ true) }
 {
     let spans = read_spans(alloc, text)?;
     let query = query_spelled(alloc, spans.as_slice())?;
