@@ -10,6 +10,7 @@ ghost use Rattle.csv_tables.specs.Ties.{cells_alike, cells_equiv, cell_alike, ce
 
 use indexmap::IndexSet;
 use qgm_base::OutOfMemory;
+use smallvec::SmallVec;
 use sql_value::{Cell, cell_order, copy};
 use std::alloc::Global;
 use std::cmp::Ordering;
@@ -26,6 +27,12 @@ impl Model for KeyCell {
     ghost Value = { Cell };
 
     ghost view = { λ k. k.cell };
+}
+
+impl Default for KeyCell {
+    fn default() -> KeyCell {
+        KeyCell { cell: Cell::Null }
+    }
 }
 
 impl PartialEq for KeyCell {
@@ -57,10 +64,11 @@ impl Hash for KeyCell {
     }
 }
 
-/// The cells of a key in one record. Contracts see it as the list of them.
+/// The cells of a key in one record. Contracts see it as the list of them. Up to two of them take no
+/// allocation of their own.
 #[derive(Drop)]
 pub struct KeyCells {
-    cells: Vec<KeyCell>,
+    cells: SmallVec<KeyCell, 2>,
 }
 
 impl Model for KeyCells {
@@ -99,7 +107,7 @@ impl KeyCells {
         ensures { result ≡ [] }
     {
         KeyCells {
-            cells: Vec::new(alloc),
+            cells: SmallVec::new(alloc),
         }
     }
 
@@ -116,7 +124,10 @@ impl KeyCells {
     pub fn has_null(&self) -> bool
         ensures { result ≡ list_any spec.is_null_cell self.now }
     {
-        self.cells.iter().any(|key| matches!(key.cell, Cell::Null))
+        self.cells
+            .as_slice()
+            .iter()
+            .any(|key| matches!(key.cell, Cell::Null))
     }
 }
 

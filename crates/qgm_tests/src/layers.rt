@@ -4,7 +4,7 @@ use plain_exec::execute;
 use qgm_base::Text;
 use row_bag::{Bag, Verdict, sorted, verdict};
 use sql_catalog::build;
-use sql_check::check;
+use sql_check::{check, is_taken};
 use sql_parser::{parse_query, parse_schema};
 use sql_text::lex;
 use sql_value::{Cell, cell_order, copy};
@@ -23,7 +23,8 @@ fn one_file(alloc: Global, name: &str, text: &str) -> Result<MemFiles, Fail> {
     Ok(MemFiles::new(alloc, entries, Vec::new(alloc)))
 }
 
-// The text of the rows of a query over one table, by each layer's public call in turn.
+// The text of the rows of a query over one table, by each layer's public call in turn; none where the
+// query isn't taken.
 fn by_layers(alloc: Global, schema: &str, query: &str, table: &str) -> Result<Vec<u8>, Fail> {
     let mut files = one_file(alloc, "d/T.csv", table)?;
     let tokens = lex(alloc, schema.as_bytes())?;
@@ -31,6 +32,9 @@ fn by_layers(alloc: Global, schema: &str, query: &str, table: &str) -> Result<Ve
     let catalog = build(alloc, schema)?;
     let tokens = lex(alloc, query.as_bytes())?;
     let query = parse_query(alloc, tokens.as_slice())?;
+    if !is_taken(&query) {
+        return Ok(Vec::new(alloc));
+    }
     let checked = check(alloc, &query, &catalog)?;
     let tables = load(alloc, &catalog, "d", &mut files)?;
     let rows = match verdict(execute(alloc, &checked, tables)?) {
