@@ -6,3 +6,5 @@ pub mod Grouping
 pub mod Groups
 pub mod Joins
 pub mod Meaning
+pub mod Samples
+pub mod Examples

@@ -31,7 +31,7 @@ use Rattle.sql_meaning.specs.Grouping.{is_grouped}
 use Rattle.sql_meaning.specs.Groups.{Group, aggregated, groups, is_distinct, no_group}
 use Rattle.sql_meaning.specs.Groups as g
 use Rattle.sql_meaning.specs.Joins.{combined, distinct_if, intersected, kept, left_join, product, ranged, selected}
-use Rattle.sql_meaning.specs.Names.{Relation, all_named, column_list, names, range_name, relation, renamed, shape, table_shape, under}
+pub use Rattle.sql_meaning.specs.Names.{Relation, all_named, column_list, names, range_name, relation, renamed, shape, table_shape, under}
 use Rattle.sql_meaning.specs.Scopes.{Frame, Range, Scopes, column_value, filled, first_of, frame_cells, is_named, range_of, shapes_of}
 use Rattle.sql_meaning.specs.Subqueries as u
 use Rattle.sql_meaning.specs.Values.{additive, case_of, multiplicative, perhaps_not, signed}
