@@ -1,5 +1,5 @@
 -- Groups and aggregates (SQL-92, 6.5, 7.7 and 7.8).
-use Rattle.std.specs.Prelude.{ℕ, ◌+◌, ◌-◌, ◌^◌, min, zero, suc, Bool, true, false, ◌&&◌, List, [], ◌∷◌, map, Option, Some, None, ℤ, pos, ◌+ℤ◌, int_div, if◌then◌else◌}
+use Rattle.std.specs.Prelude.{ℕ, ◌-◌, ◌^◌, min, zero, suc, Bool, true, false, ◌&&◌, List, [], ◌∷◌, map, Option, Some, None, ℤ, pos, ◌+ℤ◌, int_div, if◌then◌else◌}
 use Rattle.std.specs.List.{list_any}
 use Rattle.std.specs.Ordering.{is_eq, is_le}
 use Rattle.row_bag.specs.Bags.{bind, total, unit}
@@ -17,6 +17,7 @@ use Rattle.sql_value.specs.Cells.{cell_compare, error_of}
 use Rattle.sql_value.specs.declared.cell.Cell.{Cell}
 use Rattle.sql_value.specs.declared.cell.Cell.TheVariants.{Int, Null, Err}
 use Rattle.sql_value.specs.declared.cell.Kind.{Kind}
+use Rattle.sql_meaning.specs.Joins.{how_many}
 use Rattle.sql_meaning.specs.Scopes.{Frame, Shape, filled, frame_cells, is_named}
 
 -- DISTINCT is written; ALL is nothing
@@ -39,10 +40,6 @@ unless_null cell = unit cell
 abbrev pub once_if : Bool → List (Row Cell) → List (Row Cell)
 once_if true cells = once same_cell cells
 once_if false cells = cells
-
--- how many rows there are
-abbrev pub how_many : {T : Type 0} → List (Row T) → ℕ
-how_many rows = total ◌+◌ 0 (λ c level. 1) rows
 
 -- the number that a cell is
 abbrev pub number_in : Cell → ℤ
@@ -112,17 +109,18 @@ abbrev pub count_all : Group → Cell
 count_all (members rows) = count_cell (how_many rows)
 count_all (failed k) = Err k
 
--- `r.c` or `c` means the column of this name in the range of this name
-abbrev pub means : Option (List ℕ) → List ℕ → Column → Bool
-means column range c = is_named c.name column && range_means c.range
-  where
-    range_means : Option (List ℕ) → Bool
-    range_means None = true
-    range_means (Some r) = same_name range r
+-- a range written before a column is this one, or none is written
+abbrev pub range_means : Option (List ℕ) → List ℕ → Bool
+range_means None name = true
+range_means (Some range) name = same_name range name
+
+-- a column of a FROM is a grouping column: `r.c` or `c` of GROUP BY means it
+abbrev pub is_grouping : List Column → List ℕ → Option (List ℕ) → Bool
+is_grouping by range column = list_any (λ c. is_named c.name column && range_means c.range range) by
 
 -- null in all columns that aren't grouping columns
 abbrev pub grouping_cells : List Column → List ℕ → List (Option (List ℕ)) → List Cell → List Cell
-grouping_cells by range (column ∷ columns) (cell ∷ cells) = (if list_any (means column range) by then cell else Null) ∷ grouping_cells by range columns cells
+grouping_cells by range (column ∷ columns) (cell ∷ cells) = (if is_grouping by range column then cell else Null) ∷ grouping_cells by range columns cells
 grouping_cells by range columns cells = []
 
 -- the grouping cells of a row, under their names

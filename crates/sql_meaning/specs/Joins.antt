@@ -1,9 +1,8 @@
 -- How the rows of a FROM are put together, and those of queries (SQL-92, 7.4, 7.5 and 7.10).
-use Rattle.std.specs.Prelude.{ℕ, Bool, true, false, List, [], ◌∷◌, ◌++◌, Option, Some, None}
-use Rattle.row_bag.specs.Bags.{bind, keep, unit}
+use Rattle.std.specs.Prelude.{ℕ, ◌+◌, nat_eq, if◌then◌else◌, Bool, true, false, List, [], ◌∷◌, ◌++◌, Option, Some, None}
+use Rattle.row_bag.specs.Bags.{bind, keep, total, unit}
 use Rattle.row_bag.specs.Errors.{error_in}
 use Rattle.row_bag.specs.Sets.{collapsed, distinct, except, except_all, intersect, intersect_all, same_cells, union}
-use Rattle.row_bag.specs.Verdict.{those_there}
 use Rattle.row_bag.specs.declared.row.Row.{Row}
 use Rattle.sql_ast.specs.declared.word.SetOperator.{SetOperator}
 use Rattle.sql_ast.specs.declared.word.SetOperator.TheVariants as operator
@@ -20,7 +19,7 @@ abbrev pub ranged : List ℕ → Option Relation → List (Row Frame)
 ranged name None = []
 ranged name (Some table) = bind table.rows (λ cells. unit (record { name = name; columns = table.columns; cells = cells } ∷ []))
 
--- each row of the first beside each of the second, at the least of both levels
+-- a product: each row of the first beside each of the second, at the least of both levels
 abbrev pub product : List (Row Frame) → List (Row Frame) → List (Row Frame)
 product xs ys = bind xs (λ frame. bind ys (λ others. unit (frame ++ others)))
 
@@ -28,14 +27,21 @@ product xs ys = bind xs (λ frame. bind ys (λ others. unit (frame ++ others)))
 abbrev pub kept : {T : Type 0} → (T → Truth) → List (Row T) → List (Row T)
 kept test rows = bind rows (λ row. keep (test row).t (unit row))
 
--- these rows, or where none of them is there one row
-abbrev pub or_alone : {T : Type 0} → T → List (Row T) → List (Row T) → List (Row T)
-or_alone alone rows [] = unit alone
-or_alone alone rows (r ∷ there) = rows
+-- how many rows there are
+abbrev pub how_many : {T : Type 0} → List (Row T) → ℕ
+how_many rows = total ◌+◌ 0 (λ row level. 1) rows
 
--- a left join: each left row with each right row that its ON keeps, or where every partner is so at no, once with nulls
+-- these rows, or where none of them is there these others
+abbrev pub or_else : {T : Type 0} → List (Row T) → List (Row T) → List (Row T)
+or_else rows others = if nat_eq (how_many rows) 0 then others else rows
+
+-- the partners of a left row: each right row beside it, at the least of its level and the ON's true-level
+abbrev pub partners : (Frame → Truth) → List (Row Frame) → Frame → List (Row Frame)
+partners on ys frame = bind ys (λ others. keep (on (frame ++ others)).t (unit (frame ++ others)))
+
+-- a left join: each left row with its partners; where every partner is at no, the left row stands once with nulls
 abbrev pub left_join : (Frame → Truth) → Frame → List (Row Frame) → List (Row Frame) → List (Row Frame)
-left_join on nulls xs ys = bind xs (λ frame. let partners = kept on (product (unit frame) ys) in or_alone (frame ++ nulls) partners (those_there partners))
+left_join on nulls xs ys = bind xs (λ frame. or_else (partners on ys frame) (unit (frame ++ nulls)))
 
 -- ---- blocks
 

@@ -1,4 +1,4 @@
--- What a query means: nested loops over lists, by names (SQL-92, 6.11 to 6.14, 7.4 to 7.10, 8.2 to 8.8 and 13.1).
+-- What a query means: nested loops over lists, by names (SQL-92, 6.11 to 6.14, 7.4 to 7.10, 8.2 to 8.8 and 13.1). The tree is walked here. What each node does stands in a module of its own: truth, arithmetic, comparison and LIKE in sql_value, rows at levels in row_bag, CASE in Values, subqueries in Subqueries, groups and aggregates in Groups, joins, DISTINCT and set operations in Joins, output names in Names.
 use Rattle.std.specs.Prelude.{ℕ, zero, suc, ◌+◌, Bool, true, false, List, [], ◌∷◌, ◌++◌, map, Option, Some, None, position, ℤ, pos, negsuc, if◌then◌else◌}
 use Rattle.qgm_base.specs.declared.compare.CmpOp.TheVariants.{Eq, Ge, Le}
 use Rattle.row_bag.specs.Bags.{unit}
@@ -28,24 +28,24 @@ use Rattle.sql_value.specs.declared.cell.Kind.{Kind}
 use Rattle.sql_value.specs.declared.order_key.OrderKey.{OrderKey}
 use Rattle.sql_value.specs.declared.truth.Truth.{Truth}
 use Rattle.sql_meaning.specs.Grouping.{is_grouped}
-use Rattle.sql_meaning.specs.Groups.{Group, aggregated, groups, is_distinct, no_group}
+pub use Rattle.sql_meaning.specs.Groups.{Group, aggregated, groups, is_distinct, no_group}
 use Rattle.sql_meaning.specs.Groups as g
-use Rattle.sql_meaning.specs.Joins.{combined, distinct_if, intersected, kept, left_join, product, ranged, selected}
-pub use Rattle.sql_meaning.specs.Names.{Relation, all_named, column_list, names, range_name, relation, renamed, shape, table_shape, under}
-use Rattle.sql_meaning.specs.Scopes.{Frame, Range, Scopes, column_value, filled, first_of, frame_cells, is_named, range_of, shapes_of}
+pub use Rattle.sql_meaning.specs.Joins.{combined, distinct_if, intersected, kept, left_join, product, ranged, selected}
+pub use Rattle.sql_meaning.specs.Names.{Relation, all_named, columns_of, item_name, item_names, items_names, list_names, names, own_name, range_name, relation, renamed, shape, table_shape, under, column_list}
+pub use Rattle.sql_meaning.specs.Scopes.{Frame, Range, Scopes, Shape, column_value, filled, first_of, frame_cells, is_named, range_of, shapes_of}
 use Rattle.sql_meaning.specs.Subqueries as u
-use Rattle.sql_meaning.specs.Values.{additive, case_of, multiplicative, perhaps_not, signed}
+pub use Rattle.sql_meaning.specs.Values.{additive, case_at, case_of, multiplicative, perhaps_not, signed}
 
 -- the cells of a range that was found
 abbrev pub cells_of : Option Range → List Cell
 cells_of None = []
 cells_of (Some range) = range.cells
 
--- the cells of a row of an error
+-- the cells of the one row that an error is
 abbrev pub failed_cells : List (Option (List ℕ)) → Kind → List Cell
 failed_cells columns k = map (λ _. Err k) columns
 
--- each in the scopes round it, the innermost first, and in the group of its block, where that is grouped
+-- over tables and views by name; each part in the scopes that enclose it, the innermost first, and in the group of its block, where that block is grouped
 module _ (known : List ℕ → Option Relation) where
   abbrev mutual
     -- ---- expressions

@@ -1,5 +1,6 @@
 -- A small schema with its tables, and words to write queries with.
 use Rattle.std.specs.Prelude.{◌≡◌, ℕ, pos, codes, false, List, [], ◌∷◌, map, Some, None}
+use Rattle.qgm_base.specs.declared.compare.CmpOp.TheVariants as op
 use Rattle.row_bag.specs.Bags.{row}
 use Rattle.row_bag.specs.Verdict.{verdict}
 use Rattle.row_bag.specs.declared.outcome.Verdict.TheVariants.{Rows, Error}
@@ -8,7 +9,10 @@ use Rattle.sql_ast.specs.declared.name.Correlation.{Correlation}
 use Rattle.sql_ast.specs.declared.schema.Element.{Element}
 use Rattle.sql_ast.specs.declared.schema.Element.TheVariants as element
 use Rattle.sql_ast.specs.declared.schema.TableDecl.{TableDecl}
+use Rattle.sql_ast.specs.declared.word.AdditiveOp.TheVariants as add
 use Rattle.sql_ast.specs.declared.word.DataType.TheVariants as type
+use Rattle.sql_ast.specs.declared.word.MultiplicativeOp.TheVariants as mul
+use Rattle.sql_ast.specs.declared.word.SetFunction.{SetFunction}
 use Rattle.sql_ast.specs.declared.word.SetQuantifier.TheVariants as each
 use Rattle.sql_ast.specs.Syntax as s
 use Rattle.sql_catalog.specs.Catalog.{Declared}
@@ -30,22 +34,40 @@ of range name = s.col (record { range = Some range; name = name })
 abbrev pub n : ℕ → s.Expr
 n m = s.number (pos m)
 
--- lists of one and of two columns
+abbrev pub plus : s.Expr → s.Expr → s.Expr
+plus x y = s.add x add.Plus y
+
+abbrev pub minus : s.Expr → s.Expr → s.Expr
+minus x y = s.add x add.Minus y
+
+abbrev pub over : s.Expr → s.Expr → s.Expr
+over x y = s.multiply x mul.Divide y
+
+abbrev pub equal : s.Expr → s.Expr → s.Cond
+equal x y = s.compare x op.Eq y
+
+abbrev pub above : s.Expr → s.Expr → s.Cond
+above x y = s.compare x op.Gt y
+
+abbrev pub aggregate : SetFunction → s.Expr → s.Expr
+aggregate f x = s.aggregate f None x
+
+-- lists of one column and of two
 abbrev pub one : s.Expr → s.SelectList
 one x = s.items (s.one_item (s.item x None) s.no_item)
 
 abbrev pub two : s.Expr → s.Expr → s.SelectList
 two x y = s.items (s.one_item (s.item x None) (s.one_item (s.item y None) s.no_item))
 
--- a table, a table under an alias, a derived table under an alias and a column list
+-- a table, and a subquery in FROM under an alias and a column list
 abbrev pub t : List ℕ → s.TableRef
 t name = s.named name None
 
 abbrev pub as_named : List ℕ → List (List ℕ) → Correlation
 as_named name columns = record { noise = false; name = name; columns = columns }
 
-abbrev pub t_as : List ℕ → List ℕ → s.TableRef
-t_as name alias = s.named name (Some (as_named alias []))
+abbrev pub derived : s.Query → List ℕ → List (List ℕ) → s.TableRef
+derived q name columns = s.derived q (as_named name columns)
 
 abbrev pub from : s.TableRef → s.TableRefs
 from x = s.one_table x s.no_table
