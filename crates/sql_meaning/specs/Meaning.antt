@@ -31,7 +31,7 @@ use Rattle.sql_meaning.specs.Grouping.{is_grouped}
 pub use Rattle.sql_meaning.specs.Groups.{Group, aggregated, groups, is_distinct, no_group}
 use Rattle.sql_meaning.specs.Groups as g
 pub use Rattle.sql_meaning.specs.Joins.{combined, distinct_if, intersected, kept, left_join, product, ranged, selected}
-pub use Rattle.sql_meaning.specs.Names.{Relation, all_named, columns_of, item_name, item_names, items_names, list_names, names, own_name, range_name, relation, renamed, shape, table_shape, under, column_list}
+pub use Rattle.sql_meaning.specs.Names.{Known, Relation, all_named, columns_of, item_name, item_names, items_names, list_names, names, own_name, range_name, relation, renamed, shape, table_shape, under, column_list}
 pub use Rattle.sql_meaning.specs.Scopes.{Frame, Range, Scopes, Shape, column_value, filled, first_of, frame_cells, is_named, range_of, shapes_of}
 use Rattle.sql_meaning.specs.Subqueries as u
 pub use Rattle.sql_meaning.specs.Values.{additive, case_at, case_of, multiplicative, perhaps_not, signed}
@@ -46,7 +46,7 @@ abbrev pub failed_cells : List (Option (List ℕ)) → Kind → List Cell
 failed_cells columns k = map (λ _. Err k) columns
 
 -- over tables and views by name; each part in the scopes that enclose it, the innermost first, and in the group of its block, where that block is grouped
-module _ (known : List ℕ → Option Relation) where
+module _ (known : Known) where
   abbrev mutual
     -- ---- expressions
 
@@ -205,7 +205,7 @@ answer_of names keys (Rows rows) = answer_rows names (sorted_rows keys rows)
 answer_of names keys (Error kind) = answer_error kind
 
 -- the answer to a query's text: the greatest error among its rows, or all of them in order
-abbrev pub answer : (List ℕ → Option Relation) → s.QueryText → Answer
+abbrev pub answer : Known → s.QueryText → Answer
 answer known text = answer_of (names known text.query []) (map (order_key (names known text.query [])) text.order) (verdict (rows known text.query []))
 
 -- ---- the tables and views of a catalog
@@ -221,19 +221,19 @@ relation_with None bag = None
 relation_with (Some table) bag = Some (relation (all_named (names_of (declared_columns table.elements))) (rows_or_none bag))
 
 -- what a table's name stands for, by the catalog and the loaded tables
-abbrev pub relation_of : Declared → List Table → List ℕ → Option Relation
+abbrev pub relation_of : Declared → List Table → Known
 relation_of catalog tables name = relation_with (table_named catalog.tables name) (bag_named tables name)
 
 -- what a view's name stands for: the rows of its body, under its column list
-abbrev pub viewed : (List ℕ → Option Relation) → Option s.ViewDecl → Option Relation
+abbrev pub viewed : Known → Option s.ViewDecl → Option Relation
 viewed known None = None
 viewed known (Some view) = Some (relation (renamed view.columns (names known view.query [])) (rows known view.query []))
 
 -- what the name of a table or view stands for, where views nest no deeper than this
-abbrev pub known_at : Declared → List Table → ℕ → List ℕ → Option Relation
+abbrev pub known_at : Declared → List Table → ℕ → Known
 known_at catalog tables zero name = relation_of catalog tables name
 known_at catalog tables (suc depth) name = first_of (relation_of catalog tables name) (viewed (known_at catalog tables depth) (view_named catalog.views name))
 
 -- the same over a schema, whose views nest at most 16 deep
-abbrev pub known_of : Declared → List Table → List ℕ → Option Relation
+abbrev pub known_of : Declared → List Table → Known
 known_of catalog tables = known_at catalog tables 16

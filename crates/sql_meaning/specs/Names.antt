@@ -16,6 +16,10 @@ pub record Relation : Type 0 where
 abbrev pub relation : List (Option (List ℕ)) → List (Row (List Cell)) → Relation
 relation columns rows = record { columns = columns; rows = rows }
 
+-- tables and views by name
+abbrev pub Known : Type 0
+Known = List ℕ → Option Relation
+
 -- ---- FROM
 
 -- the range name: the alias, else the table's name
@@ -79,7 +83,7 @@ abbrev pub list_names : s.SelectList → Shape → List Shape → List (Option (
 list_names s.star ranges shapes = flat_map (λ range. range.1) ranges
 list_names (s.items xs) ranges shapes = items_names xs (ranges ∷ shapes)
 
-module _ (known : List ℕ → Option Relation) where
+module _ (known : Known) where
   abbrev mutual
     -- the names of a query's columns; a set operation has those of its left operand
     pub names : s.Query → List Shape → List (Option (List ℕ))
