@@ -137,6 +137,8 @@ pub record OfGroups : Type 0 where
   pub groups : Gives (select_by (two a s.count_all) e (codes "A") s.no_filter) ((int 1 ∷ int 2 ∷ []) ∷ (int 2 ∷ int 1 ∷ []) ∷ (Null ∷ int 1 ∷ []) ∷ [])
   -- SELECT E.A, MAX(C) FROM E GROUP BY A HAVING COUNT(*) < 2: nulls are left out
   pub having : Gives (select_by (two ea (aggregate function.Max (c (codes "C")))) e (codes "A") (s.only_where (s.compare s.count_all op.Lt (n 2)))) ((int 2 ∷ Null ∷ []) ∷ (Null ∷ int 9 ∷ []) ∷ [])
+  -- SELECT A, (SELECT B FROM D WHERE D.A = E.A) FROM E GROUP BY A: a subquery sees the grouping cells
+  pub seen_from_within : Gives (select_by (two a (s.scalar (select_where (one b) d (equal da ea)))) e (codes "A") s.no_filter) ((int 1 ∷ int 10 ∷ []) ∷ (int 2 ∷ int 20 ∷ []) ∷ (Null ∷ Null ∷ []) ∷ [])
   -- SELECT COUNT(A), COUNT(DISTINCT A) FROM E
   pub counts : Gives (select (two (aggregate function.Count a) (s.aggregate function.Count (Some each.Distinct) a)) e) ((int 3 ∷ int 2 ∷ []) ∷ [])
   -- SELECT MIN(C), AVG(C) FROM E: 20 / 3 truncated
