@@ -1,0 +1,5 @@
+pub mod Terms
+pub mod TermCodes
+pub mod Shown
+pub mod Conjuncts
+pub mod Boxes

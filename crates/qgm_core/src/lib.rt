@@ -1,0 +1,16 @@
+//! The query graph: boxes that stand in one list, and the quantifiers that they own.
+#![tactic(auto)]
+
+mod graph;
+mod kinds;
+mod owned;
+mod parts;
+mod quants;
+mod tree;
+
+pub use graph::Graph;
+pub use kinds::{BaseTable, BoxId, BoxKind, Distinct, QuantId, QuantKind, Role, Walk};
+pub use parts::{BoxParts, Conds, Head};
+pub use owned::Quant;
+pub use quants::Quants;
+pub use tree::{Arms, Gc, Gx};
