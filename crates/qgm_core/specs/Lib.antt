@@ -3,3 +3,4 @@ pub mod TermCodes
 pub mod Shown
 pub mod Conjuncts
 pub mod Boxes
+pub mod Free

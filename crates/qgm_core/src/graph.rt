@@ -1,8 +1,10 @@
 // The graph: its boxes in one list, each with the quantifiers that it owns.
-ghost use Rattle.std.specs.Prelude.{◌≡◌, ◌<◌, ◌≤◌, ◌+◌, ◌-◌, ◌∷◌, [], OnErr, IfOk, IfSome, length, map, position, Some, option_map, true};
+ghost use Rattle.std.specs.Prelude.{◌≡◌, ◌<◌, ◌≤◌, ◌+◌, ◌-◌, ◌∷◌, [], OnErr, IfOk, IfSome, length, map, position, Some, option_map, true, IsTrue, ◌↔◌};
 ghost use Rattle.std.specs.List.{list_any};
 ghost use Rattle.qgm_core.specs.Boxes as spec;
+ghost use Rattle.qgm_core.specs.Free.{free};
 
+use crate::free::free_in;
 use crate::kinds::{BoxId, QuantId, QuantKind};
 use crate::owned::{Owned, Quant, Range};
 use crate::parts::BoxParts;
@@ -52,7 +54,12 @@ impl Model for Graph {
 
 impl Graph {
     /// The graph of one box, its root.
-    pub fn new(alloc: Global, root: BoxParts, names: OutNames, order: OrderKeys) -> Result<Graph, OutOfMemory>
+    pub fn new(
+        alloc: Global,
+        root: BoxParts,
+        names: OutNames,
+        order: OrderKeys,
+    ) -> Result<Graph, OutOfMemory>
         ensures { IfOk result (λ g. g ≡ spec.graph_of_one g.root root names order) }
     {
         let mut nodes = Vec::new(alloc);
@@ -140,8 +147,31 @@ impl Graph {
         }
     }
 
+    /// The quantifiers that are named in the box or below it, and owned neither there nor below, in
+    /// ascending order.
+    pub fn free(&self, alloc: Global, b: BoxId) -> Result<Vec<QuantId>, OutOfMemory>
+        requires { spec.HasBox b self.now }
+        ensures { IfOk result (λ qs. qs.items ≡ free b self.now) }
+    {
+        free_in(alloc, &self.nodes, b)
+    }
+
+    /// Whether no quantifier is free in the box.
+    pub fn is_closed(&self, alloc: Global, b: BoxId) -> Result<bool, OutOfMemory>
+        requires { spec.HasBox b self.now }
+        ensures { IfOk result (λ closed. IsTrue closed ↔ (free b self.now ≡ [])) }
+    {
+        let free = self.free(alloc, b)?;
+        Ok(free.is_empty())
+    }
+
     /// Adds a box that owns no quantifier: last, or just below the named one.
-    pub fn add_box(&mut self, alloc: Global, parts: BoxParts, below: Option<BoxId>) -> Result<BoxId, OutOfMemory>
+    pub fn add_box(
+        &mut self,
+        alloc: Global,
+        parts: BoxParts,
+        below: Option<BoxId>,
+    ) -> Result<BoxId, OutOfMemory>
         requires { IfSome below (λ c. spec.HasBox c self.old) }
         ensures fresh { IfOk result (λ b. spec.HasBox b self.old → ⊥) }
         ensures ok { IfOk result (λ b. self.new ≡ spec.with_box below (spec.bare_box b parts) self.old) }
@@ -159,7 +189,13 @@ impl Graph {
     }
 
     /// Adds a quantifier to a box, at a place from 1.
-    pub fn add_quant(&mut self, owner: BoxId, place: usize, kind: QuantKind, over: BoxId) -> Result<QuantId, OutOfMemory>
+    pub fn add_quant(
+        &mut self,
+        owner: BoxId,
+        place: usize,
+        kind: QuantKind,
+        over: BoxId,
+    ) -> Result<QuantId, OutOfMemory>
         requires owner { spec.HasBox owner self.old }
         requires over { spec.HasBox over self.old }
         requires from_one { 1 ≤ place }
@@ -173,7 +209,9 @@ impl Graph {
             return Err(OutOfMemory);
         }
         let k = box_place(&self.nodes, owner);
-        self.nodes[k].quants.insert(place - 1, Range { id, kind, over })?;
+        self.nodes[k]
+            .quants
+            .insert(place - 1, Range { id, kind, over })?;
         self.next_quant = id + 1;
         Ok(id)
     }
@@ -210,7 +248,7 @@ fn new_place(nodes: &[Node], below: Option<BoxId>) -> usize
 }
 
 // Whether one of the quantifiers has the number.
-fn has_range(ranges: &[Range], q: QuantId) -> bool
+pub fn has_range(ranges: &[Range], q: QuantId) -> bool
     ensures { result ≡ list_any (spec.is_quant q) ranges.now }
 {
     ranges.iter().any(|r| r.id == q)

@@ -1,8 +1,10 @@
 //! The query graph: boxes that stand in one list, and the quantifiers that they own.
 #![tactic(auto)]
 
+mod free;
 mod graph;
 mod kinds;
+mod names;
 mod owned;
 mod parts;
 mod quants;
@@ -10,7 +12,7 @@ mod tree;
 
 pub use graph::Graph;
 pub use kinds::{BaseTable, BoxId, BoxKind, Distinct, QuantId, QuantKind, Role, Walk};
-pub use parts::{BoxParts, Conds, Head};
 pub use owned::Quant;
+pub use parts::{BoxParts, Conds, Head};
 pub use quants::Quants;
 pub use tree::{Arms, Gc, Gx};

@@ -14,7 +14,7 @@ invariant_of-self-2 c =
     let Q = λ (x : Node). All (λ (r : Range). r.id < c.self.inside.next_quant) x.quants in
     let e : c.insert.new.self.items ≡ insert xs c.new_place-i.result n = c.in_ok-insert.ensures.items in
     let p : All P (insert xs c.new_place-i.result n) =
-      all_insert P xs c.new_place-i.result n (omega arith) (all_weaker (λ (x : Node). x.id < c.self.inside.next_box) P xs (λ x h. omega (arith, h)) c.self.invariant.0) in
+    all_insert P xs c.new_place-i.result n (omega arith) (all_weaker (λ (x : Node). x.id < c.self.inside.next_box) P xs (λ x h. omega (arith, h)) c.self.invariant.0) in
     let q : All Q (insert xs c.new_place-i.result n) = all_insert Q xs c.new_place-i.result n (subst (All (λ (r : Range). r.id < c.self.inside.next_quant)) (sym c.new-quants.ensures) (All-nil _)) c.self.invariant.1 in
     subst (λ (ys : List Node). (All P ys) × (All Q ys)) (sym e) (p, q)
 
