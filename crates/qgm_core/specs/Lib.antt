@@ -4,3 +4,4 @@ pub mod Shown
 pub mod Conjuncts
 pub mod Boxes
 pub mod Free
+pub mod WellFormed

@@ -14,14 +14,14 @@ use qgm_base::OutOfMemory;
 use std::alloc::Global;
 
 // Whether a box is among those marked.
-fn is_marked(marks: &[BoxId], b: BoxId) -> bool
+pub fn is_marked(marks: &[BoxId], b: BoxId) -> bool
     ensures { result ≡ spec.holds b marks.now }
 {
     marks.iter().any(|m| *m == b)
 }
 
 // Marks the boxes that these quantifiers range over.
-fn mark_each(ranges: &[Range], marks: &mut Vec<BoxId>) -> Result<(), OutOfMemory>
+pub fn mark_each(ranges: &[Range], marks: &mut Vec<BoxId>) -> Result<(), OutOfMemory>
     ensures { OnOk result (marks.new.items ≡ marks.old.items ++ map (λ r. r.over) ranges.now) }
 {
     for range in ranges {
@@ -72,6 +72,14 @@ fn add_names_of_conds(conds: &Conds, out: &mut Vec<QuantId>) -> Result<(), OutOf
     Ok(())
 }
 
+// Appends what a box names.
+pub fn add_names_of_node(node: &Node, out: &mut Vec<QuantId>) -> Result<(), OutOfMemory>
+    ensures { OnOk result (out.new.items ≡ out.old.items ++ spec.named_by node.now) }
+{
+    add_names_of_head(&node.parts.head, out)?;
+    add_names_of_conds(&node.parts.conds, out)
+}
+
 // Appends what a box names, where it is marked.
 fn add_names_of_marked(
     node: &Node,
@@ -81,8 +89,7 @@ fn add_names_of_marked(
     ensures { OnOk result (out.new.items ≡ out.old.items ++ spec.named_where marks.now node.now) }
 {
     if is_marked(marks, node.id) {
-        add_names_of_head(&node.parts.head, out)?;
-        add_names_of_conds(&node.parts.conds, out)?;
+        add_names_of_node(node, out)?;
     }
     Ok(())
 }

@@ -254,6 +254,20 @@ pub fn has_range(ranges: &[Range], q: QuantId) -> bool
     ranges.iter().any(|r| r.id == q)
 }
 
+// Whether one of the boxes has the number.
+pub fn has_box(nodes: &[Node], b: BoxId) -> bool
+    ensures { result ≡ list_any (spec.is_box b) nodes.now }
+{
+    nodes.iter().any(|n| n.id == b)
+}
+
+// Whether one of the boxes owns the quantifier.
+pub fn is_owned_quant(nodes: &[Node], q: QuantId) -> bool
+    ensures { result ≡ list_any (spec.owns q) nodes.now }
+{
+    nodes.iter().any(|n| has_range(n.quants.as_slice(), q))
+}
+
 // Where the owner of a quantifier stands, if it has one.
 fn find_owner(nodes: &[Node], q: QuantId) -> Option<usize>
     ensures { result ≡ position (spec.owns q) nodes.now }

@@ -1,6 +1,7 @@
 //! The query graph: boxes that stand in one list, and the quantifiers that they own.
 #![tactic(auto)]
 
+mod check;
 mod free;
 mod graph;
 mod kinds;
