@@ -4,4 +4,7 @@ pub mod Shown
 pub mod Conjuncts
 pub mod Boxes
 pub mod Free
+pub mod Columns
+pub mod Types
+pub mod Shapes
 pub mod WellFormed

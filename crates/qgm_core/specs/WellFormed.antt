@@ -2,9 +2,12 @@
 use Rattle.std.specs.Prelude.{ℕ, ◌==◌, ◌+◌, ◌++◌, ◌&&◌, ◌||◌, min, not, if◌then◌else◌, Bool, true, false, List, [], ◌∷◌, Option, Some, None, map}
 use Rattle.std.specs.List.{list_any, list_all, flat_map}
 use Rattle.qgm_core.specs.Boxes.{QueryGraph, is_box, is_quant, owns}
+use Rattle.qgm_core.specs.Columns.{columns_fit}
 use Rattle.qgm_core.specs.Free.{holds, named_by, free_in}
+use Rattle.qgm_core.specs.Shapes.{shape_fits, is_F}
+use Rattle.qgm_core.specs.Types.{types_agree}
 use Rattle.qgm_core.specs.declared.check.Clause.{Clause}
-use Rattle.qgm_core.specs.declared.check.Clause.TheVariants.{I1, I2, I3, I6, I7, I8}
+use Rattle.qgm_core.specs.declared.check.Clause.TheVariants.{I1, I2, I3, I4, I5, I6, I7, I8, I9}
 use Rattle.qgm_core.specs.declared.check.Fault.{Fault}
 use Rattle.qgm_core.specs.declared.graph.Node.{Node}
 use Rattle.qgm_core.specs.declared.kinds.Distinct.{Distinct}
@@ -36,12 +39,6 @@ overs_in boxes = flat_map (λ n. map (λ r. r.over) n.quants) boxes
 -- the quantifiers that boxes own, once for each owner
 abbrev pub ids_in : List Node → List ℕ
 ids_in boxes = flat_map (λ n. map (λ r. r.id) n.quants) boxes
-
-abbrev pub is_F : QuantKind → Bool
-is_F F = true
-is_F E = false
-is_F A = false
-is_F S = false
 
 -- the rows themselves count, and not only which there are
 abbrev pub is_F_or_S : QuantKind → Bool
@@ -110,18 +107,24 @@ abbrev pub keeps : Clause → ℕ → List Node → List Node → Node → Bool
 keeps I1 root boxes below n = ids_known boxes n
 keeps I2 root boxes below n = owned_once boxes n
 keeps I3 root boxes below n = all_over below n.quants
+keeps I4 root boxes below n = columns_fit boxes n
+keeps I5 root boxes below n = types_agree boxes n
 keeps I6 root boxes below n = names_in_view root boxes n
 keeps I7 root boxes below n = opened_once root boxes n
 keeps I8 root boxes below n = permit_unseen root boxes n
+keeps I9 root boxes below n = shape_fits root boxes n
 
 -- a fault that stands at no box: a root that the graph lacks
 abbrev pub at_no_box : Clause → ℕ → List Node → List ℕ
 at_no_box I1 root boxes = if has_box boxes root then [] else 18446744073709551615 ∷ []
 at_no_box I2 root boxes = []
 at_no_box I3 root boxes = []
+at_no_box I4 root boxes = []
+at_no_box I5 root boxes = []
 at_no_box I6 root boxes = []
 at_no_box I7 root boxes = []
 at_no_box I8 root boxes = []
+at_no_box I9 root boxes = []
 
 -- the boxes at which a clause fails
 abbrev pub faults : Clause → ℕ → List Node → List Node → List ℕ
@@ -144,3 +147,11 @@ fault_or c (Some b) other = Some (record { clause = c; at = b })
 abbrev pub first_fault : List Clause → ℕ → List Node → Option Fault
 first_fault [] root boxes = None
 first_fault (c ∷ cs) root boxes = fault_or c (least (faults c root boxes boxes)) (first_fault cs root boxes)
+
+-- the clauses in their order
+abbrev pub clauses : List Clause
+clauses = I1 ∷ I2 ∷ I3 ∷ I4 ∷ I5 ∷ I6 ∷ I7 ∷ I8 ∷ I9 ∷ []
+
+-- the least clause that fails, with the least box at which it does; none of a well-formed graph
+abbrev pub fault : QueryGraph → Option Fault
+fault g = first_fault clauses g.root g.boxes

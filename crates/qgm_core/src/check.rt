@@ -1,16 +1,22 @@
 // Where a graph is ill-formed.
-ghost use Rattle.std.specs.Prelude.{◌≡◌, ◌++◌, [], Some, false, map, OnOk, IfOk};
+ghost use Rattle.std.specs.Prelude.{◌≡◌, ◌++◌, [], Some, None, false, map, OnOk, IfOk, IsErrOf};
 ghost use Rattle.std.specs.List.{list_any, list_all};
 ghost use Rattle.qgm_core.specs.Boxes.{owns};
 ghost use Rattle.qgm_core.specs.Free.{named_by, free_in};
 ghost use Rattle.qgm_core.specs.WellFormed as spec;
+ghost use Rattle.qgm_core.specs.declared.check.Fault.{Fault};
+ghost use Rattle.qgm_core.specs.declared.check.IllFormed.TheVariants.{Fails, Memory};
 
+use crate::columns_fit::columns_fit;
 use crate::free::{add_names_of_node, free_in, is_marked, mark_each};
-use crate::graph::{Node, has_box, is_owned_quant};
+use crate::graph::{Graph, Node, has_box, is_owned_quant};
 use crate::kinds::{BoxId, Distinct, QuantId, QuantKind};
 use crate::owned::Range;
+use crate::shapes::{is_f, shape_fits};
+use crate::types::types_agree;
 use qgm_base::OutOfMemory;
 use std::alloc::Global;
+use thiserror::Error;
 
 /// What a graph must keep.
 #[derive(Clone, Copy, Debug, PartialEq, Eq)]
@@ -21,12 +27,18 @@ pub enum Clause {
     I2,
     /// Each quantifier ranges over a box of lower rank than its owner.
     I3,
+    /// Each column that is named is there.
+    I4,
+    /// Types agree.
+    I5,
     /// Each name is in view, and the root has no free quantifier.
     I6,
     /// Each open box has one quantifier over it, and the root has none.
     I7,
     /// A PERMIT box isn't the root and has no F or S quantifier over it.
     I8,
+    /// Each box has the shape of its kind and role.
+    I9,
 }
 
 /// A clause that fails, and the least box at which it does; the greatest `usize` for a root that
@@ -35,6 +47,25 @@ pub enum Clause {
 pub struct Fault {
     pub clause: Clause,
     pub at: BoxId,
+}
+
+/// Why a graph isn't well-formed.
+#[derive(Clone, Copy, Debug, PartialEq, Eq, Error)]
+pub enum IllFormed {
+    /// A clause fails.
+    #[error("a clause fails")]
+    Fails(Fault),
+    /// Memory ran out. It says nothing of the graph.
+    #[error("out of memory")]
+    Memory,
+}
+
+impl From<OutOfMemory> for IllFormed {
+    ghost from_gives = { λ _ e. e ≡ Memory };
+
+    fn from(_: OutOfMemory) -> Self {
+        IllFormed::Memory
+    }
 }
 
 // Whether each quantifier ranges over one of these boxes.
@@ -116,15 +147,6 @@ fn owned_once(alloc: Global, nodes: &[Node], node: &Node) -> Result<bool, OutOfM
 {
     let ids = ids_in(alloc, nodes)?;
     Ok(node.quants.as_slice().iter().all(|r| once(r.id, &ids)))
-}
-
-fn is_f(kind: QuantKind) -> bool
-    ensures { result ≡ spec.is_F kind }
-{
-    match kind {
-        QuantKind::F => true,
-        QuantKind::E | QuantKind::A | QuantKind::S => false,
-    }
 }
 
 fn is_f_or_s(kind: QuantKind) -> bool
@@ -284,9 +306,12 @@ fn keeps(
         Clause::I1 => ids_known(alloc, nodes, node),
         Clause::I2 => owned_once(alloc, nodes, node),
         Clause::I3 => Ok(all_over(below, node.quants.as_slice())),
+        Clause::I4 => columns_fit(alloc, nodes, node),
+        Clause::I5 => types_agree(alloc, nodes, node),
         Clause::I6 => names_in_view(alloc, root, nodes, node),
         Clause::I7 => opened_once(alloc, root, nodes, node),
         Clause::I8 => Ok(permit_unseen(root, nodes, node)),
+        Clause::I9 => shape_fits(alloc, root, nodes, node),
     }
 }
 
@@ -302,7 +327,14 @@ fn at_no_box(clause: Clause, root: BoxId, nodes: &[Node]) -> Option<BoxId>
                 Some(usize::MAX)
             }
         }
-        Clause::I2 | Clause::I3 | Clause::I6 | Clause::I7 | Clause::I8 => None,
+        Clause::I2
+        | Clause::I3
+        | Clause::I4
+        | Clause::I5
+        | Clause::I6
+        | Clause::I7
+        | Clause::I8
+        | Clause::I9 => None,
     }
 }
 
@@ -355,4 +387,16 @@ pub fn first_fault(
         }
     }
     Ok(None)
+}
+
+/// Whether a graph is well-formed: the least clause that fails, with the least box at which it
+/// does (Pirahesh, Hellerstein and Hasan 1992, 2).
+pub fn check_graph(alloc: Global, graph: &Graph) -> Result<(), IllFormed>
+    ensures ok { IfOk result (λ _. spec.fault graph.now ≡ None) }
+    ensures fails { (f : Fault) → IsErrOf result (Fails f) → spec.fault graph.now ≡ Some f }
+{
+    match graph.fault(alloc)? {
+        Some(fault) => Err(IllFormed::Fails(fault)),
+        None => Ok(()),
+    }
 }

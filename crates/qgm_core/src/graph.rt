@@ -3,7 +3,9 @@ ghost use Rattle.std.specs.Prelude.{◌≡◌, ◌<◌, ◌≤◌, ◌+◌, ◌-
 ghost use Rattle.std.specs.List.{list_any};
 ghost use Rattle.qgm_core.specs.Boxes as spec;
 ghost use Rattle.qgm_core.specs.Free.{free};
+ghost use Rattle.qgm_core.specs.WellFormed.{fault};
 
+use crate::check::{Clause, Fault, first_fault};
 use crate::free::free_in;
 use crate::kinds::{BoxId, QuantId, QuantKind};
 use crate::owned::{Owned, Quant, Range};
@@ -163,6 +165,24 @@ impl Graph {
     {
         let free = self.free(alloc, b)?;
         Ok(free.is_empty())
+    }
+
+    // The least clause that fails, with the least box at which it does.
+    pub(crate) fn fault(&self, alloc: Global) -> Result<Option<Fault>, OutOfMemory>
+        ensures { IfOk result (λ f. f ≡ fault self.now) }
+    {
+        let clauses = [
+            Clause::I1,
+            Clause::I2,
+            Clause::I3,
+            Clause::I4,
+            Clause::I5,
+            Clause::I6,
+            Clause::I7,
+            Clause::I8,
+            Clause::I9,
+        ];
+        first_fault(alloc, &clauses, self.root, &self.nodes)
     }
 
     /// Adds a box that owns no quantifier: last, or just below the named one.

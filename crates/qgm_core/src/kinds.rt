@@ -9,6 +9,13 @@ pub type BoxId = usize;
 /// The number of a quantifier.
 pub type QuantId = usize;
 
+/// A column of a quantifier's row, by its place from 1.
+#[derive(Clone, Copy, Debug, PartialEq, Eq)]
+pub struct Column {
+    pub quant: QuantId,
+    pub place: usize,
+}
+
 /// A stored table: what a graph knows of it.
 #[derive(Drop)]
 pub struct BaseTable {

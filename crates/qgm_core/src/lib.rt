@@ -2,6 +2,8 @@
 #![tactic(auto)]
 
 mod check;
+mod columns;
+mod columns_fit;
 mod free;
 mod graph;
 mod kinds;
@@ -9,8 +11,13 @@ mod names;
 mod owned;
 mod parts;
 mod quants;
+mod shapes;
+#[cfg(test)]
+mod tests;
 mod tree;
+mod types;
 
+pub use check::{Clause, Fault, IllFormed, check_graph};
 pub use graph::Graph;
 pub use kinds::{BaseTable, BoxId, BoxKind, Distinct, QuantId, QuantKind, Role, Walk};
 pub use owned::Quant;
