@@ -1,5 +1,5 @@
 -- Where a graph is ill-formed, clause by clause.
-use Rattle.std.specs.Prelude.{ℕ, ◌==◌, ◌+◌, ◌++◌, ◌&&◌, ◌||◌, min, not, if◌then◌else◌, Bool, true, false, List, [], ◌∷◌, Option, Some, None, map}
+use Rattle.std.specs.Prelude.{ℕ, ◌==◌, ◌++◌, ◌&&◌, ◌||◌, min, not, if◌then◌else◌, Bool, true, false, List, [], ◌∷◌, Option, Some, None, map}
 use Rattle.std.specs.List.{list_any, list_all, flat_map}
 use Rattle.qgm_core.specs.Boxes.{QueryGraph, is_box, is_quant, owns}
 use Rattle.qgm_core.specs.Columns.{columns_fit}

@@ -45,14 +45,23 @@ fn select(alloc: Global, quant: usize, place: usize) -> Result<BoxParts, OutOfMe
     })
 }
 
-// A root that selects a column of a base.
-fn graph(alloc: Global, place: usize) -> Result<Graph, OutOfMemory> {
-    let root = select(alloc, 0, place)?;
+// A root over a base.
+fn over_base(alloc: Global, root: BoxParts) -> Result<Graph, OutOfMemory> {
     let mut graph = Graph::new(alloc, root, Items::new(alloc), Items::new(alloc))?;
     let below = graph.add_box(alloc, base(alloc)?, None)?;
     let top = graph.root();
     graph.add_quant(top, 1, QuantKind::F, below)?;
     Ok(graph)
+}
+
+// A root that selects a column of a base.
+fn graph(alloc: Global, place: usize) -> Result<Graph, OutOfMemory> {
+    over_base(alloc, select(alloc, 0, place)?)
+}
+
+// What is answered where a clause fails at the root.
+fn at_root(clause: Clause) -> Result<(), IllFormed> {
+    Err(IllFormed::Fails(Fault { clause, at: 0 }))
 }
 
 #[test]
@@ -76,10 +85,55 @@ fn a_select_over_a_base_is_well_formed(rt: HostRuntime) -> Result<(), Fail> {
 fn a_third_column_of_two_is_out_of_range(rt: HostRuntime) -> Result<(), Fail> {
     let alloc = rt.alloc();
     let graph = graph(alloc, 3)?;
-    let fault = Fault {
-        clause: Clause::I4,
-        at: 0,
-    };
-    assert_eq!(rt; check_graph(alloc, &graph), Err(IllFormed::Fails(fault)));
+    assert_eq!(rt; check_graph(alloc, &graph), at_root(Clause::I4));
+    Ok(())
+}
+
+#[test]
+fn a_sum_of_a_number_and_a_text_has_no_type(rt: HostRuntime) -> Result<(), Fail> {
+    let alloc = rt.alloc();
+    let mut root = select(alloc, 0, 1)?;
+    let number = Box::new(alloc, Gx::Col(0, 1))?;
+    let text = Box::new(alloc, Gx::Col(0, 2))?;
+    root.head.push(Gx::Add(number, text))?;
+    let graph = over_base(alloc, root)?;
+    assert_eq!(rt; check_graph(alloc, &graph), at_root(Clause::I5));
+    Ok(())
+}
+
+#[test]
+fn a_permit_box_is_no_root(rt: HostRuntime) -> Result<(), Fail> {
+    let alloc = rt.alloc();
+    let mut root = select(alloc, 0, 1)?;
+    root.distinct = Distinct::Permit;
+    let graph = over_base(alloc, root)?;
+    assert_eq!(rt; check_graph(alloc, &graph), at_root(Clause::I8));
+    Ok(())
+}
+
+#[test]
+fn an_aggregate_is_no_cell_of_a_select(rt: HostRuntime) -> Result<(), Fail> {
+    let alloc = rt.alloc();
+    let mut root = select(alloc, 0, 1)?;
+    root.head.push(Gx::CountAll)?;
+    let graph = over_base(alloc, root)?;
+    assert_eq!(rt; check_graph(alloc, &graph), at_root(Clause::I9));
+    Ok(())
+}
+
+#[test]
+fn names_that_no_box_owns_are_free(rt: HostRuntime) -> Result<(), Fail> {
+    let alloc = rt.alloc();
+    let mut root = select(alloc, 7, 1)?;
+    let left = Box::new(alloc, Gx::Col(3, 1))?;
+    let right = Box::new(alloc, Gx::Col(7, 2))?;
+    root.conds.reserve(1)?;
+    root.conds.push(Gc::Eq(left, right));
+    let graph = Graph::new(alloc, root, Items::new(alloc), Items::new(alloc))?;
+    let free = graph.free(alloc, graph.root())?;
+    assert_eq!(rt; free.len(), 2);
+    assert_eq!(rt; free.get(0).copied(), Some(3));
+    assert_eq!(rt; free.get(1).copied(), Some(7));
+    assert_eq!(rt; check_graph(alloc, &graph), at_root(Clause::I1));
     Ok(())
 }

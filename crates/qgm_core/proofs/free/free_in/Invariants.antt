@@ -1,4 +1,4 @@
-use Rattle.std.proofs.Common.{◌≡◌, ℕ, Bool, not, [], drop, filter}
+use Rattle.std.proofs.Common.{◌≡◌, not, [], drop, filter}
 use Rattle.qgm_core.specs.Free as spec
 use Rattle.qgm_core.proofs.free.free_in.Given as goal
 

@@ -1,5 +1,4 @@
-use Rattle.std.proofs.Common.{◌≡◌, ◌<◌, ◌≤◌, length, get_or, sym, ◌∙◌, arith}
-use Rattle.qgm_core.specs.Free.{put_once}
+use Rattle.std.proofs.Common.{◌<◌, length, sym, ◌∙◌, arith}
 use Rattle.qgm_core.proofs.Ascending.{put_new, put_old}
 use Rattle.qgm_core.proofs.free.put_once.Goals.{else-i-len-via-then-i-len+else-index-q, else-i-len-via-else-i-len}
 use Rattle.qgm_core.proofs.free.put_once.Goals as goal

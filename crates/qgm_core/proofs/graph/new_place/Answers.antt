@@ -1,6 +1,5 @@
-use Rattle.std.proofs.Common.{◌≡◌, ◌≤◌, ◌+◌, ℕ, length, sym, arith, Option, Some, insert, subst}
-use Rattle.qgm_core.specs.Boxes.{is_box, put_at, IsNewPlace}
-use Rattle.qgm_core.specs.declared.graph.Node.{Node}
+use Rattle.std.proofs.Common.{◌≤◌, ◌+◌, ℕ, length, sym, arith, Option, subst}
+use Rattle.qgm_core.specs.Boxes.{is_box, IsNewPlace}
 use Rattle.qgm_core.proofs.First.{goes_below}
 use Rattle.qgm_core.proofs.graph.new_place.Goals as goal
 

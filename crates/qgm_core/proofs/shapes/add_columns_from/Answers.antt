@@ -1,4 +1,4 @@
-use Rattle.std.proofs.Common.{◌≡◌, ◌<◌, sym, ◌∙◌, ap, arith}
+use Rattle.std.proofs.Common.{◌<◌, ◌∙◌, arith}
 use Rattle.qgm_core.proofs.Ascending.{columns_more}
 use Rattle.qgm_core.proofs.shapes.add_columns_from.Goals as goal
 

@@ -1,8 +1,7 @@
-use Rattle.std.proofs.Common.{◌≡◌, ◌&&◌, ◌++◌, ◌∷◌, [], Bool, Option, ◌∙◌, ap}
-use Rattle.sql_value.specs.declared.order_key.SqlType.{SqlType}
-use Rattle.qgm_core.specs.Shown.{term, cond}
+use Rattle.std.proofs.Common.{◌&&◌, Bool, ◌∙◌, ap}
+use Rattle.qgm_core.specs.Shown.{cond}
 use Rattle.qgm_core.specs.Shapes as spec
-use Rattle.qgm_core.proofs.Ascending.{all_more, map_more}
+use Rattle.qgm_core.proofs.Ascending.{all_more}
 use Rattle.qgm_core.proofs.shapes.conds_unfolded.Goals as goal
 
 pub loop-i-preserved : goal.loop-i-preserved

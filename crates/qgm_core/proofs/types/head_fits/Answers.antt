@@ -1,8 +1,7 @@
-use Rattle.std.proofs.Common.{◌≡◌, ◌&&◌, ◌++◌, ◌∷◌, [], Bool, Option, ◌∙◌, ap}
-use Rattle.sql_value.specs.declared.order_key.SqlType.{SqlType}
-use Rattle.qgm_core.specs.Shown.{term, cond}
+use Rattle.std.proofs.Common.{◌&&◌, Bool, ◌∙◌, ap}
+use Rattle.qgm_core.specs.Shown.{term}
 use Rattle.qgm_core.specs.Types as spec
-use Rattle.qgm_core.proofs.Ascending.{all_more, map_more}
+use Rattle.qgm_core.proofs.Ascending.{all_more}
 use Rattle.qgm_core.proofs.types.head_fits.Goals as goal
 
 pub loop-k-preserved : goal.loop-k-preserved

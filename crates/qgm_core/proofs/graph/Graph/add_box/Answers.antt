@@ -1,6 +1,6 @@
-use Rattle.std.proofs.Common.{◌≡◌, ◌<◌, ◌+◌, ℕ, List, [], sym, subst, insert, arith, All}
+use Rattle.std.proofs.Common.{◌≡◌, ◌<◌, ◌+◌, List, sym, subst, insert, arith, All}
 use Rattle.std.proofs.lemmas.List.Elements.{All-nil}
-use Rattle.qgm_core.specs.Boxes.{QueryGraph, HasBox, bare_box}
+use Rattle.qgm_core.specs.Boxes.{QueryGraph, HasBox}
 use Rattle.qgm_core.specs.declared.graph.Node.{Node}
 use Rattle.qgm_core.specs.declared.owned.Range.{Range}
 use Rattle.qgm_core.proofs.Fresh.{no_box, all_insert, all_weaker}

@@ -1,5 +1,5 @@
-use Rattle.std.proofs.Common.{◌≡◌, ◌<◌, ◌≤◌, ◌+◌, sym, ◌∙◌, ap, List, insert, map, ℕ, arith}
-use Rattle.std.specs.Prelude.{IsOk, vec_len, vec_capacity}
+use Rattle.std.proofs.Common.{◌≡◌, sym, ◌∙◌, ap, List, insert, map, ℕ, arith}
+use Rattle.std.specs.Prelude.{IsOk}
 use Rattle.qgm_core.specs.declared.owned.Range.{Range}
 use Rattle.qgm_core.proofs.Fresh.{map_insert, if_ok}
 use Rattle.qgm_core.proofs.owned.Owned.insert.Goals as goal
