@@ -1,0 +1,10 @@
+pub mod Terms
+pub mod TermCodes
+pub mod Shown
+pub mod Conjuncts
+pub mod Boxes
+pub mod Free
+pub mod Columns
+pub mod Types
+pub mod Shapes
+pub mod WellFormed

@@ -1,0 +1,154 @@
+// The quantifiers that a box names, itself or below it, and that are owned neither there nor below.
+ghost use Rattle.std.specs.Prelude.{◌≡◌, ◌++◌, ◌∷◌, [], ◌<◌, ◌≤◌, ℕ, length, slice_index_or, map, OnOk, IfOk};
+ghost use Rattle.std.specs.List.{list_any, flat_map};
+ghost use Rattle.qgm_core.specs.Boxes.{owns};
+ghost use Rattle.qgm_core.specs.Free as spec;
+ghost use Rattle.qgm_core.specs.Terms.{names_in, names_in_cond};
+
+use crate::graph::{Node, has_range};
+use crate::kinds::{BoxId, QuantId};
+use crate::names::{add_names, add_names_of_cond};
+use crate::owned::Range;
+use crate::parts::{Conds, Head};
+use qgm_base::OutOfMemory;
+use std::alloc::Global;
+
+// Whether a box is among those marked.
+pub fn is_marked(marks: &[BoxId], b: BoxId) -> bool
+    ensures { result ≡ spec.holds b marks.now }
+{
+    marks.iter().any(|m| *m == b)
+}
+
+// Marks the boxes that these quantifiers range over.
+pub fn mark_each(ranges: &[Range], marks: &mut Vec<BoxId>) -> Result<(), OutOfMemory>
+    ensures { OnOk result (marks.new.items ≡ marks.old.items ++ map (λ r. r.over) ranges.now) }
+{
+    for range in ranges {
+        marks.push(range.over)?;
+    }
+    Ok(())
+}
+
+// Marks what a box that is marked ranges over.
+fn mark(node: &Node, marks: &mut Vec<BoxId>) -> Result<(), OutOfMemory>
+    ensures { OnOk result (marks.new.items ≡ spec.marked marks.old.items node.now) }
+{
+    if is_marked(marks, node.id) {
+        mark_each(node.quants.as_slice(), marks)?;
+    }
+    Ok(())
+}
+
+// The boxes that are reached from one.
+fn reached(alloc: Global, nodes: &[Node], b: BoxId) -> Result<Vec<BoxId>, OutOfMemory>
+    ensures { IfOk result (λ marks. marks.items ≡ spec.reached (b ∷ []) nodes.now) }
+{
+    let mut marks = Vec::new(alloc);
+    marks.push(b)?;
+    for node in nodes {
+        mark(node, &mut marks)?;
+    }
+    Ok(marks)
+}
+
+// Appends what a head names.
+fn add_names_of_head(head: &Head, out: &mut Vec<QuantId>) -> Result<(), OutOfMemory>
+    ensures { OnOk result (out.new.items ≡ out.old.items ++ flat_map names_in head.now) }
+{
+    for k in 0..head.len() {
+        add_names(head.at(k + 1), out)?;
+    }
+    Ok(())
+}
+
+// Appends what conditions name.
+fn add_names_of_conds(conds: &Conds, out: &mut Vec<QuantId>) -> Result<(), OutOfMemory>
+    ensures { OnOk result (out.new.items ≡ out.old.items ++ flat_map names_in_cond conds.now.items) }
+{
+    for i in 0..conds.len() {
+        add_names_of_cond(conds.at(i + 1), out)?;
+    }
+    Ok(())
+}
+
+// Appends what a box names.
+pub fn add_names_of_node(node: &Node, out: &mut Vec<QuantId>) -> Result<(), OutOfMemory>
+    ensures { OnOk result (out.new.items ≡ out.old.items ++ spec.named_by node.now) }
+{
+    add_names_of_head(&node.parts.head, out)?;
+    add_names_of_conds(&node.parts.conds, out)
+}
+
+// Appends what a box names, where it is marked.
+fn add_names_of_marked(
+    node: &Node,
+    marks: &[BoxId],
+    out: &mut Vec<QuantId>,
+) -> Result<(), OutOfMemory>
+    ensures { OnOk result (out.new.items ≡ out.old.items ++ spec.named_where marks.now node.now) }
+{
+    if is_marked(marks, node.id) {
+        add_names_of_node(node, out)?;
+    }
+    Ok(())
+}
+
+// What the marked boxes name.
+fn named(alloc: Global, nodes: &[Node], marks: &[BoxId]) -> Result<Vec<QuantId>, OutOfMemory>
+    ensures { IfOk result (λ names. names.items ≡ flat_map (spec.named_where marks.now) nodes.now) }
+{
+    let mut names = Vec::new(alloc);
+    for node in nodes {
+        add_names_of_marked(node, marks, &mut names)?;
+    }
+    Ok(names)
+}
+
+// Whether a marked box owns the quantifier.
+fn is_owned(nodes: &[Node], marks: &[BoxId], q: QuantId) -> bool
+    ensures { result ≡ spec.is_owned marks.now nodes.now q }
+{
+    nodes.iter().any(|n| is_marked(marks, n.id) && has_range(n.quants.as_slice(), q))
+}
+
+// Where a quantifier goes among ascending ones: those before are less, and the one there isn't.
+fn place_for(out: &[QuantId], q: QuantId) -> usize
+    ensures within { result ≤ length out.now }
+    ensures less { (k : ℕ) → k < result → slice_index_or out.now k 0 < q }
+    ensures not_less { (d : ℕ) → result < length out.now → q ≤ slice_index_or out.now result d }
+{
+    for i in 0..out.len() {
+        if q <= out[i] {
+            return i;
+        }
+    }
+    out.len()
+}
+
+// Puts a quantifier among ascending ones, if it isn't there.
+fn put_once(out: &mut Vec<QuantId>, q: QuantId) -> Result<(), OutOfMemory>
+    ensures { OnOk result (out.new.items ≡ spec.put_once q out.old.items) }
+{
+    let i = place_for(out, q);
+    if i < out.len() && out[i] == q {
+        return Ok(());
+    }
+    out.insert(i, q)?;
+    Ok(())
+}
+
+// The free quantifiers of a box, ascending.
+pub fn free_in(alloc: Global, nodes: &[Node], b: BoxId) -> Result<Vec<QuantId>, OutOfMemory>
+    ensures { IfOk result (λ free. free.items ≡ spec.free_in nodes.now b) }
+{
+    let marks = reached(alloc, nodes, b)?;
+    let names = named(alloc, nodes, &marks)?;
+    let mut free = Vec::new(alloc);
+    for q in &names {
+        if !is_owned(nodes, &marks, *q) {
+            put_once(&mut free, *q)?;
+        }
+    }
+    Ok(free)
+}

@@ -1,0 +1,79 @@
+// What boxes and quantifiers are of.
+use qgm_base::Text;
+use sql_value::SqlType;
+use sqlite_items::Items;
+
+/// The number of a box.
+pub type BoxId = usize;
+
+/// The number of a quantifier.
+pub type QuantId = usize;
+
+/// A column of a quantifier's row, by its place from 1.
+#[derive(Clone, Copy, Debug, PartialEq, Eq)]
+pub struct Column {
+    pub quant: QuantId,
+    pub place: usize,
+}
+
+/// A stored table: what a graph knows of it.
+#[derive(Drop)]
+pub struct BaseTable {
+    pub name: Text,
+    /// The types of its columns, in order.
+    pub types: Items<SqlType>,
+    /// Its keys, each the places, from 1, of its columns.
+    pub keys: Items<Items<usize>>,
+    /// The places, from 1, of the columns that hold no null.
+    pub not_null: Items<usize>,
+}
+
+/// What a box does (Pirahesh, Hellerstein and Hasan 1992, 2.1).
+#[derive(Drop)]
+pub enum BoxKind {
+    /// It holds a stored table's rows.
+    Base(BaseTable),
+    /// It selects, projects and joins.
+    Select,
+}
+
+/// What a quantifier ranges for (Pirahesh, Hellerstein and Hasan 1992, 2.1).
+#[derive(Clone, Copy, Debug, PartialEq, Eq)]
+pub enum QuantKind {
+    /// Each row takes part.
+    F,
+    /// Whether one row is so.
+    E,
+    /// Whether all rows are so.
+    A,
+    /// The value of the one row.
+    S,
+}
+
+/// Whether a box gives rows more than once (Pirahesh, Hellerstein and Hasan 1992, 2.1).
+#[derive(Clone, Copy, Debug, PartialEq, Eq)]
+pub enum Distinct {
+    /// It gives each row once.
+    Enforce,
+    /// It gives each row as often as it comes.
+    Preserve,
+    /// It may give a row more or less often.
+    Permit,
+}
+
+/// What a box is for, where a query is decorrelated (Seshadri, Pirahesh and Leung 1996, 4).
+#[derive(Clone, Copy, Debug, PartialEq, Eq)]
+pub enum Role {
+    Plain,
+    /// It holds the bindings of a correlated box.
+    Magic,
+    /// It joins the bindings with a correlated box.
+    Fed,
+}
+
+/// The order in which boxes are visited.
+#[derive(Clone, Copy, Debug, PartialEq, Eq)]
+pub enum Walk {
+    Depth,
+    Breadth,
+}

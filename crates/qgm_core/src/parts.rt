@@ -1,0 +1,154 @@
+// What a box holds beside the quantifiers that it owns.
+ghost use Rattle.std.specs.Prelude.{◌≡◌, ◌<◌, ◌≤◌, ◌+◌, ◌-◌, ◌++◌, ◌∷◌, [], length, slice_get, Some, OnOk, OnErr};
+ghost use Rattle.qgm_core.specs.Shown.{term, cond};
+
+use crate::kinds::{BoxKind, Distinct, Role};
+use crate::tree::{Gc, Gx};
+use qgm_base::OutOfMemory;
+use std::alloc::Global;
+use std::marker::Model;
+
+/// The expressions that a box gives for each of its rows, one a column. Contracts see it as the
+/// list of them.
+#[derive(Drop)]
+pub struct Head {
+    terms: Vec<Gx>,
+}
+
+impl Model for Head {
+    ghost use Rattle.std.specs.Prelude.{List, map};
+    ghost use Rattle.std.specs.Coded.{coded_list};
+    ghost use Rattle.qgm_core.specs.Terms.{Term};
+    ghost use Rattle.qgm_core.specs.TermCodes.{coded_term};
+
+    ghost Value = { List Term };
+
+    ghost coded = { coded_list coded_term };
+
+    ghost use Rattle.qgm_core.specs.Shown.{term};
+
+    ghost view = { λ h. map term h.terms.items };
+}
+
+impl Head {
+    /// No column.
+    pub fn new(alloc: Global) -> Head
+        ensures { result ≡ [] }
+    {
+        Head {
+            terms: Vec::new(alloc),
+        }
+    }
+
+    /// How many columns there are.
+    pub fn len(&self) -> usize
+        ensures { result ≡ length self.now }
+    {
+        self.terms.len()
+    }
+
+    /// The expression of a column, by its place from 1.
+    pub fn at(&self, k: usize) -> &Gx
+        requires from_one { 1 ≤ k }
+        requires within { k ≤ length self.now }
+        ensures { slice_get self.now (k - 1) ≡ Some (term result.now) }
+    {
+        &self.terms[k - 1]
+    }
+
+    /// Adds a column at the end.
+    pub fn push(&mut self, x: Gx) -> Result<(), OutOfMemory>
+        ensures ok { OnOk result (self.new ≡ self.old ++ term x ∷ []) }
+        ensures err { OnErr result (self.new ≡ self.old) }
+    {
+        self.terms.push(x)?;
+        Ok(())
+    }
+}
+
+/// The conditions of a box, all of which a row must meet. Contracts see it as the list of them,
+/// and for how many more there is room.
+#[derive(Drop)]
+pub struct Conds {
+    conds: Vec<Gc>,
+    // For how many more there is room, as far as was asked.
+    room: usize,
+}
+
+impl Model for Conds {
+    ghost use Rattle.std.specs.Prelude.{◌+◌, ◌≤◌, map, vec_len, vec_capacity};
+    ghost use Rattle.qgm_core.specs.Conjuncts.{Conjuncts, coded_conjuncts};
+
+    ghost Value = { Conjuncts };
+
+    ghost coded = { coded_conjuncts };
+
+    ghost use Rattle.qgm_core.specs.Shown.{cond};
+
+    ghost view = { λ a. record { items = map cond a.conds.items; spare = a.room } };
+
+    ghost invariant = { λ a. vec_len a.conds + a.room ≤ vec_capacity a.conds };
+}
+
+impl Conds {
+    /// No condition.
+    pub fn new(alloc: Global) -> Conds
+        ensures items { result.items ≡ [] }
+        ensures spare { result.spare ≡ 0 }
+    {
+        Conds {
+            conds: Vec::new(alloc),
+            room: 0,
+        }
+    }
+
+    /// How many conditions there are.
+    pub fn len(&self) -> usize
+        ensures { result ≡ length self.now.items }
+    {
+        self.conds.len()
+    }
+
+    /// A condition, by its place from 1.
+    pub fn at(&self, i: usize) -> &Gc
+        requires from_one { 1 ≤ i }
+        requires within { i ≤ length self.now.items }
+        ensures { slice_get self.now.items (i - 1) ≡ Some (cond result.now) }
+    {
+        &self.conds[i - 1]
+    }
+
+    /// Makes room for n more.
+    pub fn reserve(&mut self, n: usize) -> Result<(), OutOfMemory>
+        ensures items { self.new.items ≡ self.old.items }
+        ensures ok { OnOk result (n ≤ self.new.spare) }
+        ensures err { OnErr result (self.new.spare ≡ self.old.spare) }
+    {
+        self.conds.reserve(n)?;
+        if self.room < n {
+            self.room = n;
+        }
+        Ok(())
+    }
+
+    /// Adds a condition at the end, where there is room for it. It takes no memory.
+    pub fn push(&mut self, c: Gc)
+        requires { 1 ≤ self.old.spare }
+        ensures items { self.new.items ≡ self.old.items ++ cond c ∷ [] }
+        ensures spare { self.new.spare + 1 ≡ self.old.spare }
+    {
+        let _ = self.conds.push(c);
+        self.room -= 1;
+    }
+}
+
+/// What a box is and holds, beside the quantifiers that it owns
+/// (Pirahesh, Hellerstein and Hasan 1992, 2.1).
+#[derive(Drop)]
+pub struct BoxParts {
+    pub kind: BoxKind,
+    pub distinct: Distinct,
+    pub role: Role,
+    pub conds: Conds,
+    pub head: Head,
+}

@@ -1,0 +1,48 @@
+// The numbers of a box's quantifiers.
+ghost use Rattle.std.specs.Prelude.{◌≡◌, ◌≤◌, [], length, insert, OnOk, OnErr};
+
+use crate::kinds::QuantId;
+use qgm_base::OutOfMemory;
+use std::alloc::Global;
+use std::marker::Model;
+
+/// Quantifiers by place. Contracts see it as the list of their numbers.
+#[derive(Debug, Drop)]
+pub struct Quants {
+    ids: Vec<QuantId>,
+}
+
+impl Model for Quants {
+    ghost use Rattle.std.specs.Prelude.{ℕ, List};
+
+    ghost Value = { List ℕ };
+
+    ghost view = { λ q. q.ids.items };
+}
+
+impl Quants {
+    pub(crate) fn new(alloc: Global) -> Quants
+        ensures { result ≡ [] }
+    {
+        Quants {
+            ids: Vec::new(alloc),
+        }
+    }
+
+    /// The quantifiers.
+    pub fn as_slice(&self) -> &[QuantId]
+        ensures { result.now ≡ self.now }
+    {
+        &self.ids
+    }
+
+    // Puts a quantifier at a place, from 0.
+    pub(crate) fn insert(&mut self, i: usize, q: QuantId) -> Result<(), OutOfMemory>
+        requires { i ≤ length self.old }
+        ensures ok { OnOk result (self.new ≡ insert self.old i q) }
+        ensures err { OnErr result (self.new ≡ self.old) }
+    {
+        self.ids.insert(i, q)?;
+        Ok(())
+    }
+}
