@@ -1,0 +1,2 @@
+//! What the boxes of a query graph mean.
+#![tactic(auto)]
