@@ -1,0 +1,4 @@
+mod Behind
+mod Plans
+mod Rows
+mod Within
