@@ -62,10 +62,10 @@ constant-bag tables g b parts loops rows o h kind over same made env =
     let anywhere : looped loops (given_by parts) [] ≡ looped loops (given_by parts) env = same [] env (λ q k. absurd (let z : ⊥ = cc in z)) in
     alike-trans made (alike-trans (alike-same (ap (once_if (is_enforce parts.distinct)) anywhere)) (selected-bag tables g b parts loops o h kind over env))
 
--- loops over rows that are those of a box
-pub over-bag : (tables : List Table) (g : QueryGraph) (b q : ℕ) (rest : Loops) (rows : Environment → Bag) → ((env : Environment) → Alike (rows env) (bag tables g b env)) → (give : Environment → Bag) (env : Environment)
-    → Alike (bind (rows env) (λ cells. looped rest give (bound q cells env))) (bind (bag tables g b env) (λ cells. looped rest give (bound q cells env)))
-over-bag tables g b q rest rows h give env = alike-bind (h env) (λ c. alike-refl (looped rest give (bound q c env)))
+-- a loop over rows that are those of a box
+pub over-bag : (tables : List Table) (g : QueryGraph) (b q : ℕ) (boxed rest : Loops) (rows : Environment → Bag) → boxed ≡ rest → ((env : Environment) → Alike (rows env) (bag tables g b env)) → (give : Environment → Bag) (env : Environment)
+    → Alike (bind (rows env) (λ cells. looped boxed give (bound q cells env))) (bind (bag tables g b env) (λ cells. looped rest give (bound q cells env)))
+over-bag tables g b q boxed rest rows e h give env = alike-bind (h env) (λ c. alike-same (ap (λ (l : Loops). looped l give (bound q c env)) e))
 
 -- one quantifier more
 pub over-more : (tables : List Table) (g : QueryGraph) (all rest : List Range) (q b : ℕ) (kind : QuantKind) (inner loops : Loops) → all ≡ range q kind b ∷ rest → kind ≡ F
@@ -75,9 +75,3 @@ over-more tables g all rest q b kind inner loops e k h l give env =
     alike-trans (l give env)
     (alike-trans (alike-bind (alike-refl (bag tables g b env)) (λ c. h give (bound q c env)))
     (alike-same (sym (ap (λ (rs : List Range). over_each rs (bag tables g) give env) (e ∙ ap (λ (z : QuantKind). range q z b ∷ rest) k)))))
-
--- a quantifier that isn't F gives nothing
-pub over-same : (tables : List Table) (g : QueryGraph) (all rest : List Range) (q b : ℕ) (kind : QuantKind) (loops : Loops) → all ≡ range q kind b ∷ rest
-    → ((give : Environment → Bag) (env : Environment) → over_each (range q kind b ∷ rest) (bag tables g) give env ≡ over_each rest (bag tables g) give env) → LoopsOver tables g rest loops → LoopsOver tables g all loops
-over-same tables g all rest q b kind loops e k h give env =
-    alike-trans (h give env) (alike-same (sym (ap (λ (rs : List Range). over_each rs (bag tables g) give env) e ∙ k give env)))

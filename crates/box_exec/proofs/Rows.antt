@@ -1,5 +1,5 @@
 -- Rows that loops add, up to rows that aren't there.
-use Rattle.std.proofs.Common.{ℕ, ◌≡◌, ◌<◌, ◌+◌, ◌++◌, Bool, true, false, List, [], ◌∷◌, get_or, take, append_assoc, append-nil, refl, sym, ◌∙◌, ap, ap₂, subst}
+use Rattle.std.proofs.Common.{ℕ, ◌≡◌, ◌<◌, ◌+◌, ◌++◌, Bool, true, false, List, [], ◌∷◌, get_or, length, take, append_assoc, append-nil, refl, sym, ◌∙◌, ap, ap₂, subst}
 use Rattle.std.proofs.lemmas.List.{take_more}
 use Rattle.qgm_core.specs.Shapes.{is_enforce}
 use Rattle.qgm_meaning.specs.Boxes.{Bag, once_if}
@@ -46,12 +46,12 @@ pub once_if-alike : (once : Bool) {xs ys : Bag} → Alike xs ys → Alike (once_
 once_if-alike true h = distinct-alike same_cells same_cells-decides h
 once_if-alike false h = h
 
-pub distinct-once : {xs ys : Bag} → Agree same_cells xs (distinct same_cells ys) → Alike xs (once_if true ys)
-distinct-once h = alike-from_agree same_cells same_cells-decides h
+pub distinct-once : (xs ys : Bag) → Agree same_cells xs (distinct same_cells ys) → Alike xs (once_if true ys)
+distinct-once xs ys h = alike-from_agree same_cells same_cells-decides h
 
 -- rows added to none, and each once where this is asked for
-pub rows-once : (once : Bool) (out rows made : Bag) → Alike out ([] ++ keep Yes rows) → Alike made (once_if once out) → Alike made (once_if once rows)
-rows-once once out rows made h k = alike-trans k (once_if-alike once (alike-trans h (alike-same (keep-yes rows))))
+pub rows-once : (once : Bool) (before out rows made : Bag) → before ≡ [] → Alike out (before ++ keep Yes rows) → Alike made (once_if once out) → Alike made (once_if once rows)
+rows-once once before out rows made e h k = alike-trans k (once_if-alike once (alike-trans h (alike-same (ap (λ (b : Bag). b ++ keep Yes rows) e ∙ keep-yes rows))))
 
 -- loops over rows that are alike
 pub bind-added : (level : Level) (f : List Cell → Bag) (rows others out new : Bag) → Alike rows others → Alike new (out ++ keep level (bind rows f)) → Alike new (out ++ keep level (bind others f))

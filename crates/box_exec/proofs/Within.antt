@@ -39,17 +39,17 @@ module _ (b d e : Environment) (same : SameWhere b d e) where
     term-same (col q k) h = ap (cell_of k) (same q (and_parts (is_bound q b) true h).0)
     term-same (both o x y) h = ap₂ (operate o) (term-same x (left b (names_in x) (names_in y) h)) (term-same y (right b (names_in x) (names_in y) h))
     term-same (minus_of x) h = ap a.neg (term-same x h)
-    term-same (choose s x) h = arms-same s x (left b (names_in_arms s) (names_in x) h) (right b (names_in_arms s) (names_in x) h)
+    term-same (choose s x) h = arms-same s (value x d) (value x e) (left b (names_in_arms s) (names_in x) h) (term-same x (right b (names_in_arms s) (names_in x) h))
     term-same count_all h = refl
     term-same (fold f g x) h = refl
 
-    arms-same : (s : Arms) (x : Term) → Within b (names_in_arms s) → Within b (names_in x) → first_true s (value x d) d ≡ first_true s (value x e) e
-    arms-same no_arm x h k = term-same x k
-    arms-same (arm p y s) x h k =
-        let after = right b (names_in_cond p) (names_in y ++ names_in_arms s) h in
-        let test : truth p d ≡ truth p e = cond-same p (left b (names_in_cond p) (names_in y ++ names_in_arms s) h) in
-        ap₂ (λ (l : Truth) (z : Cell). chosen_at l.t z (first_true s (value x d) d)) test (term-same y (left b (names_in y) (names_in_arms s) after))
-        ∙ ap (chosen_at (truth p e).t (value y e)) (arms-same s x (right b (names_in y) (names_in_arms s) after) k)
+    arms-same : (s : Arms) (x y : Cell) → Within b (names_in_arms s) → x ≡ y → first_true s x d ≡ first_true s y e
+    arms-same no_arm x y h k = k
+    arms-same (arm p z s) x y h k =
+        let before = left b (names_in_cond p ++ names_in z) (names_in_arms s) h in
+        let test : truth p d ≡ truth p e = cond-same p (left b (names_in_cond p) (names_in z) before) in
+        ap₂ (λ (l : Truth) (w : Cell). chosen_at l.t w (first_true s x d)) test (term-same z (right b (names_in_cond p) (names_in z) before))
+        ∙ ap (chosen_at (truth p e).t (value z e)) (arms-same s x y (right b (names_in_cond p ++ names_in z) (names_in_arms s) h) k)
 
     cond-same : (p : Cond) → Within b (names_in_cond p) → truth p d ≡ truth p e
     cond-same always h = refl

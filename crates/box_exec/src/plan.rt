@@ -33,9 +33,10 @@ pub fn ranging_at(graph: &Graph, b: BoxId, i: usize) -> Ranging
     requires within { i < length (core.quants_of b graph.now) }
     ensures { drop i (core.quants_of b graph.now) ≡ core.range result.id result.kind result.over ∷ drop (i + 1) (core.quants_of b graph.now) }
 {
+    let id = graph.quants(b).as_slice()[i];
     let quant = graph.quant_at(b, i + 1);
     Ranging {
-        id: graph.quants(b).as_slice()[i],
+        id,
         kind: quant.kind,
         over: quant.over,
     }
@@ -106,7 +107,7 @@ fn loop_over<'a>(
     requires ordered { Ordered graph.now.boxes }
     requires held { core.HasBox b graph.now }
     requires made { AllMade tables.now graph.now made.now }
-    ensures { IfOk result (λ loops. LoopOver tables.now graph.now q b rest loops) }
+    ensures { IfOk result (λ loops. LoopOver tables.now graph.now q b rest.entry loops) }
 {
     let rest = Box::new(alloc, rest)?;
     if let Some(rows) = made_rows(made, b) {

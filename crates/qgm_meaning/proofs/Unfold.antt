@@ -41,7 +41,7 @@ pub rows_of-same : (tables : List Table) (n : Node) (f g : ℕ → Environment �
 rows_of-same tables n f g env s = rows_by-same n.parts.kind tables n f g env s
 
 -- a box that these boxes hold isn't one that they don't
-apart : (m : ℕ) (b : ℕ) (ns : List Node) → list_any (is_box m) ns ≡ false → has_box ns b ≡ true → (m == b) ≡ false
+pub apart : (m : ℕ) (b : ℕ) (ns : List Node) → list_any (is_box m) ns ≡ false → has_box ns b ≡ true → (m == b) ≡ false
 apart m b ns absent held =
     elim (cases_Bool (m == b)) [
       | inl t ↦ absurd (let same : m ≡ b = eqb-true m b t in let found : list_any (is_box m) ns ≡ true = subst (λ k. list_any (is_box k) ns ≡ true) (sym same) held in let z : ⊥ = cc in z)
