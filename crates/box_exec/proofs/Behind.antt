@@ -47,8 +47,8 @@ all-below [] b n o h = absurd (let z : ⊥ = cc in z)
 all-below (m ∷ ns) b n o h =
     elim (m.id == b) as (λ t. ◌≡◌ {A = Option Node} (cond t (Some m) (first (is_box b) ns)) (Some n) → AllBelow (m ∷ ns) (cond t (length ns) (behind b ns)) n.quants) [
       | true ↦ λ h. (
-        let same : m ≡ n = cc in
-        all-under m ns (length ns) n.quants o.0 (over-below ns n.quants (subst (λ (z : Node). all_over ns z.quants ≡ true) same o.1)))
+          let same : m ≡ n = cc in
+          all-under m ns (length ns) n.quants o.0 (over-below ns n.quants (subst (λ (z : Node). all_over ns z.quants ≡ true) same o.1)))
       | false ↦ λ h. all-under m ns (behind b ns) n.quants o.0 (all-below ns b n o.2 h)
     ] h
 
@@ -65,6 +65,7 @@ falls ns b i r rest o held e = found (first (is_box b) ns) (λ n h. all-below ns
     none : (i : ℕ) → drop {A = Range} i [] ≡ r ∷ rest → ⊥
     none zero e = cc
     none (suc i) e = cc
+
     found : (f : Option Node) → ((n : Node) → f ≡ Some n → AllBelow ns (behind b ns) n.quants) → drop i (quants_in f) ≡ r ∷ rest → Below ns (behind b ns) r
     found None h e = absurd (none i e)
     found (Some n) h e = at ns (behind b ns) i n.quants r rest (h n refl) e

@@ -41,10 +41,10 @@ selected-bag tables g b parts loops o h kind over env =
     let found = held g b parts h in
     let n = found.0 in
     let rows : bag tables g b env ≡ once_if (is_enforce parts.distinct) (over_each (quants_of b g) (bag tables g) (given_by parts) env) =
-        unfold-bag tables g.boxes b n env o found.1
-        ∙ ap (λ (k : BoxKind). rows_by k tables n (bag tables g) env) (ap (λ (p : BoxParts). p.kind) found.2 ∙ kind)
-        ∙ ap (λ (p : BoxParts). once_if (is_enforce p.distinct) (over_each n.quants (bag tables g) (given_by p) env)) found.2
-        ∙ ap (λ (rs : List Range). once_if (is_enforce parts.distinct) (over_each rs (bag tables g) (given_by parts) env)) (sym found.3) in
+    unfold-bag tables g.boxes b n env o found.1
+    ∙ ap (λ (k : BoxKind). rows_by k tables n (bag tables g) env) (ap (λ (p : BoxParts). p.kind) found.2 ∙ kind)
+    ∙ ap (λ (p : BoxParts). once_if (is_enforce p.distinct) (over_each n.quants (bag tables g) (given_by p) env)) found.2
+    ∙ ap (λ (rs : List Range). once_if (is_enforce parts.distinct) (over_each rs (bag tables g) (given_by parts) env)) (sym found.3) in
     alike-trans (once_if-alike (is_enforce parts.distinct) (over (given_by parts) env)) (alike-same (sym rows))
 
 -- a base gives the rows of its table

@@ -9,5 +9,7 @@ mod loops;
 mod names;
 mod plan;
 mod steps;
+#[cfg(test)]
+mod tests;
 
 pub use execution::execute;

@@ -27,8 +27,8 @@ pub over_each-same : (rs : List Range) (f g : ℕ → Environment → Bag) (give
 over_each-same [] f g give env s = refl
 over_each-same (r ∷ rs) f g give env s =
     elim (is_F r.kind) as (λ t. ◌≡◌ {A = Bag}
-      (cond t (bind (f r.over env) (λ cells. over_each rs f give (bound r.id cells env))) (over_each rs f give env))
-      (cond t (bind (g r.over env) (λ cells. over_each rs g give (bound r.id cells env))) (over_each rs g give env))) [
+    (cond t (bind (f r.over env) (λ cells. over_each rs f give (bound r.id cells env))) (over_each rs f give env))
+    (cond t (bind (g r.over env) (λ cells. over_each rs g give (bound r.id cells env))) (over_each rs g give env))) [
       | true ↦ ap₂ (λ (rows : Bag) (h : List Cell → Bag). bind rows h) (s.0 env) (fun_ext (λ cells. over_each-same rs f g give (bound r.id cells env) s.1))
       | false ↦ over_each-same rs f g give env s.1
     ]
@@ -48,7 +48,7 @@ apart m b ns absent held =
       | inr t ↦ t
     ]
 
-lower : (tables : List Table) (m : Node) (ns : List Node) (b : ℕ) (env : Environment) → (m.id == b) ≡ false → bag_in tables (m ∷ ns) b env ≡ bag_in tables ns b env
+pub lower : (tables : List Table) (m : Node) (ns : List Node) (b : ℕ) (env : Environment) → (m.id == b) ≡ false → bag_in tables (m ∷ ns) b env ≡ bag_in tables ns b env
 lower tables m ns b env h = ap (λ (t : Bool). cond t (rows_of tables m (bag_in tables ns) env) (bag_in tables ns b env)) h
 
 -- a box that stands higher isn't seen by quantifiers over what is below it
@@ -83,10 +83,10 @@ unfold-bag tables [] b n env o h = absurd (let z : ⊥ = cc in z)
 unfold-bag tables (m ∷ ns) b n env o h =
     elim (m.id == b) as (λ t. ◌≡◌ {A = Option Node} (cond t (Some m) (first (is_box b) ns)) (Some n) → ◌≡◌ {A = Bag} (cond t (rows_of tables m (bag_in tables ns) env) (bag_in tables ns b env)) (rows_of tables n (bag_in tables (m ∷ ns)) env)) [
       | true ↦ λ h. (
-        let same : m ≡ n = cc in
-        ap (λ (z : Node). rows_of tables z (bag_in tables ns) env) same
-        ∙ rows_of-same tables n (bag_in tables ns) (bag_in tables (m ∷ ns)) env (under-lower tables m ns n.quants o.0 (subst (λ (z : Node). all_over ns z.quants ≡ true) same o.1)))
+          let same : m ≡ n = cc in
+          ap (λ (z : Node). rows_of tables z (bag_in tables ns) env) same
+          ∙ rows_of-same tables n (bag_in tables ns) (bag_in tables (m ∷ ns)) env (under-lower tables m ns n.quants o.0 (subst (λ (z : Node). all_over ns z.quants ≡ true) same o.1)))
       | false ↦ λ h. (
-        unfold-bag tables ns b n env o.2 h
-        ∙ rows_of-same tables n (bag_in tables ns) (bag_in tables (m ∷ ns)) env (under-lower tables m ns n.quants o.0 (overs-held ns b n o.2 h)))
+          unfold-bag tables ns b n env o.2 h
+          ∙ rows_of-same tables n (bag_in tables ns) (bag_in tables (m ∷ ns)) env (under-lower tables m ns n.quants o.0 (overs-held ns b n o.2 h)))
     ] h

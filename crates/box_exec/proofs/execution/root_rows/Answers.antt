@@ -16,8 +16,8 @@ returns-in-Base-clause-rows g c =
     let rows = rows_or_none (bag_named tables c.in-Base.table.name) in
     let is_bag : IsBag tables graph c.root-root.result rows = base-bag tables graph c.root-root.result c.parts-parts.result.now c.in-Base.table c.requires.ordered c.parts-parts.ensures c.in-Base.is in
     IfOk-weaker c.copy_rows.result _ _
-      (λ made h. alike-trans (alike-same (h ∙ c.table_rows.ensures)) (subst (λ (b : ℕ). Alike rows (bag tables graph b [])) c.root-root.ensures (is_bag [])))
-      c.copy_rows.ensures
+    (λ made h. alike-trans (alike-same (h ∙ c.table_rows.ensures)) (subst (λ (b : ℕ). Alike rows (bag tables graph b [])) c.root-root.ensures (is_bag [])))
+    c.copy_rows.ensures
 
 pub returns-in_ok-loops-in-Select-clause-rows : goal.returns-in_ok-loops-in-Select-clause-rows
 returns-in_ok-loops-in-Select-clause-rows g c =
@@ -26,7 +26,7 @@ returns-in_ok-loops-in-Select-clause-rows g c =
     let parts = c.parts-parts.result.now in
     let loops = c.in_ok-loops-in-Select.loops in
     IfOk-weaker c.select_rows.result _ _
-      (λ made h. alike-trans h
-        (subst (λ (b : ℕ). Alike (selected parts loops []) (bag tables graph b [])) c.root-root.ensures
-          (selected-bag tables graph c.root-root.result parts loops c.requires.ordered c.parts-parts.ensures c.in-Select.is c.in_ok-loops-in-Select.ensures [])))
-      c.select_rows.ensures.rows
+    (λ made h. alike-trans h
+    (subst (λ (b : ℕ). Alike (selected parts loops []) (bag tables graph b [])) c.root-root.ensures
+    (selected-bag tables graph c.root-root.result parts loops c.requires.ordered c.parts-parts.ensures c.in-Select.is c.in_ok-loops-in-Select.ensures [])))
+    c.select_rows.ensures.rows

@@ -9,4 +9,4 @@ pub returns-then-eq : goal.returns-then-eq
 returns-then-eq c =
     let absent : c.in_ok-level.level ≡ No = search rules in
     head-absent c.args.level (every c.args.parts.now.conds.items (env_of c.args.env.now)).t (head_cells c.args.parts.now.head (env_of c.args.env.now)) c.args.out.now
-      (sym c.in_ok-level.ensures ∙ absent)
+    (sym c.in_ok-level.ensures ∙ absent)

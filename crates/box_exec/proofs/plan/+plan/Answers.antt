@@ -12,20 +12,20 @@ use Rattle.box_exec.proofs.plan.+plan.Goals as goal
 pub loop_over-returns-in-Some : goal.loop_over-returns-in-Some
 loop_over-returns-in-Some t c =
     over-bag c.args.tables.now c.args.graph.now c.args.b c.args.q c.in_ok-rest.rest.value c.args.rest (λ (env : Environment). c.in-Some.rows.now) c.in_ok-rest.ensures.ok
-      (c.in-Some.ensures c.args.tables.now c.args.graph.now c.requires.made)
+    (c.in-Some.ensures c.args.tables.now c.args.graph.now c.requires.made)
 
 pub loop_over-returns-in-Base : goal.loop_over-returns-in-Base
 loop_over-returns-in-Base t c =
     let rows : IsBag c.args.tables.now c.args.graph.now c.args.b c.table_rows.result.now =
-        rw c.table_rows.ensures (base-bag c.args.tables.now c.args.graph.now c.args.b c.parts-parts.result.now c.in-Base.table c.requires.ordered c.parts-parts.ensures c.in-Base.is) in
+    rw c.table_rows.ensures (base-bag c.args.tables.now c.args.graph.now c.args.b c.parts-parts.result.now c.in-Base.table c.requires.ordered c.parts-parts.ensures c.in-Base.is) in
     over-bag c.args.tables.now c.args.graph.now c.args.b c.args.q c.in_ok-rest.rest.value c.args.rest (λ (env : Environment). c.table_rows.result.now) c.in_ok-rest.ensures.ok rows
 
 pub loop_over-returns-in_ok-new-in-Select : goal.loop_over-returns-in_ok-new-in-Select
 loop_over-returns-in_ok-new-in-Select t c =
     let over : LoopsOver c.args.tables.now c.args.graph.now (quants_of c.args.b c.args.graph.now) c.in_ok-new-in-Select.field-0.value =
-        subst (λ (l : Loops). LoopsOver c.args.tables.now c.args.graph.now (quants_of c.args.b c.args.graph.now) l) (sym c.in_ok-new-in-Select.ensures.ok) c.in_ok-within-in-Select.ensures in
+    subst (λ (l : Loops). LoopsOver c.args.tables.now c.args.graph.now (quants_of c.args.b c.args.graph.now) l) (sym c.in_ok-new-in-Select.ensures.ok) c.in_ok-within-in-Select.ensures in
     over-bag c.args.tables.now c.args.graph.now c.args.b c.args.q c.in_ok-rest.rest.value c.args.rest (selected c.parts-parts.result.now c.in_ok-new-in-Select.field-0.value) c.in_ok-rest.ensures.ok
-      (selected-bag c.args.tables.now c.args.graph.now c.args.b c.parts-parts.result.now c.in_ok-new-in-Select.field-0.value c.requires.ordered c.parts-parts.ensures c.in-Select.is over)
+    (selected-bag c.args.tables.now c.args.graph.now c.args.b c.parts-parts.result.now c.in_ok-new-in-Select.field-0.value c.requires.ordered c.parts-parts.ensures c.in-Select.is over)
 
 pub loops_of-loop_over-requires : goal.loops_of-loop_over-requires
 loops_of-loop_over-requires t c =
@@ -39,7 +39,7 @@ loops_of-loop-i-preserved-in-F t c =
     let all = quants_of c.args.b c.args.graph.now in
     let back : c.loop-i.i - 1 + 1 ≡ c.loop-i.i = omega arith in
     let more : drop (c.loop-i.i - 1) all ≡ range ranging.id ranging.kind ranging.over ∷ drop c.loop-i.i all =
-        subst (λ (n : ℕ). drop (c.loop-i.i - 1) all ≡ range ranging.id ranging.kind ranging.over ∷ drop n all) back c.ranging_at-ranging.ensures in
+    subst (λ (n : ℕ). drop (c.loop-i.i - 1) all ≡ range ranging.id ranging.kind ranging.over ∷ drop n all) back c.ranging_at-ranging.ensures in
     record {
       within = omega arith;
       over = over-more c.args.tables.now c.args.graph.now (drop (c.loop-i.i - 1) all) (drop c.loop-i.i all) ranging.id ranging.over ranging.kind c.loop-i.loops c.in_ok-loops-in-F.loops more c.in-F.is c.loop-i.invariant.over c.in_ok-loops-in-F.ensures;

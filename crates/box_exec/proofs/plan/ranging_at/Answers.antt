@@ -8,4 +8,4 @@ use Rattle.box_exec.proofs.plan.ranging_at.Goals as goal
 pub returns : goal.returns
 returns c =
     ranging (quants_of c.args.b c.args.graph.now) c.args.i (slice_index_or c.as_slice.result.now c.args.i 0) c.args.b c.quant_at-quant.result c.requires.within
-      (ap (λ (ids : List ℕ). slice_index_or ids c.args.i 0) (c.as_slice.ensures ∙ c.quants.ensures)) c.quant_at-quant.ensures
+    (ap (λ (ids : List ℕ). slice_index_or ids c.args.i 0) (c.as_slice.ensures ∙ c.quants.ensures)) c.quant_at-quant.ensures
