@@ -1,5 +1,5 @@
 // The graph: its boxes in one list, each with the quantifiers that it owns.
-ghost use Rattle.std.specs.Prelude.{◌≡◌, ◌<◌, ◌≤◌, ◌+◌, ◌-◌, ◌∷◌, [], OnErr, IfOk, IfSome, length, map, position, Some, option_map, true, IsTrue, ◌↔◌};
+ghost use Rattle.std.specs.Prelude.{◌≡◌, ◌<◌, ◌≤◌, ◌+◌, ◌-◌, ◌∷◌, [], OnErr, IfOk, IfSome, length, map, position, slice_get, Some, option_map, true, IsTrue, ◌↔◌};
 ghost use Rattle.std.specs.List.{list_any};
 ghost use Rattle.qgm_core.specs.Boxes as spec;
 ghost use Rattle.qgm_core.specs.Free.{free};
@@ -144,6 +144,22 @@ impl Graph {
         let range = range_of(node.quants.as_slice(), q);
         Quant {
             owner: node.id,
+            kind: range.kind,
+            over: range.over,
+        }
+    }
+
+    /// A quantifier that a box owns, by its place from 1.
+    pub fn quant_at(&self, b: BoxId, place: usize) -> Quant
+        requires held { spec.HasBox b self.now }
+        requires from_one { 1 ≤ place }
+        requires within { place ≤ length (spec.quants_of b self.now) }
+        ensures { Some result ≡ spec.quant_by b (slice_get (spec.quants_of b self.now) (place - 1)) }
+    {
+        let k = box_place(&self.nodes, b);
+        let range = self.nodes[k].quants.as_slice()[place - 1];
+        Quant {
+            owner: b,
             kind: range.kind,
             over: range.over,
         }

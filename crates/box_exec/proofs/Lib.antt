@@ -1,0 +1,5 @@
+mod Behind
+mod Left
+mod Plans
+mod Rows
+mod Within

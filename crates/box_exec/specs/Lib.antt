@@ -1,0 +1,5 @@
+pub mod Bound
+pub mod Counted
+pub mod Forms
+pub mod Looped
+pub mod Planned

@@ -1,0 +1,3 @@
+pub mod Only
+pub mod OnlyAgree
+pub mod Unfold

@@ -1,0 +1,4 @@
+pub mod Ordered
+pub mod Values
+pub mod Boxes
+pub mod Laws

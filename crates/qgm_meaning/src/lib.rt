@@ -1,0 +1,6 @@
+//! What the boxes of a query graph mean.
+#![tactic(auto)]
+
+mod laws;
+
+pub use laws::graph_laws;
