@@ -153,6 +153,8 @@ pub record OfGroups : Type 0 where
   pub argument_error : Fails (select (two s.count_all (aggregate function.Sum fault)) d) kind.Division
   -- SELECT COUNT(*) FROM (SELECT COUNT(*), SUM(1 / (A - 1)) FROM D) X: nobody uses that cell
   pub argument_error_unused : Gives (select (one s.count_all) (derived (select (two s.count_all (aggregate function.Sum fault)) d) (codes "X") [])) ((int 1 ∷ []) ∷ [])
+  -- SELECT COUNT(*), MAX(1 / (A - 1)) FROM D WHERE A <> 1: a row that is rejected isn't there, whatever its cells are
+  pub rejected : Gives (select_where (two s.count_all (aggregate function.Max fault)) d (s.compare a op.Ne (n 1))) ((int 2 ∷ int 1 ∷ []) ∷ [])
   -- SELECT COUNT(*) FROM D WHERE 1 / (A - 1) > 0 HAVING 1 = 2: a row to be grouped is at an error level, but HAVING rejects the one row
   pub failed_and_rejected : Gives (s.block None (one s.count_all) (from d) (s.only_where (above fault (n 0))) [] (s.only_where (equal (n 1) (n 2)))) []
   -- the same without HAVING
@@ -173,6 +175,8 @@ pub record OfSets : Type 0 where
   pub distinct : Gives (select_distinct (one a) e) ((int 1 ∷ []) ∷ (int 2 ∷ []) ∷ (Null ∷ []) ∷ [])
   -- SELECT A FROM D UNION ALL SELECT 1 / 0 FROM NONE
   pub union_all : Gives (s.combine (select (one a) d) operator.Union true (select (one by_zero) none)) ((int 1 ∷ []) ∷ (int 2 ∷ []) ∷ (int 3 ∷ []) ∷ [])
+  -- SELECT 1 / (A - 1) FROM D WHERE A <> 1 EXCEPT SELECT A FROM E: a row that is rejected isn't there, whatever its cells are
+  pub rejected : Gives (s.combine (select_where (one fault) d (s.compare a op.Ne (n 1))) operator.Except false (select (one a) e)) ((int 0 ∷ []) ∷ [])
   -- SELECT A FROM D EXCEPT SELECT 1 / 0 FROM D: an error in an operand is the result
   pub error_in_operand : Fails (s.combine (select (one a) d) operator.Except false (select (one by_zero) d)) kind.Division
 

@@ -2,7 +2,8 @@ use Rattle.std.proofs.Common.{◌≡◌, ◌∙◌, ap, arith}
 use Rattle.std.proofs.lemmas.Grind.{common_steps}
 use Rattle.std.proofs.lemmas.Result.{IfOk-weaker}
 use Rattle.sql_ast.specs.Shown as written
-use Rattle.sql_meaning.specs.Values as named
+use Rattle.sql_meaning.specs.Meaning as named
+use Rattle.sql_meaning.specs.Meaning.{no_group}
 use Rattle.sql_value.specs.declared.cell.Cell.{Cell}
 use Rattle.sql_check.specs.Core as core
 use Rattle.sql_check.specs.CoreShown as shown
@@ -12,8 +13,8 @@ use Rattle.sql_check.proofs.resolve.+resolve.Goals as goal
 
 pub conjunct-returns-in_ok-a-in-InList-clause-truth : goal.conjunct-returns-in_ok-a-in-InList-clause-truth
 conjunct-returns-in_ok-a-in-InList-clause-truth t c =
-    rw (c.in-InList.is, written.exprs_hidden c.in-InList.list, ← c.as_slice.ensures, ← c.deref-in-InList.ensures) (IfOk-weaker c.in_list.result _ _ (λ found h cells.
-    h cells ∙ ap (λ (x : Cell). named.perhaps_not c.in-InList.negative (named.equals_one x (written.expr_list c.as_slice.result.now) (scopes_of c.args.range.now cells))) (c.in_ok-a-in-InList.ensures.value cells))
+    rw (c.in-InList.is, written.exprs_hidden c.in-InList.list, ← c.as_slice.ensures, ← c.deref-in-InList.ensures) (IfOk-weaker c.in_list.result _ _ (λ found h known cells.
+    h known cells ∙ ap (λ (x : Cell). named.perhaps_not c.in-InList.negative (named.equals_one known x (written.expr_list c.as_slice.result.now) (scopes_of c.args.range.now cells) no_group)) (c.in_ok-a-in-InList.ensures.value known cells))
     c.in_list.ensures.truth)
 
 pub conjunct-returns-in_ok-a-in-InList-clause-fault : goal.conjunct-returns-in_ok-a-in-InList-clause-fault
@@ -22,11 +23,11 @@ conjunct-returns-in_ok-a-in-InList-clause-fault t c =
 
 pub operand-returns-in_ok-list-in-Simple-clause-value : goal.operand-returns-in_ok-list-in-Simple-clause-value
 operand-returns-in_ok-list-in-Simple-clause-value t c =
-    rw (c.in-Simple.is, written.choices_hidden c.in-Simple.list, ← c.as_slice-in-Simple.ensures, ← c.deref-in-Simple.ensures) (IfOk-weaker c.simple_case.result _ _ (λ found h cells.
-    h cells
-    ∙ c.in_ok-list-in-Simple.ensures.choices cells (core.value (shown.value c.in_ok-a-in-Simple.a.value) cells) (named.otherwise (written.otherwise c.in-Simple.last) (scopes_of c.args.range.now cells))
-    ∙ ap (λ (x : Cell). named.of_choices x (written.choice_list c.as_slice-in-Simple.result.now) (named.otherwise (written.otherwise c.in-Simple.last) (scopes_of c.args.range.now cells)) (scopes_of c.args.range.now cells))
-    (c.in_ok-a-in-Simple.ensures.value cells))
+    rw (c.in-Simple.is, written.choices_hidden c.in-Simple.list, ← c.as_slice-in-Simple.ensures, ← c.deref-in-Simple.ensures) (IfOk-weaker c.simple_case.result _ _ (λ found h known cells.
+    h known cells
+    ∙ c.in_ok-list-in-Simple.ensures.choices known cells (core.value (shown.value c.in_ok-a-in-Simple.a.value) cells) (named.otherwise known (written.otherwise c.in-Simple.last) (scopes_of c.args.range.now cells) no_group)
+    ∙ ap (λ (x : Cell). named.of_choices known x (written.choice_list c.as_slice-in-Simple.result.now) (named.otherwise known (written.otherwise c.in-Simple.last) (scopes_of c.args.range.now cells) no_group) (scopes_of c.args.range.now cells) no_group)
+    (c.in_ok-a-in-Simple.ensures.value known cells))
     c.simple_case.ensures.value)
 
 pub operand-returns-in_ok-list-in-Simple-clause-sort : goal.operand-returns-in_ok-list-in-Simple-clause-sort
@@ -42,8 +43,8 @@ operand-returns-in_ok-list-in-Simple-clause-fault t c =
 
 pub operand-returns-in_ok-a-in-Coalesce-clause-value : goal.operand-returns-in_ok-a-in-Coalesce-clause-value
 operand-returns-in_ok-a-in-Coalesce-clause-value t c =
-    rw (c.in-Coalesce.is, written.exprs_hidden c.in-Coalesce.list, ← c.as_slice-in-Coalesce.ensures, ← c.deref-in-Coalesce.ensures) (IfOk-weaker c.coalesced.result _ _ (λ found h cells.
-    h cells ∙ ap (λ (x : Cell). named.coalesced x (written.expr_list c.as_slice-in-Coalesce.result.now) (scopes_of c.args.range.now cells)) (c.in_ok-a-in-Coalesce.ensures.value cells))
+    rw (c.in-Coalesce.is, written.exprs_hidden c.in-Coalesce.list, ← c.as_slice-in-Coalesce.ensures, ← c.deref-in-Coalesce.ensures) (IfOk-weaker c.coalesced.result _ _ (λ found h known cells.
+    h known cells ∙ ap (λ (x : Cell). named.coalesced known x (written.expr_list c.as_slice-in-Coalesce.result.now) (scopes_of c.args.range.now cells) no_group) (c.in_ok-a-in-Coalesce.ensures.value known cells))
     c.coalesced.ensures.value)
 
 pub operand-returns-in_ok-a-in-Coalesce-clause-sort : goal.operand-returns-in_ok-a-in-Coalesce-clause-sort

@@ -15,10 +15,10 @@ pub returns-clause-joins : goal.returns-clause-joins
 returns-clause-joins c = record { inner = refl; left = refl; left_of_no_partner = refl; left_of_nothing = refl; left_of_error = refl; left_of_rows_at_no = refl; column_list = refl; range_of_outer = refl; views = refl }
 
 pub returns-clause-groups : goal.returns-clause-groups
-returns-clause-groups c = record { aggregates_over_nothing = refl; groups_over_nothing = refl; groups = refl; having = refl; seen_from_within = refl; counts = refl; least_and_mean = refl; exact_total = refl; total_too_large = refl; failed_key = refl; argument_error = refl; argument_error_unused = refl; failed_and_rejected = refl; failed = refl }
+returns-clause-groups c = record { aggregates_over_nothing = refl; groups_over_nothing = refl; groups = refl; having = refl; seen_from_within = refl; counts = refl; least_and_mean = refl; exact_total = refl; total_too_large = refl; failed_key = refl; argument_error = refl; argument_error_unused = refl; rejected = refl; failed_and_rejected = refl; failed = refl }
 
 pub returns-clause-sets : goal.returns-clause-sets
-returns-clause-sets c = record { distinct_at_greatest = refl; except_all = refl; except = refl; intersect = refl; union = refl; distinct = refl; union_all = refl; error_in_operand = refl }
+returns-clause-sets c = record { distinct_at_greatest = refl; except_all = refl; except = refl; intersect = refl; union = refl; distinct = refl; union_all = refl; rejected = refl; error_in_operand = refl }
 
 pub returns-clause-answers : goal.returns-clause-answers
 unfolding sorted_rows insert_row
