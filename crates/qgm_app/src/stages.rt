@@ -54,6 +54,7 @@ fn run_tables<F: Files>(
     checked: &Checked,
     files: &mut F,
 ) -> Result<Report, Interruption>
+    requires views { (catalogs.catalog catalog.now).views ≡ [] }
     ensures comes { (query : QueryText) → IsChecked (catalogs.catalog catalog.now) checked.now query
         → Comes (F.told files.old) (F.told files.new) (λ fs. from_tables dir.now (catalogs.catalog catalog.now) query fs) (ended result) }
     ensures later { F.faults files.old ≤ F.faults files.new }
@@ -78,6 +79,7 @@ fn run_query<F: Files>(
     catalog: &Catalog,
     files: &mut F,
 ) -> Result<Report, Interruption>
+    requires views { (catalogs.catalog catalog.now).views ≡ [] }
     ensures comes { Comes (F.told files.old) (F.told files.new) (λ fs. from_query query.now dir.now (catalogs.catalog catalog.now) fs) (ended result) }
     ensures later { F.faults files.old ≤ F.faults files.new }
     ensures failed { RoseIfFault result (F.faults files.old) (F.faults files.new) }

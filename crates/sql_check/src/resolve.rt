@@ -337,7 +337,6 @@ fn simple_case(
 
 // `COALESCE(x, ..)`.
 #[cycle(resolve)]
-#[tactic(auto, using(crate::proofs::Lists::coalesced_meant))]
 fn coalesced(
     alloc: Global,
     x: Found,
@@ -355,7 +354,6 @@ fn coalesced(
 
 // `x IN (..)`, or its NOT.
 #[cycle(resolve)]
-#[tactic(auto, using(crate::proofs::Lists::equals_meant))]
 fn in_list(
     alloc: Global,
     x: Found,
