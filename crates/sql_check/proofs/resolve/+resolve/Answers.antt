@@ -2,6 +2,7 @@ use Rattle.std.proofs.Common.{◌≡◌, ◌∙◌, ◌&&◌, List, ap, arith, r
 use Rattle.std.proofs.lemmas.Bool.{and_parts}
 use Rattle.std.proofs.lemmas.Grind.{common_steps}
 use Rattle.std.proofs.lemmas.Result.{IfOk-weaker}
+use Rattle.sql_ast.specs.declared.tree.Cond.TheFolds.{the_lemmas}
 use Rattle.sql_ast.specs.Shown as written
 use Rattle.sql_meaning.specs.Meaning as named
 use Rattle.sql_meaning.specs.Meaning.{no_group}
@@ -32,24 +33,24 @@ in_list-returns-clause-truth t c =
 pub conjunct-in_list-requires : goal.conjunct-in_list-requires
 conjunct-in_list-requires t c =
     let h = rw (c.in-InList.is, written.exprs_hidden c.in-InList.list, ← c.as_slice.ensures) at c.requires.taken in
-    (search rules, (and_parts (taken.takes_expr (written.expr c.in-InList.a.value)) (taken.takes_exprs (written.expr_list c.as_slice.result.now)) h).1)
+    (search (rules, the_lemmas), (and_parts (taken.takes_expr (written.expr c.in-InList.a.value)) (taken.takes_exprs (written.expr_list c.as_slice.result.now)) h).1)
 
 pub operand-arms-requires : goal.operand-arms-requires
 operand-arms-requires t c =
     let h = rw (c.in-Searched.is, written.arms_hidden c.in-Searched.list, ← c.as_slice.ensures) at c.requires.taken in
-    (search rules, (and_parts (taken.takes_arms (written.arm_list c.as_slice.result.now)) (taken.takes_else (written.otherwise c.in-Searched.last)) h).0)
+    (search (rules, the_lemmas), (and_parts (taken.takes_arms (written.arm_list c.as_slice.result.now)) (taken.takes_else (written.otherwise c.in-Searched.last)) h).0)
 
 pub operand-choices-requires : goal.operand-choices-requires
 operand-choices-requires t c =
     let h = rw (c.in-Simple.is, written.choices_hidden c.in-Simple.list, ← c.as_slice-in-Simple.ensures) at c.requires.taken in
     let rest = (and_parts (taken.takes_expr (written.expr c.in-Simple.a.value))
     (taken.takes_choices (written.choice_list c.as_slice-in-Simple.result.now) && taken.takes_else (written.otherwise c.in-Simple.last)) h).1 in
-    (search rules, (and_parts (taken.takes_choices (written.choice_list c.as_slice-in-Simple.result.now)) (taken.takes_else (written.otherwise c.in-Simple.last)) rest).0)
+    (search (rules, the_lemmas), (and_parts (taken.takes_choices (written.choice_list c.as_slice-in-Simple.result.now)) (taken.takes_else (written.otherwise c.in-Simple.last)) rest).0)
 
 pub operand-coalesced-requires : goal.operand-coalesced-requires
 operand-coalesced-requires t c =
     let h = rw (c.in-Coalesce.is, written.exprs_hidden c.in-Coalesce.list, ← c.as_slice-in-Coalesce.ensures) at c.requires.taken in
-    (search rules, (and_parts (taken.takes_expr (written.expr c.in-Coalesce.a.value)) (taken.takes_exprs (written.expr_list c.as_slice-in-Coalesce.result.now)) h).1)
+    (search (rules, the_lemmas), (and_parts (taken.takes_expr (written.expr c.in-Coalesce.a.value)) (taken.takes_exprs (written.expr_list c.as_slice-in-Coalesce.result.now)) h).1)
 
 pub conjunct-returns-in_ok-a-in-InList-clause-truth : goal.conjunct-returns-in_ok-a-in-InList-clause-truth
 conjunct-returns-in_ok-a-in-InList-clause-truth t c =
