@@ -95,6 +95,7 @@ fn run_tables<F: Files, L: Ledger>(
     files: &mut F,
     steps: &mut Steps<L>,
 ) -> Result<Report, Interruption>
+    requires views { (catalogs.catalog catalog.now).views ≡ [] }
     ensures comes { (query : QueryText) → IsChecked (catalogs.catalog catalog.now) checked.now query
         → Comes (F.told files.old) (F.told files.new) (λ fs. from_tables dir.now (catalogs.catalog catalog.now) query fs) (ended result) }
     ensures later { F.faults files.old ≤ F.faults files.new }
@@ -120,6 +121,7 @@ fn run_query<F: Files, L: Ledger>(
     files: &mut F,
     steps: &mut Steps<L>,
 ) -> Result<Report, Interruption>
+    requires views { (catalogs.catalog catalog.now).views ≡ [] }
     ensures comes { Comes (F.told files.old) (F.told files.new) (λ fs. from_query query.now dir.now (catalogs.catalog catalog.now) fs) (ended result) }
     ensures later { F.faults files.old ≤ F.faults files.new }
     ensures failed { RoseIfFault result (F.faults files.old) (F.faults files.new) }
