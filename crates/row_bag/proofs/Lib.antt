@@ -7,6 +7,7 @@ pub mod Folds
 pub mod GreatestLevels
 pub mod Inserted
 pub mod Levels
+pub mod Matching
 pub mod Order
 pub mod Runs
 pub mod SetLaws

@@ -1,6 +1,7 @@
 pub mod Bags
 pub mod Errors
 pub mod Laws
+pub mod Matched
 pub mod Order
 pub mod Sets
 pub mod Sorted

@@ -4,6 +4,7 @@
 mod answer;
 mod bag;
 mod laws;
+mod matched;
 mod outcome;
 mod row;
 mod sets;
