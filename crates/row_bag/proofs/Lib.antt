@@ -2,6 +2,7 @@ pub mod Agreement
 pub mod Answered
 pub mod BagLaws
 pub mod Binds
+pub mod Copies
 pub mod Counts
 pub mod Folds
 pub mod GreatestLevels

@@ -10,7 +10,7 @@ use crate::row::Row;
 use sql_value::{Cell, Kind, Level};
 
 // The greatest one of the errors that there are.
-fn worst_of(a: Option<Kind>, b: Option<Kind>) -> Option<Kind>
+pub(crate) fn worst_of(a: Option<Kind>, b: Option<Kind>) -> Option<Kind>
     ensures { result ≡ worst_of a b }
 {
     match (a, b) {
@@ -75,7 +75,7 @@ fn error_of_row(row: &Row) -> Option<Kind>
 }
 
 // The greatest error among the levels and the cells of the rows that are there.
-fn error_among(rows: &[Row]) -> Option<Kind>
+pub(crate) fn error_among(rows: &[Row]) -> Option<Kind>
     ensures { result ≡ errors.error_among errors.error_in rows.now }
 {
     let mut found = None;

@@ -18,6 +18,6 @@ pub use bag::Bag;
 pub use laws::bag_laws;
 pub use outcome::Verdict;
 pub use row::{Row, order_by, row_order};
-pub use sets::{distinct, union};
+pub use sets::{distinct, except, failed_cells, intersect, union};
 pub use sort::sorted;
 pub use tables::{Table, Tables};

@@ -1,5 +1,5 @@
 // The tuples of one bag that those of another match.
-ghost use Rattle.std.specs.Prelude.{◌≡◌, ◌+◌, ◌&&◌, List, IfOk, drop, if◌then◌else◌, false, true, map, ◌<◌, length};
+ghost use Rattle.std.specs.Prelude.{◌≡◌, ◌+◌, ◌&&◌, List, IfOk, drop, if◌then◌else◌, false, true, map, min, ◌<◌, length};
 ghost use Rattle.std.specs.List.Sorted.{IsPermutation, IsSortedBy};
 ghost use Rattle.row_bag.specs.Bags.{count, same_level};
 ghost use Rattle.row_bag.specs.Matched as spec;
@@ -11,6 +11,7 @@ ghost use Rattle.sql_value.specs.declared.level.Level.{Level};
 use crate::answer::those_there;
 use crate::bag::Bag;
 use crate::row::{Row, cells_order, same_cells};
+use crate::sets::distinct;
 use qgm_base::OutOfMemory;
 use sql_value::{Cell, Level};
 use sqlite_items::Items;
@@ -110,4 +111,27 @@ fn parted(
         }
     }
     Ok(kept)
+}
+
+// The rows of the first bag, or each of its tuples once.
+fn all_or_once(bag: Bag, all: bool) -> Result<Bag, OutOfMemory>
+    ensures { IfOk result (λ rows. (c : List Cell) → multiplicity same_cells c rows ≡ (if all then multiplicity same_cells c bag else min 1 (multiplicity same_cells c bag))) }
+{
+    if all { Ok(bag) } else { distinct(bag) }
+}
+
+// The tuples of the first bag that those of the second match, or that are left; each as often as
+// that, or at most once.
+pub(crate) fn matching(
+    alloc: Global,
+    a: Bag,
+    b: Bag,
+    all: bool,
+    matched: bool,
+) -> Result<Bag, OutOfMemory>
+    ensures { IfOk result (λ rows. (c : List Cell) → (l : Level) → count same_cells c l rows ≡ (if same_level Level.Yes l then spec.part matched (if all then multiplicity same_cells c a else min 1 (multiplicity same_cells c a)) (multiplicity same_cells c b) else 0)) }
+{
+    let xs = ascending_there(alloc, all_or_once(a, all)?)?;
+    let ys = ascending_there(alloc, b)?;
+    parted(alloc, xs, &ys, matched)
 }

@@ -1,6 +1,5 @@
-use Rattle.std.proofs.Common.{rules, ◌≡◌, ◌+◌, ◌∙◌, ◌∷◌, ◌++◌, [], List, sym, ap, ap₂, cond, drop, length, arith, refl, zero-add, add-zero}
+use Rattle.std.proofs.Common.{rules, ◌≡◌, ◌+◌, ◌∙◌, ◌∷◌, ◌++◌, [], sym, ap, cond, drop, zero-add, add-zero}
 use Rattle.std.specs.Vec.Iter.{into_iter_items}
-use Rattle.sql_value.specs.declared.cell.Cell.{Cell}
 use Rattle.sql_value.specs.declared.level.Level.TheVariants.{Yes}
 use Rattle.row_bag.specs.Bags.{count, row, same_level}
 use Rattle.row_bag.specs.Matched.{often, part, tuple_below}
