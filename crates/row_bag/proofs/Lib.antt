@@ -6,6 +6,7 @@ pub mod Copies
 pub mod Counts
 pub mod Folds
 pub mod GreatestLevels
+pub mod Grouping
 pub mod Inserted
 pub mod Levels
 pub mod Matching

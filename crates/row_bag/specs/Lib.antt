@@ -1,5 +1,6 @@
 pub mod Bags
 pub mod Errors
+pub mod Groups
 pub mod Laws
 pub mod Matched
 pub mod Order

@@ -1,21 +1,15 @@
 -- Tuples in ascending order, and how many of equal ones match.
-use Rattle.std.specs.Prelude.{◌≡◌, ℕ, ◌-◌, min, Bool, true, false, List, [], ◌∷◌, map}
+use Rattle.std.specs.Prelude.{◌≡◌, ℕ, ◌-◌, min, Bool, true, false, List, [], ◌∷◌}
 use Rattle.std.specs.Cmp.Lexicographic.{slice_cmp}
 use Rattle.std.specs.Ordering.{is_lt}
 use Rattle.sql_value.specs.Cells.{cell_compare}
 use Rattle.sql_value.specs.declared.cell.Cell.{Cell}
-use Rattle.sql_value.specs.declared.level.Level.TheVariants.{Yes}
-use Rattle.row_bag.specs.Bags.{row}
+use Rattle.row_bag.specs.Bags.{at_yes}
 use Rattle.row_bag.specs.Sets.{multiplicity, same_cells}
-use Rattle.row_bag.specs.declared.row.Row.{Row}
 
 -- the first tuple stands below the second
 abbrev pub tuple_below : List Cell → List Cell → Bool
 tuple_below a b = is_lt (slice_cmp cell_compare a b)
-
--- tuples as rows at yes
-abbrev pub at_yes : List (List Cell) → List (Row (List Cell))
-at_yes tuples = map (λ t. row t Yes) tuples
 
 -- how often a tuple stands among tuples
 abbrev pub often : List Cell → List (List Cell) → ℕ

@@ -31,7 +31,7 @@ fn error_of(cell: &Cell) -> Option<Kind>
 }
 
 // The error that a level is.
-fn error_at(level: Level) -> Option<Kind>
+pub(crate) fn error_at(level: Level) -> Option<Kind>
     ensures { result ≡ errors.error_at level }
 {
     match level {
@@ -43,7 +43,7 @@ fn error_at(level: Level) -> Option<Kind>
 }
 
 // The greatest error among cells.
-fn error_in(cells: &[Cell]) -> Option<Kind>
+pub(crate) fn error_in(cells: &[Cell]) -> Option<Kind>
     ensures { result ≡ errors.error_in cells.now }
 {
     let mut found = None;
@@ -54,7 +54,7 @@ fn error_in(cells: &[Cell]) -> Option<Kind>
 }
 
 // A row is there.
-fn is_there(row: &Row) -> bool
+pub(crate) fn is_there(row: &Row) -> bool
     ensures { result ≡ spec.is_there row.now }
 {
     match row.level {

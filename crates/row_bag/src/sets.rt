@@ -63,8 +63,8 @@ fn level_of(kind: Kind) -> Level
     }
 }
 
-/// A tuple that is an error in so many columns. It fails only for want of memory.
-pub fn failed_cells(alloc: Global, columns: usize, kind: Kind) -> Result<Items<Cell>, OutOfMemory>
+// A tuple that is an error in so many columns.
+fn failed_cells(alloc: Global, columns: usize, kind: Kind) -> Result<Items<Cell>, OutOfMemory>
     ensures { IfOk result (λ cells. cells ≡ spec.failed_cells columns kind) }
 {
     let mut cells = Items::new(alloc);
@@ -74,8 +74,9 @@ pub fn failed_cells(alloc: Global, columns: usize, kind: Kind) -> Result<Items<C
     Ok(cells)
 }
 
-// The one row of an error, at its level.
-fn failed_row(alloc: Global, columns: usize, kind: Kind) -> Result<Bag, OutOfMemory>
+/// One row at the level of an error, which is that error in so many columns. It fails only for want
+/// of memory.
+pub fn failed_row(alloc: Global, columns: usize, kind: Kind) -> Result<Bag, OutOfMemory>
     ensures { IfOk result (λ rows. rows ≡ row (spec.failed_cells columns kind) (level_of kind) ∷ []) }
 {
     let cells = failed_cells(alloc, columns, kind)?;
@@ -110,13 +111,7 @@ pub fn intersect(
 /// ALL, as often as it occurs more often in the first (SQL-92 7.10). Where a row of either is at an
 /// error level or has an error cell, it is one row, as in [`intersect`]. It fails only for want of
 /// memory.
-pub fn except(
-    alloc: Global,
-    a: Bag,
-    b: Bag,
-    all: bool,
-    columns: usize,
-) -> Result<Bag, OutOfMemory>
+pub fn except(alloc: Global, a: Bag, b: Bag, all: bool, columns: usize) -> Result<Bag, OutOfMemory>
     ensures { IfOk result (λ rows. Agree spec.same_cells rows (spec.collapsed errors.error_in (spec.failed_cells columns) (a ++ b) (if all then spec.except_all spec.same_cells a b else spec.except spec.same_cells a b))) }
 {
     match error_of_both(&a, &b) {

@@ -12,10 +12,10 @@ pub loop-cells-init : goal.loop-cells-init
 loop-cells-init c =
     let same = c.into_iter-cells-iterator.ensures.into_iter_gives.0 in
     rw (same, c.new-kept.ensures) (record {
-  counts = λ t m. zero-add (cond (same_level Yes m) (part c.args.matched (often t c.args.xs.items) (often t c.args.ys.now)) 0);
-  up = ascends-sorted tuple_below below-ranks c.args.xs.items c.requires.xs;
-  left = search rules;
-})
+      counts = λ t m. zero-add (cond (same_level Yes m) (part c.args.matched (often t c.args.xs.items) (often t c.args.ys.now)) 0);
+      up = ascends-sorted tuple_below below-ranks c.args.xs.items c.requires.xs;
+      left = search rules;
+    })
 
 pub loop-cells-preserved-in-Continue-1 : goal.loop-cells-preserved-in-Continue-1
 loop-cells-preserved-in-Continue-1 c =
@@ -27,13 +27,13 @@ loop-cells-preserved-in-Continue-1 c =
     let same = c.if-search-matched.true in
     let more = c.in_ok-push.ensures.ok ∙ ap (λ y. c.loop-cells.kept ++ row y Yes ∷ []) (sym c.as_slice.ensures) ∙ ap (λ b. cond b (c.loop-cells.kept ++ row x Yes ∷ []) c.loop-cells.kept) (sym same) in
     record {
-  counts = λ t m.
-      turn c.args.matched c.look_up-search.result.found x from rest (drop c.loop-cells.next c.args.ys.now) (drop c.look_up-search.result.next c.args.ys.now) c.loop-cells.kept c.push.new.self first
-      c.loop-cells.invariant.up c.look_up-search.ensures.rest c.look_up-search.ensures.none more t m
-      ∙ c.loop-cells.invariant.counts t m;
-  up = (rw first at c.loop-cells.invariant.up).1;
-  left = one_less x from rest _ _ first steps.1 c.loop-cells.invariant.left;
-}
+      counts = λ t m.
+          turn c.args.matched c.look_up-search.result.found x from rest (drop c.loop-cells.next c.args.ys.now) (drop c.look_up-search.result.next c.args.ys.now) c.loop-cells.kept c.push.new.self first
+          c.loop-cells.invariant.up c.look_up-search.ensures.rest c.look_up-search.ensures.none more t m
+          ∙ c.loop-cells.invariant.counts t m;
+      up = (rw first at c.loop-cells.invariant.up).1;
+      left = one_less x from rest _ _ first steps.1 c.loop-cells.invariant.left;
+    }
 
 pub loop-cells-preserved : goal.loop-cells-preserved
 loop-cells-preserved c =
@@ -44,13 +44,13 @@ loop-cells-preserved c =
     let first : from ≡ x ∷ rest = steps.0 ∙ ap (λ y. y ∷ rest) (sym c.as_slice.ensures) in
     let more = ap (λ b. cond b (c.loop-cells.kept ++ row x Yes ∷ []) c.loop-cells.kept) (sym c.if-search-matched.false) in
     record {
-  counts = λ t m.
-      turn c.args.matched c.look_up-search.result.found x from rest (drop c.loop-cells.next c.args.ys.now) (drop c.look_up-search.result.next c.args.ys.now) c.loop-cells.kept c.loop-cells.kept first
-      c.loop-cells.invariant.up c.look_up-search.ensures.rest c.look_up-search.ensures.none more t m
-      ∙ c.loop-cells.invariant.counts t m;
-  up = (rw first at c.loop-cells.invariant.up).1;
-  left = one_less x from rest _ _ first steps.1 c.loop-cells.invariant.left;
-}
+      counts = λ t m.
+          turn c.args.matched c.look_up-search.result.found x from rest (drop c.loop-cells.next c.args.ys.now) (drop c.look_up-search.result.next c.args.ys.now) c.loop-cells.kept c.loop-cells.kept first
+          c.loop-cells.invariant.up c.look_up-search.ensures.rest c.look_up-search.ensures.none more t m
+          ∙ c.loop-cells.invariant.counts t m;
+      up = (rw first at c.loop-cells.invariant.up).1;
+      left = one_less x from rest _ _ first steps.1 c.loop-cells.invariant.left;
+    }
 
 pub returns : goal.returns
 returns c = λ t m.
