@@ -8,6 +8,8 @@ mod laws;
 mod matched;
 mod outcome;
 mod row;
+#[cfg(test)]
+mod set_tests;
 mod sets;
 mod sort;
 mod tables;
