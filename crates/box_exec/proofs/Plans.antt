@@ -14,6 +14,7 @@ use Rattle.qgm_core.specs.declared.parts.BoxParts.{BoxParts}
 use Rattle.qgm_meaning.specs.Boxes.{Bag, bag, given, once_if, over_each, rows_by, rows_of, rows_or_none}
 use Rattle.qgm_meaning.specs.Ordered.{Ordered}
 use Rattle.qgm_meaning.specs.Values.{Environment, bound}
+use Rattle.qgm_meaning.proofs.OnlyAgree.{once_if-alike}
 use Rattle.qgm_meaning.proofs.Unfold.{unfold-bag}
 use Rattle.row_bag.specs.Bags.{Alike, bind}
 use Rattle.row_bag.specs.Tables.{bag_named}
@@ -24,7 +25,6 @@ use Rattle.box_exec.specs.Bound.{SameWhere}
 use Rattle.box_exec.specs.Looped.{given_by, looped, selected}
 use Rattle.box_exec.specs.Planned.{IsBag, LoopOver, LoopsOver}
 use Rattle.box_exec.specs.declared.loops.Loops.{Loops}
-use Rattle.box_exec.proofs.Rows.{once_if-alike}
 
 -- what is found of a box by its number
 held : (g : QueryGraph) (b : ℕ) (parts : BoxParts) → Some parts ≡ option_map (λ n. n.parts) (box_of b g) → (n : Node) × (box_of b g ≡ Some n) × (n.parts ≡ parts) × (quants_of b g ≡ n.quants)

@@ -1,8 +1,8 @@
 -- Rows that loops add, up to rows that aren't there.
 use Rattle.std.proofs.Common.{ℕ, ◌≡◌, ◌<◌, ◌+◌, ◌++◌, Bool, true, false, List, [], ◌∷◌, get_or, length, take, append_assoc, append-nil, refl, sym, ◌∙◌, ap, ap₂, subst}
 use Rattle.std.proofs.lemmas.List.{take_more}
-use Rattle.qgm_core.specs.Shapes.{is_enforce}
 use Rattle.qgm_meaning.specs.Boxes.{Bag, once_if}
+use Rattle.qgm_meaning.proofs.OnlyAgree.{once_if-alike}
 use Rattle.row_bag.specs.Bags.{Agree, Alike, bind, keep, row, unit}
 use Rattle.row_bag.specs.Sets.{distinct, same_cells}
 use Rattle.row_bag.specs.declared.row.Row.{Row}
@@ -10,7 +10,6 @@ use Rattle.row_bag.proofs.Agreement.{alike-append, alike-bind, alike-keep, alike
 use Rattle.row_bag.proofs.Binds.{bind-append, keep-append, keep-keep, keep-yes}
 use Rattle.row_bag.proofs.Counts.{alike-from_agree}
 use Rattle.row_bag.proofs.Levels.{least-yes}
-use Rattle.row_bag.proofs.SetLaws.{distinct-alike}
 use Rattle.row_bag.proofs.Tuples.{same_cells-decides}
 use Rattle.sql_value.specs.Level.{least}
 use Rattle.sql_value.specs.declared.cell.Cell.{Cell}
@@ -41,10 +40,6 @@ head-absent level t cells out h =
 
 pub head-there : (level t : Level) (cells : List Cell) (out : Bag) → Alike (out ++ row cells (least level t) ∷ []) (out ++ keep level (keep t (unit cells)))
 head-there level t cells out = alike-same (ap (λ (l : Level). out ++ row cells (least level l) ∷ []) (sym (least-yes t)))
-
-pub once_if-alike : (once : Bool) {xs ys : Bag} → Alike xs ys → Alike (once_if once xs) (once_if once ys)
-once_if-alike true h = distinct-alike same_cells same_cells-decides h
-once_if-alike false h = h
 
 pub distinct-once : (xs ys : Bag) → Agree same_cells xs (distinct same_cells ys) → Alike xs (once_if true ys)
 distinct-once xs ys h = alike-from_agree same_cells same_cells-decides h
