@@ -5,7 +5,8 @@ use Rattle.row_bag.specs.Bags.{bind, keep, unit}
 use Rattle.row_bag.specs.Tables.{bag_named}
 use Rattle.row_bag.specs.declared.row.Row.{Row}
 use Rattle.row_bag.specs.declared.tables.Table.{Table}
-use Rattle.sql_catalog.specs.Catalog.{Declared}
+use Rattle.sql_ast.specs.declared.schema.TableDecl.{TableDecl}
+use Rattle.sql_catalog.specs.Catalog.{Declared, table_named}
 use Rattle.sql_meaning.specs.Meaning as named
 use Rattle.sql_value.specs.declared.cell.Cell.{Cell}
 use Rattle.sql_check.specs.CoreShown as shown
@@ -15,7 +16,7 @@ use Rattle.qgm_core.specs.Boxes.{QueryGraph}
 use Rattle.qgm_meaning.specs.Boxes as m
 use Rattle.qgm_meaning.specs.Ordered.{Ordered}
 use Rattle.qgm_meaning.specs.Values as v
-use Rattle.qgm_build.specs.Built.{IsBuilt, boxes_of, graph_of, select_parts}
+use Rattle.qgm_build.specs.Built.{IsBuilt, boxes_of, graph_of, table_by}
 use Rattle.qgm_build.specs.Written.{conjuncts, terms}
 use Rattle.qgm_build.proofs.Means.{conjuncts-mean, terms-mean}
 
@@ -30,9 +31,14 @@ same-rows : (rows : Option m.Bag) → m.rows_or_none rows ≡ named.rows_or_none
 same-rows None = refl
 same-rows (Some rows) = refl
 
+table-name : (name : List ℕ) (table : Option TableDecl) → (table_by name table).name ≡ name
+table-name name None = refl
+table-name name (Some table) = refl
+
 rows-built : (catalog : Declared) (checked : Checked) (s b q spare : ℕ) (tables : List Table) → m.root_bag tables (graph_of catalog checked s b q spare) ≡ rows_at checked tables
 rows-built catalog checked s b q spare tables =
-    rw (eq-eqb s s refl, eq-eqb b b refl) (ap₂ bind (same-rows (bag_named tables checked.table)) (λ i cells. gives checked q cells i))
+    let name = table-name checked.table (table_named catalog.tables checked.table) in
+    rw (eq-eqb s s refl, eq-eqb b b refl) (ap₂ bind (ap (λ n. m.rows_or_none (bag_named tables n)) name ∙ same-rows (bag_named tables checked.table)) (λ i cells. gives checked q cells i))
 
 pub built-means : (catalog : Declared) (checked : Checked) (g : QueryGraph) → IsBuilt catalog checked g → (tables : List Table) → m.root_bag tables g ≡ rows_at checked tables
 built-means catalog checked g is tables =
@@ -42,7 +48,7 @@ ordered-boxes : (catalog : Declared) (checked : Checked) (s b q spare : ℕ) →
 ordered-boxes catalog checked s b q spare apart =
     let other : (b == s) ≡ false = ne_eqb b s apart in
     let own : (b == b) ≡ true = eq-eqb b b refl in
-    rw (other, own) (refl, refl, refl, refl, tt)
+    rw (other, own) (refl, refl, (refl, refl, tt))
 
 pub built-ordered : (catalog : Declared) (checked : Checked) (g : QueryGraph) → IsBuilt catalog checked g → Ordered g.boxes
 built-ordered catalog checked g is =

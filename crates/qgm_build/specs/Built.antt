@@ -55,9 +55,6 @@ plain kind conds head = record { kind = kind; distinct = Preserve; role = Plain;
 abbrev pub no_conds : Conjuncts
 no_conds = record { items = []; spare = 0 }
 
-abbrev pub node : ℕ → BoxParts → List Range → Node
-node b parts quants = record { id = b; parts = parts; quants = quants }
-
 -- the stored table of a name
 abbrev pub base_parts : Declared → List ℕ → BoxParts
 base_parts catalog name = plain (Base (base_table catalog name)) no_conds []

@@ -28,11 +28,11 @@ pub(crate) fn term(alloc: Global, q: QuantId, v: &Value) -> Result<Gx, OutOfMemo
         Value::Cell(place) => column(q, *place),
         Value::Sum(first, addends) => {
             let first = term(alloc, q, first)?;
-            sum(alloc, q, first, addends.as_slice())
+            sum(alloc, q, addends.as_slice(), first)
         }
         Value::Product(first, multipliers) => {
             let first = term(alloc, q, first)?;
-            product(alloc, q, first, multipliers.as_slice())
+            product(alloc, q, multipliers.as_slice(), first)
         }
         Value::Negative(a) => negative(alloc, term(alloc, q, a)?),
         Value::Searched(list, last) => {
@@ -53,7 +53,7 @@ pub(crate) fn term(alloc: Global, q: QuantId, v: &Value) -> Result<Gx, OutOfMemo
 
 // A chain of `+`, `-` and `||`, from the left.
 #[cycle(written)]
-fn sum(alloc: Global, q: QuantId, first: Gx, addends: &[Addend]) -> Result<Gx, OutOfMemory>
+fn sum(alloc: Global, q: QuantId, addends: &[Addend], first: Gx) -> Result<Gx, OutOfMemory>
     ensures { IfOk result (λ x. shown.term x ≡ written.summed q (shown.term first) (checked.addend_list addends.now)) }
 {
     let mut total = first;
@@ -69,8 +69,8 @@ fn sum(alloc: Global, q: QuantId, first: Gx, addends: &[Addend]) -> Result<Gx, O
 fn product(
     alloc: Global,
     q: QuantId,
-    first: Gx,
     multipliers: &[Multiplier],
+    first: Gx,
 ) -> Result<Gx, OutOfMemory>
     ensures { IfOk result (λ x. shown.term x ≡ written.multiplied q (shown.term first) (checked.multiplier_list multipliers.now)) }
 {

@@ -25,7 +25,7 @@ decreases-arms-loop-i l = l.i
 abbrev pub invariant-simple-loop-i : goal.invariant-simple-loop-i
 invariant-simple-loop-i l = record {
   within : l.i ≤ length l.list;
-  found : shown.arms l.rest ≡ w.choices l.q (w.term l.q (checked.value l.x)) (checked.choice_list (drop l.i l.list));
+  found : shown.arms l.rest ≡ w.choices l.q (w.term l.q (checked.value l.x.value)) (checked.choice_list (drop l.i l.list));
 }
 
 abbrev pub decreases-simple-loop-i : goal.decreases-simple-loop-i
@@ -47,4 +47,4 @@ abbrev pub invariant-some-loop-test : goal.invariant-some-loop-test
 invariant-some-loop-test l = w.or_some l.q (shown.cond l.whole) (checked.test_list (drop l.test-index l.rest)) ≡ w.some l.q (checked.test_list l.tests)
 
 abbrev pub invariant-among-loop-y : goal.invariant-among-loop-y
-invariant-among-loop-y l = w.or_equals l.q (w.term l.q (checked.value l.x)) (shown.cond l.whole) (checked.value_list (drop l.y-index l.rest)) ≡ w.cond l.q (checked.test l.p)
+invariant-among-loop-y l = w.or_equals l.q (w.term l.q (checked.value l.x.value)) (shown.cond l.whole) (checked.value_list (drop l.y-index l.rest)) ≡ w.cond l.q (checked.test l.p)
