@@ -28,18 +28,8 @@ fn column(
 // `CREATE TABLE T (A INTEGER PRIMARY KEY, B VARCHAR(9) UNIQUE)`.
 fn catalog(alloc: Global) -> Result<Catalog, OutOfMemory> {
     let mut elements = Items::new(alloc);
-    elements.push(column(
-        alloc,
-        "A",
-        DataType::Integer,
-        ColumnConstraint::PrimaryKey,
-    )?)?;
-    elements.push(column(
-        alloc,
-        "B",
-        DataType::Varchar(9),
-        ColumnConstraint::Unique,
-    )?)?;
+    elements.push(column(alloc, "A", DataType::Integer, ColumnConstraint::PrimaryKey)?)?;
+    elements.push(column(alloc, "B", DataType::Varchar(9), ColumnConstraint::Unique)?)?;
     let mut tables = Items::new(alloc);
     tables.push(TableDecl {
         name: Text::from_utf8(alloc, "T")?,
@@ -95,7 +85,13 @@ fn the_root_stands_over_its_base(rt: HostRuntime) -> Result<(), Fail> {
     assert_eq!(rt; graph.len(), 2);
     assert_eq!(rt; check_graph(alloc, &graph), Ok(()));
     assert_eq!(rt; graph.names().len(), 2);
-    assert_eq!(rt; graph.order().get(0).copied(), Some(OrderKey { column: 2, descending: true }));
+    assert_eq!(rt;
+        graph.order().get(0).copied(),
+        Some(OrderKey {
+            column: 2,
+            descending: true
+        })
+    );
     Ok(())
 }
 
