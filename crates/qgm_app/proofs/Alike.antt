@@ -14,12 +14,12 @@ use Rattle.sql_value.specs.declared.order_key.OrderKey.{OrderKey}
 
 -- with the same error, or the same rows in order
 by-error : (names : List (Option (List ℕ))) (keys : List OrderKey) (error : Option Kind) (xs ys : List (Row (List Cell))) → sorted_rows keys xs ≡ sorted_rows keys ys
-  → answer_of names keys (error_or_rows error xs) ≡ answer_of names keys (error_or_rows error ys)
+    → answer_of names keys (error_or_rows error xs) ≡ answer_of names keys (error_or_rows error ys)
 by-error names keys (Some k) xs ys same = refl
 by-error names keys None xs ys same = ap (answer_rows names) same
 
 pub answers_alike : (names : List (Option (List ℕ))) (keys : List OrderKey) (xs ys : List (Row (List Cell)))
-  → error_among error_in xs ≡ error_among error_in ys → sorted_rows keys (those_there xs) ≡ sorted_rows keys (those_there ys)
-  → answer_of names keys (verdict xs) ≡ answer_of names keys (verdict ys)
+    → error_among error_in xs ≡ error_among error_in ys → sorted_rows keys (those_there xs) ≡ sorted_rows keys (those_there ys)
+    → answer_of names keys (verdict xs) ≡ answer_of names keys (verdict ys)
 answers_alike names keys xs ys error sorted =
     ap (λ o. answer_of names keys (error_or_rows o (those_there xs))) error ∙ by-error names keys (error_among error_in ys) (those_there xs) (those_there ys) sorted

@@ -18,9 +18,9 @@ ghost use Rattle.qgm_app.specs.Texts.{IsChecked};
 
 use crate::report::Report;
 use crate::texts::{TextRefusal, read_catalog, read_query};
+use box_exec::execute;
 use csv_tables::{DataRefusal, load, write_rows};
 use io_edge::{Files, Interruption, fetch_file};
-use box_exec::execute;
 use qgm_base::OutOfMemory;
 use qgm_build::build;
 use row_bag::{Bag, Tables, Verdict, bag_laws, sorted, verdict};

@@ -50,8 +50,8 @@ pub bind-within : (rows : Bag) (f g : List Cell → Bag) → ((cells : List Cell
 bind-within [] f g h = alike-refl []
 bind-within (r ∷ rows) f g h =
     alike-append
-      (one-within f g r.cells r.level (λ there. h r.cells (ap (λ (b : Bool). b || occurs r.cells rows) (and_from (same_cells r.cells r.cells) (is_there r) (itself r.cells) there))))
-      (bind-within rows f g (λ cells k. h cells (ap (λ (b : Bool). (same_cells r.cells cells && is_there r) || b) k ∙ or-true (same_cells r.cells cells && is_there r))))
+    (one-within f g r.cells r.level (λ there. h r.cells (ap (λ (b : Bool). b || occurs r.cells rows) (and_from (same_cells r.cells r.cells) (is_there r) (itself r.cells) there))))
+    (bind-within rows f g (λ cells k. h cells (ap (λ (b : Bool). (same_cells r.cells cells && is_there r) || b) k ∙ or-true (same_cells r.cells cells && is_there r))))
 
 abbrev AlikeUnder : (Environment → Bool) → List Range → (ℕ → Environment → Bag) → (ℕ → Environment → Bag) → Type 0
 AlikeUnder passes [] f g = ⊤
@@ -62,12 +62,12 @@ over_each-alike : (passes : Environment → Bool) (rs : List Range) (f g : ℕ �
 over_each-alike passes [] f g give s a env p = alike-refl (give env)
 over_each-alike passes (r ∷ rs) f g give s a env p =
     elim (is_F r.kind) as (λ t. is_F r.kind ≡ t → Alike
-      (cond t (bind (f r.over env) (λ cells. over_each rs f give (bound r.id cells env))) (over_each rs f give env))
-      (cond t (bind (g r.over env) (λ cells. over_each rs g give (bound r.id cells env))) (over_each rs g give env))) [
+    (cond t (bind (f r.over env) (λ cells. over_each rs f give (bound r.id cells env))) (over_each rs f give env))
+    (cond t (bind (g r.over env) (λ cells. over_each rs g give (bound r.id cells env))) (over_each rs g give env))) [
       | true ↦ λ t. alike-trans
           (alike-bind (a.0 env p) (λ cells. alike-refl (over_each rs f give (bound r.id cells env))))
           (bind-within (g r.over env) (λ cells. over_each rs f give (bound r.id cells env)) (λ cells. over_each rs g give (bound r.id cells env))
-            (λ cells there. over_each-alike passes rs f g give s.1 a.1 (bound r.id cells env) (s.0 env cells t p there)))
+          (λ cells there. over_each-alike passes rs f g give s.1 a.1 (bound r.id cells env) (s.0 env cells t p there)))
       | false ↦ λ t. over_each-alike passes rs f g give s.1 a.1 env p
     ] refl
 
