@@ -1,5 +1,5 @@
 // The rows of a graph.
-ghost use Rattle.std.specs.Prelude.{◌≡◌, ◌≤◌, ◌-◌, min, ℕ, IfOk, IfSome, OnOk};
+ghost use Rattle.std.specs.Prelude.{◌≡◌, ◌≤◌, ◌<◌, ◌-◌, min, ℕ, IfOk, IfSome, OnOk};
 ghost use Rattle.qgm_core.specs.Boxes as core;
 ghost use Rattle.qgm_meaning.specs.Boxes.{root_bag};
 ghost use Rattle.qgm_meaning.specs.Ordered.{Ordered};
@@ -63,6 +63,7 @@ fn constant_rows<L: Ledger>(
     requires made { AllMade tables.now graph.now made.now }
     ensures rows { IfOk result (λ o. IfSome o (λ rows. IsBag tables.now graph.now b rows)) }
     ensures counted { (start : ℕ) → Counted start steps.old count.old → Counted start steps.new count.new }
+    ensures grows { steps.old ≤ steps.new }
 {
     let parts = graph.parts(b);
     match &parts.kind {
@@ -101,6 +102,7 @@ fn prepare<L: Ledger>(
     requires made { AllMade tables.now graph.now made.old.items }
     ensures made { AllMade tables.now graph.now made.new.items }
     ensures counted { (start : ℕ) → Counted start steps.old count.old → Counted start steps.new count.new }
+    ensures grows { steps.old ≤ steps.new }
 {
     if is_prepared(made, bases, b) {
         return Ok(());
@@ -137,6 +139,7 @@ fn prepare_below<L: Ledger>(
     requires made { AllMade tables.now graph.now made.old.items }
     ensures made { AllMade tables.now graph.now made.new.items }
     ensures counted { (start : ℕ) → Counted start steps.old count.old → Counted start steps.new count.new }
+    ensures grows { steps.old ≤ steps.new }
 {
     for i in 0..graph.quants(b).as_slice().len() {
         let over = ranging_at(graph, b, i).over;
@@ -158,7 +161,9 @@ fn root_rows<L: Ledger>(
     requires held { core.HasBox graph.now.root graph.now }
     requires made { AllMade tables.now graph.now made.now }
     ensures rows { IfOk result (λ bag. Alike bag (root_bag tables.now graph.now)) }
+    ensures evaluated { OnOk result (steps.old < steps.new) }
     ensures counted { (start : ℕ) → Counted start steps.old count.old → Counted start steps.new count.new }
+    ensures grows { steps.old ≤ steps.new }
 {
     let root = graph.root();
     let parts = graph.parts(root);
@@ -189,6 +194,7 @@ pub fn execute<L: Ledger>(
     requires root { core.HasBox graph.now.root graph.now }
     ensures bag { IfOk result (λ r. Agree same_cells r.0 (root_bag tables.now graph.now)) }
     ensures steps { IfOk result (λ r. r.1 ≡ min (steps.new - steps.old) 18446744073709551615) }
+    ensures evaluated { OnOk result (steps.old < steps.new) }
     ensures grows { steps.old ≤ steps.new }
 {
     let mut count = 0;

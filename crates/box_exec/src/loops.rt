@@ -1,5 +1,5 @@
 // The loops of a select, and the rows that they give.
-ghost use Rattle.std.specs.Prelude.{◌≡◌, ◌++◌, ℕ, OnOk, IfOk, map, drop};
+ghost use Rattle.std.specs.Prelude.{◌≡◌, ◌≤◌, ◌<◌, ◌++◌, ℕ, OnOk, IfOk, map, drop};
 ghost use Rattle.qgm_core.specs.Shapes.{is_enforce};
 ghost use Rattle.qgm_meaning.specs.Boxes.{once_if};
 ghost use Rattle.qgm_meaning.specs.Values as meaning;
@@ -113,6 +113,7 @@ fn add_rows<'x, L: Ledger>(
 ) -> Result<(), OutOfMemory>
     ensures rows { OnOk result (Alike out.new (out.old ++ keep level (looped loops.now (given_by parts.now) (env_of env.now)))) }
     ensures counted { (start : ℕ) → Counted start steps.old count.old → Counted start steps.new count.new }
+    ensures grows { steps.old ≤ steps.new }
 {
     match loops {
         Loops::Head => add_head(alloc, parts, level, env, out),
@@ -155,6 +156,7 @@ fn add_each<'x, L: Ledger>(
 ) -> Result<(), OutOfMemory>
     ensures rows { OnOk result (Alike out.new (out.old ++ keep level (bind rows.now (λ cells. looped rest.now (given_by parts.now) (meaning.bound q cells (env_of env.now)))))) }
     ensures counted { (start : ℕ) → Counted start steps.old count.old → Counted start steps.new count.new }
+    ensures grows { steps.old ≤ steps.new }
 {
     for row in rows {
         add_rows(
@@ -182,7 +184,9 @@ pub fn select_rows<'x, L: Ledger>(
     count: &mut u64,
 ) -> Result<Bag, OutOfMemory>
     ensures rows { IfOk result (λ bag. Alike bag (selected parts.now loops.now (env_of env.now))) }
+    ensures evaluated { OnOk result (steps.old < steps.new) }
     ensures counted { (start : ℕ) → Counted start steps.old count.old → Counted start steps.new count.new }
+    ensures grows { steps.old ≤ steps.new }
 {
     step(steps, count);
     let mut out = Bag::new(alloc);

@@ -24,6 +24,7 @@ add_each-loop-row-preserved g t c =
       rows = each-more c.args.level c.args.rows.now c.loop-row.row-index r f c.args.out.now c.loop-row.out c.add_rows.new.out inside c.row-item.is c.loop-row.invariant.rows
           (subst (λ (l : Level). Alike c.add_rows.new.out (c.loop-row.out ++ keep l (f r.cells))) c.lower.ensures cells);
       counted = λ start h. c.in_ok-add_rows.ensures.counted start (c.loop-row.invariant.counted start h);
+      grows = omega (arith, c.in_ok-add_rows.ensures.grows, c.loop-row.invariant.grows);
     }
 
 pub add_rows-returns-in_ok-rows-in-Select-clause-rows : goal.add_rows-returns-in_ok-rows-in-Select-clause-rows
