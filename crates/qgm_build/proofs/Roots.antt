@@ -12,7 +12,7 @@ use Rattle.sql_value.specs.declared.cell.Cell.{Cell}
 use Rattle.sql_check.specs.CoreShown as shown
 use Rattle.sql_check.specs.Resolved.{row_at, rows_at}
 use Rattle.sql_check.specs.declared.checked.Checked.{Checked}
-use Rattle.qgm_core.specs.Boxes.{QueryGraph}
+use Rattle.qgm_core.specs.Boxes.{QueryGraph, HasBox}
 use Rattle.qgm_meaning.specs.Boxes as m
 use Rattle.qgm_meaning.specs.Ordered.{Ordered}
 use Rattle.qgm_meaning.specs.Values as v
@@ -53,3 +53,9 @@ ordered-boxes catalog checked s b q spare apart =
 pub built-ordered : (catalog : Declared) (checked : Checked) (g : QueryGraph) → IsBuilt catalog checked g → Ordered g.boxes
 built-ordered catalog checked g is =
     subst (λ (h : QueryGraph). Ordered h.boxes) (sym is.graph) (ordered-boxes catalog checked is.root is.base is.quant is.spare is.apart)
+
+-- its root is one of its boxes
+pub built-root : (catalog : Declared) (checked : Checked) (g : QueryGraph) → IsBuilt catalog checked g → HasBox g.root g
+built-root catalog checked g is =
+    let own : (is.root == is.root) ≡ true = eq-eqb is.root is.root refl in
+    subst (λ (h : QueryGraph). HasBox h.root h) (sym is.graph) (rw own refl)

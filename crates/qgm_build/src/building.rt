@@ -40,11 +40,7 @@ fn base(alloc: Global, catalog: &Catalog, name: &Name) -> Result<BoxParts, OutOf
     ensures { IfOk result (λ parts. parts ≡ spec.base_parts (shown.catalog catalog.now) name.now) }
 {
     let table = base_table(alloc, catalog, name)?;
-    Ok(plain(
-        BoxKind::Base(table),
-        Conds::new(alloc),
-        Head::new(alloc),
-    ))
+    Ok(plain(BoxKind::Base(table), Conds::new(alloc), Head::new(alloc)))
 }
 
 // The select of a query, over the rows of this quantifier.

@@ -122,13 +122,7 @@ pub(crate) fn equal(alloc: Global, a: Gx, b: Gx) -> Result<Gc, OutOfMemory>
 }
 
 // The result where x equals y, before others.
-pub(crate) fn choice(
-    alloc: Global,
-    x: Gx,
-    y: Gx,
-    then: Gx,
-    rest: Arms,
-) -> Result<Arms, OutOfMemory>
+pub(crate) fn choice(alloc: Global, x: Gx, y: Gx, then: Gx, rest: Arms) -> Result<Arms, OutOfMemory>
     ensures { IfOk result (λ s. shown.arms s ≡ terms.arm (terms.compare terms.equal (shown.term x) (shown.term y)) (shown.term then) (shown.arms rest)) }
 {
     arm(alloc, equal(alloc, x, y)?, then, rest)

@@ -68,12 +68,7 @@ pub(crate) fn add_conjuncts(
 
 // Adds the conjuncts of each of these conditions.
 #[cycle(split)]
-fn add_all(
-    alloc: Global,
-    q: QuantId,
-    tests: &[Test],
-    conds: &mut Conds,
-) -> Result<(), OutOfMemory>
+fn add_all(alloc: Global, q: QuantId, tests: &[Test], conds: &mut Conds) -> Result<(), OutOfMemory>
     ensures { OnOk result (conds.new.items ≡ conds.old.items ++ written.all_conjuncts q (checked.test_list tests.now)) }
 {
     for test in tests {

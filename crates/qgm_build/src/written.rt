@@ -123,12 +123,7 @@ fn simple(alloc: Global, q: QuantId, v: &Value) -> Result<Gx, OutOfMemory>
 
 // `COALESCE(v, ..)` with what the rest of it is, or v where nothing is left.
 #[cycle(written)]
-fn before(
-    alloc: Global,
-    q: QuantId,
-    v: &Value,
-    rest: Option<Gx>,
-) -> Result<Gx, OutOfMemory>
+fn before(alloc: Global, q: QuantId, v: &Value, rest: Option<Gx>) -> Result<Gx, OutOfMemory>
     ensures { IfOk result (λ x. shown.term x ≡ or_rest (written.term q (checked.value v.now)) (option_map shown.term rest)) }
 {
     let x = term(alloc, q, v)?;
