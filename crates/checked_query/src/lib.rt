@@ -1,0 +1,2 @@
+//! Queries with their names resolved, and what they mean.
+#![tactic(auto)]
