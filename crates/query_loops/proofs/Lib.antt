@@ -1,3 +1,6 @@
+pub mod Values
 pub mod Chains
-pub mod There
+pub mod Each
+pub mod Onces
 pub mod SameSubqueries
+pub mod There

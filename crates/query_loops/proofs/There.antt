@@ -1,5 +1,5 @@
 -- What counts nothing of rows at no is the same of the rows that are there.
-use Rattle.std.proofs.Common.{◌≡◌, ℕ, ◌+◌, ◌&&◌, Bool, true, false, cond, nat_eq, List, [], ◌∷◌, ◌++◌, map, refl, ap, ap₂, sym, ◌∙◌}
+use Rattle.std.proofs.Common.{◌≡◌, ℕ, ◌+◌, ◌&&◌, Bool, true, false, cond, nat_eq, List, [], ◌∷◌, ◌++◌, map, arith, refl, ap, ap₂, sym, ◌∙◌}
 use Rattle.std.proofs.lemmas.List.Elements.{filter-append}
 use mathlib.Core.Path.{fun_ext}
 use Rattle.row_bag.specs.Bags.{bind, if_there, keep, row, total, unit}
@@ -84,8 +84,12 @@ keep-step {T} l c m rows h =
     shapes false false = refl
 
 -- keeping drops all rows at no, and else changes none that is there into one that isn't
+nothing : {T : Type 0} (b : Bool) → ◌≡◌ {A = List (Row T)} [] (cond b [] [])
+nothing true = refl
+nothing false = refl
+
 pub keep-there : {T : Type 0} (l : Level) (rows : List (Row T)) → those_there (keep l rows) ≡ cond (some_level l) (keep l (those_there rows)) []
-keep-there l [] = elim (some_level l) as (λ b. [] ≡ cond b [] []) [ true ↦ refl | false ↦ refl ]
+keep-there l [] = nothing (some_level l)
 keep-there l (r ∷ rows) = keep-step l r.cells r.level rows (keep-there l rows)
 
 pub keep-same : {T : Type 0} (l : Level) (xs ys : List (Row T)) → SameThere xs ys → SameThere (keep l xs) (keep l ys)
@@ -113,7 +117,7 @@ bind-same xs ys f g h k = bind-parts xs f g k ∙ sym (bind-there xs g) ∙ ap (
 
 module _ {T : Type 0} (same : T → T → Bool) where
   pub multiplicity-there : (c : T) (rows : List (Row T)) → multiplicity same c (those_there rows) ≡ multiplicity same c rows
-  multiplicity-there c rows = total-there ◌+◌ 0 (λ a. refl) (λ k level. cond (same k c) 1 0) rows
+  multiplicity-there c rows = total-there ◌+◌ 0 (λ a. omega arith) (λ k level. cond (same k c) 1 0) rows
 
   pub level-there : (c : T) (rows : List (Row T)) → level_in same c (those_there rows) ≡ level_in same c rows
   level-there c rows = total-there greatest No greatest-monoid.unit (λ k level. cond (same k c) level No) rows

@@ -1,15 +1,14 @@
 // Aggregates of cells (SQL-92, 6.5).
-ghost use Rattle.std.specs.Prelude.{◌≡◌, ◌+◌, ◌≤◌, ◌+ℤ◌, pos, length, if◌then◌else◌, Option, Some, None, not, nat_eq, filter, false, true, [], ◌∷◌, IfOk};
+ghost use Rattle.std.specs.Prelude.{◌≡◌, ℕ, ◌+◌, ◌≤◌, ◌+ℤ◌, pos, length, if◌then◌else◌, Option, Some, None, not, nat_eq, filter, false, true, [], ◌∷◌, IfOk};
 ghost use Rattle.query_loops.specs.Cells as spec;
-ghost use Rattle.row_bag.specs.Bags.{bind, if_there, row, total, unit};
-ghost use Rattle.row_bag.specs.Errors.{error_among};
+ghost use Rattle.row_bag.specs.Bags.{if_there, total, unit};
+ghost use Rattle.row_bag.specs.Errors.{error_among, error_at};
 ghost use Rattle.row_bag.specs.Sets.{multiplicity, once};
 ghost use Rattle.sql_meaning.specs.Groups as groups;
 ghost use Rattle.sql_meaning.specs.Joins as joins;
 ghost use Rattle.sql_value.specs.Arithmetic as arithmetic;
 ghost use Rattle.sql_value.specs.Cells as cells;
 ghost use Rattle.sql_value.specs.declared.cell.Cell.TheVariants.{Null};
-ghost use Rattle.sql_value.specs.declared.level.Level.TheVariants.{Yes};
 
 use crate::sets::error_of;
 use crate::subqueries::{error_at, worst_of};
@@ -65,7 +64,7 @@ fn values(rows: Vec<Row<Cell>>) -> Vec<Row<Cell>>
 
 // A row is there, and this is its cell.
 fn is_hit(cell: &Cell, row: &Row<Cell>) -> bool
-    ensures { (if result then 1 else 0) ≡ if_there 0 (λ k level. if groups.same_cell k cell.now then 1 else 0) row.now.cells row.now.level }
+    ensures { ◌≡◌ {A = ℕ} (if result then 1 else 0) (if_there 0 (λ k level. if groups.same_cell k cell.now then 1 else 0) row.now.cells row.now.level) }
 {
     match row.level {
         Level::No => false,
@@ -89,7 +88,7 @@ fn occurs(cell: &Cell, rows: &[Row<Cell>]) -> bool
 
 // Whether a row is there and its cell doesn't occur in the rows after it.
 fn is_last(row: &Row<Cell>, after: &[Row<Cell>]) -> bool
-    ensures { (if result then row row.now.cells Yes ∷ [] else []) ≡ if_there [] (λ c level. if nat_eq (multiplicity groups.same_cell c after.now) 0 then unit c else []) row.now.cells row.now.level }
+    ensures { (if result then unit row.now.cells else []) ≡ if_there [] (λ c level. if nat_eq (multiplicity groups.same_cell c after.now) 0 then unit c else []) row.now.cells row.now.level }
 {
     match row.level {
         Level::No => false,
@@ -129,7 +128,7 @@ fn once_if(
 
 // A row is there.
 fn is_there(row: &Row<Cell>) -> bool
-    ensures { (if result then 1 else 0) ≡ if_there 0 (λ cell level. 1) row.now.cells row.now.level }
+    ensures { ◌≡◌ {A = ℕ} (if result then 1 else 0) (if_there 0 (λ cell level. 1) row.now.cells row.now.level) }
 {
     row.level != Level::No
 }
@@ -308,7 +307,7 @@ fn of_values(alloc: Global, f: SetFunction, rows: &[Row<Cell>]) -> Result<Cell, 
 }
 
 /// An aggregate of these arguments. It fails only for want of memory.
-#[tactic(auto, using(crate::proofs::Aggregates::values_bound))]
+#[tactic(auto, using(crate::proofs::Values::values_bound))]
 pub(crate) fn of_arguments(
     alloc: Global,
     f: SetFunction,

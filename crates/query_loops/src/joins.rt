@@ -55,6 +55,7 @@ impl<
     }
 
     // A join.
+    #[tactic(auto, using(crate::proofs::Each::join_steps))]
     pub fn join(&self, p: &Test, xs: &[Row], ys: &[Row], s: &Scopes<'_>) -> Result<Bag, OutOfMemory>
         requires test { nests.Tests (P.pre self.now.test) (P.post self.now.test) }
         ensures { IfOk result (λ made. SameThere made (bind xs.now (joins.partners (test_in (known_in self.now.setting) (scopes s.now) (shown.test p.now)) ys.now))) }
@@ -68,9 +69,10 @@ impl<
     }
 
     // The partners of a left row, or where there is none this row once with nulls.
+    #[tactic(auto, using(crate::proofs::Each::or_else_steps))]
     fn partners_or_nulls(&self, p: &Test, width: usize, left: &[Cell], ys: &[Row], s: &Scopes<'_>) -> Result<Bag, OutOfMemory>
         requires test { nests.Tests (P.pre self.now.test) (P.post self.now.test) }
-        ensures { IfOk result (λ made. SameThere made (joins.or_else (joins.partners (test_in (known_in self.now.setting) (scopes s.now) (shown.test p.now)) ys.now left.now) (with_nulls left.now width ∷ []))) }
+        ensures { IfOk result (λ made. made ≡ those_there (joins.or_else (joins.partners (test_in (known_in self.now.setting) (scopes s.now) (shown.test p.now)) ys.now left.now) (with_nulls left.now width ∷ []))) }
     {
         let mut partners = self.partners(p, left, ys, s)?;
         if partners.rows().is_empty() {
@@ -80,6 +82,7 @@ impl<
     }
 
     // A left join.
+    #[tactic(auto, using(crate::proofs::Each::join_steps))]
     pub fn left_join(&self, p: &Test, width: usize, xs: &[Row], ys: &[Row], s: &Scopes<'_>) -> Result<Bag, OutOfMemory>
         requires test { nests.Tests (P.pre self.now.test) (P.post self.now.test) }
         ensures { IfOk result (λ made. SameThere made (bind xs.now (λ left. joins.or_else (joins.partners (test_in (known_in self.now.setting) (scopes s.now) (shown.test p.now)) ys.now left) (with_nulls left width ∷ [])))) }

@@ -65,6 +65,7 @@ pub(crate) fn with_nulls(alloc: Global, left: &[Cell], width: usize) -> Result<R
 }
 
 // Adds rows at the end, each at the lower one of its level and this one.
+#[tactic(auto, using(crate::proofs::Each::keep_steps))]
 fn append_each(out: &mut Bag, level: Level, rows: Vec<Row>) -> Result<(), OutOfMemory>
     ensures { OnOk result (out.new ≡ out.old ++ keep level rows.items) }
 {

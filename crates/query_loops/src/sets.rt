@@ -1,8 +1,8 @@
 // DISTINCT, and set operations (SQL-92, 7.9 and 7.10).
-ghost use Rattle.std.specs.Prelude.{◌≡◌, ◌++◌, ◌∷◌, [], if◌then◌else◌, Option, Some, None, replicate, not, nat_eq, IfOk, OnOk};
+ghost use Rattle.std.specs.Prelude.{◌≡◌, ℕ, ◌++◌, ◌∷◌, [], if◌then◌else◌, Option, Some, None, replicate, not, nat_eq, IfOk, OnOk};
 ghost use Rattle.checked_query.specs.Meaning as m;
 ghost use Rattle.query_loops.specs.Sets as spec;
-ghost use Rattle.row_bag.specs.Bags.{bind, if_there, row};
+ghost use Rattle.row_bag.specs.Bags.{if_there, row, unit};
 ghost use Rattle.row_bag.specs.Errors as errors;
 ghost use Rattle.row_bag.specs.Sets as sets;
 ghost use Rattle.row_bag.specs.Verdict as verdict;
@@ -32,7 +32,7 @@ pub(crate) enum Rule {
 
 // A row is there, and these are its cells.
 fn is_hit(cells: &[Cell], row: &Row) -> bool
-    ensures { (if result then 1 else 0) ≡ if_there 0 (λ k level. if sets.same_cells k cells.now then 1 else 0) row.now.cells row.now.level }
+    ensures { ◌≡◌ {A = ℕ} (if result then 1 else 0) (if_there 0 (λ k level. if sets.same_cells k cells.now then 1 else 0) row.now.cells row.now.level) }
 {
     match row.level {
         Level::No => false,
@@ -99,7 +99,7 @@ fn greatest_level(cells: &[Cell], rows: &[Row]) -> Level
 
 // Whether a row is there and its tuple doesn't occur in the rows after it.
 fn is_last(row: &Row, after: &[Row]) -> bool
-    ensures { (if result then row row.now.cells Yes ∷ [] else []) ≡ if_there [] (λ c level. if nat_eq (sets.multiplicity sets.same_cells c after.now) 0 then unit c else []) row.now.cells row.now.level }
+    ensures { (if result then unit row.now.cells else []) ≡ if_there [] (λ c level. if nat_eq (sets.multiplicity sets.same_cells c after.now) 0 then unit c else []) row.now.cells row.now.level }
 {
     match row.level {
         Level::No => false,

@@ -57,32 +57,36 @@ fn exists_one(row: &Row) -> Truth
     presence(row.level)
 }
 
+// A comparison with the cell of a row.
+fn compared(op: CmpOp, x: &Cell, row: &Row) -> Truth
+    ensures { result ≡ c.compare op x.now (u.only_cell row.now.cells) }
+{
+    let null = Cell::Null;
+    compare(op, x, only_cell(row.cells.as_slice(), &null))
+}
+
 // Presence of a row AND a comparison with its cell, false of a row that isn't there.
 fn any_one(op: CmpOp, x: &Cell, row: &Row) -> Truth
     ensures { result ≡ if_there (t.truth_of false) (λ cells level. t.and (u.presence level) (c.compare op x.now (u.only_cell cells))) row.now.cells row.now.level }
 {
-    if row.level == Level::No {
-        return always(false);
+    match row.level {
+        Level::No => always(false),
+        Level::Cardinality | Level::Division | Level::Overflow | Level::Yes => {
+            and(presence(row.level), compared(op, x, row))
+        }
     }
-    let null = Cell::Null;
-    and(
-        presence(row.level),
-        compare(op, x, only_cell(row.cells.as_slice(), &null)),
-    )
 }
 
 // NOT presence of a row OR a comparison with its cell, true of a row that isn't there.
 fn all_one(op: CmpOp, x: &Cell, row: &Row) -> Truth
     ensures { result ≡ if_there (t.truth_of true) (λ cells level. t.or (t.negated (u.presence level)) (c.compare op x.now (u.only_cell cells))) row.now.cells row.now.level }
 {
-    if row.level == Level::No {
-        return always(true);
+    match row.level {
+        Level::No => always(true),
+        Level::Cardinality | Level::Division | Level::Overflow | Level::Yes => {
+            or(not(presence(row.level)), compared(op, x, row))
+        }
     }
-    let null = Cell::Null;
-    or(
-        not(presence(row.level)),
-        compare(op, x, only_cell(row.cells.as_slice(), &null)),
-    )
 }
 
 /// EXISTS.
