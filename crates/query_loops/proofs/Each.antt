@@ -64,7 +64,7 @@ pub ruleset partner_steps = (common_steps, partners_there)
 pub ruleset product_steps = (common_steps, product_one)
 
 -- rows that are kept need only those that are there
-those_twice : {T : Type 0} (rows : List (Row T)) → those_there (those_there rows) ≡ those_there rows
+pub those_twice : {T : Type 0} (rows : List (Row T)) → those_there (those_there rows) ≡ those_there rows
 those_twice [] = refl
 those_twice (r ∷ rows) = one r.cells r.level
   where

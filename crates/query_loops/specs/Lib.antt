@@ -5,3 +5,4 @@ pub mod Rows
 pub mod Sources
 pub mod Sets
 pub mod Cells
+pub mod Groups

@@ -159,6 +159,16 @@ fn number_of(row: &Row<Cell>) -> i64
     }
 }
 
+// A sum of numbers.
+fn added(sum: i128, number: i64) -> Result<i128, OutOfMemory>
+    ensures { IfOk result (λ n. n ≡ sum +ℤ number) }
+{
+    match sum.checked_add(i128::from(number)) {
+        Some(next) => Ok(next),
+        None => Err(OutOfMemory),
+    }
+}
+
 // The exact total.
 #[tactic(auto, using(crate::proofs::Chains::sum_steps))]
 fn exact_total(rows: &[Row<Cell>]) -> Result<i128, OutOfMemory>
@@ -166,11 +176,7 @@ fn exact_total(rows: &[Row<Cell>]) -> Result<i128, OutOfMemory>
 {
     let mut sum: i128 = 0;
     for row in rows {
-        let number = i128::from(number_of(row));
-        match sum.checked_add(number) {
-            Some(next) => sum = next,
-            None => return Err(OutOfMemory),
-        }
+        sum = added(sum, number_of(row))?;
     }
     Ok(sum)
 }

@@ -118,7 +118,7 @@ impl<
     }
 
     // The rows of a FROM; those of one named table are borrowed.
-    fn frame_source<'b>(&'b self, list: &[From], s: &Scopes<'_>) -> Result<Source<'b>, OutOfMemory>
+    pub fn frame_source<'b>(&'b self, list: &[From], s: &Scopes<'_>) -> Result<Source<'b>, OutOfMemory>
         requires from { nests.FromRows (F.pre self.now.from) (F.post self.now.from) }
         ensures { IfOk result (λ rows. SameThere (held rows) (m.frames (known_in self.now.setting) (shown.from_list list.now) (scopes s.now))) }
     {
@@ -129,7 +129,7 @@ impl<
     }
 
     // A block without groups.
-    fn block(&self, distinct: bool, list: &[Value], tables: &[From], p: &Test, s: &Scopes<'_>) -> Result<Bag, OutOfMemory>
+    pub fn block(&self, distinct: bool, list: &[Value], tables: &[From], p: &Test, s: &Scopes<'_>) -> Result<Bag, OutOfMemory>
         requires value { nests.Values (V.pre self.now.value) (V.post self.now.value) }
         requires test { nests.Tests (P.pre self.now.test) (P.post self.now.test) }
         requires from { nests.FromRows (F.pre self.now.from) (F.post self.now.from) }

@@ -269,6 +269,7 @@ fn failed_row(alloc: Global, width: usize, kind: Kind) -> Result<Bag, OutOfMemor
 }
 
 // What an operation keeps, or one row of the greatest error where an operand has one.
+#[tactic(auto, using(crate::proofs::SameSets::error_both))]
 fn checked(
     alloc: Global,
     rule: Rule,

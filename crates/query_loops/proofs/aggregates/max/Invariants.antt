@@ -5,7 +5,7 @@ use Rattle.sql_value.specs.declared.cell.Cell.TheVariants.{Null}
 use Rattle.query_loops.proofs.aggregates.max.Given as goal
 
 abbrev pub invariant-loop-i : goal.invariant-loop-i
-invariant-loop-i l = (l.i ≤ length l.rows) × (l.greatest.now ≡ total greater_cell Null (λ c level. c) (drop l.i l.rows))
+invariant-loop-i l = (l.i ≤ length l.rows) × (l.greatest ≡ total greater_cell Null (λ c level. c) (drop l.i l.rows))
 
 abbrev pub decreases-loop-i : goal.decreases-loop-i
 decreases-loop-i l = l.i
