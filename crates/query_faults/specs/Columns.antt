@@ -55,11 +55,18 @@ abbrev pub columns_or_none : Option (List TypedColumn) → List TypedColumn
 columns_or_none None = []
 columns_or_none (Some columns) = columns
 
+abbrev pub first_name : List (List ℕ) → Option (List ℕ)
+first_name [] = None
+first_name (name ∷ names) = Some name
+
+abbrev pub other_names : List (List ℕ) → List (List ℕ)
+other_names [] = []
+other_names (name ∷ names) = names
+
 -- columns under the names of a list, in order; names beyond the columns are dropped, and columns beyond the list have no name
 abbrev pub listed : List (List ℕ) → List TypedColumn → List TypedColumn
 listed names [] = []
-listed [] (c ∷ columns) = column None c.sort ∷ listed [] columns
-listed (name ∷ names) (c ∷ columns) = column (Some name) c.sort ∷ listed names columns
+listed names (c ∷ columns) = column (first_name names) c.sort ∷ listed (other_names names) columns
 
 -- columns renamed by a column list, where one is written
 abbrev pub renamed : List (List ℕ) → List TypedColumn → List TypedColumn

@@ -1,5 +1,5 @@
 // Which blocks are grouped: those with GROUP BY, HAVING or an aggregate of their own in the list.
-ghost use Rattle.std.specs.Prelude.{◌≡◌, true, false};
+ghost use Rattle.std.specs.Prelude.{◌≡◌};
 ghost use Rattle.sql_ast.specs.Shown as written;
 ghost use Rattle.sql_meaning.specs.Grouping as spec;
 
@@ -25,7 +25,7 @@ fn in_expr(x: &Expr) -> bool
         Expr::CountAll | Expr::Aggregate(_, _, _) => true,
         Expr::Searched(list, last) => in_arms(list.as_slice()) || in_else(last),
         Expr::Simple(a, list, last) => {
-            in_expr(a) || in_choices(list.as_slice()) || in_else(last)
+            in_expr(a) || (in_choices(list.as_slice()) || in_else(last))
         }
         Expr::Coalesce(a, list) => in_expr(a) || in_exprs(list.as_slice()),
         Expr::NullIf(a, b) => in_expr(a) || in_expr(b),
