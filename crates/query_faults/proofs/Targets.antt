@@ -4,8 +4,11 @@ use Rattle.std.proofs.lemmas.Bool.{cases_Bool}
 use Rattle.std.proofs.lemmas.Grind.{common_steps}
 use Rattle.std.specs.List.{list_any}
 use Rattle.sql_ast.specs.declared.name.Column.{Column}
+use Rattle.query_faults.proofs.Orders.{lesser_none}
+use Rattle.query_faults.specs.Columns.{star_columns}
+use Rattle.query_faults.specs.Rules.{fault_if, star_ungrouped}
 use Rattle.query_faults.specs.Found.{found, found_any, found_by, found_in}
-use Rattle.query_faults.specs.Scopes.{Scope, Scopes, columns_by, columns_in, columns_named, in_range, is_barred, is_column_barred, is_empty, is_found_barred, is_meant, is_meant_by, is_name_barred, is_own, is_range_barred, is_some, is_star_barred, meant, named_in, range_in, range_of, released, scope_of, scope_with}
+use Rattle.query_faults.specs.Scopes.{Scope, Scopes, columns_by, columns_in, columns_named, in_range, is_barred, is_column_barred, is_empty, is_found_barred, is_meant, is_meant_by, is_name_barred, is_own, is_range_barred, is_some, is_star_barred, meant, named_in, plain, range_in, range_of, released, scope_of, scope_with}
 use Rattle.query_faults.specs.declared.column.TypedColumn.{TypedColumn}
 use Rattle.query_faults.specs.declared.column.TypedRange.{TypedRange}
 use Rattle.query_faults.specs.declared.found.Found.{Found}
@@ -120,3 +123,16 @@ star_free [] = refl
 star_free (r ∷ ranges) = rw (any_free r.name r.columns) (star_free ranges)
 
 pub ruleset star_steps = (common_steps, released_with, released_range, released_star, found_free)
+
+pub released_columns : (ss : Scopes) → star_columns (released ss) ≡ star_columns ss
+released_columns [] = refl
+released_columns (s ∷ ss) = refl
+
+pub released_ungrouped : (ss : Scopes) → star_ungrouped (released ss) ≡ 0
+released_ungrouped [] = refl
+released_ungrouped (s ∷ ss) = ap (λ b. fault_if b 12) (star_free s.ranges)
+
+pub plain_ungrouped : (ranges : List TypedRange) (ss : Scopes) → star_ungrouped (plain ranges ∷ ss) ≡ 0
+plain_ungrouped ranges ss = ap (λ b. fault_if b 12) (star_free ranges)
+
+pub ruleset star_column_steps = (common_steps, released_columns, released_ungrouped, plain_ungrouped, star_free, lesser_none)

@@ -62,7 +62,7 @@ module _ (heads : Heads) where
         lesser (lesser (arms_fault place xs scopes) (else_fault place o scopes)) (results_differ (arm_types heads xs scopes ++ else_types heads o scopes))
     -- the operand is compared with each value
     expr_fault place (s.simple x xs o) scopes =
-        lesser (lesser (expr_fault place x scopes) (lesser (choices_fault place (type_of heads x scopes) xs scopes) (else_fault place o scopes)))
+        lesser (lesser (lesser (expr_fault place x scopes) (choices_fault place (type_of heads x scopes) xs scopes)) (else_fault place o scopes))
         (results_differ (choice_types heads xs scopes ++ else_types heads o scopes))
     expr_fault place (s.coalesce x xs) scopes =
         lesser (lesser (expr_fault place x scopes) (exprs_fault place xs scopes)) (parts_differ (type_of heads x scopes ∷ types_of heads xs scopes))

@@ -5,4 +5,6 @@ pub mod Faults
 pub mod Views
 pub mod Numbers
 pub mod Found
+pub mod Forms
+pub mod Sorts
 pub mod Shown

@@ -102,8 +102,9 @@ results_differ (t ∷ types) = fault_if (some_differ (t ∷ types)) 10
 
 -- columns of set operands at the same place differ
 abbrev pub places_differ : List TypedColumn → List TypedColumn → Bool
+places_differ [] ys = false
+places_differ (x ∷ xs) [] = false
 places_differ (x ∷ xs) (y ∷ ys) = differ x.sort y.sort || places_differ xs ys
-places_differ xs ys = false
 
 abbrev pub operands_differ : List TypedColumn → List TypedColumn → ℕ
 operands_differ xs ys = fault_if (places_differ xs ys) 10

@@ -13,6 +13,7 @@ use crate::column::{TypedColumn, TypedRange};
 use crate::fault::{Fault, fault_if, lesser};
 use crate::found::{Found, found_fault, found_in, found_type, range_in};
 use crate::place::Place;
+use crate::typed::Typed;
 use sql_ast::Column;
 use sql_text::Name;
 use sql_value::SqlType;
@@ -154,7 +155,7 @@ fn is_range_barred(by: &[Column], range: &TypedRange) -> bool
 }
 
 // Whether a column of these ranges is none of GROUP BY.
-fn is_star_barred(by: &[Column], ranges: &[TypedRange]) -> bool
+pub(crate) fn is_star_barred(by: &[Column], ranges: &[TypedRange]) -> bool
     ensures { result ≡ list_any (spec.is_range_barred (Some by.now)) ranges.now }
 {
     ranges.iter().any(|range| is_range_barred(by, range))
@@ -203,7 +204,7 @@ pub(crate) fn star_of<'a>(name: &Name, inner: &Scopes<'a>) -> Star<'a>
 
 // The fault of a column's name at a place.
 #[tactic(auto, using(crate::proofs::Finds::fault_found))]
-pub(crate) fn column_fault(place: Place, column: &Column, inner: &Scopes<'_>) -> Option<Fault>
+fn column_fault(place: Place, column: &Column, inner: &Scopes<'_>) -> Option<Fault>
     ensures { number result ≡ fault.column_fault place column.now (scopes inner.now) }
 {
     let target = target_of(column, inner);
@@ -214,7 +215,7 @@ pub(crate) fn column_fault(place: Place, column: &Column, inner: &Scopes<'_>) ->
 
 // The type of a column.
 #[tactic(auto, using(crate::proofs::Finds::type_found))]
-pub(crate) fn column_type(column: &Column, inner: &Scopes<'_>) -> Option<SqlType>
+fn column_type(column: &Column, inner: &Scopes<'_>) -> Option<SqlType>
     ensures { result ≡ spec.first_type (spec.meant column.now (scopes inner.now)) }
 {
     found_type(target_of(column, inner).found)
@@ -249,4 +250,15 @@ pub(crate) fn grouping_fault(by: &[Column], inner: &Scopes<'_>) -> Option<Fault>
         least = lesser(least, grouping_column_fault(column, inner));
     }
     least
+}
+
+// A column at a place.
+pub(crate) fn column(place: Place, name: &Column, inner: &Scopes<'_>) -> Typed
+    ensures sort { result.sort ≡ spec.first_type (spec.meant name.now (scopes inner.now)) }
+    ensures fault { number result.fault ≡ fault.column_fault place name.now (scopes inner.now) }
+{
+    Typed {
+        sort: column_type(name, inner),
+        fault: column_fault(place, name, inner),
+    }
 }
