@@ -8,3 +8,4 @@ pub mod Found
 pub mod Forms
 pub mod Sorts
 pub mod Shown
+pub mod Depths

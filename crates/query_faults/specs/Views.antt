@@ -1,14 +1,12 @@
 -- The checks over a catalog: what tables and views stand for, the fault of a query, and the first view whose body isn't valid.
-use Rattle.std.specs.Prelude.{ℕ, zero, suc, ◌++◌, not, nat_eq, Bool, true, false, List, [], ◌∷◌, map, Option, Some, None, find, filter}
-use Rattle.std.specs.List.{flat_map}
+use Rattle.std.specs.Prelude.{ℕ, zero, suc, true, false, List, [], ◌∷◌, map, Option, Some, None, filter}
 use Rattle.sql_ast.specs.declared.schema.ColumnDecl.{ColumnDecl}
 use Rattle.sql_ast.specs.declared.schema.TableDecl.{TableDecl}
 use Rattle.sql_ast.specs.Syntax as s
 use Rattle.sql_catalog.specs.Catalog.{Declared, table_named}
 use Rattle.sql_catalog.specs.Keys.{columns_of}
 use Rattle.sql_catalog.specs.Names.{same_name}
-use Rattle.sql_catalog.specs.Nesting.{nests_at, nests_over, reader_of, readers_of}
-use Rattle.sql_catalog.specs.declared.reader.Reader.{Reader}
+use Rattle.sql_catalog.specs.Nesting.{nests_at, reader_of, readers_of}
 use Rattle.sql_meaning.specs.Scopes.{first_of}
 use Rattle.query_faults.specs.Columns.{column, columns, renamed, type_of_declared}
 use Rattle.query_faults.specs.Faults.{list_fault, query_fault, text_fault}
@@ -67,22 +65,31 @@ abbrev pub fault : Declared → s.QueryText → ℕ
 fault catalog text = text_fault (heads_of catalog) text
 
 -- the same of a view: its body with its column list
-abbrev pub view_fault : Declared → s.ViewDecl → ℕ
-view_fault catalog v = lesser (query_fault (heads_of catalog) v.query []) (list_fault v.columns (columns (heads_of catalog) v.query []))
+abbrev pub view_fault : Heads → s.ViewDecl → ℕ
+view_fault heads v = lesser (query_fault heads v.query []) (list_fault v.columns (columns heads v.query []))
+
+-- a view that isn't valid, with the number of its fault
+abbrev pub refusal_with : List ℕ → ℕ → Option (List ℕ × ℕ)
+refusal_with name zero = None
+refusal_with name (suc n) = Some (name, suc n)
+
+abbrev pub refusal_of : Heads → s.ViewDecl → Option (List ℕ × ℕ)
+refusal_of heads v = refusal_with v.name (view_fault heads v)
+
+-- the first of these views that isn't valid
+abbrev pub refused_among : Heads → List s.ViewDecl → Option (List ℕ × ℕ)
+refused_among heads [] = None
+refused_among heads (v ∷ views) = first_of (refusal_of heads v) (refused_among heads views)
 
 -- the views that nest exactly this deep, in declared order
 abbrev pub views_of_depth : Declared → ℕ → List s.ViewDecl
 views_of_depth catalog depth = filter (λ (v : s.ViewDecl). nests_at (readers_of catalog.views) depth (reader_of v)) catalog.views
 
--- the views that nest at most this deep, by depth, and then in declared order
-abbrev pub views_by_depth : Declared → ℕ → List s.ViewDecl
-views_by_depth catalog zero = []
-views_by_depth catalog (suc depth) = views_by_depth catalog depth ++ views_of_depth catalog (suc depth)
+-- the first view that isn't valid, of those that nest at most this deep, by depth and then in declared order
+abbrev pub refused_to : Declared → ℕ → Option (List ℕ × ℕ)
+refused_to catalog zero = None
+refused_to catalog (suc depth) = first_of (refused_to catalog depth) (refused_among (heads_of catalog) (views_of_depth catalog (suc depth)))
 
--- a view's body isn't valid
-abbrev pub is_faulty : Declared → s.ViewDecl → Bool
-is_faulty catalog v = not (nat_eq (view_fault catalog v) 0)
-
--- the first view whose body isn't valid, by nesting depth and then in declared order
-abbrev pub refused_view : Declared → Option s.ViewDecl
-refused_view catalog = find (is_faulty catalog) (views_by_depth catalog 16)
+-- views nest at most 16 deep
+abbrev pub view_refusal : Declared → Option (List ℕ × ℕ)
+view_refusal catalog = refused_to catalog 16

@@ -20,7 +20,7 @@ pub(crate) enum Fault {
 }
 
 // The place of a fault in their order.
-fn order(fault: Fault) -> u8
+pub(crate) fn order(fault: Fault) -> u8
     ensures { result ≡ number (Some fault) }
 {
     match fault {
