@@ -1,0 +1,4 @@
+pub mod Places
+pub mod Resolved
+pub mod Even
+pub mod Agreed
