@@ -1,3 +1,5 @@
 pub mod Related
 pub mod Columns
 pub mod Frames
+pub mod Grouped
+pub mod Operators
