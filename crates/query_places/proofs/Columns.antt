@@ -182,7 +182,7 @@ in_range name scopes (Some r) (Some s) h =
 in_range name scopes None (Some s) h = absurd h
 in_range name scopes (Some r) None h = absurd h
 
-found_cell : (range : Option (List ℕ)) (name : List ℕ) (scopes : Scopes) → AreWideFrames scopes → or_null (found range name scopes) ≡ cell_of (place_of range name (shapes_of scopes)) (flat scopes)
+pub found_cell : (range : Option (List ℕ)) (name : List ℕ) (scopes : Scopes) → AreWideFrames scopes → or_null (found range name scopes) ≡ cell_of (place_of range name (shapes_of scopes)) (flat scopes)
 found_cell None name scopes wide = unqualified_found name scopes wide
 found_cell (Some range) name scopes wide = in_range name (flat scopes) (range_of range scopes) (span_of range (shapes_of scopes)) (range_stands range scopes wide)
 

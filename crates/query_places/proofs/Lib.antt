@@ -3,3 +3,6 @@ pub mod Columns
 pub mod Frames
 pub mod Grouped
 pub mod Operators
+pub mod Named
+pub mod Results
+pub mod ByPlaces

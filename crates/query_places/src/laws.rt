@@ -11,7 +11,7 @@ ghost use Rattle.query_places.specs.Resolved.{column_at};
 ghost use Rattle.row_bag.specs.declared.row.Row.{Row};
 
 /// A name stands for the cell at its place. It does nothing.
-#[tactic(auto, using(crate::proofs::Columns::column_found, crate::proofs::Grouped::groups_related, crate::proofs::Operators::cells_append))]
+#[tactic(auto, using(crate::proofs::Columns::column_found, crate::proofs::Grouped::groups_related, crate::proofs::Operators::cells_append, crate::proofs::Named::range_length, crate::proofs::Results::same_rows))]
 pub fn place_laws()
     ensures column { (c : Column) → (scopes : Scopes) → AreWideFrames scopes → column_value c scopes ≡ places.value (λ name. []) (column_at (place_of c.range c.name (shapes_of scopes))) (flat scopes) no_group }
 {}
