@@ -1,5 +1,6 @@
 -- What a query means by names it means by places.
 use Rattle.std.proofs.Common.{◌≡◌, ℕ, ◌+◌, Bool, true, false, cond, List, [], ◌∷◌, ◌++◌, length, replicate, Option, refl, ap, ap₂, sym, ◌∙◌, subst}
+use Rattle.std.specs.Prelude.{All}
 use Rattle.std.proofs.lemmas.List.{length-append}
 use Rattle.qgm_base.specs.declared.compare.CmpOp.TheVariants.{Eq, Ge, Le}
 use Rattle.row_bag.specs.declared.row.Row.{Row}
@@ -26,15 +27,16 @@ use Rattle.sql_meaning.specs.Values.{additive, case_of, multiplicative}
 use Rattle.sql_meaning.specs.Values as values
 use Rattle.checked_query.specs.Meaning as c
 use Rattle.checked_query.specs.Trees.{Query}
-use Rattle.query_places.specs.Agreed.{IsWide, flat, names_of, rows_of}
+use Rattle.query_places.specs.Agreed.{AllWide, AreWideFrames, IsWide, bags_of, flat, names_of, rows_of}
+use Rattle.query_places.specs.Agreed.{columns_of as columns_in}
 use Rattle.query_places.specs.Even.{EvenArms, EvenChoices, EvenCond, EvenExpr, EvenExprs, EvenFilter, EvenItem, EvenItems, EvenList, EvenOtherwise, EvenQuery, EvenRes, EvenTable, EvenTables}
 use Rattle.query_places.specs.Places.{grouping_places, innermost, names_in, place_of, span_of, width}
 use Rattle.query_places.specs.Resolved.{Columns, bare, column_at, columns_from, columns_of}
 use Rattle.query_places.specs.Resolved as r
 use Rattle.query_places.proofs.Columns.{cells_from, cells_of_range, column_value_at, found_cell, from_all, from_place, range_stands, wide_length}
-use Rattle.query_places.proofs.Frames.{FrameIs, Fits, beside, fits_more, in_all, no_range}
+use Rattle.query_places.proofs.Frames.{FrameIs, Fits, beside, fits_more, fits_none, in_all, no_range}
 use Rattle.query_places.proofs.Grouped.{GroupIs, OneIs, aggregated_same, count_same, groups_related}
-use Rattle.query_places.proofs.Named.{Agrees, Each, Same, each_left, each_more, each_right, named_related, names_bare, range_length, ranged_related, renamed_length, shape_bare, table_bare}
+use Rattle.query_places.proofs.Named.{Agrees, Each, Same, all_wide, each_all, each_left, each_more, each_right, named_related, names_bare, range_length, ranged_related, renamed_length, shape_bare, table_bare}
 use Rattle.query_places.proofs.Operators.{both_truth, cells_append, either_truth, perhaps_not_truth, plus_value, signed_value, times_value}
 use Rattle.query_places.proofs.Related.{Related, related_kept, related_left_join, related_product, related_selected, related_unit}
 use Rattle.query_places.proofs.Results.{combined_related, distinct_related, intersected_related, same_rows}
@@ -61,9 +63,6 @@ within ranges frame row f shapes scopes rows h group others is = record {
   others = others;
   groups = is;
 }
-
-fits_none : Fits [] [] []
-fits_none = record { shape = refl; cells = refl; wide = tt }
 
 -- ---- columns
 
@@ -316,7 +315,7 @@ module _ (known : Known) (columns : Columns) (bags : List ℕ → List (Row (Lis
         (ranged_related alias.name (renamed alias.columns cs) (length cs) (sym (renamed_length alias.columns cs)) (n.rows known q scopes) (c.rows bags (r.query columns shapes q) rows) (query_law q shapes scopes rows f e h))
     table_law (s.joined x) shapes scopes rows f e h = table_law x shapes scopes rows f e h
 
-    query_law : (q : s.Query) (shapes : List Shape) (scopes : Scopes) (rows : List (List Cell)) → Fits shapes scopes rows → Each P (t.in_query q) → EvenQuery columns shapes q
+    pub query_law : (q : s.Query) (shapes : List Shape) (scopes : Scopes) (rows : List (List Cell)) → Fits shapes scopes rows → Each P (t.in_query q) → EvenQuery columns shapes q
         → Related (Same (length (names (bare columns) q shapes))) (n.rows known q scopes) (c.rows bags (r.query columns shapes q) rows)
     query_law (s.enclosed q) shapes scopes rows f e h = query_law q shapes scopes rows f e h
     query_law (s.combine x op all y) shapes scopes rows f e h =
@@ -377,3 +376,19 @@ module _ (known : Known) (columns : Columns) (bags : List ℕ → List (Row (Lis
   pub rows_law : (q : s.Query) (shapes : List Shape) (scopes : Scopes) (rows : List (List Cell)) → Fits shapes scopes rows → Each P (t.in_query q) → EvenQuery columns shapes q
       → n.rows known q scopes ≡ c.rows bags (r.query columns shapes q) rows
   rows_law q shapes scopes rows f e h = equal q shapes scopes rows (query_law q shapes scopes rows f e h)
+
+-- in scopes that fit, over tables and views whose rows are as wide as their columns
+pub same_meaning : (known : Known) → AllWide known → (q : s.Query) (scopes : Scopes) → AreWideFrames scopes → EvenQuery (columns_in known) (shapes_of scopes) q
+    → n.rows known q scopes ≡ c.rows (bags_of known) (r.query (columns_in known) (shapes_of scopes) q) (flat scopes)
+same_meaning known wide q scopes frames even =
+    rows_law known (columns_in known) (bags_of known) q (shapes_of scopes) scopes (flat scopes) (record { shape = refl; cells = refl; wide = frames })
+    (each_all (IsKnown known (columns_in known) (bags_of known)) (λ name. record { named = refl; held = refl; wide = wide name }) (t.in_query q)) even
+
+pub same_width : (known : Known) → AllWide known → (q : s.Query) (scopes : Scopes) → AreWideFrames scopes → EvenQuery (columns_in known) (shapes_of scopes) q
+    → All (λ row. length row.cells ≡ length (names known q (shapes_of scopes))) (n.rows known q scopes)
+same_width known wide q scopes frames even =
+    let each : Each (IsKnown known (columns_in known) (bags_of known)) (t.in_query q) = each_all (IsKnown known (columns_in known) (bags_of known)) (λ name. record { named = refl; held = refl; wide = wide name }) (t.in_query q) in
+    all_wide (length (names (bare (columns_in known)) q (shapes_of scopes))) (names known q (shapes_of scopes))
+    (ap length (names_bare known (columns_in known) q (shapes_of scopes) (each_all (Agrees known (columns_in known)) (λ name. refl) (t.in_query q))))
+    (n.rows known q scopes) (c.rows (bags_of known) (r.query (columns_in known) (shapes_of scopes) q) (flat scopes))
+    (query_law known (columns_in known) (bags_of known) q (shapes_of scopes) scopes (flat scopes) (record { shape = refl; cells = refl; wide = frames }) each even)

@@ -6,3 +6,5 @@ pub mod Operators
 pub mod Named
 pub mod Results
 pub mod ByPlaces
+pub mod Depths
+pub mod Whole

@@ -3,7 +3,7 @@ use Rattle.std.proofs.Common.{◌≡◌, ℕ, suc, ◌+◌, Bool, true, false, c
 use Rattle.std.specs.Prelude.{⊤, All}
 use Rattle.std.specs.List.{flat_map}
 use Rattle.std.proofs.lemmas.List.{length-append, length-map}
-use Rattle.std.proofs.lemmas.List.Elements.{All-head, All-tail}
+use Rattle.std.proofs.lemmas.List.Elements.{All-cons, All-head, All-nil, All-tail}
 use Rattle.row_bag.specs.Bags.{bind, row, unit}
 use Rattle.row_bag.specs.declared.row.Row.{Row}
 use Rattle.row_bag.proofs.Levels.{least-yes}
@@ -109,6 +109,13 @@ Same width a b = (a ≡ b) × (length a ≡ width)
 pub wide_related : (columns : List (Option (List ℕ))) (rows : List (Row (List Cell))) → All (λ row. length row.cells ≡ length columns) rows → Related (Same (length columns)) rows rows
 wide_related columns [] h = tt
 wide_related columns (r ∷ rows) h = ((refl, All-head (λ (q : Row (List Cell)). length q.cells ≡ length columns) r rows h), refl, wide_related columns rows (All-tail (λ (q : Row (List Cell)). length q.cells ≡ length columns) r rows h))
+
+-- rows that are related have one width
+pub all_wide : (width : ℕ) (columns : List (Option (List ℕ))) → length columns ≡ width → (xs ys : List (Row (List Cell))) → Related (Same width) xs ys → All (λ row. length row.cells ≡ length columns) xs
+all_wide width columns e [] [] h = All-nil (λ (row : Row (List Cell)). length row.cells ≡ length columns)
+all_wide width columns e (x ∷ xs) (y ∷ ys) h = All-cons (λ (row : Row (List Cell)). length row.cells ≡ length columns) x xs (h.0.1 ∙ sym e) (all_wide width columns e xs ys h.2)
+all_wide width columns e [] (y ∷ ys) h = absurd h
+all_wide width columns e (x ∷ xs) [] h = absurd h
 
 -- rows under a range's name
 pub ranged_related : (name : List ℕ) (columns : List (Option (List ℕ))) (width : ℕ) → width ≡ length columns → (xs ys : List (Row (List Cell))) → Related (Same width) xs ys

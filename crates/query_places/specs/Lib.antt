@@ -2,3 +2,4 @@ pub mod Places
 pub mod Resolved
 pub mod Even
 pub mod Agreed
+pub mod Schema
