@@ -15,6 +15,7 @@ use Rattle.checked_query.specs.Meaning as c
 use Rattle.query_places.specs.Agreed.{AreWideFrames, IsWideFrame, flat}
 use Rattle.query_places.specs.Places.{Place, Span, at_span, further, here, in_span, names_in, onward, outward, place_named, place_of, place_outward, span_in, span_of, unqualified, width}
 use Rattle.query_places.specs.Resolved.{column_at, columns_from, columns_of}
+use Rattle.query_places.proofs.Positions.{place_first}
 
 -- ---- cells side by side
 
@@ -86,10 +87,10 @@ named_past : (name : List ℕ) (cs : List (Option (List ℕ))) (row : List Cell)
 named_past name [] row first = refl
 named_past name (c ∷ cs) row first =
     let same : first ≡ first + 0 = omega arith in
-    elim (is_named name c) as (λ b. cond b (Some (get_or row first Null)) (cell_named name cs (from_place row (suc first) (length cs))) ≡ cell_past row first (cond b (Some 0) (further 1 (place_named name cs)))) [
+    rw (place_first name c cs) (elim (is_named name c) as (λ b. cond b (Some (get_or row first Null)) (cell_named name cs (from_place row (suc first) (length cs))) ≡ cell_past row first (cond b (Some 0) (further 1 (place_named name cs)))) [
       | true ↦ ap (λ (p : ℕ). Some (get_or row p Null)) same
       | false ↦ named_past name cs row (suc first) ∙ past_next row first (place_named name cs)
-    ]
+    ])
 
 named_whole : (name : List ℕ) (cs : List (Option (List ℕ))) (row : List Cell) → length row ≡ length cs → cell_named name cs row ≡ cell_past row 0 (place_named name cs)
 named_whole name cs row h = ap (cell_named name cs) (sym (from_all row) ∙ ap (from_place row 0) h) ∙ named_past name cs row 0

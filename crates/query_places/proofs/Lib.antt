@@ -1,3 +1,4 @@
+pub mod Positions
 pub mod Related
 pub mod Columns
 pub mod Frames
@@ -8,3 +9,4 @@ pub mod Results
 pub mod ByPlaces
 pub mod Depths
 pub mod Whole
+pub mod Pushed

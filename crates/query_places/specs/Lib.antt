@@ -3,3 +3,4 @@ pub mod Resolved
 pub mod Even
 pub mod Agreed
 pub mod Schema
+pub mod Shapes

@@ -1,10 +1,11 @@
 -- Where the columns of a FROM stand in its row, and which of them a name stands for (SQL-92, 6.3 and 6.4).
-use Rattle.std.specs.Prelude.{ℕ, suc, ◌+◌, Bool, ◌&&◌, List, [], ◌∷◌, ◌++◌, length, map, Option, Some, None, if◌then◌else◌}
+use Rattle.std.specs.Prelude.{ℕ, suc, ◌+◌, Bool, ◌&&◌, List, [], ◌∷◌, ◌++◌, length, map, position, Option, Some, None, if◌then◌else◌}
 use Rattle.std.specs.List.{flat_map}
 use Rattle.sql_ast.specs.declared.name.Column.{Column}
 use Rattle.sql_catalog.specs.Names.{same_name}
 use Rattle.sql_meaning.specs.Groups.{range_means}
 use Rattle.sql_meaning.specs.Scopes.{Shape, first_of, is_named}
+pub use Rattle.query_places.specs.declared.place.Place.{Place}
 
 -- the names of the columns of a FROM, in order
 abbrev pub names_in : Shape → List (Option (List ℕ))
@@ -21,11 +22,6 @@ innermost (ranges ∷ shapes) = ranges
 
 -- ---- columns
 
--- a column: the scope, from the innermost, and the place in its row, both from 0
-pub record Place : Type 0 where
-  pub scope : ℕ
-  pub place : ℕ
-
 -- columns that stand side by side: their scope, the place of the first, and their names
 pub record Span : Type 0 where
   pub scope : ℕ
@@ -39,8 +35,7 @@ further n (Some place) = Some (n + place)
 
 -- the place of the first column of a name
 abbrev pub place_named : List ℕ → List (Option (List ℕ)) → Option ℕ
-place_named name [] = None
-place_named name (column ∷ columns) = if is_named name column then Some 0 else further 1 (place_named name columns)
+place_named name columns = position (is_named name) columns
 
 -- in this scope, where it is in a row at all
 abbrev pub here : Option ℕ → Option Place

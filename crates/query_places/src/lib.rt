@@ -1,6 +1,10 @@
 //! Names resolved: each column of a query as a scope and a place.
 #![tactic(auto)]
 
+mod chain;
 mod laws;
+mod place;
+mod scope;
 
 pub use laws::place_laws;
+pub use scope::Range;
