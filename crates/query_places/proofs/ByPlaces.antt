@@ -223,8 +223,8 @@ module _ (known : Known) (columns : Columns) (bags : List ℕ → List (Row (Lis
         let first : n.value known x a.scopes a.group ≡ c.value bags (r.value columns a.shapes x) a.rows a.others = value_law x a (left (t.in_expr x) (t.in_expr y ++ t.in_expr z) e) h.0 in
         ap (values.perhaps_not negative)
         (ap₂ w.and
-          (ap₂ (v.compare Ge) first (value_law y a (left (t.in_expr y) (t.in_expr z) f) h.1))
-          (ap₂ (v.compare Le) first (value_law z a (right (t.in_expr y) (t.in_expr z) f) h.2)))
+        (ap₂ (v.compare Ge) first (value_law y a (left (t.in_expr y) (t.in_expr z) f) h.1))
+        (ap₂ (v.compare Le) first (value_law z a (right (t.in_expr y) (t.in_expr z) f) h.2)))
         ∙ sym (perhaps_not_truth bags a.rows a.others negative _)
     truth_law (s.in_query x negative q) a e h =
         ap (values.perhaps_not negative) (ap₂ (u.compare_any Eq) (value_law x a (left (t.in_expr x) (t.in_query q) e) h.0) (equal q a.shapes a.scopes a.rows (query_law q a.shapes a.scopes a.rows a.fits (right (t.in_expr x) (t.in_query q) e) h.1)))
@@ -232,7 +232,7 @@ module _ (known : Known) (columns : Columns) (bags : List ℕ → List (Row (Lis
     truth_law (s.in_list x negative xs) a e h =
         ap (values.perhaps_not negative)
         (ap (λ (z : Cell). n.equals_one known z xs a.scopes a.group) (value_law x a (left (t.in_expr x) (t.in_exprs xs) e) h.0)
-          ∙ equals_law xs a (c.value bags (r.value columns a.shapes x) a.rows a.others) (right (t.in_expr x) (t.in_exprs xs) e) h.1)
+        ∙ equals_law xs a (c.value bags (r.value columns a.shapes x) a.rows a.others) (right (t.in_expr x) (t.in_exprs xs) e) h.1)
         ∙ sym (perhaps_not_truth bags a.rows a.others negative _)
     truth_law (s.like x negative y) a e h =
         ap (values.perhaps_not negative) (ap₂ l.like (value_law x a (left (t.in_expr x) (t.in_expr y) e) h.0) (value_law y a (right (t.in_expr x) (t.in_expr y) e) h.1))
@@ -282,9 +282,9 @@ module _ (known : Known) (columns : Columns) (bags : List ℕ → List (Row (Lis
         (λ frame row is. truth_law p (within (d ++ g) frame row is shapes scopes rows f no_group no_group tt) (right (t.in_table y) (t.in_cond p) e1) h.2)
         (product (n.table_rows known x scopes) (n.table_rows known y scopes)) (product (c.from_rows bags (r.table columns shapes x) rows) (c.from_rows bags (r.table columns shapes y) rows))
         (related_product (FrameIs d) (FrameIs g) (FrameIs (d ++ g)) (beside d g)
-          (n.table_rows known x scopes) (c.from_rows bags (r.table columns shapes x) rows) (n.table_rows known y scopes) (c.from_rows bags (r.table columns shapes y) rows)
-          (table_law x shapes scopes rows f (left (t.in_table x) (t.in_table y ++ t.in_cond p) e) h.0)
-          (table_law y shapes scopes rows f (left (t.in_table y) (t.in_cond p) e1) h.1))
+        (n.table_rows known x scopes) (c.from_rows bags (r.table columns shapes x) rows) (n.table_rows known y scopes) (c.from_rows bags (r.table columns shapes y) rows)
+        (table_law x shapes scopes rows f (left (t.in_table x) (t.in_table y ++ t.in_cond p) e) h.0)
+        (table_law y shapes scopes rows f (left (t.in_table y) (t.in_cond p) e1) h.1))
     table_law (s.left_join x outer y p) shapes scopes rows f e h =
         let d : Shape = table_shape (bare columns) x shapes in
         let g : Shape = table_shape (bare columns) y shapes in
@@ -343,34 +343,34 @@ module _ (known : Known) (columns : Columns) (bags : List ℕ → List (Row (Lis
         let ys : List (Row (List Cell)) = c.frames bags (r.froms columns shapes from) rows in
         let from_is : Related (FrameIs ranges) xs ys = tables_law from shapes scopes rows f e2 h.0 in
         let plain : Related (Same m) (selected (λ frame. n.filtered known by (frame ∷ scopes) no_group) (λ frame. n.list_cells known list frame scopes no_group) xs)
-            (selected (λ row. c.truth bags (r.filter columns (ranges ∷ shapes) by) (row ∷ rows) no_group) (λ row. c.cells bags (r.list columns (ranges ∷ shapes) list) (row ∷ rows) no_group) ys) =
-          related_selected (FrameIs ranges) (Same m)
-          (λ frame. n.filtered known by (frame ∷ scopes) no_group) (λ row. c.truth bags (r.filter columns (ranges ∷ shapes) by) (row ∷ rows) no_group)
-          (λ frame. n.list_cells known list frame scopes no_group) (λ row. c.cells bags (r.list columns (ranges ∷ shapes) list) (row ∷ rows) no_group)
-          (λ frame row is. filter_law by (within ranges frame row is shapes scopes rows f no_group no_group tt) e4 h.2)
-          (λ frame row is. (list_law list ranges frame row is shapes scopes rows f no_group no_group tt e0 h.1, list_width known list ranges frame row is shapes scopes rows f no_group))
-          xs ys from_is in
+        (selected (λ row. c.truth bags (r.filter columns (ranges ∷ shapes) by) (row ∷ rows) no_group) (λ row. c.cells bags (r.list columns (ranges ∷ shapes) list) (row ∷ rows) no_group) ys) =
+        related_selected (FrameIs ranges) (Same m)
+        (λ frame. n.filtered known by (frame ∷ scopes) no_group) (λ row. c.truth bags (r.filter columns (ranges ∷ shapes) by) (row ∷ rows) no_group)
+        (λ frame. n.list_cells known list frame scopes no_group) (λ row. c.cells bags (r.list columns (ranges ∷ shapes) list) (row ∷ rows) no_group)
+        (λ frame row is. filter_law by (within ranges frame row is shapes scopes rows f no_group no_group tt) e4 h.2)
+        (λ frame row is. (list_law list ranges frame row is shapes scopes rows f no_group no_group tt e0 h.1, list_width known list ranges frame row is shapes scopes rows f no_group))
+        xs ys from_is in
         let kept_is : Related (FrameIs ranges) (kept (λ frame. n.filtered known by (frame ∷ scopes) no_group) xs) (kept (λ row. c.truth bags (r.filter columns (ranges ∷ shapes) by) (row ∷ rows) no_group) ys) =
-          related_kept (FrameIs ranges) (λ frame. n.filtered known by (frame ∷ scopes) no_group) (λ row. c.truth bags (r.filter columns (ranges ∷ shapes) by) (row ∷ rows) no_group)
-          (λ frame row is. filter_law by (within ranges frame row is shapes scopes rows f no_group no_group tt) e4 h.2) xs ys from_is in
+        related_kept (FrameIs ranges) (λ frame. n.filtered known by (frame ∷ scopes) no_group) (λ row. c.truth bags (r.filter columns (ranges ∷ shapes) by) (row ∷ rows) no_group)
+        (λ frame row is. filter_law by (within ranges frame row is shapes scopes rows f no_group no_group tt) e4 h.2) xs ys from_is in
         let groups_are : Related (OneIs ranges) (g.groups group (shape known from (shapes_of scopes)) (kept (λ frame. n.filtered known by (frame ∷ scopes) no_group) xs))
-            (c.groups (grouping_places group ranges) (width ranges) (kept (λ row. c.truth bags (r.filter columns (ranges ∷ shapes) by) (row ∷ rows) no_group) ys)) =
-          subst (λ (z : Shape). Related (OneIs ranges) (g.groups group z (kept (λ frame. n.filtered known by (frame ∷ scopes) no_group) xs))
-            (c.groups (grouping_places group ranges) (width ranges) (kept (λ row. c.truth bags (r.filter columns (ranges ∷ shapes) by) (row ∷ rows) no_group) ys)))
-          (sym (ap (shape known from) f.shape ∙ shape_bare known columns from shapes (agree (t.in_tables from) e2)))
-          (groups_related group ranges (kept (λ frame. n.filtered known by (frame ∷ scopes) no_group) xs) (kept (λ row. c.truth bags (r.filter columns (ranges ∷ shapes) by) (row ∷ rows) no_group) ys) kept_is) in
+        (c.groups (grouping_places group ranges) (width ranges) (kept (λ row. c.truth bags (r.filter columns (ranges ∷ shapes) by) (row ∷ rows) no_group) ys)) =
+        subst (λ (z : Shape). Related (OneIs ranges) (g.groups group z (kept (λ frame. n.filtered known by (frame ∷ scopes) no_group) xs))
+        (c.groups (grouping_places group ranges) (width ranges) (kept (λ row. c.truth bags (r.filter columns (ranges ∷ shapes) by) (row ∷ rows) no_group) ys)))
+        (sym (ap (shape known from) f.shape ∙ shape_bare known columns from shapes (agree (t.in_tables from) e2)))
+        (groups_related group ranges (kept (λ frame. n.filtered known by (frame ∷ scopes) no_group) xs) (kept (λ row. c.truth bags (r.filter columns (ranges ∷ shapes) by) (row ∷ rows) no_group) ys) kept_is) in
         let grouped : Related (Same m) (selected (λ one. n.filtered known having (one.key ∷ scopes) one.group) (λ one. n.list_cells known list one.key scopes one.group)
-            (g.groups group (shape known from (shapes_of scopes)) (kept (λ frame. n.filtered known by (frame ∷ scopes) no_group) xs)))
-            (selected (λ one. c.truth bags (r.filter columns (ranges ∷ shapes) having) (one.key ∷ rows) one.group) (λ one. c.cells bags (r.list columns (ranges ∷ shapes) list) (one.key ∷ rows) one.group)
-            (c.groups (grouping_places group ranges) (width ranges) (kept (λ row. c.truth bags (r.filter columns (ranges ∷ shapes) by) (row ∷ rows) no_group) ys))) =
-          related_selected (OneIs ranges) (Same m)
-          (λ one. n.filtered known having (one.key ∷ scopes) one.group) (λ one. c.truth bags (r.filter columns (ranges ∷ shapes) having) (one.key ∷ rows) one.group)
-          (λ one. n.list_cells known list one.key scopes one.group) (λ one. c.cells bags (r.list columns (ranges ∷ shapes) list) (one.key ∷ rows) one.group)
-          (λ one other is. filter_law having (within ranges one.key other.key is.key shapes scopes rows f one.group other.group is.group) e5 h.3)
-          (λ one other is. (list_law list ranges one.key other.key is.key shapes scopes rows f one.group other.group is.group e0 h.1, list_width known list ranges one.key other.key is.key shapes scopes rows f one.group))
-          (g.groups group (shape known from (shapes_of scopes)) (kept (λ frame. n.filtered known by (frame ∷ scopes) no_group) xs))
-          (c.groups (grouping_places group ranges) (width ranges) (kept (λ row. c.truth bags (r.filter columns (ranges ∷ shapes) by) (row ∷ rows) no_group) ys))
-          groups_are in
+        (g.groups group (shape known from (shapes_of scopes)) (kept (λ frame. n.filtered known by (frame ∷ scopes) no_group) xs)))
+        (selected (λ one. c.truth bags (r.filter columns (ranges ∷ shapes) having) (one.key ∷ rows) one.group) (λ one. c.cells bags (r.list columns (ranges ∷ shapes) list) (one.key ∷ rows) one.group)
+        (c.groups (grouping_places group ranges) (width ranges) (kept (λ row. c.truth bags (r.filter columns (ranges ∷ shapes) by) (row ∷ rows) no_group) ys))) =
+        related_selected (OneIs ranges) (Same m)
+        (λ one. n.filtered known having (one.key ∷ scopes) one.group) (λ one. c.truth bags (r.filter columns (ranges ∷ shapes) having) (one.key ∷ rows) one.group)
+        (λ one. n.list_cells known list one.key scopes one.group) (λ one. c.cells bags (r.list columns (ranges ∷ shapes) list) (one.key ∷ rows) one.group)
+        (λ one other is. filter_law having (within ranges one.key other.key is.key shapes scopes rows f one.group other.group is.group) e5 h.3)
+        (λ one other is. (list_law list ranges one.key other.key is.key shapes scopes rows f one.group other.group is.group e0 h.1, list_width known list ranges one.key other.key is.key shapes scopes rows f one.group))
+        (g.groups group (shape known from (shapes_of scopes)) (kept (λ frame. n.filtered known by (frame ∷ scopes) no_group) xs))
+        (c.groups (grouping_places group ranges) (width ranges) (kept (λ row. c.truth bags (r.filter columns (ranges ∷ shapes) by) (row ∷ rows) no_group) ys))
+        groups_are in
         by_case (is_grouped list group having) (is_distinct each) m _ _ _ _ rows (distinct_related m (is_distinct each) _ _ grouped) (distinct_related m (is_distinct each) _ _ plain)
 
   pub rows_law : (q : s.Query) (shapes : List Shape) (scopes : Scopes) (rows : List (List Cell)) → Fits shapes scopes rows → Each P (t.in_query q) → EvenQuery columns shapes q

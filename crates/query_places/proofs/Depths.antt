@@ -111,7 +111,7 @@ module _ (catalog : Declared) where
           let called : w.name ≡ name = same_text w.name name (sym (found_passes (λ (v : s.ViewDecl). same_name v.name name) catalog.views w e)) in
           and_passed (contains (t.in_query view.query) w.name) (nests_over (readers_of catalog.views) depth (reader_of w))
           (found_any (λ (x : Reader). contains (t.in_query view.query) x.name && nests_over (readers_of catalog.views) depth x) reader_of (λ (v : s.ViewDecl). same_name v.name name) catalog.views w e
-            (sym (any_filter (λ (x : Reader). contains (t.in_query view.query) x.name) (nests_over (readers_of catalog.views) depth) (readers_of catalog.views)) ∙ none))
+          (sym (any_filter (λ (x : Reader). contains (t.in_query view.query) x.name) (nests_over (readers_of catalog.views) depth) (readers_of catalog.views)) ∙ none))
           (ap (contains (t.in_query view.query)) called ∙ there)
 
   -- ---- columns
@@ -140,7 +140,7 @@ module _ (catalog : Declared) where
       at below (Some view) k =
           ap (λ (cs : List (Option (List ℕ))). Some (renamed view.columns cs))
           (names_bare (bare (columns_at catalog e)) (columns_at catalog d) view.query []
-            (each_more (ShallowName d) (Agrees (bare (columns_at catalog e)) (columns_at catalog d)) (λ other s. sym (below other s) ∙ bare_names (columns_at catalog e other)) (t.in_query view.query) (nested d view k)))
+          (each_more (ShallowName d) (Agrees (bare (columns_at catalog e)) (columns_at catalog d)) (λ other s. sym (below other s) ∙ bare_names (columns_at catalog e other)) (t.in_query view.query) (nested d view k)))
 
   module _ (tables : List Table) where
     of_table : (o : Option TableDecl) (bag : Option (List (Row (List Cell)))) → table_columns o ≡ names_of (relation_with o bag)

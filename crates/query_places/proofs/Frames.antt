@@ -75,12 +75,14 @@ in_all x ranges = record { shape = shaped ranges; cells = celled ranges; wide = 
     shaped : (r : Shape) → shape_of (filled x r) ≡ r
     shaped [] = refl
     shaped (range ∷ r) = ap (λ (s : Shape). range ∷ s) (shaped r)
+
     celled : (r : Shape) → frame_cells (filled x r) ≡ replicate (width r) x
     celled [] = refl
     celled (range ∷ r) =
         ap (λ (xs : List Cell). map (λ _. x) range.1 ++ xs) (celled r)
         ∙ map_replicate x range.1 (width r)
         ∙ ap (λ (n : ℕ). replicate n x) (sym (length-append range.1 (names_in r)))
+
     wide : (r : Shape) → IsWideFrame (filled x r)
     wide [] = tt
     wide (range ∷ r) = (length-map range.1 (λ _. x), wide r)
@@ -148,9 +150,6 @@ masked_less ms ns same i j e (x ∷ xs) =
     (ap (λ (k : ℕ). list_any (nat_eq k) ms) e ∙ same i)
     (masked_less ms ns same (i + 1) (j + 1) (omega arith) xs)
 
-
-
-
 keyed_masked : (by : List Column) (cols : Columns) (xs : List Cell) → length xs ≡ length cols → keyed by cols xs ≡ c.masked_from 0 (flat_map (λ d. places_meant d cols) by) xs
 keyed_masked by [] [] h = refl
 keyed_masked by [] (x ∷ xs) h = absurd (omega arith)
@@ -160,10 +159,10 @@ keyed_masked by (t ∷ cols) (x ∷ xs) h =
     (sym (any_flat (nat_eq 0) (λ d. places_meant d (t ∷ cols)) by ∙ any_same (λ d. list_any (nat_eq 0) (places_meant d (t ∷ cols))) (λ d. means d t) (λ d. first_meant d t cols) by))
     (keyed_masked by cols xs (omega arith)
     ∙ sym (masked_less (flat_map (λ d. places_meant d (t ∷ cols)) by) (flat_map (λ d. places_meant d cols) by)
-      (λ i. any_flat (nat_eq (suc i)) (λ d. places_meant d (t ∷ cols)) by
-        ∙ any_same (λ d. list_any (nat_eq (suc i)) (places_meant d (t ∷ cols))) (λ d. list_any (nat_eq i) (places_meant d cols)) (λ d. later_meant i d t cols) by
-        ∙ sym (any_flat (nat_eq i) (λ d. places_meant d cols) by))
-      0 (0 + 1) (omega arith) xs))
+    (λ i. any_flat (nat_eq (suc i)) (λ d. places_meant d (t ∷ cols)) by
+    ∙ any_same (λ d. list_any (nat_eq (suc i)) (places_meant d (t ∷ cols))) (λ d. list_any (nat_eq i) (places_meant d cols)) (λ d. later_meant i d t cols) by
+    ∙ sym (any_flat (nat_eq i) (λ d. places_meant d cols) by))
+    0 (0 + 1) (omega arith) xs))
 
 masked_key : (by : List Column) (ranges : Shape) (xs : List Cell) → c.masked_from 0 (flat_map (λ d. places_meant d (columns_in ranges)) by) xs ≡ c.key (grouping_places by ranges) xs
 masked_key [] ranges xs = refl

@@ -121,10 +121,11 @@ all_wide width columns e (x ∷ xs) [] h = absurd h
 pub ranged_related : (name : List ℕ) (columns : List (Option (List ℕ))) (width : ℕ) → width ≡ length columns → (xs ys : List (Row (List Cell))) → Related (Same width) xs ys
     → Related (FrameIs ((name, columns) ∷ [])) (bind xs (λ cells. unit (record { name = name; columns = columns; cells = cells } ∷ []))) ys
 ranged_related name columns width e [] [] h = tt
-ranged_related name columns width e (x ∷ xs) (y ∷ ys) h =
-    (subst (λ (cells : List Cell). FrameIs ((name, columns) ∷ []) (record { name = name; columns = columns; cells = x.cells } ∷ []) cells) h.0.0 (one_range name columns x.cells (h.0.1 ∙ e)),
-    least-yes x.level ∙ h.1,
-    ranged_related name columns width e xs ys h.2)
+ranged_related name columns width e (x ∷ xs) (y ∷ ys) h = (
+  subst (λ (cells : List Cell). FrameIs ((name, columns) ∷ []) (record { name = name; columns = columns; cells = x.cells } ∷ []) cells) h.0.0 (one_range name columns x.cells (h.0.1 ∙ e)),
+  least-yes x.level ∙ h.1,
+  ranged_related name columns width e xs ys h.2,
+)
 ranged_related name columns width e [] (y ∷ ys) h = absurd h
 ranged_related name columns width e (x ∷ xs) [] h = absurd h
 

@@ -133,8 +133,8 @@ module _ {A B : Type 0} (R S T : List A → List B → Type 0) (beside : (a : Li
   related_left_join p q tests m n nulls xs ys us vs h k =
       related_bind R T (λ a. or_else (partners p us a) (unit (a ++ m))) (λ b. or_else (partners q vs b) (unit (b ++ n)))
       (λ a b r. related_or_else T (partners p us a) (unit (a ++ m)) (partners q vs b) (unit (b ++ n))
-        (related_partners p q tests us vs k a b r)
-        (related_unit T (a ++ m) (b ++ n) (beside a b m n r nulls)))
+      (related_partners p q tests us vs k a b r)
+      (related_unit T (a ++ m) (b ++ n) (beside a b m n r nulls)))
       xs ys h
 
 -- ---- operations that compare tuples
@@ -173,7 +173,7 @@ module _ {A B : Type 0} (R : A → B → Type 0) (same : A → A → Bool) (alik
       (if_there [] (λ d m. cond (nat_eq (multiplicity alike d ys) 0) (unit d) []) y.cells y.level)
       (once same xs) (once alike ys)
       (subst (λ (l : Level). Related R (if_there [] (λ c m. cond (nat_eq (multiplicity same c xs) 0) (unit c) []) x.cells x.level) (if_there [] (λ d m. cond (nat_eq (multiplicity alike d ys) 0) (unit d) []) y.cells l)) h.1
-        (one_there xs ys h.2 x.cells y.cells h.0 x.level))
+      (one_there xs ys h.2 x.cells y.cells h.0 x.level))
       (related_once xs ys h.2)
   related_once [] (y ∷ ys) h = absurd h
   related_once (x ∷ xs) [] h = absurd h
@@ -190,7 +190,7 @@ module _ {A B : Type 0} (R : A → B → Type 0) (same : A → A → Bool) (alik
   counted many xs us ys vs h k =
       related_bind R R (λ c. copies (many (multiplicity same c xs) (multiplicity same c us)) c) (λ d. copies (many (multiplicity alike d ys) (multiplicity alike d vs)) d)
       (λ a b r. related_some R (many (multiplicity same a xs) (multiplicity same a us)) (many (multiplicity alike b ys) (multiplicity alike b vs))
-        (ap₂ many (related_multiplicity a b r xs ys h) (related_multiplicity a b r us vs k)) a b r)
+      (ap₂ many (related_multiplicity a b r xs ys h) (related_multiplicity a b r us vs k)) a b r)
       (once same xs) (once alike ys) (related_once xs ys h)
 
   pub related_intersect_all : (xs us : List (Row A)) (ys vs : List (Row B)) → Related R xs ys → Related R us vs → Related R (intersect_all same xs us) (intersect_all alike ys vs)
@@ -243,7 +243,7 @@ module _ {A B K L U V : Type 0} (R : A → B → Type 0) (S : K → L → Type 0
       (λ k l s. each k l (of_group same key k xs) (of_group alike label l ys) s (related_of_group k l s xs ys h))
       (once same (bind xs (λ c. unit (key c)))) (once alike (bind ys (λ d. unit (label d))))
       (related_once S same alike tests (bind xs (λ c. unit (key c))) (bind ys (λ d. unit (label d)))
-        (related_map R S key label keys xs ys h))
+      (related_map R S key label keys xs ys h))
 
 -- ---- equal tuples
 

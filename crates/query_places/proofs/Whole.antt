@@ -92,12 +92,12 @@ module _ (catalog : Declared) (tables : List Table) (sound : Sound catalog table
   holds (suc depth) low name h =
       subst (λ (o : Option Query). Holds (known (suc depth) name) (trees.viewed (bags depth) tables name o)) (sym (body_found catalog name catalog.views))
       (step depth name (table_named catalog.tables name) (view_named catalog.views name) (λ table e. sound.apart name table e) (sound.loaded name) (sound.wide name)
-        (λ view e. view_holds depth (omega arith) view
-          (found_all (λ (v : s.ViewDecl). EvenQuery columns [] v.query) (λ (v : s.ViewDecl). same_name v.name name) catalog.views view sound.even e)
-          (each_more (ShallowName catalog depth) (IsKnown (known depth) columns (bags depth))
-            (λ other k. let it : Holds (known depth other) (bags depth other) = holds depth (omega arith) other k in record { named = named_here depth (omega arith) other k; held = it.held; wide = it.wide })
-            (t.in_query view.query)
-            (nested catalog depth view (subst (Shallow catalog (suc depth)) e h)))))
+      (λ view e. view_holds depth (omega arith) view
+      (found_all (λ (v : s.ViewDecl). EvenQuery columns [] v.query) (λ (v : s.ViewDecl). same_name v.name name) catalog.views view sound.even e)
+      (each_more (ShallowName catalog depth) (IsKnown (known depth) columns (bags depth))
+      (λ other k. let it : Holds (known depth other) (bags depth other) = holds depth (omega arith) other k in record { named = named_here depth (omega arith) other k; held = it.held; wide = it.wide })
+      (t.in_query view.query)
+      (nested catalog depth view (subst (Shallow catalog (suc depth)) e h)))))
 
   known_whole : (name : List ℕ) → IsKnown (known 16) columns (bags 16) name
   known_whole name =

@@ -4,3 +4,4 @@ pub mod Even
 pub mod Agreed
 pub mod Schema
 pub mod Shapes
+pub mod Forms

@@ -2,6 +2,7 @@
 #![tactic(auto)]
 
 mod chain;
+mod grouping;
 mod laws;
 mod place;
 mod scope;

@@ -1,14 +1,12 @@
 // Where the columns of a FROM stand in its row.
 ghost use Rattle.std.specs.Prelude.{◌≡◌, ◌++◌, List, length, IfOk, OnOk, Some, None};
-ghost use Rattle.sql_meaning.specs.Scopes.{is_named};
+ghost use Rattle.sql_meaning.specs.Scopes.{first_of, is_named};
 ghost use Rattle.query_places.specs.Places as spec;
 ghost use Rattle.query_places.specs.Shapes.{shape, shapes, span};
 
 use crate::scope::{Range, Shapes};
 use qgm_base::{OutOfMemory, Text};
 use sql_ast::Column;
-use sqlite_items::Items;
-use std::alloc::Global;
 
 /// A column: the scope, from the innermost, and the place in its row, both from 0.
 #[derive(Clone, Copy, Debug)]
@@ -55,6 +53,20 @@ fn further(n: usize, place: Option<usize>) -> Result<Option<usize>, OutOfMemory>
     }
 }
 
+// The first place, or else the other one so many further on.
+fn first_or(
+    first: Option<usize>,
+    n: usize,
+    other: Option<usize>,
+) -> Result<Option<usize>, OutOfMemory>
+    ensures { IfOk result (λ found. found ≡ first_of first (spec.further n other)) }
+{
+    match first {
+        Some(place) => Ok(Some(place)),
+        None => further(n, other),
+    }
+}
+
 // The place of the first column of a name among those of these ranges.
 #[tactic(auto, using(crate::proofs::Positions::place_append))]
 fn place_in(name: &Text, ranges: &[Range]) -> Result<Option<usize>, OutOfMemory>
@@ -62,10 +74,14 @@ fn place_in(name: &Text, ranges: &[Range]) -> Result<Option<usize>, OutOfMemory>
 {
     match ranges.split_first() {
         None => Ok(None),
-        Some((range, rest)) => match place_named(name, range.columns.as_slice()) {
-            Some(place) => Ok(Some(place)),
-            None => further(range.columns.len(), place_in(name, rest)?),
-        },
+        Some((range, rest)) => {
+            let columns = range.columns.as_slice();
+            first_or(
+                place_named(name, columns),
+                columns.len(),
+                place_in(name, rest)?,
+            )
+        }
     }
 }
 
