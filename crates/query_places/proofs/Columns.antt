@@ -13,9 +13,9 @@ use Rattle.sql_meaning.specs.Scopes.{Frame, Range, Scopes, Shape, cell_in, cell_
 use Rattle.sql_meaning.specs.Scopes as named
 use Rattle.checked_query.specs.Meaning as c
 use Rattle.query_places.specs.Agreed.{AreWideFrames, IsWideFrame, flat}
-use Rattle.query_places.specs.Places.{Place, Span, at_span, further, here, in_span, names_in, onward, outward, place_named, place_of, place_outward, span_in, span_of, unqualified, width}
+use Rattle.query_places.specs.Places.{Place, Span, at_span, further, here, in_span, names_in, onward, outward, place_in, place_named, place_of, place_outward, span_in, span_of, unqualified, width}
 use Rattle.query_places.specs.Resolved.{column_at, columns_from, columns_of}
-use Rattle.query_places.proofs.Positions.{place_first}
+use Rattle.query_places.proofs.Positions.{in_ranges, place_first}
 
 -- ---- cells side by side
 
@@ -112,8 +112,8 @@ first_cell (Some k) row scopes u v h = let same : 0 + k ≡ k = omega arith in a
 unqualified_found : (name : List ℕ) (scopes : Scopes) → AreWideFrames scopes → or_null (named.unqualified name scopes) ≡ cell_of (unqualified name (shapes_of scopes)) (flat scopes)
 unqualified_found name [] wide = refl
 unqualified_found name (frame ∷ scopes) wide =
-    ap (λ (o : Option Cell). or_null (first_of o (named.unqualified name scopes))) (in_frame name frame wide.0 ∙ named_whole name (names_in (shape_of frame)) (frame_cells frame) (wide_length frame wide.0))
-    ∙ first_cell (place_named name (names_in (shape_of frame))) (frame_cells frame) (flat scopes) (named.unqualified name scopes) (unqualified name (shapes_of scopes)) (unqualified_found name scopes wide.1)
+    ap (λ (o : Option Cell). or_null (first_of o (named.unqualified name scopes))) (in_frame name frame wide.0 ∙ named_whole name (names_in (shape_of frame)) (frame_cells frame) (wide_length frame wide.0) ∙ ap (cell_past (frame_cells frame) 0) (in_ranges name (shape_of frame)))
+    ∙ first_cell (place_in name (shape_of frame)) (frame_cells frame) (flat scopes) (named.unqualified name scopes) (unqualified name (shapes_of scopes)) (unqualified_found name scopes wide.1)
 
 -- ---- ranges
 

@@ -10,3 +10,4 @@ pub mod ByPlaces
 pub mod Depths
 pub mod Whole
 pub mod Pushed
+pub mod Spans

@@ -2,8 +2,8 @@
 use Rattle.std.proofs.Common.{◌≡◌, ℕ, suc, ◌+◌, Bool, true, false, cond, List, [], ◌∷◌, ◌++◌, Option, Some, None, length, position, nat_lt, option_map, refl, ap, sym, ◌∙◌, inl, inr, arith}
 use Rattle.std.specs.List.{position_or_len}
 use Rattle.std.proofs.lemmas.Bool.{cases_Bool, le-ltb, lt-ltb, ltb-false, ltb-true}
-use Rattle.sql_meaning.specs.Scopes.{first_of, is_named}
-use Rattle.query_places.specs.Places.{further, place_named}
+use Rattle.sql_meaning.specs.Scopes.{Shape, first_of, is_named}
+use Rattle.query_places.specs.Places.{further, names_in, place_in, place_named}
 
 position_more : {X : Type 0} (p : X → Bool) (x : X) (xs : List X) → position p (x ∷ xs) ≡ cond (p x) (Some 0) (option_map suc (position p xs))
 position_more p x xs = elim (cases_Bool (p x)) [
@@ -43,3 +43,7 @@ place_append name (c ∷ cs) ds =
       | false ↦ ap (further 1) (place_append name cs ds) ∙ one_later (place_named name cs) (length cs) (place_named name ds)
     ]
     ∙ ap (λ (o : Option ℕ). first_of o (further (suc (length cs)) (place_named name ds))) (sym (place_first name c cs))
+
+pub in_ranges : (name : List ℕ) (ranges : Shape) → place_named name (names_in ranges) ≡ place_in name ranges
+in_ranges name [] = refl
+in_ranges name (range ∷ ranges) = place_append name range.1 (names_in ranges) ∙ ap (λ (o : Option ℕ). first_of (place_named name range.1) (further (length range.1) o)) (in_ranges name ranges)

@@ -37,6 +37,11 @@ further n (Some place) = Some (n + place)
 abbrev pub place_named : List ℕ → List (Option (List ℕ)) → Option ℕ
 place_named name columns = position (is_named name) columns
 
+-- the place of the first column of a name among those of these ranges
+abbrev pub place_in : List ℕ → Shape → Option ℕ
+place_in name [] = None
+place_in name (range ∷ ranges) = first_of (place_named name range.1) (further (length range.1) (place_in name ranges))
+
 -- in this scope, where it is in a row at all
 abbrev pub here : Option ℕ → Option Place
 here None = None
@@ -50,7 +55,7 @@ place_outward (Some p) = Some (record { scope = suc p.scope; place = p.place })
 -- `c`: the first column of the name in the innermost scope that has one
 abbrev pub unqualified : List ℕ → List Shape → Option Place
 unqualified name [] = None
-unqualified name (ranges ∷ shapes) = first_of (here (place_named name (names_in ranges))) (place_outward (unqualified name shapes))
+unqualified name (ranges ∷ shapes) = first_of (here (place_in name ranges)) (place_outward (unqualified name shapes))
 
 -- the same so many places further on
 abbrev pub onward : ℕ → Option Span → Option Span

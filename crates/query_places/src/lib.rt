@@ -4,6 +4,7 @@
 mod chain;
 mod grouping;
 mod laws;
+mod names;
 mod place;
 mod scope;
 

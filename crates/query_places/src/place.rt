@@ -68,9 +68,8 @@ fn first_or(
 }
 
 // The place of the first column of a name among those of these ranges.
-#[tactic(auto, using(crate::proofs::Positions::place_append))]
 fn place_in(name: &Text, ranges: &[Range]) -> Result<Option<usize>, OutOfMemory>
-    ensures { IfOk result (λ found. found ≡ spec.place_named name.now (spec.names_in (shape ranges.now))) }
+    ensures { IfOk result (λ found. found ≡ spec.place_in name.now (shape ranges.now)) }
 {
     match ranges.split_first() {
         None => Ok(None),

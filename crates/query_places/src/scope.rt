@@ -1,6 +1,7 @@
 // The ranges that a part of a query sees.
 use qgm_base::Text;
 use sql_value::OutNames;
+use sqlite_items::Items;
 use std::alloc::Global;
 
 /// A table of a FROM under its range name (SQL-92, 6.3), or a table or view under its own: the
@@ -10,6 +11,9 @@ pub struct Range {
     pub name: Text,
     pub columns: OutNames,
 }
+
+/// The ranges of a FROM, in the order of the text.
+pub(crate) type Ranges = Items<Range>;
 
 /// The ranges of the blocks that enclose a part, the innermost first.
 #[derive(Clone, Copy)]
