@@ -4,7 +4,6 @@
 mod chain;
 mod grouping;
 mod laws;
-mod names;
 mod place;
 mod scope;
 
