@@ -11,3 +11,5 @@ pub mod Depths
 pub mod Whole
 pub mod Pushed
 pub mod Spans
+pub mod Ontos
+pub mod Meant

@@ -5,3 +5,4 @@ pub mod Agreed
 pub mod Schema
 pub mod Shapes
 pub mod Forms
+pub mod Onto

@@ -107,6 +107,11 @@ abbrev pub places_meant : Column → List (List ℕ × Option (List ℕ)) → Li
 places_meant c [] = []
 places_meant c (column ∷ columns) = (if means c column then 0 ∷ [] else []) ++ map suc (places_meant c columns)
 
+-- the same, counted from a first place
+abbrev pub places_from : ℕ → Column → List (List ℕ × Option (List ℕ)) → List ℕ
+places_from i c [] = []
+places_from i c (column ∷ columns) = (if means c column then i ∷ [] else []) ++ places_from (i + 1) c columns
+
 -- the places of grouping columns, for each column of GROUP BY in turn, where GROUP BY is written
 abbrev pub grouping_places : List Column → Shape → Option (List ℕ)
 grouping_places [] ranges = None

@@ -1,5 +1,8 @@
 -- The ranges that the program holds.
 use Rattle.std.specs.Prelude.{ℕ, List, [], ◌∷◌, map, Option, Some, None}
+use Rattle.sql_ast.specs.declared.tree.Block.{Block}
+use Rattle.sql_ast.specs.Shown as shown
+use Rattle.sql_ast.specs.Syntax as s
 use Rattle.sql_meaning.specs.Scopes.{Shape, columns_in}
 use Rattle.query_places.specs.Places as places
 use Rattle.query_places.specs.Resolved.{Columns}
@@ -26,3 +29,7 @@ columns_of setting = columns_among setting.known.now
 abbrev pub span : Option Span → Option places.Span
 span None = None
 span (Some s) = Some (record { scope = s.scope; first = s.first; columns = s.columns.now })
+
+-- the tree of a block
+abbrev pub block_of : Block → s.Query
+block_of b = s.block b.quantifier (shown.select_list b.list) (shown.table_list b.from) (shown.filter b.filter) b.grouping (shown.filter b.having)

@@ -23,8 +23,8 @@ pub(crate) struct Span<'a> {
     pub columns: &'a [Option<Text>],
 }
 
-// A column has this name.
-fn is_named(name: &Text, column: &Option<Text>) -> bool
+/// A column has this name.
+pub(crate) fn is_named(name: &Text, column: &Option<Text>) -> bool
     ensures { result ≡ is_named name.now column.now }
 {
     match column {
