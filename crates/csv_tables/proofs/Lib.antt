@@ -1,3 +1,4 @@
+mod Checks
 mod Fits
 mod Integers
 mod KeySteps

@@ -10,4 +10,5 @@ pub mod Printed
 pub mod TableFile
 pub mod Load
 pub mod Loaded
+pub mod Checked
 pub mod Fits
