@@ -11,4 +11,5 @@ pub mod TableFile
 pub mod Load
 pub mod Loaded
 pub mod Checked
+pub mod Differ
 pub mod Fits

@@ -81,8 +81,8 @@ fn if_counted(primary: bool, cells: KeyCells) -> Option<KeyCells>
     }
 }
 
-// The cells of a key in a record, where they count.
-fn key_cells<R: ReadRecord>(
+/// The cells of a key in a record, where they count.
+pub fn key_cells<R: ReadRecord>(
     alloc: Global,
     key: &KeyDescriptor,
     fields: &R,

@@ -11,6 +11,7 @@ ghost use Rattle.csv_tables.specs.Checked as checked;
 ghost use Rattle.csv_tables.specs.Tables as spec;
 
 use crate::content::{Content, content_of};
+use crate::differ::keys_differ;
 use crate::header::fits_header;
 use crate::records::Records;
 use crate::refusal::TableRefusal;
@@ -259,6 +260,9 @@ fn rows(alloc: Global, table: TableDescriptor, records: &mut Records) -> Result<
     let mut fields = ByteRecord::new(alloc);
     let mut rows = Bag::new(alloc);
     let stopped = take_rows(alloc, &keyless, records, &mut fields, &mut rows)?;
+    if !stopped && keys_differ(alloc, keys.as_slice(), rows.rows())? {
+        return Ok(rows);
+    }
     let mut seen = seen_after(alloc, keys.as_slice(), rows.rows())?;
     if !stopped {
         return Ok(rows);
