@@ -9,8 +9,8 @@ use crate::outcome::Verdict;
 use crate::row::Row;
 use sql_value::{Cell, Kind, Level};
 
-// The greatest one of the errors that there are.
-pub(crate) fn worst_of(a: Option<Kind>, b: Option<Kind>) -> Option<Kind>
+/// The greater one of the errors that there are.
+pub fn worst_of(a: Option<Kind>, b: Option<Kind>) -> Option<Kind>
     ensures { result ≡ worst_of a b }
 {
     match (a, b) {
@@ -30,8 +30,8 @@ fn error_of(cell: &Cell) -> Option<Kind>
     }
 }
 
-// The error that a level is.
-pub(crate) fn error_at(level: Level) -> Option<Kind>
+/// The error that a level is, if it is one.
+pub fn error_at(level: Level) -> Option<Kind>
     ensures { result ≡ errors.error_at level }
 {
     match level {

@@ -16,7 +16,7 @@ mod tables;
 #[cfg(test)]
 mod tests;
 
-pub use answer::verdict;
+pub use answer::{error_at, verdict, worst_of};
 pub use bag::Bag;
 pub use groups::{Group, groups_of, key_error};
 pub use laws::bag_laws;
