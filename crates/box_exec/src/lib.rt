@@ -9,7 +9,5 @@ mod loops;
 mod names;
 mod plan;
 mod steps;
-#[cfg(test)]
-mod tests;
 
 pub use execution::execute;
