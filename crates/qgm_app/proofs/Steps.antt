@@ -1,5 +1,5 @@
 -- How the stages of a run fit together.
-use Rattle.std.proofs.Common.{ℕ, ◌≡◌, ◌∙◌, List, Option, Some, None, Result, Ok, Err, map, sym, ap, ap₂, subst}
+use Rattle.std.proofs.Common.{ℕ, ◌≡◌, ◌∙◌, List, [], Option, Some, None, Result, Ok, Err, map, sym, ap, ap₂, subst}
 use Rattle.csv_tables.specs.Fits.{FitsSchema}
 use Rattle.csv_tables.specs.Load.{tables_of}
 use Rattle.csv_tables.specs.TableFile.{Refusal}
@@ -15,7 +15,7 @@ use Rattle.sql_ast.specs.Syntax as s
 use Rattle.sql_catalog.specs.Catalog.{Declared}
 use Rattle.sql_check.specs.declared.checked.Checked.{Checked}
 use Rattle.sql_check.specs.Resolved.{rows_at}
-use Rattle.sql_meaning.specs.Meaning.{answer_of, order_key}
+use Rattle.sql_meaning.specs.Meaning.{Known, answer, answer_of, order_key}
 use Rattle.sql_value.specs.declared.cell.Cell.{Cell}
 use Rattle.sql_value.specs.declared.order_key.OrderKey.{OrderKey}
 use Rattle.qgm_app.specs.Outcome.{from_tables, outcome, report_of, reported, with_catalog, with_line, with_query, with_task}
@@ -25,6 +25,7 @@ use Rattle.qgm_words.specs.Reading.{line}
 use Rattle.qgm_app.specs.declared.report.Report.{Report}
 use Rattle.qgm_app.specs.declared.report.Report.TheVariants.{Usage, SchemaRefused, DataRefused, QueryRefused}
 use Rattle.qgm_app.specs.declared.texts.TextRefusal.TheVariants.{Number}
+use Rattle.qgm_app.proofs.Views.{tables-alone}
 use Rattle.qgm_app.proofs.Wide.{wide-tables}
 
 -- a call that was interrupted interrupts what follows
@@ -34,20 +35,21 @@ comes-interrupted t u o f (ReadFault name) h = comes-bind-faulted t u o f _ h
 comes-interrupted t u o f Memory h = comes-bind-starved t u o f h
 
 -- the report of a checked query over tables of its catalog is that of the query
-answered-same : (query : s.QueryText) (catalog : Declared) (checked : Checked) (tables : List Table) → IsChecked catalog checked query → FitsSchema catalog.tables tables
+answered-same : (query : s.QueryText) (catalog : Declared) (checked : Checked) (tables : List Table) → catalog.views ≡ [] → IsChecked catalog checked query → FitsSchema catalog.tables tables
     → reported query catalog (Ok tables) ≡ report_of (answer_of checked.names checked.order (verdict (rows_at checked tables)))
-answered-same query catalog checked tables is fits =
-    ap₂ (λ (w : List (Option (List ℕ)) × List OrderKey) (rows : List (Row (List Cell))). report_of (answer_of w.0 w.1 (verdict rows)))
+answered-same query catalog checked tables none is fits =
+    ap (λ (known : Known). report_of (answer known query)) (tables-alone catalog tables none)
+    ∙ ap₂ (λ (w : List (Option (List ℕ)) × List OrderKey) (rows : List (Row (List Cell))). report_of (answer_of w.0 w.1 (verdict rows)))
     (sym (ap₂ (λ (names : List (Option (List ℕ))) (keys : List OrderKey). (names, keys)) (is.names_are tables)
     (is.order_is ∙ ap (λ (names : List (Option (List ℕ))). map (order_key names) query.order) (is.names_are tables))))
     (sym (is.rows_are tables (wide-tables catalog.tables tables checked.table fits)))
 
 -- the tables were read, and the query that was checked is answered
-pub tables-read : (t u : Option Told) (dir : List ℕ) (catalog : Declared) (checked : Checked) (query : s.QueryText) (tables : List Table) → IsChecked catalog checked query → FitsSchema catalog.tables tables
+pub tables-read : (t u : Option Told) (dir : List ℕ) (catalog : Declared) (checked : Checked) (query : s.QueryText) (tables : List Table) → catalog.views ≡ [] → IsChecked catalog checked query → FitsSchema catalog.tables tables
     → Comes t u (λ fs. tables_of catalog.tables dir fs) (answered (Ok tables))
     → Comes t u (λ fs. from_tables dir catalog query fs) (answered (report_of (answer_of checked.names checked.order (verdict (rows_at checked tables)))))
-tables-read t u dir catalog checked query tables is fits h =
-    subst (λ (report : Report). Comes t u (λ fs. from_tables dir catalog query fs) (answered report)) (answered-same query catalog checked tables is fits)
+tables-read t u dir catalog checked query tables none is fits h =
+    subst (λ (report : Report). Comes t u (λ fs. from_tables dir catalog query fs) (answered report)) (answered-same query catalog checked tables none is fits)
     (comes-mapped t u (λ fs. tables_of catalog.tables dir fs) (reported query catalog) (Ok tables) h)
 
 -- a table is refused

@@ -17,7 +17,7 @@ use Rattle.sql_catalog.specs.Names.{same_name}
 use Rattle.sql_catalog.specs.declared.descriptor.ColumnDescriptor.{ColumnDescriptor}
 use Rattle.sql_catalog.specs.declared.key.Key.{Key}
 use Rattle.sql_check.specs.Resolved.{IsWide}
-use Rattle.sql_meaning.specs.Meaning.{relation_with}
+use Rattle.sql_meaning.specs.Meaning.{all_named, relation_with}
 use Rattle.sql_value.specs.declared.cell.Cell.{Cell}
 
 -- cells that fit columns are as many
@@ -28,13 +28,15 @@ zip-length (t ∷ columns) [] h = absurd h
 zip-length (t ∷ columns) (c ∷ cells) h = ap suc (zip-length columns cells h.1)
 
 -- a table is described by as many columns as it has names
-as-many : (keys : List Key) (columns : List ColumnDecl) → length (map (describe_column keys) columns) ≡ length (names_of columns)
-as-many keys columns = length-map columns (describe_column keys) ∙ sym (length-map columns (λ (c : ColumnDecl). c.name))
+as-many : (keys : List Key) (columns : List ColumnDecl) → length (map (describe_column keys) columns) ≡ length (all_named (names_of columns))
+as-many keys columns =
+    length-map columns (describe_column keys) ∙ sym (length-map columns (λ (c : ColumnDecl). c.name))
+    ∙ sym (length-map (names_of columns) (λ (name : List ℕ). Some name))
 
 -- a table that fits its declaration
 wide-table : (d : TableDecl) (rows : List (Row (List Cell))) → All (FitsRow (describe d.elements)) rows → IsWide (relation_with (Some d) (Some rows))
 wide-table d rows fits =
-    All-weaker (FitsRow (describe d.elements)) (λ (row : Row (List Cell)). length row.cells ≡ length (names_of (columns_of d.elements)))
+    All-weaker (FitsRow (describe d.elements)) (λ (row : Row (List Cell)). length row.cells ≡ length (all_named (names_of (columns_of d.elements))))
     (λ row is. zip-length (describe d.elements).columns row.cells is.cells ∙ as-many (keys_of d.elements) (columns_of d.elements)) rows fits
 
 -- the table of a name among those that fit

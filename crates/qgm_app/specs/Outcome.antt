@@ -9,7 +9,7 @@ use Rattle.io_edge.specs.Outside.{File}
 use Rattle.row_bag.specs.declared.tables.Table.{Table}
 use Rattle.sql_ast.specs.Syntax as s
 use Rattle.sql_catalog.specs.Catalog.{Declared}
-use Rattle.sql_meaning.specs.Meaning.{Answer, answer, answer_error, answer_rows, relation_of}
+use Rattle.sql_meaning.specs.Meaning.{Answer, answer, answer_error, answer_rows, known_of}
 use Rattle.qgm_words.specs.Line.{LineText, TaskText, explain, gen, run}
 use Rattle.qgm_words.specs.Reading.{line}
 use Rattle.qgm_app.specs.Texts.{catalog_of, valid_query}
@@ -23,7 +23,7 @@ report_of (answer_error kind) = Error kind
 
 -- the report, once the tables are read or refused
 abbrev pub reported : s.QueryText → Declared → Result (List Table) Refusal → Report
-reported query catalog (Ok tables) = report_of (answer (relation_of catalog tables) query)
+reported query catalog (Ok tables) = report_of (answer (known_of catalog tables) query)
 reported query catalog (Err why) = DataRefused why.number why.table why.row
 
 -- the tables' files are read, and then the query is answered

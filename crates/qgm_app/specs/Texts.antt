@@ -77,7 +77,7 @@ Gives seen (Err Memory) what = ⊤
 
 -- a query with its names resolved has the query's names and order, and, over tables whose rows have a cell for each column, its rows
 pub record IsChecked (catalog : Declared) (checked : Checked) (query : s.QueryText) : Type 0 where
-  pub names_are : (tables : List Table) → checked.names ≡ names (relation_of catalog tables) query.query
+  pub names_are : (tables : List Table) → checked.names ≡ names (relation_of catalog tables) query.query []
   pub order_is : checked.order ≡ map (order_key checked.names) query.order
   pub rows_are : (tables : List Table) → IsWide (relation_of catalog tables checked.table) → rows_at checked tables ≡ rows (relation_of catalog tables) query.query []
 

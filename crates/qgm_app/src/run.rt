@@ -40,7 +40,7 @@ pub fn run_command<F: Files, K: Sink, L: Ledger>(
     words: &[String],
     files: &mut F,
     out: &mut K,
-    _steps: &mut Steps<L>,
+    steps: &mut Steps<L>,
 ) -> u8
     // The whole, over files that tell of themselves: what was read, and what was written of the report.
     ensures runs { Runs (F.told files.old) (F.told files.new) (outcome (map (λ w. string_bytes w) words.now)) (K.written out.old) (K.written out.new) result }
@@ -75,7 +75,7 @@ pub fn run_command<F: Files, K: Sink, L: Ledger>(
     ensures out_later { K.faults out.old ≤ K.faults out.new }
     ensures status { result ≤ 8 }
 {
-    let Ok(said) = respond(alloc, words, files) else {
+    let Ok(said) = respond(alloc, words, files, steps) else {
         return NO_MEMORY;
     };
     match write_all(out, said.text.as_slice()) {

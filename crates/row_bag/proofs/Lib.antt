@@ -2,11 +2,14 @@ pub mod Agreement
 pub mod Answered
 pub mod BagLaws
 pub mod Binds
+pub mod Copies
 pub mod Counts
 pub mod Folds
 pub mod GreatestLevels
+pub mod Grouping
 pub mod Inserted
 pub mod Levels
+pub mod Matching
 pub mod Order
 pub mod Runs
 pub mod SetLaws

@@ -18,6 +18,10 @@ keep level rows = map (λ r. row r.cells (least level r.level)) rows
 abbrev pub unit : {T : Type 0} → T → List (Row T)
 unit cells = row cells Yes ∷ []
 
+-- tuples as rows at yes
+abbrev pub at_yes : {T : Type 0} → List T → List (Row T)
+at_yes tuples = map (λ c. row c Yes) tuples
+
 -- for each row the rows that f gives of its tuple, each at the lower one of both levels
 abbrev pub bind : {A B : Type 0} → List (Row A) → (A → List (Row B)) → List (Row B)
 bind rows f = flat_map (λ r. keep r.level (f r.cells)) rows

@@ -1,6 +1,8 @@
 pub mod Bags
 pub mod Errors
+pub mod Groups
 pub mod Laws
+pub mod Matched
 pub mod Order
 pub mod Sets
 pub mod Sorted

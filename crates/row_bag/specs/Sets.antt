@@ -5,6 +5,7 @@ use Rattle.std.specs.Ordering.{is_eq}
 use Rattle.sql_value.specs.Cells.{cell_compare}
 use Rattle.sql_value.specs.Level.{greatest, level_of}
 use Rattle.sql_value.specs.declared.cell.Cell.{Cell}
+use Rattle.sql_value.specs.declared.cell.Cell.TheVariants.{Err}
 use Rattle.sql_value.specs.declared.cell.Kind.{Kind}
 use Rattle.sql_value.specs.declared.level.Level.{Level}
 use Rattle.sql_value.specs.declared.level.Level.TheVariants.{No, Yes}
@@ -73,6 +74,10 @@ error_or_bag tuple None rows = rows
 -- an operation's rows, or one row of the greatest error among the rows that it reads
 abbrev pub collapsed : {T U : Type 0} → (T → Option Kind) → (Kind → U) → List (Row T) → List (Row U) → List (Row U)
 collapsed held tuple rows result = error_or_bag tuple (error_among held rows) result
+
+-- a tuple that is an error in so many columns
+abbrev pub failed_cells : ℕ → Kind → List Cell
+failed_cells columns k = replicate columns (Err k)
 
 -- the same tuples at the same greatest levels
 pub record SameLevels {T : Type 0} (same : T → T → Bool) (xs ys : List (Row T)) : Type 0 where

@@ -10,7 +10,7 @@ use crate::row::Row;
 use sql_value::{Cell, Kind, Level};
 
 // The greatest one of the errors that there are.
-fn worst_of(a: Option<Kind>, b: Option<Kind>) -> Option<Kind>
+pub(crate) fn worst_of(a: Option<Kind>, b: Option<Kind>) -> Option<Kind>
     ensures { result ≡ worst_of a b }
 {
     match (a, b) {
@@ -31,7 +31,7 @@ fn error_of(cell: &Cell) -> Option<Kind>
 }
 
 // The error that a level is.
-fn error_at(level: Level) -> Option<Kind>
+pub(crate) fn error_at(level: Level) -> Option<Kind>
     ensures { result ≡ errors.error_at level }
 {
     match level {
@@ -43,7 +43,7 @@ fn error_at(level: Level) -> Option<Kind>
 }
 
 // The greatest error among cells.
-fn error_in(cells: &[Cell]) -> Option<Kind>
+pub(crate) fn error_in(cells: &[Cell]) -> Option<Kind>
     ensures { result ≡ errors.error_in cells.now }
 {
     let mut found = None;
@@ -54,7 +54,7 @@ fn error_in(cells: &[Cell]) -> Option<Kind>
 }
 
 // A row is there.
-fn is_there(row: &Row) -> bool
+pub(crate) fn is_there(row: &Row) -> bool
     ensures { result ≡ spec.is_there row.now }
 {
     match row.level {
@@ -75,7 +75,7 @@ fn error_of_row(row: &Row) -> Option<Kind>
 }
 
 // The greatest error among the levels and the cells of the rows that are there.
-fn error_among(rows: &[Row]) -> Option<Kind>
+pub(crate) fn error_among(rows: &[Row]) -> Option<Kind>
     ensures { result ≡ errors.error_among errors.error_in rows.now }
 {
     let mut found = None;

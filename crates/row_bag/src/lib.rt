@@ -3,9 +3,13 @@
 
 mod answer;
 mod bag;
+mod groups;
 mod laws;
+mod matched;
 mod outcome;
 mod row;
+#[cfg(test)]
+mod set_tests;
 mod sets;
 mod sort;
 mod tables;
@@ -14,9 +18,10 @@ mod tests;
 
 pub use answer::verdict;
 pub use bag::Bag;
+pub use groups::{Group, groups_of, key_error};
 pub use laws::bag_laws;
 pub use outcome::Verdict;
 pub use row::{Row, order_by, row_order};
-pub use sets::{distinct, union};
+pub use sets::{distinct, except, failed_row, intersect, union};
 pub use sort::sorted;
 pub use tables::{Table, Tables};

@@ -20,7 +20,7 @@ pub struct Row<T = Items<Cell>> {
 
 // The order of two lists of cells: that of their first cells that differ, from the left, and else
 // that of their numbers of cells.
-fn cells_order(left: &[Cell], right: &[Cell]) -> Ordering
+pub(crate) fn cells_order(left: &[Cell], right: &[Cell]) -> Ordering
     ensures { result ≡ slice_cmp cell_compare left.now right.now }
 {
     for i in 0..left.len().min(right.len()) {

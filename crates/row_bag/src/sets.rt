@@ -1,12 +1,18 @@
 // Operations that go by how often a tuple occurs.
-ghost use Rattle.std.specs.Prelude.{◌≡◌, ◌++◌, IfOk, if◌then◌else◌};
-ghost use Rattle.row_bag.specs.Bags.{Agree};
+ghost use Rattle.std.specs.Prelude.{◌≡◌, ◌++◌, ◌∷◌, [], IfOk, if◌then◌else◌};
+ghost use Rattle.row_bag.specs.Bags.{Agree, row};
+ghost use Rattle.row_bag.specs.Errors as errors;
 ghost use Rattle.row_bag.specs.Sets as spec;
+ghost use Rattle.sql_value.specs.Level.{level_of};
 
-use crate::answer::those_there;
+use crate::answer::{error_among, those_there, worst_of};
 use crate::bag::Bag;
-use crate::row::{row_order, same_cells};
+use crate::matched::matching;
+use crate::row::{Row, row_order, same_cells};
 use qgm_base::OutOfMemory;
+use sql_value::{Cell, Kind, Level};
+use sqlite_items::Items;
+use std::alloc::Global;
 
 /// DISTINCT: each tuple once, at its greatest level. Tuples are equal where their cells are the
 /// same data, nulls and errors of one kind too (SQL-92 3.1, "distinct"). It fails only for want of
@@ -37,4 +43,79 @@ pub fn union(a: Bag, b: Bag, all: bool) -> Result<Bag, OutOfMemory>
 {
     let rows = appended(a, b)?;
     if all { Ok(rows) } else { distinct(rows) }
+}
+
+// The greatest error among the levels and the cells of the rows of both bags.
+fn error_of_both(a: &Bag, b: &Bag) -> Option<Kind>
+    ensures { result ≡ errors.error_among errors.error_in (a.now ++ b.now) }
+{
+    worst_of(error_among(a.rows()), error_among(b.rows()))
+}
+
+// The level of an error.
+fn level_of(kind: Kind) -> Level
+    ensures { result ≡ level_of kind }
+{
+    match kind {
+        Kind::Cardinality => Level::Cardinality,
+        Kind::Division => Level::Division,
+        Kind::Overflow => Level::Overflow,
+    }
+}
+
+// A tuple that is an error in so many columns.
+fn failed_cells(alloc: Global, columns: usize, kind: Kind) -> Result<Items<Cell>, OutOfMemory>
+    ensures { IfOk result (λ cells. cells ≡ spec.failed_cells columns kind) }
+{
+    let mut cells = Items::new(alloc);
+    for _ in 0..columns {
+        cells.push(Cell::Err(kind))?;
+    }
+    Ok(cells)
+}
+
+/// One row at the level of an error, which is that error in so many columns. It fails only for want
+/// of memory.
+pub fn failed_row(alloc: Global, columns: usize, kind: Kind) -> Result<Bag, OutOfMemory>
+    ensures { IfOk result (λ rows. rows ≡ row (spec.failed_cells columns kind) (level_of kind) ∷ []) }
+{
+    let cells = failed_cells(alloc, columns, kind)?;
+    let mut rows = Bag::new(alloc);
+    rows.push(Row {
+        cells,
+        level: level_of(kind),
+    })?;
+    Ok(rows)
+}
+
+/// INTERSECT: each tuple that occurs in both bags, once; with `all` INTERSECT ALL, as often as in
+/// the bag that has it less often (SQL-92 7.10). Where a row of either is at an error level or has
+/// an error cell, it is one row at the level of the greatest such error, which is that error in so
+/// many columns. It fails only for want of memory.
+pub fn intersect(
+    alloc: Global,
+    a: Bag,
+    b: Bag,
+    all: bool,
+    columns: usize,
+) -> Result<Bag, OutOfMemory>
+    ensures { IfOk result (λ rows. Agree spec.same_cells rows (spec.collapsed errors.error_in (spec.failed_cells columns) (a ++ b) (if all then spec.intersect_all spec.same_cells a b else spec.intersect spec.same_cells a b))) }
+{
+    match error_of_both(&a, &b) {
+        Some(kind) => failed_row(alloc, columns, kind),
+        None => matching(alloc, a, b, all, true),
+    }
+}
+
+/// EXCEPT: each tuple of the first bag that doesn't occur in the second, once; with `all` EXCEPT
+/// ALL, as often as it occurs more often in the first (SQL-92 7.10). Where a row of either is at an
+/// error level or has an error cell, it is one row, as in [`intersect`]. It fails only for want of
+/// memory.
+pub fn except(alloc: Global, a: Bag, b: Bag, all: bool, columns: usize) -> Result<Bag, OutOfMemory>
+    ensures { IfOk result (λ rows. Agree spec.same_cells rows (spec.collapsed errors.error_in (spec.failed_cells columns) (a ++ b) (if all then spec.except_all spec.same_cells a b else spec.except spec.same_cells a b))) }
+{
+    match error_of_both(&a, &b) {
+        Some(kind) => failed_row(alloc, columns, kind),
+        None => matching(alloc, a, b, all, false),
+    }
 }

@@ -9,14 +9,14 @@ use std::test::Fail;
 
 // A cell that a table writes: a number, a text, null or an error.
 #[derive(Clone, Copy)]
-enum Sample {
+pub(crate) enum Sample {
     I(i64),
     S(&'static str),
     N,
     E(Kind),
 }
 
-type Rows = &'static [(&'static [Sample], Level)];
+pub(crate) type Rows = &'static [(&'static [Sample], Level)];
 
 // A column's place, and whether it descends.
 type Keys = &'static [(usize, bool)];
@@ -140,7 +140,7 @@ const VERDICTS: &[(Rows, Option<Kind>, Rows)] = &[
     ),
 ];
 
-fn cell(alloc: Global, sample: Sample) -> Result<Cell, OutOfMemory> {
+pub(crate) fn cell(alloc: Global, sample: Sample) -> Result<Cell, OutOfMemory> {
     Ok(match sample {
         I(number) => Cell::Int(number),
         S(text) => Cell::Text(Text::from_utf8(alloc, text)?),
@@ -149,7 +149,7 @@ fn cell(alloc: Global, sample: Sample) -> Result<Cell, OutOfMemory> {
     })
 }
 
-fn bag(alloc: Global, rows: Rows) -> Result<Bag, OutOfMemory> {
+pub(crate) fn bag(alloc: Global, rows: Rows) -> Result<Bag, OutOfMemory> {
     let mut made = Bag::new(alloc);
     for (samples, level) in rows {
         let mut cells = Items::new(alloc);
@@ -164,7 +164,7 @@ fn bag(alloc: Global, rows: Rows) -> Result<Bag, OutOfMemory> {
     Ok(made)
 }
 
-fn equal(a: &Bag, b: &Bag) -> bool {
+pub(crate) fn equal(a: &Bag, b: &Bag) -> bool {
     let rows = b.rows();
     a.rows().len() == rows.len()
         && a.rows()

@@ -1,5 +1,5 @@
 -- The rows by places are the rows by names.
-use Rattle.std.proofs.Common.{◌≡◌, ◌∙◌, ℕ, zero, suc, append-nil, List, [], ◌∷◌, ◌++◌, length, map, Option, Some, None, refl, ap, ap₂, sym, subst, arith}
+use Rattle.std.proofs.Common.{◌≡◌, ◌∙◌, ℕ, true, zero, suc, append-nil, List, [], ◌∷◌, ◌++◌, length, map, Option, Some, None, refl, ap, ap₂, sym, subst, arith}
 use mathlib.Core.Path.{fun_ext}
 use Rattle.std.specs.List.{All}
 use Rattle.std.proofs.lemmas.List.{length-map}
@@ -18,8 +18,7 @@ use Rattle.sql_ast.specs.Syntax as s
 use Rattle.sql_catalog.specs.Catalog.{Declared, table_named}
 use Rattle.sql_catalog.specs.Keys.{columns_of as declared_columns}
 use Rattle.sql_catalog.specs.Keys as keys
-use Rattle.sql_meaning.specs.Meaning.{Relation, filtered, list_cells, list_names, names, range_name, ranged, relation_of, relation_with, rows, rows_or_none, shape}
-use Rattle.sql_meaning.specs.Scopes.{Frame, Scopes}
+use Rattle.sql_meaning.specs.Meaning.{Frame, Known, Relation, Scopes, all_named, columns_of, filtered, list_cells, list_names, names, no_group, range_name, ranged, relation, relation_of, relation_with, rows, rows_or_none}
 use Rattle.sql_value.specs.declared.cell.Cell.{Cell}
 use Rattle.sql_value.specs.declared.truth.Truth.{Truth}
 use Rattle.sql_check.specs.Agreed.{cells_of}
@@ -28,18 +27,20 @@ use Rattle.sql_check.specs.Core as core
 use Rattle.sql_check.specs.CoreShown as shown
 use Rattle.sql_check.specs.Resolved.{IsWide, rows_at}
 use Rattle.sql_check.specs.Scope.{frame_of, names_of, scopes_of, shape_of}
+use Rattle.sql_check.specs.Taken.{is_taken, takes_query}
 use Rattle.sql_check.specs.Valid.{fault, lesser, range_with, table_fault, typed, typed_columns, typed_table}
 use Rattle.sql_check.specs.declared.checked.Checked.{Checked}
 use Rattle.sql_check.specs.declared.scope.TypedColumn.{TypedColumn}
 use Rattle.sql_check.specs.declared.scope.TypedRange.{TypedRange}
+use Rattle.sql_check.proofs.Plain.{IsPlain, plain, under_nothing}
 
 -- a column's name stays with its type
-pub typed_names : (columns : List ColumnDecl) → names_of (map typed columns) ≡ keys.names_of columns
+pub typed_names : (columns : List ColumnDecl) → names_of (map typed columns) ≡ all_named (keys.names_of columns)
 typed_names [] = refl
-typed_names (c ∷ columns) = ap (λ (names : List (List ℕ)). c.name ∷ names) (typed_names columns)
+typed_names (c ∷ columns) = ap (λ (names : List (Option (List ℕ))). Some c.name ∷ names) (typed_names columns)
 
-typed_length : (columns : List ColumnDecl) → length (keys.names_of columns) ≡ length (map typed columns)
-typed_length columns = ap (λ (names : List (List ℕ)). length names) (sym (typed_names columns)) ∙ length-map (map typed columns) (λ (c : TypedColumn). c.name)
+typed_length : (columns : List ColumnDecl) → length (all_named (keys.names_of columns)) ≡ length (map typed columns)
+typed_length columns = ap (λ (names : List (Option (List ℕ))). length names) (sym (typed_names columns)) ∙ length-map (map typed columns) (λ (c : TypedColumn). Some c.name)
 
 -- the frames of one table
 one-table : (name : List ℕ) (table : Relation) (f : Frame → List (Row (List Cell)))
@@ -72,14 +73,14 @@ declared-rows : (table : TableDecl) (bag : Option (List (Row (List Cell)))) (nam
     ≡ bind (bind (ranged name (relation_with (Some table) bag)) (λ (frame : Frame). bind (unit []) (λ (others : Frame). unit (frame ++ others)))) (λ (frame : Frame). keep (by (frame ∷ [])).t (unit (cells_in frame)))
 declared-rows table bag name test list by cells_in truth cells wide =
     let columns = declared_columns table.elements in
-    bind-same (λ (row : List Cell). length row ≡ length (keys.names_of columns))
+    bind-same (λ (row : List Cell). length row ≡ length (all_named (keys.names_of columns)))
     (λ (row : List Cell). keep (test row).t (unit (list row)))
     (λ (row : List Cell). keep (by (scopes_of (range_of name table) row)).t (unit (cells_in (frame_of (range_of name table) row))))
     (λ row h. ap₂ (λ (p : Truth) (xs : List Cell). keep p.t (unit xs)) (truth row) (cells row (h ∙ typed_length columns)))
     (rows_or_none bag) wide
-    ∙ ap (λ (names : List (List ℕ)). bind (rows_or_none bag) (λ (row : List Cell). keep (by ((record { name = name; columns = names; cells = row } ∷ []) ∷ [])).t (unit (cells_in (record { name = name; columns = names; cells = row } ∷ [])))))
+    ∙ ap (λ (names : List (Option (List ℕ))). bind (rows_or_none bag) (λ (row : List Cell). keep (by ((record { name = name; columns = names; cells = row } ∷ []) ∷ [])).t (unit (cells_in (record { name = name; columns = names; cells = row } ∷ [])))))
     (typed_names columns)
-    ∙ sym (one-table name (record { columns = keys.names_of columns; rows = rows_or_none bag }) (λ (frame : Frame). keep (by (frame ∷ [])).t (unit (cells_in frame))))
+    ∙ sym (one-table name (relation (all_named (keys.names_of columns)) (rows_or_none bag)) (λ (frame : Frame). keep (by (frame ∷ [])).t (unit (cells_in frame))))
 
 -- the table of a query whose table's name is known
 named-rows : (declared : Option TableDecl) (bag : Option (List (Row (List Cell)))) (name : List ℕ) (test : List Cell → Truth) (list : List Cell → List Cell) (by : Scopes → Truth) (cells_in : Frame → List Cell)
@@ -107,20 +108,30 @@ module _ (catalog : Declared) (text : s.QueryText) (each : Option SetQuantifier)
   pub whole_fault : fault catalog text ≡ only_fault catalog name (only_range catalog name alias) list by text.order
   whole_fault = rw (is, lesser-none (table_fault (typed_table catalog name))) refl
 
-  pub whole_names : (tables : List Table) → names (relation_of catalog tables) text.query ≡ list_names list (shape_of (only_range catalog name alias))
-  whole_names tables = rw is (same (table_named catalog.tables name))
-    where
-      same : (declared : Option TableDecl) → list_names list (shape (λ (n : List ℕ). relation_with declared (bag_named tables n)) (only_from name alias)) ≡ list_names list (shape_of (range_with (range_name name alias) (typed_columns declared)))
-      same None = refl
-      same (Some table) = ap (λ (columns : List (List ℕ)). list_names list ((range_name name alias, columns) ∷ [])) (sym (typed_names (declared_columns table.elements)))
+  -- which is taken
+  module _ (taken : is_taken text ≡ true) where
+    -- its parts
+    whole-plain : IsPlain each list alias group having
+    whole-plain = plain each list name alias by group having (ap takes_query (sym is) ∙ taken)
 
-  pub whole_rows : (checked : Checked) → fault catalog text ≡ 0 → checked.table ≡ name
-      → ((cells : List Cell) → core.truth (shown.test checked.test) cells ≡ filtered by (scopes_of (only_range catalog name alias) cells))
-      → ((cells : List Cell) → length cells ≡ length (only_range catalog name alias).columns → cells_of (shown.value_list checked.list) cells ≡ list_cells list (frame_of (only_range catalog name alias) cells) [])
-      → (tables : List Table) → IsWide (relation_of catalog tables checked.table) → rows_at checked tables ≡ rows (relation_of catalog tables) text.query []
-  whole_rows checked valid table truth cells tables wide =
-      rw (is, table) (named-rows (table_named catalog.tables name) (bag_named tables name) (range_name name alias)
-      (λ (row : List Cell). core.truth (shown.test checked.test) row) (λ (row : List Cell). cells_of (shown.value_list checked.list) row)
-      (filtered by) (λ (frame : Frame). list_cells list frame [])
-      (lesser-zero _ _ (lesser-zero _ _ (sym whole_fault ∙ valid))) truth cells
-      (subst (λ (n : List ℕ). IsWide (relation_of catalog tables n)) table wide))
+    pub whole_names : (tables : List Table) → names (relation_of catalog tables) text.query [] ≡ list_names list (shape_of (only_range catalog name alias)) []
+    whole_names tables = rw (is, whole-plain.own, under_nothing (relation_of catalog tables name)) (same (table_named catalog.tables name))
+      where
+        same : (declared : Option TableDecl)
+            → list_names list ((range_name name alias, columns_of (relation_with declared (bag_named tables name))) ∷ []) [] ≡ list_names list (shape_of (range_with (range_name name alias) (typed_columns declared))) []
+        same None = refl
+        same (Some table) = ap (λ (columns : List (Option (List ℕ))). list_names list ((range_name name alias, columns) ∷ []) []) (sym (typed_names (declared_columns table.elements)))
+
+    pub whole_rows : (checked : Checked) → fault catalog text ≡ 0 → checked.table ≡ name
+        → ((known : Known) (cells : List Cell) → core.truth (shown.test checked.test) cells ≡ filtered known by (scopes_of (only_range catalog name alias) cells) no_group)
+        → ((known : Known) (cells : List Cell) → length cells ≡ length (only_range catalog name alias).columns
+        → cells_of (shown.value_list checked.list) cells ≡ list_cells known list (frame_of (only_range catalog name alias) cells) [] no_group)
+        → (tables : List Table) → IsWide (relation_of catalog tables checked.table) → rows_at checked tables ≡ rows (relation_of catalog tables) text.query []
+    whole_rows checked valid table truth cells tables wide =
+        let known : Known = relation_of catalog tables in
+        rw (is, table, whole-plain.all, whole-plain.single, whole-plain.own, under_nothing (relation_of catalog tables name))
+        (named-rows (table_named catalog.tables name) (bag_named tables name) (range_name name alias)
+        (λ (row : List Cell). core.truth (shown.test checked.test) row) (λ (row : List Cell). cells_of (shown.value_list checked.list) row)
+        (λ (scopes : Scopes). filtered known by scopes no_group) (λ (frame : Frame). list_cells known list frame [] no_group)
+        (lesser-zero _ _ (lesser-zero _ _ (sym whole_fault ∙ valid))) (truth known) (cells known)
+        (subst (λ (n : List ℕ). IsWide (relation_of catalog tables n)) table wide))

@@ -4,8 +4,8 @@ use Rattle.qgm_base.specs.declared.compare.CmpOp.TheVariants.{Eq}
 use Rattle.sql_ast.specs.declared.word.AdditiveOp.{AdditiveOp}
 use Rattle.sql_ast.specs.declared.word.AdditiveOp.TheVariants.{Plus, Minus, Concat}
 use Rattle.sql_ast.specs.Syntax as s
-use Rattle.sql_meaning.specs.Scopes.{Scopes}
-use Rattle.sql_meaning.specs.Values as named
+use Rattle.sql_meaning.specs.Meaning as named
+use Rattle.sql_meaning.specs.Meaning.{Known, Scopes, no_group}
 use Rattle.sql_value.specs.Comparison as c
 use Rattle.sql_value.specs.Truths as t
 use Rattle.sql_value.specs.declared.cell.Cell.{Cell}
@@ -37,17 +37,17 @@ pub coalesced_cells : (x : Cell) (vs : core.Values) (cells : List Cell) → core
 coalesced_cells x core.no_value cells = refl
 coalesced_cells x (core.one_value v vs) cells = ap (named.case_of (t.negated (c.is_null x)) x) (coalesced_cells (core.value v cells) vs cells)
 
-pub coalesced_meant : (x : Cell) (xs : s.Exprs) (scopes : Scopes) → first_not_null x (cells_meant xs scopes) ≡ named.coalesced x xs scopes
-coalesced_meant x s.no_expr scopes = refl
-coalesced_meant x (s.one_expr y xs) scopes = ap (named.case_of (t.negated (c.is_null x)) x) (coalesced_meant (named.value y scopes) xs scopes)
+pub coalesced_meant : (known : Known) (x : Cell) (xs : s.Exprs) (scopes : Scopes) → first_not_null x (cells_meant known xs scopes) ≡ named.coalesced known x xs scopes no_group
+coalesced_meant known x s.no_expr scopes = refl
+coalesced_meant known x (s.one_expr y xs) scopes = ap (named.case_of (t.negated (c.is_null x)) x) (coalesced_meant known (named.value known y scopes no_group) xs scopes)
 
 pub equals_cells : (x : Cell) (vs : core.Values) (cells : List Cell) → core.equals_one x vs cells ≡ equals_some x (cells_of vs cells)
 equals_cells x core.no_value cells = refl
 equals_cells x (core.one_value v vs) cells = ap (t.or (c.compare Eq x (core.value v cells))) (equals_cells x vs cells)
 
-pub equals_meant : (x : Cell) (xs : s.Exprs) (scopes : Scopes) → equals_some x (cells_meant xs scopes) ≡ named.equals_one x xs scopes
-equals_meant x s.no_expr scopes = refl
-equals_meant x (s.one_expr y xs) scopes = ap (t.or (c.compare Eq x (named.value y scopes))) (equals_meant x xs scopes)
+pub equals_meant : (known : Known) (x : Cell) (xs : s.Exprs) (scopes : Scopes) → equals_some x (cells_meant known xs scopes) ≡ named.equals_one known x xs scopes no_group
+equals_meant known x s.no_expr scopes = refl
+equals_meant known x (s.one_expr y xs) scopes = ap (t.or (c.compare Eq x (named.value known y scopes no_group))) (equals_meant known x xs scopes)
 
 pub sum_type : (x : s.Expr) (op : AdditiveOp) (y : s.Expr) (scopes : TypedScopes) → Some (operand_type op) ≡ type_of (s.add x op y) scopes
 sum_type x Plus y scopes = refl

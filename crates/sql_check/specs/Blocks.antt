@@ -1,5 +1,5 @@
 -- Blocks over one table, as the code has them.
-use Rattle.std.specs.Prelude.{ℕ, List, Option}
+use Rattle.std.specs.Prelude.{ℕ, List, [], Option}
 use Rattle.sql_ast.specs.declared.name.Correlation.{Correlation}
 use Rattle.sql_ast.specs.declared.text.Sort.{Sort}
 use Rattle.sql_ast.specs.declared.tree.Block.{Block}
@@ -26,4 +26,4 @@ only_range catalog name alias = range_with (range_name name alias) (typed_table 
 abbrev pub only_fault : Declared → List ℕ → TypedRange → s.SelectList → s.Filter → List Sort → ℕ
 only_fault catalog name range list by order =
     lesser (lesser (table_fault (typed_table catalog name)) (lesser (list_fault list (alone range)) (filter_fault by (alone range))))
-    (lesser (width_fault (list_names list (shape_of range))) (order_fault (list_names list (shape_of range)) order))
+    (lesser (width_fault (list_names list (shape_of range) [])) (order_fault (list_names list (shape_of range) []) order))

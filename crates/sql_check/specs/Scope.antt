@@ -13,8 +13,8 @@ abbrev pub alone : TypedRange → TypedScopes
 alone range = (range ∷ []) ∷ []
 
 -- the names of columns
-abbrev pub names_of : List TypedColumn → List (List ℕ)
-names_of columns = map (λ c. c.name) columns
+abbrev pub names_of : List TypedColumn → List (Option (List ℕ))
+names_of columns = map (λ c. Some c.name) columns
 
 -- with the cells of a row of the table
 abbrev pub frame_of : TypedRange → List Cell → Frame

@@ -222,12 +222,12 @@ module _ (known : List ℕ → Option (List TypedColumn)) where
 -- ---- texts
 
 -- a range's name and the names of its columns
-abbrev pub untyped : TypedRange → List ℕ × List (List ℕ)
-untyped r = (r.name, map (λ c. c.name) r.columns)
+abbrev pub untyped : TypedRange → List ℕ × List (Option (List ℕ))
+untyped r = (r.name, map (λ c. Some c.name) r.columns)
 
 -- the names of a query's columns
 abbrev pub output_names : (List ℕ → Option (List TypedColumn)) → s.Query → List (Option (List ℕ))
-output_names known (s.block each list from by group having) = list_names list (map untyped (ranges known from))
+output_names known (s.block each list from by group having) = list_names list (map untyped (ranges known from)) []
 output_names known _ = []
 
 -- the columns that a table declares, with their types

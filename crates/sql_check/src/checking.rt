@@ -4,6 +4,7 @@ ghost use Rattle.row_bag.specs.declared.tables.Table.{Table};
 ghost use Rattle.sql_ast.specs.Shown as written;
 ghost use Rattle.sql_catalog.specs.Shown as declared;
 ghost use Rattle.sql_meaning.specs.Meaning as named;
+ghost use Rattle.sql_meaning.specs.Meaning.{Known, no_group};
 ghost use Rattle.sql_value.specs.declared.cell.Cell.{Cell};
 ghost use Rattle.sql_check.specs.Agreed.{cells_of};
 ghost use Rattle.sql_check.specs.Blocks.{only_fault, only_range};
@@ -40,7 +41,8 @@ const MAX_COLUMNS: usize = 1024;
 // The condition of a WHERE: true where there is none.
 #[tactic(auto, using(crate::specs::CoreShown::lists))]
 fn test_of(alloc: Global, filter: &Filter, range: &TypedRange) -> Result<Decided, OutOfMemory>
-    ensures truth { IfOk result (λ found. (cells : List Cell) → core.truth (shown.test found.test) cells ≡ named.filtered (written.filter filter.now) (scopes_of range.now cells)) }
+    requires taken { taken.takes_filter (written.filter filter.now) ≡ true }
+    ensures truth { IfOk result (λ found. (known : Known) → (cells : List Cell) → core.truth (shown.test found.test) cells ≡ named.filtered known (written.filter filter.now) (scopes_of range.now cells) no_group) }
     ensures fault { IfOk result (λ found. number found.fault ≡ spec.filter_fault (written.filter filter.now) (alone range.now)) }
 {
     match filter {
@@ -116,10 +118,12 @@ fn resolved(
     order: &[Sort],
     catalog: &Catalog,
 ) -> Result<Resolution, OutOfMemory>
+    requires list { taken.takes_list (written.select_list block.now.list) ≡ true }
+    requires filter { taken.takes_filter (written.filter block.now.filter) ≡ true }
     ensures table { IfOk result (λ x. x.checked.table ≡ name.now) }
-    ensures truth { IfOk result (λ x. (cells : List Cell) → core.truth (shown.test x.checked.test) cells ≡ named.filtered (written.filter block.now.filter) (scopes_of (only_range (declared.catalog catalog.now) name.now alias.now) cells)) }
-    ensures list { IfOk result (λ x. (cells : List Cell) → length cells ≡ length (only_range (declared.catalog catalog.now) name.now alias.now).columns → cells_of (shown.value_list x.checked.list) cells ≡ named.list_cells (written.select_list block.now.list) (frame_of (only_range (declared.catalog catalog.now) name.now alias.now) cells) []) }
-    ensures names { IfOk result (λ x. x.checked.names ≡ named.list_names (written.select_list block.now.list) (shape_of (only_range (declared.catalog catalog.now) name.now alias.now))) }
+    ensures truth { IfOk result (λ x. (known : Known) → (cells : List Cell) → core.truth (shown.test x.checked.test) cells ≡ named.filtered known (written.filter block.now.filter) (scopes_of (only_range (declared.catalog catalog.now) name.now alias.now) cells) no_group) }
+    ensures list { IfOk result (λ x. (known : Known) → (cells : List Cell) → length cells ≡ length (only_range (declared.catalog catalog.now) name.now alias.now).columns → cells_of (shown.value_list x.checked.list) cells ≡ named.list_cells known (written.select_list block.now.list) (frame_of (only_range (declared.catalog catalog.now) name.now alias.now) cells) [] no_group) }
+    ensures names { IfOk result (λ x. x.checked.names ≡ named.list_names (written.select_list block.now.list) (shape_of (only_range (declared.catalog catalog.now) name.now alias.now)) []) }
     ensures order { IfOk result (λ x. x.checked.order ≡ map (named.order_key x.checked.names) order.now) }
     ensures fault { IfOk result (λ x. number x.fault ≡ only_fault (declared.catalog catalog.now) name.now (only_range (declared.catalog catalog.now) name.now alias.now) (written.select_list block.now.list) (written.filter block.now.filter) order.now) }
 {
@@ -155,7 +159,7 @@ pub fn check(alloc: Global, text: &QueryText, catalog: &Catalog) -> Result<Check
     ensures grouping { IsErrOf result QueryRefusal.Grouping → least_fault catalog.now text.now ≡ 12 }
     ensures aggregate_place { IsErrOf result QueryRefusal.AggregatePlace → least_fault catalog.now text.now ≡ 13 }
     ensures order_column { IsErrOf result QueryRefusal.OrderColumn → least_fault catalog.now text.now ≡ 14 }
-    ensures names { IfOk result (λ checked. (tables : List Table) → checked.names ≡ named.names (relation catalog.now tables) (written.query text.now.query)) }
+    ensures names { IfOk result (λ checked. (tables : List Table) → checked.names ≡ named.names (relation catalog.now tables) (written.query text.now.query) []) }
     ensures order { IfOk result (λ checked. checked.order ≡ map (named.order_key checked.names) text.now.order) }
     ensures rows { IfOk result (λ checked. (tables : List Table) → IsWide (relation catalog.now tables checked.table) → rows_at checked tables ≡ named.rows (relation catalog.now tables) (written.query text.now.query) []) }
 {

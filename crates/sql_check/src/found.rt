@@ -225,16 +225,6 @@ pub(crate) fn perhaps_not(alloc: Global, negative: bool, test: Test) -> Result<T
     }
 }
 
-// A condition that is unknown.
-pub(crate) fn unknown(alloc: Global) -> Result<Decided, OutOfMemory>
-    ensures truth { IfOk result (λ x. (cells : List Cell) → core.truth (shown.test x.test) cells ≡ truths.unknown) }
-    ensures fault { IfOk result (λ x. number x.fault ≡ 0) }
-{
-    let left = Box::new(alloc, Value::Null)?;
-    let test = Test::Compare(left, CmpOp::Eq, Box::new(alloc, Value::Null)?);
-    Ok(Decided { test, fault: None })
-}
-
 // `a op b`.
 pub(crate) fn compare(alloc: Global, a: Found, op: CmpOp, b: Found) -> Result<Decided, OutOfMemory>
     ensures truth { IfOk result (λ x. (cells : List Cell) → core.truth (shown.test x.test) cells ≡ comparison.compare op (core.value (shown.value a.value) cells) (core.value (shown.value b.value) cells)) }

@@ -1,13 +1,14 @@
 // The list of a SELECT: its columns with their names.
-ghost use Rattle.std.specs.Prelude.{◌≡◌, ◌++◌, ◌∷◌, [], List, length, IfOk, OnOk};
+ghost use Rattle.std.specs.Prelude.{◌≡◌, ◌++◌, ◌∷◌, [], true, List, length, IfOk, OnOk};
 ghost use Rattle.sql_ast.specs.Shown as written;
 ghost use Rattle.sql_meaning.specs.Meaning as named;
-ghost use Rattle.sql_meaning.specs.Values as values;
+ghost use Rattle.sql_meaning.specs.Meaning.{Known, no_group};
 ghost use Rattle.sql_value.specs.declared.cell.Cell.{Cell};
 ghost use Rattle.sql_check.specs.Agreed.{cells_of};
 ghost use Rattle.sql_check.specs.CoreShown as shown;
 ghost use Rattle.sql_check.specs.Faults.{number};
 ghost use Rattle.sql_check.specs.Scope.{alone, frame_of, names_of, scopes_of, shape_of};
+ghost use Rattle.sql_check.specs.Taken as taken;
 ghost use Rattle.sql_check.specs.Valid as spec;
 
 use crate::checked::Value;
@@ -46,7 +47,7 @@ fn push_names(
     names: &mut OutNames,
     columns: &[TypedColumn],
 ) -> Result<(), OutOfMemory>
-    ensures { OnOk result (names.new ≡ names.old ++ named.all_named (names_of columns.now)) }
+    ensures { OnOk result (names.new ≡ names.old ++ names_of columns.now) }
 {
     for column in columns {
         names.push(Some(column.name.copy(alloc)?))?;
@@ -57,7 +58,7 @@ fn push_names(
 // Adds all columns of a range at the end.
 fn push_all(alloc: Global, found: &mut FoundColumns, range: &TypedRange) -> Result<(), OutOfMemory>
     ensures values { OnOk result ((cells : List Cell) → length cells ≡ length range.now.columns → cells_of (shown.value_list found.new.values) cells ≡ cells_of (shown.value_list found.old.values) cells ++ cells) }
-    ensures names { OnOk result (found.new.names ≡ found.old.names ++ named.all_named (names_of range.now.columns)) }
+    ensures names { OnOk result (found.new.names ≡ found.old.names ++ names_of range.now.columns) }
     ensures fault { OnOk result (found.new.fault ≡ found.old.fault) }
 {
     push_places(&mut found.values, range.columns.len())?;
@@ -106,7 +107,8 @@ fn push_expr(
     alias: &Option<Alias>,
     range: &TypedRange,
 ) -> Result<(), OutOfMemory>
-    ensures values { OnOk result ((cells : List Cell) → cells_of (shown.value_list found.new.values) cells ≡ cells_of (shown.value_list found.old.values) cells ++ values.value (written.expr x.now) (scopes_of range.now cells) ∷ []) }
+    requires taken { taken.takes_expr (written.expr x.now) ≡ true }
+    ensures values { OnOk result ((known : Known) → (cells : List Cell) → cells_of (shown.value_list found.new.values) cells ≡ cells_of (shown.value_list found.old.values) cells ++ named.value known (written.expr x.now) (scopes_of range.now cells) no_group ∷ []) }
     ensures names { OnOk result (found.new.names ≡ found.old.names ++ named.item_name (written.expr x.now) alias.now ∷ []) }
     ensures fault { OnOk result (number found.new.fault ≡ spec.lesser (number found.old.fault) (spec.expr_fault (written.expr x.now) (alone range.now))) }
 {
@@ -125,8 +127,9 @@ fn push_item(
     item: &Item,
     range: &TypedRange,
 ) -> Result<(), OutOfMemory>
-    ensures values { OnOk result ((cells : List Cell) → length cells ≡ length range.now.columns → cells_of (shown.value_list found.new.values) cells ≡ cells_of (shown.value_list found.old.values) cells ++ named.item_cells (written.item item.now) (scopes_of range.now cells)) }
-    ensures names { OnOk result (found.new.names ≡ found.old.names ++ named.item_names (written.item item.now) (shape_of range.now)) }
+    requires taken { taken.takes_item (written.item item.now) ≡ true }
+    ensures values { OnOk result ((known : Known) → (cells : List Cell) → length cells ≡ length range.now.columns → cells_of (shown.value_list found.new.values) cells ≡ cells_of (shown.value_list found.old.values) cells ++ named.item_cells known (written.item item.now) (scopes_of range.now cells) no_group) }
+    ensures names { OnOk result (found.new.names ≡ found.old.names ++ named.item_names (written.item item.now) (shape_of range.now ∷ [])) }
     ensures fault { OnOk result (number found.new.fault ≡ spec.lesser (number found.old.fault) (spec.item_fault (written.item item.now) (alone range.now))) }
 {
     match item {
@@ -150,8 +153,9 @@ fn push_items(
     items: &[Item],
     range: &TypedRange,
 ) -> Result<(), OutOfMemory>
-    ensures values { OnOk result ((cells : List Cell) → length cells ≡ length range.now.columns → cells_of (shown.value_list found.new.values) cells ≡ cells_of (shown.value_list found.old.values) cells ++ named.items_cells (written.item_list items.now) (scopes_of range.now cells)) }
-    ensures names { OnOk result (found.new.names ≡ found.old.names ++ named.items_names (written.item_list items.now) (shape_of range.now)) }
+    requires taken { taken.takes_items (written.item_list items.now) ≡ true }
+    ensures values { OnOk result ((known : Known) → (cells : List Cell) → length cells ≡ length range.now.columns → cells_of (shown.value_list found.new.values) cells ≡ cells_of (shown.value_list found.old.values) cells ++ named.items_cells known (written.item_list items.now) (scopes_of range.now cells) no_group) }
+    ensures names { OnOk result (found.new.names ≡ found.old.names ++ named.items_names (written.item_list items.now) (shape_of range.now ∷ [])) }
     ensures fault { OnOk result (number found.new.fault ≡ spec.lesser (number found.old.fault) (spec.items_fault (written.item_list items.now) (alone range.now))) }
 {
     for item in items {
@@ -168,8 +172,9 @@ fn push_list(
     list: &SelectList,
     range: &TypedRange,
 ) -> Result<(), OutOfMemory>
-    ensures values { OnOk result ((cells : List Cell) → length cells ≡ length range.now.columns → cells_of (shown.value_list found.new.values) cells ≡ cells_of (shown.value_list found.old.values) cells ++ named.list_cells (written.select_list list.now) (frame_of range.now cells) []) }
-    ensures names { OnOk result (found.new.names ≡ found.old.names ++ named.list_names (written.select_list list.now) (shape_of range.now)) }
+    requires taken { taken.takes_list (written.select_list list.now) ≡ true }
+    ensures values { OnOk result ((known : Known) → (cells : List Cell) → length cells ≡ length range.now.columns → cells_of (shown.value_list found.new.values) cells ≡ cells_of (shown.value_list found.old.values) cells ++ named.list_cells known (written.select_list list.now) (frame_of range.now cells) [] no_group) }
+    ensures names { OnOk result (found.new.names ≡ found.old.names ++ named.list_names (written.select_list list.now) (shape_of range.now) []) }
     ensures fault { OnOk result (number found.new.fault ≡ spec.lesser (number found.old.fault) (spec.list_fault (written.select_list list.now) (alone range.now))) }
 {
     match list {
@@ -184,8 +189,9 @@ pub(crate) fn columns(
     list: &SelectList,
     range: &TypedRange,
 ) -> Result<FoundColumns, OutOfMemory>
-    ensures values { IfOk result (λ found. (cells : List Cell) → length cells ≡ length range.now.columns → cells_of (shown.value_list found.values) cells ≡ named.list_cells (written.select_list list.now) (frame_of range.now cells) []) }
-    ensures names { IfOk result (λ found. found.names ≡ named.list_names (written.select_list list.now) (shape_of range.now)) }
+    requires taken { taken.takes_list (written.select_list list.now) ≡ true }
+    ensures values { IfOk result (λ found. (known : Known) → (cells : List Cell) → length cells ≡ length range.now.columns → cells_of (shown.value_list found.values) cells ≡ named.list_cells known (written.select_list list.now) (frame_of range.now cells) [] no_group) }
+    ensures names { IfOk result (λ found. found.names ≡ named.list_names (written.select_list list.now) (shape_of range.now) []) }
     ensures fault { IfOk result (λ found. number found.fault ≡ spec.list_fault (written.select_list list.now) (alone range.now)) }
 {
     let mut found = FoundColumns {

@@ -1,9 +1,11 @@
-// Expressions and conditions with their names resolved, in one pass for value, type and fault.
+// Expressions and conditions without subqueries and aggregates, with their names resolved, in one
+// pass for value, type and fault.
 ghost use Rattle.std.specs.Prelude.{◌≡◌, ◌++◌, ◌∷◌, false, true, List, IfOk, OnOk};
 ghost use Rattle.std.specs.List.{list_any};
 ghost use Rattle.qgm_base.specs.declared.compare.CmpOp.TheVariants.{Eq};
 ghost use Rattle.sql_ast.specs.Shown as written;
-ghost use Rattle.sql_meaning.specs.Values as named;
+ghost use Rattle.sql_meaning.specs.Meaning as named;
+ghost use Rattle.sql_meaning.specs.Meaning.{Known, no_group};
 ghost use Rattle.sql_value.specs.Comparison as comparison;
 ghost use Rattle.sql_value.specs.declared.cell.Cell.{Cell};
 ghost use Rattle.sql_check.specs.Agreed.{SameTruth, SameValue, cells_meant, cells_of};
@@ -12,6 +14,7 @@ ghost use Rattle.sql_check.specs.CoreShown as shown;
 ghost use Rattle.sql_check.specs.Faults.{number};
 ghost use Rattle.sql_check.specs.Forms.{is_conjunction, is_disjunction, is_product, is_sum};
 ghost use Rattle.sql_check.specs.Scope.{alone, scopes_of};
+ghost use Rattle.sql_check.specs.Taken as taken;
 ghost use Rattle.sql_check.specs.Types as types;
 ghost use Rattle.sql_check.specs.Valid as spec;
 
@@ -19,7 +22,7 @@ use crate::checked::Value;
 use crate::faults::{length_fault, type_of_declared};
 use crate::found::{
     Decided, Found, add, and, between, column, compare, is_null, like, multiply, not, null_if,
-    null_value, number_value, or, signed, text_value, unknown,
+    null_value, number_value, or, signed, text_value,
 };
 use crate::parts::{
     FoundArms, FoundChoices, FoundList, Outcome, Sorts, among, coalesce, push_arm, push_choice,
@@ -36,6 +39,7 @@ use std::alloc::Global;
 // of thousands of operators takes little of the stack.
 #[cycle(resolve)]
 pub(crate) fn expr(alloc: Global, x: &Expr, range: &TypedRange) -> Result<Found, OutOfMemory>
+    requires taken { taken.takes_expr (written.expr x.now) ≡ true }
     ensures value { IfOk result (λ found. SameValue (shown.value found.value) (written.expr x.now) range.now) }
     ensures sort { IfOk result (λ found. found.sort ≡ types.type_of (written.expr x.now) (alone range.now)) }
     ensures fault { IfOk result (λ found. number found.fault ≡ spec.expr_fault (written.expr x.now) (alone range.now)) }
@@ -63,6 +67,7 @@ pub(crate) fn expr(alloc: Global, x: &Expr, range: &TypedRange) -> Result<Found,
 #[cycle(resolve)]
 #[tactic(auto, using(sql_ast::specs::Shown::lists, crate::proofs::Lists::sum_type))]
 fn sum(alloc: Global, x: &Expr, range: &TypedRange) -> Result<Found, OutOfMemory>
+    requires taken { taken.takes_expr (written.expr x.now) ≡ true }
     requires form { is_sum (written.expr x.now) ≡ true }
     ensures value { IfOk result (λ found. SameValue (shown.value found.value) (written.expr x.now) range.now) }
     ensures sort { IfOk result (λ found. found.sort ≡ types.type_of (written.expr x.now) (alone range.now)) }
@@ -80,6 +85,7 @@ fn sum(alloc: Global, x: &Expr, range: &TypedRange) -> Result<Found, OutOfMemory
 #[cycle(resolve)]
 #[tactic(auto, using(sql_ast::specs::Shown::lists))]
 fn product(alloc: Global, x: &Expr, range: &TypedRange) -> Result<Found, OutOfMemory>
+    requires taken { taken.takes_expr (written.expr x.now) ≡ true }
     requires form { is_product (written.expr x.now) ≡ true }
     ensures value { IfOk result (λ found. SameValue (shown.value found.value) (written.expr x.now) range.now) }
     ensures sort { IfOk result (λ found. found.sort ≡ types.type_of (written.expr x.now) (alone range.now)) }
@@ -97,6 +103,7 @@ fn product(alloc: Global, x: &Expr, range: &TypedRange) -> Result<Found, OutOfMe
 #[cycle(resolve)]
 #[tactic(auto, using(sql_ast::specs::Shown::lists))]
 fn operand(alloc: Global, x: &Expr, range: &TypedRange) -> Result<Found, OutOfMemory>
+    requires taken { taken.takes_expr (written.expr x.now) ≡ true }
     requires no_sum { is_sum (written.expr x.now) ≡ false }
     requires no_product { is_product (written.expr x.now) ≡ false }
     ensures value { IfOk result (λ found. SameValue (shown.value found.value) (written.expr x.now) range.now) }
@@ -109,8 +116,6 @@ fn operand(alloc: Global, x: &Expr, range: &TypedRange) -> Result<Found, OutOfMe
         Expr::Str(value) => text_value(alloc, value),
         Expr::Column(name) => Ok(column(name, range)),
         Expr::Paren(a) => expr(alloc, a, range),
-        Expr::Scalar(_) | Expr::Aggregate(_, _, _) => Ok(null_value(None, None)),
-        Expr::CountAll => Ok(null_value(Some(SqlType::Integer), None)),
         Expr::Searched(list, last) => {
             let mut sorts = Items::new(alloc);
             let list = arms(alloc, list.as_slice(), range, &mut sorts)?;
@@ -128,6 +133,7 @@ fn operand(alloc: Global, x: &Expr, range: &TypedRange) -> Result<Found, OutOfMe
         }
         Expr::NullIf(a, b) => null_if(alloc, expr(alloc, a, range)?, expr(alloc, b, range)?),
         Expr::Add(_, _, _) | Expr::Multiply(_, _, _) => unreachable!(),
+        Expr::Scalar(_) | Expr::CountAll | Expr::Aggregate(_, _, _) => unreachable!(),
         Expr::CastNull(to) => Ok(null_value(Some(type_of_declared(to)), length_fault(to))),
     }
 }
@@ -136,7 +142,8 @@ fn operand(alloc: Global, x: &Expr, range: &TypedRange) -> Result<Found, OutOfMe
 #[cycle(resolve)]
 #[tactic(auto, using(crate::proofs::Orders::fault_steps))]
 fn exprs(alloc: Global, list: &[Expr], range: &TypedRange) -> Result<FoundList, OutOfMemory>
-    ensures values { IfOk result (λ found. (cells : List Cell) → cells_of (shown.value_list found.values) cells ≡ cells_meant (written.expr_list list.now) (scopes_of range.now cells)) }
+    requires taken { taken.takes_exprs (written.expr_list list.now) ≡ true }
+    ensures values { IfOk result (λ found. (known : Known) → (cells : List Cell) → cells_of (shown.value_list found.values) cells ≡ cells_meant known (written.expr_list list.now) (scopes_of range.now cells)) }
     ensures sorts { IfOk result (λ found. found.sorts ≡ types.types_of (written.expr_list list.now) (alone range.now)) }
     ensures fault { IfOk result (λ found. number found.fault ≡ spec.exprs_fault (written.expr_list list.now) (alone range.now)) }
 {
@@ -160,7 +167,8 @@ fn outcome(
     range: &TypedRange,
     sorts: &mut Sorts,
 ) -> Result<Outcome, OutOfMemory>
-    ensures value { IfOk result (λ x. (cells : List Cell) → core.value (shown.value x.value) cells ≡ named.result_of (written.res res.now) (scopes_of range.now cells)) }
+    requires taken { taken.takes_res (written.res res.now) ≡ true }
+    ensures value { IfOk result (λ x. (known : Known) → (cells : List Cell) → core.value (shown.value x.value) cells ≡ named.result_of known (written.res res.now) (scopes_of range.now cells) no_group) }
     ensures sorts { IfOk result (λ x. sorts.new ≡ sorts.old ++ types.res_types (written.res res.now) (alone range.now)) }
     ensures fault { IfOk result (λ x. number x.fault ≡ spec.res_fault (written.res res.now) (alone range.now)) }
 {
@@ -184,7 +192,8 @@ fn otherwise(
     range: &TypedRange,
     sorts: &mut Sorts,
 ) -> Result<Outcome, OutOfMemory>
-    ensures value { IfOk result (λ x. (cells : List Cell) → core.value (shown.value x.value) cells ≡ named.otherwise (written.otherwise other.now) (scopes_of range.now cells)) }
+    requires taken { taken.takes_else (written.otherwise other.now) ≡ true }
+    ensures value { IfOk result (λ x. (known : Known) → (cells : List Cell) → core.value (shown.value x.value) cells ≡ named.otherwise known (written.otherwise other.now) (scopes_of range.now cells) no_group) }
     ensures sorts { IfOk result (λ x. sorts.new ≡ sorts.old ++ types.else_types (written.otherwise other.now) (alone range.now)) }
     ensures fault { IfOk result (λ x. number x.fault ≡ spec.else_fault (written.otherwise other.now) (alone range.now)) }
 {
@@ -206,7 +215,9 @@ fn add_arm(
     range: &TypedRange,
     sorts: &mut Sorts,
 ) -> Result<(), OutOfMemory>
-    ensures arms { OnOk result ((cells : List Cell) → (last : Cell) → core.of_arms (shown.arm_list found.new.arms) last cells ≡ core.of_arms (shown.arm_list found.old.arms) (named.case_of (named.truth (written.cond arm.now.when) (scopes_of range.now cells)) (named.result_of (written.res arm.now.then) (scopes_of range.now cells)) last) cells) }
+    requires when { taken.takes_cond (written.cond arm.now.when) ≡ true }
+    requires then { taken.takes_res (written.res arm.now.then) ≡ true }
+    ensures arms { OnOk result ((known : Known) → (cells : List Cell) → (last : Cell) → core.of_arms (shown.arm_list found.new.arms) last cells ≡ core.of_arms (shown.arm_list found.old.arms) (named.case_of (named.truth known (written.cond arm.now.when) (scopes_of range.now cells) no_group) (named.result_of known (written.res arm.now.then) (scopes_of range.now cells) no_group) last) cells) }
     ensures sorts { OnOk result (sorts.new ≡ sorts.old ++ types.res_types (written.res arm.now.then) (alone range.now)) }
     ensures fault { OnOk result (number found.new.fault ≡ spec.lesser (number found.old.fault) (spec.lesser (spec.cond_fault (written.cond arm.now.when) (alone range.now)) (spec.res_fault (written.res arm.now.then) (alone range.now)))) }
 {
@@ -224,7 +235,8 @@ fn arms(
     range: &TypedRange,
     sorts: &mut Sorts,
 ) -> Result<FoundArms, OutOfMemory>
-    ensures arms { IfOk result (λ found. (cells : List Cell) → (last : Cell) → core.of_arms (shown.arm_list found.arms) last cells ≡ named.of_arms (written.arm_list list.now) last (scopes_of range.now cells)) }
+    requires taken { taken.takes_arms (written.arm_list list.now) ≡ true }
+    ensures arms { IfOk result (λ found. (known : Known) → (cells : List Cell) → (last : Cell) → core.of_arms (shown.arm_list found.arms) last cells ≡ named.of_arms known (written.arm_list list.now) last (scopes_of range.now cells) no_group) }
     ensures sorts { IfOk result (λ found. sorts.new ≡ sorts.old ++ types.arm_types (written.arm_list list.now) (alone range.now)) }
     ensures fault { IfOk result (λ found. number found.fault ≡ spec.arms_fault (written.arm_list list.now) (alone range.now)) }
 {
@@ -249,7 +261,9 @@ fn add_choice(
     range: &TypedRange,
     sorts: &mut Sorts,
 ) -> Result<(), OutOfMemory>
-    ensures choices { OnOk result ((cells : List Cell) → (x : Cell) → (last : Cell) → core.of_choices x (shown.choice_list found.new.choices) last cells ≡ core.of_choices x (shown.choice_list found.old.choices) (named.case_of (comparison.compare Eq x (named.value (written.expr choice.now.when) (scopes_of range.now cells))) (named.result_of (written.res choice.now.then) (scopes_of range.now cells)) last) cells) }
+    requires when { taken.takes_expr (written.expr choice.now.when) ≡ true }
+    requires then { taken.takes_res (written.res choice.now.then) ≡ true }
+    ensures choices { OnOk result ((known : Known) → (cells : List Cell) → (x : Cell) → (last : Cell) → core.of_choices x (shown.choice_list found.new.choices) last cells ≡ core.of_choices x (shown.choice_list found.old.choices) (named.case_of (comparison.compare Eq x (named.value known (written.expr choice.now.when) (scopes_of range.now cells) no_group)) (named.result_of known (written.res choice.now.then) (scopes_of range.now cells) no_group) last) cells) }
     ensures sorts { OnOk result (sorts.new ≡ sorts.old ++ types.res_types (written.res choice.now.then) (alone range.now)) }
     ensures fault { OnOk result (number found.new.fault ≡ spec.lesser (number found.old.fault) (spec.lesser (spec.lesser (spec.expr_fault (written.expr choice.now.when) (alone range.now)) (spec.fault_if (spec.differ operand (types.type_of (written.expr choice.now.when) (alone range.now))) 10)) (spec.res_fault (written.res choice.now.then) (alone range.now)))) }
 {
@@ -269,7 +283,8 @@ fn choices(
     range: &TypedRange,
     sorts: &mut Sorts,
 ) -> Result<FoundChoices, OutOfMemory>
-    ensures choices { IfOk result (λ found. (cells : List Cell) → (x : Cell) → (last : Cell) → core.of_choices x (shown.choice_list found.choices) last cells ≡ named.of_choices x (written.choice_list list.now) last (scopes_of range.now cells)) }
+    requires taken { taken.takes_choices (written.choice_list list.now) ≡ true }
+    ensures choices { IfOk result (λ found. (known : Known) → (cells : List Cell) → (x : Cell) → (last : Cell) → core.of_choices x (shown.choice_list found.choices) last cells ≡ named.of_choices known x (written.choice_list list.now) last (scopes_of range.now cells) no_group) }
     ensures sorts { IfOk result (λ found. sorts.new ≡ sorts.old ++ types.choice_types (written.choice_list list.now) (alone range.now)) }
     ensures fault { IfOk result (λ found. number found.fault ≡ spec.choices_fault operand (written.choice_list list.now) (alone range.now)) }
 {
@@ -292,7 +307,8 @@ fn searched_case(
     range: &TypedRange,
     mut sorts: Sorts,
 ) -> Result<Found, OutOfMemory>
-    ensures value { IfOk result (λ found. (cells : List Cell) → core.value (shown.value found.value) cells ≡ core.of_arms (shown.arm_list list.arms) (named.otherwise (written.otherwise last.now) (scopes_of range.now cells)) cells) }
+    requires taken { taken.takes_else (written.otherwise last.now) ≡ true }
+    ensures value { IfOk result (λ found. (known : Known) → (cells : List Cell) → core.value (shown.value found.value) cells ≡ core.of_arms (shown.arm_list list.arms) (named.otherwise known (written.otherwise last.now) (scopes_of range.now cells) no_group) cells) }
     ensures sort { IfOk result (λ found. found.sort ≡ types.first_known (sorts ++ types.else_types (written.otherwise last.now) (alone range.now))) }
     ensures fault { IfOk result (λ found. number found.fault ≡ spec.lesser (spec.lesser (number list.fault) (spec.else_fault (written.otherwise last.now) (alone range.now))) (spec.results_fault (sorts ++ types.else_types (written.otherwise last.now) (alone range.now)))) }
 {
@@ -310,7 +326,8 @@ fn simple_case(
     range: &TypedRange,
     mut sorts: Sorts,
 ) -> Result<Found, OutOfMemory>
-    ensures value { IfOk result (λ found. (cells : List Cell) → core.value (shown.value found.value) cells ≡ core.of_choices (core.value (shown.value x.value) cells) (shown.choice_list list.choices) (named.otherwise (written.otherwise last.now) (scopes_of range.now cells)) cells) }
+    requires taken { taken.takes_else (written.otherwise last.now) ≡ true }
+    ensures value { IfOk result (λ found. (known : Known) → (cells : List Cell) → core.value (shown.value found.value) cells ≡ core.of_choices (core.value (shown.value x.value) cells) (shown.choice_list list.choices) (named.otherwise known (written.otherwise last.now) (scopes_of range.now cells) no_group) cells) }
     ensures sort { IfOk result (λ found. found.sort ≡ types.first_known (sorts ++ types.else_types (written.otherwise last.now) (alone range.now))) }
     ensures fault { IfOk result (λ found. number found.fault ≡ spec.lesser (spec.lesser (number x.fault) (spec.lesser (number list.fault) (spec.else_fault (written.otherwise last.now) (alone range.now)))) (spec.results_fault (sorts ++ types.else_types (written.otherwise last.now) (alone range.now)))) }
 {
@@ -320,14 +337,14 @@ fn simple_case(
 
 // `COALESCE(x, ..)`.
 #[cycle(resolve)]
-#[tactic(auto, using(crate::proofs::Lists::coalesced_meant))]
 fn coalesced(
     alloc: Global,
     x: Found,
     list: &[Expr],
     range: &TypedRange,
 ) -> Result<Found, OutOfMemory>
-    ensures value { IfOk result (λ found. (cells : List Cell) → core.value (shown.value found.value) cells ≡ named.coalesced (core.value (shown.value x.value) cells) (written.expr_list list.now) (scopes_of range.now cells)) }
+    requires taken { taken.takes_exprs (written.expr_list list.now) ≡ true }
+    ensures value { IfOk result (λ found. (known : Known) → (cells : List Cell) → core.value (shown.value found.value) cells ≡ named.coalesced known (core.value (shown.value x.value) cells) (written.expr_list list.now) (scopes_of range.now cells) no_group) }
     ensures sort { IfOk result (λ found. found.sort ≡ types.first_known (x.sort ∷ types.types_of (written.expr_list list.now) (alone range.now))) }
     ensures fault { IfOk result (λ found. number found.fault ≡ spec.lesser (spec.lesser (number x.fault) (spec.exprs_fault (written.expr_list list.now) (alone range.now))) (spec.fault_if (spec.some_differ (x.sort ∷ types.types_of (written.expr_list list.now) (alone range.now))) 10)) }
 {
@@ -337,7 +354,6 @@ fn coalesced(
 
 // `x IN (..)`, or its NOT.
 #[cycle(resolve)]
-#[tactic(auto, using(crate::proofs::Lists::equals_meant))]
 fn in_list(
     alloc: Global,
     x: Found,
@@ -345,7 +361,8 @@ fn in_list(
     list: &[Expr],
     range: &TypedRange,
 ) -> Result<Decided, OutOfMemory>
-    ensures truth { IfOk result (λ found. (cells : List Cell) → core.truth (shown.test found.test) cells ≡ named.perhaps_not negative (named.equals_one (core.value (shown.value x.value) cells) (written.expr_list list.now) (scopes_of range.now cells))) }
+    requires taken { taken.takes_exprs (written.expr_list list.now) ≡ true }
+    ensures truth { IfOk result (λ found. (known : Known) → (cells : List Cell) → core.truth (shown.test found.test) cells ≡ named.perhaps_not negative (named.equals_one known (core.value (shown.value x.value) cells) (written.expr_list list.now) (scopes_of range.now cells) no_group)) }
     ensures fault { IfOk result (λ found. number found.fault ≡ spec.lesser (spec.lesser (number x.fault) (spec.exprs_fault (written.expr_list list.now) (alone range.now))) (spec.fault_if (list_any (spec.differ x.sort) (types.types_of (written.expr_list list.now) (alone range.now))) 10)) }
 {
     let list = exprs(alloc, list, range)?;
@@ -355,6 +372,7 @@ fn in_list(
 // A condition with its names resolved. Chains stand apart, as above.
 #[cycle(resolve)]
 pub(crate) fn cond(alloc: Global, p: &Cond, range: &TypedRange) -> Result<Decided, OutOfMemory>
+    requires taken { taken.takes_cond (written.cond p.now) ≡ true }
     ensures truth { IfOk result (λ found. SameTruth (shown.test found.test) (written.cond p.now) range.now) }
     ensures fault { IfOk result (λ found. number found.fault ≡ spec.cond_fault (written.cond p.now) (alone range.now)) }
 {
@@ -377,6 +395,7 @@ pub(crate) fn cond(alloc: Global, p: &Cond, range: &TypedRange) -> Result<Decide
 // `a OR b`.
 #[cycle(resolve)]
 fn disjunction(alloc: Global, p: &Cond, range: &TypedRange) -> Result<Decided, OutOfMemory>
+    requires taken { taken.takes_cond (written.cond p.now) ≡ true }
     requires form { is_disjunction (written.cond p.now) ≡ true }
     ensures truth { IfOk result (λ found. SameTruth (shown.test found.test) (written.cond p.now) range.now) }
     ensures fault { IfOk result (λ found. number found.fault ≡ spec.cond_fault (written.cond p.now) (alone range.now)) }
@@ -390,6 +409,7 @@ fn disjunction(alloc: Global, p: &Cond, range: &TypedRange) -> Result<Decided, O
 // `a AND b`.
 #[cycle(resolve)]
 fn conjunction(alloc: Global, p: &Cond, range: &TypedRange) -> Result<Decided, OutOfMemory>
+    requires taken { taken.takes_cond (written.cond p.now) ≡ true }
     requires form { is_conjunction (written.cond p.now) ≡ true }
     ensures truth { IfOk result (λ found. SameTruth (shown.test found.test) (written.cond p.now) range.now) }
     ensures fault { IfOk result (λ found. number found.fault ≡ spec.cond_fault (written.cond p.now) (alone range.now)) }
@@ -400,10 +420,11 @@ fn conjunction(alloc: Global, p: &Cond, range: &TypedRange) -> Result<Decided, O
     and(alloc, a, b)
 }
 
-// A condition that is no chain of OR or AND. Those with a subquery have no meaning here yet.
+// A condition that is no chain of OR or AND.
 #[cycle(resolve)]
 #[tactic(auto, using(sql_ast::specs::Shown::lists))]
 fn conjunct(alloc: Global, p: &Cond, range: &TypedRange) -> Result<Decided, OutOfMemory>
+    requires taken { taken.takes_cond (written.cond p.now) ≡ true }
     requires no_disjunction { is_disjunction (written.cond p.now) ≡ false }
     requires no_conjunction { is_conjunction (written.cond p.now) ≡ false }
     ensures truth { IfOk result (λ found. SameTruth (shown.test found.test) (written.cond p.now) range.now) }
@@ -434,6 +455,6 @@ fn conjunct(alloc: Global, p: &Cond, range: &TypedRange) -> Result<Decided, OutO
         }
         Cond::IsNull(a, negative) => is_null(alloc, expr(alloc, a, range)?, *negative),
         Cond::Or(_, _) | Cond::And(_, _) => unreachable!(),
-        Cond::Quantified(_, _, _, _) | Cond::InQuery(_, _, _) | Cond::Exists(_) => unknown(alloc),
+        Cond::Quantified(_, _, _, _) | Cond::InQuery(_, _, _) | Cond::Exists(_) => unreachable!(),
     }
 }

@@ -1,14 +1,20 @@
 -- What names stand for: ranges, and the scopes in which they are looked up (SQL-92, 6.3 and 6.4).
-use Rattle.std.specs.Prelude.{ℕ, List, [], ◌∷◌, Option, Some, None, find, if◌then◌else◌}
+use Rattle.std.specs.Prelude.{ℕ, Bool, false, List, [], ◌∷◌, map, Option, Some, None, find, if◌then◌else◌}
+use Rattle.std.specs.List.{flat_map}
 use Rattle.sql_ast.specs.declared.name.Column.{Column}
 use Rattle.sql_catalog.specs.Names.{same_name}
 use Rattle.sql_value.specs.declared.cell.Cell.{Cell}
 use Rattle.sql_value.specs.declared.cell.Cell.TheVariants.{Null}
 
--- a table of a FROM under its range name: the names of its columns, and the cells of one of its rows
+-- a column has this name; it may have none
+abbrev pub is_named : List ℕ → Option (List ℕ) → Bool
+is_named name None = false
+is_named name (Some other) = same_name other name
+
+-- a table of a FROM under its range name: the names of its columns, some of which may have none, and the cells of one of its rows
 pub record Range : Type 0 where
   pub name : List ℕ
-  pub columns : List (List ℕ)
+  pub columns : List (Option (List ℕ))
   pub cells : List Cell
 
 -- the ranges of a FROM, in order
@@ -19,14 +25,18 @@ Frame = List Range
 abbrev pub Scopes : Type 0
 Scopes = List Frame
 
+-- the cells of all columns of a FROM, in order
+abbrev pub frame_cells : Frame → List Cell
+frame_cells frame = flat_map (λ range. range.cells) frame
+
 -- the first, or the second where there is no first
 abbrev pub first_of : {A : Type 0} → Option A → Option A → Option A
 first_of (Some x) other = Some x
 first_of None other = other
 
 -- the cell of the first column of a name
-abbrev pub cell_named : List ℕ → List (List ℕ) → List Cell → Option Cell
-cell_named name (column ∷ columns) (cell ∷ cells) = if same_name column name then Some cell else cell_named name columns cells
+abbrev pub cell_named : List ℕ → List (Option (List ℕ)) → List Cell → Option Cell
+cell_named name (column ∷ columns) (cell ∷ cells) = if is_named name column then Some cell else cell_named name columns cells
 cell_named name columns cells = None
 
 -- the cell of the first column of a name among these ranges
@@ -66,3 +76,31 @@ or_null None = Null
 -- the cell that a column's name stands for
 abbrev pub column_value : Column → Scopes → Cell
 column_value c scopes = or_null (found c.range c.name scopes)
+
+-- ---- without cells
+
+-- the ranges of a FROM, each by its name and the names of its columns
+abbrev pub Shape : Type 0
+Shape = List (List ℕ × List (Option (List ℕ)))
+
+-- the same of a row of a FROM
+abbrev pub shape_of : Frame → Shape
+shape_of frame = map (λ range. (range.name, range.columns)) frame
+
+-- the same of the blocks that enclose a place
+abbrev pub shapes_of : Scopes → List Shape
+shapes_of scopes = map shape_of scopes
+
+-- the columns of the first range of a name
+abbrev pub columns_in : List ℕ → Shape → Option (List (Option (List ℕ)))
+columns_in name [] = None
+columns_in name (range ∷ ranges) = if same_name range.0 name then Some range.1 else columns_in name ranges
+
+-- the columns of the range of a name in the innermost scope that has one
+abbrev pub columns_of_range : List ℕ → List Shape → List (Option (List ℕ))
+columns_of_range name [] = []
+columns_of_range name (ranges ∷ shapes) = elim (columns_in name ranges) as (λ _. List (Option (List ℕ))) [ Some columns ↦ columns | None ↦ columns_of_range name shapes ]
+
+-- rows of these ranges with one cell in all columns
+abbrev pub filled : Cell → Shape → Frame
+filled cell ranges = map (λ range. record { name = range.0; columns = range.1; cells = map (λ _. cell) range.1 }) ranges

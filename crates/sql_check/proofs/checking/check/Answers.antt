@@ -21,7 +21,7 @@ returns-clause-names c = λ tables.
     let t = c.in-Some-only_table in
     let is = over_one (written.query c.args.text.now.query) b c.as_slice.result.now t.name.now t.alias.now c.in-Some.ensures.some c.as_slice.ensures t.ensures.some in
     c.in_ok-found.ensures.names
-    ∙ sym (whole_names (declared.catalog c.args.catalog.now) (written.query_text c.args.text.now) b.quantifier (written.select_list b.list) t.name.now t.alias.now (written.filter b.filter) b.grouping (written.filter b.having) is tables)
+    ∙ sym (whole_names (declared.catalog c.args.catalog.now) (written.query_text c.args.text.now) b.quantifier (written.select_list b.list) t.name.now t.alias.now (written.filter b.filter) b.grouping (written.filter b.having) is c.requires.taken tables)
 
 pub returns-clause-rows : goal.returns-clause-rows
 returns-clause-rows c = λ tables wide.
@@ -32,4 +32,4 @@ returns-clause-rows c = λ tables wide.
     let valid = whole_fault (declared.catalog c.args.catalog.now) (written.query_text c.args.text.now) b.quantifier (written.select_list b.list) t.name.now t.alias.now (written.filter b.filter) b.grouping (written.filter b.having) is
     ∙ sym least ∙ c.in_ok-refused.ensures.valid in
     whole_rows (declared.catalog c.args.catalog.now) (written.query_text c.args.text.now) b.quantifier (written.select_list b.list) t.name.now t.alias.now (written.filter b.filter) b.grouping (written.filter b.having) is
-    c.in_ok-found.found.checked valid c.in_ok-found.ensures.table c.in_ok-found.ensures.truth c.in_ok-found.ensures.list tables wide
+    c.requires.taken c.in_ok-found.found.checked valid c.in_ok-found.ensures.table c.in_ok-found.ensures.truth c.in_ok-found.ensures.list tables wide

@@ -1,0 +1,4 @@
+pub mod Truths
+pub mod Chains
+pub mod Means
+pub mod Roots

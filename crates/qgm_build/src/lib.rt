@@ -1,0 +1,12 @@
+//! The first graph of a checked query.
+#![tactic(auto)]
+
+mod base;
+mod building;
+mod forms;
+mod split;
+#[cfg(test)]
+mod tests;
+mod written;
+
+pub use building::build;

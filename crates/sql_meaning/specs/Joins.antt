@@ -1,0 +1,69 @@
+-- How the rows of a FROM are put together, and those of queries (SQL-92, 7.4, 7.5 and 7.10).
+use Rattle.std.specs.Prelude.{ℕ, ◌+◌, nat_eq, if◌then◌else◌, Bool, true, false, List, [], ◌∷◌, ◌++◌, Option, Some, None}
+use Rattle.row_bag.specs.Bags.{bind, keep, total, unit}
+use Rattle.row_bag.specs.Errors.{error_in}
+use Rattle.row_bag.specs.Sets.{collapsed, distinct, except, except_all, intersect, intersect_all, same_cells, union}
+use Rattle.row_bag.specs.declared.row.Row.{Row}
+use Rattle.sql_ast.specs.declared.word.SetOperator.{SetOperator}
+use Rattle.sql_ast.specs.declared.word.SetOperator.TheVariants as operator
+use Rattle.sql_value.specs.declared.cell.Cell.{Cell}
+use Rattle.sql_value.specs.declared.cell.Kind.{Kind}
+use Rattle.sql_value.specs.declared.truth.Truth.{Truth}
+use Rattle.sql_meaning.specs.Names.{Relation}
+use Rattle.sql_meaning.specs.Scopes.{Frame}
+
+-- ---- FROM
+
+-- a table's rows, each as a frame of one range; none where there is no such table, which isn't so in a valid query
+abbrev pub ranged : List ℕ → Option Relation → List (Row Frame)
+ranged name None = []
+ranged name (Some table) = bind table.rows (λ cells. unit (record { name = name; columns = table.columns; cells = cells } ∷ []))
+
+-- a product: each row of the first beside each of the second, at the least of both levels
+abbrev pub product : List (Row Frame) → List (Row Frame) → List (Row Frame)
+product xs ys = bind xs (λ frame. bind ys (λ others. unit (frame ++ others)))
+
+-- the rows that a condition keeps, each at the least of its level and the condition's true-level
+abbrev pub kept : {T : Type 0} → (T → Truth) → List (Row T) → List (Row T)
+kept test rows = bind rows (λ row. keep (test row).t (unit row))
+
+-- how many rows there are
+abbrev pub how_many : {T : Type 0} → List (Row T) → ℕ
+how_many rows = total ◌+◌ 0 (λ row level. 1) rows
+
+-- these rows, or where none of them is there these others
+abbrev pub or_else : {T : Type 0} → List (Row T) → List (Row T) → List (Row T)
+or_else rows others = if nat_eq (how_many rows) 0 then others else rows
+
+-- the partners of a left row: each right row beside it, at the least of its level and the ON's true-level
+abbrev pub partners : (Frame → Truth) → List (Row Frame) → Frame → List (Row Frame)
+partners on ys frame = bind ys (λ others. keep (on (frame ++ others)).t (unit (frame ++ others)))
+
+-- a left join: each left row with its partners; where every partner is at no, the left row stands once with nulls
+abbrev pub left_join : (Frame → Truth) → Frame → List (Row Frame) → List (Row Frame) → List (Row Frame)
+left_join on nulls xs ys = bind xs (λ frame. or_else (partners on ys frame) (unit (frame ++ nulls)))
+
+-- ---- blocks
+
+-- what a list gives of each of the rows that a condition keeps
+abbrev pub selected : {T : Type 0} → (T → Truth) → (T → List Cell) → List (Row T) → List (Row (List Cell))
+selected test list rows = bind rows (λ row. keep (test row).t (unit (list row)))
+
+-- with DISTINCT each tuple once, at its greatest level
+abbrev pub distinct_if : Bool → List (Row (List Cell)) → List (Row (List Cell))
+distinct_if true rows = distinct same_cells rows
+distinct_if false rows = rows
+
+-- ---- set operations, with ALL where true stands; what one row of an error is
+
+-- UNION keeps each tuple once at its greatest level, UNION ALL appends; EXCEPT is one row of the greatest error where an operand has one
+abbrev pub combined : SetOperator → Bool → (Kind → List Cell) → List (Row (List Cell)) → List (Row (List Cell)) → List (Row (List Cell))
+combined operator.Union true failed xs ys = xs ++ ys
+combined operator.Union false failed xs ys = union same_cells xs ys
+combined operator.Except true failed xs ys = collapsed error_in failed (xs ++ ys) (except_all same_cells xs ys)
+combined operator.Except false failed xs ys = collapsed error_in failed (xs ++ ys) (except same_cells xs ys)
+
+-- INTERSECT is one row of the greatest error where an operand has one
+abbrev pub intersected : Bool → (Kind → List Cell) → List (Row (List Cell)) → List (Row (List Cell)) → List (Row (List Cell))
+intersected true failed xs ys = collapsed error_in failed (xs ++ ys) (intersect_all same_cells xs ys)
+intersected false failed xs ys = collapsed error_in failed (xs ++ ys) (intersect same_cells xs ys)
