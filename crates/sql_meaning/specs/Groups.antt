@@ -91,21 +91,21 @@ of_arguments f distinct cells = error_or (error_among error_of cells) (of_values
 -- ---- groups
 
 -- what the aggregates of a block see: the rows of a group, or the error of the whole grouping
-pub data Group : Type 0 where
-  members : List (Row Frame) → Group
-  failed : Kind → Group
+pub data Group (F : Type 0) : Type 0 where
+  members : List (Row F) → Group F
+  failed : Kind → Group F
 
 -- where there is no group
-abbrev pub no_group : Group
+abbrev pub no_group : {F : Type 0} → Group F
 no_group = members []
 
 -- an aggregate of a group, by the argument in each of its rows
-abbrev pub aggregated : SetFunction → Option SetQuantifier → (Frame → Cell) → Group → Cell
-aggregated f each argument (members rows) = of_arguments f (is_distinct each) (bind rows (λ frame. unit (argument frame)))
-aggregated f each argument (failed k) = Err k
+abbrev pub aggregated : {F : Type 0} → SetFunction → Bool → (F → Cell) → Group F → Cell
+aggregated f distinct argument (members rows) = of_arguments f distinct (bind rows (λ frame. unit (argument frame)))
+aggregated f distinct argument (failed k) = Err k
 
 -- COUNT(*) counts rows
-abbrev pub count_all : Group → Cell
+abbrev pub count_all : {F : Type 0} → Group F → Cell
 count_all (members rows) = count_cell (how_many rows)
 count_all (failed k) = Err k
 
@@ -132,22 +132,28 @@ abbrev pub same_key : Frame → Frame → Bool
 same_key a b = same_cells (frame_cells a) (frame_cells b)
 
 -- a row of a grouping: the grouping cells, and the group
-pub record Grouped : Type 0 where
-  pub key : Frame
-  pub group : Group
+pub record Grouped (F : Type 0) : Type 0 where
+  pub key : F
+  pub group : Group F
 
-abbrev pub one_group : Frame → Group → Grouped
+abbrev pub one_group : {F : Type 0} → F → Group F → Grouped F
 one_group key group = record { key = key; group = group }
 
 -- without GROUP BY one group, even over no row; else one for each tuple of grouping cells that occurs
-abbrev pub groups_of : List Column → Shape → List (Row Frame) → List (Row Grouped)
-groups_of [] ranges rows = unit (one_group (filled Null ranges) (members rows))
-groups_of (c ∷ by) ranges rows = grouped same_key (key (c ∷ by)) (λ k group. one_group k (members group)) rows
-
--- the greatest error among the grouping cells of a row
-abbrev pub key_error : List Column → Frame → Option Kind
-key_error by frame = error_in (frame_cells (key by frame))
+abbrev pub groups_of : {F : Type 0} → Bool → (F → F → Bool) → (F → F) → F → List (Row F) → List (Row (Grouped F))
+groups_of false same key empty rows = unit (one_group empty (members rows))
+groups_of true same key empty rows = grouped same key (λ k group. one_group k (members group)) rows
 
 -- the groups; one row, at the greatest error, where a row is at an error level or a grouping cell is an error, and every grouping cell and aggregate is that error then
-abbrev pub groups : List Column → Shape → List (Row Frame) → List (Row Grouped)
-groups by ranges rows = collapsed (key_error by) (λ k. one_group (filled (Err k) ranges) (failed k)) rows (groups_of by ranges rows)
+abbrev pub grouping : {F : Type 0} → Bool → (F → F → Bool) → (F → F) → (F → Option Kind) → (Cell → F) → List (Row F) → List (Row (Grouped F))
+grouping keyed same key held filled_with rows =
+    collapsed held (λ k. one_group (filled_with (Err k)) (failed k)) rows (groups_of keyed same key (filled_with Null) rows)
+
+-- GROUP BY is written
+abbrev pub is_keyed : List Column → Bool
+is_keyed [] = false
+is_keyed (c ∷ by) = true
+
+-- the groups of a block, of frames
+abbrev pub groups : List Column → Shape → List (Row Frame) → List (Row (Grouped Frame))
+groups by ranges rows = grouping (is_keyed by) same_key (key by) (λ frame. error_in (frame_cells (key by frame))) (λ cell. filled cell ranges) rows

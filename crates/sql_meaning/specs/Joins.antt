@@ -20,8 +20,8 @@ ranged name None = []
 ranged name (Some table) = bind table.rows (λ cells. unit (record { name = name; columns = table.columns; cells = cells } ∷ []))
 
 -- a product: each row of the first beside each of the second, at the least of both levels
-abbrev pub product : List (Row Frame) → List (Row Frame) → List (Row Frame)
-product xs ys = bind xs (λ frame. bind ys (λ others. unit (frame ++ others)))
+abbrev pub product : {X : Type 0} → List (Row (List X)) → List (Row (List X)) → List (Row (List X))
+product xs ys = bind xs (λ row. bind ys (λ others. unit (row ++ others)))
 
 -- the rows that a condition keeps, each at the least of its level and the condition's true-level
 abbrev pub kept : {T : Type 0} → (T → Truth) → List (Row T) → List (Row T)
@@ -36,12 +36,12 @@ abbrev pub or_else : {T : Type 0} → List (Row T) → List (Row T) → List (Ro
 or_else rows others = if nat_eq (how_many rows) 0 then others else rows
 
 -- the partners of a left row: each right row beside it, at the least of its level and the ON's true-level
-abbrev pub partners : (Frame → Truth) → List (Row Frame) → Frame → List (Row Frame)
-partners on ys frame = bind ys (λ others. keep (on (frame ++ others)).t (unit (frame ++ others)))
+abbrev pub partners : {X : Type 0} → (List X → Truth) → List (Row (List X)) → List X → List (Row (List X))
+partners on ys row = bind ys (λ others. keep (on (row ++ others)).t (unit (row ++ others)))
 
 -- a left join: each left row with its partners; where every partner is at no, the left row stands once with nulls
-abbrev pub left_join : (Frame → Truth) → Frame → List (Row Frame) → List (Row Frame) → List (Row Frame)
-left_join on nulls xs ys = bind xs (λ frame. or_else (partners on ys frame) (unit (frame ++ nulls)))
+abbrev pub left_join : {X : Type 0} → (List X → Truth) → List X → List (Row (List X)) → List (Row (List X)) → List (Row (List X))
+left_join on nulls xs ys = bind xs (λ row. or_else (partners on ys row) (unit (row ++ nulls)))
 
 -- ---- blocks
 

@@ -50,7 +50,7 @@ module _ (known : Known) where
   abbrev mutual
     -- ---- expressions
 
-    pub value : s.Expr → Scopes → Group → Cell
+    pub value : s.Expr → Scopes → Group Frame → Cell
     value (s.add x op y) scopes group = additive op (value x scopes group) (value y scopes group)
     value (s.multiply x op y) scopes group = multiplicative op (value x scopes group) (value y scopes group)
     value (s.signed p x) scopes group = signed p (value x scopes group)
@@ -61,7 +61,7 @@ module _ (known : Known) where
     value (s.scalar q) scopes group = u.scalar (rows q scopes)
     value s.count_all scopes group = g.count_all group
     -- the argument is read in each row of the group
-    value (s.aggregate f each x) scopes group = aggregated f each (λ frame. value x (frame ∷ []) no_group) group
+    value (s.aggregate f each x) scopes group = aggregated f (is_distinct each) (λ frame. value x (frame ∷ []) no_group) group
     -- the conditions in turn
     value (s.searched xs o) scopes group = of_arms xs (otherwise o scopes group) scopes group
     -- CASE x WHEN v tests x = v
@@ -71,33 +71,33 @@ module _ (known : Known) where
     value (s.null_if x y) scopes group = case_of (c.compare Eq (value x scopes group) (value y scopes group)) Null (value x scopes group)
     value (s.cast_null d) scopes group = Null
 
-    pub result_of : s.Res → Scopes → Group → Cell
+    pub result_of : s.Res → Scopes → Group Frame → Cell
     result_of (s.given x) scopes group = value x scopes group
     result_of s.null scopes group = Null
 
     -- the result of the first condition that is true, and else the last cell
-    pub of_arms : s.Arms → Cell → Scopes → Group → Cell
+    pub of_arms : s.Arms → Cell → Scopes → Group Frame → Cell
     of_arms s.no_arm last scopes group = last
     of_arms (s.one_arm p r xs) last scopes group = case_of (truth p scopes group) (result_of r scopes group) (of_arms xs last scopes group)
 
     -- the result of the first value that the operand equals, and else the last cell
-    pub of_choices : Cell → s.Choices → Cell → Scopes → Group → Cell
+    pub of_choices : Cell → s.Choices → Cell → Scopes → Group Frame → Cell
     of_choices x s.no_choice last scopes group = last
     of_choices x (s.one_choice y r xs) last scopes group = case_of (c.compare Eq x (value y scopes group)) (result_of r scopes group) (of_choices x xs last scopes group)
 
     -- without ELSE null
-    pub otherwise : s.Otherwise → Scopes → Group → Cell
+    pub otherwise : s.Otherwise → Scopes → Group Frame → Cell
     otherwise s.no_else scopes group = Null
     otherwise (s.or_else r) scopes group = result_of r scopes group
 
     -- COALESCE(x, ..): CASE WHEN x IS NOT NULL THEN x ELSE COALESCE(..) END
-    pub coalesced : Cell → s.Exprs → Scopes → Group → Cell
+    pub coalesced : Cell → s.Exprs → Scopes → Group Frame → Cell
     coalesced x s.no_expr scopes group = x
     coalesced x (s.one_expr y xs) scopes group = case_of (t.negated (c.is_null x)) x (coalesced (value y scopes group) xs scopes group)
 
     -- ---- conditions
 
-    pub truth : s.Cond → Scopes → Group → Truth
+    pub truth : s.Cond → Scopes → Group Frame → Truth
     truth (s.either p q) scopes group = t.or (truth p scopes group) (truth q scopes group)
     truth (s.both p q) scopes group = t.and (truth p scopes group) (truth q scopes group)
     truth (s.negated p) scopes group = t.negated (truth p scopes group)
@@ -115,28 +115,28 @@ module _ (known : Known) where
     truth (s.exists q) scopes group = u.exists (rows q scopes)
 
     -- x = y OR x = z ..
-    pub equals_one : Cell → s.Exprs → Scopes → Group → Truth
+    pub equals_one : Cell → s.Exprs → Scopes → Group Frame → Truth
     equals_one x s.no_expr scopes group = t.truth_of false
     equals_one x (s.one_expr y xs) scopes group = t.or (c.compare Eq x (value y scopes group)) (equals_one x xs scopes group)
 
     -- true where there is no condition
-    pub filtered : s.Filter → Scopes → Group → Truth
+    pub filtered : s.Filter → Scopes → Group Frame → Truth
     filtered s.no_filter scopes group = t.truth_of true
     filtered (s.only_where p) scopes group = truth p scopes group
 
     -- ---- lists
 
     -- the cells of an item of a list: one, or those of a range
-    pub item_cells : s.Item → Scopes → Group → List Cell
+    pub item_cells : s.Item → Scopes → Group Frame → List Cell
     item_cells (s.item x n) scopes group = value x scopes group ∷ []
     item_cells (s.all_of name) scopes group = cells_of (range_of name scopes)
 
-    pub items_cells : s.Items → Scopes → Group → List Cell
+    pub items_cells : s.Items → Scopes → Group Frame → List Cell
     items_cells s.no_item scopes group = []
     items_cells (s.one_item x xs) scopes group = item_cells x scopes group ++ items_cells xs scopes group
 
     -- the cells of a list, in the frame of its block and the scopes round it; `*` is all columns of the FROM in order
-    pub list_cells : s.SelectList → Frame → Scopes → Group → List Cell
+    pub list_cells : s.SelectList → Frame → Scopes → Group Frame → List Cell
     list_cells s.star frame scopes group = frame_cells frame
     list_cells (s.items xs) frame scopes group = items_cells xs (frame ∷ scopes) group
 
