@@ -1,0 +1,7 @@
+//! Tests of the checks of every query.
+#![tactic(auto)]
+
+#[cfg(test)]
+mod queries;
+#[cfg(test)]
+mod views;

@@ -1,0 +1,53 @@
+// Views whose bodies are refused: the first by nesting depth, and then in declared order.
+use query_faults::{ViewRefusal, check_views};
+use sql_catalog::build;
+use sql_parser::parse_schema;
+use sql_text::lex;
+use std::alloc::Global;
+use std::test::Fail;
+
+// Whether this view is the one that is refused, by this number.
+fn refuses(alloc: Global, text: &str, name: &str, refused: u8) -> Result<bool, Fail> {
+    let tokens = lex(alloc, text.as_bytes())?;
+    let schema = parse_schema(alloc, tokens.as_slice())?;
+    let catalog = build(alloc, schema)?;
+    Ok(match check_views(alloc, &catalog) {
+        Ok(_) => refused == 0,
+        Err(ViewRefusal::Refused { view, number }) => {
+            number == refused && view.to_utf8(alloc)?.as_str() == name
+        }
+        Err(ViewRefusal::Memory) => false,
+    })
+}
+
+#[test]
+fn the_first_view_by_depth_is_refused(rt: HostRuntime) -> Result<(), Fail> {
+    for (text, name, number) in [
+        ("CREATE TABLE T (A INT); CREATE VIEW W AS SELECT FOO FROM T;", "W", 8),
+        ("CREATE TABLE T (A INT); CREATE VIEW W AS SELECT A FROM T;", "", 0),
+        ("CREATE TABLE T (A INT); CREATE VIEW W (B, C) AS SELECT A FROM T;", "W", 11),
+        (
+            "CREATE TABLE T (A INT); CREATE VIEW X AS SELECT A + 'x' FROM V; CREATE VIEW V AS SELECT A, FOO FROM T;",
+            "V",
+            8,
+        ),
+        (
+            "CREATE TABLE T (A INT); CREATE VIEW X AS SELECT A + 'x' FROM V; CREATE VIEW V AS SELECT A FROM T;",
+            "X",
+            10,
+        ),
+        (
+            "CREATE TABLE T (A INT); CREATE VIEW X (B) AS SELECT A FROM V; CREATE VIEW V AS SELECT A FROM T; CREATE VIEW Y AS SELECT B FROM X;",
+            "",
+            0,
+        ),
+        (
+            "CREATE TABLE T (A INT); CREATE VIEW X (B) AS SELECT A FROM V; CREATE VIEW V AS SELECT A FROM T; CREATE VIEW Y AS SELECT A FROM X;",
+            "Y",
+            8,
+        ),
+    ] {
+        assert!(rt; refuses(rt.alloc(), text, name, number)?, "at {text}");
+    }
+    Ok(())
+}

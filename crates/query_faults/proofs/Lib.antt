@@ -1,0 +1,4 @@
+pub mod Orders
+pub mod Finds
+pub mod Targets
+pub mod Nested

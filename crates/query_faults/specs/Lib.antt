@@ -1,0 +1,11 @@
+pub mod Scopes
+pub mod Columns
+pub mod Rules
+pub mod Faults
+pub mod Views
+pub mod Numbers
+pub mod Found
+pub mod Forms
+pub mod Sorts
+pub mod Shown
+pub mod Depths
