@@ -15,17 +15,17 @@ use Rattle.sql_ast.specs.Syntax as s
 use Rattle.sql_catalog.specs.Catalog.{Declared}
 use Rattle.sql_check.specs.declared.checked.Checked.{Checked}
 use Rattle.sql_check.specs.Resolved.{rows_at}
-use Rattle.sql_meaning.specs.Meaning.{Known, answer, answer_of, order_key}
+use Rattle.sql_meaning.specs.Meaning.{answer_of, order_key}
 use Rattle.sql_value.specs.declared.cell.Cell.{Cell}
 use Rattle.sql_value.specs.declared.order_key.OrderKey.{OrderKey}
-use Rattle.qgm_app.specs.Outcome.{from_tables, outcome, report_of, reported, with_catalog, with_line, with_query, with_task}
+use Rattle.qgm_app.specs.Outcome.{from_tables, outcome, report_of, reported, with_catalog, with_line, with_query, with_task, with_views}
 use Rattle.qgm_app.specs.Texts.{GivesChecked, IsChecked, catalog_of, valid_query}
+use Rattle.query_faults.specs.Views.{view_refusal}
 use Rattle.qgm_words.specs.Line.{LineText}
 use Rattle.qgm_words.specs.Reading.{line}
 use Rattle.qgm_app.specs.declared.report.Report.{Report}
-use Rattle.qgm_app.specs.declared.report.Report.TheVariants.{Usage, SchemaRefused, DataRefused, QueryRefused}
+use Rattle.qgm_app.specs.declared.report.Report.TheVariants.{Usage, SchemaRefused, ViewRefused, DataRefused, QueryRefused}
 use Rattle.qgm_app.specs.declared.texts.TextRefusal.TheVariants.{Number}
-use Rattle.qgm_app.proofs.Views.{tables-alone}
 use Rattle.qgm_app.proofs.Wide.{wide-tables}
 
 -- a call that was interrupted interrupts what follows
@@ -35,21 +35,20 @@ comes-interrupted t u o f (ReadFault name) h = comes-bind-faulted t u o f _ h
 comes-interrupted t u o f Memory h = comes-bind-starved t u o f h
 
 -- the report of a checked query over tables of its catalog is that of the query
-answered-same : (query : s.QueryText) (catalog : Declared) (checked : Checked) (tables : List Table) → catalog.views ≡ [] → IsChecked catalog checked query → FitsSchema catalog.tables tables
+answered-same : (query : s.QueryText) (catalog : Declared) (checked : Checked) (tables : List Table) → IsChecked catalog checked query → FitsSchema catalog.tables tables
     → reported query catalog (Ok tables) ≡ report_of (answer_of checked.names checked.order (verdict (rows_at checked tables)))
-answered-same query catalog checked tables none is fits =
-    ap (λ (known : Known). report_of (answer known query)) (tables-alone catalog tables none)
-    ∙ ap₂ (λ (w : List (Option (List ℕ)) × List OrderKey) (rows : List (Row (List Cell))). report_of (answer_of w.0 w.1 (verdict rows)))
+answered-same query catalog checked tables is fits =
+    ap₂ (λ (w : List (Option (List ℕ)) × List OrderKey) (rows : List (Row (List Cell))). report_of (answer_of w.0 w.1 (verdict rows)))
     (sym (ap₂ (λ (names : List (Option (List ℕ))) (keys : List OrderKey). (names, keys)) (is.names_are tables)
     (is.order_is ∙ ap (λ (names : List (Option (List ℕ))). map (order_key names) query.order) (is.names_are tables))))
     (sym (is.rows_are tables (wide-tables catalog.tables tables checked.table fits)))
 
 -- the tables were read, and the query that was checked is answered
-pub tables-read : (t u : Option Told) (dir : List ℕ) (catalog : Declared) (checked : Checked) (query : s.QueryText) (tables : List Table) → catalog.views ≡ [] → IsChecked catalog checked query → FitsSchema catalog.tables tables
+pub tables-read : (t u : Option Told) (dir : List ℕ) (catalog : Declared) (checked : Checked) (query : s.QueryText) (tables : List Table) → IsChecked catalog checked query → FitsSchema catalog.tables tables
     → Comes t u (λ fs. tables_of catalog.tables dir fs) (answered (Ok tables))
     → Comes t u (λ fs. from_tables dir catalog query fs) (answered (report_of (answer_of checked.names checked.order (verdict (rows_at checked tables)))))
-tables-read t u dir catalog checked query tables none is fits h =
-    subst (λ (report : Report). Comes t u (λ fs. from_tables dir catalog query fs) (answered report)) (answered-same query catalog checked tables none is fits)
+tables-read t u dir catalog checked query tables is fits h =
+    subst (λ (report : Report). Comes t u (λ fs. from_tables dir catalog query fs) (answered report)) (answered-same query catalog checked tables is fits)
     (comes-mapped t u (λ fs. tables_of catalog.tables dir fs) (reported query catalog) (Ok tables) h)
 
 -- a table is refused
@@ -99,9 +98,22 @@ schema-refused t query dir text number is =
     subst (λ (catalog : Result Declared ℕ). Comes t t (λ fs. with_catalog query dir fs catalog) (answered (SchemaRefused number))) (sym is) (comes-done t (SchemaRefused number))
 
 pub schema-taken : (t u : Option Told) (query dir : List ℕ) (text : Option (List ℕ)) (catalog : Declared) (end : Ended Report) → catalog_of text ≡ Ok catalog
-    → Comes t u (λ fs. read fs query 65536 >>= (λ x. with_query dir catalog fs (valid_query catalog x))) end → Comes t u (λ fs. with_catalog query dir fs (catalog_of text)) end
+    → Comes t u (λ fs. with_views query dir catalog fs (view_refusal catalog)) end → Comes t u (λ fs. with_catalog query dir fs (catalog_of text)) end
 unfolding with_catalog
 schema-taken t u query dir text catalog end is h = subst (λ (c : Result Declared ℕ). Comes t u (λ fs. with_catalog query dir fs c) end) (sym is) h
+
+-- a view is refused
+pub view-refused : (t : Option Told) (query dir : List ℕ) (catalog : Declared) (view : List ℕ) (number : ℕ) → view_refusal catalog ≡ Some (view, number)
+    → Comes t t (λ fs. with_views query dir catalog fs (view_refusal catalog)) (answered (ViewRefused view number))
+unfolding with_views
+view-refused t query dir catalog view number is =
+    subst (λ (found : Option (List ℕ × ℕ)). Comes t t (λ fs. with_views query dir catalog fs found) (answered (ViewRefused view number))) (sym is) (comes-done t (ViewRefused view number))
+
+-- the views are valid, and the query is next
+pub views-taken : (t u : Option Told) (query dir : List ℕ) (catalog : Declared) (end : Ended Report) → view_refusal catalog ≡ None
+    → Comes t u (λ fs. read fs query 65536 >>= (λ x. with_query dir catalog fs (valid_query catalog x))) end → Comes t u (λ fs. with_views query dir catalog fs (view_refusal catalog)) end
+unfolding with_views
+views-taken t u query dir catalog end is h = subst (λ (found : Option (List ℕ × ℕ)). Comes t u (λ fs. with_views query dir catalog fs found) end) (sym is) h
 
 -- the words are no command line
 pub no-line : (t : Option Told) (words : List (List ℕ)) → line words ≡ None → Comes t t (outcome words) (answered Usage)

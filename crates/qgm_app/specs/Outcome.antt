@@ -1,5 +1,5 @@
 -- What a run is to come to over the files that it is given: the names that it reads, in order, and its report.
--- The order is one: words, schema, query, tables, answer. The first refusal in this order is the report.
+-- The order is one: words, schema, views, query, tables, answer. The first refusal in this order is the report.
 use Rattle.std.specs.Prelude.{ℕ, List, Option, Some, None, Result, Ok, Err}
 use Rattle.csv_tables.specs.Load.{tables_of}
 use Rattle.csv_tables.specs.Printed.{printed_rows}
@@ -10,11 +10,12 @@ use Rattle.row_bag.specs.declared.tables.Table.{Table}
 use Rattle.sql_ast.specs.Syntax as s
 use Rattle.sql_catalog.specs.Catalog.{Declared}
 use Rattle.sql_meaning.specs.Meaning.{Answer, answer, answer_error, answer_rows, known_of}
+use Rattle.query_faults.specs.Views.{view_refusal}
 use Rattle.qgm_words.specs.Line.{LineText, TaskText, explain, gen, run}
 use Rattle.qgm_words.specs.Reading.{line}
 use Rattle.qgm_app.specs.Texts.{catalog_of, valid_query}
 use Rattle.qgm_app.specs.declared.report.Report.{Report}
-use Rattle.qgm_app.specs.declared.report.Report.TheVariants.{Rows, Error, Usage, SchemaRefused, DataRefused, QueryRefused}
+use Rattle.qgm_app.specs.declared.report.Report.TheVariants.{Rows, Error, Usage, SchemaRefused, ViewRefused, DataRefused, QueryRefused}
 
 -- the report of an answer: the rows in CSV, or the error
 abbrev pub report_of : Answer → Report
@@ -39,10 +40,15 @@ with_query dir catalog files (Ok query) = from_tables dir catalog query files
 abbrev pub from_query : List ℕ → List ℕ → Declared → List File → Outcome Report
 from_query query dir catalog files = read files query 65536 >>= (λ text. with_query dir catalog files (valid_query catalog text))
 
--- the catalog, or the number that refuses the schema; and then the query
+-- the first view that isn't valid, or none; and then the query
+unfoldable pub with_views : List ℕ → List ℕ → Declared → List File → Option (List ℕ × ℕ) → Outcome Report
+with_views query dir catalog files (Some (view, number)) = done (ViewRefused view number)
+with_views query dir catalog files None = from_query query dir catalog files
+
+-- the catalog, or the number that refuses the schema; and then its views
 unfoldable pub with_catalog : List ℕ → List ℕ → List File → Result Declared ℕ → Outcome Report
 with_catalog query dir files (Err number) = done (SchemaRefused number)
-with_catalog query dir files (Ok catalog) = from_query query dir catalog files
+with_catalog query dir files (Ok catalog) = with_views query dir catalog files (view_refusal catalog)
 
 -- the schema's file is read, and then the query's
 abbrev pub from_schema : List ℕ → List ℕ → List ℕ → List File → Outcome Report

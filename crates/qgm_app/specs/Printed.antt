@@ -4,7 +4,7 @@ use Rattle.std.specs.Fmt.{decimal}
 use Rattle.sql_value.specs.declared.cell.Kind.{Kind}
 use Rattle.sql_value.specs.declared.cell.Kind.TheVariants.{Cardinality, Division, Overflow}
 use Rattle.qgm_app.specs.declared.report.Report.{Report}
-use Rattle.qgm_app.specs.declared.report.Report.TheVariants.{Rows, Error, Usage, SchemaRefused, DataRefused, QueryRefused}
+use Rattle.qgm_app.specs.declared.report.Report.TheVariants.{Rows, Error, Usage, SchemaRefused, ViewRefused, DataRefused, QueryRefused}
 use Rattle.qgm_app.specs.declared.report.Said.{Said}
 
 -- the SQLSTATE of a runtime error
@@ -18,6 +18,7 @@ status_of (Rows bytes) = 0
 status_of (Error kind) = 1
 status_of Usage = 2
 status_of (SchemaRefused number) = 5
+status_of (ViewRefused view number) = 5
 status_of (DataRefused number table row) = 6
 status_of (QueryRefused number) = 7
 
@@ -26,6 +27,7 @@ printed (Rows bytes) = bytes
 printed (Error kind) = codes "ERROR " ++ (sqlstate kind ++ codes "\n")
 printed Usage = codes "USAGE\n"
 printed (SchemaRefused number) = codes "SCHEMA S" ++ (decimal number ++ codes "\n")
+printed (ViewRefused view number) = codes "SCHEMA S11 " ++ (encode_utf8_all view ++ (codes " " ++ (decimal number ++ codes "\n")))
 printed (DataRefused number table row) = codes "DATA X" ++ (decimal number ++ (codes " " ++ (encode_utf8_all table ++ (codes " " ++ (decimal row ++ codes "\n")))))
 printed (QueryRefused number) = codes "QUERY Q" ++ (decimal number ++ codes "\n")
 

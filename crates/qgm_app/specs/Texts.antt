@@ -4,17 +4,16 @@ use Rattle.row_bag.specs.declared.tables.Table.{Table}
 use Rattle.sql_ast.specs.Syntax as s
 use Rattle.sql_catalog.specs.Catalog.{Declared, declared}
 use Rattle.sql_check.specs.Resolved.{IsWide, rows_at}
-use Rattle.sql_check.specs.Taken.{is_taken}
-use Rattle.sql_check.specs.Valid.{fault}
+use Rattle.sql_check.specs.Taken.{is_answered}
 use Rattle.sql_check.specs.declared.checked.Checked.{Checked}
-use Rattle.sql_meaning.specs.Meaning.{names, order_key, relation_of, rows}
+use Rattle.query_faults.specs.Views.{fault}
+use Rattle.sql_meaning.specs.Meaning.{known_of, names, order_key, relation_of, rows}
 use Rattle.sql_parser.specs.ReadSchema.{schema_tree}
 use Rattle.sql_parser.specs.ReadText.{query_tree}
 use Rattle.sql_text.specs.Depth.{too_deep}
 use Rattle.sql_text.specs.Tokens.{token_list, tokens}
 use Rattle.sql_text.specs.declared.token.Spanned.{Spanned}
 use Rattle.sql_text.specs.declared.token.Token.{Token}
-use Rattle.qgm_app.specs.Taken.{takes_schema}
 use Rattle.qgm_app.specs.declared.texts.TextRefusal.{TextRefusal}
 use Rattle.qgm_app.specs.declared.texts.TextRefusal.TheVariants.{Number, Memory}
 
@@ -47,27 +46,25 @@ spans_of text = or_number 5 text >>= tokens
 abbrev pub tree_of : {A : Type 0} → (List Token → Option A) → List Spanned → Result A ℕ
 tree_of read spans = refused_if (too_deep (token_list spans)) 5 (token_list spans) >>= (λ ts. or_number 4 (read ts))
 
--- the tree of a schema's text: 4 also where it isn't taken as yet
+-- the tree of a schema's text
 unfoldable pub schema_of : Option (List ℕ) → Result s.Schema ℕ
-schema_of text = do
-  spans ← spans_of text
-  tree ← tree_of schema_tree spans
-  refused_if (not (takes_schema tree)) 4 tree
+schema_of text = spans_of text >>= tree_of schema_tree
 
 -- the catalog of a schema's text, or the number that refuses it
 unfoldable pub catalog_of : Option (List ℕ) → Result Declared ℕ
 catalog_of text = schema_of text >>= declared
 
--- the tree of a query's text: 4 also where it isn't taken as yet
+-- the tree of a query's text
 unfoldable pub query_of : Option (List ℕ) → Result s.QueryText ℕ
-query_of text = do
-  spans ← spans_of text
-  tree ← tree_of query_tree spans
-  refused_if (not (is_taken tree)) 4 tree
+query_of text = spans_of text >>= tree_of query_tree
+
+-- the query, or the number of its fault; 4 where it isn't answered as yet
+abbrev pub checked_query : Declared → s.QueryText → Result s.QueryText ℕ
+checked_query catalog query = refused_by (fault catalog query) query >>= (λ valid. refused_if (not (is_answered catalog valid)) 4 valid)
 
 -- the query of a query's text, or the number that refuses it
 unfoldable pub valid_query : Declared → Option (List ℕ) → Result s.QueryText ℕ
-valid_query catalog text = query_of text >>= (λ query. refused_by (fault catalog query) query)
+valid_query catalog text = query_of text >>= checked_query catalog
 
 -- a call's answer is this, seen so, but where memory ran out
 abbrev pub Gives : {X Y : Type 0} → (X → Y) → Result X TextRefusal → Result Y ℕ → Type 0
@@ -77,9 +74,9 @@ Gives seen (Err Memory) what = ⊤
 
 -- a query with its names resolved has the query's names and order, and, over tables whose rows have a cell for each column, its rows
 pub record IsChecked (catalog : Declared) (checked : Checked) (query : s.QueryText) : Type 0 where
-  pub names_are : (tables : List Table) → checked.names ≡ names (relation_of catalog tables) query.query []
+  pub names_are : (tables : List Table) → checked.names ≡ names (known_of catalog tables) query.query []
   pub order_is : checked.order ≡ map (order_key checked.names) query.order
-  pub rows_are : (tables : List Table) → IsWide (relation_of catalog tables checked.table) → rows_at checked tables ≡ rows (relation_of catalog tables) query.query []
+  pub rows_are : (tables : List Table) → IsWide (relation_of catalog tables checked.table) → rows_at checked tables ≡ rows (known_of catalog tables) query.query []
 
 -- a call's answer is the query, with its names resolved, but where memory ran out
 abbrev pub GivesChecked : Declared → Result Checked TextRefusal → Result s.QueryText ℕ → Type 0

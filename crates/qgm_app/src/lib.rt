@@ -5,7 +5,6 @@ mod report;
 mod respond;
 mod run;
 mod stages;
-mod taken;
 mod texts;
 
 pub use run::run_command;

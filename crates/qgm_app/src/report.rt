@@ -1,6 +1,6 @@
 // What a run answers, its status and its text.
 ghost use Rattle.std.specs.Prelude.{◌≡◌, IfOk, encode_utf8_all};
-ghost use Rattle.qgm_app.specs.declared.report.Report.TheVariants.{DataRefused, Error};
+ghost use Rattle.qgm_app.specs.declared.report.Report.TheVariants.{DataRefused, Error, ViewRefused};
 ghost use Rattle.qgm_app.specs.Printed.{read_failed, said_of};
 
 use qgm_base::{OutOfMemory, Text};
@@ -20,6 +20,8 @@ pub enum Report {
     Usage,
     /// The schema is refused with this number.
     SchemaRefused(u8),
+    /// The body of a view is refused with this number.
+    ViewRefused { view: Name, number: u8 },
     /// A record (0 for the header) of a table is refused with a number.
     DataRefused { number: u8, table: Name, row: u64 },
     /// The query is refused with this number.
@@ -54,6 +56,15 @@ fn say_error(alloc: Global, kind: Kind) -> Result<Said, OutOfMemory>
     }
 }
 
+// What is said of a view that is refused.
+fn say_view(alloc: Global, view: &Name, number: u8) -> Result<Said, OutOfMemory>
+    ensures { IfOk result (λ said. said ≡ said_of (ViewRefused view.now number)) }
+{
+    let view = view.to_utf8(alloc)?;
+    let line = format!(in alloc; "SCHEMA S11 {view} {number}\n")?;
+    say(alloc, 5, line.as_str())
+}
+
 // What is said of a table that is refused.
 fn say_data(alloc: Global, number: u8, table: &Name, row: u64) -> Result<Said, OutOfMemory>
     ensures { IfOk result (λ said. said ≡ said_of (DataRefused number table.now row)) }
@@ -85,6 +96,7 @@ impl Report {
                 let line = format!(in alloc; "SCHEMA S{number}\n")?;
                 say(alloc, 5, line.as_str())
             }
+            Report::ViewRefused { view, number } => say_view(alloc, &view, number),
             Report::DataRefused { number, table, row } => say_data(alloc, number, &table, row),
             Report::QueryRefused(number) => {
                 let line = format!(in alloc; "QUERY Q{number}\n")?;

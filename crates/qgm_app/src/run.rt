@@ -7,7 +7,7 @@ ghost use Rattle.io_edge.specs.Outside.{Ask, StopsShort, written_after};
 ghost use Rattle.qgm_words.specs.Reading.{line};
 ghost use Rattle.sql_value.specs.declared.cell.Kind.{Kind};
 ghost use Rattle.qgm_app.specs.declared.report.Report.{Report};
-ghost use Rattle.qgm_app.specs.declared.report.Report.TheVariants.{Rows, Error, SchemaRefused, DataRefused, QueryRefused};
+ghost use Rattle.qgm_app.specs.declared.report.Report.TheVariants.{Rows, Error, SchemaRefused, ViewRefused, DataRefused, QueryRefused};
 ghost use Rattle.qgm_app.specs.declared.report.Said.{Said};
 ghost use Rattle.qgm_app.specs.Outcome.{outcome};
 ghost use Rattle.qgm_app.specs.Printed.{printed, status_of};
@@ -63,7 +63,8 @@ pub fn run_command<F: Files, K: Sink, L: Ledger>(
     ensures write_fault { result ≡ 4 → Rose (K.faults out.old) (K.faults out.new) }
     ensures short { result ≡ 4 → IfSome (F.told files.old) (λ t. IfSome (F.told files.new) (λ u. (asks : List Ask) × (said : Said) × (u.asked ≡ t.asked ++ asks)
         × IsSaid (outcome (map (λ w. string_bytes w) words.now) t.files) asks (failed_name asks) said × StopsShort (K.written out.old) (K.written out.new) said.text)) }
-    ensures schema_refused { result ≡ 5 → ComesTo (F.told files.old) (outcome (map (λ w. string_bytes w) words.now)) (λ report. (number : ℕ) × (report ≡ SchemaRefused number)) }
+    ensures schema_refused { result ≡ 5 → ComesTo (F.told files.old) (outcome (map (λ w. string_bytes w) words.now)) 
+        (λ report. ((number : ℕ) × (report ≡ SchemaRefused number)) ⊎ ((view : List ℕ) × (number : ℕ) × (report ≡ ViewRefused view number))) }
     ensures data_refused { result ≡ 6 → ComesTo (F.told files.old) (outcome (map (λ w. string_bytes w) words.now))
         (λ report. (number : ℕ) × (table : List ℕ) × (row : ℕ) × (report ≡ DataRefused number table row)) }
     ensures query_refused { result ≡ 7 → ComesTo (F.told files.old) (outcome (map (λ w. string_bytes w) words.now)) (λ report. (number : ℕ) × (report ≡ QueryRefused number)) }

@@ -1,7 +1,8 @@
 // The stages of a run: each reads a file, and hands what it holds to the next.
-ghost use Rattle.std.specs.Prelude.{◌≡◌, ◌≢◌, ◌≤◌, [], IfOk, List};
+ghost use Rattle.std.specs.Prelude.{◌≡◌, ◌≢◌, ◌≤◌, IfOk, List};
 ghost use Rattle.csv_tables.specs.Printed.{printed_rows};
 ghost use Rattle.io_edge.specs.Outcome.{Comes, RoseIfFault, ended};
+ghost use Rattle.query_faults.specs.Views.{view_heads, view_refusal};
 ghost use Rattle.row_bag.specs.Bags.{Agree};
 ghost use Rattle.row_bag.specs.Sets.{same_cells};
 ghost use Rattle.row_bag.specs.Sorted.{sorted_rows};
@@ -13,7 +14,7 @@ ghost use Rattle.sql_value.specs.declared.cell.Cell.{Cell};
 ghost use Rattle.sql_ast.specs.Syntax.{QueryText};
 ghost use Rattle.sql_meaning.specs.Meaning.{answer_of};
 ghost use Rattle.qgm_app.specs.declared.report.Report.TheVariants.{Usage};
-ghost use Rattle.qgm_app.specs.Outcome.{from_query, from_schema, from_tables, report_of};
+ghost use Rattle.qgm_app.specs.Outcome.{from_query, from_schema, from_tables, report_of, with_views};
 ghost use Rattle.qgm_app.specs.Texts.{IsChecked};
 
 use crate::report::Report;
@@ -23,6 +24,7 @@ use csv_tables::{DataRefusal, load, write_rows};
 use io_edge::{Files, Interruption, fetch_file};
 use qgm_base::OutOfMemory;
 use qgm_build::build;
+use query_faults::{ViewHeads, ViewRefusal, check_views};
 use row_bag::{Bag, Tables, Verdict, bag_laws, sorted, verdict};
 use sql_catalog::Catalog;
 use sql_check::Checked;
@@ -95,7 +97,6 @@ fn run_tables<F: Files, L: Ledger>(
     files: &mut F,
     steps: &mut Steps<L>,
 ) -> Result<Report, Interruption>
-    requires views { (catalogs.catalog catalog.now).views ≡ [] }
     ensures comes { (query : QueryText) → IsChecked (catalogs.catalog catalog.now) checked.now query
         → Comes (F.told files.old) (F.told files.new) (λ fs. from_tables dir.now (catalogs.catalog catalog.now) query fs) (ended result) }
     ensures later { F.faults files.old ≤ F.faults files.new }
@@ -118,24 +119,46 @@ fn run_query<F: Files, L: Ledger>(
     query: &str,
     dir: &str,
     catalog: &Catalog,
+    views: &ViewHeads,
     files: &mut F,
     steps: &mut Steps<L>,
 ) -> Result<Report, Interruption>
-    requires views { (catalogs.catalog catalog.now).views ≡ [] }
+    requires views { views.now.list ≡ view_heads (catalogs.catalog catalog.now) }
     ensures comes { Comes (F.told files.old) (F.told files.new) (λ fs. from_query query.now dir.now (catalogs.catalog catalog.now) fs) (ended result) }
     ensures later { F.faults files.old ≤ F.faults files.new }
     ensures failed { RoseIfFault result (F.faults files.old) (F.faults files.new) }
     ensures line { IfOk result (λ report. report ≢ Usage) }
 {
     let text = fetch_file(alloc, files, query, MAX_TEXT)?;
-    match read_query(alloc, catalog, &text) {
+    match read_query(alloc, catalog, views, &text) {
         Ok(checked) => run_tables(alloc, dir, catalog, &checked, files, steps),
         Err(TextRefusal::Number(number)) => Ok(Report::QueryRefused(number)),
         Err(TextRefusal::Memory) => Err(Interruption::Memory),
     }
 }
 
-/// Reads the schema, and goes on to the query.
+// Checks the views of a catalog, and goes on to the query.
+fn run_catalog<F: Files, L: Ledger>(
+    alloc: Global,
+    query: &str,
+    dir: &str,
+    catalog: &Catalog,
+    files: &mut F,
+    steps: &mut Steps<L>,
+) -> Result<Report, Interruption>
+    ensures comes { Comes (F.told files.old) (F.told files.new) (λ fs. with_views query.now dir.now (catalogs.catalog catalog.now) fs (view_refusal (catalogs.catalog catalog.now))) (ended result) }
+    ensures later { F.faults files.old ≤ F.faults files.new }
+    ensures failed { RoseIfFault result (F.faults files.old) (F.faults files.new) }
+    ensures line { IfOk result (λ report. report ≢ Usage) }
+{
+    match check_views(alloc, catalog) {
+        Ok(views) => run_query(alloc, query, dir, catalog, &views, files, steps),
+        Err(ViewRefusal::Refused { view, number }) => Ok(Report::ViewRefused { view, number }),
+        Err(ViewRefusal::Memory) => Err(Interruption::Memory),
+    }
+}
+
+/// Reads the schema, and goes on to its views and the query.
 pub fn run_schema<F: Files, L: Ledger>(
     alloc: Global,
     schema: &str,
@@ -151,7 +174,7 @@ pub fn run_schema<F: Files, L: Ledger>(
 {
     let text = fetch_file(alloc, files, schema, MAX_TEXT)?;
     match read_catalog(alloc, &text) {
-        Ok(catalog) => run_query(alloc, query, dir, &catalog, files, steps),
+        Ok(catalog) => run_catalog(alloc, query, dir, &catalog, files, steps),
         Err(TextRefusal::Number(number)) => Ok(Report::SchemaRefused(number)),
         Err(TextRefusal::Memory) => Err(Interruption::Memory),
     }

@@ -1,18 +1,18 @@
 // From the two texts to a catalog and a checked query.
 ghost use Rattle.std.specs.Prelude.{◌≡◌, true, IfOk};
+ghost use Rattle.query_faults.specs.Views.{fault, view_heads};
 ghost use Rattle.sql_ast.specs.Shown as shown;
 ghost use Rattle.sql_catalog.specs.Shown as catalogs;
-ghost use Rattle.sql_check.specs.Taken.{is_taken};
 ghost use Rattle.sql_parser.specs.ReadSchema.{schema_tree};
 ghost use Rattle.sql_parser.specs.ReadText.{query_tree};
-ghost use Rattle.qgm_app.specs.Texts.{Gives, GivesChecked, catalog_of, query_of, schema_of, spans_of, tree_of, valid_query};
+ghost use Rattle.qgm_app.specs.Texts.{Gives, GivesChecked, catalog_of, checked_query, query_of, refused_by, schema_of, spans_of, tree_of, valid_query};
 ghost use Rattle.qgm_app.specs.declared.texts.TextRefusal.TheVariants.{Memory};
 
-use crate::taken::takes_schema;
 use qgm_base::OutOfMemory;
+use query_faults::{QueryRefusal, ViewHeads, check_query};
 use sql_ast::{QueryText, Schema};
 use sql_catalog::{Catalog, SchemaRefusal, build};
-use sql_check::{Checked, QueryRefusal, check, is_taken};
+use sql_check::{Checked, is_answered, resolve};
 use sql_parser::{ParseRefusal, parse_query, parse_schema};
 use sql_text::{LexRefusal, Spanned, lex};
 use sqlite_items::Items;
@@ -38,7 +38,7 @@ impl From<OutOfMemory> for TextRefusal {
 // The number of a text that is too long or too deep.
 const OVER_LIMIT: u8 = 5;
 
-// The number of a text that no tree spells, or none that is taken as yet.
+// The number of a text that no tree spells, or of a query that isn't answered as yet.
 const SYNTAX: u8 = 4;
 
 // The tokens of a text, whose bytes are none where they are too many.
@@ -76,11 +76,7 @@ fn read_schema(alloc: Global, text: &Option<Items<u8>>) -> Result<Schema, TextRe
     ensures { Gives shown.schema result (schema_of text.now) }
 {
     let spans = read_spans(alloc, text)?;
-    let schema = schema_spelled(alloc, spans.as_slice())?;
-    if !takes_schema(&schema) {
-        return Err(TextRefusal::Number(SYNTAX));
-    }
-    Ok(schema)
+    schema_spelled(alloc, spans.as_slice())
 }
 
 /// The catalog of a schema's text, whose bytes are none where they are too many.
@@ -115,29 +111,24 @@ fn query_spelled(alloc: Global, spans: &[Spanned]) -> Result<QueryText, TextRefu
 // The tree of a query's text.
 #[tactic(auto, unfolding(crate::specs::Texts::query_of))]
 fn read_query_text(alloc: Global, text: &Option<Items<u8>>) -> Result<QueryText, TextRefusal>
-    ensures gives { Gives shown.query_text result (query_of text.now) }
-    ensures taken { IfOk result (λ query. is_taken (shown.query_text query) ≡ true) }
+    ensures { Gives shown.query_text result (query_of text.now) }
 {
     let spans = read_spans(alloc, text)?;
-    let query = query_spelled(alloc, spans.as_slice())?;
-    if !is_taken(&query) {
-        return Err(TextRefusal::Number(SYNTAX));
-    }
-    Ok(query)
+    query_spelled(alloc, spans.as_slice())
 }
 
-/// The checked query of a query's text, whose bytes are none where they are too many.
-#[tactic(auto, unfolding(crate::specs::Texts::valid_query))]
-pub fn read_query(
+// Nothing where a query is valid, else the number of its fault.
+fn pass(
     alloc: Global,
+    query: &QueryText,
     catalog: &Catalog,
-    text: &Option<Items<u8>>,
-) -> Result<Checked, TextRefusal>
-    ensures { GivesChecked (catalogs.catalog catalog.now) result (valid_query (catalogs.catalog catalog.now) text.now) }
+    views: &ViewHeads,
+) -> Result<(), TextRefusal>
+    requires views { views.now.list ≡ view_heads (catalogs.catalog catalog.now) }
+    ensures { Gives (λ _. shown.query_text query.now) result (refused_by (fault (catalogs.catalog catalog.now) (shown.query_text query.now)) (shown.query_text query.now)) }
 {
-    let query = read_query_text(alloc, text)?;
-    match check(alloc, &query, catalog) {
-        Ok(checked) => Ok(checked),
+    match check_query(alloc, query, catalog, views) {
+        Ok(_) => Ok(()),
         Err(QueryRefusal::UnknownTable) => Err(TextRefusal::Number(6)),
         Err(QueryRefusal::DuplicateRange) => Err(TextRefusal::Number(7)),
         Err(QueryRefusal::UnknownColumn) => Err(TextRefusal::Number(8)),
@@ -149,4 +140,36 @@ pub fn read_query(
         Err(QueryRefusal::OrderColumn) => Err(TextRefusal::Number(14)),
         Err(QueryRefusal::Memory) => Err(TextRefusal::Memory),
     }
+}
+
+// A query with its names resolved, where it is valid and is answered as yet.
+fn resolved(
+    alloc: Global,
+    query: &QueryText,
+    catalog: &Catalog,
+    views: &ViewHeads,
+) -> Result<Checked, TextRefusal>
+    requires views { views.now.list ≡ view_heads (catalogs.catalog catalog.now) }
+    ensures { GivesChecked (catalogs.catalog catalog.now) result (checked_query (catalogs.catalog catalog.now) (shown.query_text query.now)) }
+{
+    pass(alloc, query, catalog, views)?;
+    if !is_answered(query, catalog) {
+        return Err(TextRefusal::Number(SYNTAX));
+    }
+    Ok(resolve(alloc, query, catalog)?)
+}
+
+/// The checked query of a query's text, whose bytes are none where they are too many.
+#[tactic(auto, unfolding(crate::specs::Texts::valid_query))]
+pub fn read_query(
+    alloc: Global,
+    catalog: &Catalog,
+    views: &ViewHeads,
+    text: &Option<Items<u8>>,
+) -> Result<Checked, TextRefusal>
+    requires views { views.now.list ≡ view_heads (catalogs.catalog catalog.now) }
+    ensures { GivesChecked (catalogs.catalog catalog.now) result (valid_query (catalogs.catalog catalog.now) text.now) }
+{
+    let query = read_query_text(alloc, text)?;
+    resolved(alloc, &query, catalog, views)
 }

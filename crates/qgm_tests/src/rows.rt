@@ -10,6 +10,9 @@ const SCHEMA: &[u8] = b"CREATE TABLE T (A INTEGER, B INTEGER);\n";
 
 const TABLE: &[u8] = b"A,B\n1,1\n1,1\n2,\\N\n";
 
+const WITH_VIEW: &[u8] =
+    b"CREATE TABLE T (A INTEGER, B INTEGER); CREATE VIEW V AS SELECT DISTINCT A FROM T;";
+
 // The file of table T.
 fn table(alloc: Global) -> Result<Vec<Entry>, Fail> {
     let mut entries = Vec::new(alloc);
@@ -94,10 +97,22 @@ fn a_query_is_refused_by_its_number(rt: HostRuntime) -> Result<(), Fail> {
         ("SELECT 9223372036854775808 FROM T", "QUERY Q3\n"),
         ("SELECT DNO FROM", "QUERY Q4\n"),
         ("SELECT A FROM T WHERE A IN (SELECT B FROM T)", "QUERY Q4\n"),
+        ("SELECT A FROM V", "QUERY Q4\n"),
         ("SELECT A FROM NOPE", "QUERY Q6\n"),
+        ("SELECT 1 FROM T, T", "QUERY Q7\n"),
         ("SELECT FOO FROM T", "QUERY Q8\n"),
+        ("SELECT B FROM V", "QUERY Q8\n"),
+        ("SELECT A FROM T X, T Y", "QUERY Q9\n"),
+        ("SELECT A || 'x' FROM T", "QUERY Q10\n"),
+        (
+            "SELECT A FROM T WHERE A IN (SELECT A, B FROM T)",
+            "QUERY Q11\n",
+        ),
+        ("SELECT A, B FROM T GROUP BY A", "QUERY Q12\n"),
+        ("SELECT A FROM T WHERE COUNT(*) > 1", "QUERY Q13\n"),
+        ("SELECT A FROM T ORDER BY B", "QUERY Q14\n"),
     ] {
-        let (status, text) = over_t(rt.alloc(), SCHEMA, TABLE, query.as_bytes())?;
+        let (status, text) = over_t(rt.alloc(), WITH_VIEW, TABLE, query.as_bytes())?;
         assert_eq!(rt; status, 7, "at {query}");
         assert_eq!(rt; text.as_str(), printed, "at {query}");
     }
@@ -169,8 +184,20 @@ fn a_schema_is_refused_by_its_number(rt: HostRuntime) -> Result<(), Fail> {
         ),
         ("CREATE TABLE T (A INTEGER)", "SCHEMA S4\n"),
         (
-            "CREATE TABLE T (A INTEGER); CREATE VIEW V AS SELECT A FROM T;",
-            "SCHEMA S4\n",
+            "CREATE TABLE T (A INTEGER); CREATE VIEW W AS SELECT A FROM NOPE;",
+            "SCHEMA S6\n",
+        ),
+        (
+            "CREATE TABLE T (A INTEGER); CREATE VIEW W AS SELECT A FROM W;",
+            "SCHEMA S7\n",
+        ),
+        (
+            "CREATE TABLE T (A INTEGER); CREATE VIEW W AS SELECT FOO FROM T;",
+            "SCHEMA S11 W 8\n",
+        ),
+        (
+            "CREATE TABLE T (A INT); CREATE VIEW V (B, C) AS SELECT A FROM W; CREATE VIEW W AS SELECT A || 'x' FROM T;",
+            "SCHEMA S11 W 10\n",
         ),
         ("CREATE TABLE T (A INTEGER, a INT);", "SCHEMA S8\n"),
         (
@@ -189,6 +216,15 @@ fn a_schema_is_refused_by_its_number(rt: HostRuntime) -> Result<(), Fail> {
         assert_eq!(rt; status, 5, "at {schema}");
         assert_eq!(rt; text.as_str(), printed, "at {schema}");
     }
+    Ok(())
+}
+
+#[test]
+fn a_schema_with_a_view_is_taken(rt: HostRuntime) -> Result<(), Fail> {
+    let query = b"SELECT A FROM T".as_slice();
+    let (status, text) = over_t(rt.alloc(), WITH_VIEW, TABLE, query)?;
+    assert_eq!(rt; status, 0);
+    assert_eq!(rt; text.as_str(), "A\n1\n1\n2\n");
     Ok(())
 }
 

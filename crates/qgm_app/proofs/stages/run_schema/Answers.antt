@@ -6,7 +6,6 @@ use Rattle.qgm_app.specs.Outcome.{with_catalog}
 use Rattle.qgm_app.specs.Texts.{catalog_of}
 use Rattle.qgm_app.specs.declared.report.Report.TheVariants.{SchemaRefused}
 use Rattle.qgm_app.proofs.Steps.{comes-interrupted, schema-refused, schema-taken, text-of-schema}
-use Rattle.qgm_app.proofs.Views.{no-views}
 use Rattle.qgm_app.proofs.stages.run_schema.Goals as goal
 
 pub returns-in_err-text-clause-comes : goal.returns-in_err-text-clause-comes
@@ -17,8 +16,8 @@ returns-in_err-text-clause-comes g c =
 
 pub returns-in-Ok-clause-comes : goal.returns-in-Ok-clause-comes
 returns-in-Ok-clause-comes g c =
-    text-of-schema _ _ _ c.args.schema.now c.args.query.now c.args.dir.now c.in_ok-text.text (ended c.run_query.result) c.in_ok-text.ensures.comes
-    (schema-taken _ _ c.args.query.now c.args.dir.now c.in_ok-text.text (catalogs.catalog c.in-Ok.catalog) (ended c.run_query.result) c.in-Ok.ensures c.run_query.ensures.comes)
+    text-of-schema _ _ _ c.args.schema.now c.args.query.now c.args.dir.now c.in_ok-text.text (ended c.run_catalog.result) c.in_ok-text.ensures.comes
+    (schema-taken _ _ c.args.query.now c.args.dir.now c.in_ok-text.text (catalogs.catalog c.in-Ok.catalog) (ended c.run_catalog.result) c.in-Ok.ensures c.run_catalog.ensures.comes)
 
 pub returns-in-Err-Number-clause-comes : goal.returns-in-Err-Number-clause-comes
 returns-in-Err-Number-clause-comes g c =
@@ -29,6 +28,3 @@ returns-in-Err-Number-clause-comes g c =
 pub returns-clause-comes : goal.returns-clause-comes
 returns-clause-comes g c =
     text-of-schema _ _ _ c.args.schema.now c.args.query.now c.args.dir.now c.in_ok-text.text starved c.in_ok-text.ensures.comes (comes-starved _ _)
-
-pub run_query-requires : goal.run_query-requires
-run_query-requires g c = no-views c.in_ok-text.text (catalogs.catalog c.in-Ok.catalog) c.in-Ok.ensures

@@ -1,0 +1,15 @@
+use Rattle.std.proofs.Common.{refl}
+use Rattle.io_edge.specs.Outcome.{ended}
+use Rattle.sql_catalog.specs.Shown as catalogs
+use Rattle.qgm_app.proofs.Steps.{view-refused, views-taken}
+use Rattle.qgm_app.proofs.stages.run_catalog.Goals as goal
+
+pub returns-in-Ok-clause-comes : goal.returns-in-Ok-clause-comes
+returns-in-Ok-clause-comes g c =
+    views-taken _ _ c.args.query.now c.args.dir.now (catalogs.catalog c.args.catalog.now) (ended c.run_query.result) c.in-Ok.ensures.valid c.run_query.ensures.comes
+
+pub returns-in-Err-Refused-clause-comes : goal.returns-in-Err-Refused-clause-comes
+returns-in-Err-Refused-clause-comes g c =
+    rw c.in-Err-Refused.field-0-is
+    (view-refused _ c.args.query.now c.args.dir.now (catalogs.catalog c.args.catalog.now) c.in-Err-Refused.view c.in-Err-Refused.number
+    (c.in-Err-Refused.ensures.refused c.in-Err-Refused.view c.in-Err-Refused.number c.in-Err-Refused.field-0-is))
