@@ -31,4 +31,4 @@ returns-clause-comes g c =
     text-of-schema _ _ _ c.args.schema.now c.args.query.now c.args.dir.now c.in_ok-text.text starved c.in_ok-text.ensures.comes (comes-starved _ _)
 
 pub run_query-requires : goal.run_query-requires
-run_query-requires g c = no-views c.in_ok-text.text (catalogs.catalog c.in-Ok.catalog) c.in-Ok.ensures
+run_query-requires g c = record { views = no-views c.in_ok-text.text (catalogs.catalog c.in-Ok.catalog) c.in-Ok.ensures }
