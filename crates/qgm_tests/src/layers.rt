@@ -1,10 +1,11 @@
 use csv_tables::{load, write_rows};
 use io_edge::{Entry, MemFiles, fetch_file};
 use plain_exec::execute;
+use query_faults::{check_query, check_views};
 use qgm_base::Text;
 use row_bag::{Bag, Verdict, sorted, verdict};
 use sql_catalog::build;
-use sql_check::{check, is_taken};
+use sql_check::{is_answered, resolve};
 use sql_parser::{parse_query, parse_schema};
 use sql_text::lex;
 use sql_value::{Cell, cell_order, copy};
@@ -24,7 +25,7 @@ fn one_file(alloc: Global, name: &str, text: &str) -> Result<MemFiles, Fail> {
 }
 
 // The text of the rows of a query over one table, by each layer's public call in turn; none where the
-// query isn't taken.
+// query isn't answered.
 fn by_layers(alloc: Global, schema: &str, query: &str, table: &str) -> Result<Vec<u8>, Fail> {
     let mut files = one_file(alloc, "d/T.csv", table)?;
     let tokens = lex(alloc, schema.as_bytes())?;
@@ -32,10 +33,12 @@ fn by_layers(alloc: Global, schema: &str, query: &str, table: &str) -> Result<Ve
     let catalog = build(alloc, schema)?;
     let tokens = lex(alloc, query.as_bytes())?;
     let query = parse_query(alloc, tokens.as_slice())?;
-    if !is_taken(&query) {
+    let views = check_views(alloc, &catalog)?;
+    check_query(alloc, &query, &catalog, &views)?;
+    if !is_answered(&query, &catalog) {
         return Ok(Vec::new(alloc));
     }
-    let checked = check(alloc, &query, &catalog)?;
+    let checked = resolve(alloc, &query, &catalog)?;
     let tables = load(alloc, &catalog, "d", &mut files)?;
     let rows = match verdict(execute(alloc, &checked, tables)?) {
         Verdict::Rows(bag) => sorted(bag, &checked.order)?,
