@@ -70,6 +70,8 @@ fn equal_ranges_and_names(rt: HostRuntime) -> Result<(), Fail> {
         ("SELECT A FROM T WHERE B IN (SELECT 1 FROM U, U)", 7),
         ("SELECT X.P FROM (SELECT A, B FROM T) X (P, P)", 7),
         ("SELECT 1 FROM T X (P, Q, P)", 7),
+        ("SELECT 1 FROM T JOIN U ON T.A IN (SELECT 1 FROM T, T)", 7),
+        ("SELECT A FROM T GROUP BY A HAVING EXISTS (SELECT 1 FROM U, U)", 7),
         ("SELECT A FROM T UNION ALL SELECT 1 FROM T Y, U Y", 7),
         ("SELECT 1 FROM T, T X", 0),
         ("SELECT 1 FROM T X, U Y", 0),
@@ -77,6 +79,8 @@ fn equal_ranges_and_names(rt: HostRuntime) -> Result<(), Fail> {
         ("SELECT A FROM T WHERE B IN (SELECT 1 FROM T, U)", 0),
         ("SELECT X.P FROM (SELECT A, B FROM T) X (P, Q)", 0),
         ("SELECT 1 FROM T X (P, Q, R)", 0),
+        ("SELECT 1 FROM T JOIN U ON T.A IN (SELECT 1 FROM T, U)", 0),
+        ("SELECT A FROM T GROUP BY A HAVING EXISTS (SELECT 1 FROM U, T)", 0),
         ("SELECT A FROM T UNION ALL SELECT 1 FROM T Y, U Z", 0),
     ] {
         assert_eq!(rt; refusal(rt.alloc(), &catalog, text)?, number, "at {text}");
@@ -232,6 +236,27 @@ fn degrees(rt: HostRuntime) -> Result<(), Fail> {
     Ok(())
 }
 
+// A query of so many columns, in a derived table.
+fn of_columns(alloc: Global, columns: u32) -> Result<String, Fail> {
+    let mut text = String::new(alloc);
+    text.push_str("SELECT 1 FROM (SELECT A")?;
+    for _ in 1..columns {
+        text.push_str(", B")?;
+    }
+    text.push_str(" FROM T) X")?;
+    Ok(text)
+}
+
+#[test]
+fn no_query_has_over_1024_columns(rt: HostRuntime) -> Result<(), Fail> {
+    let catalog = catalog(rt.alloc())?;
+    for (columns, number) in [(1024, 0), (1025, 11)] {
+        let text = of_columns(rt.alloc(), columns)?;
+        assert_eq!(rt; refusal(rt.alloc(), &catalog, text.as_str())?, number);
+    }
+    Ok(())
+}
+
 #[test]
 fn groups(rt: HostRuntime) -> Result<(), Fail> {
     let catalog = catalog(rt.alloc())?;
@@ -321,7 +346,7 @@ fn keys_of_an_order(rt: HostRuntime) -> Result<(), Fail> {
         ("SELECT A FROM T ORDER BY 1", 0),
         ("SELECT A AS P FROM T ORDER BY P", 0),
         ("SELECT A FROM T UNION SELECT D FROM U ORDER BY A", 0),
-        ("SELECT * FROM T, U ORDER BY B, 7", 0),
+        ("SELECT * FROM T, U ORDER BY B, 6", 0),
     ] {
         assert_eq!(rt; refusal(rt.alloc(), &catalog, text)?, number, "at {text}");
     }
