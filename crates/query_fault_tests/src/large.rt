@@ -89,7 +89,9 @@ fn a_long_column_list_and_groups(rt: HostRuntime) -> Result<(), Fail> {
     let wide = listed(alloc, "T.*", ", ", 16)?;
     let columns = names(alloc, "N", 1024)?;
     let by = names(alloc, "N", 490)?;
-    let query = format!(in alloc; "SELECT {by} FROM (SELECT {wide} FROM T) X ({columns}) GROUP BY {by}")?;
+    let query = format!(in alloc;
+        "SELECT {by} FROM (SELECT {wide} FROM T) X ({columns}) GROUP BY {by}"
+    )?;
     assert!(rt; is_valid(alloc, query.as_str())?);
     Ok(())
 }
@@ -99,10 +101,12 @@ fn many_names_of_an_outer_scope(rt: HostRuntime) -> Result<(), Fail> {
     let alloc = rt.alloc();
     let wide = listed(alloc, "T.*", ", ", 16)?;
     let level = format!(in alloc; "EXISTS (SELECT 1 FROM (SELECT {wide} FROM T) X WHERE ")?;
-    let opened = listed(alloc, level.as_str(), "", 30)?;
+    let opened = listed(alloc, level.as_str(), "", 8)?;
     let tests = listed(alloc, "A = A", " AND ", 1000)?;
-    let closed = listed(alloc, ")", "", 30)?;
-    let query = format!(in alloc; "SELECT 1 FROM (SELECT C0 FROM T) Y (A) WHERE {opened}{tests}{closed}")?;
+    let closed = listed(alloc, ")", "", 8)?;
+    let query = format!(in alloc;
+        "SELECT 1 FROM (SELECT C0 FROM T) Y (A) WHERE {opened}{tests}{closed}"
+    )?;
     assert!(rt; is_valid(alloc, query.as_str())?);
     Ok(())
 }

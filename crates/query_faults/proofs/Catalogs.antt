@@ -110,7 +110,7 @@ found_head : (heads : Heads) (views : List s.ViewDecl) (name : List ℕ) → v.v
 found_head heads [] name = refl
 found_head heads (view ∷ views) name =
     elim (same_name view.name name) as (λ b.
-      (elim b as (λ _. Option (List TypedColumn)) [ true ↦ Some (view_columns heads view) | false ↦ v.view_named (map (view_head heads) views) name ]) ≡ head_of heads (cond b (Some view) (view_named views name))) [
+    (elim b as (λ _. Option (List TypedColumn)) [ true ↦ Some (view_columns heads view) | false ↦ v.view_named (map (view_head heads) views) name ]) ≡ head_of heads (cond b (Some view) (view_named views name))) [
       | true ↦ refl
       | false ↦ found_head heads views name
     ]
@@ -194,8 +194,8 @@ module _ (catalog : Declared) where
   none_refused heads test (view ∷ views) h =
       elim (test view) as (λ b. refused_among heads (cond b (view ∷ filter test views) (filter test views)) ≡ None → (b ≡ true → view_fault heads view ≡ 0) × Each (λ (w : s.ViewDecl). test w ≡ true → view_fault heads w ≡ 0) views) [
         | true ↦ (λ k.
-          let e = first_none (refusal_of heads view) (refused_among heads (filter test views)) k in
-          ((λ _. no_refusal view.name (view_fault heads view) e.0), none_refused heads test views e.1))
+            let e = first_none (refusal_of heads view) (refused_among heads (filter test views)) k in
+            ((λ _. no_refusal view.name (view_fault heads view) e.0), none_refused heads test views e.1))
         | false ↦ (λ k. ((λ e. absurd (cc)), none_refused heads test views k))
       ] h
 

@@ -162,7 +162,7 @@ module _ (heads : Heads) (known : Known) (same : SameColumns heads known) where
       even_list list (list_scope list group having (ranges heads from scopes) ∷ scopes) _ (scope_same heads known same list group having from scopes) (both_none _ _ (both_none _ _ (both_none _ _ (both_none _ _ h).1).1).0).0,
       even_filter by Filtered (plain (ranges heads from scopes) ∷ scopes) _ (ap (λ (rs : Shape). rs ∷ shapes scopes) (ranges_same heads known same from scopes)) (both_none _ _ (both_none _ _ (both_none _ _ h).1).0).0,
       even_filter having Listed (list_scope list group having (ranges heads from scopes) ∷ scopes) _ (scope_same heads known same list group having from scopes)
-      (both_none (select_fault heads list (list_scope list group having (ranges heads from scopes) ∷ scopes)) (filter_fault heads Listed having (list_scope list group having (ranges heads from scopes) ∷ scopes)) (both_none _ (too_wide (list_columns heads list (list_scope list group having (ranges heads from scopes) ∷ scopes))) (both_none _ _ (both_none _ _ h).1).1).0).1,
+          (both_none (select_fault heads list (list_scope list group having (ranges heads from scopes) ∷ scopes)) (filter_fault heads Listed having (list_scope list group having (ranges heads from scopes) ∷ scopes)) (both_none _ (too_wide (list_columns heads list (list_scope list group having (ranges heads from scopes) ∷ scopes))) (both_none _ _ (both_none _ _ h).1).1).0).1,
     )
     even_query (s.enclosed x) scopes h = even_query x scopes h
     even_query (s.combine x op all y) scopes h = (
