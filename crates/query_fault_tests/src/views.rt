@@ -23,9 +23,21 @@ fn refuses(alloc: Global, text: &str, name: &str, refused: u8) -> Result<bool, F
 #[test]
 fn the_first_view_by_depth_is_refused(rt: HostRuntime) -> Result<(), Fail> {
     for (text, name, number) in [
-        ("CREATE TABLE T (A INT); CREATE VIEW W AS SELECT FOO FROM T;", "W", 8),
-        ("CREATE TABLE T (A INT); CREATE VIEW W AS SELECT A FROM T;", "", 0),
-        ("CREATE TABLE T (A INT); CREATE VIEW W (B, C) AS SELECT A FROM T;", "W", 11),
+        (
+            "CREATE TABLE T (A INT); CREATE VIEW W AS SELECT FOO FROM T;",
+            "W",
+            8,
+        ),
+        (
+            "CREATE TABLE T (A INT); CREATE VIEW W AS SELECT A FROM T;",
+            "",
+            0,
+        ),
+        (
+            "CREATE TABLE T (A INT); CREATE VIEW W (B, C) AS SELECT A FROM T;",
+            "W",
+            11,
+        ),
         (
             "CREATE TABLE T (A INT); CREATE VIEW X AS SELECT A + 'x' FROM V; CREATE VIEW V AS SELECT A, FOO FROM T;",
             "V",

@@ -2,3 +2,9 @@ pub mod Orders
 pub mod Finds
 pub mod Targets
 pub mod Nested
+pub mod Members
+pub mod Named
+pub mod Evens
+pub mod KnownTypes
+pub mod Stable
+pub mod Catalogs

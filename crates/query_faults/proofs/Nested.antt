@@ -11,7 +11,8 @@ use Rattle.sql_catalog.specs.declared.reader.Reader.{Reader}
 use Rattle.sql_meaning.specs.Scopes.{first_of}
 use Rattle.query_faults.specs.Depths.{over, reads_marked, refused_marked}
 use Rattle.query_faults.specs.Scopes.{Heads}
-use Rattle.query_faults.specs.Views.{heads_of, refused_among, refused_to, refusal_of, views_of_depth}
+use Rattle.query_faults.specs.Views.{heads_of, heads_with, refused_among, refused_to, refusal_of, view_heads, views_of_depth}
+use Rattle.query_faults.specs.declared.view.ViewHead.{ViewHead}
 
 and-true : (b : Bool) → b && true ≡ b
 and-true true = refl
@@ -48,3 +49,9 @@ marked-views heads (v ∷ views) p q = elim (cases_Bool (p (reader_of v) && not 
 pub refused_more : (catalog : Declared) (n : ℕ)
     → first_of (refused_to catalog n) (refused_marked (heads_of catalog) catalog.views (over (readers_of catalog.views) n) (over (readers_of catalog.views) (n + 1))) ≡ refused_to catalog (n + 1)
 refused_more catalog n = rw (add-one n) (ap (first_of (refused_to catalog n)) (marked-views (heads_of catalog) catalog.views (nests_over (readers_of catalog.views) n) (nests_over (readers_of catalog.views) (suc n))))
+
+-- one more depth, from what the lesser ones have
+pub refused_step : (catalog : Declared) (n : ℕ) (views : List ViewHead) (all : List Reader) (found : Option (List ℕ × ℕ)) (marks deeper : List Bool)
+    → views ≡ view_heads catalog → all ≡ readers_of catalog.views → found ≡ refused_to catalog n → marks ≡ over all n → deeper ≡ over all (n + 1)
+    → first_of found (refused_marked (heads_with catalog views) catalog.views marks deeper) ≡ refused_to catalog (n + 1)
+refused_step catalog n views all found marks deeper views_are all_are found_is marks_are deeper_are = rw (deeper_are, marks_are, found_is, all_are, views_are) (refused_more catalog n)

@@ -50,5 +50,11 @@ lesser_joins (suc a) (suc b) (suc c) =
     lesser-min (min (suc a) (suc b)) (suc c) (omega arith) (omega arith) ∙ (let e : min (min (suc a) (suc b)) (suc c) ≡ min (suc a) (min (suc b) (suc c)) = omega arith in e)
     ∙ sym (lesser-min (suc a) (min (suc b) (suc c)) (omega arith) (omega arith))
 
+-- where the lesser of two is none, both are none
+pub both_none : (a b : ℕ) → lesser a b ≡ 0 → (a ≡ 0) × (b ≡ 0)
+both_none zero b h = (refl, h)
+both_none (suc a) zero h = absurd (cc)
+both_none (suc a) (suc b) h = absurd (omega (arith, h))
+
 -- a step of a loop that keeps the least fault
 pub ruleset fault_steps = (common_steps, lesser_joins)

@@ -19,9 +19,9 @@ use crate::place::Place;
 use crate::scope::{Scopes, column, grouping_fault};
 use crate::sources::{Source, block_output, both, derived, named, no_source, push_source};
 use crate::typed::{
-    Listed, Output, Typed, aggregate, alone, among, between, case_ending, chosen, coalesce, compared,
-    compared_query, exists, like, limited, no_output, none_after, null_if, of_type, operated, push,
-    push_result, scalar, signed,
+    Listed, Output, Typed, aggregate, alone, among, between, case_ending, chosen, coalesce,
+    compared, compared_query, exists, like, limited, no_output, none_after, null_if, of_type,
+    operated, push, push_result, scalar, signed,
 };
 use crate::types::{length_unfit, operand_type, type_of_declared};
 use qgm_base::OutOfMemory;
@@ -34,7 +34,13 @@ use std::alloc::Global;
 // An expression. Chains of operators stand apart from all else, so that each of thousands of
 // operators takes little of the stack.
 #[cycle(checks)]
-fn expr(alloc: Global, x: &Expr, place: Place, inner: &Scopes<'_>, known: &Known<'_>) -> Result<Typed, OutOfMemory>
+fn expr(
+    alloc: Global,
+    x: &Expr,
+    place: Place,
+    inner: &Scopes<'_>,
+    known: &Known<'_>,
+) -> Result<Typed, OutOfMemory>
     ensures sort { IfOk result (λ t. t.sort ≡ types.type_of (heads known.now) (written.expr x.now) (scopes inner.now)) }
     ensures fault { IfOk result (λ t. number t.fault ≡ spec.expr_fault (heads known.now) place (written.expr x.now) (scopes inner.now)) }
 {
@@ -60,7 +66,13 @@ fn expr(alloc: Global, x: &Expr, place: Place, inner: &Scopes<'_>, known: &Known
 // `a + b`, `a - b` or `a || b`.
 #[cycle(checks)]
 #[tactic(auto, using(sql_ast::specs::Shown::lists))]
-fn sum(alloc: Global, x: &Expr, place: Place, inner: &Scopes<'_>, known: &Known<'_>) -> Result<Typed, OutOfMemory>
+fn sum(
+    alloc: Global,
+    x: &Expr,
+    place: Place,
+    inner: &Scopes<'_>,
+    known: &Known<'_>,
+) -> Result<Typed, OutOfMemory>
     requires form { is_sum (written.expr x.now) ≡ true }
     ensures sort { IfOk result (λ t. t.sort ≡ types.type_of (heads known.now) (written.expr x.now) (scopes inner.now)) }
     ensures fault { IfOk result (λ t. number t.fault ≡ spec.expr_fault (heads known.now) place (written.expr x.now) (scopes inner.now)) }
@@ -76,7 +88,13 @@ fn sum(alloc: Global, x: &Expr, place: Place, inner: &Scopes<'_>, known: &Known<
 // `a * b` or `a / b`.
 #[cycle(checks)]
 #[tactic(auto, using(sql_ast::specs::Shown::lists))]
-fn product(alloc: Global, x: &Expr, place: Place, inner: &Scopes<'_>, known: &Known<'_>) -> Result<Typed, OutOfMemory>
+fn product(
+    alloc: Global,
+    x: &Expr,
+    place: Place,
+    inner: &Scopes<'_>,
+    known: &Known<'_>,
+) -> Result<Typed, OutOfMemory>
     requires form { is_product (written.expr x.now) ≡ true }
     ensures sort { IfOk result (λ t. t.sort ≡ types.type_of (heads known.now) (written.expr x.now) (scopes inner.now)) }
     ensures fault { IfOk result (λ t. number t.fault ≡ spec.expr_fault (heads known.now) place (written.expr x.now) (scopes inner.now)) }
@@ -92,7 +110,13 @@ fn product(alloc: Global, x: &Expr, place: Place, inner: &Scopes<'_>, known: &Kn
 // An expression that is no chain of operators.
 #[cycle(checks)]
 #[tactic(auto, using(sql_ast::specs::Shown::lists))]
-fn operand(alloc: Global, x: &Expr, place: Place, inner: &Scopes<'_>, known: &Known<'_>) -> Result<Typed, OutOfMemory>
+fn operand(
+    alloc: Global,
+    x: &Expr,
+    place: Place,
+    inner: &Scopes<'_>,
+    known: &Known<'_>,
+) -> Result<Typed, OutOfMemory>
     requires no_sum { is_sum (written.expr x.now) ≡ false }
     requires no_product { is_product (written.expr x.now) ≡ false }
     ensures sort { IfOk result (λ t. t.sort ≡ types.type_of (heads known.now) (written.expr x.now) (scopes inner.now)) }
@@ -122,7 +146,15 @@ fn operand(alloc: Global, x: &Expr, place: Place, inner: &Scopes<'_>, known: &Kn
         Expr::Simple(a, list, last) => {
             let a = expr(alloc, a, place, inner, known)?;
             let mut listed = none_after(alloc, a.fault);
-            choices(alloc, a.sort, list.as_slice(), place, inner, known, &mut listed)?;
+            choices(
+                alloc,
+                a.sort,
+                list.as_slice(),
+                place,
+                inner,
+                known,
+                &mut listed,
+            )?;
             case_of(alloc, listed, last, place, inner, known)
         }
         Expr::Coalesce(a, list) => {
@@ -141,7 +173,14 @@ fn operand(alloc: Global, x: &Expr, place: Place, inner: &Scopes<'_>, known: &Kn
 // The expressions of a list, added at the end.
 #[cycle(checks)]
 #[tactic(auto, using(crate::proofs::Orders::fault_steps))]
-fn exprs(alloc: Global, list: &[Expr], place: Place, inner: &Scopes<'_>, known: &Known<'_>, listed: &mut Listed) -> Result<(), OutOfMemory>
+fn exprs(
+    alloc: Global,
+    list: &[Expr],
+    place: Place,
+    inner: &Scopes<'_>,
+    known: &Known<'_>,
+    listed: &mut Listed,
+) -> Result<(), OutOfMemory>
     ensures sorts { OnOk result (listed.new.sorts ≡ listed.old.sorts ++ types.types_of (heads known.now) (written.expr_list list.now) (scopes inner.now)) }
     ensures fault { OnOk result (number listed.new.fault ≡ rule.lesser (number listed.old.fault) (spec.exprs_fault (heads known.now) place (written.expr_list list.now) (scopes inner.now))) }
 {
@@ -154,7 +193,13 @@ fn exprs(alloc: Global, list: &[Expr], place: Place, inner: &Scopes<'_>, known: 
 
 // A result of a CASE; none where it is NULL.
 #[cycle(checks)]
-fn outcome(alloc: Global, res: &Res, place: Place, inner: &Scopes<'_>, known: &Known<'_>) -> Result<Option<Typed>, OutOfMemory>
+fn outcome(
+    alloc: Global,
+    res: &Res,
+    place: Place,
+    inner: &Scopes<'_>,
+    known: &Known<'_>,
+) -> Result<Option<Typed>, OutOfMemory>
     ensures sorts { IfOk result (λ r. sorts_of r ≡ types.res_types (heads known.now) (written.res res.now) (scopes inner.now)) }
     ensures fault { IfOk result (λ r. fault_of r ≡ spec.res_fault (heads known.now) place (written.res res.now) (scopes inner.now)) }
 {
@@ -166,7 +211,13 @@ fn outcome(alloc: Global, res: &Res, place: Place, inner: &Scopes<'_>, known: &K
 
 // What stands after ELSE; none where that is NULL or there is no ELSE.
 #[cycle(checks)]
-fn otherwise(alloc: Global, other: &Otherwise, place: Place, inner: &Scopes<'_>, known: &Known<'_>) -> Result<Option<Typed>, OutOfMemory>
+fn otherwise(
+    alloc: Global,
+    other: &Otherwise,
+    place: Place,
+    inner: &Scopes<'_>,
+    known: &Known<'_>,
+) -> Result<Option<Typed>, OutOfMemory>
     ensures sorts { IfOk result (λ r. sorts_of r ≡ types.else_types (heads known.now) (written.otherwise other.now) (scopes inner.now)) }
     ensures fault { IfOk result (λ r. fault_of r ≡ spec.else_fault (heads known.now) place (written.otherwise other.now) (scopes inner.now)) }
 {
@@ -178,7 +229,14 @@ fn otherwise(alloc: Global, other: &Otherwise, place: Place, inner: &Scopes<'_>,
 
 // Adds a condition of a CASE with its result.
 #[cycle(checks)]
-fn add_arm(alloc: Global, arm: &Arm, place: Place, inner: &Scopes<'_>, known: &Known<'_>, listed: &mut Listed) -> Result<(), OutOfMemory>
+fn add_arm(
+    alloc: Global,
+    arm: &Arm,
+    place: Place,
+    inner: &Scopes<'_>,
+    known: &Known<'_>,
+    listed: &mut Listed,
+) -> Result<(), OutOfMemory>
     ensures sorts { OnOk result (listed.new.sorts ≡ listed.old.sorts ++ types.res_types (heads known.now) (written.res arm.now.then) (scopes inner.now)) }
     ensures fault { OnOk result (number listed.new.fault ≡ rule.lesser (number listed.old.fault) (rule.lesser (spec.cond_fault (heads known.now) place (written.cond arm.now.when) (scopes inner.now)) (spec.res_fault (heads known.now) place (written.res arm.now.then) (scopes inner.now)))) }
 {
@@ -190,7 +248,14 @@ fn add_arm(alloc: Global, arm: &Arm, place: Place, inner: &Scopes<'_>, known: &K
 // The conditions of a CASE with their results.
 #[cycle(checks)]
 #[tactic(auto, using(crate::proofs::Orders::fault_steps))]
-fn arms(alloc: Global, list: &[Arm], place: Place, inner: &Scopes<'_>, known: &Known<'_>, listed: &mut Listed) -> Result<(), OutOfMemory>
+fn arms(
+    alloc: Global,
+    list: &[Arm],
+    place: Place,
+    inner: &Scopes<'_>,
+    known: &Known<'_>,
+    listed: &mut Listed,
+) -> Result<(), OutOfMemory>
     ensures sorts { OnOk result (listed.new.sorts ≡ listed.old.sorts ++ types.arm_types (heads known.now) (written.arm_list list.now) (scopes inner.now)) }
     ensures fault { OnOk result (number listed.new.fault ≡ rule.lesser (number listed.old.fault) (spec.arms_fault (heads known.now) place (written.arm_list list.now) (scopes inner.now))) }
 {
@@ -202,7 +267,15 @@ fn arms(alloc: Global, list: &[Arm], place: Place, inner: &Scopes<'_>, known: &K
 
 // Adds a value of a CASE with its result. The operand that it is compared with has this type.
 #[cycle(checks)]
-fn add_choice(alloc: Global, operand: Option<SqlType>, choice: &Choice, place: Place, inner: &Scopes<'_>, known: &Known<'_>, listed: &mut Listed) -> Result<(), OutOfMemory>
+fn add_choice(
+    alloc: Global,
+    operand: Option<SqlType>,
+    choice: &Choice,
+    place: Place,
+    inner: &Scopes<'_>,
+    known: &Known<'_>,
+    listed: &mut Listed,
+) -> Result<(), OutOfMemory>
     ensures sorts { OnOk result (listed.new.sorts ≡ listed.old.sorts ++ types.res_types (heads known.now) (written.res choice.now.then) (scopes inner.now)) }
     ensures fault { OnOk result (number listed.new.fault ≡ rule.lesser (number listed.old.fault) (rule.lesser (rule.lesser (spec.expr_fault (heads known.now) place (written.expr choice.now.when) (scopes inner.now)) (rule.pair_differs operand (types.type_of (heads known.now) (written.expr choice.now.when) (scopes inner.now)))) (spec.res_fault (heads known.now) place (written.res choice.now.then) (scopes inner.now)))) }
 {
@@ -214,7 +287,15 @@ fn add_choice(alloc: Global, operand: Option<SqlType>, choice: &Choice, place: P
 // The values of a CASE with their results. The operand that they are compared with has this type.
 #[cycle(checks)]
 #[tactic(auto, using(crate::proofs::Orders::fault_steps))]
-fn choices(alloc: Global, operand: Option<SqlType>, list: &[Choice], place: Place, inner: &Scopes<'_>, known: &Known<'_>, listed: &mut Listed) -> Result<(), OutOfMemory>
+fn choices(
+    alloc: Global,
+    operand: Option<SqlType>,
+    list: &[Choice],
+    place: Place,
+    inner: &Scopes<'_>,
+    known: &Known<'_>,
+    listed: &mut Listed,
+) -> Result<(), OutOfMemory>
     ensures sorts { OnOk result (listed.new.sorts ≡ listed.old.sorts ++ types.choice_types (heads known.now) (written.choice_list list.now) (scopes inner.now)) }
     ensures fault { OnOk result (number listed.new.fault ≡ rule.lesser (number listed.old.fault) (spec.choices_fault (heads known.now) place operand (written.choice_list list.now) (scopes inner.now))) }
 {
@@ -226,7 +307,14 @@ fn choices(alloc: Global, operand: Option<SqlType>, list: &[Choice], place: Plac
 
 // A CASE of these results, which ends with its ELSE.
 #[cycle(checks)]
-fn case_of(alloc: Global, listed: Listed, last: &Otherwise, place: Place, inner: &Scopes<'_>, known: &Known<'_>) -> Result<Typed, OutOfMemory>
+fn case_of(
+    alloc: Global,
+    listed: Listed,
+    last: &Otherwise,
+    place: Place,
+    inner: &Scopes<'_>,
+    known: &Known<'_>,
+) -> Result<Typed, OutOfMemory>
     ensures sort { IfOk result (λ t. t.sort ≡ types.first_known (listed.sorts ++ types.else_types (heads known.now) (written.otherwise last.now) (scopes inner.now))) }
     ensures fault { IfOk result (λ t. number t.fault ≡ rule.lesser (rule.lesser (number listed.fault) (spec.else_fault (heads known.now) place (written.otherwise last.now) (scopes inner.now))) (rule.results_differ (listed.sorts ++ types.else_types (heads known.now) (written.otherwise last.now) (scopes inner.now)))) }
 {
@@ -236,7 +324,14 @@ fn case_of(alloc: Global, listed: Listed, last: &Otherwise, place: Place, inner:
 
 // `COALESCE(x, ..)`
 #[cycle(checks)]
-fn coalesced(alloc: Global, x: Typed, list: &[Expr], place: Place, inner: &Scopes<'_>, known: &Known<'_>) -> Result<Typed, OutOfMemory>
+fn coalesced(
+    alloc: Global,
+    x: Typed,
+    list: &[Expr],
+    place: Place,
+    inner: &Scopes<'_>,
+    known: &Known<'_>,
+) -> Result<Typed, OutOfMemory>
     ensures sort { IfOk result (λ t. t.sort ≡ types.first_known (x.sort ∷ types.types_of (heads known.now) (written.expr_list list.now) (scopes inner.now))) }
     ensures fault { IfOk result (λ t. number t.fault ≡ rule.lesser (rule.lesser (number x.fault) (spec.exprs_fault (heads known.now) place (written.expr_list list.now) (scopes inner.now))) (rule.parts_differ (x.sort ∷ types.types_of (heads known.now) (written.expr_list list.now) (scopes inner.now)))) }
 {
@@ -247,7 +342,14 @@ fn coalesced(alloc: Global, x: Typed, list: &[Expr], place: Place, inner: &Scope
 
 // `x IN (..)`
 #[cycle(checks)]
-fn in_list(alloc: Global, x: Typed, list: &[Expr], place: Place, inner: &Scopes<'_>, known: &Known<'_>) -> Result<Option<Fault>, OutOfMemory>
+fn in_list(
+    alloc: Global,
+    x: Typed,
+    list: &[Expr],
+    place: Place,
+    inner: &Scopes<'_>,
+    known: &Known<'_>,
+) -> Result<Option<Fault>, OutOfMemory>
     ensures { IfOk result (λ f. number f ≡ rule.lesser (rule.lesser (number x.fault) (spec.exprs_fault (heads known.now) place (written.expr_list list.now) (scopes inner.now))) (rule.list_differs x.sort (types.types_of (heads known.now) (written.expr_list list.now) (scopes inner.now)))) }
 {
     let mut listed = none_after(alloc, x.fault);
@@ -257,7 +359,13 @@ fn in_list(alloc: Global, x: Typed, list: &[Expr], place: Place, inner: &Scopes<
 
 // A condition. Chains stand apart, as above.
 #[cycle(checks)]
-fn cond(alloc: Global, p: &Cond, place: Place, inner: &Scopes<'_>, known: &Known<'_>) -> Result<Option<Fault>, OutOfMemory>
+fn cond(
+    alloc: Global,
+    p: &Cond,
+    place: Place,
+    inner: &Scopes<'_>,
+    known: &Known<'_>,
+) -> Result<Option<Fault>, OutOfMemory>
     ensures { IfOk result (λ f. number f ≡ spec.cond_fault (heads known.now) place (written.cond p.now) (scopes inner.now)) }
 {
     match p {
@@ -278,7 +386,13 @@ fn cond(alloc: Global, p: &Cond, place: Place, inner: &Scopes<'_>, known: &Known
 
 // `a OR b`
 #[cycle(checks)]
-fn disjunction(alloc: Global, p: &Cond, place: Place, inner: &Scopes<'_>, known: &Known<'_>) -> Result<Option<Fault>, OutOfMemory>
+fn disjunction(
+    alloc: Global,
+    p: &Cond,
+    place: Place,
+    inner: &Scopes<'_>,
+    known: &Known<'_>,
+) -> Result<Option<Fault>, OutOfMemory>
     requires form { is_disjunction (written.cond p.now) ≡ true }
     ensures { IfOk result (λ f. number f ≡ spec.cond_fault (heads known.now) place (written.cond p.now) (scopes inner.now)) }
 {
@@ -290,7 +404,13 @@ fn disjunction(alloc: Global, p: &Cond, place: Place, inner: &Scopes<'_>, known:
 
 // `a AND b`
 #[cycle(checks)]
-fn conjunction(alloc: Global, p: &Cond, place: Place, inner: &Scopes<'_>, known: &Known<'_>) -> Result<Option<Fault>, OutOfMemory>
+fn conjunction(
+    alloc: Global,
+    p: &Cond,
+    place: Place,
+    inner: &Scopes<'_>,
+    known: &Known<'_>,
+) -> Result<Option<Fault>, OutOfMemory>
     requires form { is_conjunction (written.cond p.now) ≡ true }
     ensures { IfOk result (λ f. number f ≡ spec.cond_fault (heads known.now) place (written.cond p.now) (scopes inner.now)) }
 {
@@ -303,7 +423,13 @@ fn conjunction(alloc: Global, p: &Cond, place: Place, inner: &Scopes<'_>, known:
 // A condition that is no chain of OR or AND.
 #[cycle(checks)]
 #[tactic(auto, using(sql_ast::specs::Shown::lists))]
-fn predicate(alloc: Global, p: &Cond, place: Place, inner: &Scopes<'_>, known: &Known<'_>) -> Result<Option<Fault>, OutOfMemory>
+fn predicate(
+    alloc: Global,
+    p: &Cond,
+    place: Place,
+    inner: &Scopes<'_>,
+    known: &Known<'_>,
+) -> Result<Option<Fault>, OutOfMemory>
     requires no_disjunction { is_disjunction (written.cond p.now) ≡ false }
     requires no_conjunction { is_conjunction (written.cond p.now) ≡ false }
     ensures { IfOk result (λ f. number f ≡ spec.cond_fault (heads known.now) place (written.cond p.now) (scopes inner.now)) }
@@ -352,7 +478,13 @@ fn predicate(alloc: Global, p: &Cond, place: Place, inner: &Scopes<'_>, known: &
 
 // WHERE or HAVING.
 #[cycle(checks)]
-fn filter(alloc: Global, by: &Filter, place: Place, inner: &Scopes<'_>, known: &Known<'_>) -> Result<Option<Fault>, OutOfMemory>
+fn filter(
+    alloc: Global,
+    by: &Filter,
+    place: Place,
+    inner: &Scopes<'_>,
+    known: &Known<'_>,
+) -> Result<Option<Fault>, OutOfMemory>
     ensures { IfOk result (λ f. number f ≡ spec.filter_fault (heads known.now) place (written.filter by.now) (scopes inner.now)) }
 {
     match by {
@@ -363,7 +495,13 @@ fn filter(alloc: Global, by: &Filter, place: Place, inner: &Scopes<'_>, known: &
 
 // Adds the columns of an item of a list at the end.
 #[cycle(checks)]
-fn item(alloc: Global, x: &Item, inner: &Scopes<'_>, known: &Known<'_>, out: &mut Output) -> Result<(), OutOfMemory>
+fn item(
+    alloc: Global,
+    x: &Item,
+    inner: &Scopes<'_>,
+    known: &Known<'_>,
+    out: &mut Output,
+) -> Result<(), OutOfMemory>
     ensures columns { OnOk result (out.new.columns ≡ out.old.columns ++ types.item_columns (heads known.now) (written.item x.now) (scopes inner.now)) }
     ensures fault { OnOk result (number out.new.fault ≡ rule.lesser (number out.old.fault) (spec.item_fault (heads known.now) (written.item x.now) (scopes inner.now))) }
 {
@@ -379,7 +517,13 @@ fn item(alloc: Global, x: &Item, inner: &Scopes<'_>, known: &Known<'_>, out: &mu
 // Adds the columns of the items of a list at the end.
 #[cycle(checks)]
 #[tactic(auto, using(crate::proofs::Orders::fault_steps))]
-fn items(alloc: Global, list: &[Item], inner: &Scopes<'_>, known: &Known<'_>, out: &mut Output) -> Result<(), OutOfMemory>
+fn items(
+    alloc: Global,
+    list: &[Item],
+    inner: &Scopes<'_>,
+    known: &Known<'_>,
+    out: &mut Output,
+) -> Result<(), OutOfMemory>
     ensures columns { OnOk result (out.new.columns ≡ out.old.columns ++ types.items_columns (heads known.now) (written.item_list list.now) (scopes inner.now)) }
     ensures fault { OnOk result (number out.new.fault ≡ rule.lesser (number out.old.fault) (spec.items_fault (heads known.now) (written.item_list list.now) (scopes inner.now))) }
 {
@@ -392,7 +536,13 @@ fn items(alloc: Global, list: &[Item], inner: &Scopes<'_>, known: &Known<'_>, ou
 // Adds the columns of a list at the end.
 #[cycle(checks)]
 #[tactic(auto, using(sql_ast::specs::Shown::lists))]
-fn select(alloc: Global, list: &SelectList, inner: &Scopes<'_>, known: &Known<'_>, out: &mut Output) -> Result<(), OutOfMemory>
+fn select(
+    alloc: Global,
+    list: &SelectList,
+    inner: &Scopes<'_>,
+    known: &Known<'_>,
+    out: &mut Output,
+) -> Result<(), OutOfMemory>
     ensures columns { OnOk result (out.new.columns ≡ out.old.columns ++ types.list_columns (heads known.now) (written.select_list list.now) (scopes inner.now)) }
     ensures fault { OnOk result (number out.new.fault ≡ rule.lesser (number out.old.fault) (spec.select_fault (heads known.now) (written.select_list list.now) (scopes inner.now))) }
 {
@@ -404,7 +554,12 @@ fn select(alloc: Global, list: &SelectList, inner: &Scopes<'_>, known: &Known<'_
 
 // A table of a FROM.
 #[cycle(checks)]
-fn source(alloc: Global, x: &TableRef, inner: &Scopes<'_>, known: &Known<'_>) -> Result<Source, OutOfMemory>
+fn source(
+    alloc: Global,
+    x: &TableRef,
+    inner: &Scopes<'_>,
+    known: &Known<'_>,
+) -> Result<Source, OutOfMemory>
     ensures ranges { IfOk result (λ s. s.ranges ≡ types.table_ranges (heads known.now) (written.table x.now) (scopes inner.now)) }
     ensures fault { IfOk result (λ s. number s.fault ≡ spec.table_fault (heads known.now) (written.table x.now) (scopes inner.now)) }
 {
@@ -435,7 +590,13 @@ fn source(alloc: Global, x: &TableRef, inner: &Scopes<'_>, known: &Known<'_>) ->
 
 // The operands of a join with its ON, which sees them first.
 #[cycle(checks)]
-fn joined(alloc: Global, operands: Source, p: &Cond, inner: &Scopes<'_>, known: &Known<'_>) -> Result<Source, OutOfMemory>
+fn joined(
+    alloc: Global,
+    operands: Source,
+    p: &Cond,
+    inner: &Scopes<'_>,
+    known: &Known<'_>,
+) -> Result<Source, OutOfMemory>
     ensures ranges { IfOk result (λ s. s.ranges ≡ operands.ranges) }
     ensures fault { IfOk result (λ s. number s.fault ≡ rule.lesser (number operands.fault) (spec.cond_fault (heads known.now) at.Filtered (written.cond p.now) (plain operands.ranges ∷ scopes inner.now))) }
 {
@@ -450,7 +611,12 @@ fn joined(alloc: Global, operands: Source, p: &Cond, inner: &Scopes<'_>, known: 
 // The tables of a FROM.
 #[cycle(checks)]
 #[tactic(auto, using(crate::proofs::Orders::fault_steps))]
-fn sources(alloc: Global, list: &[TableRef], inner: &Scopes<'_>, known: &Known<'_>) -> Result<Source, OutOfMemory>
+fn sources(
+    alloc: Global,
+    list: &[TableRef],
+    inner: &Scopes<'_>,
+    known: &Known<'_>,
+) -> Result<Source, OutOfMemory>
     ensures ranges { IfOk result (λ s. s.ranges ≡ types.ranges (heads known.now) (written.table_list list.now) (scopes inner.now)) }
     ensures fault { IfOk result (λ s. number s.fault ≡ spec.from_fault (heads known.now) (written.table_list list.now) (scopes inner.now)) }
 {
@@ -464,7 +630,12 @@ fn sources(alloc: Global, list: &[TableRef], inner: &Scopes<'_>, known: &Known<'
 
 // WHERE and GROUP BY of a block over these ranges.
 #[cycle(checks)]
-fn before_groups(alloc: Global, block: &Block, inner: &Scopes<'_>, known: &Known<'_>) -> Result<Option<Fault>, OutOfMemory>
+fn before_groups(
+    alloc: Global,
+    block: &Block,
+    inner: &Scopes<'_>,
+    known: &Known<'_>,
+) -> Result<Option<Fault>, OutOfMemory>
     ensures { IfOk result (λ f. number f ≡ rule.lesser (spec.filter_fault (heads known.now) at.Filtered (written.filter block.now.filter) (scopes inner.now)) (spec.grouping_fault block.now.grouping (scopes inner.now))) }
 {
     let kept = filter(alloc, &block.filter, Place::Filtered, inner, known)?;
@@ -473,7 +644,12 @@ fn before_groups(alloc: Global, block: &Block, inner: &Scopes<'_>, known: &Known
 
 // The list and HAVING of a block in their scope.
 #[cycle(checks)]
-fn after_groups(alloc: Global, block: &Block, inner: &Scopes<'_>, known: &Known<'_>) -> Result<Output, OutOfMemory>
+fn after_groups(
+    alloc: Global,
+    block: &Block,
+    inner: &Scopes<'_>,
+    known: &Known<'_>,
+) -> Result<Output, OutOfMemory>
     ensures columns { IfOk result (λ x. x.columns ≡ types.list_columns (heads known.now) (written.select_list block.now.list) (scopes inner.now)) }
     ensures fault { IfOk result (λ x. number x.fault ≡ rule.lesser (rule.lesser (spec.select_fault (heads known.now) (written.select_list block.now.list) (scopes inner.now)) (spec.filter_fault (heads known.now) at.Listed (written.filter block.now.having) (scopes inner.now))) (rule.too_wide (types.list_columns (heads known.now) (written.select_list block.now.list) (scopes inner.now)))) }
 {
@@ -486,7 +662,12 @@ fn after_groups(alloc: Global, block: &Block, inner: &Scopes<'_>, known: &Known<
 // A block.
 #[cycle(checks)]
 #[tactic(auto, using(sql_ast::specs::Shown::lists))]
-fn block(alloc: Global, block: &Block, inner: &Scopes<'_>, known: &Known<'_>) -> Result<Output, OutOfMemory>
+fn block(
+    alloc: Global,
+    block: &Block,
+    inner: &Scopes<'_>,
+    known: &Known<'_>,
+) -> Result<Output, OutOfMemory>
     ensures columns { IfOk result (λ x. x.columns ≡ types.columns (heads known.now) (block_of block.now) (scopes inner.now)) }
     ensures fault { IfOk result (λ x. number x.fault ≡ spec.query_fault (heads known.now) (block_of block.now) (scopes inner.now)) }
 {
@@ -500,7 +681,12 @@ fn block(alloc: Global, block: &Block, inner: &Scopes<'_>, known: &Known<'_>) ->
 // A query.
 #[cycle(checks)]
 #[tactic(auto, using(sql_ast::specs::Shown::lists))]
-pub(crate) fn query(alloc: Global, q: &Query, inner: &Scopes<'_>, known: &Known<'_>) -> Result<Output, OutOfMemory>
+pub(crate) fn query(
+    alloc: Global,
+    q: &Query,
+    inner: &Scopes<'_>,
+    known: &Known<'_>,
+) -> Result<Output, OutOfMemory>
     ensures columns { IfOk result (λ x. x.columns ≡ types.columns (heads known.now) (written.query q.now) (scopes inner.now)) }
     ensures fault { IfOk result (λ x. number x.fault ≡ spec.query_fault (heads known.now) (written.query q.now) (scopes inner.now)) }
 {

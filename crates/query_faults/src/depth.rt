@@ -72,7 +72,6 @@ fn next_marks(alloc: Global, views: &[Reader], marks: &[bool]) -> Result<Marks, 
 
 // From the marks of the views that nest deeper than some depth, those of the views that nest deeper
 // than one more.
-#[tactic(auto, using(crate::proofs::Nested::over_more))]
 fn deeper(alloc: Global, views: &[Reader], marks: &[bool]) -> Result<Marks, OutOfMemory>
     ensures { (depth : ℕ) → marks.now ≡ spec.over views.now depth → IfOk result (λ next. next ≡ spec.over views.now (depth + 1)) }
 {
@@ -151,7 +150,6 @@ fn refused_next(
 const MAX_DEPTH: usize = 16;
 
 // The refusal of the first view of a catalog that isn't valid, by what its views read.
-#[tactic(auto, using(crate::proofs::Nested::refused_more))]
 fn refused_reader(
     alloc: Global,
     all: &[Reader],

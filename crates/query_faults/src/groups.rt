@@ -3,9 +3,7 @@ ghost use Rattle.std.specs.Prelude.{◌≡◌};
 ghost use Rattle.sql_ast.specs.Shown as written;
 ghost use Rattle.sql_meaning.specs.Grouping as spec;
 
-use sql_ast::{
-    Arm, Choice, Column, Cond, Expr, Filter, Item, Otherwise, Res, SelectList,
-};
+use sql_ast::{Arm, Choice, Column, Cond, Expr, Filter, Item, Otherwise, Res, SelectList};
 
 // Whether an expression has an aggregate of its own block. Chains of operators stand apart from all
 // else, so that each of thousands of operators takes little of the stack.
@@ -17,11 +15,8 @@ fn in_expr(x: &Expr) -> bool
     match x {
         Expr::Add(a, _, b) | Expr::Multiply(a, _, b) => in_expr(a) || in_expr(b),
         Expr::Signed(_, a) | Expr::Paren(a) => in_expr(a),
-        Expr::Number(_)
-        | Expr::Str(_)
-        | Expr::Column(_)
-        | Expr::Scalar(_)
-        | Expr::CastNull(_) => false,
+        Expr::Number(_) | Expr::Str(_) | Expr::Column(_) | Expr::Scalar(_) | Expr::CastNull(_) =>
+            false,
         Expr::CountAll | Expr::Aggregate(_, _, _) => true,
         Expr::Searched(list, last) => in_arms(list.as_slice()) || in_else(last),
         Expr::Simple(a, list, last) => {

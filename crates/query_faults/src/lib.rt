@@ -9,6 +9,7 @@ mod fault;
 mod found;
 mod groups;
 mod known;
+mod laws;
 mod lists;
 mod operands;
 mod order;
@@ -22,5 +23,6 @@ mod view;
 
 pub use checking::{ViewHeads, check_query, check_views};
 pub use column::{Columns, TypedColumn, TypedRange};
+pub use laws::check_laws;
 pub use refusal::{QueryRefusal, ViewRefusal};
 pub use view::ViewHead;

@@ -31,7 +31,11 @@ fn push_ranges(alloc: Global, out: &mut Columns, ranges: &[TypedRange]) -> Resul
 
 // Adds `*` at the end: all columns of the innermost FROM.
 #[tactic(auto, using(crate::proofs::Targets::star_column_steps))]
-pub(crate) fn push_star(alloc: Global, out: &mut Output, inner: &Scopes<'_>) -> Result<(), OutOfMemory>
+pub(crate) fn push_star(
+    alloc: Global,
+    out: &mut Output,
+    inner: &Scopes<'_>,
+) -> Result<(), OutOfMemory>
     ensures columns { OnOk result (out.new.columns ≡ out.old.columns ++ types.star_columns (scopes inner.now)) }
     ensures fault { OnOk result (number out.new.fault ≡ rule.lesser (number out.old.fault) (rule.star_ungrouped (scopes inner.now))) }
 {
@@ -53,7 +57,11 @@ pub(crate) fn push_star(alloc: Global, out: &mut Output, inner: &Scopes<'_>) -> 
 }
 
 // Adds the columns of a range that was found at the end.
-fn push_range(alloc: Global, out: &mut Columns, range: Option<&TypedRange>) -> Result<(), OutOfMemory>
+fn push_range(
+    alloc: Global,
+    out: &mut Columns,
+    range: Option<&TypedRange>,
+) -> Result<(), OutOfMemory>
     ensures { OnOk result (out.new ≡ out.old ++ types.range_columns (option_map (λ r. r.now) range.entry)) }
 {
     match range {

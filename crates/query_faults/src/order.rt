@@ -13,7 +13,10 @@ use sql_text::Name;
 fn how_many(name: &Name, columns: &[TypedColumn]) -> usize
     ensures { result ≡ rule.how_many name.now columns.now }
 {
-    columns.iter().filter(|column| has_name(name, *column)).count()
+    columns
+        .iter()
+        .filter(|column| has_name(name, *column))
+        .count()
 }
 
 // Whether a number is from 1 to this many.

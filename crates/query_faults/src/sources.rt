@@ -46,7 +46,12 @@ pub(crate) fn both(mut left: Source, right: Source) -> Result<Source, OutOfMemor
 }
 
 // One range.
-fn one(alloc: Global, name: &Name, columns: Columns, fault: Option<Fault>) -> Result<Source, OutOfMemory>
+fn one(
+    alloc: Global,
+    name: &Name,
+    columns: Columns,
+    fault: Option<Fault>,
+) -> Result<Source, OutOfMemory>
     ensures ranges { IfOk result (λ s. s.ranges ≡ types.range name.now columns ∷ []) }
     ensures fault { IfOk result (λ s. number s.fault ≡ number fault) }
 {
@@ -59,7 +64,11 @@ fn one(alloc: Global, name: &Name, columns: Columns, fault: Option<Fault>) -> Re
 }
 
 // A subquery of a FROM.
-pub(crate) fn derived(alloc: Global, found: Output, alias: &Correlation) -> Result<Source, OutOfMemory>
+pub(crate) fn derived(
+    alloc: Global,
+    found: Output,
+    alias: &Correlation,
+) -> Result<Source, OutOfMemory>
     ensures ranges { IfOk result (λ s. s.ranges ≡ types.range alias.now.name (types.renamed alias.now.columns found.columns) ∷ []) }
     ensures fault { IfOk result (λ s. number s.fault ≡ rule.lesser (number found.fault) (spec.list_fault alias.now.columns found.columns)) }
 {

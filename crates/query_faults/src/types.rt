@@ -138,10 +138,7 @@ pub(crate) fn operand_type(op: AdditiveOp) -> SqlType
 }
 
 // The type of an aggregate; MIN and MAX have that of their argument.
-pub(crate) fn type_of_aggregate(
-    function: SetFunction,
-    argument: Option<SqlType>,
-) -> Option<SqlType>
+pub(crate) fn type_of_aggregate(function: SetFunction, argument: Option<SqlType>) -> Option<SqlType>
     ensures { result ≡ columns.type_of_aggregate function argument }
 {
     match function {

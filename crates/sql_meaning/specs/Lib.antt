@@ -1,5 +1,6 @@
 pub mod Scopes
 pub mod Names
+pub mod Even
 pub mod Values
 pub mod Subqueries
 pub mod Grouping

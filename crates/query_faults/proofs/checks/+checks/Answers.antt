@@ -17,8 +17,8 @@ pub operand-returns-in_ok-choices-in-Simple-clause-fault : goal.operand-returns-
 operand-returns-in_ok-choices-in-Simple-clause-fault t c =
     let e : c.choices.new.listed.sorts ≡ types.choice_types (heads c.args.known.now) (written.choice_list c.as_slice-in-Simple.result.now) (scopes c.args.inner.now) = grind (arith, common_steps) in
     let f : number c.choices.new.listed.fault
-          ≡ rule.lesser (number c.in_ok-a-in-Simple.a.fault) (spec.choices_fault (heads c.args.known.now) c.args.place c.in_ok-a-in-Simple.a.sort (written.choice_list c.as_slice-in-Simple.result.now) (scopes c.args.inner.now)) =
-        grind (arith, common_steps) in
+    ≡ rule.lesser (number c.in_ok-a-in-Simple.a.fault) (spec.choices_fault (heads c.args.known.now) c.args.place c.in_ok-a-in-Simple.a.sort (written.choice_list c.as_slice-in-Simple.result.now) (scopes c.args.inner.now)) =
+    grind (arith, common_steps) in
     rw (c.in-Simple.is, written.choices_hidden c.in-Simple.list, ← c.as_slice-in-Simple.ensures, ← c.deref-in-Simple.ensures, ← c.in_ok-a-in-Simple.ensures.sort, ← c.in_ok-a-in-Simple.ensures.fault, ← e, ← f)
     c.case_of-in-Simple.ensures.fault
 
