@@ -12,17 +12,26 @@ use Rattle.qgm_core.specs.declared.parts.BoxParts.{BoxParts}
 use Rattle.qgm_core.specs.Conjuncts.{Conjuncts}
 use Rattle.qgm_core.specs.Terms.{Term}
 use Rattle.sql_ast.specs.declared.schema.TableDecl.{TableDecl}
+use Rattle.sql_ast.specs.declared.word.DataType.{DataType}
+use Rattle.sql_ast.specs.declared.word.DataType.TheVariants as type
 use Rattle.sql_catalog.specs.Catalog.{Declared, table_named}
 use Rattle.sql_catalog.specs.Descriptor.{describe}
 use Rattle.sql_catalog.specs.declared.descriptor.ColumnDescriptor.{ColumnDescriptor}
 use Rattle.sql_catalog.specs.declared.descriptor.KeyDescriptor.{KeyDescriptor}
 use Rattle.sql_catalog.specs.declared.descriptor.TableDescriptor.{TableDescriptor}
 use Rattle.sql_check.specs.CoreShown as shown
-use Rattle.sql_check.specs.Types.{type_of_declared}
 use Rattle.sql_check.specs.declared.checked.Checked.{Checked}
+use Rattle.sql_value.specs.declared.order_key.SqlType.{SqlType}
+use Rattle.sql_value.specs.declared.order_key.SqlType.TheVariants.{Integer, Varchar}
 use Rattle.qgm_build.specs.Written.{terms, conjuncts}
 
 -- ---- the base
+
+-- the type that a declaration gives
+abbrev pub type_of_declared : DataType → SqlType
+type_of_declared type.Integer = Integer
+type_of_declared type.Int = Integer
+type_of_declared (type.Varchar n) = Varchar
 
 -- the places, from 1, of a key's columns
 abbrev pub key_places : KeyDescriptor → List ℕ

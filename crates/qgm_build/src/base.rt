@@ -1,7 +1,6 @@
 // What a base holds of a table.
 ghost use Rattle.std.specs.Prelude.{◌≡◌, ◌+◌, IfOk, Some, map};
 ghost use Rattle.sql_catalog.specs.Shown as shown;
-ghost use Rattle.sql_check.specs.Types.{type_of_declared};
 ghost use Rattle.qgm_build.specs.Built as spec;
 
 use qgm_base::{OutOfMemory, Text};
@@ -14,7 +13,7 @@ use sqlite_items::Items;
 use std::alloc::Global;
 
 fn sql_type(declared: DataType) -> SqlType
-    ensures { result ≡ type_of_declared declared }
+    ensures { result ≡ spec.type_of_declared declared }
 {
     match declared {
         DataType::Integer | DataType::Int => SqlType::Integer,
@@ -24,7 +23,7 @@ fn sql_type(declared: DataType) -> SqlType
 
 // The types of columns.
 fn types(alloc: Global, columns: &[ColumnDescriptor]) -> Result<Items<SqlType>, OutOfMemory>
-    ensures { IfOk result (λ all. all ≡ map (λ c. type_of_declared c.data_type) columns.now) }
+    ensures { IfOk result (λ all. all ≡ map (λ c. spec.type_of_declared c.data_type) columns.now) }
 {
     let mut all = Items::new(alloc);
     for column in columns {

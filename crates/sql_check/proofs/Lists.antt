@@ -1,8 +1,7 @@
 -- Lists of parts with one more at their end, and lists as lists of cells.
-use Rattle.std.proofs.Common.{◌≡◌, Some, List, [], ◌∷◌, ◌++◌, refl, ap}
+use Rattle.std.proofs.Common.{◌≡◌, List, [], ◌∷◌, ◌++◌, refl, ap}
+use Rattle.std.proofs.lemmas.Grind.{common_steps}
 use Rattle.qgm_base.specs.declared.compare.CmpOp.TheVariants.{Eq}
-use Rattle.sql_ast.specs.declared.word.AdditiveOp.{AdditiveOp}
-use Rattle.sql_ast.specs.declared.word.AdditiveOp.TheVariants.{Plus, Minus, Concat}
 use Rattle.sql_ast.specs.Syntax as s
 use Rattle.sql_meaning.specs.Meaning as named
 use Rattle.sql_meaning.specs.Meaning.{Known, Scopes, no_group}
@@ -15,8 +14,6 @@ use Rattle.sql_check.specs.declared.checked.Value.{Value}
 use Rattle.sql_check.specs.Agreed.{cells_meant, cells_of, equals_some, first_not_null}
 use Rattle.sql_check.specs.Core as core
 use Rattle.sql_check.specs.CoreShown as shown
-use Rattle.sql_check.specs.Types.{TypedScopes, type_of}
-use Rattle.sql_check.specs.Valid.{operand_type}
 
 pub cells_more : (xs : List Value) (y : Value) (cells : List Cell) → cells_of (shown.value_list (xs ++ y ∷ [])) cells ≡ cells_of (shown.value_list xs) cells ++ core.value (shown.value y) cells ∷ []
 cells_more [] y cells = refl
@@ -49,7 +46,5 @@ pub equals_meant : (known : Known) (x : Cell) (xs : s.Exprs) (scopes : Scopes) �
 equals_meant known x s.no_expr scopes = refl
 equals_meant known x (s.one_expr y xs) scopes = ap (t.or (c.compare Eq x (named.value known y scopes no_group))) (equals_meant known x xs scopes)
 
-pub sum_type : (x : s.Expr) (op : AdditiveOp) (y : s.Expr) (scopes : TypedScopes) → Some (operand_type op) ≡ type_of (s.add x op y) scopes
-sum_type x Plus y scopes = refl
-sum_type x Minus y scopes = refl
-sum_type x Concat y scopes = refl
+-- a step of a loop over a list
+pub ruleset list_steps = (common_steps, cells_more, arms_more, choices_more)

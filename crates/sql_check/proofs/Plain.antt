@@ -1,5 +1,5 @@
 -- A query that is taken has no aggregate, no DISTINCT and no column list; so its block isn't grouped.
-use Rattle.std.proofs.Common.{◌≡◌, ◌∙◌, ℕ, Bool, true, false, ◌&&◌, ◌||◌, List, [], ◌∷◌, Option, Some, None, refl, sym}
+use Rattle.std.proofs.Common.{◌≡◌, ℕ, Bool, true, false, ◌&&◌, ◌||◌, List, [], ◌∷◌, Option, Some, None, refl}
 use Rattle.std.proofs.lemmas.Bool.{and_parts}
 use Rattle.sql_ast.specs.declared.name.Column.{Column}
 use Rattle.sql_ast.specs.declared.name.Correlation.{Correlation}
@@ -7,8 +7,8 @@ use Rattle.sql_ast.specs.declared.word.SetQuantifier.{SetQuantifier}
 use Rattle.sql_ast.specs.declared.word.SetQuantifier.TheVariants as each
 use Rattle.sql_ast.specs.Syntax as s
 use Rattle.sql_meaning.specs.Grouping.{in_arms, in_choices, in_cond, in_else, in_expr, in_exprs, in_items, in_list, in_res, is_grouped}
-use Rattle.sql_meaning.specs.Meaning.{Relation, column_list, is_distinct, under}
-use Rattle.sql_check.specs.Taken.{is_absent, is_empty, takes_alias, takes_arms, takes_choices, takes_cond, takes_else, takes_expr, takes_exprs, takes_from, takes_items, takes_list, takes_quantifier, takes_query, takes_res}
+use Rattle.sql_meaning.specs.Meaning.{column_list, is_distinct}
+use Rattle.sql_check.specs.Taken.{is_absent, is_empty, takes_alias, takes_arms, takes_choices, takes_cond, takes_else, takes_expr, takes_exprs, takes_items, takes_list, takes_quantifier, takes_query, takes_res}
 
 -- two parts that are taken have no aggregate
 none-of : (p q a b : Bool) → (p ≡ true → a ≡ false) → (q ≡ true → b ≡ false) → (p && q) ≡ true → (a || b) ≡ false
@@ -102,11 +102,6 @@ empty (x ∷ xs) h = absurd (cc h)
 unlisted : (alias : Option Correlation) → takes_alias alias ≡ true → column_list alias ≡ []
 unlisted None h = refl
 unlisted (Some c) h = empty c.columns h
-
--- without a column list a table has its own columns
-pub under_nothing : (table : Option Relation) → under [] table ≡ table
-under_nothing None = refl
-under_nothing (Some table) = refl
 
 -- what a block that is taken is
 pub record IsPlain (each : Option SetQuantifier) (list : s.SelectList) (alias : Option Correlation) (group : List Column) (having : s.Filter) : Type 0 where

@@ -10,12 +10,12 @@ use Rattle.sql_value.specs.declared.cell.Cell.{Cell}
 use Rattle.sql_value.specs.declared.truth.Truth.{Truth}
 use Rattle.sql_check.specs.Core as core
 use Rattle.sql_check.specs.Scope.{scopes_of}
-use Rattle.sql_check.specs.declared.scope.TypedRange.{TypedRange}
+use Rattle.sql_check.specs.declared.scope.TableRange.{TableRange}
 
-abbrev pub SameValue : core.Value → s.Expr → TypedRange → Type 0
+abbrev pub SameValue : core.Value → s.Expr → TableRange → Type 0
 SameValue v x range = (known : Known) (cells : List Cell) → core.value v cells ≡ named.value known x (scopes_of range cells) no_group
 
-abbrev pub SameTruth : core.Test → s.Cond → TypedRange → Type 0
+abbrev pub SameTruth : core.Test → s.Cond → TableRange → Type 0
 SameTruth p x range = (known : Known) (cells : List Cell) → core.truth p cells ≡ named.truth known x (scopes_of range cells) no_group
 
 -- ---- lists, as lists of cells

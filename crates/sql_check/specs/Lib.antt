@@ -1,12 +1,8 @@
-pub mod Types
 pub mod Scope
-pub mod Valid
 pub mod Taken
 pub mod Core
 pub mod CoreShown
 pub mod Agreed
-pub mod Faults
 pub mod Forms
 pub mod Blocks
-pub mod Checks
 pub mod Resolved

@@ -1,10 +1,12 @@
 -- The rows of a checked query: for each row of its table that the condition keeps, the cells of the list.
-use Rattle.std.specs.Prelude.{◌≡◌, ⊤, All, length, List, Option, Some, None}
+use Rattle.std.specs.Prelude.{◌≡◌, ℕ, ⊤, All, length, List, Option, Some, None}
 use Rattle.row_bag.specs.Bags.{bind, keep, unit}
 use Rattle.row_bag.specs.Tables.{bag_named}
 use Rattle.row_bag.specs.declared.row.Row.{Row}
 use Rattle.row_bag.specs.declared.tables.Table.{Table}
-use Rattle.sql_meaning.specs.Meaning.{Relation, rows_or_none}
+use Rattle.sql_catalog.specs.Shown as declared
+use Rattle.sql_catalog.specs.declared.catalog.Catalog.{Catalog}
+use Rattle.sql_meaning.specs.Meaning.{Relation, relation_of, rows_or_none}
 use Rattle.sql_value.specs.declared.cell.Cell.{Cell}
 use Rattle.sql_check.specs.Agreed.{cells_of}
 use Rattle.sql_check.specs.Core as core
@@ -22,3 +24,7 @@ rows_at checked tables = bind (rows_or_none (bag_named tables checked.table)) (r
 abbrev pub IsWide : Option Relation → Type 0
 IsWide None = ⊤
 IsWide (Some table) = All (λ row. length row.cells ≡ length table.columns) table.rows
+
+-- what the name of a declared table stands for
+abbrev pub relation : Catalog → List Table → List ℕ → Option Relation
+relation catalog tables = relation_of (declared.catalog catalog) tables

@@ -1,9 +1,10 @@
--- Which queries are taken as yet: one block over one table, without subqueries, aggregates, DISTINCT, GROUP BY, HAVING and column lists.
-use Rattle.std.specs.Prelude.{Bool, true, false, ◌&&◌, List, [], ◌∷◌, Option, Some, None}
+-- Which queries are answered as yet: one block over one declared table, without subqueries, aggregates, DISTINCT, GROUP BY, HAVING and column lists.
+use Rattle.std.specs.Prelude.{Bool, true, false, ◌&&◌, is_some, List, [], ◌∷◌, Option, Some, None}
 use Rattle.sql_ast.specs.declared.name.Correlation.{Correlation}
 use Rattle.sql_ast.specs.declared.word.SetQuantifier.{SetQuantifier}
 use Rattle.sql_ast.specs.declared.word.SetQuantifier.TheVariants as each
 use Rattle.sql_ast.specs.Syntax as s
+use Rattle.sql_catalog.specs.Catalog.{Declared, table_named}
 
 abbrev mutual
   -- neither a subquery nor an aggregate in it
@@ -103,3 +104,15 @@ takes_query _ = false
 
 abbrev pub is_taken : s.QueryText → Bool
 is_taken text = takes_query text.query
+
+-- one table, which is declared; not a view
+abbrev pub is_declared : Declared → s.TableRefs → Bool
+is_declared catalog (s.one_table (s.named name c) s.no_table) = is_some (table_named catalog.tables name)
+is_declared catalog _ = false
+
+abbrev pub reads_table : Declared → s.Query → Bool
+reads_table catalog (s.block each list from by group having) = is_declared catalog from
+reads_table catalog _ = false
+
+abbrev pub is_answered : Declared → s.QueryText → Bool
+is_answered catalog text = is_taken text && reads_table catalog text.query

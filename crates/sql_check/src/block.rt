@@ -1,7 +1,8 @@
 // Queries that are one block over one table.
-ghost use Rattle.std.specs.Prelude.{◌≡◌, false, Bool, IfSome, IfNone};
+ghost use Rattle.std.specs.Prelude.{◌≡◌, false, IfSome, IfNone};
 ghost use Rattle.sql_ast.specs.Shown as written;
 ghost use Rattle.sql_ast.specs.Syntax as syntax;
+ghost use Rattle.sql_catalog.specs.Catalog.{Declared};
 ghost use Rattle.sql_check.specs.Blocks.{block_of};
 ghost use Rattle.sql_check.specs.Taken as spec;
 
@@ -24,6 +25,7 @@ pub(crate) fn only_block(query: &Query) -> Option<&Block>
 pub(crate) fn only_table<'a>(from: &'a [TableRef]) -> Option<(&'a Name, &'a Option<Correlation>)>
     ensures some { IfSome result (λ table. written.table_list from.now ≡ syntax.one_table (syntax.named table.0.now table.1.now) syntax.no_table) }
     ensures none { IfNone result (spec.takes_from (written.table_list from.now) ≡ false) }
+    ensures undeclared { IfNone result ((catalog : Declared) → spec.is_declared catalog (written.table_list from.now) ≡ false) }
 {
     match from {
         [] => None,

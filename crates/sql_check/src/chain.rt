@@ -1,7 +1,7 @@
 // Chains of operators, which are one list however long they are.
 ghost use Rattle.std.specs.Prelude.{◌≡◌, List, [], ◌∷◌, IfOk};
 ghost use Rattle.sql_meaning.specs.Values.{additive, multiplicative};
-ghost use Rattle.sql_value.specs.Truths.{and, or};
+ghost use Rattle.sql_value.specs.Truths as truths;
 ghost use Rattle.sql_value.specs.declared.cell.Cell.{Cell};
 ghost use Rattle.sql_check.specs.Core as core;
 ghost use Rattle.sql_check.specs.CoreShown as shown;
@@ -23,7 +23,7 @@ fn one<T: Drop>(alloc: Global, item: T) -> Result<Items<T>, OutOfMemory>
 
 // `left + right`, `left - right` or `left || right`.
 #[tactic(auto, using(crate::specs::CoreShown::lists, crate::proofs::Chains::summed_more))]
-pub(crate) fn sum(
+pub(crate) fn add(
     alloc: Global,
     left: Value,
     op: AdditiveOp,
@@ -43,7 +43,7 @@ pub(crate) fn sum(
 
 // `left * right` or `left / right`.
 #[tactic(auto, using(crate::specs::CoreShown::lists, crate::proofs::Chains::multiplied_more))]
-pub(crate) fn product(
+pub(crate) fn multiply(
     alloc: Global,
     left: Value,
     op: MultiplicativeOp,
@@ -63,8 +63,8 @@ pub(crate) fn product(
 
 // `left AND right`.
 #[tactic(auto, using(crate::specs::CoreShown::lists, crate::proofs::Chains::every_more, crate::proofs::Chains::every_two))]
-pub(crate) fn both(alloc: Global, left: Test, right: Test) -> Result<Test, OutOfMemory>
-    ensures { IfOk result (λ p. (cells : List Cell) → core.truth (shown.test p) cells ≡ and (core.truth (shown.test left) cells) (core.truth (shown.test right) cells)) }
+pub(crate) fn and(alloc: Global, left: Test, right: Test) -> Result<Test, OutOfMemory>
+    ensures { IfOk result (λ p. (cells : List Cell) → core.truth (shown.test p) cells ≡ truths.and (core.truth (shown.test left) cells) (core.truth (shown.test right) cells)) }
 {
     match left {
         Test::All(mut tests) => {
@@ -81,8 +81,8 @@ pub(crate) fn both(alloc: Global, left: Test, right: Test) -> Result<Test, OutOf
 
 // `left OR right`.
 #[tactic(auto, using(crate::specs::CoreShown::lists, crate::proofs::Chains::some_more, crate::proofs::Chains::some_two))]
-pub(crate) fn either(alloc: Global, left: Test, right: Test) -> Result<Test, OutOfMemory>
-    ensures { IfOk result (λ p. (cells : List Cell) → core.truth (shown.test p) cells ≡ or (core.truth (shown.test left) cells) (core.truth (shown.test right) cells)) }
+pub(crate) fn or(alloc: Global, left: Test, right: Test) -> Result<Test, OutOfMemory>
+    ensures { IfOk result (λ p. (cells : List Cell) → core.truth (shown.test p) cells ≡ truths.or (core.truth (shown.test left) cells) (core.truth (shown.test right) cells)) }
 {
     match left {
         Test::Any(mut tests) => {

@@ -81,7 +81,7 @@ pub enum Test {
     IsNull(Box<Value>),
 }
 
-/// A valid query with its names resolved.
+/// A query with its names resolved.
 #[derive(Drop)]
 pub struct Checked {
     /// The name of the table that it reads.

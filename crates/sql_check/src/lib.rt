@@ -1,23 +1,19 @@
-//! Which queries are valid, and what their names stand for.
+//! Which queries are answered as yet, and what their names stand for.
 #![tactic(auto)]
 
 mod block;
 mod chain;
 mod checked;
-mod checking;
-mod faults;
-mod found;
+mod conditions;
 mod list;
 mod order;
-mod parts;
 mod range;
-mod refusal;
-mod resolve;
+mod resolving;
 mod scope;
 mod taken;
+mod tree;
+mod values;
 
 pub use checked::{Addend, Arm, Checked, Choice, Multiplier, Test, Value};
-pub use checking::check;
-pub use refusal::QueryRefusal;
-pub use scope::{TypedColumn, TypedRange};
-pub use taken::is_taken;
+pub use resolving::resolve;
+pub use taken::is_answered;

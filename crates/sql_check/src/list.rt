@@ -6,15 +6,12 @@ ghost use Rattle.sql_meaning.specs.Meaning.{Known, no_group};
 ghost use Rattle.sql_value.specs.declared.cell.Cell.{Cell};
 ghost use Rattle.sql_check.specs.Agreed.{cells_of};
 ghost use Rattle.sql_check.specs.CoreShown as shown;
-ghost use Rattle.sql_check.specs.Faults.{number};
-ghost use Rattle.sql_check.specs.Scope.{alone, frame_of, names_of, scopes_of, shape_of};
+ghost use Rattle.sql_check.specs.Scope.{frame_of, scopes_of, shape_of};
 ghost use Rattle.sql_check.specs.Taken as taken;
-ghost use Rattle.sql_check.specs.Valid as spec;
 
 use crate::checked::Value;
-use crate::faults::{Fault, lesser};
-use crate::resolve::expr;
-use crate::scope::{TypedColumn, TypedRange};
+use crate::scope::TableRange;
+use crate::tree::expr;
 use qgm_base::OutOfMemory;
 use sql_ast::{Alias, Expr, Item, SelectList};
 use sql_text::Name;
@@ -22,12 +19,11 @@ use sql_value::OutNames;
 use sqlite_items::Items;
 use std::alloc::Global;
 
-// Output columns: their values, their names, and the least of their faults.
+// Output columns: their values and their names.
 #[derive(Drop)]
-pub(crate) struct FoundColumns {
+pub(crate) struct OutputColumns {
     pub values: Items<Value>,
     pub names: OutNames,
-    pub fault: Option<Fault>,
 }
 
 // Adds the cells of a row of this width at the end.
@@ -42,24 +38,19 @@ fn push_places(values: &mut Items<Value>, width: usize) -> Result<(), OutOfMemor
 }
 
 // Adds the names of columns at the end.
-fn push_names(
-    alloc: Global,
-    names: &mut OutNames,
-    columns: &[TypedColumn],
-) -> Result<(), OutOfMemory>
-    ensures { OnOk result (names.new ≡ names.old ++ names_of columns.now) }
+fn push_names(alloc: Global, names: &mut OutNames, columns: &[Name]) -> Result<(), OutOfMemory>
+    ensures { OnOk result (names.new ≡ names.old ++ named.all_named columns.now) }
 {
     for column in columns {
-        names.push(Some(column.name.copy(alloc)?))?;
+        names.push(Some(column.copy(alloc)?))?;
     }
     Ok(())
 }
 
 // Adds all columns of a range at the end.
-fn push_all(alloc: Global, found: &mut FoundColumns, range: &TypedRange) -> Result<(), OutOfMemory>
+fn push_all(alloc: Global, found: &mut OutputColumns, range: &TableRange) -> Result<(), OutOfMemory>
     ensures values { OnOk result ((cells : List Cell) → length cells ≡ length range.now.columns → cells_of (shown.value_list found.new.values) cells ≡ cells_of (shown.value_list found.old.values) cells ++ cells) }
-    ensures names { OnOk result (found.new.names ≡ found.old.names ++ names_of range.now.columns) }
-    ensures fault { OnOk result (found.new.fault ≡ found.old.fault) }
+    ensures names { OnOk result (found.new.names ≡ found.old.names ++ named.all_named range.now.columns) }
 {
     push_places(&mut found.values, range.columns.len())?;
     push_names(alloc, &mut found.names, range.columns.as_slice())
@@ -102,35 +93,32 @@ fn item_name(alloc: Global, x: &Expr, alias: &Option<Alias>) -> Result<Option<Na
 #[tactic(auto, using(crate::proofs::Lists::cells_more))]
 fn push_expr(
     alloc: Global,
-    found: &mut FoundColumns,
+    found: &mut OutputColumns,
     x: &Expr,
     alias: &Option<Alias>,
-    range: &TypedRange,
+    range: &TableRange,
 ) -> Result<(), OutOfMemory>
     requires taken { taken.takes_expr (written.expr x.now) ≡ true }
     ensures values { OnOk result ((known : Known) → (cells : List Cell) → cells_of (shown.value_list found.new.values) cells ≡ cells_of (shown.value_list found.old.values) cells ++ named.value known (written.expr x.now) (scopes_of range.now cells) no_group ∷ []) }
     ensures names { OnOk result (found.new.names ≡ found.old.names ++ named.item_name (written.expr x.now) alias.now ∷ []) }
-    ensures fault { OnOk result (number found.new.fault ≡ spec.lesser (number found.old.fault) (spec.expr_fault (written.expr x.now) (alone range.now))) }
 {
     let name = item_name(alloc, x, alias)?;
-    let x = expr(alloc, x, range)?;
-    found.fault = lesser(found.fault, x.fault);
+    let value = expr(alloc, x, range)?;
     found.names.push(name)?;
-    found.values.push(x.value)?;
+    found.values.push(value)?;
     Ok(())
 }
 
 // Adds an item of a list at the end.
 fn push_item(
     alloc: Global,
-    found: &mut FoundColumns,
+    found: &mut OutputColumns,
     item: &Item,
-    range: &TypedRange,
+    range: &TableRange,
 ) -> Result<(), OutOfMemory>
     requires taken { taken.takes_item (written.item item.now) ≡ true }
     ensures values { OnOk result ((known : Known) → (cells : List Cell) → length cells ≡ length range.now.columns → cells_of (shown.value_list found.new.values) cells ≡ cells_of (shown.value_list found.old.values) cells ++ named.item_cells known (written.item item.now) (scopes_of range.now cells) no_group) }
     ensures names { OnOk result (found.new.names ≡ found.old.names ++ named.item_names (written.item item.now) (shape_of range.now ∷ [])) }
-    ensures fault { OnOk result (number found.new.fault ≡ spec.lesser (number found.old.fault) (spec.item_fault (written.item item.now) (alone range.now))) }
 {
     match item {
         Item::Value(x, alias) => push_expr(alloc, found, x, alias, range),
@@ -138,7 +126,6 @@ fn push_item(
             if range.name == *name {
                 push_all(alloc, found, range)
             } else {
-                found.fault = lesser(found.fault, Some(Fault::UnknownColumn));
                 Ok(())
             }
         }
@@ -146,17 +133,16 @@ fn push_item(
 }
 
 // Adds the items of a list at the end.
-#[tactic(auto, using(sql_ast::specs::Shown::lists, crate::proofs::Orders::fault_steps))]
+#[tactic(auto, using(sql_ast::specs::Shown::lists, crate::proofs::Stars::star_steps))]
 fn push_items(
     alloc: Global,
-    found: &mut FoundColumns,
+    found: &mut OutputColumns,
     items: &[Item],
-    range: &TypedRange,
+    range: &TableRange,
 ) -> Result<(), OutOfMemory>
     requires taken { taken.takes_items (written.item_list items.now) ≡ true }
     ensures values { OnOk result ((known : Known) → (cells : List Cell) → length cells ≡ length range.now.columns → cells_of (shown.value_list found.new.values) cells ≡ cells_of (shown.value_list found.old.values) cells ++ named.items_cells known (written.item_list items.now) (scopes_of range.now cells) no_group) }
     ensures names { OnOk result (found.new.names ≡ found.old.names ++ named.items_names (written.item_list items.now) (shape_of range.now ∷ [])) }
-    ensures fault { OnOk result (number found.new.fault ≡ spec.lesser (number found.old.fault) (spec.items_fault (written.item_list items.now) (alone range.now))) }
 {
     for item in items {
         push_item(alloc, found, item, range)?;
@@ -168,14 +154,13 @@ fn push_items(
 #[tactic(auto, using(sql_ast::specs::Shown::lists, crate::proofs::Stars::star_steps))]
 fn push_list(
     alloc: Global,
-    found: &mut FoundColumns,
+    found: &mut OutputColumns,
     list: &SelectList,
-    range: &TypedRange,
+    range: &TableRange,
 ) -> Result<(), OutOfMemory>
     requires taken { taken.takes_list (written.select_list list.now) ≡ true }
     ensures values { OnOk result ((known : Known) → (cells : List Cell) → length cells ≡ length range.now.columns → cells_of (shown.value_list found.new.values) cells ≡ cells_of (shown.value_list found.old.values) cells ++ named.list_cells known (written.select_list list.now) (frame_of range.now cells) [] no_group) }
     ensures names { OnOk result (found.new.names ≡ found.old.names ++ named.list_names (written.select_list list.now) (shape_of range.now) []) }
-    ensures fault { OnOk result (number found.new.fault ≡ spec.lesser (number found.old.fault) (spec.list_fault (written.select_list list.now) (alone range.now))) }
 {
     match list {
         SelectList::All => push_all(alloc, found, range),
@@ -187,17 +172,15 @@ fn push_list(
 pub(crate) fn columns(
     alloc: Global,
     list: &SelectList,
-    range: &TypedRange,
-) -> Result<FoundColumns, OutOfMemory>
+    range: &TableRange,
+) -> Result<OutputColumns, OutOfMemory>
     requires taken { taken.takes_list (written.select_list list.now) ≡ true }
     ensures values { IfOk result (λ found. (known : Known) → (cells : List Cell) → length cells ≡ length range.now.columns → cells_of (shown.value_list found.values) cells ≡ named.list_cells known (written.select_list list.now) (frame_of range.now cells) [] no_group) }
     ensures names { IfOk result (λ found. found.names ≡ named.list_names (written.select_list list.now) (shape_of range.now) []) }
-    ensures fault { IfOk result (λ found. number found.fault ≡ spec.list_fault (written.select_list list.now) (alone range.now)) }
 {
-    let mut found = FoundColumns {
+    let mut found = OutputColumns {
         values: Items::new(alloc),
         names: Items::new(alloc),
-        fault: None,
     };
     push_list(alloc, &mut found, list, range)?;
     Ok(found)

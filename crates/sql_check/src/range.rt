@@ -1,35 +1,28 @@
 // The range of a table of a FROM.
-ghost use Rattle.std.specs.Prelude.{◌≡◌, map, IfOk};
+ghost use Rattle.std.specs.Prelude.{◌≡◌, IfOk};
 ghost use Rattle.sql_catalog.specs.Keys as keys;
-ghost use Rattle.sql_catalog.specs.Shown as declared;
 ghost use Rattle.sql_meaning.specs.Meaning.{range_name};
-ghost use Rattle.sql_check.specs.Faults.{number};
-ghost use Rattle.sql_check.specs.Valid as spec;
+ghost use Rattle.sql_check.specs.Blocks.{only_range};
 
-use crate::faults::{Fault, type_of_declared};
-use crate::scope::{TypedColumn, TypedRange};
+use crate::scope::TableRange;
 use qgm_base::OutOfMemory;
-use sql_ast::{Correlation, Element};
-use sql_catalog::Catalog;
+use sql_ast::{Correlation, Element, TableDecl};
 use sql_text::Name;
 use sqlite_items::Items;
 use std::alloc::Global;
 
-// The columns that a table declares, with their types.
-fn typed_columns(alloc: Global, elements: &[Element]) -> Result<Items<TypedColumn>, OutOfMemory>
-    ensures { IfOk result (λ columns. columns ≡ map spec.typed (keys.columns_of elements.now)) }
+// The names of the columns that a table declares.
+fn column_names(alloc: Global, elements: &[Element]) -> Result<Items<Name>, OutOfMemory>
+    ensures { IfOk result (λ names. names ≡ keys.names_of (keys.columns_of elements.now)) }
 {
-    let mut columns = Items::new(alloc);
+    let mut names = Items::new(alloc);
     for element in elements {
         match element {
-            Element::Column(column) => columns.push(TypedColumn {
-                name: column.name.copy(alloc)?,
-                sort: type_of_declared(&column.data_type),
-            })?,
+            Element::Column(column) => names.push(column.name.copy(alloc)?)?,
             Element::PrimaryKey(_) | Element::Unique(_) => {}
         }
     }
-    Ok(columns)
+    Ok(names)
 }
 
 // The range name of a table: its alias, else the table's name.
@@ -42,31 +35,17 @@ fn range_name<'a>(name: &'a Name, alias: &'a Option<Correlation>) -> &'a Name
     }
 }
 
-// The fault of a table's name.
-pub(crate) fn table_fault(catalog: &Catalog, name: &Name) -> Option<Fault>
-    ensures { number result ≡ spec.table_fault (spec.typed_table (declared.catalog catalog.now) name.now) }
-{
-    match catalog.table(name) {
-        Some(_) => None,
-        None => Some(Fault::UnknownTable),
-    }
-}
-
-// The range of a table; it has no column where there is no such table.
+// The range of a declared table under this name and alias.
 pub(crate) fn table_range(
     alloc: Global,
-    catalog: &Catalog,
+    table: &TableDecl,
     name: &Name,
     alias: &Option<Correlation>,
-) -> Result<TypedRange, OutOfMemory>
-    ensures { IfOk result (λ range. range ≡ spec.range_with (range_name name.now alias.now) (spec.typed_table (declared.catalog catalog.now) name.now)) }
+) -> Result<TableRange, OutOfMemory>
+    ensures { IfOk result (λ range. range ≡ only_range table.now name.now alias.now) }
 {
-    let columns = match catalog.table(name) {
-        Some(table) => typed_columns(alloc, table.elements.as_slice())?,
-        None => Items::new(alloc),
-    };
-    Ok(TypedRange {
+    Ok(TableRange {
         name: range_name(name, alias).copy(alloc)?,
-        columns,
+        columns: column_names(alloc, table.elements.as_slice())?,
     })
 }

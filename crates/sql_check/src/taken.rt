@@ -1,14 +1,16 @@
-// Which queries are taken as yet.
+// Which queries are answered as yet.
 ghost use Rattle.std.specs.Prelude.{◌≡◌};
 ghost use Rattle.sql_ast.specs.Shown as written;
+ghost use Rattle.sql_catalog.specs.Shown as declared;
 ghost use Rattle.sql_check.specs.Blocks.{block_of};
 ghost use Rattle.sql_check.specs.Taken as spec;
 
 use crate::block::{only_block, only_table};
 use sql_ast::{
     Arm, Block, Choice, Cond, Correlation, Expr, Filter, Item, Otherwise, QueryText, Res,
-    SelectList, SetQuantifier,
+    SelectList, SetQuantifier, TableRef,
 };
+use sql_catalog::Catalog;
 
 // Whether neither a subquery nor an aggregate is in an expression.
 #[cycle(taken)]
@@ -203,13 +205,23 @@ fn takes_block(block: &Block) -> bool
         && (takes_filter(&block.filter) && (block.grouping.is_empty() && is_absent(&block.having)))
 }
 
-/// Whether a query is taken as yet: it is one block over one table, without subqueries, aggregates,
-/// DISTINCT, GROUP BY, HAVING and column lists.
-pub fn is_taken(text: &QueryText) -> bool
-    ensures { result ≡ spec.is_taken (written.query_text text.now) }
+// Whether a FROM is one table, which the catalog declares.
+fn reads_table(from: &[TableRef], catalog: &Catalog) -> bool
+    ensures { result ≡ spec.is_declared (declared.catalog catalog.now) (written.table_list from.now) }
+{
+    match only_table(from) {
+        Some((name, _)) => catalog.table(name).is_some(),
+        None => false,
+    }
+}
+
+/// Whether a query is answered as yet: it is one block over one declared table, without subqueries,
+/// aggregates, DISTINCT, GROUP BY, HAVING and column lists.
+pub fn is_answered(text: &QueryText, catalog: &Catalog) -> bool
+    ensures { result ≡ spec.is_answered (declared.catalog catalog.now) (written.query_text text.now) }
 {
     match only_block(&text.query) {
-        Some(block) => takes_block(block),
+        Some(block) => takes_block(block) && reads_table(block.from.as_slice(), catalog),
         None => false,
     }
 }

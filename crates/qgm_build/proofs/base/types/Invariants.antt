@@ -1,6 +1,6 @@
 use Rattle.std.proofs.Common.{◌≡◌, map, take}
 use Rattle.sql_catalog.specs.declared.descriptor.ColumnDescriptor.{ColumnDescriptor}
-use Rattle.sql_check.specs.Types.{type_of_declared}
+use Rattle.qgm_build.specs.Built.{type_of_declared}
 use Rattle.qgm_build.proofs.base.types.Given as goal
 
 abbrev pub invariant-loop-column : goal.invariant-loop-column

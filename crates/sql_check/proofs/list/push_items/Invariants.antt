@@ -5,10 +5,8 @@ use Rattle.sql_meaning.specs.Meaning.{Known, no_group}
 use Rattle.sql_value.specs.declared.cell.Cell.{Cell}
 use Rattle.sql_check.specs.Agreed.{cells_of}
 use Rattle.sql_check.specs.CoreShown as shown
-use Rattle.sql_check.specs.Faults.{number}
-use Rattle.sql_check.specs.Scope.{alone, scopes_of, shape_of}
+use Rattle.sql_check.specs.Scope.{scopes_of, shape_of}
 use Rattle.sql_check.specs.Taken as taken
-use Rattle.sql_check.specs.Valid as spec
 use Rattle.sql_check.proofs.list.push_items.Given as goal
 
 abbrev pub invariant-loop-item : goal.invariant-loop-item
@@ -18,5 +16,4 @@ invariant-loop-item l = record {
       → cells_of (shown.value_list l.found.values) cells ++ named.items_cells known (written.item_list (drop l.item-index l.items)) (scopes_of l.range cells) no_group
       ≡ cells_of (shown.value_list l.initial.found.values) cells ++ named.items_cells known (written.item_list l.items) (scopes_of l.range cells) no_group;
   names : l.found.names ++ named.items_names (written.item_list (drop l.item-index l.items)) (shape_of l.range ∷ []) ≡ l.initial.found.names ++ named.items_names (written.item_list l.items) (shape_of l.range ∷ []);
-  fault : spec.lesser (number l.found.fault) (spec.items_fault (written.item_list (drop l.item-index l.items)) (alone l.range)) ≡ spec.lesser (number l.initial.found.fault) (spec.items_fault (written.item_list l.items) (alone l.range));
 }

@@ -1,7 +1,0 @@
-use Rattle.std.proofs.Common.{◌≡◌, ◌++◌, drop, map}
-use Rattle.sql_catalog.specs.Keys.{columns_of}
-use Rattle.sql_check.specs.Valid.{typed}
-use Rattle.sql_check.proofs.range.typed_columns.Given as goal
-
-abbrev pub invariant-loop-element : goal.invariant-loop-element
-invariant-loop-element l = l.columns ++ map typed (columns_of (drop l.element-index l.elements)) ≡ map typed (columns_of l.elements)
