@@ -63,7 +63,7 @@ pub fn run_command<F: Files, K: Sink, L: Ledger>(
     ensures write_fault { result ≡ 4 → Rose (K.faults out.old) (K.faults out.new) }
     ensures short { result ≡ 4 → IfSome (F.told files.old) (λ t. IfSome (F.told files.new) (λ u. (asks : List Ask) × (said : Said) × (u.asked ≡ t.asked ++ asks)
         × IsSaid (outcome (map (λ w. string_bytes w) words.now) t.files) asks (failed_name asks) said × StopsShort (K.written out.old) (K.written out.new) said.text)) }
-    ensures schema_refused { result ≡ 5 → ComesTo (F.told files.old) (outcome (map (λ w. string_bytes w) words.now)) 
+    ensures schema_refused { result ≡ 5 → ComesTo (F.told files.old) (outcome (map (λ w. string_bytes w) words.now))
         (λ report. ((number : ℕ) × (report ≡ SchemaRefused number)) ⊎ ((view : List ℕ) × (number : ℕ) × (report ≡ ViewRefused view number))) }
     ensures data_refused { result ≡ 6 → ComesTo (F.told files.old) (outcome (map (λ w. string_bytes w) words.now))
         (λ report. (number : ℕ) × (table : List ℕ) × (row : ℕ) × (report ≡ DataRefused number table row)) }

@@ -1,8 +1,8 @@
 use csv_tables::{load, write_rows};
 use io_edge::{Entry, MemFiles, fetch_file};
 use plain_exec::execute;
-use query_faults::{check_query, check_views};
 use qgm_base::Text;
+use query_faults::{check_query, check_views};
 use row_bag::{Bag, Verdict, sorted, verdict};
 use sql_catalog::build;
 use sql_check::{is_answered, resolve};
