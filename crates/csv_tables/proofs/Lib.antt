@@ -1,8 +1,10 @@
+mod Checks
 mod Fits
 mod Integers
 mod KeySteps
 mod Left
 mod Loads
+mod Passing
 mod Printed
 mod Rows
 mod SeenSteps
