@@ -4,6 +4,7 @@ mod Integers
 mod KeySteps
 mod Left
 mod Loads
+mod Hashes
 mod Passing
 mod Printed
 mod Rows

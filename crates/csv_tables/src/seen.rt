@@ -81,8 +81,8 @@ fn if_counted(primary: bool, cells: KeyCells) -> Option<KeyCells>
     }
 }
 
-/// The cells of a key in a record, where they count.
-pub fn key_cells<R: ReadRecord>(
+// The cells of a key in a record, where they count.
+fn key_cells<R: ReadRecord>(
     alloc: Global,
     key: &KeyDescriptor,
     fields: &R,
@@ -117,11 +117,7 @@ pub fn nothing_seen(
 }
 
 // Whether the cells of a key in one more record are among those so far; else it adds them.
-fn add_to<R: ReadRecord>(
-    alloc: Global,
-    seen: &mut SeenKey,
-    fields: &R,
-) -> Result<bool, OutOfMemory>
+fn add_to<R: ReadRecord>(alloc: Global, seen: &mut SeenKey, fields: &R) -> Result<bool, OutOfMemory>
     ensures found { IfOk result (λ b. b ≡ spec.has_seen (R.contents fields.now) seen.old) }
     ensures after { IfOk result (λ b. b ≡ false → seen.new ≡ spec.seen_with (R.contents fields.now) seen.old) }
 {
