@@ -248,7 +248,7 @@ fn seen_after(
 }
 
 // The rows of the records, up to the first that breaks a rule. The keys are checked once the rows
-// stand, since sets fill faster in one go.
+// stand: by hashes, and where those leave it open, row by row.
 fn rows(alloc: Global, table: TableDescriptor, records: &mut Records) -> Result<Bag, TableRefusal>
     ensures { Gives (spec.rows_after table [] records.old) result }
 {
