@@ -1,8 +1,11 @@
+mod Checks
 mod Fits
 mod Integers
 mod KeySteps
 mod Left
 mod Loads
+mod Hashes
+mod Passing
 mod Printed
 mod Rows
 mod SeenSteps

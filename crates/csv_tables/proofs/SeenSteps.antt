@@ -43,9 +43,12 @@ pub keys-push : (k : KeyDescriptor) (rows : List (Row (List Cell))) (row : Row (
 keys-push k [] row = alone (key_cells k (contents_in row))
 keys-push k (r ∷ rows) row = rw (keys-push k rows row) (swap (key_cells k (contents_in r)) (key_cells k (contents_in row)) (keys_in k rows))
 
+pub row-push : (ks : List KeyDescriptor) (rows : List (Row (List Cell))) (row : Row (List Cell)) → map (seen_with (contents_in row)) (map (seen_in rows) ks) ≡ map (seen_in (rows ++ row ∷ [])) ks
+row-push [] rows row = refl
+row-push (k ∷ ks) rows row = rw (row-push ks rows row, keys-push k rows row) refl
+
 pub seen-push : (ks : List KeyDescriptor) (rows : List (Row (List Cell))) (xs : List Content) → Sound xs → map (seen_with xs) (map (seen_in rows) ks) ≡ map (seen_in (rows ++ table_row (cells_of xs) ∷ [])) ks
-seen-push [] rows xs sound = refl
-seen-push (k ∷ ks) rows xs sound = rw (seen-push ks rows xs sound, keys-push k rows (table_row (cells_of xs)), contents-back xs sound) refl
+seen-push ks rows xs sound = rw (contents-back xs sound) at (row-push ks rows (table_row (cells_of xs)))
 
 pub seen-none : (ks : List KeyDescriptor) (rows : List (Row (List Cell))) (xs : List Content) → list_any (has_seen xs) (map (seen_in rows) ks) ≡ list_any (repeats rows xs) ks
 seen-none [] rows xs = refl

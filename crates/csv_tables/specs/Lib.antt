@@ -10,4 +10,6 @@ pub mod Printed
 pub mod TableFile
 pub mod Load
 pub mod Loaded
+pub mod Checked
+pub mod Differ
 pub mod Fits

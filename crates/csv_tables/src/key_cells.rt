@@ -145,13 +145,12 @@ impl Model for SeenCells {
 }
 
 impl SeenCells {
-    /// Of no record.
-    pub fn new(alloc: Global) -> SeenCells
-        ensures { result ≡ [] }
+    /// Of no record, with room for this many.
+    pub fn with_capacity(alloc: Global, records: usize) -> Result<SeenCells, OutOfMemory>
+        ensures { IfOk result (λ s. s ≡ []) }
     {
-        SeenCells {
-            tuples: IndexSet::new(alloc),
-        }
+        let tuples = IndexSet::with_capacity(alloc, records)?;
+        Ok(SeenCells { tuples })
     }
 
     /// Adds the cells of one more record, and tells whether they are new.

@@ -2,6 +2,7 @@
 #![tactic(auto)]
 
 mod content;
+mod differ;
 mod header;
 mod key_cells;
 mod loading;

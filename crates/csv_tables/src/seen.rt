@@ -1,12 +1,14 @@
 // The keys of a table, with their cells in the records so far.
-ghost use Rattle.std.specs.Prelude.{◌≡◌, ◌++◌, ◌∷◌, [], false, IfOk, map, option_map, slice_get};
+ghost use Rattle.std.specs.Prelude.{◌≡◌, ◌++◌, ◌∷◌, [], false, List, IfOk, map, option_map, slice_get};
 ghost use Rattle.std.specs.List.{list_any};
-ghost use Rattle.csv_tables.specs.KeyCells.{cells_at, held, if_counted, key_cells};
+ghost use Rattle.csv_tables.specs.declared.content.Content.{Content};
+ghost use Rattle.csv_tables.specs.KeyCells.{cells_at, contents_in, held, if_counted, key_cells};
 ghost use Rattle.csv_tables.specs.Seen as spec;
 
 use crate::content::Content;
 use crate::key_cells::{KeyCells, SeenCells};
 use qgm_base::OutOfMemory;
+use row_bag::Row;
 use sql_catalog::KeyDescriptor;
 use sql_value::Cell;
 use sqlite_items::Items;
@@ -19,27 +21,46 @@ pub struct SeenKey {
     pub cells: SeenCells,
 }
 
-// The cell that the field at a place of a record holds.
-fn held(contents: &[Content], place: usize) -> Option<&Cell>
-    ensures { option_map (λ c. c.now) result ≡ held (slice_get contents.now place) }
-{
-    match contents.get(place) {
-        Some(Content::Holds(cell)) => Some(cell),
-        Some(Content::BadInteger | Content::TooLong | Content::BadUtf8) | None => None,
+/// A record whose fields have been read.
+pub trait ReadRecord {
+    /// What the fields hold.
+    ghost contents: { Self → List Content };
+
+    /// The cell that the field at a place holds.
+    fn held(&self, place: usize) -> Option<&Cell>
+        ensures at { option_map (λ c. c.now) result ≡ held (slice_get (contents self.now) place) };
+}
+
+impl<'a> ReadRecord for &'a [Content] {
+    ghost contents = { λ s. s.now };
+
+    fn held(&self, place: usize) -> Option<&Cell> {
+        match self.get(place) {
+            Some(Content::Holds(cell)) => Some(cell),
+            Some(Content::BadInteger | Content::TooLong | Content::BadUtf8) | None => None,
+        }
+    }
+}
+
+impl ReadRecord for Row {
+    ghost contents = { contents_in };
+
+    fn held(&self, place: usize) -> Option<&Cell> {
+        self.cells.as_slice().get(place)
     }
 }
 
 // The cells at these places of a record; none where one of its fields holds no cell.
-fn cells_at(
+fn cells_at<R: ReadRecord>(
     alloc: Global,
     places: &[usize],
-    contents: &[Content],
+    fields: &R,
 ) -> Result<Option<KeyCells>, OutOfMemory>
-    ensures { IfOk result (λ o. o ≡ cells_at places.now contents.now) }
+    ensures { IfOk result (λ o. o ≡ cells_at places.now (R.contents fields.now)) }
 {
     let mut cells = KeyCells::new(alloc);
     for place in places {
-        let Some(cell) = held(contents, *place) else {
+        let Some(cell) = fields.held(*place) else {
             return Ok(None);
         };
         cells.push(alloc, cell)?;
@@ -61,21 +82,25 @@ fn if_counted(primary: bool, cells: KeyCells) -> Option<KeyCells>
 }
 
 // The cells of a key in a record, where they count.
-fn key_cells(
+fn key_cells<R: ReadRecord>(
     alloc: Global,
     key: &KeyDescriptor,
-    contents: &[Content],
+    fields: &R,
 ) -> Result<Option<KeyCells>, OutOfMemory>
-    ensures { IfOk result (λ o. o ≡ key_cells key.now contents.now) }
+    ensures { IfOk result (λ o. o ≡ key_cells key.now (R.contents fields.now)) }
 {
-    match cells_at(alloc, key.places.as_slice(), contents)? {
+    match cells_at(alloc, key.places.as_slice(), fields)? {
         Some(cells) => Ok(if_counted(key.primary, cells)),
         None => Ok(None),
     }
 }
 
-/// The keys with no record so far.
-pub fn nothing_seen(alloc: Global, keys: &[KeyDescriptor]) -> Result<Vec<SeenKey>, OutOfMemory>
+/// The keys with no record so far, and room for as many.
+pub fn nothing_seen(
+    alloc: Global,
+    keys: &[KeyDescriptor],
+    records: usize,
+) -> Result<Vec<SeenKey>, OutOfMemory>
     ensures { IfOk result (λ v. v.items ≡ map spec.nothing_of keys.now) }
 {
     let mut seen = Vec::with_capacity(alloc, keys.len())?;
@@ -85,18 +110,18 @@ pub fn nothing_seen(alloc: Global, keys: &[KeyDescriptor]) -> Result<Vec<SeenKey
                 primary: key.primary,
                 places: Items::from_slice(alloc, key.places.as_slice())?,
             },
-            cells: SeenCells::new(alloc),
+            cells: SeenCells::with_capacity(alloc, records)?,
         })?;
     }
     Ok(seen)
 }
 
 // Whether the cells of a key in one more record are among those so far; else it adds them.
-fn add_to(alloc: Global, seen: &mut SeenKey, contents: &[Content]) -> Result<bool, OutOfMemory>
-    ensures found { IfOk result (λ b. b ≡ spec.has_seen contents.now seen.old) }
-    ensures after { IfOk result (λ b. b ≡ false → seen.new ≡ spec.seen_with contents.now seen.old) }
+fn add_to<R: ReadRecord>(alloc: Global, seen: &mut SeenKey, fields: &R) -> Result<bool, OutOfMemory>
+    ensures found { IfOk result (λ b. b ≡ spec.has_seen (R.contents fields.now) seen.old) }
+    ensures after { IfOk result (λ b. b ≡ false → seen.new ≡ spec.seen_with (R.contents fields.now) seen.old) }
 {
-    match key_cells(alloc, &seen.key, contents)? {
+    match key_cells(alloc, &seen.key, fields)? {
         Some(cells) => Ok(!seen.cells.insert(cells)?),
         None => Ok(false),
     }
@@ -104,16 +129,16 @@ fn add_to(alloc: Global, seen: &mut SeenKey, contents: &[Content]) -> Result<boo
 
 /// Whether the cells of a key in one more record are among those so far; else it adds those of
 /// each key.
-pub fn repeats(
+pub fn repeats<R: ReadRecord>(
     alloc: Global,
     seen: &mut Vec<SeenKey>,
-    contents: &[Content],
+    fields: &R,
 ) -> Result<bool, OutOfMemory>
-    ensures found { IfOk result (λ b. b ≡ list_any (spec.has_seen contents.now) seen.old.items) }
-    ensures after { IfOk result (λ b. b ≡ false → seen.new.items ≡ map (spec.seen_with contents.now) seen.old.items) }
+    ensures found { IfOk result (λ b. b ≡ list_any (spec.has_seen (R.contents fields.now)) seen.old.items) }
+    ensures after { IfOk result (λ b. b ≡ false → seen.new.items ≡ map (spec.seen_with (R.contents fields.now)) seen.old.items) }
 {
     for i in 0..seen.as_slice().len() {
-        if add_to(alloc, &mut seen[i], contents)? {
+        if add_to(alloc, &mut seen[i], fields)? {
             return Ok(true);
         }
     }

@@ -1,14 +1,17 @@
 // The rows of a table's file.
-ghost use Rattle.std.specs.Prelude.{◌≡◌, ◌<◌, ◌≤◌, ◌+◌, ◌++◌, ◌∷◌, ◌&&◌, [], IfOk, None, false, length, map};
+ghost use Rattle.std.specs.Prelude.{◌≡◌, ◌<◌, ◌≤◌, ◌+◌, ◌++◌, ◌∷◌, ◌&&◌, [], List, Ok, Err, IfOk, IfErr, IsErr, OnOk, None, true, false, length, map};
 ghost use Rattle.std.specs.List.{list_any};
 ghost use Rattle.csv.specs.Records.{fields_of};
 ghost use Rattle.csv_tables.specs.KeyCells as spec_keys;
 ghost use Rattle.csv_tables.specs.Seen.{seen_in, seen_with};
 ghost use Rattle.sql_catalog.specs.Descriptor.{describe};
+ghost use Rattle.sql_catalog.specs.declared.descriptor.KeyDescriptor.{KeyDescriptor};
 ghost use Rattle.csv_tables.specs.Loaded.{Gives};
+ghost use Rattle.csv_tables.specs.Checked as checked;
 ghost use Rattle.csv_tables.specs.Tables as spec;
 
 use crate::content::{Content, content_of};
+use crate::differ::keys_differ;
 use crate::header::fits_header;
 use crate::records::Records;
 use crate::refusal::TableRefusal;
@@ -18,7 +21,7 @@ use csv::ByteRecord;
 use qgm_base::OutOfMemory;
 use row_bag::{Bag, Row};
 use sql_ast::TableDecl;
-use sql_catalog::{ColumnDescriptor, TableDescriptor, describe};
+use sql_catalog::{ColumnDescriptor, KeyDescriptor, TableDescriptor, describe};
 use sql_value::{Cell, Level};
 use sqlite_items::Items;
 use std::alloc::Global;
@@ -126,7 +129,7 @@ fn repeats_key(
     ensures found { IfOk result (λ b. b ≡ list_any (spec_keys.repeats before.now contents.now) table.now.keys) }
     ensures after { IfOk result (λ b. b ≡ false → seen.new.items ≡ map (seen_with contents.now) (map (seen_in before.now) table.now.keys)) }
 {
-    repeats(alloc, seen, contents)
+    repeats(alloc, seen, &contents)
 }
 
 // The rule of the least number that a record of these contents breaks after these rows; where it
@@ -198,18 +201,80 @@ fn row_after(
     }
 }
 
-// The rows of the records, up to the first that breaks a rule.
-fn rows(alloc: Global, table: &TableDescriptor, records: &mut Records) -> Result<Bag, TableRefusal>
-    ensures { Gives (spec.rows_after table.now [] records.old) result }
+// Takes the records up to the first that breaks a rule other than that of keys, whose fields are
+// then there, and tells whether there is one.
+fn take_rows(
+    alloc: Global,
+    keyless: &TableDescriptor,
+    records: &mut Records,
+    fields: &mut ByteRecord,
+    rows: &mut Bag,
+) -> Result<bool, OutOfMemory>
+    requires keys { keyless.now.keys ≡ [] }
+    requires rows { rows.old ≡ [] }
+    ensures few { OnOk result (length rows.new ≤ 1000000) }
+    ensures rows { IfOk result (λ stopped. (keys : List KeyDescriptor) → spec.rows_after (checked.with_keys keyless.now keys) [] records.old ≡ checked.checked (checked.with_keys keyless.now keys) rows.new (checked.left stopped (fields_of fields.new) records.new)) }
+    ensures stops { IfOk result (λ stopped. stopped ≡ true → IsErr (spec.row_after keyless.now rows.new (fields_of fields.new))) }
 {
+    let mut seen = Vec::new(alloc);
+    while records.next(fields)? {
+        match row_after(alloc, keyless, rows.rows(), &mut seen, fields) {
+            Ok(row) => rows.push(row)?,
+            Err(TableRefusal::Broken { .. }) => return Ok(true),
+            Err(TableRefusal::Memory) => return Err(OutOfMemory),
+        }
+    }
+    Ok(false)
+}
+
+// The keys with the cells of these rows. It fails at the first row whose cells of a key equal those
+// of an earlier one.
+fn seen_after(
+    alloc: Global,
+    keys: &[KeyDescriptor],
+    rows: &[Row],
+) -> Result<Vec<SeenKey>, TableRefusal>
+    requires { length rows.now ≤ 1000000 }
+    ensures seen { IfOk result (λ v. checked.keys_checked keys.now [] rows.now ≡ Ok v.items) }
+    ensures refused { IfErr result (λ e. Gives (checked.keys_checked keys.now [] rows.now) (Err e)) }
+{
+    let mut seen = nothing_seen(alloc, keys, rows.len())?;
+    for i in 0..rows.len() {
+        if repeats(alloc, &mut seen, &rows[i])? {
+            return Err(refusal(i, Rule::DuplicateKey));
+        }
+    }
+    Ok(seen)
+}
+
+// The rows of the records, up to the first that breaks a rule. The keys are checked once the rows
+// stand: by hashes, and where those leave it open, row by row.
+fn rows(alloc: Global, table: TableDescriptor, records: &mut Records) -> Result<Bag, TableRefusal>
+    ensures { Gives (spec.rows_after table [] records.old) result }
+{
+    let TableDescriptor { columns, keys } = table;
+    let keyless = TableDescriptor {
+        columns,
+        keys: Items::new(alloc),
+    };
     let mut fields = ByteRecord::new(alloc);
     let mut rows = Bag::new(alloc);
-    let mut seen = nothing_seen(alloc, table.keys.as_slice())?;
-    while records.next(&mut fields)? {
-        let row = row_after(alloc, table, rows.rows(), &mut seen, &fields)?;
-        rows.push(row)?;
+    let stopped = take_rows(alloc, &keyless, records, &mut fields, &mut rows)?;
+    if !stopped && keys_differ(alloc, keys.as_slice(), rows.rows())? {
+        return Ok(rows);
     }
-    Ok(rows)
+    let mut seen = seen_after(alloc, keys.as_slice(), rows.rows())?;
+    if !stopped {
+        return Ok(rows);
+    }
+    let table = TableDescriptor {
+        columns: keyless.columns,
+        keys,
+    };
+    match row_after(alloc, &table, rows.rows(), &mut seen, &fields) {
+        Ok(_) => unreachable!(),
+        Err(refusal) => Err(refusal),
+    }
 }
 
 /// The rows of a table's file, in the file's order. It fails at the first record that breaks a
@@ -232,5 +297,5 @@ pub fn read_table(alloc: Global, decl: &TableDecl, bytes: &[u8]) -> Result<Bag, 
             record_number: 0,
         });
     }
-    rows(alloc, &table, &mut records)
+    rows(alloc, table, &mut records)
 }

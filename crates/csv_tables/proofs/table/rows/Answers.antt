@@ -1,31 +1,37 @@
-use Rattle.std.proofs.Common.{arith}
-use Rattle.std.proofs.lemmas.List.{length-append}
-use Rattle.std.proofs.lemmas.Result.{err_from_is_err_and}
+use Rattle.std.proofs.Common.{[], ◌∷◌}
 use Rattle.csv.specs.Records.{fields_of}
-use Rattle.csv_tables.proofs.Rows.{rows-end, rows-more, rows-refused}
+use Rattle.csv_tables.proofs.Checks.{all-checked, row-stays, seen-all}
+use Rattle.csv_tables.proofs.Passing.{all-differ}
+use Rattle.csv_tables.proofs.Rows.{rows-end, rows-refused}
 use Rattle.csv_tables.proofs.table.rows.Goals as goal
 
-pub returns-in_err-row : goal.returns-in_err-row
-returns-in_err-row c =
-    let p = err_from_is_err_and c.from_residual-in_err-row.result c.from_residual-in_err-row.ensures.1 in
-    let taken = rw c.if-branch.true at c.in_ok-next.ensures in
-    let inv = c.loop-seen.invariant.rows in
-    rw (p.1, p.2) (rows-refused c.args.table.now c.rows-in-loop-seen-2.result.now (fields_of c.next.new.row) c.next.new.self c.in_err-row.field-0.0 _ c.in_err-row.ensures.row (rw (taken, ← c.rows-in-loop-seen-2.ensures) at inv))
+pub returns-then-branch : goal.returns-then-branch
+returns-then-branch c =
+    let differ = rw (c.as_slice.ensures, c.rows-then-not-stopped.ensures) at (c.in_ok-keys_differ.ensures c.if-branch.true) in
+    let all = rw c.if-not-stopped.true at (c.in_ok-stopped.ensures.rows c.args.table.keys) in
+    rows-end c.args.table c.take_rows.new.rows _ (all-checked c.args.table c.take_rows.new.rows [] _ _ (all-differ c.args.table.keys c.take_rows.new.rows differ) all)
 
-pub loop-seen-preserved : goal.loop-seen-preserved
-loop-seen-preserved c =
-    let taken = rw c.if-branch.true at c.in_ok-next.ensures in
-    let inv = c.loop-seen.invariant.rows in
-    let made = rw c.rows-in-loop-seen-2.ensures at c.in_ok-row.ensures.row in
-    let few = rw c.rows-in-loop-seen-2.ensures at c.in_ok-row.ensures.few in
-    record {
-      rows = rw c.in_ok-push.ensures.ok (rows-more c.args.table.now c.loop-seen.rows (fields_of c.next.new.row) c.next.new.self c.in_ok-row.row _ made (rw taken at inv));
-      seen = rw (c.in_ok-push.ensures.ok, ← c.rows-in-loop-seen-2.ensures) c.in_ok-row.ensures.seen;
-      few = rw (c.in_ok-push.ensures.ok, length-append c.loop-seen.rows) (omega (arith, few));
-    }
+pub returns-then-not-stopped-2 : goal.returns-then-not-stopped-2
+returns-then-not-stopped-2 c =
+    let seen = rw (c.as_slice-2.ensures, c.rows-2.ensures) at c.in_ok-seen.ensures.seen in
+    let all = rw c.if-not-stopped-2.true at (c.in_ok-stopped.ensures.rows c.args.table.keys) in
+    rows-end c.args.table c.take_rows.new.rows _ (all-checked c.args.table c.take_rows.new.rows [] c.in_ok-seen.seen.items _ seen all)
+
+pub row_after-requires-clause-seen : goal.row_after-requires-clause-seen
+row_after-requires-clause-seen c =
+    let seen = rw (c.as_slice-2.ensures, c.rows-2.ensures) at c.in_ok-seen.ensures.seen in
+    rw c.rows-3.ensures (seen-all c.args.table.keys c.take_rows.new.rows c.in_ok-seen.seen.items seen)
+
+pub unreachable-requires : goal.unreachable-requires
+unreachable-requires c =
+    let stops = c.in_ok-stopped.ensures.stops c.if-not-stopped-2.false in
+    let made = rw c.rows-3.ensures at c.in-Ok.ensures.row in
+    let row = row-stays (record { columns = c.args.table.columns; keys = c.new.result }) c.args.table.keys c.take_rows.new.rows (fields_of c.take_rows.new.fields) c.in-Ok.field-0 c.new.ensures made in
+    absurd (cc (rw row at stops))
 
 pub returns : goal.returns
 returns c =
-    let taken = rw c.if-branch.false at c.in_ok-next.ensures in
-    let inv = c.loop-seen.invariant.rows in
-    rows-end c.args.table.now c.loop-seen.rows _ (rw taken at inv)
+    let seen = rw (c.as_slice-2.ensures, c.rows-2.ensures) at c.in_ok-seen.ensures.seen in
+    let all = rw c.if-not-stopped-2.false at (c.in_ok-stopped.ensures.rows c.args.table.keys) in
+    let left = all-checked c.args.table c.take_rows.new.rows (fields_of c.take_rows.new.fields ∷ c.take_rows.new.records) c.in_ok-seen.seen.items _ seen all in
+    rows-refused c.args.table c.rows-3.result.now (fields_of c.take_rows.new.fields) c.take_rows.new.records c.in-Err.refusal _ c.in-Err.ensures.row (rw (← c.rows-3.ensures) at left)
