@@ -64,16 +64,16 @@ pub ruleset partner_steps = (common_steps, partners_there)
 pub ruleset product_steps = (common_steps, product_one)
 
 -- rows that are kept need only those that are there
+twice_one : {T : Type 0} (c : T) (l : Level) (rows : List (Row T)) → those_there (those_there rows) ≡ those_there rows → those_there (those_there (row c l ∷ rows)) ≡ those_there (row c l ∷ rows)
+twice_one c No rows h = h
+twice_one c Cardinality rows h = ap (λ rs. row c Cardinality ∷ rs) h
+twice_one c Division rows h = ap (λ rs. row c Division ∷ rs) h
+twice_one c Overflow rows h = ap (λ rs. row c Overflow ∷ rs) h
+twice_one c Yes rows h = ap (λ rs. row c Yes ∷ rs) h
+
 pub those_twice : {T : Type 0} (rows : List (Row T)) → those_there (those_there rows) ≡ those_there rows
 those_twice [] = refl
-those_twice (r ∷ rows) = one r.cells r.level
-  where
-    one : (c : _) (l : Level) → those_there (those_there (row c l ∷ rows)) ≡ those_there (row c l ∷ rows)
-    one c No = those_twice rows
-    one c Cardinality = ap (λ rs. row c Cardinality ∷ rs) (those_twice rows)
-    one c Division = ap (λ rs. row c Division ∷ rs) (those_twice rows)
-    one c Overflow = ap (λ rs. row c Overflow ∷ rs) (those_twice rows)
-    one c Yes = ap (λ rs. row c Yes ∷ rs) (those_twice rows)
+those_twice (r ∷ rows) = twice_one r.cells r.level rows (those_twice rows)
 
 pub kept_those : {T : Type 0} (made : List (Row T)) (l : Level) (rows : List (Row T)) → those_there (made ++ keep l (those_there rows)) ≡ those_there made ++ those_there (keep l rows)
 kept_those made l rows =
@@ -82,16 +82,16 @@ kept_those made l rows =
 pub bound_first : {A B : Type 0} (x : Row A) (xs : List (Row A)) (f : A → List (Row B)) → those_there (bind (x ∷ xs) f) ≡ those_there (keep x.level (f x.cells)) ++ those_there (bind xs f)
 bound_first x xs f = filter-append is_there (keep x.level (f x.cells)) (bind xs f)
 
+length_one : {T : Type 0} (c : T) (l : Level) (rows : List (Row T)) → how_many rows ≡ length (those_there rows) → how_many (row c l ∷ rows) ≡ length (those_there (row c l ∷ rows))
+length_one c No rows h = h
+length_one c Cardinality rows h = ap (λ n. 1 + n) h
+length_one c Division rows h = ap (λ n. 1 + n) h
+length_one c Overflow rows h = ap (λ n. 1 + n) h
+length_one c Yes rows h = ap (λ n. 1 + n) h
+
 many_length : {T : Type 0} (rows : List (Row T)) → how_many rows ≡ length (those_there rows)
 many_length [] = refl
-many_length (r ∷ rows) = one r.cells r.level
-  where
-    one : (c : _) (l : Level) → how_many (row c l ∷ rows) ≡ length (those_there (row c l ∷ rows))
-    one c No = many_length rows
-    one c Cardinality = ap (λ n. 1 + n) (many_length rows)
-    one c Division = ap (λ n. 1 + n) (many_length rows)
-    one c Overflow = ap (λ n. 1 + n) (many_length rows)
-    one c Yes = ap (λ n. 1 + n) (many_length rows)
+many_length (r ∷ rows) = length_one r.cells r.level rows (many_length rows)
 
 pub or_else_there : (rows : List (Row (List Cell))) (c : List Cell) →
     those_there (or_else rows (row c Yes ∷ [])) ≡ cond (nat_eq (length (those_there rows)) 0) (row c Yes ∷ []) (those_there rows)
@@ -106,7 +106,14 @@ keep_append l xs ys = keep-append l xs ys
 
 pub ruleset keep_steps = (common_steps, keep_append)
 
-pub ruleset join_steps = (common_steps, kept_those, bound_first)
+-- a join by one more row
+pub join_step : (f : List Cell → List (Row (List Cell))) (made new partners : List (Row (List Cell))) (x : Row (List Cell)) (rest : List (Row (List Cell))) → partners ≡ those_there (f x.cells) → new ≡ made ++ keep x.level partners
+    → those_there new ++ those_there (bind rest f) ≡ those_there made ++ those_there (bind (x ∷ rest) f)
+join_step f made new partners x rest h k =
+    ap (λ (rows : List (Row (List Cell))). those_there rows ++ those_there (bind rest f)) (k ∙ ap (λ (rows : List (Row (List Cell))). made ++ keep x.level rows) h)
+    ∙ ap (λ (rows : List (Row (List Cell))). rows ++ those_there (bind rest f)) (kept_those made x.level (f x.cells))
+    ∙ append_assoc (those_there made) (those_there (keep x.level (f x.cells))) (those_there (bind rest f))
+    ∙ ap (λ (rows : List (Row (List Cell))). those_there made ++ rows) (sym (bound_first x rest f))
 
 pub ruleset or_else_steps = (common_steps, or_else_there)
 

@@ -1,6 +1,7 @@
 -- Expressions go by the aggregates of a group alone, and so count nothing of its rows at no.
-use Rattle.std.proofs.Common.{◌≡◌, ℕ, ◌+◌, Bool, true, false, cond, ℤ, ◌+ℤ◌, pos, List, [], ◌∷◌, ◌++◌, Option, Some, None, replicate, arith, ints, refl, ap, ap₂, sym, ◌∙◌}
+use Rattle.std.proofs.Common.{◌≡◌, ℕ, ◌+◌, Bool, true, false, cond, ℤ, ◌+ℤ◌, pos, List, [], ◌∷◌, ◌++◌, Option, Some, None, replicate, arith, refl, ap, ap₂, sym, ◌∙◌}
 use mathlib.Core.Path.{fun_ext}
+use Rattle.std.proofs.lemmas.Int.{ints}
 use Rattle.qgm_base.specs.declared.compare.CmpOp.TheVariants.{Eq, Ge, Le}
 use Rattle.checked_query.specs.Meaning as m
 use Rattle.checked_query.specs.Trees as q
@@ -113,7 +114,7 @@ once_if_same true xs ys h = ap (λ rs. those_there rs) (once-same g.same_cell xs
 once_if_same false xs ys h = h
 
 many_same : {T : Type 0} (xs ys : List (Row T)) → SameThere xs ys → how_many xs ≡ how_many ys
-many_same xs ys h = total-same ◌+◌ 0 (λ n. refl) (λ row level. 1) xs ys h
+many_same xs ys h = total-same ◌+◌ 0 (λ n. omega arith) (λ row level. 1) xs ys h
 
 total_same : (xs ys : List (Row Cell)) → SameThere xs ys → g.exact_total xs ≡ g.exact_total ys
 total_same xs ys h = total-same ◌+ℤ◌ (pos 0) (λ n. omega (arith, ints)) (λ cell level. g.number_in cell) xs ys h
@@ -171,20 +172,27 @@ groups_of_same known s having list true key empty xs ys h =
     (bind-same xs ys (λ cells. cond (same_cells (key cells) k) (unit cells) []) (λ cells. cond (same_cells (key cells) k) (unit cells) []) h (λ cells. refl))))
     ∙ sym (selected_groups known s having list (once same_cells (bind ys (λ cells. unit (key cells)))) (λ k. g.one_group k (g.members (of_group same_cells key k ys))))
 
+-- what a condition and a list make of groups
+abbrev of_each : (List ℕ → m.Bag) → m.Scopes → q.Test → q.Values → List (Row (g.Grouped (List Cell))) → m.Bag
+of_each known s having list rows = selected (λ o. m.truth known having (o.key ∷ s) o.group) (λ o. m.cells known list (o.key ∷ s) o.group) rows
+
+abbrev held_by : Option (List ℕ) → List Cell → Option Kind
+held_by by cells = error_in (m.key by cells)
+
+abbrev failed_of : ℕ → Kind → g.Grouped (List Cell)
+failed_of width k = g.one_group (replicate width (cell.Err k)) (g.failed k)
+
+abbrev of_rows : Option (List ℕ) → ℕ → m.Bag → List (Row (g.Grouped (List Cell)))
+of_rows by width rows = g.groups_of (m.is_keyed by) same_cells (m.key by) (replicate width cell.Null) rows
+
+-- the same, where there is an error or there is none
+one_error : (known : List ℕ → m.Bag) (s : m.Scopes) (having : q.Test) (list : q.Values) (by : Option (List ℕ)) (width : ℕ) (xs ys : m.Bag) (e : Option Kind) → SameThere xs ys
+    → SameThere (of_each known s having list (error_or_bag (failed_of width) e (of_rows by width xs))) (of_each known s having list (error_or_bag (failed_of width) e (of_rows by width ys)))
+one_error known s having list by width xs ys (Some k) h = refl
+one_error known s having list by width xs ys None h = ap (λ (rs : m.Bag). those_there rs) (groups_of_same known s having list (m.is_keyed by) (m.key by) (replicate width cell.Null) xs ys h)
+
 pub groups_same : (known : List ℕ → m.Bag) (s : m.Scopes) (having : q.Test) (list : q.Values) (by : Option (List ℕ)) (width : ℕ) (xs ys : m.Bag) → SameThere xs ys
-    → SameThere (selected (λ o. m.truth known having (o.key ∷ s) o.group) (λ o. m.cells known list (o.key ∷ s) o.group) (m.groups by width xs))
-    (selected (λ o. m.truth known having (o.key ∷ s) o.group) (λ o. m.cells known list (o.key ∷ s) o.group) (m.groups by width ys))
+    → SameThere (of_each known s having list (m.groups by width xs)) (of_each known s having list (m.groups by width ys))
 groups_same known s having list by width xs ys h =
-    ap (λ e. those_there (made (error_or_bag failed e (of xs)))) (error_same held xs ys h) ∙ shape (error_among held ys)
-  where
-    made : List (Row (g.Grouped (List Cell))) → m.Bag
-    made = selected (λ o. m.truth known having (o.key ∷ s) o.group) (λ o. m.cells known list (o.key ∷ s) o.group)
-    held : List Cell → Option Kind
-    held cells = error_in (m.key by cells)
-    failed : Kind → g.Grouped (List Cell)
-    failed k = g.one_group (replicate width (cell.Err k)) (g.failed k)
-    of : m.Bag → List (Row (g.Grouped (List Cell)))
-    of rows = g.groups_of (m.is_keyed by) same_cells (m.key by) (replicate width cell.Null) rows
-    shape : (e : Option Kind) → SameThere (made (error_or_bag failed e (of xs))) (made (error_or_bag failed e (of ys)))
-    shape (Some k) = refl
-    shape None = ap (λ (rs : m.Bag). those_there rs) (groups_of_same known s having list (m.is_keyed by) (m.key by) (replicate width cell.Null) xs ys h)
+    ap (λ (e : Option Kind). those_there (of_each known s having list (error_or_bag (failed_of width) e (of_rows by width xs)))) (error_same (held_by by) xs ys h)
+    ∙ one_error known s having list by width xs ys (error_among (held_by by) ys) h

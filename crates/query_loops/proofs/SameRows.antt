@@ -1,5 +1,5 @@
 -- Loops over rows count nothing of rows at no.
-use Rattle.std.proofs.Common.{◌≡◌, ◌+◌, nat_eq, cond, Bool, true, false, List, [], ◌++◌, refl, ap, ap₂, sym, ◌∙◌}
+use Rattle.std.proofs.Common.{◌≡◌, ◌+◌, nat_eq, cond, arith, Bool, true, false, List, [], ◌++◌, refl, ap, ap₂, sym, ◌∙◌}
 use Rattle.row_bag.specs.Bags.{bind, keep, unit}
 use Rattle.row_bag.specs.Verdict.{those_there}
 use Rattle.row_bag.specs.declared.row.Row.{Row}
@@ -25,7 +25,7 @@ pub partners_same : (on : List Cell → Truth) (xs ys : Rows) (left : List Cell)
 partners_same on xs ys left h = bind-same xs ys (λ b. keep (on (left ++ b)).t (unit (left ++ b))) (λ b. keep (on (left ++ b)).t (unit (left ++ b))) h (λ b. refl)
 
 many_same : (xs ys : Rows) → SameThere xs ys → how_many xs ≡ how_many ys
-many_same xs ys h = total-same ◌+◌ 0 (λ n. refl) (λ row level. 1) xs ys h
+many_same xs ys h = total-same ◌+◌ 0 (λ n. omega arith) (λ row level. 1) xs ys h
 
 pub or_else_same : (xs ys others : Rows) → SameThere xs ys → SameThere (or_else xs others) (or_else ys others)
 or_else_same xs ys others h = shape (nat_eq (how_many xs) 0) ∙ ap (λ n. those_there (cond (nat_eq n 0) others ys)) (many_same xs ys h)

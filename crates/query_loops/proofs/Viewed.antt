@@ -24,13 +24,13 @@ pub found_all : (o p : Option m.Bag) → found_or o (rows_or_none p) ≡ rows_or
 found_all None p = refl
 found_all (Some bag) p = refl
 
+pushed_one : (b : Bool) (bag : m.Bag) (o p q : Option m.Bag) → o ≡ first_of p q → cond b (Some bag) o ≡ first_of (cond b (Some bag) p) q
+pushed_one true bag o p q h = refl
+pushed_one false bag o p q h = h
+
 bag_pushed : (tables : List Table) (t : Table) (name : List ℕ) → bag_named (tables ++ t ∷ []) name ≡ first_of (bag_named tables name) (cond (has_name name t) (Some t.bag) None)
 bag_pushed [] t name = refl
-bag_pushed (u ∷ tables) t name = shape (has_name name u) ∙ ap (λ o. first_of o (cond (has_name name t) (Some t.bag) None)) refl
-  where
-    shape : (b : Bool) → cond b (Some u.bag) (bag_named (tables ++ t ∷ []) name) ≡ first_of (cond b (Some u.bag) (bag_named tables name)) (cond (has_name name t) (Some t.bag) None)
-    shape true = refl
-    shape false = bag_pushed tables t name
+bag_pushed (u ∷ tables) t name = pushed_one (has_name name u) u.bag (bag_named (tables ++ t ∷ []) name) (bag_named tables name) (cond (has_name name t) (Some t.bag) None) (bag_pushed tables t name)
 
 -- one more view
 pub view_step : (known : List ℕ → m.Bag) (tables made : List Table) (t : Table) (v : ViewTree) (vs : List ViewTree) → t.name ≡ v.name → SameThere t.bag (m.rows known v.body []) → (name : List ℕ)
@@ -53,13 +53,6 @@ viewed_same known other tables views h name = shape (body_of views name)
     shape : (o : Option _) → SameThere (viewed known tables name o) (viewed other tables name o)
     shape None = refl
     shape (Some body) = rows_known known other h body []
-
--- once one more level changes nothing, no further one does
-pub settled : (views : List ViewTree) (tables : List Table) (depth : ℕ) → ((name : List ℕ) → SameThere (known_at views tables (suc depth) name) (known_at views tables depth name)) → (more : ℕ) (name : List ℕ)
-    → SameThere (known_at views tables (more + depth) name) (known_at views tables depth name)
-settled views tables depth h zero name = refl
-settled views tables depth h (suc more) name =
-    viewed_same (known_at views tables (more + depth)) (known_at views tables depth) tables views (settled views tables depth h more) name ∙ h name
 
 -- rows that are the same where they are there agree
 pub agree_there : {T : Type 0} (same : T → T → Bool) (xs ys : List (Row T)) → SameThere xs ys → Agree same xs ys

@@ -123,7 +123,11 @@ fn once_if(
 ) -> Result<Vec<Row<Cell>>, OutOfMemory>
     ensures { IfOk result (λ made. made.items ≡ groups.once_if distinct rows.items) }
 {
-    if distinct { once(alloc, &rows) } else { Ok(rows) }
+    if distinct {
+        once(alloc, &rows)
+    } else {
+        Ok(rows)
+    }
 }
 
 // A row is there.
@@ -233,13 +237,7 @@ fn lesser<'a>(x: &'a Cell, y: &'a Cell) -> &'a Cell
         (
             Cell::Int(_) | Cell::Text(_) | Cell::Err(_),
             Cell::Int(_) | Cell::Text(_) | Cell::Err(_),
-        ) => {
-            if cell_order(x, y).is_le() {
-                x
-            } else {
-                y
-            }
-        }
+        ) => { if cell_order(x, y).is_le() { x } else { y } }
     }
 }
 
@@ -253,13 +251,7 @@ fn greater<'a>(x: &'a Cell, y: &'a Cell) -> &'a Cell
         (
             Cell::Int(_) | Cell::Text(_) | Cell::Err(_),
             Cell::Int(_) | Cell::Text(_) | Cell::Err(_),
-        ) => {
-            if cell_order(x, y).is_le() {
-                y
-            } else {
-                x
-            }
-        }
+        ) => { if cell_order(x, y).is_le() { y } else { x } }
     }
 }
 
@@ -268,7 +260,11 @@ fn cell_there<'a>(row: &'a Row<Cell>, null: &'a Cell) -> &'a Cell
     requires { null.now ≡ Null }
     ensures { result.now ≡ if_there Null (λ c level. c) row.now.cells row.now.level }
 {
-    if row.level == Level::No { null } else { &row.cells }
+    if row.level == Level::No {
+        null
+    } else {
+        &row.cells
+    }
 }
 
 // The least cell, null of none.

@@ -26,7 +26,7 @@ impl<
     // The AND of conditions.
     #[tactic(auto, using(crate::proofs::Chains::and_steps))]
     fn every(&self, tests: &[Test], s: &Scopes<'_>, g: &Group<'_>) -> Result<Truth, OutOfMemory>
-        requires test { nests.Tests (P.pre self.now.test) (P.post self.now.test) }
+        requires test { nests.Tests self.now.setting.depth (P.pre self.now.test) (P.post self.now.test) }
         ensures { IfOk result (λ truth. truth ≡ m.every (known_in self.now.setting) (shown.test_list tests.now) (scopes s.now) (group g.now)) }
     {
         let mut truth = always(true);
@@ -39,7 +39,7 @@ impl<
     // The OR of conditions.
     #[tactic(auto, using(crate::proofs::Chains::or_steps))]
     fn some(&self, tests: &[Test], s: &Scopes<'_>, g: &Group<'_>) -> Result<Truth, OutOfMemory>
-        requires test { nests.Tests (P.pre self.now.test) (P.post self.now.test) }
+        requires test { nests.Tests self.now.setting.depth (P.pre self.now.test) (P.post self.now.test) }
         ensures { IfOk result (λ truth. truth ≡ m.some (known_in self.now.setting) (shown.test_list tests.now) (scopes s.now) (group g.now)) }
     {
         let mut truth = always(false);
@@ -51,8 +51,14 @@ impl<
 
     // Whether a value is one of others.
     #[tactic(auto, using(crate::proofs::Chains::or_steps))]
-    fn among(&self, x: &Cell, list: &[Value], s: &Scopes<'_>, g: &Group<'_>) -> Result<Truth, OutOfMemory>
-        requires value { nests.Values (V.pre self.now.value) (V.post self.now.value) }
+    fn among(
+        &self,
+        x: &Cell,
+        list: &[Value],
+        s: &Scopes<'_>,
+        g: &Group<'_>,
+    ) -> Result<Truth, OutOfMemory>
+        requires value { nests.Values self.now.setting.depth (V.pre self.now.value) (V.post self.now.value) }
         ensures { IfOk result (λ truth. truth ≡ m.equals_one (known_in self.now.setting) x.now (shown.value_list list.now) (scopes s.now) (group g.now)) }
     {
         let mut truth = always(false);
@@ -64,8 +70,15 @@ impl<
     }
 
     // A comparison of a value with the rows of a subquery.
-    fn quantified(&self, x: &Cell, op: CmpOp, each: Quantifier, q: &Query, s: &Scopes<'_>) -> Result<Truth, OutOfMemory>
-        requires rows { nests.Rows (R.pre self.now.rows) (R.post self.now.rows) }
+    fn quantified(
+        &self,
+        x: &Cell,
+        op: CmpOp,
+        each: Quantifier,
+        q: &Query,
+        s: &Scopes<'_>,
+    ) -> Result<Truth, OutOfMemory>
+        requires rows { nests.Rows self.now.setting.depth (R.pre self.now.rows) (R.post self.now.rows) }
         ensures { IfOk result (λ truth. truth ≡ u.quantified each op x.now (m.rows (known_in self.now.setting) (shown.query q.now) (scopes s.now))) }
     {
         let rows = self.rows(q, s)?;
@@ -74,7 +87,7 @@ impl<
 
     // Whether a value is in the rows of a subquery.
     fn among_rows(&self, x: &Cell, q: &Query, s: &Scopes<'_>) -> Result<Truth, OutOfMemory>
-        requires rows { nests.Rows (R.pre self.now.rows) (R.post self.now.rows) }
+        requires rows { nests.Rows self.now.setting.depth (R.pre self.now.rows) (R.post self.now.rows) }
         ensures { IfOk result (λ truth. truth ≡ u.compare_any op.Eq x.now (m.rows (known_in self.now.setting) (shown.query q.now) (scopes s.now))) }
     {
         let rows = self.rows(q, s)?;
@@ -83,7 +96,7 @@ impl<
 
     // Whether a subquery has a row.
     fn exists(&self, q: &Query, s: &Scopes<'_>) -> Result<Truth, OutOfMemory>
-        requires rows { nests.Rows (R.pre self.now.rows) (R.post self.now.rows) }
+        requires rows { nests.Rows self.now.setting.depth (R.pre self.now.rows) (R.post self.now.rows) }
         ensures { IfOk result (λ truth. truth ≡ u.exists (m.rows (known_in self.now.setting) (shown.query q.now) (scopes s.now))) }
     {
         let rows = self.rows(q, s)?;
@@ -93,9 +106,9 @@ impl<
     /// How far a condition is true and false. It fails only for want of memory.
     #[tactic(auto, using(checked_query::specs::Shown::lists))]
     pub fn hold(&self, p: &Test, s: &Scopes<'_>, g: &Group<'_>) -> Result<Truth, OutOfMemory>
-        requires value { nests.Values (V.pre self.now.value) (V.post self.now.value) }
-        requires test { nests.Tests (P.pre self.now.test) (P.post self.now.test) }
-        requires rows { nests.Rows (R.pre self.now.rows) (R.post self.now.rows) }
+        requires value { nests.Values self.now.setting.depth (V.pre self.now.value) (V.post self.now.value) }
+        requires test { nests.Tests self.now.setting.depth (P.pre self.now.test) (P.post self.now.test) }
+        requires rows { nests.Rows self.now.setting.depth (R.pre self.now.rows) (R.post self.now.rows) }
         ensures { IfOk result (λ truth. truth ≡ m.truth (known_in self.now.setting) (shown.test p.now) (scopes s.now) (group g.now)) }
     {
         match p {

@@ -24,8 +24,14 @@ impl<
     R: Fn(&Setting<'_>, &Query, &Scopes<'_>) -> Result<Bag, OutOfMemory>,
 > Loops<'_, V, P, F, R> {
     // A chain of `+`, `-` and `||`, from the left.
-    fn sum(&self, first: Cell, addends: &[Addend], s: &Scopes<'_>, g: &Group<'_>) -> Result<Cell, OutOfMemory>
-        requires value { nests.Values (V.pre self.now.value) (V.post self.now.value) }
+    fn sum(
+        &self,
+        first: Cell,
+        addends: &[Addend],
+        s: &Scopes<'_>,
+        g: &Group<'_>,
+    ) -> Result<Cell, OutOfMemory>
+        requires value { nests.Values self.now.setting.depth (V.pre self.now.value) (V.post self.now.value) }
         ensures { IfOk result (λ cell. cell ≡ m.summed (known_in self.now.setting) first (shown.addend_list addends.now) (scopes s.now) (group g.now)) }
     {
         let mut total = first;
@@ -37,8 +43,14 @@ impl<
     }
 
     // A chain of `*` and `/`, from the left.
-    fn product(&self, first: Cell, multipliers: &[Multiplier], s: &Scopes<'_>, g: &Group<'_>) -> Result<Cell, OutOfMemory>
-        requires value { nests.Values (V.pre self.now.value) (V.post self.now.value) }
+    fn product(
+        &self,
+        first: Cell,
+        multipliers: &[Multiplier],
+        s: &Scopes<'_>,
+        g: &Group<'_>,
+    ) -> Result<Cell, OutOfMemory>
+        requires value { nests.Values self.now.setting.depth (V.pre self.now.value) (V.post self.now.value) }
         ensures { IfOk result (λ cell. cell ≡ m.multiplied (known_in self.now.setting) first (shown.multiplier_list multipliers.now) (scopes s.now) (group g.now)) }
     {
         let mut total = first;
@@ -51,9 +63,14 @@ impl<
 
     // The result of the first condition that is true, or the error that one of them comes to; none
     // where all before are not true at all.
-    fn first_true(&self, list: &[Arm], s: &Scopes<'_>, g: &Group<'_>) -> Result<Option<Cell>, OutOfMemory>
-        requires value { nests.Values (V.pre self.now.value) (V.post self.now.value) }
-        requires test { nests.Tests (P.pre self.now.test) (P.post self.now.test) }
+    fn first_true(
+        &self,
+        list: &[Arm],
+        s: &Scopes<'_>,
+        g: &Group<'_>,
+    ) -> Result<Option<Cell>, OutOfMemory>
+        requires value { nests.Values self.now.setting.depth (V.pre self.now.value) (V.post self.now.value) }
+        requires test { nests.Tests self.now.setting.depth (P.pre self.now.test) (P.post self.now.test) }
         ensures { IfOk result (λ cell. (last : Cell) → m.of_arms (known_in self.now.setting) (shown.arm_list list.now) last (scopes s.now) (group g.now) ≡ unwrap_or cell last) }
     {
         for arm in list {
@@ -69,8 +86,14 @@ impl<
     }
 
     // A cell that was found, or that of the last expression.
-    fn or_last(&self, found: Option<Cell>, last: &Value, s: &Scopes<'_>, g: &Group<'_>) -> Result<Cell, OutOfMemory>
-        requires value { nests.Values (V.pre self.now.value) (V.post self.now.value) }
+    fn or_last(
+        &self,
+        found: Option<Cell>,
+        last: &Value,
+        s: &Scopes<'_>,
+        g: &Group<'_>,
+    ) -> Result<Cell, OutOfMemory>
+        requires value { nests.Values self.now.setting.depth (V.pre self.now.value) (V.post self.now.value) }
         ensures { IfOk result (λ cell. cell ≡ unwrap_or found (m.value (known_in self.now.setting) (shown.value last.now) (scopes s.now) (group g.now))) }
     {
         match found {
@@ -81,8 +104,14 @@ impl<
 
     // The result of the first value that a cell equals, or the error that one comparison comes to;
     // none where it equals none.
-    fn first_equal(&self, x: &Cell, list: &[Choice], s: &Scopes<'_>, g: &Group<'_>) -> Result<Option<Cell>, OutOfMemory>
-        requires value { nests.Values (V.pre self.now.value) (V.post self.now.value) }
+    fn first_equal(
+        &self,
+        x: &Cell,
+        list: &[Choice],
+        s: &Scopes<'_>,
+        g: &Group<'_>,
+    ) -> Result<Option<Cell>, OutOfMemory>
+        requires value { nests.Values self.now.setting.depth (V.pre self.now.value) (V.post self.now.value) }
         ensures { IfOk result (λ cell. (last : Cell) → m.of_choices (known_in self.now.setting) x.now (shown.choice_list list.now) last (scopes s.now) (group g.now) ≡ unwrap_or cell last) }
     {
         for choice in list {
@@ -99,9 +128,15 @@ impl<
     }
 
     // `CASE` with conditions.
-    fn searched(&self, list: &[Arm], last: &Value, s: &Scopes<'_>, g: &Group<'_>) -> Result<Cell, OutOfMemory>
-        requires value { nests.Values (V.pre self.now.value) (V.post self.now.value) }
-        requires test { nests.Tests (P.pre self.now.test) (P.post self.now.test) }
+    fn searched(
+        &self,
+        list: &[Arm],
+        last: &Value,
+        s: &Scopes<'_>,
+        g: &Group<'_>,
+    ) -> Result<Cell, OutOfMemory>
+        requires value { nests.Values self.now.setting.depth (V.pre self.now.value) (V.post self.now.value) }
+        requires test { nests.Tests self.now.setting.depth (P.pre self.now.test) (P.post self.now.test) }
         ensures { IfOk result (λ cell. cell ≡ m.of_arms (known_in self.now.setting) (shown.arm_list list.now) (m.value (known_in self.now.setting) (shown.value last.now) (scopes s.now) (group g.now)) (scopes s.now) (group g.now)) }
     {
         let found = self.first_true(list, s, g)?;
@@ -109,8 +144,15 @@ impl<
     }
 
     // `CASE` with an operand.
-    fn simple(&self, x: &Cell, list: &[Choice], last: &Value, s: &Scopes<'_>, g: &Group<'_>) -> Result<Cell, OutOfMemory>
-        requires value { nests.Values (V.pre self.now.value) (V.post self.now.value) }
+    fn simple(
+        &self,
+        x: &Cell,
+        list: &[Choice],
+        last: &Value,
+        s: &Scopes<'_>,
+        g: &Group<'_>,
+    ) -> Result<Cell, OutOfMemory>
+        requires value { nests.Values self.now.setting.depth (V.pre self.now.value) (V.post self.now.value) }
         ensures { IfOk result (λ cell. cell ≡ m.of_choices (known_in self.now.setting) x.now (shown.choice_list list.now) (m.value (known_in self.now.setting) (shown.value last.now) (scopes s.now) (group g.now)) (scopes s.now) (group g.now)) }
     {
         let found = self.first_equal(x, list, s, g)?;
@@ -118,8 +160,14 @@ impl<
     }
 
     // `COALESCE(first, ..)`.
-    fn coalesce(&self, first: Cell, others: &[Value], s: &Scopes<'_>, g: &Group<'_>) -> Result<Cell, OutOfMemory>
-        requires value { nests.Values (V.pre self.now.value) (V.post self.now.value) }
+    fn coalesce(
+        &self,
+        first: Cell,
+        others: &[Value],
+        s: &Scopes<'_>,
+        g: &Group<'_>,
+    ) -> Result<Cell, OutOfMemory>
+        requires value { nests.Values self.now.setting.depth (V.pre self.now.value) (V.post self.now.value) }
         ensures { IfOk result (λ cell. cell ≡ m.coalesced (known_in self.now.setting) first (shown.value_list others.now) (scopes s.now) (group g.now)) }
     {
         let mut cell = first;
@@ -134,7 +182,7 @@ impl<
 
     // A scalar subquery.
     fn scalar(&self, q: &Query, s: &Scopes<'_>) -> Result<Cell, OutOfMemory>
-        requires rows { nests.Rows (R.pre self.now.rows) (R.post self.now.rows) }
+        requires rows { nests.Rows self.now.setting.depth (R.pre self.now.rows) (R.post self.now.rows) }
         ensures { IfOk result (λ cell. cell ≡ u.scalar (m.rows (known_in self.now.setting) (shown.query q.now) (scopes s.now))) }
     {
         let rows = self.rows(q, s)?;
@@ -144,9 +192,9 @@ impl<
     /// The cell that an expression is. It fails only for want of memory.
     #[tactic(auto, using(checked_query::specs::Shown::lists))]
     pub fn evaluate(&self, v: &Value, s: &Scopes<'_>, g: &Group<'_>) -> Result<Cell, OutOfMemory>
-        requires value { nests.Values (V.pre self.now.value) (V.post self.now.value) }
-        requires test { nests.Tests (P.pre self.now.test) (P.post self.now.test) }
-        requires rows { nests.Rows (R.pre self.now.rows) (R.post self.now.rows) }
+        requires value { nests.Values self.now.setting.depth (V.pre self.now.value) (V.post self.now.value) }
+        requires test { nests.Tests self.now.setting.depth (P.pre self.now.test) (P.post self.now.test) }
+        requires rows { nests.Rows self.now.setting.depth (R.pre self.now.rows) (R.post self.now.rows) }
         ensures { IfOk result (λ cell. cell ≡ m.value (known_in self.now.setting) (shown.value v.now) (scopes s.now) (group g.now)) }
     {
         let alloc = self.setting.alloc;

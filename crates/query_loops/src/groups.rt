@@ -14,9 +14,10 @@ ghost use Rattle.row_bag.specs.Verdict.{those_there};
 ghost use Rattle.sql_meaning.specs.Groups as groups;
 ghost use Rattle.sql_meaning.specs.Joins as joins;
 ghost use Rattle.row_bag.specs.Errors.{error_at};
-ghost use Rattle.sql_value.specs.Cells.{worst_of};
+ghost use Rattle.sql_value.specs.Cells.{error_of, worst_of};
 ghost use Rattle.sql_value.specs.Level.{level_of};
 ghost use Rattle.sql_value.specs.declared.cell.Cell.TheVariants.{Null};
+ghost use Rattle.sql_value.specs.declared.level.Level.TheVariants.{Yes};
 
 use crate::nest::Loops;
 use crate::pair::nulls;
@@ -38,20 +39,37 @@ fn is_place(i: usize, places: &[usize]) -> bool
     places.iter().any(|place| i == *place)
 }
 
+// The cell where its place is one of these, else null.
+fn masked_cell(alloc: Global, i: usize, places: &[usize], cell: &Cell) -> Result<Cell, OutOfMemory>
+    ensures { IfOk result (λ made. made ≡ if list_any (nat_eq i) places.now then cell.now else Null) }
+{
+    if is_place(i, places) {
+        copy(alloc, cell)
+    } else {
+        Ok(Cell::Null)
+    }
+}
+
 // The cells, with null at all places that aren't these.
 fn masked(alloc: Global, places: &[usize], cells: &[Cell]) -> Result<Items<Cell>, OutOfMemory>
     ensures { IfOk result (λ made. made ≡ m.masked_from 0 places.now cells.now) }
 {
     let mut made = Vec::new(alloc);
     for i in 0..cells.len() {
-        let cell = if is_place(i, places) {
-            copy(alloc, &cells[i])?
-        } else {
-            Cell::Null
-        };
-        made.push(cell)?;
+        made.push(masked_cell(alloc, i, places, &cells[i])?)?;
     }
     Ok(Items::from_vec(made))
+}
+
+// The error that a cell is, where its place is one of these.
+fn masked_error(i: usize, places: &[usize], cell: &Cell) -> Option<Kind>
+    ensures { result ≡ error_of (if list_any (nat_eq i) places.now then cell.now else Null) }
+{
+    if is_place(i, places) {
+        error_of(cell)
+    } else {
+        None
+    }
 }
 
 // The greatest error among the cells at these places.
@@ -61,9 +79,7 @@ fn error_at_places(places: &[usize], cells: &[Cell]) -> Option<Kind>
 {
     let mut found = None;
     for i in 0..cells.len() {
-        if is_place(i, places) {
-            found = worst_of(found, error_of(&cells[i]));
-        }
+        found = worst_of(found, masked_error(i, places, &cells[i]));
     }
     found
 }
@@ -94,12 +110,7 @@ fn group_error(places: &[usize], rows: &[Row]) -> Option<Kind>
 }
 
 // Whether this is the key of a row.
-fn has_key(
-    alloc: Global,
-    places: &[usize],
-    key: &[Cell],
-    row: &Row,
-) -> Result<bool, OutOfMemory>
+fn has_key(alloc: Global, places: &[usize], key: &[Cell], row: &Row) -> Result<bool, OutOfMemory>
     ensures { IfOk result (λ has. has ≡ same_cells (m.key (Some places.now) row.now.cells) key.now) }
 {
     let own = masked(alloc, places, row.cells.as_slice())?;
@@ -186,9 +197,17 @@ impl<
     R: Fn(&Setting<'_>, &Query, &Scopes<'_>) -> Result<Bag, OutOfMemory>,
 > Loops<'_, V, P, F, R> {
     // What a list gives of a group, where HAVING doesn't reject it.
-    fn pick_group(&self, list: &[Value], having: &Test, key: &[Cell], g: &Group<'_>, level: Level, s: &Scopes<'_>) -> Result<Option<Row>, OutOfMemory>
-        requires value { nests.Values (V.pre self.now.value) (V.post self.now.value) }
-        requires test { nests.Tests (P.pre self.now.test) (P.post self.now.test) }
+    fn pick_group(
+        &self,
+        list: &[Value],
+        having: &Test,
+        key: &[Cell],
+        g: &Group<'_>,
+        level: Level,
+        s: &Scopes<'_>,
+    ) -> Result<Option<Row>, OutOfMemory>
+        requires value { nests.Values self.now.setting.depth (V.pre self.now.value) (V.post self.now.value) }
+        requires test { nests.Tests self.now.setting.depth (P.pre self.now.test) (P.post self.now.test) }
         ensures { IfOk result (λ made. if_some made ≡ those_there (picked (spec.test_of (known_in self.now.setting) (scopes s.now) (shown.test having.now)) (spec.cells_of (known_in self.now.setting) (scopes s.now) (shown.value_list list.now)) (row (groups.one_group key.now (group g.now)) level) ∷ [])) }
     {
         let inside = Scopes::Inside(key, &*s);
@@ -200,30 +219,65 @@ impl<
         Ok(Some(Row { cells, level }))
     }
 
-    // What the group of a row's key gives, where the key doesn't occur in the rows after it.
-    fn group_at(&self, list: &[Value], having: &Test, places: &[usize], rows: &[Row], row: &Row, after: &[Row], s: &Scopes<'_>) -> Result<Option<Row>, OutOfMemory>
-        requires value { nests.Values (V.pre self.now.value) (V.post self.now.value) }
-        requires test { nests.Tests (P.pre self.now.test) (P.post self.now.test) }
-        ensures { IfOk result (λ made. if_some made ≡ those_there (joins.selected (spec.test_of (known_in self.now.setting) (scopes s.now) (shown.test having.now)) (spec.cells_of (known_in self.now.setting) (scopes s.now) (shown.value_list list.now)) (spec.last_group places.now rows.now row.now after.now))) }
+    // What the group of a key gives.
+    fn group_of_key(
+        &self,
+        list: &[Value],
+        having: &Test,
+        places: &[usize],
+        rows: &[Row],
+        key: &[Cell],
+        s: &Scopes<'_>,
+    ) -> Result<Option<Row>, OutOfMemory>
+        requires value { nests.Values self.now.setting.depth (V.pre self.now.value) (V.post self.now.value) }
+        requires test { nests.Tests self.now.setting.depth (P.pre self.now.test) (P.post self.now.test) }
+        ensures { IfOk result (λ made. if_some made ≡ those_there (picked (spec.test_of (known_in self.now.setting) (scopes s.now) (shown.test having.now)) (spec.cells_of (known_in self.now.setting) (scopes s.now) (shown.value_list list.now)) (row (spec.group_of places.now rows.now key.now) Yes) ∷ [])) }
     {
-        let alloc = self.setting.alloc;
-        let key = masked(alloc, places, row.cells.as_slice())?;
-        if !is_last(alloc, places, key.as_slice(), row.level, after)? {
-            return Ok(None);
-        }
-        let members = members(alloc, places, key.as_slice(), rows)?;
+        let members = members(self.setting.alloc, places, key, rows)?;
         let g = Group {
             members: &members,
             failed: None,
         };
-        self.pick_group(list, having, key.as_slice(), &g, Level::Yes, s)
+        self.pick_group(list, having, key, &g, Level::Yes, s)
+    }
+
+    // What the group of a row's key gives, where the key doesn't occur in the rows after it.
+    fn group_at(
+        &self,
+        list: &[Value],
+        having: &Test,
+        places: &[usize],
+        rows: &[Row],
+        row: &Row,
+        after: &[Row],
+        s: &Scopes<'_>,
+    ) -> Result<Option<Row>, OutOfMemory>
+        requires value { nests.Values self.now.setting.depth (V.pre self.now.value) (V.post self.now.value) }
+        requires test { nests.Tests self.now.setting.depth (P.pre self.now.test) (P.post self.now.test) }
+        ensures { IfOk result (λ made. if_some made ≡ those_there (joins.selected (spec.test_of (known_in self.now.setting) (scopes s.now) (shown.test having.now)) (spec.cells_of (known_in self.now.setting) (scopes s.now) (shown.value_list list.now)) (spec.last_group places.now rows.now row.now after.now))) }
+    {
+        let alloc = self.setting.alloc;
+        let cells = masked(alloc, places, row.cells.as_slice())?;
+        let key = cells.as_slice();
+        let last = is_last(alloc, places, key, row.level, after)?;
+        if !last {
+            return Ok(None);
+        }
+        self.group_of_key(list, having, places, rows, key, s)
     }
 
     // What a list gives of the groups that HAVING keeps.
     #[tactic(auto, using(crate::proofs::Grouped::groups_steps))]
-    fn groups(&self, list: &[Value], having: &Test, places: &[usize], rows: &[Row], s: &Scopes<'_>) -> Result<Bag, OutOfMemory>
-        requires value { nests.Values (V.pre self.now.value) (V.post self.now.value) }
-        requires test { nests.Tests (P.pre self.now.test) (P.post self.now.test) }
+    fn groups(
+        &self,
+        list: &[Value],
+        having: &Test,
+        places: &[usize],
+        rows: &[Row],
+        s: &Scopes<'_>,
+    ) -> Result<Bag, OutOfMemory>
+        requires value { nests.Values self.now.setting.depth (V.pre self.now.value) (V.post self.now.value) }
+        requires test { nests.Tests self.now.setting.depth (P.pre self.now.test) (P.post self.now.test) }
         ensures { IfOk result (λ made. made ≡ those_there (joins.selected (spec.test_of (known_in self.now.setting) (scopes s.now) (shown.test having.now)) (spec.cells_of (known_in self.now.setting) (scopes s.now) (shown.value_list list.now)) (spec.groups_among places.now rows.now rows.now))) }
     {
         let mut made = Bag::new(self.setting.alloc);
@@ -237,9 +291,17 @@ impl<
     }
 
     // What a list gives of one group, where HAVING doesn't reject it.
-    fn one_group(&self, list: &[Value], having: &Test, key: &[Cell], g: &Group<'_>, level: Level, s: &Scopes<'_>) -> Result<Bag, OutOfMemory>
-        requires value { nests.Values (V.pre self.now.value) (V.post self.now.value) }
-        requires test { nests.Tests (P.pre self.now.test) (P.post self.now.test) }
+    fn one_group(
+        &self,
+        list: &[Value],
+        having: &Test,
+        key: &[Cell],
+        g: &Group<'_>,
+        level: Level,
+        s: &Scopes<'_>,
+    ) -> Result<Bag, OutOfMemory>
+        requires value { nests.Values self.now.setting.depth (V.pre self.now.value) (V.post self.now.value) }
+        requires test { nests.Tests self.now.setting.depth (P.pre self.now.test) (P.post self.now.test) }
         ensures { IfOk result (λ made. made ≡ those_there (joins.selected (spec.test_of (known_in self.now.setting) (scopes s.now) (shown.test having.now)) (spec.cells_of (known_in self.now.setting) (scopes s.now) (shown.value_list list.now)) (row (groups.one_group key.now (group g.now)) level ∷ []))) }
     {
         let mut made = Bag::new(self.setting.alloc);
@@ -250,9 +312,16 @@ impl<
     }
 
     // The same of the one row that an error is.
-    fn failed_group(&self, list: &[Value], having: &Test, width: usize, kind: Kind, s: &Scopes<'_>) -> Result<Bag, OutOfMemory>
-        requires value { nests.Values (V.pre self.now.value) (V.post self.now.value) }
-        requires test { nests.Tests (P.pre self.now.test) (P.post self.now.test) }
+    fn failed_group(
+        &self,
+        list: &[Value],
+        having: &Test,
+        width: usize,
+        kind: Kind,
+        s: &Scopes<'_>,
+    ) -> Result<Bag, OutOfMemory>
+        requires value { nests.Values self.now.setting.depth (V.pre self.now.value) (V.post self.now.value) }
+        requires test { nests.Tests self.now.setting.depth (P.pre self.now.test) (P.post self.now.test) }
         ensures { IfOk result (λ made. made ≡ those_there (joins.selected (spec.test_of (known_in self.now.setting) (scopes s.now) (shown.test having.now)) (spec.cells_of (known_in self.now.setting) (scopes s.now) (shown.value_list list.now)) (row (groups.one_group (m.failed_cells width kind) (groups.failed kind)) (level_of kind) ∷ []))) }
     {
         let key = failed_cells(self.setting.alloc, width, kind)?;
@@ -264,9 +333,16 @@ impl<
     }
 
     // The same of all rows as one group.
-    fn whole_group(&self, list: &[Value], having: &Test, width: usize, rows: &[Row], s: &Scopes<'_>) -> Result<Bag, OutOfMemory>
-        requires value { nests.Values (V.pre self.now.value) (V.post self.now.value) }
-        requires test { nests.Tests (P.pre self.now.test) (P.post self.now.test) }
+    fn whole_group(
+        &self,
+        list: &[Value],
+        having: &Test,
+        width: usize,
+        rows: &[Row],
+        s: &Scopes<'_>,
+    ) -> Result<Bag, OutOfMemory>
+        requires value { nests.Values self.now.setting.depth (V.pre self.now.value) (V.post self.now.value) }
+        requires test { nests.Tests self.now.setting.depth (P.pre self.now.test) (P.post self.now.test) }
         ensures { IfOk result (λ made. made ≡ those_there (joins.selected (spec.test_of (known_in self.now.setting) (scopes s.now) (shown.test having.now)) (spec.cells_of (known_in self.now.setting) (scopes s.now) (shown.value_list list.now)) (unit (groups.one_group (replicate width Null) (groups.members rows.now))))) }
     {
         let alloc = self.setting.alloc;
@@ -280,9 +356,17 @@ impl<
     }
 
     // What a list gives of the groups that HAVING keeps, with GROUP BY.
-    fn keyed_rows(&self, list: &[Value], having: &Test, places: &[usize], width: usize, rows: &[Row], s: &Scopes<'_>) -> Result<Bag, OutOfMemory>
-        requires value { nests.Values (V.pre self.now.value) (V.post self.now.value) }
-        requires test { nests.Tests (P.pre self.now.test) (P.post self.now.test) }
+    fn keyed_rows(
+        &self,
+        list: &[Value],
+        having: &Test,
+        places: &[usize],
+        width: usize,
+        rows: &[Row],
+        s: &Scopes<'_>,
+    ) -> Result<Bag, OutOfMemory>
+        requires value { nests.Values self.now.setting.depth (V.pre self.now.value) (V.post self.now.value) }
+        requires test { nests.Tests self.now.setting.depth (P.pre self.now.test) (P.post self.now.test) }
         ensures { IfOk result (λ made. made ≡ those_there (joins.selected (spec.test_of (known_in self.now.setting) (scopes s.now) (shown.test having.now)) (spec.cells_of (known_in self.now.setting) (scopes s.now) (shown.value_list list.now)) (m.groups (Some places.now) width rows.now))) }
     {
         match group_error(places, rows) {
@@ -292,9 +376,16 @@ impl<
     }
 
     // The same without GROUP BY: there is one group.
-    fn unkeyed_rows(&self, list: &[Value], having: &Test, width: usize, rows: &[Row], s: &Scopes<'_>) -> Result<Bag, OutOfMemory>
-        requires value { nests.Values (V.pre self.now.value) (V.post self.now.value) }
-        requires test { nests.Tests (P.pre self.now.test) (P.post self.now.test) }
+    fn unkeyed_rows(
+        &self,
+        list: &[Value],
+        having: &Test,
+        width: usize,
+        rows: &[Row],
+        s: &Scopes<'_>,
+    ) -> Result<Bag, OutOfMemory>
+        requires value { nests.Values self.now.setting.depth (V.pre self.now.value) (V.post self.now.value) }
+        requires test { nests.Tests self.now.setting.depth (P.pre self.now.test) (P.post self.now.test) }
         ensures { IfOk result (λ made. made ≡ those_there (joins.selected (spec.test_of (known_in self.now.setting) (scopes s.now) (shown.test having.now)) (spec.cells_of (known_in self.now.setting) (scopes s.now) (shown.value_list list.now)) (m.groups None width rows.now))) }
     {
         match group_error(&[], rows) {
@@ -304,9 +395,17 @@ impl<
     }
 
     // What a list gives of the groups of rows that HAVING keeps.
-    fn grouped_rows(&self, list: &[Value], having: &Test, by: &Option<Items<usize>>, width: usize, rows: &[Row], s: &Scopes<'_>) -> Result<Bag, OutOfMemory>
-        requires value { nests.Values (V.pre self.now.value) (V.post self.now.value) }
-        requires test { nests.Tests (P.pre self.now.test) (P.post self.now.test) }
+    fn grouped_rows(
+        &self,
+        list: &[Value],
+        having: &Test,
+        by: &Option<Items<usize>>,
+        width: usize,
+        rows: &[Row],
+        s: &Scopes<'_>,
+    ) -> Result<Bag, OutOfMemory>
+        requires value { nests.Values self.now.setting.depth (V.pre self.now.value) (V.post self.now.value) }
+        requires test { nests.Tests self.now.setting.depth (P.pre self.now.test) (P.post self.now.test) }
         ensures { IfOk result (λ made. made ≡ those_there (joins.selected (spec.test_of (known_in self.now.setting) (scopes s.now) (shown.test having.now)) (spec.cells_of (known_in self.now.setting) (scopes s.now) (shown.value_list list.now)) (m.groups by.now width rows.now))) }
     {
         match by {
@@ -317,7 +416,7 @@ impl<
 
     // A row at the level at which a condition keeps it, none where it rejects it.
     fn keep_row(&self, p: &Test, row: &Row, s: &Scopes<'_>) -> Result<Option<Row>, OutOfMemory>
-        requires test { nests.Tests (P.pre self.now.test) (P.post self.now.test) }
+        requires test { nests.Tests self.now.setting.depth (P.pre self.now.test) (P.post self.now.test) }
         ensures { IfOk result (λ made. if_some made ≡ those_there (picked (test_in (known_in self.now.setting) (scopes s.now) (shown.test p.now)) (λ cells. cells) row.now ∷ [])) }
     {
         let level = self.level(p, row, s)?;
@@ -331,7 +430,7 @@ impl<
     // The rows that a condition keeps.
     #[tactic(auto, using(crate::proofs::Each::kept_steps))]
     fn kept(&self, p: &Test, rows: &[Row], s: &Scopes<'_>) -> Result<Bag, OutOfMemory>
-        requires test { nests.Tests (P.pre self.now.test) (P.post self.now.test) }
+        requires test { nests.Tests self.now.setting.depth (P.pre self.now.test) (P.post self.now.test) }
         ensures { IfOk result (λ made. made ≡ those_there (joins.kept (test_in (known_in self.now.setting) (scopes s.now) (shown.test p.now)) rows.now)) }
     {
         let mut made = Bag::new(self.setting.alloc);
@@ -344,9 +443,18 @@ impl<
     }
 
     /// A block with groups, without its DISTINCT.
-    pub fn grouped(&self, list: &[Value], p: &Test, by: &Option<Items<usize>>, width: usize, having: &Test, frames: &[Row], s: &Scopes<'_>) -> Result<Bag, OutOfMemory>
-        requires value { nests.Values (V.pre self.now.value) (V.post self.now.value) }
-        requires test { nests.Tests (P.pre self.now.test) (P.post self.now.test) }
+    pub fn grouped(
+        &self,
+        list: &[Value],
+        p: &Test,
+        by: &Option<Items<usize>>,
+        width: usize,
+        having: &Test,
+        frames: &[Row],
+        s: &Scopes<'_>,
+    ) -> Result<Bag, OutOfMemory>
+        requires value { nests.Values self.now.setting.depth (V.pre self.now.value) (V.post self.now.value) }
+        requires test { nests.Tests self.now.setting.depth (P.pre self.now.test) (P.post self.now.test) }
         ensures { IfOk result (λ made. made ≡ those_there (joins.selected (spec.test_of (known_in self.now.setting) (scopes s.now) (shown.test having.now)) (spec.cells_of (known_in self.now.setting) (scopes s.now) (shown.value_list list.now)) (m.groups by.now width (joins.kept (test_in (known_in self.now.setting) (scopes s.now) (shown.test p.now)) frames.now)))) }
     {
         let rows = self.kept(p, frames, s)?;

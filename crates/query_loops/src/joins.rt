@@ -27,8 +27,14 @@ impl<
     R: Fn(&Setting<'_>, &Query, &Scopes<'_>) -> Result<Bag, OutOfMemory>,
 > Loops<'_, V, P, F, R> {
     // A row beside another, where a condition doesn't reject it.
-    fn partner(&self, p: &Test, left: &[Cell], right: &Row, s: &Scopes<'_>) -> Result<Option<Row>, OutOfMemory>
-        requires test { nests.Tests (P.pre self.now.test) (P.post self.now.test) }
+    fn partner(
+        &self,
+        p: &Test,
+        left: &[Cell],
+        right: &Row,
+        s: &Scopes<'_>,
+    ) -> Result<Option<Row>, OutOfMemory>
+        requires test { nests.Tests self.now.setting.depth (P.pre self.now.test) (P.post self.now.test) }
         ensures { IfOk result (λ made. if_some made ≡ those_there (picked (test_in (known_in self.now.setting) (scopes s.now) (shown.test p.now)) (λ cells. cells) (beside left.now right.now) ∷ [])) }
     {
         let mut row = beside(self.setting.alloc, left, right)?;
@@ -41,8 +47,14 @@ impl<
 
     // The partners of a left row, each beside it.
     #[tactic(auto, using(crate::proofs::Each::partner_steps))]
-    fn partners(&self, p: &Test, left: &[Cell], ys: &[Row], s: &Scopes<'_>) -> Result<Bag, OutOfMemory>
-        requires test { nests.Tests (P.pre self.now.test) (P.post self.now.test) }
+    fn partners(
+        &self,
+        p: &Test,
+        left: &[Cell],
+        ys: &[Row],
+        s: &Scopes<'_>,
+    ) -> Result<Bag, OutOfMemory>
+        requires test { nests.Tests self.now.setting.depth (P.pre self.now.test) (P.post self.now.test) }
         ensures { IfOk result (λ made. made ≡ those_there (joins.partners (test_in (known_in self.now.setting) (scopes s.now) (shown.test p.now)) ys.now left.now)) }
     {
         let mut made = Bag::new(self.setting.alloc);
@@ -57,7 +69,7 @@ impl<
     // A join.
     #[tactic(auto, using(crate::proofs::Each::join_steps))]
     pub fn join(&self, p: &Test, xs: &[Row], ys: &[Row], s: &Scopes<'_>) -> Result<Bag, OutOfMemory>
-        requires test { nests.Tests (P.pre self.now.test) (P.post self.now.test) }
+        requires test { nests.Tests self.now.setting.depth (P.pre self.now.test) (P.post self.now.test) }
         ensures { IfOk result (λ made. SameThere made (bind xs.now (joins.partners (test_in (known_in self.now.setting) (scopes s.now) (shown.test p.now)) ys.now))) }
     {
         let mut made = Bag::new(self.setting.alloc);
@@ -70,8 +82,15 @@ impl<
 
     // The partners of a left row, or where there is none this row once with nulls.
     #[tactic(auto, using(crate::proofs::Each::or_else_steps))]
-    fn partners_or_nulls(&self, p: &Test, width: usize, left: &[Cell], ys: &[Row], s: &Scopes<'_>) -> Result<Bag, OutOfMemory>
-        requires test { nests.Tests (P.pre self.now.test) (P.post self.now.test) }
+    fn partners_or_nulls(
+        &self,
+        p: &Test,
+        width: usize,
+        left: &[Cell],
+        ys: &[Row],
+        s: &Scopes<'_>,
+    ) -> Result<Bag, OutOfMemory>
+        requires test { nests.Tests self.now.setting.depth (P.pre self.now.test) (P.post self.now.test) }
         ensures { IfOk result (λ made. made ≡ those_there (joins.or_else (joins.partners (test_in (known_in self.now.setting) (scopes s.now) (shown.test p.now)) ys.now left.now) (with_nulls left.now width ∷ []))) }
     {
         let mut partners = self.partners(p, left, ys, s)?;
@@ -83,8 +102,15 @@ impl<
 
     // A left join.
     #[tactic(auto, using(crate::proofs::Each::join_steps))]
-    pub fn left_join(&self, p: &Test, width: usize, xs: &[Row], ys: &[Row], s: &Scopes<'_>) -> Result<Bag, OutOfMemory>
-        requires test { nests.Tests (P.pre self.now.test) (P.post self.now.test) }
+    pub fn left_join(
+        &self,
+        p: &Test,
+        width: usize,
+        xs: &[Row],
+        ys: &[Row],
+        s: &Scopes<'_>,
+    ) -> Result<Bag, OutOfMemory>
+        requires test { nests.Tests self.now.setting.depth (P.pre self.now.test) (P.post self.now.test) }
         ensures { IfOk result (λ made. SameThere made (bind xs.now (λ left. joins.or_else (joins.partners (test_in (known_in self.now.setting) (scopes s.now) (shown.test p.now)) ys.now left) (with_nulls left width ∷ [])))) }
     {
         let mut made = Bag::new(self.setting.alloc);

@@ -70,11 +70,7 @@ fn test_at(
 
 // The rows of a table of a FROM.
 #[cycle(knot)]
-fn from_at(
-    setting: &Setting<'_>,
-    x: &From,
-    s: &Scopes<'_>,
-) -> Result<Bag, OutOfMemory>
+fn from_at(setting: &Setting<'_>, x: &From, s: &Scopes<'_>) -> Result<Bag, OutOfMemory>
     ensures { IfOk result (λ rows. SameThere rows (m.from_rows (known_in setting.now) (shown.from x.now) (scopes s.now))) }
 {
     if setting.depth == 0 {
@@ -98,11 +94,7 @@ fn from_at(
 /// The rows of a query. It fails only for want of memory, which a depth of calls also takes: all
 /// trees that memory holds are less deep than the greatest number of the depth.
 #[cycle(knot)]
-pub(crate) fn rows_at(
-    setting: &Setting<'_>,
-    q: &Query,
-    s: &Scopes<'_>,
-) -> Result<Bag, OutOfMemory>
+pub(crate) fn rows_at(setting: &Setting<'_>, q: &Query, s: &Scopes<'_>) -> Result<Bag, OutOfMemory>
     ensures { IfOk result (λ rows. SameThere rows (m.rows (known_in setting.now) (shown.query q.now) (scopes s.now))) }
 {
     if setting.depth == 0 {

@@ -18,8 +18,6 @@ mod scope;
 mod sets;
 mod source;
 mod subqueries;
-#[cfg(test)]
-mod tests;
 mod tuple;
 mod value;
 mod views;

@@ -24,8 +24,13 @@ impl<
     R: Fn(&Setting<'_>, &Query, &Scopes<'_>) -> Result<Bag, OutOfMemory>,
 > Loops<'_, V, P, F, R> {
     /// The cells that these expressions are.
-    pub fn cells(&self, list: &[Value], s: &Scopes<'_>, g: &Group<'_>) -> Result<Items<Cell>, OutOfMemory>
-        requires value { nests.Values (V.pre self.now.value) (V.post self.now.value) }
+    pub fn cells(
+        &self,
+        list: &[Value],
+        s: &Scopes<'_>,
+        g: &Group<'_>,
+    ) -> Result<Items<Cell>, OutOfMemory>
+        requires value { nests.Values self.now.setting.depth (V.pre self.now.value) (V.post self.now.value) }
         ensures { IfOk result (λ cells. cells ≡ m.cells (known_in self.now.setting) (shown.value_list list.now) (scopes s.now) (group g.now)) }
     {
         let mut cells = Vec::with_capacity(self.setting.alloc, list.len())?;
@@ -37,7 +42,7 @@ impl<
 
     /// How far a row is there where a condition filters it.
     pub fn level(&self, p: &Test, row: &Row, s: &Scopes<'_>) -> Result<Level, OutOfMemory>
-        requires test { nests.Tests (P.pre self.now.test) (P.post self.now.test) }
+        requires test { nests.Tests self.now.setting.depth (P.pre self.now.test) (P.post self.now.test) }
         ensures { IfOk result (λ level. level ≡ least row.now.level ((test_in (known_in self.now.setting) (scopes s.now) (shown.test p.now)) row.now.cells).t) }
     {
         let inside = Scopes::Inside(row.cells.as_slice(), &*s);
@@ -46,8 +51,13 @@ impl<
     }
 
     // The cells of a list in a row.
-    fn cells_of_row(&self, list: &[Value], row: &Row, s: &Scopes<'_>) -> Result<Items<Cell>, OutOfMemory>
-        requires value { nests.Values (V.pre self.now.value) (V.post self.now.value) }
+    fn cells_of_row(
+        &self,
+        list: &[Value],
+        row: &Row,
+        s: &Scopes<'_>,
+    ) -> Result<Items<Cell>, OutOfMemory>
+        requires value { nests.Values self.now.setting.depth (V.pre self.now.value) (V.post self.now.value) }
         ensures { IfOk result (λ cells. cells ≡ (cells_in (known_in self.now.setting) (scopes s.now) (shown.value_list list.now)) row.now.cells) }
     {
         let inside = Scopes::Inside(row.cells.as_slice(), &*s);
@@ -55,9 +65,15 @@ impl<
     }
 
     // What a list gives of a row, where a condition doesn't reject it.
-    fn pick(&self, list: &[Value], p: &Test, row: &Row, s: &Scopes<'_>) -> Result<Option<Row>, OutOfMemory>
-        requires value { nests.Values (V.pre self.now.value) (V.post self.now.value) }
-        requires test { nests.Tests (P.pre self.now.test) (P.post self.now.test) }
+    fn pick(
+        &self,
+        list: &[Value],
+        p: &Test,
+        row: &Row,
+        s: &Scopes<'_>,
+    ) -> Result<Option<Row>, OutOfMemory>
+        requires value { nests.Values self.now.setting.depth (V.pre self.now.value) (V.post self.now.value) }
+        requires test { nests.Tests self.now.setting.depth (P.pre self.now.test) (P.post self.now.test) }
         ensures { IfOk result (λ made. if_some made ≡ those_there (picked (test_in (known_in self.now.setting) (scopes s.now) (shown.test p.now)) (cells_in (known_in self.now.setting) (scopes s.now) (shown.value_list list.now)) row.now ∷ [])) }
     {
         let level = self.level(p, row, s)?;
@@ -70,9 +86,15 @@ impl<
 
     /// What a list gives of the rows that a condition keeps.
     #[tactic(auto, using(crate::proofs::Each::selected_steps))]
-    pub fn selected(&self, list: &[Value], p: &Test, rows: &[Row], s: &Scopes<'_>) -> Result<Bag, OutOfMemory>
-        requires value { nests.Values (V.pre self.now.value) (V.post self.now.value) }
-        requires test { nests.Tests (P.pre self.now.test) (P.post self.now.test) }
+    pub fn selected(
+        &self,
+        list: &[Value],
+        p: &Test,
+        rows: &[Row],
+        s: &Scopes<'_>,
+    ) -> Result<Bag, OutOfMemory>
+        requires value { nests.Values self.now.setting.depth (V.pre self.now.value) (V.post self.now.value) }
+        requires test { nests.Tests self.now.setting.depth (P.pre self.now.test) (P.post self.now.test) }
         ensures { IfOk result (λ made. made ≡ those_there (joins.selected (test_in (known_in self.now.setting) (scopes s.now) (shown.test p.now)) (cells_in (known_in self.now.setting) (scopes s.now) (shown.value_list list.now)) rows.now)) }
     {
         let mut made = Bag::new(self.setting.alloc);

@@ -48,7 +48,7 @@ impl<
 > Loops<'_, V, P, F, R> {
     // The argument of an aggregate in a row.
     fn argument(&self, x: &Value, row: &Row) -> Result<Row<Cell>, OutOfMemory>
-        requires value { nests.Values (V.pre self.now.value) (V.post self.now.value) }
+        requires value { nests.Values self.now.setting.depth (V.pre self.now.value) (V.post self.now.value) }
         ensures { IfOk result (λ r. r ∷ [] ≡ bind (row.now ∷ []) (λ frame. unit (m.value (known_in self.now.setting) (shown.value x.now) (frame ∷ []) groups.no_group))) }
     {
         let outer = Scopes::Outermost;
@@ -61,7 +61,7 @@ impl<
 
     // The argument of an aggregate in each row of a group.
     fn arguments(&self, x: &Value, rows: &[&Row]) -> Result<Vec<Row<Cell>>, OutOfMemory>
-        requires value { nests.Values (V.pre self.now.value) (V.post self.now.value) }
+        requires value { nests.Values self.now.setting.depth (V.pre self.now.value) (V.post self.now.value) }
         ensures { IfOk result (λ made. made.items ≡ bind (map (λ r. r.now) rows.now) (λ frame. unit (m.value (known_in self.now.setting) (shown.value x.now) (frame ∷ []) groups.no_group))) }
     {
         let mut made = Vec::new(self.setting.alloc);
@@ -79,7 +79,7 @@ impl<
         x: &Value,
         g: &Group<'_>,
     ) -> Result<Cell, OutOfMemory>
-        requires value { nests.Values (V.pre self.now.value) (V.post self.now.value) }
+        requires value { nests.Values self.now.setting.depth (V.pre self.now.value) (V.post self.now.value) }
         ensures { IfOk result (λ cell. cell ≡ groups.aggregated f distinct (λ frame. m.value (known_in self.now.setting) (shown.value x.now) (frame ∷ []) groups.no_group) (group g.now)) }
     {
         if let Some(kind) = g.failed {

@@ -31,7 +31,7 @@ impl<
 > Loops<'_, V, P, F, R> {
     /// The cell that an expression is.
     pub fn value(&self, v: &Value, s: &Scopes<'_>, g: &Group<'_>) -> Result<Cell, OutOfMemory>
-        requires { nests.Values (V.pre self.now.value) (V.post self.now.value) }
+        requires { nests.Values self.now.setting.depth (V.pre self.now.value) (V.post self.now.value) }
         ensures { IfOk result (λ cell. cell ≡ m.value (known_in self.now.setting) (shown.value v.now) (scopes s.now) (group g.now)) }
     {
         (self.value)(&self.setting, v, s, g)
@@ -39,7 +39,7 @@ impl<
 
     /// How far a condition is true and false.
     pub fn test(&self, p: &Test, s: &Scopes<'_>, g: &Group<'_>) -> Result<Truth, OutOfMemory>
-        requires { nests.Tests (P.pre self.now.test) (P.post self.now.test) }
+        requires { nests.Tests self.now.setting.depth (P.pre self.now.test) (P.post self.now.test) }
         ensures { IfOk result (λ truth. truth ≡ m.truth (known_in self.now.setting) (shown.test p.now) (scopes s.now) (group g.now)) }
     {
         (self.test)(&self.setting, p, s, g)
@@ -47,7 +47,7 @@ impl<
 
     /// The rows of a table of a FROM.
     pub fn from(&self, x: &From, s: &Scopes<'_>) -> Result<Bag, OutOfMemory>
-        requires { nests.FromRows (F.pre self.now.from) (F.post self.now.from) }
+        requires { nests.FromRows self.now.setting.depth (F.pre self.now.from) (F.post self.now.from) }
         ensures { IfOk result (λ b. SameThere b (m.from_rows (known_in self.now.setting) (shown.from x.now) (scopes s.now))) }
     {
         (self.from)(&self.setting, x, s)
@@ -55,7 +55,7 @@ impl<
 
     /// The rows of a query.
     pub fn rows(&self, q: &Query, s: &Scopes<'_>) -> Result<Bag, OutOfMemory>
-        requires { nests.Rows (R.pre self.now.rows) (R.post self.now.rows) }
+        requires { nests.Rows self.now.setting.depth (R.pre self.now.rows) (R.post self.now.rows) }
         ensures { IfOk result (λ b. SameThere b (m.rows (known_in self.now.setting) (shown.query q.now) (scopes s.now))) }
     {
         (self.rows)(&self.setting, q, s)

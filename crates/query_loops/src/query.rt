@@ -26,10 +26,20 @@ impl<
     R: Fn(&Setting<'_>, &Query, &Scopes<'_>) -> Result<Bag, OutOfMemory>,
 > Loops<'_, V, P, F, R> {
     // A block with groups.
-    fn grouped_block(&self, distinct: bool, list: &[Value], tables: &[From], p: &Test, by: &Option<Items<usize>>, width: usize, having: &Test, s: &Scopes<'_>) -> Result<Bag, OutOfMemory>
-        requires value { nests.Values (V.pre self.now.value) (V.post self.now.value) }
-        requires test { nests.Tests (P.pre self.now.test) (P.post self.now.test) }
-        requires from { nests.FromRows (F.pre self.now.from) (F.post self.now.from) }
+    fn grouped_block(
+        &self,
+        distinct: bool,
+        list: &[Value],
+        tables: &[From],
+        p: &Test,
+        by: &Option<Items<usize>>,
+        width: usize,
+        having: &Test,
+        s: &Scopes<'_>,
+    ) -> Result<Bag, OutOfMemory>
+        requires value { nests.Values self.now.setting.depth (V.pre self.now.value) (V.post self.now.value) }
+        requires test { nests.Tests self.now.setting.depth (P.pre self.now.test) (P.post self.now.test) }
+        requires from { nests.FromRows self.now.setting.depth (F.pre self.now.from) (F.post self.now.from) }
         ensures { IfOk result (λ rows. SameThere rows (joins.distinct_if distinct (joins.selected (test_of (known_in self.now.setting) (scopes s.now) (shown.test having.now)) (cells_of (known_in self.now.setting) (scopes s.now) (shown.value_list list.now)) (m.groups by.now width (joins.kept (test_in (known_in self.now.setting) (scopes s.now) (shown.test p.now)) (m.frames (known_in self.now.setting) (shown.from_list tables.now) (scopes s.now))))))) }
     {
         let frames = self.frame_source(tables, s)?;
@@ -38,8 +48,16 @@ impl<
     }
 
     // UNION or EXCEPT.
-    fn combine(&self, x: &Query, op: SetOperator, all: bool, width: usize, y: &Query, s: &Scopes<'_>) -> Result<Bag, OutOfMemory>
-        requires rows { nests.Rows (R.pre self.now.rows) (R.post self.now.rows) }
+    fn combine(
+        &self,
+        x: &Query,
+        op: SetOperator,
+        all: bool,
+        width: usize,
+        y: &Query,
+        s: &Scopes<'_>,
+    ) -> Result<Bag, OutOfMemory>
+        requires rows { nests.Rows self.now.setting.depth (R.pre self.now.rows) (R.post self.now.rows) }
         ensures { IfOk result (λ rows. SameThere rows (joins.combined op all (m.failed_cells width) (m.rows (known_in self.now.setting) (shown.query x.now) (scopes s.now)) (m.rows (known_in self.now.setting) (shown.query y.now) (scopes s.now)))) }
     {
         let xs = self.rows(x, s)?;
@@ -48,8 +66,15 @@ impl<
     }
 
     // INTERSECT.
-    fn intersect(&self, x: &Query, all: bool, width: usize, y: &Query, s: &Scopes<'_>) -> Result<Bag, OutOfMemory>
-        requires rows { nests.Rows (R.pre self.now.rows) (R.post self.now.rows) }
+    fn intersect(
+        &self,
+        x: &Query,
+        all: bool,
+        width: usize,
+        y: &Query,
+        s: &Scopes<'_>,
+    ) -> Result<Bag, OutOfMemory>
+        requires rows { nests.Rows self.now.setting.depth (R.pre self.now.rows) (R.post self.now.rows) }
         ensures { IfOk result (λ rows. SameThere rows (joins.intersected all (m.failed_cells width) (m.rows (known_in self.now.setting) (shown.query x.now) (scopes s.now)) (m.rows (known_in self.now.setting) (shown.query y.now) (scopes s.now)))) }
     {
         let xs = self.rows(x, s)?;
@@ -60,10 +85,10 @@ impl<
     /// The rows of a query. It fails only for want of memory.
     #[tactic(auto, using(checked_query::specs::Shown::lists))]
     pub fn query_rows(&self, q: &Query, s: &Scopes<'_>) -> Result<Bag, OutOfMemory>
-        requires value { nests.Values (V.pre self.now.value) (V.post self.now.value) }
-        requires test { nests.Tests (P.pre self.now.test) (P.post self.now.test) }
-        requires from { nests.FromRows (F.pre self.now.from) (F.post self.now.from) }
-        requires rows { nests.Rows (R.pre self.now.rows) (R.post self.now.rows) }
+        requires value { nests.Values self.now.setting.depth (V.pre self.now.value) (V.post self.now.value) }
+        requires test { nests.Tests self.now.setting.depth (P.pre self.now.test) (P.post self.now.test) }
+        requires from { nests.FromRows self.now.setting.depth (F.pre self.now.from) (F.post self.now.from) }
+        requires rows { nests.Rows self.now.setting.depth (R.pre self.now.rows) (R.post self.now.rows) }
         ensures { IfOk result (λ rows. SameThere rows (m.rows (known_in self.now.setting) (shown.query q.now) (scopes s.now))) }
     {
         match q {

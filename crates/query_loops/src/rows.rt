@@ -44,7 +44,7 @@ impl<
 > Loops<'_, V, P, F, R> {
     // The rows of a table of a FROM; those of a named table are borrowed.
     fn source<'b>(&'b self, x: &From, s: &Scopes<'_>) -> Result<Source<'b>, OutOfMemory>
-        requires from { nests.FromRows (F.pre self.now.from) (F.post self.now.from) }
+        requires from { nests.FromRows self.now.setting.depth (F.pre self.now.from) (F.post self.now.from) }
         ensures { IfOk result (λ rows. SameThere (held rows) (m.from_rows (known_in self.now.setting) (shown.from x.now) (scopes s.now))) }
     {
         if let From::Named(name) = x {
@@ -55,7 +55,7 @@ impl<
 
     // CROSS JOIN.
     fn crossed(&self, x: &From, y: &From, s: &Scopes<'_>) -> Result<Bag, OutOfMemory>
-        requires from { nests.FromRows (F.pre self.now.from) (F.post self.now.from) }
+        requires from { nests.FromRows self.now.setting.depth (F.pre self.now.from) (F.post self.now.from) }
         ensures { IfOk result (λ rows. SameThere rows (joins.product (m.from_rows (known_in self.now.setting) (shown.from x.now) (scopes s.now)) (m.from_rows (known_in self.now.setting) (shown.from y.now) (scopes s.now)))) }
     {
         let xs = self.source(x, s)?;
@@ -65,8 +65,8 @@ impl<
 
     // JOIN.
     fn joined(&self, x: &From, y: &From, p: &Test, s: &Scopes<'_>) -> Result<Bag, OutOfMemory>
-        requires test { nests.Tests (P.pre self.now.test) (P.post self.now.test) }
-        requires from { nests.FromRows (F.pre self.now.from) (F.post self.now.from) }
+        requires test { nests.Tests self.now.setting.depth (P.pre self.now.test) (P.post self.now.test) }
+        requires from { nests.FromRows self.now.setting.depth (F.pre self.now.from) (F.post self.now.from) }
         ensures { IfOk result (λ rows. SameThere rows (joins.kept (test_in (known_in self.now.setting) (scopes s.now) (shown.test p.now)) (joins.product (m.from_rows (known_in self.now.setting) (shown.from x.now) (scopes s.now)) (m.from_rows (known_in self.now.setting) (shown.from y.now) (scopes s.now))))) }
     {
         let xs = self.source(x, s)?;
@@ -75,9 +75,16 @@ impl<
     }
 
     // LEFT JOIN.
-    fn left_joined(&self, x: &From, y: &From, width: usize, p: &Test, s: &Scopes<'_>) -> Result<Bag, OutOfMemory>
-        requires test { nests.Tests (P.pre self.now.test) (P.post self.now.test) }
-        requires from { nests.FromRows (F.pre self.now.from) (F.post self.now.from) }
+    fn left_joined(
+        &self,
+        x: &From,
+        y: &From,
+        width: usize,
+        p: &Test,
+        s: &Scopes<'_>,
+    ) -> Result<Bag, OutOfMemory>
+        requires test { nests.Tests self.now.setting.depth (P.pre self.now.test) (P.post self.now.test) }
+        requires from { nests.FromRows self.now.setting.depth (F.pre self.now.from) (F.post self.now.from) }
         ensures { IfOk result (λ rows. SameThere rows (joins.left_join (test_in (known_in self.now.setting) (scopes s.now) (shown.test p.now)) (replicate width Null) (m.from_rows (known_in self.now.setting) (shown.from x.now) (scopes s.now)) (m.from_rows (known_in self.now.setting) (shown.from y.now) (scopes s.now)))) }
     {
         let xs = self.source(x, s)?;
@@ -87,9 +94,9 @@ impl<
 
     /// The rows of a table of a FROM. It fails only for want of memory.
     pub fn from_rows(&self, x: &From, s: &Scopes<'_>) -> Result<Bag, OutOfMemory>
-        requires test { nests.Tests (P.pre self.now.test) (P.post self.now.test) }
-        requires from { nests.FromRows (F.pre self.now.from) (F.post self.now.from) }
-        requires rows { nests.Rows (R.pre self.now.rows) (R.post self.now.rows) }
+        requires test { nests.Tests self.now.setting.depth (P.pre self.now.test) (P.post self.now.test) }
+        requires from { nests.FromRows self.now.setting.depth (F.pre self.now.from) (F.post self.now.from) }
+        requires rows { nests.Rows self.now.setting.depth (R.pre self.now.rows) (R.post self.now.rows) }
         ensures { IfOk result (λ rows. SameThere rows (m.from_rows (known_in self.now.setting) (shown.from x.now) (scopes s.now))) }
     {
         match x {
@@ -101,25 +108,36 @@ impl<
         }
     }
 
+    // Each row of a table of a FROM beside each of these.
+    fn before(&self, x: &From, rows: &[Row], s: &Scopes<'_>) -> Result<Bag, OutOfMemory>
+        requires from { nests.FromRows self.now.setting.depth (F.pre self.now.from) (F.post self.now.from) }
+        ensures { IfOk result (λ made. SameThere made (joins.product (m.from_rows (known_in self.now.setting) (shown.from x.now) (scopes s.now)) rows.now)) }
+    {
+        let xs = self.source(x, s)?;
+        product(self.setting.alloc, xs.rows(), rows)
+    }
+
     // The product of the tables of a FROM, put together from the right.
     fn frames(&self, list: &[From], s: &Scopes<'_>) -> Result<Bag, OutOfMemory>
-        requires from { nests.FromRows (F.pre self.now.from) (F.post self.now.from) }
+        requires from { nests.FromRows self.now.setting.depth (F.pre self.now.from) (F.post self.now.from) }
         ensures { IfOk result (λ rows. SameThere rows (m.frames (known_in self.now.setting) (shown.from_list list.now) (scopes s.now))) }
     {
-        let alloc = self.setting.alloc;
-        let mut rows = no_cells(alloc)?;
+        let mut rows = no_cells(self.setting.alloc)?;
         let mut i = list.len();
         while i > 0 {
             i -= 1;
-            let xs = self.source(&list[i], s)?;
-            rows = product(alloc, xs.rows(), rows.rows())?;
+            rows = self.before(&list[i], rows.rows(), s)?;
         }
         Ok(rows)
     }
 
     // The rows of a FROM; those of one named table are borrowed.
-    pub fn frame_source<'b>(&'b self, list: &[From], s: &Scopes<'_>) -> Result<Source<'b>, OutOfMemory>
-        requires from { nests.FromRows (F.pre self.now.from) (F.post self.now.from) }
+    pub fn frame_source<'b>(
+        &'b self,
+        list: &[From],
+        s: &Scopes<'_>,
+    ) -> Result<Source<'b>, OutOfMemory>
+        requires from { nests.FromRows self.now.setting.depth (F.pre self.now.from) (F.post self.now.from) }
         ensures { IfOk result (λ rows. SameThere (held rows) (m.frames (known_in self.now.setting) (shown.from_list list.now) (scopes s.now))) }
     {
         if let [x] = list {
@@ -129,10 +147,17 @@ impl<
     }
 
     // A block without groups.
-    pub fn block(&self, distinct: bool, list: &[Value], tables: &[From], p: &Test, s: &Scopes<'_>) -> Result<Bag, OutOfMemory>
-        requires value { nests.Values (V.pre self.now.value) (V.post self.now.value) }
-        requires test { nests.Tests (P.pre self.now.test) (P.post self.now.test) }
-        requires from { nests.FromRows (F.pre self.now.from) (F.post self.now.from) }
+    pub fn block(
+        &self,
+        distinct: bool,
+        list: &[Value],
+        tables: &[From],
+        p: &Test,
+        s: &Scopes<'_>,
+    ) -> Result<Bag, OutOfMemory>
+        requires value { nests.Values self.now.setting.depth (V.pre self.now.value) (V.post self.now.value) }
+        requires test { nests.Tests self.now.setting.depth (P.pre self.now.test) (P.post self.now.test) }
+        requires from { nests.FromRows self.now.setting.depth (F.pre self.now.from) (F.post self.now.from) }
         ensures { IfOk result (λ rows. SameThere rows (joins.distinct_if distinct (joins.selected (test_in (known_in self.now.setting) (scopes s.now) (shown.test p.now)) (cells_in (known_in self.now.setting) (scopes s.now) (shown.value_list list.now)) (m.frames (known_in self.now.setting) (shown.from_list tables.now) (scopes s.now))))) }
     {
         let frames = self.frame_source(tables, s)?;

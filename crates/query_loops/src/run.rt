@@ -13,15 +13,26 @@ use crate::scope::{Scopes, Setting};
 use crate::views::known_views;
 use checked_query::{Query, View};
 use qgm_base::OutOfMemory;
-use row_bag::{Bag, Tables};
+use row_bag::{Bag, Table, Tables};
 use std::alloc::Global;
 
-// The rows of a query over the rows of views.
-fn rows_over(setting: &Setting<'_>, query: &Query) -> Result<Bag, OutOfMemory>
-    ensures { IfOk result (λ b. SameThere b (m.rows (named setting.now.views.now setting.now.tables.now) (shown.query query.now) [])) }
+// The rows of a query over the rows of views and of tables.
+fn rows_over(
+    alloc: Global,
+    query: &Query,
+    views: &[Table],
+    tables: &[Table],
+) -> Result<Bag, OutOfMemory>
+    ensures { IfOk result (λ b. SameThere b (m.rows (named views.now tables.now) (shown.query query.now) [])) }
 {
+    let setting = Setting {
+        alloc,
+        views,
+        tables,
+        depth: usize::MAX,
+    };
     let outermost = Scopes::Outermost;
-    rows_at(setting, query, &outermost)
+    rows_at(&setting, query, &outermost)
 }
 
 /// The rows of a query over these views and tables, by nested loops in the order of the text: of a
@@ -37,12 +48,7 @@ pub fn rows_of(
     ensures there { IfOk result (λ b. SameThere b (m.rows (known_of (shown.views views.now) tables.now) (shown.query query.now) [])) }
     ensures agree { IfOk result (λ b. Agree same_cells b (m.rows (known_of (shown.views views.now) tables.now) (shown.query query.now) [])) }
 {
-    let known = known_views(alloc, views, tables.as_slice())?;
-    let setting = Setting {
-        alloc,
-        views: &known,
-        tables: tables.as_slice(),
-        depth: usize::MAX,
-    };
-    rows_over(&setting, query)
+    let tables = tables.as_slice();
+    let known = known_views(alloc, views, tables)?;
+    rows_over(alloc, query, &known, tables)
 }

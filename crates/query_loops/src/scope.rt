@@ -66,4 +66,3 @@ pub(crate) fn cell_at(
         }
     }
 }
-

@@ -30,9 +30,28 @@ fn view_tables(setting: &Setting<'_>, views: &[View]) -> Result<Vec<Table>, OutO
 {
     let mut made = Vec::new(setting.alloc);
     for view in views {
-        made.push(view_table(setting, view)?)?;
+        let table = view_table(setting, view)?;
+        made.push(table)?;
     }
     Ok(made)
+}
+
+// The rows of all views' bodies, over these tables and the rows that views had before.
+fn next_views(
+    alloc: Global,
+    before: &[Table],
+    views: &[View],
+    tables: &[Table],
+) -> Result<Vec<Table>, OutOfMemory>
+    ensures { IfOk result (λ made. (name : List ℕ) → SameThere (named made.items tables.now name) (viewed (named before.now tables.now) tables.now name (body_of (shown.views views.now) name))) }
+{
+    let setting = Setting {
+        alloc,
+        views: before,
+        tables,
+        depth: usize::MAX,
+    };
+    view_tables(&setting, views)
 }
 
 /// The rows of all views over these tables, where views nest at most 16 deep.
@@ -44,14 +63,8 @@ pub(crate) fn known_views(
     ensures { IfOk result (λ made. (name : List ℕ) → SameThere (named made.items tables.now name) (known_of (shown.views views.now) tables.now name)) }
 {
     let mut made = Vec::new(alloc);
-    for _level in 0..16 {
-        let setting = Setting {
-            alloc,
-            views: &made,
-            tables,
-            depth: usize::MAX,
-        };
-        made = view_tables(&setting, views)?;
+    for _level in 0..16usize {
+        made = next_views(alloc, &made, views, tables)?;
     }
     Ok(made)
 }

@@ -1,8 +1,8 @@
 // Queries over small tables, with answers worked out by hand.
-use crate::rows_of;
 use Sample::{I, N};
 use checked_query::{Addend, From, Multiplier, Query, Test, Value};
 use qgm_base::{CmpOp, OutOfMemory, Text};
+use query_loops::rows_of;
 use row_bag::{Bag, Row, Table, Tables, Verdict, row_order, sorted, verdict};
 use sql_ast::{AdditiveOp, MultiplicativeOp, SetFunction, SetOperator};
 use sql_value::{Cell, Kind, Level, OrderKeys};
@@ -249,6 +249,56 @@ fn distinct_keeps_the_greatest_level(rt: HostRuntime) -> Result<(), Fail> {
     let list = items(alloc, Value::Number(1))?;
     let from = items(alloc, named(alloc, "D")?)?;
     let query = Query::Block(true, list, from, p);
+    assert_eq!(rt; answers(alloc, &query, &[&[I(1)]])?, Ok(true));
+    Ok(())
+}
+
+// SELECT x, with no FROM: of one row.
+fn of_one_row(alloc: Global, x: Value) -> Result<Query, OutOfMemory> {
+    let list = items(alloc, x)?;
+    Ok(Query::Block(false, list, Items::new(alloc), always(alloc)?))
+}
+
+#[test]
+fn chains_of_2048_operators(rt: HostRuntime) -> Result<(), Fail> {
+    let alloc = rt.alloc();
+    let mut addends = Items::new(alloc);
+    let mut tests = Items::new(alloc);
+    for _ in 0..2048 {
+        addends.push(Addend {
+            op: AdditiveOp::Plus,
+            value: Value::Number(1),
+        })?;
+        tests.push(Test::IsNull(Box::new(alloc, Value::Null(None))?))?;
+    }
+    let list = items(alloc, Value::Sum(number(alloc, 1)?, addends))?;
+    let all = Box::new(alloc, Test::All(tests))?;
+    let query = Query::Block(false, list, Items::new(alloc), all);
+    assert_eq!(rt; answers(alloc, &query, &[&[I(2049)]])?, Ok(true));
+    Ok(())
+}
+
+#[test]
+fn subqueries_64_deep(rt: HostRuntime) -> Result<(), Fail> {
+    let alloc = rt.alloc();
+    let mut query = of_one_row(alloc, Value::Number(1))?;
+    for _ in 0..64 {
+        let inner = Box::new(alloc, query)?;
+        query = of_one_row(alloc, Value::Scalar(inner))?;
+    }
+    assert_eq!(rt; answers(alloc, &query, &[&[I(1)]])?, Ok(true));
+    Ok(())
+}
+
+#[test]
+fn unions_64_deep(rt: HostRuntime) -> Result<(), Fail> {
+    let alloc = rt.alloc();
+    let mut query = of_one_row(alloc, Value::Number(1))?;
+    for _ in 0..64 {
+        let left = Box::new(alloc, query)?;
+        let right = Box::new(alloc, of_one_row(alloc, Value::Number(1))?)?;
+        query = Query::Combine(left, SetOperator::Union, false, 1, right);
+    }
     assert_eq!(rt; answers(alloc, &query, &[&[I(1)]])?, Ok(true));
     Ok(())
 }
