@@ -1,5 +1,6 @@
 -- Loops over rows, as what they make of each row.
-use Rattle.std.proofs.Common.{◌≡◌, ℕ, ◌+◌, nat_eq, length, Bool, true, false, cond, List, [], ◌∷◌, ◌++◌, map, refl, ap, ap₂, sym, ◌∙◌, append_assoc, append-nil}
+use Rattle.std.proofs.Common.{◌≡◌, ◌≤◌, ◌<◌, ℕ, ◌+◌, arith, suc, nat_eq, length, get_or, Bool, true, false, cond, List, [], ◌∷◌, ◌++◌, map, refl, ap, ap₂, sym, ◌∙◌, append_assoc, append-nil}
+use Rattle.std.proofs.Math.Numerals.{one-add}
 use Rattle.std.proofs.lemmas.Grind.{common_steps}
 use Rattle.std.proofs.lemmas.List.Elements.{filter-append}
 use Rattle.row_bag.specs.Bags.{bind, keep, row, unit}
@@ -82,12 +83,18 @@ kept_those made l rows =
 pub bound_first : {A B : Type 0} (x : Row A) (xs : List (Row A)) (f : A → List (Row B)) → those_there (bind (x ∷ xs) f) ≡ those_there (keep x.level (f x.cells)) ++ those_there (bind xs f)
 bound_first x xs f = filter-append is_there (keep x.level (f x.cells)) (bind xs f)
 
+zero_plus : (n : ℕ) → 0 + n ≡ n
+zero_plus n = omega arith
+
+one_more : (a b : ℕ) → a ≡ b → 1 + a ≡ suc b
+one_more a b h = ap (λ n. 1 + n) h ∙ one-add b
+
 length_one : {T : Type 0} (c : T) (l : Level) (rows : List (Row T)) → how_many rows ≡ length (those_there rows) → how_many (row c l ∷ rows) ≡ length (those_there (row c l ∷ rows))
-length_one c No rows h = h
-length_one c Cardinality rows h = ap (λ n. 1 + n) h
-length_one c Division rows h = ap (λ n. 1 + n) h
-length_one c Overflow rows h = ap (λ n. 1 + n) h
-length_one c Yes rows h = ap (λ n. 1 + n) h
+length_one c No rows h = zero_plus (how_many rows) ∙ h
+length_one c Cardinality rows h = one_more (how_many rows) (length (those_there rows)) h
+length_one c Division rows h = one_more (how_many rows) (length (those_there rows)) h
+length_one c Overflow rows h = one_more (how_many rows) (length (those_there rows)) h
+length_one c Yes rows h = one_more (how_many rows) (length (those_there rows)) h
 
 many_length : {T : Type 0} (rows : List (Row T)) → how_many rows ≡ length (those_there rows)
 many_length [] = refl
@@ -106,6 +113,12 @@ keep_append l xs ys = keep-append l xs ys
 
 pub ruleset keep_steps = (common_steps, keep_append)
 
+-- a list of one element
+pub only_one : {T : Type 0} (xs : List T) (x : T) → x ≡ get_or xs 0 x → 1 ≤ length xs → length xs < 2 → xs ≡ x ∷ []
+only_one [] x h low high = absurd (omega (arith, low))
+only_one (y ∷ []) x h low high = ap (λ z. z ∷ []) (sym h)
+only_one (y ∷ z ∷ xs) x h low high = absurd (omega (arith, high))
+
 -- a join by one more row
 pub join_step : (f : List Cell → List (Row (List Cell))) (made new partners : List (Row (List Cell))) (x : Row (List Cell)) (rest : List (Row (List Cell))) → partners ≡ those_there (f x.cells) → new ≡ made ++ keep x.level partners
     → those_there new ++ those_there (bind rest f) ≡ those_there made ++ those_there (bind (x ∷ rest) f)
@@ -114,6 +127,8 @@ join_step f made new partners x rest h k =
     ∙ ap (λ (rows : List (Row (List Cell))). rows ++ those_there (bind rest f)) (kept_those made x.level (f x.cells))
     ∙ append_assoc (those_there made) (those_there (keep x.level (f x.cells))) (those_there (bind rest f))
     ∙ ap (λ (rows : List (Row (List Cell))). those_there made ++ rows) (sym (bound_first x rest f))
+
+pub ruleset join_steps = (common_steps, kept_those, bound_first)
 
 pub ruleset or_else_steps = (common_steps, or_else_there)
 

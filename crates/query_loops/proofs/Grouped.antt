@@ -1,5 +1,5 @@
 -- Groups of rows, row by row.
-use Rattle.std.proofs.Common.{◌≡◌, ℕ, Bool, true, false, cond, nat_eq, not, List, [], ◌∷◌, ◌++◌, Some, None, Option, refl, ap, ap₂, sym, ◌∙◌}
+use Rattle.std.proofs.Common.{◌≡◌, ℕ, Bool, true, false, cond, nat_eq, List, [], ◌∷◌, ◌++◌, Some, None, Option, refl, ap, ap₂, sym, ◌∙◌}
 use Rattle.std.proofs.lemmas.Grind.{common_steps}
 use Rattle.std.proofs.lemmas.List.Elements.{filter-append}
 use Rattle.checked_query.specs.Meaning as m
@@ -47,10 +47,10 @@ groups_there test list places rows r rs =
 
 -- what a condition and a list make of the group of a key that doesn't occur again
 pub last_there : (test : g.Grouped (List Cell) → Truth) (list : g.Grouped (List Cell) → List Cell) (places : List ℕ) (rows : List (Row (List Cell))) (r : Row (List Cell)) (after : List (Row (List Cell))) (key : List Cell) (last : Bool)
-    → key ≡ m.key (Some places) r.cells → not last ≡ false → cond last (unit key) [] ≡ last_key places key r.level after
+    → key ≡ m.key (Some places) r.cells → last ≡ true → cond last (unit key) [] ≡ last_key places key r.level after
     → those_there (picked test list (row (group_of places rows key) Yes) ∷ []) ≡ those_there (selected test list (last_group places rows r after))
-last_there test list places rows r after key false same yes h = absurd (cc)
-last_there test list places rows r after key true same yes h =
+last_there test list places rows r after key false same found h = absurd (cc)
+last_there test list places rows r after key true same found h =
     sym (ap (λ (k : List Cell). those_there (selected test list (bind (last_key places k r.level after) (λ k. unit (group_of places rows k))))) (sym same)
     ∙ ap (λ (ks : List (Row (List Cell))). those_there (selected test list (bind ks (λ k. unit (group_of places rows k))))) (sym h)
     ∙ ap (λ (gs : List (Row (g.Grouped (List Cell)))). those_there (selected test list gs)) (unit-bind key (λ k. unit (group_of places rows k)))

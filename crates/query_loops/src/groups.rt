@@ -457,7 +457,7 @@ impl<
         requires test { nests.Tests self.now.setting.depth (P.pre self.now.test) (P.post self.now.test) }
         ensures { IfOk result (λ made. made ≡ those_there (joins.selected (spec.test_of (known_in self.now.setting) (scopes s.now) (shown.test having.now)) (spec.cells_of (known_in self.now.setting) (scopes s.now) (shown.value_list list.now)) (m.groups by.now width (joins.kept (test_in (known_in self.now.setting) (scopes s.now) (shown.test p.now)) frames.now)))) }
     {
-        let rows = self.kept(p, frames, s)?;
-        self.grouped_rows(list, having, by, width, rows.rows(), s)
+        let kept = self.kept(p, frames, s)?;
+        self.grouped_rows(list, having, by, width, kept.rows(), s)
     }
 }

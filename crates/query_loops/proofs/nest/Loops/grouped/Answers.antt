@@ -14,5 +14,5 @@ returns g c =
     IfOk-weaker c.grouped_rows.result _ _ (λ made h.
     h
     ∙ groups_same (known_in c.args.self.now.setting) (scopes c.args.s.now) (shown.test c.args.having.now) (shown.value_list c.args.list.now) c.args.by.now c.args.width c.rows.result.now (joins.kept (test_in (known_in c.args.self.now.setting) (scopes c.args.s.now) (shown.test c.args.p.now)) c.args.frames.now)
-    (ap those_there (c.rows.ensures ∙ c.in_ok-rows.ensures) ∙ those_twice (joins.kept (test_in (known_in c.args.self.now.setting) (scopes c.args.s.now) (shown.test c.args.p.now)) c.args.frames.now)))
+    (ap those_there (c.rows.ensures ∙ c.in_ok-kept.ensures) ∙ those_twice (joins.kept (test_in (known_in c.args.self.now.setting) (scopes c.args.s.now) (shown.test c.args.p.now)) c.args.frames.now)))
     c.grouped_rows.ensures

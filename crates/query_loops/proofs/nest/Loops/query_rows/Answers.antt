@@ -8,7 +8,7 @@ returns-in-Block g c =
       shown.values_hidden c.in-Block.list,
       shown.froms_hidden c.in-Block.tables,
       ← c.as_slice.ensures,
-      ← c.as_slice-2.ensures,
+      ← c.as_slice-in-Block.ensures,
       ← c.deref.ensures,
     ) c.block.ensures
 
