@@ -122,15 +122,7 @@ pub enum Query {
     /// where GROUP BY is written, the number of columns of the FROM, and HAVING. The output columns
     /// and HAVING are read in a scope with the grouping cells at their places and null at all
     /// others.
-    Grouped(
-        bool,
-        Items<Value>,
-        Items<From>,
-        Box<Test>,
-        Option<Items<usize>>,
-        usize,
-        Box<Test>,
-    ),
+    Grouped(bool, Items<Value>, Items<From>, Box<Test>, Option<Items<usize>>, usize, Box<Test>),
     /// UNION or EXCEPT, and the number of columns.
     Combine(Box<Query>, SetOperator, bool, usize, Box<Query>),
     /// INTERSECT, and the number of columns.
