@@ -25,7 +25,7 @@ ghost use Rattle.query_places.specs.Schema.{Sound, answer, columns_at, schema_co
 /// the operands of its set operations have the same number of columns; and its rows are as wide as
 /// its columns. The same over a schema and its views, where the schema isn't refused, its tables fit
 /// it, and the set operations in its views are even. It does nothing.
-#[tactic(auto, using(crate::proofs::Columns::column_found, crate::proofs::ByPlaces::same_meaning, crate::proofs::ByPlaces::same_width, crate::proofs::Depths::columns_known, crate::proofs::Valid::shallow, crate::proofs::Valid::is_sound))]
+#[tactic(auto, using(crate::proofs::Columns::column_found, crate::proofs::ByPlaces::same_meaning, crate::proofs::ByPlaces::same_width, crate::proofs::Depths::columns_known, crate::proofs::Valid::shallow))]
 pub fn place_laws()
     ensures column { (c : Column) → (scopes : Scopes) → AreWideFrames scopes → column_value c scopes ≡ places.value (λ name. []) (column_at (place_of c.range c.name (shapes_of scopes))) (flat scopes) no_group }
     ensures meaning { (known : Known) → AllWide known → (q : syntax.Query) → (scopes : Scopes) → AreWideFrames scopes → EvenQuery (columns_of known) (shapes_of scopes) q → named.rows known q scopes ≡ places.rows (bags_of known) (query (columns_of known) (shapes_of scopes) q) (flat scopes) }

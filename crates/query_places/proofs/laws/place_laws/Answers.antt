@@ -1,3 +1,4 @@
+use Rattle.query_places.proofs.Valid.{is_sound}
 use Rattle.query_places.proofs.Whole.{whole_answer, whole_rows}
 use Rattle.query_places.proofs.laws.place_laws.Goals as goal
 
@@ -6,3 +7,6 @@ returns-clause-schema c = λ catalog tables sound q even. whole_rows catalog tab
 
 pub returns-clause-answers : goal.returns-clause-answers
 returns-clause-answers c = λ catalog tables sound text even. whole_answer catalog tables sound text even
+
+pub returns-clause-sound : goal.returns-clause-sound
+returns-clause-sound c = λ catalog valid tables loaded wide even. is_sound catalog valid tables loaded wide even
