@@ -101,9 +101,9 @@ fn many_names_of_an_outer_scope(rt: HostRuntime) -> Result<(), Fail> {
     let alloc = rt.alloc();
     let wide = listed(alloc, "T.*", ", ", 16)?;
     let level = format!(in alloc; "EXISTS (SELECT 1 FROM (SELECT {wide} FROM T) X WHERE ")?;
-    let opened = listed(alloc, level.as_str(), "", 8)?;
+    let opened = listed(alloc, level.as_str(), "", 2)?;
     let tests = listed(alloc, "A = A", " AND ", 1000)?;
-    let closed = listed(alloc, ")", "", 8)?;
+    let closed = listed(alloc, ")", "", 2)?;
     let query = format!(in alloc;
         "SELECT 1 FROM (SELECT C0 FROM T) Y (A) WHERE {opened}{tests}{closed}"
     )?;

@@ -6,18 +6,26 @@ use sql_text::lex;
 use std::alloc::Global;
 use std::test::Fail;
 
-// Whether this view is the one that is refused, by this number.
+// Whether it is this view that is refused, by this number.
+fn is_of(alloc: Global, refusal: ViewRefusal, name: &str, refused: u8) -> Result<bool, Fail> {
+    match refusal {
+        ViewRefusal::Refused { view, number } => {
+            let text = view.to_utf8(alloc)?;
+            Ok(number == refused && text.as_str() == name)
+        }
+        ViewRefusal::Memory => Ok(false),
+    }
+}
+
+// Whether this view of a schema is the one that is refused, by this number; by 0 none is.
 fn refuses(alloc: Global, text: &str, name: &str, refused: u8) -> Result<bool, Fail> {
     let tokens = lex(alloc, text.as_bytes())?;
     let schema = parse_schema(alloc, tokens.as_slice())?;
     let catalog = build(alloc, schema)?;
-    Ok(match check_views(alloc, &catalog) {
-        Ok(_) => refused == 0,
-        Err(ViewRefusal::Refused { view, number }) => {
-            number == refused && view.to_utf8(alloc)?.as_str() == name
-        }
-        Err(ViewRefusal::Memory) => false,
-    })
+    match check_views(alloc, &catalog) {
+        Ok(_views) => Ok(refused == 0),
+        Err(refusal) => is_of(alloc, refusal, name, refused),
+    }
 }
 
 #[test]
