@@ -83,12 +83,7 @@ fn fault(alloc: Global, n: i64) -> Result<Value, OutOfMemory> {
     Ok(Value::Product(number(alloc, 1)?, items(alloc, divisor)?))
 }
 
-fn compare(
-    alloc: Global,
-    x: Value,
-    op: CmpOp,
-    y: Value,
-) -> Result<Box<Test>, OutOfMemory> {
+fn compare(alloc: Global, x: Value, op: CmpOp, y: Value) -> Result<Box<Test>, OutOfMemory> {
     let x = Box::new(alloc, x)?;
     let y = Box::new(alloc, y)?;
     Ok(Box::new(alloc, Test::Compare(x, op, y))?)
@@ -104,19 +99,9 @@ fn named(alloc: Global, name: &str) -> Result<From, OutOfMemory> {
 }
 
 // SELECT x FROM name WHERE p
-fn select(
-    alloc: Global,
-    x: Value,
-    name: &str,
-    p: Box<Test>,
-) -> Result<Query, OutOfMemory> {
+fn select(alloc: Global, x: Value, name: &str, p: Box<Test>) -> Result<Query, OutOfMemory> {
     let list = items(alloc, x)?;
-    Ok(Query::Block(
-        false,
-        list,
-        items(alloc, named(alloc, name)?)?,
-        p,
-    ))
+    Ok(Query::Block(false, list, items(alloc, named(alloc, name)?)?, p))
 }
 
 // The kind of the answer's error, or whether these are its rows.
