@@ -8,7 +8,7 @@ use Rattle.row_bag.specs.Tables.{bag_named}
 use Rattle.row_bag.specs.declared.tables.Table.{Table}
 use Rattle.sql_ast.specs.declared.schema.TableDecl.{TableDecl}
 use Rattle.sql_ast.specs.Syntax as s
-use Rattle.sql_catalog.specs.Catalog.{Declared, declared, fault, table_named, unless}
+use Rattle.sql_catalog.specs.Catalog.{Declared, all_of, declared, fault, table_named, unless}
 use Rattle.sql_catalog.specs.Names.{same_name}
 use Rattle.sql_meaning.specs.Meaning.{known_at, known_of, relation_of}
 use Rattle.sql_meaning.specs.Names.{Known, Relation, columns_of}
@@ -86,7 +86,7 @@ valid-unless catalog None is = is
 valid-unless catalog (Some number) is = tt
 
 valid-schema : (schema : Result s.Schema ℕ) → IsValid (schema >>= declared)
-valid-schema (Ok tree) = valid-unless _ _ refl
+valid-schema (Ok tree) = valid-unless (all_of tree) (fault (all_of tree)) refl
 valid-schema (Err number) = tt
 
 pub valid-catalog : (text : Option (List ℕ)) (catalog : Declared) → catalog_of text ≡ Ok catalog → fault catalog ≡ None
