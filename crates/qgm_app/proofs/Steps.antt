@@ -1,6 +1,5 @@
 -- How the stages of a run fit together.
-use Rattle.std.proofs.Common.{ℕ, ◌≡◌, ◌∙◌, List, [], Option, Some, None, Result, Ok, Err, map, sym, ap, ap₂, subst}
-use Rattle.csv_tables.specs.Fits.{FitsSchema}
+use Rattle.std.proofs.Common.{ℕ, ◌≡◌, List, Option, Some, None, Result, Ok, Err, sym, subst}
 use Rattle.csv_tables.specs.Load.{tables_of}
 use Rattle.csv_tables.specs.TableFile.{Refusal}
 use Rattle.io_edge.specs.Outcome.{Comes, Ended, Outcome, answered, ended, read, ◌>>=◌}
@@ -8,25 +7,19 @@ use Rattle.io_edge.specs.Outside.{File, Told}
 use Rattle.io_edge.specs.declared.fetch.Interruption.{Interruption}
 use Rattle.io_edge.specs.declared.fetch.Interruption.TheVariants.{ReadFault, Memory}
 use Rattle.io_edge.proofs.Order.{comes-bind, comes-bind-faulted, comes-bind-starved, comes-done, comes-mapped}
-use Rattle.row_bag.specs.Verdict.{verdict}
-use Rattle.row_bag.specs.declared.row.Row.{Row}
 use Rattle.row_bag.specs.declared.tables.Table.{Table}
 use Rattle.sql_ast.specs.Syntax as s
 use Rattle.sql_catalog.specs.Catalog.{Declared}
-use Rattle.sql_check.specs.declared.checked.Checked.{Checked}
-use Rattle.sql_check.specs.Resolved.{rows_at}
-use Rattle.sql_meaning.specs.Meaning.{answer_of, order_key}
-use Rattle.sql_value.specs.declared.cell.Cell.{Cell}
-use Rattle.sql_value.specs.declared.order_key.OrderKey.{OrderKey}
-use Rattle.qgm_app.specs.Outcome.{from_tables, outcome, report_of, reported, with_catalog, with_line, with_query, with_task, with_views}
-use Rattle.qgm_app.specs.Texts.{GivesChecked, IsChecked, catalog_of, valid_query}
+use Rattle.qgm_app.specs.Outcome.{from_tables, outcome, reported, with_catalog, with_line, with_query, with_task, with_views}
+use Rattle.qgm_app.specs.Plans.{IsPlan}
+use Rattle.qgm_app.specs.Texts.{GivesPlan, catalog_of, valid_query}
+use Rattle.qgm_app.specs.declared.plan.Plan.{Plan}
 use Rattle.query_faults.specs.Views.{view_refusal}
 use Rattle.qgm_words.specs.Line.{LineText}
 use Rattle.qgm_words.specs.Reading.{line}
 use Rattle.qgm_app.specs.declared.report.Report.{Report}
 use Rattle.qgm_app.specs.declared.report.Report.TheVariants.{Usage, SchemaRefused, ViewRefused, DataRefused, QueryRefused}
 use Rattle.qgm_app.specs.declared.texts.TextRefusal.TheVariants.{Number}
-use Rattle.qgm_app.proofs.Wide.{wide-tables}
 
 -- a call that was interrupted interrupts what follows
 pub comes-interrupted : {X Y : Type 0} (t u : Option Told) (o : List File → Outcome X) (f : X → List File → Outcome Y) (e : Interruption)
@@ -34,21 +27,12 @@ pub comes-interrupted : {X Y : Type 0} (t u : Option Told) (o : List File → Ou
 comes-interrupted t u o f (ReadFault name) h = comes-bind-faulted t u o f _ h
 comes-interrupted t u o f Memory h = comes-bind-starved t u o f h
 
--- the report of a checked query over tables of its catalog is that of the query
-answered-same : (query : s.QueryText) (catalog : Declared) (checked : Checked) (tables : List Table) → IsChecked catalog checked query → FitsSchema catalog.tables tables
-    → reported query catalog (Ok tables) ≡ report_of (answer_of checked.names checked.order (verdict (rows_at checked tables)))
-answered-same query catalog checked tables is fits =
-    ap₂ (λ (w : List (Option (List ℕ)) × List OrderKey) (rows : List (Row (List Cell))). report_of (answer_of w.0 w.1 (verdict rows)))
-    (sym (ap₂ (λ (names : List (Option (List ℕ))) (keys : List OrderKey). (names, keys)) (is.names_are tables)
-    (is.order_is ∙ ap (λ (names : List (Option (List ℕ))). map (order_key names) query.order) (is.names_are tables))))
-    (sym (is.rows_are tables (wide-tables catalog.tables tables checked.table fits)))
-
--- the tables were read, and the query that was checked is answered
-pub tables-read : (t u : Option Told) (dir : List ℕ) (catalog : Declared) (checked : Checked) (query : s.QueryText) (tables : List Table) → IsChecked catalog checked query → FitsSchema catalog.tables tables
+-- the tables were read, and the query is answered
+pub tables-read : (t u : Option Told) (dir : List ℕ) (catalog : Declared) (query : s.QueryText) (tables : List Table) (report : Report) → report ≡ reported query catalog (Ok tables)
     → Comes t u (λ fs. tables_of catalog.tables dir fs) (answered (Ok tables))
-    → Comes t u (λ fs. from_tables dir catalog query fs) (answered (report_of (answer_of checked.names checked.order (verdict (rows_at checked tables)))))
-tables-read t u dir catalog checked query tables is fits h =
-    subst (λ (report : Report). Comes t u (λ fs. from_tables dir catalog query fs) (answered report)) (answered-same query catalog checked tables is fits)
+    → Comes t u (λ fs. from_tables dir catalog query fs) (answered report)
+tables-read t u dir catalog query tables report is h =
+    subst (λ (report : Report). Comes t u (λ fs. from_tables dir catalog query fs) (answered report)) (sym is)
     (comes-mapped t u (λ fs. tables_of catalog.tables dir fs) (reported query catalog) (Ok tables) h)
 
 -- a table is refused
@@ -64,12 +48,12 @@ unfolding with_query
 query-refused-by t dir catalog query number is =
     subst (λ (q : Result s.QueryText ℕ). Comes t t (λ fs. with_query dir catalog fs q) (answered (QueryRefused number))) (sym is) (comes-done t (QueryRefused number))
 
--- the query is checked, and the tables are next
-query-taken-by : (t u : Option Told) (dir : List ℕ) (catalog : Declared) (checked : Checked) (query : Result s.QueryText ℕ) (end : Ended Report) → GivesChecked catalog (Ok checked) query
-    → ((q : s.QueryText) → IsChecked catalog checked q → Comes t u (λ fs. from_tables dir catalog q fs) end) → Comes t u (λ fs. with_query dir catalog fs query) end
+-- the query has a plan, and the tables are next
+query-taken-by : (t u : Option Told) (dir : List ℕ) (catalog : Declared) (plan : Plan) (query : Result s.QueryText ℕ) (end : Ended Report) → GivesPlan catalog (Ok plan) query
+    → ((q : s.QueryText) → IsPlan catalog plan q → Comes t u (λ fs. from_tables dir catalog q fs) end) → Comes t u (λ fs. with_query dir catalog fs query) end
 unfolding with_query
-query-taken-by t u dir catalog checked (Err number) end is h = absurd is
-query-taken-by t u dir catalog checked (Ok query) end is h = h query is
+query-taken-by t u dir catalog plan (Err number) end is h = absurd is
+query-taken-by t u dir catalog plan (Ok query) end is h = h query is
 
 -- the query's text was read, and then this was done with it
 pub text-of-query : (t u v : Option Told) (name dir : List ℕ) (catalog : Declared) (text : Option (List ℕ)) (end : Ended Report)
@@ -77,13 +61,13 @@ pub text-of-query : (t u v : Option Told) (name dir : List ℕ) (catalog : Decla
     → Comes t v (λ fs. read fs name 65536 >>= (λ x. with_query dir catalog fs (valid_query catalog x))) end
 text-of-query t u v name dir catalog text end h k = comes-bind t u v (λ fs. read fs name 65536) (λ x fs. with_query dir catalog fs (valid_query catalog x)) text end h k
 
-pub query-refused : (t : Option Told) (dir : List ℕ) (catalog : Declared) (text : Option (List ℕ)) (number : ℕ) → GivesChecked catalog (Err (Number number)) (valid_query catalog text)
+pub query-refused : (t : Option Told) (dir : List ℕ) (catalog : Declared) (text : Option (List ℕ)) (number : ℕ) → GivesPlan catalog (Err (Number number)) (valid_query catalog text)
     → Comes t t (λ fs. with_query dir catalog fs (valid_query catalog text)) (answered (QueryRefused number))
 query-refused t dir catalog text number is = query-refused-by t dir catalog (valid_query catalog text) number is
 
-pub query-taken : (t u : Option Told) (dir : List ℕ) (catalog : Declared) (checked : Checked) (text : Option (List ℕ)) (end : Ended Report) → GivesChecked catalog (Ok checked) (valid_query catalog text)
-    → ((q : s.QueryText) → IsChecked catalog checked q → Comes t u (λ fs. from_tables dir catalog q fs) end) → Comes t u (λ fs. with_query dir catalog fs (valid_query catalog text)) end
-query-taken t u dir catalog checked text end is h = query-taken-by t u dir catalog checked (valid_query catalog text) end is h
+pub query-taken : (t u : Option Told) (dir : List ℕ) (catalog : Declared) (plan : Plan) (text : Option (List ℕ)) (end : Ended Report) → GivesPlan catalog (Ok plan) (valid_query catalog text)
+    → ((q : s.QueryText) → IsPlan catalog plan q → Comes t u (λ fs. from_tables dir catalog q fs) end) → Comes t u (λ fs. with_query dir catalog fs (valid_query catalog text)) end
+query-taken t u dir catalog plan text end is h = query-taken-by t u dir catalog plan (valid_query catalog text) end is h
 
 -- the schema's text was read, and then this was done with it
 pub text-of-schema : (t u v : Option Told) (name query dir : List ℕ) (text : Option (List ℕ)) (end : Ended Report)

@@ -1,19 +1,16 @@
 -- What the two texts declare and ask, or the number that refuses them. Of several causes the first in the order of these words counts.
 use Rattle.std.specs.Prelude.{ℕ, zero, suc, ◌≡◌, ⊤, Bool, true, false, not, List, [], map, Option, Some, None, Result, Ok, Err}
-use Rattle.row_bag.specs.declared.tables.Table.{Table}
 use Rattle.sql_ast.specs.Syntax as s
 use Rattle.sql_catalog.specs.Catalog.{Declared, declared}
-use Rattle.sql_check.specs.Resolved.{IsWide, rows_at}
-use Rattle.sql_check.specs.Taken.{is_answered}
-use Rattle.sql_check.specs.declared.checked.Checked.{Checked}
 use Rattle.query_faults.specs.Views.{fault}
-use Rattle.sql_meaning.specs.Meaning.{known_of, names, order_key, relation_of, rows}
 use Rattle.sql_parser.specs.ReadSchema.{schema_tree}
 use Rattle.sql_parser.specs.ReadText.{query_tree}
 use Rattle.sql_text.specs.Depth.{too_deep}
 use Rattle.sql_text.specs.Tokens.{token_list, tokens}
 use Rattle.sql_text.specs.declared.token.Spanned.{Spanned}
 use Rattle.sql_text.specs.declared.token.Token.{Token}
+use Rattle.qgm_app.specs.Plans.{IsPlan}
+use Rattle.qgm_app.specs.declared.plan.Plan.{Plan}
 use Rattle.qgm_app.specs.declared.texts.TextRefusal.{TextRefusal}
 use Rattle.qgm_app.specs.declared.texts.TextRefusal.TheVariants.{Number, Memory}
 
@@ -58,13 +55,9 @@ catalog_of text = schema_of text >>= declared
 unfoldable pub query_of : Option (List ℕ) → Result s.QueryText ℕ
 query_of text = spans_of text >>= tree_of query_tree
 
--- the query, or the number of its fault; 4 where it isn't answered as yet
-abbrev pub checked_query : Declared → s.QueryText → Result s.QueryText ℕ
-checked_query catalog query = refused_by (fault catalog query) query >>= (λ valid. refused_if (not (is_answered catalog valid)) 4 valid)
-
 -- the query of a query's text, or the number that refuses it
 unfoldable pub valid_query : Declared → Option (List ℕ) → Result s.QueryText ℕ
-valid_query catalog text = query_of text >>= checked_query catalog
+valid_query catalog text = query_of text >>= (λ query. refused_by (fault catalog query) query)
 
 -- a call's answer is this, seen so, but where memory ran out
 abbrev pub Gives : {X Y : Type 0} → (X → Y) → Result X TextRefusal → Result Y ℕ → Type 0
@@ -72,15 +65,9 @@ Gives seen (Ok x) what = what ≡ Ok (seen x)
 Gives seen (Err (Number number)) what = what ≡ Err number
 Gives seen (Err Memory) what = ⊤
 
--- a query with its names resolved has the query's names and order, and, over tables whose rows have a cell for each column, its rows
-pub record IsChecked (catalog : Declared) (checked : Checked) (query : s.QueryText) : Type 0 where
-  pub names_are : (tables : List Table) → checked.names ≡ names (known_of catalog tables) query.query []
-  pub order_is : checked.order ≡ map (order_key checked.names) query.order
-  pub rows_are : (tables : List Table) → IsWide (relation_of catalog tables checked.table) → rows_at checked tables ≡ rows (known_of catalog tables) query.query []
-
--- a call's answer is the query, with its names resolved, but where memory ran out
-abbrev pub GivesChecked : Declared → Result Checked TextRefusal → Result s.QueryText ℕ → Type 0
-GivesChecked catalog (Ok checked) (Ok query) = IsChecked catalog checked query
-GivesChecked catalog (Ok checked) (Err number) = ⊥
-GivesChecked catalog (Err (Number number)) what = what ≡ Err number
-GivesChecked catalog (Err Memory) what = ⊤
+-- a call's answer is a plan of the query, but where memory ran out
+abbrev pub GivesPlan : Declared → Result Plan TextRefusal → Result s.QueryText ℕ → Type 0
+GivesPlan catalog (Ok plan) (Ok query) = IsPlan catalog plan query
+GivesPlan catalog (Ok plan) (Err number) = ⊥
+GivesPlan catalog (Err (Number number)) what = what ≡ Err number
+GivesPlan catalog (Err Memory) what = ⊤

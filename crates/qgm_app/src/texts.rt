@@ -1,18 +1,21 @@
-// From the two texts to a catalog and a checked query.
+// From the two texts to a catalog and the plan of a query.
 ghost use Rattle.std.specs.Prelude.{◌≡◌, true, IfOk};
 ghost use Rattle.query_faults.specs.Views.{fault, view_heads};
 ghost use Rattle.sql_ast.specs.Shown as shown;
 ghost use Rattle.sql_catalog.specs.Shown as catalogs;
 ghost use Rattle.sql_parser.specs.ReadSchema.{schema_tree};
 ghost use Rattle.sql_parser.specs.ReadText.{query_tree};
-ghost use Rattle.qgm_app.specs.Texts.{Gives, GivesChecked, catalog_of, checked_query, query_of, refused_by, schema_of, spans_of, tree_of, valid_query};
+ghost use Rattle.query_places.specs.Schema.{schema_columns};
+ghost use Rattle.query_places.specs.Shapes.{columns_among};
+ghost use Rattle.qgm_app.specs.Texts.{Gives, GivesPlan, catalog_of, query_of, refused_by, schema_of, spans_of, tree_of, valid_query};
 ghost use Rattle.qgm_app.specs.declared.texts.TextRefusal.TheVariants.{Memory};
 
+use crate::plan::{Plan, plan_of};
 use qgm_base::OutOfMemory;
 use query_faults::{QueryRefusal, ViewHeads, check_query};
+use query_places::Range;
 use sql_ast::{QueryText, Schema};
 use sql_catalog::{Catalog, SchemaRefusal, build};
-use sql_check::{Checked, is_answered, resolve};
 use sql_parser::{ParseRefusal, parse_query, parse_schema};
 use sql_text::{LexRefusal, Spanned, lex};
 use sqlite_items::Items;
@@ -38,7 +41,7 @@ impl From<OutOfMemory> for TextRefusal {
 // The number of a text that is too long or too deep.
 const OVER_LIMIT: u8 = 5;
 
-// The number of a text that no tree spells, or of a query that isn't answered as yet.
+// The number of a text that no tree spells.
 const SYNTAX: u8 = 4;
 
 // The tokens of a text, whose bytes are none where they are too many.
@@ -125,7 +128,8 @@ fn pass(
     views: &ViewHeads,
 ) -> Result<(), TextRefusal>
     requires views { views.now.list ≡ view_heads (catalogs.catalog catalog.now) }
-    ensures { Gives (λ _. shown.query_text query.now) result (refused_by (fault (catalogs.catalog catalog.now) (shown.query_text query.now)) (shown.query_text query.now)) }
+    ensures gives { Gives (λ _. shown.query_text query.now) result (refused_by (fault (catalogs.catalog catalog.now) (shown.query_text query.now)) (shown.query_text query.now)) }
+    ensures valid { IfOk result (λ _. fault (catalogs.catalog catalog.now) (shown.query_text query.now) ≡ 0) }
 {
     match check_query(alloc, query, catalog, views) {
         Ok(_) => Ok(()),
@@ -142,34 +146,35 @@ fn pass(
     }
 }
 
-// A query with its names resolved, where it is valid and is answered as yet.
-fn resolved(
+// The plan of a query, where it is valid.
+fn planned(
     alloc: Global,
     query: &QueryText,
     catalog: &Catalog,
     views: &ViewHeads,
-) -> Result<Checked, TextRefusal>
+    known: &[Range],
+) -> Result<Plan, TextRefusal>
     requires views { views.now.list ≡ view_heads (catalogs.catalog catalog.now) }
-    ensures { GivesChecked (catalogs.catalog catalog.now) result (checked_query (catalogs.catalog catalog.now) (shown.query_text query.now)) }
+    requires known { columns_among known.now ≡ schema_columns (catalogs.catalog catalog.now) }
+    ensures { GivesPlan (catalogs.catalog catalog.now) result (refused_by (fault (catalogs.catalog catalog.now) (shown.query_text query.now)) (shown.query_text query.now)) }
 {
     pass(alloc, query, catalog, views)?;
-    if !is_answered(query, catalog) {
-        return Err(TextRefusal::Number(SYNTAX));
-    }
-    Ok(resolve(alloc, query, catalog)?)
+    Ok(plan_of(alloc, query, catalog, known)?)
 }
 
-/// The checked query of a query's text, whose bytes are none where they are too many.
+/// The plan of a query's text, whose bytes are none where they are too many.
 #[tactic(auto, unfolding(crate::specs::Texts::valid_query))]
 pub fn read_query(
     alloc: Global,
     catalog: &Catalog,
     views: &ViewHeads,
+    known: &[Range],
     text: &Option<Items<u8>>,
-) -> Result<Checked, TextRefusal>
+) -> Result<Plan, TextRefusal>
     requires views { views.now.list ≡ view_heads (catalogs.catalog catalog.now) }
-    ensures { GivesChecked (catalogs.catalog catalog.now) result (valid_query (catalogs.catalog catalog.now) text.now) }
+    requires known { columns_among known.now ≡ schema_columns (catalogs.catalog catalog.now) }
+    ensures { GivesPlan (catalogs.catalog catalog.now) result (valid_query (catalogs.catalog catalog.now) text.now) }
 {
     let query = read_query_text(alloc, text)?;
-    resolved(alloc, &query, catalog, views)
+    planned(alloc, &query, catalog, views, known)
 }

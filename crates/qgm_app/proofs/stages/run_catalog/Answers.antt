@@ -6,7 +6,7 @@ use Rattle.qgm_app.proofs.stages.run_catalog.Goals as goal
 
 pub returns-in-Ok-clause-comes : goal.returns-in-Ok-clause-comes
 returns-in-Ok-clause-comes g c =
-    views-taken _ _ c.args.query.now c.args.dir.now (catalogs.catalog c.args.catalog.now) (ended c.run_query.result) c.in-Ok.ensures.valid c.run_query.ensures.comes
+    views-taken _ _ c.args.query.now c.args.dir.now (catalogs.catalog c.args.catalog.now) (ended c.run_views.result) c.in-Ok.ensures.valid c.run_views.ensures.comes
 
 pub returns-in-Err-Refused-clause-comes : goal.returns-in-Err-Refused-clause-comes
 returns-in-Err-Refused-clause-comes g c =

@@ -1,7 +1,9 @@
+use Rattle.std.proofs.Common.{◌∙◌, ap}
 use Rattle.std.proofs.lemmas.Result.{err_from_is_err_and}
 use Rattle.io_edge.specs.Outcome.{answered, ended, read, starved}
 use Rattle.io_edge.proofs.Order.{comes-starved}
 use Rattle.sql_catalog.specs.Shown as catalogs
+use Rattle.query_places.specs.Shapes.{columns_among}
 use Rattle.qgm_app.specs.Outcome.{with_query}
 use Rattle.qgm_app.specs.Texts.{valid_query}
 use Rattle.qgm_app.specs.declared.report.Report.TheVariants.{QueryRefused}
@@ -17,7 +19,7 @@ returns-in_err-text-clause-comes g c =
 pub returns-in-Ok-clause-comes : goal.returns-in-Ok-clause-comes
 returns-in-Ok-clause-comes g c =
     text-of-query _ _ _ c.args.query.now c.args.dir.now (catalogs.catalog c.args.catalog.now) c.in_ok-text.text (ended c.run_tables.result) c.in_ok-text.ensures.comes
-    (query-taken _ _ c.args.dir.now (catalogs.catalog c.args.catalog.now) c.in-Ok.checked c.in_ok-text.text (ended c.run_tables.result) c.in-Ok.ensures c.run_tables.ensures.comes)
+    (query-taken _ _ c.args.dir.now (catalogs.catalog c.args.catalog.now) c.in-Ok.plan c.in_ok-text.text (ended c.run_tables.result) c.in-Ok.ensures c.run_tables.ensures.comes)
 
 pub returns-in-Err-Number-clause-comes : goal.returns-in-Err-Number-clause-comes
 returns-in-Err-Number-clause-comes g c =
@@ -28,3 +30,6 @@ returns-in-Err-Number-clause-comes g c =
 pub returns-clause-comes : goal.returns-clause-comes
 returns-clause-comes g c =
     text-of-query _ _ _ c.args.query.now c.args.dir.now (catalogs.catalog c.args.catalog.now) c.in_ok-text.text starved c.in_ok-text.ensures.comes (comes-starved _ _)
+
+pub read_query-requires-clause-known : goal.read_query-requires-clause-known
+read_query-requires-clause-known g c = ap columns_among c.as_slice.ensures ∙ c.requires.ready.columns_are

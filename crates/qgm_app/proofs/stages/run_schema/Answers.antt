@@ -6,6 +6,7 @@ use Rattle.qgm_app.specs.Outcome.{with_catalog}
 use Rattle.qgm_app.specs.Texts.{catalog_of}
 use Rattle.qgm_app.specs.declared.report.Report.TheVariants.{SchemaRefused}
 use Rattle.qgm_app.proofs.Steps.{comes-interrupted, schema-refused, schema-taken, text-of-schema}
+use Rattle.qgm_app.proofs.Sound.{valid-catalog}
 use Rattle.qgm_app.proofs.stages.run_schema.Goals as goal
 
 pub returns-in_err-text-clause-comes : goal.returns-in_err-text-clause-comes
@@ -28,3 +29,6 @@ returns-in-Err-Number-clause-comes g c =
 pub returns-clause-comes : goal.returns-clause-comes
 returns-clause-comes g c =
     text-of-schema _ _ _ c.args.schema.now c.args.query.now c.args.dir.now c.in_ok-text.text starved c.in_ok-text.ensures.comes (comes-starved _ _)
+
+pub run_catalog-requires : goal.run_catalog-requires
+run_catalog-requires g c = record { valid = valid-catalog c.in_ok-text.text (catalogs.catalog c.in-Ok.catalog) c.in-Ok.ensures }

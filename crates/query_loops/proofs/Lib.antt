@@ -1,0 +1,12 @@
+pub mod Chains
+pub mod Each
+pub mod Grouped
+pub mod Onces
+pub mod SameGroups
+pub mod SameKnown
+pub mod SameRows
+pub mod SameSets
+pub mod SameSubqueries
+pub mod There
+pub mod Values
+pub mod Viewed

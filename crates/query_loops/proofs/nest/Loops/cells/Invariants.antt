@@ -1,0 +1,8 @@
+use Rattle.std.proofs.Common.{◌≡◌, ◌++◌, drop}
+use Rattle.checked_query.specs.Meaning as m
+use Rattle.checked_query.specs.Shown as shown
+use Rattle.query_loops.specs.Scopes.{group, known_in, scopes}
+use Rattle.query_loops.proofs.nest.Loops.cells.Given as goal
+
+abbrev pub invariant-loop-value : goal.invariant-loop-value
+invariant-loop-value g l = l.cells.items ++ m.cells (known_in l.self.setting) (shown.value_list (drop l.value-index l.list)) (scopes l.s) (group l.g) ≡ m.cells (known_in l.self.setting) (shown.value_list l.list) (scopes l.s) (group l.g)

@@ -1,0 +1,110 @@
+// Rows beside rows.
+ghost use Rattle.std.specs.Prelude.{◌≡◌, ◌++◌, map, replicate, IfOk, OnOk};
+ghost use Rattle.query_loops.specs.Rows as spec;
+ghost use Rattle.row_bag.specs.Bags.{bind, keep, unit};
+ghost use Rattle.row_bag.specs.declared.row.Row.{Row};
+ghost use Rattle.sql_meaning.specs.Joins as joins;
+ghost use Rattle.sql_value.specs.Level.{least};
+ghost use Rattle.sql_value.specs.declared.cell.Cell.{Cell};
+ghost use Rattle.sql_value.specs.declared.cell.Cell.TheVariants.{Null};
+
+use crate::tuple::append_cells;
+use qgm_base::OutOfMemory;
+use row_bag::{Bag, Row};
+use sql_value::{Cell, Level};
+use sqlite_items::Items;
+use std::alloc::Global;
+
+/// The lower one of two levels.
+pub(crate) fn least(a: Level, b: Level) -> Level
+    ensures { result ≡ least a b }
+{
+    if a <= b { a } else { b }
+}
+
+// The cells of both, one after the other.
+fn cells_beside(alloc: Global, left: &[Cell], right: &[Cell]) -> Result<Items<Cell>, OutOfMemory>
+    ensures { IfOk result (λ cells. cells ≡ left.now ++ right.now) }
+{
+    let mut cells = Vec::new(alloc);
+    append_cells(alloc, &mut cells, left)?;
+    append_cells(alloc, &mut cells, right)?;
+    Ok(Items::from_vec(cells))
+}
+
+/// Cells, and then those of a row, at its level.
+pub(crate) fn beside(alloc: Global, left: &[Cell], right: &Row) -> Result<Row, OutOfMemory>
+    ensures { IfOk result (λ made. made ≡ spec.beside left.now right.now) }
+{
+    Ok(Row {
+        cells: cells_beside(alloc, left, right.cells.as_slice())?,
+        level: right.level,
+    })
+}
+
+/// So many equal cells: nulls.
+pub(crate) fn nulls(alloc: Global, width: usize) -> Result<Vec<Cell>, OutOfMemory>
+    ensures { IfOk result (λ cells. cells.items ≡ replicate width Null) }
+{
+    let mut cells = Vec::new(alloc);
+    for _i in 0..width {
+        cells.push(Cell::Null)?;
+    }
+    Ok(cells)
+}
+
+/// Cells, and then so many nulls, at yes.
+pub(crate) fn with_nulls(alloc: Global, left: &[Cell], width: usize) -> Result<Row, OutOfMemory>
+    ensures { IfOk result (λ made. made ≡ spec.with_nulls left.now width) }
+{
+    let nulls = nulls(alloc, width)?;
+    Ok(Row {
+        cells: cells_beside(alloc, left, &nulls)?,
+        level: Level::Yes,
+    })
+}
+
+// Adds rows at the end, each at the lower one of its level and this one.
+#[tactic(auto, using(crate::proofs::Each::keep_steps))]
+fn append_each(out: &mut Bag, level: Level, rows: Vec<Row>) -> Result<(), OutOfMemory>
+    ensures { OnOk result (out.new ≡ out.old ++ keep level rows.items) }
+{
+    for row in rows {
+        out.push(Row {
+            cells: row.cells,
+            level: least(level, row.level),
+        })?;
+    }
+    Ok(())
+}
+
+/// Adds rows at the end, each at the lower one of its level and this one.
+pub(crate) fn append_kept(out: &mut Bag, level: Level, rows: Bag) -> Result<(), OutOfMemory>
+    ensures { OnOk result (out.new ≡ out.old ++ keep level rows) }
+{
+    append_each(out, level, rows.into_rows())
+}
+
+// Cells beside each row.
+fn beside_each(alloc: Global, left: &[Cell], ys: &[Row]) -> Result<Bag, OutOfMemory>
+    ensures { IfOk result (λ made. made ≡ map (spec.beside left.now) ys.now) }
+{
+    let mut made = Bag::new(alloc);
+    for y in ys {
+        made.push(beside(alloc, left, y)?)?;
+    }
+    Ok(made)
+}
+
+/// Each row of the first beside each of the second, at the lower one of both levels.
+#[tactic(auto, using(crate::proofs::Each::product_steps))]
+pub(crate) fn product(alloc: Global, xs: &[Row], ys: &[Row]) -> Result<Bag, OutOfMemory>
+    ensures { IfOk result (λ made. made ≡ joins.product xs.now ys.now) }
+{
+    let mut made = Bag::new(alloc);
+    for x in xs {
+        let row = beside_each(alloc, x.cells.as_slice(), ys)?;
+        append_kept(&mut made, x.level, row)?;
+    }
+    Ok(made)
+}

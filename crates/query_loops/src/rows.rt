@@ -1,0 +1,167 @@
+// The rows of a FROM and of a query.
+ghost use Rattle.std.specs.Prelude.{◌≡◌, ◌∷◌, [], ◌++◌, map, replicate, IfOk};
+ghost use Rattle.checked_query.specs.Meaning as m;
+ghost use Rattle.checked_query.specs.Shown as shown;
+ghost use Rattle.query_loops.specs.Nests as nests;
+ghost use Rattle.query_loops.specs.Rows.{cells_in, picked, test_in};
+ghost use Rattle.query_loops.specs.Scopes.{group, known_in, scopes};
+ghost use Rattle.query_loops.specs.Sources.{held};
+ghost use Rattle.query_loops.specs.There.{SameThere};
+ghost use Rattle.row_bag.specs.Bags.{unit};
+ghost use Rattle.sql_meaning.specs.Joins as joins;
+ghost use Rattle.sql_value.specs.declared.cell.Cell.TheVariants.{Null};
+
+use crate::nest::Loops;
+use crate::pair::product;
+use crate::scope::{Group, Scopes, Setting};
+use crate::sets::{combined, distinct_if, intersected};
+use crate::source::{Source, rows_named};
+use crate::tuple::copied_rows;
+use checked_query::{From, Query, Test, Value};
+use qgm_base::OutOfMemory;
+use row_bag::{Bag, Row};
+use sql_value::{Cell, Level, Truth};
+use sqlite_items::Items;
+use std::alloc::Global;
+
+// One row without cells, at yes.
+fn no_cells(alloc: Global) -> Result<Bag, OutOfMemory>
+    ensures { IfOk result (λ rows. rows ≡ unit []) }
+{
+    let mut rows = Bag::new(alloc);
+    rows.push(Row {
+        cells: Items::new(alloc),
+        level: Level::Yes,
+    })?;
+    Ok(rows)
+}
+
+impl<
+    V: Fn(&Setting<'_>, &Value, &Scopes<'_>, &Group<'_>) -> Result<Cell, OutOfMemory>,
+    P: Fn(&Setting<'_>, &Test, &Scopes<'_>, &Group<'_>) -> Result<Truth, OutOfMemory>,
+    F: Fn(&Setting<'_>, &From, &Scopes<'_>) -> Result<Bag, OutOfMemory>,
+    R: Fn(&Setting<'_>, &Query, &Scopes<'_>) -> Result<Bag, OutOfMemory>,
+> Loops<'_, V, P, F, R> {
+    // The rows of a table of a FROM; those of a named table are borrowed.
+    fn source<'b>(&'b self, x: &From, s: &Scopes<'_>) -> Result<Source<'b>, OutOfMemory>
+        requires from { nests.FromRows self.now.setting.depth (F.pre self.now.from) (F.post self.now.from) }
+        ensures { IfOk result (λ rows. SameThere (held rows) (m.from_rows (known_in self.now.setting) (shown.from x.now) (scopes s.now))) }
+    {
+        if let From::Named(name) = x {
+            return Ok(Source::borrowed(rows_named(&self.setting, name)));
+        }
+        Ok(Source::made(self.from(x, s)?))
+    }
+
+    // CROSS JOIN.
+    fn crossed(&self, x: &From, y: &From, s: &Scopes<'_>) -> Result<Bag, OutOfMemory>
+        requires from { nests.FromRows self.now.setting.depth (F.pre self.now.from) (F.post self.now.from) }
+        ensures { IfOk result (λ rows. SameThere rows (joins.product (m.from_rows (known_in self.now.setting) (shown.from x.now) (scopes s.now)) (m.from_rows (known_in self.now.setting) (shown.from y.now) (scopes s.now)))) }
+    {
+        let xs = self.source(x, s)?;
+        let ys = self.source(y, s)?;
+        product(self.setting.alloc, xs.rows(), ys.rows())
+    }
+
+    // JOIN.
+    fn joined(&self, x: &From, y: &From, p: &Test, s: &Scopes<'_>) -> Result<Bag, OutOfMemory>
+        requires test { nests.Tests self.now.setting.depth (P.pre self.now.test) (P.post self.now.test) }
+        requires from { nests.FromRows self.now.setting.depth (F.pre self.now.from) (F.post self.now.from) }
+        ensures { IfOk result (λ rows. SameThere rows (joins.kept (test_in (known_in self.now.setting) (scopes s.now) (shown.test p.now)) (joins.product (m.from_rows (known_in self.now.setting) (shown.from x.now) (scopes s.now)) (m.from_rows (known_in self.now.setting) (shown.from y.now) (scopes s.now))))) }
+    {
+        let xs = self.source(x, s)?;
+        let ys = self.source(y, s)?;
+        self.join(p, xs.rows(), ys.rows(), s)
+    }
+
+    // LEFT JOIN.
+    fn left_joined(
+        &self,
+        x: &From,
+        y: &From,
+        width: usize,
+        p: &Test,
+        s: &Scopes<'_>,
+    ) -> Result<Bag, OutOfMemory>
+        requires test { nests.Tests self.now.setting.depth (P.pre self.now.test) (P.post self.now.test) }
+        requires from { nests.FromRows self.now.setting.depth (F.pre self.now.from) (F.post self.now.from) }
+        ensures { IfOk result (λ rows. SameThere rows (joins.left_join (test_in (known_in self.now.setting) (scopes s.now) (shown.test p.now)) (replicate width Null) (m.from_rows (known_in self.now.setting) (shown.from x.now) (scopes s.now)) (m.from_rows (known_in self.now.setting) (shown.from y.now) (scopes s.now)))) }
+    {
+        let xs = self.source(x, s)?;
+        let ys = self.source(y, s)?;
+        self.left_join(p, width, xs.rows(), ys.rows(), s)
+    }
+
+    /// The rows of a table of a FROM. It fails only for want of memory.
+    pub fn from_rows(&self, x: &From, s: &Scopes<'_>) -> Result<Bag, OutOfMemory>
+        requires test { nests.Tests self.now.setting.depth (P.pre self.now.test) (P.post self.now.test) }
+        requires from { nests.FromRows self.now.setting.depth (F.pre self.now.from) (F.post self.now.from) }
+        requires rows { nests.Rows self.now.setting.depth (R.pre self.now.rows) (R.post self.now.rows) }
+        ensures { IfOk result (λ rows. SameThere rows (m.from_rows (known_in self.now.setting) (shown.from x.now) (scopes s.now))) }
+    {
+        match x {
+            From::Named(name) => copied_rows(self.setting.alloc, rows_named(&self.setting, name)),
+            From::Derived(query) => self.rows(query, s),
+            From::Crossed(x, y) => self.crossed(x, y, s),
+            From::Joined(x, y, p) => self.joined(x, y, p, s),
+            From::LeftJoined(x, y, width, p) => self.left_joined(x, y, *width, p, s),
+        }
+    }
+
+    // Each row of a table of a FROM beside each of these.
+    fn before(&self, x: &From, rows: &[Row], s: &Scopes<'_>) -> Result<Bag, OutOfMemory>
+        requires from { nests.FromRows self.now.setting.depth (F.pre self.now.from) (F.post self.now.from) }
+        ensures { IfOk result (λ made. SameThere made (joins.product (m.from_rows (known_in self.now.setting) (shown.from x.now) (scopes s.now)) rows.now)) }
+    {
+        let xs = self.source(x, s)?;
+        product(self.setting.alloc, xs.rows(), rows)
+    }
+
+    // The product of the tables of a FROM, put together from the right.
+    fn frames(&self, list: &[From], s: &Scopes<'_>) -> Result<Bag, OutOfMemory>
+        requires from { nests.FromRows self.now.setting.depth (F.pre self.now.from) (F.post self.now.from) }
+        ensures { IfOk result (λ rows. SameThere rows (m.frames (known_in self.now.setting) (shown.from_list list.now) (scopes s.now))) }
+    {
+        let mut rows = no_cells(self.setting.alloc)?;
+        let mut i = list.len();
+        while i > 0 {
+            i -= 1;
+            rows = self.before(&list[i], rows.rows(), s)?;
+        }
+        Ok(rows)
+    }
+
+    // The rows of a FROM; those of one named table are borrowed.
+    pub fn frame_source<'b>(
+        &'b self,
+        list: &[From],
+        s: &Scopes<'_>,
+    ) -> Result<Source<'b>, OutOfMemory>
+        requires from { nests.FromRows self.now.setting.depth (F.pre self.now.from) (F.post self.now.from) }
+        ensures { IfOk result (λ rows. SameThere (held rows) (m.frames (known_in self.now.setting) (shown.from_list list.now) (scopes s.now))) }
+    {
+        if let [x] = list {
+            return self.source(x, s);
+        }
+        Ok(Source::made(self.frames(list, s)?))
+    }
+
+    // A block without groups.
+    pub fn block(
+        &self,
+        distinct: bool,
+        list: &[Value],
+        tables: &[From],
+        p: &Test,
+        s: &Scopes<'_>,
+    ) -> Result<Bag, OutOfMemory>
+        requires value { nests.Values self.now.setting.depth (V.pre self.now.value) (V.post self.now.value) }
+        requires test { nests.Tests self.now.setting.depth (P.pre self.now.test) (P.post self.now.test) }
+        requires from { nests.FromRows self.now.setting.depth (F.pre self.now.from) (F.post self.now.from) }
+        ensures { IfOk result (λ rows. SameThere rows (joins.distinct_if distinct (joins.selected (test_in (known_in self.now.setting) (scopes s.now) (shown.test p.now)) (cells_in (known_in self.now.setting) (scopes s.now) (shown.value_list list.now)) (m.frames (known_in self.now.setting) (shown.from_list tables.now) (scopes s.now))))) }
+    {
+        let frames = self.frame_source(tables, s)?;
+        let rows = self.selected(list, p, frames.rows(), s)?;
+        distinct_if(self.setting.alloc, distinct, rows)
+    }
+}

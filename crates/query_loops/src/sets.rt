@@ -1,0 +1,341 @@
+// DISTINCT, and set operations (SQL-92, 7.9 and 7.10).
+ghost use Rattle.std.specs.Prelude.{◌≡◌, ℕ, ◌++◌, ◌∷◌, [], if◌then◌else◌, Option, Some, None, replicate, not, nat_eq, IfOk, OnOk};
+ghost use Rattle.checked_query.specs.Meaning as m;
+ghost use Rattle.query_loops.specs.Sets as spec;
+ghost use Rattle.row_bag.specs.Bags.{if_there, row, unit};
+ghost use Rattle.row_bag.specs.Errors as errors;
+ghost use Rattle.row_bag.specs.Sets as sets;
+ghost use Rattle.row_bag.specs.Verdict as verdict;
+ghost use Rattle.sql_meaning.specs.Joins as joins;
+ghost use Rattle.sql_value.specs.Cells as cells;
+ghost use Rattle.sql_value.specs.Level.{greatest, level_of};
+ghost use Rattle.sql_value.specs.declared.cell.Cell.TheVariants.{Err};
+ghost use Rattle.sql_value.specs.declared.level.Level.TheVariants.{No};
+
+use crate::subqueries::{error_at, worst_of};
+use crate::tuple::{copied, same_cells};
+use qgm_base::OutOfMemory;
+use row_bag::{Bag, Row};
+use sql_ast::SetOperator;
+use sql_value::{Cell, Kind, Level};
+use sqlite_items::Items;
+use std::alloc::Global;
+
+/// How often a set operation keeps a tuple.
+#[derive(Clone, Copy)]
+pub(crate) enum Rule {
+    IntersectAll,
+    Intersect,
+    ExceptAll,
+    Except,
+}
+
+// A row is there, and these are its cells.
+fn is_hit(cells: &[Cell], row: &Row) -> bool
+    ensures { ◌≡◌ {A = ℕ} (if result then 1 else 0) (if_there 0 (λ k level. if sets.same_cells k cells.now then 1 else 0) row.now.cells row.now.level) }
+{
+    match row.level {
+        Level::No => false,
+        Level::Cardinality | Level::Division | Level::Overflow | Level::Yes => {
+            same_cells(row.cells.as_slice(), cells)
+        }
+    }
+}
+
+// How often a tuple occurs.
+fn multiplicity(cells: &[Cell], rows: &[Row]) -> usize
+    ensures { result ≡ sets.multiplicity sets.same_cells cells.now rows.now }
+{
+    let mut count = 0;
+    for row in rows {
+        if is_hit(cells, row) {
+            count += 1;
+        }
+    }
+    count
+}
+
+// Whether a tuple occurs.
+pub(crate) fn occurs(cells: &[Cell], rows: &[Row]) -> bool
+    ensures { nat_eq (sets.multiplicity sets.same_cells cells.now rows.now) 0 ≡ not result }
+{
+    for row in rows {
+        if is_hit(cells, row) {
+            return true;
+        }
+    }
+    false
+}
+
+// The level of a row where these are its cells, else no.
+fn level_of_hit(cells: &[Cell], row: &Row) -> Level
+    ensures { result ≡ if_there No (λ k level. if sets.same_cells k cells.now then level else No) row.now.cells row.now.level }
+{
+    if same_cells(row.cells.as_slice(), cells) {
+        row.level
+    } else {
+        Level::No
+    }
+}
+
+// The higher one of two levels.
+fn greatest(a: Level, b: Level) -> Level
+    ensures { result ≡ greatest a b }
+{
+    if a <= b { b } else { a }
+}
+
+// The greatest level of a tuple, no where it doesn't occur.
+#[tactic(auto, using(crate::proofs::Chains::greatest_steps))]
+fn greatest_level(cells: &[Cell], rows: &[Row]) -> Level
+    ensures { result ≡ sets.level_in sets.same_cells cells.now rows.now }
+{
+    let mut level = Level::No;
+    for row in rows {
+        level = greatest(level, level_of_hit(cells, row));
+    }
+    level
+}
+
+// Whether a row is there and its tuple doesn't occur in the rows after it.
+fn is_last(row: &Row, after: &[Row]) -> bool
+    ensures { (if result then unit row.now.cells else []) ≡ if_there [] (λ c level. if nat_eq (sets.multiplicity sets.same_cells c after.now) 0 then unit c else []) row.now.cells row.now.level }
+{
+    match row.level {
+        Level::No => false,
+        Level::Cardinality | Level::Division | Level::Overflow | Level::Yes => {
+            !occurs(row.cells.as_slice(), after)
+        }
+    }
+}
+
+// DISTINCT.
+#[tactic(auto, using(crate::proofs::Onces::distinct_steps))]
+fn distinct(alloc: Global, rows: &[Row]) -> Result<Bag, OutOfMemory>
+    ensures { IfOk result (λ made. made ≡ sets.distinct sets.same_cells rows.now) }
+{
+    let mut made = Bag::new(alloc);
+    for i in 0..rows.len() {
+        if is_last(&rows[i], &rows[i + 1..]) {
+            let level = greatest_level(rows[i].cells.as_slice(), rows);
+            let cells = copied(alloc, rows[i].cells.as_slice())?;
+            made.push(Row { cells, level })?;
+        }
+    }
+    Ok(made)
+}
+
+/// With `distinct` each tuple once, at its greatest level, in the place where it stands last. It
+/// fails only for want of memory.
+pub(crate) fn distinct_if(alloc: Global, distinct: bool, rows: Bag) -> Result<Bag, OutOfMemory>
+    ensures { IfOk result (λ made. made ≡ joins.distinct_if distinct rows) }
+{
+    if distinct {
+        self::distinct(alloc, rows.rows())
+    } else {
+        Ok(rows)
+    }
+}
+
+// Adds so many rows of a tuple at the end, each at yes.
+fn push_copies(
+    alloc: Global,
+    out: &mut Bag,
+    count: usize,
+    cells: &[Cell],
+) -> Result<(), OutOfMemory>
+    ensures { OnOk result (out.new ≡ out.old ++ sets.copies count cells.now) }
+{
+    for _i in 0..count {
+        out.push(Row {
+            cells: copied(alloc, cells)?,
+            level: Level::Yes,
+        })?;
+    }
+    Ok(())
+}
+
+// How often an operation keeps a tuple that occurs so often in both operands.
+fn often(rule: Rule, n: usize, k: usize) -> usize
+    ensures { result ≡ spec.often rule n k }
+{
+    match rule {
+        Rule::IntersectAll => n.min(k),
+        Rule::Intersect => k.min(1),
+        Rule::ExceptAll => n.saturating_sub(k),
+        Rule::Except => 1usize.saturating_sub(k),
+    }
+}
+
+// Each tuple of the first operand, once for each time that the operation keeps it, in the place
+// where it stands last.
+#[tactic(auto, using(crate::proofs::Onces::copies_steps))]
+fn kept_often(alloc: Global, rule: Rule, xs: &[Row], ys: &[Row]) -> Result<Bag, OutOfMemory>
+    ensures { IfOk result (λ made. made ≡ spec.kept_often rule xs.now ys.now) }
+{
+    let mut made = Bag::new(alloc);
+    for i in 0..xs.len() {
+        if is_last(&xs[i], &xs[i + 1..]) {
+            let cells = xs[i].cells.as_slice();
+            let count = often(rule, multiplicity(cells, xs), multiplicity(cells, ys));
+            push_copies(alloc, &mut made, count, cells)?;
+        }
+    }
+    Ok(made)
+}
+
+/// The error that a cell is.
+pub(crate) fn error_of(cell: &Cell) -> Option<Kind>
+    ensures { result ≡ cells.error_of cell.now }
+{
+    match cell {
+        Cell::Err(kind) => Some(*kind),
+        Cell::Int(_) | Cell::Text(_) | Cell::Null => None,
+    }
+}
+
+/// The greatest error among cells.
+#[tactic(auto, using(crate::proofs::Chains::worst_steps))]
+pub(crate) fn error_in(cells: &[Cell]) -> Option<Kind>
+    ensures { result ≡ errors.error_in cells.now }
+{
+    let mut found = None;
+    for cell in cells {
+        found = worst_of(found, error_of(cell));
+    }
+    found
+}
+
+// The greatest error of a row that is there.
+fn error_of_row(row: &Row) -> Option<Kind>
+    ensures { result ≡ verdict.error_of_row row.now }
+{
+    match row.level {
+        Level::No => None,
+        Level::Cardinality | Level::Division | Level::Overflow | Level::Yes => {
+            worst_of(error_at(row.level), error_in(row.cells.as_slice()))
+        }
+    }
+}
+
+// The greatest error among rows.
+#[tactic(auto, using(crate::proofs::Chains::worst_steps))]
+fn error_among(rows: &[Row]) -> Option<Kind>
+    ensures { result ≡ errors.error_among errors.error_in rows.now }
+{
+    let mut found = None;
+    for row in rows {
+        found = worst_of(found, error_of_row(row));
+    }
+    found
+}
+
+/// The level of an error.
+pub(crate) fn level_of(kind: Kind) -> Level
+    ensures { result ≡ level_of kind }
+{
+    match kind {
+        Kind::Cardinality => Level::Cardinality,
+        Kind::Division => Level::Division,
+        Kind::Overflow => Level::Overflow,
+    }
+}
+
+/// So many cells of an error.
+pub(crate) fn failed_cells(
+    alloc: Global,
+    width: usize,
+    kind: Kind,
+) -> Result<Items<Cell>, OutOfMemory>
+    ensures { IfOk result (λ cells. cells ≡ m.failed_cells width kind) }
+{
+    let mut cells = Vec::new(alloc);
+    for _i in 0..width {
+        cells.push(Cell::Err(kind))?;
+    }
+    Ok(Items::from_vec(cells))
+}
+
+// One row of an error.
+fn failed_row(alloc: Global, width: usize, kind: Kind) -> Result<Bag, OutOfMemory>
+    ensures { IfOk result (λ rows. rows ≡ row (m.failed_cells width kind) (level_of kind) ∷ []) }
+{
+    let mut rows = Bag::new(alloc);
+    rows.push(Row {
+        cells: failed_cells(alloc, width, kind)?,
+        level: level_of(kind),
+    })?;
+    Ok(rows)
+}
+
+// What an operation keeps, or one row of the greatest error where an operand has one.
+#[tactic(auto, using(crate::proofs::SameSets::error_both))]
+fn checked(
+    alloc: Global,
+    rule: Rule,
+    width: usize,
+    xs: &[Row],
+    ys: &[Row],
+) -> Result<Bag, OutOfMemory>
+    ensures { IfOk result (λ rows. rows ≡ sets.collapsed errors.error_in (m.failed_cells width) (xs.now ++ ys.now) (spec.kept_often rule xs.now ys.now)) }
+{
+    match worst_of(error_among(xs), error_among(ys)) {
+        Some(kind) => failed_row(alloc, width, kind),
+        None => kept_often(alloc, rule, xs, ys),
+    }
+}
+
+// The rows of both, one after the other.
+fn appended(a: Bag, b: Bag) -> Result<Bag, OutOfMemory>
+    ensures { IfOk result (λ rows. rows ≡ a ++ b) }
+{
+    let mut rows = a.into_rows();
+    let mut more = b.into_rows();
+    rows.append(&mut more)?;
+    Ok(Bag::from_rows(rows))
+}
+
+// UNION.
+fn union(alloc: Global, all: bool, xs: Bag, ys: Bag) -> Result<Bag, OutOfMemory>
+    ensures { IfOk result (λ rows. rows ≡ if all then xs ++ ys else sets.union sets.same_cells xs ys) }
+{
+    let rows = appended(xs, ys)?;
+    distinct_if(alloc, !all, rows)
+}
+
+/// UNION or EXCEPT of queries of so many columns. It fails only for want of memory.
+pub(crate) fn combined(
+    alloc: Global,
+    op: SetOperator,
+    all: bool,
+    width: usize,
+    xs: Bag,
+    ys: Bag,
+) -> Result<Bag, OutOfMemory>
+    ensures { IfOk result (λ rows. rows ≡ joins.combined op all (m.failed_cells width) xs ys) }
+{
+    match (op, all) {
+        (SetOperator::Union, _) => union(alloc, all, xs, ys),
+        (SetOperator::Except, true) => {
+            checked(alloc, Rule::ExceptAll, width, xs.rows(), ys.rows())
+        }
+        (SetOperator::Except, false) => checked(alloc, Rule::Except, width, xs.rows(), ys.rows()),
+    }
+}
+
+/// INTERSECT of queries of so many columns. It fails only for want of memory.
+pub(crate) fn intersected(
+    alloc: Global,
+    all: bool,
+    width: usize,
+    xs: Bag,
+    ys: Bag,
+) -> Result<Bag, OutOfMemory>
+    ensures { IfOk result (λ rows. rows ≡ joins.intersected all (m.failed_cells width) xs ys) }
+{
+    if all {
+        checked(alloc, Rule::IntersectAll, width, xs.rows(), ys.rows())
+    } else {
+        checked(alloc, Rule::Intersect, width, xs.rows(), ys.rows())
+    }
+}

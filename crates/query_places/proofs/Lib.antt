@@ -1,0 +1,17 @@
+pub mod Positions
+pub mod Related
+pub mod Columns
+pub mod Frames
+pub mod Grouped
+pub mod Operators
+pub mod Named
+pub mod Results
+pub mod ByPlaces
+pub mod Depths
+pub mod Whole
+pub mod Pushed
+pub mod Spans
+pub mod Ontos
+pub mod Meant
+pub mod Valid
+pub mod Known
