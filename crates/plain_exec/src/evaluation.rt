@@ -1,18 +1,18 @@
-// What checked expressions and conditions are in a row.
+// What resolved expressions and conditions are in a row.
 ghost use Rattle.std.specs.Prelude.{◌≡◌, IfOk, unwrap_or};
 ghost use Rattle.sql_value.specs.declared.cell.Cell.{Cell};
-ghost use Rattle.sql_check.specs.Core as core;
-ghost use Rattle.sql_check.specs.CoreShown as shown;
+ghost use Rattle.table_block.specs.Core as core;
+ghost use Rattle.table_block.specs.CoreShown as shown;
 
 use crate::value::{additive, always, between, cell_at, multiplicative, null_if};
 use qgm_base::OutOfMemory;
-use sql_check::{Addend, Arm, Choice, Multiplier, Test, Value};
 use sql_value::{Cell, CmpOp, Kind, Level, Truth, and, compare, is_null, like, neg, not, or};
 use std::alloc::Global;
+use table_block::{Addend, Arm, Choice, Multiplier, Test, Value};
 
 /// The cell that an expression is in a row. It fails only for want of memory.
 #[cycle(evaluate)]
-#[tactic(auto, using(sql_check::specs::CoreShown::lists))]
+#[tactic(auto, using(table_block::specs::CoreShown::lists))]
 pub fn evaluate(alloc: Global, v: &Value, row: &[Cell]) -> Result<Cell, OutOfMemory>
     ensures { IfOk result (λ cell. cell ≡ core.value (shown.value v.now) row.now) }
 {
@@ -157,7 +157,7 @@ fn coalesce(alloc: Global, first: Cell, others: &[Value], row: &[Cell]) -> Resul
 
 /// How far a condition is true and false in a row. It fails only for want of memory.
 #[cycle(evaluate)]
-#[tactic(auto, using(sql_check::specs::CoreShown::lists))]
+#[tactic(auto, using(table_block::specs::CoreShown::lists))]
 pub fn hold(alloc: Global, p: &Test, row: &[Cell]) -> Result<Truth, OutOfMemory>
     ensures { IfOk result (λ truth. truth ≡ core.truth (shown.test p.now) row.now) }
 {

@@ -1,4 +1,4 @@
-//! The plain program that runs a checked query: loops over the rows of its table.
+//! The plain program that runs a block over one table: loops over the rows of its table.
 #![tactic(auto)]
 
 mod evaluation;

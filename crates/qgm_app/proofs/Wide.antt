@@ -16,7 +16,7 @@ use Rattle.sql_catalog.specs.Keys.{columns_of, keys_of, names_of}
 use Rattle.sql_catalog.specs.Names.{same_name}
 use Rattle.sql_catalog.specs.declared.descriptor.ColumnDescriptor.{ColumnDescriptor}
 use Rattle.sql_catalog.specs.declared.key.Key.{Key}
-use Rattle.sql_check.specs.Resolved.{IsWide}
+use Rattle.table_block.specs.Resolved.{IsWide}
 use Rattle.sql_meaning.specs.Meaning.{all_named, relation_with}
 use Rattle.sql_value.specs.declared.cell.Cell.{Cell}
 

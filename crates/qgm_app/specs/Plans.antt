@@ -1,61 +1,43 @@
--- How a valid query is answered: by the graph of a checked query, or by loops over the query with its names resolved.
-use Rattle.std.specs.Prelude.{◌≡◌, ℕ, List, [], map, Option, None}
+-- How a valid query is answered: by the graph of a block over one table, where one is built of it, else by loops over its resolved form.
+use Rattle.std.specs.Prelude.{◌≡◌, ⊤, List, [], Option, Some, None}
+use Rattle.csv_tables.specs.Fits.{FitsSchema}
+use Rattle.row_bag.specs.Verdict.{verdict}
 use Rattle.row_bag.specs.declared.row.Row.{Row}
 use Rattle.row_bag.specs.declared.tables.Table.{Table}
 use Rattle.sql_ast.specs.Syntax as s
-use Rattle.sql_catalog.specs.Catalog.{Declared}
-use Rattle.sql_catalog.specs.Catalog as catalogs
-use Rattle.sql_meaning.specs.Meaning.{known_of, names, order_key, relation_of, rows}
+use Rattle.sql_catalog.specs.Catalog.{Declared, fault}
+use Rattle.sql_meaning.specs.Meaning.{Answer, answer, answer_of, known_of, relation_of, rows}
 use Rattle.sql_value.specs.declared.cell.Cell.{Cell}
-use Rattle.sql_value.specs.declared.order_key.OrderKey.{OrderKey}
-use Rattle.query_faults.specs.Views.{fault, view_refusal}
-use Rattle.checked_query.specs.Meaning as places
-use Rattle.checked_query.specs.Shown as shown
-use Rattle.checked_query.specs.Views as trees
-use Rattle.checked_query.specs.Views.{ViewTree}
-use Rattle.query_places.specs.Resolved.{bare, query}
-use Rattle.query_places.specs.Schema.{schema_columns, view_trees}
-use Rattle.query_places.specs.Shapes.{columns_among}
-use Rattle.query_places.specs.declared.text.ResolvedText.{ResolvedText}
-use Rattle.query_places.specs.declared.views.ResolvedSchema.{ResolvedSchema}
-use Rattle.sql_check.specs.Resolved.{IsWide, rows_at}
+use Rattle.sql_check.specs.Checked.{AreViews, rows_of}
 use Rattle.sql_check.specs.declared.checked.Checked.{Checked}
+use Rattle.sql_check.specs.declared.checked.Views.{Views}
+use Rattle.table_block.specs.Resolved.{IsWide, rows_at}
+use Rattle.table_block.specs.declared.resolved.TableBlock.{TableBlock}
 use Rattle.qgm_app.specs.declared.plan.Plan.{Plan}
-use Rattle.qgm_app.specs.declared.plan.Plan.TheVariants.{Graph, Loops}
 
--- a checked query has the text's names and order, and, over tables whose rows have a cell for each column, its rows
-pub record IsChecked (catalog : Declared) (checked : Checked) (text : s.QueryText) : Type 0 where
-  pub names_are : (tables : List Table) → checked.names ≡ names (known_of catalog tables) text.query []
-  pub order_is : checked.order ≡ map (order_key checked.names) text.order
-  pub rows_are : (tables : List Table) → IsWide (relation_of catalog tables checked.table) → rows_at checked tables ≡ rows (known_of catalog tables) text.query []
+-- a block, if any, gives the rows of a query over tables whose rows have a cell for each column
+abbrev pub BlockGives : Declared → Option TableBlock → s.Query → Type 0
+BlockGives catalog None query = ⊤
+BlockGives catalog (Some block) query = (tables : List Table) → IsWide (relation_of catalog tables block.table) → rows_at block tables ≡ rows (known_of catalog tables) query []
 
--- a resolved text has the names and the order of a valid query's text, and its query in resolved form
-pub record IsResolved (catalog : Declared) (x : ResolvedText) (text : s.QueryText) : Type 0 where
-  pub valid : fault catalog text ≡ 0
-  pub names_are : x.columns ≡ names (bare (schema_columns catalog)) text.query []
-  pub order_is : x.order ≡ map (order_key (names (bare (schema_columns catalog)) text.query [])) text.order
-  pub query_is : shown.query x.query ≡ query (schema_columns catalog) [] text.query
+-- the rows of a block's graph, or those of the loops
+abbrev pub rows_by : Option TableBlock → Views → Checked → List Table → List (Row (List Cell))
+rows_by (Some block) views checked tables = rows_at block tables
+rows_by None views checked tables = rows_of views checked tables
 
-abbrev pub IsPlan : Declared → Plan → s.QueryText → Type 0
-IsPlan catalog (Graph checked) text = IsChecked catalog checked text
-IsPlan catalog (Loops x) text = IsResolved catalog x text
+-- the rows that a plan gives over these views and tables
+abbrev pub plan_rows : Plan → Views → List Table → List (Row (List Cell))
+plan_rows plan views tables = rows_by plan.block views plan.checked tables
 
--- a schema whose views are valid, with its names resolved
-pub record IsReady (catalog : Declared) (schema : ResolvedSchema) : Type 0 where
-  pub valid : catalogs.fault catalog ≡ None
-  pub views_valid : view_refusal catalog ≡ None
-  pub columns_are : columns_among schema.known ≡ schema_columns catalog
-  pub views_are : shown.views schema.views ≡ view_trees catalog
+-- and its answer
+abbrev pub plan_answer : Plan → Views → List Table → Answer
+plan_answer plan views tables = answer_of plan.checked.names plan.checked.order (verdict (plan_rows plan views tables))
 
--- what a plan gives over these views and tables
-abbrev pub plan_names : Plan → List (Option (List ℕ))
-plan_names (Graph checked) = checked.names
-plan_names (Loops x) = x.columns
+-- a plan of a query's text: over all tables that fit the catalog, its answer is the query's
+abbrev pub IsPlan : Declared → Views → Plan → s.QueryText → Type 0
+IsPlan catalog views plan text = (tables : List Table) → FitsSchema catalog.tables tables → plan_answer plan views tables ≡ answer (known_of catalog tables) text
 
-abbrev pub plan_order : Plan → List OrderKey
-plan_order (Graph checked) = checked.order
-plan_order (Loops x) = x.order
-
-abbrev pub plan_rows : Plan → List ViewTree → List Table → List (Row (List Cell))
-plan_rows (Graph checked) views tables = rows_at checked tables
-plan_rows (Loops x) views tables = places.rows (trees.known_of views tables) (shown.query x.query) []
+-- the views of a schema that isn't refused
+pub record AreReady (catalog : Declared) (views : Views) : Type 0 where
+  pub valid : fault catalog ≡ None
+  pub of_catalog : AreViews catalog views

@@ -3,6 +3,7 @@ use Rattle.std.specs.Prelude.{ℕ, zero, suc, ◌≡◌, ⊤, Bool, true, false,
 use Rattle.sql_ast.specs.Syntax as s
 use Rattle.sql_catalog.specs.Catalog.{Declared, declared}
 use Rattle.query_faults.specs.Views.{fault}
+use Rattle.sql_check.specs.declared.checked.Views.{Views}
 use Rattle.sql_parser.specs.ReadSchema.{schema_tree}
 use Rattle.sql_parser.specs.ReadText.{query_tree}
 use Rattle.sql_text.specs.Depth.{too_deep}
@@ -66,8 +67,8 @@ Gives seen (Err (Number number)) what = what ≡ Err number
 Gives seen (Err Memory) what = ⊤
 
 -- a call's answer is a plan of the query, but where memory ran out
-abbrev pub GivesPlan : Declared → Result Plan TextRefusal → Result s.QueryText ℕ → Type 0
-GivesPlan catalog (Ok plan) (Ok query) = IsPlan catalog plan query
-GivesPlan catalog (Ok plan) (Err number) = ⊥
-GivesPlan catalog (Err (Number number)) what = what ≡ Err number
-GivesPlan catalog (Err Memory) what = ⊤
+abbrev pub GivesPlan : Declared → Views → Result Plan TextRefusal → Result s.QueryText ℕ → Type 0
+GivesPlan catalog views (Ok plan) (Ok query) = IsPlan catalog views plan query
+GivesPlan catalog views (Ok plan) (Err number) = ⊥
+GivesPlan catalog views (Err (Number number)) what = what ≡ Err number
+GivesPlan catalog views (Err Memory) what = ⊤

@@ -2,93 +2,77 @@
 ghost use Rattle.std.specs.Prelude.{◌≡◌, IfOk};
 ghost use Rattle.row_bag.specs.Bags.{Agree};
 ghost use Rattle.row_bag.specs.Sets.{same_cells};
+ghost use Rattle.row_bag.specs.declared.tables.Table.{Table};
 ghost use Rattle.sql_ast.specs.Shown as written;
 ghost use Rattle.sql_catalog.specs.Shown as catalogs;
-ghost use Rattle.sql_check.specs.Resolved.{rows_at};
-ghost use Rattle.checked_query.specs.Shown as shown;
-ghost use Rattle.query_faults.specs.Views.{fault};
-ghost use Rattle.query_places.specs.Schema.{schema_columns};
-ghost use Rattle.query_places.specs.Shapes.{columns_among};
-ghost use Rattle.qgm_app.specs.Plans.{IsPlan, plan_names, plan_order, plan_rows};
+ghost use Rattle.sql_check.specs.Checked.{rows_of};
+ghost use Rattle.sql_meaning.specs.Meaning.{known_of};
+ghost use Rattle.sql_meaning.specs.Meaning as named;
+ghost use Rattle.table_block.specs.Resolved.{rows_at};
+ghost use Rattle.qgm_app.specs.Plans.{BlockGives, plan_rows};
 
 use box_exec::execute;
-use checked_query::View;
 use qgm_base::OutOfMemory;
 use qgm_build::build;
-use query_loops::rows_of;
-use query_places::{Range, ResolvedText, resolve_text};
 use row_bag::{Bag, Tables};
 use sql_ast::QueryText;
 use sql_catalog::Catalog;
-use sql_check::{Checked, is_answered, resolve};
-use sql_value::{OrderKeys, OutNames};
+use sql_check::{Checked, Views};
 use std::alloc::Global;
 use std::sync::ledger::Ledger;
 use step_count::Steps;
+use table_block::{TableBlock, is_table_block, resolve};
 
-/// How a query is answered, its names being resolved.
+/// How a valid query is answered.
 #[derive(Drop)]
-pub enum Plan {
-    /// By its graph.
-    Graph(Checked),
-    /// By nested loops over the query.
-    Loops(ResolvedText),
+pub struct Plan {
+    /// The query, its names resolved.
+    pub checked: Checked,
+    /// The block that its graph is built of; where there is none, it is answered by nested loops.
+    pub block: Option<TableBlock>,
 }
 
-impl Plan {
-    /// The names of the query's columns.
-    pub fn names(&self) -> &OutNames
-        ensures { result.now ≡ plan_names self.now }
-    {
-        match self {
-            Plan::Graph(checked) => &checked.names,
-            Plan::Loops(text) => &text.columns,
-        }
-    }
-
-    /// The keys of its ORDER BY.
-    pub fn order(&self) -> &OrderKeys
-        ensures { result.now ≡ plan_order self.now }
-    {
-        match self {
-            Plan::Graph(checked) => &checked.order,
-            Plan::Loops(text) => &text.order,
-        }
-    }
-}
-
-/// The plan of a valid query, over tables and views of known columns: its graph, where one is built of
-/// it as yet, else loops.
-pub fn plan_of(
+/// The block over one table that a query is, where a graph is built of it.
+pub fn block_of(
     alloc: Global,
     text: &QueryText,
     catalog: &Catalog,
-    known: &[Range],
-) -> Result<Plan, OutOfMemory>
-    requires known { columns_among known.now ≡ schema_columns (catalogs.catalog catalog.now) }
-    requires valid { fault (catalogs.catalog catalog.now) (written.query_text text.now) ≡ 0 }
-    ensures { IfOk result (λ plan. IsPlan (catalogs.catalog catalog.now) plan (written.query_text text.now)) }
+) -> Result<Option<TableBlock>, OutOfMemory>
+    ensures { IfOk result (λ block. BlockGives (catalogs.catalog catalog.now) block (written.query text.now.query)) }
 {
-    if is_answered(text, catalog) {
-        Ok(Plan::Graph(resolve(alloc, text, catalog)?))
+    if is_table_block(text, catalog) {
+        Ok(Some(resolve(alloc, text, catalog)?))
     } else {
-        Ok(Plan::Loops(resolve_text(alloc, text, known)?))
+        Ok(None)
     }
 }
 
-// The rows of a checked query over these tables: its graph, evaluated.
+// The rows of a block over these tables: its graph, evaluated.
 fn graph_rows<L: Ledger>(
     alloc: Global,
-    checked: &Checked,
+    block: &TableBlock,
     catalog: &Catalog,
     tables: &Tables,
     steps: &mut Steps<L>,
 ) -> Result<Bag, OutOfMemory>
-    ensures { IfOk result (λ bag. Agree same_cells bag (rows_at checked.now tables.now)) }
+    ensures { IfOk result (λ bag. Agree same_cells bag (rows_at block.now tables.now)) }
 {
-    let graph = build(alloc, checked, catalog)?;
+    let graph = build(alloc, block, catalog)?;
     let (bag, _) = execute(alloc, &graph, tables, steps)?;
     Ok(bag)
+}
+
+// The rows of a checked query over these views and tables, by nested loops.
+fn loop_rows(
+    alloc: Global,
+    checked: &Checked,
+    views: &Views,
+    tables: &Tables,
+) -> Result<Bag, OutOfMemory>
+    ensures { IfOk result (λ bag. Agree same_cells bag (rows_of views.now checked.now tables.now)) }
+{
+    let bodies = views.schema.views.as_slice();
+    query_loops::rows_of(alloc, &checked.query, bodies, tables)
 }
 
 /// The rows of a query over these views and tables.
@@ -96,14 +80,14 @@ pub fn rows<L: Ledger>(
     alloc: Global,
     plan: &Plan,
     catalog: &Catalog,
-    views: &[View],
+    views: &Views,
     tables: &Tables,
     steps: &mut Steps<L>,
 ) -> Result<Bag, OutOfMemory>
-    ensures { IfOk result (λ bag. Agree same_cells bag (plan_rows plan.now (shown.views views.now) tables.now)) }
+    ensures { IfOk result (λ bag. Agree same_cells bag (plan_rows plan.now views.now tables.now)) }
 {
-    match plan {
-        Plan::Graph(checked) => graph_rows(alloc, checked, catalog, tables, steps),
-        Plan::Loops(text) => rows_of(alloc, &text.query, views, tables),
+    match &plan.block {
+        Some(block) => graph_rows(alloc, block, catalog, tables, steps),
+        None => loop_rows(alloc, &plan.checked, views, tables),
     }
 }

@@ -12,23 +12,21 @@ ghost use Rattle.sql_catalog.specs.Catalog.{fault};
 ghost use Rattle.sql_catalog.specs.Shown as catalogs;
 ghost use Rattle.sql_meaning.specs.Meaning.{answer_of};
 ghost use Rattle.sql_value.specs.declared.cell.Cell.{Cell};
-ghost use Rattle.checked_query.specs.Shown as shown;
-ghost use Rattle.query_faults.specs.Views.{view_heads, view_refusal};
+ghost use Rattle.query_faults.specs.Views.{view_refusal};
 ghost use Rattle.qgm_app.specs.declared.report.Report.TheVariants.{Usage};
 ghost use Rattle.qgm_app.specs.Outcome.{from_query, from_schema, from_tables, report_of, with_views};
-ghost use Rattle.qgm_app.specs.Plans.{IsPlan, IsReady, plan_names, plan_order, plan_rows};
+ghost use Rattle.qgm_app.specs.Plans.{AreReady, IsPlan, plan_answer};
 
 use crate::plan::{Plan, rows};
 use crate::report::Report;
 use crate::texts::{TextRefusal, read_catalog, read_query};
-use checked_query::View;
 use csv_tables::{DataRefusal, load, write_rows};
 use io_edge::{Files, Interruption, fetch_file};
 use qgm_base::OutOfMemory;
-use query_faults::{ViewHeads, ViewRefusal, check_laws, check_views};
-use query_places::{ResolvedSchema, place_laws, resolve_schema};
+use query_faults::ViewRefusal;
 use row_bag::{Bag, Tables, Verdict, bag_laws, sorted, verdict};
 use sql_catalog::Catalog;
+use sql_check::{Checked, Views, check_views};
 use sqlite_items::Items;
 use std::alloc::Global;
 use std::sync::ledger::Ledger;
@@ -38,22 +36,22 @@ use step_count::Steps;
 const MAX_TEXT: usize = 65_536;
 
 // The header and the rows in the order of the keys, in CSV.
-fn print(alloc: Global, plan: &Plan, bag: Bag) -> Result<Items<u8>, OutOfMemory>
-    ensures { IfOk result (λ bytes. bytes ≡ printed_rows (plan_names plan.now) (sorted_rows (plan_order plan.now) bag)) }
+fn print(alloc: Global, checked: &Checked, bag: Bag) -> Result<Items<u8>, OutOfMemory>
+    ensures { IfOk result (λ bytes. bytes ≡ printed_rows checked.now.names (sorted_rows checked.now.order bag)) }
 {
-    let bag = sorted(bag, plan.order())?;
-    Ok(Items::from_vec(write_rows(alloc, plan.names(), &bag)?))
+    let bag = sorted(bag, &checked.order)?;
+    Ok(Items::from_vec(write_rows(alloc, &checked.names, &bag)?))
 }
 
 // The report of a query with this bag.
 #[tactic(auto, using(crate::proofs::Alike::answers_alike))]
-fn report_rows(alloc: Global, plan: &Plan, bag: Bag) -> Result<Report, OutOfMemory>
-    ensures report { IfOk result (λ report. (rows : List (Row (List Cell))) → Agree same_cells bag rows → report ≡ report_of (answer_of (plan_names plan.now) (plan_order plan.now) (verdict rows))) }
+fn report_rows(alloc: Global, checked: &Checked, bag: Bag) -> Result<Report, OutOfMemory>
+    ensures report { IfOk result (λ report. (rows : List (Row (List Cell))) → Agree same_cells bag rows → report ≡ report_of (answer_of checked.now.names checked.now.order (verdict rows))) }
     ensures line { IfOk result (λ report. report ≢ Usage) }
 {
     bag_laws();
     match verdict(bag) {
-        Verdict::Rows(bag) => Ok(Report::Rows(print(alloc, plan, bag)?)),
+        Verdict::Rows(bag) => Ok(Report::Rows(print(alloc, checked, bag)?)),
         Verdict::Error(kind) => Ok(Report::Error(kind)),
     }
 }
@@ -63,16 +61,16 @@ fn answer<L: Ledger>(
     alloc: Global,
     plan: &Plan,
     catalog: &Catalog,
-    views: &[View],
+    views: &Views,
     tables: Tables,
     steps: &mut Steps<L>,
 ) -> Result<Report, OutOfMemory>
-    ensures report { IfOk result (λ report. report ≡ report_of (answer_of (plan_names plan.now) (plan_order plan.now) (verdict (plan_rows plan.now (shown.views views.now) tables)))) }
+    ensures report { IfOk result (λ report. report ≡ report_of (plan_answer plan.now views.now tables)) }
     ensures line { IfOk result (λ report. report ≢ Usage) }
 {
     let bag = rows(alloc, plan, catalog, views, &tables, steps)?;
     drop(tables);
-    report_rows(alloc, plan, bag)
+    report_rows(alloc, &plan.checked, bag)
 }
 
 // Reads the tables, and answers the query.
@@ -80,25 +78,19 @@ fn run_tables<F: Files, L: Ledger>(
     alloc: Global,
     dir: &str,
     catalog: &Catalog,
-    schema: &ResolvedSchema,
+    views: &Views,
     plan: &Plan,
     files: &mut F,
     steps: &mut Steps<L>,
 ) -> Result<Report, Interruption>
-    requires ready { IsReady (catalogs.catalog catalog.now) schema.now }
-    ensures comes { (query : QueryText) → IsPlan (catalogs.catalog catalog.now) plan.now query
+    ensures comes { (query : QueryText) → IsPlan (catalogs.catalog catalog.now) views.now plan.now query
         → Comes (F.told files.old) (F.told files.new) (λ fs. from_tables dir.now (catalogs.catalog catalog.now) query fs) (ended result) }
     ensures later { F.faults files.old ≤ F.faults files.new }
     ensures failed { RoseIfFault result (F.faults files.old) (F.faults files.new) }
     ensures line { IfOk result (λ report. report ≢ Usage) }
 {
-    check_laws();
-    place_laws();
     match load(alloc, catalog, dir, files) {
-        Ok(tables) => {
-            let views = schema.views.as_slice();
-            Ok(answer(alloc, plan, catalog, views, tables, steps)?)
-        }
+        Ok(tables) => Ok(answer(alloc, plan, catalog, views, tables, steps)?),
         Err(DataRefusal::Refused { number, table, row }) => {
             Ok(Report::DataRefused { number, table, row })
         }
@@ -113,47 +105,21 @@ fn run_query<F: Files, L: Ledger>(
     query: &str,
     dir: &str,
     catalog: &Catalog,
-    views: &ViewHeads,
-    schema: &ResolvedSchema,
+    views: &Views,
     files: &mut F,
     steps: &mut Steps<L>,
 ) -> Result<Report, Interruption>
-    requires views { views.now.list ≡ view_heads (catalogs.catalog catalog.now) }
-    requires ready { IsReady (catalogs.catalog catalog.now) schema.now }
+    requires ready { AreReady (catalogs.catalog catalog.now) views.now }
     ensures comes { Comes (F.told files.old) (F.told files.new) (λ fs. from_query query.now dir.now (catalogs.catalog catalog.now) fs) (ended result) }
     ensures later { F.faults files.old ≤ F.faults files.new }
     ensures failed { RoseIfFault result (F.faults files.old) (F.faults files.new) }
     ensures line { IfOk result (λ report. report ≢ Usage) }
 {
     let text = fetch_file(alloc, files, query, MAX_TEXT)?;
-    match read_query(alloc, catalog, views, schema.known.as_slice(), &text) {
-        Ok(plan) => run_tables(alloc, dir, catalog, schema, &plan, files, steps),
+    match read_query(alloc, catalog, views, &text) {
+        Ok(plan) => run_tables(alloc, dir, catalog, views, &plan, files, steps),
         Err(TextRefusal::Number(number)) => Ok(Report::QueryRefused(number)),
         Err(TextRefusal::Memory) => Err(Interruption::Memory),
-    }
-}
-
-// Resolves the views of a catalog, which are valid, and goes on to the query.
-fn run_views<F: Files, L: Ledger>(
-    alloc: Global,
-    query: &str,
-    dir: &str,
-    catalog: &Catalog,
-    views: &ViewHeads,
-    files: &mut F,
-    steps: &mut Steps<L>,
-) -> Result<Report, Interruption>
-    requires views { views.now.list ≡ view_heads (catalogs.catalog catalog.now) }
-    requires valid { fault (catalogs.catalog catalog.now) ≡ None }
-    requires views_valid { view_refusal (catalogs.catalog catalog.now) ≡ None }
-    ensures comes { Comes (F.told files.old) (F.told files.new) (λ fs. from_query query.now dir.now (catalogs.catalog catalog.now) fs) (ended result) }
-    ensures later { F.faults files.old ≤ F.faults files.new }
-    ensures failed { RoseIfFault result (F.faults files.old) (F.faults files.new) }
-    ensures line { IfOk result (λ report. report ≢ Usage) }
-{
-    match resolve_schema(alloc, catalog) {
-        Ok(schema) => run_query(alloc, query, dir, catalog, views, &schema, files, steps),
-        Err(OutOfMemory) => Err(Interruption::Memory),
     }
 }
 
@@ -173,7 +139,7 @@ fn run_catalog<F: Files, L: Ledger>(
     ensures line { IfOk result (λ report. report ≢ Usage) }
 {
     match check_views(alloc, catalog) {
-        Ok(views) => run_views(alloc, query, dir, catalog, &views, files, steps),
+        Ok(views) => run_query(alloc, query, dir, catalog, &views, files, steps),
         Err(ViewRefusal::Refused { view, number }) => Ok(Report::ViewRefused { view, number }),
         Err(ViewRefusal::Memory) => Err(Interruption::Memory),
     }

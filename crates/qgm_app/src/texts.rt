@@ -1,21 +1,23 @@
 // From the two texts to a catalog and the plan of a query.
-ghost use Rattle.std.specs.Prelude.{◌≡◌, true, IfOk};
-ghost use Rattle.query_faults.specs.Views.{fault, view_heads};
+ghost use Rattle.std.specs.Prelude.{◌≡◌, List, [], IfOk};
+ghost use Rattle.query_faults.specs.Views.{fault};
+ghost use Rattle.row_bag.specs.declared.tables.Table.{Table};
 ghost use Rattle.sql_ast.specs.Shown as shown;
 ghost use Rattle.sql_catalog.specs.Shown as catalogs;
+ghost use Rattle.sql_check.specs.Checked.{IsFilled, answer_of, rows_of};
+ghost use Rattle.sql_meaning.specs.Meaning.{answer, known_of, rows};
 ghost use Rattle.sql_parser.specs.ReadSchema.{schema_tree};
 ghost use Rattle.sql_parser.specs.ReadText.{query_tree};
-ghost use Rattle.query_places.specs.Schema.{schema_columns};
-ghost use Rattle.query_places.specs.Shapes.{columns_among};
+ghost use Rattle.qgm_app.specs.Plans.{AreReady};
 ghost use Rattle.qgm_app.specs.Texts.{Gives, GivesPlan, catalog_of, query_of, refused_by, schema_of, spans_of, tree_of, valid_query};
 ghost use Rattle.qgm_app.specs.declared.texts.TextRefusal.TheVariants.{Memory};
 
-use crate::plan::{Plan, plan_of};
+use crate::plan::{Plan, block_of};
 use qgm_base::OutOfMemory;
-use query_faults::{QueryRefusal, ViewHeads, check_query};
-use query_places::Range;
+use query_faults::QueryRefusal;
 use sql_ast::{QueryText, Schema};
 use sql_catalog::{Catalog, SchemaRefusal, build};
+use sql_check::{Checked, Views, check};
 use sql_parser::{ParseRefusal, parse_query, parse_schema};
 use sql_text::{LexRefusal, Spanned, lex};
 use sqlite_items::Items;
@@ -120,19 +122,20 @@ fn read_query_text(alloc: Global, text: &Option<Items<u8>>) -> Result<QueryText,
     query_spelled(alloc, spans.as_slice())
 }
 
-// Nothing where a query is valid, else the number of its fault.
-fn pass(
+// A valid query, its names resolved, else the number of its fault.
+fn checked(
     alloc: Global,
     query: &QueryText,
     catalog: &Catalog,
-    views: &ViewHeads,
-) -> Result<(), TextRefusal>
-    requires views { views.now.list ≡ view_heads (catalogs.catalog catalog.now) }
+    views: &Views,
+) -> Result<Checked, TextRefusal>
+    requires ready { AreReady (catalogs.catalog catalog.now) views.now }
     ensures gives { Gives (λ _. shown.query_text query.now) result (refused_by (fault (catalogs.catalog catalog.now) (shown.query_text query.now)) (shown.query_text query.now)) }
-    ensures valid { IfOk result (λ _. fault (catalogs.catalog catalog.now) (shown.query_text query.now) ≡ 0) }
+    ensures rows { IfOk result (λ x. (tables : List Table) → IsFilled (catalogs.catalog catalog.now) tables → rows_of views.now x tables ≡ rows (known_of (catalogs.catalog catalog.now) tables) (shown.query query.now.query) []) }
+    ensures answer { IfOk result (λ x. (tables : List Table) → IsFilled (catalogs.catalog catalog.now) tables → answer_of views.now x tables ≡ answer (known_of (catalogs.catalog catalog.now) tables) (shown.query_text query.now)) }
 {
-    match check_query(alloc, query, catalog, views) {
-        Ok(_) => Ok(()),
+    match check(alloc, query, catalog, views) {
+        Ok(checked) => Ok(checked),
         Err(QueryRefusal::UnknownTable) => Err(TextRefusal::Number(6)),
         Err(QueryRefusal::DuplicateRange) => Err(TextRefusal::Number(7)),
         Err(QueryRefusal::UnknownColumn) => Err(TextRefusal::Number(8)),
@@ -151,15 +154,14 @@ fn planned(
     alloc: Global,
     query: &QueryText,
     catalog: &Catalog,
-    views: &ViewHeads,
-    known: &[Range],
+    views: &Views,
 ) -> Result<Plan, TextRefusal>
-    requires views { views.now.list ≡ view_heads (catalogs.catalog catalog.now) }
-    requires known { columns_among known.now ≡ schema_columns (catalogs.catalog catalog.now) }
-    ensures { GivesPlan (catalogs.catalog catalog.now) result (refused_by (fault (catalogs.catalog catalog.now) (shown.query_text query.now)) (shown.query_text query.now)) }
+    requires ready { AreReady (catalogs.catalog catalog.now) views.now }
+    ensures { GivesPlan (catalogs.catalog catalog.now) views.now result (refused_by (fault (catalogs.catalog catalog.now) (shown.query_text query.now)) (shown.query_text query.now)) }
 {
-    pass(alloc, query, catalog, views)?;
-    Ok(plan_of(alloc, query, catalog, known)?)
+    let checked = checked(alloc, query, catalog, views)?;
+    let block = block_of(alloc, query, catalog)?;
+    Ok(Plan { checked, block })
 }
 
 /// The plan of a query's text, whose bytes are none where they are too many.
@@ -167,14 +169,12 @@ fn planned(
 pub fn read_query(
     alloc: Global,
     catalog: &Catalog,
-    views: &ViewHeads,
-    known: &[Range],
+    views: &Views,
     text: &Option<Items<u8>>,
 ) -> Result<Plan, TextRefusal>
-    requires views { views.now.list ≡ view_heads (catalogs.catalog catalog.now) }
-    requires known { columns_among known.now ≡ schema_columns (catalogs.catalog catalog.now) }
-    ensures { GivesPlan (catalogs.catalog catalog.now) result (valid_query (catalogs.catalog catalog.now) text.now) }
+    requires ready { AreReady (catalogs.catalog catalog.now) views.now }
+    ensures { GivesPlan (catalogs.catalog catalog.now) views.now result (valid_query (catalogs.catalog catalog.now) text.now) }
 {
     let query = read_query_text(alloc, text)?;
-    planned(alloc, &query, catalog, views, known)
+    planned(alloc, &query, catalog, views)
 }

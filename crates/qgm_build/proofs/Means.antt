@@ -1,4 +1,4 @@
--- Written expressions and conditions mean what the checked ones mean in the row that the quantifier is bound to.
+-- Written expressions and conditions mean what the resolved ones mean in the row that the quantifier is bound to.
 use Rattle.std.proofs.Common.{◌≡◌, ℕ, ◌+◌, List, [], ◌∷◌, ◌++◌, true, false, refl, ap, ap₂, sym, ◌∙◌, get_or, add-one}
 use Rattle.qgm_base.specs.declared.compare.CmpOp.{CmpOp}
 use Rattle.qgm_base.specs.declared.compare.CmpOp.TheVariants.{Eq, Ne, Lt, Le, Gt, Ge}
@@ -16,8 +16,8 @@ use Rattle.sql_value.specs.declared.level.Level.TheVariants.{No, Cardinality, Di
 use Rattle.sql_value.specs.declared.truth.Truth.{Truth}
 use Rattle.sql_value.proofs.Laws.{and-associative, and-commutative, or-associative}
 use Rattle.row_bag.specs.Order.{cell_of}
-use Rattle.sql_check.specs.Agreed.{cells_of}
-use Rattle.sql_check.specs.Core as core
+use Rattle.table_block.specs.Agreed.{cells_of}
+use Rattle.table_block.specs.Core as core
 use Rattle.qgm_core.specs.Terms as terms
 use Rattle.qgm_meaning.specs.Values as m
 use Rattle.qgm_build.specs.Written as w

@@ -9,9 +9,9 @@ use Rattle.sql_ast.specs.declared.schema.TableDecl.{TableDecl}
 use Rattle.sql_catalog.specs.Catalog.{Declared, table_named}
 use Rattle.sql_meaning.specs.Meaning as named
 use Rattle.sql_value.specs.declared.cell.Cell.{Cell}
-use Rattle.sql_check.specs.CoreShown as shown
-use Rattle.sql_check.specs.Resolved.{row_at, rows_at}
-use Rattle.sql_check.specs.declared.checked.Checked.{Checked}
+use Rattle.table_block.specs.CoreShown as shown
+use Rattle.table_block.specs.Resolved.{row_at, rows_at}
+use Rattle.table_block.specs.declared.resolved.TableBlock.{TableBlock}
 use Rattle.qgm_core.specs.Boxes.{QueryGraph}
 use Rattle.qgm_meaning.specs.Boxes as m
 use Rattle.qgm_meaning.specs.Ordered.{Ordered}
@@ -21,11 +21,11 @@ use Rattle.qgm_build.specs.Written.{conjuncts, terms}
 use Rattle.qgm_build.proofs.Means.{conjuncts-mean, terms-mean}
 
 -- what a row of the base gives
-gives : (checked : Checked) (q : ℕ) (cells : List Cell) → keep (v.every (conjuncts q (shown.test checked.test)) (v.bound q cells [])).t (unit (v.head_cells (terms q (shown.value_list checked.list)) (v.bound q cells []))) ≡ row_at checked cells
-gives checked q cells =
+gives : (block : TableBlock) (q : ℕ) (cells : List Cell) → keep (v.every (conjuncts q (shown.test block.test)) (v.bound q cells [])).t (unit (v.head_cells (terms q (shown.value_list block.list)) (v.bound q cells []))) ≡ row_at block cells
+gives block q cells =
     let env = v.bound q cells [] in
     let row : v.row_of q env ≡ cells = rw (eq-eqb q q refl) refl in
-    rw (conjuncts-mean q (shown.test checked.test) env, terms-mean q (shown.value_list checked.list) env, row) refl
+    rw (conjuncts-mean q (shown.test block.test) env, terms-mean q (shown.value_list block.list) env, row) refl
 
 same-rows : (rows : Option m.Bag) → m.rows_or_none rows ≡ named.rows_or_none rows
 same-rows None = refl
@@ -35,21 +35,21 @@ table-name : (name : List ℕ) (table : Option TableDecl) → (table_by name tab
 table-name name None = refl
 table-name name (Some table) = refl
 
-rows-built : (catalog : Declared) (checked : Checked) (s b q spare : ℕ) (tables : List Table) → m.root_bag tables (graph_of catalog checked s b q spare) ≡ rows_at checked tables
-rows-built catalog checked s b q spare tables =
-    let name = table-name checked.table (table_named catalog.tables checked.table) in
-    rw (eq-eqb s s refl, eq-eqb b b refl) (ap₂ bind (ap (λ n. m.rows_or_none (bag_named tables n)) name ∙ same-rows (bag_named tables checked.table)) (λ i cells. gives checked q cells i))
+rows-built : (catalog : Declared) (block : TableBlock) (s b q spare : ℕ) (tables : List Table) → m.root_bag tables (graph_of catalog block s b q spare) ≡ rows_at block tables
+rows-built catalog block s b q spare tables =
+    let name = table-name block.table (table_named catalog.tables block.table) in
+    rw (eq-eqb s s refl, eq-eqb b b refl) (ap₂ bind (ap (λ n. m.rows_or_none (bag_named tables n)) name ∙ same-rows (bag_named tables block.table)) (λ i cells. gives block q cells i))
 
-pub built-means : (catalog : Declared) (checked : Checked) (g : QueryGraph) → IsBuilt catalog checked g → (tables : List Table) → m.root_bag tables g ≡ rows_at checked tables
-built-means catalog checked g is tables =
-    ap (m.root_bag tables) is.graph ∙ rows-built catalog checked is.root is.base is.quant is.spare tables
+pub built-means : (catalog : Declared) (block : TableBlock) (g : QueryGraph) → IsBuilt catalog block g → (tables : List Table) → m.root_bag tables g ≡ rows_at block tables
+built-means catalog block g is tables =
+    ap (m.root_bag tables) is.graph ∙ rows-built catalog block is.root is.base is.quant is.spare tables
 
-ordered-boxes : (catalog : Declared) (checked : Checked) (s b q spare : ℕ) → b ≢ s → Ordered (boxes_of catalog checked s b q spare)
-ordered-boxes catalog checked s b q spare apart =
+ordered-boxes : (catalog : Declared) (block : TableBlock) (s b q spare : ℕ) → b ≢ s → Ordered (boxes_of catalog block s b q spare)
+ordered-boxes catalog block s b q spare apart =
     let other : (b == s) ≡ false = ne_eqb b s apart in
     let own : (b == b) ≡ true = eq-eqb b b refl in
     rw (other, own) (refl, refl, (refl, refl, tt))
 
-pub built-ordered : (catalog : Declared) (checked : Checked) (g : QueryGraph) → IsBuilt catalog checked g → Ordered g.boxes
-built-ordered catalog checked g is =
-    subst (λ (h : QueryGraph). Ordered h.boxes) (sym is.graph) (ordered-boxes catalog checked is.root is.base is.quant is.spare is.apart)
+pub built-ordered : (catalog : Declared) (block : TableBlock) (g : QueryGraph) → IsBuilt catalog block g → Ordered g.boxes
+built-ordered catalog block g is =
+    subst (λ (h : QueryGraph). Ordered h.boxes) (sym is.graph) (ordered-boxes catalog block is.root is.base is.quant is.spare is.apart)

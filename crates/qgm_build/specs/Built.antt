@@ -1,4 +1,4 @@
--- The first graph of a checked query: a select over the base box of its table.
+-- The first graph of a block: a select over the base box of its table.
 use Rattle.std.specs.Prelude.{ℕ, ◌≡◌, ◌≢◌, ◌+◌, if◌then◌else◌, List, [], ◌∷◌, map, Option, Some, None}
 use Rattle.qgm_core.specs.Boxes.{QueryGraph, graph_of_one, range}
 use Rattle.qgm_core.specs.declared.graph.Node.{Node}
@@ -19,8 +19,8 @@ use Rattle.sql_catalog.specs.Descriptor.{describe}
 use Rattle.sql_catalog.specs.declared.descriptor.ColumnDescriptor.{ColumnDescriptor}
 use Rattle.sql_catalog.specs.declared.descriptor.KeyDescriptor.{KeyDescriptor}
 use Rattle.sql_catalog.specs.declared.descriptor.TableDescriptor.{TableDescriptor}
-use Rattle.sql_check.specs.CoreShown as shown
-use Rattle.sql_check.specs.declared.checked.Checked.{Checked}
+use Rattle.table_block.specs.CoreShown as shown
+use Rattle.table_block.specs.declared.resolved.TableBlock.{TableBlock}
 use Rattle.sql_value.specs.declared.order_key.SqlType.{SqlType}
 use Rattle.sql_value.specs.declared.order_key.SqlType.TheVariants.{Integer, Varchar}
 use Rattle.qgm_build.specs.Written.{terms, conjuncts}
@@ -46,7 +46,7 @@ not_null_from k (c ∷ cs) = if c.not_null then k ∷ not_null_from (k + 1) cs e
 abbrev pub described : List ℕ → TableDescriptor → BaseTable
 described name d = record { name = name; types = map (λ (c : ColumnDescriptor). type_of_declared c.data_type) d.columns; keys = map key_places d.keys; not_null = not_null_from 1 d.columns }
 
--- a table by its declaration; without one, which a checked query has not, its name alone
+-- a table by its declaration; without one, which a block has not, its name alone
 abbrev pub table_by : List ℕ → Option TableDecl → BaseTable
 table_by name None = record { name = name; types = []; keys = []; not_null = [] }
 table_by name (Some table) = described name (describe table.elements)
@@ -69,29 +69,29 @@ abbrev pub base_parts : Declared → List ℕ → BoxParts
 base_parts catalog name = plain (Base (base_table catalog name)) no_conds []
 
 -- the conjuncts and the list of a query, over each row of a quantifier, with room for so many more conditions
-abbrev pub select_parts : Checked → ℕ → ℕ → BoxParts
-select_parts checked q spare =
-    plain Select (record { items = conjuncts q (shown.test checked.test); spare = spare }) (terms q (shown.value_list checked.list))
+abbrev pub select_parts : TableBlock → ℕ → ℕ → BoxParts
+select_parts block q spare =
+    plain Select (record { items = conjuncts q (shown.test block.test); spare = spare }) (terms q (shown.value_list block.list))
 
 -- the boxes of a root s over a base b by a quantifier q
-abbrev pub boxes_of : Declared → Checked → ℕ → ℕ → ℕ → ℕ → List Node
-boxes_of catalog checked s b q spare =
-    record { id = s; parts = select_parts checked q spare; quants = range q F b ∷ [] } ∷ record { id = b; parts = base_parts catalog checked.table; quants = [] } ∷ []
+abbrev pub boxes_of : Declared → TableBlock → ℕ → ℕ → ℕ → ℕ → List Node
+boxes_of catalog block s b q spare =
+    record { id = s; parts = select_parts block q spare; quants = range q F b ∷ [] } ∷ record { id = b; parts = base_parts catalog block.table; quants = [] } ∷ []
 
-abbrev pub graph_of : Declared → Checked → ℕ → ℕ → ℕ → ℕ → QueryGraph
-graph_of catalog checked s b q spare =
-    record { boxes = boxes_of catalog checked s b q spare; root = s; names = checked.names; order = checked.order }
+abbrev pub graph_of : Declared → TableBlock → ℕ → ℕ → ℕ → ℕ → QueryGraph
+graph_of catalog block s b q spare =
+    record { boxes = boxes_of catalog block s b q spare; root = s; names = block.names; order = block.order }
 
 -- it is the first graph of the query, whatever its boxes and its quantifier are numbered, and whatever room its root has
-pub record IsBuilt (catalog : Declared) (checked : Checked) (g : QueryGraph) : Type 0 where
+pub record IsBuilt (catalog : Declared) (block : TableBlock) (g : QueryGraph) : Type 0 where
   pub root : ℕ
   pub base : ℕ
   pub quant : ℕ
   pub spare : ℕ
   pub apart : base ≢ root
-  pub graph : g ≡ graph_of catalog checked root base quant spare
+  pub graph : g ≡ graph_of catalog block root base quant spare
 
 -- it is the root of that graph alone, over a quantifier that is to come
-pub record IsRootAlone (checked : Checked) (q : ℕ) (g : QueryGraph) : Type 0 where
+pub record IsRootAlone (block : TableBlock) (q : ℕ) (g : QueryGraph) : Type 0 where
   pub spare : ℕ
-  pub graph : g ≡ graph_of_one g.root (select_parts checked q spare) checked.names checked.order
+  pub graph : g ≡ graph_of_one g.root (select_parts block q spare) block.names block.order

@@ -1,7 +1,7 @@
--- Forms of checked trees that are written out by one function each.
+-- Forms of resolved trees that are written out by one function each.
 use Rattle.std.specs.Prelude.{Bool, true, false, Option, Some, None}
 use Rattle.qgm_core.specs.Terms.{Term, is_null, not}
-use Rattle.sql_check.specs.Core as core
+use Rattle.table_block.specs.Core as core
 use Rattle.qgm_build.specs.Written.{case}
 
 -- CASE x WHEN

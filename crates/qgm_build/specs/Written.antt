@@ -1,4 +1,4 @@
--- Checked expressions and conditions as those of a box, over the rows of one quantifier. The abbreviations of the language are written out.
+-- TableBlock expressions and conditions as those of a box, over the rows of one quantifier. The abbreviations of the language are written out.
 use Rattle.std.specs.Prelude.{ℕ, ◌+◌, ◌++◌, List, [], ◌∷◌}
 use Rattle.qgm_base.specs.declared.compare.CmpOp.{CmpOp}
 use Rattle.qgm_base.specs.declared.compare.CmpOp.TheVariants.{Eq, Ne, Lt, Le, Gt, Ge}
@@ -8,9 +8,9 @@ use Rattle.sql_ast.specs.declared.word.MultiplicativeOp.{MultiplicativeOp}
 use Rattle.sql_ast.specs.declared.word.MultiplicativeOp.TheVariants.{Times, Divide}
 use Rattle.qgm_core.specs.Terms.{Op, plus, minus, times, over, joined, Sign, equal, unequal, below, at_most, above, at_least, like}
 use Rattle.qgm_core.specs.Terms.{Term, int, text, null_int, col, both, minus_of, choose, Arms, no_arm, arm, Cond, always, compare, is_null, and, or, not}
-use Rattle.sql_check.specs.Core as core
+use Rattle.table_block.specs.Core as core
 
--- a null is one of INTEGER, as a checked null has no type yet
+-- a null is one of INTEGER, as a null of a block has no type yet
 abbrev pub null_term : Term
 null_term = null_int
 
@@ -44,7 +44,7 @@ abbrev mutual
   term q (core.number n) = int n
   term q (core.text s) = text s
   term q core.null = null_term
-  -- places count from 0 in a checked query, and from 1 in a graph
+  -- places count from 0 in a block, and from 1 in a graph
   term q (core.cell_at place) = col q (place + 1)
   term q (core.sum v xs) = summed q (term q v) xs
   term q (core.product v xs) = multiplied q (term q v) xs

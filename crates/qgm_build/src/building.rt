@@ -1,11 +1,11 @@
-// The first graph of a checked query.
+// The first graph of a block over one table.
 ghost use Rattle.std.specs.Prelude.{◌≡◌, [], IfOk, List};
 ghost use Rattle.qgm_core.specs.declared.kinds.BoxKind.TheVariants.{Base, Select};
 ghost use Rattle.qgm_meaning.specs.Boxes.{root_bag};
 ghost use Rattle.qgm_meaning.specs.Ordered.{Ordered};
 ghost use Rattle.row_bag.specs.declared.tables.Table.{Table};
 ghost use Rattle.sql_catalog.specs.Shown as shown;
-ghost use Rattle.sql_check.specs.Resolved.{rows_at};
+ghost use Rattle.table_block.specs.Resolved.{rows_at};
 ghost use Rattle.qgm_build.specs.Built as spec;
 
 use crate::base::base_table;
@@ -13,11 +13,11 @@ use crate::split::{add_conjuncts, head_of};
 use qgm_base::{OutOfMemory, Text};
 use qgm_core::{BoxKind, BoxParts, Conds, Distinct, Graph, Head, QuantId, QuantKind, Role};
 use sql_catalog::Catalog;
-use sql_check::Checked;
 use sql_text::Name;
 use sql_value::OutNames;
 use sqlite_items::Items;
 use std::alloc::Global;
+use table_block::TableBlock;
 
 // The number that a graph gives its first quantifier.
 const FIRST: QuantId = 0;
@@ -44,12 +44,12 @@ fn base(alloc: Global, catalog: &Catalog, name: &Name) -> Result<BoxParts, OutOf
 }
 
 // The select of a query, over the rows of this quantifier.
-fn select(alloc: Global, checked: &Checked, q: QuantId) -> Result<BoxParts, OutOfMemory>
-    ensures { IfOk result (λ parts. parts ≡ spec.select_parts checked.now q parts.conds.spare) }
+fn select(alloc: Global, block: &TableBlock, q: QuantId) -> Result<BoxParts, OutOfMemory>
+    ensures { IfOk result (λ parts. parts ≡ spec.select_parts block.now q parts.conds.spare) }
 {
     let mut conds = Conds::new(alloc);
-    add_conjuncts(alloc, q, &checked.test, &mut conds)?;
-    let head = head_of(alloc, q, checked.list.as_slice())?;
+    add_conjuncts(alloc, q, &block.test, &mut conds)?;
+    let head = head_of(alloc, q, block.list.as_slice())?;
     Ok(plain(BoxKind::Select, conds, head))
 }
 
@@ -68,21 +68,21 @@ fn copy_names(alloc: Global, names: &[Option<Text>]) -> Result<OutNames, OutOfMe
 }
 
 // A graph of its root alone: the select of a query, over the rows of this quantifier.
-fn root_alone(alloc: Global, checked: &Checked, q: QuantId) -> Result<Graph, OutOfMemory>
-    ensures { IfOk result (λ g. spec.IsRootAlone checked.now q g) }
+fn root_alone(alloc: Global, block: &TableBlock, q: QuantId) -> Result<Graph, OutOfMemory>
+    ensures { IfOk result (λ g. spec.IsRootAlone block.now q g) }
 {
-    let root = select(alloc, checked, q)?;
-    let names = copy_names(alloc, checked.names.as_slice())?;
-    let order = Items::from_slice(alloc, checked.order.as_slice())?;
+    let root = select(alloc, block, q)?;
+    let names = copy_names(alloc, block.names.as_slice())?;
+    let order = Items::from_slice(alloc, block.order.as_slice())?;
     Graph::new(alloc, root, names, order)
 }
 
 // The graph of a query.
-fn graph_of(alloc: Global, checked: &Checked, catalog: &Catalog) -> Result<Graph, OutOfMemory>
-    ensures { IfOk result (λ g. spec.IsBuilt (shown.catalog catalog.now) checked.now g) }
+fn graph_of(alloc: Global, block: &TableBlock, catalog: &Catalog) -> Result<Graph, OutOfMemory>
+    ensures { IfOk result (λ g. spec.IsBuilt (shown.catalog catalog.now) block.now g) }
 {
-    let mut graph = root_alone(alloc, checked, FIRST)?;
-    let table = base(alloc, catalog, &checked.table)?;
+    let mut graph = root_alone(alloc, block, FIRST)?;
+    let table = base(alloc, catalog, &block.table)?;
     let below = graph.add_box(alloc, table, None)?;
     let root = graph.root();
     let quant = graph.add_quant(root, 1, QuantKind::F, below)?;
@@ -92,13 +92,13 @@ fn graph_of(alloc: Global, checked: &Checked, catalog: &Catalog) -> Result<Graph
     Ok(graph)
 }
 
-/// The first graph of a checked query: a select over the base box of its table
+/// The first graph of a block: a select over the base box of its table
 /// (Pirahesh, Hellerstein and Hasan 1992, 2.1). It has the same rows for all tables. It fails only
 /// for want of memory.
-pub fn build(alloc: Global, checked: &Checked, catalog: &Catalog) -> Result<Graph, OutOfMemory>
-    ensures built { IfOk result (λ g. spec.IsBuilt (shown.catalog catalog.now) checked.now g) }
+pub fn build(alloc: Global, block: &TableBlock, catalog: &Catalog) -> Result<Graph, OutOfMemory>
+    ensures built { IfOk result (λ g. spec.IsBuilt (shown.catalog catalog.now) block.now g) }
     ensures ordered { IfOk result (λ g. Ordered g.boxes) }
-    ensures meaning { IfOk result (λ g. (tables : List Table) → root_bag tables g ≡ rows_at checked.now tables) }
+    ensures meaning { IfOk result (λ g. (tables : List Table) → root_bag tables g ≡ rows_at block.now tables) }
 {
-    graph_of(alloc, checked, catalog)
+    graph_of(alloc, block, catalog)
 }

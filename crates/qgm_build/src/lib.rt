@@ -1,4 +1,4 @@
-//! The first graph of a checked query.
+//! The first graph of a block over one table.
 #![tactic(auto)]
 
 mod base;

@@ -2,15 +2,15 @@
 ghost use Rattle.std.specs.Prelude.{◌≡◌, ◌++◌, ◌∷◌, [], IfOk, OnOk};
 ghost use Rattle.qgm_core.specs.Shown as shown;
 ghost use Rattle.qgm_core.specs.Terms as terms;
-ghost use Rattle.sql_check.specs.CoreShown as checked;
+ghost use Rattle.table_block.specs.CoreShown as block;
 ghost use Rattle.qgm_build.specs.Written as written;
 
 use crate::forms::compare;
 use crate::written::{cond, term};
 use qgm_base::{CmpOp, OutOfMemory};
 use qgm_core::{Conds, Gc, Head, QuantId};
-use sql_check::{Test, Value};
 use std::alloc::Global;
+use table_block::{Test, Value};
 
 // Adds a conjunct.
 fn add(conds: &mut Conds, c: Gc) -> Result<(), OutOfMemory>
@@ -30,7 +30,7 @@ fn add_compared(
     b: &Value,
     conds: &mut Conds,
 ) -> Result<(), OutOfMemory>
-    ensures { OnOk result (conds.new.items ≡ conds.old.items ++ terms.compare (written.sign op) (written.term q (checked.value a.now)) (written.term q (checked.value b.now)) ∷ []) }
+    ensures { OnOk result (conds.new.items ≡ conds.old.items ++ terms.compare (written.sign op) (written.term q (block.value a.now)) (written.term q (block.value b.now)) ∷ []) }
 {
     let a = term(alloc, q, a)?;
     let b = term(alloc, q, b)?;
@@ -39,14 +39,14 @@ fn add_compared(
 
 // Adds the conjuncts of a condition.
 #[cycle(split)]
-#[tactic(auto, using(sql_check::specs::CoreShown::lists))]
+#[tactic(auto, using(table_block::specs::CoreShown::lists))]
 pub(crate) fn add_conjuncts(
     alloc: Global,
     q: QuantId,
     p: &Test,
     conds: &mut Conds,
 ) -> Result<(), OutOfMemory>
-    ensures { OnOk result (conds.new.items ≡ conds.old.items ++ written.conjuncts q (checked.test p.now)) }
+    ensures { OnOk result (conds.new.items ≡ conds.old.items ++ written.conjuncts q (block.test p.now)) }
 {
     match p {
         Test::All(tests) => add_all(alloc, q, tests.as_slice(), conds),
@@ -69,7 +69,7 @@ pub(crate) fn add_conjuncts(
 // Adds the conjuncts of each of these conditions.
 #[cycle(split)]
 fn add_all(alloc: Global, q: QuantId, tests: &[Test], conds: &mut Conds) -> Result<(), OutOfMemory>
-    ensures { OnOk result (conds.new.items ≡ conds.old.items ++ written.all_conjuncts q (checked.test_list tests.now)) }
+    ensures { OnOk result (conds.new.items ≡ conds.old.items ++ written.all_conjuncts q (block.test_list tests.now)) }
 {
     for test in tests {
         add_conjuncts(alloc, q, test, conds)?;
@@ -79,7 +79,7 @@ fn add_all(alloc: Global, q: QuantId, tests: &[Test], conds: &mut Conds) -> Resu
 
 // The expressions of a list as a head.
 pub(crate) fn head_of(alloc: Global, q: QuantId, list: &[Value]) -> Result<Head, OutOfMemory>
-    ensures { IfOk result (λ head. head ≡ written.terms q (checked.value_list list.now)) }
+    ensures { IfOk result (λ head. head ≡ written.terms q (block.value_list list.now)) }
 {
     let mut head = Head::new(alloc);
     for value in list {

@@ -4,11 +4,11 @@ use qgm_base::{CmpOp, OutOfMemory, Text};
 use qgm_core::{Gc, Gx, Head, check_graph};
 use sql_ast::{ColumnConstraint, ColumnDecl, DataType, Element, TableDecl};
 use sql_catalog::Catalog;
-use sql_check::{Checked, Test, Value};
 use sql_value::OrderKey;
 use sqlite_items::Items;
 use std::alloc::Global;
 use std::test::Fail;
+use table_block::{TableBlock, Test, Value};
 
 fn column(
     alloc: Global,
@@ -57,7 +57,7 @@ fn condition(alloc: Global) -> Result<Test, OutOfMemory> {
 }
 
 // `SELECT B, A AS C FROM T WHERE A BETWEEN 1 AND 3 AND A NOT IN (2) ORDER BY 2 DESC`.
-fn query(alloc: Global) -> Result<Checked, OutOfMemory> {
+fn query(alloc: Global) -> Result<TableBlock, OutOfMemory> {
     let mut list = Items::new(alloc);
     list.push(Value::Cell(1))?;
     list.push(Value::Cell(0))?;
@@ -69,7 +69,7 @@ fn query(alloc: Global) -> Result<Checked, OutOfMemory> {
         column: 2,
         descending: true,
     })?;
-    Ok(Checked {
+    Ok(TableBlock {
         table: Text::from_utf8(alloc, "T")?,
         test: condition(alloc)?,
         list,

@@ -1,8 +1,8 @@
-// Checked expressions and conditions as those of a box, with the abbreviations written out.
+// TableBlock expressions and conditions as those of a box, with the abbreviations written out.
 ghost use Rattle.std.specs.Prelude.{◌≡◌, true, IfOk, option_map};
 ghost use Rattle.qgm_core.specs.Shown as shown;
 ghost use Rattle.qgm_core.specs.Terms.{Term};
-ghost use Rattle.sql_check.specs.CoreShown as checked;
+ghost use Rattle.table_block.specs.CoreShown as block;
 ghost use Rattle.qgm_build.specs.Forms.{is_simple, is_among, or_rest};
 ghost use Rattle.qgm_build.specs.Written as written;
 
@@ -12,14 +12,14 @@ use crate::forms::{
 };
 use qgm_base::{CmpOp, OutOfMemory};
 use qgm_core::{Arms, Gc, Gx, QuantId};
-use sql_check::{Addend, Arm, Multiplier, Test, Value};
 use std::alloc::Global;
+use table_block::{Addend, Arm, Multiplier, Test, Value};
 
 // An expression over the rows of a quantifier.
 #[cycle(written)]
-#[tactic(auto, using(sql_check::specs::CoreShown::lists))]
+#[tactic(auto, using(table_block::specs::CoreShown::lists))]
 pub(crate) fn term(alloc: Global, q: QuantId, v: &Value) -> Result<Gx, OutOfMemory>
-    ensures { IfOk result (λ x. shown.term x ≡ written.term q (checked.value v.now)) }
+    ensures { IfOk result (λ x. shown.term x ≡ written.term q (block.value v.now)) }
 {
     match v {
         Value::Number(number) => Ok(Gx::Int(*number)),
@@ -54,7 +54,7 @@ pub(crate) fn term(alloc: Global, q: QuantId, v: &Value) -> Result<Gx, OutOfMemo
 // A chain of `+`, `-` and `||`, from the left.
 #[cycle(written)]
 fn sum(alloc: Global, q: QuantId, addends: &[Addend], first: Gx) -> Result<Gx, OutOfMemory>
-    ensures { IfOk result (λ x. shown.term x ≡ written.summed q (shown.term first) (checked.addend_list addends.now)) }
+    ensures { IfOk result (λ x. shown.term x ≡ written.summed q (shown.term first) (block.addend_list addends.now)) }
 {
     let mut total = first;
     for addend in addends {
@@ -72,7 +72,7 @@ fn product(
     multipliers: &[Multiplier],
     first: Gx,
 ) -> Result<Gx, OutOfMemory>
-    ensures { IfOk result (λ x. shown.term x ≡ written.multiplied q (shown.term first) (checked.multiplier_list multipliers.now)) }
+    ensures { IfOk result (λ x. shown.term x ≡ written.multiplied q (shown.term first) (block.multiplier_list multipliers.now)) }
 {
     let mut total = first;
     for multiplier in multipliers {
@@ -85,7 +85,7 @@ fn product(
 // The conditions of a CASE with their results, from the last on.
 #[cycle(written)]
 fn arms(alloc: Global, q: QuantId, list: &[Arm]) -> Result<Arms, OutOfMemory>
-    ensures { IfOk result (λ s. shown.arms s ≡ written.arms q (checked.arm_list list.now)) }
+    ensures { IfOk result (λ s. shown.arms s ≡ written.arms q (block.arm_list list.now)) }
 {
     let mut rest = Arms::End;
     let mut i = list.len();
@@ -100,10 +100,10 @@ fn arms(alloc: Global, q: QuantId, list: &[Arm]) -> Result<Arms, OutOfMemory>
 
 // `CASE x WHEN .. END`.
 #[cycle(written)]
-#[tactic(auto, using(sql_check::specs::CoreShown::lists))]
+#[tactic(auto, using(table_block::specs::CoreShown::lists))]
 fn simple(alloc: Global, q: QuantId, v: &Value) -> Result<Gx, OutOfMemory>
-    requires form { is_simple (checked.value v.now) ≡ true }
-    ensures { IfOk result (λ x. shown.term x ≡ written.term q (checked.value v.now)) }
+    requires form { is_simple (block.value v.now) ≡ true }
+    ensures { IfOk result (λ x. shown.term x ≡ written.term q (block.value v.now)) }
 {
     let Value::Simple(x, list, last) = v else {
         unreachable!()
@@ -124,7 +124,7 @@ fn simple(alloc: Global, q: QuantId, v: &Value) -> Result<Gx, OutOfMemory>
 // `COALESCE(v, ..)` with what the rest of it is, or v where nothing is left.
 #[cycle(written)]
 fn before(alloc: Global, q: QuantId, v: &Value, rest: Option<Gx>) -> Result<Gx, OutOfMemory>
-    ensures { IfOk result (λ x. shown.term x ≡ or_rest (written.term q (checked.value v.now)) (option_map shown.term rest)) }
+    ensures { IfOk result (λ x. shown.term x ≡ or_rest (written.term q (block.value v.now)) (option_map shown.term rest)) }
 {
     let x = term(alloc, q, v)?;
     match rest {
@@ -139,7 +139,7 @@ fn before(alloc: Global, q: QuantId, v: &Value, rest: Option<Gx>) -> Result<Gx, 
 // The COALESCE of these, from the last on; none where there are none.
 #[cycle(written)]
 fn coalesce(alloc: Global, q: QuantId, list: &[Value]) -> Result<Option<Gx>, OutOfMemory>
-    ensures { IfOk result (λ rest. (x : Term) → written.coalesced q x (checked.value_list list.now) ≡ or_rest x (option_map shown.term rest)) }
+    ensures { IfOk result (λ rest. (x : Term) → written.coalesced q x (block.value_list list.now) ≡ or_rest x (option_map shown.term rest)) }
 {
     let mut rest = None;
     let mut i = list.len();
@@ -152,9 +152,9 @@ fn coalesce(alloc: Global, q: QuantId, list: &[Value]) -> Result<Option<Gx>, Out
 
 // A condition over the rows of a quantifier.
 #[cycle(written)]
-#[tactic(auto, using(sql_check::specs::CoreShown::lists))]
+#[tactic(auto, using(table_block::specs::CoreShown::lists))]
 pub(crate) fn cond(alloc: Global, q: QuantId, p: &Test) -> Result<Gc, OutOfMemory>
-    ensures { IfOk result (λ c. shown.cond c ≡ written.cond q (checked.test p.now)) }
+    ensures { IfOk result (λ c. shown.cond c ≡ written.cond q (block.test p.now)) }
 {
     match p {
         Test::All(tests) => every(alloc, q, tests.as_slice()),
@@ -183,7 +183,7 @@ pub(crate) fn cond(alloc: Global, q: QuantId, p: &Test) -> Result<Gc, OutOfMemor
 // The AND of conditions.
 #[cycle(written)]
 fn every(alloc: Global, q: QuantId, tests: &[Test]) -> Result<Gc, OutOfMemory>
-    ensures { IfOk result (λ c. shown.cond c ≡ written.every q (checked.test_list tests.now)) }
+    ensures { IfOk result (λ c. shown.cond c ≡ written.every q (block.test_list tests.now)) }
 {
     match tests {
         [] => Ok(Gc::True),
@@ -201,7 +201,7 @@ fn every(alloc: Global, q: QuantId, tests: &[Test]) -> Result<Gc, OutOfMemory>
 // The OR of conditions.
 #[cycle(written)]
 fn some(alloc: Global, q: QuantId, tests: &[Test]) -> Result<Gc, OutOfMemory>
-    ensures { IfOk result (λ c. shown.cond c ≡ written.some q (checked.test_list tests.now)) }
+    ensures { IfOk result (λ c. shown.cond c ≡ written.some q (block.test_list tests.now)) }
 {
     match tests {
         [] => never(alloc),
@@ -218,10 +218,10 @@ fn some(alloc: Global, q: QuantId, tests: &[Test]) -> Result<Gc, OutOfMemory>
 
 // `x IN (..)`.
 #[cycle(written)]
-#[tactic(auto, using(sql_check::specs::CoreShown::lists))]
+#[tactic(auto, using(table_block::specs::CoreShown::lists))]
 fn among(alloc: Global, q: QuantId, p: &Test) -> Result<Gc, OutOfMemory>
-    requires form { is_among (checked.test p.now) ≡ true }
-    ensures { IfOk result (λ c. shown.cond c ≡ written.cond q (checked.test p.now)) }
+    requires form { is_among (block.test p.now) ≡ true }
+    ensures { IfOk result (λ c. shown.cond c ≡ written.cond q (block.test p.now)) }
 {
     let Test::Among(x, list) = p else {
         unreachable!()

@@ -2,10 +2,9 @@ use csv_tables::{load, write_rows};
 use io_edge::{Entry, MemFiles, fetch_file};
 use plain_exec::execute;
 use qgm_base::Text;
-use query_faults::{check_query, check_views};
 use row_bag::{Bag, Verdict, sorted, verdict};
 use sql_catalog::build;
-use sql_check::{is_answered, resolve};
+use sql_check::{check, check_views};
 use sql_parser::{parse_query, parse_schema};
 use sql_text::lex;
 use sql_value::{Cell, cell_order, copy};
@@ -13,6 +12,7 @@ use std::alloc::Global;
 use std::cmp::Ordering;
 use std::collections::HashMap;
 use std::test::Fail;
+use table_block::{is_table_block, resolve};
 
 // One file in memory.
 fn one_file(alloc: Global, name: &str, text: &str) -> Result<MemFiles, Fail> {
@@ -33,18 +33,16 @@ fn by_layers(alloc: Global, schema: &str, query: &str, table: &str) -> Result<Ve
     let catalog = build(alloc, schema)?;
     let tokens = lex(alloc, query.as_bytes())?;
     let query = parse_query(alloc, tokens.as_slice())?;
-    let views = check_views(alloc, &catalog)?;
-    check_query(alloc, &query, &catalog, &views)?;
-    if !is_answered(&query, &catalog) {
+    if !is_table_block(&query, &catalog) {
         return Ok(Vec::new(alloc));
     }
-    let checked = resolve(alloc, &query, &catalog)?;
+    let block = resolve(alloc, &query, &catalog)?;
     let tables = load(alloc, &catalog, "d", &mut files)?;
-    let rows = match verdict(execute(alloc, &checked, tables)?) {
-        Verdict::Rows(bag) => sorted(bag, &checked.order)?,
+    let rows = match verdict(execute(alloc, &block, tables)?) {
+        Verdict::Rows(bag) => sorted(bag, &block.order)?,
         Verdict::Error(_) => Bag::new(alloc),
     };
-    Ok(write_rows(alloc, &checked.names, &rows)?)
+    Ok(write_rows(alloc, &block.names, &rows)?)
 }
 
 #[test]

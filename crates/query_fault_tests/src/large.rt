@@ -1,6 +1,6 @@
 // Queries of 65,536 bytes and up to 1,024 columns, as long and as wide as queries may be.
-use query_faults::{check_query, check_views};
 use sql_catalog::build;
+use sql_check::{check, check_views};
 use sql_parser::{parse_query, parse_schema};
 use sql_text::lex;
 use std::alloc::Global;
@@ -50,7 +50,7 @@ fn is_valid(alloc: Global, query: &str) -> Result<bool, Fail> {
     }
     let tokens = lex(alloc, text.as_bytes())?;
     let tree = parse_query(alloc, tokens.as_slice())?;
-    Ok(text.len() == LONGEST && check_query(alloc, &tree, &catalog, &views).is_ok())
+    Ok(text.len() == LONGEST && check(alloc, &tree, &catalog, &views).is_ok())
 }
 
 #[test]

@@ -1,6 +1,7 @@
 // Queries that are refused, each by its number, and beside each a near miss that is valid.
-use query_faults::{QueryRefusal, check_query, check_views};
+use query_faults::QueryRefusal;
 use sql_catalog::{Catalog, build};
+use sql_check::{check, check_views};
 use sql_parser::{parse_query, parse_schema};
 use sql_text::lex;
 use std::alloc::Global;
@@ -22,7 +23,7 @@ fn refusal(alloc: Global, catalog: &Catalog, text: &str) -> Result<u8, Fail> {
     let views = check_views(alloc, catalog)?;
     let tokens = lex(alloc, text.as_bytes())?;
     let query = parse_query(alloc, tokens.as_slice())?;
-    Ok(match check_query(alloc, &query, catalog, &views) {
+    Ok(match check(alloc, &query, catalog, &views) {
         Ok(_) => 0,
         Err(QueryRefusal::UnknownTable) => 6,
         Err(QueryRefusal::DuplicateRange) => 7,

@@ -1,6 +1,7 @@
 // Views whose bodies are refused: the first by nesting depth, and then in declared order.
-use query_faults::{ViewRefusal, check_views};
+use query_faults::ViewRefusal;
 use sql_catalog::build;
+use sql_check::check_views;
 use sql_parser::parse_schema;
 use sql_text::lex;
 use std::alloc::Global;

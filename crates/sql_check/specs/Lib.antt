@@ -1,8 +1,1 @@
-pub mod Scope
-pub mod Taken
-pub mod Core
-pub mod CoreShown
-pub mod Agreed
-pub mod Forms
-pub mod Blocks
-pub mod Resolved
+pub mod Checked

@@ -1,97 +1,26 @@
-// A query whose names are resolved. Expressions and conditions stand without parentheses and
-// noise words; a column is its place in the row of the FROM.
-use qgm_base::CmpOp;
-use sql_ast::{AdditiveOp, MultiplicativeOp};
-use sql_text::Name;
-use sql_value::{OrderKeys, OutNames, Text};
-use sqlite_items::Items;
+// Valid queries and views, with their names resolved.
+use checked_query::Query;
+use query_faults::{Columns, ViewHeads};
+use query_places::ResolvedSchema;
+use sql_value::{OrderKeys, OutNames};
 
-/// An expression with its names resolved.
-#[cycle(checked)]
-#[derive(Drop)]
-pub enum Value {
-    Number(i64),
-    Text(Text),
-    Null,
-    /// The cell at a place, from 0, of the row of the FROM: the cells of its ranges, one after the
-    /// other.
-    Cell(usize),
-    /// A first operand, and then `+`, `-` or `||` and an operand, from the left.
-    Sum(Box<Value>, Items<Addend>),
-    /// A first operand, and then `*` or `/` and an operand, from the left.
-    Product(Box<Value>, Items<Multiplier>),
-    Negative(Box<Value>),
-    /// The result of the first condition that is true, or the last value.
-    Searched(Items<Arm>, Box<Value>),
-    /// The result of the first value that the operand equals, or the last value.
-    Simple(Box<Value>, Items<Choice>, Box<Value>),
-    /// The first of these that isn't null.
-    Coalesce(Box<Value>, Items<Value>),
-    /// Null where the two are equal, else the first.
-    NullIf(Box<Value>, Box<Value>),
-}
-
-/// An operator and its right operand.
-#[cycle(checked)]
-#[derive(Drop)]
-pub struct Addend {
-    pub op: AdditiveOp,
-    pub value: Value,
-}
-
-/// An operator and its right operand.
-#[cycle(checked)]
-#[derive(Drop)]
-pub struct Multiplier {
-    pub op: MultiplicativeOp,
-    pub value: Value,
-}
-
-/// A condition, and the result where it is the first that is true.
-#[cycle(checked)]
-#[derive(Drop)]
-pub struct Arm {
-    pub when: Test,
-    pub then: Value,
-}
-
-/// A value, and the result where it is the first that the operand equals.
-#[cycle(checked)]
-#[derive(Drop)]
-pub struct Choice {
-    pub when: Value,
-    pub then: Value,
-}
-
-/// A condition with its names resolved.
-#[cycle(checked)]
-#[derive(Drop)]
-pub enum Test {
-    /// The AND of these, true where there is none.
-    All(Items<Test>),
-    /// The OR of these, false where there is none.
-    Any(Items<Test>),
-    Not(Box<Test>),
-    Compare(Box<Value>, CmpOp, Box<Value>),
-    /// The first is at least the second and at most the third.
-    Between(Box<Value>, Box<Value>, Box<Value>),
-    /// The first equals one of the others.
-    Among(Box<Value>, Items<Value>),
-    Like(Box<Value>, Box<Value>),
-    IsNull(Box<Value>),
-}
-
-/// A query with its names resolved.
+/// A valid query with its names resolved.
 #[derive(Drop)]
 pub struct Checked {
-    /// The name of the table that it reads.
-    pub table: Name,
-    /// Which rows it keeps.
-    pub test: Test,
-    /// The output columns.
-    pub list: Items<Value>,
-    /// The names of the output columns, one for each.
+    /// The query, each column of it a scope and a place.
+    pub query: Query,
+    /// Its columns with their types, each of which is known (SQL-92, 7.9).
+    pub columns: Columns,
+    /// The names of its columns, some of which may have none.
     pub names: OutNames,
-    /// The keys that order the answer.
+    /// The keys of its ORDER BY (SQL-92, 13.1).
     pub order: OrderKeys,
+}
+
+/// The views of a catalog, all of which are valid: their columns, and their bodies with their names
+/// resolved.
+#[derive(Drop)]
+pub struct Views {
+    pub heads: ViewHeads,
+    pub schema: ResolvedSchema,
 }

@@ -1,19 +1,9 @@
-//! Which queries are answered as yet, and what their names stand for.
+//! The checks of a query: valid queries and views with their names resolved, or the least number
+//! that refuses them.
 #![tactic(auto)]
 
-mod block;
-mod chain;
 mod checked;
-mod conditions;
-mod list;
-mod order;
-mod range;
-mod resolving;
-mod scope;
-mod taken;
-mod tree;
-mod values;
+mod checking;
 
-pub use checked::{Addend, Arm, Checked, Choice, Multiplier, Test, Value};
-pub use resolving::resolve;
-pub use taken::is_answered;
+pub use checked::{Checked, Views};
+pub use checking::{check, check_views};

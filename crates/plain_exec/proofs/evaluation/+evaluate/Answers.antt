@@ -1,8 +1,8 @@
 use Rattle.std.proofs.Common.{◌∙◌, ap}
 use Rattle.std.proofs.lemmas.Result.{IfOk-weaker}
 use Rattle.sql_value.specs.declared.cell.Cell.{Cell}
-use Rattle.sql_check.specs.Core as core
-use Rattle.sql_check.specs.CoreShown as shown
+use Rattle.table_block.specs.Core as core
+use Rattle.table_block.specs.CoreShown as shown
 use Rattle.plain_exec.proofs.evaluation.+evaluate.Goals as goal
 
 pub evaluate-returns-in_ok-first-in-Sum : goal.evaluate-returns-in_ok-first-in-Sum

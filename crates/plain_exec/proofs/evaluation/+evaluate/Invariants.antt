@@ -1,8 +1,8 @@
 use Rattle.std.proofs.Common.{◌≡◌, drop}
 use Rattle.sql_value.specs.Truths.{and, or}
 use Rattle.sql_value.specs.declared.cell.Cell.{Cell}
-use Rattle.sql_check.specs.Core as core
-use Rattle.sql_check.specs.CoreShown as shown
+use Rattle.table_block.specs.Core as core
+use Rattle.table_block.specs.CoreShown as shown
 use Rattle.plain_exec.proofs.evaluation.+evaluate.Given as goal
 
 abbrev pub invariant-sum-loop-addend : goal.invariant-sum-loop-addend

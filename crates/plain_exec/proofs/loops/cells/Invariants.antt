@@ -1,6 +1,6 @@
 use Rattle.std.proofs.Common.{◌≡◌, ◌++◌, drop}
-use Rattle.sql_check.specs.Agreed.{cells_of}
-use Rattle.sql_check.specs.CoreShown as shown
+use Rattle.table_block.specs.Agreed.{cells_of}
+use Rattle.table_block.specs.CoreShown as shown
 use Rattle.plain_exec.proofs.loops.cells.Given as goal
 
 abbrev pub invariant-loop-value : goal.invariant-loop-value

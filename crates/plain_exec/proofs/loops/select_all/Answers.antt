@@ -13,7 +13,7 @@ loop-i-preserved c =
     let made = c.in_ok-rows.field-0 in
     let inside : c.loop-i.i < length c.loop-i.rows.items = grind (arith, common_steps) in
     record {
-      done = done-more (selected c.args.checked.now) xs c.args.bag c.loop-i.i c.index.result.now made inside size c.loop-i.invariant.done rest c.index.ensures c.in_ok-rows.ensures;
+      done = done-more (selected c.args.block.now) xs c.args.bag c.loop-i.i c.index.result.now made inside size c.loop-i.invariant.done rest c.index.ensures c.in_ok-rows.ensures;
       rest = rest-more xs c.args.bag c.loop-i.i c.index.result.now made inside size rest;
       size = length-set xs c.loop-i.i made ∙ size;
     }

@@ -4,7 +4,7 @@ use Rattle.plain_exec.proofs.loops.select_all.Given as goal
 
 abbrev pub invariant-loop-i : goal.invariant-loop-i
 invariant-loop-i l = record {
-  done : take l.i l.rows.items ≡ map (selected l.checked) (take l.i l.fn.bag);
+  done : take l.i l.rows.items ≡ map (selected l.block) (take l.i l.fn.bag);
   rest : drop l.i l.rows.items ≡ drop l.i l.fn.bag;
   size : length l.rows.items ≡ length l.fn.bag;
 }

@@ -6,10 +6,13 @@ use Rattle.qgm_app.proofs.stages.run_catalog.Goals as goal
 
 pub returns-in-Ok-clause-comes : goal.returns-in-Ok-clause-comes
 returns-in-Ok-clause-comes g c =
-    views-taken _ _ c.args.query.now c.args.dir.now (catalogs.catalog c.args.catalog.now) (ended c.run_views.result) c.in-Ok.ensures.valid c.run_views.ensures.comes
+    views-taken _ _ c.args.query.now c.args.dir.now (catalogs.catalog c.args.catalog.now) (ended c.run_query.result) c.in-Ok.ensures.valid c.run_query.ensures.comes
 
 pub returns-in-Err-Refused-clause-comes : goal.returns-in-Err-Refused-clause-comes
 returns-in-Err-Refused-clause-comes g c =
     rw c.in-Err-Refused.field-0-is
     (view-refused _ c.args.query.now c.args.dir.now (catalogs.catalog c.args.catalog.now) c.in-Err-Refused.view c.in-Err-Refused.number
     (c.in-Err-Refused.ensures.refused c.in-Err-Refused.view c.in-Err-Refused.number c.in-Err-Refused.field-0-is))
+
+pub run_query-requires : goal.run_query-requires
+run_query-requires g c = record { ready = record { valid = c.requires.valid; of_catalog = c.in-Ok.ensures.views } }
