@@ -2,12 +2,9 @@
 ghost use Rattle.std.specs.Prelude.{◌≡◌, IfOk};
 ghost use Rattle.row_bag.specs.Bags.{Agree};
 ghost use Rattle.row_bag.specs.Sets.{same_cells};
-ghost use Rattle.row_bag.specs.declared.tables.Table.{Table};
 ghost use Rattle.sql_ast.specs.Shown as written;
 ghost use Rattle.sql_catalog.specs.Shown as catalogs;
 ghost use Rattle.sql_check.specs.Checked.{rows_of};
-ghost use Rattle.sql_meaning.specs.Meaning.{known_of};
-ghost use Rattle.sql_meaning.specs.Meaning as named;
 ghost use Rattle.table_block.specs.Resolved.{rows_at};
 ghost use Rattle.qgm_app.specs.Plans.{BlockGives, plan_rows};
 

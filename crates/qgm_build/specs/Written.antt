@@ -1,4 +1,4 @@
--- TableBlock expressions and conditions as those of a box, over the rows of one quantifier. The abbreviations of the language are written out.
+-- Resolved expressions and conditions as those of a box, over the rows of one quantifier. The abbreviations of the language are written out.
 use Rattle.std.specs.Prelude.{ℕ, ◌+◌, ◌++◌, List, [], ◌∷◌}
 use Rattle.qgm_base.specs.declared.compare.CmpOp.{CmpOp}
 use Rattle.qgm_base.specs.declared.compare.CmpOp.TheVariants.{Eq, Ne, Lt, Le, Gt, Ge}

@@ -1,7 +1,7 @@
 use crate::base::base_table;
 use crate::build;
-use qgm_base::{CmpOp, OutOfMemory, Text};
-use qgm_core::{Gc, Gx, Head, check_graph};
+use qgm_base::{OutOfMemory, Text};
+use qgm_core::check_graph;
 use sql_ast::{ColumnConstraint, ColumnDecl, DataType, Element, TableDecl};
 use sql_catalog::Catalog;
 use sql_value::OrderKey;

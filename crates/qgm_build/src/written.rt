@@ -1,4 +1,4 @@
-// TableBlock expressions and conditions as those of a box, with the abbreviations written out.
+// Resolved expressions and conditions as those of a box, with the abbreviations written out.
 ghost use Rattle.std.specs.Prelude.{◌≡◌, true, IfOk, option_map};
 ghost use Rattle.qgm_core.specs.Shown as shown;
 ghost use Rattle.qgm_core.specs.Terms.{Term};

@@ -24,8 +24,8 @@ fn one_file(alloc: Global, name: &str, text: &str) -> Result<MemFiles, Fail> {
     Ok(MemFiles::new(alloc, entries, Vec::new(alloc)))
 }
 
-// The text of the rows of a query over one table, by each layer's public call in turn; none where the
-// query isn't answered.
+// The text of the rows of a query over one table, by the public call of each layer in turn; none where
+// no graph is built of it.
 fn by_layers(alloc: Global, schema: &str, query: &str, table: &str) -> Result<Vec<u8>, Fail> {
     let mut files = one_file(alloc, "d/T.csv", table)?;
     let tokens = lex(alloc, schema.as_bytes())?;
@@ -33,16 +33,18 @@ fn by_layers(alloc: Global, schema: &str, query: &str, table: &str) -> Result<Ve
     let catalog = build(alloc, schema)?;
     let tokens = lex(alloc, query.as_bytes())?;
     let query = parse_query(alloc, tokens.as_slice())?;
+    let views = check_views(alloc, &catalog)?;
+    let checked = check(alloc, &query, &catalog, &views)?;
     if !is_table_block(&query, &catalog) {
         return Ok(Vec::new(alloc));
     }
     let block = resolve(alloc, &query, &catalog)?;
     let tables = load(alloc, &catalog, "d", &mut files)?;
     let rows = match verdict(execute(alloc, &block, tables)?) {
-        Verdict::Rows(bag) => sorted(bag, &block.order)?,
+        Verdict::Rows(bag) => sorted(bag, &checked.order)?,
         Verdict::Error(_) => Bag::new(alloc),
     };
-    Ok(write_rows(alloc, &block.names, &rows)?)
+    Ok(write_rows(alloc, &checked.names, &rows)?)
 }
 
 #[test]

@@ -1,5 +1,5 @@
 //! Tests that cross crates: the worked rows over files and a sink in memory, the values of
-//! expressions, and each layer's public call once with ample memory.
+//! expressions, and public calls of the layers with ample memory.
 #![tactic(auto)]
 
 #[cfg(test)]

@@ -20,10 +20,10 @@ CREATE VIEW V AS SELECT DISTINCT DNO FROM EMP;
 ";
 
 // A file in memory.
-fn entry(alloc: Global, name: &str, text: &str) -> Result<Entry, Fail> {
+fn entry(alloc: Global, name: &str, bytes: &[u8]) -> Result<Entry, Fail> {
     Ok(Entry {
         name: String::from_str(alloc, name)?,
-        bytes: text.as_bytes().to_vec(alloc)?,
+        bytes: bytes.to_vec(alloc)?,
     })
 }
 
@@ -43,26 +43,26 @@ fn tables(alloc: Global) -> Result<Vec<Entry>, Fail> {
         ("d/NONE.csv", "A\n"),
         ("d/BIG.csv", "X\n9223372036854775807\n1\n-1\n"),
     ] {
-        entries.push(entry(alloc, name, text)?)?;
+        entries.push(entry(alloc, name, text.as_bytes())?)?;
     }
     Ok(entries)
 }
 
-// What a query over the tables prints, with its status, these views being added to the schema.
-fn run<L: Ledger>(
-    alloc: Global,
-    blank: Blank,
-    views: &str,
-    query: &str,
-) -> Result<(u8, String), Fail>
+/// What a run came to.
+#[derive(Drop)]
+pub struct Ran {
+    pub status: u8,
+    pub written: Vec<u8>,
+}
+
+/// A run of a query over the tables, under this schema.
+pub fn run<L: Ledger>(alloc: Global, blank: Blank, schema: &[u8], query: &[u8]) -> Result<Ran, Fail>
     requires name { blank.name ≡ L.name }
     requires parts { blank.parts ≡ L.parts }
     requires some { 0 < blank.parts }
 {
-    let mut schema = String::from_str(alloc, SCHEMA)?;
-    schema.push_str(views)?;
     let mut entries = tables(alloc)?;
-    entries.push(entry(alloc, "s", schema.as_str())?)?;
+    entries.push(entry(alloc, "s", schema)?)?;
     entries.push(entry(alloc, "q", query)?)?;
     let mut files = MemFiles::new(alloc, entries, Vec::new(alloc));
     let mut out = MemSink::new(alloc, 10_000)?;
@@ -72,12 +72,17 @@ fn run<L: Ledger>(
     }
     let mut steps = Steps::<L>::new(blank);
     let status = run_command(alloc, &words, &mut files, &mut out, &mut steps);
-    let text = std::str::from_utf8(out.bytes.as_slice())?;
-    Ok((status, String::from_str(alloc, text)?))
+    Ok(Ran {
+        status,
+        written: out.bytes.to_vec(alloc)?,
+    })
 }
 
 /// What a query over the tables prints, with its status, these views being added to the schema.
 pub fn over(alloc: Global, views: &str, query: &str) -> Result<(u8, String), Fail> {
-    let (status, text) = run::<Brand>(alloc, Blank::new(1), views, query)?;
-    Ok((status, text))
+    let mut schema = String::from_str(alloc, SCHEMA)?;
+    schema.push_str(views)?;
+    let ran = run::<Brand>(alloc, Blank::new(1), schema.as_bytes(), query.as_bytes())?;
+    let text = std::str::from_utf8(ran.written.as_slice())?;
+    Ok((ran.status, String::from_str(alloc, text)?))
 }

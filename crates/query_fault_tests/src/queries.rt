@@ -1,42 +1,7 @@
 // Queries that are refused, each by its number, and beside each a near miss that is valid.
-use query_faults::QueryRefusal;
-use sql_catalog::{Catalog, build};
-use sql_check::{check, check_views};
-use sql_parser::{parse_query, parse_schema};
-use sql_text::lex;
+use crate::refusing::{catalog, refusal};
 use std::alloc::Global;
 use std::test::Fail;
-
-const SCHEMA: &str = "CREATE TABLE T (A INTEGER, B INTEGER, C VARCHAR(9));
-CREATE TABLE U (D INTEGER, E VARCHAR(9), A INTEGER);
-CREATE VIEW V (X, Y) AS SELECT A, C FROM T;
-CREATE VIEW W AS SELECT X, COUNT(*) AS N FROM V GROUP BY X;";
-
-fn catalog(alloc: Global) -> Result<Catalog, Fail> {
-    let tokens = lex(alloc, SCHEMA.as_bytes())?;
-    let schema = parse_schema(alloc, tokens.as_slice())?;
-    Ok(build(alloc, schema)?)
-}
-
-// The number that refuses a query, or 0.
-fn refusal(alloc: Global, catalog: &Catalog, text: &str) -> Result<u8, Fail> {
-    let views = check_views(alloc, catalog)?;
-    let tokens = lex(alloc, text.as_bytes())?;
-    let query = parse_query(alloc, tokens.as_slice())?;
-    Ok(match check(alloc, &query, catalog, &views) {
-        Ok(_) => 0,
-        Err(QueryRefusal::UnknownTable) => 6,
-        Err(QueryRefusal::DuplicateRange) => 7,
-        Err(QueryRefusal::UnknownColumn) => 8,
-        Err(QueryRefusal::Ambiguous) => 9,
-        Err(QueryRefusal::TypeMismatch) => 10,
-        Err(QueryRefusal::Degree) => 11,
-        Err(QueryRefusal::Grouping) => 12,
-        Err(QueryRefusal::AggregatePlace) => 13,
-        Err(QueryRefusal::OrderColumn) => 14,
-        Err(QueryRefusal::Memory) => 255,
-    })
-}
 
 #[test]
 fn unknown_tables(rt: HostRuntime) -> Result<(), Fail> {
@@ -434,6 +399,17 @@ fn of_two_faults_the_lesser_answers(rt: HostRuntime) -> Result<(), Fail> {
         ("SELECT B, SUM(COUNT(*)) FROM T GROUP BY A", 12),
         ("SELECT A FROM T WHERE COUNT(*) > 1 ORDER BY B", 13),
         ("SELECT A, C FROM T UNION SELECT C FROM T", 10),
+        // The greater one stands first.
+        ("SELECT A, FOO FROM T, U", 8),
+        ("SELECT C + 1 FROM T WHERE FOO = 1", 8),
+        (
+            "SELECT B FROM T GROUP BY A HAVING EXISTS (SELECT FOO FROM U)",
+            8,
+        ),
+        ("SELECT FOO FROM T ORDER BY 9", 8),
+        ("SELECT SUM((SELECT D, A FROM U)) FROM T", 11),
+        ("SELECT SUM(COUNT(*)), B FROM T GROUP BY A", 12),
+        ("SELECT A, B FROM T GROUP BY A ORDER BY FOO", 12),
     ] {
         assert_eq!(rt; refusal(rt.alloc(), &catalog, text)?, number, "at {text}");
     }

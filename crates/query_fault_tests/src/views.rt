@@ -62,6 +62,38 @@ fn the_first_view_by_depth_is_refused(rt: HostRuntime) -> Result<(), Fail> {
             "",
             0,
         ),
+        // Of one depth the first that is declared, whatever its number.
+        (
+            "CREATE TABLE T (A INT); CREATE VIEW P AS SELECT A + 'x' FROM T; CREATE VIEW Q AS SELECT FOO FROM T;",
+            "P",
+            10,
+        ),
+        // A view that is read in a nested query alone.
+        (
+            "CREATE TABLE T (A INT); CREATE VIEW X AS SELECT A + 'x' FROM T WHERE EXISTS (SELECT 1 FROM V); CREATE VIEW V AS SELECT FOO FROM T;",
+            "V",
+            8,
+        ),
+        (
+            "CREATE TABLE T (A INT); CREATE VIEW W AS SELECT 1 FROM T, T;",
+            "W",
+            7,
+        ),
+        (
+            "CREATE TABLE T (A INT); CREATE VIEW W AS SELECT A FROM T X, T Y;",
+            "W",
+            9,
+        ),
+        (
+            "CREATE TABLE T (A INT); CREATE VIEW W AS SELECT A, COUNT(*) FROM T;",
+            "W",
+            12,
+        ),
+        (
+            "CREATE TABLE T (A INT); CREATE VIEW W AS SELECT A FROM T WHERE COUNT(*) = 1;",
+            "W",
+            13,
+        ),
         (
             "CREATE TABLE T (A INT); CREATE VIEW X (B) AS SELECT A FROM V; CREATE VIEW V AS SELECT A FROM T; CREATE VIEW Y AS SELECT A FROM X;",
             "Y",

@@ -9,7 +9,7 @@ use sql_value::{OrderKeys, OutNames};
 pub struct Checked {
     /// The query, each column of it a scope and a place.
     pub query: Query,
-    /// Its columns with their types, each of which is known (SQL-92, 7.9).
+    /// Its columns with their types (SQL-92, 7.9).
     pub columns: Columns,
     /// The names of its columns, some of which may have none.
     pub names: OutNames,

@@ -26,7 +26,7 @@ use sql_catalog::Catalog;
 use std::alloc::Global;
 
 /// The views of a catalog, their names resolved. Else it is the first view, by nesting depth and then
-/// in declared order, whose body isn't valid, with the least number that holds of it, from 6 to 13.
+/// in declared order, whose body isn't valid, with the least number that holds of it.
 /// `Memory` may come in place of any of these.
 pub fn check_views(alloc: Global, catalog: &Catalog) -> Result<Views, ViewRefusal>
     ensures views { IfOk result (λ views. AreViews (declared.catalog catalog.now) views) }

@@ -8,7 +8,7 @@ use Rattle.sql_ast.specs.declared.word.SetQuantifier.TheVariants as each
 use Rattle.sql_ast.specs.Syntax as s
 use Rattle.sql_meaning.specs.Grouping.{in_arms, in_choices, in_cond, in_else, in_expr, in_exprs, in_items, in_list, in_res, is_grouped}
 use Rattle.sql_meaning.specs.Meaning.{column_list, is_distinct}
-use Rattle.table_block.specs.Taken.{is_absent, is_empty, takes_alias, takes_arms, takes_choices, takes_cond, takes_else, takes_expr, takes_exprs, takes_items, takes_list, takes_quantifier, takes_query, takes_res}
+use Rattle.table_block.specs.Taken.{are_leaves, is_absent, is_empty, is_leaf, takes_alias, takes_arms, takes_choices, takes_cond, takes_else, takes_expr, takes_exprs, takes_items, takes_list, takes_quantifier, takes_query, takes_res}
 
 -- two parts that are taken have no aggregate
 none-of : (p q a b : Bool) → (p ≡ true → a ≡ false) → (q ≡ true → b ≡ false) → (p && q) ≡ true → (a || b) ≡ false
@@ -31,9 +31,14 @@ mutual
   in-expr (s.searched xs o) h = none-of (takes_arms xs) (takes_else o) (in_arms xs) (in_else o) (in-arms xs) (in-else o) h
   in-expr (s.simple x xs o) h =
       none-of (takes_expr x) (takes_choices xs && takes_else o) (in_expr x) (in_choices xs || in_else o) (in-expr x)
-      (none-of (takes_choices xs) (takes_else o) (in_choices xs) (in_else o) (in-choices xs) (in-else o)) h
-  in-expr (s.coalesce x xs) h = none-of (takes_expr x) (takes_exprs xs) (in_expr x) (in_exprs xs) (in-expr x) (in-exprs xs) h
-  in-expr (s.null_if x y) h = none-of (takes_expr x) (takes_expr y) (in_expr x) (in_expr y) (in-expr x) (in-expr y) h
+      (none-of (takes_choices xs) (takes_else o) (in_choices xs) (in_else o) (in-choices xs) (in-else o))
+      (and_parts (is_leaf x) (takes_expr x && (takes_choices xs && takes_else o)) h).1
+  in-expr (s.coalesce x xs) h =
+      none-of (takes_expr x) (takes_exprs xs) (in_expr x) (in_exprs xs) (in-expr x) (in-exprs xs)
+      (and_parts (is_leaf x && are_leaves xs) (takes_expr x && takes_exprs xs) h).1
+  in-expr (s.null_if x y) h =
+      none-of (takes_expr x) (takes_expr y) (in_expr x) (in_expr y) (in-expr x) (in-expr y)
+      (and_parts (is_leaf x) (takes_expr x && takes_expr y) h).1
   in-expr (s.cast_null d) h = refl
 
   in-exprs : (xs : s.Exprs) → takes_exprs xs ≡ true → in_exprs xs ≡ false
@@ -69,9 +74,12 @@ mutual
   in-cond (s.quantified x op q query) h = absurd (cc h)
   in-cond (s.between x negative y z) h =
       none-of (takes_expr x) (takes_expr y && takes_expr z) (in_expr x) (in_expr y || in_expr z) (in-expr x)
-      (none-of (takes_expr y) (takes_expr z) (in_expr y) (in_expr z) (in-expr y) (in-expr z)) h
+      (none-of (takes_expr y) (takes_expr z) (in_expr y) (in_expr z) (in-expr y) (in-expr z))
+      (and_parts (is_leaf x) (takes_expr x && (takes_expr y && takes_expr z)) h).1
   in-cond (s.in_query x negative q) h = absurd (cc h)
-  in-cond (s.in_list x negative xs) h = none-of (takes_expr x) (takes_exprs xs) (in_expr x) (in_exprs xs) (in-expr x) (in-exprs xs) h
+  in-cond (s.in_list x negative xs) h =
+      none-of (takes_expr x) (takes_exprs xs) (in_expr x) (in_exprs xs) (in-expr x) (in-exprs xs)
+      (and_parts (is_leaf x) (takes_expr x && takes_exprs xs) h).1
   in-cond (s.like x negative y) h = none-of (takes_expr x) (takes_expr y) (in_expr x) (in_expr y) (in-expr x) (in-expr y) h
   in-cond (s.is_null x negative) h = in-expr x h
   in-cond (s.exists q) h = refl

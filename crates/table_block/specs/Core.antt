@@ -1,4 +1,4 @@
--- TableBlock expressions and conditions without where they lie in memory, and what they mean for the row of a FROM.
+-- Resolved expressions and conditions without where they lie in memory, and what they mean for the row of a FROM.
 use Rattle.std.specs.Prelude.{ℕ, ℤ, true, false, List, get_or}
 use Rattle.qgm_base.specs.declared.compare.CmpOp.{CmpOp}
 use Rattle.qgm_base.specs.declared.compare.CmpOp.TheVariants.{Eq, Ge, Le}

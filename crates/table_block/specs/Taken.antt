@@ -1,4 +1,4 @@
--- Which queries are of which a graph is built: one block over one declared table, without subqueries, aggregates, DISTINCT, GROUP BY, HAVING and column lists.
+-- Of which queries a graph is built: one block over one declared table, without subqueries, aggregates, DISTINCT, GROUP BY, HAVING and column lists. What a graph writes more than once is a column or a literal, so that a graph is no longer than its text.
 use Rattle.std.specs.Prelude.{Bool, true, false, ◌&&◌, is_some, List, [], ◌∷◌, Option, Some, None}
 use Rattle.sql_ast.specs.declared.name.Correlation.{Correlation}
 use Rattle.sql_ast.specs.declared.word.SetQuantifier.{SetQuantifier}
@@ -6,8 +6,30 @@ use Rattle.sql_ast.specs.declared.word.SetQuantifier.TheVariants as each
 use Rattle.sql_ast.specs.Syntax as s
 use Rattle.sql_catalog.specs.Catalog.{Declared, table_named}
 
+-- a column or a literal
+abbrev pub is_leaf : s.Expr → Bool
+is_leaf (s.add x op y) = false
+is_leaf (s.multiply x op y) = false
+is_leaf (s.signed p x) = false
+is_leaf (s.number n) = true
+is_leaf (s.string x) = true
+is_leaf (s.col c) = true
+is_leaf (s.paren x) = false
+is_leaf (s.scalar q) = false
+is_leaf s.count_all = false
+is_leaf (s.aggregate f q x) = false
+is_leaf (s.searched xs o) = false
+is_leaf (s.simple x xs o) = false
+is_leaf (s.coalesce x xs) = false
+is_leaf (s.null_if x y) = false
+is_leaf (s.cast_null d) = true
+
+abbrev pub are_leaves : s.Exprs → Bool
+are_leaves s.no_expr = true
+are_leaves (s.one_expr x xs) = is_leaf x && are_leaves xs
+
 abbrev mutual
-  -- neither a subquery nor an aggregate in it
+  -- neither a subquery nor an aggregate in it, and each operand that a graph writes more than once a column or a literal
   pub takes_expr : s.Expr → Bool
   takes_expr (s.add x op y) = takes_expr x && takes_expr y
   takes_expr (s.multiply x op y) = takes_expr x && takes_expr y
@@ -20,9 +42,9 @@ abbrev mutual
   takes_expr s.count_all = false
   takes_expr (s.aggregate f q x) = false
   takes_expr (s.searched xs o) = takes_arms xs && takes_else o
-  takes_expr (s.simple x xs o) = takes_expr x && (takes_choices xs && takes_else o)
-  takes_expr (s.coalesce x xs) = takes_expr x && takes_exprs xs
-  takes_expr (s.null_if x y) = takes_expr x && takes_expr y
+  takes_expr (s.simple x xs o) = is_leaf x && (takes_expr x && (takes_choices xs && takes_else o))
+  takes_expr (s.coalesce x xs) = (is_leaf x && are_leaves xs) && (takes_expr x && takes_exprs xs)
+  takes_expr (s.null_if x y) = is_leaf x && (takes_expr x && takes_expr y)
   takes_expr (s.cast_null d) = true
 
   pub takes_exprs : s.Exprs → Bool
@@ -52,9 +74,9 @@ abbrev mutual
   takes_cond (s.bracket p) = takes_cond p
   takes_cond (s.compare x op y) = takes_expr x && takes_expr y
   takes_cond (s.quantified x op q query) = false
-  takes_cond (s.between x negative y z) = takes_expr x && (takes_expr y && takes_expr z)
+  takes_cond (s.between x negative y z) = is_leaf x && (takes_expr x && (takes_expr y && takes_expr z))
   takes_cond (s.in_query x negative q) = false
-  takes_cond (s.in_list x negative xs) = takes_expr x && takes_exprs xs
+  takes_cond (s.in_list x negative xs) = is_leaf x && (takes_expr x && takes_exprs xs)
   takes_cond (s.like x negative y) = takes_expr x && takes_expr y
   takes_cond (s.is_null x negative) = takes_expr x
   takes_cond (s.exists q) = false

@@ -1,29 +1,14 @@
 // The range of a table of a FROM.
 ghost use Rattle.std.specs.Prelude.{◌≡◌, IfOk};
-ghost use Rattle.sql_catalog.specs.Keys as keys;
 ghost use Rattle.sql_meaning.specs.Meaning.{range_name};
 ghost use Rattle.table_block.specs.Blocks.{only_range};
 
 use crate::scope::TableRange;
 use qgm_base::OutOfMemory;
-use sql_ast::{Correlation, Element, TableDecl};
+use sql_ast::{Correlation, TableDecl};
+use sql_catalog::column_names;
 use sql_text::Name;
-use sqlite_items::Items;
 use std::alloc::Global;
-
-// The names of the columns that a table declares.
-fn column_names(alloc: Global, elements: &[Element]) -> Result<Items<Name>, OutOfMemory>
-    ensures { IfOk result (λ names. names ≡ keys.names_of (keys.columns_of elements.now)) }
-{
-    let mut names = Items::new(alloc);
-    for element in elements {
-        match element {
-            Element::Column(column) => names.push(column.name.copy(alloc)?)?,
-            Element::PrimaryKey(_) | Element::Unique(_) => {}
-        }
-    }
-    Ok(names)
-}
 
 // The range name of a table: its alias, else the table's name.
 fn range_name<'a>(name: &'a Name, alias: &'a Option<Correlation>) -> &'a Name

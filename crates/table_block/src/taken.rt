@@ -1,4 +1,4 @@
-// Which queries are of which a graph is built.
+// Of which queries a graph is built.
 ghost use Rattle.std.specs.Prelude.{◌≡◌};
 ghost use Rattle.sql_ast.specs.Shown as written;
 ghost use Rattle.sql_catalog.specs.Shown as declared;
@@ -12,7 +12,41 @@ use sql_ast::{
 };
 use sql_catalog::Catalog;
 
-// Whether neither a subquery nor an aggregate is in an expression.
+// Whether an expression is a column or a literal.
+fn is_leaf(x: &Expr) -> bool
+    ensures { result ≡ spec.is_leaf (written.expr x.now) }
+{
+    match x {
+        Expr::Number(_) | Expr::Str(_) | Expr::Column(_) | Expr::CastNull(_) => true,
+        Expr::Add(_, _, _)
+        | Expr::Multiply(_, _, _)
+        | Expr::Signed(_, _)
+        | Expr::Paren(_)
+        | Expr::Scalar(_)
+        | Expr::CountAll
+        | Expr::Aggregate(_, _, _)
+        | Expr::Searched(_, _)
+        | Expr::Simple(_, _, _)
+        | Expr::Coalesce(_, _)
+        | Expr::NullIf(_, _) => false,
+    }
+}
+
+// The same of a list.
+#[tactic(auto, using(sql_ast::specs::Shown::lists))]
+fn are_leaves(list: &[Expr]) -> bool
+    ensures { result ≡ spec.are_leaves (written.expr_list list.now) }
+{
+    for x in list {
+        if !is_leaf(x) {
+            return false;
+        }
+    }
+    true
+}
+
+// Whether neither a subquery nor an aggregate is in an expression, and each operand that a graph
+// writes more than once is a column or a literal.
 #[cycle(taken)]
 #[tactic(auto, using(sql_ast::specs::Shown::lists))]
 fn takes_expr(x: &Expr) -> bool
@@ -27,10 +61,13 @@ fn takes_expr(x: &Expr) -> bool
         Expr::Scalar(_) | Expr::CountAll | Expr::Aggregate(_, _, _) => false,
         Expr::Searched(list, last) => takes_arms(list.as_slice()) && takes_else(last),
         Expr::Simple(a, list, last) => {
-            takes_expr(a) && (takes_choices(list.as_slice()) && takes_else(last))
+            is_leaf(a) && (takes_expr(a) && (takes_choices(list.as_slice()) && takes_else(last)))
         }
-        Expr::Coalesce(a, list) => takes_expr(a) && takes_exprs(list.as_slice()),
-        Expr::NullIf(a, b) => takes_expr(a) && takes_expr(b),
+        Expr::Coalesce(a, list) => {
+            (is_leaf(a) && are_leaves(list.as_slice()))
+                && (takes_expr(a) && takes_exprs(list.as_slice()))
+        }
+        Expr::NullIf(a, b) => is_leaf(a) && (takes_expr(a) && takes_expr(b)),
     }
 }
 
@@ -112,8 +149,9 @@ fn takes_cond(p: &Cond) -> bool
         Cond::Not(a) => takes_cond(a),
         Cond::Bracket(a) => takes_cond(a),
         Cond::Compare(a, _, b) => takes_expr(a) && takes_expr(b),
-        Cond::Between(a, _, b, c) => takes_expr(a) && takes_expr(b) && takes_expr(c),
-        Cond::InList(a, _, list) => takes_expr(a) && takes_exprs(list.as_slice()),
+        Cond::Between(a, _, b, c) => is_leaf(a)
+            && (takes_expr(a) && (takes_expr(b) && takes_expr(c))),
+        Cond::InList(a, _, list) => is_leaf(a) && (takes_expr(a) && takes_exprs(list.as_slice())),
         Cond::Like(a, _, b) => takes_expr(a) && takes_expr(b),
         Cond::IsNull(a, _) => takes_expr(a),
         Cond::Quantified(_, _, _, _) | Cond::InQuery(_, _, _) | Cond::Exists(_) => false,
@@ -215,7 +253,7 @@ fn reads_table(from: &[TableRef], catalog: &Catalog) -> bool
     }
 }
 
-/// Whether a query is of which a graph is built: it is one block over one declared table, without subqueries,
+/// Whether a graph is built of a query: it is one block over one declared table, without subqueries,
 /// aggregates, DISTINCT, GROUP BY, HAVING and column lists.
 pub fn is_table_block(text: &QueryText, catalog: &Catalog) -> bool
     ensures { result ≡ spec.is_table_block (declared.catalog catalog.now) (written.query_text text.now) }

@@ -14,3 +14,6 @@ takes_expr-returns-else-takes_choices t c = rw (c.in-Simple.is, written.choices_
 
 pub takes_expr-returns-then-takes_expr-4 : goal.takes_expr-returns-then-takes_expr-4
 takes_expr-returns-then-takes_expr-4 t c = rw (c.in-Coalesce.is, written.exprs_hidden c.in-Coalesce.list) (grind (arith, common_steps))
+
+pub takes_expr-returns-else-are_leaves : goal.takes_expr-returns-else-are_leaves
+takes_expr-returns-else-are_leaves t c = rw (c.in-Coalesce.is, written.exprs_hidden c.in-Coalesce.list) (grind (arith, common_steps))

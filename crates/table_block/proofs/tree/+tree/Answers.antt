@@ -17,7 +17,8 @@ use Rattle.table_block.proofs.tree.+tree.Goals as goal
 pub conjunct-exprs-requires : goal.conjunct-exprs-requires
 conjunct-exprs-requires t c =
     let h = rw (c.in-InList.is, written.exprs_hidden c.in-InList.list, ← c.as_slice.ensures) at c.requires.taken in
-    (search (rules, the_lemmas), (and_parts (taken.takes_expr (written.expr c.in-InList.a.value)) (taken.takes_exprs (written.expr_list c.as_slice.result.now)) h).1)
+    let rest = (and_parts (taken.is_leaf (written.expr c.in-InList.a.value)) (taken.takes_expr (written.expr c.in-InList.a.value) && taken.takes_exprs (written.expr_list c.as_slice.result.now)) h).1 in
+    (search (rules, the_lemmas), (and_parts (taken.takes_expr (written.expr c.in-InList.a.value)) (taken.takes_exprs (written.expr_list c.as_slice.result.now)) rest).1)
 
 pub operand-arms-requires : goal.operand-arms-requires
 operand-arms-requires t c =
@@ -27,14 +28,18 @@ operand-arms-requires t c =
 pub operand-choices-requires : goal.operand-choices-requires
 operand-choices-requires t c =
     let h = rw (c.in-Simple.is, written.choices_hidden c.in-Simple.list, ← c.as_slice-in-Simple.ensures) at c.requires.taken in
+    let whole = (and_parts (taken.is_leaf (written.expr c.in-Simple.a.value))
+    (taken.takes_expr (written.expr c.in-Simple.a.value) && (taken.takes_choices (written.choice_list c.as_slice-in-Simple.result.now) && taken.takes_else (written.otherwise c.in-Simple.last))) h).1 in
     let rest = (and_parts (taken.takes_expr (written.expr c.in-Simple.a.value))
-    (taken.takes_choices (written.choice_list c.as_slice-in-Simple.result.now) && taken.takes_else (written.otherwise c.in-Simple.last)) h).1 in
+    (taken.takes_choices (written.choice_list c.as_slice-in-Simple.result.now) && taken.takes_else (written.otherwise c.in-Simple.last)) whole).1 in
     (search (rules, the_lemmas), (and_parts (taken.takes_choices (written.choice_list c.as_slice-in-Simple.result.now)) (taken.takes_else (written.otherwise c.in-Simple.last)) rest).0)
 
 pub operand-exprs-requires : goal.operand-exprs-requires
 operand-exprs-requires t c =
     let h = rw (c.in-Coalesce.is, written.exprs_hidden c.in-Coalesce.list, ← c.as_slice-in-Coalesce.ensures) at c.requires.taken in
-    (search (rules, the_lemmas), (and_parts (taken.takes_expr (written.expr c.in-Coalesce.a.value)) (taken.takes_exprs (written.expr_list c.as_slice-in-Coalesce.result.now)) h).1)
+    let rest = (and_parts (taken.is_leaf (written.expr c.in-Coalesce.a.value) && taken.are_leaves (written.expr_list c.as_slice-in-Coalesce.result.now))
+    (taken.takes_expr (written.expr c.in-Coalesce.a.value) && taken.takes_exprs (written.expr_list c.as_slice-in-Coalesce.result.now)) h).1 in
+    (search (rules, the_lemmas), (and_parts (taken.takes_expr (written.expr c.in-Coalesce.a.value)) (taken.takes_exprs (written.expr_list c.as_slice-in-Coalesce.result.now)) rest).1)
 
 pub conjunct-returns-in_ok-list-in-InList : goal.conjunct-returns-in_ok-list-in-InList
 conjunct-returns-in_ok-list-in-InList t c =
