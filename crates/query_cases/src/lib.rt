@@ -25,6 +25,8 @@ mod orders;
 #[cfg(test)]
 mod running;
 #[cfg(test)]
+mod scopes_and_levels;
+#[cfg(test)]
 mod subqueries;
 #[cfg(test)]
 mod unions;
