@@ -1,9 +1,9 @@
-//! The plain program that runs a block over one table: loops over the rows of its table.
+//! The plain program: every valid query, by nested loops over its tree.
 #![tactic(auto)]
 
-mod evaluation;
-mod loops;
-mod value;
+mod laws;
+mod plain;
+mod views;
 
-pub use evaluation::{evaluate, hold};
-pub use loops::execute;
+pub use laws::answer_laws;
+pub use plain::execute;

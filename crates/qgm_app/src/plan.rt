@@ -4,11 +4,9 @@ ghost use Rattle.row_bag.specs.Bags.{Agree};
 ghost use Rattle.row_bag.specs.Sets.{same_cells};
 ghost use Rattle.sql_ast.specs.Shown as written;
 ghost use Rattle.sql_catalog.specs.Shown as catalogs;
-ghost use Rattle.sql_check.specs.Checked.{rows_of};
 ghost use Rattle.table_block.specs.Resolved.{rows_at};
 ghost use Rattle.qgm_app.specs.Plans.{BlockGives, plan_rows};
 
-use box_exec::execute;
 use qgm_base::OutOfMemory;
 use qgm_build::build;
 use row_bag::{Bag, Tables};
@@ -55,21 +53,8 @@ fn graph_rows<L: Ledger>(
     ensures { IfOk result (λ bag. Agree same_cells bag (rows_at block.now tables.now)) }
 {
     let graph = build(alloc, block, catalog)?;
-    let (bag, _) = execute(alloc, &graph, tables, steps)?;
+    let (bag, _) = box_exec::execute(alloc, &graph, tables, steps)?;
     Ok(bag)
-}
-
-// The rows of a checked query over these views and tables, by nested loops.
-fn loop_rows(
-    alloc: Global,
-    checked: &Checked,
-    views: &Views,
-    tables: &Tables,
-) -> Result<Bag, OutOfMemory>
-    ensures { IfOk result (λ bag. Agree same_cells bag (rows_of views.now checked.now tables.now)) }
-{
-    let bodies = views.schema.views.as_slice();
-    query_loops::rows_of(alloc, &checked.query, bodies, tables)
 }
 
 /// The rows of a query over these views and tables.
@@ -85,6 +70,6 @@ pub fn rows<L: Ledger>(
 {
     match &plan.block {
         Some(block) => graph_rows(alloc, block, catalog, tables, steps),
-        None => loop_rows(alloc, &plan.checked, views, tables),
+        None => plain_exec::execute(alloc, &plan.checked, views, tables),
     }
 }

@@ -1,3 +1,4 @@
+use crate::running::over_t;
 use csv_tables::{load, write_rows};
 use io_edge::{Entry, MemFiles, fetch_file};
 use plain_exec::execute;
@@ -12,7 +13,6 @@ use std::alloc::Global;
 use std::cmp::Ordering;
 use std::collections::HashMap;
 use std::test::Fail;
-use table_block::{is_table_block, resolve};
 
 // One file in memory.
 fn one_file(alloc: Global, name: &str, text: &str) -> Result<MemFiles, Fail> {
@@ -24,8 +24,8 @@ fn one_file(alloc: Global, name: &str, text: &str) -> Result<MemFiles, Fail> {
     Ok(MemFiles::new(alloc, entries, Vec::new(alloc)))
 }
 
-// The text of the rows of a query over one table, by the public call of each layer in turn; none where
-// no graph is built of it.
+// The text of the rows of a query over the table T, by the public call of each layer in turn; the
+// rows are found by nested loops.
 fn by_layers(alloc: Global, schema: &str, query: &str, table: &str) -> Result<Vec<u8>, Fail> {
     let mut files = one_file(alloc, "d/T.csv", table)?;
     let tokens = lex(alloc, schema.as_bytes())?;
@@ -35,27 +35,50 @@ fn by_layers(alloc: Global, schema: &str, query: &str, table: &str) -> Result<Ve
     let query = parse_query(alloc, tokens.as_slice())?;
     let views = check_views(alloc, &catalog)?;
     let checked = check(alloc, &query, &catalog, &views)?;
-    if !is_table_block(&query, &catalog) {
-        return Ok(Vec::new(alloc));
-    }
-    let block = resolve(alloc, &query, &catalog)?;
     let tables = load(alloc, &catalog, "d", &mut files)?;
-    let rows = match verdict(execute(alloc, &block, tables)?) {
+    let rows = match verdict(execute(alloc, &checked, &views, &tables)?) {
         Verdict::Rows(bag) => sorted(bag, &checked.order)?,
         Verdict::Error(_) => Bag::new(alloc),
     };
     Ok(write_rows(alloc, &checked.names, &rows)?)
 }
 
+const SCHEMA: &str = "create table t (a integer, b integer); create view v as select b from t;";
+
+const TABLE: &str = "A,B\n3,-4\n2,\n\"1\",+01\n";
+
 #[test]
 fn the_layers_in_turn_give_the_rows(rt: HostRuntime) -> Result<(), Fail> {
-    let printed = by_layers(
-        rt.alloc(),
-        "create table t (a integer, b integer);",
-        "select b, a from t;",
-        "A,B\n3,-4\n2,\n\"1\",+01\n",
-    )?;
-    assert_eq!(rt; printed.as_slice(), b"B,A\n\\N,2\n-4,3\n1,1\n".as_slice());
+    for (query, text) in [
+        ("select b, a from t;", "B,A\n\\N,2\n-4,3\n1,1\n"),
+        ("select distinct v.b from t, v", "B\n\\N\n-4\n1\n"),
+        ("select a from t where b in (select b from v)", "A\n1\n3\n"),
+    ] {
+        let printed = by_layers(rt.alloc(), SCHEMA, query, TABLE)?;
+        assert_eq!(rt; printed.as_slice(), text.as_bytes(), "at {query}");
+    }
+    Ok(())
+}
+
+// Of each of these the program builds a graph.
+#[test]
+fn a_graph_gives_the_rows_of_the_loops(rt: HostRuntime) -> Result<(), Fail> {
+    for query in [
+        "select * from t",
+        "select b, a + b from t where a > 1 or b is null",
+        "select case a when 1 then 'x' else 'y' end from t where not b = 1 order by 1 desc",
+        "select a from t where coalesce(b, 7) between 1 and 7 and a <> 2",
+    ] {
+        let printed = by_layers(rt.alloc(), SCHEMA, query, TABLE)?;
+        let (status, text) = over_t(
+            rt.alloc(),
+            SCHEMA.as_bytes(),
+            TABLE.as_bytes(),
+            query.as_bytes(),
+        )?;
+        assert_eq!(rt; status, 0);
+        assert_eq!(rt; printed.as_slice(), text.as_bytes(), "at {query}");
+    }
     Ok(())
 }
 

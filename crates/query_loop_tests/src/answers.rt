@@ -107,7 +107,8 @@ fn select(alloc: Global, x: Value, name: &str, p: Box<Test>) -> Result<Query, Ou
 // The kind of the answer's error, or whether these are its rows.
 fn answers(alloc: Global, query: &Query, rows: Rows) -> Result<Result<bool, Kind>, OutOfMemory> {
     let keys = OrderKeys::new(alloc);
-    let made = rows_of(alloc, query, &[], &tables(alloc)?)?;
+    let tables = tables(alloc)?;
+    let made = rows_of(alloc, query, &[], tables.as_slice())?;
     let expected = sorted(bag(alloc, rows)?, &keys)?;
     match verdict(made) {
         Verdict::Error(kind) => Ok(Err(kind)),

@@ -12,9 +12,9 @@ use Rattle.sql_value.specs.declared.cell.Cell.{Cell}
 use Rattle.sql_value.specs.declared.level.Level.{Level}
 use Rattle.sql_value.specs.declared.level.Level.TheVariants.{No, Cardinality, Division, Overflow, Yes}
 use Rattle.sql_value.specs.declared.truth.Truth.{Truth}
-use Rattle.row_bag.proofs.Binds.{bind-append, bind-bind, keep-append, unit-bind}
+use Rattle.row_bag.proofs.Binds.{bind-bind, keep-append, unit-bind}
 use Rattle.row_bag.proofs.Levels.{least-yes}
-use Rattle.query_loops.specs.Rows.{beside, picked}
+use Rattle.query_loops.specs.Rows.{beside, listed, picked}
 use Rattle.query_loops.proofs.There.{append-same, keep-same}
 
 pub selected_one : {T : Type 0} (test : T → Truth) (list : T → List Cell) (r : Row T) (rows : List (Row T)) → selected test list (r ∷ rows) ≡ picked test list r ∷ selected test list rows
@@ -137,3 +137,28 @@ pub kept_there : (test : List Cell → Truth) (r : Row (List Cell)) (rows : List
 kept_there test r rows = selected_there test (λ cells. cells) r rows
 
 pub ruleset kept_steps = (common_steps, kept_there)
+
+-- a list over the rows that a condition keeps
+pub listed_kept : (test : List Cell → Truth) (list : List Cell → List Cell) (rows : List (Row (List Cell))) → listed list (kept test rows) ≡ selected test list rows
+listed_kept test list [] = refl
+listed_kept test list (r ∷ rows) =
+    ap (listed list) (selected_one test (λ cells. cells) r rows)
+    ∙ ap (λ (rs : List (Row (List Cell))). picked test list r ∷ rs) (listed_kept test list rows)
+    ∙ sym (selected_one test list r rows)
+
+listed_one : (list : List Cell → List Cell) (c : List Cell) (l : Level) (rows : List (Row (List Cell))) → those_there (listed list rows) ≡ listed list (those_there rows)
+    → those_there (listed list (row c l ∷ rows)) ≡ listed list (those_there (row c l ∷ rows))
+listed_one list c No rows h = h
+listed_one list c Cardinality rows h = ap (λ rs. row (list c) Cardinality ∷ rs) h
+listed_one list c Division rows h = ap (λ rs. row (list c) Division ∷ rs) h
+listed_one list c Overflow rows h = ap (λ rs. row (list c) Overflow ∷ rs) h
+listed_one list c Yes rows h = ap (λ rs. row (list c) Yes ∷ rs) h
+
+listed_there : (list : List Cell → List Cell) (rows : List (Row (List Cell))) → those_there (listed list rows) ≡ listed list (those_there rows)
+listed_there list [] = refl
+listed_there list (r ∷ rows) = listed_one list r.cells r.level rows (listed_there list rows)
+
+-- a list over rows that are those that a condition keeps
+pub listed_same : (test : List Cell → Truth) (list : List Cell → List Cell) (rows frames : List (Row (List Cell))) → those_there rows ≡ those_there (kept test frames) → those_there (listed list rows) ≡ those_there (selected test list frames)
+listed_same test list rows frames h =
+    listed_there list rows ∙ ap (listed list) h ∙ sym (listed_there list (kept test frames)) ∙ ap those_there (listed_kept test list frames)

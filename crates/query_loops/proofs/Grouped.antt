@@ -1,17 +1,15 @@
 -- Groups of rows, row by row.
-use Rattle.std.proofs.Common.{◌≡◌, ℕ, Bool, true, false, cond, nat_eq, List, [], ◌∷◌, ◌++◌, Some, None, Option, refl, ap, ap₂, sym, ◌∙◌}
+use Rattle.std.proofs.Common.{◌≡◌, ℕ, Bool, true, false, cond, List, [], ◌∷◌, ◌++◌, Some, refl, ap, sym, ◌∙◌}
 use Rattle.std.proofs.lemmas.Grind.{common_steps}
 use Rattle.std.proofs.lemmas.List.Elements.{filter-append}
 use Rattle.checked_query.specs.Meaning as m
-use Rattle.row_bag.specs.Bags.{bind, if_there, keep, row, unit}
-use Rattle.row_bag.specs.Sets.{multiplicity, of_group, once, same_cells}
+use Rattle.row_bag.specs.Bags.{bind, keep, row, unit}
+use Rattle.row_bag.specs.Sets.{of_group, once, same_cells}
 use Rattle.row_bag.specs.Verdict.{is_there, those_there}
 use Rattle.row_bag.specs.declared.row.Row.{Row}
 use Rattle.sql_meaning.specs.Groups as g
 use Rattle.sql_meaning.specs.Joins.{selected}
-use Rattle.sql_value.specs.Level.{least}
 use Rattle.sql_value.specs.declared.cell.Cell.{Cell}
-use Rattle.sql_value.specs.declared.level.Level.{Level}
 use Rattle.sql_value.specs.declared.level.Level.TheVariants.{Yes}
 use Rattle.sql_value.specs.declared.truth.Truth.{Truth}
 use Rattle.row_bag.proofs.Binds.{bind-append, unit-bind}

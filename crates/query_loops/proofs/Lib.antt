@@ -1,3 +1,4 @@
+pub mod Agreed
 pub mod Chains
 pub mod Each
 pub mod Grouped
@@ -9,4 +10,3 @@ pub mod SameSets
 pub mod SameSubqueries
 pub mod There
 pub mod Values
-pub mod Viewed

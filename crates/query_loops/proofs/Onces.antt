@@ -1,10 +1,9 @@
 -- Tuples taken once, row by row.
-use Rattle.std.proofs.Common.{◌≡◌, ℕ, Bool, nat_eq, cond, List, [], ◌∷◌, ◌++◌, refl, ap, ◌∙◌}
+use Rattle.std.proofs.Common.{◌≡◌, List, ◌++◌}
 use Rattle.std.proofs.lemmas.Grind.{common_steps}
-use Rattle.row_bag.specs.Bags.{bind, if_there, keep, row, unit}
-use Rattle.row_bag.specs.Sets.{copies, multiplicity, once}
+use Rattle.row_bag.specs.Bags.{bind, unit}
 use Rattle.row_bag.specs.declared.row.Row.{Row}
-use Rattle.row_bag.proofs.Binds.{bind-append, keep-yes, unit-bind}
+use Rattle.row_bag.proofs.Binds.{bind-append, unit-bind}
 
 pub bind_append : {A B : Type 0} (xs ys : List (Row A)) (f : A → List (Row B)) → bind (xs ++ ys) f ≡ bind xs f ++ bind ys f
 bind_append xs ys f = bind-append xs ys f

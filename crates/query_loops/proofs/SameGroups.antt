@@ -1,11 +1,11 @@
 -- Expressions go by the aggregates of a group alone, and so count nothing of its rows at no.
-use Rattle.std.proofs.Common.{◌≡◌, ℕ, ◌+◌, Bool, true, false, cond, ℤ, ◌+ℤ◌, pos, List, [], ◌∷◌, ◌++◌, Option, Some, None, replicate, arith, refl, ap, ap₂, sym, ◌∙◌}
+use Rattle.std.proofs.Common.{◌≡◌, ℕ, ◌+◌, Bool, true, false, cond, ◌+ℤ◌, pos, List, [], ◌∷◌, Option, Some, None, replicate, arith, refl, ap, ap₂, sym, ◌∙◌}
 use mathlib.Core.Path.{fun_ext}
 use Rattle.std.proofs.lemmas.Int.{ints}
 use Rattle.qgm_base.specs.declared.compare.CmpOp.TheVariants.{Eq, Ge, Le}
 use Rattle.checked_query.specs.Meaning as m
 use Rattle.checked_query.specs.Trees as q
-use Rattle.row_bag.specs.Bags.{bind, keep, row, total, unit}
+use Rattle.row_bag.specs.Bags.{bind, keep, unit}
 use Rattle.row_bag.specs.Errors.{error_among, error_at, error_in}
 use Rattle.row_bag.specs.Sets.{error_or_bag, of_group, once, same_cells}
 use Rattle.row_bag.specs.Verdict.{those_there}

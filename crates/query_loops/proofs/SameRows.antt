@@ -1,5 +1,5 @@
 -- Loops over rows count nothing of rows at no.
-use Rattle.std.proofs.Common.{◌≡◌, ◌+◌, nat_eq, cond, arith, Bool, true, false, List, [], ◌++◌, refl, ap, ap₂, sym, ◌∙◌}
+use Rattle.std.proofs.Common.{◌≡◌, ◌+◌, nat_eq, cond, arith, Bool, true, false, List, ◌++◌, refl, ap, ◌∙◌}
 use Rattle.row_bag.specs.Bags.{bind, keep, unit}
 use Rattle.row_bag.specs.Verdict.{those_there}
 use Rattle.row_bag.specs.declared.row.Row.{Row}

@@ -1,14 +1,14 @@
 -- Set operations count nothing of rows at no.
-use Rattle.std.proofs.Common.{◌≡◌, ◌-◌, ℕ, min, Bool, true, false, List, ◌++◌, Option, Some, None, refl, ap, ap₂, ◌∙◌}
+use Rattle.std.proofs.Common.{◌≡◌, ◌-◌, ℕ, min, Bool, true, false, List, ◌++◌, Option, None, refl, ap, ap₂}
 use mathlib.Core.Path.{fun_ext}
 use Rattle.row_bag.specs.Bags.{bind, if_there}
 use Rattle.row_bag.specs.Errors.{error_among, error_at, error_in}
-use Rattle.row_bag.specs.Sets.{collapsed, copies, distinct, error_or_bag, multiplicity, once, same_cells}
+use Rattle.row_bag.specs.Sets.{collapsed, copies, error_or_bag, multiplicity, once, same_cells}
 use Rattle.row_bag.specs.Verdict.{those_there}
 use Rattle.row_bag.specs.declared.row.Row.{Row}
 use Rattle.sql_ast.specs.declared.word.SetOperator.{SetOperator}
 use Rattle.sql_ast.specs.declared.word.SetOperator.TheVariants as operator
-use Rattle.sql_meaning.specs.Joins.{combined, distinct_if, how_many, intersected, kept, left_join, or_else, partners, product, selected}
+use Rattle.sql_meaning.specs.Joins.{combined, distinct_if, intersected}
 use Rattle.sql_value.specs.Cells.{worst_of}
 use Rattle.sql_value.specs.declared.cell.Cell.{Cell}
 use Rattle.sql_value.specs.declared.cell.Kind.{Kind}

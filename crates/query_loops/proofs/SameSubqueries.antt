@@ -1,5 +1,5 @@
 -- What rows of a subquery come to counts nothing of rows at no.
-use Rattle.std.proofs.Common.{◌≡◌, List, refl, ap}
+use Rattle.std.proofs.Common.{◌≡◌, List, ap}
 use Rattle.qgm_base.specs.declared.compare.CmpOp.{CmpOp}
 use Rattle.row_bag.specs.declared.row.Row.{Row}
 use Rattle.sql_ast.specs.declared.word.Quantifier.{Quantifier}

@@ -1,5 +1,5 @@
 -- What counts nothing of rows at no is the same of the rows that are there.
-use Rattle.std.proofs.Common.{◌≡◌, ℕ, ◌+◌, ◌&&◌, Bool, true, false, cond, nat_eq, List, [], ◌∷◌, ◌++◌, map, arith, refl, ap, ap₂, sym, ◌∙◌}
+use Rattle.std.proofs.Common.{◌≡◌, ◌+◌, ◌&&◌, Bool, true, false, cond, nat_eq, List, [], ◌∷◌, ◌++◌, arith, refl, ap, ap₂, sym, ◌∙◌}
 use Rattle.std.proofs.lemmas.List.Elements.{filter-append}
 use mathlib.Core.Path.{fun_ext}
 use Rattle.row_bag.specs.Bags.{bind, if_there, keep, row, total, unit}
@@ -9,7 +9,7 @@ use Rattle.row_bag.specs.declared.row.Row.{Row}
 use Rattle.sql_value.specs.Level.{greatest, least}
 use Rattle.sql_value.specs.declared.level.Level.{Level}
 use Rattle.sql_value.specs.declared.level.Level.TheVariants.{No, Cardinality, Division, Overflow, Yes}
-use Rattle.row_bag.proofs.Levels.{greatest-monoid, least-no, no-least, yes-least, least-yes}
+use Rattle.row_bag.proofs.Levels.{greatest-monoid, no-least, yes-least}
 use Rattle.query_loops.specs.There.{SameThere}
 
 -- ---- totals

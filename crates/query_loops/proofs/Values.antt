@@ -1,9 +1,8 @@
 -- Cells that aren't null.
-use Rattle.std.proofs.Common.{◌≡◌, List, [], ◌∷◌, ◌++◌, filter, refl, ap, ap₂, ◌∙◌}
-use Rattle.row_bag.specs.Bags.{bind, keep, row, unit}
+use Rattle.std.proofs.Common.{◌≡◌, List, [], ◌∷◌, filter, refl, ap₂}
+use Rattle.row_bag.specs.Bags.{bind, row}
 use Rattle.row_bag.specs.declared.row.Row.{Row}
 use Rattle.sql_meaning.specs.Groups.{unless_null}
-use Rattle.sql_value.specs.Level.{least}
 use Rattle.sql_value.specs.declared.cell.Cell.{Cell}
 use Rattle.sql_value.specs.declared.cell.Cell.TheVariants.{Int, Text, Null, Err}
 use Rattle.sql_value.specs.declared.level.Level.{Level}

@@ -6,3 +6,5 @@ pub mod Sources
 pub mod Sets
 pub mod Cells
 pub mod Groups
+pub mod Laws
+pub mod Reads

@@ -1,5 +1,5 @@
 -- What loops make of one row.
-use Rattle.std.specs.Prelude.{ℕ, List, [], ◌∷◌, ◌++◌, Option, Some, None, replicate}
+use Rattle.std.specs.Prelude.{ℕ, List, [], ◌∷◌, ◌++◌, map, Option, Some, None, replicate}
 use Rattle.checked_query.specs.Meaning as m
 use Rattle.checked_query.specs.Trees as q
 use Rattle.row_bag.specs.Bags.{row}
@@ -19,6 +19,10 @@ if_some (Some x) = x ∷ []
 -- what a condition leaves of a row, and a list gives of it
 abbrev pub picked : {T : Type 0} → (T → Truth) → (T → List Cell) → Row T → Row (List Cell)
 picked test list r = row (list r.cells) (least r.level (test r.cells).t)
+
+-- what a list gives of each row
+abbrev pub listed : {T : Type 0} → (T → List Cell) → List (Row T) → List (Row (List Cell))
+listed list rows = map (λ r. row (list r.cells) r.level) rows
 
 -- cells, and then those of a row
 abbrev pub beside : List Cell → Row (List Cell) → Row (List Cell)

@@ -1,5 +1,5 @@
 -- The rows, the groups and the tables that chains of references hold.
-use Rattle.std.specs.Prelude.{ℕ, List, [], ◌∷◌, map, Option, Some, None}
+use Rattle.std.specs.Prelude.{ℕ, List, [], ◌∷◌, ◌++◌, map, Option, Some, None}
 use Rattle.row_bag.specs.Tables.{bag_named}
 use Rattle.row_bag.specs.declared.row.Row.{Row}
 use Rattle.row_bag.specs.declared.tables.Table.{Table}
@@ -9,12 +9,13 @@ use Rattle.sql_meaning.specs.Scopes.{first_of}
 use Rattle.sql_value.specs.declared.cell.Cell.{Cell}
 use Rattle.sql_value.specs.declared.cell.Kind.{Kind}
 use Rattle.query_loops.specs.declared.scope.Group.{Group}
-use Rattle.query_loops.specs.declared.scope.Scopes.{Scopes, Outermost, Inside'}
+use Rattle.query_loops.specs.declared.scope.Scopes.{Scopes, Outermost, Inside', Beside'}
 use Rattle.query_loops.specs.declared.scope.Setting.{Setting}
 
 abbrev pub scopes : Scopes → List (List Cell)
 scopes Outermost = []
 scopes (Inside' row _ outer) = row.now ∷ scopes outer
+scopes (Beside' left right _ outer) = (left.now ++ right.now) ∷ scopes outer
 
 abbrev members_or : Option Kind → List (Row (List Cell)) → groups.Group (List Cell)
 members_or None rows = groups.members rows

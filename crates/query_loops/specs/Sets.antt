@@ -1,6 +1,6 @@
 -- How often a set operation keeps a tuple.
 use Rattle.std.specs.Prelude.{ℕ, ◌-◌, min, List}
-use Rattle.row_bag.specs.Bags.{bind, row}
+use Rattle.row_bag.specs.Bags.{bind}
 use Rattle.row_bag.specs.Sets.{copies, multiplicity, once, same_cells}
 use Rattle.row_bag.specs.declared.row.Row.{Row}
 use Rattle.sql_value.specs.declared.cell.Cell.{Cell}

@@ -1,5 +1,5 @@
 -- Rows that are the same where rows at no count for nothing.
-use Rattle.std.specs.Prelude.{◌≡◌, List, [], ◌∷◌, Option, Some, None}
+use Rattle.std.specs.Prelude.{◌≡◌, List}
 use Rattle.row_bag.specs.Verdict.{those_there}
 use Rattle.row_bag.specs.declared.row.Row.{Row}
 

@@ -394,8 +394,8 @@ impl<
         }
     }
 
-    // What a list gives of the groups of rows that HAVING keeps.
-    fn grouped_rows(
+    /// What a list gives of the groups of rows that HAVING keeps.
+    pub fn grouped_rows(
         &self,
         list: &[Value],
         having: &Test,
@@ -427,9 +427,9 @@ impl<
         Ok(Some(Row { cells, level }))
     }
 
-    // The rows that a condition keeps.
+    /// The rows that a condition keeps.
     #[tactic(auto, using(crate::proofs::Each::kept_steps))]
-    fn kept(&self, p: &Test, rows: &[Row], s: &Scopes<'_>) -> Result<Bag, OutOfMemory>
+    pub fn kept(&self, p: &Test, rows: &[Row], s: &Scopes<'_>) -> Result<Bag, OutOfMemory>
         requires test { nests.Tests self.now.setting.depth (P.pre self.now.test) (P.post self.now.test) }
         ensures { IfOk result (λ made. made ≡ those_there (joins.kept (test_in (known_in self.now.setting) (scopes s.now) (shown.test p.now)) rows.now)) }
     {
@@ -440,24 +440,5 @@ impl<
             }
         }
         Ok(made)
-    }
-
-    /// A block with groups, without its DISTINCT.
-    pub fn grouped(
-        &self,
-        list: &[Value],
-        p: &Test,
-        by: &Option<Items<usize>>,
-        width: usize,
-        having: &Test,
-        frames: &[Row],
-        s: &Scopes<'_>,
-    ) -> Result<Bag, OutOfMemory>
-        requires value { nests.Values self.now.setting.depth (V.pre self.now.value) (V.post self.now.value) }
-        requires test { nests.Tests self.now.setting.depth (P.pre self.now.test) (P.post self.now.test) }
-        ensures { IfOk result (λ made. made ≡ those_there (joins.selected (spec.test_of (known_in self.now.setting) (scopes s.now) (shown.test having.now)) (spec.cells_of (known_in self.now.setting) (scopes s.now) (shown.value_list list.now)) (m.groups by.now width (joins.kept (test_in (known_in self.now.setting) (scopes s.now) (shown.test p.now)) frames.now)))) }
-    {
-        let kept = self.kept(p, frames, s)?;
-        self.grouped_rows(list, having, by, width, kept.rows(), s)
     }
 }

@@ -12,7 +12,7 @@ ghost use Rattle.sql_meaning.specs.Joins as joins;
 ghost use Rattle.sql_value.specs.Level.{least};
 
 use crate::nest::Loops;
-use crate::pair::{append_kept, beside, with_nulls};
+use crate::pair::{append_kept, cells_beside, with_nulls};
 use crate::scope::{Group, Scopes, Setting};
 use checked_query::{From, Query, Test, Value};
 use qgm_base::OutOfMemory;
@@ -37,12 +37,12 @@ impl<
         requires test { nests.Tests self.now.setting.depth (P.pre self.now.test) (P.post self.now.test) }
         ensures { IfOk result (λ made. if_some made ≡ those_there (picked (test_in (known_in self.now.setting) (scopes s.now) (shown.test p.now)) (λ cells. cells) (beside left.now right.now) ∷ [])) }
     {
-        let mut row = beside(self.setting.alloc, left, right)?;
-        row.level = self.level(p, &row, s)?;
-        if row.level == Level::No {
+        let level = self.level_beside(p, left, right, s)?;
+        if level == Level::No {
             return Ok(None);
         }
-        Ok(Some(row))
+        let cells = cells_beside(self.setting.alloc, left, right.cells.as_slice())?;
+        Ok(Some(Row { cells, level }))
     }
 
     // The partners of a left row, each beside it.

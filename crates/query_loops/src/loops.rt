@@ -3,7 +3,7 @@ ghost use Rattle.std.specs.Prelude.{◌≡◌, ◌∷◌, [], ◌++◌, IfOk};
 ghost use Rattle.checked_query.specs.Meaning as m;
 ghost use Rattle.checked_query.specs.Shown as shown;
 ghost use Rattle.query_loops.specs.Nests as nests;
-ghost use Rattle.query_loops.specs.Rows.{cells_in, if_some, picked, test_in};
+ghost use Rattle.query_loops.specs.Rows.{cells_in, if_some, listed, picked, test_in};
 ghost use Rattle.query_loops.specs.Scopes.{group, known_in, scopes};
 ghost use Rattle.row_bag.specs.Verdict.{those_there};
 ghost use Rattle.sql_meaning.specs.Joins as joins;
@@ -50,6 +50,22 @@ impl<
         Ok(keep(row.level, truth))
     }
 
+    /// The same of cells beside a row.
+    pub fn level_beside(
+        &self,
+        p: &Test,
+        left: &[Cell],
+        right: &Row,
+        s: &Scopes<'_>,
+    ) -> Result<Level, OutOfMemory>
+        requires test { nests.Tests self.now.setting.depth (P.pre self.now.test) (P.post self.now.test) }
+        ensures { IfOk result (λ level. level ≡ least right.now.level ((test_in (known_in self.now.setting) (scopes s.now) (shown.test p.now)) (left.now ++ right.now.cells)).t) }
+    {
+        let inside = Scopes::Beside(left, right.cells.as_slice(), &*s);
+        let truth = self.test(p, &inside, &no_group())?;
+        Ok(keep(right.level, truth))
+    }
+
     // The cells of a list in a row.
     fn cells_of_row(
         &self,
@@ -82,6 +98,21 @@ impl<
         }
         let cells = self.cells_of_row(list, row, s)?;
         Ok(Some(Row { cells, level }))
+    }
+
+    /// What a list gives of each row.
+    pub fn listed(&self, list: &[Value], rows: &[Row], s: &Scopes<'_>) -> Result<Bag, OutOfMemory>
+        requires value { nests.Values self.now.setting.depth (V.pre self.now.value) (V.post self.now.value) }
+        ensures { IfOk result (λ made. made ≡ listed (cells_in (known_in self.now.setting) (scopes s.now) (shown.value_list list.now)) rows.now) }
+    {
+        let mut made = Bag::new(self.setting.alloc);
+        for row in rows {
+            made.push(Row {
+                cells: self.cells_of_row(list, row, s)?,
+                level: row.level,
+            })?;
+        }
+        Ok(made)
     }
 
     /// What a list gives of the rows that a condition keeps.

@@ -22,8 +22,12 @@ pub(crate) fn least(a: Level, b: Level) -> Level
     if a <= b { a } else { b }
 }
 
-// The cells of both, one after the other.
-fn cells_beside(alloc: Global, left: &[Cell], right: &[Cell]) -> Result<Items<Cell>, OutOfMemory>
+/// The cells of both, one after the other.
+pub(crate) fn cells_beside(
+    alloc: Global,
+    left: &[Cell],
+    right: &[Cell],
+) -> Result<Items<Cell>, OutOfMemory>
     ensures { IfOk result (λ cells. cells ≡ left.now ++ right.now) }
 {
     let mut cells = Vec::new(alloc);

@@ -42,8 +42,8 @@ impl<
         requires from { nests.FromRows self.now.setting.depth (F.pre self.now.from) (F.post self.now.from) }
         ensures { IfOk result (λ rows. SameThere rows (joins.distinct_if distinct (joins.selected (test_of (known_in self.now.setting) (scopes s.now) (shown.test having.now)) (cells_of (known_in self.now.setting) (scopes s.now) (shown.value_list list.now)) (m.groups by.now width (joins.kept (test_in (known_in self.now.setting) (scopes s.now) (shown.test p.now)) (m.frames (known_in self.now.setting) (shown.from_list tables.now) (scopes s.now))))))) }
     {
-        let frames = self.frame_source(tables, s)?;
-        let rows = self.grouped(list, p, by, width, having, frames.rows(), s)?;
+        let kept = self.kept_frames(tables, p, s)?;
+        let rows = self.grouped_rows(list, having, by, width, kept.rows(), s)?;
         distinct_if(self.setting.alloc, distinct, rows)
     }
 

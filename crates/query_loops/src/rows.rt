@@ -132,11 +132,7 @@ impl<
     }
 
     // The rows of a FROM; those of one named table are borrowed.
-    pub fn frame_source<'b>(
-        &'b self,
-        list: &[From],
-        s: &Scopes<'_>,
-    ) -> Result<Source<'b>, OutOfMemory>
+    fn frame_source<'b>(&'b self, list: &[From], s: &Scopes<'_>) -> Result<Source<'b>, OutOfMemory>
         requires from { nests.FromRows self.now.setting.depth (F.pre self.now.from) (F.post self.now.from) }
         ensures { IfOk result (λ rows. SameThere (held rows) (m.frames (known_in self.now.setting) (shown.from_list list.now) (scopes s.now))) }
     {
@@ -144,6 +140,62 @@ impl<
             return self.source(x, s);
         }
         Ok(Source::made(self.frames(list, s)?))
+    }
+
+    /// The rows of a FROM that WHERE keeps. A row of the first table stands beside a row of the others
+    /// only once WHERE keeps the two.
+    pub fn kept_frames(&self, list: &[From], p: &Test, s: &Scopes<'_>) -> Result<Bag, OutOfMemory>
+        requires test { nests.Tests self.now.setting.depth (P.pre self.now.test) (P.post self.now.test) }
+        requires from { nests.FromRows self.now.setting.depth (F.pre self.now.from) (F.post self.now.from) }
+        ensures { IfOk result (λ rows. SameThere rows (joins.kept (test_in (known_in self.now.setting) (scopes s.now) (shown.test p.now)) (m.frames (known_in self.now.setting) (shown.from_list list.now) (scopes s.now)))) }
+    {
+        let Some((x, others)) = list.split_first() else {
+            let rows = no_cells(self.setting.alloc)?;
+            return self.kept(p, rows.rows(), s);
+        };
+        let xs = self.source(x, s)?;
+        if others.is_empty() {
+            return self.kept(p, xs.rows(), s);
+        }
+        let ys = self.frame_source(others, s)?;
+        self.join(p, xs.rows(), ys.rows(), s)
+    }
+
+    // A block without groups over one table, whose rows are borrowed.
+    fn table_block(
+        &self,
+        list: &[Value],
+        x: &From,
+        p: &Test,
+        s: &Scopes<'_>,
+    ) -> Result<Bag, OutOfMemory>
+        requires value { nests.Values self.now.setting.depth (V.pre self.now.value) (V.post self.now.value) }
+        requires test { nests.Tests self.now.setting.depth (P.pre self.now.test) (P.post self.now.test) }
+        requires from { nests.FromRows self.now.setting.depth (F.pre self.now.from) (F.post self.now.from) }
+        ensures { IfOk result (λ rows. SameThere rows (joins.selected (test_in (known_in self.now.setting) (scopes s.now) (shown.test p.now)) (cells_in (known_in self.now.setting) (scopes s.now) (shown.value_list list.now)) (m.from_rows (known_in self.now.setting) (shown.from x.now) (scopes s.now)))) }
+    {
+        let xs = self.source(x, s)?;
+        self.selected(list, p, xs.rows(), s)
+    }
+
+    // What a list gives of the rows of a FROM that WHERE keeps.
+    fn selected_frames(
+        &self,
+        list: &[Value],
+        tables: &[From],
+        p: &Test,
+        s: &Scopes<'_>,
+    ) -> Result<Bag, OutOfMemory>
+        requires value { nests.Values self.now.setting.depth (V.pre self.now.value) (V.post self.now.value) }
+        requires test { nests.Tests self.now.setting.depth (P.pre self.now.test) (P.post self.now.test) }
+        requires from { nests.FromRows self.now.setting.depth (F.pre self.now.from) (F.post self.now.from) }
+        ensures { IfOk result (λ rows. SameThere rows (joins.selected (test_in (known_in self.now.setting) (scopes s.now) (shown.test p.now)) (cells_in (known_in self.now.setting) (scopes s.now) (shown.value_list list.now)) (m.frames (known_in self.now.setting) (shown.from_list tables.now) (scopes s.now)))) }
+    {
+        if let [x] = tables {
+            return self.table_block(list, x, p, s);
+        }
+        let kept = self.kept_frames(tables, p, s)?;
+        self.listed(list, kept.rows(), s)
     }
 
     // A block without groups.
@@ -160,8 +212,7 @@ impl<
         requires from { nests.FromRows self.now.setting.depth (F.pre self.now.from) (F.post self.now.from) }
         ensures { IfOk result (λ rows. SameThere rows (joins.distinct_if distinct (joins.selected (test_in (known_in self.now.setting) (scopes s.now) (shown.test p.now)) (cells_in (known_in self.now.setting) (scopes s.now) (shown.value_list list.now)) (m.frames (known_in self.now.setting) (shown.from_list tables.now) (scopes s.now))))) }
     {
-        let frames = self.frame_source(tables, s)?;
-        let rows = self.selected(list, p, frames.rows(), s)?;
+        let rows = self.selected_frames(list, tables, p, s)?;
         distinct_if(self.setting.alloc, distinct, rows)
     }
 }

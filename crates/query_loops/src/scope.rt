@@ -1,8 +1,9 @@
 // The rows that an expression sees.
-ghost use Rattle.std.specs.Prelude.{◌≡◌, ◌+◌, ◌<◌, IfOk};
+ghost use Rattle.std.specs.Prelude.{◌≡◌, ◌+◌, ◌<◌, ◌++◌, get_or, IfOk};
 ghost use Rattle.checked_query.specs.Meaning as meaning;
 ghost use Rattle.query_loops.specs.Scopes.{group, scopes};
 ghost use Rattle.sql_meaning.specs.Groups.{no_group};
+ghost use Rattle.sql_value.specs.declared.cell.Cell.TheVariants.{Null};
 
 use qgm_base::OutOfMemory;
 use row_bag::{Row, Table};
@@ -14,6 +15,8 @@ use std::alloc::Global;
 pub(crate) enum Scopes<'a> {
     Outermost,
     Inside(&'a [Cell], &'a Scopes<'a>),
+    /// A row in two parts, the cells of the second after those of the first.
+    Beside(&'a [Cell], &'a [Cell], &'a Scopes<'a>),
 }
 
 /// What the aggregates of a block see: the rows of a group, or the error of the whole grouping.
@@ -43,6 +46,32 @@ pub(crate) struct Setting<'a> {
     pub depth: usize,
 }
 
+// A cell of a row, or null past its end.
+fn cell_in(alloc: Global, row: &[Cell], place: usize) -> Result<Cell, OutOfMemory>
+    ensures { IfOk result (λ cell. cell ≡ get_or row.now place Null) }
+{
+    match row.get(place) {
+        Some(cell) => copy(alloc, cell),
+        None => Ok(Cell::Null),
+    }
+}
+
+// The same of a row in two parts.
+fn cell_beside(
+    alloc: Global,
+    left: &[Cell],
+    right: &[Cell],
+    place: usize,
+) -> Result<Cell, OutOfMemory>
+    ensures { IfOk result (λ cell. cell ≡ get_or (left.now ++ right.now) place Null) }
+{
+    if place < left.len() {
+        cell_in(alloc, left, place)
+    } else {
+        cell_in(alloc, right, place - left.len())
+    }
+}
+
 // A cell of the row of a scope, or null past the ends.
 pub(crate) fn cell_at(
     alloc: Global,
@@ -56,10 +85,14 @@ pub(crate) fn cell_at(
         Scopes::Outermost => Ok(Cell::Null),
         Scopes::Inside(row, outer) => {
             if scope == 0 {
-                match row.get(place) {
-                    Some(cell) => copy(alloc, cell),
-                    None => Ok(Cell::Null),
-                }
+                cell_in(alloc, row, place)
+            } else {
+                cell_at(alloc, scope - 1, place, outer)
+            }
+        }
+        Scopes::Beside(left, right, outer) => {
+            if scope == 0 {
+                cell_beside(alloc, left, right, place)
             } else {
                 cell_at(alloc, scope - 1, place, outer)
             }

@@ -26,7 +26,7 @@ pub record AgreementLaws (T : Type 0) (same : T → T → Bool) : Type 0 where
   pub turned : (xs ys : List (Row T)) → Agree same xs ys → Agree same ys xs
   pub chained : (xs ys zs : List (Row T)) → Agree same xs ys → Agree same ys zs → Agree same xs zs
 
--- every operation keeps agreement
+-- operations keep agreement
 pub record KeptAgreement (T : Type 0) (same : T → T → Bool) : Type 0 where
   pub appended : (xs ys us vs : List (Row T)) → Agree same xs us → Agree same ys vs → Agree same (xs ++ ys) (us ++ vs)
   pub kept : (level : Level) (xs ys : List (Row T)) → Agree same xs ys → Agree same (keep level xs) (keep level ys)

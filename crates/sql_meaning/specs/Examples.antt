@@ -113,7 +113,7 @@ pub record OfJoins : Type 0 where
   pub inner : Gives (select (two da (c (codes "C"))) (s.join d true e (equal ea da))) ((int 1 ∷ int 5 ∷ []) ∷ (int 1 ∷ int 6 ∷ []) ∷ (int 2 ∷ Null ∷ []) ∷ [])
   -- SELECT D.A, C FROM D LEFT JOIN E ON E.A = D.A: a left row without partner stands once with nulls
   pub left : Gives (select (two da (c (codes "C"))) (s.left_join d true e (equal ea da))) ((int 1 ∷ int 5 ∷ []) ∷ (int 1 ∷ int 6 ∷ []) ∷ (int 2 ∷ Null ∷ []) ∷ (int 3 ∷ Null ∷ []) ∷ [])
-  -- SELECT D.A, C FROM D LEFT JOIN E ON C > 8 AND E.A = D.A: the ON of 1 is false, and of 2 and 3 false or unknown with each row
+  -- SELECT D.A, C FROM D LEFT JOIN E ON C > 8 AND E.A = D.A: with each row of E the ON of 1, of 2 and of 3 is false or unknown
   pub left_of_no_partner : Gives (select (two da (c (codes "C"))) (s.left_join d true e (s.both (above (c (codes "C")) (n 8)) (equal ea da)))) ((int 1 ∷ Null ∷ []) ∷ (int 2 ∷ Null ∷ []) ∷ (int 3 ∷ Null ∷ []) ∷ [])
   -- SELECT D.A, NONE.A FROM D LEFT JOIN NONE ON 1 = 1: no partner at all
   pub left_of_nothing : Gives (select (two da (of (codes "NONE") (codes "A"))) (s.left_join d true none (equal (n 1) (n 1)))) ((int 1 ∷ Null ∷ []) ∷ (int 2 ∷ Null ∷ []) ∷ (int 3 ∷ Null ∷ []) ∷ [])

@@ -1,5 +1,5 @@
-use Rattle.std.proofs.Common.{◌≡◌, ◌++◌, drop}
-use Rattle.sql_value.specs.Truths.{and, or}
+use Rattle.std.proofs.Common.{◌≡◌, drop}
+use Rattle.sql_value.specs.Truths.{or}
 use Rattle.checked_query.specs.Meaning as m
 use Rattle.checked_query.specs.Shown as shown
 use Rattle.query_loops.specs.Scopes.{group, known_in, scopes}

@@ -1,4 +1,4 @@
-use Rattle.std.proofs.Common.{◌≡◌, ◌∙◌, List, ap, refl}
+use Rattle.std.proofs.Common.{◌∙◌, List, ap, refl}
 use Rattle.std.proofs.lemmas.Result.{IfOk-weaker}
 use Rattle.checked_query.specs.Meaning as m
 use Rattle.checked_query.specs.Shown as shown

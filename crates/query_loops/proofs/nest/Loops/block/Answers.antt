@@ -1,28 +1,17 @@
-use Rattle.std.proofs.Common.{◌∙◌, List, ap, sym}
+use Rattle.std.proofs.Common.{◌∙◌, ap}
 use Rattle.std.proofs.lemmas.Result.{IfOk-weaker}
 use Rattle.checked_query.specs.Meaning as m
 use Rattle.checked_query.specs.Shown as shown
 use Rattle.row_bag.specs.Verdict.{those_there}
-use Rattle.row_bag.specs.declared.row.Row.{Row}
 use Rattle.sql_meaning.specs.Joins as joins
-use Rattle.sql_value.specs.declared.cell.Cell.{Cell}
-use Rattle.query_loops.specs.Groups.{cells_of, test_of}
 use Rattle.query_loops.specs.Rows.{cells_in, test_in}
 use Rattle.query_loops.specs.Scopes.{known_in, scopes}
-use Rattle.query_loops.specs.Sources.{held}
-use Rattle.query_loops.proofs.Each.{those_twice}
-use Rattle.query_loops.proofs.SameGroups.{groups_same}
-use Rattle.query_loops.proofs.SameRows.{kept_same, selected_same}
-use Rattle.query_loops.proofs.SameSets.{combined_same, distinct_if_same, intersected_same}
+use Rattle.query_loops.proofs.SameSets.{distinct_if_same}
 use Rattle.query_loops.proofs.nest.Loops.block.Goals as goal
 
 pub returns : goal.returns
 returns g c =
     IfOk-weaker c.distinct_if.result _ _ (λ rows h.
     ap those_there h
-    ∙ distinct_if_same c.args.distinct c.in_ok-rows.rows (joins.selected (test_in (known_in c.args.self.now.setting) (scopes c.args.s.now) (shown.test c.args.p.now)) (cells_in (known_in c.args.self.now.setting) (scopes c.args.s.now) (shown.value_list c.args.list.now)) (m.frames (known_in c.args.self.now.setting) (shown.from_list c.args.tables.now) (scopes c.args.s.now)))
-    (ap those_there c.in_ok-rows.ensures
-    ∙ those_twice (joins.selected (test_in (known_in c.args.self.now.setting) (scopes c.args.s.now) (shown.test c.args.p.now)) (cells_in (known_in c.args.self.now.setting) (scopes c.args.s.now) (shown.value_list c.args.list.now)) c.rows.result.now)
-    ∙ ap (λ (rs : List (Row (List Cell))). those_there (joins.selected (test_in (known_in c.args.self.now.setting) (scopes c.args.s.now) (shown.test c.args.p.now)) (cells_in (known_in c.args.self.now.setting) (scopes c.args.s.now) (shown.value_list c.args.list.now)) rs)) c.rows.ensures
-    ∙ selected_same (test_in (known_in c.args.self.now.setting) (scopes c.args.s.now) (shown.test c.args.p.now)) (cells_in (known_in c.args.self.now.setting) (scopes c.args.s.now) (shown.value_list c.args.list.now)) (held c.in_ok-frames.frames) (m.frames (known_in c.args.self.now.setting) (shown.from_list c.args.tables.now) (scopes c.args.s.now)) c.in_ok-frames.ensures))
+    ∙ distinct_if_same c.args.distinct c.in_ok-rows.rows (joins.selected (test_in (known_in c.args.self.now.setting) (scopes c.args.s.now) (shown.test c.args.p.now)) (cells_in (known_in c.args.self.now.setting) (scopes c.args.s.now) (shown.value_list c.args.list.now)) (m.frames (known_in c.args.self.now.setting) (shown.from_list c.args.tables.now) (scopes c.args.s.now))) c.in_ok-rows.ensures)
     c.distinct_if.ensures

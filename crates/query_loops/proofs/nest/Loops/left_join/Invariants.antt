@@ -1,7 +1,6 @@
 use Rattle.std.proofs.Common.{◌≡◌, ◌++◌, ◌∷◌, [], drop}
-use Rattle.checked_query.specs.Meaning as m
 use Rattle.checked_query.specs.Shown as shown
-use Rattle.query_loops.specs.Scopes.{group, known_in, scopes}
+use Rattle.query_loops.specs.Scopes.{known_in, scopes}
 use Rattle.row_bag.specs.Verdict.{those_there}
 use Rattle.row_bag.specs.Bags.{bind}
 use Rattle.sql_meaning.specs.Joins.{or_else, partners}

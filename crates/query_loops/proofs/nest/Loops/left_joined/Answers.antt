@@ -1,18 +1,16 @@
-use Rattle.std.proofs.Common.{◌∷◌, ◌∙◌, [], List, ap, ap₂, sym, replicate}
+use Rattle.std.proofs.Common.{◌∙◌, List, ap₂, replicate}
 use Rattle.std.proofs.lemmas.Result.{IfOk-weaker}
 use Rattle.checked_query.specs.Meaning as m
 use Rattle.checked_query.specs.Shown as shown
-use Rattle.row_bag.specs.Bags.{bind}
 use Rattle.row_bag.specs.Verdict.{those_there}
 use Rattle.row_bag.specs.declared.row.Row.{Row}
 use Rattle.sql_meaning.specs.Joins as joins
 use Rattle.sql_value.specs.declared.cell.Cell.{Cell}
 use Rattle.sql_value.specs.declared.cell.Cell.TheVariants.{Null}
-use Rattle.query_loops.specs.Rows.{test_in, with_nulls}
+use Rattle.query_loops.specs.Rows.{test_in}
 use Rattle.query_loops.specs.Scopes.{known_in, scopes}
 use Rattle.query_loops.specs.Sources.{held}
-use Rattle.query_loops.proofs.Each.{joined_rows}
-use Rattle.query_loops.proofs.SameRows.{kept_same, left_join_same, product_same}
+use Rattle.query_loops.proofs.SameRows.{left_join_same}
 use Rattle.query_loops.proofs.nest.Loops.left_joined.Goals as goal
 
 pub returns : goal.returns

@@ -1,4 +1,4 @@
-use Rattle.std.proofs.Common.{◌≡◌, ◌++◌, drop}
+use Rattle.std.proofs.Common.{◌≡◌, drop}
 use Rattle.checked_query.specs.Meaning as m
 use Rattle.checked_query.specs.Shown as shown
 use Rattle.query_loops.specs.Scopes.{group, known_in, scopes}
