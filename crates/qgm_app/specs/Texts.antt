@@ -1,5 +1,5 @@
 -- What the two texts declare and ask, or the number that refuses them. Of several causes the first in the order of these words counts.
-use Rattle.std.specs.Prelude.{ℕ, zero, suc, ◌≡◌, ⊤, Bool, true, false, not, List, [], map, Option, Some, None, Result, Ok, Err}
+use Rattle.std.specs.Prelude.{ℕ, zero, suc, ◌≡◌, ⊤, Bool, true, false, List, Option, Some, None, Result, Ok, Err}
 use Rattle.sql_ast.specs.Syntax as s
 use Rattle.sql_catalog.specs.Catalog.{Declared, declared}
 use Rattle.query_faults.specs.Views.{fault}

@@ -22,9 +22,10 @@ use crate::report::Report;
 use crate::texts::{TextRefusal, read_catalog, read_query};
 use csv_tables::{DataRefusal, load, write_rows};
 use io_edge::{Files, Interruption, fetch_file};
+use plain_exec::answer_laws;
 use qgm_base::OutOfMemory;
 use query_faults::ViewRefusal;
-use row_bag::{Bag, Tables, Verdict, bag_laws, sorted, verdict};
+use row_bag::{Bag, Tables, Verdict, sorted, verdict};
 use sql_catalog::Catalog;
 use sql_check::{Checked, Views, check_views};
 use sqlite_items::Items;
@@ -44,12 +45,11 @@ fn print(alloc: Global, checked: &Checked, bag: Bag) -> Result<Items<u8>, OutOfM
 }
 
 // The report of a query with this bag.
-#[tactic(auto, using(crate::proofs::Alike::answers_alike))]
 fn report_rows(alloc: Global, checked: &Checked, bag: Bag) -> Result<Report, OutOfMemory>
     ensures report { IfOk result (λ report. (rows : List (Row (List Cell))) → Agree same_cells bag rows → report ≡ report_of (answer_of checked.now.names checked.now.order (verdict rows))) }
     ensures line { IfOk result (λ report. report ≢ Usage) }
 {
-    bag_laws();
+    answer_laws();
     match verdict(bag) {
         Verdict::Rows(bag) => Ok(Report::Rows(print(alloc, checked, bag)?)),
         Verdict::Error(kind) => Ok(Report::Error(kind)),

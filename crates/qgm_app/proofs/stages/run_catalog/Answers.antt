@@ -1,4 +1,3 @@
-use Rattle.std.proofs.Common.{refl}
 use Rattle.io_edge.specs.Outcome.{ended}
 use Rattle.sql_catalog.specs.Shown as catalogs
 use Rattle.qgm_app.proofs.Steps.{view-refused, views-taken}
