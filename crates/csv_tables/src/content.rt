@@ -4,7 +4,7 @@ ghost use Rattle.std.specs.Str.{bytes_eq};
 ghost use Rattle.csv_tables.specs.Cells.{integer_of, null_text};
 ghost use Rattle.csv_tables.specs.Contents as spec;
 
-use qgm_base::{OutOfMemory, Text};
+use shared_types::{OutOfMemory, Text};
 use sql_ast::DataType;
 use sql_value::Cell;
 use std::alloc::Global;

@@ -5,8 +5,8 @@ ghost use Rattle.csv_tables.specs.Differ as spec;
 ghost use Rattle.csv_tables.specs.KeyCells.{contents_in, is_null_cell, key_cells, keys_in};
 
 use crate::seen::ReadRecord;
-use qgm_base::OutOfMemory;
 use row_bag::Row;
+use shared_types::OutOfMemory;
 use sql_catalog::KeyDescriptor;
 use sql_value::Cell;
 use std::alloc::Global;

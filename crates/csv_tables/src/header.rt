@@ -6,7 +6,7 @@ ghost use Rattle.csv.specs.Records.{fields_of};
 ghost use Rattle.csv_tables.specs.Tables.{fits_column, fits_name};
 
 use csv::ByteRecord;
-use qgm_base::{OutOfMemory, Text};
+use shared_types::{OutOfMemory, Text};
 use sql_catalog::ColumnDescriptor;
 use std::alloc::Global;
 

@@ -9,7 +9,7 @@ ghost use Rattle.csv_tables.specs.KeyCells as spec;
 ghost use Rattle.csv_tables.specs.Ties.{cells_alike, cells_equiv, cell_alike, cell_equiv};
 
 use indexmap::IndexSet;
-use qgm_base::OutOfMemory;
+use shared_types::OutOfMemory;
 use smallvec::SmallVec;
 use sql_value::{Cell, cell_order, copy};
 use std::alloc::Global;

@@ -11,8 +11,6 @@ mod refusal;
 mod rule;
 mod seen;
 mod table;
-#[cfg(test)]
-mod tests;
 mod write;
 
 pub use loading::load;

@@ -5,7 +5,7 @@ ghost use Rattle.csv.specs.Records.{fields_of};
 ghost use Rattle.csv_tables.specs.Records.{Fields, records_of, records_left, FailedOrPlain};
 
 use csv::{ByteRecord, Reader, ReaderBuilder};
-use qgm_base::OutOfMemory;
+use shared_types::OutOfMemory;
 use std::alloc::Global;
 use std::marker::Model;
 

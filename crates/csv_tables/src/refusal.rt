@@ -1,7 +1,7 @@
 // Why files hold no tables of a catalog.
 use crate::rule::Rule;
 use io_edge::Interruption;
-use qgm_base::{OutOfMemory, Text};
+use shared_types::{OutOfMemory, Text};
 use thiserror::Error;
 
 /// Why the files do not hold the tables of a catalog.

@@ -7,8 +7,8 @@ ghost use Rattle.csv_tables.specs.Seen as spec;
 
 use crate::content::Content;
 use crate::key_cells::{KeyCells, SeenCells};
-use qgm_base::OutOfMemory;
 use row_bag::Row;
+use shared_types::OutOfMemory;
 use sql_catalog::KeyDescriptor;
 use sql_value::Cell;
 use sqlite_items::Items;

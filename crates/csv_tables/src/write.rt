@@ -8,8 +8,8 @@ ghost use Rattle.csv_tables.specs.Printed.{column_text, header_from, printed_row
 
 use csv::{ByteRecord, WriterBuilder};
 use itoa::Buffer;
-use qgm_base::{OutOfMemory, Text};
 use row_bag::Bag;
+use shared_types::{OutOfMemory, Text};
 use sql_value::{Cell, OutNames};
 use std::alloc::Global;
 

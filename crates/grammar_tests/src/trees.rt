@@ -1,6 +1,6 @@
 // Trees as text, so that tests can write them out: each operator with its operands in round
 // brackets, brackets of the text as square ones, subqueries in braces, lists after a colon.
-use qgm_base::{CmpOp, OutOfMemory};
+use shared_types::{CmpOp, OutOfMemory};
 use sql_ast::{
     AdditiveOp, Alias, Arm, Block, Choice, Column, Cond, Correlation, DataType, Direction, Expr,
     Filter, Item, MultiplicativeOp, Otherwise, Quantifier, Query, QueryText, Res, SelectList,

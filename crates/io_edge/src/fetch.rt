@@ -4,7 +4,7 @@ ghost use Rattle.io_edge.specs.Causes.{Rose};
 ghost use Rattle.io_edge.specs.Outcome.{Comes, ended, read, RoseIfFault};
 
 use crate::{Files, ReadRefusal};
-use qgm_base::{OutOfMemory, Text};
+use shared_types::{OutOfMemory, Text};
 use sqlite_items::Items;
 use std::alloc::Global;
 use thiserror::Error;

@@ -8,8 +8,6 @@ mod mem_sink;
 mod real_files;
 mod real_sink;
 mod sink;
-#[cfg(test)]
-mod tests;
 
 pub use crate::fetch::{Interruption, fetch_file};
 pub use files::{Files, ReadRefusal};

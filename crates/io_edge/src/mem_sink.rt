@@ -4,7 +4,7 @@ ghost use Rattle.io_edge.specs.Causes.{raised, Rose};
 ghost use Rattle.io_edge.specs.Outside.{TakesSome, taken, written_after};
 
 use crate::{Failed, Sink};
-use qgm_base::OutOfMemory;
+use shared_types::OutOfMemory;
 use std::alloc::Global;
 
 /// A sink in memory. Its room is reserved when it is made, so no write takes memory.

@@ -2,12 +2,12 @@
 use Rattle.std.proofs.Common.{◌≡◌, ℕ, suc, true, List, [], ◌∷◌, map, Option, Some, None, refl, ap, sym, ◌∙◌, inl, inr}
 use Rattle.std.specs.Cmp.Lexicographic.{same_text}
 use Rattle.std.proofs.lemmas.Bool.{cases_Bool, or_left, or_right}
-use Rattle.checked_query.specs.Meaning as m
-use Rattle.checked_query.specs.Trees as q
-use Rattle.checked_query.specs.Views.{ViewTree, body_of, known_at, viewed}
+use Rattle.sql_meaning.specs.ResolvedMeaning as m
+use Rattle.sql_meaning.specs.ResolvedTrees as q
+use Rattle.sql_meaning.specs.ResolvedViews.{ViewTree, body_of, known_at, viewed}
 use Rattle.row_bag.specs.Verdict.{those_there}
 use Rattle.row_bag.specs.declared.tables.Table.{Table}
-use Rattle.sql_catalog.specs.Names.{same_name}
+use Rattle.sql_ast.specs.Names.{same_name}
 use Rattle.query_loops.specs.Laws.{ByNamesRead}
 use Rattle.query_loops.specs.Reads.{SameAt, query_reads}
 use Rattle.query_loops.specs.There.{SameThere}

@@ -1,11 +1,11 @@
 -- Names of views, found in the rows of their bodies.
 use Rattle.std.proofs.Common.{◌≡◌, ℕ, Bool, true, false, cond, List, [], ◌∷◌, ◌++◌, Option, Some, None, refl, ap, ◌∙◌}
-use Rattle.checked_query.specs.Meaning as m
-use Rattle.checked_query.specs.Views.{ViewTree, body_of, viewed}
+use Rattle.sql_meaning.specs.ResolvedMeaning as m
+use Rattle.sql_meaning.specs.ResolvedViews.{ViewTree, body_of, viewed}
 use Rattle.row_bag.specs.Tables.{bag_named, has_name}
 use Rattle.row_bag.specs.Verdict.{those_there}
 use Rattle.row_bag.specs.declared.tables.Table.{Table}
-use Rattle.sql_catalog.specs.Names.{same_name}
+use Rattle.sql_ast.specs.Names.{same_name}
 use Rattle.sql_meaning.specs.Meaning.{rows_or_none}
 use Rattle.sql_meaning.specs.Scopes.{first_of}
 use Rattle.query_loops.specs.There.{SameThere}

@@ -1,11 +1,11 @@
 -- Which views some queries read.
 use Rattle.std.specs.Prelude.{ℕ, Bool, false, ◌||◌, if◌then◌else◌, List, [], ◌∷◌, map}
 use denote.Bor.{Bor}
-use Rattle.checked_query.specs.Shown as shown
-use Rattle.checked_query.specs.Trees as q
-use Rattle.checked_query.specs.Views.{ViewTree}
-use Rattle.checked_query.specs.declared.tree.Query.{Query}
-use Rattle.checked_query.specs.declared.tree.View.{View}
+use Rattle.sql_meaning.specs.ResolvedShown as shown
+use Rattle.sql_meaning.specs.ResolvedTrees as q
+use Rattle.sql_meaning.specs.ResolvedViews.{ViewTree}
+use Rattle.sql_meaning.specs.declared.resolved.Query.{Query}
+use Rattle.sql_meaning.specs.declared.resolved.View.{View}
 use Rattle.query_loops.specs.Reads.{query_reads}
 
 -- the queries that references point to

@@ -4,16 +4,16 @@ ghost use Rattle.row_bag.specs.Bags.{Agree};
 ghost use Rattle.row_bag.specs.Sets.{same_cells};
 ghost use Rattle.row_bag.specs.Verdict.{verdict};
 ghost use Rattle.sql_ast.specs.Syntax.{QueryText};
-ghost use Rattle.sql_catalog.specs.Catalog.{Declared};
+ghost use Rattle.sql_ast.specs.Declared.{Declared};
 ghost use Rattle.sql_check.specs.Checked.{IsFilled, rows_of};
 ghost use Rattle.sql_meaning.specs.Meaning.{answer, answer_of, known_of, rows};
 ghost use Rattle.plain_exec.specs.Texts.{IsOfText};
 
 use crate::laws::answer_laws;
 use crate::views::known_views;
-use qgm_base::OutOfMemory;
 use query_loops::loop_laws;
 use row_bag::{Bag, Tables};
+use shared_types::OutOfMemory;
 use sql_check::{Checked, Views};
 use std::alloc::Global;
 

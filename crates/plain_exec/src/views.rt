@@ -1,18 +1,18 @@
 // What the views that a query reads stand for.
 ghost use Rattle.std.specs.Prelude.{◌≡◌, ◌∷◌, [], ℕ, List, map, IfOk};
-ghost use Rattle.checked_query.specs.Meaning as m;
-ghost use Rattle.checked_query.specs.Shown as shown;
-ghost use Rattle.checked_query.specs.Views.{body_of, known_at, viewed};
+ghost use Rattle.sql_meaning.specs.ResolvedMeaning as m;
+ghost use Rattle.sql_meaning.specs.ResolvedShown as shown;
+ghost use Rattle.sql_meaning.specs.ResolvedViews.{body_of, known_at, viewed};
 ghost use Rattle.plain_exec.specs.Reading as spec;
 ghost use Rattle.plain_exec.specs.Reading.{queries, trees};
 ghost use Rattle.query_loops.specs.Reads.{SameAt};
 ghost use Rattle.query_loops.specs.Scopes.{named};
 ghost use Rattle.query_loops.specs.There.{SameThere};
 
-use checked_query::{Query, View};
-use qgm_base::{OutOfMemory, Text};
 use query_loops::{loop_laws, reads, rows_of};
 use row_bag::Table;
+use shared_types::{OutOfMemory, Text};
+use sql_meaning::{Query, View};
 use std::alloc::Global;
 
 // Whether one of these queries reads this table.

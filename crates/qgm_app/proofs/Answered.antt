@@ -5,7 +5,8 @@ use Rattle.row_bag.specs.Verdict.{verdict}
 use Rattle.row_bag.specs.declared.row.Row.{Row}
 use Rattle.row_bag.specs.declared.tables.Table.{Table}
 use Rattle.sql_ast.specs.Syntax as s
-use Rattle.sql_catalog.specs.Catalog.{Declared, fault}
+use Rattle.sql_ast.specs.Declared.{Declared}
+use Rattle.sql_catalog.specs.Catalog.{fault}
 use Rattle.sql_meaning.specs.Meaning as named
 use Rattle.sql_value.specs.declared.cell.Cell.{Cell}
 use Rattle.sql_check.specs.Checked.{IsFilled, answer_of, rows_of}

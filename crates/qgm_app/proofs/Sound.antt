@@ -7,12 +7,13 @@ use Rattle.row_bag.specs.Tables.{bag_named}
 use Rattle.row_bag.specs.declared.tables.Table.{Table}
 use Rattle.sql_ast.specs.declared.schema.TableDecl.{TableDecl}
 use Rattle.sql_ast.specs.Syntax as s
-use Rattle.sql_catalog.specs.Catalog.{Declared, all_of, declared, fault, table_named, unless}
-use Rattle.sql_catalog.specs.Names.{same_name}
+use Rattle.sql_ast.specs.Declared.{Declared, table_named}
+use Rattle.sql_catalog.specs.Catalog.{all_of, declared, fault, unless}
+use Rattle.sql_ast.specs.Names.{same_name}
 use Rattle.sql_check.specs.Checked.{IsFilled}
 use Rattle.sql_meaning.specs.Meaning.{relation_of}
 use Rattle.sql_meaning.specs.Names.{Relation}
-use Rattle.query_places.specs.Agreed as places
+use Rattle.name_resolution.specs.Agreed as places
 use Rattle.table_block.specs.Resolved.{IsWide}
 use Rattle.qgm_app.specs.Texts.{◌>>=◌, catalog_of, schema_of}
 use Rattle.qgm_app.proofs.Wide.{wide-tables}

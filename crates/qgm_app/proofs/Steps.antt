@@ -9,15 +9,15 @@ use Rattle.io_edge.specs.declared.fetch.Interruption.TheVariants.{ReadFault, Mem
 use Rattle.io_edge.proofs.Order.{comes-bind, comes-bind-faulted, comes-bind-starved, comes-done, comes-mapped}
 use Rattle.row_bag.specs.declared.tables.Table.{Table}
 use Rattle.sql_ast.specs.Syntax as s
-use Rattle.sql_catalog.specs.Catalog.{Declared}
+use Rattle.sql_ast.specs.Declared.{Declared}
 use Rattle.qgm_app.specs.Outcome.{from_tables, outcome, reported, with_catalog, with_line, with_query, with_task, with_views}
 use Rattle.qgm_app.specs.Plans.{IsPlan}
 use Rattle.qgm_app.specs.Texts.{GivesPlan, catalog_of, valid_query}
 use Rattle.qgm_app.specs.declared.plan.Plan.{Plan}
-use Rattle.query_faults.specs.Views.{view_refusal}
+use Rattle.query_checks.specs.Views.{view_refusal}
 use Rattle.sql_check.specs.declared.checked.Views.{Views}
-use Rattle.qgm_words.specs.Line.{LineText}
-use Rattle.qgm_words.specs.Reading.{line}
+use Rattle.command_line.specs.Line.{LineText}
+use Rattle.command_line.specs.Reading.{line}
 use Rattle.qgm_app.specs.declared.report.Report.{Report}
 use Rattle.qgm_app.specs.declared.report.Report.TheVariants.{Usage, SchemaRefused, ViewRefused, DataRefused, QueryRefused}
 use Rattle.qgm_app.specs.declared.texts.TextRefusal.TheVariants.{Number}

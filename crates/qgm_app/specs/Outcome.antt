@@ -8,11 +8,11 @@ use Rattle.io_edge.specs.Outcome.{Outcome, done, read, ◌>>=◌}
 use Rattle.io_edge.specs.Outside.{File}
 use Rattle.row_bag.specs.declared.tables.Table.{Table}
 use Rattle.sql_ast.specs.Syntax as s
-use Rattle.sql_catalog.specs.Catalog.{Declared}
+use Rattle.sql_ast.specs.Declared.{Declared}
 use Rattle.sql_meaning.specs.Meaning.{Answer, answer, answer_error, answer_rows, known_of}
-use Rattle.query_faults.specs.Views.{view_refusal}
-use Rattle.qgm_words.specs.Line.{LineText, TaskText, explain, gen, run}
-use Rattle.qgm_words.specs.Reading.{line}
+use Rattle.query_checks.specs.Views.{view_refusal}
+use Rattle.command_line.specs.Line.{LineText, TaskText, explain, gen, run}
+use Rattle.command_line.specs.Reading.{line}
 use Rattle.qgm_app.specs.Texts.{catalog_of, valid_query}
 use Rattle.qgm_app.specs.declared.report.Report.{Report}
 use Rattle.qgm_app.specs.declared.report.Report.TheVariants.{Rows, Error, Usage, SchemaRefused, ViewRefused, DataRefused, QueryRefused}

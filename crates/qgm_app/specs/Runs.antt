@@ -4,7 +4,7 @@ use Rattle.io_edge.specs.Outcome.{AskedOf, Outcome, failed_name}
 use Rattle.io_edge.specs.Outside.{Ask, File, StopsShort, Told, with_asked, written_after}
 use Rattle.io_edge.specs.declared.fetch.Interruption.{Interruption}
 use Rattle.io_edge.specs.declared.fetch.Interruption.TheVariants.{ReadFault, Memory}
-use Rattle.qgm_base.specs.declared.memory.OutOfMemory.{OutOfMemory}
+use Rattle.shared_types.specs.declared.memory.OutOfMemory.{OutOfMemory}
 use Rattle.qgm_app.specs.Printed.{read_failed, said_of}
 use Rattle.qgm_app.specs.declared.report.Report.{Report}
 use Rattle.qgm_app.specs.declared.report.Report.TheVariants.{Usage}

@@ -7,9 +7,9 @@ ghost use Rattle.sql_catalog.specs.Shown as catalogs;
 ghost use Rattle.table_block.specs.Resolved.{rows_at};
 ghost use Rattle.qgm_app.specs.Plans.{BlockGives, plan_rows};
 
-use qgm_base::OutOfMemory;
 use qgm_build::build;
 use row_bag::{Bag, Tables};
+use shared_types::OutOfMemory;
 use sql_ast::QueryText;
 use sql_catalog::Catalog;
 use sql_check::{Checked, Views};

@@ -3,7 +3,7 @@ ghost use Rattle.std.specs.Prelude.{◌≡◌, IfOk, encode_utf8_all};
 ghost use Rattle.qgm_app.specs.declared.report.Report.TheVariants.{DataRefused, Error, ViewRefused};
 ghost use Rattle.qgm_app.specs.Printed.{read_failed, said_of};
 
-use qgm_base::{OutOfMemory, Text};
+use shared_types::{OutOfMemory, Text};
 use sql_text::Name;
 use sql_value::Kind;
 use sqlite_items::Items;

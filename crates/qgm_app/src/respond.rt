@@ -3,8 +3,8 @@ ghost use Rattle.std.specs.Prelude.{◌≡◌, ◌≢◌, ◌≤◌, ◌<◌, tr
 ghost use Rattle.std.specs.String.{string_bytes};
 ghost use Rattle.io_edge.specs.Causes.{Rose};
 ghost use Rattle.io_edge.specs.Outcome.{Comes, RoseIfFault, ended};
-ghost use Rattle.qgm_words.specs.Line.{is_built, task_text};
-ghost use Rattle.qgm_words.specs.Reading.{line};
+ghost use Rattle.command_line.specs.Line.{is_built, task_text};
+ghost use Rattle.command_line.specs.Reading.{line};
 ghost use Rattle.qgm_app.specs.declared.report.Report.TheVariants.{Usage};
 ghost use Rattle.qgm_app.specs.Outcome.{outcome, with_task};
 ghost use Rattle.qgm_app.specs.Printed.{said_of};
@@ -12,9 +12,9 @@ ghost use Rattle.qgm_app.specs.Runs.{IsUsage, Prepares};
 
 use crate::report::{Report, Said, say_fault};
 use crate::stages::run_schema;
+use command_line::{Line, Task, WordsRefusal, read_line};
 use io_edge::{Files, Interruption};
-use qgm_base::OutOfMemory;
-use qgm_words::{Line, Task, WordsRefusal, read_line};
+use shared_types::OutOfMemory;
 use std::alloc::Global;
 use std::sync::ledger::Ledger;
 use step_count::Steps;

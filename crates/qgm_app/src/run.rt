@@ -4,7 +4,7 @@ ghost use Rattle.std.specs.String.{string_bytes};
 ghost use Rattle.io_edge.specs.Causes.{Rose};
 ghost use Rattle.io_edge.specs.Outcome.{AskedOf, failed_name};
 ghost use Rattle.io_edge.specs.Outside.{Ask, StopsShort, written_after};
-ghost use Rattle.qgm_words.specs.Reading.{line};
+ghost use Rattle.command_line.specs.Reading.{line};
 ghost use Rattle.sql_value.specs.declared.cell.Kind.{Kind};
 ghost use Rattle.qgm_app.specs.declared.report.Report.{Report};
 ghost use Rattle.qgm_app.specs.declared.report.Report.TheVariants.{Rows, Error, SchemaRefused, ViewRefused, DataRefused, QueryRefused};

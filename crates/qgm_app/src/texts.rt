@@ -1,6 +1,6 @@
 // From the two texts to a catalog and the plan of a query.
 ghost use Rattle.std.specs.Prelude.{◌≡◌, List, [], IfOk};
-ghost use Rattle.query_faults.specs.Views.{fault};
+ghost use Rattle.query_checks.specs.Views.{fault};
 ghost use Rattle.row_bag.specs.declared.tables.Table.{Table};
 ghost use Rattle.sql_ast.specs.Shown as shown;
 ghost use Rattle.sql_catalog.specs.Shown as catalogs;
@@ -13,8 +13,8 @@ ghost use Rattle.qgm_app.specs.Texts.{Gives, GivesPlan, catalog_of, query_of, re
 ghost use Rattle.qgm_app.specs.declared.texts.TextRefusal.TheVariants.{Memory};
 
 use crate::plan::{Plan, block_of};
-use qgm_base::OutOfMemory;
-use query_faults::QueryRefusal;
+use query_checks::QueryRefusal;
+use shared_types::OutOfMemory;
 use sql_ast::{QueryText, Schema};
 use sql_catalog::{Catalog, SchemaRefusal, build};
 use sql_check::{Checked, Views, check};

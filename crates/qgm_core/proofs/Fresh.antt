@@ -9,7 +9,7 @@ use Rattle.std.proofs.lemmas.List.Elements.{All-append, All-take, All-drop, All-
 use Rattle.std.proofs.lemmas.List.Folds.{list_any_none}
 use Rattle.qgm_core.specs.Boxes.{is_box, is_quant, owns}
 use Rattle.qgm_core.specs.declared.graph.Node.{Node}
-use Rattle.qgm_core.specs.declared.owned.Range.{Range}
+use Rattle.qgm_core.specs.declared.owned.OwnedQuant.{OwnedQuant}
 
 pub map_insert : {X Y : Type 0} (f : X → Y) (xs : List X) (i : ℕ) (x : X) → insert (map f xs) i (f x) ≡ map f (insert xs i x)
 map_insert f xs i x = simp (map-append, take-map, drop-map)
@@ -19,7 +19,7 @@ no_box next boxes a h =
     let e : list_any (is_box next) boxes ≡ false = list_any_none (is_box next) boxes (λ k d l. ne_eqb _ next (λ q. let m = a k d l in omega arith)) in
     cc
 
-no_range : (next : ℕ) (ranges : List Range) → All (λ r. r.id < next) ranges → list_any (is_quant next) ranges ≡ false
+no_range : (next : ℕ) (ranges : List OwnedQuant) → All (λ r. r.id < next) ranges → list_any (is_quant next) ranges ≡ false
 no_range next ranges a = list_any_none (is_quant next) ranges (λ k d l. ne_eqb _ next (λ q. let m = a k d l in omega arith))
 
 pub no_quant : (next : ℕ) (boxes : List Node) → All (λ n. All (λ r. r.id < next) n.quants) boxes → list_any (owns next) boxes ≡ true → ⊥

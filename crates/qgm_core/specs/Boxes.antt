@@ -5,7 +5,7 @@ use Rattle.sql_value.specs.declared.order_key.OrderKey.{OrderKey}
 use Rattle.qgm_core.specs.declared.graph.Node.{Node}
 use Rattle.qgm_core.specs.declared.kinds.QuantKind.{QuantKind}
 use Rattle.qgm_core.specs.declared.owned.Quant.{Quant}
-use Rattle.qgm_core.specs.declared.owned.Range.{Range}
+use Rattle.qgm_core.specs.declared.owned.OwnedQuant.{OwnedQuant}
 use Rattle.qgm_core.specs.declared.parts.BoxParts.{BoxParts}
 
 -- the boxes by rank, each with its quantifiers by place; the root; the output names; the order keys
@@ -18,7 +18,7 @@ pub record QueryGraph : Type 0 where
 abbrev pub is_box : ℕ → Node → Bool
 is_box b n = n.id == b
 
-abbrev pub is_quant : ℕ → Range → Bool
+abbrev pub is_quant : ℕ → OwnedQuant → Bool
 is_quant q r = r.id == q
 
 abbrev pub owns : ℕ → Node → Bool
@@ -46,16 +46,16 @@ abbrev pub box_of : ℕ → QueryGraph → Option Node
 box_of b g = first (is_box b) g.boxes
 
 -- the quantifiers of a box that is found
-abbrev pub quants_in : Option Node → List Range
+abbrev pub quants_in : Option Node → List OwnedQuant
 quants_in None = []
 quants_in (Some n) = n.quants
 
 -- the quantifiers that a box owns, by place
-abbrev pub quants_of : ℕ → QueryGraph → List Range
+abbrev pub quants_of : ℕ → QueryGraph → List OwnedQuant
 quants_of b g = quants_in (box_of b g)
 
 -- a quantifier of this owner
-abbrev pub quant_by : ℕ → Option Range → Option Quant
+abbrev pub quant_by : ℕ → Option OwnedQuant → Option Quant
 quant_by owner None = None
 quant_by owner (Some r) = Some (record { owner = owner; kind = r.kind; over = r.over })
 
@@ -89,14 +89,14 @@ put_at (Some c) n boxes = put_below (is_box c) n boxes
 abbrev pub with_box : Option ℕ → Node → QueryGraph → QueryGraph
 with_box below n g = record g { boxes = put_at below n g.boxes }
 
-abbrev pub range : ℕ → QuantKind → ℕ → Range
+abbrev pub range : ℕ → QuantKind → ℕ → OwnedQuant
 range q kind over = record { id = q; kind = kind; over = over }
 
-abbrev pub put_range : ℕ → Range → Node → Node
+abbrev pub put_range : ℕ → OwnedQuant → Node → Node
 put_range i r n = record n { quants = insert n.quants i r }
 
 -- a box owns a quantifier more, at place i from 0; all else stays
-abbrev pub with_quant : ℕ → ℕ → Range → QueryGraph → QueryGraph
+abbrev pub with_quant : ℕ → ℕ → OwnedQuant → QueryGraph → QueryGraph
 with_quant b i r g = record g { boxes = change (is_box b) (put_range i r) g.boxes }
 
 -- the first that passes stands here: it is read here, and a write here changes it alone

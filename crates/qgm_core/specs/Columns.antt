@@ -7,7 +7,7 @@ use Rattle.qgm_core.specs.declared.graph.Node.{Node}
 use Rattle.qgm_core.specs.declared.kinds.BoxKind.{BoxKind}
 use Rattle.qgm_core.specs.declared.kinds.BoxKind.TheVariants.{Base, Select}
 use Rattle.qgm_core.specs.declared.kinds.Column.{Column}
-use Rattle.qgm_core.specs.declared.owned.Range.{Range}
+use Rattle.qgm_core.specs.declared.owned.OwnedQuant.{OwnedQuant}
 
 -- the columns that are named, in the order of the text
 abbrev mutual
@@ -38,11 +38,11 @@ abbrev mutual
 abbrev pub columns_of : Node → List Column
 columns_of n = flat_map columns_in n.parts.head ++ flat_map columns_in_cond n.parts.conds.items
 
-abbrev pub range_in : ℕ → Option Node → Option Range
+abbrev pub range_in : ℕ → Option Node → Option OwnedQuant
 range_in q None = None
 range_in q (Some n) = first (is_quant q) n.quants
 
-abbrev pub over_box : List Node → Option Range → Option Node
+abbrev pub over_box : List Node → Option OwnedQuant → Option Node
 over_box boxes None = None
 over_box boxes (Some r) = first (is_box r.over) boxes
 

@@ -15,7 +15,7 @@ use Rattle.qgm_core.specs.declared.kinds.QuantKind.{QuantKind}
 use Rattle.qgm_core.specs.declared.kinds.QuantKind.TheVariants.{F, E, A, S}
 use Rattle.qgm_core.specs.declared.kinds.Role.{Role}
 use Rattle.qgm_core.specs.declared.kinds.Role.TheVariants.{Plain, Magic, Fed}
-use Rattle.qgm_core.specs.declared.owned.Range.{Range}
+use Rattle.qgm_core.specs.declared.owned.OwnedQuant.{OwnedQuant}
 
 abbrev pub is_none : {X : Type 0} → List X → Bool
 is_none [] = true
@@ -91,11 +91,11 @@ abbrev mutual
   unfolded_cond (or a b) = unfolded_cond a && unfolded_cond b
   unfolded_cond (negated a) = unfolded_cond a
 
-abbrev pub all_F : List Range → Bool
+abbrev pub all_F : List OwnedQuant → Bool
 all_F rs = list_all (λ r. is_F r.kind) rs
 
 -- an S quantifier ranges over b
-abbrev pub is_scalar_in : List Range → ℕ → Bool
+abbrev pub is_scalar_in : List OwnedQuant → ℕ → Bool
 is_scalar_in rs b = list_any (λ r. (r.over == b) && is_S r.kind) rs
 
 abbrev pub is_scalar : List Node → ℕ → Bool
@@ -115,7 +115,7 @@ columns_from q k zero = []
 columns_from q k (suc w) = record { quant = q; place = k } ∷ columns_from q (k + 1) w
 
 -- all columns of the box that a quantifier ranges over
-abbrev pub columns_through : List Node → Range → List Column
+abbrev pub columns_through : List Node → OwnedQuant → List Column
 columns_through boxes r = columns_from r.id 1 (width_found (first (is_box r.over) boxes))
 
 abbrev pub same_columns : List Column → List Column → Bool
@@ -132,13 +132,13 @@ only q [] = false
 only q (p ∷ ps) = (p == q) && is_none ps
 
 -- the first is F over a magic box, the second F over an open box in which the first alone is free, and the head is all columns of both
-abbrev pub fed_by_two : List Node → List Term → Range → Range → Bool
+abbrev pub fed_by_two : List Node → List Term → OwnedQuant → OwnedQuant → Bool
 fed_by_two boxes head a b =
     is_F a.kind && is_F b.kind && magic_found (first (is_box a.over) boxes) && only a.id (free_in boxes b.over)
     && heads_are head (columns_through boxes a ++ columns_through boxes b)
 
 -- a box of two such quantifiers
-abbrev pub fed_by : List Node → List Term → List Range → Bool
+abbrev pub fed_by : List Node → List Term → List OwnedQuant → Bool
 fed_by boxes head [] = false
 fed_by boxes head (a ∷ []) = false
 fed_by boxes head (a ∷ b ∷ []) = fed_by_two boxes head a b

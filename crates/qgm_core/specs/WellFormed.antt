@@ -14,7 +14,7 @@ use Rattle.qgm_core.specs.declared.kinds.Distinct.{Distinct}
 use Rattle.qgm_core.specs.declared.kinds.Distinct.TheVariants.{Enforce, Preserve, Permit}
 use Rattle.qgm_core.specs.declared.kinds.QuantKind.{QuantKind}
 use Rattle.qgm_core.specs.declared.kinds.QuantKind.TheVariants.{F, E, A, S}
-use Rattle.qgm_core.specs.declared.owned.Range.{Range}
+use Rattle.qgm_core.specs.declared.owned.OwnedQuant.{OwnedQuant}
 
 abbrev pub has_box : List Node → ℕ → Bool
 has_box boxes b = list_any (is_box b) boxes
@@ -29,7 +29,7 @@ once x [] = false
 once x (y ∷ ys) = if y == x then not (holds x ys) else once x ys
 
 -- each quantifier ranges over one of these boxes
-abbrev pub all_over : List Node → List Range → Bool
+abbrev pub all_over : List Node → List OwnedQuant → Bool
 all_over boxes rs = list_all (λ r. has_box boxes r.over) rs
 
 -- the boxes that quantifiers range over, once for each
@@ -53,11 +53,11 @@ is_permit Preserve = false
 is_permit Permit = true
 
 -- q is an F quantifier of these
-abbrev pub is_own : ℕ → List Range → Bool
+abbrev pub is_own : ℕ → List OwnedQuant → Bool
 is_own q rs = list_any (λ r. is_quant q r && is_F r.kind) rs
 
 -- the boxes that see q by the quantifiers of one box: under F where q is an earlier F quantifier, else where it is any F quantifier (`own`); `met` where it came already
-abbrev pub scoped : ℕ → Bool → Bool → List Range → List ℕ
+abbrev pub scoped : ℕ → Bool → Bool → List OwnedQuant → List ℕ
 scoped q own met [] = []
 scoped q own met (r ∷ rs) =
     (if (if is_F r.kind then met else own) then r.over ∷ [] else []) ++ scoped q own (met || (is_quant q r && is_F r.kind)) rs
@@ -75,7 +75,7 @@ viewers q marks (n ∷ ns) = viewers q (marks ++ shown q marks n) ns
 abbrev pub in_view : List Node → Node → ℕ → Bool
 in_view boxes n q = is_own q n.quants || holds n.id (viewers q [] boxes)
 
-abbrev pub is_counted_in : List Range → ℕ → Bool
+abbrev pub is_counted_in : List OwnedQuant → ℕ → Bool
 is_counted_in rs b = list_any (λ r. (r.over == b) && is_F_or_S r.kind) rs
 
 -- an F or S quantifier ranges over b

@@ -11,10 +11,10 @@ use crate::columns_fit::columns_fit;
 use crate::free::{add_names_of_node, free_in, is_marked, mark_each};
 use crate::graph::{Graph, Node, has_box, is_owned_quant};
 use crate::kinds::{BoxId, Distinct, QuantId, QuantKind};
-use crate::owned::Range;
+use crate::owned::OwnedQuant;
 use crate::shapes::{is_f, shape_fits};
 use crate::types::types_agree;
-use qgm_base::OutOfMemory;
+use shared_types::OutOfMemory;
 use std::alloc::Global;
 use thiserror::Error;
 
@@ -69,7 +69,7 @@ impl From<OutOfMemory> for IllFormed {
 }
 
 // Whether each quantifier ranges over one of these boxes.
-fn all_over(boxes: &[Node], ranges: &[Range]) -> bool
+fn all_over(boxes: &[Node], ranges: &[OwnedQuant]) -> bool
     ensures { result ≡ spec.all_over boxes.now ranges.now }
 {
     ranges.iter().all(|r| has_box(boxes, r.over))
@@ -111,7 +111,7 @@ fn once(x: usize, ys: &[usize]) -> bool
 }
 
 // Appends the numbers of quantifiers.
-fn add_ids(ranges: &[Range], out: &mut Vec<QuantId>) -> Result<(), OutOfMemory>
+fn add_ids(ranges: &[OwnedQuant], out: &mut Vec<QuantId>) -> Result<(), OutOfMemory>
     ensures { OnOk result (out.new.items ≡ out.old.items ++ map (λ r. r.id) ranges.now) }
 {
     for range in ranges {
@@ -174,7 +174,7 @@ fn is_counted(nodes: &[Node], b: BoxId) -> bool
     nodes.iter().any(|n| is_counted_in(n.quants.as_slice(), b))
 }
 
-fn is_counted_in(ranges: &[Range], b: BoxId) -> bool
+fn is_counted_in(ranges: &[OwnedQuant], b: BoxId) -> bool
     ensures { result ≡ spec.is_counted_in ranges.now b }
 {
     ranges.iter().any(|r| r.over == b && is_f_or_s(r.kind))
@@ -187,7 +187,7 @@ fn permit_unseen(root: BoxId, nodes: &[Node], node: &Node) -> bool
 }
 
 // Whether q is an F quantifier of these.
-fn is_own(q: QuantId, ranges: &[Range]) -> bool
+fn is_own(q: QuantId, ranges: &[OwnedQuant]) -> bool
     ensures { result ≡ spec.is_own q ranges.now }
 {
     ranges.iter().any(|r| r.id == q && is_f(r.kind))
@@ -197,7 +197,7 @@ fn is_own(q: QuantId, ranges: &[Range]) -> bool
 fn add_scoped(
     q: QuantId,
     own: bool,
-    ranges: &[Range],
+    ranges: &[OwnedQuant],
     marks: &mut Vec<BoxId>,
 ) -> Result<(), OutOfMemory>
     ensures { OnOk result (marks.new.items ≡ marks.old.items ++ spec.scoped q own false ranges.now) }

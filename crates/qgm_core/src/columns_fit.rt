@@ -8,7 +8,7 @@ use crate::graph::Node;
 use crate::kinds::{BoxKind, Column};
 use crate::parts::{Conds, Head};
 use crate::types::box_under;
-use qgm_base::OutOfMemory;
+use shared_types::OutOfMemory;
 use sqlite_items::Items;
 use std::alloc::Global;
 

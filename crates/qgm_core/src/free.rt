@@ -8,9 +8,9 @@ ghost use Rattle.qgm_core.specs.Terms.{names_in, names_in_cond};
 use crate::graph::{Node, has_range};
 use crate::kinds::{BoxId, QuantId};
 use crate::names::{add_names, add_names_of_cond};
-use crate::owned::Range;
+use crate::owned::OwnedQuant;
 use crate::parts::{Conds, Head};
-use qgm_base::OutOfMemory;
+use shared_types::OutOfMemory;
 use std::alloc::Global;
 
 // Whether a box is among those marked.
@@ -21,7 +21,7 @@ pub fn is_marked(marks: &[BoxId], b: BoxId) -> bool
 }
 
 // Marks the boxes that these quantifiers range over.
-pub fn mark_each(ranges: &[Range], marks: &mut Vec<BoxId>) -> Result<(), OutOfMemory>
+pub fn mark_each(ranges: &[OwnedQuant], marks: &mut Vec<BoxId>) -> Result<(), OutOfMemory>
     ensures { OnOk result (marks.new.items ≡ marks.old.items ++ map (λ r. r.over) ranges.now) }
 {
     for range in ranges {

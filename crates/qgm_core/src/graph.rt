@@ -8,10 +8,10 @@ ghost use Rattle.qgm_core.specs.WellFormed.{fault};
 use crate::check::{Clause, Fault, first_fault};
 use crate::free::free_in;
 use crate::kinds::{BoxId, QuantId, QuantKind};
-use crate::owned::{Owned, Quant, Range};
+use crate::owned::{Owned, OwnedQuant, Quant};
 use crate::parts::BoxParts;
 use crate::quants::Quants;
-use qgm_base::OutOfMemory;
+use shared_types::OutOfMemory;
 use sql_value::{OrderKeys, OutNames};
 use std::alloc::Global;
 use std::marker::Model;
@@ -247,7 +247,7 @@ impl Graph {
         let k = box_place(&self.nodes, owner);
         self.nodes[k]
             .quants
-            .insert(place - 1, Range { id, kind, over })?;
+            .insert(place - 1, OwnedQuant { id, kind, over })?;
         self.next_quant = id + 1;
         Ok(id)
     }
@@ -284,7 +284,7 @@ fn new_place(nodes: &[Node], below: Option<BoxId>) -> usize
 }
 
 // Whether one of the quantifiers has the number.
-pub fn has_range(ranges: &[Range], q: QuantId) -> bool
+pub fn has_range(ranges: &[OwnedQuant], q: QuantId) -> bool
     ensures { result ≡ list_any (spec.is_quant q) ranges.now }
 {
     ranges.iter().any(|r| r.id == q)
@@ -323,14 +323,14 @@ fn owner_place(nodes: &[Node], q: QuantId) -> usize
 }
 
 // Where a quantifier stands in its owner, if it does.
-fn find_range(ranges: &[Range], q: QuantId) -> Option<usize>
+fn find_range(ranges: &[OwnedQuant], q: QuantId) -> Option<usize>
     ensures { result ≡ position (spec.is_quant q) ranges.now }
 {
     ranges.iter().position(|r| r.id == q)
 }
 
 // A quantifier in its owner.
-fn range_of(ranges: &[Range], q: QuantId) -> Range
+fn range_of(ranges: &[OwnedQuant], q: QuantId) -> OwnedQuant
     requires { list_any (spec.is_quant q) ranges.now ≡ true }
     ensures { Some result ≡ spec.first (spec.is_quant q) ranges.now }
 {

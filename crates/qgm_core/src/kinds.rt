@@ -1,5 +1,5 @@
 // What boxes and quantifiers are of.
-use qgm_base::Text;
+use shared_types::Text;
 use sql_value::SqlType;
 use sqlite_items::Items;
 
@@ -69,11 +69,4 @@ pub enum Role {
     Magic,
     /// It joins the bindings with a correlated box.
     Fed,
-}
-
-/// The order in which boxes are visited.
-#[derive(Clone, Copy, Debug, PartialEq, Eq)]
-pub enum Walk {
-    Depth,
-    Breadth,
 }

@@ -12,14 +12,12 @@ mod owned;
 mod parts;
 mod quants;
 mod shapes;
-#[cfg(test)]
-mod tests;
 mod tree;
 mod types;
 
 pub use check::{Clause, Fault, IllFormed, check_graph};
 pub use graph::Graph;
-pub use kinds::{BaseTable, BoxId, BoxKind, Distinct, QuantId, QuantKind, Role, Walk};
+pub use kinds::{BaseTable, BoxId, BoxKind, Distinct, QuantId, QuantKind, Role};
 pub use owned::Quant;
 pub use parts::{BoxParts, Conds, Head};
 pub use quants::Quants;

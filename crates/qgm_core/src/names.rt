@@ -5,7 +5,7 @@ ghost use Rattle.qgm_core.specs.Shown.{term, arms, cond};
 
 use crate::kinds::QuantId;
 use crate::tree::{Arms, Gc, Gx};
-use qgm_base::OutOfMemory;
+use shared_types::OutOfMemory;
 
 // Appends those that an expression names.
 #[cycle(names)]

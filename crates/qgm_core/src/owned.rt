@@ -3,7 +3,7 @@ ghost use Rattle.std.specs.Prelude.{◌≡◌, ◌≤◌, [], length, map, inser
 
 use crate::kinds::{BoxId, QuantId, QuantKind};
 use crate::quants::Quants;
-use qgm_base::OutOfMemory;
+use shared_types::OutOfMemory;
 use std::alloc::Global;
 use std::marker::Model;
 
@@ -18,7 +18,7 @@ pub struct Quant {
 
 // A quantifier in the box that owns it.
 #[derive(Clone, Copy, Debug)]
-pub struct Range {
+pub struct OwnedQuant {
     pub id: QuantId,
     pub kind: QuantKind,
     pub over: BoxId,
@@ -28,14 +28,14 @@ pub struct Range {
 #[derive(Debug, Drop)]
 pub struct Owned {
     ids: Quants,
-    ranges: Vec<Range>,
+    ranges: Vec<OwnedQuant>,
 }
 
 impl Model for Owned {
     ghost use Rattle.std.specs.Prelude.{◌≡◌, List, map};
-    ghost use Rattle.qgm_core.specs.declared.owned.Range.{Range};
+    ghost use Rattle.qgm_core.specs.declared.owned.OwnedQuant.{OwnedQuant};
 
-    ghost Value = { List Range };
+    ghost Value = { List OwnedQuant };
 
     ghost view = { λ o. o.ranges.items };
 
@@ -61,14 +61,14 @@ impl Owned {
     }
 
     // The quantifiers.
-    pub fn as_slice(&self) -> &[Range]
+    pub fn as_slice(&self) -> &[OwnedQuant]
         ensures { result.now ≡ self.now }
     {
         &self.ranges
     }
 
     // Puts a quantifier at a place, from 0.
-    pub fn insert(&mut self, i: usize, r: Range) -> Result<(), OutOfMemory>
+    pub fn insert(&mut self, i: usize, r: OwnedQuant) -> Result<(), OutOfMemory>
         requires { i ≤ length self.old }
         ensures ok { OnOk result (self.new ≡ insert self.old i r) }
         ensures err { OnErr result (self.new ≡ self.old) }

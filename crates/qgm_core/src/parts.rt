@@ -4,7 +4,7 @@ ghost use Rattle.qgm_core.specs.Shown.{term, cond};
 
 use crate::kinds::{BoxKind, Distinct, Role};
 use crate::tree::{Gc, Gx};
-use qgm_base::OutOfMemory;
+use shared_types::OutOfMemory;
 use std::alloc::Global;
 use std::marker::Model;
 

@@ -9,11 +9,11 @@ use crate::columns_fit::{add_columns_of_head, width};
 use crate::free::free_in;
 use crate::graph::Node;
 use crate::kinds::{BoxId, BoxKind, Column, Distinct, QuantId, QuantKind, Role};
-use crate::owned::Range;
+use crate::owned::OwnedQuant;
 use crate::parts::{Conds, Head};
 use crate::tree::{Arms, Gc, Gx};
 use crate::types::{both, box_at};
-use qgm_base::OutOfMemory;
+use shared_types::OutOfMemory;
 use std::alloc::Global;
 
 // Whether no aggregate stands in an expression.
@@ -193,13 +193,13 @@ fn head_is_columns(head: &Head) -> bool
     all
 }
 
-fn all_f(ranges: &[Range]) -> bool
+fn all_f(ranges: &[OwnedQuant]) -> bool
     ensures { result ≡ spec.all_F ranges.now }
 {
     ranges.iter().all(|r| is_f(r.kind))
 }
 
-fn is_scalar_in(ranges: &[Range], b: BoxId) -> bool
+fn is_scalar_in(ranges: &[OwnedQuant], b: BoxId) -> bool
     ensures { result ≡ spec.is_scalar_in ranges.now b }
 {
     ranges.iter().any(|r| r.over == b && is_s(r.kind))
@@ -261,8 +261,8 @@ fn heads_are(
     alloc: Global,
     nodes: &[Node],
     head: &Head,
-    first: Range,
-    second: Range,
+    first: OwnedQuant,
+    second: OwnedQuant,
 ) -> Result<bool, OutOfMemory>
     ensures { IfOk result (λ k. k ≡ spec.heads_are head.now (spec.columns_through nodes.now first ++ spec.columns_through nodes.now second)) }
 {
@@ -289,8 +289,8 @@ fn fed_by_two(
     alloc: Global,
     nodes: &[Node],
     head: &Head,
-    first: Range,
-    second: Range,
+    first: OwnedQuant,
+    second: OwnedQuant,
 ) -> Result<bool, OutOfMemory>
     ensures { IfOk result (λ k. k ≡ spec.fed_by_two nodes.now head.now first second) }
 {
@@ -305,7 +305,12 @@ fn fed_by_two(
     )
 }
 
-fn fed_by(alloc: Global, nodes: &[Node], head: &Head, ranges: &[Range]) -> Result<bool, OutOfMemory>
+fn fed_by(
+    alloc: Global,
+    nodes: &[Node],
+    head: &Head,
+    ranges: &[OwnedQuant],
+) -> Result<bool, OutOfMemory>
     ensures { IfOk result (λ k. k ≡ spec.fed_by nodes.now head.now ranges.now) }
 {
     match ranges {

@@ -1,6 +1,6 @@
 // Expressions and conditions of boxes.
 use crate::kinds::QuantId;
-use qgm_base::Text;
+use shared_types::Text;
 
 /// An expression: what a cell is made of. Contracts see it as the `Term` that it holds.
 #[cycle(gx)]

@@ -8,10 +8,10 @@ ghost use Rattle.qgm_core.specs.Types as spec;
 
 use crate::graph::{Node, has_range};
 use crate::kinds::{BoxId, BoxKind, QuantId};
-use crate::owned::Range;
+use crate::owned::OwnedQuant;
 use crate::parts::{Conds, Head};
 use crate::tree::{Arms, Gc, Gx};
-use qgm_base::OutOfMemory;
+use shared_types::OutOfMemory;
 use sql_value::SqlType;
 use sqlite_items::Items;
 use std::alloc::Global;
@@ -36,7 +36,7 @@ fn owner_of(nodes: &[Node], q: QuantId) -> Option<&Node>
 }
 
 // A quantifier in its owner.
-fn range_in(ranges: &[Range], q: QuantId) -> Option<Range>
+fn range_in(ranges: &[OwnedQuant], q: QuantId) -> Option<OwnedQuant>
     ensures { result ≡ first (is_quant q) ranges.now }
 {
     for range in ranges {

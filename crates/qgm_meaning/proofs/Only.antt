@@ -3,7 +3,7 @@ use Rattle.std.proofs.Common.{ℕ, ◌==◌, ◌≡◌, ◌||◌, cond, Bool, tr
 use Rattle.std.proofs.lemmas.Bool.{and_parts, cases_Bool}
 use Rattle.qgm_core.specs.WellFormed.{all_over, has_box}
 use Rattle.qgm_core.specs.declared.graph.Node.{Node}
-use Rattle.qgm_core.specs.declared.owned.Range.{Range}
+use Rattle.qgm_core.specs.declared.owned.OwnedQuant.{OwnedQuant}
 use Rattle.row_bag.specs.declared.tables.Table.{Table}
 use Rattle.qgm_meaning.specs.Boxes.{Bag, bag_in, rows_of}
 use Rattle.qgm_meaning.specs.Laws.{GivesBack}
@@ -11,7 +11,7 @@ use Rattle.qgm_meaning.specs.Ordered.{Ordered}
 use Rattle.qgm_meaning.specs.Values.{Environment}
 use Rattle.qgm_meaning.proofs.Unfold.{SameUnder, lower, rows_of-same}
 
-under : (ns : List Node) (f g : ℕ → Environment → Bag) (rs : List Range) → all_over ns rs ≡ true → ((b : ℕ) → has_box ns b ≡ true → (env : Environment) → f b env ≡ g b env) → SameUnder rs f g
+under : (ns : List Node) (f g : ℕ → Environment → Bag) (rs : List OwnedQuant) → all_over ns rs ≡ true → ((b : ℕ) → has_box ns b ≡ true → (env : Environment) → f b env ≡ g b env) → SameUnder rs f g
 under ns f g [] all h = tt
 under ns f g (r ∷ rs) all h =
     let parts = and_parts (has_box ns r.over) (all_over ns rs) all in

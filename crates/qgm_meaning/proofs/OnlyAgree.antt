@@ -7,7 +7,7 @@ use Rattle.qgm_core.specs.WellFormed.{all_over, has_box}
 use Rattle.qgm_core.specs.declared.graph.Node.{Node}
 use Rattle.qgm_core.specs.declared.kinds.BoxKind.{BoxKind}
 use Rattle.qgm_core.specs.declared.kinds.BoxKind.TheVariants.{Base, Select}
-use Rattle.qgm_core.specs.declared.owned.Range.{Range}
+use Rattle.qgm_core.specs.declared.owned.OwnedQuant.{OwnedQuant}
 use Rattle.row_bag.specs.Bags.{Alike, bind, keep, row}
 use Rattle.row_bag.specs.Sets.{same_cells}
 use Rattle.row_bag.specs.Verdict.{is_there}
@@ -53,11 +53,11 @@ bind-within (r ∷ rows) f g h =
     (one-within f g r.cells r.level (λ there. h r.cells (ap (λ (b : Bool). b || occurs r.cells rows) (and_from (same_cells r.cells r.cells) (is_there r) (itself r.cells) there))))
     (bind-within rows f g (λ cells k. h cells (ap (λ (b : Bool). (same_cells r.cells cells && is_there r) || b) k ∙ or-true (same_cells r.cells cells && is_there r))))
 
-abbrev AlikeUnder : (Environment → Bool) → List Range → (ℕ → Environment → Bag) → (ℕ → Environment → Bag) → Type 0
+abbrev AlikeUnder : (Environment → Bool) → List OwnedQuant → (ℕ → Environment → Bag) → (ℕ → Environment → Bag) → Type 0
 AlikeUnder passes [] f g = ⊤
 AlikeUnder passes (r ∷ rs) f g = ((env : Environment) → passes env ≡ true → Alike (f r.over env) (g r.over env)) × AlikeUnder passes rs f g
 
-over_each-alike : (passes : Environment → Bool) (rs : List Range) (f g : ℕ → Environment → Bag) (give : Environment → Bag) → Stays passes g rs → AlikeUnder passes rs f g → (env : Environment) → passes env ≡ true
+over_each-alike : (passes : Environment → Bool) (rs : List OwnedQuant) (f g : ℕ → Environment → Bag) (give : Environment → Bag) → Stays passes g rs → AlikeUnder passes rs f g → (env : Environment) → passes env ≡ true
     → Alike (over_each rs f give env) (over_each rs g give env)
 over_each-alike passes [] f g give s a env p = alike-refl (give env)
 over_each-alike passes (r ∷ rs) f g give s a env p =
@@ -76,7 +76,7 @@ rows_by-alike : (passes : Environment → Bool) (kind : BoxKind) (tables : List 
 rows_by-alike passes (Base table) tables n f g s a env p = alike-refl (rows_by (Base table) tables n f env)
 rows_by-alike passes Select tables n f g s a env p = once_if-alike (is_enforce n.parts.distinct) (over_each-alike passes n.quants f g (given n) s a env p)
 
-under : (passes : Environment → Bool) (ns : List Node) (f g : ℕ → Environment → Bag) (rs : List Range) → all_over ns rs ≡ true
+under : (passes : Environment → Bool) (ns : List Node) (f g : ℕ → Environment → Bag) (rs : List OwnedQuant) → all_over ns rs ≡ true
     → ((b : ℕ) → has_box ns b ≡ true → (env : Environment) → passes env ≡ true → Alike (f b env) (g b env)) → AlikeUnder passes rs f g
 under passes ns f g [] all h = tt
 under passes ns f g (r ∷ rs) all h =

@@ -10,7 +10,7 @@ use Rattle.qgm_core.specs.WellFormed.{all_over, has_box}
 use Rattle.qgm_core.specs.declared.graph.Node.{Node}
 use Rattle.qgm_core.specs.declared.kinds.BoxKind.{BoxKind}
 use Rattle.qgm_core.specs.declared.kinds.BoxKind.TheVariants.{Base, Select}
-use Rattle.qgm_core.specs.declared.owned.Range.{Range}
+use Rattle.qgm_core.specs.declared.owned.OwnedQuant.{OwnedQuant}
 use Rattle.row_bag.specs.Bags.{bind}
 use Rattle.row_bag.specs.declared.tables.Table.{Table}
 use Rattle.sql_value.specs.declared.cell.Cell.{Cell}
@@ -19,11 +19,11 @@ use Rattle.qgm_meaning.specs.Ordered.{Ordered}
 use Rattle.qgm_meaning.specs.Values.{Environment, bound}
 
 -- two families of bags are one under each of these quantifiers
-abbrev pub SameUnder : List Range → (ℕ → Environment → Bag) → (ℕ → Environment → Bag) → Type 0
+abbrev pub SameUnder : List OwnedQuant → (ℕ → Environment → Bag) → (ℕ → Environment → Bag) → Type 0
 SameUnder [] f g = ⊤
 SameUnder (r ∷ rs) f g = ((env : Environment) → f r.over env ≡ g r.over env) × SameUnder rs f g
 
-pub over_each-same : (rs : List Range) (f g : ℕ → Environment → Bag) (give : Environment → Bag) (env : Environment) → SameUnder rs f g → over_each rs f give env ≡ over_each rs g give env
+pub over_each-same : (rs : List OwnedQuant) (f g : ℕ → Environment → Bag) (give : Environment → Bag) (env : Environment) → SameUnder rs f g → over_each rs f give env ≡ over_each rs g give env
 over_each-same [] f g give env s = refl
 over_each-same (r ∷ rs) f g give env s =
     elim (is_F r.kind) as (λ t. ◌≡◌ {A = Bag}
@@ -52,13 +52,13 @@ pub lower : (tables : List Table) (m : Node) (ns : List Node) (b : ℕ) (env : E
 lower tables m ns b env h = ap (λ (t : Bool). cond t (rows_of tables m (bag_in tables ns) env) (bag_in tables ns b env)) h
 
 -- a box that stands higher isn't seen by quantifiers over what is below it
-under-lower : (tables : List Table) (m : Node) (ns : List Node) (rs : List Range) → list_any (is_box m.id) ns ≡ false → all_over ns rs ≡ true → SameUnder rs (bag_in tables ns) (bag_in tables (m ∷ ns))
+under-lower : (tables : List Table) (m : Node) (ns : List Node) (rs : List OwnedQuant) → list_any (is_box m.id) ns ≡ false → all_over ns rs ≡ true → SameUnder rs (bag_in tables ns) (bag_in tables (m ∷ ns))
 under-lower tables m ns [] absent all = tt
 under-lower tables m ns (r ∷ rs) absent all =
     let parts = and_parts (has_box ns r.over) (all_over ns rs) all in
     (λ env. sym (lower tables m ns r.over env (apart m.id r.over ns absent parts.0)), under-lower tables m ns rs absent parts.1)
 
-more-over : (m : Node) (ns : List Node) (rs : List Range) → all_over ns rs ≡ true → all_over (m ∷ ns) rs ≡ true
+more-over : (m : Node) (ns : List Node) (rs : List OwnedQuant) → all_over ns rs ≡ true → all_over (m ∷ ns) rs ≡ true
 more-over m ns [] all = refl
 more-over m ns (r ∷ rs) all =
     let parts = and_parts (has_box ns r.over) (all_over ns rs) all in

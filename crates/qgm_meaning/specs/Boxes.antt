@@ -5,7 +5,7 @@ use Rattle.qgm_core.specs.Shapes.{is_F, is_enforce}
 use Rattle.qgm_core.specs.declared.graph.Node.{Node}
 use Rattle.qgm_core.specs.declared.kinds.BoxKind.{BoxKind}
 use Rattle.qgm_core.specs.declared.kinds.BoxKind.TheVariants.{Base, Select}
-use Rattle.qgm_core.specs.declared.owned.Range.{Range}
+use Rattle.qgm_core.specs.declared.owned.OwnedQuant.{OwnedQuant}
 use Rattle.row_bag.specs.Bags.{bind, keep, unit}
 use Rattle.row_bag.specs.Sets.{distinct, same_cells}
 use Rattle.row_bag.specs.Tables.{bag_named}
@@ -23,7 +23,7 @@ rows_or_none None = []
 rows_or_none (Some rows) = rows
 
 -- what is given where the F quantifiers among these are bound, for each combination of rows, in order
-abbrev pub over_each : List Range → (ℕ → Environment → Bag) → (Environment → Bag) → Environment → Bag
+abbrev pub over_each : List OwnedQuant → (ℕ → Environment → Bag) → (Environment → Bag) → Environment → Bag
 over_each [] bag give env = give env
 over_each (r ∷ rs) bag give env = if is_F r.kind then bind (bag r.over env) (λ cells. over_each rs bag give (bound r.id cells env)) else over_each rs bag give env
 

@@ -4,7 +4,7 @@ use Rattle.std.specs.List.{list_any}
 use Rattle.qgm_core.specs.Boxes.{HasBox, QueryGraph, box_of}
 use Rattle.qgm_core.specs.Shapes.{is_F}
 use Rattle.qgm_core.specs.declared.graph.Node.{Node}
-use Rattle.qgm_core.specs.declared.owned.Range.{Range}
+use Rattle.qgm_core.specs.declared.owned.OwnedQuant.{OwnedQuant}
 use Rattle.row_bag.specs.Bags.{Agree}
 use Rattle.row_bag.specs.Sets.{same_cells}
 use Rattle.row_bag.specs.Verdict.{is_there}
@@ -32,7 +32,7 @@ abbrev pub occurs : List Cell → Bag → Bool
 occurs cells rows = list_any (λ r. same_cells r.cells cells && is_there r) rows
 
 -- the environments that pass, in which an F quantifier of these is bound to a row that it has in the family, pass too
-abbrev pub Stays : (Environment → Bool) → (ℕ → Environment → Bag) → List Range → Type 0
+abbrev pub Stays : (Environment → Bool) → (ℕ → Environment → Bag) → List OwnedQuant → Type 0
 Stays passes f [] = ⊤
 Stays passes f (r ∷ rs) =
     ((env : Environment) (cells : List Cell) → is_F r.kind ≡ true → passes env ≡ true → occurs cells (f r.over env) ≡ true → passes (bound r.id cells env) ≡ true) × Stays passes f rs

@@ -1,6 +1,6 @@
 -- What expressions and conditions of boxes are, where quantifiers are bound to rows.
 use Rattle.std.specs.Prelude.{ℕ, ◌==◌, if◌then◌else◌, true, List, [], ◌∷◌, map}
-use Rattle.qgm_base.specs.declared.compare.CmpOp.TheVariants as op
+use Rattle.shared_types.specs.declared.compare.CmpOp.TheVariants as op
 use Rattle.qgm_core.specs.Terms.{Op, plus, minus, times, over, joined, Sign, equal, unequal, below, at_most, above, at_least, same, like}
 use Rattle.qgm_core.specs.Terms.{Term, int, text, null_int, null_text, col, both, minus_of, choose, count_all, fold, Arms, no_arm, arm, Cond, always, compare, is_null, and, or, not}
 use Rattle.row_bag.specs.Order.{cell_of}

@@ -1,10 +1,10 @@
 // Queries over small tables, with answers worked out by hand.
 use Sample::{I, N};
-use checked_query::{Addend, From, Multiplier, Query, Test, Value};
-use qgm_base::{CmpOp, OutOfMemory, Text};
 use query_loops::rows_of;
 use row_bag::{Bag, Row, Table, Tables, Verdict, row_order, sorted, verdict};
+use shared_types::{CmpOp, OutOfMemory, Text};
 use sql_ast::{AdditiveOp, MultiplicativeOp, SetFunction, SetOperator};
+use sql_meaning::{Addend, From, Multiplier, Query, Test, Value};
 use sql_value::{Cell, Kind, Level, OrderKeys};
 use sqlite_items::Items;
 use std::alloc::Global;

@@ -2,7 +2,7 @@
 use Rattle.std.proofs.Common.{◌≡◌, ℕ, Bool, true, false, cond, List, [], ◌∷◌, ◌++◌, Some, refl, ap, sym, ◌∙◌}
 use Rattle.std.proofs.lemmas.Grind.{common_steps}
 use Rattle.std.proofs.lemmas.List.Elements.{filter-append}
-use Rattle.checked_query.specs.Meaning as m
+use Rattle.sql_meaning.specs.ResolvedMeaning as m
 use Rattle.row_bag.specs.Bags.{bind, keep, row, unit}
 use Rattle.row_bag.specs.Sets.{of_group, once, same_cells}
 use Rattle.row_bag.specs.Verdict.{is_there, those_there}

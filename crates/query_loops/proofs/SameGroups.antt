@@ -2,9 +2,9 @@
 use Rattle.std.proofs.Common.{◌≡◌, ℕ, ◌+◌, Bool, true, false, cond, ◌+ℤ◌, pos, List, [], ◌∷◌, Option, Some, None, replicate, arith, refl, ap, ap₂, sym, ◌∙◌}
 use mathlib.Core.Path.{fun_ext}
 use Rattle.std.proofs.lemmas.Int.{ints}
-use Rattle.qgm_base.specs.declared.compare.CmpOp.TheVariants.{Eq, Ge, Le}
-use Rattle.checked_query.specs.Meaning as m
-use Rattle.checked_query.specs.Trees as q
+use Rattle.shared_types.specs.declared.compare.CmpOp.TheVariants.{Eq, Ge, Le}
+use Rattle.sql_meaning.specs.ResolvedMeaning as m
+use Rattle.sql_meaning.specs.ResolvedTrees as q
 use Rattle.row_bag.specs.Bags.{bind, keep, unit}
 use Rattle.row_bag.specs.Errors.{error_among, error_at, error_in}
 use Rattle.row_bag.specs.Sets.{error_or_bag, of_group, once, same_cells}

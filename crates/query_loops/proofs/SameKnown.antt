@@ -1,9 +1,9 @@
 -- What a query means goes by what the names that it reads stand for, and counts nothing of rows at no.
 use Rattle.std.proofs.Common.{◌≡◌, ℕ, Bool, ◌||◌, List, [], ◌∷◌, replicate, refl, ap, ap₂, ◌∙◌}
 use mathlib.Core.Path.{fun_ext}
-use Rattle.qgm_base.specs.declared.compare.CmpOp.TheVariants.{Eq, Ge, Le}
-use Rattle.checked_query.specs.Meaning as m
-use Rattle.checked_query.specs.Trees as q
+use Rattle.shared_types.specs.declared.compare.CmpOp.TheVariants.{Eq, Ge, Le}
+use Rattle.sql_meaning.specs.ResolvedMeaning as m
+use Rattle.sql_meaning.specs.ResolvedTrees as q
 use Rattle.row_bag.specs.Verdict.{those_there}
 use Rattle.row_bag.specs.declared.row.Row.{Row}
 use Rattle.sql_meaning.specs.Groups as g

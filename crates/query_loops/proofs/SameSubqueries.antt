@@ -1,6 +1,6 @@
 -- What rows of a subquery come to counts nothing of rows at no.
 use Rattle.std.proofs.Common.{◌≡◌, List, ap}
-use Rattle.qgm_base.specs.declared.compare.CmpOp.{CmpOp}
+use Rattle.shared_types.specs.declared.compare.CmpOp.{CmpOp}
 use Rattle.row_bag.specs.declared.row.Row.{Row}
 use Rattle.sql_ast.specs.declared.word.Quantifier.{Quantifier}
 use Rattle.sql_ast.specs.declared.word.Quantifier.TheVariants as quantifier

@@ -1,7 +1,7 @@
 -- Rows of groups, and what a block makes of them.
 use Rattle.std.specs.Prelude.{ℕ, List, [], ◌∷◌, Some, nat_eq, if◌then◌else◌}
-use Rattle.checked_query.specs.Meaning as m
-use Rattle.checked_query.specs.Trees as q
+use Rattle.sql_meaning.specs.ResolvedMeaning as m
+use Rattle.sql_meaning.specs.ResolvedTrees as q
 use Rattle.row_bag.specs.Bags.{bind, if_there, unit}
 use Rattle.row_bag.specs.Sets.{multiplicity, of_group, once, same_cells}
 use Rattle.row_bag.specs.declared.row.Row.{Row}

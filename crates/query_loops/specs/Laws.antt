@@ -1,7 +1,7 @@
 -- The laws of what queries mean that evaluating views needs.
 use Rattle.std.specs.Prelude.{ℕ, List, []}
-use Rattle.checked_query.specs.Meaning.{Bag, rows}
-use Rattle.checked_query.specs.Trees.{Query}
+use Rattle.sql_meaning.specs.ResolvedMeaning.{Bag, rows}
+use Rattle.sql_meaning.specs.ResolvedTrees.{Query}
 use Rattle.row_bag.specs.Bags.{Agree}
 use Rattle.row_bag.specs.Sets.{same_cells}
 use Rattle.query_loops.specs.Reads.{SameAt, query_reads}

@@ -1,13 +1,13 @@
 -- Function values that evaluate, where so many calls may still nest.
 use Rattle.std.specs.Prelude.{◌≡◌, ℕ, Result, IfOk}
 use denote.Bor.{Bor}
-use Rattle.qgm_base.specs.declared.memory.OutOfMemory.{OutOfMemory}
-use Rattle.checked_query.specs.Meaning as m
-use Rattle.checked_query.specs.Shown as shown
-use Rattle.checked_query.specs.declared.tree.From.{From}
-use Rattle.checked_query.specs.declared.tree.Query.{Query}
-use Rattle.checked_query.specs.declared.tree.Test.{Test}
-use Rattle.checked_query.specs.declared.tree.Value.{Value}
+use Rattle.shared_types.specs.declared.memory.OutOfMemory.{OutOfMemory}
+use Rattle.sql_meaning.specs.ResolvedMeaning as m
+use Rattle.sql_meaning.specs.ResolvedShown as shown
+use Rattle.sql_meaning.specs.declared.resolved.From.{From}
+use Rattle.sql_meaning.specs.declared.resolved.Query.{Query}
+use Rattle.sql_meaning.specs.declared.resolved.Test.{Test}
+use Rattle.sql_meaning.specs.declared.resolved.Value.{Value}
 use Rattle.sql_value.specs.declared.cell.Cell.{Cell}
 use Rattle.sql_value.specs.declared.truth.Truth.{Truth}
 use Rattle.query_loops.specs.Scopes.{group, known_in, scopes}

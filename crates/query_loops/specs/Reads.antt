@@ -1,9 +1,9 @@
 -- Which tables and views a query reads: the names in its FROMs, those of its subqueries too.
 use Rattle.std.specs.Prelude.{◌≡◌, ℕ, Bool, true, false, ◌||◌, List}
-use Rattle.sql_catalog.specs.Names.{same_name}
-use Rattle.checked_query.specs.Trees.{Value, Addends, Multipliers, Values, Arms, Choices, Test, Tests, From, Froms, Query}
-use Rattle.checked_query.specs.Trees as q
-use Rattle.checked_query.specs.Meaning.{Bag}
+use Rattle.sql_ast.specs.Names.{same_name}
+use Rattle.sql_meaning.specs.ResolvedTrees.{Value, Addends, Multipliers, Values, Arms, Choices, Test, Tests, From, Froms, Query}
+use Rattle.sql_meaning.specs.ResolvedTrees as q
+use Rattle.sql_meaning.specs.ResolvedMeaning.{Bag}
 use Rattle.query_loops.specs.There.{SameThere}
 
 abbrev mutual

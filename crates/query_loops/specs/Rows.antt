@@ -1,7 +1,7 @@
 -- What loops make of one row.
 use Rattle.std.specs.Prelude.{ℕ, List, [], ◌∷◌, ◌++◌, map, Option, Some, None, replicate}
-use Rattle.checked_query.specs.Meaning as m
-use Rattle.checked_query.specs.Trees as q
+use Rattle.sql_meaning.specs.ResolvedMeaning as m
+use Rattle.sql_meaning.specs.ResolvedTrees as q
 use Rattle.row_bag.specs.Bags.{row}
 use Rattle.row_bag.specs.declared.row.Row.{Row}
 use Rattle.sql_meaning.specs.Groups.{no_group}

@@ -12,8 +12,8 @@ ghost use Rattle.sql_value.specs.declared.cell.Cell.TheVariants.{Null};
 
 use crate::sets::error_of;
 use crate::subqueries::{error_at, worst_of};
-use qgm_base::OutOfMemory;
 use row_bag::Row;
+use shared_types::OutOfMemory;
 use sql_ast::SetFunction;
 use sql_value::{Cell, Kind, Level, cell_order, copy};
 use std::alloc::Global;

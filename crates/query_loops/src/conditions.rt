@@ -1,20 +1,20 @@
 // What conditions are.
 ghost use Rattle.std.specs.Prelude.{◌≡◌, IfOk};
-ghost use Rattle.checked_query.specs.Meaning as m;
-ghost use Rattle.checked_query.specs.Shown as shown;
+ghost use Rattle.sql_meaning.specs.ResolvedMeaning as m;
+ghost use Rattle.sql_meaning.specs.ResolvedShown as shown;
 ghost use Rattle.query_loops.specs.Nests as nests;
 ghost use Rattle.query_loops.specs.Scopes.{group, known_in, scopes};
-ghost use Rattle.qgm_base.specs.declared.compare.CmpOp.TheVariants as op;
+ghost use Rattle.shared_types.specs.declared.compare.CmpOp.TheVariants as op;
 ghost use Rattle.sql_meaning.specs.Subqueries as u;
 
 use crate::nest::Loops;
 use crate::scope::{Group, Scopes, Setting};
 use crate::subqueries::{compare_any, exists, quantified};
 use crate::value::{always, between};
-use checked_query::{From, Query, Test, Value};
-use qgm_base::OutOfMemory;
 use row_bag::Bag;
+use shared_types::OutOfMemory;
 use sql_ast::Quantifier;
+use sql_meaning::{From, Query, Test, Value};
 use sql_value::{Cell, CmpOp, Truth, and, compare, is_null, like, not, or};
 
 impl<
@@ -104,7 +104,7 @@ impl<
     }
 
     /// How far a condition is true and false. It fails only for want of memory.
-    #[tactic(auto, using(checked_query::specs::Shown::lists))]
+    #[tactic(auto, using(sql_meaning::specs::ResolvedShown::lists))]
     pub fn hold(&self, p: &Test, s: &Scopes<'_>, g: &Group<'_>) -> Result<Truth, OutOfMemory>
         requires value { nests.Values self.now.setting.depth (V.pre self.now.value) (V.post self.now.value) }
         requires test { nests.Tests self.now.setting.depth (P.pre self.now.test) (P.post self.now.test) }

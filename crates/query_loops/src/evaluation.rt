@@ -1,7 +1,7 @@
 // What expressions are.
 ghost use Rattle.std.specs.Prelude.{◌≡◌, IfOk, unwrap_or};
-ghost use Rattle.checked_query.specs.Meaning as m;
-ghost use Rattle.checked_query.specs.Shown as shown;
+ghost use Rattle.sql_meaning.specs.ResolvedMeaning as m;
+ghost use Rattle.sql_meaning.specs.ResolvedShown as shown;
 ghost use Rattle.query_loops.specs.Nests as nests;
 ghost use Rattle.query_loops.specs.Scopes.{group, known_in, scopes};
 ghost use Rattle.sql_meaning.specs.Subqueries as u;
@@ -12,9 +12,9 @@ use crate::nest::Loops;
 use crate::scope::{Group, Scopes, Setting, cell_at};
 use crate::subqueries::scalar;
 use crate::value::{additive, multiplicative, null_if};
-use checked_query::{Addend, Arm, Choice, From, Multiplier, Query, Test, Value};
-use qgm_base::OutOfMemory;
 use row_bag::Bag;
+use shared_types::OutOfMemory;
+use sql_meaning::{Addend, Arm, Choice, From, Multiplier, Query, Test, Value};
 use sql_value::{Cell, CmpOp, Kind, Level, Truth, compare, neg};
 
 impl<
@@ -190,7 +190,7 @@ impl<
     }
 
     /// The cell that an expression is. It fails only for want of memory.
-    #[tactic(auto, using(checked_query::specs::Shown::lists))]
+    #[tactic(auto, using(sql_meaning::specs::ResolvedShown::lists))]
     pub fn evaluate(&self, v: &Value, s: &Scopes<'_>, g: &Group<'_>) -> Result<Cell, OutOfMemory>
         requires value { nests.Values self.now.setting.depth (V.pre self.now.value) (V.post self.now.value) }
         requires test { nests.Tests self.now.setting.depth (P.pre self.now.test) (P.post self.now.test) }

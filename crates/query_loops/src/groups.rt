@@ -1,8 +1,8 @@
 // The groups of a block (SQL-92, 7.7 and 7.8).
 ghost use Rattle.std.specs.Prelude.{◌≡◌, ℕ, ◌+◌, ◌∷◌, [], ◌++◌, Bool, List, Option, Some, None, map, not, nat_eq, nat_le, if◌then◌else◌, replicate, IfOk};
 ghost use Rattle.std.specs.List.{list_any};
-ghost use Rattle.checked_query.specs.Meaning as m;
-ghost use Rattle.checked_query.specs.Shown as shown;
+ghost use Rattle.sql_meaning.specs.ResolvedMeaning as m;
+ghost use Rattle.sql_meaning.specs.ResolvedShown as shown;
 ghost use Rattle.query_loops.specs.Groups as spec;
 ghost use Rattle.query_loops.specs.Nests as nests;
 ghost use Rattle.query_loops.specs.Rows.{if_some, picked, test_in};
@@ -25,9 +25,9 @@ use crate::scope::{Group, Scopes, Setting};
 use crate::sets::{error_of, failed_cells, level_of};
 use crate::subqueries::{error_at, worst_of};
 use crate::tuple::{copied, same_cells};
-use checked_query::{From, Query, Test, Value};
-use qgm_base::OutOfMemory;
 use row_bag::{Bag, Row};
+use shared_types::OutOfMemory;
+use sql_meaning::{From, Query, Test, Value};
 use sql_value::{Cell, Kind, Level, Truth, copy, keep};
 use sqlite_items::Items;
 use std::alloc::Global;

@@ -1,7 +1,7 @@
 // The rows of a FROM (SQL-92, 7.4 and 7.5).
 ghost use Rattle.std.specs.Prelude.{◌≡◌, ◌∷◌, [], ◌++◌, map, IfOk, OnOk};
-ghost use Rattle.checked_query.specs.Meaning as m;
-ghost use Rattle.checked_query.specs.Shown as shown;
+ghost use Rattle.sql_meaning.specs.ResolvedMeaning as m;
+ghost use Rattle.sql_meaning.specs.ResolvedShown as shown;
 ghost use Rattle.query_loops.specs.Nests as nests;
 ghost use Rattle.query_loops.specs.Rows.{beside, if_some, picked, test_in, with_nulls};
 ghost use Rattle.query_loops.specs.Scopes.{group, known_in, scopes};
@@ -14,9 +14,9 @@ ghost use Rattle.sql_value.specs.Level.{least};
 use crate::nest::Loops;
 use crate::pair::{append_kept, cells_beside, with_nulls};
 use crate::scope::{Group, Scopes, Setting};
-use checked_query::{From, Query, Test, Value};
-use qgm_base::OutOfMemory;
 use row_bag::{Bag, Row};
+use shared_types::OutOfMemory;
+use sql_meaning::{From, Query, Test, Value};
 use sql_value::{Cell, Level, Truth};
 use std::alloc::Global;
 

@@ -1,15 +1,15 @@
 // Expressions, conditions, tables of a FROM and queries that nest in each other.
 ghost use Rattle.std.specs.Prelude.{◌≡◌, IfOk};
-ghost use Rattle.checked_query.specs.Meaning as m;
-ghost use Rattle.checked_query.specs.Shown as shown;
+ghost use Rattle.sql_meaning.specs.ResolvedMeaning as m;
+ghost use Rattle.sql_meaning.specs.ResolvedShown as shown;
 ghost use Rattle.query_loops.specs.Scopes.{group, known_in, scopes};
 ghost use Rattle.query_loops.specs.There.{SameThere};
 
 use crate::nest::Loops;
 use crate::scope::{Group, Scopes, Setting};
-use checked_query::{From, Query, Test, Value};
-use qgm_base::OutOfMemory;
 use row_bag::Bag;
+use shared_types::OutOfMemory;
+use sql_meaning::{From, Query, Test, Value};
 use sql_value::{Cell, Truth};
 
 // The cell that an expression is.

@@ -1,7 +1,7 @@
 // What each row of a FROM gives.
 ghost use Rattle.std.specs.Prelude.{◌≡◌, ◌∷◌, [], ◌++◌, IfOk};
-ghost use Rattle.checked_query.specs.Meaning as m;
-ghost use Rattle.checked_query.specs.Shown as shown;
+ghost use Rattle.sql_meaning.specs.ResolvedMeaning as m;
+ghost use Rattle.sql_meaning.specs.ResolvedShown as shown;
 ghost use Rattle.query_loops.specs.Nests as nests;
 ghost use Rattle.query_loops.specs.Rows.{cells_in, if_some, listed, picked, test_in};
 ghost use Rattle.query_loops.specs.Scopes.{group, known_in, scopes};
@@ -11,9 +11,9 @@ ghost use Rattle.sql_value.specs.Level.{least};
 
 use crate::nest::Loops;
 use crate::scope::{Group, Scopes, Setting, no_group};
-use checked_query::{From, Query, Test, Value};
-use qgm_base::OutOfMemory;
 use row_bag::{Bag, Row};
+use shared_types::OutOfMemory;
+use sql_meaning::{From, Query, Test, Value};
 use sql_value::{Cell, Level, Truth, keep};
 use sqlite_items::Items;
 

@@ -1,7 +1,7 @@
 // Aggregates over the rows of a group.
 ghost use Rattle.std.specs.Prelude.{◌≡◌, ◌∷◌, [], map, length, IfOk};
-ghost use Rattle.checked_query.specs.Meaning as m;
-ghost use Rattle.checked_query.specs.Shown as shown;
+ghost use Rattle.sql_meaning.specs.ResolvedMeaning as m;
+ghost use Rattle.sql_meaning.specs.ResolvedShown as shown;
 ghost use Rattle.query_loops.specs.Nests as nests;
 ghost use Rattle.query_loops.specs.Scopes.{group, known_in};
 ghost use Rattle.row_bag.specs.Bags.{bind, unit};
@@ -11,10 +11,10 @@ ghost use Rattle.sql_meaning.specs.Joins as joins;
 use crate::aggregates::{count_cell, of_arguments};
 use crate::nest::Loops;
 use crate::scope::{Group, Scopes, Setting, no_group};
-use checked_query::{From, Query, Test, Value};
-use qgm_base::OutOfMemory;
 use row_bag::{Bag, Row};
+use shared_types::OutOfMemory;
 use sql_ast::SetFunction;
+use sql_meaning::{From, Query, Test, Value};
 use sql_value::{Cell, Level, Truth};
 
 // How many rows are there.

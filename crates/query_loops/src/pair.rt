@@ -9,8 +9,8 @@ ghost use Rattle.sql_value.specs.declared.cell.Cell.{Cell};
 ghost use Rattle.sql_value.specs.declared.cell.Cell.TheVariants.{Null};
 
 use crate::tuple::append_cells;
-use qgm_base::OutOfMemory;
 use row_bag::{Bag, Row};
+use shared_types::OutOfMemory;
 use sql_value::{Cell, Level};
 use sqlite_items::Items;
 use std::alloc::Global;

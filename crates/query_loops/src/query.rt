@@ -1,7 +1,7 @@
 // The rows of a query (SQL-92, 7.9 and 7.10).
 ghost use Rattle.std.specs.Prelude.{◌≡◌, IfOk};
-ghost use Rattle.checked_query.specs.Meaning as m;
-ghost use Rattle.checked_query.specs.Shown as shown;
+ghost use Rattle.sql_meaning.specs.ResolvedMeaning as m;
+ghost use Rattle.sql_meaning.specs.ResolvedShown as shown;
 ghost use Rattle.query_loops.specs.Groups.{cells_of, test_of};
 ghost use Rattle.query_loops.specs.Nests as nests;
 ghost use Rattle.query_loops.specs.Rows.{test_in};
@@ -12,10 +12,10 @@ ghost use Rattle.sql_meaning.specs.Joins as joins;
 use crate::nest::Loops;
 use crate::scope::{Group, Scopes, Setting};
 use crate::sets::{combined, distinct_if, intersected};
-use checked_query::{From, Query, Test, Value};
-use qgm_base::OutOfMemory;
 use row_bag::Bag;
+use shared_types::OutOfMemory;
 use sql_ast::SetOperator;
+use sql_meaning::{From, Query, Test, Value};
 use sql_value::{Cell, Truth};
 use sqlite_items::Items;
 
@@ -83,7 +83,7 @@ impl<
     }
 
     /// The rows of a query. It fails only for want of memory.
-    #[tactic(auto, using(checked_query::specs::Shown::lists))]
+    #[tactic(auto, using(sql_meaning::specs::ResolvedShown::lists))]
     pub fn query_rows(&self, q: &Query, s: &Scopes<'_>) -> Result<Bag, OutOfMemory>
         requires value { nests.Values self.now.setting.depth (V.pre self.now.value) (V.post self.now.value) }
         requires test { nests.Tests self.now.setting.depth (P.pre self.now.test) (P.post self.now.test) }

@@ -1,7 +1,7 @@
 // The rows of a FROM and of a query.
 ghost use Rattle.std.specs.Prelude.{◌≡◌, ◌∷◌, [], ◌++◌, map, replicate, IfOk};
-ghost use Rattle.checked_query.specs.Meaning as m;
-ghost use Rattle.checked_query.specs.Shown as shown;
+ghost use Rattle.sql_meaning.specs.ResolvedMeaning as m;
+ghost use Rattle.sql_meaning.specs.ResolvedShown as shown;
 ghost use Rattle.query_loops.specs.Nests as nests;
 ghost use Rattle.query_loops.specs.Rows.{cells_in, picked, test_in};
 ghost use Rattle.query_loops.specs.Scopes.{group, known_in, scopes};
@@ -17,9 +17,9 @@ use crate::scope::{Group, Scopes, Setting};
 use crate::sets::{combined, distinct_if, intersected};
 use crate::source::{Source, rows_named};
 use crate::tuple::copied_rows;
-use checked_query::{From, Query, Test, Value};
-use qgm_base::OutOfMemory;
 use row_bag::{Bag, Row};
+use shared_types::OutOfMemory;
+use sql_meaning::{From, Query, Test, Value};
 use sql_value::{Cell, Level, Truth};
 use sqlite_items::Items;
 use std::alloc::Global;

@@ -1,15 +1,15 @@
 // The rows of a query over the rows of views and of tables.
 ghost use Rattle.std.specs.Prelude.{◌≡◌, [], IfOk};
-ghost use Rattle.checked_query.specs.Meaning as m;
-ghost use Rattle.checked_query.specs.Shown as shown;
+ghost use Rattle.sql_meaning.specs.ResolvedMeaning as m;
+ghost use Rattle.sql_meaning.specs.ResolvedShown as shown;
 ghost use Rattle.query_loops.specs.Scopes.{named};
 ghost use Rattle.query_loops.specs.There.{SameThere};
 
 use crate::knot::rows_at;
 use crate::scope::{Scopes, Setting};
-use checked_query::Query;
-use qgm_base::OutOfMemory;
 use row_bag::{Bag, Table};
+use shared_types::OutOfMemory;
+use sql_meaning::Query;
 use std::alloc::Global;
 
 /// The rows of a query over these rows of views and of tables, by nested loops in the order of the

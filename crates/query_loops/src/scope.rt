@@ -1,12 +1,12 @@
 // The rows that an expression sees.
 ghost use Rattle.std.specs.Prelude.{◌≡◌, ◌+◌, ◌<◌, ◌++◌, get_or, IfOk};
-ghost use Rattle.checked_query.specs.Meaning as meaning;
+ghost use Rattle.sql_meaning.specs.ResolvedMeaning as meaning;
 ghost use Rattle.query_loops.specs.Scopes.{group, scopes};
 ghost use Rattle.sql_meaning.specs.Groups.{no_group};
 ghost use Rattle.sql_value.specs.declared.cell.Cell.TheVariants.{Null};
 
-use qgm_base::OutOfMemory;
 use row_bag::{Row, Table};
+use shared_types::OutOfMemory;
 use sql_value::{Cell, Kind, copy};
 use std::alloc::Global;
 

@@ -1,6 +1,6 @@
 // DISTINCT, and set operations (SQL-92, 7.9 and 7.10).
 ghost use Rattle.std.specs.Prelude.{◌≡◌, ℕ, ◌++◌, ◌∷◌, [], if◌then◌else◌, Option, Some, None, replicate, not, nat_eq, IfOk, OnOk};
-ghost use Rattle.checked_query.specs.Meaning as m;
+ghost use Rattle.sql_meaning.specs.ResolvedMeaning as m;
 ghost use Rattle.query_loops.specs.Sets as spec;
 ghost use Rattle.row_bag.specs.Bags.{if_there, row, unit};
 ghost use Rattle.row_bag.specs.Errors as errors;
@@ -14,8 +14,8 @@ ghost use Rattle.sql_value.specs.declared.level.Level.TheVariants.{No};
 
 use crate::subqueries::{error_at, worst_of};
 use crate::tuple::{copied, same_cells};
-use qgm_base::OutOfMemory;
 use row_bag::{Bag, Row};
+use shared_types::OutOfMemory;
 use sql_ast::SetOperator;
 use sql_value::{Cell, Kind, Level};
 use sqlite_items::Items;

@@ -5,8 +5,8 @@ ghost use Rattle.query_loops.specs.Sources.{held};
 ghost use Rattle.row_bag.specs.Tables.{bag_named};
 
 use crate::scope::Setting;
-use qgm_base::Text;
 use row_bag::{Bag, Row, Table};
+use shared_types::Text;
 
 /// Rows of a table, or rows made for a query.
 #[derive(Drop)]

@@ -11,8 +11,8 @@ ghost use Rattle.sql_value.specs.declared.cell.Cell.TheVariants.{Null};
 ghost use Rattle.sql_value.specs.Cells as cells;
 
 use crate::value::always;
-use qgm_base::OutOfMemory;
 use row_bag::{Bag, Row};
+use shared_types::OutOfMemory;
 use sql_ast::Quantifier;
 use sql_value::{Cell, CmpOp, Kind, Level, Truth, and, compare, copy, not, or};
 use std::alloc::Global;

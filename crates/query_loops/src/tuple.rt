@@ -4,8 +4,8 @@ ghost use Rattle.std.specs.Cmp.Lexicographic.{slice_cmp};
 ghost use Rattle.row_bag.specs.Sets.{same_cells};
 ghost use Rattle.sql_value.specs.Cells.{cell_compare};
 
-use qgm_base::OutOfMemory;
 use row_bag::{Bag, Row};
+use shared_types::OutOfMemory;
 use sql_value::{Cell, cell_order, copy};
 use sqlite_items::Items;
 use std::alloc::Global;

@@ -1,12 +1,12 @@
 // Cells and truths from cells and truths.
 ghost use Rattle.std.specs.Prelude.{◌≡◌, IfOk};
-ghost use Rattle.qgm_base.specs.declared.compare.CmpOp.TheVariants as op;
+ghost use Rattle.shared_types.specs.declared.compare.CmpOp.TheVariants as op;
 ghost use Rattle.sql_meaning.specs.Values as named;
 ghost use Rattle.sql_value.specs.Comparison as comparison;
 ghost use Rattle.sql_value.specs.Truths as truths;
 ghost use Rattle.sql_value.specs.declared.cell.Cell.TheVariants.{Null};
 
-use qgm_base::OutOfMemory;
+use shared_types::OutOfMemory;
 use sql_ast::{AdditiveOp, MultiplicativeOp};
 use sql_value::{Cell, CmpOp, Kind, Level, Truth, add, and, compare, concat, div, mul, sub};
 use std::alloc::Global;

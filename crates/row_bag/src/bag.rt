@@ -4,7 +4,7 @@ ghost use Rattle.row_bag.specs.declared.row.Row.{Row};
 ghost use Rattle.sql_value.specs.declared.cell.Cell.{Cell};
 
 use crate::row::Row;
-use qgm_base::OutOfMemory;
+use shared_types::OutOfMemory;
 use std::alloc::Global;
 use std::marker::Model;
 

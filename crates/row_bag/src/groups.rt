@@ -14,7 +14,7 @@ ghost use Rattle.row_bag.specs.declared.row.Row.{Row};
 use crate::answer::{error_at, error_in, is_there, worst_of};
 use crate::bag::Bag;
 use crate::row::{Row, cells_order};
-use qgm_base::OutOfMemory;
+use shared_types::OutOfMemory;
 use sql_value::{Cell, Kind, copy};
 use sqlite_items::Items;
 use std::alloc::Global;

@@ -8,13 +8,9 @@ mod laws;
 mod matched;
 mod outcome;
 mod row;
-#[cfg(test)]
-mod set_tests;
 mod sets;
 mod sort;
 mod tables;
-#[cfg(test)]
-mod tests;
 
 pub use answer::verdict;
 pub use bag::Bag;

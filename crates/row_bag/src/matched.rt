@@ -12,7 +12,7 @@ use crate::answer::those_there;
 use crate::bag::Bag;
 use crate::row::{Row, cells_order, same_cells};
 use crate::sets::distinct;
-use qgm_base::OutOfMemory;
+use shared_types::OutOfMemory;
 use sql_value::{Cell, Level};
 use sqlite_items::Items;
 use std::alloc::Global;

@@ -9,7 +9,7 @@ use crate::answer::{error_among, those_there, worst_of};
 use crate::bag::Bag;
 use crate::matched::matching;
 use crate::row::{Row, row_order, same_cells};
-use qgm_base::OutOfMemory;
+use shared_types::OutOfMemory;
 use sql_value::{Cell, Kind, Level};
 use sqlite_items::Items;
 use std::alloc::Global;

@@ -6,7 +6,7 @@ ghost use Rattle.row_bag.specs.Sorted.{sorted_rows};
 
 use crate::bag::Bag;
 use crate::row::order_by;
-use qgm_base::OutOfMemory;
+use shared_types::OutOfMemory;
 use sql_value::OrderKeys;
 
 /// The rows by the keys, as `order_by` compares them, and so where the keys tie in ascending

@@ -4,7 +4,7 @@ ghost use Rattle.row_bag.specs.declared.tables.Table.{Table};
 ghost use Rattle.row_bag.specs.Tables.{bag_named, has_name, without_rows};
 
 use crate::bag::Bag;
-use qgm_base::{OutOfMemory, Text};
+use shared_types::{OutOfMemory, Text};
 use std::alloc::Global;
 use std::marker::Model;
 use std::mem::replace;

@@ -2,3 +2,5 @@ pub mod Syntax
 pub mod Shown
 pub mod Spelling
 pub mod Grammatical
+pub mod Names
+pub mod Declared

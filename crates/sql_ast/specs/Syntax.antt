@@ -1,6 +1,6 @@
 -- The trees of texts, without where they lie in memory. Every definition on trees goes over these.
 use Rattle.std.specs.Prelude.{ℕ, ℤ, Bool, List, Option}
-use Rattle.qgm_base.specs.declared.compare.CmpOp.{CmpOp}
+use Rattle.shared_types.specs.declared.compare.CmpOp.{CmpOp}
 use Rattle.sql_ast.specs.declared.name.Alias.{Alias}
 use Rattle.sql_ast.specs.declared.name.Column.{Column}
 use Rattle.sql_ast.specs.declared.name.Correlation.{Correlation}

@@ -6,7 +6,7 @@ use crate::word::{
     AdditiveOp, DataType, MultiplicativeOp, Quantifier, SetFunction, SetOperator, SetQuantifier,
     Sign,
 };
-use qgm_base::{CmpOp, Text};
+use shared_types::{CmpOp, Text};
 use sql_text::Name;
 use sqlite_items::Items;
 

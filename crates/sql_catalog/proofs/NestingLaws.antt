@@ -3,7 +3,7 @@ use Rattle.std.proofs.Common.{◌≡◌, refl, sym, ap, ◌∙◌, ℕ, Bool, tr
 use Rattle.std.specs.List.{list_any}
 use Rattle.std.specs.Cmp.Lexicographic.{nat_list_eq_equiv}
 use Rattle.sql_catalog.specs.declared.reader.Reader.{Reader}
-use Rattle.sql_catalog.specs.Names.{same_name, contains}
+use Rattle.sql_ast.specs.Names.{same_name, contains}
 use Rattle.sql_catalog.specs.Nesting.{reader_names, read_by}
 use Rattle.sql_catalog.proofs.NameLaws.{any_same}
 

@@ -6,7 +6,7 @@ use Rattle.std.specs.Cmp.Lexicographic.{nat_list_eq_equiv, bytes_decides}
 use Rattle.std.proofs.lemmas.Map.Made.{length-le_from_is_member}
 use Rattle.std.proofs.lemmas.List.{length-map}
 use Rattle.sql_catalog.specs.declared.reader.Reader.{Reader}
-use Rattle.sql_catalog.specs.Names.{same_name, contains}
+use Rattle.sql_ast.specs.Names.{same_name, contains}
 use Rattle.sql_catalog.specs.Nesting.{reader_names, read_by, leads, is_recursive, nests_over}
 use Rattle.sql_catalog.proofs.NameLaws.{any_same}
 use Rattle.sql_catalog.proofs.NestingLaws.{any_filter, false_apart}

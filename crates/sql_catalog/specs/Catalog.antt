@@ -10,41 +10,10 @@ use Rattle.sql_ast.specs.Shown as shown
 use Rattle.sql_ast.specs.Syntax as s
 use Rattle.sql_catalog.specs.declared.key.Key.{Key}
 use Rattle.sql_catalog.specs.declared.reader.Reader.{Reader}
-use Rattle.sql_catalog.specs.Keys.{columns_of, names_of, types_of, keys_of}
-use Rattle.sql_catalog.specs.Names.{same_name, contains, has_twins}
+use Rattle.sql_ast.specs.Declared.{columns_of, names_of, types_of}
+use Rattle.sql_catalog.specs.Keys.{keys_of}
+use Rattle.sql_ast.specs.Names.{same_name, contains, has_twins}
 use Rattle.sql_catalog.specs.Nesting.{readers_of, is_recursive, nests_over}
-
--- the tables and the views of a schema, each in declared order
-pub record Declared : Type 0 where
-  pub tables : List TableDecl
-  pub views : List s.ViewDecl
-
-abbrev pub declares : List TableDecl → List s.ViewDecl → Declared
-declares tables views = record { tables = tables; views = views }
-
--- the tables among a schema's statements, in order
-abbrev pub tables_of : List s.Statement → List TableDecl
-tables_of [] = []
-tables_of (s.table t ∷ xs) = t ∷ tables_of xs
-tables_of (s.view v ∷ xs) = tables_of xs
-
--- the views among them, in order
-abbrev pub views_of : List s.Statement → List s.ViewDecl
-views_of [] = []
-views_of (s.table t ∷ xs) = views_of xs
-views_of (s.view v ∷ xs) = v ∷ views_of xs
-
--- the tables' names
-abbrev pub table_names : List TableDecl → List (List ℕ)
-table_names tables = map (λ (t : TableDecl). t.name) tables
-
--- the views' names
-abbrev pub view_names : List s.ViewDecl → List (List ℕ)
-view_names views = map (λ (v : s.ViewDecl). v.name) views
-
--- the names of tables and views
-abbrev pub known_names : Declared → List (List ℕ)
-known_names d = table_names d.tables ++ view_names d.views
 
 -- ---- what refuses a schema
 
@@ -127,13 +96,3 @@ unless d (Some n) = Err n
 -- the tables and views that a schema declares, or the least number that refuses it
 abbrev pub declared : s.Schema → Result Declared ℕ
 declared x = unless (all_of x) (fault (all_of x))
-
--- ---- look-ups
-
--- the first table of a name, or none
-abbrev pub table_named : List TableDecl → List ℕ → Option TableDecl
-table_named tables name = find (λ (t : TableDecl). same_name t.name name) tables
-
--- the first view of a name, or none
-abbrev pub view_named : List s.ViewDecl → List ℕ → Option s.ViewDecl
-view_named views name = find (λ (v : s.ViewDecl). same_name v.name name) views

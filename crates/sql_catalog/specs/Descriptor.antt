@@ -9,8 +9,9 @@ use Rattle.sql_catalog.specs.declared.descriptor.ColumnDescriptor.{ColumnDescrip
 use Rattle.sql_catalog.specs.declared.descriptor.KeyDescriptor.{KeyDescriptor}
 use Rattle.sql_catalog.specs.declared.descriptor.TableDescriptor.{TableDescriptor}
 use Rattle.sql_catalog.specs.declared.key.Key.{Key}
-use Rattle.sql_catalog.specs.Keys.{columns_of, names_of, keys_of}
-use Rattle.sql_catalog.specs.Names.{same_name, contains}
+use Rattle.sql_ast.specs.Declared.{columns_of, names_of}
+use Rattle.sql_catalog.specs.Keys.{keys_of}
+use Rattle.sql_ast.specs.Names.{same_name, contains}
 
 -- NOT NULL is one of the constraints
 abbrev pub is_marked : List ColumnConstraint → Bool

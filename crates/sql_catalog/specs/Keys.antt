@@ -8,21 +8,6 @@ use Rattle.sql_ast.specs.declared.schema.Element.TheVariants as element
 use Rattle.sql_ast.specs.declared.word.DataType.{DataType}
 use Rattle.sql_catalog.specs.declared.key.Key.{Key}
 
--- the columns among a table's elements, in order
-abbrev pub columns_of : List Element → List ColumnDecl
-columns_of [] = []
-columns_of (element.Column c ∷ es) = c ∷ columns_of es
-columns_of (element.PrimaryKey ns ∷ es) = columns_of es
-columns_of (element.Unique ns ∷ es) = columns_of es
-
--- their names
-abbrev pub names_of : List ColumnDecl → List (List ℕ)
-names_of columns = map (λ (c : ColumnDecl). c.name) columns
-
--- their types
-abbrev pub types_of : List ColumnDecl → List DataType
-types_of columns = map (λ (c : ColumnDecl). c.data_type) columns
-
 abbrev pub key : Bool → List (List ℕ) → Key
 key primary columns = record { primary = primary; columns = columns }
 

@@ -1,4 +1,3 @@
-pub mod Names
 pub mod TableNames
 pub mod Keys
 pub mod Nesting

@@ -3,7 +3,7 @@ use Rattle.std.specs.Prelude.{ℕ, ◌||◌, ◌&&◌, not, Bool, true, false, L
 use Rattle.std.specs.List.{list_any}
 use Rattle.sql_ast.specs.Syntax as s
 use Rattle.sql_catalog.specs.declared.reader.Reader.{Reader}
-use Rattle.sql_catalog.specs.Names.{contains}
+use Rattle.sql_ast.specs.Names.{contains}
 use Rattle.sql_catalog.specs.TableNames.{in_query}
 
 -- a view's name, and the names that stand in its body

@@ -8,7 +8,7 @@ ghost use Rattle.sql_catalog.specs.declared.refusal.SchemaRefusal.TheVariants as
 use crate::catalog::Catalog;
 use crate::faults::refuse;
 use crate::refusal::SchemaRefusal;
-use qgm_base::OutOfMemory;
+use shared_types::OutOfMemory;
 use sql_ast::{Schema, Statement};
 use sqlite_items::Items;
 use std::alloc::Global;

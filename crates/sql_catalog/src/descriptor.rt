@@ -1,10 +1,10 @@
 // What a table declares, as those who read it need it.
 ghost use Rattle.std.specs.Prelude.{◌≡◌, ◌&&◌, IfOk, map};
 ghost use Rattle.sql_catalog.specs.Descriptor as spec;
-ghost use Rattle.sql_catalog.specs.Keys.{columns_of};
+ghost use Rattle.sql_ast.specs.Declared.{columns_of};
 
 use crate::key::{Key, column_names, keys};
-use qgm_base::OutOfMemory;
+use shared_types::OutOfMemory;
 use sql_ast::{ColumnConstraint, ColumnDecl, DataType, Element, TableDecl};
 use sql_text::Name;
 use sqlite_items::Items;

@@ -2,8 +2,9 @@
 ghost use Rattle.std.specs.Prelude.{◌≡◌, ◌++◌, ◌∷◌, [], ◌||◌, Ok, Err, IfOk, IsErrOf, Some, None, map, nat_lt, count_by};
 ghost use Rattle.std.specs.List.{list_any};
 ghost use Rattle.sql_ast.specs.Shown as shown;
+ghost use Rattle.sql_ast.specs.Declared as schema;
 ghost use Rattle.sql_catalog.specs.Catalog as catalog;
-ghost use Rattle.sql_catalog.specs.Names.{contains, has_twins};
+ghost use Rattle.sql_ast.specs.Names.{contains, has_twins};
 ghost use Rattle.sql_catalog.specs.Nesting.{readers_of};
 ghost use Rattle.sql_catalog.specs.declared.refusal.SchemaRefusal.TheVariants as SchemaRefusal;
 
@@ -13,7 +14,7 @@ use crate::name_set::{NameSet, has_twins, lacks_one};
 use crate::nesting::{is_recursive, one_nests_over};
 use crate::reader::{Reader, readers};
 use crate::refusal::SchemaRefusal;
-use qgm_base::OutOfMemory;
+use shared_types::OutOfMemory;
 use sql_ast::{Names, TableDecl, ViewDecl};
 use sql_text::Name;
 use sqlite_items::Items;
@@ -24,7 +25,7 @@ const MAX_DEPTH: usize = 16;
 
 // The names of tables, in order.
 fn table_names(alloc: Global, tables: &[TableDecl]) -> Result<Names, OutOfMemory>
-    ensures { IfOk result (λ names. names ≡ catalog.table_names tables.now) }
+    ensures { IfOk result (λ names. names ≡ schema.table_names tables.now) }
 {
     let mut names = Items::new(alloc);
     for table in tables {
@@ -39,7 +40,7 @@ fn known_names(
     tables: &[TableDecl],
     views: &[ViewDecl],
 ) -> Result<Names, OutOfMemory>
-    ensures { IfOk result (λ names. names ≡ catalog.known_names (catalog.declares tables.now (map shown.view views.now))) }
+    ensures { IfOk result (λ names. names ≡ schema.known_names (schema.declares tables.now (map shown.view views.now))) }
 {
     let mut names = table_names(alloc, tables)?;
     for view in views {
@@ -186,12 +187,12 @@ fn passes_limits(alloc: Global, tables: &[TableDecl], views: &[Reader]) -> Resul
 
 /// Refuses tables and views by the first cause that holds of them.
 pub fn refuse(alloc: Global, tables: &[TableDecl], views: &[ViewDecl]) -> Result<(), SchemaRefusal>
-    ensures valid { IfOk result (λ _. catalog.fault (catalog.declares tables.now (map shown.view views.now)) ≡ None) }
-    ensures unknown_table { IsErrOf result SchemaRefusal.UnknownTable → catalog.fault (catalog.declares tables.now (map shown.view views.now)) ≡ Some 6 }
-    ensures recursive_view { IsErrOf result SchemaRefusal.RecursiveView → catalog.fault (catalog.declares tables.now (map shown.view views.now)) ≡ Some 7 }
-    ensures duplicate_name { IsErrOf result SchemaRefusal.DuplicateName → catalog.fault (catalog.declares tables.now (map shown.view views.now)) ≡ Some 8 }
-    ensures bad_key { IsErrOf result SchemaRefusal.BadKey → catalog.fault (catalog.declares tables.now (map shown.view views.now)) ≡ Some 9 }
-    ensures limits { IsErrOf result SchemaRefusal.Limits → catalog.fault (catalog.declares tables.now (map shown.view views.now)) ≡ Some 10 }
+    ensures valid { IfOk result (λ _. catalog.fault (schema.declares tables.now (map shown.view views.now)) ≡ None) }
+    ensures unknown_table { IsErrOf result SchemaRefusal.UnknownTable → catalog.fault (schema.declares tables.now (map shown.view views.now)) ≡ Some 6 }
+    ensures recursive_view { IsErrOf result SchemaRefusal.RecursiveView → catalog.fault (schema.declares tables.now (map shown.view views.now)) ≡ Some 7 }
+    ensures duplicate_name { IsErrOf result SchemaRefusal.DuplicateName → catalog.fault (schema.declares tables.now (map shown.view views.now)) ≡ Some 8 }
+    ensures bad_key { IsErrOf result SchemaRefusal.BadKey → catalog.fault (schema.declares tables.now (map shown.view views.now)) ≡ Some 9 }
+    ensures limits { IsErrOf result SchemaRefusal.Limits → catalog.fault (schema.declares tables.now (map shown.view views.now)) ≡ Some 10 }
 {
     let known = known_names(alloc, tables, views)?;
     let reads = readers(alloc, views)?;

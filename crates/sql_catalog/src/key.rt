@@ -1,8 +1,9 @@
 // The columns and keys of a declared table.
 ghost use Rattle.std.specs.Prelude.{◌≡◌, ◌++◌, ◌∷◌, [], IfOk, OnOk};
-ghost use Rattle.sql_catalog.specs.Keys.{columns_of, names_of, types_of, key, column_keys, keys_of};
+ghost use Rattle.sql_ast.specs.Declared.{columns_of, names_of, types_of};
+ghost use Rattle.sql_catalog.specs.Keys.{key, column_keys, keys_of};
 
-use qgm_base::OutOfMemory;
+use shared_types::OutOfMemory;
 use sql_ast::{ColumnConstraint, ColumnDecl, DataType, Element, Names};
 use sql_text::Name;
 use sqlite_items::Items;

@@ -4,7 +4,7 @@ ghost use Rattle.std.specs.List.{list_any, list_all};
 ghost use Rattle.sql_catalog.specs.Catalog as catalog;
 
 use crate::key::column_types;
-use qgm_base::OutOfMemory;
+use shared_types::OutOfMemory;
 use sql_ast::{DataType, TableDecl};
 use sql_text::Name;
 use std::alloc::Global;

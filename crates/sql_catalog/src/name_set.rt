@@ -1,10 +1,10 @@
 // Sets of names.
 ghost use Rattle.std.specs.Prelude.{◌≡◌, ◌++◌, ◌∷◌, [], not, if◌then◌else◌, IfOk, OnOk, List, ℕ};
 ghost use Rattle.std.specs.List.{list_any};
-ghost use Rattle.sql_catalog.specs.Names.{contains, has_twins};
+ghost use Rattle.sql_ast.specs.Names.{contains, has_twins};
 
 use indexmap::IndexSet;
-use qgm_base::OutOfMemory;
+use shared_types::OutOfMemory;
 use sql_text::Name;
 use std::alloc::Global;
 use std::marker::Model;

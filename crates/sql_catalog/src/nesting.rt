@@ -1,12 +1,12 @@
 // How deep views nest.
 ghost use Rattle.std.specs.Prelude.{◌≡◌, IfOk, filter};
 ghost use Rattle.std.specs.List.{list_any};
-ghost use Rattle.sql_catalog.specs.Names.{contains};
+ghost use Rattle.sql_ast.specs.Names.{contains};
 ghost use Rattle.sql_catalog.specs.Nesting.{reader_names, nests_over, is_recursive};
 
 use crate::name_set::{NameSet, has_one};
 use crate::reader::Reader;
-use qgm_base::OutOfMemory;
+use shared_types::OutOfMemory;
 use sql_ast::Names;
 use sql_text::Name;
 use sqlite_items::Items;

@@ -4,7 +4,7 @@ ghost use Rattle.sql_ast.specs.Shown as shown;
 ghost use Rattle.sql_catalog.specs.Nesting.{readers_of};
 
 use crate::walk::query_names;
-use qgm_base::OutOfMemory;
+use shared_types::OutOfMemory;
 use sql_ast::{Names, ViewDecl};
 use sql_text::Name;
 use sqlite_items::Items;

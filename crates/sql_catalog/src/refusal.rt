@@ -2,7 +2,7 @@
 ghost use Rattle.std.specs.Prelude.{◌≡◌};
 ghost use Rattle.sql_catalog.specs.declared.refusal.SchemaRefusal.TheVariants.{Memory};
 
-use qgm_base::OutOfMemory;
+use shared_types::OutOfMemory;
 use thiserror::Error;
 
 /// Why a schema declares no catalog. Of several causes it is the first in this order; want of memory

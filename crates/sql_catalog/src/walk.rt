@@ -3,7 +3,7 @@ ghost use Rattle.std.specs.Prelude.{◌≡◌, ◌++◌, ◌∷◌, [], OnOk};
 ghost use Rattle.sql_ast.specs.Shown as shown;
 ghost use Rattle.sql_catalog.specs.TableNames as names;
 
-use qgm_base::OutOfMemory;
+use shared_types::OutOfMemory;
 use sql_ast::{
     Arm, Block, Choice, Cond, Expr, Filter, Item, Names, Otherwise, Query, Res, SelectList,
     TableRef,

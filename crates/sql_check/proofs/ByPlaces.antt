@@ -7,26 +7,27 @@ use Rattle.row_bag.specs.Verdict.{verdict}
 use Rattle.row_bag.specs.declared.row.Row.{Row}
 use Rattle.row_bag.specs.declared.tables.Table.{Table}
 use Rattle.sql_ast.specs.Syntax as s
-use Rattle.sql_catalog.specs.Catalog.{Declared, fault, table_named}
+use Rattle.sql_ast.specs.Declared.{Declared, table_named}
+use Rattle.sql_catalog.specs.Catalog.{fault}
 use Rattle.sql_meaning.specs.Meaning.{Answer, answer, known_at, known_of, order_key, relation_of, rows}
 use Rattle.sql_meaning.specs.Meaning as named
 use Rattle.sql_meaning.specs.Names.{Known, Relation, columns_of, names}
 use Rattle.sql_value.specs.declared.cell.Cell.{Cell}
 use Rattle.sql_value.specs.declared.order_key.OrderKey.{OrderKey}
-use Rattle.checked_query.specs.Meaning as trees
-use Rattle.checked_query.specs.Shown as shown
-use Rattle.checked_query.specs.Trees.{Query}
-use Rattle.checked_query.specs.Views.{ViewTree}
-use Rattle.checked_query.specs.Views as views
-use Rattle.query_faults.specs.Columns.{columns}
-use Rattle.query_faults.specs.Faults.{query_fault}
-use Rattle.query_faults.specs.Laws.{AreTyped, NestsShallow, SameColumns, SameNames, SameTables, TypedTables, ValidIsEven, ValidIsTyped, ValidViews, column_names}
-use Rattle.query_faults.specs.Views.{heads_of, view_refusal}
-use Rattle.query_places.specs.Agreed as places
-use Rattle.query_places.specs.Even.{EvenQuery}
-use Rattle.query_places.specs.Resolved.{bare, query, without_rows}
-use Rattle.query_places.specs.Schema.{Sound, columns_at, schema_columns, view_trees}
-use Rattle.query_places.specs.Schema as schema
+use Rattle.sql_meaning.specs.ResolvedMeaning as trees
+use Rattle.sql_meaning.specs.ResolvedShown as shown
+use Rattle.sql_meaning.specs.ResolvedTrees.{Query}
+use Rattle.sql_meaning.specs.ResolvedViews.{ViewTree}
+use Rattle.sql_meaning.specs.ResolvedViews as views
+use Rattle.query_checks.specs.Columns.{columns}
+use Rattle.query_checks.specs.Faults.{query_fault}
+use Rattle.query_checks.specs.Laws.{AreTyped, NestsShallow, SameColumns, SameNames, SameTables, TypedTables, ValidIsEven, ValidIsTyped, ValidViews, column_names}
+use Rattle.query_checks.specs.Views.{heads_of, view_refusal}
+use Rattle.name_resolution.specs.Agreed as places
+use Rattle.name_resolution.specs.Even.{EvenQuery}
+use Rattle.name_resolution.specs.Resolved.{bare, query, without_rows}
+use Rattle.name_resolution.specs.Schema.{Sound, columns_at, schema_columns, view_trees}
+use Rattle.name_resolution.specs.Schema as schema
 use Rattle.sql_check.specs.Checked.{AreViews, IsFilled, answer_of, rows_of}
 use Rattle.sql_check.specs.declared.checked.Checked.{Checked}
 use Rattle.sql_check.specs.declared.checked.Views.{Views}

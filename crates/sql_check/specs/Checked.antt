@@ -4,17 +4,18 @@ use Rattle.row_bag.specs.Tables.{bag_named}
 use Rattle.row_bag.specs.Verdict.{verdict}
 use Rattle.row_bag.specs.declared.row.Row.{Row}
 use Rattle.row_bag.specs.declared.tables.Table.{Table}
-use Rattle.sql_catalog.specs.Catalog.{Declared, fault, table_named}
+use Rattle.sql_ast.specs.Declared.{Declared, table_named}
+use Rattle.sql_catalog.specs.Catalog.{fault}
 use Rattle.sql_meaning.specs.Meaning.{Answer, relation_of}
 use Rattle.sql_meaning.specs.Meaning as named
 use Rattle.sql_value.specs.declared.cell.Cell.{Cell}
-use Rattle.checked_query.specs.Meaning as places
-use Rattle.checked_query.specs.Shown as shown
-use Rattle.checked_query.specs.Views.{known_of}
-use Rattle.query_faults.specs.Views.{view_heads, view_refusal}
-use Rattle.query_places.specs.Agreed.{IsWide}
-use Rattle.query_places.specs.Schema.{schema_columns, view_trees}
-use Rattle.query_places.specs.Shapes.{columns_among}
+use Rattle.sql_meaning.specs.ResolvedMeaning as places
+use Rattle.sql_meaning.specs.ResolvedShown as shown
+use Rattle.sql_meaning.specs.ResolvedViews.{known_of}
+use Rattle.query_checks.specs.Views.{view_heads, view_refusal}
+use Rattle.name_resolution.specs.Agreed.{IsWide}
+use Rattle.name_resolution.specs.Schema.{schema_columns, view_trees}
+use Rattle.name_resolution.specs.Shapes.{columns_among}
 use Rattle.sql_check.specs.declared.checked.Checked.{Checked}
 use Rattle.sql_check.specs.declared.checked.Views.{Views}
 

@@ -1,7 +1,7 @@
 // Valid queries and views, with their names resolved.
-use checked_query::Query;
-use query_faults::{Columns, ViewHeads};
-use query_places::ResolvedSchema;
+use name_resolution::ResolvedSchema;
+use query_checks::{Columns, ViewHeads};
+use sql_meaning::Query;
 use sql_value::{OrderKeys, OutNames};
 
 /// A valid query with its names resolved.

@@ -1,6 +1,6 @@
 -- Queries over the sample tables, and what they come to.
 use Rattle.std.specs.Prelude.{◌≡◌, ℕ, negsuc, codes, true, false, List, [], ◌∷◌, map, Option, None, Some}
-use Rattle.qgm_base.specs.declared.compare.CmpOp.TheVariants as op
+use Rattle.shared_types.specs.declared.compare.CmpOp.TheVariants as op
 use Rattle.row_bag.specs.Bags.{row}
 use Rattle.sql_ast.specs.declared.text.Sort.{Sort}
 use Rattle.sql_ast.specs.declared.text.SortKey.TheVariants as sort_key

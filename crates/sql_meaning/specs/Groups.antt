@@ -11,7 +11,7 @@ use Rattle.sql_ast.specs.declared.word.SetFunction.{SetFunction}
 use Rattle.sql_ast.specs.declared.word.SetFunction.TheVariants as function
 use Rattle.sql_ast.specs.declared.word.SetQuantifier.{SetQuantifier}
 use Rattle.sql_ast.specs.declared.word.SetQuantifier.TheVariants as each
-use Rattle.sql_catalog.specs.Names.{same_name}
+use Rattle.sql_ast.specs.Names.{same_name}
 use Rattle.sql_value.specs.Arithmetic.{error_or, in_range}
 use Rattle.sql_value.specs.Cells.{cell_compare, error_of}
 use Rattle.sql_value.specs.declared.cell.Cell.{Cell}

@@ -9,3 +9,7 @@ pub mod Joins
 pub mod Meaning
 pub mod Samples
 pub mod Examples
+pub mod ResolvedTrees
+pub mod ResolvedMeaning
+pub mod ResolvedViews
+pub mod ResolvedShown

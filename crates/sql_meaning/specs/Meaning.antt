@@ -1,6 +1,6 @@
 -- What a query means: nested loops over lists, by names (SQL-92, 6.11 to 6.14, 7.4 to 7.10, 8.2 to 8.8 and 13.1). The tree is walked here, and what its nodes do stands elsewhere: truth, arithmetic, comparison and LIKE in sql_value, rows at levels in row_bag, CASE in Values, subqueries in Subqueries, groups and aggregates in Groups, joins, DISTINCT and set operations in Joins, output names in Names.
 use Rattle.std.specs.Prelude.{ℕ, zero, suc, ◌+◌, Bool, true, false, List, [], ◌∷◌, ◌++◌, map, Option, Some, None, position, ℤ, pos, negsuc, if◌then◌else◌}
-use Rattle.qgm_base.specs.declared.compare.CmpOp.TheVariants.{Eq, Ge, Le}
+use Rattle.shared_types.specs.declared.compare.CmpOp.TheVariants.{Eq, Ge, Le}
 use Rattle.row_bag.specs.Bags.{unit}
 use Rattle.row_bag.specs.Sorted.{sorted_rows}
 use Rattle.row_bag.specs.Tables.{bag_named}
@@ -16,9 +16,9 @@ use Rattle.sql_ast.specs.declared.text.SortKey.TheVariants as sort_key
 use Rattle.sql_ast.specs.declared.word.Direction.{Direction}
 use Rattle.sql_ast.specs.declared.word.Direction.TheVariants as way
 use Rattle.sql_ast.specs.Syntax as s
-use Rattle.sql_catalog.specs.Catalog.{Declared, table_named, view_named}
-use Rattle.sql_catalog.specs.Keys.{names_of}
-use Rattle.sql_catalog.specs.Keys.{columns_of as declared_columns}
+use Rattle.sql_ast.specs.Declared.{Declared, table_named, view_named}
+use Rattle.sql_ast.specs.Declared.{names_of}
+use Rattle.sql_ast.specs.Declared.{columns_of as declared_columns}
 use Rattle.sql_value.specs.Comparison as c
 use Rattle.sql_value.specs.Like as l
 use Rattle.sql_value.specs.Truths as t

@@ -1,6 +1,6 @@
 -- A small schema with its tables, and words to write queries with.
 use Rattle.std.specs.Prelude.{◌≡◌, ℕ, pos, codes, false, List, [], ◌∷◌, map, Some, None}
-use Rattle.qgm_base.specs.declared.compare.CmpOp.TheVariants as op
+use Rattle.shared_types.specs.declared.compare.CmpOp.TheVariants as op
 use Rattle.row_bag.specs.Bags.{row}
 use Rattle.row_bag.specs.Verdict.{verdict}
 use Rattle.row_bag.specs.declared.outcome.Verdict.TheVariants.{Rows, Error}
@@ -15,7 +15,7 @@ use Rattle.sql_ast.specs.declared.word.MultiplicativeOp.TheVariants as mul
 use Rattle.sql_ast.specs.declared.word.SetFunction.{SetFunction}
 use Rattle.sql_ast.specs.declared.word.SetQuantifier.TheVariants as each
 use Rattle.sql_ast.specs.Syntax as s
-use Rattle.sql_catalog.specs.Catalog.{Declared}
+use Rattle.sql_ast.specs.Declared.{Declared}
 use Rattle.sql_value.specs.declared.cell.Cell.{Cell}
 use Rattle.sql_value.specs.declared.cell.Cell.TheVariants.{Int, Null}
 use Rattle.sql_value.specs.declared.cell.Kind.{Kind}

@@ -2,7 +2,7 @@
 use Rattle.std.specs.Prelude.{ℕ, Bool, false, List, [], ◌∷◌, map, Option, Some, None, find, if◌then◌else◌}
 use Rattle.std.specs.List.{flat_map}
 use Rattle.sql_ast.specs.declared.name.Column.{Column}
-use Rattle.sql_catalog.specs.Names.{same_name}
+use Rattle.sql_ast.specs.Names.{same_name}
 use Rattle.sql_value.specs.declared.cell.Cell.{Cell}
 use Rattle.sql_value.specs.declared.cell.Cell.TheVariants.{Null}
 

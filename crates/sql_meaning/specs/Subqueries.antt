@@ -1,6 +1,6 @@
 -- What the rows of a subquery come to where it stands in an expression or a condition (SQL-92, 6.11, 7.11, 8.4, 8.7 and 8.8).
 use Rattle.std.specs.Prelude.{true, false, List, [], ◌∷◌, Option, Some, None}
-use Rattle.qgm_base.specs.declared.compare.CmpOp.{CmpOp}
+use Rattle.shared_types.specs.declared.compare.CmpOp.{CmpOp}
 use Rattle.row_bag.specs.Bags.{total}
 use Rattle.row_bag.specs.Errors.{error_at}
 use Rattle.row_bag.specs.Verdict.{those_there}

@@ -1,7 +1,7 @@
 -- What is read is spelled so: conditions.
 use Rattle.std.proofs.Common.{◌≡◌, ℕ, zero, suc, Bool, true, false, List, ◌∷◌, Some, None, refl, sym, ◌∙◌, ap, length}
 use Rattle.std.specs.Prelude.{◌&&◌, if◌then◌else◌}
-use Rattle.qgm_base.specs.declared.compare.CmpOp.{CmpOp}
+use Rattle.shared_types.specs.declared.compare.CmpOp.{CmpOp}
 use Rattle.sql_text.specs.declared.key.Key.TheVariants as k
 use Rattle.sql_text.specs.declared.token.Token.{Token}
 use Rattle.sql_text.specs.declared.token.Token.TheVariants as t

@@ -1,6 +1,6 @@
 -- Reading of expressions, conditions, tables and queries: the tree that tokens spell first, and the tokens after it. One word a line of the grammar. What stands in brackets or in CASE is read by one of four readers `e`, `c`, `q`, `j` of what may stand there: an expression, a condition, a query, or a table with its joins. A chain or a list is read in so many turns at most.
 use Rattle.std.specs.Prelude.{ℕ, zero, suc, Bool, true, false, List, ◌∷◌, length, if◌then◌else◌, Option, Some, None}
-use Rattle.qgm_base.specs.declared.compare.CmpOp.{CmpOp}
+use Rattle.shared_types.specs.declared.compare.CmpOp.{CmpOp}
 use Rattle.sql_text.specs.declared.key.Key.{Key}
 use Rattle.sql_text.specs.declared.key.Key.TheVariants as k
 use Rattle.sql_text.specs.declared.token.Token.{Token}

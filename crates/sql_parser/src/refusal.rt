@@ -1,5 +1,5 @@
 // The refusals of the parser.
-use qgm_base::OutOfMemory;
+use shared_types::OutOfMemory;
 use std::alloc::{AllocError, AllocFailed};
 use thiserror::Error;
 

@@ -8,7 +8,7 @@ use Rattle.std.proofs.lemmas.List.Sums.{prefix_len-le-length, sum_by-cons}
 use Rattle.std.proofs.lemmas.Slice.Eq.{bytes_eq-Decides}
 use Rattle.std.proofs.lemmas.Str.{len_utf8_bounds, length-encode, encodes-append, drop_past_char, chars_from_encodes, is_utf8-from_IsUtf8, IsUtf8-from_is_utf8}
 use Rattle.std.specs.Str.{bytes_eq, chars, is_utf8}
-use Rattle.qgm_base.specs.declared.compare.CmpOp.TheVariants as op
+use Rattle.shared_types.specs.declared.compare.CmpOp.TheVariants as op
 use Rattle.sql_text.specs.declared.key.Key.{Key}
 use Rattle.sql_text.specs.declared.token.Token.{Token}
 use Rattle.sql_text.specs.declared.token.Token.TheVariants as t

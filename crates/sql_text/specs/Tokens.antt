@@ -4,7 +4,7 @@ use Rattle.std.specs.Char.{is_ascii_alphabetic, is_ascii_digit, to_ascii_upperca
 use Rattle.std.specs.List.{take_while, prefix_len, find, sum_by}
 use Rattle.std.specs.Option.{option_map}
 use Rattle.std.specs.Str.{bytes_eq, chars, is_utf8}
-use Rattle.qgm_base.specs.declared.compare.CmpOp.TheVariants as op
+use Rattle.shared_types.specs.declared.compare.CmpOp.TheVariants as op
 use Rattle.sql_text.specs.Keys.{key_words}
 use Rattle.sql_text.specs.declared.key.Key.{Key}
 use Rattle.sql_text.specs.declared.token.Token.{Token}

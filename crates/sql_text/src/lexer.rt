@@ -9,7 +9,7 @@ use crate::refusal::LexRefusal;
 use crate::sign::sign;
 use crate::token::{Spanned, Token};
 use crate::words::{is_letter, word_length, word_token};
-use qgm_base::{OutOfMemory, Text};
+use shared_types::{OutOfMemory, Text};
 use std::alloc::Global;
 
 fn is_blank(c: char) -> bool

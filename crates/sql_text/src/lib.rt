@@ -8,14 +8,12 @@ mod number;
 mod quoted;
 mod refusal;
 mod sign;
-#[cfg(test)]
-mod tests;
 mod token;
 mod words;
 
 pub use depth::too_deep;
 pub use key::Key;
 pub use lexer::lex;
-pub use qgm_base::CmpOp;
 pub use refusal::LexRefusal;
+pub use shared_types::CmpOp;
 pub use token::{Name, Spanned, Token};

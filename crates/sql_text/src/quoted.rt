@@ -5,7 +5,7 @@ ghost use Rattle.sql_text.specs.Tokens.{Gives};
 
 use crate::refusal::LexRefusal;
 use crate::token::Token;
-use qgm_base::Text;
+use shared_types::Text;
 use std::alloc::Global;
 
 /// The character that stands first within quotes, and how many characters it is written in; none

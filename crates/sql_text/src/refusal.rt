@@ -1,5 +1,5 @@
 // Why a text has no tokens.
-use qgm_base::OutOfMemory;
+use shared_types::OutOfMemory;
 use std::alloc::AllocFailed;
 use thiserror::Error;
 

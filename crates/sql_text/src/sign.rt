@@ -5,7 +5,7 @@ ghost use Rattle.sql_text.specs.Tokens.{Gives};
 
 use crate::refusal::LexRefusal;
 use crate::token::Token;
-use qgm_base::CmpOp;
+use shared_types::CmpOp;
 
 /// The sign of two characters that these are.
 fn long_sign(c: char, d: char) -> Option<Token>

@@ -1,6 +1,6 @@
 // The tokens of a text, and where they stand in it.
 use crate::key::Key;
-use qgm_base::{CmpOp, Text};
+use shared_types::{CmpOp, Text};
 
 /// A name, in upper case where it was written without quotes. Contracts see it as the list of its
 /// characters.

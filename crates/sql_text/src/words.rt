@@ -5,7 +5,7 @@ ghost use Rattle.sql_text.specs.Tokens as spec;
 
 use crate::key::Key;
 use crate::token::{Name, Token};
-use qgm_base::{OutOfMemory, Text};
+use shared_types::{OutOfMemory, Text};
 use std::alloc::Global;
 
 /// The key words with their letters, as `specs/Keys.antt` has them.

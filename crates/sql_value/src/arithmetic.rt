@@ -3,7 +3,7 @@ ghost use Rattle.std.specs.Prelude.{◌≡◌, ◌++◌, IfOk};
 ghost use Rattle.sql_value.specs.Arithmetic as spec;
 
 use crate::cell::{Cell, Kind, worst};
-use qgm_base::{OutOfMemory, Text};
+use shared_types::{OutOfMemory, Text};
 use std::alloc::Global;
 
 // A result, or the error that there is none within 64 bits.

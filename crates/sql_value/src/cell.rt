@@ -3,7 +3,7 @@ ghost use Rattle.std.specs.Prelude.{◌≡◌, IfOk};
 ghost use Rattle.std.specs.Cmp.{IsTotalOrder};
 ghost use Rattle.sql_value.specs.Cells as spec;
 
-use qgm_base::{OutOfMemory, Text};
+use shared_types::{OutOfMemory, Text};
 use sqlite_items::Items;
 use std::alloc::Global;
 use std::cmp::Ordering;

@@ -4,7 +4,7 @@ ghost use Rattle.sql_value.specs.Comparison as spec;
 
 use crate::cell::{Cell, cell_order, worst};
 use crate::truth::{Truth, decided, error, unknown};
-use qgm_base::CmpOp;
+use shared_types::CmpOp;
 use std::cmp::Ordering;
 
 // Whether an operator holds of two values in this order.

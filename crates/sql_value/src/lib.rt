@@ -7,8 +7,6 @@ mod comparison;
 mod level;
 mod order_key;
 mod pattern;
-#[cfg(test)]
-mod tests;
 mod truth;
 
 pub use arithmetic::{add, concat, div, mul, neg, sub};
@@ -17,5 +15,5 @@ pub use comparison::{compare, is_null, same};
 pub use level::Level;
 pub use order_key::{OrderKey, OrderKeys, SqlType};
 pub use pattern::like;
-pub use qgm_base::{CmpOp, Text};
+pub use shared_types::{CmpOp, Text};
 pub use truth::{Truth, and, keep, not, or};

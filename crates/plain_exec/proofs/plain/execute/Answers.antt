@@ -1,9 +1,9 @@
 use Rattle.std.proofs.Common.{◌∙◌, false, List, ap, ap₂, subst}
 use Rattle.std.proofs.lemmas.Bool.{or_left}
 use Rattle.std.proofs.lemmas.Result.{IfOk-weaker}
-use Rattle.checked_query.specs.Shown as shown
-use Rattle.checked_query.specs.Views as views
-use Rattle.checked_query.specs.declared.tree.View.{View}
+use Rattle.sql_meaning.specs.ResolvedShown as shown
+use Rattle.sql_meaning.specs.ResolvedViews as views
+use Rattle.sql_meaning.specs.declared.resolved.View.{View}
 use Rattle.row_bag.specs.Bags.{Agree}
 use Rattle.row_bag.specs.Sets.{same_cells}
 use Rattle.row_bag.specs.Verdict.{those_there}

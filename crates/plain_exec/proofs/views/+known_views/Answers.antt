@@ -1,7 +1,7 @@
 use Rattle.std.proofs.Common.{◌≡◌, ◌∙◌, ◌-◌, ℕ, suc, List, map, ap, arith}
 use Rattle.std.proofs.lemmas.Result.{IfOk-weaker}
-use Rattle.checked_query.specs.Shown as shown
-use Rattle.checked_query.specs.Views.{ViewTree, body_of, known_at, viewed}
+use Rattle.sql_meaning.specs.ResolvedShown as shown
+use Rattle.sql_meaning.specs.ResolvedViews.{ViewTree, body_of, known_at, viewed}
 use Rattle.row_bag.specs.Verdict.{those_there}
 use Rattle.row_bag.specs.declared.tables.Table.{Table}
 use Rattle.plain_exec.specs.Reading.{is_read, queries, trees, views_read}

@@ -1,9 +1,9 @@
 use Rattle.std.proofs.Common.{◌≡◌, ◌+◌, ◌∷◌, ◌∙◌, List, drop, ap, sym, arith}
 use Rattle.std.proofs.lemmas.Grind.{common_steps}
 use denote.Bor.{Bor}
-use Rattle.checked_query.specs.Shown as shown
-use Rattle.checked_query.specs.Views.{body_of, viewed}
-use Rattle.checked_query.specs.declared.tree.View.{View}
+use Rattle.sql_meaning.specs.ResolvedShown as shown
+use Rattle.sql_meaning.specs.ResolvedViews.{body_of, viewed}
+use Rattle.sql_meaning.specs.declared.resolved.View.{View}
 use Rattle.row_bag.specs.Tables.{bag_named}
 use Rattle.row_bag.specs.Verdict.{those_there}
 use Rattle.row_bag.specs.declared.tables.Table.{Table}

@@ -1,5 +1,5 @@
 use Rattle.std.proofs.Common.{ℕ, List, drop}
-use Rattle.checked_query.specs.Views.{body_of, viewed}
+use Rattle.sql_meaning.specs.ResolvedViews.{body_of, viewed}
 use Rattle.row_bag.specs.Tables.{bag_named}
 use Rattle.query_loops.specs.Scopes.{named}
 use Rattle.query_loops.specs.There.{SameThere}

@@ -1,5 +1,5 @@
 use Rattle.std.proofs.Common.{◌≡◌, ◌++◌, drop}
-use Rattle.checked_query.specs.Shown as shown
+use Rattle.sql_meaning.specs.ResolvedShown as shown
 use Rattle.plain_exec.specs.Reading.{queries, trees, views_read}
 use Rattle.plain_exec.proofs.views.views_read.Given as goal
 

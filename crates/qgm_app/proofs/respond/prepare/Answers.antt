@@ -1,7 +1,7 @@
 use Rattle.std.proofs.Common.{Err, ap, map}
 use Rattle.std.specs.String.{string_bytes}
 use Rattle.io_edge.specs.Outcome.{ended}
-use Rattle.qgm_words.specs.Line.{line_text}
+use Rattle.command_line.specs.Line.{line_text}
 use Rattle.qgm_app.proofs.Steps.{line-taken, no-line}
 use Rattle.qgm_app.proofs.respond.prepare.Goals as goal
 

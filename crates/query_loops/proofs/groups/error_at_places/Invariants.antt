@@ -1,5 +1,5 @@
 use Rattle.std.proofs.Common.{◌≡◌, drop}
-use Rattle.checked_query.specs.Meaning as m
+use Rattle.sql_meaning.specs.ResolvedMeaning as m
 use Rattle.row_bag.specs.Errors.{error_in}
 use Rattle.sql_value.specs.Cells.{worst_of}
 use Rattle.query_loops.proofs.groups.error_at_places.Given as goal

@@ -1,5 +1,5 @@
 use Rattle.std.proofs.Common.{◌≡◌, ◌++◌, drop}
-use Rattle.checked_query.specs.Meaning as m
+use Rattle.sql_meaning.specs.ResolvedMeaning as m
 use Rattle.query_loops.proofs.groups.masked.Given as goal
 
 abbrev pub invariant-loop-i : goal.invariant-loop-i

@@ -1,5 +1,5 @@
 use Rattle.std.proofs.Common.{◌≡◌, ◌++◌, drop, map, Some}
-use Rattle.checked_query.specs.Meaning as m
+use Rattle.sql_meaning.specs.ResolvedMeaning as m
 use Rattle.row_bag.specs.Sets.{of_group, same_cells}
 use Rattle.query_loops.proofs.groups.members.Given as goal
 

@@ -1,6 +1,6 @@
 use Rattle.std.proofs.Common.{arith}
 use Rattle.std.proofs.lemmas.Grind.{common_steps}
-use Rattle.checked_query.specs.Shown as shown
+use Rattle.sql_meaning.specs.ResolvedShown as shown
 use Rattle.query_loops.proofs.read_names.+reads.Goals as goal
 
 pub reads-returns-then-values_read : goal.reads-returns-then-values_read

@@ -1,5 +1,5 @@
 use Rattle.std.proofs.Common.{◌≡◌, drop}
-use Rattle.checked_query.specs.Shown as shown
+use Rattle.sql_meaning.specs.ResolvedShown as shown
 use Rattle.query_loops.specs.Reads as spec
 use Rattle.query_loops.proofs.read_names.+reads.Given as goal
 

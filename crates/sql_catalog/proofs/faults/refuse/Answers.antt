@@ -2,12 +2,12 @@ use Rattle.std.proofs.Common.{◌≡◌, sym, ◌∙◌, map, true, false, Some,
 use Rattle.std.specs.List.{list_any}
 use Rattle.sql_ast.specs.Shown as shown
 use Rattle.sql_catalog.specs.Nesting.{readers_of, is_recursive}
-use Rattle.sql_catalog.specs.Catalog as catalog
+use Rattle.sql_ast.specs.Declared as schema
 use Rattle.sql_catalog.proofs.FaultLaws.{fault_limits}
 use Rattle.sql_catalog.proofs.faults.refuse.Goals as goal
 
 pub returns-then-branch-5-clause-limits : goal.returns-then-branch-5-clause-limits
-returns-then-branch-5-clause-limits c = λ _. fault_limits (catalog.declares c.args.tables.now (map shown.view c.args.views.now))
+returns-then-branch-5-clause-limits c = λ _. fault_limits (schema.declares c.args.tables.now (map shown.view c.args.views.now))
     (cc (c.if-branch.false, c.in_ok-reads_unknown.ensures, c.as_slice.ensures, c.as_slice-2.ensures, c.in_ok-known.ensures, c.in_ok-reads.ensures))
     (cc (c.if-branch-2.false, c.in_ok-is_recursive.ensures, c.as_slice-3.ensures, c.in_ok-reads.ensures))
     (cc (c.if-branch-3.false, c.in_ok-has_duplicate.ensures, c.as_slice-4.ensures, c.in_ok-known.ensures))
@@ -16,7 +16,7 @@ returns-then-branch-5-clause-limits c = λ _. fault_limits (catalog.declares c.a
     (cc (c.if-branch-5.true, c.in_ok-passes_limits.ensures, c.as_slice-5.ensures, c.in_ok-reads.ensures))
 
 pub returns-clause-valid : goal.returns-clause-valid
-returns-clause-valid c = fault_limits (catalog.declares c.args.tables.now (map shown.view c.args.views.now))
+returns-clause-valid c = fault_limits (schema.declares c.args.tables.now (map shown.view c.args.views.now))
     (cc (c.if-branch.false, c.in_ok-reads_unknown.ensures, c.as_slice.ensures, c.as_slice-2.ensures, c.in_ok-known.ensures, c.in_ok-reads.ensures))
     (cc (c.if-branch-2.false, c.in_ok-is_recursive.ensures, c.as_slice-3.ensures, c.in_ok-reads.ensures))
     (cc (c.if-branch-3.false, c.in_ok-has_duplicate.ensures, c.as_slice-4.ensures, c.in_ok-known.ensures))

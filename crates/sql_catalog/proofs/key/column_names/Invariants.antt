@@ -1,5 +1,6 @@
 use Rattle.std.proofs.Common.{◌≡◌, ◌++◌, drop, map}
-use Rattle.sql_catalog.specs.Keys.{columns_of, names_of, types_of, key, column_keys, keys_of}
+use Rattle.sql_ast.specs.Declared.{columns_of, names_of, types_of}
+use Rattle.sql_catalog.specs.Keys.{key, column_keys, keys_of}
 use Rattle.sql_catalog.proofs.key.column_names.Given as goal
 
 abbrev pub invariant-loop-element : goal.invariant-loop-element

@@ -1,6 +1,6 @@
 use Rattle.std.proofs.Common.{arith, ap, ◌≡◌, ◌||◌, ◌++◌, ◌∷◌, List, ℕ}
 use Rattle.std.proofs.lemmas.Grind.{common_steps}
-use Rattle.sql_catalog.specs.Names.{contains, has_twins}
+use Rattle.sql_ast.specs.Names.{contains, has_twins}
 use Rattle.sql_catalog.proofs.NameLaws.{none_seen, twins_more}
 use Rattle.sql_catalog.proofs.name_set.has_twins.Goals as goal
 

@@ -1,6 +1,6 @@
 use Rattle.std.proofs.Common.{◌≡◌, ◌||◌, ◌++◌, drop, map, List, ℕ}
 use Rattle.std.specs.List.{list_any}
-use Rattle.sql_catalog.specs.Names.{contains, has_twins}
+use Rattle.sql_ast.specs.Names.{contains, has_twins}
 use Rattle.sql_catalog.proofs.name_set.has_twins.Given as goal
 
 abbrev pub invariant-loop-name : goal.invariant-loop-name

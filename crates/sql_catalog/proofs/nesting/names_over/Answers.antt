@@ -1,7 +1,7 @@
 use Rattle.std.proofs.Common.{◌≡◌, sym, ap, ◌∙◌, filter, List, ℕ, add-one}
 use Rattle.std.specs.List.{list_any}
 use Rattle.sql_catalog.specs.declared.reader.Reader.{Reader}
-use Rattle.sql_catalog.specs.Names.{contains}
+use Rattle.sql_ast.specs.Names.{contains}
 use Rattle.sql_catalog.specs.Nesting.{reader_names, nests_over}
 use Rattle.sql_catalog.proofs.NestingLaws.{all_kept, one_round}
 use Rattle.sql_catalog.proofs.nesting.names_over.Goals as goal

@@ -1,7 +1,7 @@
 use Rattle.std.proofs.Common.{◌≡◌, subst, filter, List, ℕ, IfOk}
 use Rattle.std.specs.List.{list_any}
 use Rattle.sql_catalog.specs.declared.reader.Reader.{Reader}
-use Rattle.sql_catalog.specs.Names.{contains}
+use Rattle.sql_ast.specs.Names.{contains}
 use Rattle.sql_catalog.specs.Nesting.{reader_names}
 use Rattle.sql_catalog.proofs.NameLaws.{any_same}
 use Rattle.sql_catalog.proofs.NestingLaws.{filter_same}

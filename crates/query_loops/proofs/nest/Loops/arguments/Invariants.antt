@@ -1,6 +1,6 @@
 use Rattle.std.proofs.Common.{◌≡◌, ◌++◌, ◌∷◌, [], drop, map}
-use Rattle.checked_query.specs.Meaning as m
-use Rattle.checked_query.specs.Shown as shown
+use Rattle.sql_meaning.specs.ResolvedMeaning as m
+use Rattle.sql_meaning.specs.ResolvedShown as shown
 use Rattle.query_loops.specs.Scopes.{known_in}
 use Rattle.row_bag.specs.Bags.{bind, unit}
 use Rattle.sql_meaning.specs.Groups.{no_group}

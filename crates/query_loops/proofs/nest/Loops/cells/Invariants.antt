@@ -1,6 +1,6 @@
 use Rattle.std.proofs.Common.{◌≡◌, ◌++◌, drop}
-use Rattle.checked_query.specs.Meaning as m
-use Rattle.checked_query.specs.Shown as shown
+use Rattle.sql_meaning.specs.ResolvedMeaning as m
+use Rattle.sql_meaning.specs.ResolvedShown as shown
 use Rattle.query_loops.specs.Scopes.{group, known_in, scopes}
 use Rattle.query_loops.proofs.nest.Loops.cells.Given as goal
 

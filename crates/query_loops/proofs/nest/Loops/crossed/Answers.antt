@@ -1,7 +1,7 @@
 use Rattle.std.proofs.Common.{◌∙◌, ap, ap₂}
 use Rattle.std.proofs.lemmas.Result.{IfOk-weaker}
-use Rattle.checked_query.specs.Meaning as m
-use Rattle.checked_query.specs.Shown as shown
+use Rattle.sql_meaning.specs.ResolvedMeaning as m
+use Rattle.sql_meaning.specs.ResolvedShown as shown
 use Rattle.row_bag.specs.Verdict.{those_there}
 use Rattle.sql_meaning.specs.Joins as joins
 use Rattle.query_loops.specs.Scopes.{known_in, scopes}

@@ -1,7 +1,7 @@
 use Rattle.std.proofs.Common.{◌≡◌, drop}
 use Rattle.sql_value.specs.declared.cell.Cell.{Cell}
-use Rattle.checked_query.specs.Meaning as m
-use Rattle.checked_query.specs.Shown as shown
+use Rattle.sql_meaning.specs.ResolvedMeaning as m
+use Rattle.sql_meaning.specs.ResolvedShown as shown
 use Rattle.query_loops.specs.Scopes.{group, known_in, scopes}
 use Rattle.query_loops.proofs.nest.Loops.first_equal.Given as goal
 

@@ -1,8 +1,8 @@
 use Rattle.std.proofs.Common.{◌≡◌, ◌-◌, ◌≤◌, ◌∷◌, ◌∙◌, List, drop, length, ap, sym, refl, arith}
 use Rattle.std.proofs.lemmas.Grind.{common_steps}
-use Rattle.checked_query.specs.Meaning as m
-use Rattle.checked_query.specs.Shown as shown
-use Rattle.checked_query.specs.declared.tree.From.{From}
+use Rattle.sql_meaning.specs.ResolvedMeaning as m
+use Rattle.sql_meaning.specs.ResolvedShown as shown
+use Rattle.sql_meaning.specs.declared.resolved.From.{From}
 use Rattle.row_bag.specs.Verdict.{those_there}
 use Rattle.row_bag.specs.declared.row.Row.{Row}
 use Rattle.sql_meaning.specs.Joins as joins

@@ -1,8 +1,8 @@
 use Rattle.std.proofs.Common.{◌≡◌, ◌∙◌, List, Some, ap}
 use Rattle.sql_value.specs.declared.cell.Cell.{Cell}
 use Rattle.std.proofs.lemmas.Result.{IfOk-weaker}
-use Rattle.checked_query.specs.Meaning as m
-use Rattle.checked_query.specs.Shown as shown
+use Rattle.sql_meaning.specs.ResolvedMeaning as m
+use Rattle.sql_meaning.specs.ResolvedShown as shown
 use Rattle.query_loops.specs.Groups as spec
 use Rattle.query_loops.specs.Scopes.{known_in, scopes}
 use Rattle.query_loops.proofs.Grouped.{last_there}

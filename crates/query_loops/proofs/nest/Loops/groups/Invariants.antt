@@ -1,5 +1,5 @@
 use Rattle.std.proofs.Common.{◌≡◌, ◌++◌, drop}
-use Rattle.checked_query.specs.Shown as shown
+use Rattle.sql_meaning.specs.ResolvedShown as shown
 use Rattle.query_loops.specs.Scopes.{known_in, scopes}
 use Rattle.row_bag.specs.Verdict.{those_there}
 use Rattle.sql_meaning.specs.Joins.{selected}

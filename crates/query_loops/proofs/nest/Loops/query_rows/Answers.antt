@@ -1,4 +1,4 @@
-use Rattle.checked_query.specs.Shown as shown
+use Rattle.sql_meaning.specs.ResolvedShown as shown
 use Rattle.query_loops.proofs.nest.Loops.query_rows.Goals as goal
 
 pub returns-in-Block : goal.returns-in-Block

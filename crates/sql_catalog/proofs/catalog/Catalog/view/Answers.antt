@@ -2,8 +2,8 @@ use Rattle.std.proofs.Common.{◌≡◌, map, List}
 use Rattle.std.specs.Prelude.{find, option_map}
 use Rattle.sql_ast.specs.Shown as shown
 use Rattle.sql_ast.specs.declared.schema.ViewDecl.{ViewDecl}
-use Rattle.sql_catalog.specs.Names.{same_name}
-use Rattle.sql_catalog.specs.Catalog.{view_named}
+use Rattle.sql_ast.specs.Names.{same_name}
+use Rattle.sql_ast.specs.Declared.{view_named}
 use Rattle.sql_catalog.proofs.LookupLaws.{view_found}
 use Rattle.sql_catalog.proofs.catalog.Catalog.view.Goals as goal
 

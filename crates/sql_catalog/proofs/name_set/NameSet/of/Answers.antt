@@ -1,6 +1,6 @@
 use Rattle.std.proofs.Common.{arith, ◌∙◌, ◌≡◌, ◌++◌, ◌∷◌, List, ℕ}
 use Rattle.std.proofs.lemmas.Grind.{common_steps}
-use Rattle.sql_catalog.specs.Names.{contains}
+use Rattle.sql_ast.specs.Names.{contains}
 use Rattle.sql_catalog.proofs.NameLaws.{added}
 use Rattle.sql_catalog.proofs.name_set.NameSet.of.Goals as goal
 

@@ -1,5 +1,0 @@
-mod Behind
-mod Left
-mod Plans
-mod Rows
-mod Within

@@ -1,4 +1,0 @@
-pub mod Trees
-pub mod Meaning
-pub mod Views
-pub mod Shown

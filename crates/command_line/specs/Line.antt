@@ -1,0 +1,33 @@
+-- A command line, without the addresses of its texts.
+use Rattle.std.specs.Prelude.{ℕ, Bool, true, false}
+use Rattle.clap.specs.Words.{Text}
+use Rattle.rewrite_plan.specs.declared.plan.Plan.{Plan}
+use Rattle.command_line.specs.declared.task.Line.{Line}
+use Rattle.command_line.specs.declared.task.Task.{Task}
+use Rattle.command_line.specs.declared.task.Task.TheVariants.{Run, Explain, Gen}
+
+-- a command with its arguments: the names of the schema's file, of the query's file and of the
+-- folder of tables; and of `gen`, the seed and the number of rows
+pub data TaskText : Type 0 where
+  run : Text → Text → Text → TaskText
+  explain : Text → Text → Text → TaskText
+  gen : ℕ → ℕ → TaskText
+
+pub record LineText : Type 0 where
+  pub task : TaskText
+  pub plan : Plan
+
+abbrev pub task_text : Task → TaskText
+task_text (Run schema query dir) = run schema.now query.now dir.now
+task_text (Explain schema query dir) = explain schema.now query.now dir.now
+task_text (Gen seed rows) = gen seed rows
+
+-- what a `Line` says
+abbrev pub line_text : Line → LineText
+line_text l = record { task = task_text l.task; plan = l.plan }
+
+-- whether the program has the command
+abbrev pub is_built : TaskText → Bool
+is_built (run schema query dir) = true
+is_built (explain schema query dir) = false
+is_built (gen seed rows) = false

@@ -1,0 +1,54 @@
+// What a command line asks for.
+ghost use Rattle.std.specs.Prelude.{◌≡◌};
+ghost use Rattle.command_line.specs.Line.{is_built, task_text};
+
+use rewrite_plan::Plan;
+
+/// A command with its arguments.
+#[derive(Clone, Copy, Debug)]
+pub enum Task<'a> {
+    /// Answers a query.
+    Run {
+        /// The name of the schema's file.
+        schema: &'a str,
+        /// The name of the query's file.
+        query: &'a str,
+        /// The name of the folder of tables.
+        dir: &'a str,
+    },
+    /// Shows how a query is rewritten.
+    Explain {
+        /// The name of the schema's file.
+        schema: &'a str,
+        /// The name of the query's file.
+        query: &'a str,
+        /// The name of the folder of tables.
+        dir: &'a str,
+    },
+    /// Makes a schema, its tables and a query.
+    Gen {
+        /// What they are drawn by, 0 to 2147483647.
+        seed: u64,
+        /// The number of rows, 0 to 100000.
+        rows: u64,
+    },
+}
+
+/// A command line.
+#[derive(Debug, Drop)]
+pub struct Line<'a> {
+    /// What is to be done.
+    pub task: Task<'a>,
+    /// How queries are to be rewritten.
+    pub plan: Plan,
+}
+
+// Whether the program has the command.
+pub(crate) fn is_built(task: &Task) -> bool
+    ensures { result ≡ is_built (task_text task.now) }
+{
+    match task {
+        Task::Run { .. } => true,
+        Task::Explain { .. } | Task::Gen { .. } => false,
+    }
+}

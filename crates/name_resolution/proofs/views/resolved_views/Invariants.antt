@@ -1,0 +1,9 @@
+use Rattle.std.proofs.Common.{◌≡◌, ◌++◌, drop, map}
+use Rattle.sql_ast.specs.Shown as written
+use Rattle.sql_meaning.specs.ResolvedShown as shown
+use Rattle.name_resolution.specs.Known.{view_over}
+use Rattle.name_resolution.specs.Shapes.{columns_of}
+use Rattle.name_resolution.proofs.views.resolved_views.Given as goal
+
+abbrev pub invariant-loop-view : goal.invariant-loop-view
+invariant-loop-view l = shown.views l.out ++ map (view_over (columns_of l.setting)) (map written.view (drop l.view-index l.views)) ≡ map (view_over (columns_of l.setting)) (map written.view l.views)

@@ -1,0 +1,463 @@
+// Queries with their names resolved: each part in the ranges of the blocks that enclose it.
+ghost use Rattle.std.specs.Prelude.{◌≡◌, ◌∷◌, [], true, false, IfOk, OnOk};
+ghost use Rattle.sql_meaning.specs.ResolvedShown as shown;
+ghost use Rattle.sql_meaning.specs.ResolvedTrees as tree;
+ghost use Rattle.sql_ast.specs.Shown as written;
+ghost use Rattle.name_resolution.specs.Forms.{is_conjunction, is_disjunction, is_product, is_sum};
+ghost use Rattle.name_resolution.specs.Onto.{values_onto};
+ghost use Rattle.name_resolution.specs.Resolved as spec;
+ghost use Rattle.name_resolution.specs.Shapes.{block_of, columns_of, shapes};
+
+use crate::build as made;
+use crate::chain::{both, either, product, signed, sum, type_of};
+use crate::grouping::grouping_places;
+use crate::joins::{
+    alone, column_count, joined_ranges, push_innermost, push_range_columns, right_width,
+};
+use crate::names::ranges;
+use crate::place::{place_of, width};
+use crate::scope::{Setting, Shapes};
+use shared_types::OutOfMemory;
+use sql_ast as ast;
+use sql_meaning::{Arm, Choice, From, Query, Test, Value, is_grouped};
+use sqlite_items::Items;
+
+// An expression with its names resolved. Chains of operators stand apart from all else, so that each
+// of thousands of operators takes little of the stack.
+#[cycle(resolve)]
+pub(crate) fn value(
+    setting: &Setting<'_>,
+    x: &ast::Expr,
+    s: &Shapes<'_>,
+) -> Result<Value, OutOfMemory>
+    ensures { IfOk result (λ v. shown.value v ≡ spec.value (columns_of setting.now) (shapes s.now) (written.expr x.now)) }
+{
+    match x {
+        ast::Expr::Add(_, _, _) => sum_of(setting, x, s),
+        ast::Expr::Multiply(_, _, _) => product_of(setting, x, s),
+        ast::Expr::Signed(_, _)
+        | ast::Expr::Number(_)
+        | ast::Expr::Str(_)
+        | ast::Expr::Column(_)
+        | ast::Expr::Paren(_)
+        | ast::Expr::Scalar(_)
+        | ast::Expr::CountAll
+        | ast::Expr::Aggregate(_, _, _)
+        | ast::Expr::Searched(_, _)
+        | ast::Expr::Simple(_, _, _)
+        | ast::Expr::Coalesce(_, _)
+        | ast::Expr::NullIf(_, _)
+        | ast::Expr::CastNull(_) => operand(setting, x, s),
+    }
+}
+
+// `a + b`, `a - b` or `a || b`.
+#[cycle(resolve)]
+fn sum_of(setting: &Setting<'_>, x: &ast::Expr, s: &Shapes<'_>) -> Result<Value, OutOfMemory>
+    requires form { is_sum (written.expr x.now) ≡ true }
+    ensures { IfOk result (λ v. shown.value v ≡ spec.value (columns_of setting.now) (shapes s.now) (written.expr x.now)) }
+{
+    let ast::Expr::Add(a, op, b) = x else {
+        unreachable!()
+    };
+    let a = value(setting, a, s)?;
+    let b = value(setting, b, s)?;
+    sum(setting.alloc, a, *op, b)
+}
+
+// `a * b` or `a / b`.
+#[cycle(resolve)]
+fn product_of(setting: &Setting<'_>, x: &ast::Expr, s: &Shapes<'_>) -> Result<Value, OutOfMemory>
+    requires form { is_product (written.expr x.now) ≡ true }
+    ensures { IfOk result (λ v. shown.value v ≡ spec.value (columns_of setting.now) (shapes s.now) (written.expr x.now)) }
+{
+    let ast::Expr::Multiply(a, op, b) = x else {
+        unreachable!()
+    };
+    let a = value(setting, a, s)?;
+    let b = value(setting, b, s)?;
+    product(setting.alloc, a, *op, b)
+}
+
+// An expression that is no chain of operators.
+#[cycle(resolve)]
+#[tactic(auto, using(sql_ast::specs::Shown::lists))]
+fn operand(setting: &Setting<'_>, x: &ast::Expr, s: &Shapes<'_>) -> Result<Value, OutOfMemory>
+    requires no_sum { is_sum (written.expr x.now) ≡ false }
+    requires no_product { is_product (written.expr x.now) ≡ false }
+    ensures { IfOk result (λ v. shown.value v ≡ spec.value (columns_of setting.now) (shapes s.now) (written.expr x.now)) }
+{
+    let alloc = setting.alloc;
+    match x {
+        ast::Expr::Signed(sign, a) => signed(alloc, *sign, value(setting, a, s)?),
+        ast::Expr::Number(n) => Ok(Value::Number(*n)),
+        ast::Expr::Str(x) => made::text(alloc, x),
+        ast::Expr::Column(c) => Ok(made::column(place_of(c, s)?)),
+        ast::Expr::Paren(a) => value(setting, a, s),
+        ast::Expr::Scalar(q) => made::scalar(alloc, query(setting, q, s)?),
+        ast::Expr::CountAll => Ok(Value::CountAll),
+        ast::Expr::Aggregate(function, each, a) => {
+            let ranges = alone(s);
+            let a = value(setting, a, &Shapes::Inside(ranges, &Shapes::Outermost))?;
+            made::aggregate(alloc, *function, *each, a)
+        }
+        ast::Expr::Searched(list, last) => {
+            let list = arms(setting, list.as_slice(), s)?;
+            made::searched(alloc, list, otherwise(setting, last, s)?)
+        }
+        ast::Expr::Simple(a, list, last) => {
+            let a = value(setting, a, s)?;
+            let list = choices(setting, list.as_slice(), s)?;
+            made::simple(alloc, a, list, otherwise(setting, last, s)?)
+        }
+        ast::Expr::Coalesce(a, list) => {
+            let a = value(setting, a, s)?;
+            made::coalesce(alloc, a, values(setting, list.as_slice(), s)?)
+        }
+        ast::Expr::NullIf(a, b) => {
+            let a = value(setting, a, s)?;
+            made::null_if(alloc, a, value(setting, b, s)?)
+        }
+        ast::Expr::CastNull(to) => Ok(Value::Null(Some(type_of(to)))),
+        ast::Expr::Add(_, _, _) | ast::Expr::Multiply(_, _, _) => unreachable!(),
+    }
+}
+
+// The expressions of a list.
+#[cycle(resolve)]
+#[tactic(auto, using(crate::proofs::Ontos::values_whole))]
+fn values(
+    setting: &Setting<'_>,
+    list: &[ast::Expr],
+    s: &Shapes<'_>,
+) -> Result<Items<Value>, OutOfMemory>
+    ensures { IfOk result (λ v. shown.value_list v ≡ spec.values (columns_of setting.now) (shapes s.now) (written.expr_list list.now)) }
+{
+    let mut out = Items::new(setting.alloc);
+    for x in list {
+        made::push_value(&mut out, value(setting, x, s)?)?;
+    }
+    Ok(out)
+}
+
+// A result of a CASE.
+#[cycle(resolve)]
+fn outcome(setting: &Setting<'_>, res: &ast::Res, s: &Shapes<'_>) -> Result<Value, OutOfMemory>
+    ensures { IfOk result (λ v. shown.value v ≡ spec.result (columns_of setting.now) (shapes s.now) (written.res res.now)) }
+{
+    match res {
+        ast::Res::Value(x) => value(setting, x, s),
+        ast::Res::Null => Ok(Value::Null(None)),
+    }
+}
+
+// What stands after ELSE, or null.
+#[cycle(resolve)]
+fn otherwise(
+    setting: &Setting<'_>,
+    other: &ast::Otherwise,
+    s: &Shapes<'_>,
+) -> Result<Value, OutOfMemory>
+    ensures { IfOk result (λ v. shown.value v ≡ spec.otherwise (columns_of setting.now) (shapes s.now) (written.otherwise other.now)) }
+{
+    match other {
+        ast::Otherwise::Absent => Ok(Value::Null(None)),
+        ast::Otherwise::Else(res) => outcome(setting, res, s),
+    }
+}
+
+// The conditions of a CASE with their results.
+#[cycle(resolve)]
+#[tactic(auto, using(crate::proofs::Ontos::arms_whole))]
+fn arms(setting: &Setting<'_>, list: &[ast::Arm], s: &Shapes<'_>) -> Result<Items<Arm>, OutOfMemory>
+    ensures { IfOk result (λ v. shown.arm_list v ≡ spec.arms (columns_of setting.now) (shapes s.now) (written.arm_list list.now)) }
+{
+    let mut out = Items::new(setting.alloc);
+    for arm in list {
+        let when = test(setting, &arm.when, s)?;
+        let then = outcome(setting, &arm.then, s)?;
+        made::push_arm(&mut out, when, then)?;
+    }
+    Ok(out)
+}
+
+// The values of a CASE with their results.
+#[cycle(resolve)]
+#[tactic(auto, using(crate::proofs::Ontos::choices_whole))]
+fn choices(
+    setting: &Setting<'_>,
+    list: &[ast::Choice],
+    s: &Shapes<'_>,
+) -> Result<Items<Choice>, OutOfMemory>
+    ensures { IfOk result (λ v. shown.choice_list v ≡ spec.choices (columns_of setting.now) (shapes s.now) (written.choice_list list.now)) }
+{
+    let mut out = Items::new(setting.alloc);
+    for choice in list {
+        let when = value(setting, &choice.when, s)?;
+        let then = outcome(setting, &choice.then, s)?;
+        made::push_choice(&mut out, when, then)?;
+    }
+    Ok(out)
+}
+
+// A condition with its names resolved. Chains stand apart, as above.
+#[cycle(resolve)]
+pub(crate) fn test(
+    setting: &Setting<'_>,
+    p: &ast::Cond,
+    s: &Shapes<'_>,
+) -> Result<Test, OutOfMemory>
+    ensures { IfOk result (λ t. shown.test t ≡ spec.test (columns_of setting.now) (shapes s.now) (written.cond p.now)) }
+{
+    match p {
+        ast::Cond::Or(_, _) => disjunction(setting, p, s),
+        ast::Cond::And(_, _) => conjunction(setting, p, s),
+        ast::Cond::Not(_)
+        | ast::Cond::Bracket(_)
+        | ast::Cond::Compare(_, _, _)
+        | ast::Cond::Quantified(_, _, _, _)
+        | ast::Cond::Between(_, _, _, _)
+        | ast::Cond::InQuery(_, _, _)
+        | ast::Cond::InList(_, _, _)
+        | ast::Cond::Like(_, _, _)
+        | ast::Cond::IsNull(_, _)
+        | ast::Cond::Exists(_) => conjunct(setting, p, s),
+    }
+}
+
+// `a OR b`.
+#[cycle(resolve)]
+fn disjunction(setting: &Setting<'_>, p: &ast::Cond, s: &Shapes<'_>) -> Result<Test, OutOfMemory>
+    requires form { is_disjunction (written.cond p.now) ≡ true }
+    ensures { IfOk result (λ t. shown.test t ≡ spec.test (columns_of setting.now) (shapes s.now) (written.cond p.now)) }
+{
+    let ast::Cond::Or(a, b) = p else {
+        unreachable!()
+    };
+    let a = test(setting, a, s)?;
+    let b = test(setting, b, s)?;
+    either(setting.alloc, a, b)
+}
+
+// `a AND b`.
+#[cycle(resolve)]
+fn conjunction(setting: &Setting<'_>, p: &ast::Cond, s: &Shapes<'_>) -> Result<Test, OutOfMemory>
+    requires form { is_conjunction (written.cond p.now) ≡ true }
+    ensures { IfOk result (λ t. shown.test t ≡ spec.test (columns_of setting.now) (shapes s.now) (written.cond p.now)) }
+{
+    let ast::Cond::And(a, b) = p else {
+        unreachable!()
+    };
+    let a = test(setting, a, s)?;
+    let b = test(setting, b, s)?;
+    both(setting.alloc, a, b)
+}
+
+// A condition that is no chain of OR or AND.
+#[cycle(resolve)]
+#[tactic(auto, using(sql_ast::specs::Shown::lists))]
+fn conjunct(setting: &Setting<'_>, p: &ast::Cond, s: &Shapes<'_>) -> Result<Test, OutOfMemory>
+    requires no_disjunction { is_disjunction (written.cond p.now) ≡ false }
+    requires no_conjunction { is_conjunction (written.cond p.now) ≡ false }
+    ensures { IfOk result (λ t. shown.test t ≡ spec.test (columns_of setting.now) (shapes s.now) (written.cond p.now)) }
+{
+    let alloc = setting.alloc;
+    match p {
+        ast::Cond::Not(a) => made::negated(alloc, test(setting, a, s)?),
+        ast::Cond::Bracket(a) => test(setting, a, s),
+        ast::Cond::Compare(a, op, b) => {
+            let a = value(setting, a, s)?;
+            made::compare(alloc, a, *op, value(setting, b, s)?)
+        }
+        ast::Cond::Quantified(a, op, each, q) => {
+            let a = value(setting, a, s)?;
+            made::quantified(alloc, a, *op, *each, query(setting, q, s)?)
+        }
+        ast::Cond::Between(a, negative, b, c) => {
+            let a = value(setting, a, s)?;
+            let b = value(setting, b, s)?;
+            made::between(alloc, a, *negative, b, value(setting, c, s)?)
+        }
+        ast::Cond::InQuery(a, negative, q) => {
+            let a = value(setting, a, s)?;
+            made::among_rows(alloc, a, *negative, query(setting, q, s)?)
+        }
+        ast::Cond::InList(a, negative, list) => {
+            let a = value(setting, a, s)?;
+            made::among(alloc, a, *negative, values(setting, list.as_slice(), s)?)
+        }
+        ast::Cond::Like(a, negative, b) => {
+            let a = value(setting, a, s)?;
+            made::like(alloc, a, *negative, value(setting, b, s)?)
+        }
+        ast::Cond::IsNull(a, negative) => made::is_null(alloc, value(setting, a, s)?, *negative),
+        ast::Cond::Exists(q) => made::exists(alloc, query(setting, q, s)?),
+        ast::Cond::Or(_, _) | ast::Cond::And(_, _) => unreachable!(),
+    }
+}
+
+// A WHERE or a HAVING.
+#[cycle(resolve)]
+fn filter(setting: &Setting<'_>, filter: &ast::Filter, s: &Shapes<'_>) -> Result<Test, OutOfMemory>
+    ensures { IfOk result (λ t. shown.test t ≡ spec.filter (columns_of setting.now) (shapes s.now) (written.filter filter.now)) }
+{
+    match filter {
+        ast::Filter::Absent => Ok(made::no_test(setting.alloc)),
+        ast::Filter::Given(p) => test(setting, p, s),
+    }
+}
+
+// Adds the columns of an item of a list at the end.
+#[cycle(resolve)]
+fn push_item(
+    setting: &Setting<'_>,
+    item: &ast::Item,
+    s: &Shapes<'_>,
+    out: &mut Items<Value>,
+) -> Result<(), OutOfMemory>
+    ensures { OnOk result ((rest : tree.Values) → values_onto out.new rest ≡ values_onto out.old (spec.append (spec.item (columns_of setting.now) (shapes s.now) (written.item item.now)) rest)) }
+{
+    match item {
+        ast::Item::Value(x, _) => made::push_value(out, value(setting, x, s)?),
+        ast::Item::AllOf(name) => push_range_columns(name, s, out),
+    }
+}
+
+// The same of items.
+#[cycle(resolve)]
+#[tactic(auto, using(crate::proofs::Ontos::append_append))]
+fn push_items(
+    setting: &Setting<'_>,
+    items: &[ast::Item],
+    s: &Shapes<'_>,
+    out: &mut Items<Value>,
+) -> Result<(), OutOfMemory>
+    ensures { OnOk result ((rest : tree.Values) → values_onto out.new rest ≡ values_onto out.old (spec.append (spec.items (columns_of setting.now) (shapes s.now) (written.item_list items.now)) rest)) }
+{
+    for item in items {
+        push_item(setting, item, s, out)?;
+    }
+    Ok(())
+}
+
+// The columns of a list.
+#[cycle(resolve)]
+#[tactic(auto, using(sql_ast::specs::Shown::lists, crate::proofs::Ontos::values_whole, crate::proofs::Ontos::append_none))]
+fn select_list(
+    setting: &Setting<'_>,
+    list: &ast::SelectList,
+    s: &Shapes<'_>,
+) -> Result<Items<Value>, OutOfMemory>
+    ensures { IfOk result (λ v. shown.value_list v ≡ spec.list (columns_of setting.now) (shapes s.now) (written.select_list list.now)) }
+{
+    let mut out = Items::new(setting.alloc);
+    match list {
+        ast::SelectList::All => push_innermost(s, &mut out)?,
+        ast::SelectList::Items(items) => push_items(setting, items.as_slice(), s, &mut out)?,
+    }
+    Ok(out)
+}
+
+// The tables of a FROM.
+#[cycle(resolve)]
+#[tactic(auto, using(crate::proofs::Ontos::froms_whole))]
+fn froms(
+    setting: &Setting<'_>,
+    list: &[ast::TableRef],
+    s: &Shapes<'_>,
+) -> Result<Items<From>, OutOfMemory>
+    ensures { IfOk result (λ v. shown.from_list v ≡ spec.froms (columns_of setting.now) (shapes s.now) (written.table_list list.now)) }
+{
+    let mut out = Items::new(setting.alloc);
+    for x in list {
+        made::push_from(&mut out, table(setting, x, s)?)?;
+    }
+    Ok(out)
+}
+
+// A table of a FROM.
+#[cycle(resolve)]
+fn table(setting: &Setting<'_>, x: &ast::TableRef, s: &Shapes<'_>) -> Result<From, OutOfMemory>
+    ensures { IfOk result (λ v. shown.from v ≡ spec.table (columns_of setting.now) (shapes s.now) (written.table x.now)) }
+{
+    let alloc = setting.alloc;
+    match x {
+        ast::TableRef::Join(a, _, b, p) => {
+            let ranges = joined_ranges(setting, a, b, s)?;
+            let p = test(setting, p, &Shapes::Inside(ranges.as_slice(), &*s))?;
+            let a = table(setting, a, s)?;
+            made::joined(alloc, a, table(setting, b, s)?, p)
+        }
+        ast::TableRef::LeftJoin(a, _, b, p) => {
+            let ranges = joined_ranges(setting, a, b, s)?;
+            let p = test(setting, p, &Shapes::Inside(ranges.as_slice(), &*s))?;
+            let width = right_width(setting, b, s)?;
+            let a = table(setting, a, s)?;
+            made::left_joined(alloc, a, table(setting, b, s)?, width, p)
+        }
+        ast::TableRef::CrossJoin(a, b) => {
+            let a = table(setting, a, s)?;
+            made::crossed(alloc, a, table(setting, b, s)?)
+        }
+        ast::TableRef::Named(name, _) => made::named(alloc, name),
+        ast::TableRef::Derived(q, _) => made::derived(alloc, query(setting, q, s)?),
+        ast::TableRef::Joined(a) => table(setting, a, s),
+    }
+}
+
+/// A query with its names resolved.
+#[cycle(resolve)]
+#[tactic(auto, using(sql_ast::specs::Shown::lists))]
+pub(crate) fn query(
+    setting: &Setting<'_>,
+    q: &ast::Query,
+    s: &Shapes<'_>,
+) -> Result<Query, OutOfMemory>
+    ensures { IfOk result (λ v. shown.query v ≡ spec.query (columns_of setting.now) (shapes s.now) (written.query q.now)) }
+{
+    let alloc = setting.alloc;
+    match q {
+        ast::Query::Combine(x, op, all, y) => {
+            let width = column_count(setting, x, s)?;
+            let x = query(setting, x, s)?;
+            made::combine(alloc, x, *op, *all, width, query(setting, y, s)?)
+        }
+        ast::Query::Intersect(x, all, y) => {
+            let width = column_count(setting, x, s)?;
+            let x = query(setting, x, s)?;
+            made::intersect(alloc, x, *all, width, query(setting, y, s)?)
+        }
+        ast::Query::Enclosed(x) => query(setting, x, s),
+        ast::Query::Block(b) => block(setting, b, s),
+    }
+}
+
+// A block: its FROM, then its list, WHERE, GROUP BY and HAVING in the ranges of that FROM.
+#[cycle(resolve)]
+fn block(setting: &Setting<'_>, b: &ast::Block, s: &Shapes<'_>) -> Result<Query, OutOfMemory>
+    ensures { IfOk result (λ v. shown.query v ≡ spec.query (columns_of setting.now) (shapes s.now) (block_of b.now)) }
+{
+    let alloc = setting.alloc;
+    let ranges = ranges(setting, b.from.as_slice(), s)?;
+    let inner = Shapes::Inside(ranges.as_slice(), &*s);
+    let from = froms(setting, b.from.as_slice(), s)?;
+    let list = select_list(setting, &b.list, &inner)?;
+    let by = filter(setting, &b.filter, &inner)?;
+    let distinct = made::distinct(b.quantifier);
+    if is_grouped(&b.list, b.grouping.as_slice(), &b.having) {
+        let having = filter(setting, &b.having, &inner)?;
+        let places = grouping_places(alloc, b.grouping.as_slice(), ranges.as_slice())?;
+        made::grouped(
+            alloc,
+            distinct,
+            list,
+            from,
+            by,
+            places,
+            width(ranges.as_slice())?,
+            having,
+        )
+    } else {
+        made::block(alloc, distinct, list, from, by)
+    }
+}

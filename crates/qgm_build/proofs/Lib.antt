@@ -1,4 +1,0 @@
-pub mod Truths
-pub mod Chains
-pub mod Means
-pub mod Roots

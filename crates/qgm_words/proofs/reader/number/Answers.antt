@@ -1,6 +1,0 @@
-use Rattle.std.proofs.Common.{◌∙◌}
-use Rattle.qgm_words.proofs.ReaderLemmas.{number_read}
-use Rattle.qgm_words.proofs.reader.number.Goals as goal
-
-pub returns : goal.returns
-returns c = c.unwrap_or.ensures ∙ number_read c.args.text.now c.parse.result c.parse.ensures.value.0

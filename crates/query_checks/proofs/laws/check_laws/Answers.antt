@@ -1,0 +1,26 @@
+use Rattle.query_checks.proofs.Catalogs.{same_columns, typed_tables, valid_text, valid_views}
+use Rattle.query_checks.proofs.Evens.{even_query}
+use Rattle.query_checks.proofs.Named.{names_same}
+use Rattle.query_checks.proofs.KnownTypes.{valid_typed}
+use Rattle.query_checks.proofs.laws.check_laws.Goals as goal
+
+pub returns-clause-names : goal.returns-clause-names
+returns-clause-names c = names_same
+
+pub returns-clause-tables : goal.returns-clause-tables
+returns-clause-tables c = same_columns
+
+pub returns-clause-even : goal.returns-clause-even
+returns-clause-even c = even_query
+
+pub returns-clause-types : goal.returns-clause-types
+returns-clause-types c = valid_typed
+
+pub returns-clause-views : goal.returns-clause-views
+returns-clause-views c = valid_views
+
+pub returns-clause-typed_tables : goal.returns-clause-typed_tables
+returns-clause-typed_tables c = typed_tables
+
+pub returns-clause-text : goal.returns-clause-text
+returns-clause-text c = valid_text

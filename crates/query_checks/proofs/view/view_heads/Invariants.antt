@@ -1,0 +1,7 @@
+use Rattle.std.proofs.Common.{◌≡◌}
+use Rattle.sql_catalog.specs.Shown as declared
+use Rattle.query_checks.specs.Views.{views_at}
+use Rattle.query_checks.proofs.view.view_heads.Given as goal
+
+abbrev pub invariant-loop-depth : goal.invariant-loop-depth
+invariant-loop-depth l = l.views ≡ views_at (declared.catalog l.catalog) l._depth

@@ -1,0 +1,98 @@
+// The checks of queries and of views over a catalog.
+ghost use Rattle.std.specs.Prelude.{◌≡◌, ℕ, List, [], None, Some, IfOk, IfErr, IsErrOf};
+ghost use Rattle.sql_ast.specs.Shown as written;
+ghost use Rattle.sql_catalog.specs.Shown as declared;
+ghost use Rattle.query_checks.specs.Columns.{columns};
+ghost use Rattle.query_checks.specs.Faults.{text_fault};
+ghost use Rattle.query_checks.specs.Numbers.{number};
+ghost use Rattle.query_checks.specs.Shown.{heads, least_fault};
+ghost use Rattle.query_checks.specs.Views as spec;
+ghost use Rattle.query_checks.specs.declared.refusal.QueryRefusal.TheVariants as QueryRefusal;
+ghost use Rattle.query_checks.specs.declared.refusal.ViewRefusal.TheVariants as ViewRefusal;
+
+use crate::checks::query;
+use crate::column::Columns;
+use crate::depth::refused_view;
+use crate::fault::lesser;
+use crate::known::Known;
+use crate::order::keys_unfit;
+use crate::refusal::{QueryRefusal, ViewRefusal, refused};
+use crate::scope::Scopes;
+use crate::typed::Output;
+use crate::view::{ViewHead, view_heads};
+use shared_types::OutOfMemory;
+use sql_ast::QueryText;
+use sql_catalog::Catalog;
+use sqlite_items::Items;
+use std::alloc::Global;
+
+/// The views of a catalog with their columns, all of which are valid.
+#[derive(Debug, Drop)]
+pub struct ViewHeads {
+    pub list: Items<ViewHead>,
+}
+
+// The columns of a query's text, and its fault.
+fn text_output(alloc: Global, text: &QueryText, known: &Known<'_>) -> Result<Output, OutOfMemory>
+    ensures columns { IfOk result (λ x. x.columns ≡ columns (heads known.now) (written.query text.now.query) []) }
+    ensures fault { IfOk result (λ x. number x.fault ≡ text_fault (heads known.now) (written.query_text text.now)) }
+{
+    let found = query(alloc, &text.query, &Scopes::Outermost, known)?;
+    let keys = keys_unfit(found.columns.as_slice(), text.order.as_slice());
+    Ok(Output {
+        fault: lesser(found.fault, keys),
+        columns: found.columns,
+    })
+}
+
+/// The output columns of a valid query, over the views of its catalog. Else it is the refusal of the
+/// least number that holds of the query. `Memory` may come in place of any of these.
+pub fn check_query(
+    alloc: Global,
+    text: &QueryText,
+    catalog: &Catalog,
+    views: &ViewHeads,
+) -> Result<Columns, QueryRefusal>
+    requires views { views.now.list ≡ spec.view_heads (declared.catalog catalog.now) }
+    ensures valid { IfOk result (λ _. least_fault catalog.now text.now ≡ 0) }
+    ensures columns { IfOk result (λ all. all ≡ columns (spec.heads_of (declared.catalog catalog.now)) (written.query text.now.query) []) }
+    ensures unknown_table { IsErrOf result QueryRefusal.UnknownTable → least_fault catalog.now text.now ≡ 6 }
+    ensures duplicate_range { IsErrOf result QueryRefusal.DuplicateRange → least_fault catalog.now text.now ≡ 7 }
+    ensures unknown_column { IsErrOf result QueryRefusal.UnknownColumn → least_fault catalog.now text.now ≡ 8 }
+    ensures ambiguous { IsErrOf result QueryRefusal.Ambiguous → least_fault catalog.now text.now ≡ 9 }
+    ensures type_mismatch { IsErrOf result QueryRefusal.TypeMismatch → least_fault catalog.now text.now ≡ 10 }
+    ensures degree { IsErrOf result QueryRefusal.Degree → least_fault catalog.now text.now ≡ 11 }
+    ensures grouping { IsErrOf result QueryRefusal.Grouping → least_fault catalog.now text.now ≡ 12 }
+    ensures aggregate_place { IsErrOf result QueryRefusal.AggregatePlace → least_fault catalog.now text.now ≡ 13 }
+    ensures order_column { IsErrOf result QueryRefusal.OrderColumn → least_fault catalog.now text.now ≡ 14 }
+{
+    let known = Known {
+        catalog,
+        views: views.list.as_slice(),
+    };
+    let found = text_output(alloc, text, &known)?;
+    refused(found.fault)?;
+    Ok(found.columns)
+}
+
+/// The views of a catalog with their columns. Else it is the first view, by nesting depth and then in
+/// declared order, whose body isn't valid, with the least number that holds of it. `Memory` may come
+/// in place of any of these.
+pub fn check_views(alloc: Global, catalog: &Catalog) -> Result<ViewHeads, ViewRefusal>
+    ensures heads { IfOk result (λ views. views.list ≡ spec.view_heads (declared.catalog catalog.now)) }
+    ensures valid { IfOk result (λ _. spec.view_refusal (declared.catalog catalog.now) ≡ None) }
+    ensures refused { IfErr result (λ e. (name : List ℕ) → (n : ℕ) → e ≡ ViewRefusal.Refused name n → spec.view_refusal (declared.catalog catalog.now) ≡ Some (name, n)) }
+{
+    let list = view_heads(alloc, catalog)?;
+    let known = Known {
+        catalog,
+        views: list.as_slice(),
+    };
+    match refused_view(alloc, &known)? {
+        Some(found) => Err(ViewRefusal::Refused {
+            view: found.view,
+            number: found.number,
+        }),
+        None => Ok(ViewHeads { list }),
+    }
+}

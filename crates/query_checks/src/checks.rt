@@ -1,0 +1,707 @@
+// The checks of a query: one pass for types, columns and the least fault.
+ghost use Rattle.std.specs.Prelude.{◌≡◌, ◌++◌, ◌∷◌, false, true, IfOk, OnOk};
+ghost use Rattle.sql_ast.specs.Shown as written;
+ghost use Rattle.query_checks.specs.Columns as types;
+ghost use Rattle.query_checks.specs.Faults as spec;
+ghost use Rattle.query_checks.specs.Forms.{block_of, is_conjunction, is_disjunction, is_product, is_sum};
+ghost use Rattle.query_checks.specs.Numbers.{number};
+ghost use Rattle.query_checks.specs.Rules as rule;
+ghost use Rattle.query_checks.specs.Scopes.{plain};
+ghost use Rattle.query_checks.specs.Shown.{heads, scopes};
+ghost use Rattle.query_checks.specs.Sorts.{fault_of, sorts_of};
+ghost use Rattle.query_checks.specs.declared.site.Site.TheVariants as at;
+
+use crate::fault::{Fault, aggregate_misplaced, lesser};
+use crate::known::Known;
+use crate::lists::{list_scope, push_range_star, push_star, push_value};
+use crate::operands::combined;
+use crate::scope::{Scopes, column, grouping_fault};
+use crate::site::Site;
+use crate::sources::{Source, block_output, both, derived, named, no_source, push_source};
+use crate::typed::{
+    Listed, Output, Typed, aggregate, alone, among, between, case_ending, chosen, coalesce,
+    compared, compared_query, exists, like, limited, no_output, none_after, null_if, of_type,
+    operated, push, push_result, scalar, signed,
+};
+use crate::types::{length_unfit, operand_type, type_of_declared};
+use shared_types::OutOfMemory;
+use sql_ast::{
+    Arm, Block, Choice, Cond, Expr, Filter, Item, Otherwise, Query, Res, SelectList, TableRef,
+};
+use sql_value::SqlType;
+use std::alloc::Global;
+
+// An expression. Chains of operators stand apart from all else, so that each of thousands of
+// operators takes little of the stack.
+#[cycle(checks)]
+fn expr(
+    alloc: Global,
+    x: &Expr,
+    place: Site,
+    inner: &Scopes<'_>,
+    known: &Known<'_>,
+) -> Result<Typed, OutOfMemory>
+    ensures sort { IfOk result (λ t. t.sort ≡ types.type_of (heads known.now) (written.expr x.now) (scopes inner.now)) }
+    ensures fault { IfOk result (λ t. number t.fault ≡ spec.expr_fault (heads known.now) place (written.expr x.now) (scopes inner.now)) }
+{
+    match x {
+        Expr::Add(_, _, _) => sum(alloc, x, place, inner, known),
+        Expr::Multiply(_, _, _) => product(alloc, x, place, inner, known),
+        Expr::Signed(_, _)
+        | Expr::Number(_)
+        | Expr::Str(_)
+        | Expr::Column(_)
+        | Expr::Paren(_)
+        | Expr::Scalar(_)
+        | Expr::CountAll
+        | Expr::Aggregate(_, _, _)
+        | Expr::Searched(_, _)
+        | Expr::Simple(_, _, _)
+        | Expr::Coalesce(_, _)
+        | Expr::NullIf(_, _)
+        | Expr::CastNull(_) => operand(alloc, x, place, inner, known),
+    }
+}
+
+// `a + b`, `a - b` or `a || b`.
+#[cycle(checks)]
+#[tactic(auto, using(sql_ast::specs::Shown::lists))]
+fn sum(
+    alloc: Global,
+    x: &Expr,
+    place: Site,
+    inner: &Scopes<'_>,
+    known: &Known<'_>,
+) -> Result<Typed, OutOfMemory>
+    requires form { is_sum (written.expr x.now) ≡ true }
+    ensures sort { IfOk result (λ t. t.sort ≡ types.type_of (heads known.now) (written.expr x.now) (scopes inner.now)) }
+    ensures fault { IfOk result (λ t. number t.fault ≡ spec.expr_fault (heads known.now) place (written.expr x.now) (scopes inner.now)) }
+{
+    let Expr::Add(a, op, b) = x else {
+        unreachable!()
+    };
+    let a = expr(alloc, a, place, inner, known)?;
+    let b = expr(alloc, b, place, inner, known)?;
+    Ok(operated(a, operand_type(*op), b))
+}
+
+// `a * b` or `a / b`.
+#[cycle(checks)]
+#[tactic(auto, using(sql_ast::specs::Shown::lists))]
+fn product(
+    alloc: Global,
+    x: &Expr,
+    place: Site,
+    inner: &Scopes<'_>,
+    known: &Known<'_>,
+) -> Result<Typed, OutOfMemory>
+    requires form { is_product (written.expr x.now) ≡ true }
+    ensures sort { IfOk result (λ t. t.sort ≡ types.type_of (heads known.now) (written.expr x.now) (scopes inner.now)) }
+    ensures fault { IfOk result (λ t. number t.fault ≡ spec.expr_fault (heads known.now) place (written.expr x.now) (scopes inner.now)) }
+{
+    let Expr::Multiply(a, _, b) = x else {
+        unreachable!()
+    };
+    let a = expr(alloc, a, place, inner, known)?;
+    let b = expr(alloc, b, place, inner, known)?;
+    Ok(operated(a, SqlType::Integer, b))
+}
+
+// An expression that is no chain of operators.
+#[cycle(checks)]
+#[tactic(auto, using(sql_ast::specs::Shown::lists))]
+fn operand(
+    alloc: Global,
+    x: &Expr,
+    place: Site,
+    inner: &Scopes<'_>,
+    known: &Known<'_>,
+) -> Result<Typed, OutOfMemory>
+    requires no_sum { is_sum (written.expr x.now) ≡ false }
+    requires no_product { is_product (written.expr x.now) ≡ false }
+    ensures sort { IfOk result (λ t. t.sort ≡ types.type_of (heads known.now) (written.expr x.now) (scopes inner.now)) }
+    ensures fault { IfOk result (λ t. number t.fault ≡ spec.expr_fault (heads known.now) place (written.expr x.now) (scopes inner.now)) }
+{
+    match x {
+        Expr::Add(_, _, _) | Expr::Multiply(_, _, _) => unreachable!(),
+        Expr::Signed(_, a) => Ok(signed(expr(alloc, a, place, inner, known)?)),
+        Expr::Number(_) => Ok(of_type(SqlType::Integer, None)),
+        Expr::Str(_) => Ok(of_type(SqlType::Varchar, None)),
+        Expr::Column(name) => Ok(column(place, name, inner)),
+        Expr::Paren(a) => expr(alloc, a, place, inner, known),
+        Expr::Scalar(q) => {
+            let found = query(alloc, q, inner, known)?;
+            Ok(scalar(place, &found))
+        }
+        Expr::CountAll => Ok(of_type(SqlType::Integer, aggregate_misplaced(place))),
+        Expr::Aggregate(function, _, a) => {
+            let argument = expr(alloc, a, Site::Argument, &Scopes::Released(&*inner), known)?;
+            Ok(aggregate(*function, argument, place))
+        }
+        Expr::Searched(list, last) => {
+            let mut listed = none_after(alloc, None);
+            arms(alloc, list.as_slice(), place, inner, known, &mut listed)?;
+            case_of(alloc, listed, last, place, inner, known)
+        }
+        Expr::Simple(a, list, last) => {
+            let a = expr(alloc, a, place, inner, known)?;
+            let mut listed = none_after(alloc, a.fault);
+            choices(
+                alloc,
+                a.sort,
+                list.as_slice(),
+                place,
+                inner,
+                known,
+                &mut listed,
+            )?;
+            case_of(alloc, listed, last, place, inner, known)
+        }
+        Expr::Coalesce(a, list) => {
+            let a = expr(alloc, a, place, inner, known)?;
+            coalesced(alloc, a, list.as_slice(), place, inner, known)
+        }
+        Expr::NullIf(a, b) => {
+            let a = expr(alloc, a, place, inner, known)?;
+            let b = expr(alloc, b, place, inner, known)?;
+            Ok(null_if(a, b))
+        }
+        Expr::CastNull(to) => Ok(of_type(type_of_declared(to), length_unfit(to))),
+    }
+}
+
+// The expressions of a list, added at the end.
+#[cycle(checks)]
+#[tactic(auto, using(crate::proofs::Orders::fault_steps))]
+fn exprs(
+    alloc: Global,
+    list: &[Expr],
+    place: Site,
+    inner: &Scopes<'_>,
+    known: &Known<'_>,
+    listed: &mut Listed,
+) -> Result<(), OutOfMemory>
+    ensures sorts { OnOk result (listed.new.sorts ≡ listed.old.sorts ++ types.types_of (heads known.now) (written.expr_list list.now) (scopes inner.now)) }
+    ensures fault { OnOk result (number listed.new.fault ≡ rule.lesser (number listed.old.fault) (spec.exprs_fault (heads known.now) place (written.expr_list list.now) (scopes inner.now))) }
+{
+    for x in list {
+        let x = expr(alloc, x, place, inner, known)?;
+        push(listed, x)?;
+    }
+    Ok(())
+}
+
+// A result of a CASE; none where it is NULL.
+#[cycle(checks)]
+fn outcome(
+    alloc: Global,
+    res: &Res,
+    place: Site,
+    inner: &Scopes<'_>,
+    known: &Known<'_>,
+) -> Result<Option<Typed>, OutOfMemory>
+    ensures sorts { IfOk result (λ r. sorts_of r ≡ types.res_types (heads known.now) (written.res res.now) (scopes inner.now)) }
+    ensures fault { IfOk result (λ r. fault_of r ≡ spec.res_fault (heads known.now) place (written.res res.now) (scopes inner.now)) }
+{
+    match res {
+        Res::Value(x) => Ok(Some(expr(alloc, x, place, inner, known)?)),
+        Res::Null => Ok(None),
+    }
+}
+
+// What stands after ELSE; none where that is NULL or there is no ELSE.
+#[cycle(checks)]
+fn otherwise(
+    alloc: Global,
+    other: &Otherwise,
+    place: Site,
+    inner: &Scopes<'_>,
+    known: &Known<'_>,
+) -> Result<Option<Typed>, OutOfMemory>
+    ensures sorts { IfOk result (λ r. sorts_of r ≡ types.else_types (heads known.now) (written.otherwise other.now) (scopes inner.now)) }
+    ensures fault { IfOk result (λ r. fault_of r ≡ spec.else_fault (heads known.now) place (written.otherwise other.now) (scopes inner.now)) }
+{
+    match other {
+        Otherwise::Absent => Ok(None),
+        Otherwise::Else(res) => outcome(alloc, res, place, inner, known),
+    }
+}
+
+// Adds a condition of a CASE with its result.
+#[cycle(checks)]
+fn add_arm(
+    alloc: Global,
+    arm: &Arm,
+    place: Site,
+    inner: &Scopes<'_>,
+    known: &Known<'_>,
+    listed: &mut Listed,
+) -> Result<(), OutOfMemory>
+    ensures sorts { OnOk result (listed.new.sorts ≡ listed.old.sorts ++ types.res_types (heads known.now) (written.res arm.now.then) (scopes inner.now)) }
+    ensures fault { OnOk result (number listed.new.fault ≡ rule.lesser (number listed.old.fault) (rule.lesser (spec.cond_fault (heads known.now) place (written.cond arm.now.when) (scopes inner.now)) (spec.res_fault (heads known.now) place (written.res arm.now.then) (scopes inner.now)))) }
+{
+    let when = cond(alloc, &arm.when, place, inner, known)?;
+    let then = outcome(alloc, &arm.then, place, inner, known)?;
+    push_result(listed, when, then)
+}
+
+// The conditions of a CASE with their results.
+#[cycle(checks)]
+#[tactic(auto, using(crate::proofs::Orders::fault_steps))]
+fn arms(
+    alloc: Global,
+    list: &[Arm],
+    place: Site,
+    inner: &Scopes<'_>,
+    known: &Known<'_>,
+    listed: &mut Listed,
+) -> Result<(), OutOfMemory>
+    ensures sorts { OnOk result (listed.new.sorts ≡ listed.old.sorts ++ types.arm_types (heads known.now) (written.arm_list list.now) (scopes inner.now)) }
+    ensures fault { OnOk result (number listed.new.fault ≡ rule.lesser (number listed.old.fault) (spec.arms_fault (heads known.now) place (written.arm_list list.now) (scopes inner.now))) }
+{
+    for arm in list {
+        add_arm(alloc, arm, place, inner, known, listed)?;
+    }
+    Ok(())
+}
+
+// Adds a value of a CASE with its result. The operand that it is compared with has this type.
+#[cycle(checks)]
+fn add_choice(
+    alloc: Global,
+    operand: Option<SqlType>,
+    choice: &Choice,
+    place: Site,
+    inner: &Scopes<'_>,
+    known: &Known<'_>,
+    listed: &mut Listed,
+) -> Result<(), OutOfMemory>
+    ensures sorts { OnOk result (listed.new.sorts ≡ listed.old.sorts ++ types.res_types (heads known.now) (written.res choice.now.then) (scopes inner.now)) }
+    ensures fault { OnOk result (number listed.new.fault ≡ rule.lesser (number listed.old.fault) (rule.lesser (rule.lesser (spec.expr_fault (heads known.now) place (written.expr choice.now.when) (scopes inner.now)) (rule.pair_differs operand (types.type_of (heads known.now) (written.expr choice.now.when) (scopes inner.now)))) (spec.res_fault (heads known.now) place (written.res choice.now.then) (scopes inner.now)))) }
+{
+    let when = expr(alloc, &choice.when, place, inner, known)?;
+    let then = outcome(alloc, &choice.then, place, inner, known)?;
+    push_result(listed, chosen(operand, when), then)
+}
+
+// The values of a CASE with their results. The operand that they are compared with has this type.
+#[cycle(checks)]
+#[tactic(auto, using(crate::proofs::Orders::fault_steps))]
+fn choices(
+    alloc: Global,
+    operand: Option<SqlType>,
+    list: &[Choice],
+    place: Site,
+    inner: &Scopes<'_>,
+    known: &Known<'_>,
+    listed: &mut Listed,
+) -> Result<(), OutOfMemory>
+    ensures sorts { OnOk result (listed.new.sorts ≡ listed.old.sorts ++ types.choice_types (heads known.now) (written.choice_list list.now) (scopes inner.now)) }
+    ensures fault { OnOk result (number listed.new.fault ≡ rule.lesser (number listed.old.fault) (spec.choices_fault (heads known.now) place operand (written.choice_list list.now) (scopes inner.now))) }
+{
+    for choice in list {
+        add_choice(alloc, operand, choice, place, inner, known, listed)?;
+    }
+    Ok(())
+}
+
+// A CASE of these results, which ends with its ELSE.
+#[cycle(checks)]
+fn case_of(
+    alloc: Global,
+    listed: Listed,
+    last: &Otherwise,
+    place: Site,
+    inner: &Scopes<'_>,
+    known: &Known<'_>,
+) -> Result<Typed, OutOfMemory>
+    ensures sort { IfOk result (λ t. t.sort ≡ types.first_known (listed.sorts ++ types.else_types (heads known.now) (written.otherwise last.now) (scopes inner.now))) }
+    ensures fault { IfOk result (λ t. number t.fault ≡ rule.lesser (rule.lesser (number listed.fault) (spec.else_fault (heads known.now) place (written.otherwise last.now) (scopes inner.now))) (rule.results_differ (listed.sorts ++ types.else_types (heads known.now) (written.otherwise last.now) (scopes inner.now)))) }
+{
+    let last = otherwise(alloc, last, place, inner, known)?;
+    case_ending(listed, last)
+}
+
+// `COALESCE(x, ..)`
+#[cycle(checks)]
+fn coalesced(
+    alloc: Global,
+    x: Typed,
+    list: &[Expr],
+    place: Site,
+    inner: &Scopes<'_>,
+    known: &Known<'_>,
+) -> Result<Typed, OutOfMemory>
+    ensures sort { IfOk result (λ t. t.sort ≡ types.first_known (x.sort ∷ types.types_of (heads known.now) (written.expr_list list.now) (scopes inner.now))) }
+    ensures fault { IfOk result (λ t. number t.fault ≡ rule.lesser (rule.lesser (number x.fault) (spec.exprs_fault (heads known.now) place (written.expr_list list.now) (scopes inner.now))) (rule.parts_differ (x.sort ∷ types.types_of (heads known.now) (written.expr_list list.now) (scopes inner.now)))) }
+{
+    let mut listed = alone(alloc, x)?;
+    exprs(alloc, list, place, inner, known, &mut listed)?;
+    Ok(coalesce(&listed))
+}
+
+// `x IN (..)`
+#[cycle(checks)]
+fn in_list(
+    alloc: Global,
+    x: Typed,
+    list: &[Expr],
+    place: Site,
+    inner: &Scopes<'_>,
+    known: &Known<'_>,
+) -> Result<Option<Fault>, OutOfMemory>
+    ensures { IfOk result (λ f. number f ≡ rule.lesser (rule.lesser (number x.fault) (spec.exprs_fault (heads known.now) place (written.expr_list list.now) (scopes inner.now))) (rule.list_differs x.sort (types.types_of (heads known.now) (written.expr_list list.now) (scopes inner.now)))) }
+{
+    let mut listed = none_after(alloc, x.fault);
+    exprs(alloc, list, place, inner, known, &mut listed)?;
+    Ok(among(x.sort, &listed))
+}
+
+// A condition. Chains stand apart, as above.
+#[cycle(checks)]
+fn cond(
+    alloc: Global,
+    p: &Cond,
+    place: Site,
+    inner: &Scopes<'_>,
+    known: &Known<'_>,
+) -> Result<Option<Fault>, OutOfMemory>
+    ensures { IfOk result (λ f. number f ≡ spec.cond_fault (heads known.now) place (written.cond p.now) (scopes inner.now)) }
+{
+    match p {
+        Cond::Or(_, _) => disjunction(alloc, p, place, inner, known),
+        Cond::And(_, _) => conjunction(alloc, p, place, inner, known),
+        Cond::Not(_)
+        | Cond::Bracket(_)
+        | Cond::Compare(_, _, _)
+        | Cond::Between(_, _, _, _)
+        | Cond::InList(_, _, _)
+        | Cond::Like(_, _, _)
+        | Cond::IsNull(_, _)
+        | Cond::Quantified(_, _, _, _)
+        | Cond::InQuery(_, _, _)
+        | Cond::Exists(_) => predicate(alloc, p, place, inner, known),
+    }
+}
+
+// `a OR b`
+#[cycle(checks)]
+fn disjunction(
+    alloc: Global,
+    p: &Cond,
+    place: Site,
+    inner: &Scopes<'_>,
+    known: &Known<'_>,
+) -> Result<Option<Fault>, OutOfMemory>
+    requires form { is_disjunction (written.cond p.now) ≡ true }
+    ensures { IfOk result (λ f. number f ≡ spec.cond_fault (heads known.now) place (written.cond p.now) (scopes inner.now)) }
+{
+    let Cond::Or(a, b) = p else { unreachable!() };
+    let a = cond(alloc, a, place, inner, known)?;
+    let b = cond(alloc, b, place, inner, known)?;
+    Ok(lesser(a, b))
+}
+
+// `a AND b`
+#[cycle(checks)]
+fn conjunction(
+    alloc: Global,
+    p: &Cond,
+    place: Site,
+    inner: &Scopes<'_>,
+    known: &Known<'_>,
+) -> Result<Option<Fault>, OutOfMemory>
+    requires form { is_conjunction (written.cond p.now) ≡ true }
+    ensures { IfOk result (λ f. number f ≡ spec.cond_fault (heads known.now) place (written.cond p.now) (scopes inner.now)) }
+{
+    let Cond::And(a, b) = p else { unreachable!() };
+    let a = cond(alloc, a, place, inner, known)?;
+    let b = cond(alloc, b, place, inner, known)?;
+    Ok(lesser(a, b))
+}
+
+// A condition that is no chain of OR or AND.
+#[cycle(checks)]
+#[tactic(auto, using(sql_ast::specs::Shown::lists))]
+fn predicate(
+    alloc: Global,
+    p: &Cond,
+    place: Site,
+    inner: &Scopes<'_>,
+    known: &Known<'_>,
+) -> Result<Option<Fault>, OutOfMemory>
+    requires no_disjunction { is_disjunction (written.cond p.now) ≡ false }
+    requires no_conjunction { is_conjunction (written.cond p.now) ≡ false }
+    ensures { IfOk result (λ f. number f ≡ spec.cond_fault (heads known.now) place (written.cond p.now) (scopes inner.now)) }
+{
+    match p {
+        Cond::Or(_, _) | Cond::And(_, _) => unreachable!(),
+        Cond::Not(a) => cond(alloc, a, place, inner, known),
+        Cond::Bracket(a) => cond(alloc, a, place, inner, known),
+        Cond::Compare(a, _, b) => {
+            let a = expr(alloc, a, place, inner, known)?;
+            let b = expr(alloc, b, place, inner, known)?;
+            Ok(compared(a, b))
+        }
+        Cond::Quantified(a, _, _, q) => {
+            let a = expr(alloc, a, place, inner, known)?;
+            let q = query(alloc, q, inner, known)?;
+            Ok(compared_query(place, a, &q))
+        }
+        Cond::Between(a, _, b, c) => {
+            let a = expr(alloc, a, place, inner, known)?;
+            let b = expr(alloc, b, place, inner, known)?;
+            let c = expr(alloc, c, place, inner, known)?;
+            Ok(between(a, b, c))
+        }
+        Cond::InQuery(a, _, q) => {
+            let a = expr(alloc, a, place, inner, known)?;
+            let q = query(alloc, q, inner, known)?;
+            Ok(compared_query(place, a, &q))
+        }
+        Cond::InList(a, _, list) => {
+            let a = expr(alloc, a, place, inner, known)?;
+            in_list(alloc, a, list.as_slice(), place, inner, known)
+        }
+        Cond::Like(a, _, b) => {
+            let a = expr(alloc, a, place, inner, known)?;
+            let b = expr(alloc, b, place, inner, known)?;
+            Ok(like(a, b))
+        }
+        Cond::IsNull(a, _) => Ok(expr(alloc, a, place, inner, known)?.fault),
+        Cond::Exists(q) => {
+            let q = query(alloc, q, inner, known)?;
+            Ok(exists(place, &q))
+        }
+    }
+}
+
+// WHERE or HAVING.
+#[cycle(checks)]
+fn filter(
+    alloc: Global,
+    by: &Filter,
+    place: Site,
+    inner: &Scopes<'_>,
+    known: &Known<'_>,
+) -> Result<Option<Fault>, OutOfMemory>
+    ensures { IfOk result (λ f. number f ≡ spec.filter_fault (heads known.now) place (written.filter by.now) (scopes inner.now)) }
+{
+    match by {
+        Filter::Absent => Ok(None),
+        Filter::Given(p) => cond(alloc, p, place, inner, known),
+    }
+}
+
+// Adds the columns of an item of a list at the end.
+#[cycle(checks)]
+fn item(
+    alloc: Global,
+    x: &Item,
+    inner: &Scopes<'_>,
+    known: &Known<'_>,
+    out: &mut Output,
+) -> Result<(), OutOfMemory>
+    ensures columns { OnOk result (out.new.columns ≡ out.old.columns ++ types.item_columns (heads known.now) (written.item x.now) (scopes inner.now)) }
+    ensures fault { OnOk result (number out.new.fault ≡ rule.lesser (number out.old.fault) (spec.item_fault (heads known.now) (written.item x.now) (scopes inner.now))) }
+{
+    match x {
+        Item::Value(x, alias) => {
+            let found = expr(alloc, x, Site::Listed, inner, known)?;
+            push_value(alloc, out, x, alias, found)
+        }
+        Item::AllOf(name) => push_range_star(alloc, out, name, inner),
+    }
+}
+
+// Adds the columns of the items of a list at the end.
+#[cycle(checks)]
+#[tactic(auto, using(crate::proofs::Orders::fault_steps))]
+fn items(
+    alloc: Global,
+    list: &[Item],
+    inner: &Scopes<'_>,
+    known: &Known<'_>,
+    out: &mut Output,
+) -> Result<(), OutOfMemory>
+    ensures columns { OnOk result (out.new.columns ≡ out.old.columns ++ types.items_columns (heads known.now) (written.item_list list.now) (scopes inner.now)) }
+    ensures fault { OnOk result (number out.new.fault ≡ rule.lesser (number out.old.fault) (spec.items_fault (heads known.now) (written.item_list list.now) (scopes inner.now))) }
+{
+    for x in list {
+        item(alloc, x, inner, known, out)?;
+    }
+    Ok(())
+}
+
+// Adds the columns of a list at the end.
+#[cycle(checks)]
+#[tactic(auto, using(sql_ast::specs::Shown::lists))]
+fn select(
+    alloc: Global,
+    list: &SelectList,
+    inner: &Scopes<'_>,
+    known: &Known<'_>,
+    out: &mut Output,
+) -> Result<(), OutOfMemory>
+    ensures columns { OnOk result (out.new.columns ≡ out.old.columns ++ types.list_columns (heads known.now) (written.select_list list.now) (scopes inner.now)) }
+    ensures fault { OnOk result (number out.new.fault ≡ rule.lesser (number out.old.fault) (spec.select_fault (heads known.now) (written.select_list list.now) (scopes inner.now))) }
+{
+    match list {
+        SelectList::All => push_star(alloc, out, inner),
+        SelectList::Items(list) => items(alloc, list.as_slice(), inner, known, out),
+    }
+}
+
+// A table of a FROM.
+#[cycle(checks)]
+fn source(
+    alloc: Global,
+    x: &TableRef,
+    inner: &Scopes<'_>,
+    known: &Known<'_>,
+) -> Result<Source, OutOfMemory>
+    ensures ranges { IfOk result (λ s. s.ranges ≡ types.table_ranges (heads known.now) (written.table x.now) (scopes inner.now)) }
+    ensures fault { IfOk result (λ s. number s.fault ≡ spec.table_fault (heads known.now) (written.table x.now) (scopes inner.now)) }
+{
+    match x {
+        TableRef::Join(a, _, b, p) => {
+            let a = source(alloc, a, inner, known)?;
+            let b = source(alloc, b, inner, known)?;
+            joined(alloc, both(a, b)?, p, inner, known)
+        }
+        TableRef::LeftJoin(a, _, b, p) => {
+            let a = source(alloc, a, inner, known)?;
+            let b = source(alloc, b, inner, known)?;
+            joined(alloc, both(a, b)?, p, inner, known)
+        }
+        TableRef::CrossJoin(a, b) => {
+            let a = source(alloc, a, inner, known)?;
+            let b = source(alloc, b, inner, known)?;
+            both(a, b)
+        }
+        TableRef::Named(name, alias) => named(alloc, name, alias, known),
+        TableRef::Derived(q, alias) => {
+            let q = query(alloc, q, inner, known)?;
+            derived(alloc, q, alias)
+        }
+        TableRef::Joined(a) => source(alloc, a, inner, known),
+    }
+}
+
+// The operands of a join with its ON, which sees them first.
+#[cycle(checks)]
+fn joined(
+    alloc: Global,
+    operands: Source,
+    p: &Cond,
+    inner: &Scopes<'_>,
+    known: &Known<'_>,
+) -> Result<Source, OutOfMemory>
+    ensures ranges { IfOk result (λ s. s.ranges ≡ operands.ranges) }
+    ensures fault { IfOk result (λ s. number s.fault ≡ rule.lesser (number operands.fault) (spec.cond_fault (heads known.now) at.Filtered (written.cond p.now) (plain operands.ranges ∷ scopes inner.now))) }
+{
+    let own = Scopes::Plain(operands.ranges.as_slice(), &*inner);
+    let on = cond(alloc, p, Site::Filtered, &own, known)?;
+    Ok(Source {
+        fault: lesser(operands.fault, on),
+        ranges: operands.ranges,
+    })
+}
+
+// The tables of a FROM.
+#[cycle(checks)]
+#[tactic(auto, using(crate::proofs::Orders::fault_steps))]
+fn sources(
+    alloc: Global,
+    list: &[TableRef],
+    inner: &Scopes<'_>,
+    known: &Known<'_>,
+) -> Result<Source, OutOfMemory>
+    ensures ranges { IfOk result (λ s. s.ranges ≡ types.ranges (heads known.now) (written.table_list list.now) (scopes inner.now)) }
+    ensures fault { IfOk result (λ s. number s.fault ≡ spec.from_fault (heads known.now) (written.table_list list.now) (scopes inner.now)) }
+{
+    let mut all = no_source(alloc);
+    for x in list {
+        let x = source(alloc, x, inner, known)?;
+        push_source(&mut all, x)?;
+    }
+    Ok(all)
+}
+
+// WHERE and GROUP BY of a block over these ranges.
+#[cycle(checks)]
+fn before_groups(
+    alloc: Global,
+    block: &Block,
+    inner: &Scopes<'_>,
+    known: &Known<'_>,
+) -> Result<Option<Fault>, OutOfMemory>
+    ensures { IfOk result (λ f. number f ≡ rule.lesser (spec.filter_fault (heads known.now) at.Filtered (written.filter block.now.filter) (scopes inner.now)) (spec.grouping_fault block.now.grouping (scopes inner.now))) }
+{
+    let kept = filter(alloc, &block.filter, Site::Filtered, inner, known)?;
+    Ok(lesser(kept, grouping_fault(block.grouping.as_slice(), inner)))
+}
+
+// The list and HAVING of a block in their scope.
+#[cycle(checks)]
+fn after_groups(
+    alloc: Global,
+    block: &Block,
+    inner: &Scopes<'_>,
+    known: &Known<'_>,
+) -> Result<Output, OutOfMemory>
+    ensures columns { IfOk result (λ x. x.columns ≡ types.list_columns (heads known.now) (written.select_list block.now.list) (scopes inner.now)) }
+    ensures fault { IfOk result (λ x. number x.fault ≡ rule.lesser (rule.lesser (spec.select_fault (heads known.now) (written.select_list block.now.list) (scopes inner.now)) (spec.filter_fault (heads known.now) at.Listed (written.filter block.now.having) (scopes inner.now))) (rule.too_wide (types.list_columns (heads known.now) (written.select_list block.now.list) (scopes inner.now)))) }
+{
+    let mut out = no_output(alloc);
+    select(alloc, &block.list, inner, known, &mut out)?;
+    let having = filter(alloc, &block.having, Site::Listed, inner, known)?;
+    Ok(limited(out, having))
+}
+
+// A block.
+#[cycle(checks)]
+#[tactic(auto, using(sql_ast::specs::Shown::lists))]
+fn block(
+    alloc: Global,
+    block: &Block,
+    inner: &Scopes<'_>,
+    known: &Known<'_>,
+) -> Result<Output, OutOfMemory>
+    ensures columns { IfOk result (λ x. x.columns ≡ types.columns (heads known.now) (block_of block.now) (scopes inner.now)) }
+    ensures fault { IfOk result (λ x. number x.fault ≡ spec.query_fault (heads known.now) (block_of block.now) (scopes inner.now)) }
+{
+    let from = sources(alloc, block.from.as_slice(), inner, known)?;
+    let ranges = from.ranges.as_slice();
+    let before = before_groups(alloc, block, &Scopes::Plain(ranges, &*inner), known)?;
+    let after = after_groups(alloc, block, &list_scope(&*block, ranges, &*inner), known)?;
+    Ok(block_output(&from, before, after))
+}
+
+// A query.
+#[cycle(checks)]
+#[tactic(auto, using(sql_ast::specs::Shown::lists))]
+pub(crate) fn query(
+    alloc: Global,
+    q: &Query,
+    inner: &Scopes<'_>,
+    known: &Known<'_>,
+) -> Result<Output, OutOfMemory>
+    ensures columns { IfOk result (λ x. x.columns ≡ types.columns (heads known.now) (written.query q.now) (scopes inner.now)) }
+    ensures fault { IfOk result (λ x. number x.fault ≡ spec.query_fault (heads known.now) (written.query q.now) (scopes inner.now)) }
+{
+    match q {
+        Query::Combine(a, _, _, b) => {
+            let a = query(alloc, a, inner, known)?;
+            let b = query(alloc, b, inner, known)?;
+            Ok(combined(a, &b))
+        }
+        Query::Intersect(a, _, b) => {
+            let a = query(alloc, a, inner, known)?;
+            let b = query(alloc, b, inner, known)?;
+            Ok(combined(a, &b))
+        }
+        Query::Block(b) => block(alloc, b, inner, known),
+        Query::Enclosed(q) => query(alloc, q, inner, known),
+    }
+}

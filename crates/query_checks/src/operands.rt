@@ -1,0 +1,82 @@
+// The operands of set operations, and column lists.
+ghost use Rattle.std.specs.Prelude.{◌≡◌};
+ghost use Rattle.sql_ast.specs.Names as names;
+ghost use Rattle.query_checks.specs.Faults as spec;
+ghost use Rattle.query_checks.specs.Numbers.{number};
+ghost use Rattle.query_checks.specs.Rules as rule;
+
+use crate::column::TypedColumn;
+use crate::fault::{Fault, fault_if, lesser};
+use crate::typed::Output;
+use crate::types::differ;
+use sql_text::Name;
+
+// Whether columns at the same place differ in type.
+fn places_differ(a: &[TypedColumn], b: &[TypedColumn]) -> bool
+    ensures { result ≡ rule.places_differ a.now b.now }
+{
+    let mut rest = b;
+    for x in a {
+        match rest {
+            [] => return false,
+            [y, others @ ..] => {
+                if differ(x.sort, y.sort) {
+                    return true;
+                }
+                rest = others;
+            }
+        }
+    }
+    false
+}
+
+// The fault of the columns of two operands.
+fn operands_fault(a: &[TypedColumn], b: &[TypedColumn]) -> Option<Fault>
+    ensures { number result ≡ spec.operands_fault a.now b.now }
+{
+    let differs = fault_if(places_differ(a, b), Fault::TypeMismatch);
+    let unequal = fault_if(a.len() != b.len(), Fault::Degree);
+    lesser(differs, unequal)
+}
+
+/// A set operation of two operands: the columns are those of the left one.
+pub(crate) fn combined(a: Output, b: &Output) -> Output
+    ensures columns { result.columns ≡ a.columns }
+    ensures fault { number result.fault ≡ rule.lesser (rule.lesser (number a.fault) (number b.now.fault)) (spec.operands_fault a.columns b.now.columns) }
+{
+    let own = operands_fault(a.columns.as_slice(), b.columns.as_slice());
+    Output {
+        fault: lesser(lesser(a.fault, b.fault), own),
+        columns: a.columns,
+    }
+}
+
+// Whether one of these names is this name.
+fn contains(list: &[Name], name: &Name) -> bool
+    ensures { result ≡ names.contains list.now name.now }
+{
+    list.iter().any(|other| *other == *name)
+}
+
+// Whether two of the names are equal.
+fn has_twins(list: &[Name]) -> bool
+    ensures { result ≡ names.has_twins list.now }
+{
+    let mut rest = list;
+    while let [first, others @ ..] = rest {
+        if contains(others, first) {
+            return true;
+        }
+        rest = others;
+    }
+    false
+}
+
+/// The fault of a column list over columns; none is written where it is empty.
+pub(crate) fn list_fault(list: &[Name], columns: &[TypedColumn]) -> Option<Fault>
+    ensures { number result ≡ spec.list_fault list.now columns.now }
+{
+    let equal = fault_if(has_twins(list), Fault::DuplicateRange);
+    let unequal = !list.is_empty() && list.len() != columns.len();
+    lesser(equal, fault_if(unequal, Fault::Degree))
+}

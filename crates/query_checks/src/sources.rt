@@ -1,0 +1,189 @@
+// The ranges of a FROM, put together from those of its parts.
+ghost use Rattle.std.specs.Prelude.{◌≡◌, ◌++◌, ◌∷◌, [], map, IfOk, OnOk};
+ghost use Rattle.sql_ast.specs.Names as names;
+ghost use Rattle.sql_meaning.specs.Names as meaning;
+ghost use Rattle.query_checks.specs.Columns as types;
+ghost use Rattle.query_checks.specs.Faults as spec;
+ghost use Rattle.query_checks.specs.Numbers.{number};
+ghost use Rattle.query_checks.specs.Rules as rule;
+ghost use Rattle.query_checks.specs.Shown.{heads};
+
+use crate::column::{Columns, TypedRange, renamed};
+use crate::fault::{Fault, fault_if, lesser};
+use crate::known::{Known, columns_of};
+use crate::operands::list_fault;
+use crate::typed::Output;
+use shared_types::OutOfMemory;
+use sql_ast::Correlation;
+use sql_text::Name;
+use sqlite_items::Items;
+use std::alloc::Global;
+
+/// Tables of a FROM: their ranges, and the least of their faults.
+#[derive(Drop)]
+pub(crate) struct Source {
+    pub ranges: Items<TypedRange>,
+    pub fault: Option<Fault>,
+}
+
+// Adds tables at the end.
+pub(crate) fn push_source(source: &mut Source, more: Source) -> Result<(), OutOfMemory>
+    ensures ranges { OnOk result (source.new.ranges ≡ source.old.ranges ++ more.ranges) }
+    ensures fault { OnOk result (number source.new.fault ≡ rule.lesser (number source.old.fault) (number more.fault)) }
+{
+    source.fault = lesser(source.fault, more.fault);
+    source.ranges.append(more.ranges)?;
+    Ok(())
+}
+
+// The tables of both.
+pub(crate) fn both(mut left: Source, right: Source) -> Result<Source, OutOfMemory>
+    ensures ranges { IfOk result (λ s. s.ranges ≡ left.ranges ++ right.ranges) }
+    ensures fault { IfOk result (λ s. number s.fault ≡ rule.lesser (number left.fault) (number right.fault)) }
+{
+    push_source(&mut left, right)?;
+    Ok(left)
+}
+
+// One range.
+fn one(
+    alloc: Global,
+    name: &Name,
+    columns: Columns,
+    fault: Option<Fault>,
+) -> Result<Source, OutOfMemory>
+    ensures ranges { IfOk result (λ s. s.ranges ≡ types.range name.now columns ∷ []) }
+    ensures fault { IfOk result (λ s. number s.fault ≡ number fault) }
+{
+    let mut ranges = Items::new(alloc);
+    ranges.push(TypedRange {
+        name: name.copy(alloc)?,
+        columns,
+    })?;
+    Ok(Source { ranges, fault })
+}
+
+// A subquery of a FROM.
+pub(crate) fn derived(
+    alloc: Global,
+    found: Output,
+    alias: &Correlation,
+) -> Result<Source, OutOfMemory>
+    ensures ranges { IfOk result (λ s. s.ranges ≡ types.range alias.now.name (types.renamed alias.now.columns found.columns) ∷ []) }
+    ensures fault { IfOk result (λ s. number s.fault ≡ rule.lesser (number found.fault) (spec.list_fault alias.now.columns found.columns)) }
+{
+    let list = alias.columns.as_slice();
+    let fault = lesser(found.fault, list_fault(list, found.columns.as_slice()));
+    let columns = renamed(alloc, list, found.columns)?;
+    one(alloc, &alias.name, columns, fault)
+}
+
+// The range name of a table: its alias, else the table's name.
+fn range_name<'a>(name: &'a Name, alias: &'a Option<Correlation>) -> &'a Name
+    ensures { result.now ≡ meaning.range_name name.now alias.now }
+{
+    match alias {
+        Some(alias) => &alias.name,
+        None => name,
+    }
+}
+
+// The column list after a table; none is written where it is empty.
+fn column_list(alias: &Option<Correlation>) -> &[Name]
+    ensures { result.now ≡ meaning.column_list alias.now }
+{
+    match alias {
+        Some(alias) => alias.columns.as_slice(),
+        None => &[],
+    }
+}
+
+// The fault of a table's name; its columns, which are none where it is unknown.
+fn table(alloc: Global, name: &Name, known: &Known<'_>) -> Result<Output, OutOfMemory>
+    ensures columns { IfOk result (λ x. x.columns ≡ types.columns_or_none (heads known.now name.now)) }
+    ensures fault { IfOk result (λ x. number x.fault ≡ rule.table_unknown (heads known.now name.now)) }
+{
+    match columns_of(alloc, known, name)? {
+        Some(columns) => Ok(Output {
+            columns,
+            fault: None,
+        }),
+        None => Ok(Output {
+            columns: Items::new(alloc),
+            fault: Some(Fault::UnknownTable),
+        }),
+    }
+}
+
+// A table or view of a FROM.
+pub(crate) fn named(
+    alloc: Global,
+    name: &Name,
+    alias: &Option<Correlation>,
+    known: &Known<'_>,
+) -> Result<Source, OutOfMemory>
+    ensures ranges { IfOk result (λ s. s.ranges ≡ types.range (meaning.range_name name.now alias.now) (types.renamed (meaning.column_list alias.now) (types.columns_or_none (heads known.now name.now))) ∷ []) }
+    ensures fault { IfOk result (λ s. number s.fault ≡ rule.lesser (rule.table_unknown (heads known.now name.now)) (spec.list_fault (meaning.column_list alias.now) (types.columns_or_none (heads known.now name.now)))) }
+{
+    let found = table(alloc, name, known)?;
+    let list = column_list(alias);
+    let fault = lesser(found.fault, list_fault(list, found.columns.as_slice()));
+    let columns = renamed(alloc, list, found.columns)?;
+    one(alloc, range_name(name, alias), columns, fault)
+}
+
+// Whether one of these ranges has this name.
+fn has_range(ranges: &[TypedRange], name: &Name) -> bool
+    ensures { result ≡ names.contains (map (λ r. r.name) ranges.now) name.now }
+{
+    for range in ranges {
+        if range.name == *name {
+            return true;
+        }
+    }
+    false
+}
+
+// Whether two of these ranges have one name.
+fn have_twins(ranges: &[TypedRange]) -> bool
+    ensures { result ≡ names.has_twins (map (λ r. r.name) ranges.now) }
+{
+    let mut rest = ranges;
+    while let [first, others @ ..] = rest {
+        if has_range(others, &first.name) {
+            return true;
+        }
+        rest = others;
+    }
+    false
+}
+
+// The fault of two equal ranges.
+pub(crate) fn ranges_equal(ranges: &[TypedRange]) -> Option<Fault>
+    ensures { number result ≡ rule.ranges_equal ranges.now }
+{
+    fault_if(have_twins(ranges), Fault::DuplicateRange)
+}
+
+// No table yet.
+pub(crate) fn no_source(alloc: Global) -> Source
+    ensures ranges { result.ranges ≡ [] }
+    ensures fault { number result.fault ≡ 0 }
+{
+    Source {
+        ranges: Items::new(alloc),
+        fault: None,
+    }
+}
+
+// The output of a block: that of its list, with the faults of its FROM and of what stands between.
+pub(crate) fn block_output(from: &Source, before: Option<Fault>, after: Output) -> Output
+    ensures columns { result.columns ≡ after.columns }
+    ensures fault { number result.fault ≡ rule.lesser (rule.lesser (number from.now.fault) (rule.ranges_equal from.now.ranges)) (rule.lesser (number before) (number after.fault)) }
+{
+    let tables = lesser(from.fault, ranges_equal(from.ranges.as_slice()));
+    Output {
+        fault: lesser(tables, lesser(before, after.fault)),
+        columns: after.columns,
+    }
+}

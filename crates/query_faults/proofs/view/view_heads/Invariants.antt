@@ -1,7 +1,0 @@
-use Rattle.std.proofs.Common.{◌≡◌}
-use Rattle.sql_catalog.specs.Shown as declared
-use Rattle.query_faults.specs.Views.{views_at}
-use Rattle.query_faults.proofs.view.view_heads.Given as goal
-
-abbrev pub invariant-loop-depth : goal.invariant-loop-depth
-invariant-loop-depth l = l.views ≡ views_at (declared.catalog l.catalog) l._depth

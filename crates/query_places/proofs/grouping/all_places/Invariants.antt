@@ -1,8 +1,0 @@
-use Rattle.std.proofs.Common.{◌≡◌, ◌++◌, drop}
-use Rattle.std.specs.List.{flat_map}
-use Rattle.query_places.specs.Places as places
-use Rattle.query_places.specs.Shapes.{shape}
-use Rattle.query_places.proofs.grouping.all_places.Given as goal
-
-abbrev pub invariant-loop-d : goal.invariant-loop-d
-invariant-loop-d l = l.out ++ flat_map (λ d. places.places_meant d (places.columns_in (shape l.ranges))) (drop l.d-index l.by) ≡ flat_map (λ d. places.places_meant d (places.columns_in (shape l.ranges))) l.by

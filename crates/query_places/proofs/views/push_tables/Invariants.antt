@@ -1,7 +1,0 @@
-use Rattle.std.proofs.Common.{◌≡◌, ◌++◌, drop, map}
-use Rattle.query_places.specs.Known.{table_range}
-use Rattle.query_places.specs.Shapes.{shape}
-use Rattle.query_places.proofs.views.push_tables.Given as goal
-
-abbrev pub invariant-loop-table : goal.invariant-loop-table
-invariant-loop-table l = shape l.out ++ map table_range (drop l.table-index l.tables) ≡ shape l.initial.out ++ map table_range l.tables

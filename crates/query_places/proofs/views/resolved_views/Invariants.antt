@@ -1,9 +1,0 @@
-use Rattle.std.proofs.Common.{◌≡◌, ◌++◌, drop, map}
-use Rattle.sql_ast.specs.Shown as written
-use Rattle.checked_query.specs.Shown as shown
-use Rattle.query_places.specs.Known.{view_over}
-use Rattle.query_places.specs.Shapes.{columns_of}
-use Rattle.query_places.proofs.views.resolved_views.Given as goal
-
-abbrev pub invariant-loop-view : goal.invariant-loop-view
-invariant-loop-view l = shown.views l.out ++ map (view_over (columns_of l.setting)) (map written.view (drop l.view-index l.views)) ≡ map (view_over (columns_of l.setting)) (map written.view l.views)
