@@ -9,7 +9,7 @@ use Rattle.row_bag.specs.declared.row.Row.{Row}
 use Rattle.row_bag.specs.declared.tables.Table.{Table}
 use Rattle.sql_ast.specs.declared.schema.TableDecl.{TableDecl}
 use Rattle.sql_ast.specs.Syntax as s
-use Rattle.sql_ast.specs.Declared.{Declared, table_named, view_named}
+use Rattle.sql_ast.specs.Declarations.{Declared, table_named, view_named}
 use Rattle.sql_ast.specs.Names.{contains, same_name}
 use Rattle.sql_catalog.specs.Nesting.{nests_over, read_by, reader_of, readers_of}
 use Rattle.sql_catalog.specs.TableNames as t

@@ -3,7 +3,7 @@ use Rattle.std.proofs.Common.{◌≡◌, ◌<◌, ◌-◌, ℕ, zero, suc, Bool,
 use mathlib.Core.Path.{fun_ext}
 use Rattle.sql_ast.specs.declared.schema.TableDecl.{TableDecl}
 use Rattle.sql_ast.specs.Syntax as s
-use Rattle.sql_ast.specs.Declared.{Declared, table_named, view_named}
+use Rattle.sql_ast.specs.Declarations.{Declared, table_named, view_named}
 use Rattle.sql_ast.specs.Names.{same_name}
 use Rattle.sql_meaning.specs.Scopes.{Shape, columns_in, first_of}
 use Rattle.name_resolution.specs.Known.{ranges_over, table_range, view_range}

@@ -7,7 +7,7 @@ use Rattle.row_bag.specs.Tables.{bag_named}
 use Rattle.row_bag.specs.declared.tables.Table.{Table}
 use Rattle.sql_ast.specs.declared.schema.TableDecl.{TableDecl}
 use Rattle.sql_ast.specs.Syntax as s
-use Rattle.sql_ast.specs.Declared.{Declared, known_names, table_named, table_names, view_named, view_names}
+use Rattle.sql_ast.specs.Declarations.{Declared, known_names, table_named, table_names, view_named, view_names}
 use Rattle.sql_catalog.specs.Catalog.{fault, has_bad_key, has_duplicate, has_twin_columns, has_twin_list, is_over_limits, passes_limits, reads_unknown}
 use Rattle.sql_ast.specs.Names.{contains, has_twins, same_name}
 use Rattle.sql_catalog.specs.Nesting.{is_recursive, nests_over, readers_of}

@@ -2,9 +2,9 @@
 use Rattle.std.specs.Prelude.{ℕ, List, [], ◌++◌, map, Option}
 use Rattle.sql_ast.specs.declared.schema.TableDecl.{TableDecl}
 use Rattle.sql_ast.specs.Syntax as s
-use Rattle.sql_ast.specs.Declared.{Declared}
-use Rattle.sql_ast.specs.Declared.{names_of}
-use Rattle.sql_ast.specs.Declared.{columns_of as declared_columns}
+use Rattle.sql_ast.specs.Declarations.{Declared}
+use Rattle.sql_ast.specs.Declarations.{names_of}
+use Rattle.sql_ast.specs.Declarations.{columns_of as declared_columns}
 use Rattle.sql_meaning.specs.Names.{all_named, names, renamed}
 use Rattle.sql_meaning.specs.Scopes.{Shape}
 use Rattle.sql_meaning.specs.ResolvedViews.{ViewTree}

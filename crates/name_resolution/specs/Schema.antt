@@ -6,9 +6,9 @@ use Rattle.row_bag.specs.Verdict.{verdict}
 use Rattle.row_bag.specs.declared.tables.Table.{Table}
 use Rattle.sql_ast.specs.declared.schema.TableDecl.{TableDecl}
 use Rattle.sql_ast.specs.Syntax as s
-use Rattle.sql_ast.specs.Declared.{Declared, table_named, view_named}
-use Rattle.sql_ast.specs.Declared.{names_of}
-use Rattle.sql_ast.specs.Declared.{columns_of as declared_columns}
+use Rattle.sql_ast.specs.Declarations.{Declared, table_named, view_named}
+use Rattle.sql_ast.specs.Declarations.{names_of}
+use Rattle.sql_ast.specs.Declarations.{columns_of as declared_columns}
 use Rattle.sql_catalog.specs.Nesting.{nests_over, readers_of}
 use Rattle.sql_meaning.specs.Meaning.{Answer, answer_of, order_key, relation_of}
 use Rattle.sql_meaning.specs.Names.{all_named, names, renamed}

@@ -5,7 +5,7 @@ ghost use Rattle.row_bag.specs.Tables.{bag_named};
 ghost use Rattle.row_bag.specs.declared.tables.Table.{Table};
 ghost use Rattle.sql_ast.specs.Syntax as syntax;
 ghost use Rattle.sql_ast.specs.declared.name.Column.{Column};
-ghost use Rattle.sql_ast.specs.Declared.{Declared, table_named};
+ghost use Rattle.sql_ast.specs.Declarations.{Declared, table_named};
 ghost use Rattle.sql_catalog.specs.Catalog.{fault};
 ghost use Rattle.sql_catalog.specs.Nesting.{nests_over, readers_of};
 ghost use Rattle.sql_value.specs.declared.cell.Cell.{Cell};

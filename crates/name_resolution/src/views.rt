@@ -1,8 +1,8 @@
 // The tables and views of a catalog: the names of their columns, and the bodies of views resolved.
 ghost use Rattle.std.specs.Prelude.{◌≡◌, ◌++◌, ◌∷◌, [], map, IfOk, OnOk};
 ghost use Rattle.sql_ast.specs.Shown as written;
-ghost use Rattle.sql_ast.specs.Declared.{names_of};
-ghost use Rattle.sql_ast.specs.Declared as declares;
+ghost use Rattle.sql_ast.specs.Declarations.{names_of};
+ghost use Rattle.sql_ast.specs.Declarations as declares;
 ghost use Rattle.sql_catalog.specs.Shown.{catalog};
 ghost use Rattle.sql_meaning.specs.Names as named;
 ghost use Rattle.sql_meaning.specs.ResolvedShown as shown;

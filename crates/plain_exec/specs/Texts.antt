@@ -2,7 +2,7 @@
 use Rattle.std.specs.Prelude.{◌≡◌, List, []}
 use Rattle.row_bag.specs.declared.tables.Table.{Table}
 use Rattle.sql_ast.specs.Syntax.{QueryText}
-use Rattle.sql_ast.specs.Declared.{Declared}
+use Rattle.sql_ast.specs.Declarations.{Declared}
 use Rattle.sql_check.specs.Checked.{IsFilled, answer_of, rows_of}
 use Rattle.sql_check.specs.declared.checked.Checked.{Checked}
 use Rattle.sql_check.specs.declared.checked.Views.{Views}

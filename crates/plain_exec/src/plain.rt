@@ -4,7 +4,7 @@ ghost use Rattle.row_bag.specs.Bags.{Agree};
 ghost use Rattle.row_bag.specs.Sets.{same_cells};
 ghost use Rattle.row_bag.specs.Verdict.{verdict};
 ghost use Rattle.sql_ast.specs.Syntax.{QueryText};
-ghost use Rattle.sql_ast.specs.Declared.{Declared};
+ghost use Rattle.sql_ast.specs.Declarations.{Declared};
 ghost use Rattle.sql_check.specs.Checked.{IsFilled, rows_of};
 ghost use Rattle.sql_meaning.specs.Meaning.{answer, answer_of, known_of, rows};
 ghost use Rattle.plain_exec.specs.Texts.{IsOfText};

@@ -5,7 +5,7 @@ use Rattle.row_bag.specs.Verdict.{verdict}
 use Rattle.row_bag.specs.declared.row.Row.{Row}
 use Rattle.row_bag.specs.declared.tables.Table.{Table}
 use Rattle.sql_ast.specs.Syntax as s
-use Rattle.sql_ast.specs.Declared.{Declared}
+use Rattle.sql_ast.specs.Declarations.{Declared}
 use Rattle.sql_catalog.specs.Catalog.{fault}
 use Rattle.sql_meaning.specs.Meaning as named
 use Rattle.sql_value.specs.declared.cell.Cell.{Cell}

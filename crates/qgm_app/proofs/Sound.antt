@@ -7,7 +7,7 @@ use Rattle.row_bag.specs.Tables.{bag_named}
 use Rattle.row_bag.specs.declared.tables.Table.{Table}
 use Rattle.sql_ast.specs.declared.schema.TableDecl.{TableDecl}
 use Rattle.sql_ast.specs.Syntax as s
-use Rattle.sql_ast.specs.Declared.{Declared, table_named}
+use Rattle.sql_ast.specs.Declarations.{Declared, table_named}
 use Rattle.sql_catalog.specs.Catalog.{all_of, declared, fault, unless}
 use Rattle.sql_ast.specs.Names.{same_name}
 use Rattle.sql_check.specs.Checked.{IsFilled}

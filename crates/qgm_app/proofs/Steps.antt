@@ -9,7 +9,7 @@ use Rattle.io_edge.specs.declared.fetch.Interruption.TheVariants.{ReadFault, Mem
 use Rattle.io_edge.proofs.Order.{comes-bind, comes-bind-faulted, comes-bind-starved, comes-done, comes-mapped}
 use Rattle.row_bag.specs.declared.tables.Table.{Table}
 use Rattle.sql_ast.specs.Syntax as s
-use Rattle.sql_ast.specs.Declared.{Declared}
+use Rattle.sql_ast.specs.Declarations.{Declared}
 use Rattle.qgm_app.specs.Outcome.{from_tables, outcome, reported, with_catalog, with_line, with_query, with_task, with_views}
 use Rattle.qgm_app.specs.Plans.{IsPlan}
 use Rattle.qgm_app.specs.Texts.{GivesPlan, catalog_of, valid_query}

@@ -10,9 +10,9 @@ use Rattle.row_bag.specs.declared.row.Row.{Row}
 use Rattle.row_bag.specs.declared.tables.Table.{Table}
 use Rattle.sql_ast.specs.declared.schema.ColumnDecl.{ColumnDecl}
 use Rattle.sql_ast.specs.declared.schema.TableDecl.{TableDecl}
-use Rattle.sql_ast.specs.Declared.{table_named}
+use Rattle.sql_ast.specs.Declarations.{table_named}
 use Rattle.sql_catalog.specs.Descriptor.{describe, describe_column}
-use Rattle.sql_ast.specs.Declared.{columns_of, names_of}
+use Rattle.sql_ast.specs.Declarations.{columns_of, names_of}
 use Rattle.sql_catalog.specs.Keys.{keys_of}
 use Rattle.sql_ast.specs.Names.{same_name}
 use Rattle.sql_catalog.specs.declared.descriptor.ColumnDescriptor.{ColumnDescriptor}

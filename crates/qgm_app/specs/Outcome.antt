@@ -8,7 +8,7 @@ use Rattle.io_edge.specs.Outcome.{Outcome, done, read, ◌>>=◌}
 use Rattle.io_edge.specs.Outside.{File}
 use Rattle.row_bag.specs.declared.tables.Table.{Table}
 use Rattle.sql_ast.specs.Syntax as s
-use Rattle.sql_ast.specs.Declared.{Declared}
+use Rattle.sql_ast.specs.Declarations.{Declared}
 use Rattle.sql_meaning.specs.Meaning.{Answer, answer, answer_error, answer_rows, known_of}
 use Rattle.query_checks.specs.Views.{view_refusal}
 use Rattle.command_line.specs.Line.{LineText, TaskText, explain, gen, run}

@@ -1,7 +1,7 @@
 -- What the two texts declare and ask, or the number that refuses them. Of several causes the first in the order of these words counts.
 use Rattle.std.specs.Prelude.{ℕ, zero, suc, ◌≡◌, ⊤, Bool, true, false, List, Option, Some, None, Result, Ok, Err}
 use Rattle.sql_ast.specs.Syntax as s
-use Rattle.sql_ast.specs.Declared.{Declared}
+use Rattle.sql_ast.specs.Declarations.{Declared}
 use Rattle.sql_catalog.specs.Catalog.{declared}
 use Rattle.query_checks.specs.Views.{fault}
 use Rattle.sql_check.specs.declared.checked.Views.{Views}

@@ -4,7 +4,7 @@ use Rattle.std.proofs.Math.Numerals.{add-one}
 use Rattle.std.specs.List.{list_any}
 use Rattle.std.proofs.lemmas.Bool.{cases_Bool}
 use Rattle.sql_ast.specs.Syntax as s
-use Rattle.sql_ast.specs.Declared.{Declared}
+use Rattle.sql_ast.specs.Declarations.{Declared}
 use Rattle.sql_ast.specs.Names.{contains}
 use Rattle.sql_catalog.specs.Nesting.{nests_over, read_by, reader_of, readers_of}
 use Rattle.sql_catalog.specs.declared.reader.Reader.{Reader}

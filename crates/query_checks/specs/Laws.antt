@@ -3,7 +3,7 @@ use Rattle.std.specs.Prelude.{◌≡◌, ℕ, true, false, List, [], map, Option
 use Rattle.std.specs.List.{list_any}
 use Rattle.row_bag.specs.declared.tables.Table.{Table}
 use Rattle.sql_ast.specs.Syntax as s
-use Rattle.sql_ast.specs.Declared.{Declared}
+use Rattle.sql_ast.specs.Declarations.{Declared}
 use Rattle.sql_catalog.specs.Nesting.{nests_over, readers_of}
 use Rattle.sql_meaning.specs.Even.{EvenQuery}
 use Rattle.sql_meaning.specs.Meaning.{known_of}

@@ -3,8 +3,8 @@ use Rattle.std.specs.Prelude.{ℕ, zero, suc, true, false, List, [], ◌∷◌, 
 use Rattle.sql_ast.specs.declared.schema.ColumnDecl.{ColumnDecl}
 use Rattle.sql_ast.specs.declared.schema.TableDecl.{TableDecl}
 use Rattle.sql_ast.specs.Syntax as s
-use Rattle.sql_ast.specs.Declared.{Declared, table_named}
-use Rattle.sql_ast.specs.Declared.{columns_of}
+use Rattle.sql_ast.specs.Declarations.{Declared, table_named}
+use Rattle.sql_ast.specs.Declarations.{columns_of}
 use Rattle.sql_ast.specs.Names.{same_name}
 use Rattle.sql_catalog.specs.Nesting.{nests_at, reader_of, readers_of}
 use Rattle.sql_meaning.specs.Scopes.{first_of}

@@ -1,6 +1,6 @@
 // The tables and views that a query may name, and their columns.
 ghost use Rattle.std.specs.Prelude.{◌≡◌, ◌++◌, map, option_map, IfOk, OnOk};
-ghost use Rattle.sql_ast.specs.Declared as schema;
+ghost use Rattle.sql_ast.specs.Declarations as schema;
 ghost use Rattle.query_checks.specs.Shown as shown;
 ghost use Rattle.query_checks.specs.Views as heads;
 

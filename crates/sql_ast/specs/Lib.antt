@@ -3,4 +3,4 @@ pub mod Shown
 pub mod Spelling
 pub mod Grammatical
 pub mod Names
-pub mod Declared
+pub mod Declarations

@@ -5,7 +5,7 @@ use Rattle.sql_catalog.specs.declared.key.Key.{Key}
 use Rattle.sql_ast.specs.Names.{contains, has_twins}
 use Rattle.std.specs.Prelude.{if◌then◌else◌, Option, Some, None, Result, Ok, Err}
 use Rattle.sql_catalog.specs.Nesting.{readers_of, is_recursive}
-use Rattle.sql_ast.specs.Declared.{Declared, known_names}
+use Rattle.sql_ast.specs.Declarations.{Declared, known_names}
 use Rattle.sql_catalog.specs.Catalog.{reads_unknown, has_duplicate, is_bad_key, has_bad_key, passes_limits, fault, all_of, unless, declared}
 use Rattle.sql_ast.specs.Syntax as s
 use Rattle.sql_catalog.proofs.NameLaws.{any_same}

@@ -4,7 +4,7 @@ use Rattle.std.specs.Prelude.{find, option_map, cond}
 use Rattle.sql_ast.specs.declared.schema.ViewDecl.{ViewDecl}
 use Rattle.sql_ast.specs.Shown as shown
 use Rattle.sql_ast.specs.Names.{same_name}
-use Rattle.sql_ast.specs.Declared.{view_named}
+use Rattle.sql_ast.specs.Declarations.{view_named}
 
 pub first_shown : (b : Bool) (v : ViewDecl) (o : Option ViewDecl) → option_map shown.view (cond b (Some v) o) ≡ cond b (Some (shown.view v)) (option_map shown.view o)
 first_shown true v o = refl

@@ -7,7 +7,7 @@ use Rattle.sql_ast.specs.Shown as shown
 use Rattle.sql_ast.specs.Syntax as s
 use Rattle.sql_ast.specs.declared.schema.Statement.{Statement}
 use Rattle.sql_ast.specs.declared.schema.Statement.TheVariants.{Table, View}
-use Rattle.sql_ast.specs.Declared.{tables_of, views_of}
+use Rattle.sql_ast.specs.Declarations.{tables_of, views_of}
 
 pub tables_last : (xs : List Statement) (x : Statement) → tables_of (map shown.statement (xs ++ x ∷ [])) ≡ tables_of (map shown.statement xs) ++ tables_of (shown.statement x ∷ [])
 tables_last [] x = refl

@@ -9,7 +9,7 @@ use Rattle.sql_catalog.specs.declared.descriptor.ColumnDescriptor.{ColumnDescrip
 use Rattle.sql_catalog.specs.declared.descriptor.KeyDescriptor.{KeyDescriptor}
 use Rattle.sql_catalog.specs.declared.descriptor.TableDescriptor.{TableDescriptor}
 use Rattle.sql_catalog.specs.declared.key.Key.{Key}
-use Rattle.sql_ast.specs.Declared.{columns_of, names_of}
+use Rattle.sql_ast.specs.Declarations.{columns_of, names_of}
 use Rattle.sql_catalog.specs.Keys.{keys_of}
 use Rattle.sql_ast.specs.Names.{same_name, contains}
 

@@ -1,7 +1,7 @@
 // The tables and views of a schema, in declared order.
 ghost use Rattle.std.specs.Prelude.{◌≡◌, option_map, map, find};
 ghost use Rattle.sql_ast.specs.Shown as shown;
-ghost use Rattle.sql_ast.specs.Declared.{table_named, view_named};
+ghost use Rattle.sql_ast.specs.Declarations.{table_named, view_named};
 ghost use Rattle.sql_ast.specs.Names.{same_name};
 
 use sql_ast::{TableDecl, ViewDecl};

@@ -1,7 +1,7 @@
 // What a table declares, as those who read it need it.
 ghost use Rattle.std.specs.Prelude.{◌≡◌, ◌&&◌, IfOk, map};
 ghost use Rattle.sql_catalog.specs.Descriptor as spec;
-ghost use Rattle.sql_ast.specs.Declared.{columns_of};
+ghost use Rattle.sql_ast.specs.Declarations.{columns_of};
 
 use crate::key::{Key, column_names, keys};
 use shared_types::OutOfMemory;

@@ -2,7 +2,7 @@
 ghost use Rattle.std.specs.Prelude.{◌≡◌, ◌++◌, ◌∷◌, [], ◌||◌, Ok, Err, IfOk, IsErrOf, Some, None, map, nat_lt, count_by};
 ghost use Rattle.std.specs.List.{list_any};
 ghost use Rattle.sql_ast.specs.Shown as shown;
-ghost use Rattle.sql_ast.specs.Declared as schema;
+ghost use Rattle.sql_ast.specs.Declarations as schema;
 ghost use Rattle.sql_catalog.specs.Catalog as catalog;
 ghost use Rattle.sql_ast.specs.Names.{contains, has_twins};
 ghost use Rattle.sql_catalog.specs.Nesting.{readers_of};

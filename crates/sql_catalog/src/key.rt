@@ -1,6 +1,6 @@
 // The columns and keys of a declared table.
 ghost use Rattle.std.specs.Prelude.{◌≡◌, ◌++◌, ◌∷◌, [], IfOk, OnOk};
-ghost use Rattle.sql_ast.specs.Declared.{columns_of, names_of, types_of};
+ghost use Rattle.sql_ast.specs.Declarations.{columns_of, names_of, types_of};
 ghost use Rattle.sql_catalog.specs.Keys.{key, column_keys, keys_of};
 
 use shared_types::OutOfMemory;

@@ -7,7 +7,7 @@ use Rattle.row_bag.specs.Verdict.{verdict}
 use Rattle.row_bag.specs.declared.row.Row.{Row}
 use Rattle.row_bag.specs.declared.tables.Table.{Table}
 use Rattle.sql_ast.specs.Syntax as s
-use Rattle.sql_ast.specs.Declared.{Declared, table_named}
+use Rattle.sql_ast.specs.Declarations.{Declared, table_named}
 use Rattle.sql_catalog.specs.Catalog.{fault}
 use Rattle.sql_meaning.specs.Meaning.{Answer, answer, known_at, known_of, order_key, relation_of, rows}
 use Rattle.sql_meaning.specs.Meaning as named

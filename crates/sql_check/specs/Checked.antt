@@ -4,7 +4,7 @@ use Rattle.row_bag.specs.Tables.{bag_named}
 use Rattle.row_bag.specs.Verdict.{verdict}
 use Rattle.row_bag.specs.declared.row.Row.{Row}
 use Rattle.row_bag.specs.declared.tables.Table.{Table}
-use Rattle.sql_ast.specs.Declared.{Declared, table_named}
+use Rattle.sql_ast.specs.Declarations.{Declared, table_named}
 use Rattle.sql_catalog.specs.Catalog.{fault}
 use Rattle.sql_meaning.specs.Meaning.{Answer, relation_of}
 use Rattle.sql_meaning.specs.Meaning as named

@@ -1,7 +1,7 @@
 -- Names over a schema without views.
 use Rattle.std.proofs.Common.{◌≡◌, ℕ, zero, suc, List, [], Option, Some, None, refl}
 use Rattle.row_bag.specs.declared.tables.Table.{Table}
-use Rattle.sql_ast.specs.Declared.{Declared}
+use Rattle.sql_ast.specs.Declarations.{Declared}
 use Rattle.sql_meaning.specs.Meaning.{Relation, first_of, known_at, known_of, relation_of}
 
 alone : (table : Option Relation) → first_of table None ≡ table

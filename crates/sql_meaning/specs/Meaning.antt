@@ -16,9 +16,9 @@ use Rattle.sql_ast.specs.declared.text.SortKey.TheVariants as sort_key
 use Rattle.sql_ast.specs.declared.word.Direction.{Direction}
 use Rattle.sql_ast.specs.declared.word.Direction.TheVariants as way
 use Rattle.sql_ast.specs.Syntax as s
-use Rattle.sql_ast.specs.Declared.{Declared, table_named, view_named}
-use Rattle.sql_ast.specs.Declared.{names_of}
-use Rattle.sql_ast.specs.Declared.{columns_of as declared_columns}
+use Rattle.sql_ast.specs.Declarations.{Declared, table_named, view_named}
+use Rattle.sql_ast.specs.Declarations.{names_of}
+use Rattle.sql_ast.specs.Declarations.{columns_of as declared_columns}
 use Rattle.sql_value.specs.Comparison as c
 use Rattle.sql_value.specs.Like as l
 use Rattle.sql_value.specs.Truths as t

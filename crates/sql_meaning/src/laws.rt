@@ -1,7 +1,7 @@
 // The laws of names.
 ghost use Rattle.std.specs.Prelude.{◌≡◌, ℕ, List, []};
 ghost use Rattle.row_bag.specs.declared.tables.Table.{Table};
-ghost use Rattle.sql_ast.specs.Declared.{Declared};
+ghost use Rattle.sql_ast.specs.Declarations.{Declared};
 ghost use Rattle.sql_meaning.specs.Meaning.{known_of, relation_of};
 
 /// Over a schema without views a name stands for a table alone. It does nothing.

@@ -1,5 +1,5 @@
 use Rattle.std.proofs.Common.{◌≡◌, ◌++◌, drop, map}
-use Rattle.sql_ast.specs.Declared.{columns_of}
+use Rattle.sql_ast.specs.Declarations.{columns_of}
 use Rattle.query_checks.specs.Views.{typed}
 use Rattle.query_checks.proofs.known.table_columns.Given as goal
 

@@ -1,7 +1,7 @@
 use Rattle.std.proofs.Common.{◌≡◌, ◌∙◌, sym, map, Ok, Err, IsErrOf, rules}
 use Rattle.sql_ast.specs.Shown as shown
 use Rattle.sql_catalog.specs.Shown.{catalog}
-use Rattle.sql_ast.specs.Declared.{declares}
+use Rattle.sql_ast.specs.Declarations.{declares}
 use Rattle.sql_catalog.specs.Catalog.{all_of, declared}
 use Rattle.sql_catalog.proofs.FaultLaws.{declared_ok, declared_err}
 use Rattle.sql_catalog.proofs.declare.build.Goals as goal

@@ -1,6 +1,6 @@
 use Rattle.std.proofs.Common.{◌≡◌, ◌++◌, reverse, length, map, ℕ}
 use Rattle.sql_ast.specs.Shown as shown
-use Rattle.sql_ast.specs.Declared.{tables_of, views_of}
+use Rattle.sql_ast.specs.Declarations.{tables_of, views_of}
 use Rattle.sql_catalog.proofs.declare.split.Given as goal
 
 abbrev pub invariant-loop-statement : goal.invariant-loop-statement

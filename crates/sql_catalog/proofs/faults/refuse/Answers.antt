@@ -2,7 +2,7 @@ use Rattle.std.proofs.Common.{◌≡◌, sym, ◌∙◌, map, true, false, Some,
 use Rattle.std.specs.List.{list_any}
 use Rattle.sql_ast.specs.Shown as shown
 use Rattle.sql_catalog.specs.Nesting.{readers_of, is_recursive}
-use Rattle.sql_ast.specs.Declared as schema
+use Rattle.sql_ast.specs.Declarations as schema
 use Rattle.sql_catalog.proofs.FaultLaws.{fault_limits}
 use Rattle.sql_catalog.proofs.faults.refuse.Goals as goal
 

@@ -1,7 +1,7 @@
 use Rattle.std.proofs.Common.{◌≡◌, ◌||◌, ◌++◌, drop, map, filter, List, ℕ}
 use Rattle.std.specs.List.{list_any}
 use Rattle.sql_ast.specs.Shown as shown
-use Rattle.sql_ast.specs.Declared as schema
+use Rattle.sql_ast.specs.Declarations as schema
 use Rattle.sql_catalog.proofs.faults.table_names.Given as goal
 
 abbrev pub invariant-loop-table : goal.invariant-loop-table

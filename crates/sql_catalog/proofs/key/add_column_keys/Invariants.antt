@@ -1,5 +1,5 @@
 use Rattle.std.proofs.Common.{◌≡◌, ◌++◌, drop, map}
-use Rattle.sql_ast.specs.Declared.{columns_of, names_of, types_of}
+use Rattle.sql_ast.specs.Declarations.{columns_of, names_of, types_of}
 use Rattle.sql_catalog.specs.Keys.{key, column_keys, keys_of}
 use Rattle.sql_catalog.proofs.key.add_column_keys.Given as goal
 

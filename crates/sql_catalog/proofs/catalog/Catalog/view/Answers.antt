@@ -3,7 +3,7 @@ use Rattle.std.specs.Prelude.{find, option_map}
 use Rattle.sql_ast.specs.Shown as shown
 use Rattle.sql_ast.specs.declared.schema.ViewDecl.{ViewDecl}
 use Rattle.sql_ast.specs.Names.{same_name}
-use Rattle.sql_ast.specs.Declared.{view_named}
+use Rattle.sql_ast.specs.Declarations.{view_named}
 use Rattle.sql_catalog.proofs.LookupLaws.{view_found}
 use Rattle.sql_catalog.proofs.catalog.Catalog.view.Goals as goal
 
