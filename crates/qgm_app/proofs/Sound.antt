@@ -11,10 +11,6 @@ use Rattle.sql_ast.specs.Declarations.{Declared, table_named}
 use Rattle.sql_catalog.specs.Catalog.{all_of, declared, fault, unless}
 use Rattle.sql_ast.specs.Names.{same_name}
 use Rattle.sql_check.specs.Checked.{IsFilled}
-use Rattle.sql_meaning.specs.Meaning.{relation_of}
-use Rattle.sql_meaning.specs.Names.{Relation}
-use Rattle.name_resolution.specs.Agreed as places
-use Rattle.table_block.specs.Resolved.{IsWide}
 use Rattle.qgm_app.specs.Texts.{◌>>=◌, catalog_of, schema_of}
 use Rattle.qgm_app.proofs.Wide.{wide-tables}
 
@@ -30,15 +26,11 @@ loaded (d ∷ ds) (t ∷ ts) name fits h = elim (cases_Bool (same_name d.name na
   | inr e ↦ rw (ap (λ (n : List ℕ). same_name n name) fits.0.name ∙ e) (loaded ds ts name fits.1 (rw e at h))
 ]
 
-wide-of : (table : Option Relation) → IsWide table → places.IsWide table
-wide-of None h = tt
-wide-of (Some table) h = h
-
 pub filled : (catalog : Declared) (tables : List Table) → fault catalog ≡ None → FitsSchema catalog.tables tables → IsFilled catalog tables
 filled catalog tables valid fits = record {
   valid = valid;
   declared = λ name h. loaded catalog.tables tables name fits h;
-  wide = λ name. wide-of (relation_of catalog tables name) (wide-tables catalog.tables tables name fits);
+  wide = λ name. wide-tables catalog.tables tables name fits;
 }
 
 -- ---- texts

@@ -11,9 +11,9 @@ use Rattle.row_bag.specs.declared.tables.Table.{Table}
 use Rattle.sql_ast.specs.Syntax as s
 use Rattle.sql_ast.specs.Declarations.{Declared}
 use Rattle.qgm_app.specs.Outcome.{from_tables, outcome, reported, with_catalog, with_line, with_query, with_task, with_views}
-use Rattle.qgm_app.specs.Plans.{IsPlan}
-use Rattle.qgm_app.specs.Texts.{GivesPlan, catalog_of, valid_query}
-use Rattle.qgm_app.specs.declared.plan.Plan.{Plan}
+use Rattle.qgm_app.specs.Answered.{Answers}
+use Rattle.qgm_app.specs.Texts.{GivesAnswering, catalog_of, valid_query}
+use Rattle.sql_check.specs.declared.checked.Checked.{Checked}
 use Rattle.query_checks.specs.Views.{view_refusal}
 use Rattle.sql_check.specs.declared.checked.Views.{Views}
 use Rattle.command_line.specs.Line.{LineText}
@@ -49,12 +49,12 @@ unfolding with_query
 query-refused-by t dir catalog query number is =
     subst (λ (q : Result s.QueryText ℕ). Comes t t (λ fs. with_query dir catalog fs q) (answered (QueryRefused number))) (sym is) (comes-done t (QueryRefused number))
 
--- the query has a plan, and the tables are next
-query-taken-by : (t u : Option Told) (dir : List ℕ) (catalog : Declared) (views : Views) (plan : Plan) (query : Result s.QueryText ℕ) (end : Ended Report) → GivesPlan catalog views (Ok plan) query
-    → ((q : s.QueryText) → IsPlan catalog views plan q → Comes t u (λ fs. from_tables dir catalog q fs) end) → Comes t u (λ fs. with_query dir catalog fs query) end
+-- the query is valid, and the tables are next
+query-taken-by : (t u : Option Told) (dir : List ℕ) (catalog : Declared) (views : Views) (x : Checked) (query : Result s.QueryText ℕ) (end : Ended Report) → GivesAnswering catalog views (Ok x) query
+    → ((q : s.QueryText) → Answers catalog views x q → Comes t u (λ fs. from_tables dir catalog q fs) end) → Comes t u (λ fs. with_query dir catalog fs query) end
 unfolding with_query
-query-taken-by t u dir catalog views plan (Err number) end is h = absurd is
-query-taken-by t u dir catalog views plan (Ok query) end is h = h query is
+query-taken-by t u dir catalog views x (Err number) end is h = absurd is
+query-taken-by t u dir catalog views x (Ok query) end is h = h query is
 
 -- the query's text was read, and then this was done with it
 pub text-of-query : (t u v : Option Told) (name dir : List ℕ) (catalog : Declared) (text : Option (List ℕ)) (end : Ended Report)
@@ -62,13 +62,13 @@ pub text-of-query : (t u v : Option Told) (name dir : List ℕ) (catalog : Decla
     → Comes t v (λ fs. read fs name 65536 >>= (λ x. with_query dir catalog fs (valid_query catalog x))) end
 text-of-query t u v name dir catalog text end h k = comes-bind t u v (λ fs. read fs name 65536) (λ x fs. with_query dir catalog fs (valid_query catalog x)) text end h k
 
-pub query-refused : (t : Option Told) (dir : List ℕ) (catalog : Declared) (views : Views) (text : Option (List ℕ)) (number : ℕ) → GivesPlan catalog views (Err (Number number)) (valid_query catalog text)
+pub query-refused : (t : Option Told) (dir : List ℕ) (catalog : Declared) (views : Views) (text : Option (List ℕ)) (number : ℕ) → GivesAnswering catalog views (Err (Number number)) (valid_query catalog text)
     → Comes t t (λ fs. with_query dir catalog fs (valid_query catalog text)) (answered (QueryRefused number))
 query-refused t dir catalog views text number is = query-refused-by t dir catalog (valid_query catalog text) number is
 
-pub query-taken : (t u : Option Told) (dir : List ℕ) (catalog : Declared) (views : Views) (plan : Plan) (text : Option (List ℕ)) (end : Ended Report) → GivesPlan catalog views (Ok plan) (valid_query catalog text)
-    → ((q : s.QueryText) → IsPlan catalog views plan q → Comes t u (λ fs. from_tables dir catalog q fs) end) → Comes t u (λ fs. with_query dir catalog fs (valid_query catalog text)) end
-query-taken t u dir catalog views plan text end is h = query-taken-by t u dir catalog views plan (valid_query catalog text) end is h
+pub query-taken : (t u : Option Told) (dir : List ℕ) (catalog : Declared) (views : Views) (x : Checked) (text : Option (List ℕ)) (end : Ended Report) → GivesAnswering catalog views (Ok x) (valid_query catalog text)
+    → ((q : s.QueryText) → Answers catalog views x q → Comes t u (λ fs. from_tables dir catalog q fs) end) → Comes t u (λ fs. with_query dir catalog fs (valid_query catalog text)) end
+query-taken t u dir catalog views x text end is h = query-taken-by t u dir catalog views x (valid_query catalog text) end is h
 
 -- the schema's text was read, and then this was done with it
 pub text-of-schema : (t u v : Option Told) (name query dir : List ℕ) (text : Option (List ℕ)) (end : Ended Report)

@@ -17,7 +17,7 @@ use Rattle.sql_catalog.specs.Keys.{keys_of}
 use Rattle.sql_ast.specs.Names.{same_name}
 use Rattle.sql_catalog.specs.declared.descriptor.ColumnDescriptor.{ColumnDescriptor}
 use Rattle.sql_catalog.specs.declared.key.Key.{Key}
-use Rattle.table_block.specs.Resolved.{IsWide}
+use Rattle.name_resolution.specs.Agreed.{IsWide}
 use Rattle.sql_meaning.specs.Meaning.{all_named, relation_with}
 use Rattle.sql_value.specs.declared.cell.Cell.{Cell}
 

@@ -11,8 +11,8 @@ use Rattle.sql_text.specs.Depth.{too_deep}
 use Rattle.sql_text.specs.Tokens.{token_list, tokens}
 use Rattle.sql_text.specs.declared.token.Spanned.{Spanned}
 use Rattle.sql_text.specs.declared.token.Token.{Token}
-use Rattle.qgm_app.specs.Plans.{IsPlan}
-use Rattle.qgm_app.specs.declared.plan.Plan.{Plan}
+use Rattle.sql_check.specs.declared.checked.Checked.{Checked}
+use Rattle.qgm_app.specs.Answered.{Answers}
 use Rattle.qgm_app.specs.declared.texts.TextRefusal.{TextRefusal}
 use Rattle.qgm_app.specs.declared.texts.TextRefusal.TheVariants.{Number, Memory}
 
@@ -67,9 +67,9 @@ Gives seen (Ok x) what = what ≡ Ok (seen x)
 Gives seen (Err (Number number)) what = what ≡ Err number
 Gives seen (Err Memory) what = ⊤
 
--- a call's answer is a plan of the query, but where memory ran out
-abbrev pub GivesPlan : Declared → Views → Result Plan TextRefusal → Result s.QueryText ℕ → Type 0
-GivesPlan catalog views (Ok plan) (Ok query) = IsPlan catalog views plan query
-GivesPlan catalog views (Ok plan) (Err number) = ⊥
-GivesPlan catalog views (Err (Number number)) what = what ≡ Err number
-GivesPlan catalog views (Err Memory) what = ⊤
+-- a call's answer is a checked query with the answer of the text, but where memory ran out
+abbrev pub GivesAnswering : Declared → Views → Result Checked TextRefusal → Result s.QueryText ℕ → Type 0
+GivesAnswering catalog views (Ok x) (Ok query) = Answers catalog views x query
+GivesAnswering catalog views (Ok x) (Err number) = ⊥
+GivesAnswering catalog views (Err (Number number)) what = what ≡ Err number
+GivesAnswering catalog views (Err Memory) what = ⊤

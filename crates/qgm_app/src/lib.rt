@@ -1,7 +1,6 @@
 //! The whole of the program, over files and a sink that are handed in.
 #![tactic(auto)]
 
-mod plan;
 mod report;
 mod respond;
 mod run;

@@ -16,34 +16,22 @@ use command_line::{Line, Task, WordsRefusal, read_line};
 use io_edge::{Files, Interruption};
 use shared_types::OutOfMemory;
 use std::alloc::Global;
-use std::sync::ledger::Ledger;
-use step_count::Steps;
 
 // The report on a command line.
-fn run_line<F: Files, L: Ledger>(
-    alloc: Global,
-    line: &Line<'_>,
-    files: &mut F,
-    steps: &mut Steps<L>,
-) -> Result<Report, Interruption>
+fn run_line<F: Files>(alloc: Global, line: &Line<'_>, files: &mut F) -> Result<Report, Interruption>
     ensures comes { Comes (F.told files.old) (F.told files.new) (λ fs. with_task (task_text line.now.task) fs) (ended result) }
     ensures built { is_built (task_text line.now.task) ≡ true → IfOk result (λ report. report ≢ Usage) }
     ensures later { F.faults files.old ≤ F.faults files.new }
     ensures failed { RoseIfFault result (F.faults files.old) (F.faults files.new) }
 {
     match line.task {
-        Task::Run { schema, query, dir } => run_schema(alloc, schema, query, dir, files, steps),
+        Task::Run { schema, query, dir } => run_schema(alloc, schema, query, dir, files),
         Task::Explain { .. } | Task::Gen { .. } => Ok(Report::Usage),
     }
 }
 
 // The report on the command line that the words are.
-fn prepare<F: Files, L: Ledger>(
-    alloc: Global,
-    words: &[String],
-    files: &mut F,
-    steps: &mut Steps<L>,
-) -> Result<Report, Interruption>
+fn prepare<F: Files>(alloc: Global, words: &[String], files: &mut F) -> Result<Report, Interruption>
     ensures comes { Comes (F.told files.old) (F.told files.new) (outcome (map (λ w. string_bytes w) words.now)) (ended result) }
     ensures no_line { line (map (λ w. string_bytes w) words.now) ≡ None → (files.new ≡ files.old) × IsUsage result }
     ensures line { IfOk result (λ report. report ≡ Usage → line (map (λ w. string_bytes w) words.now) ≡ None) }
@@ -51,18 +39,17 @@ fn prepare<F: Files, L: Ledger>(
     ensures failed { RoseIfFault result (F.faults files.old) (F.faults files.new) }
 {
     match read_line(alloc, words) {
-        Ok(line) => run_line(alloc, &line, files, steps),
+        Ok(line) => run_line(alloc, &line, files),
         Err(WordsRefusal::Usage) => Ok(Report::Usage),
         Err(WordsRefusal::Memory) => Err(Interruption::Memory),
     }
 }
 
 /// What is said to the words: the report, or the name of a read that failed.
-pub fn respond<F: Files, L: Ledger>(
+pub fn respond<F: Files>(
     alloc: Global,
     words: &[String],
     files: &mut F,
-    steps: &mut Steps<L>,
 ) -> Result<Said, OutOfMemory>
     ensures prepares { Prepares (F.told files.old) (F.told files.new) (outcome (map (λ w. string_bytes w) words.now)) result }
     ensures no_line { line (map (λ w. string_bytes w) words.now) ≡ None → (files.new ≡ files.old) × IfOk result (λ said. said ≡ said_of Usage) }
@@ -71,7 +58,7 @@ pub fn respond<F: Files, L: Ledger>(
     ensures failed { IfOk result (λ said. said.status ≡ 3 → Rose (F.faults files.old) (F.faults files.new)) }
     ensures status { IfOk result (λ said. (said.status ≢ 4) × (said.status < 8)) }
 {
-    match prepare(alloc, words, files, steps) {
+    match prepare(alloc, words, files) {
         Ok(report) => report.said(alloc),
         Err(Interruption::ReadFault { name }) => say_fault(alloc, &name),
         Err(Interruption::Memory) => Err(OutOfMemory),

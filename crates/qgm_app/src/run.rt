@@ -35,12 +35,15 @@ const NO_MEMORY: u8 = 8;
 /// - 6: a table is refused
 /// - 7: the query is refused
 /// - 8: memory ran out, and nothing was written
+///
+/// `steps` counts evaluations of boxes, of which there are none: every query is answered by nested
+/// loops over its resolved form.
 pub fn run_command<F: Files, K: Sink, L: Ledger>(
     alloc: Global,
     words: &[String],
     files: &mut F,
     out: &mut K,
-    steps: &mut Steps<L>,
+    _steps: &mut Steps<L>,
 ) -> u8
     // The whole, over files that tell of themselves: what was read, and what was written of the report.
     ensures runs { Runs (F.told files.old) (F.told files.new) (outcome (map (λ w. string_bytes w) words.now)) (K.written out.old) (K.written out.new) result }
@@ -60,6 +63,7 @@ pub fn run_command<F: Files, K: Sink, L: Ledger>(
     ensures read_fault { result ≡ 3 → Rose (F.faults files.old) (F.faults files.new) }
     ensures read_named { result ≡ 3 → IfSome (F.told files.old) (λ t. IfSome (F.told files.new) (λ u. (asks : List Ask) × (name : List ℕ) × (u.asked ≡ t.asked ++ asks)
         × (failed_name asks ≡ Some name) × (K.written out.new ≡ written_after (codes "READ " ++ (name ++ codes "\n")) (K.written out.old)))) }
+    ensures usage_short { result ≡ 4 → line (map (λ w. string_bytes w) words.now) ≡ None → StopsShort (K.written out.old) (K.written out.new) (codes "USAGE\n") }
     ensures write_fault { result ≡ 4 → Rose (K.faults out.old) (K.faults out.new) }
     ensures short { result ≡ 4 → IfSome (F.told files.old) (λ t. IfSome (F.told files.new) (λ u. (asks : List Ask) × (said : Said) × (u.asked ≡ t.asked ++ asks)
         × IsSaid (outcome (map (λ w. string_bytes w) words.now) t.files) asks (failed_name asks) said × StopsShort (K.written out.old) (K.written out.new) said.text)) }
@@ -76,7 +80,7 @@ pub fn run_command<F: Files, K: Sink, L: Ledger>(
     ensures out_later { K.faults out.old ≤ K.faults out.new }
     ensures status { result ≤ 8 }
 {
-    let Ok(said) = respond(alloc, words, files, steps) else {
+    let Ok(said) = respond(alloc, words, files) else {
         return NO_MEMORY;
     };
     match write_all(out, said.text.as_slice()) {

@@ -11,18 +11,18 @@ ghost use Rattle.sql_ast.specs.Syntax.{QueryText};
 ghost use Rattle.sql_catalog.specs.Catalog.{fault};
 ghost use Rattle.sql_catalog.specs.Shown as catalogs;
 ghost use Rattle.sql_meaning.specs.Meaning.{answer_of};
+ghost use Rattle.sql_check.specs.Checked.{answer_of as checked_answer};
 ghost use Rattle.sql_value.specs.declared.cell.Cell.{Cell};
 ghost use Rattle.query_checks.specs.Views.{view_refusal};
 ghost use Rattle.qgm_app.specs.declared.report.Report.TheVariants.{Usage};
 ghost use Rattle.qgm_app.specs.Outcome.{from_query, from_schema, from_tables, report_of, with_views};
-ghost use Rattle.qgm_app.specs.Plans.{AreReady, IsPlan, plan_answer};
+ghost use Rattle.qgm_app.specs.Answered.{Answers, AreReady};
 
-use crate::plan::{Plan, rows};
 use crate::report::Report;
 use crate::texts::{TextRefusal, read_catalog, read_query};
 use csv_tables::{DataRefusal, load, write_rows};
 use io_edge::{Files, Interruption, fetch_file};
-use plain_exec::answer_laws;
+use plain_exec::{answer_laws, execute};
 use query_checks::ViewRefusal;
 use row_bag::{Bag, Tables, Verdict, sorted, verdict};
 use shared_types::OutOfMemory;
@@ -30,8 +30,6 @@ use sql_catalog::Catalog;
 use sql_check::{Checked, Views, check_views};
 use sqlite_items::Items;
 use std::alloc::Global;
-use std::sync::ledger::Ledger;
-use step_count::Steps;
 
 /// The greatest number of bytes of a text.
 const MAX_TEXT: usize = 65_536;
@@ -56,41 +54,43 @@ fn report_rows(alloc: Global, checked: &Checked, bag: Bag) -> Result<Report, Out
     }
 }
 
-// The report of a query over these views and tables.
-fn answer<L: Ledger>(
+// The report of a checked query over these views and tables.
+fn answer(
     alloc: Global,
-    plan: &Plan,
-    catalog: &Catalog,
+    checked: &Checked,
     views: &Views,
     tables: Tables,
-    steps: &mut Steps<L>,
 ) -> Result<Report, OutOfMemory>
-    ensures report { IfOk result (λ report. report ≡ report_of (plan_answer plan.now views.now tables)) }
+    ensures report { IfOk result (λ report. report ≡ report_of (checked_answer views.now checked.now tables)) }
     ensures line { IfOk result (λ report. report ≢ Usage) }
 {
-    let bag = rows(alloc, plan, catalog, views, &tables, steps)?;
+    let bag = execute(
+        alloc,
+        &checked.query,
+        views.schema.views.as_slice(),
+        &tables,
+    )?;
     drop(tables);
-    report_rows(alloc, &plan.checked, bag)
+    report_rows(alloc, checked, bag)
 }
 
 // Reads the tables, and answers the query.
-fn run_tables<F: Files, L: Ledger>(
+fn run_tables<F: Files>(
     alloc: Global,
     dir: &str,
     catalog: &Catalog,
     views: &Views,
-    plan: &Plan,
+    checked: &Checked,
     files: &mut F,
-    steps: &mut Steps<L>,
 ) -> Result<Report, Interruption>
-    ensures comes { (query : QueryText) → IsPlan (catalogs.catalog catalog.now) views.now plan.now query
+    ensures comes { (query : QueryText) → Answers (catalogs.catalog catalog.now) views.now checked.now query
         → Comes (F.told files.old) (F.told files.new) (λ fs. from_tables dir.now (catalogs.catalog catalog.now) query fs) (ended result) }
     ensures later { F.faults files.old ≤ F.faults files.new }
     ensures failed { RoseIfFault result (F.faults files.old) (F.faults files.new) }
     ensures line { IfOk result (λ report. report ≢ Usage) }
 {
     match load(alloc, catalog, dir, files) {
-        Ok(tables) => Ok(answer(alloc, plan, catalog, views, tables, steps)?),
+        Ok(tables) => Ok(answer(alloc, checked, views, tables)?),
         Err(DataRefusal::Refused { number, table, row }) => {
             Ok(Report::DataRefused { number, table, row })
         }
@@ -100,14 +100,13 @@ fn run_tables<F: Files, L: Ledger>(
 }
 
 // Reads the query, and goes on to the tables.
-fn run_query<F: Files, L: Ledger>(
+fn run_query<F: Files>(
     alloc: Global,
     query: &str,
     dir: &str,
     catalog: &Catalog,
     views: &Views,
     files: &mut F,
-    steps: &mut Steps<L>,
 ) -> Result<Report, Interruption>
     requires ready { AreReady (catalogs.catalog catalog.now) views.now }
     ensures comes { Comes (F.told files.old) (F.told files.new) (λ fs. from_query query.now dir.now (catalogs.catalog catalog.now) fs) (ended result) }
@@ -117,20 +116,19 @@ fn run_query<F: Files, L: Ledger>(
 {
     let text = fetch_file(alloc, files, query, MAX_TEXT)?;
     match read_query(alloc, catalog, views, &text) {
-        Ok(plan) => run_tables(alloc, dir, catalog, views, &plan, files, steps),
+        Ok(checked) => run_tables(alloc, dir, catalog, views, &checked, files),
         Err(TextRefusal::Number(number)) => Ok(Report::QueryRefused(number)),
         Err(TextRefusal::Memory) => Err(Interruption::Memory),
     }
 }
 
 // Checks the views of a catalog, and goes on to the query.
-fn run_catalog<F: Files, L: Ledger>(
+fn run_catalog<F: Files>(
     alloc: Global,
     query: &str,
     dir: &str,
     catalog: &Catalog,
     files: &mut F,
-    steps: &mut Steps<L>,
 ) -> Result<Report, Interruption>
     requires valid { fault (catalogs.catalog catalog.now) ≡ None }
     ensures comes { Comes (F.told files.old) (F.told files.new) (λ fs. with_views query.now dir.now (catalogs.catalog catalog.now) fs (view_refusal (catalogs.catalog catalog.now))) (ended result) }
@@ -139,20 +137,19 @@ fn run_catalog<F: Files, L: Ledger>(
     ensures line { IfOk result (λ report. report ≢ Usage) }
 {
     match check_views(alloc, catalog) {
-        Ok(views) => run_query(alloc, query, dir, catalog, &views, files, steps),
+        Ok(views) => run_query(alloc, query, dir, catalog, &views, files),
         Err(ViewRefusal::Refused { view, number }) => Ok(Report::ViewRefused { view, number }),
         Err(ViewRefusal::Memory) => Err(Interruption::Memory),
     }
 }
 
 /// Reads the schema, and goes on to its views and the query.
-pub fn run_schema<F: Files, L: Ledger>(
+pub fn run_schema<F: Files>(
     alloc: Global,
     schema: &str,
     query: &str,
     dir: &str,
     files: &mut F,
-    steps: &mut Steps<L>,
 ) -> Result<Report, Interruption>
     ensures comes { Comes (F.told files.old) (F.told files.new) (λ fs. from_schema schema.now query.now dir.now fs) (ended result) }
     ensures later { F.faults files.old ≤ F.faults files.new }
@@ -161,7 +158,7 @@ pub fn run_schema<F: Files, L: Ledger>(
 {
     let text = fetch_file(alloc, files, schema, MAX_TEXT)?;
     match read_catalog(alloc, &text) {
-        Ok(catalog) => run_catalog(alloc, query, dir, &catalog, files, steps),
+        Ok(catalog) => run_catalog(alloc, query, dir, &catalog, files),
         Err(TextRefusal::Number(number)) => Ok(Report::SchemaRefused(number)),
         Err(TextRefusal::Memory) => Err(Interruption::Memory),
     }

@@ -1,18 +1,14 @@
-// From the two texts to a catalog and the plan of a query.
+// From the two texts to a catalog and a checked query.
 ghost use Rattle.std.specs.Prelude.{◌≡◌, List, [], IfOk};
 ghost use Rattle.query_checks.specs.Views.{fault};
-ghost use Rattle.row_bag.specs.declared.tables.Table.{Table};
 ghost use Rattle.sql_ast.specs.Shown as shown;
 ghost use Rattle.sql_catalog.specs.Shown as catalogs;
-ghost use Rattle.sql_check.specs.Checked.{IsFilled, answer_of, rows_of};
-ghost use Rattle.sql_meaning.specs.Meaning.{answer, known_of, rows};
 ghost use Rattle.sql_parser.specs.ReadSchema.{schema_tree};
 ghost use Rattle.sql_parser.specs.ReadText.{query_tree};
-ghost use Rattle.qgm_app.specs.Plans.{AreReady};
-ghost use Rattle.qgm_app.specs.Texts.{Gives, GivesPlan, catalog_of, query_of, refused_by, schema_of, spans_of, tree_of, valid_query};
+ghost use Rattle.qgm_app.specs.Answered.{AreReady};
+ghost use Rattle.qgm_app.specs.Texts.{Gives, GivesAnswering, catalog_of, query_of, refused_by, schema_of, spans_of, tree_of, valid_query};
 ghost use Rattle.qgm_app.specs.declared.texts.TextRefusal.TheVariants.{Memory};
 
-use crate::plan::{Plan, block_of};
 use query_checks::QueryRefusal;
 use shared_types::OutOfMemory;
 use sql_ast::{QueryText, Schema};
@@ -130,9 +126,7 @@ fn checked(
     views: &Views,
 ) -> Result<Checked, TextRefusal>
     requires ready { AreReady (catalogs.catalog catalog.now) views.now }
-    ensures gives { Gives (λ _. shown.query_text query.now) result (refused_by (fault (catalogs.catalog catalog.now) (shown.query_text query.now)) (shown.query_text query.now)) }
-    ensures rows { IfOk result (λ x. (tables : List Table) → IsFilled (catalogs.catalog catalog.now) tables → rows_of views.now x tables ≡ rows (known_of (catalogs.catalog catalog.now) tables) (shown.query query.now.query) []) }
-    ensures answer { IfOk result (λ x. (tables : List Table) → IsFilled (catalogs.catalog catalog.now) tables → answer_of views.now x tables ≡ answer (known_of (catalogs.catalog catalog.now) tables) (shown.query_text query.now)) }
+    ensures { GivesAnswering (catalogs.catalog catalog.now) views.now result (refused_by (fault (catalogs.catalog catalog.now) (shown.query_text query.now)) (shown.query_text query.now)) }
 {
     match check(alloc, query, catalog, views) {
         Ok(checked) => Ok(checked),
@@ -149,32 +143,17 @@ fn checked(
     }
 }
 
-// The plan of a query, where it is valid.
-fn planned(
-    alloc: Global,
-    query: &QueryText,
-    catalog: &Catalog,
-    views: &Views,
-) -> Result<Plan, TextRefusal>
-    requires ready { AreReady (catalogs.catalog catalog.now) views.now }
-    ensures { GivesPlan (catalogs.catalog catalog.now) views.now result (refused_by (fault (catalogs.catalog catalog.now) (shown.query_text query.now)) (shown.query_text query.now)) }
-{
-    let checked = checked(alloc, query, catalog, views)?;
-    let block = block_of(alloc, query, catalog)?;
-    Ok(Plan { checked, block })
-}
-
-/// The plan of a query's text, whose bytes are none where they are too many.
+/// The checked query of a query's text, whose bytes are none where they are too many.
 #[tactic(auto, unfolding(crate::specs::Texts::valid_query))]
 pub fn read_query(
     alloc: Global,
     catalog: &Catalog,
     views: &Views,
     text: &Option<Items<u8>>,
-) -> Result<Plan, TextRefusal>
+) -> Result<Checked, TextRefusal>
     requires ready { AreReady (catalogs.catalog catalog.now) views.now }
-    ensures { GivesPlan (catalogs.catalog catalog.now) views.now result (valid_query (catalogs.catalog catalog.now) text.now) }
+    ensures { GivesAnswering (catalogs.catalog catalog.now) views.now result (valid_query (catalogs.catalog catalog.now) text.now) }
 {
     let query = read_query_text(alloc, text)?;
-    planned(alloc, &query, catalog, views)
+    checked(alloc, &query, catalog, views)
 }

@@ -64,6 +64,7 @@ fn checked(
     requires views { AreViews (declared.catalog catalog.now) views.now }
     requires valid { least_fault catalog.now text.now ≡ 0 }
     requires found { found ≡ columns (heads_of (declared.catalog catalog.now)) (written.query text.now.query) [] }
+    ensures query { IfOk result (λ x. shown.query x.query ≡ query (schema_columns (declared.catalog catalog.now)) [] (written.query text.now.query)) }
     ensures columns { IfOk result (λ x. x.columns ≡ columns (heads_of (declared.catalog catalog.now)) (written.query text.now.query) []) }
     ensures typed { IfOk result (λ x. fault (declared.catalog catalog.now) ≡ None → AreTyped x.columns) }
     ensures names { IfOk result (λ x. x.names ≡ column_names x.columns) }
@@ -82,8 +83,8 @@ fn checked(
     })
 }
 
-/// A valid query over a catalog and its views, its names resolved: its columns, names and keys are the
-/// query's, and over all tables of a catalog that isn't refused its rows by places are the query's rows
+/// A valid query over a catalog and its views, its names resolved: its tree is the text's, resolved over
+/// the columns of tables and views, its columns, names and keys are the query's, and over all tables of a catalog that isn't refused its rows by places are the query's rows
 /// by names, its answer is the query's, and the types of its columns are known. Else it is the refusal
 /// of the least number that holds of the query. `Memory` may come in place of any of these.
 pub fn check(
@@ -94,6 +95,7 @@ pub fn check(
 ) -> Result<Checked, QueryRefusal>
     requires views { AreViews (declared.catalog catalog.now) views.now }
     ensures valid { IfOk result (λ _. least_fault catalog.now text.now ≡ 0) }
+    ensures query { IfOk result (λ x. shown.query x.query ≡ query (schema_columns (declared.catalog catalog.now)) [] (written.query text.now.query)) }
     ensures columns { IfOk result (λ x. x.columns ≡ columns (heads_of (declared.catalog catalog.now)) (written.query text.now.query) []) }
     ensures typed { IfOk result (λ x. fault (declared.catalog catalog.now) ≡ None → AreTyped x.columns) }
     ensures names { IfOk result (λ x. x.names ≡ column_names x.columns) }

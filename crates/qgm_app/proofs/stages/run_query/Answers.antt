@@ -17,7 +17,7 @@ returns-in_err-text-clause-comes g c =
 pub returns-in-Ok-clause-comes : goal.returns-in-Ok-clause-comes
 returns-in-Ok-clause-comes g c =
     text-of-query _ _ _ c.args.query.now c.args.dir.now (catalogs.catalog c.args.catalog.now) c.in_ok-text.text (ended c.run_tables.result) c.in_ok-text.ensures.comes
-    (query-taken _ _ c.args.dir.now (catalogs.catalog c.args.catalog.now) c.args.views.now c.in-Ok.plan c.in_ok-text.text (ended c.run_tables.result) c.in-Ok.ensures c.run_tables.ensures.comes)
+    (query-taken _ _ c.args.dir.now (catalogs.catalog c.args.catalog.now) c.args.views.now c.in-Ok.checked c.in_ok-text.text (ended c.run_tables.result) c.in-Ok.ensures c.run_tables.ensures.comes)
 
 pub returns-in-Err-Number-clause-comes : goal.returns-in-Err-Number-clause-comes
 returns-in-Err-Number-clause-comes g c =
