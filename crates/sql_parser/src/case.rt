@@ -60,7 +60,7 @@ impl<
         requires cond { Nests shown.cond (read.cond self.now.depth) self.now.depth (C.pre self.now.cond) (C.post self.now.cond) }
         requires query { Nests shown.query (read.query self.now.depth) self.now.depth (Q.pre self.now.query) (Q.post self.now.query) }
         requires table { Nests shown.table (read.table self.now.depth) self.now.depth (T.pre self.now.table) (T.post self.now.table) }
-        ensures { Gives (λ x. ((shown.cond x.0.when, shown.res x.0.then), token_list x.1.now)) result (read.at_depth self.now.depth read.then_res (shown.cond when) (token_list ts.now)) }
+        ensures { Gives (λ x. ((shown.cond x.0.when, shown.res x.0.then), token_list x.1.now)) result (read.then_res (read.expr self.now.depth) (read.cond self.now.depth) (read.query self.now.depth) (read.table self.now.depth) (shown.cond when) (token_list ts.now)) }
     {
         match first(ts) {
             Some((Token::Key(Key::Then), rest)) => {
@@ -121,7 +121,7 @@ impl<
         requires cond { Nests shown.cond (read.cond self.now.depth) self.now.depth (C.pre self.now.cond) (C.post self.now.cond) }
         requires query { Nests shown.query (read.query self.now.depth) self.now.depth (Q.pre self.now.query) (Q.post self.now.query) }
         requires table { Nests shown.table (read.table self.now.depth) self.now.depth (T.pre self.now.table) (T.post self.now.table) }
-        ensures { Gives (λ x. ((shown.expr x.0.when, shown.res x.0.then), token_list x.1.now)) result (read.at_depth self.now.depth read.then_res (shown.expr when) (token_list ts.now)) }
+        ensures { Gives (λ x. ((shown.expr x.0.when, shown.res x.0.then), token_list x.1.now)) result (read.then_res (read.expr self.now.depth) (read.cond self.now.depth) (read.query self.now.depth) (read.table self.now.depth) (shown.expr when) (token_list ts.now)) }
     {
         match first(ts) {
             Some((Token::Key(Key::Then), rest)) => {
