@@ -66,7 +66,8 @@ fn run<L: Ledger>(
 }
 
 fn run_line(alloc: Global, line: &str, failing: &[u64], room: usize) -> Result<Ran, Fail> {
-    run::<Brand>(alloc, Blank::new(1), line, failing, room)
+    let ran = run::<Brand>(alloc, Blank::new(1), line, failing, room)?;
+    Ok(ran)
 }
 
 #[test]

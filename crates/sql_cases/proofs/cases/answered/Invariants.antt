@@ -1,0 +1,4 @@
+use Rattle.sql_cases.proofs.cases.answered.Given as goal
+
+abbrev pub ghosts-run : goal.ghosts-run
+ghosts-run a = record { name = a.blank.name; parts = a.blank.parts }
