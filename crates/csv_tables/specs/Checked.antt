@@ -36,3 +36,7 @@ checked t rows rs = do
 abbrev pub left : Bool → Fields → List Fields → List Fields
 left true fields rs = fields ∷ rs
 left false fields rs = []
+
+-- under any keys, reading these records comes to checking the rows that were taken, and then the records that are left
+abbrev pub TakesRows : TableDescriptor → List Fields → List (Row (List Cell)) → List Fields → Type 0
+TakesRows keyless records rows rest = (keys : List KeyDescriptor) → rows_after (with_keys keyless keys) [] records ≡ checked (with_keys keyless keys) rows rest

@@ -213,7 +213,7 @@ fn take_rows(
     requires keys { keyless.now.keys ≡ [] }
     requires rows { rows.old ≡ [] }
     ensures few { OnOk result (length rows.new ≤ 1000000) }
-    ensures rows { IfOk result (λ stopped. (keys : List KeyDescriptor) → spec.rows_after (checked.with_keys keyless.now keys) [] records.old ≡ checked.checked (checked.with_keys keyless.now keys) rows.new (checked.left stopped (fields_of fields.new) records.new)) }
+    ensures rows { IfOk result (λ stopped. checked.TakesRows keyless.now records.old rows.new (checked.left stopped (fields_of fields.new) records.new)) }
     ensures stops { IfOk result (λ stopped. stopped ≡ true → IsErr (spec.row_after keyless.now rows.new (fields_of fields.new))) }
 {
     let mut seen = Vec::new(alloc);

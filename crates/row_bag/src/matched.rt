@@ -115,7 +115,7 @@ fn parted(
 
 // The rows of the first bag, or each of its tuples once.
 fn all_or_once(bag: Bag, all: bool) -> Result<Bag, OutOfMemory>
-    ensures { IfOk result (λ rows. (c : List Cell) → multiplicity same_cells c rows ≡ (if all then multiplicity same_cells c bag else min 1 (multiplicity same_cells c bag))) }
+    ensures { IfOk result (λ rows. (c : List Cell) → multiplicity same_cells c rows ≡ spec.all_or_once all (multiplicity same_cells c bag)) }
 {
     if all { Ok(bag) } else { distinct(bag) }
 }
@@ -129,7 +129,7 @@ pub(crate) fn matching(
     all: bool,
     matched: bool,
 ) -> Result<Bag, OutOfMemory>
-    ensures { IfOk result (λ rows. (c : List Cell) → (l : Level) → count same_cells c l rows ≡ (if same_level Level.Yes l then spec.part matched (if all then multiplicity same_cells c a else min 1 (multiplicity same_cells c a)) (multiplicity same_cells c b) else 0)) }
+    ensures { IfOk result (λ rows. spec.AreMatched all matched a b rows) }
 {
     let xs = ascending_there(alloc, all_or_once(a, all)?)?;
     let ys = ascending_there(alloc, b)?;

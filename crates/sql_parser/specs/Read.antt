@@ -458,3 +458,7 @@ abbrev mutual
   pub table : ℕ → Parser s.TableRef
   table zero ts = None
   table (suc d) ts = tref (expr d) (cond d) (query d) (table d) ts
+
+-- a reader of a line, with the readers of what stands in brackets so many levels deep
+abbrev pub at_depth : {A : Type 0} → ℕ → (Parser s.Expr → Parser s.Cond → Parser s.Query → Parser s.TableRef → A) → A
+at_depth depth reader = reader (expr depth) (cond depth) (query depth) (table depth)

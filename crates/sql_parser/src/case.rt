@@ -39,7 +39,7 @@ impl<
         requires cond { Nests shown.cond (read.cond self.now.depth) self.now.depth (C.pre self.now.cond) (C.post self.now.cond) }
         requires query { Nests shown.query (read.query self.now.depth) self.now.depth (Q.pre self.now.query) (Q.post self.now.query) }
         requires table { Nests shown.table (read.table self.now.depth) self.now.depth (T.pre self.now.table) (T.post self.now.table) }
-        ensures { Gives (λ x. (shown.res x.0, token_list x.1.now)) result (read.res (read.expr self.now.depth) (read.cond self.now.depth) (read.query self.now.depth) (read.table self.now.depth) (token_list ts.now)) }
+        ensures { Gives (λ x. (shown.res x.0, token_list x.1.now)) result (read.at_depth self.now.depth read.res (token_list ts.now)) }
     {
         match first(ts) {
             Some((Token::Key(Key::Null), rest)) => Ok((Res::Null, rest)),
@@ -60,7 +60,7 @@ impl<
         requires cond { Nests shown.cond (read.cond self.now.depth) self.now.depth (C.pre self.now.cond) (C.post self.now.cond) }
         requires query { Nests shown.query (read.query self.now.depth) self.now.depth (Q.pre self.now.query) (Q.post self.now.query) }
         requires table { Nests shown.table (read.table self.now.depth) self.now.depth (T.pre self.now.table) (T.post self.now.table) }
-        ensures { Gives (λ x. ((shown.cond x.0.when, shown.res x.0.then), token_list x.1.now)) result (read.then_res (read.expr self.now.depth) (read.cond self.now.depth) (read.query self.now.depth) (read.table self.now.depth) (shown.cond when) (token_list ts.now)) }
+        ensures { Gives (λ x. ((shown.cond x.0.when, shown.res x.0.then), token_list x.1.now)) result (read.at_depth self.now.depth read.then_res (shown.cond when) (token_list ts.now)) }
     {
         match first(ts) {
             Some((Token::Key(Key::Then), rest)) => {
@@ -77,7 +77,7 @@ impl<
         requires cond { Nests shown.cond (read.cond self.now.depth) self.now.depth (C.pre self.now.cond) (C.post self.now.cond) }
         requires query { Nests shown.query (read.query self.now.depth) self.now.depth (Q.pre self.now.query) (Q.post self.now.query) }
         requires table { Nests shown.table (read.table self.now.depth) self.now.depth (T.pre self.now.table) (T.post self.now.table) }
-        ensures { Gives (λ x. ((shown.cond x.0.when, shown.res x.0.then), token_list x.1.now)) result (read.arm (read.expr self.now.depth) (read.cond self.now.depth) (read.query self.now.depth) (read.table self.now.depth) (token_list ts.now)) }
+        ensures { Gives (λ x. ((shown.cond x.0.when, shown.res x.0.then), token_list x.1.now)) result (read.at_depth self.now.depth read.arm (token_list ts.now)) }
     {
         let (when, rest) = self.nested_cond(ts)?;
         self.then_arm(when, rest)
@@ -89,7 +89,7 @@ impl<
         requires cond { Nests shown.cond (read.cond self.now.depth) self.now.depth (C.pre self.now.cond) (C.post self.now.cond) }
         requires query { Nests shown.query (read.query self.now.depth) self.now.depth (Q.pre self.now.query) (Q.post self.now.query) }
         requires table { Nests shown.table (read.table self.now.depth) self.now.depth (T.pre self.now.table) (T.post self.now.table) }
-        ensures { Gives (λ x. (shown.arm_list x.0, token_list x.1.now)) result (read.arms (read.expr self.now.depth) (read.cond self.now.depth) (read.query self.now.depth) (read.table self.now.depth) (token_list ts.now)) }
+        ensures { Gives (λ x. (shown.arm_list x.0, token_list x.1.now)) result (read.at_depth self.now.depth read.arms (token_list ts.now)) }
     {
         let Some(after) = after_when(ts) else {
             return Err(ParseRefusal::Syntax);
@@ -121,7 +121,7 @@ impl<
         requires cond { Nests shown.cond (read.cond self.now.depth) self.now.depth (C.pre self.now.cond) (C.post self.now.cond) }
         requires query { Nests shown.query (read.query self.now.depth) self.now.depth (Q.pre self.now.query) (Q.post self.now.query) }
         requires table { Nests shown.table (read.table self.now.depth) self.now.depth (T.pre self.now.table) (T.post self.now.table) }
-        ensures { Gives (λ x. ((shown.expr x.0.when, shown.res x.0.then), token_list x.1.now)) result (read.then_res (read.expr self.now.depth) (read.cond self.now.depth) (read.query self.now.depth) (read.table self.now.depth) (shown.expr when) (token_list ts.now)) }
+        ensures { Gives (λ x. ((shown.expr x.0.when, shown.res x.0.then), token_list x.1.now)) result (read.at_depth self.now.depth read.then_res (shown.expr when) (token_list ts.now)) }
     {
         match first(ts) {
             Some((Token::Key(Key::Then), rest)) => {
@@ -138,7 +138,7 @@ impl<
         requires cond { Nests shown.cond (read.cond self.now.depth) self.now.depth (C.pre self.now.cond) (C.post self.now.cond) }
         requires query { Nests shown.query (read.query self.now.depth) self.now.depth (Q.pre self.now.query) (Q.post self.now.query) }
         requires table { Nests shown.table (read.table self.now.depth) self.now.depth (T.pre self.now.table) (T.post self.now.table) }
-        ensures { Gives (λ x. ((shown.expr x.0.when, shown.res x.0.then), token_list x.1.now)) result (read.choice (read.expr self.now.depth) (read.cond self.now.depth) (read.query self.now.depth) (read.table self.now.depth) (token_list ts.now)) }
+        ensures { Gives (λ x. ((shown.expr x.0.when, shown.res x.0.then), token_list x.1.now)) result (read.at_depth self.now.depth read.choice (token_list ts.now)) }
     {
         let (when, rest) = self.nested_expr(ts)?;
         self.then_choice(when, rest)
@@ -150,7 +150,7 @@ impl<
         requires cond { Nests shown.cond (read.cond self.now.depth) self.now.depth (C.pre self.now.cond) (C.post self.now.cond) }
         requires query { Nests shown.query (read.query self.now.depth) self.now.depth (Q.pre self.now.query) (Q.post self.now.query) }
         requires table { Nests shown.table (read.table self.now.depth) self.now.depth (T.pre self.now.table) (T.post self.now.table) }
-        ensures { Gives (λ x. (shown.choice_list x.0, token_list x.1.now)) result (read.choices (read.expr self.now.depth) (read.cond self.now.depth) (read.query self.now.depth) (read.table self.now.depth) (token_list ts.now)) }
+        ensures { Gives (λ x. (shown.choice_list x.0, token_list x.1.now)) result (read.at_depth self.now.depth read.choices (token_list ts.now)) }
     {
         let Some(after) = after_when(ts) else {
             return Err(ParseRefusal::Syntax);
@@ -178,7 +178,7 @@ impl<
         requires cond { Nests shown.cond (read.cond self.now.depth) self.now.depth (C.pre self.now.cond) (C.post self.now.cond) }
         requires query { Nests shown.query (read.query self.now.depth) self.now.depth (Q.pre self.now.query) (Q.post self.now.query) }
         requires table { Nests shown.table (read.table self.now.depth) self.now.depth (T.pre self.now.table) (T.post self.now.table) }
-        ensures { Gives (λ x. (shown.otherwise x.0, token_list x.1.now)) result (read.otherwise (read.expr self.now.depth) (read.cond self.now.depth) (read.query self.now.depth) (read.table self.now.depth) (token_list ts.now)) }
+        ensures { Gives (λ x. (shown.otherwise x.0, token_list x.1.now)) result (read.at_depth self.now.depth read.otherwise (token_list ts.now)) }
     {
         match first(ts) {
             Some((Token::Key(Key::Else), rest)) => {
@@ -196,7 +196,7 @@ impl<
         requires cond { Nests shown.cond (read.cond self.now.depth) self.now.depth (C.pre self.now.cond) (C.post self.now.cond) }
         requires query { Nests shown.query (read.query self.now.depth) self.now.depth (Q.pre self.now.query) (Q.post self.now.query) }
         requires table { Nests shown.table (read.table self.now.depth) self.now.depth (T.pre self.now.table) (T.post self.now.table) }
-        ensures { Gives (λ x. (shown.expr x.0, token_list x.1.now)) result (read.searched (read.expr self.now.depth) (read.cond self.now.depth) (read.query self.now.depth) (read.table self.now.depth) (token_list ts.now)) }
+        ensures { Gives (λ x. (shown.expr x.0, token_list x.1.now)) result (read.at_depth self.now.depth read.searched (token_list ts.now)) }
     {
         let (arms, rest) = self.arms(ts)?;
         let (otherwise, rest) = self.otherwise(rest)?;
@@ -213,7 +213,7 @@ impl<
         requires cond { Nests shown.cond (read.cond self.now.depth) self.now.depth (C.pre self.now.cond) (C.post self.now.cond) }
         requires query { Nests shown.query (read.query self.now.depth) self.now.depth (Q.pre self.now.query) (Q.post self.now.query) }
         requires table { Nests shown.table (read.table self.now.depth) self.now.depth (T.pre self.now.table) (T.post self.now.table) }
-        ensures { Gives (λ x. (shown.expr x.0, token_list x.1.now)) result (read.simple (read.expr self.now.depth) (read.cond self.now.depth) (read.query self.now.depth) (read.table self.now.depth) (token_list ts.now)) }
+        ensures { Gives (λ x. (shown.expr x.0, token_list x.1.now)) result (read.at_depth self.now.depth read.simple (token_list ts.now)) }
     {
         let (operand, rest) = self.nested_expr(ts)?;
         let operand = Box::new(self.alloc, operand)?;
@@ -234,7 +234,7 @@ impl<
         requires cond { Nests shown.cond (read.cond self.now.depth) self.now.depth (C.pre self.now.cond) (C.post self.now.cond) }
         requires query { Nests shown.query (read.query self.now.depth) self.now.depth (Q.pre self.now.query) (Q.post self.now.query) }
         requires table { Nests shown.table (read.table self.now.depth) self.now.depth (T.pre self.now.table) (T.post self.now.table) }
-        ensures { Gives (λ x. (shown.expr x.0, token_list x.1.now)) result (read.case (read.expr self.now.depth) (read.cond self.now.depth) (read.query self.now.depth) (read.table self.now.depth) (token_list ts.now)) }
+        ensures { Gives (λ x. (shown.expr x.0, token_list x.1.now)) result (read.at_depth self.now.depth read.case (token_list ts.now)) }
     {
         match first(ts) {
             Some((Token::Key(Key::When), _)) => self.searched(ts),

@@ -79,7 +79,7 @@ impl<
         requires cond { Nests shown.cond (read.cond self.now.depth) self.now.depth (C.pre self.now.cond) (C.post self.now.cond) }
         requires query { Nests shown.query (read.query self.now.depth) self.now.depth (Q.pre self.now.query) (Q.post self.now.query) }
         requires table { Nests shown.table (read.table self.now.depth) self.now.depth (T.pre self.now.table) (T.post self.now.table) }
-        ensures { Gives (λ x. (shown.cond x.0, token_list x.1.now)) result (read.upper (read.expr self.now.depth) (read.cond self.now.depth) (read.query self.now.depth) (read.table self.now.depth) (shown.expr operand.value) negative (shown.expr low) (token_list ts.now)) }
+        ensures { Gives (λ x. (shown.cond x.0, token_list x.1.now)) result (read.at_depth self.now.depth read.upper (shown.expr operand.value) negative (shown.expr low) (token_list ts.now)) }
     {
         let low = Box::new(self.alloc, low)?;
         match first(ts) {
@@ -103,7 +103,7 @@ impl<
         requires cond { Nests shown.cond (read.cond self.now.depth) self.now.depth (C.pre self.now.cond) (C.post self.now.cond) }
         requires query { Nests shown.query (read.query self.now.depth) self.now.depth (Q.pre self.now.query) (Q.post self.now.query) }
         requires table { Nests shown.table (read.table self.now.depth) self.now.depth (T.pre self.now.table) (T.post self.now.table) }
-        ensures { Gives (λ x. (shown.cond x.0, token_list x.1.now)) result (read.between (read.expr self.now.depth) (read.cond self.now.depth) (read.query self.now.depth) (read.table self.now.depth) (shown.expr operand.value) negative (token_list ts.now)) }
+        ensures { Gives (λ x. (shown.cond x.0, token_list x.1.now)) result (read.at_depth self.now.depth read.between (shown.expr operand.value) negative (token_list ts.now)) }
     {
         let (low, rest) = self.sum(ts)?;
         self.upper(operand, negative, low, rest)
@@ -121,7 +121,7 @@ impl<
         requires cond { Nests shown.cond (read.cond self.now.depth) self.now.depth (C.pre self.now.cond) (C.post self.now.cond) }
         requires query { Nests shown.query (read.query self.now.depth) self.now.depth (Q.pre self.now.query) (Q.post self.now.query) }
         requires table { Nests shown.table (read.table self.now.depth) self.now.depth (T.pre self.now.table) (T.post self.now.table) }
-        ensures { Gives (λ x. (shown.cond x.0, token_list x.1.now)) result (read.in_after (read.expr self.now.depth) (read.cond self.now.depth) (read.query self.now.depth) (read.table self.now.depth) (shown.expr operand.value) negative (token_list ts.now)) }
+        ensures { Gives (λ x. (shown.cond x.0, token_list x.1.now)) result (read.at_depth self.now.depth read.in_after (shown.expr operand.value) negative (token_list ts.now)) }
     {
         match first(ts) {
             Some((Token::LeftParen, rest)) => {
@@ -151,7 +151,7 @@ impl<
         requires cond { Nests shown.cond (read.cond self.now.depth) self.now.depth (C.pre self.now.cond) (C.post self.now.cond) }
         requires query { Nests shown.query (read.query self.now.depth) self.now.depth (Q.pre self.now.query) (Q.post self.now.query) }
         requires table { Nests shown.table (read.table self.now.depth) self.now.depth (T.pre self.now.table) (T.post self.now.table) }
-        ensures { Gives (λ x. (shown.cond x.0, token_list x.1.now)) result (read.negatable (read.expr self.now.depth) (read.cond self.now.depth) (read.query self.now.depth) (read.table self.now.depth) (shown.expr operand.value) negative (token_list ts.now)) }
+        ensures { Gives (λ x. (shown.cond x.0, token_list x.1.now)) result (read.at_depth self.now.depth read.negatable (shown.expr operand.value) negative (token_list ts.now)) }
     {
         match first(ts) {
             Some((Token::Key(Key::Between), rest)) => self.between(operand, negative, rest),
@@ -176,7 +176,7 @@ impl<
         requires cond { Nests shown.cond (read.cond self.now.depth) self.now.depth (C.pre self.now.cond) (C.post self.now.cond) }
         requires query { Nests shown.query (read.query self.now.depth) self.now.depth (Q.pre self.now.query) (Q.post self.now.query) }
         requires table { Nests shown.table (read.table self.now.depth) self.now.depth (T.pre self.now.table) (T.post self.now.table) }
-        ensures { Gives (λ x. (shown.cond x.0, token_list x.1.now)) result (read.compared (read.expr self.now.depth) (read.cond self.now.depth) (read.query self.now.depth) (read.table self.now.depth) (shown.expr operand.value) op (token_list ts.now)) }
+        ensures { Gives (λ x. (shown.cond x.0, token_list x.1.now)) result (read.at_depth self.now.depth read.compared (shown.expr operand.value) op (token_list ts.now)) }
     {
         match quantifier_at(ts) {
             None => {
@@ -207,7 +207,7 @@ impl<
         requires cond { Nests shown.cond (read.cond self.now.depth) self.now.depth (C.pre self.now.cond) (C.post self.now.cond) }
         requires query { Nests shown.query (read.query self.now.depth) self.now.depth (Q.pre self.now.query) (Q.post self.now.query) }
         requires table { Nests shown.table (read.table self.now.depth) self.now.depth (T.pre self.now.table) (T.post self.now.table) }
-        ensures { Gives (λ x. (shown.cond x.0, token_list x.1.now)) result (read.null_word (read.expr self.now.depth) (read.cond self.now.depth) (read.query self.now.depth) (read.table self.now.depth) (shown.expr operand.value) negative (token_list ts.now)) }
+        ensures { Gives (λ x. (shown.cond x.0, token_list x.1.now)) result (read.at_depth self.now.depth read.null_word (shown.expr operand.value) negative (token_list ts.now)) }
     {
         match first(ts) {
             Some((Token::Key(Key::Null), rest)) => Ok((Cond::IsNull(operand, negative), rest)),
@@ -225,7 +225,7 @@ impl<
         requires cond { Nests shown.cond (read.cond self.now.depth) self.now.depth (C.pre self.now.cond) (C.post self.now.cond) }
         requires query { Nests shown.query (read.query self.now.depth) self.now.depth (Q.pre self.now.query) (Q.post self.now.query) }
         requires table { Nests shown.table (read.table self.now.depth) self.now.depth (T.pre self.now.table) (T.post self.now.table) }
-        ensures { Gives (λ x. (shown.cond x.0, token_list x.1.now)) result (read.pred_after (read.expr self.now.depth) (read.cond self.now.depth) (read.query self.now.depth) (read.table self.now.depth) (shown.expr operand) (token_list ts.now)) }
+        ensures { Gives (λ x. (shown.cond x.0, token_list x.1.now)) result (read.at_depth self.now.depth read.pred_after (shown.expr operand) (token_list ts.now)) }
     {
         let operand = Box::new(self.alloc, operand)?;
         match first(ts) {
@@ -247,7 +247,7 @@ impl<
         requires cond { Nests shown.cond (read.cond self.now.depth) self.now.depth (C.pre self.now.cond) (C.post self.now.cond) }
         requires query { Nests shown.query (read.query self.now.depth) self.now.depth (Q.pre self.now.query) (Q.post self.now.query) }
         requires table { Nests shown.table (read.table self.now.depth) self.now.depth (T.pre self.now.table) (T.post self.now.table) }
-        ensures { Gives (λ x. (shown.cond x.0, token_list x.1.now)) result (read.sub (read.expr self.now.depth) (read.cond self.now.depth) (read.query self.now.depth) (read.table self.now.depth) s.exists (token_list ts.now)) }
+        ensures { Gives (λ x. (shown.cond x.0, token_list x.1.now)) result (read.at_depth self.now.depth read.sub s.exists (token_list ts.now)) }
     {
         match first(ts) {
             Some((Token::LeftParen, rest)) => {
@@ -266,7 +266,7 @@ impl<
         requires cond { Nests shown.cond (read.cond self.now.depth) self.now.depth (C.pre self.now.cond) (C.post self.now.cond) }
         requires query { Nests shown.query (read.query self.now.depth) self.now.depth (Q.pre self.now.query) (Q.post self.now.query) }
         requires table { Nests shown.table (read.table self.now.depth) self.now.depth (T.pre self.now.table) (T.post self.now.table) }
-        ensures { Gives (λ x. (shown.cond x.0, token_list x.1.now)) result (read.pred (read.expr self.now.depth) (read.cond self.now.depth) (read.query self.now.depth) (read.table self.now.depth) (token_list ts.now)) }
+        ensures { Gives (λ x. (shown.cond x.0, token_list x.1.now)) result (read.at_depth self.now.depth read.pred (token_list ts.now)) }
     {
         match after_exists(ts) {
             Some(rest) => self.exists(rest),
@@ -283,7 +283,7 @@ impl<
         requires cond { Nests shown.cond (read.cond self.now.depth) self.now.depth (C.pre self.now.cond) (C.post self.now.cond) }
         requires query { Nests shown.query (read.query self.now.depth) self.now.depth (Q.pre self.now.query) (Q.post self.now.query) }
         requires table { Nests shown.table (read.table self.now.depth) self.now.depth (T.pre self.now.table) (T.post self.now.table) }
-        ensures { Gives (λ x. (shown.cond x.0, token_list x.1.now)) result (read.bracket (read.expr self.now.depth) (read.cond self.now.depth) (read.query self.now.depth) (read.table self.now.depth) (token_list ts.now)) }
+        ensures { Gives (λ x. (shown.cond x.0, token_list x.1.now)) result (read.at_depth self.now.depth read.bracket (token_list ts.now)) }
     {
         match first(ts) {
             Some((Token::LeftParen, rest)) => {
@@ -302,7 +302,7 @@ impl<
         requires cond { Nests shown.cond (read.cond self.now.depth) self.now.depth (C.pre self.now.cond) (C.post self.now.cond) }
         requires query { Nests shown.query (read.query self.now.depth) self.now.depth (Q.pre self.now.query) (Q.post self.now.query) }
         requires table { Nests shown.table (read.table self.now.depth) self.now.depth (T.pre self.now.table) (T.post self.now.table) }
-        ensures { Gives (λ x. (shown.cond x.0, token_list x.1.now)) result (read.test (read.expr self.now.depth) (read.cond self.now.depth) (read.query self.now.depth) (read.table self.now.depth) (token_list ts.now)) }
+        ensures { Gives (λ x. (shown.cond x.0, token_list x.1.now)) result (read.at_depth self.now.depth read.test (token_list ts.now)) }
     {
         if opens_cond(ts) {
             self.bracket(ts)
@@ -317,7 +317,7 @@ impl<
         requires cond { Nests shown.cond (read.cond self.now.depth) self.now.depth (C.pre self.now.cond) (C.post self.now.cond) }
         requires query { Nests shown.query (read.query self.now.depth) self.now.depth (Q.pre self.now.query) (Q.post self.now.query) }
         requires table { Nests shown.table (read.table self.now.depth) self.now.depth (T.pre self.now.table) (T.post self.now.table) }
-        ensures { Gives (λ x. (shown.cond x.0, token_list x.1.now)) result (read.neg (read.expr self.now.depth) (read.cond self.now.depth) (read.query self.now.depth) (read.table self.now.depth) (token_list ts.now)) }
+        ensures { Gives (λ x. (shown.cond x.0, token_list x.1.now)) result (read.at_depth self.now.depth read.neg (token_list ts.now)) }
     {
         match after_not(ts) {
             Some(rest) => {
@@ -334,7 +334,7 @@ impl<
         requires cond { Nests shown.cond (read.cond self.now.depth) self.now.depth (C.pre self.now.cond) (C.post self.now.cond) }
         requires query { Nests shown.query (read.query self.now.depth) self.now.depth (Q.pre self.now.query) (Q.post self.now.query) }
         requires table { Nests shown.table (read.table self.now.depth) self.now.depth (T.pre self.now.table) (T.post self.now.table) }
-        ensures { Gives (λ x. (shown.cond x.0, token_list x.1.now)) result (read.conj (read.expr self.now.depth) (read.cond self.now.depth) (read.query self.now.depth) (read.table self.now.depth) (token_list ts.now)) }
+        ensures { Gives (λ x. (shown.cond x.0, token_list x.1.now)) result (read.at_depth self.now.depth read.conj (token_list ts.now)) }
     {
         let (mut left, mut rest) = self.neg(ts)?;
         'negs: for _turn in 0..ts.len() {
@@ -356,7 +356,7 @@ impl<
         requires cond { Nests shown.cond (read.cond self.now.depth) self.now.depth (C.pre self.now.cond) (C.post self.now.cond) }
         requires query { Nests shown.query (read.query self.now.depth) self.now.depth (Q.pre self.now.query) (Q.post self.now.query) }
         requires table { Nests shown.table (read.table self.now.depth) self.now.depth (T.pre self.now.table) (T.post self.now.table) }
-        ensures { Gives (λ x. (shown.cond x.0, token_list x.1.now)) result (read.disj (read.expr self.now.depth) (read.cond self.now.depth) (read.query self.now.depth) (read.table self.now.depth) (token_list ts.now)) }
+        ensures { Gives (λ x. (shown.cond x.0, token_list x.1.now)) result (read.at_depth self.now.depth read.disj (token_list ts.now)) }
     {
         let (mut left, mut rest) = self.conj(ts)?;
         'conjs: for _turn in 0..ts.len() {
@@ -381,7 +381,7 @@ impl<
         requires cond { Nests shown.cond (read.cond self.now.depth) self.now.depth (C.pre self.now.cond) (C.post self.now.cond) }
         requires query { Nests shown.query (read.query self.now.depth) self.now.depth (Q.pre self.now.query) (Q.post self.now.query) }
         requires table { Nests shown.table (read.table self.now.depth) self.now.depth (T.pre self.now.table) (T.post self.now.table) }
-        ensures { Gives (λ x. (shown.filter x.0, token_list x.1.now)) result (read.where_filter (read.expr self.now.depth) (read.cond self.now.depth) (read.query self.now.depth) (read.table self.now.depth) (token_list ts.now)) }
+        ensures { Gives (λ x. (shown.filter x.0, token_list x.1.now)) result (read.at_depth self.now.depth read.where_filter (token_list ts.now)) }
     {
         match first(ts) {
             Some((Token::Key(Key::Where), rest)) => {
@@ -401,7 +401,7 @@ impl<
         requires cond { Nests shown.cond (read.cond self.now.depth) self.now.depth (C.pre self.now.cond) (C.post self.now.cond) }
         requires query { Nests shown.query (read.query self.now.depth) self.now.depth (Q.pre self.now.query) (Q.post self.now.query) }
         requires table { Nests shown.table (read.table self.now.depth) self.now.depth (T.pre self.now.table) (T.post self.now.table) }
-        ensures { Gives (λ x. (shown.filter x.0, token_list x.1.now)) result (read.having_filter (read.expr self.now.depth) (read.cond self.now.depth) (read.query self.now.depth) (read.table self.now.depth) (token_list ts.now)) }
+        ensures { Gives (λ x. (shown.filter x.0, token_list x.1.now)) result (read.at_depth self.now.depth read.having_filter (token_list ts.now)) }
     {
         match first(ts) {
             Some((Token::Key(Key::Having), rest)) => {

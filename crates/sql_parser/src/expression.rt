@@ -30,7 +30,7 @@ impl<
         requires cond { Nests shown.cond (read.cond self.now.depth) self.now.depth (C.pre self.now.cond) (C.post self.now.cond) }
         requires query { Nests shown.query (read.query self.now.depth) self.now.depth (Q.pre self.now.query) (Q.post self.now.query) }
         requires table { Nests shown.table (read.table self.now.depth) self.now.depth (T.pre self.now.table) (T.post self.now.table) }
-        ensures { Gives (λ x. (shown.expr_list x.0, token_list x.1.now)) result (read.exprs (read.expr self.now.depth) (read.cond self.now.depth) (read.query self.now.depth) (read.table self.now.depth) (token_list ts.now)) }
+        ensures { Gives (λ x. (shown.expr_list x.0, token_list x.1.now)) result (read.at_depth self.now.depth read.exprs (token_list ts.now)) }
     {
         let (first, after) = self.nested_expr(ts)?;
         let mut exprs = Items::new(self.alloc);
@@ -59,7 +59,7 @@ impl<
         requires cond { Nests shown.cond (read.cond self.now.depth) self.now.depth (C.pre self.now.cond) (C.post self.now.cond) }
         requires query { Nests shown.query (read.query self.now.depth) self.now.depth (Q.pre self.now.query) (Q.post self.now.query) }
         requires table { Nests shown.table (read.table self.now.depth) self.now.depth (T.pre self.now.table) (T.post self.now.table) }
-        ensures { Gives (λ x. (shown.expr x.0, token_list x.1.now)) result (read.aggregate (read.expr self.now.depth) (read.cond self.now.depth) (read.query self.now.depth) (read.table self.now.depth) function (token_list ts.now)) }
+        ensures { Gives (λ x. (shown.expr x.0, token_list x.1.now)) result (read.at_depth self.now.depth read.aggregate function (token_list ts.now)) }
     {
         match first(ts) {
             Some((Token::LeftParen, rest)) => {
@@ -79,7 +79,7 @@ impl<
         requires cond { Nests shown.cond (read.cond self.now.depth) self.now.depth (C.pre self.now.cond) (C.post self.now.cond) }
         requires query { Nests shown.query (read.query self.now.depth) self.now.depth (Q.pre self.now.query) (Q.post self.now.query) }
         requires table { Nests shown.table (read.table self.now.depth) self.now.depth (T.pre self.now.table) (T.post self.now.table) }
-        ensures { Gives (λ x. (shown.expr x.0, token_list x.1.now)) result (read.count (read.expr self.now.depth) (read.cond self.now.depth) (read.query self.now.depth) (read.table self.now.depth) (token_list ts.now)) }
+        ensures { Gives (λ x. (shown.expr x.0, token_list x.1.now)) result (read.at_depth self.now.depth read.count (token_list ts.now)) }
     {
         match ts {
             [
@@ -111,7 +111,7 @@ impl<
         requires cond { Nests shown.cond (read.cond self.now.depth) self.now.depth (C.pre self.now.cond) (C.post self.now.cond) }
         requires query { Nests shown.query (read.query self.now.depth) self.now.depth (Q.pre self.now.query) (Q.post self.now.query) }
         requires table { Nests shown.table (read.table self.now.depth) self.now.depth (T.pre self.now.table) (T.post self.now.table) }
-        ensures { Gives (λ x. (shown.expr x.0, token_list x.1.now)) result (read.coalesce_rest (read.expr self.now.depth) (read.cond self.now.depth) (read.query self.now.depth) (read.table self.now.depth) (shown.expr operand) (token_list ts.now)) }
+        ensures { Gives (λ x. (shown.expr x.0, token_list x.1.now)) result (read.at_depth self.now.depth read.coalesce_rest (shown.expr operand) (token_list ts.now)) }
     {
         let operand = Box::new(self.alloc, operand)?;
         match first(ts) {
@@ -130,7 +130,7 @@ impl<
         requires cond { Nests shown.cond (read.cond self.now.depth) self.now.depth (C.pre self.now.cond) (C.post self.now.cond) }
         requires query { Nests shown.query (read.query self.now.depth) self.now.depth (Q.pre self.now.query) (Q.post self.now.query) }
         requires table { Nests shown.table (read.table self.now.depth) self.now.depth (T.pre self.now.table) (T.post self.now.table) }
-        ensures { Gives (λ x. (shown.expr x.0, token_list x.1.now)) result (read.coalesce (read.expr self.now.depth) (read.cond self.now.depth) (read.query self.now.depth) (read.table self.now.depth) (token_list ts.now)) }
+        ensures { Gives (λ x. (shown.expr x.0, token_list x.1.now)) result (read.at_depth self.now.depth read.coalesce (token_list ts.now)) }
     {
         match first(ts) {
             Some((Token::LeftParen, rest)) => {
@@ -151,7 +151,7 @@ impl<
         requires cond { Nests shown.cond (read.cond self.now.depth) self.now.depth (C.pre self.now.cond) (C.post self.now.cond) }
         requires query { Nests shown.query (read.query self.now.depth) self.now.depth (Q.pre self.now.query) (Q.post self.now.query) }
         requires table { Nests shown.table (read.table self.now.depth) self.now.depth (T.pre self.now.table) (T.post self.now.table) }
-        ensures { Gives (λ x. (shown.expr x.0, token_list x.1.now)) result (read.null_if_rest (read.expr self.now.depth) (read.cond self.now.depth) (read.query self.now.depth) (read.table self.now.depth) (shown.expr a) (token_list ts.now)) }
+        ensures { Gives (λ x. (shown.expr x.0, token_list x.1.now)) result (read.at_depth self.now.depth read.null_if_rest (shown.expr a) (token_list ts.now)) }
     {
         let a = Box::new(self.alloc, a)?;
         match first(ts) {
@@ -171,7 +171,7 @@ impl<
         requires cond { Nests shown.cond (read.cond self.now.depth) self.now.depth (C.pre self.now.cond) (C.post self.now.cond) }
         requires query { Nests shown.query (read.query self.now.depth) self.now.depth (Q.pre self.now.query) (Q.post self.now.query) }
         requires table { Nests shown.table (read.table self.now.depth) self.now.depth (T.pre self.now.table) (T.post self.now.table) }
-        ensures { Gives (λ x. (shown.expr x.0, token_list x.1.now)) result (read.null_if (read.expr self.now.depth) (read.cond self.now.depth) (read.query self.now.depth) (read.table self.now.depth) (token_list ts.now)) }
+        ensures { Gives (λ x. (shown.expr x.0, token_list x.1.now)) result (read.at_depth self.now.depth read.null_if (token_list ts.now)) }
     {
         match first(ts) {
             Some((Token::LeftParen, rest)) => {
@@ -188,7 +188,7 @@ impl<
         requires cond { Nests shown.cond (read.cond self.now.depth) self.now.depth (C.pre self.now.cond) (C.post self.now.cond) }
         requires query { Nests shown.query (read.query self.now.depth) self.now.depth (Q.pre self.now.query) (Q.post self.now.query) }
         requires table { Nests shown.table (read.table self.now.depth) self.now.depth (T.pre self.now.table) (T.post self.now.table) }
-        ensures { Gives (λ x. (shown.expr x.0, token_list x.1.now)) result (read.cast_type (read.expr self.now.depth) (read.cond self.now.depth) (read.query self.now.depth) (read.table self.now.depth) (token_list ts.now)) }
+        ensures { Gives (λ x. (shown.expr x.0, token_list x.1.now)) result (read.at_depth self.now.depth read.cast_type (token_list ts.now)) }
     {
         match first(ts) {
             Some((Token::Key(Key::As), rest)) => {
@@ -206,7 +206,7 @@ impl<
         requires cond { Nests shown.cond (read.cond self.now.depth) self.now.depth (C.pre self.now.cond) (C.post self.now.cond) }
         requires query { Nests shown.query (read.query self.now.depth) self.now.depth (Q.pre self.now.query) (Q.post self.now.query) }
         requires table { Nests shown.table (read.table self.now.depth) self.now.depth (T.pre self.now.table) (T.post self.now.table) }
-        ensures { Gives (λ x. (shown.expr x.0, token_list x.1.now)) result (read.cast (read.expr self.now.depth) (read.cond self.now.depth) (read.query self.now.depth) (read.table self.now.depth) (token_list ts.now)) }
+        ensures { Gives (λ x. (shown.expr x.0, token_list x.1.now)) result (read.at_depth self.now.depth read.cast (token_list ts.now)) }
     {
         match ts {
             [
@@ -234,7 +234,7 @@ impl<
         requires cond { Nests shown.cond (read.cond self.now.depth) self.now.depth (C.pre self.now.cond) (C.post self.now.cond) }
         requires query { Nests shown.query (read.query self.now.depth) self.now.depth (Q.pre self.now.query) (Q.post self.now.query) }
         requires table { Nests shown.table (read.table self.now.depth) self.now.depth (T.pre self.now.table) (T.post self.now.table) }
-        ensures { Gives (λ x. (shown.expr x.0, token_list x.1.now)) result (read.word_prim (read.expr self.now.depth) (read.cond self.now.depth) (read.query self.now.depth) (read.table self.now.depth) word (token_list ts.now)) }
+        ensures { Gives (λ x. (shown.expr x.0, token_list x.1.now)) result (read.at_depth self.now.depth read.word_prim word (token_list ts.now)) }
     {
         match word {
             Key::Case => self.case(ts),
@@ -256,7 +256,7 @@ impl<
         requires cond { Nests shown.cond (read.cond self.now.depth) self.now.depth (C.pre self.now.cond) (C.post self.now.cond) }
         requires query { Nests shown.query (read.query self.now.depth) self.now.depth (Q.pre self.now.query) (Q.post self.now.query) }
         requires table { Nests shown.table (read.table self.now.depth) self.now.depth (T.pre self.now.table) (T.post self.now.table) }
-        ensures { Gives (λ x. (shown.expr x.0, token_list x.1.now)) result (read.prim (read.expr self.now.depth) (read.cond self.now.depth) (read.query self.now.depth) (read.table self.now.depth) (token_list ts.now)) }
+        ensures { Gives (λ x. (shown.expr x.0, token_list x.1.now)) result (read.at_depth self.now.depth read.prim (token_list ts.now)) }
     {
         match first(ts) {
             Some((Token::Number(n), rest)) => Ok((Expr::Number(*n), rest)),
@@ -289,7 +289,7 @@ impl<
         requires cond { Nests shown.cond (read.cond self.now.depth) self.now.depth (C.pre self.now.cond) (C.post self.now.cond) }
         requires query { Nests shown.query (read.query self.now.depth) self.now.depth (Q.pre self.now.query) (Q.post self.now.query) }
         requires table { Nests shown.table (read.table self.now.depth) self.now.depth (T.pre self.now.table) (T.post self.now.table) }
-        ensures { Gives (λ x. (shown.expr x.0, token_list x.1.now)) result (read.factor (read.expr self.now.depth) (read.cond self.now.depth) (read.query self.now.depth) (read.table self.now.depth) (token_list ts.now)) }
+        ensures { Gives (λ x. (shown.expr x.0, token_list x.1.now)) result (read.at_depth self.now.depth read.factor (token_list ts.now)) }
     {
         match first(ts) {
             Some((Token::Plus, rest)) => {
@@ -316,7 +316,7 @@ impl<
         requires cond { Nests shown.cond (read.cond self.now.depth) self.now.depth (C.pre self.now.cond) (C.post self.now.cond) }
         requires query { Nests shown.query (read.query self.now.depth) self.now.depth (Q.pre self.now.query) (Q.post self.now.query) }
         requires table { Nests shown.table (read.table self.now.depth) self.now.depth (T.pre self.now.table) (T.post self.now.table) }
-        ensures { Gives (λ x. (shown.expr x.0, token_list x.1.now)) result (read.term (read.expr self.now.depth) (read.cond self.now.depth) (read.query self.now.depth) (read.table self.now.depth) (token_list ts.now)) }
+        ensures { Gives (λ x. (shown.expr x.0, token_list x.1.now)) result (read.at_depth self.now.depth read.term (token_list ts.now)) }
     {
         let (mut left, mut rest) = self.factor(ts)?;
         'factors: for _turn in 0..ts.len() {
@@ -342,7 +342,7 @@ impl<
         requires cond { Nests shown.cond (read.cond self.now.depth) self.now.depth (C.pre self.now.cond) (C.post self.now.cond) }
         requires query { Nests shown.query (read.query self.now.depth) self.now.depth (Q.pre self.now.query) (Q.post self.now.query) }
         requires table { Nests shown.table (read.table self.now.depth) self.now.depth (T.pre self.now.table) (T.post self.now.table) }
-        ensures { Gives (λ x. (shown.expr x.0, token_list x.1.now)) result (read.sum (read.expr self.now.depth) (read.cond self.now.depth) (read.query self.now.depth) (read.table self.now.depth) (token_list ts.now)) }
+        ensures { Gives (λ x. (shown.expr x.0, token_list x.1.now)) result (read.at_depth self.now.depth read.sum (token_list ts.now)) }
     {
         let (mut left, mut rest) = self.term(ts)?;
         'terms: for _turn in 0..ts.len() {

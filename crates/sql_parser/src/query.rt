@@ -52,7 +52,7 @@ impl<
         requires cond { Nests shown.cond (read.cond self.now.depth) self.now.depth (C.pre self.now.cond) (C.post self.now.cond) }
         requires query { Nests shown.query (read.query self.now.depth) self.now.depth (Q.pre self.now.query) (Q.post self.now.query) }
         requires table { Nests shown.table (read.table self.now.depth) self.now.depth (T.pre self.now.table) (T.post self.now.table) }
-        ensures { Gives (λ x. (shown.item x.0, token_list x.1.now)) result (read.item (read.expr self.now.depth) (read.cond self.now.depth) (read.query self.now.depth) (read.table self.now.depth) (token_list ts.now)) }
+        ensures { Gives (λ x. (shown.item x.0, token_list x.1.now)) result (read.at_depth self.now.depth read.item (token_list ts.now)) }
     {
         match all_of_at(ts) {
             Some((name, rest)) => {
@@ -74,7 +74,7 @@ impl<
         requires cond { Nests shown.cond (read.cond self.now.depth) self.now.depth (C.pre self.now.cond) (C.post self.now.cond) }
         requires query { Nests shown.query (read.query self.now.depth) self.now.depth (Q.pre self.now.query) (Q.post self.now.query) }
         requires table { Nests shown.table (read.table self.now.depth) self.now.depth (T.pre self.now.table) (T.post self.now.table) }
-        ensures { Gives (λ x. (shown.item_list x.0, token_list x.1.now)) result (read.items (read.expr self.now.depth) (read.cond self.now.depth) (read.query self.now.depth) (read.table self.now.depth) (token_list ts.now)) }
+        ensures { Gives (λ x. (shown.item_list x.0, token_list x.1.now)) result (read.at_depth self.now.depth read.items (token_list ts.now)) }
     {
         let (item_first, after_first) = self.item(ts)?;
         let mut items = Items::new(self.alloc);
@@ -100,7 +100,7 @@ impl<
         requires cond { Nests shown.cond (read.cond self.now.depth) self.now.depth (C.pre self.now.cond) (C.post self.now.cond) }
         requires query { Nests shown.query (read.query self.now.depth) self.now.depth (Q.pre self.now.query) (Q.post self.now.query) }
         requires table { Nests shown.table (read.table self.now.depth) self.now.depth (T.pre self.now.table) (T.post self.now.table) }
-        ensures { Gives (λ x. (shown.select_list x.0, token_list x.1.now)) result (read.listed (read.expr self.now.depth) (read.cond self.now.depth) (read.query self.now.depth) (read.table self.now.depth) (token_list ts.now)) }
+        ensures { Gives (λ x. (shown.select_list x.0, token_list x.1.now)) result (read.at_depth self.now.depth read.listed (token_list ts.now)) }
     {
         let (items, rest) = self.items(ts)?;
         Ok((SelectList::Items(items), rest))
@@ -115,7 +115,7 @@ impl<
         requires cond { Nests shown.cond (read.cond self.now.depth) self.now.depth (C.pre self.now.cond) (C.post self.now.cond) }
         requires query { Nests shown.query (read.query self.now.depth) self.now.depth (Q.pre self.now.query) (Q.post self.now.query) }
         requires table { Nests shown.table (read.table self.now.depth) self.now.depth (T.pre self.now.table) (T.post self.now.table) }
-        ensures { Gives (λ x. (shown.select_list x.0, token_list x.1.now)) result (read.select_list (read.expr self.now.depth) (read.cond self.now.depth) (read.query self.now.depth) (read.table self.now.depth) (token_list ts.now)) }
+        ensures { Gives (λ x. (shown.select_list x.0, token_list x.1.now)) result (read.at_depth self.now.depth read.select_list (token_list ts.now)) }
     {
         match after_star(ts) {
             Some(rest) => Ok((SelectList::All, rest)),
@@ -136,7 +136,7 @@ impl<
         requires cond { Nests shown.cond (read.cond self.now.depth) self.now.depth (C.pre self.now.cond) (C.post self.now.cond) }
         requires query { Nests shown.query (read.query self.now.depth) self.now.depth (Q.pre self.now.query) (Q.post self.now.query) }
         requires table { Nests shown.table (read.table self.now.depth) self.now.depth (T.pre self.now.table) (T.post self.now.table) }
-        ensures { Gives (λ x. (shown.query x.0, token_list x.1.now)) result (read.block_end (read.expr self.now.depth) (read.cond self.now.depth) (read.query self.now.depth) (read.table self.now.depth) quantifier (shown.select_list list) (shown.table_list from) (token_list ts.now)) }
+        ensures { Gives (λ x. (shown.query x.0, token_list x.1.now)) result (read.at_depth self.now.depth read.block_end quantifier (shown.select_list list) (shown.table_list from) (token_list ts.now)) }
     {
         let (filter, rest) = self.where_filter(ts)?;
         let (grouping, rest) = group_by(self.alloc, rest)?;
@@ -158,7 +158,7 @@ impl<
         requires cond { Nests shown.cond (read.cond self.now.depth) self.now.depth (C.pre self.now.cond) (C.post self.now.cond) }
         requires query { Nests shown.query (read.query self.now.depth) self.now.depth (Q.pre self.now.query) (Q.post self.now.query) }
         requires table { Nests shown.table (read.table self.now.depth) self.now.depth (T.pre self.now.table) (T.post self.now.table) }
-        ensures { Gives (λ x. (shown.query x.0, token_list x.1.now)) result (read.block (read.expr self.now.depth) (read.cond self.now.depth) (read.query self.now.depth) (read.table self.now.depth) (token_list ts.now)) }
+        ensures { Gives (λ x. (shown.query x.0, token_list x.1.now)) result (read.at_depth self.now.depth read.block (token_list ts.now)) }
     {
         let (quantifier, rest) = set_quantifier_at(ts);
         let (list, rest) = self.select_list(rest)?;
@@ -172,7 +172,7 @@ impl<
         requires cond { Nests shown.cond (read.cond self.now.depth) self.now.depth (C.pre self.now.cond) (C.post self.now.cond) }
         requires query { Nests shown.query (read.query self.now.depth) self.now.depth (Q.pre self.now.query) (Q.post self.now.query) }
         requires table { Nests shown.table (read.table self.now.depth) self.now.depth (T.pre self.now.table) (T.post self.now.table) }
-        ensures { Gives (λ x. (shown.query x.0, token_list x.1.now)) result (read.qprim (read.expr self.now.depth) (read.cond self.now.depth) (read.query self.now.depth) (read.table self.now.depth) (token_list ts.now)) }
+        ensures { Gives (λ x. (shown.query x.0, token_list x.1.now)) result (read.at_depth self.now.depth read.qprim (token_list ts.now)) }
     {
         match first(ts) {
             Some((Token::Key(Key::Select), rest)) => self.block(rest),
@@ -192,7 +192,7 @@ impl<
         requires cond { Nests shown.cond (read.cond self.now.depth) self.now.depth (C.pre self.now.cond) (C.post self.now.cond) }
         requires query { Nests shown.query (read.query self.now.depth) self.now.depth (Q.pre self.now.query) (Q.post self.now.query) }
         requires table { Nests shown.table (read.table self.now.depth) self.now.depth (T.pre self.now.table) (T.post self.now.table) }
-        ensures { Gives (λ x. (shown.query x.0, token_list x.1.now)) result (read.qterm (read.expr self.now.depth) (read.cond self.now.depth) (read.query self.now.depth) (read.table self.now.depth) (token_list ts.now)) }
+        ensures { Gives (λ x. (shown.query x.0, token_list x.1.now)) result (read.at_depth self.now.depth read.qterm (token_list ts.now)) }
     {
         let (mut left, mut rest) = self.qprim(ts)?;
         'qprims: for _turn in 0..ts.len() {
@@ -219,7 +219,7 @@ impl<
         requires cond { Nests shown.cond (read.cond self.now.depth) self.now.depth (C.pre self.now.cond) (C.post self.now.cond) }
         requires query { Nests shown.query (read.query self.now.depth) self.now.depth (Q.pre self.now.query) (Q.post self.now.query) }
         requires table { Nests shown.table (read.table self.now.depth) self.now.depth (T.pre self.now.table) (T.post self.now.table) }
-        ensures { Gives (λ x. (shown.query x.0, token_list x.1.now)) result (read.combined (read.expr self.now.depth) (read.cond self.now.depth) (read.query self.now.depth) (read.table self.now.depth) (token_list ts.now)) }
+        ensures { Gives (λ x. (shown.query x.0, token_list x.1.now)) result (read.at_depth self.now.depth read.combined (token_list ts.now)) }
     {
         let (mut left, mut rest) = self.qterm(ts)?;
         'qterms: for _turn in 0..ts.len() {

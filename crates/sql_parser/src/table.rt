@@ -81,7 +81,7 @@ impl<
         requires cond { Nests shown.cond (read.cond self.now.depth) self.now.depth (C.pre self.now.cond) (C.post self.now.cond) }
         requires query { Nests shown.query (read.query self.now.depth) self.now.depth (Q.pre self.now.query) (Q.post self.now.query) }
         requires table { Nests shown.table (read.table self.now.depth) self.now.depth (T.pre self.now.table) (T.post self.now.table) }
-        ensures { Gives (λ x. (shown.table x.0, token_list x.1.now)) result (read.tprim (read.expr self.now.depth) (read.cond self.now.depth) (read.query self.now.depth) (read.table self.now.depth) (token_list ts.now)) }
+        ensures { Gives (λ x. (shown.table x.0, token_list x.1.now)) result (read.at_depth self.now.depth read.tprim (token_list ts.now)) }
     {
         match first(ts) {
             Some((Token::Name(name), rest)) => {
@@ -108,7 +108,7 @@ impl<
         requires cond { Nests shown.cond (read.cond self.now.depth) self.now.depth (C.pre self.now.cond) (C.post self.now.cond) }
         requires query { Nests shown.query (read.query self.now.depth) self.now.depth (Q.pre self.now.query) (Q.post self.now.query) }
         requires table { Nests shown.table (read.table self.now.depth) self.now.depth (T.pre self.now.table) (T.post self.now.table) }
-        ensures { Gives (λ x. (shown.cond x.0, token_list x.1.now)) result (read.on (read.expr self.now.depth) (read.cond self.now.depth) (read.query self.now.depth) (read.table self.now.depth) (token_list ts.now)) }
+        ensures { Gives (λ x. (shown.cond x.0, token_list x.1.now)) result (read.at_depth self.now.depth read.on (token_list ts.now)) }
     {
         match first(ts) {
             Some((Token::Key(Key::On), rest)) => self.disj(rest),
@@ -127,7 +127,7 @@ impl<
         requires cond { Nests shown.cond (read.cond self.now.depth) self.now.depth (C.pre self.now.cond) (C.post self.now.cond) }
         requires query { Nests shown.query (read.query self.now.depth) self.now.depth (Q.pre self.now.query) (Q.post self.now.query) }
         requires table { Nests shown.table (read.table self.now.depth) self.now.depth (T.pre self.now.table) (T.post self.now.table) }
-        ensures { Gives (λ x. (shown.table x.0, token_list x.1.now)) result (read.join_after (read.expr self.now.depth) (read.cond self.now.depth) (read.query self.now.depth) (read.table self.now.depth) (shown.table left.value) (join_of.Inner inner) (token_list ts.now)) }
+        ensures { Gives (λ x. (shown.table x.0, token_list x.1.now)) result (read.at_depth self.now.depth read.join_after (shown.table left.value) (join_of.Inner inner) (token_list ts.now)) }
     {
         let (right, rest) = self.tprim(ts)?;
         let right = Box::new(self.alloc, right)?;
@@ -147,7 +147,7 @@ impl<
         requires cond { Nests shown.cond (read.cond self.now.depth) self.now.depth (C.pre self.now.cond) (C.post self.now.cond) }
         requires query { Nests shown.query (read.query self.now.depth) self.now.depth (Q.pre self.now.query) (Q.post self.now.query) }
         requires table { Nests shown.table (read.table self.now.depth) self.now.depth (T.pre self.now.table) (T.post self.now.table) }
-        ensures { Gives (λ x. (shown.table x.0, token_list x.1.now)) result (read.join_after (read.expr self.now.depth) (read.cond self.now.depth) (read.query self.now.depth) (read.table self.now.depth) (shown.table left.value) (join_of.Left outer) (token_list ts.now)) }
+        ensures { Gives (λ x. (shown.table x.0, token_list x.1.now)) result (read.at_depth self.now.depth read.join_after (shown.table left.value) (join_of.Left outer) (token_list ts.now)) }
     {
         let (right, rest) = self.tprim(ts)?;
         let right = Box::new(self.alloc, right)?;
@@ -172,7 +172,7 @@ impl<
         requires cond { Nests shown.cond (read.cond self.now.depth) self.now.depth (C.pre self.now.cond) (C.post self.now.cond) }
         requires query { Nests shown.query (read.query self.now.depth) self.now.depth (Q.pre self.now.query) (Q.post self.now.query) }
         requires table { Nests shown.table (read.table self.now.depth) self.now.depth (T.pre self.now.table) (T.post self.now.table) }
-        ensures { Gives (λ x. (shown.table x.0, token_list x.1.now)) result (read.join_after (read.expr self.now.depth) (read.cond self.now.depth) (read.query self.now.depth) (read.table self.now.depth) (shown.table left) kind (token_list ts.now)) }
+        ensures { Gives (λ x. (shown.table x.0, token_list x.1.now)) result (read.at_depth self.now.depth read.join_after (shown.table left) kind (token_list ts.now)) }
     {
         let left = Box::new(self.alloc, left)?;
         match kind {
@@ -192,7 +192,7 @@ impl<
         requires cond { Nests shown.cond (read.cond self.now.depth) self.now.depth (C.pre self.now.cond) (C.post self.now.cond) }
         requires query { Nests shown.query (read.query self.now.depth) self.now.depth (Q.pre self.now.query) (Q.post self.now.query) }
         requires table { Nests shown.table (read.table self.now.depth) self.now.depth (T.pre self.now.table) (T.post self.now.table) }
-        ensures { Gives (λ x. (shown.table x.0, token_list x.1.now)) result (read.tref (read.expr self.now.depth) (read.cond self.now.depth) (read.query self.now.depth) (read.table self.now.depth) (token_list ts.now)) }
+        ensures { Gives (λ x. (shown.table x.0, token_list x.1.now)) result (read.at_depth self.now.depth read.tref (token_list ts.now)) }
     {
         let (mut left, mut rest) = self.tprim(ts)?;
         'joins: for _turn in 0..ts.len() {
@@ -217,7 +217,7 @@ impl<
         requires cond { Nests shown.cond (read.cond self.now.depth) self.now.depth (C.pre self.now.cond) (C.post self.now.cond) }
         requires query { Nests shown.query (read.query self.now.depth) self.now.depth (Q.pre self.now.query) (Q.post self.now.query) }
         requires table { Nests shown.table (read.table self.now.depth) self.now.depth (T.pre self.now.table) (T.post self.now.table) }
-        ensures { Gives (λ x. (shown.table_list x.0, token_list x.1.now)) result (read.tables (read.expr self.now.depth) (read.cond self.now.depth) (read.query self.now.depth) (read.table self.now.depth) (token_list ts.now)) }
+        ensures { Gives (λ x. (shown.table_list x.0, token_list x.1.now)) result (read.at_depth self.now.depth read.tables (token_list ts.now)) }
     {
         let (table_first, after_first) = self.tref(ts)?;
         let mut tables = Items::new(self.alloc);
@@ -245,7 +245,7 @@ impl<
         requires cond { Nests shown.cond (read.cond self.now.depth) self.now.depth (C.pre self.now.cond) (C.post self.now.cond) }
         requires query { Nests shown.query (read.query self.now.depth) self.now.depth (Q.pre self.now.query) (Q.post self.now.query) }
         requires table { Nests shown.table (read.table self.now.depth) self.now.depth (T.pre self.now.table) (T.post self.now.table) }
-        ensures { Gives (λ x. (shown.table_list x.0, token_list x.1.now)) result (read.from (read.expr self.now.depth) (read.cond self.now.depth) (read.query self.now.depth) (read.table self.now.depth) (token_list ts.now)) }
+        ensures { Gives (λ x. (shown.table_list x.0, token_list x.1.now)) result (read.at_depth self.now.depth read.from (token_list ts.now)) }
     {
         match first(ts) {
             Some((Token::Key(Key::From), rest)) => self.tables(rest),
