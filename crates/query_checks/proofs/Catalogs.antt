@@ -15,7 +15,7 @@ use Rattle.sql_ast.specs.Names.{contains, same_name}
 use Rattle.sql_catalog.specs.Nesting.{nests_at, nests_over, read_by, reader_of, readers_of}
 use Rattle.sql_catalog.specs.TableNames as t
 use Rattle.sql_catalog.specs.declared.reader.Reader.{Reader}
-use Rattle.sql_meaning.specs.Meaning.{known_at, known_of, relation_of, relation_with, viewed}
+use Rattle.sql_meaning.specs.Meaning.{known_at, known_of, relation_with, viewed}
 use Rattle.sql_meaning.specs.Names.{Relation, all_named, names}
 use Rattle.sql_meaning.specs.Names as n
 use Rattle.sql_meaning.specs.Scopes.{first_of}
@@ -26,13 +26,12 @@ use Rattle.query_checks.proofs.Orders.{both_none}
 use Rattle.query_checks.proofs.Stable.{Equal, equal_columns}
 use Rattle.query_checks.proofs.KnownTypes.{IsTyped, IsTypedHead, typed_query, typed_renamed}
 use Rattle.query_checks.specs.Columns.{columns, columns_or_none, renamed}
-use Rattle.query_checks.specs.Faults.{list_fault, query_fault}
+use Rattle.query_checks.specs.Faults.{query_fault}
 use Rattle.query_checks.specs.Laws.{AreTypedHeads, NestsShallow, SameColumns, column_names}
 use Rattle.query_checks.specs.Scopes.{Heads}
 use Rattle.query_checks.specs.Views.{fault, heads_of, heads_with, refusal_of, refusal_with, refused_among, refused_to, table_heads, typed, typed_columns, view_columns, view_fault, view_head, view_refusal, views_at, views_of_depth}
 use Rattle.query_checks.specs.Views as v
 use Rattle.query_checks.specs.declared.column.TypedColumn.{TypedColumn}
-use Rattle.query_checks.specs.declared.view.ViewHead.{ViewHead}
 
 -- ---- tests of lists
 
@@ -63,7 +62,7 @@ first_none None b h = (refl, h)
 first_none (Some x) b h = absurd (cc)
 
 -- what is found passes the test, and is in the list
-found_passes : {A : Type 0} (p : A → Bool) (xs : List A) (x : A) → find p xs ≡ Some x → p x ≡ true
+pub found_passes : {A : Type 0} (p : A → Bool) (xs : List A) (x : A) → find p xs ≡ Some x → p x ≡ true
 found_passes p [] x h = absurd (cc)
 found_passes p (y ∷ ys) x h =
     elim (p y) as (λ b. p y ≡ b → cond b (Some y) (find p ys) ≡ Some x → p x ≡ true) [

@@ -1,5 +1,5 @@
 -- A query without faults is even.
-use Rattle.std.proofs.Common.{◌≡◌, ◌∙◌, ℕ, zero, suc, Bool, true, false, not, List, [], ◌∷◌, ◌++◌, length, Option, Some, None, refl, sym, ap, subst, nat_eq, inl, inr, arith}
+use Rattle.std.proofs.Common.{◌≡◌, ◌∙◌, ℕ, Bool, not, List, [], ◌∷◌, ◌++◌, length, Option, sym, ap, subst, nat_eq, inl, inr, arith}
 use Rattle.std.specs.Prelude.{⊤}
 use Rattle.std.proofs.lemmas.Bool.{cases_Bool, eqb-true}
 use Rattle.std.proofs.lemmas.List.{length-map}
@@ -12,7 +12,7 @@ use Rattle.query_checks.proofs.Named.{both_same, names_same, ranges_same, scope_
 use Rattle.query_checks.proofs.Orders.{both_none}
 use Rattle.query_checks.specs.Columns.{columns, list_columns, list_scope, ranges, table_ranges, type_of}
 use Rattle.query_checks.specs.Faults.{arms_fault, choices_fault, compared_fault, cond_fault, else_fault, expr_fault, exprs_fault, filter_fault, from_fault, item_fault, items_fault, query_fault, res_fault, scalar_fault, select_fault, table_fault}
-use Rattle.query_checks.specs.Laws.{SameColumns, column_names, shapes}
+use Rattle.query_checks.specs.Laws.{SameColumns, shapes}
 use Rattle.query_checks.specs.Rules.{fault_if, not_one, operands_unequal, pair_differs, sub_misplaced, too_wide}
 use Rattle.query_checks.specs.Scopes.{Heads, Scopes, first_type, plain, released}
 use Rattle.query_checks.specs.declared.column.TypedColumn.{TypedColumn}

@@ -1,13 +1,10 @@
 -- What a name finds among columns, and in scopes.
-use Rattle.std.proofs.Common.{◌≡◌, ◌∙◌, ℕ, Bool, true, false, List, [], ◌∷◌, ◌++◌, map, Option, Some, None, refl, sym, ap, inl, inr}
-use Rattle.std.proofs.lemmas.Bool.{cases_Bool}
+use Rattle.std.proofs.Common.{◌≡◌, ◌∙◌, List, [], ◌∷◌, ◌++◌, refl, sym, ap}
 use Rattle.std.proofs.lemmas.Grind.{common_steps}
-use Rattle.sql_ast.specs.declared.name.Column.{Column}
 use Rattle.query_checks.specs.Found.{found, found_fault, found_type, joined}
 use Rattle.query_checks.specs.Rules.{one_of}
-use Rattle.query_checks.specs.Scopes.{columns_named, first_type, has_name, named_in}
+use Rattle.query_checks.specs.Scopes.{first_type}
 use Rattle.query_checks.specs.declared.column.TypedColumn.{TypedColumn}
-use Rattle.query_checks.specs.declared.column.TypedRange.{TypedRange}
 use Rattle.query_checks.specs.declared.found.Found.{Found}
 use Rattle.query_checks.specs.declared.found.Found.TheVariants.{Nothing, One, Several}
 

@@ -1,6 +1,6 @@
 -- The columns of a query without faults have known types.
 use Rattle.std.proofs.Common.{◌≡◌, ℕ, Bool, true, false, cond, List, [], ◌∷◌, ◌++◌, Option, Some, None, refl, inl, inr}
-use Rattle.std.specs.Prelude.{⊤, All}
+use Rattle.std.specs.Prelude.{All}
 use Rattle.std.proofs.lemmas.Bool.{cases_Bool}
 use Rattle.sql_ast.specs.declared.name.Column.{Column}
 use Rattle.sql_ast.specs.declared.word.SetFunction.{SetFunction}
@@ -17,7 +17,7 @@ use Rattle.query_checks.specs.Columns.{all_columns, arm_types, choice_types, col
 use Rattle.query_checks.specs.Faults.{arms_fault, choices_fault, else_fault, expr_fault, from_fault, item_fault, items_fault, query_fault, res_fault, select_fault, table_fault}
 use Rattle.query_checks.specs.Laws.{AreTyped, AreTypedHeads, AreTypedScopes}
 use Rattle.query_checks.specs.Rules.{not_one, one_of, results_differ}
-use Rattle.query_checks.specs.Scopes.{Heads, Scope, Scopes, columns_by, columns_in, columns_named, first_type, grouped, has_name, in_range, is_meant, is_some, meant, named_in, plain, range_in, range_of, range_of_scope, released, scope_with}
+use Rattle.query_checks.specs.Scopes.{Heads, Scope, Scopes, columns_by, columns_named, first_type, grouped, has_name, in_range, is_meant, is_some, meant, named_in, plain, range_in, range_of, released}
 use Rattle.query_checks.specs.declared.column.TypedColumn.{TypedColumn}
 use Rattle.query_checks.specs.declared.column.TypedRange.{TypedRange}
 use Rattle.query_checks.specs.declared.site.Site.{Site}

@@ -8,3 +8,6 @@ pub mod Evens
 pub mod KnownTypes
 pub mod Stable
 pub mod Catalogs
+pub mod Lookups
+pub mod Founds
+pub mod FoundCells

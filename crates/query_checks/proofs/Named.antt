@@ -1,9 +1,8 @@
 -- The columns that the checks find have the names that the meaning of queries gives them.
-use Rattle.std.proofs.Common.{◌≡◌, ◌∙◌, ℕ, suc, Bool, true, false, cond, List, [], ◌∷◌, ◌++◌, map, find, length, Option, Some, None, refl, sym, ap, ap₂}
+use Rattle.std.proofs.Common.{◌≡◌, ◌∙◌, ℕ, Bool, true, false, cond, List, [], ◌∷◌, ◌++◌, Option, Some, None, refl, sym, ap, ap₂}
 use Rattle.std.specs.List.{flat_map}
 use Rattle.std.proofs.lemmas.List.{map-append}
 use Rattle.sql_ast.specs.declared.name.Column.{Column}
-use Rattle.sql_ast.specs.declared.name.Correlation.{Correlation}
 use Rattle.sql_ast.specs.Syntax as s
 use Rattle.sql_ast.specs.Names.{same_name}
 use Rattle.sql_meaning.specs.Grouping.{is_grouped}
@@ -12,7 +11,7 @@ use Rattle.sql_meaning.specs.Names as n
 use Rattle.sql_meaning.specs.Scopes.{Shape, columns_in, columns_of_range}
 use Rattle.query_checks.specs.Columns.{all_columns, columns, columns_or_none, item_columns, items_columns, list_columns, list_scope, listed, range_columns, ranges, renamed, table_ranges}
 use Rattle.query_checks.specs.Laws.{SameColumns, column_names, range_shapes, shapes}
-use Rattle.query_checks.specs.Scopes.{Heads, Scope, Scopes, grouped, is_some, plain, range_in, range_of, range_of_scope, released, scope_with}
+use Rattle.query_checks.specs.Scopes.{Heads, Scope, Scopes, grouped, is_some, plain, range_in, range_of, range_of_scope, scope_with}
 use Rattle.query_checks.specs.declared.column.TypedColumn.{TypedColumn}
 use Rattle.query_checks.specs.declared.column.TypedRange.{TypedRange}
 
@@ -51,11 +50,11 @@ star_names : (rs : List TypedRange) → flat_map (λ (range : List ℕ × List (
 star_names [] = refl
 star_names (r ∷ rs) = ap (λ (xs : List (Option (List ℕ))). column_names r.columns ++ xs) (star_names rs) ∙ sym (names_append r.columns (all_columns rs))
 
-abbrev names_of_range : Option TypedRange → Option (List (Option (List ℕ)))
+abbrev pub names_of_range : Option TypedRange → Option (List (Option (List ℕ)))
 names_of_range None = None
 names_of_range (Some r) = Some (column_names r.columns)
 
-in_shape : (name : List ℕ) (rs : List TypedRange) → columns_in name (range_shapes rs) ≡ names_of_range (range_in name rs)
+pub in_shape : (name : List ℕ) (rs : List TypedRange) → columns_in name (range_shapes rs) ≡ names_of_range (range_in name rs)
 in_shape name [] = refl
 in_shape name (r ∷ rs) =
     elim (same_name r.name name) as (λ b. cond b (Some (column_names r.columns)) (columns_in name (range_shapes rs)) ≡ names_of_range (cond b (Some r) (range_in name rs))) [
@@ -64,7 +63,7 @@ in_shape name (r ∷ rs) =
     ]
 
 -- the columns of a range that was found, or else these
-abbrev names_or : Option (List (Option (List ℕ))) → List (Option (List ℕ)) → List (Option (List ℕ))
+abbrev pub names_or : Option (List (Option (List ℕ))) → List (Option (List ℕ)) → List (Option (List ℕ))
 names_or found rest = elim found as (λ _. List (Option (List ℕ))) [ Some names ↦ names | None ↦ rest ]
 
 range_names : (name : List ℕ) (scopes : Scopes) → columns_of_range name (shapes scopes) ≡ column_names (range_columns (range_of name scopes))

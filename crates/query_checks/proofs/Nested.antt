@@ -1,17 +1,17 @@
 -- Views by their nesting depth.
-use Rattle.std.proofs.Common.{◌≡◌, ◌∙◌, ◌+◌, ℕ, suc, Bool, true, false, not, ◌&&◌, ◌||◌, List, [], ◌∷◌, map, filter, Option, Some, None, refl, sym, ap, inl, inr}
+use Rattle.std.proofs.Common.{◌≡◌, ◌+◌, ℕ, suc, Bool, true, false, not, ◌&&◌, ◌||◌, List, [], ◌∷◌, map, filter, Option, refl, ap, inl, inr}
 use Rattle.std.proofs.Math.Numerals.{add-one}
 use Rattle.std.specs.List.{list_any}
 use Rattle.std.proofs.lemmas.Bool.{cases_Bool}
 use Rattle.sql_ast.specs.Syntax as s
 use Rattle.sql_ast.specs.Declarations.{Declared}
 use Rattle.sql_ast.specs.Names.{contains}
-use Rattle.sql_catalog.specs.Nesting.{nests_over, read_by, reader_of, readers_of}
+use Rattle.sql_catalog.specs.Nesting.{nests_over, reader_of, readers_of}
 use Rattle.sql_catalog.specs.declared.reader.Reader.{Reader}
 use Rattle.sql_meaning.specs.Scopes.{first_of}
 use Rattle.query_checks.specs.Depths.{over, reads_marked, refused_marked}
 use Rattle.query_checks.specs.Scopes.{Heads}
-use Rattle.query_checks.specs.Views.{heads_of, heads_with, refused_among, refused_to, refusal_of, view_heads, views_of_depth}
+use Rattle.query_checks.specs.Views.{heads_of, heads_with, refused_among, refused_to, refusal_of, view_heads}
 use Rattle.query_checks.specs.declared.view.ViewHead.{ViewHead}
 
 and-true : (b : Bool) → b && true ≡ b

@@ -1,13 +1,12 @@
 -- The columns of a query hang on the tables and views alone that it names.
-use Rattle.std.proofs.Common.{◌≡◌, ◌∙◌, ℕ, List, [], ◌∷◌, ◌++◌, Option, Some, None, refl, ap, ap₂}
-use Rattle.std.specs.Prelude.{⊤}
+use Rattle.std.proofs.Common.{◌≡◌, ◌∙◌, ℕ, List, [], ◌∷◌, ◌++◌, Option, refl, ap, ap₂}
 use Rattle.sql_ast.specs.Syntax as s
 use Rattle.sql_catalog.specs.TableNames as t
 use Rattle.sql_meaning.specs.Names.{column_list, item_name, range_name}
 use Rattle.sql_value.specs.declared.order_key.SqlType.{SqlType}
 use Rattle.query_checks.proofs.Members.{Each, each_left, each_right}
 use Rattle.query_checks.specs.Columns.{arm_types, choice_types, column, columns, columns_or_none, else_types, first_known, item_columns, items_columns, list_columns, list_scope, range, ranges, renamed, res_types, table_ranges, type_of, type_of_aggregate, types_of}
-use Rattle.query_checks.specs.Scopes.{Heads, Scope, Scopes, first_type, released}
+use Rattle.query_checks.specs.Scopes.{Heads, Scopes, first_type, released}
 use Rattle.query_checks.specs.declared.column.TypedColumn.{TypedColumn}
 use Rattle.query_checks.specs.declared.column.TypedRange.{TypedRange}
 

@@ -1,5 +1,5 @@
 -- What names mean in scopes, and in the same scopes within an aggregate's argument.
-use Rattle.std.proofs.Common.{◌≡◌, ◌∙◌, ℕ, Bool, true, false, not, List, [], ◌∷◌, Option, Some, None, option_map, refl, sym, ap, inl, inr}
+use Rattle.std.proofs.Common.{◌≡◌, ℕ, true, false, not, List, [], ◌∷◌, Option, Some, None, option_map, refl, ap, inl, inr}
 use Rattle.std.proofs.lemmas.Bool.{cases_Bool}
 use Rattle.std.proofs.lemmas.Grind.{common_steps}
 use Rattle.std.specs.List.{list_any}
@@ -8,7 +8,7 @@ use Rattle.query_checks.proofs.Orders.{lesser_none}
 use Rattle.query_checks.specs.Columns.{star_columns}
 use Rattle.query_checks.specs.Rules.{fault_if, star_ungrouped}
 use Rattle.query_checks.specs.Found.{found, found_any, found_by, found_in}
-use Rattle.query_checks.specs.Scopes.{Scope, Scopes, columns_by, columns_in, columns_named, in_range, is_barred, is_column_barred, is_empty, is_found_barred, is_meant, is_meant_by, is_name_barred, is_own, is_range_barred, is_some, is_star_barred, meant, named_in, plain, range_in, range_of, released, scope_of, scope_with}
+use Rattle.query_checks.specs.Scopes.{Scope, Scopes, columns_by, columns_in, columns_named, in_range, is_column_barred, is_empty, is_found_barred, is_meant, is_meant_by, is_name_barred, is_own, is_range_barred, is_some, is_star_barred, meant, named_in, plain, range_in, range_of, released, scope_of, scope_with}
 use Rattle.query_checks.specs.declared.column.TypedColumn.{TypedColumn}
 use Rattle.query_checks.specs.declared.column.TypedRange.{TypedRange}
 use Rattle.query_checks.specs.declared.found.Found.{Found}

@@ -1,5 +1,5 @@
 -- The types of expressions and the columns of queries, as far as names tell them (SQL-92, 6.3, 6.9, 6.11 to 6.14, 7.9 and 7.10). A type is unknown where a name stands for nothing.
-use Rattle.std.specs.Prelude.{ℕ, Bool, true, false, List, [], ◌∷◌, ◌++◌, map, Option, Some, None, if◌then◌else◌}
+use Rattle.std.specs.Prelude.{ℕ, List, [], ◌∷◌, ◌++◌, Option, Some, None, if◌then◌else◌}
 use Rattle.std.specs.List.{flat_map}
 use Rattle.sql_ast.specs.declared.name.Column.{Column}
 use Rattle.sql_ast.specs.declared.word.AdditiveOp.{AdditiveOp}

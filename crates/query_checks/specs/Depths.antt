@@ -1,5 +1,5 @@
 -- Views by their nesting depth, as the code finds them: beside each view, whether it nests deeper than some depth.
-use Rattle.std.specs.Prelude.{ℕ, Bool, true, false, not, ◌&&◌, ◌||◌, List, [], ◌∷◌, map, Option, Some, None, if◌then◌else◌}
+use Rattle.std.specs.Prelude.{ℕ, Bool, false, not, ◌&&◌, ◌||◌, List, [], ◌∷◌, map, Option, None, if◌then◌else◌}
 use Rattle.sql_ast.specs.Syntax as s
 use Rattle.sql_ast.specs.Names.{contains}
 use Rattle.sql_catalog.specs.Nesting.{nests_over}

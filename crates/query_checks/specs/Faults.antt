@@ -1,12 +1,12 @@
 -- Which queries are valid: the least number of a rule that is broken in a query, at any depth, or 0.
-use Rattle.std.specs.Prelude.{ℕ, List, [], ◌∷◌, ◌++◌, map, Option, Some, None}
+use Rattle.std.specs.Prelude.{ℕ, List, [], ◌∷◌, ◌++◌, Option}
 use Rattle.sql_ast.specs.declared.name.Column.{Column}
 use Rattle.sql_ast.specs.Syntax as s
 use Rattle.sql_meaning.specs.Names.{column_list}
 use Rattle.sql_value.specs.declared.order_key.SqlType.{SqlType}
 use Rattle.sql_value.specs.declared.order_key.SqlType.TheVariants.{Integer, Varchar}
 use Rattle.query_checks.specs.Columns.{arm_types, choice_types, columns, columns_or_none, else_types, list_columns, list_scope, operand_type, ranges, table_ranges, type_of, types_of}
-use Rattle.query_checks.specs.Rules.{aggregate_misplaced, column_misplaced, fault_if, grouping_outer, keys_unfit, length_unfit, lesser, list_differs, list_unequal, name_ungrouped, names_equal, not_one, one_of, operands_differ, operands_unequal, pair_differs, parts_differ, range_ungrouped, range_unknown, ranges_equal, results_differ, star_ungrouped, sub_misplaced, table_unknown, too_wide, wants, wants_argument}
+use Rattle.query_checks.specs.Rules.{aggregate_misplaced, column_misplaced, grouping_outer, keys_unfit, length_unfit, lesser, list_differs, list_unequal, name_ungrouped, names_equal, not_one, one_of, operands_differ, operands_unequal, pair_differs, parts_differ, range_ungrouped, range_unknown, ranges_equal, results_differ, star_ungrouped, sub_misplaced, table_unknown, too_wide, wants, wants_argument}
 use Rattle.query_checks.specs.Scopes.{Heads, Scopes, first_type, meant, plain, released, scope_with}
 use Rattle.query_checks.specs.declared.column.TypedColumn.{TypedColumn}
 use Rattle.query_checks.specs.declared.site.Site.{Site}

@@ -1,5 +1,5 @@
 -- What a name finds, as the code keeps it: whether it is no column, one or several, and the type of the first.
-use Rattle.std.specs.Prelude.{ℕ, Bool, true, false, List, [], ◌∷◌, Option, Some, None, option_map}
+use Rattle.std.specs.Prelude.{ℕ, List, [], ◌∷◌, Option, Some, None, option_map}
 use Rattle.sql_ast.specs.declared.name.Column.{Column}
 use Rattle.sql_value.specs.declared.order_key.SqlType.{SqlType}
 use Rattle.query_checks.specs.Scopes.{columns_named, named_in, range_in}

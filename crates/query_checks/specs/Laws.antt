@@ -1,16 +1,19 @@
--- What later phases rest on where a query is valid: its set operations are even, and the types of its columns are known.
+-- What later phases rest on where a query is valid: its names stand for one column each, its set operations are even, and the types of its columns are known.
 use Rattle.std.specs.Prelude.{◌≡◌, ℕ, true, false, List, [], map, Option, None, All}
 use Rattle.std.specs.List.{list_any}
 use Rattle.row_bag.specs.declared.tables.Table.{Table}
+use Rattle.sql_ast.specs.declared.name.Column.{Column}
 use Rattle.sql_ast.specs.Syntax as s
 use Rattle.sql_ast.specs.Declarations.{Declared}
 use Rattle.sql_catalog.specs.Nesting.{nests_over, readers_of}
 use Rattle.sql_meaning.specs.Even.{EvenQuery}
 use Rattle.sql_meaning.specs.Meaning.{known_of}
 use Rattle.sql_meaning.specs.Names.{Known, columns_of, names}
-use Rattle.sql_meaning.specs.Scopes.{Shape}
+use Rattle.sql_meaning.specs.Scopes.{Shape, found, shapes_of}
+use Rattle.sql_meaning.specs.Scopes as m
 use Rattle.query_checks.specs.Columns.{columns, columns_or_none}
 use Rattle.query_checks.specs.Faults.{query_fault}
+use Rattle.query_checks.specs.FoundNames.{FoundOnce, FoundQuery, FoundText, IsFull, Visible, ranges_of}
 use Rattle.query_checks.specs.Scopes.{Heads, Scope, Scopes, is_some}
 use Rattle.query_checks.specs.Views.{fault, heads_of, view_refusal}
 use Rattle.query_checks.specs.declared.column.TypedColumn.{TypedColumn}
@@ -40,6 +43,15 @@ SameNames = (heads : Heads) → (known : Known) → SameColumns heads known → 
 -- the tables and views of a catalog have the columns that their meaning gives them
 abbrev pub SameTables : Type 0
 SameTables = (catalog : Declared) → (tables : List Table) → SameColumns (heads_of catalog) (known_of catalog tables)
+
+-- each name of a query without faults stands for one column
+abbrev pub ValidIsFound : Type 0
+ValidIsFound = (heads : Heads) → (known : Known) → SameColumns heads known → (q : s.Query) → query_fault heads q [] ≡ 0 → FoundQuery known [] q
+
+-- a column's name that is found once stands for a cell in rows of these ranges
+abbrev pub FoundHasCell : Type 0
+FoundHasCell =
+    (c : Column) → (any : List Visible) → (scopes : m.Scopes) → ranges_of any ≡ shapes_of scopes → All (All IsFull) scopes → FoundOnce any c → is_some (found c.range c.name scopes) ≡ true
 
 -- ---- set operations
 
@@ -84,3 +96,7 @@ TypedTables = (catalog : Declared) → NestsShallow catalog → view_refusal cat
 -- where the text of a query has no fault, its query has none
 abbrev pub ValidText : Type 0
 ValidText = (catalog : Declared) → (text : s.QueryText) → fault catalog text ≡ 0 → query_fault (heads_of catalog) text.query [] ≡ 0
+
+-- and each name of the text stands for one column
+abbrev pub ValidTextIsFound : Type 0
+ValidTextIsFound = (catalog : Declared) → (tables : List Table) → (text : s.QueryText) → fault catalog text ≡ 0 → FoundText (known_of catalog tables) text

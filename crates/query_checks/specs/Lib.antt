@@ -3,6 +3,7 @@ pub mod Columns
 pub mod Rules
 pub mod Faults
 pub mod Views
+pub mod FoundNames
 pub mod Laws
 pub mod Numbers
 pub mod Found

@@ -12,7 +12,7 @@ use Rattle.sql_ast.specs.declared.word.SetFunction.TheVariants as function
 use Rattle.sql_ast.specs.Names.{has_twins}
 use Rattle.sql_value.specs.declared.order_key.SqlType.{SqlType}
 use Rattle.sql_value.specs.declared.order_key.SqlType.TheVariants.{Integer, Varchar}
-use Rattle.query_checks.specs.Scopes.{Scope, Scopes, has_name, is_name_barred, is_own, is_range_barred, is_some, is_star_barred, meant, scope_of, scope_with}
+use Rattle.query_checks.specs.Scopes.{Scope, Scopes, has_name, is_name_barred, is_own, is_range_barred, is_some, is_star_barred, scope_of}
 use Rattle.query_checks.specs.declared.column.TypedColumn.{TypedColumn}
 use Rattle.query_checks.specs.declared.column.TypedRange.{TypedRange}
 use Rattle.query_checks.specs.declared.site.Site.{Site}

@@ -1,10 +1,9 @@
 -- The scopes and the catalog of the program.
-use Rattle.std.specs.Prelude.{ℕ, List, [], ◌∷◌}
+use Rattle.std.specs.Prelude.{ℕ, [], ◌∷◌}
 use Rattle.sql_ast.specs.declared.text.QueryText.{QueryText}
 use Rattle.sql_ast.specs.Shown as written
 use Rattle.sql_catalog.specs.declared.catalog.Catalog.{Catalog}
 use Rattle.sql_catalog.specs.Shown as declared
-use Rattle.query_checks.specs.Columns.{list_scope}
 use Rattle.query_checks.specs.Scopes as scope
 use Rattle.query_checks.specs.Views.{fault, heads_with}
 use Rattle.query_checks.specs.declared.known.Known.{Known}

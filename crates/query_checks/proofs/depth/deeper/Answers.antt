@@ -1,4 +1,4 @@
-use Rattle.std.proofs.Common.{◌≡◌, ◌∙◌, Bool, List, ap, map}
+use Rattle.std.proofs.Common.{◌∙◌, Bool, List, ap, map}
 use Rattle.std.proofs.lemmas.Result.{IfOk-weaker}
 use Rattle.sql_catalog.specs.declared.reader.Reader.{Reader}
 use Rattle.query_checks.specs.Depths as spec

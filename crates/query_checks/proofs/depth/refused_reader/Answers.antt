@@ -1,4 +1,4 @@
-use Rattle.std.proofs.Common.{◌≡◌, ◌∙◌}
+use Rattle.std.proofs.Common.{◌∙◌}
 use Rattle.sql_catalog.specs.Shown as declared
 use Rattle.query_checks.proofs.Nested.{refused_step}
 use Rattle.query_checks.proofs.depth.refused_reader.Goals as goal

@@ -1,5 +1,7 @@
 use Rattle.query_checks.proofs.Catalogs.{same_columns, typed_tables, valid_text, valid_views}
 use Rattle.query_checks.proofs.Evens.{even_query}
+use Rattle.query_checks.proofs.FoundCells.{found_some}
+use Rattle.query_checks.proofs.Founds.{found_text, found_valid}
 use Rattle.query_checks.proofs.Named.{names_same}
 use Rattle.query_checks.proofs.KnownTypes.{valid_typed}
 use Rattle.query_checks.proofs.laws.check_laws.Goals as goal
@@ -24,3 +26,12 @@ returns-clause-typed_tables c = typed_tables
 
 pub returns-clause-text : goal.returns-clause-text
 returns-clause-text c = valid_text
+
+pub returns-clause-found : goal.returns-clause-found
+returns-clause-found c = found_valid
+
+pub returns-clause-found_text : goal.returns-clause-found_text
+returns-clause-found_text c = found_text
+
+pub returns-clause-cells : goal.returns-clause-cells
+returns-clause-cells c = found_some
