@@ -1,14 +1,14 @@
-//! Tests that cross crates: the worked rows over files and a sink in memory, the values of
-//! expressions, and public calls of the layers with ample memory.
+//! Tests of what only a program that calls the libraries can show: trees of texts, graphs, bags, files that
+//! fail, and a sink that fails. All else that is tested stands in the scripts of `sql_cases`.
 #![tactic(auto)]
 
 #[cfg(test)]
-mod chains;
+mod bags;
 #[cfg(test)]
-mod expressions;
+mod faults;
 #[cfg(test)]
-mod layers;
+mod files;
 #[cfg(test)]
-mod rows;
+mod graphs;
 #[cfg(test)]
-mod running;
+mod trees;

@@ -1,4 +1,0 @@
-use Rattle.qgm_tests.proofs.rows.a_missing_file_is_named.Given as goal
-
-abbrev pub ghosts-run : goal.ghosts-run
-ghosts-run g a = record { name = a.blank.name; parts = a.blank.parts }
