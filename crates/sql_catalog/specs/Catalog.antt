@@ -10,7 +10,7 @@ use Rattle.sql_ast.specs.Shown as shown
 use Rattle.sql_ast.specs.Syntax as s
 use Rattle.sql_catalog.specs.declared.key.Key.{Key}
 use Rattle.sql_catalog.specs.declared.reader.Reader.{Reader}
-use Rattle.sql_ast.specs.Declarations.{columns_of, names_of, types_of}
+use Rattle.sql_ast.specs.Declarations.{Declared, columns_of, declares, known_names, names_of, tables_of, types_of, views_of}
 use Rattle.sql_catalog.specs.Keys.{keys_of}
 use Rattle.sql_ast.specs.Names.{same_name, contains, has_twins}
 use Rattle.sql_catalog.specs.Nesting.{readers_of, is_recursive, nests_over}
