@@ -64,13 +64,7 @@ fn answer(
     ensures report { IfOk result (λ report. report ≡ report_of (checked_answer views.now checked.now tables)) }
     ensures line { IfOk result (λ report. report ≢ Usage) }
 {
-    let bag = execute(
-        alloc,
-        &checked.query,
-        views.schema.views.as_slice(),
-        &tables,
-    )?;
-    drop(tables);
+    let bag = execute(alloc, &checked.query, views.schema.views.as_slice(), tables)?;
     report_rows(alloc, checked, bag)
 }
 
