@@ -12,7 +12,7 @@ use Rattle.sql_value.specs.declared.cell.Cell.{Cell}
 use Rattle.sql_value.specs.declared.level.Level.{Level}
 use Rattle.sql_value.specs.declared.level.Level.TheVariants.{No, Cardinality, Division, Overflow, Yes}
 use Rattle.sql_value.specs.declared.truth.Truth.{Truth}
-use Rattle.row_bag.proofs.Binds.{bind-bind, keep-append, unit-bind}
+use Rattle.row_bag.proofs.Binds.{bind-append, bind-bind, keep-append, unit-bind}
 use Rattle.row_bag.proofs.Levels.{least-yes}
 use Rattle.query_loops.specs.Rows.{beside, listed, picked}
 use Rattle.query_loops.proofs.There.{append-same, keep-same}
@@ -27,6 +27,13 @@ first_there r rows = filter-append is_there (r ∷ []) rows
 pub selected_there : {T : Type 0} (test : T → Truth) (list : T → List Cell) (r : Row T) (rows : List (Row T)) →
     those_there (selected test list (r ∷ rows)) ≡ those_there (picked test list r ∷ []) ++ those_there (selected test list rows)
 selected_there test list r rows = ap those_there (selected_one test list r rows) ∙ first_there (picked test list r) (selected test list rows)
+
+pub selected_more : {T : Type 0} (test : T → Truth) (list : T → List Cell) (rows : List (Row T)) (r : Row T) →
+    those_there (selected test list (rows ++ r ∷ [])) ≡ those_there (selected test list rows) ++ those_there (picked test list r ∷ [])
+selected_more test list rows r =
+    ap those_there (bind-append rows (r ∷ []) (λ x. keep (test x).t (unit (list x))))
+    ∙ filter-append is_there (selected test list rows) (selected test list (r ∷ []))
+    ∙ ap (λ rs. those_there (selected test list rows) ++ those_there rs) (selected_one test list r [])
 
 pub partners_one : (on : List Cell → Truth) (y : Row (List Cell)) (ys : List (Row (List Cell))) (left : List Cell) →
     partners on (y ∷ ys) left ≡ picked on (λ cells. cells) (beside left y) ∷ partners on ys left
@@ -59,6 +66,8 @@ product_unit (x ∷ xs) =
     ∙ ap₂ (λ r rows. r ∷ rows) (ap₂ row (append-nil x.cells) (least-yes x.level)) (product_unit xs)
 
 pub ruleset selected_steps = (common_steps, selected_there)
+
+pub ruleset more_steps = (common_steps, selected_more)
 
 pub ruleset partner_steps = (common_steps, partners_there)
 

@@ -2,6 +2,7 @@ pub mod Agreed
 pub mod Chains
 pub mod Each
 pub mod Grouped
+pub mod Means
 pub mod Onces
 pub mod SameGroups
 pub mod SameKnown
@@ -9,4 +10,5 @@ pub mod SameRows
 pub mod SameSets
 pub mod SameSubqueries
 pub mod There
+pub mod Unread
 pub mod Values

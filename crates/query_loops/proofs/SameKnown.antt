@@ -27,7 +27,7 @@ use Rattle.query_loops.proofs.SameSets.{combined_same, distinct_if_same, interse
 use Rattle.query_loops.proofs.SameSubqueries.{any_same, exists_same, quantified_same, scalar_same}
 
 -- conditions and lists that are the same
-selected_by : {T : Type 0} (p r : T → Truth) (f h : T → List Cell) (rows : List (Row T)) → ((x : T) → p x ≡ r x) → ((x : T) → f x ≡ h x) → joins.selected p f rows ≡ joins.selected r h rows
+pub selected_by : {T : Type 0} (p r : T → Truth) (f h : T → List Cell) (rows : List (Row T)) → ((x : T) → p x ≡ r x) → ((x : T) → f x ≡ h x) → joins.selected p f rows ≡ joins.selected r h rows
 selected_by p r f h rows i j = ap₂ (λ p f. joins.selected p f rows) (fun_ext i) (fun_ext j)
 
 module _ (known other : List ℕ → m.Bag) where

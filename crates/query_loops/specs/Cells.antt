@@ -1,5 +1,5 @@
 -- Arguments of aggregates.
-use Rattle.std.specs.Prelude.{Bool, true, false}
+use Rattle.std.specs.Prelude.{ℕ, ◌-◌, ◌*◌, ◌^◌, ℤ, pos, ◌+ℤ◌, ◌≤ℤ◌, Bool, true, false}
 use Rattle.row_bag.specs.declared.row.Row.{Row}
 use Rattle.sql_value.specs.declared.cell.Cell.{Cell}
 use Rattle.sql_value.specs.declared.cell.Cell.TheVariants.{Null}
@@ -11,3 +11,7 @@ unless_cell_null cell = true
 -- the cell isn't null
 abbrev pub is_value : Row Cell → Bool
 is_value r = unless_cell_null r.cells
+
+-- a total that so many numbers of 64 bits can have
+abbrev pub IsTotalOf : ℕ → ℤ → Type 0
+IsTotalOf count total = (total ≤ℤ pos ((2 ^ 63 - 1) * count)) × (pos 0 ≤ℤ (total +ℤ pos (2 ^ 63 * count)))

@@ -8,3 +8,5 @@ pub mod Cells
 pub mod Groups
 pub mod Laws
 pub mod Reads
+pub mod Parts
+pub mod Taken

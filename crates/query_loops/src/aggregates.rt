@@ -1,5 +1,5 @@
 // Aggregates of cells (SQL-92, 6.5).
-ghost use Rattle.std.specs.Prelude.{◌≡◌, ℕ, ◌+◌, ◌≤◌, ◌+ℤ◌, pos, length, if◌then◌else◌, Option, Some, None, not, nat_eq, filter, false, true, [], ◌∷◌, IfOk};
+ghost use Rattle.std.specs.Prelude.{◌≡◌, ℕ, pos, if◌then◌else◌, None, not, nat_eq, filter, is_some, unwrap_or, [], IfOk};
 ghost use Rattle.query_loops.specs.Cells as spec;
 ghost use Rattle.row_bag.specs.Bags.{if_there, total, unit};
 ghost use Rattle.row_bag.specs.Errors.{error_among, error_at};
@@ -150,39 +150,43 @@ fn how_many(rows: &[Row<Cell>]) -> usize
     count
 }
 
-// The number of a row that is there.
-fn number_of(row: &Row<Cell>) -> i64
-    ensures { result ≡ if_there (pos 0) (λ c level. groups.number_in c) row.now.cells row.now.level }
+/// Numbers of 64 bits: how many they are, and their exact total.
+#[derive(Clone, Copy)]
+struct Totals {
+    count: usize,
+    total: i128,
+}
+
+// The number of a row, none of a row that isn't there.
+fn number_of(row: &Row<Cell>) -> Option<i64>
+    ensures number { unwrap_or result (pos 0) ≡ if_there (pos 0) (λ c level. groups.number_in c) row.now.cells row.now.level }
+    ensures count { ◌≡◌ {A = ℕ} (if is_some result then 1 else 0) (if_there 0 (λ c level. 1) row.now.cells row.now.level) }
 {
     if row.level == Level::No {
-        return 0;
+        return None;
     }
     match row.cells {
-        Cell::Int(number) => number,
-        Cell::Text(_) | Cell::Null | Cell::Err(_) => 0,
+        Cell::Int(number) => Some(number),
+        Cell::Text(_) | Cell::Null | Cell::Err(_) => Some(0),
     }
 }
 
-// A sum of numbers.
-fn added(sum: i128, number: i64) -> Result<i128, OutOfMemory>
-    ensures { IfOk result (λ n. n ≡ sum +ℤ number) }
-{
-    match sum.checked_add(i128::from(number)) {
-        Some(next) => Ok(next),
-        None => Err(OutOfMemory),
-    }
-}
-
-// The exact total.
+// How many rows there are, and the exact total of their numbers.
 #[tactic(auto, using(crate::proofs::Chains::sum_steps))]
-fn exact_total(rows: &[Row<Cell>]) -> Result<i128, OutOfMemory>
-    ensures { IfOk result (λ n. n ≡ groups.exact_total rows.now) }
+fn add_up(rows: &[Row<Cell>]) -> Totals
+    ensures count { result.count ≡ joins.how_many rows.now }
+    ensures total { result.total ≡ groups.exact_total rows.now }
+    ensures within { spec.IsTotalOf result.count result.total }
 {
-    let mut sum: i128 = 0;
+    let mut count = 0;
+    let mut total: i128 = 0;
     for row in rows {
-        sum = added(sum, number_of(row))?;
+        if let Some(number) = number_of(row) {
+            count += 1;
+            total += i128::from(number);
+        }
     }
-    Ok(sum)
+    Totals { count, total }
 }
 
 // The total of so many numbers.
@@ -199,22 +203,14 @@ fn sum(count: usize, total: i128) -> Cell
 }
 
 // The mean of so many numbers.
-fn mean(count: usize, total: i128) -> Result<Cell, OutOfMemory>
-    ensures { IfOk result (λ cell. cell ≡ groups.mean count total) }
+fn mean(count: usize, total: i128) -> Cell
+    requires within { spec.IsTotalOf count total }
+    ensures { result ≡ groups.mean count total }
 {
     if count == 0 {
-        return Ok(Cell::Null);
+        return Cell::Null;
     }
-    let Ok(divisor) = i128::try_from(count) else {
-        return Err(OutOfMemory);
-    };
-    let Some(mean) = total.checked_div(divisor) else {
-        return Err(OutOfMemory);
-    };
-    match i64::try_from(mean) {
-        Ok(number) => Ok(Cell::Int(number)),
-        Err(_) => Err(OutOfMemory),
-    }
+    Cell::Int((total / count as i128) as i64)
 }
 
 /// A count, at most 9223372036854775807.
@@ -301,8 +297,14 @@ fn of_values(alloc: Global, f: SetFunction, rows: &[Row<Cell>]) -> Result<Cell, 
 {
     match f {
         SetFunction::Count => Ok(count_cell(how_many(rows))),
-        SetFunction::Sum => Ok(sum(how_many(rows), exact_total(rows)?)),
-        SetFunction::Avg => mean(how_many(rows), exact_total(rows)?),
+        SetFunction::Sum => {
+            let totals = add_up(rows);
+            Ok(sum(totals.count, totals.total))
+        }
+        SetFunction::Avg => {
+            let totals = add_up(rows);
+            Ok(mean(totals.count, totals.total))
+        }
         SetFunction::Min => min(alloc, rows),
         SetFunction::Max => max(alloc, rows),
     }

@@ -3,6 +3,7 @@ ghost use Rattle.std.specs.Prelude.{◌≡◌, IfOk};
 ghost use Rattle.sql_meaning.specs.ResolvedMeaning as m;
 ghost use Rattle.sql_meaning.specs.ResolvedShown as shown;
 ghost use Rattle.query_loops.specs.Nests as nests;
+ghost use Rattle.query_loops.specs.Parts.{rows_of};
 ghost use Rattle.query_loops.specs.Scopes.{group, known_in, scopes};
 ghost use Rattle.shared_types.specs.declared.compare.CmpOp.TheVariants as op;
 ghost use Rattle.sql_meaning.specs.Subqueries as u;
@@ -79,7 +80,7 @@ impl<
         s: &Scopes<'_>,
     ) -> Result<Truth, OutOfMemory>
         requires rows { nests.Rows self.now.setting.depth (R.pre self.now.rows) (R.post self.now.rows) }
-        ensures { IfOk result (λ truth. truth ≡ u.quantified each op x.now (m.rows (known_in self.now.setting) (shown.query q.now) (scopes s.now))) }
+        ensures { IfOk result (λ truth. truth ≡ u.quantified each op x.now (rows_of self.now.setting s.now q.now)) }
     {
         let rows = self.rows(q, s)?;
         Ok(quantified(each, op, x, rows.rows()))
@@ -88,7 +89,7 @@ impl<
     // Whether a value is in the rows of a subquery.
     fn among_rows(&self, x: &Cell, q: &Query, s: &Scopes<'_>) -> Result<Truth, OutOfMemory>
         requires rows { nests.Rows self.now.setting.depth (R.pre self.now.rows) (R.post self.now.rows) }
-        ensures { IfOk result (λ truth. truth ≡ u.compare_any op.Eq x.now (m.rows (known_in self.now.setting) (shown.query q.now) (scopes s.now))) }
+        ensures { IfOk result (λ truth. truth ≡ u.compare_any op.Eq x.now (rows_of self.now.setting s.now q.now)) }
     {
         let rows = self.rows(q, s)?;
         Ok(compare_any(CmpOp::Eq, x, rows.rows()))
@@ -97,7 +98,7 @@ impl<
     // Whether a subquery has a row.
     fn exists(&self, q: &Query, s: &Scopes<'_>) -> Result<Truth, OutOfMemory>
         requires rows { nests.Rows self.now.setting.depth (R.pre self.now.rows) (R.post self.now.rows) }
-        ensures { IfOk result (λ truth. truth ≡ u.exists (m.rows (known_in self.now.setting) (shown.query q.now) (scopes s.now))) }
+        ensures { IfOk result (λ truth. truth ≡ u.exists (rows_of self.now.setting s.now q.now)) }
     {
         let rows = self.rows(q, s)?;
         Ok(exists(rows.rows()))

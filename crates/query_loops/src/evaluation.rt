@@ -3,6 +3,7 @@ ghost use Rattle.std.specs.Prelude.{◌≡◌, IfOk, unwrap_or};
 ghost use Rattle.sql_meaning.specs.ResolvedMeaning as m;
 ghost use Rattle.sql_meaning.specs.ResolvedShown as shown;
 ghost use Rattle.query_loops.specs.Nests as nests;
+ghost use Rattle.query_loops.specs.Parts.{rows_of, searched, simple};
 ghost use Rattle.query_loops.specs.Scopes.{group, known_in, scopes};
 ghost use Rattle.sql_meaning.specs.Subqueries as u;
 ghost use Rattle.sql_value.specs.declared.cell.Cell.{Cell};
@@ -137,7 +138,7 @@ impl<
     ) -> Result<Cell, OutOfMemory>
         requires value { nests.Values self.now.setting.depth (V.pre self.now.value) (V.post self.now.value) }
         requires test { nests.Tests self.now.setting.depth (P.pre self.now.test) (P.post self.now.test) }
-        ensures { IfOk result (λ cell. cell ≡ m.of_arms (known_in self.now.setting) (shown.arm_list list.now) (m.value (known_in self.now.setting) (shown.value last.now) (scopes s.now) (group g.now)) (scopes s.now) (group g.now)) }
+        ensures { IfOk result (λ cell. cell ≡ searched self.now.setting s.now g.now list.now last.now) }
     {
         let found = self.first_true(list, s, g)?;
         self.or_last(found, last, s, g)
@@ -153,7 +154,7 @@ impl<
         g: &Group<'_>,
     ) -> Result<Cell, OutOfMemory>
         requires value { nests.Values self.now.setting.depth (V.pre self.now.value) (V.post self.now.value) }
-        ensures { IfOk result (λ cell. cell ≡ m.of_choices (known_in self.now.setting) x.now (shown.choice_list list.now) (m.value (known_in self.now.setting) (shown.value last.now) (scopes s.now) (group g.now)) (scopes s.now) (group g.now)) }
+        ensures { IfOk result (λ cell. cell ≡ simple self.now.setting s.now g.now x.now list.now last.now) }
     {
         let found = self.first_equal(x, list, s, g)?;
         self.or_last(found, last, s, g)
@@ -183,7 +184,7 @@ impl<
     // A scalar subquery.
     fn scalar(&self, q: &Query, s: &Scopes<'_>) -> Result<Cell, OutOfMemory>
         requires rows { nests.Rows self.now.setting.depth (R.pre self.now.rows) (R.post self.now.rows) }
-        ensures { IfOk result (λ cell. cell ≡ u.scalar (m.rows (known_in self.now.setting) (shown.query q.now) (scopes s.now))) }
+        ensures { IfOk result (λ cell. cell ≡ u.scalar (rows_of self.now.setting s.now q.now)) }
     {
         let rows = self.rows(q, s)?;
         scalar(self.setting.alloc, rows)

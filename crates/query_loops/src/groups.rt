@@ -1,27 +1,24 @@
 // The groups of a block (SQL-92, 7.7 and 7.8).
-ghost use Rattle.std.specs.Prelude.{◌≡◌, ℕ, ◌+◌, ◌∷◌, [], ◌++◌, Bool, List, Option, Some, None, map, not, nat_eq, nat_le, if◌then◌else◌, replicate, IfOk};
+ghost use Rattle.std.specs.Prelude.{◌≡◌, ℕ, ◌∷◌, [], Some, None, map, not, nat_eq, if◌then◌else◌, IfOk};
 ghost use Rattle.std.specs.List.{list_any};
 ghost use Rattle.sql_meaning.specs.ResolvedMeaning as m;
-ghost use Rattle.sql_meaning.specs.ResolvedShown as shown;
 ghost use Rattle.query_loops.specs.Groups as spec;
 ghost use Rattle.query_loops.specs.Nests as nests;
-ghost use Rattle.query_loops.specs.Rows.{if_some, picked, test_in};
-ghost use Rattle.query_loops.specs.Scopes.{group, known_in, scopes};
-ghost use Rattle.row_bag.specs.Bags.{bind, if_there, row, unit};
-ghost use Rattle.row_bag.specs.Errors.{error_among, error_in};
-ghost use Rattle.row_bag.specs.Sets.{multiplicity, of_group, once, same_cells};
+ghost use Rattle.query_loops.specs.Parts.{condition, kept};
+ghost use Rattle.query_loops.specs.Rows.{if_some, picked};
+ghost use Rattle.query_loops.specs.Scopes.{group};
+ghost use Rattle.row_bag.specs.Bags.{if_there, row, unit};
+ghost use Rattle.row_bag.specs.Errors.{error_among, error_at, error_in};
+ghost use Rattle.row_bag.specs.Sets.{multiplicity, of_group, same_cells};
 ghost use Rattle.row_bag.specs.Verdict.{those_there};
 ghost use Rattle.sql_meaning.specs.Groups as groups;
-ghost use Rattle.sql_meaning.specs.Joins as joins;
-ghost use Rattle.row_bag.specs.Errors.{error_at};
 ghost use Rattle.sql_value.specs.Cells.{error_of, worst_of};
-ghost use Rattle.sql_value.specs.Level.{level_of};
 ghost use Rattle.sql_value.specs.declared.cell.Cell.TheVariants.{Null};
 ghost use Rattle.sql_value.specs.declared.level.Level.TheVariants.{Yes};
 
 use crate::nest::Loops;
 use crate::pair::nulls;
-use crate::scope::{Group, Scopes, Setting};
+use crate::scope::{Group, GroupedSelect, Scopes, Setting};
 use crate::sets::{error_of, failed_cells, level_of};
 use crate::subqueries::{error_at, worst_of};
 use crate::tuple::{copied, same_cells};
@@ -196,65 +193,59 @@ impl<
     F: Fn(&Setting<'_>, &From, &Scopes<'_>) -> Result<Bag, OutOfMemory>,
     R: Fn(&Setting<'_>, &Query, &Scopes<'_>) -> Result<Bag, OutOfMemory>,
 > Loops<'_, V, P, F, R> {
-    // What a list gives of a group, where HAVING doesn't reject it.
+    // What the list gives of a group, where HAVING doesn't reject it.
     fn pick_group(
         &self,
-        list: &[Value],
-        having: &Test,
+        select: &GroupedSelect<'_>,
         key: &[Cell],
         g: &Group<'_>,
         level: Level,
-        s: &Scopes<'_>,
     ) -> Result<Option<Row>, OutOfMemory>
         requires value { nests.Values self.now.setting.depth (V.pre self.now.value) (V.post self.now.value) }
         requires test { nests.Tests self.now.setting.depth (P.pre self.now.test) (P.post self.now.test) }
-        ensures { IfOk result (λ made. if_some made ≡ those_there (picked (spec.test_of (known_in self.now.setting) (scopes s.now) (shown.test having.now)) (spec.cells_of (known_in self.now.setting) (scopes s.now) (shown.value_list list.now)) (row (groups.one_group key.now (group g.now)) level) ∷ [])) }
+        ensures { IfOk result (λ made. if_some made ≡ those_there (spec.picked_group self.now.setting select.now (row (groups.one_group key.now (group g.now)) level) ∷ [])) }
     {
-        let inside = Scopes::Inside(key, &*s);
-        let level = keep(level, self.test(having, &inside, g)?);
+        let inside = Scopes::Inside(key, select.scopes);
+        let level = keep(level, self.test(select.having, &inside, g)?);
         if level == Level::No {
             return Ok(None);
         }
-        let cells = self.cells(list, &inside, g)?;
+        let cells = self.cells(select.list, &inside, g)?;
         Ok(Some(Row { cells, level }))
     }
 
     // What the group of a key gives.
     fn group_of_key(
         &self,
-        list: &[Value],
-        having: &Test,
+        select: &GroupedSelect<'_>,
         places: &[usize],
         rows: &[Row],
         key: &[Cell],
-        s: &Scopes<'_>,
     ) -> Result<Option<Row>, OutOfMemory>
         requires value { nests.Values self.now.setting.depth (V.pre self.now.value) (V.post self.now.value) }
         requires test { nests.Tests self.now.setting.depth (P.pre self.now.test) (P.post self.now.test) }
-        ensures { IfOk result (λ made. if_some made ≡ those_there (picked (spec.test_of (known_in self.now.setting) (scopes s.now) (shown.test having.now)) (spec.cells_of (known_in self.now.setting) (scopes s.now) (shown.value_list list.now)) (row (spec.group_of places.now rows.now key.now) Yes) ∷ [])) }
+        ensures { IfOk result (λ made. if_some made ≡ those_there (spec.picked_group self.now.setting select.now (row (spec.group_of places.now rows.now key.now) Yes) ∷ [])) }
     {
         let members = members(self.setting.alloc, places, key, rows)?;
         let g = Group {
             members: &members,
             failed: None,
         };
-        self.pick_group(list, having, key, &g, Level::Yes, s)
+        self.pick_group(select, key, &g, Level::Yes)
     }
 
     // What the group of a row's key gives, where the key doesn't occur in the rows after it.
     fn group_at(
         &self,
-        list: &[Value],
-        having: &Test,
+        select: &GroupedSelect<'_>,
         places: &[usize],
         rows: &[Row],
         row: &Row,
         after: &[Row],
-        s: &Scopes<'_>,
     ) -> Result<Option<Row>, OutOfMemory>
         requires value { nests.Values self.now.setting.depth (V.pre self.now.value) (V.post self.now.value) }
         requires test { nests.Tests self.now.setting.depth (P.pre self.now.test) (P.post self.now.test) }
-        ensures { IfOk result (λ made. if_some made ≡ those_there (joins.selected (spec.test_of (known_in self.now.setting) (scopes s.now) (shown.test having.now)) (spec.cells_of (known_in self.now.setting) (scopes s.now) (shown.value_list list.now)) (spec.last_group places.now rows.now row.now after.now))) }
+        ensures { IfOk result (λ made. if_some made ≡ those_there (spec.picked_groups self.now.setting select.now (spec.last_group places.now rows.now row.now after.now))) }
     {
         let alloc = self.setting.alloc;
         let cells = masked(alloc, places, row.cells.as_slice())?;
@@ -263,49 +254,44 @@ impl<
         if !last {
             return Ok(None);
         }
-        self.group_of_key(list, having, places, rows, key, s)
+        self.group_of_key(select, places, rows, key)
     }
 
-    // What a list gives of the groups that HAVING keeps.
+    // What the list gives of the groups that HAVING keeps.
     #[tactic(auto, using(crate::proofs::Grouped::groups_steps))]
     fn groups(
         &self,
-        list: &[Value],
-        having: &Test,
+        select: &GroupedSelect<'_>,
         places: &[usize],
         rows: &[Row],
-        s: &Scopes<'_>,
     ) -> Result<Bag, OutOfMemory>
         requires value { nests.Values self.now.setting.depth (V.pre self.now.value) (V.post self.now.value) }
         requires test { nests.Tests self.now.setting.depth (P.pre self.now.test) (P.post self.now.test) }
-        ensures { IfOk result (λ made. made ≡ those_there (joins.selected (spec.test_of (known_in self.now.setting) (scopes s.now) (shown.test having.now)) (spec.cells_of (known_in self.now.setting) (scopes s.now) (shown.value_list list.now)) (spec.groups_among places.now rows.now rows.now))) }
+        ensures { IfOk result (λ made. made ≡ those_there (spec.picked_groups self.now.setting select.now (spec.groups_among places.now rows.now rows.now))) }
     {
         let mut made = Bag::new(self.setting.alloc);
         for i in 0..rows.len() {
-            let after = &rows[i + 1..];
-            if let Some(row) = self.group_at(list, having, places, rows, &rows[i], after, s)? {
+            if let Some(row) = self.group_at(select, places, rows, &rows[i], &rows[i + 1..])? {
                 made.push(row)?;
             }
         }
         Ok(made)
     }
 
-    // What a list gives of one group, where HAVING doesn't reject it.
+    // What the list gives of one group, where HAVING doesn't reject it.
     fn one_group(
         &self,
-        list: &[Value],
-        having: &Test,
+        select: &GroupedSelect<'_>,
         key: &[Cell],
         g: &Group<'_>,
         level: Level,
-        s: &Scopes<'_>,
     ) -> Result<Bag, OutOfMemory>
         requires value { nests.Values self.now.setting.depth (V.pre self.now.value) (V.post self.now.value) }
         requires test { nests.Tests self.now.setting.depth (P.pre self.now.test) (P.post self.now.test) }
-        ensures { IfOk result (λ made. made ≡ those_there (joins.selected (spec.test_of (known_in self.now.setting) (scopes s.now) (shown.test having.now)) (spec.cells_of (known_in self.now.setting) (scopes s.now) (shown.value_list list.now)) (row (groups.one_group key.now (group g.now)) level ∷ []))) }
+        ensures { IfOk result (λ made. made ≡ those_there (spec.picked_groups self.now.setting select.now (row (groups.one_group key.now (group g.now)) level ∷ []))) }
     {
         let mut made = Bag::new(self.setting.alloc);
-        if let Some(row) = self.pick_group(list, having, key, g, level, s)? {
+        if let Some(row) = self.pick_group(select, key, g, level)? {
             made.push(row)?;
         }
         Ok(made)
@@ -314,36 +300,32 @@ impl<
     // The same of the one row that an error is.
     fn failed_group(
         &self,
-        list: &[Value],
-        having: &Test,
+        select: &GroupedSelect<'_>,
         width: usize,
         kind: Kind,
-        s: &Scopes<'_>,
     ) -> Result<Bag, OutOfMemory>
         requires value { nests.Values self.now.setting.depth (V.pre self.now.value) (V.post self.now.value) }
         requires test { nests.Tests self.now.setting.depth (P.pre self.now.test) (P.post self.now.test) }
-        ensures { IfOk result (λ made. made ≡ those_there (joins.selected (spec.test_of (known_in self.now.setting) (scopes s.now) (shown.test having.now)) (spec.cells_of (known_in self.now.setting) (scopes s.now) (shown.value_list list.now)) (row (groups.one_group (m.failed_cells width kind) (groups.failed kind)) (level_of kind) ∷ []))) }
+        ensures { IfOk result (λ made. made ≡ those_there (spec.picked_groups self.now.setting select.now (spec.failed_group width kind ∷ []))) }
     {
         let key = failed_cells(self.setting.alloc, width, kind)?;
         let g = Group {
             members: &[],
             failed: Some(kind),
         };
-        self.one_group(list, having, key.as_slice(), &g, level_of(kind), s)
+        self.one_group(select, key.as_slice(), &g, level_of(kind))
     }
 
     // The same of all rows as one group.
     fn whole_group(
         &self,
-        list: &[Value],
-        having: &Test,
+        select: &GroupedSelect<'_>,
         width: usize,
         rows: &[Row],
-        s: &Scopes<'_>,
     ) -> Result<Bag, OutOfMemory>
         requires value { nests.Values self.now.setting.depth (V.pre self.now.value) (V.post self.now.value) }
         requires test { nests.Tests self.now.setting.depth (P.pre self.now.test) (P.post self.now.test) }
-        ensures { IfOk result (λ made. made ≡ those_there (joins.selected (spec.test_of (known_in self.now.setting) (scopes s.now) (shown.test having.now)) (spec.cells_of (known_in self.now.setting) (scopes s.now) (shown.value_list list.now)) (unit (groups.one_group (replicate width Null) (groups.members rows.now))))) }
+        ensures { IfOk result (λ made. made ≡ those_there (spec.picked_groups self.now.setting select.now (spec.whole_group width rows.now ∷ []))) }
     {
         let alloc = self.setting.alloc;
         let key = nulls(alloc, width)?;
@@ -352,72 +334,66 @@ impl<
             members: &members,
             failed: None,
         };
-        self.one_group(list, having, &key, &g, Level::Yes, s)
+        self.one_group(select, &key, &g, Level::Yes)
     }
 
-    // What a list gives of the groups that HAVING keeps, with GROUP BY.
+    // What the list gives of the groups that HAVING keeps, with GROUP BY.
     fn keyed_rows(
         &self,
-        list: &[Value],
-        having: &Test,
+        select: &GroupedSelect<'_>,
         places: &[usize],
         width: usize,
         rows: &[Row],
-        s: &Scopes<'_>,
     ) -> Result<Bag, OutOfMemory>
         requires value { nests.Values self.now.setting.depth (V.pre self.now.value) (V.post self.now.value) }
         requires test { nests.Tests self.now.setting.depth (P.pre self.now.test) (P.post self.now.test) }
-        ensures { IfOk result (λ made. made ≡ those_there (joins.selected (spec.test_of (known_in self.now.setting) (scopes s.now) (shown.test having.now)) (spec.cells_of (known_in self.now.setting) (scopes s.now) (shown.value_list list.now)) (m.groups (Some places.now) width rows.now))) }
+        ensures { IfOk result (λ made. made ≡ those_there (spec.picked_groups self.now.setting select.now (m.groups (Some places.now) width rows.now))) }
     {
         match group_error(places, rows) {
-            Some(kind) => self.failed_group(list, having, width, kind, s),
-            None => self.groups(list, having, places, rows, s),
+            Some(kind) => self.failed_group(select, width, kind),
+            None => self.groups(select, places, rows),
         }
     }
 
     // The same without GROUP BY: there is one group.
     fn unkeyed_rows(
         &self,
-        list: &[Value],
-        having: &Test,
+        select: &GroupedSelect<'_>,
         width: usize,
         rows: &[Row],
-        s: &Scopes<'_>,
     ) -> Result<Bag, OutOfMemory>
         requires value { nests.Values self.now.setting.depth (V.pre self.now.value) (V.post self.now.value) }
         requires test { nests.Tests self.now.setting.depth (P.pre self.now.test) (P.post self.now.test) }
-        ensures { IfOk result (λ made. made ≡ those_there (joins.selected (spec.test_of (known_in self.now.setting) (scopes s.now) (shown.test having.now)) (spec.cells_of (known_in self.now.setting) (scopes s.now) (shown.value_list list.now)) (m.groups None width rows.now))) }
+        ensures { IfOk result (λ made. made ≡ those_there (spec.picked_groups self.now.setting select.now (m.groups None width rows.now))) }
     {
         match group_error(&[], rows) {
-            Some(kind) => self.failed_group(list, having, width, kind, s),
-            None => self.whole_group(list, having, width, rows, s),
+            Some(kind) => self.failed_group(select, width, kind),
+            None => self.whole_group(select, width, rows),
         }
     }
 
-    /// What a list gives of the groups of rows that HAVING keeps.
+    /// What the list gives of the groups of rows that HAVING keeps.
     pub fn grouped_rows(
         &self,
-        list: &[Value],
-        having: &Test,
+        select: &GroupedSelect<'_>,
         by: &Option<Items<usize>>,
         width: usize,
         rows: &[Row],
-        s: &Scopes<'_>,
     ) -> Result<Bag, OutOfMemory>
         requires value { nests.Values self.now.setting.depth (V.pre self.now.value) (V.post self.now.value) }
         requires test { nests.Tests self.now.setting.depth (P.pre self.now.test) (P.post self.now.test) }
-        ensures { IfOk result (λ made. made ≡ those_there (joins.selected (spec.test_of (known_in self.now.setting) (scopes s.now) (shown.test having.now)) (spec.cells_of (known_in self.now.setting) (scopes s.now) (shown.value_list list.now)) (m.groups by.now width rows.now))) }
+        ensures { IfOk result (λ made. made ≡ those_there (spec.picked_groups self.now.setting select.now (m.groups by.now width rows.now))) }
     {
         match by {
-            Some(places) => self.keyed_rows(list, having, places.as_slice(), width, rows, s),
-            None => self.unkeyed_rows(list, having, width, rows, s),
+            Some(places) => self.keyed_rows(select, places.as_slice(), width, rows),
+            None => self.unkeyed_rows(select, width, rows),
         }
     }
 
     // A row at the level at which a condition keeps it, none where it rejects it.
     fn keep_row(&self, p: &Test, row: &Row, s: &Scopes<'_>) -> Result<Option<Row>, OutOfMemory>
         requires test { nests.Tests self.now.setting.depth (P.pre self.now.test) (P.post self.now.test) }
-        ensures { IfOk result (λ made. if_some made ≡ those_there (picked (test_in (known_in self.now.setting) (scopes s.now) (shown.test p.now)) (λ cells. cells) row.now ∷ [])) }
+        ensures { IfOk result (λ made. if_some made ≡ those_there (picked (condition self.now.setting s.now p.now) (λ cells. cells) row.now ∷ [])) }
     {
         let level = self.level(p, row, s)?;
         if level == Level::No {
@@ -431,7 +407,7 @@ impl<
     #[tactic(auto, using(crate::proofs::Each::kept_steps))]
     pub fn kept(&self, p: &Test, rows: &[Row], s: &Scopes<'_>) -> Result<Bag, OutOfMemory>
         requires test { nests.Tests self.now.setting.depth (P.pre self.now.test) (P.post self.now.test) }
-        ensures { IfOk result (λ made. made ≡ those_there (joins.kept (test_in (known_in self.now.setting) (scopes s.now) (shown.test p.now)) rows.now)) }
+        ensures { IfOk result (λ made. made ≡ those_there (kept self.now.setting s.now p.now rows.now)) }
     {
         let mut made = Bag::new(self.setting.alloc);
         for row in rows {

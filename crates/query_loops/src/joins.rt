@@ -1,15 +1,12 @@
 // The rows of a FROM (SQL-92, 7.4 and 7.5).
-ghost use Rattle.std.specs.Prelude.{◌≡◌, ◌∷◌, [], ◌++◌, map, IfOk, OnOk};
-ghost use Rattle.sql_meaning.specs.ResolvedMeaning as m;
-ghost use Rattle.sql_meaning.specs.ResolvedShown as shown;
+ghost use Rattle.std.specs.Prelude.{◌≡◌, ◌∷◌, [], IfOk};
 ghost use Rattle.query_loops.specs.Nests as nests;
-ghost use Rattle.query_loops.specs.Rows.{beside, if_some, picked, test_in, with_nulls};
-ghost use Rattle.query_loops.specs.Scopes.{group, known_in, scopes};
+ghost use Rattle.query_loops.specs.Parts.{condition};
+ghost use Rattle.query_loops.specs.Rows.{beside, if_some, picked, with_nulls};
 ghost use Rattle.query_loops.specs.There.{SameThere};
-ghost use Rattle.row_bag.specs.Bags.{bind, keep, unit};
+ghost use Rattle.row_bag.specs.Bags.{bind};
 ghost use Rattle.row_bag.specs.Verdict.{those_there};
 ghost use Rattle.sql_meaning.specs.Joins as joins;
-ghost use Rattle.sql_value.specs.Level.{least};
 
 use crate::nest::Loops;
 use crate::pair::{append_kept, cells_beside, with_nulls};
@@ -35,7 +32,7 @@ impl<
         s: &Scopes<'_>,
     ) -> Result<Option<Row>, OutOfMemory>
         requires test { nests.Tests self.now.setting.depth (P.pre self.now.test) (P.post self.now.test) }
-        ensures { IfOk result (λ made. if_some made ≡ those_there (picked (test_in (known_in self.now.setting) (scopes s.now) (shown.test p.now)) (λ cells. cells) (beside left.now right.now) ∷ [])) }
+        ensures { IfOk result (λ made. if_some made ≡ those_there (picked (condition self.now.setting s.now p.now) (λ cells. cells) (beside left.now right.now) ∷ [])) }
     {
         let level = self.level_beside(p, left, right, s)?;
         if level == Level::No {
@@ -55,7 +52,7 @@ impl<
         s: &Scopes<'_>,
     ) -> Result<Bag, OutOfMemory>
         requires test { nests.Tests self.now.setting.depth (P.pre self.now.test) (P.post self.now.test) }
-        ensures { IfOk result (λ made. made ≡ those_there (joins.partners (test_in (known_in self.now.setting) (scopes s.now) (shown.test p.now)) ys.now left.now)) }
+        ensures { IfOk result (λ made. made ≡ those_there (joins.partners (condition self.now.setting s.now p.now) ys.now left.now)) }
     {
         let mut made = Bag::new(self.setting.alloc);
         for y in ys {
@@ -70,7 +67,7 @@ impl<
     #[tactic(auto, using(crate::proofs::Each::join_steps))]
     pub fn join(&self, p: &Test, xs: &[Row], ys: &[Row], s: &Scopes<'_>) -> Result<Bag, OutOfMemory>
         requires test { nests.Tests self.now.setting.depth (P.pre self.now.test) (P.post self.now.test) }
-        ensures { IfOk result (λ made. SameThere made (bind xs.now (joins.partners (test_in (known_in self.now.setting) (scopes s.now) (shown.test p.now)) ys.now))) }
+        ensures { IfOk result (λ made. SameThere made (bind xs.now (joins.partners (condition self.now.setting s.now p.now) ys.now))) }
     {
         let mut made = Bag::new(self.setting.alloc);
         for x in xs {
@@ -91,7 +88,7 @@ impl<
         s: &Scopes<'_>,
     ) -> Result<Bag, OutOfMemory>
         requires test { nests.Tests self.now.setting.depth (P.pre self.now.test) (P.post self.now.test) }
-        ensures { IfOk result (λ made. made ≡ those_there (joins.or_else (joins.partners (test_in (known_in self.now.setting) (scopes s.now) (shown.test p.now)) ys.now left.now) (with_nulls left.now width ∷ []))) }
+        ensures { IfOk result (λ made. made ≡ those_there (joins.or_else (joins.partners (condition self.now.setting s.now p.now) ys.now left.now) (with_nulls left.now width ∷ []))) }
     {
         let mut partners = self.partners(p, left, ys, s)?;
         if partners.rows().is_empty() {
@@ -111,7 +108,7 @@ impl<
         s: &Scopes<'_>,
     ) -> Result<Bag, OutOfMemory>
         requires test { nests.Tests self.now.setting.depth (P.pre self.now.test) (P.post self.now.test) }
-        ensures { IfOk result (λ made. SameThere made (bind xs.now (λ left. joins.or_else (joins.partners (test_in (known_in self.now.setting) (scopes s.now) (shown.test p.now)) ys.now left) (with_nulls left width ∷ [])))) }
+        ensures { IfOk result (λ made. SameThere made (bind xs.now (λ left. joins.or_else (joins.partners (condition self.now.setting s.now p.now) ys.now left) (with_nulls left width ∷ [])))) }
     {
         let mut made = Bag::new(self.setting.alloc);
         for x in xs {

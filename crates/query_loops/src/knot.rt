@@ -14,7 +14,7 @@ use sql_value::{Cell, Truth};
 
 // The cell that an expression is.
 #[cycle(knot)]
-fn value_at(
+pub(crate) fn value_at(
     setting: &Setting<'_>,
     v: &Value,
     s: &Scopes<'_>,
@@ -42,7 +42,7 @@ fn value_at(
 
 // How far a condition is true and false.
 #[cycle(knot)]
-fn test_at(
+pub(crate) fn test_at(
     setting: &Setting<'_>,
     p: &Test,
     s: &Scopes<'_>,
@@ -70,7 +70,7 @@ fn test_at(
 
 // The rows of a table of a FROM.
 #[cycle(knot)]
-fn from_at(setting: &Setting<'_>, x: &From, s: &Scopes<'_>) -> Result<Bag, OutOfMemory>
+pub(crate) fn from_at(setting: &Setting<'_>, x: &From, s: &Scopes<'_>) -> Result<Bag, OutOfMemory>
     ensures { IfOk result (λ rows. SameThere rows (m.from_rows (known_in setting.now) (shown.from x.now) (scopes s.now))) }
 {
     if setting.depth == 0 {

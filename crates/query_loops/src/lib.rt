@@ -20,9 +20,11 @@ mod scope;
 mod sets;
 mod source;
 mod subqueries;
+mod taken;
 mod tuple;
 mod value;
 
 pub use laws::loop_laws;
 pub use read_names::reads;
 pub use run::rows_of;
+pub use taken::rows_of_taken;

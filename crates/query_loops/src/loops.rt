@@ -3,10 +3,10 @@ ghost use Rattle.std.specs.Prelude.{◌≡◌, ◌∷◌, [], ◌++◌, IfOk};
 ghost use Rattle.sql_meaning.specs.ResolvedMeaning as m;
 ghost use Rattle.sql_meaning.specs.ResolvedShown as shown;
 ghost use Rattle.query_loops.specs.Nests as nests;
-ghost use Rattle.query_loops.specs.Rows.{cells_in, if_some, listed, picked, test_in};
+ghost use Rattle.query_loops.specs.Parts.{cells_by, condition, selected};
+ghost use Rattle.query_loops.specs.Rows.{if_some, listed, picked};
 ghost use Rattle.query_loops.specs.Scopes.{group, known_in, scopes};
 ghost use Rattle.row_bag.specs.Verdict.{those_there};
-ghost use Rattle.sql_meaning.specs.Joins as joins;
 ghost use Rattle.sql_value.specs.Level.{least};
 
 use crate::nest::Loops;
@@ -43,7 +43,7 @@ impl<
     /// How far a row is there where a condition filters it.
     pub fn level(&self, p: &Test, row: &Row, s: &Scopes<'_>) -> Result<Level, OutOfMemory>
         requires test { nests.Tests self.now.setting.depth (P.pre self.now.test) (P.post self.now.test) }
-        ensures { IfOk result (λ level. level ≡ least row.now.level ((test_in (known_in self.now.setting) (scopes s.now) (shown.test p.now)) row.now.cells).t) }
+        ensures { IfOk result (λ level. level ≡ least row.now.level ((condition self.now.setting s.now p.now) row.now.cells).t) }
     {
         let inside = Scopes::Inside(row.cells.as_slice(), &*s);
         let truth = self.test(p, &inside, &no_group())?;
@@ -59,7 +59,7 @@ impl<
         s: &Scopes<'_>,
     ) -> Result<Level, OutOfMemory>
         requires test { nests.Tests self.now.setting.depth (P.pre self.now.test) (P.post self.now.test) }
-        ensures { IfOk result (λ level. level ≡ least right.now.level ((test_in (known_in self.now.setting) (scopes s.now) (shown.test p.now)) (left.now ++ right.now.cells)).t) }
+        ensures { IfOk result (λ level. level ≡ least right.now.level ((condition self.now.setting s.now p.now) (left.now ++ right.now.cells)).t) }
     {
         let inside = Scopes::Beside(left, right.cells.as_slice(), &*s);
         let truth = self.test(p, &inside, &no_group())?;
@@ -74,7 +74,7 @@ impl<
         s: &Scopes<'_>,
     ) -> Result<Items<Cell>, OutOfMemory>
         requires value { nests.Values self.now.setting.depth (V.pre self.now.value) (V.post self.now.value) }
-        ensures { IfOk result (λ cells. cells ≡ (cells_in (known_in self.now.setting) (scopes s.now) (shown.value_list list.now)) row.now.cells) }
+        ensures { IfOk result (λ cells. cells ≡ (cells_by self.now.setting s.now list.now) row.now.cells) }
     {
         let inside = Scopes::Inside(row.cells.as_slice(), &*s);
         self.cells(list, &inside, &no_group())
@@ -90,7 +90,7 @@ impl<
     ) -> Result<Option<Row>, OutOfMemory>
         requires value { nests.Values self.now.setting.depth (V.pre self.now.value) (V.post self.now.value) }
         requires test { nests.Tests self.now.setting.depth (P.pre self.now.test) (P.post self.now.test) }
-        ensures { IfOk result (λ made. if_some made ≡ those_there (picked (test_in (known_in self.now.setting) (scopes s.now) (shown.test p.now)) (cells_in (known_in self.now.setting) (scopes s.now) (shown.value_list list.now)) row.now ∷ [])) }
+        ensures { IfOk result (λ made. if_some made ≡ those_there (picked (condition self.now.setting s.now p.now) (cells_by self.now.setting s.now list.now) row.now ∷ [])) }
     {
         let level = self.level(p, row, s)?;
         if level == Level::No {
@@ -103,7 +103,7 @@ impl<
     /// What a list gives of each row.
     pub fn listed(&self, list: &[Value], rows: &[Row], s: &Scopes<'_>) -> Result<Bag, OutOfMemory>
         requires value { nests.Values self.now.setting.depth (V.pre self.now.value) (V.post self.now.value) }
-        ensures { IfOk result (λ made. made ≡ listed (cells_in (known_in self.now.setting) (scopes s.now) (shown.value_list list.now)) rows.now) }
+        ensures { IfOk result (λ made. made ≡ listed (cells_by self.now.setting s.now list.now) rows.now) }
     {
         let mut made = Bag::new(self.setting.alloc);
         for row in rows {
@@ -126,11 +126,33 @@ impl<
     ) -> Result<Bag, OutOfMemory>
         requires value { nests.Values self.now.setting.depth (V.pre self.now.value) (V.post self.now.value) }
         requires test { nests.Tests self.now.setting.depth (P.pre self.now.test) (P.post self.now.test) }
-        ensures { IfOk result (λ made. made ≡ those_there (joins.selected (test_in (known_in self.now.setting) (scopes s.now) (shown.test p.now)) (cells_in (known_in self.now.setting) (scopes s.now) (shown.value_list list.now)) rows.now)) }
+        ensures { IfOk result (λ made. made ≡ those_there (selected self.now.setting s.now p.now list.now rows.now)) }
     {
         let mut made = Bag::new(self.setting.alloc);
         for row in rows {
             if let Some(row) = self.pick(list, p, row, s)? {
+                made.push(row)?;
+            }
+        }
+        Ok(made)
+    }
+
+    /// The same of rows that are let go one by one.
+    #[tactic(auto, using(crate::proofs::Each::more_steps))]
+    pub fn selected_of(
+        &self,
+        list: &[Value],
+        p: &Test,
+        rows: Vec<Row>,
+        s: &Scopes<'_>,
+    ) -> Result<Bag, OutOfMemory>
+        requires value { nests.Values self.now.setting.depth (V.pre self.now.value) (V.post self.now.value) }
+        requires test { nests.Tests self.now.setting.depth (P.pre self.now.test) (P.post self.now.test) }
+        ensures { IfOk result (λ made. made ≡ those_there (selected self.now.setting s.now p.now list.now rows.items)) }
+    {
+        let mut made = Bag::new(self.setting.alloc);
+        for row in rows {
+            if let Some(row) = self.pick(list, p, &row, s)? {
                 made.push(row)?;
             }
         }

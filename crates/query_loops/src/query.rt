@@ -1,16 +1,14 @@
 // The rows of a query (SQL-92, 7.9 and 7.10).
 ghost use Rattle.std.specs.Prelude.{◌≡◌, IfOk};
 ghost use Rattle.sql_meaning.specs.ResolvedMeaning as m;
-ghost use Rattle.sql_meaning.specs.ResolvedShown as shown;
-ghost use Rattle.query_loops.specs.Groups.{cells_of, test_of};
+ghost use Rattle.query_loops.specs.Groups.{grouped_block};
 ghost use Rattle.query_loops.specs.Nests as nests;
-ghost use Rattle.query_loops.specs.Rows.{test_in};
-ghost use Rattle.query_loops.specs.Scopes.{known_in, scopes};
+ghost use Rattle.query_loops.specs.Parts.{rows_of};
 ghost use Rattle.query_loops.specs.There.{SameThere};
 ghost use Rattle.sql_meaning.specs.Joins as joins;
 
 use crate::nest::Loops;
-use crate::scope::{Group, Scopes, Setting};
+use crate::scope::{Group, GroupedSelect, Scopes, Setting};
 use crate::sets::{combined, distinct_if, intersected};
 use row_bag::Bag;
 use shared_types::OutOfMemory;
@@ -29,21 +27,19 @@ impl<
     fn grouped_block(
         &self,
         distinct: bool,
-        list: &[Value],
+        select: &GroupedSelect<'_>,
         tables: &[From],
         p: &Test,
         by: &Option<Items<usize>>,
         width: usize,
-        having: &Test,
-        s: &Scopes<'_>,
     ) -> Result<Bag, OutOfMemory>
         requires value { nests.Values self.now.setting.depth (V.pre self.now.value) (V.post self.now.value) }
         requires test { nests.Tests self.now.setting.depth (P.pre self.now.test) (P.post self.now.test) }
         requires from { nests.FromRows self.now.setting.depth (F.pre self.now.from) (F.post self.now.from) }
-        ensures { IfOk result (λ rows. SameThere rows (joins.distinct_if distinct (joins.selected (test_of (known_in self.now.setting) (scopes s.now) (shown.test having.now)) (cells_of (known_in self.now.setting) (scopes s.now) (shown.value_list list.now)) (m.groups by.now width (joins.kept (test_in (known_in self.now.setting) (scopes s.now) (shown.test p.now)) (m.frames (known_in self.now.setting) (shown.from_list tables.now) (scopes s.now))))))) }
+        ensures { IfOk result (λ rows. SameThere rows (joins.distinct_if distinct (grouped_block self.now.setting select.now tables.now p.now by.now width))) }
     {
-        let kept = self.kept_frames(tables, p, s)?;
-        let rows = self.grouped_rows(list, having, by, width, kept.rows(), s)?;
+        let kept = self.kept_frames(tables, p, select.scopes)?;
+        let rows = self.grouped_rows(select, by, width, kept.rows())?;
         distinct_if(self.setting.alloc, distinct, rows)
     }
 
@@ -58,7 +54,7 @@ impl<
         s: &Scopes<'_>,
     ) -> Result<Bag, OutOfMemory>
         requires rows { nests.Rows self.now.setting.depth (R.pre self.now.rows) (R.post self.now.rows) }
-        ensures { IfOk result (λ rows. SameThere rows (joins.combined op all (m.failed_cells width) (m.rows (known_in self.now.setting) (shown.query x.now) (scopes s.now)) (m.rows (known_in self.now.setting) (shown.query y.now) (scopes s.now)))) }
+        ensures { IfOk result (λ rows. SameThere rows (joins.combined op all (m.failed_cells width) (rows_of self.now.setting s.now x.now) (rows_of self.now.setting s.now y.now))) }
     {
         let xs = self.rows(x, s)?;
         let ys = self.rows(y, s)?;
@@ -75,7 +71,7 @@ impl<
         s: &Scopes<'_>,
     ) -> Result<Bag, OutOfMemory>
         requires rows { nests.Rows self.now.setting.depth (R.pre self.now.rows) (R.post self.now.rows) }
-        ensures { IfOk result (λ rows. SameThere rows (joins.intersected all (m.failed_cells width) (m.rows (known_in self.now.setting) (shown.query x.now) (scopes s.now)) (m.rows (known_in self.now.setting) (shown.query y.now) (scopes s.now)))) }
+        ensures { IfOk result (λ rows. SameThere rows (joins.intersected all (m.failed_cells width) (rows_of self.now.setting s.now x.now) (rows_of self.now.setting s.now y.now))) }
     {
         let xs = self.rows(x, s)?;
         let ys = self.rows(y, s)?;
@@ -89,22 +85,20 @@ impl<
         requires test { nests.Tests self.now.setting.depth (P.pre self.now.test) (P.post self.now.test) }
         requires from { nests.FromRows self.now.setting.depth (F.pre self.now.from) (F.post self.now.from) }
         requires rows { nests.Rows self.now.setting.depth (R.pre self.now.rows) (R.post self.now.rows) }
-        ensures { IfOk result (λ rows. SameThere rows (m.rows (known_in self.now.setting) (shown.query q.now) (scopes s.now))) }
+        ensures { IfOk result (λ rows. SameThere rows (rows_of self.now.setting s.now q.now)) }
     {
         match q {
             Query::Block(distinct, list, tables, p) => {
                 self.block(*distinct, list.as_slice(), tables.as_slice(), p, s)
             }
-            Query::Grouped(distinct, list, tables, p, by, width, having) => self.grouped_block(
-                *distinct,
-                list.as_slice(),
-                tables.as_slice(),
-                p,
-                by,
-                *width,
-                having,
-                s,
-            ),
+            Query::Grouped(distinct, list, tables, p, by, width, having) => {
+                let select = GroupedSelect {
+                    list: list.as_slice(),
+                    having,
+                    scopes: s,
+                };
+                self.grouped_block(*distinct, &select, tables.as_slice(), p, by, *width)
+            }
             Query::Combine(x, op, all, width, y) => self.combine(x, *op, *all, *width, y, s),
             Query::Intersect(x, all, width, y) => self.intersect(x, *all, *width, y, s),
         }

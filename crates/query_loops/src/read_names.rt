@@ -60,7 +60,7 @@ fn multipliers_read(list: &[Multiplier], name: &Text) -> bool
 
 // The same of a list.
 #[cycle(reads)]
-fn values_read(list: &[Value], name: &Text) -> bool
+pub(crate) fn values_read(list: &[Value], name: &Text) -> bool
     ensures { result ≡ spec.values_read (shown.value_list list.now) name.now }
 {
     for x in list {
@@ -100,7 +100,7 @@ fn choices_read(list: &[Choice], name: &Text) -> bool
 // The same of a condition.
 #[cycle(reads)]
 #[tactic(auto, using(sql_meaning::specs::ResolvedShown::lists))]
-fn test_reads(p: &Test, name: &Text) -> bool
+pub(crate) fn test_reads(p: &Test, name: &Text) -> bool
     ensures { result ≡ spec.test_reads (shown.test p.now) name.now }
 {
     match p {

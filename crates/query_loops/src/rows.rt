@@ -1,10 +1,7 @@
 // The rows of a FROM and of a query.
-ghost use Rattle.std.specs.Prelude.{◌≡◌, ◌∷◌, [], ◌++◌, map, replicate, IfOk};
-ghost use Rattle.sql_meaning.specs.ResolvedMeaning as m;
-ghost use Rattle.sql_meaning.specs.ResolvedShown as shown;
+ghost use Rattle.std.specs.Prelude.{◌≡◌, [], replicate, IfOk};
 ghost use Rattle.query_loops.specs.Nests as nests;
-ghost use Rattle.query_loops.specs.Rows.{cells_in, picked, test_in};
-ghost use Rattle.query_loops.specs.Scopes.{group, known_in, scopes};
+ghost use Rattle.query_loops.specs.Parts.{condition, frames_of, from_of, kept, selected};
 ghost use Rattle.query_loops.specs.Sources.{held};
 ghost use Rattle.query_loops.specs.There.{SameThere};
 ghost use Rattle.row_bag.specs.Bags.{unit};
@@ -45,7 +42,7 @@ impl<
     // The rows of a table of a FROM; those of a named table are borrowed.
     fn source<'b>(&'b self, x: &From, s: &Scopes<'_>) -> Result<Source<'b>, OutOfMemory>
         requires from { nests.FromRows self.now.setting.depth (F.pre self.now.from) (F.post self.now.from) }
-        ensures { IfOk result (λ rows. SameThere (held rows) (m.from_rows (known_in self.now.setting) (shown.from x.now) (scopes s.now))) }
+        ensures { IfOk result (λ rows. SameThere (held rows) (from_of self.now.setting s.now x.now)) }
     {
         if let From::Named(name) = x {
             return Ok(Source::borrowed(rows_named(&self.setting, name)));
@@ -56,7 +53,7 @@ impl<
     // CROSS JOIN.
     fn crossed(&self, x: &From, y: &From, s: &Scopes<'_>) -> Result<Bag, OutOfMemory>
         requires from { nests.FromRows self.now.setting.depth (F.pre self.now.from) (F.post self.now.from) }
-        ensures { IfOk result (λ rows. SameThere rows (joins.product (m.from_rows (known_in self.now.setting) (shown.from x.now) (scopes s.now)) (m.from_rows (known_in self.now.setting) (shown.from y.now) (scopes s.now)))) }
+        ensures { IfOk result (λ rows. SameThere rows (joins.product (from_of self.now.setting s.now x.now) (from_of self.now.setting s.now y.now))) }
     {
         let xs = self.source(x, s)?;
         let ys = self.source(y, s)?;
@@ -67,7 +64,7 @@ impl<
     fn joined(&self, x: &From, y: &From, p: &Test, s: &Scopes<'_>) -> Result<Bag, OutOfMemory>
         requires test { nests.Tests self.now.setting.depth (P.pre self.now.test) (P.post self.now.test) }
         requires from { nests.FromRows self.now.setting.depth (F.pre self.now.from) (F.post self.now.from) }
-        ensures { IfOk result (λ rows. SameThere rows (joins.kept (test_in (known_in self.now.setting) (scopes s.now) (shown.test p.now)) (joins.product (m.from_rows (known_in self.now.setting) (shown.from x.now) (scopes s.now)) (m.from_rows (known_in self.now.setting) (shown.from y.now) (scopes s.now))))) }
+        ensures { IfOk result (λ rows. SameThere rows (kept self.now.setting s.now p.now (joins.product (from_of self.now.setting s.now x.now) (from_of self.now.setting s.now y.now)))) }
     {
         let xs = self.source(x, s)?;
         let ys = self.source(y, s)?;
@@ -85,7 +82,7 @@ impl<
     ) -> Result<Bag, OutOfMemory>
         requires test { nests.Tests self.now.setting.depth (P.pre self.now.test) (P.post self.now.test) }
         requires from { nests.FromRows self.now.setting.depth (F.pre self.now.from) (F.post self.now.from) }
-        ensures { IfOk result (λ rows. SameThere rows (joins.left_join (test_in (known_in self.now.setting) (scopes s.now) (shown.test p.now)) (replicate width Null) (m.from_rows (known_in self.now.setting) (shown.from x.now) (scopes s.now)) (m.from_rows (known_in self.now.setting) (shown.from y.now) (scopes s.now)))) }
+        ensures { IfOk result (λ rows. SameThere rows (joins.left_join (condition self.now.setting s.now p.now) (replicate width Null) (from_of self.now.setting s.now x.now) (from_of self.now.setting s.now y.now))) }
     {
         let xs = self.source(x, s)?;
         let ys = self.source(y, s)?;
@@ -97,7 +94,7 @@ impl<
         requires test { nests.Tests self.now.setting.depth (P.pre self.now.test) (P.post self.now.test) }
         requires from { nests.FromRows self.now.setting.depth (F.pre self.now.from) (F.post self.now.from) }
         requires rows { nests.Rows self.now.setting.depth (R.pre self.now.rows) (R.post self.now.rows) }
-        ensures { IfOk result (λ rows. SameThere rows (m.from_rows (known_in self.now.setting) (shown.from x.now) (scopes s.now))) }
+        ensures { IfOk result (λ rows. SameThere rows (from_of self.now.setting s.now x.now)) }
     {
         match x {
             From::Named(name) => copied_rows(self.setting.alloc, rows_named(&self.setting, name)),
@@ -111,7 +108,7 @@ impl<
     // Each row of a table of a FROM beside each of these.
     fn before(&self, x: &From, rows: &[Row], s: &Scopes<'_>) -> Result<Bag, OutOfMemory>
         requires from { nests.FromRows self.now.setting.depth (F.pre self.now.from) (F.post self.now.from) }
-        ensures { IfOk result (λ made. SameThere made (joins.product (m.from_rows (known_in self.now.setting) (shown.from x.now) (scopes s.now)) rows.now)) }
+        ensures { IfOk result (λ made. SameThere made (joins.product (from_of self.now.setting s.now x.now) rows.now)) }
     {
         let xs = self.source(x, s)?;
         product(self.setting.alloc, xs.rows(), rows)
@@ -120,7 +117,7 @@ impl<
     // The product of the tables of a FROM, put together from the right.
     fn frames(&self, list: &[From], s: &Scopes<'_>) -> Result<Bag, OutOfMemory>
         requires from { nests.FromRows self.now.setting.depth (F.pre self.now.from) (F.post self.now.from) }
-        ensures { IfOk result (λ rows. SameThere rows (m.frames (known_in self.now.setting) (shown.from_list list.now) (scopes s.now))) }
+        ensures { IfOk result (λ rows. SameThere rows (frames_of self.now.setting s.now list.now)) }
     {
         let mut rows = no_cells(self.setting.alloc)?;
         let mut i = list.len();
@@ -134,7 +131,7 @@ impl<
     // The rows of a FROM; those of one named table are borrowed.
     fn frame_source<'b>(&'b self, list: &[From], s: &Scopes<'_>) -> Result<Source<'b>, OutOfMemory>
         requires from { nests.FromRows self.now.setting.depth (F.pre self.now.from) (F.post self.now.from) }
-        ensures { IfOk result (λ rows. SameThere (held rows) (m.frames (known_in self.now.setting) (shown.from_list list.now) (scopes s.now))) }
+        ensures { IfOk result (λ rows. SameThere (held rows) (frames_of self.now.setting s.now list.now)) }
     {
         if let [x] = list {
             return self.source(x, s);
@@ -147,7 +144,7 @@ impl<
     pub fn kept_frames(&self, list: &[From], p: &Test, s: &Scopes<'_>) -> Result<Bag, OutOfMemory>
         requires test { nests.Tests self.now.setting.depth (P.pre self.now.test) (P.post self.now.test) }
         requires from { nests.FromRows self.now.setting.depth (F.pre self.now.from) (F.post self.now.from) }
-        ensures { IfOk result (λ rows. SameThere rows (joins.kept (test_in (known_in self.now.setting) (scopes s.now) (shown.test p.now)) (m.frames (known_in self.now.setting) (shown.from_list list.now) (scopes s.now)))) }
+        ensures { IfOk result (λ rows. SameThere rows (kept self.now.setting s.now p.now (frames_of self.now.setting s.now list.now))) }
     {
         let Some((x, others)) = list.split_first() else {
             let rows = no_cells(self.setting.alloc)?;
@@ -172,7 +169,7 @@ impl<
         requires value { nests.Values self.now.setting.depth (V.pre self.now.value) (V.post self.now.value) }
         requires test { nests.Tests self.now.setting.depth (P.pre self.now.test) (P.post self.now.test) }
         requires from { nests.FromRows self.now.setting.depth (F.pre self.now.from) (F.post self.now.from) }
-        ensures { IfOk result (λ rows. SameThere rows (joins.selected (test_in (known_in self.now.setting) (scopes s.now) (shown.test p.now)) (cells_in (known_in self.now.setting) (scopes s.now) (shown.value_list list.now)) (m.from_rows (known_in self.now.setting) (shown.from x.now) (scopes s.now)))) }
+        ensures { IfOk result (λ rows. SameThere rows (selected self.now.setting s.now p.now list.now (from_of self.now.setting s.now x.now))) }
     {
         let xs = self.source(x, s)?;
         self.selected(list, p, xs.rows(), s)
@@ -189,7 +186,7 @@ impl<
         requires value { nests.Values self.now.setting.depth (V.pre self.now.value) (V.post self.now.value) }
         requires test { nests.Tests self.now.setting.depth (P.pre self.now.test) (P.post self.now.test) }
         requires from { nests.FromRows self.now.setting.depth (F.pre self.now.from) (F.post self.now.from) }
-        ensures { IfOk result (λ rows. SameThere rows (joins.selected (test_in (known_in self.now.setting) (scopes s.now) (shown.test p.now)) (cells_in (known_in self.now.setting) (scopes s.now) (shown.value_list list.now)) (m.frames (known_in self.now.setting) (shown.from_list tables.now) (scopes s.now)))) }
+        ensures { IfOk result (λ rows. SameThere rows (selected self.now.setting s.now p.now list.now (frames_of self.now.setting s.now tables.now))) }
     {
         if let [x] = tables {
             return self.table_block(list, x, p, s);
@@ -210,7 +207,7 @@ impl<
         requires value { nests.Values self.now.setting.depth (V.pre self.now.value) (V.post self.now.value) }
         requires test { nests.Tests self.now.setting.depth (P.pre self.now.test) (P.post self.now.test) }
         requires from { nests.FromRows self.now.setting.depth (F.pre self.now.from) (F.post self.now.from) }
-        ensures { IfOk result (λ rows. SameThere rows (joins.distinct_if distinct (joins.selected (test_in (known_in self.now.setting) (scopes s.now) (shown.test p.now)) (cells_in (known_in self.now.setting) (scopes s.now) (shown.value_list list.now)) (m.frames (known_in self.now.setting) (shown.from_list tables.now) (scopes s.now))))) }
+        ensures { IfOk result (λ rows. SameThere rows (joins.distinct_if distinct (selected self.now.setting s.now p.now list.now (frames_of self.now.setting s.now tables.now)))) }
     {
         let rows = self.selected_frames(list, tables, p, s)?;
         distinct_if(self.setting.alloc, distinct, rows)

@@ -7,6 +7,7 @@ ghost use Rattle.sql_value.specs.declared.cell.Cell.TheVariants.{Null};
 
 use row_bag::{Row, Table};
 use shared_types::OutOfMemory;
+use sql_meaning::{Test, Value};
 use sql_value::{Cell, Kind, copy};
 use std::alloc::Global;
 
@@ -24,6 +25,14 @@ pub(crate) enum Scopes<'a> {
 pub(crate) struct Group<'a> {
     pub members: &'a [&'a Row],
     pub failed: Option<Kind>,
+}
+
+/// The list and the HAVING of a block with groups, in the scopes that enclose it.
+#[derive(Clone, Copy)]
+pub(crate) struct GroupedSelect<'a> {
+    pub list: &'a [Value],
+    pub having: &'a Test,
+    pub scopes: &'a Scopes<'a>,
 }
 
 /// No group.

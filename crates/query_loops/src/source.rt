@@ -47,8 +47,8 @@ impl<'a> Source<'a> {
     }
 }
 
-// The rows of the first table of a name.
-fn find<'a>(tables: &'a [Table], name: &Text) -> Option<&'a Bag>
+/// The rows of the first table of a name.
+pub(crate) fn find<'a>(tables: &'a [Table], name: &Text) -> Option<&'a Bag>
     ensures { option_map (λ b. b.now) result ≡ bag_named tables.now name.now }
 {
     for table in tables {

@@ -1,14 +1,13 @@
 use Rattle.std.proofs.Common.{◌∙◌, ap}
 use Rattle.std.proofs.lemmas.Result.{IfOk-weaker}
 use Rattle.sql_meaning.specs.ResolvedMeaning as m
-use Rattle.sql_meaning.specs.ResolvedShown as shown
 use Rattle.row_bag.specs.Verdict.{those_there}
-use Rattle.query_loops.specs.Scopes.{known_in, scopes}
+use Rattle.query_loops.specs.Parts.{rows_of}
 use Rattle.query_loops.proofs.SameSets.{combined_same}
 use Rattle.query_loops.proofs.nest.Loops.combine.Goals as goal
 
 pub returns : goal.returns
 returns g c =
     IfOk-weaker c.combined.result _ _ (λ rows h.
-    ap those_there h ∙ combined_same c.args.op c.args.all (m.failed_cells c.args.width) c.in_ok-xs.xs (m.rows (known_in c.args.self.now.setting) (shown.query c.args.x.now) (scopes c.args.s.now)) c.in_ok-ys.ys (m.rows (known_in c.args.self.now.setting) (shown.query c.args.y.now) (scopes c.args.s.now)) c.in_ok-xs.ensures c.in_ok-ys.ensures)
+    ap those_there h ∙ combined_same c.args.op c.args.all (m.failed_cells c.args.width) c.in_ok-xs.xs (rows_of c.args.self.now.setting c.args.s.now c.args.x.now) c.in_ok-ys.ys (rows_of c.args.self.now.setting c.args.s.now c.args.y.now) c.in_ok-xs.ensures c.in_ok-ys.ensures)
     c.combined.ensures

@@ -7,6 +7,7 @@ use Rattle.row_bag.specs.Verdict.{those_there}
 use Rattle.row_bag.specs.declared.row.Row.{Row}
 use Rattle.sql_meaning.specs.Joins as joins
 use Rattle.sql_value.specs.declared.cell.Cell.{Cell}
+use Rattle.query_loops.specs.Parts.{frames_of}
 use Rattle.query_loops.specs.Scopes.{known_in, scopes}
 use Rattle.query_loops.proofs.SameRows.{product_same}
 use Rattle.query_loops.proofs.nest.Loops.frames.Goals as goal
@@ -21,5 +22,5 @@ loop-i-preserved g c =
       c.in_ok-rows-2.ensures
           ∙ ap (λ (rows : List (Row (List Cell))). those_there (joins.product x rows)) c.rows-in-loop-i.ensures
           ∙ product_same x x c.loop-i.rows rest refl c.loop-i.invariant.1
-          ∙ ap (λ (list : List From). those_there (m.frames (known_in c.args.self.now.setting) (shown.from_list list) (scopes c.args.s.now))) (sym step),
+          ∙ ap (λ (list : List From). those_there (frames_of c.args.self.now.setting c.args.s.now list)) (sym step),
     )

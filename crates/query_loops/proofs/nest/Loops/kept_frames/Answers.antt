@@ -1,16 +1,13 @@
 use Rattle.std.proofs.Common.{◌≡◌, ◌∷◌, ◌∙◌, [], List, length, ap, ap₂, sym, refl, arith}
 use Rattle.std.proofs.lemmas.Grind.{common_steps}
 use Rattle.std.proofs.lemmas.Result.{IfOk-weaker}
-use Rattle.sql_meaning.specs.ResolvedMeaning as m
-use Rattle.sql_meaning.specs.ResolvedShown as shown
 use Rattle.sql_meaning.specs.declared.resolved.From.{From}
 use Rattle.row_bag.specs.Bags.{bind}
 use Rattle.row_bag.specs.Verdict.{those_there}
 use Rattle.row_bag.specs.declared.row.Row.{Row}
 use Rattle.sql_meaning.specs.Joins as joins
 use Rattle.sql_value.specs.declared.cell.Cell.{Cell}
-use Rattle.query_loops.specs.Rows.{test_in}
-use Rattle.query_loops.specs.Scopes.{known_in, scopes}
+use Rattle.query_loops.specs.Parts.{condition, frames_of, from_of}
 use Rattle.query_loops.specs.Sources.{held}
 use Rattle.query_loops.proofs.Each.{joined_rows, product_unit, those_twice}
 use Rattle.query_loops.proofs.SameRows.{kept_same, product_same}
@@ -26,20 +23,20 @@ returns-then-is_empty g c =
     let one : c.args.list.now ≡ c.in-Some.x.now ∷ [] = c.in-Some.ensures.cases.0 ∙ ap (λ (xs : List From). c.in-Some.x.now ∷ xs) (no_others c.in-Some.others.now none) in
     IfOk-weaker c.kept-then-is_empty.result _ _ (λ made h.
     ap those_there h
-    ∙ those_twice (joins.kept (test_in (known_in c.args.self.now.setting) (scopes c.args.s.now) (shown.test c.args.p.now)) c.rows-then-is_empty.result.now)
-    ∙ ap (λ (rs : List (Row (List Cell))). those_there (joins.kept (test_in (known_in c.args.self.now.setting) (scopes c.args.s.now) (shown.test c.args.p.now)) rs)) (c.rows-then-is_empty.ensures)
-    ∙ kept_same (test_in (known_in c.args.self.now.setting) (scopes c.args.s.now) (shown.test c.args.p.now)) (held c.in_ok-xs.xs) (m.from_rows (known_in c.args.self.now.setting) (shown.from c.in-Some.x.now) (scopes c.args.s.now)) c.in_ok-xs.ensures
-    ∙ ap (λ (rs : List (Row (List Cell))). those_there (joins.kept (test_in (known_in c.args.self.now.setting) (scopes c.args.s.now) (shown.test c.args.p.now)) rs)) (sym (product_unit (m.from_rows (known_in c.args.self.now.setting) (shown.from c.in-Some.x.now) (scopes c.args.s.now))))
-    ∙ ap (λ (list : List From). those_there (joins.kept (test_in (known_in c.args.self.now.setting) (scopes c.args.s.now) (shown.test c.args.p.now)) (m.frames (known_in c.args.self.now.setting) (shown.from_list list) (scopes c.args.s.now)))) (sym one))
+    ∙ those_twice (joins.kept (condition c.args.self.now.setting c.args.s.now c.args.p.now) c.rows-then-is_empty.result.now)
+    ∙ ap (λ (rs : List (Row (List Cell))). those_there (joins.kept (condition c.args.self.now.setting c.args.s.now c.args.p.now) rs)) (c.rows-then-is_empty.ensures)
+    ∙ kept_same (condition c.args.self.now.setting c.args.s.now c.args.p.now) (held c.in_ok-xs.xs) (from_of c.args.self.now.setting c.args.s.now c.in-Some.x.now) c.in_ok-xs.ensures
+    ∙ ap (λ (rs : List (Row (List Cell))). those_there (joins.kept (condition c.args.self.now.setting c.args.s.now c.args.p.now) rs)) (sym (product_unit (from_of c.args.self.now.setting c.args.s.now c.in-Some.x.now)))
+    ∙ ap (λ (list : List From). those_there (joins.kept (condition c.args.self.now.setting c.args.s.now c.args.p.now) (frames_of c.args.self.now.setting c.args.s.now list))) (sym one))
     c.kept-then-is_empty.ensures
 
 pub returns : goal.returns
 returns g c =
     IfOk-weaker c.join.result _ _ (λ made h.
     h
-    ∙ ap₂ (λ (xs ys : List (Row (List Cell))). those_there (bind xs (joins.partners (test_in (known_in c.args.self.now.setting) (scopes c.args.s.now) (shown.test c.args.p.now)) ys))) c.rows-2.ensures c.rows-3.ensures
-    ∙ ap those_there (sym (joined_rows (test_in (known_in c.args.self.now.setting) (scopes c.args.s.now) (shown.test c.args.p.now)) (held c.in_ok-xs.xs) (held c.in_ok-ys.ys)))
-    ∙ kept_same (test_in (known_in c.args.self.now.setting) (scopes c.args.s.now) (shown.test c.args.p.now)) (joins.product (held c.in_ok-xs.xs) (held c.in_ok-ys.ys)) (joins.product (m.from_rows (known_in c.args.self.now.setting) (shown.from c.in-Some.x.now) (scopes c.args.s.now)) (m.frames (known_in c.args.self.now.setting) (shown.from_list c.in-Some.others.now) (scopes c.args.s.now)))
-    (product_same (held c.in_ok-xs.xs) (m.from_rows (known_in c.args.self.now.setting) (shown.from c.in-Some.x.now) (scopes c.args.s.now)) (held c.in_ok-ys.ys) (m.frames (known_in c.args.self.now.setting) (shown.from_list c.in-Some.others.now) (scopes c.args.s.now)) c.in_ok-xs.ensures c.in_ok-ys.ensures)
-    ∙ ap (λ (list : List From). those_there (joins.kept (test_in (known_in c.args.self.now.setting) (scopes c.args.s.now) (shown.test c.args.p.now)) (m.frames (known_in c.args.self.now.setting) (shown.from_list list) (scopes c.args.s.now)))) (sym c.in-Some.ensures.cases.0))
+    ∙ ap₂ (λ (xs ys : List (Row (List Cell))). those_there (bind xs (joins.partners (condition c.args.self.now.setting c.args.s.now c.args.p.now) ys))) c.rows-2.ensures c.rows-3.ensures
+    ∙ ap those_there (sym (joined_rows (condition c.args.self.now.setting c.args.s.now c.args.p.now) (held c.in_ok-xs.xs) (held c.in_ok-ys.ys)))
+    ∙ kept_same (condition c.args.self.now.setting c.args.s.now c.args.p.now) (joins.product (held c.in_ok-xs.xs) (held c.in_ok-ys.ys)) (joins.product (from_of c.args.self.now.setting c.args.s.now c.in-Some.x.now) (frames_of c.args.self.now.setting c.args.s.now c.in-Some.others.now))
+    (product_same (held c.in_ok-xs.xs) (from_of c.args.self.now.setting c.args.s.now c.in-Some.x.now) (held c.in_ok-ys.ys) (frames_of c.args.self.now.setting c.args.s.now c.in-Some.others.now) c.in_ok-xs.ensures c.in_ok-ys.ensures)
+    ∙ ap (λ (list : List From). those_there (joins.kept (condition c.args.self.now.setting c.args.s.now c.args.p.now) (frames_of c.args.self.now.setting c.args.s.now list))) (sym c.in-Some.ensures.cases.0))
     c.join.ensures

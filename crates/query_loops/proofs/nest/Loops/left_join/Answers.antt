@@ -1,13 +1,12 @@
 use Rattle.std.proofs.Common.{◌≡◌, ◌+◌, ◌∷◌, ◌++◌, ◌∙◌, [], List, drop, ap, sym, arith}
 use Rattle.std.proofs.lemmas.Grind.{common_steps}
-use Rattle.sql_meaning.specs.ResolvedShown as shown
 use Rattle.row_bag.specs.Bags.{bind}
 use Rattle.row_bag.specs.Verdict.{those_there}
 use Rattle.row_bag.specs.declared.row.Row.{Row}
 use Rattle.sql_meaning.specs.Joins as joins
 use Rattle.sql_value.specs.declared.cell.Cell.{Cell}
-use Rattle.query_loops.specs.Rows.{test_in, with_nulls}
-use Rattle.query_loops.specs.Scopes.{known_in, scopes}
+use Rattle.query_loops.specs.Parts.{condition}
+use Rattle.query_loops.specs.Rows.{with_nulls}
 use Rattle.query_loops.proofs.Each.{join_step}
 use Rattle.query_loops.proofs.nest.Loops.left_join.Goals as goal
 
@@ -15,8 +14,8 @@ pub loop-x-preserved : goal.loop-x-preserved
 loop-x-preserved g c =
     let rest = drop (c.loop-x.x-index + 1) c.args.xs.now in
     let step : drop c.loop-x.x-index c.args.xs.now ≡ c.x-item.result ∷ rest = grind (arith, common_steps) in
-    join_step (λ (left : List Cell). joins.or_else (joins.partners (test_in (known_in c.args.self.now.setting) (scopes c.args.s.now) (shown.test c.args.p.now)) c.args.ys.now left) (with_nulls left c.args.width ∷ [])) c.loop-x.made c.append_kept.new.out c.in_ok-partners.partners c.x-item.result rest
-    (c.in_ok-partners.ensures ∙ ap (λ (cells : List Cell). those_there ((λ (left : List Cell). joins.or_else (joins.partners (test_in (known_in c.args.self.now.setting) (scopes c.args.s.now) (shown.test c.args.p.now)) c.args.ys.now left) (with_nulls left c.args.width ∷ [])) cells)) c.as_slice.ensures)
+    join_step (λ (left : List Cell). joins.or_else (joins.partners (condition c.args.self.now.setting c.args.s.now c.args.p.now) c.args.ys.now left) (with_nulls left c.args.width ∷ [])) c.loop-x.made c.append_kept.new.out c.in_ok-partners.partners c.x-item.result rest
+    (c.in_ok-partners.ensures ∙ ap (λ (cells : List Cell). those_there ((λ (left : List Cell). joins.or_else (joins.partners (condition c.args.self.now.setting c.args.s.now c.args.p.now) c.args.ys.now left) (with_nulls left c.args.width ∷ [])) cells)) c.as_slice.ensures)
     c.in_ok-append_kept.ensures
-    ∙ ap (λ (rows : List (Row (List Cell))). those_there c.loop-x.made ++ those_there (bind rows (λ (left : List Cell). joins.or_else (joins.partners (test_in (known_in c.args.self.now.setting) (scopes c.args.s.now) (shown.test c.args.p.now)) c.args.ys.now left) (with_nulls left c.args.width ∷ [])))) (sym step)
+    ∙ ap (λ (rows : List (Row (List Cell))). those_there c.loop-x.made ++ those_there (bind rows (λ (left : List Cell). joins.or_else (joins.partners (condition c.args.self.now.setting c.args.s.now c.args.p.now) c.args.ys.now left) (with_nulls left c.args.width ∷ [])))) (sym step)
     ∙ c.loop-x.invariant
