@@ -1,5 +1,5 @@
 -- Set operations whose operands have the same number of columns (SQL-92, 7.10), in a query and all that is nested in it.
-use Rattle.std.specs.Prelude.{◌≡◌, ⊤, ℕ, List, [], ◌∷◌, ◌++◌, length}
+use Rattle.std.specs.Prelude.{◌≡◌, ⊤, List, [], ◌∷◌, ◌++◌, length}
 use Rattle.sql_ast.specs.Syntax as s
 use Rattle.sql_meaning.specs.Names.{Known, names, shape, table_shape}
 use Rattle.sql_meaning.specs.Scopes.{Shape}

@@ -1,4 +1,5 @@
 pub mod Scopes
+pub mod Occurrences
 pub mod Names
 pub mod Even
 pub mod Values
