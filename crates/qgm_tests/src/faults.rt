@@ -42,7 +42,7 @@ fn entries(alloc: Global) -> Result<Vec<Entry>, Fail> {
 fn run<L: Ledger>(
     alloc: Global,
     blank: Blank,
-    line: &str,
+    words: &[String],
     failing: &[u64],
     room: usize,
 ) -> Result<Ran, Fail>
@@ -50,14 +50,10 @@ fn run<L: Ledger>(
     requires parts { blank.parts ≡ L.parts }
     requires some { 0 < blank.parts }
 {
-    let mut words = Vec::new(alloc);
-    for word in line.split_whitespace() {
-        words.push(String::from_str(alloc, word)?)?;
-    }
     let mut files = MemFiles::new(alloc, entries(alloc)?, failing.to_vec(alloc)?);
     let mut out = MemSink::new(alloc, room)?;
     let mut steps = Steps::<L>::new(blank);
-    let status = run_command(alloc, &words, &mut files, &mut out, &mut steps);
+    let status = run_command(alloc, words, &mut files, &mut out, &mut steps);
     Ok(Ran {
         status,
         printed: out.bytes.to_vec(alloc)?,
@@ -65,9 +61,13 @@ fn run<L: Ledger>(
     })
 }
 
+// A run of the words of a line.
 fn run_line(alloc: Global, line: &str, failing: &[u64], room: usize) -> Result<Ran, Fail> {
-    let ran = run::<Brand>(alloc, Blank::new(1), line, failing, room)?;
-    Ok(ran)
+    let mut words = Vec::new(alloc);
+    for word in line.split_whitespace() {
+        words.push(String::from_str(alloc, word)?)?;
+    }
+    run::<Brand>(alloc, Blank::new(1), &words, failing, room)
 }
 
 #[test]
