@@ -11,7 +11,7 @@ ghost use Rattle.plain_exec.specs.Texts.{HasAnswerOf, HasRowsOf, rows_over};
 
 use crate::laws::answer_laws;
 use crate::views::known_views;
-use query_loops::loop_laws;
+use query_loops::{loop_laws, rows_of_taken};
 use row_bag::{Bag, Tables};
 use shared_types::OutOfMemory;
 use sql_meaning::{Query, View};
@@ -23,7 +23,8 @@ const DEEPEST: usize = 16;
 /// The rows of a resolved query over resolved views and these tables, by nested loops. Its views come
 /// first, each that is read once for each depth at which it is read; then the query itself, one row of
 /// a product, of a join and of a grouping after the other, each subquery once for each row that it is
-/// asked of. It fails only for want of memory.
+/// asked of. The rows of a table that the query reads at one place alone, in the FROM of a block over
+/// this table, are let go one by one. It fails only for want of memory.
 pub fn execute(
     alloc: Global,
     query: &Query,
@@ -41,7 +42,6 @@ pub fn execute(
 {
     loop_laws();
     answer_laws();
-    let tables = tables.as_slice();
-    let known = known_views(alloc, &[query], DEEPEST, views, tables)?;
-    query_loops::rows_of(alloc, query, &known, tables)
+    let known = known_views(alloc, &[query], DEEPEST, views, tables.as_slice())?;
+    rows_of_taken(alloc, query, &known, tables)
 }
