@@ -1,8 +1,7 @@
 -- A block over a table that nothing else in it reads, once its rows are taken.
-use Rattle.std.proofs.Common.{◌≡◌, ℕ, Bool, true, false, cond, List, [], ◌∷◌, Option, Some, None, is_some, option_map, refl, ap, ap₂, sym, ◌∙◌, inl, inr}
+use Rattle.std.proofs.Common.{◌≡◌, ℕ, Bool, false, cond, List, [], ◌∷◌, Option, Some, None, is_some, option_map, refl, ap, sym, ◌∙◌, inl, inr}
 use Rattle.std.specs.Cmp.Lexicographic.{same_text}
 use Rattle.std.proofs.lemmas.Bool.{cases_Bool}
-use Rattle.row_bag.specs.Bags.{unit}
 use Rattle.row_bag.specs.Tables.{bag_named, has_name, without_rows}
 use Rattle.row_bag.specs.Verdict.{those_there}
 use Rattle.row_bag.specs.declared.tables.Table.{Table}
@@ -17,7 +16,6 @@ use Rattle.sql_meaning.specs.Scopes.{first_of}
 use Rattle.query_loops.specs.Reads.{SameAt, test_reads, values_read}
 use Rattle.query_loops.specs.Scopes.{named}
 use Rattle.query_loops.specs.Taken.{IsBlock, block_rows}
-use Rattle.query_loops.specs.There.{SameThere}
 use Rattle.query_loops.specs.declared.taken.TableBlock.{TableBlock}
 use Rattle.query_loops.proofs.Each.{product_unit}
 use Rattle.query_loops.proofs.SameKnown.{cells_known, selected_by, truth_known}

@@ -1,5 +1,5 @@
 -- What the parts of a query are, by the tables and views that it reads and in the rows of the blocks around.
-use Rattle.std.specs.Prelude.{ℕ, List}
+use Rattle.std.specs.Prelude.{List}
 use Rattle.sql_meaning.specs.Joins as joins
 use Rattle.sql_meaning.specs.ResolvedMeaning as m
 use Rattle.sql_meaning.specs.ResolvedShown as shown

@@ -4,7 +4,6 @@ use Rattle.std.proofs.lemmas.Int.{ints, to_z-of_z}
 use Rattle.row_bag.specs.Bags.{if_there}
 use Rattle.sql_meaning.specs.Groups as groups
 use Rattle.sql_meaning.specs.Joins as joins
-use Rattle.query_loops.specs.Cells.{IsTotalOf}
 use Rattle.query_loops.proofs.Means.{one_within}
 use Rattle.query_loops.proofs.aggregates.add_up.Goals as goal
 use Rattle.query_loops.proofs.aggregates.add_up.Goals.{in-Some, in_default}

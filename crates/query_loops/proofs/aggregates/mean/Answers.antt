@@ -1,4 +1,4 @@
-use Rattle.std.proofs.Common.{◌≡◌, ◌<◌, ◌<ℤ◌, ℕ, ℤ, pos, ◌^◌, arith, ap, ap₂, sym, subst, ◌∙◌, FitsSigned, to_z, of_z, w64}
+use Rattle.std.proofs.Common.{◌≡◌, ◌<◌, ℕ, ℤ, pos, ◌^◌, arith, ap, ap₂, sym, subst, ◌∙◌, FitsSigned, to_z, of_z, w64}
 use Rattle.std.proofs.lemmas.Int.{ints, quot_fits, to_z-of_z, to_z_pos}
 use Rattle.std.specs.Int.RustNames.{int_div}
 use Rattle.sql_value.specs.declared.cell.Cell.TheVariants.{Int}

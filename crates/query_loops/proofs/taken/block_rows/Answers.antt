@@ -1,11 +1,9 @@
-use Rattle.std.proofs.Common.{◌∙◌, List, [], ap}
+use Rattle.std.proofs.Common.{◌∙◌, [], ap}
 use Rattle.std.proofs.lemmas.Result.{IfOk-weaker}
 use Rattle.row_bag.specs.Verdict.{those_there}
-use Rattle.row_bag.specs.declared.row.Row.{Row}
 use Rattle.sql_meaning.specs.Joins as joins
 use Rattle.sql_meaning.specs.ResolvedMeaning as m
 use Rattle.sql_meaning.specs.ResolvedShown as shown
-use Rattle.sql_value.specs.declared.cell.Cell.{Cell}
 use Rattle.query_loops.specs.Rows.{cells_in, test_in}
 use Rattle.query_loops.specs.Scopes.{named}
 use Rattle.query_loops.proofs.Each.{those_twice}

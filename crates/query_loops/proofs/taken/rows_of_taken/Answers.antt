@@ -1,6 +1,6 @@
-use Rattle.std.proofs.Common.{◌≡◌, ◌∙◌, List, [], None, Some, ap, sym}
+use Rattle.std.proofs.Common.{◌≡◌, ◌∙◌, List, [], None, ap, sym}
 use Rattle.std.proofs.lemmas.Result.{IfOk-weaker}
-use Rattle.row_bag.specs.Tables.{bag_named, without_rows}
+use Rattle.row_bag.specs.Tables.{bag_named}
 use Rattle.row_bag.specs.Verdict.{those_there}
 use Rattle.row_bag.specs.declared.tables.Table.{Table}
 use Rattle.sql_meaning.specs.ResolvedMeaning as m
