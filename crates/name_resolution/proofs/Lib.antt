@@ -1,4 +1,5 @@
 pub mod Positions
+pub mod Scoped
 pub mod Related
 pub mod Columns
 pub mod Frames

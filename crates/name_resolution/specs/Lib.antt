@@ -3,6 +3,8 @@ pub mod Resolved
 pub mod Even
 pub mod Agreed
 pub mod Schema
+pub mod Ranges
+pub mod Spans
 pub mod Shapes
 pub mod Forms
 pub mod Onto

@@ -8,7 +8,8 @@ ghost use Rattle.name_resolution.specs.Resolved.{bare};
 ghost use Rattle.name_resolution.specs.Shapes.{columns_of, shape, shapes};
 
 use crate::place::span_of;
-use crate::scope::{Range, Ranges, Setting, Shapes};
+use crate::range::{Range, Ranges};
+use crate::scope::{Scope, Setting, Shapes};
 use shared_types::{OutOfMemory, Text};
 use sql_ast::{Correlation, Item, Query, SelectList, TableRef};
 use sql_meaning::item_name;
@@ -184,23 +185,23 @@ fn push_all_names(alloc: Global, ranges: &[Range], out: &mut OutNames) -> Result
     Ok(())
 }
 
-// The names of a list, over the ranges of its block.
+/// The names of a list, over the scope of its block. The error is want of memory.
 #[tactic(auto, using(sql_ast::specs::Shown::lists))]
-fn list_names(
+pub(crate) fn list_names(
     alloc: Global,
     list: &SelectList,
-    ranges: &[Range],
+    scope: &Scope,
     s: &Shapes<'_>,
 ) -> Result<OutNames, OutOfMemory>
-    ensures { IfOk result (λ out. out ≡ spec.list_names (written.select_list list.now) (shape ranges.now) (shapes s.now)) }
+    ensures { IfOk result (λ out. out ≡ spec.list_names (written.select_list list.now) scope.now (shapes s.now)) }
 {
     let mut out = Items::new(alloc);
     match list {
-        SelectList::All => push_all_names(alloc, ranges, &mut out)?,
+        SelectList::All => push_all_names(alloc, scope.ranges(), &mut out)?,
         SelectList::Items(items) => push_items_names(
             alloc,
             items.as_slice(),
-            &Shapes::Inside(ranges, &*s),
+            &Shapes::Inside(scope, &*s),
             &mut out,
         )?,
     }
@@ -213,6 +214,48 @@ pub(crate) fn push_range(out: &mut Ranges, name: Text, columns: OutNames) -> Res
 {
     out.push(Range { name, columns })?;
     Ok(())
+}
+
+/// Adds ranges at the end.
+pub(crate) fn append(out: &mut Ranges, more: Ranges) -> Result<(), OutOfMemory>
+    ensures { OnOk result (shape out.new ≡ shape out.old ++ shape more) }
+{
+    out.append(more)?;
+    Ok(())
+}
+
+// One range.
+fn lone_range(alloc: Global, name: Text, columns: OutNames) -> Result<Ranges, OutOfMemory>
+    ensures { IfOk result (λ out. shape out ≡ (name, columns) ∷ []) }
+{
+    let mut out = Items::new(alloc);
+    push_range(&mut out, name, columns)?;
+    Ok(out)
+}
+
+/// A table or view in a FROM, as one range.
+pub(crate) fn named_ranges(
+    setting: &Setting<'_>,
+    name: &Text,
+    alias: &Option<Correlation>,
+) -> Result<Ranges, OutOfMemory>
+    ensures { IfOk result (λ out. shape out ≡ (spec.range_name name.now alias.now, spec.columns_of (spec.under (spec.column_list alias.now) (bare (columns_of setting.now) name.now))) ∷ []) }
+{
+    let columns = named_columns(setting, name, alias)?;
+    let name = range_name(name, alias).copy(setting.alloc)?;
+    lone_range(setting.alloc, name, columns)
+}
+
+/// A subquery in a FROM that gives these columns, as one range.
+pub(crate) fn derived_ranges(
+    alloc: Global,
+    alias: &Correlation,
+    columns: &[Option<Text>],
+) -> Result<Ranges, OutOfMemory>
+    ensures { IfOk result (λ out. shape out ≡ (alias.now.name, spec.renamed alias.now.columns columns.now) ∷ []) }
+{
+    let columns = renamed(alloc, alias.columns.as_slice(), columns)?;
+    lone_range(alloc, alias.name.copy(alloc)?, columns)
 }
 
 /// The names of a query's columns. It fails only for want of memory.
@@ -231,7 +274,8 @@ pub(crate) fn names(
         Query::Enclosed(x) => names(setting, x, s),
         Query::Block(b) => {
             let ranges = ranges(setting, b.from.as_slice(), s)?;
-            list_names(setting.alloc, &b.list, ranges.as_slice(), s)
+            let scope = Scope::of(setting.alloc, ranges)?;
+            list_names(setting.alloc, &b.list, &scope, s)
         }
     }
 }
@@ -275,14 +319,10 @@ pub(crate) fn push_ranges(
             push_ranges(setting, a, s, out)?;
             push_ranges(setting, b, s, out)
         }
-        TableRef::Named(name, alias) => {
-            let columns = named_columns(setting, name, alias)?;
-            push_range(out, range_name(name, alias).copy(setting.alloc)?, columns)
-        }
+        TableRef::Named(name, alias) => append(out, named_ranges(setting, name, alias)?),
         TableRef::Derived(q, alias) => {
             let columns = names(setting, q, s)?;
-            let columns = renamed(setting.alloc, alias.columns.as_slice(), columns.as_slice())?;
-            push_range(out, alias.name.copy(setting.alloc)?, columns)
+            append(out, derived_ranges(setting.alloc, alias, columns.as_slice())?)
         }
         TableRef::Joined(a) => push_ranges(setting, a, s, out),
     }

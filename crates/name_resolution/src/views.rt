@@ -7,12 +7,14 @@ ghost use Rattle.sql_catalog.specs.Shown.{catalog};
 ghost use Rattle.sql_meaning.specs.Names as named;
 ghost use Rattle.sql_meaning.specs.ResolvedShown as shown;
 ghost use Rattle.name_resolution.specs.Known.{ranges_over, table_range, view_over, view_range};
-ghost use Rattle.name_resolution.specs.Schema.{columns_at, schema_columns, view_trees};
+ghost use Rattle.name_resolution.specs.Ranges as ranges;
+ghost use Rattle.name_resolution.specs.Schema.{schema_columns, view_trees};
 ghost use Rattle.name_resolution.specs.Shapes.{columns_among, columns_of, shape};
 
 use crate::names::{names, push_range, renamed};
 use crate::resolve::query;
-use crate::scope::{Range, Ranges, Setting, Shapes};
+use crate::range::{Range, Ranges};
+use crate::scope::{Setting, Shapes};
 use shared_types::{OutOfMemory, Text};
 use sql_ast::{TableDecl, ViewDecl};
 use sql_catalog::{Catalog, column_names};
@@ -99,27 +101,56 @@ fn next_ranges(setting: &Setting<'_>, schema: &Catalog) -> Result<Ranges, OutOfM
     Ok(out)
 }
 
-// The tables and views with the names of their columns, where views nest no deeper than this.
-fn ranges_at(alloc: Global, schema: &Catalog, depth: u8) -> Result<Ranges, OutOfMemory>
-    ensures { IfOk result (λ out. columns_among out ≡ columns_at (catalog schema.now) depth) }
+// Two ranges have the same name and columns.
+fn same_range(a: &Range, b: &Range) -> bool
+    ensures { result ≡ ranges.same_range (a.now.name, a.now.columns) (b.now.name, b.now.columns) }
 {
-    if depth == 0 {
-        tables_alone(alloc, schema.tables().as_slice())
-    } else {
-        let below = ranges_at(alloc, schema, depth - 1)?;
-        let known = below.as_slice();
-        next_ranges(&Setting { alloc, known }, schema)
+    a.name == b.name && a.columns.as_slice() == b.columns.as_slice()
+}
+
+// The same of lists of ranges.
+fn same_ranges(a: &[Range], b: &[Range]) -> bool
+    ensures { result ≡ ranges.same_ranges (shape a.now) (shape b.now) }
+{
+    match (a.split_first(), b.split_first()) {
+        (None, None) => true,
+        (Some((x, xs)), Some((y, ys))) => same_range(x, y) && same_ranges(xs, ys),
+        (None, Some(_)) | (Some(_), None) => false,
     }
+}
+
+// The tables and views with the names of their columns. Each round reads the views over the columns
+// of the round before, and none is needed after one that changes nothing.
+#[tactic(auto, using(crate::proofs::Known::tables_all, crate::proofs::Known::settled))]
+fn all_ranges(alloc: Global, schema: &Catalog) -> Result<Ranges, OutOfMemory>
+    ensures { IfOk result (λ out. columns_among out ≡ schema_columns (catalog schema.now)) }
+{
+    let mut known = tables_alone(alloc, schema.tables().as_slice())?;
+    if schema.views().is_empty() {
+        return Ok(known);
+    }
+    'rounds: for _depth in 0..16 {
+        let setting = Setting {
+            alloc,
+            known: known.as_slice(),
+        };
+        let next = next_ranges(&setting, schema)?;
+        if same_ranges(known.as_slice(), next.as_slice()) {
+            return Ok(next);
+        }
+        known = next;
+    }
+    Ok(known)
 }
 
 // A view with its body resolved, which sees no scope.
 fn resolved_view(setting: &Setting<'_>, view: &ViewDecl) -> Result<View, OutOfMemory>
     ensures { IfOk result (λ v. shown.view v ≡ view_over (columns_of setting.now) (written.view view.now)) }
 {
-    let body = query(setting, &view.query, &Shapes::Outermost)?;
+    let resolved = query(setting, &view.query, &Shapes::Outermost)?;
     Ok(View {
         name: view.name.copy(setting.alloc)?,
-        body,
+        body: resolved.query,
     })
 }
 
@@ -148,7 +179,7 @@ pub fn resolve_schema(alloc: Global, schema: &Catalog) -> Result<ResolvedSchema,
     ensures columns { IfOk result (λ x. columns_among x.known ≡ schema_columns (catalog schema.now)) }
     ensures views { IfOk result (λ x. shown.views x.views ≡ view_trees (catalog schema.now)) }
 {
-    let known = ranges_at(alloc, schema, 16)?;
+    let known = all_ranges(alloc, schema)?;
     let setting = Setting {
         alloc,
         known: known.as_slice(),
