@@ -167,3 +167,9 @@ module _ (heads : Heads) where
     table_ranges (s.named name c) scopes = range (range_name name c) (renamed (column_list c) (columns_or_none (heads name))) ∷ []
     table_ranges (s.derived q c) scopes = range c.name (renamed c.columns (columns q scopes)) ∷ []
     table_ranges (s.joined x) scopes = table_ranges x scopes
+
+  -- ---- parts that stand together
+
+  -- a CASE whose results have these types, with its ELSE
+  abbrev pub case_type : List (Option SqlType) → s.Otherwise → Scopes → Option SqlType
+  case_type types o scopes = first_known (types ++ else_types o scopes)

@@ -161,6 +161,31 @@ module _ (heads : Heads) where
     query_fault (s.combine x op all y) scopes = lesser (lesser (query_fault x scopes) (query_fault y scopes)) (operands_fault (columns heads x scopes) (columns heads y scopes))
     query_fault (s.intersect x all y) scopes = lesser (lesser (query_fault x scopes) (query_fault y scopes)) (operands_fault (columns heads x scopes) (columns heads y scopes))
 
+  -- ---- parts that stand together
+
+  -- a condition of a CASE with its result
+  abbrev pub arm_fault : Site → s.Cond → s.Res → Scopes → ℕ
+  arm_fault place p r scopes = lesser (cond_fault place p scopes) (res_fault place r scopes)
+
+  -- a value of a CASE with its result, where the operand has this type
+  abbrev pub choice_fault : Site → Option SqlType → s.Expr → s.Res → Scopes → ℕ
+  choice_fault place t x r scopes = lesser (lesser (expr_fault place x scopes) (pair_differs t (type_of heads x scopes))) (res_fault place r scopes)
+
+  -- a CASE whose conditions and values have this fault, and their results these types, with its ELSE
+  abbrev pub case_fault : Site → ℕ → List (Option SqlType) → s.Otherwise → Scopes → ℕ
+  case_fault place n types o scopes = lesser (lesser n (else_fault place o scopes)) (results_differ (types ++ else_types heads o scopes))
+
+  -- a COALESCE or an IN list whose first operand has this fault and type
+  abbrev pub coalesce_fault : Site → ℕ → Option SqlType → s.Exprs → Scopes → ℕ
+  coalesce_fault place n t xs scopes = lesser (lesser n (exprs_fault place xs scopes)) (parts_differ (t ∷ types_of heads xs scopes))
+
+  abbrev pub in_list_fault : Site → ℕ → Option SqlType → s.Exprs → Scopes → ℕ
+  in_list_fault place n t xs scopes = lesser (lesser n (exprs_fault place xs scopes)) (list_differs t (types_of heads xs scopes))
+
+  -- the list and HAVING of a block
+  abbrev pub output_fault : s.SelectList → s.Filter → Scopes → ℕ
+  output_fault list having scopes = lesser (lesser (select_fault list scopes) (filter_fault Listed having scopes)) (too_wide (list_columns heads list scopes))
+
   -- the text of a query with its ORDER BY
   abbrev pub text_fault : s.QueryText → ℕ
   text_fault text = lesser (query_fault text.query []) (keys_unfit (columns heads text.query []) text.order)

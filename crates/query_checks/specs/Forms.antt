@@ -14,6 +14,16 @@ abbrev pub is_product : s.Expr → Bool
 is_product (s.multiply x op y) = true
 is_product _ = false
 
+-- CASE WHEN
+abbrev pub is_searched : s.Expr → Bool
+is_searched (s.searched xs o) = true
+is_searched _ = false
+
+-- CASE x WHEN
+abbrev pub is_simple : s.Expr → Bool
+is_simple (s.simple x xs o) = true
+is_simple _ = false
+
 -- OR
 abbrev pub is_disjunction : s.Cond → Bool
 is_disjunction (s.either p q) = true

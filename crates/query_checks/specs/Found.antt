@@ -1,6 +1,9 @@
 -- What a name finds, as the code keeps it: whether it is no column, one or several, and the type of the first.
-use Rattle.std.specs.Prelude.{ℕ, List, [], ◌∷◌, Option, Some, None, option_map}
+use Rattle.std.specs.Prelude.{ℕ, zero, suc, map, List, [], ◌∷◌, Option, Some, None, option_map}
+use Rattle.std.specs.Borrow.{Bor}
 use Rattle.sql_ast.specs.declared.name.Column.{Column}
+use Rattle.sql_meaning.specs.declared.column_index.Occurrence.{Occurrence}
+use Rattle.sql_meaning.specs.declared.column_index.Occurrence.TheVariants.{Nowhere, Once, Several as Repeated}
 use Rattle.sql_value.specs.declared.order_key.SqlType.{SqlType}
 use Rattle.query_checks.specs.Scopes.{columns_named, named_in, range_in}
 use Rattle.query_checks.specs.declared.column.TypedColumn.{TypedColumn}
@@ -44,3 +47,21 @@ abbrev pub found_type : Found → Option SqlType
 found_type Nothing = None
 found_type (One sort) = sort
 found_type (Several sort) = sort
+
+-- ---- by an index of columns
+
+-- the names of columns that references read
+abbrev pub read_names : List (Bor (Option (List ℕ))) → List (Option (List ℕ))
+read_names names = map (λ (name : Bor (Option (List ℕ))). name.now) names
+
+-- the type of the column at a place, from 0
+abbrev pub sort_at : ℕ → List TypedColumn → Option SqlType
+sort_at place [] = None
+sort_at zero (c ∷ cs) = c.sort
+sort_at (suc place) (c ∷ cs) = sort_at place cs
+
+-- what a name finds that stands so often among columns
+abbrev pub found_of : Occurrence → List TypedColumn → Found
+found_of Nowhere columns = Nothing
+found_of (Once place) columns = One (sort_at place columns)
+found_of (Repeated place) columns = Several (sort_at place columns)

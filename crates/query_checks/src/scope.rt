@@ -13,6 +13,7 @@ use crate::column::{TypedColumn, TypedRange};
 use crate::fault::{Fault, fault_if, lesser};
 use crate::found::{Found, found_fault, found_in, found_type, range_in};
 use crate::site::Site;
+use crate::tables::Tables;
 use crate::typed::Typed;
 use sql_ast::Column;
 use sql_text::Name;
@@ -22,10 +23,10 @@ use sql_value::SqlType;
 #[derive(Clone, Copy)]
 pub(crate) enum Scopes<'a> {
     Outermost,
-    /// The ranges of a FROM.
-    Plain(&'a [TypedRange], &'a Scopes<'a>),
-    /// The ranges of a grouped block with its GROUP BY: what its list and HAVING see.
-    Grouped(&'a [TypedRange], &'a [Column], &'a Scopes<'a>),
+    /// The tables of a FROM.
+    Plain(&'a Tables<'a>, &'a Scopes<'a>),
+    /// The tables of a grouped block with its GROUP BY: what its list and HAVING see.
+    Grouped(&'a Tables<'a>, &'a [Column], &'a Scopes<'a>),
     /// The same scopes within an aggregate's argument, where every column may be named.
     Released(&'a Scopes<'a>),
 }
@@ -81,14 +82,14 @@ pub(crate) fn target_of(column: &Column, inner: &Scopes<'_>) -> Target
             found: Found::Nothing,
             barred: false,
         },
-        Scopes::Plain(ranges, outer) => match found_in(ranges, column) {
+        Scopes::Plain(tables, outer) => match found_in(tables, column) {
             Some(found) => Target {
                 found,
                 barred: false,
             },
             None => target_of(column, outer),
         },
-        Scopes::Grouped(ranges, by, outer) => match found_in(ranges, column) {
+        Scopes::Grouped(tables, by, outer) => match found_in(tables, column) {
             Some(found) => Target {
                 found,
                 barred: is_barred(by, column),
@@ -109,8 +110,8 @@ pub(crate) fn is_own(column: &Column, inner: &Scopes<'_>) -> bool
 {
     match inner {
         Scopes::Outermost => false,
-        Scopes::Plain(ranges, _) => found_in(ranges, column).is_some(),
-        Scopes::Grouped(ranges, _, _) => found_in(ranges, column).is_some(),
+        Scopes::Plain(tables, _) => found_in(tables, column).is_some(),
+        Scopes::Grouped(tables, _, _) => found_in(tables, column).is_some(),
         Scopes::Released(outer) => is_own(column, outer),
     }
 }
@@ -181,14 +182,14 @@ pub(crate) fn star_of<'a>(name: &Name, inner: &Scopes<'a>) -> Star<'a>
             range: None,
             barred: false,
         },
-        Scopes::Plain(ranges, outer) => match range_in(ranges, name) {
+        Scopes::Plain(tables, outer) => match range_in(tables.ranges, name) {
             Some(range) => Star {
                 range: Some(range),
                 barred: false,
             },
             None => star_of(name, outer),
         },
-        Scopes::Grouped(ranges, by, outer) => match range_in(ranges, name) {
+        Scopes::Grouped(tables, by, outer) => match range_in(tables.ranges, name) {
             Some(range) => Star {
                 range: Some(range),
                 barred: is_range_barred(by, range),
