@@ -1,0 +1,4 @@
+pub mod Terms
+pub mod Gathered
+pub mod Named
+pub mod Shown
