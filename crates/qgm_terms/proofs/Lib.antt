@@ -1,2 +1,7 @@
 pub mod Lists
-pub mod Chains
+pub mod ChainLaws
+pub mod Pushed
+pub mod InPlace
+pub mod Removed
+pub mod PostfixLaws
+pub mod PostfixRead

@@ -1,5 +1,5 @@
 -- What is gathered from expressions and conditions: one traversal for all searches.
-use Rattle.std.specs.Prelude.{ℕ, List, [], ◌∷◌, ◌++◌, Bool, true, false, ◌&&◌, ◌||◌}
+use Rattle.std.specs.Prelude.{ℕ, List, [], ◌∷◌, ◌++◌, Bool, false, ◌&&◌, ◌||◌}
 use Rattle.qgm_terms.specs.Terms.{Term, int, text, null_int, null_text, col, scalar, both, minus_of, choose, count_all, fold}
 use Rattle.qgm_terms.specs.Terms.{Link, Choice, Arms, no_arm, arm, Cond, always, compare, is_null, and, or, not, some, every}
 
@@ -61,14 +61,14 @@ listed_choices s [] = []
 listed_choices s (c ∷ cs) = listed_cond s c.when ++ (listed s c.then ++ listed_choices s cs)
 
 -- which columns, scalars and quantifier nodes are looked for; whether aggregates are; nodes that are not entered are not searched
-pub record Sought : Type 0 where
+pub record Wanted : Type 0 where
   pub column : ℕ → ℕ → Bool
   pub cell : ℕ → Bool
   pub node : ℕ → Bool
   pub enter : ℕ → Bool
   pub aggregate : Bool
 
-abbrev pub found : Sought → Search Bool
+abbrev pub found : Wanted → Search Bool
 found s = record {
   at_column = s.column;
   at_scalar = s.cell;
@@ -78,11 +78,20 @@ found s = record {
 }
 
 -- whether one is found
-abbrev pub any_in : Sought → Term → Bool
+abbrev pub any_in : Wanted → Term → Bool
 any_in s = gathered false (λ x y. x || y) (found s)
 
-abbrev pub any_in_arms : Sought → Arms → Bool
+abbrev pub any_in_arms : Wanted → Arms → Bool
 any_in_arms s = gathered_arms false (λ x y. x || y) (found s)
 
-abbrev pub any_in_cond : Sought → Cond → Bool
+abbrev pub any_in_cond : Wanted → Cond → Bool
 any_in_cond s = gathered_cond false (λ x y. x || y) (found s)
+
+-- of the operands behind a first one, and of conditions with their results
+abbrev pub any_in_links : Wanted → List Link → Bool
+any_in_links s [] = false
+any_in_links s (l ∷ ls) = any_in s l.right || any_in_links s ls
+
+abbrev pub any_in_choices : Wanted → List Choice → Bool
+any_in_choices s [] = false
+any_in_choices s (c ∷ cs) = any_in_cond s c.when || (any_in s c.then || any_in_choices s cs)

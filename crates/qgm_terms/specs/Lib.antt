@@ -1,4 +1,11 @@
 pub mod Terms
 pub mod Gathered
 pub mod Named
+pub mod Wanted
 pub mod Shown
+pub mod Rebuilt
+pub mod Shift
+pub mod Put
+pub mod Postfix
+pub mod TermCodes
+pub mod Conjuncts

@@ -2,14 +2,30 @@
 //! (Pirahesh, Hellerstein and Hasan 1992, 2.1).
 #![tactic(auto)]
 
+mod chains;
 mod columns;
+mod copies;
 mod named;
 mod names;
 mod nodes;
+mod parts;
+mod puts;
+mod rebuilt;
+mod sameness;
+mod shifts;
+mod sought;
+mod tokens;
 mod tree;
 
+pub use chains::{anded, chained, negated, ored};
 pub use columns::{add_columns, add_columns_of_cells, add_columns_of_cond, add_columns_of_conds};
+pub use copies::{copy, copy_cells, copy_cond, copy_conds};
 pub use named::{Column, QuantId, QuantNode};
 pub use names::{add_names, add_names_of_cells, add_names_of_cond, add_names_of_conds};
 pub use nodes::{add_nodes, add_nodes_of_cells, add_nodes_of_cond, add_nodes_of_conds};
-pub use tree::{Arm, Gc, Gx, Link, Op};
+pub use parts::{Conds, Head};
+pub use puts::{put, put_cells, put_cond, put_conds};
+pub use sameness::{same_cond, same_term};
+pub use shifts::{shift, shift_cells, shift_cond, shift_conds};
+pub use sought::{Sought, has_aggregate, has_aggregate_cond, is_node_free, is_node_free_cond, stands_in, stands_in_cells, stands_in_cond, stands_in_conds};
+pub use tree::{Arm, Gc, Gx, Link, Op, ROOM};

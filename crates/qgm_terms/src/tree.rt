@@ -2,6 +2,10 @@
 use crate::named::QuantId;
 use shared_types::Text;
 
+/// How many levels of brackets and CASE an expression or a condition may have that is made; operands
+/// of a chain and arms of a CASE take one level, however many they are.
+pub const ROOM: usize = 4_096;
+
 /// An operation on two values.
 #[derive(Clone, Copy, Debug, PartialEq, Eq)]
 pub enum Op {

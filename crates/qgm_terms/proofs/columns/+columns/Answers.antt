@@ -1,6 +1,6 @@
 use Rattle.std.proofs.Common.{arith}
 use Rattle.std.proofs.lemmas.Grind.{common_steps}
-use Rattle.qgm_terms.proofs.Chains as chains
+use Rattle.qgm_terms.proofs.ChainLaws as chains
 use Rattle.qgm_terms.proofs.Lists as lists
 use Rattle.qgm_terms.specs.Named.{columns}
 use Rattle.qgm_terms.specs.Shown as shown
