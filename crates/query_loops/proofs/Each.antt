@@ -12,8 +12,9 @@ use Rattle.sql_value.specs.declared.cell.Cell.{Cell}
 use Rattle.sql_value.specs.declared.level.Level.{Level}
 use Rattle.sql_value.specs.declared.level.Level.TheVariants.{No, Cardinality, Division, Overflow, Yes}
 use Rattle.sql_value.specs.declared.truth.Truth.{Truth}
-use Rattle.row_bag.proofs.Binds.{bind-append, bind-bind, keep-append, unit-bind}
+use Rattle.row_bag.proofs.Binds.{bind-append, bind-bind, unit-bind}
 use Rattle.row_bag.proofs.Levels.{least-yes}
+use Rattle.row_folds.proofs.Products.{product_one}
 use Rattle.query_loops.specs.Rows.{beside, listed, picked}
 use Rattle.query_loops.proofs.There.{append-same, keep-same}
 
@@ -43,14 +44,6 @@ pub partners_there : (on : List Cell → Truth) (y : Row (List Cell)) (ys : List
     those_there (partners on (y ∷ ys) left) ≡ those_there (picked on (λ cells. cells) (beside left y) ∷ []) ++ those_there (partners on ys left)
 partners_there on y ys left = ap those_there (partners_one on y ys left) ∙ first_there (picked on (λ cells. cells) (beside left y)) (partners on ys left)
 
--- cells beside each row, as a map
-beside_all : (left : List Cell) (ys : List (Row (List Cell))) → bind ys (λ others. unit (left ++ others)) ≡ map (beside left) ys
-beside_all left [] = refl
-beside_all left (y ∷ ys) = ap₂ (λ l rows. row (left ++ y.cells) l ∷ rows) (least-yes y.level) (beside_all left ys)
-
-pub product_one : (x : Row (List Cell)) (xs ys : List (Row (List Cell))) → product (x ∷ xs) ys ≡ keep x.level (map (beside x.cells) ys) ++ product xs ys
-product_one x xs ys = ap (λ rows. keep x.level rows ++ product xs ys) (beside_all x.cells ys)
-
 -- a join as the partners of each left row
 pub joined_rows : (on : List Cell → Truth) (xs ys : List (Row (List Cell))) → kept on (product xs ys) ≡ bind xs (partners on ys)
 joined_rows on xs ys =
@@ -70,8 +63,6 @@ pub ruleset selected_steps = (common_steps, selected_there)
 pub ruleset more_steps = (common_steps, selected_more)
 
 pub ruleset partner_steps = (common_steps, partners_there)
-
-pub ruleset product_steps = (common_steps, product_one)
 
 -- rows that are kept need only those that are there
 twice_one : {T : Type 0} (c : T) (l : Level) (rows : List (Row T)) → those_there (those_there rows) ≡ those_there rows → those_there (those_there (row c l ∷ rows)) ≡ those_there (row c l ∷ rows)
@@ -117,10 +108,8 @@ or_else_there rows c = shape (nat_eq (how_many rows) 0) ∙ ap (λ n. cond (nat_
     shape true = refl
     shape false = refl
 
-pub keep_append : {T : Type 0} (l : Level) (xs ys : List (Row T)) → keep l (xs ++ ys) ≡ keep l xs ++ keep l ys
-keep_append l xs ys = keep-append l xs ys
-
-pub ruleset keep_steps = (common_steps, keep_append)
+pub or_else_those : (rows : List (Row (List Cell))) (c : List Cell) → or_else (those_there rows) (row c Yes ∷ []) ≡ those_there (or_else rows (row c Yes ∷ []))
+or_else_those rows c = ap (λ n. cond (nat_eq n 0) (row c Yes ∷ []) (those_there rows)) (many_length (those_there rows) ∙ ap length (those_twice rows)) ∙ sym (or_else_there rows c)
 
 -- a list of one element
 pub only_one : {T : Type 0} (xs : List T) (x : T) → x ≡ get_or xs 0 x → 1 ≤ length xs → length xs < 2 → xs ≡ x ∷ []
@@ -139,7 +128,7 @@ join_step f made new partners x rest h k =
 
 pub ruleset join_steps = (common_steps, kept_those, bound_first)
 
-pub ruleset or_else_steps = (common_steps, or_else_there)
+pub ruleset or_else_steps = (common_steps, or_else_those)
 
 pub kept_there : (test : List Cell → Truth) (r : Row (List Cell)) (rows : List (Row (List Cell))) →
     those_there (kept test (r ∷ rows)) ≡ those_there (picked test (λ cells. cells) r ∷ []) ++ those_there (kept test rows)

@@ -2,8 +2,8 @@ pub mod Agreed
 pub mod Chains
 pub mod Each
 pub mod Grouped
-pub mod Means
 pub mod Onces
+pub mod SameAggregates
 pub mod SameGroups
 pub mod SameKnown
 pub mod SameRows
@@ -11,4 +11,3 @@ pub mod SameSets
 pub mod SameSubqueries
 pub mod There
 pub mod Unread
-pub mod Values

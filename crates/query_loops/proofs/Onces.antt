@@ -11,8 +11,6 @@ bind_append xs ys f = bind-append xs ys f
 pub unit_bind : {A B : Type 0} (c : A) (f : A → List (Row B)) → bind (unit c) f ≡ f c
 unit_bind c f = unit-bind c f
 
-pub ruleset once_steps = (common_steps)
-
 pub ruleset distinct_steps = (common_steps, bind_append, unit_bind)
 
 pub ruleset copies_steps = (common_steps, bind_append, unit_bind)

@@ -1,23 +1,20 @@
 -- Expressions go by the aggregates of a group alone, and so count nothing of its rows at no.
-use Rattle.std.proofs.Common.{◌≡◌, ℕ, ◌+◌, Bool, true, false, cond, ◌+ℤ◌, pos, List, [], ◌∷◌, Option, Some, None, replicate, arith, refl, ap, ap₂, sym, ◌∙◌}
+use Rattle.std.proofs.Common.{◌≡◌, ℕ, Bool, true, false, cond, List, [], ◌∷◌, Option, Some, None, replicate, refl, ap, ap₂, sym, ◌∙◌}
 use mathlib.Core.Path.{fun_ext}
-use Rattle.std.proofs.lemmas.Int.{ints}
 use Rattle.shared_types.specs.declared.compare.CmpOp.TheVariants.{Eq, Ge, Le}
 use Rattle.sql_meaning.specs.ResolvedMeaning as m
 use Rattle.sql_meaning.specs.ResolvedTrees as q
 use Rattle.row_bag.specs.Bags.{bind, keep, unit}
-use Rattle.row_bag.specs.Errors.{error_among, error_at, error_in}
+use Rattle.row_bag.specs.Errors.{error_among, error_in}
 use Rattle.row_bag.specs.Sets.{error_or_bag, of_group, once, same_cells}
 use Rattle.row_bag.specs.Verdict.{those_there}
 use Rattle.row_bag.specs.declared.row.Row.{Row}
 use Rattle.sql_ast.specs.declared.word.SetFunction.{SetFunction}
-use Rattle.sql_ast.specs.declared.word.SetFunction.TheVariants as function
 use Rattle.sql_meaning.specs.Groups as g
-use Rattle.sql_meaning.specs.Joins.{how_many, selected}
+use Rattle.sql_meaning.specs.Joins.{selected}
 use Rattle.sql_meaning.specs.Subqueries as u
 use Rattle.sql_meaning.specs.Values.{additive, case_of, multiplicative}
 use Rattle.sql_value.specs.Arithmetic as a
-use Rattle.sql_value.specs.Cells.{error_of, worst_of}
 use Rattle.sql_value.specs.Comparison as c
 use Rattle.sql_value.specs.Like as l
 use Rattle.sql_value.specs.Truths as t
@@ -28,7 +25,8 @@ use Rattle.sql_value.specs.declared.truth.Truth.{Truth}
 use Rattle.query_loops.specs.There.{SameThere}
 use Rattle.row_bag.proofs.Binds.{bind-bind, unit-bind}
 use Rattle.query_loops.proofs.SameSets.{error_same}
-use Rattle.query_loops.proofs.There.{bind-same, once-same, total-same}
+use Rattle.query_loops.proofs.SameAggregates.{arguments_same, many_same}
+use Rattle.query_loops.proofs.There.{bind-same, once-same}
 
 -- all aggregates are the same
 pub record SameGroup (x y : g.Group (List Cell)) : Type 0 where
@@ -108,29 +106,6 @@ module _ (known : List ℕ → m.Bag) (x y : g.Group (List Cell)) (h : SameGroup
     cells_group (q.one_value v vs) s = ap₂ (λ i j. i ∷ j) (value_group v s) (cells_group vs s)
 
 -- ---- rows at no
-
-once_if_same : (distinct : Bool) (xs ys : List (Row Cell)) → SameThere xs ys → SameThere (g.once_if distinct xs) (g.once_if distinct ys)
-once_if_same true xs ys h = ap (λ rs. those_there rs) (once-same g.same_cell xs ys h)
-once_if_same false xs ys h = h
-
-many_same : {T : Type 0} (xs ys : List (Row T)) → SameThere xs ys → how_many xs ≡ how_many ys
-many_same xs ys h = total-same ◌+◌ 0 (λ n. omega arith) (λ row level. 1) xs ys h
-
-total_same : (xs ys : List (Row Cell)) → SameThere xs ys → g.exact_total xs ≡ g.exact_total ys
-total_same xs ys h = total-same ◌+ℤ◌ (pos 0) (λ n. omega (arith, ints)) (λ cell level. g.number_in cell) xs ys h
-
-values_same : (f : SetFunction) (xs ys : List (Row Cell)) → SameThere xs ys → g.of_values f xs ≡ g.of_values f ys
-values_same function.Count xs ys h = ap g.count_cell (many_same xs ys h)
-values_same function.Sum xs ys h = ap₂ g.sum (many_same xs ys h) (total_same xs ys h)
-values_same function.Avg xs ys h = ap₂ g.mean (many_same xs ys h) (total_same xs ys h)
-values_same function.Min xs ys h = total-same g.lesser_cell cell.Null (λ n. refl) (λ cell level. cell) xs ys h
-values_same function.Max xs ys h = total-same g.greater_cell cell.Null (λ n. refl) (λ cell level. cell) xs ys h
-
-arguments_same : (f : SetFunction) (distinct : Bool) (xs ys : List (Row Cell)) → SameThere xs ys → g.of_arguments f distinct xs ≡ g.of_arguments f distinct ys
-arguments_same f distinct xs ys h =
-    ap₂ a.error_or (total-same worst_of None (λ k. refl) (λ cell level. worst_of (error_at level) (error_of cell)) xs ys h)
-    (values_same f (g.once_if distinct (bind xs g.unless_null)) (g.once_if distinct (bind ys g.unless_null))
-    (once_if_same distinct (bind xs g.unless_null) (bind ys g.unless_null) (bind-same xs ys g.unless_null g.unless_null h (λ cell. refl))))
 
 pub members_same : (xs ys : List (Row (List Cell))) → SameThere xs ys → SameGroup (g.members xs) (g.members ys)
 members_same xs ys h = record {

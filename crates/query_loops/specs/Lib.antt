@@ -4,7 +4,6 @@ pub mod Nests
 pub mod Rows
 pub mod Sources
 pub mod Sets
-pub mod Cells
 pub mod Groups
 pub mod Laws
 pub mod Reads

@@ -1,14 +1,13 @@
 -- What loops make of one row.
-use Rattle.std.specs.Prelude.{ℕ, List, [], ◌∷◌, ◌++◌, map, Option, Some, None, replicate}
+use Rattle.std.specs.Prelude.{ℕ, List, [], ◌∷◌, map, Option, Some, None}
 use Rattle.sql_meaning.specs.ResolvedMeaning as m
 use Rattle.sql_meaning.specs.ResolvedTrees as q
 use Rattle.row_bag.specs.Bags.{row}
 use Rattle.row_bag.specs.declared.row.Row.{Row}
+pub use Rattle.row_folds.specs.Beside.{beside, with_nulls}
 use Rattle.sql_meaning.specs.Groups.{no_group}
 use Rattle.sql_value.specs.Level.{least}
 use Rattle.sql_value.specs.declared.cell.Cell.{Cell}
-use Rattle.sql_value.specs.declared.cell.Cell.TheVariants.{Null}
-use Rattle.sql_value.specs.declared.level.Level.TheVariants.{Yes}
 use Rattle.sql_value.specs.declared.truth.Truth.{Truth}
 
 -- a row, or none
@@ -23,14 +22,6 @@ picked test list r = row (list r.cells) (least r.level (test r.cells).t)
 -- what a list gives of each row
 abbrev pub listed : {T : Type 0} → (T → List Cell) → List (Row T) → List (Row (List Cell))
 listed list rows = map (λ r. row (list r.cells) r.level) rows
-
--- cells, and then those of a row
-abbrev pub beside : List Cell → Row (List Cell) → Row (List Cell)
-beside cells r = row (cells ++ r.cells) r.level
-
--- cells, and then nulls
-abbrev pub with_nulls : List Cell → ℕ → Row (List Cell)
-with_nulls cells width = row (cells ++ replicate width Null) Yes
 
 -- a condition in a row, and cells from a row, where there is no group
 module _ (known : List ℕ → m.Bag) (scopes : m.Scopes) where

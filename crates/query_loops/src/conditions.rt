@@ -10,13 +10,23 @@ ghost use Rattle.sql_meaning.specs.Subqueries as u;
 
 use crate::nest::Loops;
 use crate::scope::{Group, Scopes, Setting};
-use crate::subqueries::{compare_any, exists, quantified};
-use crate::value::{always, between};
-use row_bag::Bag;
+use crate::value::between;
+use row_bag::{Bag, Row};
+use row_folds::{compare_all, compare_any, exists};
 use shared_types::OutOfMemory;
 use sql_ast::Quantifier;
 use sql_meaning::{From, Query, Test, Value};
-use sql_value::{Cell, CmpOp, Truth, and, compare, is_null, like, not, or};
+use sql_value::{Cell, CmpOp, Truth, and, compare, decided, is_null, like, not, or};
+
+// A comparison with ANY, SOME or ALL of the rows.
+fn quantified(each: Quantifier, op: CmpOp, x: &Cell, rows: &[Row]) -> Truth
+    ensures { result ≡ u.quantified each op x.now rows.now }
+{
+    match each {
+        Quantifier::Any | Quantifier::Some => compare_any(op, x, rows),
+        Quantifier::All => compare_all(op, x, rows),
+    }
+}
 
 impl<
     V: Fn(&Setting<'_>, &Value, &Scopes<'_>, &Group<'_>) -> Result<Cell, OutOfMemory>,
@@ -30,7 +40,7 @@ impl<
         requires test { nests.Tests self.now.setting.depth (P.pre self.now.test) (P.post self.now.test) }
         ensures { IfOk result (λ truth. truth ≡ m.every (known_in self.now.setting) (shown.test_list tests.now) (scopes s.now) (group g.now)) }
     {
-        let mut truth = always(true);
+        let mut truth = decided(true);
         for test in tests {
             truth = and(truth, self.test(test, s, g)?);
         }
@@ -43,7 +53,7 @@ impl<
         requires test { nests.Tests self.now.setting.depth (P.pre self.now.test) (P.post self.now.test) }
         ensures { IfOk result (λ truth. truth ≡ m.some (known_in self.now.setting) (shown.test_list tests.now) (scopes s.now) (group g.now)) }
     {
-        let mut truth = always(false);
+        let mut truth = decided(false);
         for test in tests {
             truth = or(truth, self.test(test, s, g)?);
         }
@@ -62,7 +72,7 @@ impl<
         requires value { nests.Values self.now.setting.depth (V.pre self.now.value) (V.post self.now.value) }
         ensures { IfOk result (λ truth. truth ≡ m.equals_one (known_in self.now.setting) x.now (shown.value_list list.now) (scopes s.now) (group g.now)) }
     {
-        let mut truth = always(false);
+        let mut truth = decided(false);
         for other in list {
             let other = self.value(other, s, g)?;
             truth = or(truth, compare(CmpOp::Eq, x, &other));

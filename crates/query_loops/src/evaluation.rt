@@ -11,9 +11,9 @@ ghost use Rattle.sql_value.specs.declared.cell.Cell.{Cell};
 use crate::members::count_all;
 use crate::nest::Loops;
 use crate::scope::{Group, Scopes, Setting, cell_at};
-use crate::subqueries::scalar;
 use crate::value::{additive, multiplicative, null_if};
 use row_bag::Bag;
+use row_folds::scalar;
 use shared_types::OutOfMemory;
 use sql_meaning::{Addend, Arm, Choice, From, Multiplier, Query, Test, Value};
 use sql_value::{Cell, CmpOp, Kind, Level, Truth, compare, neg};
@@ -187,7 +187,7 @@ impl<
         ensures { IfOk result (λ cell. cell ≡ u.scalar (rows_of self.now.setting s.now q.now)) }
     {
         let rows = self.rows(q, s)?;
-        scalar(self.setting.alloc, rows)
+        scalar(self.setting.alloc, rows.rows())
     }
 
     /// The cell that an expression is. It fails only for want of memory.

@@ -17,15 +17,12 @@ ghost use Rattle.sql_value.specs.declared.cell.Cell.TheVariants.{Null};
 ghost use Rattle.sql_value.specs.declared.level.Level.TheVariants.{Yes};
 
 use crate::nest::Loops;
-use crate::pair::nulls;
 use crate::scope::{Group, GroupedSelect, Scopes, Setting};
-use crate::sets::{error_of, failed_cells, level_of};
-use crate::subqueries::{error_at, worst_of};
-use crate::tuple::{copied, same_cells};
-use row_bag::{Bag, Row};
+use row_bag::{Bag, Row, error_at, error_of, failed_cells, same_cells, worst_of};
+use row_folds::{copied, nulls};
 use shared_types::OutOfMemory;
 use sql_meaning::{From, Query, Test, Value};
-use sql_value::{Cell, Kind, Level, Truth, copy, keep};
+use sql_value::{Cell, Kind, Level, Truth, copy, keep, level_of};
 use sqlite_items::Items;
 use std::alloc::Global;
 

@@ -9,9 +9,9 @@ ghost use Rattle.row_bag.specs.Verdict.{those_there};
 ghost use Rattle.sql_meaning.specs.Joins as joins;
 
 use crate::nest::Loops;
-use crate::pair::{append_kept, cells_beside, with_nulls};
 use crate::scope::{Group, Scopes, Setting};
 use row_bag::{Bag, Row};
+use row_folds::{append_kept, cells_beside, or_with_nulls};
 use shared_types::OutOfMemory;
 use sql_meaning::{From, Query, Test, Value};
 use sql_value::{Cell, Level, Truth};
@@ -90,11 +90,8 @@ impl<
         requires test { nests.Tests self.now.setting.depth (P.pre self.now.test) (P.post self.now.test) }
         ensures { IfOk result (λ made. made ≡ those_there (joins.or_else (joins.partners (condition self.now.setting s.now p.now) ys.now left.now) (with_nulls left.now width ∷ []))) }
     {
-        let mut partners = self.partners(p, left, ys, s)?;
-        if partners.rows().is_empty() {
-            partners.push(with_nulls(self.setting.alloc, left, width)?)?;
-        }
-        Ok(partners)
+        let partners = self.partners(p, left, ys, s)?;
+        or_with_nulls(self.setting.alloc, partners, left, width)
     }
 
     // A left join.

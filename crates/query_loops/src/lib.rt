@@ -1,7 +1,6 @@
 //! Nested loops over queries without names: for each row of a FROM what it gives.
 #![tactic(auto)]
 
-mod aggregates;
 mod conditions;
 mod evaluation;
 mod groups;
@@ -11,7 +10,6 @@ mod laws;
 mod loops;
 mod members;
 mod nest;
-mod pair;
 mod query;
 mod read_names;
 mod rows;
@@ -19,9 +17,7 @@ mod run;
 mod scope;
 mod sets;
 mod source;
-mod subqueries;
 mod taken;
-mod tuple;
 mod value;
 
 pub use laws::loop_laws;

@@ -8,14 +8,14 @@ ghost use Rattle.row_bag.specs.Bags.{bind, unit};
 ghost use Rattle.sql_meaning.specs.Groups as groups;
 ghost use Rattle.sql_meaning.specs.Joins as joins;
 
-use crate::aggregates::{count_cell, of_arguments};
 use crate::nest::Loops;
 use crate::scope::{Group, Scopes, Setting, no_group};
 use row_bag::{Bag, Row};
+use row_folds::{count_cell, folded};
 use shared_types::OutOfMemory;
 use sql_ast::SetFunction;
 use sql_meaning::{From, Query, Test, Value};
-use sql_value::{Cell, Level, Truth};
+use sql_value::{Aggregate, Cell, Level, Taken, Truth};
 
 // How many rows are there.
 fn how_many(rows: &[&Row]) -> usize
@@ -37,6 +37,30 @@ pub(crate) fn count_all(g: &Group<'_>) -> Cell
     match g.failed {
         Some(kind) => Cell::Err(kind),
         None => count_cell(how_many(g.members)),
+    }
+}
+
+// The aggregate of a name.
+fn aggregate_of(f: SetFunction) -> Aggregate
+    ensures { result ≡ groups.aggregate_of f }
+{
+    match f {
+        SetFunction::Count => Aggregate::Count,
+        SetFunction::Sum => Aggregate::Sum,
+        SetFunction::Avg => Aggregate::Avg,
+        SetFunction::Min => Aggregate::Min,
+        SetFunction::Max => Aggregate::Max,
+    }
+}
+
+// With DISTINCT where it is true.
+fn taken_of(distinct: bool) -> Taken
+    ensures { result ≡ groups.taken_of distinct }
+{
+    if distinct {
+        Taken::Distinct
+    } else {
+        Taken::All
     }
 }
 
@@ -86,6 +110,11 @@ impl<
             return Ok(Cell::Err(kind));
         }
         let arguments = self.arguments(x, g.members)?;
-        of_arguments(self.setting.alloc, f, distinct, arguments)
+        folded(
+            self.setting.alloc,
+            aggregate_of(f),
+            taken_of(distinct),
+            arguments,
+        )
     }
 }

@@ -9,12 +9,11 @@ ghost use Rattle.sql_meaning.specs.Joins as joins;
 ghost use Rattle.sql_value.specs.declared.cell.Cell.TheVariants.{Null};
 
 use crate::nest::Loops;
-use crate::pair::product;
 use crate::scope::{Group, Scopes, Setting};
 use crate::sets::{combined, distinct_if, intersected};
 use crate::source::{Source, rows_named};
-use crate::tuple::copied_rows;
 use row_bag::{Bag, Row};
+use row_folds::{copied_rows, product};
 use shared_types::OutOfMemory;
 use sql_meaning::{From, Query, Test, Value};
 use sql_value::{Cell, Level, Truth};

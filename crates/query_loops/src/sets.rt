@@ -8,17 +8,14 @@ ghost use Rattle.row_bag.specs.Sets as sets;
 ghost use Rattle.row_bag.specs.Verdict as verdict;
 ghost use Rattle.sql_meaning.specs.Joins as joins;
 ghost use Rattle.sql_value.specs.Cells as cells;
-ghost use Rattle.sql_value.specs.Level.{greatest, level_of};
 ghost use Rattle.sql_value.specs.declared.cell.Cell.TheVariants.{Err};
 ghost use Rattle.sql_value.specs.declared.level.Level.TheVariants.{No};
 
-use crate::subqueries::{error_at, worst_of};
-use crate::tuple::{copied, same_cells};
-use row_bag::{Bag, Row};
+use row_bag::{Bag, Row, error_among, failed_row, same_cells, worst_of};
+use row_folds::copied;
 use shared_types::OutOfMemory;
 use sql_ast::SetOperator;
-use sql_value::{Cell, Kind, Level};
-use sqlite_items::Items;
+use sql_value::{Cell, Level, greatest};
 use std::alloc::Global;
 
 /// How often a set operation keeps a tuple.
@@ -76,13 +73,6 @@ fn level_of_hit(cells: &[Cell], row: &Row) -> Level
     } else {
         Level::No
     }
-}
-
-// The higher one of two levels.
-fn greatest(a: Level, b: Level) -> Level
-    ensures { result ≡ greatest a b }
-{
-    if a <= b { b } else { a }
 }
 
 // The greatest level of a tuple, no where it doesn't occur.
@@ -182,90 +172,6 @@ fn kept_often(alloc: Global, rule: Rule, xs: &[Row], ys: &[Row]) -> Result<Bag, 
         }
     }
     Ok(made)
-}
-
-/// The error that a cell is.
-pub(crate) fn error_of(cell: &Cell) -> Option<Kind>
-    ensures { result ≡ cells.error_of cell.now }
-{
-    match cell {
-        Cell::Err(kind) => Some(*kind),
-        Cell::Int(_) | Cell::Text(_) | Cell::Null => None,
-    }
-}
-
-/// The greatest error among cells.
-#[tactic(auto, using(crate::proofs::Chains::worst_steps))]
-pub(crate) fn error_in(cells: &[Cell]) -> Option<Kind>
-    ensures { result ≡ errors.error_in cells.now }
-{
-    let mut found = None;
-    for cell in cells {
-        found = worst_of(found, error_of(cell));
-    }
-    found
-}
-
-// The greatest error of a row that is there.
-fn error_of_row(row: &Row) -> Option<Kind>
-    ensures { result ≡ verdict.error_of_row row.now }
-{
-    match row.level {
-        Level::No => None,
-        Level::Cardinality | Level::Division | Level::Overflow | Level::Yes => {
-            worst_of(error_at(row.level), error_in(row.cells.as_slice()))
-        }
-    }
-}
-
-// The greatest error among rows.
-#[tactic(auto, using(crate::proofs::Chains::worst_steps))]
-fn error_among(rows: &[Row]) -> Option<Kind>
-    ensures { result ≡ errors.error_among errors.error_in rows.now }
-{
-    let mut found = None;
-    for row in rows {
-        found = worst_of(found, error_of_row(row));
-    }
-    found
-}
-
-/// The level of an error.
-pub(crate) fn level_of(kind: Kind) -> Level
-    ensures { result ≡ level_of kind }
-{
-    match kind {
-        Kind::Cardinality => Level::Cardinality,
-        Kind::Division => Level::Division,
-        Kind::Overflow => Level::Overflow,
-    }
-}
-
-/// So many cells of an error.
-pub(crate) fn failed_cells(
-    alloc: Global,
-    width: usize,
-    kind: Kind,
-) -> Result<Items<Cell>, OutOfMemory>
-    ensures { IfOk result (λ cells. cells ≡ m.failed_cells width kind) }
-{
-    let mut cells = Vec::new(alloc);
-    for _i in 0..width {
-        cells.push(Cell::Err(kind))?;
-    }
-    Ok(Items::from_vec(cells))
-}
-
-// One row of an error.
-fn failed_row(alloc: Global, width: usize, kind: Kind) -> Result<Bag, OutOfMemory>
-    ensures { IfOk result (λ rows. rows ≡ row (m.failed_cells width kind) (level_of kind) ∷ []) }
-{
-    let mut rows = Bag::new(alloc);
-    rows.push(Row {
-        cells: failed_cells(alloc, width, kind)?,
-        level: level_of(kind),
-    })?;
-    Ok(rows)
 }
 
 // What an operation keeps, or one row of the greatest error where an operand has one.

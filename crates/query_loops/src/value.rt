@@ -37,23 +37,6 @@ pub(crate) fn multiplicative(op: MultiplicativeOp, a: &Cell, b: &Cell) -> Cell
     }
 }
 
-// The truth of nothing: true, or false.
-pub(crate) fn always(value: bool) -> Truth
-    ensures { result ≡ truths.truth_of value }
-{
-    if value {
-        Truth {
-            t: Level::Yes,
-            f: Level::No,
-        }
-    } else {
-        Truth {
-            t: Level::No,
-            f: Level::Yes,
-        }
-    }
-}
-
 // `NULLIF(a, b)`.
 pub(crate) fn null_if(a: Cell, b: &Cell) -> Cell
     ensures { result ≡ named.case_of (comparison.compare op.Eq a b.now) Null a }

@@ -1,10 +1,13 @@
+pub mod Aggregates
 pub mod Bags
 pub mod Errors
 pub mod Groups
+pub mod Joins
 pub mod Laws
 pub mod Matched
 pub mod Order
 pub mod Sets
 pub mod Sorted
+pub mod Subqueries
 pub mod Tables
 pub mod Verdict

@@ -9,8 +9,8 @@ use crate::outcome::Verdict;
 use crate::row::Row;
 use sql_value::{Cell, Kind, Level};
 
-// The greatest one of the errors that there are.
-pub(crate) fn worst_of(a: Option<Kind>, b: Option<Kind>) -> Option<Kind>
+/// The greatest one of the errors that there are.
+pub fn worst_of(a: Option<Kind>, b: Option<Kind>) -> Option<Kind>
     ensures { result ≡ worst_of a b }
 {
     match (a, b) {
@@ -20,8 +20,8 @@ pub(crate) fn worst_of(a: Option<Kind>, b: Option<Kind>) -> Option<Kind>
     }
 }
 
-// The error that a cell is.
-fn error_of(cell: &Cell) -> Option<Kind>
+/// The error that a cell is.
+pub fn error_of(cell: &Cell) -> Option<Kind>
     ensures { result ≡ error_of cell.now }
 {
     match cell {
@@ -30,8 +30,8 @@ fn error_of(cell: &Cell) -> Option<Kind>
     }
 }
 
-// The error that a level is.
-pub(crate) fn error_at(level: Level) -> Option<Kind>
+/// The error that a level is.
+pub fn error_at(level: Level) -> Option<Kind>
     ensures { result ≡ errors.error_at level }
 {
     match level {
@@ -42,8 +42,8 @@ pub(crate) fn error_at(level: Level) -> Option<Kind>
     }
 }
 
-// The greatest error among cells.
-pub(crate) fn error_in(cells: &[Cell]) -> Option<Kind>
+/// The greatest error among cells.
+pub fn error_in(cells: &[Cell]) -> Option<Kind>
     ensures { result ≡ errors.error_in cells.now }
 {
     let mut found = None;
@@ -53,8 +53,8 @@ pub(crate) fn error_in(cells: &[Cell]) -> Option<Kind>
     found
 }
 
-// A row is there.
-pub(crate) fn is_there(row: &Row) -> bool
+/// A row is there: its level isn't `Level::No`.
+pub fn is_there(row: &Row) -> bool
     ensures { result ≡ spec.is_there row.now }
 {
     match row.level {
@@ -74,8 +74,8 @@ fn error_of_row(row: &Row) -> Option<Kind>
     }
 }
 
-// The greatest error among the levels and the cells of the rows that are there.
-pub(crate) fn error_among(rows: &[Row]) -> Option<Kind>
+/// The greatest error among the levels and the cells of the rows that are there.
+pub fn error_among(rows: &[Row]) -> Option<Kind>
     ensures { result ≡ errors.error_among errors.error_in rows.now }
 {
     let mut found = None;
@@ -85,8 +85,8 @@ pub(crate) fn error_among(rows: &[Row]) -> Option<Kind>
     found
 }
 
-// The rows that are there, in their order.
-pub(crate) fn those_there(bag: Bag) -> Bag
+/// The rows that are there, in their order. It takes no memory.
+pub fn those_there(bag: Bag) -> Bag
     ensures { result ≡ spec.those_there bag }
 {
     let mut rows = bag.into_rows();

@@ -32,8 +32,9 @@ pub(crate) fn cells_order(left: &[Cell], right: &[Cell]) -> Ordering
     left.len().cmp(&right.len())
 }
 
-// Two tuples are equal: their cells are the same data.
-pub(crate) fn same_cells(left: &[Cell], right: &[Cell]) -> bool
+/// Two tuples are equal: their cells are the same data, nulls and errors of one kind too (SQL-92 3.1,
+/// "distinct").
+pub fn same_cells(left: &[Cell], right: &[Cell]) -> bool
     ensures { result ≡ same_cells left.now right.now }
 {
     cells_order(left, right).is_eq()

@@ -10,7 +10,7 @@ use crate::bag::Bag;
 use crate::matched::matching;
 use crate::row::{Row, row_order, same_cells};
 use shared_types::OutOfMemory;
-use sql_value::{Cell, Kind, Level};
+use sql_value::{Cell, Kind, level_of};
 use sqlite_items::Items;
 use std::alloc::Global;
 
@@ -52,19 +52,8 @@ fn error_of_both(a: &Bag, b: &Bag) -> Option<Kind>
     worst_of(error_among(a.rows()), error_among(b.rows()))
 }
 
-// The level of an error.
-fn level_of(kind: Kind) -> Level
-    ensures { result ≡ level_of kind }
-{
-    match kind {
-        Kind::Cardinality => Level::Cardinality,
-        Kind::Division => Level::Division,
-        Kind::Overflow => Level::Overflow,
-    }
-}
-
-// A tuple that is an error in so many columns.
-fn failed_cells(alloc: Global, columns: usize, kind: Kind) -> Result<Items<Cell>, OutOfMemory>
+/// A tuple that is an error in so many columns. It fails only for want of memory.
+pub fn failed_cells(alloc: Global, columns: usize, kind: Kind) -> Result<Items<Cell>, OutOfMemory>
     ensures { IfOk result (λ cells. cells ≡ spec.failed_cells columns kind) }
 {
     let mut cells = Items::new(alloc);

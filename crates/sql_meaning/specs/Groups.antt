@@ -1,10 +1,10 @@
 -- Groups and aggregates (SQL-92, 6.5, 7.7 and 7.8).
-use Rattle.std.specs.Prelude.{ℕ, ◌-◌, ◌^◌, min, zero, suc, Bool, true, false, ◌&&◌, List, [], ◌∷◌, map, Option, Some, None, ℤ, pos, ◌+ℤ◌, int_div, if◌then◌else◌}
+use Rattle.std.specs.Prelude.{Bool, true, false, ◌&&◌, ℕ, List, [], ◌∷◌, map, Option, Some, None, if◌then◌else◌}
 use Rattle.std.specs.List.{list_any}
-use Rattle.std.specs.Ordering.{is_eq, is_le}
-use Rattle.row_bag.specs.Bags.{bind, total, unit}
-use Rattle.row_bag.specs.Errors.{error_among, error_in}
-use Rattle.row_bag.specs.Sets.{collapsed, grouped, once, same_cells}
+use Rattle.row_bag.specs.Aggregates.{count_rows, folded}
+use Rattle.row_bag.specs.Bags.{bind, unit}
+use Rattle.row_bag.specs.Errors.{error_in}
+use Rattle.row_bag.specs.Sets.{collapsed, grouped, same_cells}
 use Rattle.row_bag.specs.declared.row.Row.{Row}
 use Rattle.sql_ast.specs.declared.name.Column.{Column}
 use Rattle.sql_ast.specs.declared.word.SetFunction.{SetFunction}
@@ -12,81 +12,39 @@ use Rattle.sql_ast.specs.declared.word.SetFunction.TheVariants as function
 use Rattle.sql_ast.specs.declared.word.SetQuantifier.{SetQuantifier}
 use Rattle.sql_ast.specs.declared.word.SetQuantifier.TheVariants as each
 use Rattle.sql_ast.specs.Names.{same_name}
-use Rattle.sql_value.specs.Arithmetic.{error_or, in_range}
-use Rattle.sql_value.specs.Cells.{cell_compare, error_of}
+use Rattle.sql_value.specs.declared.aggregate.Aggregate.{Aggregate}
+use Rattle.sql_value.specs.declared.aggregate.Aggregate.TheVariants as aggregate
+use Rattle.sql_value.specs.declared.aggregate.Taken.{Taken}
+use Rattle.sql_value.specs.declared.aggregate.Taken.TheVariants as taken
 use Rattle.sql_value.specs.declared.cell.Cell.{Cell}
-use Rattle.sql_value.specs.declared.cell.Cell.TheVariants.{Int, Null, Err}
+use Rattle.sql_value.specs.declared.cell.Cell.TheVariants.{Null, Err}
 use Rattle.sql_value.specs.declared.cell.Kind.{Kind}
-use Rattle.sql_meaning.specs.Joins.{how_many}
 use Rattle.sql_meaning.specs.Scopes.{Frame, Shape, filled, frame_cells, is_named}
+pub use Rattle.row_bag.specs.Aggregates.{count_cell}
 
 -- DISTINCT is written; ALL is nothing
 abbrev pub is_distinct : Option SetQuantifier → Bool
 is_distinct (Some each.Distinct) = true
 is_distinct _ = false
 
--- ---- aggregates
+-- ---- aggregates, as the text writes them
 
--- two cells are the same data
-abbrev pub same_cell : Cell → Cell → Bool
-same_cell a b = is_eq (cell_compare a b)
+-- the aggregate of a name
+abbrev pub aggregate_of : SetFunction → Aggregate
+aggregate_of function.Count = aggregate.Count
+aggregate_of function.Sum = aggregate.Sum
+aggregate_of function.Avg = aggregate.Avg
+aggregate_of function.Min = aggregate.Min
+aggregate_of function.Max = aggregate.Max
 
--- nulls are left out
-abbrev pub unless_null : Cell → List (Row Cell)
-unless_null Null = []
-unless_null cell = unit cell
+-- with DISTINCT where true stands
+abbrev pub taken_of : Bool → Taken
+taken_of true = taken.Distinct
+taken_of false = taken.All
 
--- with DISTINCT, equal values are taken once
-abbrev pub once_if : Bool → List (Row Cell) → List (Row Cell)
-once_if true cells = once same_cell cells
-once_if false cells = cells
-
--- the number that a cell is
-abbrev pub number_in : Cell → ℤ
-number_in (Int n) = n
-number_in _ = pos 0
-
--- the exact total
-abbrev pub exact_total : List (Row Cell) → ℤ
-exact_total cells = total ◌+ℤ◌ (pos 0) (λ c level. number_in c) cells
-
--- any COUNT above 9223372036854775807 is that number
-abbrev pub count_cell : ℕ → Cell
-count_cell n = Int (pos (min n (2 ^ 63 - 1)))
-
--- the lesser of two cells, of which null is none
-abbrev pub lesser_cell : Cell → Cell → Cell
-lesser_cell Null y = y
-lesser_cell x Null = x
-lesser_cell x y = if is_le (cell_compare x y) then x else y
-
--- the greater of two cells, of which null is none
-abbrev pub greater_cell : Cell → Cell → Cell
-greater_cell Null y = y
-greater_cell x Null = x
-greater_cell x y = if is_le (cell_compare x y) then y else x
-
--- over nothing null, and else the mean of the exact total, truncated toward zero
-abbrev pub mean : ℕ → ℤ → Cell
-mean zero n = Null
-mean (suc count) n = Int (int_div n (pos (suc count)))
-
--- over nothing null, and else the exact total, which is the overflow error where it leaves 64 bits
-abbrev pub sum : ℕ → ℤ → Cell
-sum zero n = Null
-sum (suc count) n = in_range n
-
--- an aggregate of values without nulls and errors
-abbrev pub of_values : SetFunction → List (Row Cell) → Cell
-of_values function.Count cells = count_cell (how_many cells)
-of_values function.Sum cells = sum (how_many cells) (exact_total cells)
-of_values function.Avg cells = mean (how_many cells) (exact_total cells)
-of_values function.Min cells = total lesser_cell Null (λ c level. c) cells
-of_values function.Max cells = total greater_cell Null (λ c level. c) cells
-
--- the greatest error among the arguments, if one is an error, and else the aggregate of those that aren't null
+-- an aggregate of arguments
 abbrev pub of_arguments : SetFunction → Bool → List (Row Cell) → Cell
-of_arguments f distinct cells = error_or (error_among error_of cells) (of_values f (once_if distinct (bind cells unless_null)))
+of_arguments f distinct cells = folded (aggregate_of f) (taken_of distinct) cells
 
 -- ---- groups
 
@@ -106,7 +64,7 @@ aggregated f distinct argument (failed k) = Err k
 
 -- COUNT(*) counts rows
 abbrev pub count_all : {F : Type 0} → Group F → Cell
-count_all (members rows) = count_cell (how_many rows)
+count_all (members rows) = count_rows rows
 count_all (failed k) = Err k
 
 -- a range written before a column is this one, or none is written

@@ -1,4 +1,4 @@
--- What a query means: nested loops over lists, by names (SQL-92, 6.11 to 6.14, 7.4 to 7.10, 8.2 to 8.8 and 13.1). The tree is walked here, and what its nodes do stands elsewhere: truth, arithmetic, comparison and LIKE in sql_value, rows at levels in row_bag, CASE in Values, subqueries in Subqueries, groups and aggregates in Groups, joins, DISTINCT and set operations in Joins, output names in Names.
+-- What a query means: nested loops over lists, by names (SQL-92, 6.11 to 6.14, 7.4 to 7.10, 8.2 to 8.8 and 13.1). The tree is walked here, and what its nodes do stands elsewhere: truth, arithmetic, comparison and LIKE in sql_value, rows at levels and what they come to (subqueries, aggregates, left joins) in row_bag, CASE in Values, groups in Groups, conditions, DISTINCT and set operations in Joins, output names in Names.
 use Rattle.std.specs.Prelude.{ℕ, zero, suc, ◌+◌, Bool, true, false, List, [], ◌∷◌, ◌++◌, map, Option, Some, None, position, ℤ, pos, negsuc, if◌then◌else◌}
 use Rattle.shared_types.specs.declared.compare.CmpOp.TheVariants.{Eq, Ge, Le}
 use Rattle.row_bag.specs.Bags.{unit}

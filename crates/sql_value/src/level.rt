@@ -19,22 +19,22 @@ pub enum Level {
     Yes,
 }
 
-// The lower one of two levels.
-pub(crate) fn least(a: Level, b: Level) -> Level
+/// The lower one of two levels.
+pub fn least(a: Level, b: Level) -> Level
     ensures { result ≡ spec.least a b }
 {
     if a <= b { a } else { b }
 }
 
-// The higher one of two levels.
-pub(crate) fn greatest(a: Level, b: Level) -> Level
+/// The higher one of two levels.
+pub fn greatest(a: Level, b: Level) -> Level
     ensures { result ≡ spec.greatest a b }
 {
     if a <= b { b } else { a }
 }
 
-// The level of an error.
-pub(crate) fn level_of(kind: Kind) -> Level
+/// The level of an error.
+pub fn level_of(kind: Kind) -> Level
     ensures { result ≡ spec.level_of kind }
 {
     match kind {

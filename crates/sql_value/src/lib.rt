@@ -1,6 +1,7 @@
-//! Cells, their operations and order, truth, and the names of columns.
+//! Cells, their operations and order, truth, aggregates, and the names of columns.
 #![tactic(auto)]
 
+mod aggregate;
 mod arithmetic;
 mod cell;
 mod comparison;
@@ -9,11 +10,12 @@ mod order_key;
 mod pattern;
 mod truth;
 
+pub use aggregate::{Aggregate, Taken};
 pub use arithmetic::{add, concat, div, mul, neg, sub};
 pub use cell::{Cell, Kind, OutNames, cell_order, copy};
 pub use comparison::{compare, is_null, same};
-pub use level::Level;
+pub use level::{Level, greatest, least, level_of};
 pub use order_key::{OrderKey, OrderKeys, SqlType};
 pub use pattern::like;
 pub use shared_types::{CmpOp, Text};
-pub use truth::{Truth, and, keep, not, or};
+pub use truth::{Truth, and, decided, keep, not, or};

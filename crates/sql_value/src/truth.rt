@@ -16,8 +16,8 @@ pub struct Truth {
     pub f: Level,
 }
 
-// True or false.
-pub(crate) fn decided(holds: bool) -> Truth
+/// True, or false.
+pub fn decided(holds: bool) -> Truth
     ensures { result ≡ spec.truth_of holds }
 {
     if holds {

@@ -1,6 +1,0 @@
-use Rattle.std.proofs.Common.{◌≡◌, ◌++◌, drop}
-use Rattle.sql_meaning.specs.Joins.{product}
-use Rattle.query_loops.proofs.pair.product.Given as goal
-
-abbrev pub invariant-loop-x : goal.invariant-loop-x
-invariant-loop-x l = l.made ++ product (drop l.x-index l.xs) l.ys ≡ product l.xs l.ys
