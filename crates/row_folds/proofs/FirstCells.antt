@@ -1,5 +1,5 @@
 -- The cell that stands first in an order, of which null is none: its order doesn't count.
-use Rattle.std.proofs.Common.{◌≡◌, ◌∙◌, cond, Bool, true, false, refl, sym, ap, subst, inl, inr}
+use Rattle.std.proofs.Common.{◌≡◌, cond, Bool, true, false, refl, sym, ap, subst, inl, inr}
 use mathlib.Core.Path.{fun_ext}
 use Rattle.std.proofs.lemmas.Bool.{cases_Bool}
 use Rattle.std.proofs.lemmas.Cmp.{upto}

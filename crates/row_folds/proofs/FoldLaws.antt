@@ -1,12 +1,12 @@
 -- What rows come to doesn't depend on their order.
-use Rattle.std.proofs.Common.{◌≡◌, ◌∙◌, nat_eq, cond, true, false, List, [], Option, ℤ, pos, ◌+ℤ◌, refl, sym, ap, ap₂, Decides, arith}
+use Rattle.std.proofs.Common.{◌≡◌, ◌∙◌, nat_eq, cond, true, false, List, Option, ℤ, pos, ◌+ℤ◌, refl, sym, ap, ap₂, Decides, arith}
 use Rattle.std.proofs.lemmas.Int.{ints}
 use Rattle.std.proofs.lemmas.Cmp.{tied_itself}
 use Rattle.std.specs.Ordering.{is_eq}
 use Rattle.std.specs.declared.cmp.Ordering.{Ordering}
 use Rattle.std.specs.declared.cmp.Ordering.TheVariants.{Less, Equal, Greater}
 use Rattle.row_bag.specs.Aggregates as a
-use Rattle.row_bag.specs.Bags.{Alike, IsCommutativeMonoid, total, unit}
+use Rattle.row_bag.specs.Bags.{Alike, IsCommutativeMonoid, total}
 use Rattle.row_bag.specs.Errors.{error_at}
 use Rattle.row_bag.specs.Joins.{how_many, or_else}
 use Rattle.row_bag.specs.Sets.{same_cells}
@@ -31,7 +31,7 @@ use Rattle.sql_value.specs.declared.cell.Kind.{Kind}
 use Rattle.sql_value.specs.declared.level.Level.{Level}
 use Rattle.sql_value.specs.declared.truth.Truth.{Truth}
 use Rattle.row_folds.proofs.FirstCells.{greater-monoid, lesser-monoid}
-use Rattle.row_folds.proofs.Onlys.{Only, one, only-monoid, only_among, only_of, scalar-total, single-total}
+use Rattle.row_folds.proofs.Onlys.{Only, one, only-monoid, only_of, scalar-total, single-total}
 
 or-monoid : IsCommutativeMonoid Truth t.or (t.truth_of false)
 or-monoid = record {

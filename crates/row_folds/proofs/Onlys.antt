@@ -1,7 +1,7 @@
 -- No cell, one, or several: the value of rows as a total, whose order doesn't count.
-use Rattle.std.proofs.Common.{◌≡◌, ◌∙◌, List, [], ◌∷◌, map, Option, Some, None, refl, sym, ap, ap₂}
+use Rattle.std.proofs.Common.{◌≡◌, ◌∙◌, List, [], ◌∷◌, Option, Some, None, refl, sym, ap, ap₂}
 use Rattle.row_bag.specs.Aggregates.{single_of_those}
-use Rattle.row_bag.specs.Bags.{IsCommutativeMonoid, fold_map, if_there, row, total}
+use Rattle.row_bag.specs.Bags.{IsCommutativeMonoid, fold_map, row, total}
 use Rattle.row_bag.specs.Errors.{error_at}
 use Rattle.row_bag.specs.Subqueries.{level_error, only_cell, scalar, scalar_of_those}
 use Rattle.row_bag.specs.Verdict.{those_there}

@@ -1,8 +1,8 @@
 -- The value of rows, by the first row that is there.
-use Rattle.std.proofs.Common.{◌≡◌, Bool, true, false, List, [], ◌∷◌, Option, Some, None, refl, sym, ap, ◌∙◌}
+use Rattle.std.proofs.Common.{◌≡◌, true, false, List, [], ◌∷◌, Option, Some, None, refl, sym, ap, ◌∙◌}
 use Rattle.std.proofs.lemmas.Grind.{common_steps}
 use Rattle.std.specs.List.{list_any}
-use Rattle.row_bag.specs.Bags.{if_there, row, total}
+use Rattle.row_bag.specs.Bags.{row}
 use Rattle.row_bag.specs.Errors.{error_at}
 use Rattle.row_bag.specs.Subqueries.{level_error, only_cell, scalar, scalar_of_those}
 use Rattle.row_bag.specs.Verdict.{is_there, those_there}
