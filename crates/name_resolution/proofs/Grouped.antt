@@ -54,8 +54,8 @@ groups_related by ranges xs ys h =
     related_collapsed (FrameIs ranges) (OneIs ranges)
     (λ frame. error_in (frame_cells (g.key by frame))) (λ row. error_in (c.key (grouping_places by ranges) row))
     (λ frame row f. ap error_in (key_is by ranges frame row f).cells)
-    (λ k. one_group (filled (Err k) ranges) (failed k)) (λ k. one_group (replicate (width ranges) (Err k)) (failed k))
-    (λ k. record { key = in_all (Err k) ranges; group = refl })
+    (λ k. one_group (g.key by (filled (Err k) ranges)) (failed k)) (λ k. one_group (c.key (grouping_places by ranges) (replicate (width ranges) (Err k))) (failed k))
+    (λ k. record { key = key_is by ranges (filled (Err k) ranges) (replicate (width ranges) (Err k)) (in_all (Err k) ranges); group = refl })
     xs ys h
     (groups_of (g.is_keyed by) same_key (g.key by) (filled Null ranges) xs)
     (groups_of (c.is_keyed (grouping_places by ranges)) same_cells (c.key (grouping_places by ranges)) (replicate (width ranges) Null) ys)

@@ -154,20 +154,20 @@ of_each known s having list rows = selected (λ o. m.truth known having (o.key �
 abbrev held_by : Option (List ℕ) → List Cell → Option Kind
 held_by by cells = error_in (m.key by cells)
 
-abbrev failed_of : ℕ → Kind → g.Grouped (List Cell)
-failed_of width k = g.one_group (replicate width (cell.Err k)) (g.failed k)
+abbrev failed_of : Option (List ℕ) → ℕ → Kind → g.Grouped (List Cell)
+failed_of by width k = g.one_group (m.key by (replicate width (cell.Err k))) (g.failed k)
 
 abbrev of_rows : Option (List ℕ) → ℕ → m.Bag → List (Row (g.Grouped (List Cell)))
 of_rows by width rows = g.groups_of (m.is_keyed by) same_cells (m.key by) (replicate width cell.Null) rows
 
 -- the same, where there is an error or there is none
 one_error : (known : List ℕ → m.Bag) (s : m.Scopes) (having : q.Test) (list : q.Values) (by : Option (List ℕ)) (width : ℕ) (xs ys : m.Bag) (e : Option Kind) → SameThere xs ys
-    → SameThere (of_each known s having list (error_or_bag (failed_of width) e (of_rows by width xs))) (of_each known s having list (error_or_bag (failed_of width) e (of_rows by width ys)))
+    → SameThere (of_each known s having list (error_or_bag (failed_of by width) e (of_rows by width xs))) (of_each known s having list (error_or_bag (failed_of by width) e (of_rows by width ys)))
 one_error known s having list by width xs ys (Some k) h = refl
 one_error known s having list by width xs ys None h = ap (λ (rs : m.Bag). those_there rs) (groups_of_same known s having list (m.is_keyed by) (m.key by) (replicate width cell.Null) xs ys h)
 
 pub groups_same : (known : List ℕ → m.Bag) (s : m.Scopes) (having : q.Test) (list : q.Values) (by : Option (List ℕ)) (width : ℕ) (xs ys : m.Bag) → SameThere xs ys
     → SameThere (of_each known s having list (m.groups by width xs)) (of_each known s having list (m.groups by width ys))
 groups_same known s having list by width xs ys h =
-    ap (λ (e : Option Kind). those_there (of_each known s having list (error_or_bag (failed_of width) e (of_rows by width xs)))) (error_same (held_by by) xs ys h)
+    ap (λ (e : Option Kind). those_there (of_each known s having list (error_or_bag (failed_of by width) e (of_rows by width xs)))) (error_same (held_by by) xs ys h)
     ∙ one_error known s having list by width xs ys (error_among (held_by by) ys) h

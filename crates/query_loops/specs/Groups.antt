@@ -46,12 +46,12 @@ module _ (setting : Setting) (select : GroupedSelect) where
   abbrev pub picked_groups : List (Row (g.Grouped (List Cell))) → m.Bag
   picked_groups = joins.selected having_in list_in
 
--- the group of all rows under null cells, and that of an error under cells that are it
+-- the group of all rows under null cells, and that of an error, which the grouping cells are
 abbrev pub whole_group : ℕ → List (Row (List Cell)) → Row (g.Grouped (List Cell))
 whole_group width rows = row (g.one_group (replicate width Null) (g.members rows)) Yes
 
-abbrev pub failed_group : ℕ → Kind → Row (g.Grouped (List Cell))
-failed_group width kind = row (g.one_group (m.failed_cells width kind) (g.failed kind)) (level_of kind)
+abbrev pub failed_group : List ℕ → ℕ → Kind → Row (g.Grouped (List Cell))
+failed_group places width kind = row (g.one_group (m.masked_from 0 places (m.failed_cells width kind)) (g.failed kind)) (level_of kind)
 
 -- the group of a key
 abbrev pub group_of : List ℕ → List (Row (List Cell)) → List Cell → g.Grouped (List Cell)

@@ -298,14 +298,16 @@ impl<
     fn failed_group(
         &self,
         select: &GroupedSelect<'_>,
+        places: &[usize],
         width: usize,
         kind: Kind,
     ) -> Result<Bag, OutOfMemory>
         requires value { nests.Values self.now.setting.depth (V.pre self.now.value) (V.post self.now.value) }
         requires test { nests.Tests self.now.setting.depth (P.pre self.now.test) (P.post self.now.test) }
-        ensures { IfOk result (λ made. made ≡ those_there (spec.picked_groups self.now.setting select.now (spec.failed_group width kind ∷ []))) }
+        ensures { IfOk result (λ made. made ≡ those_there (spec.picked_groups self.now.setting select.now (spec.failed_group places.now width kind ∷ []))) }
     {
-        let key = failed_cells(self.setting.alloc, width, kind)?;
+        let cells = failed_cells(self.setting.alloc, width, kind)?;
+        let key = masked(self.setting.alloc, places, cells.as_slice())?;
         let g = Group {
             members: &[],
             failed: Some(kind),
@@ -347,7 +349,7 @@ impl<
         ensures { IfOk result (λ made. made ≡ those_there (spec.picked_groups self.now.setting select.now (m.groups (Some places.now) width rows.now))) }
     {
         match group_error(places, rows) {
-            Some(kind) => self.failed_group(select, width, kind),
+            Some(kind) => self.failed_group(select, places, width, kind),
             None => self.groups(select, places, rows),
         }
     }
@@ -364,7 +366,7 @@ impl<
         ensures { IfOk result (λ made. made ≡ those_there (spec.picked_groups self.now.setting select.now (m.groups None width rows.now))) }
     {
         match group_error(&[], rows) {
-            Some(kind) => self.failed_group(select, width, kind),
+            Some(kind) => self.failed_group(select, &[], width, kind),
             None => self.whole_group(select, width, rows),
         }
     }

@@ -102,10 +102,10 @@ abbrev pub groups_of : {F : Type 0} → Bool → (F → F → Bool) → (F → F
 groups_of false same key empty rows = unit (one_group empty (members rows))
 groups_of true same key empty rows = grouped same key (λ k group. one_group k (members group)) rows
 
--- the groups; one row, at the greatest error, where a row is at an error level or a grouping cell is an error, and every grouping cell and aggregate is that error then
+-- the groups; one row, at the greatest error, where a row is at an error level or a grouping cell is an error, and every grouping cell and aggregate is that error then; its other columns are null, as those of each group
 abbrev pub grouping : {F : Type 0} → Bool → (F → F → Bool) → (F → F) → (F → Option Kind) → (Cell → F) → List (Row F) → List (Row (Grouped F))
 grouping keyed same key held filled_with rows =
-    collapsed held (λ k. one_group (filled_with (Err k)) (failed k)) rows (groups_of keyed same key (filled_with Null) rows)
+    collapsed held (λ k. one_group (key (filled_with (Err k))) (failed k)) rows (groups_of keyed same key (filled_with Null) rows)
 
 -- GROUP BY is written
 abbrev pub is_keyed : List Column → Bool
