@@ -69,7 +69,7 @@ pub(crate) fn derived(
     found: Output,
     alias: &Correlation,
 ) -> Result<Source, OutOfMemory>
-    ensures ranges { IfOk result (λ s. s.ranges ≡ types.range alias.now.name (types.renamed alias.now.columns found.columns) ∷ []) }
+    ensures ranges { IfOk result (λ s. s.ranges ≡ types.derived_range alias.now found.columns ∷ []) }
     ensures fault { IfOk result (λ s. number s.fault ≡ rule.lesser (number found.fault) (spec.list_fault alias.now.columns found.columns)) }
 {
     let list = alias.columns.as_slice();
@@ -122,8 +122,8 @@ pub(crate) fn named(
     alias: &Option<Correlation>,
     known: &Known<'_>,
 ) -> Result<Source, OutOfMemory>
-    ensures ranges { IfOk result (λ s. s.ranges ≡ types.range (meaning.range_name name.now alias.now) (types.renamed (meaning.column_list alias.now) (types.columns_or_none (heads known.now name.now))) ∷ []) }
-    ensures fault { IfOk result (λ s. number s.fault ≡ rule.lesser (rule.table_unknown (heads known.now name.now)) (spec.list_fault (meaning.column_list alias.now) (types.columns_or_none (heads known.now name.now)))) }
+    ensures ranges { IfOk result (λ s. s.ranges ≡ types.named_range name.now alias.now (heads known.now name.now) ∷ []) }
+    ensures fault { IfOk result (λ s. number s.fault ≡ spec.named_fault alias.now (heads known.now name.now)) }
 {
     let found = table(alloc, name, known)?;
     let list = column_list(alias);
