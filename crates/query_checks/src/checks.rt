@@ -15,7 +15,7 @@ use crate::lists::{list_scope, push_range_star, push_star, push_value};
 use crate::operands::combined;
 use crate::scope::{Scopes, column, grouping_fault};
 use crate::site::Site;
-use crate::sources::{Source, block_output, both, derived, named, no_source, push_source};
+use crate::sources::{Source, block_output, both, derived, named, no_source};
 use crate::typed::{
     Listed, Output, Typed, aggregate, alone, among, between, case_ending, chosen, coalesce,
     compared, compared_query, exists, like, limited, no_output, none_after, null_if, of_type,
@@ -610,24 +610,24 @@ fn source(
     inner: &Scopes<'_>,
     known: &Known<'_>,
 ) -> Result<Source, OutOfMemory>
-    ensures ranges { IfOk result (λ s. s.ranges ≡ types.table_ranges (heads known.now) (written.table x.now) (scopes inner.now)) }
+    ensures tables { IfOk result (λ s. s.tables ≡ types.table_ranges (heads known.now) (written.table x.now) (scopes inner.now)) }
     ensures fault { IfOk result (λ s. number s.fault ≡ spec.table_fault (heads known.now) (written.table x.now) (scopes inner.now)) }
 {
     match x {
         TableRef::Join(a, _, b, p) => {
             let a = source(alloc, a, inner, known)?;
             let b = source(alloc, b, inner, known)?;
-            joined(alloc, both(a, b)?, p, inner, known)
+            joined(alloc, both(alloc, a, b)?, p, inner, known)
         }
         TableRef::LeftJoin(a, _, b, p) => {
             let a = source(alloc, a, inner, known)?;
             let b = source(alloc, b, inner, known)?;
-            joined(alloc, both(a, b)?, p, inner, known)
+            joined(alloc, both(alloc, a, b)?, p, inner, known)
         }
         TableRef::CrossJoin(a, b) => {
             let a = source(alloc, a, inner, known)?;
             let b = source(alloc, b, inner, known)?;
-            both(a, b)
+            both(alloc, a, b)
         }
         TableRef::Named(name, alias) => named(alloc, name, alias, known),
         TableRef::Derived(q, alias) => {
@@ -647,14 +647,14 @@ fn joined(
     inner: &Scopes<'_>,
     known: &Known<'_>,
 ) -> Result<Source, OutOfMemory>
-    ensures ranges { IfOk result (λ s. s.ranges ≡ operands.ranges) }
-    ensures fault { IfOk result (λ s. number s.fault ≡ rule.lesser (number operands.fault) (spec.on_fault (heads known.now) (written.cond p.now) operands.ranges (scopes inner.now))) }
+    ensures tables { IfOk result (λ s. s.tables ≡ operands.tables) }
+    ensures fault { IfOk result (λ s. number s.fault ≡ rule.lesser (number operands.fault) (spec.on_fault (heads known.now) (written.cond p.now) operands.tables (scopes inner.now))) }
 {
-    let own = Scopes::Plain(operands.ranges.as_slice(), &*inner);
+    let own = Scopes::Plain(&operands.tables, &*inner);
     let on = cond(alloc, p, Site::Filtered, &own, known)?;
     Ok(Source {
         fault: lesser(operands.fault, on),
-        ranges: operands.ranges,
+        tables: operands.tables,
     })
 }
 
@@ -667,13 +667,13 @@ fn sources(
     inner: &Scopes<'_>,
     known: &Known<'_>,
 ) -> Result<Source, OutOfMemory>
-    ensures ranges { IfOk result (λ s. s.ranges ≡ types.ranges (heads known.now) (written.table_list list.now) (scopes inner.now)) }
+    ensures tables { IfOk result (λ s. s.tables ≡ types.ranges (heads known.now) (written.table_list list.now) (scopes inner.now)) }
     ensures fault { IfOk result (λ s. number s.fault ≡ spec.from_fault (heads known.now) (written.table_list list.now) (scopes inner.now)) }
 {
     let mut all = no_source(alloc);
     for x in list {
         let x = source(alloc, x, inner, known)?;
-        push_source(&mut all, x)?;
+        all = both(alloc, all, x)?;
     }
     Ok(all)
 }
@@ -722,9 +722,9 @@ fn block(
     ensures fault { IfOk result (λ x. number x.fault ≡ spec.query_fault (heads known.now) (block_of block.now) (scopes inner.now)) }
 {
     let from = sources(alloc, block.from.as_slice(), inner, known)?;
-    let ranges = from.ranges.as_slice();
-    let before = before_groups(alloc, block, &Scopes::Plain(ranges, &*inner), known)?;
-    let after = after_groups(alloc, block, &list_scope(&*block, ranges, &*inner), known)?;
+    let own = &from.tables;
+    let before = before_groups(alloc, block, &Scopes::Plain(own, &*inner), known)?;
+    let after = after_groups(alloc, block, &list_scope(&*block, own, &*inner), known)?;
     Ok(block_output(&from, before, after))
 }
 
