@@ -1,5 +1,6 @@
 pub mod Orders
 pub mod Finds
+pub mod Notes
 pub mod Targets
 pub mod Nested
 pub mod Members

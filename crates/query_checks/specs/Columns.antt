@@ -2,6 +2,7 @@
 use Rattle.std.specs.Prelude.{ℕ, List, [], ◌∷◌, ◌++◌, Option, Some, None, if◌then◌else◌}
 use Rattle.std.specs.List.{flat_map}
 use Rattle.sql_ast.specs.declared.name.Column.{Column}
+use Rattle.sql_ast.specs.declared.name.Correlation.{Correlation}
 use Rattle.sql_ast.specs.declared.word.AdditiveOp.{AdditiveOp}
 use Rattle.sql_ast.specs.declared.word.AdditiveOp.TheVariants as add
 use Rattle.sql_ast.specs.declared.word.DataType.{DataType}
@@ -72,6 +73,14 @@ listed names (c ∷ columns) = column (first_name names) c.sort ∷ listed (othe
 abbrev pub renamed : List (List ℕ) → List TypedColumn → List TypedColumn
 renamed [] columns = columns
 renamed (name ∷ names) columns = listed (name ∷ names) columns
+
+-- a table or view, which stands for these columns, under its range name
+abbrev pub named_range : List ℕ → Option Correlation → Option (List TypedColumn) → TypedRange
+named_range name c found = range (range_name name c) (renamed (column_list c) (columns_or_none found))
+
+-- a subquery of these columns under its range name
+abbrev pub derived_range : Correlation → List TypedColumn → TypedRange
+derived_range c columns = range c.name (renamed c.columns columns)
 
 -- all columns of a FROM, in order
 abbrev pub all_columns : List TypedRange → List TypedColumn
@@ -164,6 +173,12 @@ module _ (heads : Heads) where
     table_ranges (s.join x inner y p) scopes = table_ranges x scopes ++ table_ranges y scopes
     table_ranges (s.left_join x outer y p) scopes = table_ranges x scopes ++ table_ranges y scopes
     table_ranges (s.cross_join x y) scopes = table_ranges x scopes ++ table_ranges y scopes
-    table_ranges (s.named name c) scopes = range (range_name name c) (renamed (column_list c) (columns_or_none (heads name))) ∷ []
-    table_ranges (s.derived q c) scopes = range c.name (renamed c.columns (columns q scopes)) ∷ []
+    table_ranges (s.named name c) scopes = named_range name c (heads name) ∷ []
+    table_ranges (s.derived q c) scopes = derived_range c (columns q scopes) ∷ []
     table_ranges (s.joined x) scopes = table_ranges x scopes
+
+  -- ---- parts that stand together
+
+  -- a CASE whose results have these types, with its ELSE
+  abbrev pub case_type : List (Option SqlType) → s.Otherwise → Scopes → Option SqlType
+  case_type types o scopes = first_known (types ++ else_types o scopes)

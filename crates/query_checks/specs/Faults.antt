@@ -1,6 +1,7 @@
 -- Which queries are valid: the least number of a rule that is broken in a query, at any depth, or 0.
 use Rattle.std.specs.Prelude.{ℕ, List, [], ◌∷◌, ◌++◌, Option}
 use Rattle.sql_ast.specs.declared.name.Column.{Column}
+use Rattle.sql_ast.specs.declared.name.Correlation.{Correlation}
 use Rattle.sql_ast.specs.Syntax as s
 use Rattle.sql_meaning.specs.Names.{column_list}
 use Rattle.sql_value.specs.declared.order_key.SqlType.{SqlType}
@@ -9,6 +10,7 @@ use Rattle.query_checks.specs.Columns.{arm_types, choice_types, columns, columns
 use Rattle.query_checks.specs.Rules.{aggregate_misplaced, column_misplaced, grouping_outer, keys_unfit, length_unfit, lesser, list_differs, list_unequal, name_ungrouped, names_equal, not_one, one_of, operands_differ, operands_unequal, pair_differs, parts_differ, range_ungrouped, range_unknown, ranges_equal, results_differ, star_ungrouped, sub_misplaced, table_unknown, too_wide, wants, wants_argument}
 use Rattle.query_checks.specs.Scopes.{Heads, Scopes, first_type, meant, plain, released, scope_with}
 use Rattle.query_checks.specs.declared.column.TypedColumn.{TypedColumn}
+use Rattle.query_checks.specs.declared.column.TypedRange.{TypedRange}
 use Rattle.query_checks.specs.declared.site.Site.{Site}
 use Rattle.query_checks.specs.declared.site.Site.TheVariants.{Argument, Filtered, Listed}
 
@@ -28,6 +30,10 @@ grouping_fault (c ∷ by) scopes = lesser (lesser (one_of (meant c scopes)) (gro
 -- a column list over columns
 abbrev pub list_fault : List (List ℕ) → List TypedColumn → ℕ
 list_fault names columns = lesser (names_equal names) (list_unequal names columns)
+
+-- a table or view of a FROM, which stands for these columns
+abbrev pub named_fault : Option Correlation → Option (List TypedColumn) → ℕ
+named_fault c found = lesser (table_unknown found) (list_fault (column_list c) (columns_or_none found))
 
 -- two operands of a set operation
 abbrev pub operands_fault : List TypedColumn → List TypedColumn → ℕ
@@ -144,7 +150,7 @@ module _ (heads : Heads) where
     table_fault (s.left_join x outer y p) scopes =
         lesser (lesser (table_fault x scopes) (table_fault y scopes)) (cond_fault Filtered p (plain (table_ranges heads x scopes ++ table_ranges heads y scopes) ∷ scopes))
     table_fault (s.cross_join x y) scopes = lesser (table_fault x scopes) (table_fault y scopes)
-    table_fault (s.named name c) scopes = lesser (table_unknown (heads name)) (list_fault (column_list c) (columns_or_none (heads name)))
+    table_fault (s.named name c) scopes = named_fault c (heads name)
     table_fault (s.derived q c) scopes = lesser (query_fault q scopes) (list_fault c.columns (columns heads q scopes))
     table_fault (s.joined x) scopes = table_fault x scopes
 
@@ -160,6 +166,39 @@ module _ (heads : Heads) where
     query_fault (s.enclosed q) scopes = query_fault q scopes
     query_fault (s.combine x op all y) scopes = lesser (lesser (query_fault x scopes) (query_fault y scopes)) (operands_fault (columns heads x scopes) (columns heads y scopes))
     query_fault (s.intersect x all y) scopes = lesser (lesser (query_fault x scopes) (query_fault y scopes)) (operands_fault (columns heads x scopes) (columns heads y scopes))
+
+  -- ---- parts that stand together
+
+  -- a condition of a CASE with its result
+  abbrev pub arm_fault : Site → s.Cond → s.Res → Scopes → ℕ
+  arm_fault place p r scopes = lesser (cond_fault place p scopes) (res_fault place r scopes)
+
+  -- a value of a CASE with its result, where the operand has this type
+  abbrev pub choice_fault : Site → Option SqlType → s.Expr → s.Res → Scopes → ℕ
+  choice_fault place t x r scopes = lesser (lesser (expr_fault place x scopes) (pair_differs t (type_of heads x scopes))) (res_fault place r scopes)
+
+  -- a CASE whose conditions and values have this fault, and their results these types, with its ELSE
+  abbrev pub case_fault : Site → ℕ → List (Option SqlType) → s.Otherwise → Scopes → ℕ
+  case_fault place n types o scopes = lesser (lesser n (else_fault place o scopes)) (results_differ (types ++ else_types heads o scopes))
+
+  -- a COALESCE, and an operand with a list after IN, whose first expression has this fault and type
+  abbrev pub coalesce_fault : Site → ℕ → Option SqlType → s.Exprs → Scopes → ℕ
+  coalesce_fault place n t xs scopes = lesser (lesser n (exprs_fault place xs scopes)) (parts_differ (t ∷ types_of heads xs scopes))
+
+  abbrev pub in_list_fault : Site → ℕ → Option SqlType → s.Exprs → Scopes → ℕ
+  in_list_fault place n t xs scopes = lesser (lesser n (exprs_fault place xs scopes)) (list_differs t (types_of heads xs scopes))
+
+  -- the condition of a join, which sees the ranges of its operands first
+  abbrev pub on_fault : s.Cond → List TypedRange → Scopes → ℕ
+  on_fault p operands scopes = cond_fault Filtered p (plain operands ∷ scopes)
+
+  -- WHERE and GROUP BY of a block, in the scope of its FROM
+  abbrev pub input_fault : s.Filter → List Column → Scopes → ℕ
+  input_fault by group scopes = lesser (filter_fault Filtered by scopes) (grouping_fault group scopes)
+
+  -- the list and HAVING of a block, in their scope
+  abbrev pub output_fault : s.SelectList → s.Filter → Scopes → ℕ
+  output_fault list having scopes = lesser (lesser (select_fault list scopes) (filter_fault Listed having scopes)) (too_wide (list_columns heads list scopes))
 
   -- the text of a query with its ORDER BY
   abbrev pub text_fault : s.QueryText → ℕ

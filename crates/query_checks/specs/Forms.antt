@@ -14,6 +14,16 @@ abbrev pub is_product : s.Expr → Bool
 is_product (s.multiply x op y) = true
 is_product _ = false
 
+-- CASE WHEN
+abbrev pub is_searched : s.Expr → Bool
+is_searched (s.searched xs o) = true
+is_searched _ = false
+
+-- CASE x WHEN
+abbrev pub is_simple : s.Expr → Bool
+is_simple (s.simple x xs o) = true
+is_simple _ = false
+
 -- OR
 abbrev pub is_disjunction : s.Cond → Bool
 is_disjunction (s.either p q) = true
@@ -23,6 +33,13 @@ is_disjunction _ = false
 abbrev pub is_conjunction : s.Cond → Bool
 is_conjunction (s.both p q) = true
 is_conjunction _ = false
+
+-- ANY, SOME, ALL or IN with a subquery, or EXISTS
+abbrev pub is_subquery_test : s.Cond → Bool
+is_subquery_test (s.quantified x op each q) = true
+is_subquery_test (s.in_query x negative q) = true
+is_subquery_test (s.exists q) = true
+is_subquery_test _ = false
 
 -- a block, as the code has it
 abbrev pub block_of : Block → s.Query

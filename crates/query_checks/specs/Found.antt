@@ -1,7 +1,11 @@
 -- What a name finds, as the code keeps it: whether it is no column, one or several, and the type of the first.
-use Rattle.std.specs.Prelude.{ℕ, List, [], ◌∷◌, Option, Some, None, option_map}
+use Rattle.std.specs.Prelude.{◌≡◌, ℕ, List, [], ◌∷◌, Option, Some, None, option_map, if◌then◌else◌}
+use Rattle.std.specs.Map.{lookup}
+use Rattle.std.specs.Option.{unwrap_or}
 use Rattle.sql_ast.specs.declared.name.Column.{Column}
+use Rattle.sql_ast.specs.Names.{same_name}
 use Rattle.sql_value.specs.declared.order_key.SqlType.{SqlType}
+use Rattle.query_checks.specs.Columns.{all_columns}
 use Rattle.query_checks.specs.Scopes.{columns_named, named_in, range_in}
 use Rattle.query_checks.specs.declared.column.TypedColumn.{TypedColumn}
 use Rattle.query_checks.specs.declared.column.TypedRange.{TypedRange}
@@ -44,3 +48,21 @@ abbrev pub found_type : Found → Option SqlType
 found_type Nothing = None
 found_type (One sort) = sort
 found_type (Several sort) = sort
+
+-- ---- by a map from names
+
+-- what names with what they find tell of a name; one that isn't there finds nothing
+abbrev pub told_of : List (List ℕ × Found) → List ℕ → Found
+told_of finds name = unwrap_or (lookup (same_name name) finds) Nothing
+
+-- one more column of this name and type is noted
+abbrev pub NotedName : List (List ℕ × Found) → List ℕ → Option SqlType → List (List ℕ × Found) → Type 0
+NotedName old name sort new = (other : List ℕ) → told_of new other ≡ (if same_name name other then joined (told_of old other) (One sort) else told_of old other)
+
+-- more columns are noted
+abbrev pub Noted : List (List ℕ × Found) → List TypedColumn → List (List ℕ × Found) → Type 0
+Noted old columns new = (name : List ℕ) → told_of new name ≡ joined (told_of old name) (found (columns_named name columns))
+
+-- it is told of each name what it finds among the columns of these ranges
+abbrev pub Tells : List (List ℕ × Found) → List TypedRange → Type 0
+Tells finds ranges = (name : List ℕ) → told_of finds name ≡ found (columns_named name (all_columns ranges))

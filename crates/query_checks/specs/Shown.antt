@@ -11,8 +11,8 @@ use Rattle.query_checks.specs.declared.scope.Scopes.{Scopes, Outermost, Plain', 
 
 abbrev pub scopes : Scopes → scope.Scopes
 scopes Outermost = []
-scopes (Plain' ranges _ outer) = scope.plain ranges.now ∷ scopes outer
-scopes (Grouped' ranges by _ outer) = scope.grouped ranges.now by.now ∷ scopes outer
+scopes (Plain' tables _ outer) = scope.plain tables.now ∷ scopes outer
+scopes (Grouped' tables by _ outer) = scope.grouped tables.now by.now ∷ scopes outer
 scopes (Released' _ outer) = scope.released (scopes outer)
 
 -- what the tables and views of the program stand for

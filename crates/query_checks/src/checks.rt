@@ -3,13 +3,11 @@ ghost use Rattle.std.specs.Prelude.{◌≡◌, ◌++◌, ◌∷◌, false, true,
 ghost use Rattle.sql_ast.specs.Shown as written;
 ghost use Rattle.query_checks.specs.Columns as types;
 ghost use Rattle.query_checks.specs.Faults as spec;
-ghost use Rattle.query_checks.specs.Forms.{block_of, is_conjunction, is_disjunction, is_product, is_sum};
+ghost use Rattle.query_checks.specs.Forms.{block_of, is_conjunction, is_disjunction, is_product, is_searched, is_simple, is_subquery_test, is_sum};
 ghost use Rattle.query_checks.specs.Numbers.{number};
 ghost use Rattle.query_checks.specs.Rules as rule;
-ghost use Rattle.query_checks.specs.Scopes.{plain};
 ghost use Rattle.query_checks.specs.Shown.{heads, scopes};
 ghost use Rattle.query_checks.specs.Sorts.{fault_of, sorts_of};
-ghost use Rattle.query_checks.specs.declared.site.Site.TheVariants as at;
 
 use crate::fault::{Fault, aggregate_misplaced, lesser};
 use crate::known::Known;
@@ -17,7 +15,7 @@ use crate::lists::{list_scope, push_range_star, push_star, push_value};
 use crate::operands::combined;
 use crate::scope::{Scopes, column, grouping_fault};
 use crate::site::Site;
-use crate::sources::{Source, block_output, both, derived, named, no_source, push_source};
+use crate::sources::{Source, block_output, both, derived, named, no_source};
 use crate::typed::{
     Listed, Output, Typed, aggregate, alone, among, between, case_ending, chosen, coalesce,
     compared, compared_query, exists, like, limited, no_output, none_after, null_if, of_type,
@@ -138,25 +136,8 @@ fn operand(
             let argument = expr(alloc, a, Site::Argument, &Scopes::Released(&*inner), known)?;
             Ok(aggregate(*function, argument, place))
         }
-        Expr::Searched(list, last) => {
-            let mut listed = none_after(alloc, None);
-            arms(alloc, list.as_slice(), place, inner, known, &mut listed)?;
-            case_of(alloc, listed, last, place, inner, known)
-        }
-        Expr::Simple(a, list, last) => {
-            let a = expr(alloc, a, place, inner, known)?;
-            let mut listed = none_after(alloc, a.fault);
-            choices(
-                alloc,
-                a.sort,
-                list.as_slice(),
-                place,
-                inner,
-                known,
-                &mut listed,
-            )?;
-            case_of(alloc, listed, last, place, inner, known)
-        }
+        Expr::Searched(_, _) => searched(alloc, x, place, inner, known),
+        Expr::Simple(_, _, _) => simple(alloc, x, place, inner, known),
         Expr::Coalesce(a, list) => {
             let a = expr(alloc, a, place, inner, known)?;
             coalesced(alloc, a, list.as_slice(), place, inner, known)
@@ -238,7 +219,7 @@ fn add_arm(
     listed: &mut Listed,
 ) -> Result<(), OutOfMemory>
     ensures sorts { OnOk result (listed.new.sorts ≡ listed.old.sorts ++ types.res_types (heads known.now) (written.res arm.now.then) (scopes inner.now)) }
-    ensures fault { OnOk result (number listed.new.fault ≡ rule.lesser (number listed.old.fault) (rule.lesser (spec.cond_fault (heads known.now) place (written.cond arm.now.when) (scopes inner.now)) (spec.res_fault (heads known.now) place (written.res arm.now.then) (scopes inner.now)))) }
+    ensures fault { OnOk result (number listed.new.fault ≡ rule.lesser (number listed.old.fault) (spec.arm_fault (heads known.now) place (written.cond arm.now.when) (written.res arm.now.then) (scopes inner.now))) }
 {
     let when = cond(alloc, &arm.when, place, inner, known)?;
     let then = outcome(alloc, &arm.then, place, inner, known)?;
@@ -277,7 +258,7 @@ fn add_choice(
     listed: &mut Listed,
 ) -> Result<(), OutOfMemory>
     ensures sorts { OnOk result (listed.new.sorts ≡ listed.old.sorts ++ types.res_types (heads known.now) (written.res choice.now.then) (scopes inner.now)) }
-    ensures fault { OnOk result (number listed.new.fault ≡ rule.lesser (number listed.old.fault) (rule.lesser (rule.lesser (spec.expr_fault (heads known.now) place (written.expr choice.now.when) (scopes inner.now)) (rule.pair_differs operand (types.type_of (heads known.now) (written.expr choice.now.when) (scopes inner.now)))) (spec.res_fault (heads known.now) place (written.res choice.now.then) (scopes inner.now)))) }
+    ensures fault { OnOk result (number listed.new.fault ≡ rule.lesser (number listed.old.fault) (spec.choice_fault (heads known.now) place operand (written.expr choice.now.when) (written.res choice.now.then) (scopes inner.now))) }
 {
     let when = expr(alloc, &choice.when, place, inner, known)?;
     let then = outcome(alloc, &choice.then, place, inner, known)?;
@@ -305,6 +286,52 @@ fn choices(
     Ok(())
 }
 
+// `CASE WHEN p THEN r .. END`
+#[cycle(checks)]
+#[tactic(auto, using(sql_ast::specs::Shown::lists))]
+fn searched(
+    alloc: Global,
+    x: &Expr,
+    place: Site,
+    inner: &Scopes<'_>,
+    known: &Known<'_>,
+) -> Result<Typed, OutOfMemory>
+    requires form { is_searched (written.expr x.now) ≡ true }
+    ensures sort { IfOk result (λ t. t.sort ≡ types.type_of (heads known.now) (written.expr x.now) (scopes inner.now)) }
+    ensures fault { IfOk result (λ t. number t.fault ≡ spec.expr_fault (heads known.now) place (written.expr x.now) (scopes inner.now)) }
+{
+    let Expr::Searched(list, last) = x else {
+        unreachable!()
+    };
+    let mut listed = none_after(alloc, None);
+    arms(alloc, list.as_slice(), place, inner, known, &mut listed)?;
+    case_of(alloc, listed, last, place, inner, known)
+}
+
+// `CASE x WHEN y THEN r .. END`
+#[cycle(checks)]
+#[tactic(auto, using(sql_ast::specs::Shown::lists))]
+fn simple(
+    alloc: Global,
+    x: &Expr,
+    place: Site,
+    inner: &Scopes<'_>,
+    known: &Known<'_>,
+) -> Result<Typed, OutOfMemory>
+    requires form { is_simple (written.expr x.now) ≡ true }
+    ensures sort { IfOk result (λ t. t.sort ≡ types.type_of (heads known.now) (written.expr x.now) (scopes inner.now)) }
+    ensures fault { IfOk result (λ t. number t.fault ≡ spec.expr_fault (heads known.now) place (written.expr x.now) (scopes inner.now)) }
+{
+    let Expr::Simple(a, list, last) = x else {
+        unreachable!()
+    };
+    let a = expr(alloc, a, place, inner, known)?;
+    let list = list.as_slice();
+    let mut listed = none_after(alloc, a.fault);
+    choices(alloc, a.sort, list, place, inner, known, &mut listed)?;
+    case_of(alloc, listed, last, place, inner, known)
+}
+
 // A CASE of these results, which ends with its ELSE.
 #[cycle(checks)]
 fn case_of(
@@ -315,8 +342,8 @@ fn case_of(
     inner: &Scopes<'_>,
     known: &Known<'_>,
 ) -> Result<Typed, OutOfMemory>
-    ensures sort { IfOk result (λ t. t.sort ≡ types.first_known (listed.sorts ++ types.else_types (heads known.now) (written.otherwise last.now) (scopes inner.now))) }
-    ensures fault { IfOk result (λ t. number t.fault ≡ rule.lesser (rule.lesser (number listed.fault) (spec.else_fault (heads known.now) place (written.otherwise last.now) (scopes inner.now))) (rule.results_differ (listed.sorts ++ types.else_types (heads known.now) (written.otherwise last.now) (scopes inner.now)))) }
+    ensures sort { IfOk result (λ t. t.sort ≡ types.case_type (heads known.now) listed.sorts (written.otherwise last.now) (scopes inner.now)) }
+    ensures fault { IfOk result (λ t. number t.fault ≡ spec.case_fault (heads known.now) place (number listed.fault) listed.sorts (written.otherwise last.now) (scopes inner.now)) }
 {
     let last = otherwise(alloc, last, place, inner, known)?;
     case_ending(listed, last)
@@ -333,7 +360,7 @@ fn coalesced(
     known: &Known<'_>,
 ) -> Result<Typed, OutOfMemory>
     ensures sort { IfOk result (λ t. t.sort ≡ types.first_known (x.sort ∷ types.types_of (heads known.now) (written.expr_list list.now) (scopes inner.now))) }
-    ensures fault { IfOk result (λ t. number t.fault ≡ rule.lesser (rule.lesser (number x.fault) (spec.exprs_fault (heads known.now) place (written.expr_list list.now) (scopes inner.now))) (rule.parts_differ (x.sort ∷ types.types_of (heads known.now) (written.expr_list list.now) (scopes inner.now)))) }
+    ensures fault { IfOk result (λ t. number t.fault ≡ spec.coalesce_fault (heads known.now) place (number x.fault) x.sort (written.expr_list list.now) (scopes inner.now)) }
 {
     let mut listed = alone(alloc, x)?;
     exprs(alloc, list, place, inner, known, &mut listed)?;
@@ -350,7 +377,7 @@ fn in_list(
     inner: &Scopes<'_>,
     known: &Known<'_>,
 ) -> Result<Option<Fault>, OutOfMemory>
-    ensures { IfOk result (λ f. number f ≡ rule.lesser (rule.lesser (number x.fault) (spec.exprs_fault (heads known.now) place (written.expr_list list.now) (scopes inner.now))) (rule.list_differs x.sort (types.types_of (heads known.now) (written.expr_list list.now) (scopes inner.now)))) }
+    ensures { IfOk result (λ f. number f ≡ spec.in_list_fault (heads known.now) place (number x.fault) x.sort (written.expr_list list.now) (scopes inner.now)) }
 {
     let mut listed = none_after(alloc, x.fault);
     exprs(alloc, list, place, inner, known, &mut listed)?;
@@ -443,21 +470,11 @@ fn predicate(
             let b = expr(alloc, b, place, inner, known)?;
             Ok(compared(a, b))
         }
-        Cond::Quantified(a, _, _, q) => {
-            let a = expr(alloc, a, place, inner, known)?;
-            let q = query(alloc, q, inner, known)?;
-            Ok(compared_query(place, a, &q))
-        }
         Cond::Between(a, _, b, c) => {
             let a = expr(alloc, a, place, inner, known)?;
             let b = expr(alloc, b, place, inner, known)?;
             let c = expr(alloc, c, place, inner, known)?;
             Ok(between(a, b, c))
-        }
-        Cond::InQuery(a, _, q) => {
-            let a = expr(alloc, a, place, inner, known)?;
-            let q = query(alloc, q, inner, known)?;
-            Ok(compared_query(place, a, &q))
         }
         Cond::InList(a, _, list) => {
             let a = expr(alloc, a, place, inner, known)?;
@@ -469,10 +486,43 @@ fn predicate(
             Ok(like(a, b))
         }
         Cond::IsNull(a, _) => Ok(expr(alloc, a, place, inner, known)?.fault),
+        Cond::Quantified(_, _, _, _) | Cond::InQuery(_, _, _) | Cond::Exists(_) => {
+            subquery_test(alloc, p, place, inner, known)
+        }
+    }
+}
+
+// A condition on a subquery: a comparison with ANY, SOME or ALL, IN, or EXISTS.
+#[cycle(checks)]
+fn subquery_test(
+    alloc: Global,
+    p: &Cond,
+    place: Site,
+    inner: &Scopes<'_>,
+    known: &Known<'_>,
+) -> Result<Option<Fault>, OutOfMemory>
+    requires form { is_subquery_test (written.cond p.now) ≡ true }
+    ensures { IfOk result (λ f. number f ≡ spec.cond_fault (heads known.now) place (written.cond p.now) (scopes inner.now)) }
+{
+    match p {
+        Cond::Quantified(a, _, _, q) | Cond::InQuery(a, _, q) => {
+            let a = expr(alloc, a, place, inner, known)?;
+            let q = query(alloc, q, inner, known)?;
+            Ok(compared_query(place, a, &q))
+        }
         Cond::Exists(q) => {
             let q = query(alloc, q, inner, known)?;
             Ok(exists(place, &q))
         }
+        Cond::Or(_, _)
+        | Cond::And(_, _)
+        | Cond::Not(_)
+        | Cond::Bracket(_)
+        | Cond::Compare(_, _, _)
+        | Cond::Between(_, _, _, _)
+        | Cond::InList(_, _, _)
+        | Cond::Like(_, _, _)
+        | Cond::IsNull(_, _) => unreachable!(),
     }
 }
 
@@ -560,24 +610,24 @@ fn source(
     inner: &Scopes<'_>,
     known: &Known<'_>,
 ) -> Result<Source, OutOfMemory>
-    ensures ranges { IfOk result (λ s. s.ranges ≡ types.table_ranges (heads known.now) (written.table x.now) (scopes inner.now)) }
+    ensures tables { IfOk result (λ s. s.tables ≡ types.table_ranges (heads known.now) (written.table x.now) (scopes inner.now)) }
     ensures fault { IfOk result (λ s. number s.fault ≡ spec.table_fault (heads known.now) (written.table x.now) (scopes inner.now)) }
 {
     match x {
         TableRef::Join(a, _, b, p) => {
             let a = source(alloc, a, inner, known)?;
             let b = source(alloc, b, inner, known)?;
-            joined(alloc, both(a, b)?, p, inner, known)
+            joined(alloc, both(alloc, a, b)?, p, inner, known)
         }
         TableRef::LeftJoin(a, _, b, p) => {
             let a = source(alloc, a, inner, known)?;
             let b = source(alloc, b, inner, known)?;
-            joined(alloc, both(a, b)?, p, inner, known)
+            joined(alloc, both(alloc, a, b)?, p, inner, known)
         }
         TableRef::CrossJoin(a, b) => {
             let a = source(alloc, a, inner, known)?;
             let b = source(alloc, b, inner, known)?;
-            both(a, b)
+            both(alloc, a, b)
         }
         TableRef::Named(name, alias) => named(alloc, name, alias, known),
         TableRef::Derived(q, alias) => {
@@ -597,14 +647,14 @@ fn joined(
     inner: &Scopes<'_>,
     known: &Known<'_>,
 ) -> Result<Source, OutOfMemory>
-    ensures ranges { IfOk result (λ s. s.ranges ≡ operands.ranges) }
-    ensures fault { IfOk result (λ s. number s.fault ≡ rule.lesser (number operands.fault) (spec.cond_fault (heads known.now) at.Filtered (written.cond p.now) (plain operands.ranges ∷ scopes inner.now))) }
+    ensures tables { IfOk result (λ s. s.tables ≡ operands.tables) }
+    ensures fault { IfOk result (λ s. number s.fault ≡ rule.lesser (number operands.fault) (spec.on_fault (heads known.now) (written.cond p.now) operands.tables (scopes inner.now))) }
 {
-    let own = Scopes::Plain(operands.ranges.as_slice(), &*inner);
+    let own = Scopes::Plain(&operands.tables, &*inner);
     let on = cond(alloc, p, Site::Filtered, &own, known)?;
     Ok(Source {
         fault: lesser(operands.fault, on),
-        ranges: operands.ranges,
+        tables: operands.tables,
     })
 }
 
@@ -617,13 +667,13 @@ fn sources(
     inner: &Scopes<'_>,
     known: &Known<'_>,
 ) -> Result<Source, OutOfMemory>
-    ensures ranges { IfOk result (λ s. s.ranges ≡ types.ranges (heads known.now) (written.table_list list.now) (scopes inner.now)) }
+    ensures tables { IfOk result (λ s. s.tables ≡ types.ranges (heads known.now) (written.table_list list.now) (scopes inner.now)) }
     ensures fault { IfOk result (λ s. number s.fault ≡ spec.from_fault (heads known.now) (written.table_list list.now) (scopes inner.now)) }
 {
     let mut all = no_source(alloc);
     for x in list {
         let x = source(alloc, x, inner, known)?;
-        push_source(&mut all, x)?;
+        all = both(alloc, all, x)?;
     }
     Ok(all)
 }
@@ -636,7 +686,7 @@ fn before_groups(
     inner: &Scopes<'_>,
     known: &Known<'_>,
 ) -> Result<Option<Fault>, OutOfMemory>
-    ensures { IfOk result (λ f. number f ≡ rule.lesser (spec.filter_fault (heads known.now) at.Filtered (written.filter block.now.filter) (scopes inner.now)) (spec.grouping_fault block.now.grouping (scopes inner.now))) }
+    ensures { IfOk result (λ f. number f ≡ spec.input_fault (heads known.now) (written.filter block.now.filter) block.now.grouping (scopes inner.now)) }
 {
     let kept = filter(alloc, &block.filter, Site::Filtered, inner, known)?;
     Ok(lesser(kept, grouping_fault(block.grouping.as_slice(), inner)))
@@ -651,7 +701,7 @@ fn after_groups(
     known: &Known<'_>,
 ) -> Result<Output, OutOfMemory>
     ensures columns { IfOk result (λ x. x.columns ≡ types.list_columns (heads known.now) (written.select_list block.now.list) (scopes inner.now)) }
-    ensures fault { IfOk result (λ x. number x.fault ≡ rule.lesser (rule.lesser (spec.select_fault (heads known.now) (written.select_list block.now.list) (scopes inner.now)) (spec.filter_fault (heads known.now) at.Listed (written.filter block.now.having) (scopes inner.now))) (rule.too_wide (types.list_columns (heads known.now) (written.select_list block.now.list) (scopes inner.now)))) }
+    ensures fault { IfOk result (λ x. number x.fault ≡ spec.output_fault (heads known.now) (written.select_list block.now.list) (written.filter block.now.having) (scopes inner.now)) }
 {
     let mut out = no_output(alloc);
     select(alloc, &block.list, inner, known, &mut out)?;
@@ -672,9 +722,9 @@ fn block(
     ensures fault { IfOk result (λ x. number x.fault ≡ spec.query_fault (heads known.now) (block_of block.now) (scopes inner.now)) }
 {
     let from = sources(alloc, block.from.as_slice(), inner, known)?;
-    let ranges = from.ranges.as_slice();
-    let before = before_groups(alloc, block, &Scopes::Plain(ranges, &*inner), known)?;
-    let after = after_groups(alloc, block, &list_scope(&*block, ranges, &*inner), known)?;
+    let own = &from.tables;
+    let before = before_groups(alloc, block, &Scopes::Plain(own, &*inner), known)?;
+    let after = after_groups(alloc, block, &list_scope(&*block, own, &*inner), known)?;
     Ok(block_output(&from, before, after))
 }
 

@@ -1,5 +1,5 @@
 // Views by their nesting depth.
-ghost use Rattle.std.specs.Prelude.{◌≡◌, ◌+◌, ℕ, map, option_map, IfOk};
+ghost use Rattle.std.specs.Prelude.{◌≡◌, ◌+◌, ℕ, map, IfOk};
 ghost use Rattle.sql_ast.specs.Shown as written;
 ghost use Rattle.sql_ast.specs.Names.{contains};
 ghost use Rattle.sql_catalog.specs.Nesting.{readers_of};
@@ -91,7 +91,7 @@ fn refusal_of(
     view: &ViewDecl,
     known: &Known<'_>,
 ) -> Result<Option<Faulty>, OutOfMemory>
-    ensures { IfOk result (λ found. option_map (λ f. (f.view, f.number)) found ≡ views.refusal_of (heads known.now) (written.view view.now)) }
+    ensures { IfOk result (λ found. spec.refusal found ≡ views.refusal_of (heads known.now) (written.view view.now)) }
 {
     match view_fault(alloc, view, known)? {
         Some(fault) => Ok(Some(Faulty {
@@ -110,7 +110,7 @@ fn refused_marked(
     deeper: &[bool],
     known: &Known<'_>,
 ) -> Result<Option<Faulty>, OutOfMemory>
-    ensures { IfOk result (λ found. option_map (λ f. (f.view, f.number)) found ≡ spec.refused_marked (heads known.now) (map written.view list.now) marks.now deeper.now) }
+    ensures { IfOk result (λ found. spec.refusal found ≡ spec.refused_marked (heads known.now) (map written.view list.now) marks.now deeper.now) }
 {
     let mut rest = marks;
     let mut rest_deeper = deeper;
@@ -138,7 +138,7 @@ fn refused_next(
     deeper: &[bool],
     known: &Known<'_>,
 ) -> Result<Option<Faulty>, OutOfMemory>
-    ensures { IfOk result (λ next. option_map (λ f. (f.view, f.number)) next ≡ first_of (option_map (λ f. (f.view, f.number)) found) (spec.refused_marked (heads known.now) (map written.view known.now.catalog.now.views) marks.now deeper.now)) }
+    ensures { IfOk result (λ next. spec.refusal next ≡ first_of (spec.refusal found) (spec.refused_marked (heads known.now) (map written.view known.now.catalog.now.views) marks.now deeper.now)) }
 {
     match found {
         Some(found) => Ok(Some(found)),
@@ -157,7 +157,7 @@ fn refused_reader(
 ) -> Result<Option<Faulty>, OutOfMemory>
     requires readers { all.now ≡ readers_of (map written.view known.now.catalog.now.views) }
     requires views { known.now.views.now ≡ views.view_heads (declared.catalog known.now.catalog.now) }
-    ensures { IfOk result (λ found. option_map (λ f. (f.view, f.number)) found ≡ views.view_refusal (declared.catalog known.now.catalog.now)) }
+    ensures { IfOk result (λ found. spec.refusal found ≡ views.view_refusal (declared.catalog known.now.catalog.now)) }
 {
     let mut marks = all_marked(alloc, all)?;
     let mut found = None;
@@ -173,7 +173,7 @@ fn refused_reader(
 /// order.
 pub(crate) fn refused_view(alloc: Global, known: &Known<'_>) -> Result<Option<Faulty>, OutOfMemory>
     requires views { known.now.views.now ≡ views.view_heads (declared.catalog known.now.catalog.now) }
-    ensures { IfOk result (λ found. option_map (λ f. (f.view, f.number)) found ≡ views.view_refusal (declared.catalog known.now.catalog.now)) }
+    ensures { IfOk result (λ found. spec.refusal found ≡ views.view_refusal (declared.catalog known.now.catalog.now)) }
 {
     let all = readers(alloc, known.catalog.views.as_slice())?;
     refused_reader(alloc, all.as_slice(), known)

@@ -8,6 +8,7 @@ ghost use Rattle.query_checks.specs.Scopes as scope;
 
 use crate::column::{TypedColumn, TypedRange};
 use crate::fault::Fault;
+use crate::tables::Tables;
 use sql_ast::Column;
 use sql_text::Name;
 use sql_value::SqlType;
@@ -56,18 +57,6 @@ fn among(columns: &[TypedColumn], name: &Name) -> Found
     found
 }
 
-// What a name finds among the columns of these ranges.
-#[tactic(auto, using(crate::proofs::Finds::found_steps))]
-fn among_ranges(ranges: &[TypedRange], name: &Name) -> Found
-    ensures { result ≡ spec.found (scope.named_in name.now ranges.now) }
-{
-    let mut found = Found::Nothing;
-    for range in ranges {
-        found = joined(found, among(range.columns.as_slice(), name));
-    }
-    found
-}
-
 // The first range of a name.
 pub(crate) fn range_in<'a>(ranges: &'a [TypedRange], name: &Name) -> Option<&'a TypedRange>
     ensures { option_map (λ r. r.now) result ≡ scope.range_in name.now ranges.now }
@@ -86,10 +75,10 @@ fn qualified(ranges: &[TypedRange], range: &Name, name: &Name) -> Option<Found>
 }
 
 // What `c` finds in a FROM; none where it has no such column.
-fn unqualified(ranges: &[TypedRange], name: &Name) -> Option<Found>
-    ensures { result ≡ spec.found_any (spec.found (scope.named_in name.now ranges.now)) }
+fn unqualified(tables: &Tables, name: &Name) -> Option<Found>
+    ensures { result ≡ spec.found_any (spec.found (scope.named_in name.now tables.now)) }
 {
-    match among_ranges(ranges, name) {
+    match tables.find(name) {
         Found::Nothing => None,
         Found::One(sort) => Some(Found::One(sort)),
         Found::Several(sort) => Some(Found::Several(sort)),
@@ -97,12 +86,12 @@ fn unqualified(ranges: &[TypedRange], name: &Name) -> Option<Found>
 }
 
 // What a column's name finds in a FROM; none where it doesn't mean that FROM.
-pub(crate) fn found_in(ranges: &[TypedRange], column: &Column) -> Option<Found>
-    ensures { result ≡ spec.found_in column.now ranges.now }
+pub(crate) fn found_in(tables: &Tables, column: &Column) -> Option<Found>
+    ensures { result ≡ spec.found_in column.now tables.now }
 {
     match &column.range {
-        Some(range) => qualified(ranges, range, &column.name),
-        None => unqualified(ranges, &column.name),
+        Some(range) => qualified(tables.ranges(), range, &column.name),
+        None => unqualified(tables, &column.name),
     }
 }
 

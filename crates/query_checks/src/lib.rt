@@ -16,6 +16,7 @@ mod refusal;
 mod scope;
 mod site;
 mod sources;
+mod tables;
 mod typed;
 mod types;
 mod view;

@@ -12,6 +12,7 @@ ghost use Rattle.query_checks.specs.Shown.{scopes};
 use crate::column::{Columns, TypedColumn, TypedRange, push_copies};
 use crate::fault::{Fault, fault_if, lesser};
 use crate::scope::{Scopes, Star, is_star_barred, star_of};
+use crate::tables::Tables;
 use crate::typed::{Output, Typed};
 use shared_types::OutOfMemory;
 use sql_ast::{Alias, Block, Expr};
@@ -41,11 +42,11 @@ pub(crate) fn push_star(
 {
     match inner {
         Scopes::Outermost => Ok(()),
-        Scopes::Plain(ranges, _) => push_ranges(alloc, &mut out.columns, ranges),
-        Scopes::Grouped(ranges, by, _) => {
-            let barred = is_star_barred(by, ranges);
+        Scopes::Plain(tables, _) => push_ranges(alloc, &mut out.columns, tables.ranges()),
+        Scopes::Grouped(tables, by, _) => {
+            let barred = is_star_barred(by, tables.ranges());
             out.fault = lesser(out.fault, fault_if(barred, Fault::Grouping));
-            push_ranges(alloc, &mut out.columns, ranges)
+            push_ranges(alloc, &mut out.columns, tables.ranges())
         }
         Scopes::Released(outer) => {
             let fault = out.fault;
@@ -116,15 +117,15 @@ pub(crate) fn push_value(
 // The scope that the list and HAVING of a block see first.
 pub(crate) fn list_scope<'a>(
     block: &'a Block,
-    ranges: &'a [TypedRange],
+    tables: &'a Tables,
     outer: &'a Scopes<'a>,
 ) -> Scopes<'a>
-    ensures { scopes result ≡ types.list_scope (written.select_list block.now.list) block.now.grouping (written.filter block.now.having) ranges.now ∷ scopes outer.now }
+    ensures { scopes result ≡ types.list_scope (written.select_list block.now.list) block.now.grouping (written.filter block.now.having) tables.now ∷ scopes outer.now }
 {
     let by = block.grouping.as_slice();
     if is_grouped(&block.list, by, &block.having) {
-        Scopes::Grouped(ranges, by, outer)
+        Scopes::Grouped(tables, by, outer)
     } else {
-        Scopes::Plain(ranges, outer)
+        Scopes::Plain(tables, outer)
     }
 }

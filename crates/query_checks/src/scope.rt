@@ -2,7 +2,7 @@
 ghost use Rattle.std.specs.Prelude.{◌≡◌, Some, List, option_map};
 ghost use Rattle.std.specs.List.{list_any};
 ghost use Rattle.query_checks.specs.Faults as fault;
-ghost use Rattle.query_checks.specs.Found.{found};
+ghost use Rattle.query_checks.specs.Found as found;
 ghost use Rattle.query_checks.specs.Numbers.{number};
 ghost use Rattle.query_checks.specs.Rules as rule;
 ghost use Rattle.query_checks.specs.Scopes as spec;
@@ -13,19 +13,19 @@ use crate::column::{TypedColumn, TypedRange};
 use crate::fault::{Fault, fault_if, lesser};
 use crate::found::{Found, found_fault, found_in, found_type, range_in};
 use crate::site::Site;
+use crate::tables::Tables;
 use crate::typed::Typed;
 use sql_ast::Column;
 use sql_text::Name;
-use sql_value::SqlType;
 
 /// The scopes that enclose a place, the innermost first.
 #[derive(Clone, Copy)]
 pub(crate) enum Scopes<'a> {
     Outermost,
-    /// The ranges of a FROM.
-    Plain(&'a [TypedRange], &'a Scopes<'a>),
-    /// The ranges of a grouped block with its GROUP BY: what its list and HAVING see.
-    Grouped(&'a [TypedRange], &'a [Column], &'a Scopes<'a>),
+    /// The tables of a FROM.
+    Plain(&'a Tables, &'a Scopes<'a>),
+    /// The tables of a grouped block with its GROUP BY: what its list and HAVING see.
+    Grouped(&'a Tables, &'a [Column], &'a Scopes<'a>),
     /// The same scopes within an aggregate's argument, where every column may be named.
     Released(&'a Scopes<'a>),
 }
@@ -73,7 +73,7 @@ pub(crate) struct Target {
 // What a column's name means in these scopes.
 #[tactic(auto, using(crate::proofs::Targets::target_steps))]
 pub(crate) fn target_of(column: &Column, inner: &Scopes<'_>) -> Target
-    ensures found { result.found ≡ found (spec.meant column.now (scopes inner.now)) }
+    ensures found { result.found ≡ found.found (spec.meant column.now (scopes inner.now)) }
     ensures barred { result.barred ≡ spec.is_name_barred column.now (spec.scope_of column.now (scopes inner.now)) }
 {
     match inner {
@@ -81,14 +81,14 @@ pub(crate) fn target_of(column: &Column, inner: &Scopes<'_>) -> Target
             found: Found::Nothing,
             barred: false,
         },
-        Scopes::Plain(ranges, outer) => match found_in(ranges, column) {
+        Scopes::Plain(tables, outer) => match found_in(tables, column) {
             Some(found) => Target {
                 found,
                 barred: false,
             },
             None => target_of(column, outer),
         },
-        Scopes::Grouped(ranges, by, outer) => match found_in(ranges, column) {
+        Scopes::Grouped(tables, by, outer) => match found_in(tables, column) {
             Some(found) => Target {
                 found,
                 barred: is_barred(by, column),
@@ -109,8 +109,8 @@ pub(crate) fn is_own(column: &Column, inner: &Scopes<'_>) -> bool
 {
     match inner {
         Scopes::Outermost => false,
-        Scopes::Plain(ranges, _) => found_in(ranges, column).is_some(),
-        Scopes::Grouped(ranges, _, _) => found_in(ranges, column).is_some(),
+        Scopes::Plain(tables, _) => found_in(tables, column).is_some(),
+        Scopes::Grouped(tables, _, _) => found_in(tables, column).is_some(),
         Scopes::Released(outer) => is_own(column, outer),
     }
 }
@@ -181,14 +181,14 @@ pub(crate) fn star_of<'a>(name: &Name, inner: &Scopes<'a>) -> Star<'a>
             range: None,
             barred: false,
         },
-        Scopes::Plain(ranges, outer) => match range_in(ranges, name) {
+        Scopes::Plain(tables, outer) => match range_in(tables.ranges(), name) {
             Some(range) => Star {
                 range: Some(range),
                 barred: false,
             },
             None => star_of(name, outer),
         },
-        Scopes::Grouped(ranges, by, outer) => match range_in(ranges, name) {
+        Scopes::Grouped(tables, by, outer) => match range_in(tables.ranges(), name) {
             Some(range) => Star {
                 range: Some(range),
                 barred: is_range_barred(by, range),
@@ -200,25 +200,6 @@ pub(crate) fn star_of<'a>(name: &Name, inner: &Scopes<'a>) -> Star<'a>
             barred: false,
         },
     }
-}
-
-// The fault of a column's name at a place.
-#[tactic(auto, using(crate::proofs::Finds::fault_found))]
-fn column_fault(place: Site, column: &Column, inner: &Scopes<'_>) -> Option<Fault>
-    ensures { number result ≡ fault.column_fault place column.now (scopes inner.now) }
-{
-    let target = target_of(column, inner);
-    let ungrouped = fault_if(target.barred, Fault::Grouping);
-    let outer = column_misplaced(place, column, inner);
-    lesser(found_fault(target.found), lesser(ungrouped, outer))
-}
-
-// The type of a column.
-#[tactic(auto, using(crate::proofs::Finds::type_found))]
-fn column_type(column: &Column, inner: &Scopes<'_>) -> Option<SqlType>
-    ensures { result ≡ spec.first_type (spec.meant column.now (scopes inner.now)) }
-{
-    found_type(target_of(column, inner).found)
 }
 
 // The fault of a column in an aggregate's argument, where it isn't of the aggregate's own block.
@@ -252,13 +233,23 @@ pub(crate) fn grouping_fault(by: &[Column], inner: &Scopes<'_>) -> Option<Fault>
     least
 }
 
+// The fault of a name that means this, which may not stand at its place.
+fn target_fault(target: Target, misplaced: Option<Fault>) -> Option<Fault>
+    ensures { number result ≡ rule.lesser (found.found_fault target.found) (rule.lesser (rule.fault_if target.barred 12) (number misplaced)) }
+{
+    let ungrouped = fault_if(target.barred, Fault::Grouping);
+    lesser(found_fault(target.found), lesser(ungrouped, misplaced))
+}
+
 // A column at a place.
+#[tactic(auto, using(crate::proofs::Finds::fault_found, crate::proofs::Finds::type_found))]
 pub(crate) fn column(place: Site, name: &Column, inner: &Scopes<'_>) -> Typed
     ensures sort { result.sort ≡ spec.first_type (spec.meant name.now (scopes inner.now)) }
     ensures fault { number result.fault ≡ fault.column_fault place name.now (scopes inner.now) }
 {
+    let target = target_of(name, inner);
     Typed {
-        sort: column_type(name, inner),
-        fault: column_fault(place, name, inner),
+        sort: found_type(target.found),
+        fault: target_fault(target, column_misplaced(place, name, inner)),
     }
 }

@@ -12,6 +12,7 @@ use crate::column::{Columns, TypedRange, renamed};
 use crate::fault::{Fault, fault_if, lesser};
 use crate::known::{Known, columns_of};
 use crate::operands::list_fault;
+use crate::tables::Tables;
 use crate::typed::Output;
 use shared_types::OutOfMemory;
 use sql_ast::Correlation;
@@ -19,30 +20,23 @@ use sql_text::Name;
 use sqlite_items::Items;
 use std::alloc::Global;
 
-/// Tables of a FROM: their ranges, and the least of their faults.
+/// Tables of a FROM, and the least of their faults.
 #[derive(Drop)]
 pub(crate) struct Source {
-    pub ranges: Items<TypedRange>,
+    pub tables: Tables,
     pub fault: Option<Fault>,
 }
 
-// Adds tables at the end.
-pub(crate) fn push_source(source: &mut Source, more: Source) -> Result<(), OutOfMemory>
-    ensures ranges { OnOk result (source.new.ranges ≡ source.old.ranges ++ more.ranges) }
-    ensures fault { OnOk result (number source.new.fault ≡ rule.lesser (number source.old.fault) (number more.fault)) }
-{
-    source.fault = lesser(source.fault, more.fault);
-    source.ranges.append(more.ranges)?;
-    Ok(())
-}
-
 // The tables of both.
-pub(crate) fn both(mut left: Source, right: Source) -> Result<Source, OutOfMemory>
-    ensures ranges { IfOk result (λ s. s.ranges ≡ left.ranges ++ right.ranges) }
+pub(crate) fn both(alloc: Global, left: Source, right: Source) -> Result<Source, OutOfMemory>
+    ensures tables { IfOk result (λ s. s.tables ≡ left.tables ++ right.tables) }
     ensures fault { IfOk result (λ s. number s.fault ≡ rule.lesser (number left.fault) (number right.fault)) }
 {
-    push_source(&mut left, right)?;
-    Ok(left)
+    let fault = lesser(left.fault, right.fault);
+    Ok(Source {
+        tables: Tables::join(alloc, left.tables, right.tables)?,
+        fault,
+    })
 }
 
 // One range.
@@ -52,15 +46,14 @@ fn one(
     columns: Columns,
     fault: Option<Fault>,
 ) -> Result<Source, OutOfMemory>
-    ensures ranges { IfOk result (λ s. s.ranges ≡ types.range name.now columns ∷ []) }
+    ensures tables { IfOk result (λ s. s.tables ≡ types.range name.now columns ∷ []) }
     ensures fault { IfOk result (λ s. number s.fault ≡ number fault) }
 {
-    let mut ranges = Items::new(alloc);
-    ranges.push(TypedRange {
-        name: name.copy(alloc)?,
-        columns,
-    })?;
-    Ok(Source { ranges, fault })
+    let name = name.copy(alloc)?;
+    Ok(Source {
+        tables: Tables::one(alloc, TypedRange { name, columns })?,
+        fault,
+    })
 }
 
 // A subquery of a FROM.
@@ -69,7 +62,7 @@ pub(crate) fn derived(
     found: Output,
     alias: &Correlation,
 ) -> Result<Source, OutOfMemory>
-    ensures ranges { IfOk result (λ s. s.ranges ≡ types.range alias.now.name (types.renamed alias.now.columns found.columns) ∷ []) }
+    ensures tables { IfOk result (λ s. s.tables ≡ types.derived_range alias.now found.columns ∷ []) }
     ensures fault { IfOk result (λ s. number s.fault ≡ rule.lesser (number found.fault) (spec.list_fault alias.now.columns found.columns)) }
 {
     let list = alias.columns.as_slice();
@@ -122,8 +115,8 @@ pub(crate) fn named(
     alias: &Option<Correlation>,
     known: &Known<'_>,
 ) -> Result<Source, OutOfMemory>
-    ensures ranges { IfOk result (λ s. s.ranges ≡ types.range (meaning.range_name name.now alias.now) (types.renamed (meaning.column_list alias.now) (types.columns_or_none (heads known.now name.now))) ∷ []) }
-    ensures fault { IfOk result (λ s. number s.fault ≡ rule.lesser (rule.table_unknown (heads known.now name.now)) (spec.list_fault (meaning.column_list alias.now) (types.columns_or_none (heads known.now name.now)))) }
+    ensures tables { IfOk result (λ s. s.tables ≡ types.named_range name.now alias.now (heads known.now name.now) ∷ []) }
+    ensures fault { IfOk result (λ s. number s.fault ≡ spec.named_fault alias.now (heads known.now name.now)) }
 {
     let found = table(alloc, name, known)?;
     let list = column_list(alias);
@@ -167,11 +160,11 @@ pub(crate) fn ranges_equal(ranges: &[TypedRange]) -> Option<Fault>
 
 // No table yet.
 pub(crate) fn no_source(alloc: Global) -> Source
-    ensures ranges { result.ranges ≡ [] }
+    ensures tables { result.tables ≡ [] }
     ensures fault { number result.fault ≡ 0 }
 {
     Source {
-        ranges: Items::new(alloc),
+        tables: Tables::none(alloc),
         fault: None,
     }
 }
@@ -179,9 +172,9 @@ pub(crate) fn no_source(alloc: Global) -> Source
 // The output of a block: that of its list, with the faults of its FROM and of what stands between.
 pub(crate) fn block_output(from: &Source, before: Option<Fault>, after: Output) -> Output
     ensures columns { result.columns ≡ after.columns }
-    ensures fault { number result.fault ≡ rule.lesser (rule.lesser (number from.now.fault) (rule.ranges_equal from.now.ranges)) (rule.lesser (number before) (number after.fault)) }
+    ensures fault { number result.fault ≡ rule.lesser (rule.lesser (number from.now.fault) (rule.ranges_equal from.now.tables)) (rule.lesser (number before) (number after.fault)) }
 {
-    let tables = lesser(from.fault, ranges_equal(from.ranges.as_slice()));
+    let tables = lesser(from.fault, ranges_equal(from.tables.ranges()));
     Output {
         fault: lesser(tables, lesser(before, after.fault)),
         columns: after.columns,

@@ -33,6 +33,6 @@ invariant-items-loop-x l = record {
 
 abbrev pub invariant-sources-loop-x : goal.invariant-sources-loop-x
 invariant-sources-loop-x l = record {
-  ranges : l.all.ranges ++ types.ranges (heads l.known) (written.table_list (drop l.x-index l.list)) (scopes l.inner) ≡ types.ranges (heads l.known) (written.table_list l.list) (scopes l.inner);
+  ranges : l.all.tables ++ types.ranges (heads l.known) (written.table_list (drop l.x-index l.list)) (scopes l.inner) ≡ types.ranges (heads l.known) (written.table_list l.list) (scopes l.inner);
   fault : rule.lesser (number l.all.fault) (spec.from_fault (heads l.known) (written.table_list (drop l.x-index l.list)) (scopes l.inner)) ≡ spec.from_fault (heads l.known) (written.table_list l.list) (scopes l.inner);
 }

@@ -1,0 +1,14 @@
+use Rattle.std.proofs.Common.{◌≡◌, ◌∙◌, ◌++◌, List, ap, sym, arith}
+use Rattle.std.proofs.lemmas.Grind.{common_steps}
+use Rattle.query_checks.specs.Columns.{all_columns}
+use Rattle.query_checks.specs.Found.{found}
+use Rattle.query_checks.specs.Scopes.{columns_named}
+use Rattle.query_checks.specs.declared.column.TypedRange.{TypedRange}
+use Rattle.query_checks.proofs.Notes.{tells_more}
+use Rattle.query_checks.proofs.tables.Tables.join.Goals as goal
+
+pub invariant_of-result : goal.invariant_of-result
+invariant_of-result c = λ name.
+    let all : c.left.inside.ranges ++ c.as_slice.result.now ≡ c.append.new.self = grind (arith, common_steps) in
+    tells_more c.left.inside.finds.entries c.note_ranges.new.finds.entries c.left.inside.ranges c.as_slice.result.now c.left.invariant c.in_ok-note_ranges.ensures name
+    ∙ ap (λ (rs : List TypedRange). found (columns_named name (all_columns rs))) all
