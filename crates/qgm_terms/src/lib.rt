@@ -10,9 +10,11 @@ mod names;
 mod nodes;
 mod parts;
 mod rebuilt;
+mod sameness;
 mod shifts;
 mod sought;
 mod substitution;
+mod tokens;
 mod tree;
 
 pub use chains::{anded, chained, negated, ored};
@@ -22,6 +24,7 @@ pub use named::{Column, QuantId, QuantNode};
 pub use names::{add_names, add_names_of_cells, add_names_of_cond, add_names_of_conds};
 pub use nodes::{add_nodes, add_nodes_of_cells, add_nodes_of_cond, add_nodes_of_conds};
 pub use parts::{Conds, Head};
+pub use sameness::{same_cond, same_term};
 pub use shifts::{shift, shift_cells, shift_cond, shift_conds};
 pub use sought::{
     Sought, has_aggregate, has_aggregate_cond, is_node_free, is_node_free_cond, stands_in,

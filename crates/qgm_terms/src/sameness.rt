@@ -1,0 +1,87 @@
+// Whether two expressions, or two conditions, are the same tree.
+ghost use Rattle.std.specs.Prelude.{◌≡◌, ◌↔◌, IfOk, IsTrue};
+ghost use Rattle.qgm_terms.specs.Postfix.{tokens, tokens_cond};
+ghost use Rattle.qgm_terms.specs.Shown.{cond, term};
+
+use crate::tokens::{Form, Token, add_tokens, add_tokens_of_cond};
+use crate::tree::{Gc, Gx, Op};
+use shared_types::OutOfMemory;
+use std::alloc::Global;
+
+fn same_form(a: Form, b: Form) -> bool
+    ensures { IsTrue result ↔ (a ≡ b) }
+{
+    a == b
+}
+
+fn same_op(a: Op, b: Op) -> bool
+    ensures { IsTrue result ↔ (a ≡ b) }
+{
+    a == b
+}
+
+fn same_token(a: Token, b: Token) -> bool
+    ensures { IsTrue result ↔ (a ≡ b) }
+{
+    match a {
+        Token::Int(m) => matches!(b, Token::Int(n) if m == n),
+        Token::Char(c) => matches!(b, Token::Char(d) if c == d),
+        Token::Col(q, k) => matches!(b, Token::Col(r, j) if q == r && k == j),
+        Token::Scalar(q) => matches!(b, Token::Scalar(r) if q == r),
+        Token::Op(op) => matches!(b, Token::Op(other) if same_op(op, other)),
+        Token::Form(form) => matches!(b, Token::Form(other) if same_form(form, other)),
+        Token::Some(q) => matches!(b, Token::Some(r) if q == r),
+        Token::Every(q) => matches!(b, Token::Every(r) if q == r),
+    }
+}
+
+// Whether the same tokens stand in two lists.
+fn same_tokens(left: &[Token], right: &[Token]) -> bool
+    ensures { IsTrue result ↔ (left.now ≡ right.now) }
+{
+    if left.len() != right.len() {
+        return false;
+    }
+    for i in 0..left.len() {
+        if !same_token(left[i], right[i]) {
+            return false;
+        }
+    }
+    true
+}
+
+fn tokens_of(alloc: Global, x: &Gx) -> Result<Vec<Token>, OutOfMemory>
+    ensures { IfOk result (λ list. list.items ≡ tokens (term x.now)) }
+{
+    let mut list = Vec::new(alloc);
+    add_tokens(x, &mut list)?;
+    Ok(list)
+}
+
+fn tokens_of_cond(alloc: Global, c: &Gc) -> Result<Vec<Token>, OutOfMemory>
+    ensures { IfOk result (λ list. list.items ≡ tokens_cond (cond c.now)) }
+{
+    let mut list = Vec::new(alloc);
+    add_tokens_of_cond(c, &mut list)?;
+    Ok(list)
+}
+
+/// Whether two expressions are printed alike.
+#[tactic(auto, using(crate::proofs::PostfixRead::term_once))]
+pub fn same_term(alloc: Global, a: &Gx, b: &Gx) -> Result<bool, OutOfMemory>
+    ensures { IfOk result (λ same. IsTrue same ↔ (term a.now ≡ term b.now)) }
+{
+    let left = tokens_of(alloc, a)?;
+    let right = tokens_of(alloc, b)?;
+    Ok(same_tokens(&left, &right))
+}
+
+/// Whether two conditions are printed alike.
+#[tactic(auto, using(crate::proofs::PostfixRead::cond_once))]
+pub fn same_cond(alloc: Global, a: &Gc, b: &Gc) -> Result<bool, OutOfMemory>
+    ensures { IfOk result (λ same. IsTrue same ↔ (cond a.now ≡ cond b.now)) }
+{
+    let left = tokens_of_cond(alloc, a)?;
+    let right = tokens_of_cond(alloc, b)?;
+    Ok(same_tokens(&left, &right))
+}
