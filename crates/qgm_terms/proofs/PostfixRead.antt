@@ -134,7 +134,7 @@ mutual
       let b = joined a (arm c x no_arm) in
       after (tokens_cond c ++ tokens x ++ form f.When) (tokens_arms s) (arms a ∷ st) (arms b ∷ st) (arms (joined a (arm c x s)) ∷ st)
       (after (tokens_cond c ++ tokens x) (form f.When) (arms a ∷ st) (cell x ∷ (test c ∷ (arms a ∷ st))) (arms b ∷ st)
-       (after (tokens_cond c) (tokens x) (arms a ∷ st) (test c ∷ (arms a ∷ st)) (cell x ∷ (test c ∷ (arms a ∷ st))) (read-cond c (arms a ∷ st)) (read-term x (test c ∷ (arms a ∷ st)))) refl)
+      (after (tokens_cond c) (tokens x) (arms a ∷ st) (test c ∷ (arms a ∷ st)) (cell x ∷ (test c ∷ (arms a ∷ st))) (read-cond c (arms a ∷ st)) (read-term x (test c ∷ (arms a ∷ st)))) refl)
       (read-arms s b st ∙ ap (λ (d : Arms). arms d ∷ st) (joined-assoc a (arm c x no_arm) s))
 
   read-cond : (c : Cond) (st : List Piece) → read (tokens_cond c) st ≡ test c ∷ st

@@ -3,36 +3,15 @@ ghost use Rattle.std.specs.Prelude.{◌≡◌, ◌↔◌, IfOk, IsTrue};
 ghost use Rattle.qgm_terms.specs.Postfix.{tokens, tokens_cond};
 ghost use Rattle.qgm_terms.specs.Shown.{cond, term};
 
-use crate::tokens::{Form, Token, add_tokens, add_tokens_of_cond};
-use crate::tree::{Gc, Gx, Op};
+use crate::tokens::{Token, add_tokens, add_tokens_of_cond};
+use crate::tree::{Gc, Gx};
 use shared_types::OutOfMemory;
 use std::alloc::Global;
-
-fn same_form(a: Form, b: Form) -> bool
-    ensures { IsTrue result ↔ (a ≡ b) }
-{
-    a == b
-}
-
-fn same_op(a: Op, b: Op) -> bool
-    ensures { IsTrue result ↔ (a ≡ b) }
-{
-    a == b
-}
 
 fn same_token(a: Token, b: Token) -> bool
     ensures { IsTrue result ↔ (a ≡ b) }
 {
-    match a {
-        Token::Int(m) => matches!(b, Token::Int(n) if m == n),
-        Token::Char(c) => matches!(b, Token::Char(d) if c == d),
-        Token::Col(q, k) => matches!(b, Token::Col(r, j) if q == r && k == j),
-        Token::Scalar(q) => matches!(b, Token::Scalar(r) if q == r),
-        Token::Op(op) => matches!(b, Token::Op(other) if same_op(op, other)),
-        Token::Form(form) => matches!(b, Token::Form(other) if same_form(form, other)),
-        Token::Some(q) => matches!(b, Token::Some(r) if q == r),
-        Token::Every(q) => matches!(b, Token::Every(r) if q == r),
-    }
+    a == b
 }
 
 // Whether the same tokens stand in two lists.

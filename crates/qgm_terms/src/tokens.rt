@@ -1,7 +1,6 @@
 // Expressions and conditions in postfix notation: operands, and then what takes them. So chains that
 // are held flat and nested to the left are the same list.
 ghost use Rattle.std.specs.Prelude.{◌≡◌, ◌++◌, ◌∷◌, [], OnOk, map};
-ghost use Rattle.std.specs.List.{flat_map};
 ghost use Rattle.qgm_terms.specs.Shown.{choices, cond, conds, links, term};
 ghost use Rattle.qgm_terms.specs.Postfix as spec;
 
@@ -9,15 +8,15 @@ use crate::named::QuantId;
 use crate::tree::{Arm, Gc, Gx, Link, Op};
 use shared_types::{OutOfMemory, Text};
 
-/// What takes the operands before it, and what stands without one.
-#[derive(Clone, Copy, Debug, PartialEq, Eq)]
-pub enum Form {
-    /// An empty text; the characters behind it go into it.
+// What takes the operands before it, and what stands without one.
+#[derive(Clone, Copy, PartialEq, Eq)]
+pub(crate) enum Form {
+    // An empty text; the characters behind it go into it.
     Text,
     NullInt,
     NullText,
     Neg,
-    /// A CASE without an arm; each arm behind it goes into it.
+    // A CASE without an arm; each arm behind it goes into it.
     Case,
     When,
     Else,
@@ -28,7 +27,7 @@ pub enum Form {
     Avg,
     Min,
     Max,
-    /// The aggregate before it takes equal cells once.
+    // The aggregate before it takes equal cells once.
     Distinct,
     True,
     Eq,
@@ -45,9 +44,9 @@ pub enum Form {
     Not,
 }
 
-/// A token of postfix notation.
-#[derive(Clone, Copy, Debug, PartialEq, Eq)]
-pub enum Token {
+// A token of postfix notation.
+#[derive(Clone, Copy, PartialEq, Eq)]
+pub(crate) enum Token {
     Int(i64),
     Char(char),
     Col(QuantId, usize),
@@ -135,10 +134,10 @@ fn add_comparison(c: &Gc, out: &mut Vec<Token>) -> Result<(), OutOfMemory>
     }
 }
 
-/// Appends the tokens of an expression.
+// Appends the tokens of an expression.
 #[cycle(tokens)]
 #[tactic(auto, using(crate::proofs::Lists::lists))]
-pub fn add_tokens(x: &Gx, out: &mut Vec<Token>) -> Result<(), OutOfMemory>
+pub(crate) fn add_tokens(x: &Gx, out: &mut Vec<Token>) -> Result<(), OutOfMemory>
     ensures { OnOk result (out.new.items ≡ out.old.items ++ spec.tokens (term x.now)) }
 {
     match x {
@@ -200,10 +199,10 @@ fn add_tokens_of_arms(list: &[Arm], out: &mut Vec<Token>) -> Result<(), OutOfMem
     Ok(())
 }
 
-/// Appends the tokens of a condition.
+// Appends the tokens of a condition.
 #[cycle(tokens)]
 #[tactic(auto, using(crate::proofs::Lists::lists))]
-pub fn add_tokens_of_cond(c: &Gc, out: &mut Vec<Token>) -> Result<(), OutOfMemory>
+pub(crate) fn add_tokens_of_cond(c: &Gc, out: &mut Vec<Token>) -> Result<(), OutOfMemory>
     ensures { OnOk result (out.new.items ≡ out.old.items ++ spec.tokens_cond (cond c.now)) }
 {
     match c {
