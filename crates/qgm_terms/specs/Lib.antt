@@ -1,0 +1,11 @@
+pub mod Terms
+pub mod Gathered
+pub mod Named
+pub mod Shown
+pub mod TermCodes
+pub mod Conjuncts
+pub mod Wanted
+pub mod Shift
+pub mod Rebuilt
+pub mod Substitution
+pub mod Postfix
