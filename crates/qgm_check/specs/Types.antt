@@ -40,8 +40,8 @@ agree a b = if is_integer a then is_integer b else is_varchar a && is_varchar b
 abbrev pub all_agree : List (Option SqlType) → List (Option SqlType) → Bool
 all_agree [] [] = true
 all_agree [] (b ∷ bs) = false
-all_agree (a ∷ as) [] = false
-all_agree (a ∷ as) (b ∷ bs) = agree a b && all_agree as bs
+all_agree (a ∷ rest) [] = false
+all_agree (a ∷ rest) (b ∷ bs) = agree a b && all_agree rest bs
 
 abbrev pub integer_if : Bool → Option SqlType
 integer_if fits = if fits then Some Integer else None

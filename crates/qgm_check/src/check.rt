@@ -319,7 +319,7 @@ fn first_fault(
 }
 
 // The least clause that fails, with the least box at which it does.
-fn fault(alloc: Global, graph: &Graph) -> Result<Option<Fault>, OutOfMemory>
+fn find_fault(alloc: Global, graph: &Graph) -> Result<Option<Fault>, OutOfMemory>
     ensures { IfOk result (λ f. f ≡ spec.fault graph.now) }
 {
     let clauses = [
@@ -342,7 +342,7 @@ pub fn check_graph(alloc: Global, graph: &Graph) -> Result<(), IllFormed>
     ensures ok { IfOk result (λ _. spec.fault graph.now ≡ None) }
     ensures fails { (f : Fault) → IsErrOf result (Fails f) → spec.fault graph.now ≡ Some f }
 {
-    match fault(alloc, graph)? {
+    match find_fault(alloc, graph)? {
         Some(fault) => Err(IllFormed::Fails(fault)),
         None => Ok(()),
     }

@@ -2,16 +2,18 @@
 ghost use Rattle.std.specs.Prelude.{◌≡◌, ◌++◌, ◌&&◌, not, take, drop, length, ◌≤◌, OnOk, IfOk};
 ghost use Rattle.std.specs.List.{flat_map, list_all, list_any};
 ghost use Rattle.qgm_core.specs.Boxes.{is_box, owns};
+ghost use Rattle.qgm_core.specs.Kinds.{is_A, is_E, is_S};
 ghost use Rattle.qgm_core.specs.Lists.{first};
 ghost use Rattle.qgm_terms.specs.Named.{names_in};
-ghost use Rattle.qgm_terms.specs.Shown.{term, terms};
+ghost use Rattle.qgm_terms.specs.Wanted.{has_aggregate};
+ghost use Rattle.qgm_terms.specs.Shown.{links, term, terms};
 ghost use Rattle.qgm_check.specs.Shapes as spec;
 
 use crate::columns_fit::{box_at, width};
 use crate::kinds::{is_a, is_e, is_enforce, is_f, is_magic, is_plain, is_preserve, is_s};
 use crate::types::both;
 use qgm_core::{
-    BoxId, BoxKind, Column, Gx, Node, OwnedQuant, QuantId, QuantNode, Role, free_in, has_range,
+    BoxId, BoxKind, Column, Gx, Link, Node, OwnedQuant, QuantId, QuantNode, Role, free_in, has_range,
 };
 use qgm_terms::{
     Sought, add_columns_of_cells, add_names_of_cells, add_nodes_of_cells, add_nodes_of_conds,
@@ -20,13 +22,23 @@ use qgm_terms::{
 use shared_types::OutOfMemory;
 use std::alloc::Global;
 
+// Whether no operand stands behind the first one.
+fn is_alone(list: &[Link]) -> bool
+    ensures { result ≡ spec.is_none (links list.now) }
+{
+    match list {
+        [] => true,
+        [_, ..] => false,
+    }
+}
+
 // Whether an expression is a column.
 fn is_column(x: &Gx) -> bool
     ensures { result ≡ spec.is_column (term x.now) }
 {
     match x {
         Gx::Col(_, _) => true,
-        Gx::Chain(a, list) => both(list.is_empty(), is_column(a)),
+        Gx::Chain(a, list) => both(is_alone(list), is_column(a)),
         Gx::Int(_)
         | Gx::Text(_)
         | Gx::NullInt
@@ -66,7 +78,7 @@ fn is_aggregate(x: &Gx) -> bool
         | Gx::AvgDistinct(a)
         | Gx::MinDistinct(a)
         | Gx::MaxDistinct(a) => !has_aggregate(a),
-        Gx::Chain(a, list) => both(list.is_empty(), is_aggregate(a)),
+        Gx::Chain(a, list) => both(is_alone(list), is_aggregate(a)),
         Gx::Int(_)
         | Gx::Text(_)
         | Gx::NullInt
@@ -115,14 +127,35 @@ fn are_f(count: usize, ranges: &[OwnedQuant]) -> bool
     ranges.len() == count && all_f(ranges)
 }
 
+// Whether q is an S quantifier of these.
+fn has_s(q: QuantId, ranges: &[OwnedQuant]) -> bool
+    ensures { result ≡ spec.is_among is_S q ranges.now }
+{
+    ranges.iter().any(|r| r.id == q && is_s(r.kind))
+}
+
+// Whether q is an E quantifier of these.
+fn has_e(q: QuantId, ranges: &[OwnedQuant]) -> bool
+    ensures { result ≡ spec.is_among is_E q ranges.now }
+{
+    ranges.iter().any(|r| r.id == q && is_e(r.kind))
+}
+
+// Whether q is an A quantifier of these.
+fn has_a(q: QuantId, ranges: &[OwnedQuant]) -> bool
+    ensures { result ≡ spec.is_among is_A q ranges.now }
+{
+    ranges.iter().any(|r| r.id == q && is_a(r.kind))
+}
+
 // Whether a node is of an own quantifier of its kind.
 fn node_fits(ranges: &[OwnedQuant], node: QuantNode) -> bool
     ensures { result ≡ spec.node_fits ranges.now node }
 {
     match node {
-        QuantNode::Scalar(q) => ranges.iter().any(|r| r.id == q && is_s(r.kind)),
-        QuantNode::Some(q) => ranges.iter().any(|r| r.id == q && is_e(r.kind)),
-        QuantNode::Every(q) => ranges.iter().any(|r| r.id == q && is_a(r.kind)),
+        QuantNode::Scalar(q) => has_s(q, ranges),
+        QuantNode::Some(q) => has_e(q, ranges),
+        QuantNode::Every(q) => has_a(q, ranges),
     }
 }
 
@@ -317,7 +350,7 @@ fn is_base(node: &Node) -> bool
 // The first cells.
 fn first_cells(list: &[Gx], count: usize) -> &[Gx]
     requires { count ≤ length list.now }
-    ensures { terms result.now ≡ take count (terms list.now) }
+    ensures { result.now ≡ take count list.now }
 {
     &list[..count]
 }
@@ -325,18 +358,32 @@ fn first_cells(list: &[Gx], count: usize) -> &[Gx]
 // The cells behind the first ones.
 fn other_cells(list: &[Gx], count: usize) -> &[Gx]
     requires { count ≤ length list.now }
-    ensures { terms result.now ≡ drop count (terms list.now) }
+    ensures { result.now ≡ drop count list.now }
 {
     &list[count..]
+}
+
+// Whether no aggregate stands in the first cells.
+fn keys_unfolded(keys: usize, list: &[Gx]) -> bool
+    requires { keys ≤ length list.now }
+    ensures { result ≡ not (list_any has_aggregate (take keys (terms list.now))) }
+{
+    !stands_in_cells(first_cells(list, keys), Sought::Aggregate)
+}
+
+// Whether the cells behind the first ones are aggregates.
+fn others_fold(keys: usize, list: &[Gx]) -> bool
+    requires { keys ≤ length list.now }
+    ensures { result ≡ list_all spec.is_aggregate (drop keys (terms list.now)) }
+{
+    all_aggregates(other_cells(list, keys))
 }
 
 // Whether a head is keys without aggregates and then aggregates.
 fn head_folds(keys: usize, list: &[Gx]) -> bool
     ensures { result ≡ spec.head_folds keys (terms list.now) }
 {
-    keys <= list.len()
-        && !stands_in_cells(first_cells(list, keys), Sought::Aggregate)
-        && all_aggregates(other_cells(list, keys))
+    keys <= list.len() && keys_unfolded(keys, list) && others_fold(keys, list)
 }
 
 fn is_group(alloc: Global, keys: usize, node: &Node) -> Result<bool, OutOfMemory>

@@ -128,7 +128,6 @@ fn op_type(op: Op, left: Option<SqlType>, right: Option<SqlType>) -> Option<SqlT
 
 // The type of an expression, none where types disagree.
 #[cycle(types)]
-#[tactic(auto, using(qgm_terms::proofs::Lists::lists))]
 pub fn type_of(nodes: &[Node], table: &[Typed], x: &Gx) -> Option<SqlType>
     ensures { result ≡ spec.term_type (spec.column_type nodes.now table.now) (term x.now) }
 {
@@ -190,7 +189,6 @@ fn arms_fit(nodes: &[Node], table: &[Typed], last: Option<SqlType>, list: &[Arm]
 
 // Whether a condition compares what can be compared.
 #[cycle(types)]
-#[tactic(auto, using(qgm_terms::proofs::Lists::lists))]
 pub fn cond_fits(nodes: &[Node], table: &[Typed], c: &Gc) -> bool
     ensures { result ≡ spec.cond_fits (spec.column_type nodes.now table.now) (cond c.now) }
 {
@@ -344,12 +342,19 @@ fn arm_agrees(table: &[Typed], types: &[SqlType], range: OwnedQuant) -> bool
     }
 }
 
+// Whether the boxes under these have columns of these types.
+fn all_arms_agree(table: &[Typed], types: &[SqlType], ranges: &[OwnedQuant]) -> bool
+    ensures { result ≡ list_all (spec.arm_agrees table.now types.now) ranges.now }
+{
+    ranges.iter().all(|r| arm_agrees(table, types, *r))
+}
+
 // Whether the arms of a set operation have its types.
 fn arms_agree(table: &[Typed], kind: &BoxKind, ranges: &[OwnedQuant]) -> bool
     ensures { result ≡ spec.arms_agree table.now kind.now ranges.now }
 {
     match kind {
-        BoxKind::SetOp(_, types) => ranges.iter().all(|r| arm_agrees(table, types.as_slice(), *r)),
+        BoxKind::SetOp(_, types) => all_arms_agree(table, types.as_slice(), ranges),
         BoxKind::Base(_) | BoxKind::Select | BoxKind::Group(_) | BoxKind::OuterJoin => true,
     }
 }

@@ -24,11 +24,11 @@ pub if_ok : {A E X : Type 0} (r : Result A E) (a b x : X) → IsOk r → x ≡ (
 if_ok (Ok v) a b x h e = e
 if_ok (Err v) a b x h e = absurd (let q : ⊥ = cc in q)
 
-or_false : (a b : Bool) → (a || b) ≡ false → (a ≡ false) × (b ≡ false)
+pub or_false : (a b : Bool) → (a || b) ≡ false → (a ≡ false) × (b ≡ false)
 or_false true b h = absurd (let q : ⊥ = cc in q)
 or_false false b h = (refl, h)
 
-or_from : (a b : Bool) → a ≡ false → b ≡ false → (a || b) ≡ false
+pub or_from : (a b : Bool) → a ≡ false → b ≡ false → (a || b) ≡ false
 or_from true b h k = h
 or_from false b h k = k
 

@@ -3,7 +3,8 @@ use Rattle.std.specs.Prelude.{ℕ, ◌≡◌, ◌≤◌, ◌==◌, ◌++◌, Boo
 use Rattle.std.specs.List.{list_any, list_all, flat_map}
 use Rattle.sql_value.specs.declared.order_key.OrderKey.{OrderKey}
 use Rattle.qgm_core.specs.Kinds.{width_by}
-use Rattle.qgm_core.specs.Lists.{first, put_below}
+pub use Rattle.qgm_core.specs.Kinds.{is_F, is_base, is_enforce}
+pub use Rattle.qgm_core.specs.Lists.{change, first, put_below}
 use Rattle.qgm_core.specs.declared.node.Node.{Node}
 use Rattle.qgm_core.specs.declared.owned.Quant.{Quant}
 use Rattle.qgm_core.specs.declared.owned.OwnedQuant.{OwnedQuant}
@@ -38,6 +39,10 @@ numbers boxes = map (λ n. n.id) boxes
 -- how many columns a box has
 abbrev pub width : Node → ℕ
 width n = width_by n.parts.kind (length n.parts.head)
+
+-- a box in the place of box b
+abbrev pub replace : ℕ → Node → QueryGraph → QueryGraph
+replace b n g = record g { boxes = change (is_box b) (λ _. n) g.boxes }
 
 -- ---- quantifiers
 

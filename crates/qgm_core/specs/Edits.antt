@@ -12,6 +12,8 @@ use Rattle.qgm_core.specs.declared.node.Node.{Node}
 use Rattle.qgm_core.specs.declared.owned.OwnedQuant.{OwnedQuant}
 use Rattle.qgm_core.specs.declared.parts.BoxParts.{BoxParts}
 use Rattle.qgm_terms.specs.Conjuncts.{Conjuncts}
+use Rattle.qgm_terms.specs.Shift.{shifted, shifted_cond}
+use Rattle.qgm_terms.specs.Substitution.{substituted, substituted_cond}
 use Rattle.qgm_terms.specs.Terms.{Term, Cond}
 
 abbrev pub on_boxes : (List Node → List Node) → QueryGraph → QueryGraph
@@ -36,9 +38,12 @@ abbrev pub put_found : ℕ → Option Node → List Node → List Node
 put_found d None boxes = boxes
 put_found d (Some n) boxes = put_below (is_box d) n boxes
 
+abbrev pub moved_below : ℕ → ℕ → List Node → List Node
+moved_below c d boxes = put_found d (first (is_box c) boxes) (without (is_box c) boxes)
+
 -- box c stands just below box d
 abbrev pub move_below : ℕ → ℕ → QueryGraph → QueryGraph
-move_below c d g = on_boxes (λ boxes. put_found d (first (is_box c) boxes) (without (is_box c) boxes)) g
+move_below c d g = on_boxes (moved_below c d) g
 
 -- the boxes that the root reaches
 abbrev pub compact : QueryGraph → QueryGraph
@@ -82,6 +87,10 @@ with_cond c n = with_conds (record { items = n.parts.conds.items ++ c ∷ []; sp
 abbrev pub conds_in : Option Node → List Cond
 conds_in None = []
 conds_in (Some n) = n.parts.conds.items
+
+abbrev pub spare_in : Option Node → ℕ
+spare_in None = 0
+spare_in (Some n) = n.parts.conds.spare
 
 -- the condition of box b at place i, from 0
 abbrev pub cond_at : ℕ → ℕ → List Node → Option Cond
@@ -135,3 +144,35 @@ put_range_found b i (Some r) boxes = change (is_box b) (put_range i r) boxes
 -- a quantifier goes to box b, at place i from 0 among those that b then owns beside it
 abbrev pub move_quant : ℕ → ℕ → ℕ → QueryGraph → QueryGraph
 move_quant q b i g = on_boxes (λ boxes. put_range_found b i (range_in q (first (owns q) boxes)) (change (owns q) (without_quant q) boxes)) g
+
+-- ---- cells
+
+-- cells in place of a quantifier's columns
+abbrev pub put_cells : ℕ → List Term → Node → Node
+put_cells q cells n = record n { parts = record n.parts { conds = record n.parts.conds { items = map (substituted_cond q cells) n.parts.conds.items }; head = map (substituted q cells) n.parts.head } }
+
+abbrev pub substitute : ℕ → ℕ → List Term → QueryGraph → QueryGraph
+substitute b q cells g = on_box b (put_cells q cells) g
+
+abbrev pub head_in : Option Node → List Term
+head_in None = []
+head_in (Some n) = n.parts.head
+
+-- without the cell at place i, from 0
+abbrev pub without_cell : ℕ → Node → Node
+without_cell i n = record n { parts = record n.parts { head = remove n.parts.head i } }
+
+-- q loses its column k: later ones go down by one
+abbrev pub shift_node : ℕ → ℕ → Node → Node
+shift_node k q n = record n { parts = record n.parts { conds = record n.parts.conds { items = map (shifted_cond q k) n.parts.conds.items }; head = map (shifted q k) n.parts.head } }
+
+-- the quantifiers over box b
+abbrev pub quants_over : ℕ → List Node → List ℕ
+quants_over b boxes = map (λ r. r.id) (filter (λ r. r.over == b) (flat_map (λ n. n.quants) boxes))
+
+abbrev pub shift_boxes : ℕ → ℕ → List Node → List Node
+shift_boxes k q boxes = map (shift_node k q) boxes
+
+-- box b loses column k, from 1, and so does each quantifier over it
+abbrev pub drop_column : ℕ → ℕ → QueryGraph → QueryGraph
+drop_column b k g = on_boxes (λ boxes. each (shift_boxes k) (quants_over b boxes) (change (is_box b) (without_cell (k - 1)) boxes)) g

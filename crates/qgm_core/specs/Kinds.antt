@@ -70,6 +70,13 @@ is_fed Plain = false
 is_fed Magic = false
 is_fed Fed = true
 
+abbrev pub is_base : BoxKind → Bool
+is_base (Base table) = true
+is_base Select = false
+is_base (Group keys) = false
+is_base (SetOp operator types) = false
+is_base OuterJoin = false
+
 abbrev pub is_select : BoxKind → Bool
 is_select (Base table) = false
 is_select Select = true

@@ -1,9 +1,12 @@
 // The graph: its boxes in one list, each with the quantifiers that it owns.
-ghost use Rattle.std.specs.Prelude.{◌≡◌, ◌<◌, ◌≤◌, ◌+◌, ◌-◌, ◌∷◌, [], OnOk, OnErr, IfOk, IfSome, length, map, position, slice_get, Some, option_map, max, true, IsTrue, ◌↔◌};
+ghost use Rattle.std.specs.Prelude.{◌≡◌, ◌≤◌, ◌+◌, ◌-◌, ◌++◌, ◌∷◌, [], OnOk, OnErr, IfOk, IfSome, length, map, position, slice_get, Some, option_map, max, true, false, ◌==◌, IsTrue, ◌↔◌};
+ghost use Rattle.std.specs.List.{remove};
 ghost use Rattle.qgm_core.specs.Boxes as spec;
 ghost use Rattle.qgm_core.specs.Edits as edits;
 ghost use Rattle.qgm_core.specs.Free.{free};
 ghost use Rattle.qgm_core.specs.Lists.{EachOnce};
+ghost use Rattle.qgm_terms.specs.Shown.{cond};
+ghost use Rattle.qgm_terms.specs.Substitution.{substituted_cond};
 
 use crate::free::free_in;
 use crate::kinds::{BoxId, BoxKind, Distinct, QuantKind, Role};
@@ -12,7 +15,7 @@ use crate::owned::{Owned, OwnedQuant, Quant, range_of};
 use crate::parts::BoxParts;
 use crate::places::{box_place, new_place, owner_place};
 use crate::quants::Quants;
-use qgm_terms::{Conds, Head, QuantId};
+use qgm_terms::{Conds, Gc, Head, QuantId, ROOM, substitute_conds, substitute_head};
 use shared_types::OutOfMemory;
 use sql_value::{OrderKeys, OutNames};
 use std::alloc::Global;
@@ -242,6 +245,16 @@ impl Graph {
         Ok(id)
     }
 
+    /// Moves a box just below another one. It takes no memory.
+    pub fn move_below(&mut self, c: BoxId, d: BoxId)
+        requires moved { spec.HasBox c self.old }
+        requires below { spec.HasBox d self.old }
+        requires apart { (c == d) ≡ false }
+        ensures { self.new ≡ edits.move_below c d self.old }
+    {
+        move_below(&mut self.nodes, c, d);
+    }
+
     /// Gives a box another kind, role, conditions and head. It takes no memory.
     pub fn put_box(&mut self, b: BoxId, kind: BoxKind, role: Role, conds: Conds, head: Head)
         requires { spec.HasBox b self.old }
@@ -305,6 +318,106 @@ impl Graph {
         let k = owner_place(&self.nodes, q);
         self.nodes[k].quants.put_over(q, over);
     }
+
+    /// Moves a condition, by its place from 1, to the end of those of another box, where there is
+    /// room for it. It takes no memory.
+    pub fn move_conjunct(&mut self, b: BoxId, i: usize, to: BoxId)
+        requires from { spec.HasBox b self.old }
+        requires to { spec.HasBox to self.old }
+        requires from_one { 1 ≤ i }
+        requires within { i ≤ length (edits.conds_in (spec.box_of b self.old)) }
+        requires room { 1 ≤ edits.spare_in (spec.box_of to self.old) }
+        ensures { self.new ≡ edits.move_conjunct b (i - 1) to self.old }
+    {
+        let c = self.take_cond(b, i);
+        self.put_cond(to, c);
+    }
+
+    // Takes a condition out of a box, by its place from 1.
+    fn take_cond(&mut self, b: BoxId, i: usize) -> Gc
+        requires held { spec.HasBox b self.old }
+        requires from_one { 1 ≤ i }
+        requires within { i ≤ length (edits.conds_in (spec.box_of b self.old)) }
+        ensures taken { edits.cond_at b (i - 1) self.old.boxes ≡ Some (cond result) }
+        ensures graph { self.new ≡ edits.on_box b (edits.without_cond (i - 1)) self.old }
+    {
+        let k = box_place(&self.nodes, b);
+        take_cond(&mut self.nodes[k].parts.conds, i)
+    }
+
+    // Adds a condition to a box, at the end, where there is room for it.
+    fn put_cond(&mut self, b: BoxId, c: Gc)
+        requires held { spec.HasBox b self.old }
+        requires room { 1 ≤ edits.spare_in (spec.box_of b self.old) }
+        ensures { self.new ≡ edits.on_box b (edits.with_cond (cond c)) self.old }
+    {
+        let k = box_place(&self.nodes, b);
+        put_cond(&mut self.nodes[k].parts.conds, c);
+    }
+
+    /// Puts cells in place of a quantifier's columns, in a box's own cells and conditions.
+    pub fn substitute(
+        &mut self,
+        alloc: Global,
+        b: BoxId,
+        q: QuantId,
+        cells: &Head,
+    ) -> Result<(), OutOfMemory>
+        requires { spec.HasBox b self.old }
+        ensures ok { OnOk result (self.new ≡ edits.substitute b q cells.now self.old) }
+        ensures err { OnErr result (self.new ≡ self.old) }
+    {
+        let k = box_place(&self.nodes, b);
+        let head = substitute_head(alloc, &self.nodes[k].parts.head, q, cells, ROOM)?;
+        let conds = substituted_conds(alloc, &self.nodes[k].parts.conds, q, cells)?;
+        let parts = &mut self.nodes[k].parts;
+        parts.head = head;
+        parts.conds = conds;
+        Ok(())
+    }
+}
+
+// Moves a box just below another one.
+fn move_below(nodes: &mut Vec<Node>, c: BoxId, d: BoxId)
+    requires moved { spec.has_box nodes.old.items c ≡ true }
+    requires below { spec.has_box nodes.old.items d ≡ true }
+    requires apart { (c == d) ≡ false }
+    ensures { nodes.new.items ≡ edits.moved_below c d nodes.old.items }
+{
+    let i = box_place(nodes, c);
+    let node = nodes.remove(i);
+    let k = box_place(nodes, d);
+    let _ = nodes.insert(k + 1, node);
+}
+
+// Takes a condition out, by its place from 1.
+fn take_cond(conds: &mut Conds, i: usize) -> Gc
+    requires from_one { 1 ≤ i }
+    requires within { i ≤ length conds.old.items }
+    ensures taken { slice_get conds.old.items (i - 1) ≡ Some (cond result) }
+    ensures left { conds.new ≡ record conds.old { items = remove conds.old.items (i - 1) } }
+{
+    conds.remove(i)
+}
+
+// Adds a condition at the end, where there is room for it.
+fn put_cond(conds: &mut Conds, c: Gc)
+    requires { 1 ≤ conds.old.spare }
+    ensures { conds.new ≡ record { items = conds.old.items ++ cond c ∷ []; spare = conds.old.spare - 1 } }
+{
+    conds.push(c);
+}
+
+// Conditions with cells in place of a quantifier's columns.
+fn substituted_conds(
+    alloc: Global,
+    conds: &Conds,
+    q: QuantId,
+    cells: &Head,
+) -> Result<Conds, OutOfMemory>
+    ensures { IfOk result (λ a. a ≡ record conds.now { items = map (substituted_cond q cells.now) conds.now.items }) }
+{
+    substitute_conds(alloc, conds, q, cells, ROOM)
 }
 
 // Makes room for n more conditions.

@@ -1,3 +1,8 @@
 pub mod Lists
 pub mod Listed
 pub mod Removed
+pub mod Pushed
+pub mod InPlace
+pub mod Found
+pub mod Shifted
+pub mod Substituted

@@ -4,3 +4,7 @@ pub mod Named
 pub mod Shown
 pub mod TermCodes
 pub mod Conjuncts
+pub mod Wanted
+pub mod Shift
+pub mod Rebuilt
+pub mod Substitution

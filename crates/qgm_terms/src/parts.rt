@@ -1,8 +1,11 @@
 // The cells of a box, and its conditions.
-ghost use Rattle.std.specs.Prelude.{◌≡◌, ◌≤◌, ◌+◌, ◌-◌, ◌++◌, ◌∷◌, [], length, slice_get, Some, OnOk, OnErr, max};
+ghost use Rattle.std.specs.Prelude.{◌≡◌, ◌≤◌, ◌+◌, ◌-◌, ◌++◌, ◌∷◌, [], length, map, slice_get, Some, OnOk, OnErr, max};
 ghost use Rattle.std.specs.List.{remove};
+ghost use Rattle.qgm_terms.specs.Shift.{shifted, shifted_cond};
 ghost use Rattle.qgm_terms.specs.Shown.{cond, conds, term, terms};
 
+use crate::named::QuantId;
+use crate::shifts::{shift_cells, shift_conds};
 use crate::tree::{Gc, Gx};
 use shared_types::OutOfMemory;
 use std::alloc::Global;
@@ -70,6 +73,13 @@ impl Head {
     {
         self.terms.push(x)?;
         Ok(())
+    }
+
+    /// Shifts names of later columns of a quantifier that loses its column k. It takes no memory.
+    pub fn shift(&mut self, q: QuantId, k: usize)
+        ensures { self.new ≡ map (shifted q k) self.old }
+    {
+        shift_cells(&mut self.terms, q, k);
     }
 
     /// Drops a column, by its place from 1. It takes no memory.
@@ -170,6 +180,14 @@ impl Conds {
     {
         let _ = self.conds.push(c);
         self.spare -= 1;
+    }
+
+    /// Shifts names of later columns of a quantifier that loses its column k. It takes no memory.
+    pub fn shift(&mut self, q: QuantId, k: usize)
+        ensures items { self.new.items ≡ map (shifted_cond q k) self.old.items }
+        ensures spare { self.new.spare ≡ self.old.spare }
+    {
+        shift_conds(&mut self.conds, q, k);
     }
 
     /// Takes a condition out, by its place from 1. It takes no memory.

@@ -2,8 +2,8 @@
 use crate::named::QuantId;
 use shared_types::Text;
 
-/// How many levels of brackets and CASE an expression or a condition may have that is made; operands
-/// of a chain and arms of a CASE take one level, however many they are.
+/// How many levels of brackets and CASE within one another an expression or a condition may have. The
+/// operands of a chain and the arms of a CASE are one level, however many they are.
 pub const ROOM: usize = 4_096;
 
 /// An operation on two values.

@@ -1,0 +1,66 @@
+use Rattle.std.proofs.Common.{◌≡◌, ◌<◌, ◌∙◌, ap, length, map, get_or, arith}
+use Rattle.std.proofs.Math.ListN.{length-set}
+use Rattle.std.proofs.lemmas.Grind.{common_steps}
+use Rattle.qgm_terms.proofs.InPlace.{map_view_more, unvisited_more}
+use Rattle.qgm_terms.proofs.Shifted as chains
+use Rattle.qgm_terms.specs.declared.tree.Gc.TheViews.{roll-Arm, roll-Link}
+use Rattle.qgm_terms.specs.Shift.{shifted, shifted_choice, shifted_cond, shifted_link}
+use Rattle.qgm_terms.proofs.Lists.{links_hidden, choices_hidden, conds_hidden}
+use Rattle.qgm_terms.specs.Shown.{choice, choices, cond, conds, link, links, term}
+use Rattle.qgm_terms.specs.Terms.{Term, Cond, Link, Choice, linked, armed, anded, ored, choose}
+use Rattle.qgm_terms.proofs.shifts.+shift.Goals as goal
+
+pub shift-returns-in-Chain : goal.shift-returns-in-Chain
+shift-returns-in-Chain t c =
+    ap (linked (term c.shift.new.x)) (links_hidden _)
+    ∙ (rw (c.in-Chain.is, links_hidden c.in-Chain.list, chains.shifted_linked c.args.q c.args.k (term c.in-Chain.a.value) (links c.in-Chain.list.items)) (grind (arith, common_steps)))
+
+pub shift-returns-in-Case : goal.shift-returns-in-Case
+shift-returns-in-Case t c =
+    ap (λ s. choose (armed s) (term c.shift-in-Case.new.x)) (choices_hidden _)
+    ∙ (rw (c.in-Case.is, choices_hidden c.in-Case.list, chains.shifted_armed c.args.q c.args.k (choices c.in-Case.list.items)) (grind (arith, common_steps)))
+
+pub shift_arms-loop-i-preserved : goal.shift_arms-loop-i-preserved
+shift_arms-loop-i-preserved t c =
+    let f = shifted_choice c.args.q c.args.k in
+    let y = roll-Arm record { when = c.shift_cond.new.c; then = c.shift.new.x } in
+    let in_range : c.loop-i.i < length c.loop-i.list = omega arith in
+    record {
+      so_far = map_view_more choice f (choices c.args.list.now) c.loop-i.list c.loop-i.i y c.index-list-i.result in_range c.loop-i.invariant.so_far c.loop-i.invariant.same
+          (cc (c.shift_cond.ensures, c.shift.ensures));
+      same = simp length-set c.loop-i.invariant.same;
+      rest = unvisited_more c.args.list.now c.loop-i.list c.loop-i.i y c.loop-i.invariant.rest;
+    }
+
+pub shift_cond-returns-in-All : goal.shift_cond-returns-in-All
+shift_cond-returns-in-All t c =
+    ap (anded (cond c.shift_cond.new.c)) (conds_hidden _)
+    ∙ (rw (c.in-All.is, conds_hidden c.in-All.list, chains.shifted_anded c.args.q c.args.k (cond c.in-All.a.value) (conds c.in-All.list.items)) (grind (arith, common_steps)))
+
+pub shift_cond-returns-in-Any : goal.shift_cond-returns-in-Any
+shift_cond-returns-in-Any t c =
+    ap (ored (cond c.shift_cond-in-Any.new.c)) (conds_hidden _)
+    ∙ (rw (c.in-Any.is, conds_hidden c.in-Any.list, chains.shifted_ored c.args.q c.args.k (cond c.in-Any.a.value) (conds c.in-Any.list.items)) (grind (arith, common_steps)))
+
+pub shift_conds-loop-i-preserved : goal.shift_conds-loop-i-preserved
+shift_conds-loop-i-preserved t c =
+    let f = shifted_cond c.args.q c.args.k in
+    let in_range : c.loop-i.i < length c.loop-i.list = omega arith in
+    record {
+      so_far = map_view_more cond f (conds c.args.list.now) c.loop-i.list c.loop-i.i c.shift_cond.new.c c.index-list-i.result in_range c.loop-i.invariant.so_far c.loop-i.invariant.same c.shift_cond.ensures;
+      same = simp length-set c.loop-i.invariant.same;
+      rest = unvisited_more c.args.list.now c.loop-i.list c.loop-i.i c.shift_cond.new.c c.loop-i.invariant.rest;
+    }
+
+pub shift_links-loop-i-preserved : goal.shift_links-loop-i-preserved
+shift_links-loop-i-preserved t c =
+    let f = shifted_link c.args.q c.args.k in
+    let op = (get_or c.loop-i.list c.loop-i.i c.index-list-i.result).op in
+    let y = roll-Link record { op = op; right = c.shift.new.x } in
+    let in_range : c.loop-i.i < length c.loop-i.list = omega arith in
+    record {
+      so_far = map_view_more link f (links c.args.list.now) c.loop-i.list c.loop-i.i y c.index-list-i.result in_range c.loop-i.invariant.so_far c.loop-i.invariant.same
+          (ap (λ (x : Term). record { op = op; right = x }) c.shift.ensures);
+      same = simp length-set c.loop-i.invariant.same;
+      rest = unvisited_more c.args.list.now c.loop-i.list c.loop-i.i y c.loop-i.invariant.rest;
+    }

@@ -1,0 +1,138 @@
+// Expressions and conditions where a quantifier loses a column.
+ghost use Rattle.std.specs.Prelude.{◌≡◌, map};
+ghost use Rattle.qgm_terms.specs.Shift.{shifted, shifted_choices, shifted_cond, shifted_links};
+ghost use Rattle.qgm_terms.specs.Shown.{choices, cond, conds, links, term, terms};
+
+use crate::named::QuantId;
+use crate::tree::{Arm, Gc, Gx, Link};
+
+/// Names of later columns of the quantifier go down by one. It takes no memory.
+#[cycle(shift)]
+#[tactic(auto, using(crate::proofs::Lists::lists, crate::proofs::Shifted::shift_laws))]
+pub fn shift(x: &mut Gx, q: QuantId, k: usize)
+    ensures { term x.new ≡ shifted q k (term x.old) }
+{
+    match x {
+        Gx::Int(_) | Gx::Text(_) | Gx::NullInt | Gx::NullText | Gx::CountAll | Gx::Scalar(_) => {}
+        Gx::Col(r, place) => {
+            if *r == q && k < *place {
+                *place -= 1;
+            }
+        }
+        Gx::Chain(a, list) => {
+            shift(a, q, k);
+            shift_links(list, q, k);
+        }
+        Gx::Case(list, a) => {
+            shift_arms(list, q, k);
+            shift(a, q, k);
+        }
+        Gx::Neg(a) => shift(a, q, k),
+        Gx::Single(a) => shift(a, q, k),
+        Gx::Count(a) => shift(a, q, k),
+        Gx::Sum(a) => shift(a, q, k),
+        Gx::Avg(a) => shift(a, q, k),
+        Gx::Min(a) => shift(a, q, k),
+        Gx::Max(a) => shift(a, q, k),
+        Gx::CountDistinct(a) => shift(a, q, k),
+        Gx::SumDistinct(a) => shift(a, q, k),
+        Gx::AvgDistinct(a) => shift(a, q, k),
+        Gx::MinDistinct(a) => shift(a, q, k),
+        Gx::MaxDistinct(a) => shift(a, q, k),
+    }
+}
+
+#[cycle(shift)]
+fn shift_links(list: &mut [Link], q: QuantId, k: usize)
+    ensures { links list.new ≡ shifted_links q k (links list.old) }
+{
+    for i in 0..list.len() {
+        let link = &mut list[i];
+        shift(&mut link.right, q, k);
+    }
+}
+
+#[cycle(shift)]
+fn shift_arms(list: &mut [Arm], q: QuantId, k: usize)
+    ensures { choices list.new ≡ shifted_choices q k (choices list.old) }
+{
+    for i in 0..list.len() {
+        let arm = &mut list[i];
+        shift_cond(&mut arm.when, q, k);
+        shift(&mut arm.then, q, k);
+    }
+}
+
+/// The same in a condition.
+#[cycle(shift)]
+#[tactic(auto, using(crate::proofs::Lists::lists, crate::proofs::Shifted::shift_laws))]
+pub fn shift_cond(c: &mut Gc, q: QuantId, k: usize)
+    ensures { cond c.new ≡ shifted_cond q k (cond c.old) }
+{
+    match c {
+        Gc::True => {}
+        Gc::Eq(a, b) => {
+            shift(a, q, k);
+            shift(b, q, k);
+        }
+        Gc::Ne(a, b) => {
+            shift(a, q, k);
+            shift(b, q, k);
+        }
+        Gc::Lt(a, b) => {
+            shift(a, q, k);
+            shift(b, q, k);
+        }
+        Gc::Le(a, b) => {
+            shift(a, q, k);
+            shift(b, q, k);
+        }
+        Gc::Gt(a, b) => {
+            shift(a, q, k);
+            shift(b, q, k);
+        }
+        Gc::Ge(a, b) => {
+            shift(a, q, k);
+            shift(b, q, k);
+        }
+        Gc::Same(a, b) => {
+            shift(a, q, k);
+            shift(b, q, k);
+        }
+        Gc::Like(a, b) => {
+            shift(a, q, k);
+            shift(b, q, k);
+        }
+        Gc::IsNull(a) => shift(a, q, k),
+        Gc::All(a, list) => {
+            shift_cond(a, q, k);
+            shift_conds(list, q, k);
+        }
+        Gc::Any(a, list) => {
+            shift_cond(a, q, k);
+            shift_conds(list, q, k);
+        }
+        Gc::Not(a) => shift_cond(a, q, k),
+        Gc::Some(_, a) => shift_cond(a, q, k),
+        Gc::Every(_, a) => shift_cond(a, q, k),
+    }
+}
+
+/// The same in conditions.
+#[cycle(shift)]
+pub fn shift_conds(list: &mut [Gc], q: QuantId, k: usize)
+    ensures { conds list.new ≡ map (shifted_cond q k) (conds list.old) }
+{
+    for i in 0..list.len() {
+        shift_cond(&mut list[i], q, k);
+    }
+}
+
+/// The same in the cells of a head.
+pub fn shift_cells(list: &mut [Gx], q: QuantId, k: usize)
+    ensures { terms list.new ≡ map (shifted q k) (terms list.old) }
+{
+    for i in 0..list.len() {
+        shift(&mut list[i], q, k);
+    }
+}
