@@ -1,10 +1,10 @@
 -- The first element that passes.
 use Rattle.std.proofs.Common.{◌≡◌, ℕ, zero, suc, ◌<◌, ◌≤◌, ◌+◌, ◌||◌, Bool, true, false, List, [], ◌∷◌, length, get_or, refl, sym, ap, arith, Some, None, cond, nat_lt, not, position, insert, add-one}
 use Rattle.std.proofs.Math.ListN.{set}
-use Rattle.std.specs.List.{list_any, position_or_len}
+use Rattle.std.specs.List.{list_any, position_or_len, remove}
 use Rattle.std.proofs.lemmas.List.Quantifiers.{position-Some}
 use Rattle.std.proofs.lemmas.Bool.{ltb-false}
-use Rattle.qgm_core.specs.Boxes.{change, first, put_below, IsFirst}
+use Rattle.qgm_core.specs.Lists.{change, first, put_below, without, IsFirst}
 
 none_by : (m n : ℕ) (b : Bool) → b ≡ nat_lt m n → cond b (Some m) None ≡ None → n ≤ m
 none_by m n true h e = absurd (let q : ⊥ = cc in q)
@@ -34,6 +34,15 @@ module _ {X : Type 0} (p : X → Bool) where
   put_below_at (x ∷ xs) (suc i) y d h t n =
       rw (n zero (omega arith)) (ap (λ zs. x ∷ zs) (put_below_at xs i y d (omega arith) t (λ k l. n (suc k) (omega arith))))
 
+  without_at : (xs : List X) (i : ℕ) (d : X) → i < length xs → p (get_or xs i d) ≡ true → ((k : ℕ) → k < i → p (get_or xs k d) ≡ false) → remove xs i ≡ without p xs
+  without_at [] i d h t n = absurd (omega arith)
+  without_at (x ∷ xs) zero d h t n = rw t refl
+  without_at (x ∷ xs) (suc i) d h t n = rw (n zero (omega arith)) (ap (λ zs. x ∷ zs) (without_at xs i d (omega arith) t (λ k l. n (suc k) (omega arith))))
+
+  removed : (xs : List X) (i : ℕ) → position p xs ≡ Some i → remove xs i ≡ without p xs
+  removed [] i e = absurd (let q : ⊥ = cc in q)
+  removed (x ∷ xs) i e = let at = position-Some p (x ∷ xs) i x e in without_at (x ∷ xs) i x at.0 at.1 at.2
+
   within : (xs : List X) (i : ℕ) → position p xs ≡ Some i → i < length xs
   within [] i e = absurd (let q : ⊥ = cc in q)
   within (x ∷ xs) i e = (position-Some p (x ∷ xs) i x e).0
@@ -42,7 +51,7 @@ module _ {X : Type 0} (p : X → Bool) where
   is_first xs i e =
       let at = λ (d : X). position-Some p xs i d e in
       let h = within xs i e in
-      (h, (λ d. first_at xs i d h (at d).1 (at d).2), (λ d. (at d).1), λ f y d r. change_at f xs i y d h (at d).1 (at d).2 r)
+      (h, (λ d. first_at xs i d h (at d).1 (at d).2), (λ d. (at d).1), λ f y d r. change_at f xs i y d h (at d).1 (at d).2 r, removed xs i e)
 
   pub goes_below : (xs : List X) (i : ℕ) (y : X) → position p xs ≡ Some i → insert xs (i + 1) y ≡ put_below p y xs
   goes_below xs i y e = let at = position-Some p xs i y e in rw (add-one i) (put_below_at xs i y y (within xs i e) at.1 at.2)

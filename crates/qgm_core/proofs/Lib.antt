@@ -1,3 +1,5 @@
 pub mod First
 pub mod Fresh
 pub mod Ascending
+pub mod Changed
+pub mod Moved

@@ -1,27 +1,41 @@
--- The free quantifiers of a box.
-use Rattle.std.specs.Prelude.{ℕ, ◌==◌, ◌++◌, ◌&&◌, nat_lt, not, if◌then◌else◌, Bool, List, [], ◌∷◌, map, filter}
+-- What is below a box, and its free quantifiers.
+use Rattle.std.specs.Prelude.{ℕ, ◌≡◌, ◌++◌, ◌&&◌, ◌==◌, nat_lt, not, if◌then◌else◌, Bool, true, false, List, [], ◌∷◌, map, filter}
 use Rattle.std.specs.List.{list_any, flat_map}
-use Rattle.qgm_core.specs.Boxes.{QueryGraph, owns}
-use Rattle.qgm_core.specs.Terms.{names_in, names_in_cond}
-use Rattle.qgm_core.specs.declared.graph.Node.{Node}
-
-abbrev pub holds : ℕ → List ℕ → Bool
-holds b marks = list_any (λ m. m == b) marks
-
--- a box that is marked marks those that its quantifiers range over
-abbrev pub marked : List ℕ → Node → List ℕ
-marked marks n = if holds n.id marks then marks ++ map (λ r. r.over) n.quants else marks
-
--- what is reached from the marks, box by box in the order of the ranks
-abbrev pub reached : List ℕ → List Node → List ℕ
-reached marks [] = marks
-reached marks (n ∷ ns) = reached (marked marks n) ns
+use Rattle.qgm_core.specs.Boxes.{QueryGraph, owns, overs_of}
+use Rattle.qgm_core.specs.Lists.{In, holds}
+use Rattle.qgm_core.specs.declared.node.Node.{Node}
+use Rattle.qgm_core.specs.declared.owned.OwnedQuant.{OwnedQuant}
+use Rattle.qgm_terms.specs.Named.{names_in, names_in_cond}
 
 -- the quantifiers that a box names in its own cells and conditions
 abbrev pub named_by : Node → List ℕ
 named_by n = flat_map names_in n.parts.head ++ flat_map names_in_cond n.parts.conds.items
 
--- those that it names if it is marked
+-- b reaches c: it is c, or a quantifier of it ranges over a box that reaches c
+pub data Reaches (boxes : List Node) : ℕ → ℕ → Type 0 where
+  itself : (b : ℕ) → Reaches boxes b b
+  through : (n : Node) (r : OwnedQuant) (c : ℕ) → In n boxes → In r n.quants → Reaches boxes r.over c → Reaches boxes n.id c
+
+-- a box that b reaches names q
+abbrev pub NamedBelow : List Node → ℕ → ℕ → Type 0
+NamedBelow boxes b q = (n : Node) × (In n boxes × (Reaches boxes b n.id × (holds q (named_by n) ≡ true)))
+
+-- q is free in b: a box that b reaches names it, and none that b reaches owns it
+abbrev pub IsFree : List Node → ℕ → ℕ → Type 0
+IsFree boxes b q = NamedBelow boxes b q × ((n : Node) → In n boxes → Reaches boxes b n.id → owns q n ≡ false)
+
+-- ---- the same, box by box in the order of the ranks
+
+-- a box that is marked marks those that its quantifiers range over
+abbrev pub marked : List ℕ → Node → List ℕ
+marked marks n = if holds n.id marks then marks ++ overs_of n else marks
+
+-- what is reached from the marks
+abbrev pub reached : List ℕ → List Node → List ℕ
+reached marks [] = marks
+reached marks (n ∷ ns) = reached (marked marks n) ns
+
+-- what a box names if it is marked
 abbrev pub named_where : List ℕ → Node → List ℕ
 named_where marks n = if holds n.id marks then named_by n else []
 

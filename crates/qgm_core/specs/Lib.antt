@@ -1,10 +1,7 @@
-pub mod Terms
-pub mod TermCodes
-pub mod Shown
-pub mod Conjuncts
+pub mod Lists
+pub mod Kinds
 pub mod Boxes
+pub mod Numbered
+pub mod Edits
 pub mod Free
-pub mod Columns
-pub mod Types
-pub mod Shapes
-pub mod WellFormed
+pub mod Walk

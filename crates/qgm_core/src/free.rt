@@ -3,24 +3,23 @@ ghost use Rattle.std.specs.Prelude.{◌≡◌, ◌++◌, ◌∷◌, [], ◌<◌,
 ghost use Rattle.std.specs.List.{list_any, flat_map};
 ghost use Rattle.qgm_core.specs.Boxes.{owns};
 ghost use Rattle.qgm_core.specs.Free as spec;
-ghost use Rattle.qgm_core.specs.Terms.{names_in, names_in_cond};
+ghost use Rattle.qgm_core.specs.Lists.{holds};
 
-use crate::graph::{Node, has_range};
-use crate::kinds::{BoxId, QuantId};
-use crate::names::{add_names, add_names_of_cond};
-use crate::owned::OwnedQuant;
-use crate::parts::{Conds, Head};
+use crate::kinds::BoxId;
+use crate::node::Node;
+use crate::owned::{OwnedQuant, has_range};
+use qgm_terms::{QuantId, add_names_of_cells, add_names_of_conds};
 use shared_types::OutOfMemory;
 use std::alloc::Global;
 
-// Whether a box is among those marked.
+/// Whether a box is among those marked.
 pub fn is_marked(marks: &[BoxId], b: BoxId) -> bool
-    ensures { result ≡ spec.holds b marks.now }
+    ensures { result ≡ holds b marks.now }
 {
     marks.iter().any(|m| *m == b)
 }
 
-// Marks the boxes that these quantifiers range over.
+/// Marks the boxes that these quantifiers range over.
 pub fn mark_each(ranges: &[OwnedQuant], marks: &mut Vec<BoxId>) -> Result<(), OutOfMemory>
     ensures { OnOk result (marks.new.items ≡ marks.old.items ++ map (λ r. r.over) ranges.now) }
 {
@@ -52,32 +51,12 @@ fn reached(alloc: Global, nodes: &[Node], b: BoxId) -> Result<Vec<BoxId>, OutOfM
     Ok(marks)
 }
 
-// Appends what a head names.
-fn add_names_of_head(head: &Head, out: &mut Vec<QuantId>) -> Result<(), OutOfMemory>
-    ensures { OnOk result (out.new.items ≡ out.old.items ++ flat_map names_in head.now) }
-{
-    for k in 0..head.len() {
-        add_names(head.at(k + 1), out)?;
-    }
-    Ok(())
-}
-
-// Appends what conditions name.
-fn add_names_of_conds(conds: &Conds, out: &mut Vec<QuantId>) -> Result<(), OutOfMemory>
-    ensures { OnOk result (out.new.items ≡ out.old.items ++ flat_map names_in_cond conds.now.items) }
-{
-    for i in 0..conds.len() {
-        add_names_of_cond(conds.at(i + 1), out)?;
-    }
-    Ok(())
-}
-
-// Appends what a box names.
+/// Appends what a box names.
 pub fn add_names_of_node(node: &Node, out: &mut Vec<QuantId>) -> Result<(), OutOfMemory>
     ensures { OnOk result (out.new.items ≡ out.old.items ++ spec.named_by node.now) }
 {
-    add_names_of_head(&node.parts.head, out)?;
-    add_names_of_conds(&node.parts.conds, out)
+    add_names_of_cells(node.parts.head.as_slice(), out)?;
+    add_names_of_conds(node.parts.conds.as_slice(), out)
 }
 
 // Appends what a box names, where it is marked.
@@ -138,7 +117,7 @@ fn put_once(out: &mut Vec<QuantId>, q: QuantId) -> Result<(), OutOfMemory>
     Ok(())
 }
 
-// The free quantifiers of a box, ascending.
+/// The free quantifiers of a box, ascending.
 pub fn free_in(alloc: Global, nodes: &[Node], b: BoxId) -> Result<Vec<QuantId>, OutOfMemory>
     ensures { IfOk result (λ free. free.items ≡ spec.free_in nodes.now b) }
 {

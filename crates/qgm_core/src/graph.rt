@@ -1,28 +1,25 @@
 // The graph: its boxes in one list, each with the quantifiers that it owns.
-ghost use Rattle.std.specs.Prelude.{◌≡◌, ◌<◌, ◌≤◌, ◌+◌, ◌-◌, ◌∷◌, [], OnErr, IfOk, IfSome, length, map, position, slice_get, Some, option_map, true, IsTrue, ◌↔◌};
-ghost use Rattle.std.specs.List.{list_any};
+ghost use Rattle.std.specs.Prelude.{◌≡◌, ◌≤◌, ◌+◌, ◌-◌, ◌++◌, ◌∷◌, [], OnOk, OnErr, IfOk, IfSome, length, map, position, slice_get, Some, option_map, max, true, false, ◌==◌, IsTrue, ◌↔◌};
+ghost use Rattle.std.specs.List.{remove};
 ghost use Rattle.qgm_core.specs.Boxes as spec;
+ghost use Rattle.qgm_core.specs.Edits as edits;
 ghost use Rattle.qgm_core.specs.Free.{free};
-ghost use Rattle.qgm_core.specs.WellFormed.{fault};
+ghost use Rattle.qgm_core.specs.Lists.{EachOnce};
+ghost use Rattle.qgm_terms.specs.Shown.{cond};
+ghost use Rattle.qgm_terms.specs.Substitution.{substituted_cond};
 
-use crate::check::{Clause, Fault, first_fault};
 use crate::free::free_in;
-use crate::kinds::{BoxId, QuantId, QuantKind};
-use crate::owned::{Owned, OwnedQuant, Quant};
+use crate::kinds::{BoxId, BoxKind, Distinct, QuantKind, Role};
+use crate::node::Node;
+use crate::owned::{Owned, OwnedQuant, Quant, range_of};
 use crate::parts::BoxParts;
+use crate::places::{box_place, new_place, owner_place};
 use crate::quants::Quants;
+use qgm_terms::{Conds, Gc, Head, QuantId, ROOM, substitute_conds, substitute_head};
 use shared_types::OutOfMemory;
 use sql_value::{OrderKeys, OutNames};
 use std::alloc::Global;
 use std::marker::Model;
-
-// A box: its number, its parts, and the quantifiers that it owns.
-#[derive(Drop)]
-pub struct Node {
-    pub id: BoxId,
-    pub parts: BoxParts,
-    pub quants: Owned,
-}
 
 /// A query as a graph of boxes (Pirahesh, Hellerstein and Hasan 1992, 2). Contracts see it as the
 /// list of its boxes by rank, each with its quantifiers by place, the number of its root, the names
@@ -40,10 +37,10 @@ pub struct Graph {
 }
 
 impl Model for Graph {
-    ghost use Rattle.std.specs.Prelude.{◌<◌, All};
     ghost use Rattle.std.specs.Coded.{codes};
     ghost use Rattle.qgm_core.specs.Boxes.{QueryGraph};
-    ghost use Rattle.qgm_core.specs.TermCodes.{coded_term, coded_cond};
+    ghost use Rattle.qgm_core.specs.Numbered.{Numbered};
+    ghost use Rattle.qgm_terms.specs.TermCodes.{coded_term, coded_cond};
 
     ghost Value = { QueryGraph };
 
@@ -51,7 +48,7 @@ impl Model for Graph {
 
     ghost view = { λ g. record { boxes = g.nodes.items; root = g.root; names = g.names; order = g.order } };
 
-    ghost invariant = { λ g. (All (λ n. n.id < g.next_box) g.nodes.items) × (All (λ n. All (λ r. r.id < g.next_quant) n.quants) g.nodes.items) };
+    ghost invariant = { λ g. Numbered g.next_box g.next_quant g.nodes.items };
 }
 
 impl Graph {
@@ -114,6 +111,20 @@ impl Graph {
         ensures { Some result ≡ position (spec.is_box b) self.now.boxes }
     {
         box_place(&self.nodes, b)
+    }
+
+    /// The boxes, by rank.
+    pub fn nodes(&self) -> &[Node]
+        ensures { result.now ≡ self.now.boxes }
+    {
+        &self.nodes
+    }
+
+    /// No two boxes have one number. It does nothing.
+    pub fn each_number_once(&self)
+        ensures { EachOnce (spec.numbers self.now.boxes) }
+    {
+        let _root = self.root;
     }
 
     /// The parts of a box.
@@ -183,24 +194,6 @@ impl Graph {
         Ok(free.is_empty())
     }
 
-    // The least clause that fails, with the least box at which it does.
-    pub(crate) fn fault(&self, alloc: Global) -> Result<Option<Fault>, OutOfMemory>
-        ensures { IfOk result (λ f. f ≡ fault self.now) }
-    {
-        let clauses = [
-            Clause::I1,
-            Clause::I2,
-            Clause::I3,
-            Clause::I4,
-            Clause::I5,
-            Clause::I6,
-            Clause::I7,
-            Clause::I8,
-            Clause::I9,
-        ];
-        first_fault(alloc, &clauses, self.root, &self.nodes)
-    }
-
     /// Adds a box that owns no quantifier: last, or just below the named one.
     pub fn add_box(
         &mut self,
@@ -210,7 +203,7 @@ impl Graph {
     ) -> Result<BoxId, OutOfMemory>
         requires { IfSome below (λ c. spec.HasBox c self.old) }
         ensures fresh { IfOk result (λ b. spec.HasBox b self.old → ⊥) }
-        ensures ok { IfOk result (λ b. self.new ≡ spec.with_box below (spec.bare_box b parts) self.old) }
+        ensures ok { IfOk result (λ b. self.new ≡ edits.with_box below (spec.bare_box b parts) self.old) }
         ensures err { OnErr result (self.new ≡ self.old) }
     {
         let id = self.next_box;
@@ -237,7 +230,7 @@ impl Graph {
         requires from_one { 1 ≤ place }
         requires within { place ≤ length (spec.quants_of owner self.old) + 1 }
         ensures fresh { IfOk result (λ q. spec.HasQuant q self.old → ⊥) }
-        ensures ok { IfOk result (λ q. self.new ≡ spec.with_quant owner (place - 1) (spec.range q kind over) self.old) }
+        ensures ok { IfOk result (λ q. self.new ≡ edits.with_quant owner (place - 1) (edits.range q kind over) self.old) }
         ensures err { OnErr result (self.new ≡ self.old) }
     {
         let id = self.next_quant;
@@ -251,91 +244,186 @@ impl Graph {
         self.next_quant = id + 1;
         Ok(id)
     }
-}
 
-// Where a box stands, if it does.
-fn find_box(nodes: &[Node], b: BoxId) -> Option<usize>
-    ensures { result ≡ position (spec.is_box b) nodes.now }
-{
-    nodes.iter().position(|n| n.id == b)
-}
+    /// Moves a box just below another one. It takes no memory.
+    pub fn move_below(&mut self, c: BoxId, d: BoxId)
+        requires moved { spec.HasBox c self.old }
+        requires below { spec.HasBox d self.old }
+        requires apart { (c == d) ≡ false }
+        ensures { self.new ≡ edits.move_below c d self.old }
+    {
+        move_below(&mut self.nodes, c, d);
+    }
 
-// Where a box stands.
-fn box_place(nodes: &[Node], b: BoxId) -> usize
-    requires { list_any (spec.is_box b) nodes.now ≡ true }
-    ensures at { Some result ≡ position (spec.is_box b) nodes.now }
-    ensures first { spec.IsFirst (spec.is_box b) nodes.now result }
-{
-    let Some(i) = find_box(nodes, b) else {
-        unreachable!()
-    };
-    i
-}
+    /// Gives a box another kind, role, conditions and head. It takes no memory.
+    pub fn put_box(&mut self, b: BoxId, kind: BoxKind, role: Role, conds: Conds, head: Head)
+        requires { spec.HasBox b self.old }
+        ensures { self.new ≡ edits.put_box b kind role conds head self.old }
+    {
+        let k = box_place(&self.nodes, b);
+        let distinct = self.nodes[k].parts.distinct;
+        self.nodes[k].parts = BoxParts {
+            kind,
+            distinct,
+            role,
+            conds,
+            head,
+        };
+    }
 
-// Where a new box goes: last, or just below the named one.
-fn new_place(nodes: &[Node], below: Option<BoxId>) -> usize
-    requires { IfSome below (λ c. list_any (spec.is_box c) nodes.now ≡ true) }
-    ensures { spec.IsNewPlace below nodes.now result }
-{
-    match below {
-        Some(c) => box_place(nodes, c) + 1,
-        None => nodes.len(),
+    /// Sets whether a box gives rows more than once. It takes no memory.
+    pub fn set_distinct(&mut self, b: BoxId, distinct: Distinct)
+        requires { spec.HasBox b self.old }
+        ensures { self.new ≡ edits.set_distinct b distinct self.old }
+    {
+        let k = box_place(&self.nodes, b);
+        self.nodes[k].parts.distinct = distinct;
+    }
+
+    /// Makes room for n more conditions of a box.
+    pub fn reserve(&mut self, b: BoxId, n: usize) -> Result<(), OutOfMemory>
+        requires { spec.HasBox b self.old }
+        ensures ok { OnOk result (self.new ≡ edits.reserve b n self.old) }
+        ensures err { OnErr result (self.new ≡ self.old) }
+    {
+        let k = box_place(&self.nodes, b);
+        make_room(&mut self.nodes[k].parts.conds, n)?;
+        Ok(())
+    }
+
+    /// Drops a quantifier. It takes no memory.
+    pub fn drop_quant(&mut self, q: QuantId)
+        requires { spec.HasQuant q self.old }
+        ensures { self.new ≡ edits.drop_quant q self.old }
+    {
+        let k = owner_place(&self.nodes, q);
+        self.nodes[k].quants.remove(q);
+    }
+
+    /// Sets what a quantifier ranges for. It takes no memory.
+    pub fn put_quant(&mut self, q: QuantId, kind: QuantKind)
+        requires { spec.HasQuant q self.old }
+        ensures { self.new ≡ edits.put_quant q kind self.old }
+    {
+        let k = owner_place(&self.nodes, q);
+        self.nodes[k].quants.put_kind(q, kind);
+    }
+
+    /// Sets the box that a quantifier ranges over. It takes no memory.
+    pub fn redirect(&mut self, q: QuantId, over: BoxId)
+        requires quant { spec.HasQuant q self.old }
+        requires over { spec.HasBox over self.old }
+        ensures { self.new ≡ edits.redirect q over self.old }
+    {
+        let k = owner_place(&self.nodes, q);
+        self.nodes[k].quants.put_over(q, over);
+    }
+
+    /// Moves a condition, by its place from 1, to the end of those of another box, where there is
+    /// room for it. It takes no memory.
+    pub fn move_conjunct(&mut self, b: BoxId, i: usize, to: BoxId)
+        requires from { spec.HasBox b self.old }
+        requires to { spec.HasBox to self.old }
+        requires from_one { 1 ≤ i }
+        requires within { i ≤ length (edits.conds_in (spec.box_of b self.old)) }
+        requires room { 1 ≤ edits.spare_in (spec.box_of to self.old) }
+        ensures { self.new ≡ edits.move_conjunct b (i - 1) to self.old }
+    {
+        let c = self.take_cond(b, i);
+        self.put_cond(to, c);
+    }
+
+    // Takes a condition out of a box, by its place from 1.
+    fn take_cond(&mut self, b: BoxId, i: usize) -> Gc
+        requires held { spec.HasBox b self.old }
+        requires from_one { 1 ≤ i }
+        requires within { i ≤ length (edits.conds_in (spec.box_of b self.old)) }
+        ensures taken { edits.cond_at b (i - 1) self.old.boxes ≡ Some (cond result) }
+        ensures graph { self.new ≡ edits.on_box b (edits.without_cond (i - 1)) self.old }
+    {
+        let k = box_place(&self.nodes, b);
+        take_cond(&mut self.nodes[k].parts.conds, i)
+    }
+
+    // Adds a condition to a box, at the end, where there is room for it.
+    fn put_cond(&mut self, b: BoxId, c: Gc)
+        requires held { spec.HasBox b self.old }
+        requires room { 1 ≤ edits.spare_in (spec.box_of b self.old) }
+        ensures { self.new ≡ edits.on_box b (edits.with_cond (cond c)) self.old }
+    {
+        let k = box_place(&self.nodes, b);
+        put_cond(&mut self.nodes[k].parts.conds, c);
+    }
+
+    /// Puts cells in place of a quantifier's columns, in a box's own cells and conditions.
+    pub fn substitute(
+        &mut self,
+        alloc: Global,
+        b: BoxId,
+        q: QuantId,
+        cells: &Head,
+    ) -> Result<(), OutOfMemory>
+        requires { spec.HasBox b self.old }
+        ensures ok { OnOk result (self.new ≡ edits.substitute b q cells.now self.old) }
+        ensures err { OnErr result (self.new ≡ self.old) }
+    {
+        let k = box_place(&self.nodes, b);
+        let head = substitute_head(alloc, &self.nodes[k].parts.head, q, cells, ROOM)?;
+        let conds = substituted_conds(alloc, &self.nodes[k].parts.conds, q, cells)?;
+        let parts = &mut self.nodes[k].parts;
+        parts.head = head;
+        parts.conds = conds;
+        Ok(())
     }
 }
 
-// Whether one of the quantifiers has the number.
-pub fn has_range(ranges: &[OwnedQuant], q: QuantId) -> bool
-    ensures { result ≡ list_any (spec.is_quant q) ranges.now }
+// Moves a box just below another one.
+fn move_below(nodes: &mut Vec<Node>, c: BoxId, d: BoxId)
+    requires moved { spec.has_box nodes.old.items c ≡ true }
+    requires below { spec.has_box nodes.old.items d ≡ true }
+    requires apart { (c == d) ≡ false }
+    ensures { nodes.new.items ≡ edits.moved_below c d nodes.old.items }
 {
-    ranges.iter().any(|r| r.id == q)
+    let i = box_place(nodes, c);
+    let node = nodes.remove(i);
+    let k = box_place(nodes, d);
+    let _ = nodes.insert(k + 1, node);
 }
 
-// Whether one of the boxes has the number.
-pub fn has_box(nodes: &[Node], b: BoxId) -> bool
-    ensures { result ≡ list_any (spec.is_box b) nodes.now }
+// Takes a condition out, by its place from 1.
+fn take_cond(conds: &mut Conds, i: usize) -> Gc
+    requires from_one { 1 ≤ i }
+    requires within { i ≤ length conds.old.items }
+    ensures taken { slice_get conds.old.items (i - 1) ≡ Some (cond result) }
+    ensures left { conds.new ≡ record conds.old { items = remove conds.old.items (i - 1) } }
 {
-    nodes.iter().any(|n| n.id == b)
+    conds.remove(i)
 }
 
-// Whether one of the boxes owns the quantifier.
-pub fn is_owned_quant(nodes: &[Node], q: QuantId) -> bool
-    ensures { result ≡ list_any (spec.owns q) nodes.now }
+// Adds a condition at the end, where there is room for it.
+fn put_cond(conds: &mut Conds, c: Gc)
+    requires { 1 ≤ conds.old.spare }
+    ensures { conds.new ≡ record { items = conds.old.items ++ cond c ∷ []; spare = conds.old.spare - 1 } }
 {
-    nodes.iter().any(|n| has_range(n.quants.as_slice(), q))
+    conds.push(c);
 }
 
-// Where the owner of a quantifier stands, if it has one.
-fn find_owner(nodes: &[Node], q: QuantId) -> Option<usize>
-    ensures { result ≡ position (spec.owns q) nodes.now }
+// Conditions with cells in place of a quantifier's columns.
+fn substituted_conds(
+    alloc: Global,
+    conds: &Conds,
+    q: QuantId,
+    cells: &Head,
+) -> Result<Conds, OutOfMemory>
+    ensures { IfOk result (λ a. a ≡ record conds.now { items = map (substituted_cond q cells.now) conds.now.items }) }
 {
-    nodes.iter().position(|n| has_range(n.quants.as_slice(), q))
+    substitute_conds(alloc, conds, q, cells, ROOM)
 }
 
-// Where the owner of a quantifier stands.
-fn owner_place(nodes: &[Node], q: QuantId) -> usize
-    requires { list_any (spec.owns q) nodes.now ≡ true }
-    ensures { spec.IsFirst (spec.owns q) nodes.now result }
+// Makes room for n more conditions.
+fn make_room(conds: &mut Conds, n: usize) -> Result<(), OutOfMemory>
+    ensures ok { OnOk result (conds.new ≡ record conds.old { spare = max conds.old.spare n }) }
+    ensures err { OnErr result (conds.new ≡ conds.old) }
 {
-    let Some(i) = find_owner(nodes, q) else {
-        unreachable!()
-    };
-    i
-}
-
-// Where a quantifier stands in its owner, if it does.
-fn find_range(ranges: &[OwnedQuant], q: QuantId) -> Option<usize>
-    ensures { result ≡ position (spec.is_quant q) ranges.now }
-{
-    ranges.iter().position(|r| r.id == q)
-}
-
-// A quantifier in its owner.
-fn range_of(ranges: &[OwnedQuant], q: QuantId) -> OwnedQuant
-    requires { list_any (spec.is_quant q) ranges.now ≡ true }
-    ensures { Some result ≡ spec.first (spec.is_quant q) ranges.now }
-{
-    let Some(i) = find_range(ranges, q) else {
-        unreachable!()
-    };
-    ranges[i]
+    conds.reserve(n)
 }

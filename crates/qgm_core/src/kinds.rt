@@ -6,16 +6,6 @@ use sqlite_items::Items;
 /// The number of a box.
 pub type BoxId = usize;
 
-/// The number of a quantifier.
-pub type QuantId = usize;
-
-/// A column of a quantifier's row, by its place from 1.
-#[derive(Clone, Copy, Debug, PartialEq, Eq)]
-pub struct Column {
-    pub quant: QuantId,
-    pub place: usize,
-}
-
 /// A stored table: what a graph knows of it.
 #[derive(Drop)]
 pub struct BaseTable {
@@ -28,6 +18,17 @@ pub struct BaseTable {
     pub not_null: Items<usize>,
 }
 
+/// How the rows of two tables are put together (SQL-92, 7.10).
+#[derive(Clone, Copy, Debug, PartialEq, Eq)]
+pub enum SetOperator {
+    Union,
+    UnionAll,
+    Intersect,
+    IntersectAll,
+    Except,
+    ExceptAll,
+}
+
 /// What a box does (Pirahesh, Hellerstein and Hasan 1992, 2.1).
 #[derive(Drop)]
 pub enum BoxKind {
@@ -35,6 +36,12 @@ pub enum BoxKind {
     Base(BaseTable),
     /// It selects, projects and joins.
     Select,
+    /// It groups rows by so many keys, the first cells of its head, and folds each group.
+    Group(usize),
+    /// It puts the rows of two boxes together, whose columns have these types.
+    SetOp(SetOperator, Items<SqlType>),
+    /// It joins rows, and keeps those of the left box that have no partner.
+    OuterJoin,
 }
 
 /// What a quantifier ranges for (Pirahesh, Hellerstein and Hasan 1992, 2.1).

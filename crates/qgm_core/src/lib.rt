@@ -1,24 +1,22 @@
 //! The query graph: boxes that stand in one list, and the quantifiers that they own.
 #![tactic(auto)]
 
-mod check;
-mod columns;
-mod columns_fit;
 mod free;
 mod graph;
 mod kinds;
-mod names;
+mod node;
 mod owned;
 mod parts;
+mod places;
 mod quants;
-mod shapes;
-mod tree;
-mod types;
 
-pub use check::{Clause, Fault, IllFormed, check_graph};
+pub use free::{add_names_of_node, free_in, is_marked, mark_each};
 pub use graph::Graph;
-pub use kinds::{BaseTable, BoxId, BoxKind, Distinct, QuantId, QuantKind, Role};
-pub use owned::Quant;
-pub use parts::{BoxParts, Conds, Head};
+pub use kinds::{BaseTable, BoxId, BoxKind, Distinct, QuantKind, Role, SetOperator};
+pub use node::Node;
+pub use owned::{Owned, OwnedQuant, Quant, has_range};
+pub use parts::BoxParts;
+pub use places::{has_box, has_quant};
+pub use qgm_terms::{Arm, Column, Conds, Gc, Gx, Head, Link, Op, QuantId, QuantNode};
 pub use quants::Quants;
-pub use tree::{Arms, Gc, Gx};
+pub use rewrite_plan::Walk;

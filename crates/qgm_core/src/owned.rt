@@ -1,8 +1,12 @@
 // The quantifiers that a box owns.
-ghost use Rattle.std.specs.Prelude.{◌≡◌, ◌≤◌, [], length, map, insert, OnOk, OnErr};
+ghost use Rattle.std.specs.Prelude.{◌≡◌, ◌≤◌, [], Some, true, length, map, insert, position, OnOk, OnErr};
+ghost use Rattle.std.specs.List.{list_any};
+ghost use Rattle.qgm_core.specs.Boxes.{is_quant};
+ghost use Rattle.qgm_core.specs.Lists.{IsFirst, change, first, without};
 
-use crate::kinds::{BoxId, QuantId, QuantKind};
+use crate::kinds::{BoxId, QuantKind};
 use crate::quants::Quants;
+use qgm_terms::QuantId;
 use shared_types::OutOfMemory;
 use std::alloc::Global;
 use std::marker::Model;
@@ -16,7 +20,8 @@ pub struct Quant {
     pub over: BoxId,
 }
 
-// A quantifier in the box that owns it.
+/// A quantifier in the box that owns it: its number, what it ranges for, and the box that it ranges
+/// over.
 #[derive(Clone, Copy, Debug)]
 pub struct OwnedQuant {
     pub id: QuantId,
@@ -24,7 +29,7 @@ pub struct OwnedQuant {
     pub over: BoxId,
 }
 
-// The quantifiers of a box, by place. Contracts see it as the list of them.
+/// The quantifiers of a box, by place. Contracts see it as the list of them.
 #[derive(Debug, Drop)]
 pub struct Owned {
     ids: Quants,
@@ -44,7 +49,7 @@ impl Model for Owned {
 
 impl Owned {
     // No quantifier.
-    pub fn new(alloc: Global) -> Owned
+    pub(crate) fn new(alloc: Global) -> Owned
         ensures { result ≡ [] }
     {
         Owned {
@@ -53,14 +58,14 @@ impl Owned {
         }
     }
 
-    // The numbers of the quantifiers.
+    /// The numbers of the quantifiers.
     pub fn ids(&self) -> &Quants
         ensures { result.now ≡ map (λ r. r.id) self.now }
     {
         &self.ids
     }
 
-    // The quantifiers.
+    /// The quantifiers.
     pub fn as_slice(&self) -> &[OwnedQuant]
         ensures { result.now ≡ self.now }
     {
@@ -68,7 +73,7 @@ impl Owned {
     }
 
     // Puts a quantifier at a place, from 0.
-    pub fn insert(&mut self, i: usize, r: OwnedQuant) -> Result<(), OutOfMemory>
+    pub(crate) fn insert(&mut self, i: usize, r: OwnedQuant) -> Result<(), OutOfMemory>
         requires { i ≤ length self.old }
         ensures ok { OnOk result (self.new ≡ insert self.old i r) }
         ensures err { OnErr result (self.new ≡ self.old) }
@@ -78,4 +83,66 @@ impl Owned {
         let _ = self.ranges.insert(i, r);
         Ok(())
     }
+
+    // Takes a quantifier out. It takes no memory.
+    pub(crate) fn remove(&mut self, q: QuantId)
+        requires { list_any (is_quant q) self.old ≡ true }
+        ensures { self.new ≡ without (is_quant q) self.old }
+    {
+        let i = range_place(&self.ranges, q);
+        self.ids.remove(i);
+        let _dropped = self.ranges.remove(i);
+    }
+
+    // What a quantifier ranges for is this now. It takes no memory.
+    pub(crate) fn put_kind(&mut self, q: QuantId, kind: QuantKind)
+        requires { list_any (is_quant q) self.old ≡ true }
+        ensures { self.new ≡ change (is_quant q) (λ r. record r { kind = kind }) self.old }
+    {
+        let i = range_place(&self.ranges, q);
+        self.ranges[i].kind = kind;
+    }
+
+    // A quantifier ranges over this box now. It takes no memory.
+    pub(crate) fn put_over(&mut self, q: QuantId, over: BoxId)
+        requires { list_any (is_quant q) self.old ≡ true }
+        ensures { self.new ≡ change (is_quant q) (λ r. record r { over = over }) self.old }
+    {
+        let i = range_place(&self.ranges, q);
+        self.ranges[i].over = over;
+    }
+}
+
+/// Whether one of the quantifiers has the number.
+pub fn has_range(ranges: &[OwnedQuant], q: QuantId) -> bool
+    ensures { result ≡ list_any (is_quant q) ranges.now }
+{
+    ranges.iter().any(|r| r.id == q)
+}
+
+// Where a quantifier stands in its owner, if it does.
+fn find_range(ranges: &[OwnedQuant], q: QuantId) -> Option<usize>
+    ensures { result ≡ position (is_quant q) ranges.now }
+{
+    ranges.iter().position(|r| r.id == q)
+}
+
+// Where a quantifier stands in its owner.
+fn range_place(ranges: &[OwnedQuant], q: QuantId) -> usize
+    requires { list_any (is_quant q) ranges.now ≡ true }
+    ensures { IsFirst (is_quant q) ranges.now result }
+{
+    let Some(i) = find_range(ranges, q) else {
+        unreachable!()
+    };
+    i
+}
+
+// A quantifier in its owner.
+pub fn range_of(ranges: &[OwnedQuant], q: QuantId) -> OwnedQuant
+    requires { list_any (is_quant q) ranges.now ≡ true }
+    ensures { Some result ≡ first (is_quant q) ranges.now }
+{
+    let i = range_place(ranges, q);
+    ranges[i]
 }

@@ -1,7 +1,8 @@
 // The numbers of a box's quantifiers.
-ghost use Rattle.std.specs.Prelude.{◌≡◌, ◌≤◌, [], length, insert, OnOk, OnErr};
+ghost use Rattle.std.specs.Prelude.{◌≡◌, ◌<◌, ◌≤◌, [], length, insert, OnOk, OnErr};
+ghost use Rattle.std.specs.List.{remove};
 
-use crate::kinds::QuantId;
+use qgm_terms::QuantId;
 use shared_types::OutOfMemory;
 use std::alloc::Global;
 use std::marker::Model;
@@ -44,5 +45,13 @@ impl Quants {
     {
         self.ids.insert(i, q)?;
         Ok(())
+    }
+
+    // Takes the quantifier at a place, from 0, out.
+    pub(crate) fn remove(&mut self, i: usize)
+        requires { i < length self.old }
+        ensures { self.new ≡ remove self.old i }
+    {
+        let _dropped = self.ids.remove(i);
     }
 }

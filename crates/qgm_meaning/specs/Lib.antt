@@ -1,4 +1,15 @@
-pub mod Ordered
+pub mod Searches
+pub mod Ranks
+pub mod Folds
 pub mod Values
-pub mod Boxes
+pub mod Meaning
+pub mod Scope
+pub mod Replace
 pub mod Laws
+pub mod Fits
+pub mod Examples
+pub mod Rules
+pub mod Merging
+pub mod Uses
+pub mod Widths
+pub mod Words

@@ -1,12 +1,46 @@
 // The laws of boxes, as theorems.
-ghost use Rattle.qgm_meaning.specs.Laws.{Only, OnlyAgree, Unfold};
+ghost use Rattle.qgm_meaning.specs.Examples.{Computed, Looses};
+ghost use Rattle.qgm_meaning.specs.Fits.{Hereditary};
+ghost use Rattle.qgm_meaning.specs.Rules.{ExistsJoins, Joins, Passes, ScalarJoins};
+ghost use Rattle.qgm_meaning.specs.Merging.{GivenMerged};
+ghost use Rattle.qgm_meaning.specs.Uses.{Keyed};
+ghost use Rattle.qgm_meaning.specs.Words.{SameWords};
+ghost use Rattle.qgm_meaning.specs.Widths.{WideBoxes};
+ghost use Rattle.qgm_meaning.specs.Laws.{Framed, Looked, LooseUnfold, Only, OnlyAgree, Put, PutBelow, PutCond, Replaced, Unfold};
 
-/// The laws that rewriting a graph stands on: the bag of a box is its rows over the bags of the
-/// whole graph, whatever its rank, and the bags of a graph are the only family of bags that its
-/// boxes give back, exactly, or up to agreement in the environments that pass a test which binding
-/// a quantifier to one of its rows keeps. It does nothing.
+/// It does nothing.
 pub fn graph_laws()
     ensures unfold { Unfold }
     ensures only { Only }
     ensures only_agree { OnlyAgree }
+    ensures framed { Framed }
+    ensures looked { Looked }
+    ensures put { Put }
+    ensures put_cond { PutCond }
+    ensures put_below { PutBelow }
+    ensures fits { Hereditary }
+    ensures replaced { Replaced }
+    ensures loose_unfold { LooseUnfold }
+{}
+
+/// What small graphs come to. It does nothing.
+pub fn examples()
+    ensures computed { Computed }
+    ensures looses { Looses }
+{}
+
+/// What two rules stand on. It does nothing.
+pub fn rule_laws()
+    ensures joins { Joins }
+    ensures passes { Passes }
+    ensures exists_joins { ExistsJoins }
+    ensures scalar_joins { ScalarJoins }
+{}
+
+/// That the words of sql_meaning are these. It does nothing.
+pub fn word_laws()
+    ensures wide { WideBoxes }
+    ensures words { SameWords }
+    ensures keyed { Keyed }
+    ensures given_merged { GivenMerged }
 {}

@@ -1,13 +1,26 @@
 // Graphs, what is asked of them, and the clauses that fail.
+use qgm_check::{Clause, Fault, IllFormed, check_graph};
 use qgm_core::{
-    BaseTable, BoxKind, BoxParts, Clause, Conds, Distinct, Fault, Gc, Graph, Gx, Head, IllFormed,
-    Quant, QuantKind, Role, check_graph,
+    BaseTable, BoxId, BoxKind, BoxParts, Conds, Distinct, Gc, Graph, Gx, Head, Op, Quant, QuantKind,
+    Role, SetOperator,
 };
+use qgm_terms::chained;
 use shared_types::{OutOfMemory, Text};
 use sql_value::SqlType;
 use sqlite_items::Items;
 use std::alloc::Global;
 use std::test::Fail;
+
+// A box of a kind with no condition and no cell.
+fn bare(alloc: Global, kind: BoxKind) -> BoxParts {
+    BoxParts {
+        kind,
+        distinct: Distinct::Preserve,
+        role: Role::Plain,
+        conds: Conds::new(alloc),
+        head: Head::new(alloc),
+    }
+}
 
 // A base of two columns, a number and a text, keyed by the first.
 fn base(alloc: Global) -> Result<BoxParts, OutOfMemory> {
@@ -21,26 +34,47 @@ fn base(alloc: Global) -> Result<BoxParts, OutOfMemory> {
         keys,
         not_null: Items::new(alloc),
     };
-    Ok(BoxParts {
-        kind: BoxKind::Base(table),
-        distinct: Distinct::Preserve,
-        role: Role::Plain,
-        conds: Conds::new(alloc),
-        head: Head::new(alloc),
-    })
+    Ok(bare(alloc, BoxKind::Base(table)))
 }
 
 // A select whose one head cell is a column.
 fn select(alloc: Global, quant: usize, place: usize) -> Result<BoxParts, OutOfMemory> {
-    let mut head = Head::new(alloc);
-    head.push(Gx::Col(quant, place))?;
-    Ok(BoxParts {
-        kind: BoxKind::Select,
-        distinct: Distinct::Preserve,
-        role: Role::Plain,
-        conds: Conds::new(alloc),
-        head,
-    })
+    let mut select = bare(alloc, BoxKind::Select);
+    select.head.push(Gx::Col(quant, place))?;
+    Ok(select)
+}
+
+// A group whose one key is a column, and which counts the rows of each group.
+fn group(alloc: Global, place: usize) -> Result<BoxParts, OutOfMemory> {
+    let mut group = bare(alloc, BoxKind::Group(1));
+    group.head.push(Gx::Col(0, place))?;
+    group.head.push(Gx::CountAll)?;
+    Ok(group)
+}
+
+// The union of two tables of these types.
+fn union(alloc: Global, types: &[SqlType]) -> Result<BoxParts, OutOfMemory> {
+    let types = Items::from_slice(alloc, types)?;
+    Ok(bare(alloc, BoxKind::SetOp(SetOperator::Union, types)))
+}
+
+// An outer join whose one cell is a column of the right table.
+fn outer_join(alloc: Global, place: usize) -> Result<BoxParts, OutOfMemory> {
+    let mut join = bare(alloc, BoxKind::OuterJoin);
+    join.head.push(Gx::Col(1, place))?;
+    join.conds.reserve(1)?;
+    let left = Box::new(alloc, Gx::Col(0, 1))?;
+    let right = Box::new(alloc, Gx::Col(1, 1))?;
+    join.conds.push(Gc::Eq(left, right));
+    Ok(join)
+}
+
+// A select whose condition asks for a row of its second quantifier.
+fn exists(alloc: Global) -> Result<BoxParts, OutOfMemory> {
+    let mut select = select(alloc, 0, 1)?;
+    select.conds.reserve(1)?;
+    select.conds.push(Gc::Some(1, Box::new(alloc, Gc::True)?));
+    Ok(select)
 }
 
 // A root over a base.
@@ -52,12 +86,19 @@ fn over_base(alloc: Global, root: BoxParts) -> Result<Graph, OutOfMemory> {
     Ok(graph)
 }
 
+// A root over two bases, by an F quantifier and one of a kind.
+fn over_two(alloc: Global, root: BoxParts, kind: QuantKind) -> Result<Graph, OutOfMemory> {
+    let mut graph = over_base(alloc, root)?;
+    let second: BoxId = graph.add_box(alloc, base(alloc)?, None)?;
+    let top = graph.root();
+    graph.add_quant(top, 2, kind, second)?;
+    Ok(graph)
+}
+
 // A root that adds a number to a text.
 fn of_sum(alloc: Global) -> Result<BoxParts, OutOfMemory> {
     let mut root = select(alloc, 0, 1)?;
-    let number = Box::new(alloc, Gx::Col(0, 1))?;
-    let text = Box::new(alloc, Gx::Col(0, 2))?;
-    root.head.push(Gx::Add(number, text))?;
+    root.head.push(chained(alloc, Gx::Col(0, 1), Op::Add, Gx::Col(0, 2))?)?;
     Ok(root)
 }
 
@@ -132,6 +173,34 @@ fn the_clause_that_fails_is_told(rt: HostRuntime) -> Result<(), Fail> {
         (of_count(alloc)?, at_root(Clause::I9)),
     ] {
         let graph = over_base(alloc, root)?;
+        assert_eq!(rt; check_graph(alloc, &graph), told);
+    }
+    Ok(())
+}
+
+#[test]
+fn boxes_of_each_kind_have_their_shapes(rt: HostRuntime) -> Result<(), Fail> {
+    let alloc = rt.alloc();
+    let types = [SqlType::Integer, SqlType::Varchar];
+    for (root, told) in [
+        (group(alloc, 1)?, Ok(())),
+        (group(alloc, 3)?, at_root(Clause::I4)),
+        (union(alloc, &types)?, at_root(Clause::I9)),
+    ] {
+        let graph = over_base(alloc, root)?;
+        assert_eq!(rt; check_graph(alloc, &graph), told);
+    }
+    for (root, kind, told) in [
+        (group(alloc, 1)?, QuantKind::F, at_root(Clause::I9)),
+        (union(alloc, &types)?, QuantKind::F, Ok(())),
+        (union(alloc, &types)?, QuantKind::E, at_root(Clause::I9)),
+        (union(alloc, &[SqlType::Integer])?, QuantKind::F, at_root(Clause::I5)),
+        (outer_join(alloc, 2)?, QuantKind::F, Ok(())),
+        (outer_join(alloc, 3)?, QuantKind::F, at_root(Clause::I4)),
+        (exists(alloc)?, QuantKind::E, Ok(())),
+        (exists(alloc)?, QuantKind::A, at_root(Clause::I9)),
+    ] {
+        let graph = over_two(alloc, root, kind)?;
         assert_eq!(rt; check_graph(alloc, &graph), told);
     }
     Ok(())

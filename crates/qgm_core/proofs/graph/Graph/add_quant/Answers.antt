@@ -1,8 +1,27 @@
-use Rattle.std.proofs.Common.{sym, subst}
-use Rattle.qgm_core.specs.Boxes.{QueryGraph, HasQuant}
-use Rattle.qgm_core.proofs.Fresh.{no_quant}
+use Rattle.std.proofs.Common.{List, ◌-◌, ◌+◌, ap, ◌∙◌, refl, sym, subst}
+use Rattle.qgm_core.specs.Boxes.{QueryGraph, HasQuant, is_box}
+use Rattle.qgm_core.specs.Edits.{put_range, range}
+use Rattle.qgm_core.specs.Numbered.{Numbered}
+use Rattle.qgm_core.specs.declared.node.Node.{Node}
+use Rattle.qgm_core.specs.declared.owned.OwnedQuant.{OwnedQuant}
+use Rattle.qgm_core.proofs.Fresh.{no_quant, numbered-quant}
 use Rattle.qgm_core.proofs.graph.Graph.add_quant.Goals as goal
+
+pub invariant_of-self-2 : goal.invariant_of-self-2
+invariant_of-self-2 c =
+    let at = rw c.deref.ensures.value at c.box_place-k.ensures.first in
+    let n = c.index_mut.result.now in
+    let b = c.self.inside.next_box in
+    let q = c.self.inside.next_quant in
+    let i = c.args.place - 1 in
+    let r = range q c.args.kind c.args.over in
+    let f = put_range i r in
+    subst (Numbered b (q + 1))
+    (sym (at.3 f _ n (ap {B = Node} (λ (rs : List OwnedQuant). record n { quants = rs }) c.in_ok-insert.ensures.ok ∙ ap f c.index_mut.ensures.value)))
+    (numbered-quant (is_box c.args.owner) b q c.self.inside.nodes.items i r refl c.self.invariant)
 
 pub returns-clause-fresh : goal.returns-clause-fresh
 returns-clause-fresh c = λ h.
-    no_quant c.self.inside.next_quant c.self.inside.nodes.items c.self.invariant.1 (subst (λ (g : QueryGraph). HasQuant c.self.inside.next_quant g) (sym c.self.view_is) h)
+    let e = no_quant c.self.inside.next_quant c.self.inside.nodes.items c.self.invariant.2 in
+    let k = subst (λ (g : QueryGraph). HasQuant c.self.inside.next_quant g) (sym c.self.view_is) h in
+    absurd (let q : ⊥ = cc in q)

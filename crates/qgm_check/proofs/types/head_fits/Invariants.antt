@@ -1,0 +1,11 @@
+use Rattle.std.proofs.Common.{◌≡◌, drop}
+use Rattle.std.specs.List.{list_all}
+use Rattle.qgm_terms.specs.Shown.{terms}
+use Rattle.qgm_check.specs.Types as spec
+use Rattle.qgm_check.proofs.types.head_fits.Given as goal
+
+-- what is left decides
+abbrev pub invariant-loop-x : goal.invariant-loop-x
+invariant-loop-x l =
+    list_all (λ x. spec.is_known (spec.term_type (spec.column_type l.nodes l.table) x)) (terms (drop l.x-index l.list))
+    ≡ list_all (λ x. spec.is_known (spec.term_type (spec.column_type l.nodes l.table) x)) (terms l.list)

@@ -1,0 +1,5 @@
+pub mod Columns
+pub mod Types
+pub mod View
+pub mod Shapes
+pub mod WellFormed

@@ -1,0 +1,349 @@
+// Where a graph is ill-formed.
+ghost use Rattle.std.specs.Prelude.{◌≡◌, ◌++◌, [], Some, None, false, map, OnOk, IfOk, IsErrOf};
+ghost use Rattle.std.specs.List.{list_any, list_all};
+ghost use Rattle.qgm_core.specs.Boxes.{all_over, ids_in, ids_of, overs_in, owns};
+ghost use Rattle.qgm_core.specs.Free.{named_by, free_in};
+ghost use Rattle.qgm_check.specs.View.{in_view};
+ghost use Rattle.qgm_check.specs.WellFormed as spec;
+ghost use Rattle.qgm_check.specs.declared.check.Fault.{Fault};
+ghost use Rattle.qgm_check.specs.declared.check.IllFormed.TheVariants.{Fails, Memory};
+
+use crate::columns_fit::columns_fit;
+use crate::kinds::{is_f_or_s, is_permit};
+use crate::shapes::shape_fits;
+use crate::types::types_agree;
+use crate::view::in_view;
+use qgm_core::{
+    BoxId, Graph, Node, OwnedQuant, QuantId, add_names_of_node, free_in, has_box, has_quant, is_marked,
+    mark_each,
+};
+use shared_types::OutOfMemory;
+use std::alloc::Global;
+use thiserror::Error;
+
+/// What a graph must keep.
+#[derive(Clone, Copy, Debug, PartialEq, Eq)]
+pub enum Clause {
+    /// Each number that is named is that of a box or a quantifier of the graph.
+    I1,
+    /// Each quantifier has one owner.
+    I2,
+    /// Each quantifier ranges over a box of lower rank than its owner.
+    I3,
+    /// Each column that is named is there.
+    I4,
+    /// Types agree.
+    I5,
+    /// Each name is in view, and the root has no free quantifier.
+    I6,
+    /// Each open box has one quantifier over it, and the root has none.
+    I7,
+    /// A PERMIT box isn't the root and has no F or S quantifier over it.
+    I8,
+    /// Each box has the shape of its kind and role.
+    I9,
+}
+
+/// A clause that fails, and the least box at which it does; the greatest `usize` for a root that
+/// the graph lacks.
+#[derive(Clone, Copy, Debug, PartialEq, Eq)]
+pub struct Fault {
+    pub clause: Clause,
+    pub at: BoxId,
+}
+
+/// Why a graph isn't well-formed.
+#[derive(Clone, Copy, Debug, PartialEq, Eq, Error)]
+pub enum IllFormed {
+    /// A clause fails.
+    #[error("a clause fails")]
+    Fails(Fault),
+    /// Memory ran out. It says nothing of the graph.
+    #[error("out of memory")]
+    Memory,
+}
+
+impl From<OutOfMemory> for IllFormed {
+    ghost from_gives = { λ _ e. e ≡ Memory };
+
+    fn from(_: OutOfMemory) -> Self {
+        IllFormed::Memory
+    }
+}
+
+// Whether each quantifier ranges over one of these boxes.
+fn all_over(boxes: &[Node], ranges: &[OwnedQuant]) -> bool
+    ensures { result ≡ all_over boxes.now ranges.now }
+{
+    ranges.iter().all(|r| has_box(boxes, r.over))
+}
+
+// Whether each is a quantifier of the graph.
+fn all_known(nodes: &[Node], names: &[QuantId]) -> bool
+    ensures { result ≡ list_all (λ q. list_any (owns q) nodes.now) names.now }
+{
+    names.iter().all(|q| has_quant(nodes, *q))
+}
+
+// What a box names.
+fn names_of(alloc: Global, node: &Node) -> Result<Vec<QuantId>, OutOfMemory>
+    ensures { IfOk result (λ names. names.items ≡ named_by node.now) }
+{
+    let mut names = Vec::new(alloc);
+    add_names_of_node(node, &mut names)?;
+    Ok(names)
+}
+
+fn ids_known(alloc: Global, nodes: &[Node], node: &Node) -> Result<bool, OutOfMemory>
+    ensures { IfOk result (λ k. k ≡ spec.ids_known nodes.now node.now) }
+{
+    let names = names_of(alloc, node)?;
+    Ok(all_over(nodes, node.quants.as_slice()) && all_known(nodes, &names))
+}
+
+// Whether a number stands exactly once here.
+fn once(x: usize, ys: &[usize]) -> bool
+    ensures { result ≡ spec.once x ys.now }
+{
+    for i in 0..ys.len() {
+        if ys[i] == x {
+            return !is_marked(&ys[i + 1..], x);
+        }
+    }
+    false
+}
+
+// Appends the numbers of quantifiers.
+fn add_ids(ranges: &[OwnedQuant], out: &mut Vec<QuantId>) -> Result<(), OutOfMemory>
+    ensures { OnOk result (out.new.items ≡ out.old.items ++ map (λ r. r.id) ranges.now) }
+{
+    for range in ranges {
+        out.push(range.id)?;
+    }
+    Ok(())
+}
+
+// The quantifiers that the boxes own.
+fn ids_in(alloc: Global, nodes: &[Node]) -> Result<Vec<QuantId>, OutOfMemory>
+    ensures { IfOk result (λ ids. ids.items ≡ ids_in nodes.now) }
+{
+    let mut ids = Vec::new(alloc);
+    for node in nodes {
+        add_ids(node.quants.as_slice(), &mut ids)?;
+    }
+    Ok(ids)
+}
+
+// The boxes that quantifiers range over.
+fn overs_in(alloc: Global, nodes: &[Node]) -> Result<Vec<BoxId>, OutOfMemory>
+    ensures { IfOk result (λ overs. overs.items ≡ overs_in nodes.now) }
+{
+    let mut overs = Vec::new(alloc);
+    for node in nodes {
+        mark_each(node.quants.as_slice(), &mut overs)?;
+    }
+    Ok(overs)
+}
+
+fn owned_once(alloc: Global, nodes: &[Node], node: &Node) -> Result<bool, OutOfMemory>
+    ensures { IfOk result (λ k. k ≡ spec.owned_once nodes.now node.now) }
+{
+    let ids = ids_in(alloc, nodes)?;
+    Ok(node.quants.as_slice().iter().all(|r| once(r.id, &ids)))
+}
+
+// Whether an F or S quantifier ranges over the box.
+fn is_counted(nodes: &[Node], b: BoxId) -> bool
+    ensures { result ≡ spec.is_counted nodes.now b }
+{
+    nodes.iter().any(|n| is_counted_in(n.quants.as_slice(), b))
+}
+
+fn is_counted_in(ranges: &[OwnedQuant], b: BoxId) -> bool
+    ensures { result ≡ spec.is_counted_in ranges.now b }
+{
+    ranges.iter().any(|r| r.over == b && is_f_or_s(r.kind))
+}
+
+fn permit_unseen(root: BoxId, nodes: &[Node], node: &Node) -> bool
+    ensures { result ≡ spec.permit_unseen root nodes.now node.now }
+{
+    !is_permit(node.parts.distinct) || !(node.id == root || is_counted(nodes, node.id))
+}
+
+fn all_in_view(
+    alloc: Global,
+    nodes: &[Node],
+    node: &Node,
+    names: &[QuantId],
+) -> Result<bool, OutOfMemory>
+    ensures { IfOk result (λ v. v ≡ list_all (in_view nodes.now node.now) names.now) }
+{
+    for q in names {
+        if !in_view(alloc, nodes, node, *q)? {
+            return Ok(false);
+        }
+    }
+    Ok(true)
+}
+
+// Whether nothing is free in the box.
+fn is_closed(alloc: Global, nodes: &[Node], b: BoxId) -> Result<bool, OutOfMemory>
+    ensures { IfOk result (λ c. c ≡ spec.is_empty (free_in nodes.now b)) }
+{
+    let free = free_in(alloc, nodes, b)?;
+    Ok(free.is_empty())
+}
+
+fn names_in_view(
+    alloc: Global,
+    root: BoxId,
+    nodes: &[Node],
+    node: &Node,
+) -> Result<bool, OutOfMemory>
+    ensures { IfOk result (λ k. k ≡ spec.names_in_view root nodes.now node.now) }
+{
+    let names = names_of(alloc, node)?;
+    let seen = all_in_view(alloc, nodes, node, &names)?;
+    let closed = is_closed(alloc, nodes, node.id)?;
+    Ok(seen && (node.id != root || closed))
+}
+
+fn opened_once(alloc: Global, root: BoxId, nodes: &[Node], node: &Node) -> Result<bool, OutOfMemory>
+    ensures { IfOk result (λ k. k ≡ spec.opened_once root nodes.now node.now) }
+{
+    let overs = overs_in(alloc, nodes)?;
+    let closed = is_closed(alloc, nodes, node.id)?;
+    if node.id == root {
+        return Ok(!is_marked(&overs, node.id));
+    }
+    Ok(closed || once(node.id, &overs))
+}
+
+// Whether a box keeps a clause; `below` are the boxes of lower rank.
+fn keeps(
+    alloc: Global,
+    clause: Clause,
+    root: BoxId,
+    nodes: &[Node],
+    below: &[Node],
+    node: &Node,
+) -> Result<bool, OutOfMemory>
+    ensures { IfOk result (λ k. k ≡ spec.keeps clause root nodes.now below.now node.now) }
+{
+    match clause {
+        Clause::I1 => ids_known(alloc, nodes, node),
+        Clause::I2 => owned_once(alloc, nodes, node),
+        Clause::I3 => Ok(all_over(below, node.quants.as_slice())),
+        Clause::I4 => columns_fit(alloc, nodes, node),
+        Clause::I5 => types_agree(alloc, nodes, node),
+        Clause::I6 => names_in_view(alloc, root, nodes, node),
+        Clause::I7 => opened_once(alloc, root, nodes, node),
+        Clause::I8 => Ok(permit_unseen(root, nodes, node)),
+        Clause::I9 => shape_fits(alloc, root, nodes, node),
+    }
+}
+
+// A fault that stands at no box.
+fn at_no_box(clause: Clause, root: BoxId, nodes: &[Node]) -> Option<BoxId>
+    ensures { result ≡ spec.least (spec.at_no_box clause root nodes.now) }
+{
+    match clause {
+        Clause::I1 => {
+            if has_box(nodes, root) {
+                None
+            } else {
+                Some(usize::MAX)
+            }
+        }
+        Clause::I2
+        | Clause::I3
+        | Clause::I4
+        | Clause::I5
+        | Clause::I6
+        | Clause::I7
+        | Clause::I8
+        | Clause::I9 => None,
+    }
+}
+
+// The lesser of a number and one that may be.
+fn least_with(x: usize, other: Option<usize>) -> usize
+    ensures { Some result ≡ spec.least_with x other }
+{
+    match other {
+        Some(y) => x.min(y),
+        None => x,
+    }
+}
+
+// The least box at which a clause fails.
+fn least_fault(
+    alloc: Global,
+    clause: Clause,
+    root: BoxId,
+    nodes: &[Node],
+) -> Result<Option<BoxId>, OutOfMemory>
+    ensures { IfOk result (λ b. b ≡ spec.least (spec.faults clause root nodes.now nodes.now)) }
+{
+    let mut best = at_no_box(clause, root, nodes);
+    let mut i = nodes.len();
+    while i > 0 {
+        let below = &nodes[i..];
+        i -= 1;
+        if !keeps(alloc, clause, root, nodes, below, &nodes[i])? {
+            best = Some(least_with(nodes[i].id, best));
+        }
+    }
+    Ok(best)
+}
+
+// The first of the clauses that fails, at the least box.
+fn first_fault(
+    alloc: Global,
+    clauses: &[Clause],
+    root: BoxId,
+    nodes: &[Node],
+) -> Result<Option<Fault>, OutOfMemory>
+    ensures { IfOk result (λ f. f ≡ spec.first_fault clauses.now root nodes.now) }
+{
+    for clause in clauses {
+        if let Some(at) = least_fault(alloc, *clause, root, nodes)? {
+            return Ok(Some(Fault {
+                clause: *clause,
+                at,
+            }));
+        }
+    }
+    Ok(None)
+}
+
+// The least clause that fails, with the least box at which it does.
+fn find_fault(alloc: Global, graph: &Graph) -> Result<Option<Fault>, OutOfMemory>
+    ensures { IfOk result (λ f. f ≡ spec.fault graph.now) }
+{
+    let clauses = [
+        Clause::I1,
+        Clause::I2,
+        Clause::I3,
+        Clause::I4,
+        Clause::I5,
+        Clause::I6,
+        Clause::I7,
+        Clause::I8,
+        Clause::I9,
+    ];
+    first_fault(alloc, &clauses, graph.root(), graph.nodes())
+}
+
+/// Whether a graph is well-formed: the least clause that fails, with the least box at which it
+/// does (Pirahesh, Hellerstein and Hasan 1992, 2).
+pub fn check_graph(alloc: Global, graph: &Graph) -> Result<(), IllFormed>
+    ensures ok { IfOk result (λ _. spec.fault graph.now ≡ None) }
+    ensures fails { (f : Fault) → IsErrOf result (Fails f) → spec.fault graph.now ≡ Some f }
+{
+    match find_fault(alloc, graph)? {
+        Some(fault) => Err(IllFormed::Fails(fault)),
+        None => Ok(()),
+    }
+}

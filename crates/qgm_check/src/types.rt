@@ -1,0 +1,370 @@
+// The types of expressions and columns.
+ghost use Rattle.std.specs.Prelude.{◌≡◌, ◌&&◌, map, option_map, IfOk};
+ghost use Rattle.std.specs.List.{list_all};
+ghost use Rattle.qgm_core.specs.Lists.{first};
+ghost use Rattle.qgm_terms.specs.Shown.{choices, cond, conds, links, term, terms};
+ghost use Rattle.qgm_check.specs.Types as spec;
+
+use crate::columns_fit::box_under;
+use qgm_core::{BoxId, BoxKind, Node, OwnedQuant, QuantId};
+use qgm_terms::{Arm, Gc, Gx, Link, Op};
+use shared_types::OutOfMemory;
+use sql_value::SqlType;
+use sqlite_items::Items;
+use std::alloc::Global;
+
+// The types of a box's columns, as far as they are known.
+#[derive(Drop)]
+pub struct Typed {
+    pub id: BoxId,
+    pub types: Items<Option<SqlType>>,
+}
+
+fn is_known(a: Option<SqlType>) -> bool
+    ensures { result ≡ spec.is_known a }
+{
+    match a {
+        Some(_) => true,
+        None => false,
+    }
+}
+
+fn is_integer(a: Option<SqlType>) -> bool
+    ensures { result ≡ spec.is_integer a }
+{
+    match a {
+        Some(SqlType::Integer) => true,
+        Some(SqlType::Varchar) | None => false,
+    }
+}
+
+fn is_varchar(a: Option<SqlType>) -> bool
+    ensures { result ≡ spec.is_varchar a }
+{
+    match a {
+        Some(SqlType::Varchar) => true,
+        Some(SqlType::Integer) | None => false,
+    }
+}
+
+fn agree(a: Option<SqlType>, b: Option<SqlType>) -> bool
+    ensures { result ≡ spec.agree a b }
+{
+    if is_integer(a) {
+        is_integer(b)
+    } else {
+        is_varchar(a) && is_varchar(b)
+    }
+}
+
+// Whether these are as many types, place by place known and the same.
+fn all_agree(types: &[Option<SqlType>], wanted: &[SqlType]) -> bool
+    ensures { result ≡ spec.all_agree types.now (spec.known wanted.now) }
+{
+    let [a, rest @ ..] = types else {
+        return wanted.is_empty();
+    };
+    let [b, others @ ..] = wanted else {
+        return false;
+    };
+    agree(*a, Some(*b)) && all_agree(rest, others)
+}
+
+// The type of a column in a row of the table.
+fn type_in(typed: &Typed, k: usize) -> Option<SqlType>
+    ensures { result ≡ spec.type_in k (Some typed.now) }
+{
+    if k == 0 {
+        return None;
+    }
+    match typed.types.get(k - 1) {
+        Some(known) => *known,
+        None => None,
+    }
+}
+
+// What is known of a box.
+fn typed_at(table: &[Typed], b: BoxId) -> Option<&Typed>
+    ensures { option_map (λ t. t.now) result ≡ first (spec.is_typed b) table.now }
+{
+    for typed in table {
+        if typed.id == b {
+            return Some(typed);
+        }
+    }
+    None
+}
+
+// The type of a column.
+fn column_type(nodes: &[Node], table: &[Typed], q: QuantId, k: usize) -> Option<SqlType>
+    ensures { result ≡ spec.column_type nodes.now table.now q k }
+{
+    let node = box_under(nodes, q)?;
+    let typed = typed_at(table, node.id)?;
+    type_in(typed, k)
+}
+
+fn integer_if(fits: bool) -> Option<SqlType>
+    ensures { result ≡ spec.integer_if fits }
+{
+    if fits { Some(SqlType::Integer) } else { None }
+}
+
+fn varchar_if(fits: bool) -> Option<SqlType>
+    ensures { result ≡ spec.varchar_if fits }
+{
+    if fits { Some(SqlType::Varchar) } else { None }
+}
+
+// The type of what an operator makes of two values.
+fn op_type(op: Op, left: Option<SqlType>, right: Option<SqlType>) -> Option<SqlType>
+    ensures { result ≡ spec.op_type op left right }
+{
+    match op {
+        Op::Add | Op::Sub | Op::Mul | Op::Div => integer_if(is_integer(left) && is_integer(right)),
+        Op::Cat => varchar_if(is_varchar(left) && is_varchar(right)),
+    }
+}
+
+// The type of an expression, none where types disagree.
+#[cycle(types)]
+pub fn type_of(nodes: &[Node], table: &[Typed], x: &Gx) -> Option<SqlType>
+    ensures { result ≡ spec.term_type (spec.column_type nodes.now table.now) (term x.now) }
+{
+    match x {
+        Gx::Int(_) | Gx::NullInt | Gx::CountAll => Some(SqlType::Integer),
+        Gx::Text(_) | Gx::NullText => Some(SqlType::Varchar),
+        Gx::Col(q, k) => column_type(nodes, table, *q, *k),
+        Gx::Scalar(q) => column_type(nodes, table, *q, 1),
+        Gx::Chain(a, list) => {
+            let left = type_of(nodes, table, a);
+            chain_type(nodes, table, left, list)
+        }
+        Gx::Case(list, a) => {
+            let last = type_of(nodes, table, a);
+            let fits = arms_fit(nodes, table, last, list);
+            type_if(fits, last)
+        }
+        Gx::Count(a) | Gx::CountDistinct(a) => integer_if(is_known(type_of(nodes, table, a))),
+        Gx::Neg(a) | Gx::Sum(a) | Gx::Avg(a) | Gx::SumDistinct(a) | Gx::AvgDistinct(a) => {
+            integer_if(is_integer(type_of(nodes, table, a)))
+        }
+        Gx::Single(a) | Gx::Min(a) | Gx::Max(a) | Gx::MinDistinct(a) | Gx::MaxDistinct(a) => {
+            type_of(nodes, table, a)
+        }
+    }
+}
+
+// The type of a chain with a first operand of this type.
+#[cycle(types)]
+fn chain_type(
+    nodes: &[Node],
+    table: &[Typed],
+    first: Option<SqlType>,
+    list: &[Link],
+) -> Option<SqlType>
+    ensures { result ≡ spec.chain_type (spec.column_type nodes.now table.now) first (links list.now) }
+{
+    let mut total = first;
+    for link in list {
+        let right = type_of(nodes, table, &link.right);
+        total = op_type(link.op, total, right);
+    }
+    total
+}
+
+// Whether each result has this type, and each condition compares what can be compared.
+#[cycle(types)]
+fn arms_fit(nodes: &[Node], table: &[Typed], last: Option<SqlType>, list: &[Arm]) -> bool
+    ensures { result ≡ spec.choices_fit (spec.column_type nodes.now table.now) last (choices list.now) }
+{
+    for arm in list {
+        let result = type_of(nodes, table, &arm.then);
+        if !both(cond_fits(nodes, table, &arm.when), agree(result, last)) {
+            return false;
+        }
+    }
+    true
+}
+
+// Whether a condition compares what can be compared.
+#[cycle(types)]
+pub fn cond_fits(nodes: &[Node], table: &[Typed], c: &Gc) -> bool
+    ensures { result ≡ spec.cond_fits (spec.column_type nodes.now table.now) (cond c.now) }
+{
+    match c {
+        Gc::True => true,
+        Gc::Eq(a, b)
+        | Gc::Ne(a, b)
+        | Gc::Lt(a, b)
+        | Gc::Le(a, b)
+        | Gc::Gt(a, b)
+        | Gc::Ge(a, b)
+        | Gc::Same(a, b) => {
+            let left = type_of(nodes, table, a);
+            let right = type_of(nodes, table, b);
+            agree(left, right)
+        }
+        Gc::Like(a, b) => {
+            let left = type_of(nodes, table, a);
+            let right = type_of(nodes, table, b);
+            is_varchar(left) && is_varchar(right)
+        }
+        Gc::IsNull(a) => is_known(type_of(nodes, table, a)),
+        Gc::All(a, list) => {
+            let first = cond_fits(nodes, table, a);
+            let others = conds_fit(nodes, table, list);
+            both(first, others)
+        }
+        Gc::Any(a, list) => {
+            let first = cond_fits(nodes, table, a);
+            let others = conds_fit(nodes, table, list);
+            both(first, others)
+        }
+        Gc::Not(a) => cond_fits(nodes, table, a),
+        Gc::Some(_, a) => cond_fits(nodes, table, a),
+        Gc::Every(_, a) => cond_fits(nodes, table, a),
+    }
+}
+
+// Whether each condition compares what can be compared.
+#[cycle(types)]
+fn conds_fit(nodes: &[Node], table: &[Typed], list: &[Gc]) -> bool
+    ensures { result ≡ list_all (spec.cond_fits (spec.column_type nodes.now table.now)) (conds list.now) }
+{
+    for c in list {
+        if !cond_fits(nodes, table, c) {
+            return false;
+        }
+    }
+    true
+}
+
+fn type_if(fits: bool, known: Option<SqlType>) -> Option<SqlType>
+    ensures { result ≡ spec.type_if fits known }
+{
+    if fits { known } else { None }
+}
+
+pub fn both(a: bool, b: bool) -> bool
+    ensures { result ≡ (a && b) }
+{
+    a && b
+}
+
+// The types of stored columns.
+fn known(alloc: Global, types: &[SqlType]) -> Result<Items<Option<SqlType>>, OutOfMemory>
+    ensures { IfOk result (λ all. all ≡ spec.known types.now) }
+{
+    let mut all = Items::new(alloc);
+    for column in types {
+        all.push(Some(*column))?;
+    }
+    Ok(all)
+}
+
+// The types of the columns of a head.
+fn head_types(
+    alloc: Global,
+    nodes: &[Node],
+    table: &[Typed],
+    list: &[Gx],
+) -> Result<Items<Option<SqlType>>, OutOfMemory>
+    ensures { IfOk result (λ all. all ≡ map (spec.term_type (spec.column_type nodes.now table.now)) (terms list.now)) }
+{
+    let mut all = Items::new(alloc);
+    for x in list {
+        all.push(type_of(nodes, table, x))?;
+    }
+    Ok(all)
+}
+
+// The types of a box's columns.
+fn types_in(
+    alloc: Global,
+    nodes: &[Node],
+    table: &[Typed],
+    node: &Node,
+) -> Result<Typed, OutOfMemory>
+    ensures { IfOk result (λ t. t ≡ spec.typed nodes.now table.now node.now) }
+{
+    let types = match &node.parts.kind {
+        BoxKind::Base(base) => known(alloc, base.types.as_slice())?,
+        BoxKind::SetOp(_, types) => known(alloc, types.as_slice())?,
+        BoxKind::Select | BoxKind::Group(_) | BoxKind::OuterJoin => {
+            head_types(alloc, nodes, table, node.parts.head.as_slice())?
+        }
+    };
+    Ok(Typed { id: node.id, types })
+}
+
+// The types of the columns of all boxes, looked up through one head more.
+fn typed_all(alloc: Global, nodes: &[Node], table: &[Typed]) -> Result<Vec<Typed>, OutOfMemory>
+    ensures { IfOk result (λ ts. ts.items ≡ map (spec.typed nodes.now table.now) nodes.now) }
+{
+    let mut all = Vec::new(alloc);
+    for node in nodes {
+        all.push(types_in(alloc, nodes, table, node)?)?;
+    }
+    Ok(all)
+}
+
+// The types of the columns of all boxes, looked up as often as there are boxes.
+fn types_of(alloc: Global, nodes: &[Node]) -> Result<Vec<Typed>, OutOfMemory>
+    ensures { IfOk result (λ ts. ts.items ≡ spec.types_of nodes.now) }
+{
+    let mut table = Vec::new(alloc);
+    for _round in 0..nodes.len() {
+        table = typed_all(alloc, nodes, &table)?;
+    }
+    Ok(table)
+}
+
+// Whether each expression of a head has a type.
+fn head_fits(nodes: &[Node], table: &[Typed], list: &[Gx]) -> bool
+    ensures { result ≡ list_all (λ x. spec.is_known (spec.term_type (spec.column_type nodes.now table.now) x)) (terms list.now) }
+{
+    for x in list {
+        if !is_known(type_of(nodes, table, x)) {
+            return false;
+        }
+    }
+    true
+}
+
+// Whether the box that a quantifier ranges over has columns of these types.
+fn arm_agrees(table: &[Typed], types: &[SqlType], range: OwnedQuant) -> bool
+    ensures { result ≡ spec.arm_agrees table.now types.now range }
+{
+    match typed_at(table, range.over) {
+        Some(typed) => all_agree(typed.types.as_slice(), types),
+        None => types.is_empty(),
+    }
+}
+
+// Whether the boxes under these have columns of these types.
+fn all_arms_agree(table: &[Typed], types: &[SqlType], ranges: &[OwnedQuant]) -> bool
+    ensures { result ≡ list_all (spec.arm_agrees table.now types.now) ranges.now }
+{
+    ranges.iter().all(|r| arm_agrees(table, types, *r))
+}
+
+// Whether the arms of a set operation have its types.
+fn arms_agree(table: &[Typed], kind: &BoxKind, ranges: &[OwnedQuant]) -> bool
+    ensures { result ≡ spec.arms_agree table.now kind.now ranges.now }
+{
+    match kind {
+        BoxKind::SetOp(_, types) => all_arms_agree(table, types.as_slice(), ranges),
+        BoxKind::Base(_) | BoxKind::Select | BoxKind::Group(_) | BoxKind::OuterJoin => true,
+    }
+}
+
+// Whether no types disagree in a box.
+pub fn types_agree(alloc: Global, nodes: &[Node], node: &Node) -> Result<bool, OutOfMemory>
+    ensures { IfOk result (λ k. k ≡ spec.types_agree nodes.now node.now) }
+{
+    let table = types_of(alloc, nodes)?;
+    let arms = arms_agree(&table, &node.parts.kind, node.quants.as_slice());
+    let conds = conds_fit(nodes, &table, node.parts.conds.as_slice());
+    Ok(head_fits(nodes, &table, node.parts.head.as_slice()) && both(conds, arms))
+}

@@ -1,0 +1,68 @@
+// Which quantifiers are in view in a box.
+ghost use Rattle.std.specs.Prelude.{◌≡◌, ◌++◌, [], false, OnOk, IfOk};
+ghost use Rattle.qgm_check.specs.View as spec;
+
+use crate::kinds::{is_f, is_select};
+use qgm_core::{BoxId, Node, OwnedQuant, QuantId, has_range, is_marked, mark_each};
+use shared_types::OutOfMemory;
+use std::alloc::Global;
+
+// Whether q is an F quantifier of these.
+fn is_row(q: QuantId, ranges: &[OwnedQuant]) -> bool
+    ensures { result ≡ spec.is_row q ranges.now }
+{
+    ranges.iter().any(|r| r.id == q && is_f(r.kind))
+}
+
+// Appends the boxes that see q by the quantifiers of one box.
+fn add_scoped(
+    q: QuantId,
+    own: bool,
+    ranges: &[OwnedQuant],
+    marks: &mut Vec<BoxId>,
+) -> Result<(), OutOfMemory>
+    ensures { OnOk result (marks.new.items ≡ marks.old.items ++ spec.scoped q own false ranges.now) }
+{
+    let mut met = false;
+    for range in ranges {
+        let sees = if is_f(range.kind) { met } else { own };
+        if sees {
+            marks.push(range.over)?;
+        }
+        met = met || (range.id == q && is_f(range.kind));
+    }
+    Ok(())
+}
+
+// Appends the boxes that see q by this box.
+fn add_shown(q: QuantId, node: &Node, marks: &mut Vec<BoxId>) -> Result<(), OutOfMemory>
+    ensures { OnOk result (marks.new.items ≡ marks.old.items ++ spec.shown_by q marks.old.items node.now) }
+{
+    if is_marked(marks, node.id) {
+        return mark_each(node.quants.as_slice(), marks);
+    }
+    if is_select(&node.parts.kind) {
+        let own = is_row(q, node.quants.as_slice());
+        return add_scoped(q, own, node.quants.as_slice(), marks);
+    }
+    Ok(())
+}
+
+// The boxes that see q.
+fn viewers(alloc: Global, q: QuantId, nodes: &[Node]) -> Result<Vec<BoxId>, OutOfMemory>
+    ensures { IfOk result (λ marks. marks.items ≡ spec.viewers q [] nodes.now) }
+{
+    let mut marks = Vec::new(alloc);
+    for node in nodes {
+        add_shown(q, node, &mut marks)?;
+    }
+    Ok(marks)
+}
+
+// Whether q is in view in the box.
+pub fn in_view(alloc: Global, nodes: &[Node], node: &Node, q: QuantId) -> Result<bool, OutOfMemory>
+    ensures { IfOk result (λ v. v ≡ spec.in_view nodes.now node.now q) }
+{
+    let marks = viewers(alloc, q, nodes)?;
+    Ok(has_range(node.quants.as_slice(), q) || is_marked(&marks, node.id))
+}

@@ -1,8 +1,0 @@
-use Rattle.std.proofs.Common.{◌≡◌, ◌++◌, false, drop}
-use Rattle.qgm_core.specs.WellFormed as spec
-use Rattle.qgm_core.proofs.check.add_scoped.Given as goal
-
--- what is left adds the rest
-abbrev pub invariant-loop-range : goal.invariant-loop-range
-invariant-loop-range l =
-    l.marks.items ++ spec.scoped l.q l.own l.met (drop l.range-index l.ranges) ≡ l.initial.marks.items ++ spec.scoped l.q l.own false l.ranges

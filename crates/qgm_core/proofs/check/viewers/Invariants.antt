@@ -1,7 +1,0 @@
-use Rattle.std.proofs.Common.{◌≡◌, [], drop}
-use Rattle.qgm_core.specs.WellFormed as spec
-use Rattle.qgm_core.proofs.check.viewers.Given as goal
-
--- what is left marks the rest
-abbrev pub invariant-loop-node : goal.invariant-loop-node
-invariant-loop-node l = spec.viewers l.q l.marks.items (drop l.node-index l.nodes) ≡ spec.viewers l.q [] l.nodes

@@ -1,7 +1,0 @@
-use Rattle.std.proofs.Common.{◌≡◌, ◌++◌, take}
-use Rattle.std.specs.List.{flat_map}
-use Rattle.qgm_core.specs.Terms.{names_in_cond}
-use Rattle.qgm_core.proofs.free.add_names_of_conds.Given as goal
-
-abbrev pub invariant-loop-i : goal.invariant-loop-i
-invariant-loop-i l = l.out.items ≡ l.initial.out.items ++ flat_map names_in_cond (take l.i l.conds.items)

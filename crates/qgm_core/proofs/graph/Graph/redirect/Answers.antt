@@ -1,0 +1,14 @@
+use Rattle.std.proofs.Common.{List, map, ap, ◌∙◌, refl}
+use Rattle.qgm_core.specs.Boxes.{ids_of}
+use Rattle.qgm_core.specs.declared.node.Node.{Node}
+use Rattle.qgm_core.specs.declared.owned.OwnedQuant.{OwnedQuant}
+use Rattle.qgm_core.proofs.Fresh.{numbered-set, ids-on_quant}
+use Rattle.qgm_core.proofs.graph.Graph.redirect.Goals as goal
+
+pub invariant_of-self : goal.invariant_of-self
+invariant_of-self c =
+    let at = rw c.deref.ensures.value at c.owner_place-k.ensures in
+    let n = c.index_mut.result.now in
+    let e = c.index_mut.ensures.value in
+    numbered-set c.self.inside.next_box c.self.inside.next_quant c.self.inside.nodes.items c.owner_place-k.result _ n at.0 (ap (λ (n : Node). n.id) e)
+    (ap (λ (rs : List OwnedQuant). map (λ r. r.id) rs) c.put_over.ensures ∙ ids-on_quant c.args.q (λ (r : OwnedQuant). record r { over = c.args.over }) n (λ r. refl) ∙ ap ids_of e) c.self.invariant

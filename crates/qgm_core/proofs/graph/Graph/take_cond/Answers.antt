@@ -1,0 +1,11 @@
+use Rattle.std.proofs.Common.{ap}
+use Rattle.qgm_core.specs.Boxes.{ids_of}
+use Rattle.qgm_core.specs.declared.node.Node.{Node}
+use Rattle.qgm_core.proofs.Fresh.{numbered-set}
+use Rattle.qgm_core.proofs.graph.Graph.take_cond.Goals as goal
+
+pub invariant_of-self : goal.invariant_of-self
+invariant_of-self c =
+    let at = rw c.deref.ensures.value at c.box_place-k.ensures.first in
+    let e = c.index_mut.ensures.value in
+    numbered-set c.self.inside.next_box c.self.inside.next_quant c.self.inside.nodes.items c.box_place-k.result _ c.index_mut.result.now at.0 (ap (λ (n : Node). n.id) e) (ap ids_of e) c.self.invariant

@@ -1,7 +1,0 @@
-use Rattle.std.proofs.Common.{◌≡◌, drop}
-use Rattle.qgm_core.specs.Boxes.{first, owns}
-use Rattle.qgm_core.proofs.types.owner_of.Given as goal
-
--- what is left decides
-abbrev pub invariant-loop-node : goal.invariant-loop-node
-invariant-loop-node l = first (owns l.q) l.nodes ≡ first (owns l.q) (drop l.node-index l.nodes)

@@ -1,7 +1,0 @@
-use Rattle.std.proofs.Common.{◌≡◌, drop}
-use Rattle.qgm_core.specs.Boxes.{first, is_quant}
-use Rattle.qgm_core.proofs.types.range_in.Given as goal
-
--- what is left decides
-abbrev pub invariant-loop-range : goal.invariant-loop-range
-invariant-loop-range l = first (is_quant l.q) l.ranges ≡ first (is_quant l.q) (drop l.range-index l.ranges)
