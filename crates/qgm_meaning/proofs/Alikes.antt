@@ -28,12 +28,15 @@ use Rattle.qgm_core.specs.declared.kinds.SetOperator.TheVariants.{UnionAll, Unio
 use Rattle.qgm_core.specs.Boxes.{Ordered, all_over, has_box, is_quant}
 use Rattle.qgm_core.specs.Lists.{first}
 use Rattle.qgm_core.specs.Kinds.{is_F, is_enforce}
-use Rattle.qgm_meaning.specs.Folds.{presence, count_cell}
+use Rattle.row_bag.specs.Subqueries.{presence}
+use Rattle.row_bag.specs.Aggregates.{count_cell}
+use Rattle.qgm_meaning.specs.Aggregated.{aggregate_of, taken_of}
 use Rattle.qgm_meaning.specs.Laws.{AgreesBack, Stays, occurs}
 use Rattle.qgm_meaning.specs.Meaning.{Family, bag_in, combined, fold_cell, fold_cells, given, given_by, grouped_rows, groups, key_cells, nothing, of_one, of_two, once_if, outer_rows, over_each, quant_rows, rows_by, rows_found, rows_of}
 use Rattle.qgm_terms.specs.Terms.{Term, int, text, null_int, null_text, col, both, minus_of, choose, count_all, fold, scalar, Arms, no_arm, arm, Cond, always, compare, is_null, and, or, not, some, every}
 use Rattle.qgm_meaning.specs.Values.{Bag, Environment, all_true, bound, chosen_at, compared, first_true, head_cells, operate, truth, value}
-use Rattle.qgm_meaning.proofs.FoldLaws.{and-monoid, folded-alike, how_many-alike, or-monoid, or_else-alike, scalar-alike}
+use Rattle.qgm_meaning.proofs.FoldLaws.{and-monoid, how_many-alike, or-monoid, or_else-alike}
+use Rattle.qgm_meaning.proofs.FoldsAlike.{folded-alike, scalar-alike}
 use Rattle.qgm_meaning.proofs.Ranked.{lower}
 
 -- ---- cells and conditions
@@ -141,7 +144,7 @@ fold_cell-alike q env (both o x y) h = refl
 fold_cell-alike q env (minus_of x) h = refl
 fold_cell-alike q env (choose s x) h = refl
 fold_cell-alike q env count_all h = ap count_cell (how_many-alike h)
-fold_cell-alike q env (fold f t x) h = folded-alike f t (alike-bind h (λ cells. alike-refl (unit (value nothing x (bound q cells env)))))
+fold_cell-alike q env (fold f t x) h = folded-alike (aggregate_of f) (taken_of t) (alike-bind h (λ cells. alike-refl (unit (value nothing x (bound q cells env)))))
 fold_cell-alike q env (scalar r) h = refl
 
 pub folds-alike : (q : ℕ) (env : Environment) (xs : List Term) {us vs : Bag} → Alike us vs → map (fold_cell q env us) xs ≡ map (fold_cell q env vs) xs

@@ -26,8 +26,10 @@ use Rattle.sql_value.specs.declared.cell.Cell.TheVariants.{Int, Text, Null, Err}
 use Rattle.sql_value.specs.declared.cell.Kind.{Kind}
 use Rattle.sql_value.specs.declared.level.Level.{Level}
 use Rattle.sql_value.specs.declared.truth.Truth.{Truth}
-use Rattle.qgm_meaning.specs.Folds.{Only, none, one, several, beside, only_cell, first_cell, scalar_of, same_cell, how_many, is_none, taken, number_in, count_cell, mean, sum_cell, of_cells, folded, or_else}
-use Rattle.qgm_terms.specs.Terms.{Aggregate, single, count, sum, avg, least, greatest, Taken, all_of, each_once}
+use Rattle.row_bag.specs.Aggregates.{same_cell}
+use Rattle.row_bag.specs.Joins.{how_many, or_else}
+use Rattle.row_bag.specs.Subqueries.{only_cell}
+use Rattle.qgm_meaning.proofs.Totals.{Only, none, one, several, beside, cell_of_only, scalar_of, is_none}
 
 -- ---- operations
 
@@ -186,29 +188,11 @@ cell-decides a b = (λ h. cell-ties a b (tie (cell_compare a b) h), λ e. ap (λ
     tie Equal h = refl
     tie Greater h = cc h
 
-pub scalar-alike : {xs ys : List (Row (List Cell))} → Alike xs ys → scalar_of xs ≡ scalar_of ys
-scalar-alike h = ap₂ (λ (e : Option Kind) (o : Only). error_or e (only_cell o)) (total-alike same_cells same_cells-decides worst-monoid (λ cells level. error_at level) h) (total-alike same_cells same_cells-decides only-monoid (λ cells level. one (first_cell cells)) h)
+pub scalar_of-alike : {xs ys : List (Row (List Cell))} → Alike xs ys → scalar_of xs ≡ scalar_of ys
+scalar_of-alike h = ap₂ (λ (e : Option Kind) (o : Only). error_or e (cell_of_only o)) (total-alike same_cells same_cells-decides worst-monoid (λ cells level. error_at level) h) (total-alike same_cells same_cells-decides only-monoid (λ cells level. one (only_cell cells)) h)
 
 pub how_many-alike : {T : Type 0} {xs ys : List (Row T)} → Alike xs ys → how_many xs ≡ how_many ys
 how_many-alike h = h.sums (λ row level. 1)
-
-taken-alike : (t : Taken) {xs ys : List (Row Cell)} → Alike xs ys → Alike (taken t xs) (taken t ys)
-taken-alike all_of h = alike-bind h (λ c. alike-refl (cond (is_none c) [] (unit c)))
-taken-alike each_once h = once-alike same_cell cell-decides (alike-bind h (λ c. alike-refl (cond (is_none c) [] (unit c))))
-
-summed : {M : Type 0} {op : M → M → M} {e : M} → IsCommutativeMonoid M op e → (f : Cell → Level → M) (t : Taken) {xs ys : List (Row Cell)} → Alike xs ys → total op e f (taken t xs) ≡ total op e f (taken t ys)
-summed m f t h = total-alike same_cell cell-decides m f (taken-alike t h)
-
-of_cells-alike : (f : Aggregate) (t : Taken) {xs ys : List (Row Cell)} → Alike xs ys → of_cells f t xs ≡ of_cells f t ys
-of_cells-alike single t h = ap only_cell (total-alike same_cell cell-decides only-monoid (λ c level. one c) h)
-of_cells-alike count t h = ap count_cell (how_many-alike (taken-alike t h))
-of_cells-alike sum t h = ap₂ sum_cell (how_many-alike (taken-alike t h)) (summed whole-monoid (λ c level. number_in c) t h)
-of_cells-alike avg t h = ap₂ mean (how_many-alike (taken-alike t h)) (summed whole-monoid (λ c level. number_in c) t h)
-of_cells-alike least t h = summed (earlier-monoid cell_compare cell-total cell-ties) (λ c level. c) t h
-of_cells-alike greatest t h = summed (earlier-monoid (λ x y. cell_compare y x) (back_total cell-total) (λ x y e. sym (cell-ties y x e))) (λ c level. c) t h
-
-pub folded-alike : (f : Aggregate) (t : Taken) {xs ys : List (Row Cell)} → Alike xs ys → folded f t xs ≡ folded f t ys
-folded-alike f t h = ap₂ error_or (error_among-alike same_cell cell-decides error_of h) (of_cells-alike f t h)
 
 pub or_else-alike : {T : Type 0} {xs ys : List (Row T)} (others : List (Row T)) → Alike xs ys → Alike (or_else xs others) (or_else ys others)
 or_else-alike {xs = xs} {ys = ys} others h = rw (how_many-alike h) (elim (nat_eq (how_many ys) 0) as (λ b. Alike (cond b others xs) (cond b others ys)) [ true ↦ alike-refl others | false ↦ h ])

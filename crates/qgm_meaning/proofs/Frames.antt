@@ -21,7 +21,10 @@ use Rattle.qgm_core.specs.declared.kinds.BoxKind.TheVariants.{Base, Select, Grou
 use Rattle.qgm_core.specs.Lists.{first}
 use Rattle.qgm_core.specs.Kinds.{is_F, is_enforce}
 use Rattle.qgm_core.specs.Boxes.{is_quant}
-use Rattle.qgm_meaning.specs.Folds.{folded, presence, or_else}
+use Rattle.row_bag.specs.Aggregates.{folded}
+use Rattle.qgm_meaning.specs.Aggregated.{aggregate_of, taken_of}
+use Rattle.row_bag.specs.Subqueries.{presence}
+use Rattle.row_bag.specs.Joins.{or_else}
 use Rattle.qgm_meaning.specs.Meaning.{Family, bag_in, combined, fold_cell, fold_cells, given, given_by, grouped_rows, groups, key_cells, nothing, of_one, of_two, once_if, outer_rows, over_each, quant_rows, rows_by, rows_found, rows_of}
 use Rattle.qgm_meaning.specs.Scope.{looks_found, quant_looks, loose, loose_by, loose_of, loose_each, read_beyond, read_by, under_any}
 use Rattle.qgm_terms.specs.Terms.{Term, int, text, null_int, null_text, col, both, minus_of, choose, count_all, fold, scalar, Arms, no_arm, arm, Cond, always, compare, is_null, and, or, not, some, every}
@@ -189,7 +192,7 @@ fold_cell-framed q rows (both o x y) d e h = refl
 fold_cell-framed q rows (minus_of x) d e h = refl
 fold_cell-framed q rows (choose s x) d e h = refl
 fold_cell-framed q rows count_all d e h = refl
-fold_cell-framed q rows (fold f t x) d e h = ap (λ (g : List Cell → Cell). folded f t (bind rows (λ cells. unit (g cells)))) (fun_ext (λ cells. value-framed nothing x (bound q cells d) (bound q cells e) (h cells)))
+fold_cell-framed q rows (fold f t x) d e h = ap (λ (g : List Cell → Cell). folded (aggregate_of f) (taken_of t) (bind rows (λ cells. unit (g cells)))) (fun_ext (λ cells. value-framed nothing x (bound q cells d) (bound q cells e) (h cells)))
 fold_cell-framed q rows (scalar r) d e h = refl
 
 folds-framed : (q : ℕ) (rows : Bag) (xs : List Term) (d e : Environment) → ((cells : List Cell) → SameRows (λ r. list_any (reads r) xs) (bound q cells d) (bound q cells e)) → map (fold_cell q d rows) xs ≡ map (fold_cell q e rows) xs

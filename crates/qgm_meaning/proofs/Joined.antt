@@ -19,7 +19,7 @@ use Rattle.sql_value.specs.declared.level.Level.TheVariants.{No, Cardinality, Di
 use Rattle.sql_value.specs.declared.truth.Truth.{Truth}
 use Rattle.qgm_core.specs.declared.owned.OwnedQuant.{OwnedQuant}
 use Rattle.qgm_core.specs.Kinds.{is_F}
-use Rattle.qgm_meaning.specs.Folds.{presence}
+use Rattle.row_bag.specs.Subqueries.{presence}
 use Rattle.qgm_meaning.specs.Meaning.{Family, over_each}
 use Rattle.qgm_meaning.specs.Rules.{as_E, as_F}
 use Rattle.qgm_terms.specs.Terms.{Term, Cond, some}

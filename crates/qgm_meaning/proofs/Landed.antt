@@ -1,4 +1,4 @@
--- The words of sql_meaning, as they stand there, are these.
+-- A scalar, `single`, the lesser and the greater cell, as totals.
 use Rattle.std.proofs.Common.{◌≡◌, ◌∙◌, ◌&&◌, cond, Bool, true, false, List, [], ◌∷◌, Option, Some, None, refl, ap, ap₂, inl, inr, is_le, sym}
 use Rattle.sql_value.specs.Cells.{cell_compare}
 use Rattle.qgm_meaning.proofs.FoldLaws.{both-le, le-not}
@@ -18,13 +18,14 @@ use Rattle.sql_value.specs.declared.cell.Kind.{Kind}
 use Rattle.sql_value.specs.declared.cell.Kind.TheVariants as kind
 use Rattle.sql_value.specs.declared.level.Level.{Level}
 use Rattle.sql_value.specs.declared.level.Level.TheVariants.{No, Cardinality, Division, Overflow, Yes}
-use Rattle.qgm_meaning.specs.Words.{greater, lesser, scalar_of_those}
-use Rattle.qgm_meaning.specs.Folds.{greater_cell, Only, none, one, several, beside, first_cell, lesser_cell, only_cell, scalar_of}
+use Rattle.row_bag.specs.Aggregates.{greater_cell, lesser_cell, single_of_those}
+use Rattle.row_bag.specs.Subqueries.{only_cell, scalar, scalar_of_those}
+use Rattle.qgm_meaning.proofs.Totals.{Only, none, one, several, beside, cell_of_only, is_none, scalar_of}
 
 -- ---- the same
 
 -- a row at no counts for nothing
-there-only : {M : Type 0} (op : M → M → M) (e : M) → ((a : M) → op e a ≡ a) → (f : List Cell → Level → M) (rows : List (Row (List Cell))) → total op e f rows ≡ total op e f (those_there rows)
+there-only : {M T : Type 0} (op : M → M → M) (e : M) → ((a : M) → op e a ≡ a) → (f : T → Level → M) (rows : List (Row T)) → total op e f rows ≡ total op e f (those_there rows)
 there-only op e neutral f [] = refl
 there-only op e neutral f (r ∷ rows) = step r.level (there-only op e neutral f rows)
   where
@@ -46,15 +47,21 @@ cardinality-least (Some kind.Cardinality) = refl
 cardinality-least (Some kind.Division) = refl
 cardinality-least (Some kind.Overflow) = refl
 
-there-one : (r : Row (List Cell)) → is_there r ≡ true → if_there none (λ cells level. one (first_cell cells)) r.cells r.level ≡ one (first_cell r.cells)
-there-one r h = step r.level h
+there-one : {M T : Type 0} (e : M) (f : T → Level → M) → (c : T → M) → ((x : T) (l : Level) → f x l ≡ c x) → (r : Row T) → is_there r ≡ true → if_there e f r.cells r.level ≡ c r.cells
+there-one e f c same r h = step r.level h
   where
-    step : (l : Level) → if_there false (λ c l. true) r.cells l ≡ true → if_there none (λ cells level. one (first_cell cells)) r.cells l ≡ one (first_cell r.cells)
+    step : (l : Level) → if_there false (λ c l. true) r.cells l ≡ true → if_there e f r.cells l ≡ c r.cells
     step No h = cc h
-    step Cardinality h = refl
-    step Division h = refl
-    step Overflow h = refl
-    step Yes h = refl
+    step Cardinality h = same r.cells Cardinality
+    step Division h = same r.cells Division
+    step Overflow h = same r.cells Overflow
+    step Yes h = same r.cells Yes
+
+the-one : (r : Row (List Cell)) → is_there r ≡ true → if_there none (λ cells level. one (only_cell cells)) r.cells r.level ≡ one (only_cell r.cells)
+the-one r h = there-one none (λ cells level. one (only_cell cells)) (λ cells. one (only_cell cells)) (λ x l. refl) r h
+
+the-cell : (r : Row Cell) → is_there r ≡ true → if_there none (λ c level. one c) r.cells r.level ≡ one r.cells
+the-cell r h = there-one none (λ c level. one c) (λ c. one c) (λ x l. refl) r h
 
 of-those : (rs : List (Row (List Cell))) → list_all is_there rs ≡ true → scalar_of rs ≡ scalar_of_those rs
 of-those [] h = refl
@@ -69,11 +76,11 @@ of-those (r ∷ []) h = step r.level (and_parts (is_there r) true h).0
 of-those (r ∷ (q ∷ rs)) h =
     let parts = and_parts (is_there r) (is_there q && list_all is_there rs) h in
     let rest = and_parts (is_there q) (list_all is_there rs) parts.1 in
-    ap₂ (λ (a b : Only). error_or (total worst_of None (λ cells level. error_at level) (r ∷ q ∷ rs)) (only_cell (beside a (beside b (total beside none (λ cells level. one (first_cell cells)) rs))))) (there-one r parts.0) (there-one q rest.0)
-    ∙ ap (λ (o : Only). error_or (total worst_of None (λ cells level. error_at level) (r ∷ q ∷ rs)) (only_cell o)) (many (first_cell r.cells) (first_cell q.cells) (total beside none (λ cells level. one (first_cell cells)) rs))
+    ap₂ (λ (a b : Only). error_or (total worst_of None (λ cells level. error_at level) (r ∷ q ∷ rs)) (cell_of_only (beside a (beside b (total beside none (λ cells level. one (only_cell cells)) rs))))) (the-one r parts.0) (the-one q rest.0)
+    ∙ ap (λ (o : Only). error_or (total worst_of None (λ cells level. error_at level) (r ∷ q ∷ rs)) (cell_of_only o)) (many (only_cell r.cells) (only_cell q.cells) (total beside none (λ cells level. one (only_cell cells)) rs))
     ∙ cardinality-least (total worst_of None (λ cells level. error_at level) (r ∷ q ∷ rs))
 
-all-there : (rows : List (Row (List Cell))) → list_all is_there (those_there rows) ≡ true
+all-there : {T : Type 0} (rows : List (Row T)) → list_all is_there (those_there rows) ≡ true
 all-there [] = refl
 all-there (r ∷ rows) = step (is_there r) refl (all-there rows)
   where
@@ -83,10 +90,22 @@ all-there (r ∷ rows) = step (is_there r) refl (all-there rows)
 
 pub scalar-same : (rows : List (Row (List Cell))) → scalar_of rows ≡ scalar_of_those (those_there rows)
 scalar-same rows =
-    ap₂ (λ (e : Option Kind) (o : Only). error_or e (only_cell o)) (there-only worst_of None (λ a. refl) (λ cells level. error_at level) rows) (there-only beside none (λ a. refl) (λ cells level. one (first_cell cells)) rows)
+    ap₂ (λ (e : Option Kind) (o : Only). error_or e (cell_of_only o)) (there-only worst_of None (λ a. refl) (λ cells level. error_at level) rows) (there-only beside none (λ a. refl) (λ cells level. one (only_cell cells)) rows)
     ∙ of-those (those_there rows) (all-there rows)
 
-pub lesser-same : (x y : Cell) → lesser x y ≡ lesser_cell x y
+single-of : (rs : List (Row Cell)) → list_all is_there rs ≡ true → cell_of_only (total beside none (λ c level. one c) rs) ≡ single_of_those rs
+single-of [] h = refl
+single-of (r ∷ []) h = ap (λ (o : Only). cell_of_only (beside o none)) (the-cell r (and_parts (is_there r) true h).0)
+single-of (r ∷ (q ∷ rs)) h =
+    let parts = and_parts (is_there r) (is_there q && list_all is_there rs) h in
+    let rest = and_parts (is_there q) (list_all is_there rs) parts.1 in
+    ap₂ (λ (a b : Only). cell_of_only (beside a (beside b (total beside none (λ c level. one c) rs)))) (the-cell r parts.0) (the-cell q rest.0)
+    ∙ ap cell_of_only (many r.cells q.cells (total beside none (λ c level. one c) rs))
+
+pub single-same : (cells : List (Row Cell)) → cell_of_only (total beside none (λ c level. one c) cells) ≡ single_of_those (those_there cells)
+single-same cells = ap cell_of_only (there-only beside none (λ a. refl) (λ c level. one c) cells) ∙ single-of (those_there cells) (all-there cells)
+
+pub lesser-same : (x y : Cell) → lesser_cell x y ≡ cond (is_none x) y (cond (is_none y) x (cond (is_le (cell_compare x y)) x y))
 lesser-same Null y = refl
 lesser-same (Int n) Null = refl
 lesser-same (Int n) (Int m) = refl
@@ -110,7 +129,7 @@ turned-greater x y = elim (cases_Bool (is_le (cell_compare x y))) [
   | inr p ↦ rw (p, le-not cell_compare cell-total cell-ties x y p) refl
 ]
 
-pub greater-same : (x y : Cell) → greater x y ≡ greater_cell x y
+pub greater-same : (x y : Cell) → greater_cell x y ≡ cond (is_none x) y (cond (is_none y) x (cond (is_le (cell_compare y x)) x y))
 greater-same Null y = refl
 greater-same (Int n) Null = refl
 greater-same (Int n) (Int m) = turned-greater (Int n) (Int m)

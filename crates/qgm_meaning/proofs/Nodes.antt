@@ -9,7 +9,8 @@ use Rattle.sql_value.specs.Comparison as c
 use Rattle.sql_value.specs.Truths as t
 use Rattle.sql_value.specs.declared.cell.Cell.{Cell}
 use Rattle.sql_value.specs.declared.truth.Truth.{Truth}
-use Rattle.qgm_meaning.specs.Folds.{presence, scalar_of}
+use Rattle.row_bag.specs.Subqueries.{presence}
+use Rattle.row_bag.specs.Subqueries as subquery
 use Rattle.qgm_terms.specs.Terms.{Term, int, text, null_int, null_text, col, both, minus_of, choose, count_all, fold, scalar, Arms, no_arm, arm, Cond, always, compare, is_null, and, or, not, some, every}
 use Rattle.qgm_meaning.specs.Searches.{names, names_arms, names_cond}
 use Rattle.qgm_meaning.specs.Values.{Bag, Environment, all_true, bound, chosen_at, compared, first_true, head_cells, operate, truth, value}
@@ -38,7 +39,7 @@ module _ (r s : ℕ → Bag) where
     value-nodes (choose w x) d h = first_true-nodes w _ _ d (left (λ q. names_arms q w) (λ q. names q x) h) (value-nodes x d (right (λ q. names_arms q w) (λ q. names q x) h))
     value-nodes count_all d h = refl
     value-nodes (fold f t x) d h = refl
-    value-nodes (scalar q) d h = ap scalar_of (h q (eq-eqb q q refl))
+    value-nodes (scalar q) d h = ap subquery.scalar (h q (eq-eqb q q refl))
 
     first_true-nodes : (w : Arms) (x y : Cell) (d : Environment) → Both (λ q. names_arms q w) → x ≡ y → first_true r w x d ≡ first_true s w y d
     first_true-nodes no_arm x y d h k = k

@@ -22,7 +22,10 @@ use Rattle.qgm_core.specs.declared.kinds.BoxKind.TheVariants.{Base, Select, Grou
 use Rattle.qgm_core.specs.Lists.{first}
 use Rattle.qgm_core.specs.Kinds.{is_F, is_enforce}
 use Rattle.qgm_core.specs.Boxes.{is_quant, owns}
-use Rattle.qgm_meaning.specs.Folds.{folded, presence, or_else}
+use Rattle.row_bag.specs.Aggregates.{folded}
+use Rattle.qgm_meaning.specs.Aggregated.{aggregate_of, taken_of}
+use Rattle.row_bag.specs.Subqueries.{presence}
+use Rattle.row_bag.specs.Joins.{or_else}
 use Rattle.qgm_meaning.specs.Meaning.{Family, bag_in, combined, fold_cell, fold_cells, given, given_by, grouped_rows, groups, key_cells, nothing, of_one, of_two, once_if, outer_rows, over_each, quant_rows, rows_by, rows_found, rows_of}
 use Rattle.qgm_meaning.specs.Scope.{Clear, introduces, put_node}
 use Rattle.qgm_terms.specs.Terms.{Term, int, text, null_int, null_text, col, both, minus_of, choose, count_all, fold, scalar, Arms, no_arm, arm, Cond, always, compare, is_null, and, or, not, some, every}
@@ -248,7 +251,7 @@ module _ (q : ℕ) (cells : List Term) (naked : list_all bare cells ≡ true) wh
   fold_cell-put (choose s x) r rows d e h u = refl
   fold_cell-put count_all r rows d e h u = refl
   fold_cell-put (fold f t x) r rows d e h u =
-      ap (λ (g : List Cell → Cell). folded f t (bind rows (λ cs. unit (g cs)))) (fun_ext (λ cs. value-put nothing q cells x (bound r cs d) (bound r cs e) (h cs) u))
+      ap (λ (g : List Cell → Cell). folded (aggregate_of f) (taken_of t) (bind rows (λ cs. unit (g cs)))) (fun_ext (λ cs. value-put nothing q cells x (bound r cs d) (bound r cs e) (h cs) u))
   fold_cell-put (scalar y) r rows d e h u = refl
 
   folds-put : (xs : List Term) (r : ℕ) (rows : Bag) (d e : Environment) → ((cs : List Cell) → Inlined nothing q cells (bound r cs d) (bound r cs e)) → Unread (λ y. list_any (binds y) xs) cells

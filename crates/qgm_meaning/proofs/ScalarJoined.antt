@@ -25,7 +25,8 @@ use Rattle.qgm_core.specs.Lists.{first}
 use Rattle.qgm_core.specs.Kinds.{is_enforce}
 use Rattle.qgm_meaning.specs.Replace.{replace}
 use Rattle.qgm_meaning.specs.Fits.{fits, has_row}
-use Rattle.qgm_meaning.specs.Folds.{presence, scalar_of}
+use Rattle.row_bag.specs.Subqueries.{presence}
+use Rattle.row_bag.specs.Subqueries as subquery
 use Rattle.qgm_meaning.specs.Laws.{AllStay, Stays, occurs}
 use Rattle.qgm_meaning.specs.Meaning.{Family, bag, bag_in, given, given_by, once_if, over_each, quant_rows, rows_of}
 use Rattle.qgm_meaning.specs.Rules.{as_F, as_Q, column_box, scalar_box}
@@ -36,7 +37,7 @@ use Rattle.qgm_meaning.specs.Values.{Bag, Environment, all_true, bound, chosen_a
 use Rattle.qgm_meaning.proofs.Alikes.{once_if-alike}
 use Rattle.qgm_meaning.proofs.ExistsJoined.{inner, moved, overs-moved, own-append}
 use Rattle.qgm_meaning.proofs.Fitting.{hereditary}
-use Rattle.qgm_meaning.proofs.FoldLaws.{scalar-alike}
+use Rattle.qgm_meaning.proofs.FoldsAlike.{scalar-alike}
 use Rattle.qgm_meaning.proofs.Frames.{any-framed, bag-framed, either-left, either-right, given-framed}
 use Rattle.qgm_meaning.proofs.Joined.{over_each-append, unread}
 use Rattle.qgm_meaning.proofs.Merged.{one-row, over_each-within}
@@ -48,7 +49,7 @@ use Rattle.qgm_meaning.proofs.Within.{loose-unfold}
 
 module _ (rows : ℕ → Bag) (q : ℕ) where
   abbrev Gives : Environment → Type 0
-  Gives d = cell_of 1 (row_of q d) ≡ scalar_of (rows q)
+  Gives d = cell_of 1 (row_of q d) ≡ subquery.scalar (rows q)
 
   mutual
     value-column : (x : Term) (d : Environment) → Gives d → binds q x ≡ false → value rows (as_column q x) d ≡ value rows x d
@@ -63,7 +64,7 @@ module _ (rows : ℕ → Bag) (q : ℕ) where
     value-column count_all d g u = refl
     value-column (fold f t x) d g u = refl
     value-column (scalar r) d g u = elim (cases_Bool (r == q)) [
-      | inl b ↦ rw b (g ∙ ap (λ (y : ℕ). scalar_of (rows y)) (sym (eqb-true r q b)))
+      | inl b ↦ rw b (g ∙ ap (λ (y : ℕ). subquery.scalar (rows y)) (sym (eqb-true r q b)))
       | inr b ↦ rw b refl
     ]
 
@@ -126,7 +127,7 @@ owned-there : (us : List OwnedQuant) (r : OwnedQuant) (vs : List OwnedQuant) →
 owned-there [] r vs = either-left (r.id == r.id) (list_any (is_quant r.id) vs) (eq-eqb r.id r.id refl)
 owned-there (u ∷ us) r vs = either-right (u.id == r.id) (list_any (is_quant r.id) (us ++ r ∷ vs)) (owned-there us r vs)
 
-first-column : (cells : List Cell) → cell_of 1 cells ≡ scalar_of (unit cells)
+first-column : (cells : List Cell) → cell_of 1 cells ≡ subquery.scalar (unit cells)
 first-column [] = refl
 first-column (c ∷ cells) = refl
 
@@ -161,13 +162,13 @@ module _ (tables : List Table) (g : QueryGraph) (b : ℕ) (p : BoxParts) (d : Di
       (unread (under_any n.quants (loose g.boxes)) i cells env (neither-right (read_by n i) (under_any n.quants (loose g.boxes) i) nothing-inner))))
 
   -- where i is bound to the one row
-  in-row : (cells : List Cell) (env : Environment) → cell_of 1 cells ≡ scalar_of (s i env) → given_by s m (bound i cells env) ≡ given_by s n env
+  in-row : (cells : List Cell) (env : Environment) → cell_of 1 cells ≡ subquery.scalar (s i env) → given_by s m (bound i cells env) ≡ given_by s n env
   in-row cells env e =
       ap (λ (rows : ℕ → Bag). given rows m (bound i cells env)) (free cells env)
       ∙ ap₂ (λ (l : Truth) (cs : List Cell). keep l.t (unit cs)) (all_true-column (λ q. s q env) i conds (bound i cells env) gives bc) (head-column (λ q. s q env) i head (bound i cells env) gives bh)
       ∙ sym (given-framed (λ q. s q env) n env (bound i cells env) (unread (read_by n) i cells env (neither-left (read_by n i) (under_any n.quants (loose g.boxes) i) nothing-inner)))
     where
-      gives : cell_of 1 (row_of i (bound i cells env)) ≡ scalar_of (s i env)
+      gives : cell_of 1 (row_of i (bound i cells env)) ≡ subquery.scalar (s i env)
       gives = ap (λ (b : Bool). cell_of 1 (cond b cells (row_of i env))) (eq-eqb i i refl) ∙ e
 
   at-i : (env : Environment) → s i env ≡ f over env

@@ -19,7 +19,7 @@ use Rattle.qgm_core.specs.declared.owned.OwnedQuant.{OwnedQuant}
 use Rattle.qgm_core.specs.Lists.{first}
 use Rattle.qgm_core.specs.Kinds.{is_F, is_enforce}
 use Rattle.qgm_core.specs.Boxes.{is_quant}
-use Rattle.qgm_meaning.specs.Folds.{how_many, or_else}
+use Rattle.row_bag.specs.Joins.{how_many, or_else}
 use Rattle.qgm_meaning.specs.Meaning.{Family, bag_in, combined, fold_cell, fold_cells, given, given_by, grouped_rows, groups, key_cells, nothing, of_one, of_two, once_if, outer_rows, over_each, quant_rows, rows_by, rows_found, rows_of}
 use Rattle.qgm_terms.specs.Terms.{Term}
 use Rattle.qgm_meaning.specs.Values.{Bag, Environment, bound, head_cells, value}

@@ -1,6 +1,6 @@
 pub mod Searches
 pub mod Ranks
-pub mod Folds
+pub mod Aggregated
 pub mod Values
 pub mod Meaning
 pub mod Scope
@@ -12,4 +12,3 @@ pub mod Rules
 pub mod Merging
 pub mod Uses
 pub mod Widths
-pub mod Words

@@ -17,7 +17,9 @@ use Rattle.qgm_core.specs.declared.kinds.BoxKind.{BoxKind}
 use Rattle.qgm_core.specs.declared.kinds.BoxKind.TheVariants.{Base, Select, Group, SetOp, OuterJoin}
 use Rattle.qgm_core.specs.declared.kinds.SetOperator.{SetOperator}
 use Rattle.qgm_core.specs.declared.kinds.SetOperator.TheVariants.{UnionAll, Union, IntersectAll, Intersect, ExceptAll, Except}
-use Rattle.qgm_meaning.specs.Folds.{count_cell, folded, how_many, or_else}
+use Rattle.row_bag.specs.Aggregates.{count_rows, folded}
+use Rattle.row_bag.specs.Joins.{or_else}
+use Rattle.qgm_meaning.specs.Aggregated.{aggregate_of, taken_of}
 use Rattle.qgm_meaning.specs.Ranks.{by_rank}
 use Rattle.qgm_terms.specs.Terms.{Term, int, text, null_int, null_text, col, both, minus_of, choose, count_all, fold, scalar}
 use Rattle.qgm_meaning.specs.Values.{Bag, Environment, all_true, bound, head_cells, value}
@@ -70,8 +72,8 @@ key_cells k head q env cells = head_cells nothing (take k head) (bound q cells e
 
 -- an aggregate of the rows of a group
 abbrev pub fold_cell : ℕ → Environment → Bag → Term → Cell
-fold_cell q env rows count_all = count_cell (how_many rows)
-fold_cell q env rows (fold f t x) = folded f t (bind rows (λ cells. unit (value nothing x (bound q cells env))))
+fold_cell q env rows count_all = count_rows rows
+fold_cell q env rows (fold f t x) = folded (aggregate_of f) (taken_of t) (bind rows (λ cells. unit (value nothing x (bound q cells env))))
 -- a group has no other cell
 fold_cell q env rows (int n) = Null
 fold_cell q env rows (text s) = Null

@@ -5,10 +5,9 @@ use Rattle.qgm_terms.specs.declared.tree.Op.{Op}
 use Rattle.qgm_terms.specs.declared.tree.Op.TheVariants.{Add, Sub, Mul, Div, Cat}
 use Rattle.qgm_terms.specs.Terms.{Sign, equal, unequal, below, at_most, above, at_least, same, like}
 use Rattle.qgm_terms.specs.Terms.{scalar, some, every, Term, int, text, null_int, null_text, col, both, minus_of, choose, count_all, fold, Arms, no_arm, arm, Cond, always, compare, is_null, and, or, not}
-use Rattle.row_bag.specs.Bags.{total}
 use Rattle.row_bag.specs.Order.{cell_of}
 use Rattle.row_bag.specs.declared.row.Row.{Row}
-use Rattle.qgm_meaning.specs.Folds.{presence, scalar_of}
+use Rattle.row_bag.specs.Subqueries as subquery
 use Rattle.sql_value.specs.Arithmetic as a
 use Rattle.sql_value.specs.Comparison as c
 use Rattle.sql_value.specs.Like as l
@@ -78,7 +77,7 @@ module _ (rows : ℕ → Bag) where
     -- an aggregate is a cell of a group alone
     value count_all env = Null
     value (fold f t x) env = Null
-    value (scalar q) env = scalar_of (rows q)
+    value (scalar q) env = subquery.scalar (rows q)
 
     -- the result of the first condition that is true, and else the last cell
     pub first_true : Arms → Cell → Environment → Cell
@@ -92,8 +91,8 @@ module _ (rows : ℕ → Bag) where
     truth (and p q) env = t.and (truth p env) (truth q env)
     truth (or p q) env = t.or (truth p env) (truth q env)
     truth (not p) env = t.negated (truth p env)
-    truth (some q p) env = total t.or (t.truth_of false) (λ cells level. t.and (presence level) (truth p (bound q cells env))) (rows q)
-    truth (every q p) env = total t.and (t.truth_of true) (λ cells level. t.or (t.negated (presence level)) (truth p (bound q cells env))) (rows q)
+    truth (some q p) env = subquery.some (λ cells. truth p (bound q cells env)) (rows q)
+    truth (every q p) env = subquery.every (λ cells. truth p (bound q cells env)) (rows q)
 
   -- all of these conditions
   abbrev pub all_true : List Cond → Environment → Truth

@@ -4,7 +4,6 @@ ghost use Rattle.qgm_meaning.specs.Fits.{Hereditary};
 ghost use Rattle.qgm_meaning.specs.Rules.{ExistsJoins, Joins, Passes, ScalarJoins};
 ghost use Rattle.qgm_meaning.specs.Merging.{GivenMerged};
 ghost use Rattle.qgm_meaning.specs.Uses.{Keyed};
-ghost use Rattle.qgm_meaning.specs.Words.{SameWords};
 ghost use Rattle.qgm_meaning.specs.Widths.{WideBoxes};
 ghost use Rattle.qgm_meaning.specs.Laws.{Framed, Looked, LooseUnfold, Only, OnlyAgree, Put, PutBelow, PutCond, Replaced, Unfold};
 
@@ -37,10 +36,9 @@ pub fn rule_laws()
     ensures scalar_joins { ScalarJoins }
 {}
 
-/// That the words of sql_meaning are these. It does nothing.
+/// How wide rows are, and groups by a function of the rows. It does nothing.
 pub fn word_laws()
     ensures wide { WideBoxes }
-    ensures words { SameWords }
     ensures keyed { Keyed }
     ensures given_merged { GivenMerged }
 {}

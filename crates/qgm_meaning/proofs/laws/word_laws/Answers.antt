@@ -1,6 +1,5 @@
 use Rattle.qgm_meaning.proofs.Widened.{wide-boxes}
 use Rattle.qgm_meaning.proofs.Keyed.{group-keyed, keys-keyed}
-use Rattle.qgm_meaning.proofs.Landed.{greater-same, lesser-same, scalar-same}
 use Rattle.qgm_meaning.proofs.MergedRows.{given-merged}
 use Rattle.qgm_meaning.proofs.laws.word_laws.Goals as goal
 
@@ -12,6 +11,3 @@ returns-clause-keyed c = record { keys = λ n key rows long. keys-keyed n key lo
 
 pub returns-clause-given_merged : goal.returns-clause-given_merged
 returns-clause-given_merged c = λ ms q s t conds ic head ih unread fh fc d e m same. given-merged ms q s t conds ic head ih unread fh fc d e m same
-
-pub returns-clause-words : goal.returns-clause-words
-returns-clause-words c = record { scalars = scalar-same; lessers = lesser-same; greaters = greater-same }
