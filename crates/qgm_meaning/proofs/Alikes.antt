@@ -35,8 +35,7 @@ use Rattle.qgm_meaning.specs.Laws.{AgreesBack, Stays, occurs}
 use Rattle.qgm_meaning.specs.Meaning.{Family, bag_in, combined, fold_cell, fold_cells, given, given_by, grouped_rows, groups, key_cells, nothing, of_one, of_two, once_if, outer_rows, over_each, quant_rows, rows_by, rows_found, rows_of}
 use Rattle.qgm_terms.specs.Terms.{Term, int, text, null_int, null_text, col, both, minus_of, choose, count_all, fold, scalar, Arms, no_arm, arm, Cond, always, compare, is_null, and, or, not, some, every}
 use Rattle.qgm_meaning.specs.Values.{Bag, Environment, all_true, bound, chosen_at, compared, first_true, head_cells, operate, truth, value}
-use Rattle.qgm_meaning.proofs.FoldLaws.{and-monoid, how_many-alike, or-monoid, or_else-alike}
-use Rattle.qgm_meaning.proofs.FoldsAlike.{folded-alike, scalar-alike}
+use Rattle.row_folds.proofs.FoldLaws.{every-alike, folded-alike, many-alike, or_else-alike, scalar-alike, some-alike}
 use Rattle.qgm_meaning.proofs.Ranked.{lower}
 
 -- ---- cells and conditions
@@ -54,7 +53,7 @@ module _ (r s : ℕ → Bag) (h : (q : ℕ) → Alike (r q) (s q)) where
     value-alike (choose w x) env = first_true-alike w _ _ env (value-alike x env)
     value-alike count_all env = refl
     value-alike (fold f t x) env = refl
-    value-alike (scalar q) env = scalar-alike (h q)
+    value-alike (scalar q) env = scalar-alike (r q) (s q) (h q)
 
     first_true-alike : (w : Arms) (x y : Cell) (env : Environment) → x ≡ y → first_true r w x env ≡ first_true s w y env
     first_true-alike no_arm x y env e = e
@@ -71,10 +70,10 @@ module _ (r s : ℕ → Bag) (h : (q : ℕ) → Alike (r q) (s q)) where
     truth-alike (not p) env = ap t.negated (truth-alike p env)
     truth-alike (some q p) env =
         ap (λ (f : List Cell → Truth). total t.or (t.truth_of false) (λ cells level. t.and (presence level) (f cells)) (r q)) (fun_ext (λ cells. truth-alike p (bound q cells env)))
-        ∙ total-alike same_cells same_cells-decides or-monoid (λ cells level. t.and (presence level) (truth s p (bound q cells env))) (h q)
+        ∙ some-alike (λ cells. truth s p (bound q cells env)) (r q) (s q) (h q)
     truth-alike (every q p) env =
         ap (λ (f : List Cell → Truth). total t.and (t.truth_of true) (λ cells level. t.or (t.negated (presence level)) (f cells)) (r q)) (fun_ext (λ cells. truth-alike p (bound q cells env)))
-        ∙ total-alike same_cells same_cells-decides and-monoid (λ cells level. t.or (t.negated (presence level)) (truth s p (bound q cells env))) (h q)
+        ∙ every-alike (λ cells. truth s p (bound q cells env)) (r q) (s q) (h q)
 
   pub all_true-alike : (ps : List Cond) (env : Environment) → all_true r ps env ≡ all_true s ps env
   all_true-alike [] env = refl
@@ -143,8 +142,8 @@ fold_cell-alike q env (col r k) h = refl
 fold_cell-alike q env (both o x y) h = refl
 fold_cell-alike q env (minus_of x) h = refl
 fold_cell-alike q env (choose s x) h = refl
-fold_cell-alike q env count_all h = ap count_cell (how_many-alike h)
-fold_cell-alike q env (fold f t x) h = folded-alike (aggregate_of f) (taken_of t) (alike-bind h (λ cells. alike-refl (unit (value nothing x (bound q cells env)))))
+fold_cell-alike q env count_all h = ap count_cell (many-alike _ _ h)
+fold_cell-alike q env (fold f t x) h = folded-alike (aggregate_of f) (taken_of t) _ _ (alike-bind h (λ cells. alike-refl (unit (value nothing x (bound q cells env)))))
 fold_cell-alike q env (scalar r) h = refl
 
 pub folds-alike : (q : ℕ) (env : Environment) (xs : List Term) {us vs : Bag} → Alike us vs → map (fold_cell q env us) xs ≡ map (fold_cell q env vs) xs
@@ -170,7 +169,7 @@ combined-alike Except width h k = collapsed-alike same_cells same_cells-decides 
 
 outer-alike : (n : Node) (s s' : Family) (env : Environment) (p q : ℕ) → Alike (s p env) (s' p env) → Alike (s q env) (s' q env) → Alike (outer_rows n s env p q) (outer_rows n s' env p q)
 outer-alike n s s' env p q h k =
-    alike-bind h (λ a. or_else-alike (unit (head_cells nothing n.parts.head (bound q [] (bound p a env)))) (alike-bind k (λ b. alike-refl (given nothing n (bound q b (bound p a env))))))
+    alike-bind h (λ a. or_else-alike _ _ (unit (head_cells nothing n.parts.head (bound q [] (bound p a env)))) (alike-bind k (λ b. alike-refl (given nothing n (bound q b (bound p a env))))))
 
 of_one-alike : (rs : List OwnedQuant) (f g : ℕ → Bag) → ((q : ℕ) → Alike (f q) (g q)) → Alike (of_one rs f) (of_one rs g)
 of_one-alike [] f g h = alike-refl []

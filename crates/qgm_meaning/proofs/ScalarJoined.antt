@@ -37,7 +37,7 @@ use Rattle.qgm_meaning.specs.Values.{Bag, Environment, all_true, bound, chosen_a
 use Rattle.qgm_meaning.proofs.Alikes.{once_if-alike}
 use Rattle.qgm_meaning.proofs.ExistsJoined.{inner, moved, overs-moved, own-append}
 use Rattle.qgm_meaning.proofs.Fitting.{hereditary}
-use Rattle.qgm_meaning.proofs.FoldsAlike.{scalar-alike}
+use Rattle.row_folds.proofs.FoldLaws.{scalar-alike}
 use Rattle.qgm_meaning.proofs.Frames.{any-framed, bag-framed, either-left, either-right, given-framed}
 use Rattle.qgm_meaning.proofs.Joined.{over_each-append, unread}
 use Rattle.qgm_meaning.proofs.Merged.{one-row, over_each-within}
@@ -187,7 +187,7 @@ module _ (tables : List Table) (g : QueryGraph) (b : ℕ) (p : BoxParts) (d : Di
     each-row : (env : Environment) → passes env ≡ true → Alike (given_by s n env) (bind (s i env) (λ cells. given_by s m (bound i cells env)))
     each-row env p =
         alike-sym (alike-trans (one-row (λ cells. given_by s m (bound i cells env)) (one-clean env p))
-        (alike-same (in-row (the env) env (first-column (the env) ∙ sym (scalar-alike (one-clean env p))))))
+        (alike-same (in-row (the env) env (first-column (the env) ∙ sym (scalar-alike _ _ (one-clean env p))))))
 
     stays-n : Stays passes s (us ++ vs)
     stays-n = without passes s us (as_Q S i over) vs (stays-of passes f g.boxes b n (hereditary f g.boxes) held)

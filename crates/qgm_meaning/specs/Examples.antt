@@ -15,7 +15,7 @@ use Rattle.sql_value.specs.declared.order_key.SqlType.TheVariants.{Integer}
 use Rattle.qgm_core.specs.declared.kinds.BoxKind.{BoxKind}
 use Rattle.qgm_core.specs.declared.kinds.BoxKind.TheVariants.{Base, Select, Group, SetOp, OuterJoin}
 use Rattle.qgm_core.specs.declared.kinds.SetOperator.{SetOperator}
-use Rattle.qgm_core.specs.declared.kinds.SetOperator.TheVariants.{UnionAll, IntersectAll, ExceptAll, Except}
+use Rattle.qgm_core.specs.declared.kinds.SetOperator.TheVariants.{UnionAll, Intersect, IntersectAll, ExceptAll, Except}
 use Rattle.qgm_meaning.specs.Meaning.{root_bag}
 use Rattle.qgm_meaning.specs.Scope.{loose}
 use Rattle.qgm_terms.specs.Terms.{Term, int, col, both, count_all, fold, single, sum, least, each_once, all_of, scalar, Cond, always, compare, equal, some}
@@ -86,9 +86,14 @@ pub record Computed : Type 0 where
   pub sets_except_all : set ExceptAll ≡ rows ((n 2 ∷ []) ∷ (n 1 ∷ []) ∷ (n 1 ∷ []) ∷ [])
   -- collapsed
   pub sets_failing : failing Except ≡ row (Err kind.Division ∷ []) Division ∷ []
+  pub sets_failing_both : failing Intersect ≡ row (Err kind.Division ∷ []) Division ∷ []
   pub sets_not_failing : failing UnionAll ≡ rows ((n 1 ∷ []) ∷ (n 2 ∷ []) ∷ (n 1 ∷ []) ∷ (n 1 ∷ []) ∷ (Err kind.Division ∷ []) ∷ [])
   -- a left join on the second column: the null meets nothing
   pub joins : of (box 1 OuterJoin (compare equal (col 1 2) (col 2 1) ∷ []) (col 1 1 ∷ col 2 1 ∷ []) (f 1 2 ∷ f 2 3 ∷ []) ∷ t 2 ∷ box 3 Select [] (i 7 ∷ []) [] ∷ []) ≡ row (n 1 ∷ Null ∷ []) Yes ∷ row (n 2 ∷ Null ∷ []) Yes ∷ row (n 1 ∷ n 7 ∷ []) Yes ∷ row (n 1 ∷ Null ∷ []) Yes ∷ []
+  -- partners at no by their own level: the left row stands once with nulls
+  pub joins_nothing : of (box 1 OuterJoin [] (col 1 1 ∷ col 2 1 ∷ []) (f 1 2 ∷ f 2 3 ∷ []) ∷ t 2 ∷ box 3 Select (compare equal (i 1) (i 2) ∷ []) (i 7 ∷ []) [] ∷ []) ≡ rows ((n 1 ∷ Null ∷ []) ∷ (n 2 ∷ Null ∷ []) ∷ (n 1 ∷ Null ∷ []) ∷ (n 1 ∷ Null ∷ []) ∷ [])
+  -- partners at an error level are partners
+  pub joins_failing : of (box 1 OuterJoin (compare equal (both Div (i 1) (i 0)) (i 1) ∷ []) (col 2 1 ∷ []) (f 1 2 ∷ f 2 3 ∷ []) ∷ box 2 Select [] (i 5 ∷ []) [] ∷ box 3 Select [] (i 7 ∷ []) [] ∷ []) ≡ row (n 7 ∷ []) Division ∷ []
   -- a scalar of four rows, and of none
   pub scalars : of (box 1 Select [] (scalar 1 ∷ scalar 2 ∷ []) (s 1 2 ∷ s 2 3 ∷ []) ∷ t 2 ∷ empty 3 ∷ []) ≡ rows ((Err kind.Cardinality ∷ Null ∷ []) ∷ [])
   -- a lateral quantifier: for each row of T its own second column

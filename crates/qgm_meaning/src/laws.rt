@@ -7,7 +7,9 @@ ghost use Rattle.qgm_meaning.specs.Uses.{Keyed};
 ghost use Rattle.qgm_meaning.specs.Widths.{WideBoxes};
 ghost use Rattle.qgm_meaning.specs.Laws.{Framed, Looked, LooseUnfold, Only, OnlyAgree, Put, PutBelow, PutCond, Replaced, Unfold};
 
-/// It does nothing.
+/// The laws that rewriting a graph stands on: what a box gives over the bags of the whole graph, that
+/// these bags are the only ones, exactly and up to agreement, what a box looks up in its environment,
+/// and cells in place of a quantifier's columns. It does nothing.
 pub fn graph_laws()
     ensures unfold { Unfold }
     ensures only { Only }
@@ -22,13 +24,14 @@ pub fn graph_laws()
     ensures loose_unfold { LooseUnfold }
 {}
 
-/// What small graphs come to. It does nothing.
+/// What small graphs of each kind come to, and what is loose in them. It does nothing.
 pub fn examples()
     ensures computed { Computed }
     ensures looses { Looses }
 {}
 
-/// What two rules stand on. It does nothing.
+/// What rules of different classes stand on: EXISTS under DISTINCT as a join, a scalar of one clean row
+/// as a join, and a filter that goes through a group. It does nothing.
 pub fn rule_laws()
     ensures joins { Joins }
     ensures passes { Passes }

@@ -2,7 +2,7 @@ use Rattle.std.proofs.Common.{refl}
 use Rattle.qgm_meaning.proofs.laws.examples.Goals as goal
 
 pub returns-clause-computed : goal.returns-clause-computed
-returns-clause-computed c = record { selects = refl; groups = refl; groups_nothing = refl; groups_single = refl; groups_failing = refl; sets_intersect_all = refl; sets_except_all = refl; sets_failing = refl; sets_not_failing = refl; joins = refl; scalars = refl; lateral = refl; exists = refl; exists_beside = refl }
+returns-clause-computed c = record { selects = refl; groups = refl; groups_nothing = refl; groups_single = refl; groups_failing = refl; sets_intersect_all = refl; sets_except_all = refl; sets_failing = refl; sets_failing_both = refl; sets_not_failing = refl; joins = refl; joins_nothing = refl; joins_failing = refl; scalars = refl; lateral = refl; exists = refl; exists_beside = refl }
 
 pub returns-clause-looses : goal.returns-clause-looses
 returns-clause-looses c = record { below = refl; seen = refl; turned = refl; strayed = refl }

@@ -1,0 +1,4 @@
+mod Numbers
+mod Fills
+mod Order
+mod Made

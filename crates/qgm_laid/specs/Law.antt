@@ -1,0 +1,66 @@
+-- What is made for a query shows it.
+use Rattle.std.specs.Prelude.{◌≡◌, ◌≤◌, ◌<◌, ℕ, Bool, true, false, List, [], ◌∷◌, ⊤}
+use Rattle.sql_meaning.specs.ResolvedTrees.{Query}
+use Rattle.sql_meaning.specs.ResolvedTrees as q
+use Rattle.qgm_core.specs.Boxes.{Ordered, owns}
+use Rattle.qgm_core.specs.declared.node.Node.{Node}
+use Rattle.qgm_meaning.specs.Scope.{loose, loose_of}
+use Rattle.qgm_shown.specs.Maps.{Frame, Map, Ref, nothing, none_counted, column}
+use Rattle.qgm_shown.specs.Shown.{Shows, Thing, of_operand, of_query}
+use Rattle.qgm_shown.specs.Sources.{Sources}
+use Rattle.qgm_laid.specs.Buildable.{Buildable}
+use Rattle.qgm_laid.specs.Lay.{Boxes, Laid, lay}
+
+-- the columns of a map are those of quantifiers below n
+abbrev pub UnderRef : ℕ → Ref → Type 0
+UnderRef n nothing = ⊤
+UnderRef n none_counted = ⊤
+UnderRef n (column q k) = q < n
+
+abbrev pub UnderIn : ℕ → Frame → Type 0
+UnderIn n [] = ⊤
+UnderIn n (r ∷ fr) = UnderRef n r × UnderIn n fr
+
+abbrev pub Under : ℕ → Map → Type 0
+Under n [] = ⊤
+Under n (fr ∷ m) = UnderIn n fr × Under n m
+
+-- numbers of boxes are below k
+abbrev pub Low : ℕ → List Node → Type 0
+Low k [] = ⊤
+Low k (n ∷ ns) = (n.id < k) × Low k ns
+
+-- no box looks up a quantifier of its own in its environment
+abbrev pub Settled : List Node → Type 0
+Settled [] = ⊤
+Settled (n ∷ ns) = ((q : ℕ) → owns q n ≡ true → loose_of n (loose ns) q ≡ false) × Settled ns
+
+-- each box ranges over boxes behind it, no two have one number, and each name is in view
+pub record InOrder (s : Boxes) : Type 0 where
+  pub low : Low s.box s.made
+  pub ordered : Ordered s.made
+  pub settled : Settled s.made
+
+module _ (sources : Sources) (has : List ℕ → Bool) where
+  -- what was made before stays, in order
+  pub record Keeps (a b : Boxes) : Type 0 where
+    pub boxes : a.box ≤ b.box
+    pub quants : a.quant ≤ b.quant
+    pub order : InOrder a → InOrder b
+    pub same : (j : ℕ) (thing : Thing) (m : Map) → j < a.box → Shows sources a.made j thing m → Shows sources b.made j thing m
+
+  -- bases and views stand below, and the map's quantifiers were drawn
+  pub record Ready (s : Boxes) (m : Map) : Type 0 where
+    pub known : (name : List ℕ) → has name ≡ true → sources.shared name < s.box
+    pub sourced : (name : List ℕ) → has name ≡ true → (m : Map) → Shows sources s.made (sources.shared name) (of_operand (q.named name)) m
+    pub under : Under s.quant m
+
+  pub record Made (thing : Thing) (m : Map) (s : Boxes) (r : Laid) : Type 0 where
+    pub keeps : Keeps s r.boxes
+    pub known : r.top < r.boxes.box
+    pub shows : Shows sources r.boxes.made r.top thing m
+
+abbrev pub Lays : Type 0
+Lays =
+    (sources : Sources) (has : List ℕ → Bool)
+    → (query : Query) (m : Map) (s : Boxes) → Buildable sources has query → Ready sources has s m → Made sources has (of_query query) m s (lay sources query m s)

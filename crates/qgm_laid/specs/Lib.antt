@@ -1,0 +1,4 @@
+pub mod Lay
+pub mod Buildable
+pub mod Law
+pub mod Sample

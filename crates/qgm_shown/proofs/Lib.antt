@@ -1,0 +1,16 @@
+pub mod Bridge
+pub mod Results
+pub mod TermLaws
+pub mod Wide
+pub mod Things
+pub mod Froms
+pub mod Selects
+pub mod Keys
+pub mod Groups
+pub mod Uppers
+pub mod Widths
+pub mod Boxes
+mod Sampled
+mod Refused
+pub mod Clear
+pub mod Loose
