@@ -53,12 +53,13 @@ module _ (sources : Sources) (has : List ℕ → Bool) where
   keeps-refl a = record { boxes = omega arith; quants = omega arith; order = λ o. o; same = λ j thing m l h. h }
 
   pub keeps-numbered : (a : Boxes) → Keeps a (numbered a)
-  keeps-numbered a = record { boxes = omega arith; quants = omega arith; order = λ o. o; same = λ j thing m l h. h }
+  keeps-numbered a = record { boxes = omega arith; quants = omega arith; order = λ o. record { low = o.low; ordered = o.ordered; settled = o.settled; each = o.each }; same = λ j thing m l h. h }
 
   pub keeps-trans : (a b c : Boxes) → Keeps a b → Keeps b c → Keeps a c
   keeps-trans a b c h k = record {
     boxes = (let x = h.boxes in let y = k.boxes in omega arith);
     quants = (let x = h.quants in let y = k.quants in omega arith);
+    order = λ o. k.order (h.order o);
     same = λ j thing m l s. k.same j thing m (let x = h.boxes in omega arith) (h.same j thing m l s);
   }
 
@@ -87,12 +88,13 @@ module _ (sources : Sources) (has : List ℕ → Bool) where
           boxes = (let x = k.boxes in omega arith);
           quants = k.quants;
           order = λ o.
-            let x = k.order o in
-            record {
-              low = (omega arith, low-more s.box (suc s.box) s.made (omega arith) x.low);
-              ordered = (low-not s.box s.made x.low, thing-over sources s.made (Shows s.made) (λ b u p g. shows-has sources s.made b u p g) thing m n h, x.ordered);
-              settled = ((λ q own. thing-settled sources q (loose s.made) (Shows s.made) (λ b u p g f. shown-clear sources q s.made b u p g f) thing m n h own), x.settled);
-            };
+              let x = k.order o in
+              record {
+                low = (omega arith, low-more s.box (suc s.box) s.made (omega arith) x.low);
+                ordered = (low-not s.box s.made x.low, thing-over sources s.made (Shows s.made) (λ b u p g. shows-has sources s.made b u p g) thing m n h, x.ordered);
+                settled = ((λ q own. thing-settled sources q (loose s.made) (Shows s.made) (λ b u p g f. shown-clear sources q s.made b u p g f) thing m n h own), x.settled);
+                each = (record { thing = thing; seen = m; shows = h }, x.each);
+              };
           same = λ j t p l g.
               subst (λ own. w.Either own (w.ShowsBox sources (Shows s.made) t p n) (Shows s.made j t p)) (sym (ne_eqb s.box j (λ (e : s.box ≡ j). absurd (let x = k.boxes in omega arith)))) (k.same j t p l g);
         };
@@ -330,19 +332,19 @@ module _ (sources : Sources) (has : List ℕ → Bool) where
       })
 
   two-made : (x z t : Query) (form : forms.SetOperator) (n : ℕ) (m : Map) (s : Boxes) (a : Laid) (lay : Boxes → Laid) → Ready s m → Made (of_query x) m s a → Made (of_query z) m a.boxes (lay a.boxes)
-      → width x ≡ n → width z ≡ n → length (sources.output m x) ≡ n
-      → ((below : ℕ → Thing → Map → Type 0) (b : Node) → w.ShowsPair sources below form n x z m b → w.ShowsQuery sources below t m b) → Made (of_query t) m s (y.two_box (SetOp form (sources.output m x)) lay a)
-  two-made x z t form n m s a lay r h k left right types to =
+      → width x ≡ n → width z ≡ n
+      → ((below : ℕ → Thing → Map → Type 0) (b : Node) → w.ShowsPair sources below form n x z m b → w.ShowsQuery sources below t m b) → Made (of_query t) m s (y.two_box sources form n lay a)
+  two-made x z t form n m s a lay r h k left right to =
       let b = lay a.boxes in
       let c = numbered (numbered b.boxes) in
       let os = pair_of b.boxes.quant a.top b.top in
+      let kind = SetOp form (map sources.typed (w.columns_of b.boxes.quant 1 n)) in
       let grow = keeps-trans b.boxes (numbered b.boxes) c (keeps-numbered b.boxes) (keeps-numbered (numbered b.boxes)) in
       let later = keeps-trans s a.boxes b.boxes h.keeps k.keeps in
-      made-put (SetOp form (sources.output m x)) false [] [] os (of_query t) m s c (keeps-trans s b.boxes c later grow)
-      (to (Shows c.made) (y.plain_box c.box (SetOp form (sources.output m x)) false [] [] os)
+      made-put kind false [] [] os (of_query t) m s c (keeps-trans s b.boxes c later grow)
+      (to (Shows c.made) (y.plain_box c.box kind false [] [] os)
       (record {
         kind = refl;
-        types = types;
         plain = record { distinctness = refl; role = refl; numbered = numbered-apart b.boxes.quant c.quant m os (under-more s.quant b.boxes.quant m later.quants r.under) (omega arith, (omega arith, omega arith)) };
         bare = (refl, refl);
         left = left;
@@ -459,11 +461,11 @@ module _ (sources : Sources) (has : List ℕ → Bool) where
     laid (q.combine x op all n z) m s h r =
         let a = y.lay sources x m s in
         let k = laid x m s h.0 r in
-        two-made x z (q.combine x op all n z) (w.form_of op all) n m s a (y.lay sources z m) r k (laid z m a.boxes h.1 (ready-keeps s a.boxes m r k.keeps)) h.2 h.3 (h.4 m) (λ below b t. t)
+        two-made x z (q.combine x op all n z) (w.form_of op all) n m s a (y.lay sources z m) r k (laid z m a.boxes h.1 (ready-keeps s a.boxes m r k.keeps)) h.2 h.3 (λ below b t. t)
     laid (q.intersect x all n z) m s h r =
         let a = y.lay sources x m s in
         let k = laid x m s h.0 r in
-        two-made x z (q.intersect x all n z) (w.common_form all) n m s a (y.lay sources z m) r k (laid z m a.boxes h.1 (ready-keeps s a.boxes m r k.keeps)) h.2 h.3 (h.4 m) (λ below b t. t)
+        two-made x z (q.intersect x all n z) (w.common_form all) n m s a (y.lay sources z m) r k (laid z m a.boxes h.1 (ready-keeps s a.boxes m r k.keeps)) h.2 h.3 (λ below b t. t)
 
     operand-laid : (x : From) (m : Map) (s : Boxes) → b.FitFrom sources has x → Ready s m → Made (of_operand x) m s (y.lay_operand sources x m s)
     operand-laid (q.named name) m s h r = named-made name m s h r

@@ -1,5 +1,5 @@
 -- A box that shows a thing ranges over boxes behind it, and doesn't look up its own quantifiers.
-use Rattle.std.proofs.Common.{◌≡◌, ◌<◌, ◌≤◌, ℕ, suc, ◌==◌, ◌||◌, cond, Bool, true, false, List, [], ◌∷◌, Option, Some, None, refl, ap, ap₂, sym, ◌∙◌, subst, arith}
+use Rattle.std.proofs.Common.{◌≡◌, ◌≤◌, ℕ, ◌==◌, ◌||◌, Bool, true, false, List, [], ◌∷◌, Option, Some, None, refl, ap, subst, arith}
 use Rattle.std.specs.List.{list_all, list_any}
 use Rattle.std.proofs.lemmas.Bool.{and_parts, eqb-true, ne_eqb}
 use Rattle.sql_meaning.specs.ResolvedTrees.{Test, From, Froms, Query}
@@ -9,14 +9,13 @@ use Rattle.qgm_core.specs.declared.node.Node.{Node}
 use Rattle.qgm_core.specs.declared.owned.OwnedQuant.{OwnedQuant}
 use Rattle.qgm_core.specs.declared.kinds.Distinct.{Distinct}
 use Rattle.qgm_terms.specs.Terms.{Term}
-use Rattle.qgm_meaning.specs.Scope.{loose, loose_of}
+use Rattle.qgm_meaning.specs.Scope.{loose_of}
 use Rattle.qgm_shown.specs.Leaves.{Leaf, Slots, count, fold, rest_of, sub}
 use Rattle.qgm_shown.specs.Maps.{Frame, Map, fresh}
 use Rattle.qgm_shown.specs.Shown.{Shows, ShowsBox, Thing, key_places, of_groups, of_operand, of_query, of_rows}
 use Rattle.qgm_shown.specs.Shown as w
 use Rattle.qgm_shown.specs.Sources.{Sources}
-use Rattle.qgm_shown.specs.Terms as l
-use Rattle.qgm_shown.proofs.Loose.{shown-clear, source-clear, thing-clear}
+use Rattle.qgm_shown.proofs.Loose.{source-clear, thing-clear}
 use Rattle.qgm_laid.specs.Law.{Low}
 
 -- a box that shows something is there

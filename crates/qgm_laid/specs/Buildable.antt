@@ -1,8 +1,8 @@
 -- Queries whose boxes can be made: what the checks of a query give.
-use Rattle.std.specs.Prelude.{◌≡◌, ℕ, Bool, true, List, [], length, ⊤}
+use Rattle.std.specs.Prelude.{◌≡◌, ℕ, Bool, true, List, [], ⊤}
 use Rattle.sql_meaning.specs.ResolvedTrees.{Value, Addends, Multipliers, Values, Arms, Choices, Test, Tests, From, Froms, Query}
 use Rattle.sql_meaning.specs.ResolvedTrees as q
-use Rattle.qgm_shown.specs.Maps.{Frame, Map}
+use Rattle.qgm_shown.specs.Maps.{Frame}
 use Rattle.qgm_shown.specs.Leaves.{leaves, test_leaves}
 use Rattle.qgm_shown.specs.Shown.{HasKey}
 use Rattle.qgm_shown.specs.Sources.{Sources, from_width, froms_width, width}
@@ -10,12 +10,12 @@ use Rattle.qgm_shown.specs.Sources.{Sources, from_width, froms_width, width}
 -- has: whether there is a table or a view of a name
 module _ (sources : Sources) (has : List ℕ → Bool) where
   abbrev mutual
-    -- operands of set operations are of the stated width, and each of their columns has a type; a GROUP BY is of the stated width and names a column
+    -- operands of set operations are of the stated width; a GROUP BY is of the stated width and names a column
     pub Buildable : Query → Type 0
     Buildable (q.block distinct list from by) = FitFroms from × FitValues list × FitTest by
     Buildable (q.grouped distinct list from by places n having) = FitFroms from × FitValues list × FitTest by × FitTest having × HasKey places × (froms_width sources from ≡ n)
-    Buildable (q.combine x op all n y) = Buildable x × Buildable y × (width x ≡ n) × (width y ≡ n) × ((m : Map) → length (sources.output m x) ≡ n)
-    Buildable (q.intersect x all n y) = Buildable x × Buildable y × (width x ≡ n) × (width y ≡ n) × ((m : Map) → length (sources.output m x) ≡ n)
+    Buildable (q.combine x op all n y) = Buildable x × Buildable y × (width x ≡ n) × (width y ≡ n)
+    Buildable (q.intersect x all n y) = Buildable x × Buildable y × (width x ≡ n) × (width y ≡ n)
 
     -- names are known; a LEFT JOIN's right is of the stated width, and no subquery stands in its ON
     pub FitFrom : From → Type 0

@@ -6,7 +6,7 @@ use Rattle.qgm_core.specs.Boxes.{Ordered, owns}
 use Rattle.qgm_core.specs.declared.node.Node.{Node}
 use Rattle.qgm_meaning.specs.Scope.{loose, loose_of}
 use Rattle.qgm_shown.specs.Maps.{Frame, Map, Ref, nothing, none_counted, column}
-use Rattle.qgm_shown.specs.Shown.{Shows, Thing, of_operand, of_query}
+use Rattle.qgm_shown.specs.Shown.{Shows, ShowsBox, Thing, of_operand, of_query}
 use Rattle.qgm_shown.specs.Sources.{Sources}
 use Rattle.qgm_laid.specs.Buildable.{Buildable}
 use Rattle.qgm_laid.specs.Lay.{Boxes, Laid, lay}
@@ -35,13 +35,24 @@ abbrev pub Settled : List Node → Type 0
 Settled [] = ⊤
 Settled (n ∷ ns) = ((q : ℕ) → owns q n ≡ true → loose_of n (loose ns) q ≡ false) × Settled ns
 
--- each box ranges over boxes behind it, no two have one number, and each name is in view
-pub record InOrder (s : Boxes) : Type 0 where
-  pub low : Low s.box s.made
-  pub ordered : Ordered s.made
-  pub settled : Settled s.made
-
 module _ (sources : Sources) (has : List ℕ → Bool) where
+  -- a box shows something through a map, over the boxes behind it
+  pub record ShowsSome (n : Node) (ns : List Node) : Type 0 where
+    pub thing : Thing
+    pub seen : Map
+    pub shows : ShowsBox sources (Shows sources ns) thing seen n
+
+  abbrev pub EachShows : List Node → Type 0
+  EachShows [] = ⊤
+  EachShows (n ∷ ns) = ShowsSome n ns × EachShows ns
+
+  -- each box shows something and ranges over boxes behind it, no two have one number, and none looks up its own quantifiers
+  pub record InOrder (s : Boxes) : Type 0 where
+    pub low : Low s.box s.made
+    pub ordered : Ordered s.made
+    pub settled : Settled s.made
+    pub each : EachShows s.made
+
   -- what was made before stays, in order
   pub record Keeps (a b : Boxes) : Type 0 where
     pub boxes : a.box ≤ b.box

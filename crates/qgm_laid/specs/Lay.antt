@@ -8,12 +8,13 @@ use Rattle.qgm_core.specs.declared.kinds.QuantKind.TheVariants.{F, E, S}
 use Rattle.qgm_core.specs.declared.kinds.BoxKind.{BoxKind}
 use Rattle.qgm_core.specs.declared.node.Node.{Node}
 use Rattle.qgm_core.specs.declared.owned.OwnedQuant.{OwnedQuant}
+use Rattle.qgm_core.specs.declared.kinds.SetOperator as forms
 use Rattle.qgm_core.specs.declared.kinds.Role.TheVariants.{Plain}
 use Rattle.qgm_core.specs.declared.kinds.BoxKind.TheVariants.{Select, Group, SetOp, OuterJoin}
 use Rattle.qgm_shown.specs.Maps.{Frame, Map, ref_term}
 use Rattle.qgm_shown.specs.Leaves.{Leaf, Slots, after, every_or_some, list_leaves}
 use Rattle.qgm_shown.specs.Terms.{cond, split, terms}
-use Rattle.qgm_shown.specs.Shown.{common_form, distinct_of, form_of, groups_list, key_frame, key_places, no_slots, refs, rows_list}
+use Rattle.qgm_shown.specs.Shown.{columns_of, common_form, distinct_of, form_of, groups_list, key_frame, key_places, no_slots, refs, rows_list}
 use Rattle.qgm_shown.specs.Shown as w
 use Rattle.qgm_shown.specs.Sources.{Sources, from_width}
 
@@ -71,12 +72,13 @@ over kind lay s = drawn kind (lay s)
 abbrev pub pair_of : ℕ → ℕ → ℕ → List OwnedQuant
 pair_of q a b = record { id = q; kind = F; over = a } ∷ (record { id = suc q; kind = F; over = b } ∷ [])
 
-abbrev pub two_box : BoxKind → (Boxes → Laid) → Laid → Laid
-two_box kind b x =
-    let y = b x.boxes in
-    put kind false [] [] (pair_of y.boxes.quant x.top y.top) (numbered (numbered y.boxes))
-
 module _ (sources : Sources) where
+  -- a set operation over what was laid in turn
+  abbrev pub two_box : forms.SetOperator → ℕ → (Boxes → Laid) → Laid → Laid
+  two_box form n b x =
+      let y = b x.boxes in
+      put (SetOp form (map sources.typed (columns_of y.boxes.quant 1 n))) false [] [] (pair_of y.boxes.quant x.top y.top) (numbered (numbered y.boxes))
+
   -- a select over a FROM, whose quantifiers are drawn, and then those of its subqueries
   abbrev pub select_box : Bool → Froms → Test → (Frame → List Leaf) → (Frame → Slots → List Term) → Map → List OwnedQuant → Drawn → Laid
   select_box distinct from by heads list m fs c =
@@ -121,8 +123,8 @@ module _ (sources : Sources) where
         let rows = select_box false from by (λ fr. []) (rows_list sources (key_places places) ls) m f.quants (in_turn (all_on_subs m from f.quants) (test_subs m (w.frame_all sources from f.quants) by) f.boxes) in
         let groups = group_box (key_places places) ls rows in
         upper_box distinct list (key_places places) n having m u groups.top (in_turn (list_subs m up list) (test_subs m up having) groups.boxes)
-    lay (q.combine x op all n y) m s = two_box (SetOp (form_of op all) (sources.output m x)) (lay y m) (lay x m s)
-    lay (q.intersect x all n y) m s = two_box (SetOp (common_form all) (sources.output m x)) (lay y m) (lay x m s)
+    lay (q.combine x op all n y) m s = two_box (form_of op all) n (lay y m) (lay x m s)
+    lay (q.intersect x all n y) m s = two_box (common_form all) n (lay y m) (lay x m s)
 
     -- the box of an operand
     pub lay_operand : From → Map → Boxes → Laid

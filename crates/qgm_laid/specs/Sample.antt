@@ -1,7 +1,7 @@
 -- The boxes that are made for the sample query over its two tables and its view, and their rows.
 use Rattle.std.specs.Prelude.{◌≡◌, ℕ, codes, pos, Bool, List, [], ◌∷◌, ◌||◌}
 use Rattle.sql_ast.specs.Names.{same_name}
-use Rattle.qgm_core.specs.Boxes.{range}
+use Rattle.qgm_core.specs.Edits.{range}
 use Rattle.qgm_core.specs.declared.kinds.BoxKind.TheVariants.{Select}
 use Rattle.qgm_core.specs.declared.kinds.QuantKind.TheVariants.{F}
 use Rattle.qgm_meaning.specs.Meaning.{bag_in}

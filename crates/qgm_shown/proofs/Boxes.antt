@@ -50,6 +50,10 @@ use Rattle.qgm_shown.proofs.Uppers.{upper-rows}
 use Rattle.qgm_shown.proofs.Wide.{Wide, bind-all}
 use Rattle.qgm_shown.proofs.Widths.{WideThing, wide-box, wide-kept}
 
+types-length : {X : Type 0} (f : Term → X) (q k n : ℕ) → length (map f (w.columns_of q k n)) ≡ n
+types-length f q k zero = refl
+types-length f q k (suc n) = ap suc (types-length f q (suc k) n)
+
 padded-head : (s : ℕ → Bag) (e : Environment) (x : Term) (xs : List Term) → head_cells s (padded x xs) e ≡ padded (value s x e) (head_cells s xs e)
 padded-head s e x [] = refl
 padded-head s e x (y ∷ ys) = refl
@@ -114,7 +118,7 @@ module _ (tables : List Table) (known : List ℕ → Bag) (sources : Sources)
         → rows_of tables b bag env ≡ boxes.combined form n (k.rows known x (seen env m)) (k.rows known y (seen env m))
     pair-box form n x y m b h env =
         ap (λ kind. rows_by kind tables b (rows_in b.quants bag) env) h.kind
-        ∙ ap (λ w. of_two b.quants (λ p r. boxes.combined form w (rows_in b.quants bag p env) (rows_in b.quants bag r env))) h.types
+        ∙ ap (λ w. of_two b.quants (λ p r. boxes.combined form w (rows_in b.quants bag p env) (rows_in b.quants bag r env))) (types-length sources.typed (w.first_id b.quants) 1 n)
         ∙ two-rows (λ p r. Below p.over (of_query x) m × Below r.over (of_query y) m) (Gives (rows_in b.quants bag) bag) (boxes.combined form n (k.rows known x (seen env m)) (k.rows known y (seen env m)))
         (λ p r. boxes.combined form n (rows_in b.quants bag p env) (rows_in b.quants bag r env)) b.quants h.quants (gives bag b.quants h.plain.numbered.0)
         (λ p r e g. ap₂ (boxes.combined form n) (g.0 env ∙ bags p.over (of_query x) m e.0 env) (g.1.0 env ∙ bags r.over (of_query y) m e.1 env))

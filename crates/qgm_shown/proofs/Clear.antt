@@ -223,18 +223,18 @@ module _ (n : ℕ) where
         term-clear s (q.negative x) c = term-clear s x c
         term-clear s (q.searched xs last) c =
             let end = after (w.arm_leaves fr xs) s in
-            let type = sources.typed (fr ∷ m) (q.searched xs last) in
+            let type = l.arms_type sources fr m s xs (sources.typed (T end last)) in
             or-none (reads_arms n (l.arms sources fr m type s xs)) (reads n (l.result_as type last (T end last))) (arms-clear type s xs c) (result-clear type last (T end last) (term-clear end last (after-clear (w.arm_leaves fr xs) s c)))
         term-clear s (q.simple x xs last) c =
             let mid = past x s in
             let end = after (w.choice_leaves fr xs) mid in
-            let type = sources.typed (fr ∷ m) (q.simple x xs last) in
+            let type = l.choices_type sources fr m mid xs (sources.typed (T end last)) in
             or-none (reads_arms n (l.choices sources fr m type mid (T s x) xs)) (reads n (l.result_as type last (T end last))) (choices-clear type mid (T s x) xs (next x s c) (term-clear s x c))
             (result-clear type last (T end last) (term-clear end last (after-clear (w.choice_leaves fr xs) mid (next x s c))))
         term-clear s (q.coalesce x xs) c = coalesced-clear (past x s) (T s x) xs (next x s c) (term-clear s x c)
         term-clear s (q.null_if x y) c =
-            case-clear (tree.compare tree.equal (T s x) (T (past x s) y)) (l.null_as (sources.typed (fr ∷ m) x)) (T s x)
-            (or-none (R s x) (R (past x s) y) (term-clear s x c) (term-clear (past x s) y (next x s c))) (null-clear (sources.typed (fr ∷ m) x)) (term-clear s x c)
+            case-clear (tree.compare tree.equal (T s x) (T (past x s) y)) (l.null_as (sources.typed (T s x))) (T s x)
+            (or-none (R s x) (R (past x s) y) (term-clear s x c) (term-clear (past x s) y (next x s c))) (null-clear (sources.typed (T s x))) (term-clear s x c)
         term-clear s (q.scalar query) c = refl
         term-clear s q.count_all c = ref-clear (first_cell s.cells) (first-clear s.cells c)
         term-clear s (q.aggregate f distinct x) c = ref-clear (first_cell s.cells) (first-clear s.cells c)

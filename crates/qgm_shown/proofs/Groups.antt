@@ -24,6 +24,7 @@ use Rattle.qgm_terms.specs.Terms.{Term}
 use Rattle.qgm_terms.specs.Terms as t
 use Rattle.qgm_meaning.specs.Meaning.{nothing}
 use Rattle.row_bag.specs.Aggregates.{folded}
+use Rattle.qgm_meaning.specs.Aggregated.{aggregate_of, taken_of}
 use Rattle.qgm_shown.specs.Shown.{aggregate, taken}
 use Rattle.qgm_shown.proofs.Bridge.{folds-same}
 use Rattle.qgm_meaning.specs.Meaning.{fold_cells, fold_cell, grouped_rows, groups, key_cells}
@@ -302,7 +303,7 @@ module _ (known : List ℕ → Bag) where
   folds-free q env rows j (sub f kind x ∷ ls) = folds-free q env rows j ls
   folds-free q env rows j (fold f distinct x ∷ ls) =
       ap₂ (λ a b. a ∷ b)
-      (ap (λ (h : List Cell → List (Row Cell)). folded (aggregate f) (taken distinct) (bind rows h)) (fun_ext (λ (c : List Cell). ap (λ row. unit (cell_of j row)) (row-same q c env ∙ sym (row-same 0 c [])))))
+      (ap (λ (h : List Cell → List (Row Cell)). folded (aggregate_of (aggregate f)) (taken_of (taken distinct)) (bind rows h)) (fun_ext (λ (c : List Cell). ap (λ row. unit (cell_of j row)) (row-same q c env ∙ sym (row-same 0 c [])))))
       (folds-free q env rows (suc j) ls)
   folds-free q env rows j (count ∷ ls) = ap (λ b. count_cell (how_many rows) ∷ b) (folds-free q env rows j ls)
 

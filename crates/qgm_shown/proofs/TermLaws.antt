@@ -198,15 +198,15 @@ module _ (known : List ℕ → Bag) (s : ℕ → Bag) (own : Frame → k.Scopes)
       term-means sl (q.negative x) h env g = rw (term-means sl x h env g) refl
       term-means sl (q.searched xs last) h env g =
           let a = mean-append (w.arm_leaves fr xs) (lv last) sl h in
-          let type = sources.typed (fr ∷ outer) (q.searched xs last) in
           let end = term sources fr outer (after (w.arm_leaves fr xs) sl) last in
+          let type = l.arms_type sources fr outer sl xs (sources.typed end) in
           arms-mean type sl xs (m.value s (l.result_as type last end) env) a.0 env g
           ∙ ap (λ z. k.of_arms known xs z scopes group) (result-means known s env scopes group type last end (term-means (after (w.arm_leaves fr xs) sl) last a.1 env g))
       term-means sl (q.simple x xs last) h env g =
           let a = mean-append (lv x) (w.choice_leaves fr xs ++ lv last) sl h in
           let b = mean-append (w.choice_leaves fr xs) (lv last) (after (lv x) sl) a.1 in
           let end = after (w.choice_leaves fr xs) (after (lv x) sl) in
-          let type = sources.typed (fr ∷ outer) (q.simple x xs last) in
+          let type = l.choices_type sources fr outer (after (lv x) sl) xs (sources.typed (term sources fr outer end last)) in
           choices-mean type (after (lv x) sl) (term sources fr outer sl x) xs (m.value s (l.result_as type last (term sources fr outer end last)) env) b.0 env g
           ∙ ap₂ (λ z y. k.of_choices known z xs y scopes group) (term-means sl x a.0 env g) (result-means known s env scopes group type last (term sources fr outer end last) (term-means end last b.1 env g))
       term-means sl (q.coalesce x xs) h env g =
@@ -214,7 +214,7 @@ module _ (known : List ℕ → Bag) (s : ℕ → Bag) (own : Frame → k.Scopes)
           coalesced-means (after (lv x) sl) (term sources fr outer sl x) xs a.1 env g ∙ ap (λ z. k.coalesced known z xs scopes group) (term-means sl x a.0 env g)
       term-means sl (q.null_if x y) h env g =
           let a = mean-append (lv x) (lv y) sl h in
-          cases (ap₂ (c.compare Eq) (term-means sl x a.0 env g) (term-means (after (lv x) sl) y a.1 env g)) (as-null s env (sources.typed (fr ∷ outer) x)) (term-means sl x a.0 env g)
+          cases (ap₂ (c.compare Eq) (term-means sl x a.0 env g) (term-means (after (lv x) sl) y a.1 env g)) (as-null s env (sources.typed (term sources fr outer sl x))) (term-means sl x a.0 env g)
       term-means sl (q.scalar query) h env g = ap u.scalar h.0
       term-means sl q.count_all h env g = ref-means s env (first_cell sl.cells) ∙ reads (first_cell sl.cells) _ h.0 env g
       term-means sl (q.aggregate f distinct x) h env g = ref-means s env (first_cell sl.cells) ∙ reads (first_cell sl.cells) _ h.0 env g

@@ -8,10 +8,11 @@ use Rattle.sql_meaning.specs.ResolvedMeaning.{rows}
 use Rattle.sql_meaning.specs.ResolvedTrees.{Value, Values, From, Froms, Test, Query}
 use Rattle.sql_meaning.specs.ResolvedTrees as q
 use Rattle.sql_meaning.specs.ResolvedViews.{known_of}
-use Rattle.qgm_core.specs.Boxes.{range}
+use Rattle.qgm_core.specs.Edits.{range}
 use Rattle.qgm_core.specs.declared.node.Node.{Node}
 use Rattle.qgm_core.specs.declared.kinds.BoxKind.TheVariants.{Select, Group, OuterJoin}
 use Rattle.qgm_core.specs.declared.kinds.QuantKind.TheVariants.{F, E, S}
+use Rattle.qgm_terms.specs.Terms.{Term}
 use Rattle.qgm_terms.specs.Terms as t
 use Rattle.qgm_meaning.specs.Meaning.{bag_in}
 use Rattle.qgm_meaning.specs.Values.{Bag}
@@ -124,6 +125,15 @@ asked_twice =
     box 1 Select [] (t.choose (t.arm (t.not (t.is_null (t.scalar 2))) (t.scalar 4) t.no_arm) (t.int (pos 0)) ∷ []) (range 1 F 6 ∷ range 2 S 2 ∷ range 4 S 3 ∷ [])
     ∷ first_of_U 2 3 ∷ first_of_U 3 5 ∷ bases
 
+-- ---- SELECT CASE WHEN A = 1 THEN 'x' END FROM T
+
+abbrev pub texts : Query
+texts = q.block false (only (q.searched (q.one_arm (q.compare (column 0) op.Eq (q.number (pos 1))) (q.text (codes "x")) q.no_arm) (q.null None))) (from table_T) always
+
+-- with this NULL at the end
+abbrev pub texts_boxes : Term → List Node
+texts_boxes last = box 1 Select [] (t.choose (t.arm (t.compare t.equal (t.col 1 1) (t.int (pos 1))) (t.text (codes "x")) t.no_arm) last ∷ []) (range 1 F 6 ∷ []) ∷ bases
+
 -- ----
 
 -- the rows that are there, of the first box and of the query
@@ -148,3 +158,5 @@ pub record Refused : Type 0 where
   pub having_below_rows : given having_below ≡ there ((n 2 ∷ n 1 ∷ []) ∷ (n 1 ∷ n 1 ∷ []) ∷ [])
   pub coalesced_built : Shown coalesced_boxes coalesced
   pub asked_twice_refused : Shown asked_twice coalesced → ⊥
+  pub text_null_built : Shown (texts_boxes t.null_text) texts
+  pub integer_null_refused : Shown (texts_boxes t.null_int) texts → ⊥

@@ -10,12 +10,14 @@ use Rattle.sql_ast.specs.declared.word.SetFunction.TheVariants as function
 use Rattle.sql_value.specs.declared.cell.Cell.{Cell}
 use Rattle.sql_value.specs.declared.cell.Cell.TheVariants.{Int, Null}
 use Rattle.sql_value.specs.declared.level.Level.TheVariants.{Yes}
-use Rattle.sql_value.specs.declared.order_key.SqlType.TheVariants.{Integer}
+use Rattle.sql_value.specs.declared.order_key.SqlType.{SqlType}
+use Rattle.sql_value.specs.declared.order_key.SqlType.TheVariants.{Integer, Varchar}
 use Rattle.sql_meaning.specs.ResolvedMeaning.{rows}
 use Rattle.sql_meaning.specs.ResolvedTrees.{Query}
 use Rattle.sql_meaning.specs.ResolvedTrees as q
 use Rattle.sql_meaning.specs.ResolvedViews.{ViewTree, body_of, known_of}
-use Rattle.qgm_core.specs.Boxes.{QueryGraph, range}
+use Rattle.qgm_core.specs.Boxes.{QueryGraph}
+use Rattle.qgm_core.specs.Edits.{range}
 use Rattle.qgm_core.specs.declared.node.Node.{Node}
 use Rattle.qgm_core.specs.declared.owned.OwnedQuant.{OwnedQuant}
 use Rattle.qgm_core.specs.declared.kinds.BaseTable.{BaseTable}
@@ -26,6 +28,7 @@ use Rattle.qgm_core.specs.declared.kinds.Role.TheVariants.{Plain}
 use Rattle.qgm_core.specs.declared.kinds.QuantKind.TheVariants.{F, E}
 use Rattle.qgm_terms.specs.Terms.{Term, Cond}
 use Rattle.qgm_terms.specs.Terms as t
+use Rattle.qgm_terms.specs.declared.tree.Op.TheVariants.{Add, Sub, Mul, Div, Cat}
 use Rattle.qgm_meaning.specs.Meaning.{root_bag}
 use Rattle.qgm_meaning.specs.Values.{Bag}
 use Rattle.qgm_shown.specs.Law.{IsBuiltOf}
@@ -53,6 +56,24 @@ views =
 abbrev pub stored : List ℕ → BaseTable
 stored name = record { name = name; types = Integer ∷ Integer ∷ []; keys = []; not_null = [] }
 
+-- all columns are INTEGER
+abbrev pub typed : Term → SqlType
+typed (t.text x) = Varchar
+typed t.null_text = Varchar
+typed (t.both Cat x y) = Varchar
+typed (t.both Add x y) = Integer
+typed (t.both Sub x y) = Integer
+typed (t.both Mul x y) = Integer
+typed (t.both Div x y) = Integer
+typed (t.int k) = Integer
+typed t.null_int = Integer
+typed (t.col q k) = Integer
+typed (t.scalar q) = Integer
+typed (t.minus_of x) = Integer
+typed (t.choose xs x) = typed x
+typed t.count_all = Integer
+typed (t.fold f once x) = Integer
+
 -- the boxes that are shared: 6 is T's, 7 is U's, 8 is V's
 abbrev pub sources : Sources
 sources = record {
@@ -60,8 +81,7 @@ sources = record {
   body = body_of views;
   stored = stored;
   shared = λ name. if same_name (codes "T") name then 6 else if same_name (codes "U") name then 7 else 8;
-  typed = λ m x. Integer;
-  output = λ m x. Integer ∷ [];
+  typed = typed;
 }
 
 -- a row of the FROM is (T.A, T.B, V.C, V.D)

@@ -329,10 +329,9 @@ module _ (sources : Sources) (Below : ℕ → Thing → Map → Type 0) where
     pub columns : froms_width sources from ≡ n
     pub upper : Upper list from by (key_places places) n having m b b.quants
 
-  -- a set operation, whose columns have the types of the left operand's
+  -- a set operation, whose columns have the types of the left quantifier's
   pub record ShowsPair (form : forms.SetOperator) (n : ℕ) (x y : Query) (m : Map) (b : Node) : Type 0 where
-    pub kind : b.parts.kind ≡ SetOp form (sources.output m x)
-    pub types : length (sources.output m x) ≡ n
+    pub kind : b.parts.kind ≡ SetOp form (map sources.typed (columns_of (first_id b.quants) 1 n))
     pub plain : IsPlain Preserve m b
     pub bare : IsBare b
     pub left : width x ≡ n

@@ -1,10 +1,10 @@
--- What names stand for, and how many columns queries and the operands of a FROM have.
+-- What names stand for, what types expressions have, and how many columns queries and the operands of a FROM have.
 use Rattle.std.specs.Prelude.{ℕ, suc, ◌+◌, List, Option}
 use Rattle.sql_value.specs.declared.order_key.SqlType.{SqlType}
-use Rattle.sql_meaning.specs.ResolvedTrees.{Value, Values, From, Froms, Query}
+use Rattle.sql_meaning.specs.ResolvedTrees.{Values, From, Froms, Query}
 use Rattle.sql_meaning.specs.ResolvedTrees as q
 use Rattle.qgm_core.specs.declared.kinds.BaseTable.{BaseTable}
-use Rattle.qgm_shown.specs.Maps.{Map}
+use Rattle.qgm_terms.specs.Terms.{Term}
 
 pub record Sources : Type 0 where
   -- how many columns a table or a view has
@@ -15,9 +15,8 @@ pub record Sources : Type 0 where
   pub stored : List ℕ → BaseTable
   -- the box that all share who name a table or a view
   pub shared : List ℕ → ℕ
-  -- the type of an expression, and the types of a query's columns, where the columns of the blocks round them are seen through a map
-  pub typed : Map → Value → SqlType
-  pub output : Map → Query → List SqlType
+  -- the type that an expression has in the graph
+  pub typed : Term → SqlType
 
 abbrev pub how_many_values : Values → ℕ
 how_many_values q.no_value = 0

@@ -90,13 +90,18 @@ module _ (sources : Sources) (fr : Frame) (m : Map) where
     term s (q.product x xs) = multiplied (after (leaves fr x) s) (term s x) xs
     term s (q.negative x) = t.minus_of (term s x)
     term s (q.searched xs last) =
-        t.choose (arms (sources.typed (fr ∷ m) (q.searched xs last)) s xs) (result_as (sources.typed (fr ∷ m) (q.searched xs last)) last (term (after (arm_leaves fr xs) s) last))
+        let end = term (after (arm_leaves fr xs) s) last in
+        let type = arms_type s xs (sources.typed end) in
+        t.choose (arms type s xs) (result_as type last end)
+    -- CASE x WHEN y tests x = y
     term s (q.simple x xs last) =
-        t.choose (choices (sources.typed (fr ∷ m) (q.simple x xs last)) (after (leaves fr x) s) (term s x) xs)
-        (result_as (sources.typed (fr ∷ m) (q.simple x xs last)) last (term (after (choice_leaves fr xs) (after (leaves fr x) s)) last))
+        let mid = after (leaves fr x) s in
+        let end = term (after (choice_leaves fr xs) mid) last in
+        let type = choices_type mid xs (sources.typed end) in
+        t.choose (choices type mid (term s x) xs) (result_as type last end)
     term s (q.coalesce x xs) = coalesced (after (leaves fr x) s) (term s x) xs
     -- CASE WHEN x = y THEN NULL ELSE x END
-    term s (q.null_if x y) = case (t.compare t.equal (term s x) (term (after (leaves fr x) s) y)) (null_as (sources.typed (fr ∷ m) x)) (term s x)
+    term s (q.null_if x y) = case (t.compare t.equal (term s x) (term (after (leaves fr x) s) y)) (null_as (sources.typed (term s x))) (term s x)
     term s (q.scalar query) = t.scalar (first_quant s.quants)
     term s q.count_all = ref_term (first_cell s.cells)
     term s (q.aggregate f distinct x) = ref_term (first_cell s.cells)
@@ -109,12 +114,22 @@ module _ (sources : Sources) (fr : Frame) (m : Map) where
     multiplied s x q.no_multiplier = x
     multiplied s x (q.one_multiplier op y ys) = multiplied (after (leaves fr y) s) (t.both (multiplicative op) x (term s y)) ys
 
-    -- with results of this type
+    -- the type of the first result that has one of its own, or else this one
+    pub arms_type : Slots → Arms → SqlType → SqlType
+    arms_type s q.no_arm type = type
+    arms_type s (q.one_arm p x xs) type =
+        if is_untyped x then arms_type (after (leaves fr x) (after (test_leaves fr p) s)) xs type else sources.typed (term (after (test_leaves fr p) s) x)
+
+    pub choices_type : Slots → Choices → SqlType → SqlType
+    choices_type s q.no_choice type = type
+    choices_type s (q.one_choice y z xs) type =
+        if is_untyped z then choices_type (after (leaves fr z) (after (leaves fr y) s)) xs type else sources.typed (term (after (leaves fr y) s) z)
+
+    -- the conditions, each with its result, which is of this type
     pub arms : SqlType → Slots → Arms → t.Arms
     arms type s q.no_arm = t.no_arm
     arms type s (q.one_arm p x xs) = t.arm (cond s p) (result_as type x (term (after (test_leaves fr p) s) x)) (arms type (after (leaves fr x) (after (test_leaves fr p) s)) xs)
 
-    -- CASE x WHEN y tests x = y
     pub choices : SqlType → Slots → Term → Choices → t.Arms
     choices type s x q.no_choice = t.no_arm
     choices type s x (q.one_choice y z xs) =
