@@ -40,7 +40,7 @@ pub fn rule_laws()
 {}
 
 /// How wide rows are, and groups by a function of the rows. It does nothing.
-pub fn word_laws()
+pub fn row_laws()
     ensures wide { WideBoxes }
     ensures keyed { Keyed }
     ensures given_merged { GivenMerged }

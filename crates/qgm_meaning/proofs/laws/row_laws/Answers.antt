@@ -1,7 +1,7 @@
 use Rattle.qgm_meaning.proofs.Widened.{wide-boxes}
 use Rattle.qgm_meaning.proofs.Keyed.{group-keyed, keys-keyed}
 use Rattle.qgm_meaning.proofs.MergedRows.{given-merged}
-use Rattle.qgm_meaning.proofs.laws.word_laws.Goals as goal
+use Rattle.qgm_meaning.proofs.laws.row_laws.Goals as goal
 
 pub returns-clause-wide : goal.returns-clause-wide
 returns-clause-wide c = λ tables ns filled even b env. wide-boxes tables ns filled even b env
