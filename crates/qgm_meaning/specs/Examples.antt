@@ -6,6 +6,7 @@ use Rattle.sql_value.specs.declared.cell.Cell.{Cell}
 use Rattle.sql_value.specs.declared.cell.Cell.TheVariants.{Int, Null, Err}
 use Rattle.sql_value.specs.declared.cell.Kind.TheVariants as kind
 use Rattle.sql_value.specs.declared.level.Level.TheVariants.{No, Yes, Division}
+use Rattle.qgm_core.specs.Boxes.{QueryGraph}
 use Rattle.qgm_core.specs.declared.node.Node.{Node}
 use Rattle.qgm_core.specs.declared.owned.OwnedQuant.{OwnedQuant}
 use Rattle.qgm_core.specs.declared.kinds.QuantKind.TheVariants.{F, E, S}
@@ -17,6 +18,7 @@ use Rattle.qgm_core.specs.declared.kinds.BoxKind.TheVariants.{Base, Select, Grou
 use Rattle.qgm_core.specs.declared.kinds.SetOperator.{SetOperator}
 use Rattle.qgm_core.specs.declared.kinds.SetOperator.TheVariants.{UnionAll, Intersect, IntersectAll, ExceptAll, Except}
 use Rattle.qgm_meaning.specs.Meaning.{root_bag}
+use Rattle.qgm_meaning.specs.Plain.{plain}
 use Rattle.qgm_meaning.specs.Scope.{loose}
 use Rattle.qgm_terms.specs.Terms.{Term, int, col, both, count_all, fold, single, sum, least, each_once, all_of, scalar, Cond, always, compare, equal, some}
 use Rattle.qgm_terms.specs.declared.tree.Op.TheVariants.{Div}
@@ -119,3 +121,14 @@ pub record Looses : Type 0 where
   pub seen : loose lateral_boxes 1 1 ≡ false
   pub turned : loose turned_boxes 1 1 ≡ true
   pub strayed : loose strayed_boxes 1 1 ≡ true
+
+abbrev graph_of : List Node → QueryGraph
+graph_of boxes = record { boxes = boxes; root = 1; names = []; order = [] }
+
+pub record Counted : Type 0 where
+  -- all are closed: as many as there are
+  pub closed : plain tables (graph_of (box 1 Select [] (col 1 1 ∷ []) (f 1 2 ∷ []) ∷ box 2 (Group 0) [] (count_all ∷ []) (f 2 3 ∷ []) ∷ t 3 ∷ [])) ≡ 3
+  -- the open box once for each of four rows
+  pub lateral : plain tables (graph_of lateral_boxes) ≡ 6
+  -- an open box under E, once for each of four rows
+  pub correlated : plain tables (graph_of (box 1 Select (some 2 always ∷ []) (col 1 1 ∷ []) (f 1 3 ∷ e 2 2 ∷ []) ∷ box 2 Select (compare equal (col 1 2) (i 5) ∷ []) (i 1 ∷ []) [] ∷ t 3 ∷ [])) ≡ 6

@@ -7,6 +7,7 @@ pub mod Scope
 pub mod Replace
 pub mod Laws
 pub mod Fits
+pub mod Plain
 pub mod Examples
 pub mod Rules
 pub mod Merging

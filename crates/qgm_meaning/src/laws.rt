@@ -1,5 +1,5 @@
 // The laws of boxes, as theorems.
-ghost use Rattle.qgm_meaning.specs.Examples.{Computed, Looses};
+ghost use Rattle.qgm_meaning.specs.Examples.{Computed, Counted, Looses};
 ghost use Rattle.qgm_meaning.specs.Fits.{Hereditary};
 ghost use Rattle.qgm_meaning.specs.Rules.{ExistsJoins, Joins, Passes, ScalarJoins};
 ghost use Rattle.qgm_meaning.specs.Merging.{GivenMerged};
@@ -24,10 +24,12 @@ pub fn graph_laws()
     ensures loose_unfold { LooseUnfold }
 {}
 
-/// What small graphs of each kind come to, and what is loose in them. It does nothing.
+/// What small graphs of each kind come to, what is loose in them, and how often their boxes are
+/// evaluated by loops that skip nothing. It does nothing.
 pub fn examples()
     ensures computed { Computed }
     ensures looses { Looses }
+    ensures counted { Counted }
 {}
 
 /// What rules of different classes stand on: EXISTS under DISTINCT as a join, a scalar of one clean row

@@ -6,3 +6,6 @@ returns-clause-computed c = record { selects = refl; groups = refl; groups_nothi
 
 pub returns-clause-looses : goal.returns-clause-looses
 returns-clause-looses c = record { below = refl; seen = refl; turned = refl; strayed = refl }
+
+pub returns-clause-counted : goal.returns-clause-counted
+returns-clause-counted c = record { closed = refl; lateral = refl; correlated = refl }
