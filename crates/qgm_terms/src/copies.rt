@@ -193,8 +193,7 @@ pub fn copy_conds(alloc: Global, conds: &Conds, room: usize) -> Result<Conds, Ou
     let mut all = Conds::new(alloc);
     for c in conds.as_slice() {
         let p = copy_cond(alloc, c, room)?;
-        all.reserve(1)?;
-        all.push(p);
+        all.add(p)?;
     }
     all.reserve(conds.spare())?;
     Ok(all)

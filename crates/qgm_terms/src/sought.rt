@@ -73,7 +73,7 @@ fn either(a: bool, b: bool) -> bool
     a || b
 }
 
-fn both(a: bool, b: bool) -> bool
+pub(crate) fn both(a: bool, b: bool) -> bool
     ensures { result ≡ (a && b) }
 {
     a && b

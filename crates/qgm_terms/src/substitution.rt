@@ -301,8 +301,7 @@ pub fn substitute_conds(
     let mut all = Conds::new(alloc);
     for c in conds.as_slice() {
         let p = substitute_cond(alloc, c, q, cells, room)?;
-        all.reserve(1)?;
-        all.push(p);
+        all.add(p)?;
     }
     all.reserve(conds.spare())?;
     Ok(all)
