@@ -1,6 +1,6 @@
 -- How deep trees are, and the lists in them as the code has them.
-use Rattle.std.proofs.Common.{◌≡◌, refl, ℕ, ◌+◌, ◌≤◌, ◌<◌, ◌↔◌, ◌++◌, List, [], ◌∷◌, ap, ◌∙◌, sym, map, take, drop, length, get_or, Vec, arith, max, suc}
-use Rattle.qgm_terms.specs.Depth.{arm_depths, cond_depths, depth, depth_cond, link_depths, most, row_arm_depths, row_cond_depths, row_link_depths}
+use Rattle.std.proofs.Common.{◌≡◌, refl, ℕ, ◌≤◌, List, ◌∷◌, ap, ◌∙◌, Vec, arith, max}
+use Rattle.qgm_terms.specs.Depth.{arm_depths, cond_depths, depth, depth_cond, link_depths, row_arm_depths, row_cond_depths, row_link_depths}
 use Rattle.qgm_terms.specs.declared.tree.Arm.{Arm}
 use Rattle.qgm_terms.specs.declared.tree.Link.{Link}
 use Rattle.qgm_terms.specs.declared.tree.Gc.{Gc, True, Eq', Ne', Lt', Le', Gt', Ge', Same', Like', IsNull', All', Any', Not', Some', Every'}

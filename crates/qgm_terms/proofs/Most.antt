@@ -1,5 +1,5 @@
 -- The greatest of a list of numbers, as most of what the elements of a list have.
-use Rattle.std.proofs.Common.{◌≡◌, refl, ℕ, zero, suc, ◌+◌, ◌≤◌, ◌<◌, ◌++◌, List, [], ◌∷◌, ap, ◌∙◌, sym, subst, add-one, map, take, drop, length, get_or, arith, max, Bool, true, false, if◌then◌else◌}
+use Rattle.std.proofs.Common.{◌≡◌, ℕ, zero, suc, ◌+◌, ◌≤◌, ◌<◌, ◌++◌, List, [], ◌∷◌, sym, subst, add-one, map, take, drop, length, get_or, arith, Bool, true, false, if◌then◌else◌}
 use Rattle.std.proofs.lemmas.List.{map-append}
 use Rattle.qgm_terms.proofs.Removed.{map_removed}
 use Rattle.qgm_terms.specs.Depth.{most}

@@ -1,5 +1,5 @@
 -- How deep the trees of the program are: brackets and CASE within one another. Operands of a chain, and arms of a CASE, are one level, however many they are.
-use Rattle.std.specs.Prelude.{ℕ, ◌+◌, ◌≤◌, List, [], ◌∷◌, map, max}
+use Rattle.std.specs.Prelude.{ℕ, ◌+◌, List, [], ◌∷◌, map, max}
 use Rattle.qgm_terms.specs.declared.tree.Arm.{Arm}
 use Rattle.qgm_terms.specs.declared.tree.Link.{Link}
 use Rattle.qgm_terms.specs.declared.tree.Gc.{Gc, True, Eq', Ne', Lt', Le', Gt', Ge', Same', Like', IsNull', All', Any', Not', Some', Every'}

@@ -14,7 +14,8 @@ use std::alloc::Global;
 use std::marker::Model;
 
 /// The expressions that a box gives for each of its rows, one a column
-/// (Pirahesh, Hellerstein and Hasan 1992, 2.1). Contracts see it as the list of them.
+/// (Pirahesh, Hellerstein and Hasan 1992, 2.1). Contracts see it as the list of them. None has more
+/// levels than `ROOM`.
 #[derive(Drop)]
 pub struct Head {
     terms: Vec<Gx>,
@@ -72,7 +73,8 @@ impl Head {
         &self.terms[k - 1]
     }
 
-    /// Adds a column at the end. One that is too deep finds no memory.
+    /// Adds a column at the end. It fails where there is no memory, or the expression has more levels
+    /// than `ROOM`.
     pub fn push(&mut self, x: Gx) -> Result<(), OutOfMemory>
         ensures ok { OnOk result (self.new ≡ self.old ++ term x ∷ []) }
         ensures err { OnErr result (self.new ≡ self.old) }
@@ -103,7 +105,7 @@ impl Head {
 }
 
 /// The conditions of a box, all of which a row must meet. Contracts see it as the list of them,
-/// and for how many more there is room.
+/// and for how many more there is room. None has more levels than `ROOM`.
 #[derive(Drop)]
 pub struct Conds {
     conds: Vec<Gc>,
@@ -183,7 +185,8 @@ impl Conds {
         Ok(())
     }
 
-    /// Adds a condition at the end. One that is too deep finds no memory.
+    /// Adds a condition at the end. It fails where there is no memory, or the condition has more levels
+    /// than `ROOM`.
     pub fn add(&mut self, c: Gc) -> Result<(), OutOfMemory>
         ensures ok { OnOk result (self.new.items ≡ self.old.items ++ cond c ∷ []) }
         ensures err { OnErr result (self.new.items ≡ self.old.items) }

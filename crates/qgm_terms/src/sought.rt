@@ -67,12 +67,14 @@ impl Sought {
     }
 }
 
+// OR, as a call: one path where an expression would be two.
 fn either(a: bool, b: bool) -> bool
     ensures { result ≡ (a || b) }
 {
     a || b
 }
 
+// AND, as a call.
 pub(crate) fn both(a: bool, b: bool) -> bool
     ensures { result ≡ (a && b) }
 {

@@ -1,4 +1,4 @@
-use Rattle.std.proofs.Common.{◌≡◌, ℕ, max, arith, ap, sym, ◌∙◌}
+use Rattle.std.proofs.Common.{max, arith}
 use Rattle.std.proofs.lemmas.Grind.{common_steps}
 use Rattle.qgm_terms.proofs.Levels.{arm_depths_hidden, cond_depths_hidden, link_depths_hidden}
 use Rattle.qgm_terms.proofs.Most.{most_at, most_so_far}

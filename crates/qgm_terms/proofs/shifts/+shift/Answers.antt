@@ -1,15 +1,15 @@
-use Rattle.std.proofs.Common.{◌≡◌, ℕ, List, ◌+◌, ◌<◌, ◌∙◌, ap, length, map, get_or, max, arith}
+use Rattle.std.proofs.Common.{ℕ, List, ◌+◌, ◌<◌, ◌∙◌, ap, length, get_or, max, arith}
 use Rattle.std.proofs.Math.ListN.{length-set}
 use Rattle.std.proofs.lemmas.Grind.{common_steps}
 use Rattle.qgm_terms.proofs.InPlace.{map_view_kept, map_view_more, unvisited_more}
 use Rattle.qgm_terms.proofs.Shifted as chains
 use Rattle.qgm_terms.specs.declared.tree.Gc.TheViews.{roll-Arm, roll-Link}
 use Rattle.qgm_terms.specs.Depth.{depth, depth_cond, most}
-use Rattle.qgm_terms.specs.Shift.{shifted, shifted_choice, shifted_cond, shifted_link}
+use Rattle.qgm_terms.specs.Shift.{shifted_choice, shifted_cond, shifted_link}
 use Rattle.qgm_terms.proofs.Levels.{arm_depths_hidden, cond_depths_hidden, link_depths_hidden}
 use Rattle.qgm_terms.proofs.Lists.{links_hidden, choices_hidden, conds_hidden}
 use Rattle.qgm_terms.specs.Shown.{choice, choices, cond, conds, link, links, term}
-use Rattle.qgm_terms.specs.Terms.{Term, Cond, Link, Choice, linked, armed, anded, ored, choose}
+use Rattle.qgm_terms.specs.Terms.{Term, linked, armed, anded, ored, choose}
 use Rattle.qgm_terms.proofs.shifts.+shift.Goals as goal
 
 pub shift-returns-in-Chain : goal.shift-returns-in-Chain

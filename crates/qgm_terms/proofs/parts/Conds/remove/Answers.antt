@@ -1,4 +1,4 @@
-use Rattle.std.proofs.Common.{◌≡◌, ◌<◌, ◌≤◌, ◌-◌, List, length, arith, subst, sym}
+use Rattle.std.proofs.Common.{◌<◌, ◌≤◌, ◌-◌, List, length, arith, subst, sym}
 use Rattle.std.proofs.lemmas.Grind.{common_steps}
 use Rattle.qgm_terms.proofs.Most.{most_at, most_removed}
 use Rattle.qgm_terms.proofs.Removed.{slice_get-map}
