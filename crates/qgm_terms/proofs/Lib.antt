@@ -8,3 +8,5 @@ pub mod Shifted
 pub mod Substituted
 pub mod PostfixLaws
 pub mod PostfixRead
+pub mod Levels
+pub mod Most

@@ -1,7 +1,7 @@
 -- Postfix notation read back: no two expressions and no two conditions have the same tokens.
 use Rattle.std.proofs.Common.{◌≡◌, refl, sym, ◌∙◌, ap, ℕ, map, List, [], ◌∷◌, ◌++◌}
 use Rattle.std.proofs.lemmas.List.{append_assoc, append-nil}
-use Rattle.qgm_terms.specs.Postfix.{aggregate_tokens, form, sign_form, text_tokens, tokens, tokens_arms, tokens_cond}
+use Rattle.qgm_terms.specs.Postfix.{aggregate_tokens, form, sign_form, tokens, tokens_arms, tokens_cond}
 use Rattle.qgm_terms.specs.Terms.{Term, int, text, null_int, null_text, col, scalar, both, minus_of, choose, count_all, fold}
 use Rattle.qgm_terms.specs.Terms.{Arms, no_arm, arm, Cond, always, compare, is_null, and, or, not, some, every}
 use Rattle.qgm_terms.specs.Terms.{Aggregate, single, count, sum, avg, least, greatest, Taken, all_of, each_once}

@@ -1,5 +1,5 @@
 -- Chains with one operand more.
-use Rattle.std.proofs.Common.{◌≡◌, refl, List, [], ◌∷◌, ◌++◌, ◌∙◌, ap, map}
+use Rattle.std.proofs.Common.{◌≡◌, refl, List, [], ◌∷◌, ◌++◌, ◌∙◌, ap}
 use Rattle.std.proofs.lemmas.List.{map-append}
 use Rattle.qgm_terms.specs.Shown.{cond, conds, link, links, term}
 use Rattle.qgm_terms.specs.Terms as t

@@ -9,3 +9,4 @@ pub mod Shift
 pub mod Rebuilt
 pub mod Substitution
 pub mod Postfix
+pub mod Depth

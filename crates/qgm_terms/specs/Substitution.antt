@@ -1,5 +1,5 @@
 -- Expressions and conditions with cells in place of a quantifier's columns. Within a some or every of the quantifier itself its rows are meant.
-use Rattle.std.specs.Prelude.{ℕ, ◌==◌, if◌then◌else◌, get_or, List, [], ◌∷◌, map}
+use Rattle.std.specs.Prelude.{ℕ, ◌==◌, if◌then◌else◌, get_or, List, ◌∷◌, map}
 use Rattle.qgm_terms.specs.Terms.{Term, int, text, null_int, null_text, col, scalar, both, minus_of, choose, count_all, fold, Link, Choice}
 use Rattle.qgm_terms.specs.Terms.{Arms, no_arm, arm, Cond, always, compare, is_null, and, or, not, some, every}
 

@@ -42,6 +42,7 @@ abbrev pub any_in_choices : Wanted → List Choice → Bool
 any_in_choices s [] = false
 any_in_choices s (c ∷ cs) = any_in_cond s c.when || (any_in s c.then || any_in_choices s cs)
 
+-- that of each search of the program
 abbrev pub wanted : Sought → Wanted
 wanted Node = record {
   column = λ r j. false;

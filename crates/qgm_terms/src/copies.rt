@@ -1,5 +1,5 @@
-// Copies of expressions and conditions. Each level takes of `room`, and where none is left there is no
-// memory: so no tree is deeper.
+// Copies of expressions and conditions. Each level takes of `room`, and where none is left the answer is
+// want of memory.
 ghost use Rattle.std.specs.Prelude.{◌≡◌, IfOk};
 ghost use Rattle.qgm_terms.specs.Shown.{choices, cond, conds, links, term};
 ghost use Rattle.qgm_terms.specs.Terms as t;
@@ -19,7 +19,8 @@ pub(crate) fn text(alloc: Global, characters: &Text) -> Result<Gx, OutOfMemory>
     Ok(Gx::Text(characters.copy(alloc)?))
 }
 
-/// A copy.
+/// A copy of an expression. It fails where there is no memory, or the expression has more levels than
+/// `room`. A chain at the head of a chain goes into one list with it.
 #[cycle(copy)]
 #[tactic(auto, using(crate::proofs::Lists::lists))]
 pub fn copy(alloc: Global, x: &Gx, room: usize) -> Result<Gx, OutOfMemory>
@@ -100,7 +101,7 @@ fn copy_arms(alloc: Global, list: &[Arm], room: usize) -> Result<Vec<Arm>, OutOf
     Ok(all)
 }
 
-/// A copy of a condition.
+/// A copy of a condition. It fails where there is no memory, or the condition has more levels than `room`.
 #[cycle(copy)]
 #[tactic(auto, using(crate::proofs::Lists::lists))]
 pub fn copy_cond(alloc: Global, c: &Gc, room: usize) -> Result<Gc, OutOfMemory>
@@ -193,8 +194,7 @@ pub fn copy_conds(alloc: Global, conds: &Conds, room: usize) -> Result<Conds, Ou
     let mut all = Conds::new(alloc);
     for c in conds.as_slice() {
         let p = copy_cond(alloc, c, room)?;
-        all.reserve(1)?;
-        all.push(p);
+        all.add(p)?;
     }
     all.reserve(conds.spare())?;
     Ok(all)

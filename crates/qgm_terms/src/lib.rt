@@ -5,6 +5,7 @@
 mod chains;
 mod columns;
 mod copies;
+mod depths;
 mod named;
 mod names;
 mod nodes;
@@ -20,6 +21,7 @@ mod tree;
 pub use chains::{anded, chained, negated, ored};
 pub use columns::{add_columns, add_columns_of_cells, add_columns_of_cond, add_columns_of_conds};
 pub use copies::{copy, copy_cond, copy_conds, copy_head};
+pub use depths::{fits, fits_cond};
 pub use named::{Column, QuantId, QuantNode};
 pub use names::{add_names, add_names_of_cells, add_names_of_cond, add_names_of_conds};
 pub use nodes::{add_nodes, add_nodes_of_cells, add_nodes_of_cond, add_nodes_of_conds};

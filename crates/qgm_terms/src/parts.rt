@@ -1,25 +1,28 @@
 // The cells of a box, and its conditions.
 ghost use Rattle.std.specs.Prelude.{◌≡◌, ◌≤◌, ◌+◌, ◌-◌, ◌++◌, ◌∷◌, [], length, map, slice_get, Some, OnOk, OnErr, max};
 ghost use Rattle.std.specs.List.{remove};
+ghost use Rattle.qgm_terms.specs.Depth.{depth_cond, room};
 ghost use Rattle.qgm_terms.specs.Shift.{shifted, shifted_cond};
 ghost use Rattle.qgm_terms.specs.Shown.{cond, conds, term, terms};
 
+use crate::depths::{fits, fits_cond};
 use crate::named::QuantId;
 use crate::shifts::{shift_cells, shift_conds};
-use crate::tree::{Gc, Gx};
+use crate::tree::{Gc, Gx, ROOM};
 use shared_types::OutOfMemory;
 use std::alloc::Global;
 use std::marker::Model;
 
 /// The expressions that a box gives for each of its rows, one a column
-/// (Pirahesh, Hellerstein and Hasan 1992, 2.1). Contracts see it as the list of them.
+/// (Pirahesh, Hellerstein and Hasan 1992, 2.1). Contracts see it as the list of them. None has more
+/// levels than `ROOM`.
 #[derive(Drop)]
 pub struct Head {
     terms: Vec<Gx>,
 }
 
 impl Model for Head {
-    ghost use Rattle.std.specs.Prelude.{List, map};
+    ghost use Rattle.std.specs.Prelude.{◌≤◌, List, map};
     ghost use Rattle.std.specs.Coded.{coded_list};
     ghost use Rattle.qgm_terms.specs.Terms.{Term};
     ghost use Rattle.qgm_terms.specs.TermCodes.{coded_term};
@@ -31,6 +34,10 @@ impl Model for Head {
     ghost use Rattle.qgm_terms.specs.Shown.{term};
 
     ghost view = { λ h. map term h.terms.items };
+
+    ghost use Rattle.qgm_terms.specs.Depth.{depths, most, room};
+
+    ghost invariant = { λ h. most (depths h.terms.items) ≤ room };
 }
 
 impl Head {
@@ -66,11 +73,15 @@ impl Head {
         &self.terms[k - 1]
     }
 
-    /// Adds a column at the end.
+    /// Adds a column at the end. It fails where there is no memory, or the expression has more levels
+    /// than `ROOM`.
     pub fn push(&mut self, x: Gx) -> Result<(), OutOfMemory>
         ensures ok { OnOk result (self.new ≡ self.old ++ term x ∷ []) }
         ensures err { OnErr result (self.new ≡ self.old) }
     {
+        if !fits(&x, ROOM) {
+            return Err(OutOfMemory);
+        }
         self.terms.push(x)?;
         Ok(())
     }
@@ -94,7 +105,7 @@ impl Head {
 }
 
 /// The conditions of a box, all of which a row must meet. Contracts see it as the list of them,
-/// and for how many more there is room.
+/// and for how many more there is room. None has more levels than `ROOM`.
 #[derive(Drop)]
 pub struct Conds {
     conds: Vec<Gc>,
@@ -114,7 +125,9 @@ impl Model for Conds {
 
     ghost view = { λ a. record { items = map cond a.conds.items; spare = a.spare } };
 
-    ghost invariant = { λ a. vec_len a.conds + a.spare ≤ vec_capacity a.conds };
+    ghost use Rattle.qgm_terms.specs.Depth.{cond_depths, most, room};
+
+    ghost invariant = { λ a. (vec_len a.conds + a.spare ≤ vec_capacity a.conds) × (most (cond_depths a.conds.items) ≤ room) };
 }
 
 impl Conds {
@@ -172,9 +185,25 @@ impl Conds {
         Ok(())
     }
 
+    /// Adds a condition at the end. It fails where there is no memory, or the condition has more levels
+    /// than `ROOM`.
+    pub fn add(&mut self, c: Gc) -> Result<(), OutOfMemory>
+        ensures ok { OnOk result (self.new.items ≡ self.old.items ++ cond c ∷ []) }
+        ensures err { OnErr result (self.new.items ≡ self.old.items) }
+        ensures spare { self.new.spare ≡ self.old.spare }
+    {
+        if !fits_cond(&c, ROOM) {
+            return Err(OutOfMemory);
+        }
+        self.conds.reserve(self.spare + 1)?;
+        let _ = self.conds.push(c);
+        Ok(())
+    }
+
     /// Adds a condition at the end, where there is room for it. It takes no memory.
     pub fn push(&mut self, c: Gc)
-        requires { 1 ≤ self.old.spare }
+        requires spare { 1 ≤ self.old.spare }
+        requires depth { depth_cond c ≤ room }
         ensures items { self.new.items ≡ self.old.items ++ cond c ∷ [] }
         ensures spare { self.new.spare + 1 ≡ self.old.spare }
     {
@@ -196,6 +225,7 @@ impl Conds {
         requires from_one { 1 ≤ i }
         requires within { i ≤ length self.old.items }
         ensures taken { slice_get self.old.items (i - 1) ≡ Some (cond result) }
+        ensures depth { depth_cond result ≤ room }
         ensures items { self.new.items ≡ remove self.old.items (i - 1) }
         ensures spare { self.new.spare ≡ self.old.spare }
     {

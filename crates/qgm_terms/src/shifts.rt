@@ -1,5 +1,6 @@
 // Expressions and conditions where a quantifier loses a column.
 ghost use Rattle.std.specs.Prelude.{◌≡◌, map};
+ghost use Rattle.qgm_terms.specs.Depth.{arm_depths, cond_depths, depth, depth_cond, depths, link_depths};
 ghost use Rattle.qgm_terms.specs.Shift.{shifted, shifted_choices, shifted_cond, shifted_links};
 ghost use Rattle.qgm_terms.specs.Shown.{choices, cond, conds, links, term, terms};
 
@@ -10,7 +11,8 @@ use crate::tree::{Arm, Gc, Gx, Link};
 #[cycle(shift)]
 #[tactic(auto, using(crate::proofs::Lists::lists, crate::proofs::Shifted::shift_laws))]
 pub fn shift(x: &mut Gx, q: QuantId, k: usize)
-    ensures { term x.new ≡ shifted q k (term x.old) }
+    ensures tree { term x.new ≡ shifted q k (term x.old) }
+    ensures depth { depth x.new ≡ depth x.old }
 {
     match x {
         Gx::Int(_) | Gx::Text(_) | Gx::NullInt | Gx::NullText | Gx::CountAll | Gx::Scalar(_) => {}
@@ -44,7 +46,8 @@ pub fn shift(x: &mut Gx, q: QuantId, k: usize)
 
 #[cycle(shift)]
 fn shift_links(list: &mut [Link], q: QuantId, k: usize)
-    ensures { links list.new ≡ shifted_links q k (links list.old) }
+    ensures trees { links list.new ≡ shifted_links q k (links list.old) }
+    ensures depths { link_depths list.new ≡ link_depths list.old }
 {
     for i in 0..list.len() {
         let link = &mut list[i];
@@ -54,7 +57,8 @@ fn shift_links(list: &mut [Link], q: QuantId, k: usize)
 
 #[cycle(shift)]
 fn shift_arms(list: &mut [Arm], q: QuantId, k: usize)
-    ensures { choices list.new ≡ shifted_choices q k (choices list.old) }
+    ensures trees { choices list.new ≡ shifted_choices q k (choices list.old) }
+    ensures depths { arm_depths list.new ≡ arm_depths list.old }
 {
     for i in 0..list.len() {
         let arm = &mut list[i];
@@ -67,7 +71,8 @@ fn shift_arms(list: &mut [Arm], q: QuantId, k: usize)
 #[cycle(shift)]
 #[tactic(auto, using(crate::proofs::Lists::lists, crate::proofs::Shifted::shift_laws))]
 pub fn shift_cond(c: &mut Gc, q: QuantId, k: usize)
-    ensures { cond c.new ≡ shifted_cond q k (cond c.old) }
+    ensures tree { cond c.new ≡ shifted_cond q k (cond c.old) }
+    ensures depth { depth_cond c.new ≡ depth_cond c.old }
 {
     match c {
         Gc::True => {}
@@ -121,7 +126,8 @@ pub fn shift_cond(c: &mut Gc, q: QuantId, k: usize)
 /// The same in conditions.
 #[cycle(shift)]
 pub fn shift_conds(list: &mut [Gc], q: QuantId, k: usize)
-    ensures { conds list.new ≡ map (shifted_cond q k) (conds list.old) }
+    ensures trees { conds list.new ≡ map (shifted_cond q k) (conds list.old) }
+    ensures depths { cond_depths list.new ≡ cond_depths list.old }
 {
     for i in 0..list.len() {
         shift_cond(&mut list[i], q, k);
@@ -130,7 +136,8 @@ pub fn shift_conds(list: &mut [Gc], q: QuantId, k: usize)
 
 /// The same in the cells of a head.
 pub fn shift_cells(list: &mut [Gx], q: QuantId, k: usize)
-    ensures { terms list.new ≡ map (shifted q k) (terms list.old) }
+    ensures trees { terms list.new ≡ map (shifted q k) (terms list.old) }
+    ensures depths { depths list.new ≡ depths list.old }
 {
     for i in 0..list.len() {
         shift(&mut list[i], q, k);

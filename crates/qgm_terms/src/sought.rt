@@ -67,13 +67,15 @@ impl Sought {
     }
 }
 
+// OR, as a call: one path where an expression would be two.
 fn either(a: bool, b: bool) -> bool
     ensures { result ≡ (a || b) }
 {
     a || b
 }
 
-fn both(a: bool, b: bool) -> bool
+// AND, as a call.
+pub(crate) fn both(a: bool, b: bool) -> bool
     ensures { result ≡ (a && b) }
 {
     a && b

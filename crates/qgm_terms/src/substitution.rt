@@ -35,8 +35,9 @@ fn cell_of(
 }
 
 /// A copy in which each column of the quantifier is the cell at its place, and null where there is
-/// none. Within a some or every of the quantifier itself its rows are meant, and stay. A chain that is
-/// put at the head of a chain goes into its list.
+/// none. Within a some or every of the quantifier itself its rows are meant, and stay. It fails where
+/// there is no memory, or the copy has more levels than `room`. A chain at the head of a chain goes into
+/// one list with it.
 #[cycle(substitute)]
 #[tactic(auto, using(crate::proofs::Lists::lists))]
 pub fn substitute(
@@ -301,8 +302,7 @@ pub fn substitute_conds(
     let mut all = Conds::new(alloc);
     for c in conds.as_slice() {
         let p = substitute_cond(alloc, c, q, cells, room)?;
-        all.reserve(1)?;
-        all.push(p);
+        all.add(p)?;
     }
     all.reserve(conds.spare())?;
     Ok(all)

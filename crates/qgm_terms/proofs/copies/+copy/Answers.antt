@@ -1,8 +1,6 @@
-use Rattle.std.proofs.Common.{◌∙◌, ap, arith, refl}
+use Rattle.std.proofs.Common.{arith}
 use Rattle.std.proofs.lemmas.Grind.{common_steps}
 use Rattle.qgm_terms.proofs.Lists.{links_hidden, choices_hidden, conds_hidden}
-use Rattle.qgm_terms.specs.Shown.{choices, cond, conds, link, links, term}
-use Rattle.qgm_terms.specs.Terms.{linked, armed, anded, ored, choose}
 use Rattle.qgm_terms.proofs.copies.+copy.Goals as goal
 
 pub copy-returns-in_ok-first-in-Chain : goal.copy-returns-in_ok-first-in-Chain
