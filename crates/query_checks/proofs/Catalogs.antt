@@ -1,5 +1,5 @@
 -- The tables and views of a catalog: the names of their columns, and their types where all views are valid.
-use Rattle.std.proofs.Common.{◌≡◌, ◌∙◌, ◌≤◌, ◌&&◌, ◌||◌, not, ℕ, zero, suc, Bool, true, false, cond, List, [], ◌∷◌, filter, find, map, Option, Some, None, refl, sym, ap, subst, arith}
+use Rattle.std.proofs.Common.{◌≡◌, ◌∙◌, ◌≤◌, ◌&&◌, ◌||◌, not, ℕ, zero, suc, Bool, true, false, cond, List, [], ◌∷◌, filter, find, map, Option, Some, None, refl, sym, ap, ap₂, subst, arith}
 use Rattle.std.specs.Prelude.{⊤, All}
 use Rattle.std.specs.List.{list_any}
 use Rattle.std.specs.Cmp.Lexicographic.{nat_list_eq_equiv, same_text}
@@ -26,11 +26,13 @@ use Rattle.query_checks.proofs.Orders.{both_none}
 use Rattle.query_checks.proofs.Stable.{Equal, equal_columns}
 use Rattle.query_checks.proofs.KnownTypes.{IsTyped, IsTypedHead, typed_query, typed_renamed}
 use Rattle.query_checks.specs.Columns.{columns, columns_or_none, renamed}
+use Rattle.query_checks.specs.Depths.{over}
 use Rattle.query_checks.specs.Faults.{query_fault}
 use Rattle.query_checks.specs.Laws.{AreTypedHeads, NestsShallow, SameColumns, column_names}
 use Rattle.query_checks.specs.Scopes.{Heads}
-use Rattle.query_checks.specs.Views.{fault, heads_of, heads_with, refusal_of, refusal_with, refused_among, refused_to, table_heads, typed, typed_columns, view_columns, view_fault, view_head, view_refusal, views_at, views_of_depth}
+use Rattle.query_checks.specs.Views.{fault, heads_of, heads_with, refusal_of, refusal_with, refused_among, refused_to, table_heads, typed, typed_columns, view_columns, view_fault, view_head, view_heads, view_refusal, views_at, views_of_depth}
 use Rattle.query_checks.specs.Views as v
+use Rattle.query_checks.specs.declared.view.ViewHead.{ViewHead}
 use Rattle.query_checks.specs.declared.column.TypedColumn.{TypedColumn}
 
 -- ---- tests of lists
@@ -150,6 +152,10 @@ module _ (catalog : Declared) where
           found_each (λ (w : s.ViewDecl). nests_over (readers_of catalog.views) 16 (reader_of w) ≡ false) (λ (w : s.ViewDecl). same_name w.name name) catalog.views view
           (none_each (nests_over (readers_of catalog.views) 16) reader_of catalog.views h) e
 
+  -- no view nests deeper than this
+  abbrev NestsTo : ℕ → Type 0
+  NestsTo depth = list_any (nests_over (readers_of catalog.views) depth) (readers_of catalog.views) ≡ false
+
   -- the views that a view reads nest one less
   nested : (depth : ℕ) (view : s.ViewDecl) → Shallow (suc depth) (Some view) → Each (ShallowName depth) (t.in_query view.query)
   nested depth view none = each_in (ShallowName depth) (t.in_query view.query) (λ name there. at name there (view_named catalog.views name) refl)
@@ -181,6 +187,30 @@ module _ (catalog : Declared) where
       at below (Some view) k =
           ap (λ (cs : List TypedColumn). Some (renamed view.columns cs))
           (equal_columns (heads_at e) (heads_at d) view.query [] (each_more (ShallowName d) (Equal (heads_at e) (heads_at d)) below (t.in_query view.query) (nested d view k)))
+
+  -- ---- where no view nests over a depth, greater depths change nothing
+
+  head_settled : (depth : ℕ) → depth ≤ 15 → (view : s.ViewDecl) → Shallow (suc depth) (Some view) → view_head (heads_at depth) view ≡ view_head (heads_at 15) view
+  head_settled depth low view h =
+      ap (λ (cs : List TypedColumn). make view.name (renamed view.columns cs))
+      (sym (equal_columns (heads_at 15) (heads_at depth) view.query []
+      (each_more (ShallowName depth) (Equal (heads_at 15) (heads_at depth)) (λ name k. stable depth 15 low name k) (t.in_query view.query) (nested depth view h))))
+    where
+      make : List ℕ → List TypedColumn → ViewHead
+      make name columns = record { name = name; columns = columns }
+
+  heads_settled : (depth : ℕ) → depth ≤ 15 → (views : List s.ViewDecl) → Each (λ (view : s.ViewDecl). nests_over (readers_of catalog.views) (suc depth) (reader_of view) ≡ false) views
+      → map (view_head (heads_at depth)) views ≡ map (view_head (heads_at 15)) views
+  heads_settled depth low [] h = refl
+  heads_settled depth low (view ∷ views) h = ap₂ (λ (x : ViewHead) (xs : List ViewHead). x ∷ xs) (head_settled depth low view h.0) (heads_settled depth low views h.1)
+
+  no_views : (head : s.ViewDecl → ViewHead) (views : List s.ViewDecl) → list_any (nests_over (readers_of catalog.views) 0) (readers_of views) ≡ false → [] ≡ map head views
+  no_views head [] h = refl
+  no_views head (view ∷ views) h = absurd (cc)
+
+  pub views_settled : (depth : ℕ) → depth ≤ 16 → NestsTo depth → views_at catalog depth ≡ view_heads catalog
+  views_settled zero low h = no_views (view_head (heads_at 15)) catalog.views h
+  views_settled (suc depth) low h = heads_settled depth (omega (arith, low)) catalog.views (none_each (nests_over (readers_of catalog.views) (suc depth)) reader_of catalog.views h)
 
   -- ---- valid views
 
@@ -318,3 +348,15 @@ valid_views catalog shallow none =
 
 pub valid_text : (catalog : Declared) → (text : s.QueryText) → fault catalog text ≡ 0 → query_fault (heads_of catalog) text.query [] ≡ 0
 valid_text catalog text h = (both_none _ _ h).0
+
+any_marked : {A : Type 0} (p : A → Bool) (xs : List A) → list_any (λ (mark : Bool). mark) (map p xs) ≡ list_any p xs
+any_marked p [] = refl
+any_marked p (x ∷ xs) = ap (λ (b : Bool). p x || b) (any_marked p xs)
+
+-- where no view is marked at a depth, the views over it are those over all
+pub marks_settled : (catalog : Declared) (depth : ℕ) (all : List Reader) (heads : List ViewHead) (marks : List Bool)
+    → depth ≤ 16 → all ≡ readers_of catalog.views → heads ≡ views_at catalog depth → marks ≡ over all depth → list_any (λ (mark : Bool). mark) marks ≡ false → heads ≡ view_heads catalog
+marks_settled catalog depth all heads marks low readers_are heads_are marks_are none =
+    heads_are
+    ∙ views_settled catalog depth low
+    (sym (ap (λ (rs : List Reader). list_any (λ (mark : Bool). mark) (over rs depth)) readers_are ∙ any_marked (nests_over (readers_of catalog.views) depth) (readers_of catalog.views)) ∙ (sym (ap (list_any (λ (mark : Bool). mark)) marks_are) ∙ none))

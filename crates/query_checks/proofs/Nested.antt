@@ -11,7 +11,7 @@ use Rattle.sql_catalog.specs.declared.reader.Reader.{Reader}
 use Rattle.sql_meaning.specs.Scopes.{first_of}
 use Rattle.query_checks.specs.Depths.{over, reads_marked, refused_marked}
 use Rattle.query_checks.specs.Scopes.{Heads}
-use Rattle.query_checks.specs.Views.{heads_of, heads_with, refused_among, refused_to, refusal_of, view_heads}
+use Rattle.query_checks.specs.Views.{heads_of, heads_with, refused_among, refused_to, refusal_of, view_head, view_heads, views_at}
 use Rattle.query_checks.specs.declared.view.ViewHead.{ViewHead}
 
 and-true : (b : Bool) → b && true ≡ b
@@ -44,6 +44,10 @@ marked-views heads (v ∷ views) p q = elim (cases_Bool (p (reader_of v) && not 
   | inl e ↦ rw (e) (ap (first_of (refusal_of heads v)) (marked-views heads views p q))
   | inr e ↦ rw (e) (marked-views heads views p q)
 ]
+
+-- the views of one more depth
+pub views_more : (catalog : Declared) (depth : ℕ) (below : List ViewHead) → below ≡ views_at catalog depth → map (view_head (heads_with catalog below)) catalog.views ≡ views_at catalog (depth + 1)
+views_more catalog depth below h = rw (add-one depth) (ap (λ (views : List ViewHead). map (view_head (heads_with catalog views)) catalog.views) h)
 
 -- the refusal of one more depth
 pub refused_more : (catalog : Declared) (n : ℕ)

@@ -22,7 +22,7 @@ use crate::typed::Output;
 use crate::view::{ViewHead, view_heads};
 use shared_types::OutOfMemory;
 use sql_ast::QueryText;
-use sql_catalog::Catalog;
+use sql_catalog::{Catalog, readers};
 use sqlite_items::Items;
 use std::alloc::Global;
 
@@ -83,12 +83,13 @@ pub fn check_views(alloc: Global, catalog: &Catalog) -> Result<ViewHeads, ViewRe
     ensures valid { IfOk result (λ _. spec.view_refusal (declared.catalog catalog.now) ≡ None) }
     ensures refused { IfErr result (λ e. (name : List ℕ) → (n : ℕ) → e ≡ ViewRefusal.Refused name n → spec.view_refusal (declared.catalog catalog.now) ≡ Some (name, n)) }
 {
-    let list = view_heads(alloc, catalog)?;
+    let all = readers(alloc, catalog.views.as_slice())?;
+    let list = view_heads(alloc, catalog, all.as_slice())?;
     let known = Known {
         catalog,
         views: list.as_slice(),
     };
-    match refused_view(alloc, &known)? {
+    match refused_view(alloc, all.as_slice(), &known)? {
         Some(found) => Err(ViewRefusal::Refused {
             view: found.view,
             number: found.number,

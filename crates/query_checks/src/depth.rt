@@ -1,5 +1,6 @@
 // Views by their nesting depth.
 ghost use Rattle.std.specs.Prelude.{◌≡◌, ◌+◌, ℕ, map, IfOk};
+ghost use Rattle.std.specs.List.{list_any};
 ghost use Rattle.sql_ast.specs.Shown as written;
 ghost use Rattle.sql_ast.specs.Names.{contains};
 ghost use Rattle.sql_catalog.specs.Nesting.{readers_of};
@@ -14,13 +15,13 @@ use crate::known::Known;
 use crate::view::view_fault;
 use shared_types::OutOfMemory;
 use sql_ast::ViewDecl;
-use sql_catalog::{Reader, readers};
+use sql_catalog::Reader;
 use sql_text::Name;
 use sqlite_items::Items;
 use std::alloc::Global;
 
 /// A mark for each view of a catalog.
-type Marks = Items<bool>;
+pub(crate) type Marks = Items<bool>;
 
 // Whether one of these names is this name.
 fn has_name(names: &[Name], name: &Name) -> bool
@@ -48,8 +49,15 @@ fn reads_marked(reads: &[Name], views: &[Reader], marks: &[bool]) -> bool
     false
 }
 
+// Whether a view is marked.
+pub(crate) fn any_marked(marks: &[bool]) -> bool
+    ensures { result ≡ list_any (λ mark. mark) marks.now }
+{
+    marks.iter().any(|mark| *mark)
+}
+
 // A mark for each view: that it nests deeper than 0.
-fn all_marked(alloc: Global, views: &[Reader]) -> Result<Marks, OutOfMemory>
+pub(crate) fn all_marked(alloc: Global, views: &[Reader]) -> Result<Marks, OutOfMemory>
     ensures { IfOk result (λ marks. marks ≡ spec.over views.now 0) }
 {
     let mut marks = Items::new(alloc);
@@ -72,7 +80,7 @@ fn next_marks(alloc: Global, views: &[Reader], marks: &[bool]) -> Result<Marks, 
 
 // From the marks of the views that nest deeper than some depth, those of the views that nest deeper
 // than one more.
-fn deeper(alloc: Global, views: &[Reader], marks: &[bool]) -> Result<Marks, OutOfMemory>
+pub(crate) fn deeper(alloc: Global, views: &[Reader], marks: &[bool]) -> Result<Marks, OutOfMemory>
     ensures { (depth : ℕ) → marks.now ≡ spec.over views.now depth → IfOk result (λ next. next ≡ spec.over views.now (depth + 1)) }
 {
     next_marks(alloc, views, marks)
@@ -146,11 +154,12 @@ fn refused_next(
     }
 }
 
-// The greatest depth to which views nest.
-const MAX_DEPTH: usize = 16;
+/// The greatest depth to which views nest.
+pub(crate) const MAX_DEPTH: usize = 16;
 
-// The refusal of the first view of a catalog that isn't valid, by what its views read.
-fn refused_reader(
+/// The refusal of the first view of a catalog that isn't valid, by nesting depth and then in declared
+/// order, where this is what its views read.
+pub(crate) fn refused_view(
     alloc: Global,
     all: &[Reader],
     known: &Known<'_>,
@@ -167,14 +176,4 @@ fn refused_reader(
         marks = next;
     }
     Ok(found)
-}
-
-/// The refusal of the first view of a catalog that isn't valid, by nesting depth and then in declared
-/// order.
-pub(crate) fn refused_view(alloc: Global, known: &Known<'_>) -> Result<Option<Faulty>, OutOfMemory>
-    requires views { known.now.views.now ≡ views.view_heads (declared.catalog known.now.catalog.now) }
-    ensures { IfOk result (λ found. spec.refusal found ≡ views.view_refusal (declared.catalog known.now.catalog.now)) }
-{
-    let all = readers(alloc, known.catalog.views.as_slice())?;
-    refused_reader(alloc, all.as_slice(), known)
 }

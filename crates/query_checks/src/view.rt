@@ -1,6 +1,7 @@
 // The views of a catalog with their columns.
 ghost use Rattle.std.specs.Prelude.{◌≡◌, map, IfOk};
 ghost use Rattle.sql_ast.specs.Shown as written;
+ghost use Rattle.sql_catalog.specs.Nesting.{readers_of};
 ghost use Rattle.sql_catalog.specs.Shown as declared;
 ghost use Rattle.query_checks.specs.Numbers.{number};
 ghost use Rattle.query_checks.specs.Shown.{heads};
@@ -8,13 +9,14 @@ ghost use Rattle.query_checks.specs.Views as spec;
 
 use crate::checks::query;
 use crate::column::{Columns, renamed};
+use crate::depth::{MAX_DEPTH, all_marked, any_marked, deeper};
 use crate::fault::{Fault, lesser};
 use crate::known::Known;
 use crate::operands::list_fault;
 use crate::scope::Scopes;
 use shared_types::OutOfMemory;
 use sql_ast::ViewDecl;
-use sql_catalog::Catalog;
+use sql_catalog::{Catalog, Reader};
 use sql_text::Name;
 use sqlite_items::Items;
 use std::alloc::Global;
@@ -63,18 +65,26 @@ fn next_views(
     views_over(alloc, catalog.views.as_slice(), &Known { catalog, views })
 }
 
-// The greatest depth to which views nest.
-const MAX_DEPTH: usize = 16;
-
-// The views of a catalog, each over views that nest less deep.
-pub(crate) fn view_heads(alloc: Global, catalog: &Catalog) -> Result<Items<ViewHead>, OutOfMemory>
-    ensures { IfOk result (λ all. all ≡ spec.view_heads (declared.catalog catalog.now)) }
+// The views of a catalog, each over views that nest less deep, where this is what they read. They are
+// made as often as views nest deep.
+pub(crate) fn view_heads(
+    alloc: Global,
+    catalog: &Catalog,
+    all: &[Reader],
+) -> Result<Items<ViewHead>, OutOfMemory>
+    requires readers { all.now ≡ readers_of (map written.view catalog.now.views) }
+    ensures { IfOk result (λ heads. heads ≡ spec.view_heads (declared.catalog catalog.now)) }
 {
-    let mut views = Items::new(alloc);
+    let mut heads = Items::new(alloc);
+    let mut marks = all_marked(alloc, all)?;
     for _depth in 0..MAX_DEPTH {
-        views = next_views(alloc, catalog, views.as_slice())?;
+        if !any_marked(marks.as_slice()) {
+            return Ok(heads);
+        }
+        heads = next_views(alloc, catalog, heads.as_slice())?;
+        marks = deeper(alloc, all, marks.as_slice())?;
     }
-    Ok(views)
+    Ok(heads)
 }
 
 // The fault of a view's body with its column list.

@@ -1,7 +1,11 @@
 use Rattle.std.proofs.Common.{◌≡◌}
 use Rattle.sql_catalog.specs.Shown as declared
+use Rattle.query_checks.specs.Depths.{over}
 use Rattle.query_checks.specs.Views.{views_at}
 use Rattle.query_checks.proofs.view.view_heads.Given as goal
 
 abbrev pub invariant-loop-depth : goal.invariant-loop-depth
-invariant-loop-depth l = l.views ≡ views_at (declared.catalog l.catalog) l._depth
+invariant-loop-depth l = record {
+  heads : l.heads ≡ views_at (declared.catalog l.catalog) l._depth;
+  marks : l.marks ≡ over l.all l._depth;
+}

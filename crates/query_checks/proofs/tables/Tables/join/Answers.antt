@@ -1,4 +1,4 @@
-use Rattle.std.proofs.Common.{◌≡◌, ◌∙◌, ◌++◌, List, ap, sym, arith}
+use Rattle.std.proofs.Common.{◌≡◌, ◌∙◌, ◌++◌, List, ap, arith}
 use Rattle.std.proofs.lemmas.Grind.{common_steps}
 use Rattle.query_checks.specs.Columns.{all_columns}
 use Rattle.query_checks.specs.Found.{found}

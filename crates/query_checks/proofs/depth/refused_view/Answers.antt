@@ -1,7 +1,7 @@
 use Rattle.std.proofs.Common.{◌∙◌}
 use Rattle.sql_catalog.specs.Shown as declared
 use Rattle.query_checks.proofs.Nested.{refused_step}
-use Rattle.query_checks.proofs.depth.refused_reader.Goals as goal
+use Rattle.query_checks.proofs.depth.refused_view.Goals as goal
 
 pub loop-depth-preserved : goal.loop-depth-preserved
 loop-depth-preserved c =

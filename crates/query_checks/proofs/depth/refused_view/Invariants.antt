@@ -3,7 +3,7 @@ use Rattle.sql_catalog.specs.Shown as declared
 use Rattle.query_checks.specs.Depths.{over}
 use Rattle.query_checks.specs.Views.{refused_to}
 use Rattle.query_checks.specs.declared.depth.Faulty.{Faulty}
-use Rattle.query_checks.proofs.depth.refused_reader.Given as goal
+use Rattle.query_checks.proofs.depth.refused_view.Given as goal
 
 abbrev pub invariant-loop-depth : goal.invariant-loop-depth
 invariant-loop-depth l = record {
