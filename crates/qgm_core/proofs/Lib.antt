@@ -3,3 +3,5 @@ pub mod Fresh
 pub mod Ascending
 pub mod Changed
 pub mod Moved
+pub mod Counted
+pub mod Kept

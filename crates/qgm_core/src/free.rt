@@ -40,7 +40,7 @@ fn mark(node: &Node, marks: &mut Vec<BoxId>) -> Result<(), OutOfMemory>
 }
 
 // The boxes that are reached from one.
-fn reached(alloc: Global, nodes: &[Node], b: BoxId) -> Result<Vec<BoxId>, OutOfMemory>
+pub fn reached(alloc: Global, nodes: &[Node], b: BoxId) -> Result<Vec<BoxId>, OutOfMemory>
     ensures { IfOk result (λ marks. marks.items ≡ spec.reached (b ∷ []) nodes.now) }
 {
     let mut marks = Vec::new(alloc);

@@ -4,17 +4,19 @@ ghost use Rattle.std.specs.List.{remove};
 ghost use Rattle.qgm_core.specs.Boxes as spec;
 ghost use Rattle.qgm_core.specs.Edits as edits;
 ghost use Rattle.qgm_core.specs.Free.{free};
-ghost use Rattle.qgm_core.specs.Lists.{EachOnce};
+ghost use Rattle.qgm_core.specs.Lists.{EachOnce, times};
 ghost use Rattle.qgm_terms.specs.Shown.{cond};
 ghost use Rattle.qgm_terms.specs.Substitution.{substituted_cond};
 
-use crate::free::free_in;
+use crate::compact::keep_marked;
+use crate::free::{free_in, reached};
 use crate::kinds::{BoxId, BoxKind, Distinct, QuantKind, Role};
 use crate::node::Node;
 use crate::owned::{Owned, OwnedQuant, Quant, range_of};
 use crate::parts::BoxParts;
 use crate::places::{box_place, new_place, owner_place};
 use crate::quants::Quants;
+use crate::uses::uses_in;
 use qgm_terms::{Conds, Gc, Head, QuantId, ROOM, substitute_conds, substitute_head};
 use shared_types::OutOfMemory;
 use sql_value::{OrderKeys, OutNames};
@@ -176,6 +178,13 @@ impl Graph {
         }
     }
 
+    /// How many quantifiers range over a box. It takes no memory.
+    pub fn uses(&self, b: BoxId) -> usize
+        ensures { result ≡ times b (spec.overs_in self.now.boxes) }
+    {
+        uses_in(&self.nodes, b, self.next_quant)
+    }
+
     /// The quantifiers that are named in the box or below it, and owned neither there nor below, in
     /// ascending order.
     pub fn free(&self, alloc: Global, b: BoxId) -> Result<Vec<QuantId>, OutOfMemory>
@@ -243,6 +252,16 @@ impl Graph {
             .insert(place - 1, OwnedQuant { id, kind, over })?;
         self.next_quant = id + 1;
         Ok(id)
+    }
+
+    /// Drops the boxes that the root doesn't reach. The others keep their numbers and their order.
+    pub fn compact(&mut self, alloc: Global) -> Result<(), OutOfMemory>
+        ensures ok { OnOk result (self.new ≡ edits.compact self.old) }
+        ensures err { OnErr result (self.new ≡ self.old) }
+    {
+        let marks = reached(alloc, &self.nodes, self.root)?;
+        keep_marked(&mut self.nodes, &marks);
+        Ok(())
     }
 
     /// Moves a box just below another one. It takes no memory.

@@ -1,6 +1,7 @@
 //! The query graph: boxes that stand in one list, and the quantifiers that they own.
 #![tactic(auto)]
 
+mod compact;
 mod free;
 mod graph;
 mod kinds;
@@ -9,6 +10,7 @@ mod owned;
 mod parts;
 mod places;
 mod quants;
+mod uses;
 
 pub use free::{add_names_of_node, free_in, is_marked, mark_each};
 pub use graph::Graph;

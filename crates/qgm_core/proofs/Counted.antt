@@ -1,0 +1,64 @@
+-- How often boxes are used.
+use Rattle.std.proofs.Common.{ℕ, zero, suc, ◌==◌, ◌≡◌, ◌<◌, ◌≤◌, ◌+◌, ◌++◌, cond, Bool, true, false, List, [], ◌∷◌, Some, length, map, take, filter, slice_get, get_or, refl, sym, ◌∙◌, ap, arith, add-one}
+use Rattle.std.proofs.lemmas.List.{length-append}
+use Rattle.qgm_core.specs.Boxes.{ids_in, ids_of, overs_in, overs_of}
+use Rattle.qgm_core.specs.Lists.{times}
+use Rattle.qgm_core.specs.declared.node.Node.{Node}
+use Rattle.qgm_core.specs.declared.owned.OwnedQuant.{OwnedQuant}
+
+pub at-get : {X : Type 0} (xs : List X) (i : ℕ) (d : X) → i < length xs → slice_get xs i ≡ Some (get_or xs i d)
+at-get [] i d l = absurd (omega arith)
+at-get (x ∷ xs) zero d l = refl
+at-get (x ∷ xs) (suc i) d l = at-get xs i d (omega arith)
+
+times-append : (b : ℕ) (xs ys : List ℕ) → times b (xs ++ ys) ≡ times b xs + times b ys
+times-append b [] ys = omega arith
+times-append b (x ∷ xs) ys = let h = times-append b xs ys in omega (arith, h)
+
+times-filter : (b : ℕ) (rs : List OwnedQuant) → length (filter (λ r. r.over == b) rs) ≡ times b (map (λ r. r.over) rs)
+times-filter b [] = refl
+times-filter b (r ∷ rs) =
+    let h = times-filter b rs in
+    elim (r.over == b) as (λ t. length (cond t (r ∷ filter (λ r. r.over == b) rs) (filter (λ r. r.over == b) rs)) ≡ cond t 1 0 + times b (map (λ r. r.over) rs)) [
+      | true ↦ omega (arith, h)
+      | false ↦ omega (arith, h)
+    ]
+
+times-most : (b : ℕ) (rs : List OwnedQuant) → times b (map (λ r. r.over) rs) ≤ length (map (λ r. r.id) rs)
+times-most b [] = omega arith
+times-most b (r ∷ rs) =
+    let h = times-most b rs in
+    elim (r.over == b) as (λ t. cond t 1 0 + times b (map (λ r. r.over) rs) ≤ suc (length (map (λ r. r.id) rs))) [
+      | true ↦ omega (arith, h)
+      | false ↦ omega (arith, h)
+    ]
+
+uses-more : (b : ℕ) (ns : List Node) (i : ℕ) (n : Node) → slice_get ns i ≡ Some n → times b (overs_in (take (suc i) ns)) ≡ times b (overs_in (take i ns)) + times b (overs_of n)
+uses-more b [] i n e = absurd (let q : ⊥ = cc in q)
+uses-more b (m ∷ ns) zero n e =
+    let d : m ≡ n = cc in
+    times-append b (overs_of m) [] ∙ (let h : times b (overs_of m) ≡ times b (overs_of n) = ap (λ (x : Node). times b (overs_of x)) d in omega (arith, h))
+uses-more b (m ∷ ns) (suc i) n e =
+    let h = uses-more b ns i n e in
+    let k = times-append b (overs_of m) (overs_in (take (suc i) ns)) in
+    let l = times-append b (overs_of m) (overs_in (take i ns)) in
+    omega (arith, h, k, l)
+
+pub uses-most : (b : ℕ) (ns : List Node) (i : ℕ) → times b (overs_in (take i ns)) ≤ length (ids_in ns)
+uses-most b [] zero = omega arith
+uses-most b [] (suc i) = omega arith
+uses-most b (n ∷ ns) zero = omega arith
+uses-most b (n ∷ ns) (suc i) =
+    let h = uses-most b ns i in
+    let k = times-append b (overs_of n) (overs_in (take i ns)) in
+    let m = times-most b n.quants in
+    let l = length-append (ids_of n) (ids_in ns) in
+    omega (arith, h, k, m, l)
+
+pub uses-step : (b : ℕ) (ns : List Node) (i : ℕ) (n : Node) (total r : ℕ) → slice_get ns i ≡ Some n → total ≡ times b (overs_in (take i ns)) → r ≡ length (filter (λ r. r.over == b) n.quants) →
+    total + r ≡ times b (overs_in (take (i + 1) ns))
+uses-step b ns i n total r e t f =
+    let h = uses-more b ns i n e in
+    let k = times-filter b n.quants in
+    let l : times b (overs_in (take (i + 1) ns)) ≡ times b (overs_in (take (suc i) ns)) = ap (λ (j : ℕ). times b (overs_in (take j ns))) (add-one i) in
+    omega (arith, h, k, l, t, f)

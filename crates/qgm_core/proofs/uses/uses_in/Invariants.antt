@@ -1,0 +1,7 @@
+use Rattle.std.proofs.Common.{◌≡◌, take}
+use Rattle.qgm_core.specs.Boxes.{overs_in}
+use Rattle.qgm_core.specs.Lists.{times}
+use Rattle.qgm_core.proofs.uses.uses_in.Given as goal
+
+abbrev pub invariant-loop-node : goal.invariant-loop-node
+invariant-loop-node l = l.total ≡ times l.b (overs_in (take l.node-index l.nodes))
