@@ -18,6 +18,6 @@ refused = record {
   having_below_rows = refl;
   coalesced_built = record { kind = refl; plain = record { distinctness = refl; role = refl; numbered = (refl, refl) }; froms = ((refl, (refl, record { kind = refl; named = refl; plain = record { distinctness = refl; role = refl; numbered = (refl, refl) }; bare = (refl, refl); quants = refl })), tt); subs = (refl, refl, refl, record { kind = refl; plain = record { distinctness = refl; role = refl; numbered = (refl, refl) }; froms = ((refl, (refl, record { kind = refl; named = refl; plain = record { distinctness = refl; role = refl; numbered = (refl, refl) }; bare = (refl, refl); quants = refl })), tt); subs = refl; conds = refl; head = refl }, refl); conds = refl; head = refl };
   asked_twice_refused = λ h. absurd (cc h.subs.4);
-    text_null_built = record { kind = refl; plain = record { distinctness = refl; role = refl; numbered = (refl, refl) }; froms = ((refl, (refl, record { kind = refl; named = refl; plain = record { distinctness = refl; role = refl; numbered = (refl, refl) }; bare = (refl, refl); quants = refl })), tt); subs = refl; conds = refl; head = refl };
-    integer_null_refused = λ h. absurd (cc h.head);
+  text_null_built = record { kind = refl; plain = record { distinctness = refl; role = refl; numbered = (refl, refl) }; froms = ((refl, (refl, record { kind = refl; named = refl; plain = record { distinctness = refl; role = refl; numbered = (refl, refl) }; bare = (refl, refl); quants = refl })), tt); subs = refl; conds = refl; head = refl };
+  integer_null_refused = λ h. absurd (cc h.head);
 }
