@@ -1,5 +1,5 @@
 -- What each step of the making gives.
-use Rattle.std.proofs.Common.{◌≡◌, ◌≤◌, ℕ, suc, ◌+◌, ◌==◌, Bool, true, false, List, [], ◌∷◌, ◌++◌, map, length, append_assoc, append-nil, refl, ap, ap₂, sym, ◌∙◌, subst, arith, Option}
+use Rattle.std.proofs.Common.{◌≡◌, ◌≤◌, ◌<◌, ◌||◌, cond, zero, ℕ, suc, ◌+◌, ◌==◌, Bool, true, false, List, [], ◌∷◌, ◌++◌, map, length, append_assoc, append-nil, refl, ap, ap₂, sym, ◌∙◌, subst, arith, Option}
 use Rattle.std.proofs.lemmas.Bool.{ne_eqb, eq-eqb, eqb-true}
 use Rattle.sql_ast.specs.declared.word.SetFunction.{SetFunction}
 use Rattle.sql_ast.specs.declared.word.Quantifier.{Quantifier}
@@ -19,7 +19,7 @@ use Rattle.qgm_shown.specs.Leaves.{Leaf, Slots, after, count, every_or_some, fol
 use Rattle.qgm_shown.specs.Terms.{split}
 use Rattle.qgm_shown.specs.Leaves as leaf
 use Rattle.qgm_shown.specs.Terms as l
-use Rattle.qgm_shown.specs.Shown.{HasKey, PlainArguments, Thing, columns_of, fold_terms, key_frame, key_places, no_slots, of_groups, of_operand, of_query, of_rows, refs}
+use Rattle.qgm_shown.specs.Shown.{over_in, uses, HasKey, PlainArguments, Thing, columns_of, fold_terms, key_frame, key_places, no_slots, of_groups, of_operand, of_query, of_rows, refs}
 use Rattle.qgm_shown.specs.Shown as w
 use Rattle.qgm_shown.specs.Sources.{Sources, from_width, froms_width, width}
 use Rattle.qgm_laid.specs.Lay.{Boxes, Laid, Drawn, Step, put, numbered, drawn, none, in_turn, over, pair_of}
@@ -27,8 +27,10 @@ use Rattle.qgm_core.specs.declared.kinds.SetOperator as forms
 use Rattle.qgm_laid.specs.Lay as y
 use Rattle.qgm_laid.specs.Law as k
 use Rattle.qgm_laid.specs.Buildable as b
-use Rattle.qgm_laid.specs.Law.{Under, UnderIn}
-use Rattle.qgm_laid.proofs.Numbers.{Rising, fresh-under, rising-append, rising-distinct, rising-fresh, rising-from, under-more, under_in-append, under_in-left, under_in-more, under_in-refs, under_in-right, under-keys}
+use Rattle.qgm_laid.specs.Law.{Under, UnderIn, owned}
+use Rattle.std.specs.List.{list_any}
+use Rattle.qgm_core.specs.Boxes.{is_quant}
+use Rattle.qgm_laid.proofs.Numbers.{Rising, fresh-under, rising-append, rising-distinct, rising-fresh, rising-from, rising-in, any-cases, below-or, one-used, or-cases, over-append, stays-false, under-more, under_in-append, under_in-left, under_in-more, under_in-refs, under_in-right, under-keys}
 use Rattle.qgm_meaning.specs.Scope.{loose}
 use Rattle.qgm_shown.proofs.Loose.{shown-clear}
 use Rattle.qgm_laid.proofs.Order.{low-more, low-not, shows-has, thing-over, thing-settled}
@@ -50,16 +52,18 @@ module _ (sources : Sources) (has : List ℕ → Bool) where
   -- ---- what stays
 
   pub keeps-refl : (a : Boxes) → Keeps a a
-  keeps-refl a = record { boxes = omega arith; quants = omega arith; order = λ o. o; same = λ j thing m l h. h }
+  keeps-refl a = record { boxes = omega arith; quants = omega arith; order = λ o. o; kept = λ j l u. refl; owners = λ q l h. h; same = λ j thing m l h. h }
 
   pub keeps-numbered : (a : Boxes) → Keeps a (numbered a)
-  keeps-numbered a = record { boxes = omega arith; quants = omega arith; order = λ o. record { low = o.low; ordered = o.ordered; settled = o.settled; each = o.each }; same = λ j thing m l h. h }
+  keeps-numbered a = record { boxes = omega arith; quants = omega arith; order = λ o. record { low = o.low; ordered = o.ordered; settled = o.settled; bound = λ q h. (let x = o.bound q h in omega arith); once = o.once; unused = o.unused; named = o.named; each = o.each }; kept = λ j l u. refl; owners = λ q l h. h; same = λ j thing m l h. h }
 
   pub keeps-trans : (a b c : Boxes) → Keeps a b → Keeps b c → Keeps a c
   keeps-trans a b c h k = record {
     boxes = (let x = h.boxes in let y = k.boxes in omega arith);
     quants = (let x = h.quants in let y = k.quants in omega arith);
     order = λ o. k.order (h.order o);
+    kept = λ j l u. k.kept j (let x = h.boxes in omega arith) u ∙ h.kept j l u;
+    owners = λ q l t. h.owners q l (k.owners q (let x = h.quants in omega arith) t);
     same = λ j thing m l s. k.same j thing m (let x = h.boxes in omega arith) (h.same j thing m l s);
   }
 
@@ -76,11 +80,71 @@ module _ (sources : Sources) (has : List ℕ → Bool) where
   pub still : (thing : Thing) (m : Map) (s : Boxes) (r : Laid) (c : Boxes) → Made thing m s r → Keeps r.boxes c → Shows c.made r.top thing m
   still thing m s r c h k = k.same r.top thing m h.known h.shows
 
+  -- ---- quantifiers that no box owns yet
+
+  abbrev pub Free : Boxes → Boxes → List OwnedQuant → Type 0
+  Free a b os = k.InOrder sources has a → (q : ℕ) → list_any (is_quant q) os ≡ true → owned q b.made ≡ false
+
+  free-new : (a b : Boxes) → Keeps a b → k.InOrder sources has a → (q : ℕ) → b.quant ≤ q → owned q b.made ≡ false
+  free-new a b h o q l = by_case (owned q b.made) (λ t. (h.order o).bound q t)
+    where
+      by_case : (x : Bool) → (x ≡ true → q < b.quant) → x ≡ false
+      by_case true f = absurd (let t = f refl in omega arith)
+      by_case false f = refl
+
+  free-one : (a b : Boxes) (kind : QuantKind) (top : ℕ) → Keeps a b → Free a b (record { id = b.quant; kind = kind; over = top } ∷ [])
+  free-one a b kind top h o q t = or-cases (b.quant == q) false t (λ e. let same = eqb-true b.quant q e in free-new a b h o q (omega arith)) (λ e. absurd (cc e))
+
+  free-pair : (a b : Boxes) (x y : ℕ) → Keeps a b → Free a b (pair_of b.quant x y)
+  free-pair a b x y h o q t =
+      or-cases (b.quant == q) ((suc b.quant == q) || false) t (λ e. let same = eqb-true b.quant q e in free-new a b h o q (omega arith))
+      (λ e. or-cases (suc b.quant == q) false e (λ e. let same = eqb-true (suc b.quant) q e in free-new a b h o q (omega arith)) (λ e. absurd (cc e)))
+
+  free-append : (a b c : Boxes) (os ps : List OwnedQuant) → Keeps a b → Keeps b c → Rising a.quant b.quant os → Free a b os → Free b c ps → Free a c (os ++ ps)
+  free-append a b c os ps h k r f g o q t =
+      any-cases (is_quant q) os ps t (λ e. stays-false (owned q b.made) (owned q c.made) (k.owners q (rising-in a.quant b.quant q os r e).1) (f o q e)) (λ e. g (h.order o) q e)
+
+  -- ---- how often boxes are used
+
+  -- of the boxes that are made between a and b each has one use, by a box or by one of these quantifiers
+  pub record Counts (a b : Boxes) (os : List OwnedQuant) : Type 0 where
+    pub old : (j : ℕ) → j < a.box → k.Unshared sources has j → over_in j os ≡ 0
+    pub new : k.InOrder sources has a → (j : ℕ) → a.box ≤ j → j < b.box → over_in j os + uses j b.made ≡ 1
+    pub later : (j : ℕ) → b.box ≤ j → over_in j os ≡ 0
+
+  unshared : (a : Boxes) → k.InOrder sources has a → (j : ℕ) → a.box ≤ j → k.Unshared sources has j
+  unshared a o j l name h = ne_eqb (sources.shared name) j (λ (e : sources.shared name ≡ j). absurd (let x = o.named name h in omega arith))
+
+  counts-none : (a : Boxes) → Counts a a []
+  counts-none a = record { old = λ j l u. refl; new = λ o j l t. absurd (omega arith); later = λ j l. refl }
+
+  counts-append : (a b c : Boxes) (os ps : List OwnedQuant) → Keeps a b → Keeps b c → Counts a b os → Counts b c ps → Counts a c (os ++ ps)
+  counts-append a b c os ps h k f g = record {
+    old = λ j l u. (let x = f.old j l u in let y = g.old j (let z = h.boxes in omega arith) u in let e = over-append j os ps in omega arith);
+    new = λ o j l t. below-or j b.box
+        (λ z. let u = unshared a o j l in let x = f.new o j l z in let y = g.old j z u in let v = k.kept j z u in let e = over-append j os ps in omega arith)
+        (λ z. let x = f.later j z in let y = g.new (h.order o) j z t in let e = over-append j os ps in omega arith);
+    later = λ j l. (let x = f.later j (let z = k.boxes in omega arith) in let y = g.later j l in let e = over-append j os ps in omega arith);
+  }
+
+  counts-one : (thing : Thing) (m : Map) (a : Boxes) (r : Laid) (id : ℕ) (kind : QuantKind) → Made thing m a r → Counts a r.boxes (record { id = id; kind = kind; over = r.top } ∷ [])
+  counts-one thing m a r id kind h = record {
+    old = λ j l u. ap (λ b. cond b 1 0 + 0) (h.top j l u);
+    new = λ o j l t. one-used (r.top == j) (uses j r.boxes.made) (h.used o j l t);
+    later = λ j l. ap (λ b. cond b 1 0 + 0) (ne_eqb r.top j (λ (e : r.top ≡ j). absurd (let x = h.known in omega arith)));
+  }
+
+  counts-numbered : (a b : Boxes) (os : List OwnedQuant) → Counts a b os → Counts a (numbered b) os
+  counts-numbered a b os h = record { old = h.old; new = h.new; later = h.later }
+
+  counts-from : (a b : Boxes) (os : List OwnedQuant) → Counts (numbered a) b os → Counts a b os
+  counts-from a b os h = record { old = h.old; new = λ o. h.new ((keeps-numbered a).order o); later = h.later }
+
   -- a box that is put on top
-  pub made-put : (kind : BoxKind) (distinct : Bool) (conds : List Cond) (head : List Term) (quants : List OwnedQuant) (thing : Thing) (m : Map) (a s : Boxes) → Keeps a s
+  pub made-put : (kind : BoxKind) (distinct : Bool) (conds : List Cond) (head : List Term) (quants : List OwnedQuant) (thing : Thing) (m : Map) (a s : Boxes) → Keeps a s → Rising a.quant s.quant quants → Free a s quants → Counts a s quants
       → w.ShowsBox sources (Shows s.made) thing m (y.plain_box s.box kind distinct conds head quants)
       → Made thing m a (put kind distinct conds head quants s)
-  made-put kind distinct conds head quants thing m a s k h =
+  made-put kind distinct conds head quants thing m a s k rising free counts h =
       let n : Node = y.plain_box s.box kind distinct conds head quants in
       let r : Laid = put kind distinct conds head quants s in
       record {
@@ -93,13 +157,23 @@ module _ (sources : Sources) (has : List ℕ → Bool) where
                 low = (omega arith, low-more s.box (suc s.box) s.made (omega arith) x.low);
                 ordered = (low-not s.box s.made x.low, thing-over sources s.made (Shows s.made) (λ b u p g. shows-has sources s.made b u p g) thing m n h, x.ordered);
                 settled = ((λ q own. thing-settled sources q (loose s.made) (Shows s.made) (λ b u p g f. shown-clear sources q s.made b u p g f) thing m n h own), x.settled);
+                bound = λ q t. or-cases (list_any (is_quant q) quants) (owned q s.made) t (λ e. (rising-in a.quant s.quant q quants rising e).1) (λ e. x.bound q e);
+                unused = λ j l. (let z = counts.later j (omega arith) in let v = x.unused j (omega arith) in omega arith);
+                named = λ name t. (let z = x.named name t in omega arith);
+                once = (rising-distinct a.quant s.quant quants rising, (λ q own. free o q own), x.once);
                 each = (record { thing = thing; seen = m; shows = h }, x.each);
               };
+          kept = λ j l u. (let x = counts.old j l u in let z = k.kept j l u in omega arith);
+          owners = λ q l t. or-cases (list_any (is_quant q) quants) (owned q s.made) t (λ e. absurd (let x = (rising-in a.quant s.quant q quants rising e).0 in omega arith)) (λ e. k.owners q l e);
           same = λ j t p l g.
               subst (λ own. w.Either own (w.ShowsBox sources (Shows s.made) t p n) (Shows s.made j t p)) (sym (ne_eqb s.box j (λ (e : s.box ≡ j). absurd (let x = k.boxes in omega arith)))) (k.same j t p l g);
         };
         known = omega arith;
         shows = subst (λ own. w.Either own (w.ShowsBox sources (Shows s.made) thing m n) (Shows s.made s.box thing m)) (sym (eq-eqb s.box s.box refl)) h;
+        used = λ o j l t. below-or j s.box
+            (λ z. (let v = counts.new o j l z in v) ∙ sym (ap (λ b. cond b 0 1) (ne_eqb s.box j (λ (e : s.box ≡ j). absurd (omega arith)))))
+            (λ z. let v = counts.later j z in let u = (k.order o).unused j z in let e : over_in j quants + uses j s.made ≡ 0 = omega arith in let i : s.box ≡ j = omega arith in e ∙ sym (ap (λ b. cond b 0 1) (eq-eqb s.box j i)));
+        top = λ j l u. ne_eqb s.box j (λ (e : s.box ≡ j). absurd (let x = k.boxes in omega arith));
       }
 
   -- ---- the quantifiers of a FROM
@@ -107,6 +181,8 @@ module _ (sources : Sources) (has : List ℕ → Bool) where
   pub record MadeFrom (x : From) (m : Map) (s : Boxes) (r : Drawn) : Type 0 where
     pub keeps : Keeps s r.boxes
     pub rising : Rising s.quant r.boxes.quant r.quants
+    pub free : Free s r.boxes r.quants
+    pub counts : Counts s r.boxes r.quants
     pub fills : Fills sources x r.quants
     pub under : UnderIn r.boxes.quant (w.frame sources x r.quants)
     pub shows : (c : Boxes) → Keeps r.boxes c → (more : List OwnedQuant) → w.ShowsFrom sources (Shows c.made) x m (r.quants ++ more)
@@ -114,6 +190,8 @@ module _ (sources : Sources) (has : List ℕ → Bool) where
   pub record MadeFroms (x : Froms) (m : Map) (s : Boxes) (r : Drawn) : Type 0 where
     pub keeps : Keeps s r.boxes
     pub rising : Rising s.quant r.boxes.quant r.quants
+    pub free : Free s r.boxes r.quants
+    pub counts : Counts s r.boxes r.quants
     pub fills : FillsAll sources x r.quants
     pub under : UnderIn r.boxes.quant (w.frame_all sources x r.quants)
     pub shows : (c : Boxes) → Keeps r.boxes c → (more : List OwnedQuant) → w.ShowsFroms sources (Shows c.made) x m (r.quants ++ more)
@@ -126,6 +204,8 @@ module _ (sources : Sources) (has : List ℕ → Bool) where
   from-one x n m s r h fills frame one = record {
     keeps = keeps-trans s r.boxes (numbered r.boxes) h.keeps (keeps-numbered r.boxes);
     rising = (h.keeps.quants, omega arith);
+    free = free-one s r.boxes F r.top h.keeps;
+    counts = counts-numbered s r.boxes (drawn F r).quants (counts-one (of_operand x) m s r r.boxes.quant F h);
     fills = fills;
     under = subst (UnderIn (suc r.boxes.quant)) (sym frame) (under_in-refs (suc r.boxes.quant) r.boxes.quant 1 n (omega arith));
     shows = λ c k more. one (Shows c.made) ((drawn F r).quants ++ more) (refl, still (of_operand x) m s r c h (keeps-trans r.boxes (numbered r.boxes) c (keeps-numbered r.boxes) k));
@@ -138,6 +218,8 @@ module _ (sources : Sources) (has : List ℕ → Bool) where
   from-both x y z m s a b h k fills frame both = record {
     keeps = keeps-trans s a.boxes b.boxes h.keeps k.keeps;
     rising = rising-append s.quant a.boxes.quant b.boxes.quant a.quants b.quants h.rising k.rising;
+    free = free-append s a.boxes b.boxes a.quants b.quants h.keeps k.keeps h.rising h.free k.free;
+    counts = counts-append s a.boxes b.boxes a.quants b.quants h.keeps k.keeps h.counts k.counts;
     fills = fills;
     under = subst (UnderIn b.boxes.quant) (sym (frame (a.quants ++ b.quants) ∙ ap₂ (λ f g. f ++ g) (h.fills.frame b.quants) (ap (w.frame sources y) (h.fills.past b.quants))))
         (under_in-append b.boxes.quant (w.frame sources x a.quants) (w.frame sources y b.quants) (under_in-more a.boxes.quant b.boxes.quant (w.frame sources x a.quants) k.keeps.quants h.under) k.under);
@@ -154,12 +236,14 @@ module _ (sources : Sources) (has : List ℕ → Bool) where
   from-joined x y p m s a b h k = from-both x y (q.joined x y p) m s a b h k (fills-joined sources x y p a.quants b.quants h.fills k.fills) (λ os. refl) (λ below os z. z)
 
   pub froms-none : (m : Map) (s : Boxes) → MadeFroms q.no_from m s (none s)
-  froms-none m s = record { keeps = keeps-refl s; rising = omega arith; fills = fills-none sources; under = tt; shows = λ c k more. tt }
+  froms-none m s = record { keeps = keeps-refl s; rising = omega arith; free = λ o q t. absurd (cc t); counts = counts-none s; fills = fills-none sources; under = tt; shows = λ c k more. tt }
 
   pub froms-next : (x : From) (xs : Froms) (m : Map) (s : Boxes) (a b : Drawn) → MadeFrom x m s a → MadeFroms xs m a.boxes b → MadeFroms (q.one_from x xs) m s (record { boxes = b.boxes; quants = a.quants ++ b.quants })
   froms-next x xs m s a b h k = record {
     keeps = keeps-trans s a.boxes b.boxes h.keeps k.keeps;
     rising = rising-append s.quant a.boxes.quant b.boxes.quant a.quants b.quants h.rising k.rising;
+    free = free-append s a.boxes b.boxes a.quants b.quants h.keeps k.keeps h.rising h.free k.free;
+    counts = counts-append s a.boxes b.boxes a.quants b.quants h.keeps k.keeps h.counts k.counts;
     fills = fills-next sources x xs a.quants b.quants h.fills k.fills;
     under = subst (UnderIn b.boxes.quant) (sym (ap₂ (λ f g. f ++ g) (h.fills.frame b.quants) (ap (w.frame_all sources xs) (h.fills.past b.quants))))
         (under_in-append b.boxes.quant (w.frame sources x a.quants) (w.frame_all sources xs b.quants) (under_in-more a.boxes.quant b.boxes.quant (w.frame sources x a.quants) k.keeps.quants h.under) k.under);
@@ -178,6 +262,8 @@ module _ (sources : Sources) (has : List ℕ → Bool) where
   pub record MadeSubs (m : Map) (ls : List Leaf) (s : Boxes) (r : Drawn) : Type 0 where
     pub keeps : Keeps s r.boxes
     pub rising : Rising s.quant r.boxes.quant r.quants
+    pub free : Free s r.boxes r.quants
+    pub counts : Counts s r.boxes r.quants
     pub shows : (c : Boxes) → Keeps r.boxes c → w.ShowsSubs sources (Shows c.made) m ls r.quants
 
   -- a step that makes what these leaves ask for, which see a frame or parts of it
@@ -199,13 +285,13 @@ module _ (sources : Sources) (has : List ℕ → Bool) where
   subs-append below m (count ∷ a) b os ps h k = subs-append below m a b os ps h k
 
   pub nothing : {fr : Frame} {m : Map} → Serves fr m [] none
-  nothing {fr} {m} = record { plain = λ f. tt; at = λ s r. record { keeps = keeps-refl s; rising = omega arith; shows = λ c k. refl } }
+  nothing {fr} {m} = record { plain = λ f. tt; at = λ s r. record { keeps = keeps-refl s; rising = omega arith; free = λ o q t. absurd (cc t); counts = counts-none s; shows = λ c k. refl } }
 
   pub counted : {fr : Frame} {m : Map} → Serves fr m (count ∷ []) none
-  counted {fr} {m} = record { plain = λ f. tt; at = λ s r. record { keeps = keeps-refl s; rising = omega arith; shows = λ c k. refl } }
+  counted {fr} {m} = record { plain = λ f. tt; at = λ s r. record { keeps = keeps-refl s; rising = omega arith; free = λ o q t. absurd (cc t); counts = counts-none s; shows = λ c k. refl } }
 
   pub folded : {fr : Frame} {m : Map} (f : SetFunction) (d : Bool) (x : q.Value) → ((f : Frame) → leaves f x ≡ []) → Serves fr m (fold f d x ∷ []) none
-  folded {fr} {m} f d x h = record { plain = λ f. (h f, tt); at = λ s r. record { keeps = keeps-refl s; rising = omega arith; shows = λ c k. refl } }
+  folded {fr} {m} f d x h = record { plain = λ f. (h f, tt); at = λ s r. record { keeps = keeps-refl s; rising = omega arith; free = λ o q t. absurd (cc t); counts = counts-none s; shows = λ c k. refl } }
 
   pub both : {fr : Frame} {m : Map} {ls ks : List Leaf} {a b : Step} → Serves fr m ls a → Serves fr m ks b → Serves fr m (ls ++ ks) (in_turn a b)
   both {fr} {m} {ls} {ks} {a} {b} h k = record {
@@ -216,6 +302,8 @@ module _ (sources : Sources) (has : List ℕ → Bool) where
         record {
           keeps = keeps-trans s (a s).boxes (b (a s).boxes).boxes x.keeps y.keeps;
           rising = rising-append s.quant (a s).boxes.quant (b (a s).boxes).boxes.quant (a s).quants (b (a s).boxes).quants x.rising y.rising;
+          free = free-append s (a s).boxes (b (a s).boxes).boxes (a s).quants (b (a s).boxes).quants x.keeps y.keeps x.rising x.free y.free;
+          counts = counts-append s (a s).boxes (b (a s).boxes).boxes (a s).quants (b (a s).boxes).quants x.keeps y.keeps x.counts y.counts;
           shows = λ c g. subs-append (Shows c.made) m ls ks (a s).quants (b (a s).boxes).quants (x.shows c (keeps-trans (a s).boxes (b (a s).boxes).boxes c y.keeps g)) (y.shows c g);
         };
   }
@@ -232,6 +320,8 @@ module _ (sources : Sources) (has : List ℕ → Bool) where
         record {
           keeps = keeps-trans s a.boxes (numbered a.boxes) made.keeps (keeps-numbered a.boxes);
           rising = (made.keeps.quants, omega arith);
+          free = free-one s a.boxes kind a.top made.keeps;
+          counts = counts-numbered s a.boxes (drawn kind a).quants (counts-one (of_query x) (fr ∷ m) s a a.boxes.quant kind made);
           shows = λ c k. (refl, e, fresh-under a.boxes.quant (fr ∷ m) (under-more s.quant a.boxes.quant (fr ∷ m) made.keeps.quants r.under), still (of_query x) (fr ∷ m) s a c made (keeps-trans a.boxes (numbered a.boxes) c (keeps-numbered a.boxes) k), refl);
         };
   }
@@ -286,10 +376,10 @@ module _ (sources : Sources) (has : List ℕ → Bool) where
       split-as false e later h = later h
 
   derived-made : (x : Query) (m : Map) (s : Boxes) (r : Laid) → Made (of_query x) m s r → Made (of_operand (q.derived x)) m s r
-  derived-made x m s r h = record { keeps = h.keeps; known = h.known; shows = shows-as (of_query x) (of_operand (q.derived x)) m m r.top (λ below n e z. z) r.boxes.made h.shows }
+  derived-made x m s r h = record { keeps = h.keeps; known = h.known; shows = shows-as (of_query x) (of_operand (q.derived x)) m m r.top (λ below n e z. z) r.boxes.made h.shows; used = h.used; top = h.top }
 
   named-made : (name : List ℕ) (m : Map) (s : Boxes) → has name ≡ true → Ready s m → Made (of_operand (q.named name)) m s (record { boxes = s; top = sources.shared name })
-  named-made name m s h r = record { keeps = keeps-refl s; known = r.known name h; shows = r.sourced name h m }
+  named-made name m s h r = record { keeps = keeps-refl s; known = r.known name h; shows = r.sourced name h m; used = λ o j l t. absurd (omega arith); top = λ j l u. u name h }
 
   block-made : (distinct : Bool) (list : Values) (from : Froms) (by : Test) (m : Map) (s : Boxes) (f c : Drawn) → Under s.quant m → MadeFroms from m s f
       → MadeSubs m (w.all_leaves sources from by (λ fr. list_leaves fr list) f.quants) f.boxes c
@@ -298,7 +388,8 @@ module _ (sources : Sources) (has : List ℕ → Bool) where
       let heads : Frame → List Leaf = λ fr. list_leaves fr list in
       let items : Frame → Slots → List Term = λ fr s. l.terms sources fr m s list in
       let n = select_node distinct from by heads items m f.quants c in
-      made-put Select distinct n.parts.conds.items n.parts.head n.quants (of_query (q.block distinct list from by)) m s c.boxes (keeps-trans s f.boxes c.boxes h.keeps k.keeps) (shows-select distinct from by heads items m s f c u h k)
+      made-put Select distinct n.parts.conds.items n.parts.head n.quants (of_query (q.block distinct list from by)) m s c.boxes (keeps-trans s f.boxes c.boxes h.keeps k.keeps)
+      (rising-append s.quant f.boxes.quant c.boxes.quant f.quants c.quants h.rising k.rising) (free-append s f.boxes c.boxes f.quants c.quants h.keeps k.keeps h.rising h.free k.free) (counts-append s f.boxes c.boxes f.quants c.quants h.keeps k.keeps h.counts k.counts) (shows-select distinct from by heads items m s f c u h k)
 
   abbrev Flat : (ℕ → Thing → Map → Type 0) → From → Map → Node → Type 0
   Flat below x m b = w.ShowsFlat sources below x m b
@@ -311,6 +402,7 @@ module _ (sources : Sources) (has : List ℕ → Bool) where
       let n = select_node false (q.one_from x q.no_from) (q.all q.no_test) heads items m f.quants c in
       let ls = w.on_leaves sources x f.quants in
       made-put Select false n.parts.conds.items n.parts.head n.quants (of_operand x) m s c.boxes (keeps-trans s f.boxes c.boxes h.keeps k.keeps)
+      (rising-append s.quant f.boxes.quant c.boxes.quant f.quants c.quants h.rising k.rising) (free-append s f.boxes c.boxes f.quants c.quants h.keeps k.keeps h.rising h.free k.free) (counts-append s f.boxes c.boxes f.quants c.quants h.keeps k.keeps h.counts k.counts)
       (to (Shows c.boxes.made) n (shows-select false (q.one_from x q.no_from) (q.all q.no_test) heads items m s f c u (froms-alone x m s f h)
       (subst (λ z. MadeSubs m z f.boxes c) (sym (append-nil (ls ++ []) ∙ append-nil ls)) k)))
 
@@ -324,6 +416,9 @@ module _ (sources : Sources) (has : List ℕ → Bool) where
       let grow = keeps-trans b.boxes (numbered b.boxes) c (keeps-numbered b.boxes) (keeps-numbered (numbered b.boxes)) in
       let later = keeps-trans s a.boxes b.boxes h.keeps k.keeps in
       made-put OuterJoin false (split (l.cond sources fr m no_slots on)) (map ref_term fr) os (of_operand (q.left_joined x z n on)) m s c (keeps-trans s b.boxes c later grow)
+      (rising-from s.quant b.boxes.quant c.quant os later.quants (omega arith, (omega arith, omega arith))) (free-pair s b.boxes a.top b.top later)
+      (counts-numbered s (numbered b.boxes) os (counts-numbered s b.boxes os (counts-append s a.boxes b.boxes (record { id = b.boxes.quant; kind = F; over = a.top } ∷ []) (record { id = suc b.boxes.quant; kind = F; over = b.top } ∷ []) h.keeps k.keeps
+      (counts-one (of_operand x) m s a b.boxes.quant F h) (counts-one (of_operand z) m a.boxes b (suc b.boxes.quant) F k))))
       (record {
         kind = refl;
         plain = record { distinctness = refl; role = refl; numbered = numbered-apart b.boxes.quant c.quant m os (under-more s.quant b.boxes.quant m later.quants r.under) (omega arith, (omega arith, omega arith)) };
@@ -342,6 +437,9 @@ module _ (sources : Sources) (has : List ℕ → Bool) where
       let grow = keeps-trans b.boxes (numbered b.boxes) c (keeps-numbered b.boxes) (keeps-numbered (numbered b.boxes)) in
       let later = keeps-trans s a.boxes b.boxes h.keeps k.keeps in
       made-put kind false [] [] os (of_query t) m s c (keeps-trans s b.boxes c later grow)
+      (rising-from s.quant b.boxes.quant c.quant os later.quants (omega arith, (omega arith, omega arith))) (free-pair s b.boxes a.top b.top later)
+      (counts-numbered s (numbered b.boxes) os (counts-numbered s b.boxes os (counts-append s a.boxes b.boxes (record { id = b.boxes.quant; kind = F; over = a.top } ∷ []) (record { id = suc b.boxes.quant; kind = F; over = b.top } ∷ []) h.keeps k.keeps
+      (counts-one (of_query x) m s a b.boxes.quant F h) (counts-one (of_query z) m a.boxes b (suc b.boxes.quant) F k))))
       (to (Shows c.made) (y.plain_box c.box kind false [] [] os)
       (record {
         kind = refl;
@@ -362,6 +460,7 @@ module _ (sources : Sources) (has : List ℕ → Bool) where
       let items : Frame → Slots → List Term = w.rows_list sources places ls in
       let n = select_node false from by heads items m f.quants c in
       made-put Select false n.parts.conds.items n.parts.head n.quants (of_rows from by places ls) m s c.boxes (keeps-trans s f.boxes c.boxes h.keeps k.keeps)
+      (rising-append s.quant f.boxes.quant c.boxes.quant f.quants c.quants h.rising k.rising) (free-append s f.boxes c.boxes f.quants c.quants h.keeps k.keeps h.rising h.free k.free) (counts-append s f.boxes c.boxes f.quants c.quants h.keeps k.keeps h.counts k.counts)
       (record { arguments = plain (w.frame_all sources from n.quants); rows = shows-select false from by heads items m s f c u h k })
 
   groups-made : (from : Froms) (by : Test) (places : List ℕ) (ls : List Leaf) (m : Map) (s : Boxes) (r : Laid) → Under s.quant m → Made (of_rows from by places ls) m s r → Made (of_groups from by places ls) m s (y.group_box sources places ls r)
@@ -369,7 +468,8 @@ module _ (sources : Sources) (has : List ℕ → Bool) where
       let g = r.boxes.quant in
       let c = numbered r.boxes in
       made-put (Group (length places)) false [] (w.groups_list places ls g) (drawn F r).quants (of_groups from by places ls) m s c
-      (keeps-trans s r.boxes c h.keeps (keeps-numbered r.boxes))
+      (keeps-trans s r.boxes c h.keeps (keeps-numbered r.boxes)) (rising-from s.quant g c.quant (drawn F r).quants h.keeps.quants (omega arith, omega arith)) (free-one s r.boxes F r.top h.keeps)
+      (counts-numbered s r.boxes (drawn F r).quants (counts-one (of_rows from by places ls) m s r g F h))
       (record {
         kind = refl;
         plain = record { distinctness = refl; role = refl; numbered = numbered-apart g c.quant m (drawn F r).quants (under-more s.quant g m h.keeps.quants u) (omega arith, omega arith) };
@@ -391,11 +491,18 @@ module _ (sources : Sources) (has : List ℕ → Bool) where
       let t = w.upper_slots s.quant (suc (length (key_places places))) ls c.quants in
       let os : List OwnedQuant = record { id = s.quant; kind = F; over = g.top } ∷ c.quants in
       let below : suc s.quant ≤ g.boxes.quant = h.keeps.quants in
+      let later = keeps-trans (numbered s) g.boxes c.boxes h.keeps k.keeps in
+      let rising : Rising s.quant c.boxes.quant os = (omega arith, rising-from (suc s.quant) g.boxes.quant c.boxes.quant c.quants below k.rising) in
       made-put Select distinct (split (l.cond sources fr m (after (list_leaves fr list) t) having)) (l.terms sources fr m t list) os (of_query (q.grouped distinct list from by places n having)) m s c.boxes
-      (keeps-trans s (numbered s) c.boxes (keeps-numbered s) (keeps-trans (numbered s) g.boxes c.boxes h.keeps k.keeps))
+      (keeps-trans s (numbered s) c.boxes (keeps-numbered s) later) rising
+      (λ o q z. or-cases (s.quant == q) (list_any (is_quant q) c.quants) z
+      (λ i. let same = eqb-true s.quant q i in stays-false (owned q s.made) (owned q c.boxes.made) (later.owners q (omega arith)) (free-new s s (keeps-refl s) o q (omega arith)))
+      (λ i. k.free (h.keeps.order ((keeps-numbered s).order o)) q i))
+      (counts-from s c.boxes os (counts-append (numbered s) g.boxes c.boxes (record { id = s.quant; kind = F; over = g.top } ∷ []) c.quants h.keeps k.keeps
+      (counts-one (of_groups from by (key_places places) ls) m (numbered s) g s.quant F h) k.counts))
       (record {
         kind = refl;
-        plain = record { distinctness = refl; role = refl; numbered = numbered-apart s.quant c.boxes.quant m os u (omega arith, rising-from (suc s.quant) g.boxes.quant c.boxes.quant c.quants below k.rising) };
+        plain = record { distinctness = refl; role = refl; numbered = numbered-apart s.quant c.boxes.quant m os u rising };
         key = key;
         columns = e;
         upper = record { kind = refl; groups = still (of_groups from by (key_places places) ls) m (numbered s) g c.boxes h k.keeps; subs = k.shows c.boxes (keeps-refl c.boxes); conds = refl; head = refl };

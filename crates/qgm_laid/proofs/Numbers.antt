@@ -1,10 +1,11 @@
 -- Numbers of quantifiers rise, so they are distinct, and no map that was there before names them.
-use Rattle.std.proofs.Common.{◌≡◌, ◌≤◌, ◌<◌, ℕ, zero, suc, ◌+◌, ◌==◌, nat_eq, not, cond, Bool, true, false, List, [], ◌∷◌, ◌++◌, refl, ap, arith}
-use Rattle.std.specs.List.{list_all}
-use Rattle.std.proofs.lemmas.Bool.{ne_eqb}
+use Rattle.std.proofs.Common.{◌≡◌, ◌≤◌, ◌<◌, ℕ, zero, suc, ◌+◌, ◌==◌, nat_eq, ◌||◌, not, cond, Bool, true, false, List, [], ◌∷◌, ◌++◌, refl, ap, arith}
+use Rattle.std.specs.List.{list_all, list_any}
+use Rattle.std.proofs.lemmas.Bool.{eqb-true, ne_eqb}
+use Rattle.qgm_core.specs.Boxes.{is_quant}
 use Rattle.qgm_core.specs.declared.owned.OwnedQuant.{OwnedQuant}
 use Rattle.qgm_shown.specs.Maps.{Frame, Map, Ref, nothing, none_counted, column, is_apart, fresh, fresh_in}
-use Rattle.qgm_shown.specs.Shown.{distinct_ids, key_frame, key_ref, refs}
+use Rattle.qgm_shown.specs.Shown.{over_in, distinct_ids, key_frame, key_ref, refs}
 use Rattle.qgm_laid.specs.Law.{Under, UnderIn, UnderRef}
 
 apart-under : (n : ℕ) (r : Ref) → UnderRef n r → is_apart n r ≡ true
@@ -92,3 +93,48 @@ rising-fresh n k m (o ∷ os) u h =
     let t = h.0 in
     let e = fresh-under o.id m (under-more n o.id m (omega arith) u) in
     let r = rising-fresh (suc o.id) k m os (under-more n (suc o.id) m (omega arith) u) h.1 in rw (e, r)
+
+-- ---- the numbers among these
+
+pub or-cases : {Z : Type 0} (a b : Bool) → (a || b) ≡ true → (a ≡ true → Z) → (b ≡ true → Z) → Z
+or-cases true b h f g = f refl
+or-cases false b h f g = g h
+
+pub any-cases : {X Z : Type 0} (p : X → Bool) (xs ys : List X) → list_any p (xs ++ ys) ≡ true → (list_any p xs ≡ true → Z) → (list_any p ys ≡ true → Z) → Z
+any-cases p [] ys h f g = g h
+any-cases p (x ∷ xs) ys h f g = or-cases (p x) (list_any p (xs ++ ys)) h (λ e. f (ap (λ b. b || list_any p xs) e)) (λ t. any-cases p xs ys t (λ e. f (or-right (p x) (list_any p xs) e)) g)
+  where
+    or-right : (a b : Bool) → b ≡ true → (a || b) ≡ true
+    or-right true b h = refl
+    or-right false b h = h
+
+rising-le : (n k : ℕ) (os : List OwnedQuant) → Rising n k os → n ≤ k
+rising-le n k [] h = h
+rising-le n k (o ∷ os) h = let x = h.0 in let r = rising-le (suc o.id) k os h.1 in omega arith
+
+pub rising-in : (n k q : ℕ) (os : List OwnedQuant) → Rising n k os → list_any (is_quant q) os ≡ true → (n ≤ q) × (q < k)
+rising-in n k q [] h t = absurd (cc t)
+rising-in n k q (o ∷ os) h t =
+    let x = h.0 in
+    or-cases (o.id == q) (list_any (is_quant q) os) t
+    (λ e. let same = eqb-true o.id q e in let r = rising-le (suc o.id) k os h.1 in (omega arith, omega arith))
+    (λ e. let r = rising-in (suc o.id) k q os h.1 e in let lo = r.0 in (omega arith, r.1))
+
+pub stays-false : (x y : Bool) → (y ≡ true → x ≡ true) → x ≡ false → y ≡ false
+stays-false x true f h = absurd (let e = f refl in cc (e, h))
+stays-false x false f h = refl
+
+-- ---- how often boxes are used
+
+pub below-or : {Z : Type 0} (j n : ℕ) → (j < n → Z) → (n ≤ j → Z) → Z
+below-or j zero f g = g (omega arith)
+below-or zero (suc n) f g = f (omega arith)
+below-or (suc j) (suc n) f g = below-or j n (λ l. f (omega arith)) (λ l. g (omega arith))
+
+pub over-append : (j : ℕ) (os ps : List OwnedQuant) → over_in j (os ++ ps) ≡ over_in j os + over_in j ps
+over-append j [] ps = let e : over_in j ps ≡ 0 + over_in j ps = omega arith in e
+over-append j (o ∷ os) ps = let e = over-append j os ps in omega arith
+
+pub one-used : (b : Bool) (n : ℕ) → n ≡ cond b 0 1 → (cond b 1 0 + 0) + n ≡ 1
+one-used true n h = omega arith
+one-used false n h = omega arith

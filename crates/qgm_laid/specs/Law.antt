@@ -1,12 +1,13 @@
 -- What is made for a query shows it.
-use Rattle.std.specs.Prelude.{◌≡◌, ◌≤◌, ◌<◌, ℕ, Bool, true, false, List, [], ◌∷◌, ⊤}
+use Rattle.std.specs.Prelude.{◌≡◌, ◌≤◌, ◌<◌, ◌==◌, if◌then◌else◌, ℕ, Bool, true, false, List, [], ◌∷◌, ⊤}
 use Rattle.sql_meaning.specs.ResolvedTrees.{Query}
 use Rattle.sql_meaning.specs.ResolvedTrees as q
+use Rattle.std.specs.List.{list_any}
 use Rattle.qgm_core.specs.Boxes.{Ordered, owns}
 use Rattle.qgm_core.specs.declared.node.Node.{Node}
 use Rattle.qgm_meaning.specs.Scope.{loose, loose_of}
 use Rattle.qgm_shown.specs.Maps.{Frame, Map, Ref, nothing, none_counted, column}
-use Rattle.qgm_shown.specs.Shown.{Shows, ShowsBox, Thing, of_operand, of_query}
+use Rattle.qgm_shown.specs.Shown.{Shows, ShowsBox, Thing, distinct_ids, uses, of_operand, of_query}
 use Rattle.qgm_shown.specs.Sources.{Sources}
 use Rattle.qgm_laid.specs.Buildable.{Buildable}
 use Rattle.qgm_laid.specs.Lay.{Boxes, Laid, lay}
@@ -35,7 +36,20 @@ abbrev pub Settled : List Node → Type 0
 Settled [] = ⊤
 Settled (n ∷ ns) = ((q : ℕ) → owns q n ≡ true → loose_of n (loose ns) q ≡ false) × Settled ns
 
+-- a box among these owns q
+abbrev pub owned : ℕ → List Node → Bool
+owned q ns = list_any (owns q) ns
+
+-- no two quantifiers have one number
+abbrev pub Once : List Node → Type 0
+Once [] = ⊤
+Once (n ∷ ns) = (distinct_ids n.quants ≡ true) × ((q : ℕ) → owns q n ≡ true → owned q ns ≡ false) × Once ns
+
 module _ (sources : Sources) (has : List ℕ → Bool) where
+  -- a box that isn't shared by those who name a table or a view
+  abbrev pub Unshared : ℕ → Type 0
+  Unshared j = (name : List ℕ) → has name ≡ true → (sources.shared name == j) ≡ false
+
   -- a box shows something through a map, over the boxes behind it
   pub record ShowsSome (n : Node) (ns : List Node) : Type 0 where
     pub thing : Thing
@@ -46,11 +60,15 @@ module _ (sources : Sources) (has : List ℕ → Bool) where
   EachShows [] = ⊤
   EachShows (n ∷ ns) = ShowsSome n ns × EachShows ns
 
-  -- each box shows something and ranges over boxes behind it, no two have one number, and none looks up its own quantifiers
+  -- each box shows something and ranges over boxes behind it, no two boxes and no two quantifiers have one number, and no box looks up its own quantifiers
   pub record InOrder (s : Boxes) : Type 0 where
     pub low : Low s.box s.made
     pub ordered : Ordered s.made
     pub settled : Settled s.made
+    pub bound : (q : ℕ) → owned q s.made ≡ true → q < s.quant
+    pub once : Once s.made
+    pub unused : (j : ℕ) → s.box ≤ j → uses j s.made ≡ 0
+    pub named : (name : List ℕ) → has name ≡ true → sources.shared name < s.box
     pub each : EachShows s.made
 
   -- what was made before stays, in order
@@ -58,6 +76,8 @@ module _ (sources : Sources) (has : List ℕ → Bool) where
     pub boxes : a.box ≤ b.box
     pub quants : a.quant ≤ b.quant
     pub order : InOrder a → InOrder b
+    pub kept : (j : ℕ) → j < a.box → Unshared j → uses j b.made ≡ uses j a.made
+    pub owners : (q : ℕ) → q < a.quant → owned q b.made ≡ true → owned q a.made ≡ true
     pub same : (j : ℕ) (thing : Thing) (m : Map) → j < a.box → Shows sources a.made j thing m → Shows sources b.made j thing m
 
   -- bases and views stand below, and the map's quantifiers were drawn
@@ -70,6 +90,9 @@ module _ (sources : Sources) (has : List ℕ → Bool) where
     pub keeps : Keeps s r.boxes
     pub known : r.top < r.boxes.box
     pub shows : Shows sources r.boxes.made r.top thing m
+    -- each box that is made has one use, but for the top, which has none; the top is new or shared
+    pub used : InOrder s → (j : ℕ) → s.box ≤ j → j < r.boxes.box → uses j r.boxes.made ≡ (if r.top == j then 0 else 1)
+    pub top : (j : ℕ) → j < s.box → Unshared j → (r.top == j) ≡ false
 
 abbrev pub Lays : Type 0
 Lays =

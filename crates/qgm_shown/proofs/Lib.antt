@@ -14,3 +14,4 @@ mod Sampled
 mod Refused
 pub mod Clear
 pub mod Loose
+pub mod Views

@@ -1,5 +1,5 @@
 -- A box that shows a thing looks up only quantifiers that are seen in its map.
-use Rattle.std.proofs.Common.{◌≡◌, ℕ, zero, suc, ◌+◌, ◌==◌, ◌&&◌, ◌||◌, nat_eq, not, cond, Bool, true, false, List, [], ◌∷◌, ◌++◌, map, take, length, get_or, pos, Option, Some, None, refl, ap, ap₂, sym, ◌∙◌, subst}
+use Rattle.std.proofs.Common.{◌≡◌, ℕ, zero, suc, ◌+◌, ◌==◌, ◌&&◌, ◌||◌, nat_eq, not, cond, Bool, true, false, List, [], ◌∷◌, ◌++◌, map, take, length, get_or, Option, Some, None, refl, ap, sym, ◌∙◌, subst}
 use Rattle.std.specs.List.{list_any, list_all}
 use Rattle.std.proofs.lemmas.Bool.{and_parts, eq-eqb, not-true}
 use Rattle.sql_ast.specs.declared.word.SetFunction.{SetFunction}
@@ -13,12 +13,11 @@ use Rattle.qgm_core.specs.declared.node.Node.{Node}
 use Rattle.qgm_core.specs.declared.owned.OwnedQuant.{OwnedQuant}
 use Rattle.qgm_core.specs.declared.kinds.Distinct.{Distinct}
 use Rattle.qgm_core.specs.declared.kinds.SetOperator as forms
-use Rattle.qgm_core.specs.declared.kinds.QuantKind.{QuantKind}
 use Rattle.qgm_terms.specs.Terms.{Term}
 use Rattle.qgm_terms.specs.Wanted.{reads, reads_cond}
 use Rattle.qgm_meaning.specs.Scope.{loose, loose_by, loose_each, loose_of, looks_found, quant_looks, read_by, under_any}
 use Rattle.qgm_shown.specs.Leaves.{Leaf, Slots, after, count, fold, list_leaves, rest_of, sub, test_leaves}
-use Rattle.qgm_shown.specs.Maps.{Frame, Map, column, fresh, fresh_in, none_counted, nothing, ref_term}
+use Rattle.qgm_shown.specs.Maps.{Frame, Map, column, fresh, fresh_in, nothing, ref_term}
 use Rattle.qgm_shown.specs.Shown.{Shows, ShowsBox, Thing, argument_terms, columns_of, distinct_ids, fold_refs, fold_terms, key_frame, key_places, key_ref, no_slots, of_groups, of_operand, of_query, of_rows, padded, refs, ungrouped, ungrouped_cells}
 use Rattle.qgm_shown.specs.Shown as w
 use Rattle.qgm_shown.specs.Sources.{Sources, from_width, width}

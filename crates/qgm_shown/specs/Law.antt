@@ -1,5 +1,6 @@
 -- Boxes that show a query have its rows, and look up only what they are to see.
-use Rattle.std.specs.Prelude.{◌≡◌, ℕ, true, false, List, [], Option}
+use Rattle.std.specs.Prelude.{◌≡◌, ◌≤◌, ◌==◌, ◌||◌, nat_lt, ℕ, true, false, List, [], Option}
+use Rattle.std.specs.List.{list_all}
 use Rattle.row_bag.specs.declared.tables.Table.{Table}
 use Rattle.sql_value.specs.declared.order_key.OrderKey.{OrderKey}
 use Rattle.sql_meaning.specs.ResolvedMeaning.{rows}
@@ -12,7 +13,7 @@ use Rattle.qgm_meaning.specs.Scope.{loose}
 use Rattle.qgm_meaning.specs.Values.{Bag, Environment}
 use Rattle.qgm_meaning.specs.Widths.{Wide}
 use Rattle.qgm_shown.specs.Maps.{Map, fresh, seen}
-use Rattle.qgm_shown.specs.Shown.{Shows, of_query}
+use Rattle.qgm_shown.specs.Shown.{Shows, of_query, uses}
 use Rattle.qgm_shown.specs.Sources.{Sources}
 
 -- names stand for these rows: each has so many columns, and is the body of its view or else a table
@@ -26,11 +27,13 @@ Agrees =
     (tables : List Table) (known : List ℕ → Bag) (sources : Sources) → StandFor tables sources known
     → (boxes : List Node) (b : ℕ) (query : Query) (m : Map) → Shows sources boxes b (of_query query) m → (env : Environment) → bag_in tables boxes b env ≡ rows known query (seen env m)
 
--- a graph is built of a query: its root shows it, and beside the root stand the names of its columns and the keys of its order
+-- a graph is built of a query: its root shows it, beside the root stand the names of its columns and the keys of its order, each other box is used, and only a table's or a view's more than once
 pub record IsBuiltOf (sources : Sources) (query : Query) (names : List (Option (List ℕ))) (order : List OrderKey) (g : QueryGraph) : Type 0 where
   pub shows : Shows sources g.boxes g.root (of_query query) []
   pub named : g.names ≡ names
   pub ordered : g.order ≡ order
+  pub used : list_all (λ n. (n.id == g.root) || nat_lt 0 (uses n.id g.boxes)) g.boxes ≡ true
+  pub alone : (b : ℕ) → ((name : List ℕ) → (sources.shared name == b) ≡ false) → uses b g.boxes ≤ 1
 
 -- its root's bag is the query's rows
 abbrev pub RootAgrees : Type 0

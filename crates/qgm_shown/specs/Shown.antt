@@ -47,6 +47,15 @@ distinct_ids (o ∷ os) = list_all (λ p. not (o.id == p.id)) os && distinct_ids
 abbrev pub Numbered : Map → List OwnedQuant → Type 0
 Numbered m os = (distinct_ids os ≡ true) × (list_all (λ o. fresh o.id m) os ≡ true)
 
+-- how many of these quantifiers range over a box, and how many of the boxes' quantifiers
+abbrev pub over_in : ℕ → List OwnedQuant → ℕ
+over_in j [] = 0
+over_in j (o ∷ os) = (if o.over == j then 1 else 0) + over_in j os
+
+abbrev pub uses : ℕ → List Node → ℕ
+uses j [] = 0
+uses j (n ∷ ns) = over_in j n.quants + uses j ns
+
 -- ---- aggregates
 
 -- those of a block in order; which of them has a column of the group, and which an argument

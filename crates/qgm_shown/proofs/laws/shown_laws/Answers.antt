@@ -3,6 +3,7 @@ use Rattle.qgm_shown.proofs.laws.shown_laws.Goals as goal
 use Rattle.qgm_shown.specs.Shown.{of_query}
 use Rattle.qgm_shown.proofs.Boxes.{agree}
 use Rattle.qgm_shown.proofs.Loose.{shown-clear}
+use Rattle.qgm_shown.proofs.Views.{stand}
 use Rattle.qgm_shown.proofs.Wide.{wide-all}
 
 pub returns-clause-agrees : goal.returns-clause-agrees
@@ -16,3 +17,6 @@ returns-clause-looks c = λ sources boxes b query m shows q h. shown-clear sourc
 
 pub returns-clause-closed : goal.returns-clause-closed
 returns-clause-closed c = λ sources query names order g built q. shown-clear sources q g.boxes g.root (of_query query) [] built.shows refl
+
+pub returns-clause-views : goal.returns-clause-views
+returns-clause-views c = λ views tables deep depth nests l name. stand views tables deep depth nests l name
