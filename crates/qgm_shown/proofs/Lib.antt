@@ -15,3 +15,5 @@ mod Refused
 pub mod Clear
 pub mod Loose
 pub mod Views
+pub mod Counted
+pub mod Stand

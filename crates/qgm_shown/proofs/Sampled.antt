@@ -35,13 +35,13 @@ shows = record {
                       refl,
                       refl,
                       record {
-                        left = (refl, record { kind = refl; named = refl; plain = record { distinctness = refl; role = refl; numbered = (refl, refl) }; bare = (refl, refl); quants = refl });
+                        left = (refl, record { kind = refl; named = refl; types = refl; plain = record { distinctness = refl; role = refl; numbered = (refl, refl) }; bare = (refl, refl); quants = refl });
                         right = (
                           refl,
                           record {
                             kind = refl;
                             plain = record { distinctness = refl; role = refl; numbered = (refl, refl) };
-                            froms = ((refl, (refl, record { kind = refl; named = refl; plain = record { distinctness = refl; role = refl; numbered = (refl, refl) }; bare = (refl, refl); quants = refl })), tt);
+                            froms = ((refl, (refl, record { kind = refl; named = refl; types = refl; plain = record { distinctness = refl; role = refl; numbered = (refl, refl) }; bare = (refl, refl); quants = refl })), tt);
                             subs = refl;
                             conds = refl;
                             head = refl;
@@ -63,7 +63,7 @@ shows = record {
                 record {
                   kind = refl;
                   plain = record { distinctness = refl; role = refl; numbered = (refl, refl) };
-                  froms = ((refl, (refl, record { kind = refl; named = refl; plain = record { distinctness = refl; role = refl; numbered = (refl, refl) }; bare = (refl, refl); quants = refl })), tt);
+                  froms = ((refl, (refl, record { kind = refl; named = refl; types = refl; plain = record { distinctness = refl; role = refl; numbered = (refl, refl) }; bare = (refl, refl); quants = refl })), tt);
                   subs = refl;
                   conds = refl;
                   head = refl;

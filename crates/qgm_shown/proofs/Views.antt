@@ -9,7 +9,6 @@ use Rattle.sql_value.specs.Like as l
 use Rattle.sql_value.specs.Truths as t
 use Rattle.sql_value.specs.declared.cell.Cell.{Cell}
 use Rattle.sql_value.specs.declared.cell.Cell.TheVariants.{Null}
-use Rattle.sql_value.specs.declared.truth.Truth.{Truth}
 use Rattle.sql_meaning.specs.Groups.{Group, Grouped, aggregated, no_group}
 use Rattle.sql_meaning.specs.Joins.{combined, distinct_if, intersected, kept, left_join, product, selected}
 use Rattle.sql_meaning.specs.Subqueries as u

@@ -19,6 +19,10 @@ pub wide-all : (n : ℕ) (rows : List (Row (List Cell))) → landed.Wide n rows 
 wide-all n [] h = tt
 wide-all n (r ∷ rows) h = (h.0, wide-all n rows h.1)
 
+pub all-wide : (n : ℕ) (rows : List (Row (List Cell))) → Wide n rows → landed.Wide n rows
+all-wide n [] h = tt
+all-wide n (r ∷ rows) h = (h.0, all-wide n rows h.1)
+
 module _ {T : Type 0} (P : T → Type 0) where
   pub all-keep : (l : Level) (xs : List (Row T)) → AllRows P xs → AllRows P (keep l xs)
   all-keep l [] h = tt

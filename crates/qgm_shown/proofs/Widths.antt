@@ -49,7 +49,7 @@ wide-left m n on X Y h k =
     (all-bind (Long (m + n)) (Long n) Y (λ others. keep (on (a ++ others)).t (unit (a ++ others))) k
     (λ b r. all-keep (Long (m + n)) (on (a ++ b)).t (unit (a ++ b)) (length-append a b ∙ ap₂ ◌+◌ p r, tt))))
 
-wide-if : (n : ℕ) (d : Bool) (X : Bag) → Wide n X → Wide n (distinct_if d X)
+pub wide-if : (n : ℕ) (d : Bool) (X : Bag) → Wide n X → Wide n (distinct_if d X)
 wide-if n true X h = all-distinct (Long n) same_cells X h
 wide-if n false X h = h
 
@@ -57,7 +57,7 @@ wide-error : (n : ℕ) (o : Option Kind) (X : Bag) → Wide n X → Wide n (erro
 wide-error n None X h = h
 wide-error n (Some kind) X h = (replicate-length n _, tt)
 
-wide-combined : (n : ℕ) (op : SetOperator) (all : Bool) (X Y : Bag) → Wide n X → Wide n Y → Wide n (combined op all (failed_cells n) X Y)
+pub wide-combined : (n : ℕ) (op : SetOperator) (all : Bool) (X Y : Bag) → Wide n X → Wide n Y → Wide n (combined op all (failed_cells n) X Y)
 wide-combined n operator.Union true X Y h k = all-append (Long n) X Y h k
 wide-combined n operator.Union false X Y h k = all-distinct (Long n) same_cells (X ++ Y) (all-append (Long n) X Y h k)
 wide-combined n operator.Except true X Y h k =
@@ -65,17 +65,17 @@ wide-combined n operator.Except true X Y h k =
 wide-combined n operator.Except false X Y h k =
     wide-error n (error_among error_in (X ++ Y)) (except same_cells X Y) (all-times (Long n) same_cells X (λ c. 1 - multiplicity same_cells c Y) h)
 
-wide-intersected : (n : ℕ) (all : Bool) (X Y : Bag) → Wide n X → Wide n (intersected all (failed_cells n) X Y)
+pub wide-intersected : (n : ℕ) (all : Bool) (X Y : Bag) → Wide n X → Wide n (intersected all (failed_cells n) X Y)
 wide-intersected n true X Y h =
     wide-error n (error_among error_in (X ++ Y)) (intersect_all same_cells X Y) (all-times (Long n) same_cells X (λ c. min (multiplicity same_cells c X) (multiplicity same_cells c Y)) h)
 wide-intersected n false X Y h =
     wide-error n (error_among error_in (X ++ Y)) (intersect same_cells X Y) (all-times (Long n) same_cells X (λ c. min 1 (multiplicity same_cells c Y)) h)
 
-wide-selected : {T : Type 0} (n : ℕ) (test : T → Truth) (list : T → List Cell) (X : List (Row T)) → ((a : T) → length (list a) ≡ n) → Wide n (selected test list X)
+pub wide-selected : {T : Type 0} (n : ℕ) (test : T → Truth) (list : T → List Cell) (X : List (Row T)) → ((a : T) → length (list a) ≡ n) → Wide n (selected test list X)
 wide-selected n test list X h =
     all-bind (Long n) (λ _. Unit {0}) X (λ row. keep (test row).t (unit (list row))) (all-any (λ _. Unit {0}) X (λ _. tt)) (λ a _. all-keep (Long n) (test a).t (unit (list a)) (h a, tt))
 
-list-length : (known : List ℕ → Bag) (xs : Values) (scopes : k.Scopes) (group : Group (List Cell)) → length (k.cells known xs scopes group) ≡ how_many_values xs
+pub list-length : (known : List ℕ → Bag) (xs : Values) (scopes : k.Scopes) (group : Group (List Cell)) → length (k.cells known xs scopes group) ≡ how_many_values xs
 list-length known q.no_value scopes group = refl
 list-length known (q.one_value x xs) scopes group = ap suc (list-length known xs scopes group)
 

@@ -1,20 +1,20 @@
 -- Boxes that show a query have its rows, and look up only what they are to see.
-use Rattle.std.specs.Prelude.{◌≡◌, ◌≤◌, ◌==◌, ◌||◌, nat_lt, ℕ, true, false, List, [], Option}
+use Rattle.std.specs.Prelude.{◌≡◌, ◌≤◌, ◌==◌, ◌||◌, nat_lt, ℕ, true, false, List, [], Option, Some, None, ⊤}
 use Rattle.std.specs.List.{list_all}
 use Rattle.row_bag.specs.declared.tables.Table.{Table}
 use Rattle.sql_value.specs.declared.order_key.OrderKey.{OrderKey}
 use Rattle.sql_meaning.specs.ResolvedMeaning.{rows}
-use Rattle.sql_meaning.specs.ResolvedTrees.{Query}
+use Rattle.sql_meaning.specs.ResolvedTrees.{From, Query}
 use Rattle.sql_meaning.specs.ResolvedViews.{viewed}
 use Rattle.qgm_core.specs.Boxes.{QueryGraph}
 use Rattle.qgm_core.specs.declared.node.Node.{Node}
 use Rattle.qgm_meaning.specs.Meaning.{bag_in, root_bag}
 use Rattle.qgm_meaning.specs.Scope.{loose}
 use Rattle.qgm_meaning.specs.Values.{Bag, Environment}
-use Rattle.qgm_meaning.specs.Widths.{Wide}
+use Rattle.qgm_meaning.specs.Widths.{Wide, width_in}
 use Rattle.qgm_shown.specs.Maps.{Map, fresh, seen}
-use Rattle.qgm_shown.specs.Shown.{Shows, of_query, uses}
-use Rattle.qgm_shown.specs.Sources.{Sources}
+use Rattle.qgm_shown.specs.Shown.{Shows, of_operand, of_query, uses}
+use Rattle.qgm_shown.specs.Sources.{Sources, from_width, width}
 
 -- names stand for these rows: each has so many columns, and is the body of its view or else a table
 pub record StandFor (tables : List Table) (sources : Sources) (known : List ℕ → Bag) : Type 0 where
@@ -48,3 +48,16 @@ LooksIn = (sources : Sources) (boxes : List Node) (b : ℕ) (query : Query) (m :
 -- the root looks nothing up
 abbrev pub RootClosed : Type 0
 RootClosed = (sources : Sources) (query : Query) (names : List (Option (List ℕ))) (order : List OrderKey) (g : QueryGraph) → IsBuiltOf sources query names order g → (q : ℕ) → loose g.boxes g.root q ≡ false
+
+-- a view has as many columns as its body
+abbrev pub Counts : Sources → List ℕ → Option Query → Type 0
+Counts sources name None = ⊤
+Counts sources name (Some body) = width body ≡ sources.columns name
+
+abbrev pub ViewsCounted : Sources → Type 0
+ViewsCounted sources = (name : List ℕ) → Counts sources name (sources.body name)
+
+-- a box that shows a query has as many columns as the query, and so has one that shows an operand
+pub record HasColumns : Type 0 where
+  pub query : (sources : Sources) → ViewsCounted sources → (boxes : List Node) (b : ℕ) (x : Query) (m : Map) → Shows sources boxes b (of_query x) m → width_in boxes b ≡ width x
+  pub operand : (sources : Sources) → ViewsCounted sources → (boxes : List Node) (b : ℕ) (x : From) (m : Map) → Shows sources boxes b (of_operand x) m → width_in boxes b ≡ from_width sources x

@@ -3,7 +3,7 @@ pub mod Sources
 pub mod Leaves
 pub mod Terms
 pub mod Shown
-pub mod Views
 pub mod Law
+pub mod Views
 pub mod Samples
 pub mod Refused

@@ -58,13 +58,7 @@ uses j (n ∷ ns) = over_in j n.quants + uses j ns
 
 -- ---- aggregates
 
--- those of a block in order; which of them has a column of the group, and which an argument
-abbrev pub folds_in : List Leaf → ℕ
-folds_in [] = 0
-folds_in (sub fr kind query ∷ ls) = folds_in ls
-folds_in (fold f distinct x ∷ ls) = suc (folds_in ls)
-folds_in (count ∷ ls) = suc (folds_in ls)
-
+-- an aggregate of the text as one of a box
 abbrev pub aggregate : SetFunction → Aggregate
 aggregate function.Count = t.count
 aggregate function.Sum = t.sum
@@ -72,6 +66,7 @@ aggregate function.Avg = t.avg
 aggregate function.Min = t.least
 aggregate function.Max = t.greatest
 
+-- with DISTINCT where true stands
 abbrev pub taken : Bool → Taken
 taken true = t.each_once
 taken false = t.all_of
@@ -150,6 +145,7 @@ padded x (y ∷ ys) = y ∷ ys
 
 -- ---- set operations
 
+-- UNION and EXCEPT, with ALL where true stands; and INTERSECT
 abbrev pub form_of : SetOperator → Bool → forms.SetOperator
 form_of operator.Union true = form.UnionAll
 form_of operator.Union false = form.Union
@@ -357,6 +353,7 @@ module _ (sources : Sources) (Below : ℕ → Thing → Map → Type 0) where
   pub record ShowsBase (name : List ℕ) (b : Node) : Type 0 where
     pub kind : b.parts.kind ≡ Base (sources.stored name)
     pub named : (sources.stored name).name ≡ name
+    pub types : length (sources.stored name).types ≡ sources.columns name
     pub plain : IsPlain Preserve [] b
     pub bare : IsBare b
     pub quants : b.quants ≡ []

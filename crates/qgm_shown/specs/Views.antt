@@ -4,6 +4,11 @@ use Rattle.row_bag.specs.declared.tables.Table.{Table}
 use Rattle.sql_meaning.specs.ResolvedTrees.{Value, Addends, Multipliers, Values, Arms, Choices, Test, Tests, From, Froms, Query}
 use Rattle.sql_meaning.specs.ResolvedTrees as q
 use Rattle.sql_meaning.specs.ResolvedViews.{ViewTree, body_of, known_at, viewed}
+use Rattle.row_bag.specs.Tables.{bag_named}
+use Rattle.qgm_meaning.specs.Meaning.{rows_or_none}
+use Rattle.qgm_meaning.specs.Widths.{Wide}
+use Rattle.qgm_shown.specs.Law.{StandFor, ViewsCounted}
+use Rattle.qgm_shown.specs.Sources.{Sources, width}
 
 -- P holds of each table and view that is named in a FROM
 module _ (P : List ℕ → Type 0) where
@@ -91,3 +96,32 @@ abbrev pub ViewsStand : Type 0
 ViewsStand =
     (views : List ViewTree) (tables : List Table) (deep : List ℕ → ℕ) (depth : ℕ) → Nests deep views → ((name : List ℕ) → deep name ≤ depth)
     → (name : List ℕ) → known_at views tables depth name ≡ viewed (known_at views tables depth) tables name (body_of views name)
+
+-- the operands of set operations have the stated number of columns
+abbrev pub EvenSets : Query → Type 0
+EvenSets (q.block distinct list from by) = ⊤
+EvenSets (q.grouped distinct list from by places n having) = ⊤
+EvenSets (q.combine x op all n y) = EvenSets x × EvenSets y × (width x ≡ n) × (width y ≡ n)
+EvenSets (q.intersect x all n y) = EvenSets x × EvenSets y × (width x ≡ n) × (width y ≡ n)
+
+abbrev pub EvenBody : Option Query → Type 0
+EvenBody None = ⊤
+EvenBody (Some body) = EvenSets body
+
+-- the views of the sources are these, nest no deeper than so many steps, and have as many columns as their bodies
+pub record AreViews (views : List ViewTree) (deep : List ℕ → ℕ) (depth : ℕ) (sources : Sources) : Type 0 where
+  pub nests : Nests deep views
+  pub shallow : (name : List ℕ) → deep name ≤ depth
+  pub bodies : (name : List ℕ) → sources.body name ≡ body_of views name
+  pub counted : ViewsCounted sources
+  pub even : (name : List ℕ) → EvenBody (sources.body name)
+
+-- the rows of a table have as many cells as its name has columns
+abbrev pub FilledByName : (List ℕ → ℕ) → List Table → Type 0
+FilledByName columns tables = (name : List ℕ) → Wide (columns name) (rows_or_none (bag_named tables name))
+
+-- over tables whose rows have so many cells as columns are stated, names stand for their rows
+abbrev pub NamesStand : Type 0
+NamesStand =
+    (views : List ViewTree) (tables : List Table) (deep : List ℕ → ℕ) (depth : ℕ) (sources : Sources) → AreViews views deep depth sources → FilledByName sources.columns tables
+    → StandFor tables sources (known_at views tables depth)

@@ -1,8 +1,8 @@
 // The law of boxes that show a query, as a theorem.
-ghost use Rattle.qgm_shown.specs.Law.{Agrees, LooksIn, RootAgrees, RootClosed};
+ghost use Rattle.qgm_shown.specs.Law.{Agrees, HasColumns, LooksIn, RootAgrees, RootClosed};
 ghost use Rattle.qgm_shown.specs.Refused.{Refused};
 ghost use Rattle.qgm_shown.specs.Samples.{Sampled};
-ghost use Rattle.qgm_shown.specs.Views.{ViewsStand};
+ghost use Rattle.qgm_shown.specs.Views.{NamesStand, ViewsStand};
 
 /// A box that shows a query through a map gives, in every environment, the rows that the query has
 /// in the scopes that the map shows there, and looks up only quantifiers that are seen in the map;
@@ -13,6 +13,8 @@ pub fn shown_laws()
     ensures looks { LooksIn }
     ensures closed { RootClosed }
     ensures views { ViewsStand }
+    ensures names { NamesStand }
+    ensures columns { HasColumns }
 {}
 
 /// What a query, its graph and their rows come to, and graphs that are not built of their queries.

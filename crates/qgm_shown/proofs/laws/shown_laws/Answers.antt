@@ -2,7 +2,9 @@ use Rattle.std.proofs.Common.{[], refl}
 use Rattle.qgm_shown.proofs.laws.shown_laws.Goals as goal
 use Rattle.qgm_shown.specs.Shown.{of_query}
 use Rattle.qgm_shown.proofs.Boxes.{agree}
+use Rattle.qgm_shown.proofs.Counted.{operand-shown, shown-counted}
 use Rattle.qgm_shown.proofs.Loose.{shown-clear}
+use Rattle.qgm_shown.proofs.Stand.{names-stand}
 use Rattle.qgm_shown.proofs.Views.{stand}
 use Rattle.qgm_shown.proofs.Wide.{wide-all}
 
@@ -20,3 +22,9 @@ returns-clause-closed c = λ sources query names order g built q. shown-clear so
 
 pub returns-clause-views : goal.returns-clause-views
 returns-clause-views c = λ views tables deep depth nests l name. stand views tables deep depth nests l name
+
+pub returns-clause-columns : goal.returns-clause-columns
+returns-clause-columns c = record { query = shown-counted; operand = operand-shown }
+
+pub returns-clause-names : goal.returns-clause-names
+returns-clause-names c = λ views tables deep depth sources are filled. names-stand views tables deep depth sources are filled
