@@ -1,14 +1,11 @@
 // DISTINCT, and set operations (SQL-92, 7.9 and 7.10).
-ghost use Rattle.std.specs.Prelude.{◌≡◌, ℕ, ◌++◌, ◌∷◌, [], if◌then◌else◌, Option, Some, None, replicate, not, nat_eq, IfOk, OnOk};
+ghost use Rattle.std.specs.Prelude.{◌≡◌, ℕ, ◌++◌, [], if◌then◌else◌, not, nat_eq, IfOk, OnOk};
 ghost use Rattle.sql_meaning.specs.ResolvedMeaning as m;
 ghost use Rattle.query_loops.specs.Sets as spec;
-ghost use Rattle.row_bag.specs.Bags.{if_there, row, unit};
+ghost use Rattle.row_bag.specs.Bags.{if_there, unit};
 ghost use Rattle.row_bag.specs.Errors as errors;
 ghost use Rattle.row_bag.specs.Sets as sets;
-ghost use Rattle.row_bag.specs.Verdict as verdict;
 ghost use Rattle.sql_meaning.specs.Joins as joins;
-ghost use Rattle.sql_value.specs.Cells as cells;
-ghost use Rattle.sql_value.specs.declared.cell.Cell.TheVariants.{Err};
 ghost use Rattle.sql_value.specs.declared.level.Level.TheVariants.{No};
 
 use row_bag::{Bag, Row, error_among, failed_row, same_cells, worst_of};
