@@ -14,8 +14,8 @@ use crate::shapes::shape_fits;
 use crate::types::types_agree;
 use crate::view::in_view;
 use qgm_core::{
-    BoxId, Graph, Node, OwnedQuant, QuantId, add_names_of_node, free_in, has_box, has_quant, is_marked,
-    mark_each,
+    BoxId, Graph, Node, OwnedQuant, QuantId, add_names_of_node, free_in, has_box, has_quant,
+    is_marked, mark_each,
 };
 use shared_types::OutOfMemory;
 use std::alloc::Global;

@@ -13,7 +13,8 @@ use crate::columns_fit::{box_at, width};
 use crate::kinds::{is_a, is_e, is_enforce, is_f, is_magic, is_plain, is_preserve, is_s};
 use crate::types::both;
 use qgm_core::{
-    BoxId, BoxKind, Column, Gx, Link, Node, OwnedQuant, QuantId, QuantNode, Role, free_in, has_range,
+    BoxId, BoxKind, Column, Gx, Link, Node, OwnedQuant, QuantId, QuantNode, Role, free_in,
+    has_range,
 };
 use qgm_terms::{
     Sought, add_columns_of_cells, add_names_of_cells, add_nodes_of_cells, add_nodes_of_conds,
@@ -181,7 +182,10 @@ fn looks_up(q: QuantId, node: &Node) -> bool
 fn columns_placed(node: &Node) -> bool
     ensures { result ≡ spec.columns_placed node.now }
 {
-    node.quants.as_slice().iter().all(|r| is_f(r.kind) || !looks_up(r.id, node))
+    node.quants
+        .as_slice()
+        .iter()
+        .all(|r| is_f(r.kind) || !looks_up(r.id, node))
 }
 
 // Whether a head names own quantifiers alone.
@@ -324,7 +328,12 @@ fn fed_by(
 fn is_fed(alloc: Global, root: BoxId, nodes: &[Node], node: &Node) -> Result<bool, OutOfMemory>
     ensures { IfOk result (λ k. k ≡ spec.is_fed root nodes.now node.now) }
 {
-    let fed = fed_by(alloc, nodes, node.parts.head.as_slice(), node.quants.as_slice())?;
+    let fed = fed_by(
+        alloc,
+        nodes,
+        node.parts.head.as_slice(),
+        node.quants.as_slice(),
+    )?;
     Ok(node.id != root && is_preserve(node.parts.distinct) && node.parts.conds.len() == 0 && fed)
 }
 
@@ -457,7 +466,5 @@ pub fn shape_fits(
 {
     let kind = kind_fits(alloc, root, nodes, node)?;
     let own = nodes_fit(alloc, node)?;
-    Ok(
-        kind && own && columns_placed(node) && (!is_scalar(nodes, node.id) || 0 < width(node)),
-    )
+    Ok(kind && own && columns_placed(node) && (!is_scalar(nodes, node.id) || 0 < width(node)))
 }

@@ -22,13 +22,13 @@ spare-without b to i [] = refl
 spare-without b to i (n ∷ ns) =
     elim (is_box b n) as (λ t. ◌≡◌ {A = ℕ} (spare_in (first (is_box to) (cond t (without_cond i n ∷ ns) (n ∷ change (is_box b) (without_cond i) ns)))) (spare_in (first (is_box to) (n ∷ ns)))) [
       | true ↦ (elim (n.id == to) as (λ t. ◌≡◌ {A = ℕ} (spare_in (cond t (Some (without_cond i n)) (first (is_box to) ns))) (spare_in (cond t (Some n) (first (is_box to) ns)))) [
-          | true ↦ refl
-          | false ↦ refl
-        ])
+        | true ↦ refl
+        | false ↦ refl
+      ])
       | false ↦ (elim (n.id == to) as (λ t. ◌≡◌ {A = ℕ} (spare_in (cond t (Some n) (first (is_box to) (change (is_box b) (without_cond i) ns)))) (spare_in (cond t (Some n) (first (is_box to) ns)))) [
-          | true ↦ refl
-          | false ↦ spare-without b to i ns
-        ])
+        | true ↦ refl
+        | false ↦ spare-without b to i ns
+      ])
     ]
 
 -- which boxes there are without another one

@@ -168,11 +168,12 @@ ids-insert (m ∷ ns) (suc i) n e = ap (λ (qs : List ℕ). ids_of m ++ qs) (ids
 pub numbered-insert : (a b : ℕ) (ns : List Node) (i : ℕ) (n : Node) → n.id ≡ a → ids_of n ≡ [] → Numbered a b ns → Numbered (a + 1) b (insert ns i n)
 numbered-insert a b ns i n at none m =
     let e : insert (numbers ns) i a ≡ numbers (insert ns i n) = ap (λ (x : ℕ). insert (numbers ns) i x) (sym at) ∙ map_insert (λ (x : Node). x.id) ns i n in
-    let q = sym (ids-insert ns i n none) in
-    ( subst (Under (a + 1)) e (under-insert (a + 1) (numbers ns) i a (omega arith) (under-weaker a (a + 1) (numbers ns) (omega arith) m.0))
-    , subst EachOnce e (once-insert a (numbers ns) i m.0 m.1)
-    , subst (Under b) q m.2
-    , subst (λ qs. length qs ≤ b) q m.3)
+    let q = sym (ids-insert ns i n none) in (
+      subst (Under (a + 1)) e (under-insert (a + 1) (numbers ns) i a (omega arith) (under-weaker a (a + 1) (numbers ns) (omega arith) m.0)),
+      subst EachOnce e (once-insert a (numbers ns) i m.0 m.1),
+      subst (Under b) q m.2,
+      subst (λ qs. length qs ≤ b) q m.3,
+    )
 
 -- ---- a quantifier more or less
 

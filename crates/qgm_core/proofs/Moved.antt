@@ -97,14 +97,16 @@ module _ (q : Node → Bool) (n : Node) where
       let r = under-right b (ids_of m) (ids_in ns) k.others in
       let rest = below a b ns (record { low = k.low; lows = k.lows.1; new = d.1; once = k.once.1; own = k.own; others = r }) in
       elim (q m) as (λ t. Under a (numbers (cond t (m ∷ (n ∷ ns)) (m ∷ put_below q n ns))) × EachOnce (numbers (cond t (m ∷ (n ∷ ns)) (m ∷ put_below q n ns))) × Under b (ids_in (cond t (m ∷ (n ∷ ns)) (m ∷ put_below q n ns)))) [
-        | true ↦
-            ( (k.lows.0, (k.low, k.lows.1))
-            , (or_from (n.id == m.id) (holds m.id (numbers ns)) (symmetric m.id n.id d.0) k.once.0, (d.1, k.once.1))
-            , under-append b (ids_of m) (ids_in (n ∷ ns)) l (under-append b (ids_of n) (ids_in ns) k.own r))
-        | false ↦
-            ( (k.lows.0, rest.0)
-            , (unput m.id ns (symmetric m.id n.id d.0) k.once.0, rest.1)
-            , under-append b (ids_of m) (ids_in (put_below q n ns)) l rest.2)
+        | true ↦ (
+          (k.lows.0, (k.low, k.lows.1)),
+          (or_from (n.id == m.id) (holds m.id (numbers ns)) (symmetric m.id n.id d.0) k.once.0, (d.1, k.once.1)),
+          under-append b (ids_of m) (ids_in (n ∷ ns)) l (under-append b (ids_of n) (ids_in ns) k.own r),
+        )
+        | false ↦ (
+          (k.lows.0, rest.0),
+          (unput m.id ns (symmetric m.id n.id d.0) k.once.0, rest.1),
+          under-append b (ids_of m) (ids_in (put_below q n ns)) l rest.2,
+        )
       ]
 
 pub numbered-moved : (p q : Node → Bool) (a b : ℕ) (ns : List Node) (n : Node) → first p ns ≡ Some n → Numbered a b ns → Numbered a b (put_below q n (without p ns))

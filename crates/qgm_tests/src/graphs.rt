@@ -1,8 +1,8 @@
 // Graphs, what is asked of them, and the clauses that fail.
 use qgm_check::{Clause, Fault, IllFormed, check_graph};
 use qgm_core::{
-    BaseTable, BoxId, BoxKind, BoxParts, Conds, Distinct, Gc, Graph, Gx, Head, Op, Quant, QuantKind,
-    Role, SetOperator,
+    BaseTable, BoxId, BoxKind, BoxParts, Conds, Distinct, Gc, Graph, Gx, Head, Op, Quant,
+    QuantKind, Role, SetOperator,
 };
 use qgm_terms::chained;
 use shared_types::{OutOfMemory, Text};
@@ -98,7 +98,8 @@ fn over_two(alloc: Global, root: BoxParts, kind: QuantKind) -> Result<Graph, Out
 // A root that adds a number to a text.
 fn of_sum(alloc: Global) -> Result<BoxParts, OutOfMemory> {
     let mut root = select(alloc, 0, 1)?;
-    root.head.push(chained(alloc, Gx::Col(0, 1), Op::Add, Gx::Col(0, 2))?)?;
+    root.head
+        .push(chained(alloc, Gx::Col(0, 1), Op::Add, Gx::Col(0, 2))?)?;
     Ok(root)
 }
 
@@ -179,28 +180,41 @@ fn the_clause_that_fails_is_told(rt: HostRuntime) -> Result<(), Fail> {
 }
 
 #[test]
-fn boxes_of_each_kind_have_their_shapes(rt: HostRuntime) -> Result<(), Fail> {
+fn a_group_names_columns_of_its_input(rt: HostRuntime) -> Result<(), Fail> {
     let alloc = rt.alloc();
-    let types = [SqlType::Integer, SqlType::Varchar];
-    for (root, told) in [
-        (group(alloc, 1)?, Ok(())),
-        (group(alloc, 3)?, at_root(Clause::I4)),
-        (union(alloc, &types)?, at_root(Clause::I9)),
-    ] {
-        let graph = over_base(alloc, root)?;
+    for (place, told) in [(1, Ok(())), (3, at_root(Clause::I4))] {
+        let graph = over_base(alloc, group(alloc, place)?)?;
         assert_eq!(rt; check_graph(alloc, &graph), told);
     }
-    for (root, kind, told) in [
-        (group(alloc, 1)?, QuantKind::F, at_root(Clause::I9)),
-        (union(alloc, &types)?, QuantKind::F, Ok(())),
-        (union(alloc, &types)?, QuantKind::E, at_root(Clause::I9)),
-        (union(alloc, &[SqlType::Integer])?, QuantKind::F, at_root(Clause::I5)),
-        (outer_join(alloc, 2)?, QuantKind::F, Ok(())),
-        (outer_join(alloc, 3)?, QuantKind::F, at_root(Clause::I4)),
-        (exists(alloc)?, QuantKind::E, Ok(())),
-        (exists(alloc)?, QuantKind::A, at_root(Clause::I9)),
-    ] {
-        let graph = over_two(alloc, root, kind)?;
+    Ok(())
+}
+
+#[test]
+fn a_union_is_of_two_f_quantifiers(rt: HostRuntime) -> Result<(), Fail> {
+    let alloc = rt.alloc();
+    let types = [SqlType::Integer, SqlType::Varchar];
+    for (kind, told) in [(QuantKind::F, Ok(())), (QuantKind::E, at_root(Clause::I9))] {
+        let graph = over_two(alloc, union(alloc, &types)?, kind)?;
+        assert_eq!(rt; check_graph(alloc, &graph), told);
+    }
+    Ok(())
+}
+
+#[test]
+fn an_outer_join_names_columns_of_its_inputs(rt: HostRuntime) -> Result<(), Fail> {
+    let alloc = rt.alloc();
+    for (place, told) in [(2, Ok(())), (3, at_root(Clause::I4))] {
+        let graph = over_two(alloc, outer_join(alloc, place)?, QuantKind::F)?;
+        assert_eq!(rt; check_graph(alloc, &graph), told);
+    }
+    Ok(())
+}
+
+#[test]
+fn a_some_is_of_an_e_quantifier(rt: HostRuntime) -> Result<(), Fail> {
+    let alloc = rt.alloc();
+    for (kind, told) in [(QuantKind::E, Ok(())), (QuantKind::A, at_root(Clause::I9))] {
+        let graph = over_two(alloc, exists(alloc)?, kind)?;
         assert_eq!(rt; check_graph(alloc, &graph), told);
     }
     Ok(())
