@@ -11,15 +11,22 @@ use sqlite_items::Items;
 use std::alloc::Global;
 use std::test::Fail;
 
-// A box of a kind with no condition and no cell.
-fn bare(alloc: Global, kind: BoxKind) -> BoxParts {
+// A box of a kind.
+fn parts(kind: BoxKind, conds: Conds, head: Head) -> BoxParts {
     BoxParts {
         kind,
         distinct: Distinct::Preserve,
         role: Role::Plain,
-        conds: Conds::new(alloc),
-        head: Head::new(alloc),
+        conds,
+        head,
     }
+}
+
+// A head of one column.
+fn one_column(alloc: Global, quant: usize, place: usize) -> Result<Head, OutOfMemory> {
+    let mut head = Head::new(alloc);
+    head.push(Gx::Col(quant, place))?;
+    Ok(head)
 }
 
 // A base of two columns, a number and a text, keyed by the first.
@@ -34,47 +41,49 @@ fn base(alloc: Global) -> Result<BoxParts, OutOfMemory> {
         keys,
         not_null: Items::new(alloc),
     };
-    Ok(bare(alloc, BoxKind::Base(table)))
+    Ok(parts(BoxKind::Base(table), Conds::new(alloc), Head::new(alloc)))
 }
 
 // A select whose one head cell is a column.
 fn select(alloc: Global, quant: usize, place: usize) -> Result<BoxParts, OutOfMemory> {
-    let mut select = bare(alloc, BoxKind::Select);
-    select.head.push(Gx::Col(quant, place))?;
-    Ok(select)
+    let head = one_column(alloc, quant, place)?;
+    Ok(parts(BoxKind::Select, Conds::new(alloc), head))
 }
 
 // A group whose one key is a column, and which counts the rows of each group.
 fn group(alloc: Global, place: usize) -> Result<BoxParts, OutOfMemory> {
-    let mut group = bare(alloc, BoxKind::Group(1));
-    group.head.push(Gx::Col(0, place))?;
-    group.head.push(Gx::CountAll)?;
-    Ok(group)
+    let mut head = one_column(alloc, 0, place)?;
+    head.push(Gx::CountAll)?;
+    Ok(parts(BoxKind::Group(1), Conds::new(alloc), head))
 }
 
 // The union of two tables of these types.
 fn union(alloc: Global, types: &[SqlType]) -> Result<BoxParts, OutOfMemory> {
-    let types = Items::from_slice(alloc, types)?;
-    Ok(bare(alloc, BoxKind::SetOp(SetOperator::Union, types)))
+    let kind = BoxKind::SetOp(SetOperator::Union, Items::from_slice(alloc, types)?);
+    Ok(parts(kind, Conds::new(alloc), Head::new(alloc)))
 }
 
-// An outer join whose one cell is a column of the right table.
+// One condition.
+fn one_condition(alloc: Global, c: Gc) -> Result<Conds, OutOfMemory> {
+    let mut conds = Conds::new(alloc);
+    conds.reserve(1)?;
+    conds.push(c);
+    Ok(conds)
+}
+
+// An outer join, whose one cell is a column of the right table.
 fn outer_join(alloc: Global, place: usize) -> Result<BoxParts, OutOfMemory> {
-    let mut join = bare(alloc, BoxKind::OuterJoin);
-    join.head.push(Gx::Col(1, place))?;
-    join.conds.reserve(1)?;
-    let left = Box::new(alloc, Gx::Col(0, 1))?;
-    let right = Box::new(alloc, Gx::Col(1, 1))?;
-    join.conds.push(Gc::Eq(left, right));
-    Ok(join)
+    let conds = one_condition(alloc, Gc::True)?;
+    let head = one_column(alloc, 1, place)?;
+    Ok(parts(BoxKind::OuterJoin, conds, head))
 }
 
 // A select whose condition asks for a row of its second quantifier.
 fn exists(alloc: Global) -> Result<BoxParts, OutOfMemory> {
-    let mut select = select(alloc, 0, 1)?;
-    select.conds.reserve(1)?;
-    select.conds.push(Gc::Some(1, Box::new(alloc, Gc::True)?));
-    Ok(select)
+    let some = Gc::Some(1, Box::new(alloc, Gc::True)?);
+    let conds = one_condition(alloc, some)?;
+    let head = one_column(alloc, 0, 1)?;
+    Ok(parts(BoxKind::Select, conds, head))
 }
 
 // A root over a base.
@@ -97,17 +106,17 @@ fn over_two(alloc: Global, root: BoxParts, kind: QuantKind) -> Result<Graph, Out
 
 // A root that adds a number to a text.
 fn of_sum(alloc: Global) -> Result<BoxParts, OutOfMemory> {
-    let mut root = select(alloc, 0, 1)?;
-    root.head
-        .push(chained(alloc, Gx::Col(0, 1), Op::Add, Gx::Col(0, 2))?)?;
-    Ok(root)
+    let sum = chained(alloc, Gx::Col(0, 1), Op::Add, Gx::Col(0, 2))?;
+    let mut head = Head::new(alloc);
+    head.push(sum)?;
+    Ok(parts(BoxKind::Select, Conds::new(alloc), head))
 }
 
 // A root with an aggregate, which is none of a grouping.
 fn of_count(alloc: Global) -> Result<BoxParts, OutOfMemory> {
-    let mut root = select(alloc, 0, 1)?;
-    root.head.push(Gx::CountAll)?;
-    Ok(root)
+    let mut head = Head::new(alloc);
+    head.push(Gx::CountAll)?;
+    Ok(parts(BoxKind::Select, Conds::new(alloc), head))
 }
 
 // A root that may give rows more or less often.
