@@ -1,9 +1,9 @@
 -- Rounds in which the views of a schema are resolved over the columns of the round before.
-use Rattle.std.proofs.Common.{◌≡◌, ◌≤◌, ◌+◌, ◌-◌, ℕ, suc, List, ◌++◌, drop, length, map, take, ap, ap₂, sym, ◌∙◌, arith}
+use Rattle.std.proofs.Common.{◌≡◌, ◌≤◌, ◌+◌, ◌-◌, ℕ, suc, List, ◌++◌, drop, length, map, take, ap, ap₂, ◌∙◌, arith}
 use Rattle.std.proofs.lemmas.List.{length-append, length-drop, length-map, length-take-le, take-append-le, take-take, take_all}
 use Rattle.sql_ast.specs.Declarations.{Declared}
 use Rattle.sql_meaning.specs.Scopes.{Shape}
-use Rattle.name_resolution.specs.Known.{ranges_over, table_range, view_range}
+use Rattle.name_resolution.specs.Known.{table_range, view_range}
 use Rattle.name_resolution.specs.Ranges.{shape}
 use Rattle.name_resolution.specs.Schema.{columns_at}
 use Rattle.name_resolution.specs.Shapes.{columns_among}

@@ -16,7 +16,7 @@ use Rattle.sql_meaning.specs.ResolvedViews as trees
 use Rattle.name_resolution.specs.Agreed.{IsWide, bags_of, columns_of, flat}
 use Rattle.name_resolution.specs.Even.{EvenQuery}
 use Rattle.name_resolution.specs.Places.{place_of}
-use Rattle.name_resolution.specs.Resolved.{bare, column_at, query}
+use Rattle.name_resolution.specs.Resolved.{column_at, query}
 use Rattle.name_resolution.specs.Schema.{answer, schema_columns, view_trees}
 
 -- ---- over any tables and views, in any scopes

@@ -1,6 +1,5 @@
 -- A query with its names resolved: each column is a scope and a place. Parentheses vanish, and a chain of operators is one list.
 use Rattle.std.specs.Prelude.{ℕ, zero, suc, Bool, true, false, List, [], ◌∷◌, ◌++◌, length, Option, Some, None, if◌then◌else◌}
-use Rattle.sql_ast.specs.declared.name.Column.{Column}
 use Rattle.sql_ast.specs.declared.name.Correlation.{Correlation}
 use Rattle.sql_ast.specs.declared.word.AdditiveOp.{AdditiveOp}
 use Rattle.sql_ast.specs.declared.word.DataType.{DataType}

@@ -4,7 +4,7 @@ use Rattle.sql_catalog.specs.Shown.{catalog}
 use Rattle.name_resolution.specs.Known.{table_range, view_over, view_range}
 use Rattle.name_resolution.specs.Ranges.{same_ranges}
 use Rattle.name_resolution.specs.Resolved.{Columns}
-use Rattle.name_resolution.specs.Schema.{columns_at, schema_columns}
+use Rattle.name_resolution.specs.Schema.{columns_at}
 use Rattle.name_resolution.specs.Shapes.{columns_among, shape}
 use Rattle.name_resolution.specs.declared.range.Range.{Range}
 use Rattle.name_resolution.proofs.Known.{columns_first, settled}
