@@ -5,7 +5,6 @@ use Rattle.std.proofs.lemmas.List.{length-append}
 use Rattle.shared_types.specs.declared.compare.CmpOp.TheVariants.{Eq, Ge, Le}
 use Rattle.row_bag.specs.declared.row.Row.{Row}
 use Rattle.sql_ast.specs.declared.name.Column.{Column}
-use Rattle.sql_ast.specs.declared.word.SetQuantifier.{SetQuantifier}
 use Rattle.sql_ast.specs.Syntax as s
 use Rattle.sql_catalog.specs.TableNames as t
 use Rattle.sql_value.specs.Comparison as v
@@ -31,7 +30,7 @@ use Rattle.name_resolution.specs.Agreed.{AllWide, AreWideFrames, IsWide, bags_of
 use Rattle.name_resolution.specs.Agreed.{columns_of as columns_in}
 use Rattle.name_resolution.specs.Even.{EvenArms, EvenChoices, EvenCond, EvenExpr, EvenExprs, EvenFilter, EvenItem, EvenItems, EvenList, EvenOtherwise, EvenQuery, EvenRes, EvenTable, EvenTables}
 use Rattle.sql_meaning.specs.Even.{innermost}
-use Rattle.name_resolution.specs.Places.{grouping_places, names_in, place_of, span_of, width}
+use Rattle.name_resolution.specs.Places.{grouping_places, place_of, span_of, width}
 use Rattle.name_resolution.specs.Resolved.{Columns, bare, column_at, columns_from, columns_of}
 use Rattle.name_resolution.specs.Resolved as r
 use Rattle.name_resolution.proofs.Columns.{cells_from, cells_of_range, column_value_at, found_cell, from_all, from_place, range_stands, wide_length}

@@ -1,5 +1,5 @@
 -- A name stands for the cell at its place.
-use Rattle.std.proofs.Common.{◌≡◌, ℕ, zero, suc, ◌+◌, Bool, true, false, cond, List, [], ◌∷◌, ◌++◌, length, map, get_or, find, Option, Some, None, refl, ap, ap₂, sym, ◌∙◌, subst, arith}
+use Rattle.std.proofs.Common.{◌≡◌, ℕ, zero, suc, ◌+◌, true, false, cond, List, [], ◌∷◌, ◌++◌, length, get_or, Option, Some, None, refl, ap, ap₂, sym, ◌∙◌, subst, arith}
 use Rattle.std.specs.Prelude.{⊤}
 use Rattle.std.proofs.lemmas.List.{get_or-append-add, length-append}
 use Rattle.row_bag.specs.declared.row.Row.{Row}
@@ -13,7 +13,7 @@ use Rattle.sql_meaning.specs.Scopes.{Frame, Range, Scopes, Shape, cell_in, cell_
 use Rattle.sql_meaning.specs.Scopes as named
 use Rattle.sql_meaning.specs.ResolvedMeaning as c
 use Rattle.name_resolution.specs.Agreed.{AreWideFrames, IsWideFrame, flat}
-use Rattle.name_resolution.specs.Places.{ColumnPlace, Span, at_span, further, here, in_span, names_in, onward, outward, place_in, place_named, place_of, place_outward, span_in, span_of, unqualified, width}
+use Rattle.name_resolution.specs.Places.{ColumnPlace, Span, at_span, further, here, in_span, names_in, onward, outward, place_in, place_named, place_of, place_outward, span_in, span_of, unqualified}
 use Rattle.name_resolution.specs.Resolved.{column_at, columns_from, columns_of}
 use Rattle.name_resolution.proofs.Positions.{in_ranges, place_first}
 

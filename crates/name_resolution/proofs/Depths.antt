@@ -1,5 +1,5 @@
 -- Views that nest no deeper than a number, and the names of their columns.
-use Rattle.std.proofs.Common.{◌≡◌, ◌≤◌, ℕ, zero, suc, Bool, true, false, cond, ◌||◌, ◌&&◌, List, [], ◌∷◌, ◌++◌, filter, find, map, Option, Some, None, refl, ap, ap₂, sym, ◌∙◌, subst, arith}
+use Rattle.std.proofs.Common.{◌≡◌, ◌≤◌, ℕ, zero, suc, Bool, true, false, cond, ◌||◌, ◌&&◌, List, [], ◌∷◌, filter, find, map, Option, Some, None, refl, ap, sym, ◌∙◌, subst, arith}
 use Rattle.std.specs.Prelude.{⊤, All}
 use Rattle.std.specs.List.{list_any}
 use Rattle.std.specs.Cmp.Lexicographic.{nat_list_eq_equiv, same_text}
@@ -11,15 +11,15 @@ use Rattle.sql_ast.specs.declared.schema.TableDecl.{TableDecl}
 use Rattle.sql_ast.specs.Syntax as s
 use Rattle.sql_ast.specs.Declarations.{Declared, table_named, view_named}
 use Rattle.sql_ast.specs.Names.{contains, same_name}
-use Rattle.sql_catalog.specs.Nesting.{nests_over, read_by, reader_of, readers_of}
+use Rattle.sql_catalog.specs.Nesting.{nests_over, reader_of, readers_of}
 use Rattle.sql_catalog.specs.TableNames as t
 use Rattle.sql_catalog.specs.declared.reader.Reader.{Reader}
 use Rattle.sql_value.specs.declared.cell.Cell.{Cell}
 use Rattle.sql_meaning.specs.Meaning.{known_at, relation_of, relation_with, viewed}
-use Rattle.sql_meaning.specs.Names.{Known, Relation, names, renamed}
+use Rattle.sql_meaning.specs.Names.{Relation, renamed}
 use Rattle.sql_meaning.specs.Scopes.{first_of}
 use Rattle.name_resolution.specs.Agreed.{names_of}
-use Rattle.name_resolution.specs.Resolved.{Columns, bare, without_rows}
+use Rattle.name_resolution.specs.Resolved.{bare, without_rows}
 use Rattle.name_resolution.specs.Schema.{columns_at, table_columns, view_columns}
 use Rattle.name_resolution.proofs.Named.{Agrees, Each, each_all, each_more, names_bare}
 

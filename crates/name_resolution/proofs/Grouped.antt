@@ -1,5 +1,5 @@
 -- Groups of rows as ranges, and groups of the same rows as lists of cells.
-use Rattle.std.proofs.Common.{◌≡◌, ℕ, Bool, List, [], ◌∷◌, replicate, Option, Some, None, refl, ap, ap₂, sym, ◌∙◌}
+use Rattle.std.proofs.Common.{◌≡◌, Bool, List, [], ◌∷◌, replicate, refl, ap, ap₂}
 use Rattle.row_bag.specs.Bags.{bind, unit}
 use Rattle.row_bag.specs.Errors.{error_in}
 use Rattle.row_bag.specs.Sets.{same_cells}

@@ -1,4 +1,5 @@
 pub mod Positions
+pub mod Scoped
 pub mod Related
 pub mod Columns
 pub mod Frames
@@ -15,3 +16,4 @@ pub mod Ontos
 pub mod Meant
 pub mod Valid
 pub mod Known
+pub mod Rounds

@@ -1,10 +1,10 @@
 -- Places of grouping columns, counted from a first place.
 use Rattle.std.proofs.Common.{◌≡◌, ℕ, suc, ◌+◌, Bool, true, false, cond, List, [], ◌∷◌, ◌++◌, length, map, Option, refl, ap, ap₂, sym, ◌∙◌, arith, append_assoc}
-use Rattle.std.proofs.lemmas.List.{length-map, map-append}
+use Rattle.std.proofs.lemmas.List.{length-append, length-map, map-append}
 use Rattle.sql_ast.specs.declared.name.Column.{Column}
-use Rattle.name_resolution.specs.Places.{columns_in, means, places_from, places_meant}
+use Rattle.name_resolution.specs.Places.{columns_in, means, names_in, places_from, places_meant, width}
 use Rattle.name_resolution.specs.Shapes.{shape}
-use Rattle.name_resolution.specs.declared.scope.Range.{Range}
+use Rattle.name_resolution.specs.declared.range.Range.{Range}
 
 pub from_append : (i : ℕ) (d : Column) (xs ys : List (List ℕ × Option (List ℕ))) → places_from i d (xs ++ ys) ≡ places_from i d xs ++ places_from (i + length xs) d ys
 from_append i d [] ys = ap (λ (n : ℕ). places_from n d ys) (omega arith)
@@ -41,3 +41,7 @@ ranges_meant i n d ranges range rest old between new whole count own later =
     ∙ append_assoc old (places_from i d (own_columns range)) (places_from n d (columns_in (shape rest)))
     ∙ ap (λ (zs : List ℕ). old ++ zs) (ap (λ (m : ℕ). places_from i d (own_columns range) ++ places_from m d (columns_in (shape rest))) start ∙ sym (from_append i d (own_columns range) (columns_in (shape rest))))
     ∙ ap (λ (rs : List Range). old ++ places_from i d (columns_in (shape rs))) (sym whole)
+
+-- the columns of a range and of those after it
+pub width_more : (ranges : List Range) (range : Range) (rest : List Range) → ranges ≡ range ∷ rest → width (shape ranges) ≡ length range.columns + width (shape rest)
+width_more ranges range rest e = ap (λ (rs : List Range). width (shape rs)) e ∙ length-append range.columns (names_in (shape rest))

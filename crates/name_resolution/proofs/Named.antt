@@ -1,13 +1,10 @@
 -- The names of columns don't depend on rows, and a query's rows are as wide as its names.
-use Rattle.std.proofs.Common.{◌≡◌, ℕ, suc, ◌+◌, Bool, true, false, cond, List, [], ◌∷◌, ◌++◌, length, map, find, get_or, replicate, Option, Some, None, refl, ap, ap₂, sym, ◌∙◌, subst}
+use Rattle.std.proofs.Common.{◌≡◌, ℕ, suc, true, false, cond, List, [], ◌∷◌, ◌++◌, length, get_or, Option, Some, None, refl, ap, ap₂, sym, ◌∙◌, subst}
 use Rattle.std.specs.Prelude.{⊤, All}
-use Rattle.std.specs.List.{flat_map}
-use Rattle.std.proofs.lemmas.List.{length-append, length-map}
 use Rattle.std.proofs.lemmas.List.Elements.{All-cons, All-head, All-nil, All-tail}
-use Rattle.row_bag.specs.Bags.{bind, row, unit}
+use Rattle.row_bag.specs.Bags.{bind, unit}
 use Rattle.row_bag.specs.declared.row.Row.{Row}
 use Rattle.row_bag.proofs.Levels.{least-yes}
-use Rattle.sql_ast.specs.declared.name.Correlation.{Correlation}
 use Rattle.sql_ast.specs.Syntax as s
 use Rattle.sql_ast.specs.Names.{same_name}
 use Rattle.sql_catalog.specs.TableNames as t
@@ -18,12 +15,12 @@ use Rattle.sql_meaning.specs.Names.{Known, Relation, column_list, listed, list_n
 use Rattle.sql_meaning.specs.Names as n
 use Rattle.sql_meaning.specs.Scopes.{Frame, Range, Scopes, Shape, columns_of_range, first_of, range_in, range_of, shape_of, shapes_of}
 use Rattle.sql_meaning.specs.Scopes as named
-use Rattle.name_resolution.specs.Agreed.{AreWideFrames, IsWide, IsWideFrame, flat, names_of, rows_of}
+use Rattle.name_resolution.specs.Agreed.{AreWideFrames, IsWide, flat, names_of, rows_of}
 use Rattle.name_resolution.specs.Places.{Span, span_of}
 use Rattle.name_resolution.specs.Resolved.{Columns, bare, without_rows}
 use Rattle.name_resolution.proofs.Columns.{Stands, length_from, range_stands}
 use Rattle.name_resolution.proofs.Frames.{FrameIs, one_range}
-use Rattle.name_resolution.proofs.Related.{Related, related_map}
+use Rattle.name_resolution.proofs.Related.{Related}
 
 -- P of each
 abbrev pub Each : {A : Type 0} → (A → Type 0) → List A → Type 0

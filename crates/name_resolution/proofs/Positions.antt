@@ -1,8 +1,11 @@
 -- The place of the first column of a name.
-use Rattle.std.proofs.Common.{◌≡◌, ℕ, suc, ◌+◌, Bool, true, false, cond, List, [], ◌∷◌, ◌++◌, Option, Some, None, length, position, nat_lt, option_map, refl, ap, sym, ◌∙◌, inl, inr, arith}
+use Rattle.std.proofs.Common.{◌≡◌, ℕ, suc, ◌+◌, ◌<◌, Bool, true, false, cond, List, [], ◌∷◌, ◌++◌, Option, Some, None, length, position, nat_lt, option_map, refl, ap, sym, ◌∙◌, inl, inr, arith}
 use Rattle.std.specs.List.{position_or_len}
 use Rattle.std.proofs.lemmas.Bool.{cases_Bool, le-ltb, lt-ltb, ltb-false, ltb-true}
 use Rattle.sql_meaning.specs.Scopes.{Shape, first_of, is_named}
+use Rattle.sql_meaning.specs.Occurrences.{Indexes, first_place, told_of}
+use Rattle.sql_meaning.specs.declared.column_index.Occurrence.{Occurrence}
+use Rattle.sql_meaning.proofs.Occurrences.{place_of_first}
 use Rattle.name_resolution.specs.Places.{further, names_in, place_in, place_named}
 
 position_more : {X : Type 0} (p : X → Bool) (x : X) (xs : List X) → position p (x ∷ xs) ≡ cond (p x) (Some 0) (option_map suc (position p xs))
@@ -47,3 +50,15 @@ place_append name (c ∷ cs) ds =
 pub in_ranges : (name : List ℕ) (ranges : Shape) → place_named name (names_in ranges) ≡ place_in name ranges
 in_ranges name [] = refl
 in_ranges name (range ∷ ranges) = place_append name range.1 (names_in ranges) ∙ ap (λ (o : Option ℕ). first_of (place_named name range.1) (further (length range.1) o)) (in_ranges name ranges)
+
+-- a place that is found is the place of a column
+pub named_within : (name : List ℕ) (columns : List (Option (List ℕ))) (place : ℕ) → place_named name columns ≡ Some place → place < length columns
+named_within name columns place h = by (nat_lt (position_or_len (is_named name) columns) (length columns)) refl h
+  where
+    by : (b : Bool) → nat_lt (position_or_len (is_named name) columns) (length columns) ≡ b → cond b (Some (position_or_len (is_named name) columns)) None ≡ Some place → place < length columns
+    by true e found = let low = ltb-true _ _ e in let same : position_or_len (is_named name) columns ≡ place = cc in omega (arith, low, same)
+    by false e found = absurd (cc)
+
+-- what an index of the columns tells of the place of a name
+pub place_told : (name : List ℕ) (ranges : Shape) (index : List (List ℕ × Occurrence) × ℕ) → Indexes (names_in ranges) index → first_place (told_of index.0 name) ≡ place_in name ranges
+place_told name ranges index h = ap first_place (h.0 name) ∙ place_of_first name (names_in ranges) ∙ in_ranges name ranges

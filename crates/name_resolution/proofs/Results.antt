@@ -1,5 +1,5 @@
 -- Rows of queries: equal tuples of a width.
-use Rattle.std.proofs.Common.{◌≡◌, ℕ, Bool, true, false, List, [], ◌∷◌, ◌++◌, length, map, replicate, Option, refl, ap, ap₂, sym, ◌∙◌, subst}
+use Rattle.std.proofs.Common.{◌≡◌, ℕ, Bool, true, false, List, [], ◌∷◌, ◌++◌, length, map, replicate, Option, refl, ap, ap₂, ◌∙◌}
 use Rattle.std.proofs.lemmas.List.{length-replicate}
 use Rattle.row_bag.specs.Errors.{error_in}
 use Rattle.row_bag.specs.Sets.{collapsed, except, except_all, intersect, intersect_all, same_cells}

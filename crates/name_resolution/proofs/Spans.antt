@@ -1,5 +1,5 @@
 -- The columns of a range that was found.
-use Rattle.std.proofs.Common.{◌≡◌, ℕ, Bool, true, false, cond, List, [], ◌∷◌, length, Option, Some, None, refl, ap, sym, ◌∙◌}
+use Rattle.std.proofs.Common.{◌≡◌, ℕ, true, false, cond, List, [], ◌∷◌, length, Option, Some, None, refl, ap, sym, ◌∙◌}
 use Rattle.sql_ast.specs.Names.{same_name}
 use Rattle.sql_meaning.specs.Scopes.{Shape, columns_in, columns_of_range, first_of}
 use Rattle.name_resolution.specs.Places.{Span, onward, outward, span_in, span_of}

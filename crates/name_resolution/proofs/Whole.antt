@@ -1,6 +1,5 @@
 -- What a query over a schema means by names it means by places.
-use Rattle.std.proofs.Common.{◌≡◌, ◌≤◌, ℕ, zero, suc, Bool, true, false, cond, List, [], ◌∷◌, length, map, Option, Some, None, refl, ap, ap₂, sym, ◌∙◌, subst, arith}
-use Rattle.std.specs.Prelude.{⊤, All}
+use Rattle.std.proofs.Common.{◌≡◌, ◌≤◌, ℕ, zero, suc, true, false, cond, List, [], ◌∷◌, length, map, Option, Some, None, refl, ap, ap₂, sym, ◌∙◌, subst, arith}
 use Rattle.row_bag.specs.Tables.{bag_named}
 use Rattle.row_bag.specs.Verdict.{verdict}
 use Rattle.row_bag.specs.declared.row.Row.{Row}
@@ -22,12 +21,11 @@ use Rattle.sql_meaning.specs.ResolvedViews as trees
 use Rattle.name_resolution.specs.Agreed.{IsWide, names_of, rows_of}
 use Rattle.name_resolution.specs.Even.{EvenQuery}
 use Rattle.name_resolution.specs.Resolved.{Columns, bare, query}
-use Rattle.name_resolution.specs.Schema.{Sound, answer, columns_at, schema_columns, view_tree, view_trees}
+use Rattle.name_resolution.specs.Schema.{Sound, answer, schema_columns, view_tree, view_trees}
 use Rattle.name_resolution.proofs.ByPlaces.{IsKnown, query_law, rows_law}
 use Rattle.name_resolution.proofs.Depths.{Shallow, ShallowName, all_shallow, columns_known, found_all, nested, stable}
-use Rattle.name_resolution.proofs.Frames.{Fits, fits_none}
-use Rattle.name_resolution.proofs.Named.{Agrees, Each, Same, all_wide, each_all, each_more, names_bare, renamed_length}
-use Rattle.name_resolution.proofs.Related.{Related}
+use Rattle.name_resolution.proofs.Frames.{fits_none}
+use Rattle.name_resolution.proofs.Named.{Agrees, Each, all_wide, each_all, each_more, names_bare, renamed_length}
 
 -- the bodies of views
 abbrev resolved : Declared → Option s.ViewDecl → Option Query

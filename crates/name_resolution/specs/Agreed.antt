@@ -3,7 +3,7 @@ use Rattle.std.specs.Prelude.{◌≡◌, ⊤, ℕ, List, [], ◌∷◌, length, 
 use Rattle.row_bag.specs.declared.row.Row.{Row}
 use Rattle.sql_value.specs.declared.cell.Cell.{Cell}
 use Rattle.sql_meaning.specs.Names.{Known, Relation}
-use Rattle.sql_meaning.specs.Scopes.{Frame, Range, Scopes, frame_cells}
+use Rattle.sql_meaning.specs.Scopes.{Frame, Scopes, frame_cells}
 use Rattle.name_resolution.specs.Resolved.{Columns}
 
 -- ---- tables and views

@@ -3,7 +3,10 @@ pub mod Resolved
 pub mod Even
 pub mod Agreed
 pub mod Schema
+pub mod Ranges
+pub mod Spans
 pub mod Shapes
 pub mod Forms
 pub mod Onto
 pub mod Known
+pub mod Laws

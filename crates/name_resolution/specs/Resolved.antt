@@ -1,6 +1,6 @@
 -- A query with its names resolved: each column is a scope and a place. Parentheses vanish, and a chain of operators is one list.
 use Rattle.std.specs.Prelude.{ℕ, zero, suc, Bool, true, false, List, [], ◌∷◌, ◌++◌, length, Option, Some, None, if◌then◌else◌}
-use Rattle.sql_ast.specs.declared.name.Column.{Column}
+use Rattle.sql_ast.specs.declared.name.Correlation.{Correlation}
 use Rattle.sql_ast.specs.declared.word.AdditiveOp.{AdditiveOp}
 use Rattle.sql_ast.specs.declared.word.DataType.{DataType}
 use Rattle.sql_ast.specs.declared.word.DataType.TheVariants as type
@@ -10,7 +10,8 @@ use Rattle.sql_ast.specs.declared.word.Sign.TheVariants as sign
 use Rattle.sql_ast.specs.Syntax as s
 use Rattle.sql_meaning.specs.Grouping.{is_grouped}
 use Rattle.sql_meaning.specs.Groups.{is_distinct}
-use Rattle.sql_meaning.specs.Names.{Known, Relation, names, relation, shape, table_shape}
+use Rattle.sql_meaning.specs.Names.{Known, Relation, column_list, names, range_name, relation, shape, table_shape, under}
+use Rattle.sql_meaning.specs.Names as named
 use Rattle.sql_meaning.specs.Scopes.{Shape}
 use Rattle.sql_value.specs.declared.order_key.SqlType.{SqlType}
 use Rattle.sql_value.specs.declared.order_key.SqlType.TheVariants.{Integer, Varchar}
@@ -30,6 +31,10 @@ without_rows (Some columns) = Some (relation columns [])
 -- tables and views of these columns, without rows
 abbrev pub bare : Columns → Known
 bare columns name = without_rows (columns name)
+
+-- the range of a table or view in a FROM; it has no columns where there is none of the name
+abbrev pub named_range : Columns → List ℕ → Option Correlation → List ℕ × List (Option (List ℕ))
+named_range columns name alias = (range_name name alias, named.columns_of (under (column_list alias) (bare columns name)))
 
 -- ---- operators
 

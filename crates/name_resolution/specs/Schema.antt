@@ -1,5 +1,5 @@
 -- The views of a schema with their names resolved, and the answer to a query over them.
-use Rattle.std.specs.Prelude.{◌≡◌, ℕ, zero, suc, false, List, [], ◌∷◌, map, Option, Some, None, All}
+use Rattle.std.specs.Prelude.{◌≡◌, ℕ, zero, suc, false, List, [], map, Option, Some, None, All}
 use Rattle.std.specs.List.{list_any}
 use Rattle.row_bag.specs.Tables.{bag_named}
 use Rattle.row_bag.specs.Verdict.{verdict}

@@ -1,22 +1,21 @@
--- The ranges that the program holds.
-use Rattle.std.specs.Prelude.{ℕ, List, [], ◌∷◌, map, Option, Some, None}
+-- What a part of a query sees, as the program holds it.
+use Rattle.std.specs.Prelude.{List, [], ◌∷◌, ◌++◌}
 use Rattle.sql_ast.specs.declared.tree.Block.{Block}
+use Rattle.sql_ast.specs.declared.tree.Cond.{Cond}
 use Rattle.sql_ast.specs.Shown as shown
 use Rattle.sql_ast.specs.Syntax as s
 use Rattle.sql_meaning.specs.Scopes.{Shape, columns_in}
-use Rattle.name_resolution.specs.Places as places
-use Rattle.name_resolution.specs.Resolved.{Columns}
-use Rattle.name_resolution.specs.declared.place.Span.{Span}
-use Rattle.name_resolution.specs.declared.scope.Range.{Range}
+use Rattle.sql_meaning.specs.ResolvedTrees.{Test}
+use Rattle.name_resolution.specs.Resolved.{Columns, test}
+pub use Rattle.name_resolution.specs.Ranges.{shape}
+pub use Rattle.name_resolution.specs.Spans.{span}
+use Rattle.name_resolution.specs.declared.range.Range.{Range}
 use Rattle.name_resolution.specs.declared.scope.Setting.{Setting}
 use Rattle.name_resolution.specs.declared.scope.Shapes.{Shapes, Outermost, Inside'}
 
-abbrev pub shape : List Range → Shape
-shape ranges = map (λ range. (range.name, range.columns)) ranges
-
 abbrev pub shapes : Shapes → List Shape
 shapes Outermost = []
-shapes (Inside' ranges _ outer) = shape ranges.now ∷ shapes outer
+shapes (Inside' scope _ outer) = scope.now ∷ shapes outer
 
 -- the columns of the first of these tables and views that has a name
 abbrev pub columns_among : List Range → Columns
@@ -25,11 +24,10 @@ columns_among known name = columns_in name (shape known)
 abbrev pub columns_of : Setting → Columns
 columns_of setting = columns_among setting.known.now
 
--- columns that stand side by side
-abbrev pub span : Option Span → Option places.Span
-span None = None
-span (Some s) = Some (record { scope = s.scope; first = s.first; columns = s.columns.now })
-
 -- the tree of a block
 abbrev pub block_of : Block → s.Query
 block_of b = s.block b.quantifier (shown.select_list b.list) (shown.table_list b.from) (shown.filter b.filter) b.grouping (shown.filter b.having)
+
+-- the condition of a join of two tables of these ranges, which it sees first
+abbrev pub on_of : Setting → Shapes → Shape → Shape → Cond → Test
+on_of setting inner left right on = test (columns_of setting) ((left ++ right) ∷ shapes inner) (shown.cond on)

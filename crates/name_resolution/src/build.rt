@@ -1,5 +1,5 @@
 // Parts of resolved queries, from their own parts.
-ghost use Rattle.std.specs.Prelude.{◌≡◌, [], ◌∷◌, ◌+◌, ◌-◌, IfOk, OnOk};
+ghost use Rattle.std.specs.Prelude.{◌≡◌, [], ◌∷◌, ◌+◌, ◌-◌, ◌<◌, ◌^◌, IfOk, OnOk};
 ghost use Rattle.sql_meaning.specs.ResolvedShown as shown;
 ghost use Rattle.sql_meaning.specs.ResolvedTrees as tree;
 ghost use Rattle.sql_meaning.specs.Groups.{is_distinct};
@@ -304,6 +304,15 @@ pub(crate) fn block(
     Ok(Query::Block(distinct, list, from, Box::new(alloc, by)?))
 }
 
+/// The groups of a block: the places of its grouping columns, where GROUP BY is written, the number
+/// of columns of its FROM, and its HAVING.
+#[derive(Drop)]
+pub(crate) struct Groups {
+    pub places: Option<Items<usize>>,
+    pub width: usize,
+    pub having: Test,
+}
+
 /// A grouped block.
 #[tactic(auto, using(sql_meaning::specs::ResolvedShown::lists))]
 pub(crate) fn grouped(
@@ -312,15 +321,21 @@ pub(crate) fn grouped(
     list: Items<Value>,
     from: Items<From>,
     by: Test,
-    places: Option<Items<usize>>,
-    width: usize,
-    having: Test,
+    groups: Groups,
 ) -> Result<Query, OutOfMemory>
-    ensures { IfOk result (λ q. shown.query q ≡ tree.grouped distinct (shown.value_list list) (shown.from_list from) (shown.test by) places width (shown.test having)) }
+    ensures { IfOk result (λ q. shown.query q ≡ tree.grouped distinct (shown.value_list list) (shown.from_list from) (shown.test by) groups.places groups.width (shown.test groups.having)) }
 {
     let by = Box::new(alloc, by)?;
-    let having = Box::new(alloc, having)?;
-    Ok(Query::Grouped(distinct, list, from, by, places, width, having))
+    let having = Box::new(alloc, groups.having)?;
+    Ok(Query::Grouped(
+        distinct,
+        list,
+        from,
+        by,
+        groups.places,
+        groups.width,
+        having,
+    ))
 }
 
 /// UNION or EXCEPT.
@@ -358,13 +373,11 @@ pub(crate) fn push_columns(
     first: usize,
     count: usize,
 ) -> Result<(), OutOfMemory>
+    requires { first + count < 2 ^ 64 }
     ensures { OnOk result ((rest : tree.Values) → values_onto list.new rest ≡ values_onto list.old (spec.append (spec.columns_from scope first count) rest)) }
 {
     for i in 0..count {
-        match first.checked_add(i) {
-            Some(place) => push_value(list, Value::Column(scope, place))?,
-            None => return Err(OutOfMemory),
-        }
+        push_value(list, Value::Column(scope, first + i))?;
     }
     Ok(())
 }

@@ -1,11 +1,12 @@
 // Where the grouping columns of a block stand in its row (SQL-92, 7.7).
-ghost use Rattle.std.specs.Prelude.{◌≡◌, ◌++◌, ◌+◌, map, IfOk, OnOk};
+ghost use Rattle.std.specs.Prelude.{◌≡◌, ◌++◌, ◌+◌, ◌<◌, ◌^◌, length, map, IfOk, OnOk};
 ghost use Rattle.std.specs.List.{flat_map};
 ghost use Rattle.name_resolution.specs.Places as places;
-ghost use Rattle.name_resolution.specs.Shapes.{shape};
+ghost use Rattle.name_resolution.specs.Ranges.{shape};
 
 use crate::place::is_named;
-use crate::scope::Range;
+use crate::range::Range;
+use crate::scope::Scope;
 use shared_types::{OutOfMemory, Text};
 use sql_ast::Column;
 use sqlite_items::Items;
@@ -22,16 +23,6 @@ fn means(d: &Column, range: &Text, column: &Option<Text>) -> bool
         }
 }
 
-// The next place. It counts as a want of memory where no row is as long.
-fn after(place: usize, count: usize) -> Result<usize, OutOfMemory>
-    ensures { IfOk result (λ next. next ≡ place + count) }
-{
-    match place.checked_add(count) {
-        Some(next) => Ok(next),
-        None => Err(OutOfMemory),
-    }
-}
-
 // Adds the places of the columns of a range that a column of GROUP BY means, where its first column
 // is at a place.
 fn push_meant(
@@ -40,6 +31,7 @@ fn push_meant(
     first: usize,
     out: &mut Items<usize>,
 ) -> Result<(), OutOfMemory>
+    requires { first + length range.now.columns < 2 ^ 64 }
     ensures { OnOk result (out.new ≡ out.old ++ places.places_from first d.now (map (λ column. (range.now.name, column)) range.now.columns)) }
 {
     let mut place = first;
@@ -47,7 +39,7 @@ fn push_meant(
         if means(d, &range.name, column) {
             out.push(place)?;
         }
-        place = after(place, 1)?;
+        place += 1;
     }
     Ok(())
 }
@@ -60,32 +52,34 @@ fn push_all_meant(
     first: usize,
     out: &mut Items<usize>,
 ) -> Result<(), OutOfMemory>
+    requires { first + places.width (shape ranges.now) < 2 ^ 64 }
     ensures { OnOk result (out.new ≡ out.old ++ places.places_from first d.now (places.columns_in (shape ranges.now))) }
 {
     match ranges.split_first() {
         None => Ok(()),
         Some((range, rest)) => {
             push_meant(d, range, first, out)?;
-            push_all_meant(d, rest, after(first, range.columns.len())?, out)
+            push_all_meant(d, rest, first + range.columns.len(), out)
         }
     }
 }
 
 // Adds the places of all columns that a column of GROUP BY means.
 #[tactic(auto, using(crate::proofs::Meant::from_none))]
-fn push_places(d: &Column, ranges: &[Range], out: &mut Items<usize>) -> Result<(), OutOfMemory>
-    ensures { OnOk result (out.new ≡ out.old ++ places.places_meant d.now (places.columns_in (shape ranges.now))) }
+fn push_places(d: &Column, scope: &Scope, out: &mut Items<usize>) -> Result<(), OutOfMemory>
+    ensures { OnOk result (out.new ≡ out.old ++ places.places_meant d.now (places.columns_in scope.now)) }
 {
-    push_all_meant(d, ranges, 0, out)
+    let _all = scope.width();
+    push_all_meant(d, scope.ranges(), 0, out)
 }
 
 // The places of grouping columns, for each of these in turn.
-fn all_places(alloc: Global, by: &[Column], ranges: &[Range]) -> Result<Items<usize>, OutOfMemory>
-    ensures { IfOk result (λ out. out ≡ flat_map (λ d. places.places_meant d (places.columns_in (shape ranges.now))) by.now) }
+fn all_places(alloc: Global, by: &[Column], scope: &Scope) -> Result<Items<usize>, OutOfMemory>
+    ensures { IfOk result (λ out. out ≡ flat_map (λ d. places.places_meant d (places.columns_in scope.now)) by.now) }
 {
     let mut out = Items::new(alloc);
     for d in by {
-        push_places(d, ranges, &mut out)?;
+        push_places(d, scope, &mut out)?;
     }
     Ok(out)
 }
@@ -94,12 +88,12 @@ fn all_places(alloc: Global, by: &[Column], ranges: &[Range]) -> Result<Items<us
 pub(crate) fn grouping_places(
     alloc: Global,
     by: &[Column],
-    ranges: &[Range],
+    scope: &Scope,
 ) -> Result<Option<Items<usize>>, OutOfMemory>
-    ensures { IfOk result (λ found. found ≡ places.grouping_places by.now (shape ranges.now)) }
+    ensures { IfOk result (λ found. found ≡ places.grouping_places by.now scope.now) }
 {
     match by {
         [] => Ok(None),
-        [_, ..] => Ok(Some(all_places(alloc, by, ranges)?)),
+        [_, ..] => Ok(Some(all_places(alloc, by, scope)?)),
     }
 }

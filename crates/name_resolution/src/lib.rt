@@ -4,17 +4,19 @@
 mod build;
 mod chain;
 mod grouping;
-mod joins;
 mod laws;
 mod names;
 mod order;
 mod place;
+mod range;
 mod resolve;
 mod scope;
+mod span;
+mod stars;
 mod text;
 mod views;
 
 pub use laws::place_laws;
-pub use scope::Range;
-pub use text::{ResolvedText, query_columns, resolve_query, resolve_text};
+pub use range::Range;
+pub use text::{ResolvedText, resolve_text};
 pub use views::{ResolvedSchema, resolve_schema};

@@ -1,16 +1,17 @@
-// The names of the columns of queries, and the ranges of FROMs (SQL-92, 6.3, 7.9 and 7.10).
+// The names of the columns of tables of a FROM and of select lists (SQL-92, 6.3 and 7.9).
 ghost use Rattle.std.specs.Prelude.{◌≡◌, ◌++◌, ◌∷◌, [], option_map, IfOk, OnOk};
 ghost use Rattle.sql_ast.specs.Shown as written;
 ghost use Rattle.sql_meaning.specs.Names as spec;
 ghost use Rattle.sql_meaning.specs.Scopes.{columns_in, columns_of_range};
 ghost use Rattle.name_resolution.specs.Places.{names_in};
-ghost use Rattle.name_resolution.specs.Resolved.{bare};
+ghost use Rattle.name_resolution.specs.Resolved.{bare, named_range};
 ghost use Rattle.name_resolution.specs.Shapes.{columns_of, shape, shapes};
 
 use crate::place::span_of;
-use crate::scope::{Range, Ranges, Setting, Shapes};
+use crate::range::Range;
+use crate::scope::{Scope, Setting, Shapes};
 use shared_types::{OutOfMemory, Text};
-use sql_ast::{Correlation, Item, Query, SelectList, TableRef};
+use sql_ast::{Correlation, Item, SelectList};
 use sql_meaning::item_name;
 use sql_value::OutNames;
 use sqlite_items::Items;
@@ -184,106 +185,50 @@ fn push_all_names(alloc: Global, ranges: &[Range], out: &mut OutNames) -> Result
     Ok(())
 }
 
-// The names of a list, over the ranges of its block.
+/// The names of a list, over the scope of its block. The error is want of memory.
 #[tactic(auto, using(sql_ast::specs::Shown::lists))]
-fn list_names(
+pub(crate) fn list_names(
     alloc: Global,
     list: &SelectList,
-    ranges: &[Range],
+    scope: &Scope,
     s: &Shapes<'_>,
 ) -> Result<OutNames, OutOfMemory>
-    ensures { IfOk result (λ out. out ≡ spec.list_names (written.select_list list.now) (shape ranges.now) (shapes s.now)) }
+    ensures { IfOk result (λ out. out ≡ spec.list_names (written.select_list list.now) scope.now (shapes s.now)) }
 {
     let mut out = Items::new(alloc);
     match list {
-        SelectList::All => push_all_names(alloc, ranges, &mut out)?,
+        SelectList::All => push_all_names(alloc, scope.ranges(), &mut out)?,
         SelectList::Items(items) => push_items_names(
             alloc,
             items.as_slice(),
-            &Shapes::Inside(ranges, &*s),
+            &Shapes::Inside(scope, &*s),
             &mut out,
         )?,
     }
     Ok(out)
 }
 
-/// Adds a range at the end.
-pub(crate) fn push_range(out: &mut Ranges, name: Text, columns: OutNames) -> Result<(), OutOfMemory>
-    ensures { OnOk result (shape out.new ≡ shape out.old ++ (name, columns) ∷ []) }
+/// The scope of a table or view in a FROM. The error is want of memory.
+pub(crate) fn named_scope(
+    setting: &Setting<'_>,
+    name: &Text,
+    alias: &Option<Correlation>,
+) -> Result<Scope, OutOfMemory>
+    ensures { IfOk result (λ scope. scope ≡ named_range (columns_of setting.now) name.now alias.now ∷ []) }
 {
-    out.push(Range { name, columns })?;
-    Ok(())
+    let columns = named_columns(setting, name, alias)?;
+    let name = range_name(name, alias).copy(setting.alloc)?;
+    Scope::lone(setting.alloc, name, columns)
 }
 
-/// The names of a query's columns. It fails only for want of memory.
-#[cycle(names)]
-#[tactic(auto, using(sql_ast::specs::Shown::lists))]
-pub(crate) fn names(
-    setting: &Setting<'_>,
-    q: &Query,
-    s: &Shapes<'_>,
-) -> Result<OutNames, OutOfMemory>
-    ensures { IfOk result (λ out. out ≡ spec.names (bare (columns_of setting.now)) (written.query q.now) (shapes s.now)) }
+/// The scope of a subquery in a FROM that gives these columns. The error is want of memory.
+pub(crate) fn derived_scope(
+    alloc: Global,
+    alias: &Correlation,
+    columns: &[Option<Text>],
+) -> Result<Scope, OutOfMemory>
+    ensures { IfOk result (λ scope. scope ≡ (alias.now.name, spec.renamed alias.now.columns columns.now) ∷ []) }
 {
-    match q {
-        Query::Combine(x, _, _, _) => names(setting, x, s),
-        Query::Intersect(x, _, _) => names(setting, x, s),
-        Query::Enclosed(x) => names(setting, x, s),
-        Query::Block(b) => {
-            let ranges = ranges(setting, b.from.as_slice(), s)?;
-            list_names(setting.alloc, &b.list, ranges.as_slice(), s)
-        }
-    }
-}
-
-/// The ranges of a FROM, in the order of the text.
-#[cycle(names)]
-pub(crate) fn ranges(
-    setting: &Setting<'_>,
-    list: &[TableRef],
-    s: &Shapes<'_>,
-) -> Result<Ranges, OutOfMemory>
-    ensures { IfOk result (λ out. shape out ≡ spec.shape (bare (columns_of setting.now)) (written.table_list list.now) (shapes s.now)) }
-{
-    let mut out = Items::new(setting.alloc);
-    for x in list {
-        push_ranges(setting, x, s, &mut out)?;
-    }
-    Ok(out)
-}
-
-/// Adds the ranges of a table of a FROM at the end.
-#[cycle(names)]
-pub(crate) fn push_ranges(
-    setting: &Setting<'_>,
-    x: &TableRef,
-    s: &Shapes<'_>,
-    out: &mut Ranges,
-) -> Result<(), OutOfMemory>
-    ensures { OnOk result (shape out.new ≡ shape out.old ++ spec.table_shape (bare (columns_of setting.now)) (written.table x.now) (shapes s.now)) }
-{
-    match x {
-        TableRef::Join(a, _, b, _) => {
-            push_ranges(setting, a, s, out)?;
-            push_ranges(setting, b, s, out)
-        }
-        TableRef::LeftJoin(a, _, b, _) => {
-            push_ranges(setting, a, s, out)?;
-            push_ranges(setting, b, s, out)
-        }
-        TableRef::CrossJoin(a, b) => {
-            push_ranges(setting, a, s, out)?;
-            push_ranges(setting, b, s, out)
-        }
-        TableRef::Named(name, alias) => {
-            let columns = named_columns(setting, name, alias)?;
-            push_range(out, range_name(name, alias).copy(setting.alloc)?, columns)
-        }
-        TableRef::Derived(q, alias) => {
-            let columns = names(setting, q, s)?;
-            let columns = renamed(setting.alloc, alias.columns.as_slice(), columns.as_slice())?;
-            push_range(out, alias.name.copy(setting.alloc)?, columns)
-        }
-        TableRef::Joined(a) => push_ranges(setting, a, s, out),
-    }
+    let columns = renamed(alloc, alias.columns.as_slice(), columns)?;
+    Scope::lone(alloc, alias.name.copy(alloc)?, columns)
 }

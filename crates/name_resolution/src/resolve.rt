@@ -1,26 +1,51 @@
 // Queries with their names resolved: each part in the ranges of the blocks that enclose it.
-ghost use Rattle.std.specs.Prelude.{◌≡◌, ◌∷◌, [], true, false, IfOk, OnOk};
+ghost use Rattle.std.specs.Prelude.{◌≡◌, ◌∷◌, ◌++◌, [], length, true, false, IfOk, OnOk};
+ghost use Rattle.sql_meaning.specs.Even.{innermost};
+ghost use Rattle.sql_meaning.specs.Names as named;
 ghost use Rattle.sql_meaning.specs.ResolvedShown as shown;
 ghost use Rattle.sql_meaning.specs.ResolvedTrees as tree;
 ghost use Rattle.sql_ast.specs.Shown as written;
 ghost use Rattle.name_resolution.specs.Forms.{is_conjunction, is_disjunction, is_product, is_sum};
 ghost use Rattle.name_resolution.specs.Onto.{values_onto};
+ghost use Rattle.name_resolution.specs.Places.{width};
 ghost use Rattle.name_resolution.specs.Resolved as spec;
-ghost use Rattle.name_resolution.specs.Shapes.{block_of, columns_of, shapes};
+ghost use Rattle.name_resolution.specs.Resolved.{bare, named_range};
+ghost use Rattle.name_resolution.specs.Shapes.{block_of, columns_of, on_of, shapes};
 
 use crate::build as made;
 use crate::chain::{both, either, product, signed, sum, type_of};
 use crate::grouping::grouping_places;
-use crate::joins::{
-    alone, column_count, joined_ranges, push_innermost, push_range_columns, right_width,
-};
-use crate::names::ranges;
-use crate::place::{place_of, width};
-use crate::scope::{Setting, Shapes};
-use shared_types::OutOfMemory;
+use crate::names::{derived_scope, list_names, named_scope};
+use crate::place::place_of;
+use crate::scope::{Scope, Setting, Shapes};
+use crate::stars::{push_innermost, push_range_columns};
+use shared_types::{OutOfMemory, Text};
 use sql_ast as ast;
 use sql_meaning::{Arm, Choice, From, Query, Test, Value, is_grouped};
+use sql_value::OutNames;
 use sqlite_items::Items;
+use std::alloc::Global;
+
+/// A query with its names resolved, and the names of its columns.
+#[derive(Drop)]
+pub(crate) struct ResolvedQuery {
+    pub query: Query,
+    pub columns: OutNames,
+}
+
+// Tables of a FROM with their names resolved, and the scope of their ranges.
+#[derive(Drop)]
+struct ResolvedFrom {
+    from: Items<From>,
+    scope: Scope,
+}
+
+// The same of one table, which may be a join.
+#[derive(Drop)]
+struct ResolvedTable {
+    table: From,
+    scope: Scope,
+}
 
 // An expression with its names resolved. Chains of operators stand apart from all else, so that each
 // of thousands of operators takes little of the stack.
@@ -94,11 +119,10 @@ fn operand(setting: &Setting<'_>, x: &ast::Expr, s: &Shapes<'_>) -> Result<Value
         ast::Expr::Str(x) => made::text(alloc, x),
         ast::Expr::Column(c) => Ok(made::column(place_of(c, s)?)),
         ast::Expr::Paren(a) => value(setting, a, s),
-        ast::Expr::Scalar(q) => made::scalar(alloc, query(setting, q, s)?),
+        ast::Expr::Scalar(q) => made::scalar(alloc, subquery(setting, q, s)?),
         ast::Expr::CountAll => Ok(Value::CountAll),
         ast::Expr::Aggregate(function, each, a) => {
-            let ranges = alone(s);
-            let a = value(setting, a, &Shapes::Inside(ranges, &Shapes::Outermost))?;
+            let a = argument(setting, a, s)?;
             made::aggregate(alloc, *function, *each, a)
         }
         ast::Expr::Searched(list, last) => {
@@ -120,6 +144,22 @@ fn operand(setting: &Setting<'_>, x: &ast::Expr, s: &Shapes<'_>) -> Result<Value
         }
         ast::Expr::CastNull(to) => Ok(Value::Null(Some(type_of(to)))),
         ast::Expr::Add(_, _, _) | ast::Expr::Multiply(_, _, _) => unreachable!(),
+    }
+}
+
+// The argument of an aggregate, which is read in the rows of the innermost scope alone.
+#[cycle(resolve)]
+fn argument(setting: &Setting<'_>, x: &ast::Expr, s: &Shapes<'_>) -> Result<Value, OutOfMemory>
+    ensures { IfOk result (λ v. shown.value v ≡ spec.value (columns_of setting.now) (innermost (shapes s.now) ∷ []) (written.expr x.now)) }
+{
+    match s {
+        Shapes::Inside(scope, _) => {
+            value(setting, x, &Shapes::Inside(*scope, &Shapes::Outermost))
+        }
+        Shapes::Outermost => {
+            let scope = Scope::new(setting.alloc);
+            value(setting, x, &Shapes::Inside(&scope, &Shapes::Outermost))
+        }
     }
 }
 
@@ -271,7 +311,7 @@ fn conjunct(setting: &Setting<'_>, p: &ast::Cond, s: &Shapes<'_>) -> Result<Test
         }
         ast::Cond::Quantified(a, op, each, q) => {
             let a = value(setting, a, s)?;
-            made::quantified(alloc, a, *op, *each, query(setting, q, s)?)
+            made::quantified(alloc, a, *op, *each, subquery(setting, q, s)?)
         }
         ast::Cond::Between(a, negative, b, c) => {
             let a = value(setting, a, s)?;
@@ -280,7 +320,7 @@ fn conjunct(setting: &Setting<'_>, p: &ast::Cond, s: &Shapes<'_>) -> Result<Test
         }
         ast::Cond::InQuery(a, negative, q) => {
             let a = value(setting, a, s)?;
-            made::among_rows(alloc, a, *negative, query(setting, q, s)?)
+            made::among_rows(alloc, a, *negative, subquery(setting, q, s)?)
         }
         ast::Cond::InList(a, negative, list) => {
             let a = value(setting, a, s)?;
@@ -291,7 +331,7 @@ fn conjunct(setting: &Setting<'_>, p: &ast::Cond, s: &Shapes<'_>) -> Result<Test
             made::like(alloc, a, *negative, value(setting, b, s)?)
         }
         ast::Cond::IsNull(a, negative) => made::is_null(alloc, value(setting, a, s)?, *negative),
-        ast::Cond::Exists(q) => made::exists(alloc, query(setting, q, s)?),
+        ast::Cond::Exists(q) => made::exists(alloc, subquery(setting, q, s)?),
         ast::Cond::Or(_, _) | ast::Cond::And(_, _) => unreachable!(),
     }
 }
@@ -365,98 +405,242 @@ fn froms(
     setting: &Setting<'_>,
     list: &[ast::TableRef],
     s: &Shapes<'_>,
-) -> Result<Items<From>, OutOfMemory>
-    ensures { IfOk result (λ v. shown.from_list v ≡ spec.froms (columns_of setting.now) (shapes s.now) (written.table_list list.now)) }
+) -> Result<ResolvedFrom, OutOfMemory>
+    ensures from { IfOk result (λ v. shown.from_list v.from ≡ spec.froms (columns_of setting.now) (shapes s.now) (written.table_list list.now)) }
+    ensures scope { IfOk result (λ v. v.scope ≡ named.shape (bare (columns_of setting.now)) (written.table_list list.now) (shapes s.now)) }
 {
-    let mut out = Items::new(setting.alloc);
+    let mut from = Items::new(setting.alloc);
+    let mut scope = Scope::new(setting.alloc);
     for x in list {
-        made::push_from(&mut out, table(setting, x, s)?)?;
+        let next = table(setting, x, s)?;
+        made::push_from(&mut from, next.table)?;
+        scope = scope.join(setting.alloc, next.scope)?;
     }
-    Ok(out)
+    Ok(ResolvedFrom { from, scope })
 }
 
 // A table of a FROM.
 #[cycle(resolve)]
-fn table(setting: &Setting<'_>, x: &ast::TableRef, s: &Shapes<'_>) -> Result<From, OutOfMemory>
-    ensures { IfOk result (λ v. shown.from v ≡ spec.table (columns_of setting.now) (shapes s.now) (written.table x.now)) }
+fn table(
+    setting: &Setting<'_>,
+    x: &ast::TableRef,
+    s: &Shapes<'_>,
+) -> Result<ResolvedTable, OutOfMemory>
+    ensures table { IfOk result (λ v. shown.from v.table ≡ spec.table (columns_of setting.now) (shapes s.now) (written.table x.now)) }
+    ensures scope { IfOk result (λ v. v.scope ≡ named.table_shape (bare (columns_of setting.now)) (written.table x.now) (shapes s.now)) }
 {
-    let alloc = setting.alloc;
     match x {
         ast::TableRef::Join(a, _, b, p) => {
-            let ranges = joined_ranges(setting, a, b, s)?;
-            let p = test(setting, p, &Shapes::Inside(ranges.as_slice(), &*s))?;
             let a = table(setting, a, s)?;
-            made::joined(alloc, a, table(setting, b, s)?, p)
+            inner_join(setting, a, table(setting, b, s)?, p, s)
         }
         ast::TableRef::LeftJoin(a, _, b, p) => {
-            let ranges = joined_ranges(setting, a, b, s)?;
-            let p = test(setting, p, &Shapes::Inside(ranges.as_slice(), &*s))?;
-            let width = right_width(setting, b, s)?;
             let a = table(setting, a, s)?;
-            made::left_joined(alloc, a, table(setting, b, s)?, width, p)
+            left_join(setting, a, table(setting, b, s)?, p, s)
         }
         ast::TableRef::CrossJoin(a, b) => {
             let a = table(setting, a, s)?;
-            made::crossed(alloc, a, table(setting, b, s)?)
+            cross_join(setting.alloc, a, table(setting, b, s)?)
         }
-        ast::TableRef::Named(name, _) => made::named(alloc, name),
-        ast::TableRef::Derived(q, _) => made::derived(alloc, query(setting, q, s)?),
+        ast::TableRef::Named(name, alias) => named_table(setting, name, alias),
+        ast::TableRef::Derived(q, alias) => {
+            derived_table(setting.alloc, query(setting, q, s)?, alias)
+        }
         ast::TableRef::Joined(a) => table(setting, a, s),
     }
 }
 
-/// A query with its names resolved.
+// A join of two tables by a condition, which sees the columns of both.
+#[cycle(resolve)]
+fn inner_join(
+    setting: &Setting<'_>,
+    left: ResolvedTable,
+    right: ResolvedTable,
+    on: &ast::Cond,
+    s: &Shapes<'_>,
+) -> Result<ResolvedTable, OutOfMemory>
+    ensures table { IfOk result (λ v. shown.from v.table ≡ tree.joined (shown.from left.table) (shown.from right.table) (on_of setting.now s.now left.scope right.scope on.now)) }
+    ensures scope { IfOk result (λ v. v.scope ≡ left.scope ++ right.scope) }
+{
+    let scope = left.scope.join(setting.alloc, right.scope)?;
+    let on = test(setting, on, &Shapes::Inside(&scope, &*s))?;
+    let table = made::joined(setting.alloc, left.table, right.table, on)?;
+    Ok(ResolvedTable { table, scope })
+}
+
+// The same of a left join.
+#[cycle(resolve)]
+fn left_join(
+    setting: &Setting<'_>,
+    left: ResolvedTable,
+    right: ResolvedTable,
+    on: &ast::Cond,
+    s: &Shapes<'_>,
+) -> Result<ResolvedTable, OutOfMemory>
+    ensures table { IfOk result (λ v. shown.from v.table ≡ tree.left_joined (shown.from left.table) (shown.from right.table) (width right.scope) (on_of setting.now s.now left.scope right.scope on.now)) }
+    ensures scope { IfOk result (λ v. v.scope ≡ left.scope ++ right.scope) }
+{
+    let width = right.scope.width();
+    let scope = left.scope.join(setting.alloc, right.scope)?;
+    let on = test(setting, on, &Shapes::Inside(&scope, &*s))?;
+    let table = made::left_joined(setting.alloc, left.table, right.table, width, on)?;
+    Ok(ResolvedTable { table, scope })
+}
+
+// The cross join of two tables.
+fn cross_join(
+    alloc: Global,
+    left: ResolvedTable,
+    right: ResolvedTable,
+) -> Result<ResolvedTable, OutOfMemory>
+    ensures table { IfOk result (λ v. shown.from v.table ≡ tree.crossed (shown.from left.table) (shown.from right.table)) }
+    ensures scope { IfOk result (λ v. v.scope ≡ left.scope ++ right.scope) }
+{
+    let scope = left.scope.join(alloc, right.scope)?;
+    let table = made::crossed(alloc, left.table, right.table)?;
+    Ok(ResolvedTable { table, scope })
+}
+
+// A table or a view.
+fn named_table(
+    setting: &Setting<'_>,
+    name: &Text,
+    alias: &Option<ast::Correlation>,
+) -> Result<ResolvedTable, OutOfMemory>
+    ensures table { IfOk result (λ v. shown.from v.table ≡ tree.named name.now) }
+    ensures scope { IfOk result (λ v. v.scope ≡ named_range (columns_of setting.now) name.now alias.now ∷ []) }
+{
+    Ok(ResolvedTable {
+        table: made::named(setting.alloc, name)?,
+        scope: named_scope(setting, name, alias)?,
+    })
+}
+
+// A subquery in FROM.
+fn derived_table(
+    alloc: Global,
+    q: ResolvedQuery,
+    alias: &ast::Correlation,
+) -> Result<ResolvedTable, OutOfMemory>
+    ensures table { IfOk result (λ v. shown.from v.table ≡ tree.derived (shown.query q.query)) }
+    ensures scope { IfOk result (λ v. v.scope ≡ (alias.now.name, named.renamed alias.now.columns q.columns) ∷ []) }
+{
+    let scope = derived_scope(alloc, alias, q.columns.as_slice())?;
+    Ok(ResolvedTable {
+        table: made::derived(alloc, q.query)?,
+        scope,
+    })
+}
+
+// A subquery whose columns need no names.
+#[cycle(resolve)]
+fn subquery(setting: &Setting<'_>, q: &ast::Query, s: &Shapes<'_>) -> Result<Query, OutOfMemory>
+    ensures { IfOk result (λ v. shown.query v ≡ spec.query (columns_of setting.now) (shapes s.now) (written.query q.now)) }
+{
+    Ok(query(setting, q, s)?.query)
+}
+
+/// A query with its names resolved. It fails only for want of memory.
 #[cycle(resolve)]
 #[tactic(auto, using(sql_ast::specs::Shown::lists))]
 pub(crate) fn query(
     setting: &Setting<'_>,
     q: &ast::Query,
     s: &Shapes<'_>,
-) -> Result<Query, OutOfMemory>
-    ensures { IfOk result (λ v. shown.query v ≡ spec.query (columns_of setting.now) (shapes s.now) (written.query q.now)) }
+) -> Result<ResolvedQuery, OutOfMemory>
+    ensures query { IfOk result (λ v. shown.query v.query ≡ spec.query (columns_of setting.now) (shapes s.now) (written.query q.now)) }
+    ensures columns { IfOk result (λ v. v.columns ≡ named.names (bare (columns_of setting.now)) (written.query q.now) (shapes s.now)) }
 {
-    let alloc = setting.alloc;
     match q {
         ast::Query::Combine(x, op, all, y) => {
-            let width = column_count(setting, x, s)?;
             let x = query(setting, x, s)?;
-            made::combine(alloc, x, *op, *all, width, query(setting, y, s)?)
+            combine(setting.alloc, x, *op, *all, subquery(setting, y, s)?)
         }
         ast::Query::Intersect(x, all, y) => {
-            let width = column_count(setting, x, s)?;
             let x = query(setting, x, s)?;
-            made::intersect(alloc, x, *all, width, query(setting, y, s)?)
+            intersect(setting.alloc, x, *all, subquery(setting, y, s)?)
         }
         ast::Query::Enclosed(x) => query(setting, x, s),
         ast::Query::Block(b) => block(setting, b, s),
     }
 }
 
-// A block: its FROM, then its list, WHERE, GROUP BY and HAVING in the ranges of that FROM.
+// UNION or EXCEPT, which has the columns of its left operand.
+fn combine(
+    alloc: Global,
+    left: ResolvedQuery,
+    op: ast::SetOperator,
+    all: bool,
+    right: Query,
+) -> Result<ResolvedQuery, OutOfMemory>
+    ensures query { IfOk result (λ v. shown.query v.query ≡ tree.combine (shown.query left.query) op all (length left.columns) (shown.query right)) }
+    ensures columns { IfOk result (λ v. v.columns ≡ left.columns) }
+{
+    let width = left.columns.len();
+    Ok(ResolvedQuery {
+        query: made::combine(alloc, left.query, op, all, width, right)?,
+        columns: left.columns,
+    })
+}
+
+// INTERSECT, likewise.
+fn intersect(
+    alloc: Global,
+    left: ResolvedQuery,
+    all: bool,
+    right: Query,
+) -> Result<ResolvedQuery, OutOfMemory>
+    ensures query { IfOk result (λ v. shown.query v.query ≡ tree.intersect (shown.query left.query) all (length left.columns) (shown.query right)) }
+    ensures columns { IfOk result (λ v. v.columns ≡ left.columns) }
+{
+    let width = left.columns.len();
+    Ok(ResolvedQuery {
+        query: made::intersect(alloc, left.query, all, width, right)?,
+        columns: left.columns,
+    })
+}
+
+// A block: its FROM, and the rest in the scope of that FROM.
 #[cycle(resolve)]
-fn block(setting: &Setting<'_>, b: &ast::Block, s: &Shapes<'_>) -> Result<Query, OutOfMemory>
+fn block(
+    setting: &Setting<'_>,
+    b: &ast::Block,
+    s: &Shapes<'_>,
+) -> Result<ResolvedQuery, OutOfMemory>
+    ensures query { IfOk result (λ v. shown.query v.query ≡ spec.query (columns_of setting.now) (shapes s.now) (block_of b.now)) }
+    ensures columns { IfOk result (λ v. v.columns ≡ named.names (bare (columns_of setting.now)) (block_of b.now) (shapes s.now)) }
+{
+    let ResolvedFrom { from, scope } = froms(setting, b.from.as_slice(), s)?;
+    let columns = list_names(setting.alloc, &b.list, &scope, s)?;
+    let query = block_over(setting, b, from, &scope, s)?;
+    Ok(ResolvedQuery { query, columns })
+}
+
+// The list, WHERE, GROUP BY and HAVING of a block in the scope of its FROM, which is resolved.
+#[cycle(resolve)]
+fn block_over(
+    setting: &Setting<'_>,
+    b: &ast::Block,
+    from: Items<From>,
+    scope: &Scope,
+    s: &Shapes<'_>,
+) -> Result<Query, OutOfMemory>
+    requires from { shown.from_list from ≡ spec.froms (columns_of setting.now) (shapes s.now) (written.table_list b.now.from) }
+    requires scope { scope.now ≡ named.shape (bare (columns_of setting.now)) (written.table_list b.now.from) (shapes s.now) }
     ensures { IfOk result (λ v. shown.query v ≡ spec.query (columns_of setting.now) (shapes s.now) (block_of b.now)) }
 {
     let alloc = setting.alloc;
-    let ranges = ranges(setting, b.from.as_slice(), s)?;
-    let inner = Shapes::Inside(ranges.as_slice(), &*s);
-    let from = froms(setting, b.from.as_slice(), s)?;
+    let inner = Shapes::Inside(scope, &*s);
     let list = select_list(setting, &b.list, &inner)?;
     let by = filter(setting, &b.filter, &inner)?;
     let distinct = made::distinct(b.quantifier);
     if is_grouped(&b.list, b.grouping.as_slice(), &b.having) {
-        let having = filter(setting, &b.having, &inner)?;
-        let places = grouping_places(alloc, b.grouping.as_slice(), ranges.as_slice())?;
-        made::grouped(
-            alloc,
-            distinct,
-            list,
-            from,
-            by,
-            places,
-            width(ranges.as_slice())?,
-            having,
-        )
+        let groups = made::Groups {
+            places: grouping_places(alloc, b.grouping.as_slice(), scope)?,
+            width: scope.width(),
+            having: filter(setting, &b.having, &inner)?,
+        };
+        made::grouped(alloc, distinct, list, from, by, groups)
     } else {
         made::block(alloc, distinct, list, from, by)
     }

@@ -7,12 +7,12 @@ ghost use Rattle.sql_meaning.specs.ResolvedShown as shown;
 ghost use Rattle.name_resolution.specs.Resolved as spec;
 ghost use Rattle.name_resolution.specs.Shapes.{columns_among};
 
-use crate::names::names;
 use crate::order::order_keys;
+use crate::range::Range;
 use crate::resolve::query;
-use crate::scope::{Range, Setting, Shapes};
+use crate::scope::{Setting, Shapes};
 use shared_types::OutOfMemory;
-use sql_ast::{Query, QueryText};
+use sql_ast::QueryText;
 use sql_meaning as checked;
 use sql_value::{OrderKeys, OutNames};
 use std::alloc::Global;
@@ -23,26 +23,6 @@ pub struct ResolvedText {
     pub columns: OutNames,
     pub order: OrderKeys,
     pub query: checked::Query,
-}
-
-/// A query with its names resolved, over tables and views of these columns. It fails only for want
-/// of memory.
-pub fn resolve_query(
-    alloc: Global,
-    q: &Query,
-    known: &[Range],
-) -> Result<checked::Query, OutOfMemory>
-    ensures query { IfOk result (λ v. shown.query v ≡ spec.query (columns_among known.now) [] (written.query q.now)) }
-{
-    query(&Setting { alloc, known }, q, &Shapes::Outermost)
-}
-
-/// The names of a query's columns, over tables and views of these columns. It fails only for want
-/// of memory.
-pub fn query_columns(alloc: Global, q: &Query, known: &[Range]) -> Result<OutNames, OutOfMemory>
-    ensures names { IfOk result (λ out. out ≡ named.names (spec.bare (columns_among known.now)) (written.query q.now) []) }
-{
-    names(&Setting { alloc, known }, q, &Shapes::Outermost)
 }
 
 /// The text of a query with its names resolved, over tables and views of these columns. It fails
@@ -56,12 +36,11 @@ pub fn resolve_text(
     ensures order { IfOk result (λ x. x.order ≡ map (order_key (named.names (spec.bare (columns_among known.now)) (written.query text.now.query) [])) text.now.order) }
     ensures query { IfOk result (λ x. shown.query x.query ≡ spec.query (columns_among known.now) [] (written.query text.now.query)) }
 {
-    let columns = query_columns(alloc, &text.query, known)?;
-    let order = order_keys(alloc, columns.as_slice(), text.order.as_slice())?;
-    let query = resolve_query(alloc, &text.query, known)?;
+    let resolved = query(&Setting { alloc, known }, &text.query, &Shapes::Outermost)?;
+    let order = order_keys(alloc, resolved.columns.as_slice(), text.order.as_slice())?;
     Ok(ResolvedText {
-        columns,
+        columns: resolved.columns,
         order,
-        query,
+        query: resolved.query,
     })
 }

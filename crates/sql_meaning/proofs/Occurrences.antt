@@ -1,7 +1,7 @@
 -- Laws of occurrences of names.
-use Rattle.std.proofs.Common.{◌≡◌, refl, sym, ap, ap₂, ◌∙◌, ℕ, suc, ◌+◌, ◌<◌, Bool, true, false, cond, List, [], ◌∷◌, ◌++◌, length, map, take, get_or, position, nat_lt, option_map, Option, Some, inl, inr, arith}
+use Rattle.std.proofs.Common.{◌≡◌, refl, sym, ap, ap₂, ◌∙◌, subst, ℕ, suc, ◌+◌, ◌<◌, Bool, true, false, cond, List, [], ◌∷◌, ◌++◌, length, map, take, append_assoc, get_or, position, nat_lt, option_map, Option, Some, inl, inr, arith}
 use Rattle.std.proofs.lemmas.Bool.{cases_Bool, le-ltb, lt-ltb, ltb-false, ltb-true}
-use Rattle.std.proofs.lemmas.List.{take_more, length-map, map-append, length-take-le}
+use Rattle.std.proofs.lemmas.List.{take_more, length-append, length-map, map-append, length-take-le}
 use Rattle.std.specs.Cmp.Lexicographic.{nat_list_eq_equiv}
 use Rattle.std.specs.List.{position_or_len}
 use Rattle.std.specs.Map.{lookup}
@@ -10,7 +10,7 @@ use Rattle.sql_ast.specs.Names.{same_name}
 use Rattle.sql_meaning.specs.Scopes.{is_named}
 use Rattle.sql_meaning.specs.declared.column_index.Occurrence.{Occurrence}
 use Rattle.sql_meaning.specs.declared.column_index.Occurrence.TheVariants.{Nowhere, Once, Several}
-use Rattle.sql_meaning.specs.Occurrences.{first_place, occurrence, one_further, one_more, then_at, told_of}
+use Rattle.sql_meaning.specs.Occurrences.{Indexes, Noted, first_place, occurrence, one_further, one_more, then_at, told_of}
 
 more_more : (o : Occurrence) (n : ℕ) → one_more (then_at o n) ≡ then_at (one_more o) (suc n)
 more_more Nowhere n = refl
@@ -94,3 +94,30 @@ occurrence_next column xs i x low name =
     ∙ ap (occurrence name) (map-append column (take i xs) (get_or xs i x ∷ []))
     ∙ occurrence_push name (map column (take i xs)) (column (get_or xs i x))
     ∙ ap (λ (n : ℕ). cond (is_named name (column (get_or xs i x))) (then_at (occurrence name (map column (take i xs))) n) (occurrence name (map column (take i xs)))) seen
+
+-- an index of columns, and one more column that is noted after them
+pub indexed_next : (entries next : List (List ℕ × Occurrence)) (columns : List (Option (List ℕ))) (column : Option (List ℕ)) (place : ℕ)
+    → Indexes columns (entries, place) → Noted entries column place next → Indexes (columns ++ column ∷ []) (next, place + 1)
+indexed_next entries next columns column place index noted = (told, wide)
+  where
+    told : (name : List ℕ) → told_of next name ≡ occurrence name (columns ++ column ∷ [])
+    told name =
+        noted name
+        ∙ ap₂ (λ (o : Occurrence) (n : ℕ). cond (is_named name column) (then_at o n) o) (index.0 name) index.1
+        ∙ sym (occurrence_push name columns column)
+
+    wide : place + 1 ≡ length (columns ++ column ∷ [])
+    wide = let more = length-append columns (column ∷ []) in let same = index.1 in omega (arith, more, same)
+
+-- the same of the columns of a list up to the next
+pub indexed_more : (before columns : List (Option (List ℕ))) (i first : ℕ) (column : Option (List ℕ)) (entries next : List (List ℕ × Occurrence)) → i < length columns → column ≡ get_or columns i column
+    → Indexes (before ++ take i columns) (entries, first + i) → Noted entries column (first + i) next → Indexes (before ++ take (i + 1) columns) (next, first + (i + 1))
+indexed_more before columns i first column entries next low is index noted =
+    subst (λ (r : List (Option (List ℕ)) × ℕ). Indexes r.0 (next, r.1)) (ap₂ (λ (cs : List (Option (List ℕ))) (n : ℕ). (cs, n)) (sym up_to) (omega arith))
+    (indexed_next entries next (before ++ take i columns) column (first + i) index noted)
+  where
+    up_to : before ++ take (i + 1) columns ≡ (before ++ take i columns) ++ column ∷ []
+    up_to =
+        ap (λ (cs : List (Option (List ℕ))). before ++ cs) (take_more columns i column low)
+        ∙ sym (append_assoc before (take i columns) (get_or columns i column ∷ []))
+        ∙ ap (λ (c : Option (List ℕ)). (before ++ take i columns) ++ c ∷ []) (sym is)

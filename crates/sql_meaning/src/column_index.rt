@@ -1,5 +1,5 @@
 // An index of the columns of a FROM by their names.
-ghost use Rattle.std.specs.Prelude.{◌≡◌, ℕ, List, map, Some, IfOk, OnOk};
+ghost use Rattle.std.specs.Prelude.{◌≡◌, ◌++◌, ◌+◌, ◌<◌, ◌^◌, ℕ, List, [], length, map, Option, Some, IfOk, OnOk};
 ghost use Rattle.sql_meaning.specs.Occurrences as spec;
 
 use indexmap::IndexMap;
@@ -95,7 +95,47 @@ fn note(
     }
 }
 
+// Notes columns from a place on, after all that are noted.
+fn note_all(
+    alloc: Global,
+    names: &mut IndexMap<Name, Occurrence>,
+    columns: &[Option<Name>],
+    first: usize,
+) -> Result<(), OutOfMemory>
+    requires { first + length columns.now < 2 ^ 64 }
+    ensures { OnOk result ((before : List (Option (List ℕ))) → spec.Indexes before (names.old.entries, first) → spec.Indexes (before ++ columns.now) (names.new.entries, first + length columns.now)) }
+{
+    for i in 0..columns.len() {
+        note(alloc, names, &columns[i], first + i)?;
+    }
+    Ok(())
+}
+
 impl ColumnIndex {
+    /// The index of no columns.
+    pub fn new(alloc: Global) -> ColumnIndex
+        ensures { spec.Indexes [] result }
+    {
+        ColumnIndex {
+            names: IndexMap::new(alloc),
+            width: 0,
+        }
+    }
+
+    /// Adds columns at the end. The error is want of memory, as for 2^64 columns.
+    pub fn append(&mut self, alloc: Global, columns: &[Option<Name>]) -> Result<(), OutOfMemory>
+        ensures { OnOk result ((before : List (Option (List ℕ))) → spec.Indexes before self.old → spec.Indexes (before ++ columns.now) self.new) }
+    {
+        match self.width.checked_add(columns.len()) {
+            Some(width) => {
+                note_all(alloc, &mut self.names, columns, self.width)?;
+                self.width = width;
+                Ok(())
+            }
+            None => Err(OutOfMemory),
+        }
+    }
+
     /// The index of these columns. The error is want of memory.
     pub fn of(alloc: Global, columns: &[&Option<Name>]) -> Result<ColumnIndex, OutOfMemory>
         ensures { IfOk result (spec.Indexes (map (λ column. column.now) columns.now)) }

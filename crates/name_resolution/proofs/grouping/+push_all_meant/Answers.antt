@@ -1,11 +1,11 @@
-use Rattle.std.proofs.Common.{◌∙◌, ap, ◌+◌, ℕ}
+use Rattle.std.proofs.Common.{ap, ◌+◌, ℕ}
 use Rattle.std.proofs.lemmas.Result.{on_ok_weaker}
 use Rattle.name_resolution.proofs.Meant.{ranges_meant}
 use Rattle.name_resolution.proofs.grouping.+push_all_meant.Goals as goal
 
-pub returns-in_ok-after-in-Some : goal.returns-in_ok-after-in-Some
-returns-in_ok-after-in-Some t c =
+pub returns-in_ok-push_meant-in-Some : goal.returns-in_ok-push_meant-in-Some
+returns-in_ok-push_meant-in-Some t c =
     on_ok_weaker c.push_all_meant.result
-    (ranges_meant c.args.first c.in_ok-after-in-Some.field-0 c.args.d.now c.args.ranges.now c.in-Some.range.now c.in-Some.rest.now c.args.out.now c.push_meant.new.out c.push_all_meant.new.out
-    c.in-Some.ensures.cases.0 (c.in_ok-after-in-Some.ensures ∙ ap (λ (n : ℕ). c.args.first + n) c.len.ensures) c.in_ok-push_meant-in-Some.ensures)
+    (ranges_meant c.args.first (c.args.first + c.len.result) c.args.d.now c.args.ranges.now c.in-Some.range.now c.in-Some.rest.now c.args.out.now c.push_meant.new.out c.push_all_meant.new.out
+    c.in-Some.ensures.cases.0 (ap (λ (n : ℕ). c.args.first + n) c.len.ensures) c.in_ok-push_meant-in-Some.ensures)
     c.push_all_meant.ensures

@@ -1,4 +1,4 @@
-use Rattle.std.proofs.Common.{◌≡◌, ◌∙◌, List, sym}
+use Rattle.std.proofs.Common.{◌∙◌, List, sym}
 use Rattle.std.proofs.lemmas.List.{at_drop_all}
 use Rattle.sql_ast.specs.declared.tree.Arm.{Arm}
 use Rattle.sql_ast.specs.declared.tree.Choice.{Choice}
@@ -29,11 +29,11 @@ choices-returns t c =
     ∙ sym (at_drop_all (λ (xs : List Choice). choices_onto c.loop-choice.out (spec.choices (columns_of c.args.setting.now) (shapes c.args.s.now) (written.choice_list xs))) c.args.list.now c.loop-choice.choice-index c.loop-choice-test.false)
     ∙ c.loop-choice.invariant
 
-pub froms-returns : goal.froms-returns
-froms-returns t c =
-    froms_whole c.loop-x.out
-    ∙ sym (at_drop_all (λ (xs : List TableRef). froms_onto c.loop-x.out (spec.froms (columns_of c.args.setting.now) (shapes c.args.s.now) (written.table_list xs))) c.args.list.now c.loop-x.x-index c.loop-x-test.false)
-    ∙ c.loop-x.invariant
+pub froms-returns-clause-from : goal.froms-returns-clause-from
+froms-returns-clause-from t c =
+    froms_whole c.loop-x.from
+    ∙ sym (at_drop_all (λ (xs : List TableRef). froms_onto c.loop-x.from (spec.froms (columns_of c.args.setting.now) (shapes c.args.s.now) (written.table_list xs))) c.args.list.now c.loop-x.x-index c.loop-x-test.false)
+    ∙ c.loop-x.invariant.from
 
 pub push_items-loop-item-preserved : goal.push_items-loop-item-preserved
 push_items-loop-item-preserved t c =

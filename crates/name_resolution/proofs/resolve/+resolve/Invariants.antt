@@ -1,8 +1,10 @@
-use Rattle.std.proofs.Common.{◌≡◌, drop}
+use Rattle.std.proofs.Common.{◌≡◌, ◌++◌, drop}
 use Rattle.sql_meaning.specs.ResolvedTrees as tree
 use Rattle.sql_ast.specs.Shown as written
 use Rattle.name_resolution.specs.Onto.{arms_onto, choices_onto, froms_onto, values_onto}
+use Rattle.sql_meaning.specs.Names as named
 use Rattle.name_resolution.specs.Resolved as spec
+use Rattle.name_resolution.specs.Resolved.{bare}
 use Rattle.name_resolution.specs.Shapes.{columns_of, shapes}
 use Rattle.name_resolution.proofs.resolve.+resolve.Given as goal
 
@@ -16,7 +18,10 @@ abbrev pub invariant-choices-loop-choice : goal.invariant-choices-loop-choice
 invariant-choices-loop-choice l = choices_onto l.out (spec.choices (columns_of l.setting) (shapes l.s) (written.choice_list (drop l.choice-index l.list))) ≡ spec.choices (columns_of l.setting) (shapes l.s) (written.choice_list l.list)
 
 abbrev pub invariant-froms-loop-x : goal.invariant-froms-loop-x
-invariant-froms-loop-x l = froms_onto l.out (spec.froms (columns_of l.setting) (shapes l.s) (written.table_list (drop l.x-index l.list))) ≡ spec.froms (columns_of l.setting) (shapes l.s) (written.table_list l.list)
+invariant-froms-loop-x l = record {
+  from : froms_onto l.from (spec.froms (columns_of l.setting) (shapes l.s) (written.table_list (drop l.x-index l.list))) ≡ spec.froms (columns_of l.setting) (shapes l.s) (written.table_list l.list);
+  scope : l.scope ++ named.shape (bare (columns_of l.setting)) (written.table_list (drop l.x-index l.list)) (shapes l.s) ≡ named.shape (bare (columns_of l.setting)) (written.table_list l.list) (shapes l.s);
+}
 
 abbrev pub invariant-push_items-loop-item : goal.invariant-push_items-loop-item
 invariant-push_items-loop-item l = (rest : tree.Values) → values_onto l.out (spec.append (spec.items (columns_of l.setting) (shapes l.s) (written.item_list (drop l.item-index l.items))) rest)

@@ -1,9 +1,12 @@
 use Rattle.std.proofs.Common.{◌≡◌, ◌++◌, drop, map}
 use Rattle.sql_ast.specs.Shown as written
 use Rattle.sql_meaning.specs.ResolvedShown as shown
-use Rattle.name_resolution.specs.Known.{view_over}
-use Rattle.name_resolution.specs.Shapes.{columns_of}
+use Rattle.name_resolution.specs.Known.{view_over, view_range}
+use Rattle.name_resolution.specs.Shapes.{columns_of, shape}
 use Rattle.name_resolution.proofs.views.resolved_views.Given as goal
 
 abbrev pub invariant-loop-view : goal.invariant-loop-view
-invariant-loop-view l = shown.views l.out ++ map (view_over (columns_of l.setting)) (map written.view (drop l.view-index l.views)) ≡ map (view_over (columns_of l.setting)) (map written.view l.views)
+invariant-loop-view l = record {
+  ranges : shape l.ranges.items ++ map (view_range (columns_of l.setting)) (map written.view (drop l.view-index l.views)) ≡ map (view_range (columns_of l.setting)) (map written.view l.views);
+  views : shown.views l.resolved ++ map (view_over (columns_of l.setting)) (map written.view (drop l.view-index l.views)) ≡ map (view_over (columns_of l.setting)) (map written.view l.views);
+}

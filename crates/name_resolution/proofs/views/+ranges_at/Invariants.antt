@@ -1,4 +1,0 @@
-use Rattle.name_resolution.proofs.views.+ranges_at.Given as goal
-
-abbrev pub decreases-ranges_at : goal.decreases-ranges_at
-decreases-ranges_at l = l.depth
