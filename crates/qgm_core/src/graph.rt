@@ -5,6 +5,7 @@ ghost use Rattle.qgm_core.specs.Boxes as spec;
 ghost use Rattle.qgm_core.specs.Edits as edits;
 ghost use Rattle.qgm_core.specs.Free.{free};
 ghost use Rattle.qgm_core.specs.Lists.{EachOnce, times};
+ghost use Rattle.qgm_terms.specs.Depth.{depth_cond, room};
 ghost use Rattle.qgm_terms.specs.Shown.{cond};
 ghost use Rattle.qgm_terms.specs.Substitution.{substituted_cond};
 
@@ -359,6 +360,7 @@ impl Graph {
         requires within { i ≤ length (edits.conds_in (spec.box_of b self.old)) }
         ensures taken { edits.cond_at b (i - 1) self.old.boxes ≡ Some (cond result) }
         ensures graph { self.new ≡ edits.on_box b (edits.without_cond (i - 1)) self.old }
+        ensures depth { depth_cond result ≤ room }
     {
         let k = box_place(&self.nodes, b);
         take_cond(&mut self.nodes[k].parts.conds, i)
@@ -368,6 +370,7 @@ impl Graph {
     fn put_cond(&mut self, b: BoxId, c: Gc)
         requires held { spec.HasBox b self.old }
         requires room { 1 ≤ edits.spare_in (spec.box_of b self.old) }
+        requires depth { depth_cond c ≤ room }
         ensures { self.new ≡ edits.on_box b (edits.with_cond (cond c)) self.old }
     {
         let k = box_place(&self.nodes, b);
@@ -415,13 +418,15 @@ fn take_cond(conds: &mut Conds, i: usize) -> Gc
     requires within { i ≤ length conds.old.items }
     ensures taken { slice_get conds.old.items (i - 1) ≡ Some (cond result) }
     ensures left { conds.new ≡ record conds.old { items = remove conds.old.items (i - 1) } }
+    ensures depth { depth_cond result ≤ room }
 {
     conds.remove(i)
 }
 
 // Adds a condition at the end, where there is room for it.
 fn put_cond(conds: &mut Conds, c: Gc)
-    requires { 1 ≤ conds.old.spare }
+    requires spare { 1 ≤ conds.old.spare }
+    requires depth { depth_cond c ≤ room }
     ensures { conds.new ≡ record { items = conds.old.items ++ cond c ∷ []; spare = conds.old.spare - 1 } }
 {
     conds.push(c);

@@ -66,8 +66,7 @@ fn union(alloc: Global, types: &[SqlType]) -> Result<BoxParts, OutOfMemory> {
 // One condition.
 fn one_condition(alloc: Global, c: Gc) -> Result<Conds, OutOfMemory> {
     let mut conds = Conds::new(alloc);
-    conds.reserve(1)?;
-    conds.push(c);
+    conds.add(c)?;
     Ok(conds)
 }
 
@@ -235,8 +234,7 @@ fn names_that_no_box_owns_are_free(rt: HostRuntime) -> Result<(), Fail> {
     let mut root = select(alloc, 7, 1)?;
     let left = Box::new(alloc, Gx::Col(3, 1))?;
     let right = Box::new(alloc, Gx::Col(7, 2))?;
-    root.conds.reserve(1)?;
-    root.conds.push(Gc::Eq(left, right));
+    root.conds.add(Gc::Eq(left, right))?;
     let graph = Graph::new(alloc, root, Items::new(alloc), Items::new(alloc))?;
     let free = graph.free(alloc, graph.root())?;
     assert_eq!(rt; free.as_slice(), [3, 7].as_slice());
