@@ -1,0 +1,166 @@
+-- M1, M2 and dropping boxes that are not reached keep what rules keep.
+use Rattle.std.proofs.Common.{ℕ, zero, suc, ◌==◌, ◌≡◌, cond, Bool, false, List, [], ◌∷◌, ◌++◌, length, map, get_or, Some, None, refl, sym, subst, ap, ap₂, ◌∙◌, inl, inr}
+use Rattle.std.specs.List.{list_any, flat_map}
+use Rattle.sql_value.specs.declared.cell.Cell.{Cell}
+use Rattle.sql_value.specs.declared.cell.Cell.TheVariants.{Null}
+use Rattle.row_bag.specs.Bags.{Agree, bind, keep, unit}
+use Rattle.row_bag.specs.Order.{cell_of}
+use Rattle.row_bag.specs.Sets.{same_cells}
+use Rattle.row_bag.specs.declared.row.Row.{Row}
+use Rattle.row_bag.specs.declared.tables.Table.{Table}
+use Rattle.row_bag.proofs.Agreement.{alike-same}
+use Rattle.row_bag.proofs.BagLaws.{agreement-laws}
+use Rattle.row_bag.proofs.Tuples.{same_cells-decides}
+use Rattle.row_bag.proofs.Binds.{bind-unit, keep-yes}
+use Rattle.row_bag.proofs.Counts.{agree-from_alike}
+use Rattle.qgm_core.specs.declared.node.Node.{Node}
+use Rattle.qgm_core.specs.declared.owned.OwnedQuant.{OwnedQuant}
+use Rattle.qgm_core.specs.Boxes.{QueryGraph, is_quant, width}
+use Rattle.qgm_core.specs.Lists.{In, first, holds}
+use Rattle.qgm_meaning.specs.Meaning.{bag_in, root_bag, given_by, once_if, over_each, quant_rows, rows_by, rows_found}
+use Rattle.qgm_terms.specs.Terms.{Cond, Term}
+use Rattle.qgm_terms.specs.Wanted.{reads, reads_cond}
+use Rattle.qgm_meaning.specs.Values.{Bag, Environment, all_true, bound, head_cells, row_of}
+use Rattle.qgm_meaning.specs.Widths.{Filled}
+use Rattle.qgm_core.specs.Kinds.{width_by}
+use Rattle.qgm_laws.specs.Graph.{Sound}
+use Rattle.qgm_laws.specs.Keeps.{Keeps}
+use Rattle.qgm_laws.specs.Laws.{KeepsChained}
+use Rattle.qgm_laws.specs.Merge.{Merges, merge_node, merged_in}
+use Rattle.qgm_laws.specs.Drop.{MayDrop, columns_from, dropped, moved}
+use Rattle.qgm_laws.proofs.Compact.{compact-bag, compact-sound}
+use Rattle.qgm_laws.proofs.Edits.{boxes_without, without-one}
+use Rattle.qgm_laws.proofs.Lists.{eq-itself, or-both}
+use Rattle.qgm_laws.proofs.Merge.{merge-bag}
+use Rattle.qgm_laws.proofs.MergeSound.{merge-sound}
+use Rattle.qgm_laws.proofs.Moved.{Copies, moved-bag, moved-sound}
+use Rattle.qgm_laws.proofs.Scope.{unfold-bag}
+use Rattle.qgm_core.specs.Edits.{compact}
+use Rattle.qgm_core.specs.Free.{reached}
+use Rattle.qgm_laws.proofs.Widths.{filled-drop, filled-kept, filled-merge, wide}
+
+pub same-agree : {xs ys : Bag} → xs ≡ ys → Agree same_cells xs ys
+same-agree e = agree-from_alike same_cells (alike-same e)
+
+-- ---- columns
+
+length-columns : (q k w : ℕ) → length (columns_from q k w) ≡ w
+length-columns q k zero = refl
+length-columns q k (suc w) = ap suc (length-columns q (suc k) w)
+
+columns-read : (q p k w : ℕ) → (q == p) ≡ false → list_any (reads p) (columns_from q k w) ≡ false
+columns-read q p k zero f = refl
+columns-read q p k (suc w) f = or-both (q == p) (list_any (reads p) (columns_from q (suc k) w)) f (columns-read q p (suc k) w f)
+
+at-place : (pre : List Cell) (x : Cell) (v : List Cell) → get_or (pre ++ x ∷ v) (length pre) Null ≡ x
+at-place [] x v = refl
+at-place (y ∷ pre) x v = at-place pre x v
+
+append-one : {X : Type 0} (xs : List X) (x : X) (ys : List X) → (xs ++ x ∷ []) ++ ys ≡ xs ++ x ∷ ys
+append-one [] x ys = refl
+append-one (z ∷ xs) x ys = ap (λ t. z ∷ t) (append-one xs x ys)
+
+length-one : {X : Type 0} (xs : List X) (x : X) → length (xs ++ x ∷ []) ≡ suc (length xs)
+length-one [] x = refl
+length-one (z ∷ xs) x = ap suc (length-one xs x)
+
+-- all columns of a row, in order, are the row
+columns-row : (s : ℕ → Bag) (q : ℕ) (e : Environment) (pre v : List Cell) → row_of q e ≡ pre ++ v → head_cells s (columns_from q (suc (length pre)) (length v)) e ≡ v
+columns-row s q e pre [] h = refl
+columns-row s q e pre (x ∷ v) h =
+    ap₂ (λ (c : Cell) (cs : List Cell). c ∷ cs) (ap (cell_of (suc (length pre))) h ∙ at-place pre x v)
+    (ap (λ k. head_cells s (columns_from q (suc k) (length v)) e) (sym (length-one pre x)) ∙ columns-row s q e (pre ++ x ∷ []) v (h ∙ sym (append-one pre x v)))
+
+rows-alike : (f g : Row (List Cell) → Bag) (xs : Bag) → ((x : Row (List Cell)) → In x xs → f x ≡ g x) → flat_map f xs ≡ flat_map g xs
+rows-alike f g [] h = refl
+rows-alike f g (x ∷ xs) h = ap₂ (λ a b. a ++ b) (h x (inl refl)) (rows-alike f g xs (λ y i. h y (inr i)))
+
+-- ---- the rule
+
+module _ (g : QueryGraph) (w : Sound g.boxes g.root) (b c : Node) (r : OwnedQuant) (m : MayDrop g b c r) where
+  copies : Copies g.boxes g.root b c r
+  copies = record {
+    in_b = m.in_b;
+    in_c = m.in_c;
+    a_select = m.a_select;
+    alone = m.alone;
+    is_f = m.is_f;
+    over_c = m.over_c;
+    not_root = m.not_root;
+    reads_own = λ p f. or-both (list_any (reads p) b.parts.head) (list_any (reads_cond p) b.parts.conds.items) (ap (list_any (reads p)) m.all_columns ∙ columns-read r.id p 1 (width c) f) (ap (list_any (reads_cond p)) m.no_conds);
+    widths = ap (λ k. width_by k (length b.parts.head)) m.a_select ∙ ap length m.all_columns ∙ length-columns r.id 1 (width c);
+  }
+
+  same-bag : (tables : List Table) → Filled tables g.boxes → (e : Environment) → bag_in tables g.boxes b.id e ≡ bag_in tables g.boxes c.id e
+  same-bag tables filled e =
+      let f = bag_in tables g.boxes in
+      let s = quant_rows b f in
+      unfold-bag tables g.boxes b w.ordered m.in_b e ∙ ap (λ k. rows_by k tables b s e) m.a_select
+      ∙ ap (λ o. once_if o (over_each b.quants s (given_by s b) e)) m.not_enforced
+      ∙ ap (λ z. over_each z s (given_by s b) e) m.alone
+      ∙ ap (λ (t : Bool). cond t (bind (s r.id e) (λ v. given_by s b (bound r.id v e))) (given_by s b e)) m.is_f
+      ∙ ap (λ rs. bind (rows_found (first (is_quant r.id) rs) f e) (λ v. given_by s b (bound r.id v e))) m.alone
+      ∙ ap (λ (t : Bool). bind (rows_found (cond t (Some r) None) f e) (λ v. given_by s b (bound r.id v e))) (eq-itself r.id)
+      ∙ ap (λ o. bind (f o e) (λ v. given_by s b (bound r.id v e))) m.over_c
+      ∙ ap₂ (λ (conds : List Cond) (head : List Term). bind (f c.id e) (λ v. keep (all_true (λ q. s q (bound r.id v e)) conds (bound r.id v e)).t (unit (head_cells (λ q. s q (bound r.id v e)) head (bound r.id v e))))) m.no_conds m.all_columns
+      ∙ rows-alike (λ x. keep x.level (keep (all_true (λ q. s q (bound r.id x.cells e)) [] (bound r.id x.cells e)).t (unit (head_cells (λ q. s q (bound r.id x.cells e)) (columns_from r.id 1 (width c)) (bound r.id x.cells e))))) (λ x. keep x.level (unit x.cells)) (f c.id e) (λ x i. ap (keep x.level) (
+      keep-yes (unit (head_cells (λ q. s q (bound r.id x.cells e)) (columns_from r.id 1 (width c)) (bound r.id x.cells e)))
+      ∙ ap (λ n. unit (head_cells (λ q. s q (bound r.id x.cells e)) (columns_from r.id 1 n) (bound r.id x.cells e))) (sym (wide g.boxes g.root w tables filled c m.in_c e x i))
+      ∙ ap unit (columns-row (λ q. s q (bound r.id x.cells e)) r.id (bound r.id x.cells e) [] x.cells (ap (λ (t : Bool). cond t x.cells (row_of r.id e)) (eq-itself r.id)))))
+      ∙ bind-unit (f c.id e)
+
+  pub drop-keeps : Keeps g (dropped b c g)
+  drop-keeps =
+      let bs = map (moved b.id c.id) (boxes_without b.id g.boxes) in
+      let n = moved-sound g.boxes g.root w b c r copies in
+      subst (λ (z : List Node). Keeps g (compact (record g { boxes = map (moved b.id c.id) z }))) (without-one b.id g.boxes w.ordered) (record {
+        well = compact-sound bs g.root n;
+        bag = λ tables filled. same-agree (compact-bag bs g.root n tables [] ∙ moved-bag g.boxes g.root w b c r copies tables (same-bag tables filled) []);
+        bases = λ tables filled. filled-kept tables (λ x. holds x (reached (g.root ∷ []) bs)) bs (filled-drop tables b.id c.id g.boxes filled);
+        names = refl;
+        order = refl;
+      })
+
+-- M1
+pub merge-keeps : (g : QueryGraph) → Sound g.boxes g.root → (b c : Node) (us : List OwnedQuant) (rq : OwnedQuant) (vs : List OwnedQuant) → Merges g.boxes b c us rq vs → Keeps g (merged_in b c us rq vs g)
+merge-keeps g w b c us rq vs m =
+    let quants = us ++ (c.quants ++ vs) in
+    let bs = map (merge_node b.id rq.id c quants) (boxes_without c.id g.boxes) in
+    let n = merge-sound g.boxes g.root w b c us rq vs m in
+    subst (λ (z : List Node). Keeps g (compact (record g { boxes = map (merge_node b.id rq.id c quants) z }))) (without-one c.id g.boxes w.ordered) (record {
+      well = compact-sound bs g.root n;
+      bag = λ tables filled. same-agree (compact-bag bs g.root n tables [] ∙ merge-bag tables g.boxes g.root w b c us rq vs m []);
+      bases = λ tables filled. filled-kept tables (λ x. holds x (reached (g.root ∷ []) bs)) bs (filled-merge tables b.id rq.id c quants g.boxes filled);
+      names = refl;
+      order = refl;
+    })
+
+-- boxes that the root doesn't reach
+pub compact-keeps : (g : QueryGraph) → Sound g.boxes g.root → Keeps g (compact g)
+compact-keeps g w = record {
+  well = compact-sound g.boxes g.root w;
+  bag = λ tables filled. same-agree (compact-bag g.boxes g.root w tables []);
+  bases = λ tables filled. filled-kept tables (λ x. holds x (reached (g.root ∷ []) g.boxes)) g.boxes filled;
+  names = refl;
+  order = refl;
+}
+
+-- no step, and one after another
+pub keeps-chained : KeepsChained
+keeps-chained =
+    let laws = agreement-laws same_cells same_cells-decides in record {
+      itself = λ g w. record {
+        well = w;
+        bag = λ tables filled. laws.itself (root_bag tables g);
+        bases = λ tables filled. filled;
+        names = refl;
+        order = refl;
+      };
+      chained = λ f g h k l. record {
+        well = l.well;
+        bag = λ tables filled. laws.chained (root_bag tables h) (root_bag tables g) (root_bag tables f) (l.bag tables (k.bases tables filled)) (k.bag tables filled);
+        bases = λ tables filled. l.bases tables (k.bases tables filled);
+        names = l.names ∙ k.names;
+        order = l.order ∙ k.order;
+      };
+    }

@@ -1,0 +1,6 @@
+//! What rewriting a query graph keeps.
+#![tactic(auto)]
+
+mod laws;
+
+pub use laws::rewriting_laws;
