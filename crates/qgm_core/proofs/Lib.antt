@@ -5,3 +5,4 @@ pub mod Changed
 pub mod Moved
 pub mod Counted
 pub mod Kept
+pub mod Visited

@@ -5,11 +5,13 @@ ghost use Rattle.qgm_core.specs.Boxes as spec;
 ghost use Rattle.qgm_core.specs.Edits as edits;
 ghost use Rattle.qgm_core.specs.Free.{free};
 ghost use Rattle.qgm_core.specs.Lists.{EachOnce, times};
+ghost use Rattle.qgm_core.specs.Walk.{walk};
 ghost use Rattle.qgm_terms.specs.Depth.{depth_cond, room};
 ghost use Rattle.qgm_terms.specs.Shown.{cond};
 ghost use Rattle.qgm_terms.specs.Substitution.{substituted_cond};
 
 use crate::compact::keep_marked;
+use crate::copies::{copy_names, copy_nodes, copy_order};
 use crate::free::{free_in, reached};
 use crate::kinds::{BoxId, BoxKind, Distinct, QuantKind, Role};
 use crate::node::Node;
@@ -18,7 +20,9 @@ use crate::parts::BoxParts;
 use crate::places::{box_place, new_place, owner_place};
 use crate::quants::Quants;
 use crate::uses::uses_in;
+use crate::walks::{by_levels, visit};
 use qgm_terms::{Conds, Gc, Head, QuantId, ROOM, substitute_conds, substitute_head};
+use rewrite_plan::Walk;
 use shared_types::OutOfMemory;
 use sql_value::{OrderKeys, OutNames};
 use std::alloc::Global;
@@ -77,6 +81,23 @@ impl Graph {
             order,
             next_box: 1,
             next_quant: 0,
+        })
+    }
+
+    /// A copy.
+    pub fn copy(&self, alloc: Global) -> Result<Graph, OutOfMemory>
+        ensures { IfOk result (λ g. g ≡ self.now) }
+    {
+        let nodes = copy_nodes(alloc, &self.nodes)?;
+        let names = copy_names(alloc, self.names.as_slice())?;
+        let order = copy_order(alloc, &self.order)?;
+        Ok(Graph {
+            nodes,
+            root: self.root,
+            names,
+            order,
+            next_box: self.next_box,
+            next_quant: self.next_quant,
         })
     }
 
@@ -202,6 +223,21 @@ impl Graph {
     {
         let free = self.free(alloc, b)?;
         Ok(free.is_empty())
+    }
+
+    /// The boxes that the root reaches, each at its first visit: depth first, with the boxes under a
+    /// box in the order of its quantifiers, or level by level.
+    pub fn walk(&self, alloc: Global, w: Walk) -> Result<Vec<BoxId>, OutOfMemory>
+        ensures { IfOk result (λ v. v.items ≡ walk w self.now) }
+    {
+        match w {
+            Walk::Depth => {
+                let mut seen = Vec::new(alloc);
+                visit(&self.nodes, self.root, &mut seen)?;
+                Ok(seen)
+            }
+            Walk::Breadth => by_levels(alloc, &self.nodes, self.root),
+        }
     }
 
     /// Adds a box that owns no quantifier: last, or just below the named one.
@@ -359,8 +395,8 @@ impl Graph {
         requires from_one { 1 ≤ i }
         requires within { i ≤ length (edits.conds_in (spec.box_of b self.old)) }
         ensures taken { edits.cond_at b (i - 1) self.old.boxes ≡ Some (cond result) }
-        ensures graph { self.new ≡ edits.on_box b (edits.without_cond (i - 1)) self.old }
         ensures depth { depth_cond result ≤ room }
+        ensures graph { self.new ≡ edits.on_box b (edits.without_cond (i - 1)) self.old }
     {
         let k = box_place(&self.nodes, b);
         take_cond(&mut self.nodes[k].parts.conds, i)
@@ -417,8 +453,8 @@ fn take_cond(conds: &mut Conds, i: usize) -> Gc
     requires from_one { 1 ≤ i }
     requires within { i ≤ length conds.old.items }
     ensures taken { slice_get conds.old.items (i - 1) ≡ Some (cond result) }
-    ensures left { conds.new ≡ record conds.old { items = remove conds.old.items (i - 1) } }
     ensures depth { depth_cond result ≤ room }
+    ensures left { conds.new ≡ record conds.old { items = remove conds.old.items (i - 1) } }
 {
     conds.remove(i)
 }

@@ -2,6 +2,7 @@
 #![tactic(auto)]
 
 mod compact;
+mod copies;
 mod free;
 mod graph;
 mod kinds;
@@ -11,6 +12,7 @@ mod parts;
 mod places;
 mod quants;
 mod uses;
+mod walks;
 
 pub use free::{add_names_of_node, free_in, is_marked, mark_each};
 pub use graph::Graph;

@@ -1,5 +1,5 @@
 // The quantifiers that a box owns.
-ghost use Rattle.std.specs.Prelude.{◌≡◌, ◌≤◌, [], Some, true, length, map, insert, position, OnOk, OnErr};
+ghost use Rattle.std.specs.Prelude.{◌≡◌, ◌≤◌, [], Some, true, length, map, insert, position, IfOk, OnOk, OnErr};
 ghost use Rattle.std.specs.List.{list_any};
 ghost use Rattle.qgm_core.specs.Boxes.{is_quant};
 ghost use Rattle.qgm_core.specs.Lists.{IsFirst, change, first, without};
@@ -56,6 +56,16 @@ impl Owned {
             ids: Quants::new(alloc),
             ranges: Vec::new(alloc),
         }
+    }
+
+    // A copy.
+    pub(crate) fn copy(&self, alloc: Global) -> Result<Owned, OutOfMemory>
+        ensures { IfOk result (λ o. o ≡ self.now) }
+    {
+        Ok(Owned {
+            ids: self.ids.copy(alloc)?,
+            ranges: Vec::from_slice(alloc, &self.ranges)?,
+        })
     }
 
     /// The numbers of the quantifiers.

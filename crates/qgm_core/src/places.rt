@@ -10,7 +10,7 @@ use crate::owned::has_range;
 use qgm_terms::QuantId;
 
 // Where a box stands, if it does.
-fn find_box(nodes: &[Node], b: BoxId) -> Option<usize>
+pub fn find_box(nodes: &[Node], b: BoxId) -> Option<usize>
     ensures { result ≡ position (is_box b) nodes.now }
 {
     nodes.iter().position(|n| n.id == b)
