@@ -1,5 +1,5 @@
-//! Tests of what only a program that calls the libraries can show: trees of texts, graphs, bags, files that
-//! fail, and a sink that fails. All else that is tested stands in the scripts of `sql_cases`.
+//! Tests of what only a program that calls the libraries can show: trees of texts, bags, files that fail,
+//! and a sink that fails. All else that is tested stands in the scripts of `sql_cases`.
 #![tactic(auto)]
 
 #[cfg(test)]
@@ -8,7 +8,5 @@ mod bags;
 mod faults;
 #[cfg(test)]
 mod files;
-#[cfg(test)]
-mod graphs;
 #[cfg(test)]
 mod trees;
