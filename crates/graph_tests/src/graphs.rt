@@ -1,8 +1,7 @@
 // Graphs, what is asked of them, and the clauses that fail.
 use qgm_check::{Clause, Fault, IllFormed, check_graph};
 use qgm_core::{
-    BaseTable, BoxId, BoxKind, BoxParts, Conds, Distinct, Gc, Graph, Gx, Head, Op, Quant,
-    QuantKind, Role, SetOperator,
+    BaseTable, BoxKind, BoxParts, Conds, Distinct, Gc, Graph, Gx, Head, Op, Quant, QuantKind, Role,
 };
 use qgm_terms::chained;
 use shared_types::{OutOfMemory, Text};
@@ -57,49 +56,12 @@ fn group(alloc: Global, place: usize) -> Result<BoxParts, OutOfMemory> {
     Ok(parts(BoxKind::Group(1), Conds::new(alloc), head))
 }
 
-// The union of two tables of these types.
-fn union(alloc: Global, types: &[SqlType]) -> Result<BoxParts, OutOfMemory> {
-    let kind = BoxKind::SetOp(SetOperator::Union, Items::from_slice(alloc, types)?);
-    Ok(parts(kind, Conds::new(alloc), Head::new(alloc)))
-}
-
-// One condition.
-fn one_condition(alloc: Global, c: Gc) -> Result<Conds, OutOfMemory> {
-    let mut conds = Conds::new(alloc);
-    conds.add(c)?;
-    Ok(conds)
-}
-
-// An outer join, whose one cell is a column of the right table.
-fn outer_join(alloc: Global, place: usize) -> Result<BoxParts, OutOfMemory> {
-    let conds = one_condition(alloc, Gc::True)?;
-    let head = one_column(alloc, 1, place)?;
-    Ok(parts(BoxKind::OuterJoin, conds, head))
-}
-
-// A select whose condition asks for a row of its second quantifier.
-fn exists(alloc: Global) -> Result<BoxParts, OutOfMemory> {
-    let some = Gc::Some(1, Box::new(alloc, Gc::True)?);
-    let conds = one_condition(alloc, some)?;
-    let head = one_column(alloc, 0, 1)?;
-    Ok(parts(BoxKind::Select, conds, head))
-}
-
 // A root over a base.
 fn over_base(alloc: Global, root: BoxParts) -> Result<Graph, OutOfMemory> {
     let mut graph = Graph::new(alloc, root, Items::new(alloc), Items::new(alloc))?;
     let below = graph.add_box(alloc, base(alloc)?, None)?;
     let top = graph.root();
     graph.add_quant(top, 1, QuantKind::F, below)?;
-    Ok(graph)
-}
-
-// A root over two bases, by an F quantifier and one of a kind.
-fn over_two(alloc: Global, root: BoxParts, kind: QuantKind) -> Result<Graph, OutOfMemory> {
-    let mut graph = over_base(alloc, root)?;
-    let second: BoxId = graph.add_box(alloc, base(alloc)?, None)?;
-    let top = graph.root();
-    graph.add_quant(top, 2, kind, second)?;
     Ok(graph)
 }
 
@@ -192,37 +154,6 @@ fn a_group_names_columns_of_its_input(rt: HostRuntime) -> Result<(), Fail> {
     let alloc = rt.alloc();
     for (place, told) in [(1, Ok(())), (3, at_root(Clause::I4))] {
         let graph = over_base(alloc, group(alloc, place)?)?;
-        assert_eq!(rt; check_graph(alloc, &graph), told);
-    }
-    Ok(())
-}
-
-#[test]
-fn a_union_is_of_two_f_quantifiers(rt: HostRuntime) -> Result<(), Fail> {
-    let alloc = rt.alloc();
-    let types = [SqlType::Integer, SqlType::Varchar];
-    for (kind, told) in [(QuantKind::F, Ok(())), (QuantKind::E, at_root(Clause::I9))] {
-        let graph = over_two(alloc, union(alloc, &types)?, kind)?;
-        assert_eq!(rt; check_graph(alloc, &graph), told);
-    }
-    Ok(())
-}
-
-#[test]
-fn an_outer_join_names_columns_of_its_inputs(rt: HostRuntime) -> Result<(), Fail> {
-    let alloc = rt.alloc();
-    for (place, told) in [(2, Ok(())), (3, at_root(Clause::I4))] {
-        let graph = over_two(alloc, outer_join(alloc, place)?, QuantKind::F)?;
-        assert_eq!(rt; check_graph(alloc, &graph), told);
-    }
-    Ok(())
-}
-
-#[test]
-fn a_some_is_of_an_e_quantifier(rt: HostRuntime) -> Result<(), Fail> {
-    let alloc = rt.alloc();
-    for (kind, told) in [(QuantKind::E, Ok(())), (QuantKind::A, at_root(Clause::I9))] {
-        let graph = over_two(alloc, exists(alloc)?, kind)?;
         assert_eq!(rt; check_graph(alloc, &graph), told);
     }
     Ok(())
