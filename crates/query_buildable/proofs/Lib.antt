@@ -1,0 +1,7 @@
+mod Tests
+mod Widths
+mod Plain
+mod Keys
+mod Operators
+mod Fit
+mod Schemas

@@ -1,0 +1,6 @@
+//! A query of the grammar in which the checks find no fault is one that boxes can be made for.
+#![tactic(auto)]
+
+mod laws;
+
+pub use laws::buildable_laws;
