@@ -6,3 +6,4 @@ pub mod Moved
 pub mod Counted
 pub mod Kept
 pub mod Visited
+pub mod Stacked

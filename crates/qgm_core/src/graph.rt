@@ -5,6 +5,8 @@ ghost use Rattle.qgm_core.specs.Boxes as spec;
 ghost use Rattle.qgm_core.specs.Edits as edits;
 ghost use Rattle.qgm_core.specs.Free.{free};
 ghost use Rattle.qgm_core.specs.Lists.{EachOnce, times};
+ghost use Rattle.qgm_core.specs.Made.{boxes_of, graph_of};
+ghost use Rattle.qgm_core.specs.Numbered.{Under};
 ghost use Rattle.qgm_core.specs.Walk.{walk};
 ghost use Rattle.qgm_terms.specs.Depth.{depth_cond, room};
 ghost use Rattle.qgm_terms.specs.Shown.{cond};
@@ -14,6 +16,7 @@ use crate::compact::keep_marked;
 use crate::copies::{copy_names, copy_nodes, copy_order};
 use crate::free::{free_in, reached};
 use crate::kinds::{BoxId, BoxKind, Distinct, QuantKind, Role};
+use crate::made::{NewBox, numbered};
 use crate::node::Node;
 use crate::owned::{Owned, OwnedQuant, Quant, range_of};
 use crate::parts::BoxParts;
@@ -81,6 +84,32 @@ impl Graph {
             order,
             next_box: 1,
             next_quant: 0,
+        })
+    }
+
+    /// The graph of boxes that were made in turn: the first has number 0, and each has a higher rank
+    /// than those before it. All quantifiers have numbers of their own below `next_quant`.
+    pub fn of_boxes(
+        alloc: Global,
+        made: Vec<NewBox>,
+        root: BoxId,
+        names: OutNames,
+        order: OrderKeys,
+        next_quant: QuantId,
+    ) -> Result<Graph, OutOfMemory>
+        requires once { EachOnce (spec.ids_in (boxes_of made.items)) }
+        requires under { Under next_quant (spec.ids_in (boxes_of made.items)) }
+        ensures { IfOk result (λ g. g ≡ graph_of made.items root names order) }
+    {
+        let next_box = made.len();
+        let nodes = numbered(alloc, made)?;
+        Ok(Graph {
+            nodes,
+            root,
+            names,
+            order,
+            next_box,
+            next_quant,
         })
     }
 

@@ -1,5 +1,5 @@
 // The quantifiers that a box owns.
-ghost use Rattle.std.specs.Prelude.{◌≡◌, ◌≤◌, [], Some, true, length, map, insert, position, IfOk, OnOk, OnErr};
+ghost use Rattle.std.specs.Prelude.{◌≡◌, ◌≤◌, ◌++◌, ◌∷◌, [], Some, true, length, map, insert, position, IfOk, OnOk, OnErr};
 ghost use Rattle.std.specs.List.{list_any};
 ghost use Rattle.qgm_core.specs.Boxes.{is_quant};
 ghost use Rattle.qgm_core.specs.Lists.{IsFirst, change, first, without};
@@ -48,8 +48,8 @@ impl Model for Owned {
 }
 
 impl Owned {
-    // No quantifier.
-    pub(crate) fn new(alloc: Global) -> Owned
+    /// No quantifier.
+    pub fn new(alloc: Global) -> Owned
         ensures { result ≡ [] }
     {
         Owned {
@@ -80,6 +80,17 @@ impl Owned {
         ensures { result.now ≡ self.now }
     {
         &self.ranges
+    }
+
+    /// Adds a quantifier at the end.
+    pub fn push(&mut self, r: OwnedQuant) -> Result<(), OutOfMemory>
+        ensures ok { OnOk result (self.new ≡ self.old ++ r ∷ []) }
+        ensures err { OnErr result (self.new ≡ self.old) }
+    {
+        self.ranges.reserve(1)?;
+        self.ids.push(r.id)?;
+        let _ = self.ranges.push(r);
+        Ok(())
     }
 
     // Puts a quantifier at a place, from 0.

@@ -1,5 +1,5 @@
 // The numbers of a box's quantifiers.
-ghost use Rattle.std.specs.Prelude.{◌≡◌, ◌<◌, ◌≤◌, [], length, insert, IfOk, OnOk, OnErr};
+ghost use Rattle.std.specs.Prelude.{◌≡◌, ◌<◌, ◌≤◌, ◌++◌, ◌∷◌, [], length, insert, IfOk, OnOk, OnErr};
 ghost use Rattle.std.specs.List.{remove};
 
 use qgm_terms::QuantId;
@@ -44,6 +44,15 @@ impl Quants {
         ensures { result.now ≡ self.now }
     {
         &self.ids
+    }
+
+    // Adds a quantifier at the end.
+    pub(crate) fn push(&mut self, q: QuantId) -> Result<(), OutOfMemory>
+        ensures ok { OnOk result (self.new ≡ self.old ++ q ∷ []) }
+        ensures err { OnErr result (self.new ≡ self.old) }
+    {
+        self.ids.push(q)?;
+        Ok(())
     }
 
     // Puts a quantifier at a place, from 0.
