@@ -7,3 +7,4 @@ pub mod Counted
 pub mod Kept
 pub mod Visited
 pub mod Stacked
+pub mod Requanted

@@ -17,6 +17,7 @@ use crate::copies::{copy_names, copy_nodes, copy_order};
 use crate::free::{free_in, reached};
 use crate::kinds::{BoxId, BoxKind, Distinct, QuantKind, Role};
 use crate::made::{NewBox, numbered};
+use crate::moves::{move_below, move_quant};
 use crate::node::Node;
 use crate::owned::{Owned, OwnedQuant, Quant, range_of};
 use crate::parts::BoxParts;
@@ -385,6 +386,19 @@ impl Graph {
         self.nodes[k].quants.remove(q);
     }
 
+    /// Moves a quantifier to a box, at a place, from 1, among those that the box then owns beside it.
+    pub fn move_quant(&mut self, q: QuantId, owner: BoxId, place: usize) -> Result<(), OutOfMemory>
+        requires quant { spec.HasQuant q self.old }
+        requires owner { spec.HasBox owner self.old }
+        requires from_one { 1 ≤ place }
+        requires within { place ≤ length (spec.quants_of owner (edits.drop_quant q self.old)) + 1 }
+        ensures ok { OnOk result (self.new ≡ edits.move_quant q owner (place - 1) self.old) }
+        ensures err { OnErr result (self.new ≡ self.old) }
+    {
+        move_quant(&mut self.nodes, q, owner, place - 1)?;
+        Ok(())
+    }
+
     /// Sets what a quantifier ranges for. It takes no memory.
     pub fn put_quant(&mut self, q: QuantId, kind: QuantKind)
         requires { spec.HasQuant q self.old }
@@ -462,19 +476,6 @@ impl Graph {
         parts.conds = conds;
         Ok(())
     }
-}
-
-// Moves a box just below another one.
-fn move_below(nodes: &mut Vec<Node>, c: BoxId, d: BoxId)
-    requires moved { spec.has_box nodes.old.items c ≡ true }
-    requires below { spec.has_box nodes.old.items d ≡ true }
-    requires apart { (c == d) ≡ false }
-    ensures { nodes.new.items ≡ edits.moved_below c d nodes.old.items }
-{
-    let i = box_place(nodes, c);
-    let node = nodes.remove(i);
-    let k = box_place(nodes, d);
-    let _ = nodes.insert(k + 1, node);
 }
 
 // Takes a condition out, by its place from 1.

@@ -7,6 +7,7 @@ mod free;
 mod graph;
 mod kinds;
 mod made;
+mod moves;
 mod node;
 mod owned;
 mod parts;

@@ -1,8 +1,8 @@
 // The quantifiers that a box owns.
-ghost use Rattle.std.specs.Prelude.{◌≡◌, ◌≤◌, ◌++◌, ◌∷◌, [], Some, true, length, map, insert, position, IfOk, OnOk, OnErr};
+ghost use Rattle.std.specs.Prelude.{◌≡◌, ◌<◌, ◌≤◌, ◌++◌, ◌∷◌, [], Some, true, length, map, insert, position, IfOk, OnOk, OnErr};
 ghost use Rattle.std.specs.List.{list_any};
 ghost use Rattle.qgm_core.specs.Boxes.{is_quant};
-ghost use Rattle.qgm_core.specs.Lists.{IsFirst, change, first, without};
+ghost use Rattle.qgm_core.specs.Lists.{IsFirst, change, first, moved_to, without};
 
 use crate::kinds::{BoxId, QuantKind};
 use crate::quants::Quants;
@@ -113,6 +113,18 @@ impl Owned {
         let i = range_place(&self.ranges, q);
         self.ids.remove(i);
         let _dropped = self.ranges.remove(i);
+    }
+
+    // Moves a quantifier to a place, from 0, among the others. It takes no memory.
+    pub(crate) fn move_to(&mut self, q: QuantId, j: usize)
+        requires held { list_any (is_quant q) self.old ≡ true }
+        requires within { j < length self.old }
+        ensures { self.new ≡ moved_to (is_quant q) j self.old }
+    {
+        let i = range_place(&self.ranges, q);
+        self.ids.move_to(i, j);
+        let range = self.ranges.remove(i);
+        let _ = self.ranges.insert(j, range);
     }
 
     // What a quantifier ranges for is this now. It takes no memory.
