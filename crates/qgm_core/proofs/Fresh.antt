@@ -1,9 +1,9 @@
 -- Numbers that no box and no quantifier has, and numbers under edits.
-use Rattle.std.proofs.Common.{◌≡◌, ℕ, zero, suc, ◌==◌, ◌<◌, ◌≤◌, ◌+◌, ◌++◌, ◌||◌, Bool, true, false, List, [], ◌∷◌, cond, map, arith, insert, length, refl, sym, ◌∙◌, ap, subst, take, drop, add-zero, get_or}
+use Rattle.std.proofs.Common.{◌≡◌, ℕ, zero, suc, ◌==◌, ◌<◌, ◌≤◌, ◌+◌, ◌++◌, ◌||◌, Bool, true, false, List, [], ◌∷◌, cond, map, arith, insert, length, refl, sym, ◌∙◌, ap, subst, add-zero, get_or}
 use Rattle.std.proofs.Math.ListN.{set}
 use Rattle.std.specs.Prelude.{IsOk, is_ok, Ok, Err, if◌then◌else◌}
 use Rattle.std.specs.declared.result.Result.{Result}
-use Rattle.std.specs.List.{list_any, flat_map, remove, take-map, drop-map}
+use Rattle.std.specs.List.{list_any, remove, take-map, drop-map}
 use Rattle.std.proofs.lemmas.Bool.{ne_eqb}
 use Rattle.std.proofs.lemmas.List.{map-append, length-append}
 use Rattle.qgm_core.specs.Boxes.{is_box, is_quant, owns, ids_in, ids_of, numbers}

@@ -8,3 +8,4 @@ pub mod Kept
 pub mod Visited
 pub mod Stacked
 pub mod Requanted
+pub mod Shifts

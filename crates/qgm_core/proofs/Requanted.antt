@@ -1,5 +1,5 @@
 -- Boxes, one of whose quantifiers goes to another place.
-use Rattle.std.proofs.Common.{◌≡◌, ◌≢◌, ℕ, zero, suc, ◌==◌, ◌<◌, ◌≤◌, ◌+◌, ◌++◌, ◌||◌, cond, Bool, true, false, List, [], ◌∷◌, Option, Some, None, length, get_or, insert, position, nat_lt, refl, sym, ◌∙◌, ap, subst, arith, map, inl, inr}
+use Rattle.std.proofs.Common.{◌≡◌, ◌≢◌, ℕ, zero, suc, ◌<◌, ◌+◌, ◌++◌, ◌||◌, cond, Bool, true, false, List, [], ◌∷◌, Option, Some, None, length, get_or, position, nat_lt, refl, sym, ◌∙◌, ap, subst, arith, map, inl, inr}
 use Rattle.std.proofs.Math.ListN.{set}
 use Rattle.std.specs.List.{list_any, position_or_len}
 use Rattle.std.proofs.lemmas.Bool.{cases_Bool}
@@ -57,7 +57,7 @@ one-fewer p (x ∷ xs) h =
 
 -- ---- a quantifier
 
-module _ (q b i : ℕ) (xs : List Node) (k j : ℕ) (d : Node) (own : IsFirst (owns q) xs k) (at : position (is_box b) xs ≡ Some j) where
+module _ (q b : ℕ) (xs : List Node) (k j : ℕ) (d : Node) (own : IsFirst (owns q) xs k) (at : position (is_box b) xs ≡ Some j) where
   abbrev was : Node
   was = get_or xs k d
 
@@ -78,23 +78,23 @@ module _ (q b i : ℕ) (xs : List Node) (k j : ℕ) (d : Node) (own : IsFirst (o
   there_other : k ≢ j → get_or out j d ≡ get_or xs j d
   there_other n = get_or-set_other xs k j (without_quant q was) d (λ e. n (sym e))
 
-  abbrev Within : Type 0
-  Within = i ≤ length (quants_in (first (is_box b) (change (owns q) (without_quant q) xs)))
+  abbrev left : List OwnedQuant
+  left = quants_in (first (is_box b) (change (owns q) (without_quant q) xs))
 
-  reach : Within → i ≤ length (get_or out j d).quants
-  reach w = subst (λ (o : Option Node). i ≤ length (quants_in o)) (ap (λ (ns : List Node). first (is_box b) ns) taken_out ∙ first_out.1 d) w
+  left_is : left ≡ (get_or out j d).quants
+  left_is = ap (λ (o : Option Node). quants_in o) (ap (λ (ns : List Node). first (is_box b) ns) taken_out ∙ first_out.1 d)
 
-  pub within-same : k ≡ j → Within → i < length was.quants
-  within-same e w =
-      let l = subst (λ (n : Node). i ≤ length n.quants) (there_same e) (reach w) in
+  pub places-same : k ≡ j → length was.quants ≡ length left + 1
+  places-same e =
+      let l : length left ≡ length (without (is_quant q) was.quants) = ap length (left_is ∙ ap (λ (n : Node). n.quants) (there_same e)) in
       let m = one-fewer (is_quant q) was.quants (own.2 d) in
       omega (arith, l, m)
 
-  pub within-other : k ≢ j → Within → i ≤ length (get_or xs j d).quants
-  within-other n w = subst (λ (n : Node). i ≤ length n.quants) (there_other n) (reach w)
+  pub places-other : k ≢ j → length (get_or xs j d).quants ≡ length left
+  places-other n = sym (ap length (left_is ∙ ap (λ (n : Node). n.quants) (there_other n)))
 
   -- the quantifier is found, and goes in at box b
-  module _ (r : OwnedQuant) (found : first (is_quant q) was.quants ≡ Some r) where
+  module _ (i : ℕ) (r : OwnedQuant) (found : first (is_quant q) was.quants ≡ Some r) where
     unfolded : quant_moved q b i xs ≡ change (is_box b) (put_range i r) out
     unfolded =
         ap (λ (o : Option OwnedQuant). put_range_found b i o (change (owns q) (without_quant q) xs)) (ap (λ (n : Option Node). range_in q n) (own.1 d) ∙ found)

@@ -1,5 +1,5 @@
 -- Boxes that are made in turn, and their numbers.
-use Rattle.std.proofs.Common.{◌≡◌, ℕ, zero, suc, ◌==◌, ◌<◌, ◌≤◌, ◌+◌, ◌++◌, cond, Bool, true, false, List, [], ◌∷◌, arith, length, refl, sym, ◌∙◌, ap, subst, inl, inr, eqb-true}
+use Rattle.std.proofs.Common.{◌≡◌, ℕ, zero, suc, ◌==◌, ◌≤◌, ◌+◌, ◌++◌, cond, Bool, true, false, List, [], ◌∷◌, arith, length, refl, sym, ◌∙◌, ap, subst, inl, inr, eqb-true}
 use Rattle.std.proofs.lemmas.Bool.{cases_Bool, eqb-false}
 use Rattle.std.proofs.lemmas.List.{append_assoc}
 use Rattle.qgm_core.specs.Boxes.{ids_in, numbers}

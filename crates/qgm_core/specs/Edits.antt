@@ -1,6 +1,6 @@
 -- What each edit makes of a graph: one function of the list of its boxes. Root, names and order stay.
 use Rattle.std.specs.Prelude.{ℕ, ◌==◌, ◌-◌, ◌++◌, max, List, [], ◌∷◌, Option, Some, None, map, insert, filter, slice_get}
-use Rattle.std.specs.List.{list_any, remove, flat_map}
+use Rattle.std.specs.List.{remove, flat_map}
 use Rattle.qgm_core.specs.Boxes.{QueryGraph, is_box, is_quant, owns, put_at, range_in}
 use Rattle.qgm_core.specs.Free.{reached}
 use Rattle.qgm_core.specs.Lists.{first, change, without, put_below, each, holds}
@@ -10,7 +10,6 @@ use Rattle.qgm_core.specs.declared.kinds.QuantKind.{QuantKind}
 use Rattle.qgm_core.specs.declared.kinds.Role.{Role}
 use Rattle.qgm_core.specs.declared.node.Node.{Node}
 use Rattle.qgm_core.specs.declared.owned.OwnedQuant.{OwnedQuant}
-use Rattle.qgm_core.specs.declared.parts.BoxParts.{BoxParts}
 use Rattle.qgm_terms.specs.Conjuncts.{Conjuncts}
 use Rattle.qgm_terms.specs.Shift.{shifted, shifted_cond}
 use Rattle.qgm_terms.specs.Substitution.{substituted, substituted_cond}

@@ -1,5 +1,5 @@
 -- What is found in lists, and lists with one element changed.
-use Rattle.std.specs.Prelude.{ℕ, zero, suc, ◌≡◌, ◌==◌, ◌<◌, ◌≤◌, ◌+◌, ◌++◌, if◌then◌else◌, Bool, true, false, List, [], ◌∷◌, Option, Some, None, length, insert, slice_set, slice_index_or, ⊤, ◌⊎◌}
+use Rattle.std.specs.Prelude.{ℕ, zero, suc, ◌≡◌, ◌==◌, ◌<◌, ◌+◌, if◌then◌else◌, Bool, true, false, List, [], ◌∷◌, Option, Some, None, length, insert, slice_set, slice_index_or, ⊤, ◌⊎◌}
 use Rattle.std.specs.List.{list_any, remove}
 
 -- x stands here

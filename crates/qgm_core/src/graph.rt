@@ -17,12 +17,13 @@ use crate::copies::{copy_names, copy_nodes, copy_order};
 use crate::free::{free_in, reached};
 use crate::kinds::{BoxId, BoxKind, Distinct, QuantKind, Role};
 use crate::made::{NewBox, numbered};
-use crate::moves::{move_below, move_quant};
+use crate::moves::{move_below, move_quant, places_for};
 use crate::node::Node;
 use crate::owned::{Owned, OwnedQuant, Quant, range_of};
 use crate::parts::BoxParts;
 use crate::places::{box_place, new_place, owner_place};
 use crate::quants::Quants;
+use crate::shifted::shift_over;
 use crate::uses::uses_in;
 use crate::walks::{by_levels, visit};
 use qgm_terms::{Conds, Gc, Head, QuantId, ROOM, substitute_conds, substitute_head};
@@ -228,6 +229,16 @@ impl Graph {
             kind: range.kind,
             over: range.over,
         }
+    }
+
+    /// At how many places a box can own a quantifier: one more than it owns beside it. It takes no
+    /// memory.
+    pub fn places_for(&self, q: QuantId, b: BoxId) -> usize
+        requires quant { spec.HasQuant q self.now }
+        requires held { spec.HasBox b self.now }
+        ensures { result ≡ length (spec.quants_of b (edits.drop_quant q self.now)) + 1 }
+    {
+        places_for(&self.nodes, q, b)
     }
 
     /// How many quantifiers range over a box. It takes no memory.
@@ -454,6 +465,19 @@ impl Graph {
     {
         let k = box_place(&self.nodes, b);
         put_cond(&mut self.nodes[k].parts.conds, c);
+    }
+
+    /// Drops a column of a box's head, by its place from 1. Names of later columns of the quantifiers
+    /// over the box go down by one. It takes no memory.
+    pub fn drop_column(&mut self, b: BoxId, k: usize)
+        requires held { spec.HasBox b self.old }
+        requires from_one { 1 ≤ k }
+        requires within { k ≤ length (edits.head_in (spec.box_of b self.old)) }
+        ensures { self.new ≡ edits.drop_column b k self.old }
+    {
+        let i = box_place(&self.nodes, b);
+        self.nodes[i].parts.head.remove(k);
+        shift_over(&mut self.nodes, b, k);
     }
 
     /// Puts cells in place of a quantifier's columns, in a box's own cells and conditions.

@@ -13,6 +13,7 @@ mod owned;
 mod parts;
 mod places;
 mod quants;
+mod shifted;
 mod uses;
 mod walks;
 

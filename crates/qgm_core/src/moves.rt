@@ -1,5 +1,5 @@
 // Boxes and quantifiers that go to another place.
-ghost use Rattle.std.specs.Prelude.{◌≡◌, ◌≤◌, ◌==◌, OnOk, OnErr, length, true, false};
+ghost use Rattle.std.specs.Prelude.{◌≡◌, ◌≤◌, ◌+◌, ◌==◌, OnOk, OnErr, length, true, false};
 ghost use Rattle.std.specs.List.{list_any};
 ghost use Rattle.qgm_core.specs.Boxes.{has_box, is_box, owns, quants_in};
 ghost use Rattle.qgm_core.specs.Edits.{moved_below, quant_moved, without_quant};
@@ -23,6 +23,18 @@ pub fn move_below(nodes: &mut Vec<Node>, c: BoxId, d: BoxId)
     let node = nodes.remove(i);
     let k = box_place(nodes, d);
     let _ = nodes.insert(k + 1, node);
+}
+
+// At how many places a box can own a quantifier.
+pub fn places_for(nodes: &[Node], q: QuantId, b: BoxId) -> usize
+    requires quant { list_any (owns q) nodes.now ≡ true }
+    requires owner { has_box nodes.now b ≡ true }
+    ensures { result ≡ length (quants_in (first (is_box b) (change (owns q) (without_quant q) nodes.now))) + 1 }
+{
+    let from = owner_place(nodes, q);
+    let to = box_place(nodes, b);
+    let owned = nodes[to].quants.as_slice().len();
+    if from == to { owned } else { owned + 1 }
 }
 
 // Moves a quantifier to a place, from 0, of a box.

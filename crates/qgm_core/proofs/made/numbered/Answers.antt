@@ -1,4 +1,4 @@
-use Rattle.std.proofs.Common.{◌≡◌, ℕ, length, arith}
+use Rattle.std.proofs.Common.{◌≡◌, length, arith}
 use Rattle.qgm_core.specs.Made.{boxes_of}
 use Rattle.qgm_core.proofs.Stacked.{made-more}
 use Rattle.qgm_core.proofs.made.numbered.Goals as goal
