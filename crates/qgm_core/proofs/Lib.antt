@@ -9,3 +9,4 @@ pub mod Visited
 pub mod Stacked
 pub mod Requanted
 pub mod Shifts
+pub mod Held

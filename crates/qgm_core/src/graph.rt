@@ -1,9 +1,10 @@
 // The graph: its boxes in one list, each with the quantifiers that it owns.
-ghost use Rattle.std.specs.Prelude.{◌≡◌, ◌≤◌, ◌+◌, ◌-◌, ◌++◌, ◌∷◌, [], OnOk, OnErr, IfOk, IfSome, length, map, position, slice_get, Some, option_map, max, true, false, ◌==◌, IsTrue, ◌↔◌};
+ghost use Rattle.std.specs.Prelude.{ℕ, ◌≡◌, ◌≤◌, ◌+◌, ◌-◌, ◌++◌, ◌∷◌, [], OnOk, OnErr, IfOk, IfSome, length, map, position, slice_get, Some, option_map, max, true, false, ◌==◌, IsTrue, ◌↔◌};
 ghost use Rattle.std.specs.List.{remove};
 ghost use Rattle.qgm_core.specs.Boxes as spec;
 ghost use Rattle.qgm_core.specs.Edits as edits;
 ghost use Rattle.qgm_core.specs.Free.{free};
+ghost use Rattle.qgm_core.specs.Held.{HasAll};
 ghost use Rattle.qgm_core.specs.Lists.{EachOnce, times};
 ghost use Rattle.qgm_core.specs.Made.{boxes_of, graph_of};
 ghost use Rattle.qgm_core.specs.Numbered.{Under};
@@ -71,7 +72,8 @@ impl Graph {
         names: OutNames,
         order: OrderKeys,
     ) -> Result<Graph, OutOfMemory>
-        ensures { IfOk result (λ g. g ≡ spec.graph_of_one g.root root names order) }
+        ensures graph { IfOk result (λ g. g ≡ spec.graph_of_one g.root root names order) }
+        ensures held { IfOk result (λ g. spec.HasBox g.root g) }
     {
         let mut nodes = Vec::new(alloc);
         nodes.push(Node {
@@ -292,6 +294,8 @@ impl Graph {
         ensures fresh { IfOk result (λ b. spec.HasBox b self.old → ⊥) }
         ensures ok { IfOk result (λ b. self.new ≡ edits.with_box below (spec.bare_box b parts) self.old) }
         ensures err { OnErr result (self.new ≡ self.old) }
+        ensures held { IfOk result (λ b. spec.HasBox b self.new) }
+        ensures kept { HasAll self.old self.new }
     {
         let id = self.next_box;
         if id == usize::MAX {
@@ -319,6 +323,8 @@ impl Graph {
         ensures fresh { IfOk result (λ q. spec.HasQuant q self.old → ⊥) }
         ensures ok { IfOk result (λ q. self.new ≡ edits.with_quant owner (place - 1) (edits.range q kind over) self.old) }
         ensures err { OnErr result (self.new ≡ self.old) }
+        ensures held { IfOk result (λ q. spec.HasQuant q self.new) }
+        ensures kept { HasAll self.old self.new }
     {
         let id = self.next_quant;
         if id == usize::MAX {
@@ -336,6 +342,7 @@ impl Graph {
     pub fn compact(&mut self, alloc: Global) -> Result<(), OutOfMemory>
         ensures ok { OnOk result (self.new ≡ edits.compact self.old) }
         ensures err { OnErr result (self.new ≡ self.old) }
+        ensures root { spec.HasBox self.old.root self.old → spec.HasBox self.new.root self.new }
     {
         let marks = reached(alloc, &self.nodes, self.root)?;
         keep_marked(&mut self.nodes, &marks);
@@ -347,7 +354,8 @@ impl Graph {
         requires moved { spec.HasBox c self.old }
         requires below { spec.HasBox d self.old }
         requires apart { (c == d) ≡ false }
-        ensures { self.new ≡ edits.move_below c d self.old }
+        ensures graph { self.new ≡ edits.move_below c d self.old }
+        ensures kept { HasAll self.old self.new }
     {
         move_below(&mut self.nodes, c, d);
     }
@@ -355,7 +363,8 @@ impl Graph {
     /// Gives a box another kind, role, conditions and head. It takes no memory.
     pub fn put_box(&mut self, b: BoxId, kind: BoxKind, role: Role, conds: Conds, head: Head)
         requires { spec.HasBox b self.old }
-        ensures { self.new ≡ edits.put_box b kind role conds head self.old }
+        ensures graph { self.new ≡ edits.put_box b kind role conds head self.old }
+        ensures kept { HasAll self.old self.new }
     {
         let k = box_place(&self.nodes, b);
         let distinct = self.nodes[k].parts.distinct;
@@ -371,7 +380,8 @@ impl Graph {
     /// Sets whether a box gives rows more than once. It takes no memory.
     pub fn set_distinct(&mut self, b: BoxId, distinct: Distinct)
         requires { spec.HasBox b self.old }
-        ensures { self.new ≡ edits.set_distinct b distinct self.old }
+        ensures graph { self.new ≡ edits.set_distinct b distinct self.old }
+        ensures kept { HasAll self.old self.new }
     {
         let k = box_place(&self.nodes, b);
         self.nodes[k].parts.distinct = distinct;
@@ -382,6 +392,7 @@ impl Graph {
         requires { spec.HasBox b self.old }
         ensures ok { OnOk result (self.new ≡ edits.reserve b n self.old) }
         ensures err { OnErr result (self.new ≡ self.old) }
+        ensures kept { HasAll self.old self.new }
     {
         let k = box_place(&self.nodes, b);
         make_room(&mut self.nodes[k].parts.conds, n)?;
@@ -391,7 +402,9 @@ impl Graph {
     /// Drops a quantifier. It takes no memory.
     pub fn drop_quant(&mut self, q: QuantId)
         requires { spec.HasQuant q self.old }
-        ensures { self.new ≡ edits.drop_quant q self.old }
+        ensures graph { self.new ≡ edits.drop_quant q self.old }
+        ensures boxes { (b : ℕ) → spec.HasBox b self.old → spec.HasBox b self.new }
+        ensures others { (r : ℕ) → (r == q) ≡ false → spec.HasQuant r self.old → spec.HasQuant r self.new }
     {
         let k = owner_place(&self.nodes, q);
         self.nodes[k].quants.remove(q);
@@ -405,6 +418,7 @@ impl Graph {
         requires within { place ≤ length (spec.quants_of owner (edits.drop_quant q self.old)) + 1 }
         ensures ok { OnOk result (self.new ≡ edits.move_quant q owner (place - 1) self.old) }
         ensures err { OnErr result (self.new ≡ self.old) }
+        ensures kept { HasAll self.old self.new }
     {
         move_quant(&mut self.nodes, q, owner, place - 1)?;
         Ok(())
@@ -413,7 +427,8 @@ impl Graph {
     /// Sets what a quantifier ranges for. It takes no memory.
     pub fn put_quant(&mut self, q: QuantId, kind: QuantKind)
         requires { spec.HasQuant q self.old }
-        ensures { self.new ≡ edits.put_quant q kind self.old }
+        ensures graph { self.new ≡ edits.put_quant q kind self.old }
+        ensures kept { HasAll self.old self.new }
     {
         let k = owner_place(&self.nodes, q);
         self.nodes[k].quants.put_kind(q, kind);
@@ -423,7 +438,8 @@ impl Graph {
     pub fn redirect(&mut self, q: QuantId, over: BoxId)
         requires quant { spec.HasQuant q self.old }
         requires over { spec.HasBox over self.old }
-        ensures { self.new ≡ edits.redirect q over self.old }
+        ensures graph { self.new ≡ edits.redirect q over self.old }
+        ensures kept { HasAll self.old self.new }
     {
         let k = owner_place(&self.nodes, q);
         self.nodes[k].quants.put_over(q, over);
@@ -437,7 +453,8 @@ impl Graph {
         requires from_one { 1 ≤ i }
         requires within { i ≤ length (edits.conds_in (spec.box_of b self.old)) }
         requires room { 1 ≤ edits.spare_in (spec.box_of to self.old) }
-        ensures { self.new ≡ edits.move_conjunct b (i - 1) to self.old }
+        ensures graph { self.new ≡ edits.move_conjunct b (i - 1) to self.old }
+        ensures kept { HasAll self.old self.new }
     {
         let c = self.take_cond(b, i);
         self.put_cond(to, c);
@@ -473,7 +490,8 @@ impl Graph {
         requires held { spec.HasBox b self.old }
         requires from_one { 1 ≤ k }
         requires within { k ≤ length (edits.head_in (spec.box_of b self.old)) }
-        ensures { self.new ≡ edits.drop_column b k self.old }
+        ensures graph { self.new ≡ edits.drop_column b k self.old }
+        ensures kept { HasAll self.old self.new }
     {
         let i = box_place(&self.nodes, b);
         self.nodes[i].parts.head.remove(k);
@@ -491,6 +509,7 @@ impl Graph {
         requires { spec.HasBox b self.old }
         ensures ok { OnOk result (self.new ≡ edits.substitute b q cells.now self.old) }
         ensures err { OnErr result (self.new ≡ self.old) }
+        ensures kept { HasAll self.old self.new }
     {
         let k = box_place(&self.nodes, b);
         let head = substitute_head(alloc, &self.nodes[k].parts.head, q, cells, ROOM)?;
