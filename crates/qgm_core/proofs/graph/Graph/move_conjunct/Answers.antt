@@ -1,4 +1,4 @@
-use Rattle.std.proofs.Common.{◌-◌, ◌≤◌, ℕ, ◌∙◌, ap, sym, refl, subst, rules}
+use Rattle.std.proofs.Common.{◌-◌, ◌≤◌, ℕ, ◌∙◌, ap, sym, refl, subst}
 use Rattle.qgm_core.specs.Boxes.{QueryGraph, has_box, is_box}
 use Rattle.qgm_core.specs.Edits.{spare_in, without_cond, with_cond}
 use Rattle.qgm_core.specs.Lists.{first, change}
