@@ -92,7 +92,8 @@ impl Graph {
     }
 
     /// The graph of boxes that were made in turn: the first has number 0, and each has a higher rank
-    /// than those before it. All quantifiers have numbers of their own below `next_quant`.
+    /// than those before it. All quantifiers have numbers of their own below `next_quant`. It fails
+    /// where there is no memory.
     pub fn of_boxes(
         alloc: Global,
         made: Vec<NewBox>,
@@ -411,6 +412,7 @@ impl Graph {
     }
 
     /// Moves a quantifier to a box, at a place, from 1, among those that the box then owns beside it.
+    /// It fails where there is no memory.
     pub fn move_quant(&mut self, q: QuantId, owner: BoxId, place: usize) -> Result<(), OutOfMemory>
         requires quant { spec.HasQuant q self.old }
         requires owner { spec.HasBox owner self.old }
