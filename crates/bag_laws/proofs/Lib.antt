@@ -1,0 +1,9 @@
+pub mod Deciding
+pub mod Filtering
+pub mod Images
+pub mod Keying
+pub mod Leading
+pub mod Setting
+pub mod Some
+pub mod Standing
+pub mod Tagging
