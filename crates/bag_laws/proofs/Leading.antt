@@ -77,7 +77,7 @@ left : (xs ys : Tuple) → drop (length xs) (xs ++ ys) ≡ ys
 left [] ys = refl
 left (x ∷ xs) ys = left xs ys
 
-whole : (w : ℕ) (xs : Tuple) → take w xs ++ drop w xs ≡ xs
+pub whole : (w : ℕ) (xs : Tuple) → take w xs ++ drop w xs ≡ xs
 whole w xs = take-append-drop w xs
 
 -- two tests of what is the same in the end
@@ -111,7 +111,7 @@ split-apart w a b = same-test (same_parts (split w a) (split w b)) (same_cells a
     (λ e. sym (whole w a) ∙ ap join e ∙ whole w b)
     (λ e. ap (split w) e)
 
-led-bind : {X : Type 0} (tags : Rows) (f : Tuple → Rows) (g : Tuple → List (Row X)) → bind (led tags f) g ≡ bind tags (λ u. bind (f u) (λ t. g (u ++ t)))
+pub led-bind : {X : Type 0} (tags : Rows) (f : Tuple → Rows) (g : Tuple → List (Row X)) → bind (led tags f) g ≡ bind tags (λ u. bind (f u) (λ t. g (u ++ t)))
 led-bind tags f g =
     bind-bind tags (λ u. bind (f u) (λ t. unit (u ++ t))) g
     ∙ ap (bind tags) (fun_ext (λ u. bind-bind (f u) (λ t. unit (u ++ t)) g ∙ ap (bind (f u)) (fun_ext (λ t. unit-bind (u ++ t) g))))
@@ -130,13 +130,13 @@ module _ (w : ℕ) (tags : Rows) (f : Tuple → Rows) (key : Tuple → Tuple) (m
   whole_key c = take w c ++ key (drop w c)
 
   -- what is given under a tag that stands there
-  under : {X : Type 0} (f g : Tuple → List (Row X)) → ((u : Tuple) → length u ≡ w → stands same_cells u tags ≡ true → Alike (f u) (g u)) → Alike (bind tags_once f) (bind tags_once g)
+  pub under : {X : Type 0} (f g : Tuple → List (Row X)) → ((u : Tuple) → length u ≡ w → stands same_cells u tags ≡ true → Alike (f u) (g u)) → Alike (bind tags_once f) (bind tags_once g)
   under f g h = bind-standing same_cells same_cells-decides tags_once f g (λ u s. let t = stands-once same_cells same_cells-decides u tags s in h u (long u t) t)
 
-  take-lead : (u t : Tuple) → length u ≡ w → take w (u ++ t) ≡ u
+  pub take-lead : (u t : Tuple) → length u ≡ w → take w (u ++ t) ≡ u
   take-lead u t l = ap (λ n. take n (u ++ t)) (sym l) ∙ taken u t
 
-  drop-lead : (u t : Tuple) → length u ≡ w → drop w (u ++ t) ≡ t
+  pub drop-lead : (u t : Tuple) → length u ≡ w → drop w (u ++ t) ≡ t
   drop-lead u t l = ap (λ n. drop n (u ++ t)) (sym l) ∙ left u t
 
   key-lead : (u t : Tuple) → length u ≡ w → whole_key (u ++ t) ≡ u ++ key t
@@ -193,7 +193,7 @@ module _ (w : ℕ) (tags : Rows) (f : Tuple → Rows) (key : Tuple → Tuple) (m
   whole_made : Tuple → Rows → Tuple
   whole_made k rows = take w k ++ made (drop w k) (bind rows (λ c. unit (drop w c)))
 
-  grouped-led : Alike (grouped same_cells whole_key (λ k rows. take w k ++ made (drop w k) (bind rows (λ cells. unit (drop w cells)))) (led tags_once f)) (led tags_once (λ u. grouped same_cells key made (f u)))
+  pub grouped-led : Alike (grouped same_cells whole_key (λ k rows. take w k ++ made (drop w k) (bind rows (λ cells. unit (drop w cells)))) (led tags_once f)) (led tags_once (λ u. grouped same_cells key made (f u)))
   grouped-led =
       alike-trans (alike-bind once-led (λ k. alike-refl (unit (row_of k))))
       (alike-trans (alike-same (led-bind tags_once (λ u. once same_cells (keys u)) (λ k. unit (row_of k))))

@@ -3,6 +3,7 @@ pub mod Filtering
 pub mod Images
 pub mod Keying
 pub mod Leading
+pub mod LeadingWhole
 pub mod Setting
 pub mod Some
 pub mod Standing

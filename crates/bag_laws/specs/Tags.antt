@@ -1,8 +1,9 @@
 -- Rows under tags.
-use Rattle.std.specs.Prelude.{◌≡◌, ◌++◌, ◌&&◌, if◌then◌else◌, ℕ, Bool, true, List, take, drop, length}
+use Rattle.std.specs.Prelude.{◌≡◌, ◌++◌, ◌&&◌, if◌then◌else◌, ℕ, Bool, true, List, [], take, drop, length}
 use Rattle.sql_value.specs.declared.cell.Cell.{Cell}
 use Rattle.sql_value.specs.declared.level.Level.TheVariants.{No, Yes}
 use Rattle.row_bag.specs.Bags.{Agree, Alike, bind, keep, unit}
+use Rattle.row_bag.specs.Joins.{or_else}
 use Rattle.row_bag.specs.Sets.{grouped, once, same_cells}
 use Rattle.row_bag.specs.declared.row.Row.{Row}
 use Rattle.bag_laws.specs.AsSets.{stands}
@@ -47,3 +48,16 @@ LedGroups =
     → Agree same_cells
     (grouped same_cells (λ cells. take w cells ++ key (drop w cells)) (λ k rows. take w k ++ made (drop w k) (bind rows (λ cells. unit (drop w cells)))) (led (once same_cells tags) f))
     (led (once same_cells tags) (λ tag. grouped same_cells key made (f tag)))
+
+-- one row of each tag, also of one without rows: of the groups by tags alone that of the same tag, or where there is none what is made of nothing
+abbrev pub LedWhole : Type 0
+LedWhole =
+    (w : ℕ) (tags : List (Row (List Cell))) (f : List Cell → List (Row (List Cell))) (made : List (Row (List Cell)) → List Cell)
+    → ((tag : List Cell) → stands same_cells tag tags ≡ true → length tag ≡ w)
+    → ((xs ys : List (Row (List Cell))) → Agree same_cells xs ys → made xs ≡ made ys)
+    → Agree same_cells
+    (bind (once same_cells tags) (λ tag.
+    or_else
+    (bind (grouped same_cells (take w) (λ k rows. k ++ made (bind rows (λ cells. unit (drop w cells)))) (led (once same_cells tags) f)) (λ cells. keep (if same_cells (take w cells) tag then Yes else No) (unit (tag ++ drop w cells))))
+    (unit (tag ++ made []))))
+    (led (once same_cells tags) (λ tag. unit (made (f tag))))

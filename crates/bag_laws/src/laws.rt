@@ -5,7 +5,7 @@ ghost use Rattle.row_bag.specs.Sets.{same_cells};
 ghost use Rattle.bag_laws.specs.AsSets.{GreatestLevels, QuantifiedSets, SetAgreement};
 ghost use Rattle.bag_laws.specs.Filters.{FilterLaws};
 ghost use Rattle.bag_laws.specs.Keys.{KeyLaws};
-ghost use Rattle.bag_laws.specs.Tags.{LedGroups, TagLaws};
+ghost use Rattle.bag_laws.specs.Tags.{LedGroups, LedWhole, TagLaws};
 
 /// Bags that agree as sets, what goes by the greatest levels of tuples alone, and conditions of some
 /// row or of every one. It does nothing.
@@ -29,4 +29,5 @@ pub fn filter_laws()
 pub fn tag_laws()
     ensures tags { TagLaws (List Cell) (List Cell) (List Cell) (List Cell) same_cells same_cells }
     ensures led { LedGroups }
+    ensures led_whole { LedWhole }
 {}

@@ -18,3 +18,4 @@ pub mod Filters
 pub mod Tags
 pub mod Quantifiers
 pub mod Widths
+pub mod Satisfies

@@ -7,10 +7,11 @@ ghost use Rattle.qgm_meaning.specs.Merging.{GivenMerged};
 ghost use Rattle.qgm_meaning.specs.Filters.{GroupsPass, OuterPasses, SetsPass};
 ghost use Rattle.qgm_meaning.specs.Keys.{DistinctGoes};
 ghost use Rattle.qgm_meaning.specs.Quantifiers.{Combinations, Moves, MovesBefore, MovesBehind};
-ghost use Rattle.qgm_meaning.specs.Tags.{GroupsTagged};
+ghost use Rattle.qgm_meaning.specs.Satisfies.{OfSatisfying};
+ghost use Rattle.qgm_meaning.specs.Tags.{GroupTagged, GroupsTagged};
 ghost use Rattle.qgm_meaning.specs.Uses.{Keyed};
 ghost use Rattle.qgm_meaning.specs.Widths.{WideBoxes};
-ghost use Rattle.qgm_meaning.specs.Laws.{Framed, Looked, LooseUnfold, Only, OnlyAgree, Put, PutBelow, PutCond, Replaced, Unfold};
+ghost use Rattle.qgm_meaning.specs.Laws.{Closed, Framed, Looked, LooseUnfold, Only, OnlyAgree, Put, PutBelow, PutCond, Replaced, Unfold};
 
 /// The laws that rewriting a graph stands on: what a box gives over the bags of the whole graph, that
 /// these bags are the only ones, exactly and up to agreement, what a box looks up in its environment,
@@ -20,6 +21,7 @@ pub fn graph_laws()
     ensures only { Only }
     ensures only_agree { OnlyAgree }
     ensures framed { Framed }
+    ensures closed { Closed }
     ensures looked { Looked }
     ensures put { Put }
     ensures put_cond { PutCond }
@@ -76,4 +78,10 @@ pub fn passing_laws()
     ensures groups_pass { GroupsPass }
     ensures outer_passes { OuterPasses }
     ensures groups_tagged { GroupsTagged }
+    ensures group_tagged { GroupTagged }
+{}
+
+/// What follows where tables satisfy the bases of a graph. It does nothing.
+pub fn table_laws()
+    ensures satisfying { OfSatisfying }
 {}

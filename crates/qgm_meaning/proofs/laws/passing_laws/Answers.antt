@@ -2,7 +2,7 @@ use Rattle.row_bag.specs.Sets.{same_cells}
 use Rattle.row_bag.proofs.Counts.{agree-from_alike}
 use Rattle.qgm_meaning.proofs.Filters.{groups-pass, outer-passes, sets-pass}
 use Rattle.qgm_meaning.proofs.Keys.{distinct-goes}
-use Rattle.qgm_meaning.proofs.Tags.{groups-tagged}
+use Rattle.qgm_meaning.proofs.Tags.{group-tagged, groups-tagged}
 use Rattle.qgm_meaning.proofs.laws.passing_laws.Goals as goal
 
 pub returns-clause-distinct_goes : goal.returns-clause-distinct_goes
@@ -19,3 +19,6 @@ returns-clause-outer_passes c = outer-passes
 
 pub returns-clause-groups_tagged : goal.returns-clause-groups_tagged
 returns-clause-groups_tagged c = groups-tagged
+
+pub returns-clause-group_tagged : goal.returns-clause-group_tagged
+returns-clause-group_tagged c = group-tagged
