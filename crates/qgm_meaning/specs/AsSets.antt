@@ -1,13 +1,13 @@
 -- Boxes whose rows agree as sets: PERMIT boxes, which E and A quantifiers alone range over.
-use Rattle.std.specs.Prelude.{ℕ, ◌≡◌, ◌==◌, ◌&&◌, Bool, true, false, List, [], ◌∷◌, Option, Some, None, ⊤}
+use Rattle.std.specs.Prelude.{ℕ, ◌≡◌, ◌==◌, ◌&&◌, not, Bool, true, false, List, [], ◌∷◌, Option, Some, None, ⊤}
 use Rattle.std.specs.List.{list_any}
 use Rattle.bag_laws.specs.AsSets.{AgreeAsSets}
 use Rattle.row_bag.specs.Bags.{Agree}
 use Rattle.row_bag.specs.Sets.{same_cells}
 use Rattle.row_bag.specs.declared.tables.Table.{Table}
 use Rattle.qgm_core.specs.Boxes.{QueryGraph, Ordered, all_over, box_of, has_box, is_quant}
-use Rattle.qgm_core.specs.Kinds.{is_F}
-use Rattle.qgm_core.specs.Lists.{first}
+use Rattle.qgm_core.specs.Kinds.{is_F, is_F_or_S, is_S, is_select}
+use Rattle.qgm_core.specs.Lists.{In, first}
 use Rattle.qgm_core.specs.declared.kinds.BoxKind.{BoxKind}
 use Rattle.qgm_core.specs.declared.kinds.BoxKind.TheVariants.{Base, Select, Group, SetOp, OuterJoin}
 use Rattle.qgm_core.specs.declared.node.Node.{Node}
@@ -84,3 +84,22 @@ ReplacedAsSet =
     → AllReadSets (λ x. x == b) g.boxes → ReadsSets (λ x. x == b) m → AllStay passes (bag tables g) g.boxes → Stays passes (quant_rows m (bag tables g)) m.quants
     → ((env : Environment) → passes env ≡ true → AgreeAsSets same_cells (rows_of tables m (bag tables g) env) (rows_of tables n (bag tables g) env))
     → (x : ℕ) → has_box g.boxes x ≡ true → (env : Environment) → passes env ≡ true → AgreeAs (x == b) (bag tables (replace b m g) x env) (bag tables g x env)
+
+-- ---- what a well-formed graph keeps
+
+-- a quantifier that is found is an S quantifier
+abbrev pub is_S_found : Option OwnedQuant → Bool
+is_S_found None = false
+is_S_found (Some r) = is_S r.kind
+
+-- a box whose F and S quantifiers range over no box that passes (so it is of PERMIT boxes), whose quantifiers have different numbers, which reads the scalar of S quantifiers of its own alone, and which has F quantifiers alone if it is no select
+pub record SeesNoSet (sets : ℕ → Bool) (n : Node) : Type 0 where
+  pub unseen : (r : OwnedQuant) → In r n.quants → is_F_or_S r.kind ≡ true → sets r.over ≡ false
+  pub once : (r : OwnedQuant) → In r n.quants → first (is_quant r.id) n.quants ≡ Some r
+  pub cells : list_any (scalar_in (λ q. not (is_S_found (first (is_quant q) n.quants)))) n.parts.head ≡ false
+  pub conditions : list_any (scalar_in_cond (λ q. not (is_S_found (first (is_quant q) n.quants)))) n.parts.conds.items ≡ false
+  pub others : is_select n.parts.kind ≡ false → (r : OwnedQuant) → In r n.quants → is_F r.kind ≡ true
+
+-- it reads the rows of these boxes by some and every alone
+abbrev pub ReadsWhatItSees : Type 0
+ReadsWhatItSees = (sets : ℕ → Bool) (n : Node) → SeesNoSet sets n → ReadsSets sets n

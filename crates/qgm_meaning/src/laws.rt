@@ -1,5 +1,5 @@
 // The laws of boxes, as theorems.
-ghost use Rattle.qgm_meaning.specs.AsSets.{OnlyAgreeAs, ReplacedAsSet};
+ghost use Rattle.qgm_meaning.specs.AsSets.{OnlyAgreeAs, ReadsWhatItSees, ReplacedAsSet};
 ghost use Rattle.qgm_meaning.specs.Examples.{Computed, Counted, Looses};
 ghost use Rattle.qgm_meaning.specs.Fits.{Hereditary};
 ghost use Rattle.qgm_meaning.specs.Rules.{ExistsJoins, Joins, Passes, ScalarJoins};
@@ -59,6 +59,7 @@ pub fn row_laws()
 pub fn set_laws()
     ensures only_agree { OnlyAgreeAs }
     ensures replaced { ReplacedAsSet }
+    ensures reads { ReadsWhatItSees }
 {}
 
 /// The quantifiers of a select: bound one after the other, in another order, fused with those of the box
