@@ -19,3 +19,4 @@ pub mod Tags
 pub mod Quantifiers
 pub mod Widths
 pub mod Satisfies
+pub mod WordExamples

@@ -9,6 +9,7 @@ ghost use Rattle.qgm_meaning.specs.Keys.{DistinctGoes};
 ghost use Rattle.qgm_meaning.specs.Quantifiers.{Combinations, Moves, MovesBefore, MovesBehind};
 ghost use Rattle.qgm_meaning.specs.Satisfies.{OfSatisfying};
 ghost use Rattle.qgm_meaning.specs.Tags.{GroupTagged, GroupsTagged};
+ghost use Rattle.qgm_meaning.specs.WordExamples.{Words};
 ghost use Rattle.qgm_meaning.specs.Uses.{Keyed};
 ghost use Rattle.qgm_meaning.specs.Widths.{WideBoxes};
 ghost use Rattle.qgm_meaning.specs.Laws.{Closed, Framed, Looked, LooseUnfold, Only, OnlyAgree, Put, PutBelow, PutCond, Replaced, Unfold};
@@ -37,6 +38,7 @@ pub fn examples()
     ensures computed { Computed }
     ensures looses { Looses }
     ensures counted { Counted }
+    ensures words { Words }
 {}
 
 /// What rules of different classes stand on: EXISTS under DISTINCT as a join, a scalar of one clean row
