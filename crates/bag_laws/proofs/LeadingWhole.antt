@@ -16,7 +16,7 @@ use Rattle.row_bag.proofs.Levels.{level_is_no}
 use Rattle.row_bag.proofs.SetLaws.{count-once, if_there-at}
 use Rattle.row_bag.proofs.Tuples.{same_cells-decides}
 use Rattle.bag_laws.specs.AsSets.{stands}
-use Rattle.bag_laws.specs.Tags.{LedWhole, led}
+use Rattle.bag_laws.specs.Tags.{LedBack, LedWhole, led}
 use Rattle.bag_laws.proofs.Images.{multiplicity-image}
 use Rattle.bag_laws.proofs.Leading.{drop-lead, grouped-led, led-bind, take-lead, under, whole}
 use Rattle.bag_laws.proofs.Standing.{stands-some}
@@ -154,3 +154,14 @@ module _ (w : ℕ) (tags : Rows) (f : Tuple → Rows) (made : Rows → Tuple) (l
 
 pub led-whole_groups : LedWhole
 led-whole_groups = λ w tags f made long kept. agree-from_alike same_cells (led-whole w tags f made long kept)
+
+-- ---- the rows of a tag
+
+pub led-back : LedBack
+led-back = λ w tags f tag long s. agree-from_alike same_cells
+    (alike-trans (alike-same (led-bind (once same_cells tags) f (λ cells. keep (cond (same_cells (take w cells) tag) Yes No) (unit cells))))
+    (alike-trans (under w tags f (λ c. []) (λ k group. k) long (λ k xs ys h. refl)
+    (λ v. bind (f v) (λ c. keep (cond (same_cells (take w (v ++ c)) tag) Yes No) (unit (v ++ c)))) (λ v. keep (cond (same_cells v tag) Yes No) (bind (f v) (λ c. unit (v ++ c))))
+    (λ v l z. alike-same (ap (bind (f v)) (fun_ext (λ c. ap (λ (x : Tuple). keep (cond (same_cells x tag) Yes No) (unit (v ++ c))) (take-lead w tags f (λ c. []) (λ k group. k) long (λ k xs ys h. refl) v c l)))
+    ∙ sym (bind-keep (cond (same_cells v tag) Yes No) (f v) (λ c. unit (v ++ c))))))
+    (joined-back same_cells same_cells-decides tag (λ v. bind (f v) (λ c. unit (v ++ c))) tags (stands-some same_cells tag tags s))))

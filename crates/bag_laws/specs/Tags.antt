@@ -7,6 +7,7 @@ use Rattle.row_bag.specs.Joins.{or_else}
 use Rattle.row_bag.specs.Sets.{grouped, once, same_cells}
 use Rattle.row_bag.specs.declared.row.Row.{Row}
 use Rattle.bag_laws.specs.AsSets.{stands}
+use Rattle.bag_laws.specs.Filters.{passing}
 
 -- for each tag the rows that f gives of it, each behind the tag
 abbrev pub tagged : {U T : Type 0} → List (Row U) → (U → List (Row T)) → List (Row (U × T))
@@ -39,7 +40,14 @@ pub record TagLaws (U T K V : Type 0) (same : U → U → Bool) (same_key : K �
   -- the join back: of all tags the one that is the same gives its rows
   pub joined_back : (tags : List (Row U)) (f : U → List (Row T)) (u : U) → stands same u tags ≡ true → Alike (bind (once same tags) (λ v. keep (if same v u then Yes else No) (f v))) (f u)
 
--- the same of tags and rows in one tuple, where the tags have w cells
+-- of tags and rows in one tuple, where the tags have w cells: those that begin with a tag are the tag before its rows
+abbrev pub LedBack : Type 0
+LedBack =
+    (w : ℕ) (tags : List (Row (List Cell))) (f : List Cell → List (Row (List Cell))) (tag : List Cell) → ((tag : List Cell) → stands same_cells tag tags ≡ true → length tag ≡ w)
+    → stands same_cells tag tags ≡ true
+    → Agree same_cells (passing (λ cells. if same_cells (take w cells) tag then Yes else No) (led (once same_cells tags) f)) (bind (f tag) (λ cells. unit (tag ++ cells)))
+
+-- and grouped by tag and key they are, under each tag, the groups by key of its rows
 abbrev pub LedGroups : Type 0
 LedGroups =
     (w : ℕ) (tags : List (Row (List Cell))) (f : List Cell → List (Row (List Cell))) (key : List Cell → List Cell) (made : List Cell → List (Row (List Cell)) → List Cell)

@@ -5,7 +5,7 @@ ghost use Rattle.row_bag.specs.Sets.{same_cells};
 ghost use Rattle.bag_laws.specs.AsSets.{GreatestLevels, QuantifiedSets, SetAgreement};
 ghost use Rattle.bag_laws.specs.Filters.{FilterLaws};
 ghost use Rattle.bag_laws.specs.Keys.{KeyLaws};
-ghost use Rattle.bag_laws.specs.Tags.{LedGroups, LedWhole, TagLaws};
+ghost use Rattle.bag_laws.specs.Tags.{LedBack, LedGroups, LedWhole, TagLaws};
 
 /// Bags that agree as sets, what goes by the greatest levels of tuples alone, and conditions of some
 /// row or of every one. It does nothing.
@@ -28,6 +28,7 @@ pub fn filter_laws()
 /// Rows under tags: their groups, tag by tag, and the join back. It does nothing.
 pub fn tag_laws()
     ensures tags { TagLaws (List Cell) (List Cell) (List Cell) (List Cell) same_cells same_cells }
+    ensures led_back { LedBack }
     ensures led { LedGroups }
     ensures led_whole { LedWhole }
 {}

@@ -49,7 +49,7 @@ stored name = Base (record { name = name; types = Integer ∷ Integer ∷ []; ke
 abbrev pub f : ℕ → ℕ → OwnedQuant
 f q b = record { id = q; kind = F; over = b }
 
-abbrev e : ℕ → ℕ → OwnedQuant
+abbrev pub e : ℕ → ℕ → OwnedQuant
 e q b = record { id = q; kind = E; over = b }
 
 abbrev s : ℕ → ℕ → OwnedQuant

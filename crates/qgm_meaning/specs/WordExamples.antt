@@ -1,12 +1,12 @@
 -- What the words of laws come to on small bags.
-use Rattle.std.specs.Prelude.{◌≡◌, ◌++◌, ℕ, true, false, List, [], ◌∷◌, pos, if◌then◌else◌, take, drop}
-use Rattle.bag_laws.specs.AsSets.{is_clean, stands}
+use Rattle.std.specs.Prelude.{◌≡◌, ◌==◌, ◌++◌, ℕ, true, false, List, [], ◌∷◌, pos, if◌then◌else◌, take, drop}
+use Rattle.bag_laws.specs.AsSets.{AgreeAsSets, is_clean, stands}
 use Rattle.bag_laws.specs.Filters.{passing}
 use Rattle.bag_laws.specs.Keys.{cells_at}
 use Rattle.bag_laws.specs.Tags.{led}
 use Rattle.row_bag.specs.Bags.{bind, keep, row, unit}
 use Rattle.row_bag.specs.Joins.{or_else}
-use Rattle.row_bag.specs.Sets.{grouped, multiplicity, once, same_cells}
+use Rattle.row_bag.specs.Sets.{distinct, grouped, multiplicity, once, same_cells}
 use Rattle.sql_value.specs.declared.cell.Cell.{Cell}
 use Rattle.sql_value.specs.declared.cell.Cell.TheVariants.{Int, Null, Err}
 use Rattle.sql_value.specs.declared.cell.Kind.TheVariants as kind
@@ -15,12 +15,13 @@ use Rattle.sql_value.specs.declared.level.Level.TheVariants.{No, Yes, Division}
 use Rattle.sql_value.specs.declared.order_key.SqlType.TheVariants.{Integer}
 use Rattle.qgm_core.specs.declared.node.Node.{Node}
 use Rattle.qgm_core.specs.declared.kinds.BoxKind.TheVariants.{Select}
-use Rattle.qgm_meaning.specs.Examples.{box, f, n, pairs, rows, t, tables}
+use Rattle.qgm_meaning.specs.AsSets.{AllReadSets, SelectReadsSets}
+use Rattle.qgm_meaning.specs.Examples.{box, e, f, n, pairs, rows, t, tables}
 use Rattle.qgm_meaning.specs.Fits.{fits}
 use Rattle.qgm_meaning.specs.Meaning.{bag_in, fold_cells, groups}
 use Rattle.qgm_meaning.specs.Satisfies.{are_of, have_values}
 use Rattle.qgm_meaning.specs.Values.{Bag}
-use Rattle.qgm_terms.specs.Terms.{Term, col, count_all}
+use Rattle.qgm_terms.specs.Terms.{Term, always, col, count_all, int, some}
 
 -- SELECT the first column of T
 abbrev select_boxes : List Node
@@ -62,3 +63,16 @@ pub record Words : Type 0 where
       (bind (grouped same_cells (take 1) (λ tag members. tag ++ fold_cells 0 (counted ∷ []) 9 [] (bind members (λ cells. unit (drop 1 cells)))) (led (once same_cells two_tags) of_tag)) (λ cells. keep (if same_cells (take 1 cells) tag then Yes else No) (unit (tag ++ drop 1 cells))))
       (unit (tag ++ fold_cells 0 (counted ∷ []) 9 [] [])))
       ≡ rows ((n 1 ∷ n 3 ∷ []) ∷ (n 3 ∷ n 0 ∷ []) ∷ [])
+
+-- EXISTS over box 2, which looks through T
+abbrev pub exists_boxes : List Node
+exists_boxes = box 1 Select (some 1 always ∷ []) (int (pos 9) ∷ []) (e 1 2 ∷ []) ∷ box 2 Select [] (col 3 1 ∷ []) (f 3 3 ∷ []) ∷ t 3 ∷ []
+
+-- premises of laws that a small graph meets
+pub record Met : Type 0 where
+  -- T and T with DISTINCT
+  pub sets : AgreeAsSets same_cells (distinct same_cells pairs) pairs
+  -- the rows of box 2 are read by a some
+  pub reads : AllReadSets (λ b. b == 2) exists_boxes
+  -- those of box 3 are not
+  pub counts : SelectReadsSets (λ b. b == 3) (box 2 Select [] (col 3 1 ∷ []) (f 3 3 ∷ [])) → ⊥

@@ -8,8 +8,8 @@ ghost use Rattle.qgm_meaning.specs.Filters.{GroupsPass, OuterPasses, SetsPass};
 ghost use Rattle.qgm_meaning.specs.Keys.{DistinctGoes};
 ghost use Rattle.qgm_meaning.specs.Quantifiers.{Combinations, Moves, MovesBefore, MovesBehind};
 ghost use Rattle.qgm_meaning.specs.Satisfies.{OfSatisfying};
-ghost use Rattle.qgm_meaning.specs.Tags.{GroupTagged, GroupsTagged};
-ghost use Rattle.qgm_meaning.specs.WordExamples.{Words};
+ghost use Rattle.qgm_meaning.specs.Tags.{FedRows, GroupTagged, GroupsTagged};
+ghost use Rattle.qgm_meaning.specs.WordExamples.{Met, Words};
 ghost use Rattle.qgm_meaning.specs.Uses.{Keyed};
 ghost use Rattle.qgm_meaning.specs.Widths.{WideBoxes};
 ghost use Rattle.qgm_meaning.specs.Laws.{Closed, Framed, Looked, LooseUnfold, Only, OnlyAgree, Put, PutBelow, PutCond, Replaced, Unfold};
@@ -39,6 +39,7 @@ pub fn examples()
     ensures looses { Looses }
     ensures counted { Counted }
     ensures words { Words }
+    ensures met { Met }
 {}
 
 /// What rules of different classes stand on: EXISTS under DISTINCT as a join, a scalar of one clean row
@@ -80,6 +81,7 @@ pub fn passing_laws()
     ensures sets_pass { SetsPass }
     ensures groups_pass { GroupsPass }
     ensures outer_passes { OuterPasses }
+    ensures fed_rows { FedRows }
     ensures groups_tagged { GroupsTagged }
     ensures group_tagged { GroupTagged }
 {}

@@ -1,4 +1,5 @@
 use Rattle.std.proofs.Common.{refl}
+use Rattle.qgm_meaning.proofs.Premises.{exists-reads, pairs-once, rows-counted}
 use Rattle.qgm_meaning.proofs.laws.examples.Goals as goal
 
 pub returns-clause-computed : goal.returns-clause-computed
@@ -27,3 +28,6 @@ returns-clause-words c = record {
   counts = refl;
   joined_back = refl;
 }
+
+pub returns-clause-met : goal.returns-clause-met
+returns-clause-met c = record { sets = pairs-once; reads = exists-reads; counts = rows-counted }

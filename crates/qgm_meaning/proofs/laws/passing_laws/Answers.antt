@@ -1,5 +1,6 @@
 use Rattle.row_bag.specs.Sets.{same_cells}
 use Rattle.row_bag.proofs.Counts.{agree-from_alike}
+use Rattle.qgm_meaning.proofs.Fed.{fed-rows}
 use Rattle.qgm_meaning.proofs.Filters.{groups-pass, outer-passes, sets-pass}
 use Rattle.qgm_meaning.proofs.Keys.{distinct-goes}
 use Rattle.qgm_meaning.proofs.Tags.{group-tagged, groups-tagged}
@@ -22,3 +23,6 @@ returns-clause-groups_tagged c = groups-tagged
 
 pub returns-clause-group_tagged : goal.returns-clause-group_tagged
 returns-clause-group_tagged c = group-tagged
+
+pub returns-clause-fed_rows : goal.returns-clause-fed_rows
+returns-clause-fed_rows c = fed-rows

@@ -1,0 +1,26 @@
+-- A small graph meets the premises of laws.
+use Rattle.std.specs.Prelude.{⊤}
+use Rattle.std.proofs.Common.{ℕ, ◌==◌, ◌≡◌, cond, Bool, true, false, List, [], ◌∷◌, pos, Option, Some, None, refl}
+use Rattle.bag_laws.specs.AsSets.{AgreeAsSets}
+use Rattle.bag_laws.proofs.Setting.{set-agreement}
+use Rattle.row_bag.specs.Sets.{distinct, same_cells}
+use Rattle.row_bag.proofs.Tuples.{same_cells-decides}
+use Rattle.qgm_core.specs.declared.kinds.BoxKind.TheVariants.{Select}
+use Rattle.qgm_core.specs.declared.owned.OwnedQuant.{OwnedQuant}
+use Rattle.qgm_meaning.specs.AsSets.{AllReadSets, SelectReadsSets, over_found}
+use Rattle.qgm_meaning.specs.Examples.{box, e, f, pairs, t}
+use Rattle.qgm_meaning.specs.WordExamples.{exists_boxes}
+use Rattle.qgm_terms.specs.Terms.{always, col, int, some}
+
+pub pairs-once : AgreeAsSets same_cells (distinct same_cells pairs) pairs
+pairs-once = (set-agreement same_cells same_cells-decides).of_distinct pairs refl
+
+pub exists-reads : AllReadSets (λ b. b == 2) exists_boxes
+exists-reads = (record { rows = λ q h. cc h; cells = refl; conditions = refl }, (record { rows = λ q h. over_three (3 == q); cells = refl; conditions = refl }, (tt, tt)))
+  where
+    over_three : (b : Bool) → over_found (λ x. x == 2) (cond b (Some (f 3 3)) None) ≡ false
+    over_three true = refl
+    over_three false = refl
+
+pub rows-counted : SelectReadsSets (λ b. b == 3) (box 2 Select [] (col 3 1 ∷ []) (f 3 3 ∷ [])) → ⊥
+rows-counted h = let z : true ≡ false = h.rows 3 refl in let w : ⊥ = cc in w
