@@ -19,6 +19,7 @@ use Rattle.bag_laws.specs.AsSets.{stands}
 use Rattle.bag_laws.specs.Tags.{LedBack, LedWhole, led}
 use Rattle.bag_laws.proofs.Images.{multiplicity-image}
 use Rattle.bag_laws.proofs.Leading.{drop-lead, grouped-led, led-bind, take-lead, under, whole}
+use Rattle.bag_laws.proofs.OneRow.{none_there}
 use Rattle.bag_laws.proofs.Standing.{stands-some}
 use Rattle.bag_laws.proofs.Tagging.{joined-back}
 
@@ -29,22 +30,6 @@ abbrev Rows : Type 0
 Rows = List (Row Tuple)
 
 -- ---- no row, or some
-
--- where no row is there
-none-there : (rs : Rows) → how_many rs ≡ 0 → Alike rs []
-none-there [] h = alike-refl []
-none-there (r ∷ rs) h = ⊎_elim
-    (λ (t : r.level ≡ No).
-    let z : if_there {M = ℕ} 0 (λ c l. 1) r.cells r.level ≡ 0 = ap (if_there {M = ℕ} 0 (λ c l. 1) r.cells) t in
-    let rest : Alike rs [] = none-there rs (omega (arith, z, h)) in
-    record { sums = λ f. ap (λ (l : Level). if_there 0 f r.cells l + total ◌+◌ 0 f rs) t ∙ zero-plus (total ◌+◌ 0 f rs) ∙ rest.sums f })
-    (λ (n : r.level ≢ No).
-    let o : if_there {M = ℕ} 0 (λ c l. 1) r.cells r.level ≡ 1 = if_there-at {M = ℕ} 0 (λ c l. 1) r.cells r.level n in
-    absurd (omega (arith, o, h)))
-    (level_is_no r.level)
-  where
-    zero-plus : (n : ℕ) → 0 + n ≡ n
-    zero-plus n = omega arith
 
 or_else-alike : {xs ys : Rows} (others : Rows) → Alike xs ys → Alike (or_else xs others) (or_else ys others)
 or_else-alike {xs = xs} {ys = ys} others h = alike-trans (alike-same (ap (λ n. cond (nat_eq n 0) others xs) (h.sums (λ c l. 1)))) (pick (nat_eq (how_many ys) 0))
@@ -149,7 +134,7 @@ module _ (w : ℕ) (tags : Rows) (f : Tuple → Rows) (made : Rows → Tuple) (l
       at : (u : Tuple) → (nat_eq (how_many (f u)) 0 ≡ true) ⊎ (nat_eq (how_many (f u)) 0 ≡ false) → or_else (cond (nat_eq (how_many (f u)) 0) [] (unit (u ++ made (f u)))) (unit (u ++ made [])) ≡ unit (u ++ made (f u))
       at u (inl z) =
           ap (λ b. or_else (cond b [] (unit (u ++ made (f u)))) (unit (u ++ made []))) z
-          ∙ ap (λ (c : Tuple). unit (u ++ c)) (kept [] (f u) (agree-from_alike same_cells (alike-sym (none-there (f u) (eqb-true (how_many (f u)) 0 z)))))
+          ∙ ap (λ (c : Tuple). unit (u ++ c)) (kept [] (f u) (agree-from_alike same_cells (alike-sym (none_there (f u) (eqb-true (how_many (f u)) 0 z)))))
       at u (inr z) = ap (λ b. or_else (cond b [] (unit (u ++ made (f u)))) (unit (u ++ made []))) z
 
 pub led-whole_groups : LedWhole

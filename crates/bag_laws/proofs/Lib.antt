@@ -4,6 +4,7 @@ pub mod Images
 pub mod Keying
 pub mod Leading
 pub mod LeadingWhole
+pub mod OneRow
 pub mod Setting
 pub mod Some
 pub mod Standing

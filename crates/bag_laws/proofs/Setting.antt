@@ -1,14 +1,17 @@
 -- Agreement as sets.
-use Rattle.std.proofs.Common.{◌≡◌, ◌↔◌, Bool, true, false, cond, List, refl, ap, sym, ◌∙◌, Decides}
+use Rattle.std.proofs.Common.{◌≡◌, ◌↔◌, Bool, true, false, cond, List, [], ◌∷◌, refl, ap, sym, ◌∙◌, Decides}
 use Rattle.sql_value.specs.declared.level.Level.{Level}
 use Rattle.sql_value.specs.declared.level.Level.TheVariants.{No, Yes}
-use Rattle.row_bag.specs.Bags.{Alike}
-use Rattle.row_bag.specs.Sets.{SameLevels, distinct, level_in}
+use Rattle.row_bag.specs.Bags.{Alike, row, unit}
+use Rattle.row_bag.specs.Sets.{SameLevels, distinct, level_in, once}
 use Rattle.row_bag.specs.declared.row.Row.{Row}
+use Rattle.row_bag.proofs.Agreement.{alike-same, alike-trans}
+use Rattle.row_bag.proofs.Binds.{bind-unit}
 use Rattle.row_bag.proofs.Counts.{agree-from_alike, alike-from_agree}
 use Rattle.row_bag.proofs.GreatestLevels.{distinct-bind, distinct-levels, levels-append, levels-bind, levels-distinct, levels-from_alike, levels-refl}
 use Rattle.bag_laws.specs.AsSets.{AgreeAsSets, GreatestLevels, SetAgreement, is_clean, stands}
 use Rattle.bag_laws.proofs.Deciding.{clean-alike, clean-distinct, level-clean}
+use Rattle.bag_laws.proofs.Standing.{bind-standing, stands-once}
 
 module _ {T : Type 0} (same : T → T → Bool) where
   pub sets-levels : {xs ys : List (Row T)} → AgreeAsSets same xs ys → SameLevels same xs ys
@@ -48,6 +51,10 @@ module _ {T : Type 0} (same : T → T → Bool) where
       chained = λ xs ys zs h k. sets-trans h k;
       of_distinct = λ xs h. levels-sets (distinct same xs) xs (clean-distinct same xs h) h (levels-distinct same dec xs);
       distinct_agrees = λ xs ys h. agree-from_alike same (distinct-levels same dec (sets-levels h));
+      at_yes = λ xs h. agree-from_alike same (alike-trans
+          (bind-standing same dec (once same xs) (λ c. row c (level_in same c xs) ∷ []) (λ c. unit c)
+          (λ c s. alike-same (ap (λ l. row c l ∷ []) (level-clean same c xs h ∙ ap (λ b. cond b Yes No) (stands-once same dec c xs s)))))
+          (alike-same (bind-unit (once same xs))));
     }
 
     pub greatest-levels : GreatestLevels T same

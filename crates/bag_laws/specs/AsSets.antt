@@ -6,7 +6,7 @@ use Rattle.sql_value.specs.declared.level.Level.{Level}
 use Rattle.sql_value.specs.declared.level.Level.TheVariants.{No, Cardinality, Division, Overflow, Yes}
 use Rattle.sql_value.specs.declared.truth.Truth.{Truth}
 use Rattle.row_bag.specs.Bags.{Agree, bind}
-use Rattle.row_bag.specs.Sets.{SameLevels, distinct, same_cells}
+use Rattle.row_bag.specs.Sets.{SameLevels, distinct, once, same_cells}
 use Rattle.row_bag.specs.Subqueries.{every, some}
 use Rattle.row_bag.specs.Verdict.{is_there}
 use Rattle.row_bag.specs.declared.row.Row.{Row}
@@ -45,6 +45,8 @@ pub record SetAgreement (T : Type 0) (same : T → T → Bool) : Type 0 where
   -- DISTINCT leaves the set, and makes sets that agree bags that agree
   pub of_distinct : (xs : List (Row T)) → is_clean xs ≡ true → AgreeAsSets same (distinct same xs) xs
   pub distinct_agrees : (xs ys : List (Row T)) → AgreeAsSets same xs ys → Agree same (distinct same xs) (distinct same ys)
+  -- and of such a bag it gives each tuple at yes
+  pub at_yes : (xs : List (Row T)) → is_clean xs ≡ true → Agree same (distinct same xs) (once same xs)
 
 -- what goes by the greatest levels of the tuples, error levels too
 pub record GreatestLevels (T : Type 0) (same : T → T → Bool) : Type 0 where

@@ -1,9 +1,10 @@
-// The laws of sets, keys, filters and tags, as theorems.
+// The laws of sets, keys, filters, EXISTS and tags, as theorems.
 ghost use Rattle.std.specs.Prelude.{List};
 ghost use Rattle.sql_value.specs.declared.cell.Cell.{Cell};
 ghost use Rattle.row_bag.specs.Sets.{same_cells};
 ghost use Rattle.bag_laws.specs.AsSets.{GreatestLevels, QuantifiedSets, SetAgreement};
 ghost use Rattle.bag_laws.specs.Filters.{FilterLaws};
+ghost use Rattle.bag_laws.specs.Joins.{ExistsLaws};
 ghost use Rattle.bag_laws.specs.Keys.{KeyLaws};
 ghost use Rattle.bag_laws.specs.Tags.{LedBack, LedGroups, LedWhole, TagLaws};
 
@@ -31,4 +32,9 @@ pub fn tag_laws()
     ensures led_back { LedBack }
     ensures led { LedGroups }
     ensures led_whole { LedWhole }
+{}
+
+/// EXISTS as a join: of greatest levels always, and of bags over at most one row. It does nothing.
+pub fn join_laws()
+    ensures exists { ExistsLaws (List Cell) (List Cell) same_cells }
 {}

@@ -13,6 +13,7 @@ pub mod Examples
 pub mod Rules
 pub mod Merging
 pub mod Uses
+pub mod Exists
 pub mod Keys
 pub mod Filters
 pub mod Tags

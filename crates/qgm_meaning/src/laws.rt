@@ -1,6 +1,7 @@
 // The laws of boxes, as theorems.
 ghost use Rattle.qgm_meaning.specs.AsSets.{OnlyAgreeAs, ReadsWhatItSees, ReplacedAsSet};
 ghost use Rattle.qgm_meaning.specs.Examples.{Computed, Counted, Looses};
+ghost use Rattle.qgm_meaning.specs.Exists.{JoinsLevels, JoinsOfOne};
 ghost use Rattle.qgm_meaning.specs.Fits.{Hereditary};
 ghost use Rattle.qgm_meaning.specs.Rules.{ExistsJoins, Joins, Passes, ScalarJoins};
 ghost use Rattle.qgm_meaning.specs.Merging.{GivenMerged};
@@ -46,6 +47,8 @@ pub fn examples()
 /// as a join, and a filter that goes through a group. It does nothing.
 pub fn rule_laws()
     ensures joins { Joins }
+    ensures joins_levels { JoinsLevels }
+    ensures joins_of_one { JoinsOfOne }
     ensures passes { Passes }
     ensures exists_joins { ExistsJoins }
     ensures scalar_joins { ScalarJoins }
