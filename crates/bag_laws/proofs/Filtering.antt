@@ -1,12 +1,12 @@
 -- A test of tuples before set operations and after them.
-use Rattle.std.proofs.Common.{◌≡◌, ◌≢◌, ℕ, zero, suc, ◌+◌, ◌-◌, ◌≤◌, min, nat_eq, cond, Bool, true, false, ◌&&◌, List, [], ◌∷◌, ◌++◌, refl, ap, ap₂, sym, subst, ◌∙◌, Decides, ◌⊎◌, ⊎_elim, arith, inl, inr, eqb-true}
-use Rattle.std.proofs.lemmas.Bool.{cases_Bool, eq-eqb, eqb-false}
+use Rattle.std.proofs.Common.{◌≡◌, ℕ, zero, suc, ◌+◌, ◌-◌, ◌≤◌, min, nat_eq, cond, Bool, true, false, ◌&&◌, List, [], ◌∷◌, ◌++◌, refl, ap, ap₂, sym, subst, ◌∙◌, Decides, ◌⊎◌, ⊎_elim, arith, inl, inr, eqb-true}
+use Rattle.std.proofs.lemmas.Bool.{cases_Bool, eqb-false}
 use mathlib.Core.Path.{fun_ext}
 use Rattle.sql_value.specs.declared.level.Level.{Level}
 use Rattle.sql_value.specs.declared.level.Level.TheVariants.{No, Cardinality, Division, Overflow, Yes}
 use Rattle.sql_value.specs.Level.{greatest, least}
 use Rattle.row_bag.specs.Bags.{Alike, bind, fold_map, if_there, keep, row, same_level, total, unit}
-use Rattle.row_bag.specs.Sets.{copies, distinct, except, except_all, intersect, intersect_all, level_in, multiplicity, once, union}
+use Rattle.row_bag.specs.Sets.{copies, distinct, level_in, multiplicity, once, union}
 use Rattle.row_bag.specs.declared.row.Row.{Row}
 use Rattle.row_bag.proofs.Agreement.{alike-bind, alike-keep_no, alike-refl, alike-same, alike-sym, alike-trans, sum-monoid}
 use Rattle.row_bag.proofs.Binds.{bind-append, bind-bind, keep-bind, unit-bind}
@@ -14,7 +14,6 @@ use Rattle.row_bag.proofs.Counts.{agree-from_alike, alike-from_agree, count-tota
 use Rattle.row_bag.proofs.GreatestLevels.{distinct-is, least-total, own, total-distinct, total-once}
 use Rattle.row_bag.proofs.Levels.{greatest-monoid, least-commutative, least-no, least-yes, no-least, yes-least}
 use Rattle.row_bag.proofs.SetLaws.{count-once}
-use Rattle.bag_laws.specs.AsSets.{is_decided, stands}
 use Rattle.bag_laws.specs.Filters.{FilterLaws, passing}
 use Rattle.bag_laws.specs.Filters as f
 use Rattle.bag_laws.proofs.Deciding.{decided-either}

@@ -1,5 +1,5 @@
 -- Keys of a bag.
-use Rattle.std.proofs.Common.{◌≡◌, ◌==◌, ℕ, ◌+◌, ◌≤◌, min, nat_eq, cond, Bool, true, false, ◌&&◌, ◌||◌, List, [], ◌∷◌, map, refl, ap, ap₂, sym, subst, ◌∙◌, Decides, arith, inl, inr, eqb-true}
+use Rattle.std.proofs.Common.{◌≡◌, ◌==◌, ℕ, ◌+◌, ◌≤◌, min, nat_eq, cond, Bool, true, false, ◌||◌, List, [], ◌∷◌, map, refl, ap, ap₂, sym, subst, ◌∙◌, Decides, arith, inl, inr, eqb-true}
 use Rattle.std.specs.List.{list_all, list_any}
 use Rattle.std.proofs.lemmas.Bool.{and_parts, cases_Bool}
 use mathlib.Core.Path.{fun_ext}

@@ -1,13 +1,11 @@
 -- Tags before the cells of rows.
-use Rattle.std.proofs.Common.{◌≡◌, ℕ, ◌+◌, nat_eq, cond, Bool, true, false, ◌&&◌, List, [], ◌∷◌, ◌++◌, take, drop, length, refl, ap, ap₂, sym, ◌∙◌, Decides, arith, inl, inr}
-use Rattle.std.proofs.lemmas.Bool.{and_from, and_parts, cases_Bool}
+use Rattle.std.proofs.Common.{◌≡◌, ℕ, ◌+◌, nat_eq, cond, Bool, true, false, ◌&&◌, List, [], ◌∷◌, ◌++◌, take, drop, length, refl, ap, ap₂, sym, ◌∙◌, Decides}
 use Rattle.std.proofs.lemmas.List.{take-append-drop}
 use mathlib.Core.Path.{fun_ext}
 use Rattle.sql_value.specs.declared.cell.Cell.{Cell}
 use Rattle.sql_value.specs.declared.level.Level.{Level}
 use Rattle.sql_value.specs.declared.level.Level.TheVariants.{No, Cardinality, Division, Overflow, Yes}
-use Rattle.sql_value.specs.Level.{least}
-use Rattle.row_bag.specs.Bags.{Agree, Alike, bind, if_there, keep, row, total, unit}
+use Rattle.row_bag.specs.Bags.{Agree, Alike, bind, if_there, total, unit}
 use Rattle.row_bag.specs.Sets.{grouped, multiplicity, of_group, once, same_cells}
 use Rattle.row_bag.specs.declared.row.Row.{Row}
 use Rattle.row_bag.proofs.Agreement.{alike-bind, alike-refl, alike-same, alike-trans}
@@ -17,7 +15,7 @@ use Rattle.row_bag.proofs.Levels.{least-yes}
 use Rattle.row_bag.proofs.SetLaws.{once-alike}
 use Rattle.row_bag.proofs.Tuples.{same_cells-decides}
 use Rattle.bag_laws.specs.AsSets.{stands}
-use Rattle.bag_laws.specs.Tags.{LedGroups, led, same_pair, tagged, untagged}
+use Rattle.bag_laws.specs.Tags.{LedGroups, led, same_pair, tagged}
 use Rattle.bag_laws.proofs.Images.{multiplicity-image}
 use Rattle.bag_laws.proofs.Standing.{bind-standing, stands-once, stands-some}
 use Rattle.bag_laws.proofs.Tagging.{group-tagged, once-tagged, pair-decides, tagged-bind}

@@ -1,5 +1,5 @@
 -- One row of each tag, also of one without rows.
-use Rattle.std.proofs.Common.{◌≡◌, ◌≢◌, ℕ, ◌+◌, ◌&&◌, min, nat_eq, cond, Bool, true, false, List, [], ◌∷◌, ◌++◌, take, drop, length, append-nil, append_assoc, refl, ap, ap₂, sym, subst, ◌∙◌, ◌⊎◌, ⊎_elim, arith, eqb-true, inl, inr}
+use Rattle.std.proofs.Common.{◌≡◌, ◌≢◌, ℕ, ◌+◌, ◌&&◌, min, nat_eq, cond, Bool, true, false, List, [], ◌∷◌, ◌++◌, take, drop, length, append-nil, append_assoc, refl, ap, ap₂, sym, ◌∙◌, ◌⊎◌, ⊎_elim, arith, eqb-true, inl, inr}
 use Rattle.std.proofs.lemmas.Bool.{cases_Bool, eqb-false}
 use mathlib.Core.Path.{fun_ext}
 use Rattle.sql_value.specs.declared.cell.Cell.{Cell}
@@ -7,10 +7,10 @@ use Rattle.sql_value.specs.declared.level.Level.{Level}
 use Rattle.sql_value.specs.declared.level.Level.TheVariants.{No, Yes}
 use Rattle.row_bag.specs.Bags.{Agree, Alike, bind, count, if_there, keep, same_level, total, unit}
 use Rattle.row_bag.specs.Joins.{how_many, or_else}
-use Rattle.row_bag.specs.Sets.{grouped, multiplicity, of_group, once, same_cells}
+use Rattle.row_bag.specs.Sets.{grouped, of_group, once, same_cells}
 use Rattle.row_bag.specs.declared.row.Row.{Row}
 use Rattle.row_bag.proofs.Agreement.{alike-bind, alike-refl, alike-same, alike-sym, alike-trans}
-use Rattle.row_bag.proofs.Binds.{bind-bind, bind-keep, bind-unit, unit-bind}
+use Rattle.row_bag.proofs.Binds.{bind-keep, bind-unit, unit-bind}
 use Rattle.row_bag.proofs.Counts.{agree-from_alike, alike-from_agree}
 use Rattle.row_bag.proofs.Levels.{level_is_no}
 use Rattle.row_bag.proofs.SetLaws.{count-once, if_there-at}

@@ -1,9 +1,9 @@
 -- Bags of at most one row, and EXISTS over them.
-use Rattle.std.proofs.Common.{◌≡◌, ◌≢◌, ℕ, ◌+◌, ◌≤◌, Bool, List, [], ◌∷◌, refl, ap, ap₂, sym, ◌∙◌, Decides, ◌⊎◌, inl, inr, ⊎_elim, arith, append-nil}
+use Rattle.std.proofs.Common.{◌≡◌, ◌≢◌, ℕ, ◌≤◌, Bool, List, [], ◌∷◌, ap, sym, ◌∙◌, Decides, ◌⊎◌, inl, inr, ⊎_elim, arith, append-nil}
 use Rattle.sql_value.specs.declared.level.Level.{Level}
-use Rattle.sql_value.specs.declared.level.Level.TheVariants.{No, Yes}
+use Rattle.sql_value.specs.declared.level.Level.TheVariants.{No}
 use Rattle.sql_value.specs.Level.{least, greatest}
-use Rattle.row_bag.specs.Bags.{Agree, Alike, bind, if_there, keep, row, total, unit}
+use Rattle.row_bag.specs.Bags.{Alike, bind, if_there, keep, row, total}
 use Rattle.row_bag.specs.Joins.{how_many}
 use Rattle.row_bag.specs.declared.row.Row.{Row}
 use Rattle.row_bag.proofs.Agreement.{alike-append, alike-bind, alike-keep_no, alike-refl, alike-same, alike-sym, alike-trans}

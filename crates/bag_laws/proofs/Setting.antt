@@ -1,6 +1,5 @@
 -- Agreement as sets.
-use Rattle.std.proofs.Common.{◌≡◌, ◌↔◌, Bool, true, false, cond, List, [], ◌∷◌, refl, ap, sym, ◌∙◌, Decides}
-use Rattle.sql_value.specs.declared.level.Level.{Level}
+use Rattle.std.proofs.Common.{◌≡◌, Bool, true, false, cond, List, [], ◌∷◌, refl, ap, sym, ◌∙◌, Decides}
 use Rattle.sql_value.specs.declared.level.Level.TheVariants.{No, Yes}
 use Rattle.row_bag.specs.Bags.{Alike, row, unit}
 use Rattle.row_bag.specs.Sets.{SameLevels, distinct, level_in, once}

@@ -1,5 +1,5 @@
 -- A condition of some row, or of every one, goes by the tuples that stand there.
-use Rattle.std.proofs.Common.{◌≡◌, ◌≢◌, Bool, true, false, List, [], ◌∷◌, refl, ap, ap₂, sym, ◌∙◌, ◌⊎◌, inl, inr}
+use Rattle.std.proofs.Common.{◌≡◌, true, false, List, [], ◌∷◌, refl, ap, ap₂, sym, ◌∙◌, ◌⊎◌, inl, inr}
 use Rattle.std.proofs.lemmas.Bool.{and_parts}
 use mathlib.Core.Path.{fun_ext}
 use Rattle.sql_value.specs.Level.{greatest, least}

@@ -1,11 +1,11 @@
 -- Rows under tags.
-use Rattle.std.proofs.Common.{◌≡◌, ◌≢◌, ℕ, ◌+◌, min, Bool, true, false, cond, ◌&&◌, nat_eq, List, [], ◌∷◌, refl, ap, ap₂, sym, ◌∙◌, Decides}
+use Rattle.std.proofs.Common.{◌≡◌, ℕ, ◌+◌, min, Bool, true, false, cond, ◌&&◌, nat_eq, List, [], ◌∷◌, refl, ap, ap₂, sym, ◌∙◌, Decides}
 use Rattle.std.proofs.lemmas.Bool.Decides.{Decides-and, Decides-like}
 use mathlib.Core.Path.{fun_ext}
 use Rattle.sql_value.specs.declared.level.Level.{Level}
 use Rattle.sql_value.specs.declared.level.Level.TheVariants.{No, Cardinality, Division, Overflow, Yes}
 use Rattle.sql_value.specs.Level.{least}
-use Rattle.row_bag.specs.Bags.{Agree, Alike, bind, if_there, keep, same_level, total, unit}
+use Rattle.row_bag.specs.Bags.{Alike, bind, if_there, keep, same_level, total, unit}
 use Rattle.row_bag.specs.Sets.{grouped, multiplicity, of_group, once}
 use Rattle.row_bag.specs.declared.row.Row.{Row}
 use Rattle.row_bag.proofs.Agreement.{alike-bind, alike-keep_no, alike-refl, alike-same, alike-trans, sum-monoid, total-bind, total-keep}
@@ -14,7 +14,6 @@ use Rattle.row_bag.proofs.Counts.{agree-from_alike, alike-from_agree, count-tota
 use Rattle.row_bag.proofs.GreatestLevels.{total-once}
 use Rattle.row_bag.proofs.Levels.{least-no}
 use Rattle.row_bag.proofs.SetLaws.{count-once}
-use Rattle.bag_laws.specs.AsSets.{stands}
 use Rattle.bag_laws.specs.Tags.{TagLaws, same_pair, tagged, untagged}
 use Rattle.bag_laws.proofs.Images.{total-image}
 use Rattle.bag_laws.proofs.Standing.{bind-standing, stands-once, stands-some}

@@ -1,6 +1,5 @@
 -- Rows that pass a test.
-use Rattle.std.specs.Prelude.{◌≡◌, Bool, true, None, List, ◌++◌}
-use Rattle.sql_value.specs.declared.cell.Cell.{Cell}
+use Rattle.std.specs.Prelude.{◌≡◌, Bool, true, List, ◌++◌}
 use Rattle.sql_value.specs.declared.level.Level.{Level}
 use Rattle.row_bag.specs.Bags.{Agree, bind, keep, unit}
 use Rattle.row_bag.specs.Sets.{distinct, except, except_all, intersect, intersect_all, union}

@@ -1,5 +1,5 @@
 -- EXISTS as a join.
-use Rattle.std.specs.Prelude.{ℕ, ◌≤◌, Bool, List}
+use Rattle.std.specs.Prelude.{◌≤◌, Bool, List}
 use Rattle.sql_value.specs.Level.{greatest, least}
 use Rattle.sql_value.specs.declared.level.Level.{Level}
 use Rattle.sql_value.specs.declared.level.Level.TheVariants.{No}

@@ -1,6 +1,6 @@
 -- A box gives the same where what its quantifiers give agrees, as sets where it reads it by some and every alone.
 use Rattle.std.specs.Prelude.{⊤}
-use Rattle.std.proofs.Common.{ℕ, ◌==◌, ◌≡◌, ◌&&◌, ◌||◌, cond, Bool, true, false, List, [], ◌∷◌, Option, Some, None, refl, sym, ap, ap₂, subst, ◌∙◌, eqb-true, ◌⊎◌, inl, inr}
+use Rattle.std.proofs.Common.{ℕ, ◌==◌, ◌≡◌, ◌&&◌, ◌||◌, cond, Bool, true, false, List, [], ◌∷◌, Some, refl, sym, ap, ap₂, subst, ◌∙◌, eqb-true, inl, inr}
 use Rattle.std.specs.List.{list_any}
 use Rattle.std.proofs.lemmas.Bool.{and_parts, cases_Bool, eq-eqb}
 use mathlib.Core.Path.{fun_ext}
@@ -8,11 +8,11 @@ use Rattle.bag_laws.specs.AsSets.{AgreeAsSets}
 use Rattle.bag_laws.proofs.Setting.{sets-from_alike, sets-trans}
 use Rattle.bag_laws.proofs.Deciding.{clean-alike}
 use Rattle.bag_laws.proofs.Some.{every-sets, some-sets}
-use Rattle.row_bag.specs.Bags.{Agree, Alike, bind, keep, total, unit}
+use Rattle.row_bag.specs.Bags.{Alike, bind, keep, total, unit}
 use Rattle.row_bag.specs.Sets.{same_cells}
 use Rattle.row_bag.specs.Subqueries.{presence}
 use Rattle.row_bag.specs.declared.tables.Table.{Table}
-use Rattle.row_bag.proofs.Agreement.{alike-bind, alike-refl, alike-same, alike-sym, alike-trans}
+use Rattle.row_bag.proofs.Agreement.{alike-bind, alike-refl, alike-same, alike-trans}
 use Rattle.row_bag.proofs.Counts.{agree-from_alike, alike-from_agree}
 use Rattle.row_bag.proofs.Tuples.{same_cells-decides}
 use Rattle.row_folds.proofs.FoldLaws.{every-alike, scalar-alike, some-alike}
@@ -28,9 +28,9 @@ use Rattle.qgm_core.specs.declared.kinds.BoxKind.{BoxKind}
 use Rattle.qgm_core.specs.declared.kinds.BoxKind.TheVariants.{Base, Select, Group, SetOp, OuterJoin}
 use Rattle.qgm_core.specs.declared.node.Node.{Node}
 use Rattle.qgm_core.specs.declared.owned.OwnedQuant.{OwnedQuant}
-use Rattle.qgm_meaning.specs.AsSets.{AgreeAs, AgreesBackAs, AllReadSets, ReadsSets, ReadsSetsBy, ReplacedAsSet, is_set, over_found, scalar_in, scalar_in_arms, scalar_in_cond}
+use Rattle.qgm_meaning.specs.AsSets.{AgreeAs, AgreesBackAs, AllReadSets, ReadsSets, ReadsSetsBy, is_set, over_found, scalar_in, scalar_in_arms, scalar_in_cond}
 use Rattle.qgm_meaning.specs.Laws.{AllStay, Stays}
-use Rattle.qgm_meaning.specs.Meaning.{Family, bag, bag_in, given_by, once_if, over_each, quant_rows, rows_by, rows_found, rows_of}
+use Rattle.qgm_meaning.specs.Meaning.{Family, bag, bag_in, given_by, over_each, quant_rows, rows_by, rows_found, rows_of}
 use Rattle.qgm_meaning.specs.Replace.{replace}
 use Rattle.qgm_meaning.specs.Values.{Bag, Environment, all_true, bound, chosen_at, compared, first_true, head_cells, operate, truth, value}
 use Rattle.qgm_terms.specs.Terms.{Term, int, text, null_int, null_text, col, both, minus_of, choose, count_all, fold, scalar, Arms, no_arm, arm, Cond, always, compare, is_null, and, or, not, some, every}

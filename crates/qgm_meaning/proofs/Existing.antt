@@ -1,5 +1,5 @@
 -- EXISTS as a join where nothing makes the rows distinct.
-use Rattle.std.proofs.Common.{ℕ, ◌≤◌, ◌≡◌, cond, Bool, true, false, List, [], ◌∷◌, ◌++◌, sym, ap, ◌∙◌}
+use Rattle.std.proofs.Common.{ℕ, ◌≤◌, ◌≡◌, Bool, true, false, List, [], ◌∷◌, ◌++◌, sym, ap, ◌∙◌}
 use Rattle.row_bag.specs.Bags.{Alike, bind}
 use Rattle.row_bag.specs.Joins.{how_many}
 use Rattle.row_bag.specs.Sets.{SameLevels, same_cells}

@@ -1,6 +1,5 @@
 -- Conditions before what a box does and after it.
-use Rattle.std.proofs.Common.{ℕ, zero, suc, ◌≡◌, ◌≤◌, ◌&&◌, ◌||◌, nat_eq, cond, Bool, true, false, List, [], ◌∷◌, ◌++◌, take, drop, length, Option, None, refl, sym, ap, ap₂, subst, ◌∙◌, ◌⊎◌, inl, inr, arith}
-use Rattle.std.specs.List.{list_any}
+use Rattle.std.proofs.Common.{ℕ, suc, ◌≡◌, ◌≤◌, ◌&&◌, ◌||◌, nat_eq, cond, Bool, true, false, List, [], ◌∷◌, ◌++◌, take, length, Option, None, refl, sym, ap, ap₂, subst, ◌∙◌, ◌⊎◌, inl, inr}
 use Rattle.std.proofs.lemmas.Bool.{and_from, and_parts, cases_Bool}
 use mathlib.Core.Path.{fun_ext}
 use Rattle.bag_laws.specs.AsSets.{is_decided, stands}
@@ -14,7 +13,7 @@ use Rattle.row_bag.specs.Joins.{how_many, or_else}
 use Rattle.row_bag.specs.Sets.{collapsed, error_or_bag, except, except_all, failed_cells, intersect, intersect_all, of_group, once, same_cells}
 use Rattle.row_bag.specs.Verdict.{is_there}
 use Rattle.row_bag.specs.declared.row.Row.{Row}
-use Rattle.row_bag.proofs.Agreement.{alike-refl, alike-same, alike-sym, alike-trans}
+use Rattle.row_bag.proofs.Agreement.{alike-same, alike-trans}
 use Rattle.row_bag.proofs.Binds.{bind-bind, bind-keep, keep-bind, keep-keep, unit-bind}
 use Rattle.row_bag.proofs.Counts.{agree-from_alike}
 use Rattle.row_bag.proofs.Levels.{least-commutative, least-no, least-yes, no-least}
@@ -25,11 +24,9 @@ use Rattle.sql_value.specs.declared.cell.Cell.{Cell}
 use Rattle.sql_value.specs.declared.cell.Kind.{Kind}
 use Rattle.sql_value.specs.declared.level.Level.{Level}
 use Rattle.sql_value.specs.declared.level.Level.TheVariants.{No, Cardinality, Division, Overflow, Yes}
-use Rattle.qgm_core.specs.declared.kinds.SetOperator.{SetOperator}
 use Rattle.qgm_core.specs.declared.kinds.SetOperator.TheVariants.{UnionAll, Union, IntersectAll, Intersect, ExceptAll, Except}
-use Rattle.qgm_core.specs.declared.node.Node.{Node}
 use Rattle.qgm_meaning.specs.Filters.{OuterPasses, Passable, SetsPass}
-use Rattle.qgm_meaning.specs.Meaning.{combined, fold_cells, groups, grouped_rows, key_cells, nothing}
+use Rattle.qgm_meaning.specs.Meaning.{fold_cells, groups, grouped_rows, key_cells, nothing}
 use Rattle.qgm_meaning.specs.Values.{Bag, Environment, all_true, bound, head_cells}
 use Rattle.qgm_terms.specs.Terms.{Term}
 use Rattle.qgm_meaning.proofs.Alikes.{grouped_rows-alike}

@@ -1,16 +1,14 @@
 -- A small graph meets the premises of laws.
-use Rattle.std.specs.Prelude.{⊤}
-use Rattle.std.proofs.Common.{ℕ, ◌==◌, ◌≡◌, cond, Bool, true, false, List, [], ◌∷◌, pos, Option, Some, None, refl}
+use Rattle.std.proofs.Common.{◌==◌, ◌≡◌, cond, Bool, true, false, [], ◌∷◌, Some, None, refl}
 use Rattle.bag_laws.specs.AsSets.{AgreeAsSets}
 use Rattle.bag_laws.proofs.Setting.{set-agreement}
 use Rattle.row_bag.specs.Sets.{distinct, same_cells}
 use Rattle.row_bag.proofs.Tuples.{same_cells-decides}
 use Rattle.qgm_core.specs.declared.kinds.BoxKind.TheVariants.{Select}
-use Rattle.qgm_core.specs.declared.owned.OwnedQuant.{OwnedQuant}
 use Rattle.qgm_meaning.specs.AsSets.{AllReadSets, SelectReadsSets, over_found}
-use Rattle.qgm_meaning.specs.Examples.{box, e, f, pairs, t}
+use Rattle.qgm_meaning.specs.Examples.{box, f, pairs}
 use Rattle.qgm_meaning.specs.WordExamples.{exists_boxes}
-use Rattle.qgm_terms.specs.Terms.{always, col, int, some}
+use Rattle.qgm_terms.specs.Terms.{col}
 
 pub pairs-once : AgreeAsSets same_cells (distinct same_cells pairs) pairs
 pairs-once = (set-agreement same_cells same_cells-decides).of_distinct pairs refl

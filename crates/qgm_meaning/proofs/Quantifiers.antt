@@ -1,10 +1,9 @@
 -- The quantifiers of a select in other orders.
-use Rattle.std.specs.Prelude as p
-use Rattle.std.proofs.Common.{ℕ, ◌==◌, ◌≡◌, ◌&&◌, ◌||◌, cond, Bool, true, false, List, [], ◌∷◌, ◌++◌, Option, Some, None, refl, sym, ap, ap₂, subst, ◌∙◌, eqb-true, ◌⊎◌, inl, inr}
+use Rattle.std.proofs.Common.{ℕ, ◌==◌, ◌≡◌, ◌&&◌, ◌||◌, cond, Bool, true, false, List, [], ◌∷◌, ◌++◌, Option, Some, refl, sym, ap, ap₂, subst, ◌∙◌, eqb-true, ◌⊎◌, inl, inr}
 use Rattle.std.specs.List.{list_any}
-use Rattle.std.proofs.lemmas.Bool.{and_from, and_parts, cases_Bool, eq-eqb}
+use Rattle.std.proofs.lemmas.Bool.{cases_Bool, eq-eqb}
 use mathlib.Core.Path.{fun_ext}
-use Rattle.row_bag.specs.Bags.{Agree, Alike, bind, keep, unit}
+use Rattle.row_bag.specs.Bags.{Agree, Alike, bind}
 use Rattle.row_bag.specs.Sets.{same_cells}
 use Rattle.row_bag.specs.declared.tables.Table.{Table}
 use Rattle.row_bag.proofs.Agreement.{alike-bind, alike-refl, alike-same, alike-swap, alike-sym, alike-trans}

@@ -1,6 +1,5 @@
 -- What follows where tables satisfy the bases.
-use Rattle.std.specs.Prelude.{⊤}
-use Rattle.std.proofs.Common.{ℕ, suc, ◌==◌, ◌≡◌, ◌&&◌, ◌||◌, cond, nat_eq, Bool, true, false, List, [], ◌∷◌, Option, Some, None, filter, length, refl, sym, ap, ap₂, subst, ◌∙◌, eqb-true, inl, inr}
+use Rattle.std.proofs.Common.{ℕ, suc, ◌≡◌, ◌||◌, cond, nat_eq, Bool, true, List, [], ◌∷◌, Option, Some, None, filter, length, refl, sym, ap, ap₂, subst, ◌∙◌, eqb-true, inl, inr}
 use Rattle.std.specs.List.{list_all, list_any}
 use Rattle.std.proofs.lemmas.Bool.{and_from, and_parts, cases_Bool}
 use Rattle.bag_laws.specs.AsSets.{is_clean, is_decided}
@@ -9,23 +8,20 @@ use Rattle.row_bag.specs.Bags.{if_there}
 use Rattle.row_bag.specs.Errors.{error_among, error_at, error_in}
 use Rattle.row_bag.specs.Order.{cell_of}
 use Rattle.row_bag.specs.Tables.{bag_named}
-use Rattle.row_bag.specs.declared.row.Row.{Row}
 use Rattle.row_bag.specs.declared.tables.Table.{Table}
 use Rattle.sql_value.specs.Cells.{error_of, worst_of}
 use Rattle.sql_value.specs.declared.cell.Cell.{Cell}
 use Rattle.sql_value.specs.declared.cell.Cell.TheVariants.{Int, Text, Null, Err}
-use Rattle.sql_value.specs.declared.cell.Kind.{Kind}
 use Rattle.sql_value.specs.declared.level.Level.{Level}
 use Rattle.sql_value.specs.declared.level.Level.TheVariants.{No, Cardinality, Division, Overflow, Yes}
 use Rattle.sql_value.specs.declared.order_key.SqlType.{SqlType}
 use Rattle.sql_value.specs.declared.order_key.SqlType.TheVariants.{Integer, Varchar}
-use Rattle.qgm_core.specs.Lists.{In}
 use Rattle.qgm_core.specs.declared.kinds.BaseTable.{BaseTable}
 use Rattle.qgm_core.specs.declared.kinds.BoxKind.{BoxKind}
 use Rattle.qgm_core.specs.declared.kinds.BoxKind.TheVariants.{Base, Select, Group, SetOp, OuterJoin}
 use Rattle.qgm_core.specs.declared.node.Node.{Node}
 use Rattle.qgm_meaning.specs.Meaning.{rows_or_none}
-use Rattle.qgm_meaning.specs.Satisfies.{RowsSatisfy, FoundSatisfies, OfSatisfying, Satisfies, SatisfiesBy, are_of, have_values, is_of, is_value, is_yes}
+use Rattle.qgm_meaning.specs.Satisfies.{FoundSatisfies, OfSatisfying, Satisfies, SatisfiesBy, are_of, have_values, is_of, is_value, is_yes}
 use Rattle.qgm_meaning.specs.Values.{Bag}
 use Rattle.qgm_meaning.specs.Widths.{Filled, FilledBy, Wide}
 

@@ -1,5 +1,5 @@
 -- What the words of laws come to on small bags.
-use Rattle.std.specs.Prelude.{◌≡◌, ◌==◌, ◌++◌, ℕ, true, false, List, [], ◌∷◌, pos, if◌then◌else◌, take, drop}
+use Rattle.std.specs.Prelude.{◌≡◌, ◌==◌, ◌++◌, true, false, List, [], ◌∷◌, pos, if◌then◌else◌, take, drop}
 use Rattle.bag_laws.specs.AsSets.{AgreeAsSets, is_clean, stands}
 use Rattle.bag_laws.specs.Filters.{passing}
 use Rattle.bag_laws.specs.Keys.{cells_at}
@@ -8,9 +8,8 @@ use Rattle.row_bag.specs.Bags.{bind, keep, row, unit}
 use Rattle.row_bag.specs.Joins.{or_else}
 use Rattle.row_bag.specs.Sets.{distinct, grouped, multiplicity, once, same_cells}
 use Rattle.sql_value.specs.declared.cell.Cell.{Cell}
-use Rattle.sql_value.specs.declared.cell.Cell.TheVariants.{Int, Null, Err}
+use Rattle.sql_value.specs.declared.cell.Cell.TheVariants.{Null, Err}
 use Rattle.sql_value.specs.declared.cell.Kind.TheVariants as kind
-use Rattle.sql_value.specs.declared.level.Level.{Level}
 use Rattle.sql_value.specs.declared.level.Level.TheVariants.{No, Yes, Division}
 use Rattle.sql_value.specs.declared.order_key.SqlType.TheVariants.{Integer}
 use Rattle.qgm_core.specs.declared.node.Node.{Node}
