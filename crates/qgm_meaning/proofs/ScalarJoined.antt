@@ -99,7 +99,7 @@ module _ (rows : ℕ → Bag) (q : ℕ) where
 
 -- ---- environments that fit
 
-without : (passes : Environment → Bool) (f : Family) (us : List OwnedQuant) (r : OwnedQuant) (vs : List OwnedQuant) → Stays passes f (us ++ r ∷ vs) → Stays passes f (us ++ vs)
+pub without : (passes : Environment → Bool) (f : Family) (us : List OwnedQuant) (r : OwnedQuant) (vs : List OwnedQuant) → Stays passes f (us ++ r ∷ vs) → Stays passes f (us ++ vs)
 without passes f [] r vs h = h.1
 without passes f (u ∷ us) r vs h = (h.0, without passes f us r vs h.1)
 

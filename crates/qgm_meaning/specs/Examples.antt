@@ -109,7 +109,7 @@ pub record Computed : Type 0 where
   -- beside a row that is there it isn't an error
   pub exists_beside : of (box 1 Select (some 1 always ∷ []) (i 9 ∷ []) (e 1 2 ∷ []) ∷ box 2 (SetOp UnionAll (Integer ∷ [])) [] [] (f 2 3 ∷ f 3 4 ∷ []) ∷ box 3 Select (compare equal (both Div (i 1) (i 0)) (i 1) ∷ []) (i 3 ∷ []) [] ∷ t 4 ∷ []) ≡ row (n 9 ∷ []) Yes ∷ []
 
-abbrev lateral_boxes : List Node
+abbrev pub lateral_boxes : List Node
 lateral_boxes = box 1 Select [] (col 2 1 ∷ []) (f 1 3 ∷ f 2 2 ∷ []) ∷ box 2 Select [] (col 1 2 ∷ []) [] ∷ t 3 ∷ []
 
 -- the lateral quantifier stands before the one that it looks up

@@ -1,21 +1,24 @@
 -- The quantifiers of a select, bound one after the other, in this order or another.
 use Rattle.std.specs.Prelude.{ℕ, ◌≡◌, ◌==◌, ◌++◌, true, false, List, [], ◌∷◌, Some, ⊤}
+use Rattle.std.specs.List.{list_any}
 use Rattle.row_bag.specs.Bags.{Agree, bind, keep, unit}
 use Rattle.row_bag.specs.Sets.{same_cells}
 use Rattle.row_bag.specs.declared.tables.Table.{Table}
 use Rattle.sql_value.specs.declared.cell.Cell.{Cell}
 use Rattle.sql_value.specs.declared.level.Level.{Level}
-use Rattle.qgm_core.specs.Boxes.{QueryGraph, Ordered, box_of, has_box}
+use Rattle.qgm_core.specs.Boxes.{QueryGraph, Ordered, box_of, has_box, is_quant}
 use Rattle.qgm_core.specs.Kinds.{is_F}
 use Rattle.qgm_core.specs.declared.kinds.BoxKind.TheVariants.{Select}
 use Rattle.qgm_core.specs.declared.kinds.Distinct.{Distinct}
 use Rattle.qgm_core.specs.declared.node.Node.{Node}
 use Rattle.qgm_core.specs.declared.owned.OwnedQuant.{OwnedQuant}
 use Rattle.qgm_core.specs.declared.parts.BoxParts.{BoxParts}
+use Rattle.qgm_meaning.specs.Fits.{fits}
 use Rattle.qgm_meaning.specs.Meaning.{Family, bag, over_each, rows_by}
 use Rattle.qgm_meaning.specs.Replace.{replace}
 use Rattle.qgm_meaning.specs.Rules.{selecting}
-use Rattle.qgm_meaning.specs.Scope.{loose, quant_looks}
+use Rattle.qgm_meaning.specs.Searches.{names, names_cond}
+use Rattle.qgm_meaning.specs.Scope.{loose, quant_looks, read_by, under_any}
 use Rattle.qgm_meaning.specs.Values.{Bag, Environment, bound, row_of}
 use Rattle.qgm_terms.specs.Terms.{Cond, Term}
 
@@ -71,3 +74,14 @@ MovesBefore =
     (tables : List Table) (g : QueryGraph) (b : ℕ) (p : BoxParts) (d : Distinct) (conds : List Cond) (head : List Term) (us : List OwnedQuant) (r : OwnedQuant) (vs ws : List OwnedQuant)
     → Ordered g.boxes → box_of b g ≡ Some (selecting b p d conds head (us ++ (vs ++ r ∷ ws))) → NotLateral g.boxes (selecting b p d conds head (us ++ (vs ++ r ∷ ws))) r vs
     → (x : ℕ) → has_box g.boxes x ≡ true → (env : Environment) → Agree same_cells (bag tables (replace b (selecting b p d conds head (us ++ r ∷ (vs ++ ws))) g) x env) (bag tables g x env)
+
+-- N2: an F quantifier over a box of exactly one clean row, in the environments that fit, which nothing names or looks up, may go: all bags agree there
+abbrev pub OneRowGoes : Type 0
+OneRowGoes =
+    (tables : List Table) (g : QueryGraph) (b : ℕ) (p : BoxParts) (d : Distinct) (conds : List Cond) (head : List Term) (us : List OwnedQuant) (r : OwnedQuant) (vs : List OwnedQuant) (row : Environment → List Cell)
+    → Ordered g.boxes → box_of b g ≡ Some (selecting b p d conds head (us ++ r ∷ vs)) → is_F r.kind ≡ true → list_any (is_quant r.id) us ≡ false → list_any (is_quant r.id) vs ≡ false
+    → list_any (names r.id) head ≡ false → list_any (names_cond r.id) conds ≡ false
+    → read_by (selecting b p d conds head (us ++ r ∷ vs)) r.id ≡ false → under_any (us ++ r ∷ vs) (loose g.boxes) r.id ≡ false
+    → ((env : Environment) → fits (bag tables g) g.boxes env ≡ true → Agree same_cells (bag tables g r.over env) (unit (row env)))
+    → (x : ℕ) → has_box g.boxes x ≡ true → (env : Environment) → fits (bag tables g) g.boxes env ≡ true
+    → Agree same_cells (bag tables (replace b (selecting b p d conds head (us ++ vs)) g) x env) (bag tables g x env)

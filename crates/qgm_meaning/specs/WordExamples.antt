@@ -15,9 +15,10 @@ use Rattle.sql_value.specs.declared.order_key.SqlType.TheVariants.{Integer}
 use Rattle.qgm_core.specs.declared.node.Node.{Node}
 use Rattle.qgm_core.specs.declared.kinds.BoxKind.TheVariants.{Select}
 use Rattle.qgm_meaning.specs.AsSets.{AllReadSets, SelectReadsSets}
-use Rattle.qgm_meaning.specs.Examples.{box, e, f, n, pairs, rows, t, tables}
+use Rattle.qgm_meaning.specs.Examples.{box, e, f, lateral_boxes, n, pairs, rows, t, tables}
 use Rattle.qgm_meaning.specs.Fits.{fits}
 use Rattle.qgm_meaning.specs.Meaning.{bag_in, fold_cells, groups}
+use Rattle.qgm_meaning.specs.Quantifiers.{NotLateral}
 use Rattle.qgm_meaning.specs.Satisfies.{are_of, have_values}
 use Rattle.qgm_meaning.specs.Values.{Bag}
 use Rattle.qgm_terms.specs.Terms.{Term, always, col, count_all, int, some}
@@ -67,6 +68,10 @@ pub record Words : Type 0 where
 abbrev pub exists_boxes : List Node
 exists_boxes = box 1 Select (some 1 always ∷ []) (int (pos 9) ∷ []) (e 1 2 ∷ []) ∷ box 2 Select [] (col 3 1 ∷ []) (f 3 3 ∷ []) ∷ t 3 ∷ []
 
+-- T beside T
+abbrev pub pair_boxes : List Node
+pair_boxes = box 1 Select [] (col 1 1 ∷ col 2 1 ∷ []) (f 1 2 ∷ f 2 2 ∷ []) ∷ t 2 ∷ []
+
 -- premises of laws that a small graph meets
 pub record Met : Type 0 where
   -- T and T with DISTINCT
@@ -75,3 +80,6 @@ pub record Met : Type 0 where
   pub reads : AllReadSets (λ b. b == 2) exists_boxes
   -- those of box 3 are not
   pub counts : SelectReadsSets (λ b. b == 3) (box 2 Select [] (col 3 1 ∷ []) (f 3 3 ∷ [])) → ⊥
+  -- the two quantifiers over T may change places, and a lateral one not
+  pub apart : NotLateral pair_boxes (box 1 Select [] (col 1 1 ∷ col 2 1 ∷ []) (f 1 2 ∷ f 2 2 ∷ [])) (f 1 2) (f 2 2 ∷ [])
+  pub lateral : NotLateral lateral_boxes (box 1 Select [] (col 2 1 ∷ []) (f 1 3 ∷ f 2 2 ∷ [])) (f 1 3) (f 2 2 ∷ []) → ⊥

@@ -7,7 +7,7 @@ ghost use Rattle.qgm_meaning.specs.Rules.{ExistsJoins, Joins, Passes, ScalarJoin
 ghost use Rattle.qgm_meaning.specs.Merging.{GivenMerged};
 ghost use Rattle.qgm_meaning.specs.Filters.{GroupsPass, OuterPasses, SetsPass};
 ghost use Rattle.qgm_meaning.specs.Keys.{DistinctGoes};
-ghost use Rattle.qgm_meaning.specs.Quantifiers.{Combinations, Moves, MovesBefore, MovesBehind};
+ghost use Rattle.qgm_meaning.specs.Quantifiers.{Combinations, Moves, MovesBefore, MovesBehind, OneRowGoes};
 ghost use Rattle.qgm_meaning.specs.Satisfies.{OfSatisfying};
 ghost use Rattle.qgm_meaning.specs.Tags.{FedRows, GroupTagged, GroupsTagged};
 ghost use Rattle.qgm_meaning.specs.WordExamples.{Met, Words};
@@ -75,6 +75,7 @@ pub fn quantifier_laws()
     ensures moves { Moves }
     ensures behind { MovesBehind }
     ensures before { MovesBefore }
+    ensures one_row_goes { OneRowGoes }
 {}
 
 /// What goes through a box or may be left out of it: DISTINCT over a key, conditions through set

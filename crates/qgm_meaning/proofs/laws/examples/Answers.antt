@@ -1,5 +1,5 @@
 use Rattle.std.proofs.Common.{refl}
-use Rattle.qgm_meaning.proofs.Premises.{exists-reads, pairs-once, rows-counted}
+use Rattle.qgm_meaning.proofs.Premises.{exists-reads, one-lateral, pair-apart, pairs-once, rows-counted}
 use Rattle.qgm_meaning.proofs.laws.examples.Goals as goal
 
 pub returns-clause-computed : goal.returns-clause-computed
@@ -30,4 +30,4 @@ returns-clause-words c = record {
 }
 
 pub returns-clause-met : goal.returns-clause-met
-returns-clause-met c = record { sets = pairs-once; reads = exists-reads; counts = rows-counted }
+returns-clause-met c = record { sets = pairs-once; reads = exists-reads; counts = rows-counted; apart = pair-apart; lateral = one-lateral }
