@@ -6,7 +6,7 @@ ghost use Rattle.qgm_meaning.specs.Fits.{Hereditary};
 ghost use Rattle.qgm_meaning.specs.Rules.{ExistsJoins, Joins, Passes, ScalarJoins};
 ghost use Rattle.qgm_meaning.specs.Merging.{GivenMerged};
 ghost use Rattle.qgm_meaning.specs.Filters.{GroupsPass, OuterPasses, SetsPass};
-ghost use Rattle.qgm_meaning.specs.Keys.{DistinctGoes};
+ghost use Rattle.qgm_meaning.specs.Keys.{DistinctGoes, DistinctPermitted};
 ghost use Rattle.qgm_meaning.specs.Quantifiers.{Combinations, Moves, MovesBefore, MovesBehind, OneRowGoes};
 ghost use Rattle.qgm_meaning.specs.Satisfies.{OfSatisfying};
 ghost use Rattle.qgm_meaning.specs.Tags.{FedRows, GroupTagged, GroupsTagged};
@@ -82,6 +82,7 @@ pub fn quantifier_laws()
 /// operations, groups and outer joins, and groups under tags. It does nothing.
 pub fn passing_laws()
     ensures distinct_goes { DistinctGoes }
+    ensures distinct_permitted { DistinctPermitted }
     ensures sets_pass { SetsPass }
     ensures groups_pass { GroupsPass }
     ensures outer_passes { OuterPasses }

@@ -3,6 +3,7 @@ use Rattle.row_bag.proofs.Counts.{agree-from_alike}
 use Rattle.qgm_meaning.proofs.Fed.{fed-rows}
 use Rattle.qgm_meaning.proofs.Filters.{groups-pass, outer-passes, sets-pass}
 use Rattle.qgm_meaning.proofs.Keys.{distinct-goes}
+use Rattle.qgm_meaning.proofs.Permitted.{distinct-permitted}
 use Rattle.qgm_meaning.proofs.Tags.{group-tagged, groups-tagged}
 use Rattle.qgm_meaning.proofs.laws.passing_laws.Goals as goal
 
@@ -26,3 +27,6 @@ returns-clause-group_tagged c = group-tagged
 
 pub returns-clause-fed_rows : goal.returns-clause-fed_rows
 returns-clause-fed_rows c = fed-rows
+
+pub returns-clause-distinct_permitted : goal.returns-clause-distinct_permitted
+returns-clause-distinct_permitted c = distinct-permitted
