@@ -117,7 +117,7 @@ own-append k nk i over (u ∷ us) vs hu hv =
     step true b h = h
     step false b h = refl
 
-any-before : (f : Cond → Bool) (xs : List Cond) (c : Cond) (ys : List Cond) → list_any f (xs ++ c ∷ ys) ≡ false → (list_any f xs ≡ false) × (list_any f ys ≡ false)
+pub any-before : (f : Cond → Bool) (xs : List Cond) (c : Cond) (ys : List Cond) → list_any f (xs ++ c ∷ ys) ≡ false → (list_any f xs ≡ false) × (list_any f ys ≡ false)
 any-before f [] c ys h = (refl, neither-right (f c) (list_any f ys) h)
 any-before f (x ∷ xs) c ys h =
     let rest = any-before f xs c ys (neither-right (f x) (list_any f (xs ++ c ∷ ys)) h) in

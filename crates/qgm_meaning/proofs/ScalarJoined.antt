@@ -103,7 +103,7 @@ pub without : (passes : Environment → Bool) (f : Family) (us : List OwnedQuant
 without passes f [] r vs h = h.1
 without passes f (u ∷ us) r vs h = (h.0, without passes f us r vs h.1)
 
-with-last : (passes : Environment → Bool) (f : Family) (us : List OwnedQuant) (r : OwnedQuant) → Stays passes f us → Stays passes f (r ∷ []) → Stays passes f (us ++ r ∷ [])
+pub with-last : (passes : Environment → Bool) (f : Family) (us : List OwnedQuant) (r : OwnedQuant) → Stays passes f us → Stays passes f (r ∷ []) → Stays passes f (us ++ r ∷ [])
 with-last passes f [] r h k = k
 with-last passes f (u ∷ us) r h k = (h.0, with-last passes f us r h.1 k)
 
@@ -115,7 +115,7 @@ stays-of passes f (m ∷ ns) b n st h =
       | false ↦ λ h. stays-of passes f ns b n st.1 h
     ] h
 
-first-any : (p : Node → Bool) (ns : List Node) (b : ℕ) (n : Node) → first (is_box b) ns ≡ Some n → p n ≡ true → list_any p ns ≡ true
+pub first-any : (p : Node → Bool) (ns : List Node) (b : ℕ) (n : Node) → first (is_box b) ns ≡ Some n → p n ≡ true → list_any p ns ≡ true
 first-any p [] b n h k = absurd (let z : ⊥ = cc in z)
 first-any p (m ∷ ns) b n h k =
     elim (m.id == b) as (λ t. ◌≡◌ {A = Option Node} (cond t (Some m) (first (is_box b) ns)) (Some n) → list_any p (m ∷ ns) ≡ true) [
@@ -123,7 +123,7 @@ first-any p (m ∷ ns) b n h k =
       | false ↦ λ h. either-right (p m) (list_any p ns) (first-any p ns b n h k)
     ] h
 
-owned-there : (us : List OwnedQuant) (r : OwnedQuant) (vs : List OwnedQuant) → list_any (is_quant r.id) (us ++ r ∷ vs) ≡ true
+pub owned-there : (us : List OwnedQuant) (r : OwnedQuant) (vs : List OwnedQuant) → list_any (is_quant r.id) (us ++ r ∷ vs) ≡ true
 owned-there [] r vs = either-left (r.id == r.id) (list_any (is_quant r.id) vs) (eq-eqb r.id r.id refl)
 owned-there (u ∷ us) r vs = either-right (u.id == r.id) (list_any (is_quant r.id) (us ++ r ∷ vs)) (owned-there us r vs)
 

@@ -1,7 +1,7 @@
 // The laws of boxes, as theorems.
 ghost use Rattle.qgm_meaning.specs.AsSets.{OnlyAgreeAs, ReadsWhatItSees, ReplacedAsSet};
 ghost use Rattle.qgm_meaning.specs.Examples.{Computed, Counted, Looses};
-ghost use Rattle.qgm_meaning.specs.Exists.{JoinsLevels, JoinsOfOne};
+ghost use Rattle.qgm_meaning.specs.Exists.{ExistsJoinsAsSet, ExistsJoinsOfOne, JoinsLevels, JoinsOfOne};
 ghost use Rattle.qgm_meaning.specs.Fits.{Hereditary};
 ghost use Rattle.qgm_meaning.specs.Rules.{ExistsJoins, Joins, Passes, ScalarJoins};
 ghost use Rattle.qgm_meaning.specs.Merging.{GivenMerged};
@@ -51,6 +51,8 @@ pub fn rule_laws()
     ensures joins_of_one { JoinsOfOne }
     ensures passes { Passes }
     ensures exists_joins { ExistsJoins }
+    ensures exists_joins_of_one { ExistsJoinsOfOne }
+    ensures exists_joins_as_set { ExistsJoinsAsSet }
     ensures scalar_joins { ScalarJoins }
 {}
 
