@@ -3,7 +3,7 @@ use Rattle.std.proofs.Common.{ℕ, ◌≤◌, ◌==◌, ◌≡◌, ◌&&◌, ◌
 use Rattle.std.specs.List.{list_any}
 use Rattle.std.proofs.lemmas.Bool.{and_from, eq-eqb}
 use mathlib.Core.Path.{fun_ext}
-use Rattle.bag_laws.specs.AsSets.{AgreeAsSets, is_clean}
+use Rattle.bag_laws.specs.AsSets.{is_clean}
 use Rattle.bag_laws.proofs.Setting.{levels-sets, sets-sym}
 use Rattle.row_bag.specs.Bags.{Agree, Alike}
 use Rattle.row_bag.specs.Joins.{how_many}
@@ -11,7 +11,6 @@ use Rattle.row_bag.specs.Sets.{SameLevels, same_cells}
 use Rattle.row_bag.specs.declared.tables.Table.{Table}
 use Rattle.row_bag.proofs.Agreement.{alike-sym}
 use Rattle.row_bag.proofs.Counts.{agree-from_alike}
-use Rattle.sql_value.specs.declared.cell.Cell.{Cell}
 use Rattle.qgm_core.specs.Boxes.{QueryGraph, Ordered, box_of, has_box, is_quant, owns}
 use Rattle.qgm_core.specs.Lists.{first}
 use Rattle.qgm_core.specs.declared.kinds.BoxKind.TheVariants.{Select}

@@ -1,6 +1,6 @@
 -- A quantifier of one clean row, which nothing names, goes.
 use Rattle.std.specs.Prelude as p
-use Rattle.std.proofs.Common.{ℕ, ◌==◌, ◌≡◌, ◌&&◌, ◌||◌, cond, Bool, true, false, List, [], ◌∷◌, ◌++◌, Option, Some, None, refl, sym, ap, ap₂, subst, ◌∙◌, eqb-true, inl, inr}
+use Rattle.std.proofs.Common.{ℕ, ◌==◌, ◌≡◌, ◌&&◌, ◌||◌, cond, Bool, true, false, List, [], ◌∷◌, ◌++◌, Option, Some, refl, sym, ap, ap₂, subst, ◌∙◌, eqb-true, inl, inr}
 use Rattle.std.specs.List.{list_any}
 use Rattle.std.proofs.lemmas.Bool.{and_from, and_parts, cases_Bool, eq-eqb}
 use mathlib.Core.Path.{fun_ext}
@@ -21,13 +21,13 @@ use Rattle.qgm_core.specs.declared.owned.OwnedQuant.{OwnedQuant}
 use Rattle.qgm_core.specs.declared.parts.BoxParts.{BoxParts}
 use Rattle.qgm_meaning.specs.Fits.{fits}
 use Rattle.qgm_meaning.specs.Laws.{Stays, occurs}
-use Rattle.qgm_meaning.specs.Meaning.{Family, bag, bag_in, given_by, once_if, over_each, quant_rows, rows_found, rows_of}
+use Rattle.qgm_meaning.specs.Meaning.{Family, bag, bag_in, given_by, over_each, quant_rows, rows_found, rows_of}
 use Rattle.qgm_meaning.specs.Quantifiers.{OneRowGoes}
 use Rattle.qgm_meaning.specs.Replace.{replace}
 use Rattle.qgm_meaning.specs.Rules.{selecting}
 use Rattle.qgm_meaning.specs.Scope.{loose, loose_each, quant_looks, read_by, under_any}
 use Rattle.qgm_meaning.specs.Searches.{names, names_cond}
-use Rattle.qgm_meaning.specs.Values.{Bag, Environment, all_true, bound, head_cells}
+use Rattle.qgm_meaning.specs.Values.{Bag, Environment, bound}
 use Rattle.qgm_terms.specs.Terms.{Cond, Term}
 use Rattle.qgm_meaning.proofs.Alikes.{once_if-alike}
 use Rattle.qgm_meaning.proofs.ExistsJoined.{over-append}

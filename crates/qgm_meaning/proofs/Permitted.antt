@@ -2,7 +2,7 @@
 use Rattle.std.proofs.Common.{ℕ, ◌==◌, ◌≡◌, cond, Bool, true, false, List, [], ◌∷◌, Option, Some, refl, subst}
 use Rattle.bag_laws.specs.AsSets.{AgreeAsSets, is_clean}
 use Rattle.bag_laws.proofs.Setting.{set-agreement, sets-from_alike, sets-sym}
-use Rattle.row_bag.specs.Sets.{distinct, same_cells}
+use Rattle.row_bag.specs.Sets.{same_cells}
 use Rattle.row_bag.specs.declared.tables.Table.{Table}
 use Rattle.row_bag.proofs.Agreement.{alike-refl}
 use Rattle.row_bag.proofs.Tuples.{same_cells-decides}
