@@ -64,7 +64,7 @@ pub fn row_laws()
 {}
 
 /// Boxes whose rows agree as sets alone, which the others read by some and every. It does nothing.
-pub fn set_laws()
+pub fn permit_laws()
     ensures only_agree { OnlyAgreeAs }
     ensures replaced { ReplacedAsSet }
     ensures reads { ReadsWhatItSees }

@@ -1,6 +1,6 @@
 use Rattle.qgm_meaning.proofs.AsSets.{only-agree_as, replaced-as_set}
 use Rattle.qgm_meaning.proofs.Seen.{reads-what_it_sees}
-use Rattle.qgm_meaning.proofs.laws.set_laws.Goals as goal
+use Rattle.qgm_meaning.proofs.laws.permit_laws.Goals as goal
 
 pub returns-clause-only_agree : goal.returns-clause-only_agree
 returns-clause-only_agree c = λ tables g f passes sets o reads s b h env p. only-agree_as tables g f passes sets o reads s b h env p
