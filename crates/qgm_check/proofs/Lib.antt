@@ -5,3 +5,5 @@ pub mod Below
 pub mod Seen
 pub mod Kept
 pub mod Faults
+pub mod Tables
+pub mod ClosedLaws

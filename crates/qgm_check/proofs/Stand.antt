@@ -16,6 +16,13 @@ pub or-right : (a b : Bool) → b ≡ true → (a || b) ≡ true
 or-right true b h = refl
 or-right false b h = h
 
+pub or_true : (a b : Bool) → b ≡ true → (a || b) ≡ true
+or_true a b h = or-right a b h
+
+pub or_none : (a b : Bool) → b ≡ false → (a || b) ≡ a
+or_none true b h = refl
+or_none false b h = h
+
 pub or-both : (a b : Bool) → a ≡ false → b ≡ false → (a || b) ≡ false
 or-both true b h k = absurd (let z : ⊥ = cc in z)
 or-both false b h k = k

@@ -2,9 +2,12 @@
 #![tactic(auto)]
 
 mod check;
+mod closed;
 mod columns_fit;
 mod kinds;
 mod laws;
+mod marks;
+mod places;
 mod shapes;
 mod types;
 mod view;
