@@ -7,3 +7,4 @@ pub mod Kept
 pub mod Faults
 pub mod Tables
 pub mod ClosedLaws
+pub mod Rounds

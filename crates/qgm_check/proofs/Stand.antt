@@ -136,7 +136,7 @@ filter-in p x (y ∷ xs) i k = elim (p y) as (λ t. p y ≡ t → In x (cond t (
 
 -- ---- numbers put among ascending ones
 
-in-once : (x q : ℕ) (rs : List ℕ) → In x (put_once q rs) → (q ≡ x) ⊎ In x rs
+pub in-once : (x q : ℕ) (rs : List ℕ) → In x (put_once q rs) → (q ≡ x) ⊎ In x rs
 in-once x q [] i = i
 in-once x q (r ∷ rs) i = elim (nat_lt q r) as (λ t. In x (cond t (q ∷ (r ∷ rs)) (cond (r == q) (r ∷ rs) (r ∷ put_once q rs))) → (q ≡ x) ⊎ In x (r ∷ rs)) [
   | true ↦ λ i. i

@@ -4,6 +4,7 @@ ghost use Rattle.std.specs.List.{list_all, flat_map};
 ghost use Rattle.qgm_core.specs.Free.{free_in, marked, named_by, reached};
 ghost use Rattle.qgm_core.specs.Lists.{holds};
 ghost use Rattle.qgm_check.specs.Closed as spec;
+ghost use Rattle.qgm_check.specs.Shapes.{only};
 ghost use Rattle.qgm_check.specs.WellFormed.{is_empty};
 
 use crate::marks::{Marks, mark_ids, mark_overs};
@@ -115,5 +116,23 @@ pub fn is_closed(alloc: Global, nodes: &[Node], b: BoxId) -> Result<bool, OutOfM
 {
     let marks = reached(alloc, nodes, b)?;
     let owned = owned_by(alloc, &marks, nodes)?;
+    all_names_owned(alloc, &marks, &owned, nodes)
+}
+
+/// Whether a quantifier is free in the box, and no other is.
+pub fn is_free_alone(
+    alloc: Global,
+    nodes: &[Node],
+    b: BoxId,
+    q: QuantId,
+) -> Result<bool, OutOfMemory>
+    ensures { IfOk result (λ a. a ≡ only q (free_in nodes.now b)) }
+{
+    let marks = reached(alloc, nodes, b)?;
+    let mut owned = owned_by(alloc, &marks, nodes)?;
+    if all_names_owned(alloc, &marks, &owned, nodes)? {
+        return Ok(false);
+    }
+    owned.push(q)?;
     all_names_owned(alloc, &marks, &owned, nodes)
 }

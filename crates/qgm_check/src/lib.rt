@@ -13,4 +13,4 @@ mod types;
 mod view;
 
 pub use check::{Clause, Fault, IllFormed, check_graph};
-pub use laws::{fault_laws, view_laws};
+pub use laws::{compact_laws, fault_laws, view_laws};
