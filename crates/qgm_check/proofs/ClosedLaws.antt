@@ -1,9 +1,9 @@
 -- Nothing is free where all that marked boxes name is owned by marked ones.
-use Rattle.std.proofs.Common.{ℕ, ◌==◌, ◌≡◌, ◌≤◌, ◌<◌, ◌&&◌, cond, nat_lt, not, Bool, true, false, List, [], ◌∷◌, ◌++◌, filter, refl, sym, ap, subst, ◌∙◌, inl, inr, arith}
+use Rattle.std.proofs.Common.{ℕ, ◌==◌, ◌≡◌, ◌≤◌, ◌<◌, ◌&&◌, cond, nat_lt, not, Bool, true, false, List, [], ◌∷◌, ◌++◌, filter, refl, sym, ap, subst, ◌∙◌, inl, inr, ◌↔◌, arith}
 use Rattle.std.specs.List.{list_all, flat_map}
 use Rattle.std.proofs.lemmas.Bool.{and_parts, and_from, cases_Bool, eq-eqb, eqb-true, ltb-true, ltb-false, not-true}
-use Rattle.qgm_core.specs.Boxes.{ids_of, is_quant, owns}
-use Rattle.qgm_core.specs.Free.{free_among, free_in, is_owned, named_where, put_each, put_once, reached}
+use Rattle.qgm_core.specs.Boxes.{Ordered, ids_of, is_quant, owns}
+use Rattle.qgm_core.specs.Free.{IsFree, free_among, free_in, is_owned, named_where, put_each, put_once, reached}
 use Rattle.qgm_core.specs.Lists.{In, holds}
 use Rattle.qgm_core.specs.declared.node.Node.{Node}
 use Rattle.qgm_core.specs.declared.owned.OwnedQuant.{OwnedQuant}
@@ -11,8 +11,9 @@ use Rattle.qgm_check.specs.Closed.{names_owned, owned_where}
 use Rattle.qgm_check.specs.Laws.{Ascending}
 use Rattle.qgm_check.specs.Shapes.{only}
 use Rattle.qgm_check.specs.WellFormed.{is_empty}
+use Rattle.qgm_check.proofs.Below.{free-free}
 use Rattle.qgm_check.proofs.Kept.{empty-none, none-empty}
-use Rattle.qgm_check.proofs.Stand.{all-from, all-in, any-from, any-in, clash, each-in, filter-in, flat-in, holds-in, in-append, in-each, in-filter, in-flat, in-holds, in-left, in-map, in-once, in-right, map-in}
+use Rattle.qgm_check.proofs.Stand.{all-from, all-in, any-from, any-in, clash, each-in, filter-in, flat-in, holds-in, in-append, in-each, in-filter, in-flat, in-holds, in-left, in-map, in-once, in-right, map-in, or-left}
 
 -- ---- what is free stands in ascending order
 
@@ -155,3 +156,18 @@ alone-no ns b q marks held e f h =
 pub alone-so : (ns : List Node) (b q : ℕ) (marks held : List ℕ) → marks ≡ reached (b ∷ []) ns → held ≡ flat_map (owned_where marks) ns → list_all (names_owned marks held) ns ≡ false → list_all (names_owned marks (held ++ q ∷ [])) ns ≡ only q (free_in ns b)
 alone-so ns b q marks held e f h =
     ap (λ (os : List ℕ). list_all (names_owned marks (os ++ q ∷ [])) ns) f ∙ alone_all marks ns q (subst (λ os. list_all (names_owned marks os) ns ≡ false) f h) ∙ ap (λ (ms : List ℕ). only q (free_among ms ns)) e
+
+pub finds-alone : (ns : List Node) → Ordered ns → (b q : ℕ) → (only q (free_in ns b) ≡ true) ↔ (IsFree ns b q × ((p : ℕ) → IsFree ns b p → p ≡ q))
+finds-alone ns o b q = (
+  λ h. ((free-free ns o b q).0 (here (free_in ns b) h), λ p f. only-in q (free_in ns b) h p (holds-in p (free_in ns b) ((free-free ns o b p).1 f))),
+  λ k. only-is q (free_in ns b) (ascends (reached (b ∷ []) ns) ns) (λ p i. k.1 p ((free-free ns o b p).0 (in-holds p (free_in ns b) i))) (some (free_in ns b) ((free-free ns o b q).1 k.0)),
+)
+  where
+    here : (xs : List ℕ) → only q xs ≡ true → holds q xs ≡ true
+    here [] h = absurd (let z : ⊥ = cc in z)
+    here (p ∷ []) h = let ps = and_parts (p == q) true h in or-left (p == q) false ps.0
+    here (p ∷ (r ∷ rs)) h = let ps = and_parts (p == q) false h in absurd (let z : ⊥ = cc in z)
+
+    some : (xs : List ℕ) → holds q xs ≡ true → is_empty xs ≡ false
+    some [] h = absurd (let z : ⊥ = cc in z)
+    some (x ∷ xs) h = refl

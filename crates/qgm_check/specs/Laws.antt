@@ -7,6 +7,7 @@ use Rattle.qgm_core.specs.Lists.{EachOnce, In, holds}
 use Rattle.qgm_core.specs.declared.node.Node.{Node}
 use Rattle.qgm_core.specs.declared.parts.BoxParts.{BoxParts}
 use Rattle.qgm_check.specs.Sentences.{IsFault, WellFormed}
+use Rattle.qgm_check.specs.Shapes.{only}
 use Rattle.qgm_check.specs.View.{InView, Sees, in_view, viewers}
 use Rattle.qgm_check.specs.WellFormed.{fault}
 use Rattle.qgm_check.specs.declared.check.Fault.{Fault}
@@ -27,6 +28,12 @@ Ascending (x ∷ xs) = ((y : ℕ) → In y xs → x < y) × Ascending xs
 -- what is free stands in ascending order, each once
 abbrev pub FreeAscends : Type 0
 FreeAscends = (g : QueryGraph) (b : ℕ) → Ascending (free b g)
+
+-- found to be free alone is what is free, if nothing else is
+abbrev pub FindsAlone : Type 0
+FindsAlone =
+    (g : QueryGraph) → Ordered g.boxes → (b q : ℕ)
+    → (only q (free b g) ≡ true) ↔ (IsFree g.boxes b q × ((p : ℕ) → IsFree g.boxes b p → p ≡ q))
 
 -- found to see q are those that see q
 abbrev pub FindsViewers : Type 0

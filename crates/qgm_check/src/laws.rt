@@ -1,11 +1,12 @@
 // What the passes over boxes compute, as theorems.
-ghost use Rattle.qgm_check.specs.Laws.{AddedGoes, FindsFault, FindsFree, FindsNone, FindsView, FindsViewers, FreeAscends, MarksReached};
+ghost use Rattle.qgm_check.specs.Laws.{AddedGoes, FindsAlone, FindsFault, FindsFree, FindsNone, FindsView, FindsViewers, FreeAscends, MarksReached};
 
 /// Of boxes in order: the pass from a box marks what the box reaches, what is found free is free and ascends, who is found to see a quantifier sees it, and what is found in view is in view. It does nothing.
 pub fn view_laws()
     ensures reaches { MarksReached }
     ensures free { FindsFree }
     ensures ascends { FreeAscends }
+    ensures alone { FindsAlone }
     ensures sees { FindsViewers }
     ensures in_view { FindsView }
 {}
