@@ -1,6 +1,5 @@
 use Rattle.std.proofs.Common.{subst, sym}
 use Rattle.qgm_core.specs.Boxes.{HasBox, QueryGraph}
-use Rattle.qgm_core.specs.Edits.{range}
 use Rattle.graph_chains.proofs.Grown.{after_box, after_parts, after_quant, new_box}
 use Rattle.graph_chains.proofs.extend.Goals as goal
 
