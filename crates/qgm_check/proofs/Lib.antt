@@ -1,2 +1,10 @@
 pub mod TypeLaws
 pub mod HeadLaws
+pub mod Stand
+pub mod Below
+pub mod Seen
+pub mod Kept
+pub mod Faults
+pub mod Tables
+pub mod ClosedLaws
+pub mod Rounds
