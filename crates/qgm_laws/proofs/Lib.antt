@@ -1,6 +1,10 @@
 pub mod Lists
 pub mod Times
 pub mod Ranks
+pub mod OneBox
+pub mod Naming
+pub mod PlacedOne
+pub mod PlacedEdits
 pub mod Scope
 pub mod Above
 pub mod Edits

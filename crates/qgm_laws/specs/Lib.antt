@@ -5,3 +5,5 @@ pub mod Merge
 pub mod Checked
 pub mod Laws
 pub mod Examples
+pub mod Placed
+pub mod EditLaws
