@@ -40,7 +40,7 @@ kept-in keep n (m ∷ ns) i k = elim (keep m.id) as (λ t. keep m.id ≡ t → I
   | false ↦ λ t. elim i [ inl e ↦ absurd (clash (keep n.id) k (subst (λ (z : Node). keep z.id ≡ false) e t)) | inr j ↦ kept-in keep n ns j k ]
 ] refl
 
-times-kept : (f : Node → List ℕ) (x : ℕ) (keep : ℕ → Bool) (ns : List Node) → times x (flat_map f (kept keep ns)) ≤ times x (flat_map f ns)
+pub times-kept : (f : Node → List ℕ) (x : ℕ) (keep : ℕ → Bool) (ns : List Node) → times x (flat_map f (kept keep ns)) ≤ times x (flat_map f ns)
 times-kept f x keep [] = omega arith
 times-kept f x keep (m ∷ ns) =
     let h = times-kept f x keep ns in
@@ -50,10 +50,10 @@ times-kept f x keep (m ∷ ns) =
       | false ↦ omega arith
     ]
 
-has-kept : (keep : ℕ → Bool) (ns : List Node) (b : ℕ) → has_box ns b ≡ true → keep b ≡ true → has_box (kept keep ns) b ≡ true
+pub has-kept : (keep : ℕ → Bool) (ns : List Node) (b : ℕ) → has_box ns b ≡ true → keep b ≡ true → has_box (kept keep ns) b ≡ true
 has-kept keep ns b h k = let x = has-in b ns h in subst (λ z. has_box (kept keep ns) z ≡ true) x.1.1 (in-has x.0 (kept keep ns) (kept-in keep x.0 ns x.1.0 (subst (λ z. keep z ≡ true) (sym x.1.1) k)))
 
-ordered-kept : (keep : ℕ → Bool) (ns : List Node) → Ordered ns → ((n : Node) (r : OwnedQuant) → In n ns → keep n.id ≡ true → In r n.quants → keep r.over ≡ true) → Ordered (kept keep ns)
+pub ordered-kept : (keep : ℕ → Bool) (ns : List Node) → Ordered ns → ((n : Node) (r : OwnedQuant) → In n ns → keep n.id ≡ true → In r n.quants → keep r.over ≡ true) → Ordered (kept keep ns)
 ordered-kept keep [] o h = tt
 ordered-kept keep (n ∷ ns) o h =
     let rest : Ordered (kept keep ns) = ordered-kept keep ns o.2 (λ m r i. h m r (inr i)) in
@@ -166,7 +166,7 @@ closes marks (m ∷ ns) o n r i k j = elim i [
       ])
 ]
 
-reaches : (bs : List Node) (root : ℕ) → Ordered bs → Drops (λ b. holds b (reached (root ∷ []) bs)) bs root
+pub reaches : (bs : List Node) (root : ℕ) → Ordered bs → Drops (λ b. holds b (reached (root ∷ []) bs)) bs root
 reaches bs root o = record {
   root_kept = in-holds root (reached (root ∷ []) bs) (stays root (root ∷ []) bs (inl refl));
   closed = λ n r i k j. in-holds r.over (reached (root ∷ []) bs) (closes (root ∷ []) bs o n r i (holds-in n.id (reached (root ∷ []) bs) k) j);

@@ -5,6 +5,7 @@ pub mod OneBox
 pub mod Naming
 pub mod PlacedOne
 pub mod PlacedEdits
+pub mod PlacedLists
 pub mod Scope
 pub mod Above
 pub mod Edits

@@ -24,18 +24,18 @@ use Rattle.qgm_laws.proofs.Ranks.{has-in, in-has, same-box}
 use Rattle.qgm_laws.proofs.Times.{times-in}
 
 -- what a box names, by its cells and conditions
-named-parts : (q : ℕ) (n : Node) → holds q (named_by n) ≡ true → (list_any (says q) n.parts.head ≡ true) ⊎ (list_any (says_cond q) n.parts.conds.items ≡ true)
+pub named-parts : (q : ℕ) (n : Node) → holds q (named_by n) ≡ true → (list_any (says q) n.parts.head ≡ true) ⊎ (list_any (says_cond q) n.parts.conds.items ≡ true)
 named-parts q n h = or_cases (list_any (says q) n.parts.head) (list_any (says_cond q) n.parts.conds.items) (sym (named-any q n) ∙ h)
 
-named-head : (q : ℕ) (n : Node) → list_any (says q) n.parts.head ≡ true → holds q (named_by n) ≡ true
+pub named-head : (q : ℕ) (n : Node) → list_any (says q) n.parts.head ≡ true → holds q (named_by n) ≡ true
 named-head q n h = named-any q n ∙ or-left (list_any (says q) n.parts.head) (list_any (says_cond q) n.parts.conds.items) h
 
-named-conds : (q : ℕ) (n : Node) → list_any (says_cond q) n.parts.conds.items ≡ true → holds q (named_by n) ≡ true
+pub named-conds : (q : ℕ) (n : Node) → list_any (says_cond q) n.parts.conds.items ≡ true → holds q (named_by n) ≡ true
 named-conds q n h = named-any q n ∙ or-right (list_any (says q) n.parts.head) (list_any (says_cond q) n.parts.conds.items) h
 
 module _ (g : QueryGraph) (w : IsPlaced g) where
   -- ---- parts of a box
-  parts-by : (b : ℕ) (f : Node → Node) → HasBox b g → ((y : Node) → (f y).id ≡ y.id) → ((y : Node) → (f y).quants ≡ y.quants)
+  pub parts-by : (b : ℕ) (f : Node → Node) → HasBox b g → ((y : Node) → (f y).id ≡ y.id) → ((y : Node) → (f y).quants ≡ y.quants)
       → ((y : Node) → In y g.boxes → y.id ≡ b → (q : ℕ) → holds q (named_by (f y)) ≡ true → HasQuant q g) → IsPlaced (on_box b f g)
   parts-by b f h same quants k =
       let x = has-in b g.boxes h in
@@ -75,7 +75,7 @@ module _ (g : QueryGraph) (w : IsPlaced g) where
       ])
 
   -- ---- quantifiers that keep their numbers
-  owner-of : (q : ℕ) → HasQuant q g → (o : Node) × (In o g.boxes × (owns q o ≡ true))
+  pub owner-of : (q : ℕ) → HasQuant q g → (o : Node) × (In o g.boxes × (owns q o ≡ true))
   owner-of q h = any-in (owns q) g.boxes h
 
   ids-changed : (p : OwnedQuant → Bool) (f : OwnedQuant → OwnedQuant) → ((r : OwnedQuant) → (f r).id ≡ r.id) → (rs : List OwnedQuant) → map (λ (r : OwnedQuant). r.id) (change p f rs) ≡ map (λ (r : OwnedQuant). r.id) rs
