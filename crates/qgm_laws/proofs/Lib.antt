@@ -21,4 +21,5 @@ pub mod MergeSound
 pub mod AnyPut
 pub mod Looks
 pub mod Checked
+pub mod Scoped
 pub mod Examples

@@ -7,3 +7,4 @@ pub mod Laws
 pub mod Examples
 pub mod Placed
 pub mod EditLaws
+pub mod Scoped
