@@ -22,4 +22,5 @@ pub mod AnyPut
 pub mod Looks
 pub mod Checked
 pub mod Scoped
+pub mod Changes
 pub mod Examples

@@ -23,18 +23,6 @@ use Rattle.qgm_laws.proofs.Turns.{any-parts, each-turn, first-own, split-in}
 pub few-ids : (bs : List Node) (n : Node) (q : ℕ) → times q (ids_in bs) ≤ 1 → In n bs → times q (ids_of n) ≤ 1
 few-ids bs n q o i = let a = times-in ids_of q n bs i in omega arith
 
-pub local-of : (bs : List Node) (root : ℕ) → Sound bs root → Local bs root
-local-of bs root w = record {
-  ordered = w.ordered;
-  rooted = w.rooted;
-  once = w.once;
-  top = w.top;
-  fits = w.fits;
-  own_nodes = w.own_nodes;
-  bare = w.bare;
-  arms = w.arms;
-}
-
 right-of : (a b : Bool) → a ≡ false → (a || b) ≡ true → b ≡ true
 right-of a b f t = elim (or_cases a b t) [ inl y ↦ absurd (clash a y f) | inr y ↦ y ]
 
@@ -157,29 +145,26 @@ module _ (bs : List Node) (o : Ordered bs) (once : (q : ℕ) → times q (ids_in
 pub scoped-of : (bs : List Node) (root : ℕ) → Sound bs root → (n : Node) → In n bs → Scoped (loose bs) n
 scoped-of bs root w n i = scoped-by bs w.ordered w.once n i (w.bare n i)
 
-pub nearly : (bs : List Node) (root : ℕ) → Sound bs root → NearlySound bs root
-nearly bs root w = record {
-  local = local-of bs root w;
-  bounds = record {
-    scoped = scoped-of bs root w;
-    settled = w.settled;
-    few = λ b q t. (let a = w.used b q t in omega arith);
-    none_at_root = λ q. elim (cases_Bool (loose bs root q)) [ inr f ↦ f | inl t ↦ absurd (closed-root bs root w q t) ];
-  };
-}
-
 pub sound-of : (bs : List Node) (root : ℕ) → NearlySound bs root → ((b q : ℕ) → loose bs b q ≡ true → times b (overs_in bs) ≡ 1) → Sound bs root
-sound-of bs root w used = sound-by (loose bs) bs root w.local w.bounds.scoped w.bounds.settled used
+sound-of bs root w used = record {
+  ordered = w.local.ordered;
+  rooted = w.local.rooted;
+  once = w.local.once;
+  settled = w.settled;
+  used = used;
+  top = w.local.top;
+  fits = w.local.fits;
+  own_nodes = w.local.own_nodes;
+  bare = w.local.bare;
+  arms = w.local.arms;
+}
 
 -- any bound shows that a graph is nearly sound
 pub nearly-by : (look : ℕ → ℕ → Bool) (bs : List Node) (root : ℕ) → Local bs root → Bounds look bs root → NearlySound bs root
 nearly-by look bs root l u =
     let h = bounded look bs l.once u.scoped in record {
       local = l;
-      bounds = record {
-        scoped = λ n i. scoped-by bs l.ordered l.once n i (l.bare n i);
-        settled = λ n i q o. none-where look bs root l n.id q (h n.id q) (u.settled n i q o);
-        few = λ b q t. u.few b q (h b q t);
-        none_at_root = λ q. none-where look bs root l root q (h root q) (u.none_at_root q);
-      };
+      settled = λ n i q o. none-where look bs root l n.id q (h n.id q) (u.settled n i q o);
+      few = λ b q t. u.few b q (h b q t);
+      none_at_root = λ q. none-where look bs root l root q (h root q) (u.none_at_root q);
     }

@@ -8,3 +8,4 @@ pub mod Examples
 pub mod Placed
 pub mod EditLaws
 pub mod Scoped
+pub mod Changes

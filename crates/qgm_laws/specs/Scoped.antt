@@ -42,7 +42,9 @@ pub record Bounds (look : ℕ → ℕ → Bool) (bs : List Node) (root : ℕ) : 
   pub few : (b q : ℕ) → look b q ≡ true → times b (overs_in bs) ≤ 1
   pub none_at_root : (q : ℕ) → look root q ≡ false
 
--- sound but for boxes that the root doesn't reach: `look` is what boxes look up
+-- sound but for boxes that the root doesn't reach
 pub record NearlySound (bs : List Node) (root : ℕ) : Type 0 where
   pub local : Local bs root
-  pub bounds : Bounds (loose bs) bs root
+  pub settled : (n : Node) → In n bs → (q : ℕ) → owns q n ≡ true → loose bs n.id q ≡ false
+  pub few : (b q : ℕ) → loose bs b q ≡ true → times b (overs_in bs) ≤ 1
+  pub none_at_root : (q : ℕ) → loose bs root q ≡ false
