@@ -61,7 +61,7 @@ changed-nearly bs root g o rooted m look s settled few none = nearly-by look (ma
 
 -- ---- parts
 
-own-same : (k : BoxKind) (n m : Node) (q : ℕ) → n.quants ≡ m.quants → own_seen k n q ≡ own_seen k m q
+pub own-same : (k : BoxKind) (n m : Node) (q : ℕ) → n.quants ≡ m.quants → own_seen k n q ≡ own_seen k m q
 own-same (Base t) n m q e = refl
 own-same Select n m q e = ap (λ rs. binds_row q rs) e
 own-same (Group k) n m q e = ap (λ rs. list_any (is_quant q) (take 1 rs)) e

@@ -23,4 +23,5 @@ pub mod Looks
 pub mod Checked
 pub mod Scoped
 pub mod Changes
+pub mod Adds
 pub mod Examples

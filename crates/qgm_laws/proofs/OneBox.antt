@@ -7,6 +7,7 @@ use Rattle.qgm_core.specs.declared.owned.OwnedQuant.{OwnedQuant}
 use Rattle.qgm_core.specs.Boxes.{Ordered, has_box, is_box, is_quant, ids_of, ids_in, owns}
 use Rattle.qgm_core.specs.Lists.{In, change, times, holds}
 use Rattle.qgm_laws.specs.Placed.{Below, place}
+pub use Rattle.qgm_laws.specs.Adds.{at}
 use Rattle.qgm_laws.proofs.Edits.{OnceEach, once-each}
 use Rattle.qgm_laws.proofs.Lists.{all-from, any-from, any-in, any-none, any-not, clash, eq-itself, in-map, map-in, or-left, or-right, or-none, other}
 use Rattle.qgm_laws.proofs.Ranks.{in-has, has-in, overs-held, place-under}
@@ -69,9 +70,6 @@ ordered-map g same ns o h = ordered-from (map g ns) (once-map g same ns (once-ea
     below-map g same ns n.id r.over (subst (λ z. Below ns z r.over) e (h x.0 r x.1.0 (subst (λ (z : Node). In r z.quants) (sym x.1.1) j)))))
 
 -- ---- one box changed
-
-abbrev pub at : ℕ → (Node → Node) → Node → Node
-at b f y = cond (y.id == b) (f y) y
 
 pub at-absent : (b : ℕ) (f : Node → Node) (ns : List Node) → has_box ns b ≡ false → map (at b f) ns ≡ ns
 at-absent b f [] h = refl

@@ -9,3 +9,4 @@ pub mod Placed
 pub mod EditLaws
 pub mod Scoped
 pub mod Changes
+pub mod Adds
