@@ -76,10 +76,10 @@ module _ (xs ys : List Node) (root : ℕ) (w : Sound (xs ++ ys) root) (s : Node)
   unowned : (q : ℕ) → owns q s ≡ true → (n : Node) → In n bs → read_by n q ≡ true → ⊥
   unowned q o n i t = clash (list_any (owns q) bs) (read-owned bs root w n q i t) (m.new q o)
 
-  not-s : (n : Node) (r : OwnedQuant) → In n bs → In r n.quants → r.over ≡ s.id → ⊥
+  pub not-s : (n : Node) (r : OwnedQuant) → In n bs → In r n.quants → r.over ≡ s.id → ⊥
   not-s n r i j e = clash (has_box bs s.id) (subst (λ z. has_box bs z ≡ true) e (overs-held bs n r w.ordered i j)) m.fresh
 
-  s-own : (r : OwnedQuant) → In r s.quants → r.over ≡ s.id → ⊥
+  pub s-own : (r : OwnedQuant) → In r s.quants → r.over ≡ s.id → ⊥
   s-own r j e = clash (has_box bs s.id) (subst (λ z. has_box bs z ≡ true) e (in-ys r.over (m.over r j))) m.fresh
     where
       in-ys : (b : ℕ) → has_box ys b ≡ true → has_box bs b ≡ true

@@ -24,4 +24,5 @@ pub mod Checked
 pub mod Scoped
 pub mod Changes
 pub mod Adds
+pub mod Interposed
 pub mod Examples

@@ -48,5 +48,5 @@ pub record Interposes (xs ys : List Node) (root : ℕ) (s o c : Node) (r : Owned
   pub once_c : times c.id (overs_of s) ≡ 1
   pub others : (p : OwnedQuant) → In p s.quants → (p.over ≡ c.id) ⊎ ((q : ℕ) → loose (xs ++ ys) p.over q ≡ false)
   pub scoped : Scoped (as_box (xs ++ ys) s.id c.id) s
-  pub fits : (n : Node) → In n (xs ++ ys) → (k : ℕ) → reads_in r.id k n ≡ true → (1 ≤ k) × (k ≤ width s)
+  pub fits : (n : Node) → In n (xs ++ s ∷ ys) → (k : ℕ) → reads_in r.id k n ≡ true → (1 ≤ k) × (k ≤ width s)
   pub arms : ArmsBy o.parts.kind (width s) (width o)

@@ -1,0 +1,348 @@
+-- A box put under a quantifier, over the box that the quantifier ranged over, keeps a graph sound.
+use Rattle.std.proofs.Common.{ℕ, zero, suc, ◌==◌, ◌≡◌, ◌&&◌, ◌||◌, ◌+◌, ◌≤◌, ◌<◌, cond, Bool, true, false, List, [], ◌∷◌, ◌++◌, map, take, Option, Some, None, refl, sym, ap, ap₂, subst, ◌∙◌, eqb-true, ◌⊎◌, inl, inr, arith}
+use Rattle.std.specs.List.{list_any, flat_map}
+use Rattle.std.proofs.lemmas.Bool.{cases_Bool, or_cases, eq-eqb}
+use Rattle.qgm_core.specs.declared.node.Node.{Node}
+use Rattle.qgm_core.specs.declared.owned.OwnedQuant.{OwnedQuant}
+use Rattle.qgm_core.specs.declared.kinds.BoxKind.{BoxKind}
+use Rattle.qgm_core.specs.declared.kinds.BoxKind.TheVariants.{Base, Select, Group, SetOp, OuterJoin}
+use Rattle.qgm_core.specs.Boxes.{Ordered, has_box, ids_in, ids_of, is_box, is_quant, overs_in, overs_of, owns, width}
+use Rattle.qgm_core.specs.Edits.{on_quant}
+use Rattle.qgm_core.specs.Kinds.{is_F}
+use Rattle.qgm_core.specs.Lists.{In, change, first, times}
+use Rattle.qgm_meaning.specs.Scope.{loose, read_by}
+use Rattle.qgm_laws.specs.Adds.{Adds, Interposes, as_box, at, interposed, onto}
+use Rattle.qgm_laws.specs.Changes.{Changes, FitsAfter}
+use Rattle.qgm_laws.specs.Checked.{own_seen}
+use Rattle.qgm_laws.specs.Graph.{ArmsBy, BareBy, Sound, binds_row, nodes_in, reads_in}
+use Rattle.qgm_laws.specs.Placed.{Below, place}
+use Rattle.qgm_laws.specs.Scoped.{Local, Scoped, shows_by}
+use Rattle.qgm_laws.proofs.Adds.{added-local, loose-owned, none-new, not-s, s-own}
+use Rattle.qgm_laws.proofs.Changes.{changed-sound}
+use Rattle.qgm_laws.proofs.Edits.{OnceEach, once-each}
+use Rattle.qgm_laws.proofs.Lists.{any-from, any-in, clash, eq-false-sym, eq-itself, in-left, in-right, or-left, or-right, other}
+use Rattle.qgm_laws.proofs.OneBox.{owns-ids, ranked}
+use Rattle.qgm_laws.proofs.PlacedLists.{in-more, more-in, more-own, times-more}
+use Rattle.qgm_laws.proofs.PlacedOne.{counted, g-cases, g-id, same-ids}
+use Rattle.qgm_laws.proofs.Ranks.{has-in, in-has, overs-held, same-box}
+use Rattle.qgm_laws.proofs.Scoped.{few-ids, scoped-of}
+use Rattle.qgm_laws.proofs.Times.{times-map, times-some}
+use Rattle.qgm_core.specs.declared.parts.BoxParts.{BoxParts}
+use Rattle.qgm_laws.proofs.Turns.{first-own}
+
+-- ---- a list of quantifiers in which the first that passes ranges over another box
+
+abbrev pub over_now : ℕ → OwnedQuant → OwnedQuant
+over_now s r = record r { over = s }
+
+abbrev pub turned : ℕ → ℕ → List OwnedQuant → List OwnedQuant
+turned q s rs = change (is_quant q) (over_now s) rs
+
+module _ (q s : ℕ) where
+  pub turned-any : (p : OwnedQuant → Bool) → ((r : OwnedQuant) → p (over_now s r) ≡ p r) → (rs : List OwnedQuant) → list_any p (turned q s rs) ≡ list_any p rs
+  turned-any p same [] = refl
+  turned-any p same (r ∷ rs) = elim (r.id == q) as (λ t. list_any p (cond t (over_now s r ∷ rs) (r ∷ turned q s rs)) ≡ list_any p (r ∷ rs)) [
+    | true ↦ ap (λ z. z || list_any p rs) (same r)
+    | false ↦ ap (λ z. p r || z) (turned-any p same rs)
+  ]
+
+  pub turned-ids : (rs : List OwnedQuant) → map (λ (r : OwnedQuant). r.id) (turned q s rs) ≡ map (λ (r : OwnedQuant). r.id) rs
+  turned-ids [] = refl
+  turned-ids (r ∷ rs) = elim (r.id == q) as (λ t. map (λ (r : OwnedQuant). r.id) (cond t (over_now s r ∷ rs) (r ∷ turned q s rs)) ≡ map (λ (r : OwnedQuant). r.id) (r ∷ rs)) [
+    | true ↦ refl
+    | false ↦ ap (λ z. r.id ∷ z) (turned-ids rs)
+  ]
+
+  -- one of them is as it was, or is the one that turned
+  pub turned-in : (rs : List OwnedQuant) (x : OwnedQuant) → In x (turned q s rs) → In x rs ⊎ ((r : OwnedQuant) × (In r rs × ((r.id ≡ q) × (over_now s r ≡ x))))
+  turned-in [] x j = elim j [ ]
+  turned-in (r ∷ rs) x j = elim (r.id == q) as (λ t. (r.id == q) ≡ t → In x (cond t (over_now s r ∷ rs) (r ∷ turned q s rs)) → In x (r ∷ rs) ⊎ ((y : OwnedQuant) × (In y (r ∷ rs) × ((y.id ≡ q) × (over_now s y ≡ x))))) [
+    | true ↦ λ t j. elim j [ inl e ↦ inr (r, (inl refl, (eqb-true r.id q t, e))) | inr k ↦ inl (inr k) ]
+    | false ↦ λ t j. elim j [ inl e ↦ inl (inl e) | inr k ↦ elim (turned-in rs x k) [ inl a ↦ inl (inr a) | inr a ↦ inr (a.0, (inr a.1.0, a.1.1)) ] ]
+  ] refl j
+
+  -- the same at a split
+  pub turned-split : (rs done : List OwnedQuant) (x : OwnedQuant) (rest : List OwnedQuant) → turned q s rs ≡ done ++ x ∷ rest
+      → (before : List OwnedQuant) × ((r : OwnedQuant) × ((after : List OwnedQuant) × ((rs ≡ before ++ r ∷ after) × (((p : ℕ) → binds_row p done ≡ binds_row p before) × ((x.kind ≡ r.kind) × ((x ≡ r) ⊎ ((r.id ≡ q) × (x.over ≡ s))))))))
+  turned-split [] [] x rest e = absurd (let z : ⊥ = cc in z)
+  turned-split [] (d ∷ done) x rest e = absurd (let z : ⊥ = cc in z)
+  turned-split (r ∷ rs) [] x rest e = elim (r.id == q) as (λ t. (r.id == q) ≡ t → ◌≡◌ {A = List OwnedQuant} (cond t (over_now s r ∷ rs) (r ∷ turned q s rs)) (x ∷ rest) → (before : List OwnedQuant) × ((y : OwnedQuant) × ((after : List OwnedQuant) × ((r ∷ rs ≡ before ++ y ∷ after) × (((p : ℕ) → binds_row p [] ≡ binds_row p before) × ((x.kind ≡ y.kind) × ((x ≡ y) ⊎ ((y.id ≡ q) × (x.over ≡ s))))))))) [
+    | true ↦ λ t e. (let h : over_now s r ≡ x = cc in ([], (r, (rs, (refl, ((λ p. refl), (ap (λ (z : OwnedQuant). z.kind) (sym h), inr (eqb-true r.id q t, ap (λ (z : OwnedQuant). z.over) (sym h)))))))))
+    | false ↦ λ t e. (let h : r ≡ x = cc in ([], (r, (rs, (refl, ((λ p. refl), (ap (λ (z : OwnedQuant). z.kind) (sym h), inl (sym h))))))))
+  ] refl e
+  turned-split (r ∷ rs) (d ∷ done) x rest e = elim (r.id == q) as (λ t. (r.id == q) ≡ t → ◌≡◌ {A = List OwnedQuant} (cond t (over_now s r ∷ rs) (r ∷ turned q s rs)) (d ∷ (done ++ x ∷ rest)) → (before : List OwnedQuant) × ((y : OwnedQuant) × ((after : List OwnedQuant) × ((r ∷ rs ≡ before ++ y ∷ after) × (((p : ℕ) → binds_row p (d ∷ done) ≡ binds_row p before) × ((x.kind ≡ y.kind) × ((x ≡ y) ⊎ ((y.id ≡ q) × (x.over ≡ s))))))))) [
+    | true ↦ λ t e. (
+        let h : over_now s r ≡ d = cc in let k : rs ≡ done ++ x ∷ rest = cc in
+        (r ∷ done, (x, (rest, (ap (λ z. r ∷ z) k, ((λ p. ap (λ (z : OwnedQuant). (is_F z.kind && is_quant p z) || binds_row p done) (sym h)), (refl, inl refl)))))))
+    | false ↦ λ t e. (
+        let h : r ≡ d = cc in let k : turned q s rs ≡ done ++ x ∷ rest = cc in
+        let y = turned-split rs done x rest k in
+        (r ∷ y.0, (y.1.0, (y.1.1.0, (ap (λ z. r ∷ z) y.1.1.1.0, ((λ p. ap₂ (λ (z : OwnedQuant) (b : Bool). (is_F z.kind && is_quant p z) || b) (sym h) (y.1.1.1.1.0 p)), y.1.1.1.1.1))))))
+  ] refl e
+
+  pub turned-times : (x : ℕ) (rs : List OwnedQuant) (r : OwnedQuant) → first (is_quant q) rs ≡ Some r → times x (map (λ (r : OwnedQuant). r.over) (turned q s rs)) + times x (r.over ∷ []) ≡ times x (map (λ (r : OwnedQuant). r.over) rs) + times x (s ∷ [])
+  turned-times x [] r h = absurd (let z : ⊥ = cc in z)
+  turned-times x (y ∷ rs) r h = elim (y.id == q) as (λ t. ◌≡◌ {A = Option OwnedQuant} (cond t (Some y) (first (is_quant q) rs)) (Some r) → times x (map (λ (r : OwnedQuant). r.over) (cond t (over_now s y ∷ rs) (y ∷ turned q s rs))) + times x (r.over ∷ []) ≡ times x (map (λ (r : OwnedQuant). r.over) (y ∷ rs)) + times x (s ∷ [])) [
+    | true ↦ λ h. (let e : y ≡ r = cc in let a : times x (y.over ∷ []) ≡ times x (r.over ∷ []) = ap (λ (z : OwnedQuant). times x (z.over ∷ [])) e in omega arith)
+    | false ↦ λ h. (let a = turned-times x rs r h in omega arith)
+  ] h
+
+-- what stands before stands above
+place-before : (xs : List Node) (o s : Node) (ys : List Node) → OnceEach (xs ++ s ∷ ys) → In o xs → place (xs ++ s ∷ ys) o.id < place (xs ++ s ∷ ys) s.id
+place-before [] o s ys u i = elim i [ ]
+place-before (x ∷ xs) o s ys u i =
+    let f : (x.id == s.id) ≡ false = other (has_box (xs ++ s ∷ ys)) x.id s.id u.0 (in-has s (xs ++ s ∷ ys) (more-own xs s ys)) in
+    let b : place (x ∷ (xs ++ s ∷ ys)) s.id ≡ suc (place (xs ++ s ∷ ys) s.id) = ap (λ (t : Bool). cond t 0 (suc (place (xs ++ s ∷ ys) s.id))) f in
+    elim i [
+      | inl e ↦ (let a : place (x ∷ (xs ++ s ∷ ys)) o.id ≡ 0 = ap (λ (t : Bool). cond t 0 (suc (place (xs ++ s ∷ ys) o.id))) (subst (λ (z : Node). (x.id == z.id) ≡ true) e (eq-itself x.id)) in omega arith)
+      | inr j ↦ (
+          let g : (x.id == o.id) ≡ false = other (has_box (xs ++ s ∷ ys)) x.id o.id u.0 (in-has o (xs ++ s ∷ ys) (in-left o xs (s ∷ ys) j)) in
+          let a : place (x ∷ (xs ++ s ∷ ys)) o.id ≡ suc (place (xs ++ s ∷ ys) o.id) = ap (λ (t : Bool). cond t 0 (suc (place (xs ++ s ∷ ys) o.id))) g in
+          let h = place-before xs o s ys u.1 j in omega arith)
+    ]
+
+module _ (xs ys : List Node) (root : ℕ) (w : Sound (xs ++ ys) root) (s o c : Node) (r : OwnedQuant) (m : Interposes xs ys root s o c r) where
+  abbrev bs : List Node
+  bs = xs ++ ys
+
+  abbrev hs : List Node
+  hs = xs ++ s ∷ ys
+
+  abbrev f : Node → Node
+  f = on_quant r.id (over_now s.id)
+
+  abbrev g : Node → Node
+  g = onto o.id r.id s.id
+
+  abbrev look : ℕ → ℕ → Bool
+  look = as_box bs s.id c.id
+
+  l : Local hs root
+  l = added-local xs ys root w s m.adds
+
+  o-bs : In o bs
+  o-bs = in-left o xs ys m.in_o
+
+  c-bs : In c bs
+  c-bs = in-right c xs ys m.in_c
+
+  o-hs : In o hs
+  o-hs = more-in xs s ys o o-bs
+
+  -- a box that was there isn't s
+  apart : (n : Node) → In n bs → (n.id == s.id) ≡ false
+  apart n i = elim (cases_Bool (n.id == s.id)) [ inr f ↦ f | inl t ↦ absurd (clash (has_box bs s.id) (subst (λ z. has_box bs z ≡ true) (eqb-true n.id s.id t) (in-has n bs i)) m.adds.fresh) ]
+
+  over-apart : (n : Node) (p : OwnedQuant) → In n bs → In p n.quants → (p.over == s.id) ≡ false
+  over-apart n p i j = let x = has-in p.over bs (overs-held bs n p w.ordered i j) in subst (λ z. (z == s.id) ≡ false) x.1.1 (apart x.0 x.1.0)
+
+  as-was : (b q : ℕ) → (b == s.id) ≡ false → look b q ≡ loose bs b q
+  as-was b q n = ap (λ t. cond t (loose bs c.id q) (loose bs b q)) n
+
+  as-c : (q : ℕ) → look s.id q ≡ loose bs c.id q
+  as-c q = ap (λ t. cond t (loose bs c.id q) (loose bs s.id q)) (eq-itself s.id)
+
+  id : (y : Node) → (g y).id ≡ y.id
+  id = g-id hs l.ordered o o-hs f (λ y. refl)
+
+  cases : (y : Node) → In y hs → ((y ≡ o) × (g y ≡ f o)) ⊎ (((y.id == o.id) ≡ false) × (g y ≡ y))
+  cases = g-cases hs l.ordered o o-hs f (λ y. refl)
+
+  owner : owns r.id o ≡ true
+  owner = any-from (is_quant r.id) r o.quants m.owned (eq-itself r.id)
+
+  only-r : (p : OwnedQuant) → In p o.quants → p.id ≡ r.id → p.over ≡ c.id
+  only-r p i e =
+      let few = few-ids bs o r.id (w.once r.id) o-bs in
+      let a = first-own r o.quants few m.owned in
+      let b = first-own p o.quants (subst (λ z. times z (ids_of o) ≤ 1) (sym e) few) i in
+      let same : Some p ≡ Some r = sym b ∙ ap (λ z. first (is_quant z) o.quants) e ∙ a in
+      let x : p ≡ r = cc in ap (λ (z : OwnedQuant). z.over) x ∙ m.over_c
+
+  -- the quantifiers of a box after
+  quants-after : (y : Node) (p : OwnedQuant) → In y hs → In p (g y).quants → In p y.quants ⊎ ((y ≡ o) × ((p.over ≡ s.id) × (p.id ≡ r.id)))
+  quants-after y p i j = elim (cases y i) [
+    | inl e ↦ elim (turned-in r.id s.id o.quants p (subst (λ (z : Node). In p z.quants) e.1 j)) [
+      | inl a ↦ inl (subst (λ (z : Node). In p z.quants) (sym e.0) a)
+      | inr a ↦ inr (e.0, (ap (λ (z : OwnedQuant). z.over) (sym a.1.1.1), ap (λ (z : OwnedQuant). z.id) (sym a.1.1.1) ∙ a.1.1.0))
+    ]
+    | inr e ↦ inl (subst (λ (z : Node). In p z.quants) e.1 j)
+  ]
+
+  any-after : (p : OwnedQuant → Bool) → ((x : OwnedQuant) → p (over_now s.id x) ≡ p x) → (y : Node) → list_any p (g y).quants ≡ list_any p y.quants
+  any-after p same y = elim (y.id == o.id) as (λ t. list_any p (cond t (f y) y).quants ≡ list_any p y.quants) [ true ↦ turned-any r.id s.id p same y.quants | false ↦ refl ]
+
+  wide : (y : Node) → width (g y) ≡ width y
+  wide y = elim (y.id == o.id) as (λ t. width (cond t (f y) y) ≡ width y) [ true ↦ refl | false ↦ refl ]
+
+  parts : (y : Node) → (g y).parts ≡ y.parts
+  parts y = elim (y.id == o.id) as (λ t. (cond t (f y) y).parts ≡ y.parts) [ true ↦ refl | false ↦ refl ]
+
+  s-hs : In s hs
+  s-hs = more-own xs s ys
+
+  times-after : (b : ℕ) → times b (overs_in (map g hs)) + times b (c.id ∷ []) ≡ (times b (overs_in bs) + times b (overs_of s)) + times b (s.id ∷ [])
+  times-after b =
+      let a = counted hs l.ordered o o-hs f (λ y. refl) overs_of b in
+      let d = times-more overs_of b xs s ys in
+      let e = turned-times r.id s.id b o.quants r (first-own r o.quants (few-ids bs o r.id (w.once r.id) o-bs) m.owned) in
+      let k : times b (r.over ∷ []) ≡ times b (c.id ∷ []) = ap (λ z. times b (z ∷ [])) m.over_c in omega arith
+
+  one : (x : ℕ) (b : ℕ) → (x == b) ≡ true → times b (x ∷ []) ≡ 1
+  one x b t = (let k : ◌≡◌ {A = ℕ} (cond (x == b) 1 0) 1 = ap (λ (b : Bool). cond {A = ℕ} b 1 0) t in omega arith)
+
+  zero-of : (x : ℕ) (b : ℕ) → (x == b) ≡ false → times b (x ∷ []) ≡ 0
+  zero-of x b n = (let k : ◌≡◌ {A = ℕ} (cond (x == b) 1 0) 0 = ap (λ (b : Bool). cond {A = ℕ} b 1 0) n in omega arith)
+
+  none-over : (rs : List OwnedQuant) (b : ℕ) → ((p : OwnedQuant) → In p rs → (p.over == b) ≡ false) → times b (map (λ (r : OwnedQuant). r.over) rs) ≡ 0
+  none-over [] b h = refl
+  none-over (p ∷ rs) b h = let a = none-over rs b (λ x i. h x (inr i)) in let k : ◌≡◌ {A = ℕ} (cond (p.over == b) 1 0) 0 = ap (λ (b : Bool). cond {A = ℕ} b 1 0) (h p (inl refl)) in omega arith
+
+  s-not-root : (s.id == root) ≡ false
+  s-not-root = elim (cases_Bool (s.id == root)) [ inr n ↦ n | inl t ↦ absurd (clash (has_box bs root) w.rooted (subst (λ z. has_box bs z ≡ false) (eqb-true s.id root t) m.adds.fresh)) ]
+
+  root-once : times root (overs_in (map g hs)) ≡ 0
+  root-once =
+      let a = times-after root in let b = w.top in
+      let d = none-over s.quants root (λ p i. m.adds.not_root p i) in
+      let e = zero-of s.id root s-not-root in omega arith
+
+  changes : Changes hs root g
+  changes = record {
+    id = id;
+    wide = λ y i. wide y;
+    over = λ y p i j. elim (quants-after y p i j) [
+      | inl a ↦ ranked hs l.ordered y p i a
+      | inr e ↦ subst (λ z. Below hs y.id z) (sym e.1.0) (subst (λ (z : Node). Below hs z.id s.id) (sym e.0) (in-has s hs s-hs, place-before xs o s ys (once-each hs l.ordered) m.in_o))
+    ];
+    once = λ q. (let a = same-ids hs l.ordered o o-hs f (λ y. refl) (turned-ids r.id s.id o.quants) q in let b = l.once q in omega arith);
+    top = root-once;
+    fits = λ n i q k t. (
+        let u : reads_in q k n ≡ true = subst (λ z. reads_in q k (record n { parts = z }) ≡ true) (parts n) t in
+        λ y z p iy j e iz v. elim (quants-after y p iy j) [
+          | inl a ↦ l.fits n i q k u y p z iy a e iz v
+          | inr x ↦ (
+              let same : z ≡ s = same-box hs z s l.ordered iz s-hs (v ∙ x.1.0) in
+              let h = m.fits n i k (subst (λ z. reads_in z k n ≡ true) (sym e ∙ x.1.1) u) in (h.0, subst (λ (z : Node). k ≤ width z) (sym same) h.1))
+        ]);
+    own_nodes = λ y i q t. (let h = l.own_nodes y i q (subst (λ z. nodes_in q (record y { parts = z }) ≡ true) (parts y) t) in
+        (any-after (is_quant q) (λ x. refl) y ∙ h.0, any-after (λ x. is_F x.kind && is_quant q x) (λ x. refl) y ∙ h.1));
+    bare = λ y i. bare-after y.parts.kind y (l.bare y i) (parts y);
+    arms = λ y z p i j iz v. subst (λ k. ArmsBy k (width z) (width y)) (sym (ap (λ (p : BoxParts). p.kind) (parts y))) (elim (quants-after y p i j) [
+      | inl a ↦ l.arms y z p i a iz v
+      | inr x ↦ (
+          let same : z ≡ s = same-box hs z s l.ordered iz s-hs (v ∙ x.1.0) in
+          subst (λ (u : Node). ArmsBy u.parts.kind (width z) (width u)) (sym x.0) (subst (λ (u : Node). ArmsBy o.parts.kind (width u) (width o)) (sym same) m.arms))
+    ]);
+  }
+    where
+      bare-of : (k : BoxKind) (y : Node) (rs : List OwnedQuant) → (y.quants ≡ [] → rs ≡ []) → BareBy k y → BareBy k (record y { quants = rs })
+      bare-of (Base t) y rs e b = (e b.0, b.1, b.2)
+      bare-of Select y rs e b = tt
+      bare-of (Group n) y rs e b = tt
+      bare-of (SetOp form v) y rs e b = b
+      bare-of OuterJoin y rs e b = tt
+
+      bare-after : (k : BoxKind) (y : Node) → BareBy y.parts.kind y → (g y).parts ≡ y.parts → BareBy (g y).parts.kind (g y)
+      bare-after k y b e = elim (y.id == o.id) as (λ t. BareBy (cond t (f y) y).parts.kind (cond t (f y) y)) [
+        | true ↦ bare-of y.parts.kind y (turned r.id s.id y.quants) (λ e. ap (turned r.id s.id) e) b
+        | false ↦ b
+      ]
+
+  scoped-o : Scoped look (f o)
+  scoped-o = record {
+    under = λ done x rest e q t. (
+        let z = turned-split r.id s.id o.quants done x rest e in
+        let p = z.1.0 in
+        let j : In p o.quants = subst (λ u. In p u) (sym z.1.1.1.0) (in-right p z.0 (p ∷ z.1.1.0) (inl refl)) in
+        let old : loose bs p.over q ≡ true = (elim z.1.1.1.1.1.1 [
+          | inl same ↦ sym (as-was p.over q (over-apart o p o-bs j)) ∙ subst (λ (u : OwnedQuant). look u.over q ≡ true) same t
+          | inr turn ↦ subst (λ u. loose bs u q ≡ true) (sym (only-r p j turn.0)) (sym (as-c q) ∙ subst (λ u. look u q ≡ true) turn.1 t)
+        ]) in
+        subst (λ u. (shows_by o.parts.kind (turned r.id s.id o.quants) done x q || u) ≡ true) (sym (as-was o.id q (apart o o-bs)))
+        (shown o.parts.kind q done x z.0 p z.1.1.0 (z.1.1.1.1.0 q) z.1.1.1.1.1.0 ((scoped-of bs root w o o-bs).under z.0 p z.1.1.0 z.1.1.1.0 q old)));
+    own = λ q t. subst (λ u. (own_seen o.parts.kind (f o) q || u) ≡ true) (sym (as-was o.id q (apart o o-bs))) (subst (λ u. (u || loose bs o.id q) ≡ true) (sym (own-after o.parts.kind q)) ((scoped-of bs root w o o-bs).own q t));
+  }
+    where
+      shown : (k : BoxKind) (q : ℕ) (done : List OwnedQuant) (x : OwnedQuant) (before : List OwnedQuant) (p : OwnedQuant) (after : List OwnedQuant) → binds_row q done ≡ binds_row q before → x.kind ≡ p.kind
+          → (shows_by k o.quants before p q || loose bs o.id q) ≡ true → (shows_by k (turned r.id s.id o.quants) done x q || loose bs o.id q) ≡ true
+      shown (Base t) q done x before p after e k h = h
+      shown Select q done x before p after e k h =
+          ap₂ (λ (b : Bool) (c : Bool). cond b c (binds_row q (turned r.id s.id o.quants)) || loose bs o.id q) (ap is_F k) e
+          ∙ ap (λ c. cond (is_F p.kind) (binds_row q before) c || loose bs o.id q) (turned-any r.id s.id (λ x. is_F x.kind && is_quant q x) (λ x. refl) o.quants) ∙ h
+      shown (Group n) q done x before p after e k h = h
+      shown (SetOp form v) q done x before p after e k h = h
+      shown OuterJoin q done x before p after e k h = h
+
+      taken : (n q : ℕ) (rs : List OwnedQuant) → list_any (is_quant q) (take n (turned r.id s.id rs)) ≡ list_any (is_quant q) (take n rs)
+      taken zero q rs = refl
+      taken (suc n) q [] = refl
+      taken (suc n) q (x ∷ rs) = elim (x.id == r.id) as (λ t. list_any (is_quant q) (take (suc n) (cond t (over_now s.id x ∷ rs) (x ∷ turned r.id s.id rs))) ≡ list_any (is_quant q) (take (suc n) (x ∷ rs))) [
+        | true ↦ refl
+        | false ↦ ap (λ z. is_quant q x || z) (taken n q rs)
+      ]
+
+      own-after : (k : BoxKind) (q : ℕ) → own_seen k (f o) q ≡ own_seen k o q
+      own-after (Base t) q = refl
+      own-after Select q = turned-any r.id s.id (λ x. is_F x.kind && is_quant q x) (λ x. refl) o.quants
+      own-after (Group n) q = taken 1 q o.quants
+      own-after (SetOp form v) q = refl
+      own-after OuterJoin q = taken 2 q o.quants
+
+  scoped-old : (n : Node) → In n bs → Scoped look n
+  scoped-old n i = record {
+    under = λ done p rest e q t. (
+        let j : In p n.quants = subst (λ u. In p u) (sym e) (in-right p done (p ∷ rest) (inl refl)) in
+        subst (λ u. (shows_by n.parts.kind n.quants done p q || u) ≡ true) (sym (as-was n.id q (apart n i))) ((scoped-of bs root w n i).under done p rest e q (sym (as-was p.over q (over-apart n p i j)) ∙ t)));
+    own = λ q t. subst (λ u. (own_seen n.parts.kind n q || u) ≡ true) (sym (as-was n.id q (apart n i))) ((scoped-of bs root w n i).own q t);
+  }
+
+  used : (b q : ℕ) → look b q ≡ true → times b (overs_in (map g hs)) ≡ 1
+  used b q t = elim (cases_Bool (b == s.id)) [
+    | inl e ↦ (
+        let same : b ≡ s.id = eqb-true b s.id e in
+        let a = times-after b in
+        let d : times b (overs_in bs) ≡ 0 = subst (λ z. times z (overs_in bs) ≡ 0) (sym same) unused in
+        let k : times b (overs_of s) ≡ 0 = none-over s.quants b (λ p i. elim (cases_Bool (p.over == b)) [ inr n ↦ n | inl y ↦ absurd (s-own xs ys root w s m.adds p i (eqb-true p.over b y ∙ same)) ]) in
+        let n = zero-of c.id b (subst (λ z. (c.id == z) ≡ false) (sym same) (apart c c-bs)) in
+        let u = one s.id b (eq-eqb s.id b (sym same)) in omega arith)
+    | inr e ↦ (
+        let l : loose bs b q ≡ true = sym (as-was b q e) ∙ t in
+        let a = times-after b in let d = w.used b q l in let n = zero-of s.id b (eq-false-sym b s.id e) in
+        elim (cases_Bool (c.id == b)) [
+          | inl y ↦ (let u = one c.id b y in let k : times b (overs_of s) ≡ 1 = subst (λ z. times z (overs_of s) ≡ 1) (eqb-true c.id b y) m.once_c in omega arith)
+          | inr y ↦ (
+              let u = zero-of c.id b y in
+              let k : times b (overs_of s) ≡ 0 = none-over s.quants b (λ p i. elim (cases_Bool (p.over == b)) [
+                | inr n ↦ n
+                | inl h ↦ (let v = eqb-true p.over b h in absurd (elim (m.others p i) [ inl x ↦ clash (c.id == b) (eq-eqb c.id b (sym x ∙ v)) y | inr x ↦ clash (loose bs b q) l (subst (λ z. loose bs z q ≡ false) v (x q)) ]))
+              ]) in omega arith)
+        ])
+  ]
+    where
+      unused : times s.id (overs_in bs) ≡ 0
+      unused = elim (cases_0 (times s.id (overs_in bs))) [
+        | inl e ↦ e
+        | inr h ↦ (let x = times-some overs_of s.id bs h in let y = times-map (λ (p : OwnedQuant). p.over) s.id x.0.quants x.1.1 in absurd (not-s xs ys root w s m.adds x.0 y.0 x.1.0 y.1.0 y.1.1))
+      ]
+        where
+          cases_0 : (k : ℕ) → (k ≡ 0) ⊎ (1 ≤ k)
+          cases_0 zero = inl refl
+          cases_0 (suc k) = inr (omega arith)
+
+  pub interposed-sound : Sound (interposed xs ys s o.id r.id) root
+  interposed-sound = changed-sound hs root g l.ordered l.rooted changes look
+      (λ y i. elim (cases y i) [
+        | inl e ↦ subst (λ z. Scoped look z) (sym e.1) scoped-o
+        | inr e ↦ subst (λ z. Scoped look z) (sym e.1) (elim (in-more xs s ys y i) [ inl x ↦ subst (λ z. Scoped look z) x m.scoped | inr j ↦ scoped-old y j ])
+      ])
+      (λ y i q t. (
+          let h : owns q y ≡ true = sym (any-after (is_quant q) (λ x. refl) y) ∙ t in
+          elim (in-more xs s ys y i) [
+            | inl x ↦ subst (λ (z : Node). look z.id q ≡ false) x (as-c q ∙ elim (cases_Bool (loose bs c.id q)) [
+              | inr n ↦ n
+              | inl u ↦ absurd (clash (list_any (owns q) bs) (loose-owned bs root w c.id q u) (m.adds.new q (subst (λ z. owns q z ≡ true) (sym x) h)))
+            ])
+            | inr j ↦ as-was y.id q (apart y j) ∙ w.settled y j q h
+          ]))
+      used
