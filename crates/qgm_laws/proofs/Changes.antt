@@ -32,14 +32,13 @@ local-after bs root g o rooted m = record {
       λ a r c ia ir e ic v. (
           let y = in-map g a bs ia in let z = in-map g c bs ic in
           let h = f y.0 z.0 r y.1.0 (subst (λ (z : Node). In r z.quants) (sym y.1.1) ir) e z.1.0 (sym (m.id z.0) ∙ ap (λ (z : Node). z.id) z.1.1 ∙ v) in
-          (h.0, subst (λ s. k ≤ s) (sym (m.wide z.0 z.1.0) ∙ ap width z.1.1) h.1)));
+          (h.0, subst (λ (s : Node). k ≤ width s) z.1.1 h.1)));
   own_nodes = λ n i q t. (let x = in-map g n bs i in subst (λ (z : Node). (owns q z ≡ true) × (binds_row q z.quants ≡ false)) x.1.1 (m.own_nodes x.0 x.1.0 q (subst (λ (z : Node). nodes_in q z ≡ true) (sym x.1.1) t)));
   bare = λ n i. (let x = in-map g n bs i in subst (λ (z : Node). BareBy z.parts.kind z) x.1.1 (m.bare x.0 x.1.0));
   arms = λ n c r i j ic v. (
       let x = in-map g n bs i in let z = in-map g c bs ic in
       let a = m.arms x.0 z.0 r x.1.0 (subst (λ (z : Node). In r z.quants) (sym x.1.1) j) z.1.0 (sym (m.id z.0) ∙ ap (λ (z : Node). z.id) z.1.1 ∙ v) in
-      subst (λ (n : Node). ArmsBy n.parts.kind (width c) (width n)) x.1.1
-      (subst (λ u. ArmsBy (g x.0).parts.kind u (width (g x.0))) (sym (m.wide z.0 z.1.0) ∙ ap width z.1.1) (subst (λ u. ArmsBy (g x.0).parts.kind (width z.0) u) (sym (m.wide x.0 x.1.0)) a)));
+      subst (λ (n : Node). ArmsBy n.parts.kind (width c) (width n)) x.1.1 (subst (λ (u : Node). ArmsBy (g x.0).parts.kind (width u) (width (g x.0))) z.1.1 a));
 }
 
 -- within any bound of what is looked up
@@ -72,14 +71,13 @@ module _ (bs : List Node) (root : ℕ) (w : Sound bs root) (g : Node → Node) (
   changes : Changes bs root g
   changes = record {
     id = m.id;
-    wide = m.wide;
     over = λ y r i j. ranked bs w.ordered y r i (subst (λ z. In r z) (m.quants y i) j);
     once = λ q. (let a = times-same ids_of g q bs (λ y i. ap (map (λ (r : OwnedQuant). r.id)) (m.quants y i)) in let b = w.once q in omega arith);
     top = times-same overs_of g root bs (λ y i. ap (map (λ (r : OwnedQuant). r.over)) (m.quants y i)) ∙ w.top;
-    fits = λ n i q k t. (λ y z r iy j e iz v. m.fits n i q k t y r z iy (subst (λ z. In r z) (m.quants y iy) j) e iz v);
+    fits = λ n i q k t. (λ y z r iy j e iz v. (let h = m.fits n i q k t y r z iy (subst (λ z. In r z) (m.quants y iy) j) e iz v in (h.0, subst (λ u. k ≤ u) (sym (m.wide z iz)) h.1)));
     own_nodes = λ y i q t. subst (λ rs. (list_any (is_quant q) rs ≡ true) × (binds_row q rs ≡ false)) (sym (m.quants y i)) (m.own_nodes y i q t);
     bare = λ y i. subst (λ k. BareBy k (g y)) (sym (m.kind y i)) (m.bare y i);
-    arms = λ y z r i j iz v. subst (λ k. ArmsBy k (width z) (width y)) (sym (m.kind y i)) (w.arms y z r i (subst (λ z. In r z) (m.quants y i) j) iz v);
+    arms = λ y z r i j iz v. subst (λ u. ArmsBy (g y).parts.kind u (width (g y))) (sym (m.wide z iz)) (subst (λ u. ArmsBy (g y).parts.kind (width z) u) (sym (m.wide y i)) (subst (λ k. ArmsBy k (width z) (width y)) (sym (m.kind y i)) (w.arms y z r i (subst (λ z. In r z) (m.quants y i) j) iz v)));
   }
 
   pub parts-scoped : (y : Node) → In y bs → Scoped (loose bs) (g y)

@@ -210,7 +210,6 @@ module _ (xs ys : List Node) (root : ℕ) (w : Sound (xs ++ ys) root) (s o c : N
   changes : Changes hs root g
   changes = record {
     id = id;
-    wide = λ y i. wide y;
     over = λ y p i j. elim (quants-after y p i j) [
       | inl a ↦ ranked hs l.ordered y p i a
       | inr e ↦ subst (λ z. Below hs y.id z) (sym e.1.0) (subst (λ (z : Node). Below hs z.id s.id) (sym e.0) (in-has s hs s-hs, place-before xs o s ys (once-each hs l.ordered) m.in_o))
@@ -220,20 +219,20 @@ module _ (xs ys : List Node) (root : ℕ) (w : Sound (xs ++ ys) root) (s o c : N
     fits = λ n i q k t. (
         let u : reads_in q k n ≡ true = subst (λ z. reads_in q k (record n { parts = z }) ≡ true) (parts n) t in
         λ y z p iy j e iz v. elim (quants-after y p iy j) [
-          | inl a ↦ l.fits n i q k u y p z iy a e iz v
+          | inl a ↦ (let h = l.fits n i q k u y p z iy a e iz v in (h.0, subst (λ u. k ≤ u) (sym (wide z)) h.1))
           | inr x ↦ (
               let same : z ≡ s = same-box hs z s l.ordered iz s-hs (v ∙ x.1.0) in
-              let h = m.fits n i k (subst (λ z. reads_in z k n ≡ true) (sym e ∙ x.1.1) u) in (h.0, subst (λ (z : Node). k ≤ width z) (sym same) h.1))
+              let h = m.fits n i k (subst (λ z. reads_in z k n ≡ true) (sym e ∙ x.1.1) u) in (h.0, subst (λ u. k ≤ u) (sym (wide z)) (subst (λ (z : Node). k ≤ width z) (sym same) h.1)))
         ]);
     own_nodes = λ y i q t. (let h = l.own_nodes y i q (subst (λ z. nodes_in q (record y { parts = z }) ≡ true) (parts y) t) in
         (any-after (is_quant q) (λ x. refl) y ∙ h.0, any-after (λ x. is_F x.kind && is_quant q x) (λ x. refl) y ∙ h.1));
     bare = λ y i. bare-after y.parts.kind y (l.bare y i) (parts y);
-    arms = λ y z p i j iz v. subst (λ k. ArmsBy k (width z) (width y)) (sym (ap (λ (p : BoxParts). p.kind) (parts y))) (elim (quants-after y p i j) [
+    arms = λ y z p i j iz v. subst (λ u. ArmsBy (g y).parts.kind u (width (g y))) (sym (wide z)) (subst (λ u. ArmsBy (g y).parts.kind (width z) u) (sym (wide y)) (subst (λ k. ArmsBy k (width z) (width y)) (sym (ap (λ (p : BoxParts). p.kind) (parts y))) (elim (quants-after y p i j) [
       | inl a ↦ l.arms y z p i a iz v
       | inr x ↦ (
           let same : z ≡ s = same-box hs z s l.ordered iz s-hs (v ∙ x.1.0) in
           subst (λ (u : Node). ArmsBy u.parts.kind (width z) (width u)) (sym x.0) (subst (λ (u : Node). ArmsBy o.parts.kind (width u) (width o)) (sym same) m.arms))
-    ]);
+    ])));
   }
     where
       bare-of : (k : BoxKind) (y : Node) (rs : List OwnedQuant) → (y.quants ≡ [] → rs ≡ []) → BareBy k y → BareBy k (record y { quants = rs })
