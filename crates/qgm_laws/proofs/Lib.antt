@@ -25,4 +25,5 @@ pub mod Scoped
 pub mod Changes
 pub mod Adds
 pub mod Interposed
+pub mod Quants
 pub mod Examples
