@@ -137,8 +137,8 @@ module _ (xs ys : List Node) (root : ℕ) (w : Sound (xs ++ ys) root) (s : Node)
       (λ n i. elim (in-more xs s ys n i) [ inl x ↦ subst (λ z. Scoped (loose bs) z) x sc | inr j ↦ scoped-of bs root w n j ])
       (λ n i q o. elim (in-more xs s ys n i) [ inl x ↦ subst (λ (z : Node). loose bs z.id q ≡ false) x (none-new q) | inr j ↦ w.settled n j q o ])
       (λ b q t. (
-          let a = times-more overs_of b xs s ys in let c = w.used b q t in
-          let d : times b (overs_of s) ≡ 0 = apart s.quants b (λ r i. elim (cases_Bool (r.over == b)) [ inr f ↦ f | inl y ↦ absurd (clash (loose bs b q) t (subst (λ z. loose bs z q ≡ false) (eqb-true r.over b y) (closed r i q))) ]) in omega arith))
+      let a = times-more overs_of b xs s ys in let c = w.used b q t in
+      let d : times b (overs_of s) ≡ 0 = apart s.quants b (λ r i. elim (cases_Bool (r.over == b)) [ inr f ↦ f | inl y ↦ absurd (clash (loose bs b q) t (subst (λ z. loose bs z q ≡ false) (eqb-true r.over b y) (closed r i q))) ]) in omega arith))
     where
       apart : (rs : List OwnedQuant) (b : ℕ) → ((r : OwnedQuant) → In r rs → (r.over == b) ≡ false) → times b (map (λ (r : OwnedQuant). r.over) rs) ≡ 0
       apart [] b h = refl

@@ -30,9 +30,9 @@ local-after bs root g o rooted m = record {
   top = m.top;
   fits = λ n i q k t. (let x = in-map g n bs i in let f = m.fits x.0 x.1.0 q k (subst (λ (z : Node). reads_in q k z ≡ true) (sym x.1.1) t) in
       λ a r c ia ir e ic v. (
-          let y = in-map g a bs ia in let z = in-map g c bs ic in
-          let h = f y.0 z.0 r y.1.0 (subst (λ (z : Node). In r z.quants) (sym y.1.1) ir) e z.1.0 (sym (m.id z.0) ∙ ap (λ (z : Node). z.id) z.1.1 ∙ v) in
-          (h.0, subst (λ (s : Node). k ≤ width s) z.1.1 h.1)));
+      let y = in-map g a bs ia in let z = in-map g c bs ic in
+      let h = f y.0 z.0 r y.1.0 (subst (λ (z : Node). In r z.quants) (sym y.1.1) ir) e z.1.0 (sym (m.id z.0) ∙ ap (λ (z : Node). z.id) z.1.1 ∙ v) in
+      (h.0, subst (λ (s : Node). k ≤ width s) z.1.1 h.1)));
   own_nodes = λ n i q t. (let x = in-map g n bs i in subst (λ (z : Node). (owns q z ≡ true) × (binds_row q z.quants ≡ false)) x.1.1 (m.own_nodes x.0 x.1.0 q (subst (λ (z : Node). nodes_in q z ≡ true) (sym x.1.1) t)));
   bare = λ n i. (let x = in-map g n bs i in subst (λ (z : Node). BareBy z.parts.kind z) x.1.1 (m.bare x.0 x.1.0));
   arms = λ n c r i j ic v. (

@@ -336,12 +336,12 @@ module _ (xs ys : List Node) (root : ℕ) (w : Sound (xs ++ ys) root) (s o c : N
         | inr e ↦ subst (λ z. Scoped look z) (sym e.1) (elim (in-more xs s ys y i) [ inl x ↦ subst (λ z. Scoped look z) x m.scoped | inr j ↦ scoped-old y j ])
       ])
       (λ y i q t. (
-          let h : owns q y ≡ true = sym (any-after (is_quant q) (λ x. refl) y) ∙ t in
-          elim (in-more xs s ys y i) [
-            | inl x ↦ subst (λ (z : Node). look z.id q ≡ false) x (as-c q ∙ elim (cases_Bool (loose bs c.id q)) [
-              | inr n ↦ n
-              | inl u ↦ absurd (clash (list_any (owns q) bs) (loose-owned bs root w c.id q u) (m.adds.new q (subst (λ z. owns q z ≡ true) (sym x) h)))
-            ])
-            | inr j ↦ as-was y.id q (apart y j) ∙ w.settled y j q h
-          ]))
+      let h : owns q y ≡ true = sym (any-after (is_quant q) (λ x. refl) y) ∙ t in
+      elim (in-more xs s ys y i) [
+        | inl x ↦ subst (λ (z : Node). look z.id q ≡ false) x (as-c q ∙ elim (cases_Bool (loose bs c.id q)) [
+          | inr n ↦ n
+          | inl u ↦ absurd (clash (list_any (owns q) bs) (loose-owned bs root w c.id q u) (m.adds.new q (subst (λ z. owns q z ≡ true) (sym x) h)))
+        ])
+        | inr j ↦ as-was y.id q (apart y j) ∙ w.settled y j q h
+      ]))
       used

@@ -26,4 +26,5 @@ pub mod Changes
 pub mod Adds
 pub mod Interposed
 pub mod Quants
+pub mod Order
 pub mod Examples

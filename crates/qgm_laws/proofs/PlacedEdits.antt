@@ -98,10 +98,10 @@ module _ (g : QueryGraph) (w : IsPlaced g) where
       let o = owner-of q h in
       subst (λ z. Placed z g.root) (sym (at-owner g.boxes g.root w q o.0 (on_quant q f) o.1.0 o.1.1))
       (placed-ids g.boxes w.ordered o.0 o.1.0 (on_quant q f) (λ y. refl) (ids-changed (is_quant q) f same o.0.quants) g.root w
-        (λ r j. elim (in-changed (is_quant q) f o.0.quants r j) [
-          | inl a ↦ ranked g.boxes w.ordered o.0 r o.1.0 a
-          | inr a ↦ subst (λ (z : OwnedQuant). Below g.boxes o.0.id z.over) a.1.1.1 (over o.0 a.0 o.1.0 a.1.0 (eqb-true a.0.id q a.1.1.0))
-        ]) (λ p t. w.known o.0 o.1.0 p t))
+      (λ r j. elim (in-changed (is_quant q) f o.0.quants r j) [
+        | inl a ↦ ranked g.boxes w.ordered o.0 r o.1.0 a
+        | inr a ↦ subst (λ (z : OwnedQuant). Below g.boxes o.0.id z.over) a.1.1.1 (over o.0 a.0 o.1.0 a.1.0 (eqb-true a.0.id q a.1.1.0))
+      ]) (λ p t. w.known o.0 o.1.0 p t))
 
   pub put-quant : (q : ℕ) (kind : QuantKind) → HasQuant q g → IsPlaced (put_quant q kind g)
   put-quant q kind h = quant-by q (λ r. record r { kind = kind }) h (λ r. refl) (λ n r i j e. ranked g.boxes w.ordered n r i j)

@@ -239,12 +239,12 @@ box-moved g w c d h k =
     let i : In nc g.boxes = x.1.1.0 in
     let e : nc.id ≡ c = eqb-true nc.id c x.1.1.1 in
     subst (λ o. Placed (put_found d o (without (is_box c) g.boxes)) g.root) (sym x.1.0) (
-      subst (λ z. Placed (put_below (is_box d) nc (without (is_box z) g.boxes)) g.root) e (record {
-        rooted = moved-any nc d (is_box g.root) g.boxes w.ordered i ∙ w.rooted;
-        ordered = moved-ordered nc d g.boxes w.ordered i (subst (λ z. Below g.boxes d z) (sym e) h) (λ n r l u v. k n r l u (v ∙ e));
-        once = λ q. (let a = moved-times nc d ids_of q g.boxes w.ordered i in let b = w.once q in omega arith);
-        known = λ n j q t. moved-any nc d (owns q) g.boxes w.ordered i ∙ w.known n (moved-in nc d g.boxes i n j) q t;
-      }))
+    subst (λ z. Placed (put_below (is_box d) nc (without (is_box z) g.boxes)) g.root) e (record {
+      rooted = moved-any nc d (is_box g.root) g.boxes w.ordered i ∙ w.rooted;
+      ordered = moved-ordered nc d g.boxes w.ordered i (subst (λ z. Below g.boxes d z) (sym e) h) (λ n r l u v. k n r l u (v ∙ e));
+      once = λ q. (let a = moved-times nc d ids_of q g.boxes w.ordered i in let b = w.once q in omega arith);
+      known = λ n j q t. moved-any nc d (owns q) g.boxes w.ordered i ∙ w.known n (moved-in nc d g.boxes i n j) q t;
+    }))
 
 -- ---- boxes dropped
 pub boxes-dropped : (g : QueryGraph) → IsPlaced g → ((n m : Node) (q : ℕ) → In n g.boxes → Stays g n → holds q (named_by n) ≡ true → Owned g m q → Stays g m) → IsPlaced (compact g)
@@ -337,8 +337,8 @@ conjunct-moved g w b i to hb ht =
     let h = on_box b (without_cond i) g in
     let taken : IsPlaced h = take-cond g w b i hb in
     by (cond_at b i g.boxes) taken (λ c e. put-cond h taken to c (any-change (is_box to) (is_box b) (without_cond i) (λ y. refl) g.boxes ∙ ht) (λ q t.
-        any-change (owns q) (is_box b) (without_cond i) (λ y. refl) g.boxes
-        ∙ w.known x.0 x.1.1.0 q (named-conds q x.0 (get-any (says_cond q) x.0.parts.conds.items i c (sym (ap (λ o. slice_get (conds_in o) i) x.1.0) ∙ e) (sym (cond-any q c) ∙ t)))))
+    any-change (owns q) (is_box b) (without_cond i) (λ y. refl) g.boxes
+    ∙ w.known x.0 x.1.1.0 q (named-conds q x.0 (get-any (says_cond q) x.0.parts.conds.items i c (sym (ap (λ o. slice_get (conds_in o) i) x.1.0) ∙ e) (sym (cond-any q c) ∙ t)))))
   where
     by : (o : Option Cond) → IsPlaced (on_box b (without_cond i) g) → ((c : Cond) → o ≡ Some c → IsPlaced (on_box to (with_cond c) (on_box b (without_cond i) g))) → IsPlaced (on_boxes (λ boxes. put_cond_found to o (change (is_box b) (without_cond i) boxes)) g)
     by None t k = t

@@ -64,10 +64,19 @@ insert-split (suc i) r (s ∷ rs) (d ∷ done) x rest e =
     let h : s ≡ d = cc in let k : insert rs i r ≡ done ++ x ∷ rest = cc in
     elim (insert-split i r rs done x rest k) [
       | inl y ↦ inl y
-      | inr y ↦ inr (s ∷ y.0, (y.1.0, (ap (λ z. s ∷ z) y.1.1.0, λ p t b. elim (or_cases (is_F s.kind && is_quant p s) (binds_row p y.0) b) [
-        | inl a ↦ or-left (is_F d.kind && is_quant p d) (binds_row p done) (subst (λ (z : OwnedQuant). (is_F z.kind && is_quant p z) ≡ true) h a)
-        | inr a ↦ or-right (is_F d.kind && is_quant p d) (binds_row p done) (y.1.1.1 p t a)
-      ])))
+      | inr y ↦ inr (
+        s ∷ y.0,
+        (
+          y.1.0,
+          (
+            ap (λ z. s ∷ z) y.1.1.0,
+            λ p t b. elim (or_cases (is_F s.kind && is_quant p s) (binds_row p y.0) b) [
+              | inl a ↦ or-left (is_F d.kind && is_quant p d) (binds_row p done) (subst (λ (z : OwnedQuant). (is_F z.kind && is_quant p z) ≡ true) h a)
+              | inr a ↦ or-right (is_F d.kind && is_quant p d) (binds_row p done) (y.1.1.1 p t a)
+            ],
+          ),
+        ),
+      )
     ]
 
 -- a split with one less is a split of all
@@ -76,11 +85,19 @@ less-split q [] [] x rest e = absurd (let z : ⊥ = cc in z)
 less-split q [] (d ∷ done) x rest e = absurd (let z : ⊥ = cc in z)
 less-split q (s ∷ rs) done x rest e = elim (cases_Bool (s.id == q)) [
   | inl t ↦ (
-      let k : rs ≡ done ++ x ∷ rest = sym (ap (λ (b : Bool). cond b rs (s ∷ without (is_quant q) rs)) t) ∙ e in
-      (s ∷ done, (rest, (ap (λ z. s ∷ z) k, λ p n b. elim (or_cases (is_F s.kind && is_quant p s) (binds_row p done) b) [
-        | inr a ↦ a
-        | inl a ↦ absurd (let y = and_parts (is_F s.kind) (s.id == p) a in clash (p == q) (eq-eqb p q (sym (eqb-true s.id p y.1) ∙ eqb-true s.id q t)) (not-true (p == q) n))
-      ]))))
+      let k : rs ≡ done ++ x ∷ rest = sym (ap (λ (b : Bool). cond b rs (s ∷ without (is_quant q) rs)) t) ∙ e in (
+        s ∷ done,
+        (
+          rest,
+          (
+            ap (λ z. s ∷ z) k,
+            λ p n b. elim (or_cases (is_F s.kind && is_quant p s) (binds_row p done) b) [
+              | inr a ↦ a
+              | inl a ↦ absurd (let y = and_parts (is_F s.kind) (s.id == p) a in clash (p == q) (eq-eqb p q (sym (eqb-true s.id p y.1) ∙ eqb-true s.id q t)) (not-true (p == q) n))
+            ],
+          ),
+        ),
+      ))
   | inr f ↦ at-head done (λ d u k. less-split q rs d x rest k) (sym (ap (λ (b : Bool). cond b rs (s ∷ without (is_quant q) rs)) f) ∙ e)
 ]
   where
@@ -88,11 +105,19 @@ less-split q (s ∷ rs) done x rest e = elim (cases_Bool (s.id == q)) [
     at-head [] again e = let h : s ≡ x = cc in ([], (rs, (ap (λ z. z ∷ rs) h, λ p t h. h)))
     at-head (d ∷ done) again e =
         let h : s ≡ d = cc in let k : without (is_quant q) rs ≡ done ++ x ∷ rest = cc in
-        let y = again done x k in
-        (s ∷ y.0, (y.1.0, (ap (λ z. s ∷ z) y.1.1.0, λ p t b. elim (or_cases (is_F s.kind && is_quant p s) (binds_row p y.0) b) [
-          | inl a ↦ or-left (is_F d.kind && is_quant p d) (binds_row p done) (subst (λ (z : OwnedQuant). (is_F z.kind && is_quant p z) ≡ true) h a)
-          | inr a ↦ or-right (is_F d.kind && is_quant p d) (binds_row p done) (y.1.1.1 p t a)
-        ])))
+        let y = again done x k in (
+          s ∷ y.0,
+          (
+            y.1.0,
+            (
+              ap (λ z. s ∷ z) y.1.1.0,
+              λ p t b. elim (or_cases (is_F s.kind && is_quant p s) (binds_row p y.0) b) [
+                | inl a ↦ or-left (is_F d.kind && is_quant p d) (binds_row p done) (subst (λ (z : OwnedQuant). (is_F z.kind && is_quant p z) ≡ true) h a)
+                | inr a ↦ or-right (is_F d.kind && is_quant p d) (binds_row p done) (y.1.1.1 p t a)
+              ],
+            ),
+          ),
+        )
 
 less-any : (p : OwnedQuant → Bool) (q : ℕ) (rs : List OwnedQuant) → ((r : OwnedQuant) → p r ≡ true → (r.id == q) ≡ false) → list_any p rs ≡ true → list_any p (without (is_quant q) rs) ≡ true
 less-any p q rs h t = let x = any-in p rs t in any-from p x.0 (without (is_quant q) rs) (less-in (is_quant q) rs x.0 x.1.0 (h x.0 x.1.1)) x.1.1
@@ -132,10 +157,10 @@ module _ (bs : List Node) (root : ℕ) (w : Sound bs root) (o : Node) (i : In o 
       fits = λ n j q k t. (
           let u : reads_in q k n ≡ true = subst (λ p. reads_in q k (record n { parts = p }) ≡ true) (parts-at n j) t in
           λ y z r iy jr e iz v. (
-              let h : (1 ≤ k) × (k ≤ width z) = (elim (cases-at y iy) [
-                | inl x ↦ fit q k n j u r (subst (λ (z : Node). In r z.quants) x.1 jr) e z iz v
-                | inr x ↦ w.fits n j q k u y r z iy (subst (λ (z : Node). In r z.quants) x.1 jr) e iz v
-              ]) in (h.0, subst (λ a. k ≤ a) (sym (width-at z iz)) h.1)));
+          let h : (1 ≤ k) × (k ≤ width z) = (elim (cases-at y iy) [
+            | inl x ↦ fit q k n j u r (subst (λ (z : Node). In r z.quants) x.1 jr) e z iz v
+            | inr x ↦ w.fits n j q k u y r z iy (subst (λ (z : Node). In r z.quants) x.1 jr) e iz v
+          ]) in (h.0, subst (λ a. k ≤ a) (sym (width-at z iz)) h.1)));
       own_nodes = λ y j q t. (
           let u : nodes_in q y ≡ true = subst (λ p. nodes_in q (record y { parts = p }) ≡ true) (parts-at y j) t in
           elim (cases-at y j) [
@@ -215,21 +240,27 @@ module _ (bs : List Node) (root : ℕ) (w : Sound bs root) (o : Node) (i : ℕ) 
       (λ s j. elim (in-put i r o.quants s j) [ inl e ↦ subst (λ (z : OwnedQuant). Below bs o.id z.over) e m.below | inr k ↦ ranked bs w.ordered o s m.within k ])
       put-once
       (let a = times-put-by (λ (r : OwnedQuant). r.over) root i r o.quants in let b : times root (overs_of o) ≡ 0 = (let c = times-in overs_of root o bs m.within in let d = w.top in omega arith) in
-          let k : ◌≡◌ {A = ℕ} (cond (r.over == root) 1 0) 0 = ap (λ (b : Bool). cond {A = ℕ} b 1 0) m.not_root in omega arith)
+      let k : ◌≡◌ {A = ℕ} (cond (r.over == root) 1 0) 0 = ap (λ (b : Bool). cond {A = ℕ} b 1 0) m.not_root in omega arith)
       (λ q k n j t s l e z iz v. elim (in-put i r o.quants s l) [
         | inl x ↦ absurd (clash (r.id == q) (eq-eqb r.id q (ap (λ (z : OwnedQuant). z.id) x ∙ e)) (not-new q (read-owned bs root w n q j (reads-at-read q k n t))))
         | inr x ↦ w.fits n j q k t o s z m.within x e iz v
       ])
       (λ q t. (let h = w.own_nodes o m.within q t in let n = not-new q (any-from (owns q) o bs m.within h.0) in
-          (any-put (is_quant q) i r o.quants h.0, any-insert (λ x. is_F x.kind && is_quant q x) i r o.quants (off (is_F r.kind) (r.id == q) n) h.1)))
+      (any-put (is_quant q) i r o.quants h.0, any-insert (λ x. is_F x.kind && is_quant q x) i r o.quants (off (is_F r.kind) (r.id == q) n) h.1)))
       m.bare
       (λ s z l iz v. elim (in-put i r o.quants s l) [ inl x ↦ m.arms z iz (v ∙ ap (λ (z : OwnedQuant). z.over) (sym x)) | inr x ↦ w.arms o z s m.within x iz v ])
       put-scoped
-      (λ q t. elim (cases_Bool (owns q o)) [ inl y ↦ w.settled o m.within q y | inr n ↦ elim (cases_Bool (loose bs o.id q)) [ inr f ↦ f | inl l ↦ absurd (
-          clash (r.id == q) (elim (cases_Bool (r.id == q)) [ inl y ↦ y | inr f ↦ absurd (clash (list_any (is_quant q) (insert o.quants i r)) t (any-insert (is_quant q) i r o.quants f n)) ]) (not-new q (loose-owned bs root w o.id q l))) ] ])
+      (λ q t. elim (cases_Bool (owns q o)) [
+        | inl y ↦ w.settled o m.within q y
+        | inr n ↦ elim (cases_Bool (loose bs o.id q)) [
+          | inr f ↦ f
+          | inl l ↦ absurd (
+              clash (r.id == q) (elim (cases_Bool (r.id == q)) [ inl y ↦ y | inr f ↦ absurd (clash (list_any (is_quant q) (insert o.quants i r)) t (any-insert (is_quant q) i r o.quants f n)) ]) (not-new q (loose-owned bs root w o.id q l)))
+        ]
+      ])
       (λ b q t. (let a = times-put-by (λ (r : OwnedQuant). r.over) b i r o.quants in
-          let n : (r.over == b) ≡ false = (elim (cases_Bool (r.over == b)) [ inr f ↦ f | inl y ↦ absurd (clash (loose bs r.over q) (subst (λ z. loose bs z q ≡ true) (sym (eqb-true r.over b y)) t) (m.closed q)) ]) in
-          let k : ◌≡◌ {A = ℕ} (cond (r.over == b) 1 0) 0 = ap (λ (b : Bool). cond {A = ℕ} b 1 0) n in omega arith))
+      let n : (r.over == b) ≡ false = (elim (cases_Bool (r.over == b)) [ inr f ↦ f | inl y ↦ absurd (clash (loose bs r.over q) (subst (λ z. loose bs z q ≡ true) (sym (eqb-true r.over b y)) t) (m.closed q)) ]) in
+      let k : ◌≡◌ {A = ℕ} (cond (r.over == b) 1 0) 0 = ap (λ (b : Bool). cond {A = ℕ} b 1 0) n in omega arith))
     where
       off : (a b : Bool) → b ≡ false → (a && b) ≡ false
       off true b h = h
@@ -356,3 +387,111 @@ module _ (bs : List Node) (root : ℕ) (w : Sound bs root) (o : Node) (f : Node 
       (bare-turned o.parts.kind (w.bare o m.within))
       (λ s z l iz v. (let x = m.same s l in w.arms o z x.0 m.within x.1.0 iz (v ∙ sym x.1.1.1)))
       m.scoped (λ q t. w.settled o m.within q (sym (owned-same q) ∙ t)) (λ b q t. ap (times b) m.overs)
+
+-- ---- a quantifier over another box
+
+module _ (bs : List Node) (root : ℕ) (w : Sound bs root) (o : Node) (r : OwnedQuant) (c : Node) (m : Redirects bs root o r c) where
+  abbrev fr : Node → Node
+  fr = on_quant r.id (over_now c.id)
+
+  few-o : times r.id (ids_of o) ≤ 1
+  few-o = few-ids bs o r.id (w.once r.id) m.within
+
+  -- of o's quantifiers those that are as they were, and the one that moved
+  now-in : (s : OwnedQuant) → In s (fr o).quants → In s o.quants ⊎ ((s.over ≡ c.id) × (s.id ≡ r.id))
+  now-in s j = elim (turned-in r.id c.id o.quants s j) [ inl a ↦ inl a | inr a ↦ inr (ap (λ (z : OwnedQuant). z.over) (sym a.1.1.1), ap (λ (z : OwnedQuant). z.id) (sym a.1.1.1) ∙ a.1.1.0) ]
+
+  times-now : (b : ℕ) → times b (overs_of (fr o)) + times b (r.over ∷ []) ≡ times b (overs_of o) + times b (c.id ∷ [])
+  times-now b = turned-times r.id c.id b o.quants r (first-own r o.quants few-o m.owned)
+
+  zero-now : (b : ℕ) → (c.id == b) ≡ false → times b (c.id ∷ []) ≡ 0
+  zero-now b n = (let k : ◌≡◌ {A = ℕ} (cond (c.id == b) 1 0) 0 = ap (λ (b : Bool). cond {A = ℕ} b 1 0) n in omega arith)
+
+  not-c : (b q : ℕ) → loose bs b q ≡ true → (c.id == b) ≡ false
+  not-c b q t = elim (cases_Bool (c.id == b)) [ inr f ↦ f | inl y ↦ absurd (clash (loose bs b q) t (subst (λ z. loose bs z q ≡ false) (eqb-true c.id b y) (m.closed q))) ]
+
+  taken-now : (k q : ℕ) (rs : List OwnedQuant) → list_any (is_quant q) (take k (turned r.id c.id rs)) ≡ list_any (is_quant q) (take k rs)
+  taken-now zero q rs = refl
+  taken-now (suc k) q [] = refl
+  taken-now (suc k) q (x ∷ rs) = elim (x.id == r.id) as (λ t. list_any (is_quant q) (take (suc k) (cond t (over_now c.id x ∷ rs) (x ∷ turned r.id c.id rs))) ≡ list_any (is_quant q) (take (suc k) (x ∷ rs))) [
+    | true ↦ refl
+    | false ↦ ap (λ z. is_quant q x || z) (taken-now k q rs)
+  ]
+
+  seen-now : (k : BoxKind) (q : ℕ) → own_seen k (fr o) q ≡ own_seen k o q
+  seen-now (Base t) q = refl
+  seen-now Select q = turned-any r.id c.id (λ x. is_F x.kind && is_quant q x) (λ x. refl) o.quants
+  seen-now (Group n) q = taken-now 1 q o.quants
+  seen-now (SetOp form v) q = refl
+  seen-now OuterJoin q = taken-now 2 q o.quants
+
+  shown-now : (k : BoxKind) (q : ℕ) (done : List OwnedQuant) (x : OwnedQuant) (before : List OwnedQuant) (p : OwnedQuant) → binds_row q done ≡ binds_row q before → x.kind ≡ p.kind
+      → (shows_by k o.quants before p q || loose bs o.id q) ≡ true → (shows_by k (turned r.id c.id o.quants) done x q || loose bs o.id q) ≡ true
+  shown-now (Base t) q done x before p e k h = h
+  shown-now Select q done x before p e k h =
+      ap₂ (λ (b : Bool) (d : Bool). cond b d (binds_row q (turned r.id c.id o.quants)) || loose bs o.id q) (ap is_F k) e
+      ∙ ap (λ d. cond (is_F p.kind) (binds_row q before) d || loose bs o.id q) (turned-any r.id c.id (λ x. is_F x.kind && is_quant q x) (λ x. refl) o.quants) ∙ h
+  shown-now (Group n) q done x before p e k h = h
+  shown-now (SetOp form v) q done x before p e k h = h
+  shown-now OuterJoin q done x before p e k h = h
+
+  scoped-now : Scoped (loose bs) (fr o)
+  scoped-now = record {
+    under = λ done x rest e q t. (
+        let z = turned-split r.id c.id o.quants done x rest e in
+        let old : loose bs z.1.0.over q ≡ true = (elim z.1.1.1.1.1.1 [
+          | inl same ↦ subst (λ (u : OwnedQuant). loose bs u.over q ≡ true) same t
+          | inr turn ↦ absurd (clash (loose bs c.id q) (subst (λ u. loose bs u q ≡ true) turn.1 t) (m.closed q))
+        ]) in
+        shown-now o.parts.kind q done x z.0 z.1.0 (z.1.1.1.1.0 q) z.1.1.1.1.1.0 ((scoped-of bs root w o m.within).under z.0 z.1.0 z.1.1.0 z.1.1.1.0 q old));
+    own = λ q t. subst (λ u. (u || loose bs o.id q) ≡ true) (sym (seen-now o.parts.kind q)) ((scoped-of bs root w o m.within).own q t);
+  }
+
+  bare-now : (k : BoxKind) → BareBy k o → BareBy k (fr o)
+  bare-now (Base t) b = (ap (turned r.id c.id) b.0, b.1, b.2)
+  bare-now Select b = tt
+  bare-now (Group n) b = tt
+  bare-now (SetOp form v) b = b
+  bare-now OuterJoin b = tt
+
+  same-one : (z : Node) → In z bs → z.id ≡ c.id → z ≡ c
+  same-one z iz e = same-box bs z c w.ordered iz m.in_c e
+
+  over-now : (s : OwnedQuant) → In s (fr o).quants → Below bs o.id s.over
+  over-now s j = elim (now-in s j) [ inl a ↦ ranked bs w.ordered o s m.within a | inr a ↦ subst (λ z. Below bs o.id z) (sym a.0) m.below ]
+
+  once-now : (q : ℕ) → times q (ids_in (map (at o.id fr) bs)) ≤ 1
+  once-now q = let a = same-ids bs w.ordered o m.within fr (λ y. refl) (turned-ids r.id c.id o.quants) q in let b = w.once q in omega arith
+
+  top-now : times root (overs_of (fr o)) ≡ 0
+  top-now = let a = times-now root in let b = zero-now root m.not_root in let d = times-in overs_of root o bs m.within in let e = w.top in omega arith
+
+  fit-now : (q k : ℕ) (n : Node) → In n bs → reads_in q k n ≡ true → (s : OwnedQuant) → In s (fr o).quants → s.id ≡ q → (z : Node) → In z bs → z.id ≡ s.over → (1 ≤ k) × (k ≤ width z)
+  fit-now q k n j t s l e z iz v = elim (now-in s l) [
+    | inl a ↦ w.fits n j q k t o s z m.within a e iz v
+    | inr a ↦ (let h = m.fits n j k (subst (λ u. reads_in u k n ≡ true) (sym e ∙ a.1) t) in (h.0, subst (λ (u : Node). k ≤ width u) (sym (same-one z iz (v ∙ a.0))) h.1))
+  ]
+
+  nodes-now : (q : ℕ) → nodes_in q o ≡ true → (owns q (fr o) ≡ true) × (binds_row q (fr o).quants ≡ false)
+  nodes-now q t = let h = w.own_nodes o m.within q t in (turned-any r.id c.id (is_quant q) (λ x. refl) o.quants ∙ h.0, turned-any r.id c.id (λ x. is_F x.kind && is_quant q x) (λ x. refl) o.quants ∙ h.1)
+
+  arm-now : (s : OwnedQuant) (z : Node) → In s (fr o).quants → In z bs → z.id ≡ s.over → ArmsBy o.parts.kind (width z) (width o)
+  arm-now s z l iz v = elim (now-in s l) [
+    | inl a ↦ w.arms o z s m.within a iz v
+    | inr a ↦ subst (λ (u : Node). ArmsBy o.parts.kind (width u) (width o)) (sym (same-one z iz (v ∙ a.0))) m.arms
+  ]
+
+  settled-now : (q : ℕ) → owns q (fr o) ≡ true → loose bs o.id q ≡ false
+  settled-now q t = w.settled o m.within q (sym (turned-any r.id c.id (is_quant q) (λ x. refl) o.quants) ∙ t)
+
+  pub redirect-nearly : NearlySound (map (at o.id (on_quant r.id (λ s. record s { over = c.id }))) bs) root
+  redirect-nearly = nearly-at bs root w o m.within fr (λ y. refl) refl over-now once-now top-now fit-now nodes-now (bare-now o.parts.kind (w.bare o m.within)) arm-now scoped-now settled-now
+      (λ b q t. (let a = times-now b in let d = zero-now b (not-c b q t) in omega arith))
+
+  -- where the box that it left looks nothing up
+  pub redirect-sound : ((q : ℕ) → loose bs r.over q ≡ false) → Sound (map (at o.id (on_quant r.id (λ s. record s { over = c.id }))) bs) root
+  redirect-sound closed = sound-at bs root w o m.within fr (λ y. refl) refl over-now once-now top-now fit-now nodes-now (bare-now o.parts.kind (w.bare o m.within)) arm-now scoped-now settled-now
+      (λ b q t. (
+      let a = times-now b in let d = zero-now b (not-c b q t) in
+      let n : (r.over == b) ≡ false = (elim (cases_Bool (r.over == b)) [ inr f ↦ f | inl y ↦ absurd (clash (loose bs b q) t (subst (λ z. loose bs z q ≡ false) (eqb-true r.over b y) (closed q))) ]) in
+      let k : ◌≡◌ {A = ℕ} (cond (r.over == b) 1 0) 0 = ap (λ (b : Bool). cond {A = ℕ} b 1 0) n in omega arith))

@@ -10,3 +10,4 @@ pub mod EditLaws
 pub mod Scoped
 pub mod Changes
 pub mod Adds
+pub mod SoundEdits

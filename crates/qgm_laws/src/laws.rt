@@ -1,6 +1,7 @@
 // The laws, as theorems.
 ghost use Rattle.qgm_laws.specs.EditLaws.{EditsPlaced, NewPlaced};
 ghost use Rattle.qgm_laws.specs.Examples.{Dropped, Same};
+ghost use Rattle.qgm_laws.specs.SoundEdits.{AddSound, KeepBags, KeepSound, NearlyCompact, ScopeLaws};
 ghost use Rattle.qgm_laws.specs.Laws.{BoundAbove, CheckedFromSound, CompactKeeps, DropKeeps, KeepsChained, MergeKeeps, SettledFromChecked};
 
 /// What a box looks up is bound above it; steps that keep all chain; dropping boxes that aren't reached, M2 and M1 keep all; what is tested of columns that are read is what rules take. It does nothing.
@@ -20,4 +21,13 @@ pub fn rewriting_laws()
 pub fn edit_laws()
     ensures new { NewPlaced }
     ensures placed { EditsPlaced }
+{}
+
+/// What is looked up is bounded box by box; each kind of edit keeps a graph sound at its condition, and bags where the rows of changed boxes stay. It does nothing.
+pub fn sound_laws()
+    ensures scope { ScopeLaws }
+    ensures edits { KeepSound }
+    ensures added { AddSound }
+    ensures compact { NearlyCompact }
+    ensures bags { KeepBags }
 {}
