@@ -1,2 +1,7 @@
 pub mod TypeLaws
 pub mod HeadLaws
+pub mod Stand
+pub mod Below
+pub mod Seen
+pub mod Kept
+pub mod Faults

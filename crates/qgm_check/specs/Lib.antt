@@ -3,3 +3,5 @@ pub mod Types
 pub mod View
 pub mod Shapes
 pub mod WellFormed
+pub mod Sentences
+pub mod Laws

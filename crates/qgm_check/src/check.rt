@@ -4,6 +4,7 @@ ghost use Rattle.std.specs.List.{list_any, list_all};
 ghost use Rattle.qgm_core.specs.Boxes.{all_over, ids_in, ids_of, overs_in, owns};
 ghost use Rattle.qgm_core.specs.Free.{named_by, free_in};
 ghost use Rattle.qgm_check.specs.View.{in_view};
+ghost use Rattle.qgm_check.specs.Sentences.{IsFault, WellFormed};
 ghost use Rattle.qgm_check.specs.WellFormed as spec;
 ghost use Rattle.qgm_check.specs.declared.check.Fault.{Fault};
 ghost use Rattle.qgm_check.specs.declared.check.IllFormed.TheVariants.{Fails, Memory};
@@ -339,9 +340,10 @@ fn find_fault(alloc: Global, graph: &Graph) -> Result<Option<Fault>, OutOfMemory
 /// Whether a graph is well-formed: the least clause that fails, with the least box at which it
 /// does (Pirahesh, Hellerstein and Hasan 1992, 2).
 pub fn check_graph(alloc: Global, graph: &Graph) -> Result<(), IllFormed>
-    ensures ok { IfOk result (λ _. spec.fault graph.now ≡ None) }
-    ensures fails { (f : Fault) → IsErrOf result (Fails f) → spec.fault graph.now ≡ Some f }
+    ensures ok { IfOk result (λ _. WellFormed graph.now) }
+    ensures fails { (f : Fault) → IsErrOf result (Fails f) → IsFault graph.now f }
 {
+    graph.each_number_once();
     match find_fault(alloc, graph)? {
         Some(fault) => Err(IllFormed::Fails(fault)),
         None => Ok(()),

@@ -1,5 +1,5 @@
 use Rattle.std.proofs.Common.{refl}
-use Rattle.std.specs.List.{list_all, drop-map}
+use Rattle.std.specs.List.{drop-map}
 use Rattle.qgm_check.proofs.shapes.others_fold.Goals as goal
 
 pub returns : goal.returns

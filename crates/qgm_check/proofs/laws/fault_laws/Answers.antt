@@ -1,0 +1,8 @@
+use Rattle.qgm_check.proofs.Faults.{finds-fault, finds-none}
+use Rattle.qgm_check.proofs.laws.fault_laws.Goals as goal
+
+pub returns-clause-none : goal.returns-clause-none
+returns-clause-none c = finds-none
+
+pub returns-clause-fault : goal.returns-clause-fault
+returns-clause-fault c = finds-fault

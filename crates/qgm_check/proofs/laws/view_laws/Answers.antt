@@ -1,0 +1,15 @@
+use Rattle.qgm_check.proofs.Below.{free-free, reached-reaches}
+use Rattle.qgm_check.proofs.Seen.{view-is, viewers-see}
+use Rattle.qgm_check.proofs.laws.view_laws.Goals as goal
+
+pub returns-clause-reaches : goal.returns-clause-reaches
+returns-clause-reaches c = reached-reaches
+
+pub returns-clause-free : goal.returns-clause-free
+returns-clause-free c = λ g o. free-free g.boxes o
+
+pub returns-clause-sees : goal.returns-clause-sees
+returns-clause-sees c = viewers-see
+
+pub returns-clause-in_view : goal.returns-clause-in_view
+returns-clause-in_view c = view-is

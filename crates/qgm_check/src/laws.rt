@@ -1,0 +1,16 @@
+// What the passes over boxes compute, as theorems.
+ghost use Rattle.qgm_check.specs.Laws.{FindsFault, FindsFree, FindsNone, FindsView, FindsViewers, MarksReached};
+
+/// Of boxes in order: the pass from a box marks what the box reaches, what is found free is free, who is found to see a quantifier sees it, and what is found in view is in view. It does nothing.
+pub fn view_laws()
+    ensures reaches { MarksReached }
+    ensures free { FindsFree }
+    ensures sees { FindsViewers }
+    ensures in_view { FindsView }
+{}
+
+/// No fault is found where a graph is well-formed, and the fault that is found is the least. It does nothing.
+pub fn fault_laws()
+    ensures none { FindsNone }
+    ensures fault { FindsFault }
+{}
