@@ -27,4 +27,6 @@ pub mod Adds
 pub mod Interposed
 pub mod Quants
 pub mod Order
+pub mod Read
+pub mod Formed
 pub mod Examples

@@ -11,3 +11,4 @@ pub mod Scoped
 pub mod Changes
 pub mod Adds
 pub mod SoundEdits
+pub mod Shaped

@@ -1,6 +1,7 @@
 // The laws, as theorems.
 ghost use Rattle.qgm_laws.specs.EditLaws.{EditsPlaced, NewPlaced};
 ghost use Rattle.qgm_laws.specs.Examples.{Dropped, Same};
+ghost use Rattle.qgm_laws.specs.Shaped.{PlacedIsChecked, SoundIsChecked};
 ghost use Rattle.qgm_laws.specs.SoundEdits.{AddSound, KeepBags, KeepSound, NearlyCompact, ScopeLaws};
 ghost use Rattle.qgm_laws.specs.Laws.{BoundAbove, CheckedFromSound, CompactKeeps, DropKeeps, KeepsChained, MergeKeeps, SettledFromChecked};
 
@@ -30,4 +31,10 @@ pub fn sound_laws()
     ensures added { AddSound }
     ensures compact { NearlyCompact }
     ensures bags { KeepBags }
+{}
+
+/// What rules need of a graph, with types that agree and shapes, is what the check of a graph finds; so it is for the three clauses that every edit keeps. It does nothing.
+pub fn checked_laws()
+    ensures placed { PlacedIsChecked }
+    ensures sound { SoundIsChecked }
 {}

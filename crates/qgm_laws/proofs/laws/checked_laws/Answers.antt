@@ -1,0 +1,8 @@
+use Rattle.qgm_laws.proofs.Formed.{placed-checked, sound-checked}
+use Rattle.qgm_laws.proofs.laws.checked_laws.Goals as goal
+
+pub returns-clause-placed : goal.returns-clause-placed
+returns-clause-placed c = placed-checked
+
+pub returns-clause-sound : goal.returns-clause-sound
+returns-clause-sound c = sound-checked
