@@ -29,4 +29,5 @@ pub mod Quants
 pub mod Order
 pub mod Read
 pub mod Formed
+pub mod Scalars
 pub mod Examples

@@ -12,3 +12,4 @@ pub mod Changes
 pub mod Adds
 pub mod SoundEdits
 pub mod Shaped
+pub mod Single
