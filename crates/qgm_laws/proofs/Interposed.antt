@@ -10,7 +10,14 @@ use Rattle.qgm_core.specs.Boxes.{Ordered, has_box, ids_in, ids_of, is_box, is_qu
 use Rattle.qgm_core.specs.Edits.{on_quant}
 use Rattle.qgm_core.specs.Kinds.{is_F}
 use Rattle.qgm_core.specs.Lists.{In, change, first, times}
+use mathlib.Core.Path.{fun_ext}
+use Rattle.row_bag.specs.declared.tables.Table.{Table}
+use Rattle.qgm_meaning.specs.Meaning.{Family, bag_in, rows_of}
+use Rattle.qgm_meaning.specs.Ranks.{SameUnder}
 use Rattle.qgm_meaning.specs.Scope.{loose, read_by}
+use Rattle.qgm_meaning.specs.Values.{Bag, Environment}
+use Rattle.qgm_meaning.proofs.Unfold.{rows-local}
+use Rattle.qgm_laws.proofs.Scope.{only-bag, unfold-bag}
 use Rattle.qgm_laws.specs.Adds.{Adds, Interposes, as_box, at, interposed, onto}
 use Rattle.qgm_laws.specs.Changes.{Changes, FitsAfter}
 use Rattle.qgm_laws.specs.Checked.{own_seen}
@@ -20,9 +27,9 @@ use Rattle.qgm_laws.specs.Scoped.{Local, Scoped, shows_by}
 use Rattle.qgm_laws.proofs.Adds.{added-local, loose-owned, none-new, not-s, s-own}
 use Rattle.qgm_laws.proofs.Changes.{changed-sound}
 use Rattle.qgm_laws.proofs.Edits.{OnceEach, once-each}
-use Rattle.qgm_laws.proofs.Lists.{any-from, any-in, clash, eq-false-sym, eq-itself, in-left, in-right, or-left, or-right, other}
-use Rattle.qgm_laws.proofs.OneBox.{owns-ids, ranked}
-use Rattle.qgm_laws.proofs.PlacedLists.{in-more, more-in, more-own, times-more}
+use Rattle.qgm_laws.proofs.Lists.{any-from, any-in, clash, eq-false-sym, eq-itself, in-left, in-map, in-right, or-left, or-right, other}
+use Rattle.qgm_laws.proofs.OneBox.{has-map, owns-ids, ranked}
+use Rattle.qgm_laws.proofs.PlacedLists.{any-more, in-more, more-in, more-own, times-more}
 use Rattle.qgm_laws.proofs.PlacedOne.{counted, g-cases, g-id, same-ids}
 use Rattle.qgm_laws.proofs.Ranks.{has-in, in-has, overs-held, same-box}
 use Rattle.qgm_laws.proofs.Scoped.{few-ids, scoped-of}
@@ -133,7 +140,7 @@ module _ (xs ys : List Node) (root : ℕ) (w : Sound (xs ++ ys) root) (s o c : N
   apart : (n : Node) → In n bs → (n.id == s.id) ≡ false
   apart n i = elim (cases_Bool (n.id == s.id)) [ inr f ↦ f | inl t ↦ absurd (clash (has_box bs s.id) (subst (λ z. has_box bs z ≡ true) (eqb-true n.id s.id t) (in-has n bs i)) m.adds.fresh) ]
 
-  over-apart : (n : Node) (p : OwnedQuant) → In n bs → In p n.quants → (p.over == s.id) ≡ false
+  pub over-apart : (n : Node) (p : OwnedQuant) → In n bs → In p n.quants → (p.over == s.id) ≡ false
   over-apart n p i j = let x = has-in p.over bs (overs-held bs n p w.ordered i j) in subst (λ z. (z == s.id) ≡ false) x.1.1 (apart x.0 x.1.0)
 
   as-was : (b q : ℕ) → (b == s.id) ≡ false → look b q ≡ loose bs b q
@@ -345,3 +352,45 @@ module _ (xs ys : List Node) (root : ℕ) (w : Sound (xs ++ ys) root) (s o c : N
         | inr j ↦ as-was y.id q (apart y j) ∙ w.settled y j q h
       ]))
       used
+
+  -- ---- bags: where s gives these rows of what it ranges over, and o the same rows as before
+  module _ (tables : List Table) (give : Environment → Bag) where
+    abbrev f0 : Family
+    f0 = bag_in tables bs
+
+    -- what s gives, and what the others gave
+    abbrev pub fam : Family
+    fam b env = cond (b == s.id) (give env) (bag_in tables (xs ++ ys) b env)
+
+    pub fam-was : (b : ℕ) → (b == s.id) ≡ false → fam b ≡ f0 b
+    fam-was b n = fun_ext (λ e. ap (λ (t : Bool). cond t (give e) (f0 b e)) n)
+
+    pub fam-s : (e : Environment) → fam s.id e ≡ give e
+    fam-s e = ap (λ (t : Bool). cond t (give e) (f0 s.id e)) (eq-itself s.id)
+
+    same-below : (n : Node) → In n bs → (rs : List OwnedQuant) → ((p : OwnedQuant) → In p rs → In p n.quants) → SameUnder rs fam f0
+    same-below n i [] sub = tt
+    same-below n i (p ∷ rs) sub = (fam-was p.over (over-apart n p i (sub p (inl refl))), same-below n i rs (λ q j. sub q (inr j)))
+
+    pub interposed-bag : ((e : Environment) → rows_of tables s fam e ≡ give e) → ((e : Environment) → rows_of tables (on_quant r.id (over_now s.id) o) fam e ≡ rows_of tables o (bag_in tables (xs ++ ys)) e)
+        → (b : ℕ) → has_box (xs ++ ys) b ≡ true → (e : Environment) → bag_in tables (interposed xs ys s o.id r.id) b e ≡ bag_in tables (xs ++ ys) b e
+    interposed-bag hs' ho b held e =
+        let x = has-in b bs held in
+        let n : (b == s.id) ≡ false = subst (λ z. (z == s.id) ≡ false) x.1.1 (apart x.0 x.1.0) in
+        only-bag tables fam (map g hs) interposed-sound.ordered back b (has-map g id hs b ∙ any-more (is_box b) xs s ys ∙ or-right (s.id == b) (has_box bs b) held) e
+        ∙ ap (λ (k : Environment → Bag). k e) (fam-was b n)
+      where
+        old : (y : Node) → In y bs → (e : Environment) → rows_of tables y f0 e ≡ fam y.id e
+        old y i e = sym (unfold-bag tables bs y w.ordered i e) ∙ ap (λ (k : Environment → Bag). k e) (sym (fam-was y.id (apart y i)))
+
+        at-box : (y : Node) → In y hs → (e : Environment) → rows_of tables (g y) fam e ≡ fam y.id e
+        at-box y i e = elim (cases y i) [
+          | inl c ↦ ap (λ z. rows_of tables z fam e) c.1 ∙ ho e ∙ subst (λ (z : Node). rows_of tables o f0 e ≡ fam z.id e) (sym c.0) (old o o-bs e)
+          | inr c ↦ ap (λ z. rows_of tables z fam e) c.1 ∙ elim (in-more xs s ys y i) [
+            | inl k ↦ subst (λ (z : Node). rows_of tables z fam e ≡ fam z.id e) k (hs' e ∙ sym (fam-s e))
+            | inr k ↦ ap (λ (h : Environment → Bag). h e) (rows-local tables y fam f0 (same-below y k y.quants (λ p j. j))) ∙ old y k e
+          ]
+        ]
+
+        back : (n : Node) → In n (map g hs) → (e : Environment) → rows_of tables n fam e ≡ fam n.id e
+        back n i e = let y = in-map g n hs i in subst (λ (z : Node). rows_of tables z fam e ≡ fam z.id e) y.1.1 (at-box y.0 y.1.0 e ∙ ap (λ b. fam b e) (sym (id y.0)))

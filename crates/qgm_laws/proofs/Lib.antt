@@ -30,4 +30,5 @@ pub mod Order
 pub mod Read
 pub mod Formed
 pub mod Scalars
+pub mod SingleRule
 pub mod Examples
