@@ -16,6 +16,7 @@ pub mod Rules
 pub mod Loops
 pub mod Unput
 pub mod Turns
+pub mod PutRead
 pub mod Merge
 pub mod MergeSound
 pub mod AnyPut
