@@ -32,4 +32,5 @@ pub mod Read
 pub mod Formed
 pub mod Scalars
 pub mod SingleRule
+pub mod Facts
 pub mod Examples

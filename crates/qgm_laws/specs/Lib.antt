@@ -13,3 +13,4 @@ pub mod Adds
 pub mod SoundEdits
 pub mod Shaped
 pub mod Single
+pub mod Facts
