@@ -1,5 +1,5 @@
 -- A scalar of some rows and of the one row of their `single`; and what is given where an S quantifier gives other rows with the same scalar.
-use Rattle.std.proofs.Common.{ℕ, ◌==◌, ◌≡◌, ◌||◌, ◌&&◌, cond, Bool, true, false, List, [], ◌∷◌, Option, Some, None, refl, sym, ap, ap₂, subst, ◌∙◌, eqb-true, inl, inr}
+use Rattle.std.proofs.Common.{ℕ, ◌+◌, ◌≤◌, ◌⊎◌, arith, ◌==◌, ◌≡◌, ◌||◌, ◌&&◌, cond, Bool, true, false, List, [], ◌∷◌, Option, Some, None, refl, sym, ap, ap₂, subst, ◌∙◌, eqb-true, inl, inr}
 use Rattle.std.specs.List.{list_any}
 use Rattle.std.proofs.lemmas.Bool.{cases_Bool, eq-eqb}
 use mathlib.Core.Path.{fun_ext}
@@ -9,9 +9,9 @@ use Rattle.row_bag.specs.Errors.{error_among, error_at}
 use Rattle.row_bag.specs.Order.{cell_of}
 use Rattle.row_bag.specs.Subqueries as subquery
 use Rattle.row_bag.specs.Subqueries.{level_error, only_cell, presence}
-use Rattle.row_bag.specs.Verdict.{those_there}
+use Rattle.row_bag.specs.Verdict.{is_there, those_there}
 use Rattle.row_bag.specs.declared.row.Row.{Row}
-use Rattle.row_folds.proofs.Onlys.{beside, one, only_among, only_of, scalar-total, single-total}
+use Rattle.row_folds.proofs.Onlys.{Only, beside, none, one, only_among, only_of, scalar-total, single-total}
 use Rattle.sql_value.specs.Arithmetic as a
 use Rattle.sql_value.specs.Arithmetic.{error_or}
 use Rattle.sql_value.specs.Cells.{error_of, worst_of}
@@ -21,7 +21,7 @@ use Rattle.sql_value.specs.Truths as t
 use Rattle.sql_value.specs.declared.aggregate.Aggregate.TheVariants.{Single}
 use Rattle.sql_value.specs.declared.aggregate.Taken.TheVariants.{All}
 use Rattle.sql_value.specs.declared.cell.Cell.{Cell}
-use Rattle.sql_value.specs.declared.cell.Cell.TheVariants.{Err}
+use Rattle.sql_value.specs.declared.cell.Cell.TheVariants.{Err, Int, Null, Text}
 use Rattle.sql_value.specs.declared.cell.Kind.{Kind}
 use Rattle.sql_value.specs.declared.cell.Kind.TheVariants as kind
 use Rattle.sql_value.specs.declared.level.Level.{Level}
@@ -37,7 +37,9 @@ use Rattle.qgm_core.specs.declared.node.Node.{Node}
 use Rattle.qgm_core.specs.declared.owned.OwnedQuant.{OwnedQuant}
 use Rattle.qgm_terms.specs.Terms as term
 use Rattle.qgm_terms.specs.Terms.{Term, int, text, null_int, null_text, col, both, minus_of, choose, count_all, fold, scalar, Arms, no_arm, arm, Cond, always, compare, is_null, and, or, not, some, every}
+use Rattle.qgm_laws.specs.Facts.{HasAtMostOne, IsErrorFree}
 use Rattle.qgm_laws.specs.Single.{firsts, single_head}
+use Rattle.row_bag.specs.Joins.{how_many}
 use Rattle.qgm_laws.proofs.Lists.{eq-itself, or-none}
 
 -- ---- `single` and the scalar
@@ -65,11 +67,67 @@ failed-scalar kind.Cardinality rows = refl
 failed-scalar kind.Division rows = refl
 failed-scalar kind.Overflow rows = refl
 
--- where no first cell is an error
-pub single-scalar : (p : ℕ) (env : Environment) (rows : Bag) → error_among error_of (firsts rows) ≡ None → subquery.scalar (grouped_rows 0 (single_head p) p env rows) ≡ subquery.scalar rows
-single-scalar p env rows clean =
+-- no cell of a row that is there, and no level, is an error
+clean-firsts : (rows : Bag) → IsErrorFree 1 rows → level_error rows ≡ None → error_among error_of (firsts rows) ≡ None
+clean-firsts [] h e = refl
+clean-firsts (r ∷ rows) h e = by (λ u. clean-firsts rows (λ x i. h x (inr i)) u) r.level (h r (inl refl)) e
+  where
+    some : (k : Kind) (o : Option Kind) → worst_of (Some k) o ≡ None → ⊥
+    some k None e = let z : ⊥ = cc in z
+    some k (Some j) e = let z : ⊥ = cc in z
+
+    cell : error_of (cell_of 1 r.cells) ≡ None → error_of (only_cell r.cells) ≡ None
+    cell u = ap error_of (sym (cell-first r.cells)) ∙ u
+
+    by : (level_error rows ≡ None → error_among error_of (firsts rows) ≡ None) → (l : Level) → (is_there {T = List Cell} (record { cells = r.cells; level = l }) ≡ true → error_of (cell_of 1 r.cells) ≡ None) → level_error (record { cells = r.cells; level = l } ∷ rows) ≡ None → error_among error_of (firsts (record { cells = r.cells; level = l } ∷ rows)) ≡ None
+    by again No u e = again e
+    by again Cardinality u e = absurd (some kind.Cardinality (level_error rows) e)
+    by again Division u e = absurd (some kind.Division (level_error rows) e)
+    by again Overflow u e = absurd (some kind.Overflow (level_error rows) e)
+    by again Yes u e = ap (λ o. worst_of (worst_of None o) (error_among error_of (firsts rows))) (cell (u refl)) ∙ again e
+
+-- the only cell of rows that there are none of
+none-there : (rows : Bag) → how_many rows ≡ 0 → (error_among error_of (firsts rows) ≡ None) × (only_among only_cell rows ≡ none)
+none-there [] h = (refl, refl)
+none-there (r ∷ rows) h = elim r.level as (λ l. how_many (record { cells = r.cells; level = l } ∷ rows) ≡ 0 → (error_among error_of (firsts (record { cells = r.cells; level = l } ∷ rows)) ≡ None) × (only_among only_cell (record { cells = r.cells; level = l } ∷ rows) ≡ none)) [
+  | No ↦ λ h. (let k : 0 + how_many rows ≡ 0 = h in none-there rows (omega arith))
+  | Cardinality ↦ λ h. absurd (omega arith)
+  | Division ↦ λ h. absurd (omega arith)
+  | Overflow ↦ λ h. absurd (omega arith)
+  | Yes ↦ λ h. absurd (omega arith)
+] h
+
+own-error : (c : Cell) → error_or (worst_of (worst_of None (error_of c)) None) c ≡ c
+own-error (Int n) = refl
+own-error (Text t) = refl
+own-error Null = refl
+own-error (Err k) = refl
+
+-- of one row at most the error of the cell is the cell
+one-firsts : (rows : Bag) → how_many rows ≤ 1 → level_error rows ≡ None → error_or (error_among error_of (firsts rows)) (only_of (only_among only_cell rows)) ≡ only_of (only_among only_cell rows)
+one-firsts [] h e = refl
+one-firsts (r ∷ rows) h e = elim r.level as (λ l. how_many (record { cells = r.cells; level = l } ∷ rows) ≤ 1 → level_error (record { cells = r.cells; level = l } ∷ rows) ≡ None
+    → error_or (error_among error_of (firsts (record { cells = r.cells; level = l } ∷ rows))) (only_of (only_among only_cell (record { cells = r.cells; level = l } ∷ rows))) ≡ only_of (only_among only_cell (record { cells = r.cells; level = l } ∷ rows))) [
+      | No ↦ λ h e. (let k : 0 + how_many rows ≤ 1 = h in one-firsts rows (omega arith) e)
+      | Cardinality ↦ λ h e. absurd (some kind.Cardinality (level_error rows) e)
+      | Division ↦ λ h e. absurd (some kind.Division (level_error rows) e)
+      | Overflow ↦ λ h e. absurd (some kind.Overflow (level_error rows) e)
+      | Yes ↦ λ h e. (
+          let k : 1 + how_many rows ≤ 1 = h in
+          let z = none-there rows (omega arith) in
+          ap₂ (λ (o : Option Kind) (x : Only). error_or (worst_of (worst_of None (error_of (only_cell r.cells))) o) (only_of (beside (one (only_cell r.cells)) x))) z.0 z.1
+          ∙ own-error (only_cell r.cells) ∙ sym (ap (λ x. only_of (beside (one (only_cell r.cells)) x)) z.1))
+    ] h e
+  where
+    some : (k : Kind) (o : Option Kind) → worst_of (Some k) o ≡ None → ⊥
+    some k None e = let z : ⊥ = cc in z
+    some k (Some j) e = let z : ⊥ = cc in z
+
+-- where no first cell is an error, or there is one row at most
+pub single-scalar : (p : ℕ) (env : Environment) (rows : Bag) → IsErrorFree 1 rows ⊎ HasAtMostOne rows → subquery.scalar (grouped_rows 0 (single_head p) p env rows) ≡ subquery.scalar rows
+single-scalar p env rows safe =
     ap (λ o. subquery.scalar (error_or_bag (failed_cells 1) o result)) levels
-    ∙ by (level_error rows) (sym (scalar-total rows))
+    ∙ by (level_error rows) whole (sym (scalar-total rows))
   where
     result : Bag
     result = unit (folded Single All (bind rows (λ cells. unit (value (λ q. []) (col p 1) (bound p cells env)))) ∷ [])
@@ -80,12 +138,16 @@ single-scalar p env rows clean =
     arguments : bind rows (λ cells. unit (value (λ q. []) (col p 1) (bound p cells env))) ≡ firsts rows
     arguments = ap (λ (f : List Cell → List (Row Cell)). bind rows f) (fun_ext (λ cells. ap unit (ap (λ (b : Bool). cell_of 1 (cond b cells (row_of p env))) (eq-itself p) ∙ cell-first cells)))
 
-    whole : folded Single All (bind rows (λ cells. unit (value (λ q. []) (col p 1) (bound p cells env)))) ≡ only_of (only_among only_cell rows)
-    whole = ap (folded Single All) arguments ∙ ap (λ o. error_or o (single_of_those (those_there (firsts rows)))) clean ∙ sym (single-total (firsts rows)) ∙ ap only_of (only-firsts rows)
+    settled : level_error rows ≡ None → error_or (error_among error_of (firsts rows)) (only_of (only_among only_cell rows)) ≡ only_of (only_among only_cell rows)
+    settled e = elim safe [ inl h ↦ ap (λ o. error_or o (only_of (only_among only_cell rows))) (clean-firsts rows h e) | inr h ↦ one-firsts rows h e ]
 
-    by : (o : Option Kind) → subquery.scalar rows ≡ error_or o (only_of (only_among only_cell rows)) → subquery.scalar (error_or_bag (failed_cells 1) o result) ≡ subquery.scalar rows
-    by None h = whole ∙ sym h
-    by (Some k) h = failed-scalar k result ∙ sym h
+    whole : level_error rows ≡ None → folded Single All (bind rows (λ cells. unit (value (λ q. []) (col p 1) (bound p cells env)))) ≡ only_of (only_among only_cell rows)
+    whole e = ap (folded Single All) arguments ∙ ap (λ c. error_or (error_among error_of (firsts rows)) c) (sym (single-total (firsts rows)) ∙ ap only_of (only-firsts rows)) ∙ settled e
+
+    by : (o : Option Kind) → (o ≡ None → folded Single All (bind rows (λ cells. unit (value (λ q. []) (col p 1) (bound p cells env)))) ≡ only_of (only_among only_cell rows)) → subquery.scalar rows ≡ error_or o (only_of (only_among only_cell rows))
+        → subquery.scalar (error_or_bag (failed_cells 1) o result) ≡ subquery.scalar rows
+    by None w h = w refl ∙ sym h
+    by (Some k) w h = failed-scalar k result ∙ sym h
 
 -- ---- rows with the same scalar, where no some or every names the quantifier
 

@@ -197,7 +197,7 @@ module _ (xs ys : List Node) (g : QueryGraph) (w : Sound (xs ++ ys) g.root) (b p
         ap (λ k. rows_by k tables (on_quant r.id (over_now b) o) t e) m.a_select
         ∙ ap (once_if (is_enforce o.parts.distinct)) (turned-each r.id b o.quants t (given_by t (on_quant r.id (over_now b) o)) e
         ∙ each-scalar t (quant_rows o f) r.id (on_quant r.id (over_now b) o) o refl (λ q n. others-found q n o.quants (λ x j. j))
-        (λ e. ap subquery.scalar (turned-found o.quants found e) ∙ single-scalar p e (f c.id e) (m.error_free tables filled e) ∙ ap subquery.scalar (sym (ap (λ z. rows_found z f e) found ∙ ap (λ z. f z e) m.over_c)))
+        (λ e. ap subquery.scalar (turned-found o.quants found e) ∙ single-scalar p e (f c.id e) (m.safe tables filled e) ∙ ap subquery.scalar (sym (ap (λ z. rows_found z f e) found ∙ ap (λ z. f z e) m.over_c)))
         m.scalars m.scalars_conds o.quants (λ x j h. elim (cases_Bool (x.id == r.id)) [ inr n ↦ n | inl y ↦ absurd (no-row o o-bs (any-from (λ (q : OwnedQuant). is_F q.kind && is_quant r.id q) x o.quants j (ap₂ (λ (a : Bool) (b : Bool). a && b) h y))) ]) e)
         ∙ sym (ap (λ k. rows_by k tables o (quant_rows o f) e) m.a_select)
 

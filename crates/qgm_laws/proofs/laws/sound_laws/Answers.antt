@@ -2,6 +2,7 @@ use Rattle.std.proofs.Common.{[]}
 use Rattle.qgm_laws.proofs.Adds.{added-sound}
 use Rattle.qgm_laws.proofs.Changes.{changed-sound, parts-sound, same-bags}
 use Rattle.qgm_laws.proofs.Compact.{nearly, nearly-bag, nearly-compact}
+use Rattle.qgm_laws.proofs.Facts.{facts-pass, looks-stay}
 use Rattle.qgm_laws.proofs.Interposed.{interposed-sound}
 use Rattle.qgm_laws.proofs.Order.{order-bags, order-sound}
 use Rattle.qgm_laws.proofs.Quants.{less-nearly, less-sound, put-sound, redirect-nearly, redirect-sound, turned-sound}
@@ -45,3 +46,9 @@ returns-clause-bags c = λ bs root w. record {
   changed = λ tables g id s h b held e. same-bags tables bs g id w.ordered s.ordered h b held e;
   moved_below = λ n d i b o tables x h e. order-bags bs root w n i d b o tables x h e;
 }
+
+pub returns-clause-facts : goal.returns-clause-facts
+returns-clause-facts c = facts-pass
+
+pub returns-clause-looks : goal.returns-clause-looks
+returns-clause-looks c = looks-stay
