@@ -33,4 +33,5 @@ pub mod Formed
 pub mod Scalars
 pub mod SingleRule
 pub mod Facts
+pub mod Column
 pub mod Examples

@@ -1,9 +1,11 @@
 -- Edits of boxes where they stand.
-use Rattle.std.specs.Prelude.{ℕ, ◌≡◌, ◌==◌, ◌≤◌, ◌||◌, true, false, List, map}
+use Rattle.std.specs.Prelude.{ℕ, ◌≡◌, ◌==◌, ◌≤◌, ◌||◌, Bool, true, false, List, length, map}
 use Rattle.std.specs.List.{list_any}
 use Rattle.qgm_core.specs.Boxes.{has_box, ids_in, overs_in, owns, width}
 use Rattle.qgm_core.specs.Edits.{put_range, without_quant}
 use Rattle.qgm_core.specs.Lists.{In, times}
+use Rattle.qgm_core.specs.declared.kinds.BoxKind.{BoxKind}
+use Rattle.qgm_core.specs.declared.kinds.BoxKind.TheVariants.{Base, Select, Group, SetOp, OuterJoin}
 use Rattle.qgm_core.specs.declared.node.Node.{Node}
 use Rattle.qgm_core.specs.declared.owned.OwnedQuant.{OwnedQuant}
 use Rattle.qgm_meaning.specs.Scope.{loose, read_by}
@@ -11,6 +13,13 @@ use Rattle.qgm_laws.specs.Checked.{own_seen}
 use Rattle.qgm_laws.specs.Graph.{ArmsBy, BareBy, Fits, binds_row, nodes_in, reads_in}
 use Rattle.qgm_laws.specs.Placed.{Below}
 use Rattle.qgm_laws.specs.Scoped.{Scoped}
+
+abbrev pub is_set_op : BoxKind → Bool
+is_set_op (Base table) = false
+is_set_op Select = false
+is_set_op (Group keys) = false
+is_set_op (SetOp operator types) = true
+is_set_op OuterJoin = false
 
 -- column k of q, a quantifier that these boxes have after the change, is there
 abbrev pub FitsAfter : List Node → (Node → Node) → ℕ → ℕ → Type 0
@@ -78,3 +87,12 @@ pub record Redirects (bs : List Node) (root : ℕ) (o : Node) (r : OwnedQuant) (
   pub closed : (q : ℕ) → loose bs c.id q ≡ false
   pub fits : (n : Node) → In n bs → (k : ℕ) → reads_in r.id k n ≡ true → (1 ≤ k) × (k ≤ width c)
   pub arms : ArmsBy o.parts.kind (width c) (width o)
+
+-- column k of b goes: it is a cell of its head that no box reads, and no set operation ranges over b
+pub record LosesColumn (bs : List Node) (b : Node) (k : ℕ) : Type 0 where
+  pub within : In b bs
+  pub from_one : 1 ≤ k
+  pub column : k ≤ length b.parts.head
+  pub wide : width b ≡ length b.parts.head
+  pub unread : (n o : Node) (r : OwnedQuant) → In n bs → In o bs → In r o.quants → r.over ≡ b.id → reads_in r.id k n ≡ false
+  pub no_arm : (o : Node) (r : OwnedQuant) → In o bs → In r o.quants → r.over ≡ b.id → is_set_op o.parts.kind ≡ false

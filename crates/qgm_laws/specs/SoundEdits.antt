@@ -2,7 +2,7 @@
 use Rattle.std.specs.Prelude.{ℕ, ◌≡◌, ◌≤◌, ◌++◌, Bool, true, false, List, ◌∷◌, map}
 use Rattle.row_bag.specs.declared.tables.Table.{Table}
 use Rattle.qgm_core.specs.Boxes.{QueryGraph, has_box, overs_in, owns}
-use Rattle.qgm_core.specs.Edits.{compact, moved_below, on_quant, put_range, without_quant}
+use Rattle.qgm_core.specs.Edits.{compact, drop_column, moved_below, on_quant, put_range, without_quant}
 use Rattle.qgm_core.specs.Lists.{In, times}
 use Rattle.qgm_core.specs.declared.node.Node.{Node}
 use Rattle.qgm_core.specs.declared.owned.OwnedQuant.{OwnedQuant}
@@ -10,7 +10,7 @@ use Rattle.qgm_meaning.specs.Meaning.{bag_in, root_bag, rows_of}
 use Rattle.qgm_meaning.specs.Scope.{loose}
 use Rattle.qgm_meaning.specs.Values.{Environment}
 use Rattle.qgm_laws.specs.Adds.{Adds, Interposes, at, interposed}
-use Rattle.qgm_laws.specs.Changes.{Changes, LosesQuant, PutsQuant, Redirects, Reparts, TurnsQuants}
+use Rattle.qgm_laws.specs.Changes.{Changes, LosesColumn, LosesQuant, PutsQuant, Redirects, Reparts, TurnsQuants}
 use Rattle.qgm_laws.specs.Graph.{Sound}
 use Rattle.qgm_laws.specs.Placed.{Below, place}
 use Rattle.qgm_laws.specs.Scoped.{Bounds, Local, NearlySound, Scoped}
@@ -32,6 +32,7 @@ pub record EditsSound (bs : List Node) (root : ℕ) : Type 0 where
   pub quants_turned : (o : Node) (f : Node → Node) → TurnsQuants bs o f → Sound (map (at o.id f) bs) root
   pub redirected : (o : Node) (r : OwnedQuant) (c : Node) → Redirects bs root o r c → ((q : ℕ) → loose bs r.over q ≡ false) → Sound (map (at o.id (on_quant r.id (λ s. record s { over = c.id }))) bs) root
   pub moved_below : (c : Node) (d : ℕ) → In c bs → Below bs d c.id → ((n : Node) (r : OwnedQuant) → In n bs → In r n.quants → r.over ≡ c.id → place bs n.id ≤ place bs d) → Sound (moved_below c.id d bs) root
+  pub column_dropped : (b : Node) (k : ℕ) → LosesColumn bs b k → (g : QueryGraph) → g.boxes ≡ bs → Sound (drop_column b.id k g).boxes root
 
 -- sound but for what the root doesn't reach, where the box that a quantifier leaves looks something up
 pub record EditsNearly (bs : List Node) (root : ℕ) : Type 0 where

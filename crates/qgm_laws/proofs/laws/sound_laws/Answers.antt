@@ -1,6 +1,7 @@
 use Rattle.std.proofs.Common.{[]}
 use Rattle.qgm_laws.proofs.Adds.{added-sound}
 use Rattle.qgm_laws.proofs.Changes.{changed-sound, parts-sound, same-bags}
+use Rattle.qgm_laws.proofs.Column.{dropped-column}
 use Rattle.qgm_laws.proofs.Compact.{nearly, nearly-bag, nearly-compact}
 use Rattle.qgm_laws.proofs.Facts.{facts-pass, looks-stay}
 use Rattle.qgm_laws.proofs.Interposed.{interposed-sound}
@@ -28,6 +29,7 @@ returns-clause-edits c = λ bs root w. (
     quants_turned = λ o f m. turned-sound bs root w o f m;
     redirected = λ o r d m closed. redirect-sound bs root w o r d m closed;
     moved_below = λ n d i b o. order-sound bs root w n i d b o;
+    column_dropped = λ b k m g e. dropped-column bs root w b k m g e;
   },
   record {
     quant_lost = λ o q m. less-nearly bs root w o q m;
