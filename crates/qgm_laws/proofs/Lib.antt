@@ -34,4 +34,5 @@ pub mod Scalars
 pub mod SingleRule
 pub mod Facts
 pub mod Column
+pub mod PushRule
 pub mod Examples

@@ -14,3 +14,4 @@ pub mod SoundEdits
 pub mod Shaped
 pub mod Single
 pub mod Facts
+pub mod Push

@@ -1,9 +1,9 @@
 -- What each kind of edit keeps of a sound graph, at its condition.
-use Rattle.std.specs.Prelude.{ℕ, ◌≡◌, ◌≤◌, ◌++◌, Bool, true, false, List, ◌∷◌, map}
+use Rattle.std.specs.Prelude.{ℕ, ◌≡◌, ◌≤◌, ◌++◌, Bool, true, false, List, ◌∷◌, Some, map}
 use Rattle.row_bag.specs.declared.tables.Table.{Table}
-use Rattle.qgm_core.specs.Boxes.{QueryGraph, has_box, overs_in, owns}
+use Rattle.qgm_core.specs.Boxes.{Ordered, QueryGraph, has_box, is_box, is_quant, overs_in, owns}
 use Rattle.qgm_core.specs.Edits.{compact, drop_column, moved_below, on_quant, put_range, without_quant}
-use Rattle.qgm_core.specs.Lists.{In, times}
+use Rattle.qgm_core.specs.Lists.{In, change, first, times}
 use Rattle.qgm_core.specs.declared.node.Node.{Node}
 use Rattle.qgm_core.specs.declared.owned.OwnedQuant.{OwnedQuant}
 use Rattle.qgm_meaning.specs.Meaning.{bag_in, root_bag, rows_of}
@@ -14,6 +14,12 @@ use Rattle.qgm_laws.specs.Changes.{Changes, LosesColumn, LosesQuant, PutsQuant, 
 use Rattle.qgm_laws.specs.Graph.{Sound}
 use Rattle.qgm_laws.specs.Placed.{Below, place}
 use Rattle.qgm_laws.specs.Scoped.{Bounds, Local, NearlySound, Scoped}
+
+-- an edit of the box of a number, or of the owner of a quantifier, changes that box where it stands
+pub record EditsAreMaps : Type 0 where
+  pub box : (bs : List Node) → Ordered bs → (b : ℕ) (f : Node → Node) → change (is_box b) f bs ≡ map (at b f) bs
+  pub owner : (bs : List Node) (root : ℕ) → Sound bs root → (q : ℕ) (o : Node) (f : Node → Node) → In o bs → owns q o ≡ true → change (owns q) f bs ≡ map (at o.id f) bs
+  pub quant : (bs : List Node) (root : ℕ) → Sound bs root → (o : Node) (r : OwnedQuant) → In o bs → In r o.quants → first (is_quant r.id) o.quants ≡ Some r
 
 -- what boxes look up is bounded by any bound to which each box keeps by itself; in a sound graph what is looked up is such a bound
 pub record ScopeLaws : Type 0 where

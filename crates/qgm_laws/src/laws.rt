@@ -1,13 +1,14 @@
 // The laws, as theorems.
 ghost use Rattle.qgm_laws.specs.EditLaws.{EditsPlaced, NewPlaced};
 ghost use Rattle.qgm_laws.specs.Examples.{Dropped, Same};
+ghost use Rattle.qgm_laws.specs.Push.{PushKeeps};
 ghost use Rattle.qgm_laws.specs.Shaped.{PlacedIsChecked, SoundIsChecked};
-ghost use Rattle.qgm_laws.specs.SoundEdits.{AddSound, KeepBags, KeepSound, NearlyCompact, ScopeLaws};
+ghost use Rattle.qgm_laws.specs.SoundEdits.{AddSound, EditsAreMaps, KeepBags, KeepSound, NearlyCompact, ScopeLaws};
 ghost use Rattle.qgm_laws.specs.Facts.{FactsOfAgreeing, LooksStay};
 ghost use Rattle.qgm_laws.specs.Single.{SingleDiffers, SingleKeeps};
 ghost use Rattle.qgm_laws.specs.Laws.{BoundAbove, CheckedFromSound, CompactKeeps, DropKeeps, KeepsChained, MergeKeeps, SettledFromChecked};
 
-/// What a box looks up is bound above it; steps that keep all chain; dropping boxes that aren't reached, M2, M1 and U2 keep all; what is tested of columns that are read is what rules take. It does nothing.
+/// What a box looks up is bound above it; steps that keep all chain; dropping boxes that aren't reached, M2, M1, U2 and P1 keep all; what is tested of columns that are read is what rules take. It does nothing.
 pub fn rewriting_laws()
     ensures bound_above { BoundAbove }
     ensures chained { KeepsChained }
@@ -16,6 +17,7 @@ pub fn rewriting_laws()
     ensures merge { MergeKeeps }
     ensures single { SingleKeeps }
     ensures differs { SingleDiffers }
+    ensures push { PushKeeps }
     ensures from_checked { SettledFromChecked }
     ensures to_checked { CheckedFromSound }
     ensures same { Same }
@@ -30,6 +32,7 @@ pub fn edit_laws()
 
 /// What is looked up is bounded box by box; each kind of edit keeps a graph sound at its condition, and bags where the rows of changed boxes stay; facts of rows pass along agreement; what boxes ask for is looked up. It does nothing.
 pub fn sound_laws()
+    ensures places { EditsAreMaps }
     ensures scope { ScopeLaws }
     ensures edits { KeepSound }
     ensures added { AddSound }

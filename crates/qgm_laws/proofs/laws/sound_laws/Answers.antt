@@ -5,9 +5,13 @@ use Rattle.qgm_laws.proofs.Column.{dropped-column}
 use Rattle.qgm_laws.proofs.Compact.{nearly, nearly-bag, nearly-compact}
 use Rattle.qgm_laws.proofs.Facts.{facts-pass, looks-stay}
 use Rattle.qgm_laws.proofs.Interposed.{interposed-sound}
+use Rattle.qgm_laws.proofs.Edits.{once-each}
+use Rattle.qgm_laws.proofs.OneBox.{change-at, owner-at}
+use Rattle.qgm_laws.proofs.Scope.{one-owner}
+use Rattle.qgm_laws.proofs.Turns.{first-own}
 use Rattle.qgm_laws.proofs.Order.{order-bags, order-sound}
 use Rattle.qgm_laws.proofs.Quants.{less-nearly, less-sound, put-sound, redirect-nearly, redirect-sound, turned-sound}
-use Rattle.qgm_laws.proofs.Scoped.{bounded, nearly-by, scoped-of, sound-of}
+use Rattle.qgm_laws.proofs.Scoped.{bounded, few-ids, nearly-by, scoped-of, sound-of}
 use Rattle.qgm_laws.proofs.laws.sound_laws.Goals as goal
 
 pub returns-clause-scope : goal.returns-clause-scope
@@ -54,3 +58,10 @@ returns-clause-facts c = facts-pass
 
 pub returns-clause-looks : goal.returns-clause-looks
 returns-clause-looks c = looks-stay
+
+pub returns-clause-places : goal.returns-clause-places
+returns-clause-places c = record {
+  box = λ bs o b f. change-at b f bs (once-each bs o);
+  owner = λ bs root w q o f i h. owner-at q o f bs (once-each bs w.ordered) i h (λ y j k. one-owner bs root w q y o j i k h);
+  quant = λ bs root w o r i j. first-own r o.quants (few-ids bs o r.id (w.once r.id) i) j;
+}
