@@ -1,7 +1,7 @@
 -- A box put under a quantifier, over the box that the quantifier ranged over, keeps a graph sound.
 use Rattle.std.proofs.Common.{ℕ, zero, suc, ◌==◌, ◌≡◌, ◌&&◌, ◌||◌, ◌+◌, ◌≤◌, ◌<◌, cond, Bool, true, false, List, [], ◌∷◌, ◌++◌, map, take, Option, Some, None, refl, sym, ap, ap₂, subst, ◌∙◌, eqb-true, ◌⊎◌, inl, inr, arith}
 use Rattle.std.specs.List.{list_any, flat_map}
-use Rattle.std.proofs.lemmas.Bool.{cases_Bool, or_cases, eq-eqb}
+use Rattle.std.proofs.lemmas.Bool.{and_parts, cases_Bool, or_cases, eq-eqb}
 use Rattle.qgm_core.specs.declared.node.Node.{Node}
 use Rattle.qgm_core.specs.declared.owned.OwnedQuant.{OwnedQuant}
 use Rattle.qgm_core.specs.declared.kinds.BoxKind.{BoxKind}
@@ -11,20 +11,21 @@ use Rattle.qgm_core.specs.Edits.{on_quant}
 use Rattle.qgm_core.specs.Kinds.{is_F}
 use Rattle.qgm_core.specs.Lists.{In, change, first, times}
 use mathlib.Core.Path.{fun_ext}
+use Rattle.row_bag.specs.Bags.{bind}
 use Rattle.row_bag.specs.declared.tables.Table.{Table}
-use Rattle.qgm_meaning.specs.Meaning.{Family, bag_in, rows_of}
+use Rattle.qgm_meaning.specs.Meaning.{Family, bag_in, over_each, quant_rows, rows_found, rows_of}
 use Rattle.qgm_meaning.specs.Ranks.{SameUnder}
 use Rattle.qgm_meaning.specs.Scope.{loose, read_by}
-use Rattle.qgm_meaning.specs.Values.{Bag, Environment}
+use Rattle.qgm_meaning.specs.Values.{Bag, Environment, bound}
 use Rattle.qgm_meaning.proofs.Unfold.{rows-local}
-use Rattle.qgm_laws.proofs.Scope.{only-bag, unfold-bag}
+use Rattle.qgm_laws.proofs.Scope.{bound-above, bound-owned, one-owner, only-bag, unfold-bag}
 use Rattle.qgm_laws.specs.Adds.{Adds, Interposes, as_box, at, interposed, onto}
 use Rattle.qgm_laws.specs.Changes.{Changes, FitsAfter}
 use Rattle.qgm_laws.specs.Checked.{own_seen}
 use Rattle.qgm_laws.specs.Graph.{ArmsBy, BareBy, Sound, binds_row, nodes_in, reads_in}
 use Rattle.qgm_laws.specs.Placed.{Below, place}
 use Rattle.qgm_laws.specs.Scoped.{Local, Scoped, shows_by}
-use Rattle.qgm_laws.proofs.Adds.{added-local, loose-owned, none-new, not-s, s-own}
+use Rattle.qgm_laws.proofs.Adds.{added-local, loose-owned, not-s, s-own, seen-owned}
 use Rattle.qgm_laws.proofs.Changes.{changed-sound}
 use Rattle.qgm_laws.proofs.Edits.{OnceEach, once-each}
 use Rattle.qgm_laws.proofs.Lists.{any-from, any-in, clash, eq-false-sym, eq-itself, in-left, in-map, in-right, or-left, or-right, other}
@@ -93,6 +94,37 @@ module _ (q s : ℕ) where
     | true ↦ λ h. (let e : y ≡ r = cc in let a : times x (y.over ∷ []) ≡ times x (r.over ∷ []) = ap (λ (z : OwnedQuant). times x (z.over ∷ [])) e in omega arith)
     | false ↦ λ h. (let a = turned-times x rs r h in omega arith)
   ] h
+
+-- what is given doesn't ask which boxes quantifiers range over
+pub turned-each : (i s : ℕ) (rs : List OwnedQuant) (t : Family) (give : Environment → Bag) (e : Environment) → over_each (turned i s rs) t give e ≡ over_each rs t give e
+turned-each i s [] t give e = refl
+turned-each i s (r ∷ rs) t give e = elim (r.id == i) as (λ b. over_each (cond b (over_now s r ∷ rs) (r ∷ turned i s rs)) t give e ≡ over_each (r ∷ rs) t give e) [
+  | true ↦ refl
+  | false ↦ ap (λ (h : Environment → Bag). cond (is_F r.kind) (bind (t r.id e) (λ cells. h (bound r.id cells e))) (h e)) (fun_ext (λ e. turned-each i s rs t give e))
+]
+
+-- a quantifier that binds no row is read by no box
+module _ (bs : List Node) (root : ℕ) (w : Sound bs root) (o : Node) (r : OwnedQuant) (i : In o bs) (j : In r o.quants) (not-F : is_F r.kind ≡ false) where
+  own-r : owns r.id o ≡ true
+  own-r = any-from (is_quant r.id) r o.quants j (eq-itself r.id)
+
+  pub rowless : (n : Node) → In n bs → binds_row r.id n.quants ≡ true → ⊥
+  rowless n l t =
+      let x = any-in (λ (q : OwnedQuant). is_F q.kind && is_quant r.id q) n.quants t in
+      let y = and_parts (is_F x.0.kind) (is_quant r.id x.0) x.1.1 in
+      let same : n ≡ o = one-owner bs root w r.id n o l i (bound-owned r.id n.quants t) own-r in
+      let few = few-ids bs o r.id (w.once r.id) i in
+      let e1 = first-own r o.quants few j in
+      let e2 = first-own x.0 o.quants (subst (λ z. times z (ids_of o) ≤ 1) (sym (eqb-true x.0.id r.id y.1)) few) (subst (λ (z : Node). In x.0 z.quants) same x.1.0) in
+      let e3 : Some x.0 ≡ Some r = sym e2 ∙ ap (λ z. first (is_quant z) o.quants) (eqb-true x.0.id r.id y.1) ∙ e1 in
+      let e4 : x.0 ≡ r = cc in clash (is_F r.kind) (subst (λ (z : OwnedQuant). is_F z.kind ≡ true) e4 y.0) not-F
+
+  pub rowless-unread : o.parts.kind ≡ Select → (n : Node) → In n bs → read_by n r.id ≡ true → ⊥
+  rowless-unread k n l t = elim (or_cases (own_seen n.parts.kind n r.id) (loose bs n.id r.id) ((scoped-of bs root w n l).own r.id t)) [
+    | inl a ↦ (let same : n ≡ o = one-owner bs root w r.id n o l i (seen-owned n.parts.kind n r.id a) own-r in
+        rowless n l (subst (λ k. own_seen k n r.id ≡ true) (ap (λ (z : Node). z.parts.kind) same ∙ k) a))
+    | inr a ↦ (let x = bound-above bs root w n.id r.id a in rowless x.0 x.1.0 x.1.1.0)
+  ]
 
 -- what stands before stands above
 place-before : (xs : List Node) (o s : Node) (ys : List Node) → OnceEach (xs ++ s ∷ ys) → In o xs → place (xs ++ s ∷ ys) o.id < place (xs ++ s ∷ ys) s.id
@@ -394,3 +426,45 @@ module _ (xs ys : List Node) (root : ℕ) (w : Sound (xs ++ ys) root) (s o c : N
 
         back : (n : Node) → In n (map g hs) → (e : Environment) → rows_of tables n fam e ≡ fam n.id e
         back n i e = let y = in-map g n hs i in subst (λ (z : Node). rows_of tables z fam e ≡ fam z.id e) y.1.1 (at-box y.0 y.1.0 e ∙ ap (λ b. fam b e) (sym (id y.0)))
+
+    -- ---- what o's quantifiers give
+    found : first (is_quant r.id) o.quants ≡ Some r
+    found = first-own r o.quants (few-ids bs o r.id (w.once r.id) o-bs) m.owned
+
+    pub turned-before : (e : Environment) → quant_rows o (bag_in tables (xs ++ ys)) r.id e ≡ bag_in tables (xs ++ ys) c.id e
+    turned-before e = ap (λ z. rows_found z f0 e) found ∙ ap (λ z. f0 z e) m.over_c
+
+    first-turned : (rs : List OwnedQuant) → first (is_quant r.id) rs ≡ Some r → (e : Environment) → rows_found (first (is_quant r.id) (turned r.id s.id rs)) fam e ≡ give e
+    first-turned [] h e = absurd (let z : ⊥ = cc in z)
+    first-turned (x ∷ rs) h e = elim (cases_Bool (x.id == r.id)) [
+      | inl t ↦ ap (λ (z : Bool). rows_found (first (is_quant r.id) (cond z (over_now s.id x ∷ rs) (x ∷ turned r.id s.id rs))) fam e) t ∙ ap (λ (z : Bool). rows_found (cond z (Some (over_now s.id x)) (first (is_quant r.id) rs)) fam e) t ∙ fam-s e
+      | inr n ↦ ap (λ (z : Bool). rows_found (first (is_quant r.id) (cond z (over_now s.id x ∷ rs) (x ∷ turned r.id s.id rs))) fam e) n ∙ ap (λ (z : Bool). rows_found (cond z (Some x) (first (is_quant r.id) (turned r.id s.id rs))) fam e) n
+          ∙ first-turned rs (sym (ap (λ (z : Bool). cond z (Some x) (first (is_quant r.id) rs)) n) ∙ h) e
+    ]
+
+    pub turned-after : (e : Environment) → quant_rows (on_quant r.id (over_now s.id) o) fam r.id e ≡ give e
+    turned-after e = first-turned o.quants found e
+
+    untouched : (q : ℕ) (rs : List OwnedQuant) → ((y : OwnedQuant) → In y rs → In y o.quants) → rows_found (first (is_quant q) rs) fam ≡ rows_found (first (is_quant q) rs) f0
+    untouched q [] sub = refl
+    untouched q (y ∷ rs) sub = elim (y.id == q) as (λ z. rows_found (cond z (Some y) (first (is_quant q) rs)) fam ≡ rows_found (cond z (Some y) (first (is_quant q) rs)) f0) [
+      | true ↦ fam-was y.over (over-apart o y o-bs (sub y (inl refl)))
+      | false ↦ untouched q rs (λ y j. sub y (inr j))
+    ]
+
+    others-found : (q : ℕ) → (q == r.id) ≡ false → (rs : List OwnedQuant) → ((x : OwnedQuant) → In x rs → In x o.quants) → rows_found (first (is_quant q) (turned r.id s.id rs)) fam ≡ rows_found (first (is_quant q) rs) f0
+    others-found q n [] sub = refl
+    others-found q n (x ∷ rs) sub = elim (cases_Bool (x.id == r.id)) [
+      | inl t ↦ (
+          let k : (x.id == q) ≡ false = (elim (cases_Bool (x.id == q)) [ inr h ↦ h | inl h ↦ absurd (clash (q == r.id) (eq-eqb q r.id (sym (eqb-true x.id q h) ∙ eqb-true x.id r.id t)) n) ]) in
+          ap (λ (z : Bool). rows_found (first (is_quant q) (cond z (over_now s.id x ∷ rs) (x ∷ turned r.id s.id rs))) fam) t
+          ∙ ap (λ (z : Bool). rows_found (cond z (Some (over_now s.id x)) (first (is_quant q) rs)) fam) k ∙ untouched q rs (λ y j. sub y (inr j))
+          ∙ sym (ap (λ (z : Bool). rows_found (cond z (Some x) (first (is_quant q) rs)) f0) k))
+      | inr t ↦ ap (λ (z : Bool). rows_found (first (is_quant q) (cond z (over_now s.id x ∷ rs) (x ∷ turned r.id s.id rs))) fam) t ∙ (elim (x.id == q) as (λ z. rows_found (cond z (Some x) (first (is_quant q) (turned r.id s.id rs))) fam ≡ rows_found (cond z (Some x) (first (is_quant q) rs)) f0) [
+        | true ↦ fam-was x.over (over-apart o x o-bs (sub x (inl refl)))
+        | false ↦ others-found q n rs (λ y j. sub y (inr j))
+      ])
+    ]
+
+    pub others-after : (q : ℕ) → (q == r.id) ≡ false → quant_rows (on_quant r.id (over_now s.id) o) fam q ≡ quant_rows o (bag_in tables (xs ++ ys)) q
+    others-after q n = others-found q n o.quants (λ x j. j)

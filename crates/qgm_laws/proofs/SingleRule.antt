@@ -25,7 +25,7 @@ use Rattle.qgm_laws.specs.Graph.{ArmsBy, Sound, binds_row, reads_in}
 use Rattle.qgm_laws.specs.Keeps.{Keeps}
 use Rattle.qgm_laws.specs.Single.{MaySingle, single_box, single_head, singled}
 use Rattle.qgm_laws.proofs.Adds.{read-owned, reads-at-read, seen-owned}
-use Rattle.qgm_laws.proofs.Interposed.{fam, fam-s, fam-was, interposed-bag, interposed-sound, over-apart, over_now, turned}
+use Rattle.qgm_laws.proofs.Interposed.{fam, fam-was, interposed-bag, interposed-sound, others-after, over_now, rowless, rowless-unread, turned-after, turned-before, turned-each}
 use Rattle.qgm_laws.proofs.Lists.{any-from, any-in, clash, eq-itself, in-left, in-right, or-left, or-right, or-false}
 use Rattle.qgm_laws.proofs.PlacedLists.{in-more}
 use Rattle.qgm_laws.proofs.Ranks.{in-has, has-in, overs-held, same-box}
@@ -35,14 +35,6 @@ use Rattle.qgm_laws.proofs.Scope.{bound-above, bound-owned, one-owner}
 use Rattle.qgm_laws.proofs.Scoped.{few-ids, scoped-of}
 use Rattle.qgm_laws.proofs.Turns.{first-own}
 use Rattle.qgm_laws.proofs.Widths.{filled-map, filled-more}
-
--- what is given doesn't ask which boxes quantifiers range over
-turned-each : (i s : ℕ) (rs : List OwnedQuant) (t : Family) (give : Environment → Bag) (e : Environment) → over_each (turned i s rs) t give e ≡ over_each rs t give e
-turned-each i s [] t give e = refl
-turned-each i s (r ∷ rs) t give e = elim (r.id == i) as (λ b. over_each (cond b (over_now s r ∷ rs) (r ∷ turned i s rs)) t give e ≡ over_each (r ∷ rs) t give e) [
-  | true ↦ refl
-  | false ↦ ap (λ (h : Environment → Bag). cond (is_F r.kind) (bind (t r.id e) (λ cells. h (bound r.id cells e))) (h e)) (fun_ext (λ e. turned-each i s rs t give e))
-]
 
 module _ (xs ys : List Node) (g : QueryGraph) (w : Sound (xs ++ ys) g.root) (b p : ℕ) (o c : Node) (r : OwnedQuant) (m : MaySingle xs ys g.root b p o c r) where
   abbrev bs : List Node
@@ -65,25 +57,6 @@ module _ (xs ys : List Node) (g : QueryGraph) (w : Sound (xs ++ ys) g.root) (b p
 
   owner : owns r.id o ≡ true
   owner = any-from (is_quant r.id) r o.quants m.owned (eq-itself r.id)
-
-  -- no F quantifier has r's number
-  no-row : (n : Node) → In n bs → binds_row r.id n.quants ≡ true → ⊥
-  no-row n i t =
-      let x = any-in (λ (q : OwnedQuant). is_F q.kind && is_quant r.id q) n.quants t in
-      let y = and_parts (is_F x.0.kind) (is_quant r.id x.0) x.1.1 in
-      let same : n ≡ o = one-owner bs g.root w r.id n o i o-bs (bound-owned r.id n.quants t) owner in
-      let few = few-ids bs o r.id (w.once r.id) o-bs in
-      let e1 = first-own r o.quants few m.owned in
-      let e2 = first-own x.0 o.quants (subst (λ z. times z (ids_of o) ≤ 1) (sym (eqb-true x.0.id r.id y.1)) few) (subst (λ (z : Node). In x.0 z.quants) same x.1.0) in
-      let e3 : Some x.0 ≡ Some r = sym e2 ∙ ap (λ z. first (is_quant z) o.quants) (eqb-true x.0.id r.id y.1) ∙ e1 in
-      let e4 : x.0 ≡ r = cc in clash (is_F r.kind) (subst (λ (z : OwnedQuant). is_F z.kind ≡ true) e4 y.0) not-F
-
-  unread : (n : Node) → In n bs → read_by n r.id ≡ true → ⊥
-  unread n i t = elim (or_cases (own_seen n.parts.kind n r.id) (loose bs n.id r.id) ((scoped-of bs g.root w n i).own r.id t)) [
-    | inl a ↦ (let same : n ≡ o = one-owner bs g.root w r.id n o i o-bs (seen-owned n.parts.kind n r.id a) owner in
-        no-row n i (subst (λ k. own_seen k n r.id ≡ true) (ap (λ (z : Node). z.parts.kind) same ∙ m.a_select) a))
-    | inr a ↦ (let x = bound-above bs g.root w n.id r.id a in no-row x.0 x.1.0 x.1.1.0)
-  ]
 
   p-not-r : (p == r.id) ≡ false
   p-not-r = elim (cases_Bool (p == r.id)) [ inr f ↦ f | inl t ↦ absurd (clash (list_any (owns p) bs) (subst (λ z. list_any (owns z) bs ≡ true) (sym (eqb-true p r.id t)) (any-from (owns r.id) o bs o-bs owner)) m.new_quant) ]
@@ -127,7 +100,7 @@ module _ (xs ys : List Node) (g : QueryGraph) (w : Sound (xs ++ ys) g.root) (b p
     };
     fits = λ n i k t. absurd (elim (in-more xs s ys n i) [
       | inl y ↦ clash (p == r.id) (read-s r.id (reads-at-read r.id k s (subst (λ (z : Node). reads_in r.id k z ≡ true) (sym y) t))) p-not-r
-      | inr y ↦ unread n y (reads-at-read r.id k n t)
+      | inr y ↦ rowless-unread bs g.root w o r o-bs m.owned not-F m.a_select n y (reads-at-read r.id k n t)
     ]);
     arms = subst (λ k. ArmsBy k (width s) (width o)) (sym m.a_select) tt;
   }
@@ -157,38 +130,6 @@ module _ (xs ys : List Node) (g : QueryGraph) (w : Sound (xs ++ ys) g.root) (b p
     s-rows e = ap (λ (t : Bool). grouped_rows 0 (single_head p) p e (rows_found (cond t (Some (record { id = p; kind = F; over = c.id })) None) after e)) (eq-itself p)
         ∙ ap (λ (h : Environment → Bag). grouped_rows 0 (single_head p) p e (h e)) (after-was c.id (apart c c-bs))
 
-    others-found : (q : ℕ) → (q == r.id) ≡ false → (rs : List OwnedQuant) → ((x : OwnedQuant) → In x rs → In x o.quants) → rows_found (first (is_quant q) (turned r.id b rs)) after ≡ rows_found (first (is_quant q) rs) f
-    others-found q n [] sub = refl
-    others-found q n (x ∷ rs) sub = elim (cases_Bool (x.id == r.id)) [
-      | inl t ↦ (
-          let k : (x.id == q) ≡ false = (elim (cases_Bool (x.id == q)) [ inr h ↦ h | inl h ↦ absurd (clash (q == r.id) (eq-eqb q r.id (sym (eqb-true x.id q h) ∙ eqb-true x.id r.id t)) n) ]) in
-          ap (λ (z : Bool). rows_found (first (is_quant q) (cond z (over_now b x ∷ rs) (x ∷ turned r.id b rs))) after) t
-          ∙ ap (λ (z : Bool). rows_found (cond z (Some (over_now b x)) (first (is_quant q) rs)) after) k ∙ untouched rs (λ y j. sub y (inr j))
-          ∙ sym (ap (λ (z : Bool). rows_found (cond z (Some x) (first (is_quant q) rs)) f) k))
-      | inr t ↦ ap (λ (z : Bool). rows_found (first (is_quant q) (cond z (over_now b x ∷ rs) (x ∷ turned r.id b rs))) after) t ∙ (elim (x.id == q) as (λ z. rows_found (cond z (Some x) (first (is_quant q) (turned r.id b rs))) after ≡ rows_found (cond z (Some x) (first (is_quant q) rs)) f) [
-        | true ↦ after-was x.over (over-apart xs ys g.root w s o c r interposes o x o-bs (sub x (inl refl)))
-        | false ↦ others-found q n rs (λ y j. sub y (inr j))
-      ])
-    ]
-      where
-        untouched : (rs : List OwnedQuant) → ((y : OwnedQuant) → In y rs → In y o.quants) → rows_found (first (is_quant q) rs) after ≡ rows_found (first (is_quant q) rs) f
-        untouched [] sub = refl
-        untouched (y ∷ rs) sub = elim (y.id == q) as (λ z. rows_found (cond z (Some y) (first (is_quant q) rs)) after ≡ rows_found (cond z (Some y) (first (is_quant q) rs)) f) [
-          | true ↦ after-was y.over (over-apart xs ys g.root w s o c r interposes o y o-bs (sub y (inl refl)))
-          | false ↦ untouched rs (λ y j. sub y (inr j))
-        ]
-
-    turned-found : (rs : List OwnedQuant) → first (is_quant r.id) rs ≡ Some r → (e : Environment) → rows_found (first (is_quant r.id) (turned r.id b rs)) after e ≡ give e
-    turned-found [] h e = absurd (let z : ⊥ = cc in z)
-    turned-found (x ∷ rs) h e = elim (cases_Bool (x.id == r.id)) [
-      | inl t ↦ ap (λ (z : Bool). rows_found (first (is_quant r.id) (cond z (over_now b x ∷ rs) (x ∷ turned r.id b rs))) after e) t ∙ ap (λ (z : Bool). rows_found (cond z (Some (over_now b x)) (first (is_quant r.id) rs)) after e) t ∙ fam-s xs ys g.root w s o c r interposes tables give e
-      | inr n ↦ ap (λ (z : Bool). rows_found (first (is_quant r.id) (cond z (over_now b x ∷ rs) (x ∷ turned r.id b rs))) after e) n ∙ ap (λ (z : Bool). rows_found (cond z (Some x) (first (is_quant r.id) (turned r.id b rs))) after e) n
-          ∙ turned-found rs (sym (ap (λ (z : Bool). cond z (Some x) (first (is_quant r.id) rs)) n) ∙ h) e
-    ]
-
-    found : first (is_quant r.id) o.quants ≡ Some r
-    found = first-own r o.quants (few-ids bs o r.id (w.once r.id) o-bs) m.owned
-
     abbrev t : Family
     t = quant_rows (on_quant r.id (over_now b) o) after
 
@@ -196,9 +137,9 @@ module _ (xs ys : List Node) (g : QueryGraph) (w : Sound (xs ++ ys) g.root) (b p
     o-rows e =
         ap (λ k. rows_by k tables (on_quant r.id (over_now b) o) t e) m.a_select
         ∙ ap (once_if (is_enforce o.parts.distinct)) (turned-each r.id b o.quants t (given_by t (on_quant r.id (over_now b) o)) e
-        ∙ each-scalar t (quant_rows o f) r.id (on_quant r.id (over_now b) o) o refl (λ q n. others-found q n o.quants (λ x j. j))
-        (λ e. ap subquery.scalar (turned-found o.quants found e) ∙ single-scalar p e (f c.id e) (m.safe tables filled e) ∙ ap subquery.scalar (sym (ap (λ z. rows_found z f e) found ∙ ap (λ z. f z e) m.over_c)))
-        m.scalars m.scalars_conds o.quants (λ x j h. elim (cases_Bool (x.id == r.id)) [ inr n ↦ n | inl y ↦ absurd (no-row o o-bs (any-from (λ (q : OwnedQuant). is_F q.kind && is_quant r.id q) x o.quants j (ap₂ (λ (a : Bool) (b : Bool). a && b) h y))) ]) e)
+        ∙ each-scalar t (quant_rows o f) r.id (on_quant r.id (over_now b) o) o refl (λ q n. others-after xs ys g.root w s o c r interposes tables give q n)
+        (λ e. ap subquery.scalar (turned-after xs ys g.root w s o c r interposes tables give e) ∙ single-scalar p e (f c.id e) (m.safe tables filled e) ∙ ap subquery.scalar (sym (turned-before xs ys g.root w s o c r interposes tables give e)))
+        m.scalars m.scalars_conds o.quants (λ x j h. elim (cases_Bool (x.id == r.id)) [ inr n ↦ n | inl y ↦ absurd (rowless bs g.root w o r o-bs m.owned not-F o o-bs (any-from (λ (q : OwnedQuant). is_F q.kind && is_quant r.id q) x o.quants j (ap₂ (λ (a : Bool) (b : Bool). a && b) h y))) ]) e)
         ∙ sym (ap (λ k. rows_by k tables o (quant_rows o f) e) m.a_select)
 
     pub root-same : (e : Environment) → bag_in tables (interposed xs ys s o.id r.id) g.root e ≡ f g.root e
