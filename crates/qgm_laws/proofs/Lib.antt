@@ -34,5 +34,7 @@ pub mod Scalars
 pub mod SingleRule
 pub mod Facts
 pub mod Column
+pub mod Filters
+pub mod PushSound
 pub mod PushRule
 pub mod Examples

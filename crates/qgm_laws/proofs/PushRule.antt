@@ -53,30 +53,8 @@ use Rattle.qgm_laws.proofs.Times.{in-times, times-in}
 use Rattle.qgm_laws.proofs.Turns.{first-own}
 use Rattle.qgm_laws.proofs.Widths.{filled-map}
 use Rattle.std.specs.Prelude as prelude
-
--- a filter after the loops is a filter in each
-each-bind : (rs : List OwnedQuant) (s : Family) (give : Environment → Bag) (k : List Cell → Bag) (e : Environment) → over_each rs s (λ e. bind (give e) k) e ≡ bind (over_each rs s give e) k
-each-bind [] s give k e = refl
-each-bind (r ∷ rs) s give k e = elim (is_F r.kind) as (λ f. ◌≡◌ {A = Bag} (cond f (bind (s r.id e) (λ cells. over_each rs s (λ e. bind (give e) k) (bound r.id cells e))) (over_each rs s (λ e. bind (give e) k) e)) (bind (cond f (bind (s r.id e) (λ cells. over_each rs s give (bound r.id cells e))) (over_each rs s give e)) k)) [
-  | true ↦ ap (λ (h : List Cell → Bag). bind (s r.id e) h) (fun_ext (λ cells. each-bind rs s give k (bound r.id cells e))) ∙ sym (bind-bind (s r.id e) (λ cells. over_each rs s give (bound r.id cells e)) k)
-  | false ↦ each-bind rs s give k e
-]
-
--- one quantifier alone ranges over a box that is used once
-over-once : (x y : OwnedQuant) (rs : List OwnedQuant) (c : ℕ) → times c (map (λ (r : OwnedQuant). r.over) rs) ≤ 1 → In x rs → In y rs → x.over ≡ c → y.over ≡ c → (x.id == y.id) ≡ true
-over-once x y [] c few i j e h = elim i [ ]
-over-once x y (z ∷ rs) c few i j e h = elim i [
-  | inl a ↦ elim j [
-    | inl d ↦ eq-eqb x.id y.id (ap (λ (u : OwnedQuant). u.id) (sym a ∙ d))
-    | inr l ↦ absurd (let k : 1 ≤ times c (map (λ (r : OwnedQuant). r.over) rs) = subst (λ u. 1 ≤ times u (map (λ (r : OwnedQuant). r.over) rs)) h (in-times (λ (r : OwnedQuant). r.over) y rs l) in
-        let n : ◌≡◌ {A = ℕ} (cond (z.over == c) 1 0) 1 = ap (λ (t : Bool). cond {A = ℕ} t 1 0) (eq-eqb z.over c (ap (λ (u : OwnedQuant). u.over) a ∙ e)) in omega arith)
-  ]
-  | inr l ↦ elim j [
-    | inl d ↦ absurd (let k : 1 ≤ times c (map (λ (r : OwnedQuant). r.over) rs) = subst (λ u. 1 ≤ times u (map (λ (r : OwnedQuant). r.over) rs)) e (in-times (λ (r : OwnedQuant). r.over) x rs l) in
-        let n : ◌≡◌ {A = ℕ} (cond (z.over == c) 1 0) 1 = ap (λ (t : Bool). cond {A = ℕ} t 1 0) (eq-eqb z.over c (ap (λ (u : OwnedQuant). u.over) d ∙ h)) in omega arith)
-    | inr o ↦ over-once x y rs c (omega arith) l o e h
-  ]
-]
+use Rattle.qgm_laws.proofs.Filters.{each-bind, each-filtered, over-once}
+use Rattle.qgm_laws.proofs.PushSound as before
 
 module _ (bs : List Node) (root : ℕ) (w : Sound bs root) (b c : Node) (ps : List Cond) (p : Cond) (qs : List Cond) (us : List OwnedQuant) (r : OwnedQuant) (vs : List OwnedQuant) (m : MayPush bs b c ps p qs us r vs) where
   abbrev q : ℕ
@@ -93,102 +71,6 @@ module _ (bs : List Node) (root : ℕ) (w : Sound bs root) (b c : Node) (ps : Li
 
   abbrev c' : Node
   c' = conditioned (c.parts.conds.items ++ p' ∷ []) c
-
-  in-b : In r b.quants
-  in-b = subst (λ z. In r z) (sym m.split) (in-right r us (r ∷ vs) (inl refl))
-
-  b-not-c : (c.id == b.id) ≡ false
-  b-not-c = elim (cases_Bool (c.id == b.id)) [ inr f ↦ f | inl t ↦ absurd (
-      let less : place bs b.id < place bs c.id = subst (λ z. place bs b.id < place bs z) m.over_c (place-under bs b r w.ordered m.in_b in-b) in
-      let same : place bs c.id ≡ place bs b.id = ap (place bs) (eqb-true c.id b.id t) in omega arith) ]
-
-  -- a box is b, c or as it was
-  g-cases : (y : Node) → In y bs → ((y ≡ b) × (g y ≡ b')) ⊎ (((y ≡ c) × (g y ≡ c')) ⊎ (((y.id == b.id) ≡ false) × (((y.id == c.id) ≡ false) × (g y ≡ y))))
-  g-cases y i = elim (cases_Bool (y.id == b.id)) [
-    | inl t ↦ (let e : y ≡ b = same-box bs y b w.ordered i m.in_b (eqb-true y.id b.id t) in inl (e, ap g e ∙ ap (λ (z : Bool). cond z b' (cond (b.id == c.id) (conditioned (b.parts.conds.items ++ p' ∷ []) b) b)) (eq-itself b.id)))
-    | inr f ↦ elim (cases_Bool (y.id == c.id)) [
-      | inl t ↦ (let e : y ≡ c = same-box bs y c w.ordered i m.in_c (eqb-true y.id c.id t) in inr (inl (e, ap g e ∙ ap₂ (λ (z u : Bool). cond z (conditioned (ps ++ qs) c) (cond u c' c)) b-not-c (eq-itself c.id))))
-      | inr n ↦ inr (inr (f, (n, ap₂ (λ (z u : Bool). cond z (conditioned (ps ++ qs) y) (cond u (conditioned (y.parts.conds.items ++ p' ∷ []) y) y)) f n)))
-    ]
-  ]
-
-  -- what stands in p's copy in c stood in p at another quantifier than q, or in a cell of c whose column p reads
-  no-node : (x : ℕ) → names_cond x p ≡ false
-  no-node x = elim (cases_Bool (names_cond x p)) [ inr f ↦ f | inl t ↦ absurd (clash (list_any (any_in_cond (wanted sought.Node)) (p ∷ []))
-      (conds-more (λ r k. false) (λ r k. false) (λ r. r == x) (λ r. true) (λ r. r == x) (λ r. true) (λ r. true) (λ r. true) (λ r k h. h) (λ r h. refl) (λ r h. refl) (λ r h. h) (p ∷ []) (or-left (names_cond x p) false t)) (ap (λ t. t || false) m.node_free)) ]
-
-  read-new : (x : ℕ) → reads_cond x p' ≡ true → list_any (reads x) c.parts.head ≡ true
-  read-new x t = elim (cond-put q c.parts.head (λ r k. r == x) (λ r. false) (λ r. false) (λ r. prelude.not (r == x)) ((x == q) ≡ false) (λ r k n h. subst (λ z. (z == q) ≡ false) (eqb-true r x h) n) (λ r n h. absurd (let z : ⊥ = cc in z)) (λ r n h. absurd (let z : ⊥ = cc in z)) p (no-node q) t) [
-    | inl a ↦ absurd (clash (x == q) (eq-eqb x q (m.own x a.0)) a.1)
-    | inr a ↦ cell-any (reads x) c.parts.head a.0 refl a.1.1
-  ]
-
-  at-new : (x k : ℕ) → reads_at_cond x k p' ≡ true → list_any (reads_at x k) c.parts.head ≡ true
-  at-new x k t = elim (cond-put q c.parts.head (λ r j. (r == x) && (j == k)) (λ r. false) (λ r. false) (λ r. prelude.not (r == x)) ((x == q) ≡ false) (λ r j n h. subst (λ z. (z == q) ≡ false) (eqb-true r x (and_parts (r == x) (j == k) h).0) n) (λ r n h. absurd (let z : ⊥ = cc in z)) (λ r n h. absurd (let z : ⊥ = cc in z)) p (no-node q) t) [
-    | inl a ↦ absurd (clash (x == q) (eq-eqb x q (m.own x (reads-at p a.0))) a.1)
-    | inr a ↦ cell-any (reads_at x k) c.parts.head a.0 refl a.1.1
-  ]
-    where
-      reads-at : (d : Cond) → reads_at_cond x k d ≡ true → reads_cond x d ≡ true
-      reads-at d h = sym (or-false (reads_cond x d)) ∙ conds-more (λ r j. (r == x) && (j == k)) (λ r j. r == x) (λ r. false) (λ r. false) (λ r. false) (λ r. false) (λ r. prelude.not (r == x)) (λ r. prelude.not (r == x)) (λ r j h. (and_parts (r == x) (j == k) h).0) (λ r h. h) (λ r h. h) (λ r h. h) (d ∷ []) (or-left (reads_at_cond x k d) false h)
-
-  node-new : (x : ℕ) → names_cond x p' ≡ true → list_any (names x) c.parts.head ≡ true
-  node-new x t = elim (cond-put q c.parts.head (λ r j. false) (λ r. r == x) (λ r. r == x) (λ r. true) ⊤ (λ r j n h. tt) (λ r n h. tt) (λ r n h. tt) p (no-node q) t) [
-    | inl a ↦ absurd (clash (names_cond x p) a.0 (no-node x))
-    | inr a ↦ cell-any (names x) c.parts.head a.0 refl a.1.1
-  ]
-
-  -- a search of a box after finds in the box before
-  found : (h : Term → Bool) (d : Cond → Bool) → (d p' ≡ true → list_any h c.parts.head ≡ true) → (y : Node) → In y bs → (list_any h (g y).parts.head || list_any d (g y).parts.conds.items) ≡ true → (list_any h y.parts.head || list_any d y.parts.conds.items) ≡ true
-  found h d new y i t = elim (g-cases y i) [
-    | inl e ↦ subst (λ (z : Node). (list_any h z.parts.head || list_any d z.parts.conds.items) ≡ true) (sym e.0) (elim (or_cases (list_any h b.parts.head) (list_any d (ps ++ qs)) (subst (λ (z : Node). (list_any h z.parts.head || list_any d z.parts.conds.items) ≡ true) e.1 t)) [
-      | inl a ↦ or-left (list_any h b.parts.head) (list_any d b.parts.conds.items) a
-      | inr a ↦ or-right (list_any h b.parts.head) (list_any d b.parts.conds.items) (ap (list_any d) m.conds ∙ any-more d ps p qs ∙ or-right (d p) (list_any d (ps ++ qs)) a)
-    ])
-    | inr z ↦ elim z [
-      | inl e ↦ subst (λ (z : Node). (list_any h z.parts.head || list_any d z.parts.conds.items) ≡ true) (sym e.0) (elim (or_cases (list_any h c.parts.head) (list_any d (c.parts.conds.items ++ p' ∷ [])) (subst (λ (z : Node). (list_any h z.parts.head || list_any d z.parts.conds.items) ≡ true) e.1 t)) [
-        | inl a ↦ or-left (list_any h c.parts.head) (list_any d c.parts.conds.items) a
-        | inr a ↦ elim (any-append d c.parts.conds.items (p' ∷ []) a) [
-          | inl x ↦ or-right (list_any h c.parts.head) (list_any d c.parts.conds.items) x
-          | inr x ↦ or-left (list_any h c.parts.head) (list_any d c.parts.conds.items) (new (sym (or-false (d p')) ∙ x))
-        ]
-      ])
-      | inr e ↦ subst (λ (z : Node). (list_any h z.parts.head || list_any d z.parts.conds.items) ≡ true) e.1.1 t
-    ]
-  ]
-
-  quants-g : (y : Node) → (g y).quants ≡ y.quants
-  quants-g y = elim (y.id == b.id) as (λ t. ◌≡◌ {A = List OwnedQuant} (cond t (conditioned (ps ++ qs) y) (cond (y.id == c.id) (conditioned (y.parts.conds.items ++ p' ∷ []) y) y)).quants y.quants) [
-    | true ↦ refl
-    | false ↦ elim (y.id == c.id) as (λ t. ◌≡◌ {A = List OwnedQuant} (cond t (conditioned (y.parts.conds.items ++ p' ∷ []) y) y).quants y.quants) [ true ↦ refl | false ↦ refl ]
-  ]
-
-  by-all : {X : Type 0} (f : Node → X) → ((items : List Cond) (y : Node) → f (conditioned items y) ≡ f y) → (y : Node) → f (g y) ≡ f y
-  by-all f same y = elim (y.id == b.id) as (λ t. f (cond t (conditioned (ps ++ qs) y) (cond (y.id == c.id) (conditioned (y.parts.conds.items ++ p' ∷ []) y) y)) ≡ f y) [
-    | true ↦ same (ps ++ qs) y
-    | false ↦ elim (y.id == c.id) as (λ t. f (cond t (conditioned (y.parts.conds.items ++ p' ∷ []) y) y) ≡ f y) [ true ↦ same (y.parts.conds.items ++ p' ∷ []) y | false ↦ refl ]
-  ]
-
-  reparts : Reparts bs g
-  reparts = record {
-    id = by-all (λ n. n.id) (λ items y. refl);
-    kind = λ y i. by-all (λ n. n.parts.kind) (λ items y. refl) y;
-    quants = λ y i. quants-g y;
-    wide = λ y i. by-all width (λ items y. refl) y;
-    reads = λ y i x t. (scoped-of bs root w y i).own x (found (reads x) (reads_cond x) (read-new x) y i t);
-    fits = λ y i x k t. w.fits y i x k (found (reads_at x k) (reads_at_cond x k) (at-new x k) y i t);
-    own_nodes = λ y i x t. w.own_nodes y i x (found (names x) (names_cond x) (node-new x) y i t);
-    bare = λ y i. elim (g-cases y i) [
-      | inl e ↦ subst (λ (z : Node). BareBy z.parts.kind (g y)) (sym e.0) (subst (λ k. BareBy k (g y)) (sym m.select_b) tt)
-      | inr z ↦ elim z [
-        | inl e ↦ subst (λ (z : Node). BareBy z.parts.kind (g y)) (sym e.0) (subst (λ k. BareBy k (g y)) (sym m.select_c) tt)
-        | inr e ↦ subst (λ z. BareBy y.parts.kind z) (sym e.1.1) (w.bare y i)
-      ]
-    ];
-  }
-
-  sound : Sound (map g bs) root
-  sound = parts-sound bs root w g reparts
 
   -- ---- what c gives is filtered, all else stays
   module _ (tables : List Table) where
@@ -213,10 +95,10 @@ module _ (bs : List Node) (root : ℕ) (w : Sound bs root) (b c : Node) (ps : Li
 
     -- only r ranges over c
     only-b : (y : Node) (x : OwnedQuant) → In y bs → In x y.quants → x.over ≡ c.id → y ≡ b
-    only-b y x i j e = one-parent bs root w c.id y b x r (let a = m.one_use in omega arith) i m.in_b j in-b e m.over_c
+    only-b y x i j e = one-parent bs root w c.id y b x r (let a = m.one_use in omega arith) i m.in_b j (before.in-b bs root w b c ps p qs us r vs m) e m.over_c
 
     truth-is : (rows : ℕ → Bag) (e : Environment) → (truth rows p e).t ≡ test (row_of q e)
-    truth-is rows e = ap (λ (z : Truth). z.t) (truth-nodes rows nothing p e (λ x t. absurd (clash (names_cond x p) t (no-node x)))
+    truth-is rows e = ap (λ (z : Truth). z.t) (truth-nodes rows nothing p e (λ x t. absurd (clash (names_cond x p) t ((before.no-node bs root w b c ps p qs us r vs m) x)))
         ∙ truth-framed nothing p e (bound q (row_of q e) []) (record { rows = λ x t. subst (λ z. row_of z e ≡ row_of z (bound q (row_of q e) [])) (sym (m.own x t)) (sym (ap (λ (t : Bool). cond t (row_of q e) []) (eq-itself q))) }))
 
     under-same : (y : Node) → (rs : List OwnedQuant) → ((x : OwnedQuant) → In x rs → (x.over == c.id) ≡ false) → SameUnder rs f' f
@@ -232,7 +114,7 @@ module _ (bs : List Node) (root : ℕ) (w : Sound bs root) (b c : Node) (ps : Li
         let rows : ℕ → Bag = λ x. s x e in
         let V : List Cell = head_cells rows c.parts.head e in
         let A : Level = (all_true rows c.parts.conds.items e).t in
-        let put : (truth rows p' e).t ≡ test V = ap (λ (z : Truth). z.t) (truth-put rows q c.parts.head p e (bound q V e) (inlined-first rows q c.parts.head e) (λ x t. absurd (clash (names_cond x p) (bound-named x t) (no-node x))))
+        let put : (truth rows p' e).t ≡ test V = ap (λ (z : Truth). z.t) (truth-put rows q c.parts.head p e (bound q V e) (inlined-first rows q c.parts.head e) (λ x t. absurd (clash (names_cond x p) (bound-named x t) ((before.no-node bs root w b c ps p qs us r vs m) x))))
             ∙ truth-is rows (bound q V e) ∙ ap test (ap (λ (t : Bool). cond t V (row_of q e)) (eq-itself q)) in
         ap (λ l. keep l (unit V)) (all_true-append rows c.parts.conds.items (p' ∷ []) e ∙ ap (least A) (least-yes (truth rows p' e).t ∙ put))
         ∙ sym (keep-keep A (test V) (unit V)) ∙ ap (keep A) (sym (unit-bind V k)) ∙ bind-keep-out A V
@@ -245,7 +127,7 @@ module _ (bs : List Node) (root : ℕ) (w : Sound bs root) (b c : Node) (ps : Li
 
     c-rows : (e : Environment) → rows_of tables c' f' e ≡ f' c.id e
     c-rows e =
-        ap (λ (h : Environment → Bag). h e) (rows-local tables c' f' f (under-same c c.quants (not-over c m.in_c b-not-c)))
+        ap (λ (h : Environment → Bag). h e) (rows-local tables c' f' f (under-same c c.quants (not-over c m.in_c (before.b-not-c bs root w b c ps p qs us r vs m))))
         ∙ ap (λ z. rows_by z tables c' (quant_rows c f) e) m.select_c
         ∙ ap (λ o. once_if o (over_each c.quants (quant_rows c f) (given_by (quant_rows c f) c') e)) m.not_enforced
         ∙ ap (λ (h : Environment → Bag). over_each c.quants (quant_rows c f) h e) (fun_ext (λ e. given-c (quant_rows c f) e))
@@ -267,7 +149,7 @@ module _ (bs : List Node) (root : ℕ) (w : Sound bs root) (b c : Node) (ps : Li
     alone : (x : OwnedQuant) → In x b.quants → (x.id == q) ≡ false → (x.over == c.id) ≡ false
     alone x j n = elim (cases_Bool (x.over == c.id)) [
       | inr f ↦ f
-      | inl t ↦ absurd (clash (x.id == q) (two x r j in-b (eqb-true x.over c.id t) m.over_c) n)
+      | inl t ↦ absurd (clash (x.id == q) (two x r j (before.in-b bs root w b c ps p qs us r vs m) (eqb-true x.over c.id t) m.over_c) n)
     ]
       where
         few-c : times c.id (overs_of b) ≤ 1
@@ -288,11 +170,11 @@ module _ (bs : List Node) (root : ℕ) (w : Sound bs root) (b c : Node) (ps : Li
 
     s-q : (e : Environment) → s' q e ≡ bind (s q e) k
     s-q e =
-        let one : first (is_quant q) b.quants ≡ Some r = first-own r b.quants (few-b q) in-b in
+        let one : first (is_quant q) b.quants ≡ Some r = first-own r b.quants (few-b q) (before.in-b bs root w b c ps p qs us r vs m) in
         ap (λ o. rows_found o f' e) one ∙ ap (λ z. f' z e) m.over_c ∙ f-c e ∙ ap (λ z. bind z k) (sym (ap (λ o. rows_found o f e) one ∙ ap (λ z. f z e) m.over_c))
 
     no-row : (x : ℕ) → nodes_in x b ≡ true → (x == q) ≡ false
-    no-row x t = elim (cases_Bool (x == q)) [ inr f ↦ f | inl y ↦ absurd (clash (binds_row q b.quants) (any-from (λ (z : OwnedQuant). is_F z.kind && is_quant q z) r b.quants in-b (ap₂ (λ (a d : Bool). a && d) m.is_f (eq-itself q))) (subst (λ z. binds_row z b.quants ≡ false) (eqb-true x q y) (w.own_nodes b m.in_b x t).1)) ]
+    no-row x t = elim (cases_Bool (x == q)) [ inr f ↦ f | inl y ↦ absurd (clash (binds_row q b.quants) (any-from (λ (z : OwnedQuant). is_F z.kind && is_quant q z) r b.quants (before.in-b bs root w b c ps p qs us r vs m) (ap₂ (λ (a d : Bool). a && d) m.is_f (eq-itself q))) (subst (λ z. binds_row z b.quants ≡ false) (eqb-true x q y) (w.own_nodes b m.in_b x t).1)) ]
 
     -- without p, at the level of p, is with p
     given-b : (e : Environment) → keep (test (row_of q e)) (given_by s' b' e) ≡ given_by s b e
@@ -310,42 +192,19 @@ module _ (bs : List Node) (root : ℕ) (w : Sound bs root) (b c : Node) (ps : Li
         ∙ ap (λ l. keep l (unit H)) (sym (least-associative T P Q) ∙ ap (λ l. least l Q) (least-commutative T P) ∙ least-associative P T Q
         ∙ sym (ap (λ z. (all_true rows z e).t) m.conds ∙ all_true-append rows ps (p ∷ qs) e ∙ ap (λ l. least P (least l Q)) (truth-is rows e)))
 
-    -- after q is bound
-    later : (rs : List OwnedQuant) → ((x : OwnedQuant) → In x rs → (x.id == q) ≡ false) → (e : Environment) → keep (test (row_of q e)) (over_each rs s' (given_by s' b') e) ≡ over_each rs s (given_by s b) e
-    later [] h e = given-b e
-    later (x ∷ rs) h e = elim (is_F x.kind) as (λ t. ◌≡◌ {A = Bag} (keep (test (row_of q e)) (cond t (bind (s' x.id e) (λ cells. over_each rs s' (given_by s' b') (bound x.id cells e))) (over_each rs s' (given_by s' b') e))) (cond t (bind (s x.id e) (λ cells. over_each rs s (given_by s b) (bound x.id cells e))) (over_each rs s (given_by s b) e))) [
-      | true ↦
-          bind-keep (test (row_of q e)) (s' x.id e) (λ cells. over_each rs s' (given_by s' b') (bound x.id cells e))
-          ∙ ap₂ (λ (rows : Bag) (h : List Cell → Bag). bind rows h) (ap (λ (z : Environment → Bag). z e) (s-same x.id (h x (inl refl)))) (fun_ext (λ cells.
-          ap (λ z. keep (test z) (over_each rs s' (given_by s' b') (bound x.id cells e))) (sym (ap (λ (t : Bool). cond t cells (row_of q e)) (h x (inl refl)))) ∙ later rs (λ z j. h z (inr j)) (bound x.id cells e)))
-      | false ↦ later rs (λ z j. h z (inr j)) e
-    ]
-
-    -- before
-    earlier : (rs : List OwnedQuant) → ((x : OwnedQuant) → In x rs → (x.id == q) ≡ false) → (e : Environment) → over_each (rs ++ r ∷ vs) s' (given_by s' b') e ≡ over_each (rs ++ r ∷ vs) s (given_by s b) e
-    earlier [] h e =
-        ap (λ (t : Bool). cond t (bind (s' q e) (λ cells. over_each vs s' (given_by s' b') (bound q cells e))) (over_each vs s' (given_by s' b') e)) m.is_f
-        ∙ ap (λ z. bind z (λ cells. over_each vs s' (given_by s' b') (bound q cells e))) (s-q e) ∙ bind-bind (s q e) k (λ cells. over_each vs s' (given_by s' b') (bound q cells e))
-        ∙ ap (λ (h : List Cell → Bag). bind (s q e) h) (fun_ext (λ cells.
-        sym (keep-bind (test cells) (unit cells) (λ v. over_each vs s' (given_by s' b') (bound q v e))) ∙ ap (keep (test cells)) (unit-bind cells (λ v. over_each vs s' (given_by s' b') (bound q v e)))
-        ∙ ap (λ z. keep (test z) (over_each vs s' (given_by s' b') (bound q cells e))) (sym (ap (λ (t : Bool). cond t cells (row_of q e)) (eq-itself q)))
-        ∙ later vs (λ x j. split-once (λ (r : OwnedQuant). r.id) us r vs (subst (λ z. times q (map (λ (r : OwnedQuant). r.id) z) ≤ 1) m.split (few-b q)) x (inr j)) (bound q cells e)))
-        ∙ sym (ap (λ (t : Bool). cond t (bind (s q e) (λ cells. over_each vs s (given_by s b) (bound q cells e))) (over_each vs s (given_by s b) e)) m.is_f)
-    earlier (x ∷ rs) h e = elim (is_F x.kind) as (λ t. ◌≡◌ {A = Bag} (cond t (bind (s' x.id e) (λ cells. over_each (rs ++ r ∷ vs) s' (given_by s' b') (bound x.id cells e))) (over_each (rs ++ r ∷ vs) s' (given_by s' b') e)) (cond t (bind (s x.id e) (λ cells. over_each (rs ++ r ∷ vs) s (given_by s b) (bound x.id cells e))) (over_each (rs ++ r ∷ vs) s (given_by s b) e))) [
-      | true ↦ ap₂ (λ (rows : Bag) (h : List Cell → Bag). bind rows h) (ap (λ (z : Environment → Bag). z e) (s-same x.id (h x (inl refl)))) (fun_ext (λ cells. earlier rs (λ z j. h z (inr j)) (bound x.id cells e)))
-      | false ↦ earlier rs (λ z j. h z (inr j)) e
-    ]
+    apart : (x : OwnedQuant) → In x us ⊎ In x vs → (x.id == q) ≡ false
+    apart x j = split-once (λ (r : OwnedQuant). r.id) us r vs (subst (λ z. times q (map (λ (r : OwnedQuant). r.id) z) ≤ 1) m.split (few-b q)) x j
 
     b-rows : (e : Environment) → rows_of tables b' f' e ≡ f b.id e
     b-rows e =
         ap (λ z. rows_by z tables b' s' e) m.select_b
         ∙ ap (once_if (is_enforce b.parts.distinct)) (ap (λ z. over_each z s' (given_by s' b') e) m.split
-        ∙ earlier us (λ x j. split-once (λ (r : OwnedQuant). r.id) us r vs (subst (λ z. times q (map (λ (r : OwnedQuant). r.id) z) ≤ 1) m.split (few-b q)) x (inl j)) e ∙ sym (ap (λ z. over_each z s (given_by s b) e) m.split))
+        ∙ each-filtered s' s q test (given_by s' b') (given_by s b) s-same s-q given-b us r vs refl m.is_f (λ x j. apart x (inl j)) (λ x j. apart x (inr j)) e ∙ sym (ap (λ z. over_each z s (given_by s b) e) m.split))
         ∙ sym (ap (λ z. rows_by z tables b s e) m.select_b) ∙ sym (unfold-bag tables bs b w.ordered m.in_b e)
 
     at-box : (y : Node) → In y bs → (e : Environment) → rows_of tables (g y) f' e ≡ f' y.id e
-    at-box y i e = elim (g-cases y i) [
-      | inl h ↦ ap (λ z. rows_of tables z f' e) h.1 ∙ b-rows e ∙ sym (ap (λ (z : Environment → Bag). z e) (f-was b.id (eq-false-sym c.id b.id b-not-c))) ∙ ap (λ (z : Node). f' z.id e) (sym h.0)
+    at-box y i e = elim (before.g-cases bs root w b c ps p qs us r vs m y i) [
+      | inl h ↦ ap (λ z. rows_of tables z f' e) h.1 ∙ b-rows e ∙ sym (ap (λ (z : Environment → Bag). z e) (f-was b.id (eq-false-sym c.id b.id (before.b-not-c bs root w b c ps p qs us r vs m)))) ∙ ap (λ (z : Node). f' z.id e) (sym h.0)
       | inr z ↦ elim z [
         | inl h ↦ ap (λ z. rows_of tables z f' e) h.1 ∙ c-rows e ∙ ap (λ (z : Node). f' z.id e) (sym h.0)
         | inr h ↦ ap (λ z. rows_of tables z f' e) h.1.1 ∙ ap (λ (z : Environment → Bag). z e) (rows-local tables y f' f (under-same y y.quants (not-over y i h.0))) ∙ sym (unfold-bag tables bs y w.ordered i e) ∙ sym (ap (λ (z : Environment → Bag). z e) (f-was y.id h.1.0))
@@ -353,19 +212,19 @@ module _ (bs : List Node) (root : ℕ) (w : Sound bs root) (b c : Node) (ps : Li
     ]
 
     back : (n : Node) → In n (map g bs) → (e : Environment) → rows_of tables n f' e ≡ f' n.id e
-    back n i e = let y = in-map g n bs i in subst (λ (z : Node). rows_of tables z f' e ≡ f' z.id e) y.1.1 (at-box y.0 y.1.0 e ∙ ap (λ x. f' x e) (sym (by-all (λ n. n.id) (λ items y. refl) y.0)))
+    back n i e = let y = in-map g n bs i in subst (λ (z : Node). rows_of tables z f' e ≡ f' z.id e) y.1.1 (at-box y.0 y.1.0 e ∙ ap (λ x. f' x e) (sym (before.by-all bs root w b c ps p qs us r vs m (λ n. n.id) (λ items y. refl) y.0)))
 
     root-not-c : (root == c.id) ≡ false
     root-not-c = elim (cases_Bool (root == c.id)) [ inr n ↦ n | inl t ↦ absurd (let a = w.top in let d = m.one_use in let e : times root (overs_in bs) ≡ times c.id (overs_in bs) = ap (λ z. times z (overs_in bs)) (eqb-true root c.id t) in omega arith) ]
 
     root-same : (e : Environment) → bag_in tables (map g bs) root e ≡ f root e
-    root-same e = only-bag tables f' (map g bs) sound.ordered back root sound.rooted e ∙ ap (λ (z : Environment → Bag). z e) (f-was root root-not-c)
+    root-same e = only-bag tables f' (map g bs) (before.sound bs root w b c ps p qs us r vs m).ordered back root (before.sound bs root w b c ps p qs us r vs m).rooted e ∙ ap (λ (z : Environment → Bag). z e) (f-was root root-not-c)
 
 pub push-keeps : (h : QueryGraph) → Sound h.boxes h.root → (b c : Node) (ps : List Cond) (p : Cond) (qs : List Cond) (us : List OwnedQuant) (r : OwnedQuant) (vs : List OwnedQuant) → MayPush h.boxes b c ps p qs us r vs → Keeps h (pushed b c ps p qs r h)
 push-keeps h w b c ps p qs us r vs m = record {
-  well = sound h.boxes h.root w b c ps p qs us r vs m;
+  well = before.sound h.boxes h.root w b c ps p qs us r vs m;
   bag = λ tables filled. same-agree (root-same h.boxes h.root w b c ps p qs us r vs m tables []);
-  bases = λ tables filled. filled-map tables (pushed_in b c ps p qs r) (λ y. by-all h.boxes h.root w b c ps p qs us r vs m (λ n. n.parts.kind) (λ items y. refl) y) h.boxes filled;
+  bases = λ tables filled. filled-map tables (pushed_in b c ps p qs r) (λ y. before.by-all h.boxes h.root w b c ps p qs us r vs m (λ n. n.parts.kind) (λ items y. refl) y) h.boxes filled;
   names = refl;
   order = refl;
 }
