@@ -1,6 +1,6 @@
 -- A box added keeps a graph sound, and so does one put under a quantifier.
-use Rattle.std.proofs.Common.{ℕ, zero, suc, ◌==◌, ◌≡◌, ◌&&◌, ◌||◌, ◌+◌, ◌≤◌, ◌<◌, cond, Bool, true, false, List, [], ◌∷◌, ◌++◌, map, take, refl, sym, ap, ap₂, subst, ◌∙◌, eqb-true, ◌⊎◌, inl, inr, arith}
-use Rattle.std.specs.List.{list_any, flat_map}
+use Rattle.std.proofs.Common.{ℕ, zero, suc, ◌==◌, ◌≡◌, ◌&&◌, cond, Bool, true, false, List, [], ◌∷◌, ◌++◌, map, take, refl, sym, ap, subst, ◌∙◌, eqb-true, inl, inr, arith}
+use Rattle.std.specs.List.{list_any}
 use Rattle.std.proofs.lemmas.Bool.{and_parts, cases_Bool, or_cases, eq-eqb}
 use Rattle.qgm_terms.specs.Wanted.{reads, reads_at, reads_at_cond, reads_cond}
 use Rattle.qgm_laws.proofs.AnyPut.{conds-more, heads-more}
@@ -9,29 +9,20 @@ use Rattle.qgm_core.specs.declared.node.Node.{Node}
 use Rattle.qgm_core.specs.declared.owned.OwnedQuant.{OwnedQuant}
 use Rattle.qgm_core.specs.declared.kinds.BoxKind.{BoxKind}
 use Rattle.qgm_core.specs.declared.kinds.BoxKind.TheVariants.{Base, Select, Group, SetOp, OuterJoin}
-use Rattle.qgm_core.specs.Boxes.{Ordered, has_box, ids_in, ids_of, is_box, is_quant, overs_in, overs_of, owns, width}
-use Rattle.qgm_core.specs.Edits.{on_quant}
-use Rattle.qgm_core.specs.Kinds.{is_F}
-use Rattle.qgm_core.specs.Lists.{In, change, times}
+use Rattle.qgm_core.specs.Boxes.{has_box, ids_of, is_box, is_quant, overs_of, owns, width}
+use Rattle.qgm_core.specs.Lists.{In, times}
 use Rattle.qgm_meaning.specs.Scope.{loose, read_by}
-use Rattle.qgm_laws.specs.Adds.{Adds, Interposes, as_box, at, interposed, onto}
-use Rattle.qgm_laws.specs.Changes.{Changes, FitsAfter}
+use Rattle.qgm_laws.specs.Adds.{Adds}
 use Rattle.qgm_laws.specs.Checked.{own_seen}
-use Rattle.qgm_laws.specs.Graph.{ArmsBy, BareBy, Fits, Sound, binds_row, nodes_in, reads_in}
-use Rattle.qgm_laws.specs.Placed.{Below, place}
-use Rattle.qgm_laws.specs.Scoped.{Bounds, Local, Scoped, shows_by}
-use Rattle.qgm_laws.proofs.Changes.{changed-sound, own-same}
-use Rattle.qgm_laws.proofs.Compact.{local-of}
-use Rattle.qgm_laws.proofs.Edits.{OnceEach, once-each, times-change}
-use Rattle.qgm_laws.proofs.Lists.{any-from, any-in, any-none, clash, eq-false-sym, eq-itself, in-left, in-right, in-append, or-left, or-right, or-none, other}
-use Rattle.qgm_laws.proofs.OneBox.{ordered-from, owns-ids, ranked}
-use Rattle.qgm_laws.proofs.PlacedLists.{any-more, in-more, more-in, more-own, ordered-more, times-more}
-use Rattle.qgm_laws.proofs.PlacedOne.{counted, g-cases, g-id, times-holds, unowned-times}
-use Rattle.qgm_laws.proofs.Ranks.{has-in, in-has, overs-held, place-under, same-box}
-use Rattle.qgm_laws.proofs.Scope.{bound-above, bound-owned, loose-held, owned-times}
-use Rattle.qgm_laws.proofs.Scoped.{few-ids, scoped-of, sound-by}
-use Rattle.qgm_laws.proofs.Times.{in-times, times-append, times-in, times-map}
-use Rattle.qgm_laws.proofs.Turns.{split-in}
+use Rattle.qgm_laws.specs.Graph.{ArmsBy, BareBy, Sound, binds_row, nodes_in, reads_in}
+use Rattle.qgm_laws.specs.Scoped.{Local, Scoped}
+use Rattle.qgm_laws.proofs.Lists.{any-from, clash, in-right, or-left, or-right}
+use Rattle.qgm_laws.proofs.OneBox.{owns-ids}
+use Rattle.qgm_laws.proofs.PlacedLists.{any-more, in-more, ordered-more, times-more}
+use Rattle.qgm_laws.proofs.PlacedOne.{times-holds, unowned-times}
+use Rattle.qgm_laws.proofs.Ranks.{has-in, in-has, overs-held}
+use Rattle.qgm_laws.proofs.Scope.{bound-above, bound-owned, loose-held}
+use Rattle.qgm_laws.proofs.Scoped.{scoped-of, sound-by}
 
 -- ---- what is read has an owner
 

@@ -1,22 +1,22 @@
 -- Boxes changed where they stand stay sound.
-use Rattle.std.proofs.Common.{ℕ, zero, suc, ◌==◌, ◌≡◌, ◌||◌, ◌+◌, ◌≤◌, cond, Bool, true, false, List, [], ◌∷◌, ◌++◌, map, take, refl, sym, ap, ap₂, subst, ◌∙◌, ◌⊎◌, inl, inr, arith}
+use Rattle.std.proofs.Common.{ℕ, ◌≡◌, ◌||◌, ◌≤◌, Bool, true, false, List, map, take, refl, sym, ap, subst, ◌∙◌, arith}
 use Rattle.std.specs.List.{list_any}
 use Rattle.row_bag.specs.declared.tables.Table.{Table}
 use Rattle.qgm_core.specs.declared.node.Node.{Node}
 use Rattle.qgm_core.specs.declared.owned.OwnedQuant.{OwnedQuant}
 use Rattle.qgm_core.specs.declared.kinds.BoxKind.{BoxKind}
 use Rattle.qgm_core.specs.declared.kinds.BoxKind.TheVariants.{Base, Select, Group, SetOp, OuterJoin}
-use Rattle.qgm_core.specs.Boxes.{Ordered, has_box, ids_in, ids_of, is_quant, overs_in, overs_of, owns, width}
+use Rattle.qgm_core.specs.Boxes.{Ordered, has_box, ids_of, is_quant, overs_in, overs_of, owns, width}
 use Rattle.qgm_core.specs.Lists.{In, times}
-use Rattle.qgm_meaning.specs.Meaning.{Family, bag_in, rows_of}
-use Rattle.qgm_meaning.specs.Scope.{loose, read_by}
+use Rattle.qgm_meaning.specs.Meaning.{bag_in, rows_of}
+use Rattle.qgm_meaning.specs.Scope.{loose}
 use Rattle.qgm_meaning.specs.Values.{Environment}
-use Rattle.qgm_laws.specs.Changes.{Changes, FitsAfter, Reparts}
+use Rattle.qgm_laws.specs.Changes.{Changes, Reparts}
 use Rattle.qgm_laws.specs.Checked.{own_seen}
-use Rattle.qgm_laws.specs.Graph.{ArmsBy, BareBy, Fits, Sound, binds_row, nodes_in, reads_in}
-use Rattle.qgm_laws.specs.Scoped.{Bounds, Local, NearlySound, Scoped, shows_by}
+use Rattle.qgm_laws.specs.Graph.{ArmsBy, BareBy, Sound, binds_row, nodes_in, reads_in}
+use Rattle.qgm_laws.specs.Scoped.{Local, NearlySound, Scoped, shows_by}
 use Rattle.qgm_laws.proofs.Edits.{times-same}
-use Rattle.qgm_laws.proofs.Lists.{in-map, map-in}
+use Rattle.qgm_laws.proofs.Lists.{in-map}
 use Rattle.qgm_laws.proofs.OneBox.{has-map, ordered-map, ranked}
 use Rattle.qgm_laws.proofs.Scope.{only-bag, unfold-bag}
 use Rattle.qgm_laws.proofs.Scoped.{nearly-by, scoped-of, sound-by}

@@ -6,7 +6,6 @@ use Rattle.qgm_core.specs.declared.kinds.BoxKind.{BoxKind}
 use Rattle.qgm_core.specs.declared.kinds.BoxKind.TheVariants.{Base, Select, Group, SetOp, OuterJoin}
 use Rattle.qgm_core.specs.declared.node.Node.{Node}
 use Rattle.qgm_core.specs.declared.owned.OwnedQuant.{OwnedQuant}
-use Rattle.qgm_core.specs.declared.parts.BoxParts.{BoxParts}
 use Rattle.qgm_core.specs.Boxes.{QueryGraph, ids_in, ids_of, is_box, is_quant, overs_in, overs_of, owns, width}
 use Rattle.qgm_core.specs.Edits.{drop_column, quants_over, shift_boxes, shift_node, without_cell}
 use Rattle.qgm_core.specs.Kinds.{width_by}
@@ -31,7 +30,7 @@ use Rattle.qgm_laws.proofs.Ranks.{same-box}
 use Rattle.qgm_laws.proofs.Scope.{one-owner}
 use Rattle.qgm_laws.proofs.Scoped.{few-ids, scoped-of}
 use Rattle.qgm_laws.proofs.Turns.{first-own}
-use Rattle.qgm_laws.proofs.Times.{in-times, times-append, times-map}
+use Rattle.qgm_laws.proofs.Times.{in-times, times-map}
 use Rattle.std.specs.Prelude as prelude
 
 -- ---- a column that is read after was read at the place that it had
@@ -347,28 +346,28 @@ module _ (bs : List Node) (root : ℕ) (w : Sound bs root) (b : Node) (k : ℕ) 
     fits = λ n i q j t. (
         let x = g-was n q j t in
         λ o z r io jr e iz v. (
-            let jo : In r o.quants = subst (λ u. In r u) (g-quants o) jr in
-            let old = w.fits n i q x.0 x.1.0 o r z io jo e iz v in
-            elim (cases_Bool (r.over == b.id)) [
-              | inr f ↦ (
-                  let stays : x.0 ≡ j = sym (place-stays k qs q x.0 (subst (λ u. times u qs ≡ 0) e (not-over o r io jo f))) ∙ x.1.1 in
-                  let wide = width-other z (subst (λ u. (u == b.id) ≡ false) (sym v) f) in ((omega arith), (omega arith)))
-              | inl y ↦ (
-                  let over : r.over ≡ b.id = eqb-true r.over b.id y in
-                  let same : z ≡ b = same-box bs z b w.ordered iz m.within (v ∙ over) in
-                  let goes : cond (nat_lt k x.0) (x.0 - 1) x.0 ≡ j = sym (place-goes k qs q x.0 (subst (λ u. times u qs ≡ 1) e (over-b o r io jo over))) ∙ x.1.1 in
-                  let not-k : (x.0 == k) ≡ false = (elim (cases_Bool (x.0 == k)) [ inr f ↦ f | inl u ↦ absurd (clash (reads_in r.id k n) (subst (λ c. reads_in r.id c n ≡ true) (eqb-true x.0 k u) (subst (λ c. reads_in c x.0 n ≡ true) (sym e) x.1.0)) (m.unread n o r i io jo over)) ]) in
-                  let wz : width (g z) + 1 ≡ width z = subst (λ u. width (g u) + 1 ≡ width u) (sym same) width-b in
-                  let one = m.from_one in let col = m.column in let wb = m.wide in
-                  let wzb : width z ≡ width b = ap width same in
-                  elim (cases_Bool (nat_lt k x.0)) [
-                    | inl l ↦ (let less = ltb-true k x.0 l in let at : x.0 - 1 ≡ j = sym (ap (λ (c : Bool). cond c (x.0 - 1) x.0) l) ∙ goes in ((omega arith), (omega arith)))
-                    | inr l ↦ (
-                        let less = ltb-false k x.0 l in let at : x.0 ≡ j = sym (ap (λ (c : Bool). cond c (x.0 - 1) x.0) l) ∙ goes in
-                        let ne : x.0 ≡ k → ⊥ = (λ u. clash (x.0 == k) (eq-eqb x.0 k u) not-k) in
-                        let lt = strict x.0 k ne less in ((omega arith), (omega arith)))
-                  ])
-            ]));
+        let jo : In r o.quants = subst (λ u. In r u) (g-quants o) jr in
+        let old = w.fits n i q x.0 x.1.0 o r z io jo e iz v in
+        elim (cases_Bool (r.over == b.id)) [
+          | inr f ↦ (
+              let stays : x.0 ≡ j = sym (place-stays k qs q x.0 (subst (λ u. times u qs ≡ 0) e (not-over o r io jo f))) ∙ x.1.1 in
+              let wide = width-other z (subst (λ u. (u == b.id) ≡ false) (sym v) f) in ((omega arith), (omega arith)))
+          | inl y ↦ (
+              let over : r.over ≡ b.id = eqb-true r.over b.id y in
+              let same : z ≡ b = same-box bs z b w.ordered iz m.within (v ∙ over) in
+              let goes : cond (nat_lt k x.0) (x.0 - 1) x.0 ≡ j = sym (place-goes k qs q x.0 (subst (λ u. times u qs ≡ 1) e (over-b o r io jo over))) ∙ x.1.1 in
+              let not-k : (x.0 == k) ≡ false = (elim (cases_Bool (x.0 == k)) [ inr f ↦ f | inl u ↦ absurd (clash (reads_in r.id k n) (subst (λ c. reads_in r.id c n ≡ true) (eqb-true x.0 k u) (subst (λ c. reads_in c x.0 n ≡ true) (sym e) x.1.0)) (m.unread n o r i io jo over)) ]) in
+              let wz : width (g z) + 1 ≡ width z = subst (λ u. width (g u) + 1 ≡ width u) (sym same) width-b in
+              let one = m.from_one in let col = m.column in let wb = m.wide in
+              let wzb : width z ≡ width b = ap width same in
+              elim (cases_Bool (nat_lt k x.0)) [
+                | inl l ↦ (let less = ltb-true k x.0 l in let at : x.0 - 1 ≡ j = sym (ap (λ (c : Bool). cond c (x.0 - 1) x.0) l) ∙ goes in ((omega arith), (omega arith)))
+                | inr l ↦ (
+                    let less = ltb-false k x.0 l in let at : x.0 ≡ j = sym (ap (λ (c : Bool). cond c (x.0 - 1) x.0) l) ∙ goes in
+                    let ne : x.0 ≡ k → ⊥ = (λ u. clash (x.0 == k) (eq-eqb x.0 k u) not-k) in
+                    let lt = strict x.0 k ne less in ((omega arith), (omega arith)))
+              ])
+        ]));
     own_nodes = λ y i q t. (let h = w.own_nodes y i q (g-nodes y q t) in (ap (list_any (is_quant q)) (g-quants y) ∙ h.0, ap (binds_row q) (g-quants y) ∙ h.1));
     bare = λ y i. subst (λ n. BareBy n (g y)) (sym (g-kind y)) (each-bare k y.parts.kind qs (cut y) (bare-cut y.parts.kind y (w.bare y i)));
     arms = λ y z r i j iz v. subst (λ n. ArmsBy n (width (g z)) (width (g y))) (sym (g-kind y)) (arm y.parts.kind y z r i (subst (λ u. In r u) (g-quants y) j) iz v refl);

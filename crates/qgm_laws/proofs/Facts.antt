@@ -1,5 +1,5 @@
 -- Facts of rows pass along agreement, and what boxes ask for is looked up.
-use Rattle.std.proofs.Common.{ℕ, suc, ◌==◌, ◌≡◌, ◌≢◌, ◌&&◌, ◌||◌, ◌+◌, ◌≤◌, cond, Bool, true, false, List, [], ◌∷◌, map, None, refl, sym, ap, ap₂, subst, ◌∙◌, eqb-true, ◌⊎◌, inl, inr, arith}
+use Rattle.std.proofs.Common.{ℕ, ◌==◌, ◌≡◌, ◌≢◌, ◌&&◌, ◌||◌, ◌+◌, ◌≤◌, cond, Bool, true, false, List, [], ◌∷◌, map, None, refl, sym, ap, ap₂, subst, ◌∙◌, eqb-true, inl, inr, arith}
 use Rattle.std.proofs.lemmas.Bool.{and_from, and_parts, cases_Bool, eq-eqb}
 use Rattle.sql_value.specs.Level.{rank}
 use Rattle.sql_value.specs.declared.cell.Cell.{Cell}
@@ -14,7 +14,7 @@ use Rattle.row_bag.specs.declared.row.Row.{Row}
 use Rattle.row_bag.proofs.Agreement.{sum-monoid}
 use Rattle.row_bag.proofs.Counts.{total-agree}
 use Rattle.row_bag.proofs.Tuples.{same_cells-decides}
-use Rattle.qgm_core.specs.Boxes.{Ordered, has_box, owns}
+use Rattle.qgm_core.specs.Boxes.{Ordered, has_box}
 use Rattle.qgm_core.specs.Lists.{In}
 use Rattle.qgm_core.specs.declared.node.Node.{Node}
 use Rattle.qgm_core.specs.declared.owned.OwnedQuant.{OwnedQuant}
@@ -22,7 +22,7 @@ use Rattle.qgm_meaning.specs.Scope.{loose, loose_of, read_by, under_any}
 use Rattle.qgm_meaning.specs.Values.{Bag}
 use Rattle.qgm_laws.specs.Facts.{Asks, FactsPass}
 use Rattle.qgm_laws.specs.Graph.{BareBy}
-use Rattle.qgm_laws.proofs.Lists.{all-in, any-from, clash, or-left, or-right}
+use Rattle.qgm_laws.proofs.Lists.{all-in, any-from, or-left, or-right}
 use Rattle.qgm_laws.proofs.Scope.{touched-by}
 
 level-same : (a b : Level) → same_level a b ≡ true → a ≡ b

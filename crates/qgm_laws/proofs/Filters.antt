@@ -1,58 +1,18 @@
 -- A filter that goes through the loops of selects.
-use Rattle.std.proofs.Common.{ℕ, ◌==◌, ◌≡◌, ◌&&◌, ◌||◌, ◌+◌, ◌≤◌, ◌<◌, cond, Bool, true, false, List, [], ◌∷◌, ◌++◌, map, Option, Some, None, refl, sym, ap, ap₂, subst, ◌∙◌, eqb-true, ◌⊎◌, inl, inr, arith}
-use Rattle.std.specs.List.{list_any}
-use Rattle.std.specs.Prelude.{⊤}
-use Rattle.std.proofs.lemmas.Bool.{and_parts, cases_Bool, eq-eqb, or_cases}
+use Rattle.std.proofs.Common.{ℕ, ◌==◌, ◌≡◌, ◌≤◌, cond, Bool, true, false, List, [], ◌∷◌, ◌++◌, map, refl, sym, ap, ap₂, subst, ◌∙◌, inl, inr, arith}
+use Rattle.std.proofs.lemmas.Bool.{eq-eqb}
 use mathlib.Core.Path.{fun_ext}
 use Rattle.row_bag.specs.Bags.{bind, keep, unit}
-use Rattle.row_bag.specs.declared.tables.Table.{Table}
-use Rattle.row_bag.proofs.Binds.{bind-bind, bind-keep, keep-bind, keep-keep, unit-bind}
-use Rattle.row_bag.proofs.Levels.{least-associative, least-commutative, least-yes}
-use Rattle.sql_value.specs.Level.{least}
+use Rattle.row_bag.proofs.Binds.{bind-bind, bind-keep, keep-bind, unit-bind}
 use Rattle.sql_value.specs.declared.cell.Cell.{Cell}
 use Rattle.sql_value.specs.declared.level.Level.{Level}
-use Rattle.sql_value.specs.declared.truth.Truth.{Truth}
-use Rattle.qgm_core.specs.Boxes.{QueryGraph, has_box, ids_of, is_quant, overs_in, overs_of, owns, width}
-use Rattle.qgm_core.specs.Kinds.{is_F, is_enforce}
-use Rattle.qgm_core.specs.Lists.{In, first, times}
-use Rattle.qgm_core.specs.declared.kinds.BoxKind.{BoxKind}
-use Rattle.qgm_core.specs.declared.kinds.BoxKind.TheVariants.{Base, Group, OuterJoin, Select, SetOp}
-use Rattle.qgm_core.specs.declared.node.Node.{Node}
+use Rattle.qgm_core.specs.Kinds.{is_F}
+use Rattle.qgm_core.specs.Lists.{In, times}
 use Rattle.qgm_core.specs.declared.owned.OwnedQuant.{OwnedQuant}
-use Rattle.qgm_meaning.specs.Meaning.{Family, bag_in, given_by, nothing, once_if, over_each, quant_rows, rows_by, rows_found, rows_of}
-use Rattle.qgm_meaning.specs.Ranks.{SameUnder}
-use Rattle.qgm_meaning.specs.Scope.{loose, read_by}
-use Rattle.qgm_meaning.specs.Searches.{binds_cond, looking, names, names_cond}
-use Rattle.qgm_meaning.specs.Values.{Bag, Environment, all_true, bound, head_cells, row_of, truth}
-use Rattle.qgm_meaning.specs.Widths.{Filled}
-use Rattle.qgm_meaning.proofs.Frames.{truth-framed}
-use Rattle.qgm_meaning.proofs.Joined.{all_true-append}
-use Rattle.qgm_meaning.proofs.Nodes.{all_true-nodes, head-nodes, truth-nodes}
-use Rattle.qgm_meaning.proofs.Puts.{inlined-first, truth-put}
-use Rattle.qgm_meaning.proofs.Unfold.{rows-local}
-use Rattle.qgm_terms.specs.Substitution.{cell_at, substituted_cond}
-use Rattle.qgm_terms.specs.Terms.{Cond, Term}
-use Rattle.qgm_terms.specs.Wanted.{any_in_cond, reads, reads_at, reads_at_cond, reads_cond, wanted}
-use Rattle.qgm_terms.specs.declared.sought.Sought.TheVariants as sought
-use Rattle.qgm_laws.specs.Changes.{Reparts}
-use Rattle.qgm_laws.specs.Checked.{own_seen}
-use Rattle.qgm_laws.specs.Graph.{BareBy, Fits, Sound, binds_row, nodes_in, reads_in}
-use Rattle.qgm_laws.specs.Keeps.{Keeps}
-use Rattle.qgm_laws.specs.Push.{MayPush, conditioned, pushed, pushed_in}
-use Rattle.qgm_laws.proofs.AnyPut.{cell-any, cond-put, conds-more, conds-names}
-use Rattle.qgm_laws.proofs.Changes.{parts-sound}
-use Rattle.qgm_laws.proofs.Edits.{any-append, split-once}
-use Rattle.qgm_laws.proofs.Lists.{any-from, clash, eq-false-sym, eq-itself, in-map, in-right, or-false, or-left, or-right}
-use Rattle.qgm_laws.proofs.OneBox.{has-map}
-use Rattle.qgm_laws.proofs.PlacedLists.{any-more}
-use Rattle.qgm_laws.proofs.Ranks.{place, place-under, same-box}
-use Rattle.qgm_laws.proofs.Rules.{same-agree}
-use Rattle.qgm_laws.proofs.Scope.{one-parent, only-bag, unfold-bag}
-use Rattle.qgm_laws.proofs.Scoped.{few-ids, scoped-of}
-use Rattle.qgm_laws.proofs.Times.{in-times, times-in}
-use Rattle.qgm_laws.proofs.Turns.{first-own}
-use Rattle.qgm_laws.proofs.Widths.{filled-map}
-use Rattle.std.specs.Prelude as prelude
+use Rattle.qgm_meaning.specs.Meaning.{Family, over_each}
+use Rattle.qgm_meaning.specs.Values.{Bag, Environment, bound, row_of}
+use Rattle.qgm_laws.proofs.Lists.{eq-itself}
+use Rattle.qgm_laws.proofs.Times.{in-times}
 
 -- a filter after the loops is a filter in each
 pub each-bind : (rs : List OwnedQuant) (s : Family) (give : Environment → Bag) (k : List Cell → Bag) (e : Environment) → over_each rs s (λ e. bind (give e) k) e ≡ bind (over_each rs s give e) k
@@ -77,7 +37,6 @@ over-once x y (z ∷ rs) c few i j e h = elim i [
     | inr o ↦ over-once x y rs c (omega arith) l o e h
   ]
 ]
-
 
 -- what a quantifier gives is filtered, and so is what is given after it is bound: the filter goes into the loops
 module _ (s' s : Family) (q : ℕ) (test : List Cell → Level) (give' give : Environment → Bag) (same : (x : ℕ) → (x == q) ≡ false → s' x ≡ s x)

@@ -1,7 +1,7 @@
 -- What rules need of a graph is what its check finds.
-use Rattle.std.proofs.Common.{ℕ, zero, suc, ◌==◌, ◌≡◌, ◌&&◌, ◌||◌, ◌+◌, ◌≤◌, ◌<◌, ◌↔◌, nat_le, nat_lt, cond, not, Bool, true, false, List, [], ◌∷◌, ◌++◌, map, take, length, Option, Some, None, refl, sym, ap, ap₂, subst, ◌∙◌, eqb-true, ◌⊎◌, inl, inr, arith}
+use Rattle.std.proofs.Common.{ℕ, ◌==◌, ◌≡◌, ◌&&◌, ◌||◌, ◌≤◌, ◌↔◌, nat_le, nat_lt, cond, not, Bool, true, false, List, [], ◌∷◌, ◌++◌, take, length, Some, None, refl, sym, ap, ap₂, subst, ◌∙◌, eqb-true, ◌⊎◌, inl, inr, arith}
 use Rattle.std.specs.List.{list_any, list_all}
-use Rattle.std.proofs.lemmas.Bool.{and_from, and_parts, cases_Bool, eq-eqb, le-leb, leb-true, ltb-true, not-true, or_cases}
+use Rattle.std.proofs.lemmas.Bool.{and_from, and_parts, cases_Bool, eq-eqb, leb-true, ltb-true, not-true, or_cases}
 use Rattle.qgm_core.specs.declared.node.Node.{Node}
 use Rattle.qgm_core.specs.declared.owned.OwnedQuant.{OwnedQuant}
 use Rattle.qgm_core.specs.declared.kinds.BoxKind.{BoxKind}
@@ -9,14 +9,14 @@ use Rattle.qgm_core.specs.declared.kinds.BoxKind.TheVariants.{Base, Select, Grou
 use Rattle.qgm_core.specs.declared.kinds.QuantKind.{QuantKind}
 use Rattle.qgm_core.specs.declared.kinds.QuantKind.TheVariants.{F, E, A, S}
 use Rattle.qgm_core.specs.Boxes.{HasBox, HasQuant, Ordered, QueryGraph, has_box, ids_in, ids_of, is_box, is_quant, numbers, overs_in, overs_of, owns, range_in, width}
-use Rattle.qgm_core.specs.Free.{IsFree, NamedBelow, Reaches, itself, named_by, reached, through}
+use Rattle.qgm_core.specs.Free.{IsFree, Reaches, itself, named_by, reached, through}
 use Rattle.qgm_core.specs.Kinds.{is_A, is_E, is_F, is_S, is_plain, is_select}
 use Rattle.qgm_core.specs.Lists.{EachOnce, In, first, holds, times}
-use Rattle.qgm_meaning.specs.Scope.{loose, read_by}
+use Rattle.qgm_meaning.specs.Scope.{read_by}
 use Rattle.qgm_terms.specs.declared.named.Column.{Column}
 use Rattle.qgm_terms.specs.declared.named.QuantNode.{QuantNode}
 use Rattle.qgm_terms.specs.declared.named.QuantNode.TheVariants as node
-use Rattle.qgm_check.specs.Columns.{box_under, columns_fit, columns_of, fits, over_box, places_fit, within}
+use Rattle.qgm_check.specs.Columns.{box_under, columns_fit, columns_of, fits, over_box, places_fit}
 use Rattle.qgm_check.specs.Sentences.{IsKept, WellFormed}
 use Rattle.qgm_check.specs.Shapes.{arm_fits, are_F, columns_placed, is_among, is_none, is_scalar, is_set_op, is_group, is_outer_join, kind_fits, node_fits, nodes_of, shape_fits, width_found}
 use Rattle.qgm_check.specs.Shapes as shapes
@@ -28,22 +28,20 @@ use Rattle.qgm_check.specs.declared.check.Clause.TheVariants.{I1, I2, I3, I4, I5
 use Rattle.qgm_check.proofs.Below.{reached-reaches}
 use Rattle.qgm_check.proofs.Faults.{finds-none}
 use Rattle.qgm_check.proofs.Seen.{viewers-see}
-use Rattle.qgm_laws.specs.Checked.{Checked, in_view, own_seen, read_free, scoped, scoped_by, shown, viewers}
+use Rattle.qgm_laws.specs.Checked.{Checked, own_seen, read_free, scoped, scoped_by, shown, viewers}
 use Rattle.qgm_laws.specs.Graph.{ArmsBy, BareBy, Fits, Sound, binds_row, nodes_in, reads_in}
 use Rattle.qgm_laws.specs.Placed.{Placed}
 use Rattle.qgm_laws.specs.Shaped.{Shaped, Typed}
-use Rattle.qgm_laws.proofs.Adds.{loose-owned, read-owned, seen-owned}
+use Rattle.qgm_laws.proofs.Adds.{read-owned, seen-owned}
 use Rattle.qgm_laws.proofs.Checked.{free-loose, settled-from, to-checked, used-from}
-use Rattle.qgm_laws.proofs.Compact.{in-holds}
-use Rattle.qgm_laws.proofs.Edits.{once-each}
-use Rattle.qgm_laws.proofs.Lists.{all-from, all-in, any-from, any-in, any-not, clash, eq-itself, in-left, in-right, or-left, or-right}
+use Rattle.qgm_laws.proofs.Lists.{all-from, all-in, any-from, any-in, any-not, clash, eq-itself, in-right, or-left, or-right}
 use Rattle.qgm_laws.proofs.PlacedLists.{first-in}
-use Rattle.qgm_laws.proofs.PlacedOne.{holds-times, owned-in, times-holds, unowned-times}
-use Rattle.qgm_laws.proofs.Ranks.{has-in, in-has, overs-held, same-box}
+use Rattle.qgm_laws.proofs.PlacedOne.{owned-in, unowned-times}
+use Rattle.qgm_laws.proofs.Ranks.{has-in, in-has, overs-held}
 use Rattle.qgm_laws.proofs.Read.{columns-listed, is_at, is_of, named-split, nodes-listed, read-named}
 use Rattle.qgm_laws.proofs.Scope.{in-first, owned-times}
 use Rattle.qgm_laws.proofs.Scoped.{few-ids}
-use Rattle.qgm_laws.proofs.Times.{in-times, times-in, times-once}
+use Rattle.qgm_laws.proofs.Times.{times-once}
 use Rattle.qgm_laws.proofs.Turns.{first-own}
 
 -- ---- the pass that finds who sees a quantifier
@@ -122,14 +120,16 @@ module _ (bs : List Node) (o : Ordered bs) (once : (q : ℕ) → times q (ids_in
     of-kind : (p : QuantKind → Bool) → ((k : QuantKind) → p k ≡ true → is_F k ≡ false) → (q : ℕ) → is_among p q n.quants ≡ true → (owns q n ≡ true) × (binds_row q n.quants ≡ false)
     of-kind p apart q h =
         let x = any-in (λ (r : OwnedQuant). is_quant q r && p r.kind) n.quants h in
-        let y = and_parts (is_quant q x.0) (p x.0.kind) x.1.1 in
-        (any-from (is_quant q) x.0 n.quants x.1.0 y.0, any-not (λ (r : OwnedQuant). is_F r.kind && is_quant q r) n.quants (λ s j. elim (cases_Bool (is_F s.kind && is_quant q s)) [
-          | inr f ↦ f
-          | inl t ↦ (
-              let z = and_parts (is_F s.kind) (is_quant q s) t in
-              let e : s ≡ x.0 = same-quant s x.0 j x.1.0 (eqb-true s.id q z.1 ∙ sym (eqb-true x.0.id q y.0)) in
-              absurd (clash (is_F s.kind) z.0 (subst (λ (u : OwnedQuant). is_F u.kind ≡ false) (sym e) (apart x.0.kind y.1))))
-        ]))
+        let y = and_parts (is_quant q x.0) (p x.0.kind) x.1.1 in (
+          any-from (is_quant q) x.0 n.quants x.1.0 y.0,
+          any-not (λ (r : OwnedQuant). is_F r.kind && is_quant q r) n.quants (λ s j. elim (cases_Bool (is_F s.kind && is_quant q s)) [
+            | inr f ↦ f
+            | inl t ↦ (
+                let z = and_parts (is_F s.kind) (is_quant q s) t in
+                let e : s ≡ x.0 = same-quant s x.0 j x.1.0 (eqb-true s.id q z.1 ∙ sym (eqb-true x.0.id q y.0)) in
+                absurd (clash (is_F s.kind) z.0 (subst (λ (u : OwnedQuant). is_F u.kind ≡ false) (sym e) (apart x.0.kind y.1))))
+          ]),
+        )
 
     nodes-own : list_all (node_fits n.quants) (nodes_of n) ≡ true → (q : ℕ) → nodes_in q n ≡ true → (owns q n ≡ true) × (binds_row q n.quants ≡ false)
     nodes-own h q t =
@@ -236,7 +236,6 @@ module _ (bs : List Node) (o : Ordered bs) (once : (q : ℕ) → times q (ids_in
 -- ---- from the check
 
 module _ (g : QueryGraph) (u : EachOnce (numbers g.boxes)) (k2 : (n : Node) → In n g.boxes → IsKept I2 g n) (k3 : (n : Node) → In n g.boxes → IsKept I3 g n) where
-
   ordered-by : (up ns : List Node) → g.boxes ≡ up ++ ns → EachOnce (numbers ns) → Ordered ns
   ordered-by up [] e v = tt
   ordered-by up (n ∷ ns) e v = (
@@ -289,12 +288,14 @@ module _ (g : QueryGraph) (u : EachOnce (numbers g.boxes)) (w : WellFormed g) wh
       let M = reached (b ∷ []) bs in
       let ps = and_parts (list_any (λ n. holds n.id M && read_by n q) bs) (not (list_any (λ n. holds n.id M && owns q n) bs)) t in
       let x = any-in (λ (n : Node). holds n.id M && read_by n q) bs ps.0 in
-      let y = and_parts (holds x.0.id M) (read_by x.0 q) x.1.1 in
-      ((x.0, (x.1.0, (reach b x.0.id y.0, read-named q x.0 y.1))), λ n i r. elim (cases_Bool (owns q n)) [
-        | inr f ↦ f
-        | inl z ↦ absurd (clash (list_any (λ (n : Node). holds n.id M && owns q n) bs)
-            (any-from (λ (n : Node). holds n.id M && owns q n) n bs i (and_from (holds n.id M) (owns q n) ((reached-reaches bs ordered b n.id).1 r) z)) (not-true (list_any (λ (n : Node). holds n.id M && owns q n) bs) ps.1))
-      ])
+      let y = and_parts (holds x.0.id M) (read_by x.0 q) x.1.1 in (
+        (x.0, (x.1.0, (reach b x.0.id y.0, read-named q x.0 y.1))),
+        λ n i r. elim (cases_Bool (owns q n)) [
+          | inr f ↦ f
+          | inl z ↦ absurd (clash (list_any (λ (n : Node). holds n.id M && owns q n) bs)
+              (any-from (λ (n : Node). holds n.id M && owns q n) n bs i (and_from (holds n.id M) (owns q n) ((reached-reaches bs ordered b n.id).1 r) z)) (not-true (list_any (λ (n : Node). holds n.id M && owns q n) bs) ps.1))
+        ],
+      )
 
   root-box : (n : Node) × (In n bs × (n.id ≡ g.root))
   root-box = has-in g.root bs w.rooted
@@ -344,7 +345,6 @@ below-low : (ns up : List Node) (n : Node) (low : List Node) → Ordered ns → 
 below-low ns [] n low o e r j = let z = subst (λ z. Ordered z) e o in all-in (λ r. has_box low r.over) r n.quants z.1 j
 below-low [] (x ∷ up) n low o e r j = absurd (let z : ⊥ = cc in z)
 below-low (y ∷ ns) (x ∷ up) n low o e r j = below-low ns up n low o.2 (let z : ns ≡ up ++ n ∷ low = cc in z) r j
-
 
 module _ (g : QueryGraph) (w : Sound g.boxes g.root) (t : Typed g.boxes) (s : Shaped g.boxes g.root) where
   abbrev hs : List Node

@@ -1,12 +1,12 @@
 -- A box put under a quantifier, over the box that the quantifier ranged over, keeps a graph sound.
-use Rattle.std.proofs.Common.{ℕ, zero, suc, ◌==◌, ◌≡◌, ◌&&◌, ◌||◌, ◌+◌, ◌≤◌, ◌<◌, cond, Bool, true, false, List, [], ◌∷◌, ◌++◌, map, take, Option, Some, None, refl, sym, ap, ap₂, subst, ◌∙◌, eqb-true, ◌⊎◌, inl, inr, arith}
-use Rattle.std.specs.List.{list_any, flat_map}
+use Rattle.std.proofs.Common.{ℕ, zero, suc, ◌==◌, ◌≡◌, ◌&&◌, ◌||◌, ◌+◌, ◌≤◌, ◌<◌, cond, Bool, true, false, List, [], ◌∷◌, ◌++◌, map, take, Option, Some, refl, sym, ap, ap₂, subst, ◌∙◌, eqb-true, ◌⊎◌, inl, inr, arith}
+use Rattle.std.specs.List.{list_any}
 use Rattle.std.proofs.lemmas.Bool.{and_parts, cases_Bool, or_cases, eq-eqb}
 use Rattle.qgm_core.specs.declared.node.Node.{Node}
 use Rattle.qgm_core.specs.declared.owned.OwnedQuant.{OwnedQuant}
 use Rattle.qgm_core.specs.declared.kinds.BoxKind.{BoxKind}
 use Rattle.qgm_core.specs.declared.kinds.BoxKind.TheVariants.{Base, Select, Group, SetOp, OuterJoin}
-use Rattle.qgm_core.specs.Boxes.{Ordered, has_box, ids_in, ids_of, is_box, is_quant, overs_in, overs_of, owns, width}
+use Rattle.qgm_core.specs.Boxes.{has_box, ids_of, is_box, is_quant, overs_in, overs_of, owns, width}
 use Rattle.qgm_core.specs.Edits.{on_quant}
 use Rattle.qgm_core.specs.Kinds.{is_F}
 use Rattle.qgm_core.specs.Lists.{In, change, first, times}
@@ -19,8 +19,8 @@ use Rattle.qgm_meaning.specs.Scope.{loose, read_by}
 use Rattle.qgm_meaning.specs.Values.{Bag, Environment, bound}
 use Rattle.qgm_meaning.proofs.Unfold.{rows-local}
 use Rattle.qgm_laws.proofs.Scope.{bound-above, bound-owned, one-owner, only-bag, unfold-bag}
-use Rattle.qgm_laws.specs.Adds.{Adds, Interposes, as_box, at, interposed, onto}
-use Rattle.qgm_laws.specs.Changes.{Changes, FitsAfter}
+use Rattle.qgm_laws.specs.Adds.{Interposes, as_box, interposed, onto}
+use Rattle.qgm_laws.specs.Changes.{Changes}
 use Rattle.qgm_laws.specs.Checked.{own_seen}
 use Rattle.qgm_laws.specs.Graph.{ArmsBy, BareBy, Sound, binds_row, nodes_in, reads_in}
 use Rattle.qgm_laws.specs.Placed.{Below, place}
@@ -28,8 +28,8 @@ use Rattle.qgm_laws.specs.Scoped.{Local, Scoped, shows_by}
 use Rattle.qgm_laws.proofs.Adds.{added-local, loose-owned, not-s, s-own, seen-owned}
 use Rattle.qgm_laws.proofs.Changes.{changed-sound}
 use Rattle.qgm_laws.proofs.Edits.{OnceEach, once-each}
-use Rattle.qgm_laws.proofs.Lists.{any-from, any-in, clash, eq-false-sym, eq-itself, in-left, in-map, in-right, or-left, or-right, other}
-use Rattle.qgm_laws.proofs.OneBox.{has-map, owns-ids, ranked}
+use Rattle.qgm_laws.proofs.Lists.{any-from, any-in, clash, eq-false-sym, eq-itself, in-left, in-map, in-right, or-right, other}
+use Rattle.qgm_laws.proofs.OneBox.{has-map, ranked}
 use Rattle.qgm_laws.proofs.PlacedLists.{any-more, in-more, more-in, more-own, times-more}
 use Rattle.qgm_laws.proofs.PlacedOne.{counted, g-cases, g-id, same-ids}
 use Rattle.qgm_laws.proofs.Ranks.{has-in, in-has, overs-held, same-box}

@@ -14,7 +14,7 @@ use Rattle.qgm_core.specs.declared.owned.OwnedQuant.{OwnedQuant}
 use Rattle.qgm_core.specs.Boxes.{Ordered, has_box, is_quant, owns, ids_in, ids_of, overs_in}
 use Rattle.qgm_core.specs.Lists.{first, In, times}
 use Rattle.qgm_core.specs.Kinds.{is_F, is_enforce}
-use Rattle.qgm_meaning.specs.Meaning.{Family, bag_in, given_by, nothing, once_if, over_each, quant_rows, rows_by, rows_found, rows_of}
+use Rattle.qgm_meaning.specs.Meaning.{Family, bag_in, given_by, once_if, over_each, quant_rows, rows_by, rows_found, rows_of}
 use Rattle.qgm_meaning.specs.Ranks.{SameUnder}
 use Rattle.qgm_meaning.specs.Scope.{introduces, loose, loose_by, loose_each, loose_of, looks_found, put_node, quant_looks, read_by, under_any}
 use Rattle.qgm_terms.specs.Terms.{Cond, Term, null_int}

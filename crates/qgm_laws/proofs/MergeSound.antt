@@ -10,7 +10,7 @@ use Rattle.qgm_core.specs.declared.owned.OwnedQuant.{OwnedQuant}
 use Rattle.qgm_core.specs.Boxes.{is_quant, owns, width}
 use Rattle.qgm_core.specs.Lists.{In}
 use Rattle.qgm_core.specs.Kinds.{is_F, width_by}
-use Rattle.qgm_meaning.specs.Scope.{loose, put_node, read_by, under_any}
+use Rattle.qgm_meaning.specs.Scope.{put_node}
 use Rattle.qgm_terms.specs.Terms.{Cond, Term}
 use Rattle.qgm_meaning.specs.Searches.{names, names_cond}
 use Rattle.qgm_terms.specs.Substitution.{cell_at, substituted, substituted_cond}
@@ -20,7 +20,7 @@ use Rattle.qgm_laws.specs.Merge.{Merges, merge_node, merged}
 use Rattle.qgm_laws.proofs.Edits.{any-append, length-map}
 use Rattle.qgm_laws.proofs.AnyPut.{cell-any, conds-put, heads-bare, heads-put}
 use Rattle.qgm_laws.proofs.Lists.{any-from, any-in, clash, in-append, in-left, in-right, or-left, or-none, or-right}
-use Rattle.qgm_laws.proofs.Scope.{bound-owned, touched}
+use Rattle.qgm_laws.proofs.Scope.{bound-owned}
 use Rattle.qgm_laws.proofs.Turns.{any-parts}
 use Rattle.qgm_laws.proofs.Edits.{boxes_without}
 use Rattle.qgm_laws.proofs.Merge as before

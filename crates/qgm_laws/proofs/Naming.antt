@@ -1,7 +1,6 @@
 -- What expressions name, and what they name where cells were put in or a column went.
-use Rattle.std.proofs.Common.{ℕ, zero, suc, ◌==◌, ◌≡◌, ◌||◌, ◌&&◌, cond, Bool, true, false, List, [], ◌∷◌, ◌++◌, map, take, drop, get_or, refl, sym, ap, ap₂, subst, ◌∙◌}
+use Rattle.std.proofs.Common.{ℕ, zero, suc, ◌==◌, ◌≡◌, ◌||◌, ◌&&◌, cond, Bool, true, false, List, [], ◌∷◌, ◌++◌, map, drop, refl, ap, ap₂, ◌∙◌}
 use Rattle.std.specs.List.{list_any, flat_map, remove}
-use Rattle.std.proofs.lemmas.Bool.{cases_Bool}
 use Rattle.qgm_core.specs.declared.node.Node.{Node}
 use Rattle.qgm_core.specs.Free.{named_by}
 use Rattle.qgm_core.specs.Lists.{holds}

@@ -1,16 +1,16 @@
 -- One box changed: where it stands, what is counted, and what it is called stay.
-use Rattle.std.proofs.Common.{ℕ, suc, zero, ◌==◌, ◌≡◌, ◌||◌, ◌+◌, ◌≤◌, ◌<◌, cond, Bool, true, false, List, [], ◌∷◌, map, refl, sym, ap, ap₂, subst, ◌∙◌, eqb-true, ◌⊎◌, inl, inr, arith}
-use Rattle.std.specs.List.{list_any, flat_map}
+use Rattle.std.proofs.Common.{ℕ, suc, ◌==◌, ◌≡◌, ◌||◌, ◌<◌, cond, Bool, true, false, List, [], ◌∷◌, map, refl, sym, ap, ap₂, subst, ◌∙◌, eqb-true, inl, inr, arith}
+use Rattle.std.specs.List.{list_any}
 use Rattle.std.proofs.lemmas.Bool.{cases_Bool, eq-eqb}
 use Rattle.qgm_core.specs.declared.node.Node.{Node}
 use Rattle.qgm_core.specs.declared.owned.OwnedQuant.{OwnedQuant}
-use Rattle.qgm_core.specs.Boxes.{Ordered, has_box, is_box, is_quant, ids_of, ids_in, owns}
-use Rattle.qgm_core.specs.Lists.{In, change, times, holds}
+use Rattle.qgm_core.specs.Boxes.{Ordered, has_box, is_box, is_quant, owns}
+use Rattle.qgm_core.specs.Lists.{In, change, holds}
 use Rattle.qgm_laws.specs.Placed.{Below, place}
 pub use Rattle.qgm_laws.specs.Adds.{at}
 use Rattle.qgm_laws.proofs.Edits.{OnceEach, once-each}
-use Rattle.qgm_laws.proofs.Lists.{all-from, any-from, any-in, any-none, any-not, clash, eq-itself, in-map, map-in, or-left, or-right, or-none, other}
-use Rattle.qgm_laws.proofs.Ranks.{in-has, has-in, overs-held, place-under}
+use Rattle.qgm_laws.proofs.Lists.{all-from, any-from, any-in, clash, eq-itself, in-map, map-in, or-none, other}
+use Rattle.qgm_laws.proofs.Ranks.{in-has, overs-held, place-under}
 
 -- ---- order
 

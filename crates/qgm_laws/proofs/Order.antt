@@ -1,18 +1,17 @@
 -- A box moved below another one stays what it was, and so do all bags.
-use Rattle.std.proofs.Common.{ℕ, ◌==◌, ◌≡◌, ◌≤◌, Bool, true, false, List, [], ◌∷◌, refl, sym, ap, subst, ◌∙◌, arith}
+use Rattle.std.proofs.Common.{ℕ, ◌≡◌, ◌≤◌, true, List, sym, ap, subst, ◌∙◌, arith}
 use Rattle.row_bag.specs.declared.tables.Table.{Table}
 use Rattle.qgm_core.specs.declared.node.Node.{Node}
 use Rattle.qgm_core.specs.declared.owned.OwnedQuant.{OwnedQuant}
-use Rattle.qgm_core.specs.Boxes.{Ordered, has_box, ids_in, ids_of, is_box, overs_in, overs_of}
+use Rattle.qgm_core.specs.Boxes.{Ordered, has_box, ids_of, is_box, overs_of}
 use Rattle.qgm_core.specs.Edits.{moved_below, put_found}
-use Rattle.qgm_core.specs.Lists.{In, times, without}
+use Rattle.qgm_core.specs.Lists.{In, without}
 use Rattle.qgm_meaning.specs.Meaning.{bag_in}
 use Rattle.qgm_meaning.specs.Scope.{loose}
 use Rattle.qgm_meaning.specs.Values.{Environment}
 use Rattle.qgm_laws.specs.Graph.{Sound}
 use Rattle.qgm_laws.specs.Placed.{Below, place}
-use Rattle.qgm_laws.proofs.Lists.{eq-itself}
-use Rattle.qgm_laws.proofs.PlacedLists.{first-in, moved, moved-any, moved-in, moved-ordered, moved-times}
+use Rattle.qgm_laws.proofs.PlacedLists.{moved, moved-any, moved-in, moved-ordered, moved-times}
 use Rattle.qgm_laws.proofs.Scope.{in-first, only-bag, unfold-bag}
 use Rattle.qgm_laws.proofs.Scoped.{scoped-of, sound-by}
 

@@ -1,27 +1,26 @@
 -- What each edit keeps of I1 to I3.
-use Rattle.std.proofs.Common.{ℕ, zero, suc, ◌==◌, ◌≡◌, ◌||◌, ◌+◌, ◌-◌, ◌≤◌, ◌<◌, cond, Bool, true, false, List, [], ◌∷◌, ◌++◌, map, take, drop, insert, filter, max, slice_get, Option, Some, None, refl, sym, ap, ap₂, subst, ◌∙◌, eqb-true, ◌⊎◌, inl, inr, arith}
-use Rattle.std.specs.List.{list_any, flat_map, remove}
+use Rattle.std.proofs.Common.{ℕ, ◌==◌, ◌≡◌, ◌≤◌, cond, Bool, true, false, List, [], ◌∷◌, map, refl, sym, ap, subst, ◌∙◌, eqb-true, ◌⊎◌, inl, inr, arith}
+use Rattle.std.specs.List.{list_any}
 use Rattle.std.proofs.lemmas.Bool.{cases_Bool, eq-eqb, or_cases}
 use Rattle.qgm_core.specs.declared.node.Node.{Node}
 use Rattle.qgm_core.specs.declared.owned.OwnedQuant.{OwnedQuant}
 use Rattle.qgm_core.specs.declared.kinds.Distinct.{Distinct}
 use Rattle.qgm_core.specs.declared.kinds.QuantKind.{QuantKind}
 use Rattle.qgm_core.specs.declared.parts.BoxParts.{BoxParts}
-use Rattle.qgm_core.specs.Boxes.{HasBox, HasQuant, Ordered, QueryGraph, bare_box, has_box, ids_in, ids_of, is_box, is_quant, owns, range_in}
-use Rattle.qgm_core.specs.Edits.{cond_at, conds_in, drop_quant, move_conjunct, move_quant, on_box, on_boxes, on_quant, parted, put_box, put_cells, put_cond_found, put_quant, put_range, put_range_found, redirect, reserve, set_distinct, substitute, with_cond, with_distinct, with_quant, with_room, without_cond, without_quant}
+use Rattle.qgm_core.specs.Boxes.{HasBox, HasQuant, Ordered, QueryGraph, has_box, ids_in, ids_of, is_quant, owns}
+use Rattle.qgm_core.specs.Edits.{drop_quant, on_box, on_quant, parted, put_box, put_cells, put_quant, put_range, redirect, reserve, set_distinct, substitute, with_cond, with_distinct, with_quant, with_room, without_cond, without_quant}
 use Rattle.qgm_core.specs.Free.{named_by}
-use Rattle.qgm_core.specs.Lists.{In, change, first, holds, times, without}
+use Rattle.qgm_core.specs.Lists.{In, change, holds, times, without}
 use Rattle.qgm_terms.specs.Named.{names_in, names_in_cond}
 use Rattle.qgm_terms.specs.Terms.{Cond, Term}
 use Rattle.qgm_laws.specs.EditLaws.{IsPlaced, Knows, KnowsCells, Owned}
-use Rattle.qgm_laws.specs.Placed.{Below, Placed, place}
-use Rattle.qgm_laws.proofs.Edits.{any-append, once-each}
-use Rattle.qgm_laws.proofs.Lists.{any-from, any-in, any-none, clash, eq-itself, in-map, map-in, or-left, or-right, or-none, other}
-use Rattle.qgm_laws.proofs.Naming.{any-remove, cond-any, conds-put, heads-put, holds-append, holds-each, named-any, names-any, says, says_cond, any-same}
-use Rattle.qgm_laws.proofs.OneBox.{at, below-map, has-map, owns-ids, ranked}
-use Rattle.qgm_laws.proofs.PlacedOne.{any-put, at-box, at-owner, counted, b-after, g-cases, g-id, holds-times, in-after, in-less, in-put, less-in, one-owner, ordered-after, other-after, placed-ids, placed-parts, times-less, times-put, unowned-times}
-use Rattle.qgm_laws.proofs.Ranks.{has-in, in-has, same-box}
-use Rattle.qgm_laws.proofs.Times.{times-in}
+use Rattle.qgm_laws.specs.Placed.{Below, Placed}
+use Rattle.qgm_laws.proofs.Edits.{any-append}
+use Rattle.qgm_laws.proofs.Lists.{any-from, any-in, clash, or-left, or-right}
+use Rattle.qgm_laws.proofs.Naming.{any-remove, cond-any, conds-put, heads-put, named-any, names-any, says, says_cond, any-same}
+use Rattle.qgm_laws.proofs.OneBox.{at, has-map, ranked}
+use Rattle.qgm_laws.proofs.PlacedOne.{any-put, at-box, at-owner, counted, b-after, g-cases, g-id, in-after, in-less, in-put, less-in, ordered-after, other-after, placed-ids, placed-parts, times-less, times-put, unowned-times}
+use Rattle.qgm_laws.proofs.Ranks.{has-in}
 
 -- what a box names, by its cells and conditions
 pub named-parts : (q : ℕ) (n : Node) → holds q (named_by n) ≡ true → (list_any (says q) n.parts.head ≡ true) ⊎ (list_any (says_cond q) n.parts.conds.items ≡ true)

@@ -1,27 +1,27 @@
 -- I1 to I3 where boxes are added, moved or dropped, and where a quantifier or a conjunct goes to another box.
 use Rattle.std.proofs.Common.{ℕ, zero, suc, ◌==◌, ◌≡◌, ◌||◌, ◌+◌, ◌-◌, ◌≤◌, ◌<◌, cond, Bool, true, false, List, [], ◌∷◌, ◌++◌, map, insert, slice_get, Option, Some, None, refl, sym, ap, ap₂, subst, ◌∙◌, eqb-true, ◌⊎◌, inl, inr, arith}
-use Rattle.std.specs.List.{list_any, list_all, flat_map, remove}
-use Rattle.std.proofs.lemmas.Bool.{cases_Bool, eq-eqb, or_cases}
+use Rattle.std.specs.List.{list_any, flat_map}
+use Rattle.std.proofs.lemmas.Bool.{cases_Bool, eq-eqb}
 use Rattle.sql_value.specs.declared.order_key.OrderKey.{OrderKey}
 use Rattle.qgm_core.specs.declared.node.Node.{Node}
 use Rattle.qgm_core.specs.declared.owned.OwnedQuant.{OwnedQuant}
 use Rattle.qgm_core.specs.declared.parts.BoxParts.{BoxParts}
-use Rattle.qgm_core.specs.Boxes.{HasBox, HasQuant, Ordered, QueryGraph, bare_box, graph_of_one, has_box, ids_in, ids_of, is_box, is_quant, owns, put_at, range_in}
-use Rattle.qgm_core.specs.Edits.{compact, cond_at, conds_in, drop_column, move_below, move_conjunct, move_quant, moved_below, on_box, on_boxes, put_cond_found, put_found, put_range, put_range_found, quants_over, shift_boxes, shift_node, with_box, with_cond, without_cell, without_cond, without_quant}
+use Rattle.qgm_core.specs.Boxes.{HasBox, HasQuant, Ordered, QueryGraph, bare_box, graph_of_one, has_box, ids_of, is_box, is_quant, owns, put_at, range_in}
+use Rattle.qgm_core.specs.Edits.{compact, cond_at, conds_in, drop_column, move_below, move_conjunct, move_quant, on_box, on_boxes, put_cond_found, put_found, put_range, put_range_found, quants_over, shift_boxes, shift_node, with_box, with_cond, without_cell, without_cond, without_quant}
 use Rattle.qgm_core.specs.Free.{named_by, reached}
 use Rattle.qgm_core.specs.Lists.{In, change, each, first, holds, put_below, times, without}
-use Rattle.qgm_terms.specs.Terms.{Cond, Term}
+use Rattle.qgm_terms.specs.Terms.{Cond}
 use Rattle.qgm_laws.specs.EditLaws.{IsPlaced, Knows, Owned, Stays}
 use Rattle.qgm_laws.specs.Placed.{Below, Placed, place}
-use Rattle.qgm_laws.proofs.Compact.{has-kept, in-kept, kept, kept-in, ordered-kept, reaches, reached_boxes, times-kept}
-use Rattle.qgm_laws.proofs.Edits.{OnceEach, boxes_without, once-each, times-same, times-without, without-one}
-use Rattle.qgm_laws.proofs.Lists.{all-from, all-in, any-from, any-in, any-none, any-not, clash, eq-false-sym, eq-itself, in-map, map-in, or-both, or-left, or-right, or-none, other}
+use Rattle.qgm_laws.proofs.Compact.{has-kept, in-kept, kept, kept-in, ordered-kept, reaches, times-kept}
+use Rattle.qgm_laws.proofs.Edits.{boxes_without, once-each, times-same, times-without, without-one}
+use Rattle.qgm_laws.proofs.Lists.{all-from, all-in, any-from, any-in, any-none, any-not, clash, eq-false-sym, eq-itself, in-map, or-both, or-left, or-right, or-none, other}
 use Rattle.qgm_laws.proofs.Naming.{any-remove, cond-any, conds-shift, heads-shift, named-any, naming, says, says_cond}
-use Rattle.qgm_laws.proofs.OneBox.{at, below-map, change-at, has-map, once-map, ordered-map, ranked}
-use Rattle.qgm_laws.proofs.PlacedEdits.{less, less-is, less-named, less-once, less-ordered, less-owned, less-rooted, lost, named-conds, named-head, named-parts, owner-of, parts-by, put-cond, take-cond}
-use Rattle.qgm_laws.proofs.PlacedOne.{any-put, at-box, b-after, counted, g-cases, g-id, holds-times, in-after, in-less, in-put, less-in, one-owner, ordered-after, other-after, times-put, unowned-times}
+use Rattle.qgm_laws.proofs.OneBox.{at, below-map, change-at, has-map, ordered-map, ranked}
+use Rattle.qgm_laws.proofs.PlacedEdits.{less, less-is, less-named, less-ordered, less-owned, less-rooted, lost, named-conds, named-head, named-parts, parts-by, put-cond, take-cond}
+use Rattle.qgm_laws.proofs.PlacedOne.{any-put, b-after, counted, g-cases, g-id, in-after, in-less, in-put, less-in, ordered-after, other-after, times-put}
 use Rattle.qgm_laws.proofs.Ranks.{has-in, in-has, same-box}
-use Rattle.qgm_laws.proofs.Times.{times-append, times-in}
+use Rattle.qgm_laws.proofs.Times.{times-append}
 
 -- ---- a box more
 

@@ -1,19 +1,19 @@
 -- I1 to I3 where one box changes.
-use Rattle.std.proofs.Common.{ℕ, zero, suc, ◌==◌, ◌≡◌, ◌||◌, ◌+◌, ◌≤◌, ◌<◌, cond, Bool, true, false, List, [], ◌∷◌, ◌++◌, map, take, drop, insert, refl, sym, ap, ap₂, subst, ◌∙◌, eqb-true, ◌⊎◌, inl, inr, arith}
+use Rattle.std.proofs.Common.{ℕ, zero, suc, ◌==◌, ◌≡◌, ◌||◌, ◌+◌, ◌≤◌, cond, Bool, true, false, List, [], ◌∷◌, map, insert, refl, sym, ap, subst, ◌∙◌, eqb-true, ◌⊎◌, inl, inr, arith}
 use Rattle.std.specs.List.{list_any, flat_map}
-use Rattle.std.proofs.lemmas.Bool.{cases_Bool, eq-eqb}
+use Rattle.std.proofs.lemmas.Bool.{cases_Bool}
 use Rattle.qgm_core.specs.declared.node.Node.{Node}
 use Rattle.qgm_core.specs.declared.owned.OwnedQuant.{OwnedQuant}
-use Rattle.qgm_core.specs.Boxes.{Ordered, has_box, is_box, is_quant, ids_of, ids_in, owns}
+use Rattle.qgm_core.specs.Boxes.{Ordered, is_box, ids_of, ids_in, owns}
 use Rattle.qgm_core.specs.Free.{named_by}
 use Rattle.qgm_core.specs.Lists.{In, change, times, holds, without}
-use Rattle.qgm_laws.specs.Placed.{Below, Placed, place}
-use Rattle.qgm_laws.proofs.Edits.{OnceEach, once-each, map-append, times-change, times-same}
-use Rattle.qgm_laws.proofs.Lists.{any-from, any-in, any-none, clash, eq-itself, in-map, map-in, in-left, in-right, in-append, or-left, or-right, or-none, other}
-use Rattle.qgm_laws.proofs.OneBox.{at, change-at, has-map, once-map, ordered-map, owned-map, owner-at, owns-ids, ranked}
-use Rattle.qgm_laws.proofs.Ranks.{in-has, has-in, same-box}
+use Rattle.qgm_laws.specs.Placed.{Below, Placed}
+use Rattle.qgm_laws.proofs.Edits.{once-each, times-change}
+use Rattle.qgm_laws.proofs.Lists.{any-from, any-in, clash, eq-itself, in-map, map-in, or-none}
+use Rattle.qgm_laws.proofs.OneBox.{at, change-at, has-map, ordered-map, owned-map, owner-at, owns-ids, ranked}
+use Rattle.qgm_laws.proofs.Ranks.{same-box}
 use Rattle.qgm_laws.proofs.Scope.{owned-times}
-use Rattle.qgm_laws.proofs.Times.{times-append, times-in, in-times, times-once}
+use Rattle.qgm_laws.proofs.Times.{times-append, times-in, times-once}
 
 -- a number that an owner has stands there
 pub owned-in : (q : ℕ) (bs : List Node) (n : Node) → In n bs → owns q n ≡ true → 1 ≤ times q (ids_in bs)

@@ -1,58 +1,45 @@
 -- P1 keeps all.
-use Rattle.std.proofs.Common.{ℕ, ◌==◌, ◌≡◌, ◌&&◌, ◌||◌, ◌+◌, ◌≤◌, ◌<◌, cond, Bool, true, false, List, [], ◌∷◌, ◌++◌, map, Option, Some, None, refl, sym, ap, ap₂, subst, ◌∙◌, eqb-true, ◌⊎◌, inl, inr, arith}
+use Rattle.std.proofs.Common.{ℕ, ◌==◌, ◌≡◌, ◌&&◌, ◌≤◌, cond, Bool, true, false, List, [], ◌∷◌, ◌++◌, map, Some, refl, sym, ap, ap₂, subst, ◌∙◌, eqb-true, ◌⊎◌, inl, inr, arith}
 use Rattle.std.specs.List.{list_any}
-use Rattle.std.specs.Prelude.{⊤}
-use Rattle.std.proofs.lemmas.Bool.{and_parts, cases_Bool, eq-eqb, or_cases}
+use Rattle.std.proofs.lemmas.Bool.{cases_Bool, eq-eqb}
 use mathlib.Core.Path.{fun_ext}
 use Rattle.row_bag.specs.Bags.{bind, keep, unit}
 use Rattle.row_bag.specs.declared.tables.Table.{Table}
-use Rattle.row_bag.proofs.Binds.{bind-bind, bind-keep, keep-bind, keep-keep, unit-bind}
+use Rattle.row_bag.proofs.Binds.{keep-bind, keep-keep, unit-bind}
 use Rattle.row_bag.proofs.Levels.{least-associative, least-commutative, least-yes}
 use Rattle.sql_value.specs.Level.{least}
 use Rattle.sql_value.specs.declared.cell.Cell.{Cell}
 use Rattle.sql_value.specs.declared.level.Level.{Level}
 use Rattle.sql_value.specs.declared.truth.Truth.{Truth}
-use Rattle.qgm_core.specs.Boxes.{QueryGraph, has_box, ids_of, is_quant, overs_in, overs_of, owns, width}
+use Rattle.qgm_core.specs.Boxes.{QueryGraph, ids_of, is_quant, overs_in, overs_of}
 use Rattle.qgm_core.specs.Kinds.{is_F, is_enforce}
 use Rattle.qgm_core.specs.Lists.{In, first, times}
-use Rattle.qgm_core.specs.declared.kinds.BoxKind.{BoxKind}
-use Rattle.qgm_core.specs.declared.kinds.BoxKind.TheVariants.{Base, Group, OuterJoin, Select, SetOp}
 use Rattle.qgm_core.specs.declared.node.Node.{Node}
 use Rattle.qgm_core.specs.declared.owned.OwnedQuant.{OwnedQuant}
 use Rattle.qgm_meaning.specs.Meaning.{Family, bag_in, given_by, nothing, once_if, over_each, quant_rows, rows_by, rows_found, rows_of}
 use Rattle.qgm_meaning.specs.Ranks.{SameUnder}
-use Rattle.qgm_meaning.specs.Scope.{loose, read_by}
-use Rattle.qgm_meaning.specs.Searches.{binds_cond, looking, names, names_cond}
+use Rattle.qgm_meaning.specs.Searches.{binds_cond, names, names_cond}
 use Rattle.qgm_meaning.specs.Values.{Bag, Environment, all_true, bound, head_cells, row_of, truth}
-use Rattle.qgm_meaning.specs.Widths.{Filled}
 use Rattle.qgm_meaning.proofs.Frames.{truth-framed}
 use Rattle.qgm_meaning.proofs.Joined.{all_true-append}
 use Rattle.qgm_meaning.proofs.Nodes.{all_true-nodes, head-nodes, truth-nodes}
 use Rattle.qgm_meaning.proofs.Puts.{inlined-first, truth-put}
 use Rattle.qgm_meaning.proofs.Unfold.{rows-local}
-use Rattle.qgm_terms.specs.Substitution.{cell_at, substituted_cond}
-use Rattle.qgm_terms.specs.Terms.{Cond, Term}
-use Rattle.qgm_terms.specs.Wanted.{any_in_cond, reads, reads_at, reads_at_cond, reads_cond, wanted}
-use Rattle.qgm_terms.specs.declared.sought.Sought.TheVariants as sought
-use Rattle.qgm_laws.specs.Changes.{Reparts}
-use Rattle.qgm_laws.specs.Checked.{own_seen}
-use Rattle.qgm_laws.specs.Graph.{BareBy, Fits, Sound, binds_row, nodes_in, reads_in}
+use Rattle.qgm_terms.specs.Substitution.{substituted_cond}
+use Rattle.qgm_terms.specs.Terms.{Cond}
+use Rattle.qgm_laws.specs.Graph.{Sound, binds_row, nodes_in}
 use Rattle.qgm_laws.specs.Keeps.{Keeps}
 use Rattle.qgm_laws.specs.Push.{MayPush, conditioned, pushed, pushed_in}
-use Rattle.qgm_laws.proofs.AnyPut.{cell-any, cond-put, conds-more, conds-names}
-use Rattle.qgm_laws.proofs.Changes.{parts-sound}
-use Rattle.qgm_laws.proofs.Edits.{any-append, split-once}
-use Rattle.qgm_laws.proofs.Lists.{any-from, clash, eq-false-sym, eq-itself, in-map, in-right, or-false, or-left, or-right}
-use Rattle.qgm_laws.proofs.OneBox.{has-map}
+use Rattle.qgm_laws.proofs.AnyPut.{conds-names}
+use Rattle.qgm_laws.proofs.Edits.{split-once}
+use Rattle.qgm_laws.proofs.Lists.{any-from, clash, eq-false-sym, eq-itself, in-map, or-false, or-left, or-right}
 use Rattle.qgm_laws.proofs.PlacedLists.{any-more}
-use Rattle.qgm_laws.proofs.Ranks.{place, place-under, same-box}
 use Rattle.qgm_laws.proofs.Rules.{same-agree}
 use Rattle.qgm_laws.proofs.Scope.{one-parent, only-bag, unfold-bag}
-use Rattle.qgm_laws.proofs.Scoped.{few-ids, scoped-of}
-use Rattle.qgm_laws.proofs.Times.{in-times, times-in}
+use Rattle.qgm_laws.proofs.Scoped.{few-ids}
+use Rattle.qgm_laws.proofs.Times.{times-in}
 use Rattle.qgm_laws.proofs.Turns.{first-own}
 use Rattle.qgm_laws.proofs.Widths.{filled-map}
-use Rattle.std.specs.Prelude as prelude
 use Rattle.qgm_laws.proofs.Filters.{each-bind, each-filtered, over-once}
 use Rattle.qgm_laws.proofs.PushSound as before
 
@@ -115,7 +102,7 @@ module _ (bs : List Node) (root : ℕ) (w : Sound bs root) (b c : Node) (ps : Li
         let V : List Cell = head_cells rows c.parts.head e in
         let A : Level = (all_true rows c.parts.conds.items e).t in
         let put : (truth rows p' e).t ≡ test V = ap (λ (z : Truth). z.t) (truth-put rows q c.parts.head p e (bound q V e) (inlined-first rows q c.parts.head e) (λ x t. absurd (clash (names_cond x p) (bound-named x t) ((before.no-node bs root w b c ps p qs us r vs m) x))))
-            ∙ truth-is rows (bound q V e) ∙ ap test (ap (λ (t : Bool). cond t V (row_of q e)) (eq-itself q)) in
+        ∙ truth-is rows (bound q V e) ∙ ap test (ap (λ (t : Bool). cond t V (row_of q e)) (eq-itself q)) in
         ap (λ l. keep l (unit V)) (all_true-append rows c.parts.conds.items (p' ∷ []) e ∙ ap (least A) (least-yes (truth rows p' e).t ∙ put))
         ∙ sym (keep-keep A (test V) (unit V)) ∙ ap (keep A) (sym (unit-bind V k)) ∙ bind-keep-out A V
       where

@@ -1,57 +1,27 @@
 -- A conjunct that goes into the box below keeps a graph sound.
-use Rattle.std.proofs.Common.{ℕ, ◌==◌, ◌≡◌, ◌&&◌, ◌||◌, ◌+◌, ◌≤◌, ◌<◌, cond, Bool, true, false, List, [], ◌∷◌, ◌++◌, map, Option, Some, None, refl, sym, ap, ap₂, subst, ◌∙◌, eqb-true, ◌⊎◌, inl, inr, arith}
+use Rattle.std.proofs.Common.{ℕ, ◌==◌, ◌≡◌, ◌&&◌, ◌||◌, ◌<◌, cond, Bool, true, false, List, [], ◌∷◌, ◌++◌, map, refl, sym, ap, ap₂, subst, ◌∙◌, eqb-true, ◌⊎◌, inl, inr, arith}
 use Rattle.std.specs.List.{list_any}
 use Rattle.std.specs.Prelude.{⊤}
 use Rattle.std.proofs.lemmas.Bool.{and_parts, cases_Bool, eq-eqb, or_cases}
-use mathlib.Core.Path.{fun_ext}
-use Rattle.row_bag.specs.Bags.{bind, keep, unit}
-use Rattle.row_bag.specs.declared.tables.Table.{Table}
-use Rattle.row_bag.proofs.Binds.{bind-bind, bind-keep, keep-bind, keep-keep, unit-bind}
-use Rattle.row_bag.proofs.Levels.{least-associative, least-commutative, least-yes}
-use Rattle.sql_value.specs.Level.{least}
-use Rattle.sql_value.specs.declared.cell.Cell.{Cell}
-use Rattle.sql_value.specs.declared.level.Level.{Level}
-use Rattle.sql_value.specs.declared.truth.Truth.{Truth}
-use Rattle.qgm_core.specs.Boxes.{QueryGraph, has_box, ids_of, is_quant, overs_in, overs_of, owns, width}
-use Rattle.qgm_core.specs.Kinds.{is_F, is_enforce}
-use Rattle.qgm_core.specs.Lists.{In, first, times}
-use Rattle.qgm_core.specs.declared.kinds.BoxKind.{BoxKind}
-use Rattle.qgm_core.specs.declared.kinds.BoxKind.TheVariants.{Base, Group, OuterJoin, Select, SetOp}
+use Rattle.qgm_core.specs.Boxes.{width}
+use Rattle.qgm_core.specs.Lists.{In}
 use Rattle.qgm_core.specs.declared.node.Node.{Node}
 use Rattle.qgm_core.specs.declared.owned.OwnedQuant.{OwnedQuant}
-use Rattle.qgm_meaning.specs.Meaning.{Family, bag_in, given_by, nothing, once_if, over_each, quant_rows, rows_by, rows_found, rows_of}
-use Rattle.qgm_meaning.specs.Ranks.{SameUnder}
-use Rattle.qgm_meaning.specs.Scope.{loose, read_by}
-use Rattle.qgm_meaning.specs.Searches.{binds_cond, looking, names, names_cond}
-use Rattle.qgm_meaning.specs.Values.{Bag, Environment, all_true, bound, head_cells, row_of, truth}
-use Rattle.qgm_meaning.specs.Widths.{Filled}
-use Rattle.qgm_meaning.proofs.Frames.{truth-framed}
-use Rattle.qgm_meaning.proofs.Joined.{all_true-append}
-use Rattle.qgm_meaning.proofs.Nodes.{all_true-nodes, head-nodes, truth-nodes}
-use Rattle.qgm_meaning.proofs.Puts.{inlined-first, truth-put}
-use Rattle.qgm_meaning.proofs.Unfold.{rows-local}
-use Rattle.qgm_terms.specs.Substitution.{cell_at, substituted_cond}
+use Rattle.qgm_meaning.specs.Searches.{names, names_cond}
+use Rattle.qgm_terms.specs.Substitution.{substituted_cond}
 use Rattle.qgm_terms.specs.Terms.{Cond, Term}
 use Rattle.qgm_terms.specs.Wanted.{any_in_cond, reads, reads_at, reads_at_cond, reads_cond, wanted}
 use Rattle.qgm_terms.specs.declared.sought.Sought.TheVariants as sought
 use Rattle.qgm_laws.specs.Changes.{Reparts}
-use Rattle.qgm_laws.specs.Checked.{own_seen}
-use Rattle.qgm_laws.specs.Graph.{BareBy, Fits, Sound, binds_row, nodes_in, reads_in}
-use Rattle.qgm_laws.specs.Keeps.{Keeps}
-use Rattle.qgm_laws.specs.Push.{MayPush, conditioned, pushed, pushed_in}
-use Rattle.qgm_laws.proofs.AnyPut.{cell-any, cond-put, conds-more, conds-names}
+use Rattle.qgm_laws.specs.Graph.{BareBy, Sound}
+use Rattle.qgm_laws.specs.Push.{MayPush, conditioned, pushed_in}
+use Rattle.qgm_laws.proofs.AnyPut.{cell-any, cond-put, conds-more}
 use Rattle.qgm_laws.proofs.Changes.{parts-sound}
-use Rattle.qgm_laws.proofs.Edits.{any-append, split-once}
-use Rattle.qgm_laws.proofs.Lists.{any-from, clash, eq-false-sym, eq-itself, in-map, in-right, or-false, or-left, or-right}
-use Rattle.qgm_laws.proofs.OneBox.{has-map}
+use Rattle.qgm_laws.proofs.Edits.{any-append}
+use Rattle.qgm_laws.proofs.Lists.{clash, eq-itself, in-right, or-false, or-left, or-right}
 use Rattle.qgm_laws.proofs.PlacedLists.{any-more}
 use Rattle.qgm_laws.proofs.Ranks.{place, place-under, same-box}
-use Rattle.qgm_laws.proofs.Rules.{same-agree}
-use Rattle.qgm_laws.proofs.Scope.{one-parent, only-bag, unfold-bag}
-use Rattle.qgm_laws.proofs.Scoped.{few-ids, scoped-of}
-use Rattle.qgm_laws.proofs.Times.{in-times, times-in}
-use Rattle.qgm_laws.proofs.Turns.{first-own}
-use Rattle.qgm_laws.proofs.Widths.{filled-map}
+use Rattle.qgm_laws.proofs.Scoped.{scoped-of}
 use Rattle.std.specs.Prelude as prelude
 
 module _ (bs : List Node) (root : ℕ) (w : Sound bs root) (b c : Node) (ps : List Cond) (p : Cond) (qs : List Cond) (us : List OwnedQuant) (r : OwnedQuant) (vs : List OwnedQuant) (m : MayPush bs b c ps p qs us r vs) where
@@ -74,9 +44,12 @@ module _ (bs : List Node) (root : ℕ) (w : Sound bs root) (b c : Node) (ps : Li
   in-b = subst (λ z. In r z) (sym m.split) (in-right r us (r ∷ vs) (inl refl))
 
   pub b-not-c : (c.id == b.id) ≡ false
-  b-not-c = elim (cases_Bool (c.id == b.id)) [ inr f ↦ f | inl t ↦ absurd (
-      let less : place bs b.id < place bs c.id = subst (λ z. place bs b.id < place bs z) m.over_c (place-under bs b r w.ordered m.in_b in-b) in
-      let same : place bs c.id ≡ place bs b.id = ap (place bs) (eqb-true c.id b.id t) in omega arith) ]
+  b-not-c = elim (cases_Bool (c.id == b.id)) [
+    | inr f ↦ f
+    | inl t ↦ absurd (
+        let less : place bs b.id < place bs c.id = subst (λ z. place bs b.id < place bs z) m.over_c (place-under bs b r w.ordered m.in_b in-b) in
+        let same : place bs c.id ≡ place bs b.id = ap (place bs) (eqb-true c.id b.id t) in omega arith)
+  ]
 
   -- a box is b, c or as it was
   pub g-cases : (y : Node) → In y bs → ((y ≡ b) × (g y ≡ b')) ⊎ (((y ≡ c) × (g y ≡ c')) ⊎ (((y.id == b.id) ≡ false) × (((y.id == c.id) ≡ false) × (g y ≡ y))))
@@ -90,8 +63,11 @@ module _ (bs : List Node) (root : ℕ) (w : Sound bs root) (b c : Node) (ps : Li
 
   -- what stands in p's copy in c stood in p at another quantifier than q, or in a cell of c whose column p reads
   pub no-node : (x : ℕ) → names_cond x p ≡ false
-  no-node x = elim (cases_Bool (names_cond x p)) [ inr f ↦ f | inl t ↦ absurd (clash (list_any (any_in_cond (wanted sought.Node)) (p ∷ []))
-      (conds-more (λ r k. false) (λ r k. false) (λ r. r == x) (λ r. true) (λ r. r == x) (λ r. true) (λ r. true) (λ r. true) (λ r k h. h) (λ r h. refl) (λ r h. refl) (λ r h. h) (p ∷ []) (or-left (names_cond x p) false t)) (ap (λ t. t || false) m.node_free)) ]
+  no-node x = elim (cases_Bool (names_cond x p)) [
+    | inr f ↦ f
+    | inl t ↦ absurd (clash (list_any (any_in_cond (wanted sought.Node)) (p ∷ []))
+        (conds-more (λ r k. false) (λ r k. false) (λ r. r == x) (λ r. true) (λ r. r == x) (λ r. true) (λ r. true) (λ r. true) (λ r k h. h) (λ r h. refl) (λ r h. refl) (λ r h. h) (p ∷ []) (or-left (names_cond x p) false t)) (ap (λ t. t || false) m.node_free))
+  ]
 
   read-new : (x : ℕ) → reads_cond x p' ≡ true → list_any (reads x) c.parts.head ≡ true
   read-new x t = elim (cond-put q c.parts.head (λ r k. r == x) (λ r. false) (λ r. false) (λ r. prelude.not (r == x)) ((x == q) ≡ false) (λ r k n h. subst (λ z. (z == q) ≡ false) (eqb-true r x h) n) (λ r n h. absurd (let z : ⊥ = cc in z)) (λ r n h. absurd (let z : ⊥ = cc in z)) p (no-node q) t) [
@@ -165,4 +141,3 @@ module _ (bs : List Node) (root : ℕ) (w : Sound bs root) (b c : Node) (ps : Li
 
   pub sound : Sound (map g bs) root
   sound = parts-sound bs root w g reparts
-

@@ -1,8 +1,8 @@
 -- Cells put in for the columns of a quantifier through a box below, where only those columns are read whose cells hold no node and no aggregate.
-use Rattle.std.proofs.Common.{ℕ, zero, suc, ◌==◌, ◌≡◌, ◌&&◌, ◌||◌, cond, Bool, true, false, List, [], ◌∷◌, ◌++◌, map, take, drop, length, Option, Some, None, refl, sym, ap, ap₂, subst, ◌∙◌, eqb-true, ◌⊎◌, inl, inr}
-use Rattle.std.specs.List.{list_any, list_all}
+use Rattle.std.proofs.Common.{ℕ, zero, suc, ◌==◌, ◌≡◌, ◌&&◌, ◌||◌, cond, Bool, true, false, List, [], ◌∷◌, ◌++◌, map, take, drop, length, Option, Some, None, refl, sym, ap, ap₂, ◌∙◌, eqb-true, inl, inr}
+use Rattle.std.specs.List.{list_any}
 use Rattle.std.proofs.lemmas.List.{drop-map, length-map, take-map}
-use Rattle.std.proofs.lemmas.Bool.{eq-eqb, and_from, and_parts, cases_Bool}
+use Rattle.std.proofs.lemmas.Bool.{eq-eqb, and_from, cases_Bool}
 use mathlib.Core.Path.{fun_ext}
 use Rattle.row_bag.specs.Bags.{bind, keep, total, unit}
 use Rattle.row_bag.specs.Errors.{error_in}
@@ -19,7 +19,6 @@ use Rattle.qgm_core.specs.declared.node.Node.{Node}
 use Rattle.qgm_core.specs.declared.owned.OwnedQuant.{OwnedQuant}
 use Rattle.qgm_core.specs.declared.kinds.BoxKind.{BoxKind}
 use Rattle.qgm_core.specs.declared.kinds.BoxKind.TheVariants.{Base, Select, Group, SetOp, OuterJoin}
-use Rattle.qgm_core.specs.Lists.{first}
 use Rattle.qgm_core.specs.Kinds.{is_F, is_enforce}
 use Rattle.qgm_core.specs.Boxes.{is_quant, owns}
 use Rattle.row_bag.specs.Aggregates.{folded}
@@ -55,7 +54,6 @@ bare-fold q env rows (scalar r) b = refl
 -- V is the row of the cells: it isn't changed by what they don't touch, and a bare cell is its column
 module _ (q : ℕ) (cells : List Term) (V : Environment → List Cell) (touch : ℕ → Bool) (still : (r : ℕ) (cs : List Cell) (d : Environment) → touch r ≡ false → V (bound r cs d) ≡ V d)
     (cell-is : (rows : ℕ → Bag) (k : ℕ) (d : Environment) → bare (cell_at k cells) ≡ true → value rows (cell_at k cells) d ≡ cell_of k (V d)) where
-
   -- e is d with q bound to this row
   pub record Rowed (d e : Environment) : Type 0 where
     pub others : (x : ℕ) → (x == q) ≡ false → row_of x d ≡ row_of x e

@@ -1,34 +1,33 @@
 -- Edits of the quantifiers of one box keep a graph sound.
-use Rattle.std.proofs.Common.{ℕ, zero, suc, ◌==◌, ◌≡◌, ◌&&◌, ◌||◌, ◌+◌, ◌≤◌, ◌<◌, cond, not, Bool, true, false, List, [], ◌∷◌, ◌++◌, map, take, insert, Option, Some, None, refl, sym, ap, ap₂, subst, ◌∙◌, eqb-true, ◌⊎◌, inl, inr, arith}
-use Rattle.std.specs.List.{list_any, flat_map}
+use Rattle.std.proofs.Common.{ℕ, zero, suc, ◌==◌, ◌≡◌, ◌&&◌, ◌||◌, ◌+◌, ◌≤◌, cond, not, Bool, true, false, List, [], ◌∷◌, ◌++◌, map, take, insert, refl, sym, ap, ap₂, subst, ◌∙◌, eqb-true, ◌⊎◌, inl, inr, arith}
+use Rattle.std.specs.List.{list_any}
 use Rattle.std.proofs.lemmas.Bool.{and_parts, cases_Bool, or_cases, eq-eqb, not-true}
 use Rattle.qgm_core.specs.declared.node.Node.{Node}
 use Rattle.qgm_core.specs.declared.owned.OwnedQuant.{OwnedQuant}
 use Rattle.qgm_core.specs.declared.parts.BoxParts.{BoxParts}
 use Rattle.qgm_core.specs.declared.kinds.BoxKind.{BoxKind}
 use Rattle.qgm_core.specs.declared.kinds.BoxKind.TheVariants.{Base, Select, Group, SetOp, OuterJoin}
-use Rattle.qgm_core.specs.Boxes.{Ordered, has_box, ids_in, ids_of, is_box, is_quant, overs_in, overs_of, owns, width}
+use Rattle.qgm_core.specs.Boxes.{ids_in, ids_of, is_quant, overs_of, owns, width}
 use Rattle.qgm_core.specs.Edits.{on_quant, put_range, without_quant}
 use Rattle.qgm_core.specs.Kinds.{is_F}
-use Rattle.qgm_core.specs.Lists.{In, change, first, holds, times, without}
+use Rattle.qgm_core.specs.Lists.{In, holds, times, without}
 use Rattle.qgm_laws.proofs.Times.{times-in}
 use Rattle.qgm_meaning.specs.Scope.{loose, read_by}
 use Rattle.qgm_laws.specs.Adds.{at}
-use Rattle.qgm_laws.specs.Changes.{Changes, FitsAfter, LosesQuant, PutsQuant, Redirects, TurnsQuants}
+use Rattle.qgm_laws.specs.Changes.{Changes, LosesQuant, PutsQuant, Redirects, TurnsQuants}
 use Rattle.qgm_laws.specs.Checked.{own_seen}
 use Rattle.qgm_laws.specs.Graph.{ArmsBy, BareBy, Sound, binds_row, nodes_in, reads_in}
-use Rattle.qgm_laws.specs.Placed.{Below, place}
+use Rattle.qgm_laws.specs.Placed.{Below}
 use Rattle.qgm_laws.specs.Scoped.{NearlySound, Scoped, shows_by}
 use Rattle.qgm_laws.proofs.Adds.{loose-owned, read-owned, reads-at-read}
 use Rattle.qgm_laws.proofs.Changes.{changed-nearly}
 use Rattle.qgm_laws.proofs.Compact.{nearly}
 use Rattle.qgm_laws.proofs.Interposed.{over_now, turned, turned-any, turned-ids, turned-in, turned-split, turned-times}
-use Rattle.qgm_laws.proofs.Lists.{any-from, any-in, any-none, any-not, in-map, clash, eq-itself, in-right, or-left, or-right, or-none, or-both}
+use Rattle.qgm_laws.proofs.Lists.{any-from, any-in, any-none, any-not, in-map, clash, eq-itself, or-left, or-right, or-none, or-both}
 use Rattle.qgm_laws.proofs.OneBox.{owns-ids, ranked}
 use Rattle.qgm_laws.proofs.PlacedOne.{any-put, counted, g-cases, g-id, in-less, in-put, less-in, same-ids, times-less, times-put, unowned-times}
 use Rattle.qgm_laws.proofs.Ranks.{same-box}
 use Rattle.qgm_laws.proofs.Scoped.{bounded, few-ids, scoped-of, sound-of}
-use Rattle.qgm_laws.proofs.Scope.{closed-root}
 use Rattle.qgm_laws.proofs.Turns.{first-own}
 
 -- ---- lists of quantifiers

@@ -1,5 +1,5 @@
 -- What is given box by box over the boxes behind: it is given over the whole graph, and it is the only family that is.
-use Rattle.std.proofs.Common.{ℕ, suc, ◌==◌, ◌≡◌, ◌<◌, cond, true, false, List, [], ◌∷◌, sym, ap, subst, ◌∙◌, eqb-true, inl, inr, arith}
+use Rattle.std.proofs.Common.{ℕ, ◌==◌, ◌≡◌, ◌<◌, true, false, List, [], ◌∷◌, sym, ap, subst, ◌∙◌, eqb-true, inl, inr, arith}
 use Rattle.qgm_core.specs.declared.node.Node.{Node}
 use Rattle.qgm_core.specs.declared.owned.OwnedQuant.{OwnedQuant}
 use Rattle.qgm_core.specs.Boxes.{Ordered, has_box, is_box}

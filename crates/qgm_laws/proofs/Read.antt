@@ -1,7 +1,7 @@
 -- What is named is read or is a node's, and is listed where it stands.
-use Rattle.std.proofs.Common.{ℕ, ◌==◌, ◌≡◌, ◌&&◌, ◌||◌, ◌≤◌, nat_le, nat_lt, Bool, true, false, List, [], ◌∷◌, ◌++◌, refl, sym, ap, ap₂, subst, ◌∙◌, inl, inr}
-use Rattle.std.specs.List.{list_any, list_all, flat_map}
-use Rattle.std.proofs.lemmas.Bool.{and_from, and_parts, cases_Bool, leb-true, ltb-true, or_cases}
+use Rattle.std.proofs.Common.{ℕ, ◌==◌, ◌≡◌, ◌&&◌, ◌||◌, Bool, true, false, List, [], ◌∷◌, ◌++◌, refl, sym, ap, ap₂, ◌∙◌, inl, inr}
+use Rattle.std.specs.List.{list_any, flat_map}
+use Rattle.std.proofs.lemmas.Bool.{or_cases}
 use Rattle.qgm_core.specs.declared.node.Node.{Node}
 use Rattle.qgm_core.specs.Free.{named_by}
 use Rattle.qgm_core.specs.Lists.{holds}
@@ -20,7 +20,7 @@ use Rattle.qgm_check.specs.Shapes.{nodes_of}
 use Rattle.qgm_laws.specs.Graph.{nodes_in, reads_in}
 use Rattle.qgm_laws.proofs.AnyPut.{conds-more, heads-more}
 use Rattle.qgm_laws.proofs.Lists.{or-false, or-left, or-right}
-use Rattle.qgm_laws.proofs.Naming.{any-same, named-any, naming, says, says_arms, says_cond}
+use Rattle.qgm_laws.proofs.Naming.{any-same, named-any, says, says_arms, says_cond}
 use Rattle.std.specs.Prelude as prelude
 
 module _ (p : ℕ) where

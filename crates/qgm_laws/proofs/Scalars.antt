@@ -1,22 +1,21 @@
 -- A scalar of some rows and of the one row of their `single`; and what is given where an S quantifier gives other rows with the same scalar.
-use Rattle.std.proofs.Common.{ℕ, ◌+◌, ◌≤◌, ◌⊎◌, arith, ◌==◌, ◌≡◌, ◌||◌, ◌&&◌, cond, Bool, true, false, List, [], ◌∷◌, Option, Some, None, refl, sym, ap, ap₂, subst, ◌∙◌, eqb-true, inl, inr}
+use Rattle.std.proofs.Common.{ℕ, ◌+◌, ◌≤◌, ◌⊎◌, arith, ◌==◌, ◌≡◌, ◌||◌, cond, Bool, true, false, List, [], ◌∷◌, Option, Some, None, refl, sym, ap, ap₂, subst, ◌∙◌, eqb-true, inl, inr}
 use Rattle.std.specs.List.{list_any}
-use Rattle.std.proofs.lemmas.Bool.{cases_Bool, eq-eqb}
+use Rattle.std.proofs.lemmas.Bool.{cases_Bool}
 use mathlib.Core.Path.{fun_ext}
-use Rattle.row_bag.specs.Aggregates.{folded, single_of_those}
+use Rattle.row_bag.specs.Aggregates.{folded}
 use Rattle.row_bag.specs.Bags.{bind, keep, total, unit}
 use Rattle.row_bag.specs.Errors.{error_among, error_at}
 use Rattle.row_bag.specs.Order.{cell_of}
 use Rattle.row_bag.specs.Subqueries as subquery
 use Rattle.row_bag.specs.Subqueries.{level_error, only_cell, presence}
-use Rattle.row_bag.specs.Verdict.{is_there, those_there}
+use Rattle.row_bag.specs.Verdict.{is_there}
 use Rattle.row_bag.specs.declared.row.Row.{Row}
 use Rattle.row_folds.proofs.Onlys.{Only, beside, none, one, only_among, only_of, scalar-total, single-total}
 use Rattle.sql_value.specs.Arithmetic as a
 use Rattle.sql_value.specs.Arithmetic.{error_or}
 use Rattle.sql_value.specs.Cells.{error_of, worst_of}
 use Rattle.sql_value.specs.Comparison as c
-use Rattle.sql_value.specs.Level.{level_of}
 use Rattle.sql_value.specs.Truths as t
 use Rattle.sql_value.specs.declared.aggregate.Aggregate.TheVariants.{Single}
 use Rattle.sql_value.specs.declared.aggregate.Taken.TheVariants.{All}
@@ -35,7 +34,6 @@ use Rattle.qgm_core.specs.Kinds.{is_F}
 use Rattle.qgm_core.specs.Lists.{In}
 use Rattle.qgm_core.specs.declared.node.Node.{Node}
 use Rattle.qgm_core.specs.declared.owned.OwnedQuant.{OwnedQuant}
-use Rattle.qgm_terms.specs.Terms as term
 use Rattle.qgm_terms.specs.Terms.{Term, int, text, null_int, null_text, col, both, minus_of, choose, count_all, fold, scalar, Arms, no_arm, arm, Cond, always, compare, is_null, and, or, not, some, every}
 use Rattle.qgm_laws.specs.Facts.{HasAtMostOne, IsErrorFree}
 use Rattle.qgm_laws.specs.Single.{firsts, single_head}

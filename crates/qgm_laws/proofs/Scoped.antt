@@ -1,12 +1,12 @@
 -- Scope by bounds: what a bound gives, and that what a sound graph looks up is one.
-use Rattle.std.proofs.Common.{ℕ, zero, suc, ◌==◌, ◌≡◌, ◌&&◌, ◌||◌, ◌+◌, ◌≤◌, ◌<◌, cond, not, Bool, true, false, List, [], ◌∷◌, ◌++◌, map, take, refl, sym, ap, ap₂, subst, ◌∙◌, eqb-true, ◌⊎◌, inl, inr, arith}
+use Rattle.std.proofs.Common.{ℕ, ◌≡◌, ◌&&◌, ◌||◌, ◌≤◌, cond, not, Bool, true, false, List, [], ◌∷◌, ◌++◌, take, refl, sym, ap, subst, ◌∙◌, inl, inr, arith}
 use Rattle.std.specs.List.{list_any}
-use Rattle.std.proofs.lemmas.Bool.{cases_Bool, or_cases, and_parts, and_from, eq-eqb, not-true}
+use Rattle.std.proofs.lemmas.Bool.{cases_Bool, or_cases, and_parts, not-true}
 use Rattle.qgm_core.specs.declared.node.Node.{Node}
 use Rattle.qgm_core.specs.declared.owned.OwnedQuant.{OwnedQuant}
 use Rattle.qgm_core.specs.declared.kinds.BoxKind.{BoxKind}
 use Rattle.qgm_core.specs.declared.kinds.BoxKind.TheVariants.{Base, Select, Group, SetOp, OuterJoin}
-use Rattle.qgm_core.specs.Boxes.{Ordered, has_box, is_quant, owns, overs_of, ids_of, overs_in, ids_in}
+use Rattle.qgm_core.specs.Boxes.{Ordered, is_quant, owns, ids_of, overs_in, ids_in}
 use Rattle.qgm_core.specs.Kinds.{is_F}
 use Rattle.qgm_core.specs.Lists.{In, times}
 use Rattle.qgm_meaning.specs.Scope.{loose, loose_by, loose_each, loose_of, looks_found, read_beyond, read_by, under_any}
@@ -16,7 +16,7 @@ use Rattle.qgm_laws.specs.Scoped.{Bounds, Local, NearlySound, Scoped, shows_by}
 use Rattle.qgm_laws.proofs.Checked.{looks-up}
 use Rattle.qgm_laws.proofs.Lists.{any-in, any-from, clash, in-right, or-left, or-right}
 use Rattle.qgm_laws.proofs.Looks.{each-cases}
-use Rattle.qgm_laws.proofs.Scope.{climb-by, closed-root, loose-within, unfold-loose}
+use Rattle.qgm_laws.proofs.Scope.{climb-by, loose-within, unfold-loose}
 use Rattle.qgm_laws.proofs.Times.{times-in}
 use Rattle.qgm_laws.proofs.Turns.{any-parts, each-turn, first-own, split-in}
 

@@ -1,39 +1,33 @@
 -- U2 keeps all.
-use Rattle.std.proofs.Common.{ℕ, ◌==◌, ◌≡◌, ◌&&◌, ◌||◌, ◌+◌, ◌≤◌, cond, Bool, true, false, List, [], ◌∷◌, ◌++◌, map, Option, Some, None, refl, sym, ap, ap₂, subst, ◌∙◌, eqb-true, ◌⊎◌, inl, inr, arith}
+use Rattle.std.proofs.Common.{ℕ, ◌==◌, ◌≡◌, ◌&&◌, ◌||◌, ◌+◌, ◌≤◌, cond, Bool, true, false, List, [], ◌∷◌, ◌++◌, Some, None, refl, sym, ap, ap₂, subst, ◌∙◌, eqb-true, inl, inr, arith}
 use Rattle.std.specs.List.{list_any}
-use Rattle.std.proofs.lemmas.Bool.{and_parts, cases_Bool, eq-eqb, or_cases}
-use mathlib.Core.Path.{fun_ext}
-use Rattle.row_bag.specs.Bags.{bind}
+use Rattle.std.proofs.lemmas.Bool.{and_parts, cases_Bool, eq-eqb}
 use Rattle.row_bag.specs.Subqueries as subquery
 use Rattle.row_bag.specs.declared.tables.Table.{Table}
-use Rattle.qgm_core.specs.Boxes.{QueryGraph, has_box, ids_of, is_quant, overs_of, owns, width}
+use Rattle.qgm_core.specs.Boxes.{QueryGraph, has_box, is_quant, owns, width}
 use Rattle.qgm_core.specs.Edits.{on_quant}
 use Rattle.qgm_core.specs.Kinds.{is_F, is_enforce}
-use Rattle.qgm_core.specs.Lists.{In, first, times}
-use Rattle.qgm_core.specs.declared.kinds.BoxKind.TheVariants.{Group, Select}
-use Rattle.qgm_core.specs.declared.kinds.QuantKind.TheVariants.{F, S}
+use Rattle.qgm_core.specs.Lists.{In}
+use Rattle.qgm_core.specs.declared.kinds.BoxKind.TheVariants.{Group}
+use Rattle.qgm_core.specs.declared.kinds.QuantKind.TheVariants.{F}
 use Rattle.qgm_core.specs.declared.node.Node.{Node}
 use Rattle.qgm_core.specs.declared.owned.OwnedQuant.{OwnedQuant}
-use Rattle.qgm_meaning.specs.Meaning.{Family, bag_in, given_by, grouped_rows, once_if, over_each, quant_rows, rows_by, rows_found, rows_of}
+use Rattle.qgm_meaning.specs.Meaning.{Family, bag_in, given_by, grouped_rows, once_if, quant_rows, rows_by, rows_found, rows_of}
 use Rattle.qgm_meaning.specs.Scope.{loose, read_by}
-use Rattle.qgm_meaning.specs.Values.{Bag, Environment, bound}
-use Rattle.qgm_meaning.specs.Widths.{Filled, FilledBy}
-use Rattle.qgm_terms.specs.Wanted.{reads}
+use Rattle.qgm_meaning.specs.Values.{Bag, Environment}
+use Rattle.qgm_meaning.specs.Widths.{Filled}
 use Rattle.qgm_laws.specs.Adds.{Interposes, as_box, interposed, onto}
 use Rattle.qgm_laws.specs.Checked.{own_seen}
-use Rattle.qgm_laws.specs.Graph.{ArmsBy, Sound, binds_row, reads_in}
+use Rattle.qgm_laws.specs.Graph.{ArmsBy, Sound, reads_in}
 use Rattle.qgm_laws.specs.Keeps.{Keeps}
 use Rattle.qgm_laws.specs.Single.{MaySingle, single_box, single_head, singled}
-use Rattle.qgm_laws.proofs.Adds.{read-owned, reads-at-read, seen-owned}
+use Rattle.qgm_laws.proofs.Adds.{reads-at-read}
 use Rattle.qgm_laws.proofs.Interposed.{fam, fam-was, interposed-bag, interposed-sound, others-after, over_now, rowless, rowless-unread, turned-after, turned-before, turned-each}
-use Rattle.qgm_laws.proofs.Lists.{any-from, any-in, clash, eq-itself, in-left, in-right, or-left, or-right, or-false}
+use Rattle.qgm_laws.proofs.Lists.{any-from, clash, eq-itself, in-left, in-right, or-left, or-false}
 use Rattle.qgm_laws.proofs.PlacedLists.{in-more}
-use Rattle.qgm_laws.proofs.Ranks.{in-has, has-in, overs-held, same-box}
+use Rattle.qgm_laws.proofs.Ranks.{in-has, same-box}
 use Rattle.qgm_laws.proofs.Rules.{same-agree}
 use Rattle.qgm_laws.proofs.Scalars.{each-scalar, single-scalar}
-use Rattle.qgm_laws.proofs.Scope.{bound-above, bound-owned, one-owner}
-use Rattle.qgm_laws.proofs.Scoped.{few-ids, scoped-of}
-use Rattle.qgm_laws.proofs.Turns.{first-own}
 use Rattle.qgm_laws.proofs.Widths.{filled-map, filled-more}
 
 module _ (xs ys : List Node) (g : QueryGraph) (w : Sound (xs ++ ys) g.root) (b p : ℕ) (o c : Node) (r : OwnedQuant) (m : MaySingle xs ys g.root b p o c r) where

@@ -1,7 +1,7 @@
 -- A box added, and one put between a quantifier and the box that it ranges over.
-use Rattle.std.specs.Prelude.{ℕ, ◌≡◌, ◌==◌, ◌≤◌, ◌++◌, ◌||◌, ◌⊎◌, if◌then◌else◌, Bool, true, false, List, ◌∷◌, map}
+use Rattle.std.specs.Prelude.{ℕ, ◌≡◌, ◌==◌, ◌≤◌, ◌++◌, ◌⊎◌, if◌then◌else◌, Bool, true, false, List, ◌∷◌, map}
 use Rattle.std.specs.List.{list_any}
-use Rattle.qgm_core.specs.Boxes.{has_box, is_quant, overs_of, owns, width, ids_of}
+use Rattle.qgm_core.specs.Boxes.{has_box, overs_of, owns, width, ids_of}
 use Rattle.qgm_core.specs.Edits.{on_quant}
 use Rattle.qgm_core.specs.Lists.{In, times}
 use Rattle.qgm_core.specs.declared.node.Node.{Node}

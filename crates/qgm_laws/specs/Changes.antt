@@ -1,7 +1,7 @@
 -- Edits of boxes where they stand.
 use Rattle.std.specs.Prelude.{ℕ, ◌≡◌, ◌==◌, ◌≤◌, ◌||◌, Bool, true, false, List, length, map}
 use Rattle.std.specs.List.{list_any}
-use Rattle.qgm_core.specs.Boxes.{has_box, ids_in, overs_in, owns, width}
+use Rattle.qgm_core.specs.Boxes.{ids_in, overs_in, owns, width}
 use Rattle.qgm_core.specs.Edits.{put_range, without_quant}
 use Rattle.qgm_core.specs.Lists.{In, times}
 use Rattle.qgm_core.specs.declared.kinds.BoxKind.{BoxKind}

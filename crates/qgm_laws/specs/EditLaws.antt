@@ -1,19 +1,16 @@
 -- What each edit keeps of I1 to I3, at its condition.
-use Rattle.std.specs.Prelude.{ℕ, ◌≡◌, ◌==◌, ◌≤◌, ◌<◌, ◌⊎◌, Bool, true, false, List, [], ◌∷◌, Option}
+use Rattle.std.specs.Prelude.{ℕ, ◌≡◌, ◌≤◌, true, false, List, [], ◌∷◌, Option}
 use Rattle.std.specs.List.{list_any}
 use Rattle.sql_value.specs.declared.order_key.OrderKey.{OrderKey}
-use Rattle.qgm_core.specs.Boxes.{HasBox, HasQuant, QueryGraph, bare_box, graph_of_one, is_quant, owns}
+use Rattle.qgm_core.specs.Boxes.{HasBox, HasQuant, QueryGraph, bare_box, graph_of_one, owns}
 use Rattle.qgm_core.specs.Edits.{compact, drop_column, drop_quant, move_below, move_conjunct, move_quant, on_box, put_box, put_quant, redirect, reserve, set_distinct, substitute, with_box, with_cond, with_quant, without_cond}
 use Rattle.qgm_core.specs.Free.{named_by, reached}
 use Rattle.qgm_core.specs.Lists.{In, holds}
-use Rattle.qgm_core.specs.declared.kinds.BoxKind.{BoxKind}
 use Rattle.qgm_core.specs.declared.kinds.Distinct.{Distinct}
 use Rattle.qgm_core.specs.declared.kinds.QuantKind.{QuantKind}
-use Rattle.qgm_core.specs.declared.kinds.Role.{Role}
 use Rattle.qgm_core.specs.declared.node.Node.{Node}
 use Rattle.qgm_core.specs.declared.owned.OwnedQuant.{OwnedQuant}
 use Rattle.qgm_core.specs.declared.parts.BoxParts.{BoxParts}
-use Rattle.qgm_terms.specs.Conjuncts.{Conjuncts}
 use Rattle.qgm_terms.specs.Named.{names_in, names_in_cond}
 use Rattle.qgm_terms.specs.Terms.{Cond, Term}
 use Rattle.qgm_laws.specs.Placed.{Below, Placed, place}
