@@ -37,4 +37,5 @@ pub mod Column
 pub mod Filters
 pub mod PushSound
 pub mod PushRule
+pub mod ShapedKept
 pub mod Examples

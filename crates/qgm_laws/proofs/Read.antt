@@ -1,7 +1,7 @@
 -- What is named is read or is a node's, and is listed where it stands.
 use Rattle.std.proofs.Common.{ℕ, ◌==◌, ◌≡◌, ◌&&◌, ◌||◌, Bool, true, false, List, [], ◌∷◌, ◌++◌, refl, sym, ap, ap₂, ◌∙◌, inl, inr}
 use Rattle.std.specs.List.{list_any, flat_map}
-use Rattle.std.proofs.lemmas.Bool.{or_cases}
+use Rattle.std.proofs.lemmas.Bool.{and_parts, or_cases}
 use Rattle.qgm_core.specs.declared.node.Node.{Node}
 use Rattle.qgm_core.specs.Free.{named_by}
 use Rattle.qgm_core.specs.Lists.{holds}
@@ -176,6 +176,20 @@ module _ (q k : ℕ) where
     cond-columns (not c) = cond-columns c
     cond-columns (some r c) = cond-columns c
     cond-columns (every r c) = cond-columns c
+
+  -- the columns that a box names are found in its cells and conditions
+  columns-found : (n : Node) → list_any (is_at q k) (columns_of n) ≡ (list_any at_all n.parts.head || list_any at_cond n.parts.conds.items)
+  columns-found n =
+      any-both (is_at q k) (flat_map columns_in n.parts.head) (flat_map columns_in_cond n.parts.conds.items)
+      ∙ ap₂ (λ a b. a || b) (any-each (is_at q k) columns_in n.parts.head ∙ any-same (λ x. list_any (is_at q k) (columns_in x)) at_all n.parts.head term-columns)
+      (any-each (is_at q k) columns_in_cond n.parts.conds.items ∙ any-same (λ x. list_any (is_at q k) (columns_in_cond x)) at_cond n.parts.conds.items cond-columns)
+
+  -- the quantifier of a column that a box names it names
+  pub column-named : (n : Node) → list_any (is_at q k) (columns_of n) ≡ true → holds q (named_by n) ≡ true
+  column-named n h = named-any q n ∙ (elim (or_cases (list_any at_all n.parts.head) (list_any at_cond n.parts.conds.items) (sym (columns-found n) ∙ h)) [
+    | inl a ↦ or-left (list_any (says q) n.parts.head) (list_any (says_cond q) n.parts.conds.items) (heads-more (λ r j. (r == q) && (j == k)) (λ r j. r == q) (λ r. false) (λ r. r == q) (λ r. false) (λ r. r == q) (λ r. true) (λ r. true) (λ r j h. (and_parts (r == q) (j == k) h).0) (λ r h. absurd (let z : ⊥ = cc in z)) (λ r h. absurd (let z : ⊥ = cc in z)) (λ r h. h) n.parts.head a)
+    | inr a ↦ or-right (list_any (says q) n.parts.head) (list_any (says_cond q) n.parts.conds.items) (conds-more (λ r j. (r == q) && (j == k)) (λ r j. r == q) (λ r. false) (λ r. r == q) (λ r. false) (λ r. r == q) (λ r. true) (λ r. true) (λ r j h. (and_parts (r == q) (j == k) h).0) (λ r h. absurd (let z : ⊥ = cc in z)) (λ r h. absurd (let z : ⊥ = cc in z)) (λ r h. h) n.parts.conds.items a)
+  ])
 
   -- a column that is read is among those that the box names
   pub columns-listed : (n : Node) → reads_in q k n ≡ true → list_any (is_at q k) (columns_of n) ≡ true

@@ -1,6 +1,7 @@
 -- What a well-formed graph has beside soundness: types that agree, and shapes.
 use Rattle.std.specs.Prelude.{ℕ, ◌≡◌, ◌↔◌, true, false, List, None}
 use Rattle.qgm_core.specs.Boxes.{HasBox, QueryGraph, numbers}
+use Rattle.qgm_core.specs.Edits.{compact}
 use Rattle.qgm_core.specs.Kinds.{is_F_or_S, is_permit}
 use Rattle.qgm_core.specs.Lists.{EachOnce, In}
 use Rattle.qgm_core.specs.declared.node.Node.{Node}
@@ -33,3 +34,7 @@ abbrev pub PlacedIsChecked : Type 0
 PlacedIsChecked =
     (g : QueryGraph) → EachOnce (numbers g.boxes)
     → Placed g.boxes g.root ↔ (HasBox g.root g × ((n : Node) → In n g.boxes → IsKept I1 g n) × ((n : Node) → In n g.boxes → IsKept I2 g n) × ((n : Node) → In n g.boxes → IsKept I3 g n))
+
+-- shapes stay where the boxes that the root doesn't reach go
+abbrev pub CompactShaped : Type 0
+CompactShaped = (g : QueryGraph) → Sound g.boxes g.root → Shaped g.boxes g.root → Shaped (compact g).boxes g.root
