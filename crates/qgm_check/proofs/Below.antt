@@ -38,7 +38,7 @@ by-mark b marks n i = elim (holds n.id marks) as (λ t. holds n.id marks ≡ t �
 ] refl i
 
 -- where a mark comes from
-come : (b : ℕ) (marks : List ℕ) (ns : List Node) → In b (reached marks ns) → In b marks ⊎ ((n : Node) × (In n ns × ((r : OwnedQuant) × (In r n.quants × (r.over ≡ b)))))
+pub come : (b : ℕ) (marks : List ℕ) (ns : List Node) → In b (reached marks ns) → In b marks ⊎ ((n : Node) × (In n ns × ((r : OwnedQuant) × (In r n.quants × (r.over ≡ b)))))
 come b marks [] i = inl i
 come b marks (n ∷ ns) i = elim (come b (marked marks n) ns i) [
   | inl a ↦ elim (by-mark b marks n a) [ inl c ↦ inl c | inr c ↦ inr (n, (inl refl, c.1)) ]

@@ -47,11 +47,11 @@ is-once x (y ∷ ys) h = elim (y == x) as (λ t. cond t 1 0 + times x ys ≡ 1 �
   | false ↦ λ h. is-once x ys (omega arith)
 ] h
 
-empty-none : (xs : List ℕ) → is_empty xs ≡ true → (q : ℕ) → holds q xs ≡ true → ⊥
+pub empty-none : (xs : List ℕ) → is_empty xs ≡ true → (q : ℕ) → holds q xs ≡ true → ⊥
 empty-none [] e q h = let z : ⊥ = cc in z
 empty-none (x ∷ xs) e q h = let z : ⊥ = cc in z
 
-none-empty : (xs : List ℕ) → ((q : ℕ) → holds q xs ≡ true → ⊥) → is_empty xs ≡ true
+pub none-empty : (xs : List ℕ) → ((q : ℕ) → holds q xs ≡ true → ⊥) → is_empty xs ≡ true
 none-empty [] h = refl
 none-empty (x ∷ xs) h = absurd (h x (or-left (x == x) (holds x xs) (eq-itself x)))
 

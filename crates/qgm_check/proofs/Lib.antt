@@ -5,3 +5,6 @@ pub mod Below
 pub mod Seen
 pub mod Kept
 pub mod Faults
+pub mod Tables
+pub mod ClosedLaws
+pub mod Rounds

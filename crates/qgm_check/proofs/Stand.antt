@@ -16,6 +16,13 @@ pub or-right : (a b : Bool) → b ≡ true → (a || b) ≡ true
 or-right true b h = refl
 or-right false b h = h
 
+pub or_true : (a b : Bool) → b ≡ true → (a || b) ≡ true
+or_true a b h = or-right a b h
+
+pub or_none : (a b : Bool) → b ≡ false → (a || b) ≡ a
+or_none true b h = refl
+or_none false b h = h
+
 pub or-both : (a b : Bool) → a ≡ false → b ≡ false → (a || b) ≡ false
 or-both true b h k = absurd (let z : ⊥ = cc in z)
 or-both false b h k = k
@@ -129,7 +136,7 @@ filter-in p x (y ∷ xs) i k = elim (p y) as (λ t. p y ≡ t → In x (cond t (
 
 -- ---- numbers put among ascending ones
 
-in-once : (x q : ℕ) (rs : List ℕ) → In x (put_once q rs) → (q ≡ x) ⊎ In x rs
+pub in-once : (x q : ℕ) (rs : List ℕ) → In x (put_once q rs) → (q ≡ x) ⊎ In x rs
 in-once x q [] i = i
 in-once x q (r ∷ rs) i = elim (nat_lt q r) as (λ t. In x (cond t (q ∷ (r ∷ rs)) (cond (r == q) (r ∷ rs) (r ∷ put_once q rs))) → (q ≡ x) ⊎ In x (r ∷ rs)) [
   | true ↦ λ i. i

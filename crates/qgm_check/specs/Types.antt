@@ -1,5 +1,6 @@
 -- The types of columns, and where types disagree.
-use Rattle.std.specs.Prelude.{ℕ, ◌==◌, ◌-◌, ◌&&◌, zero, suc, if◌then◌else◌, Bool, true, false, List, [], ◌∷◌, map, length, Option, Some, None, slice_get}
+use Rattle.std.specs.Prelude.{ℕ, ◌≡◌, ◌==◌, ◌-◌, nat_eq, ◌&&◌, zero, suc, if◌then◌else◌, Bool, true, false, List, [], ◌∷◌, map, length, Option, Some, None, slice_get}
+use Rattle.std.specs.HashMap.{HashMap, get}
 use Rattle.std.specs.List.{list_all}
 use Rattle.sql_value.specs.declared.order_key.SqlType.{SqlType}
 use Rattle.sql_value.specs.declared.order_key.SqlType.TheVariants.{Integer, Varchar}
@@ -13,6 +14,8 @@ use Rattle.qgm_terms.specs.Terms.{Term, int, text, null_int, null_text, col, sca
 use Rattle.qgm_terms.specs.declared.tree.Op.{Op}
 use Rattle.qgm_terms.specs.declared.tree.Op.TheVariants.{Add, Sub, Mul, Div, Cat}
 use Rattle.qgm_check.specs.Columns.{box_under}
+use Rattle.qgm_check.specs.Places.{ArePlaces}
+use Rattle.qgm_check.specs.declared.types.KnownTypes.{KnownTypes}
 use Rattle.qgm_check.specs.declared.types.Typed.{Typed}
 
 -- ---- types
@@ -20,6 +23,10 @@ use Rattle.qgm_check.specs.declared.types.Typed.{Typed}
 abbrev pub is_known : Option SqlType → Bool
 is_known None = false
 is_known (Some t) = true
+
+abbrev pub is_unknown : Option SqlType → Bool
+is_unknown None = true
+is_unknown (Some t) = false
 
 abbrev pub is_integer : Option SqlType → Bool
 is_integer None = false
@@ -152,8 +159,11 @@ types_by at (Group keys) head = map (term_type at) head
 types_by at (SetOp operator types) head = known types
 types_by at OuterJoin head = map (term_type at) head
 
+abbrev pub typed_by : Lookup → Node → Typed
+typed_by at n = record { id = n.id; types = types_by at n.parts.kind n.parts.head }
+
 abbrev pub typed : List Node → List Typed → Node → Typed
-typed bs t n = record { id = n.id; types = types_by (column_type bs t) n.parts.kind n.parts.head }
+typed bs t n = typed_by (column_type bs t) n
 
 -- the types of the columns of all boxes, looked up through so many heads
 abbrev pub types_after : ℕ → List Node → List Typed
@@ -182,10 +192,52 @@ arms_agree table (Group keys) rs = true
 arms_agree table (SetOp operator types) rs = list_all (arm_agrees table types) rs
 arms_agree table OuterJoin rs = true
 
--- from what is known of the boxes: each expression has a type, each condition compares what can be compared, and the arms of a set operation have its types
+-- each expression has a type, each condition compares what can be compared, and the arms of a set operation have its types
+abbrev pub types_agree_at : Lookup → List Typed → Node → Bool
+types_agree_at at t n =
+    list_all (λ x. is_known (term_type at x)) n.parts.head && (list_all (cond_fits at) n.parts.conds.items && arms_agree t n.parts.kind n.quants)
+
+-- the same from what is known of the boxes
 abbrev pub types_agree_by : List Node → List Typed → Node → Bool
-types_agree_by bs t n =
-    list_all (λ x. is_known (term_type (column_type bs t) x)) n.parts.head && (list_all (cond_fits (column_type bs t)) n.parts.conds.items && arms_agree t n.parts.kind n.quants)
+types_agree_by bs t n = types_agree_at (column_type bs t) t n
 
 abbrev pub types_agree : List Node → Node → Bool
 types_agree bs n = types_agree_by bs (types_of bs) n
+
+-- ---- the same, by the ranks of boxes
+
+-- the row of a table at the place of a quantifier
+abbrev pub row_at : List Typed → Option ℕ → Option Typed
+row_at table None = None
+row_at table (Some i) = slice_get table i
+
+module _ {S : Type 0} where
+  -- the type of a column, where the places of the boxes are known
+  abbrev pub type_at : List Typed → HashMap ℕ ℕ S → Lookup
+  type_at table places q k = type_in k (row_at table (get nat_eq places q))
+
+-- the types of all columns are known, and the places of the boxes
+abbrev pub Knows : List Node → KnownTypes → Type 0
+Knows boxes known = (known.table.items ≡ types_of boxes) × ArePlaces boxes known.places
+
+-- ---- tables that are the same
+
+abbrev pub same_type : Option SqlType → Option SqlType → Bool
+same_type None b = is_unknown b
+same_type (Some Integer) b = is_integer b
+same_type (Some Varchar) b = is_varchar b
+
+abbrev pub same_columns : List (Option SqlType) → List (Option SqlType) → Bool
+same_columns [] [] = true
+same_columns [] (b ∷ bs) = false
+same_columns (a ∷ rest) [] = false
+same_columns (a ∷ rest) (b ∷ bs) = same_type a b && same_columns rest bs
+
+abbrev pub same_typed : Typed → Typed → Bool
+same_typed a b = (a.id == b.id) && same_columns a.types b.types
+
+abbrev pub same_tables : List Typed → List Typed → Bool
+same_tables [] [] = true
+same_tables [] (b ∷ bs) = false
+same_tables (a ∷ rest) [] = false
+same_tables (a ∷ rest) (b ∷ bs) = same_typed a b && same_tables rest bs

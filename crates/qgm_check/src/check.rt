@@ -2,22 +2,21 @@
 ghost use Rattle.std.specs.Prelude.{◌≡◌, ◌++◌, [], Some, None, false, map, OnOk, IfOk, IsErrOf};
 ghost use Rattle.std.specs.List.{list_any, list_all};
 ghost use Rattle.qgm_core.specs.Boxes.{all_over, ids_in, ids_of, overs_in, owns};
-ghost use Rattle.qgm_core.specs.Free.{named_by, free_in};
+ghost use Rattle.qgm_core.specs.Free.{named_by};
+ghost use Rattle.qgm_check.specs.Types.{Knows};
 ghost use Rattle.qgm_check.specs.View.{in_view};
 ghost use Rattle.qgm_check.specs.Sentences.{IsFault, WellFormed};
 ghost use Rattle.qgm_check.specs.WellFormed as spec;
 ghost use Rattle.qgm_check.specs.declared.check.Fault.{Fault};
 ghost use Rattle.qgm_check.specs.declared.check.IllFormed.TheVariants.{Fails, Memory};
 
+use crate::closed::{is_closed, names_of};
 use crate::columns_fit::columns_fit;
 use crate::kinds::{is_f_or_s, is_permit};
 use crate::shapes::shape_fits;
-use crate::types::types_agree;
+use crate::types::{KnownTypes, known_of, types_agree};
 use crate::view::in_view;
-use qgm_core::{
-    BoxId, Graph, Node, OwnedQuant, QuantId, add_names_of_node, free_in, has_box, has_quant,
-    is_marked, mark_each,
-};
+use qgm_core::{BoxId, Graph, Node, OwnedQuant, QuantId, has_box, has_quant, is_marked, mark_each};
 use shared_types::OutOfMemory;
 use std::alloc::Global;
 use thiserror::Error;
@@ -84,15 +83,6 @@ fn all_known(nodes: &[Node], names: &[QuantId]) -> bool
     ensures { result ≡ list_all (λ q. list_any (owns q) nodes.now) names.now }
 {
     names.iter().all(|q| has_quant(nodes, *q))
-}
-
-// What a box names.
-fn names_of(alloc: Global, node: &Node) -> Result<Vec<QuantId>, OutOfMemory>
-    ensures { IfOk result (λ names. names.items ≡ named_by node.now) }
-{
-    let mut names = Vec::new(alloc);
-    add_names_of_node(node, &mut names)?;
-    Ok(names)
 }
 
 fn ids_known(alloc: Global, nodes: &[Node], node: &Node) -> Result<bool, OutOfMemory>
@@ -188,14 +178,6 @@ fn all_in_view(
     Ok(true)
 }
 
-// Whether nothing is free in the box.
-fn is_closed(alloc: Global, nodes: &[Node], b: BoxId) -> Result<bool, OutOfMemory>
-    ensures { IfOk result (λ c. c ≡ spec.is_empty (free_in nodes.now b)) }
-{
-    let free = free_in(alloc, nodes, b)?;
-    Ok(free.is_empty())
-}
-
 fn names_in_view(
     alloc: Global,
     root: BoxId,
@@ -206,19 +188,25 @@ fn names_in_view(
 {
     let names = names_of(alloc, node)?;
     let seen = all_in_view(alloc, nodes, node, &names)?;
+    if node.id != root {
+        return Ok(seen);
+    }
     let closed = is_closed(alloc, nodes, node.id)?;
-    Ok(seen && (node.id != root || closed))
+    Ok(seen && closed)
 }
 
+#[tactic(auto, using(crate::proofs::Stand::or_true, crate::proofs::Stand::or_none))]
 fn opened_once(alloc: Global, root: BoxId, nodes: &[Node], node: &Node) -> Result<bool, OutOfMemory>
     ensures { IfOk result (λ k. k ≡ spec.opened_once root nodes.now node.now) }
 {
     let overs = overs_in(alloc, nodes)?;
-    let closed = is_closed(alloc, nodes, node.id)?;
     if node.id == root {
         return Ok(!is_marked(&overs, node.id));
     }
-    Ok(closed || once(node.id, &overs))
+    if once(node.id, &overs) {
+        return Ok(true);
+    }
+    is_closed(alloc, nodes, node.id)
 }
 
 // Whether a box keeps a clause; `below` are the boxes of lower rank.
@@ -227,9 +215,11 @@ fn keeps(
     clause: Clause,
     root: BoxId,
     nodes: &[Node],
+    known: &KnownTypes,
     below: &[Node],
     node: &Node,
 ) -> Result<bool, OutOfMemory>
+    requires { Knows nodes.now known.now }
     ensures { IfOk result (λ k. k ≡ spec.keeps clause root nodes.now below.now node.now) }
 {
     match clause {
@@ -237,7 +227,7 @@ fn keeps(
         Clause::I2 => owned_once(alloc, nodes, node),
         Clause::I3 => Ok(all_over(below, node.quants.as_slice())),
         Clause::I4 => columns_fit(alloc, nodes, node),
-        Clause::I5 => types_agree(alloc, nodes, node),
+        Clause::I5 => Ok(types_agree(known, node)),
         Clause::I6 => names_in_view(alloc, root, nodes, node),
         Clause::I7 => opened_once(alloc, root, nodes, node),
         Clause::I8 => Ok(permit_unseen(root, nodes, node)),
@@ -284,7 +274,9 @@ fn least_fault(
     clause: Clause,
     root: BoxId,
     nodes: &[Node],
+    known: &KnownTypes,
 ) -> Result<Option<BoxId>, OutOfMemory>
+    requires { Knows nodes.now known.now }
     ensures { IfOk result (λ b. b ≡ spec.least (spec.faults clause root nodes.now nodes.now)) }
 {
     let mut best = at_no_box(clause, root, nodes);
@@ -292,7 +284,7 @@ fn least_fault(
     while i > 0 {
         let below = &nodes[i..];
         i -= 1;
-        if !keeps(alloc, clause, root, nodes, below, &nodes[i])? {
+        if !keeps(alloc, clause, root, nodes, known, below, &nodes[i])? {
             best = Some(least_with(nodes[i].id, best));
         }
     }
@@ -305,11 +297,13 @@ fn first_fault(
     clauses: &[Clause],
     root: BoxId,
     nodes: &[Node],
+    known: &KnownTypes,
 ) -> Result<Option<Fault>, OutOfMemory>
+    requires { Knows nodes.now known.now }
     ensures { IfOk result (λ f. f ≡ spec.first_fault clauses.now root nodes.now) }
 {
     for clause in clauses {
-        if let Some(at) = least_fault(alloc, *clause, root, nodes)? {
+        if let Some(at) = least_fault(alloc, *clause, root, nodes, known)? {
             return Ok(Some(Fault {
                 clause: *clause,
                 at,
@@ -334,7 +328,9 @@ fn find_fault(alloc: Global, graph: &Graph) -> Result<Option<Fault>, OutOfMemory
         Clause::I8,
         Clause::I9,
     ];
-    first_fault(alloc, &clauses, graph.root(), graph.nodes())
+    let nodes = graph.nodes();
+    let known = known_of(alloc, nodes)?;
+    first_fault(alloc, &clauses, graph.root(), nodes, &known)
 }
 
 /// Whether a graph is well-formed: the least clause that fails, with the least box at which it

@@ -1,10 +1,12 @@
 // What the passes over boxes compute, as theorems.
-ghost use Rattle.qgm_check.specs.Laws.{FindsFault, FindsFree, FindsNone, FindsView, FindsViewers, MarksReached};
+ghost use Rattle.qgm_check.specs.Laws.{AddedGoes, FindsAlone, FindsFault, FindsFree, FindsNone, FindsView, FindsViewers, FreeAscends, MarksReached};
 
-/// Of boxes in order: the pass from a box marks what the box reaches, what is found free is free, who is found to see a quantifier sees it, and what is found in view is in view. It does nothing.
+/// Of boxes in order: the pass from a box marks what the box reaches, what is found free is free and ascends, who is found to see a quantifier sees it, and what is found in view is in view. It does nothing.
 pub fn view_laws()
     ensures reaches { MarksReached }
     ensures free { FindsFree }
+    ensures ascends { FreeAscends }
+    ensures alone { FindsAlone }
     ensures sees { FindsViewers }
     ensures in_view { FindsView }
 {}
@@ -13,4 +15,9 @@ pub fn view_laws()
 pub fn fault_laws()
     ensures none { FindsNone }
     ensures fault { FindsFault }
+{}
+
+/// A box that is added to a graph goes when the graph is compacted, if the root reached all boxes before: the graph is as it was. It does nothing.
+pub fn compact_laws()
+    ensures { AddedGoes }
 {}

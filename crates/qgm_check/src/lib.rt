@@ -2,12 +2,15 @@
 #![tactic(auto)]
 
 mod check;
+mod closed;
 mod columns_fit;
 mod kinds;
 mod laws;
+mod marks;
+mod places;
 mod shapes;
 mod types;
 mod view;
 
 pub use check::{Clause, Fault, IllFormed, check_graph};
-pub use laws::{fault_laws, view_laws};
+pub use laws::{compact_laws, fault_laws, view_laws};

@@ -9,12 +9,12 @@ ghost use Rattle.qgm_terms.specs.Wanted.{has_aggregate};
 ghost use Rattle.qgm_terms.specs.Shown.{links, term, terms};
 ghost use Rattle.qgm_check.specs.Shapes as spec;
 
+use crate::closed::is_free_alone;
 use crate::columns_fit::{box_at, width};
 use crate::kinds::{is_a, is_e, is_enforce, is_f, is_magic, is_plain, is_preserve, is_s};
 use crate::types::both;
 use qgm_core::{
-    BoxId, BoxKind, Column, Gx, Link, Node, OwnedQuant, QuantId, QuantNode, Role, free_in,
-    has_range,
+    BoxId, BoxKind, Column, Gx, Link, Node, OwnedQuant, QuantId, QuantNode, Role, has_range,
 };
 use qgm_terms::{
     Sought, add_columns_of_cells, add_names_of_cells, add_nodes_of_cells, add_nodes_of_conds,
@@ -280,16 +280,6 @@ fn heads_are(
     Ok(all_columns(list) && same_columns(&named, &wanted))
 }
 
-// Whether q alone stands here.
-fn only(q: QuantId, free: &[QuantId]) -> bool
-    ensures { result ≡ spec.only q free.now }
-{
-    match free {
-        [] => false,
-        [p, rest @ ..] => *p == q && rest.is_empty(),
-    }
-}
-
 // Whether two quantifiers and a head are those of a fed box.
 fn fed_by_two(
     alloc: Global,
@@ -300,15 +290,9 @@ fn fed_by_two(
 ) -> Result<bool, OutOfMemory>
     ensures { IfOk result (λ k. k ≡ spec.fed_by_two nodes.now (terms list.now) first second) }
 {
-    let free = free_in(alloc, nodes, second.over)?;
+    let fed = is_free_alone(alloc, nodes, second.over, first.id)?;
     let heads = heads_are(alloc, nodes, list, first, second)?;
-    Ok(
-        is_f(first.kind)
-            && is_f(second.kind)
-            && magic_found(nodes, first.over)
-            && only(first.id, &free)
-            && heads,
-    )
+    Ok(is_f(first.kind) && is_f(second.kind) && magic_found(nodes, first.over) && fed && heads)
 }
 
 fn fed_by(

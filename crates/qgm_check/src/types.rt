@@ -3,9 +3,10 @@ ghost use Rattle.std.specs.Prelude.{◌≡◌, ◌&&◌, map, option_map, IfOk};
 ghost use Rattle.std.specs.List.{list_all};
 ghost use Rattle.qgm_core.specs.Lists.{first};
 ghost use Rattle.qgm_terms.specs.Shown.{choices, cond, conds, links, term, terms};
+ghost use Rattle.qgm_check.specs.Places.{ArePlaces};
 ghost use Rattle.qgm_check.specs.Types as spec;
 
-use crate::columns_fit::box_under;
+use crate::places::{Places, places_of};
 use qgm_core::{BoxId, BoxKind, Node, OwnedQuant, QuantId};
 use qgm_terms::{Arm, Gc, Gx, Link, Op};
 use shared_types::OutOfMemory;
@@ -26,6 +27,15 @@ fn is_known(a: Option<SqlType>) -> bool
     match a {
         Some(_) => true,
         None => false,
+    }
+}
+
+fn is_unknown(a: Option<SqlType>) -> bool
+    ensures { result ≡ spec.is_unknown a }
+{
+    match a {
+        Some(_) => false,
+        None => true,
     }
 }
 
@@ -96,11 +106,11 @@ fn typed_at(table: &[Typed], b: BoxId) -> Option<&Typed>
 }
 
 // The type of a column.
-fn column_type(nodes: &[Node], table: &[Typed], q: QuantId, k: usize) -> Option<SqlType>
-    ensures { result ≡ spec.column_type nodes.now table.now q k }
+fn column_type(table: &[Typed], places: &Places, q: QuantId, k: usize) -> Option<SqlType>
+    ensures { result ≡ spec.type_at table.now places.now q k }
 {
-    let node = box_under(nodes, q)?;
-    let typed = typed_at(table, node.id)?;
+    let place = places.get(&q)?;
+    let typed = table.get(*place)?;
     type_in(typed, k)
 }
 
@@ -128,29 +138,29 @@ fn op_type(op: Op, left: Option<SqlType>, right: Option<SqlType>) -> Option<SqlT
 
 // The type of an expression, none where types disagree.
 #[cycle(types)]
-pub fn type_of(nodes: &[Node], table: &[Typed], x: &Gx) -> Option<SqlType>
-    ensures { result ≡ spec.term_type (spec.column_type nodes.now table.now) (term x.now) }
+pub fn type_of(table: &[Typed], places: &Places, x: &Gx) -> Option<SqlType>
+    ensures { result ≡ spec.term_type (spec.type_at table.now places.now) (term x.now) }
 {
     match x {
         Gx::Int(_) | Gx::NullInt | Gx::CountAll => Some(SqlType::Integer),
         Gx::Text(_) | Gx::NullText => Some(SqlType::Varchar),
-        Gx::Col(q, k) => column_type(nodes, table, *q, *k),
-        Gx::Scalar(q) => column_type(nodes, table, *q, 1),
+        Gx::Col(q, k) => column_type(table, places, *q, *k),
+        Gx::Scalar(q) => column_type(table, places, *q, 1),
         Gx::Chain(a, list) => {
-            let left = type_of(nodes, table, a);
-            chain_type(nodes, table, left, list)
+            let left = type_of(table, places, a);
+            chain_type(table, places, left, list)
         }
         Gx::Case(list, a) => {
-            let last = type_of(nodes, table, a);
-            let fits = arms_fit(nodes, table, last, list);
+            let last = type_of(table, places, a);
+            let fits = arms_fit(table, places, last, list);
             type_if(fits, last)
         }
-        Gx::Count(a) | Gx::CountDistinct(a) => integer_if(is_known(type_of(nodes, table, a))),
+        Gx::Count(a) | Gx::CountDistinct(a) => integer_if(is_known(type_of(table, places, a))),
         Gx::Neg(a) | Gx::Sum(a) | Gx::Avg(a) | Gx::SumDistinct(a) | Gx::AvgDistinct(a) => {
-            integer_if(is_integer(type_of(nodes, table, a)))
+            integer_if(is_integer(type_of(table, places, a)))
         }
         Gx::Single(a) | Gx::Min(a) | Gx::Max(a) | Gx::MinDistinct(a) | Gx::MaxDistinct(a) => {
-            type_of(nodes, table, a)
+            type_of(table, places, a)
         }
     }
 }
@@ -158,16 +168,16 @@ pub fn type_of(nodes: &[Node], table: &[Typed], x: &Gx) -> Option<SqlType>
 // The type of a chain with a first operand of this type.
 #[cycle(types)]
 fn chain_type(
-    nodes: &[Node],
     table: &[Typed],
+    places: &Places,
     first: Option<SqlType>,
     list: &[Link],
 ) -> Option<SqlType>
-    ensures { result ≡ spec.chain_type (spec.column_type nodes.now table.now) first (links list.now) }
+    ensures { result ≡ spec.chain_type (spec.type_at table.now places.now) first (links list.now) }
 {
     let mut total = first;
     for link in list {
-        let right = type_of(nodes, table, &link.right);
+        let right = type_of(table, places, &link.right);
         total = op_type(link.op, total, right);
     }
     total
@@ -175,12 +185,12 @@ fn chain_type(
 
 // Whether each result has this type, and each condition compares what can be compared.
 #[cycle(types)]
-fn arms_fit(nodes: &[Node], table: &[Typed], last: Option<SqlType>, list: &[Arm]) -> bool
-    ensures { result ≡ spec.choices_fit (spec.column_type nodes.now table.now) last (choices list.now) }
+fn arms_fit(table: &[Typed], places: &Places, last: Option<SqlType>, list: &[Arm]) -> bool
+    ensures { result ≡ spec.choices_fit (spec.type_at table.now places.now) last (choices list.now) }
 {
     for arm in list {
-        let result = type_of(nodes, table, &arm.then);
-        if !both(cond_fits(nodes, table, &arm.when), agree(result, last)) {
+        let result = type_of(table, places, &arm.then);
+        if !both(cond_fits(table, places, &arm.when), agree(result, last)) {
             return false;
         }
     }
@@ -189,8 +199,8 @@ fn arms_fit(nodes: &[Node], table: &[Typed], last: Option<SqlType>, list: &[Arm]
 
 // Whether a condition compares what can be compared.
 #[cycle(types)]
-pub fn cond_fits(nodes: &[Node], table: &[Typed], c: &Gc) -> bool
-    ensures { result ≡ spec.cond_fits (spec.column_type nodes.now table.now) (cond c.now) }
+pub fn cond_fits(table: &[Typed], places: &Places, c: &Gc) -> bool
+    ensures { result ≡ spec.cond_fits (spec.type_at table.now places.now) (cond c.now) }
 {
     match c {
         Gc::True => true,
@@ -201,39 +211,39 @@ pub fn cond_fits(nodes: &[Node], table: &[Typed], c: &Gc) -> bool
         | Gc::Gt(a, b)
         | Gc::Ge(a, b)
         | Gc::Same(a, b) => {
-            let left = type_of(nodes, table, a);
-            let right = type_of(nodes, table, b);
+            let left = type_of(table, places, a);
+            let right = type_of(table, places, b);
             agree(left, right)
         }
         Gc::Like(a, b) => {
-            let left = type_of(nodes, table, a);
-            let right = type_of(nodes, table, b);
+            let left = type_of(table, places, a);
+            let right = type_of(table, places, b);
             is_varchar(left) && is_varchar(right)
         }
-        Gc::IsNull(a) => is_known(type_of(nodes, table, a)),
+        Gc::IsNull(a) => is_known(type_of(table, places, a)),
         Gc::All(a, list) => {
-            let first = cond_fits(nodes, table, a);
-            let others = conds_fit(nodes, table, list);
+            let first = cond_fits(table, places, a);
+            let others = conds_fit(table, places, list);
             both(first, others)
         }
         Gc::Any(a, list) => {
-            let first = cond_fits(nodes, table, a);
-            let others = conds_fit(nodes, table, list);
+            let first = cond_fits(table, places, a);
+            let others = conds_fit(table, places, list);
             both(first, others)
         }
-        Gc::Not(a) => cond_fits(nodes, table, a),
-        Gc::Some(_, a) => cond_fits(nodes, table, a),
-        Gc::Every(_, a) => cond_fits(nodes, table, a),
+        Gc::Not(a) => cond_fits(table, places, a),
+        Gc::Some(_, a) => cond_fits(table, places, a),
+        Gc::Every(_, a) => cond_fits(table, places, a),
     }
 }
 
 // Whether each condition compares what can be compared.
 #[cycle(types)]
-fn conds_fit(nodes: &[Node], table: &[Typed], list: &[Gc]) -> bool
-    ensures { result ≡ list_all (spec.cond_fits (spec.column_type nodes.now table.now)) (conds list.now) }
+fn conds_fit(table: &[Typed], places: &Places, list: &[Gc]) -> bool
+    ensures { result ≡ list_all (spec.cond_fits (spec.type_at table.now places.now)) (conds list.now) }
 {
     for c in list {
-        if !cond_fits(nodes, table, c) {
+        if !cond_fits(table, places, c) {
             return false;
         }
     }
@@ -266,15 +276,15 @@ fn known(alloc: Global, types: &[SqlType]) -> Result<Items<Option<SqlType>>, Out
 // The types of the columns of a head.
 fn head_types(
     alloc: Global,
-    nodes: &[Node],
     table: &[Typed],
+    places: &Places,
     list: &[Gx],
 ) -> Result<Items<Option<SqlType>>, OutOfMemory>
-    ensures { IfOk result (λ all. all ≡ map (spec.term_type (spec.column_type nodes.now table.now)) (terms list.now)) }
+    ensures { IfOk result (λ all. all ≡ map (spec.term_type (spec.type_at table.now places.now)) (terms list.now)) }
 {
     let mut all = Items::new(alloc);
     for x in list {
-        all.push(type_of(nodes, table, x))?;
+        all.push(type_of(table, places, x))?;
     }
     Ok(all)
 }
@@ -282,50 +292,123 @@ fn head_types(
 // The types of a box's columns.
 fn types_in(
     alloc: Global,
-    nodes: &[Node],
     table: &[Typed],
+    places: &Places,
     node: &Node,
 ) -> Result<Typed, OutOfMemory>
-    ensures { IfOk result (λ t. t ≡ spec.typed nodes.now table.now node.now) }
+    ensures { IfOk result (λ t. t ≡ spec.typed_by (spec.type_at table.now places.now) node.now) }
 {
     let types = match &node.parts.kind {
         BoxKind::Base(base) => known(alloc, base.types.as_slice())?,
         BoxKind::SetOp(_, types) => known(alloc, types.as_slice())?,
         BoxKind::Select | BoxKind::Group(_) | BoxKind::OuterJoin => {
-            head_types(alloc, nodes, table, node.parts.head.as_slice())?
+            head_types(alloc, table, places, node.parts.head.as_slice())?
         }
     };
     Ok(Typed { id: node.id, types })
 }
 
 // The types of the columns of all boxes, looked up through one head more.
-fn typed_all(alloc: Global, nodes: &[Node], table: &[Typed]) -> Result<Vec<Typed>, OutOfMemory>
-    ensures { IfOk result (λ ts. ts.items ≡ map (spec.typed nodes.now table.now) nodes.now) }
+fn typed_all(
+    alloc: Global,
+    nodes: &[Node],
+    table: &[Typed],
+    places: &Places,
+) -> Result<Vec<Typed>, OutOfMemory>
+    ensures { IfOk result (λ ts. ts.items ≡ map (spec.typed_by (spec.type_at table.now places.now)) nodes.now) }
 {
     let mut all = Vec::new(alloc);
     for node in nodes {
-        all.push(types_in(alloc, nodes, table, node)?)?;
+        all.push(types_in(alloc, table, places, node)?)?;
     }
     Ok(all)
 }
 
-// The types of the columns of all boxes, looked up as often as there are boxes.
-fn types_of(alloc: Global, nodes: &[Node]) -> Result<Vec<Typed>, OutOfMemory>
+// Whether these are the same.
+fn same_type(a: Option<SqlType>, b: Option<SqlType>) -> bool
+    ensures { result ≡ spec.same_type a b }
+{
+    match a {
+        Some(SqlType::Integer) => is_integer(b),
+        Some(SqlType::Varchar) => is_varchar(b),
+        None => is_unknown(b),
+    }
+}
+
+// Whether these are the same, place by place.
+fn same_columns(a: &[Option<SqlType>], b: &[Option<SqlType>]) -> bool
+    ensures { result ≡ spec.same_columns a.now b.now }
+{
+    if a.len() != b.len() {
+        return false;
+    }
+    for i in 0..a.len() {
+        if !same_type(a[i], b[i]) {
+            return false;
+        }
+    }
+    true
+}
+
+fn same_typed(a: &Typed, b: &Typed) -> bool
+    ensures { result ≡ spec.same_typed a.now b.now }
+{
+    a.id == b.id && same_columns(a.types.as_slice(), b.types.as_slice())
+}
+
+// Whether these are the same, box by box.
+fn same_tables(a: &[Typed], b: &[Typed]) -> bool
+    ensures { result ≡ spec.same_tables a.now b.now }
+{
+    if a.len() != b.len() {
+        return false;
+    }
+    for i in 0..a.len() {
+        if !same_typed(&a[i], &b[i]) {
+            return false;
+        }
+    }
+    true
+}
+
+// The types of the columns of all boxes, looked up as often as there are boxes, or until they stay.
+fn types_of(alloc: Global, nodes: &[Node], places: &Places) -> Result<Vec<Typed>, OutOfMemory>
+    requires { ArePlaces nodes.now places.now }
     ensures { IfOk result (λ ts. ts.items ≡ spec.types_of nodes.now) }
 {
     let mut table = Vec::new(alloc);
     for _round in 0..nodes.len() {
-        table = typed_all(alloc, nodes, &table)?;
+        let next = typed_all(alloc, nodes, &table, places)?;
+        if same_tables(&table, &next) {
+            return Ok(next);
+        }
+        table = next;
     }
     Ok(table)
 }
 
+/// What is known of types: those of all columns, and where the boxes stand.
+#[derive(Drop)]
+pub struct KnownTypes {
+    table: Vec<Typed>,
+    places: Places,
+}
+
+/// What is known of the types of a graph.
+pub fn known_of(alloc: Global, nodes: &[Node]) -> Result<KnownTypes, OutOfMemory>
+    ensures { IfOk result (λ k. spec.Knows nodes.now k) }
+{
+    let places = places_of(alloc, nodes)?;
+    let table = types_of(alloc, nodes, &places)?;
+    Ok(KnownTypes { table, places })
+}
+
 // Whether each expression of a head has a type.
-fn head_fits(nodes: &[Node], table: &[Typed], list: &[Gx]) -> bool
-    ensures { result ≡ list_all (λ x. spec.is_known (spec.term_type (spec.column_type nodes.now table.now) x)) (terms list.now) }
+fn head_fits(table: &[Typed], places: &Places, list: &[Gx]) -> bool
+    ensures { result ≡ list_all (λ x. spec.is_known (spec.term_type (spec.type_at table.now places.now) x)) (terms list.now) }
 {
     for x in list {
-        if !is_known(type_of(nodes, table, x)) {
+        if !is_known(type_of(table, places, x)) {
             return false;
         }
     }
@@ -360,11 +443,11 @@ fn arms_agree(table: &[Typed], kind: &BoxKind, ranges: &[OwnedQuant]) -> bool
 }
 
 // Whether no types disagree in a box.
-pub fn types_agree(alloc: Global, nodes: &[Node], node: &Node) -> Result<bool, OutOfMemory>
-    ensures { IfOk result (λ k. k ≡ spec.types_agree nodes.now node.now) }
+pub fn types_agree(known: &KnownTypes, node: &Node) -> bool
+    ensures { result ≡ spec.types_agree_at (spec.type_at known.now.table.items known.now.places) known.now.table.items node.now }
 {
-    let table = types_of(alloc, nodes)?;
-    let arms = arms_agree(&table, &node.parts.kind, node.quants.as_slice());
-    let conds = conds_fit(nodes, &table, node.parts.conds.as_slice());
-    Ok(head_fits(nodes, &table, node.parts.head.as_slice()) && both(conds, arms))
+    let table = &known.table;
+    let arms = arms_agree(table, &node.parts.kind, node.quants.as_slice());
+    let conds = conds_fit(table, &known.places, node.parts.conds.as_slice());
+    head_fits(table, &known.places, node.parts.head.as_slice()) && both(conds, arms)
 }

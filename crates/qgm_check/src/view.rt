@@ -3,7 +3,8 @@ ghost use Rattle.std.specs.Prelude.{◌≡◌, ◌++◌, [], false, OnOk, IfOk};
 ghost use Rattle.qgm_check.specs.View as spec;
 
 use crate::kinds::{is_f, is_select};
-use qgm_core::{BoxId, Node, OwnedQuant, QuantId, has_range, is_marked, mark_each};
+use crate::marks::{Marks, mark_overs};
+use qgm_core::{Node, OwnedQuant, QuantId, has_range};
 use shared_types::OutOfMemory;
 use std::alloc::Global;
 
@@ -19,9 +20,9 @@ fn add_scoped(
     q: QuantId,
     own: bool,
     ranges: &[OwnedQuant],
-    marks: &mut Vec<BoxId>,
+    marks: &mut Marks,
 ) -> Result<(), OutOfMemory>
-    ensures { OnOk result (marks.new.items ≡ marks.old.items ++ spec.scoped q own false ranges.now) }
+    ensures { OnOk result (marks.new ≡ marks.old ++ spec.scoped q own false ranges.now) }
 {
     let mut met = false;
     for range in ranges {
@@ -35,11 +36,11 @@ fn add_scoped(
 }
 
 // Appends the boxes that see q by this box.
-fn add_shown(q: QuantId, node: &Node, marks: &mut Vec<BoxId>) -> Result<(), OutOfMemory>
-    ensures { OnOk result (marks.new.items ≡ marks.old.items ++ spec.shown_by q marks.old.items node.now) }
+fn add_shown(q: QuantId, node: &Node, marks: &mut Marks) -> Result<(), OutOfMemory>
+    ensures { OnOk result (marks.new ≡ marks.old ++ spec.shown_by q marks.old node.now) }
 {
-    if is_marked(marks, node.id) {
-        return mark_each(node.quants.as_slice(), marks);
+    if marks.has(node.id) {
+        return mark_overs(node.quants.as_slice(), marks);
     }
     if is_select(&node.parts.kind) {
         let own = is_row(q, node.quants.as_slice());
@@ -49,10 +50,10 @@ fn add_shown(q: QuantId, node: &Node, marks: &mut Vec<BoxId>) -> Result<(), OutO
 }
 
 // The boxes that see q.
-fn viewers(alloc: Global, q: QuantId, nodes: &[Node]) -> Result<Vec<BoxId>, OutOfMemory>
-    ensures { IfOk result (λ marks. marks.items ≡ spec.viewers q [] nodes.now) }
+fn viewers(alloc: Global, q: QuantId, nodes: &[Node]) -> Result<Marks, OutOfMemory>
+    ensures { IfOk result (λ marks. marks ≡ spec.viewers q [] nodes.now) }
 {
-    let mut marks = Vec::new(alloc);
+    let mut marks = Marks::new(alloc);
     for node in nodes {
         add_shown(q, node, &mut marks)?;
     }
@@ -63,6 +64,9 @@ fn viewers(alloc: Global, q: QuantId, nodes: &[Node]) -> Result<Vec<BoxId>, OutO
 pub fn in_view(alloc: Global, nodes: &[Node], node: &Node, q: QuantId) -> Result<bool, OutOfMemory>
     ensures { IfOk result (λ v. v ≡ spec.in_view nodes.now node.now q) }
 {
+    if has_range(node.quants.as_slice(), q) {
+        return Ok(true);
+    }
     let marks = viewers(alloc, q, nodes)?;
-    Ok(has_range(node.quants.as_slice(), q) || is_marked(&marks, node.id))
+    Ok(marks.has(node.id))
 }

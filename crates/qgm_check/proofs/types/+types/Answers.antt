@@ -2,22 +2,22 @@ use Rattle.std.proofs.Common.{arith}
 use Rattle.std.proofs.lemmas.Grind.{common_steps}
 use Rattle.qgm_terms.proofs.Lists as lists
 use Rattle.qgm_terms.specs.Shown as shown
-use Rattle.qgm_check.specs.Types.{column_type}
+use Rattle.qgm_check.specs.Types.{type_at}
 use Rattle.qgm_check.proofs.TypeLaws as laws
 use Rattle.qgm_check.proofs.types.+types.Goals as goal
 
 pub type_of-returns-in-Chain : goal.type_of-returns-in-Chain
 type_of-returns-in-Chain t c =
-    rw (c.in-Chain.is, lists.links_hidden c.in-Chain.list, laws.type_linked (column_type c.args.nodes.now c.args.table.now) (shown.term c.in-Chain.a.value) (shown.links c.in-Chain.list.items)) (grind (arith, common_steps))
+    rw (c.in-Chain.is, lists.links_hidden c.in-Chain.list, laws.type_linked (type_at c.args.table.now c.args.places.now) (shown.term c.in-Chain.a.value) (shown.links c.in-Chain.list.items)) (grind (arith, common_steps))
 
 pub type_of-returns-in-Case : goal.type_of-returns-in-Case
 type_of-returns-in-Case t c =
-    rw (c.in-Case.is, lists.choices_hidden c.in-Case.list, laws.type_case (column_type c.args.nodes.now c.args.table.now) (shown.choices c.in-Case.list.items) (shown.term c.in-Case.a.value)) (grind (arith, common_steps))
+    rw (c.in-Case.is, lists.choices_hidden c.in-Case.list, laws.type_case (type_at c.args.table.now c.args.places.now) (shown.choices c.in-Case.list.items) (shown.term c.in-Case.a.value)) (grind (arith, common_steps))
 
 pub cond_fits-returns-in-All : goal.cond_fits-returns-in-All
 cond_fits-returns-in-All t c =
-    rw (c.in-All.is, lists.conds_hidden c.in-All.list, laws.fits_anded (column_type c.args.nodes.now c.args.table.now) (shown.cond c.in-All.a.value) (shown.conds c.in-All.list.items)) (grind (arith, common_steps))
+    rw (c.in-All.is, lists.conds_hidden c.in-All.list, laws.fits_anded (type_at c.args.table.now c.args.places.now) (shown.cond c.in-All.a.value) (shown.conds c.in-All.list.items)) (grind (arith, common_steps))
 
 pub cond_fits-returns-in-Any : goal.cond_fits-returns-in-Any
 cond_fits-returns-in-Any t c =
-    rw (c.in-Any.is, lists.conds_hidden c.in-Any.list, laws.fits_ored (column_type c.args.nodes.now c.args.table.now) (shown.cond c.in-Any.a.value) (shown.conds c.in-Any.list.items)) (grind (arith, common_steps))
+    rw (c.in-Any.is, lists.conds_hidden c.in-Any.list, laws.fits_ored (type_at c.args.table.now c.args.places.now) (shown.cond c.in-Any.a.value) (shown.conds c.in-Any.list.items)) (grind (arith, common_steps))

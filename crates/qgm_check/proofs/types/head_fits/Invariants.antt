@@ -7,5 +7,5 @@ use Rattle.qgm_check.proofs.types.head_fits.Given as goal
 -- what is left decides
 abbrev pub invariant-loop-x : goal.invariant-loop-x
 invariant-loop-x l =
-    list_all (λ x. spec.is_known (spec.term_type (spec.column_type l.nodes l.table) x)) (terms (drop l.x-index l.list))
-    ≡ list_all (λ x. spec.is_known (spec.term_type (spec.column_type l.nodes l.table) x)) (terms l.list)
+    list_all (λ x. spec.is_known (spec.term_type (spec.type_at l.table l.places) x)) (terms (drop l.x-index l.list))
+    ≡ list_all (λ x. spec.is_known (spec.term_type (spec.type_at l.table l.places) x)) (terms l.list)

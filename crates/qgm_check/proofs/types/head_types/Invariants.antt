@@ -4,4 +4,4 @@ use Rattle.qgm_check.specs.Types as spec
 use Rattle.qgm_check.proofs.types.head_types.Given as goal
 
 abbrev pub invariant-loop-x : goal.invariant-loop-x
-invariant-loop-x l = l.all ≡ map (spec.term_type (spec.column_type l.nodes l.table)) (terms (take l.x-index l.list))
+invariant-loop-x l = l.all ≡ map (spec.term_type (spec.type_at l.table l.places)) (terms (take l.x-index l.list))
