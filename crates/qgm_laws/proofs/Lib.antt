@@ -38,4 +38,5 @@ pub mod Filters
 pub mod PushSound
 pub mod PushRule
 pub mod ShapedKept
+pub mod Asked
 pub mod Examples

@@ -15,3 +15,4 @@ pub mod Shaped
 pub mod Single
 pub mod Facts
 pub mod Push
+pub mod Asked

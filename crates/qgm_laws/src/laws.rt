@@ -1,4 +1,5 @@
 // The laws, as theorems.
+ghost use Rattle.qgm_laws.specs.Asked.{Pushed, Singled};
 ghost use Rattle.qgm_laws.specs.EditLaws.{EditsPlaced, NewPlaced};
 ghost use Rattle.qgm_laws.specs.Examples.{Dropped, Same};
 ghost use Rattle.qgm_laws.specs.Push.{PushKeeps};
@@ -22,6 +23,8 @@ pub fn rewriting_laws()
     ensures to_checked { CheckedFromSound }
     ensures same { Same }
     ensures dropped { Dropped }
+    ensures pushed { Pushed }
+    ensures singled { Singled }
 {}
 
 /// What each edit keeps: of a graph whose quantifiers have one owner each and range over boxes below it, and whose boxes name none without an owner, it makes such a graph, at its condition. It does nothing.
