@@ -1,9 +1,9 @@
 -- M2 keeps the shapes of boxes.
-use Rattle.std.proofs.Common.{ℕ, ◌==◌, ◌≡◌, ◌&&◌, ◌||◌, ◌≤◌, ◌<◌, arith, cond, nat_lt, not, Bool, true, false, List, [], ◌∷◌, ◌++◌, length, map, Option, Some, None, refl, sym, ap, ap₂, subst, ◌∙◌, eqb-true, ◌⊎◌, inl, inr}
+use Rattle.std.proofs.Common.{ℕ, ◌==◌, ◌≡◌, ◌&&◌, ◌||◌, ◌<◌, arith, cond, nat_lt, not, Bool, true, false, List, [], ◌∷◌, ◌++◌, length, map, Option, Some, refl, sym, ap, ap₂, subst, ◌∙◌, eqb-true, ◌⊎◌, inl, inr}
 use Rattle.std.specs.List.{list_all, list_any}
 use Rattle.std.proofs.lemmas.Bool.{and_from, and_parts, cases_Bool, eq-eqb, not-true, or_cases}
-use Rattle.qgm_core.specs.Boxes.{QueryGraph, has_box, is_box, is_quant, owns, range_in, width}
-use Rattle.qgm_core.specs.Free.{IsFree, NamedBelow, Reaches, free_in, itself, named_by, through}
+use Rattle.qgm_core.specs.Boxes.{QueryGraph, is_box, is_quant, owns, range_in, width}
+use Rattle.qgm_core.specs.Free.{IsFree, Reaches, free_in, itself, named_by, through}
 use Rattle.qgm_core.specs.Kinds.{is_A, is_E, is_F, is_F_or_S, is_S, is_enforce, is_magic, is_permit, is_plain, is_preserve}
 use Rattle.qgm_core.specs.Lists.{In, first, holds}
 use Rattle.qgm_core.specs.declared.kinds.BoxKind.{BoxKind}
@@ -15,7 +15,6 @@ use Rattle.qgm_core.specs.declared.kinds.Role.TheVariants.{Fed, Magic, Plain}
 use Rattle.qgm_core.specs.declared.node.Node.{Node}
 use Rattle.qgm_core.specs.declared.parts.BoxParts.{BoxParts}
 use Rattle.qgm_core.specs.declared.owned.OwnedQuant.{OwnedQuant}
-use Rattle.qgm_terms.specs.Terms.{Term}
 use Rattle.qgm_terms.specs.declared.named.Column.{Column}
 use Rattle.qgm_terms.specs.declared.named.QuantNode.{QuantNode}
 use Rattle.qgm_terms.specs.declared.named.QuantNode.TheVariants as node
@@ -35,7 +34,7 @@ use Rattle.qgm_laws.specs.Placed.{place}
 use Rattle.qgm_laws.proofs.Lists.{all-from, all-in, any-from, any-in, clash, eq-itself, in-map, map-in, or-left, or-right}
 use Rattle.qgm_laws.proofs.Moved.{Copies, any-moved, in-m, moved-sound}
 use Rattle.qgm_laws.proofs.PlacedLists.{first-in}
-use Rattle.qgm_laws.proofs.Ranks.{has-in, in-has, overs-held, place-under, same-box}
+use Rattle.qgm_laws.proofs.Ranks.{has-in, overs-held, place-under, same-box}
 use Rattle.qgm_laws.proofs.Read.{column-named, is_at, named-split}
 use Rattle.qgm_laws.proofs.Rules.{copies}
 use Rattle.qgm_laws.proofs.Scope.{in-first, one-owner}
@@ -88,9 +87,12 @@ module _ (g : QueryGraph) (w : Sound g.boxes g.root) (s : Shaped g.boxes g.root)
   only-r x i = elim (subst (λ z. In x z) m.alone i) [ inl e ↦ e | inr z ↦ elim z [ ] ]
 
   c-not-b : (c.id == b.id) ≡ false
-  c-not-b = elim (cases_Bool (c.id == b.id)) [ inr f ↦ f | inl t ↦ absurd (
-      let less : place bs b.id < place bs r.over = place-under bs b r w.ordered m.in_b r-in in
-      let e : place bs r.over ≡ place bs b.id = ap (place bs) (m.over_c ∙ eqb-true c.id b.id t) in omega arith) ]
+  c-not-b = elim (cases_Bool (c.id == b.id)) [
+    | inr f ↦ f
+    | inl t ↦ absurd (
+        let less : place bs b.id < place bs r.over = place-under bs b r w.ordered m.in_b r-in in
+        let e : place bs r.over ≡ place bs b.id = ap (place bs) (m.over_c ∙ eqb-true c.id b.id t) in omega arith)
+  ]
 
   -- the box that stands for box x
   abbrev now : ℕ → ℕ
@@ -154,11 +156,13 @@ module _ (g : QueryGraph) (w : Sound g.boxes g.root) (s : Shaped g.boxes g.root)
       let apart : (n.id == b.id) ≡ false = (elim (cases_Bool (n.id == b.id)) [
         | inr u ↦ u
         | inl t ↦ absurd (let same : n ≡ b = same-box bs n b w.ordered i m.in_b (eqb-true n.id b.id t) in clash (owns q n) (subst (λ (u : Node). owns q u ≡ true) (sym same) (b-names q (subst (λ (u : Node). holds q (named_by u) ≡ true) same h))) (f.1 n i k))
-      ]) in
-      ((mv n, (to n i apart, (reach-to x n.id k apart, h))), λ y j l. (
-          let o = from y j in
-          let unowned = f.1 o.0 o.1.0 (subst (λ u. Reaches bs x u) (sym (ap (λ (u : Node). u.id) o.1.1.1)) (back x y.id l)) in
-          subst (λ (u : Node). owns q u ≡ false) o.1.1.1 (any-moved b.id c.id (is_quant q) o.0.quants (λ r. refl) ∙ unowned)))
+      ]) in (
+        (mv n, (to n i apart, (reach-to x n.id k apart, h))),
+        λ y j l. (
+            let o = from y j in
+            let unowned = f.1 o.0 o.1.0 (subst (λ u. Reaches bs x u) (sym (ap (λ (u : Node). u.id) o.1.1.1)) (back x y.id l)) in
+            subst (λ (u : Node). owns q u ≡ false) o.1.1.1 (any-moved b.id c.id (is_quant q) o.0.quants (λ r. refl) ∙ unowned)),
+      )
     where
       back : (x y : ℕ) → Reaches hm (now x) y → Reaches bs x y
       back x y l = elim (cases_Bool (x == b.id)) [
@@ -170,17 +174,19 @@ module _ (g : QueryGraph) (w : Sound g.boxes g.root) (s : Shaped g.boxes g.root)
   free-from x q u f =
       let o = from f.0.0 f.0.1.0 in
       let id : o.0.id ≡ f.0.0.id = ap (λ (u : Node). u.id) o.1.1.1 in
-      let named : holds q (named_by o.0) ≡ true = subst (λ (u : Node). holds q (named_by u) ≡ true) (sym o.1.1.1) f.0.1.1.1 in
-      ((o.0, (o.1.0, (subst (λ u. Reaches bs x u) (sym id) (reach-from x f.0.0.id f.0.1.1.0), named))), λ y j l. elim (cases_Bool (y.id == b.id)) [
-        | inr n ↦ sym (any-moved b.id c.id (is_quant q) y.quants (λ r. refl)) ∙ f.1 (mv y) (to y j n) (subst (λ z. Reaches hm z y.id) (now-other x u) (reach-to x y.id l n))
-        | inl t ↦ elim (cases_Bool (owns q y)) [
-          | inr n ↦ n
-          | inl h ↦ absurd (
-              let z = owned-after o.0 o.1.0 o.1.1.0 q named in
-              let same : z.0 ≡ y = one-owner bs g.root w q z.0 y z.1.0 j z.1.1.1 h in
-              clash (y.id == b.id) t (subst (λ (u : Node). (u.id == b.id) ≡ false) same z.1.1.0))
-        ]
-      ])
+      let named : holds q (named_by o.0) ≡ true = subst (λ (u : Node). holds q (named_by u) ≡ true) (sym o.1.1.1) f.0.1.1.1 in (
+        (o.0, (o.1.0, (subst (λ u. Reaches bs x u) (sym id) (reach-from x f.0.0.id f.0.1.1.0), named))),
+        λ y j l. elim (cases_Bool (y.id == b.id)) [
+          | inr n ↦ sym (any-moved b.id c.id (is_quant q) y.quants (λ r. refl)) ∙ f.1 (mv y) (to y j n) (subst (λ z. Reaches hm z y.id) (now-other x u) (reach-to x y.id l n))
+          | inl t ↦ elim (cases_Bool (owns q y)) [
+            | inr n ↦ n
+            | inl h ↦ absurd (
+                let z = owned-after o.0 o.1.0 o.1.1.0 q named in
+                let same : z.0 ≡ y = one-owner bs g.root w q z.0 y z.1.0 j z.1.1.1 h in
+                clash (y.id == b.id) t (subst (λ (u : Node). (u.id == b.id) ≡ false) same z.1.1.0))
+          ]
+        ],
+      )
 
   -- b is open by the same as c
   free-b : (q : ℕ) → IsFree bs c.id q → IsFree bs b.id q
@@ -266,17 +272,20 @@ module _ (g : QueryGraph) (w : Sound g.boxes g.root) (s : Shaped g.boxes g.root)
 
   -- I8
   unseen-after : (y : Node) → In y bs → (y.id == b.id) ≡ false → is_permit y.parts.distinct ≡ true → (y.id ≡ g.root → ⊥) × ((n : Node) (q : OwnedQuant) → In n hm → In q n.quants → q.over ≡ y.id → is_F_or_S q.kind ≡ false)
-  unseen-after y i u p = ((s.unseen y i p).0, λ n q j k e. (
-      let o = from n j in
-      let x = in-map mr q o.0.quants (subst (λ (z : Node). In q z.quants) (sym o.1.1.1) k) in
-      let over : now x.0.over ≡ y.id = ap (λ (z : OwnedQuant). z.over) x.1.1 ∙ e in
-      subst (λ (z : OwnedQuant). is_F_or_S z.kind ≡ false) x.1.1 (elim (cases_Bool (x.0.over == b.id)) [
-        | inr f ↦ (s.unseen y i p).1 o.0 x.0 o.1.0 x.1.0 (sym (now-other x.0.over f) ∙ over)
-        | inl t ↦ absurd (
-            let same : c.id ≡ y.id = sym (ap (λ z. cond z c.id x.0.over) t) ∙ over in
-            let z = (s.unseen y i p).1 b r m.in_b r-in (m.over_c ∙ same) in
-            clash (is_F_or_S r.kind) (rows-count r.kind m.is_f) z)
-      ])))
+  unseen-after y i u p = (
+    (s.unseen y i p).0,
+    λ n q j k e. (
+        let o = from n j in
+        let x = in-map mr q o.0.quants (subst (λ (z : Node). In q z.quants) (sym o.1.1.1) k) in
+        let over : now x.0.over ≡ y.id = ap (λ (z : OwnedQuant). z.over) x.1.1 ∙ e in
+        subst (λ (z : OwnedQuant). is_F_or_S z.kind ≡ false) x.1.1 (elim (cases_Bool (x.0.over == b.id)) [
+          | inr f ↦ (s.unseen y i p).1 o.0 x.0 o.1.0 x.1.0 (sym (now-other x.0.over f) ∙ over)
+          | inl t ↦ absurd (
+              let same : c.id ≡ y.id = sym (ap (λ z. cond z c.id x.0.over) t) ∙ over in
+              let z = (s.unseen y i p).1 b r m.in_b r-in (m.over_c ∙ same) in
+              clash (is_F_or_S r.kind) (rows-count r.kind m.is_f) z)
+        ])),
+  )
     where
       rows-count : (k : QuantKind) → is_F k ≡ true → is_F_or_S k ≡ true
       rows-count F h = refl
