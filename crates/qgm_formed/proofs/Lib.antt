@@ -1,0 +1,10 @@
+pub mod Parts
+pub mod TermsAre
+pub mod Frames
+pub mod TypesFollow
+pub mod Keys
+pub mod Boxes
+pub mod Levels
+pub mod Reached
+pub mod Settled
+pub mod Agreed
