@@ -1,14 +1,16 @@
 -- Expressions and conditions of a graph whose columns and nodes pass tests, and are of types.
-use Rattle.std.proofs.Common.{◌≡◌, ℕ, ◌==◌, ◌&&◌, ◌||◌, not, cond, Bool, true, false, List, [], ◌∷◌, ◌++◌, Option, Some, None, refl, ap, ap₂, sym, ◌∙◌, subst}
+use Rattle.std.specs.Prelude.{◌⊎◌}
+use Rattle.std.proofs.Common.{inl, inr, ◌≡◌, ℕ, ◌==◌, ◌&&◌, ◌||◌, not, Bool, true, false, List, [], ◌∷◌, ◌++◌, refl, ap, ap₂, sym, subst}
 use Rattle.std.specs.List.{list_all, list_any}
 use Rattle.std.proofs.lemmas.Bool.{eq-eqb}
 use Rattle.sql_value.specs.declared.order_key.SqlType.{SqlType}
 use Rattle.sql_value.specs.declared.order_key.SqlType.TheVariants.{Integer, Varchar}
-use Rattle.qgm_terms.specs.Named.{names, names_in, names_in_cond, nodes, nodes_in, nodes_in_cond}
-use Rattle.qgm_terms.specs.Gathered.{listed_arms}
+use Rattle.qgm_terms.specs.Named.{columns, columns_in, columns_in_cond, names, names_in, names_in_cond, nodes, nodes_in, nodes_in_cond}
+use Rattle.qgm_terms.specs.Gathered.{Search, gathered, gathered_arms, gathered_cond, listed, listed_cond}
 use Rattle.qgm_terms.specs.Terms as t
 use Rattle.qgm_terms.specs.Terms.{Term, Arms, Cond, Sign}
-use Rattle.qgm_terms.specs.Wanted.{any_in_arms, has_aggregate, has_aggregate_cond, reads, reads_cond, wanted}
+use Rattle.qgm_terms.specs.Wanted.{found, has_aggregate, has_aggregate_cond, reads, reads_cond, wanted}
+use Rattle.qgm_terms.specs.declared.named.Column.{Column}
 use Rattle.qgm_terms.specs.declared.named.QuantNode.{QuantNode}
 use Rattle.qgm_terms.specs.declared.named.QuantNode.TheVariants as node
 use Rattle.qgm_terms.specs.declared.sought.Sought.TheVariants as sought
@@ -142,47 +144,145 @@ module _ (K : ℕ → ℕ → SqlType → Type 0) (N : QuantNode → Type 0) (J 
       parts true b h f = f h
       parts false b h f = absurd (cc h)
 
+  -- ---- what is gathered of an expression passes where what its parts give does
+
+  module _ {A : Type 0} (empty : A) (with : A → A → A) (s : Search A) (Ok : A → Type 0) (none : Ok empty) (both : (x y : A) → Ok x → Ok y → Ok (with x y)) (column : (q k : ℕ) (a : SqlType) → K q k a → Ok (s.at_column q k))
+      (scalar : (q : ℕ) (a : SqlType) → N (node.Scalar q) → J q a → Ok (s.at_scalar q)) (some_none : (q : ℕ) → N (node.Some q) → Ok (s.at_some q empty))
+      (some : (q : ℕ) (a : SqlType) (x : A) → N (node.Some q) → J q a → Ok x → Ok (s.at_some q (with x (s.at_column q 1)))) (every_none : (q : ℕ) → N (node.Every q) → Ok (s.at_every q empty))
+      (every : (q : ℕ) (a : SqlType) (x : A) → N (node.Every q) → J q a → Ok x → Ok (s.at_every q (with x (s.at_column q 1)))) where
+    mutual
+      pub term-ok : (x : Term) (a : SqlType) → Is x a → Ok (gathered empty with s x)
+      term-ok (t.int n) a h = none
+      term-ok (t.text x) a h = none
+      term-ok t.null_int a h = none
+      term-ok t.null_text a h = none
+      term-ok (t.col q k) a h = column q k a h
+      term-ok (t.scalar q) a h = scalar q a h.0 h.1
+      term-ok (t.both op x y) a h = both (gathered empty with s x) (gathered empty with s y) (term-ok x a h.1) (term-ok y a h.2)
+      term-ok (t.minus_of x) a h = term-ok x Integer h.1
+      term-ok (t.choose xs x) a h = both (gathered_arms empty with s xs) (gathered empty with s x) (arms-ok xs a h.0) (term-ok x a h.1)
+      term-ok t.count_all a h = absurd h
+      term-ok (t.fold f e x) a h = absurd h
+
+      arms-ok : (xs : Arms) (a : SqlType) → ArmsAre xs a → Ok (gathered_arms empty with s xs)
+      arms-ok t.no_arm a h = none
+      arms-ok (t.arm c x xs) a h =
+          both (gathered_cond empty with s c) (with (gathered empty with s x) (gathered_arms empty with s xs)) (cond-ok c h.0) (both (gathered empty with s x) (gathered_arms empty with s xs) (term-ok x a h.1) (arms-ok xs a h.2))
+
+      pub cond-ok : (c : Cond) → Fit c → Ok (gathered_cond empty with s c)
+      cond-ok t.always h = none
+      cond-ok (t.compare sign x y) h = both (gathered empty with s x) (gathered empty with s y) (term-ok x h.0 h.1.0) (term-ok y h.0 h.1.1)
+      cond-ok (t.is_null x) h = term-ok x h.0 h.1
+      cond-ok (t.and c d) h = both (gathered_cond empty with s c) (gathered_cond empty with s d) (cond-ok c h.0) (cond-ok d h.1)
+      cond-ok (t.or c d) h = both (gathered_cond empty with s c) (gathered_cond empty with s d) (cond-ok c h.0) (cond-ok d h.1)
+      cond-ok (t.not c) h = cond-ok c h
+      cond-ok (t.some q c) h = some-ok q c h.0 h.1
+      cond-ok (t.every q c) h = every-ok q c h.0 h.1
+
+      some-ok : (q : ℕ) (c : Cond) → N (node.Some q) → Inner q c → Ok (s.at_some q (gathered_cond empty with s c))
+      some-ok q t.always g h = some_none q g
+      some-ok q (t.compare sign x y) g h =
+          subst (λ (z : Term). Ok (s.at_some q (with (gathered empty with s x) (gathered empty with s z)))) (sym h.1.1) (some q h.0 (gathered empty with s x) g h.1.2 (term-ok x h.0 h.1.0))
+      some-ok q (t.is_null x) g h = absurd h
+      some-ok q (t.and c d) g h = absurd h
+      some-ok q (t.or c d) g h = absurd h
+      some-ok q (t.not c) g h = absurd h
+      some-ok q (t.some r c) g h = absurd h
+      some-ok q (t.every r c) g h = absurd h
+
+      every-ok : (q : ℕ) (c : Cond) → N (node.Every q) → Inner q c → Ok (s.at_every q (gathered_cond empty with s c))
+      every-ok q t.always g h = every_none q g
+      every-ok q (t.compare sign x y) g h =
+          subst (λ (z : Term). Ok (s.at_every q (with (gathered empty with s x) (gathered empty with s z)))) (sym h.1.1) (every q h.0 (gathered empty with s x) g h.1.2 (term-ok x h.0 h.1.0))
+      every-ok q (t.is_null x) g h = absurd h
+      every-ok q (t.and c d) g h = absurd h
+      every-ok q (t.or c d) g h = absurd h
+      every-ok q (t.not c) g h = absurd h
+      every-ok q (t.some r c) g h = absurd h
+      every-ok q (t.every r c) g h = absurd h
+
+  -- what a search lists of an expression and of a condition passes
+  module _ {X : Type 0} (s : Search (List X)) (p : X → Bool) (column : (q k : ℕ) (a : SqlType) → K q k a → list_all p (s.at_column q k) ≡ true) (scalar : (q : ℕ) (a : SqlType) → N (node.Scalar q) → J q a → list_all p (s.at_scalar q) ≡ true)
+      (some : (q : ℕ) (xs : List X) → N (node.Some q) → list_all p xs ≡ true → list_all p (s.at_some q xs) ≡ true) (every : (q : ℕ) (xs : List X) → N (node.Every q) → list_all p xs ≡ true → list_all p (s.at_every q xs) ≡ true)
+      (inner : (q : ℕ) (a : SqlType) → J q a → (N (node.Some q) ⊎ N (node.Every q)) → list_all p (s.at_column q 1) ≡ true) where
+    pub listed-pass : (x : Term) (a : SqlType) → Is x a → list_all p (listed s x) ≡ true
+    listed-pass =
+        term-ok [] (λ x y. x ++ y) s (λ xs. list_all p xs ≡ true) refl (λ x y. all-append p x y) column scalar (λ q n. some q [] n refl)
+        (λ q a x n j h. some q (x ++ s.at_column q 1) n (all-append p x (s.at_column q 1) h (inner q a j (inl n)))) (λ q n. every q [] n refl)
+        (λ q a x n j h. every q (x ++ s.at_column q 1) n (all-append p x (s.at_column q 1) h (inner q a j (inr n))))
+
+    pub listed-fit : (c : Cond) → Fit c → list_all p (listed_cond s c) ≡ true
+    listed-fit =
+        cond-ok [] (λ x y. x ++ y) s (λ xs. list_all p xs ≡ true) refl (λ x y. all-append p x y) column scalar (λ q n. some q [] n refl)
+        (λ q a x n j h. some q (x ++ s.at_column q 1) n (all-append p x (s.at_column q 1) h (inner q a j (inl n)))) (λ q n. every q [] n refl)
+        (λ q a x n j h. every q (x ++ s.at_column q 1) n (all-append p x (s.at_column q 1) h (inner q a j (inr n))))
+
+  -- the names pass
   module _ (Q : ℕ → Bool) (column : (q k : ℕ) (a : SqlType) → K q k a → Q q ≡ true) (asked : (n : QuantNode) → N n → Q (node_of n) ≡ true) where
-    one : (q : ℕ) → Q q ≡ true → (Q q && true) ≡ true
+    one : (q : ℕ) → Q q ≡ true → list_all Q (q ∷ []) ≡ true
     one q h = ap (λ b. b && true) h
 
-    first : (q : ℕ) (qs : List ℕ) → Q q ≡ true → list_all Q qs ≡ true → (Q q && list_all Q qs) ≡ true
-    first q qs h k = ap₂ ◌&&◌ h k
+    either : (q : ℕ) (a : SqlType) → J q a → (N (node.Some q) ⊎ N (node.Every q)) → list_all Q (q ∷ []) ≡ true
+    either q a j (inl n) = one q (asked (node.Some q) n)
+    either q a j (inr n) = one q (asked (node.Every q) n)
 
-    mutual
-      pub names-pass : (x : Term) (a : SqlType) → Is x a → list_all Q (names_in x) ≡ true
-      names-pass (t.int n) a h = refl
-      names-pass (t.text x) a h = refl
-      names-pass t.null_int a h = refl
-      names-pass t.null_text a h = refl
-      names-pass (t.col q k) a h = one q (column q k a h)
-      names-pass (t.scalar q) a h = one q (asked (node.Scalar q) h.0)
-      names-pass (t.both op x y) a h = all-append Q (names_in x) (names_in y) (names-pass x a h.1) (names-pass y a h.2)
-      names-pass (t.minus_of x) a h = names-pass x Integer h.1
-      names-pass (t.choose s x) a h = all-append Q (listed_arms names s) (names_in x) (arms-pass s a h.0) (names-pass x a h.1)
-      names-pass t.count_all a h = absurd h
-      names-pass (t.fold f e x) a h = absurd h
+    pub names-pass : (x : Term) (a : SqlType) → Is x a → list_all Q (names_in x) ≡ true
+    names-pass =
+        listed-pass names Q (λ q k a h. one q (column q k a h)) (λ q a n j. one q (asked (node.Scalar q) n)) (λ q xs n h. ap₂ ◌&&◌ (asked (node.Some q) n) h) (λ q xs n h. ap₂ ◌&&◌ (asked (node.Every q) n) h) either
 
-      arms-pass : (s : Arms) (a : SqlType) → ArmsAre s a → list_all Q (listed_arms names s) ≡ true
-      arms-pass t.no_arm a h = refl
-      arms-pass (t.arm c x s) a h = all-append Q (names_in_cond c) (names_in x ++ listed_arms names s) (names-fit c h.0) (all-append Q (names_in x) (listed_arms names s) (names-pass x a h.1) (arms-pass s a h.2))
+    pub names-fit : (c : Cond) → Fit c → list_all Q (names_in_cond c) ≡ true
+    names-fit =
+        listed-fit names Q (λ q k a h. one q (column q k a h)) (λ q a n j. one q (asked (node.Scalar q) n)) (λ q xs n h. ap₂ ◌&&◌ (asked (node.Some q) n) h) (λ q xs n h. ap₂ ◌&&◌ (asked (node.Every q) n) h) either
 
-      pub names-fit : (c : Cond) → Fit c → list_all Q (names_in_cond c) ≡ true
-      names-fit t.always h = refl
-      names-fit (t.compare sign x y) h = all-append Q (names_in x) (names_in y) (names-pass x h.0 h.1.0) (names-pass y h.0 h.1.1)
-      names-fit (t.is_null x) h = names-pass x h.0 h.1
-      names-fit (t.and c d) h = all-append Q (names_in_cond c) (names_in_cond d) (names-fit c h.0) (names-fit d h.1)
-      names-fit (t.or c d) h = all-append Q (names_in_cond c) (names_in_cond d) (names-fit c h.0) (names-fit d h.1)
-      names-fit (t.not c) h = names-fit c h
-      names-fit (t.some q c) h = first q (names_in_cond c) (asked (node.Some q) h.0) (inner-pass q c (asked (node.Some q) h.0) h.1)
-      names-fit (t.every q c) h = first q (names_in_cond c) (asked (node.Every q) h.0) (inner-pass q c (asked (node.Every q) h.0) h.1)
+  -- the columns pass, and column 1 of what is asked for
+  module _ (p : Column → Bool) (column : (q k : ℕ) (a : SqlType) → K q k a → p (record { quant = q; place = k }) ≡ true) (inner : (q : ℕ) (a : SqlType) → J q a → p (record { quant = q; place = 1 }) ≡ true) where
+    one-column : (q k : ℕ) → p (record { quant = q; place = k }) ≡ true → list_all p (record { quant = q; place = k } ∷ []) ≡ true
+    one-column q k h = ap (λ b. b && true) h
 
-      inner-pass : (q : ℕ) (c : Cond) → Q q ≡ true → Inner q c → list_all Q (names_in_cond c) ≡ true
-      inner-pass q t.always g h = refl
-      inner-pass q (t.compare sign x y) g h = all-append Q (names_in x) (names_in y) (names-pass x h.0 h.1.0) (ap (λ z. list_all Q (names_in z)) h.1.1 ∙ one q g)
-      inner-pass q (t.is_null x) g h = absurd h
-      inner-pass q (t.and c d) g h = absurd h
-      inner-pass q (t.or c d) g h = absurd h
-      inner-pass q (t.not c) g h = absurd h
-      inner-pass q (t.some r c) g h = absurd h
-      inner-pass q (t.every r c) g h = absurd h
+    pub columns-pass : (x : Term) (a : SqlType) → Is x a → list_all p (columns_in x) ≡ true
+    columns-pass = listed-pass columns p (λ q k a h. one-column q k (column q k a h)) (λ q a n j. refl) (λ q xs n h. h) (λ q xs n h. h) (λ q a j n. one-column q 1 (inner q a j))
+
+    pub columns-fit : (c : Cond) → Fit c → list_all p (columns_in_cond c) ≡ true
+    columns-fit = listed-fit columns p (λ q k a h. one-column q k (column q k a h)) (λ q a n j. refl) (λ q xs n h. h) (λ q xs n h. h) (λ q a j n. one-column q 1 (inner q a j))
+
+  -- the nodes pass
+  module _ (p : QuantNode → Bool) (asked : (n : QuantNode) → N n → p n ≡ true) where
+    pub nodes-pass : (x : Term) (a : SqlType) → Is x a → list_all p (nodes_in x) ≡ true
+    nodes-pass =
+        listed-pass nodes p (λ q k a h. refl) (λ q a n j. ap (λ b. b && true) (asked (node.Scalar q) n)) (λ q xs n h. ap₂ ◌&&◌ (asked (node.Some q) n) h) (λ q xs n h. ap₂ ◌&&◌ (asked (node.Every q) n) h) (λ q a j n. refl)
+
+    pub nodes-fit : (c : Cond) → Fit c → list_all p (nodes_in_cond c) ≡ true
+    nodes-fit =
+        listed-fit nodes p (λ q k a h. refl) (λ q a n j. ap (λ b. b && true) (asked (node.Scalar q) n)) (λ q xs n h. ap₂ ◌&&◌ (asked (node.Some q) n) h) (λ q xs n h. ap₂ ◌&&◌ (asked (node.Every q) n) h) (λ q a j n. refl)
+
+  or-none : (a b : Bool) → a ≡ false → b ≡ false → (a || b) ≡ false
+  or-none a b h k = ap₂ ◌||◌ h k
+
+  -- no aggregate stands within
+  pub aggregates-none : (x : Term) (a : SqlType) → Is x a → has_aggregate x ≡ false
+  aggregates-none =
+      term-ok false (λ x y. x || y) (found (wanted sought.Aggregate)) (λ b. b ≡ false) refl or-none (λ q k a h. refl) (λ q a n j. refl) (λ q n. refl) (λ q a x n j h. or-none x false h refl) (λ q n. refl) (λ q a x n j h. or-none x false h refl)
+
+  pub aggregates-nowhere : (c : Cond) → Fit c → has_aggregate_cond c ≡ false
+  aggregates-nowhere =
+      cond-ok false (λ x y. x || y) (found (wanted sought.Aggregate)) (λ b. b ≡ false) refl or-none (λ q k a h. refl) (λ q a n j. refl) (λ q n. refl) (λ q a x n j h. or-none x false h refl) (λ q n. refl) (λ q a x n j h. or-none x false h refl)
+
+  -- no column of r is read, outside of a some or every of r
+  module _ (r : ℕ) (column : (q k : ℕ) (a : SqlType) → K q k a → (q == r) ≡ false) where
+    masked : (same x : Bool) → x ≡ false → (false || (not same && (x || same))) ≡ false
+    masked true x h = refl
+    masked false x h = or-none x false h refl
+
+    empty-masked : (same : Bool) → (false || (not same && false)) ≡ false
+    empty-masked true = refl
+    empty-masked false = refl
+
+    pub reads-none : (x : Term) (a : SqlType) → Is x a → reads r x ≡ false
+    reads-none =
+        term-ok false (λ x y. x || y) (found (wanted (sought.Row r))) (λ b. b ≡ false) refl or-none column (λ q a n j. refl) (λ q n. empty-masked (q == r)) (λ q a x n j h. masked (q == r) x h)
+        (λ q n. empty-masked (q == r)) (λ q a x n j h. masked (q == r) x h)
+
+    pub reads-nowhere : (c : Cond) → Fit c → reads_cond r c ≡ false
+    reads-nowhere =
+        cond-ok false (λ x y. x || y) (found (wanted (sought.Row r))) (λ b. b ≡ false) refl or-none column (λ q a n j. refl) (λ q n. empty-masked (q == r)) (λ q a x n j h. masked (q == r) x h)
+        (λ q n. empty-masked (q == r)) (λ q a x n j h. masked (q == r) x h)
