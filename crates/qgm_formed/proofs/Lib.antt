@@ -8,3 +8,4 @@ pub mod Levels
 pub mod Reached
 pub mod Settled
 pub mod Agreed
+pub mod Clauses
