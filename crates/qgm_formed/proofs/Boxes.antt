@@ -145,7 +145,7 @@ module _ (kinds : List ℕ → List SqlType) (sources : Sources) (counted : (nam
     abbrev pub Child : OwnedQuant → Type 0
     Child o =
         (thing : Thing) × ((x : Map) × ((scopes : List Scope) × ((types : List SqlType) × ((e : ℕ) × (Below o.over thing x × MapIs (Column e) x scopes × ThingIs scopes thing types
-        × ((n : ℕ) → fresh n x ≡ false → (fresh n m ≡ false) ⊎ ((is_F o.kind ≡ false) × (is_row n b.quants ≡ true))))))))
+        × ((n : ℕ) → fresh n x ≡ false → (fresh n m ≡ false) ⊎ ((is_F o.kind ≡ false) × (is_row n b.quants ≡ true))) × (is_S o.kind ≡ true → typed.NotNone types))))))
 
     abbrev pub Each : List OwnedQuant → Type 0
     Each [] = Unit {0}
@@ -183,8 +183,8 @@ module _ (kinds : List ℕ → List SqlType) (sources : Sources) (counted : (nam
       abbrev pub BoxIs : List SqlType → Type 0
       BoxIs types = LocalIs E m b types × Kids b.quants
 
-      kid : (o : OwnedQuant) (thing : Thing) (types : List SqlType) → Below o.over thing m → ThingIs scopes thing types → Child Below b m o
-      kid o thing types below is = (thing, (m, (scopes, (types, (e, (below, round, is, λ n h. inl h))))))
+      kid : (o : OwnedQuant) (thing : Thing) (types : List SqlType) → o.kind ≡ binding.F → Below o.over thing m → ThingIs scopes thing types → Child Below b m o
+      kid o thing types k below is = (thing, (m, (scopes, (types, (e, (below, round, is, (λ n h. inl h), λ g. absurd (let z : true ≡ false = sym g ∙ ap is_S k in let w : ⊥ = cc in w)))))))
 
       abbrev pub H : Option Scope → List Leaf → Slots → Type 0
       H = Held kinds K0 K lift N J m
@@ -348,17 +348,17 @@ module _ (kinds : List ℕ → List SqlType) (sources : Sources) (counted : (nam
       none-held (w.fold f distinct x ∷ ls) cs = ((λ row e u a h k. absurd (cc e)), none-held ls (w.rest_of cs))
       none-held (w.count ∷ ls) cs = ((λ row e. absurd (cc e)), none-held ls (w.rest_of cs))
 
-      known : (o : OwnedQuant) (f : Frame) (x : Query) (rows : Option Scope) → In o b.quants → Below o.over (of_query x) (f ∷ m) → SubIs kinds View rows f x → (c : ℕ) × (Ranges o.id c × ((types : List SqlType) × Over E c types))
-      known o f x rows i below sub = (o.over, (ranges o i, (sub.1.1.0, are o.over (of_query x) (f ∷ m) sub.0 sub.1.1.0 D below (weak (f ∷ m) sub.0 sub.1.0.0) sub.1.1.1)))
+      known : (o : OwnedQuant) (kind : QuantKind) (f : Frame) (x : Query) (rows : Option Scope) → In o b.quants → Below o.over (of_query x) (f ∷ m) → SubIs kinds View rows kind f x → (c : ℕ) × (Ranges o.id c × ((types : List SqlType) × Over E c types))
+      known o kind f x rows i below sub = (o.over, (ranges o i, (sub.1.1.0, are o.over (of_query x) (f ∷ m) sub.0 sub.1.1.0 D below (weak (f ∷ m) sub.0 sub.1.0.0) sub.1.1.1.0)))
 
       one-of : (o : OwnedQuant) (f : Frame) (x : Query) → In o b.quants → Below o.over (of_query x) (f ∷ m) → (s : List Scope) → MapIs K0 (f ∷ m) s → (a : SqlType) → Gives kinds s x (a ∷ []) → J o.id a
       one-of o f x i below s see a g = (o.over, (ranges o i, (a ∷ [], (are o.over (of_query x) (f ∷ m) s (a ∷ []) D below (weak (f ∷ m) s see) g, (zero, (refl, refl))))))
 
-      asked : (o : OwnedQuant) (kind : QuantKind) (f : Frame) (x : Query) (rows : Option Scope) → In o b.quants → o.kind ≡ kind → Below o.over (of_query x) (f ∷ m) → SubIs kinds View rows f x → Asked kinds K0 K lift N J m rows kind o.id f x
+      asked : (o : OwnedQuant) (kind : QuantKind) (f : Frame) (x : Query) (rows : Option Scope) → In o b.quants → o.kind ≡ kind → Below o.over (of_query x) (f ∷ m) → SubIs kinds View rows kind f x → Asked kinds K0 K lift N J m rows kind o.id f x
       asked o binding.F f x rows i k below sub = tt
-      asked o binding.E f x rows i k below sub = ((among is_E o b.quants i (ap is_E k), known o f x rows i below sub), one-of o f x i below)
-      asked o binding.A f x rows i k below sub = ((among is_A o b.quants i (ap is_A k), known o f x rows i below sub), one-of o f x i below)
-      asked o binding.S f x rows i k below sub = ((among is_S o b.quants i (ap is_S k), known o f x rows i below sub), one-of o f x i below)
+      asked o binding.E f x rows i k below sub = ((among is_E o b.quants i (ap is_E k), known o binding.E f x rows i below sub), one-of o f x i below)
+      asked o binding.A f x rows i k below sub = ((among is_A o b.quants i (ap is_A k), known o binding.A f x rows i below sub), one-of o f x i below)
+      asked o binding.S f x rows i k below sub = ((among is_S o b.quants i (ap is_S k), known o binding.S f x rows i below sub), one-of o f x i below)
 
       subs-held : (rows : Option Scope) (ls : List Leaf) (os : List OwnedQuant) (cs : List Ref) → v.ShowsSubs sources Below m ls os → Ins os b.quants → LeavesAre kinds View rows ls → CellsHeld rows ls cs → H rows ls (record { quants = map (λ o. o.id) os; cells = cs })
       subs-held rows [] os cs h i a c = tt
@@ -371,7 +371,7 @@ module _ (kinds : List ℕ → List SqlType) (sources : Sources) (counted : (nam
       subs-kids rows [] os h a = subst Kids (sym h) tt
       subs-kids rows (w.sub f kind x ∷ ls) [] h a = absurd h
       subs-kids rows (w.sub f kind x ∷ ls) (o ∷ os) h a = (
-        (of_query x, (f ∷ m, (a.0.0, (a.0.1.1.0, (D, (h.3, weak (f ∷ m) a.0.0 a.0.1.0.0, a.0.1.1.1, λ n k. either-false (Seen n) (fresh_in n f) (fresh n m) k (λ g. with_kind n (a.0.1.0.1 n g)) (λ g. inl g))))))),
+        (of_query x, (f ∷ m, (a.0.0, (a.0.1.1.0, (D, (h.3, weak (f ∷ m) a.0.0 a.0.1.0.0, a.0.1.1.1.0, (λ n k. either-false (Seen n) (fresh_in n f) (fresh n m) k (λ g. with_kind n (a.0.1.0.1 n g)) (λ g. inl g)), λ g. a.0.1.1.1.1 (ap is_S (sym h.0) ∙ g))))))),
         subs-kids rows ls os h.4 a.1,
       )
         where
@@ -386,7 +386,7 @@ module _ (kinds : List ℕ → List SqlType) (sources : Sources) (counted : (nam
 
       one-kid : (x : From) (os : List OwnedQuant) (types : List SqlType) → v.ShowsOne sources Below x m os → FromIs kinds scopes x types → Kids (w.rest_of os) → Kids os
       one-kid x [] types h f k = absurd h
-      one-kid x (o ∷ os) types h f k = (kid o (of_operand x) types h.1 f, k)
+      one-kid x (o ∷ os) types h f k = (kid o (of_operand x) types h.0 h.1 f, k)
 
       from-kids : (x : From) (os : List OwnedQuant) (types : List SqlType) → v.ShowsFrom sources Below x m os → FromIs kinds scopes x types → Kids (v.past sources x os) → Kids os
       from-kids (q.named name) os types h f k = one-kid (q.named name) os types h f k
@@ -510,7 +510,7 @@ module _ (kinds : List ℕ → List SqlType) (sources : Sources) (counted : (nam
                 (fold-cells p.id (open_scope row) (suc (length places)) ls folds
                 (λ j a at. let x : suc (length keys + j) ≡ suc (length places) + j = ap (λ z. suc (z + j)) len ∙ (let y : suc (length places + j) ≡ suc (length places) + j = omega arith in y) in
                 subst (λ z. K0 p.id z a) x (own-column p (v.padded Integer (keys ++ args)) i.0 h.0 over (length keys + j) a (at-padded (keys ++ args) (length keys + j) a (at-right keys args j a at)))))),
-            (kid p (of_rows from by places ls) (v.padded Integer (keys ++ args)) h.1.0 (row, (f, g, (found, (folds, refl)))), tt),
+            (kid p (of_rows from by places ls) (v.padded Integer (keys ++ args)) h.0 h.1.0 (row, (f, g, (found, (folds, refl)))), tt),
           )
 
       groups-are : (from : Froms) (by : Test) (places : List ℕ) (ls : List Leaf) (types : List SqlType) → v.ShowsGroups sources Below from by places ls m b → GroupsAre scopes from by places ls types → BoxIs types
@@ -606,7 +606,7 @@ module _ (kinds : List ℕ → List SqlType) (sources : Sources) (counted : (nam
           let end = after (list_leaves fr list) s in (
             subst (λ (z : List Term). Heads K N J z types) (sym h.head) (terms-are kinds K0 K lift N J sources told-here fr m (Some open_row) (scope ∷ scopes) see s list types a.0 are_list),
             subst (FitAll K N J) (sym h.conds) (split-fit (l.cond sources fr m end having) (cond-is kinds K0 K lift N J sources told-here fr m (Some open_row) (scope ∷ scopes) see end having a.1 is_having)),
-            (kid u (of_groups from by places ls) (keys ++ agg_types kinds open_row ls folds) h.groups (row, (f, g, (found, (folds, refl)))), subs-kids (Some open_row) ls os h.subs leaves),
+            (kid u (of_groups from by places ls) (keys ++ agg_types kinds open_row ls folds) h.kind h.groups (row, (f, g, (found, (folds, refl)))), subs-kids (Some open_row) ls os h.subs leaves),
           )
 
       -- ---- set operations and outer joins
@@ -621,7 +621,7 @@ module _ (kinds : List ℕ → List SqlType) (sources : Sources) (counted : (nam
           let right = are r.over (of_query y) m scopes types e h.2.1 round g in (
             columns-told K0 (λ n k a z. told-here (t.col n k) a (lift n k a z)) (refs p.id 1 (length types)) types (own-cols p types (length types) i.0 h.0 left refl) (all-refs p.id 1 (length types)),
             (more D E p.over types (ups D) left, (more D E r.over types (ups D) right, tt)),
-            (kid p (of_query x) types h.2.0 f, (kid r (of_query y) types h.2.1 g, tt)),
+            (kid p (of_query x) types h.0 h.2.0 f, (kid r (of_query y) types h.1 h.2.1 g, tt)),
           )
 
       pair-is : (form : forms.SetOperator) (n : ℕ) (x y : Query) (types : List SqlType) → v.ShowsPair sources Below form n x y m b → Gives kinds scopes x types → Gives kinds scopes y types → length types ≡ n → BoxIs types
@@ -649,7 +649,7 @@ module _ (kinds : List ℕ → List SqlType) (sources : Sources) (counted : (nam
           (own-cols r c n i.1.0 h.1 (are r.over (of_operand y) m scopes c e h.2.right round g) len) in (
             subst (λ (k : List Term). Heads K N J k (a ++ c)) (sym h.2.head) (frame-heads fr (a ++ c) cols),
             subst (FitAll K N J) (sym h.2.conds) (on-fit fr (a ++ c) v.no_slots p cols (subst (λ (k : List Leaf). H None k v.no_slots) (sym h.2.on) tt) z),
-            (kid j (of_operand x) a h.2.left f, (kid r (of_operand y) c h.2.right g, tt)),
+            (kid j (of_operand x) a h.0 h.2.left f, (kid r (of_operand y) c h.1 h.2.right g, tt)),
           )
 
       outer-is : (x y : From) (n : ℕ) (p : Test) (types : List SqlType) → v.ShowsOuter sources Below x y n p m b → FromIs kinds scopes (q.left_joined x y n p) types → BoxIs types

@@ -6,6 +6,9 @@ use Rattle.sql_value.specs.declared.order_key.SqlType.{SqlType}
 use Rattle.sql_value.specs.declared.order_key.SqlType.TheVariants.{Integer, Varchar}
 use Rattle.sql_meaning.specs.ResolvedTrees.{Value, Addends, Multipliers, Values, Arms, Choices, Test, Tests, From, Froms, Query}
 use Rattle.sql_meaning.specs.ResolvedTrees as q
+use Rattle.qgm_core.specs.Kinds.{is_S}
+use Rattle.qgm_core.specs.declared.kinds.QuantKind.{QuantKind}
+use Rattle.qgm_core.specs.declared.kinds.QuantKind.TheVariants.{E, S}
 use Rattle.qgm_shown.specs.Leaves as w
 use Rattle.qgm_shown.specs.Leaves.{Leaf}
 use Rattle.qgm_shown.specs.Maps.{Frame, Map, nothing}
@@ -89,16 +92,16 @@ module _ (kinds : List ℕ → List SqlType) (sources : Sources) (counted : (nam
 
 -- V: these scopes are seen where this frame is the innermost
 module _ (kinds : List ℕ → List SqlType) (V : Frame → List Scope → Type 0) (rows : Option Scope) where
-  -- a subquery gives columns of types, in scopes that are seen
-  abbrev pub SubIs : Frame → Query → Type 0
-  SubIs f query = (scopes : List Scope) × (V f scopes × ((types : List SqlType) × Gives kinds scopes query types))
+  -- a subquery gives columns of types, in scopes that are seen; one that is asked for its value gives some
+  abbrev pub SubIs : QuantKind → Frame → Query → Type 0
+  SubIs kind f query = (scopes : List Scope) × (V f scopes × ((types : List SqlType) × (Gives kinds scopes query types × (is_S kind ≡ true → typed.NotNone types))))
 
   abbrev pub FoldIs : SetFunction → Value → Type 0
   FoldIs f x = (row : Scope) × ((rows ≡ Some row) × ((u : SqlType) × ((a : SqlType) × (IsOf kinds None (row ∷ []) x u × FoldsTo f u a))))
 
   abbrev pub LeavesAre : List Leaf → Type 0
   LeavesAre [] = Unit {0}
-  LeavesAre (w.sub f kind query ∷ ls) = SubIs f query × LeavesAre ls
+  LeavesAre (w.sub f kind query ∷ ls) = SubIs kind f query × LeavesAre ls
   LeavesAre (w.fold f distinct x ∷ ls) = FoldIs f x × LeavesAre ls
   LeavesAre (w.count ∷ ls) = ((row : Scope) × (rows ≡ Some row)) × LeavesAre ls
 
@@ -119,8 +122,8 @@ module _ (kinds : List ℕ → List SqlType) (V : Frame → List Scope → Type 
   none = record { are = tt }
 
   module _ (fr : Frame) (scopes : List Scope) (seen : V fr scopes) where
-    asked : (kind : _) (query : Query) (types : List SqlType) → Gives kinds scopes query types → All (w.sub fr kind query ∷ [])
-    asked kind query types h = record { are = ((scopes, (seen, (types, h))), tt) }
+    asked : (kind : QuantKind) (query : Query) (types : List SqlType) → Gives kinds scopes query types → (is_S kind ≡ true → typed.NotNone types) → All (w.sub fr kind query ∷ [])
+    asked kind query types h f = record { are = ((scopes, (seen, (types, (h, f)))), tt) }
 
     -- a NULL without a type has no leaves
     untyped-none : (x : Value) → is_untyped x ≡ true → w.leaves fr x ≡ []
@@ -156,7 +159,7 @@ module _ (kinds : List ℕ → List SqlType) (V : Frame → List Scope → Type 
       value-leaves (q.simple x xs last) a h = both (value-leaves x h.0.0 h.0.1.0) (both (choices-leaves xs h.0.0 a h.0.1.1) (result-leaves (IsOf kinds rows scopes last a) (is_untyped last) last refl h.1 (λ g. value-leaves last a g)))
       value-leaves (q.coalesce x xs) a h = both (value-leaves x a h.0) (list-leaves xs a h.1)
       value-leaves (q.null_if x y) a h = both (value-leaves x a h.0) (value-leaves y a h.1)
-      value-leaves (q.scalar query) a h = asked _ query (a ∷ []) h
+      value-leaves (q.scalar query) a h = asked S query (a ∷ []) h (λ _. tt)
       value-leaves q.count_all a h = record { are = (h.0, tt) }
       value-leaves (q.aggregate f distinct x) a h = record { are = ((h.0, (h.1.0, (h.1.1.0, (a, h.1.1.1)))), tt) }
 
@@ -185,13 +188,13 @@ module _ (kinds : List ℕ → List SqlType) (V : Frame → List Scope → Type 
       test-leaves (q.any ps) h = tests-leaves ps h
       test-leaves (q.negated p) h = test-leaves p h
       test-leaves (q.compare x op y) h = both (value-leaves x h.0 h.1.0) (value-leaves y h.0 h.1.1)
-      test-leaves (q.quantified x op each query) h = both (value-leaves x h.0 h.1.0) (asked _ query (h.0 ∷ []) h.1.1)
+      test-leaves (q.quantified x op each query) h = both (value-leaves x h.0 h.1.0) (asked (w.every_or_some each) query (h.0 ∷ []) h.1.1 (λ _. tt))
       test-leaves (q.between x y z) h = both (value-leaves x h.0 h.1.0) (both (value-leaves y h.0 h.1.1) (value-leaves z h.0 h.1.2))
       test-leaves (q.among x xs) h = both (value-leaves x h.0 h.1.0) (list-leaves xs h.0 h.1.1)
-      test-leaves (q.among_rows x query) h = both (value-leaves x h.0 h.1.0) (asked _ query (h.0 ∷ []) h.1.1)
+      test-leaves (q.among_rows x query) h = both (value-leaves x h.0 h.1.0) (asked E query (h.0 ∷ []) h.1.1 (λ _. tt))
       test-leaves (q.like x y) h = both (value-leaves x Varchar h.0) (value-leaves y Varchar h.1)
       test-leaves (q.is_null x) h = value-leaves x h.0 h.1
-      test-leaves (q.exists query) h = asked _ query h.0 h.1
+      test-leaves (q.exists query) h = asked E query h.0 h.1 (λ e. absurd (cc e))
 
       tests-leaves : (ps : Tests) → typed.AreTyped kinds rows scopes ps → All (w.tests_leaves fr ps)
       tests-leaves q.no_test h = none
