@@ -9,3 +9,4 @@ pub mod Reached
 pub mod Settled
 pub mod Agreed
 pub mod Clauses
+pub mod Shaped

@@ -125,7 +125,8 @@ module _ (bs : List Node) (ordered : Ordered bs) (once : (q : ℕ) → times q (
     abbrev pub Known : Node → List Node → Type 0
     Known n ns =
         (thing : Thing) × ((m : Map) × ((e : ℕ) × ((types : List SqlType)
-        × (ShowsBox sources (Shows sources ns) thing m n × LocalIs e (boxes.map_of thing m) n types × Each (Shows sources ns) n (boxes.map_of thing m) n.quants))))
+        × (ShowsBox sources (Shows sources ns) thing m n × LocalIs e (boxes.map_of thing m) n types × Each (Shows sources ns) n (boxes.map_of thing m) n.quants
+        × ((scopes : List Scope) × ThingIs scopes thing types)))))
 
     abbrev pub EachKnown : List Node → Type 0
     EachKnown [] = Unit {0}
@@ -136,7 +137,7 @@ module _ (bs : List Node) (ordered : Ordered bs) (once : (q : ℕ) → times q (
         let h : ShowsBox sources (Shows sources ns) p.0 p.1.0 n = subst (λ own. v.Either own (ShowsBox sources (Shows sources ns) p.0 p.1.0 n) (Shows sources ns n.id p.0 p.1.0)) (eq-itself n.id) p.1.1.1.1.1.0 in
         let e = p.1.1.1.1.0 in
         let w = whole ns n (sub n (inl refl)) (over ns (λ k i. sub k (inr i))) p.0 p.1.0 p.1.1.0 e p.1.1.1.0 h p.1.1.1.1.1.1 p.1.1.1.1.1.2 in
-        (p.0, (p.1.0, (lev ns (lev ns e), (p.1.1.1.0, (h, w.0, w.1)))))
+        (p.0, (p.1.0, (lev ns (lev ns e), (p.1.1.1.0, (h, w.0, w.1, (p.1.1.0, p.1.1.1.1.1.2))))))
 
     child-thing : (ns : List Node) (n : Node) (m : Map) (os : List OwnedQuant) → Each (Shows sources ns) n m os → (o : OwnedQuant) → In o os → Some_thing ns o.over
     child-thing ns n m [] h o i = absurd i
