@@ -7,14 +7,16 @@ use Rattle.sql_value.specs.declared.order_key.SqlType.{SqlType}
 use Rattle.sql_value.specs.declared.order_key.SqlType.TheVariants.{Integer, Varchar}
 use Rattle.sql_meaning.specs.ResolvedTrees.{Query}
 use Rattle.qgm_core.specs.Boxes.{Ordered, QueryGraph, has_box, ids_in, is_box}
-use Rattle.qgm_core.specs.Lists.{In, first, times}
+use Rattle.qgm_core.specs.Lists.{In, first, holds, times}
 use Rattle.qgm_core.specs.declared.node.Node.{Node}
 use Rattle.qgm_core.specs.declared.owned.OwnedQuant.{OwnedQuant}
 use Rattle.qgm_core.specs.declared.kinds.BoxKind.{BoxKind}
 use Rattle.qgm_core.specs.declared.kinds.BoxKind.TheVariants.{Base, Select, Group, SetOp, OuterJoin}
 use Rattle.qgm_terms.specs.Terms.{Cond, Term}
 use Rattle.qgm_check.specs.Types.{Lookup, agree, all_agree, arm_agrees, arms_agree, column_type, cond_fits, is_known, is_typed, known, term_type, types_after, types_agree, types_found, types_of}
-use Rattle.qgm_shown.specs.Maps.{Map}
+use Rattle.qgm_core.specs.Free.{reached as reached_by}
+use Rattle.qgm_check.specs.View.{viewers}
+use Rattle.qgm_shown.specs.Maps.{Map, fresh}
 use Rattle.qgm_shown.specs.Shown as v
 use Rattle.qgm_shown.specs.Shown.{Shows, ShowsBox, Thing, of_query}
 use Rattle.qgm_shown.specs.Sources.{Sources}
@@ -23,7 +25,9 @@ use Rattle.qgm_formed.proofs.Boxes as boxes
 use Rattle.qgm_formed.proofs.Frames.{map-none}
 use Rattle.qgm_formed.proofs.Levels as levels
 use Rattle.qgm_formed.proofs.Parts.{CellIs, Cells, Fit, FitAll, Heads, Is}
+use Rattle.qgm_formed.proofs.Passes.{all-reached, viewers-own, viewers-under}
 use Rattle.qgm_formed.proofs.Reached as reached
+use Rattle.qgm_laws.proofs.Lists.{all-from}
 use Rattle.qgm_formed.proofs.Settled.{over-soon}
 
 pub shows-has : (sources : Sources) (ns : List Node) (b : ℕ) (thing : Thing) (m : Map) → Shows sources ns b thing m → has_box ns b ≡ true
@@ -93,21 +97,49 @@ module _ (bs : List Node) (ordered : Ordered bs) (once : (q : ℕ) → times q (
 
 -- each box of what is built is known
 module _ (kinds : List ℕ → List SqlType) (sources : Sources) (query : Query) (types : List SqlType) (names : List (Option (List ℕ))) (order : List OrderKey) (g : QueryGraph) (b : BuiltTyped kinds sources query types names order g) where
-  pub all-boxes : reached.EachKnown g.boxes b.ordered b.once kinds sources b.typed.counted b.typed.named b.told g.boxes
-  all-boxes =
-      reached.reached g.boxes b.ordered b.once kinds sources b.typed.counted b.typed.named b.told g.root b.built.used
-      (of_query query, ([], ([], (types, (0, (b.built.shows, map-none (levels.Column g.boxes b.ordered b.once kinds sources b.typed.counted 0), b.gives))))))
-      (shows-has sources g.boxes g.root (of_query query) [] b.built.shows)
+  abbrev pub bs : List Node
+  bs = g.boxes
 
-  agree-each : (ns : List Node) → reached.EachKnown g.boxes b.ordered b.once kinds sources b.typed.counted b.typed.named b.told ns → list_all (types_agree g.boxes) ns ≡ true
-  agree-each [] h = refl
-  agree-each (n ∷ ns) h = ap₂ ◌&&◌ (by-kind g.boxes b.ordered b.once kinds sources b.typed.counted h.0.1.1.0 (boxes.map_of h.0.0 h.0.1.0) n h.0.1.1.1.0 n.parts.kind h.0.1.1.1.1.1) (agree-each ns h.1)
+  -- a box sees what is seen in its map
+  abbrev pub Seen : ℕ → Map → Type 0
+  Seen c m = (q : ℕ) → fresh q m ≡ false → holds c (viewers q [] bs) ≡ true
+
+  pub seen-none : (c : ℕ) (m : Map) → Seen c m → Seen c []
+  seen-none c m h q k = absurd (cc k)
+
+  pub seen-child : (n : Node) → In n bs → (m : Map) → Seen n.id m → (o : OwnedQuant) → In o n.quants → (x : Map) → reached.Visible bs b.ordered b.once kinds sources b.typed.counted b.typed.named b.told n m o x → Seen o.over x
+  seen-child n i m s o j x vis q k = elim (vis q k) [
+    | inl f ↦ viewers-under q [] bs b.ordered n i o j (s q f)
+    | inr f ↦ viewers-own q [] bs n i f.2 f.1 o j f.0
+  ]
+
+  abbrev pub Known : Node → List Node → Type 0
+  Known = reached.Known bs b.ordered b.once kinds sources b.typed.counted b.typed.named b.told Seen seen-none seen-child
+
+  pub all-boxes : reached.EachKnown bs b.ordered b.once kinds sources b.typed.counted b.typed.named b.told Seen seen-none seen-child (reached_by (g.root ∷ []) bs) bs
+  all-boxes =
+      reached.from-here bs b.ordered b.once kinds sources b.typed.counted b.typed.named b.told Seen seen-none seen-child g.root
+      (of_query query, ([], ([], (types, (0, (b.built.shows, map-none (levels.Column bs b.ordered b.once kinds sources b.typed.counted 0), b.gives, λ q k. absurd (cc k)))))))
+
+  find : (ns : List Node) → ((n : Node) → In n ns → In n bs) → reached.EachKnown bs b.ordered b.once kinds sources b.typed.counted b.typed.named b.told Seen seen-none seen-child (reached_by (g.root ∷ []) bs) ns → (n : Node) → In n ns
+      → (rest : List Node) × (Known n rest × ((k : Node) → In k rest → In k bs))
+  find [] sub h n i = absurd i
+  find (c ∷ cs) sub h n (inl e) =
+      let k = h.0 (all-reached bs g.root b.ordered b.built.used c (sub c (inl refl))) in
+      subst (λ (z : Node). (rest : List Node) × (Known z rest × ((k : Node) → In k rest → In k bs))) e (cs, (k, λ z j. sub z (inr j)))
+  find (c ∷ cs) sub h n (inr j) = find cs (λ z i. sub z (inr i)) h.1 n j
+
+  pub known-box : (n : Node) → In n bs → (rest : List Node) × (Known n rest × ((k : Node) → In k rest → In k bs))
+  known-box n i = find bs (λ z j. j) all-boxes n i
+
+  pub types-kept : (n : Node) → In n bs → types_agree bs n ≡ true
+  types-kept n i = let k = (known-box n i).1.0 in by-kind bs b.ordered b.once kinds sources b.typed.counted k.1.1.0 (boxes.map_of k.0 k.1.0) n k.1.1.1.0 n.parts.kind k.1.1.1.1.1
 
   pub types-found : TypesFound types g
   types-found = record {
-    agree = agree-each g.boxes all-boxes;
+    agree = all-from (types_agree bs) bs types-kept;
     root =
-        (over-soon g.boxes b.ordered b.once (reached.lev g.boxes 0) g.root types
-        (reached.over g.boxes b.ordered b.once kinds sources b.typed.counted b.typed.named b.told g.boxes (λ n i. i) g.root (of_query query) [] [] types 0 b.built.shows (map-none (levels.Column g.boxes b.ordered b.once kinds sources b.typed.counted 0)) b.gives)).1
-        (length g.boxes) (omega arith);
+        (over-soon bs b.ordered b.once (reached.lev bs 0) g.root types
+        (reached.over bs b.ordered b.once kinds sources b.typed.counted b.typed.named b.told bs (λ n i. i) g.root (of_query query) [] [] types 0 b.built.shows (map-none (levels.Column bs b.ordered b.once kinds sources b.typed.counted 0)) b.gives)).1
+        (length bs) (omega arith);
   }

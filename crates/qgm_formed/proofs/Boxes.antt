@@ -9,7 +9,7 @@ use Rattle.sql_value.specs.declared.order_key.SqlType.{SqlType}
 use Rattle.sql_value.specs.declared.order_key.SqlType.TheVariants.{Integer, Varchar}
 use Rattle.sql_meaning.specs.ResolvedTrees.{Values, Test, From, Froms, Query}
 use Rattle.sql_meaning.specs.ResolvedTrees as q
-use Rattle.qgm_core.specs.Kinds.{is_A, is_E, is_F, is_S}
+use Rattle.qgm_core.specs.Kinds.{is_A, is_E, is_F, is_S, is_select}
 use Rattle.qgm_core.specs.Boxes.{is_quant}
 use Rattle.qgm_core.specs.Lists.{In}
 use Rattle.qgm_core.specs.declared.node.Node.{Node}
@@ -145,7 +145,7 @@ module _ (kinds : List ℕ → List SqlType) (sources : Sources) (counted : (nam
     abbrev pub Child : OwnedQuant → Type 0
     Child o =
         (thing : Thing) × ((x : Map) × ((scopes : List Scope) × ((types : List SqlType) × ((e : ℕ) × (Below o.over thing x × MapIs (Column e) x scopes × ThingIs scopes thing types
-        × ((n : ℕ) → fresh n x ≡ false → (fresh n m ≡ false) ⊎ ((is_F o.kind ≡ false) × (is_row n b.quants ≡ true))) × (is_S o.kind ≡ true → typed.NotNone types))))))
+        × ((n : ℕ) → fresh n x ≡ false → (fresh n m ≡ false) ⊎ ((is_F o.kind ≡ false) × (is_row n b.quants ≡ true) × (is_select b.parts.kind ≡ true))) × (is_S o.kind ≡ true → typed.NotNone types))))))
 
     abbrev pub Each : List OwnedQuant → Type 0
     Each [] = Unit {0}
@@ -367,22 +367,22 @@ module _ (kinds : List ℕ → List SqlType) (sources : Sources) (counted : (nam
       subs-held rows (w.fold f distinct x ∷ ls) os cs h i a c = (c.0, subs-held rows ls os (w.rest_of cs) h i a.1 c.1)
       subs-held rows (w.count ∷ ls) os cs h i a c = (c.0, subs-held rows ls os (w.rest_of cs) h i a.1 c.1)
 
-      subs-kids : (rows : Option Scope) (ls : List Leaf) (os : List OwnedQuant) → v.ShowsSubs sources Below m ls os → LeavesAre kinds View rows ls → Kids os
-      subs-kids rows [] os h a = subst Kids (sym h) tt
-      subs-kids rows (w.sub f kind x ∷ ls) [] h a = absurd h
-      subs-kids rows (w.sub f kind x ∷ ls) (o ∷ os) h a = (
+      subs-kids : b.parts.kind ≡ Select → (rows : Option Scope) (ls : List Leaf) (os : List OwnedQuant) → v.ShowsSubs sources Below m ls os → LeavesAre kinds View rows ls → Kids os
+      subs-kids sel rows [] os h a = subst Kids (sym h) tt
+      subs-kids sel rows (w.sub f kind x ∷ ls) [] h a = absurd h
+      subs-kids sel rows (w.sub f kind x ∷ ls) (o ∷ os) h a = (
         (of_query x, (f ∷ m, (a.0.0, (a.0.1.1.0, (D, (h.3, weak (f ∷ m) a.0.0 a.0.1.0.0, a.0.1.1.1.0, (λ n k. either-false (Seen n) (fresh_in n f) (fresh n m) k (λ g. with_kind n (a.0.1.0.1 n g)) (λ g. inl g)), λ g. a.0.1.1.1.1 (ap is_S (sym h.0) ∙ g))))))),
-        subs-kids rows ls os h.4 a.1,
+        subs-kids sel rows ls os h.4 a.1,
       )
         where
           Seen : ℕ → Type 0
-          Seen n = (fresh n m ≡ false) ⊎ ((is_F o.kind ≡ false) × (is_row n b.quants ≡ true))
+          Seen n = (fresh n m ≡ false) ⊎ ((is_F o.kind ≡ false) × (is_row n b.quants ≡ true) × (is_select b.parts.kind ≡ true))
 
           with_kind : (n : ℕ) → Bound b.quants m n → Seen n
-          with_kind n (inl g) = inr (ap is_F h.0 ∙ h.1, g)
+          with_kind n (inl g) = inr (ap is_F h.0 ∙ h.1, g, ap is_select sel)
           with_kind n (inr g) = inl g
-      subs-kids rows (w.fold f distinct x ∷ ls) os h a = subs-kids rows ls os h a.1
-      subs-kids rows (w.count ∷ ls) os h a = subs-kids rows ls os h a.1
+      subs-kids sel rows (w.fold f distinct x ∷ ls) os h a = subs-kids sel rows ls os h a.1
+      subs-kids sel rows (w.count ∷ ls) os h a = subs-kids sel rows ls os h a.1
 
       one-kid : (x : From) (os : List OwnedQuant) (types : List SqlType) → v.ShowsOne sources Below x m os → FromIs kinds scopes x types → Kids (w.rest_of os) → Kids os
       one-kid x [] types h f k = absurd h
@@ -424,7 +424,7 @@ module _ (kinds : List ℕ → List SqlType) (sources : Sources) (counted : (nam
               subst (FitAll K N J) (sym h.conds)
                   (fit-append K N J (v.all_ons sources m from os mid) (l.split (l.cond sources fr m end by)) (all-ons-fit from os row mid h.froms (ins-all os) f c.0) (on-fit fr row end by cols c.1 g)),
             ),
-            froms-kids from os row h.froms f (subs-kids None ls rest h.subs leaves),
+            froms-kids from os row h.froms f (subs-kids h.kind None ls rest h.subs leaves),
           )
 
       block-is : (distinct : Bool) (list : Values) (from : Froms) (by : Test) (types : List SqlType) → v.ShowsQuery sources Below (q.block distinct list from by) m b → Gives kinds scopes (q.block distinct list from by) types → BoxIs types
@@ -568,12 +568,12 @@ module _ (kinds : List ℕ → List SqlType) (sources : Sources) (counted : (nam
       in-range (x ∷ row) zero a h = omega arith
       in-range (x ∷ row) (suc p) a h = let r = in-range row p a h in omega arith
 
-      upper-of : (list : Values) (from : Froms) (by : Test) (places : List ℕ) (n : ℕ) (having : Test) (types : List SqlType) (os : List OwnedQuant) → Ins os b.quants → v.Upper sources Below list from by places n having m b os → froms_width sources from ≡ n
+      upper-of : b.parts.kind ≡ Select → (list : Values) (from : Froms) (by : Test) (places : List ℕ) (n : ℕ) (having : Test) (types : List SqlType) (os : List OwnedQuant) → Ins os b.quants → v.Upper sources Below list from by places n having m b os → froms_width sources from ≡ n
           → (row : List SqlType) → FromsAre kinds scopes from row → IsTyped kinds None (open_scope row ∷ scopes) by → (found : Found (open_scope row) places)
           → typed.AreOf kinds (Some (open_scope row)) (keyed places 0 row ∷ scopes) list types → IsTyped kinds (Some (open_scope row)) (keyed places 0 row ∷ scopes) having
           → Heads K N J b.parts.head types × FitAll K N J b.parts.conds.items × Kids os
-      upper-of list from by places n having types [] i h c row f g found are_list is_having = absurd h
-      upper-of list from by places n having types (u ∷ os) i h c row f g found are_list is_having =
+      upper-of sel list from by places n having types [] i h c row f g found are_list is_having = absurd h
+      upper-of sel list from by places n having types (u ∷ os) i h c row f g found are_list is_having =
           let open_row = open_scope row in
           let fr = v.key_frame u.id places 0 n in
           let ls = v.upper_leaves fr list having in
@@ -606,7 +606,7 @@ module _ (kinds : List ℕ → List SqlType) (sources : Sources) (counted : (nam
           let end = after (list_leaves fr list) s in (
             subst (λ (z : List Term). Heads K N J z types) (sym h.head) (terms-are kinds K0 K lift N J sources told-here fr m (Some open_row) (scope ∷ scopes) see s list types a.0 are_list),
             subst (FitAll K N J) (sym h.conds) (split-fit (l.cond sources fr m end having) (cond-is kinds K0 K lift N J sources told-here fr m (Some open_row) (scope ∷ scopes) see end having a.1 is_having)),
-            (kid u (of_groups from by places ls) (keys ++ agg_types kinds open_row ls folds) h.kind h.groups (row, (f, g, (found, (folds, refl)))), subs-kids (Some open_row) ls os h.subs leaves),
+            (kid u (of_groups from by places ls) (keys ++ agg_types kinds open_row ls folds) h.kind h.groups (row, (f, g, (found, (folds, refl)))), subs-kids sel (Some open_row) ls os h.subs leaves),
           )
 
       -- ---- set operations and outer joins
@@ -632,7 +632,7 @@ module _ (kinds : List ℕ → List SqlType) (sources : Sources) (counted : (nam
       query-is : (x : Query) (types : List SqlType) → v.ShowsQuery sources Below x m b → Gives kinds scopes x types → BoxIs types
       query-is (q.block distinct list from by) types h g = block-is distinct list from by types h g
       query-is (q.grouped distinct list from by places n having) types h g =
-          let r = upper-of list from by (v.key_places places) n having types b.quants (ins-all b.quants) h.upper h.columns g.0 g.1.0 g.1.1 g.1.2 g.1.3 g.1.4 in
+          let r = upper-of h.kind list from by (v.key_places places) n having types b.quants (ins-all b.quants) h.upper h.columns g.0 g.1.0 g.1.1 g.1.2 g.1.3 g.1.4 in
           (subst (LocalBy E m b types) (sym h.kind) (r.0, r.1), r.2)
       query-is (q.combine x op all n y) types h g = pair-is (v.form_of op all) n x y types h g.0 g.1 g.3
       query-is (q.intersect x all n y) types h g = pair-is (v.common_form all) n x y types h g.0 g.1 g.3

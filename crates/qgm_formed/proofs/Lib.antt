@@ -7,6 +7,8 @@ pub mod Boxes
 pub mod Levels
 pub mod Reached
 pub mod Settled
-pub mod Agreed
 pub mod Clauses
 pub mod Shaped
+pub mod Passes
+pub mod Agreed
+pub mod Formed

@@ -203,7 +203,7 @@ module _ (K : ℕ → ℕ → SqlType → Type 0) (N : QuantNode → Type 0) (J 
     cells-unread (x ∷ xs) [] h = absurd h
     cells-unread (x ∷ xs) (a ∷ types) h = ap₂ ◌||◌ (cell-unread x a h.0) (cells-unread xs types h.1)
 
-lt-some : (types : List SqlType) (w : ℕ) → NotNone types → length types ≡ w → nat_lt 0 w ≡ true
+pub lt-some : (types : List SqlType) (w : ℕ) → NotNone types → length types ≡ w → nat_lt 0 w ≡ true
 lt-some [] w h e = absurd h
 lt-some (x ∷ types) w h e = let f : 0 < w = (let g : length (x ∷ types) ≡ suc (length types) = refl in omega arith) in grind (arith, f)
 
@@ -263,11 +263,10 @@ module _ (bs : List Node) (ordered : Ordered bs) (few : (q : ℕ) → times q (i
       let b = refs r.id 1 w in
       let head = h.2.head ∙ map-both ref_term a b in
       let left : owns l.id n ≡ true = ap (list_any (is_quant l.id)) (sym s) ∙ own-here l (l ∷ r ∷ []) (inl refl) in
-      let right : owns r.id n ≡ true = ap (list_any (is_quant r.id)) (sym s) ∙ own-here r (l ∷ r ∷ []) (inr (inl refl)) in
-      (
+      let right : owns r.id n ≡ true = ap (list_any (is_quant r.id)) (sym s) ∙ own-here r (l ∷ r ∷ []) (inr (inl refl)) in (
         ap (list_all is_column) head ∙ all-both is_column (map ref_term a) (map ref_term b) (columns-only l.id 1 (from_width sources x)) (columns-only r.id 1 w),
         ap (λ z. list_all (λ q. owns q n) (flat_map names_in z)) head
-        ∙ names-both (map ref_term a) (map ref_term b) (λ q. owns q n) (columns-own (λ q. owns q n) l.id 1 (from_width sources x) left) (columns-own (λ q. owns q n) r.id 1 w right),
+            ∙ names-both (map ref_term a) (map ref_term b) (λ q. owns q n) (columns-own (λ q. owns q n) l.id 1 (from_width sources x) left) (columns-own (λ q. owns q n) r.id 1 w right),
       )
 
   outer-shape : (Below : ℕ → Thing → Map → Type 0) (x y : From) (w : ℕ) (p : Test) (e : ℕ) (m c : Map) (n : Node) (types : List SqlType) → v.ShowsOuter sources Below x y w p c n → LocalBy e m n types n.parts.kind → Fits n

@@ -1,15 +1,20 @@
 -- What is built of a query whose expressions have types is well-formed.
-use Rattle.std.specs.Prelude.{◌≡◌, ◌≤◌, ℕ, true, List, [], length, Option, Some, None}
+use Rattle.std.specs.Prelude.{◌≡◌, ◌⊎◌, ◌≤◌, ℕ, true, List, [], length, Option, Some, None}
 use Rattle.std.specs.List.{list_all}
 use Rattle.sql_value.specs.declared.order_key.OrderKey.{OrderKey}
 use Rattle.sql_value.specs.declared.order_key.SqlType.{SqlType}
 use Rattle.sql_meaning.specs.ResolvedTrees.{Query}
+use Rattle.sql_meaning.specs.ResolvedTrees as q
 use Rattle.qgm_core.specs.Boxes.{Ordered, QueryGraph, ids_in}
 use Rattle.qgm_core.specs.Lists.{first, times}
+use Rattle.qgm_core.specs.declared.kinds.BoxKind.TheVariants.{Base}
 use Rattle.qgm_core.specs.declared.node.Node.{Node}
 use Rattle.qgm_terms.specs.Terms.{Term}
 use Rattle.qgm_check.specs.Types.{column_type, is_typed, known, term_type, types_after, types_agree, types_found, types_of}
+use Rattle.qgm_check.specs.Columns.{places_fit}
+use Rattle.qgm_check.specs.WellFormed.{fault}
 use Rattle.qgm_shown.specs.Law.{IsBuiltOf}
+use Rattle.qgm_shown.specs.Shown.{Shows, of_operand, uses}
 use Rattle.qgm_shown.specs.Sources.{Sources}
 use Rattle.qgm_formed.specs.Typed.{Gives}
 
@@ -45,3 +50,19 @@ abbrev pub TypesAgree : Type 0
 TypesAgree =
     (kinds : List ℕ → List SqlType) (sources : Sources) (query : Query) (types : List SqlType) (names : List (Option (List ℕ))) (order : List OrderKey) (g : QueryGraph)
     → BuiltTyped kinds sources query types names order g → TypesFound types g
+
+-- a box is used once at most, or it is the shared box of a table or a view
+abbrev pub SharedOrOnce : Sources → List Node → ℕ → Type 0
+SharedOrOnce sources boxes b = (uses b boxes ≤ 1) ⊎ ((name : List ℕ) × Shows sources boxes b (of_operand (q.named name)) [])
+
+-- a graph so built, in which tables have the keys and not-null columns that they name, and no other box than those of tables and views is shared
+pub record BuiltWhole (kinds : List ℕ → List SqlType) (sources : Sources) (query : Query) (types : List SqlType) (names : List (Option (List ℕ))) (order : List OrderKey) (g : QueryGraph) : Type 0 where
+  pub typed : BuiltTyped kinds sources query types names order g
+  pub placed : (name : List ℕ) → places_fit (Base (sources.stored name)) ≡ true
+  pub apart : (b : ℕ) → SharedOrOnce sources g.boxes b
+
+-- it is well-formed
+abbrev pub WellFormed : Type 0
+WellFormed =
+    (kinds : List ℕ → List SqlType) (sources : Sources) (query : Query) (types : List SqlType) (names : List (Option (List ℕ))) (order : List OrderKey) (g : QueryGraph)
+    → BuiltWhole kinds sources query types names order g → fault g ≡ None

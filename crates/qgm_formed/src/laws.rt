@@ -1,8 +1,9 @@
 // The laws of what is built of a valid query, as a theorem.
-ghost use Rattle.qgm_formed.specs.Law.{TypesAgree};
+ghost use Rattle.qgm_formed.specs.Law.{TypesAgree, WellFormed};
 
 /// Of a graph that is built of a query whose expressions have types, the types agree (I5), and the
-/// root's columns have the types of the query's. It does nothing.
+/// root's columns have the types of the query's; it is well-formed. It does nothing.
 pub fn formed_laws()
     ensures types { TypesAgree }
+    ensures formed { WellFormed }
 {}
