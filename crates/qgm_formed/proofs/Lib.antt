@@ -12,3 +12,4 @@ pub mod Shaped
 pub mod Passes
 pub mod Agreed
 pub mod Formed
+pub mod Sampled
