@@ -13,3 +13,4 @@ pub mod Passes
 pub mod Agreed
 pub mod Formed
 pub mod Sampled
+pub mod Telling

@@ -1,3 +1,4 @@
 pub mod Typed
 pub mod Law
+pub mod Told
 pub mod Sample

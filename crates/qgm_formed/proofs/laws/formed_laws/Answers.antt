@@ -2,6 +2,7 @@ use Rattle.qgm_formed.proofs.laws.formed_laws.Goals as goal
 use Rattle.qgm_formed.proofs.Agreed.{types-found}
 use Rattle.qgm_formed.proofs.Formed.{well-formed}
 use Rattle.qgm_formed.proofs.Sampled.{sampled}
+use Rattle.qgm_formed.proofs.Telling.{told-by}
 
 pub returns-clause-types : goal.returns-clause-types
 returns-clause-types c = λ kinds sources query types names order g b. types-found kinds sources query types names order g b
@@ -11,3 +12,6 @@ returns-clause-formed c = λ kinds sources query types names order g b. well-for
 
 pub returns-clause-sampled : goal.returns-clause-sampled
 returns-clause-sampled c = sampled
+
+pub returns-clause-told : goal.returns-clause-told
+returns-clause-told c = λ at sources boxes back tells steps x t h. told-by at boxes back sources tells steps x t h
