@@ -1,30 +1,29 @@
 -- The types of what is built agree.
-use Rattle.std.proofs.Common.{inl, inr, ◌≡◌, ◌≤◌, ℕ, ◌==◌, ◌&&◌, ◌||◌, map, Bool, true, false, cond, List, [], ◌∷◌, length, Option, Some, refl, ap, ap₂, sym, ◌∙◌, subst, arith}
+use Rattle.std.proofs.Common.{inl, inr, ◌≡◌, ◌≤◌, ℕ, ◌==◌, ◌&&◌, ◌||◌, map, true, false, List, [], ◌∷◌, length, Option, Some, refl, ap, ap₂, ◌∙◌, subst, arith}
 use Rattle.std.specs.List.{list_all}
-use Rattle.std.proofs.lemmas.Bool.{cases_Bool}
 use Rattle.sql_value.specs.declared.order_key.OrderKey.{OrderKey}
 use Rattle.sql_value.specs.declared.order_key.SqlType.{SqlType}
 use Rattle.sql_value.specs.declared.order_key.SqlType.TheVariants.{Integer, Varchar}
 use Rattle.sql_meaning.specs.ResolvedTrees.{Query}
-use Rattle.qgm_core.specs.Boxes.{Ordered, QueryGraph, has_box, ids_in, is_box}
-use Rattle.qgm_core.specs.Lists.{In, first, holds, times}
+use Rattle.qgm_core.specs.Boxes.{Ordered, QueryGraph, has_box, ids_in}
+use Rattle.qgm_core.specs.Lists.{In, holds, times}
 use Rattle.qgm_core.specs.declared.node.Node.{Node}
 use Rattle.qgm_core.specs.declared.owned.OwnedQuant.{OwnedQuant}
 use Rattle.qgm_core.specs.declared.kinds.BoxKind.{BoxKind}
 use Rattle.qgm_core.specs.declared.kinds.BoxKind.TheVariants.{Base, Select, Group, SetOp, OuterJoin}
 use Rattle.qgm_terms.specs.Terms.{Cond, Term}
-use Rattle.qgm_check.specs.Types.{Lookup, agree, all_agree, arm_agrees, arms_agree, column_type, cond_fits, is_known, is_typed, known, term_type, types_after, types_agree, types_found, types_of}
+use Rattle.qgm_check.specs.Types.{Lookup, all_agree, arm_agrees, arms_agree, column_type, cond_fits, is_known, known, term_type, types_after, types_agree, types_of}
 use Rattle.qgm_core.specs.Free.{reached as reached_by}
 use Rattle.qgm_check.specs.View.{viewers}
 use Rattle.qgm_shown.specs.Maps.{Map, fresh}
 use Rattle.qgm_shown.specs.Shown as v
 use Rattle.qgm_shown.specs.Shown.{Shows, ShowsBox, Thing, of_query}
 use Rattle.qgm_shown.specs.Sources.{Sources}
-use Rattle.qgm_formed.specs.Law.{BuiltTyped, SourcesTyped, Told, TypesFound}
+use Rattle.qgm_formed.specs.Law.{BuiltTyped, TypesFound}
 use Rattle.qgm_formed.proofs.Boxes as boxes
 use Rattle.qgm_formed.proofs.Frames.{map-none}
 use Rattle.qgm_formed.proofs.Levels as levels
-use Rattle.qgm_formed.proofs.Parts.{CellIs, Cells, Fit, FitAll, Heads, Is}
+use Rattle.qgm_formed.proofs.Parts.{FitAll}
 use Rattle.qgm_formed.proofs.Passes.{all-reached, viewers-own, viewers-under}
 use Rattle.qgm_formed.proofs.Reached as reached
 use Rattle.qgm_laws.proofs.Lists.{all-from}

@@ -1,16 +1,12 @@
 -- A box that shows a thing has cells and conditions of its types.
 use Rattle.std.proofs.Common.{inl, inr, ◌≡◌, ◌≤◌, ◌<◌, ℕ, zero, suc, ◌+◌, ◌==◌, ◌&&◌, ◌||◌, nat_eq, Bool, true, false, cond, not, List, [], ◌∷◌, ◌++◌, map, get_or, length, pos, Option, Some, None, refl, ap, ap₂, sym, ◌∙◌, subst, arith}
 use Rattle.std.specs.Prelude.{◌⊎◌}
-use Rattle.std.specs.List.{list_any}
 use Rattle.std.proofs.lemmas.Bool.{eq-eqb, eqb-true}
-use Rattle.sql_ast.specs.declared.word.SetFunction.{SetFunction}
-use Rattle.sql_ast.specs.declared.word.SetFunction.TheVariants as function
 use Rattle.sql_value.specs.declared.order_key.SqlType.{SqlType}
-use Rattle.sql_value.specs.declared.order_key.SqlType.TheVariants.{Integer, Varchar}
+use Rattle.sql_value.specs.declared.order_key.SqlType.TheVariants.{Integer}
 use Rattle.sql_meaning.specs.ResolvedTrees.{Values, Test, From, Froms, Query}
 use Rattle.sql_meaning.specs.ResolvedTrees as q
 use Rattle.qgm_core.specs.Kinds.{is_A, is_E, is_F, is_S, is_select}
-use Rattle.qgm_core.specs.Boxes.{is_quant}
 use Rattle.qgm_core.specs.Lists.{In}
 use Rattle.qgm_core.specs.declared.node.Node.{Node}
 use Rattle.qgm_core.specs.declared.owned.OwnedQuant.{OwnedQuant}
@@ -23,8 +19,7 @@ use Rattle.qgm_core.specs.declared.kinds.SetOperator as forms
 use Rattle.qgm_terms.specs.Terms as t
 use Rattle.qgm_terms.specs.Terms.{Term, Cond}
 use Rattle.qgm_terms.specs.declared.named.QuantNode.{QuantNode}
-use Rattle.qgm_terms.specs.declared.named.QuantNode.TheVariants as node
-use Rattle.qgm_check.specs.Shapes.{is_among, node_fits}
+use Rattle.qgm_check.specs.Shapes.{node_fits}
 use Rattle.qgm_check.specs.View.{is_row}
 use Rattle.qgm_shown.specs.Leaves as w
 use Rattle.qgm_shown.specs.Leaves.{Leaf, Slots, after, list_leaves, test_leaves}
@@ -35,9 +30,9 @@ use Rattle.qgm_shown.specs.Sources.{Sources, from_width, froms_width, width}
 use Rattle.qgm_shown.specs.Terms as l
 use Rattle.qgm_formed.specs.Typed as typed
 use Rattle.qgm_formed.specs.Typed.{FoldsTo, Found, FromIs, FromsAre, Gives, IsOf, IsTyped, Scope, keyed, open_scope}
-use Rattle.qgm_formed.proofs.Parts.{Cells, CellIs, Fit, FitAll, Folds, Heads, Is, cells-append, fit-append, heads-append, node_of}
+use Rattle.qgm_formed.proofs.Parts.{Cells, Fit, FitAll, Heads, Is, cells-append, fit-append, heads-append, node_of}
 use Rattle.qgm_formed.proofs.TermsAre.{Asked, Held, MapIs, RefIs, cond-is, held-append, ref-is, same-some, term-is, terms-are}
-use Rattle.qgm_formed.proofs.Keys.{FoldHas, Folded, Ins, Refs, agg_types, among, and-right, either-false, append-none, arg_types, at-left, at-padded, at-right, folded, folds-to, ins-all, ins-rest, key_types, keys-length, keys-owned, not-false, or_row}
+use Rattle.qgm_formed.proofs.Keys.{Folded, Ins, Refs, agg_types, among, and-right, either-false, append-none, arg_types, at-left, at-padded, at-right, folded, folds-to, ins-all, ins-rest, key_types, keys-length, keys-owned, not-false, or_row}
 use Rattle.qgm_formed.proofs.Frames.{At, Cols, LeavesAre, SubIs, cols-append, cols-seen, from-length, froms-length, leaves-append, map-more, map-none, map-open, query-length, refs-cols, test-leaves, values-leaves}
 
 -- the map that a thing is seen through: that of a table or a view shows nothing

@@ -1,14 +1,13 @@
 -- Boxes that are known name what the graph has.
-use Rattle.std.proofs.Common.{inl, inr, ◌≡◌, ◌≤◌, ◌<◌, ℕ, zero, suc, ◌+◌, ◌-◌, ◌==◌, ◌&&◌, ◌||◌, not, Bool, true, false, cond, List, [], ◌∷◌, ◌++◌, length, map, Option, Some, None, refl, ap, ap₂, sym, ◌∙◌, subst, arith}
-use Rattle.std.specs.Prelude.{◌⊎◌, nat_lt, nat_le}
+use Rattle.std.proofs.Common.{inl, inr, ◌≡◌, ◌≤◌, ◌<◌, ℕ, zero, suc, ◌==◌, ◌&&◌, ◌||◌, not, Bool, true, false, cond, List, [], ◌∷◌, ◌++◌, length, map, Option, Some, None, refl, ap, ap₂, sym, ◌∙◌, subst, arith}
+use Rattle.std.specs.Prelude.{◌⊎◌}
 use Rattle.std.specs.List.{flat_map, list_all, list_any}
-use Rattle.std.proofs.lemmas.Bool.{and_parts, cases_Bool}
+use Rattle.std.proofs.lemmas.Bool.{cases_Bool}
 use Rattle.sql_value.specs.declared.order_key.SqlType.{SqlType}
-use Rattle.sql_value.specs.declared.order_key.SqlType.TheVariants.{Integer}
-use Rattle.qgm_core.specs.Boxes.{Ordered, all_over, has_box, ids_in, ids_of, is_box, is_quant, owns, range_in, width}
+use Rattle.qgm_core.specs.Boxes.{Ordered, ids_in, is_box, owns, range_in, width}
 use Rattle.qgm_core.specs.Free.{named_by}
 use Rattle.qgm_core.specs.Kinds.{width_by}
-use Rattle.qgm_core.specs.Lists.{In, first, holds, times}
+use Rattle.qgm_core.specs.Lists.{first, holds, times}
 use Rattle.qgm_core.specs.declared.node.Node.{Node}
 use Rattle.qgm_core.specs.declared.owned.OwnedQuant.{OwnedQuant}
 use Rattle.qgm_core.specs.declared.kinds.BoxKind.{BoxKind}
@@ -17,21 +16,19 @@ use Rattle.qgm_terms.specs.Gathered.{Search, listed, listed_cond}
 use Rattle.qgm_terms.specs.Named.{columns, names, nodes}
 use Rattle.qgm_terms.specs.Terms as t
 use Rattle.qgm_terms.specs.Terms.{Cond, Term}
-use Rattle.qgm_terms.specs.declared.named.Column.{Column}
 use Rattle.qgm_terms.specs.declared.named.QuantNode.{QuantNode}
 use Rattle.qgm_terms.specs.declared.named.QuantNode.TheVariants as node
 use Rattle.qgm_check.specs.Columns.{box_under, columns_of, fits, over_box, within}
 use Rattle.qgm_check.specs.Shapes.{node_fits, nodes_of}
-use Rattle.qgm_check.specs.Types.{column_type, is_typed, known, types_after, types_by, types_found}
+use Rattle.qgm_check.specs.Types.{column_type, types_after, types_by, types_found}
 use Rattle.qgm_check.specs.WellFormed.{once}
 use Rattle.qgm_shown.specs.Maps.{Map}
 use Rattle.qgm_shown.specs.Sources.{Sources}
-use Rattle.qgm_laws.proofs.Lists.{any-from, eq-itself}
-use Rattle.qgm_formed.proofs.Boxes as boxes
+use Rattle.qgm_laws.proofs.Lists.{any-from}
 use Rattle.qgm_formed.proofs.Frames.{At}
 use Rattle.qgm_formed.proofs.Levels as levels
 use Rattle.qgm_formed.proofs.Levels.{first-typed, number-of, some-in}
-use Rattle.qgm_formed.proofs.Parts.{CellIs, Cells, Fit, FitAll, Heads, Is, all-append, listed-fit, listed-pass, node_of}
+use Rattle.qgm_formed.proofs.Parts.{CellIs, Cells, FitAll, Heads, Is, all-append, listed-fit, listed-pass, node_of}
 
 -- ---- what a search lists of a box
 

@@ -1,27 +1,26 @@
 -- What is built of a query with types is well-formed.
-use Rattle.std.proofs.Common.{inl, inr, ◌≡◌, ◌≤◌, ◌<◌, ℕ, zero, suc, ◌+◌, ◌==◌, ◌&&◌, ◌||◌, not, Bool, true, false, cond, List, [], ◌∷◌, length, Option, Some, None, refl, ap, ap₂, sym, ◌∙◌, subst, arith}
-use Rattle.std.specs.Prelude.{◌⊎◌, nat_lt}
+use Rattle.std.proofs.Common.{inl, inr, ◌≡◌, ◌≤◌, ℕ, ◌==◌, ◌&&◌, ◌||◌, not, Bool, true, false, cond, List, [], ◌∷◌, Option, Some, None, refl, ap, ap₂, sym, ◌∙◌, subst, arith}
+use Rattle.std.specs.Prelude.{nat_lt}
 use Rattle.std.specs.List.{list_all, list_any}
-use Rattle.std.proofs.lemmas.Bool.{and_parts, cases_Bool, eq-eqb, eqb-true, or_cases}
+use Rattle.std.proofs.lemmas.Bool.{and_parts, cases_Bool, eqb-true, or_cases}
 use Rattle.sql_value.specs.declared.order_key.OrderKey.{OrderKey}
 use Rattle.sql_value.specs.declared.order_key.SqlType.{SqlType}
 use Rattle.sql_meaning.specs.ResolvedTrees.{Query}
 use Rattle.sql_meaning.specs.ResolvedTrees as q
-use Rattle.qgm_core.specs.Boxes.{Ordered, QueryGraph, all_over, has_box, ids_in, ids_of, is_box, is_quant, overs_in, owns, width}
+use Rattle.qgm_core.specs.Boxes.{Ordered, QueryGraph, has_box, ids_in, ids_of, is_box, is_quant, overs_in, owns, width}
 use Rattle.qgm_core.specs.Free.{free_in, is_owned, named_by}
 use Rattle.qgm_core.specs.Free.{reached as reached_by}
-use Rattle.qgm_core.specs.Kinds.{is_A, is_E, is_F, is_S, is_permit}
-use Rattle.qgm_core.specs.Lists.{In, first, holds, times}
+use Rattle.qgm_core.specs.Kinds.{is_A, is_E, is_F, is_S}
+use Rattle.qgm_core.specs.Lists.{In, first, holds}
 use Rattle.qgm_core.specs.declared.node.Node.{Node}
 use Rattle.qgm_core.specs.declared.owned.OwnedQuant.{OwnedQuant}
 use Rattle.qgm_core.specs.declared.kinds.BoxKind.{BoxKind}
-use Rattle.qgm_core.specs.declared.kinds.BoxKind.TheVariants.{Base, Select, Group, SetOp, OuterJoin}
+use Rattle.qgm_core.specs.declared.kinds.BoxKind.TheVariants.{Base}
 use Rattle.qgm_core.specs.declared.kinds.QuantKind.{QuantKind}
 use Rattle.qgm_terms.specs.declared.named.QuantNode.{QuantNode}
 use Rattle.qgm_terms.specs.declared.named.QuantNode.TheVariants as node
 use Rattle.qgm_check.specs.Columns.{columns_fit, places_fit}
 use Rattle.qgm_check.specs.Shapes.{is_scalar, is_scalar_in, node_fits, shape_fits}
-use Rattle.qgm_check.specs.Types.{types_agree}
 use Rattle.qgm_check.specs.View.{in_view, is_row, viewers}
 use Rattle.qgm_check.specs.WellFormed.{at_no_box, clauses, fault, fault_or, faults, first_fault, ids_known, is_counted, is_empty, keeps, least, names_in_view, once, opened_once, owned_once, permit_unseen}
 use Rattle.qgm_check.specs.declared.check.Clause.{Clause}
@@ -35,7 +34,6 @@ use Rattle.qgm_laws.proofs.Ranks.{overs-held}
 use Rattle.qgm_laws.proofs.Scope.{in-first}
 use Rattle.qgm_laws.proofs.Times.{in-times, times-in}
 use Rattle.qgm_formed.specs.Law.{BuiltTyped, BuiltWhole}
-use Rattle.qgm_formed.specs.Typed.{NotNone}
 use Rattle.qgm_formed.proofs.Agreed as agreed
 use Rattle.qgm_formed.proofs.Agreed.{shows-has}
 use Rattle.qgm_formed.proofs.Boxes as boxes

@@ -1,11 +1,10 @@
 -- What is known of the columns of boxes when heads are looked up so many times.
-use Rattle.std.proofs.Common.{inl, inr, ◌≡◌, ◌≤◌, ℕ, zero, suc, ◌+◌, ◌-◌, ◌==◌, ◌&&◌, ◌||◌, Bool, true, false, cond, List, [], ◌∷◌, ◌++◌, length, map, Option, Some, None, refl, ap, ap₂, sym, ◌∙◌, subst, arith}
+use Rattle.std.proofs.Common.{inl, inr, ◌≡◌, ◌≤◌, ℕ, zero, suc, ◌+◌, ◌-◌, ◌==◌, ◌&&◌, ◌||◌, Bool, true, false, cond, List, [], ◌∷◌, length, map, Option, Some, None, refl, ap, ap₂, sym, ◌∙◌, subst, arith}
 use Rattle.std.specs.Prelude.{slice_get}
 use Rattle.std.specs.List.{flat_map, list_all, list_any}
-use Rattle.std.proofs.lemmas.Bool.{and_parts, cases_Bool, eq-eqb, eqb-true}
+use Rattle.std.proofs.lemmas.Bool.{and_parts, cases_Bool, eqb-true}
 use Rattle.std.proofs.Math.Dec.{eqb-suc-zero}
 use Rattle.sql_value.specs.declared.order_key.SqlType.{SqlType}
-use Rattle.sql_value.specs.declared.order_key.SqlType.TheVariants.{Integer, Varchar}
 use Rattle.qgm_core.specs.Boxes.{Ordered, ids_in, ids_of, is_box, is_quant, owns, range_in}
 use Rattle.qgm_core.specs.Lists.{In, first, times}
 use Rattle.qgm_core.specs.declared.node.Node.{Node}
@@ -16,16 +15,16 @@ use Rattle.qgm_terms.specs.Named.{names_in}
 use Rattle.qgm_terms.specs.Terms as t
 use Rattle.qgm_terms.specs.Terms.{Term, Cond}
 use Rattle.qgm_terms.specs.declared.named.QuantNode.{QuantNode}
-use Rattle.qgm_check.specs.Columns.{box_under, over_box}
-use Rattle.qgm_check.specs.Types.{aggregate_type, column_type, cond_fits, integer_if, is_integer, is_known, is_typed, joined_column, known, term_type, type_found, type_in, typed, types_after, types_by, types_found}
+use Rattle.qgm_check.specs.Columns.{over_box}
+use Rattle.qgm_check.specs.Types.{aggregate_type, column_type, cond_fits, integer_if, is_integer, is_typed, joined_column, known, term_type, type_found, type_in, typed, types_after, types_by, types_found}
 use Rattle.qgm_check.specs.declared.types.Typed.{Typed}
 use Rattle.qgm_shown.specs.Maps.{Map}
 use Rattle.qgm_shown.specs.Sources.{Sources}
-use Rattle.qgm_laws.proofs.Lists.{all-in, any-in, eq-itself}
+use Rattle.qgm_laws.proofs.Lists.{any-in, eq-itself}
 use Rattle.qgm_laws.proofs.Scope.{in-first}
 use Rattle.qgm_laws.proofs.Times.{in-times, times-in, times-once}
 use Rattle.qgm_laws.proofs.Turns.{first-own}
-use Rattle.qgm_formed.proofs.Parts.{CellIs, Cells, Fit, FitAll, Folds, Heads, Is, all-append, names-pass, node_of}
+use Rattle.qgm_formed.proofs.Parts.{CellIs, Cells, Fit, Folds, Heads, Is, all-append, names-pass, node_of}
 use Rattle.qgm_formed.proofs.TypesFollow.{fit-is, type-is}
 use Rattle.qgm_formed.proofs.Frames.{At}
 use Rattle.qgm_formed.proofs.Boxes as boxes

@@ -1,9 +1,9 @@
 -- What the passes over boxes by rank mark: the boxes that are reached, and those that see a quantifier.
-use Rattle.std.proofs.Common.{inl, inr, ◌≡◌, ◌≤◌, ◌<◌, ℕ, zero, suc, ◌+◌, ◌==◌, ◌&&◌, ◌||◌, not, Bool, true, false, cond, List, [], ◌∷◌, ◌++◌, filter, map, refl, ap, ap₂, sym, ◌∙◌, subst, arith}
+use Rattle.std.proofs.Common.{inl, inr, ◌≡◌, ◌<◌, ℕ, ◌+◌, ◌==◌, ◌&&◌, ◌||◌, not, Bool, true, false, cond, List, [], ◌∷◌, ◌++◌, filter, map, refl, ap, ap₂, sym, ◌∙◌, subst, arith}
 use Rattle.std.specs.Prelude.{◌⊎◌, nat_lt}
-use Rattle.std.specs.List.{flat_map, list_all, list_any}
+use Rattle.std.specs.List.{flat_map, list_all}
 use Rattle.std.proofs.lemmas.Bool.{and_parts, cases_Bool, eq-eqb, eqb-true, or_cases}
-use Rattle.qgm_core.specs.Boxes.{Ordered, all_over, has_box, is_quant, overs_in, overs_of, owns}
+use Rattle.qgm_core.specs.Boxes.{Ordered, has_box, is_quant, overs_in, overs_of}
 use Rattle.qgm_core.specs.Free.{free_in, is_owned, named_by, named_where, put_each, reached}
 use Rattle.qgm_core.specs.Kinds.{is_F, is_select}
 use Rattle.qgm_core.specs.Lists.{In, holds, times}
@@ -12,9 +12,9 @@ use Rattle.qgm_core.specs.declared.owned.OwnedQuant.{OwnedQuant}
 use Rattle.qgm_check.specs.View.{is_row, scoped, shown_by, viewers}
 use Rattle.qgm_check.specs.WellFormed.{is_empty}
 use Rattle.qgm_shown.specs.Shown.{over_in, uses}
-use Rattle.qgm_laws.proofs.Lists.{all-in, any-from, clash, eq-itself, or-left, or-right}
+use Rattle.qgm_laws.proofs.Lists.{clash, eq-itself, or-left, or-right}
 use Rattle.qgm_laws.proofs.Times.{times-append}
-use Rattle.qgm_formed.proofs.Reached.{held-over, holds-append, lt-false, lt-true, not-later, only-one, over-none, over-some, overs-apart, unused}
+use Rattle.qgm_formed.proofs.Reached.{holds-append, lt-false, lt-true, not-later, only-one, over-none, over-some, overs-apart, unused}
 
 -- ---- marks
 

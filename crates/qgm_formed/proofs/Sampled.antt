@@ -1,11 +1,11 @@
 -- The sample computes.
-use Rattle.std.proofs.Common.{◌≡◌, ℕ, Bool, true, false, List, [], ◌∷◌, cond, codes, Option, Some, None, refl, pos}
+use Rattle.std.proofs.Common.{ℕ, Bool, true, false, List, [], ◌∷◌, cond, codes, None, refl}
 use Rattle.sql_ast.specs.Names.{same_name}
 use Rattle.sql_value.specs.declared.order_key.SqlType.{SqlType}
 use Rattle.sql_value.specs.declared.order_key.SqlType.TheVariants.{Integer}
 use Rattle.sql_meaning.specs.ResolvedViews.{body_of}
 use Rattle.qgm_shown.specs.Samples.{sources, views}
-use Rattle.qgm_formed.specs.Law.{HasColumns, SourcesTyped}
+use Rattle.qgm_formed.specs.Law.{HasColumns}
 use Rattle.qgm_formed.specs.Sample.{Sampled, kinds}
 use Rattle.qgm_formed.specs.Typed.{Scope, open_scope}
 

@@ -2,7 +2,7 @@
 use Rattle.std.proofs.Common.{inl, inr, ◌≡◌, ◌≤◌, ◌<◌, ℕ, zero, suc, ◌+◌, ◌-◌, ◌==◌, ◌&&◌, Bool, true, false, cond, List, [], ◌∷◌, ◌++◌, length, map, Option, Some, None, refl, ap, ap₂, sym, ◌∙◌, subst, arith}
 use Rattle.std.specs.Prelude.{◌⊎◌, slice_get}
 use Rattle.std.specs.List.{flat_map, list_all}
-use Rattle.std.proofs.lemmas.Bool.{and_parts, cases_Bool}
+use Rattle.std.proofs.lemmas.Bool.{and_parts}
 use Rattle.std.proofs.lemmas.List.Folds.{list_all-append}
 use Rattle.sql_value.specs.declared.order_key.SqlType.{SqlType}
 use Rattle.qgm_core.specs.Boxes.{Ordered, ids_in, is_box, owns, range_in}
@@ -16,7 +16,7 @@ use Rattle.qgm_terms.specs.Named.{names, names_in, names_in_cond}
 use Rattle.qgm_terms.specs.Terms as t
 use Rattle.qgm_terms.specs.Terms.{Arms, Cond, Term}
 use Rattle.qgm_check.specs.Columns.{over_box}
-use Rattle.qgm_check.specs.Types.{Lookup, agree, aggregate_type, arms_fit, column_type, cond_fits, integer_if, is_integer, is_known, is_typed, joined_column, known, op_type, sign_fits, term_type, type_found, type_if, type_in, types_after, types_by, types_found}
+use Rattle.qgm_check.specs.Types.{Lookup, agree, aggregate_type, arms_fit, column_type, cond_fits, integer_if, is_integer, is_known, is_typed, joined_column, op_type, sign_fits, term_type, type_found, type_if, type_in, types_after, types_by, types_found}
 use Rattle.qgm_check.specs.declared.types.Typed.{Typed}
 use Rattle.qgm_formed.proofs.Levels as levels
 use Rattle.qgm_formed.proofs.Levels.{first-typed, number-of, some-in}

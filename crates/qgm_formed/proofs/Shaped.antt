@@ -1,42 +1,40 @@
 -- The shapes of boxes that show things.
-use Rattle.std.proofs.Common.{inl, inr, ◌≡◌, ◌≤◌, ◌<◌, ℕ, zero, suc, ◌+◌, ◌==◌, ◌&&◌, ◌||◌, not, Bool, true, false, cond, List, [], ◌∷◌, ◌++◌, drop, length, map, take, Option, Some, None, refl, ap, ap₂, sym, ◌∙◌, subst, arith}
-use Rattle.std.specs.Prelude.{◌⊎◌, nat_le, nat_lt}
+use Rattle.std.proofs.Common.{inl, inr, ◌≡◌, ◌≤◌, ◌<◌, ℕ, zero, suc, ◌==◌, ◌&&◌, ◌||◌, not, Bool, true, false, List, [], ◌∷◌, ◌++◌, drop, length, map, take, Option, Some, None, refl, ap, ap₂, sym, ◌∙◌, subst, arith}
+use Rattle.std.specs.Prelude.{nat_le, nat_lt}
 use Rattle.std.specs.List.{flat_map, list_all, list_any}
 use Rattle.std.proofs.lemmas.Bool.{and_parts, cases_Bool, eq-eqb, eqb-true}
 use Rattle.std.proofs.lemmas.List.{length-append}
 use Rattle.sql_value.specs.declared.order_key.SqlType.{SqlType}
 use Rattle.sql_meaning.specs.ResolvedTrees.{From, Froms, Query, Test, Values}
 use Rattle.sql_meaning.specs.ResolvedTrees as q
-use Rattle.qgm_core.specs.Boxes.{Ordered, ids_in, is_box, is_quant, owns, width}
-use Rattle.qgm_core.specs.Kinds.{is_F, is_S, is_permit, is_plain, width_by}
-use Rattle.qgm_core.specs.Lists.{In, first, times}
+use Rattle.qgm_core.specs.Boxes.{Ordered, ids_in, is_quant, owns, width}
+use Rattle.qgm_core.specs.Kinds.{is_F, is_permit, is_plain, width_by}
+use Rattle.qgm_core.specs.Lists.{In, times}
 use Rattle.qgm_core.specs.declared.node.Node.{Node}
 use Rattle.qgm_core.specs.declared.owned.OwnedQuant.{OwnedQuant}
 use Rattle.qgm_core.specs.declared.kinds.BoxKind.{BoxKind}
 use Rattle.qgm_core.specs.declared.kinds.BoxKind.TheVariants.{Base, Select, Group, SetOp, OuterJoin}
-use Rattle.qgm_core.specs.declared.kinds.Distinct.{Distinct}
 use Rattle.qgm_core.specs.declared.kinds.Role.TheVariants.{Plain}
-use Rattle.qgm_core.specs.declared.kinds.QuantKind.TheVariants as binding
 use Rattle.qgm_core.specs.declared.kinds.SetOperator as forms
 use Rattle.qgm_terms.specs.Named.{names_in}
 use Rattle.qgm_terms.specs.Terms as t
 use Rattle.qgm_terms.specs.Terms.{Cond, Term}
 use Rattle.qgm_terms.specs.Wanted.{has_aggregate, has_aggregate_cond, reads, reads_cond}
 use Rattle.qgm_terms.specs.declared.named.QuantNode.{QuantNode}
-use Rattle.qgm_check.specs.Shapes.{all_F, are_F, arm_fits, columns_placed, head_folds, head_is_own, is_aggregate, is_column, is_none, is_unfolded, kind_fits, looks_up, role_fits, width_found}
+use Rattle.qgm_check.specs.Shapes.{are_F, arm_fits, columns_placed, head_folds, head_is_own, is_aggregate, is_column, is_none, is_unfolded, kind_fits, looks_up, role_fits, width_found}
 use Rattle.qgm_check.specs.View.{is_row}
 use Rattle.qgm_shown.specs.Leaves as w
 use Rattle.qgm_shown.specs.Leaves.{Leaf}
-use Rattle.qgm_shown.specs.Maps.{Frame, Map, fresh, ref_term}
+use Rattle.qgm_shown.specs.Maps.{Map, fresh, ref_term}
 use Rattle.qgm_shown.specs.Shown as v
 use Rattle.qgm_shown.specs.Shown.{Thing, of_groups, of_operand, of_query, of_rows, refs}
 use Rattle.qgm_shown.specs.Sources.{Sources, from_width}
-use Rattle.qgm_laws.proofs.Lists.{any-from, any-in, clash}
-use Rattle.qgm_formed.specs.Typed.{FromIs, Gives, NotNone, Scope}
+use Rattle.qgm_laws.proofs.Lists.{any-from, clash}
+use Rattle.qgm_formed.specs.Typed.{Gives, NotNone, Scope}
 use Rattle.qgm_formed.proofs.Boxes as boxes
 use Rattle.qgm_formed.proofs.Clauses.{wide}
 use Rattle.qgm_formed.proofs.Levels as levels
-use Rattle.qgm_formed.proofs.Parts.{CellIs, Cells, FitAll, Heads, Is, aggregates-none, aggregates-nowhere, reads-none, reads-nowhere}
+use Rattle.qgm_formed.proofs.Parts.{CellIs, Cells, FitAll, Heads, aggregates-none, aggregates-nowhere, reads-none, reads-nowhere}
 
 -- ---- plain boxes
 

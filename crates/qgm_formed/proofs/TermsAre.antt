@@ -1,5 +1,5 @@
 -- The expressions and conditions of a block have, in its box, the types that they have in the query.
-use Rattle.std.proofs.Common.{◌≡◌, ℕ, zero, suc, ◌==◌, ◌&&◌, ◌||◌, not, cond, Bool, true, false, List, [], ◌∷◌, ◌++◌, get_or, map, Option, Some, None, refl, ap, ap₂, sym, ◌∙◌, subst}
+use Rattle.std.proofs.Common.{◌≡◌, ℕ, ◌||◌, not, cond, Bool, true, false, List, [], ◌∷◌, ◌++◌, get_or, Option, Some, None, refl, ap, sym, ◌∙◌, subst}
 use Rattle.shared_types.specs.declared.compare.CmpOp.{CmpOp}
 use Rattle.shared_types.specs.declared.compare.CmpOp.TheVariants.{Eq, Ne, Lt, Le, Gt, Ge}
 use Rattle.sql_ast.specs.declared.word.AdditiveOp.{AdditiveOp}
@@ -26,7 +26,7 @@ use Rattle.qgm_shown.specs.Sources.{Sources}
 use Rattle.qgm_shown.specs.Terms as l
 use Rattle.qgm_formed.specs.Typed as typed
 use Rattle.qgm_formed.specs.Typed.{FoldsTo, Gives, IsOf, Scope, added, arms_typed, choices_typed}
-use Rattle.qgm_formed.proofs.Parts.{ArmsAre, Fit, Heads, Inner, Is, Signed, op_of}
+use Rattle.qgm_formed.proofs.Parts.{ArmsAre, Fit, Heads, Is, Signed, op_of}
 
 abbrev of_some : SqlType → Option SqlType → SqlType
 of_some a None = a

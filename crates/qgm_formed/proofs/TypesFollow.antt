@@ -1,5 +1,5 @@
 -- Expressions and conditions whose columns are of types have the types that are tested.
-use Rattle.std.proofs.Common.{◌≡◌, ℕ, ◌&&◌, Bool, true, false, Option, Some, refl, ap, ap₂, sym, ◌∙◌}
+use Rattle.std.proofs.Common.{◌≡◌, ℕ, ◌&&◌, Bool, true, Option, Some, refl, ap, ap₂, sym, ◌∙◌}
 use Rattle.sql_value.specs.declared.order_key.SqlType.{SqlType}
 use Rattle.sql_value.specs.declared.order_key.SqlType.TheVariants.{Integer, Varchar}
 use Rattle.qgm_terms.specs.Terms as t

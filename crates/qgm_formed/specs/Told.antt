@@ -1,5 +1,5 @@
 -- Where the types that sources tell come from: the columns of quantifiers.
-use Rattle.std.specs.Prelude.{◌≡◌, ℕ, List, Option, Some}
+use Rattle.std.specs.Prelude.{◌≡◌, ℕ, List, Some}
 use Rattle.sql_value.specs.declared.order_key.SqlType.{SqlType}
 use Rattle.qgm_core.specs.declared.node.Node.{Node}
 use Rattle.qgm_terms.specs.Terms.{Term}

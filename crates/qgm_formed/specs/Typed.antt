@@ -1,5 +1,5 @@
 -- Queries by places whose expressions have types (SQL-92, 6.3, 6.9, 6.11 to 6.14, 7.9 and 7.10).
-use Rattle.std.specs.Prelude.{◌≡◌, ℕ, zero, suc, ◌+◌, ◌++◌, ◌||◌, nat_eq, not, if◌then◌else◌, Bool, true, false, List, [], ◌∷◌, map, get_or, length, Option, Some, None, ⊤}
+use Rattle.std.specs.Prelude.{◌≡◌, ℕ, ◌+◌, ◌++◌, ◌||◌, nat_eq, not, if◌then◌else◌, Bool, true, false, List, [], ◌∷◌, map, get_or, length, Option, Some, None, ⊤}
 use Rattle.std.specs.List.{list_any}
 use Rattle.sql_ast.specs.declared.word.AdditiveOp.{AdditiveOp}
 use Rattle.sql_ast.specs.declared.word.AdditiveOp.TheVariants.{Plus, Minus, Concat}
