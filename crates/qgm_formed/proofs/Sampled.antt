@@ -38,4 +38,6 @@ sampled = record {
     ),
   );
   formed = refl;
+  text_null = refl;
+  integer_null = refl;
 }
