@@ -4,7 +4,7 @@ use Rattle.std.specs.Prelude.{◌⊎◌, nat_lt}
 use Rattle.std.specs.List.{flat_map, list_all}
 use Rattle.std.proofs.lemmas.Bool.{and_parts, cases_Bool, eq-eqb, eqb-true, or_cases}
 use Rattle.qgm_core.specs.Boxes.{Ordered, has_box, is_quant, overs_in, overs_of}
-use Rattle.qgm_core.specs.Free.{free_in, is_owned, named_by, named_where, put_each, reached}
+use Rattle.qgm_core.specs.Free.{Reaches, itself, through, free_in, is_owned, named_by, named_where, put_each, reached}
 use Rattle.qgm_core.specs.Kinds.{is_F, is_select}
 use Rattle.qgm_core.specs.Lists.{In, holds, times}
 use Rattle.qgm_core.specs.declared.node.Node.{Node}
@@ -189,3 +189,41 @@ over-times b (o ∷ os) = ap (λ z. cond {A = ℕ} (o.over == b) 1 0 + z) (over-
 pub uses-times : (b : ℕ) (ns : List Node) → times b (overs_in ns) ≡ uses b ns
 uses-times b [] = refl
 uses-times b (n ∷ ns) = times-append b (overs_of n) (overs_in ns) ∙ ap₂ ◌+◌ (over-times b n.quants) (uses-times b ns)
+
+-- ---- the same, of the relation
+
+reach-then : (bs : List Node) (b c d : ℕ) → Reaches bs b c → Reaches bs c d → Reaches bs b d
+reach-then bs b c d (itself a) k = k
+reach-then bs b c d (through n r x i j h) k = through n r d i j (reach-then bs r.over x d h k)
+
+module _ (bs : List Node) (root : ℕ) where
+  reach-all : (ns : List Node) → ((n : Node) → In n ns → In n bs) → Ordered ns → list_all (λ n. (n.id == root) || nat_lt 0 (uses n.id bs)) ns ≡ true
+      → ((b : ℕ) → ((b == root) ≡ true) ⊎ (uses b ns < uses b bs) → has_box ns b ≡ true → Reaches bs root b) → (n : Node) → In n ns → Reaches bs root n.id
+  reach-all [] sub o u inv n i = absurd i
+  reach-all (c ∷ cs) sub o u inv n i =
+      let p = and_parts ((c.id == root) || nat_lt 0 (uses c.id bs)) (list_all (λ n. (n.id == root) || nat_lt 0 (uses n.id bs)) cs) u in
+      let none : uses c.id (c ∷ cs) ≡ 0 = (let x = over-none c.id cs c.quants o.1 o.0 in let y = unused c.id cs o.2 o.0 in omega arith) in
+      let wanted : ((c.id == root) ≡ true) ⊎ (uses c.id (c ∷ cs) < uses c.id bs) = elim (or_cases (c.id == root) (nat_lt 0 (uses c.id bs)) p.0) [
+        | inl t ↦ inl t
+        | inr t ↦ (let l = lt-true 0 (uses c.id bs) t in inr (omega arith))
+      ] in
+      let here = inv c.id wanted (or-left (c.id == c.id) (has_box cs c.id) (eq-itself c.id)) in
+      elim i [
+        | inl e ↦ subst (λ (z : Node). Reaches bs root z.id) e here
+        | inr j ↦ reach-all cs (λ z k. sub z (inr k)) o.2 p.1 (λ b w h. next c cs (sub c (inl refl)) inv here b w h) n j
+      ]
+    where
+      next : (c : Node) (cs : List Node) → In c bs → ((b : ℕ) → ((b == root) ≡ true) ⊎ (uses b (c ∷ cs) < uses b bs) → has_box (c ∷ cs) b ≡ true → Reaches bs root b) → Reaches bs root c.id
+          → (b : ℕ) → ((b == root) ≡ true) ⊎ (uses b cs < uses b bs) → has_box cs b ≡ true → Reaches bs root b
+      next c cs i inv here b w h =
+          let there : has_box (c ∷ cs) b ≡ true = or-right (c.id == b) (has_box cs b) h in
+          elim w [
+            | inl t ↦ inv b (inl t) there
+            | inr l ↦ elim (cases_Bool (nat_lt 0 (over_in b c.quants))) [
+              | inl t ↦ (let r = over-some b c.quants (lt-true 0 (over_in b c.quants) t) in subst (Reaches bs root) r.1.1 (reach-then bs root c.id r.0.over here (through c r.0 r.0.over i r.1.0 (itself r.0.over))))
+              | inr t ↦ (let z = lt-false (over_in b c.quants) t in inv b (inr (omega arith)) there)
+            ]
+          ]
+
+  pub root-reaches : Ordered bs → list_all (λ n. (n.id == root) || nat_lt 0 (uses n.id bs)) bs ≡ true → (n : Node) → In n bs → Reaches bs root n.id
+  root-reaches o u n i = reach-all bs (λ z k. k) o u (λ b w h. elim w [ inl t ↦ subst (Reaches bs root) (sym (eqb-true b root t)) (itself root) | inr l ↦ absurd (omega arith) ]) n i

@@ -6,7 +6,8 @@ use Rattle.sql_value.specs.declared.order_key.SqlType.{SqlType}
 use Rattle.sql_meaning.specs.ResolvedTrees.{Query}
 use Rattle.sql_meaning.specs.ResolvedTrees as q
 use Rattle.qgm_core.specs.Boxes.{Ordered, QueryGraph, ids_in}
-use Rattle.qgm_core.specs.Lists.{first, times}
+use Rattle.qgm_core.specs.Free.{Reaches}
+use Rattle.qgm_core.specs.Lists.{In, first, times}
 use Rattle.qgm_core.specs.declared.kinds.BoxKind.TheVariants.{Base}
 use Rattle.qgm_core.specs.declared.node.Node.{Node}
 use Rattle.qgm_terms.specs.Terms.{Term}
@@ -66,3 +67,9 @@ abbrev pub WellFormed : Type 0
 WellFormed =
     (kinds : List ℕ → List SqlType) (sources : Sources) (query : Query) (types : List SqlType) (names : List (Option (List ℕ))) (order : List OrderKey) (g : QueryGraph)
     → BuiltWhole kinds sources query types names order g → fault g ≡ None
+
+-- its root reaches every box
+abbrev pub RootReaches : Type 0
+RootReaches =
+    (sources : Sources) (query : Query) (names : List (Option (List ℕ))) (order : List OrderKey) (g : QueryGraph)
+    → IsBuiltOf sources query names order g → Ordered g.boxes → (n : Node) → In n g.boxes → Reaches g.boxes g.root n.id

@@ -1,6 +1,7 @@
 use Rattle.qgm_formed.proofs.laws.formed_laws.Goals as goal
 use Rattle.qgm_formed.proofs.Agreed.{types-found}
 use Rattle.qgm_formed.proofs.Formed.{well-formed}
+use Rattle.qgm_formed.proofs.Passes.{root-reaches}
 use Rattle.qgm_formed.proofs.Sampled.{sampled}
 use Rattle.qgm_formed.proofs.Telling.{told-by}
 
@@ -15,3 +16,6 @@ returns-clause-sampled c = sampled
 
 pub returns-clause-told : goal.returns-clause-told
 returns-clause-told c = λ at sources boxes back tells steps x t h. told-by at boxes back sources tells steps x t h
+
+pub returns-clause-reaches : goal.returns-clause-reaches
+returns-clause-reaches c = λ sources query names order g b ordered n i. root-reaches g.boxes g.root ordered b.used n i
