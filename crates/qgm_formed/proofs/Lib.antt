@@ -14,3 +14,6 @@ pub mod Agreed
 pub mod Formed
 pub mod Sampled
 pub mod Telling
+pub mod LikeTerms
+pub mod LikeBoxes
+pub mod LikeGraphs

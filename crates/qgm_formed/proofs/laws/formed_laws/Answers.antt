@@ -1,5 +1,6 @@
 use Rattle.qgm_formed.proofs.laws.formed_laws.Goals as goal
 use Rattle.qgm_formed.proofs.Agreed.{types-found}
+use Rattle.qgm_formed.proofs.LikeGraphs.{same-but-numbers}
 use Rattle.qgm_formed.proofs.Formed.{well-formed}
 use Rattle.qgm_formed.proofs.Passes.{root-reaches}
 use Rattle.qgm_formed.proofs.Sampled.{sampled}
@@ -19,3 +20,6 @@ returns-clause-told c = λ at sources boxes back tells steps x t h. told-by at b
 
 pub returns-clause-reaches : goal.returns-clause-reaches
 returns-clause-reaches c = λ sources query names order g b ordered n i. root-reaches g.boxes g.root ordered b.used n i
+
+pub returns-clause-alike : goal.returns-clause-alike
+returns-clause-alike c = λ sources shared typed query names order g h first second one two told. same-but-numbers sources shared typed query names order g h first second one two told
