@@ -5,7 +5,7 @@ use Rattle.sql_ast.specs.declared.word.SetFunction.TheVariants as function
 use Rattle.sql_value.specs.declared.order_key.SqlType.{SqlType}
 use Rattle.sql_meaning.specs.ResolvedTrees.{From, Froms, Query, Test, Values}
 use Rattle.sql_meaning.specs.ResolvedTrees as q
-use Rattle.qgm_core.specs.declared.kinds.BoxKind.TheVariants.{Base, Group, SetOp}
+use Rattle.qgm_core.specs.declared.kinds.BoxKind.TheVariants.{SetOp}
 use Rattle.qgm_core.specs.declared.kinds.Distinct.{Distinct}
 use Rattle.qgm_core.specs.declared.kinds.SetOperator as forms
 use Rattle.qgm_core.specs.declared.node.Node.{Node}

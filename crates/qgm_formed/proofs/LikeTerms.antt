@@ -1,6 +1,5 @@
 -- Expressions of two boxes that show one thing differ in numbers alone.
-use Rattle.std.proofs.Common.{◌≡◌, ℕ, zero, suc, cond, Bool, true, false, List, [], ◌∷◌, ◌++◌, get_or, Option, Some, None, refl, ap, ap₂, sym, subst}
-use Rattle.shared_types.specs.declared.compare.CmpOp.{CmpOp}
+use Rattle.std.proofs.Common.{◌≡◌, ℕ, zero, suc, cond, Bool, true, false, List, [], ◌∷◌, ◌++◌, get_or, Option, Some, None, refl, ap₂, subst}
 use Rattle.sql_ast.specs.declared.word.Quantifier.{Quantifier}
 use Rattle.sql_ast.specs.declared.word.Quantifier.TheVariants as quantifier
 use Rattle.sql_ast.specs.declared.word.SetFunction.{SetFunction}
