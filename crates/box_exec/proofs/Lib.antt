@@ -1,0 +1,5 @@
+mod Steps
+mod Loops
+mod Keys
+mod Places
+mod Quantifiers

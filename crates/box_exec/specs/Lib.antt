@@ -1,0 +1,9 @@
+pub mod Bound
+pub mod Sources
+pub mod Forms
+pub mod Lists
+pub mod Outer
+pub mod Groups
+pub mod Counted
+pub mod Ready
+pub mod Plans
