@@ -3,3 +3,6 @@ mod Loops
 mod Keys
 mod Places
 mod Quantifiers
+mod Names
+mod Entries
+mod Roots

@@ -7,3 +7,4 @@ pub mod Groups
 pub mod Counted
 pub mod Ready
 pub mod Plans
+pub mod Beyond

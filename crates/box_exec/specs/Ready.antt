@@ -97,3 +97,7 @@ SubsOf f env (r ∷ rs) (s ∷ ss) = (s.quant ≡ r.id) × Alike (held s.rows) (
 -- what is given for each combination of rows of the quantifiers of a box from a place on
 abbrev pub over_left : List Table → Node → List Node → ℕ → Environment → Bag
 over_left tables n below k env = over_each (drop k n.quants) (quant_rows n (bag_in tables below)) (given_by (quant_rows n (bag_in tables below)) n) env
+
+-- rows that are those of a box in every environment
+abbrev pub Holds : List Table → Node → List Node → Source → Type 0
+Holds tables n ns s = (env : Environment) → Alike (held s) (rows_of tables n (bag_in tables ns) env)

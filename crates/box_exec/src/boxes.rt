@@ -33,8 +33,8 @@ pub(crate) struct At<'a> {
     pub loops: &'a [Loop<'a>],
 }
 
-// One evaluation of a box more.
-fn step<L: Ledger>(steps: &mut Steps<L>, count: &mut u64)
+/// One evaluation of a box more.
+pub(crate) fn step<L: Ledger>(steps: &mut Steps<L>, count: &mut u64)
     ensures { (start : ℕ) → Counted start steps.old count.old → Counted start steps.new count.new }
 {
     steps.tick();
