@@ -1,6 +1,6 @@
 -- The rows that are kept, from the last box.
 use Rattle.std.specs.Prelude.{⊤}
-use Rattle.std.proofs.Common.{ℕ, suc, zero, ◌≡◌, ◌<◌, ◌≤◌, ◌+◌, ◌-◌, ◌++◌, ◌==◌, Bool, true, false, cond, List, [], ◌∷◌, drop, get_or, length, map, slice_get, Option, Some, None, refl, sym, ◌∙◌, ap, ap₂, subst, arith}
+use Rattle.std.proofs.Common.{ℕ, suc, zero, ◌≡◌, ◌<◌, ◌≤◌, ◌+◌, ◌-◌, ◌++◌, ◌==◌, ◌&&◌, Bool, true, false, cond, List, [], ◌∷◌, drop, get_or, length, map, slice_get, Option, Some, None, refl, sym, ◌∙◌, ap, ap₂, subst, arith}
 use Rattle.std.proofs.lemmas.List.{length_push}
 use Rattle.row_bag.specs.Bags.{Alike}
 use Rattle.row_bag.specs.declared.tables.Table.{Table}
@@ -12,6 +12,10 @@ use Rattle.qgm_meaning.specs.Values.{Bag, Environment, row_of}
 use Rattle.qgm_meaning.proofs.Frames.{SameRows, bag-framed, itself}
 use Rattle.box_exec.specs.Beyond.{LooksNowhere, beyond, beyond_of, beyonds}
 use Rattle.box_exec.specs.Ready.{AllFit, Entry, Fit, Holds, Ready}
+use Rattle.qgm_core.specs.Lists.{holds}
+use Rattle.qgm_meaning.specs.Plain.{counted_by}
+use Rattle.box_exec.specs.Costs.{Between, Keeps, asked, is_held}
+use Rattle.box_exec.specs.Kept.{KeptAs, is_nil, kept_costs, kept_number}
 use Rattle.box_exec.specs.Sources.{held}
 use Rattle.box_exec.specs.declared.source.Source.{Source}
 use Rattle.box_exec.proofs.Loops.{from}
@@ -74,3 +78,30 @@ beyonds-more ns i j n xs x e l at is one = ap₂ (λ (a : List (List ℕ)) (b : 
 pub map-push : {X Y : Type 0} (f : X → Y) (xs : List X) (x : X) → map f (xs ++ x ∷ []) ≡ map f xs ++ f x ∷ []
 map-push f [] x = refl
 map-push {Y = Y} f (y ∷ xs) x = ap (λ (zs : List Y). f y ∷ zs) (map-push f xs x)
+
+-- ---- which are kept
+
+keeps-longer : (memo : List (Option Source)) (o : Option Source) (kept : ℕ → Bool) (ns : List Node) → length ns ≤ length memo → Keeps memo kept ns → Keeps (memo ++ o ∷ []) kept ns
+keeps-longer memo o kept [] l h = tt
+keeps-longer memo o kept (n ∷ ns) l h = (ap is_held (get-before memo o (length ns) (omega (arith, l))) ∙ h.0, keeps-longer memo o kept ns (omega (arith, l)) h.1)
+
+pub keeps-more : (memo : List (Option Source)) (o : Option Source) (kept : ℕ → Bool) (ns : List Node) (i j : ℕ) (n : Node) → j ≡ i + 1 → i < length ns → n ≡ get_or ns i n → length memo ≡ length (drop j ns) → is_held (Some o) ≡ kept n.id → Keeps memo kept (drop j ns) → Keeps (memo ++ o ∷ []) kept (drop i ns)
+keeps-more memo o kept ns i j n e l at long flag h =
+    subst (Keeps (memo ++ o ∷ []) kept) (sym (here ns i j n e l at))
+    (ap is_held (get-end memo o (length (drop j ns)) (sym long)) ∙ flag, keeps-longer memo o kept (drop j ns) (omega (arith, long)) h)
+
+kept-drop : (kept : ℕ → Bool) (marks : List ℕ) (ns : List Node) (i : ℕ) → KeptAs kept marks ns → KeptAs kept marks (drop i ns)
+kept-drop kept marks ns zero h = h
+kept-drop kept marks [] (suc i) h = h
+kept-drop kept marks (n ∷ ns) (suc i) h = kept-drop kept marks ns i h.1
+
+pub kept-here : (kept : ℕ → Bool) (marks : List ℕ) (ns : List Node) (i j : ℕ) (n : Node) → j ≡ i + 1 → i < length ns → n ≡ get_or ns i n → KeptAs kept marks ns → kept n.id ≡ (is_nil (beyond_of n (beyond (drop j ns))) && holds n.id marks)
+kept-here kept marks ns i j n e l at h = (subst (KeptAs kept marks) (here ns i j n e l at) (kept-drop kept marks ns i h)).0
+
+pub kept-took : (tables : List Table) (kept : ℕ → Bool) (ns : List Node) (i j : ℕ) (n : Node) → j ≡ i + 1 → i < length ns → n ≡ get_or ns i n → (keep : Bool) → keep ≡ kept n.id → (old s new : ℕ) → Between (kept_number kept (drop j ns)) (kept_costs tables kept (drop j ns)) old s
+    → Between (cond keep 1 0) (cond keep (counted_by n.parts.kind n (bag_in tables (drop j ns)) (asked tables kept (drop j ns)) []) 0) s new → Between (kept_number kept (drop i ns)) (kept_costs tables kept (drop i ns)) old new
+kept-took tables kept ns i j n e l at keep flag old s new h k =
+    let number : kept_number kept (drop i ns) ≡ cond keep 1 0 + kept_number kept (drop j ns) = ap (kept_number kept) (here ns i j n e l at) ∙ ap (λ (b : Bool). cond b 1 0 + kept_number kept (drop j ns)) (sym flag) in
+    let cost : kept_costs tables kept (drop i ns) ≡ cond keep (counted_by n.parts.kind n (bag_in tables (drop j ns)) (asked tables kept (drop j ns)) []) 0 + kept_costs tables kept (drop j ns) =
+    ap (kept_costs tables kept) (here ns i j n e l at) ∙ ap (λ (b : Bool). cond b (counted_by n.parts.kind n (bag_in tables (drop j ns)) (asked tables kept (drop j ns)) []) 0 + kept_costs tables kept (drop j ns)) (sym flag) in
+    (omega (arith, h.0, k.0, number), omega (arith, h.1, k.1, cost))

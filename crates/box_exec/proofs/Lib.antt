@@ -2,6 +2,7 @@ mod Steps
 mod Loops
 mod Keys
 mod Places
+mod Evaluations
 mod Quantifiers
 mod Names
 mod Entries

@@ -13,6 +13,8 @@ use Rattle.qgm_meaning.specs.Values.{Bag, Environment}
 use Rattle.row_bag.specs.Bags.{Alike}
 use Rattle.box_exec.specs.Ready.{AllFit, Entry, Fit, Held, IsOpen, Ready, weight}
 use Rattle.box_exec.specs.declared.source.Source.{Source}
+use Rattle.box_exec.specs.Costs.{is_held}
+use Rattle.box_exec.proofs.Evaluations.{keeps-under}
 use Rattle.box_exec.proofs.Loops.{from}
 
 pub not-there : (ns : List Node) (b : ℕ) → position (is_box b) ns ≡ None → has_box ns b ≡ false
@@ -82,12 +84,13 @@ nothing-under tables ns b e env = ap (λ (f : Environment → Bag). f env) (rank
 pub bag-at : (tables : List Table) (ns : List Node) (b i : ℕ) (n : Node) → position (is_box b) ns ≡ Some i → n ≡ get_or ns i n → (env : Environment) → bag_in tables ns b env ≡ rows_of tables n (bag_in tables (drop (i + 1) ns)) env
 bag-at tables ns b i n e at env = ap (λ (f : Environment → Bag). f env) (rank-at (λ env. []) (rows_of tables) ns b i n e at)
 
-pub open-under : (tables : List Table) (memo : List (Option Source)) (ns behind : List Node) (b i : ℕ) (n : Node) → position (is_box b) ns ≡ Some i → n ≡ get_or ns i n → behind ≡ drop (i + 1) ns → Ready tables memo ns
+pub open-under : (tables : List Table) (memo : List (Option Source)) (ns behind : List Node) (b i : ℕ) (n : Node) → position (is_box b) ns ≡ Some i → n ≡ get_or ns i n → behind ≡ drop (i + 1) ns → is_held (slice_get memo (length behind)) ≡ false → Ready tables memo ns
     → IsOpen tables memo ns b n behind
-open-under tables memo ns behind b i n e at is ready =
+open-under tables memo ns behind b i n e at is unheld ready =
+    let free : is_held (slice_get memo (length (drop (i + 1) ns))) ≡ false = subst (λ (ms : List Node). is_held (slice_get memo (length ms)) ≡ false) is unheld in
     let l = inside ns b i n e in
     let h = ready-at tables memo ns i n l at ready in
-    subst (IsOpen tables memo ns b n) (sym is) (record { bag = bag-at tables ns b i n e at; fit = h.0; ready = h.2; less = weight-at ns i n l at })
+    subst (IsOpen tables memo ns b n) (sym is) (record { bag = bag-at tables ns b i n e at; fit = h.0; ready = h.2; less = weight-at ns i n l at; keeps = keeps-under tables memo ns b i n e at free })
 
 entry-holds : (tables : List Table) (n : Node) (ns : List Node) (o : Option (Option Source)) (rows : Bag) (env : Environment) → Entry tables n ns o → Held o rows → Alike rows (rows_of tables n (bag_in tables ns) env)
 entry-holds tables n ns None rows env h e = absurd e

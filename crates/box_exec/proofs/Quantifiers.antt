@@ -1,5 +1,6 @@
 -- What boxes give over what stands under their quantifiers.
 use Rattle.std.proofs.Common.{ℕ, suc, zero, ◌≡◌, ◌<◌, ◌≤◌, ◌+◌, ◌++◌, ◌||◌, ◌==◌, not, Bool, true, false, cond, List, [], ◌∷◌, Option, Some, None, All, drop, filter, get_or, length, map, take, append_assoc, append-nil, add-one, refl, sym, ◌∙◌, ap, ap₂, subst, arith}
+use Rattle.std.proofs.Math.ListN.{drop_of_length-le}
 use Rattle.std.proofs.lemmas.List.{length-map, take_more}
 use Rattle.std.proofs.lemmas.List.Elements.{filter-append}
 use Rattle.std.specs.List.{list_any}
@@ -31,6 +32,8 @@ use Rattle.box_exec.specs.Sources.{held, held_by}
 use Rattle.box_exec.specs.declared.boxes.At.{At}
 use Rattle.box_exec.specs.declared.source.Sub.{Sub}
 use Rattle.box_exec.specs.declared.under.Loop.{Loop}
+use Rattle.qgm_meaning.specs.Plain.{Counts, under_each}
+use Rattle.box_exec.proofs.Evaluations.{two-under}
 use Rattle.box_exec.proofs.Loops.{from}
 
 -- nothing is added at no
@@ -61,6 +64,13 @@ placed at plan k l h e =
       subst (λ (x : OwnedQuant). first (is_quant x.id) (ranges ls) ≡ Some x) (sym here) (own k l.range within),
     ))
     plan.fit.numbered
+
+-- all quantifiers have been gone through
+pub range-past : (ls : List Loop) (k : ℕ) → length ls ≤ k → length (ranges ls) ≤ k
+range-past ls k h = let e : length (ranges ls) ≡ length ls = length-map ls (λ (l : Loop). l.range) in omega (arith, h, e)
+
+pub past-all : (at : At) → Planned at → (k : ℕ) → length at.loops.now ≤ k → drop k at.node.now.quants ≡ []
+past-all at plan k h = subst (λ (rs : List OwnedQuant). drop k rs ≡ []) plan.ranged (drop_of_length-le (ranges at.loops.now) (range-past at.loops.now k h))
 
 -- what it gives
 pub quant-at : (at : At) → Planned at → (k : ℕ) (l : Loop) → k < length at.loops.now → l ≡ get_or at.loops.now k l → (env : Environment) → quant_rows at.node.now (family at) l.range.id env ≡ family at l.range.over env
@@ -159,6 +169,11 @@ two-first at plan p q h e k f =
     let first : at.node.now.quants ≡ p.range ∷ drop 1 at.node.now.quants = (placed at plan 0 p (omega (arith, h)) e).0 in
     let second : drop 1 at.node.now.quants ≡ q.range ∷ drop 2 at.node.now.quants = (placed at plan 1 q (omega (arith, h)) k).0 in
     ap (λ (rs : List OwnedQuant). of_two rs f) (first ∙ ap (λ (rs : List OwnedQuant). p.range ∷ rs) second)
+
+-- what the boxes under two quantifiers take
+pub two-at : (at : At) → Planned at → (p q : Loop) (count : Counts) (env : Environment) → 2 ≤ length at.loops.now → p ≡ get_or at.loops.now 0 p → q ≡ get_or at.loops.now 1 q → count p.range.over env + count q.range.over env ≤ under_each at.node.now.quants count env
+two-at at plan p q count env h e k =
+    two-under at.node.now.quants count env p.range q.range (drop 1 at.node.now.quants) (drop 2 at.node.now.quants) (placed at plan 0 p (omega (arith, h)) e).0 (placed at plan 1 q (omega (arith, h)) k).0
 
 -- the rows of a group box
 pub group-rows : (at : At) → Planned at → (l : Loop) (keys : ℕ) (env : Environment) (rows made : Bag) → 0 < length at.loops.now → l ≡ get_or at.loops.now 0 l → Alike rows (family at l.range.over env)

@@ -5,6 +5,8 @@ pub mod Lists
 pub mod Outer
 pub mod Groups
 pub mod Counted
+pub mod Costs
 pub mod Ready
 pub mod Plans
 pub mod Beyond
+pub mod Kept

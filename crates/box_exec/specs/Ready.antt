@@ -12,6 +12,8 @@ use Rattle.qgm_meaning.specs.Searches.{names, names_cond}
 use Rattle.qgm_meaning.specs.Values.{Bag, Environment}
 use Rattle.row_bag.specs.Bags.{Alike}
 use Rattle.row_bag.specs.declared.tables.Table.{Table}
+use Rattle.box_exec.specs.Costs.{Keeps, asked}
+use Rattle.qgm_meaning.specs.Plain.{counted_by}
 use Rattle.box_exec.specs.Sources.{held}
 use Rattle.box_exec.specs.declared.source.Source.{Source}
 use Rattle.box_exec.specs.declared.source.Sub.{Sub}
@@ -78,6 +80,7 @@ pub record IsOpen (tables : List Table) (memo : List (Option Source)) (below : L
   pub fit : Fit n behind
   pub ready : Ready tables memo behind
   pub less : length n.quants + 7 + weight behind ≤ weight below
+  pub keeps : (kept : ℕ → Bool) → Keeps memo kept below → Keeps memo kept behind × ((env : Environment) → asked tables kept below b env ≡ counted_by n.parts.kind n (bag_in tables behind) (asked tables kept behind) env)
 
 -- what stands under a quantifier over box b
 abbrev pub Stands : List Table → List (Option Source) → List Node → ℕ → Under → Type 0

@@ -1,13 +1,16 @@
 // The rows of boxes.
-ghost use Rattle.std.specs.Prelude.{◌≡◌, ◌++◌, ℕ, IfOk, OnOk, filter};
+ghost use Rattle.std.specs.Prelude.{◌≡◌, ◌+◌, ◌++◌, ℕ, Bool, IfOk, OnOk, filter, if◌then◌else◌, true};
 ghost use Rattle.box_exec.specs.Bound.{env_of};
+ghost use Rattle.box_exec.specs.Costs.{Between, Keeps, asked, at_level};
 ghost use Rattle.box_exec.specs.Counted.{Counted};
 ghost use Rattle.box_exec.specs.Plans as plan;
 ghost use Rattle.box_exec.specs.Ready.{Fit, Ready, SubsOf, isnt_F};
 ghost use Rattle.box_exec.specs.Sources.{held};
 ghost use Rattle.qgm_core.specs.declared.kinds.BoxKind.TheVariants as kind;
 ghost use Rattle.qgm_meaning.specs.Meaning as m;
+ghost use Rattle.qgm_meaning.specs.Plain.{counted_by, under_each, under_others};
 ghost use Rattle.row_bag.specs.Bags.{Alike, keep};
+ghost use Rattle.sql_value.specs.declared.level.Level.TheVariants as Level;
 
 use crate::bindings::Bindings;
 use crate::combining::combined;
@@ -35,7 +38,8 @@ pub(crate) struct At<'a> {
 
 /// One evaluation of a box more.
 pub(crate) fn step<L: Ledger>(steps: &mut Steps<L>, count: &mut u64)
-    ensures { (start : ℕ) → Counted start steps.old count.old → Counted start steps.new count.new }
+    ensures counted { (start : ℕ) → Counted start steps.old count.old → Counted start steps.new count.new }
+    ensures ticked { steps.new ≡ steps.old + 1 }
 {
     steps.tick();
     *count = count.saturating_add(1);
@@ -55,6 +59,7 @@ pub(crate) fn evaluated<'a, L: Ledger>(
     requires fit { Fit node.now below.now }
     ensures rows { IfOk result (λ bag. Alike bag (m.rows_of run.now.tables.now node.now (m.bag_in run.now.tables.now below.now) (env_of env.now))) }
     ensures counted { (start : ℕ) → Counted start steps.old count.old → Counted start steps.new count.new }
+    ensures took { (kept : ℕ → Bool) → Keeps run.now.memo.now kept below.now → IfOk result (λ bag. Between 1 (counted_by node.now.parts.kind node.now (m.bag_in run.now.tables.now below.now) (asked run.now.tables.now kept below.now) (env_of env.now)) steps.old steps.new) }
 {
     step(steps, count);
     let loops = loops(run, node.quants.as_slice(), below)?;
@@ -65,6 +70,17 @@ pub(crate) fn evaluated<'a, L: Ledger>(
         loops: &loops,
     };
     of_kind(&at, env, steps, count)
+}
+
+// Whether nothing is there.
+fn is_no(level: Level) -> bool
+    ensures none { result ≡ true → level ≡ Level.No }
+    ensures there { (n : ℕ) → at_level level n ≡ (if result then 0 else n) }
+{
+    match level {
+        Level::No => true,
+        Level::Cardinality | Level::Division | Level::Overflow | Level::Yes => false,
+    }
 }
 
 // The rows of a box by its kind.
@@ -78,6 +94,7 @@ fn of_kind<L: Ledger>(
     requires planned { plan.Planned at.now }
     ensures rows { IfOk result (λ bag. Alike bag (plan.rows_at at.now (env_of env.now))) }
     ensures counted { (start : ℕ) → Counted start steps.old count.old → Counted start steps.new count.new }
+    ensures took { (kept : ℕ → Bool) → plan.KeepsAt at.now kept → IfOk result (λ bag. Between 1 (plan.cost_at at.now kept (env_of env.now)) steps.old (steps.new + 1)) }
 {
     match &at.node.parts.kind {
         BoxKind::Base(table) => copied_rows(at.run.alloc, table_rows(at.run.tables, &table.name)),
@@ -102,6 +119,7 @@ fn rows_under<'a, L: Ledger>(
     requires stands { plan.StandsAt at.now l.now }
     ensures rows { IfOk result (λ s. Alike (held s) (plan.family at.now l.now.range.over (env_of env.now))) }
     ensures counted { (start : ℕ) → Counted start steps.old count.old → Counted start steps.new count.new }
+    ensures took { (kept : ℕ → Bool) → plan.KeepsAt at.now kept → IfOk result (λ s. Between 0 (plan.asked_at at.now kept l.now.range.over (env_of env.now)) steps.old steps.new) }
 {
     match l.under {
         Under::Kept(rows) => Ok(Source::Borrowed(rows)),
@@ -123,6 +141,7 @@ fn selected<L: Ledger>(
     requires planned { plan.Planned at.now }
     ensures rows { IfOk result (λ bag. Alike bag (m.rows_by kind.Select (plan.tables_of at.now) at.now.node.now (m.quant_rows at.now.node.now (plan.family at.now)) (env_of env.now))) }
     ensures counted { (start : ℕ) → Counted start steps.old count.old → Counted start steps.new count.new }
+    ensures took { (kept : ℕ → Bool) → plan.KeepsAt at.now kept → IfOk result (λ bag. Between 0 (plan.cost_left at.now kept 0 (env_of env.now)) steps.old steps.new) }
 {
     let mut out = Bag::new(at.run.alloc);
     each(at, 0, Level::Yes, &*env, &mut out, steps, count)?;
@@ -144,8 +163,9 @@ fn each<'x, L: Ledger>(
     requires planned { plan.Planned at.now }
     ensures rows { OnOk result (Alike out.new (out.old ++ keep level (plan.left_at at.now k (env_of env.now)))) }
     ensures counted { (start : ℕ) → Counted start steps.old count.old → Counted start steps.new count.new }
+    ensures took { (kept : ℕ → Bool) → plan.KeepsAt at.now kept → OnOk result (Between 0 (at_level level (plan.cost_left at.now kept k (env_of env.now))) steps.old steps.new) }
 {
-    if level == Level::No {
+    if is_no(level) {
         return Ok(());
     }
     let Some(l) = at.loops.get(k) else {
@@ -184,6 +204,7 @@ fn add_head<L: Ledger>(
     requires planned { plan.Planned at.now }
     ensures rows { OnOk result (Alike out.new (out.old ++ keep level (m.given_by (m.quant_rows at.now.node.now (plan.family at.now)) at.now.node.now (env_of env.now)))) }
     ensures counted { (start : ℕ) → Counted start steps.old count.old → Counted start steps.new count.new }
+    ensures took { (kept : ℕ → Bool) → plan.KeepsAt at.now kept → OnOk result (Between 0 (under_others at.now.node.now.quants (plan.asked_at at.now kept) (env_of env.now)) steps.old steps.new) }
 {
     let subs = subs(at, env, steps, count)?;
     add_given(at.run.alloc, at.node, subs.as_slice(), level, env, out)
@@ -200,6 +221,7 @@ fn subs<'a, L: Ledger>(
     requires planned { plan.Planned at.now }
     ensures rows { IfOk result (λ subs. SubsOf (plan.family at.now) (env_of env.now) (filter isnt_F (plan.ranges at.now.loops.now)) subs.items) }
     ensures counted { (start : ℕ) → Counted start steps.old count.old → Counted start steps.new count.new }
+    ensures took { (kept : ℕ → Bool) → plan.KeepsAt at.now kept → IfOk result (λ subs. Between 0 (under_others (plan.ranges at.now.loops.now) (plan.asked_at at.now kept) (env_of env.now)) steps.old steps.new) }
 {
     let mut subs = Vec::new(at.run.alloc);
     for l in at.loops {
@@ -226,6 +248,7 @@ fn groups<L: Ledger>(
     requires planned { plan.Planned at.now }
     ensures rows { IfOk result (λ bag. Alike bag (m.rows_by (kind.Group keys) (plan.tables_of at.now) at.now.node.now (m.quant_rows at.now.node.now (plan.family at.now)) (env_of env.now))) }
     ensures counted { (start : ℕ) → Counted start steps.old count.old → Counted start steps.new count.new }
+    ensures took { (kept : ℕ → Bool) → plan.KeepsAt at.now kept → IfOk result (λ bag. Between 0 (under_each at.now.node.now.quants (plan.asked_at at.now kept) (env_of env.now)) steps.old steps.new) }
 {
     let Some(l) = at.loops.get(0) else {
         return Ok(Bag::new(at.run.alloc));
@@ -248,6 +271,7 @@ fn put_together<L: Ledger>(
     requires planned { plan.Planned at.now }
     ensures rows { IfOk result (λ bag. Alike bag (m.of_two at.now.node.now.quants (λ p q. m.combined operator width (m.quant_rows at.now.node.now (plan.family at.now) p (env_of env.now)) (m.quant_rows at.now.node.now (plan.family at.now) q (env_of env.now))))) }
     ensures counted { (start : ℕ) → Counted start steps.old count.old → Counted start steps.new count.new }
+    ensures took { (kept : ℕ → Bool) → plan.KeepsAt at.now kept → IfOk result (λ bag. Between 0 (under_each at.now.node.now.quants (plan.asked_at at.now kept) (env_of env.now)) steps.old steps.new) }
 {
     let [p, q, ..] = at.loops else {
         return Ok(Bag::new(at.run.alloc));
@@ -270,6 +294,7 @@ fn joined<L: Ledger>(
     requires planned { plan.Planned at.now }
     ensures rows { IfOk result (λ bag. Alike bag (m.of_two at.now.node.now.quants (m.outer_rows at.now.node.now (m.quant_rows at.now.node.now (plan.family at.now)) (env_of env.now)))) }
     ensures counted { (start : ℕ) → Counted start steps.old count.old → Counted start steps.new count.new }
+    ensures took { (kept : ℕ → Bool) → plan.KeepsAt at.now kept → IfOk result (λ bag. Between 0 (under_each at.now.node.now.quants (plan.asked_at at.now kept) (env_of env.now)) steps.old steps.new) }
 {
     let [p, q, ..] = at.loops else {
         return Ok(Bag::new(at.run.alloc));

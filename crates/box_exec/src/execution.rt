@@ -1,5 +1,6 @@
 // The execution of a graph.
 ghost use Rattle.std.specs.Prelude.{◌≡◌, ◌≤◌, ◌-◌, IfOk, min};
+ghost use Rattle.box_exec.specs.Kept.{Took};
 ghost use Rattle.box_exec.specs.Ready.{AllFit};
 ghost use Rattle.qgm_meaning.specs.Meaning.{root_bag};
 ghost use Rattle.row_bag.specs.Bags.{Agree};
@@ -31,6 +32,7 @@ pub fn execute<L: Ledger>(
     ensures rows { IfOk result (λ r. Agree same_cells r.0 (root_bag tables.now graph.now)) }
     ensures counted { IfOk result (λ r. r.1 ≡ min (steps.new - steps.old) 18446744073709551615) }
     ensures never_less { steps.old ≤ steps.new }
+    ensures took { IfOk result (λ r. Took tables.now graph.now steps.old steps.new) }
 {
     let nodes = graph.nodes();
     let root = graph.root();

@@ -1,9 +1,13 @@
 // The rows of closed boxes, each evaluated once.
-ghost use Rattle.std.specs.Prelude.{◌≡◌, ◌∷◌, [], ℕ, IfOk, length, map, true};
-ghost use Rattle.box_exec.specs.Beyond.{LooksNowhere, beyond, beyond_of};
+ghost use Rattle.std.specs.Prelude.{◌≡◌, ◌&&◌, [], ℕ, Bool, IfOk, Some, if◌then◌else◌, true};
+ghost use Rattle.box_exec.specs.Beyond.{LooksNowhere};
+ghost use Rattle.box_exec.specs.Costs.{Between, Keeps, asked, is_held};
 ghost use Rattle.box_exec.specs.Counted.{Counted};
+ghost use Rattle.box_exec.specs.Kept.{KeptAs, is_nil, kept_costs, kept_number};
 ghost use Rattle.box_exec.specs.Ready.{AllFit, Entry, Fit, Holds, Ready};
-ghost use Rattle.std.specs.Prelude.{Some};
+ghost use Rattle.qgm_core.specs.Lists.{holds};
+ghost use Rattle.qgm_meaning.specs.Meaning.{bag_in};
+ghost use Rattle.qgm_meaning.specs.Plain.{counted_by};
 
 use crate::beyond::beyond;
 use crate::bindings::Bindings;
@@ -38,6 +42,7 @@ fn entry<'t, L: Ledger>(
     requires closed { LooksNowhere place.now.node.now place.now.below.now }
     ensures rows { IfOk result (λ s. Holds tables.now place.now.node.now place.now.below.now s) }
     ensures counted { (start : ℕ) → Counted start steps.old count.old → Counted start steps.new count.new }
+    ensures took { (kept : ℕ → Bool) → Keeps memo.now kept place.now.below.now → IfOk result (λ s. Between 1 (counted_by place.now.node.now.parts.kind place.now.node.now (bag_in tables.now place.now.below.now) (asked tables.now kept place.now.below.now) []) steps.old steps.new) }
 {
     match &place.node.parts.kind {
         BoxKind::Base(table) => {
@@ -78,6 +83,8 @@ fn entry_if<'t, L: Ledger>(
     requires closed { keep ≡ true → LooksNowhere place.now.node.now place.now.below.now }
     ensures rows { IfOk result (λ o. Entry tables.now place.now.node.now place.now.below.now (Some o)) }
     ensures counted { (start : ℕ) → Counted start steps.old count.old → Counted start steps.new count.new }
+    ensures held { IfOk result (λ o. is_held (Some o) ≡ keep) }
+    ensures took { (kept : ℕ → Bool) → Keeps memo.now kept place.now.below.now → IfOk result (λ o. Between (if keep then 1 else 0) (if keep then counted_by place.now.node.now.parts.kind place.now.node.now (bag_in tables.now place.now.below.now) (asked tables.now kept place.now.below.now) [] else 0) steps.old steps.new) }
 {
     if keep {
         let rows = entry(alloc, tables, memo, place, steps, count)?;
@@ -89,9 +96,13 @@ fn entry_if<'t, L: Ledger>(
 
 // A box is kept if it is marked and names nothing beyond itself.
 fn is_kept(names: &[QuantId], marks: &[BoxId], b: BoxId) -> bool
-    ensures { result ≡ true → names.now ≡ [] }
+    ensures nothing { result ≡ true → names.now ≡ [] }
+    ensures kept { result ≡ (is_nil names.now && holds b marks.now) }
 {
-    names.is_empty() && is_marked(marks, b)
+    match names {
+        [] => is_marked(marks, b),
+        [_, ..] => false,
+    }
 }
 
 /// The rows of those of these boxes that are marked and name nothing beyond themselves, each evaluated
@@ -107,6 +118,8 @@ pub(crate) fn memo_of<'t, L: Ledger>(
     requires { AllFit nodes.now }
     ensures ready { IfOk result (λ memo. Ready tables.now memo.items nodes.now) }
     ensures counted { (start : ℕ) → Counted start steps.old count.old → Counted start steps.new count.new }
+    ensures keeps { (kept : ℕ → Bool) → KeptAs kept marks.now nodes.now → IfOk result (λ memo. Keeps memo.items kept nodes.now) }
+    ensures took { (kept : ℕ → Bool) → KeptAs kept marks.now nodes.now → IfOk result (λ memo. Between (kept_number kept nodes.now) (kept_costs tables.now kept nodes.now) steps.old steps.new) }
 {
     let mut named: Vec<Vec<QuantId>> = Vec::new(alloc);
     let mut memo = Vec::new(alloc);

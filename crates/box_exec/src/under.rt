@@ -1,5 +1,6 @@
 // What stands under the quantifiers of a box.
-ghost use Rattle.std.specs.Prelude.{◌≡◌, ◌+◌, ◌<◌, All, IfOk, IfSome, drop, length, map, position, slice_get};
+ghost use Rattle.std.specs.Prelude.{◌≡◌, ◌+◌, ◌<◌, All, None, false, IfOk, IfSome, drop, length, map, position, slice_get};
+ghost use Rattle.box_exec.specs.Costs.{is_held};
 ghost use Rattle.box_exec.specs.Ready.{Held, Ready, Stands};
 ghost use Rattle.qgm_core.specs.Boxes.{is_box};
 ghost use Rattle.qgm_core.specs.Kinds.{is_F};
@@ -73,7 +74,8 @@ pub(crate) fn table_rows<'a>(tables: &'a Tables, name: &Text) -> &'a [Row]
 
 // The rows of a box with so many boxes behind it, if they are kept.
 fn kept<'a>(memo: &'a [Option<Source<'a>>], i: usize) -> Option<&'a [Row]>
-    ensures { IfSome result (λ rows. Held (slice_get memo.now i) rows.now) }
+    ensures some { IfSome result (λ rows. Held (slice_get memo.now i) rows.now) }
+    ensures none { result ≡ None → is_held (slice_get memo.now i) ≡ false }
 {
     match memo.get(i) {
         Some(Some(source)) => Some(source.rows()),

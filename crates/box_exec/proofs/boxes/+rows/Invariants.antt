@@ -1,10 +1,13 @@
-use Rattle.std.proofs.Common.{ℕ, ◌≡◌, ◌+◌, ◌-◌, ◌++◌, List, filter, drop, take, length}
+use Rattle.std.proofs.Common.{ℕ, ◌≡◌, ◌+◌, ◌-◌, ◌++◌, Bool, List, filter, drop, take, length}
 use Rattle.row_bag.specs.Bags.{Alike, bind, keep}
 use Rattle.qgm_meaning.specs.Values.{bound}
 use Rattle.sql_value.specs.declared.cell.Cell.{Cell}
 use Rattle.box_exec.specs.Bound.{env_of}
 use Rattle.box_exec.specs.Counted.{Counted}
-use Rattle.box_exec.specs.Plans.{family, left_at, ranges}
+use Rattle.box_exec.specs.Plans.{KeepsAt, asked_at, cost_left, family, left_at, ranges}
+use Rattle.box_exec.specs.Costs.{Between}
+use Rattle.qgm_meaning.specs.Plain.{under_others}
+use Rattle.box_exec.proofs.Evaluations.{each_row}
 use Rattle.box_exec.specs.Ready.{SubsOf, isnt_F, weight, weight_under}
 use Rattle.box_exec.proofs.boxes.+rows.Given as goal
 
@@ -41,11 +44,13 @@ decreases-rows_under g l = weight_under l.l.now.under
 abbrev pub invariant-each-loop-row : goal.invariant-each-loop-row
 invariant-each-loop-row g l = record {
   rows : Alike l.out (l.initial.out ++ keep l.level (bind (take l.row-index l.row-items) (λ (cells : List Cell). left_at l.at (l.k + 1) (bound l.l.range.id cells (env_of l.env)))));
+  took : (kept : ℕ → Bool) → KeepsAt l.at kept → Between 0 (each_row (λ (cells : List Cell). cost_left l.at kept (l.k + 1) (bound l.l.range.id cells (env_of l.env))) (take l.row-index l.row-items)) l.initial.steps l.steps;
   counted : (start : ℕ) → Counted start l.initial.steps l.initial.count → Counted start l.steps l.count;
 }
 
 abbrev pub invariant-subs-loop-l : goal.invariant-subs-loop-l
 invariant-subs-loop-l g l = record {
   rows : SubsOf (family l.at) (env_of l.env) (filter isnt_F (take l.l-index (ranges l.at.loops.now))) l.subs.items;
+  took : (kept : ℕ → Bool) → KeepsAt l.at kept → Between 0 (under_others (take l.l-index (ranges l.at.loops.now)) (asked_at l.at kept) (env_of l.env)) l.initial.steps l.steps;
   counted : (start : ℕ) → Counted start l.initial.steps l.initial.count → Counted start l.steps l.count;
 }

@@ -7,8 +7,8 @@ returns-in_default c = nothing-under c.args.run.now.tables.now c.args.below.now 
 
 pub returns-in-Some-kept : goal.returns-in-Some-kept
 returns-in-Some-kept c =
-    kept-under c.args.run.now.tables.now c.args.run.now.memo.now c.args.below.now c.behind-behind.result.now c.args.b c.in-Some.i c.in-Some-kept.rows.now (sym c.place_of.ensures ∙ c.in-Some.is) c.behind-behind.ensures c.requires c.in-Some-kept.ensures
+    kept-under c.args.run.now.tables.now c.args.run.now.memo.now c.args.below.now c.behind-behind.result.now c.args.b c.in-Some.i c.in-Some-kept.rows.now (sym c.place_of.ensures ∙ c.in-Some.is) c.behind-behind.ensures c.requires c.in-Some-kept.ensures.some
 
 pub returns-in-None : goal.returns-in-None
 returns-in-None c =
-    open-under c.args.run.now.tables.now c.args.run.now.memo.now c.args.below.now c.behind-behind.result.now c.args.b c.in-Some.i c.index-below-i.result (sym c.place_of.ensures ∙ c.in-Some.is) c.index-below-i.is c.behind-behind.ensures c.requires
+    open-under c.args.run.now.tables.now c.args.run.now.memo.now c.args.below.now c.behind-behind.result.now c.args.b c.in-Some.i c.index-below-i.result (sym c.place_of.ensures ∙ c.in-Some.is) c.index-below-i.is c.behind-behind.ensures (c.kept.ensures.none c.in-None.is) c.requires
