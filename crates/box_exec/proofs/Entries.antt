@@ -1,6 +1,5 @@
 -- The rows that are kept, from the last box.
-use Rattle.std.specs.Prelude.{⊤}
-use Rattle.std.proofs.Common.{ℕ, suc, zero, ◌≡◌, ◌<◌, ◌≤◌, ◌+◌, ◌-◌, ◌++◌, ◌==◌, ◌&&◌, Bool, true, false, cond, List, [], ◌∷◌, drop, get_or, length, map, slice_get, Option, Some, None, refl, sym, ◌∙◌, ap, ap₂, subst, arith}
+use Rattle.std.proofs.Common.{ℕ, suc, zero, ◌≡◌, ◌<◌, ◌≤◌, ◌+◌, ◌++◌, ◌==◌, ◌&&◌, Bool, true, false, cond, List, [], ◌∷◌, drop, get_or, length, map, slice_get, Option, Some, refl, sym, ◌∙◌, ap, ap₂, subst, arith}
 use Rattle.std.proofs.lemmas.List.{length_push}
 use Rattle.row_bag.specs.Bags.{Alike}
 use Rattle.row_bag.specs.declared.tables.Table.{Table}
@@ -8,15 +7,14 @@ use Rattle.row_bag.proofs.Agreement.{alike-same, alike-trans}
 use Rattle.qgm_core.specs.declared.node.Node.{Node}
 use Rattle.qgm_meaning.specs.Meaning.{bag_in, rows_of}
 use Rattle.qgm_meaning.specs.Scope.{loose, loose_of}
-use Rattle.qgm_meaning.specs.Values.{Bag, Environment, row_of}
+use Rattle.qgm_meaning.specs.Values.{Bag, Environment}
 use Rattle.qgm_meaning.proofs.Frames.{SameRows, bag-framed, itself}
 use Rattle.box_exec.specs.Beyond.{LooksNowhere, beyond, beyond_of, beyonds}
-use Rattle.box_exec.specs.Ready.{AllFit, Entry, Fit, Holds, Ready}
+use Rattle.box_exec.specs.Ready.{AllFit, Entry, Fit, Ready}
 use Rattle.qgm_core.specs.Lists.{holds}
 use Rattle.qgm_meaning.specs.Plain.{counted_by}
 use Rattle.box_exec.specs.Costs.{Between, Keeps, asked, is_held}
 use Rattle.box_exec.specs.Kept.{KeptAs, is_nil, kept_costs, kept_number}
-use Rattle.box_exec.specs.Sources.{held}
 use Rattle.box_exec.specs.declared.source.Source.{Source}
 use Rattle.box_exec.proofs.Loops.{from}
 use Rattle.box_exec.proofs.Places.{fit-drop}

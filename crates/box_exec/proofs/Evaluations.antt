@@ -1,8 +1,8 @@
 -- How many evaluations are counted.
-use Rattle.std.proofs.Common.{ℕ, suc, zero, ◌≡◌, ◌<◌, ◌≤◌, ◌+◌, ◌++◌, ◌||◌, ◌==◌, Bool, true, false, cond, List, [], ◌∷◌, drop, get_or, length, position, slice_get, take, Option, Some, None, add-one, refl, sym, ◌∙◌, ap, ap₂, subst, arith, eqb-true}
+use Rattle.std.proofs.Common.{ℕ, suc, zero, ◌≡◌, ◌<◌, ◌≤◌, ◌+◌, ◌++◌, Bool, true, false, cond, List, [], ◌∷◌, drop, get_or, length, position, slice_get, take, Option, Some, add-one, sym, ◌∙◌, ap, subst, arith, eqb-true}
 use Rattle.std.proofs.lemmas.List.{take_all, take_more}
 use Rattle.std.proofs.lemmas.List.Quantifiers.{position-Some}
-use Rattle.row_bag.specs.Bags.{Alike, fold_map, if_there, total}
+use Rattle.row_bag.specs.Bags.{Alike, if_there, total}
 use Rattle.row_bag.specs.declared.row.Row.{Row}
 use Rattle.row_bag.specs.declared.tables.Table.{Table}
 use Rattle.sql_value.specs.Level.{least}
@@ -16,7 +16,7 @@ use Rattle.qgm_core.specs.declared.owned.OwnedQuant.{OwnedQuant}
 use Rattle.qgm_meaning.specs.Meaning.{bag_in}
 use Rattle.qgm_meaning.specs.Plain.{Counts, counted_by, under_each, under_others, under_rows}
 use Rattle.qgm_meaning.specs.Values.{Bag, Environment, bound}
-use Rattle.box_exec.specs.Costs.{Between, Keeps, asked, at_level, costs, is_held, unless_kept}
+use Rattle.box_exec.specs.Costs.{Between, Keeps, asked, at_level, costs, is_held}
 use Rattle.box_exec.specs.declared.source.Source.{Source}
 use Rattle.box_exec.proofs.Loops.{from}
 

@@ -2,11 +2,11 @@
 use Rattle.std.proofs.Common.{ℕ, suc, zero, ◌≡◌, ◌<◌, get_or, ◌+◌, ◌++◌, Bool, true, false, cond, List, [], ◌∷◌, drop, length, map, take, min, refl, sym, ◌∙◌, ap, ap₂, arith, Option, None, Some}
 use Rattle.std.proofs.lemmas.List.{length-map, nil_from_length, take_min, take_more}
 use mathlib.Core.Path.{fun_ext}
-use Rattle.row_bag.specs.Bags.{Agree, Alike, at_yes, bind, fold_map, if_there, keep, row, unit}
+use Rattle.row_bag.specs.Bags.{Agree, Alike, at_yes, bind, if_there, row, unit}
 use Rattle.row_bag.specs.Errors.{error_among, error_at, error_in}
 use Rattle.row_bag.specs.Groups as g
 use Rattle.row_bag.specs.Joins.{how_many}
-use Rattle.row_bag.specs.Sets.{collapsed, error_or_bag, failed_cells, grouped, of_group, once, same_cells}
+use Rattle.row_bag.specs.Sets.{collapsed, error_or_bag, failed_cells, grouped, of_group, same_cells}
 use Rattle.row_bag.specs.declared.row.Row.{Row}
 use Rattle.row_bag.proofs.Binds.{bind-bind, unit-bind}
 use Rattle.row_bag.proofs.Levels.{least-yes}
@@ -19,8 +19,8 @@ use Rattle.sql_value.specs.declared.cell.Cell.{Cell}
 use Rattle.sql_value.specs.declared.cell.Kind.{Kind}
 use Rattle.sql_value.specs.declared.level.Level.{Level}
 use Rattle.sql_value.specs.declared.level.Level.TheVariants.{No, Cardinality, Division, Overflow, Yes}
-use Rattle.qgm_meaning.specs.Meaning.{fold_cell, grouped_rows, key_cells, nothing}
-use Rattle.qgm_meaning.specs.Values.{Bag, Environment, bound, head_cells, value}
+use Rattle.qgm_meaning.specs.Meaning.{fold_cell, grouped_rows, nothing}
+use Rattle.qgm_meaning.specs.Values.{Bag, Environment, bound, value}
 use Rattle.qgm_meaning.proofs.Keyed.{keys-keyed}
 use Rattle.qgm_terms.specs.Terms.{Term}
 use Rattle.qgm_terms.specs.Terms as t

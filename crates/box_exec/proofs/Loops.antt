@@ -1,5 +1,5 @@
 -- Rows that loops add, up to rows that aren't there.
-use Rattle.std.proofs.Common.{ℕ, suc, zero, ◌≡◌, ◌<◌, ◌≤◌, ◌+◌, ◌++◌, Bool, true, false, cond, List, [], ◌∷◌, drop, get_or, length, map, slice_get, take, append_assoc, append-nil, add-one, drop-cons, refl, sym, ◌∙◌, ap, ap₂, subst, arith, Some, None}
+use Rattle.std.proofs.Common.{ℕ, suc, zero, ◌≡◌, ◌<◌, ◌≤◌, ◌+◌, ◌++◌, Bool, true, false, cond, List, [], ◌∷◌, drop, get_or, length, slice_get, take, append_assoc, append-nil, add-one, drop-cons, sym, ◌∙◌, ap, subst, arith, Some}
 use Rattle.std.proofs.lemmas.List.{take_all, take_more}
 use Rattle.std.specs.List.{list_any}
 use Rattle.row_bag.specs.Bags.{Alike, bind, keep, row, unit}

@@ -1,9 +1,9 @@
 -- What boxes name beyond themselves, and what they look up.
-use Rattle.std.proofs.Common.{ℕ, suc, zero, ◌≡◌, ◌<◌, ◌≤◌, ◌+◌, ◌-◌, ◌++◌, ◌&&◌, ◌||◌, ◌==◌, not, Bool, true, false, cond, filter, List, [], ◌∷◌, drop, get_or, length, map, position, slice_get, take, Option, Some, None, add-one, append-nil, append_assoc, refl, sym, ◌∙◌, ap, ap₂, subst, arith, ◌⊎◌, inl, inr, Vec, eqb-true}
+use Rattle.std.proofs.Common.{ℕ, suc, zero, ◌≡◌, ◌<◌, ◌+◌, ◌-◌, ◌++◌, ◌&&◌, ◌||◌, ◌==◌, not, Bool, true, false, cond, List, [], ◌∷◌, drop, get_or, length, map, position, take, Some, None, add-one, refl, sym, ◌∙◌, ap, arith, inl, inr, Vec, eqb-true}
 use Rattle.std.proofs.lemmas.Bool.{cases_Bool}
 use Rattle.std.proofs.lemmas.List.{length-map, length_push}
 use Rattle.std.specs.List.{flat_map, list_any}
-use Rattle.qgm_core.specs.Boxes.{has_box, is_box, is_quant, owns}
+use Rattle.qgm_core.specs.Boxes.{is_box, is_quant, owns}
 use Rattle.qgm_core.specs.Free.{named_by}
 use Rattle.qgm_core.specs.Kinds.{is_F}
 use Rattle.qgm_core.specs.Lists.{first, holds}

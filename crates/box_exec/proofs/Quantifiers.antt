@@ -1,5 +1,5 @@
 -- What boxes give over what stands under their quantifiers.
-use Rattle.std.proofs.Common.{ℕ, suc, zero, ◌≡◌, ◌<◌, ◌≤◌, ◌+◌, ◌++◌, ◌||◌, ◌==◌, not, Bool, true, false, cond, List, [], ◌∷◌, Option, Some, None, All, drop, filter, get_or, length, map, take, append_assoc, append-nil, add-one, refl, sym, ◌∙◌, ap, ap₂, subst, arith}
+use Rattle.std.proofs.Common.{ℕ, suc, zero, ◌≡◌, ◌<◌, ◌≤◌, ◌+◌, ◌++◌, ◌==◌, not, Bool, true, false, cond, List, [], ◌∷◌, Option, Some, All, drop, filter, get_or, length, take, append-nil, refl, sym, ◌∙◌, ap, ap₂, subst, arith}
 use Rattle.std.proofs.Math.ListN.{drop_of_length-le}
 use Rattle.std.proofs.lemmas.List.{length-map, take_more}
 use Rattle.std.proofs.lemmas.List.Elements.{filter-append}
@@ -19,14 +19,14 @@ use Rattle.qgm_core.specs.declared.owned.OwnedQuant.{OwnedQuant}
 use Rattle.qgm_core.specs.declared.kinds.SetOperator.{SetOperator}
 use Rattle.qgm_meaning.specs.Meaning.{Family, bag_in, combined, given, given_by, grouped_rows, nothing, of_one, of_two, outer_rows, over_each, quant_rows, rows_found}
 use Rattle.qgm_meaning.specs.Searches.{names, names_cond}
-use Rattle.qgm_meaning.specs.Values.{Bag, Environment, all_true, bound, head_cells}
+use Rattle.qgm_meaning.specs.Values.{Bag, Environment, bound}
 use Rattle.qgm_meaning.proofs.Alikes.{combined-alike, given-alike, grouped_rows-alike}
 use Rattle.qgm_meaning.proofs.Frames.{either-left, either-right}
 use Rattle.qgm_meaning.proofs.Nodes.{all_true-nodes, head-nodes}
 use Rattle.row_bag.proofs.Agreement.{alike-bind}
 use Rattle.row_folds.proofs.FoldLaws.{or_else-alike}
 use Rattle.box_exec.specs.Outer.{joined_rows, null_row, partner_rows}
-use Rattle.box_exec.specs.Plans.{Planned, family, ranges, tables_of}
+use Rattle.box_exec.specs.Plans.{Planned, family, ranges}
 use Rattle.box_exec.specs.Ready.{Fit, SubsOf, binds_F, isnt_F, names_in_box, over_left}
 use Rattle.box_exec.specs.Sources.{held, held_by}
 use Rattle.box_exec.specs.declared.boxes.At.{At}

@@ -6,7 +6,7 @@ use Rattle.sql_value.specs.declared.level.Level.{Level}
 use Rattle.row_folds.proofs.Chains.{and_joins, or_joins}
 use Rattle.qgm_terms.specs.Terms.{Term, Cond, both, and, or, linked, anded, ored}
 use Rattle.qgm_terms.specs.Terms as tt
-use Rattle.qgm_terms.specs.Shown.{cond, conds, link, links, term}
+use Rattle.qgm_terms.specs.Shown.{cond, conds, links, term}
 use Rattle.qgm_terms.specs.declared.tree.Gc.{Gc}
 use Rattle.qgm_terms.specs.declared.tree.Link.{Link}
 use Rattle.sql_value.specs.Truths as t

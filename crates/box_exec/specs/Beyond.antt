@@ -1,5 +1,5 @@
 -- The quantifiers that boxes name, themselves or below them, and that no box on the way owns.
-use Rattle.std.specs.Prelude.{ℕ, ◌≡◌, ◌++◌, not, Bool, true, false, filter, List, [], ◌∷◌}
+use Rattle.std.specs.Prelude.{ℕ, ◌≡◌, ◌++◌, not, false, filter, List, [], ◌∷◌}
 use Rattle.std.specs.List.{flat_map, list_any}
 use Rattle.qgm_core.specs.Boxes.{is_quant}
 use Rattle.qgm_core.specs.Free.{named_by}

@@ -1,5 +1,5 @@
 -- The environment that bindings are.
-use Rattle.std.specs.Prelude.{List, [], ◌∷◌}
+use Rattle.std.specs.Prelude.{[], ◌∷◌}
 use Rattle.qgm_meaning.specs.Values.{Environment}
 use Rattle.box_exec.specs.declared.bindings.Bindings.{Bindings, Empty, Row'}
 

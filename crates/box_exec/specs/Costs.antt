@@ -6,7 +6,6 @@ use Rattle.row_bag.specs.declared.tables.Table.{Table}
 use Rattle.qgm_core.specs.declared.node.Node.{Node}
 use Rattle.qgm_meaning.specs.Meaning.{bag_in}
 use Rattle.qgm_meaning.specs.Plain.{Counts, counted_by}
-use Rattle.qgm_meaning.specs.Values.{Environment}
 use Rattle.box_exec.specs.declared.source.Source.{Source}
 
 -- a box that is kept takes none

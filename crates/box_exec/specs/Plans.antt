@@ -6,7 +6,7 @@ use Rattle.qgm_core.specs.declared.owned.OwnedQuant.{OwnedQuant}
 use Rattle.qgm_meaning.specs.Meaning.{Family, bag_in, rows_of}
 use Rattle.qgm_meaning.specs.Values.{Bag, Environment}
 use Rattle.row_bag.specs.declared.tables.Table.{Table}
-use Rattle.box_exec.specs.Ready.{Fit, Stands, over_left, weight}
+use Rattle.box_exec.specs.Ready.{Fit, Stands, over_left}
 use Rattle.box_exec.specs.declared.boxes.At.{At}
 use Rattle.box_exec.specs.declared.under.Loop.{Loop}
 

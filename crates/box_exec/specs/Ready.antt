@@ -1,5 +1,5 @@
 -- What is made so far, and what a graph owes to its execution.
-use Rattle.std.specs.Prelude.{ℕ, ◌≡◌, ◌≤◌, ◌+◌, ◌||◌, Bool, true, false, not, All, List, [], ◌∷◌, drop, filter, length, map, slice_get, Option, Some, None, ⊤}
+use Rattle.std.specs.Prelude.{ℕ, ◌≡◌, ◌≤◌, ◌+◌, ◌||◌, Bool, true, false, not, All, List, [], ◌∷◌, drop, length, slice_get, Option, Some, None, ⊤}
 use Rattle.std.specs.List.{list_any}
 use Rattle.qgm_core.specs.Boxes.{is_quant, owns}
 use Rattle.qgm_core.specs.Kinds.{is_F}

@@ -1,16 +1,14 @@
-use Rattle.std.proofs.Common.{ℕ, Bool, cond, ◌≡◌, ◌≤◌, ◌<◌, ◌+◌, ◌++◌, ◌∷◌, true, false, List, length, drop, filter, take, [], get_or, refl, sym, ap, ◌∙◌, subst, arith, rules}
+use Rattle.std.proofs.Common.{ℕ, Bool, cond, ◌≡◌, ◌≤◌, ◌+◌, ◌++◌, ◌∷◌, true, false, List, length, drop, filter, take, [], refl, sym, ap, ◌∙◌, subst, arith, rules}
 use Rattle.std.proofs.lemmas.Result.{IfOk-weaker, on_ok_weaker}
 use Rattle.std.specs.Result.{OnOk}
-use Rattle.row_bag.specs.Bags.{Alike, bind, keep}
-use Rattle.row_bag.proofs.Agreement.{alike-same, alike-trans}
+use Rattle.row_bag.specs.Bags.{Alike, keep}
 use Rattle.qgm_core.specs.Kinds.{is_F, is_enforce}
 use Rattle.qgm_core.specs.declared.owned.OwnedQuant.{OwnedQuant}
 use Rattle.qgm_meaning.specs.Meaning.{grouped_rows}
 use Rattle.qgm_terms.specs.Terms.{Term}
-use Rattle.qgm_meaning.specs.Values.{Bag, Environment, bound}
+use Rattle.qgm_meaning.specs.Values.{Bag, bound}
 use Rattle.sql_value.specs.declared.cell.Cell.{Cell}
 use Rattle.sql_value.specs.declared.level.Level.{Level}
-use Rattle.sql_value.specs.declared.level.Level.TheVariants.{No}
 use Rattle.box_exec.specs.Bound.{env_of}
 use Rattle.box_exec.specs.Plans.{asked_at, cost_at, cost_left, family, left_at, ranges, tables_of}
 use Rattle.box_exec.specs.Costs.{Between, at_level}
@@ -20,8 +18,7 @@ use Rattle.box_exec.proofs.Evaluations.{all-took, one-under, others-more, rows-b
 use Rattle.box_exec.specs.Ready.{IsOpen, Stands, SubsOf, isnt_F}
 use Rattle.box_exec.specs.declared.under.Under.{Under}
 use Rattle.std.proofs.lemmas.List.{take_all}
-use Rattle.box_exec.specs.Sources.{held}
-use Rattle.box_exec.proofs.Loops.{each-all, each-more, from, rows-once}
+use Rattle.box_exec.proofs.Loops.{each-all, each-more, rows-once}
 use Rattle.box_exec.proofs.Quantifiers.{combined-rows, free-more, free-same, given-at, group-rows, left-bound, left-over, level-none, outer-rows, past-all, placed, range-at, range-past, range-within, subs-more, two-at}
 use Rattle.box_exec.proofs.boxes.+rows.Goals.{subs-then-not-is_f+in_ok-rows+in_ok-push, subs-else-not-is_f}
 use Rattle.box_exec.proofs.boxes.+rows.Goals as goal

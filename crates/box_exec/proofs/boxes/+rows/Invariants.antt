@@ -1,4 +1,4 @@
-use Rattle.std.proofs.Common.{ℕ, ◌≡◌, ◌+◌, ◌-◌, ◌++◌, Bool, List, filter, drop, take, length}
+use Rattle.std.proofs.Common.{ℕ, ◌+◌, ◌-◌, ◌++◌, Bool, List, filter, take, length}
 use Rattle.row_bag.specs.Bags.{Alike, bind, keep}
 use Rattle.qgm_meaning.specs.Values.{bound}
 use Rattle.sql_value.specs.declared.cell.Cell.{Cell}

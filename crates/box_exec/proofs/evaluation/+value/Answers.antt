@@ -1,14 +1,12 @@
 use Rattle.std.proofs.Common.{arith}
 use Rattle.std.proofs.lemmas.Grind.{common_steps}
-use Rattle.qgm_terms.specs.Shown.{choices, cond, conds, links, term}
+use Rattle.qgm_terms.specs.Shown.{cond, conds, links, term}
 use Rattle.box_exec.specs.Bound.{env_of}
 use Rattle.box_exec.specs.Sources.{held_by}
 use Rattle.sql_value.specs.Truths as t
-use Rattle.box_exec.specs.Lists as lists
 use Rattle.row_bag.specs.Subqueries as u
 use Rattle.qgm_meaning.specs.Values as m
 use Rattle.box_exec.proofs.Steps.{all_more, any_more, chain_more, every_more, some_more, truth_anded, truth_ored, value_linked}
-use Rattle.row_folds.proofs.Chains.{and_steps, or_steps}
 use Rattle.qgm_terms.proofs.Lists as listed
 use Rattle.box_exec.proofs.evaluation.+value.Goals as goal
 

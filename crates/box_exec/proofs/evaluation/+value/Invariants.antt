@@ -1,5 +1,5 @@
 use Rattle.std.proofs.Common.{◌≡◌, true, false, drop}
-use Rattle.qgm_terms.specs.Shown.{choices, cond, conds, links, term}
+use Rattle.qgm_terms.specs.Shown.{choices, cond, conds, links}
 use Rattle.qgm_terms.specs.Terms.{armed}
 use Rattle.row_bag.specs.Bags.{total}
 use Rattle.sql_value.specs.Truths as t

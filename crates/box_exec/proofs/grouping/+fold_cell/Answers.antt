@@ -1,7 +1,6 @@
-use Rattle.std.proofs.Common.{◌≡◌, ◌<◌, sym, ◌∙◌, ap, length, rules, arith}
+use Rattle.std.proofs.Common.{◌≡◌, ◌<◌, sym, ◌∙◌, ap, length, rules}
 use Rattle.row_bag.specs.Aggregates.{count_cell}
 use Rattle.box_exec.proofs.Keys.{chain-more, chain-one, many-without}
-use Rattle.std.proofs.lemmas.Result.{IfOk-weaker}
 use Rattle.qgm_terms.proofs.Lists.{links_hidden}
 use Rattle.qgm_terms.specs.Shown.{term}
 use Rattle.box_exec.specs.Bound.{env_of}

@@ -1,4 +1,4 @@
-use Rattle.std.proofs.Common.{◌≡◌, ◌∙◌, ap, sym, length, take, None, Some, List, map, subst}
+use Rattle.std.proofs.Common.{◌∙◌, ap, sym, length, take, List, map, subst}
 use Rattle.row_bag.specs.Bags.{Agree, at_yes}
 use Rattle.row_bag.specs.Sets.{grouped, same_cells}
 use Rattle.row_bag.specs.declared.groups.Group.{Group}

@@ -1,4 +1,4 @@
-use Rattle.std.proofs.Common.{List, ◌++◌, ◌∷◌, [], ◌≡◌, ◌∙◌, ap, ap₂, sym}
+use Rattle.std.proofs.Common.{List, ◌++◌, ◌∷◌, [], ◌≡◌, ◌∙◌, ap₂, sym}
 use Rattle.row_bag.specs.Bags.{row}
 use Rattle.row_bag.specs.declared.groups.Group.{Group}
 use Rattle.sql_value.specs.declared.cell.Cell.{Cell}

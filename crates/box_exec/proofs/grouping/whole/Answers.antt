@@ -1,4 +1,4 @@
-use Rattle.std.proofs.Common.{List, ◌++◌, ◌∷◌, [], ◌≡◌, ◌∙◌, ap, ap₂, sym, None, rules}
+use Rattle.std.proofs.Common.{List, ◌++◌, ◌∷◌, [], ◌≡◌, ◌∙◌, ap₂, None, rules}
 use Rattle.row_bag.specs.Bags.{row}
 use Rattle.row_bag.specs.Errors.{error_among, error_in}
 use Rattle.sql_value.specs.declared.cell.Cell.{Cell}

@@ -1,4 +1,3 @@
-use Rattle.std.proofs.Common.{true}
 use Rattle.std.proofs.lemmas.Result.{IfOk-weaker}
 use Rattle.row_bag.specs.Sets.{same_cells}
 use Rattle.row_bag.proofs.Counts.{alike-from_agree}

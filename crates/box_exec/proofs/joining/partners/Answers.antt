@@ -1,4 +1,4 @@
-use Rattle.std.proofs.Common.{◌<◌, List, ap, length}
+use Rattle.std.proofs.Common.{List, ap}
 use Rattle.row_bag.proofs.Agreement.{alike-same}
 use Rattle.sql_value.specs.declared.cell.Cell.{Cell}
 use Rattle.qgm_meaning.specs.Meaning.{given, nothing}

@@ -1,4 +1,4 @@
-use Rattle.std.proofs.Common.{ℕ, Bool, cond, ◌&&◌, ◌≡◌, ◌<◌, ◌≤◌, ◌+◌, ◌-◌, ◌++◌, ◌∷◌, [], List, Some, length, drop, map, sym, ◌∙◌, ap, subst, arith, rules}
+use Rattle.std.proofs.Common.{ℕ, Bool, cond, ◌&&◌, ◌≡◌, ◌<◌, ◌+◌, ◌-◌, ◌++◌, ◌∷◌, [], List, Some, length, drop, map, sym, ◌∙◌, ap, subst, arith, rules}
 use Rattle.qgm_core.specs.declared.node.Node.{Node}
 use Rattle.box_exec.specs.Beyond.{LooksNowhere, beyond, beyond_of, beyonds}
 use Rattle.box_exec.specs.Ready.{Entry, Fit, Ready}
