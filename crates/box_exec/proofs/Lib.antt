@@ -1,0 +1,9 @@
+mod Steps
+mod Loops
+mod Keys
+mod Places
+mod Evaluations
+mod Quantifiers
+mod Names
+mod Entries
+mod Roots

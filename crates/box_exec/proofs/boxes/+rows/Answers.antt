@@ -1,0 +1,301 @@
+use Rattle.std.proofs.Common.{ℕ, Bool, cond, ◌≡◌, ◌≤◌, ◌+◌, ◌++◌, ◌∷◌, true, false, List, length, drop, filter, take, [], refl, sym, ap, ◌∙◌, subst, arith, rules}
+use Rattle.std.proofs.lemmas.Result.{IfOk-weaker, on_ok_weaker}
+use Rattle.std.specs.Result.{OnOk}
+use Rattle.row_bag.specs.Bags.{Alike, keep}
+use Rattle.qgm_core.specs.Kinds.{is_F, is_enforce}
+use Rattle.qgm_core.specs.declared.owned.OwnedQuant.{OwnedQuant}
+use Rattle.qgm_meaning.specs.Meaning.{grouped_rows}
+use Rattle.qgm_terms.specs.Terms.{Term}
+use Rattle.qgm_meaning.specs.Values.{Bag, bound}
+use Rattle.sql_value.specs.declared.cell.Cell.{Cell}
+use Rattle.sql_value.specs.declared.level.Level.{Level}
+use Rattle.box_exec.specs.Bound.{env_of}
+use Rattle.box_exec.specs.Plans.{asked_at, cost_at, cost_left, family, left_at, ranges, tables_of}
+use Rattle.box_exec.specs.Costs.{Between, at_level}
+use Rattle.qgm_core.specs.declared.kinds.BoxKind.{BoxKind}
+use Rattle.qgm_meaning.specs.Plain.{counted_by, under_each, under_others, under_rows}
+use Rattle.box_exec.proofs.Evaluations.{all-took, one-under, others-more, rows-bound, rows-over, rows-took}
+use Rattle.box_exec.specs.Ready.{IsOpen, Stands, SubsOf, isnt_F}
+use Rattle.box_exec.specs.declared.under.Under.{Under}
+use Rattle.std.proofs.lemmas.List.{take_all}
+use Rattle.box_exec.proofs.Loops.{each-all, each-more, rows-once}
+use Rattle.box_exec.proofs.Quantifiers.{combined-rows, free-more, free-same, given-at, group-rows, left-bound, left-over, level-none, outer-rows, past-all, placed, range-at, range-past, range-within, subs-more, two-at}
+use Rattle.box_exec.proofs.boxes.+rows.Goals.{subs-then-not-is_f+in_ok-rows+in_ok-push, subs-else-not-is_f}
+use Rattle.box_exec.proofs.boxes.+rows.Goals as goal
+
+pub add_head-returns-clause-rows : goal.add_head-returns-clause-rows
+add_head-returns-clause-rows g t c =
+    let at = c.args.at.now in
+    subst (λ (b : Bag). OnOk c.add_given.result (Alike c.add_given.new.out (c.args.out.now ++ keep c.args.level b)))
+    (given-at at c.requires.planned c.in_ok-subs.subs.items c.as_slice.result.now (env_of c.args.env.now) c.as_slice.ensures.value c.in_ok-subs.ensures.rows)
+    c.add_given.ensures
+
+pub each-returns-then-not-is_f-clause-rows : goal.each-returns-then-not-is_f-clause-rows
+each-returns-then-not-is_f-clause-rows g t c =
+    let at = c.args.at.now in
+    let l = c.in-Some.l.now in
+    let env = env_of c.args.env.now in
+    let passed : is_F l.range.kind ≡ false = search rules in
+    let here = placed at c.requires.planned c.args.k l c.in-Some.ensures.lookup.3.0 c.in-Some.ensures.lookup.1 in
+    subst (λ (b : Bag). OnOk c.each.result (Alike c.each.new.out (c.args.out.now ++ keep c.args.level b)))
+    (sym (left-over (tables_of at) at.node.now at.below.now c.args.k l.range env here.0 passed))
+    c.each.ensures.rows
+
+pub each-loop-row-preserved : goal.each-loop-row-preserved
+each-loop-row-preserved g t c =
+    let at = c.args.at.now in
+    let r = c.row-item.result in
+    let l = c.in-Some.l.now in
+    let env = env_of c.args.env.now in
+    let over = λ (cells : List Cell). left_at at (c.args.k + 1) (bound l.range.id cells env) in
+    let new = c.each-in-loop-row.new.out in
+    let cells : Alike new (c.loop-row.out ++ keep c.least.result (over r.cells)) =
+    subst (λ (cells : List Cell). Alike new (c.loop-row.out ++ keep c.least.result (over cells))) c.as_slice.ensures c.in_ok-each.ensures.rows in
+    record {
+      rows = each-more c.args.level c.rows-row-items.result.now c.loop-row.row-index r over c.args.out.now c.loop-row.out new c.loop-row-test.true c.row-item.is c.loop-row.invariant.rows
+          (subst (λ (l : Level). Alike new (c.loop-row.out ++ keep l (over r.cells))) c.least.ensures cells);
+      took = λ kept keeps. rows-took (λ (cells : List Cell). cost_left at kept (c.args.k + 1) (bound l.range.id cells env)) c.rows-row-items.result.now c.loop-row.row-index r c.args.level (cost_left at kept (c.args.k + 1) (bound l.range.id c.as_slice.result.now env))
+          c.rows_under.new.steps c.loop-row.steps c.each-in-loop-row.new.steps c.loop-row-test.true c.row-item.is (ap (λ (cells : List Cell). cost_left at kept (c.args.k + 1) (bound l.range.id cells env)) c.as_slice.ensures) (c.loop-row.invariant.took kept keeps)
+          (subst (λ (x : Level). Between 0 (at_level x (cost_left at kept (c.args.k + 1) (bound l.range.id c.as_slice.result.now env))) c.loop-row.steps c.each-in-loop-row.new.steps) c.least.ensures (c.in_ok-each.ensures.took kept keeps));
+      counted = λ start h. c.in_ok-each.ensures.counted start (c.loop-row.invariant.counted start h);
+    }
+
+pub each-returns-clause-rows : goal.each-returns-clause-rows
+each-returns-clause-rows g t c =
+    let at = c.args.at.now in
+    let l = c.in-Some.l.now in
+    let k = c.args.k in
+    let env = env_of c.args.env.now in
+    let bound_to : is_F l.range.kind ≡ true = search rules in
+    let here = placed at c.requires.planned k l c.in-Some.ensures.lookup.3.0 c.in-Some.ensures.lookup.1 in
+    each-all c.args.level c.rows-row-items.result.now (family at l.range.over env) c.loop-row.row-index
+    (λ (cells : List Cell). left_at at (k + 1) (bound l.range.id cells env)) c.args.out.now c.loop-row.out (left_at at k env) c.loop-row-test.false
+    (subst (λ (b : Bag). Alike b (family at l.range.over env)) (sym c.rows-row-items.ensures) c.in_ok-rows.ensures.rows)
+    (left-bound (tables_of at) at.node.now at.below.now k l.range env here.0 bound_to here.1)
+    c.loop-row.invariant.rows
+
+pub groups-returns-clause-rows : goal.groups-returns-clause-rows
+groups-returns-clause-rows g t c =
+    let at = c.args.at.now in
+    let l = c.in-Some.l.now in
+    let env = env_of c.args.env.now in
+    let rows = c.rows.result.now in
+    IfOk-weaker c.grouped.result _ _
+    (λ bag h. group-rows at c.requires.planned l c.args.keys env rows bag c.in-Some.ensures.lookup.3.0 c.in-Some.ensures.lookup.1
+    (subst (λ (b : Bag). Alike b (family at l.range.over env)) (sym c.rows.ensures) c.in_ok-rows.ensures.rows)
+    (subst (λ (head : List Term). Alike bag (grouped_rows c.args.keys head l.range.id env rows)) c.as_slice-head.ensures h))
+    c.grouped.ensures
+
+pub joined-returns-clause-rows : goal.joined-returns-clause-rows
+joined-returns-clause-rows g t c =
+    let at = c.args.at.now in
+    let p = c.p-item.result in
+    let q = c.q-item.result in
+    let env = env_of c.args.env.now in
+    IfOk-weaker c.outer_joined.result _ _
+    (λ bag h. outer-rows at c.requires.planned p q env c.rows.result.now c.rows-2.result.now bag c.in-len2-up.len_at_least c.p-item.is c.q-item.is
+    (subst (λ (b : Bag). Alike b (family at p.range.over env)) (sym c.rows.ensures) c.in_ok-xs.ensures.rows)
+    (subst (λ (b : Bag). Alike b (family at q.range.over env)) (sym c.rows-2.ensures) c.in_ok-ys.ensures.rows)
+    h)
+    c.outer_joined.ensures
+
+pub put_together-returns-clause-rows : goal.put_together-returns-clause-rows
+put_together-returns-clause-rows g t c =
+    let at = c.args.at.now in
+    let p = c.p-item.result in
+    let q = c.q-item.result in
+    let env = env_of c.args.env.now in
+    IfOk-weaker c.combined.result _ _
+    (λ bag h. combined-rows at c.requires.planned p q c.args.operator c.args.width env c.in_ok-xs-2.xs c.in_ok-ys-2.ys bag c.in-len2-up.len_at_least c.p-item.is c.q-item.is
+    (subst (λ (b : Bag). Alike b (family at p.range.over env)) (sym c.in_ok-xs-2.ensures) c.in_ok-xs.ensures.rows)
+    (subst (λ (b : Bag). Alike b (family at q.range.over env)) (sym c.in_ok-ys-2.ensures) c.in_ok-ys.ensures.rows)
+    h)
+    c.combined.ensures
+
+pub selected-returns-clause-rows : goal.selected-returns-clause-rows
+selected-returns-clause-rows g t c =
+    let at = c.args.at.now in
+    IfOk-weaker c.once_if.result _ _
+    (λ bag h. rows-once (is_enforce at.node.now.parts.distinct) c.new-out.result c.each.new.out (left_at at 0 (env_of c.args.env.now)) bag c.new-out.ensures c.in_ok-each.ensures.rows h)
+    c.once_if.ensures
+
+pub subs-loop-l-preserved : goal.subs-loop-l-preserved
+subs-loop-l-preserved g t c =
+    let at = c.args.at.now in
+    let l = c.l-item.result in
+    let r = l.range in
+    let i = c.loop-l.l-index in
+    let rs = ranges at.loops.now in
+    let f = family at in
+    let env = env_of c.args.env.now in
+    let inside = range-within at.loops.now i c.loop-l-test.true in
+    let here = range-at at.loops.now i l c.loop-l-test.true c.l-item.is in
+    elim c.if-not-is_f.branch [
+      | subs-then-not-is_f+in_ok-rows+in_ok-push w ↦
+          let free : is_F r.kind ≡ false = search rules in
+          let more : SubsOf f env (filter isnt_F (take (i + 1) rs)) (c.loop-l.subs.items ++ record { quant = r.id; rows = w.in_ok-rows.rows } ∷ []) =
+          subst (λ (xs : List OwnedQuant). SubsOf f env xs (c.loop-l.subs.items ++ record { quant = r.id; rows = w.in_ok-rows.rows } ∷ [])) (sym (free-more rs i r inside here free))
+          (subs-more f env (filter isnt_F (take i rs)) c.loop-l.subs.items r (record { quant = r.id; rows = w.in_ok-rows.rows }) refl w.in_ok-rows.ensures.rows c.loop-l.invariant.rows) in
+          let put : c.loop-l.subs.items ++ record { quant = r.id; rows = w.in_ok-rows.rows } ∷ [] ≡ c.if-not-is_f.subs.items = search rules in
+          record {
+            rows = subst (λ (ss : _). SubsOf f env (filter isnt_F (take (i + 1) rs)) ss) put more;
+            took = λ kept keeps.
+                let more = others-more rs (asked_at at kept) env i r inside here in
+                let one : cond (is_F r.kind) 0 (asked_at at kept r.over env) ≡ asked_at at kept r.over env = ap (λ (b : Bool). cond b 0 (asked_at at kept r.over env)) free in
+                let so = c.loop-l.invariant.took kept keeps in
+                let now = w.in_ok-rows.ensures.took kept keeps in
+                let steps : w.rows_under.new.steps ≡ c.if-not-is_f.steps = search rules in
+                (omega (arith, so.0, now.0, steps), omega (arith, so.1, now.1, steps, more, one));
+            counted = λ start h. search (rules, w.in_ok-rows.ensures.counted start (c.loop-l.invariant.counted start h));
+          }
+      | subs-else-not-is_f w ↦
+          let bound_to : is_F r.kind ≡ true = search rules in
+          let kept : c.loop-l.subs.items ≡ c.if-not-is_f.subs.items = search rules in
+          record {
+            rows = subst (λ (ss : _). SubsOf f env (filter isnt_F (take (i + 1) rs)) ss) kept (subst (λ (xs : List OwnedQuant). SubsOf f env xs c.loop-l.subs.items) (sym (free-same rs i r inside here bound_to)) c.loop-l.invariant.rows);
+            took = λ kept keeps.
+                let more = others-more rs (asked_at at kept) env i r inside here in
+                let none : cond (is_F r.kind) 0 (asked_at at kept r.over env) ≡ 0 = ap (λ (b : Bool). cond b 0 (asked_at at kept r.over env)) bound_to in
+                let so = c.loop-l.invariant.took kept keeps in
+                let steps : c.loop-l.steps ≡ c.if-not-is_f.steps = search rules in
+                (omega (arith, so.0, steps), omega (arith, so.1, steps, more, none));
+            counted = λ start h. search (rules, c.loop-l.invariant.counted start h);
+          }
+    ]
+
+pub each-returns-then-is_no-clause-rows : goal.each-returns-then-is_no-clause-rows
+each-returns-then-is_no-clause-rows g t c =
+    level-none c.args.level c.args.out.now (left_at c.args.at.now c.args.k (env_of c.args.env.now)) (c.is_no.ensures.none c.if-is_no.true)
+
+-- ---- how many evaluations
+
+pub evaluated-returns-clause-took : goal.evaluated-returns-clause-took
+evaluated-returns-clause-took g t c = λ kept keeps.
+    IfOk-weaker c.of_kind.result _ _ (λ bag h. (omega (arith, h.0, c.step.ensures.ticked), omega (arith, h.1, c.step.ensures.ticked))) (c.of_kind.ensures.took kept keeps)
+
+pub of_kind-returns-in-Base-clause-took : goal.of_kind-returns-in-Base-clause-took
+of_kind-returns-in-Base-clause-took g t c = λ kept keeps.
+    let at = c.args.at.now in
+    let env = env_of c.args.env.now in
+    let e : cost_at at kept env ≡ 1 = ap (λ (k : BoxKind). counted_by k at.node.now (family at) (asked_at at kept) env) c.in-Base.is in
+    IfOk-weaker c.copied_rows.result _ _ (λ bag h. (omega arith, omega (arith, e))) c.copied_rows.ensures
+
+pub of_kind-returns-in-Select-clause-took : goal.of_kind-returns-in-Select-clause-took
+of_kind-returns-in-Select-clause-took g t c = λ kept keeps.
+    let at = c.args.at.now in
+    let env = env_of c.args.env.now in
+    let e : cost_at at kept env ≡ 1 + cost_left at kept 0 env = ap (λ (k : BoxKind). counted_by k at.node.now (family at) (asked_at at kept) env) c.in-Select.is in
+    IfOk-weaker c.selected.result _ _ (λ bag h. (omega (arith, h.0), omega (arith, h.1, e))) (c.selected.ensures.took kept keeps)
+
+pub of_kind-returns-in-Group-clause-took : goal.of_kind-returns-in-Group-clause-took
+of_kind-returns-in-Group-clause-took g t c = λ kept keeps.
+    let at = c.args.at.now in
+    let env = env_of c.args.env.now in
+    let e : cost_at at kept env ≡ 1 + under_each at.node.now.quants (asked_at at kept) env = ap (λ (k : BoxKind). counted_by k at.node.now (family at) (asked_at at kept) env) c.in-Group.is in
+    IfOk-weaker c.groups.result _ _ (λ bag h. (omega (arith, h.0), omega (arith, h.1, e))) (c.groups.ensures.took kept keeps)
+
+pub of_kind-returns-in-SetOp-clause-took : goal.of_kind-returns-in-SetOp-clause-took
+of_kind-returns-in-SetOp-clause-took g t c = λ kept keeps.
+    let at = c.args.at.now in
+    let env = env_of c.args.env.now in
+    let e : cost_at at kept env ≡ 1 + under_each at.node.now.quants (asked_at at kept) env = ap (λ (k : BoxKind). counted_by k at.node.now (family at) (asked_at at kept) env) c.in-SetOp.is in
+    IfOk-weaker c.put_together.result _ _ (λ bag h. (omega (arith, h.0), omega (arith, h.1, e))) (c.put_together.ensures.took kept keeps)
+
+pub of_kind-returns-in-OuterJoin-clause-took : goal.of_kind-returns-in-OuterJoin-clause-took
+of_kind-returns-in-OuterJoin-clause-took g t c = λ kept keeps.
+    let at = c.args.at.now in
+    let env = env_of c.args.env.now in
+    let e : cost_at at kept env ≡ 1 + under_each at.node.now.quants (asked_at at kept) env = ap (λ (k : BoxKind). counted_by k at.node.now (family at) (asked_at at kept) env) c.in-OuterJoin.is in
+    IfOk-weaker c.joined.result _ _ (λ bag h. (omega (arith, h.0), omega (arith, h.1, e))) (c.joined.ensures.took kept keeps)
+
+pub selected-returns-clause-took : goal.selected-returns-clause-took
+selected-returns-clause-took g t c = λ kept keeps. IfOk-weaker c.once_if.result _ _ (λ bag h. c.in_ok-each.ensures.took kept keeps) c.once_if.ensures
+
+pub groups-returns-clause-took : goal.groups-returns-clause-took
+groups-returns-clause-took g t c = λ kept keeps.
+    let at = c.args.at.now in
+    let l = c.in-Some.l.now in
+    let env = env_of c.args.env.now in
+    let took = c.in_ok-rows.ensures.took kept keeps in
+    let less = one-under at.node.now.quants (asked_at at kept) env l.range (drop 1 at.node.now.quants) (placed at c.requires.planned 0 l c.in-Some.ensures.lookup.3.0 c.in-Some.ensures.lookup.1).0 in
+    IfOk-weaker c.grouped.result _ _ (λ bag h. (omega (arith, took.0), omega (arith, took.1, less))) c.grouped.ensures
+
+pub joined-returns-clause-took : goal.joined-returns-clause-took
+joined-returns-clause-took g t c = λ kept keeps.
+    let at = c.args.at.now in
+    let env = env_of c.args.env.now in
+    let xs = c.in_ok-xs.ensures.took kept keeps in
+    let ys = c.in_ok-ys.ensures.took kept keeps in
+    let less = two-at at c.requires.planned c.p-item.result c.q-item.result (asked_at at kept) env c.in-len2-up.len_at_least c.p-item.is c.q-item.is in
+    IfOk-weaker c.outer_joined.result _ _ (λ bag h. (omega (arith, xs.0, ys.0), omega (arith, xs.1, ys.1, less))) c.outer_joined.ensures
+
+pub put_together-returns-clause-took : goal.put_together-returns-clause-took
+put_together-returns-clause-took g t c = λ kept keeps.
+    let at = c.args.at.now in
+    let env = env_of c.args.env.now in
+    let xs = c.in_ok-xs.ensures.took kept keeps in
+    let ys = c.in_ok-ys.ensures.took kept keeps in
+    let less = two-at at c.requires.planned c.p-item.result c.q-item.result (asked_at at kept) env c.in-len2-up.len_at_least c.p-item.is c.q-item.is in
+    IfOk-weaker c.combined.result _ _ (λ bag h. (omega (arith, xs.0, ys.0), omega (arith, xs.1, ys.1, less))) c.combined.ensures
+
+pub each-returns-then-not-is_f-clause-took : goal.each-returns-then-not-is_f-clause-took
+each-returns-then-not-is_f-clause-took g t c = λ kept keeps.
+    let at = c.args.at.now in
+    let l = c.in-Some.l.now in
+    let env = env_of c.args.env.now in
+    let passed : is_F l.range.kind ≡ false = search rules in
+    let here = placed at c.requires.planned c.args.k l c.in-Some.ensures.lookup.3.0 c.in-Some.ensures.lookup.1 in
+    subst (λ (n : ℕ). OnOk c.each.result (Between 0 (at_level c.args.level n) c.args.steps.now c.each.new.steps))
+    (sym (rows-over at.node.now.quants at.node.now.quants (family at) (asked_at at kept) env c.args.k l.range here.0 passed))
+    (c.each.ensures.took kept keeps)
+
+pub each-returns-clause-took : goal.each-returns-clause-took
+each-returns-clause-took g t c = λ kept keeps.
+    let at = c.args.at.now in
+    let l = c.in-Some.l.now in
+    let k = c.args.k in
+    let env = env_of c.args.env.now in
+    let whole : ℕ = cost_left at kept k env in
+    let bound_to : is_F l.range.kind ≡ true = search rules in
+    let here = placed at c.requires.planned k l c.in-Some.ensures.lookup.3.0 c.in-Some.ensures.lookup.1 in
+    let there : at_level c.args.level whole ≡ whole = c.is_no.ensures.there whole ∙ ap (λ (b : Bool). cond b 0 whole) c.if-is_no.false in
+    subst (λ (n : ℕ). Between 0 n c.args.steps.now c.loop-row.steps) (sym there)
+    (all-took (λ (cells : List Cell). cost_left at kept (k + 1) (bound l.range.id cells env)) c.rows-row-items.result.now (family at l.range.over env) c.loop-row.row-index (asked_at at kept l.range.over env) whole
+    c.args.steps.now c.rows_under.new.steps c.loop-row.steps c.loop-row-test.false
+    (subst (λ (b : Bag). Alike b (family at l.range.over env)) (sym c.rows-row-items.ensures) c.in_ok-rows.ensures.rows)
+    (rows-bound at.node.now.quants at.node.now.quants (family at) (asked_at at kept) env k l.range here.0 bound_to)
+    (c.in_ok-rows.ensures.took kept keeps) (c.loop-row.invariant.took kept keeps))
+
+pub each-returns-in_default-clause-took : goal.each-returns-in_default-clause-took
+each-returns-in_default-clause-took g t c = λ kept keeps.
+    let at = c.args.at.now in
+    let env = env_of c.args.env.now in
+    let whole : ℕ = cost_left at kept c.args.k env in
+    let past : length at.loops.now ≤ c.args.k = search rules in
+    let there : at_level c.args.level whole ≡ whole = c.is_no.ensures.there whole ∙ ap (λ (b : Bool). cond b 0 whole) c.if-is_no.false in
+    let none : whole ≡ under_others at.node.now.quants (asked_at at kept) env = ap (λ (rs : List OwnedQuant). under_rows rs at.node.now.quants (family at) (asked_at at kept) env) (past-all at c.requires.planned c.args.k past) in
+    subst (λ (n : ℕ). OnOk c.add_head.result (Between 0 n c.args.steps.now c.add_head.new.steps)) (sym (there ∙ none)) (c.add_head.ensures.took kept keeps)
+
+pub add_head-returns-clause-took : goal.add_head-returns-clause-took
+add_head-returns-clause-took g t c = λ kept keeps.
+    let at = c.args.at.now in
+    on_ok_weaker c.add_given.result
+    (λ h. subst (λ (rs : List OwnedQuant). Between 0 (under_others rs (asked_at at kept) (env_of c.args.env.now)) c.args.steps.now c.subs.new.steps) c.requires.planned.ranged (c.in_ok-subs.ensures.took kept keeps))
+    c.add_given.ensures
+
+pub rows_under-returns-in_ok-evaluated-in-Open-clause-took : goal.rows_under-returns-in_ok-evaluated-in-Open-clause-took
+rows_under-returns-in_ok-evaluated-in-Open-clause-took g t c = λ kept keeps.
+    let at = c.args.at.now in
+    let anew : IsOpen (tables_of at) at.run.now.memo.now at.below.now c.args.l.now.range.over c.in-Open.node.now c.in-Open.behind.now =
+    subst (λ (u : Under). Stands (tables_of at) at.run.now.memo.now at.below.now c.args.l.now.range.over u) c.in-Open.is c.requires.stands in
+    let below = anew.keeps kept keeps in
+    let took = c.in_ok-evaluated-in-Open.ensures.took kept below.0 in
+    let e = below.1 (env_of c.args.env.now) in
+    (omega (arith, took.0), omega (arith, took.1, e))
+
+pub subs-returns-clause-took : goal.subs-returns-clause-took
+subs-returns-clause-took g t c = λ kept keeps.
+    let at = c.args.at.now in
+    let rs = ranges at.loops.now in
+    subst (λ (xs : List OwnedQuant). Between 0 (under_others xs (asked_at at kept) (env_of c.args.env.now)) c.args.steps.now c.loop-l.steps)
+    (take_all c.loop-l.l-index rs (range-past at.loops.now c.loop-l.l-index c.loop-l-test.false)) (c.loop-l.invariant.took kept keeps)

@@ -1,0 +1,49 @@
+use Rattle.std.proofs.Common.{arith}
+use Rattle.std.proofs.lemmas.Grind.{common_steps}
+use Rattle.qgm_terms.specs.Shown.{cond, conds, links, term}
+use Rattle.box_exec.specs.Bound.{env_of}
+use Rattle.box_exec.specs.Sources.{held_by}
+use Rattle.sql_value.specs.Truths as t
+use Rattle.row_bag.specs.Subqueries as u
+use Rattle.qgm_meaning.specs.Values as m
+use Rattle.box_exec.proofs.Steps.{all_more, any_more, chain_more, every_more, some_more, truth_anded, truth_ored, value_linked}
+use Rattle.qgm_terms.proofs.Lists as listed
+use Rattle.box_exec.proofs.evaluation.+value.Goals as goal
+
+pub all_of-loop-p-preserved : goal.all_of-loop-p-preserved
+all_of-loop-p-preserved below c =
+    all_more (held_by c.args.subs.now) (env_of c.args.env.now) c.args.list.now c.loop-p.p-index c.p-item.result _ _ _ _ c.loop-p-test.true (cc (c.p-item.is)) c.in_ok-hold.ensures c.and-total.ensures c.loop-p.invariant
+
+pub any_of-loop-p-preserved : goal.any_of-loop-p-preserved
+any_of-loop-p-preserved below c =
+    any_more (held_by c.args.subs.now) (env_of c.args.env.now) c.args.list.now c.loop-p.p-index c.p-item.result _ _ _ _ c.loop-p-test.true (cc (c.p-item.is)) c.in_ok-hold.ensures c.or-total.ensures c.loop-p.invariant
+
+pub chain-loop-link-preserved : goal.chain-loop-link-preserved
+chain-loop-link-preserved below c =
+    chain_more (held_by c.args.subs.now) (env_of c.args.env.now) c.args.list.now c.loop-link.link-index c.link-item.result c.loop-link.total c.in_ok-next.next c.in_ok-total.total _ c.loop-link-test.true (cc (c.link-item.is)) c.in_ok-next.ensures c.in_ok-total.ensures c.loop-link.invariant
+
+pub every-loop-row-preserved : goal.every-loop-row-preserved
+every-loop-row-preserved below c =
+    every_more (λ cells level. t.or (t.negated (u.presence level)) (m.truth (held_by c.args.subs.now) (cond c.args.p.now) (m.bound c.args.q cells (env_of c.args.env.now)))) c.args.rows.now c.loop-row.row-index c.row-item.result c.loop-row.truth c.in_ok-every_row.field-0 c.and-truth.result _ c.loop-row-test.true (cc (c.row-item.is)) c.in_ok-every_row.ensures c.and-truth.ensures c.loop-row.invariant
+
+pub some-loop-row-preserved : goal.some-loop-row-preserved
+some-loop-row-preserved below c =
+    some_more (λ cells level. t.and (u.presence level) (m.truth (held_by c.args.subs.now) (cond c.args.p.now) (m.bound c.args.q cells (env_of c.args.env.now)))) c.args.rows.now c.loop-row.row-index c.row-item.result c.loop-row.truth c.in_ok-some_row.field-0 c.or-truth.result _ c.loop-row-test.true (cc (c.row-item.is)) c.in_ok-some_row.ensures c.or-truth.ensures c.loop-row.invariant
+
+pub hold-returns-in_ok-first-in-All : goal.hold-returns-in_ok-first-in-All
+hold-returns-in_ok-first-in-All t c =
+    rw (c.in-All.is, listed.conds_hidden c.in-All.list, truth_anded (held_by c.args.subs.now) (cond c.in-All.a.value) (conds c.in-All.list.items) (env_of c.args.env.now), ← c.deref-in-All.ensures, ← c.in_ok-first-in-All.ensures, ← c.deref-in-All-2.ensures.value) c.all_of.ensures
+
+pub hold-returns-in_ok-first-in-Any : goal.hold-returns-in_ok-first-in-Any
+hold-returns-in_ok-first-in-Any t c =
+    rw (c.in-Any.is, listed.conds_hidden c.in-Any.list, truth_ored (held_by c.args.subs.now) (cond c.in-Any.a.value) (conds c.in-Any.list.items) (env_of c.args.env.now), ← c.deref-in-Any.ensures, ← c.in_ok-first-in-Any.ensures, ← c.deref-in-Any-2.ensures.value) c.any_of.ensures
+
+pub hold-returns-in-Some : goal.hold-returns-in-Some
+hold-returns-in-Some t c = rw (c.in-Some.is, ← c.rows_of.ensures, ← c.deref-in-Some.ensures) c.some.ensures
+
+pub hold-returns-in-Every : goal.hold-returns-in-Every
+hold-returns-in-Every t c = rw (c.in-Every.is, ← c.rows_of-in-Every.ensures, ← c.deref-in-Every.ensures) c.every.ensures
+
+pub value-returns-in_ok-first-in-Chain : goal.value-returns-in_ok-first-in-Chain
+value-returns-in_ok-first-in-Chain t c =
+    rw (c.in-Chain.is, listed.links_hidden c.in-Chain.list, value_linked (held_by c.args.subs.now) (term c.in-Chain.a.value) (links c.in-Chain.list.items) (env_of c.args.env.now)) (grind (arith, common_steps))

@@ -1,0 +1,31 @@
+use Rattle.std.proofs.Common.{sym, ◌∙◌, subst}
+use Rattle.box_exec.proofs.Roots.{root-behind, root-fit, root-none, root-rows, root-there, root-took}
+use Rattle.box_exec.specs.Costs.{Keeps}
+use Rattle.box_exec.proofs.execution.execute.Goals as goal
+
+pub returns-in_default-clause-rows : goal.returns-in_default-clause-rows
+returns-in_default-clause-rows g c =
+    root-none c.args.graph.now.boxes c.nodes-nodes.result.now c.args.graph.now.root c.root-root.result c.nodes-nodes.ensures c.root-root.ensures c.args.tables.now c.new.result (sym c.place_of.ensures ∙ c.in_default.is) c.new.ensures
+
+pub memo_of-requires : goal.memo_of-requires
+memo_of-requires g c =
+    root-behind c.args.graph.now.boxes c.nodes-nodes.result.now c.args.graph.now.root c.root-root.result c.nodes-nodes.ensures c.root-root.ensures c.in-Some.i c.behind-below.result.now c.behind-below.ensures c.requires.fit
+
+pub evaluated-requires-clause-fit : goal.evaluated-requires-clause-fit
+evaluated-requires-clause-fit g c =
+    root-fit c.args.graph.now.boxes c.nodes-nodes.result.now c.args.graph.now.root c.root-root.result c.nodes-nodes.ensures c.root-root.ensures c.in-Some.i c.index-nodes-i.result c.behind-below.result.now (sym c.place_of.ensures ∙ c.in-Some.is) c.index-nodes-i.is c.behind-below.ensures c.requires.fit
+
+pub returns-clause-rows : goal.returns-clause-rows
+returns-clause-rows g c =
+    root-rows c.args.graph.now.boxes c.nodes-nodes.result.now c.args.graph.now.root c.root-root.result c.nodes-nodes.ensures c.root-root.ensures c.args.tables.now c.in-Some.i c.index-nodes-i.result c.behind-below.result.now c.in_ok-rows.rows (sym c.place_of.ensures ∙ c.in-Some.is) c.index-nodes-i.is c.behind-below.ensures c.in_ok-rows.ensures.rows
+
+pub returns-in_default-clause-took : goal.returns-in_default-clause-took
+returns-in_default-clause-took g c = λ has kept how.
+    absurd (root-there c.args.graph.now.boxes c.nodes-nodes.result.now c.args.graph.now.root c.root-root.result c.nodes-nodes.ensures c.root-root.ensures (sym c.place_of.ensures ∙ c.in_default.is) has)
+
+pub returns-clause-took : goal.returns-clause-took
+returns-clause-took g c = λ has kept how.
+    let found = root-took c.args.graph.now.boxes c.nodes-nodes.result.now c.args.graph.now.root c.root-root.result c.nodes-nodes.ensures c.root-root.ensures c.args.tables.now c.in-Some.i c.index-nodes-i.result c.behind-below.result.now c.deref.result.now kept
+    (sym c.place_of.ensures ∙ c.in-Some.is) c.index-nodes-i.is c.behind-below.ensures (c.deref.ensures.value ∙ c.in_ok-marks.ensures) how in
+    found.1 c.args.steps.now c.memo_of.new.steps c.evaluated.new.steps (c.in_ok-memo.ensures.took kept found.0)
+    (c.in_ok-rows.ensures.took kept (subst (λ (m : _). Keeps m kept c.behind-below.result.now) (sym c.deref-2.ensures.value) (c.in_ok-memo.ensures.keeps kept found.0)))

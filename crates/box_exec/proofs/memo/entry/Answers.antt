@@ -1,0 +1,16 @@
+use Rattle.std.proofs.Common.{◌≡◌, [], ap, arith}
+use Rattle.qgm_core.specs.declared.kinds.BoxKind.{BoxKind}
+use Rattle.qgm_meaning.specs.Meaning.{bag_in}
+use Rattle.qgm_meaning.specs.Plain.{counted_by}
+use Rattle.box_exec.specs.Costs.{asked}
+use Rattle.box_exec.proofs.Entries.{kept-everywhere}
+use Rattle.box_exec.proofs.memo.entry.Goals as goal
+
+pub returns-in_ok-rows-in-Select-clause-rows : goal.returns-in_ok-rows-in-Select-clause-rows
+returns-in_ok-rows-in-Select-clause-rows g c = kept-everywhere c.args.tables.now c.args.place.now.node.now c.args.place.now.below.now c.in_ok-rows-in-Select.rows c.requires.closed c.in_ok-rows-in-Select.ensures.rows
+
+pub returns-in-Base-clause-took : goal.returns-in-Base-clause-took
+returns-in-Base-clause-took g c = λ kept keeps.
+    let e : counted_by c.args.place.now.node.now.parts.kind c.args.place.now.node.now (bag_in c.args.tables.now c.args.place.now.below.now) (asked c.args.tables.now kept c.args.place.now.below.now) [] ≡ 1 =
+    ap (λ (k : BoxKind). counted_by k c.args.place.now.node.now (bag_in c.args.tables.now c.args.place.now.below.now) (asked c.args.tables.now kept c.args.place.now.below.now) []) c.in-Base.is in
+    (omega (arith, c.step.ensures.ticked), omega (arith, c.step.ensures.ticked, e))

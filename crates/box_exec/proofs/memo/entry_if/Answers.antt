@@ -1,0 +1,14 @@
+use Rattle.std.proofs.Common.{ℕ, Bool, ◌≡◌, [], ap, arith, cond}
+use Rattle.qgm_meaning.specs.Meaning.{bag_in}
+use Rattle.qgm_meaning.specs.Plain.{counted_by}
+use Rattle.box_exec.specs.Costs.{asked}
+use Rattle.box_exec.proofs.memo.entry_if.Goals as goal
+
+pub returns-in_ok-rows-clause-took : goal.returns-in_ok-rows-clause-took
+returns-in_ok-rows-clause-took g c = λ kept keeps.
+    let n = c.args.place.now.node.now in
+    let cost : ℕ = counted_by n.parts.kind n (bag_in c.args.tables.now c.args.place.now.below.now) (asked c.args.tables.now kept c.args.place.now.below.now) [] in
+    let took = c.in_ok-rows.ensures.took kept keeps in
+    let one : ◌≡◌ {A = ℕ} (cond c.args.keep 1 0) 1 = ap (λ (b : Bool). cond b 1 0) c.if-keep.true in
+    let all : cond c.args.keep cost 0 ≡ cost = ap (λ (b : Bool). cond b cost 0) c.if-keep.true in
+    (omega (arith, took.0, one), omega (arith, took.1, all))

@@ -1,0 +1,12 @@
+pub mod Bound
+pub mod Sources
+pub mod Forms
+pub mod Lists
+pub mod Outer
+pub mod Groups
+pub mod Counted
+pub mod Costs
+pub mod Ready
+pub mod Plans
+pub mod Beyond
+pub mod Kept

@@ -1,0 +1,55 @@
+-- A box that is evaluated, and what its quantifiers give.
+use Rattle.std.specs.Prelude.{ℕ, ◌≡◌, All, Bool, List, drop, map}
+use Rattle.qgm_meaning.specs.Plain.{Counts, counted_by, under_rows}
+use Rattle.box_exec.specs.Costs.{Keeps, asked}
+use Rattle.qgm_core.specs.declared.owned.OwnedQuant.{OwnedQuant}
+use Rattle.qgm_meaning.specs.Meaning.{Family, bag_in, rows_of}
+use Rattle.qgm_meaning.specs.Values.{Bag, Environment}
+use Rattle.row_bag.specs.declared.tables.Table.{Table}
+use Rattle.box_exec.specs.Ready.{Fit, Stands, over_left}
+use Rattle.box_exec.specs.declared.boxes.At.{At}
+use Rattle.box_exec.specs.declared.under.Loop.{Loop}
+
+abbrev pub tables_of : At → List Table
+tables_of at = at.run.now.tables.now
+
+-- what the boxes below it give
+abbrev pub family : At → Family
+family at = bag_in (tables_of at) at.below.now
+
+abbrev pub ranges : List Loop → List OwnedQuant
+ranges ls = map (λ l. l.range) ls
+
+-- its quantifiers with what stands under each
+pub record Planned (at : At) : Type 0 where
+  pub ranged : ranges at.loops.now ≡ at.node.now.quants
+  pub stand : All (λ l. Stands (tables_of at) at.run.now.memo.now at.below.now l.range.over l.under) at.loops.now
+  pub fit : Fit at.node.now at.below.now
+
+-- what stands under a quantifier of it
+abbrev pub StandsAt : At → Loop → Type 0
+StandsAt at l = Stands (tables_of at) at.run.now.memo.now at.below.now l.range.over l.under
+
+-- its rows
+abbrev pub rows_at : At → Environment → Bag
+rows_at at env = rows_of (tables_of at) at.node.now (family at) env
+
+-- what it gives for each combination of rows of its quantifiers from a place on
+abbrev pub left_at : At → ℕ → Environment → Bag
+left_at at k env = over_left (tables_of at) at.node.now at.below.now k env
+
+-- there are rows for the boxes below it that are kept
+abbrev pub KeepsAt : At → (ℕ → Bool) → Type 0
+KeepsAt at kept = Keeps at.run.now.memo.now kept at.below.now
+
+-- how many evaluations the boxes below it take where their rows are asked for
+abbrev pub asked_at : At → (ℕ → Bool) → Counts
+asked_at at kept = asked (tables_of at) kept at.below.now
+
+-- how many it takes itself
+abbrev pub cost_at : At → (ℕ → Bool) → Environment → ℕ
+cost_at at kept env = counted_by at.node.now.parts.kind at.node.now (family at) (asked_at at kept) env
+
+-- for each combination of rows of its quantifiers from a place on
+abbrev pub cost_left : At → (ℕ → Bool) → ℕ → Environment → ℕ
+cost_left at kept k env = under_rows (drop k at.node.now.quants) at.node.now.quants (family at) (asked_at at kept) env

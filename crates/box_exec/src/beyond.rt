@@ -1,0 +1,86 @@
+// The quantifiers that boxes name, themselves or below them, and that no box on the way owns.
+ghost use Rattle.std.specs.Prelude.{◌≡◌, ◌++◌, ◌∷◌, [], map, IfOk, OnOk};
+ghost use Rattle.box_exec.specs.Beyond as spec;
+ghost use Rattle.qgm_core.specs.Free as free;
+
+use crate::under::place_of;
+use qgm_core::{
+    BoxId, Node, OwnedQuant, QuantId, add_names_of_node, has_range, is_marked, mark_each,
+};
+use shared_types::OutOfMemory;
+use std::alloc::Global;
+
+// Appends quantifiers.
+fn append(names: &[QuantId], out: &mut Vec<QuantId>) -> Result<(), OutOfMemory>
+    ensures { OnOk result (out.new.items ≡ out.old.items ++ names.now) }
+{
+    for q in names {
+        out.push(*q)?;
+    }
+    Ok(())
+}
+
+// Appends what box b names so, if it is among these; the lists are those of these boxes, from the last.
+fn add_beyond(
+    below: &[Node],
+    b: BoxId,
+    named: &[Vec<QuantId>],
+    out: &mut Vec<QuantId>,
+) -> Result<(), OutOfMemory>
+    requires { map (λ v. v.items) named.now ≡ spec.beyonds below.now }
+    ensures { OnOk result (out.new.items ≡ out.old.items ++ spec.beyond below.now b) }
+{
+    let Some(i) = place_of(below, b) else {
+        return Ok(());
+    };
+    append(&named[below.len() - 1 - i], out)
+}
+
+// Those of the quantifiers that none of these is.
+fn not_owned(ranges: &[OwnedQuant], names: Vec<QuantId>) -> Vec<QuantId>
+    ensures { result.items ≡ spec.without_own ranges.now names.items }
+{
+    let mut names = names;
+    names.retain(|q| !has_range(ranges, *q));
+    names
+}
+
+/// What a box names so, over the boxes behind it. It fails only for want of memory.
+pub(crate) fn beyond(
+    alloc: Global,
+    node: &Node,
+    below: &[Node],
+    named: &[Vec<QuantId>],
+) -> Result<Vec<QuantId>, OutOfMemory>
+    requires { map (λ v. v.items) named.now ≡ spec.beyonds below.now }
+    ensures { IfOk result (λ names. names.items ≡ spec.beyond_of node.now (spec.beyond below.now)) }
+{
+    let mut names = Vec::new(alloc);
+    add_names_of_node(node, &mut names)?;
+    for range in node.quants.as_slice() {
+        add_beyond(below, range.over, named, &mut names)?;
+    }
+    Ok(not_owned(node.quants.as_slice(), names))
+}
+
+// Marks what a box that is marked ranges over.
+fn mark(node: &Node, marks: &mut Vec<BoxId>) -> Result<(), OutOfMemory>
+    ensures { OnOk result (marks.new.items ≡ free.marked marks.old.items node.now) }
+{
+    if is_marked(marks, node.id) {
+        mark_each(node.quants.as_slice(), marks)?;
+    }
+    Ok(())
+}
+
+/// The boxes that are reached from one. It fails only for want of memory.
+pub(crate) fn reached(alloc: Global, nodes: &[Node], b: BoxId) -> Result<Vec<BoxId>, OutOfMemory>
+    ensures { IfOk result (λ marks. marks.items ≡ free.reached (b ∷ []) nodes.now) }
+{
+    let mut marks = Vec::new(alloc);
+    marks.push(b)?;
+    for node in nodes {
+        mark(node, &mut marks)?;
+    }
+    Ok(marks)
+}

@@ -1,0 +1,310 @@
+// The rows of boxes.
+ghost use Rattle.std.specs.Prelude.{◌≡◌, ◌+◌, ◌++◌, ℕ, Bool, IfOk, OnOk, filter, if◌then◌else◌, true};
+ghost use Rattle.box_exec.specs.Bound.{env_of};
+ghost use Rattle.box_exec.specs.Costs.{Between, Keeps, asked, at_level};
+ghost use Rattle.box_exec.specs.Counted.{Counted};
+ghost use Rattle.box_exec.specs.Plans as plan;
+ghost use Rattle.box_exec.specs.Ready.{Fit, Ready, SubsOf, isnt_F};
+ghost use Rattle.box_exec.specs.Sources.{held};
+ghost use Rattle.qgm_core.specs.declared.kinds.BoxKind.TheVariants as kind;
+ghost use Rattle.qgm_meaning.specs.Meaning as m;
+ghost use Rattle.qgm_meaning.specs.Plain.{counted_by, under_each, under_others};
+ghost use Rattle.row_bag.specs.Bags.{Alike, keep};
+ghost use Rattle.sql_value.specs.declared.level.Level.TheVariants as Level;
+
+use crate::bindings::Bindings;
+use crate::combining::combined;
+use crate::grouping::grouped;
+use crate::heads::{add_given, once_if};
+use crate::joining::{Join, outer_joined};
+use crate::source::{Source, Sub};
+use crate::under::{Loop, Run, Under, is_f, loops, table_rows};
+use qgm_core::{BoxKind, Node, SetOperator};
+use row_bag::Bag;
+use row_folds::copied_rows;
+use shared_types::OutOfMemory;
+use sql_value::{Level, least};
+use std::sync::ledger::Ledger;
+use step_count::Steps;
+
+/// A box that is evaluated: itself, those behind it, and its quantifiers.
+#[derive(Clone, Copy)]
+pub(crate) struct At<'a> {
+    pub run: &'a Run<'a>,
+    pub node: &'a Node,
+    pub below: &'a [Node],
+    pub loops: &'a [Loop<'a>],
+}
+
+/// One evaluation of a box more.
+pub(crate) fn step<L: Ledger>(steps: &mut Steps<L>, count: &mut u64)
+    ensures counted { (start : ℕ) → Counted start steps.old count.old → Counted start steps.new count.new }
+    ensures ticked { steps.new ≡ steps.old + 1 }
+{
+    steps.tick();
+    *count = count.saturating_add(1);
+}
+
+/// The rows of a box over those behind it, one evaluation more. It fails only for want of memory.
+#[cycle(rows)]
+pub(crate) fn evaluated<'a, L: Ledger>(
+    run: &'a Run<'a>,
+    node: &'a Node,
+    below: &'a [Node],
+    env: &Bindings,
+    steps: &mut Steps<L>,
+    count: &mut u64,
+) -> Result<Bag, OutOfMemory>
+    requires ready { Ready run.now.tables.now run.now.memo.now below.now }
+    requires fit { Fit node.now below.now }
+    ensures rows { IfOk result (λ bag. Alike bag (m.rows_of run.now.tables.now node.now (m.bag_in run.now.tables.now below.now) (env_of env.now))) }
+    ensures counted { (start : ℕ) → Counted start steps.old count.old → Counted start steps.new count.new }
+    ensures took { (kept : ℕ → Bool) → Keeps run.now.memo.now kept below.now → IfOk result (λ bag. Between 1 (counted_by node.now.parts.kind node.now (m.bag_in run.now.tables.now below.now) (asked run.now.tables.now kept below.now) (env_of env.now)) steps.old steps.new) }
+{
+    step(steps, count);
+    let loops = loops(run, node.quants.as_slice(), below)?;
+    let at = At {
+        run: &*run,
+        node: &*node,
+        below: &*below,
+        loops: &loops,
+    };
+    of_kind(&at, env, steps, count)
+}
+
+// Whether nothing is there.
+fn is_no(level: Level) -> bool
+    ensures none { result ≡ true → level ≡ Level.No }
+    ensures there { (n : ℕ) → at_level level n ≡ (if result then 0 else n) }
+{
+    match level {
+        Level::No => true,
+        Level::Cardinality | Level::Division | Level::Overflow | Level::Yes => false,
+    }
+}
+
+// The rows of a box by its kind.
+#[cycle(rows)]
+fn of_kind<L: Ledger>(
+    at: &At<'_>,
+    env: &Bindings,
+    steps: &mut Steps<L>,
+    count: &mut u64,
+) -> Result<Bag, OutOfMemory>
+    requires planned { plan.Planned at.now }
+    ensures rows { IfOk result (λ bag. Alike bag (plan.rows_at at.now (env_of env.now))) }
+    ensures counted { (start : ℕ) → Counted start steps.old count.old → Counted start steps.new count.new }
+    ensures took { (kept : ℕ → Bool) → plan.KeepsAt at.now kept → IfOk result (λ bag. Between 1 (plan.cost_at at.now kept (env_of env.now)) steps.old (steps.new + 1)) }
+{
+    match &at.node.parts.kind {
+        BoxKind::Base(table) => copied_rows(at.run.alloc, table_rows(at.run.tables, &table.name)),
+        BoxKind::Select => selected(at, env, steps, count),
+        BoxKind::Group(keys) => groups(at, *keys, env, steps, count),
+        BoxKind::SetOp(operator, types) => {
+            put_together(at, *operator, types.len(), env, steps, count)
+        }
+        BoxKind::OuterJoin => joined(at, env, steps, count),
+    }
+}
+
+// The rows under a quantifier.
+#[cycle(rows)]
+fn rows_under<'a, L: Ledger>(
+    at: &At<'a>,
+    l: &Loop<'a>,
+    env: &Bindings,
+    steps: &mut Steps<L>,
+    count: &mut u64,
+) -> Result<Source<'a>, OutOfMemory>
+    requires stands { plan.StandsAt at.now l.now }
+    ensures rows { IfOk result (λ s. Alike (held s) (plan.family at.now l.now.range.over (env_of env.now))) }
+    ensures counted { (start : ℕ) → Counted start steps.old count.old → Counted start steps.new count.new }
+    ensures took { (kept : ℕ → Bool) → plan.KeepsAt at.now kept → IfOk result (λ s. Between 0 (plan.asked_at at.now kept l.now.range.over (env_of env.now)) steps.old steps.new) }
+{
+    match l.under {
+        Under::Kept(rows) => Ok(Source::Borrowed(rows)),
+        Under::Open(node, behind) => {
+            Ok(Source::Made(evaluated(at.run, node, behind, env, steps, count)?))
+        }
+        Under::Nothing => Ok(Source::Borrowed(&[])),
+    }
+}
+
+// The rows of a select.
+#[cycle(rows)]
+fn selected<L: Ledger>(
+    at: &At<'_>,
+    env: &Bindings,
+    steps: &mut Steps<L>,
+    count: &mut u64,
+) -> Result<Bag, OutOfMemory>
+    requires planned { plan.Planned at.now }
+    ensures rows { IfOk result (λ bag. Alike bag (m.rows_by kind.Select (plan.tables_of at.now) at.now.node.now (m.quant_rows at.now.node.now (plan.family at.now)) (env_of env.now))) }
+    ensures counted { (start : ℕ) → Counted start steps.old count.old → Counted start steps.new count.new }
+    ensures took { (kept : ℕ → Bool) → plan.KeepsAt at.now kept → IfOk result (λ bag. Between 0 (plan.cost_left at.now kept 0 (env_of env.now)) steps.old steps.new) }
+{
+    let mut out = Bag::new(at.run.alloc);
+    each(at, 0, Level::Yes, &*env, &mut out, steps, count)?;
+    once_if(at.node.parts.distinct, out)
+}
+
+// Adds what a select gives for each combination of rows of its F quantifiers from a place on, each
+// row at the lower one of its level and this one.
+#[cycle(rows)]
+fn each<'x, L: Ledger>(
+    at: &At<'_>,
+    k: usize,
+    level: Level,
+    env: &'x Bindings<'x>,
+    out: &mut Bag,
+    steps: &mut Steps<L>,
+    count: &mut u64,
+) -> Result<(), OutOfMemory>
+    requires planned { plan.Planned at.now }
+    ensures rows { OnOk result (Alike out.new (out.old ++ keep level (plan.left_at at.now k (env_of env.now)))) }
+    ensures counted { (start : ℕ) → Counted start steps.old count.old → Counted start steps.new count.new }
+    ensures took { (kept : ℕ → Bool) → plan.KeepsAt at.now kept → OnOk result (Between 0 (at_level level (plan.cost_left at.now kept k (env_of env.now))) steps.old steps.new) }
+{
+    if is_no(level) {
+        return Ok(());
+    }
+    let Some(l) = at.loops.get(k) else {
+        return add_head(at, level, env, out, steps, count);
+    };
+    if !is_f(l.range.kind) {
+        return each(at, k + 1, level, env, out, steps, count);
+    }
+    let rows = rows_under(at, l, env, steps, count)?;
+    for row in rows.rows() {
+        let inside = Bindings::Row(l.range.id, row.cells.as_slice(), &*env);
+        each(
+            at,
+            k + 1,
+            least(level, row.level),
+            &inside,
+            out,
+            steps,
+            count,
+        )?;
+    }
+    Ok(())
+}
+
+// Adds what a select gives where all its F quantifiers are bound.
+#[cycle(rows)]
+#[inline(never)]
+fn add_head<L: Ledger>(
+    at: &At<'_>,
+    level: Level,
+    env: &Bindings,
+    out: &mut Bag,
+    steps: &mut Steps<L>,
+    count: &mut u64,
+) -> Result<(), OutOfMemory>
+    requires planned { plan.Planned at.now }
+    ensures rows { OnOk result (Alike out.new (out.old ++ keep level (m.given_by (m.quant_rows at.now.node.now (plan.family at.now)) at.now.node.now (env_of env.now)))) }
+    ensures counted { (start : ℕ) → Counted start steps.old count.old → Counted start steps.new count.new }
+    ensures took { (kept : ℕ → Bool) → plan.KeepsAt at.now kept → OnOk result (Between 0 (under_others at.now.node.now.quants (plan.asked_at at.now kept) (env_of env.now)) steps.old steps.new) }
+{
+    let subs = subs(at, env, steps, count)?;
+    add_given(at.run.alloc, at.node, subs.as_slice(), level, env, out)
+}
+
+// What the quantifiers of a box give that bind no rows.
+#[cycle(rows)]
+fn subs<'a, L: Ledger>(
+    at: &At<'a>,
+    env: &Bindings,
+    steps: &mut Steps<L>,
+    count: &mut u64,
+) -> Result<Vec<Sub<'a>>, OutOfMemory>
+    requires planned { plan.Planned at.now }
+    ensures rows { IfOk result (λ subs. SubsOf (plan.family at.now) (env_of env.now) (filter isnt_F (plan.ranges at.now.loops.now)) subs.items) }
+    ensures counted { (start : ℕ) → Counted start steps.old count.old → Counted start steps.new count.new }
+    ensures took { (kept : ℕ → Bool) → plan.KeepsAt at.now kept → IfOk result (λ subs. Between 0 (under_others (plan.ranges at.now.loops.now) (plan.asked_at at.now kept) (env_of env.now)) steps.old steps.new) }
+{
+    let mut subs = Vec::new(at.run.alloc);
+    for l in at.loops {
+        if !is_f(l.range.kind) {
+            let rows = rows_under(at, l, env, steps, count)?;
+            subs.push(Sub {
+                quant: l.range.id,
+                rows,
+            })?;
+        }
+    }
+    Ok(subs)
+}
+
+// The rows of a group box.
+#[cycle(rows)]
+fn groups<L: Ledger>(
+    at: &At<'_>,
+    keys: usize,
+    env: &Bindings,
+    steps: &mut Steps<L>,
+    count: &mut u64,
+) -> Result<Bag, OutOfMemory>
+    requires planned { plan.Planned at.now }
+    ensures rows { IfOk result (λ bag. Alike bag (m.rows_by (kind.Group keys) (plan.tables_of at.now) at.now.node.now (m.quant_rows at.now.node.now (plan.family at.now)) (env_of env.now))) }
+    ensures counted { (start : ℕ) → Counted start steps.old count.old → Counted start steps.new count.new }
+    ensures took { (kept : ℕ → Bool) → plan.KeepsAt at.now kept → IfOk result (λ bag. Between 0 (under_each at.now.node.now.quants (plan.asked_at at.now kept) (env_of env.now)) steps.old steps.new) }
+{
+    let Some(l) = at.loops.get(0) else {
+        return Ok(Bag::new(at.run.alloc));
+    };
+    let rows = rows_under(at, l, env, steps, count)?;
+    let head = at.node.parts.head.as_slice();
+    grouped(at.run.alloc, keys, head, l.range.id, rows.rows(), env)
+}
+
+// The rows of a set operation.
+#[cycle(rows)]
+fn put_together<L: Ledger>(
+    at: &At<'_>,
+    operator: SetOperator,
+    width: usize,
+    env: &Bindings,
+    steps: &mut Steps<L>,
+    count: &mut u64,
+) -> Result<Bag, OutOfMemory>
+    requires planned { plan.Planned at.now }
+    ensures rows { IfOk result (λ bag. Alike bag (m.of_two at.now.node.now.quants (λ p q. m.combined operator width (m.quant_rows at.now.node.now (plan.family at.now) p (env_of env.now)) (m.quant_rows at.now.node.now (plan.family at.now) q (env_of env.now))))) }
+    ensures counted { (start : ℕ) → Counted start steps.old count.old → Counted start steps.new count.new }
+    ensures took { (kept : ℕ → Bool) → plan.KeepsAt at.now kept → IfOk result (λ bag. Between 0 (under_each at.now.node.now.quants (plan.asked_at at.now kept) (env_of env.now)) steps.old steps.new) }
+{
+    let [p, q, ..] = at.loops else {
+        return Ok(Bag::new(at.run.alloc));
+    };
+    let xs = rows_under(at, p, env, steps, count)?;
+    let ys = rows_under(at, q, env, steps, count)?;
+    let xs = xs.into_bag(at.run.alloc)?;
+    let ys = ys.into_bag(at.run.alloc)?;
+    combined(at.run.alloc, operator, width, xs, ys)
+}
+
+// The rows of an outer join.
+#[cycle(rows)]
+fn joined<L: Ledger>(
+    at: &At<'_>,
+    env: &Bindings,
+    steps: &mut Steps<L>,
+    count: &mut u64,
+) -> Result<Bag, OutOfMemory>
+    requires planned { plan.Planned at.now }
+    ensures rows { IfOk result (λ bag. Alike bag (m.of_two at.now.node.now.quants (m.outer_rows at.now.node.now (m.quant_rows at.now.node.now (plan.family at.now)) (env_of env.now)))) }
+    ensures counted { (start : ℕ) → Counted start steps.old count.old → Counted start steps.new count.new }
+    ensures took { (kept : ℕ → Bool) → plan.KeepsAt at.now kept → IfOk result (λ bag. Between 0 (under_each at.now.node.now.quants (plan.asked_at at.now kept) (env_of env.now)) steps.old steps.new) }
+{
+    let [p, q, ..] = at.loops else {
+        return Ok(Bag::new(at.run.alloc));
+    };
+    let xs = rows_under(at, p, env, steps, count)?;
+    let ys = rows_under(at, q, env, steps, count)?;
+    let join = Join {
+        node: at.node,
+        left: p.range.id,
+        right: q.range.id,
+    };
+    outer_joined(at.run.alloc, &join, xs.rows(), ys.rows(), env)
+}

@@ -1,0 +1,350 @@
+// What expressions and conditions are.
+ghost use Rattle.std.specs.Prelude.{◌≡◌, IfOk, true, false, unwrap_or};
+ghost use Rattle.qgm_terms.specs.Shown.{choices, cond, conds, links, term};
+ghost use Rattle.qgm_terms.specs.Terms.{armed};
+ghost use Rattle.row_bag.specs.Bags.{if_there, total};
+ghost use Rattle.sql_value.specs.Arithmetic as arithmetic;
+ghost use Rattle.sql_value.specs.Truths as truths;
+ghost use Rattle.sql_value.specs.declared.cell.Cell.{Cell};
+ghost use Rattle.box_exec.specs.Bound.{env_of};
+ghost use Rattle.box_exec.specs.Sources.{held_by};
+ghost use Rattle.box_exec.specs.Forms.{compared_by};
+ghost use Rattle.box_exec.specs.Lists as lists;
+ghost use Rattle.row_bag.specs.Subqueries as u;
+ghost use Rattle.qgm_meaning.specs.Values as meaning;
+
+use crate::bindings::{Bindings, column};
+use crate::source::{Sub, rows_of};
+use qgm_terms::{Arm, Gc, Gx, Link, Op, QuantId};
+use row_bag::Row;
+use row_folds::{presence, scalar};
+use shared_types::OutOfMemory;
+use sql_value::{
+    Cell, CmpOp, Kind, Level, Text, Truth, add, and, compare, concat, decided, div, is_null, like,
+    mul, neg, not, or, same, sub,
+};
+use std::alloc::Global;
+
+// A text as a cell.
+#[inline(never)]
+fn text(alloc: Global, characters: &Text) -> Result<Cell, OutOfMemory>
+    ensures { IfOk result (λ cell. cell ≡ Cell.Text characters.now) }
+{
+    Ok(Cell::Text(characters.copy(alloc)?))
+}
+
+// An operation on two cells.
+#[inline(never)]
+fn operate(alloc: Global, op: Op, a: &Cell, b: &Cell) -> Result<Cell, OutOfMemory>
+    ensures { IfOk result (λ cell. cell ≡ meaning.operate op a.now b.now) }
+{
+    match op {
+        Op::Add => Ok(add(a, b)),
+        Op::Sub => Ok(sub(a, b)),
+        Op::Mul => Ok(mul(a, b)),
+        Op::Div => Ok(div(a, b)),
+        Op::Cat => concat(alloc, a, b),
+    }
+}
+
+// What a comparison makes of the cells of its two operands.
+#[inline(never)]
+fn comparison(p: &Gc, a: &Cell, b: &Cell) -> Truth
+    ensures { result ≡ compared_by p.now a.now b.now }
+{
+    match p {
+        Gc::Eq(_, _) => compare(CmpOp::Eq, a, b),
+        Gc::Ne(_, _) => compare(CmpOp::Ne, a, b),
+        Gc::Lt(_, _) => compare(CmpOp::Lt, a, b),
+        Gc::Le(_, _) => compare(CmpOp::Le, a, b),
+        Gc::Gt(_, _) => compare(CmpOp::Gt, a, b),
+        Gc::Ge(_, _) => compare(CmpOp::Ge, a, b),
+        Gc::Same(_, _) => same(a, b),
+        Gc::Like(_, _) => like(a, b),
+        Gc::True
+        | Gc::IsNull(_)
+        | Gc::All(_, _)
+        | Gc::Any(_, _)
+        | Gc::Not(_)
+        | Gc::Some(_, _)
+        | Gc::Every(_, _) => decided(true),
+    }
+}
+
+/// The cell that an expression is.
+#[cycle(value)]
+#[tactic(auto, using(qgm_terms::proofs::Lists::lists))]
+pub fn value(alloc: Global, x: &Gx, subs: &[Sub<'_>], env: &Bindings) -> Result<Cell, OutOfMemory>
+    ensures { IfOk result (λ cell. cell ≡ meaning.value (held_by subs.now) (term x.now) (env_of env.now)) }
+{
+    match x {
+        Gx::Int(number) => Ok(Cell::Int(*number)),
+        Gx::Text(characters) => text(alloc, characters),
+        Gx::Col(q, k) => column(alloc, env, *q, *k),
+        Gx::Scalar(q) => scalar(alloc, rows_of(subs, *q)),
+        Gx::Chain(a, list) => {
+            let first = value(alloc, a, subs, env)?;
+            chain(alloc, first, list, subs, env)
+        }
+        Gx::Neg(a) => negative(alloc, a, subs, env),
+        Gx::Case(list, last) => {
+            let found = first_true(alloc, list, subs, env)?;
+            or_last(alloc, found, last, subs, env)
+        }
+        // An aggregate is a cell of a group alone.
+        Gx::NullInt
+        | Gx::NullText
+        | Gx::CountAll
+        | Gx::Single(_)
+        | Gx::Count(_)
+        | Gx::Sum(_)
+        | Gx::Avg(_)
+        | Gx::Min(_)
+        | Gx::Max(_)
+        | Gx::CountDistinct(_)
+        | Gx::SumDistinct(_)
+        | Gx::AvgDistinct(_)
+        | Gx::MinDistinct(_)
+        | Gx::MaxDistinct(_) => Ok(Cell::Null),
+    }
+}
+
+// `-a`.
+#[cycle(value)]
+#[inline(never)]
+fn negative(alloc: Global, a: &Gx, subs: &[Sub<'_>], env: &Bindings) -> Result<Cell, OutOfMemory>
+    ensures { IfOk result (λ cell. cell ≡ arithmetic.neg (meaning.value (held_by subs.now) (term a.now) (env_of env.now))) }
+{
+    Ok(neg(&value(alloc, a, subs, env)?))
+}
+
+// A first operand, and then operators and operands.
+#[cycle(value)]
+#[inline(never)]
+fn chain(
+    alloc: Global,
+    first: Cell,
+    list: &[Link],
+    subs: &[Sub<'_>],
+    env: &Bindings,
+) -> Result<Cell, OutOfMemory>
+    ensures { IfOk result (λ cell. cell ≡ lists.chained (held_by subs.now) first (links list.now) (env_of env.now)) }
+{
+    let mut total = first;
+    for link in list {
+        let next = value(alloc, &link.right, subs, env)?;
+        total = operate(alloc, link.op, &total, &next)?;
+    }
+    Ok(total)
+}
+
+// A cell that was found, or that of the last expression.
+#[cycle(value)]
+#[inline(never)]
+fn or_last(
+    alloc: Global,
+    found: Option<Cell>,
+    last: &Gx,
+    subs: &[Sub<'_>],
+    env: &Bindings,
+) -> Result<Cell, OutOfMemory>
+    ensures { IfOk result (λ cell. cell ≡ unwrap_or found (meaning.value (held_by subs.now) (term last.now) (env_of env.now))) }
+{
+    match found {
+        Some(cell) => Ok(cell),
+        None => value(alloc, last, subs, env),
+    }
+}
+
+// The result of the first condition that is true, or the error that one of them comes to; none where
+// all before are not true at all.
+#[cycle(value)]
+#[inline(never)]
+fn first_true(
+    alloc: Global,
+    list: &[Arm],
+    subs: &[Sub<'_>],
+    env: &Bindings,
+) -> Result<Option<Cell>, OutOfMemory>
+    ensures { IfOk result (λ found. (last : Cell) → meaning.first_true (held_by subs.now) (armed (choices list.now)) last (env_of env.now) ≡ unwrap_or found last) }
+{
+    for arm in list {
+        match hold(alloc, &arm.when, subs, env)?.t {
+            Level::Yes => return Ok(Some(value(alloc, &arm.then, subs, env)?)),
+            Level::No => {}
+            Level::Cardinality => return Ok(Some(Cell::Err(Kind::Cardinality))),
+            Level::Division => return Ok(Some(Cell::Err(Kind::Division))),
+            Level::Overflow => return Ok(Some(Cell::Err(Kind::Overflow))),
+        }
+    }
+    Ok(None)
+}
+
+/// How far a condition is true and false.
+#[cycle(value)]
+#[tactic(auto, using(qgm_terms::proofs::Lists::lists))]
+pub fn hold(alloc: Global, p: &Gc, subs: &[Sub<'_>], env: &Bindings) -> Result<Truth, OutOfMemory>
+    ensures { IfOk result (λ truth. truth ≡ meaning.truth (held_by subs.now) (cond p.now) (env_of env.now)) }
+{
+    match p {
+        Gc::True => Ok(decided(true)),
+        Gc::Eq(a, b)
+        | Gc::Ne(a, b)
+        | Gc::Lt(a, b)
+        | Gc::Le(a, b)
+        | Gc::Gt(a, b)
+        | Gc::Ge(a, b)
+        | Gc::Same(a, b)
+        | Gc::Like(a, b) => {
+            let a = value(alloc, a, subs, env)?;
+            let b = value(alloc, b, subs, env)?;
+            Ok(comparison(p, &a, &b))
+        }
+        Gc::IsNull(a) => Ok(is_null(&value(alloc, a, subs, env)?)),
+        Gc::All(a, list) => {
+            let first = hold(alloc, a, subs, env)?;
+            all_of(alloc, first, list, subs, env)
+        }
+        Gc::Any(a, list) => {
+            let first = hold(alloc, a, subs, env)?;
+            any_of(alloc, first, list, subs, env)
+        }
+        Gc::Not(a) => Ok(not(hold(alloc, a, subs, env)?)),
+        Gc::Some(q, a) => some(alloc, *q, a, rows_of(subs, *q), subs, env),
+        Gc::Every(q, a) => every(alloc, *q, a, rows_of(subs, *q), subs, env),
+    }
+}
+
+// The AND of the first and the others.
+#[cycle(value)]
+#[inline(never)]
+fn all_of(
+    alloc: Global,
+    first: Truth,
+    list: &[Gc],
+    subs: &[Sub<'_>],
+    env: &Bindings,
+) -> Result<Truth, OutOfMemory>
+    ensures { IfOk result (λ truth. truth ≡ lists.all_of (held_by subs.now) first (conds list.now) (env_of env.now)) }
+{
+    let mut total = first;
+    for p in list {
+        total = and(total, hold(alloc, p, subs, env)?);
+    }
+    Ok(total)
+}
+
+// The OR of the first and the others.
+#[cycle(value)]
+#[inline(never)]
+fn any_of(
+    alloc: Global,
+    first: Truth,
+    list: &[Gc],
+    subs: &[Sub<'_>],
+    env: &Bindings,
+) -> Result<Truth, OutOfMemory>
+    ensures { IfOk result (λ truth. truth ≡ lists.any_of (held_by subs.now) first (conds list.now) (env_of env.now)) }
+{
+    let mut total = first;
+    for p in list {
+        total = or(total, hold(alloc, p, subs, env)?);
+    }
+    Ok(total)
+}
+
+// For a row of the quantifier.
+#[cycle(value)]
+#[inline(never)]
+#[tactic(auto, using(row_folds::proofs::Chains::or_steps))]
+fn some(
+    alloc: Global,
+    q: QuantId,
+    p: &Gc,
+    rows: &[Row],
+    subs: &[Sub<'_>],
+    env: &Bindings,
+) -> Result<Truth, OutOfMemory>
+    ensures { IfOk result (λ truth. truth ≡ total truths.or (truths.truth_of false) (λ cells level. truths.and (u.presence level) (meaning.truth (held_by subs.now) (cond p.now) (meaning.bound q cells (env_of env.now)))) rows.now) }
+{
+    let mut truth = decided(false);
+    for row in rows {
+        truth = or(truth, some_row(alloc, q, p, row, subs, env)?);
+    }
+    Ok(truth)
+}
+
+// Presence of a row AND a condition on it, false of a row that isn't there.
+#[cycle(value)]
+#[inline(never)]
+fn some_row(
+    alloc: Global,
+    q: QuantId,
+    p: &Gc,
+    row: &Row,
+    subs: &[Sub<'_>],
+    env: &Bindings,
+) -> Result<Truth, OutOfMemory>
+    ensures { IfOk result (λ truth. truth ≡ if_there (truths.truth_of false) (λ cells level. truths.and (u.presence level) (meaning.truth (held_by subs.now) (cond p.now) (meaning.bound q cells (env_of env.now)))) row.now.cells row.now.level) }
+{
+    match row.level {
+        Level::No => Ok(decided(false)),
+        Level::Cardinality | Level::Division | Level::Overflow | Level::Yes => {
+            let held = hold(
+                alloc,
+                p,
+                subs,
+                &Bindings::Row(q, row.cells.as_slice(), &*env),
+            )?;
+            Ok(and(presence(row.level), held))
+        }
+    }
+}
+
+// For each row of the quantifier.
+#[cycle(value)]
+#[inline(never)]
+#[tactic(auto, using(row_folds::proofs::Chains::and_steps))]
+fn every(
+    alloc: Global,
+    q: QuantId,
+    p: &Gc,
+    rows: &[Row],
+    subs: &[Sub<'_>],
+    env: &Bindings,
+) -> Result<Truth, OutOfMemory>
+    ensures { IfOk result (λ truth. truth ≡ total truths.and (truths.truth_of true) (λ cells level. truths.or (truths.negated (u.presence level)) (meaning.truth (held_by subs.now) (cond p.now) (meaning.bound q cells (env_of env.now)))) rows.now) }
+{
+    let mut truth = decided(true);
+    for row in rows {
+        truth = and(truth, every_row(alloc, q, p, row, subs, env)?);
+    }
+    Ok(truth)
+}
+
+// NOT presence of a row OR a condition on it, true of a row that isn't there.
+#[cycle(value)]
+#[inline(never)]
+fn every_row(
+    alloc: Global,
+    q: QuantId,
+    p: &Gc,
+    row: &Row,
+    subs: &[Sub<'_>],
+    env: &Bindings,
+) -> Result<Truth, OutOfMemory>
+    ensures { IfOk result (λ truth. truth ≡ if_there (truths.truth_of true) (λ cells level. truths.or (truths.negated (u.presence level)) (meaning.truth (held_by subs.now) (cond p.now) (meaning.bound q cells (env_of env.now)))) row.now.cells row.now.level) }
+{
+    match row.level {
+        Level::No => Ok(decided(true)),
+        Level::Cardinality | Level::Division | Level::Overflow | Level::Yes => {
+            let held = hold(
+                alloc,
+                p,
+                subs,
+                &Bindings::Row(q, row.cells.as_slice(), &*env),
+            )?;
+            Ok(or(not(presence(row.level)), held))
+        }
+    }
+}

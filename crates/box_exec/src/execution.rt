@@ -1,0 +1,53 @@
+// The execution of a graph.
+ghost use Rattle.std.specs.Prelude.{◌≡◌, ◌≤◌, ◌-◌, IfOk, min};
+ghost use Rattle.box_exec.specs.Kept.{Took};
+ghost use Rattle.box_exec.specs.Ready.{AllFit};
+ghost use Rattle.qgm_meaning.specs.Meaning.{root_bag};
+ghost use Rattle.row_bag.specs.Bags.{Agree};
+ghost use Rattle.row_bag.specs.Sets.{same_cells};
+
+use crate::beyond::reached;
+use crate::bindings::Bindings;
+use crate::boxes::evaluated;
+use crate::memo::memo_of;
+use crate::under::{Run, behind, place_of};
+use qgm_core::Graph;
+use row_bag::{Bag, Tables};
+use shared_types::OutOfMemory;
+use std::alloc::Global;
+use std::sync::ledger::Ledger;
+use step_count::Steps;
+
+/// The rows of a graph over tables, and how many evaluations of boxes they took, which are added to
+/// `steps`; where these are more than the greatest 64-bit number, that number. A box below the root
+/// that looks no quantifier up is evaluated once; any other anew wherever it is asked. It fails only
+/// for want of memory.
+pub fn execute<L: Ledger>(
+    alloc: Global,
+    graph: &Graph,
+    tables: &Tables,
+    steps: &mut Steps<L>,
+) -> Result<(Bag, u64), OutOfMemory>
+    requires fit { AllFit graph.now.boxes }
+    ensures rows { IfOk result (λ r. Agree same_cells r.0 (root_bag tables.now graph.now)) }
+    ensures counted { IfOk result (λ r. r.1 ≡ min (steps.new - steps.old) 18446744073709551615) }
+    ensures never_less { steps.old ≤ steps.new }
+    ensures took { IfOk result (λ r. Took tables.now graph.now steps.old steps.new) }
+{
+    let nodes = graph.nodes();
+    let root = graph.root();
+    let mut count = 0;
+    let Some(i) = place_of(nodes, root) else {
+        return Ok((Bag::new(alloc), count));
+    };
+    let below = behind(nodes, i);
+    let marks = reached(alloc, nodes, root)?;
+    let memo = memo_of(alloc, below, tables, &marks, steps, &mut count)?;
+    let run = Run {
+        alloc,
+        tables,
+        memo: &memo,
+    };
+    let rows = evaluated(&run, &nodes[i], below, &Bindings::Empty, steps, &mut count)?;
+    Ok((rows, count))
+}

@@ -1,0 +1,301 @@
+// The groups of a box (SQL-92, 7.7 and 6.5).
+ghost use Rattle.std.specs.Prelude.{◌≡◌, ◌≤◌, ◌∷◌, [], ◌++◌, drop, length, map, take, IfOk};
+ghost use Rattle.box_exec.specs.Bound.{env_of};
+ghost use Rattle.box_exec.specs.Groups as spec;
+ghost use Rattle.qgm_meaning.specs.Meaning as m;
+ghost use Rattle.qgm_meaning.specs.Values as v;
+ghost use Rattle.qgm_terms.specs.Shown.{term, terms};
+ghost use Rattle.row_bag.specs.Aggregates.{folded};
+ghost use Rattle.row_bag.specs.Bags.{Alike, at_yes, bind, row, unit};
+ghost use Rattle.row_bag.specs.Errors.{error_among, error_in};
+ghost use Rattle.sql_value.specs.declared.cell.Cell.TheVariants.{Null};
+
+use crate::bindings::Bindings;
+use crate::evaluation::value;
+use crate::heads::head_cells;
+use qgm_core::{Gx, QuantId};
+use row_bag::{Bag, Group, Row, error_at, failed_row, groups_of, key_error, worst_of};
+use row_folds::{append_cells, count_rows, folded};
+use shared_types::OutOfMemory;
+use sql_value::{Aggregate, Cell, Kind, Level, Taken};
+use sqlite_items::Items;
+use std::alloc::Global;
+
+/// Rows of a quantifier, of which so many first cells are a key that is no cell of them, and what is
+/// bound beside it.
+#[derive(Clone, Copy)]
+pub(crate) struct Members<'a> {
+    pub quant: QuantId,
+    pub keys: usize,
+    pub rows: &'a [Row],
+    pub env: &'a Bindings<'a>,
+}
+
+// The cells past the first ones, so many.
+fn past(cells: &[Cell], keys: usize) -> &[Cell]
+    ensures { result.now ≡ drop keys cells.now }
+{
+    if keys < cells.len() {
+        &cells[keys..]
+    } else {
+        &[]
+    }
+}
+
+// The argument of an aggregate in a row.
+fn argument(alloc: Global, x: &Gx, over: &Members<'_>, row: &Row) -> Result<Row<Cell>, OutOfMemory>
+    ensures { IfOk result (λ made. made ≡ spec.argument over.now.quant over.now.keys (term x.now) (env_of over.now.env.now) row.now) }
+{
+    let cells = past(row.cells.as_slice(), over.keys);
+    let inside = Bindings::Row(over.quant, cells, over.env);
+    Ok(Row {
+        cells: value(alloc, x, &[], &inside)?,
+        level: row.level,
+    })
+}
+
+// The argument of an aggregate in each row.
+fn arguments(alloc: Global, x: &Gx, over: &Members<'_>) -> Result<Vec<Row<Cell>>, OutOfMemory>
+    ensures { IfOk result (λ made. made.items ≡ map (spec.argument over.now.quant over.now.keys (term x.now) (env_of over.now.env.now)) over.now.rows.now) }
+{
+    let mut made = Vec::with_capacity(alloc, over.rows.len())?;
+    for row in over.rows {
+        made.push(argument(alloc, x, over, row)?)?;
+    }
+    Ok(made)
+}
+
+// An aggregate of the rows.
+fn folded_over(
+    alloc: Global,
+    f: Aggregate,
+    each: Taken,
+    x: &Gx,
+    over: &Members<'_>,
+) -> Result<Cell, OutOfMemory>
+    ensures { IfOk result (λ cell. cell ≡ folded f each (bind (spec.without_keys over.now.keys over.now.rows.now) (λ cells. unit (v.value m.nothing (term x.now) (v.bound over.now.quant cells (env_of over.now.env.now)))))) }
+{
+    let arguments = arguments(alloc, x, over)?;
+    folded(alloc, f, each, arguments)
+}
+
+// A cell of a group that isn't of its key.
+fn fold_cell(alloc: Global, x: &Gx, over: &Members<'_>) -> Result<Cell, OutOfMemory>
+    ensures { IfOk result (λ cell. cell ≡ m.fold_cell over.now.quant (env_of over.now.env.now) (spec.without_keys over.now.keys over.now.rows.now) (term x.now)) }
+{
+    match x {
+        Gx::CountAll => Ok(count_rows(over.rows)),
+        Gx::Single(a) => folded_over(alloc, Aggregate::Single, Taken::All, a, over),
+        Gx::Count(a) => folded_over(alloc, Aggregate::Count, Taken::All, a, over),
+        Gx::Sum(a) => folded_over(alloc, Aggregate::Sum, Taken::All, a, over),
+        Gx::Avg(a) => folded_over(alloc, Aggregate::Avg, Taken::All, a, over),
+        Gx::Min(a) => folded_over(alloc, Aggregate::Min, Taken::All, a, over),
+        Gx::Max(a) => folded_over(alloc, Aggregate::Max, Taken::All, a, over),
+        Gx::CountDistinct(a) => folded_over(alloc, Aggregate::Count, Taken::Distinct, a, over),
+        Gx::SumDistinct(a) => folded_over(alloc, Aggregate::Sum, Taken::Distinct, a, over),
+        Gx::AvgDistinct(a) => folded_over(alloc, Aggregate::Avg, Taken::Distinct, a, over),
+        Gx::MinDistinct(a) => folded_over(alloc, Aggregate::Min, Taken::Distinct, a, over),
+        Gx::MaxDistinct(a) => folded_over(alloc, Aggregate::Max, Taken::Distinct, a, over),
+        Gx::Chain(a, list) => {
+            if list.is_empty() {
+                fold_cell(alloc, a, over)
+            } else {
+                Ok(Cell::Null)
+            }
+        }
+        // A group has no other cell.
+        Gx::Int(_)
+        | Gx::Text(_)
+        | Gx::NullInt
+        | Gx::NullText
+        | Gx::Col(_, _)
+        | Gx::Scalar(_)
+        | Gx::Neg(_)
+        | Gx::Case(_, _) => Ok(Cell::Null),
+    }
+}
+
+// A group: its key, and then its other cells.
+fn group_cells(
+    alloc: Global,
+    key: &[Cell],
+    folds: &[Gx],
+    over: &Members<'_>,
+) -> Result<Items<Cell>, OutOfMemory>
+    ensures { IfOk result (λ cells. cells ≡ key.now ++ map (m.fold_cell over.now.quant (env_of over.now.env.now) (spec.without_keys over.now.keys over.now.rows.now)) (terms folds.now)) }
+{
+    let mut cells = Vec::new(alloc);
+    append_cells(alloc, &mut cells, key)?;
+    for x in folds {
+        cells.push(fold_cell(alloc, x, over)?)?;
+    }
+    Ok(Items::from_vec(cells))
+}
+
+// The key of a row, and then its cells, at its level.
+fn keyed(
+    alloc: Global,
+    keys: &[Gx],
+    quant: QuantId,
+    row: &Row,
+    env: &Bindings,
+) -> Result<Row, OutOfMemory>
+    ensures { IfOk result (λ made. made ≡ spec.keyed (spec.key_of (terms keys.now) quant (env_of env.now)) row.now) }
+{
+    let inside = Bindings::Row(quant, row.cells.as_slice(), &*env);
+    let mut cells = head_cells(alloc, keys, &[], &inside)?;
+    append_cells(alloc, &mut cells, row.cells.as_slice())?;
+    Ok(Row {
+        cells: Items::from_vec(cells),
+        level: row.level,
+    })
+}
+
+// The same of each row.
+fn keyed_rows(
+    alloc: Global,
+    keys: &[Gx],
+    quant: QuantId,
+    rows: &[Row],
+    env: &Bindings,
+) -> Result<Bag, OutOfMemory>
+    ensures { IfOk result (λ made. made ≡ map (spec.keyed (spec.key_of (terms keys.now) quant (env_of env.now))) rows.now) }
+{
+    let mut made = Bag::new(alloc);
+    for row in rows {
+        made.push(keyed(alloc, keys, quant, row, env)?)?;
+    }
+    Ok(made)
+}
+
+// What the groups give: of each its key, and then its other cells.
+fn group_rows(
+    alloc: Global,
+    folds: &[Gx],
+    quant: QuantId,
+    keys: usize,
+    groups: &[Group],
+    env: &Bindings,
+) -> Result<Bag, OutOfMemory>
+    ensures { IfOk result (λ made. made ≡ at_yes (map (λ g. spec.group_of keys (terms folds.now) quant (env_of env.now) g.key g.rows) groups.now)) }
+{
+    let mut made = Bag::new(alloc);
+    for group in groups {
+        let over = Members {
+            quant,
+            keys,
+            rows: group.rows.rows(),
+            env: &*env,
+        };
+        made.push(Row {
+            cells: group_cells(alloc, group.key.as_slice(), folds, &over)?,
+            level: Level::Yes,
+        })?;
+    }
+    Ok(made)
+}
+
+// One row for each tuple of these first cells of a head.
+fn by_keys(
+    alloc: Global,
+    keys: &[Gx],
+    folds: &[Gx],
+    quant: QuantId,
+    rows: &[Row],
+    env: &Bindings,
+) -> Result<Bag, OutOfMemory>
+    ensures { IfOk result (λ made. Alike made (spec.by_keys (terms keys.now) (terms folds.now) quant (env_of env.now) rows.now)) }
+{
+    let keyed = keyed_rows(alloc, keys, quant, rows, env)?;
+    match key_error(&keyed, keys.len()) {
+        Some(kind) => failed_row(alloc, keys.len() + folds.len(), kind),
+        None => {
+            let groups = groups_of(alloc, keyed, keys.len())?;
+            group_rows(alloc, folds, quant, keys.len(), &groups, env)
+        }
+    }
+}
+
+// The error that the level of a row is.
+fn level_error_of(row: &Row) -> Option<Kind>
+    ensures { result ≡ spec.level_error_of row.now }
+{
+    error_at(row.level)
+}
+
+// The greatest error that the level of a row is.
+#[tactic(auto, using(row_folds::proofs::Chains::worst_steps))]
+fn level_error(rows: &[Row]) -> Option<Kind>
+    ensures { result ≡ error_among (λ cells. error_in []) rows.now }
+{
+    let mut found = None;
+    for row in rows {
+        found = worst_of(found, level_error_of(row));
+    }
+    found
+}
+
+// All rows as one group.
+fn whole(
+    alloc: Global,
+    folds: &[Gx],
+    quant: QuantId,
+    rows: &[Row],
+    env: &Bindings,
+) -> Result<Bag, OutOfMemory>
+    ensures { IfOk result (λ made. made ≡ m.grouped_rows 0 (terms folds.now) quant (env_of env.now) rows.now) }
+{
+    if let Some(kind) = level_error(rows) {
+        return failed_row(alloc, folds.len(), kind);
+    }
+    let over = Members {
+        quant,
+        keys: 0,
+        rows,
+        env: &*env,
+    };
+    let mut made = Bag::new(alloc);
+    made.push(Row {
+        cells: group_cells(alloc, &[], folds, &over)?,
+        level: Level::Yes,
+    })?;
+    Ok(made)
+}
+
+// The first cells of a head, so many.
+fn first_cells(head: &[Gx], n: usize) -> &[Gx]
+    requires { n ≤ length head.now }
+    ensures { result.now ≡ take n head.now }
+{
+    &head[..n]
+}
+
+// The others.
+fn last_cells(head: &[Gx], n: usize) -> &[Gx]
+    requires { n ≤ length head.now }
+    ensures { result.now ≡ drop n head.now }
+{
+    &head[n..]
+}
+
+/// The groups of rows of a quantifier by the first cells of a head, so many: one row for each group,
+/// or one row of the greatest error, where a row is at an error level or a key cell is an error. It
+/// fails only for want of memory.
+pub(crate) fn grouped(
+    alloc: Global,
+    keys: usize,
+    head: &[Gx],
+    quant: QuantId,
+    rows: &[Row],
+    env: &Bindings,
+) -> Result<Bag, OutOfMemory>
+    ensures { IfOk result (λ made. Alike made (m.grouped_rows keys (terms head.now) quant (env_of env.now) rows.now)) }
+{
+    if keys == 0 {
+        return whole(alloc, head, quant, rows, env);
+    }
+    let n = keys.min(head.len());
+    let first = first_cells(head, n);
+    let last = last_cells(head, n);
+    by_keys(alloc, first, last, quant, rows, env)
+}

@@ -1,0 +1,20 @@
+//! The execution of query graphs.
+#![tactic(auto)]
+
+mod beyond;
+mod bindings;
+mod boxes;
+mod combining;
+mod evaluation;
+mod execution;
+mod grouping;
+mod heads;
+mod joining;
+mod memo;
+mod source;
+mod under;
+
+pub use bindings::Bindings;
+pub use evaluation::{hold, value};
+pub use execution::execute;
+pub use source::{Source, Sub};

@@ -1,0 +1,141 @@
+// The rows of closed boxes, each evaluated once.
+ghost use Rattle.std.specs.Prelude.{◌≡◌, ◌&&◌, [], ℕ, Bool, IfOk, Some, if◌then◌else◌, true};
+ghost use Rattle.box_exec.specs.Beyond.{LooksNowhere};
+ghost use Rattle.box_exec.specs.Costs.{Between, Keeps, asked, is_held};
+ghost use Rattle.box_exec.specs.Counted.{Counted};
+ghost use Rattle.box_exec.specs.Kept.{KeptAs, is_nil, kept_costs, kept_number};
+ghost use Rattle.box_exec.specs.Ready.{AllFit, Entry, Fit, Holds, Ready};
+ghost use Rattle.qgm_core.specs.Lists.{holds};
+ghost use Rattle.qgm_meaning.specs.Meaning.{bag_in};
+ghost use Rattle.qgm_meaning.specs.Plain.{counted_by};
+
+use crate::beyond::beyond;
+use crate::bindings::Bindings;
+use crate::boxes::{evaluated, step};
+use crate::source::Source;
+use crate::under::{Run, behind, table_rows};
+use qgm_core::{BoxId, BoxKind, Node, QuantId, is_marked};
+use row_bag::Tables;
+use shared_types::OutOfMemory;
+use std::alloc::Global;
+use std::sync::ledger::Ledger;
+use step_count::Steps;
+
+/// A box, and those behind it.
+#[derive(Clone, Copy)]
+struct Place<'a> {
+    node: &'a Node,
+    below: &'a [Node],
+}
+
+// The rows of a box that looks no quantifier up: a table's where they stand, or made.
+fn entry<'t, L: Ledger>(
+    alloc: Global,
+    tables: &'t Tables,
+    memo: &[Option<Source<'t>>],
+    place: &Place<'_>,
+    steps: &mut Steps<L>,
+    count: &mut u64,
+) -> Result<Source<'t>, OutOfMemory>
+    requires ready { Ready tables.now memo.now place.now.below.now }
+    requires fit { Fit place.now.node.now place.now.below.now }
+    requires closed { LooksNowhere place.now.node.now place.now.below.now }
+    ensures rows { IfOk result (λ s. Holds tables.now place.now.node.now place.now.below.now s) }
+    ensures counted { (start : ℕ) → Counted start steps.old count.old → Counted start steps.new count.new }
+    ensures took { (kept : ℕ → Bool) → Keeps memo.now kept place.now.below.now → IfOk result (λ s. Between 1 (counted_by place.now.node.now.parts.kind place.now.node.now (bag_in tables.now place.now.below.now) (asked tables.now kept place.now.below.now) []) steps.old steps.new) }
+{
+    match &place.node.parts.kind {
+        BoxKind::Base(table) => {
+            step(steps, count);
+            Ok(Source::Borrowed(table_rows(tables, &table.name)))
+        }
+        BoxKind::Select | BoxKind::Group(_) | BoxKind::SetOp(_, _) | BoxKind::OuterJoin => {
+            let run = Run {
+                alloc,
+                tables,
+                memo,
+            };
+            let rows = evaluated(
+                &run,
+                place.node,
+                place.below,
+                &Bindings::Empty,
+                steps,
+                count,
+            )?;
+            Ok(Source::Made(rows))
+        }
+    }
+}
+
+// The same if the box is to be kept.
+fn entry_if<'t, L: Ledger>(
+    keep: bool,
+    alloc: Global,
+    tables: &'t Tables,
+    memo: &[Option<Source<'t>>],
+    place: &Place<'_>,
+    steps: &mut Steps<L>,
+    count: &mut u64,
+) -> Result<Option<Source<'t>>, OutOfMemory>
+    requires ready { Ready tables.now memo.now place.now.below.now }
+    requires fit { Fit place.now.node.now place.now.below.now }
+    requires closed { keep ≡ true → LooksNowhere place.now.node.now place.now.below.now }
+    ensures rows { IfOk result (λ o. Entry tables.now place.now.node.now place.now.below.now (Some o)) }
+    ensures counted { (start : ℕ) → Counted start steps.old count.old → Counted start steps.new count.new }
+    ensures held { IfOk result (λ o. is_held (Some o) ≡ keep) }
+    ensures took { (kept : ℕ → Bool) → Keeps memo.now kept place.now.below.now → IfOk result (λ o. Between (if keep then 1 else 0) (if keep then counted_by place.now.node.now.parts.kind place.now.node.now (bag_in tables.now place.now.below.now) (asked tables.now kept place.now.below.now) [] else 0) steps.old steps.new) }
+{
+    if keep {
+        let rows = entry(alloc, tables, memo, place, steps, count)?;
+        Ok(Some(rows))
+    } else {
+        Ok(None)
+    }
+}
+
+// A box is kept if it is marked and names nothing beyond itself.
+fn is_kept(names: &[QuantId], marks: &[BoxId], b: BoxId) -> bool
+    ensures nothing { result ≡ true → names.now ≡ [] }
+    ensures kept { result ≡ (is_nil names.now && holds b marks.now) }
+{
+    match names {
+        [] => is_marked(marks, b),
+        [_, ..] => false,
+    }
+}
+
+/// The rows of those of these boxes that are marked and name nothing beyond themselves, each evaluated
+/// once, from the last. It fails only for want of memory.
+pub(crate) fn memo_of<'t, L: Ledger>(
+    alloc: Global,
+    nodes: &[Node],
+    tables: &'t Tables,
+    marks: &[BoxId],
+    steps: &mut Steps<L>,
+    count: &mut u64,
+) -> Result<Vec<Option<Source<'t>>>, OutOfMemory>
+    requires { AllFit nodes.now }
+    ensures ready { IfOk result (λ memo. Ready tables.now memo.items nodes.now) }
+    ensures counted { (start : ℕ) → Counted start steps.old count.old → Counted start steps.new count.new }
+    ensures keeps { (kept : ℕ → Bool) → KeptAs kept marks.now nodes.now → IfOk result (λ memo. Keeps memo.items kept nodes.now) }
+    ensures took { (kept : ℕ → Bool) → KeptAs kept marks.now nodes.now → IfOk result (λ memo. Between (kept_number kept nodes.now) (kept_costs tables.now kept nodes.now) steps.old steps.new) }
+{
+    let mut named: Vec<Vec<QuantId>> = Vec::new(alloc);
+    let mut memo = Vec::new(alloc);
+    let mut i = nodes.len();
+    'boxes: while i > 0 {
+        i -= 1;
+        let below = behind(nodes, i);
+        let place = Place {
+            node: &nodes[i],
+            below,
+        };
+        let names = beyond(alloc, place.node, below, &named)?;
+        let keep = is_kept(&names, marks, place.node.id);
+        let rows = entry_if(keep, alloc, tables, &memo, &place, steps, count)?;
+        named.push(names)?;
+        memo.push(rows)?;
+    }
+    Ok(memo)
+}

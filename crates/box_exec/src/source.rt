@@ -1,0 +1,57 @@
+// Rows that are borrowed or made.
+ghost use Rattle.std.specs.Prelude.{◌≡◌, IfOk};
+ghost use Rattle.box_exec.specs.Sources.{held, held_by};
+
+use qgm_terms::QuantId;
+use row_bag::{Bag, Row};
+use row_folds::copied_rows;
+use shared_types::OutOfMemory;
+use std::alloc::Global;
+
+/// Rows that stand elsewhere, or rows of their own.
+#[derive(Drop)]
+pub enum Source<'a> {
+    Borrowed(&'a [Row]),
+    Made(Bag),
+}
+
+impl<'a> Source<'a> {
+    /// The rows.
+    pub fn rows(&self) -> &[Row]
+        ensures { result.now ≡ held self.now }
+    {
+        match self {
+            Source::Borrowed(rows) => rows,
+            Source::Made(bag) => bag.rows(),
+        }
+    }
+
+    /// The rows, copied where they stand elsewhere. It fails only for want of memory.
+    pub fn into_bag(self, alloc: Global) -> Result<Bag, OutOfMemory>
+        ensures { IfOk result (λ bag. bag ≡ held self.entry) }
+    {
+        match self {
+            Source::Borrowed(rows) => copied_rows(alloc, rows),
+            Source::Made(bag) => Ok(bag),
+        }
+    }
+}
+
+/// The rows of an E, A or S quantifier.
+#[derive(Drop)]
+pub struct Sub<'a> {
+    pub quant: QuantId,
+    pub rows: Source<'a>,
+}
+
+/// The rows of the first of this number, none of one that isn't among them.
+pub fn rows_of<'a>(subs: &'a [Sub], q: QuantId) -> &'a [Row]
+    ensures { result.now ≡ held_by subs.now q }
+{
+    for sub in subs {
+        if sub.quant == q {
+            return sub.rows.rows();
+        }
+    }
+    &[]
+}
