@@ -1,4 +1,3 @@
 pub mod Lay
-pub mod Buildable
 pub mod Law
 pub mod Sample

@@ -9,8 +9,8 @@ use Rattle.qgm_meaning.specs.Scope.{loose, loose_of}
 use Rattle.qgm_shown.specs.Maps.{Frame, Map, Ref, nothing, none_counted, column}
 use Rattle.qgm_shown.specs.Shown.{Shows, ShowsBox, Thing, distinct_ids, uses, of_operand, of_query}
 use Rattle.qgm_shown.specs.Sources.{Sources}
-use Rattle.qgm_laid.specs.Buildable.{Buildable}
-use Rattle.qgm_laid.specs.Lay.{Boxes, Laid, lay}
+use Rattle.qgm_shown.specs.Buildable.{Buildable}
+use Rattle.qgm_build.specs.Lay.{Boxes, Laid, lay}
 
 -- the columns of a map are those of quantifiers below n
 abbrev pub UnderRef : ℕ → Ref → Type 0

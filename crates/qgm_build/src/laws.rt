@@ -1,6 +1,6 @@
 // The law of the boxes that are made, as a theorem.
-ghost use Rattle.qgm_laid.specs.Law.{Lays};
-ghost use Rattle.qgm_laid.specs.Sample.{Sampled};
+ghost use Rattle.qgm_build.specs.Law.{Lays};
+ghost use Rattle.qgm_build.specs.Sample.{Sampled};
 
 /// What is made for a query shows it, and all that was made before stays. It does nothing.
 pub fn laid_laws()

@@ -7,8 +7,8 @@ use Rattle.qgm_core.specs.declared.kinds.QuantKind.TheVariants.{F}
 use Rattle.qgm_meaning.specs.Meaning.{bag_in}
 use Rattle.qgm_terms.specs.Terms as t
 use Rattle.qgm_shown.specs.Samples.{answer, base, box, query, sources, tables}
-use Rattle.qgm_laid.specs.Buildable.{Buildable}
-use Rattle.qgm_laid.specs.Lay.{Boxes, Laid, lay}
+use Rattle.qgm_shown.specs.Buildable.{Buildable}
+use Rattle.qgm_build.specs.Lay.{Boxes, Laid, lay}
 
 abbrev pub bases : Boxes
 bases = record {

@@ -22,19 +22,19 @@ use Rattle.qgm_shown.specs.Terms as l
 use Rattle.qgm_shown.specs.Shown.{over_in, uses, HasKey, PlainArguments, Thing, columns_of, fold_terms, key_frame, key_places, no_slots, of_groups, of_operand, of_query, of_rows, refs}
 use Rattle.qgm_shown.specs.Shown as w
 use Rattle.qgm_shown.specs.Sources.{Sources, from_width, froms_width, width}
-use Rattle.qgm_laid.specs.Lay.{Boxes, Laid, Drawn, Step, put, numbered, drawn, none, in_turn, over, pair_of}
+use Rattle.qgm_build.specs.Lay.{Boxes, Laid, Drawn, Step, put, numbered, drawn, none, in_turn, over, pair_of}
 use Rattle.qgm_core.specs.declared.kinds.SetOperator as forms
-use Rattle.qgm_laid.specs.Lay as y
-use Rattle.qgm_laid.specs.Law as k
-use Rattle.qgm_laid.specs.Buildable as b
-use Rattle.qgm_laid.specs.Law.{Under, UnderIn, owned}
+use Rattle.qgm_build.specs.Lay as y
+use Rattle.qgm_build.specs.Law as k
+use Rattle.qgm_shown.specs.Buildable as b
+use Rattle.qgm_build.specs.Law.{Under, UnderIn, owned}
 use Rattle.std.specs.List.{list_any}
 use Rattle.qgm_core.specs.Boxes.{is_quant}
-use Rattle.qgm_laid.proofs.Numbers.{Rising, fresh-under, rising-append, rising-distinct, rising-fresh, rising-from, rising-in, any-cases, below-or, one-used, or-cases, over-append, stays-false, under-more, under_in-append, under_in-left, under_in-more, under_in-refs, under_in-right, under-keys}
+use Rattle.qgm_build.proofs.Numbers.{Rising, fresh-under, rising-append, rising-distinct, rising-fresh, rising-from, rising-in, any-cases, below-or, one-used, or-cases, over-append, stays-false, under-more, under_in-append, under_in-left, under_in-more, under_in-refs, under_in-right, under-keys}
 use Rattle.qgm_meaning.specs.Scope.{loose}
 use Rattle.qgm_shown.proofs.Loose.{shown-clear}
-use Rattle.qgm_laid.proofs.Order.{low-more, low-not, shows-has, thing-over, thing-settled}
-use Rattle.qgm_laid.proofs.Fills.{Fills, FillsAll, fills-crossed, fills-joined, fills-next, fills-none}
+use Rattle.qgm_build.proofs.Order.{low-more, low-not, shows-has, thing-over, thing-settled}
+use Rattle.qgm_build.proofs.Fills.{Fills, FillsAll, fills-crossed, fills-joined, fills-next, fills-none}
 
 module _ (sources : Sources) (has : List ℕ → Bool) where
   abbrev pub Shows : List Node → ℕ → Thing → Map → Type 0

@@ -1,6 +1,6 @@
 use Rattle.std.proofs.Common.{refl}
-use Rattle.qgm_laid.proofs.laws.laid_laws.Goals as goal
-use Rattle.qgm_laid.proofs.Made.{laid}
+use Rattle.qgm_build.proofs.laws.laid_laws.Goals as goal
+use Rattle.qgm_build.proofs.Made.{laid}
 
 pub returns-clause-lays : goal.returns-clause-lays
 returns-clause-lays c = λ sources has query m s h r. laid sources has query m s h r
