@@ -1,3 +1,7 @@
+mod Steps
+mod Afters
+mod Wholes
+mod Lists
 mod Numbers
 mod Fills
 mod Order

@@ -2,5 +2,11 @@
 #![tactic(auto)]
 
 mod laws;
+mod parts;
+mod seen;
+mod setting;
+mod slots;
+mod terms;
+mod types;
 
 pub use laws::laid_laws;
