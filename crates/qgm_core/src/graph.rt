@@ -5,6 +5,8 @@ ghost use Rattle.qgm_core.specs.Boxes as spec;
 ghost use Rattle.qgm_core.specs.Edits as edits;
 ghost use Rattle.qgm_core.specs.Free.{free};
 ghost use Rattle.qgm_core.specs.Lists.{EachOnce, times};
+ghost use Rattle.qgm_core.specs.Made.{boxes_of, graph_of};
+ghost use Rattle.qgm_core.specs.Numbered.{Under};
 ghost use Rattle.qgm_core.specs.Walk.{walk};
 ghost use Rattle.qgm_terms.specs.Depth.{depth_cond, room};
 ghost use Rattle.qgm_terms.specs.Shown.{cond};
@@ -14,11 +16,14 @@ use crate::compact::keep_marked;
 use crate::copies::{copy_names, copy_nodes, copy_order};
 use crate::free::{free_in, reached};
 use crate::kinds::{BoxId, BoxKind, Distinct, QuantKind, Role};
+use crate::made::{NewBox, numbered};
+use crate::moves::{move_below, move_quant, places_for};
 use crate::node::Node;
 use crate::owned::{Owned, OwnedQuant, Quant, range_of};
 use crate::parts::BoxParts;
 use crate::places::{box_place, new_place, owner_place};
 use crate::quants::Quants;
+use crate::shifted::shift_over;
 use crate::uses::uses_in;
 use crate::walks::{by_levels, visit};
 use qgm_terms::{Conds, Gc, Head, QuantId, ROOM, substitute_conds, substitute_head};
@@ -81,6 +86,32 @@ impl Graph {
             order,
             next_box: 1,
             next_quant: 0,
+        })
+    }
+
+    /// The graph of boxes that were made in turn: the first has number 0, and each has a higher rank
+    /// than those before it. All quantifiers have numbers of their own below `next_quant`.
+    pub fn of_boxes(
+        alloc: Global,
+        made: Vec<NewBox>,
+        root: BoxId,
+        names: OutNames,
+        order: OrderKeys,
+        next_quant: QuantId,
+    ) -> Result<Graph, OutOfMemory>
+        requires once { EachOnce (spec.ids_in (boxes_of made.items)) }
+        requires under { Under next_quant (spec.ids_in (boxes_of made.items)) }
+        ensures { IfOk result (λ g. g ≡ graph_of made.items root names order) }
+    {
+        let next_box = made.len();
+        let nodes = numbered(alloc, made)?;
+        Ok(Graph {
+            nodes,
+            root,
+            names,
+            order,
+            next_box,
+            next_quant,
         })
     }
 
@@ -198,6 +229,16 @@ impl Graph {
             kind: range.kind,
             over: range.over,
         }
+    }
+
+    /// At how many places a box can own a quantifier: one more than it owns beside it. It takes no
+    /// memory.
+    pub fn places_for(&self, q: QuantId, b: BoxId) -> usize
+        requires quant { spec.HasQuant q self.now }
+        requires held { spec.HasBox b self.now }
+        ensures { result ≡ length (spec.quants_of b (edits.drop_quant q self.now)) + 1 }
+    {
+        places_for(&self.nodes, q, b)
     }
 
     /// How many quantifiers range over a box. It takes no memory.
@@ -356,6 +397,19 @@ impl Graph {
         self.nodes[k].quants.remove(q);
     }
 
+    /// Moves a quantifier to a box, at a place, from 1, among those that the box then owns beside it.
+    pub fn move_quant(&mut self, q: QuantId, owner: BoxId, place: usize) -> Result<(), OutOfMemory>
+        requires quant { spec.HasQuant q self.old }
+        requires owner { spec.HasBox owner self.old }
+        requires from_one { 1 ≤ place }
+        requires within { place ≤ length (spec.quants_of owner (edits.drop_quant q self.old)) + 1 }
+        ensures ok { OnOk result (self.new ≡ edits.move_quant q owner (place - 1) self.old) }
+        ensures err { OnErr result (self.new ≡ self.old) }
+    {
+        move_quant(&mut self.nodes, q, owner, place - 1)?;
+        Ok(())
+    }
+
     /// Sets what a quantifier ranges for. It takes no memory.
     pub fn put_quant(&mut self, q: QuantId, kind: QuantKind)
         requires { spec.HasQuant q self.old }
@@ -413,6 +467,19 @@ impl Graph {
         put_cond(&mut self.nodes[k].parts.conds, c);
     }
 
+    /// Drops a column of a box's head, by its place from 1. Names of later columns of the quantifiers
+    /// over the box go down by one. It takes no memory.
+    pub fn drop_column(&mut self, b: BoxId, k: usize)
+        requires held { spec.HasBox b self.old }
+        requires from_one { 1 ≤ k }
+        requires within { k ≤ length (edits.head_in (spec.box_of b self.old)) }
+        ensures { self.new ≡ edits.drop_column b k self.old }
+    {
+        let i = box_place(&self.nodes, b);
+        self.nodes[i].parts.head.remove(k);
+        shift_over(&mut self.nodes, b, k);
+    }
+
     /// Puts cells in place of a quantifier's columns, in a box's own cells and conditions.
     pub fn substitute(
         &mut self,
@@ -433,19 +500,6 @@ impl Graph {
         parts.conds = conds;
         Ok(())
     }
-}
-
-// Moves a box just below another one.
-fn move_below(nodes: &mut Vec<Node>, c: BoxId, d: BoxId)
-    requires moved { spec.has_box nodes.old.items c ≡ true }
-    requires below { spec.has_box nodes.old.items d ≡ true }
-    requires apart { (c == d) ≡ false }
-    ensures { nodes.new.items ≡ edits.moved_below c d nodes.old.items }
-{
-    let i = box_place(nodes, c);
-    let node = nodes.remove(i);
-    let k = box_place(nodes, d);
-    let _ = nodes.insert(k + 1, node);
 }
 
 // Takes a condition out, by its place from 1.

@@ -1,9 +1,7 @@
-use Rattle.std.proofs.Common.{◌≡◌, ◌-◌, ◌≤◌, ℕ, true, Option, List, ◌∙◌, ap, sym, refl, subst}
+use Rattle.std.proofs.Common.{◌-◌, ◌≤◌, ℕ, ◌∙◌, ap, sym, refl, subst}
 use Rattle.qgm_core.specs.Boxes.{QueryGraph, has_box, is_box}
-use Rattle.qgm_core.specs.Edits.{on_box, on_boxes, put_cond_found, spare_in, with_cond, without_cond}
-use Rattle.qgm_core.specs.Lists.{change, first}
-use Rattle.qgm_terms.specs.Shown as shown
-use Rattle.qgm_terms.specs.Terms.{Cond}
+use Rattle.qgm_core.specs.Edits.{spare_in, without_cond}
+use Rattle.qgm_core.specs.Lists.{first}
 use Rattle.qgm_core.proofs.Changed.{has-change, spare-without}
 use Rattle.qgm_core.proofs.graph.Graph.move_conjunct.Goals as goal
 
