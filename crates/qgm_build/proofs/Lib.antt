@@ -1,3 +1,9 @@
+mod Onning
+mod FoldsSame
+mod Grouped
+mod Folding
+mod Splitting
+mod Stacked
 mod Steps
 mod Afters
 mod Wholes
@@ -6,3 +12,4 @@ mod Numbers
 mod Fills
 mod Order
 mod Made
+mod Start

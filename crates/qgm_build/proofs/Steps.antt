@@ -73,3 +73,6 @@ choice_read sources fr m a b c of x y xs v q z d e f g h =
     ap (λ w. (record { when = t.compare t.equal of (term sources fr m a x); result = open_term y (term sources fr m w y) }) ∷ choices_in sources fr m (after (leaves fr y) w) of xs) (sym e)
     ∙ ap₂ (λ (p : Cond) (y2 : Option Term). (record { when = p; result = y2 }) ∷ choices_in sources fr m (after (leaves fr y) b) of xs) (ap (t.compare t.equal of) (sym d) ∙ sym f) (sym g)
     ∙ ap (λ w. (record { when = q; result = z }) ∷ choices_in sources fr m w of xs) (sym h)
+
+pub appended : {A : Type 0} (xs ys zs : List A) → (xs ++ ys) ++ zs ≡ xs ++ (ys ++ zs)
+appended xs ys zs = append_assoc xs ys zs

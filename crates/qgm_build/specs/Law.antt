@@ -1,5 +1,5 @@
 -- What is made for a query shows it.
-use Rattle.std.specs.Prelude.{◌≡◌, ◌≤◌, ◌<◌, ◌==◌, if◌then◌else◌, ℕ, Bool, true, false, List, [], ◌∷◌, ⊤}
+use Rattle.std.specs.Prelude.{◌≡◌, ◌≤◌, ◌<◌, ◌==◌, if◌then◌else◌, ℕ, Bool, true, false, List, [], ◌∷◌, length, Option, Some, None, ⊤, ◌⊎◌}
 use Rattle.sql_meaning.specs.ResolvedTrees.{Query}
 use Rattle.sql_meaning.specs.ResolvedTrees as q
 use Rattle.std.specs.List.{list_any}
@@ -10,7 +10,8 @@ use Rattle.qgm_shown.specs.Maps.{Frame, Map, Ref, nothing, none_counted, column}
 use Rattle.qgm_shown.specs.Shown.{Shows, ShowsBox, Thing, distinct_ids, uses, of_operand, of_query}
 use Rattle.qgm_shown.specs.Sources.{Sources}
 use Rattle.qgm_shown.specs.Buildable.{Buildable}
-use Rattle.qgm_build.specs.Lay.{Boxes, Laid, lay}
+use Rattle.qgm_core.specs.declared.kinds.BoxKind.TheVariants.{Base}
+use Rattle.qgm_build.specs.Lay.{Boxes, Laid, lay, put}
 
 -- the columns of a map are those of quantifiers below n
 abbrev pub UnderRef : ℕ → Ref → Type 0
@@ -98,3 +99,25 @@ abbrev pub Lays : Type 0
 Lays =
     (sources : Sources) (has : List ℕ → Bool)
     → (query : Query) (m : Map) (s : Boxes) → Buildable sources has query → Ready sources has s m → Made sources has (of_query query) m s (lay sources query m s)
+
+-- ---- what stands before a query is made
+
+-- this name stands beside those that stood
+abbrev pub OneMore : (List ℕ → Bool) → List ℕ → (List ℕ → Bool) → Type 0
+OneMore has name more = (n : List ℕ) → more n ≡ true → (n ≡ name) ⊎ (has n ≡ true)
+
+-- the box of a table, on top of all
+abbrev pub lay_base : Sources → List ℕ → Boxes → Laid
+lay_base sources name s = put (Base (sources.stored name)) false [] [] [] s
+
+-- no name stands at first; a table, or a view whose body names what stands, may come after the others, if its number is that of its box
+pub record Starts : Type 0 where
+  pub none : (sources : Sources) (s : Boxes) → Ready sources (λ name. false) s []
+  pub table :
+      (sources : Sources) (has more : List ℕ → Bool) (name : List ℕ) → OneMore has name more
+      → (s : Boxes) → sources.body name ≡ None → sources.shared name ≡ s.box → (sources.stored name).name ≡ name → length (sources.stored name).types ≡ sources.columns name → Ready sources has s []
+      → Ready sources more (lay_base sources name s).boxes []
+  pub view :
+      (sources : Sources) (has more : List ℕ → Bool) (name : List ℕ) → OneMore has name more
+      → (body : Query) (s : Boxes) → sources.body name ≡ Some body → sources.shared name ≡ (lay sources body [] s).top → Buildable sources has body → Ready sources has s []
+      → Ready sources more (lay sources body [] s).boxes []

@@ -6,3 +6,7 @@ pub mod Typing
 pub mod Parts
 pub mod Opened
 pub mod Setting
+pub mod SoFar
+pub mod Site
+pub mod Splits
+pub mod Folds

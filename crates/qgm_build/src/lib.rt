@@ -1,11 +1,17 @@
 //! The boxes that are made for a query, and that they show it.
 #![tactic(auto)]
 
+mod folds;
+mod frames;
+mod groups;
+mod heads;
 mod laws;
+mod ons;
 mod parts;
 mod seen;
 mod setting;
 mod slots;
+mod store;
 mod terms;
 mod types;
 

@@ -1,9 +1,10 @@
 // Where the columns of the blocks round a place are seen.
-ghost use Rattle.std.specs.Prelude.{◌≡◌, ◌∷◌, [], get_or, slice_get};
+ghost use Rattle.std.specs.Prelude.{◌≡◌, ◌∷◌, ◌++◌, [], OnOk, get_or, slice_get};
 ghost use Rattle.qgm_shown.specs.Maps.{nothing};
 ghost use Rattle.qgm_build.specs.Written.{frame_of, map_of, ref_of, ref_or};
 
-use qgm_terms::{Gx, QuantId};
+use qgm_terms::QuantId;
+use shared_types::OutOfMemory;
 
 /// Where a cell of a scope is seen. Contracts see it as the `Ref` that it is.
 #[derive(Clone, Copy)]
@@ -54,4 +55,12 @@ pub(crate) fn seen_at(m: &Scopes<'_>, scope: usize, place: usize) -> Seen
             }
         }
     }
+}
+
+/// Adds where a cell is seen.
+pub(crate) fn push_seen(frame: &mut Vec<Seen>, x: Seen) -> Result<(), OutOfMemory>
+    ensures { OnOk result (frame_of frame.new.items ≡ frame_of frame.old.items ++ ref_of x ∷ []) }
+{
+    frame.push(x)?;
+    Ok(())
 }

@@ -31,3 +31,11 @@ pub(crate) struct Setting<'a> {
     pub frame: &'a [Seen],
     pub outer: &'a Scopes<'a>,
 }
+
+/// What queries see as they are made into boxes, beside the scopes round them.
+#[derive(Clone, Copy)]
+pub(crate) struct Site<'a> {
+    pub alloc: Global,
+    pub known: Known<'a>,
+    pub rows: &'a [Items<SqlType>],
+}

@@ -9,6 +9,7 @@ use qgm_terms::QuantId;
 
 /// The quantifiers of the subqueries and the columns of the aggregates that are still to come, in
 /// the order of the text. Contracts see it as the `Slots` that it is.
+#[derive(Clone, Copy)]
 pub(crate) struct Slots<'a> {
     pub quants: &'a [OwnedQuant],
     pub cells: &'a [Seen],
