@@ -1,3 +1,4 @@
+mod Blocks
 mod Onning
 mod FoldsSame
 mod Grouped

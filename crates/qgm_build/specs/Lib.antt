@@ -10,3 +10,4 @@ pub mod SoFar
 pub mod Site
 pub mod Splits
 pub mod Folds
+pub mod Block

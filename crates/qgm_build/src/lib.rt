@@ -9,6 +9,7 @@ mod laws;
 mod ons;
 mod parts;
 mod seen;
+mod select;
 mod setting;
 mod slots;
 mod store;
