@@ -9,7 +9,7 @@ use Rattle.qgm_shown.specs.Maps.{Ref, column, nothing}
 use Rattle.qgm_shown.specs.Shown.{refs}
 use Rattle.qgm_shown.specs.Sources.{how_many_values}
 use Rattle.qgm_build.specs.Typing.{chain_type, row_or, type_or, typed_by}
-use Rattle.qgm_build.specs.Written.{frame_of, ref_of, ref_or}
+use Rattle.qgm_build.specs.Written.{frame_of, ref_or}
 use Rattle.qgm_build.specs.declared.seen.Seen.{Seen}
 
 pub frame_get : (frame : List Seen) (k : ℕ) → get_or (frame_of frame) k nothing ≡ ref_or (slice_get frame k)

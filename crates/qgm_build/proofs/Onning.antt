@@ -1,5 +1,5 @@
 -- The ON conditions of a FROM, one operand after the other.
-use Rattle.std.proofs.Common.{◌≡◌, ◌<◌, ◌+◌, ℕ, List, [], ◌∷◌, ◌++◌, append_assoc, length, drop, get_or, ap, ap₂, sym, ◌∙◌}
+use Rattle.std.proofs.Common.{◌≡◌, ◌<◌, ◌+◌, ℕ, List, ◌++◌, append_assoc, length, drop, get_or, ap, ap₂, sym, ◌∙◌}
 use Rattle.sql_meaning.specs.ResolvedShown as shown
 use Rattle.sql_meaning.specs.ResolvedTrees.{From, Test}
 use Rattle.sql_meaning.specs.ResolvedTrees as q

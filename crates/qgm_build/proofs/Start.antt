@@ -10,7 +10,7 @@ use Rattle.qgm_shown.specs.Maps.{Map}
 use Rattle.qgm_shown.specs.Shown as w
 use Rattle.qgm_shown.specs.Shown.{Thing, of_operand, of_query}
 use Rattle.qgm_shown.specs.Sources.{Sources}
-use Rattle.qgm_build.specs.Law.{Keeps, Made, OneMore, Ready, lay_base}
+use Rattle.qgm_build.specs.Law.{Made, OneMore, Ready, lay_base}
 use Rattle.qgm_build.specs.Lay.{Boxes, lay, plain_box}
 use Rattle.qgm_build.proofs.Made.{laid, shows-as}
 

@@ -10,7 +10,7 @@ use Rattle.qgm_shown.specs.Leaves.{Leaf, Slots, after, leaves, test_leaves}
 use Rattle.qgm_shown.specs.Maps.{Frame, Map}
 use Rattle.qgm_shown.specs.Sources.{Sources}
 use Rattle.qgm_shown.specs.Terms.{cond, term}
-use Rattle.qgm_build.specs.Parts.{OpenChoice, arms_in, choices_in, open_term}
+use Rattle.qgm_build.specs.Parts.{arms_in, choices_in, open_term}
 use Rattle.qgm_build.proofs.Afters.{after_append}
 
 pub next_there : {X : Type 0} (xs : List X) (i : ℕ) (x : X) → i < length xs → x ≡ get_or xs i x → drop i xs ≡ x ∷ drop (i + 1) xs

@@ -1,5 +1,5 @@
 -- Chains, lists and CASE are those of their parts.
-use Rattle.std.proofs.Common.{◌≡◌, List, [], ◌∷◌, ◌++◌, refl, ap, ap₂, sym, ◌∙◌, map, Bool, true, false, Option, Some, None, if◌then◌else◌}
+use Rattle.std.proofs.Common.{◌≡◌, List, [], ◌∷◌, ◌++◌, refl, ap, ap₂, sym, ◌∙◌, map, Bool, true, false, Some, None, if◌then◌else◌}
 use Rattle.sql_value.specs.declared.order_key.SqlType.{SqlType}
 use Rattle.sql_meaning.specs.ResolvedTrees.{Value, Values, Arms, Choices, Test, Tests}
 use Rattle.sql_meaning.specs.ResolvedTrees as q
@@ -14,7 +14,7 @@ use Rattle.qgm_shown.specs.Sources.{Sources}
 use Rattle.qgm_shown.specs.Terms.{and_every, arms, arms_type, case, choices, choices_type, cond, equals_one, every, is_untyped, null_as, or_equals, or_some, result_as, some, term, terms}
 use Rattle.qgm_shown.specs.Terms as w
 use Rattle.qgm_build.specs.Typing.{typed_by}
-use Rattle.qgm_build.specs.Parts.{OpenChoice, all_of, any_of, arms_in, choices_in, chosen, chosen_as, closed, closed_choice, coalesced, coalesced_onto, conds_in, first_type, last_type, open_term, own_type}
+use Rattle.qgm_build.specs.Parts.{all_of, any_of, arms_in, choices_in, chosen, closed, closed_choice, coalesced, coalesced_onto, conds_in, first_type, last_type, open_term, own_type}
 use Rattle.qgm_build.specs.Setting.{sources_of}
 use Rattle.qgm_build.specs.declared.setting.Named.{Named}
 

@@ -1,6 +1,5 @@
 -- What the program holds of scopes, slots and types, as the words by which boxes show a query.
-use Rattle.std.specs.Prelude.{ℕ, List, [], ◌∷◌, map, Option, Some, None}
-use Rattle.sql_value.specs.declared.order_key.SqlType.{SqlType}
+use Rattle.std.specs.Prelude.{List, [], ◌∷◌, map, Option, Some, None}
 use Rattle.qgm_core.specs.declared.owned.OwnedQuant.{OwnedQuant}
 use Rattle.qgm_shown.specs.Leaves.{Slots, rest_of}
 use Rattle.qgm_shown.specs.Maps.{Frame, Map, Ref, nothing, none_counted, column}

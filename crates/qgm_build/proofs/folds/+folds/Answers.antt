@@ -1,4 +1,4 @@
-use Rattle.std.proofs.Common.{◌≡◌, ◌+◌, ◌++◌, drop, List, [], ◌∷◌, map, ap, refl, sym, ◌∙◌, append_assoc}
+use Rattle.std.proofs.Common.{◌+◌, ◌++◌, drop, List, [], map, ap, refl, sym, append_assoc}
 use Rattle.std.proofs.lemmas.Result.{on_ok_weaker}
 use Rattle.sql_meaning.specs.ResolvedShown as shown
 use Rattle.sql_meaning.specs.declared.resolved.Addend.{Addend}
@@ -8,7 +8,7 @@ use Rattle.sql_meaning.specs.declared.resolved.Multiplier.{Multiplier}
 use Rattle.sql_meaning.specs.declared.resolved.Test.{Test}
 use Rattle.sql_meaning.specs.declared.resolved.Value.{Value}
 use Rattle.qgm_shown.specs.Leaves as w
-use Rattle.qgm_build.specs.Folds.{folds_in, leaf_of}
+use Rattle.qgm_build.specs.Folds.{leaf_of}
 use Rattle.qgm_build.proofs.Folding.{fold_more, fold_sub, fold_three, fold_two}
 use Rattle.qgm_build.proofs.folds.+folds.Goals as goal
 

@@ -1,4 +1,4 @@
-use Rattle.std.proofs.Common.{◌≡◌, ◌+◌, ◌++◌, List, ◌∷◌, drop, ap, ap₂, sym, ◌∙◌, refl}
+use Rattle.std.proofs.Common.{◌+◌, ◌++◌, List, ◌∷◌, drop, ap₂, sym, ◌∙◌, refl}
 use Rattle.sql_meaning.specs.ResolvedShown as shown
 use Rattle.sql_meaning.specs.declared.resolved.Addend.{Addend}
 use Rattle.sql_meaning.specs.declared.resolved.Arm.{Arm}
@@ -6,14 +6,14 @@ use Rattle.sql_meaning.specs.declared.resolved.Choice.{Choice}
 use Rattle.sql_meaning.specs.declared.resolved.Multiplier.{Multiplier}
 use Rattle.sql_meaning.specs.declared.resolved.Test.{Test}
 use Rattle.sql_meaning.specs.declared.resolved.Value.{Value}
-use Rattle.qgm_terms.specs.Shown.{cond, conds, term, terms}
+use Rattle.qgm_terms.specs.Shown.{cond, term}
 use Rattle.qgm_terms.specs.Terms as tree
 use Rattle.qgm_terms.specs.Terms.{Cond, Term}
 use Rattle.qgm_shown.specs.Leaves as w
 use Rattle.qgm_shown.specs.Leaves.{Slots}
 use Rattle.qgm_shown.specs.Terms as t
-use Rattle.qgm_build.specs.Opened.{open_choice, opened}
-use Rattle.qgm_build.specs.Parts.{OpenChoice, arms_in, choices_in, conds_in}
+use Rattle.qgm_build.specs.Opened.{open_choice}
+use Rattle.qgm_build.specs.Parts.{arms_in, choices_in, conds_in}
 use Rattle.qgm_build.specs.Setting.{frame_in, outer_in, sources_in}
 use Rattle.qgm_build.specs.Written.{slots_of}
 use Rattle.qgm_build.proofs.Afters.{after_append}
