@@ -7,3 +7,4 @@ pub mod Law
 pub mod Views
 pub mod Samples
 pub mod Refused
+pub mod Buildable

@@ -21,7 +21,7 @@ use Rattle.query_checks.specs.Faults.{arms_fault, choices_fault, cond_fault, els
 use Rattle.query_checks.specs.Laws.{SameColumns, shapes}
 use Rattle.query_checks.specs.Rules.{table_unknown, too_wide}
 use Rattle.query_checks.specs.Scopes.{Heads, Scopes, is_some, plain, released}
-use Rattle.qgm_laid.specs.Buildable.{Buildable, FitArms, FitChoices, FitFrom, FitFroms, FitTest, FitValue, FitValues}
+use Rattle.qgm_shown.specs.Buildable.{Buildable, FitArms, FitChoices, FitFrom, FitFroms, FitTest, FitValue, FitValues}
 use Rattle.qgm_shown.specs.Sources.{Sources}
 use Rattle.query_buildable.proofs.Keys.{has_key}
 use Rattle.query_buildable.proofs.Operators.{append_fits, block_fits, both_fit, columns_fit, either_fits, not_fits, plus_fits, signed_fits, span_fits, times_fits}

@@ -9,7 +9,7 @@ use Rattle.sql_meaning.specs.ResolvedTrees as q
 use Rattle.name_resolution.specs.Places.{Span}
 use Rattle.name_resolution.specs.Resolved.{append, both, columns_from, either, more_addends, more_multipliers, more_tests, perhaps_not, plus, signed, times}
 use Rattle.name_resolution.specs.Resolved as resolved
-use Rattle.qgm_laid.specs.Buildable.{Buildable, FitAddends, FitFroms, FitMultipliers, FitTest, FitTests, FitValue, FitValues}
+use Rattle.qgm_shown.specs.Buildable.{Buildable, FitAddends, FitFroms, FitMultipliers, FitTest, FitTests, FitValue, FitValues}
 use Rattle.qgm_shown.specs.Shown.{HasKey}
 use Rattle.qgm_shown.specs.Sources.{Sources, froms_width}
 

@@ -15,7 +15,7 @@ use Rattle.query_checks.proofs.Members.{Each, all_of_each, each_of_all}
 use Rattle.query_checks.specs.Faults.{query_fault}
 use Rattle.query_checks.specs.Laws.{NestsShallow, SameColumns}
 use Rattle.query_checks.specs.Views.{fault, heads_of, view_refusal}
-use Rattle.qgm_laid.specs.Buildable.{Buildable}
+use Rattle.qgm_shown.specs.Buildable.{Buildable}
 use Rattle.qgm_shown.specs.Sources.{Sources}
 use Rattle.query_buildable.proofs.Fit.{fit_query}
 use Rattle.query_buildable.specs.Law.{AreQueries, Counts, Knows}

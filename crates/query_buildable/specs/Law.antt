@@ -11,7 +11,7 @@ use Rattle.query_checks.specs.Laws.{NestsShallow, SameColumns, shapes}
 use Rattle.query_checks.specs.Scopes.{Heads, Scopes, is_some}
 use Rattle.query_checks.specs.Views.{fault, heads_of, view_refusal}
 use Rattle.qgm_shown.specs.Sources.{Sources}
-use Rattle.qgm_laid.specs.Buildable.{Buildable}
+use Rattle.qgm_shown.specs.Buildable.{Buildable}
 
 -- the sources give each name as many columns as its table or view has
 abbrev pub Counts : Sources → Columns → Type 0

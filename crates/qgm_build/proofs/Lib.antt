@@ -1,0 +1,17 @@
+mod Blocks
+mod Onning
+mod FoldsSame
+mod Grouped
+mod Folding
+mod Splitting
+mod Stacked
+mod Steps
+mod Afters
+mod Wholes
+mod Lists
+mod Numbers
+mod Fills
+mod Order
+mod Made
+mod Start
+mod Times

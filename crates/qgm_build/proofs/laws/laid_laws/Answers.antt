@@ -1,0 +1,21 @@
+use Rattle.std.proofs.Common.{refl}
+use Rattle.qgm_build.proofs.laws.laid_laws.Goals as goal
+use Rattle.qgm_build.proofs.Made.{laid}
+use Rattle.qgm_build.proofs.Times.{counted-once}
+use Rattle.qgm_build.proofs.Start.{base-ready, nothing-ready, view-ready}
+
+pub returns-clause-lays : goal.returns-clause-lays
+returns-clause-lays c = λ sources has query m s h r. laid sources has query m s h r
+
+pub returns-clause-sampled : goal.returns-clause-sampled
+returns-clause-sampled c = record { buildable = (((refl, refl, refl, λ fr. refl), tt), (tt, (tt, ((λ fr. refl), tt))), ((refl, tt), (tt, tt), (tt, tt)), (tt, tt), tt, refl); rows = refl }
+
+pub returns-clause-starts : goal.returns-clause-starts
+returns-clause-starts c = record {
+  none = nothing-ready;
+  table = λ sources has more name one s a b d e r. base-ready sources has more name one s a b d e r;
+  view = λ sources has more name one body s a b d r. view-ready sources has more name one body s a b d r;
+}
+
+pub returns-clause-once : goal.returns-clause-once
+returns-clause-once c = λ ns h q. counted-once ns h q

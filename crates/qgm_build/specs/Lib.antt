@@ -1,0 +1,13 @@
+pub mod Lay
+pub mod Law
+pub mod Sample
+pub mod Written
+pub mod Typing
+pub mod Parts
+pub mod Opened
+pub mod Setting
+pub mod SoFar
+pub mod Site
+pub mod Splits
+pub mod Folds
+pub mod Block

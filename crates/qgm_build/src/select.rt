@@ -1,0 +1,85 @@
+// The head and the conditions of the select over a block's FROM.
+ghost use Rattle.std.specs.Prelude.{◌≡◌, ◌++◌, [], IfOk, OnOk, map};
+ghost use Rattle.sql_meaning.specs.ResolvedShown as shown;
+ghost use Rattle.qgm_build.specs.Block.{aggregates_of, conds_in_block, frame_of_block, head_in_block};
+ghost use Rattle.qgm_build.specs.Folds.{leaf_of};
+ghost use Rattle.qgm_build.specs.Site.{sources_at};
+ghost use Rattle.qgm_build.specs.Written.{frame_of, map_of};
+
+use crate::folds::{Fold, list_folds, test_folds};
+use crate::frames::Ranges;
+use crate::groups::ungrouped_cells;
+use crate::heads::{add_split, head_of};
+use crate::ons::{all_on_conds, all_on_folds};
+use crate::seen::{Scopes, Seen};
+use crate::setting::{Setting, Site};
+use crate::slots::Slots;
+use crate::terms::{test, values};
+use qgm_core::{Conds, Head, OwnedQuant};
+use shared_types::OutOfMemory;
+use sql_meaning::{From, Test, Value};
+
+/// A block that isn't grouped: its list, FROM and WHERE.
+#[derive(Clone, Copy)]
+pub(crate) struct Block<'a> {
+    pub list: &'a [Value],
+    pub from: &'a [From],
+    pub by: &'a Test,
+}
+
+/// The head of a select, and its conditions.
+#[derive(Drop)]
+pub(crate) struct Selected {
+    pub head: Head,
+    pub conds: Conds,
+}
+
+// The aggregates of a block in the order of its list, its ON conditions and WHERE.
+fn block_folds<'a>(g: &Site<'_>, x: &Block<'a>) -> Result<Vec<Fold<'a>>, OutOfMemory>
+    ensures { IfOk result (λ v. map leaf_of v.items ≡ aggregates_of x.now) }
+{
+    let mut out = Vec::new(g.alloc);
+    list_folds(x.list, &mut out)?;
+    all_on_folds(x.from, &mut out)?;
+    test_folds(x.by, &mut out)?;
+    Ok(out)
+}
+
+/// The head and the conditions of the select of a block, whose FROM has these quantifiers and whose
+/// subqueries those.
+pub(crate) fn write_block(
+    g: &Site<'_>,
+    x: &Block<'_>,
+    outer: &Scopes<'_>,
+    frame: &[Seen],
+    fs: &[OwnedQuant],
+    subs: &[OwnedQuant],
+) -> Result<Selected, OutOfMemory>
+    requires seen { frame_of frame.now ≡ frame_of_block (sources_at g.now) x.now fs.now }
+    ensures head { IfOk result (λ w. w.head ≡ head_in_block (sources_at g.now) (map_of outer.now) x.now fs.now subs.now) }
+    ensures conds { IfOk result (λ w. w.conds.items ≡ conds_in_block (sources_at g.now) (map_of outer.now) x.now fs.now subs.now) }
+    ensures spare { IfOk result (λ w. w.conds.spare ≡ 0) }
+{
+    let folds = block_folds(g, x)?;
+    let cells = ungrouped_cells(g.alloc, &folds)?;
+    let mut s = Slots {
+        quants: subs,
+        cells: &cells,
+    };
+    let setting = Setting {
+        alloc: g.alloc,
+        known: g.known,
+        rows: g.rows,
+        frame: &*frame,
+        outer: &*outer,
+    };
+    let mut list = Vec::new(g.alloc);
+    values(&setting, x.list, &mut s, &mut list)?;
+    let mut conds = Conds::new(g.alloc);
+    let mut os = Ranges { rest: fs };
+    all_on_conds(g, x.from, outer, &mut os, &mut s, &mut conds)?;
+    let p = test(&setting, x.by, &mut s)?;
+    add_split(&mut conds, p)?;
+    let head = head_of(g.alloc, list)?;
+    Ok(Selected { head, conds })
+}

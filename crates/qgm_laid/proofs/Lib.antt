@@ -1,5 +1,0 @@
-mod Numbers
-mod Fills
-mod Order
-mod Made
-mod Times

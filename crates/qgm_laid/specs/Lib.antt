@@ -1,4 +1,0 @@
-pub mod Lay
-pub mod Buildable
-pub mod Law
-pub mod Sample
