@@ -7,7 +7,7 @@ use Rattle.qgm_core.specs.declared.node.Node.{Node}
 use Rattle.qgm_core.proofs.Changed.{has-without}
 use Rattle.qgm_core.proofs.First.{goes_below}
 use Rattle.qgm_core.proofs.Fresh.{if_ok}
-use Rattle.qgm_core.proofs.graph.move_below.Goals as goal
+use Rattle.qgm_core.proofs.moves.move_below.Goals as goal
 
 pub box_place-k-requires : goal.box_place-k-requires
 box_place-k-requires c =
