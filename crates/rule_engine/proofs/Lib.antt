@@ -1,0 +1,6 @@
+pub mod Earliest
+pub mod Drawn
+pub mod Chosen
+pub mod Enabled
+pub mod Walked
+pub mod Chains
