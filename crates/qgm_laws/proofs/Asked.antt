@@ -1,14 +1,11 @@
 -- Small graphs on which P1 and U2 may fire.
-use Rattle.std.proofs.Common.{ℕ, ◌==◌, ◌≡◌, ◌||◌, ◌≤◌, Bool, true, List, [], ◌∷◌, Option, Some, None, refl, sym, ◌∙◌, eqb-true, inl, inr, arith}
+use Rattle.std.proofs.Common.{◌==◌, ◌≤◌, List, Option, Some, None, refl, sym, ◌∙◌, eqb-true, inl, inr, arith}
 use Rattle.sql_value.specs.declared.cell.Cell.{Cell}
 use Rattle.sql_value.specs.declared.cell.Kind.{Kind}
 use Rattle.sql_value.specs.declared.cell.Kind.TheVariants as kind
 use Rattle.row_bag.specs.Bags.{unit}
 use Rattle.row_bag.specs.Joins.{how_many}
 use Rattle.row_bag.specs.Sets.{error_or_bag, failed_cells}
-use Rattle.row_bag.specs.declared.row.Row.{Row}
-use Rattle.qgm_core.specs.Lists.{EachOnce}
-use Rattle.qgm_core.specs.Boxes.{numbers}
 use Rattle.qgm_laws.specs.Asked.{Pushed, Singled, narrowed, scalars}
 use Rattle.qgm_laws.proofs.Formed.{sound-checked}
 use Rattle.qgm_laws.proofs.Lists.{or-false}

@@ -7,7 +7,7 @@ use Rattle.qgm_core.specs.declared.kinds.BoxKind.TheVariants.{Base, Select, Grou
 use Rattle.qgm_core.specs.declared.node.Node.{Node}
 use Rattle.qgm_core.specs.declared.owned.OwnedQuant.{OwnedQuant}
 use Rattle.qgm_core.specs.Boxes.{QueryGraph, ids_in, ids_of, is_box, is_quant, overs_in, overs_of, owns, width}
-use Rattle.qgm_core.specs.Edits.{drop_column, quants_over, shift_boxes, shift_node, without_cell}
+use Rattle.qgm_core.specs.Edits.{drop_column, ids_over, quants_over, shift_boxes, shift_node, shifted_over, without_cell}
 use Rattle.qgm_core.specs.Kinds.{width_by}
 use Rattle.qgm_core.specs.Lists.{In, change, each, first, times}
 use Rattle.qgm_meaning.specs.Scope.{loose, read_by}
@@ -212,14 +212,19 @@ all-in : (bs : List Node) (r : OwnedQuant) → In r (all_quants bs) → (n : Nod
 all-in [] r i = elim i [ ]
 all-in (n ∷ bs) r i = elim (in-append r n.quants (all_quants bs) i) [ inl a ↦ (n, (inl refl, a)) | inr a ↦ (let x = all-in bs r a in (x.0, (inr x.1.0, x.1.1))) ]
 
+filter-append : (p : OwnedQuant → Bool) (xs ys : List OwnedQuant) → filter p (xs ++ ys) ≡ filter p xs ++ filter p ys
+filter-append p [] ys = refl
+filter-append p (x ∷ xs) ys = elim (p x) as (λ t. cond t (x ∷ filter p (xs ++ ys)) (filter p (xs ++ ys)) ≡ cond t (x ∷ filter p xs) (filter p xs) ++ filter p ys) [ true ↦ ap (λ z. x ∷ z) (filter-append p xs ys) | false ↦ filter-append p xs ys ]
+
 length-remove : (xs : List Term) (i : ℕ) → i < length xs → length (remove xs i) + 1 ≡ length xs
 length-remove [] i h = absurd (omega arith)
 length-remove (x ∷ xs) zero h = omega arith
 length-remove (x ∷ xs) (suc i) h = let e = length-remove xs i (omega arith) in omega arith
 
 module _ (bs : List Node) (root : ℕ) (w : Sound bs root) (b : Node) (k : ℕ) (m : LosesColumn bs b k) where
+  -- the quantifiers over b
   abbrev qs : List ℕ
-  qs = quants_over b.id bs
+  qs = map (λ (r : OwnedQuant). r.id) (filter (λ r. r.over == b.id) (all_quants bs))
 
   abbrev cut : Node → Node
   cut = at b.id (without_cell (k - 1))
@@ -404,10 +409,17 @@ module _ (bs : List Node) (root : ℕ) (w : Sound bs root) (b : Node) (k : ℕ) 
       (λ y i q t. w.settled y i q (subst (λ rs. list_any (is_quant q) rs ≡ true) (g-quants y) t))
       (λ c q t. overs-same c ∙ w.used c q t)
 
+  quants-cut : (ns : List Node) → quants_over b.id (map cut ns) ≡ map (λ (r : OwnedQuant). r.id) (filter (λ r. r.over == b.id) (all_quants ns))
+  quants-cut [] = refl
+  quants-cut (n ∷ ns) =
+      ap₂ (λ (rs : List OwnedQuant) (z : List ℕ). ids_over b.id rs ++ z) (cut-quants n) (quants-cut ns)
+      ∙ sym (map-append (λ (r : OwnedQuant). r.id) (filter (λ r. r.over == b.id) n.quants) (filter (λ r. r.over == b.id) (all_quants ns))) ∙ ap (map (λ (r : OwnedQuant). r.id)) (sym (filter-append (λ r. r.over == b.id) n.quants (all_quants ns)))
+
   -- by the edit's equation
   pub dropped-column : (h : QueryGraph) → h.boxes ≡ bs → Sound (drop_column b.id k h).boxes root
-  dropped-column h e = subst (λ z. Sound (each (shift_boxes k) (quants_over b.id z) (change (is_box b.id) (without_cell (k - 1)) z)) root) (sym e)
-      (subst (λ z. Sound z root) (sym (ap (each (shift_boxes k) qs) (change-at b.id (without_cell (k - 1)) bs (once-each bs w.ordered)) ∙ each-is k qs (map cut bs) ∙ fuse bs)) column-sound)
+  dropped-column h e = subst (λ z. Sound (shifted_over b.id k (change (is_box b.id) (without_cell (k - 1)) z)) root) (sym e)
+      (subst (λ z. Sound (shifted_over b.id k z) root) (sym (change-at b.id (without_cell (k - 1)) bs (once-each bs w.ordered)))
+      (subst (λ z. Sound (each (shift_boxes k) z (map cut bs)) root) (sym (quants-cut bs)) (subst (λ z. Sound z root) (sym (each-is k qs (map cut bs) ∙ fuse bs)) column-sound)))
     where
       fuse : (ns : List Node) → map (shift_each k qs) (map cut ns) ≡ map g ns
       fuse [] = refl

@@ -39,4 +39,5 @@ pub mod PushSound
 pub mod PushRule
 pub mod ShapedKept
 pub mod Asked
+pub mod ShapedMoved
 pub mod Examples

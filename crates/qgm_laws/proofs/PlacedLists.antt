@@ -366,7 +366,7 @@ shift-placed k q bs root w =
 
 pub column-dropped : (g : QueryGraph) → IsPlaced g → (b k : ℕ) → HasBox b g → IsPlaced (drop_column b k g)
 column-dropped g w b k h =
-    every (quants_over b g.boxes) (change (is_box b) (without_cell (k - 1)) g.boxes) (parts-by g w b (without_cell (k - 1)) h (λ y. refl) (λ y. refl) (λ y i e q t. w.known y i q (elim (named-parts q (without_cell (k - 1) y) t) [
+    every (quants_over b (change (is_box b) (without_cell (k - 1)) g.boxes)) (change (is_box b) (without_cell (k - 1)) g.boxes) (parts-by g w b (without_cell (k - 1)) h (λ y. refl) (λ y. refl) (λ y i e q t. w.known y i q (elim (named-parts q (without_cell (k - 1) y) t) [
       | inl a ↦ named-head q y (any-remove (says q) (k - 1) y.parts.head a)
       | inr a ↦ named-conds q y a
     ])))

@@ -1,7 +1,7 @@
 -- Boxes that the root doesn't reach go, and the others keep their shapes.
-use Rattle.std.proofs.Common.{ℕ, ◌==◌, ◌≡◌, ◌&&◌, ◌||◌, cond, nat_le, nat_lt, not, Bool, true, false, List, [], ◌∷◌, ◌++◌, filter, map, Option, Some, None, refl, sym, ap, ap₂, subst, ◌∙◌, eqb-true, ◌⊎◌, inl, inr}
+use Rattle.std.proofs.Common.{ℕ, ◌==◌, ◌≡◌, ◌&&◌, ◌||◌, cond, nat_lt, not, Bool, true, false, List, [], ◌∷◌, ◌++◌, filter, Option, Some, None, refl, sym, ap, ap₂, subst, ◌∙◌, eqb-true, inl, inr}
 use Rattle.std.specs.List.{list_all, list_any, flat_map}
-use Rattle.std.proofs.lemmas.Bool.{and_from, and_parts, cases_Bool, eq-eqb, not-true, or_cases}
+use Rattle.std.proofs.lemmas.Bool.{and_from, and_parts, cases_Bool, not-true, or_cases}
 use mathlib.Core.Path.{fun_ext}
 use Rattle.qgm_core.specs.Boxes.{is_box, is_quant, overs_of, owns, range_in, width}
 use Rattle.qgm_core.specs.Free.{free_among, free_in, is_owned, marked, named_by, named_where, put_each, reached}
@@ -13,7 +13,6 @@ use Rattle.qgm_core.specs.declared.kinds.Role.{Role}
 use Rattle.qgm_core.specs.declared.kinds.Role.TheVariants.{Fed, Magic, Plain}
 use Rattle.qgm_core.specs.declared.node.Node.{Node}
 use Rattle.qgm_core.specs.declared.owned.OwnedQuant.{OwnedQuant}
-use Rattle.qgm_terms.specs.Terms.{Term}
 use Rattle.qgm_terms.specs.declared.named.Column.{Column}
 use Rattle.qgm_check.specs.Columns.{box_under, columns_fit, columns_of, fits, over_box, places_fit}
 use Rattle.qgm_check.specs.Shapes.{arm_fits, columns_placed, columns_through, fed_by, fed_by_two, heads_are, is_fed, is_scalar, is_scalar_in, kind_fits, magic_found, node_fits, nodes_of, only, role_fits, shape_fits, width_found}
@@ -22,8 +21,8 @@ use Rattle.qgm_laws.specs.Graph.{Sound, nodes_in}
 use Rattle.qgm_laws.specs.Shaped.{Shaped}
 use Rattle.qgm_meaning.specs.Scope.{read_by}
 use Rattle.qgm_laws.proofs.Adds.{read-owned}
-use Rattle.qgm_laws.proofs.Compact.{compact-sound, holds-in, in-holds, in-kept, kept, kept-in, reached_boxes, reaches}
-use Rattle.qgm_laws.proofs.Lists.{all-from, all-in, any-from, any-in, any-none, clash, eq-itself, in-append, in-map, or-left, or-right}
+use Rattle.qgm_laws.proofs.Compact.{compact-sound, holds-in, in-kept, kept, reached_boxes, reaches}
+use Rattle.qgm_laws.proofs.Lists.{all-from, all-in, any-from, any-in, clash, eq-itself, in-append, in-map, or-left, or-right}
 use Rattle.qgm_laws.proofs.PlacedLists.{first-in}
 use Rattle.qgm_laws.proofs.Read.{column-named, is_at, named-split}
 use Rattle.qgm_laws.proofs.Scope.{one-owner}

@@ -12,6 +12,7 @@ use Rattle.qgm_check.specs.Shapes.{shape_fits}
 use Rattle.qgm_check.specs.Types.{types_agree}
 use Rattle.qgm_check.specs.WellFormed.{fault}
 use Rattle.qgm_check.specs.declared.check.Clause.TheVariants.{I1, I2, I3}
+use Rattle.qgm_laws.specs.Drop.{MayDrop, dropped}
 use Rattle.qgm_laws.specs.Graph.{Sound}
 use Rattle.qgm_laws.specs.Placed.{Placed}
 
@@ -38,3 +39,7 @@ PlacedIsChecked =
 -- shapes stay where the boxes that the root doesn't reach go
 abbrev pub CompactShaped : Type 0
 CompactShaped = (g : QueryGraph) → Sound g.boxes g.root → Shaped g.boxes g.root → Shaped (compact g).boxes g.root
+
+-- and under M2
+abbrev pub DropShaped : Type 0
+DropShaped = (g : QueryGraph) → Sound g.boxes g.root → Shaped g.boxes g.root → (b c : Node) (r : OwnedQuant) → MayDrop g b c r → Shaped (dropped b c g).boxes g.root
