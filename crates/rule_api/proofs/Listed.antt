@@ -1,5 +1,5 @@
 -- A loop that lists the places that pass, one step.
-use Rattle.std.proofs.Common.{ℕ, zero, suc, ◌+◌, ◌≡◌, Bool, List, [], ◌∷◌, ◌++◌, sym, ◌∙◌, ap, arith, map, drop, Option, Some, None}
+use Rattle.std.proofs.Common.{ℕ, zero, suc, ◌+◌, ◌≡◌, Bool, List, [], ◌∷◌, ◌++◌, sym, ◌∙◌, ap, arith, map, drop, Some}
 use Rattle.std.proofs.lemmas.List.{append_assoc, map-append}
 use Rattle.std.specs.Prelude.{slice_get}
 use Rattle.rule_api.specs.Picks.{picked, picks}

@@ -1,5 +1,5 @@
 -- Chains of firings.
-use Rattle.std.proofs.Common.{◌≡◌, ℕ, ◌+◌, List, [], ◌∷◌, ◌++◌, length, refl, sym, ap, arith, subst}
+use Rattle.std.proofs.Common.{◌≡◌, ℕ, ◌+◌, List, [], ◌∷◌, ◌++◌, length, refl, sym, arith, subst}
 use Rattle.qgm_core.specs.Boxes.{QueryGraph}
 use Rattle.rewrite_plan.specs.declared.plan.Plan.{Plan}
 use Rattle.rule_api.specs.declared.place.Firing.{Firing}

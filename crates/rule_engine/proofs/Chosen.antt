@@ -1,5 +1,5 @@
 -- The candidates are the places of enabled rules at the boxes of the walk; what is next is one of them, unless there is none.
-use Rattle.std.proofs.Common.{ℕ, zero, suc, ◌≡◌, ◌<◌, ◌≤◌, ◌+◌, ◌%◌, Bool, true, false, cond, List, [], ◌∷◌, ◌++◌, length, map, refl, sym, ◌∙◌, ap, arith, Option, Some, None, ◌⊎◌, inl, inr, subst}
+use Rattle.std.proofs.Common.{ℕ, zero, suc, ◌≡◌, ◌<◌, ◌%◌, Bool, true, false, cond, List, [], ◌∷◌, ◌++◌, length, map, refl, sym, ◌∙◌, ap, arith, Option, Some, None, ◌⊎◌, inl, inr, subst}
 use Rattle.std.proofs.Math.Nat.{mod-lt}
 use Rattle.std.specs.List.{flat_map}
 use Rattle.std.specs.Prelude.{slice_get, ◌↔◌}
@@ -8,9 +8,8 @@ use Rattle.qgm_core.specs.Lists.{In, first}
 use Rattle.qgm_core.specs.Walk.{walk}
 use Rattle.rewrite_plan.specs.declared.plan.Order.TheVariants.{Sequence, Priority, Scatter}
 use Rattle.rewrite_plan.specs.declared.plan.Plan.{Plan}
-use Rattle.rule_api.specs.Rules.{Pair, place_at}
+use Rattle.rule_api.specs.Rules.{place_at}
 use Rattle.rule_api.specs.declared.place.Firing.{Firing}
-use Rattle.rule_api.specs.declared.place.Place.{Place}
 use Rattle.rule_api.specs.declared.place.RuleId.{RuleId}
 use Rattle.rule_engine.specs.Control.{Pairs, at_box, candidates, draw, earliest, enabled, firing, is_least, next}
 use Rattle.rule_engine.specs.Laws.{IsCandidate}

@@ -1,5 +1,5 @@
 -- A rule is enabled exactly where it is of an enabled class.
-use Rattle.std.proofs.Common.{ℕ, ◌≡◌, ◌==◌, ◌||◌, Bool, true, false, cond, List, [], ◌∷◌, ◌++◌, refl, sym, ◌∙◌, ap, Option, Some, None, ◌⊎◌, inl, inr, subst, eqb-true}
+use Rattle.std.proofs.Common.{◌≡◌, ◌||◌, true, false, cond, List, [], ◌∷◌, ◌++◌, refl, sym, ◌∙◌, ap, Some, ◌⊎◌, inl, inr, subst, eqb-true}
 use Rattle.std.specs.List.{flat_map, list_any}
 use Rattle.std.specs.Prelude.{◌↔◌, slice_get}
 use Rattle.qgm_core.specs.Lists.{In}

@@ -1,6 +1,5 @@
 -- A well-formed graph has each box of a walk.
-use Rattle.std.proofs.Common.{ℕ, zero, suc, ◌≡◌, ◌<◌, arith, ◌==◌, ◌||◌, ◌++◌, Bool, true, false, cond, List, [], ◌∷◌, length, map, refl, sym, ◌∙◌, ap, Option, Some, None, ◌⊎◌, inl, inr, subst, eqb-true}
-use Rattle.std.specs.List.{flat_map, list_any}
+use Rattle.std.proofs.Common.{ℕ, zero, suc, ◌≡◌, ◌<◌, arith, ◌==◌, ◌||◌, ◌++◌, Bool, true, false, cond, List, [], ◌∷◌, length, map, refl, Option, Some, None, ◌⊎◌, inl, inr, subst}
 use Rattle.std.specs.Prelude.{slice_index_or}
 use Rattle.qgm_core.specs.Boxes.{HasBox, QueryGraph, has_box, is_box, overs_of, quants_in}
 use Rattle.qgm_core.specs.Lists.{In, each, first, holds}

@@ -6,7 +6,6 @@ use Rattle.qgm_core.specs.Lists.{first}
 use Rattle.qgm_core.specs.Walk.{walk}
 use Rattle.rewrite_plan.specs.declared.classes.Class.{Class}
 use Rattle.rewrite_plan.specs.declared.classes.Class.TheVariants.{Merge, Subquery, Distinct, Push, Trans, Prune, Magic}
-use Rattle.rewrite_plan.specs.declared.plan.Order.{Order}
 use Rattle.rewrite_plan.specs.declared.plan.Order.TheVariants.{Sequence, Priority, Scatter}
 use Rattle.rewrite_plan.specs.declared.plan.Plan.{Plan}
 use Rattle.rule_api.specs.Rules.{Pair, place_at}

@@ -1,5 +1,4 @@
 use Rattle.std.proofs.Common.{◌≡◌, refl, sym, ◌∙◌, rules, ap, Some}
-use Rattle.qgm_core.specs.Lists.{In}
 use Rattle.rule_api.specs.Rules.{Preserves}
 use Rattle.rule_engine.specs.Control.{candidates, next}
 use Rattle.rule_engine.proofs.Chosen.{next-given, next-none}
