@@ -4,3 +4,4 @@ pub mod Chosen
 pub mod Enabled
 pub mod Walked
 pub mod Chains
+pub mod Examples
