@@ -1,0 +1,12 @@
+//! What a rewrite rule is: its places, its action, and the law that it keeps.
+#![tactic(auto)]
+
+mod laws;
+mod picks;
+mod place;
+mod rule;
+
+pub use laws::place_laws;
+pub use picks::add_if;
+pub use place::{Firing, Place, RuleId};
+pub use rule::Rule;

@@ -1,0 +1,107 @@
+-- The candidates in order, and which of them is next.
+use Rattle.std.specs.Prelude.{ℕ, zero, suc, ◌+◌, ◌*◌, ◌/◌, ◌%◌, ◌==◌, ◌++◌, nat_le, if◌then◌else◌, Bool, List, [], ◌∷◌, map, length, Option, slice_get}
+use Rattle.std.specs.List.{flat_map, list_all, list_any}
+use Rattle.qgm_core.specs.Boxes.{QueryGraph}
+use Rattle.qgm_core.specs.Lists.{first}
+use Rattle.qgm_core.specs.Walk.{walk}
+use Rattle.rewrite_plan.specs.declared.classes.Class.{Class}
+use Rattle.rewrite_plan.specs.declared.classes.Class.TheVariants.{Merge, Subquery, Distinct, Push, Trans, Prune, Magic}
+use Rattle.rewrite_plan.specs.declared.plan.Order.TheVariants.{Sequence, Priority, Scatter}
+use Rattle.rewrite_plan.specs.declared.plan.Plan.{Plan}
+use Rattle.rule_api.specs.Rules.{Pair, place_at}
+use Rattle.rule_api.specs.declared.place.Firing.{Firing}
+use Rattle.rule_api.specs.declared.place.Place.{Place}
+use Rattle.rule_api.specs.declared.place.RuleId.{RuleId}
+use Rattle.rule_api.specs.declared.place.RuleId.TheVariants.{M1, M2, U1, U2, U3, U4, L1, L2, L3, P1, P2, P3, P4, J1, J2, N1, N2, G1, G2, G3, G4, G5}
+
+-- ---- rules
+
+-- the rules of a class, in order
+abbrev pub rules_of : Class → List RuleId
+rules_of Merge = M1 ∷ M2 ∷ []
+rules_of Subquery = U1 ∷ U2 ∷ U3 ∷ U4 ∷ []
+rules_of Distinct = L1 ∷ L2 ∷ L3 ∷ []
+rules_of Push = P1 ∷ P2 ∷ P3 ∷ P4 ∷ []
+rules_of Trans = J1 ∷ J2 ∷ []
+rules_of Prune = N1 ∷ N2 ∷ []
+rules_of Magic = U2 ∷ G1 ∷ G2 ∷ G3 ∷ G4 ∷ G5 ∷ []
+
+-- the place of a rule among all
+abbrev pub rank_of : RuleId → ℕ
+rank_of M1 = 0
+rank_of M2 = 1
+rank_of U1 = 2
+rank_of U2 = 3
+rank_of U3 = 4
+rank_of U4 = 5
+rank_of L1 = 6
+rank_of L2 = 7
+rank_of L3 = 8
+rank_of P1 = 9
+rank_of P2 = 10
+rank_of P3 = 11
+rank_of P4 = 12
+rank_of J1 = 13
+rank_of J2 = 14
+rank_of N1 = 15
+rank_of N2 = 16
+rank_of G1 = 17
+rank_of G2 = 18
+rank_of G3 = 19
+rank_of G4 = 20
+rank_of G5 = 21
+
+abbrev pub is_rule : RuleId → RuleId → Bool
+is_rule r s = rank_of s == rank_of r
+
+-- r at the end, if it isn't there
+abbrev pub with_new : List RuleId → RuleId → List RuleId
+with_new out r = if list_any (is_rule r) out then out else out ++ r ∷ []
+
+abbrev pub all_new : List RuleId → List RuleId → List RuleId
+all_new out [] = out
+all_new out (r ∷ rs) = all_new (with_new out r) rs
+
+-- the rules of these classes, each once, where it stands first
+abbrev pub enabled : List Class → List RuleId
+enabled cs = all_new [] (flat_map rules_of cs)
+
+-- ---- candidates
+
+-- the places of rules in a graph at a box, each by its two numbers
+abbrev pub Pairs : Type 0
+Pairs = RuleId → QueryGraph → ℕ → List Pair
+
+abbrev pub firing : RuleId → Place → Firing
+firing r p = record { rule = r; place = p }
+
+abbrev pub at_box : Pairs → List RuleId → QueryGraph → ℕ → List Firing
+at_box pairs rs g b = flat_map (λ r. map (firing r) (map (place_at b) (pairs r g b))) rs
+
+-- for each box in the order of the walk, for each enabled rule, its places there
+unfoldable pub candidates : Pairs → Plan → QueryGraph → List Firing
+candidates pairs plan g = flat_map (at_box pairs (enabled plan.classes) g) (walk plan.walk g)
+
+-- ---- the next
+
+-- the rule of none of these ranks before that of f
+abbrev pub is_least : List Firing → Firing → Bool
+is_least list f = list_all (λ e. nat_le (rank_of f.rule) (rank_of e.rule)) list
+
+-- the first of those whose rule ranks first
+unfoldable pub earliest : List Firing → Option Firing
+earliest list = first (is_least list) list
+
+-- the states of the generator
+abbrev pub x_at : ℕ → ℕ → ℕ
+x_at seed zero = seed
+x_at seed (suc n) = (x_at seed n * 1103515245 + 12345) % 2147483648
+
+-- what is drawn of a seed, from 0
+abbrev pub draw : ℕ → ℕ → ℕ
+draw seed n = x_at seed (suc n) / 65536
+
+-- which of these fires, if k have fired: the first; the first of those whose rule ranks first; or the one that is drawn
+unfoldable pub next : Plan → List Firing → ℕ → Option Firing
+next plan list k =
+    elim plan.order [ Sequence ↦ slice_get list 0 | Priority ↦ earliest list | Scatter ↦ slice_get list (draw plan.seed k % length list) ]

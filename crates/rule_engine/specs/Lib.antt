@@ -1,0 +1,4 @@
+pub mod Control
+pub mod Trace
+pub mod Laws
+pub mod Examples

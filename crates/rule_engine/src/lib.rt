@@ -1,0 +1,16 @@
+//! The engine that rewrites a query graph by rules, whatever they are.
+#![tactic(auto)]
+
+mod choice;
+mod control;
+mod laws;
+mod rules;
+mod steps;
+mod trace;
+
+pub use choice::{draw, next};
+pub use control::{candidates, rank};
+pub use laws::{control_examples, control_laws};
+pub use rules::Rules;
+pub use steps::{rewrite, step};
+pub use trace::Trace;

@@ -1,0 +1,57 @@
+// A step, and a whole rewriting.
+ghost use Rattle.std.specs.Prelude.{◌≡◌, IfOk, OnErr};
+ghost use Rattle.qgm_check.specs.Sentences.{WellFormed};
+ghost use Rattle.rule_engine.specs.Trace.{Steps, Traces};
+
+use crate::choice::next;
+use crate::control::candidates;
+use crate::rules::Rules;
+use crate::trace::Trace;
+use qgm_core::Graph;
+use rewrite_plan::Plan;
+use rule_api::Firing;
+use shared_types::OutOfMemory;
+use std::alloc::Global;
+
+/// Fires once, `count` having fired before, or not where there is no candidate. Where there is no
+/// memory it fails, and the graph is as before.
+pub fn step<T: Rules>(
+    alloc: Global,
+    table: &T,
+    graph: &mut Graph,
+    plan: &Plan,
+    count: u64,
+) -> Result<Option<Firing>, OutOfMemory>
+    requires { WellFormed graph.old }
+    ensures ok { IfOk result (λ f. Steps (T.pairs table.now) (T.may table.now) (T.act table.now) plan.now count graph.old f graph.new) }
+    ensures err { OnErr result (graph.new ≡ graph.old) }
+{
+    let list = candidates(alloc, table, graph, plan)?;
+    let Some(f) = next(plan, &list, count) else {
+        return Ok(None);
+    };
+    table.apply(alloc, f.rule, graph, f.place)?;
+    Ok(Some(f))
+}
+
+/// Fires until the budget is spent or there is no candidate, and says what fired. Where there is no
+/// memory it fails, and the graph is given up.
+pub fn rewrite<T: Rules>(
+    alloc: Global,
+    table: &T,
+    graph: Graph,
+    plan: &Plan,
+) -> Result<(Graph, Trace), OutOfMemory>
+    requires { WellFormed graph }
+    ensures { IfOk result (λ r. Traces (T.pairs table.now) (T.may table.now) (T.act table.now) plan.now graph r.1 r.0) }
+{
+    let mut graph = graph;
+    let mut trace = Trace::new(alloc);
+    for count in 0..plan.budget {
+        let Some(f) = step(alloc, table, &mut graph, plan, count)? else {
+            return Ok((graph, trace));
+        };
+        trace.push(f)?;
+    }
+    Ok((graph, trace))
+}
