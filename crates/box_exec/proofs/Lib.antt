@@ -7,3 +7,9 @@ mod Quantifiers
 mod Names
 mod Entries
 mod Roots
+mod Stand
+mod Marks
+mod Tails
+mod Closed
+mod Counting
+mod Totals

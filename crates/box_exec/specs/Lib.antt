@@ -10,3 +10,4 @@ pub mod Ready
 pub mod Plans
 pub mod Beyond
 pub mod Kept
+pub mod Closed

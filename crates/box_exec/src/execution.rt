@@ -1,8 +1,10 @@
 // The execution of a graph.
-ghost use Rattle.std.specs.Prelude.{◌≡◌, ◌≤◌, ◌-◌, IfOk, min};
+ghost use Rattle.std.specs.Prelude.{◌≡◌, ◌≤◌, ◌+◌, ◌-◌, IfOk, min};
+ghost use Rattle.box_exec.specs.Closed.{AllClosed, NamesBound, closed_number, reached_number};
 ghost use Rattle.box_exec.specs.Kept.{Took};
 ghost use Rattle.box_exec.specs.Ready.{AllFit};
 ghost use Rattle.qgm_meaning.specs.Meaning.{root_bag};
+ghost use Rattle.qgm_meaning.specs.Plain.{plain};
 ghost use Rattle.row_bag.specs.Bags.{Agree};
 ghost use Rattle.row_bag.specs.Sets.{same_cells};
 
@@ -33,6 +35,9 @@ pub fn execute<L: Ledger>(
     ensures counted { IfOk result (λ r. r.1 ≡ min (steps.new - steps.old) 18446744073709551615) }
     ensures never_less { steps.old ≤ steps.new }
     ensures took { IfOk result (λ r. Took tables.now graph.now steps.old steps.new) }
+    ensures exact { IfOk result (λ r. NamesBound graph.now → AllClosed graph.now → steps.new ≡ steps.old + reached_number graph.now) }
+    ensures at_least_closed { IfOk result (λ r. NamesBound graph.now → steps.old + closed_number graph.now ≤ steps.new) }
+    ensures at_most_plain { IfOk result (λ r. NamesBound graph.now → steps.new ≤ steps.old + plain tables.now graph.now) }
 {
     let nodes = graph.nodes();
     let root = graph.root();

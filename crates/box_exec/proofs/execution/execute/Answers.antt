@@ -1,6 +1,7 @@
 use Rattle.std.proofs.Common.{sym, ◌∙◌, subst}
 use Rattle.box_exec.proofs.Roots.{root-behind, root-fit, root-none, root-rows, root-there, root-took}
 use Rattle.box_exec.specs.Costs.{Keeps}
+use Rattle.box_exec.proofs.Totals.{took-exactly, took-within}
 use Rattle.box_exec.proofs.execution.execute.Goals as goal
 
 pub returns-in_default-clause-rows : goal.returns-in_default-clause-rows
@@ -29,3 +30,21 @@ returns-clause-took g c = λ has kept how.
     (sym c.place_of.ensures ∙ c.in-Some.is) c.index-nodes-i.is c.behind-below.ensures (c.deref.ensures.value ∙ c.in_ok-marks.ensures) how in
     found.1 c.args.steps.now c.memo_of.new.steps c.evaluated.new.steps (c.in_ok-memo.ensures.took kept found.0)
     (c.in_ok-rows.ensures.took kept (subst (λ (m : _). Keeps m kept c.behind-below.result.now) (sym c.deref-2.ensures.value) (c.in_ok-memo.ensures.keeps kept found.0)))
+
+pub returns-in_default-clause-exact : goal.returns-in_default-clause-exact
+returns-in_default-clause-exact g c = λ w all. took-exactly c.args.tables.now c.args.graph.now w all c.args.steps.now c.args.steps.now (returns-in_default-clause-took g c)
+
+pub returns-in_default-clause-at_least_closed : goal.returns-in_default-clause-at_least_closed
+returns-in_default-clause-at_least_closed g c = λ w. (took-within c.args.tables.now c.args.graph.now w c.args.steps.now c.args.steps.now (returns-in_default-clause-took g c)).0
+
+pub returns-in_default-clause-at_most_plain : goal.returns-in_default-clause-at_most_plain
+returns-in_default-clause-at_most_plain g c = λ w. (took-within c.args.tables.now c.args.graph.now w c.args.steps.now c.args.steps.now (returns-in_default-clause-took g c)).1
+
+pub returns-clause-exact : goal.returns-clause-exact
+returns-clause-exact g c = λ w all. took-exactly c.args.tables.now c.args.graph.now w all c.args.steps.now c.evaluated.new.steps (returns-clause-took g c)
+
+pub returns-clause-at_least_closed : goal.returns-clause-at_least_closed
+returns-clause-at_least_closed g c = λ w. (took-within c.args.tables.now c.args.graph.now w c.args.steps.now c.evaluated.new.steps (returns-clause-took g c)).0
+
+pub returns-clause-at_most_plain : goal.returns-clause-at_most_plain
+returns-clause-at_most_plain g c = λ w. (took-within c.args.tables.now c.args.graph.now w c.args.steps.now c.evaluated.new.steps (returns-clause-took g c)).1

@@ -1,0 +1,180 @@
+-- What stands in lists.
+use Rattle.std.proofs.Common.{ℕ, ◌==◌, ◌≡◌, ◌||◌, ◌+◌, ◌≤◌, cond, nat_lt, Bool, true, false, List, [], ◌∷◌, ◌++◌, map, filter, refl, sym, ap, subst, ◌∙◌, eqb-true, ◌⊎◌, inl, inr, arith}
+use Rattle.std.specs.List.{list_any, list_all, flat_map}
+use Rattle.std.proofs.lemmas.Bool.{and_parts, or_cases, cases_Bool, eq-eqb}
+use Rattle.qgm_core.specs.Free.{put_each, put_once}
+use Rattle.qgm_core.specs.Lists.{In, holds, times}
+
+pub clash : (b : Bool) → b ≡ true → b ≡ false → ⊥
+clash b t f = let z : true ≡ false = sym t ∙ f in let w : ⊥ = cc in w
+
+pub or-left : (a b : Bool) → a ≡ true → (a || b) ≡ true
+or-left true b h = refl
+or-left false b h = absurd (let z : ⊥ = cc in z)
+
+pub or-right : (a b : Bool) → b ≡ true → (a || b) ≡ true
+or-right true b h = refl
+or-right false b h = h
+
+pub or-both : (a b : Bool) → a ≡ false → b ≡ false → (a || b) ≡ false
+or-both true b h k = absurd (let z : ⊥ = cc in z)
+or-both false b h k = k
+
+pub any-in : {X : Type 0} (p : X → Bool) (xs : List X) → list_any p xs ≡ true → (x : X) × (In x xs × (p x ≡ true))
+any-in p [] h = absurd (let z : ⊥ = cc in z)
+any-in p (x ∷ xs) h = elim (or_cases (p x) (list_any p xs) h) [
+  | inl t ↦ (x, (inl refl, t))
+  | inr t ↦ (let r = any-in p xs t in (r.0, (inr r.1.0, r.1.1)))
+]
+
+pub any-from : {X : Type 0} (p : X → Bool) (x : X) (xs : List X) → In x xs → p x ≡ true → list_any p xs ≡ true
+any-from p x [] i h = elim i [ ]
+any-from p x (y ∷ xs) i h = elim i [
+  | inl e ↦ or-left (p y) (list_any p xs) (subst (λ z. p z ≡ true) (sym e) h)
+  | inr j ↦ or-right (p y) (list_any p xs) (any-from p x xs j h)
+]
+
+pub any-none : {X : Type 0} (p : X → Bool) (x : X) (xs : List X) → list_any p xs ≡ false → In x xs → p x ≡ false
+any-none p x xs n i = elim (cases_Bool (p x)) [ inl t ↦ absurd (clash (list_any p xs) (any-from p x xs i t) n) | inr f ↦ f ]
+
+pub any-not : {X : Type 0} (p : X → Bool) (xs : List X) → ((x : X) → In x xs → p x ≡ false) → list_any p xs ≡ false
+any-not p [] h = refl
+any-not p (x ∷ xs) h = or-both (p x) (list_any p xs) (h x (inl refl)) (any-not p xs (λ y i. h y (inr i)))
+
+pub all-in : {X : Type 0} (p : X → Bool) (x : X) (xs : List X) → list_all p xs ≡ true → In x xs → p x ≡ true
+all-in p x [] h i = elim i [ ]
+all-in p x (y ∷ xs) h i =
+    let ps = and_parts (p y) (list_all p xs) h in
+    elim i [
+      | inl e ↦ subst (λ z. p z ≡ true) e ps.0
+      | inr j ↦ all-in p x xs ps.1 j
+    ]
+
+pub eq-itself : (q : ℕ) → (q == q) ≡ true
+eq-itself q = eq-eqb q q refl
+
+pub holds-in : (b : ℕ) (ms : List ℕ) → holds b ms ≡ true → In b ms
+holds-in b ms h = let x = any-in (λ m. m == b) ms h in subst (λ z. In z ms) (eqb-true x.0 b x.1.1) x.1.0
+
+pub in-holds : (b : ℕ) (ms : List ℕ) → In b ms → holds b ms ≡ true
+in-holds b ms i = any-from (λ m. m == b) b ms i (eq-itself b)
+
+pub in-left : {X : Type 0} (x : X) (xs ys : List X) → In x xs → In x (xs ++ ys)
+in-left x [] ys i = elim i [ ]
+in-left x (z ∷ xs) ys i = elim i [ inl e ↦ inl e | inr j ↦ inr (in-left x xs ys j) ]
+
+pub in-right : {X : Type 0} (x : X) (xs ys : List X) → In x ys → In x (xs ++ ys)
+in-right x [] ys i = i
+in-right x (z ∷ xs) ys i = inr (in-right x xs ys i)
+
+pub in-append : {X : Type 0} (x : X) (xs ys : List X) → In x (xs ++ ys) → In x xs ⊎ In x ys
+in-append x [] ys i = inr i
+in-append x (z ∷ xs) ys i = elim i [ inl e ↦ inl (inl e) | inr j ↦ elim (in-append x xs ys j) [ inl k ↦ inl (inr k) | inr k ↦ inr k ] ]
+
+pub in-map : {X Y : Type 0} (f : X → Y) (y : Y) (xs : List X) → In y (map f xs) → (x : X) × (In x xs × (f x ≡ y))
+in-map f y [] i = elim i [ ]
+in-map f y (x ∷ xs) i = elim i [ inl e ↦ (x, (inl refl, e)) | inr j ↦ (let r = in-map f y xs j in (r.0, (inr r.1.0, r.1.1))) ]
+
+pub map-in : {X Y : Type 0} (f : X → Y) (x : X) (xs : List X) → In x xs → In (f x) (map f xs)
+map-in f x [] i = elim i [ ]
+map-in f x (y ∷ xs) i = elim i [ inl e ↦ inl (ap f e) | inr j ↦ inr (map-in f x xs j) ]
+
+pub in-flat : {X Y : Type 0} (f : X → List Y) (y : Y) (xs : List X) → In y (flat_map f xs) → (x : X) × (In x xs × In y (f x))
+in-flat f y [] i = elim i [ ]
+in-flat f y (x ∷ xs) i = elim (in-append y (f x) (flat_map f xs) i) [
+  | inl j ↦ (x, (inl refl, j))
+  | inr j ↦ (let r = in-flat f y xs j in (r.0, (inr r.1.0, r.1.1)))
+]
+
+pub flat-in : {X Y : Type 0} (f : X → List Y) (x : X) (y : Y) (xs : List X) → In x xs → In y (f x) → In y (flat_map f xs)
+flat-in f x y [] i j = elim i [ ]
+flat-in f x y (z ∷ xs) i j = elim i [
+  | inl e ↦ in-left y (f z) (flat_map f xs) (subst (λ w. In y (f w)) (sym e) j)
+  | inr k ↦ in-right y (f z) (flat_map f xs) (flat-in f x y xs k j)
+]
+
+pub in-filter : {X : Type 0} (p : X → Bool) (x : X) (xs : List X) → In x (filter p xs) → In x xs × (p x ≡ true)
+in-filter p x [] i = elim i [ ]
+in-filter p x (y ∷ xs) i = elim (p y) as (λ t. p y ≡ t → In x (cond t (y ∷ filter p xs) (filter p xs)) → In x (y ∷ xs) × (p x ≡ true)) [
+  | true ↦ λ t i. elim i [ inl e ↦ (inl e, subst (λ z. p z ≡ true) e t) | inr j ↦ (let r = in-filter p x xs j in (inr r.0, r.1)) ]
+  | false ↦ λ t i. (let r = in-filter p x xs i in (inr r.0, r.1))
+] refl i
+
+pub filter-in : {X : Type 0} (p : X → Bool) (x : X) (xs : List X) → In x xs → p x ≡ true → In x (filter p xs)
+filter-in p x [] i k = elim i [ ]
+filter-in p x (y ∷ xs) i k = elim (p y) as (λ t. p y ≡ t → In x (cond t (y ∷ filter p xs) (filter p xs))) [
+  | true ↦ λ t. elim i [ inl e ↦ inl e | inr j ↦ inr (filter-in p x xs j k) ]
+  | false ↦ λ t. elim i [ inl e ↦ absurd (clash (p x) k (subst (λ z. p z ≡ false) e t)) | inr j ↦ filter-in p x xs j k ]
+] refl
+
+pub in-once : (x q : ℕ) (rs : List ℕ) → In x (put_once q rs) → (q ≡ x) ⊎ In x rs
+in-once x q [] i = i
+in-once x q (r ∷ rs) i = elim (nat_lt q r) as (λ t. In x (cond t (q ∷ (r ∷ rs)) (cond (r == q) (r ∷ rs) (r ∷ put_once q rs))) → (q ≡ x) ⊎ In x (r ∷ rs)) [
+  | true ↦ λ i. i
+  | false ↦ elim (r == q) as (λ t. In x (cond t (r ∷ rs) (r ∷ put_once q rs)) → (q ≡ x) ⊎ In x (r ∷ rs)) [
+    | true ↦ λ i. inr i
+    | false ↦ λ i. elim i [ inl e ↦ inr (inl e) | inr j ↦ elim (in-once x q rs j) [ inl e ↦ inl e | inr k ↦ inr (inr k) ] ]
+  ]
+] i
+
+once-in : (x q : ℕ) (rs : List ℕ) → (q ≡ x) ⊎ In x rs → In x (put_once q rs)
+once-in x q [] i = i
+once-in x q (r ∷ rs) i = elim (nat_lt q r) as (λ t. In x (cond t (q ∷ (r ∷ rs)) (cond (r == q) (r ∷ rs) (r ∷ put_once q rs)))) [
+  | true ↦ i
+  | false ↦ elim (r == q) as (λ t. (r == q) ≡ t → In x (cond t (r ∷ rs) (r ∷ put_once q rs))) [
+    | true ↦ λ t. elim i [ inl e ↦ inl (eqb-true r q t ∙ e) | inr j ↦ j ]
+    | false ↦ λ t. elim i [ inl e ↦ inr (once-in x q rs (inl e)) | inr j ↦ elim j [ inl e ↦ inl e | inr k ↦ inr (once-in x q rs (inr k)) ] ]
+  ] refl
+]
+
+pub in-each : (x : ℕ) (out qs : List ℕ) → In x (put_each out qs) → In x out ⊎ In x qs
+in-each x out [] i = inl i
+in-each x out (q ∷ qs) i = elim (in-each x (put_once q out) qs i) [
+  | inl j ↦ elim (in-once x q out j) [ inl e ↦ inr (inl e) | inr k ↦ inl k ]
+  | inr j ↦ inr (inr j)
+]
+
+pub each-in : (x : ℕ) (out qs : List ℕ) → In x out ⊎ In x qs → In x (put_each out qs)
+each-in x out [] i = elim i [ inl j ↦ j | inr z ↦ elim z [ ] ]
+each-in x out (q ∷ qs) i = each-in x (put_once q out) qs (elim i [
+  | inl j ↦ inl (once-in x q out (inr j))
+  | inr j ↦ elim j [ inl e ↦ inl (once-in x q out (inl e)) | inr k ↦ inr k ]
+])
+
+pub times-append : (x : ℕ) (xs ys : List ℕ) → times x (xs ++ ys) ≡ times x xs + times x ys
+times-append x [] ys = omega arith
+times-append x (z ∷ xs) ys = rw (times-append x xs ys) (omega arith)
+
+pub times-in : {X : Type 0} (f : X → List ℕ) (x : ℕ) (n : X) (ns : List X) → In n ns → times x (f n) ≤ times x (flat_map f ns)
+times-in f x n [] i = elim i [ ]
+times-in f x n (m ∷ ns) i =
+    let s = times-append x (f m) (flat_map f ns) in
+    elim i [
+      | inl e ↦ (let g : times x (f m) ≡ times x (f n) = ap (λ z. times x (f z)) e in omega arith)
+      | inr j ↦ (let h = times-in f x n ns j in omega arith)
+    ]
+
+pub times-once : {X : Type 0} (f : X → List ℕ) (x : ℕ) (n m : X) (ns : List X) → times x (flat_map f ns) ≤ 1 → In n ns → In m ns → 1 ≤ times x (f n) → 1 ≤ times x (f m) → n ≡ m
+times-once f x n m [] o i j h k = elim i [ ]
+times-once f x n m (y ∷ ns) o i j h k =
+    let s = times-append x (f y) (flat_map f ns) in
+    elim i [
+      | inl p ↦ elim j [
+        | inl q ↦ sym p ∙ q
+        | inr l ↦ absurd (let a = times-in f x m ns l in let b : times x (f y) ≡ times x (f n) = ap (λ z. times x (f z)) p in omega arith)
+      ]
+      | inr l ↦ elim j [
+        | inl q ↦ absurd (let a = times-in f x n ns l in let b : times x (f y) ≡ times x (f m) = ap (λ z. times x (f z)) q in omega arith)
+        | inr u ↦ times-once f x n m ns (omega arith) l u h k
+      ]
+    ]
+
+pub in-times : {X : Type 0} (f : X → ℕ) (r : X) (rs : List X) → In r rs → 1 ≤ times (f r) (map f rs)
+in-times f r [] i = elim i [ ]
+in-times f r (s ∷ rs) i = elim i [
+  | inl e ↦ (let t : (f s == f r) ≡ true = subst (λ z. (f s == f z) ≡ true) e (eq-itself (f s)) in rw t (omega arith))
+  | inr j ↦ (let h = in-times f r rs j in omega arith)
+]
+
+pub other : (P : ℕ → Bool) (p r : ℕ) → P p ≡ false → P r ≡ true → (p == r) ≡ false
+other P p r n y = elim (cases_Bool (p == r)) [ inl t ↦ absurd (let same : p ≡ r = eqb-true p r t in let x : P r ≡ false = subst (λ z. P z ≡ false) same n in let z : true ≡ false = sym y ∙ x in let w : ⊥ = cc in w) | inr f ↦ f ]

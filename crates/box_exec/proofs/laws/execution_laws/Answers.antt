@@ -1,0 +1,9 @@
+use Rattle.box_exec.proofs.Closed.{closed-alike}
+use Rattle.box_exec.proofs.Totals.{plain-of-closed}
+use Rattle.box_exec.proofs.laws.execution_laws.Goals as goal
+
+pub returns-clause-closed : goal.returns-clause-closed
+returns-clause-closed c = closed-alike
+
+pub returns-clause-plain : goal.returns-clause-plain
+returns-clause-plain c = plain-of-closed
