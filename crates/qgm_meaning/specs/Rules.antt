@@ -1,14 +1,11 @@
 -- What two rules stand on: the bags that a box gives before and after.
-use Rattle.std.specs.Prelude.{ℕ, suc, ◌≡◌, ◌≤◌, ◌++◌, ◌⊎◌, true, false, List, [], ◌∷◌, map, take, length, Some, None}
+use Rattle.std.specs.Prelude.{ℕ, ◌≡◌, ◌++◌, true, false, List, [], ◌∷◌, map, Some}
 use Rattle.std.specs.List.{list_any}
 pub use Rattle.bag_laws.specs.Filters.{passing}
 use Rattle.row_bag.specs.Bags.{Agree, unit}
-use Rattle.row_bag.specs.Errors.{error_among, error_in}
 use Rattle.row_bag.specs.Sets.{same_cells}
 use Rattle.row_bag.specs.declared.tables.Table.{Table}
 use Rattle.sql_value.specs.declared.cell.Cell.{Cell}
-use Rattle.sql_value.specs.declared.level.Level.{Level}
-use Rattle.sql_value.specs.declared.level.Level.TheVariants.{No, Yes}
 use Rattle.qgm_core.specs.declared.kinds.QuantKind.{QuantKind}
 use Rattle.qgm_core.specs.declared.kinds.Distinct.{Distinct}
 use Rattle.qgm_core.specs.declared.parts.BoxParts.{BoxParts}
@@ -19,13 +16,13 @@ use Rattle.qgm_core.specs.declared.kinds.BoxKind.TheVariants.{Select}
 use Rattle.qgm_core.specs.declared.kinds.Distinct.TheVariants.{Enforce}
 use Rattle.qgm_core.specs.Boxes.{QueryGraph, Ordered, box_of, has_box, is_quant}
 use Rattle.qgm_meaning.specs.Replace.{replace}
-use Rattle.qgm_meaning.specs.Meaning.{Family, bag, grouped_rows, key_cells, rows_by}
+use Rattle.qgm_meaning.specs.Meaning.{Family, bag, rows_by}
 use Rattle.qgm_meaning.specs.Fits.{fits}
 use Rattle.qgm_meaning.specs.Scope.{loose}
 use Rattle.qgm_terms.specs.Terms.{Term, Cond, some}
 use Rattle.qgm_meaning.specs.Searches.{as_column, as_column_cond, binds, binds_cond}
 use Rattle.qgm_terms.specs.Wanted.{reads, reads_cond}
-use Rattle.qgm_meaning.specs.Values.{Bag, Environment, bound}
+use Rattle.qgm_meaning.specs.Values.{Environment, bound}
 
 -- a select with these conditions, head and quantifiers, of what else p has
 abbrev pub selecting : ℕ → BoxParts → Distinct → List Cond → List Term → List OwnedQuant → Node
@@ -50,16 +47,6 @@ Joins =
     → Agree same_cells
     (rows_by Select tables (selecting b p Enforce (xs ++ some i c ∷ ys) head (us ++ as_E i over ∷ vs)) s env)
     (rows_by Select tables (selecting b p Enforce (xs ++ c ∷ ys) head ((us ++ vs) ++ as_F i over ∷ [])) s env)
-
--- P2: what passes by its key, without errors, may pass before the grouping
-abbrev pub Passes : Type 0
-Passes =
-    (k : ℕ) (head : List Term) (q : ℕ) (env : Environment) (rows : Bag) (level : List Cell → Level)
-    → ((key : List Cell) → (level key ≡ Yes) ⊎ (level key ≡ No)) → suc k ≤ length head
-    → error_among (λ cells. error_in (key_cells (suc k) head q env cells)) rows ≡ None
-    → Agree same_cells
-    (passing (λ cells. level (take (suc k) cells)) (grouped_rows (suc k) head q env rows))
-    (grouped_rows (suc k) head q env (passing (λ cells. level (key_cells (suc k) head q env cells)) rows))
 
 -- ---- U1 on a graph
 

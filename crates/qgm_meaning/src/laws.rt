@@ -3,7 +3,7 @@ ghost use Rattle.qgm_meaning.specs.AsSets.{OnlyAgreeAs, ReadsWhatItSees, Replace
 ghost use Rattle.qgm_meaning.specs.Examples.{Computed, Counted, Looses};
 ghost use Rattle.qgm_meaning.specs.Exists.{ExistsJoinsAsSet, ExistsJoinsOfOne, JoinsLevels, JoinsOfOne};
 ghost use Rattle.qgm_meaning.specs.Fits.{Hereditary};
-ghost use Rattle.qgm_meaning.specs.Rules.{ExistsJoins, Joins, Passes, ScalarJoins};
+ghost use Rattle.qgm_meaning.specs.Rules.{ExistsJoins, Joins, ScalarJoins};
 ghost use Rattle.qgm_meaning.specs.Merging.{GivenMerged};
 ghost use Rattle.qgm_meaning.specs.Filters.{GroupsPass, OuterPasses, SetsPass};
 ghost use Rattle.qgm_meaning.specs.Keys.{DistinctGoes, DistinctPermitted};
@@ -43,13 +43,12 @@ pub fn examples()
     ensures met { Met }
 {}
 
-/// What rules of different classes stand on: EXISTS under DISTINCT as a join, a scalar of one clean row
-/// as a join, and a filter that goes through a group. It does nothing.
+/// What rules that turn subqueries into joins stand on: EXISTS under DISTINCT, or over at most one row, as
+/// a join, and a scalar of one clean row as a join. It does nothing.
 pub fn rule_laws()
     ensures joins { Joins }
     ensures joins_levels { JoinsLevels }
     ensures joins_of_one { JoinsOfOne }
-    ensures passes { Passes }
     ensures exists_joins { ExistsJoins }
     ensures exists_joins_of_one { ExistsJoinsOfOne }
     ensures exists_joins_as_set { ExistsJoinsAsSet }

@@ -5,14 +5,10 @@ use Rattle.qgm_meaning.proofs.ExistsJoined.{exists-joined}
 use Rattle.qgm_meaning.proofs.ExistsOfOne.{exists-joins_as_set, exists-joins_of_one}
 use Rattle.qgm_meaning.proofs.ScalarJoined.{scalar-joined}
 use Rattle.qgm_meaning.proofs.Joined.{joined}
-use Rattle.qgm_meaning.proofs.Passed.{passes}
 use Rattle.qgm_meaning.proofs.laws.rule_laws.Goals as goal
 
 pub returns-clause-joins : goal.returns-clause-joins
 returns-clause-joins c = λ tables s b parts us vs i over xs ys p head env h hx hy free. agree-from_alike same_cells (joined s i xs ys p head free h hx hy us vs over env)
-
-pub returns-clause-passes : goal.returns-clause-passes
-returns-clause-passes c = λ k head q env rows level plain long none. agree-from_alike same_cells (passes k head q env rows level plain long none)
 
 pub returns-clause-exists_joins : goal.returns-clause-exists_joins
 returns-clause-exists_joins c = λ tables g b parts us i over vs xs p ys head o held hu hv away x hx env. exists-joined tables g b parts us i over vs xs p ys head o held hu hv away x hx env
