@@ -1,0 +1,7 @@
+mod Rows
+mod Counted
+mod Cells
+mod Terms
+mod Environments
+mod Selects
+mod HeldBases

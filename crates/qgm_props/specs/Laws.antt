@@ -1,0 +1,32 @@
+-- What is inferred holds.
+use Rattle.std.specs.Prelude.{ℕ, ◌≡◌, true, List, Some}
+use Rattle.row_bag.specs.declared.tables.Table.{Table}
+use Rattle.qgm_core.specs.Boxes.{Ordered, ids_of, owns, range_in}
+use Rattle.qgm_core.specs.Lists.{EachOnce, In, first}
+use Rattle.qgm_core.specs.declared.node.Node.{Node}
+use Rattle.qgm_core.specs.declared.owned.OwnedQuant.{OwnedQuant}
+use Rattle.qgm_meaning.specs.Widths.{Even}
+use Rattle.qgm_props.specs.Bases.{Satisfies}
+use Rattle.qgm_props.specs.Facts.{IsKey}
+use Rattle.qgm_props.specs.Holding.{Holds, OfRows}
+use Rattle.qgm_props.specs.Inferred.{Fact, after, at_most_one, says}
+use Rattle.qgm_props.specs.Keys.{holds_key}
+
+-- over tables that satisfy the bases, in boxes by rank
+pub record Premises (tables : List Table) (ns : List Node) : Type 0 where
+  pub bases : Satisfies tables ns
+  pub ordered : Ordered ns
+  -- no two quantifiers of a box have one number, and by its number each is found among all
+  pub apart : (n : Node) → In n ns → EachOnce (ids_of n)
+  pub found : (n : Node) (r : OwnedQuant) → In n ns → In r n.quants → range_in r.id (first (owns r.id) ns) ≡ Some r
+  pub even : Even ns
+
+-- what is inferred in so many rounds holds
+abbrev pub InferredHolds : Type 0
+InferredHolds = (tables : List Table) (ns : List Node) → Premises tables ns → (rounds : ℕ) (fact : Fact) → says (after ns rounds) fact ≡ true → Holds tables ns fact
+
+-- so do keys
+abbrev pub KeysHold : Type 0
+KeysHold =
+    (tables : List Table) (ns : List Node) → Premises tables ns → (rounds : ℕ) (b : ℕ) (ks : List ℕ)
+    → holds_key (λ c. says (after ns rounds) (at_most_one c)) ns b ks ≡ true → OfRows tables ns b (IsKey ks)

@@ -1,0 +1,6 @@
+pub mod Facts
+pub mod Bases
+pub mod Inferred
+pub mod Keys
+pub mod Holding
+pub mod Laws
