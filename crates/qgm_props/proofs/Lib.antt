@@ -5,3 +5,10 @@ mod Terms
 mod Environments
 mod Selects
 mod HeldBases
+mod Folds
+mod HeldGroups
+mod HeldSets
+mod HeldOuters
+mod Wide
+mod Held
+mod Step

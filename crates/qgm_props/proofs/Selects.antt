@@ -142,7 +142,7 @@ module _ (tables : List Table) (ns : List Node) (known : Facts) (given' : Premis
 
     -- ---- columns that hold no null
 
-    value-filled : (rows : ℕ → Bag) (x : Term) (env : Environment) → Fitting (bag_in tables ns) ns env → ((q : ℕ) → reads q x ≡ true → is_bound q env ≡ true) → holds_value ns known x ≡ true → value rows x env ≢ Null
+    pub value-filled : (rows : ℕ → Bag) (x : Term) (env : Environment) → Fitting (bag_in tables ns) ns env → ((q : ℕ) → reads q x ≡ true → is_bound q env ≡ true) → holds_value ns known x ≡ true → value rows x env ≢ Null
     value-filled rows (int z) env f b h = λ e. let w : ⊥ = cc in w
     value-filled rows (text t) env f b h = λ e. let w : ⊥ = cc in w
     value-filled rows null_int env f b h = absurd (let w : ⊥ = cc in w)

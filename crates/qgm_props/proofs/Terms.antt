@@ -132,7 +132,7 @@ pub record SoundRows (boxes : List Node) (known : Facts) (rows : ℕ → Bag) : 
 
 module _ (boxes : List Node) (known : Facts) (rows : ℕ → Bag) (sound : SoundRows boxes known rows) where
   -- a quantifier bound to one of its rows
-  sound-bound : (q : ℕ) (cells : List Cell) (env : Environment) → SoundColumns boxes known env → occurs cells (rows q) ≡ true → SoundColumns boxes known (bound q cells env)
+  pub sound-bound : (q : ℕ) (cells : List Cell) (env : Environment) → SoundColumns boxes known env → occurs cells (rows q) ≡ true → SoundColumns boxes known (bound q cells env)
   sound-bound q cells env h o p k e = one (q == p) refl
     where
       one : (b : Bool) → (q == p) ≡ b → is_sound (cell_of k (cond b cells (row_of p env))) ≡ true

@@ -261,7 +261,7 @@ module _ (boxes : List Node) (known : Facts) where
   abbrev pub exactly_one_by : BoxKind → Node → Bool
   exactly_one_by (Base table) n = false
   exactly_one_by Select n = all_under_F known.exactly_one n.quants && no_cond n.parts.conds.items
-  exactly_one_by (Group k) n = k == 0
+  exactly_one_by (Group k) n = (k == 0) && under_first (λ b. true) n.quants
   exactly_one_by (SetOp form types) n = false
   exactly_one_by OuterJoin n = under_first known.exactly_one n.quants && under_second known.at_most_one n.quants
 
