@@ -131,7 +131,7 @@ module _ (n : Node) (below : Family) (look : ℕ → ℕ → Bool) (f : (b : ℕ
   abbrev s : Family
   s = quant_rows n below
 
-  quant-framed : (x : ℕ) (d e : Environment) → SameRows (quant_looks n look x) d e → s x d ≡ s x e
+  pub quant-framed : (x : ℕ) (d e : Environment) → SameRows (quant_looks n look x) d e → s x d ≡ s x e
   quant-framed x d e h = found-framed (first (is_quant x) n.quants) below look (λ b. f b d e) h
 
   pub any-framed : (x : ℕ) (d e : Environment) → SameRows (under_any n.quants look) d e → s x d ≡ s x e

@@ -107,7 +107,7 @@ with-last : (passes : Environment → Bool) (f : Family) (us : List OwnedQuant) 
 with-last passes f [] r h k = k
 with-last passes f (u ∷ us) r h k = (h.0, with-last passes f us r h.1 k)
 
-stays-of : (passes : Environment → Bool) (f : Family) (ns : List Node) (b : ℕ) (n : Node) → AllStay passes f ns → first (is_box b) ns ≡ Some n → Stays passes (quant_rows n f) n.quants
+pub stays-of : (passes : Environment → Bool) (f : Family) (ns : List Node) (b : ℕ) (n : Node) → AllStay passes f ns → first (is_box b) ns ≡ Some n → Stays passes (quant_rows n f) n.quants
 stays-of passes f [] b n st h = absurd (let z : ⊥ = cc in z)
 stays-of passes f (m ∷ ns) b n st h =
     elim (m.id == b) as (λ t. ◌≡◌ {A = Option Node} (cond t (Some m) (first (is_box b) ns)) (Some n) → Stays passes (quant_rows n f) n.quants) [

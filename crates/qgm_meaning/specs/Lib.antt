@@ -6,10 +6,17 @@ pub mod Meaning
 pub mod Scope
 pub mod Replace
 pub mod Laws
+pub mod AsSets
 pub mod Fits
 pub mod Plain
 pub mod Examples
 pub mod Rules
 pub mod Merging
 pub mod Uses
+pub mod Keys
+pub mod Filters
+pub mod Tags
+pub mod Quantifiers
 pub mod Widths
+pub mod Satisfies
+pub mod WordExamples

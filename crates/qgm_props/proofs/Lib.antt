@@ -12,3 +12,4 @@ mod HeldOuters
 mod Wide
 mod Held
 mod Step
+mod NoTwo

@@ -88,7 +88,7 @@ occurs-each P (r ∷ rows) h c o = elim (or_cases (same_cells r.cells c && is_th
 
 -- ---- keep, bind
 
-there-kept : (l : Level) (r : Row (List Cell)) → is_there (row r.cells (least l r.level)) ≡ true → (there_at l ≡ true) × (is_there r ≡ true)
+pub there-kept : (l : Level) (r : Row (List Cell)) → is_there (row r.cells (least l r.level)) ≡ true → (there_at l ≡ true) × (is_there r ≡ true)
 there-kept l r t =
     let p = and_parts (there_at l) (there_at r.level) (sym (least-there l r.level) ∙ sym (there-is r.cells (least l r.level)) ∙ t) in (p.0, there-is r.cells r.level ∙ p.1)
 

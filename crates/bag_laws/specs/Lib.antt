@@ -1,0 +1,4 @@
+pub mod AsSets
+pub mod Filters
+pub mod Keys
+pub mod Tags
