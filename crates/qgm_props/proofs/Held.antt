@@ -37,7 +37,7 @@ use Rattle.qgm_meaning.specs.Widths.{Wide}
 use Rattle.qgm_meaning.proofs.Frames.{either-left, either-right}
 use Rattle.qgm_terms.specs.Wanted.{reads, reads_cond}
 use Rattle.qgm_terms.specs.Terms.{Term, int, text, null_int, null_text, col, scalar, both, minus_of, choose, count_all, fold, Cond}
-use Rattle.qgm_props.specs.Bases.{SatisfiesBy}
+use Rattle.qgm_meaning.specs.Satisfies.{SatisfiesBy}
 use Rattle.qgm_props.specs.Facts.{EachThere, HasAtMostOne, HasExactlyOne, IsClean, IsErrorFree, IsNotNull, is_sound}
 use Rattle.qgm_props.specs.Holding.{AllBound, Fitting, HasRow, Holds, is_bound}
 use Rattle.qgm_props.specs.Inferred.{Fact, Facts, all_under_F, arms_error_free, at_most_one, at_most_one_by, at_place, clean, clean_by, clean_op, cond_free, counts, error_free, exactly_one, exactly_one_by, free_by, free_op, holds_left, holds_value, is_count, is_free, no_cond, not_null, not_null_by, not_null_under, says, under_first, under_second, under_two}

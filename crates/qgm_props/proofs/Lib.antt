@@ -13,3 +13,5 @@ mod Wide
 mod Held
 mod Step
 mod NoTwo
+mod Keys
+mod Keyed

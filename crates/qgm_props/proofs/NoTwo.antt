@@ -15,12 +15,16 @@ use Rattle.sql_value.specs.declared.level.Level.TheVariants.{No, Cardinality, Di
 use Rattle.qgm_meaning.specs.Laws.{occurs}
 use Rattle.qgm_meaning.specs.Values.{Bag}
 use Rattle.qgm_meaning.proofs.Frames.{either-left, either-right}
-use Rattle.qgm_props.specs.Facts.{NoTwo}
 use Rattle.qgm_props.proofs.Counted.{counted, flag, occurs-once}
 use Rattle.qgm_props.proofs.Rows.{each-bind, each-occurs, least-there, occurs-each, occurs-here, occurs-more, there-is, there-kept, there_at}
 
 abbrev pub Test : Type 0
 Test = List Cell → List Cell → Bool
+
+-- no two rows that are there pass
+abbrev pub NoTwo : Test → Bag → Type 0
+NoTwo test [] = Unit {0}
+NoTwo test (r ∷ rows) = (is_there r ≡ true → list_any (λ s. is_there s && test r.cells s.cells) rows ≡ false) × NoTwo test rows
 
 -- no tuple of these rows passes with this one
 abbrev pub Apart : Test → List Cell → Bag → Type 0
@@ -46,7 +50,7 @@ any-passes t a (r ∷ rows) h c o = elim (or_cases (same_cells r.cells c && is_t
     rest true z h = absurd (let w : ⊥ = cc in w)
     rest false z h = h
 
-passes-none : (t : Test) (a : List Cell) (rows : Bag) → Apart t a rows → list_any (λ s. is_there s && t a s.cells) rows ≡ false
+pub passes-none : (t : Test) (a : List Cell) (rows : Bag) → Apart t a rows → list_any (λ s. is_there s && t a s.cells) rows ≡ false
 passes-none t a [] h = refl
 passes-none t a (r ∷ rows) h = both (is_there r && t a r.cells) (list_any (λ s. is_there s && t a s.cells) rows) (one (is_there r) refl) (passes-none t a rows (λ c o. h c (occurs-more c r rows o)))
   where

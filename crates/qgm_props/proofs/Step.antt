@@ -4,6 +4,7 @@ use Rattle.std.proofs.lemmas.Bool.{and_parts, or_cases}
 use Rattle.std.specs.List.{list_all}
 use Rattle.row_bag.specs.Joins.{how_many}
 use Rattle.row_bag.specs.Order.{cell_of}
+use Rattle.row_bag.specs.Tables.{bag_named}
 use Rattle.row_bag.specs.declared.tables.Table.{Table}
 use Rattle.sql_value.specs.declared.cell.Cell.{Cell}
 use Rattle.sql_value.specs.declared.cell.Cell.TheVariants.{Null}
@@ -18,7 +19,7 @@ use Rattle.qgm_meaning.specs.Scope.{loose, loose_by, loose_of}
 use Rattle.qgm_meaning.specs.Values.{Bag, Environment}
 use Rattle.qgm_meaning.proofs.Unfold.{unfold-bag}
 use Rattle.qgm_meaning.proofs.Within.{loose-unfold}
-use Rattle.qgm_props.specs.Bases.{SatisfiesBy}
+use Rattle.qgm_meaning.specs.Satisfies.{SatisfiesBy}
 use Rattle.qgm_props.specs.Facts.{EachThere, HasAtMostOne, HasExactlyOne, IsClean, IsErrorFree, IsNotNull, is_sound}
 use Rattle.qgm_props.specs.Holding.{AllBound, Fitting, Holds, OfRows, is_bound}
 use Rattle.qgm_props.specs.Inferred.{Fact, Facts, after, all_under_F, at_most_one, at_most_one_by, clean, clean_by, cond_free, error_free, exactly_one, exactly_one_by, free_by, inferred_once, no_cond, not_null, not_null_by, of_box, says}
@@ -39,7 +40,7 @@ module _ (tables : List Table) (ns : List Node) (known : Facts) (given : Premise
     Bound kind = Looked tables ns known given all n here env fit kind
 
     held-clean : (kind : BoxKind) → n.parts.kind ≡ kind → SatisfiesBy kind tables → Bound kind → clean_by ns known kind n ≡ true → IsClean (rows-by kind)
-    held-clean (Base table) e b look h = base-clean table tables b
+    held-clean (Base table) e b look h = base-clean table (bag_named tables table.name) b
     held-clean Select e b look h =
         let a = and_parts (all_under_F known.clean n.quants) (list_all (cond_free ns known false) n.parts.conds.items) h in
         clean-if (is_enforce n.parts.distinct) (over_each n.quants (s tables ns known given all n here env fit) (given_by (s tables ns known given all n here env fit) n) env)
@@ -49,7 +50,7 @@ module _ (tables : List Table) (ns : List Node) (known : Facts) (given : Premise
     held-clean OuterJoin e b look h = clean-outer tables ns known given all n here env fit look h
 
     held-free : (kind : BoxKind) (k : ℕ) → SatisfiesBy kind tables → Bound kind → (known.clean n.id ≡ true → IsClean (rows-by kind)) → free_by ns known kind n k ≡ true → IsErrorFree k (rows-by kind)
-    held-free (Base table) k b look c h = base-free table tables b k
+    held-free (Base table) k b look c h = base-free table (bag_named tables table.name) k b
     held-free Select k b look c h =
         each-if (λ cells. is_sound (cell_of k cells) ≡ true) (is_enforce n.parts.distinct) (over_each n.quants (s tables ns known given all n here env fit) (given_by (s tables ns known given all n here env fit) n) env)
         (each-given tables ns known given all n here (λ cells. is_sound (cell_of k cells) ≡ true) n.quants env (ready tables ns known given all n here env fit look) (λ env r. cell-free tables ns known given all n here k h env r))
@@ -58,7 +59,7 @@ module _ (tables : List Table) (ns : List Node) (known : Facts) (given : Premise
     held-free OuterJoin k b look c h = free-outer tables ns known given all n here env fit k look h
 
     held-filled : (kind : BoxKind) (k : ℕ) → SatisfiesBy kind tables → Bound kind → not_null_by ns known kind n k ≡ true → IsNotNull k (rows-by kind)
-    held-filled (Base table) k b look h = base-filled table tables b k h
+    held-filled (Base table) k b look h = base-filled table (bag_named tables table.name) k b h
     held-filled Select k b look h =
         each-if (λ cells. cell_of k cells ≢ Null) (is_enforce n.parts.distinct) (over_each n.quants (s tables ns known given all n here env fit) (given_by (s tables ns known given all n here env fit) n) env)
         (each-given tables ns known given all n here (λ cells. cell_of k cells ≢ Null) n.quants env (ready tables ns known given all n here env fit look) (λ env r. cell-filled tables ns known given all n here k h env r))

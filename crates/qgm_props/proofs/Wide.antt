@@ -20,31 +20,10 @@ use Rattle.qgm_meaning.specs.Widths.{Arms, ArmsOf, Even, Filled, FilledBy, Wide,
 use Rattle.qgm_meaning.proofs.Frames.{either-right}
 use Rattle.qgm_meaning.proofs.Ranked.{apart}
 use Rattle.qgm_meaning.proofs.Widened.{wide-boxes}
-use Rattle.qgm_props.specs.Bases.{FitsRow, Satisfies, SatisfiesBy, are_of, is_of}
+use Rattle.qgm_meaning.specs.Satisfies.{Satisfies}
 use Rattle.qgm_props.specs.Facts.{Each}
 use Rattle.qgm_props.specs.Laws.{Premises}
-use Rattle.qgm_props.proofs.HeldBases.{stored-is}
-
-typed-long : (ts : List SqlType) (xs : List Cell) → are_of ts xs ≡ true → length xs ≡ length ts
-typed-long [] [] h = refl
-typed-long [] (x ∷ xs) h = absurd (let z : ⊥ = cc in z)
-typed-long (t ∷ ts) [] h = absurd (let z : ⊥ = cc in z)
-typed-long (t ∷ ts) (x ∷ xs) h = ap suc (typed-long ts xs (and_parts (is_of t x) (are_of ts xs) h).1)
-
-rows-wide : (table : BaseTable) (rows : Bag) → Each (FitsRow table) rows → Wide (length table.types) rows
-rows-wide table [] h = tt
-rows-wide table (r ∷ rows) h = (typed-long table.types r.cells h.0.types, rows-wide table rows h.1)
-
-filled-by : (kind : BoxKind) (tables : List Table) → SatisfiesBy kind tables → FilledBy kind tables
-filled-by (Base table) tables s = subst (Wide (length table.types)) (sym (stored-is table tables s)) (rows-wide table s.0 s.1.1.rows_fit)
-filled-by Select tables s = tt
-filled-by (Group k) tables s = tt
-filled-by (SetOp form types) tables s = tt
-filled-by OuterJoin tables s = tt
-
-pub filled-all : (tables : List Table) (ns : List Node) → Satisfies tables ns → Filled tables ns
-filled-all tables [] s = tt
-filled-all tables (n ∷ ns) s = (filled-by n.parts.kind tables s.0, filled-all tables ns s.1)
+use Rattle.qgm_meaning.proofs.Satisfying.{of-satisfying}
 
 over-in : (ns : List Node) (rs : List OwnedQuant) (r : OwnedQuant) → all_over ns rs ≡ true → In r rs → has_box ns r.over ≡ true
 over-in ns [] r h i = elim i [ ]
@@ -81,4 +60,4 @@ arms-wide (m ∷ ns) n form types r o e i k j = behind (elim i [
 pub arm-rows : (tables : List Table) (ns : List Node) → Premises tables ns → (n : Node) (form : SetOperator) (types : List SqlType) (r : OwnedQuant) → In n ns → n.parts.kind ≡ SetOp form types → In r n.quants
     → (env : Environment) → Wide (length types) (bag_in tables ns r.over env)
 arm-rows tables ns given n form types r i k j env =
-    subst (λ w. Wide w (bag_in tables ns r.over env)) (arms-wide ns n form types r given.ordered given.even i k j).1 (wide-boxes tables ns (filled-all tables ns given.bases) given.even r.over env)
+    subst (λ w. Wide w (bag_in tables ns r.over env)) (arms-wide ns n form types r given.ordered given.even i k j).1 (wide-boxes tables ns (of-satisfying.filled tables ns given.bases) given.even r.over env)

@@ -1,14 +1,11 @@
 -- What holds of the rows of a bag.
-use Rattle.std.specs.Prelude.{ℕ, ◌≡◌, ◌≢◌, ◌≤◌, ◌&&◌, Bool, true, false, List, [], ◌∷◌, None, ⊤}
-use Rattle.std.specs.List.{list_any, list_all}
-use Rattle.std.specs.Ordering.{is_eq}
+use Rattle.std.specs.Prelude.{ℕ, ◌≡◌, ◌≢◌, ◌≤◌, Bool, true, false, List, [], ◌∷◌, None, ⊤}
 use Rattle.row_bag.specs.Errors.{error_at}
 use Rattle.row_bag.specs.Joins.{how_many}
 use Rattle.row_bag.specs.Order.{cell_of}
 use Rattle.row_bag.specs.Verdict.{is_there}
 use Rattle.row_bag.specs.declared.row.Row.{Row}
 use Rattle.sql_value.specs.Arithmetic.{fits_i64}
-use Rattle.sql_value.specs.Cells.{cell_compare}
 use Rattle.sql_value.specs.declared.cell.Cell.{Cell}
 use Rattle.sql_value.specs.declared.cell.Cell.TheVariants.{Int, Text, Null, Err}
 use Rattle.qgm_meaning.specs.Values.{Bag}
@@ -40,23 +37,6 @@ IsErrorFree k rows = EachThere (λ cells. is_sound (cell_of k cells) ≡ true) r
 -- no row that is there holds a null in column k
 abbrev pub IsNotNull : ℕ → Bag → Type 0
 IsNotNull k rows = EachThere (λ cells. cell_of k cells ≢ Null) rows
-
--- two cells are the same data
-abbrev pub same_cell : Cell → Cell → Bool
-same_cell x y = is_eq (cell_compare x y)
-
--- two rows agree on these columns; nulls agree
-abbrev pub agree_on : List ℕ → List Cell → List Cell → Bool
-agree_on ks a b = list_all (λ k. same_cell (cell_of k a) (cell_of k b)) ks
-
--- no two rows that are there pass this test
-abbrev pub NoTwo : (List Cell → List Cell → Bool) → Bag → Type 0
-NoTwo test [] = ⊤
-NoTwo test (r ∷ rows) = (is_there r ≡ true → list_any (λ s. is_there s && test r.cells s.cells) rows ≡ false) × NoTwo test rows
-
--- no two rows that are there agree on these columns
-abbrev pub IsKey : List ℕ → Bag → Type 0
-IsKey ks rows = NoTwo (agree_on ks) rows
 
 -- at most one row is there, and exactly one
 abbrev pub HasAtMostOne : Bag → Type 0

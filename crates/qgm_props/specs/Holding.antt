@@ -11,7 +11,7 @@ use Rattle.qgm_meaning.specs.Laws.{occurs}
 use Rattle.qgm_meaning.specs.Meaning.{Family, bag_in}
 use Rattle.qgm_meaning.specs.Scope.{loose}
 use Rattle.qgm_meaning.specs.Values.{Bag, Environment}
-use Rattle.qgm_props.specs.Facts.{IsClean, IsErrorFree, IsNotNull, IsKey, HasAtMostOne, HasExactlyOne}
+use Rattle.qgm_props.specs.Facts.{IsClean, IsErrorFree, IsNotNull, HasAtMostOne, HasExactlyOne}
 use Rattle.qgm_props.specs.Inferred.{Fact, clean, error_free, not_null, at_most_one, exactly_one}
 
 abbrev pub is_bound : ℕ → Environment → Bool

@@ -1,13 +1,13 @@
 -- What is inferred holds.
 use Rattle.std.specs.Prelude.{ℕ, ◌≡◌, true, List, Some}
+use Rattle.bag_laws.specs.Keys.{HasKey}
 use Rattle.row_bag.specs.declared.tables.Table.{Table}
 use Rattle.qgm_core.specs.Boxes.{Ordered, ids_of, owns, range_in}
 use Rattle.qgm_core.specs.Lists.{EachOnce, In, first}
 use Rattle.qgm_core.specs.declared.node.Node.{Node}
 use Rattle.qgm_core.specs.declared.owned.OwnedQuant.{OwnedQuant}
 use Rattle.qgm_meaning.specs.Widths.{Even}
-use Rattle.qgm_props.specs.Bases.{Satisfies}
-use Rattle.qgm_props.specs.Facts.{IsKey}
+use Rattle.qgm_meaning.specs.Satisfies.{Satisfies}
 use Rattle.qgm_props.specs.Holding.{Holds, OfRows}
 use Rattle.qgm_props.specs.Inferred.{Fact, after, at_most_one, says}
 use Rattle.qgm_props.specs.Keys.{holds_key}
@@ -29,4 +29,4 @@ InferredHolds = (tables : List Table) (ns : List Node) → Premises tables ns �
 abbrev pub KeysHold : Type 0
 KeysHold =
     (tables : List Table) (ns : List Node) → Premises tables ns → (rounds : ℕ) (b : ℕ) (ks : List ℕ)
-    → holds_key (λ c. says (after ns rounds) (at_most_one c)) ns b ks ≡ true → OfRows tables ns b (IsKey ks)
+    → holds_key (λ c. says (after ns rounds) (at_most_one c)) ns b ks ≡ true → OfRows tables ns b (HasKey ks)

@@ -1,5 +1,4 @@
 pub mod Facts
-pub mod Bases
 pub mod Inferred
 pub mod Keys
 pub mod Holding
