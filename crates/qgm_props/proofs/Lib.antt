@@ -12,6 +12,7 @@ mod HeldOuters
 mod Wide
 mod Held
 mod Step
+mod Monotone
 mod NoTwo
 mod Keys
 mod Keyed

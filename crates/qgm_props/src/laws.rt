@@ -1,8 +1,10 @@
 // The laws, as theorems.
-ghost use Rattle.qgm_props.specs.Laws.{InferredHolds, KeysHold};
+ghost use Rattle.qgm_props.specs.Laws.{InferredHolds, KeysHold, Least, StepHolds};
 
-/// What is inferred of boxes holds. It does nothing.
+/// What is inferred of boxes is the least set of facts that the sentences give, and it holds. It does nothing.
 pub fn fact_laws()
+    ensures least { Least }
+    ensures step { StepHolds }
     ensures facts { InferredHolds }
     ensures keys { KeysHold }
 {}

@@ -1,10 +1,16 @@
-use Rattle.qgm_props.specs.Inferred.{after}
 use Rattle.qgm_props.proofs.Keyed.{keys-hold}
-use Rattle.qgm_props.proofs.Step.{rounds}
+use Rattle.qgm_props.proofs.Monotone.{least}
+use Rattle.qgm_props.proofs.Step.{rounds, step}
 use Rattle.qgm_props.proofs.laws.fact_laws.Goals as goal
+
+pub returns-clause-least : goal.returns-clause-least
+returns-clause-least c = least
+
+pub returns-clause-step : goal.returns-clause-step
+returns-clause-step c tables ns given known all fact h = step tables ns known given all fact h
 
 pub returns-clause-facts : goal.returns-clause-facts
 returns-clause-facts c = rounds
 
 pub returns-clause-keys : goal.returns-clause-keys
-returns-clause-keys c tables ns given m b ks h = keys-hold tables ns (after ns m) given (λ fact k. rounds tables ns given m fact k) b ks h
+returns-clause-keys c tables ns given known all b ks h = keys-hold tables ns known given all b ks h
