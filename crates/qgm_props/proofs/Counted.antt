@@ -42,16 +42,16 @@ pub kept-none : (l : Level) (rows : Bag) → there_at l ≡ false → how_many (
 kept-none l [] h = refl
 kept-none l (r ∷ rows) h =
     let k = kept-none l rows h in let a = counted (row r.cells (least l r.level)) (keep l rows) in
-        let e : is_there (row r.cells (least l r.level)) ≡ false = there-is r.cells (least l r.level) ∙ least-there l r.level ∙ ap (λ b. b && there_at r.level) h in
-        let z : flag (is_there (row r.cells (least l r.level))) ≡ 0 = ap flag e
+    let e : is_there (row r.cells (least l r.level)) ≡ false = there-is r.cells (least l r.level) ∙ least-there l r.level ∙ ap (λ b. b && there_at r.level) h in
+    let z : flag (is_there (row r.cells (least l r.level))) ≡ 0 = ap flag e
     in omega (arith, a, k, z)
 
 pub kept-many : (l : Level) (rows : Bag) → there_at l ≡ true → how_many (keep l rows) ≡ how_many rows
 kept-many l [] h = refl
 kept-many l (r ∷ rows) h =
     let k = kept-many l rows h in let a = counted (row r.cells (least l r.level)) (keep l rows) in let b = counted r rows in
-        let e : is_there (row r.cells (least l r.level)) ≡ is_there r = there-is r.cells (least l r.level) ∙ least-there l r.level ∙ ap (λ b. b && there_at r.level) h ∙ sym (there-is r.cells r.level) in
-        let z : flag (is_there (row r.cells (least l r.level))) ≡ flag (is_there r) = ap flag e
+    let e : is_there (row r.cells (least l r.level)) ≡ is_there r = there-is r.cells (least l r.level) ∙ least-there l r.level ∙ ap (λ b. b && there_at r.level) h ∙ sym (there-is r.cells r.level) in
+    let z : flag (is_there (row r.cells (least l r.level))) ≡ flag (is_there r) = ap flag e
     in omega (arith, a, k, b, z)
 
 -- no row is there where nothing is bound
@@ -61,12 +61,12 @@ bind-none (x ∷ xs) f h = elim (cases_Bool (is_there x)) [
   | inl t ↦ absurd (let a = counted x xs in let z : flag (is_there x) ≡ 1 = ap flag t in let w : ⊥ = omega (arith, a, z, h) in w)
   | inr t ↦ (
       let a = counted x xs in let m = many-append (keep x.level (f x.cells)) (bind xs f) in
-          let z : flag (is_there x) ≡ 0 = ap flag t in
-          let k = kept-none x.level (f x.cells) (sym (there-is x.cells x.level) ∙ t) in
-          let r : how_many xs ≡ 0 = omega (arith, a, z, h) in
-          let i = bind-none xs f r
+      let z : flag (is_there x) ≡ 0 = ap flag t in
+      let k = kept-none x.level (f x.cells) (sym (there-is x.cells x.level) ∙ t) in
+      let r : how_many xs ≡ 0 = omega (arith, a, z, h) in
+      let i = bind-none xs f r
       in omega (arith, m, k, i)
-    )
+      )
 ]
 
 -- so many rows for each of at most one
@@ -75,21 +75,21 @@ bind-one n [] f h k = omega (arith)
 bind-one n (x ∷ xs) f h k = elim (cases_Bool (is_there x)) [
   | inl t ↦ (
       let a = counted x xs in let m = many-append (keep x.level (f x.cells)) (bind xs f) in
-          let z : flag (is_there x) ≡ 1 = ap flag t in
-          let r : how_many xs ≡ 0 = omega (arith, a, z, h) in
-          let e = kept-many x.level (f x.cells) (sym (there-is x.cells x.level) ∙ t) in
-          let i = bind-none xs f r in
-          let b = k x.cells (occurs-here x xs t)
+      let z : flag (is_there x) ≡ 1 = ap flag t in
+      let r : how_many xs ≡ 0 = omega (arith, a, z, h) in
+      let e = kept-many x.level (f x.cells) (sym (there-is x.cells x.level) ∙ t) in
+      let i = bind-none xs f r in
+      let b = k x.cells (occurs-here x xs t)
       in omega (arith, m, e, i, b)
-    )
+      )
   | inr t ↦ (
       let a = counted x xs in let m = many-append (keep x.level (f x.cells)) (bind xs f) in
-          let z : flag (is_there x) ≡ 0 = ap flag t in
-          let r : how_many xs ≤ 1 = omega (arith, a, z, h) in
-          let e = kept-none x.level (f x.cells) (sym (there-is x.cells x.level) ∙ t) in
-          let i = bind-one n xs f r (λ c o. k c (occurs-more c x xs o))
+      let z : flag (is_there x) ≡ 0 = ap flag t in
+      let r : how_many xs ≤ 1 = omega (arith, a, z, h) in
+      let e = kept-none x.level (f x.cells) (sym (there-is x.cells x.level) ∙ t) in
+      let i = bind-one n xs f r (λ c o. k c (occurs-more c x xs o))
       in omega (arith, m, e, i)
-    )
+      )
 ]
 
 pub bind-exact : (n : ℕ) (xs : Bag) (f : List Cell → Bag) → how_many xs ≡ 1 → ((c : List Cell) → occurs c xs ≡ true → how_many (f c) ≡ n) → how_many (bind xs f) ≡ n
@@ -97,21 +97,21 @@ bind-exact n [] f h k = absurd (let z : ⊥ = omega (arith, h) in z)
 bind-exact n (x ∷ xs) f h k = elim (cases_Bool (is_there x)) [
   | inl t ↦ (
       let a = counted x xs in let m = many-append (keep x.level (f x.cells)) (bind xs f) in
-          let z : flag (is_there x) ≡ 1 = ap flag t in
-          let r : how_many xs ≡ 0 = omega (arith, a, z, h) in
-          let e = kept-many x.level (f x.cells) (sym (there-is x.cells x.level) ∙ t) in
-          let i = bind-none xs f r in
-          let b = k x.cells (occurs-here x xs t)
+      let z : flag (is_there x) ≡ 1 = ap flag t in
+      let r : how_many xs ≡ 0 = omega (arith, a, z, h) in
+      let e = kept-many x.level (f x.cells) (sym (there-is x.cells x.level) ∙ t) in
+      let i = bind-none xs f r in
+      let b = k x.cells (occurs-here x xs t)
       in omega (arith, m, e, i, b)
-    )
+      )
   | inr t ↦ (
       let a = counted x xs in let m = many-append (keep x.level (f x.cells)) (bind xs f) in
-          let z : flag (is_there x) ≡ 0 = ap flag t in
-          let r : how_many xs ≡ 1 = omega (arith, a, z, h) in
-          let e = kept-none x.level (f x.cells) (sym (there-is x.cells x.level) ∙ t) in
-          let i = bind-exact n xs f r (λ c o. k c (occurs-more c x xs o))
+      let z : flag (is_there x) ≡ 0 = ap flag t in
+      let r : how_many xs ≡ 1 = omega (arith, a, z, h) in
+      let e = kept-none x.level (f x.cells) (sym (there-is x.cells x.level) ∙ t) in
+      let i = bind-exact n xs f r (λ c o. k c (occurs-more c x xs o))
       in omega (arith, m, e, i)
-    )
+      )
 ]
 
 -- ---- each tuple once
@@ -147,18 +147,18 @@ once-many (x ∷ xs) = at (once-many xs) x.level refl
     one : Below → (b : Bool) → nat_eq (multiplicity same_cells x.cells xs) 0 ≡ b → is_there x ≡ true → Goal (cond b (unit x.cells) [])
     one i true e t =
         let a = counted x xs in let z : flag (is_there x) ≡ 1 = ap flag t in
-            let m = many-append (unit x.cells) (once same_cells xs) in let j = i.0 in let u : how_many (unit x.cells) ≡ 1 = refl
+        let m = many-append (unit x.cells) (once same_cells xs) in let j = i.0 in let u : how_many (unit x.cells) ≡ 1 = refl
         in (omega (arith, a, z, m, j, u), λ h. omega (arith, a, z, m, j, u, h))
     one i false e t =
         let a = counted x xs in let z : flag (is_there x) ≡ 1 = ap flag t in let j = i.0
         in (
           omega (arith, a, z, j),
           λ h. absurd (
-            let n : how_many xs ≡ 0 = omega (arith, a, z, h) in
-                let w : true ≡ false = sym (ap (λ k. nat_eq k 0) (multiple-none x.cells xs n)) ∙ e in
-                let v : ⊥ = cc
-            in v
-          ),
+              let n : how_many xs ≡ 0 = omega (arith, a, z, h) in
+              let w : true ≡ false = sym (ap (λ k. nat_eq k 0) (multiple-none x.cells xs n)) ∙ e in
+              let v : ⊥ = cc
+              in v
+              ),
         )
 
     at : Below → (l : Level) → x.level ≡ l → Goal (if_there [] (λ c l. cond (nat_eq (multiplicity same_cells c xs) 0) (unit c) []) x.cells l)

@@ -426,8 +426,8 @@ module _ (tables : List Table) (ns : List Node) (known : Facts) (given : Premise
     free-outer k look h =
         each-outer (λ cells. is_sound (cell_of k cells) ≡ true) look
         (λ p q more e a b o c.
-          let x = head-cell (is_free ns known false) nothing n.parts.head (bound q.id b (bound p.id a env)) k h in
-          ap is_sound x.1.1 ∙ value-sound ns known nothing (nothing-sound ns known) false x.0 (bound q.id b (bound p.id a env)) c x.1.0)
+        let x = head-cell (is_free ns known false) nothing n.parts.head (bound q.id b (bound p.id a env)) k h in
+        ap is_sound x.1.1 ∙ value-sound ns known nothing (nothing-sound ns known) false x.0 (bound q.id b (bound p.id a env)) c x.1.0)
 
     -- a literal, or a column of the first quantifier
     left-filled : (p q : OwnedQuant) (more : List OwnedQuant) → n.quants ≡ p ∷ q ∷ more → Looked OuterJoin → (x : Term) → holds_left ns known (p ∷ q ∷ more) x ≡ true
@@ -459,10 +459,10 @@ module _ (tables : List Table) (ns : List Node) (known : Facts) (given : Premise
 
         second : (c : Bool) → (q.id == r) ≡ c → cell_of k (cond c b (cond (p.id == r) a (row_of r env))) ≢ Null
         second true w = absurd (
-          let d : EachOnce (p.id ∷ q.id ∷ map (λ r. r.id) more) = subst (λ (rs : List OwnedQuant). EachOnce (map (λ r. r.id) rs)) e (given.apart n here) in
-          let u : (q.id == p.id) ≡ true = eq-eqb q.id p.id (eqb-true q.id r w ∙ sym (eqb-true p.id r is-first)) in
-          let v : true ≡ false = sym (either-left (q.id == p.id) (list_any (λ m. m == p.id) (map (λ r. r.id) more)) u) ∙ d.0 in let z : ⊥ = cc in z
-        )
+            let d : EachOnce (p.id ∷ q.id ∷ map (λ r. r.id) more) = subst (λ (rs : List OwnedQuant). EachOnce (map (λ r. r.id) rs)) e (given.apart n here) in
+            let u : (q.id == p.id) ≡ true = eq-eqb q.id p.id (eqb-true q.id r w ∙ sym (eqb-true p.id r is-first)) in
+            let v : true ≡ false = sym (either-left (q.id == p.id) (list_any (λ m. m == p.id) (map (λ r. r.id) more)) u) ∙ d.0 in let z : ⊥ = cc in z
+            )
         second false w = first (p.id == r) refl
     left-filled p q more e look (int m) h a b o = λ x. let z : ⊥ = cc in z
     left-filled p q more e look (text m) h a b o = λ x. let z : ⊥ = cc in z
@@ -479,8 +479,8 @@ module _ (tables : List Table) (ns : List Node) (known : Facts) (given : Premise
     filled-outer k look h =
         each-outer (λ cells. cell_of k cells ≢ Null) look
         (λ p q more e a b o c w.
-          let x = head-cell (holds_left ns known (p ∷ q ∷ more)) nothing n.parts.head (bound q.id b (bound p.id a env)) k (subst (λ rs. at_place (holds_left ns known rs) n.parts.head k ≡ true) e h) in
-          left-filled p q more e look x.0 x.1.0 a b o (sym x.1.1 ∙ w))
+        let x = head-cell (holds_left ns known (p ∷ q ∷ more)) nothing n.parts.head (bound q.id b (bound p.id a env)) k (subst (λ rs. at_place (holds_left ns known rs) n.parts.head k ≡ true) e h) in
+        left-filled p q more e look x.0 x.1.0 a b o (sym x.1.1 ∙ w))
 
     pub single-outer : Looked OuterJoin → under_two known.at_most_one n.quants ≡ true → HasAtMostOne (of_two n.quants (outer_rows n s env))
     single-outer look h =

@@ -111,9 +111,9 @@ column-place q head (p ∷ ks) k h = elim (or_cases (holds k (column_of q (cell_
     split (x ∷ xs) ys h = elim (or_cases (x == k) (holds k (xs ++ ys)) h) [
       | inl t ↦ either-left ((x == k) || holds k xs) (holds k ys) (either-left (x == k) (holds k xs) t)
       | inr t ↦ elim (or_cases (holds k xs) (holds k ys) (split xs ys t)) [
-          | inl u ↦ either-left ((x == k) || holds k xs) (holds k ys) (either-right (x == k) (holds k xs) u)
-          | inr u ↦ either-right ((x == k) || holds k xs) (holds k ys) u
-        ]
+        | inl u ↦ either-left ((x == k) || holds k xs) (holds k ys) (either-right (x == k) (holds k xs) u)
+        | inr u ↦ either-right ((x == k) || holds k xs) (holds k ys) u
+      ]
     ]
 
     at : (o : Option Term) → holds k (column_of q o) ≡ true → o ≡ Some (col q k)
@@ -221,10 +221,10 @@ groups-keyed zero ks head q env rows h = ((λ _. refl), tt)
 groups-keyed (suc k) ks head q env rows h =
     no-two-bind (by ks) same_cells (once same_cells keys) made (once-apart keys) (λ a o. ((λ _. refl), tt))
     (λ a b c d o w u v e.
-      let l = long a o in let m = long b w in
-      (same_cells-decides a b).1 (cells-same a b (l ∙ sym m) (λ p i j. key-cell a c p u j
-      ∙ agreed ks c d e p (within-holds (length (take (suc k) head)) ks (within-less (length (take (suc k) head)) (suc k) ks (take-within (suc k) head) h) p i (subst (λ n. p ≤ n) l j))
-      ∙ sym (key-cell b d p v (subst (λ n. p ≤ n) (l ∙ sym m) j)))))
+    let l = long a o in let m = long b w in
+    (same_cells-decides a b).1 (cells-same a b (l ∙ sym m) (λ p i j. key-cell a c p u j
+    ∙ agreed ks c d e p (within-holds (length (take (suc k) head)) ks (within-less (length (take (suc k) head)) (suc k) ks (take-within (suc k) head) h) p i (subst (λ n. p ≤ n) l j))
+    ∙ sym (key-cell b d p v (subst (λ n. p ≤ n) (l ∙ sym m) j)))))
   where
     keys : Bag
     keys = bind rows (λ c. unit (key_cells (suc k) head q env c))
@@ -314,7 +314,7 @@ module _ (tables : List Table) (ns : List Node) (known : Facts) (given' : Premis
           subst (λ b. NoTwo (by ks) (once_if b (over_each n.quants t (given_by t n) env))) (sym a.0)
           (distinct-keyed (length n.parts.head) ks (over_each n.quants t (given_by t n) env)
           (each-given tables ns known given' all n here (λ c. length c ≡ length n.parts.head) n.quants env ready (λ env ready. length-map n.parts.head (λ x. value (λ q. t q env) x env))) a.1)
-        )
+          )
       | inr w ↦ either (is_enforce n.parts.distinct) (each-keyed ks n.quants env ready (given'.apart n here) w)
     ]
       where
@@ -405,7 +405,7 @@ module _ (tables : List Table) (ns : List Node) (known : Facts) (given' : Premis
             no-two-weaker (λ c. Unit {0}) (by key) (by ks) rows (λ c o. tt)
             (λ a' b p q e. agree-from key a' b (λ k i. agreed ks a' b e k (among-holds key ks a.1 k i)))
             (key-two key rows (of-satisfying.keys table rows key f (sub key (inl refl)) a.0))
-          )
+            )
         | inr w ↦ base-keyed table (Some rows) f ks keys (λ k i. sub k (inr i)) w
       ]
         where

@@ -53,7 +53,7 @@ some-with ks k (r ∷ rows) c o h = elim (or_cases (same_cells r.cells c && is_t
   | inl w ↦ (
       let p = and_parts (same_cells r.cells c) (is_there r) w in
       at r.level (sym (there-is r.cells r.level) ∙ p.1) (subst (λ c. same_cells (cells_at ks c) k ≡ true) (sym ((same_cells-decides r.cells c).0 p.0)) h)
-    )
+      )
   | inr w ↦ (let i = some-with ks k rows c w h in omega (arith, i))
 ]
   where
@@ -79,7 +79,7 @@ few-with ks k (r ∷ rows) h = at r.level refl (few-with ks k rows h.1)
           let same : cells_at ks r.cells ≡ k = (same_cells-decides (cells_at ks r.cells) k).0 w in
           let n = none-with ks k rows (λ c o. subst (λ k. same_cells (cells_at ks c) k ≡ false) same (turned (cells_at ks c) (cells_at ks r.cells) (apart-from (by ks) r rows h.0 there c o))) in
           let m : ◌≡◌ {A = ℕ} (cond (same_cells (cells_at ks r.cells) k) 1 0) 1 = ap (λ (b : Bool). cond b 1 0) w in omega (arith, n, m)
-        )
+          )
       | inr w ↦ (let m : ◌≡◌ {A = ℕ} (cond (same_cells (cells_at ks r.cells) k) 1 0) 0 = ap (λ (b : Bool). cond b 1 0) w in omega (arith, i, m))
     ]
       where
@@ -125,7 +125,7 @@ key-two ks rows h = go rows (λ k. let e = key-counted ks k rows in let n = h k 
               let e : cells_at ks r.cells ≡ cells_at ks c = (same_cells-decides (cells_at ks r.cells) (cells_at ks c)).0 v in
               let s = some-with ks (cells_at ks r.cells) rows c o ((same_cells-decides (cells_at ks c) (cells_at ks r.cells)).1 (sym e)) in
               let t = two r.level (sym (there-is r.cells r.level) ∙ w) in let n = h (cells_at ks r.cells) in let z : ⊥ = omega (arith, s, t, n) in z
-            )
+              )
           | inr v ↦ v
         ]
 

@@ -11,6 +11,7 @@ mod HeldSets
 mod HeldOuters
 mod Wide
 mod Held
+mod FreeLaws
 mod Step
 mod Monotone
 mod NoTwo

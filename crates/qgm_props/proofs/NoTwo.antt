@@ -37,7 +37,7 @@ any-passes t a (r ∷ rows) h c o = elim (or_cases (same_cells r.cells c && is_t
       let p = and_parts (same_cells r.cells c) (is_there r) w in
       let e = (same_cells-decides r.cells c).0 p.0 in
       subst (λ c. t a c ≡ false) e (none (is_there r) (t a r.cells) (list_any (λ s. is_there s && t a s.cells) rows) h p.1)
-    )
+      )
   | inr w ↦ any-passes t a rows (rest (is_there r && t a r.cells) (list_any (λ s. is_there s && t a s.cells) rows) h) c w
 ]
   where
@@ -97,9 +97,9 @@ occurs-append c [] ys h = h
 occurs-append c (x ∷ xs) ys h = elim (or_cases (same_cells x.cells c && is_there x) (occurs c (xs ++ ys)) h) [
   | inl w ↦ either-left (occurs c (x ∷ xs)) (occurs c ys) (either-left (same_cells x.cells c && is_there x) (occurs c xs) w)
   | inr w ↦ elim (or_cases (occurs c xs) (occurs c ys) (occurs-append c xs ys w)) [
-      | inl v ↦ either-left (occurs c (x ∷ xs)) (occurs c ys) (occurs-more c x xs v)
-      | inr v ↦ either-right (occurs c (x ∷ xs)) (occurs c ys) v
-    ]
+    | inl v ↦ either-left (occurs c (x ∷ xs)) (occurs c ys) (occurs-more c x xs v)
+    | inr v ↦ either-right (occurs c (x ∷ xs)) (occurs c ys) v
+  ]
 ]
 
 no-two-append : (t : Test) (xs ys : Bag) → NoTwo t xs → NoTwo t ys → ((a : List Cell) → occurs a xs ≡ true → Apart t a ys) → NoTwo t (xs ++ ys)
@@ -118,7 +118,7 @@ occurs-kept l c (r ∷ rows) o = elim (or_cases (same_cells r.cells c && is_ther
   | inl w ↦ (
       let p = and_parts (same_cells r.cells c) (is_there (row r.cells (least l r.level))) w in let k = there-kept l r p.1 in
       (k.0, either-left (same_cells r.cells c && is_there r) (occurs c rows) (and_from (same_cells r.cells c) (is_there r) p.0 k.1))
-    )
+      )
   | inr w ↦ (let i = occurs-kept l c rows w in (i.0, occurs-more c r rows i.1))
 ]
 
@@ -145,9 +145,9 @@ no-two-bind t u (x ∷ xs) f h k g =
     no-two-append t (keep x.level (f x.cells)) (bind xs f) (at x.level refl)
     (no-two-bind t u xs f h.1 (λ a o. k a (occurs-more a x xs o)) (λ a b c d o w. g a b c d (occurs-more a x xs o) (occurs-more b x xs w)))
     (λ c o d w.
-      let e = occurs-kept x.level c (f x.cells) o in let b = occurs-bind xs f d w in
-      let there : is_there x ≡ true = there-is x.cells x.level ∙ e.0 in
-      turn (t c d) (u x.cells b.0) (g x.cells b.0 c d (occurs-here x xs there) (occurs-more b.0 x xs b.1.0) e.1 b.1.1) (apart-from u x xs h.0 there b.0 b.1.0))
+    let e = occurs-kept x.level c (f x.cells) o in let b = occurs-bind xs f d w in
+    let there : is_there x ≡ true = there-is x.cells x.level ∙ e.0 in
+    turn (t c d) (u x.cells b.0) (g x.cells b.0 c d (occurs-here x xs there) (occurs-more b.0 x xs b.1.0) e.1 b.1.1) (apart-from u x xs h.0 there b.0 b.1.0))
   where
     turn : (y z : Bool) → (y ≡ true → z ≡ true) → z ≡ false → y ≡ false
     turn true z g e = absurd (let k : true ≡ false = sym (g refl) ∙ e in let w : ⊥ = cc in w)
@@ -216,7 +216,7 @@ once-apart (x ∷ xs) = at x.level (once-apart xs)
               let d : x.cells ≡ c = (same_cells-decides x.cells c).0 w in
               let a = multiple-absent x.cells xs (eqb-true (multiplicity same_cells x.cells xs) 0 e) in
               let k : true ≡ false = sym (subst (λ c. occurs c xs ≡ true) (sym d) o) ∙ a in let z : ⊥ = cc in z
-            )
+              )
           | inr w ↦ w
         ]
     one false e i = i

@@ -45,9 +45,9 @@ pub arms-wide : (ns : List Node) (n : Node) (form : SetOperator) (types : List S
 arms-wide [] n form types r o e i k j = elim i [ ]
 arms-wide (m ∷ ns) n form types r o e i k j = behind (elim i [
   | inl w ↦ (
-      over-in ns m.quants r o.1 (subst (λ (m : Node). In r m.quants) (sym w) j),
-      arm-in (length types) ns m.quants r (subst (λ kind. ArmsOf kind m ns) (subst (λ (m : Node). m.parts.kind ≡ SetOp form types) (sym w) k) e.0) (subst (λ (m : Node). In r m.quants) (sym w) j)
-    )
+    over-in ns m.quants r o.1 (subst (λ (m : Node). In r m.quants) (sym w) j),
+    arm-in (length types) ns m.quants r (subst (λ kind. ArmsOf kind m ns) (subst (λ (m : Node). m.parts.kind ≡ SetOp form types) (sym w) k) e.0) (subst (λ (m : Node). In r m.quants) (sym w) j),
+  )
   | inr w ↦ arms-wide ns n form types r o.2 e.1 w k j
 ])
   where

@@ -1,5 +1,7 @@
 pub mod Facts
 pub mod Inferred
 pub mod Keys
+pub mod Lists
+pub mod Table
 pub mod Holding
 pub mod Laws

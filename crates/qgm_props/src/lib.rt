@@ -1,6 +1,11 @@
 //! What is inferred of the boxes of a query graph.
 #![tactic(auto)]
 
+mod columns;
+mod expressions;
+mod facts;
 mod laws;
+mod ranges;
 
+pub use facts::BoxFacts;
 pub use laws::fact_laws;
