@@ -12,6 +12,8 @@ mod HeldOuters
 mod Wide
 mod Held
 mod FreeLaws
+mod Places
+mod TableLaws
 mod Step
 mod Monotone
 mod NoTwo

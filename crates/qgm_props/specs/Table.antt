@@ -6,6 +6,10 @@ use Rattle.qgm_core.specs.declared.node.Node.{Node}
 use Rattle.qgm_props.specs.Inferred.{Facts, at_most_one_by, clean_by, exactly_one_by, free_by, not_null_by}
 use Rattle.qgm_props.specs.declared.facts.BoxFacts.{BoxFacts}
 
+-- the element at a place, from 1
+abbrev pub element : {X : Type 0} → ℕ → List X → Option X
+element k xs = if k == 0 then None else slice_get xs (k - 1)
+
 abbrev pub is_of : ℕ → BoxFacts → Bool
 is_of b f = f.id == b
 

@@ -1,11 +1,11 @@
 // What is inferred of the columns of a box.
-ghost use Rattle.std.specs.Prelude.{◌≡◌, ◌≤◌, ◌&&◌, take};
+ghost use Rattle.std.specs.Prelude.{◌≡◌, ◌≤◌, ◌&&◌, option_map, take};
 ghost use Rattle.std.specs.List.{list_any};
 ghost use Rattle.qgm_core.specs.Boxes.{is_quant};
 ghost use Rattle.qgm_core.specs.Lists.{holds};
 ghost use Rattle.qgm_terms.specs.Shown.{links, term, terms};
 ghost use Rattle.qgm_props.specs.Inferred as spec;
-ghost use Rattle.qgm_props.specs.Table.{facts_of};
+ghost use Rattle.qgm_props.specs.Table.{element, facts_of};
 
 use crate::expressions::{both, is_alone, is_free};
 use crate::facts::{BoxFacts, has_at_most_one, is_clean, is_error_free};
@@ -13,7 +13,7 @@ use crate::ranges::is_not_null_under;
 use qgm_core::{BoxKind, Gx, Node, OwnedQuant, QuantId, SetOperator, is_marked};
 
 // Whether a column of the boxes under the first two quantifiers is known to hold no error.
-fn is_free_in_arms(table: &[BoxFacts], ranges: &[OwnedQuant], k: usize) -> bool
+pub fn is_free_in_arms(table: &[BoxFacts], ranges: &[OwnedQuant], k: usize) -> bool
     ensures { result ≡ spec.under_two (λ b. (facts_of table.now).error_free b k) ranges.now }
 {
     match ranges {
@@ -36,14 +36,21 @@ fn is_single_first(table: &[BoxFacts], ranges: &[OwnedQuant]) -> bool
     }
 }
 
+// The cell at a place, from 1.
+fn cell_at(head: &[Gx], k: usize) -> Option<&Gx>
+    ensures { option_map (λ x. x.now) result ≡ element k head.now }
+{
+    if k == 0 {
+        return None;
+    }
+    head.get(k - 1)
+}
+
 // Whether the cell at a place is without errors.
 fn is_free_at(nodes: &[Node], table: &[BoxFacts], one: bool, head: &[Gx], k: usize) -> bool
     ensures { result ≡ spec.at_place (spec.is_free nodes.now (facts_of table.now) one) (terms head.now) k }
 {
-    if k == 0 {
-        return false;
-    }
-    match head.get(k - 1) {
+    match cell_at(head, k) {
         Some(x) => is_free(nodes, table, one, x),
         None => false,
     }
@@ -209,10 +216,7 @@ pub fn is_column_filled(nodes: &[Node], table: &[BoxFacts], node: &Node, k: usiz
 fn has_value_at(nodes: &[Node], table: &[BoxFacts], head: &[Gx], k: usize) -> bool
     ensures { result ≡ spec.at_place (spec.holds_value nodes.now (facts_of table.now)) (terms head.now) k }
 {
-    if k == 0 {
-        return false;
-    }
-    match head.get(k - 1) {
+    match cell_at(head, k) {
         Some(x) => has_value(nodes, table, x),
         None => false,
     }
@@ -221,10 +225,7 @@ fn has_value_at(nodes: &[Node], table: &[BoxFacts], head: &[Gx], k: usize) -> bo
 fn is_count_at(head: &[Gx], k: usize) -> bool
     ensures { result ≡ spec.at_place spec.is_count (terms head.now) k }
 {
-    if k == 0 {
-        return false;
-    }
-    match head.get(k - 1) {
+    match cell_at(head, k) {
         Some(x) => is_count(x),
         None => false,
     }
@@ -239,10 +240,7 @@ fn has_left_value_at(
 ) -> bool
     ensures { result ≡ spec.at_place (spec.holds_left nodes.now (facts_of table.now) ranges.now) (terms head.now) k }
 {
-    if k == 0 {
-        return false;
-    }
-    match head.get(k - 1) {
+    match cell_at(head, k) {
         Some(x) => has_left_value(nodes, table, ranges, x),
         None => false,
     }

@@ -1,10 +1,12 @@
 //! What is inferred of the boxes of a query graph.
 #![tactic(auto)]
 
+mod boxes;
 mod columns;
 mod expressions;
 mod facts;
 mod laws;
+mod props;
 mod ranges;
 
 pub use facts::BoxFacts;
