@@ -14,6 +14,7 @@ mod Held
 mod FreeLaws
 mod Places
 mod TableLaws
+mod Improving
 mod Step
 mod Monotone
 mod NoTwo

@@ -79,9 +79,12 @@ pub data Improves (boxes : List Node) : List BoxFacts → Type 0 where
   begun : Improves boxes (map nothing_of boxes)
   gone : (table : List BoxFacts) (i : ℕ) (n : Node) (f : BoxFacts) → Improves boxes table → slice_get boxes i ≡ Some n → slice_get table i ≡ Some f → Improves boxes (improved_at boxes table i n f)
 
--- no box improves
+-- the box of rank i doesn't improve, and none does
+abbrev pub StableAt : List Node → List BoxFacts → ℕ → Type 0
+StableAt boxes table i = (n : Node) (f : BoxFacts) → slice_get boxes i ≡ Some n → slice_get table i ≡ Some f → improved boxes (facts_of table) n f ≡ f
+
 abbrev pub Stable : List Node → List BoxFacts → Type 0
-Stable boxes table = (i : ℕ) (n : Node) (f : BoxFacts) → slice_get boxes i ≡ Some n → slice_get table i ≡ Some f → improved boxes (facts_of table) n f ≡ f
+Stable boxes table = (i : ℕ) → StableAt boxes table i
 
 -- how much isn't known
 abbrev pub unknown_flags : List Bool → ℕ
