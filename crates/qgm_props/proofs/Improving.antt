@@ -25,7 +25,7 @@ flags-get (suc w) t j h = elim (cases_Bool (nat_lt j w)) [
   | inr u ↦ (
       let e : j ≡ w = (let l = ltb-false j w u in omega (arith, l, h)) in
       subst (λ i. slice_get (flags w t ++ t (suc w) ∷ []) j ≡ Some (t (suc i))) (sym e) (ap (slice_get (flags w t ++ t (suc w) ∷ [])) (e ∙ sym (flags-long w t)) ∙ get-end (flags w t) (t (suc w)))
-    )
+      )
 ]
   where
     get-front : (xs ys : List Bool) (j : ℕ) → j < length xs → slice_get (xs ++ ys) j ≡ slice_get xs j
@@ -70,7 +70,7 @@ flag-either w a t k l h = elim (cases_Bool (nat_lt k w)) [
         | inl v ↦ inl (is-flag k a v)
         | inr v ↦ inr (m, v)
       ]
-    )
+      )
   | inr u ↦ absurd (beyond (either_flags a (flags w t)) k (let e = either-long a (flags w t) (l ∙ sym (flags-long w t)) in let n = ltb-false k w u in omega (arith, e, n, l)) (flag-is k (either_flags a (flags w t)) h))
 ]
   where
@@ -116,7 +116,7 @@ beside-set (m ∷ ns) [] i n g b e h = absurd b
 beside-set (m ∷ ns) (f ∷ fs) zero n g b e h = (subst (λ (m : Node). IsEntry m g) (sym (let w : m ≡ n = cc in w)) h, b.1)
 beside-set (m ∷ ns) (f ∷ fs) (suc i) n g b e h = (b.0, beside-set ns fs i n g b.1 e h)
 
-entry-at : (ns : List Node) (fs : List BoxFacts) (i : ℕ) (n : Node) (f : BoxFacts) → Beside ns fs → slice_get ns i ≡ Some n → slice_get fs i ≡ Some f → IsEntry n f
+pub entry-at : (ns : List Node) (fs : List BoxFacts) (i : ℕ) (n : Node) (f : BoxFacts) → Beside ns fs → slice_get ns i ≡ Some n → slice_get fs i ≡ Some f → IsEntry n f
 entry-at [] fs i n f b e d = absurd (let z : ⊥ = cc in z)
 entry-at (m ∷ ns) [] i n f b e d = absurd b
 entry-at (m ∷ ns) (h ∷ fs) zero n f b e d = subst (λ (m : Node). IsEntry m f) (let w : m ≡ n = cc in w) (subst (IsEntry m) (let w : h ≡ f = cc in w) b.0)

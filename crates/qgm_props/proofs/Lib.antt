@@ -15,6 +15,7 @@ mod FreeLaws
 mod Places
 mod TableLaws
 mod Improving
+mod Steps
 mod Step
 mod Monotone
 mod NoTwo

@@ -1,13 +1,16 @@
 //! What is inferred of the boxes of a query graph.
 #![tactic(auto)]
 
+mod answers;
 mod boxes;
 mod columns;
 mod expressions;
 mod facts;
+mod infer;
 mod laws;
-mod props;
 mod ranges;
 
+pub use answers::Props;
 pub use facts::BoxFacts;
+pub use infer::props;
 pub use laws::fact_laws;

@@ -1,0 +1,68 @@
+// What is inferred of a graph, as it is asked.
+ghost use Rattle.std.specs.Prelude.{◌≡◌};
+ghost use Rattle.qgm_props.specs.Table.{facts_of};
+
+use crate::facts::{
+    BoxFacts, has_at_most_one, has_exactly_one, is_clean, is_error_free, is_not_null,
+};
+use qgm_core::BoxId;
+use std::marker::Model;
+
+/// What is inferred of the boxes of a graph.
+#[derive(Drop)]
+pub struct Props {
+    boxes: Vec<BoxFacts>,
+}
+
+impl Model for Props {
+    ghost use Rattle.std.specs.Prelude.{List};
+    ghost use Rattle.qgm_props.specs.declared.facts.BoxFacts.{BoxFacts};
+
+    ghost Value = { List BoxFacts };
+
+    ghost view = { λ p. p.boxes.items };
+}
+
+impl Props {
+    // That of a table.
+    pub(crate) fn of(boxes: Vec<BoxFacts>) -> Props
+        ensures { result ≡ boxes.items }
+    {
+        Props { boxes }
+    }
+
+    /// Whether no row of the box is at an error level.
+    pub fn clean(&self, b: BoxId) -> bool
+        ensures { result ≡ (facts_of self.now).clean b }
+    {
+        is_clean(&self.boxes, b)
+    }
+
+    /// Whether no row of the box holds an error in the column; columns count from 1.
+    pub fn error_free(&self, b: BoxId, column: usize) -> bool
+        ensures { result ≡ (facts_of self.now).error_free b column }
+    {
+        is_error_free(&self.boxes, b, column)
+    }
+
+    /// Whether no row of the box holds a null in the column.
+    pub fn not_null(&self, b: BoxId, column: usize) -> bool
+        ensures { result ≡ (facts_of self.now).not_null b column }
+    {
+        is_not_null(&self.boxes, b, column)
+    }
+
+    /// Whether at most one row of the box is there.
+    pub fn at_most_one(&self, b: BoxId) -> bool
+        ensures { result ≡ (facts_of self.now).at_most_one b }
+    {
+        has_at_most_one(&self.boxes, b)
+    }
+
+    /// Whether exactly one row of the box is there.
+    pub fn exactly_one(&self, b: BoxId) -> bool
+        ensures { result ≡ (facts_of self.now).exactly_one b }
+    {
+        has_exactly_one(&self.boxes, b)
+    }
+}
