@@ -1,10 +1,11 @@
 -- Chains, CASE, AND and OR without errors, by their lists.
-use Rattle.std.proofs.Common.{◌≡◌, refl, Bool, true, false, List, [], ◌∷◌, ◌&&◌, ap, sym, ◌∙◌}
+use Rattle.std.proofs.Common.{◌≡◌, ℕ, refl, Bool, true, false, cond, List, [], ◌∷◌, ◌&&◌, Some, ap, sym, ◌∙◌}
 use Rattle.std.specs.List.{list_all}
 use Rattle.qgm_core.specs.declared.node.Node.{Node}
 use Rattle.qgm_core.specs.declared.owned.OwnedQuant.{OwnedQuant}
 use Rattle.qgm_terms.specs.Terms.{Term, Link, both, Cond, and, or, linked, anded, ored, Choice, armed, choose}
 use Rattle.qgm_props.specs.Inferred.{Facts, arms_free, cond_free, divides, holds_left, holds_value, is_count, is_free, keeps_free}
+use Rattle.qgm_props.specs.Keys.{column_of}
 use Rattle.qgm_props.specs.Lists.{arms_free_in, chain_free, is_none}
 
 and-true : (b : Bool) → (b && true) ≡ b
@@ -57,3 +58,8 @@ module _ (boxes : List Node) (known : Facts) where
   pub left_linked : (rs : List OwnedQuant) (x : Term) (ls : List Link) → holds_left boxes known rs (linked x ls) ≡ (is_none ls && holds_left boxes known rs x)
   left_linked rs x [] = refl
   left_linked rs x (l ∷ ls) = left_linked rs (both l.op x l.right) ls ∙ and-false (is_none ls)
+
+-- a chain of two operands or more is no column
+pub column_linked : (q : ℕ) (x : Term) (ls : List Link) → column_of q (Some (linked x ls)) ≡ cond (is_none ls) (column_of q (Some x)) []
+column_linked q x [] = refl
+column_linked q x (l ∷ ls) = column_linked q (both l.op x l.right) ls ∙ (elim (is_none ls) as (λ b. cond b (column_of q (Some (both l.op x l.right))) [] ≡ []) [ true ↦ refl | false ↦ refl ])

@@ -19,5 +19,5 @@ mod Steps
 mod Step
 mod Monotone
 mod NoTwo
-mod Keys
-mod Keyed
+mod KeyTests
+mod KeyedBoxes

@@ -6,6 +6,7 @@ use Rattle.qgm_terms.specs.Shown.{term, terms}
 use Rattle.qgm_terms.specs.Terms.{Term}
 use Rattle.qgm_terms.specs.declared.tree.Gx.{Gx}
 use Rattle.qgm_props.specs.Inferred.{at_place, of_cell}
+use Rattle.qgm_props.specs.Keys.{cell_at}
 use Rattle.qgm_props.specs.Table.{element}
 
 pub element-suc : {X : Type 0} (k : ℕ) (xs : List X) → element (suc k) xs ≡ slice_get xs k
@@ -23,3 +24,7 @@ place-some test xs k x e = placed test xs k ∙ ap (λ o. of_cell test (option_m
 
 pub place-none : (test : Term → Bool) (xs : List Gx) (k : ℕ) → element k xs ≡ None → at_place test (terms xs) k ≡ false
 place-none test xs k e = placed test xs k ∙ ap (λ o. of_cell test (option_map term o)) e
+
+pub cell-is : (xs : List Gx) (k : ℕ) (o : Option Gx) → element k xs ≡ o → cell_at (terms xs) k ≡ option_map term o
+cell-is xs zero o e = ap (option_map term) e
+cell-is xs (suc k) o e = slice_get-map term xs k ∙ ap (option_map term) (sym (element-suc k xs) ∙ e)

@@ -22,7 +22,7 @@ pub fn either(a: bool, b: bool) -> bool
     a || b
 }
 
-fn is_f(kind: QuantKind) -> bool
+pub fn is_f(kind: QuantKind) -> bool
     ensures { result ≡ is_F kind }
 {
     match kind {

@@ -37,7 +37,7 @@ fn is_single_first(table: &[BoxFacts], ranges: &[OwnedQuant]) -> bool
 }
 
 // The cell at a place, from 1.
-fn cell_at(head: &[Gx], k: usize) -> Option<&Gx>
+pub fn cell_at(head: &[Gx], k: usize) -> Option<&Gx>
     ensures { option_map (λ x. x.now) result ≡ element k head.now }
 {
     if k == 0 {

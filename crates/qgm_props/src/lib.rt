@@ -7,6 +7,7 @@ mod columns;
 mod expressions;
 mod facts;
 mod infer;
+mod keys;
 mod laws;
 mod ranges;
 

@@ -13,8 +13,11 @@ pub returns-then-is_same-clause-same : goal.returns-then-is_same-clause-same
 returns-then-is_same-clause-same c =
     let b = beside-long c.args.nodes.now c.args.table.now.items (beside c.args.nodes.now c.args.table.now.items c.requires.improves) in let w = c.requires.within in
     let inside : c.args.i < length c.args.table.now.items = omega (arith, b, w) in
-    λ _. (refl, step-stable c.args.nodes.now c.args.table.now.items c.deref.result.now c.args.i c.index-nodes-i.result c.index.result.now c.index-2.result.now c.in_ok-next.next c.requires.improves c.deref.ensures.value c.requires.within inside c.index-nodes-i.is c.index.ensures c.index-2.ensures c.in_ok-next.ensures
-    (c.is_same.ensures.0 c.if-is_same.true))
+    λ _. (
+      refl,
+      step-stable c.args.nodes.now c.args.table.now.items c.deref.result.now c.args.i c.index-nodes-i.result c.index.result.now c.index-2.result.now c.in_ok-next.next c.requires.improves c.deref.ensures.value c.requires.within inside c.index-nodes-i.is c.index.ensures c.index-2.ensures c.in_ok-next.ensures
+          (c.is_same.ensures.0 c.if-is_same.true),
+    )
 
 pub index_mut-requires : goal.index_mut-requires
 index_mut-requires c = let b = beside-long c.args.nodes.now c.args.table.now.items (beside c.args.nodes.now c.args.table.now.items c.requires.improves) in let w = c.requires.within in omega (arith, b, w)

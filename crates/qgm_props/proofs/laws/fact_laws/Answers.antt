@@ -1,4 +1,4 @@
-use Rattle.qgm_props.proofs.Keyed.{keys-hold}
+use Rattle.qgm_props.proofs.KeyedBoxes.{keys-hold}
 use Rattle.qgm_props.proofs.Monotone.{least}
 use Rattle.qgm_props.proofs.Step.{rounds, step}
 use Rattle.qgm_props.proofs.laws.fact_laws.Goals as goal

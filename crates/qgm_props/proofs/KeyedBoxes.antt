@@ -57,7 +57,7 @@ use Rattle.qgm_meaning.proofs.Unfold.{unfold-bag}
 use Rattle.qgm_meaning.proofs.Within.{loose-unfold}
 use mathlib.Core.Path.{fun_ext}
 use Rattle.qgm_props.proofs.Selects.{Ready, each-given, next-ready, skip-ready, under-bound}
-use Rattle.qgm_props.proofs.Keys.{agree-from, agreed, all-agreed, by, cells-same, key-two, two-key, within-holds}
+use Rattle.qgm_props.proofs.KeyTests.{agree-from, agreed, all-agreed, by, cells-same, key-two, two-key, within-holds}
 use Rattle.qgm_props.proofs.NoTwo.{NoTwo, Test, no-two-bind, no-two-copies, no-two-distinct, no-two-once, no-two-weaker, none-two, occurs-bind, once-apart}
 use Rattle.qgm_props.proofs.Rows.{each-append, each-bind, each-distinct, each-keep, each-occurs, each-once, occurs-each}
 
