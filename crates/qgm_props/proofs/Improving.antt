@@ -379,10 +379,11 @@ either-same (x ∷ a) (y ∷ b) h e = one x y (either-less a b long) (either-sam
     one false true i r e = absurd (let z : ⊥ = omega (arith, e, i) in z)
     one false false i r e = ap (λ (xs : List Bool). false ∷ xs) (r (omega (arith, e)))
 
-pub improved-less : (boxes : List Node) (known : Facts) (n : Node) (f : BoxFacts) → IsEntry n f → (improved boxes known n f ≡ f → ⊥) → unknown_of (improved boxes known n f) < unknown_of f
-improved-less boxes known n f e differs = elim (cases_Bool (nat_lt (unknown_of (improved boxes known n f)) (unknown_of f))) [
-  | inl t ↦ ltb-true (unknown_of (improved boxes known n f)) (unknown_of f) t
-  | inr t ↦ absurd (differs (same (ltb-false (unknown_of (improved boxes known n f)) (unknown_of f) t)))
+-- an entry is improved by nothing, or less is left unknown
+pub same-or-less : (boxes : List Node) (known : Facts) (n : Node) (f : BoxFacts) → IsEntry n f → (improved boxes known n f ≡ f) ⊎ (unknown_of (improved boxes known n f) < unknown_of f)
+same-or-less boxes known n f e = elim (cases_Bool (nat_lt (unknown_of (improved boxes known n f)) (unknown_of f))) [
+  | inl t ↦ inr (ltb-true (unknown_of (improved boxes known n f)) (unknown_of f) t)
+  | inr t ↦ inl (same (ltb-false (unknown_of (improved boxes known n f)) (unknown_of f) t))
 ]
   where
     front : List Bool
@@ -426,6 +427,9 @@ improved-less boxes known n f e differs = elim (cases_Bool (nat_lt (unknown_of (
         let q = either-same f.error_free free free-long (omega (arith, a, b, c, h)) in
         let r = either-same f.not_null filled filled-long (omega (arith, a, b, c, h)) in
         alike (f.clean || clean_by boxes known n.parts.kind n) (f.at_most_one || (known.exactly_one n.id || at_most_one_by boxes known n.parts.kind n)) (f.exactly_one || exactly_one_by boxes known n.parts.kind n) (either_flags f.error_free free) (either_flags f.not_null filled) p q r
+
+pub improved-less : (boxes : List Node) (known : Facts) (n : Node) (f : BoxFacts) → IsEntry n f → (improved boxes known n f ≡ f → ⊥) → unknown_of (improved boxes known n f) < unknown_of f
+improved-less boxes known n f e differs = elim (same-or-less boxes known n f e) [ inl s ↦ absurd (differs s) | inr l ↦ l ]
 
 pub unknown-set : (fs : List BoxFacts) (i : ℕ) (f g : BoxFacts) → slice_get fs i ≡ Some f → unknown_in (slice_set fs i g) + unknown_of f ≡ unknown_in fs + unknown_of g
 unknown-set [] i f g d = absurd (let z : ⊥ = cc in z)

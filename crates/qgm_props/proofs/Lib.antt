@@ -17,6 +17,7 @@ mod TableLaws
 mod Improving
 mod Steps
 mod Step
+mod Settled
 mod Monotone
 mod NoTwo
 mod KeyTests

@@ -1,4 +1,4 @@
--- What is inferred of facts that hold holds, and so what is inferred in any number of rounds.
+-- What is inferred of facts that hold holds.
 use Rattle.std.proofs.Common.{ℕ, zero, suc, ◌≡◌, ◌≢◌, ◌≤◌, nat_le, nat_lt, ◌==◌, ◌&&◌, ◌||◌, cond, Bool, true, false, List, [], ◌∷◌, length, Option, Some, None, eqb-true, refl, sym, ap, subst, ◌∙◌, arith, inl, inr}
 use Rattle.std.proofs.lemmas.Bool.{and_parts, or_cases}
 use Rattle.std.specs.List.{list_all}
@@ -22,7 +22,7 @@ use Rattle.qgm_meaning.proofs.Within.{loose-unfold}
 use Rattle.qgm_meaning.specs.Satisfies.{SatisfiesBy}
 use Rattle.qgm_props.specs.Facts.{EachThere, HasAtMostOne, HasExactlyOne, IsClean, IsErrorFree, IsNotNull, is_sound}
 use Rattle.qgm_props.specs.Holding.{AllBound, Fitting, Holds, OfRows, is_bound}
-use Rattle.qgm_props.specs.Inferred.{Fact, Facts, after, all_under_F, at_most_one, at_most_one_by, clean, clean_by, cond_free, error_free, exactly_one, exactly_one_by, free_by, inferred_once, no_cond, not_null, not_null_by, of_box, says}
+use Rattle.qgm_props.specs.Inferred.{Fact, Facts, all_under_F, at_most_one, at_most_one_by, clean, clean_by, cond_free, error_free, exactly_one, exactly_one_by, free_by, inferred_once, no_cond, not_null, not_null_by, of_box, says}
 use Rattle.qgm_props.specs.Laws.{Premises}
 use Rattle.qgm_props.proofs.Counted.{exact-if, single-if}
 use Rattle.qgm_props.proofs.Environments.{first-in}
@@ -119,11 +119,3 @@ module _ (tables : List Table) (ns : List Node) (known : Facts) (given : Premise
         | inr t ↦ held-single n here env fit n.parts.kind look t
       ])
   step (exactly_one b) h = of-found (λ n. exactly_one_by ns known n.parts.kind n) b HasExactlyOne h (λ n here env fit e u all-bound look w. held-exact n here env fit n.parts.kind look w)
-
-pub rounds : (tables : List Table) (ns : List Node) → Premises tables ns → (m : ℕ) (fact : Fact) → says (after ns m) fact ≡ true → Holds tables ns fact
-rounds tables ns given zero (clean b) h = absurd (let z : ⊥ = cc in z)
-rounds tables ns given zero (error_free b k) h = absurd (let z : ⊥ = cc in z)
-rounds tables ns given zero (not_null b k) h = absurd (let z : ⊥ = cc in z)
-rounds tables ns given zero (at_most_one b) h = absurd (let z : ⊥ = cc in z)
-rounds tables ns given zero (exactly_one b) h = absurd (let z : ⊥ = cc in z)
-rounds tables ns given (suc m) fact h = step tables ns (after ns m) given (λ fact k. rounds tables ns given m fact k) fact h

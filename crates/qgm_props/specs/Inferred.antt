@@ -306,17 +306,3 @@ Closed boxes known = (fact : Fact) → says (inferred_once boxes known) fact ≡
 -- a fact that is in every set of facts to which no sentence adds
 abbrev pub Inferred : List Node → Fact → Type 0
 Inferred boxes fact = (known : Facts) → Closed boxes known → says known fact ≡ true
-
--- nothing is known, and what is inferred in so many rounds
-abbrev pub unknown : Facts
-unknown = record {
-  clean = λ b. false;
-  error_free = λ b k. false;
-  not_null = λ b k. false;
-  at_most_one = λ b. false;
-  exactly_one = λ b. false;
-}
-
-abbrev pub after : List Node → ℕ → Facts
-after boxes zero = unknown
-after boxes (suc m) = inferred_once boxes (after boxes m)

@@ -1,11 +1,16 @@
 // What is inferred of a graph, as it is asked.
-ghost use Rattle.std.specs.Prelude.{◌≡◌};
+ghost use Rattle.std.specs.Prelude.{◌≡◌, true, IfOk};
+ghost use Rattle.qgm_props.specs.Keys as keys;
+ghost use Rattle.qgm_props.specs.Laws.{KeyHolds, Tells};
 ghost use Rattle.qgm_props.specs.Table.{facts_of};
 
 use crate::facts::{
     BoxFacts, has_at_most_one, has_exactly_one, is_clean, is_error_free, is_not_null,
 };
-use qgm_core::BoxId;
+use crate::keys::has_key;
+use qgm_core::{BoxId, Graph};
+use shared_types::OutOfMemory;
+use std::alloc::Global;
 use std::marker::Model;
 
 /// What is inferred of the boxes of a graph.
@@ -64,5 +69,21 @@ impl Props {
         ensures { result ≡ (facts_of self.now).exactly_one b }
     {
         has_exactly_one(&self.boxes, b)
+    }
+
+    /// Whether the set of columns holds a key of the box, for the graph that these facts were
+    /// inferred of: whether some of the columns are a key. A box of at most one row has the empty
+    /// key. It fails only for want of memory.
+    pub fn holds_key(
+        &self,
+        alloc: Global,
+        graph: &Graph,
+        b: BoxId,
+        columns: &[usize],
+    ) -> Result<bool, OutOfMemory>
+        ensures exact { IfOk result (λ k. k ≡ keys.holds_key (facts_of self.now).at_most_one graph.now.boxes b columns.now) }
+        ensures holds { IfOk result (λ k. k ≡ true → Tells (facts_of self.now) graph.now.boxes → KeyHolds graph.now.boxes b columns.now) }
+    {
+        has_key(alloc, graph.nodes(), &self.boxes, b, columns)
     }
 }

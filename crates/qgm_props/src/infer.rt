@@ -2,8 +2,8 @@
 ghost use Rattle.std.specs.Prelude.{◌≡◌, ◌↔◌, ◌<◌, length, map, true, false, List, IfOk, OnOk, IsTrue};
 ghost use Rattle.row_bag.specs.declared.tables.Table.{Table};
 ghost use Rattle.qgm_props.specs.Holding.{Holds};
-ghost use Rattle.qgm_props.specs.Inferred.{Fact, Inferred, says};
-ghost use Rattle.qgm_props.specs.Laws.{Premises};
+ghost use Rattle.qgm_props.specs.Inferred.{Fact, says};
+ghost use Rattle.qgm_props.specs.Laws.{Premises, Tells};
 ghost use Rattle.qgm_props.specs.Table.{Improves, Stable, StableAt, facts_of, nothing_of, unknown_in};
 
 use crate::answers::Props;
@@ -110,7 +110,7 @@ fn improved_table(alloc: Global, nodes: &[Node]) -> Result<Vec<BoxFacts>, OutOfM
 /// Infers what holds of the boxes of a graph: the least set of facts that the sentences give. It
 /// fails only for want of memory.
 pub fn props(alloc: Global, graph: &Graph) -> Result<Props, OutOfMemory>
-    ensures exact { IfOk result (λ p. (fact : Fact) → (says (facts_of p) fact ≡ true) ↔ Inferred graph.now.boxes fact) }
+    ensures exact { IfOk result (λ p. Tells (facts_of p) graph.now.boxes) }
     ensures holds { IfOk result (λ p. (tables : List Table) → Premises tables graph.now.boxes → (fact : Fact) → says (facts_of p) fact ≡ true → Holds tables graph.now.boxes fact) }
 {
     let boxes = improved_table(alloc, graph.nodes())?;

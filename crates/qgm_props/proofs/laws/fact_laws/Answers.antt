@@ -1,6 +1,7 @@
 use Rattle.qgm_props.proofs.KeyedBoxes.{keys-hold}
 use Rattle.qgm_props.proofs.Monotone.{least}
-use Rattle.qgm_props.proofs.Step.{rounds, step}
+use Rattle.qgm_props.proofs.Settled.{inferred-holds}
+use Rattle.qgm_props.proofs.Step.{step}
 use Rattle.qgm_props.proofs.laws.fact_laws.Goals as goal
 
 pub returns-clause-least : goal.returns-clause-least
@@ -10,7 +11,7 @@ pub returns-clause-step : goal.returns-clause-step
 returns-clause-step c tables ns given known all fact h = step tables ns known given all fact h
 
 pub returns-clause-facts : goal.returns-clause-facts
-returns-clause-facts c = rounds
+returns-clause-facts c = inferred-holds
 
 pub returns-clause-keys : goal.returns-clause-keys
 returns-clause-keys c tables ns given known all b ks h = keys-hold tables ns known given all b ks h
