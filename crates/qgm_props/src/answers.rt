@@ -36,6 +36,13 @@ impl Props {
         Props { boxes }
     }
 
+    // The table.
+    pub(crate) fn table(&self) -> &[BoxFacts]
+        ensures { result.now ≡ self.now }
+    {
+        &self.boxes
+    }
+
     /// Whether no row of the box is at an error level.
     pub fn clean(&self, b: BoxId) -> bool
         ensures { result ≡ (facts_of self.now).clean b }

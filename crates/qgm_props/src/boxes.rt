@@ -220,7 +220,7 @@ fn is_box_single(nodes: &[Node], table: &[BoxFacts], node: &Node) -> bool
 }
 
 // How many columns a box has.
-fn width_of(node: &Node) -> usize
+pub fn width_of(node: &Node) -> usize
     ensures { result ≡ width node.now }
 {
     match &node.parts.kind {

@@ -3,6 +3,7 @@
 
 mod answers;
 mod boxes;
+mod calm;
 mod columns;
 mod expressions;
 mod facts;
@@ -12,6 +13,7 @@ mod laws;
 mod ranges;
 
 pub use answers::Props;
+pub use calm::is_calm;
 pub use facts::BoxFacts;
 pub use infer::props;
 pub use laws::fact_laws;
