@@ -1,9 +1,8 @@
 -- What is inferred of the boxes of a graph, sentence by sentence.
-use Rattle.std.specs.Prelude.{ℕ, ℤ, zero, suc, pos, negsuc, ◌≡◌, ◌==◌, ◌-◌, ◌+◌, ◌&&◌, ◌||◌, nat_lt, nat_le, if◌then◌else◌, Bool, true, false, List, [], ◌∷◌, length, take, Option, Some, None, slice_get}
+use Rattle.std.specs.Prelude.{ℕ, zero, suc, pos, negsuc, ◌≡◌, ◌==◌, ◌&&◌, ◌||◌, nat_lt, nat_le, if◌then◌else◌, Bool, true, false, List, length, take}
 use Rattle.std.specs.List.{list_any, list_all}
 use Rattle.sql_value.specs.Arithmetic.{fits_i64}
-use Rattle.qgm_core.specs.Boxes.{is_box, is_quant, owns, range_in, width}
-use Rattle.qgm_core.specs.Kinds.{is_F, is_enforce}
+use Rattle.qgm_core.specs.Boxes.{is_box, is_quant, width}
 use Rattle.qgm_core.specs.Lists.{first, holds}
 use Rattle.qgm_core.specs.declared.kinds.BaseTable.{BaseTable}
 use Rattle.qgm_core.specs.declared.kinds.BoxKind.{BoxKind}
@@ -16,6 +15,7 @@ use Rattle.qgm_terms.specs.Terms as t
 use Rattle.qgm_terms.specs.Terms.{Term, int, text, null_int, null_text, col, scalar, both, minus_of, choose, count_all, fold, Arms, no_arm, arm, Cond, always, compare, is_null, and, or, not, some, every}
 use Rattle.qgm_terms.specs.declared.tree.Op.{Op}
 use Rattle.qgm_terms.specs.declared.tree.Op.TheVariants.{Add, Sub, Mul, Div, Cat}
+pub use Rattle.qgm_props.specs.Under.{of_over, of_quant, all_under, all_under_F, under_first, under_second, under_two, all_places, of_cell, at_place, no_cond, of_box}
 
 -- facts of boxes by their numbers, and of columns, whose places count from 1
 pub record Facts : Type 0 where
@@ -28,17 +28,9 @@ pub record Facts : Type 0 where
   pub at_most_one : ℕ → Bool
   pub exactly_one : ℕ → Bool
 
--- the box that a quantifier ranges over; where nobody owns it no fact is known of it
-abbrev pub of_over : {X : Type 0} → X → (ℕ → X) → Option OwnedQuant → X
-of_over none known None = none
-of_over none known (Some r) = known r.over
-
-abbrev pub of_quant : List Node → (ℕ → Bool) → ℕ → Bool
-of_quant boxes known q = of_over false known (range_in q (first (owns q) boxes))
-
 -- ---- words of expressions
 
--- a divisor by which nothing fails
+-- a literal that is neither 0 nor -1: a divisor by which nothing fails
 abbrev pub divides : Term → Bool
 divides (int (pos zero)) = false
 divides (int (pos (suc n))) = true
@@ -55,7 +47,7 @@ divides (choose s x) = false
 divides count_all = false
 divides (fold f d x) = false
 
--- an operation on error-free operands, of which this is the right one
+-- an operation on error-free operands, of which this is the right one, is error-free: concatenation, and division by such a literal; other arithmetic isn't
 abbrev pub keeps_free : Op → Term → Bool
 keeps_free Add y = false
 keeps_free Sub y = false
@@ -63,7 +55,7 @@ keeps_free Mul y = false
 keeps_free Div y = divides y
 keeps_free Cat y = true
 
--- an aggregate of an error-free argument, over at most one row or not
+-- an aggregate of an error-free argument is error-free: COUNT, AVG, MIN and MAX, and the cell of at most one row; SUM never
 abbrev pub fold_free : Bool → t.Aggregate → Bool
 fold_free one t.single = one
 fold_free one t.count = true
@@ -72,48 +64,7 @@ fold_free one t.avg = true
 fold_free one t.least = true
 fold_free one t.greatest = true
 
--- ---- the boxes under the quantifiers of a box
-
-abbrev pub all_under : (ℕ → Bool) → List OwnedQuant → Bool
-all_under known rs = list_all (λ r. known r.over) rs
-
--- under the F quantifiers
-abbrev pub all_under_F : (ℕ → Bool) → List OwnedQuant → Bool
-all_under_F known [] = true
-all_under_F known (r ∷ rs) = if is_F r.kind then known r.over && all_under_F known rs else all_under_F known rs
-
--- under the first quantifier, and the second
-abbrev pub under_first : (ℕ → Bool) → List OwnedQuant → Bool
-under_first known [] = false
-under_first known (r ∷ rs) = known r.over
-
-abbrev pub under_second : (ℕ → Bool) → List OwnedQuant → Bool
-under_second known [] = false
-under_second known (r ∷ rs) = under_first known rs
-
-abbrev pub under_two : (ℕ → Bool) → List OwnedQuant → Bool
-under_two known rs = under_first known rs && under_second known rs
-
--- the places from 1 to w
-abbrev pub all_places : ℕ → (ℕ → Bool) → Bool
-all_places zero test = true
-all_places (suc w) test = test (suc w) && all_places w test
-
--- a test of the cell at a place, from 1; where there is none it fails
-abbrev pub of_cell : (Term → Bool) → Option Term → Bool
-of_cell test None = false
-of_cell test (Some x) = test x
-
-abbrev pub at_place : (Term → Bool) → List Term → ℕ → Bool
-at_place test head zero = false
-at_place test head (suc k) = of_cell test (slice_get head k)
-
--- there is no condition
-abbrev pub no_cond : List Cond → Bool
-no_cond [] = true
-no_cond (c ∷ cs) = false
-
--- COUNT gives a number of any rows
+-- COUNT is never null
 abbrev pub counts : t.Aggregate → Bool
 counts t.single = false
 counts t.count = true
@@ -135,13 +86,11 @@ is_count (both o x y) = false
 is_count (minus_of x) = false
 is_count (choose s x) = false
 
-abbrev pub of_box : {X : Type 0} → X → (Node → X) → Option Node → X
-of_box none said None = none
-of_box none said (Some n) = said n
-
+-- of boxes and facts that are known of them
 module _ (boxes : List Node) (known : Facts) where
   -- ---- error-free expressions and conditions
 
+  -- what is known of the box under a quantifier
   abbrev pub clean_under : ℕ → Bool
   clean_under = of_quant boxes known.clean
 
@@ -155,7 +104,8 @@ module _ (boxes : List Node) (known : Facts) where
   single_under = of_quant boxes known.at_most_one
 
   abbrev mutual
-    -- of an expression; numbers have 64 bits; an aggregate is one of at most one row, or not
+    -- an expression; one tells whether an aggregate is of at most one row
+    -- literals and nulls; error-free columns; a scalar of a clean box of at most one row whose column is; concatenation, CASE and division by a literal, of error-free parts; aggregates
     pub is_free : Bool → Term → Bool
     is_free one (int n) = fits_i64 n
     is_free one (text s) = true
@@ -169,10 +119,12 @@ module _ (boxes : List Node) (known : Facts) where
     is_free one count_all = true
     is_free one (fold f d x) = fold_free one f && is_free one x
 
+    -- the conditions and the results of a CASE
     pub arms_free : Bool → Arms → Bool
     arms_free one no_arm = true
     arms_free one (arm p x s) = cond_free one p && (is_free one x && arms_free one s)
 
+    -- a condition all of whose parts are; some and every of a clean box
     pub cond_free : Bool → Cond → Bool
     cond_free one always = true
     cond_free one (compare sign x y) = is_free one x && is_free one y
@@ -183,28 +135,9 @@ module _ (boxes : List Node) (known : Facts) where
     cond_free one (some q p) = clean_under q && cond_free one p
     cond_free one (every q p) = clean_under q && cond_free one p
 
-  -- ---- clean boxes
-
-  abbrev pub arms_error_free : ℕ → List OwnedQuant → Bool
-  arms_error_free w rs = all_places w (λ k. under_two (λ b. known.error_free b k) rs)
-
-  abbrev pub clean_op : SetOperator → ℕ → List OwnedQuant → Bool
-  clean_op UnionAll w rs = under_two known.clean rs
-  clean_op Union w rs = under_two known.clean rs
-  clean_op IntersectAll w rs = under_two known.clean rs && arms_error_free w rs
-  clean_op Intersect w rs = under_two known.clean rs && arms_error_free w rs
-  clean_op ExceptAll w rs = under_two known.clean rs && arms_error_free w rs
-  clean_op Except w rs = under_two known.clean rs && arms_error_free w rs
-
-  abbrev pub clean_by : BoxKind → Node → Bool
-  clean_by (Base table) n = true
-  clean_by Select n = all_under_F known.clean n.quants && list_all (cond_free false) n.parts.conds.items
-  clean_by (Group k) n = under_first known.clean n.quants && list_all (is_free false) (take k n.parts.head)
-  clean_by (SetOp form types) n = clean_op form (length types) n.quants
-  clean_by OuterJoin n = under_two known.clean n.quants && list_all (cond_free false) n.parts.conds.items
-
   -- ---- error-free columns
 
+  -- that of a union where both arms' columns are; of INTERSECT and EXCEPT where the box is clean too
   abbrev pub free_op : SetOperator → ℕ → List OwnedQuant → ℕ → Bool
   free_op UnionAll b rs k = under_two (λ b. known.error_free b k) rs
   free_op Union b rs k = under_two (λ b. known.error_free b k) rs
@@ -213,6 +146,7 @@ module _ (boxes : List Node) (known : Facts) where
   free_op ExceptAll b rs k = known.clean b && under_two (λ b. known.error_free b k) rs
   free_op Except b rs k = known.clean b && under_two (λ b. known.error_free b k) rs
 
+  -- that of a base; of a select or an outer join as its cell; of a clean group as its cell, whose aggregates are of its rows
   abbrev pub free_by : BoxKind → Node → ℕ → Bool
   free_by (Base table) n k = true
   free_by Select n k = at_place (is_free false) n.parts.head k
@@ -220,8 +154,50 @@ module _ (boxes : List Node) (known : Facts) where
   free_by (SetOp form types) n k = free_op form n.id n.quants k
   free_by OuterJoin n k = at_place (is_free false) n.parts.head k
 
-  -- ---- columns that hold no null
+  -- ---- clean boxes
 
+  -- each column of both arms is error-free
+  abbrev pub arms_error_free : ℕ → List OwnedQuant → Bool
+  arms_error_free w rs = all_places w (λ k. under_two (λ b. known.error_free b k) rs)
+
+  -- a union of clean arms; INTERSECT and EXCEPT of clean arms with error-free columns
+  abbrev pub clean_op : SetOperator → ℕ → List OwnedQuant → Bool
+  clean_op UnionAll w rs = under_two known.clean rs
+  clean_op Union w rs = under_two known.clean rs
+  clean_op IntersectAll w rs = under_two known.clean rs && arms_error_free w rs
+  clean_op Intersect w rs = under_two known.clean rs && arms_error_free w rs
+  clean_op ExceptAll w rs = under_two known.clean rs && arms_error_free w rs
+  clean_op Except w rs = under_two known.clean rs && arms_error_free w rs
+
+  -- a base; a select over clean F boxes with error-free conditions; a group of clean rows with error-free keys; an outer join of clean arms with error-free conditions
+  abbrev pub clean_by : BoxKind → Node → Bool
+  clean_by (Base table) n = true
+  clean_by Select n = all_under_F known.clean n.quants && list_all (cond_free false) n.parts.conds.items
+  clean_by (Group k) n = under_first known.clean n.quants && list_all (is_free false) (take k n.parts.head)
+  clean_by (SetOp form types) n = clean_op form (length types) n.quants
+  clean_by OuterJoin n = under_two known.clean n.quants && list_all (cond_free false) n.parts.conds.items
+
+  -- ---- rows
+
+  -- a group of some rows without keys; a select without conditions over F boxes of exactly one row; an outer join of exactly one row and at most one
+  abbrev pub exactly_one_by : BoxKind → Node → Bool
+  exactly_one_by (Base table) n = false
+  exactly_one_by Select n = all_under_F known.exactly_one n.quants && no_cond n.parts.conds.items
+  exactly_one_by (Group k) n = (k == 0) && under_first (λ b. true) n.quants
+  exactly_one_by (SetOp form types) n = false
+  exactly_one_by OuterJoin n = under_first known.exactly_one n.quants && under_second known.at_most_one n.quants
+
+  -- a select over F boxes of at most one row; an outer join of at most one row and at most one
+  abbrev pub at_most_one_by : BoxKind → Node → Bool
+  at_most_one_by (Base table) n = false
+  at_most_one_by Select n = all_under_F known.at_most_one n.quants
+  at_most_one_by (Group k) n = false
+  at_most_one_by (SetOp form types) n = false
+  at_most_one_by OuterJoin n = under_two known.at_most_one n.quants
+
+  -- ---- columns without null
+
+  -- a literal, and a column that holds no null
   abbrev pub holds_value : Term → Bool
   holds_value (int n) = true
   holds_value (text s) = true
@@ -235,7 +211,7 @@ module _ (boxes : List Node) (known : Facts) where
   holds_value count_all = false
   holds_value (fold f d x) = false
 
-  -- a column of the first quantifier that holds no null
+  -- the same where a column is one of the first quantifier
   abbrev pub holds_left : List OwnedQuant → Term → Bool
   holds_left rs (col q k) = list_any (is_quant q) (take 1 rs) && not_null_under q k
   holds_left rs (int n) = true
@@ -249,28 +225,13 @@ module _ (boxes : List Node) (known : Facts) where
   holds_left rs count_all = false
   holds_left rs (fold f d x) = false
 
+  -- a declared column; such a cell; COUNT; of an outer join such a cell of the left box; never of a set operation
   abbrev pub not_null_by : BoxKind → Node → ℕ → Bool
   not_null_by (Base table) n k = holds k table.not_null
   not_null_by Select n k = at_place holds_value n.parts.head k
   not_null_by (Group keys) n k = if nat_le k keys then at_place holds_value n.parts.head k else at_place is_count n.parts.head k
   not_null_by (SetOp form types) n k = false
   not_null_by OuterJoin n k = at_place (holds_left n.quants) n.parts.head k
-
-  -- ---- rows
-
-  abbrev pub exactly_one_by : BoxKind → Node → Bool
-  exactly_one_by (Base table) n = false
-  exactly_one_by Select n = all_under_F known.exactly_one n.quants && no_cond n.parts.conds.items
-  exactly_one_by (Group k) n = (k == 0) && under_first (λ b. true) n.quants
-  exactly_one_by (SetOp form types) n = false
-  exactly_one_by OuterJoin n = under_first known.exactly_one n.quants && under_second known.at_most_one n.quants
-
-  abbrev pub at_most_one_by : BoxKind → Node → Bool
-  at_most_one_by (Base table) n = false
-  at_most_one_by Select n = all_under_F known.at_most_one n.quants
-  at_most_one_by (Group k) n = false
-  at_most_one_by (SetOp form types) n = false
-  at_most_one_by OuterJoin n = under_two known.at_most_one n.quants
 
   -- ---- the facts of a box by the facts that are known; a box of exactly one row has at most one
 

@@ -1,4 +1,5 @@
 pub mod Facts
+pub mod Under
 pub mod Inferred
 pub mod Keys
 pub mod Calm
