@@ -7,3 +7,4 @@ pub mod Lists
 pub mod Table
 pub mod Holding
 pub mod Laws
+pub mod Examples

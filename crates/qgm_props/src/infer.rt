@@ -7,7 +7,7 @@ ghost use Rattle.qgm_props.specs.Laws.{Premises, Tells};
 ghost use Rattle.qgm_props.specs.Table.{Improves, Stable, StableAt, facts_of, nothing_of, unknown_in};
 
 use crate::answers::Props;
-use crate::boxes::{improved_facts, nothing_known};
+use crate::boxes::{either, improved_facts, nothing_known};
 use crate::facts::BoxFacts;
 use qgm_core::{Graph, Node};
 use shared_types::OutOfMemory;
@@ -72,7 +72,28 @@ fn improve_at(
     Ok(true)
 }
 
-// Improves what is known of each box, from the lowest rank up, and tells whether one improved.
+// Improves it so, and once more where it improved: the columns of a group that is clean are without
+// errors then, and a box of exactly one row has at most one.
+fn improve_twice(
+    alloc: Global,
+    nodes: &[Node],
+    table: &mut Vec<BoxFacts>,
+    i: usize,
+) -> Result<bool, OutOfMemory>
+    requires within { i < length nodes.now }
+    requires improves { Improves nodes.now table.old.items }
+    ensures improves { OnOk result (Improves nodes.now table.new.items) }
+    ensures same { IfOk result (λ better. better ≡ false → (table.new.items ≡ table.old.items) × StableAt nodes.now table.new.items i) }
+    ensures less { IfOk result (λ better. better ≡ true → unknown_in table.new.items < unknown_in table.old.items) }
+{
+    if !improve_at(alloc, nodes, table, i)? {
+        return Ok(false);
+    }
+    let more = improve_at(alloc, nodes, table, i)?;
+    Ok(either(true, more))
+}
+
+// Improves what is known of each box, from the last one to the first, and tells whether one improved.
 fn improve_each(
     alloc: Global,
     nodes: &[Node],
@@ -87,7 +108,7 @@ fn improve_each(
     let mut i = nodes.len();
     while i > 0 {
         i -= 1;
-        if improve_at(alloc, nodes, table, i)? {
+        if improve_twice(alloc, nodes, table, i)? {
             better = true;
         }
     }
