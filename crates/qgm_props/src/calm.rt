@@ -83,7 +83,9 @@ fn is_column_calm(boxes: &[Node], table: &[BoxFacts], node: &Node, column: Colum
 fn are_columns_calm(boxes: &[Node], table: &[BoxFacts], node: &Node, columns: &[Column]) -> bool
     ensures { result ≡ list_all (spec.calm_column boxes.now (facts_of table.now) node.now) columns.now }
 {
-    columns.iter().all(|c| is_column_calm(boxes, table, node, *c))
+    columns
+        .iter()
+        .all(|c| is_column_calm(boxes, table, node, *c))
 }
 
 // Whether a quantifier is calm as an S quantifier, or is none.
