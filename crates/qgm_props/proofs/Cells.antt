@@ -21,7 +21,8 @@ use Rattle.sql_value.specs.declared.level.Level.{Level}
 use Rattle.sql_value.specs.declared.level.Level.TheVariants.{No, Cardinality, Division, Overflow, Yes}
 use Rattle.sql_value.specs.declared.truth.Truth.{Truth}
 use Rattle.qgm_props.specs.Facts.{is_sound}
-use Rattle.qgm_props.proofs.Rows.{greatest-decided, is_decided, least-decided}
+use Rattle.bag_laws.specs.AsSets.{is_decided}
+use Rattle.qgm_props.proofs.Rows.{greatest-decided, least-decided}
 
 pub no-error : (x : Cell) → is_sound x ≡ true → error_of x ≡ None
 no-error (Int n) h = refl

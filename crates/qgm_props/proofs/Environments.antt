@@ -18,6 +18,7 @@ use Rattle.qgm_meaning.specs.Scope.{loose, loose_each, looks_found, quant_looks,
 use Rattle.qgm_meaning.specs.Values.{Bag, Environment, bound, row_of}
 use Rattle.qgm_meaning.proofs.Frames.{either-left, either-right}
 use Rattle.qgm_props.specs.Facts.{HasAtMostOne, IsClean, IsErrorFree, is_sound}
+use Rattle.qgm_props.proofs.EachClean.{EachClean, clean-each}
 use Rattle.qgm_props.specs.Holding.{AllBound, Fitting, HasRow, Holds, is_bound}
 use Rattle.qgm_props.specs.Inferred.{Fact, Facts, at_most_one, clean, clean_under, error_free, error_free_under, exactly_one, not_null, not_null_under, of_over, says, single_under}
 use Rattle.qgm_props.specs.Laws.{Premises}
@@ -96,7 +97,7 @@ module _ (tables : List Table) (ns : List Node) (known : Facts) (given : Premise
     -- what is known of the boxes under its quantifiers holds of their rows, where what these look up is bound
     pub rows-sound : (env : Environment) → Fitting bags ns env → ((r : OwnedQuant) → In r n.quants → AllBound ns r.over env) → SoundRows ns known (λ q. rows q env)
     rows-sound env f b = record {
-      clean = λ q h. at IsClean known.clean (λ c k. all (clean c) k env f) q tt h;
+      clean = λ q h. clean-each (rows q env) (at IsClean known.clean (λ c k. all (clean c) k env f) q refl h);
       free = λ q k h. at (IsErrorFree k) (λ c. known.error_free c k) (λ c j. all (error_free c k) j env f) q tt h;
       single = λ q h. at HasAtMostOne known.at_most_one (λ c k. all (at_most_one c) k env f) q (omega (arith)) h;
     }

@@ -31,9 +31,11 @@ use Rattle.sql_value.specs.declared.level.Level.{Level}
 use Rattle.sql_value.specs.declared.level.Level.TheVariants.{No, Cardinality, Division, Overflow, Yes}
 use Rattle.qgm_meaning.specs.Laws.{occurs}
 use Rattle.qgm_meaning.specs.Values.{Bag}
-use Rattle.qgm_props.specs.Facts.{Each, EachThere, HasAtMostOne, IsClean, is_sound}
+use Rattle.qgm_props.specs.Facts.{Each, EachThere, HasAtMostOne, is_sound}
+use Rattle.qgm_props.proofs.EachClean.{EachClean, clean-decided}
 use Rattle.qgm_props.proofs.Cells.{no-error}
-use Rattle.qgm_props.proofs.Rows.{clean-decided, each-append, each-occurs, least-there, is_decided, occurs-each, occurs-here, occurs-more, there-is, there_at}
+use Rattle.bag_laws.specs.AsSets.{is_decided}
+use Rattle.qgm_props.proofs.Rows.{each-append, each-occurs, least-there, occurs-each, occurs-here, occurs-more, there-is, there_at}
 
 -- ---- errors among rows
 
@@ -85,7 +87,7 @@ pub uncollapsed : (o : Option Kind) (w : ℕ) (rows : Bag) → o ≡ None → er
 uncollapsed None w rows e = refl
 uncollapsed (Some k) w rows e = absurd (let z : ⊥ = cc in z)
 
-pub clean-none : (o : Option Kind) (w : ℕ) (rows : Bag) → IsClean (error_or_bag (failed_cells w) o rows) → o ≡ None
+pub clean-none : (o : Option Kind) (w : ℕ) (rows : Bag) → EachClean (error_or_bag (failed_cells w) o rows) → o ≡ None
 clean-none None w rows c = refl
 clean-none (Some kind.Cardinality) w rows c = absurd (let x = c.0 in let z : ⊥ = cc in z)
 clean-none (Some kind.Division) w rows c = absurd (let x = c.0 in let z : ⊥ = cc in z)

@@ -39,6 +39,7 @@ use Rattle.qgm_terms.specs.Wanted.{reads, reads_cond}
 use Rattle.qgm_terms.specs.Terms.{Term, int, text, null_int, null_text, col, scalar, both, minus_of, choose, count_all, fold, Cond}
 use Rattle.qgm_meaning.specs.Satisfies.{SatisfiesBy}
 use Rattle.qgm_props.specs.Facts.{EachThere, HasAtMostOne, HasExactlyOne, IsClean, IsErrorFree, IsNotNull, is_sound}
+use Rattle.qgm_props.proofs.EachClean.{EachClean, clean-each}
 use Rattle.qgm_props.specs.Holding.{AllBound, Fitting, HasRow, Holds, is_bound}
 use Rattle.qgm_props.specs.Inferred.{Fact, Facts, all_under_F, arms_error_free, at_most_one, at_most_one_by, at_place, clean, clean_by, clean_op, cond_free, counts, error_free, exactly_one, exactly_one_by, free_by, free_op, holds_left, holds_value, is_count, is_free, no_cond, not_null, not_null_by, not_null_under, says, under_first, under_second, under_two}
 use Rattle.qgm_props.specs.Laws.{Premises}
@@ -145,7 +146,7 @@ module _ (tables : List Table) (ns : List Node) (known : Facts) (given : Premise
         none-in-arms (length types) (s p.id env) (s q.id env)
         (under-holds unders (Wide (length types)) p i (λ env w b. arm-rows tables ns given n form types p here e i env))
         (under-holds unders (Wide (length types)) q j (λ env w b. arm-rows tables ns given n form types q here e j env))
-        (under-holds unders IsClean p i (all (clean p.over) c)) (under-holds unders IsClean q j (all (clean q.over) d))
+        (clean-each (s p.id env) (under-holds unders IsClean p i (all (clean p.over) c))) (clean-each (s q.id env) (under-holds unders IsClean q j (all (clean q.over) d)))
         (λ k l m. under-holds unders (IsErrorFree k) p i (all (error_free p.over k) (f k l m).0)) (λ k l m. under-holds unders (IsErrorFree k) q j (all (error_free q.over k) (f k l m).1))
 
     -- columns of both arms, place by place
@@ -156,7 +157,7 @@ module _ (tables : List Table) (ns : List Node) (known : Facts) (given : Premise
         (subst (λ rs. under_two (λ b. known.error_free b k) rs ≡ true) e (places-all w (λ k. under_two (λ b. known.error_free b k) rs) h k l m))
 
     pub clean-set : (form : SetOperator) (types : List SqlType) → n.parts.kind ≡ SetOp form types → Looked (SetOp form types) → clean_op ns known form (length types) n.quants ≡ true
-        → IsClean (of_two n.quants (λ p q. combined form (length types) (s p env) (s q env)))
+        → EachClean (of_two n.quants (λ p q. combined form (length types) (s p env) (s q env)))
     clean-set form types e look h = go (parts form h)
       where
         Arms : SetOperator → Type 0
@@ -183,17 +184,17 @@ module _ (tables : List Table) (ns : List Node) (known : Facts) (given : Premise
         none ExceptAll xs ys a f = f a
         none Except xs ys a f = f a
 
-        go : (under_two known.clean n.quants ≡ true) × Arms form → IsClean (of_two n.quants (λ p q. combined form (length types) (s p env) (s q env)))
+        go : (under_two known.clean n.quants ≡ true) × Arms form → EachClean (of_two n.quants (λ p q. combined form (length types) (s p env) (s q env)))
         go a =
             let t = clean-two known.clean n.quants a.0 in
             let p = t.0 in let q = t.1.0 in let w = t.1.1.1.0 in
             let i = first-own p (q ∷ t.1.1.0) w in let j = second-own p q t.1.1.0 w in
-            on-two IsClean n.quants (λ p q. combined form (length types) (s p env) (s q env)) p q t.1.1.0 w
+            on-two EachClean n.quants (λ p q. combined form (length types) (s p env) (s q env)) p q t.1.1.0 w
             (combined-clean form (length types) (s p.id env) (s q.id env)
-            (under-holds look IsClean p i (all (clean p.over) t.1.1.1.1.0)) (under-holds look IsClean q j (all (clean q.over) t.1.1.1.1.1))
+            (clean-each (s p.id env) (under-holds look IsClean p i (all (clean p.over) t.1.1.1.1.0))) (clean-each (s q.id env) (under-holds look IsClean q j (all (clean q.over) t.1.1.1.1.1)))
             (none form (s p.id env) (s q.id env) a.1 (λ f. no-error-read form types e look p q i j t.1.1.1.1.0 t.1.1.1.1.1 (arms-free (length types) n.quants p q t.1.1.0 w f))))
 
-    pub free-set : (form : SetOperator) (types : List SqlType) (k : ℕ) → Looked (SetOp form types) → (known.clean n.id ≡ true → IsClean (of_two n.quants (λ p q. combined form (length types) (s p env) (s q env))))
+    pub free-set : (form : SetOperator) (types : List SqlType) (k : ℕ) → Looked (SetOp form types) → (known.clean n.id ≡ true → EachClean (of_two n.quants (λ p q. combined form (length types) (s p env) (s q env))))
         → free_op ns known form n.id n.quants k ≡ true → IsErrorFree k (of_two n.quants (λ p q. combined form (length types) (s p env) (s q env)))
     free-set form types k look clear h = go (parts form h)
       where
@@ -213,7 +214,7 @@ module _ (tables : List Table) (ns : List Node) (known : Facts) (given : Premise
         parts ExceptAll h = and_parts (known.clean n.id) (under_two (λ b. known.error_free b k) n.quants) h
         parts Except h = and_parts (known.clean n.id) (under_two (λ b. known.error_free b k) n.quants) h
 
-        none : (form : SetOperator) (xs ys : Bag) → Whole form → (known.clean n.id ≡ true → IsClean (combined form (length types) xs ys)) → NoneIn form xs ys
+        none : (form : SetOperator) (xs ys : Bag) → Whole form → (known.clean n.id ≡ true → EachClean (combined form (length types) xs ys)) → NoneIn form xs ys
         none UnionAll xs ys a f = tt
         none Union xs ys a f = tt
         none IntersectAll xs ys a f = clean-combined IntersectAll (length types) xs ys (f a)
@@ -229,7 +230,7 @@ module _ (tables : List Table) (ns : List Node) (known : Facts) (given : Premise
             on-two (IsErrorFree k) n.quants (λ p q. combined form (length types) (s p env) (s q env)) p q t.1.1.0 w
             (combined-each (λ cells. is_sound (cell_of k cells) ≡ true) form (length types) (s p.id env) (s q.id env)
             (under-holds look (IsErrorFree k) p i (all (error_free p.over k) t.1.1.1.1.0)) (under-holds look (IsErrorFree k) q j (all (error_free q.over k) t.1.1.1.1.1))
-            (none form (s p.id env) (s q.id env) a.0 (λ c. subst (λ rs. IsClean (of_two rs (λ p q. combined form (length types) (s p env) (s q env)))) w (clear c))))
+            (none form (s p.id env) (s q.id env) a.0 (λ c. subst (λ rs. EachClean (of_two rs (λ p q. combined form (length types) (s p env) (s q env)))) w (clear c))))
 
     -- ---- groups
 
@@ -259,33 +260,33 @@ module _ (tables : List Table) (ns : List Node) (known : Facts) (given : Premise
     )
 
     pub clean-group : (k : ℕ) → Looked (Group k) → (under_first known.clean n.quants && list_all (is_free ns known false) (take k n.parts.head)) ≡ true
-        → IsClean (of_one n.quants (λ q. grouped_rows k n.parts.head q env (s q env)))
+        → EachClean (of_one n.quants (λ q. grouped_rows k n.parts.head q env (s q env)))
     clean-group k look h =
         let a = and_parts (under_first known.clean n.quants) (list_all (is_free ns known false) (take k n.parts.head)) h in
         let t = first-of known.clean n.quants a.0 in let r = t.0 in
         let i = first-own r t.1.0 t.1.1.0 in
-        let c = under-holds (group-under k look) IsClean r i (all (clean r.over) t.1.1.1) in
-        on-one IsClean n.quants (λ q. grouped_rows k n.parts.head q env (s q env)) r t.1.0 t.1.1.0
-        (subst IsClean (sym (uncollapsed (error_among (λ cells. error_in (key_cells k n.parts.head r.id env cells)) (s r.id env)) (length n.parts.head) (groups k n.parts.head r.id env (s r.id env))
+        let c = clean-each (s r.id env) (under-holds (group-under k look) IsClean r i (all (clean r.over) t.1.1.1)) in
+        on-one EachClean n.quants (λ q. grouped_rows k n.parts.head q env (s q env)) r t.1.0 t.1.1.0
+        (subst EachClean (sym (uncollapsed (error_among (λ cells. error_in (key_cells k n.parts.head r.id env cells)) (s r.id env)) (length n.parts.head) (groups k n.parts.head r.id env (s r.id env))
         (no-key-error ns known r.id n.parts.head env (s r.id env) (λ cells o. one-bound (group-under k look) r i cells o) k c a.1)))
         (groups-clean k r.id (s r.id env)))
       where
-        groups-clean : (k : ℕ) (q : ℕ) (xs : Bag) → IsClean (groups k n.parts.head q env xs)
+        groups-clean : (k : ℕ) (q : ℕ) (xs : Bag) → EachClean (groups k n.parts.head q env xs)
         groups-clean zero q xs = (refl, tt)
         groups-clean (suc k) q xs =
             clean-bind (once same_cells (bind xs (λ c. unit (key_cells (suc k) n.parts.head q env c)))) (λ key. unit (key ++ fold_cells (suc k) n.parts.head q env (of_group same_cells (key_cells (suc k) n.parts.head q env) key xs)))
             (clean-once (bind xs (λ c. unit (key_cells (suc k) n.parts.head q env c)))) (λ c o. (refl, tt))
 
     -- the rows of a group whose bag is clean are those of its groups, over clean rows
-    group-rows : (P : Bag → Type 0) (k : ℕ) (r : OwnedQuant) (more : List OwnedQuant) → n.quants ≡ r ∷ more → IsClean (of_one n.quants (λ q. grouped_rows k n.parts.head q env (s q env)))
-        → (IsClean (s r.id env) → P (groups k n.parts.head r.id env (s r.id env))) → P (of_one n.quants (λ q. grouped_rows k n.parts.head q env (s q env)))
+    group-rows : (P : Bag → Type 0) (k : ℕ) (r : OwnedQuant) (more : List OwnedQuant) → n.quants ≡ r ∷ more → EachClean (of_one n.quants (λ q. grouped_rows k n.parts.head q env (s q env)))
+        → (EachClean (s r.id env) → P (groups k n.parts.head r.id env (s r.id env))) → P (of_one n.quants (λ q. grouped_rows k n.parts.head q env (s q env)))
     group-rows P k r more e c f =
         on-one P n.quants (λ q. grouped_rows k n.parts.head q env (s q env)) r more e
-        (let w = clean-none (error_among (λ cells. error_in (key_cells k n.parts.head r.id env cells)) (s r.id env)) (length n.parts.head) (groups k n.parts.head r.id env (s r.id env)) (subst (λ rs. IsClean (of_one rs (λ q. grouped_rows k n.parts.head q env (s q env)))) e c) in
+        (let w = clean-none (error_among (λ cells. error_in (key_cells k n.parts.head r.id env cells)) (s r.id env)) (length n.parts.head) (groups k n.parts.head r.id env (s r.id env)) (subst (λ rs. EachClean (of_one rs (λ q. grouped_rows k n.parts.head q env (s q env)))) e c) in
         subst P (sym (uncollapsed (error_among (λ cells. error_in (key_cells k n.parts.head r.id env cells)) (s r.id env)) (length n.parts.head) (groups k n.parts.head r.id env (s r.id env)) w))
         (f (clean-among (λ cells. error_in (key_cells k n.parts.head r.id env cells)) (s r.id env) w).0))
 
-    pub free-group : (k place : ℕ) → Looked (Group k) → (known.clean n.id ≡ true → IsClean (of_one n.quants (λ q. grouped_rows k n.parts.head q env (s q env))))
+    pub free-group : (k place : ℕ) → Looked (Group k) → (known.clean n.id ≡ true → EachClean (of_one n.quants (λ q. grouped_rows k n.parts.head q env (s q env))))
         → (known.clean n.id && at_place (is_free ns known (under_first known.at_most_one n.quants)) n.parts.head place) ≡ true → IsErrorFree place (of_one n.quants (λ q. grouped_rows k n.parts.head q env (s q env)))
     free-group k place look clear h = go n.quants refl
       where
@@ -396,15 +397,15 @@ module _ (tables : List Table) (ns : List Node) (known : Facts) (given : Premise
 
     -- ---- outer joins
 
-    pub clean-outer : Looked OuterJoin → (under_two known.clean n.quants && list_all (cond_free ns known false) n.parts.conds.items) ≡ true → IsClean (of_two n.quants (outer_rows n s env))
+    pub clean-outer : Looked OuterJoin → (under_two known.clean n.quants && list_all (cond_free ns known false) n.parts.conds.items) ≡ true → EachClean (of_two n.quants (outer_rows n s env))
     clean-outer look h =
         let a = and_parts (under_two known.clean n.quants) (list_all (cond_free ns known false) n.parts.conds.items) h in
         let t = clean-two known.clean n.quants a.0 in
         let p = t.0 in let q = t.1.0 in let w = t.1.1.1.0 in
         let i = first-own p (q ∷ t.1.1.0) w in let j = second-own p q t.1.1.0 w in
         let unders = outer-under look in
-        on-two IsClean n.quants (outer_rows n s env) p q t.1.1.0 w
-        (outer-clean n s env p.id q.id ns known (under-holds unders IsClean p i (all (clean p.over) t.1.1.1.1.0)) (under-holds unders IsClean q j (all (clean q.over) t.1.1.1.1.1)) a.1
+        on-two EachClean n.quants (outer_rows n s env) p q t.1.1.0 w
+        (outer-clean n s env p.id q.id ns known (clean-each (s p.id env) (under-holds unders IsClean p i (all (clean p.over) t.1.1.1.1.0))) (clean-each (s q.id env) (under-holds unders IsClean q j (all (clean q.over) t.1.1.1.1.1))) a.1
         (λ a b o v. two-bound unders p q i j a b o v))
 
     -- a statement on each tuple of an outer join

@@ -21,7 +21,8 @@ use Rattle.qgm_core.specs.declared.node.Node.{Node}
 use Rattle.qgm_meaning.specs.Meaning.{rows_or_none}
 use Rattle.qgm_meaning.specs.Values.{Bag}
 use Rattle.qgm_meaning.specs.Satisfies.{FoundSatisfies, RowsSatisfy, Satisfies, SatisfiesBy, are_of, have_values, is_of, is_value, is_yes}
-use Rattle.qgm_props.specs.Facts.{Each, EachThere, IsClean, IsErrorFree, IsNotNull, is_sound}
+use Rattle.qgm_props.specs.Facts.{Each, EachThere, IsErrorFree, IsNotNull, is_sound}
+use Rattle.qgm_props.proofs.EachClean.{EachClean}
 use Rattle.qgm_props.proofs.Terms.{no-cell}
 
 -- each base among these is satisfied
@@ -75,7 +76,7 @@ filled (j ∷ ks) cells k e h = let a = and_parts (is_value (cell_of j cells)) (
 ]
 
 module _ (table : BaseTable) where
-  pub base-clean : (o : Option Bag) → FoundSatisfies table o → IsClean (rows_or_none o)
+  pub base-clean : (o : Option Bag) → FoundSatisfies table o → EachClean (rows_or_none o)
   base-clean None f = absurd f
   base-clean (Some rows) f = all-each (λ r. is_yes r.level) (λ r. error_at r.level ≡ None) rows (λ r h. yes-clean r.level h) f.at_yes
 

@@ -31,7 +31,8 @@ use Rattle.qgm_meaning.specs.Values.{Bag, Environment, bound, head_cells, row_of
 use Rattle.qgm_meaning.proofs.Frames.{either-left, either-right}
 use Rattle.qgm_terms.specs.Wanted.{reads, reads_cond}
 use Rattle.qgm_terms.specs.Terms.{Term, int, text, null_int, null_text, col, scalar, both, minus_of, choose, count_all, fold, Cond}
-use Rattle.qgm_props.specs.Facts.{Each, EachThere, HasAtMostOne, IsClean, is_sound}
+use Rattle.qgm_props.specs.Facts.{Each, EachThere, HasAtMostOne, is_sound}
+use Rattle.qgm_props.proofs.EachClean.{EachClean}
 use Rattle.qgm_props.specs.Inferred.{Facts, at_place, counts, fold_free, is_count, is_free}
 use Rattle.qgm_props.proofs.Cells.{no-error}
 use Rattle.qgm_props.proofs.Counted.{bind-one, occurs-once}
@@ -89,7 +90,7 @@ module _ (boxes : List Node) (known : Facts) (q : ℕ) (head : List Term) (env :
   module _ (columns : (cells : List Cell) → occurs cells rows ≡ true → SoundColumns boxes known (bound q cells env)) where
     -- ---- errors
 
-    pub no-key-error : (k : ℕ) → IsClean rows → list_all (is_free boxes known false) (take k head) ≡ true → error_among (λ cells. error_in (key_cells k head q env cells)) rows ≡ None
+    pub no-key-error : (k : ℕ) → EachClean rows → list_all (is_free boxes known false) (take k head) ≡ true → error_among (λ cells. error_in (key_cells k head q env cells)) rows ≡ None
     no-key-error k c h =
         none-among (λ cells. error_in (key_cells k head q env cells)) rows c
         (each-occurs (λ cells. error_in (key_cells k head q env cells) ≡ None) rows (λ cells o. none-in (key_cells k head q env cells) (all-sound boxes known false (take k head) (bound q cells env) (columns cells o) h)))
@@ -97,7 +98,7 @@ module _ (boxes : List Node) (known : Facts) (q : ℕ) (head : List Term) (env :
     -- ---- an aggregate
 
     -- of rows that are among those of the quantifier
-    pub fold-sound : (one : Bool) (members : Bag) → IsClean members → ((cells : List Cell) → occurs cells members ≡ true → occurs cells rows ≡ true) → (one ≡ true → how_many members ≤ 1)
+    pub fold-sound : (one : Bool) (members : Bag) → EachClean members → ((cells : List Cell) → occurs cells members ≡ true → occurs cells rows ≡ true) → (one ≡ true → how_many members ≤ 1)
         → (x : Term) → is_free boxes known one x ≡ true → is_sound (fold_cell q env members x) ≡ true
     fold-sound one members c i m count_all h = rows-counted members
     fold-sound one members c i m (fold f d x) h =
@@ -106,7 +107,7 @@ module _ (boxes : List Node) (known : Facts) (q : ℕ) (head : List Term) (env :
         (arguments-clean members c) (arguments-sound members (each-occurs (λ cells. is_sound (value nothing x (bound q cells env)) ≡ true) members (λ cells o. value-sound boxes known nothing (nothing-sound boxes known) one x (bound q cells env) (columns cells (i cells o)) a.1)))
         (λ t. let n = arguments-many members in omega (arith, n, m t))
       where
-        arguments-clean : (members : Bag) → IsClean members → Each (λ r. error_at r.level ≡ None) (bind members (λ cells. unit (value nothing x (bound q cells env))))
+        arguments-clean : (members : Bag) → EachClean members → Each (λ r. error_at r.level ≡ None) (bind members (λ cells. unit (value nothing x (bound q cells env))))
         arguments-clean [] c = tt
         arguments-clean (r ∷ members) c = (ap error_at (least-yes r.level) ∙ c.0, arguments-clean members c.1)
 
@@ -137,10 +138,10 @@ module _ (boxes : List Node) (known : Facts) (q : ℕ) (head : List Term) (env :
         one true c o = ((λ _. o), tt)
         one false c o = tt
 
-    of-key-clean : (key : List Cell → List Cell) (k : List Cell) → IsClean rows → IsClean (of_group same_cells key k rows)
+    of-key-clean : (key : List Cell → List Cell) (k : List Cell) → EachClean rows → EachClean (of_group same_cells key k rows)
     of-key-clean key k c = clean-bind rows (λ c. cond (same_cells (key c) k) (unit c) []) c (λ c o. one (same_cells (key c) k) c)
       where
-        one : (b : Bool) (c : List Cell) → IsClean (cond b (unit c) [])
+        one : (b : Bool) (c : List Cell) → EachClean (cond b (unit c) [])
         one true c = (refl, tt)
         one false c = tt
 
@@ -154,8 +155,8 @@ module _ (boxes : List Node) (known : Facts) (q : ℕ) (head : List Term) (env :
     -- what holds of each cell at a place holds of that of each group, over clean rows
     pub group-each : (test : Term → Bool) (P : Cell → Type 0) (k place : ℕ) → at_place test head place ≡ true
         → (place ≤ k → (cells : List Cell) → occurs cells rows ≡ true → (x : Term) → In x head → test x ≡ true → P (value nothing x (bound q cells env)))
-        → (k < place → (members : Bag) → IsClean members → ((cells : List Cell) → occurs cells members ≡ true → occurs cells rows ≡ true) → (HasAtMostOne rows → HasAtMostOne members) → (x : Term) → In x head → test x ≡ true → P (fold_cell q env members x))
-        → IsClean rows → EachThere (λ cells. P (cell_of place cells)) (groups k head q env rows)
+        → (k < place → (members : Bag) → EachClean members → ((cells : List Cell) → occurs cells members ≡ true → occurs cells rows ≡ true) → (HasAtMostOne rows → HasAtMostOne members) → (x : Term) → In x head → test x ≡ true → P (fold_cell q env members x))
+        → EachClean rows → EachThere (λ cells. P (cell_of place cells)) (groups k head q env rows)
     group-each test P zero place h f g c = ((λ _. group-cell test (λ x. Null) (fold_cell q env rows) P 0 head place h (λ l. absurd (below place h l)) (λ l x i t. g l rows c (λ cells o. o) (λ m. m) x i t)), tt)
       where
         below : (place : ℕ) → at_place test head place ≡ true → place ≤ 0 → ⊥

@@ -17,7 +17,8 @@ use Rattle.qgm_meaning.specs.Laws.{occurs}
 use Rattle.qgm_meaning.specs.Meaning.{Family, given, nothing, outer_rows}
 use Rattle.qgm_meaning.specs.Values.{Bag, Environment, all_true, bound, head_cells, row_of, value}
 use Rattle.qgm_terms.specs.Terms.{Term, Cond}
-use Rattle.qgm_props.specs.Facts.{EachThere, HasAtMostOne, HasExactlyOne, IsClean, is_sound}
+use Rattle.qgm_props.specs.Facts.{EachThere, HasAtMostOne, HasExactlyOne, is_sound}
+use Rattle.qgm_props.proofs.EachClean.{EachClean}
 use Rattle.qgm_props.specs.Inferred.{Facts, cond_free, error_free_under}
 use Rattle.qgm_props.proofs.Cells.{Decided}
 use Rattle.qgm_props.proofs.Counted.{bind-exact, bind-one}
@@ -71,11 +72,11 @@ module _ (n : Node) (s : Family) (env : Environment) (p q : ℕ) where
       (each-bind P (s q env) (λ b. given nothing n (bound q b (bound p a env))) (λ b w. each-keep P (all_true nothing n.parts.conds.items (bound q b (bound p a env))).t (unit (head_cells nothing n.parts.head (bound q b (bound p a env)))) (λ t. ((λ _. h a b o w), tt))))
       ((λ _. k a o), tt))
 
-  pub outer-clean : (boxes : List Node) (known : Facts) → IsClean (s p env) → IsClean (s q env) → list_all (cond_free boxes known false) n.parts.conds.items ≡ true
-      → ((a b : List Cell) → occurs a (s p env) ≡ true → occurs b (s q env) ≡ true → SoundColumns boxes known (bound q b (bound p a env))) → IsClean (outer_rows n s env p q)
+  pub outer-clean : (boxes : List Node) (known : Facts) → EachClean (s p env) → EachClean (s q env) → list_all (cond_free boxes known false) n.parts.conds.items ≡ true
+      → ((a b : List Cell) → occurs a (s p env) ≡ true → occurs b (s q env) ≡ true → SoundColumns boxes known (bound q b (bound p a env))) → EachClean (outer_rows n s env p q)
   outer-clean boxes known c d h columns =
       clean-bind (s p env) (λ a. or_else (partners a) (unit (alone a))) c
-      (λ a o. of-either IsClean (partners a) (unit (alone a))
+      (λ a o. of-either EachClean (partners a) (unit (alone a))
       (clean-bind (s q env) (λ b. given nothing n (bound q b (bound p a env))) d
       (λ b w. clean-keep (all_true nothing n.parts.conds.items (bound q b (bound p a env))).t (unit (head_cells nothing n.parts.head (bound q b (bound p a env))))
       (all-decided boxes known nothing (nothing-sound boxes known) n.parts.conds.items (bound q b (bound p a env)) (columns a b o w) h).0 (refl, tt)))

@@ -15,7 +15,8 @@ use Rattle.qgm_meaning.specs.Laws.{occurs}
 use Rattle.qgm_meaning.specs.Meaning.{combined}
 use Rattle.qgm_meaning.specs.Values.{Bag}
 use Rattle.qgm_meaning.specs.Widths.{Wide}
-use Rattle.qgm_props.specs.Facts.{Each, EachThere, IsClean, IsErrorFree, is_sound}
+use Rattle.qgm_props.specs.Facts.{Each, EachThere, IsErrorFree, is_sound}
+use Rattle.qgm_props.proofs.EachClean.{EachClean}
 use Rattle.qgm_props.specs.Inferred.{all_places}
 use Rattle.qgm_props.proofs.Counted.{occurs-once}
 use Rattle.qgm_props.proofs.Folds.{clean-none, none-among, none-in, uncollapsed}
@@ -50,7 +51,7 @@ no-error-in w (r ∷ rows) d h = (
   no-error-in w rows d.1 (λ k l m. (h k l m).1),
 )
 
-pub none-in-arms : (w : ℕ) (xs ys : Bag) → Wide w xs → Wide w ys → IsClean xs → IsClean ys → ((k : ℕ) → 1 ≤ k → k ≤ w → IsErrorFree k xs) → ((k : ℕ) → 1 ≤ k → k ≤ w → IsErrorFree k ys) → error_among error_in (xs ++ ys) ≡ None
+pub none-in-arms : (w : ℕ) (xs ys : Bag) → Wide w xs → Wide w ys → EachClean xs → EachClean ys → ((k : ℕ) → 1 ≤ k → k ≤ w → IsErrorFree k xs) → ((k : ℕ) → 1 ≤ k → k ≤ w → IsErrorFree k ys) → error_among error_in (xs ++ ys) ≡ None
 none-in-arms w xs ys a b c d e f =
     none-among error_in (xs ++ ys) (each-append (λ r. error_at r.level ≡ None) xs ys c d)
     (each-append (λ r. is_there r ≡ true → error_in r.cells ≡ None) xs ys (no-error-in w xs a e) (no-error-in w ys b f))
@@ -59,7 +60,7 @@ none-in-arms w xs ys a b c d e f =
 copied : (P : List Cell → Type 0) (xs : Bag) (n : List Cell → ℕ) → EachThere P xs → EachThere P (bind (once same_cells xs) (λ c. copies (n c) c))
 copied P xs n h = each-bind P (once same_cells xs) (λ c. copies (n c) c) (λ c o. each-copies P (n c) c (occurs-each P xs h c (occurs-once c xs o)))
 
-copied-clean : (xs : Bag) (n : List Cell → ℕ) → IsClean (bind (once same_cells xs) (λ c. copies (n c) c))
+copied-clean : (xs : Bag) (n : List Cell → ℕ) → EachClean (bind (once same_cells xs) (λ c. copies (n c) c))
 copied-clean xs n = clean-bind (once same_cells xs) (λ c. copies (n c) c) (clean-once xs) (λ c o. clean-copies (n c) c)
 
 -- an operation other than UNION reads no error
@@ -71,13 +72,13 @@ NoneIn Intersect xs ys = error_among error_in (xs ++ ys) ≡ None
 NoneIn ExceptAll xs ys = error_among error_in (xs ++ ys) ≡ None
 NoneIn Except xs ys = error_among error_in (xs ++ ys) ≡ None
 
-pub combined-clean : (form : SetOperator) (w : ℕ) (xs ys : Bag) → IsClean xs → IsClean ys → NoneIn form xs ys → IsClean (combined form w xs ys)
+pub combined-clean : (form : SetOperator) (w : ℕ) (xs ys : Bag) → EachClean xs → EachClean ys → NoneIn form xs ys → EachClean (combined form w xs ys)
 combined-clean UnionAll w xs ys c d n = each-append (λ r. error_at r.level ≡ None) xs ys c d
 combined-clean Union w xs ys c d n = clean-distinct (xs ++ ys) (each-append (λ r. error_at r.level ≡ None) xs ys c d)
-combined-clean IntersectAll w xs ys c d n = subst IsClean (sym (uncollapsed (error_among error_in (xs ++ ys)) w (sets.intersect_all same_cells xs ys) n)) (copied-clean xs (λ c. min (multiplicity same_cells c xs) (multiplicity same_cells c ys)))
-combined-clean Intersect w xs ys c d n = subst IsClean (sym (uncollapsed (error_among error_in (xs ++ ys)) w (sets.intersect same_cells xs ys) n)) (copied-clean xs (λ c. min 1 (multiplicity same_cells c ys)))
-combined-clean ExceptAll w xs ys c d n = subst IsClean (sym (uncollapsed (error_among error_in (xs ++ ys)) w (sets.except_all same_cells xs ys) n)) (copied-clean xs (λ c. multiplicity same_cells c xs - multiplicity same_cells c ys))
-combined-clean Except w xs ys c d n = subst IsClean (sym (uncollapsed (error_among error_in (xs ++ ys)) w (sets.except same_cells xs ys) n)) (copied-clean xs (λ c. 1 - multiplicity same_cells c ys))
+combined-clean IntersectAll w xs ys c d n = subst EachClean (sym (uncollapsed (error_among error_in (xs ++ ys)) w (sets.intersect_all same_cells xs ys) n)) (copied-clean xs (λ c. min (multiplicity same_cells c xs) (multiplicity same_cells c ys)))
+combined-clean Intersect w xs ys c d n = subst EachClean (sym (uncollapsed (error_among error_in (xs ++ ys)) w (sets.intersect same_cells xs ys) n)) (copied-clean xs (λ c. min 1 (multiplicity same_cells c ys)))
+combined-clean ExceptAll w xs ys c d n = subst EachClean (sym (uncollapsed (error_among error_in (xs ++ ys)) w (sets.except_all same_cells xs ys) n)) (copied-clean xs (λ c. multiplicity same_cells c xs - multiplicity same_cells c ys))
+combined-clean Except w xs ys c d n = subst EachClean (sym (uncollapsed (error_among error_in (xs ++ ys)) w (sets.except same_cells xs ys) n)) (copied-clean xs (λ c. 1 - multiplicity same_cells c ys))
 
 -- what holds of each tuple of both arms
 pub combined-each : (P : List Cell → Type 0) (form : SetOperator) (w : ℕ) (xs ys : Bag) → EachThere P xs → EachThere P ys → NoneIn form xs ys → EachThere P (combined form w xs ys)
@@ -89,7 +90,7 @@ combined-each P ExceptAll w xs ys h k n = subst (EachThere P) (sym (uncollapsed 
 combined-each P Except w xs ys h k n = subst (EachThere P) (sym (uncollapsed (error_among error_in (xs ++ ys)) w (sets.except same_cells xs ys) n)) (copied P xs (λ c. 1 - multiplicity same_cells c ys) h)
 
 -- a clean operation isn't collapsed
-pub clean-combined : (form : SetOperator) (w : ℕ) (xs ys : Bag) → IsClean (combined form w xs ys) → NoneIn form xs ys
+pub clean-combined : (form : SetOperator) (w : ℕ) (xs ys : Bag) → EachClean (combined form w xs ys) → NoneIn form xs ys
 clean-combined UnionAll w xs ys c = tt
 clean-combined Union w xs ys c = tt
 clean-combined IntersectAll w xs ys c = clean-none (error_among error_in (xs ++ ys)) w (sets.intersect_all same_cells xs ys) c

@@ -1,3 +1,4 @@
+mod EachClean
 mod Rows
 mod Counted
 mod Cells

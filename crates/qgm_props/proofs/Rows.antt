@@ -17,7 +17,9 @@ use Rattle.qgm_meaning.specs.Laws.{occurs}
 use Rattle.qgm_meaning.specs.Meaning.{once_if}
 use Rattle.qgm_meaning.specs.Values.{Bag}
 use Rattle.qgm_meaning.proofs.Frames.{either-left, either-right}
-use Rattle.qgm_props.specs.Facts.{Each, EachThere, IsClean}
+use Rattle.qgm_props.specs.Facts.{Each, EachThere}
+use Rattle.bag_laws.specs.AsSets.{is_decided}
+use Rattle.qgm_props.proofs.EachClean.{EachClean, clean-decided, decided-clean}
 
 -- a level of a row that is there
 abbrev pub there_at : Level → Bool
@@ -102,28 +104,6 @@ each-bind P (x ∷ xs) f h =
     each-append (λ r. is_there r ≡ true → P r.cells) (keep x.level (f x.cells)) (bind xs f)
     (each-keep P x.level (f x.cells) (λ t. h x.cells (occurs-here x xs (there-is x.cells x.level ∙ t)))) (each-bind P xs f (λ c o. h c (occurs-more c x xs o)))
 
--- a level that isn't an error's
-abbrev pub is_decided : Level → Bool
-is_decided No = true
-is_decided Cardinality = false
-is_decided Division = false
-is_decided Overflow = false
-is_decided Yes = true
-
-pub decided-clean : (l : Level) → is_decided l ≡ true → error_at l ≡ None
-decided-clean No h = refl
-decided-clean Cardinality h = absurd (let z : ⊥ = cc in z)
-decided-clean Division h = absurd (let z : ⊥ = cc in z)
-decided-clean Overflow h = absurd (let z : ⊥ = cc in z)
-decided-clean Yes h = refl
-
-pub clean-decided : (l : Level) → error_at l ≡ None → is_decided l ≡ true
-clean-decided No h = refl
-clean-decided Cardinality h = absurd (let z : ⊥ = cc in z)
-clean-decided Division h = absurd (let z : ⊥ = cc in z)
-clean-decided Overflow h = absurd (let z : ⊥ = cc in z)
-clean-decided Yes h = refl
-
 pub least-decided : (a b : Level) → is_decided a ≡ true → is_decided b ≡ true → is_decided (least a b) ≡ true
 least-decided No No h k = refl
 least-decided No Yes h k = refl
@@ -162,21 +142,21 @@ no-kept Division = refl
 no-kept Overflow = refl
 no-kept Yes = refl
 
-pub clean-keep_no : (rows : Bag) → IsClean (keep No rows)
+pub clean-keep_no : (rows : Bag) → EachClean (keep No rows)
 clean-keep_no [] = tt
 clean-keep_no (r ∷ rows) = (decided-clean (least No r.level) (no-kept r.level), clean-keep_no rows)
 
-pub clean-keep : (l : Level) (rows : Bag) → is_decided l ≡ true → IsClean rows → IsClean (keep l rows)
+pub clean-keep : (l : Level) (rows : Bag) → is_decided l ≡ true → EachClean rows → EachClean (keep l rows)
 clean-keep l [] d h = tt
 clean-keep l (r ∷ rows) d h = (decided-clean (least l r.level) (least-decided l r.level d (clean-decided r.level h.0)), clean-keep l rows d h.1)
 
-pub clean-bind : (xs : Bag) (f : List Cell → Bag) → IsClean xs → ((c : List Cell) → occurs c xs ≡ true → IsClean (f c)) → IsClean (bind xs f)
+pub clean-bind : (xs : Bag) (f : List Cell → Bag) → EachClean xs → ((c : List Cell) → occurs c xs ≡ true → EachClean (f c)) → EachClean (bind xs f)
 clean-bind [] f h k = tt
 clean-bind (x ∷ xs) f h k = each-append (λ r. error_at r.level ≡ None) (keep x.level (f x.cells)) (bind xs f) (at x.level refl) (clean-bind xs f h.1 (λ c o. k c (occurs-more c x xs o)))
   where
     -- a row at no binds nothing
-    at : (l : Level) → x.level ≡ l → IsClean (keep x.level (f x.cells))
-    at No e = subst (λ (m : Level). IsClean (keep m (f x.cells))) (sym e) (clean-keep_no (f x.cells))
+    at : (l : Level) → x.level ≡ l → EachClean (keep x.level (f x.cells))
+    at No e = subst (λ (m : Level). EachClean (keep m (f x.cells))) (sym e) (clean-keep_no (f x.cells))
     at Cardinality e = clean-keep x.level (f x.cells) (clean-decided x.level h.0) (k x.cells (occurs-here x xs (there-is x.cells x.level ∙ ap there_at e)))
     at Division e = clean-keep x.level (f x.cells) (clean-decided x.level h.0) (k x.cells (occurs-here x xs (there-is x.cells x.level ∙ ap there_at e)))
     at Overflow e = clean-keep x.level (f x.cells) (clean-decided x.level h.0) (k x.cells (occurs-here x xs (there-is x.cells x.level ∙ ap there_at e)))
@@ -199,15 +179,15 @@ each-once P (x ∷ xs) h = each-append (λ r. is_there r ≡ true → P r.cells)
     at Overflow e = one (nat_eq (multiplicity same_cells x.cells xs) 0) (there-is x.cells x.level ∙ ap there_at e)
     at Yes e = one (nat_eq (multiplicity same_cells x.cells xs) 0) (there-is x.cells x.level ∙ ap there_at e)
 
-pub clean-once : (xs : Bag) → IsClean (once same_cells xs)
+pub clean-once : (xs : Bag) → EachClean (once same_cells xs)
 clean-once [] = tt
 clean-once (x ∷ xs) = each-append (λ r. error_at r.level ≡ None) (if_there [] (λ c l. cond (nat_eq (multiplicity same_cells c xs) 0) (unit c) []) x.cells x.level) (once same_cells xs) (at x.level) (clean-once xs)
   where
-    one : (b : Bool) → IsClean (cond b (unit x.cells) [])
+    one : (b : Bool) → EachClean (cond b (unit x.cells) [])
     one true = (refl, tt)
     one false = tt
 
-    at : (l : Level) → IsClean (if_there [] (λ c l. cond (nat_eq (multiplicity same_cells c xs) 0) (unit c) []) x.cells l)
+    at : (l : Level) → EachClean (if_there [] (λ c l. cond (nat_eq (multiplicity same_cells c xs) 0) (unit c) []) x.cells l)
     at No = tt
     at Cardinality = one (nat_eq (multiplicity same_cells x.cells xs) 0)
     at Division = one (nat_eq (multiplicity same_cells x.cells xs) 0)
@@ -215,7 +195,7 @@ clean-once (x ∷ xs) = each-append (λ r. error_at r.level ≡ None) (if_there 
     at Yes = one (nat_eq (multiplicity same_cells x.cells xs) 0)
 
 -- the greatest level of a tuple among clean rows
-level-decided : (c : List Cell) (xs : Bag) → IsClean xs → is_decided (level_in same_cells c xs) ≡ true
+level-decided : (c : List Cell) (xs : Bag) → EachClean xs → is_decided (level_in same_cells c xs) ≡ true
 level-decided c [] h = refl
 level-decided c (x ∷ xs) h = greatest-decided (if_there No (λ k l. cond (same_cells k c) l No) x.cells x.level) (level_in same_cells c xs) (at x.level (clean-decided x.level h.0)) (level-decided c xs h.1)
   where
@@ -233,14 +213,14 @@ level-decided c (x ∷ xs) h = greatest-decided (if_there No (λ k l. cond (same
 pub each-distinct : (P : List Cell → Type 0) (xs : Bag) → EachThere P xs → EachThere P (distinct same_cells xs)
 each-distinct P xs h = each-bind P (once same_cells xs) (λ c. row c (level_in same_cells c xs) ∷ []) (λ c o. ((λ _. occurs-each P (once same_cells xs) (each-once P xs h) c o), tt))
 
-pub clean-distinct : (xs : Bag) → IsClean xs → IsClean (distinct same_cells xs)
+pub clean-distinct : (xs : Bag) → EachClean xs → EachClean (distinct same_cells xs)
 clean-distinct xs h = clean-bind (once same_cells xs) (λ c. row c (level_in same_cells c xs) ∷ []) (clean-once xs) (λ c o. (decided-clean (level_in same_cells c xs) (level-decided c xs h), tt))
 
 pub each-if : (P : List Cell → Type 0) (b : Bool) (xs : Bag) → EachThere P xs → EachThere P (once_if b xs)
 each-if P true xs h = each-distinct P xs h
 each-if P false xs h = h
 
-pub clean-if : (b : Bool) (xs : Bag) → IsClean xs → IsClean (once_if b xs)
+pub clean-if : (b : Bool) (xs : Bag) → EachClean xs → EachClean (once_if b xs)
 clean-if true xs h = clean-distinct xs h
 clean-if false xs h = h
 
@@ -248,6 +228,6 @@ pub each-copies : (P : List Cell → Type 0) (n : ℕ) (c : List Cell) → P c �
 each-copies P zero c h = tt
 each-copies P (suc n) c h = ((λ _. h), each-copies P n c h)
 
-pub clean-copies : (n : ℕ) (c : List Cell) → IsClean (copies n c)
+pub clean-copies : (n : ℕ) (c : List Cell) → EachClean (copies n c)
 clean-copies zero c = tt
 clean-copies (suc n) c = (refl, clean-copies n c)

@@ -25,6 +25,7 @@ use Rattle.qgm_terms.specs.Wanted.{reads, reads_cond}
 use Rattle.qgm_terms.specs.Terms.{Term, int, text, null_int, null_text, col, scalar, both, minus_of, choose, count_all, fold, Cond}
 use Rattle.row_bag.specs.declared.tables.Table.{Table}
 use Rattle.qgm_props.specs.Facts.{EachThere, HasAtMostOne, HasExactlyOne, IsClean, is_sound}
+use Rattle.qgm_props.proofs.EachClean.{EachClean, clean-each}
 use Rattle.qgm_props.specs.Holding.{AllBound, Fitting, HasRow, Holds, is_bound}
 use Rattle.qgm_props.specs.Inferred.{Fact, Facts, all_under_F, at_most_one, at_place, clean, cond_free, exactly_one, holds_value, no_cond, is_free, not_null_under, says}
 use Rattle.qgm_props.specs.Laws.{Premises}
@@ -104,22 +105,22 @@ module _ (tables : List Table) (ns : List Node) (known : Facts) (given' : Premis
 
     -- ---- clean
 
-    pub given-clean : (env : Environment) → Ready [] env → list_all (cond_free ns known false) n.parts.conds.items ≡ true → IsClean (given_by s n env)
+    pub given-clean : (env : Environment) → Ready [] env → list_all (cond_free ns known false) n.parts.conds.items ≡ true → EachClean (given_by s n env)
     given-clean env ready h =
         clean-keep (all_true (λ q. s q env) n.parts.conds.items env).t (unit (head_cells (λ q. s q env) n.parts.head env))
         (all-decided ns known (λ q. s q env) (all-rows env ready) n.parts.conds.items env (all-columns env [] ready) h).0 (refl, tt)
 
-    pub each-clean : (rs : List OwnedQuant) (env : Environment) → Ready rs env → all_under_F known.clean rs ≡ true → list_all (cond_free ns known false) n.parts.conds.items ≡ true → IsClean (over_each rs s (given_by s n) env)
+    pub each-clean : (rs : List OwnedQuant) (env : Environment) → Ready rs env → all_under_F known.clean rs ≡ true → list_all (cond_free ns known false) n.parts.conds.items ≡ true → EachClean (over_each rs s (given_by s n) env)
     each-clean [] env ready c h = given-clean env ready h
     each-clean (r ∷ rs) env ready c h = one (is_F r.kind) refl c (λ env ready c. each-clean rs env ready c h)
       where
         one : (b : Bool) → is_F r.kind ≡ b → cond b (known.clean r.over && all_under_F known.clean rs) (all_under_F known.clean rs) ≡ true
-            → ((env : Environment) → Ready rs env → all_under_F known.clean rs ≡ true → IsClean (over_each rs s (given_by s n) env))
-            → IsClean (cond b (bind (s r.id env) (λ cells. over_each rs s (given_by s n) (bound r.id cells env))) (over_each rs s (given_by s n) env))
+            → ((env : Environment) → Ready rs env → all_under_F known.clean rs ≡ true → EachClean (over_each rs s (given_by s n) env))
+            → EachClean (cond b (bind (s r.id env) (λ cells. over_each rs s (given_by s n) (bound r.id cells env))) (over_each rs s (given_by s n) env))
         one true f c i =
             let a = and_parts (known.clean r.over) (all_under_F known.clean rs) c in
             clean-bind (s r.id env) (λ cells. over_each rs s (given_by s n) (bound r.id cells env))
-            (subst IsClean (sym (rows-are tables ns known given' all n here r (ready.own r (inl refl)) env)) (all (clean r.over) a.0 env ready.fit (under-bound r rs env f ready)))
+            (clean-each (s r.id env) (subst IsClean (sym (rows-are tables ns known given' all n here r (ready.own r (inl refl)) env)) (all (clean r.over) a.0 env ready.fit (under-bound r rs env f ready))))
             (λ cells o. i (bound r.id cells env) (next-ready r rs env f ready cells o) a.1)
         one false f c i = i env (skip-ready r rs env f ready) c
 

@@ -21,6 +21,7 @@ use Rattle.qgm_meaning.proofs.Unfold.{unfold-bag}
 use Rattle.qgm_meaning.proofs.Within.{loose-unfold}
 use Rattle.qgm_meaning.specs.Satisfies.{SatisfiesBy}
 use Rattle.qgm_props.specs.Facts.{EachThere, HasAtMostOne, HasExactlyOne, IsClean, IsErrorFree, IsNotNull, is_sound}
+use Rattle.qgm_props.proofs.EachClean.{EachClean, clean-each, each-is-clean}
 use Rattle.qgm_props.specs.Holding.{AllBound, Fitting, Holds, OfRows, is_bound}
 use Rattle.qgm_props.specs.Inferred.{Fact, Facts, all_under_F, at_most_one, at_most_one_by, clean, clean_by, cond_free, error_free, exactly_one, exactly_one_by, free_by, inferred_once, no_cond, not_null, not_null_by, of_box, says}
 use Rattle.qgm_props.specs.Laws.{Premises}
@@ -39,7 +40,7 @@ module _ (tables : List Table) (ns : List Node) (known : Facts) (given : Premise
     abbrev pub Bound : BoxKind → Type 0
     Bound kind = Looked tables ns known given all n here env fit kind
 
-    held-clean : (kind : BoxKind) → n.parts.kind ≡ kind → SatisfiesBy kind tables → Bound kind → clean_by ns known kind n ≡ true → IsClean (rows-by kind)
+    held-clean : (kind : BoxKind) → n.parts.kind ≡ kind → SatisfiesBy kind tables → Bound kind → clean_by ns known kind n ≡ true → EachClean (rows-by kind)
     held-clean (Base table) e b look h = base-clean table (bag_named tables table.name) b
     held-clean Select e b look h =
         let a = and_parts (all_under_F known.clean n.quants) (list_all (cond_free ns known false) n.parts.conds.items) h in
@@ -49,7 +50,7 @@ module _ (tables : List Table) (ns : List Node) (known : Facts) (given : Premise
     held-clean (SetOp form types) e b look h = clean-set tables ns known given all n here env fit form types e look h
     held-clean OuterJoin e b look h = clean-outer tables ns known given all n here env fit look h
 
-    held-free : (kind : BoxKind) (k : ℕ) → SatisfiesBy kind tables → Bound kind → (known.clean n.id ≡ true → IsClean (rows-by kind)) → free_by ns known kind n k ≡ true → IsErrorFree k (rows-by kind)
+    held-free : (kind : BoxKind) (k : ℕ) → SatisfiesBy kind tables → Bound kind → (known.clean n.id ≡ true → EachClean (rows-by kind)) → free_by ns known kind n k ≡ true → IsErrorFree k (rows-by kind)
     held-free (Base table) k b look c h = base-free table (bag_named tables table.name) k b
     held-free Select k b look c h =
         each-if (λ cells. is_sound (cell_of k cells) ≡ true) (is_enforce n.parts.distinct) (over_each n.quants (s tables ns known given all n here env fit) (given_by (s tables ns known given all n here env fit) n) env)
@@ -102,11 +103,11 @@ module _ (tables : List Table) (ns : List Node) (known : Facts) (given : Premise
   pub step : (fact : Fact) → says (inferred_once ns known) fact ≡ true → Holds tables ns fact
   step (clean b) h =
       of-found (λ n. clean_by ns known n.parts.kind n) b IsClean h
-      (λ n here env fit e u all-bound look k. held-clean n here env fit n.parts.kind refl (satisfied tables ns n given.bases here) look k)
+      (λ n here env fit e u all-bound look k. each-is-clean (rows-by n here env fit n.parts.kind) (held-clean n here env fit n.parts.kind refl (satisfied tables ns n given.bases here) look k))
   step (error_free b k) h =
       of-found (λ n. (nat_lt 0 k && nat_le k (width n)) && free_by ns known n.parts.kind n k) b (IsErrorFree k) h
       (λ n here env fit e u all-bound look w. held-free n here env fit n.parts.kind k (satisfied tables ns n given.bases here) look
-      (λ c. subst IsClean u (all (clean b) (subst (λ b. known.clean b ≡ true) e c) env fit all-bound))
+      (λ c. clean-each (rows-by n here env fit n.parts.kind) (subst IsClean u (all (clean b) (subst (λ b. known.clean b ≡ true) e c) env fit all-bound)))
       (and_parts (nat_lt 0 k && nat_le k (width n)) (free_by ns known n.parts.kind n k) w).1)
   step (not_null b k) h =
       of-found (λ n. (nat_lt 0 k && nat_le k (width n)) && not_null_by ns known n.parts.kind n k) b (IsNotNull k) h

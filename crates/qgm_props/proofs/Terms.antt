@@ -27,11 +27,13 @@ use Rattle.qgm_terms.specs.declared.tree.Op.{Op}
 use Rattle.qgm_terms.specs.declared.tree.Op.TheVariants.{Add, Sub, Mul, Div, Cat}
 use Rattle.qgm_meaning.specs.Laws.{occurs}
 use Rattle.qgm_meaning.specs.Values.{Bag, Environment, all_true, bound, chosen_at, compared, first_true, head_cells, row_of, truth, value}
-use Rattle.qgm_props.specs.Facts.{Each, EachThere, HasAtMostOne, IsClean, IsErrorFree, is_sound}
+use Rattle.qgm_props.specs.Facts.{Each, EachThere, HasAtMostOne, IsErrorFree, is_sound}
+use Rattle.qgm_props.proofs.EachClean.{EachClean, clean-decided}
 use Rattle.qgm_props.specs.Inferred.{Facts, arms_free, clean_under, cond_free, divides, error_free_under, is_free, keeps_free, single_under}
 use Rattle.qgm_props.proofs.Cells.{Decided, decided-and, decided-bool, decided-compare, decided-like, decided-null, decided-or, decided-same, sound-concat, sound-div}
 use Rattle.qgm_props.proofs.Counted.{counted, flag}
-use Rattle.qgm_props.proofs.Rows.{clean-decided, each-occurs, is_decided, occurs-each, there_at, there-is}
+use Rattle.bag_laws.specs.AsSets.{is_decided}
+use Rattle.qgm_props.proofs.Rows.{each-occurs, occurs-each, there_at, there-is}
 
 -- ---- rows of subqueries
 
@@ -44,7 +46,7 @@ decided-presence Yes h = (refl, refl)
 
 -- what is put together of clean rows, of which each that is there gives a decided truth
 decided-total : (op : Truth → Truth → Truth) (e : Truth) (f : List Cell → Level → Truth) → Decided e → ((p q : Truth) → Decided p → Decided q → Decided (op p q))
-    → (rows : Bag) → IsClean rows → Each (λ r. is_there r ≡ true → Decided (f r.cells r.level)) rows → Decided (total op e f rows)
+    → (rows : Bag) → EachClean rows → Each (λ r. is_there r ≡ true → Decided (f r.cells r.level)) rows → Decided (total op e f rows)
 decided-total op e f d keeps [] c h = d
 decided-total op e f d keeps (r ∷ rows) c h = keeps (if_there e f r.cells r.level) (total op e f rows) (at r.level refl) (decided-total op e f d keeps rows c.1 h.1)
   where
@@ -55,7 +57,7 @@ decided-total op e f d keeps (r ∷ rows) c h = keeps (if_there e f r.cells r.le
     at Overflow w = subst (λ m. Decided (f r.cells m)) w (h.0 (there-is r.cells r.level ∙ ap there_at w))
     at Yes w = subst (λ m. Decided (f r.cells m)) w (h.0 (there-is r.cells r.level ∙ ap there_at w))
 
-each-clean : (P : Row (List Cell) → Type 0) (rows : Bag) → IsClean rows → ((r : Row (List Cell)) → is_decided r.level ≡ true → P r) → Each P rows
+each-clean : (P : Row (List Cell) → Type 0) (rows : Bag) → EachClean rows → ((r : Row (List Cell)) → is_decided r.level ≡ true → P r) → Each P rows
 each-clean P [] c h = tt
 each-clean P (r ∷ rows) c h = (h r (clean-decided r.level c.0), each-clean P rows c.1 h)
 
@@ -63,13 +65,13 @@ each-both : {X : Type 0} (P Q R : X → Type 0) (xs : List X) → ((x : X) → P
 each-both P Q R [] f h k = tt
 each-both P Q R (x ∷ xs) f h k = (f x h.0 k.0, each-both P Q R xs f h.1 k.1)
 
-pub decided-some : (test : List Cell → Truth) (rows : Bag) → IsClean rows → EachThere (λ cells. Decided (test cells)) rows → Decided (subquery.some test rows)
+pub decided-some : (test : List Cell → Truth) (rows : Bag) → EachClean rows → EachThere (λ cells. Decided (test cells)) rows → Decided (subquery.some test rows)
 decided-some test rows c h =
     decided-total t.or (t.truth_of false) (λ cells level. t.and (presence level) (test cells)) (refl, refl) decided-or rows c
     (each-both (λ r. error_at r.level ≡ None) (λ r. is_there r ≡ true → Decided (test r.cells)) (λ r. is_there r ≡ true → Decided (t.and (presence r.level) (test r.cells))) rows
     (λ r e f w. decided-and (presence r.level) (test r.cells) (decided-presence r.level (clean-decided r.level e)) (f w)) c h)
 
-pub decided-every : (test : List Cell → Truth) (rows : Bag) → IsClean rows → EachThere (λ cells. Decided (test cells)) rows → Decided (subquery.every test rows)
+pub decided-every : (test : List Cell → Truth) (rows : Bag) → EachClean rows → EachThere (λ cells. Decided (test cells)) rows → Decided (subquery.every test rows)
 decided-every test rows c h =
     decided-total t.and (t.truth_of true) (λ cells level. t.or (t.negated (presence level)) (test cells)) (refl, refl) decided-and rows c
     (each-both (λ r. error_at r.level ≡ None) (λ r. is_there r ≡ true → Decided (test r.cells)) (λ r. is_there r ≡ true → Decided (t.or (t.negated (presence r.level)) (test r.cells))) rows
@@ -81,7 +83,7 @@ decided-every test rows c h =
 abbrev pub Those : Bag → Type 0
 Those rows = Each (λ r. (error_at r.level ≡ None) × (is_sound (cell_of 1 r.cells) ≡ true)) rows
 
-those : (rows : Bag) → IsClean rows → IsErrorFree 1 rows → Those (those_there rows)
+those : (rows : Bag) → EachClean rows → IsErrorFree 1 rows → Those (those_there rows)
 those [] c e = tt
 those (r ∷ rows) c e = one (those rows c.1 e.1) (is_there r) refl
   where
@@ -106,7 +108,7 @@ first-cell : (cells : List Cell) → only_cell cells ≡ cell_of 1 cells
 first-cell [] = refl
 first-cell (x ∷ xs) = refl
 
-pub sound-scalar : (rows : Bag) → IsClean rows → HasAtMostOne rows → IsErrorFree 1 rows → is_sound (subquery.scalar rows) ≡ true
+pub sound-scalar : (rows : Bag) → EachClean rows → HasAtMostOne rows → IsErrorFree 1 rows → is_sound (subquery.scalar rows) ≡ true
 sound-scalar rows c m e = go (those_there rows) (those rows c e) (let h = those-many rows in omega (arith, h, m))
   where
     none : (o : Option _) (x : Cell) → o ≡ None → is_sound x ≡ true → is_sound (a.error_or o x) ≡ true
@@ -126,7 +128,7 @@ SoundColumns boxes known env = (q k : ℕ) → error_free_under boxes known q k 
 
 -- and what is known of the boxes under quantifiers holds of these rows of theirs
 pub record SoundRows (boxes : List Node) (known : Facts) (rows : ℕ → Bag) : Type 0 where
-  pub clean : (q : ℕ) → clean_under boxes known q ≡ true → IsClean (rows q)
+  pub clean : (q : ℕ) → clean_under boxes known q ≡ true → EachClean (rows q)
   pub free : (q k : ℕ) → error_free_under boxes known q k ≡ true → IsErrorFree k (rows q)
   pub single : (q : ℕ) → single_under boxes known q ≡ true → HasAtMostOne (rows q)
 

@@ -1,6 +1,6 @@
 -- What holds of the rows of a bag.
-use Rattle.std.specs.Prelude.{ℕ, ◌≡◌, ◌≢◌, ◌≤◌, Bool, true, false, List, [], ◌∷◌, None, ⊤}
-use Rattle.row_bag.specs.Errors.{error_at}
+use Rattle.std.specs.Prelude.{ℕ, ◌≡◌, ◌≢◌, ◌≤◌, Bool, true, false, List, [], ◌∷◌, ⊤}
+use Rattle.bag_laws.specs.AsSets.{is_clean}
 use Rattle.row_bag.specs.Joins.{how_many}
 use Rattle.row_bag.specs.Order.{cell_of}
 use Rattle.row_bag.specs.Verdict.{is_there}
@@ -21,7 +21,7 @@ EachThere P rows = Each (λ r. is_there r ≡ true → P r.cells) rows
 
 -- no row is at an error level
 abbrev pub IsClean : Bag → Type 0
-IsClean rows = Each (λ r. error_at r.level ≡ None) rows
+IsClean rows = is_clean rows ≡ true
 
 -- a cell is no error; a number is one of 64 bits, as all are
 abbrev pub is_sound : Cell → Bool
