@@ -8,6 +8,7 @@ use Rattle.row_bag.specs.Errors.{error_among, error_in}
 use Rattle.row_bag.specs.Order.{cell_of}
 use Rattle.row_bag.specs.Tables.{bag_named}
 use Rattle.row_bag.specs.declared.tables.Table.{Table}
+use Rattle.sql_value.specs.Arithmetic.{fits_i64}
 use Rattle.sql_value.specs.declared.cell.Cell.{Cell}
 use Rattle.sql_value.specs.declared.cell.Cell.TheVariants.{Int, Text, Null, Err}
 use Rattle.sql_value.specs.declared.level.Level.{Level}
@@ -22,9 +23,9 @@ use Rattle.qgm_core.specs.declared.node.Node.{Node}
 use Rattle.qgm_meaning.specs.Values.{Bag}
 use Rattle.qgm_meaning.specs.Widths.{Filled}
 
--- a cell of this type: a value of it or null, and no error
+-- a cell of this type: a value of it, with numbers of 64 bits, or null, and no error
 abbrev pub is_of : SqlType → Cell → Bool
-is_of Integer (Int n) = true
+is_of Integer (Int n) = fits_i64 n
 is_of Integer (Text s) = false
 is_of Integer Null = true
 is_of Integer (Err k) = false

@@ -1,0 +1,23 @@
+use Rattle.std.proofs.Common.{arith}
+use Rattle.std.proofs.lemmas.Grind.{common_steps}
+use Rattle.qgm_terms.proofs.Lists as lists
+use Rattle.qgm_terms.specs.Shown as shown
+use Rattle.qgm_props.specs.Table.{facts_of}
+use Rattle.qgm_props.proofs.FreeLaws as laws
+use Rattle.qgm_props.proofs.expressions.+expressions.Goals as goal
+
+pub is_free-returns-in-Chain : goal.is_free-returns-in-Chain
+is_free-returns-in-Chain t c =
+    rw (c.in-Chain.is, lists.links_hidden c.in-Chain.list, laws.free_linked c.args.nodes.now (facts_of c.args.table.now) c.args.one (shown.term c.in-Chain.a.value) (shown.links c.in-Chain.list.items)) (grind (arith, common_steps))
+
+pub is_free-returns-in-Case : goal.is_free-returns-in-Case
+is_free-returns-in-Case t c =
+    rw (c.in-Case.is, lists.choices_hidden c.in-Case.list, laws.free_case c.args.nodes.now (facts_of c.args.table.now) c.args.one (shown.choices c.in-Case.list.items) (shown.term c.in-Case.a.value)) (grind (arith, common_steps))
+
+pub is_cond_free-returns-in-All : goal.is_cond_free-returns-in-All
+is_cond_free-returns-in-All t c =
+    rw (c.in-All.is, lists.conds_hidden c.in-All.list, laws.free_anded c.args.nodes.now (facts_of c.args.table.now) c.args.one (shown.cond c.in-All.a.value) (shown.conds c.in-All.list.items)) (grind (arith, common_steps))
+
+pub is_cond_free-returns-in-Any : goal.is_cond_free-returns-in-Any
+is_cond_free-returns-in-Any t c =
+    rw (c.in-Any.is, lists.conds_hidden c.in-Any.list, laws.free_ored c.args.nodes.now (facts_of c.args.table.now) c.args.one (shown.cond c.in-Any.a.value) (shown.conds c.in-Any.list.items)) (grind (arith, common_steps))

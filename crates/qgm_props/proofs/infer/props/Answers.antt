@@ -1,0 +1,25 @@
+use Rattle.std.proofs.Common.{◌≡◌, ◌∙◌, ap, sym, subst, List, true}
+use Rattle.row_bag.specs.declared.tables.Table.{Table}
+use Rattle.qgm_core.specs.declared.node.Node.{Node}
+use Rattle.qgm_props.specs.Holding.{Holds}
+use Rattle.qgm_props.specs.Inferred.{Fact, Inferred, says}
+use Rattle.qgm_props.specs.Laws.{Premises}
+use Rattle.qgm_props.specs.Table.{Improves, Stable, facts_of}
+use Rattle.qgm_props.specs.declared.facts.BoxFacts.{BoxFacts}
+use Rattle.qgm_props.proofs.Improving.{all-said, closed}
+use Rattle.qgm_props.proofs.Monotone.{least}
+use Rattle.qgm_props.proofs.Step.{step}
+use Rattle.qgm_props.proofs.infer.props.Goals as goal
+
+pub returns-clause-exact : goal.returns-clause-exact
+returns-clause-exact c = subst (λ (t : List BoxFacts). (fact : Fact) → ((says (facts_of t) fact ≡ true → Inferred c.args.graph.now.boxes fact) × (Inferred c.args.graph.now.boxes fact → says (facts_of t) fact ≡ true))) (sym c.of.ensures)
+    (subst (λ (ns : List Node). (fact : Fact) → ((says (facts_of c.in_ok-boxes.boxes.items) fact ≡ true → Inferred ns fact) × (Inferred ns fact → says (facts_of c.in_ok-boxes.boxes.items) fact ≡ true))) c.nodes.ensures
+    (λ fact. (
+      (λ h. all-said c.nodes.result.now (Inferred c.nodes.result.now) (least c.nodes.result.now) c.in_ok-boxes.boxes.items c.in_ok-boxes.ensures.improves fact h),
+      (λ h. h (facts_of c.in_ok-boxes.boxes.items) (closed c.nodes.result.now c.in_ok-boxes.boxes.items c.in_ok-boxes.ensures.improves c.in_ok-boxes.ensures.stable)),
+    )))
+
+pub returns-clause-holds : goal.returns-clause-holds
+returns-clause-holds c = subst (λ (t : List BoxFacts). (tables : List Table) → Premises tables c.args.graph.now.boxes → (fact : Fact) → says (facts_of t) fact ≡ true → Holds tables c.args.graph.now.boxes fact) (sym c.of.ensures)
+    (subst (λ (ns : List Node). (tables : List Table) → Premises tables ns → (fact : Fact) → says (facts_of c.in_ok-boxes.boxes.items) fact ≡ true → Holds tables ns fact) c.nodes.ensures
+    (λ tables given fact h. all-said c.nodes.result.now (Holds tables c.nodes.result.now) (λ known all fact k. step tables c.nodes.result.now known given all fact k) c.in_ok-boxes.boxes.items c.in_ok-boxes.ensures.improves fact h))

@@ -1,0 +1,48 @@
+-- What is inferred holds.
+use Rattle.std.specs.Prelude.{ℕ, ◌≡◌, ◌↔◌, true, List, Some}
+use Rattle.bag_laws.specs.Keys.{HasKey}
+use Rattle.row_bag.specs.declared.tables.Table.{Table}
+use Rattle.qgm_core.specs.Boxes.{Ordered, ids_of, owns, range_in}
+use Rattle.qgm_core.specs.Lists.{EachOnce, In, first}
+use Rattle.qgm_core.specs.declared.node.Node.{Node}
+use Rattle.qgm_core.specs.declared.owned.OwnedQuant.{OwnedQuant}
+use Rattle.qgm_meaning.specs.Widths.{Even}
+use Rattle.qgm_meaning.specs.Satisfies.{Satisfies}
+use Rattle.qgm_props.specs.Holding.{Holds, OfRows}
+use Rattle.qgm_props.specs.Inferred.{Fact, Facts, Inferred, at_most_one, inferred_once, says}
+use Rattle.qgm_props.specs.Keys.{holds_key}
+
+-- over tables that satisfy the bases, in boxes by rank
+pub record Premises (tables : List Table) (ns : List Node) : Type 0 where
+  pub bases : Satisfies tables ns
+  pub ordered : Ordered ns
+  -- no two quantifiers of a box have one number, and by its number each is found among all
+  pub apart : (n : Node) → In n ns → EachOnce (ids_of n)
+  pub found : (n : Node) (r : OwnedQuant) → In n ns → In r n.quants → range_in r.id (first (owns r.id) ns) ≡ Some r
+  pub even : Even ns
+
+-- what a sentence infers of facts that are inferred is inferred
+abbrev pub Least : Type 0
+Least = (ns : List Node) (known : Facts) → ((fact : Fact) → says known fact ≡ true → Inferred ns fact) → (fact : Fact) → says (inferred_once ns known) fact ≡ true → Inferred ns fact
+
+-- what a sentence infers of facts that hold holds
+abbrev pub StepHolds : Type 0
+StepHolds = (tables : List Table) (ns : List Node) → Premises tables ns → (known : Facts) → ((fact : Fact) → says known fact ≡ true → Holds tables ns fact) → (fact : Fact) → says (inferred_once ns known) fact ≡ true → Holds tables ns fact
+
+-- what is inferred holds
+abbrev pub InferredHolds : Type 0
+InferredHolds = (tables : List Table) (ns : List Node) → Premises tables ns → (fact : Fact) → Inferred ns fact → Holds tables ns fact
+
+-- over facts that hold, keys hold
+abbrev pub KeysHold : Type 0
+KeysHold =
+    (tables : List Table) (ns : List Node) → Premises tables ns → (known : Facts) → ((fact : Fact) → says known fact ≡ true → Holds tables ns fact) → (b : ℕ) (ks : List ℕ)
+    → holds_key known.at_most_one ns b ks ≡ true → OfRows tables ns b (HasKey ks)
+
+-- facts are those that are inferred of the boxes, all and no others
+abbrev pub Tells : Facts → List Node → Type 0
+Tells known ns = (fact : Fact) → (says known fact ≡ true) ↔ Inferred ns fact
+
+-- no two rows that are there agree on these columns, over all tables that satisfy the bases
+abbrev pub KeyHolds : List Node → ℕ → List ℕ → Type 0
+KeyHolds ns b ks = (tables : List Table) → Premises tables ns → OfRows tables ns b (HasKey ks)

@@ -1,0 +1,10 @@
+pub mod Facts
+pub mod Under
+pub mod Inferred
+pub mod Keys
+pub mod Calm
+pub mod Lists
+pub mod Table
+pub mod Holding
+pub mod Laws
+pub mod Examples

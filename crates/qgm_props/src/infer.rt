@@ -1,0 +1,139 @@
+// What is inferred of a graph.
+ghost use Rattle.std.specs.Prelude.{◌≡◌, ◌↔◌, ◌<◌, length, map, true, false, List, IfOk, OnOk, IsTrue};
+ghost use Rattle.row_bag.specs.declared.tables.Table.{Table};
+ghost use Rattle.qgm_props.specs.Holding.{Holds};
+ghost use Rattle.qgm_props.specs.Inferred.{Fact, says};
+ghost use Rattle.qgm_props.specs.Laws.{Premises, Tells};
+ghost use Rattle.qgm_props.specs.Table.{Improves, Stable, StableAt, facts_of, nothing_of, unknown_in};
+
+use crate::answers::Props;
+use crate::boxes::{either, improved_facts, nothing_known};
+use crate::facts::BoxFacts;
+use qgm_core::{Graph, Node};
+use shared_types::OutOfMemory;
+use std::alloc::Global;
+
+// Whether two lists of flags are the same.
+fn are_same(a: &[bool], b: &[bool]) -> bool
+    ensures { IsTrue result ↔ (a.now ≡ b.now) }
+{
+    if a.len() != b.len() {
+        return false;
+    }
+    for i in 0..a.len() {
+        if a[i] != b[i] {
+            return false;
+        }
+    }
+    true
+}
+
+// Whether the same is known of a box.
+fn is_same(a: &BoxFacts, b: &BoxFacts) -> bool
+    ensures { IsTrue result ↔ (a.now ≡ b.now) }
+{
+    a.id == b.id
+        && a.clean == b.clean
+        && a.at_most_one == b.at_most_one
+        && a.exactly_one == b.exactly_one
+        && are_same(a.error_free.as_slice(), b.error_free.as_slice())
+        && are_same(a.not_null.as_slice(), b.not_null.as_slice())
+}
+
+// Nothing is known of any box.
+fn none_known(alloc: Global, nodes: &[Node]) -> Result<Vec<BoxFacts>, OutOfMemory>
+    ensures { IfOk result (λ t. t.items ≡ map nothing_of nodes.now) }
+{
+    let mut table = Vec::new(alloc);
+    for node in nodes {
+        table.push(nothing_known(alloc, node)?)?;
+    }
+    Ok(table)
+}
+
+// Improves what is known of the box at a rank, and tells whether it improved.
+fn improve_at(
+    alloc: Global,
+    nodes: &[Node],
+    table: &mut Vec<BoxFacts>,
+    i: usize,
+) -> Result<bool, OutOfMemory>
+    requires within { i < length nodes.now }
+    requires improves { Improves nodes.now table.old.items }
+    ensures improves { OnOk result (Improves nodes.now table.new.items) }
+    ensures same { IfOk result (λ better. better ≡ false → (table.new.items ≡ table.old.items) × StableAt nodes.now table.new.items i) }
+    ensures less { IfOk result (λ better. better ≡ true → unknown_in table.new.items < unknown_in table.old.items) }
+{
+    let next = improved_facts(alloc, nodes, &*table, &nodes[i], &table[i])?;
+    if is_same(&next, &table[i]) {
+        return Ok(false);
+    }
+    table[i] = next;
+    Ok(true)
+}
+
+// Improves it so, and once more where it improved: the columns of a group that is clean are without
+// errors then, and a box of exactly one row has at most one.
+fn improve_twice(
+    alloc: Global,
+    nodes: &[Node],
+    table: &mut Vec<BoxFacts>,
+    i: usize,
+) -> Result<bool, OutOfMemory>
+    requires within { i < length nodes.now }
+    requires improves { Improves nodes.now table.old.items }
+    ensures improves { OnOk result (Improves nodes.now table.new.items) }
+    ensures same { IfOk result (λ better. better ≡ false → (table.new.items ≡ table.old.items) × StableAt nodes.now table.new.items i) }
+    ensures less { IfOk result (λ better. better ≡ true → unknown_in table.new.items < unknown_in table.old.items) }
+{
+    if !improve_at(alloc, nodes, table, i)? {
+        return Ok(false);
+    }
+    let more = improve_at(alloc, nodes, table, i)?;
+    Ok(either(true, more))
+}
+
+// Improves what is known of each box, from the last one to the first, and tells whether one improved.
+fn improve_each(
+    alloc: Global,
+    nodes: &[Node],
+    table: &mut Vec<BoxFacts>,
+) -> Result<bool, OutOfMemory>
+    requires { Improves nodes.now table.old.items }
+    ensures improves { OnOk result (Improves nodes.now table.new.items) }
+    ensures stable { IfOk result (λ better. better ≡ false → Stable nodes.now table.new.items) }
+    ensures less { IfOk result (λ better. better ≡ true → unknown_in table.new.items < unknown_in table.old.items) }
+{
+    let mut better = false;
+    let mut i = nodes.len();
+    while i > 0 {
+        i -= 1;
+        if improve_twice(alloc, nodes, table, i)? {
+            better = true;
+        }
+    }
+    Ok(better)
+}
+
+// All that is inferred.
+fn improved_table(alloc: Global, nodes: &[Node]) -> Result<Vec<BoxFacts>, OutOfMemory>
+    ensures improves { IfOk result (λ t. Improves nodes.now t.items) }
+    ensures stable { IfOk result (λ t. Stable nodes.now t.items) }
+{
+    let mut table = none_known(alloc, nodes)?;
+    loop {
+        if !improve_each(alloc, nodes, &mut table)? {
+            return Ok(table);
+        }
+    }
+}
+
+/// Infers what holds of the boxes of a graph: the least set of facts that the sentences give. It
+/// fails only for want of memory.
+pub fn props(alloc: Global, graph: &Graph) -> Result<Props, OutOfMemory>
+    ensures exact { IfOk result (λ p. Tells (facts_of p) graph.now.boxes) }
+    ensures holds { IfOk result (λ p. (tables : List Table) → Premises tables graph.now.boxes → (fact : Fact) → says (facts_of p) fact ≡ true → Holds tables graph.now.boxes fact) }
+{
+    let boxes = improved_table(alloc, graph.nodes())?;
+    Ok(Props::of(boxes))
+}

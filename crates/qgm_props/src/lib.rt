@@ -1,0 +1,19 @@
+//! What is inferred of the boxes of a query graph.
+#![tactic(auto)]
+
+mod answers;
+mod boxes;
+mod calm;
+mod columns;
+mod expressions;
+mod facts;
+mod infer;
+mod keys;
+mod laws;
+mod ranges;
+
+pub use answers::Props;
+pub use calm::is_calm;
+pub use facts::BoxFacts;
+pub use infer::props;
+pub use laws::{examples, fact_laws};
