@@ -13,3 +13,4 @@ mod Tails
 mod Closed
 mod Counting
 mod Totals
+mod Settled

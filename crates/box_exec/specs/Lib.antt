@@ -11,3 +11,4 @@ pub mod Plans
 pub mod Beyond
 pub mod Kept
 pub mod Closed
+pub mod Settled

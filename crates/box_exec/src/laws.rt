@@ -1,8 +1,10 @@
 // What is closed and what is counted, as theorems.
 ghost use Rattle.box_exec.specs.Closed.{ClosedAlike, PlainOfClosed};
+ghost use Rattle.box_exec.specs.Settled.{FitIfSettled};
 
-/// A box that the root reaches is closed exactly where no quantifier is free in it; where all are, loops that skip nothing evaluate each of them once. It does nothing.
+/// A box that the root reaches is closed exactly where no quantifier is free in it; where all are, loops that skip nothing evaluate each of them once; boxes of a graph in which nothing is looked up but where it is bound are fit to be executed. It does nothing.
 pub fn execution_laws()
     ensures closed { ClosedAlike }
     ensures plain { PlainOfClosed }
+    ensures fit { FitIfSettled }
 {}

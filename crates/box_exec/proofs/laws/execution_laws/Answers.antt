@@ -1,4 +1,5 @@
 use Rattle.box_exec.proofs.Closed.{closed-alike}
+use Rattle.box_exec.proofs.Settled.{fit-if-settled}
 use Rattle.box_exec.proofs.Totals.{plain-of-closed}
 use Rattle.box_exec.proofs.laws.execution_laws.Goals as goal
 
@@ -7,3 +8,6 @@ returns-clause-closed c = closed-alike
 
 pub returns-clause-plain : goal.returns-clause-plain
 returns-clause-plain c = plain-of-closed
+
+pub returns-clause-fit : goal.returns-clause-fit
+returns-clause-fit c = fit-if-settled
