@@ -1,17 +1,15 @@
 -- How many rows are there, through the operations on bags.
-use Rattle.std.proofs.Common.{ℕ, zero, suc, ◌≡◌, ◌≢◌, ◌+◌, ◌-◌, ◌≤◌, ◌==◌, ◌&&◌, min, nat_eq, cond, ◌||◌, Bool, true, false, List, [], ◌∷◌, ◌++◌, map, Option, Some, None, refl, sym, ap, ap₂, subst, ◌∙◌, arith, inl, inr}
-use Rattle.std.specs.List.{list_any}
-use Rattle.std.proofs.lemmas.Bool.{and_parts, and_from, or_cases, cases_Bool}
-use Rattle.row_bag.specs.Bags.{bind, fold_map, if_there, keep, row, total, unit}
-use Rattle.row_bag.specs.Joins.{how_many, or_else}
-use Rattle.row_bag.specs.Sets.{copies, distinct, level_in, multiplicity, once, same_cells}
+use Rattle.std.proofs.Common.{ℕ, ◌≡◌, ◌+◌, ◌≤◌, ◌&&◌, nat_eq, cond, ◌||◌, Bool, true, false, List, [], ◌∷◌, ◌++◌, refl, sym, ap, ◌∙◌, arith, inl, inr}
+use Rattle.std.proofs.lemmas.Bool.{and_parts, or_cases, cases_Bool}
+use Rattle.row_bag.specs.Bags.{bind, if_there, keep, row, unit}
+use Rattle.row_bag.specs.Joins.{how_many}
+use Rattle.row_bag.specs.Sets.{distinct, level_in, multiplicity, once, same_cells}
 use Rattle.row_bag.specs.Verdict.{is_there}
 use Rattle.row_bag.specs.declared.row.Row.{Row}
 use Rattle.sql_value.specs.Level.{greatest, least}
 use Rattle.sql_value.specs.declared.cell.Cell.{Cell}
 use Rattle.sql_value.specs.declared.level.Level.{Level}
 use Rattle.sql_value.specs.declared.level.Level.TheVariants.{No, Cardinality, Division, Overflow, Yes}
-use Rattle.row_bag.proofs.Tuples.{same_cells-decides}
 use Rattle.qgm_meaning.proofs.Frames.{either-left, either-right}
 use Rattle.qgm_meaning.specs.Laws.{occurs}
 use Rattle.qgm_meaning.specs.Meaning.{once_if}

@@ -1,5 +1,5 @@
 -- A bag is clean where each of its rows is at no or yes.
-use Rattle.std.proofs.Common.{◌≡◌, ◌&&◌, true, List, [], ◌∷◌, None, refl}
+use Rattle.std.proofs.Common.{◌≡◌, true, [], ◌∷◌, None, refl}
 use Rattle.std.proofs.lemmas.Bool.{and_from, and_parts}
 use Rattle.bag_laws.specs.AsSets.{is_clean, is_decided}
 use Rattle.row_bag.specs.Errors.{error_at}

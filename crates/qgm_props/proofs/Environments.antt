@@ -1,26 +1,20 @@
 -- In an environment that fits, what is known of columns holds of the rows that are bound.
-use Rattle.std.proofs.Common.{ℕ, zero, suc, ◌≡◌, ◌≢◌, ◌==◌, ◌&&◌, ◌||◌, cond, Bool, true, false, List, [], ◌∷◌, map, Option, Some, None, eqb-true, refl, sym, ap, subst, ◌∙◌, arith, inl, inr}
-use Rattle.std.proofs.Common as p
-use Rattle.std.proofs.lemmas.Bool.{and_parts, and_from, cases_Bool, eq-eqb, or_cases}
-use Rattle.std.specs.List.{list_any}
+use Rattle.std.proofs.Common.{ℕ, ◌≡◌, ◌≢◌, ◌==◌, ◌||◌, cond, Bool, true, false, List, [], ◌∷◌, map, Option, Some, None, eqb-true, refl, sym, ap, subst, ◌∙◌, arith, inl, inr}
+use Rattle.std.proofs.lemmas.Bool.{eq-eqb}
 use Rattle.row_bag.specs.Order.{cell_of}
 use Rattle.row_bag.specs.declared.tables.Table.{Table}
-use Rattle.sql_value.specs.declared.cell.Cell.{Cell}
 use Rattle.sql_value.specs.declared.cell.Cell.TheVariants.{Null}
 use Rattle.qgm_core.specs.Boxes.{is_quant, owns, range_in}
-use Rattle.qgm_core.specs.Kinds.{is_F}
 use Rattle.qgm_core.specs.Lists.{EachOnce, In, first, holds}
 use Rattle.qgm_core.specs.declared.node.Node.{Node}
 use Rattle.qgm_core.specs.declared.owned.OwnedQuant.{OwnedQuant}
-use Rattle.qgm_meaning.specs.Laws.{occurs}
 use Rattle.qgm_meaning.specs.Meaning.{Family, bag_in, quant_rows, rows_found}
-use Rattle.qgm_meaning.specs.Scope.{loose, loose_each, looks_found, quant_looks, read_by, under_any}
-use Rattle.qgm_meaning.specs.Values.{Bag, Environment, bound, row_of}
+use Rattle.qgm_meaning.specs.Values.{Bag, Environment, row_of}
 use Rattle.qgm_meaning.proofs.Frames.{either-left, either-right}
 use Rattle.qgm_props.specs.Facts.{HasAtMostOne, IsClean, IsErrorFree, is_sound}
-use Rattle.qgm_props.proofs.EachClean.{EachClean, clean-each}
-use Rattle.qgm_props.specs.Holding.{AllBound, Fitting, HasRow, Holds, is_bound}
-use Rattle.qgm_props.specs.Inferred.{Fact, Facts, at_most_one, clean, clean_under, error_free, error_free_under, exactly_one, not_null, not_null_under, of_over, says, single_under}
+use Rattle.qgm_props.proofs.EachClean.{clean-each}
+use Rattle.qgm_props.specs.Holding.{AllBound, Fitting, Holds, is_bound}
+use Rattle.qgm_props.specs.Inferred.{Fact, Facts, at_most_one, clean, error_free, error_free_under, not_null, not_null_under, of_over, says}
 use Rattle.qgm_props.specs.Laws.{Premises}
 use Rattle.qgm_props.proofs.Rows.{occurs-each}
 use Rattle.qgm_props.proofs.Terms.{SoundColumns, SoundRows, no-cell}

@@ -1,18 +1,16 @@
 -- Errors among rows, and aggregates of arguments that are no errors.
-use Rattle.std.proofs.Common.{ℕ, zero, suc, ℤ, pos, negsuc, ◌+ℤ◌, FitsSigned, w64, nat_eq, ◌≡◌, ◌≢◌, ◌≤◌, ◌<◌, ◌+◌, ◌^◌, ◌-◌, min, nat_le, ◌==◌, ◌&&◌, ◌||◌, cond, Bool, true, false, List, [], ◌∷◌, ◌++◌, map, take, drop, length, replicate, Option, Some, None, slice_get, refl, sym, ap, subst, ◌∙◌, arith, inl, inr}
-use Rattle.std.proofs.lemmas.Bool.{and_parts, and_from, cases_Bool, lt-ltb, ltb-true, or_cases}
+use Rattle.std.proofs.Common.{ℕ, zero, suc, ℤ, pos, negsuc, ◌+ℤ◌, FitsSigned, w64, nat_eq, ◌≡◌, ◌≤◌, ◌+◌, ◌^◌, ◌-◌, min, cond, Bool, true, false, List, [], ◌∷◌, length, Option, Some, None, refl, sym, ap, ◌∙◌, arith}
+use Rattle.std.proofs.lemmas.Bool.{and_parts, lt-ltb, ltb-true}
 use Rattle.std.proofs.lemmas.Int.{ints}
 use Rattle.std.specs.Int.RustNames.{int_div}
 use Rattle.std.specs.Ordering.{is_le}
-use Rattle.std.specs.List.{list_any, list_all}
 use Rattle.row_folds.specs.Arguments.{IsTotalOf}
 use Rattle.row_folds.proofs.Means.{mean_fits, one_within}
-use Rattle.row_bag.specs.Aggregates.{number_in, same_cell, as_taken, count_cell, count_rows, exact_total, folded, greater_cell, lesser_cell, mean, of_arguments, single_of_those, unless_null, values}
-use Rattle.row_bag.specs.Bags.{bind, fold_map, if_there, keep, row, total, unit}
+use Rattle.row_bag.specs.Aggregates.{number_in, same_cell, count_cell, count_rows, exact_total, folded, greater_cell, lesser_cell, mean, of_arguments, single_of_those, unless_null, values}
+use Rattle.row_bag.specs.Bags.{bind, if_there, keep, row, total, unit}
 use Rattle.row_bag.specs.Errors.{error_among, error_at, error_in}
 use Rattle.row_bag.specs.Joins.{how_many}
-use Rattle.row_bag.specs.Order.{cell_of}
-use Rattle.row_bag.specs.Sets.{multiplicity, collapsed, error_or_bag, failed_cells, grouped, of_group, once, same_cells}
+use Rattle.row_bag.specs.Sets.{multiplicity, error_or_bag, failed_cells, once}
 use Rattle.row_bag.specs.Verdict.{is_there, those_there}
 use Rattle.row_bag.specs.declared.row.Row.{Row}
 use Rattle.sql_value.specs.Arithmetic.{error_or}
@@ -22,20 +20,18 @@ use Rattle.qgm_terms.specs.Terms as t
 use Rattle.qgm_meaning.specs.Aggregated.{aggregate_of}
 use Rattle.qgm_props.specs.Inferred.{fold_free}
 use Rattle.sql_value.specs.Cells.{cell_compare, error_of, worst_of}
-use Rattle.sql_value.specs.Level.{least, level_of}
+use Rattle.sql_value.specs.Level.{least}
 use Rattle.sql_value.specs.declared.cell.Cell.{Cell}
 use Rattle.sql_value.specs.declared.cell.Cell.TheVariants.{Int, Text, Null, Err}
 use Rattle.sql_value.specs.declared.cell.Kind.{Kind}
 use Rattle.sql_value.specs.declared.cell.Kind.TheVariants as kind
 use Rattle.sql_value.specs.declared.level.Level.{Level}
 use Rattle.sql_value.specs.declared.level.Level.TheVariants.{No, Cardinality, Division, Overflow, Yes}
-use Rattle.qgm_meaning.specs.Laws.{occurs}
 use Rattle.qgm_meaning.specs.Values.{Bag}
-use Rattle.qgm_props.specs.Facts.{Each, EachThere, HasAtMostOne, is_sound}
-use Rattle.qgm_props.proofs.EachClean.{EachClean, clean-decided}
+use Rattle.qgm_props.specs.Facts.{Each, is_sound}
+use Rattle.qgm_props.proofs.EachClean.{EachClean}
 use Rattle.qgm_props.proofs.Cells.{no-error}
-use Rattle.bag_laws.specs.AsSets.{is_decided}
-use Rattle.qgm_props.proofs.Rows.{each-append, each-occurs, least-there, occurs-each, occurs-here, occurs-more, there-is, there_at}
+use Rattle.qgm_props.proofs.Rows.{each-append, least-there, there_at}
 
 -- ---- errors among rows
 

@@ -1,7 +1,7 @@
 -- What is inferred of a box of each kind holds.
 use Rattle.std.proofs.Common.{ℕ, zero, suc, ◌≡◌, ◌≢◌, ◌≤◌, ◌<◌, nat_le, nat_lt, ◌==◌, ◌&&◌, ◌||◌, cond, Bool, true, false, List, [], ◌∷◌, ◌++◌, map, take, length, replicate, Option, Some, None, eqb-true, refl, sym, ap, subst, ◌∙◌, arith, inl, inr}
 use Rattle.std.proofs.Common as p
-use Rattle.std.proofs.lemmas.Bool.{and_parts, and_from, cases_Bool, eq-eqb, leb-true, leb-false, or_cases}
+use Rattle.std.proofs.lemmas.Bool.{and_parts, and_from, eq-eqb, leb-true, leb-false}
 use Rattle.std.specs.List.{list_any, list_all}
 use Rattle.row_bag.specs.Aggregates.{count_cell, values}
 use Rattle.sql_value.specs.Arithmetic.{error_or}
@@ -15,43 +15,38 @@ use Rattle.row_bag.specs.Sets.{error_or_bag, failed_cells, of_group, once, same_
 use Rattle.row_bag.specs.Bags.{bind, unit}
 use Rattle.row_bag.specs.declared.tables.Table.{Table}
 use Rattle.sql_value.specs.declared.cell.Cell.{Cell}
-use Rattle.sql_value.specs.declared.cell.Cell.TheVariants.{Int, Text, Null, Err}
+use Rattle.sql_value.specs.declared.cell.Cell.TheVariants.{Null}
 use Rattle.sql_value.specs.declared.cell.Kind.{Kind}
 use Rattle.sql_value.specs.declared.cell.Kind.TheVariants as kind
 use Rattle.sql_value.specs.declared.order_key.SqlType.{SqlType}
 use Rattle.qgm_core.specs.Boxes.{is_quant}
-use Rattle.qgm_core.specs.Kinds.{is_enforce}
-use Rattle.qgm_core.specs.Lists.{EachOnce, In, first, holds}
-use Rattle.qgm_core.specs.declared.kinds.BaseTable.{BaseTable}
+use Rattle.qgm_core.specs.Lists.{EachOnce, In}
 use Rattle.qgm_core.specs.declared.kinds.BoxKind.{BoxKind}
-use Rattle.qgm_core.specs.declared.kinds.BoxKind.TheVariants.{Base, Select, Group, SetOp, OuterJoin}
+use Rattle.qgm_core.specs.declared.kinds.BoxKind.TheVariants.{Select, Group, SetOp, OuterJoin}
 use Rattle.qgm_core.specs.declared.kinds.SetOperator.{SetOperator}
 use Rattle.qgm_core.specs.declared.kinds.SetOperator.TheVariants.{UnionAll, Union, IntersectAll, Intersect, ExceptAll, Except}
 use Rattle.qgm_core.specs.declared.node.Node.{Node}
 use Rattle.qgm_core.specs.declared.owned.OwnedQuant.{OwnedQuant}
 use Rattle.qgm_meaning.specs.Laws.{occurs}
-use Rattle.qgm_meaning.specs.Meaning.{Family, bag_in, combined, fold_cell, fold_cells, given_by, grouped_rows, groups, key_cells, nothing, of_one, of_two, outer_rows, over_each, rows_by}
-use Rattle.qgm_meaning.specs.Scope.{loose, loose_by, loose_each, read_beyond, read_by, under_any}
+use Rattle.qgm_meaning.specs.Meaning.{Family, bag_in, combined, fold_cell, fold_cells, grouped_rows, groups, key_cells, nothing, of_one, of_two, outer_rows}
+use Rattle.qgm_meaning.specs.Scope.{loose, loose_by, read_beyond, read_by, under_any}
 use Rattle.qgm_meaning.specs.Values.{Bag, Environment, bound, head_cells, row_of, value}
 use Rattle.qgm_meaning.specs.Widths.{Wide}
 use Rattle.qgm_meaning.proofs.Frames.{either-left, either-right}
 use Rattle.qgm_terms.specs.Wanted.{reads, reads_cond}
 use Rattle.qgm_terms.specs.Terms.{Term, int, text, null_int, null_text, col, scalar, both, minus_of, choose, count_all, fold, Cond}
-use Rattle.qgm_meaning.specs.Satisfies.{SatisfiesBy}
 use Rattle.qgm_props.specs.Facts.{EachThere, HasAtMostOne, HasExactlyOne, IsClean, IsErrorFree, IsNotNull, is_sound}
 use Rattle.qgm_props.proofs.EachClean.{EachClean, clean-each}
-use Rattle.qgm_props.specs.Holding.{AllBound, Fitting, HasRow, Holds, is_bound}
-use Rattle.qgm_props.specs.Inferred.{Fact, Facts, all_under_F, arms_error_free, at_most_one, at_most_one_by, at_place, clean, clean_by, clean_op, cond_free, counts, error_free, exactly_one, exactly_one_by, free_by, free_op, holds_left, holds_value, is_count, is_free, no_cond, not_null, not_null_by, not_null_under, says, under_first, under_second, under_two}
+use Rattle.qgm_props.specs.Holding.{AllBound, Fitting, Holds, is_bound}
+use Rattle.qgm_props.specs.Inferred.{Fact, Facts, arms_error_free, at_most_one, at_place, clean, clean_op, cond_free, error_free, exactly_one, free_op, holds_left, holds_value, is_count, is_free, not_null, not_null_under, says, under_first, under_second, under_two}
 use Rattle.qgm_props.specs.Laws.{Premises}
-use Rattle.qgm_props.proofs.Counted.{exact-if, single-if}
-use Rattle.qgm_props.proofs.Environments.{bags, columns-sound, found-first, known-of, rows, rows-are, rows-sound}
+use Rattle.qgm_props.proofs.Environments.{columns-sound, known-of, rows, rows-are, rows-sound}
 use Rattle.qgm_props.proofs.Folds.{clean-among, clean-none, uncollapsed}
-use Rattle.qgm_props.proofs.HeldBases.{base-clean, base-filled, base-free}
 use Rattle.qgm_props.proofs.HeldGroups.{fold-sound, group-each, no-key-error, nothing-sound}
 use Rattle.qgm_props.proofs.HeldOuters.{null-bound, outer-clean, outer-each, outer-exact, outer-single}
 use Rattle.qgm_props.proofs.HeldSets.{NoneIn, clean-combined, combined-clean, combined-each, none-in-arms, places-all}
-use Rattle.qgm_props.proofs.Rows.{clean-bind, clean-if, clean-once, each-if, occurs-each}
-use Rattle.qgm_props.proofs.Selects.{Ready, cell-filled, cell-free, each-clean, each-exact, each-given, each-single, head-cell, no-conds, place-filled, value-filled}
+use Rattle.qgm_props.proofs.Rows.{clean-bind, clean-once, occurs-each}
+use Rattle.qgm_props.proofs.Selects.{Ready, head-cell, value-filled}
 use Rattle.qgm_props.proofs.Wide.{arm-rows}
 use Rattle.qgm_props.proofs.Terms.{SoundColumns, SoundRows, sound-bound, value-sound}
 

@@ -1,12 +1,9 @@
 -- What is inferred of a base holds over tables that satisfy it.
-use Rattle.std.proofs.Common.{ℕ, zero, suc, ◌≡◌, ◌≢◌, ◌==◌, ◌&&◌, cond, Bool, true, false, List, [], ◌∷◌, Option, Some, None, eqb-true, refl, sym, ap, subst, ◌∙◌, inl, inr}
+use Rattle.std.proofs.Common.{ℕ, zero, suc, ◌≡◌, ◌≢◌, ◌==◌, Bool, true, List, [], ◌∷◌, Option, Some, None, eqb-true, refl, subst, inl, inr}
 use Rattle.row_bag.specs.Verdict.{is_there}
-use Rattle.qgm_core.specs.declared.kinds.BoxKind.TheVariants.{Base}
-use Rattle.std.proofs.lemmas.Bool.{and_parts, and_from, or_cases}
+use Rattle.std.proofs.lemmas.Bool.{and_parts, or_cases}
 use Rattle.row_bag.specs.Errors.{error_at}
 use Rattle.row_bag.specs.Order.{cell_of}
-use Rattle.row_bag.specs.Tables.{bag_named}
-use Rattle.row_bag.specs.declared.row.Row.{Row}
 use Rattle.row_bag.specs.declared.tables.Table.{Table}
 use Rattle.sql_value.specs.declared.cell.Cell.{Cell}
 use Rattle.sql_value.specs.declared.cell.Cell.TheVariants.{Int, Text, Null, Err}
@@ -20,8 +17,8 @@ use Rattle.qgm_core.specs.declared.kinds.BaseTable.{BaseTable}
 use Rattle.qgm_core.specs.declared.node.Node.{Node}
 use Rattle.qgm_meaning.specs.Meaning.{rows_or_none}
 use Rattle.qgm_meaning.specs.Values.{Bag}
-use Rattle.qgm_meaning.specs.Satisfies.{FoundSatisfies, RowsSatisfy, Satisfies, SatisfiesBy, are_of, have_values, is_of, is_value, is_yes}
-use Rattle.qgm_props.specs.Facts.{Each, EachThere, IsErrorFree, IsNotNull, is_sound}
+use Rattle.qgm_meaning.specs.Satisfies.{FoundSatisfies, Satisfies, SatisfiesBy, are_of, have_values, is_of, is_value, is_yes}
+use Rattle.qgm_props.specs.Facts.{Each, IsErrorFree, IsNotNull, is_sound}
 use Rattle.qgm_props.proofs.EachClean.{EachClean}
 use Rattle.qgm_props.proofs.Terms.{no-cell}
 

@@ -1,43 +1,32 @@
 -- What is inferred of a group holds.
-use Rattle.std.proofs.Common.{ℕ, zero, suc, ◌≡◌, ◌≢◌, ◌≤◌, ◌<◌, ◌+◌, nat_le, ◌==◌, ◌&&◌, ◌||◌, cond, Bool, true, false, List, [], ◌∷◌, ◌++◌, map, take, drop, length, replicate, Option, Some, None, slice_get, eqb-true, refl, sym, ap, ap₂, subst, ◌∙◌, arith, inl, inr}
-use Rattle.std.proofs.Common as p
-use Rattle.std.proofs.lemmas.Bool.{and_parts, and_from, cases_Bool, eq-eqb, leb-true, or_cases}
-use Rattle.std.specs.List.{list_any, list_all}
-use Rattle.row_bag.specs.Aggregates.{count_rows, folded}
-use Rattle.row_bag.specs.Bags.{bind, if_there, keep, row, unit}
+use Rattle.std.proofs.Common.{ℕ, zero, suc, ◌≡◌, ◌≤◌, ◌<◌, ◌+◌, cond, Bool, true, false, List, [], ◌∷◌, ◌++◌, map, take, drop, None, refl, sym, ap, ap₂, subst, ◌∙◌, arith, inl, inr}
+use Rattle.std.proofs.lemmas.Bool.{and_parts}
+use Rattle.std.specs.List.{list_all}
+use Rattle.row_bag.specs.Bags.{bind, if_there, row, unit}
 use Rattle.row_bag.specs.Errors.{error_among, error_at, error_in}
 use Rattle.row_bag.specs.Joins.{how_many}
 use Rattle.row_bag.specs.Order.{cell_of}
-use Rattle.row_bag.specs.Sets.{collapsed, error_or_bag, failed_cells, grouped, of_group, once, same_cells}
+use Rattle.row_bag.specs.Sets.{of_group, once, same_cells}
 use Rattle.row_bag.specs.Verdict.{is_there}
-use Rattle.row_bag.specs.declared.row.Row.{Row}
-use Rattle.row_bag.specs.declared.tables.Table.{Table}
 use Rattle.sql_value.specs.declared.cell.Cell.{Cell}
-use Rattle.sql_value.specs.declared.cell.Cell.TheVariants.{Int, Text, Null, Err}
-use Rattle.sql_value.specs.declared.cell.Kind.{Kind}
-use Rattle.sql_value.specs.Level.{least, level_of}
+use Rattle.sql_value.specs.declared.cell.Cell.TheVariants.{Null}
+use Rattle.sql_value.specs.Level.{least}
 use Rattle.sql_value.specs.declared.level.Level.{Level}
 use Rattle.sql_value.specs.declared.level.Level.TheVariants.{No, Cardinality, Division, Overflow, Yes}
 use Rattle.row_bag.proofs.Levels.{least-yes}
-use Rattle.qgm_core.specs.Boxes.{is_quant}
-use Rattle.qgm_core.specs.Lists.{In, first}
+use Rattle.qgm_core.specs.Lists.{In}
 use Rattle.qgm_core.specs.declared.node.Node.{Node}
-use Rattle.qgm_core.specs.declared.owned.OwnedQuant.{OwnedQuant}
-use Rattle.qgm_meaning.specs.Aggregated.{aggregate_of, taken_of}
+use Rattle.qgm_meaning.specs.Aggregated.{taken_of}
 use Rattle.qgm_meaning.specs.Laws.{occurs}
-use Rattle.qgm_meaning.specs.Meaning.{Family, bag_in, fold_cell, fold_cells, grouped_rows, groups, key_cells, nothing}
-use Rattle.qgm_meaning.specs.Scope.{loose, read_beyond, read_by, under_any}
-use Rattle.qgm_meaning.specs.Values.{Bag, Environment, bound, head_cells, row_of, value}
-use Rattle.qgm_meaning.proofs.Frames.{either-left, either-right}
-use Rattle.qgm_terms.specs.Wanted.{reads, reads_cond}
-use Rattle.qgm_terms.specs.Terms.{Term, int, text, null_int, null_text, col, scalar, both, minus_of, choose, count_all, fold, Cond}
+use Rattle.qgm_meaning.specs.Meaning.{fold_cell, fold_cells, groups, key_cells, nothing}
+use Rattle.qgm_meaning.specs.Values.{Bag, Environment, bound, head_cells, value}
+use Rattle.qgm_terms.specs.Terms.{Term, int, text, null_int, null_text, col, scalar, both, minus_of, choose, count_all, fold}
 use Rattle.qgm_props.specs.Facts.{Each, EachThere, HasAtMostOne, is_sound}
 use Rattle.qgm_props.proofs.EachClean.{EachClean}
-use Rattle.qgm_props.specs.Inferred.{Facts, at_place, counts, fold_free, is_count, is_free}
-use Rattle.qgm_props.proofs.Cells.{no-error}
+use Rattle.qgm_props.specs.Inferred.{Facts, at_place, fold_free, is_free}
 use Rattle.qgm_props.proofs.Counted.{bind-one, occurs-once}
-use Rattle.qgm_props.proofs.Folds.{SoundCells, clean-among, folded-sound, none-among, none-in, rows-counted, uncollapsed}
-use Rattle.qgm_props.proofs.Rows.{clean-bind, clean-once, each-bind, each-occurs, occurs-each}
+use Rattle.qgm_props.proofs.Folds.{SoundCells, folded-sound, none-among, none-in, rows-counted}
+use Rattle.qgm_props.proofs.Rows.{clean-bind, each-bind, each-occurs, occurs-each}
 use Rattle.qgm_props.proofs.Terms.{SoundColumns, SoundRows, value-sound}
 
 -- a row at another level that is the same

@@ -1,26 +1,20 @@
 -- What is inferred of an outer join holds.
-use Rattle.std.proofs.Common.{ℕ, zero, suc, ◌≡◌, ◌≢◌, ◌≤◌, ◌<◌, ◌+◌, ◌==◌, ◌&&◌, ◌||◌, nat_eq, cond, Bool, true, false, List, [], ◌∷◌, ◌++◌, length, Option, Some, None, eqb-true, refl, sym, ap, subst, ◌∙◌, arith, inl, inr}
-use Rattle.std.proofs.lemmas.Bool.{and_parts, and_from, cases_Bool, eq-eqb, eqb-false}
+use Rattle.std.proofs.Common.{ℕ, zero, suc, ◌≡◌, ◌≤◌, ◌==◌, nat_eq, cond, Bool, true, false, List, [], refl, arith}
+use Rattle.std.proofs.lemmas.Bool.{eqb-false}
 use Rattle.std.specs.List.{list_all}
-use Rattle.row_bag.specs.Bags.{bind, keep, row, unit}
-use Rattle.row_bag.specs.Errors.{error_at}
+use Rattle.row_bag.specs.Bags.{bind, keep, unit}
 use Rattle.row_bag.specs.Joins.{how_many, or_else}
 use Rattle.row_bag.specs.Order.{cell_of}
-use Rattle.row_bag.specs.Verdict.{is_there}
-use Rattle.row_bag.specs.declared.row.Row.{Row}
 use Rattle.sql_value.specs.declared.cell.Cell.{Cell}
-use Rattle.sql_value.specs.declared.cell.Cell.TheVariants.{Int, Text, Null, Err}
 use Rattle.sql_value.specs.declared.level.Level.{Level}
 use Rattle.sql_value.specs.declared.level.Level.TheVariants.{No, Cardinality, Division, Overflow, Yes}
 use Rattle.qgm_core.specs.declared.node.Node.{Node}
 use Rattle.qgm_meaning.specs.Laws.{occurs}
 use Rattle.qgm_meaning.specs.Meaning.{Family, given, nothing, outer_rows}
-use Rattle.qgm_meaning.specs.Values.{Bag, Environment, all_true, bound, head_cells, row_of, value}
-use Rattle.qgm_terms.specs.Terms.{Term, Cond}
+use Rattle.qgm_meaning.specs.Values.{Bag, Environment, all_true, bound, head_cells, row_of}
 use Rattle.qgm_props.specs.Facts.{EachThere, HasAtMostOne, HasExactlyOne, is_sound}
 use Rattle.qgm_props.proofs.EachClean.{EachClean}
-use Rattle.qgm_props.specs.Inferred.{Facts, cond_free, error_free_under}
-use Rattle.qgm_props.proofs.Cells.{Decided}
+use Rattle.qgm_props.specs.Inferred.{Facts, cond_free}
 use Rattle.qgm_props.proofs.Counted.{bind-exact, bind-one}
 use Rattle.qgm_props.proofs.HeldGroups.{nothing-sound}
 use Rattle.qgm_props.proofs.Rows.{clean-bind, clean-keep, each-bind, each-keep}

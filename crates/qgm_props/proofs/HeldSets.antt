@@ -1,17 +1,15 @@
 -- What is inferred of a set operation holds.
-use Rattle.std.proofs.Common.{ℕ, zero, suc, ◌≡◌, ◌≢◌, ◌≤◌, ◌<◌, ◌+◌, ◌-◌, min, ◌==◌, ◌&&◌, ◌||◌, cond, Bool, true, false, List, [], ◌∷◌, ◌++◌, length, Option, Some, None, eqb-true, nat_lt, refl, sym, ap, subst, ◌∙◌, arith, inl, inr}
-use Rattle.std.proofs.lemmas.Bool.{and_parts, and_from, cases_Bool, eqb-false, ltb-false, ltb-true}
-use Rattle.row_bag.specs.Bags.{bind, row, unit}
+use Rattle.std.proofs.Common.{ℕ, zero, suc, ◌≡◌, ◌≤◌, ◌-◌, min, ◌==◌, Bool, true, false, List, [], ◌∷◌, ◌++◌, length, None, eqb-true, nat_lt, refl, sym, subst, arith, inl, inr}
+use Rattle.std.proofs.lemmas.Bool.{and_parts, cases_Bool, eqb-false, ltb-false, ltb-true}
+use Rattle.row_bag.specs.Bags.{bind}
 use Rattle.row_bag.specs.Errors.{error_among, error_at, error_in}
 use Rattle.row_bag.specs.Order.{cell_of}
 use Rattle.row_bag.specs.Sets as sets
 use Rattle.row_bag.specs.Sets.{copies, distinct, multiplicity, once, same_cells}
 use Rattle.row_bag.specs.Verdict.{is_there}
-use Rattle.row_bag.specs.declared.row.Row.{Row}
 use Rattle.sql_value.specs.declared.cell.Cell.{Cell}
 use Rattle.qgm_core.specs.declared.kinds.SetOperator.{SetOperator}
 use Rattle.qgm_core.specs.declared.kinds.SetOperator.TheVariants.{UnionAll, Union, IntersectAll, Intersect, ExceptAll, Except}
-use Rattle.qgm_meaning.specs.Laws.{occurs}
 use Rattle.qgm_meaning.specs.Meaning.{combined}
 use Rattle.qgm_meaning.specs.Values.{Bag}
 use Rattle.qgm_meaning.specs.Widths.{Wide}
@@ -20,7 +18,7 @@ use Rattle.qgm_props.proofs.EachClean.{EachClean}
 use Rattle.qgm_props.specs.Inferred.{all_places}
 use Rattle.qgm_props.proofs.Counted.{occurs-once}
 use Rattle.qgm_props.proofs.Folds.{clean-none, none-among, none-in, uncollapsed}
-use Rattle.qgm_props.proofs.Rows.{clean-bind, clean-copies, clean-distinct, clean-once, each-append, each-bind, each-copies, each-distinct, each-occurs, each-once, occurs-each}
+use Rattle.qgm_props.proofs.Rows.{clean-bind, clean-copies, clean-distinct, clean-once, each-append, each-bind, each-copies, each-distinct, occurs-each}
 
 -- each of the places
 pub places-all : (w : ℕ) (test : ℕ → Bool) → all_places w test ≡ true → (k : ℕ) → 1 ≤ k → k ≤ w → test k ≡ true

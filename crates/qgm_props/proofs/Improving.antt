@@ -1,16 +1,15 @@
 -- Tables of facts that improve.
-use Rattle.std.proofs.Common.{ℕ, zero, suc, ◌≡◌, ◌≢◌, ◌≤◌, ◌<◌, ◌+◌, ◌-◌, nat_lt, nat_le, ◌==◌, ◌&&◌, ◌||◌, cond, Bool, true, false, List, [], ◌∷◌, ◌++◌, map, length, Option, Some, None, slice_get, slice_set, eqb-true, refl, sym, ap, ap₂, subst, ◌∙◌, arith, inl, inr, ◌⊎◌}
-use Rattle.std.proofs.lemmas.Bool.{and_parts, and_from, cases_Bool, eq-eqb, le-leb, lt-ltb, ltb-false, ltb-true, leb-true, or_cases}
+use Rattle.std.proofs.Common.{ℕ, zero, suc, ◌≡◌, ◌≤◌, ◌<◌, ◌+◌, ◌-◌, nat_lt, nat_le, ◌==◌, ◌&&◌, ◌||◌, cond, Bool, true, false, List, [], ◌∷◌, ◌++◌, map, length, Option, Some, None, slice_get, slice_set, eqb-true, refl, sym, ap, subst, ◌∙◌, arith, inl, inr, ◌⊎◌}
+use Rattle.std.proofs.lemmas.Bool.{and_parts, and_from, cases_Bool, le-leb, lt-ltb, ltb-false, ltb-true, leb-true, or_cases}
 use Rattle.std.proofs.lemmas.List.{length-append}
 use Rattle.qgm_core.specs.Boxes.{is_box, width}
 use Rattle.qgm_core.specs.Lists.{first}
 use Rattle.qgm_core.specs.declared.node.Node.{Node}
-use Rattle.qgm_meaning.proofs.Frames.{either-left, either-right}
+use Rattle.qgm_meaning.proofs.Frames.{either-right}
 use Rattle.qgm_props.specs.Inferred.{Closed, Fact, Facts, at_most_one, at_most_one_by, clean, clean_by, error_free, exactly_one, exactly_one_by, free_by, inferred_once, not_null, not_null_by, of_box, says}
-use Rattle.qgm_props.specs.Table.{Improves, Stable, StableAt, begun, element, either_flags, facts_of, flag_at, flags, found, gone, improved, improved_at, is_of, joined, nothing_of, unknown_flags, unknown_in, unknown_of}
+use Rattle.qgm_props.specs.Table.{Improves, Stable, begun, either_flags, facts_of, flag_at, flags, found, gone, improved, is_of, joined, nothing_of, unknown_flags, unknown_in, unknown_of}
 use Rattle.qgm_props.specs.declared.facts.BoxFacts.{BoxFacts}
 use Rattle.qgm_props.proofs.Environments.{first-in}
-use Rattle.qgm_props.proofs.Places.{element-suc}
 
 -- ---- flags
 

@@ -1,10 +1,10 @@
 -- What is inferred of keys holds.
-use Rattle.std.proofs.Common.{ℕ, zero, suc, ◌≡◌, ◌≢◌, ◌≤◌, ◌+◌, ◌-◌, min, nat_le, nat_lt, nat_eq, ◌==◌, ◌&&◌, ◌||◌, cond, Bool, true, false, List, [], ◌∷◌, ◌++◌, map, take, drop, length, Option, Some, None, slice_get, eqb-true, refl, sym, ap, ap₂, subst, ◌∙◌, arith, inl, inr}
-use Rattle.std.proofs.lemmas.Bool.{and_parts, and_from, cases_Bool, eq-eqb, eqb-false, ltb-false, ltb-true, or_cases}
-use Rattle.std.proofs.lemmas.List.{length-append, length-map}
-use Rattle.std.specs.List.{list_any, list_all, flat_map}
-use Rattle.bag_laws.specs.Keys.{HasKey, cells_at}
-use Rattle.row_bag.specs.Bags.{bind, keep, row, unit}
+use Rattle.std.proofs.Common.{ℕ, zero, suc, ◌≡◌, ◌≤◌, ◌-◌, min, nat_lt, nat_eq, ◌==◌, ◌&&◌, ◌||◌, cond, Bool, true, false, List, [], ◌∷◌, ◌++◌, map, take, length, Option, Some, None, eqb-true, refl, sym, ap, ap₂, subst, ◌∙◌, arith, inl, inr}
+use Rattle.std.proofs.lemmas.Bool.{and_parts, cases_Bool, eq-eqb, eqb-false, ltb-false, ltb-true, or_cases}
+use Rattle.std.proofs.lemmas.List.{length-map}
+use Rattle.std.specs.List.{list_any}
+use Rattle.bag_laws.specs.Keys.{HasKey}
+use Rattle.row_bag.specs.Bags.{bind, keep, unit}
 use Rattle.row_bag.specs.Errors.{error_among, error_in}
 use Rattle.row_bag.specs.Joins.{how_many, or_else}
 use Rattle.row_bag.specs.Order.{cell_of}
@@ -12,16 +12,13 @@ use Rattle.row_bag.specs.Sets as sets
 use Rattle.row_bag.specs.Sets.{copies, distinct, error_or_bag, failed_cells, level_in, multiplicity, of_group, once, same_cells}
 use Rattle.row_bag.specs.Tables.{bag_named}
 use Rattle.row_bag.specs.Verdict.{is_there}
-use Rattle.row_bag.specs.declared.row.Row.{Row}
 use Rattle.row_bag.specs.declared.tables.Table.{Table}
 use Rattle.row_bag.proofs.Tuples.{same_cells-decides}
 use Rattle.sql_value.specs.declared.cell.Cell.{Cell}
 use Rattle.sql_value.specs.declared.cell.Kind.{Kind}
 use Rattle.sql_value.specs.declared.level.Level.{Level}
 use Rattle.sql_value.specs.declared.level.Level.TheVariants.{No, Cardinality, Division, Overflow, Yes}
-use Rattle.sql_value.specs.declared.order_key.SqlType.{SqlType}
-use Rattle.sql_value.specs.Level.{least, level_of}
-use Rattle.qgm_core.specs.Boxes.{Ordered, all_over, has_box, ids_of, is_box}
+use Rattle.qgm_core.specs.Boxes.{Ordered, all_over, has_box, is_box}
 use Rattle.qgm_core.specs.Kinds.{is_F, is_enforce}
 use Rattle.qgm_core.specs.Lists.{EachOnce, In, first, holds}
 use Rattle.qgm_core.specs.declared.kinds.BaseTable.{BaseTable}
@@ -33,21 +30,21 @@ use Rattle.qgm_core.specs.declared.node.Node.{Node}
 use Rattle.qgm_core.specs.declared.owned.OwnedQuant.{OwnedQuant}
 use Rattle.qgm_meaning.specs.Laws.{occurs}
 use Rattle.qgm_meaning.specs.Meaning.{Family, bag_in, combined, fold_cells, given, given_by, grouped_rows, groups, key_cells, nothing, of_one, of_two, once_if, outer_rows, over_each, rows_by, rows_or_none}
-use Rattle.qgm_meaning.specs.Ranks.{LooksUnder, SameUnder, by_rank}
+use Rattle.qgm_meaning.specs.Ranks.{LooksUnder, SameUnder}
 use Rattle.qgm_meaning.specs.Satisfies.{FoundSatisfies, SatisfiesBy}
 use Rattle.qgm_meaning.specs.Values.{Bag, Environment, all_true, bound, head_cells, row_of, value}
 use Rattle.qgm_meaning.specs.Widths.{Wide}
 use Rattle.qgm_meaning.proofs.Frames.{either-left, either-right}
 use Rattle.qgm_meaning.proofs.Ranked.{apart, unfold-rank}
 use Rattle.qgm_meaning.proofs.Satisfying.{of-satisfying}
-use Rattle.qgm_terms.specs.Terms.{Term, int, text, null_int, null_text, col, scalar, both, minus_of, choose, count_all, fold, Cond}
-use Rattle.qgm_props.specs.Facts.{Each, EachThere, HasAtMostOne}
-use Rattle.qgm_props.specs.Holding.{AllBound, Fitting, Holds, OfRows, is_bound}
+use Rattle.qgm_terms.specs.Terms.{Term, int, text, null_int, null_text, col, scalar, both, minus_of, choose, count_all, fold}
+use Rattle.qgm_props.specs.Facts.{EachThere}
+use Rattle.qgm_props.specs.Holding.{AllBound, Fitting, Holds, OfRows}
 use Rattle.qgm_props.specs.Inferred.{Fact, Facts, at_most_one, says}
 use Rattle.qgm_props.specs.Keys.{all_within, among, cell_at, column_of, columns_at, holds_key, keyed, keyed_by, keyed_op, keyed_under, keyed_under_F, keyed_under_two}
 use Rattle.qgm_props.specs.Laws.{Premises}
 use Rattle.qgm_props.proofs.Counted.{occurs-once}
-use Rattle.qgm_props.proofs.Environments.{first-in, rows, rows-are}
+use Rattle.qgm_props.proofs.Environments.{rows, rows-are}
 use Rattle.qgm_props.proofs.HeldOuters.{of-either}
 use Rattle.qgm_props.proofs.Held.{Looked, ready}
 use Rattle.qgm_props.proofs.HeldBases.{satisfied}
@@ -58,8 +55,8 @@ use Rattle.qgm_meaning.proofs.Within.{loose-unfold}
 use mathlib.Core.Path.{fun_ext}
 use Rattle.qgm_props.proofs.Selects.{Ready, each-given, next-ready, skip-ready, under-bound}
 use Rattle.qgm_props.proofs.KeyTests.{agree-from, agreed, all-agreed, by, cells-same, key-two, two-key, within-holds}
-use Rattle.qgm_props.proofs.NoTwo.{NoTwo, Test, no-two-bind, no-two-copies, no-two-distinct, no-two-once, no-two-weaker, none-two, occurs-bind, once-apart}
-use Rattle.qgm_props.proofs.Rows.{each-append, each-bind, each-distinct, each-keep, each-occurs, each-once, occurs-each}
+use Rattle.qgm_props.proofs.NoTwo.{NoTwo, Test, no-two-bind, no-two-copies, no-two-distinct, no-two-once, no-two-weaker, none-two, once-apart}
+use Rattle.qgm_props.proofs.Rows.{each-append, each-bind, each-distinct, each-keep, occurs-each}
 
 -- ---- by rank
 

@@ -1,9 +1,9 @@
 -- That no two rows pass a test, through the operations on bags.
-use Rattle.std.proofs.Common.{ℕ, zero, suc, ◌≡◌, ◌≢◌, ◌≤◌, ◌+◌, min, nat_eq, ◌==◌, ◌&&◌, ◌||◌, cond, Bool, true, false, List, [], ◌∷◌, ◌++◌, length, Option, Some, None, eqb-true, refl, sym, ap, subst, ◌∙◌, arith, inl, inr}
+use Rattle.std.proofs.Common.{ℕ, zero, suc, ◌≡◌, ◌≤◌, ◌+◌, nat_eq, ◌&&◌, ◌||◌, cond, Bool, true, false, List, [], ◌∷◌, ◌++◌, eqb-true, refl, sym, ap, subst, ◌∙◌, arith, inl, inr}
 use Rattle.std.proofs.lemmas.Bool.{and_parts, and_from, cases_Bool, or_cases}
-use Rattle.std.specs.List.{list_any, list_all}
+use Rattle.std.specs.List.{list_any}
 use Rattle.row_bag.specs.Bags.{bind, if_there, keep, row, unit}
-use Rattle.row_bag.specs.Joins.{how_many, or_else}
+use Rattle.row_bag.specs.Joins.{how_many}
 use Rattle.row_bag.specs.Sets.{copies, distinct, level_in, multiplicity, once, same_cells}
 use Rattle.row_bag.specs.Verdict.{is_there}
 use Rattle.row_bag.specs.declared.row.Row.{Row}
@@ -16,7 +16,7 @@ use Rattle.qgm_meaning.specs.Laws.{occurs}
 use Rattle.qgm_meaning.specs.Values.{Bag}
 use Rattle.qgm_meaning.proofs.Frames.{either-left, either-right}
 use Rattle.qgm_props.proofs.Counted.{counted, flag, occurs-once}
-use Rattle.qgm_props.proofs.Rows.{each-bind, each-occurs, least-there, occurs-each, occurs-here, occurs-more, there-is, there-kept, there_at}
+use Rattle.qgm_props.proofs.Rows.{occurs-here, occurs-more, there-is, there-kept, there_at}
 
 abbrev pub Test : Type 0
 Test = List Cell → List Cell → Bool

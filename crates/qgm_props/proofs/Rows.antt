@@ -1,10 +1,8 @@
 -- Rows that are there, clean rows and their number, through the operations on bags.
-use Rattle.std.proofs.Common.{ℕ, zero, suc, ◌≡◌, ◌≢◌, ◌+◌, ◌-◌, ◌≤◌, ◌==◌, ◌&&◌, min, nat_eq, cond, Bool, true, false, List, [], ◌∷◌, ◌++◌, map, Option, Some, None, refl, sym, ap, ap₂, subst, ◌∙◌, arith, inl, inr}
-use Rattle.std.specs.List.{list_any}
-use Rattle.std.proofs.lemmas.Bool.{and_parts, and_from, or_cases, cases_Bool}
-use Rattle.row_bag.specs.Bags.{bind, fold_map, if_there, keep, row, total, unit}
+use Rattle.std.proofs.Common.{ℕ, zero, suc, ◌≡◌, ◌&&◌, nat_eq, cond, Bool, true, false, List, [], ◌∷◌, ◌++◌, None, refl, sym, ap, subst, ◌∙◌, inl, inr}
+use Rattle.std.proofs.lemmas.Bool.{and_parts, and_from, or_cases}
+use Rattle.row_bag.specs.Bags.{bind, if_there, keep, row, unit}
 use Rattle.row_bag.specs.Errors.{error_at}
-use Rattle.row_bag.specs.Joins.{how_many, or_else}
 use Rattle.row_bag.specs.Sets.{copies, distinct, level_in, multiplicity, once, same_cells}
 use Rattle.row_bag.specs.Verdict.{is_there}
 use Rattle.row_bag.specs.declared.row.Row.{Row}

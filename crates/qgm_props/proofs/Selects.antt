@@ -1,37 +1,35 @@
 -- What is inferred of a select holds.
 use Rattle.std.proofs.Common.{ℕ, zero, suc, ◌≡◌, ◌≢◌, ◌≤◌, ◌==◌, ◌&&◌, ◌||◌, cond, Bool, true, false, List, [], ◌∷◌, map, Option, Some, None, slice_get, eqb-true, refl, sym, ap, subst, ◌∙◌, arith, inl, inr}
 use Rattle.std.proofs.Common as p
-use Rattle.std.proofs.lemmas.Bool.{and_parts, and_from, cases_Bool, eq-eqb, or_cases}
+use Rattle.std.proofs.lemmas.Bool.{and_parts, and_from, eq-eqb}
 use Rattle.std.specs.List.{list_any, list_all}
 use Rattle.row_bag.specs.Bags.{bind, keep, unit}
 use Rattle.row_bag.specs.Joins.{how_many}
 use Rattle.row_bag.specs.Order.{cell_of}
 use Rattle.row_bag.specs.declared.tables.Table.{Table}
 use Rattle.sql_value.specs.declared.cell.Cell.{Cell}
-use Rattle.sql_value.specs.declared.cell.Cell.TheVariants.{Int, Text, Null, Err}
+use Rattle.sql_value.specs.declared.cell.Cell.TheVariants.{Null}
 use Rattle.sql_value.specs.declared.level.Level.{Level}
 use Rattle.sql_value.specs.declared.level.Level.TheVariants.{No, Cardinality, Division, Overflow, Yes}
-use Rattle.qgm_core.specs.Boxes.{is_quant}
 use Rattle.qgm_core.specs.Kinds.{is_F}
-use Rattle.qgm_core.specs.Lists.{In, first}
+use Rattle.qgm_core.specs.Lists.{In}
 use Rattle.qgm_core.specs.declared.node.Node.{Node}
 use Rattle.qgm_core.specs.declared.owned.OwnedQuant.{OwnedQuant}
 use Rattle.qgm_meaning.specs.Laws.{occurs}
-use Rattle.qgm_meaning.specs.Meaning.{Family, bag_in, given, given_by, over_each}
+use Rattle.qgm_meaning.specs.Meaning.{Family, bag_in, given_by, over_each}
 use Rattle.qgm_meaning.specs.Scope.{loose, loose_each, looks_found, quant_looks, read_by, under_any}
-use Rattle.qgm_meaning.specs.Values.{Bag, Environment, all_true, bound, head_cells, row_of, value}
+use Rattle.qgm_meaning.specs.Values.{Bag, Environment, all_true, bound, head_cells, value}
 use Rattle.qgm_meaning.proofs.Frames.{either-left, either-right}
 use Rattle.qgm_terms.specs.Wanted.{reads, reads_cond}
 use Rattle.qgm_terms.specs.Terms.{Term, int, text, null_int, null_text, col, scalar, both, minus_of, choose, count_all, fold, Cond}
 use Rattle.row_bag.specs.declared.tables.Table.{Table}
 use Rattle.qgm_props.specs.Facts.{EachThere, HasAtMostOne, HasExactlyOne, IsClean, is_sound}
 use Rattle.qgm_props.proofs.EachClean.{EachClean, clean-each}
-use Rattle.qgm_props.specs.Holding.{AllBound, Fitting, HasRow, Holds, is_bound}
-use Rattle.qgm_props.specs.Inferred.{Fact, Facts, all_under_F, at_most_one, at_place, clean, cond_free, exactly_one, holds_value, no_cond, is_free, not_null_under, says}
+use Rattle.qgm_props.specs.Holding.{AllBound, Fitting, Holds, is_bound}
+use Rattle.qgm_props.specs.Inferred.{Fact, Facts, all_under_F, at_most_one, at_place, clean, cond_free, exactly_one, holds_value, no_cond, is_free, says}
 use Rattle.qgm_props.specs.Laws.{Premises}
-use Rattle.qgm_props.proofs.Cells.{Decided}
 use Rattle.qgm_props.proofs.Counted.{bind-exact, bind-one}
-use Rattle.qgm_props.proofs.Environments.{bags, columns-filled, columns-sound, found-first, rows, rows-are, rows-sound}
+use Rattle.qgm_props.proofs.Environments.{columns-filled, columns-sound, found-first, rows, rows-are, rows-sound}
 use Rattle.qgm_props.proofs.Rows.{clean-bind, clean-keep, each-bind, each-keep}
 use Rattle.qgm_props.proofs.Terms.{SoundColumns, SoundRows, all-decided, value-sound}
 

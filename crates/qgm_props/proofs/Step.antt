@@ -1,28 +1,25 @@
 -- What is inferred of facts that hold holds.
-use Rattle.std.proofs.Common.{ℕ, zero, suc, ◌≡◌, ◌≢◌, ◌≤◌, nat_le, nat_lt, ◌==◌, ◌&&◌, ◌||◌, cond, Bool, true, false, List, [], ◌∷◌, length, Option, Some, None, eqb-true, refl, sym, ap, subst, ◌∙◌, arith, inl, inr}
+use Rattle.std.proofs.Common.{ℕ, ◌≡◌, ◌≢◌, nat_le, nat_lt, ◌&&◌, ◌||◌, Bool, true, false, List, Option, Some, None, eqb-true, refl, sym, ap, subst, ◌∙◌, arith, inl, inr}
 use Rattle.std.proofs.lemmas.Bool.{and_parts, or_cases}
 use Rattle.std.specs.List.{list_all}
-use Rattle.row_bag.specs.Joins.{how_many}
 use Rattle.row_bag.specs.Order.{cell_of}
 use Rattle.row_bag.specs.Tables.{bag_named}
 use Rattle.row_bag.specs.declared.tables.Table.{Table}
-use Rattle.sql_value.specs.declared.cell.Cell.{Cell}
 use Rattle.sql_value.specs.declared.cell.Cell.TheVariants.{Null}
 use Rattle.qgm_core.specs.Boxes.{is_box, width}
 use Rattle.qgm_core.specs.Kinds.{is_enforce}
-use Rattle.qgm_core.specs.Lists.{In, first, holds}
+use Rattle.qgm_core.specs.Lists.{In, first}
 use Rattle.qgm_core.specs.declared.kinds.BoxKind.{BoxKind}
 use Rattle.qgm_core.specs.declared.kinds.BoxKind.TheVariants.{Base, Select, Group, SetOp, OuterJoin}
 use Rattle.qgm_core.specs.declared.node.Node.{Node}
 use Rattle.qgm_meaning.specs.Meaning.{bag_in, given_by, over_each, rows_by, rows_of}
-use Rattle.qgm_meaning.specs.Scope.{loose, loose_by, loose_of}
 use Rattle.qgm_meaning.specs.Values.{Bag, Environment}
 use Rattle.qgm_meaning.proofs.Unfold.{unfold-bag}
 use Rattle.qgm_meaning.proofs.Within.{loose-unfold}
 use Rattle.qgm_meaning.specs.Satisfies.{SatisfiesBy}
-use Rattle.qgm_props.specs.Facts.{EachThere, HasAtMostOne, HasExactlyOne, IsClean, IsErrorFree, IsNotNull, is_sound}
+use Rattle.qgm_props.specs.Facts.{HasAtMostOne, HasExactlyOne, IsClean, IsErrorFree, IsNotNull, is_sound}
 use Rattle.qgm_props.proofs.EachClean.{EachClean, clean-each, each-is-clean}
-use Rattle.qgm_props.specs.Holding.{AllBound, Fitting, Holds, OfRows, is_bound}
+use Rattle.qgm_props.specs.Holding.{AllBound, Fitting, Holds, OfRows}
 use Rattle.qgm_props.specs.Inferred.{Fact, Facts, all_under_F, at_most_one, at_most_one_by, clean, clean_by, cond_free, error_free, exactly_one, exactly_one_by, free_by, inferred_once, no_cond, not_null, not_null_by, of_box, says}
 use Rattle.qgm_props.specs.Laws.{Premises}
 use Rattle.qgm_props.proofs.Counted.{exact-if, single-if}

@@ -1,10 +1,10 @@
 -- Expressions without errors are no errors, and conditions without errors are decided.
-use Rattle.std.proofs.Common.{ℕ, zero, suc, ℤ, pos, negsuc, ◌≡◌, ◌≤◌, ◌+◌, ◌==◌, ◌&&◌, cond, Bool, true, false, List, [], ◌∷◌, map, length, Option, Some, None, eqb-true, refl, sym, ap, ap₂, subst, ◌∙◌, arith, inl, inr}
-use Rattle.std.proofs.lemmas.Bool.{and_parts, and_from, cases_Bool, eq-eqb}
+use Rattle.std.proofs.Common.{ℕ, zero, suc, ℤ, pos, negsuc, ◌≡◌, ◌≤◌, ◌==◌, ◌&&◌, cond, Bool, true, false, List, [], ◌∷◌, length, Option, Some, None, eqb-true, refl, sym, ap, subst, ◌∙◌, arith, inl, inr}
+use Rattle.std.proofs.lemmas.Bool.{and_parts, cases_Bool}
 use Rattle.std.proofs.lemmas.Bool.Decides.{Decides-int_eq}
 use Rattle.std.specs.Ordering.{int_eq}
 use Rattle.std.specs.List.{list_all}
-use Rattle.row_bag.specs.Bags.{fold_map, if_there, total}
+use Rattle.row_bag.specs.Bags.{if_there, total}
 use Rattle.row_bag.specs.Errors.{error_at}
 use Rattle.row_bag.specs.Joins.{how_many}
 use Rattle.row_bag.specs.Order.{cell_of}
@@ -15,22 +15,20 @@ use Rattle.row_bag.specs.declared.row.Row.{Row}
 use Rattle.sql_value.specs.Arithmetic as a
 use Rattle.sql_value.specs.Truths as t
 use Rattle.sql_value.specs.declared.cell.Cell.{Cell}
-use Rattle.sql_value.specs.declared.cell.Cell.TheVariants.{Int, Text, Null, Err}
 use Rattle.sql_value.specs.declared.level.Level.{Level}
 use Rattle.sql_value.specs.declared.level.Level.TheVariants.{No, Cardinality, Division, Overflow, Yes}
 use Rattle.sql_value.specs.declared.truth.Truth.{Truth}
 use Rattle.shared_types.specs.declared.compare.CmpOp.TheVariants as op
 use Rattle.qgm_core.specs.declared.node.Node.{Node}
-use Rattle.qgm_terms.specs.Terms as terms
 use Rattle.qgm_terms.specs.Terms.{Sign, equal, unequal, below, at_most, above, at_least, same, like, Term, int, text, null_int, null_text, col, scalar, both, minus_of, choose, count_all, fold, Arms, no_arm, arm, Cond, always, compare, is_null, and, or, not, some, every}
 use Rattle.qgm_terms.specs.declared.tree.Op.{Op}
 use Rattle.qgm_terms.specs.declared.tree.Op.TheVariants.{Add, Sub, Mul, Div, Cat}
 use Rattle.qgm_meaning.specs.Laws.{occurs}
-use Rattle.qgm_meaning.specs.Values.{Bag, Environment, all_true, bound, chosen_at, compared, first_true, head_cells, row_of, truth, value}
+use Rattle.qgm_meaning.specs.Values.{Bag, Environment, all_true, bound, chosen_at, compared, first_true, row_of, truth, value}
 use Rattle.qgm_props.specs.Facts.{Each, EachThere, HasAtMostOne, IsErrorFree, is_sound}
 use Rattle.qgm_props.proofs.EachClean.{EachClean, clean-decided}
 use Rattle.qgm_props.specs.Inferred.{Facts, arms_free, clean_under, cond_free, divides, error_free_under, is_free, keeps_free, single_under}
-use Rattle.qgm_props.proofs.Cells.{Decided, decided-and, decided-bool, decided-compare, decided-like, decided-null, decided-or, decided-same, sound-concat, sound-div}
+use Rattle.qgm_props.proofs.Cells.{Decided, decided-and, decided-compare, decided-like, decided-null, decided-or, decided-same, sound-concat, sound-div}
 use Rattle.qgm_props.proofs.Counted.{counted, flag}
 use Rattle.bag_laws.specs.AsSets.{is_decided}
 use Rattle.qgm_props.proofs.Rows.{each-occurs, occurs-each, there_at, there-is}

@@ -4,7 +4,6 @@ use Rattle.bag_laws.specs.AsSets.{is_clean}
 use Rattle.row_bag.specs.Joins.{how_many}
 use Rattle.row_bag.specs.Order.{cell_of}
 use Rattle.row_bag.specs.Verdict.{is_there}
-use Rattle.row_bag.specs.declared.row.Row.{Row}
 use Rattle.sql_value.specs.Arithmetic.{fits_i64}
 use Rattle.sql_value.specs.declared.cell.Cell.{Cell}
 use Rattle.sql_value.specs.declared.cell.Cell.TheVariants.{Int, Text, Null, Err}

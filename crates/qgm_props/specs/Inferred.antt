@@ -4,7 +4,6 @@ use Rattle.std.specs.List.{list_any, list_all}
 use Rattle.sql_value.specs.Arithmetic.{fits_i64}
 use Rattle.qgm_core.specs.Boxes.{is_box, is_quant, width}
 use Rattle.qgm_core.specs.Lists.{first, holds}
-use Rattle.qgm_core.specs.declared.kinds.BaseTable.{BaseTable}
 use Rattle.qgm_core.specs.declared.kinds.BoxKind.{BoxKind}
 use Rattle.qgm_core.specs.declared.kinds.BoxKind.TheVariants.{Base, Select, Group, SetOp, OuterJoin}
 use Rattle.qgm_core.specs.declared.kinds.SetOperator.{SetOperator}

@@ -9,7 +9,7 @@ use Rattle.qgm_core.specs.declared.owned.OwnedQuant.{OwnedQuant}
 use Rattle.qgm_meaning.specs.Widths.{Even}
 use Rattle.qgm_meaning.specs.Satisfies.{Satisfies}
 use Rattle.qgm_props.specs.Holding.{Holds, OfRows}
-use Rattle.qgm_props.specs.Inferred.{Fact, Facts, Inferred, at_most_one, inferred_once, says}
+use Rattle.qgm_props.specs.Inferred.{Fact, Facts, Inferred, inferred_once, says}
 use Rattle.qgm_props.specs.Keys.{holds_key}
 
 -- over tables that satisfy the bases, in boxes by rank

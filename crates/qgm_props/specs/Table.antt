@@ -1,5 +1,5 @@
 -- The facts of boxes as a table.
-use Rattle.std.specs.Prelude.{ℕ, zero, suc, ◌≡◌, ◌||◌, ◌==◌, ◌-◌, ◌+◌, slice_set, if◌then◌else◌, Bool, true, false, List, [], ◌∷◌, ◌++◌, Option, Some, None, slice_get, map, length}
+use Rattle.std.specs.Prelude.{ℕ, zero, suc, ◌≡◌, ◌||◌, ◌==◌, ◌-◌, ◌+◌, slice_set, if◌then◌else◌, Bool, false, List, [], ◌∷◌, ◌++◌, Option, Some, None, slice_get, map}
 use Rattle.qgm_core.specs.Boxes.{width}
 use Rattle.qgm_core.specs.Lists.{first}
 use Rattle.qgm_core.specs.declared.node.Node.{Node}

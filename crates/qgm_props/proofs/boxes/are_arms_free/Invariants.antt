@@ -1,4 +1,4 @@
-use Rattle.std.proofs.Common.{◌≡◌, ◌≤◌}
+use Rattle.std.proofs.Common.{◌≡◌}
 use Rattle.qgm_props.specs.Inferred.{arms_error_free}
 use Rattle.qgm_props.specs.Table.{facts_of}
 use Rattle.qgm_props.proofs.boxes.are_arms_free.Given as goal

@@ -1,4 +1,4 @@
-use Rattle.std.proofs.Common.{◌≡◌, ◌∙◌, ap, arith}
+use Rattle.std.proofs.Common.{arith}
 use Rattle.std.proofs.lemmas.Grind.{common_steps}
 use Rattle.qgm_props.proofs.TableLaws.{first-terms}
 use Rattle.qgm_props.proofs.boxes.are_keys_free.Goals as goal

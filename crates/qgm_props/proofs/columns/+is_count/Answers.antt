@@ -2,7 +2,6 @@ use Rattle.std.proofs.Common.{arith}
 use Rattle.std.proofs.lemmas.Grind.{common_steps}
 use Rattle.qgm_terms.proofs.Lists as lists
 use Rattle.qgm_terms.specs.Shown as shown
-use Rattle.qgm_props.specs.Table.{facts_of}
 use Rattle.qgm_props.proofs.FreeLaws.{count_linked}
 use Rattle.qgm_props.proofs.columns.+is_count.Goals as goal
 

@@ -1,4 +1,4 @@
-use Rattle.std.proofs.Common.{◌≡◌, ◌∙◌, Some, None, ap, sym, option_map}
+use Rattle.std.proofs.Common.{◌∙◌, ap, sym, option_map}
 use Rattle.qgm_props.specs.Inferred as spec
 use Rattle.qgm_props.specs.Table.{facts_of}
 use Rattle.qgm_props.proofs.Places.{place-none, place-some}

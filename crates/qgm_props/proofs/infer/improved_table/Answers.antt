@@ -1,5 +1,5 @@
-use Rattle.std.proofs.Common.{◌≡◌, sym, subst, List, map}
-use Rattle.qgm_props.specs.Table.{Improves, begun, nothing_of}
+use Rattle.std.proofs.Common.{sym, subst, List}
+use Rattle.qgm_props.specs.Table.{Improves, begun}
 use Rattle.qgm_props.specs.declared.facts.BoxFacts.{BoxFacts}
 use Rattle.qgm_props.proofs.infer.improved_table.Goals as goal
 

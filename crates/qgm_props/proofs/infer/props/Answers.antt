@@ -1,10 +1,10 @@
-use Rattle.std.proofs.Common.{◌≡◌, ◌∙◌, ap, sym, subst, List, true}
+use Rattle.std.proofs.Common.{◌≡◌, sym, subst, List, true}
 use Rattle.row_bag.specs.declared.tables.Table.{Table}
 use Rattle.qgm_core.specs.declared.node.Node.{Node}
 use Rattle.qgm_props.specs.Holding.{Holds}
 use Rattle.qgm_props.specs.Inferred.{Fact, Inferred, says}
 use Rattle.qgm_props.specs.Laws.{Premises}
-use Rattle.qgm_props.specs.Table.{Improves, Stable, facts_of}
+use Rattle.qgm_props.specs.Table.{facts_of}
 use Rattle.qgm_props.specs.declared.facts.BoxFacts.{BoxFacts}
 use Rattle.qgm_props.proofs.Improving.{all-said, closed}
 use Rattle.qgm_props.proofs.Monotone.{least}

@@ -1,4 +1,4 @@
-use Rattle.std.proofs.Common.{◌≡◌, ◌++◌, ◌∙◌, [], Option, Some, ap, sym, subst, option_map, arith}
+use Rattle.std.proofs.Common.{◌≡◌, ◌++◌, ◌∙◌, Option, Some, ap, sym, subst, option_map, arith}
 use Rattle.std.specs.Prelude.{OnOk}
 use Rattle.std.proofs.lemmas.Grind.{common_steps}
 use Rattle.qgm_terms.specs.Terms.{Term}

@@ -1,9 +1,8 @@
-use Rattle.std.proofs.Common.{◌≡◌, sym, subst, ◌∙◌, ap, List, ℕ, Bool, true}
+use Rattle.std.proofs.Common.{◌≡◌, sym, subst, ◌∙◌, List}
 use Rattle.std.specs.Result.{IfOk}
 use Rattle.std.proofs.lemmas.Result.{IfOk-weaker}
 use Rattle.qgm_core.specs.declared.node.Node.{Node}
 use Rattle.qgm_props.specs.Keys as keys
-use Rattle.qgm_props.specs.Laws.{KeyHolds, Tells}
 use Rattle.qgm_props.specs.Table.{facts_of}
 use Rattle.qgm_props.specs.declared.facts.BoxFacts.{BoxFacts}
 use Rattle.qgm_props.proofs.Settled.{told-keys}
