@@ -1,0 +1,4 @@
+pub mod Places
+pub mod TermText
+pub mod GraphText
+pub mod Indexed
