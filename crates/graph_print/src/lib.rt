@@ -2,10 +2,12 @@
 #![tactic(auto)]
 
 mod index;
+mod laws;
 mod lines;
 mod numbers;
 mod terms;
 mod text;
 mod writing;
 
+pub use laws::examples;
 pub use text::print;
