@@ -53,6 +53,7 @@ fn one_column(alloc: Global, q: QuantId) -> Result<Head, OutOfMemory> {
 }
 
 // Puts a box below a select, which gets its first column.
+#[tactic(auto, using(crate::proofs::Grown::after_box, crate::proofs::Grown::new_box, crate::proofs::Grown::after_quant, crate::proofs::Grown::after_parts))]
 fn extend(
     alloc: Global,
     graph: &mut Graph,

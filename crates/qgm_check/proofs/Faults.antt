@@ -271,6 +271,9 @@ module _ (g : QueryGraph) where
         let third : least (failing I3) ≡ None = none-least (failing I3) (λ b i. no-fails w I3 b (in-fails I3 tt b i)) in
         none-first clauses (λ c j. none-least (failing c) (λ b i. no-fails w c b (in-fails c (needs c (λ l. third)) b i)))
 
+    pub well-ordered : WellFormed g → Ordered bs
+    well-ordered w = ordered-from [] bs refl u (none-least (failing I3) (λ b i. no-fails w I3 b (in-fails I3 tt b i)))
+
     pub finds-none : (fault g ≡ None) ↔ WellFormed g
     finds-none = (none-well, well-none)
 

@@ -47,6 +47,10 @@ FindsView = (boxes : List Node) → Ordered boxes → (n : Node) (q : ℕ) → (
 abbrev pub FindsNone : Type 0
 FindsNone = (g : QueryGraph) → EachOnce (numbers g.boxes) → (fault g ≡ None) ↔ WellFormed g
 
+-- the boxes of a well-formed graph are in order
+abbrev pub OrderedIfWell : Type 0
+OrderedIfWell = (g : QueryGraph) → EachOnce (numbers g.boxes) → WellFormed g → Ordered g.boxes
+
 -- the fault that is found is the least
 abbrev pub FindsFault : Type 0
 FindsFault = (g : QueryGraph) → EachOnce (numbers g.boxes) → (f : Fault) → (fault g ≡ Some f) ↔ IsFault g f

@@ -1,5 +1,5 @@
 -- How often boxes are used.
-use Rattle.std.proofs.Common.{ℕ, zero, suc, ◌==◌, ◌≡◌, ◌<◌, ◌≤◌, ◌+◌, ◌++◌, cond, Bool, true, false, List, [], ◌∷◌, Some, length, map, take, filter, slice_get, get_or, refl, sym, ◌∙◌, ap, arith, add-one}
+use Rattle.std.proofs.Common.{ℕ, zero, suc, ◌==◌, ◌≡◌, ◌<◌, ◌≤◌, ◌+◌, ◌++◌, cond, true, false, List, [], ◌∷◌, Some, length, map, take, filter, slice_get, get_or, refl, ◌∙◌, ap, arith, add-one}
 use Rattle.std.proofs.lemmas.List.{length-append}
 use Rattle.qgm_core.specs.Boxes.{ids_in, ids_of, overs_in, overs_of}
 use Rattle.qgm_core.specs.Lists.{times}

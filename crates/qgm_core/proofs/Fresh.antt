@@ -1,9 +1,9 @@
 -- Numbers that no box and no quantifier has, and numbers under edits.
-use Rattle.std.proofs.Common.{◌≡◌, ℕ, zero, suc, ◌==◌, ◌<◌, ◌≤◌, ◌+◌, ◌++◌, ◌||◌, Bool, true, false, List, [], ◌∷◌, cond, map, arith, insert, length, refl, sym, ◌∙◌, ap, subst, take, drop, add-zero, get_or}
+use Rattle.std.proofs.Common.{◌≡◌, ℕ, zero, suc, ◌==◌, ◌<◌, ◌≤◌, ◌+◌, ◌++◌, ◌||◌, Bool, true, false, List, [], ◌∷◌, cond, map, arith, insert, length, refl, sym, ◌∙◌, ap, subst, add-zero, get_or}
 use Rattle.std.proofs.Math.ListN.{set}
 use Rattle.std.specs.Prelude.{IsOk, is_ok, Ok, Err, if◌then◌else◌}
 use Rattle.std.specs.declared.result.Result.{Result}
-use Rattle.std.specs.List.{list_any, flat_map, remove, take-map, drop-map}
+use Rattle.std.specs.List.{list_any, remove, take-map, drop-map}
 use Rattle.std.proofs.lemmas.Bool.{ne_eqb}
 use Rattle.std.proofs.lemmas.List.{map-append, length-append}
 use Rattle.qgm_core.specs.Boxes.{is_box, is_quant, owns, ids_in, ids_of, numbers}
@@ -92,7 +92,7 @@ no_quant next (n ∷ ns) u =
 -- ---- edits of one box
 
 module _ (p : Node → Bool) (f : Node → Node) where
-  numbers-change : ((n : Node) → (f n).id ≡ n.id) → (ns : List Node) → numbers (change p f ns) ≡ numbers ns
+  pub numbers-change : ((n : Node) → (f n).id ≡ n.id) → (ns : List Node) → numbers (change p f ns) ≡ numbers ns
   numbers-change h [] = refl
   numbers-change h (n ∷ ns) =
       elim (p n) as (λ t. ◌≡◌ {A = List ℕ} (numbers (cond t (f n ∷ ns) (n ∷ change p f ns))) (n.id ∷ numbers ns)) [
@@ -100,7 +100,7 @@ module _ (p : Node → Bool) (f : Node → Node) where
         | false ↦ ap (λ bs. n.id ∷ bs) (numbers-change h ns)
       ]
 
-  under-change : (m : ℕ) → ((n : Node) → Under m (ids_of n) → Under m (ids_of (f n))) → (ns : List Node) → Under m (ids_in ns) → Under m (ids_in (change p f ns))
+  pub under-change : (m : ℕ) → ((n : Node) → Under m (ids_of n) → Under m (ids_of (f n))) → (ns : List Node) → Under m (ids_in ns) → Under m (ids_in (change p f ns))
   under-change m h [] u = tt
   under-change m h (n ∷ ns) u =
       let l = under-left m (ids_of n) (ids_in ns) u in
@@ -110,7 +110,7 @@ module _ (p : Node → Bool) (f : Node → Node) where
         | false ↦ under-append m (ids_of n) (ids_in (change p f ns)) l (under-change m h ns r)
       ]
 
-  fewer-change : (k : ℕ) → ((n : Node) → length (ids_of (f n)) ≤ length (ids_of n) + k) → (ns : List Node) → length (ids_in (change p f ns)) ≤ length (ids_in ns) + k
+  pub fewer-change : (k : ℕ) → ((n : Node) → length (ids_of (f n)) ≤ length (ids_of n) + k) → (ns : List Node) → length (ids_in (change p f ns)) ≤ length (ids_in ns) + k
   fewer-change k h [] = omega arith
   fewer-change k h (n ∷ ns) =
       elim (p n) as (λ t. length (ids_in (cond t (f n ∷ ns) (n ∷ change p f ns))) ≤ length (ids_of n ++ ids_in ns) + k) [
@@ -180,7 +180,7 @@ numbered-insert a b ns i n at none m =
 pub ids-insert_one : (rs : List OwnedQuant) (i : ℕ) (r : OwnedQuant) → insert (map (λ r. r.id) rs) i r.id ≡ map (λ r. r.id) (insert rs i r)
 ids-insert_one rs i r = map_insert (λ (r : OwnedQuant). r.id) rs i r
 
-length-insert : (xs : List ℕ) (i y : ℕ) → length (insert xs i y) ≡ length xs + 1
+pub length-insert : (xs : List ℕ) (i y : ℕ) → length (insert xs i y) ≡ length xs + 1
 length-insert [] zero y = refl
 length-insert [] (suc i) y = refl
 length-insert (x ∷ xs) zero y = omega arith

@@ -6,3 +6,7 @@ pub mod Moved
 pub mod Counted
 pub mod Kept
 pub mod Visited
+pub mod Stacked
+pub mod Requanted
+pub mod Shifts
+pub mod Held

@@ -1,5 +1,5 @@
 -- Numbers of boxes, one of which goes to another place.
-use Rattle.std.proofs.Common.{ℕ, ◌==◌, ◌≡◌, ◌<◌, ◌≤◌, ◌+◌, ◌++◌, ◌||◌, cond, Bool, true, false, List, [], ◌∷◌, Option, Some, None, length, refl, sym, ap, subst, arith}
+use Rattle.std.proofs.Common.{ℕ, ◌==◌, ◌≡◌, ◌<◌, ◌+◌, cond, Bool, true, false, List, [], ◌∷◌, Option, Some, length, refl, sym, subst, arith}
 use Rattle.std.proofs.lemmas.List.{length-append}
 use Rattle.std.proofs.lemmas.Bool.{ne_eqb, eq-eqb}
 use Rattle.qgm_core.specs.Boxes.{ids_in, ids_of, numbers}

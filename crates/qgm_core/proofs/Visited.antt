@@ -1,5 +1,5 @@
 -- Boxes that are visited, by the place at which they stand.
-use Rattle.std.proofs.Common.{◌≡◌, ℕ, zero, suc, ◌==◌, ◌<◌, ◌≤◌, ◌+◌, ◌-◌, ◌++◌, ◌||◌, Bool, true, false, List, [], ◌∷◌, Option, Some, None, length, drop, get_or, refl, sym, ap, ◌∙◌, arith, cond, position, inl, inr, map, take, add-one}
+use Rattle.std.proofs.Common.{◌≡◌, ℕ, zero, suc, ◌==◌, ◌<◌, ◌+◌, ◌-◌, ◌++◌, Bool, true, false, List, [], ◌∷◌, Option, Some, None, length, drop, get_or, refl, sym, ap, ◌∙◌, arith, cond, position, inl, inr, map, take, add-one}
 use Rattle.std.proofs.Math.Seq.{drop-append_seam, take-length}
 use Rattle.std.proofs.lemmas.List.{append_assoc, append-nil, length-drop}
 use Rattle.std.proofs.lemmas.Bool.{cases_Bool}

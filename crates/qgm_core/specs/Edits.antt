@@ -1,6 +1,6 @@
 -- What each edit makes of a graph: one function of the list of its boxes. Root, names and order stay.
 use Rattle.std.specs.Prelude.{ℕ, ◌==◌, ◌-◌, ◌++◌, max, List, [], ◌∷◌, Option, Some, None, map, insert, filter, slice_get}
-use Rattle.std.specs.List.{list_any, remove, flat_map}
+use Rattle.std.specs.List.{remove, flat_map}
 use Rattle.qgm_core.specs.Boxes.{QueryGraph, is_box, is_quant, owns, put_at, range_in}
 use Rattle.qgm_core.specs.Free.{reached}
 use Rattle.qgm_core.specs.Lists.{first, change, without, put_below, each, holds}
@@ -10,7 +10,6 @@ use Rattle.qgm_core.specs.declared.kinds.QuantKind.{QuantKind}
 use Rattle.qgm_core.specs.declared.kinds.Role.{Role}
 use Rattle.qgm_core.specs.declared.node.Node.{Node}
 use Rattle.qgm_core.specs.declared.owned.OwnedQuant.{OwnedQuant}
-use Rattle.qgm_core.specs.declared.parts.BoxParts.{BoxParts}
 use Rattle.qgm_terms.specs.Conjuncts.{Conjuncts}
 use Rattle.qgm_terms.specs.Shift.{shifted, shifted_cond}
 use Rattle.qgm_terms.specs.Substitution.{substituted, substituted_cond}
@@ -141,9 +140,12 @@ abbrev pub put_range_found : ℕ → ℕ → Option OwnedQuant → List Node →
 put_range_found b i None boxes = boxes
 put_range_found b i (Some r) boxes = change (is_box b) (put_range i r) boxes
 
+abbrev pub quant_moved : ℕ → ℕ → ℕ → List Node → List Node
+quant_moved q b i boxes = put_range_found b i (range_in q (first (owns q) boxes)) (change (owns q) (without_quant q) boxes)
+
 -- a quantifier goes to box b, at place i from 0 among those that b then owns beside it
 abbrev pub move_quant : ℕ → ℕ → ℕ → QueryGraph → QueryGraph
-move_quant q b i g = on_boxes (λ boxes. put_range_found b i (range_in q (first (owns q) boxes)) (change (owns q) (without_quant q) boxes)) g
+move_quant q b i g = on_boxes (quant_moved q b i) g
 
 -- ---- cells
 
@@ -166,13 +168,21 @@ without_cell i n = record n { parts = record n.parts { head = remove n.parts.hea
 abbrev pub shift_node : ℕ → ℕ → Node → Node
 shift_node k q n = record n { parts = record n.parts { conds = record n.parts.conds { items = map (shifted_cond q k) n.parts.conds.items }; head = map (shifted q k) n.parts.head } }
 
+-- those of these quantifiers that range over box b
+abbrev pub ids_over : ℕ → List OwnedQuant → List ℕ
+ids_over b rs = map (λ r. r.id) (filter (λ r. r.over == b) rs)
+
 -- the quantifiers over box b
 abbrev pub quants_over : ℕ → List Node → List ℕ
-quants_over b boxes = map (λ r. r.id) (filter (λ r. r.over == b) (flat_map (λ n. n.quants) boxes))
+quants_over b boxes = flat_map (λ n. ids_over b n.quants) boxes
 
 abbrev pub shift_boxes : ℕ → ℕ → List Node → List Node
 shift_boxes k q boxes = map (shift_node k q) boxes
 
+-- each quantifier over box b loses column k
+abbrev pub shifted_over : ℕ → ℕ → List Node → List Node
+shifted_over b k boxes = each (shift_boxes k) (quants_over b boxes) boxes
+
 -- box b loses column k, from 1, and so does each quantifier over it
 abbrev pub drop_column : ℕ → ℕ → QueryGraph → QueryGraph
-drop_column b k g = on_boxes (λ boxes. each (shift_boxes k) (quants_over b boxes) (change (is_box b) (without_cell (k - 1)) boxes)) g
+drop_column b k g = on_boxes (λ boxes. shifted_over b k (change (is_box b) (without_cell (k - 1)) boxes)) g

@@ -1,5 +1,5 @@
 -- What is below a box, and its free quantifiers.
-use Rattle.std.specs.Prelude.{ℕ, ◌≡◌, ◌++◌, ◌&&◌, ◌==◌, nat_lt, not, if◌then◌else◌, Bool, true, false, List, [], ◌∷◌, map, filter}
+use Rattle.std.specs.Prelude.{ℕ, ◌≡◌, ◌++◌, ◌&&◌, ◌==◌, nat_lt, not, if◌then◌else◌, Bool, true, false, List, [], ◌∷◌, filter}
 use Rattle.std.specs.List.{list_any, flat_map}
 use Rattle.qgm_core.specs.Boxes.{QueryGraph, owns, overs_of}
 use Rattle.qgm_core.specs.Lists.{In, holds}

@@ -1,5 +1,5 @@
 -- What is found in lists, and lists with one element changed.
-use Rattle.std.specs.Prelude.{ℕ, zero, suc, ◌≡◌, ◌==◌, ◌<◌, ◌≤◌, ◌+◌, ◌++◌, if◌then◌else◌, Bool, true, false, List, [], ◌∷◌, Option, Some, None, length, insert, slice_set, slice_index_or, ⊤, ◌⊎◌}
+use Rattle.std.specs.Prelude.{ℕ, zero, suc, ◌≡◌, ◌==◌, ◌<◌, ◌+◌, if◌then◌else◌, Bool, true, false, List, [], ◌∷◌, Option, Some, None, length, insert, slice_set, slice_index_or, ⊤, ◌⊎◌}
 use Rattle.std.specs.List.{list_any, remove}
 
 -- x stands here
@@ -35,6 +35,14 @@ change p f (x ∷ xs) = if p x then f x ∷ xs else x ∷ change p f xs
 abbrev pub without : {X : Type 0} → (X → Bool) → List X → List X
 without p [] = []
 without p (x ∷ xs) = if p x then xs else x ∷ without p xs
+
+abbrev pub insert_found : {X : Type 0} → ℕ → Option X → List X → List X
+insert_found i None xs = xs
+insert_found i (Some x) xs = insert xs i x
+
+-- the first that passes at place i, from 0, among the others
+abbrev pub moved_to : {X : Type 0} → (X → Bool) → ℕ → List X → List X
+moved_to p i xs = insert_found i (first p xs) (without p xs)
 
 -- without the one at place i, from 0, unless it passes
 abbrev pub kept_at : {X : Type 0} → (X → Bool) → ℕ → List X → List X

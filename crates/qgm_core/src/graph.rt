@@ -1,10 +1,13 @@
 // The graph: its boxes in one list, each with the quantifiers that it owns.
-ghost use Rattle.std.specs.Prelude.{◌≡◌, ◌≤◌, ◌+◌, ◌-◌, ◌++◌, ◌∷◌, [], OnOk, OnErr, IfOk, IfSome, length, map, position, slice_get, Some, option_map, max, true, false, ◌==◌, IsTrue, ◌↔◌};
+ghost use Rattle.std.specs.Prelude.{ℕ, ◌≡◌, ◌≤◌, ◌+◌, ◌-◌, ◌++◌, ◌∷◌, [], OnOk, OnErr, IfOk, IfSome, length, map, position, slice_get, Some, option_map, max, true, false, ◌==◌, IsTrue, ◌↔◌};
 ghost use Rattle.std.specs.List.{remove};
 ghost use Rattle.qgm_core.specs.Boxes as spec;
 ghost use Rattle.qgm_core.specs.Edits as edits;
 ghost use Rattle.qgm_core.specs.Free.{free};
+ghost use Rattle.qgm_core.specs.Held.{HasAll};
 ghost use Rattle.qgm_core.specs.Lists.{EachOnce, times};
+ghost use Rattle.qgm_core.specs.Made.{boxes_of, graph_of};
+ghost use Rattle.qgm_core.specs.Numbered.{Under};
 ghost use Rattle.qgm_core.specs.Walk.{walk};
 ghost use Rattle.qgm_terms.specs.Depth.{depth_cond, room};
 ghost use Rattle.qgm_terms.specs.Shown.{cond};
@@ -14,11 +17,14 @@ use crate::compact::keep_marked;
 use crate::copies::{copy_names, copy_nodes, copy_order};
 use crate::free::{free_in, reached};
 use crate::kinds::{BoxId, BoxKind, Distinct, QuantKind, Role};
+use crate::made::{NewBox, numbered};
+use crate::moves::{move_below, move_quant, places_for};
 use crate::node::Node;
 use crate::owned::{Owned, OwnedQuant, Quant, range_of};
 use crate::parts::BoxParts;
 use crate::places::{box_place, new_place, owner_place};
 use crate::quants::Quants;
+use crate::shifted::shift_over;
 use crate::uses::uses_in;
 use crate::walks::{by_levels, visit};
 use qgm_terms::{Conds, Gc, Head, QuantId, ROOM, substitute_conds, substitute_head};
@@ -66,7 +72,8 @@ impl Graph {
         names: OutNames,
         order: OrderKeys,
     ) -> Result<Graph, OutOfMemory>
-        ensures { IfOk result (λ g. g ≡ spec.graph_of_one g.root root names order) }
+        ensures graph { IfOk result (λ g. g ≡ spec.graph_of_one g.root root names order) }
+        ensures held { IfOk result (λ g. spec.HasBox g.root g) }
     {
         let mut nodes = Vec::new(alloc);
         nodes.push(Node {
@@ -81,6 +88,33 @@ impl Graph {
             order,
             next_box: 1,
             next_quant: 0,
+        })
+    }
+
+    /// The graph of boxes that were made in turn: the first has number 0, and each has a higher rank
+    /// than those before it. All quantifiers have numbers of their own below `next_quant`. It fails
+    /// where there is no memory.
+    pub fn of_boxes(
+        alloc: Global,
+        made: Vec<NewBox>,
+        root: BoxId,
+        names: OutNames,
+        order: OrderKeys,
+        next_quant: QuantId,
+    ) -> Result<Graph, OutOfMemory>
+        requires once { EachOnce (spec.ids_in (boxes_of made.items)) }
+        requires under { Under next_quant (spec.ids_in (boxes_of made.items)) }
+        ensures { IfOk result (λ g. g ≡ graph_of made.items root names order) }
+    {
+        let next_box = made.len();
+        let nodes = numbered(alloc, made)?;
+        Ok(Graph {
+            nodes,
+            root,
+            names,
+            order,
+            next_box,
+            next_quant,
         })
     }
 
@@ -200,6 +234,16 @@ impl Graph {
         }
     }
 
+    /// At how many places a box can own a quantifier: one more than it owns beside it. It takes no
+    /// memory.
+    pub fn places_for(&self, q: QuantId, b: BoxId) -> usize
+        requires quant { spec.HasQuant q self.now }
+        requires held { spec.HasBox b self.now }
+        ensures { result ≡ length (spec.quants_of b (edits.drop_quant q self.now)) + 1 }
+    {
+        places_for(&self.nodes, q, b)
+    }
+
     /// How many quantifiers range over a box. It takes no memory.
     pub fn uses(&self, b: BoxId) -> usize
         ensures { result ≡ times b (spec.overs_in self.now.boxes) }
@@ -251,6 +295,8 @@ impl Graph {
         ensures fresh { IfOk result (λ b. spec.HasBox b self.old → ⊥) }
         ensures ok { IfOk result (λ b. self.new ≡ edits.with_box below (spec.bare_box b parts) self.old) }
         ensures err { OnErr result (self.new ≡ self.old) }
+        ensures held { IfOk result (λ b. spec.HasBox b self.new) }
+        ensures kept { HasAll self.old self.new }
     {
         let id = self.next_box;
         if id == usize::MAX {
@@ -278,6 +324,8 @@ impl Graph {
         ensures fresh { IfOk result (λ q. spec.HasQuant q self.old → ⊥) }
         ensures ok { IfOk result (λ q. self.new ≡ edits.with_quant owner (place - 1) (edits.range q kind over) self.old) }
         ensures err { OnErr result (self.new ≡ self.old) }
+        ensures held { IfOk result (λ q. spec.HasQuant q self.new) }
+        ensures kept { HasAll self.old self.new }
     {
         let id = self.next_quant;
         if id == usize::MAX {
@@ -295,6 +343,7 @@ impl Graph {
     pub fn compact(&mut self, alloc: Global) -> Result<(), OutOfMemory>
         ensures ok { OnOk result (self.new ≡ edits.compact self.old) }
         ensures err { OnErr result (self.new ≡ self.old) }
+        ensures root { spec.HasBox self.old.root self.old → spec.HasBox self.new.root self.new }
     {
         let marks = reached(alloc, &self.nodes, self.root)?;
         keep_marked(&mut self.nodes, &marks);
@@ -306,7 +355,8 @@ impl Graph {
         requires moved { spec.HasBox c self.old }
         requires below { spec.HasBox d self.old }
         requires apart { (c == d) ≡ false }
-        ensures { self.new ≡ edits.move_below c d self.old }
+        ensures graph { self.new ≡ edits.move_below c d self.old }
+        ensures kept { HasAll self.old self.new }
     {
         move_below(&mut self.nodes, c, d);
     }
@@ -314,7 +364,8 @@ impl Graph {
     /// Gives a box another kind, role, conditions and head. It takes no memory.
     pub fn put_box(&mut self, b: BoxId, kind: BoxKind, role: Role, conds: Conds, head: Head)
         requires { spec.HasBox b self.old }
-        ensures { self.new ≡ edits.put_box b kind role conds head self.old }
+        ensures graph { self.new ≡ edits.put_box b kind role conds head self.old }
+        ensures kept { HasAll self.old self.new }
     {
         let k = box_place(&self.nodes, b);
         let distinct = self.nodes[k].parts.distinct;
@@ -330,7 +381,8 @@ impl Graph {
     /// Sets whether a box gives rows more than once. It takes no memory.
     pub fn set_distinct(&mut self, b: BoxId, distinct: Distinct)
         requires { spec.HasBox b self.old }
-        ensures { self.new ≡ edits.set_distinct b distinct self.old }
+        ensures graph { self.new ≡ edits.set_distinct b distinct self.old }
+        ensures kept { HasAll self.old self.new }
     {
         let k = box_place(&self.nodes, b);
         self.nodes[k].parts.distinct = distinct;
@@ -341,6 +393,7 @@ impl Graph {
         requires { spec.HasBox b self.old }
         ensures ok { OnOk result (self.new ≡ edits.reserve b n self.old) }
         ensures err { OnErr result (self.new ≡ self.old) }
+        ensures kept { HasAll self.old self.new }
     {
         let k = box_place(&self.nodes, b);
         make_room(&mut self.nodes[k].parts.conds, n)?;
@@ -350,16 +403,34 @@ impl Graph {
     /// Drops a quantifier. It takes no memory.
     pub fn drop_quant(&mut self, q: QuantId)
         requires { spec.HasQuant q self.old }
-        ensures { self.new ≡ edits.drop_quant q self.old }
+        ensures graph { self.new ≡ edits.drop_quant q self.old }
+        ensures boxes { (b : ℕ) → spec.HasBox b self.old → spec.HasBox b self.new }
+        ensures others { (r : ℕ) → (r == q) ≡ false → spec.HasQuant r self.old → spec.HasQuant r self.new }
     {
         let k = owner_place(&self.nodes, q);
         self.nodes[k].quants.remove(q);
     }
 
+    /// Moves a quantifier to a box, at a place, from 1, among those that the box then owns beside it.
+    /// It fails where there is no memory.
+    pub fn move_quant(&mut self, q: QuantId, owner: BoxId, place: usize) -> Result<(), OutOfMemory>
+        requires quant { spec.HasQuant q self.old }
+        requires owner { spec.HasBox owner self.old }
+        requires from_one { 1 ≤ place }
+        requires within { place ≤ length (spec.quants_of owner (edits.drop_quant q self.old)) + 1 }
+        ensures ok { OnOk result (self.new ≡ edits.move_quant q owner (place - 1) self.old) }
+        ensures err { OnErr result (self.new ≡ self.old) }
+        ensures kept { HasAll self.old self.new }
+    {
+        move_quant(&mut self.nodes, q, owner, place - 1)?;
+        Ok(())
+    }
+
     /// Sets what a quantifier ranges for. It takes no memory.
     pub fn put_quant(&mut self, q: QuantId, kind: QuantKind)
         requires { spec.HasQuant q self.old }
-        ensures { self.new ≡ edits.put_quant q kind self.old }
+        ensures graph { self.new ≡ edits.put_quant q kind self.old }
+        ensures kept { HasAll self.old self.new }
     {
         let k = owner_place(&self.nodes, q);
         self.nodes[k].quants.put_kind(q, kind);
@@ -369,7 +440,8 @@ impl Graph {
     pub fn redirect(&mut self, q: QuantId, over: BoxId)
         requires quant { spec.HasQuant q self.old }
         requires over { spec.HasBox over self.old }
-        ensures { self.new ≡ edits.redirect q over self.old }
+        ensures graph { self.new ≡ edits.redirect q over self.old }
+        ensures kept { HasAll self.old self.new }
     {
         let k = owner_place(&self.nodes, q);
         self.nodes[k].quants.put_over(q, over);
@@ -383,7 +455,8 @@ impl Graph {
         requires from_one { 1 ≤ i }
         requires within { i ≤ length (edits.conds_in (spec.box_of b self.old)) }
         requires room { 1 ≤ edits.spare_in (spec.box_of to self.old) }
-        ensures { self.new ≡ edits.move_conjunct b (i - 1) to self.old }
+        ensures graph { self.new ≡ edits.move_conjunct b (i - 1) to self.old }
+        ensures kept { HasAll self.old self.new }
     {
         let c = self.take_cond(b, i);
         self.put_cond(to, c);
@@ -413,6 +486,20 @@ impl Graph {
         put_cond(&mut self.nodes[k].parts.conds, c);
     }
 
+    /// Drops a column of a box's head, by its place from 1. Names of later columns of the quantifiers
+    /// over the box go down by one. It takes no memory.
+    pub fn drop_column(&mut self, b: BoxId, k: usize)
+        requires held { spec.HasBox b self.old }
+        requires from_one { 1 ≤ k }
+        requires within { k ≤ length (edits.head_in (spec.box_of b self.old)) }
+        ensures graph { self.new ≡ edits.drop_column b k self.old }
+        ensures kept { HasAll self.old self.new }
+    {
+        let i = box_place(&self.nodes, b);
+        self.nodes[i].parts.head.remove(k);
+        shift_over(&mut self.nodes, b, k);
+    }
+
     /// Puts cells in place of a quantifier's columns, in a box's own cells and conditions.
     pub fn substitute(
         &mut self,
@@ -424,6 +511,7 @@ impl Graph {
         requires { spec.HasBox b self.old }
         ensures ok { OnOk result (self.new ≡ edits.substitute b q cells.now self.old) }
         ensures err { OnErr result (self.new ≡ self.old) }
+        ensures kept { HasAll self.old self.new }
     {
         let k = box_place(&self.nodes, b);
         let head = substitute_head(alloc, &self.nodes[k].parts.head, q, cells, ROOM)?;
@@ -433,19 +521,6 @@ impl Graph {
         parts.conds = conds;
         Ok(())
     }
-}
-
-// Moves a box just below another one.
-fn move_below(nodes: &mut Vec<Node>, c: BoxId, d: BoxId)
-    requires moved { spec.has_box nodes.old.items c ≡ true }
-    requires below { spec.has_box nodes.old.items d ≡ true }
-    requires apart { (c == d) ≡ false }
-    ensures { nodes.new.items ≡ edits.moved_below c d nodes.old.items }
-{
-    let i = box_place(nodes, c);
-    let node = nodes.remove(i);
-    let k = box_place(nodes, d);
-    let _ = nodes.insert(k + 1, node);
 }
 
 // Takes a condition out, by its place from 1.

@@ -1,8 +1,8 @@
 // The quantifiers that a box owns.
-ghost use Rattle.std.specs.Prelude.{◌≡◌, ◌≤◌, [], Some, true, length, map, insert, position, IfOk, OnOk, OnErr};
+ghost use Rattle.std.specs.Prelude.{◌≡◌, ◌<◌, ◌≤◌, ◌++◌, ◌∷◌, [], Some, true, length, map, insert, position, IfOk, OnOk, OnErr};
 ghost use Rattle.std.specs.List.{list_any};
 ghost use Rattle.qgm_core.specs.Boxes.{is_quant};
-ghost use Rattle.qgm_core.specs.Lists.{IsFirst, change, first, without};
+ghost use Rattle.qgm_core.specs.Lists.{IsFirst, change, first, moved_to, without};
 
 use crate::kinds::{BoxId, QuantKind};
 use crate::quants::Quants;
@@ -48,8 +48,8 @@ impl Model for Owned {
 }
 
 impl Owned {
-    // No quantifier.
-    pub(crate) fn new(alloc: Global) -> Owned
+    /// No quantifier.
+    pub fn new(alloc: Global) -> Owned
         ensures { result ≡ [] }
     {
         Owned {
@@ -82,6 +82,17 @@ impl Owned {
         &self.ranges
     }
 
+    /// Adds a quantifier at the end.
+    pub fn push(&mut self, r: OwnedQuant) -> Result<(), OutOfMemory>
+        ensures ok { OnOk result (self.new ≡ self.old ++ r ∷ []) }
+        ensures err { OnErr result (self.new ≡ self.old) }
+    {
+        self.ranges.reserve(1)?;
+        self.ids.push(r.id)?;
+        let _ = self.ranges.push(r);
+        Ok(())
+    }
+
     // Puts a quantifier at a place, from 0.
     pub(crate) fn insert(&mut self, i: usize, r: OwnedQuant) -> Result<(), OutOfMemory>
         requires { i ≤ length self.old }
@@ -102,6 +113,18 @@ impl Owned {
         let i = range_place(&self.ranges, q);
         self.ids.remove(i);
         let _dropped = self.ranges.remove(i);
+    }
+
+    // Moves a quantifier to a place, from 0, among the others. It takes no memory.
+    pub(crate) fn move_to(&mut self, q: QuantId, j: usize)
+        requires held { list_any (is_quant q) self.old ≡ true }
+        requires within { j < length self.old }
+        ensures { self.new ≡ moved_to (is_quant q) j self.old }
+    {
+        let i = range_place(&self.ranges, q);
+        self.ids.move_to(i, j);
+        let range = self.ranges.remove(i);
+        let _ = self.ranges.insert(j, range);
     }
 
     // What a quantifier ranges for is this now. It takes no memory.

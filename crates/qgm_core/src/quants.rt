@@ -1,5 +1,5 @@
 // The numbers of a box's quantifiers.
-ghost use Rattle.std.specs.Prelude.{◌≡◌, ◌<◌, ◌≤◌, [], length, insert, IfOk, OnOk, OnErr};
+ghost use Rattle.std.specs.Prelude.{◌≡◌, ◌<◌, ◌≤◌, ◌++◌, ◌∷◌, [], ℕ, length, insert, slice_index_or, IfOk, OnOk, OnErr};
 ghost use Rattle.std.specs.List.{remove};
 
 use qgm_terms::QuantId;
@@ -46,6 +46,15 @@ impl Quants {
         &self.ids
     }
 
+    // Adds a quantifier at the end.
+    pub(crate) fn push(&mut self, q: QuantId) -> Result<(), OutOfMemory>
+        ensures ok { OnOk result (self.new ≡ self.old ++ q ∷ []) }
+        ensures err { OnErr result (self.new ≡ self.old) }
+    {
+        self.ids.push(q)?;
+        Ok(())
+    }
+
     // Puts a quantifier at a place, from 0.
     pub(crate) fn insert(&mut self, i: usize, q: QuantId) -> Result<(), OutOfMemory>
         requires { i ≤ length self.old }
@@ -62,5 +71,14 @@ impl Quants {
         ensures { self.new ≡ remove self.old i }
     {
         let _dropped = self.ids.remove(i);
+    }
+    // Moves the quantifier at a place, from 0, to a place among the others.
+    pub(crate) fn move_to(&mut self, i: usize, j: usize)
+        requires from { i < length self.old }
+        requires to { j < length self.old }
+        ensures { (d : ℕ) → self.new ≡ insert (remove self.old i) j (slice_index_or self.old i d) }
+    {
+        let q = self.ids.remove(i);
+        let _ = self.ids.insert(j, q);
     }
 }

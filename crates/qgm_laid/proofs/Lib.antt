@@ -2,3 +2,4 @@ mod Numbers
 mod Fills
 mod Order
 mod Made
+mod Times

@@ -3,7 +3,8 @@ use Rattle.std.specs.Prelude.{◌≡◌, ◌≤◌, ◌<◌, ◌==◌, if◌then
 use Rattle.sql_meaning.specs.ResolvedTrees.{Query}
 use Rattle.sql_meaning.specs.ResolvedTrees as q
 use Rattle.std.specs.List.{list_any}
-use Rattle.qgm_core.specs.Boxes.{Ordered, owns}
+use Rattle.qgm_core.specs.Boxes.{Ordered, ids_in, owns}
+use Rattle.qgm_core.specs.Lists.{times}
 use Rattle.qgm_core.specs.declared.node.Node.{Node}
 use Rattle.qgm_meaning.specs.Scope.{loose, loose_of}
 use Rattle.qgm_shown.specs.Maps.{Frame, Map, Ref, nothing, none_counted, column}
@@ -98,3 +99,7 @@ abbrev pub Lays : Type 0
 Lays =
     (sources : Sources) (has : List ℕ → Bool)
     → (query : Query) (m : Map) (s : Boxes) → Buildable sources has query → Ready sources has s m → Made sources has (of_query query) m s (lay sources query m s)
+
+-- so no number of a quantifier stands twice
+abbrev pub CountedOnce : Type 0
+CountedOnce = (ns : List Node) → Once ns → (q : ℕ) → times q (ids_in ns) ≤ 1

@@ -357,6 +357,17 @@ module _ (bs : List Node) (o : Ordered bs) where
       | inl l ↦ (let h = view-by (suc (place bs n.id)) q n.id (omega arith) (loose-carries n.id q l).0 n i t in absurd (omega arith))
     ]
 
+  -- what a box reads and doesn't see as its own it looks up
+  pub looks-up : (k : BoxKind) (n : Node) (q : ℕ) → BareBy k n → read_by n q ≡ true → own_seen k n q ≡ false → loose_by k n (loose bs) q ≡ true
+  looks-up (Base name) n q e t f = absurd (clash (read_by n q) t (ap₂ (λ h c. read_by (record n { parts = record n.parts { head = h; conds = record n.parts.conds { items = c } } }) q) e.1 e.2))
+  looks-up Select n q e t f = elim (cases_Bool (loose_each n.quants n (loose bs) q)) [
+    | inl y ↦ y
+    | inr y ↦ absurd (clash (read_by n q || under_any n.quants (loose bs) q) (or-left (read_by n q) (under_any n.quants (loose bs) q) t) (inner n (loose bs) q n.quants f y))
+  ]
+  looks-up (Group k) n q e t f = or-right (under_any n.quants (loose bs) q) (read_beyond (take 1 n.quants) (read_by n) q) (and_from (not (list_any (is_quant q) (take 1 n.quants))) (read_by n q) (ap not f) t)
+  looks-up (SetOp form w) n q e t f = absurd (clash (read_by n q) t (ap₂ (λ h c. read_by (record n { parts = record n.parts { head = h; conds = record n.parts.conds { items = c } } }) q) e.0 e.1))
+  looks-up OuterJoin n q e t f = or-right (under_any n.quants (loose bs) q) (read_beyond (take 2 n.quants) (read_by n) q) (and_from (not (list_any (is_quant q) (take 2 n.quants))) (read_by n q) (ap not f) t)
+
   -- TO CHECKED
   module _ (root : ℕ) (w : Sound bs root) where
     lateral-of : (n : Node) → In n bs → n.parts.kind ≡ Select → (done rs : List OwnedQuant) → n.quants ≡ done ++ rs → Lateral (loose bs) rs
@@ -393,17 +404,6 @@ module _ (bs : List Node) (o : Ordered bs) where
           | inl t ↦ inr (subst (λ z. In r.over (scoped_by z q n.quants)) (sym t.0) (scoped-has (loose bs) q (binds_row q n.quants) false n.quants (lateral-of n p.1.0 t.0 [] n.quants refl) r p.1.1.1.0 u t.1 t.1))
           | inr g ↦ inl (viewed-by k n.id q (omega arith) g)
         ]))
-
-    -- what a box reads and doesn't see as its own it looks up
-    looks-up : (k : BoxKind) (n : Node) (q : ℕ) → BareBy k n → read_by n q ≡ true → own_seen k n q ≡ false → loose_by k n (loose bs) q ≡ true
-    looks-up (Base name) n q e t f = absurd (clash (read_by n q) t (ap₂ (λ h c. read_by (record n { parts = record n.parts { head = h; conds = record n.parts.conds { items = c } } }) q) e.1 e.2))
-    looks-up Select n q e t f = elim (cases_Bool (loose_each n.quants n (loose bs) q)) [
-      | inl y ↦ y
-      | inr y ↦ absurd (clash (read_by n q || under_any n.quants (loose bs) q) (or-left (read_by n q) (under_any n.quants (loose bs) q) t) (inner n (loose bs) q n.quants f y))
-    ]
-    looks-up (Group k) n q e t f = or-right (under_any n.quants (loose bs) q) (read_beyond (take 1 n.quants) (read_by n) q) (and_from (not (list_any (is_quant q) (take 1 n.quants))) (read_by n q) (ap not f) t)
-    looks-up (SetOp form w) n q e t f = absurd (clash (read_by n q) t (ap₂ (λ h c. read_by (record n { parts = record n.parts { head = h; conds = record n.parts.conds { items = c } } }) q) e.0 e.1))
-    looks-up OuterJoin n q e t f = or-right (under_any n.quants (loose bs) q) (read_beyond (take 2 n.quants) (read_by n) q) (and_from (not (list_any (is_quant q) (take 2 n.quants))) (read_by n q) (ap not f) t)
 
     -- what is free is loose
     free-by : (k b z q : ℕ) → place bs z < k → In z (reached (b ∷ []) bs) → ((n : Node) → In n bs → In n.id (reached (b ∷ []) bs) → owns q n ≡ false) → loose bs z q ≡ true → loose bs b q ≡ true

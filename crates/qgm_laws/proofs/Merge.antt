@@ -1,6 +1,6 @@
 -- M1 means the same.
 use Rattle.std.specs.Prelude.{not as no}
-use Rattle.std.proofs.Common.{ℕ, ◌==◌, ◌≡◌, ◌&&◌, ◌||◌, ◌+◌, ◌≤◌, ◌<◌, cond, Bool, true, false, List, [], ◌∷◌, ◌++◌, map, Some, refl, sym, ap, ap₂, subst, ◌∙◌, eqb-true, ◌⊎◌, inl, inr, arith}
+use Rattle.std.proofs.Common.{ℕ, zero, suc, get_or, ◌==◌, ◌≡◌, ◌&&◌, ◌||◌, ◌+◌, ◌≤◌, ◌<◌, cond, Bool, true, false, List, [], ◌∷◌, ◌++◌, map, Some, refl, sym, ap, ap₂, subst, ◌∙◌, eqb-true, ◌⊎◌, inl, inr, arith}
 use Rattle.std.specs.List.{list_any, list_all, flat_map}
 use Rattle.std.proofs.lemmas.Bool.{and_parts, cases_Bool, or_cases, eq-eqb}
 use Rattle.sql_value.specs.declared.cell.Cell.{Cell}
@@ -14,20 +14,23 @@ use Rattle.qgm_core.specs.declared.owned.OwnedQuant.{OwnedQuant}
 use Rattle.qgm_core.specs.Boxes.{Ordered, has_box, is_quant, owns, ids_in, ids_of, overs_in}
 use Rattle.qgm_core.specs.Lists.{first, In, times}
 use Rattle.qgm_core.specs.Kinds.{is_F, is_enforce}
-use Rattle.qgm_meaning.specs.Meaning.{Family, bag_in, given_by, nothing, once_if, over_each, quant_rows, rows_by, rows_found, rows_of}
+use Rattle.qgm_meaning.specs.Meaning.{Family, bag_in, given_by, once_if, over_each, quant_rows, rows_by, rows_found, rows_of}
 use Rattle.qgm_meaning.specs.Ranks.{SameUnder}
 use Rattle.qgm_meaning.specs.Scope.{introduces, loose, loose_by, loose_each, loose_of, looks_found, put_node, quant_looks, read_by, under_any}
-use Rattle.qgm_terms.specs.Terms.{Cond, Term}
+use Rattle.qgm_terms.specs.Terms.{Cond, Term, null_int}
 use Rattle.qgm_meaning.specs.Searches.{bare, binds, binds_cond, names, names_cond}
 use Rattle.qgm_terms.specs.Substitution.{cell_at, substituted, substituted_cond}
 use Rattle.qgm_terms.specs.Wanted.{reads, reads_at, reads_at_cond, reads_cond}
-use Rattle.qgm_meaning.specs.Values.{Bag, Environment, all_true, bound, head_cells, row_of}
+use Rattle.qgm_meaning.specs.Values.{Bag, Environment, all_true, bound, head_cells, row_of, value}
 use Rattle.qgm_meaning.proofs.ExistsJoined.{inner}
 use Rattle.qgm_meaning.proofs.Frames.{all_true-framed, any-framed, bag-framed, head-framed}
 use Rattle.qgm_meaning.proofs.Joined.{unread}
 use Rattle.qgm_meaning.proofs.MergedRows.{given-merged}
 use Rattle.qgm_meaning.proofs.Nodes.{all_true-nodes, head-nodes}
-use Rattle.qgm_meaning.proofs.Puts.{Inlined, bare-head, found-put, rows-put}
+use Rattle.qgm_meaning.proofs.Puts.{bare-head}
+use Rattle.qgm_laws.proofs.PutRead.{Rowed, found-put, rows-put}
+use Rattle.row_bag.specs.Order.{cell_of}
+use Rattle.sql_value.specs.declared.cell.Cell.TheVariants.{Null}
 use Rattle.qgm_meaning.proofs.Unfold.{rows-local}
 use Rattle.qgm_laws.proofs.Edits.{boxes_without}
 use Rattle.qgm_laws.specs.Graph.{binds_row, nodes_in, Sound}
@@ -61,6 +64,11 @@ any-both p (x ∷ xs) ys h k = let n = or-none (p x) (list_any p xs) h in or-bot
 none-and : (a : Bool) {b : Bool} → b ≡ false → (a && b) ≡ false
 none-and true h = h
 none-and false h = refl
+
+get-mapped : (f : Term → Cell) (xs : List Term) (k : ℕ) (x : Term) → f (get_or xs k x) ≡ get_or (map f xs) k (f x)
+get-mapped f [] k x = refl
+get-mapped f (y ∷ xs) zero x = refl
+get-mapped f (y ∷ xs) (suc k) x = get-mapped f xs k x
 
 module _ (tables : List Table) (bs : List Node) (root : ℕ) (w : Sound bs root) (nb nc : Node) (us : List OwnedQuant) (rq : OwnedQuant) (vs : List OwnedQuant) (m : Merges bs nb nc us rq vs) where
   abbrev pub q : ℕ
@@ -207,6 +215,13 @@ module _ (tables : List Table) (bs : List Node) (root : ℕ) (w : Sound bs root)
       let n = or-none (list_any (reads r) nc.parts.head) (list_any (reads_cond r) nc.parts.conds.items) (or-none (read_by nc r) (under_any nc.quants (loose bs) r) h).0 in
       sym (ap (λ (rows : ℕ → Bag). head_cells rows nc.parts.head e) (fun_ext (λ x. c-rows-still x r row e h))
       ∙ head-framed (λ x. s_c x (bound r row e)) nc.parts.head e (bound r row e) (unread (λ x. list_any (reads x) nc.parts.head) r row e n.0))
+
+  -- a bare cell is its column
+  cell-is : (rows : ℕ → Bag) (k : ℕ) (d : Environment) → bare (cell_at k nc.parts.head) ≡ true → value rows (cell_at k nc.parts.head) d ≡ cell_of k (V d)
+  cell-is rows k d b =
+      let x = cell_at k nc.parts.head in
+      let bare-one : list_all bare (x ∷ []) ≡ true = ap (λ t. t && true) b in
+      ap (λ (cs : List Cell). get_or cs 0 Null) (bare-head rows (x ∷ []) d bare-one ∙ sym (bare-head (λ y. s_c y d) (x ∷ []) d bare-one)) ∙ get-mapped (λ y. value (λ z. s_c z d) y d) (null_int ∷ nc.parts.head) k null_int
 
   L-still : (r : ℕ) (row : List Cell) (e : Environment) → touches nc (loose bs) r ≡ false → L (bound r row e) ≡ L e
   L-still r row e h =
@@ -376,14 +391,16 @@ module _ (tables : List Table) (bs : List Node) (root : ℕ) (w : Sound bs root)
           ])
     ]
 
-    introduced : loose bs y.id q ≡ true → (x : ℕ) → introduces y x ≡ true → list_any (reads x) nc.parts.head ≡ false
-    introduced l x h = unread-cells x (apart-cells l x (elim (or_cases (owns x y) (list_any (binds x) y.parts.head || list_any (binds_cond x) y.parts.conds.items) h) [
-      | inl o ↦ o
-      | inr b ↦ (w.own_nodes y i x (elim (or_cases (list_any (binds x) y.parts.head) (list_any (binds_cond x) y.parts.conds.items) b) [
-        | inl u ↦ or-left (list_any (names x) y.parts.head) (list_any (names_cond x) y.parts.conds.items) (heads-names x y.parts.head u)
-        | inr u ↦ or-right (list_any (names x) y.parts.head) (list_any (names_cond x) y.parts.conds.items) (conds-names x y.parts.conds.items u)
-      ])).0
-    ]))
+    introduced : loose bs y.id q ≡ true → (x : ℕ) → introduces y x ≡ true → ((x == q) ≡ false) × (touches nc (loose bs) x ≡ false)
+    introduced l x h =
+        let o : owns x y ≡ true = (elim (or_cases (owns x y) (list_any (binds x) y.parts.head || list_any (binds_cond x) y.parts.conds.items) h) [
+          | inl o ↦ o
+          | inr b ↦ (w.own_nodes y i x (elim (or_cases (list_any (binds x) y.parts.head) (list_any (binds_cond x) y.parts.conds.items) b) [
+            | inl u ↦ or-left (list_any (names x) y.parts.head) (list_any (names_cond x) y.parts.conds.items) (heads-names x y.parts.head u)
+            | inr u ↦ or-right (list_any (names x) y.parts.head) (list_any (names_cond x) y.parts.conds.items) (conds-names x y.parts.conds.items u)
+          ])).0
+        ]) in
+        (elim (cases_Bool (x == q)) [ inr n ↦ n | inl t ↦ absurd (clash (owns x y) o (subst (λ z. owns z y ≡ false) (sym (eqb-true x q t)) not-own-q)) ], apart-cells l x o)
 
     pub untouched : loose bs y.id q ≡ false → touches y (loose bs) q ≡ false
     untouched n = elim (cases_Bool (touches y (loose bs) q)) [
@@ -398,26 +415,20 @@ module _ (tables : List Table) (bs : List Node) (root : ℕ) (w : Sound bs root)
         ap₂ (λ h c. record y { parts = record y.parts { head = h; conds = record y.parts.conds { items = c } } }) (heads-none q nc.parts.head y.parts.head r.0) (conds-none q nc.parts.head y.parts.conds.items r.1)
 
     put-rows : loose bs y.id q ≡ true → (e : Environment) → rows_of tables (put_node q nc.parts.head y) G e ≡ rows_of tables y f (bound q (V e) e)
-    put-rows l e = rows-put q nc.parts.head naked tables y.parts.kind y (quant_rows y G) (quant_rows y f)
-        (λ x. found-put q nc.parts.head naked tables (first (is_quant x) y.quants) G f given) not-own-q (introduced l) e (bound q (V e) e) (inlined e)
+    put-rows l e = rows-put q nc.parts.head V (touches nc (loose bs)) V-still cell-is tables y.parts.kind y (quant_rows y G) (quant_rows y f)
+        (λ x. found-put q nc.parts.head V (touches nc (loose bs)) V-still cell-is (first (is_quant x) y.quants) G f given) not-own-q (introduced l) (m.naked y i other) e (bound q (V e) e) (rowed e)
       where
-        naked : list_all bare nc.parts.head ≡ true
-        naked = m.naked y i l
-
-        cells-are : (d : Environment) → V d ≡ head_cells nothing nc.parts.head d
-        cells-are d = bare-head (λ x. s_c x d) nc.parts.head d naked
-
-        inlined : (d : Environment) → Inlined nothing q nc.parts.head d (bound q (V d) d)
-        inlined d = record {
+        rowed : (d : Environment) → Rowed q nc.parts.head V (touches nc (loose bs)) V-still cell-is d (bound q (V d) d)
+        rowed d = record {
           others = λ x n. sym (ap (λ (b : Bool). cond b (V d) (row_of x d)) (eq-false-sym x q n));
-          own = ap (λ (b : Bool). cond b (V d) (row_of q d)) (eq-itself q) ∙ cells-are d;
+          own = ap (λ (b : Bool). cond b (V d) (row_of q d)) (eq-itself q);
         }
 
-        given : (b : ℕ) (d k : Environment) → Inlined nothing q nc.parts.head d k → G b d ≡ f b k
+        given : (b : ℕ) (d k : Environment) → Rowed q nc.parts.head V (touches nc (loose bs)) V-still cell-is d k → G b d ≡ f b k
         given b d k h = bag-framed tables bs b (bound q (V d) d) k (record { rows = λ x u. step x (cases_Bool (q == x)) })
           where
             step : (x : ℕ) → ((q == x) ≡ true) ⊎ ((q == x) ≡ false) → cond (q == x) (V d) (row_of x d) ≡ row_of x k
-            step x (inl u) = ap (λ (b : Bool). cond b (V d) (row_of x d)) u ∙ cells-are d ∙ sym h.own ∙ ap (λ z. row_of z k) (eqb-true q x u)
+            step x (inl u) = ap (λ (b : Bool). cond b (V d) (row_of x d)) u ∙ sym h.own ∙ ap (λ z. row_of z k) (eqb-true q x u)
             step x (inr u) = ap (λ (b : Bool). cond b (V d) (row_of x d)) u ∙ h.others x (eq-false-sym q x u)
 
     pub other-rows : (e : Environment) → rows_of tables (put_node q nc.parts.head y) G e ≡ G y.id e

@@ -10,7 +10,7 @@ use Rattle.qgm_core.specs.declared.owned.OwnedQuant.{OwnedQuant}
 use Rattle.qgm_core.specs.Boxes.{is_quant, owns, width}
 use Rattle.qgm_core.specs.Lists.{In}
 use Rattle.qgm_core.specs.Kinds.{is_F, width_by}
-use Rattle.qgm_meaning.specs.Scope.{loose, put_node, read_by, under_any}
+use Rattle.qgm_meaning.specs.Scope.{put_node}
 use Rattle.qgm_terms.specs.Terms.{Cond, Term}
 use Rattle.qgm_meaning.specs.Searches.{names, names_cond}
 use Rattle.qgm_terms.specs.Substitution.{cell_at, substituted, substituted_cond}
@@ -20,7 +20,7 @@ use Rattle.qgm_laws.specs.Merge.{Merges, merge_node, merged}
 use Rattle.qgm_laws.proofs.Edits.{any-append, length-map}
 use Rattle.qgm_laws.proofs.AnyPut.{cell-any, conds-put, heads-bare, heads-put}
 use Rattle.qgm_laws.proofs.Lists.{any-from, any-in, clash, in-append, in-left, in-right, or-left, or-none, or-right}
-use Rattle.qgm_laws.proofs.Scope.{bound-owned, touched}
+use Rattle.qgm_laws.proofs.Scope.{bound-owned}
 use Rattle.qgm_laws.proofs.Turns.{any-parts}
 use Rattle.qgm_laws.proofs.Edits.{boxes_without}
 use Rattle.qgm_laws.proofs.Merge as before
@@ -120,21 +120,21 @@ module _ (bs : List Node) (root : ℕ) (w : Sound bs root) (nb nc : Node) (us : 
 
   -- a node after is one of before, or one of c's cells, at a box that reads q
   abbrev NodeWas : Node → ℕ → Type 0
-  NodeWas y x = (nodes_in x y ≡ true) ⊎ ((read_by y q ≡ true) × (list_any (names x) nc.parts.head ≡ true))
+  NodeWas y x = (nodes_in x y ≡ true) ⊎ ((k : ℕ) × ((reads_in q k y ≡ true) × (names x (cell_at k nc.parts.head) ≡ true)))
 
   module _ (x : ℕ) where
     head-node : (y : Node) → In y bs → list_any (names x) (map (substituted q nc.parts.head) y.parts.head) ≡ true → NodeWas y x
     head-node y i h =
         elim (heads-put q nc.parts.head (λ r j. false) (λ r. r == x) (λ r. r == x) (λ r. true) ⊤ (λ r j n e. tt) (λ r n e. tt) (λ r n e. tt) y.parts.head (or-none (list_any (names q) y.parts.head) (list_any (names_cond q) y.parts.conds.items) (nodes-not-q y i)).0 h) [
           | inl a ↦ inl (or-left (list_any (names x) y.parts.head) (list_any (names_cond x) y.parts.conds.items) a.0)
-          | inr a ↦ inr (or-left (list_any (reads q) y.parts.head) (list_any (reads_cond q) y.parts.conds.items) (at-head a.0 y.parts.head a.1.0), cell-any (names x) nc.parts.head a.0 refl a.1.1)
+          | inr a ↦ inr (a.0, (or-left (list_any (reads_at q a.0) y.parts.head) (list_any (reads_at_cond q a.0) y.parts.conds.items) a.1.0, a.1.1))
         ]
 
     conds-node : (y : Node) → In y bs → list_any (names_cond x) (map (substituted_cond q nc.parts.head) y.parts.conds.items) ≡ true → NodeWas y x
     conds-node y i h =
         elim (conds-put q nc.parts.head (λ r j. false) (λ r. r == x) (λ r. r == x) (λ r. true) ⊤ (λ r j n e. tt) (λ r n e. tt) (λ r n e. tt) y.parts.conds.items (or-none (list_any (names q) y.parts.head) (list_any (names_cond q) y.parts.conds.items) (nodes-not-q y i)).1 h) [
           | inl a ↦ inl (or-right (list_any (names x) y.parts.head) (list_any (names_cond x) y.parts.conds.items) a.0)
-          | inr a ↦ inr (or-right (list_any (reads q) y.parts.head) (list_any (reads_cond q) y.parts.conds.items) (at-conds a.0 y.parts.conds.items a.1.0), cell-any (names x) nc.parts.head a.0 refl a.1.1)
+          | inr a ↦ inr (a.0, (or-right (list_any (reads_at q a.0) y.parts.head) (list_any (reads_at_cond q a.0) y.parts.conds.items) a.1.0, a.1.1))
         ]
 
     abbrev OwnM : Type 0
@@ -167,7 +167,7 @@ module _ (bs : List Node) (root : ℕ) (w : Sound bs root) (nb nc : Node) (us : 
         )
 
     own-was : NodeWas nb x → OwnM
-    own-was z = elim z [ inl a ↦ own-from-b a | inr a ↦ own-from-c (or-left (list_any (names x) nc.parts.head) (list_any (names_cond x) nc.parts.conds.items) a.1) ]
+    own-was z = elim z [ inl a ↦ own-from-b a | inr a ↦ own-from-c (or-left (list_any (names x) nc.parts.head) (list_any (names_cond x) nc.parts.conds.items) (cell-any (names x) nc.parts.head a.0 refl a.1.1)) ]
 
     own-h : (n : Node) → In n h → nodes_in x n ≡ true → (owns x n ≡ true) × (binds_row x n.quants ≡ false)
     own-h n i t = elim (in-h n i) [
@@ -186,10 +186,7 @@ module _ (bs : List Node) (root : ℕ) (w : Sound bs root) (nb nc : Node) (us : 
         elsewhere : (y : Node) → In y bs → (y.id == nb.id) ≡ false → (y.id == nc.id) ≡ false → NodeWas y x → (owns x y ≡ true) × (binds_row x y.quants ≡ false)
         elsewhere y i n n' z = elim z [
           | inl a ↦ w.own_nodes y i x a
-          | inr a ↦ absurd (clash (list_any (names x) nc.parts.head) a.1 (heads-bare x nc.parts.head (m.naked y i (elim (touched bs root w y q i (or-left (read_by y q) (under_any y.quants (loose bs) q) a.0)) [
-            | inl o ↦ absurd (clash (owns q y) o (not-own-q y i n n'))
-            | inr l ↦ l
-          ]))))
+          | inr a ↦ absurd (clash (list_any (names x) (cell_at a.0 nc.parts.head ∷ [])) (or-left (names x (cell_at a.0 nc.parts.head)) false a.1.1) (heads-bare x (cell_at a.0 nc.parts.head ∷ []) (ap (λ t. t && true) (m.naked y i n a.0 a.1.0))))
         ]
 
   bare-put : (k : BoxKind) (y : Node) → BareBy k y → BareBy k (put_node q nc.parts.head y)

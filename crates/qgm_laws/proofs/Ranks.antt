@@ -1,9 +1,10 @@
 -- What is given box by box over the boxes behind: it is given over the whole graph, and it is the only family that is.
-use Rattle.std.proofs.Common.{ℕ, suc, ◌==◌, ◌≡◌, ◌<◌, cond, true, false, List, [], ◌∷◌, sym, ap, subst, ◌∙◌, eqb-true, inl, inr, arith}
+use Rattle.std.proofs.Common.{ℕ, ◌==◌, ◌≡◌, ◌<◌, true, false, List, [], ◌∷◌, sym, ap, subst, ◌∙◌, eqb-true, inl, inr, arith}
 use Rattle.qgm_core.specs.declared.node.Node.{Node}
 use Rattle.qgm_core.specs.declared.owned.OwnedQuant.{OwnedQuant}
 use Rattle.qgm_core.specs.Boxes.{Ordered, has_box, is_box}
 use Rattle.qgm_core.specs.Lists.{In}
+pub use Rattle.qgm_laws.specs.Placed.{place}
 use Rattle.qgm_laws.proofs.Lists.{any-in, any-from, all-in, eq-itself, other, or-right, clash}
 
 pub in-has : (n : Node) (ns : List Node) → In n ns → has_box ns n.id ≡ true
@@ -26,11 +27,6 @@ same-box (x ∷ ns) n m o i j e = elim i [
   | inl p ↦ elim j [ inl q ↦ sym p ∙ q | inr k ↦ absurd (clash (has_box ns x.id) (subst (λ z. has_box ns z ≡ true) (sym e ∙ ap (λ (z : Node). z.id) (sym p)) (in-has m ns k)) o.0) ]
   | inr k ↦ elim j [ inl q ↦ absurd (clash (has_box ns x.id) (subst (λ z. has_box ns z ≡ true) (e ∙ ap (λ (z : Node). z.id) (sym q)) (in-has n ns k)) o.0) | inr l ↦ same-box ns n m o.2 k l e ]
 ]
-
--- how far from the top
-abbrev pub place : List Node → ℕ → ℕ
-place [] b = 0
-place (n ∷ ns) b = cond (n.id == b) 0 (suc (place ns b))
 
 pub place-under : (ns : List Node) (n : Node) (r : OwnedQuant) → Ordered ns → In n ns → In r n.quants → place ns n.id < place ns r.over
 place-under [] n r o i j = elim i [ ]

@@ -78,7 +78,7 @@ rows-alike f g (x ∷ xs) h = ap₂ (λ a b. a ++ b) (h x (inl refl)) (rows-alik
 -- ---- the rule
 
 module _ (g : QueryGraph) (w : Sound g.boxes g.root) (b c : Node) (r : OwnedQuant) (m : MayDrop g b c r) where
-  copies : Copies g.boxes g.root b c r
+  pub copies : Copies g.boxes g.root b c r
   copies = record {
     in_b = m.in_b;
     in_c = m.in_c;

@@ -98,7 +98,7 @@ pub owned-times : (q : ℕ) (n : Node) → owns q n ≡ true → 1 ≤ times q (
 owned-times q n h = let x = any-in (is_quant q) n.quants h in subst (λ z. 1 ≤ times z (ids_of n)) (eqb-true x.0.id q x.1.1) (in-times (λ (r : OwnedQuant). r.id) x.0 n.quants x.1.0)
 
 -- what a box touches it owns or looks up
-touched-by : (kind : BoxKind) (n : Node) (look : ℕ → ℕ → Bool) (q : ℕ) → BareBy kind n → owns q n ≡ false → touches n look q ≡ true → loose_by kind n look q ≡ true
+pub touched-by : (kind : BoxKind) (n : Node) (look : ℕ → ℕ → Bool) (q : ℕ) → BareBy kind n → owns q n ≡ false → touches n look q ≡ true → loose_by kind n look q ≡ true
 touched-by (Base name) n look q bare f t = absurd (let z : touches n look q ≡ false = ap₂ (λ h c. (list_any (reads q) h || list_any (reads_cond q) c) || under_any n.quants look q) bare.1 bare.2 ∙ ap (λ rs. under_any rs look q) bare.0 in clash (touches n look q) t z)
 touched-by Select n look q bare f t = elim (cases_Bool (loose_each n.quants n look q)) [
   | inl e ↦ e

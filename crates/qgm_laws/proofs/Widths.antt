@@ -1,5 +1,5 @@
 -- The rows of a sound graph's boxes have their widths, and tables that fit bases still fit them where boxes keep their kinds.
-use Rattle.std.proofs.Common.{ℕ, ◌==◌, ◌≡◌, cond, Bool, true, false, List, [], ◌∷◌, map, length, refl, sym, ap, subst, ◌∙◌, inl, inr}
+use Rattle.std.proofs.Common.{ℕ, ◌==◌, ◌≡◌, cond, Bool, true, false, List, [], ◌∷◌, ◌++◌, map, length, refl, sym, ap, subst, ◌∙◌, inl, inr}
 use Rattle.sql_value.specs.declared.cell.Cell.{Cell}
 use Rattle.row_bag.specs.declared.row.Row.{Row}
 use Rattle.row_bag.specs.declared.tables.Table.{Table}
@@ -73,7 +73,7 @@ filled-without tables b (n ∷ ns) h = elim (n.id == b) as (λ t. Filled tables 
   | false ↦ (h.0, filled-without tables b ns h.1)
 ]
 
-filled-map : (tables : List Table) (f : Node → Node) → ((n : Node) → (f n).parts.kind ≡ n.parts.kind) → (ns : List Node) → Filled tables ns → Filled tables (map f ns)
+pub filled-map : (tables : List Table) (f : Node → Node) → ((n : Node) → (f n).parts.kind ≡ n.parts.kind) → (ns : List Node) → Filled tables ns → Filled tables (map f ns)
 filled-map tables f same [] h = tt
 filled-map tables f same (n ∷ ns) h = (subst (λ k. FilledBy k tables) (sym (same n)) h.0, filled-map tables f same ns h.1)
 
@@ -85,3 +85,8 @@ merge-kind b q c quants n = elim (n.id == b) as (λ t. ◌≡◌ {A = BoxKind} (
 
 pub filled-merge : (tables : List Table) (b q : ℕ) (c : Node) (quants : List OwnedQuant) (ns : List Node) → Filled tables ns → Filled tables (map (merge_node b q c quants) (boxes_without c.id ns))
 filled-merge tables b q c quants ns h = filled-map tables (merge_node b q c quants) (merge-kind b q c quants) (boxes_without c.id ns) (filled-without tables c.id ns h)
+
+-- a box more
+pub filled-more : (tables : List Table) (xs : List Node) (n : Node) (ys : List Node) → FilledBy n.parts.kind tables → Filled tables (xs ++ ys) → Filled tables (xs ++ n ∷ ys)
+filled-more tables [] n ys k h = (k, h)
+filled-more tables (x ∷ xs) n ys k h = (h.0, filled-more tables xs n ys k h.1)

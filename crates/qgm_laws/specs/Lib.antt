@@ -5,3 +5,14 @@ pub mod Merge
 pub mod Checked
 pub mod Laws
 pub mod Examples
+pub mod Placed
+pub mod EditLaws
+pub mod Scoped
+pub mod Changes
+pub mod Adds
+pub mod SoundEdits
+pub mod Shaped
+pub mod Single
+pub mod Facts
+pub mod Push
+pub mod Asked

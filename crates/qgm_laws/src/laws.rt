@@ -1,16 +1,54 @@
 // The laws, as theorems.
+ghost use Rattle.qgm_laws.specs.Asked.{Pushed, Singled};
+ghost use Rattle.qgm_laws.specs.EditLaws.{EditsPlaced, NewPlaced};
 ghost use Rattle.qgm_laws.specs.Examples.{Dropped, Same};
+ghost use Rattle.qgm_laws.specs.Push.{PushKeeps};
+ghost use Rattle.qgm_laws.specs.Shaped.{CompactShaped, DropShaped, PlacedIsChecked, SoundIsChecked};
+ghost use Rattle.qgm_laws.specs.SoundEdits.{AddSound, EditsAreMaps, KeepBags, KeepSound, NearlyCompact, ScopeLaws};
+ghost use Rattle.qgm_laws.specs.Facts.{FactsOfAgreeing, LooksStay};
+ghost use Rattle.qgm_laws.specs.Single.{SingleDiffers, SingleKeeps};
 ghost use Rattle.qgm_laws.specs.Laws.{BoundAbove, CheckedFromSound, CompactKeeps, DropKeeps, KeepsChained, MergeKeeps, SettledFromChecked};
 
-/// What a box looks up is bound above it; steps that keep all chain; dropping boxes that aren't reached, M2 and M1 keep all; what is tested of columns that are read is what rules take. It does nothing.
+/// What a box looks up is bound above it; steps that keep all chain; dropping boxes that aren't reached, M2, M1, U2 and P1 keep all; what is tested of columns that are read is what rules take. It does nothing.
 pub fn rewriting_laws()
     ensures bound_above { BoundAbove }
     ensures chained { KeepsChained }
     ensures compact { CompactKeeps }
     ensures drop { DropKeeps }
     ensures merge { MergeKeeps }
+    ensures single { SingleKeeps }
+    ensures differs { SingleDiffers }
+    ensures push { PushKeeps }
     ensures from_checked { SettledFromChecked }
     ensures to_checked { CheckedFromSound }
     ensures same { Same }
     ensures dropped { Dropped }
+    ensures pushed { Pushed }
+    ensures singled { Singled }
+{}
+
+/// What each edit keeps: of a graph whose quantifiers have one owner each and range over boxes below it, and whose boxes name none without an owner, it makes such a graph, at its condition. It does nothing.
+pub fn edit_laws()
+    ensures new { NewPlaced }
+    ensures placed { EditsPlaced }
+{}
+
+/// What is looked up is bounded box by box; each kind of edit keeps a graph sound at its condition, and bags where the rows of changed boxes stay; facts of rows pass along agreement; what boxes ask for is looked up. It does nothing.
+pub fn sound_laws()
+    ensures places { EditsAreMaps }
+    ensures scope { ScopeLaws }
+    ensures edits { KeepSound }
+    ensures added { AddSound }
+    ensures compact { NearlyCompact }
+    ensures bags { KeepBags }
+    ensures facts { FactsOfAgreeing }
+    ensures looks { LooksStay }
+{}
+
+/// What rules need of a graph, with types that agree and shapes, is what the check of a graph finds; so it is for the three clauses that every edit keeps; shapes stay where boxes that aren't reached go, and under M2. It does nothing.
+pub fn checked_laws()
+    ensures placed { PlacedIsChecked }
+    ensures sound { SoundIsChecked }
+    ensures compact { CompactShaped }
+    ensures drop { DropShaped }
 {}

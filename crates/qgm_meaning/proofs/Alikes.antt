@@ -9,7 +9,7 @@ use Rattle.row_bag.specs.Sets.{same_cells, failed_cells}
 use Rattle.row_bag.specs.Verdict.{is_there}
 use Rattle.row_bag.specs.declared.tables.Table.{Table}
 use Rattle.row_bag.proofs.Agreement.{alike-append, alike-bind, alike-keep, alike-keep_no, alike-refl, alike-same, alike-sym, alike-trans}
-use Rattle.row_bag.proofs.Counts.{alike-from_agree, total-alike}
+use Rattle.row_bag.proofs.Counts.{alike-from_agree}
 use Rattle.row_bag.proofs.SetLaws.{distinct-alike, union-alike, intersect_all-alike, intersect-alike, except_all-alike, except-alike, collapsed-alike, grouped-alike}
 use Rattle.row_bag.proofs.Tuples.{same_cells-decides}
 use Rattle.sql_value.specs.Arithmetic as a

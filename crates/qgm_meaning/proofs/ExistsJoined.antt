@@ -35,11 +35,11 @@ use Rattle.qgm_meaning.proofs.Within.{loose-unfold}
 
 -- ---- all environments pass
 
-stays-all : (f : Family) (rs : List OwnedQuant) → Stays (λ env. true) f rs
+pub stays-all : (f : Family) (rs : List OwnedQuant) → Stays (λ env. true) f rs
 stays-all f [] = tt
 stays-all f (r ∷ rs) = ((λ env cells k p o. refl), stays-all f rs)
 
-all-stay : (f : Family) (ns : List Node) → AllStay (λ env. true) f ns
+pub all-stay : (f : Family) (ns : List Node) → AllStay (λ env. true) f ns
 all-stay f [] = tt
 all-stay f (n ∷ ns) = (stays-all (quant_rows n f) n.quants, all-stay f ns)
 
@@ -70,7 +70,7 @@ module _ (k : QuantKind) (i over : ℕ) (vs : List OwnedQuant) (hv : list_any (i
         | false ↦ moved us (neither-right (u.id == i) (list_any (is_quant i) us) hu)
       ]
 
-over-append : (ks : List Node) (us vs : List OwnedQuant) → all_over ks (us ++ vs) ≡ (all_over ks us && all_over ks vs)
+pub over-append : (ks : List Node) (us vs : List OwnedQuant) → all_over ks (us ++ vs) ≡ (all_over ks us && all_over ks vs)
 over-append ks [] vs = refl
 over-append ks (u ∷ us) vs = step (has_box ks u.over) (all_over ks us) (all_over ks vs) (all_over ks (us ++ vs)) (over-append ks us vs)
   where
@@ -117,7 +117,7 @@ own-append k nk i over (u ∷ us) vs hu hv =
     step true b h = h
     step false b h = refl
 
-any-before : (f : Cond → Bool) (xs : List Cond) (c : Cond) (ys : List Cond) → list_any f (xs ++ c ∷ ys) ≡ false → (list_any f xs ≡ false) × (list_any f ys ≡ false)
+pub any-before : (f : Cond → Bool) (xs : List Cond) (c : Cond) (ys : List Cond) → list_any f (xs ++ c ∷ ys) ≡ false → (list_any f xs ≡ false) × (list_any f ys ≡ false)
 any-before f [] c ys h = (refl, neither-right (f c) (list_any f ys) h)
 any-before f (x ∷ xs) c ys h =
     let rest = any-before f xs c ys (neither-right (f x) (list_any f (xs ++ c ∷ ys)) h) in

@@ -118,7 +118,7 @@ found-framed : (o : Option OwnedQuant) (below : Family) (look : ℕ → ℕ → 
 found-framed None below look f h = refl
 found-framed (Some r) below look f h = f r.over h
 
-any-found : (rs : List OwnedQuant) (look : ℕ → ℕ → Bool) (x q : ℕ) → looks_found (first (is_quant x) rs) look q ≡ true → under_any rs look q ≡ true
+pub any-found : (rs : List OwnedQuant) (look : ℕ → ℕ → Bool) (x q : ℕ) → looks_found (first (is_quant x) rs) look q ≡ true → under_any rs look q ≡ true
 any-found [] look x q t = t
 any-found (r ∷ rs) look x q t = step (r.id == x) (any-found rs look x q) t
   where
@@ -131,13 +131,13 @@ module _ (n : Node) (below : Family) (look : ℕ → ℕ → Bool) (f : (b : ℕ
   abbrev s : Family
   s = quant_rows n below
 
-  quant-framed : (x : ℕ) (d e : Environment) → SameRows (quant_looks n look x) d e → s x d ≡ s x e
+  pub quant-framed : (x : ℕ) (d e : Environment) → SameRows (quant_looks n look x) d e → s x d ≡ s x e
   quant-framed x d e h = found-framed (first (is_quant x) n.quants) below look (λ b. f b d e) h
 
   pub any-framed : (x : ℕ) (d e : Environment) → SameRows (under_any n.quants look) d e → s x d ≡ s x e
   any-framed x d e h = quant-framed x d e (record { rows = λ q t. h.rows q (any-found n.quants look x q t) })
 
-  over_each-framed : (rs : List OwnedQuant) (d e : Environment) → SameRows (loose_each rs n look) d e → over_each rs s (given_by s n) d ≡ over_each rs s (given_by s n) e
+  pub over_each-framed : (rs : List OwnedQuant) (d e : Environment) → SameRows (loose_each rs n look) d e → over_each rs s (given_by s n) d ≡ over_each rs s (given_by s n) e
   over_each-framed [] d e h =
       ap (λ (rows : ℕ → Bag). given rows n d) (fun_ext (λ x. any-framed x d e (from-right (read_by n) (under_any n.quants look) h)))
       ∙ given-framed (λ q. s q e) n d e (from-left (read_by n) (under_any n.quants look) h)

@@ -1,9 +1,12 @@
 -- EXISTS under DISTINCT is a join.
-use Rattle.std.proofs.Common.{ℕ, ◌==◌, ◌≡◌, cond, Bool, true, false, List, [], ◌∷◌, ◌++◌, refl, sym, ap, ap₂, subst, ◌∙◌, eqb-true, ◌⊎◌, inl, inr}
+use Rattle.std.proofs.Common.{ℕ, ◌≤◌, ◌==◌, ◌≡◌, cond, Bool, true, false, List, [], ◌∷◌, ◌++◌, refl, sym, ap, ap₂, subst, ◌∙◌, eqb-true, ◌⊎◌, inl, inr}
 use Rattle.std.specs.List.{list_any}
 use Rattle.std.proofs.lemmas.Bool.{cases_Bool}
 use mathlib.Core.Path.{fun_ext}
 use Rattle.row_bag.specs.Bags.{Alike, bind, if_there, keep, total, unit}
+use Rattle.bag_laws.proofs.OneRow.{exists-of_one}
+use Rattle.row_bag.specs.Joins.{how_many}
+use Rattle.row_bag.proofs.Agreement.{alike-same, alike-trans}
 use Rattle.row_bag.specs.Sets.{SameLevels, distinct, same_cells}
 use Rattle.row_bag.specs.declared.row.Row.{Row}
 use Rattle.row_bag.proofs.Binds.{keep-keep}
@@ -130,9 +133,21 @@ module _ (s : Family) (i : ℕ) (xs ys : List Cond) (c : Cond) (head : List Term
       levels-same : {us vs : Bag} → us ≡ vs → SameLevels same_cells us vs
       levels-same {us = us} e = subst (λ (ws : Bag). SameLevels same_cells us ws) e (levels-refl same_cells us)
 
+  -- the same greatest levels
+  pub joined-levels : (us vs : List OwnedQuant) (over : ℕ) (env : Environment) → SameLevels same_cells (over_each (us ++ as_E i over ∷ vs) s (whole (some i c)) env) (over_each ((us ++ vs) ++ as_F i over ∷ []) s (whole c) env)
+  joined-levels us vs over env =
+      rw (over_each-append us (as_E i over ∷ vs) s (whole (some i c)), over_each-append (us ++ vs) (as_F i over ∷ []) s (whole c), over_each-append us vs s (over_each (as_F i over ∷ []) s (whole c)))
+      (over_each-levels us s _ _ (over_each-levels vs s (whole (some i c)) (λ env. bind (s i env) (λ cells. whole c (bound i cells env))) each-row) env)
+
+  -- of at most one row, the same rows
+  pub one-row-each : (env : Environment) → how_many (s i env) ≤ 1 → Alike (whole (some i c) env) (bind (s i env) (λ cells. whole c (bound i cells env)))
+  one-row-each env one =
+      alike-trans (alike-same (apart (some i c) env ∙ ap (λ (l : Level). keep l (beside env)) (some-level (here env) i c env)))
+      (alike-trans (exists-of_one same_cells same_cells-decides (s i env) one (λ cells. (truth (here env) c (bound i cells env)).t) (beside env))
+      (alike-same (ap (bind (s i env)) (fun_ext (λ cells.
+      ap₂ (λ (rows : ℕ → Bag) (rest : Bag). keep (truth rows c (bound i cells env)).t rest) (sym (same-rows cells env)) (sym (same-beside cells env))
+      ∙ sym (apart c (bound i cells env)))))))
+
   pub joined : (us vs : List OwnedQuant) (over : ℕ) (env : Environment) → Alike (distinct same_cells (over_each (us ++ as_E i over ∷ vs) s (whole (some i c)) env)) (distinct same_cells (over_each ((us ++ vs) ++ as_F i over ∷ []) s (whole c) env))
   joined us vs over env =
-      let levels : SameLevels same_cells (over_each (us ++ as_E i over ∷ vs) s (whole (some i c)) env) (over_each ((us ++ vs) ++ as_F i over ∷ []) s (whole c) env) =
-      rw (over_each-append us (as_E i over ∷ vs) s (whole (some i c)), over_each-append (us ++ vs) (as_F i over ∷ []) s (whole c), over_each-append us vs s (over_each (as_F i over ∷ []) s (whole c)))
-      (over_each-levels us s _ _ (over_each-levels vs s (whole (some i c)) (λ env. bind (s i env) (λ cells. whole c (bound i cells env))) each-row) env) in
-      distinct-levels same_cells same_cells-decides levels
+      distinct-levels same_cells same_cells-decides (joined-levels us vs over env)

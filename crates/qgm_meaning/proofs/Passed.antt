@@ -157,7 +157,7 @@ module _ (level : List Cell → Level) (plain : Plain level) (key : List Cell �
 
 -- ---- errors
 
-no-worst : (a b : Option Kind) → worst_of a b ≡ None → (a ≡ None) × (b ≡ None)
+pub no-worst : (a b : Option Kind) → worst_of a b ≡ None → (a ≡ None) × (b ≡ None)
 no-worst None b h = (refl, h)
 no-worst (Some j) None h = cc h
 no-worst (Some j) (Some k) h = cc h
@@ -182,7 +182,7 @@ module _ (k : ℕ) (head : List Term) (q : ℕ) (env : Environment) (rows : Bag)
   abbrev agg : List Cell → Bag → List Cell
   agg c members = c ++ fold_cells (suc k) head q env members
 
-  key-first : (c more : List Cell) → take (suc k) (key c ++ more) ≡ key c
+  pub key-first : (c more : List Cell) → take (suc k) (key c ++ more) ≡ key c
   key-first c more =
       take-append-le (suc k) (key c) more (subst (λ (m : ℕ). suc k ≤ m) (sym (long-key c)) (le_refl (suc k)))
       ∙ take-all (suc k) (key c) (long-key c)

@@ -19,7 +19,7 @@ use Rattle.qgm_meaning.proofs.Ranked.{GivenBack, self-back}
 use Rattle.qgm_meaning.proofs.Unfold.{rows-local, unfold-bag}
 
 -- the same boxes are held
-held-change : (b : ℕ) (m : Node) (x : ℕ) (ns : List Node) → m.id ≡ b → has_box (change (is_box b) (λ _. m) ns) x ≡ has_box ns x
+pub held-change : (b : ℕ) (m : Node) (x : ℕ) (ns : List Node) → m.id ≡ b → has_box (change (is_box b) (λ _. m) ns) x ≡ has_box ns x
 held-change b m x [] e = refl
 held-change b m x (n ∷ ns) e = elim (cases_Bool (n.id == b)) [
   | inl t ↦ rw t (ap (λ (y : ℕ). (y == x) || has_box ns x) (e ∙ sym (eqb-true n.id b t)))
@@ -30,7 +30,7 @@ over-change : (b : ℕ) (m : Node) (ns : List Node) (rs : List OwnedQuant) → m
 over-change b m ns [] e = refl
 over-change b m ns (r ∷ rs) e = ap₂ (λ (x y : Bool). x && y) (held-change b m r.over ns e) (over-change b m ns rs e)
 
-ordered-change : (b : ℕ) (n m : Node) (ns : List Node) → m.id ≡ b → first (is_box b) ns ≡ Some n → ((ks : List Node) → all_over ks n.quants ≡ true → all_over ks m.quants ≡ true) → Ordered ns → Ordered (change (is_box b) (λ _. m) ns)
+pub ordered-change : (b : ℕ) (n m : Node) (ns : List Node) → m.id ≡ b → first (is_box b) ns ≡ Some n → ((ks : List Node) → all_over ks n.quants ≡ true → all_over ks m.quants ≡ true) → Ordered ns → Ordered (change (is_box b) (λ _. m) ns)
 ordered-change b n m [] e h overs o = tt
 ordered-change b n m (k ∷ ns) e h overs o =
     elim (k.id == b) as (λ t. (k.id == b) ≡ t → ◌≡◌ {A = Option Node} (cond t (Some k) (first (is_box b) ns)) (Some n) → Ordered (cond t (m ∷ ns) (k ∷ change (is_box b) (λ _. m) ns))) [

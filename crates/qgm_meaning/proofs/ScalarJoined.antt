@@ -99,15 +99,15 @@ module _ (rows : ℕ → Bag) (q : ℕ) where
 
 -- ---- environments that fit
 
-without : (passes : Environment → Bool) (f : Family) (us : List OwnedQuant) (r : OwnedQuant) (vs : List OwnedQuant) → Stays passes f (us ++ r ∷ vs) → Stays passes f (us ++ vs)
+pub without : (passes : Environment → Bool) (f : Family) (us : List OwnedQuant) (r : OwnedQuant) (vs : List OwnedQuant) → Stays passes f (us ++ r ∷ vs) → Stays passes f (us ++ vs)
 without passes f [] r vs h = h.1
 without passes f (u ∷ us) r vs h = (h.0, without passes f us r vs h.1)
 
-with-last : (passes : Environment → Bool) (f : Family) (us : List OwnedQuant) (r : OwnedQuant) → Stays passes f us → Stays passes f (r ∷ []) → Stays passes f (us ++ r ∷ [])
+pub with-last : (passes : Environment → Bool) (f : Family) (us : List OwnedQuant) (r : OwnedQuant) → Stays passes f us → Stays passes f (r ∷ []) → Stays passes f (us ++ r ∷ [])
 with-last passes f [] r h k = k
 with-last passes f (u ∷ us) r h k = (h.0, with-last passes f us r h.1 k)
 
-stays-of : (passes : Environment → Bool) (f : Family) (ns : List Node) (b : ℕ) (n : Node) → AllStay passes f ns → first (is_box b) ns ≡ Some n → Stays passes (quant_rows n f) n.quants
+pub stays-of : (passes : Environment → Bool) (f : Family) (ns : List Node) (b : ℕ) (n : Node) → AllStay passes f ns → first (is_box b) ns ≡ Some n → Stays passes (quant_rows n f) n.quants
 stays-of passes f [] b n st h = absurd (let z : ⊥ = cc in z)
 stays-of passes f (m ∷ ns) b n st h =
     elim (m.id == b) as (λ t. ◌≡◌ {A = Option Node} (cond t (Some m) (first (is_box b) ns)) (Some n) → Stays passes (quant_rows n f) n.quants) [
@@ -115,7 +115,7 @@ stays-of passes f (m ∷ ns) b n st h =
       | false ↦ λ h. stays-of passes f ns b n st.1 h
     ] h
 
-first-any : (p : Node → Bool) (ns : List Node) (b : ℕ) (n : Node) → first (is_box b) ns ≡ Some n → p n ≡ true → list_any p ns ≡ true
+pub first-any : (p : Node → Bool) (ns : List Node) (b : ℕ) (n : Node) → first (is_box b) ns ≡ Some n → p n ≡ true → list_any p ns ≡ true
 first-any p [] b n h k = absurd (let z : ⊥ = cc in z)
 first-any p (m ∷ ns) b n h k =
     elim (m.id == b) as (λ t. ◌≡◌ {A = Option Node} (cond t (Some m) (first (is_box b) ns)) (Some n) → list_any p (m ∷ ns) ≡ true) [
@@ -123,7 +123,7 @@ first-any p (m ∷ ns) b n h k =
       | false ↦ λ h. either-right (p m) (list_any p ns) (first-any p ns b n h k)
     ] h
 
-owned-there : (us : List OwnedQuant) (r : OwnedQuant) (vs : List OwnedQuant) → list_any (is_quant r.id) (us ++ r ∷ vs) ≡ true
+pub owned-there : (us : List OwnedQuant) (r : OwnedQuant) (vs : List OwnedQuant) → list_any (is_quant r.id) (us ++ r ∷ vs) ≡ true
 owned-there [] r vs = either-left (r.id == r.id) (list_any (is_quant r.id) vs) (eq-eqb r.id r.id refl)
 owned-there (u ∷ us) r vs = either-right (u.id == r.id) (list_any (is_quant r.id) (us ++ r ∷ vs)) (owned-there us r vs)
 

@@ -24,7 +24,7 @@ use Rattle.qgm_terms.specs.Terms.{Term, int, col, both, count_all, fold, single,
 use Rattle.qgm_terms.specs.declared.tree.Op.TheVariants.{Div}
 use Rattle.qgm_meaning.specs.Values.{Bag}
 
-abbrev n : ℕ → Cell
+abbrev pub n : ℕ → Cell
 n k = Int (pos k)
 
 abbrev i : ℕ → Term
@@ -40,22 +40,22 @@ abbrev pub tables : List Table
 tables = record { name = codes "T"; bag = pairs } ∷ record { name = codes "N"; bag = [] } ∷ []
 
 -- box b of a kind, with its conditions, head and quantifiers
-abbrev box : ℕ → BoxKind → List Cond → List Term → List OwnedQuant → Node
+abbrev pub box : ℕ → BoxKind → List Cond → List Term → List OwnedQuant → Node
 box b k conds head quants = record { id = b; parts = record { kind = k; distinct = Preserve; role = Plain; conds = record { items = conds; spare = 0 }; head = head }; quants = quants }
 
 abbrev pub stored : List ℕ → BoxKind
 stored name = Base (record { name = name; types = Integer ∷ Integer ∷ []; keys = []; not_null = [] })
 
-abbrev f : ℕ → ℕ → OwnedQuant
+abbrev pub f : ℕ → ℕ → OwnedQuant
 f q b = record { id = q; kind = F; over = b }
 
-abbrev e : ℕ → ℕ → OwnedQuant
+abbrev pub e : ℕ → ℕ → OwnedQuant
 e q b = record { id = q; kind = E; over = b }
 
 abbrev s : ℕ → ℕ → OwnedQuant
 s q b = record { id = q; kind = S; over = b }
 
-abbrev t : ℕ → Node
+abbrev pub t : ℕ → Node
 t b = box b (stored (codes "T")) [] [] []
 
 abbrev empty : ℕ → Node
@@ -74,6 +74,8 @@ abbrev failing : SetOperator → Bag
 failing form = of (box 1 (SetOp form (Integer ∷ [])) [] [] (f 1 2 ∷ f 2 3 ∷ []) ∷ box 2 Select [] (col 3 1 ∷ []) (f 3 4 ∷ []) ∷ box 3 Select [] (both Div (i 1) (i 0) ∷ []) [] ∷ t 4 ∷ [])
 
 pub record Computed : Type 0 where
+  -- a base gives the rows of its table
+  pub bases : of (t 1 ∷ []) ≡ pairs
   -- SELECT the second column of the rows with 1
   pub selects : of (box 1 Select (compare equal (col 1 1) (i 1) ∷ []) (col 1 2 ∷ []) (f 1 2 ∷ []) ∷ t 2 ∷ []) ≡ row (n 5 ∷ []) Yes ∷ row (Null ∷ []) No ∷ row (n 7 ∷ []) Yes ∷ row (n 5 ∷ []) Yes ∷ []
   -- by the first column: COUNT(*), SUM(DISTINCT), MIN of the second
@@ -98,6 +100,8 @@ pub record Computed : Type 0 where
   pub joins_failing : of (box 1 OuterJoin (compare equal (both Div (i 1) (i 0)) (i 1) ∷ []) (col 2 1 ∷ []) (f 1 2 ∷ f 2 3 ∷ []) ∷ box 2 Select [] (i 5 ∷ []) [] ∷ box 3 Select [] (i 7 ∷ []) [] ∷ []) ≡ row (n 7 ∷ []) Division ∷ []
   -- a scalar of four rows, and of none
   pub scalars : of (box 1 Select [] (scalar 1 ∷ scalar 2 ∷ []) (s 1 2 ∷ s 2 3 ∷ []) ∷ t 2 ∷ empty 3 ∷ []) ≡ rows ((Err kind.Cardinality ∷ Null ∷ []) ∷ [])
+  -- of two equal rows: an error too
+  pub scalars_two : of (box 1 Select [] (scalar 1 ∷ []) (s 1 2 ∷ []) ∷ box 2 Select (compare equal (col 3 2) (i 5) ∷ []) (col 3 1 ∷ []) (f 3 3 ∷ []) ∷ t 3 ∷ []) ≡ rows ((Err kind.Cardinality ∷ []) ∷ [])
   -- a lateral quantifier: for each row of T its own second column
   pub lateral : of (box 1 Select [] (col 2 1 ∷ []) (f 1 3 ∷ f 2 2 ∷ []) ∷ box 2 Select [] (col 1 2 ∷ []) [] ∷ t 3 ∷ []) ≡ rows ((n 5 ∷ []) ∷ (Null ∷ []) ∷ (n 7 ∷ []) ∷ (n 5 ∷ []) ∷ [])
   -- EXISTS over a row at an error level
@@ -105,7 +109,7 @@ pub record Computed : Type 0 where
   -- beside a row that is there it isn't an error
   pub exists_beside : of (box 1 Select (some 1 always ∷ []) (i 9 ∷ []) (e 1 2 ∷ []) ∷ box 2 (SetOp UnionAll (Integer ∷ [])) [] [] (f 2 3 ∷ f 3 4 ∷ []) ∷ box 3 Select (compare equal (both Div (i 1) (i 0)) (i 1) ∷ []) (i 3 ∷ []) [] ∷ t 4 ∷ []) ≡ row (n 9 ∷ []) Yes ∷ []
 
-abbrev lateral_boxes : List Node
+abbrev pub lateral_boxes : List Node
 lateral_boxes = box 1 Select [] (col 2 1 ∷ []) (f 1 3 ∷ f 2 2 ∷ []) ∷ box 2 Select [] (col 1 2 ∷ []) [] ∷ t 3 ∷ []
 
 -- the lateral quantifier stands before the one that it looks up

@@ -65,6 +65,10 @@ abbrev pub Framed : Type 0
 Framed =
     (tables : List Table) (g : QueryGraph) (b : ℕ) (d e : Environment) → ((q : ℕ) → loose g.boxes b q ≡ true → row_of q d ≡ row_of q e) → bag tables g b d ≡ bag tables g b e
 
+-- a box in which nothing is looked up gives the same everywhere
+abbrev pub Closed : Type 0
+Closed = (tables : List Table) (g : QueryGraph) (b : ℕ) → ((q : ℕ) → loose g.boxes b q ≡ false) → (d e : Environment) → bag tables g b d ≡ bag tables g b e
+
 -- the order of bindings is nothing
 abbrev pub Looked : Type 0
 Looked = (tables : List Table) (g : QueryGraph) (b : ℕ) (d e : Environment) → ((q : ℕ) → row_of q d ≡ row_of q e) → bag tables g b d ≡ bag tables g b e

@@ -1,7 +1,8 @@
 -- What two rules stand on: the bags that a box gives before and after.
 use Rattle.std.specs.Prelude.{ℕ, suc, ◌≡◌, ◌≤◌, ◌++◌, ◌⊎◌, true, false, List, [], ◌∷◌, map, take, length, Some, None}
 use Rattle.std.specs.List.{list_any}
-use Rattle.row_bag.specs.Bags.{Agree, bind, keep, unit}
+pub use Rattle.bag_laws.specs.Filters.{passing}
+use Rattle.row_bag.specs.Bags.{Agree, unit}
 use Rattle.row_bag.specs.Errors.{error_among, error_in}
 use Rattle.row_bag.specs.Sets.{same_cells}
 use Rattle.row_bag.specs.declared.tables.Table.{Table}
@@ -49,10 +50,6 @@ Joins =
     → Agree same_cells
     (rows_by Select tables (selecting b p Enforce (xs ++ some i c ∷ ys) head (us ++ as_E i over ∷ vs)) s env)
     (rows_by Select tables (selecting b p Enforce (xs ++ c ∷ ys) head ((us ++ vs) ++ as_F i over ∷ [])) s env)
-
--- the rows that pass
-abbrev pub passing : (List Cell → Level) → Bag → Bag
-passing level rows = bind rows (λ cells. keep (level cells) (unit cells))
 
 -- P2: what passes by its key, without errors, may pass before the grouping
 abbrev pub Passes : Type 0

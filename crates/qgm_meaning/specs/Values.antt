@@ -1,5 +1,5 @@
 -- What expressions and conditions of boxes are, where quantifiers are bound to rows.
-use Rattle.std.specs.Prelude.{ℕ, ◌==◌, if◌then◌else◌, true, false, List, [], ◌∷◌, map}
+use Rattle.std.specs.Prelude.{ℕ, ◌==◌, if◌then◌else◌, true, List, [], ◌∷◌, map}
 use Rattle.shared_types.specs.declared.compare.CmpOp.TheVariants as op
 use Rattle.qgm_terms.specs.declared.tree.Op.{Op}
 use Rattle.qgm_terms.specs.declared.tree.Op.TheVariants.{Add, Sub, Mul, Div, Cat}

@@ -1,4 +1,4 @@
-use Rattle.qgm_check.proofs.Faults.{finds-fault, finds-none}
+use Rattle.qgm_check.proofs.Faults.{finds-fault, finds-none, well-ordered}
 use Rattle.qgm_check.proofs.laws.fault_laws.Goals as goal
 
 pub returns-clause-none : goal.returns-clause-none
@@ -6,3 +6,6 @@ returns-clause-none c = finds-none
 
 pub returns-clause-fault : goal.returns-clause-fault
 returns-clause-fault c = finds-fault
+
+pub returns-clause-ordered : goal.returns-clause-ordered
+returns-clause-ordered c = well-ordered

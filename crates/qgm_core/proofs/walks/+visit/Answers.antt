@@ -1,4 +1,4 @@
-use Rattle.std.proofs.Common.{◌≡◌, ◌<◌, ℕ, Some, false, length, position, sym, ◌∙◌}
+use Rattle.std.proofs.Common.{◌≡◌, ◌<◌, Some, false, length, position, sym, ◌∙◌}
 use Rattle.qgm_core.specs.Boxes.{is_box}
 use Rattle.qgm_core.specs.Lists.{holds}
 use Rattle.qgm_core.proofs.First.{is_first}

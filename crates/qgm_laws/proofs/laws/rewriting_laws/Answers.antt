@@ -3,6 +3,9 @@ use Rattle.qgm_laws.proofs.Checked.{settled-from, to-checked, used-from}
 use Rattle.qgm_laws.proofs.Compact.{compact-bag}
 use Rattle.qgm_laws.proofs.Examples.{dropped-example}
 use Rattle.qgm_laws.proofs.Rules.{compact-keeps, drop-keeps, keeps-chained, merge-keeps}
+use Rattle.qgm_laws.proofs.Asked.{pushed-example, singled-example}
+use Rattle.qgm_laws.proofs.PushRule.{push-keeps}
+use Rattle.qgm_laws.proofs.SingleRule.{single-keeps}
 use Rattle.qgm_laws.proofs.Above.{binds-above}
 use Rattle.qgm_laws.proofs.laws.rewriting_laws.Goals as goal
 
@@ -32,3 +35,18 @@ returns-clause-same c = refl
 
 pub returns-clause-dropped : goal.returns-clause-dropped
 returns-clause-dropped c = dropped-example
+
+pub returns-clause-single : goal.returns-clause-single
+returns-clause-single c = single-keeps
+
+pub returns-clause-differs : goal.returns-clause-differs
+returns-clause-differs c = record { scalar = refl; single = refl }
+
+pub returns-clause-push : goal.returns-clause-push
+returns-clause-push c = push-keeps
+
+pub returns-clause-pushed : goal.returns-clause-pushed
+returns-clause-pushed c = pushed-example
+
+pub returns-clause-singled : goal.returns-clause-singled
+returns-clause-singled c = singled-example

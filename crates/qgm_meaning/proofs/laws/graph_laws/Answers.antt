@@ -6,7 +6,8 @@ use Rattle.qgm_meaning.proofs.Frames.{bag-framed}
 use Rattle.qgm_meaning.proofs.Puts.{bag-put, inlined-first, truth-put, value-put}
 use Rattle.qgm_meaning.specs.Meaning.{nothing}
 use Rattle.qgm_meaning.proofs.Within.{loose-unfold}
-use Rattle.std.proofs.Common.{ℕ, Bool, ap}
+use Rattle.qgm_meaning.specs.Scope.{loose}
+use Rattle.std.proofs.Common.{ℕ, ◌≡◌, Bool, false, ap}
 use Rattle.qgm_meaning.proofs.Replacing.{replaced}
 use Rattle.qgm_meaning.proofs.Unfold.{only, unfold-bag}
 use Rattle.qgm_meaning.proofs.laws.graph_laws.Goals as goal
@@ -22,6 +23,9 @@ returns-clause-only_agree c = λ tables g f passes o s b h env p. agree-from_ali
 
 pub returns-clause-framed : goal.returns-clause-framed
 returns-clause-framed c = λ tables g b d e h. bag-framed tables g.boxes b d e (record { rows = h })
+
+pub returns-clause-closed : goal.returns-clause-closed
+returns-clause-closed c = λ tables g b h d e. bag-framed tables g.boxes b d e (record { rows = λ q t. absurd (let f : loose g.boxes b q ≡ false = h q in let z : ⊥ = cc in z) })
 
 pub returns-clause-looked : goal.returns-clause-looked
 returns-clause-looked c = λ tables g b d e h. bag-framed tables g.boxes b d e (record { rows = λ q t. h q })

@@ -1,9 +1,11 @@
-use Rattle.std.proofs.Common.{◌≡◌, ◌+◌, List, refl, sym, subst, insert, ap, map}
-use Rattle.qgm_core.specs.Boxes.{QueryGraph, HasBox}
+use Rattle.std.proofs.Common.{◌≡◌, ◌+◌, List, refl, sym, subst, insert, ap, map, rules}
+use Rattle.qgm_core.specs.Boxes.{QueryGraph, HasBox, bare_box}
 use Rattle.qgm_core.specs.Numbered.{Numbered}
 use Rattle.qgm_core.specs.declared.node.Node.{Node}
 use Rattle.qgm_core.specs.declared.owned.OwnedQuant.{OwnedQuant}
 use Rattle.qgm_core.proofs.Fresh.{no_box, numbered-insert}
+use Rattle.qgm_core.specs.Held.{HasAll}
+use Rattle.qgm_core.proofs.Held.{all-more}
 use Rattle.qgm_core.proofs.graph.Graph.add_box.Goals as goal
 
 pub invariant_of-self-2 : goal.invariant_of-self-2
@@ -19,3 +21,11 @@ returns-clause-fresh c = λ h.
     let e = no_box c.self.inside.next_box c.self.inside.nodes.items c.self.invariant.0 in
     let k = subst (λ (g : QueryGraph). HasBox c.self.inside.next_box g) (sym c.self.view_is) h in
     absurd (let q : ⊥ = cc in q)
+
+pub returns-clause-ok : goal.returns-clause-ok
+returns-clause-ok c = search rules
+
+pub returns-clause-kept : goal.returns-clause-kept
+returns-clause-kept c =
+    let g = c.args.self.now in
+    subst (λ (h : QueryGraph). HasAll g h) (sym (returns-clause-ok c)) (all-more c.args.below (bare_box c.self.inside.next_box c.args.parts) g.boxes)

@@ -1,10 +1,12 @@
-use Rattle.std.proofs.Common.{List, ◌-◌, ◌+◌, ap, ◌∙◌, refl, sym, subst}
+use Rattle.std.proofs.Common.{List, ◌-◌, ◌+◌, ap, ◌∙◌, refl, sym, subst, rules}
 use Rattle.qgm_core.specs.Boxes.{QueryGraph, HasQuant, is_box}
 use Rattle.qgm_core.specs.Edits.{put_range, range}
 use Rattle.qgm_core.specs.Numbered.{Numbered}
 use Rattle.qgm_core.specs.declared.node.Node.{Node}
 use Rattle.qgm_core.specs.declared.owned.OwnedQuant.{OwnedQuant}
 use Rattle.qgm_core.proofs.Fresh.{no_quant, numbered-quant}
+use Rattle.qgm_core.specs.Held.{HasAll}
+use Rattle.qgm_core.proofs.Held.{all-range, range-held}
 use Rattle.qgm_core.proofs.graph.Graph.add_quant.Goals as goal
 
 pub invariant_of-self-2 : goal.invariant_of-self-2
@@ -25,3 +27,16 @@ returns-clause-fresh c = λ h.
     let e = no_quant c.self.inside.next_quant c.self.inside.nodes.items c.self.invariant.2 in
     let k = subst (λ (g : QueryGraph). HasQuant c.self.inside.next_quant g) (sym c.self.view_is) h in
     absurd (let q : ⊥ = cc in q)
+
+pub returns-clause-ok : goal.returns-clause-ok
+returns-clause-ok c = search rules
+
+pub returns-clause-kept : goal.returns-clause-kept
+returns-clause-kept c =
+    let g = c.args.self.now in
+    subst (λ (h : QueryGraph). HasAll g h) (sym (returns-clause-ok c)) (all-range (is_box c.args.owner) (c.args.place - 1) (range c.self.inside.next_quant c.args.kind c.args.over) g.boxes)
+
+pub returns-clause-held : goal.returns-clause-held
+returns-clause-held c =
+    let q = c.self.inside.next_quant in
+    subst (λ (h : QueryGraph). HasQuant q h) (sym (returns-clause-ok c)) (range-held c.args.owner (c.args.place - 1) (range q c.args.kind c.args.over) c.args.self.now.boxes c.requires.owner)

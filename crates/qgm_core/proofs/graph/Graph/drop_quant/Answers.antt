@@ -1,10 +1,11 @@
-use Rattle.std.proofs.Common.{List, ap, ◌∙◌, sym, subst}
-use Rattle.qgm_core.specs.Boxes.{owns}
+use Rattle.std.proofs.Common.{List, ap, ◌∙◌, sym, subst, rules}
+use Rattle.qgm_core.specs.Boxes.{owns, QueryGraph, HasBox, HasQuant}
 use Rattle.qgm_core.specs.Edits.{without_quant}
 use Rattle.qgm_core.specs.Numbered.{Numbered}
 use Rattle.qgm_core.specs.declared.node.Node.{Node}
 use Rattle.qgm_core.specs.declared.owned.OwnedQuant.{OwnedQuant}
 use Rattle.qgm_core.proofs.Fresh.{numbered-without}
+use Rattle.qgm_core.proofs.Held.{boxes-without, quants-without}
 use Rattle.qgm_core.proofs.graph.Graph.drop_quant.Goals as goal
 
 pub invariant_of-self : goal.invariant_of-self
@@ -17,3 +18,12 @@ invariant_of-self c =
     subst (Numbered b q)
     (sym (at.3 f _ n (ap {B = Node} (λ (rs : List OwnedQuant). record n { quants = rs }) c.remove.ensures ∙ ap f c.index_mut.ensures.value)))
     (numbered-without (owns c.args.q) c.args.q b q c.self.inside.nodes.items c.self.invariant)
+
+pub returns-clause-graph : goal.returns-clause-graph
+returns-clause-graph c = search rules
+
+pub returns-clause-boxes : goal.returns-clause-boxes
+returns-clause-boxes c = λ b h. subst (λ (g : QueryGraph). HasBox b g) (sym (returns-clause-graph c)) (boxes-without c.args.q b c.args.self.now.boxes h)
+
+pub returns-clause-others : goal.returns-clause-others
+returns-clause-others c = λ r n h. subst (λ (g : QueryGraph). HasQuant r g) (sym (returns-clause-graph c)) (quants-without c.args.q r c.args.self.now.boxes n h)

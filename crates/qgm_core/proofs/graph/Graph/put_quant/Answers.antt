@@ -1,8 +1,10 @@
-use Rattle.std.proofs.Common.{List, map, ap, ◌∙◌, refl}
-use Rattle.qgm_core.specs.Boxes.{ids_of}
+use Rattle.std.proofs.Common.{List, map, ap, ◌∙◌, refl, rules, subst, sym}
+use Rattle.qgm_core.specs.Boxes.{ids_of, QueryGraph, owns}
 use Rattle.qgm_core.specs.declared.node.Node.{Node}
 use Rattle.qgm_core.specs.declared.owned.OwnedQuant.{OwnedQuant}
 use Rattle.qgm_core.proofs.Fresh.{numbered-set, ids-on_quant}
+use Rattle.qgm_core.specs.Held.{HasAll}
+use Rattle.qgm_core.proofs.Held.{all-quant}
 use Rattle.qgm_core.proofs.graph.Graph.put_quant.Goals as goal
 
 pub invariant_of-self : goal.invariant_of-self
@@ -12,3 +14,11 @@ invariant_of-self c =
     let e = c.index_mut.ensures.value in
     numbered-set c.self.inside.next_box c.self.inside.next_quant c.self.inside.nodes.items c.owner_place-k.result _ n at.0 (ap (λ (n : Node). n.id) e)
     (ap (λ (rs : List OwnedQuant). map (λ r. r.id) rs) c.put_kind.ensures ∙ ids-on_quant c.args.q (λ (r : OwnedQuant). record r { kind = c.args.kind }) n (λ r. refl) ∙ ap ids_of e) c.self.invariant
+
+pub returns-clause-graph : goal.returns-clause-graph
+returns-clause-graph c = search rules
+
+pub returns-clause-kept : goal.returns-clause-kept
+returns-clause-kept c =
+    let g = c.args.self.now in
+    subst (λ (h : QueryGraph). HasAll g h) (sym (returns-clause-graph c)) (all-quant (owns c.args.q) c.args.q (λ (r : OwnedQuant). record r { kind = c.args.kind }) g.boxes (λ r. refl))

@@ -1,0 +1,11 @@
+pub mod Deciding
+pub mod Filtering
+pub mod Images
+pub mod Keying
+pub mod Leading
+pub mod LeadingWhole
+pub mod OneRow
+pub mod Setting
+pub mod Some
+pub mod Standing
+pub mod Tagging

@@ -1,0 +1,32 @@
+use Rattle.std.proofs.Common.{List, ap, sym, subst, rules, refl, ◌-◌}
+use Rattle.qgm_core.specs.Boxes.{ids_of, QueryGraph, is_box}
+use Rattle.qgm_core.specs.Edits.{quants_over, shifted_over, without_cell}
+use Rattle.qgm_core.specs.Numbered.{Numbered}
+use Rattle.qgm_core.specs.declared.node.Node.{Node}
+use Rattle.qgm_core.proofs.Fresh.{numbered-set}
+use Rattle.qgm_core.proofs.Shifts.{numbered-shifted}
+use Rattle.qgm_core.specs.Held.{HasAll}
+use Rattle.qgm_core.specs.Lists.{change}
+use Rattle.qgm_core.proofs.Held.{all-parts, all-shifted, all-then}
+use Rattle.qgm_core.proofs.graph.Graph.drop_column.Goals as goal
+
+pub invariant_of-self : goal.invariant_of-self
+invariant_of-self c =
+    let at = rw c.deref.ensures.value at c.box_place-i.ensures.first in
+    let e = c.index_mut.ensures.value in
+    let a = c.self.inside.next_box in
+    let b = c.self.inside.next_quant in
+    let ns : List Node = _ in
+    subst (Numbered a b) (sym c.shift_over.ensures)
+    (numbered-shifted c.args.k a b (quants_over c.args.b ns) ns
+    (numbered-set a b c.self.inside.nodes.items c.box_place-i.result _ c.index_mut.result.now at.0 (ap (λ (n : Node). n.id) e) (ap ids_of e) c.self.invariant))
+
+pub returns-clause-graph : goal.returns-clause-graph
+returns-clause-graph c = search rules
+
+pub returns-clause-kept : goal.returns-clause-kept
+returns-clause-kept c =
+    let g = c.args.self.now in
+    let ns = change (is_box c.args.b) (without_cell (c.args.k - 1)) g.boxes in
+    subst (λ (h : QueryGraph). HasAll g h) (sym (returns-clause-graph c))
+    (all-then g.boxes ns (shifted_over c.args.b c.args.k ns) (all-parts (is_box c.args.b) (without_cell (c.args.k - 1)) g.boxes (λ n. refl) (λ n. refl)) (all-shifted c.args.k (quants_over c.args.b ns) ns))

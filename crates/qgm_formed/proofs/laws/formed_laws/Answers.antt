@@ -1,0 +1,25 @@
+use Rattle.qgm_formed.proofs.laws.formed_laws.Goals as goal
+use Rattle.qgm_formed.proofs.Agreed.{types-found}
+use Rattle.qgm_formed.proofs.LikeGraphs.{same-but-numbers}
+use Rattle.qgm_formed.proofs.Formed.{well-formed}
+use Rattle.qgm_formed.proofs.Passes.{root-reaches}
+use Rattle.qgm_formed.proofs.Sampled.{sampled}
+use Rattle.qgm_formed.proofs.Telling.{told-by}
+
+pub returns-clause-types : goal.returns-clause-types
+returns-clause-types c = λ kinds sources query types names order g b. types-found kinds sources query types names order g b
+
+pub returns-clause-formed : goal.returns-clause-formed
+returns-clause-formed c = λ kinds sources query types names order g b. well-formed kinds sources query types names order g b
+
+pub returns-clause-sampled : goal.returns-clause-sampled
+returns-clause-sampled c = sampled
+
+pub returns-clause-told : goal.returns-clause-told
+returns-clause-told c = λ at sources boxes back tells steps x t h. told-by at boxes back sources tells steps x t h
+
+pub returns-clause-reaches : goal.returns-clause-reaches
+returns-clause-reaches c = λ sources query names order g b ordered n i. root-reaches g.boxes g.root ordered b.used n i
+
+pub returns-clause-alike : goal.returns-clause-alike
+returns-clause-alike c = λ sources shared typed query names order g h first second one two told. same-but-numbers sources shared typed query names order g h first second one two told

@@ -1,0 +1,5 @@
+pub mod Typed
+pub mod Law
+pub mod Alike
+pub mod Told
+pub mod Sample
