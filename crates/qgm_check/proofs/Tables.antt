@@ -12,7 +12,7 @@ use Rattle.qgm_core.specs.declared.node.Node.{Node}
 use Rattle.qgm_core.specs.declared.owned.OwnedQuant.{OwnedQuant}
 use Rattle.qgm_check.specs.Columns.{box_under, over_box}
 use Rattle.qgm_check.specs.Places.{ArePlaces, place_in, place_or, rank_in}
-use Rattle.qgm_check.specs.Types.{Lookup, column_type, is_typed, row_at, same_columns, same_tables, same_type, same_typed, type_at, type_found, type_in, typed, typed_by, types_after, types_agree, types_agree_at, types_of}
+use Rattle.qgm_check.specs.Types.{Lookup, column_type, is_typed, lookup_of, row_at, same_columns, same_tables, same_type, same_typed, type_at, type_found, type_in, typed, typed_by, types_after, types_agree, types_agree_at, types_of}
 use Rattle.qgm_check.specs.declared.types.Typed.{Typed}
 
 -- ---- tables that are the same
@@ -146,6 +146,10 @@ module _ {S : Type 0} (bs : List Node) (places : HashMap ℕ ℕ S) (h : ArePlac
       let z : (length bs - m) + m ≡ length bs = omega arith in
       let n : types_after ((length bs - m) + m) bs ≡ types_of bs = ap (λ (i : ℕ). types_after i bs) z in
       sym same ∙ e ∙ sym all ∙ n
+
+  -- a column has the same type by places as by numbers
+  pub lookup-is : (table : List Typed) → table ≡ types_of bs → type_at table places ≡ lookup_of bs
+  lookup-is table e = ap (λ (t : List Typed). type_at t places) e ∙ at-is (length bs)
 
   -- types disagree by places where they do by numbers
   pub agree-is : (table : List Typed) → table ≡ types_of bs → (n : Node) → types_agree_at (type_at table places) table n ≡ types_agree bs n

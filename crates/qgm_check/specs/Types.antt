@@ -220,6 +220,14 @@ module _ {S : Type 0} where
 abbrev pub Knows : List Node → KnownTypes → Type 0
 Knows boxes known = (known.table.items ≡ types_of boxes) × ArePlaces boxes known.places
 
+-- the type of a column, as it is known
+abbrev pub lookup_by : KnownTypes → Lookup
+lookup_by known = type_at known.table.items known.places
+
+-- the type of a column of boxes
+abbrev pub lookup_of : List Node → Lookup
+lookup_of boxes = column_type boxes (types_of boxes)
+
 -- ---- tables that are the same
 
 abbrev pub same_type : Option SqlType → Option SqlType → Bool

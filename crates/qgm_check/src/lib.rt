@@ -13,4 +13,6 @@ mod types;
 mod view;
 
 pub use check::{Clause, Fault, IllFormed, check_graph};
+pub use closed::is_closed;
 pub use laws::{compact_laws, fault_laws, view_laws};
+pub use types::{KnownTypes, cell_type, column_types};

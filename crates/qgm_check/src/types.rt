@@ -403,6 +403,21 @@ pub fn known_of(alloc: Global, nodes: &[Node]) -> Result<KnownTypes, OutOfMemory
     Ok(KnownTypes { table, places })
 }
 
+/// The types of the columns of boxes.
+pub fn column_types(alloc: Global, nodes: &[Node]) -> Result<KnownTypes, OutOfMemory>
+    ensures { IfOk result (λ known. spec.lookup_by known ≡ spec.lookup_of nodes.now) }
+{
+    let known = known_of(alloc, nodes)?;
+    Ok(known)
+}
+
+/// The type of an expression, none where types disagree.
+pub fn cell_type(known: &KnownTypes, x: &Gx) -> Option<SqlType>
+    ensures { result ≡ spec.term_type (spec.lookup_by known.now) (term x.now) }
+{
+    type_of(&known.table, &known.places, x)
+}
+
 // Whether each expression of a head has a type.
 fn head_fits(table: &[Typed], places: &Places, list: &[Gx]) -> bool
     ensures { result ≡ list_all (λ x. spec.is_known (spec.term_type (spec.type_at table.now places.now) x)) (terms list.now) }

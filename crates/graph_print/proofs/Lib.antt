@@ -1,0 +1,3 @@
+mod Nests
+mod Placed
+mod Steps

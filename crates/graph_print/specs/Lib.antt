@@ -1,0 +1,5 @@
+pub mod Places
+pub mod TermText
+pub mod GraphText
+pub mod Indexed
+pub mod Examples

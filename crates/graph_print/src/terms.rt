@@ -1,0 +1,264 @@
+// Expressions and conditions, added to a text.
+ghost use Rattle.std.specs.Prelude.{◌≡◌, ◌++◌, codes, decimal, length, OnOk};
+ghost use Rattle.graph_print.specs.Places.{place_in};
+ghost use Rattle.graph_print.specs.TermText as spec;
+ghost use Rattle.qgm_terms.specs.Shown.{choice, choices, cond, conds, links, term};
+ghost use Rattle.qgm_terms.specs.Terms as t;
+
+use crate::numbers::Places;
+use crate::writing::{put_doubled, put_integer, put_number, put_word};
+use qgm_terms::{Arm, Gc, Gx, Link, Op, QuantId};
+use shared_types::{OutOfMemory, Text};
+
+fn put_int(n: i64, out: &mut Text) -> Result<(), OutOfMemory>
+    ensures { OnOk result (out.new ≡ out.old ++ spec.term_text (λ q. q) (t.int n)) }
+{
+    put_word(b"(int ", out)?;
+    put_integer(n, out)?;
+    put_word(b")", out)
+}
+
+fn put_text(text: &Text, out: &mut Text) -> Result<(), OutOfMemory>
+    ensures { OnOk result (out.new ≡ out.old ++ spec.term_text (λ q. q) (t.text text.now)) }
+{
+    put_word(b"(text '", out)?;
+    put_doubled('\'', text, out)?;
+    put_word(b"')", out)
+}
+
+fn put_column(at: &Places, q: QuantId, k: usize, out: &mut Text) -> Result<(), OutOfMemory>
+    ensures { OnOk result (out.new ≡ out.old ++ spec.term_text (place_in at.now) (t.col q k)) }
+{
+    put_word(b"(col ", out)?;
+    put_number(at.place_of(q), out)?;
+    put_word(b" ", out)?;
+    put_number(k, out)?;
+    put_word(b")", out)
+}
+
+fn put_scalar(at: &Places, q: QuantId, out: &mut Text) -> Result<(), OutOfMemory>
+    ensures { OnOk result (out.new ≡ out.old ++ spec.term_text (place_in at.now) (t.scalar q)) }
+{
+    put_word(b"(scalar ", out)?;
+    put_number(at.place_of(q), out)?;
+    put_word(b")", out)
+}
+
+// A word, and then the number of a quantifier.
+fn put_node(word: &[u8], at: &Places, q: QuantId, out: &mut Text) -> Result<(), OutOfMemory>
+    ensures { OnOk result (out.new ≡ out.old ++ (word.now ++ decimal (place_in at.now q))) }
+{
+    put_word(word, out)?;
+    put_number(at.place_of(q), out)
+}
+
+fn put_op(op: Op, out: &mut Text) -> Result<(), OutOfMemory>
+    ensures { OnOk result (out.new ≡ out.old ++ spec.open_op op) }
+{
+    match op {
+        Op::Add => put_word(b"(add ", out),
+        Op::Sub => put_word(b"(sub ", out),
+        Op::Mul => put_word(b"(mul ", out),
+        Op::Div => put_word(b"(div ", out),
+        Op::Cat => put_word(b"(cat ", out),
+    }
+}
+
+// What opens the left nest of a chain, from the outermost in.
+fn put_open_links(list: &[Link], out: &mut Text) -> Result<(), OutOfMemory>
+    ensures { OnOk result (out.new ≡ out.old ++ spec.open_links (links list.now)) }
+{
+    let mut i = list.len();
+    while i > 0 {
+        i -= 1;
+        put_op(list[i].op, out)?;
+    }
+    Ok(())
+}
+
+// A word so often.
+fn put_repeated(word: &[u8], n: usize, out: &mut Text) -> Result<(), OutOfMemory>
+    ensures { OnOk result (out.new ≡ out.old ++ spec.repeated word.now n) }
+{
+    for _again in 0..n {
+        put_word(word, out)?;
+    }
+    Ok(())
+}
+
+/// Adds an expression, whose quantifiers have their places as numbers.
+#[cycle(terms)]
+pub fn put_term(at: &Places, x: &Gx, out: &mut Text) -> Result<(), OutOfMemory>
+    ensures { OnOk result (out.new ≡ out.old ++ spec.term_text (place_in at.now) (term x.now)) }
+{
+    match x {
+        Gx::Int(n) => put_int(*n, out),
+        Gx::Text(text) => put_text(text, out),
+        Gx::NullInt => put_word(b"(null int)", out),
+        Gx::NullText => put_word(b"(null text)", out),
+        Gx::CountAll => put_word(b"(count-all)", out),
+        Gx::Col(q, k) => put_column(at, *q, *k, out),
+        Gx::Scalar(q) => put_scalar(at, *q, out),
+        Gx::Chain(a, list) => {
+            put_open_links(list, out)?;
+            put_term(at, a, out)?;
+            put_links(at, list, out)
+        }
+        Gx::Case(list, a) => {
+            put_word(b"(case ", out)?;
+            put_arms(at, list, out)?;
+            put_one(b"else ", at, a, out)
+        }
+        Gx::Neg(a) => put_one(b"(neg ", at, a, out),
+        Gx::Single(a) => put_one(b"(single ", at, a, out),
+        Gx::Count(a) => put_one(b"(count ", at, a, out),
+        Gx::Sum(a) => put_one(b"(sum ", at, a, out),
+        Gx::Avg(a) => put_one(b"(avg ", at, a, out),
+        Gx::Min(a) => put_one(b"(min ", at, a, out),
+        Gx::Max(a) => put_one(b"(max ", at, a, out),
+        Gx::CountDistinct(a) => put_one(b"(count-distinct ", at, a, out),
+        Gx::SumDistinct(a) => put_one(b"(sum-distinct ", at, a, out),
+        Gx::AvgDistinct(a) => put_one(b"(avg-distinct ", at, a, out),
+        Gx::MinDistinct(a) => put_one(b"(min-distinct ", at, a, out),
+        Gx::MaxDistinct(a) => put_one(b"(max-distinct ", at, a, out),
+    }
+}
+
+// A word, an expression, and a closing bracket.
+#[cycle(terms)]
+#[inline(never)]
+fn put_one(word: &[u8], at: &Places, x: &Gx, out: &mut Text) -> Result<(), OutOfMemory>
+    ensures { OnOk result (out.new ≡ out.old ++ (word.now ++ spec.term_text (place_in at.now) (term x.now) ++ codes ")")) }
+{
+    put_word(word, out)?;
+    put_term(at, x, out)?;
+    put_word(b")", out)
+}
+
+// A word and an expression.
+#[cycle(terms)]
+#[inline(never)]
+fn put_first(word: &[u8], at: &Places, x: &Gx, out: &mut Text) -> Result<(), OutOfMemory>
+    ensures { OnOk result (out.new ≡ out.old ++ (word.now ++ spec.term_text (place_in at.now) (term x.now))) }
+{
+    put_word(word, out)?;
+    put_term(at, x, out)
+}
+
+// The operands behind a first one, each with what closes its operator.
+#[cycle(terms)]
+fn put_links(at: &Places, list: &[Link], out: &mut Text) -> Result<(), OutOfMemory>
+    ensures { OnOk result (out.new ≡ out.old ++ spec.links_text (place_in at.now) (links list.now)) }
+{
+    for link in list {
+        put_one(b" ", at, &link.right, out)?;
+    }
+    Ok(())
+}
+
+// An arm of a CASE.
+#[cycle(terms)]
+#[inline(never)]
+fn put_arm(at: &Places, arm: &Arm, out: &mut Text) -> Result<(), OutOfMemory>
+    ensures { OnOk result (out.new ≡ out.old ++ spec.choice_text (place_in at.now) (choice arm.now)) }
+{
+    put_cond(at, &arm.when, out)?;
+    put_word(b" ", out)?;
+    put_term(at, &arm.then, out)?;
+    put_word(b" ", out)
+}
+
+// The arms of a CASE.
+#[cycle(terms)]
+fn put_arms(at: &Places, list: &[Arm], out: &mut Text) -> Result<(), OutOfMemory>
+    ensures { OnOk result (out.new ≡ out.old ++ spec.choices_text (place_in at.now) (choices list.now)) }
+{
+    for arm in list {
+        put_arm(at, arm, out)?;
+    }
+    Ok(())
+}
+
+/// Adds a condition, whose quantifiers have their places as numbers.
+#[cycle(terms)]
+pub fn put_cond(at: &Places, c: &Gc, out: &mut Text) -> Result<(), OutOfMemory>
+    ensures { OnOk result (out.new ≡ out.old ++ spec.cond_text (place_in at.now) (cond c.now)) }
+{
+    match c {
+        Gc::True => put_word(b"(true)", out),
+        Gc::Eq(a, b) => {
+            put_first(b"(eq ", at, a, out)?;
+            put_one(b" ", at, b, out)
+        }
+        Gc::Ne(a, b) => {
+            put_first(b"(ne ", at, a, out)?;
+            put_one(b" ", at, b, out)
+        }
+        Gc::Lt(a, b) => {
+            put_first(b"(lt ", at, a, out)?;
+            put_one(b" ", at, b, out)
+        }
+        Gc::Le(a, b) => {
+            put_first(b"(le ", at, a, out)?;
+            put_one(b" ", at, b, out)
+        }
+        Gc::Gt(a, b) => {
+            put_first(b"(gt ", at, a, out)?;
+            put_one(b" ", at, b, out)
+        }
+        Gc::Ge(a, b) => {
+            put_first(b"(ge ", at, a, out)?;
+            put_one(b" ", at, b, out)
+        }
+        Gc::Same(a, b) => {
+            put_first(b"(same ", at, a, out)?;
+            put_one(b" ", at, b, out)
+        }
+        Gc::Like(a, b) => {
+            put_first(b"(like ", at, a, out)?;
+            put_one(b" ", at, b, out)
+        }
+        Gc::IsNull(a) => put_one(b"(isnull ", at, a, out),
+        Gc::All(a, list) => {
+            put_repeated(b"(and ", list.len(), out)?;
+            put_cond(at, a, out)?;
+            put_conds(at, list, out)
+        }
+        Gc::Any(a, list) => {
+            put_repeated(b"(or ", list.len(), out)?;
+            put_cond(at, a, out)?;
+            put_conds(at, list, out)
+        }
+        Gc::Not(a) => put_next(b"(not ", at, a, out),
+        Gc::Some(q, a) => {
+            put_node(b"(some ", at, *q, out)?;
+            put_next(b" ", at, a, out)
+        }
+        Gc::Every(q, a) => {
+            put_node(b"(every ", at, *q, out)?;
+            put_next(b" ", at, a, out)
+        }
+    }
+}
+
+// A word, a condition, and a closing bracket.
+#[cycle(terms)]
+#[inline(never)]
+fn put_next(word: &[u8], at: &Places, c: &Gc, out: &mut Text) -> Result<(), OutOfMemory>
+    ensures { OnOk result (out.new ≡ out.old ++ (word.now ++ spec.cond_text (place_in at.now) (cond c.now) ++ codes ")")) }
+{
+    put_word(word, out)?;
+    put_cond(at, c, out)?;
+    put_word(b")", out)
+}
+
+// The conditions behind a first one, each with what closes its AND or OR.
+#[cycle(terms)]
+fn put_conds(at: &Places, list: &[Gc], out: &mut Text) -> Result<(), OutOfMemory>
+    ensures { OnOk result (out.new ≡ out.old ++ spec.conds_text (place_in at.now) (conds list.now)) }
+{
+    for c in list {
+        put_next(b" ", at, c, out)?;
+    }
+    Ok(())
+}
