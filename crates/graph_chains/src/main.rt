@@ -9,6 +9,7 @@ use qgm_core::{
     BaseTable, BoxId, BoxKind, BoxParts, Conds, Distinct, Graph, Gx, Head, QuantId, QuantKind,
     Role, Walk,
 };
+use qgm_props::props;
 use shared_types::{OutOfMemory, Text};
 use sql_value::SqlType;
 use sqlite_items::Items;
@@ -29,13 +30,15 @@ fn parts(kind: BoxKind, conds: Conds, head: Head) -> BoxParts {
     }
 }
 
-// A base of one column.
+// A base of one column, which is its key.
 fn base(alloc: Global) -> Result<BoxParts, OutOfMemory> {
+    let mut keys = Items::new(alloc);
+    keys.push(Items::from_slice(alloc, &[1])?)?;
     let table = BaseTable {
         name: Text::from_utf8(alloc, "T")?,
         types: Items::from_slice(alloc, &[SqlType::Integer])?,
-        keys: Items::new(alloc),
-        not_null: Items::new(alloc),
+        keys,
+        not_null: Items::from_slice(alloc, &[1])?,
     };
     Ok(parts(BoxKind::Base(table), Conds::new(alloc), Head::new(alloc)))
 }
@@ -98,11 +101,32 @@ fn chain_answers(alloc: Global) -> Result<[bool; 4], OutOfMemory> {
     ])
 }
 
+// Whether of the root of a chain of half as many boxes it is inferred that it is clean, that its column holds no error
+// and no null, and that this column is a key.
+fn fact_answers(alloc: Global) -> Result<[bool; 4], OutOfMemory> {
+    let graph = chain(alloc, BOXES / 2 - 1)?;
+    let facts = props(alloc, &graph)?;
+    let b = graph.root();
+    Ok([
+        facts.clean(b),
+        facts.error_free(b, 1),
+        facts.not_null(b, 1),
+        facts.holds_key(alloc, &graph, b, &[1])?,
+    ])
+}
+
+// What is answered, line by line.
+fn answers(alloc: Global) -> Result<[[bool; 4]; 2], OutOfMemory> {
+    Ok([chain_answers(alloc)?, fact_answers(alloc)?])
+}
+
 fn main(rt: HostRuntime) -> io::Result<()> {
-    match chain_answers(rt.alloc()) {
+    match answers(rt.alloc()) {
         Ok(list) => {
-            for right in list {
-                println!(rt; "{right}")?;
+            for part in list {
+                for right in part {
+                    println!(rt; "{right}")?;
+                }
             }
             Ok(())
         }
