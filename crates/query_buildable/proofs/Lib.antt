@@ -5,3 +5,15 @@ mod Keys
 mod Operators
 mod Fit
 mod Schemas
+mod Runs
+mod Stated
+mod Lookups
+mod Cells
+mod Spans
+mod Full
+mod Chains
+mod Sights
+mod Typing
+mod Nesting
+mod TypingSchemas
+mod Sampled

@@ -25,7 +25,7 @@ columns_bare None = refl
 columns_bare (Some table) = refl
 
 -- the columns that the checks know are those by which names are resolved
-schema_same : (catalog : Declared) → SameColumns (heads_of catalog) (bare (schema_columns catalog))
+pub schema_same : (catalog : Declared) → SameColumns (heads_of catalog) (bare (schema_columns catalog))
 schema_same catalog name =
     same_columns catalog [] name ∙ sym (columns_bare (known_of catalog [] name))
     ∙ ap (λ (names : Option (List (Option (List ℕ)))). columns_of (without_rows names)) (sym (columns_known catalog [] 16 name))

@@ -1,0 +1,28 @@
+-- The sample computes, and has types by the law.
+use Rattle.std.proofs.Common.{◌≡◌, true, false, refl}
+use Rattle.sql_ast.specs.declared.schema.TableDecl.{TableDecl}
+use Rattle.sql_ast.specs.Declarations.{columns_of}
+use Rattle.sql_ast.specs.Grammatical.{is_query}
+use Rattle.sql_ast.specs.Syntax as s
+use Rattle.query_checks.proofs.Members.{all_of_each}
+use Rattle.query_checks.specs.Scopes.{is_empty}
+use Rattle.query_buildable.proofs.TypingSchemas.{text_has_types}
+use Rattle.query_buildable.specs.Sample.{Sampled, catalog, text}
+use Rattle.query_buildable.specs.Typing.{ValidSchema}
+
+schema_valid : ValidSchema catalog
+schema_valid = record {
+  shallow = refl;
+  views = refl;
+  queries = all_of_each (λ (view : s.ViewDecl). is_query view.query ≡ true) catalog.views (refl, tt);
+  tables = all_of_each (λ (table : TableDecl). is_empty (columns_of table.elements) ≡ false) catalog.tables (refl, tt);
+}
+
+pub sampled : Sampled
+sampled = record {
+  schema = schema_valid;
+  valid = refl;
+  view = refl;
+  types = refl;
+  gives = text_has_types catalog schema_valid text refl refl;
+}
