@@ -30,21 +30,11 @@ use Rattle.qgm_shown.specs.Sources.{Sources, from_width, froms_width, width}
 use Rattle.qgm_shown.specs.Terms as l
 use Rattle.qgm_formed.specs.Typed as typed
 use Rattle.qgm_formed.specs.Typed.{FoldsTo, Found, FromIs, FromsAre, Gives, IsOf, IsTyped, Scope, keyed, open_scope}
+pub use Rattle.qgm_formed.specs.OneToOne.{map_of}
 use Rattle.qgm_formed.proofs.Parts.{Cells, Fit, FitAll, Heads, Is, cells-append, fit-append, heads-append, node_of}
 use Rattle.qgm_formed.proofs.TermsAre.{Asked, Held, MapIs, RefIs, cond-is, held-append, ref-is, same-some, term-is, terms-are}
 use Rattle.qgm_formed.proofs.Keys.{Folded, Ins, Refs, agg_types, among, and-right, either-false, append-none, arg_types, at-left, at-padded, at-right, folded, folds-to, ins-all, ins-rest, key_types, keys-length, keys-owned, not-false, or_row}
 use Rattle.qgm_formed.proofs.Frames.{At, Cols, LeavesAre, SubIs, cols-append, cols-seen, from-length, froms-length, leaves-append, map-more, map-none, map-open, query-length, refs-cols, test-leaves, values-leaves}
-
--- the map that a thing is seen through: that of a table or a view shows nothing
-abbrev pub map_of : Thing → Map → Map
-map_of (of_query x) m = m
-map_of (of_operand (q.named name)) m = []
-map_of (of_operand (q.derived query)) m = m
-map_of (of_operand (q.crossed x y)) m = m
-map_of (of_operand (q.joined x y p)) m = m
-map_of (of_operand (q.left_joined x y n p)) m = m
-map_of (of_rows from by places ls) m = m
-map_of (of_groups from by places ls) m = m
 
 -- ---- boxes
 

@@ -17,3 +17,5 @@ pub mod Telling
 pub mod LikeTerms
 pub mod LikeBoxes
 pub mod LikeGraphs
+pub mod LikeTurned
+pub mod OneToOne

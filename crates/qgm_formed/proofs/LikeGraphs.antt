@@ -23,10 +23,10 @@ use Rattle.qgm_formed.proofs.LikeTerms.{LikeMap}
 use Rattle.qgm_formed.proofs.Passes.{root-reaches}
 
 -- the box that shows a thing, over those behind it
-abbrev Found : Sources → List Node → ℕ → Thing → Map → Type 0
+abbrev pub Found : Sources → List Node → ℕ → Thing → Map → Type 0
 Found sources bs b thing m = (n : Node) × ((rest : List Node) × (In n bs × (n.id ≡ b) × ShowsBox sources (Shows sources rest) thing m n × ((k : Node) → In k rest → In k bs)))
 
-found : (sources : Sources) (bs ns : List Node) → ((n : Node) → In n ns → In n bs) → (b : ℕ) (thing : Thing) (m : Map) → Shows sources ns b thing m → Found sources bs b thing m
+pub found : (sources : Sources) (bs ns : List Node) → ((n : Node) → In n ns → In n bs) → (b : ℕ) (thing : Thing) (m : Map) → Shows sources ns b thing m → Found sources bs b thing m
 found sources bs [] sub b thing m h = absurd h
 found sources bs (n ∷ ns) sub b thing m h =
     elim (n.id == b) as (λ own. (n.id == b) ≡ own → v.Either own (ShowsBox sources (Shows sources ns) thing m n) (Shows sources ns b thing m) → Found sources bs b thing m) [

@@ -1,5 +1,6 @@
 pub mod Typed
 pub mod Law
 pub mod Alike
+pub mod OneToOne
 pub mod Told
 pub mod Sample

@@ -2,6 +2,7 @@ use Rattle.qgm_formed.proofs.laws.formed_laws.Goals as goal
 use Rattle.qgm_formed.proofs.Agreed.{types-found}
 use Rattle.qgm_formed.proofs.LikeGraphs.{same-but-numbers}
 use Rattle.qgm_formed.proofs.Formed.{well-formed}
+use Rattle.qgm_formed.proofs.OneToOne.{are-one-to-one}
 use Rattle.qgm_formed.proofs.Passes.{root-reaches}
 use Rattle.qgm_formed.proofs.Sampled.{sampled}
 use Rattle.qgm_formed.proofs.Telling.{told-by}
@@ -23,3 +24,6 @@ returns-clause-reaches c = λ sources query names order g b ordered n i. root-re
 
 pub returns-clause-alike : goal.returns-clause-alike
 returns-clause-alike c = λ sources shared typed query names order g h first second one two told. same-but-numbers sources shared typed query names order g h first second one two told
+
+pub returns-clause-one_to_one : goal.returns-clause-one_to_one
+returns-clause-one_to_one c = λ sources shared typed query names order g h first second told. are-one-to-one sources shared typed query names order g h first second told
