@@ -1,4 +1,4 @@
-// A chain of 2,000 boxes: made by edits, walked, checked, compacted and copied.
+// A chain of 2,000 boxes: made by edits, walked, checked, compacted and copied; and what is inferred of one of 1,000.
 #![tactic(auto)]
 
 ghost use Rattle.std.specs.Prelude.{◌≡◌, OnOk, IfOk};
