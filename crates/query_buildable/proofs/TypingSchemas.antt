@@ -1,6 +1,7 @@
 -- The same over a schema and its views.
-use Rattle.std.proofs.Common.{◌≡◌, ◌∙◌, ◌≤◌, ℕ, zero, suc, true, false, map, List, [], ◌∷◌, Option, Some, None, refl, sym, ap, subst, arith}
+use Rattle.std.proofs.Common.{◌≡◌, ◌∙◌, ◌≤◌, ℕ, zero, suc, true, false, map, List, [], ◌∷◌, length, Option, Some, None, refl, sym, ap, subst, arith}
 use Rattle.std.specs.Prelude.{⊤}
+use Rattle.std.proofs.lemmas.List.{length-map}
 use Rattle.sql_ast.specs.declared.schema.ColumnDecl.{ColumnDecl}
 use Rattle.sql_ast.specs.declared.schema.TableDecl.{TableDecl}
 use Rattle.sql_ast.specs.Declarations.{Declared, columns_of, table_named, view_named}
@@ -8,6 +9,7 @@ use Rattle.sql_ast.specs.Grammatical.{is_query}
 use Rattle.sql_ast.specs.Names.{same_name}
 use Rattle.sql_ast.specs.Syntax as s
 use Rattle.sql_catalog.specs.TableNames as tables
+use Rattle.sql_meaning.specs.ResolvedTrees as q
 use Rattle.sql_meaning.specs.Scopes.{first_of}
 use Rattle.sql_value.specs.declared.order_key.SqlType.{SqlType}
 use Rattle.name_resolution.specs.Resolved.{Columns, bare, query}
@@ -21,13 +23,15 @@ use Rattle.query_checks.specs.Laws.{AreTypedHeads, SameColumns}
 use Rattle.query_checks.specs.Scopes.{Heads, is_empty}
 use Rattle.query_checks.specs.Views.{fault, heads_of, table_heads, typed, typed_columns}
 use Rattle.query_checks.specs.declared.column.TypedColumn.{TypedColumn}
+use Rattle.qgm_formed.specs.Law.{HasColumns, SourcesTyped}
 use Rattle.qgm_formed.specs.Typed.{Gives}
+use Rattle.qgm_shown.specs.Sources.{Sources}
 use Rattle.query_buildable.proofs.Full.{IsFullHead, filled_query, full_listed}
 use Rattle.query_buildable.proofs.Nesting.{Shallow, ShallowName, all_shallow, found_each, head_more, head_of, heads_at, nested, stable}
 use Rattle.query_buildable.proofs.Schemas.{schema_same}
-use Rattle.query_buildable.proofs.Stated.{are_kinds, known_are, renamed_stated, stated}
+use Rattle.query_buildable.proofs.Stated.{are_kinds, have_length, known_are, renamed_stated, stated}
 use Rattle.query_buildable.proofs.Typing.{of_query}
-use Rattle.query_buildable.specs.Typing.{HaveColumns, ValidSchema, kinds_of, known_types, with_type}
+use Rattle.query_buildable.specs.Typing.{HaveColumns, SourcesOf, ValidSchema, kinds_of, known_types, with_type}
 
 pub query_has_types : (heads : Heads) (known : Columns) → SameColumns heads (bare known) → AreTypedHeads heads → HaveColumns heads
     → (body : s.Query) → is_query body ≡ true → query_fault heads body [] ≡ 0 → Gives (kinds_of heads) [] (query known [] body) (known_types (columns heads body []))
@@ -133,3 +137,19 @@ pub views_have_types : (catalog : Declared) → ValidSchema catalog → (name : 
 views_have_types catalog valid name view n e =
     subst (Gives (kinds_of (heads_of catalog)) [] (query (schema_columns catalog) [] view.query)) (sym (view_kinds catalog valid name view n e))
     (body_has_types catalog valid view.query (found_query catalog valid name view e) (found_valid catalog valid name view e))
+
+pub sources_typed : (catalog : Declared) (sources : Sources) → ValidSchema catalog → SourcesOf catalog sources → SourcesTyped (kinds_of (heads_of catalog)) sources
+sources_typed catalog sources valid h = record {
+  counted = λ name.
+      have_length (columns_or_none (heads_of catalog name)) (kinds_of (heads_of catalog) name) (are_kinds (heads_of catalog) (typed_tables catalog valid.shallow valid.views) name)
+      ∙ sym (length-map (columns_or_none (heads_of catalog name)) (λ (c : TypedColumn). c.name))
+      ∙ ap length (schema_same catalog name)
+      ∙ sym (h.counts name);
+  named = λ name. at name (sources.body name) refl;
+}
+  where
+    at : (name : List ℕ) (o : Option q.Query) → sources.body name ≡ o → HasColumns (kinds_of (heads_of catalog)) sources name o
+    at name None e = h.tables name e
+    at name (Some body) e =
+        let view = h.views name body e in
+        subst (λ (z : q.Query). Gives (kinds_of (heads_of catalog)) [] z (kinds_of (heads_of catalog) name)) (sym view.1.2) (views_have_types catalog valid name view.0 view.1.0 view.1.1)

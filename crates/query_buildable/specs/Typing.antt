@@ -4,6 +4,7 @@ use Rattle.sql_ast.specs.declared.schema.TableDecl.{TableDecl}
 use Rattle.sql_ast.specs.Declarations.{Declared, columns_of, table_named, view_named}
 use Rattle.sql_ast.specs.Grammatical.{is_query}
 use Rattle.sql_ast.specs.Syntax as s
+use Rattle.sql_meaning.specs.ResolvedTrees as q
 use Rattle.sql_value.specs.declared.order_key.SqlType.{SqlType}
 use Rattle.name_resolution.specs.Resolved.{Columns, bare, query}
 use Rattle.name_resolution.specs.Schema.{schema_columns}
@@ -13,8 +14,10 @@ use Rattle.query_checks.specs.Laws.{AreTypedHeads, NestsShallow, SameColumns}
 use Rattle.query_checks.specs.Scopes.{Heads, is_empty}
 use Rattle.query_checks.specs.Views.{fault, heads_of, view_refusal}
 use Rattle.query_checks.specs.declared.column.TypedColumn.{TypedColumn}
+use Rattle.qgm_formed.specs.Law.{SourcesTyped}
 use Rattle.qgm_formed.specs.Typed.{Gives}
-use Rattle.query_buildable.specs.Law.{AreQueries}
+use Rattle.qgm_shown.specs.Sources.{Sources}
+use Rattle.query_buildable.specs.Law.{AreQueries, Counts}
 
 -- ---- the types that the checks state
 
@@ -66,3 +69,20 @@ abbrev pub ValidViewsHaveTypes : Type 0
 ValidViewsHaveTypes =
     (catalog : Declared) → ValidSchema catalog → (name : List ℕ) (view : s.ViewDecl) → table_named catalog.tables name ≡ None → view_named catalog.views name ≡ Some view
     → Gives (kinds_of (heads_of catalog)) [] (query (schema_columns catalog) [] view.query) (kinds_of (heads_of catalog) name)
+
+-- ---- what names stand for where boxes are made
+
+-- this is the body of the view of a name, with its names resolved
+abbrev pub IsBodyOf : Declared → List ℕ → q.Query → Type 0
+IsBodyOf catalog name body =
+    (view : s.ViewDecl) × ((table_named catalog.tables name ≡ None) × (view_named catalog.views name ≡ Some view) × (body ≡ query (schema_columns catalog) [] view.query))
+
+-- the sources say of names what the schema says: how many columns they have, and of what types, and the bodies of views
+pub record SourcesOf (catalog : Declared) (sources : Sources) : Type 0 where
+  pub counts : Counts sources (schema_columns catalog)
+  pub tables : (name : List ℕ) → sources.body name ≡ None → (sources.stored name).types ≡ kinds_of (heads_of catalog) name
+  pub views : (name : List ℕ) (body : q.Query) → sources.body name ≡ Some body → IsBodyOf catalog name body
+
+-- then tables and views have columns of the types that the checks state
+abbrev pub ValidSourcesTyped : Type 0
+ValidSourcesTyped = (catalog : Declared) (sources : Sources) → ValidSchema catalog → SourcesOf catalog sources → SourcesTyped (kinds_of (heads_of catalog)) sources

@@ -1,7 +1,7 @@
 // The laws of queries that boxes can be made for and of the types of their expressions, as theorems.
 ghost use Rattle.query_buildable.specs.Law.{ValidIsBuildable, ValidTextIsBuildable, ValidViewsAreBuildable};
 ghost use Rattle.query_buildable.specs.Sample.{Sampled};
-ghost use Rattle.query_buildable.specs.Typing.{ValidHasTypes, ValidTextHasTypes, ValidViewsHaveTypes};
+ghost use Rattle.query_buildable.specs.Typing.{ValidHasTypes, ValidSourcesTyped, ValidTextHasTypes, ValidViewsHaveTypes};
 
 /// Where a query is of the grammar and the checks find no fault in it, boxes can be made for its
 /// resolved form: over any tables and views, over a schema, and so for each view of a schema none of
@@ -14,11 +14,12 @@ pub fn buildable_laws()
 
 /// Where a query is of the grammar and the checks find no fault in it, the expressions of its
 /// resolved form have types, and its columns those that the checks state: over any tables and views
-/// that have columns of known types, over a valid schema, and so for each view of a valid schema. It
-/// does nothing.
+/// that have columns of known types, over a valid schema, and so for each view of a valid schema;
+/// sources that say of names what a valid schema says have these types. It does nothing.
 pub fn type_laws()
     ensures queries { ValidHasTypes }
     ensures texts { ValidTextHasTypes }
     ensures views { ValidViewsHaveTypes }
+    ensures sources { ValidSourcesTyped }
     ensures sampled { Sampled }
 {}

@@ -1,5 +1,5 @@
 use Rattle.query_buildable.proofs.Sampled.{sampled}
-use Rattle.query_buildable.proofs.TypingSchemas.{query_has_types, text_has_types, views_have_types}
+use Rattle.query_buildable.proofs.TypingSchemas.{query_has_types, sources_typed, text_has_types, views_have_types}
 use Rattle.query_buildable.proofs.laws.type_laws.Goals as goal
 
 pub returns-clause-queries : goal.returns-clause-queries
@@ -13,3 +13,6 @@ returns-clause-views c = views_have_types
 
 pub returns-clause-sampled : goal.returns-clause-sampled
 returns-clause-sampled c = sampled
+
+pub returns-clause-sources : goal.returns-clause-sources
+returns-clause-sources c = sources_typed
