@@ -12,6 +12,7 @@ pub mod Shaped
 pub mod Passes
 pub mod Agreed
 pub mod Formed
+pub mod SampledThere
 pub mod Sampled
 pub mod Telling
 pub mod LikeTerms

@@ -7,6 +7,7 @@ use Rattle.sql_meaning.specs.ResolvedViews.{body_of}
 use Rattle.qgm_shown.specs.Samples.{sources, views}
 use Rattle.qgm_formed.specs.Law.{HasColumns}
 use Rattle.qgm_formed.specs.Sample.{Sampled, kinds}
+use Rattle.qgm_formed.proofs.SampledThere.{there}
 use Rattle.qgm_formed.specs.Typed.{Scope, open_scope}
 
 abbrev two : List SqlType
@@ -38,6 +39,7 @@ sampled = record {
     ),
   );
   formed = refl;
+  there = there;
   text_null = refl;
   integer_null = refl;
 }

@@ -9,6 +9,7 @@ use Rattle.qgm_check.specs.declared.check.Clause.TheVariants.{I5}
 use Rattle.qgm_shown.specs.Refused.{texts_boxes}
 use Rattle.qgm_shown.specs.Samples.{graph, query, sources}
 use Rattle.qgm_formed.specs.Law.{SourcesTyped}
+use Rattle.qgm_formed.specs.OneToOne.{EachForOne}
 use Rattle.qgm_formed.specs.Typed.{Gives}
 
 -- each table and view has two INTEGER columns
@@ -23,6 +24,8 @@ pub record Sampled : Type 0 where
   pub typed : SourcesTyped kinds sources
   pub gives : Gives kinds [] query (Integer ∷ Integer ∷ Integer ∷ [])
   pub formed : fault graph ≡ None
+  -- U is named twice, by the query and by V
+  pub there : EachForOne sources query graph
   -- CASE WHEN A = 1 THEN 'x' END: its NULL is a text, and an INTEGER one fails I5
   pub text_null : fault (over_texts null_text) ≡ None
   pub integer_null : fault (over_texts null_int) ≡ Some (record { clause = I5; at = 1 })
