@@ -14,3 +14,4 @@ mod Closed
 mod Counting
 mod Totals
 mod Settled
+mod Rejections

@@ -7,6 +7,7 @@ pub mod Groups
 pub mod Counted
 pub mod Costs
 pub mod Ready
+pub mod Early
 pub mod Plans
 pub mod Beyond
 pub mod Kept

@@ -6,6 +6,7 @@ use Rattle.qgm_core.specs.declared.owned.OwnedQuant.{OwnedQuant}
 use Rattle.qgm_meaning.specs.Meaning.{Family, bag_in, rows_of}
 use Rattle.qgm_meaning.specs.Values.{Bag, Environment}
 use Rattle.row_bag.specs.declared.tables.Table.{Table}
+use Rattle.box_exec.specs.Early.{IsEarly}
 use Rattle.box_exec.specs.Ready.{Fit, Stands, over_left}
 use Rattle.box_exec.specs.declared.boxes.At.{At}
 use Rattle.box_exec.specs.declared.under.Loop.{Loop}
@@ -25,6 +26,7 @@ pub record Planned (at : At) : Type 0 where
   pub ranged : ranges at.loops.now ≡ at.node.now.quants
   pub stand : All (λ l. Stands (tables_of at) at.run.now.memo.now at.below.now l.range.over l.under) at.loops.now
   pub fit : Fit at.node.now at.below.now
+  pub early : All (λ e. IsEarly at.node.now at.loops.now e) at.early.now
 
 -- what stands under a quantifier of it
 abbrev pub StandsAt : At → Loop → Type 0

@@ -14,6 +14,7 @@ ghost use Rattle.sql_value.specs.declared.level.Level.TheVariants as Level;
 
 use crate::bindings::Bindings;
 use crate::combining::combined;
+use crate::early::{Early, early_conds, rejected};
 use crate::grouping::grouped;
 use crate::heads::{add_given, once_if};
 use crate::joining::{Join, outer_joined};
@@ -27,13 +28,15 @@ use sql_value::{Level, least};
 use std::sync::ledger::Ledger;
 use step_count::Steps;
 
-/// A box that is evaluated: itself, those behind it, and its quantifiers.
+/// A box that is evaluated: itself, those behind it, its quantifiers, and its conditions that are
+/// tested before all of these are bound.
 #[derive(Clone, Copy)]
 pub(crate) struct At<'a> {
     pub run: &'a Run<'a>,
     pub node: &'a Node,
     pub below: &'a [Node],
     pub loops: &'a [Loop<'a>],
+    pub early: &'a [Early<'a>],
 }
 
 /// One evaluation of a box more.
@@ -63,11 +66,13 @@ pub(crate) fn evaluated<'a, L: Ledger>(
 {
     step(steps, count);
     let loops = loops(run, node.quants.as_slice(), below)?;
+    let early = early_conds(run.alloc, node, &loops)?;
     let at = At {
         run: &*run,
         node: &*node,
         below: &*below,
         loops: &loops,
+        early: &early,
     };
     of_kind(&at, env, steps, count)
 }
@@ -166,6 +171,9 @@ fn each<'x, L: Ledger>(
     ensures took { (kept : ℕ → Bool) → plan.KeepsAt at.now kept → OnOk result (Between 0 (at_level level (plan.cost_left at.now kept k (env_of env.now))) steps.old steps.new) }
 {
     if is_no(level) {
+        return Ok(());
+    }
+    if rejected(at.run.alloc, at.early, k, env)? {
         return Ok(());
     }
     let Some(l) = at.loops.get(k) else {

@@ -5,6 +5,7 @@ mod beyond;
 mod bindings;
 mod boxes;
 mod combining;
+mod early;
 mod evaluation;
 mod execution;
 mod grouping;

@@ -21,6 +21,7 @@ use Rattle.std.proofs.lemmas.List.{take_all}
 use Rattle.box_exec.proofs.Loops.{each-all, each-more, rows-once}
 use Rattle.box_exec.proofs.Quantifiers.{combined-rows, free-more, free-same, given-at, group-rows, left-bound, left-over, level-none, outer-rows, past-all, placed, range-at, range-past, range-within, subs-more, two-at}
 use Rattle.box_exec.proofs.boxes.+rows.Goals.{subs-then-not-is_f+in_ok-rows+in_ok-push, subs-else-not-is_f}
+use Rattle.box_exec.proofs.Rejections.{nothing-added, rejects-all}
 use Rattle.box_exec.proofs.boxes.+rows.Goals as goal
 
 pub add_head-returns-clause-rows : goal.add_head-returns-clause-rows
@@ -299,3 +300,9 @@ subs-returns-clause-took g t c = λ kept keeps.
     let rs = ranges at.loops.now in
     subst (λ (xs : List OwnedQuant). Between 0 (under_others xs (asked_at at kept) (env_of c.args.env.now)) c.args.steps.now c.loop-l.steps)
     (take_all c.loop-l.l-index rs (range-past at.loops.now c.loop-l.l-index c.loop-l-test.false)) (c.loop-l.invariant.took kept keeps)
+
+pub each-returns-then-branch-clause-rows : goal.each-returns-then-branch-clause-rows
+each-returns-then-branch-clause-rows g t c =
+    let at = c.args.at.now in
+    let env = env_of c.args.env.now in
+    nothing-added c.args.level c.args.out.now (left_at at c.args.k env) (rejects-all at c.requires.planned c.args.k env (sym c.in_ok-rejected.ensures ∙ c.if-branch.true))

@@ -1,0 +1,48 @@
+-- Conditions of a box that are tested before all its quantifiers are bound.
+use Rattle.std.specs.Prelude.{ℕ, ◌≡◌, ◌==◌, ◌&&◌, Bool, true, false, List, [], drop}
+use Rattle.std.specs.List.{list_any}
+use Rattle.qgm_core.specs.Lists.{In}
+use Rattle.qgm_core.specs.declared.node.Node.{Node}
+use Rattle.qgm_meaning.specs.Searches.{names_cond}
+use Rattle.qgm_meaning.specs.Values.{Environment, truth}
+use Rattle.qgm_terms.specs.Shown.{cond}
+use Rattle.qgm_terms.specs.Terms.{Cond}
+use Rattle.qgm_terms.specs.Wanted.{reads_cond}
+use Rattle.sql_value.specs.declared.level.Level.{Level}
+use Rattle.sql_value.specs.declared.level.Level.TheVariants.{No, Cardinality, Division, Overflow, Yes}
+use Rattle.box_exec.specs.Sources.{held_by}
+use Rattle.box_exec.specs.declared.early.Early.{Early}
+use Rattle.box_exec.specs.declared.under.Loop.{Loop}
+use Rattle.box_exec.specs.declared.under.Under.{Under}
+use Rattle.box_exec.specs.declared.under.Under.TheVariants.{Kept, Open, Nothing}
+
+-- a box is evaluated anew there
+abbrev pub is_open : Under → Bool
+is_open (Kept rows) = false
+is_open (Open n behind) = true
+is_open Nothing = false
+
+-- a scalar, some or every of one of these stands in a condition
+abbrev pub names_any : Cond → List Loop → Bool
+names_any c ls = list_any (λ l. names_cond l.range.id c) ls
+
+-- a condition reads one of these
+abbrev pub reads_any : Cond → List Loop → Bool
+reads_any c ls = list_any (λ l. reads_cond l.range.id c) ls
+
+-- a condition of the box names no quantifier of it in a node, and reads none from the place on
+pub record IsEarly (n : Node) (ls : List Loop) (e : Early) : Type 0 where
+  pub stands : In (cond e.cond.now) n.parts.conds.items
+  pub unnamed : names_any (cond e.cond.now) ls ≡ false
+  pub unread : reads_any (cond e.cond.now) (drop e.place ls) ≡ false
+
+abbrev pub is_none : Level → Bool
+is_none No = true
+is_none Cardinality = false
+is_none Division = false
+is_none Overflow = false
+is_none Yes = false
+
+-- one of these whose place this is rejects wholly
+abbrev pub rejects : List Early → ℕ → Environment → Bool
+rejects es k env = list_any (λ e. (e.place == k) && is_none (truth (held_by []) (cond e.cond.now) env).t) es

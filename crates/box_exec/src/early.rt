@@ -1,0 +1,128 @@
+// Conditions that are tested before all quantifiers of their box are bound.
+ghost use Rattle.std.specs.List.{list_any};
+ghost use Rattle.std.specs.Prelude.{◌≡◌, All, IfOk, drop, false};
+ghost use Rattle.box_exec.specs.Bound.{env_of};
+ghost use Rattle.box_exec.specs.Early.{IsEarly, is_none, is_open, names_any, reads_any, rejects};
+ghost use Rattle.qgm_core.specs.Kinds.{is_F, is_select};
+ghost use Rattle.qgm_terms.specs.Shown.{cond};
+
+use crate::bindings::Bindings;
+use crate::evaluation::hold;
+use crate::under::{Loop, Under, is_f};
+use qgm_core::{BoxKind, Gc, Node};
+use qgm_terms::{Sought, stands_in_cond};
+use shared_types::OutOfMemory;
+use sql_value::Level;
+use std::alloc::Global;
+
+/// A condition of a box, and the place of the first quantifier before which it can be tested.
+#[derive(Clone, Copy)]
+pub(crate) struct Early<'a> {
+    pub place: usize,
+    pub cond: &'a Gc,
+}
+
+// Whether a box is evaluated anew there.
+fn is_open(under: Under<'_>) -> bool
+    ensures { result ≡ is_open under.entry }
+{
+    match under {
+        Under::Open(_, _) => true,
+        Under::Kept(_) | Under::Nothing => false,
+    }
+}
+
+// Whether a scalar, some or every of one of these stands in a condition.
+fn names_any(c: &Gc, loops: &[Loop<'_>]) -> bool
+    ensures { result ≡ names_any (cond c.now) loops.now }
+{
+    loops
+        .iter()
+        .any(|l| stands_in_cond(c, Sought::NodeOf(l.range.id)))
+}
+
+// The first place from which on a condition reads no quantifier.
+fn place_from(c: &Gc, loops: &[Loop<'_>]) -> usize
+    ensures { reads_any (cond c.now) (drop result loops.now) ≡ false }
+{
+    let mut place = loops.len();
+    while place > 0 {
+        if stands_in_cond(c, Sought::Row(loops[place - 1].range.id)) {
+            return place;
+        }
+        place -= 1;
+    }
+    place
+}
+
+// Whether one of these binds rows from a place on.
+fn binds_rows(loops: &[Loop<'_>], place: usize) -> bool
+    ensures { result ≡ list_any (λ l. is_F l.range.kind) (drop place loops.now) }
+{
+    loops.iter().skip(place).any(|l| is_f(l.range.kind))
+}
+
+// Whether it is a select.
+fn is_select(kind: &BoxKind) -> bool
+    ensures { result ≡ is_select kind.now }
+{
+    match kind {
+        BoxKind::Select => true,
+        BoxKind::Base(_) | BoxKind::Group(_) | BoxKind::SetOp(_, _) | BoxKind::OuterJoin => false,
+    }
+}
+
+/// The conditions of a select that are tested before all its quantifiers are bound: none where a box
+/// under one of these is evaluated anew, so that no evaluation is left out. It fails only for want of
+/// memory.
+#[inline(never)]
+pub(crate) fn early_conds<'a>(
+    alloc: Global,
+    node: &'a Node,
+    loops: &[Loop<'_>],
+) -> Result<Vec<Early<'a>>, OutOfMemory>
+    ensures { IfOk result (λ made. All (λ e. IsEarly node.now loops.now e) made.items) }
+{
+    let mut made = Vec::new(alloc);
+    if !is_select(&node.parts.kind) || loops.iter().any(|l| is_open(l.under)) {
+        return Ok(made);
+    }
+    for c in node.parts.conds.as_slice() {
+        if !names_any(c, loops) {
+            let place = place_from(c, loops);
+            if binds_rows(loops, place) {
+                made.push(Early { place, cond: c })?;
+            }
+        }
+    }
+    Ok(made)
+}
+
+// Whether nothing is there.
+fn is_none(level: Level) -> bool
+    ensures { result ≡ is_none level }
+{
+    match level {
+        Level::No => true,
+        Level::Cardinality | Level::Division | Level::Overflow | Level::Yes => false,
+    }
+}
+
+/// Whether one of these that are tested at this place rejects wholly. It fails only for want of
+/// memory.
+#[inline(never)]
+pub(crate) fn rejected(
+    alloc: Global,
+    early: &[Early<'_>],
+    k: usize,
+    env: &Bindings,
+) -> Result<bool, OutOfMemory>
+    ensures { IfOk result (λ b. b ≡ rejects early.now k (env_of env.now)) }
+{
+    for e in early {
+        if e.place == k && is_none(hold(alloc, e.cond, &[], env)?.t) {
+            return Ok(true);
+        }
+    }
+    Ok(false)
+}
