@@ -14,4 +14,5 @@ mod Closed
 mod Counting
 mod Totals
 mod Settled
+mod Bounded
 mod Rejections
