@@ -1,5 +1,5 @@
 -- What is inferred of keys holds.
-use Rattle.std.proofs.Common.{ℕ, zero, suc, ◌≡◌, ◌≤◌, ◌-◌, min, nat_lt, nat_eq, ◌==◌, ◌&&◌, ◌||◌, cond, Bool, true, false, List, [], ◌∷◌, ◌++◌, map, take, length, Option, Some, None, eqb-true, refl, sym, ap, ap₂, subst, ◌∙◌, arith, inl, inr}
+use Rattle.std.proofs.Common.{ℕ, zero, suc, ◌≡◌, ◌≤◌, ◌-◌, min, nat_lt, nat_eq, ◌==◌, ◌&&◌, ◌||◌, cond, Bool, true, false, List, [], ◌∷◌, ◌++◌, map, take, length, Option, Some, None, eqb-true, refl, sym, ap, subst, ◌∙◌, arith, inl, inr}
 use Rattle.std.proofs.lemmas.Bool.{and_parts, cases_Bool, eq-eqb, eqb-false, ltb-false, ltb-true, or_cases}
 use Rattle.std.proofs.lemmas.List.{length-map}
 use Rattle.std.specs.List.{list_any}
@@ -30,18 +30,17 @@ use Rattle.qgm_core.specs.declared.node.Node.{Node}
 use Rattle.qgm_core.specs.declared.owned.OwnedQuant.{OwnedQuant}
 use Rattle.qgm_meaning.specs.Laws.{occurs}
 use Rattle.qgm_meaning.specs.Meaning.{Family, bag_in, combined, fold_cells, given, given_by, grouped_rows, groups, key_cells, nothing, of_one, of_two, once_if, outer_rows, over_each, rows_by, rows_or_none}
-use Rattle.qgm_meaning.specs.Ranks.{LooksUnder, SameUnder}
 use Rattle.qgm_meaning.specs.Satisfies.{FoundSatisfies, SatisfiesBy}
 use Rattle.qgm_meaning.specs.Values.{Bag, Environment, all_true, bound, head_cells, row_of, value}
 use Rattle.qgm_meaning.specs.Widths.{Wide}
 use Rattle.qgm_meaning.proofs.Frames.{either-left, either-right}
-use Rattle.qgm_meaning.proofs.Ranked.{apart, unfold-rank}
+use Rattle.qgm_meaning.proofs.Ranked.{unfold-rank}
 use Rattle.qgm_meaning.proofs.Satisfying.{of-satisfying}
-use Rattle.qgm_terms.specs.Terms.{Term, int, text, null_int, null_text, col, scalar, both, minus_of, choose, count_all, fold}
+use Rattle.qgm_terms.specs.Terms.{Term, col}
 use Rattle.qgm_props.specs.Facts.{EachThere}
 use Rattle.qgm_props.specs.Holding.{AllBound, Fitting, Holds, OfRows}
 use Rattle.qgm_props.specs.Inferred.{Fact, Facts, at_most_one, says}
-use Rattle.qgm_props.specs.Keys.{all_within, among, cell_at, column_of, columns_at, holds_key, keyed, keyed_by, keyed_op, keyed_under, keyed_under_F, keyed_under_two}
+use Rattle.qgm_props.specs.Keys.{all_within, among, cell_at, columns_at, holds_key, keyed, keyed_by, keyed_op, keyed_under, keyed_under_F, keyed_under_two}
 use Rattle.qgm_props.specs.Laws.{Premises}
 use Rattle.qgm_props.proofs.Counted.{occurs-once}
 use Rattle.qgm_props.proofs.Environments.{rows, rows-are}
@@ -52,27 +51,13 @@ use Rattle.qgm_props.proofs.Wide.{arm-rows}
 use Rattle.qgm_meaning.specs.Scope.{loose, loose_by, read_beyond, read_by, under_any}
 use Rattle.qgm_meaning.proofs.Unfold.{unfold-bag}
 use Rattle.qgm_meaning.proofs.Within.{loose-unfold}
-use mathlib.Core.Path.{fun_ext}
 use Rattle.qgm_props.proofs.Selects.{Ready, each-given, next-ready, skip-ready, under-bound}
 use Rattle.qgm_props.proofs.KeyTests.{agree-from, agreed, all-agreed, by, cells-same, key-two, two-key, within-holds}
+use Rattle.qgm_props.proofs.KeyRanks.{column-place, in-first, keyed-local}
 use Rattle.qgm_props.proofs.NoTwo.{NoTwo, Test, no-two-bind, no-two-copies, no-two-distinct, no-two-once, no-two-weaker, none-two, once-apart}
 use Rattle.qgm_props.proofs.Rows.{each-append, each-bind, each-distinct, each-keep, occurs-each}
 
 -- ---- by rank
-
-in-first : (ns : List Node) (m : Node) → Ordered ns → In m ns → first (is_box m.id) ns ≡ Some m
-in-first [] m o i = elim i [ ]
-in-first (x ∷ ns) m o i = elim i [
-  | inl e ↦ subst (λ (m : Node). first (is_box m.id) (x ∷ ns) ≡ Some m) e (ap (λ b. cond b (Some x) (first (is_box x.id) ns)) (eq-eqb x.id x.id refl))
-  | inr j ↦ ap (λ b. cond b (Some x) (first (is_box m.id) ns)) (apart x.id m.id ns o.0 (boxed ns m j)) ∙ in-first ns m o.2 j
-]
-  where
-    boxed : (ns : List Node) (m : Node) → In m ns → has_box ns m.id ≡ true
-    boxed [] m i = elim i [ ]
-    boxed (y ∷ ns) m i = elim i [
-      | inl e ↦ either-left (y.id == m.id) (has_box ns m.id) (eq-eqb y.id m.id (ap (λ (n : Node). n.id) e))
-      | inr j ↦ either-right (y.id == m.id) (has_box ns m.id) (boxed ns m j)
-    ]
 
 over-held : (ns : List Node) (rs : List OwnedQuant) (r : OwnedQuant) → all_over ns rs ≡ true → In r rs → has_box ns r.over ≡ true
 over-held ns [] r h i = elim i [ ]
@@ -94,45 +79,6 @@ rank-induct ns o P f b h = go ns (λ m i. i) o b h
     ]
 
 -- ---- places
-
--- a column that stands at one of these places
-column-place : (q : ℕ) (head : List Term) (ks : List ℕ) (k : ℕ) → holds k (columns_at q head ks) ≡ true → (p : ℕ) × ((holds p ks ≡ true) × (cell_at head p ≡ Some (col q k)))
-column-place q head [] k h = absurd (let z : ⊥ = cc in z)
-column-place q head (p ∷ ks) k h = elim (or_cases (holds k (column_of q (cell_at head p))) (holds k (columns_at q head ks)) (split (column_of q (cell_at head p)) (columns_at q head ks) h)) [
-  | inl t ↦ (p, (either-left (p == p) (holds p ks) (eq-eqb p p refl), at (cell_at head p) t))
-  | inr t ↦ (let i = column-place q head ks k t in (i.0, (either-right (p == i.0) (holds i.0 ks) i.1.0, i.1.1)))
-]
-  where
-    split : (xs ys : List ℕ) → holds k (xs ++ ys) ≡ true → (holds k xs || holds k ys) ≡ true
-    split [] ys h = h
-    split (x ∷ xs) ys h = elim (or_cases (x == k) (holds k (xs ++ ys)) h) [
-      | inl t ↦ either-left ((x == k) || holds k xs) (holds k ys) (either-left (x == k) (holds k xs) t)
-      | inr t ↦ elim (or_cases (holds k xs) (holds k ys) (split xs ys t)) [
-        | inl u ↦ either-left ((x == k) || holds k xs) (holds k ys) (either-right (x == k) (holds k xs) u)
-        | inr u ↦ either-right ((x == k) || holds k xs) (holds k ys) u
-      ]
-    ]
-
-    at : (o : Option Term) → holds k (column_of q o) ≡ true → o ≡ Some (col q k)
-    at None t = absurd (let z : ⊥ = cc in z)
-    at (Some (col r j)) t = one (r == q) refl t
-      where
-        one : (b : Bool) → (r == q) ≡ b → holds k (cond b (j ∷ []) []) ≡ true → ◌≡◌ {A = Option Term} (Some (col r j)) (Some (col q k))
-        one true w t = elim (or_cases (j == k) false t) [
-          | inl u ↦ ap₂ (λ a b. Some (col a b)) (eqb-true r q w) (eqb-true j k u)
-          | inr u ↦ absurd (let z : ⊥ = cc in z)
-        ]
-        one false w t = absurd (let z : ⊥ = cc in z)
-    at (Some (int n)) t = absurd (let z : ⊥ = cc in z)
-    at (Some (text n)) t = absurd (let z : ⊥ = cc in z)
-    at (Some null_int) t = absurd (let z : ⊥ = cc in z)
-    at (Some null_text) t = absurd (let z : ⊥ = cc in z)
-    at (Some (scalar r)) t = absurd (let z : ⊥ = cc in z)
-    at (Some (both a x y)) t = absurd (let z : ⊥ = cc in z)
-    at (Some (minus_of x)) t = absurd (let z : ⊥ = cc in z)
-    at (Some (choose a x)) t = absurd (let z : ⊥ = cc in z)
-    at (Some count_all) t = absurd (let z : ⊥ = cc in z)
-    at (Some (fold f d x)) t = absurd (let z : ⊥ = cc in z)
 
 -- the cell of a head at a place
 cell-is : (rows : ℕ → Bag) (head : List Term) (env : Environment) (p : ℕ) (x : Term) → cell_at head p ≡ Some x → cell_of p (head_cells rows head env) ≡ value rows x env
@@ -435,26 +381,6 @@ module _ (tables : List Table) (ns : List Node) (known : Facts) (given' : Premis
 
   -- ---- all boxes
 
-  -- what is said of keys looks under the quantifiers of a box alone
-  local-F : (head : List Term) (f g : ℕ → List ℕ → Bool) (ks : List ℕ) (rs : List OwnedQuant) → SameUnder rs f g → keyed_under_F head f ks rs ≡ keyed_under_F head g ks rs
-  local-F head f g ks [] s = refl
-  local-F head f g ks (r ∷ rs) s = ap₂ (λ x y. cond (is_F r.kind) (x && y) y) (ap (λ (h : List ℕ → Bool). h (columns_at r.id head ks)) s.0) (local-F head f g ks rs s.1)
-
-  local-two : (head : List Term) (f g : ℕ → List ℕ → Bool) (ks : List ℕ) (rs : List OwnedQuant) → SameUnder rs f g → keyed_under_two head f ks rs ≡ keyed_under_two head g ks rs
-  local-two head f g ks [] s = refl
-  local-two head f g ks (p ∷ []) s = refl
-  local-two head f g ks (p ∷ q ∷ rs) s = ap₂ (λ x y. x && y) (ap (λ (h : List ℕ → Bool). h (columns_at p.id head ks)) s.0) (ap (λ (h : List ℕ → Bool). h (columns_at q.id head ks)) s.1.0)
-
-  local-by : (kind : BoxKind) (n : Node) (f g : ℕ → List ℕ → Bool) (ks : List ℕ) → SameUnder n.quants f g → keyed_by kind n f ks ≡ keyed_by kind n g ks
-  local-by (Base table) n f g ks s = refl
-  local-by Select n f g ks s = ap (λ b. (is_enforce n.parts.distinct && all_within (length n.parts.head) ks) || b) (local-F n.parts.head f g ks n.quants s)
-  local-by (Group k) n f g ks s = refl
-  local-by (SetOp form types) n f g ks s = refl
-  local-by OuterJoin n f g ks s = local-two n.parts.head f g ks n.quants s
-
-  keyed-local : LooksUnder (keyed known.at_most_one)
-  keyed-local n f g s = fun_ext (λ ks. ap (λ b. known.at_most_one n.id || b) (local-by n.parts.kind n f g ks s))
-
   box-keyed : (n : Node) → In n ns → first (is_box n.id) ns ≡ Some n → ((r : OwnedQuant) → In r n.quants → Keyed r.over) → Keyed n.id
   box-keyed n here e under ks h env fit bound = elim (or_cases (known.at_most_one n.id) (keyed_by n.parts.kind n (holds_key known.at_most_one ns) ks) unfolded) [
     | inl w ↦ none-two (by ks) (bag_in tables ns n.id env) (all (at_most_one n.id) w env fit bound)
@@ -463,7 +389,7 @@ module _ (tables : List Table) (ns : List Node) (known : Facts) (given' : Premis
   ]
     where
       unfolded : (known.at_most_one n.id || keyed_by n.parts.kind n (holds_key known.at_most_one ns) ks) ≡ true
-      unfolded = sym (ap (λ (f : List ℕ → Bool). f ks) (unfold-rank (λ ks. false) (keyed known.at_most_one) keyed-local ns n.id n given'.ordered e)) ∙ h
+      unfolded = sym (ap (λ (f : List ℕ → Bool). f ks) (unfold-rank (λ ks. false) (keyed known.at_most_one) (keyed-local known.at_most_one) ns n.id n given'.ordered e)) ∙ h
 
   pub all-keyed : (b : ℕ) → Keyed b
   all-keyed b ks h = elim (cases_Bool (has_box ns b)) [

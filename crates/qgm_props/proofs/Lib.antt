@@ -22,4 +22,6 @@ mod Settled
 mod Monotone
 mod NoTwo
 mod KeyTests
+mod KeyRanks
 mod KeyedBoxes
+mod InferredKeys

@@ -1,5 +1,5 @@
 -- What is inferred holds.
-use Rattle.std.specs.Prelude.{ℕ, ◌≡◌, ◌↔◌, true, List, Some}
+use Rattle.std.specs.Prelude.{ℕ, ◌≡◌, ◌↔◌, Bool, true, List, Some}
 use Rattle.bag_laws.specs.Keys.{HasKey}
 use Rattle.row_bag.specs.declared.tables.Table.{Table}
 use Rattle.qgm_core.specs.Boxes.{Ordered, ids_of, owns, range_in}
@@ -10,6 +10,7 @@ use Rattle.qgm_meaning.specs.Widths.{Even}
 use Rattle.qgm_meaning.specs.Satisfies.{Satisfies}
 use Rattle.qgm_props.specs.Holding.{Holds, OfRows}
 use Rattle.qgm_props.specs.Inferred.{Fact, Facts, Inferred, inferred_once, says}
+use Rattle.qgm_props.specs.InferredKeys.{KeyAmong}
 use Rattle.qgm_props.specs.Keys.{holds_key}
 
 -- over tables that satisfy the bases, in boxes by rank
@@ -38,6 +39,10 @@ abbrev pub KeysHold : Type 0
 KeysHold =
     (tables : List Table) (ns : List Node) → Premises tables ns → (known : Facts) → ((fact : Fact) → says known fact ≡ true → Holds tables ns fact) → (b : ℕ) (ks : List ℕ)
     → holds_key known.at_most_one ns b ks ≡ true → OfRows tables ns b (HasKey ks)
+
+-- columns hold a key exactly where an inferred key is among them
+abbrev pub KeysExact : Type 0
+KeysExact = (single : ℕ → Bool) (boxes : List Node) → Ordered boxes → (b : ℕ) (ks : List ℕ) → (holds_key single boxes b ks ≡ true) ↔ KeyAmong single boxes b ks
 
 -- facts are those that are inferred of the boxes, all and no others
 abbrev pub Tells : Facts → List Node → Type 0

@@ -2,6 +2,7 @@ pub mod Facts
 pub mod Under
 pub mod Inferred
 pub mod Keys
+pub mod InferredKeys
 pub mod Calm
 pub mod Lists
 pub mod Table

@@ -1,6 +1,6 @@
 // The laws, as theorems.
 ghost use Rattle.qgm_props.specs.Examples.{OfExpressions, OfConditions, OfAggregates, OfBoxes, OfRows, OfNulls, OfKeys, OfCalm};
-ghost use Rattle.qgm_props.specs.Laws.{InferredHolds, KeysHold, Least, StepHolds};
+ghost use Rattle.qgm_props.specs.Laws.{InferredHolds, KeysExact, KeysHold, Least, StepHolds};
 
 /// What is inferred of boxes is the least set of facts that the sentences give, and it holds. It does nothing.
 pub fn fact_laws()
@@ -8,6 +8,7 @@ pub fn fact_laws()
     ensures step { StepHolds }
     ensures facts { InferredHolds }
     ensures keys { KeysHold }
+    ensures exact { KeysExact }
 {}
 
 /// What is inferred of small graphs, sentence by sentence. It does nothing.

@@ -1,3 +1,4 @@
+use Rattle.qgm_props.proofs.InferredKeys.{keys-exact}
 use Rattle.qgm_props.proofs.KeyedBoxes.{keys-hold}
 use Rattle.qgm_props.proofs.Monotone.{least}
 use Rattle.qgm_props.proofs.Settled.{inferred-holds}
@@ -15,3 +16,6 @@ returns-clause-facts c = inferred-holds
 
 pub returns-clause-keys : goal.returns-clause-keys
 returns-clause-keys c tables ns given known all b ks h = keys-hold tables ns known given all b ks h
+
+pub returns-clause-exact : goal.returns-clause-exact
+returns-clause-exact c = keys-exact
