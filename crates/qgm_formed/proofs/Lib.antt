@@ -20,3 +20,4 @@ pub mod LikeBoxes
 pub mod LikeGraphs
 pub mod LikeTurned
 pub mod OneToOne
+pub mod Reused

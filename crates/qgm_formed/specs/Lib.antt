@@ -3,4 +3,5 @@ pub mod Law
 pub mod Alike
 pub mod OneToOne
 pub mod Told
+pub mod Reused
 pub mod Sample

@@ -2,6 +2,7 @@
 ghost use Rattle.qgm_formed.specs.Alike.{BuiltAlike};
 ghost use Rattle.qgm_formed.specs.Law.{RootReaches, TypesAgree, WellFormed};
 ghost use Rattle.qgm_formed.specs.OneToOne.{BuiltOneToOne};
+ghost use Rattle.qgm_formed.specs.Reused.{Reused};
 ghost use Rattle.qgm_formed.specs.Sample.{Sampled};
 ghost use Rattle.qgm_formed.specs.Told.{ToldByColumns};
 
@@ -18,4 +19,5 @@ pub fn formed_laws()
     ensures one_to_one { BuiltOneToOne }
     ensures told { ToldByColumns }
     ensures sampled { Sampled }
+    ensures reused { Reused }
 {}

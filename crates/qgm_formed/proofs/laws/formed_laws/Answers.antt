@@ -4,6 +4,7 @@ use Rattle.qgm_formed.proofs.LikeGraphs.{same-but-numbers}
 use Rattle.qgm_formed.proofs.Formed.{well-formed}
 use Rattle.qgm_formed.proofs.OneToOne.{are-one-to-one}
 use Rattle.qgm_formed.proofs.Passes.{root-reaches}
+use Rattle.qgm_formed.proofs.Reused.{reused}
 use Rattle.qgm_formed.proofs.Sampled.{sampled}
 use Rattle.qgm_formed.proofs.Telling.{told-by}
 
@@ -27,3 +28,6 @@ returns-clause-alike c = λ sources shared typed query names order g h first sec
 
 pub returns-clause-one_to_one : goal.returns-clause-one_to_one
 returns-clause-one_to_one c = λ sources shared typed query names order g h first second told. are-one-to-one sources shared typed query names order g h first second told
+
+pub returns-clause-reused : goal.returns-clause-reused
+returns-clause-reused c = reused
