@@ -16,4 +16,5 @@ mod Sights
 mod Typing
 mod Nesting
 mod TypingSchemas
+mod SchemaSources
 mod Sampled

@@ -1,6 +1,7 @@
 // The laws of queries that boxes can be made for and of the types of their expressions, as theorems.
 ghost use Rattle.query_buildable.specs.Law.{ValidIsBuildable, ValidTextIsBuildable, ValidViewsAreBuildable};
 ghost use Rattle.query_buildable.specs.Sample.{Sampled};
+ghost use Rattle.query_buildable.specs.Sources.{SchemaSourcesTyped};
 ghost use Rattle.query_buildable.specs.Typing.{ValidHasTypes, ValidSourcesTyped, ValidTextHasTypes, ValidViewsHaveTypes};
 
 /// Where a query is of the grammar and the checks find no fault in it, boxes can be made for its
@@ -22,4 +23,10 @@ pub fn type_laws()
     ensures views { ValidViewsHaveTypes }
     ensures sources { ValidSourcesTyped }
     ensures sampled { Sampled }
+{}
+
+/// Over a valid schema, what names stand for where boxes are made of a query: the columns of tables
+/// and views have the types that the checks state. It does nothing.
+pub fn built_laws()
+    ensures sources { SchemaSourcesTyped }
 {}

@@ -4,4 +4,4 @@
 
 mod laws;
 
-pub use laws::{buildable_laws, type_laws};
+pub use laws::{buildable_laws, built_laws, type_laws};
