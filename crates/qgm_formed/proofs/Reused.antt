@@ -1,12 +1,13 @@
 -- Where a derived table ranges over a view's box, this box meets two.
-use Rattle.std.proofs.Common.{inl, ◌≡◌, ◌≤◌, ◌==◌, ℕ, zero, suc, Bool, true, false, cond, List, codes, refl, arith, [], ◌∷◌}
+use Rattle.std.proofs.Common.{inl, ◌≡◌, ◌≤◌, ◌==◌, ℕ, zero, suc, Bool, true, false, cond, List, codes, refl, sym, subst, ◌∙◌, arith, [], ◌∷◌}
 use Rattle.qgm_core.specs.Edits.{range}
 use Rattle.qgm_core.specs.declared.kinds.QuantKind.TheVariants.{F}
 use Rattle.qgm_core.specs.declared.node.Node.{Node}
 use Rattle.sql_meaning.specs.ResolvedTrees as q
 use Rattle.qgm_shown.specs.Samples.{base, sources}
-use Rattle.qgm_shown.specs.Shown.{Shows, ShowsBase, ShowsQuery, of_operand, of_query, uses}
+use Rattle.qgm_shown.specs.Shown.{Shows, ShowsBase, ShowsBox, ShowsQuery, of_operand, of_query, uses}
 use Rattle.qgm_formed.specs.Alike.{roots, under}
+use Rattle.qgm_formed.specs.OneToOne.{EachForOne, IsFor}
 use Rattle.qgm_formed.specs.Reused.{Reused, apart, body, over_u, reusing, top, twice}
 
 base-u : ShowsBase sources (Shows sources []) (codes "U") (base 7 (codes "U"))
@@ -39,6 +40,14 @@ alone-apart b h = let u = h (codes "U") in let v = h (codes "V") in let w = last
     last true = omega arith
     last false = omega arith
 
+-- it would be there for V and for W
+two-things : EachForOne sources twice reusing → ⊥
+two-things e =
+    let n = top (range 1 F 8 ∷ range 2 F 8 ∷ []) in
+    let h : ShowsQuery sources (IsFor e.what e.seen) twice [] (top (range 1 F 8 ∷ range 2 F 8 ∷ [])) = subst (λ z. ShowsBox sources (IsFor e.what e.seen) (of_query twice) z n) e.root.1 (subst (λ z. ShowsBox sources (IsFor e.what e.seen) z (e.seen 1) n) e.root.0 (e.each n (inl refl))) in
+    let same : of_operand (q.named (codes "V")) ≡ of_operand (q.derived body) = sym h.froms.0.1.0 ∙ h.froms.1.0.1.0 in
+    absurd (cc same)
+
 pub reused : Reused
 reused = record {
   first = record { shows = shows-reusing; named = refl; ordered = refl; used = refl; alone = alone-reusing };
@@ -46,4 +55,5 @@ reused = record {
   ordered = ((refl, refl, (refl, refl, (refl, refl, tt))), (refl, refl, (refl, refl, (refl, refl, (refl, refl, tt)))));
   view = under (top (range 1 F 8 ∷ range 2 F 8 ∷ [])) (top (range 1 F 8 ∷ range 2 F 9 ∷ [])) zero (range 1 F 8) (range 1 F 8) roots (inl refl) (inl refl) refl refl;
   derived = under (top (range 1 F 8 ∷ range 2 F 8 ∷ [])) (top (range 1 F 8 ∷ range 2 F 9 ∷ [])) (suc zero) (range 2 F 8) (range 2 F 9) roots (inl refl) (inl refl) refl refl;
+  refused = two-things;
 }

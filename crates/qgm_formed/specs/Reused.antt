@@ -13,6 +13,7 @@ use Rattle.qgm_terms.specs.Terms as t
 use Rattle.qgm_shown.specs.Law.{IsBuiltOf}
 use Rattle.qgm_shown.specs.Samples.{base, box, sources}
 use Rattle.qgm_formed.specs.Alike.{Meets}
+use Rattle.qgm_formed.specs.OneToOne.{EachForOne}
 
 -- the body of V: SELECT U.C, U.D FROM U WHERE U.D >= 8
 abbrev pub body : Query
@@ -38,10 +39,11 @@ reusing = record { boxes = top (range 1 F 8 ∷ range 2 F 8 ∷ []) ∷ over_u 8
 abbrev pub apart : QueryGraph
 apart = record { boxes = top (range 1 F 8 ∷ range 2 F 9 ∷ []) ∷ over_u 8 ∷ over_u 9 ∷ base 7 (codes "U") ∷ []; root = 1; names = None ∷ []; order = [] }
 
--- both are built of the query, and 8 meets 8 and 9
+-- both are built of the query, and 8 meets 8 and 9; in the first one it isn't there for one thing
 pub record Reused : Type 0 where
   pub first : IsBuiltOf sources twice (None ∷ []) [] reusing
   pub second : IsBuiltOf sources twice (None ∷ []) [] apart
   pub ordered : Ordered reusing.boxes × Ordered apart.boxes
   pub view : Meets reusing apart 8 8
   pub derived : Meets reusing apart 8 9
+  pub refused : EachForOne sources twice reusing → ⊥
