@@ -1,5 +1,5 @@
 -- Where a derived table ranges over a view's box, this box meets two.
-use Rattle.std.proofs.Common.{inl, ◌≡◌, ◌≤◌, ◌==◌, ℕ, zero, suc, Bool, true, false, cond, List, codes, refl, arith, [], ◌∷◌}
+use Rattle.std.proofs.Common.{inl, ◌≡◌, ◌≤◌, ◌==◌, ℕ, zero, suc, Bool, true, false, cond, List, codes, refl, sym, subst, ◌∙◌, arith, [], ◌∷◌}
 use Rattle.qgm_core.specs.Edits.{range}
 use Rattle.qgm_core.specs.declared.kinds.QuantKind.TheVariants.{F}
 use Rattle.qgm_core.specs.declared.node.Node.{Node}
