@@ -14,6 +14,9 @@ use Rattle.qgm_core.specs.declared.owned.OwnedQuant.{OwnedQuant}
 use Rattle.qgm_meaning.proofs.Frames.{either-left, either-right}
 use Rattle.qgm_meaning.proofs.Ranked.{unfold-rank}
 use Rattle.qgm_terms.specs.Terms.{Term, col}
+use mathlib.Core.Path.{fun_ext}
+use Rattle.qgm_props.specs.Inferred.{Facts, at_most_one}
+use Rattle.qgm_props.specs.Laws.{Tells, TellsKey}
 use Rattle.qgm_props.specs.InferredKeys.{AreKeys, IsKey, KeyAmong, StandAt, combined, declared, enforced, grouped, joined, none, one_more, one_row, places_to, selected, without_all}
 use Rattle.qgm_props.specs.Keys.{all_within, among, cell_at, column_of, columns_at, holds_key, keyed, keyed_by, keyed_op, keyed_under, keyed_under_F, keyed_under_two}
 use Rattle.qgm_props.proofs.KeyRanks.{column-place, in-first, keyed-local}
@@ -208,3 +211,21 @@ module _ (single : ℕ → Bool) (boxes : List Node) where
 
 pub keys-exact : (single : ℕ → Bool) (boxes : List Node) → Ordered boxes → (b : ℕ) (ks : List ℕ) → (holds_key single boxes b ks ≡ true) ↔ KeyAmong single boxes b ks
 keys-exact single boxes ordered b ks = (λ h. inferred single boxes boxes (λ n i. i) b ks h, λ k. found single boxes ordered b k.0 ks k.1.0 k.1.1)
+
+-- ---- over the facts that are inferred
+
+same-bool : (a b : Bool) → (a ≡ true → b ≡ true) → (b ≡ true → a ≡ true) → a ≡ b
+same-bool true b f g = sym (f refl)
+same-bool false true f g = g refl
+same-bool false false f g = refl
+
+-- which boxes are known to have at most one row
+same-single : (known those : Facts) (ns : List Node) → Tells known ns → Tells those ns → known.at_most_one ≡ those.at_most_one
+same-single known those ns t u =
+    fun_ext (λ b. same-bool (known.at_most_one b) (those.at_most_one b) (λ h. (u (at_most_one b)).1 ((t (at_most_one b)).0 h)) (λ h. (t (at_most_one b)).1 ((u (at_most_one b)).0 h)))
+
+pub tells-key : (known : Facts) (ns : List Node) (b : ℕ) (ks : List ℕ) (answer : Bool) → answer ≡ holds_key known.at_most_one ns b ks → TellsKey answer known ns b ks
+tells-key known ns b ks answer e tells ordered = (
+  λ h those t. subst (λ (single : ℕ → Bool). KeyAmong single ns b ks) (same-single known those ns tells t) ((keys-exact known.at_most_one ns ordered b ks).0 (sym e ∙ h)),
+  λ k. e ∙ (keys-exact known.at_most_one ns ordered b ks).1 (k known tells),
+)

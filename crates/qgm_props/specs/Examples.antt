@@ -9,9 +9,9 @@ use Rattle.qgm_core.specs.declared.kinds.Role.TheVariants.{Magic}
 use Rattle.qgm_core.specs.declared.kinds.BoxKind.TheVariants.{Base, Select, Group, SetOp, OuterJoin}
 use Rattle.qgm_core.specs.declared.kinds.SetOperator.{SetOperator}
 use Rattle.qgm_core.specs.declared.kinds.SetOperator.TheVariants.{UnionAll, Union, IntersectAll, Intersect, ExceptAll, Except}
-use Rattle.qgm_terms.specs.Terms.{Term, int, text, null_int, null_text, col, both, minus_of, choose, count_all, fold, single, count, sum, avg, least, greatest, each_once, all_of, no_arm, arm, Cond, always, compare, equal, below, is_null, and, not}
+use Rattle.qgm_terms.specs.Terms.{Term, int, text, null_int, null_text, col, both, minus_of, choose, count_all, fold, single, count, sum, avg, least, greatest, each_once, all_of, no_arm, arm, Cond, always, compare, equal, below, is_null, and, or, not}
 use Rattle.qgm_terms.specs.Terms as terms
-use Rattle.qgm_terms.specs.declared.tree.Op.TheVariants.{Add, Div, Cat}
+use Rattle.qgm_terms.specs.declared.tree.Op.TheVariants.{Add, Sub, Mul, Div, Cat}
 use Rattle.qgm_meaning.specs.Examples.{box, f, t}
 use Rattle.qgm_props.specs.Calm.{calm}
 use Rattle.qgm_props.specs.Inferred.{Fact, Facts, at_most_one, clean, error_free, exactly_one, inferred_once, not_null, says}
@@ -96,6 +96,35 @@ pub record OfExpressions : Type 0 where
   -- of a group without keys, and of a base
   pub scalar : cell (terms.scalar 4) ≡ true
   pub scalar_of_several : cell (terms.scalar 3) ≡ false
+  -- literals and nulls, up to the range of integers
+  pub text_literal : cell (text (codes "a")) ≡ true
+  pub null_of_text : cell null_text ≡ true
+  pub largest : cell (int (pos 9223372036854775807)) ≡ true
+  pub lowest : cell (int (negsuc 9223372036854775807)) ≡ true
+  pub too_large : cell (int (pos 9223372036854775808)) ≡ false
+  pub too_low : cell (int (negsuc 9223372036854775808)) ≡ false
+  pub first_column : cell (col 1 1) ≡ true
+  pub column_beside : cell (col 2 2) ≡ true
+  pub column_of_count : cell (col 4 1) ≡ true
+  -- of a box that isn't clean
+  pub column_of_failing : cell (col 5 1) ≡ true
+  pub joined_nulls : cell (both Cat null_text null_text) ≡ true
+  pub joined_column : cell (both Cat (col 1 1) (text (codes "a"))) ≡ true
+  pub joined_twice : cell (both Cat (both Cat (col 1 1) (col 1 2)) (col 2 1)) ≡ true
+  pub joined_risky_left : cell (both Cat risky (text (codes "a"))) ≡ false
+  pub null_divided : cell (both Div null_int (i 2)) ≡ true
+  pub divided_by_one : cell (both Div (col 1 2) (i 1)) ≡ true
+  -- other arithmetic isn't, whatever the operands
+  pub subtracted : cell (both Sub (i 1) (i 1)) ≡ false
+  pub multiplied : cell (both Mul (i 1) (i 1)) ≡ false
+  pub multiplied_by_zero : cell (both Mul (col 1 1) (i 0)) ≡ false
+  pub subtracted_column : cell (both Sub (col 1 1) (i 0)) ≡ false
+  pub added_null : cell (both Add null_int null_int) ≡ false
+  pub minus_null : cell (minus_of null_int) ≡ false
+  pub chosen_columns : cell (choose (arm (is_null (col 1 1)) (col 1 2) no_arm) (col 1 1)) ≡ true
+  pub chosen_else_only : cell (choose no_arm (i 1)) ≡ true
+  pub chosen_of_two : cell (choose (arm (is_null (col 1 1)) (i 1) (arm (is_null (col 1 2)) (i 2) no_arm)) (i 3)) ≡ true
+  pub chosen_second : cell (choose (arm (is_null (col 1 1)) (i 1) (arm (is_null (col 1 2)) risky no_arm)) (i 3)) ≡ false
 
 pub record OfConditions : Type 0 where
   pub compared : tests (compare equal (col 1 1) (i 1)) ≡ true
@@ -108,6 +137,13 @@ pub record OfConditions : Type 0 where
   -- over a box that isn't clean
   pub exists_over_errors : tests (terms.some 5 always) ≡ false
   pub for_all_over_errors : tests (terms.every 5 always) ≡ false
+  pub constant : tests always ≡ true
+  pub either : tests (or (is_null (col 1 1)) (compare equal (col 1 2) (i 1))) ≡ true
+  pub either_risky : tests (or (is_null (col 1 1)) (is_null risky)) ≡ false
+  pub not_risky : tests (not (is_null risky)) ≡ false
+  pub exists_any : tests (terms.some 2 always) ≡ true
+  pub for_all_null : tests (terms.every 2 (is_null (col 2 2))) ≡ true
+  pub for_all_risky : tests (terms.every 2 (is_null risky)) ≡ false
 
 -- a group by so many keys over the columns of a select over a base
 abbrev groups : ℕ → List Term → List Term → List Node
@@ -132,6 +168,16 @@ pub record OfAggregates : Type 0 where
   pub single_of_several : aggregate (fold single all_of (col 1 1)) ≡ false
   pub single_of_one : of_one (fold single all_of (col 1 1)) ≡ true
   pub single_risky : of_one (fold single all_of risky) ≡ false
+  pub rows_of_one : of_one count_all ≡ true
+  pub counted_once : aggregate (fold count each_once (col 1 2)) ≡ true
+  pub averaged_risky : aggregate (fold avg all_of risky) ≡ false
+  pub least_risky : aggregate (fold terms.least each_once risky) ≡ false
+  pub greatest_risky : aggregate (fold terms.greatest all_of risky) ≡ false
+  pub summed_once : aggregate (fold sum each_once (col 1 1)) ≡ false
+  pub summed_null : of_one (fold sum all_of null_int) ≡ false
+  pub single_literal : of_one (fold single all_of (i 1)) ≡ true
+  pub single_null : of_one (fold single all_of null_int) ≡ true
+  pub single_text : of_one (fold single all_of (text (codes "a"))) ≡ true
 
 -- a set operation on the first columns of a base and of a select with this cell and this condition
 abbrev set : SetOperator → Term → List Cond → Fact → Bool
@@ -177,6 +223,49 @@ pub record OfBoxes : Type 0 where
   pub join_clean : joined (compare equal (col 1 1) (col 2 1) ∷ []) (clean 1) ≡ true
   pub join_failing : joined fails (clean 1) ≡ false
   pub join_column : joined fails (error_free 1 2) ≡ true
+  pub base_first_column : said (t 1 ∷ []) (error_free 1 1) ≡ true
+  pub base_second_column : said (base 1 [] [] ∷ []) (error_free 1 2) ≡ true
+  pub base_key_column : said (base 1 ((1 ∷ []) ∷ []) (1 ∷ []) ∷ []) (error_free 1 1) ≡ true
+  pub base_place_zero : said (t 1 ∷ []) (error_free 1 0) ≡ false
+  pub base_keyed_clean : said (base 1 ((1 ∷ []) ∷ []) (1 ∷ []) ∷ []) (clean 1) ≡ true
+  pub base_below_clean : said (one 1 ∷ t 9 ∷ []) (clean 9) ≡ true
+  pub base_without_keys_clean : said (base 1 [] [] ∷ []) (clean 1) ≡ true
+  pub select_bare : said (select 1 [] [] [] ∷ []) (clean 1) ≡ true
+  pub select_tested : said (select 1 (is_null (col 1 1) ∷ []) [] (f 1 9 ∷ []) ∷ t 9 ∷ []) (clean 1) ≡ true
+  -- one of two conditions
+  pub select_failing_second : said (select 1 (is_null (col 1 1) ∷ fails) [] (f 1 9 ∷ []) ∷ t 9 ∷ []) (clean 1) ≡ false
+  -- a column of a column
+  pub select_of_column : said (select 1 [] (col 1 1 ∷ []) (f 1 2 ∷ []) ∷ one 2 ∷ []) (error_free 1 1) ≡ true
+  pub select_of_risky : said (select 1 [] (col 1 1 ∷ []) (f 1 2 ∷ []) ∷ select 2 [] (risky ∷ []) [] ∷ []) (error_free 1 1) ≡ false
+  pub group_without_keys : said (groups 0 (count_all ∷ []) (col 2 1 ∷ [])) (clean 1) ≡ true
+  pub group_of_two_keys : said (groups 2 (col 1 1 ∷ col 1 2 ∷ []) (col 2 1 ∷ i 1 ∷ [])) (clean 1) ≡ true
+  pub group_of_failing : said (box 1 (Group 0) [] (count_all ∷ []) (f 1 2 ∷ []) ∷ select 2 fails (i 1 ∷ []) [] ∷ []) (clean 1) ≡ false
+  pub group_key_column : said (groups 1 (col 1 1 ∷ []) (col 2 1 ∷ [])) (error_free 1 1) ≡ true
+  pub group_count_column : said (groups 1 (col 1 1 ∷ count_all ∷ []) (col 2 1 ∷ [])) (error_free 1 2) ≡ true
+  pub group_least_column : said (groups 0 (fold least all_of (col 1 1) ∷ []) (col 2 1 ∷ [])) (error_free 1 1) ≡ true
+  pub group_sum_column : said (groups 0 (fold sum all_of (col 1 1) ∷ []) (col 2 1 ∷ [])) (error_free 1 1) ≡ false
+  pub union_all_clean : set UnionAll risky [] (clean 1) ≡ true
+  pub union_of_columns_clean : set Union (col 4 1) [] (clean 1) ≡ true
+  pub union_all_of_columns_clean : set UnionAll (col 4 1) [] (clean 1) ≡ true
+  pub union_column_once : set Union (i 1) [] (error_free 1 1) ≡ true
+  pub union_column_of_column : set Union (col 4 2) [] (error_free 1 1) ≡ true
+  pub union_column_failing : set Union (i 1) fails (error_free 1 1) ≡ true
+  pub union_all_risky : set UnionAll risky [] (error_free 1 1) ≡ false
+  pub intersect_all_clean : set IntersectAll (col 4 1) [] (clean 1) ≡ true
+  pub except_once_clean : set Except (i 1) [] (clean 1) ≡ true
+  pub except_risky : set Except risky [] (clean 1) ≡ false
+  pub intersect_once_column : set Intersect (col 4 1) [] (error_free 1 1) ≡ true
+  pub except_all_column : set ExceptAll (i 1) [] (error_free 1 1) ≡ true
+  pub except_once_column : set Except (col 4 2) [] (error_free 1 1) ≡ true
+  pub intersect_failing_column : set Intersect (i 1) fails (error_free 1 1) ≡ false
+  pub join_bare : joined [] (clean 1) ≡ true
+  pub join_tested : joined (is_null (col 2 1) ∷ []) (clean 1) ≡ true
+  pub join_constant : joined (always ∷ []) (clean 1) ≡ true
+  pub join_left_column : joined [] (error_free 1 1) ≡ true
+  pub join_failing_left_column : joined fails (error_free 1 1) ≡ true
+  pub join_right_column : joined [] (error_free 1 2) ≡ true
+  pub join_risky_column : said (box 1 OuterJoin [] (risky ∷ []) (f 1 9 ∷ f 2 9 ∷ []) ∷ t 9 ∷ []) (error_free 1 1) ≡ false
+  pub join_no_column : joined [] (error_free 1 3) ≡ false
 
 -- an outer join of these two
 abbrev joined_of : Node → Node → Fact → Bool
@@ -206,6 +295,22 @@ pub record OfRows : Type 0 where
   pub join_of_few : joined_of (few 2) (one 3) (exactly_one 1) ≡ false
   pub join_of_few_at_most : joined_of (few 2) (few 3) (at_most_one 1) ≡ true
   pub join_of_many : joined_of (one 2) (select 3 [] (i 1 ∷ []) (f 3 9 ∷ [])) (at_most_one 1) ≡ false
+  -- a group of a group, of one row, and of none
+  pub group_of_group : said (box 1 (Group 0) [] [] (f 1 2 ∷ []) ∷ box 2 (Group 0) [] [] (f 2 9 ∷ []) ∷ t 9 ∷ []) (exactly_one 1) ≡ true
+  pub group_of_one : said (box 1 (Group 0) [] [] (f 1 2 ∷ []) ∷ one 2 ∷ []) (exactly_one 1) ≡ true
+  pub group_of_few : said (box 1 (Group 0) [] [] (f 1 2 ∷ []) ∷ few 2 ∷ []) (exactly_one 1) ≡ true
+  pub group_of_one_by_key : said (box 1 (Group 1) [] (col 1 1 ∷ []) (f 1 2 ∷ []) ∷ one 2 ∷ []) (at_most_one 1) ≡ false
+  pub over_ones : said (select 1 [] [] (f 1 2 ∷ f 2 3 ∷ []) ∷ one 2 ∷ one 3 ∷ []) (exactly_one 1) ≡ true
+  pub over_one_and_few : said (select 1 [] [] (f 1 2 ∷ f 2 3 ∷ []) ∷ one 2 ∷ few 3 ∷ []) (at_most_one 1) ≡ true
+  pub tested_nothing : said (few 1 ∷ []) (at_most_one 1) ≡ true
+  pub tested_nothing_exactly : said (few 1 ∷ []) (exactly_one 1) ≡ false
+  pub join_of_ones : joined_of (one 2) (one 3) (exactly_one 1) ≡ true
+  pub join_of_group : joined_of (box 2 (Group 0) [] [] (f 4 9 ∷ [])) (few 3) (exactly_one 1) ≡ true
+  pub join_of_bare : joined_of (select 2 [] [] []) (one 3) (exactly_one 1) ≡ true
+  pub join_of_one_at_most : joined_of (one 2) (few 3) (at_most_one 1) ≡ true
+  pub join_of_few_and_one : joined_of (few 2) (one 3) (at_most_one 1) ≡ true
+  pub join_of_ones_at_most : joined_of (one 2) (one 3) (at_most_one 1) ≡ true
+  pub join_of_many_left : joined_of (select 2 [] (i 1 ∷ []) (f 3 9 ∷ [])) (one 3) (at_most_one 1) ≡ false
 
 abbrev over_base : Term → Bool
 over_base x = said (select 1 [] (x ∷ []) (f 1 2 ∷ []) ∷ base 2 [] (2 ∷ []) ∷ []) (not_null 1 1)
@@ -235,6 +340,20 @@ pub record OfNulls : Type 0 where
   pub right : beside 2 ≡ false
   pub left_nullable : beside 3 ≡ false
   pub set : said (box 1 (SetOp UnionAll (Integer ∷ Integer ∷ [])) [] [] (f 1 2 ∷ f 2 2 ∷ []) ∷ base 2 [] (2 ∷ []) ∷ []) (not_null 1 2) ≡ false
+  pub declared_first : said (base 1 [] (1 ∷ 2 ∷ []) ∷ []) (not_null 1 1) ≡ true
+  pub declared_second : said (base 1 [] (1 ∷ 2 ∷ []) ∷ []) (not_null 1 2) ≡ true
+  -- a key's columns are declared beside it
+  pub declared_key : said (base 1 ((1 ∷ []) ∷ []) (1 ∷ []) ∷ []) (not_null 1 1) ≡ true
+  pub number : over_base (i 0) ≡ true
+  pub negative : over_base (int (negsuc 0)) ≡ true
+  pub empty_text : over_base (text []) ≡ true
+  pub no_number : over_base null_int ≡ false
+  pub joined_texts : over_base (both Cat (text (codes "a")) (text (codes "b"))) ≡ false
+  pub counted_all : grouped (fold count all_of (col 1 2)) ≡ true
+  pub counted_null : grouped (fold count all_of null_int) ≡ true
+  pub column_of_column : said (select 1 [] (col 3 1 ∷ []) (f 3 2 ∷ []) ∷ select 2 [] (col 1 2 ∷ []) (f 1 9 ∷ []) ∷ base 9 [] (2 ∷ []) ∷ []) (not_null 1 1) ≡ true
+  pub column_of_null : said (select 1 [] (col 3 1 ∷ []) (f 3 2 ∷ []) ∷ select 2 [] (col 1 1 ∷ []) (f 1 9 ∷ []) ∷ base 9 [] (2 ∷ []) ∷ []) (not_null 1 1) ≡ false
+  pub summed : grouped (fold sum all_of (col 1 2)) ≡ false
 
 abbrev keyed : List Node → List ℕ → Bool
 keyed boxes ks = holds_key (after 6 boxes).at_most_one boxes 1 ks
@@ -276,6 +395,41 @@ pub record OfKeys : Type 0 where
   pub beside_one : keyed (select 1 [] two (f 1 8 ∷ f 2 2 ∷ []) ∷ few 2 ∷ base 8 ((1 ∷ []) ∷ []) (1 ∷ []) ∷ []) (1 ∷ []) ≡ true
   pub one_row : keyed (few 1 ∷ []) [] ≡ true
   pub many_rows : keyed (t 1 ∷ []) [] ≡ false
+  pub base_second_key : keyed (base 1 ((1 ∷ []) ∷ (2 ∷ []) ∷ []) (1 ∷ 2 ∷ []) ∷ []) (2 ∷ []) ≡ true
+  pub base_pair : keyed (base 1 ((1 ∷ 2 ∷ []) ∷ []) (1 ∷ 2 ∷ []) ∷ []) (2 ∷ 1 ∷ []) ≡ true
+  -- one of the two columns may be null
+  pub base_pair_nullable : keyed (base 1 ((1 ∷ 2 ∷ []) ∷ []) (1 ∷ []) ∷ []) (1 ∷ 2 ∷ []) ≡ false
+  pub distinct_in_order : keyed (distinct 1 (i 1 ∷ col 1 2 ∷ []) (f 1 9 ∷ []) ∷ t 9 ∷ []) (1 ∷ 2 ∷ []) ≡ true
+  pub distinct_one : keyed (distinct 1 (col 1 2 ∷ []) (f 1 9 ∷ []) ∷ t 9 ∷ []) (1 ∷ []) ≡ true
+  pub distinct_computed : keyed (distinct 1 (both Div (col 1 2) (i 2) ∷ []) (f 1 9 ∷ []) ∷ t 9 ∷ []) (1 ∷ []) ≡ true
+  pub group_key : keyed (groups 1 (col 1 1 ∷ count_all ∷ []) (col 2 1 ∷ [])) (1 ∷ []) ≡ true
+  pub group_more : keyed (groups 1 (col 1 1 ∷ count_all ∷ []) (col 2 1 ∷ [])) (2 ∷ 1 ∷ []) ≡ true
+  pub group_turned : keyed (box 1 (Group 2) [] (col 1 1 ∷ col 1 2 ∷ count_all ∷ []) (f 1 9 ∷ []) ∷ t 9 ∷ []) (2 ∷ 1 ∷ []) ≡ true
+  pub group_count : keyed (groups 1 (col 1 1 ∷ count_all ∷ []) (col 2 1 ∷ [])) (2 ∷ []) ≡ false
+  pub union_all_columns : set_of Union (1 ∷ 2 ∷ []) ≡ true
+  pub intersect_all_columns : set_of Intersect (2 ∷ 1 ∷ []) ≡ true
+  pub except_turned : set_of Except (2 ∷ 1 ∷ []) ≡ true
+  pub intersect_with_all : set_of IntersectAll (1 ∷ 2 ∷ []) ≡ false
+  pub except_with_all : set_of ExceptAll (1 ∷ 2 ∷ []) ≡ false
+  pub select_one : keyed (pairs (select 1 [] two (f 1 8 ∷ []))) (1 ∷ []) ≡ true
+  -- one base under both
+  pub select_itself : keyed (pairs (select 1 [] two (f 1 8 ∷ f 2 8 ∷ []))) (1 ∷ 3 ∷ []) ≡ true
+  -- an ENFORCE select has both kinds
+  pub select_distinct : keyed (pairs (distinct 1 two (f 1 8 ∷ f 2 9 ∷ []))) (1 ∷ 3 ∷ []) ≡ true
+  pub select_of_select : keyed (select 1 [] (col 3 2 ∷ []) (f 3 2 ∷ []) ∷ pairs (select 2 [] (col 1 2 ∷ col 1 1 ∷ []) (f 1 8 ∷ []))) (1 ∷ []) ≡ true
+  pub select_of_select_other : keyed (select 1 [] (col 3 1 ∷ []) (f 3 2 ∷ []) ∷ pairs (select 2 [] (col 1 2 ∷ col 1 1 ∷ []) (f 1 8 ∷ []))) (1 ∷ []) ≡ false
+  -- the head lacks the key's column
+  pub select_lacking : keyed (pairs (select 1 [] (col 1 2 ∷ []) (f 1 8 ∷ []))) (1 ∷ []) ≡ false
+  pub join_more : keyed (pairs (box 1 OuterJoin [] two (f 1 8 ∷ f 2 9 ∷ []))) (3 ∷ 2 ∷ 1 ∷ []) ≡ true
+  pub join_itself : keyed (pairs (box 1 OuterJoin [] two (f 1 8 ∷ f 2 8 ∷ []))) (1 ∷ 3 ∷ []) ≡ true
+  pub join_of_few : keyed (box 1 OuterJoin [] (col 1 1 ∷ col 2 1 ∷ []) (f 1 8 ∷ f 2 2 ∷ []) ∷ few 2 ∷ base 8 ((1 ∷ []) ∷ []) (1 ∷ []) ∷ []) (1 ∷ []) ≡ true
+  pub join_left : keyed (pairs (box 1 OuterJoin [] two (f 1 8 ∷ f 2 9 ∷ []))) (1 ∷ 2 ∷ []) ≡ false
+  pub one_row_group : keyed (groups 0 [] []) [] ≡ true
+  pub one_row_over_few : keyed (select 1 [] [] (f 1 2 ∷ []) ∷ few 2 ∷ []) [] ≡ true
+  pub one_row_join : keyed (box 1 OuterJoin [] (i 1 ∷ []) (f 1 2 ∷ f 2 3 ∷ []) ∷ one 2 ∷ few 3 ∷ []) [] ≡ true
+  -- with a column that isn't there
+  pub one_row_other : keyed (few 1 ∷ []) (5 ∷ []) ≡ true
+  pub groups_rows : keyed (groups 1 (col 1 1 ∷ []) (col 2 1 ∷ [])) [] ≡ false
 
 -- SELECT D.DNO FROM DEPT D WHERE D.BUDGET < (SELECT SUM(E.SAL) FROM EMP E WHERE E.DNO = D.DNO), with these conditions of the outer select and of the inner one
 abbrev counted : List Cond → List Cond → List Node
@@ -291,6 +445,19 @@ magic n = record n { parts = record n.parts { role = Magic } }
 
 abbrev correlated : List Cond
 correlated = compare equal (col 5 1) (col 1 1) ∷ []
+
+-- a scalar of box 2
+abbrev scalar_of : Node → Bool
+scalar_of n = said (select 1 [] (terms.scalar 3 ∷ []) (s 3 2 ∷ []) ∷ n ∷ t 9 ∷ []) (error_free 1 1)
+
+pub record OfScalars : Type 0 where
+  pub of_one_row : scalar_of (one 2) ≡ true
+  pub of_few : scalar_of (few 2) ≡ true
+  pub of_null : scalar_of (select 2 [] (null_text ∷ []) []) ≡ true
+  pub of_count : scalar_of (box 2 (Group 0) [] (count_all ∷ []) (f 4 9 ∷ [])) ≡ true
+  pub of_many : scalar_of (select 2 [] (col 4 1 ∷ []) (f 4 9 ∷ [])) ≡ false
+  pub of_failing : scalar_of (select 2 fails (i 1 ∷ []) []) ≡ false
+  pub of_risky : scalar_of (select 2 [] (risky ∷ []) []) ≡ false
 
 pub record OfCalm : Type 0 where
   pub departments : is_calm (counted (compare below (col 1 2) (terms.scalar 2) ∷ []) correlated) ≡ true

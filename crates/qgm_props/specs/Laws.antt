@@ -51,3 +51,11 @@ Tells known ns = (fact : Fact) → (says known fact ≡ true) ↔ Inferred ns fa
 -- no two rows that are there agree on these columns, over all tables that satisfy the bases
 abbrev pub KeyHolds : List Node → ℕ → List ℕ → Type 0
 KeyHolds ns b ks = (tables : List Table) → Premises tables ns → OfRows tables ns b (HasKey ks)
+
+-- by the graph alone: over the facts that are inferred, an inferred key is among these columns
+abbrev pub KeyInferred : List Node → ℕ → List ℕ → Type 0
+KeyInferred ns b ks = (known : Facts) → Tells known ns → KeyAmong known.at_most_one ns b ks
+
+-- an answer over facts that are those of boxes by rank: true exactly where an inferred key is among these columns
+abbrev pub TellsKey : Bool → Facts → List Node → ℕ → List ℕ → Type 0
+TellsKey answer known ns b ks = Tells known ns → Ordered ns → (answer ≡ true) ↔ KeyInferred ns b ks

@@ -1,7 +1,7 @@
 // What is inferred of a graph, as it is asked.
 ghost use Rattle.std.specs.Prelude.{◌≡◌, true, IfOk};
 ghost use Rattle.qgm_props.specs.Keys as keys;
-ghost use Rattle.qgm_props.specs.Laws.{KeyHolds, Tells};
+ghost use Rattle.qgm_props.specs.Laws.{KeyHolds, Tells, TellsKey};
 ghost use Rattle.qgm_props.specs.Table.{facts_of};
 
 use crate::facts::{
@@ -90,6 +90,7 @@ impl Props {
     ) -> Result<bool, OutOfMemory>
         ensures exact { IfOk result (λ k. k ≡ keys.holds_key (facts_of self.now).at_most_one graph.now.boxes b columns.now) }
         ensures holds { IfOk result (λ k. k ≡ true → Tells (facts_of self.now) graph.now.boxes → KeyHolds graph.now.boxes b columns.now) }
+        ensures inferred { IfOk result (λ k. TellsKey k (facts_of self.now) graph.now.boxes b columns.now) }
     {
         has_key(alloc, graph.nodes(), &self.boxes, b, columns)
     }

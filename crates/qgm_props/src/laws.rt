@@ -1,5 +1,5 @@
 // The laws, as theorems.
-ghost use Rattle.qgm_props.specs.Examples.{OfExpressions, OfConditions, OfAggregates, OfBoxes, OfRows, OfNulls, OfKeys, OfCalm};
+ghost use Rattle.qgm_props.specs.Examples.{OfExpressions, OfConditions, OfAggregates, OfBoxes, OfRows, OfNulls, OfKeys, OfCalm, OfScalars};
 ghost use Rattle.qgm_props.specs.Laws.{InferredHolds, KeysExact, KeysHold, Least, StepHolds};
 
 /// What is inferred of boxes is the least set of facts that the sentences give, and it holds. It does nothing.
@@ -21,4 +21,5 @@ pub fn examples()
     ensures nulls { OfNulls }
     ensures keys { OfKeys }
     ensures calm { OfCalm }
+    ensures scalars { OfScalars }
 {}
