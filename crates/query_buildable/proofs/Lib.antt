@@ -1,3 +1,4 @@
+mod Accepted
 mod Tests
 mod Widths
 mod Plain
