@@ -18,4 +18,6 @@ mod Typing
 mod Nesting
 mod TypingSchemas
 mod SchemaSources
+mod Placed
+mod Joined
 mod Sampled
