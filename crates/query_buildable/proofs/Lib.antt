@@ -1,3 +1,4 @@
+mod Accepted
 mod Tests
 mod Widths
 mod Plain
@@ -17,4 +18,6 @@ mod Typing
 mod Nesting
 mod TypingSchemas
 mod SchemaSources
+mod Placed
+mod Joined
 mod Sampled

@@ -12,10 +12,9 @@ use Rattle.query_buildable.specs.Typing.{ValidSchema}
 
 schema_valid : ValidSchema catalog
 schema_valid = record {
-  shallow = refl;
+  accepted = refl;
   views = refl;
   queries = all_of_each (λ (view : s.ViewDecl). is_query view.query ≡ true) catalog.views (refl, tt);
-  tables = all_of_each (λ (table : TableDecl). is_empty (columns_of table.elements) ≡ false) catalog.tables (refl, tt);
 }
 
 pub sampled : Sampled

@@ -26,6 +26,8 @@ use Rattle.query_checks.specs.declared.column.TypedColumn.{TypedColumn}
 use Rattle.qgm_formed.specs.Law.{HasColumns, SourcesTyped}
 use Rattle.qgm_formed.specs.Typed.{Gives}
 use Rattle.qgm_shown.specs.Sources.{Sources}
+use Rattle.name_resolution.proofs.Valid.{shallow}
+use Rattle.query_buildable.proofs.Accepted.{tables_full}
 use Rattle.query_buildable.proofs.Full.{IsFullHead, filled_query, full_listed}
 use Rattle.query_buildable.proofs.Nesting.{Shallow, ShallowName, all_shallow, found_each, head_more, head_of, heads_at, nested, stable}
 use Rattle.query_buildable.proofs.Schemas.{schema_same}
@@ -74,13 +76,13 @@ module _ (catalog : Declared) (valid : ValidSchema catalog) where
       at (Some table) e =
           typed_full (columns_of table.elements)
           (found_each (λ (w : TableDecl). is_empty (columns_of w.elements) ≡ false) (λ (w : TableDecl). same_name w.name name) catalog.tables table
-          (each_of_all (λ (w : TableDecl). is_empty (columns_of w.elements) ≡ false) catalog.tables valid.tables) e)
+          (tables_full catalog valid.accepted) e)
 
   -- the body of a view of a name has no fault, and is of the grammar
   found_valid : (name : List ℕ) (view : s.ViewDecl) → view_named catalog.views name ≡ Some view → query_fault (heads_of catalog) view.query [] ≡ 0
   found_valid name view e =
       found_each (λ (w : s.ViewDecl). query_fault (heads_of catalog) w.query [] ≡ 0) (λ (w : s.ViewDecl). same_name w.name name) catalog.views view
-      (each_of_all (λ (w : s.ViewDecl). query_fault (heads_of catalog) w.query [] ≡ 0) catalog.views (valid_views catalog valid.shallow valid.views)) e
+      (each_of_all (λ (w : s.ViewDecl). query_fault (heads_of catalog) w.query [] ≡ 0) catalog.views (valid_views catalog (shallow catalog valid.accepted) valid.views)) e
 
   found_query : (name : List ℕ) (view : s.ViewDecl) → view_named catalog.views name ≡ Some view → is_query view.query ≡ true
   found_query name view e =
@@ -113,10 +115,10 @@ module _ (catalog : Declared) (valid : ValidSchema catalog) where
           (filled_query (heads_of catalog) view.query [] tt (each_more (ShallowName catalog depth) (IsFullHead (heads_of catalog)) below (tables.in_query view.query) (nested catalog depth view k)) (found_query name view e) (found_valid name view e)))
 
   have_columns : HaveColumns (heads_of catalog)
-  have_columns name = full_head 16 (omega arith) name (all_shallow catalog valid.shallow name)
+  have_columns name = full_head 16 (omega arith) name (all_shallow catalog (shallow catalog valid.accepted) name)
 
   body_has_types : (body : s.Query) → is_query body ≡ true → query_fault (heads_of catalog) body [] ≡ 0 → Gives (kinds_of (heads_of catalog)) [] (query (schema_columns catalog) [] body) (known_types (columns (heads_of catalog) body []))
-  body_has_types body g h = query_has_types (heads_of catalog) (schema_columns catalog) (schema_same catalog) (typed_tables catalog valid.shallow valid.views) have_columns body g h
+  body_has_types body g h = query_has_types (heads_of catalog) (schema_columns catalog) (schema_same catalog) (typed_tables catalog (shallow catalog valid.accepted) valid.views) have_columns body g h
 
   -- ---- views
 
@@ -126,7 +128,7 @@ module _ (catalog : Declared) (valid : ValidSchema catalog) where
       ap (λ (o : Option (List TypedColumn)). known_types (columns_or_none o))
       (head_more catalog 15 name ∙ ap (λ (o : Option TableDecl). first_of (typed_columns o) (head_of (heads_at catalog 15) (view_named catalog.views name))) n ∙ ap (head_of (heads_at catalog 15)) e)
       ∙ same_known (renamed view.columns (columns (heads_at catalog 15) view.query [])) (columns (heads_at catalog 15) view.query []) (renamed_stated view.columns (columns (heads_at catalog 15) view.query []))
-      ∙ ap known_types (same_body view (subst (Shallow catalog 16) e (all_shallow catalog valid.shallow name)))
+      ∙ ap known_types (same_body view (subst (Shallow catalog 16) e (all_shallow catalog (shallow catalog valid.accepted) name)))
 
 pub text_has_types : (catalog : Declared) → ValidSchema catalog → (text : s.QueryText) → is_query text.query ≡ true → fault catalog text ≡ 0
     → Gives (kinds_of (heads_of catalog)) [] (query (schema_columns catalog) [] text.query) (known_types (columns (heads_of catalog) text.query []))
@@ -141,7 +143,7 @@ views_have_types catalog valid name view n e =
 pub sources_typed : (catalog : Declared) (sources : Sources) → ValidSchema catalog → SourcesOf catalog sources → SourcesTyped (kinds_of (heads_of catalog)) sources
 sources_typed catalog sources valid h = record {
   counted = λ name.
-      have_length (columns_or_none (heads_of catalog name)) (kinds_of (heads_of catalog) name) (are_kinds (heads_of catalog) (typed_tables catalog valid.shallow valid.views) name)
+      have_length (columns_or_none (heads_of catalog name)) (kinds_of (heads_of catalog) name) (are_kinds (heads_of catalog) (typed_tables catalog (shallow catalog valid.accepted) valid.views) name)
       ∙ sym (length-map (columns_or_none (heads_of catalog name)) (λ (c : TypedColumn). c.name))
       ∙ ap length (schema_same catalog name)
       ∙ sym (h.counts name);

@@ -4,13 +4,14 @@ use Rattle.sql_ast.specs.declared.schema.TableDecl.{TableDecl}
 use Rattle.sql_ast.specs.Declarations.{Declared, columns_of, table_named, view_named}
 use Rattle.sql_ast.specs.Grammatical.{is_query}
 use Rattle.sql_ast.specs.Syntax as s
+use Rattle.sql_catalog.specs.Catalog.{fault as refusal}
 use Rattle.sql_meaning.specs.ResolvedTrees as q
 use Rattle.sql_value.specs.declared.order_key.SqlType.{SqlType}
 use Rattle.name_resolution.specs.Resolved.{Columns, bare, query}
 use Rattle.name_resolution.specs.Schema.{schema_columns}
 use Rattle.query_checks.specs.Columns.{columns, columns_or_none}
 use Rattle.query_checks.specs.Faults.{query_fault}
-use Rattle.query_checks.specs.Laws.{AreTypedHeads, NestsShallow, SameColumns}
+use Rattle.query_checks.specs.Laws.{AreTypedHeads, SameColumns}
 use Rattle.query_checks.specs.Scopes.{Heads, is_empty}
 use Rattle.query_checks.specs.Views.{fault, heads_of, view_refusal}
 use Rattle.query_checks.specs.declared.column.TypedColumn.{TypedColumn}
@@ -48,16 +49,11 @@ ValidHasTypes =
 
 -- ---- over a schema
 
--- each table has a column
-abbrev pub TablesHaveColumns : Declared → Type 0
-TablesHaveColumns catalog = All (λ (table : TableDecl). is_empty (columns_of table.elements) ≡ false) catalog.tables
-
--- none of its views is refused, and all of them are of the grammar
+-- neither what it declares is refused nor any of its views, and all of these are of the grammar
 pub record ValidSchema (catalog : Declared) : Type 0 where
-  pub shallow : NestsShallow catalog
+  pub accepted : refusal catalog ≡ None
   pub views : view_refusal catalog ≡ None
   pub queries : AreQueries catalog.views
-  pub tables : TablesHaveColumns catalog
 
 abbrev pub ValidTextHasTypes : Type 0
 ValidTextHasTypes =

@@ -1,0 +1,51 @@
+-- A graph that is built of a valid query over a valid schema is well-formed, and its root's columns have the types that the checks state.
+use Rattle.std.specs.Prelude.{◌≡◌, ◌≤◌, ℕ, true, List, [], Option, None}
+use Rattle.sql_ast.specs.Declarations.{Declared}
+use Rattle.sql_ast.specs.Grammatical.{is_query}
+use Rattle.sql_ast.specs.Syntax as s
+use Rattle.sql_value.specs.declared.order_key.OrderKey.{OrderKey}
+use Rattle.sql_value.specs.declared.order_key.SqlType.{SqlType}
+use Rattle.name_resolution.specs.Resolved.{query}
+use Rattle.name_resolution.specs.Schema.{schema_columns}
+use Rattle.query_checks.specs.Columns.{columns}
+use Rattle.query_checks.specs.Views.{fault as query_fault, heads_of}
+use Rattle.qgm_core.specs.Boxes.{Ordered, QueryGraph, ids_in}
+use Rattle.qgm_core.specs.Lists.{times}
+use Rattle.qgm_terms.specs.Terms.{Term}
+use Rattle.qgm_check.specs.WellFormed.{fault}
+use Rattle.qgm_formed.specs.Law.{SharedOrOnce, Told, TypesFound}
+use Rattle.qgm_shown.specs.Law.{IsBuiltOf}
+use Rattle.qgm_shown.specs.Sources.{Sources}
+use Rattle.query_buildable.specs.Sources.{sources_of}
+use Rattle.query_buildable.specs.Typing.{ValidSchema, known_types}
+
+-- a query of the grammar over a schema, both valid
+pub record ValidQuery (catalog : Declared) (text : s.QueryText) : Type 0 where
+  pub schema : ValidSchema catalog
+  pub grammar : is_query text.query ≡ true
+  pub valid : query_fault catalog text ≡ 0
+
+-- a graph is built of it, with its names resolved
+abbrev pub IsBuiltOver : Declared → Sources → s.QueryText → List (Option (List ℕ)) → List OrderKey → QueryGraph → Type 0
+IsBuiltOver catalog sources text names order g = IsBuiltOf sources (query (schema_columns catalog) [] text.query) names order g
+
+-- its boxes stand in order, no two quantifiers have one number, the sources tell the types that are found, and no other box than those of tables and views is shared
+pub record IsLaidOut (sources : Sources) (g : QueryGraph) : Type 0 where
+  pub ordered : Ordered g.boxes
+  pub once : (q : ℕ) → times q (ids_in g.boxes) ≤ 1
+  pub told : Told sources g.boxes
+  pub apart : (b : ℕ) → SharedOrOnce sources g.boxes b
+
+-- it is well-formed, its expressions have types, and its root's columns these
+pub record IsFormed (types : List SqlType) (g : QueryGraph) : Type 0 where
+  pub formed : fault g ≡ None
+  pub typed : TypesFound types g
+
+-- the types that the checks state of the columns of a query
+abbrev pub stated_types : Declared → s.QueryText → List SqlType
+stated_types catalog text = known_types (columns (heads_of catalog) text.query [])
+
+abbrev pub ValidIsWellFormed : Type 0
+ValidIsWellFormed =
+    (catalog : Declared) (shared : List ℕ → ℕ) (typed : Term → SqlType) (text : s.QueryText) (names : List (Option (List ℕ))) (order : List OrderKey) (g : QueryGraph)
+    → ValidQuery catalog text → IsBuiltOver catalog (sources_of catalog shared typed) text names order g → IsLaidOut (sources_of catalog shared typed) g → IsFormed (stated_types catalog text) g
