@@ -1,5 +1,5 @@
 -- The root of a graph that is built of a valid query has the query's rows.
-use Rattle.std.proofs.Common.{◌≡◌, ◌∙◌, ℕ, true, List, [], ◌∷◌, Option, None, refl, sym}
+use Rattle.std.proofs.Common.{◌≡◌, ◌∙◌, ℕ, List, [], Option, sym}
 use Rattle.std.specs.Prelude.{All}
 use Rattle.row_bag.specs.declared.tables.Table.{Table}
 use Rattle.sql_ast.specs.Declarations.{Declared}

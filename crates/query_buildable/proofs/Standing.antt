@@ -22,7 +22,7 @@ use Rattle.sql_meaning.specs.ResolvedMeaning as c
 use Rattle.sql_meaning.specs.ResolvedTrees.{Query}
 use Rattle.sql_meaning.specs.ResolvedViews.{body_of}
 use Rattle.sql_meaning.specs.ResolvedViews as trees
-use Rattle.name_resolution.specs.Agreed.{IsWide, names_of, rows_of}
+use Rattle.name_resolution.specs.Agreed.{IsWide, rows_of}
 use Rattle.name_resolution.specs.Even.{EvenQuery}
 use Rattle.name_resolution.specs.Resolved.{Columns, bare, query}
 use Rattle.name_resolution.specs.Schema.{Sound, schema_columns, view_tree, view_trees}

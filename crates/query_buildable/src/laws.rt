@@ -1,4 +1,4 @@
-// The laws of queries that boxes can be made for and of the types of their expressions, as theorems.
+// The laws of queries that boxes can be made for, of the types of their expressions, and of what is built of them, as theorems.
 ghost use Rattle.query_buildable.specs.Law.{ValidIsBuildable, ValidTextIsBuildable, ValidViewsAreBuildable};
 ghost use Rattle.query_buildable.specs.Sample.{Sampled};
 ghost use Rattle.query_buildable.specs.Joined.{SchemaNamesStand, ValidIsWellFormed, ValidRootAgrees};
