@@ -1,5 +1,5 @@
 -- A graph that is built of a valid query is well-formed, by what holds of the query's types and of its sources.
-use Rattle.std.proofs.Common.{◌≡◌, ℕ, List, [], Option, None}
+use Rattle.std.proofs.Common.{ℕ, List, [], Option}
 use Rattle.sql_ast.specs.Declarations.{Declared}
 use Rattle.sql_ast.specs.Syntax as s
 use Rattle.sql_value.specs.declared.order_key.OrderKey.{OrderKey}

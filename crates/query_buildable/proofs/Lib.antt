@@ -20,4 +20,6 @@ mod TypingSchemas
 mod SchemaSources
 mod Placed
 mod Joined
+mod Standing
+mod Roots
 mod Sampled

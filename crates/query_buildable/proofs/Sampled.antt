@@ -1,11 +1,8 @@
 -- The sample computes, and has types by the law.
-use Rattle.std.proofs.Common.{◌≡◌, true, false, refl}
-use Rattle.sql_ast.specs.declared.schema.TableDecl.{TableDecl}
-use Rattle.sql_ast.specs.Declarations.{columns_of}
+use Rattle.std.proofs.Common.{◌≡◌, true, refl}
 use Rattle.sql_ast.specs.Grammatical.{is_query}
 use Rattle.sql_ast.specs.Syntax as s
 use Rattle.query_checks.proofs.Members.{all_of_each}
-use Rattle.query_checks.specs.Scopes.{is_empty}
 use Rattle.query_buildable.proofs.TypingSchemas.{text_has_types}
 use Rattle.query_buildable.specs.Sample.{Sampled, catalog, text}
 use Rattle.query_buildable.specs.Typing.{ValidSchema}
@@ -24,4 +21,5 @@ sampled = record {
   view = refl;
   types = refl;
   gives = text_has_types catalog schema_valid text refl refl;
+  stored = refl;
 }

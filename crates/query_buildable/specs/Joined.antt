@@ -1,20 +1,26 @@
--- A graph that is built of a valid query over a valid schema is well-formed, and its root's columns have the types that the checks state.
+-- A graph that is built of a valid query over a valid schema is well-formed, its root's columns have the types that the checks state, and its root's bag is the query's rows.
 use Rattle.std.specs.Prelude.{◌≡◌, ◌≤◌, ℕ, true, List, [], Option, None}
+use Rattle.row_bag.specs.declared.tables.Table.{Table}
 use Rattle.sql_ast.specs.Declarations.{Declared}
 use Rattle.sql_ast.specs.Grammatical.{is_query}
 use Rattle.sql_ast.specs.Syntax as s
 use Rattle.sql_value.specs.declared.order_key.OrderKey.{OrderKey}
 use Rattle.sql_value.specs.declared.order_key.SqlType.{SqlType}
+use Rattle.sql_meaning.specs.Meaning as named
+use Rattle.sql_meaning.specs.ResolvedMeaning.{rows}
+use Rattle.sql_meaning.specs.ResolvedViews.{known_of}
+use Rattle.name_resolution.specs.Laws.{HasDeclaredRows, HasWideTables}
 use Rattle.name_resolution.specs.Resolved.{query}
-use Rattle.name_resolution.specs.Schema.{schema_columns}
+use Rattle.name_resolution.specs.Schema.{schema_columns, view_trees}
 use Rattle.query_checks.specs.Columns.{columns}
 use Rattle.query_checks.specs.Views.{fault as query_fault, heads_of}
 use Rattle.qgm_core.specs.Boxes.{Ordered, QueryGraph, ids_in}
 use Rattle.qgm_core.specs.Lists.{times}
 use Rattle.qgm_terms.specs.Terms.{Term}
+use Rattle.qgm_meaning.specs.Meaning.{root_bag}
 use Rattle.qgm_check.specs.WellFormed.{fault}
 use Rattle.qgm_formed.specs.Law.{SharedOrOnce, Told, TypesFound}
-use Rattle.qgm_shown.specs.Law.{IsBuiltOf}
+use Rattle.qgm_shown.specs.Law.{IsBuiltOf, StandFor}
 use Rattle.qgm_shown.specs.Sources.{Sources}
 use Rattle.query_buildable.specs.Sources.{sources_of}
 use Rattle.query_buildable.specs.Typing.{ValidSchema, known_types}
@@ -49,3 +55,26 @@ abbrev pub ValidIsWellFormed : Type 0
 ValidIsWellFormed =
     (catalog : Declared) (shared : List ℕ → ℕ) (typed : Term → SqlType) (text : s.QueryText) (names : List (Option (List ℕ))) (order : List OrderKey) (g : QueryGraph)
     → ValidQuery catalog text → IsBuiltOver catalog (sources_of catalog shared typed) text names order g → IsLaidOut (sources_of catalog shared typed) g → IsFormed (stated_types catalog text) g
+
+-- ---- rows
+
+-- no rows are there of a table that isn't declared, and each row of a table has a cell for each column
+pub record AreTablesOf (catalog : Declared) (tables : List Table) : Type 0 where
+  pub loaded : HasDeclaredRows catalog tables
+  pub wide : HasWideTables catalog tables
+
+-- names stand for the rows of tables, and of the resolved bodies of views
+abbrev pub SchemaNamesStand : Type 0
+SchemaNamesStand =
+    (catalog : Declared) (shared : List ℕ → ℕ) (typed : Term → SqlType) (tables : List Table) → ValidSchema catalog → AreTablesOf catalog tables
+    → StandFor tables (sources_of catalog shared typed) (known_of (view_trees catalog) tables)
+
+-- the root's bag is the rows that the resolved query has by places, and so those that the query means by names
+pub record HasRows (catalog : Declared) (tables : List Table) (text : s.QueryText) (g : QueryGraph) : Type 0 where
+  pub places : root_bag tables g ≡ rows (known_of (view_trees catalog) tables) (query (schema_columns catalog) [] text.query) []
+  pub meant : root_bag tables g ≡ named.rows (named.known_of catalog tables) text.query []
+
+abbrev pub ValidRootAgrees : Type 0
+ValidRootAgrees =
+    (catalog : Declared) (shared : List ℕ → ℕ) (typed : Term → SqlType) (text : s.QueryText) (names : List (Option (List ℕ))) (order : List OrderKey) (g : QueryGraph) (tables : List Table)
+    → ValidQuery catalog text → IsBuiltOver catalog (sources_of catalog shared typed) text names order g → AreTablesOf catalog tables → HasRows catalog tables text g

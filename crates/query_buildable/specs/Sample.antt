@@ -1,6 +1,7 @@
--- A schema with a view, and a query over it, with the types of their columns.
-use Rattle.std.specs.Prelude.{◌≡◌, ℕ, List, [], ◌∷◌, None, codes, false, pos}
+-- A schema with a view, and a query over it, with the types of their columns; and a table with keys, as graphs know it.
+use Rattle.std.specs.Prelude.{◌≡◌, ℕ, List, [], ◌∷◌, Some, None, codes, false, pos}
 use Rattle.shared_types.specs.declared.compare.CmpOp.TheVariants as op
+use Rattle.sql_ast.specs.declared.schema.ColumnConstraint.TheVariants as constraint
 use Rattle.sql_ast.specs.declared.schema.Element.TheVariants as element
 use Rattle.sql_ast.specs.declared.schema.TableDecl.{TableDecl}
 use Rattle.sql_ast.specs.declared.word.DataType.TheVariants as type
@@ -11,7 +12,9 @@ use Rattle.name_resolution.specs.Resolved.{query}
 use Rattle.name_resolution.specs.Schema.{schema_columns}
 use Rattle.query_checks.specs.Columns.{columns}
 use Rattle.query_checks.specs.Views.{fault, heads_of}
+use Rattle.qgm_core.specs.declared.kinds.BaseTable.{BaseTable}
 use Rattle.qgm_formed.specs.Typed.{Gives}
+use Rattle.query_buildable.specs.Sources.{stored_in}
 use Rattle.query_buildable.specs.Typing.{ValidSchema, kinds_of, known_types}
 
 abbrev pub column : List ℕ → s.Expr
@@ -46,9 +49,26 @@ text = record {
   semicolon = false;
 }
 
+-- CREATE TABLE K (A INTEGER NOT NULL UNIQUE, B VARCHAR(5), C INTEGER, PRIMARY KEY (B, A))
+abbrev pub keyed : TableDecl
+keyed = record {
+  name = codes "K";
+  elements =
+      element.Column (record { name = codes "A"; data_type = type.Integer; constraints = constraint.NotNull ∷ constraint.Unique ∷ [] })
+      ∷ element.Column (record { name = codes "B"; data_type = type.Varchar (pos 5); constraints = [] })
+      ∷ element.Column (record { name = codes "C"; data_type = type.Integer; constraints = [] })
+      ∷ element.PrimaryKey (codes "B" ∷ codes "A" ∷ [])
+      ∷ [];
+}
+
+-- what a graph knows of it: the key of B and A, that of A, and that A and B are not null
+abbrev pub stored : BaseTable
+stored = record { name = codes "K"; types = Integer ∷ Varchar ∷ Integer ∷ []; keys = (2 ∷ 1 ∷ []) ∷ (1 ∷ []) ∷ []; not_null = 1 ∷ 2 ∷ [] }
+
 pub record Sampled : Type 0 where
   pub schema : ValidSchema catalog
   pub valid : fault catalog text ≡ 0
   pub view : kinds_of (heads_of catalog) (codes "V") ≡ Integer ∷ []
   pub types : known_types (columns (heads_of catalog) text.query []) ≡ Varchar ∷ Integer ∷ []
   pub gives : Gives (kinds_of (heads_of catalog)) [] (query (schema_columns catalog) [] text.query) (Varchar ∷ Integer ∷ [])
+  pub stored : stored_in (codes "K") (Some keyed) ≡ stored

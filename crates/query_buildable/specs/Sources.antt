@@ -1,5 +1,5 @@
 -- What the names of a schema stand for where boxes are made of a query over it.
-use Rattle.std.specs.Prelude.{◌≡◌, ℕ, suc, ◌++◌, not, Bool, List, [], ◌∷◌, filter, length, map, Option, Some, None, if◌then◌else◌}
+use Rattle.std.specs.Prelude.{ℕ, suc, ◌++◌, not, Bool, List, [], ◌∷◌, filter, length, map, Option, Some, None, if◌then◌else◌}
 use Rattle.sql_ast.specs.declared.schema.TableDecl.{TableDecl}
 use Rattle.sql_ast.specs.Declarations.{Declared, table_named, view_named}
 use Rattle.sql_ast.specs.Syntax as s

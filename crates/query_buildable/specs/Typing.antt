@@ -1,7 +1,6 @@
 -- A query of the grammar without faults has the types that the checks state of its columns, and its expressions have types.
-use Rattle.std.specs.Prelude.{◌≡◌, ℕ, true, false, List, [], ◌∷◌, Option, Some, None, All}
-use Rattle.sql_ast.specs.declared.schema.TableDecl.{TableDecl}
-use Rattle.sql_ast.specs.Declarations.{Declared, columns_of, table_named, view_named}
+use Rattle.std.specs.Prelude.{◌≡◌, ℕ, true, false, List, [], ◌∷◌, Option, Some, None}
+use Rattle.sql_ast.specs.Declarations.{Declared, table_named, view_named}
 use Rattle.sql_ast.specs.Grammatical.{is_query}
 use Rattle.sql_ast.specs.Syntax as s
 use Rattle.sql_catalog.specs.Catalog.{fault as refusal}

@@ -1,7 +1,7 @@
-// The laws of queries that boxes can be made for and of the types of their expressions, as theorems.
+// The laws of queries that boxes can be made for, of the types of their expressions, and of what is built of them, as theorems.
 ghost use Rattle.query_buildable.specs.Law.{ValidIsBuildable, ValidTextIsBuildable, ValidViewsAreBuildable};
 ghost use Rattle.query_buildable.specs.Sample.{Sampled};
-ghost use Rattle.query_buildable.specs.Joined.{ValidIsWellFormed};
+ghost use Rattle.query_buildable.specs.Joined.{SchemaNamesStand, ValidIsWellFormed, ValidRootAgrees};
 ghost use Rattle.query_buildable.specs.Sources.{SchemaSourcesTyped};
 ghost use Rattle.query_buildable.specs.Typing.{ValidHasTypes, ValidSourcesTyped, ValidTextHasTypes, ValidViewsHaveTypes};
 
@@ -28,8 +28,11 @@ pub fn type_laws()
 
 /// Over a valid schema, what names stand for where boxes are made of a query: the columns of tables
 /// and views have the types that the checks state. A graph that is built so of a valid query is
-/// well-formed, and its root's columns have the types that the checks state. It does nothing.
+/// well-formed, its root's columns have the types that the checks state, and its root's bag, over
+/// tables that fit the schema, is the query's rows, by places and by names. It does nothing.
 pub fn built_laws()
     ensures sources { SchemaSourcesTyped }
     ensures formed { ValidIsWellFormed }
+    ensures stand { SchemaNamesStand }
+    ensures rows { ValidRootAgrees }
 {}

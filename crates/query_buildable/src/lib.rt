@@ -1,5 +1,5 @@
-//! A query of the grammar in which the checks find no fault is one that boxes can be made for, and its
-//! expressions have types.
+//! A query of the grammar in which the checks find no fault is one that boxes can be made for, its
+//! expressions have types, and what is built of it is well-formed and has its rows.
 #![tactic(auto)]
 
 mod laws;

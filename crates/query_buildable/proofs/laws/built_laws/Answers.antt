@@ -1,4 +1,5 @@
 use Rattle.query_buildable.proofs.Joined.{valid_formed}
+use Rattle.query_buildable.proofs.Roots.{names_stand, valid_rows}
 use Rattle.query_buildable.proofs.SchemaSources.{schema_sources_typed}
 use Rattle.query_buildable.proofs.laws.built_laws.Goals as goal
 
@@ -7,3 +8,9 @@ returns-clause-sources c = schema_sources_typed
 
 pub returns-clause-formed : goal.returns-clause-formed
 returns-clause-formed c = valid_formed
+
+pub returns-clause-stand : goal.returns-clause-stand
+returns-clause-stand c = names_stand
+
+pub returns-clause-rows : goal.returns-clause-rows
+returns-clause-rows c = valid_rows
