@@ -40,4 +40,9 @@ pub mod PushRule
 pub mod ShapedKept
 pub mod Asked
 pub mod ShapedMoved
+pub mod Levels
+pub mod Settled
+pub mod AllSettled
+pub mod Follow
+pub mod TypedKept
 pub mod Examples

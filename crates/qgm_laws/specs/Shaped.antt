@@ -40,6 +40,10 @@ PlacedIsChecked =
 abbrev pub CompactShaped : Type 0
 CompactShaped = (g : QueryGraph) → Sound g.boxes g.root → Shaped g.boxes g.root → Shaped (compact g).boxes g.root
 
+-- and types agree there
+abbrev pub CompactTyped : Type 0
+CompactTyped = (g : QueryGraph) → Sound g.boxes g.root → Typed g.boxes → Typed (compact g).boxes
+
 -- and under M2
 abbrev pub DropShaped : Type 0
 DropShaped = (g : QueryGraph) → Sound g.boxes g.root → Shaped g.boxes g.root → (b c : Node) (r : OwnedQuant) → MayDrop g b c r → Shaped (dropped b c g).boxes g.root
