@@ -17,7 +17,7 @@ pub mod Sampled
 pub mod Telling
 pub mod LikeTerms
 pub mod LikeBoxes
+pub mod LikeKids
 pub mod LikeGraphs
-pub mod LikeTurned
 pub mod OneToOne
 pub mod Reused

@@ -27,19 +27,19 @@ module _ (R : ℕ → ℕ → Type 0) where
   abbrev pub Pairs : List OwnedQuant → List OwnedQuant → Type 0
   Pairs os ps = (i : ℕ) (o p : OwnedQuant) → OwnedAt i o os → OwnedAt i p ps → R o.id p.id
 
-  rest-pairs : (os ps : List OwnedQuant) → Pairs os ps → Pairs (w.rest_of os) (w.rest_of ps)
+  pub rest-pairs : (os ps : List OwnedQuant) → Pairs os ps → Pairs (w.rest_of os) (w.rest_of ps)
   rest-pairs [] [] h i o p j k = absurd j
   rest-pairs [] (p ∷ ps) h i o x j k = absurd j
   rest-pairs (o ∷ os) [] h i x p j k = absurd k
   rest-pairs (o ∷ os) (p ∷ ps) h i x y j k = h (suc i) x y j k
 
-  frame-both : (a b c d : Frame) → LikeFrame R a c → LikeFrame R b d → LikeFrame R (a ++ b) (c ++ d)
+  pub frame-both : (a b c d : Frame) → LikeFrame R a c → LikeFrame R b d → LikeFrame R (a ++ b) (c ++ d)
   frame-both [] b [] d h k = k
   frame-both [] b (y ∷ c) d h k = absurd h
   frame-both (x ∷ a) b [] d h k = absurd h
   frame-both (x ∷ a) b (y ∷ c) d h k = (h.0, frame-both a b c d h.1 k)
 
-  refs-like : (a c i u : ℕ) → R a c → LikeFrame R (refs a i u) (refs c i u)
+  pub refs-like : (a c i u : ℕ) → R a c → LikeFrame R (refs a i u) (refs c i u)
   refs-like a c i zero h = tt
   refs-like a c i (suc u) h = ((h, refl), refs-like a c (suc i) u h)
 
@@ -65,7 +65,7 @@ module _ (R : ℕ → ℕ → Type 0) where
       by_case true g = (h, refl)
       by_case false g = g
 
-  keys-like : (a c : ℕ) (places : List ℕ) (i u : ℕ) → R a c → LikeFrame R (v.key_frame a places i u) (v.key_frame c places i u)
+  pub keys-like : (a c : ℕ) (places : List ℕ) (i u : ℕ) → R a c → LikeFrame R (v.key_frame a places i u) (v.key_frame c places i u)
   keys-like a c places i zero h = tt
   keys-like a c places i (suc u) h = (key-like a c 1 places i h, keys-like a c places (i + 1) u h)
 
@@ -110,20 +110,20 @@ module _ (R : ℕ → ℕ → Type 0) where
 
   -- ---- two boxes, through two maps
 
-  module _ (s : Sources) (shared : List ℕ → ℕ) (typed : Term → SqlType) (told : (x y : Term) → Like R x y → s.typed x ≡ typed y) where
+  module _ (s : Sources) (shared : List ℕ → ℕ) (typed : Term → SqlType) where
     abbrev pub z : Sources
     z = record s { shared = shared; typed = typed }
 
-    width-same : (x : From) → from_width s x ≡ from_width z x
+    pub width-same : (x : From) → from_width s x ≡ from_width z x
     width-same (q.named name) = refl
     width-same (q.derived query) = refl
     width-same (q.crossed x y) = ap₂ ◌+◌ (width-same x) (width-same y)
     width-same (q.joined x y p) = ap₂ ◌+◌ (width-same x) (width-same y)
     width-same (q.left_joined x y n p) = ap (λ u. u + n) (width-same x)
 
-    types-same : (a c i u : ℕ) → R a c → map s.typed (v.columns_of a i u) ≡ map typed (v.columns_of c i u)
-    types-same a c i zero h = refl
-    types-same a c i (suc u) h = ap₂ (λ y ys. y ∷ ys) (told (t.col a i) (t.col c i) (like_col a c i h)) (types-same a c (suc i) u h)
+    types-same : ((x y : Term) → Like R x y → s.typed x ≡ typed y) → (a c i u : ℕ) → R a c → map s.typed (v.columns_of a i u) ≡ map typed (v.columns_of c i u)
+    types-same told a c i zero h = refl
+    types-same told a c i (suc u) h = ap₂ (λ y ys. y ∷ ys) (told (t.col a i) (t.col c i) (like_col a c i h)) (types-same told a c (suc i) u h)
 
     module _ (Below Above : ℕ → Thing → Map → Type 0) where
       -- what two quantifiers range over
@@ -137,7 +137,7 @@ module _ (R : ℕ → ℕ → Type 0) where
       Kids (o ∷ os) (p ∷ ps) = (o.kind ≡ p.kind) × R o.id p.id × Kid o p × Kids os ps
 
       module _ (m n : Map) (round : LikeMap R m n) where
-        first-pair : (x : From) (os ps : List OwnedQuant) → v.ShowsOne s Below x m os → v.ShowsOne z Above x n ps → Pairs os ps → R (v.first_id os) (v.first_id ps)
+        pub first-pair : (x : From) (os ps : List OwnedQuant) → v.ShowsOne s Below x m os → v.ShowsOne z Above x n ps → Pairs os ps → R (v.first_id os) (v.first_id ps)
         first-pair x [] ps h k e = absurd h
         first-pair x (o ∷ os) [] h k e = absurd k
         first-pair x (o ∷ os) (p ∷ ps) h k e = e zero o p refl refl
@@ -149,7 +149,7 @@ module _ (R : ℕ → ℕ → Type 0) where
         past-pairs (q.joined x y p) os ps e = past-pairs y (v.past s x os) (v.past z x ps) (past-pairs x os ps e)
         past-pairs (q.left_joined x y u p) os ps e = rest-pairs os ps e
 
-        past-all-pairs : (xs : Froms) (os ps : List OwnedQuant) → Pairs os ps → Pairs (v.past_all s xs os) (v.past_all z xs ps)
+        pub past-all-pairs : (xs : Froms) (os ps : List OwnedQuant) → Pairs os ps → Pairs (v.past_all s xs os) (v.past_all z xs ps)
         past-all-pairs q.no_from os ps e = e
         past-all-pairs (q.one_from x xs) os ps e = past-all-pairs xs (v.past s x os) (v.past z x ps) (past-pairs x os ps e)
 
@@ -163,7 +163,7 @@ module _ (R : ℕ → ℕ → Type 0) where
         from-like (q.left_joined x y u p) os ps h k e =
             subst (λ i. LikeFrame R (refs (v.first_id os) 1 (from_width s x + u)) (refs (v.first_id ps) 1 (i + u))) (width-same x) (refs-like (v.first_id os) (v.first_id ps) 1 (from_width s x + u) (first-pair (q.left_joined x y u p) os ps h k e))
 
-        froms-like : (xs : Froms) (os ps : List OwnedQuant) → v.ShowsFroms s Below xs m os → v.ShowsFroms z Above xs n ps → Pairs os ps → LikeFrame R (v.frame_all s xs os) (v.frame_all z xs ps)
+        pub froms-like : (xs : Froms) (os ps : List OwnedQuant) → v.ShowsFroms s Below xs m os → v.ShowsFroms z Above xs n ps → Pairs os ps → LikeFrame R (v.frame_all s xs os) (v.frame_all z xs ps)
         froms-like q.no_from os ps h k e = tt
         froms-like (q.one_from x xs) os ps h k e =
             frame-both (v.frame s x os) (v.frame_all s xs (v.past s x os)) (v.frame z x ps) (v.frame_all z xs (v.past z x ps)) (from-like x os ps h.0 k.0 e) (froms-like xs (v.past s x os) (v.past z x ps) h.1 k.1 (past-pairs x os ps e))
@@ -178,44 +178,45 @@ module _ (R : ℕ → ℕ → Type 0) where
             (test-like R (v.frame s x os ++ v.frame s y (v.past s x os)) (v.frame z x ps ++ v.frame z y (v.past z x ps)) (from-like (q.joined x y p) os ps h k e) p))
         on-leaves-like (q.left_joined x y u p) os ps h k e = no_leaf
 
-        all-on-like : (xs : Froms) (os ps : List OwnedQuant) → v.ShowsFroms s Below xs m os → v.ShowsFroms z Above xs n ps → Pairs os ps → LikeLeaves R (v.all_on_leaves s xs os) (v.all_on_leaves z xs ps)
+        pub all-on-like : (xs : Froms) (os ps : List OwnedQuant) → v.ShowsFroms s Below xs m os → v.ShowsFroms z Above xs n ps → Pairs os ps → LikeLeaves R (v.all_on_leaves s xs os) (v.all_on_leaves z xs ps)
         all-on-like q.no_from os ps h k e = no_leaf
         all-on-like (q.one_from x xs) os ps h k e = leaves-both R (on-leaves-like x os ps h.0 k.0 e) (all-on-like xs (v.past s x os) (v.past z x ps) h.1 k.1 (past-pairs x os ps e))
 
-        on-like : (f g : Frame) (sl tl : Slots) (p : Test) → LikeFrame R f g → Served R (w.test_leaves f p) sl tl → LikeConds R (l.split (l.cond s f m sl p)) (l.split (l.cond z g n tl p))
-        on-like f g sl tl p own h = split-like R (l.cond s f m sl p) (l.cond z g n tl p) (cond-like R s z told f g m n own round sl tl p h)
+        module _ (told : (x y : Term) → Like R x y → s.typed x ≡ typed y) where
+          on-like : (f g : Frame) (sl tl : Slots) (p : Test) → LikeFrame R f g → Served R (w.test_leaves f p) sl tl → LikeConds R (l.split (l.cond s f m sl p)) (l.split (l.cond z g n tl p))
+          on-like f g sl tl p own h = split-like R (l.cond s f m sl p) (l.cond z g n tl p) (cond-like R s z told f g m n own round sl tl p h)
 
-        ons-like : (x : From) (os ps : List OwnedQuant) (sl tl : Slots) → v.ShowsFrom s Below x m os → v.ShowsFrom z Above x n ps → Pairs os ps → Served R (v.on_leaves s x os) sl tl → LikeConds R (v.ons s m x os sl) (v.ons z n x ps tl)
-        ons-like (q.named name) os ps sl tl h k e g = tt
-        ons-like (q.derived query) os ps sl tl h k e g = tt
-        ons-like (q.crossed x y) os ps sl tl h k e g =
-            let a = served-both R (v.on_leaves s x os) (v.on_leaves z x ps) (v.on_leaves s y (v.past s x os)) sl tl (on-leaves-like x os ps h.0 k.0 e) g in
-            let sm = after (v.on_leaves s x os) sl in
-            let tm = after (v.on_leaves z x ps) tl in
-            conds-both R (v.ons s m x os sl) (v.ons s m y (v.past s x os) sm) (v.ons z n x ps tl) (v.ons z n y (v.past z x ps) tm) (ons-like x os ps sl tl h.0 k.0 e a.0) (ons-like y (v.past s x os) (v.past z x ps) sm tm h.1 k.1 (past-pairs x os ps e) a.1)
-        ons-like (q.joined x y p) os ps sl tl h k e g =
-            let po = v.past s x os in
-            let pp = v.past z x ps in
-            let f = v.frame s x os ++ v.frame s y po in
-            let d = v.frame z x ps ++ v.frame z y pp in
-            let a = served-both R (v.on_leaves s x os) (v.on_leaves z x ps) (v.on_leaves s y po ++ w.test_leaves f p) sl tl (on-leaves-like x os ps h.0 k.0 e) g in
-            let sm = after (v.on_leaves s x os) sl in
-            let tm = after (v.on_leaves z x ps) tl in
-            let c = served-both R (v.on_leaves s y po) (v.on_leaves z y pp) (w.test_leaves f p) sm tm (on-leaves-like y po pp h.1 k.1 (past-pairs x os ps e)) a.1 in
-            let sn = after (v.on_leaves s y po) sm in
-            let tn = after (v.on_leaves z y pp) tm in
-            conds-both R (v.ons s m x os sl) (v.ons s m y po sm ++ l.split (l.cond s f m sn p)) (v.ons z n x ps tl) (v.ons z n y pp tm ++ l.split (l.cond z d n tn p)) (ons-like x os ps sl tl h.0 k.0 e a.0)
-            (conds-both R (v.ons s m y po sm) (l.split (l.cond s f m sn p)) (v.ons z n y pp tm) (l.split (l.cond z d n tn p)) (ons-like y po pp sm tm h.1 k.1 (past-pairs x os ps e) c.0) (on-like f d sn tn p (from-like (q.joined x y p) os ps h k e) c.1))
-        ons-like (q.left_joined x y u p) os ps sl tl h k e g = tt
+          ons-like : (x : From) (os ps : List OwnedQuant) (sl tl : Slots) → v.ShowsFrom s Below x m os → v.ShowsFrom z Above x n ps → Pairs os ps → Served R (v.on_leaves s x os) sl tl → LikeConds R (v.ons s m x os sl) (v.ons z n x ps tl)
+          ons-like (q.named name) os ps sl tl h k e g = tt
+          ons-like (q.derived query) os ps sl tl h k e g = tt
+          ons-like (q.crossed x y) os ps sl tl h k e g =
+              let a = served-both R (v.on_leaves s x os) (v.on_leaves z x ps) (v.on_leaves s y (v.past s x os)) sl tl (on-leaves-like x os ps h.0 k.0 e) g in
+              let sm = after (v.on_leaves s x os) sl in
+              let tm = after (v.on_leaves z x ps) tl in
+              conds-both R (v.ons s m x os sl) (v.ons s m y (v.past s x os) sm) (v.ons z n x ps tl) (v.ons z n y (v.past z x ps) tm) (ons-like x os ps sl tl h.0 k.0 e a.0) (ons-like y (v.past s x os) (v.past z x ps) sm tm h.1 k.1 (past-pairs x os ps e) a.1)
+          ons-like (q.joined x y p) os ps sl tl h k e g =
+              let po = v.past s x os in
+              let pp = v.past z x ps in
+              let f = v.frame s x os ++ v.frame s y po in
+              let d = v.frame z x ps ++ v.frame z y pp in
+              let a = served-both R (v.on_leaves s x os) (v.on_leaves z x ps) (v.on_leaves s y po ++ w.test_leaves f p) sl tl (on-leaves-like x os ps h.0 k.0 e) g in
+              let sm = after (v.on_leaves s x os) sl in
+              let tm = after (v.on_leaves z x ps) tl in
+              let c = served-both R (v.on_leaves s y po) (v.on_leaves z y pp) (w.test_leaves f p) sm tm (on-leaves-like y po pp h.1 k.1 (past-pairs x os ps e)) a.1 in
+              let sn = after (v.on_leaves s y po) sm in
+              let tn = after (v.on_leaves z y pp) tm in
+              conds-both R (v.ons s m x os sl) (v.ons s m y po sm ++ l.split (l.cond s f m sn p)) (v.ons z n x ps tl) (v.ons z n y pp tm ++ l.split (l.cond z d n tn p)) (ons-like x os ps sl tl h.0 k.0 e a.0)
+              (conds-both R (v.ons s m y po sm) (l.split (l.cond s f m sn p)) (v.ons z n y pp tm) (l.split (l.cond z d n tn p)) (ons-like y po pp sm tm h.1 k.1 (past-pairs x os ps e) c.0) (on-like f d sn tn p (from-like (q.joined x y p) os ps h k e) c.1))
+          ons-like (q.left_joined x y u p) os ps sl tl h k e g = tt
 
-        all-ons-like : (xs : Froms) (os ps : List OwnedQuant) (sl tl : Slots) → v.ShowsFroms s Below xs m os → v.ShowsFroms z Above xs n ps → Pairs os ps → Served R (v.all_on_leaves s xs os) sl tl → LikeConds R (v.all_ons s m xs os sl) (v.all_ons z n xs ps tl)
-        all-ons-like q.no_from os ps sl tl h k e g = tt
-        all-ons-like (q.one_from x xs) os ps sl tl h k e g =
-            let a = served-both R (v.on_leaves s x os) (v.on_leaves z x ps) (v.all_on_leaves s xs (v.past s x os)) sl tl (on-leaves-like x os ps h.0 k.0 e) g in
-            let sm = after (v.on_leaves s x os) sl in
-            let tm = after (v.on_leaves z x ps) tl in
-            conds-both R (v.ons s m x os sl) (v.all_ons s m xs (v.past s x os) sm) (v.ons z n x ps tl) (v.all_ons z n xs (v.past z x ps) tm) (ons-like x os ps sl tl h.0 k.0 e a.0)
-            (all-ons-like xs (v.past s x os) (v.past z x ps) sm tm h.1 k.1 (past-pairs x os ps e) a.1)
+          all-ons-like : (xs : Froms) (os ps : List OwnedQuant) (sl tl : Slots) → v.ShowsFroms s Below xs m os → v.ShowsFroms z Above xs n ps → Pairs os ps → Served R (v.all_on_leaves s xs os) sl tl → LikeConds R (v.all_ons s m xs os sl) (v.all_ons z n xs ps tl)
+          all-ons-like q.no_from os ps sl tl h k e g = tt
+          all-ons-like (q.one_from x xs) os ps sl tl h k e g =
+              let a = served-both R (v.on_leaves s x os) (v.on_leaves z x ps) (v.all_on_leaves s xs (v.past s x os)) sl tl (on-leaves-like x os ps h.0 k.0 e) g in
+              let sm = after (v.on_leaves s x os) sl in
+              let tm = after (v.on_leaves z x ps) tl in
+              conds-both R (v.ons s m x os sl) (v.all_ons s m xs (v.past s x os) sm) (v.ons z n x ps tl) (v.all_ons z n xs (v.past z x ps) tm) (ons-like x os ps sl tl h.0 k.0 e a.0)
+              (all-ons-like xs (v.past s x os) (v.past z x ps) sm tm h.1 k.1 (past-pairs x os ps e) a.1)
 
         -- ---- subqueries
 
@@ -228,7 +229,7 @@ module _ (R : ℕ → ℕ → Type 0) where
         subs-served ls ms os ps cs ds (like_aggregate f d x xs ys i) h k e c = (c.0, subs-served xs ys os ps (w.rest_of cs) (w.rest_of ds) i h k e c.1)
         subs-served ls ms os ps cs ds (like_counted xs ys i) h k e c = (c.0, subs-served xs ys os ps (w.rest_of cs) (w.rest_of ds) i h k e c.1)
 
-        subs-kids : (ls ms : List Leaf) (os ps : List OwnedQuant) → LikeLeaves R ls ms → v.ShowsSubs s Below m ls os → v.ShowsSubs z Above n ms ps → Pairs os ps → Kids os ps
+        pub subs-kids : (ls ms : List Leaf) (os ps : List OwnedQuant) → LikeLeaves R ls ms → v.ShowsSubs s Below m ls os → v.ShowsSubs z Above n ms ps → Pairs os ps → Kids os ps
         subs-kids ls ms os ps no_leaf h k e = subst (λ y. Kids y ps) (sym h) (subst (λ y. Kids [] y) (sym k) tt)
         subs-kids ls ms [] ps (like_sub f g kind x xs ys j i) h k e = absurd h
         subs-kids ls ms (o ∷ os) [] (like_sub f g kind x xs ys j i) h k e = absurd k
@@ -249,7 +250,7 @@ module _ (R : ℕ → ℕ → Type 0) where
         from-kids (q.joined x y p) os ps h k e r = from-kids x os ps h.0 k.0 e (from-kids y (v.past s x os) (v.past z x ps) h.1 k.1 (past-pairs x os ps e) r)
         from-kids (q.left_joined x y u p) os ps h k e r = one-kid (q.left_joined x y u p) os ps h k e r
 
-        froms-kids : (xs : Froms) (os ps : List OwnedQuant) → v.ShowsFroms s Below xs m os → v.ShowsFroms z Above xs n ps → Pairs os ps → Kids (v.past_all s xs os) (v.past_all z xs ps) → Kids os ps
+        pub froms-kids : (xs : Froms) (os ps : List OwnedQuant) → v.ShowsFroms s Below xs m os → v.ShowsFroms z Above xs n ps → Pairs os ps → Kids (v.past_all s xs os) (v.past_all z xs ps) → Kids os ps
         froms-kids q.no_from os ps h k e r = r
         froms-kids (q.one_from x xs) os ps h k e r = from-kids x os ps h.0 k.0 e (froms-kids xs (v.past s x os) (v.past z x ps) h.1 k.1 (past-pairs x os ps e) r)
 
@@ -265,7 +266,7 @@ module _ (R : ℕ → ℕ → Type 0) where
       like-conds : (a b c d : List Cond) → a ≡ c → b ≡ d → LikeConds R c d → LikeConds R a b
       like-conds a b c d e f h = subst (λ y. LikeConds R y b) (sym e) (subst (λ y. LikeConds R c y) (sym f) h)
 
-      module _ (a c : Node) (pairs : Pairs a.quants c.quants) where
+      module _ (told : (x y : Term) → Like R x y → s.typed x ≡ typed y) (a c : Node) (pairs : Pairs a.quants c.quants) where
         abbrev pub Both : Type 0
         Both = LikeBox R a c × Kids a.quants c.quants
 
@@ -301,8 +302,8 @@ module _ (R : ℕ → ℕ → Type 0) where
                   head = like-heads a.parts.head c.parts.head (list f sl) (other g tl) h.head k.head (items f g own refl refl sl tl x.0);
                   conds =
                       like-conds a.parts.conds.items c.parts.conds.items (v.conds_of s from by heads m os sl) (v.conds_of z from by heads n ps tl) h.conds k.conds
-                      (conds-both R (v.all_ons s m from os sm) (l.split (l.cond s f m sn by)) (v.all_ons z n from ps tm) (l.split (l.cond z g n tn by)) (all-ons-like m n round from os ps sm tm h.froms k.froms pairs y.0)
-                      (on-like m n round f g sn tn by own y.1));
+                      (conds-both R (v.all_ons s m from os sm) (l.split (l.cond s f m sn by)) (v.all_ons z n from ps tm) (l.split (l.cond z g n tn by)) (all-ons-like m n round told from os ps sm tm h.froms k.froms pairs y.0)
+                      (on-like m n round told f g sn tn by own y.1));
                   quants = like-quants os ps kids;
                 },
                 kids,
@@ -329,7 +330,7 @@ module _ (R : ℕ → ℕ → Type 0) where
               let sm = after (w.list_leaves f list) sl in
               let tm = after (w.list_leaves g list) tl in (
                 like-heads a.parts.head c.parts.head (l.terms s f m sl list) (l.terms z g n tl list) h.head k.head (terms-like R s z told f g m n own round sl tl list x.0),
-                like-conds a.parts.conds.items c.parts.conds.items (l.split (l.cond s f m sm having)) (l.split (l.cond z g n tm having)) h.conds k.conds (on-like m n round f g sm tm having own x.1),
+                like-conds a.parts.conds.items c.parts.conds.items (l.split (l.cond s f m sm having)) (l.split (l.cond z g n tm having)) h.conds k.conds (on-like m n round told f g sm tm having own x.1),
                 (h.kind ∙ sym k.kind, r, (of_groups from by places ls, (of_groups from by places ms, (m, (n, (h.groups, k.groups, like_groups from by places ls ms like, round))))), subs-kids m n round ls ms os ps like h.subs k.subs rest),
               )
 
@@ -342,7 +343,7 @@ module _ (R : ℕ → ℕ → Type 0) where
           pair-of x y u (o ∷ b ∷ []) (p ∷ []) e h k = absurd k
           pair-of x y u (o ∷ b ∷ []) (p ∷ d ∷ i ∷ ps) e h k = absurd k
           pair-of x y u (o ∷ b ∷ []) (p ∷ d ∷ []) e h k = (
-            types-same o.id p.id 1 u (e zero o p refl refl),
+            types-same told o.id p.id 1 u (e zero o p refl refl),
             (
               h.0 ∙ sym k.0,
               e zero o p refl refl,
@@ -405,7 +406,7 @@ module _ (R : ℕ → ℕ → Type 0) where
               (subst (λ i. LikeFrame R (refs o.id 1 (from_width s x)) (refs p.id 1 i)) (width-same x) (refs-like o.id p.id 1 (from_width s x) r1)) (refs-like b.id d.id 1 u r2) in (
                 like-heads a.parts.head c.parts.head (map ref_term f) (map ref_term g) h.2.head k.2.head (frame-heads f g own),
                 like-conds a.parts.conds.items c.parts.conds.items (l.split (l.cond s f m v.no_slots on)) (l.split (l.cond z g n v.no_slots on)) h.2.conds k.2.conds
-                    (on-like m n round f g v.no_slots v.no_slots on own (subst (λ (y : List Leaf). Served R y v.no_slots v.no_slots) (sym h.2.on) tt)),
+                    (on-like m n round told f g v.no_slots v.no_slots on own (subst (λ (y : List Leaf). Served R y v.no_slots v.no_slots) (sym h.2.on) tt)),
                 (
                   h.0 ∙ sym k.0,
                   r1,

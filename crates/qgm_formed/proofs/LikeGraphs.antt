@@ -34,7 +34,7 @@ found sources bs (n ∷ ns) sub b thing m h =
       | false ↦ (λ e h. found sources bs ns (λ k i. sub k (inr i)) b thing m h)
     ] refl h
 
-place-of : (o : OwnedQuant) (os : List OwnedQuant) → In o os → (i : ℕ) × OwnedAt i o os
+pub place-of : (o : OwnedQuant) (os : List OwnedQuant) → In o os → (i : ℕ) × OwnedAt i o os
 place-of o [] j = absurd j
 place-of o (p ∷ os) (inl e) = (zero, e)
 place-of o (p ∷ os) (inr j) = let r = place-of o os j in (suc r.0, r.1)
@@ -52,7 +52,7 @@ module _ (s : Sources) (shared : List ℕ → ℕ) (typed : Term → SqlType) (q
     Place b c = (thing : Thing) × ((other : Thing) × ((x : Map) × ((y : Map) × (LikeThing R thing other × LikeMap R x y × Found s g.boxes b thing x × Found z h.boxes c other y))))
 
     abbrev Kids : List Node → List Node → List OwnedQuant → List OwnedQuant → Type 0
-    Kids ns ks = boxes.Kids R s shared typed told (Shows s ns) (Shows z ks)
+    Kids ns ks = boxes.Kids R s shared typed (Shows s ns) (Shows z ks)
 
     -- what follows of two boxes at one place
     both : (n k : Node) → In n g.boxes → In k h.boxes → Meets g h n.id k.id → Place n.id k.id
@@ -63,7 +63,7 @@ module _ (s : Sources) (shared : List ℕ → ℕ) (typed : Term → SqlType) (q
         let same : f.0 ≡ n = same-box g.boxes f.0 n one f.1.1.0 i f.1.1.1 in
         let equal : d.0 ≡ k = same-box h.boxes d.0 k two d.1.1.0 j d.1.1.1 in
         let pairs : Pairs R n.quants k.quants = λ a o q at to. stands n k a o q meets i j at to in
-        let r = thing-like R s shared typed told (Shows s f.1.0) (Shows z d.1.0) n k pairs p.0 p.1.0 p.1.1.0 p.1.1.1.0 p.1.1.1.1.0 p.1.1.1.1.1
+        let r = thing-like R s shared typed (Shows s f.1.0) (Shows z d.1.0) told n k pairs p.0 p.1.0 p.1.1.0 p.1.1.1.0 p.1.1.1.1.0 p.1.1.1.1.1
         (subst (ShowsBox s (Shows s f.1.0) p.0 p.1.1.0) same f.1.1.2) (subst (ShowsBox z (Shows z d.1.0) p.1.0 p.1.1.1.0) equal d.1.1.2) in
         (r.0, (f.1.0, (d.1.0, (r.1, f.1.1.3, d.1.1.3))))
 
