@@ -13,8 +13,8 @@ use Rattle.qgm_shown.specs.Maps.{Frame, Map, ref_term}
 use Rattle.qgm_shown.specs.Shown as v
 use Rattle.qgm_shown.specs.Shown.{Thing, of_groups, of_operand, of_query, of_rows}
 use Rattle.qgm_shown.specs.Sources.{Sources}
-use Rattle.qgm_formed.proofs.LikeBoxes as boxes
-use Rattle.qgm_formed.proofs.LikeBoxes.{LikeThing, Pairs, all-on-like, first-pair, froms-kids, froms-like, keys-like, like_groups, like_rows, past-all-pairs, rest-pairs, same_operand, same_query, subs-kids}
+use Rattle.qgm_formed.proofs.LikeParts as parts
+use Rattle.qgm_formed.proofs.LikeParts.{LikeThing, Pairs, all-on-like, first-pair, froms-kids, froms-like, keys-like, like_groups, like_rows, past-all-pairs, rest-pairs, same_operand, same_query, subs-kids}
 use Rattle.qgm_formed.proofs.LikeTerms.{LikeFrame, LikeLeaves, LikeMap, leaves-both, list-like, no_leaf, test-like}
 
 module _ (R : ℕ → ℕ → Type 0) (s : Sources) (shared : List ℕ → ℕ) (typed : Term → SqlType) (Below Above : ℕ → Thing → Map → Type 0) (m n : Map) (round : LikeMap R m n) where
@@ -22,7 +22,7 @@ module _ (R : ℕ → ℕ → Type 0) (s : Sources) (shared : List ℕ → ℕ) 
   z = record s { shared = shared; typed = typed }
 
   abbrev Kids : List OwnedQuant → List OwnedQuant → Type 0
-  Kids os ps = boxes.Kids R s shared typed Below Above os ps
+  Kids os ps = parts.Kids R s shared typed Below Above os ps
 
   module _ (a c : Node) (pairs : Pairs R a.quants c.quants) where
     select-kids : (d : Distinct) (from : Froms) (by : Test) (heads : Frame → List Leaf) (list other : Frame → Slots → List Term) → v.ShowsSelect s Below d from by heads list m a → v.ShowsSelect z Above d from by heads other n c
@@ -107,10 +107,10 @@ module _ (R : ℕ → ℕ → Type 0) (s : Sources) (shared : List ℕ → ℕ) 
   other = record s { shared = shared; typed = typed }
 
   abbrev Ranging : Type 0
-  Ranging = boxes.Kids R s shared typed Below Above a.quants c.quants
+  Ranging = parts.Kids R s shared typed Below Above a.quants c.quants
 
   source-kids : (name : List ℕ) (view : Option Query) → v.ShowsSource s Below name view a → v.ShowsSource other Above name view c → Ranging
-  source-kids name None h k = subst (λ y. boxes.Kids R s shared typed Below Above y c.quants) (sym h.quants) (subst (λ y. boxes.Kids R s shared typed Below Above [] y) (sym k.quants) tt)
+  source-kids name None h k = subst (λ y. parts.Kids R s shared typed Below Above y c.quants) (sym h.quants) (subst (λ y. parts.Kids R s shared typed Below Above [] y) (sym k.quants) tt)
   source-kids name (Some body) h k = query-kids R s shared typed Below Above [] [] tt a c pairs body h k
 
   operand-kids : (x : From) (m n : Map) → LikeMap R m n → v.ShowsOperand s Below x m a → v.ShowsOperand other Above x n c → Ranging

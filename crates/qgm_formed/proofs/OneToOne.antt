@@ -20,8 +20,8 @@ use Rattle.qgm_laws.proofs.Ranks.{has-in, in-has, overs-held, place, place-under
 use Rattle.qgm_laws.proofs.Times.{in-times, times-in, times-once}
 use Rattle.qgm_formed.specs.Alike.{Meets, OwnedAt, Stands, roots, stands, under}
 use Rattle.qgm_formed.specs.OneToOne.{AreOneToOne, BuiltApart, IsFor, map_of}
-use Rattle.qgm_formed.proofs.LikeBoxes as boxes
-use Rattle.qgm_formed.proofs.LikeBoxes.{LikeThing, Pairs, like_groups, like_rows, same_operand, same_query}
+use Rattle.qgm_formed.proofs.LikeParts as parts
+use Rattle.qgm_formed.proofs.LikeParts.{LikeThing, Pairs, like_groups, like_rows, same_operand, same_query}
 use Rattle.qgm_formed.proofs.LikeGraphs.{found, place-of}
 use Rattle.qgm_formed.proofs.LikeKids.{thing-kids}
 use Rattle.qgm_formed.proofs.LikeTerms.{LikeMap}
@@ -187,7 +187,7 @@ module _ (s : Sources) (shared : List ℕ → ℕ) (typed : Term → SqlType) (q
   Place b c = (thing : Thing) × ((other : Thing) × ((x : Map) × ((y : Map) × (LikeThing R thing other × LikeMap R x y × Below b thing x × Above c other y))))
 
   abbrev Kids : List OwnedQuant → List OwnedQuant → Type 0
-  Kids os ps = boxes.Kids R s shared typed Below Above os ps
+  Kids os ps = parts.Kids R s shared typed Below Above os ps
 
   kids-of : (n k : Node) → In n g.boxes → In k h.boxes → Meets g h n.id k.id → Place n.id k.id → Kids n.quants k.quants
   kids-of n k i j meets p =
