@@ -16,8 +16,9 @@ pub mod SampledThere
 pub mod Sampled
 pub mod Telling
 pub mod LikeTerms
+pub mod LikeParts
+pub mod LikeKids
 pub mod LikeBoxes
 pub mod LikeGraphs
-pub mod LikeTurned
 pub mod OneToOne
 pub mod Reused

@@ -17,8 +17,10 @@ use Rattle.qgm_shown.specs.Shown.{Shows, ShowsBox, Thing, of_query}
 use Rattle.qgm_shown.specs.Sources.{Sources}
 use Rattle.qgm_laws.proofs.Ranks.{same-box}
 use Rattle.qgm_formed.specs.Alike.{Like, LikeBox, Meets, OwnedAt, SameButNumbers, Stands, roots, stands, under}
-use Rattle.qgm_formed.proofs.LikeBoxes as boxes
-use Rattle.qgm_formed.proofs.LikeBoxes.{LikeThing, Pairs, same_query, thing-like}
+use Rattle.qgm_formed.proofs.LikeBoxes.{thing-like}
+use Rattle.qgm_formed.proofs.LikeKids.{thing-kids}
+use Rattle.qgm_formed.proofs.LikeParts as parts
+use Rattle.qgm_formed.proofs.LikeParts.{LikeThing, Pairs, same_query}
 use Rattle.qgm_formed.proofs.LikeTerms.{LikeMap}
 use Rattle.qgm_formed.proofs.Passes.{root-reaches}
 
@@ -34,7 +36,7 @@ found sources bs (n ∷ ns) sub b thing m h =
       | false ↦ (λ e h. found sources bs ns (λ k i. sub k (inr i)) b thing m h)
     ] refl h
 
-place-of : (o : OwnedQuant) (os : List OwnedQuant) → In o os → (i : ℕ) × OwnedAt i o os
+pub place-of : (o : OwnedQuant) (os : List OwnedQuant) → In o os → (i : ℕ) × OwnedAt i o os
 place-of o [] j = absurd j
 place-of o (p ∷ os) (inl e) = (zero, e)
 place-of o (p ∷ os) (inr j) = let r = place-of o os j in (suc r.0, r.1)
@@ -52,7 +54,7 @@ module _ (s : Sources) (shared : List ℕ → ℕ) (typed : Term → SqlType) (q
     Place b c = (thing : Thing) × ((other : Thing) × ((x : Map) × ((y : Map) × (LikeThing R thing other × LikeMap R x y × Found s g.boxes b thing x × Found z h.boxes c other y))))
 
     abbrev Kids : List Node → List Node → List OwnedQuant → List OwnedQuant → Type 0
-    Kids ns ks = boxes.Kids R s shared typed told (Shows s ns) (Shows z ks)
+    Kids ns ks = parts.Kids R s shared typed (Shows s ns) (Shows z ks)
 
     -- what follows of two boxes at one place
     both : (n k : Node) → In n g.boxes → In k h.boxes → Meets g h n.id k.id → Place n.id k.id
@@ -63,9 +65,11 @@ module _ (s : Sources) (shared : List ℕ → ℕ) (typed : Term → SqlType) (q
         let same : f.0 ≡ n = same-box g.boxes f.0 n one f.1.1.0 i f.1.1.1 in
         let equal : d.0 ≡ k = same-box h.boxes d.0 k two d.1.1.0 j d.1.1.1 in
         let pairs : Pairs R n.quants k.quants = λ a o q at to. stands n k a o q meets i j at to in
-        let r = thing-like R s shared typed told (Shows s f.1.0) (Shows z d.1.0) n k pairs p.0 p.1.0 p.1.1.0 p.1.1.1.0 p.1.1.1.1.0 p.1.1.1.1.1
-        (subst (ShowsBox s (Shows s f.1.0) p.0 p.1.1.0) same f.1.1.2) (subst (ShowsBox z (Shows z d.1.0) p.1.0 p.1.1.1.0) equal d.1.1.2) in
-        (r.0, (f.1.0, (d.1.0, (r.1, f.1.1.3, d.1.1.3))))
+        let shown = subst (ShowsBox s (Shows s f.1.0) p.0 p.1.1.0) same f.1.1.2 in
+        let other = subst (ShowsBox z (Shows z d.1.0) p.1.0 p.1.1.1.0) equal d.1.1.2 in
+        let kids = thing-kids R s shared typed (Shows s f.1.0) (Shows z d.1.0) n k pairs p.0 p.1.0 p.1.1.0 p.1.1.1.0 p.1.1.1.1.0 p.1.1.1.1.1 shown other in
+        let like = thing-like R s shared typed (Shows s f.1.0) (Shows z d.1.0) told n k pairs kids p.0 p.1.0 p.1.1.0 p.1.1.1.0 p.1.1.1.1.0 p.1.1.1.1.1 shown other in
+        (like, (f.1.0, (d.1.0, (kids, f.1.1.3, d.1.1.3))))
 
     kid-at : (ns ks : List Node) → ((j : Node) → In j ns → In j g.boxes) → ((j : Node) → In j ks → In j h.boxes) → (os ps : List OwnedQuant) → Kids ns ks os ps → (i : ℕ) (o p : OwnedQuant) → OwnedAt i o os → OwnedAt i p ps → Place o.over p.over
     kid-at ns ks sub tub [] ps r i o p at to = absurd at

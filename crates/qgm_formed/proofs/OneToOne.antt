@@ -7,6 +7,7 @@ use Rattle.sql_value.specs.declared.order_key.SqlType.{SqlType}
 use Rattle.sql_meaning.specs.ResolvedTrees.{From, Query}
 use Rattle.sql_meaning.specs.ResolvedTrees as q
 use Rattle.qgm_core.specs.Boxes.{Ordered, QueryGraph, has_box, ids_in}
+use Rattle.qgm_core.specs.Free.{Reaches, itself, through}
 use Rattle.qgm_core.specs.Lists.{In, times}
 use Rattle.qgm_core.specs.declared.node.Node.{Node}
 use Rattle.qgm_core.specs.declared.owned.OwnedQuant.{OwnedQuant}
@@ -17,14 +18,14 @@ use Rattle.qgm_shown.specs.Sources.{Sources}
 use Rattle.qgm_laws.proofs.Lists.{eq-itself}
 use Rattle.qgm_laws.proofs.Ranks.{has-in, in-has, overs-held, place, place-under, same-box}
 use Rattle.qgm_laws.proofs.Times.{in-times, times-in, times-once}
-use Rattle.qgm_formed.specs.Alike.{Like, Meets, OwnedAt, Stands, roots, stands, under}
-use Rattle.qgm_formed.specs.OneToOne.{AreOneToOne, BuiltApart, IsFor, IsOneToOne, map_of}
-use Rattle.qgm_formed.proofs.LikeBoxes as boxes
-use Rattle.qgm_formed.proofs.LikeBoxes.{LikeThing, Pairs, like_groups, like_rows, same_operand, same_query, thing-like}
-use Rattle.qgm_formed.proofs.LikeGraphs.{found, same-but-numbers}
+use Rattle.qgm_formed.specs.Alike.{Meets, OwnedAt, Stands, roots, stands, under}
+use Rattle.qgm_formed.specs.OneToOne.{AreOneToOne, BuiltApart, IsFor, map_of}
+use Rattle.qgm_formed.proofs.LikeParts as parts
+use Rattle.qgm_formed.proofs.LikeParts.{LikeThing, Pairs, like_groups, like_rows, same_operand, same_query}
+use Rattle.qgm_formed.proofs.LikeGraphs.{found, place-of}
+use Rattle.qgm_formed.proofs.LikeKids.{thing-kids}
 use Rattle.qgm_formed.proofs.LikeTerms.{LikeMap}
-use Rattle.qgm_formed.proofs.LikeTurned.{like-turned}
-use Rattle.qgm_formed.proofs.Passes.{uses-times}
+use Rattle.qgm_formed.proofs.Passes.{root-reaches, uses-times}
 
 -- ---- places
 
@@ -136,12 +137,6 @@ named-alike R thing other (same_operand y) x e = e
 named-alike R thing other (like_rows from by places ls ms like) x e = absurd (cc e)
 named-alike R thing other (like_groups from by places ls ms like) x e = absurd (cc e)
 
-named-back : (R : ℕ → ℕ → Type 0) (thing other : Thing) → LikeThing R thing other → (x : From) → other ≡ of_operand x → thing ≡ of_operand x
-named-back R thing other (same_query y) x e = absurd (cc e)
-named-back R thing other (same_operand y) x e = e
-named-back R thing other (like_rows from by places ls ms like) x e = absurd (cc e)
-named-back R thing other (like_groups from by places ls ms like) x e = absurd (cc e)
-
 name-of : (x y : List ℕ) → of_operand (q.named x) ≡ of_operand (q.named y) → x ≡ y
 name-of x y e = cc e
 
@@ -173,109 +168,109 @@ module _ (s : Sources) (query : Query) (names : List (Option (List ℕ))) (order
   root-held : has_box g.boxes g.root ≡ true
   root-held = let f = found s g.boxes g.boxes (λ n i. i) g.root (of_query query) [] b.built.shows in subst (λ z. has_box g.boxes z ≡ true) f.1.1.1 (in-has f.0 g.boxes f.1.1.0)
 
-module _ (s : Sources) (shared : List ℕ → ℕ) (typed : Term → SqlType) (query : Query) (names : List (Option (List ℕ))) (order : List OrderKey) (g h : QueryGraph) where
+module _ (s : Sources) (shared : List ℕ → ℕ) (typed : Term → SqlType) (query : Query) (names : List (Option (List ℕ))) (order : List OrderKey) (g h : QueryGraph) (first : BuiltApart s query names order g)
+    (second : BuiltApart (record s { shared = shared; typed = typed }) query names order h) where
   abbrev z : Sources
   z = record s { shared = shared; typed = typed }
 
   abbrev R : ℕ → ℕ → Type 0
   R = Stands g h
 
-  module _ (first : BuiltApart s query names order g) (second : BuiltApart (record s { shared = shared; typed = typed }) query names order h) (told : (x y : Term) → Like (Stands g h) x y → s.typed x ≡ typed y) where
-    abbrev Below : ℕ → Thing → Map → Type 0
-    Below = IsFor first.there.what first.there.seen
+  abbrev Below : ℕ → Thing → Map → Type 0
+  Below = IsFor first.there.what first.there.seen
 
-    abbrev Above : ℕ → Thing → Map → Type 0
-    Above = IsFor second.there.what second.there.seen
+  abbrev Above : ℕ → Thing → Map → Type 0
+  Above = IsFor second.there.what second.there.seen
 
-    -- what two boxes at one place are there for
-    abbrev Place : ℕ → ℕ → Type 0
-    Place b c = (thing : Thing) × ((other : Thing) × ((x : Map) × ((y : Map) × (LikeThing R thing other × LikeMap R x y × Below b thing x × Above c other y))))
+  -- what two boxes at one place are there for
+  abbrev Place : ℕ → ℕ → Type 0
+  Place b c = (thing : Thing) × ((other : Thing) × ((x : Map) × ((y : Map) × (LikeThing R thing other × LikeMap R x y × Below b thing x × Above c other y))))
 
-    abbrev Kids : List OwnedQuant → List OwnedQuant → Type 0
-    Kids os ps = boxes.Kids R s shared typed told Below Above os ps
+  abbrev Kids : List OwnedQuant → List OwnedQuant → Type 0
+  Kids os ps = parts.Kids R s shared typed Below Above os ps
 
-    kids-of : (n k : Node) → In n g.boxes → In k h.boxes → Meets g h n.id k.id → Place n.id k.id → Kids n.quants k.quants
-    kids-of n k i j meets p =
-        let pairs : Pairs R n.quants k.quants = λ a o q at to. stands n k a o q meets i j at to in
-        let r = thing-like R s shared typed told Below Above n k pairs p.0 p.1.0 p.1.1.0 p.1.1.1.0 p.1.1.1.1.0 p.1.1.1.1.1
-        (shows-it s query names order g first n i p.0 p.1.1.0 p.1.1.1.1.2) (shows-it z query names order h second k j p.1.0 p.1.1.1.0 p.1.1.1.1.3) in
-        r.1
+  kids-of : (n k : Node) → In n g.boxes → In k h.boxes → Meets g h n.id k.id → Place n.id k.id → Kids n.quants k.quants
+  kids-of n k i j meets p =
+      let pairs : Pairs R n.quants k.quants = λ a o q at to. stands n k a o q meets i j at to in
+      thing-kids R s shared typed Below Above n k pairs p.0 p.1.0 p.1.1.0 p.1.1.1.0 p.1.1.1.1.0 p.1.1.1.1.1
+      (shows-it s query names order g first n i p.0 p.1.1.0 p.1.1.1.1.2) (shows-it z query names order h second k j p.1.0 p.1.1.1.0 p.1.1.1.1.3)
 
-    kid-at : (os ps : List OwnedQuant) → Kids os ps → (i : ℕ) (o p : OwnedQuant) → OwnedAt i o os → OwnedAt i p ps → Place o.over p.over
-    kid-at [] ps r i o p at to = absurd at
-    kid-at (x ∷ os) [] r i o p at to = absurd to
-    kid-at (x ∷ os) (y ∷ ps) r zero o p at to =
-        subst (λ (e : OwnedQuant). Place e.over p.over) at
-        (subst (λ (e : OwnedQuant). Place x.over e.over) to
-        (r.2.0, (r.2.1.0, (r.2.1.1.0, (r.2.1.1.1.0, (r.2.1.1.1.1.2, r.2.1.1.1.1.3, r.2.1.1.1.1.0, r.2.1.1.1.1.1))))))
-    kid-at (x ∷ os) (y ∷ ps) r (suc i) o p at to = kid-at os ps r.3 i o p at to
+  kid-at : (os ps : List OwnedQuant) → Kids os ps → (i : ℕ) (o p : OwnedQuant) → OwnedAt i o os → OwnedAt i p ps → Place o.over p.over
+  kid-at [] ps r i o p at to = absurd at
+  kid-at (x ∷ os) [] r i o p at to = absurd to
+  kid-at (x ∷ os) (y ∷ ps) r zero o p at to =
+      subst (λ (e : OwnedQuant). Place e.over p.over) at
+      (subst (λ (e : OwnedQuant). Place x.over e.over) to
+      (r.2.0, (r.2.1.0, (r.2.1.1.0, (r.2.1.1.1.0, (r.2.1.1.1.1.2, r.2.1.1.1.1.3, r.2.1.1.1.1.0, r.2.1.1.1.1.1))))))
+  kid-at (x ∷ os) (y ∷ ps) r (suc i) o p at to = kid-at os ps r.3 i o p at to
 
-    meet : (b c : ℕ) → Meets g h b c → Place b c
-    meet b c roots = (of_query query, (of_query query, ([], ([], (same_query query, tt, first.there.root, second.there.root)))))
-    meet b c (under n k i o p m in_n in_k at to) = kid-at n.quants k.quants (kids-of n k in_n in_k m (meet n.id k.id m)) i o p at to
+  meet : (b c : ℕ) → Meets g h b c → Place b c
+  meet b c roots = (of_query query, (of_query query, ([], ([], (same_query query, tt, first.there.root, second.there.root)))))
+  meet b c (under n k i o p m in_n in_k at to) = kid-at n.quants k.quants (kids-of n k in_n in_k m (meet n.id k.id m)) i o p at to
 
-    left-held : (b c : ℕ) → Meets g h b c → has_box g.boxes b ≡ true
-    left-held b c roots = root-held s query names order g first
-    left-held b c (under n k i o p m in_n in_k at to) = overs-held g.boxes n o first.ordered in_n (at-in i o n.quants at)
+  held : (b c : ℕ) → Meets g h b c → has_box h.boxes c ≡ true
+  held b c roots = root-held z query names order h second
+  held b c (under n k i o p m in_n in_k at to) = overs-held h.boxes k p second.ordered in_k (at-in i p k.quants to)
 
-    right-held : (b c : ℕ) → Meets g h b c → has_box h.boxes c ≡ true
-    right-held b c roots = root-held z query names order h second
-    right-held b c (under n k i o p m in_n in_k at to) = overs-held h.boxes k p second.ordered in_k (at-in i p k.quants to)
+  abbrev Named : ℕ → List ℕ → Type 0
+  Named b name = first.there.what b ≡ of_operand (q.named name)
 
-    abbrev Named : ℕ → List ℕ → Type 0
-    Named b name = first.there.what b ≡ of_operand (q.named name)
-
-    abbrev Called : ℕ → List ℕ → Type 0
-    Called c name = second.there.what c ≡ of_operand (q.named name)
-
-    -- boxes that meet are there for one name
-    named-both : (b c : ℕ) → Meets g h b c → (name : List ℕ) → (Named b name → Called c name) × (Called c name → Named b name)
-    named-both b c m name =
+  -- what meets a box that is there for a name is the box of that name
+  fact : (b c : ℕ) → Meets g h b c → (uses b g.boxes ≤ 1) ⊎ ((name : List ℕ) × (Named b name × (c ≡ shared name)))
+  fact b c m = elim (first.there.alone b) [
+    | inl u ↦ inl u
+    | inr r ↦ (
         let p = meet b c m in
         let l = p.1.1.1.1 in
-        ((λ e. l.3.0 ∙ named-alike R p.0 p.1.0 l.0 (q.named name) (sym l.2.0 ∙ e)), (λ e. l.2.0 ∙ named-back R p.0 p.1.0 l.0 (q.named name) (sym l.3.0 ∙ e)))
+        inr (r.0, (r.1, named-box z query names order h second c r.0 (held b c m) (l.3.0 ∙ named-alike R p.0 p.1.0 l.0 (q.named r.0) (sym l.2.0 ∙ r.1)))))
+  ]
 
-    fact : (b c : ℕ) → Meets g h b c → (uses b g.boxes ≤ 1) ⊎ ((name : List ℕ) × (Named b name × (c ≡ shared name)))
-    fact b c m = elim (first.there.alone b) [
-      | inl u ↦ inl u
-      | inr r ↦ inr (r.0, (r.1, named-box z query names order h second c r.0 (right-held b c m) ((named-both b c m r.0).0 r.1)))
-    ]
+  apart : (b : ℕ) (x y : List ℕ) → Named b x → Named b y → x ≡ y
+  apart b x y e f = name-of x y (sym e ∙ f)
 
-    fact-back : (c b : ℕ) → Meets h g c b → (uses c h.boxes ≤ 1) ⊎ ((name : List ℕ) × (Called c name × (b ≡ s.shared name)))
-    fact-back c b w =
-        let m = turn-meets h g c b w in
-        elim (second.there.alone c) [
-          | inl u ↦ inl u
-          | inr r ↦ inr (r.0, (r.1, named-box s query names order g first b r.0 (left-held b c m) ((named-both b c m r.0).1 r.1)))
-        ]
+  meets-one : (a b c : ℕ) → Meets g h a b → Meets g h a c → b ≡ c
+  meets-one a b c m w = met-once g h first.ordered second.ordered shared Named apart fact a b m a c w refl
 
-    apart : (b : ℕ) (x y : List ℕ) → Named b x → Named b y → x ≡ y
-    apart b x y e f = name-of x y (sym e ∙ f)
+  stands-for-one : (a b c : ℕ) → Stands g h a b → Stands g h a c → b ≡ c
+  stands-for-one a b c m w = stands-once g h first.ordered second.ordered shared Named apart fact first.once a b m a c w refl
 
-    apart-back : (b : ℕ) (x y : List ℕ) → Called b x → Called b y → x ≡ y
-    apart-back b x y e f = name-of x y (sym e ∙ f)
+  -- quantifiers are as many
+  other-at : (os ps : List OwnedQuant) → Kids os ps → (i : ℕ) (o : OwnedQuant) → OwnedAt i o os → (p : OwnedQuant) × OwnedAt i p ps
+  other-at [] ps r i o at = absurd at
+  other-at (x ∷ os) [] r i o at = absurd r
+  other-at (x ∷ os) (y ∷ ps) r zero o at = (y, refl)
+  other-at (x ∷ os) (y ∷ ps) r (suc i) o at = other-at os ps r.3 i o at
 
-    pub boxes-one-to-one : IsOneToOne (Meets g h)
-    boxes-one-to-one = record {
-      one = λ a b c m w. met-once g h first.ordered second.ordered shared Named apart fact a b m a c w refl;
-      other = λ a b c m w. met-once h g second.ordered first.ordered s.shared Called apart-back fact-back c a (turn-meets g h a c m) c b (turn-meets g h b c w) refl;
-    }
+  below : (b c d : ℕ) → Meets g h b c → Reaches g.boxes b d → (e : ℕ) × Meets g h d e
+  below b c d m (itself a) = (c, m)
+  below b c d m (through n r x i j k) =
+      let q = has-in c h.boxes (held n.id c m) in
+      let at : Meets g h n.id q.0.id = subst (λ y. Meets g h n.id y) (sym q.1.1) m in
+      let l = place-of r n.quants j in
+      let o = other-at n.quants q.0.quants (kids-of n q.0 i q.1.0 at (meet n.id q.0.id at)) l.0 r l.1 in
+      below r.over o.0.over d (under n q.0 l.0 r o.0 at i q.1.0 l.1 o.1) k
 
-    pub quants-one-to-one : IsOneToOne (Stands g h)
-    quants-one-to-one = record {
-      one = λ a b c m w. stands-once g h first.ordered second.ordered shared Named apart fact first.once a b m a c w refl;
-      other = λ a b c m w. stands-once h g second.ordered first.ordered s.shared Called apart-back fact-back second.once c a (turn-stands g h a c m) c b (turn-stands g h b c w) refl;
-    }
+  meets-some : (n : Node) → In n g.boxes → (k : Node) × (In k h.boxes × Meets g h n.id k.id)
+  meets-some n i =
+      let r = below g.root h.root n.id roots (root-reaches g.boxes g.root first.ordered first.built.used n i) in
+      let q = has-in r.0 h.boxes (held n.id r.0 r.1) in
+      (q.0, (q.1.0, subst (λ y. Meets g h n.id y) (sym q.1.1) r.1))
 
-    told-back : (x y : Term) → Like (Stands h g) x y → typed x ≡ s.typed y
-    told-back x y l = sym (told y x (like-turned (Stands h g) (Stands g h) (λ a c r. turn-stands h g a c r) x y l))
-
-    pub are-one-to-one : AreOneToOne g h
-    are-one-to-one = record {
-      boxes = boxes-one-to-one;
-      quants = quants-one-to-one;
-      first = (same-but-numbers s shared typed query names order g h first.built second.built first.ordered second.ordered told).met;
+pub are-one-to-one : (s : Sources) (shared : List ℕ → ℕ) (typed : Term → SqlType) (query : Query) (names : List (Option (List ℕ))) (order : List OrderKey) (g h : QueryGraph)
+    → BuiltApart s query names order g → BuiltApart (record s { shared = shared; typed = typed }) query names order h → AreOneToOne g h
+are-one-to-one s shared typed query names order g h first second =
+    let z = record s { shared = shared; typed = typed } in
+    record {
+      boxes = record {
+        one = meets-one s shared typed query names order g h first second;
+        other = λ a b c m w. meets-one z s.shared s.typed query names order h g second first c a b (turn-meets g h a c m) (turn-meets g h b c w);
+      };
+      quants = record {
+        one = stands-for-one s shared typed query names order g h first second;
+        other = λ a b c m w. stands-for-one z s.shared s.typed query names order h g second first c a b (turn-stands g h a c m) (turn-stands g h b c w);
+      };
+      first = meets-some s shared typed query names order g h first second;
       second = λ k i.
-          let r = (same-but-numbers z s.shared s.typed query names order h g second.built first.built second.ordered first.ordered told-back).met k i in
+          let r = meets-some z s.shared s.typed query names order h g second first k i in
           (r.0, (r.1.0, turn-meets h g k.id r.0.id r.1.1));
     }

@@ -12,7 +12,7 @@ use Rattle.qgm_shown.specs.Law.{IsBuiltOf}
 use Rattle.qgm_shown.specs.Maps.{Map}
 use Rattle.qgm_shown.specs.Shown.{ShowsBox, Thing, of_groups, of_operand, of_query, of_rows, uses}
 use Rattle.qgm_shown.specs.Sources.{Sources}
-use Rattle.qgm_formed.specs.Alike.{Like, Meets, Stands}
+use Rattle.qgm_formed.specs.Alike.{Meets, Stands}
 
 -- a thing is a table or a view, by its name
 abbrev pub IsNamed : Thing → Type 0
@@ -60,9 +60,8 @@ pub record AreOneToOne (g h : QueryGraph) : Type 0 where
   pub first : (n : Node) → In n g.boxes → (k : Node) × (In k h.boxes × Meets g h n.id k.id)
   pub second : (k : Node) → In k h.boxes → (n : Node) × (In n g.boxes × Meets g h n.id k.id)
 
--- two graphs that are built so of one query, over sources that share other boxes and tell one type of expressions that differ in numbers alone
+-- two graphs that are built so of one query, over sources that share other boxes and tell other types
 abbrev pub BuiltOneToOne : Type 0
 BuiltOneToOne =
     (sources : Sources) (shared : List ℕ → ℕ) (typed : Term → SqlType) (query : Query) (names : List (Option (List ℕ))) (order : List OrderKey) (g h : QueryGraph)
-    → BuiltApart sources query names order g → BuiltApart (record sources { shared = shared; typed = typed }) query names order h
-    → ((x y : Term) → Like (Stands g h) x y → sources.typed x ≡ typed y) → AreOneToOne g h
+    → BuiltApart sources query names order g → BuiltApart (record sources { shared = shared; typed = typed }) query names order h → AreOneToOne g h

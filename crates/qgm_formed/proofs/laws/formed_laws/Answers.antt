@@ -27,7 +27,7 @@ pub returns-clause-alike : goal.returns-clause-alike
 returns-clause-alike c = λ sources shared typed query names order g h first second one two told. same-but-numbers sources shared typed query names order g h first second one two told
 
 pub returns-clause-one_to_one : goal.returns-clause-one_to_one
-returns-clause-one_to_one c = λ sources shared typed query names order g h first second told. are-one-to-one sources shared typed query names order g h first second told
+returns-clause-one_to_one c = λ sources shared typed query names order g h first second. are-one-to-one sources shared typed query names order g h first second
 
 pub returns-clause-reused : goal.returns-clause-reused
 returns-clause-reused c = reused
