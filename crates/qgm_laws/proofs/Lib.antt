@@ -45,4 +45,6 @@ pub mod Settled
 pub mod AllSettled
 pub mod Follow
 pub mod TypedKept
+pub mod TypedMoved
+pub mod WellFormedKept
 pub mod Examples

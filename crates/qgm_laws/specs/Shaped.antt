@@ -47,3 +47,14 @@ CompactTyped = (g : QueryGraph) → Sound g.boxes g.root → Typed g.boxes → T
 -- and under M2
 abbrev pub DropShaped : Type 0
 DropShaped = (g : QueryGraph) → Sound g.boxes g.root → Shaped g.boxes g.root → (b c : Node) (r : OwnedQuant) → MayDrop g b c r → Shaped (dropped b c g).boxes g.root
+
+abbrev pub DropTyped : Type 0
+DropTyped = (g : QueryGraph) → Sound g.boxes g.root → Typed g.boxes → (b c : Node) (r : OwnedQuant) → MayDrop g b c r → Typed (dropped b c g).boxes
+
+-- what the check of a graph finds nothing against, it finds nothing against where the boxes that the root doesn't reach go
+abbrev pub CompactWellFormed : Type 0
+CompactWellFormed = (g : QueryGraph) → EachOnce (numbers g.boxes) → fault g ≡ None → fault (compact g) ≡ None
+
+-- and under M2
+abbrev pub DropWellFormed : Type 0
+DropWellFormed = (g : QueryGraph) → EachOnce (numbers g.boxes) → fault g ≡ None → (b c : Node) (r : OwnedQuant) → MayDrop g b c r → fault (dropped b c g) ≡ None

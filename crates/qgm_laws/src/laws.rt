@@ -3,7 +3,7 @@ ghost use Rattle.qgm_laws.specs.Asked.{Pushed, Singled};
 ghost use Rattle.qgm_laws.specs.EditLaws.{EditsPlaced, NewPlaced};
 ghost use Rattle.qgm_laws.specs.Examples.{Dropped, Same};
 ghost use Rattle.qgm_laws.specs.Push.{PushKeeps};
-ghost use Rattle.qgm_laws.specs.Shaped.{CompactShaped, CompactTyped, DropShaped, PlacedIsChecked, SoundIsChecked};
+ghost use Rattle.qgm_laws.specs.Shaped.{CompactShaped, CompactTyped, CompactWellFormed, DropShaped, DropTyped, DropWellFormed, PlacedIsChecked, SoundIsChecked};
 ghost use Rattle.qgm_laws.specs.SoundEdits.{AddSound, EditsAreMaps, KeepBags, KeepSound, NearlyCompact, ScopeLaws};
 ghost use Rattle.qgm_laws.specs.Facts.{FactsOfAgreeing, LooksStay};
 ghost use Rattle.qgm_laws.specs.Single.{SingleDiffers, SingleKeeps};
@@ -45,11 +45,14 @@ pub fn sound_laws()
     ensures looks { LooksStay }
 {}
 
-/// What rules need of a graph, with types that agree and shapes, is what the check of a graph finds; so it is for the three clauses that every edit keeps; shapes stay where boxes that aren't reached go, and under M2; types agree where boxes that aren't reached go. It does nothing.
+/// What rules need of a graph, with types that agree and shapes, is what the check of a graph finds; so it is for the three clauses that every edit keeps; where boxes that aren't reached go, and under M2, shapes stay, types agree and the check finds nothing more. It does nothing.
 pub fn checked_laws()
     ensures placed { PlacedIsChecked }
     ensures sound { SoundIsChecked }
     ensures compact { CompactShaped }
     ensures compact_typed { CompactTyped }
+    ensures compact_formed { CompactWellFormed }
     ensures drop { DropShaped }
+    ensures drop_typed { DropTyped }
+    ensures drop_formed { DropWellFormed }
 {}

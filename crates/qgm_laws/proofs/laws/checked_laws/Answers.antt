@@ -2,6 +2,8 @@ use Rattle.qgm_laws.proofs.Formed.{placed-checked, sound-checked}
 use Rattle.qgm_laws.proofs.ShapedKept.{shaped-compact}
 use Rattle.qgm_laws.proofs.ShapedMoved.{drop-shaped}
 use Rattle.qgm_laws.proofs.TypedKept.{typed-compact}
+use Rattle.qgm_laws.proofs.TypedMoved.{drop-typed}
+use Rattle.qgm_laws.proofs.WellFormedKept.{compact-formed, drop-formed}
 use Rattle.qgm_laws.proofs.laws.checked_laws.Goals as goal
 
 pub returns-clause-placed : goal.returns-clause-placed
@@ -18,3 +20,12 @@ returns-clause-drop c = λ g w s b d r m. drop-shaped g w s b d r m
 
 pub returns-clause-compact_typed : goal.returns-clause-compact_typed
 returns-clause-compact_typed c = λ g w t. typed-compact g.boxes g.root w t
+
+pub returns-clause-compact_formed : goal.returns-clause-compact_formed
+returns-clause-compact_formed c = compact-formed
+
+pub returns-clause-drop_typed : goal.returns-clause-drop_typed
+returns-clause-drop_typed c = λ g w t b d r m. drop-typed g w t b d r m
+
+pub returns-clause-drop_formed : goal.returns-clause-drop_formed
+returns-clause-drop_formed c = drop-formed
