@@ -15,6 +15,7 @@ pub mod Formed
 pub mod SampledThere
 pub mod Sampled
 pub mod Telling
+pub mod ToldAlike
 pub mod LikeTerms
 pub mod LikeParts
 pub mod LikeKids

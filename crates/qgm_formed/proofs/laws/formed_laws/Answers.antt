@@ -7,6 +7,8 @@ use Rattle.qgm_formed.proofs.Passes.{root-reaches}
 use Rattle.qgm_formed.proofs.Reused.{reused}
 use Rattle.qgm_formed.proofs.Sampled.{sampled}
 use Rattle.qgm_formed.proofs.Telling.{told-by}
+use Rattle.qgm_formed.proofs.ToldAlike.{type-alike}
+use Rattle.qgm_formed.specs.Alike.{Stands}
 
 pub returns-clause-types : goal.returns-clause-types
 returns-clause-types c = λ kinds sources query types names order g b. types-found kinds sources query types names order g b
@@ -31,3 +33,6 @@ returns-clause-one_to_one c = λ sources shared typed query names order g h firs
 
 pub returns-clause-reused : goal.returns-clause-reused
 returns-clause-reused c = reused
+
+pub returns-clause-told_alike : goal.returns-clause-told_alike
+returns-clause-told_alike c = λ g h at to same x y l. type-alike (Stands g h) at to same x y l
