@@ -46,5 +46,6 @@ pub mod AllSettled
 pub mod Follow
 pub mod TypedKept
 pub mod TypedMoved
+pub mod TypedPushed
 pub mod WellFormedKept
 pub mod Examples

@@ -54,7 +54,7 @@ columns-typed at q all h pre (x ∷ ts) e =
     ap₂ (λ (y : Option SqlType) (ys : List (Option SqlType)). y ∷ ys) (h (length pre) ∙ ap (λ z. joined_column (slice_get z (length pre))) e ∙ at-place pre x ts)
     (ap (λ k. map (term_type at) (columns_from q (suc k) (length ts))) (sym (length-one pre x)) ∙ columns-typed at q all h (pre ++ x ∷ []) ts (e ∙ append-one pre x ts))
 
-type-of : (i : ℕ) (o : Option Typed) → type_in (suc i) o ≡ joined_column (slice_get (types_found o) i)
+pub type-of : (i : ℕ) (o : Option Typed) → type_in (suc i) o ≡ joined_column (slice_get (types_found o) i)
 type-of i None = refl
 type-of i (Some x) = ap (λ b. cond b None (joined_column (slice_get x.types (suc i - 1)))) (eqb-suc-zero i) ∙ (let f : suc i - 1 ≡ i = omega arith in ap (λ z. joined_column (slice_get x.types z)) f)
 

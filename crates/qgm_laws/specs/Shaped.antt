@@ -15,6 +15,8 @@ use Rattle.qgm_check.specs.declared.check.Clause.TheVariants.{I1, I2, I3}
 use Rattle.qgm_laws.specs.Drop.{MayDrop, dropped}
 use Rattle.qgm_laws.specs.Graph.{Sound}
 use Rattle.qgm_laws.specs.Placed.{Placed}
+use Rattle.qgm_laws.specs.Push.{MayPush, pushed}
+use Rattle.qgm_terms.specs.Terms.{Cond}
 
 -- I5: each cell has a type, what is compared has one, and the boxes under a set operation have its types
 abbrev pub Typed : List Node → Type 0
@@ -58,3 +60,9 @@ CompactWellFormed = (g : QueryGraph) → EachOnce (numbers g.boxes) → fault g 
 -- and under M2
 abbrev pub DropWellFormed : Type 0
 DropWellFormed = (g : QueryGraph) → EachOnce (numbers g.boxes) → fault g ≡ None → (b c : Node) (r : OwnedQuant) → MayDrop g b c r → fault (dropped b c g) ≡ None
+
+-- types agree under P1
+abbrev pub PushTyped : Type 0
+PushTyped =
+    (g : QueryGraph) → Sound g.boxes g.root → Typed g.boxes → (b c : Node) (ps : List Cond) (p : Cond) (qs : List Cond) (us : List OwnedQuant) (r : OwnedQuant) (vs : List OwnedQuant)
+    → MayPush g.boxes b c ps p qs us r vs → Typed (pushed b c ps p qs r g).boxes

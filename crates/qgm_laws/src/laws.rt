@@ -3,7 +3,7 @@ ghost use Rattle.qgm_laws.specs.Asked.{Pushed, Singled};
 ghost use Rattle.qgm_laws.specs.EditLaws.{EditsPlaced, NewPlaced};
 ghost use Rattle.qgm_laws.specs.Examples.{Dropped, Same};
 ghost use Rattle.qgm_laws.specs.Push.{PushKeeps};
-ghost use Rattle.qgm_laws.specs.Shaped.{CompactShaped, CompactTyped, CompactWellFormed, DropShaped, DropTyped, DropWellFormed, PlacedIsChecked, SoundIsChecked};
+ghost use Rattle.qgm_laws.specs.Shaped.{CompactShaped, CompactTyped, CompactWellFormed, DropShaped, DropTyped, DropWellFormed, PlacedIsChecked, PushTyped, SoundIsChecked};
 ghost use Rattle.qgm_laws.specs.SoundEdits.{AddSound, EditsAreMaps, KeepBags, KeepSound, NearlyCompact, ScopeLaws};
 ghost use Rattle.qgm_laws.specs.Facts.{FactsOfAgreeing, LooksStay};
 ghost use Rattle.qgm_laws.specs.Single.{SingleDiffers, SingleKeeps};
@@ -45,7 +45,7 @@ pub fn sound_laws()
     ensures looks { LooksStay }
 {}
 
-/// What rules need of a graph, with types that agree and shapes, is what the check of a graph finds; so it is for the three clauses that every edit keeps; where boxes that aren't reached go, and under M2, shapes stay, types agree and the check finds nothing more. It does nothing.
+/// What rules need of a graph, with types that agree and shapes, is what the check of a graph finds; so it is for the three clauses that every edit keeps; where boxes that aren't reached go, and under M2, shapes stay, types agree and the check finds nothing more; types agree under P1. It does nothing.
 pub fn checked_laws()
     ensures placed { PlacedIsChecked }
     ensures sound { SoundIsChecked }
@@ -55,4 +55,5 @@ pub fn checked_laws()
     ensures drop { DropShaped }
     ensures drop_typed { DropTyped }
     ensures drop_formed { DropWellFormed }
+    ensures push_typed { PushTyped }
 {}
