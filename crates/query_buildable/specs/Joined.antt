@@ -1,5 +1,5 @@
 -- A graph that is built of a valid query over a valid schema is well-formed, its root's columns have the types that the checks state, and its root's bag is the query's rows.
-use Rattle.std.specs.Prelude.{◌≡◌, ◌≤◌, ℕ, true, List, [], Option, None}
+use Rattle.std.specs.Prelude.{◌≡◌, ◌≤◌, ℕ, Bool, true, List, [], Option, None, All}
 use Rattle.row_bag.specs.declared.tables.Table.{Table}
 use Rattle.sql_ast.specs.Declarations.{Declared}
 use Rattle.sql_ast.specs.Grammatical.{is_query}
@@ -20,8 +20,10 @@ use Rattle.qgm_terms.specs.Terms.{Term}
 use Rattle.qgm_meaning.specs.Meaning.{root_bag}
 use Rattle.qgm_check.specs.WellFormed.{fault}
 use Rattle.qgm_formed.specs.Law.{SharedOrOnce, Told, TypesFound}
+use Rattle.qgm_shown.specs.Buildable.{Buildable}
 use Rattle.qgm_shown.specs.Law.{IsBuiltOf, StandFor}
 use Rattle.qgm_shown.specs.Sources.{Sources}
+use Rattle.query_buildable.specs.Law.{Knows}
 use Rattle.query_buildable.specs.Sources.{sources_of}
 use Rattle.query_buildable.specs.Typing.{ValidSchema, known_types}
 
@@ -30,6 +32,16 @@ pub record ValidQuery (catalog : Declared) (text : s.QueryText) : Type 0 where
   pub schema : ValidSchema catalog
   pub grammar : is_query text.query ≡ true
   pub valid : query_fault catalog text ≡ 0
+
+-- boxes can be made for it and for each view, where the names that stand for columns are known
+pub record IsBuildableOver (catalog : Declared) (sources : Sources) (has : List ℕ → Bool) (text : s.QueryText) : Type 0 where
+  pub body : Buildable sources has (query (schema_columns catalog) [] text.query)
+  pub views : All (λ (view : s.ViewDecl). Buildable sources has (query (schema_columns catalog) [] view.query)) catalog.views
+
+abbrev pub ValidQueryIsBuildable : Type 0
+ValidQueryIsBuildable =
+    (catalog : Declared) (shared : List ℕ → ℕ) (typed : Term → SqlType) (has : List ℕ → Bool) (text : s.QueryText)
+    → ValidQuery catalog text → Knows has (heads_of catalog) → IsBuildableOver catalog (sources_of catalog shared typed) has text
 
 -- a graph is built of it, with its names resolved
 abbrev pub IsBuiltOver : Declared → Sources → s.QueryText → List (Option (List ℕ)) → List OrderKey → QueryGraph → Type 0

@@ -17,7 +17,7 @@ use Rattle.qgm_core.specs.declared.kinds.BaseTable.{BaseTable}
 use Rattle.qgm_terms.specs.Terms.{Term}
 use Rattle.qgm_formed.specs.Law.{SourcesTyped}
 use Rattle.qgm_shown.specs.Sources.{Sources}
-use Rattle.query_buildable.specs.Typing.{ValidSchema, kinds_of}
+use Rattle.query_buildable.specs.Typing.{SourcesOf, ValidSchema, kinds_of}
 
 -- ---- tables
 
@@ -77,3 +77,7 @@ sources_of catalog shared typed = record {
 -- the columns of tables and views have the types that the checks state
 abbrev pub SchemaSourcesTyped : Type 0
 SchemaSourcesTyped = (catalog : Declared) (shared : List ℕ → ℕ) (typed : Term → SqlType) → ValidSchema catalog → SourcesTyped (kinds_of (heads_of catalog)) (sources_of catalog shared typed)
+
+-- so the sources say of names what the schema says
+abbrev pub SchemaSources : Type 0
+SchemaSources = (catalog : Declared) (shared : List ℕ → ℕ) (typed : Term → SqlType) → ValidSchema catalog → SourcesOf catalog (sources_of catalog shared typed)

@@ -1,8 +1,8 @@
 // The laws of queries that boxes can be made for, of the types of their expressions, and of what is built of them, as theorems.
 ghost use Rattle.query_buildable.specs.Law.{ValidIsBuildable, ValidTextIsBuildable, ValidViewsAreBuildable};
 ghost use Rattle.query_buildable.specs.Sample.{Sampled};
-ghost use Rattle.query_buildable.specs.Joined.{SchemaNamesStand, ValidIsWellFormed, ValidRootAgrees};
-ghost use Rattle.query_buildable.specs.Sources.{SchemaSourcesTyped};
+ghost use Rattle.query_buildable.specs.Joined.{SchemaNamesStand, ValidIsWellFormed, ValidQueryIsBuildable, ValidRootAgrees};
+ghost use Rattle.query_buildable.specs.Sources.{SchemaSources, SchemaSourcesTyped};
 ghost use Rattle.query_buildable.specs.Typing.{ValidHasTypes, ValidSourcesTyped, ValidTextHasTypes, ValidViewsHaveTypes};
 
 /// Where a query is of the grammar and the checks find no fault in it, boxes can be made for its
@@ -26,12 +26,15 @@ pub fn type_laws()
     ensures sampled { Sampled }
 {}
 
-/// Over a valid schema, what names stand for where boxes are made of a query: the columns of tables
-/// and views have the types that the checks state. A graph that is built so of a valid query is
-/// well-formed, its root's columns have the types that the checks state, and its root's bag, over
-/// tables that fit the schema, is the query's rows, by places and by names. It does nothing.
+/// Over a valid schema, what names stand for where boxes are made of a query is what the schema says,
+/// and has the types that the checks state; boxes can be made for a valid query. A graph that is
+/// built so of a valid query is well-formed, its root's columns have the types that the checks state,
+/// and its root's bag, over tables that fit the schema, is the query's rows, by places and by names.
+/// It does nothing.
 pub fn built_laws()
+    ensures said { SchemaSources }
     ensures sources { SchemaSourcesTyped }
+    ensures buildable { ValidQueryIsBuildable }
     ensures formed { ValidIsWellFormed }
     ensures stand { SchemaNamesStand }
     ensures rows { ValidRootAgrees }

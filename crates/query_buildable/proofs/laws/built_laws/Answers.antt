@@ -1,6 +1,6 @@
-use Rattle.query_buildable.proofs.Joined.{valid_formed}
+use Rattle.query_buildable.proofs.Joined.{valid_buildable, valid_formed}
 use Rattle.query_buildable.proofs.Roots.{names_stand, valid_rows}
-use Rattle.query_buildable.proofs.SchemaSources.{schema_sources_typed}
+use Rattle.query_buildable.proofs.SchemaSources.{schema_sources, schema_sources_typed}
 use Rattle.query_buildable.proofs.laws.built_laws.Goals as goal
 
 pub returns-clause-sources : goal.returns-clause-sources
@@ -14,3 +14,9 @@ returns-clause-stand c = names_stand
 
 pub returns-clause-rows : goal.returns-clause-rows
 returns-clause-rows c = valid_rows
+
+pub returns-clause-said : goal.returns-clause-said
+returns-clause-said c = schema_sources
+
+pub returns-clause-buildable : goal.returns-clause-buildable
+returns-clause-buildable c = valid_buildable
