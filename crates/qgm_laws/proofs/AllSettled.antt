@@ -17,14 +17,11 @@ use Rattle.qgm_laws.proofs.Levels as levels
 use Rattle.qgm_laws.proofs.Lists.{all-from, all-in, any-in, in-left, or-left}
 use Rattle.qgm_laws.proofs.Ranks.{has-in, overs-held, place, place-under}
 use Rattle.qgm_laws.proofs.Read.{named-split}
+use Rattle.qgm_laws.proofs.Rules.{append-one}
 use Rattle.qgm_laws.proofs.Scope.{climb, in-first, parent, touched, unfold-loose}
 use Rattle.qgm_laws.proofs.Settled.{settled-soon}
 use Rattle.qgm_laws.proofs.Times.{times-in}
 use Rattle.qgm_laws.proofs.Turns.{each-turn, first-own}
-
-append-one : {X : Type 0} (xs : List X) (x : X) (ys : List X) → (xs ++ x ∷ ys) ≡ ((xs ++ x ∷ []) ++ ys)
-append-one [] x ys = refl
-append-one (z ∷ xs) x ys = ap (λ t. z ∷ t) (append-one xs x ys)
 
 in-one : {X : Type 0} (P : X → Type 0) (xs : List X) (x : X) → ((y : X) → In y xs → P y) → P x → (y : X) → In y (xs ++ x ∷ []) → P y
 in-one P [] x f p y i = elim i [ inl e ↦ subst P e p | inr z ↦ elim z [ ] ]
@@ -76,7 +73,7 @@ module _ (bs : List Node) (root : ℕ) (w : Sound bs root) where
         ])) in
         elim j [
           | inl s ↦ subst Known s now
-          | inr k ↦ turns e (done ++ x ∷ []) rest (split ∙ append-one done x rest) (in-one (λ r. In r n.quants) done x sub (more x (inl refl))) (λ r l. more r (inr l)) (in-one Known done x known now) r k
+          | inr k ↦ turns e (done ++ x ∷ []) rest (split ∙ sym (append-one done x rest)) (in-one (λ r. In r n.quants) done x sub (more x (inl refl))) (λ r l. more r (inr l)) (in-one Known done x known now) r k
         ]
 
     -- what is looked up below it ranges over boxes that are known

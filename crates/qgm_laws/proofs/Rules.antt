@@ -56,11 +56,11 @@ at-place : (pre : List Cell) (x : Cell) (v : List Cell) → get_or (pre ++ x ∷
 at-place [] x v = refl
 at-place (y ∷ pre) x v = at-place pre x v
 
-append-one : {X : Type 0} (xs : List X) (x : X) (ys : List X) → (xs ++ x ∷ []) ++ ys ≡ xs ++ x ∷ ys
+pub append-one : {X : Type 0} (xs : List X) (x : X) (ys : List X) → (xs ++ x ∷ []) ++ ys ≡ xs ++ x ∷ ys
 append-one [] x ys = refl
 append-one (z ∷ xs) x ys = ap (λ t. z ∷ t) (append-one xs x ys)
 
-length-one : {X : Type 0} (xs : List X) (x : X) → length (xs ++ x ∷ []) ≡ suc (length xs)
+pub length-one : {X : Type 0} (xs : List X) (x : X) → length (xs ++ x ∷ []) ≡ suc (length xs)
 length-one [] x = refl
 length-one (z ∷ xs) x = ap suc (length-one xs x)
 

@@ -29,19 +29,11 @@ use Rattle.qgm_laws.proofs.Levels as levels
 use Rattle.qgm_laws.proofs.Lists.{in-map, map-in}
 use Rattle.qgm_laws.proofs.Moved.{in-m, moved-sound}
 use Rattle.qgm_laws.proofs.Ranks.{has-in, overs-held, place-under}
-use Rattle.qgm_laws.proofs.Rules.{copies}
+use Rattle.qgm_laws.proofs.Rules.{append-one, copies, length-one}
 use Rattle.qgm_laws.proofs.Scope.{in-first}
 use Rattle.qgm_laws.proofs.TypedKept.{Found, found, found-under, typed-compact}
 
 -- ---- all columns, in order
-
-append-one : {X : Type 0} (xs : List X) (x : X) (ys : List X) → (xs ++ x ∷ ys) ≡ ((xs ++ x ∷ []) ++ ys)
-append-one [] x ys = refl
-append-one (z ∷ xs) x ys = ap (λ t. z ∷ t) (append-one xs x ys)
-
-length-one : {X : Type 0} (xs : List X) (x : X) → length (xs ++ x ∷ []) ≡ suc (length xs)
-length-one [] x = refl
-length-one (z ∷ xs) x = ap suc (length-one xs x)
 
 at-place : (pre : List (Option SqlType)) (x : Option SqlType) (ts : List (Option SqlType)) → joined_column (slice_get (pre ++ x ∷ ts) (length pre)) ≡ x
 at-place [] x ts = refl
@@ -52,7 +44,7 @@ columns-typed : (at : Lookup) (q : ℕ) (all : List (Option SqlType)) → ((i : 
 columns-typed at q all h pre [] e = refl
 columns-typed at q all h pre (x ∷ ts) e =
     ap₂ (λ (y : Option SqlType) (ys : List (Option SqlType)). y ∷ ys) (h (length pre) ∙ ap (λ z. joined_column (slice_get z (length pre))) e ∙ at-place pre x ts)
-    (ap (λ k. map (term_type at) (columns_from q (suc k) (length ts))) (sym (length-one pre x)) ∙ columns-typed at q all h (pre ++ x ∷ []) ts (e ∙ append-one pre x ts))
+    (ap (λ k. map (term_type at) (columns_from q (suc k) (length ts))) (sym (length-one pre x)) ∙ columns-typed at q all h (pre ++ x ∷ []) ts (e ∙ sym (append-one pre x ts)))
 
 pub type-of : (i : ℕ) (o : Option Typed) → type_in (suc i) o ≡ joined_column (slice_get (types_found o) i)
 type-of i None = refl
