@@ -26,7 +26,10 @@
 //!
 //! `alone N KIND` and lines of columns and conditions is a graph of one box.
 //!
-//! Of the last graph above, `QUESTION: ANSWER` says what is to be answered (`answers.rt`), as `check: ok`,
+//! `tables` begins tables, in the place of any before: lines `table "NAME"`, each with its rows below it, as
+//! `row 1 \N 'a'`, in which `\N` is null.
+//!
+//! Of the last graph above, `QUESTION: ANSWER` says what is to be answered (`answers.rt`, `told.rt`), as `check: ok`,
 //! `check: I3 2`, `walk depth: 1 0`, `free 2: 0`, `uses 0: 2`. An edit (`edits.rt`), as `redirect 0 2`,
 //! changes the graph; `add-box N KIND` (last), `add-box-below B N KIND` and `put-box N KIND` take lines of
 //! columns and conditions too. `becomes` and boxes below it say which boxes the graph is to have then.
@@ -39,16 +42,20 @@ mod answers;
 mod compare;
 mod drawing;
 mod edits;
+mod executed;
 mod faults;
 mod forms;
+mod inferred;
 mod items;
 mod known;
 mod made;
 mod run;
 mod script;
 mod sketch;
+mod tables;
 mod tally;
 mod tokens;
+mod told;
 
 use crate::run::{Other, Outcome, Setting};
 use crate::script::steps;
@@ -78,7 +85,7 @@ fn tell(rt: &HostRuntime, name: &str, outcome: &Outcome) -> anyhow::Result<()> {
 // Runs the steps of a script.
 fn run_text(rt: &HostRuntime, name: &str, text: &str) -> anyhow::Result<Tally> {
     let mut tally = Tally::new();
-    let mut setting = Setting::new();
+    let mut setting = Setting::new(rt.alloc());
     for step in &steps(rt.alloc(), text)? {
         let outcome = setting.run(rt.alloc(), step)?;
         tell(rt, name, &outcome)?;

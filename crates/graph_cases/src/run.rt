@@ -9,7 +9,10 @@ use crate::known::need_box;
 use crate::made::{graph_of, graph_of_one};
 use crate::script::{Line, Step};
 use crate::sketch::Sketch;
+use crate::tables::read_tables;
+use crate::told::told;
 use qgm_core::{BoxId, Graph};
+use row_bag::Tables;
 use std::alloc::Global;
 
 /// What a step comes to.
@@ -40,6 +43,8 @@ pub struct Other {
 #[derive(Drop)]
 pub struct Setting {
     graph: Option<Graph>,
+    // The last tables that stand in it.
+    tables: Tables,
 }
 
 // What a box is to be, by its line.
@@ -158,10 +163,18 @@ fn edit_line(alloc: Global, graph: &mut Graph, word: &str, rest: Rest) -> Result
 }
 
 // What a step comes to, where it is a question.
-fn ask(alloc: Global, graph: &Graph, line: &Line) -> Result<Option<Outcome>, LineError> {
+fn ask(
+    alloc: Global,
+    graph: &Graph,
+    tables: &Tables,
+    line: &Line,
+) -> Result<Option<Outcome>, LineError> {
     let Some((asked, wanted)) = line.text.as_str().split_once(": ") else {
         return Ok(None);
     };
+    if let Some(given) = told(alloc, graph, tables, asked)? {
+        return Ok(Some(compared(alloc, line.number, wanted, given.as_str())?));
+    }
     let Some(question) = Question::read(asked)? else {
         return Ok(None);
     };
@@ -173,12 +186,13 @@ fn ask(alloc: Global, graph: &Graph, line: &Line) -> Result<Option<Outcome>, Lin
 fn ask_or_act(
     alloc: Global,
     graph: &mut Graph,
+    tables: &Tables,
     word: &str,
     rest: Rest,
     step: &Step,
     at: &mut usize,
 ) -> Result<Outcome, LineError> {
-    match ask(alloc, graph, &step.first)? {
+    match ask(alloc, graph, tables, &step.first)? {
         Some(outcome) => {
             need_no_more(&step.below, at)?;
             Ok(outcome)
@@ -188,9 +202,12 @@ fn ask_or_act(
 }
 
 impl Setting {
-    /// No graph.
-    pub fn new() -> Setting {
-        Setting { graph: None }
+    /// No graph, and no table.
+    pub fn new(alloc: Global) -> Setting {
+        Setting {
+            graph: None,
+            tables: Tables::new(alloc),
+        }
     }
 
     /// What a step comes to. Where a graph can't be drawn, what stands behind it is about none.
@@ -216,9 +233,14 @@ impl Setting {
                 rest.end()?;
                 self.draw(alloc, &step.below, at)
             }
+            "tables" => {
+                rest.end()?;
+                self.tables = read_tables(alloc, &step.below, at)?;
+                Ok(Outcome::Edited)
+            }
             "alone" => self.draw_alone(alloc, rest, &step.below, at),
             word => match &mut self.graph {
-                Some(graph) => ask_or_act(alloc, graph, word, rest, step, at),
+                Some(graph) => ask_or_act(alloc, graph, &self.tables, word, rest, step, at),
                 None => Err(LineError::Faulty("there is no graph")),
             },
         }

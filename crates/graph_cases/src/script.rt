@@ -21,7 +21,7 @@ pub struct Step {
 fn says_more(text: &str) -> bool {
     match text.split_whitespace().next() {
         Some("out" | "order" | "root" | "box" | "quant" | "head" | "on" | "where" | "key") => true,
-        Some(word) => word == "not-null",
+        Some(word) => matches!(word, "not-null" | "table" | "row"),
         None => false,
     }
 }
