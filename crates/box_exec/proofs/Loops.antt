@@ -9,8 +9,8 @@ use Rattle.row_bag.specs.declared.row.Row.{Row}
 use Rattle.row_bag.proofs.Agreement.{alike-append, alike-bind, alike-keep, alike-keep_no, alike-refl, alike-same, alike-sym, alike-trans}
 use Rattle.row_bag.proofs.Binds.{bind-append, keep-append, keep-keep, keep-yes}
 use Rattle.row_bag.proofs.Levels.{least-yes}
-use Rattle.row_folds.proofs.FoldLaws.{or_else-alike}
-use Rattle.row_folds.proofs.Products.{or_else_any}
+use Rattle.row_bag.proofs.FoldLaws.{or_else-alike}
+use Rattle.row_bag.proofs.Products.{or_else_any}
 use Rattle.sql_value.specs.Level.{least}
 use Rattle.sql_value.specs.declared.cell.Cell.{Cell}
 use Rattle.sql_value.specs.declared.level.Level.{Level}

@@ -24,7 +24,7 @@ use Rattle.qgm_meaning.proofs.Alikes.{combined-alike, given-alike, grouped_rows-
 use Rattle.qgm_meaning.proofs.Frames.{either-left, either-right}
 use Rattle.qgm_meaning.proofs.Nodes.{all_true-nodes, head-nodes}
 use Rattle.row_bag.proofs.Agreement.{alike-bind}
-use Rattle.row_folds.proofs.FoldLaws.{or_else-alike}
+use Rattle.row_bag.proofs.FoldLaws.{or_else-alike}
 use Rattle.box_exec.specs.Outer.{joined_rows, null_row, partner_rows}
 use Rattle.box_exec.specs.Plans.{Planned, family, ranges}
 use Rattle.box_exec.specs.Ready.{Fit, SubsOf, binds_F, isnt_F, names_in_box, over_left}

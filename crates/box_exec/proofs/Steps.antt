@@ -3,7 +3,7 @@ use Rattle.std.proofs.Common.{refl, [], ℕ, ◌+◌, ◌<◌, ◌≡◌, ◌∙
 use Rattle.row_bag.specs.Bags.{if_there, total}
 use Rattle.row_bag.specs.declared.row.Row.{Row}
 use Rattle.sql_value.specs.declared.level.Level.{Level}
-use Rattle.row_folds.proofs.Chains.{and_joins, or_joins}
+use Rattle.row_bag.proofs.Chains.{and_joins, or_joins}
 use Rattle.qgm_terms.specs.Terms.{Term, Cond, both, and, or, linked, anded, ored}
 use Rattle.qgm_terms.specs.Terms as tt
 use Rattle.qgm_terms.specs.Shown.{cond, conds, links, term}

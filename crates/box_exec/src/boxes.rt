@@ -22,7 +22,7 @@ use crate::source::{Source, Sub};
 use crate::under::{Loop, Run, Under, is_f, loops, table_rows};
 use qgm_core::{BoxKind, Node, SetOperator};
 use row_bag::Bag;
-use row_folds::copied_rows;
+use row_bag::copied_rows;
 use shared_types::OutOfMemory;
 use sql_value::{Level, least};
 use std::sync::ledger::Ledger;

@@ -17,7 +17,7 @@ use crate::bindings::{Bindings, column};
 use crate::source::{Sub, rows_of};
 use qgm_terms::{Arm, Gc, Gx, Link, Op, QuantId};
 use row_bag::Row;
-use row_folds::{presence, scalar};
+use row_bag::{presence, scalar};
 use shared_types::OutOfMemory;
 use sql_value::{
     Cell, CmpOp, Kind, Level, Text, Truth, add, and, compare, concat, decided, div, is_null, like,
@@ -256,7 +256,7 @@ fn any_of(
 // For a row of the quantifier.
 #[cycle(value)]
 #[inline(never)]
-#[tactic(auto, using(row_folds::proofs::Chains::or_steps))]
+#[tactic(auto, using(row_bag::proofs::Chains::or_steps))]
 fn some(
     alloc: Global,
     q: QuantId,
@@ -304,7 +304,7 @@ fn some_row(
 // For each row of the quantifier.
 #[cycle(value)]
 #[inline(never)]
-#[tactic(auto, using(row_folds::proofs::Chains::and_steps))]
+#[tactic(auto, using(row_bag::proofs::Chains::and_steps))]
 fn every(
     alloc: Global,
     q: QuantId,

@@ -15,7 +15,7 @@ use crate::evaluation::value;
 use crate::heads::head_cells;
 use qgm_core::{Gx, QuantId};
 use row_bag::{Bag, Group, Row, error_at, failed_row, groups_of, key_error, worst_of};
-use row_folds::{append_cells, count_rows, folded};
+use row_bag::{append_cells, count_rows, folded};
 use shared_types::OutOfMemory;
 use sql_value::{Aggregate, Cell, Kind, Level, Taken};
 use sqlite_items::Items;
@@ -224,7 +224,7 @@ fn level_error_of(row: &Row) -> Option<Kind>
 }
 
 // The greatest error that the level of a row is.
-#[tactic(auto, using(row_folds::proofs::Chains::worst_steps))]
+#[tactic(auto, using(row_bag::proofs::Chains::worst_steps))]
 fn level_error(rows: &[Row]) -> Option<Kind>
     ensures { result ≡ error_among (λ cells. error_in []) rows.now }
 {

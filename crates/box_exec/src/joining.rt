@@ -9,7 +9,7 @@ use crate::bindings::Bindings;
 use crate::heads::{add_given, head_cells};
 use qgm_core::{Node, QuantId};
 use row_bag::{Bag, Row};
-use row_folds::{any_there, append_kept};
+use row_bag::{any_there, append_kept};
 use shared_types::OutOfMemory;
 use sql_value::{Cell, Level};
 use sqlite_items::Items;

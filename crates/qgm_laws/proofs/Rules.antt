@@ -10,7 +10,7 @@ use Rattle.row_bag.specs.declared.row.Row.{Row}
 use Rattle.row_bag.specs.declared.tables.Table.{Table}
 use Rattle.row_bag.proofs.Agreement.{alike-same}
 use Rattle.row_bag.proofs.BagLaws.{agreement-laws}
-use Rattle.row_bag.proofs.Tuples.{same_cells-decides}
+use Rattle.row_bag.proofs.TupleBags.{same_cells-decides}
 use Rattle.row_bag.proofs.Binds.{bind-unit, keep-yes}
 use Rattle.row_bag.proofs.Counts.{agree-from_alike}
 use Rattle.qgm_core.specs.declared.node.Node.{Node}

@@ -11,7 +11,7 @@ use Rattle.row_bag.specs.Subqueries as subquery
 use Rattle.row_bag.specs.Subqueries.{level_error, only_cell, presence}
 use Rattle.row_bag.specs.Verdict.{is_there}
 use Rattle.row_bag.specs.declared.row.Row.{Row}
-use Rattle.row_folds.proofs.Onlys.{Only, beside, none, one, only_among, only_of, scalar-total, single-total}
+use Rattle.row_bag.proofs.Onlys.{Only, beside, none, one, only_among, only_of, scalar-total, single-total}
 use Rattle.sql_value.specs.Arithmetic as a
 use Rattle.sql_value.specs.Arithmetic.{error_or}
 use Rattle.sql_value.specs.Cells.{error_of, worst_of}

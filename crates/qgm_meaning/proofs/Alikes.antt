@@ -11,7 +11,7 @@ use Rattle.row_bag.specs.declared.tables.Table.{Table}
 use Rattle.row_bag.proofs.Agreement.{alike-append, alike-bind, alike-keep, alike-keep_no, alike-refl, alike-same, alike-sym, alike-trans}
 use Rattle.row_bag.proofs.Counts.{alike-from_agree}
 use Rattle.row_bag.proofs.SetLaws.{distinct-alike, union-alike, intersect_all-alike, intersect-alike, except_all-alike, except-alike, collapsed-alike, grouped-alike}
-use Rattle.row_bag.proofs.Tuples.{same_cells-decides}
+use Rattle.row_bag.proofs.TupleBags.{same_cells-decides}
 use Rattle.sql_value.specs.Arithmetic as a
 use Rattle.sql_value.specs.Comparison as c
 use Rattle.sql_value.specs.Truths as t
@@ -35,7 +35,7 @@ use Rattle.qgm_meaning.specs.Laws.{AgreesBack, Stays, occurs}
 use Rattle.qgm_meaning.specs.Meaning.{Family, bag_in, combined, fold_cell, fold_cells, given, given_by, grouped_rows, groups, key_cells, nothing, of_one, of_two, once_if, outer_rows, over_each, quant_rows, rows_by, rows_found, rows_of}
 use Rattle.qgm_terms.specs.Terms.{Term, int, text, null_int, null_text, col, both, minus_of, choose, count_all, fold, scalar, Arms, no_arm, arm, Cond, always, compare, is_null, and, or, not, some, every}
 use Rattle.qgm_meaning.specs.Values.{Bag, Environment, all_true, bound, chosen_at, compared, first_true, head_cells, operate, truth, value}
-use Rattle.row_folds.proofs.FoldLaws.{every-alike, folded-alike, many-alike, or_else-alike, scalar-alike, some-alike}
+use Rattle.row_bag.proofs.FoldLaws.{every-alike, folded-alike, many-alike, or_else-alike, scalar-alike, some-alike}
 use Rattle.qgm_meaning.proofs.Ranked.{lower}
 
 -- ---- cells and conditions

@@ -4,18 +4,18 @@ use Rattle.std.proofs.Common.{ℕ, ◌==◌, ◌≡◌, ◌&&◌, ◌||◌, cond
 use Rattle.std.specs.List.{list_any}
 use Rattle.std.proofs.lemmas.Bool.{and_parts, cases_Bool, eq-eqb}
 use mathlib.Core.Path.{fun_ext}
-use Rattle.bag_laws.specs.AsSets.{AgreeAsSets}
-use Rattle.bag_laws.proofs.Setting.{sets-from_alike, sets-trans}
-use Rattle.bag_laws.proofs.Deciding.{clean-alike}
-use Rattle.bag_laws.proofs.Some.{every-sets, some-sets}
+use Rattle.row_bag.specs.AsSets.{AgreeAsSets}
+use Rattle.row_bag.proofs.Setting.{sets-from_alike, sets-trans}
+use Rattle.row_bag.proofs.Deciding.{clean-alike}
+use Rattle.row_bag.proofs.Some.{every-sets, some-sets}
 use Rattle.row_bag.specs.Bags.{Alike, bind, keep, total, unit}
 use Rattle.row_bag.specs.Sets.{same_cells}
 use Rattle.row_bag.specs.Subqueries.{presence}
 use Rattle.row_bag.specs.declared.tables.Table.{Table}
 use Rattle.row_bag.proofs.Agreement.{alike-bind, alike-refl, alike-same, alike-trans}
 use Rattle.row_bag.proofs.Counts.{agree-from_alike, alike-from_agree}
-use Rattle.row_bag.proofs.Tuples.{same_cells-decides}
-use Rattle.row_folds.proofs.FoldLaws.{every-alike, scalar-alike, some-alike}
+use Rattle.row_bag.proofs.TupleBags.{same_cells-decides}
+use Rattle.row_bag.proofs.FoldLaws.{every-alike, scalar-alike, some-alike}
 use Rattle.sql_value.specs.Arithmetic as a
 use Rattle.sql_value.specs.Comparison as c
 use Rattle.sql_value.specs.Truths as t

@@ -6,7 +6,7 @@ use Rattle.row_bag.specs.Sets.{SameLevels, same_cells}
 use Rattle.row_bag.specs.declared.tables.Table.{Table}
 use Rattle.row_bag.proofs.Agreement.{alike-same, alike-trans}
 use Rattle.row_bag.proofs.GreatestLevels.{levels-distinct, levels-sym, levels-trans}
-use Rattle.row_bag.proofs.Tuples.{same_cells-decides}
+use Rattle.row_bag.proofs.TupleBags.{same_cells-decides}
 use Rattle.qgm_core.specs.Kinds.{is_enforce}
 use Rattle.qgm_core.specs.declared.kinds.BoxKind.TheVariants.{Select}
 use Rattle.qgm_core.specs.declared.kinds.Distinct.{Distinct}

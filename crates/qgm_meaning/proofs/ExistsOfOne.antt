@@ -3,8 +3,8 @@ use Rattle.std.proofs.Common.{ℕ, ◌≤◌, ◌==◌, ◌≡◌, ◌&&◌, ◌
 use Rattle.std.specs.List.{list_any}
 use Rattle.std.proofs.lemmas.Bool.{and_from, eq-eqb}
 use mathlib.Core.Path.{fun_ext}
-use Rattle.bag_laws.specs.AsSets.{is_clean}
-use Rattle.bag_laws.proofs.Setting.{levels-sets, sets-sym}
+use Rattle.row_bag.specs.AsSets.{is_clean}
+use Rattle.row_bag.proofs.Setting.{levels-sets, sets-sym}
 use Rattle.row_bag.specs.Bags.{Agree, Alike}
 use Rattle.row_bag.specs.Joins.{how_many}
 use Rattle.row_bag.specs.Sets.{SameLevels, same_cells}

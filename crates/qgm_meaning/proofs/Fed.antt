@@ -1,7 +1,7 @@
 -- Rows of one box before those of another.
 use Rattle.std.proofs.Common.{ℕ, suc, ◌==◌, ◌≡◌, cond, Bool, true, false, List, [], ◌∷◌, ◌++◌, length, get_or, refl, sym, ap, ap₂, ◌∙◌}
 use Rattle.std.proofs.lemmas.Bool.{eq-eqb}
-use Rattle.bag_laws.specs.Tags.{led}
+use Rattle.row_bag.specs.Tags.{led}
 use Rattle.row_bag.specs.Bags.{bind, keep, unit}
 use Rattle.row_bag.specs.Order.{cell_of}
 use Rattle.row_bag.proofs.Binds.{keep-yes}

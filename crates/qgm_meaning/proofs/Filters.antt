@@ -2,11 +2,11 @@
 use Rattle.std.proofs.Common.{ℕ, suc, ◌≡◌, ◌≤◌, ◌&&◌, ◌||◌, nat_eq, cond, Bool, true, false, List, [], ◌∷◌, ◌++◌, take, length, Option, None, refl, sym, ap, ap₂, subst, ◌∙◌, ◌⊎◌, inl, inr}
 use Rattle.std.proofs.lemmas.Bool.{and_from, and_parts, cases_Bool}
 use mathlib.Core.Path.{fun_ext}
-use Rattle.bag_laws.specs.AsSets.{is_decided, stands}
-use Rattle.bag_laws.specs.Filters.{Decides, passing}
-use Rattle.bag_laws.proofs.Deciding.{decided-either}
-use Rattle.bag_laws.proofs.Filtering.{bind-passing, filter-laws, passing-append}
-use Rattle.bag_laws.proofs.Standing.{bind-standing, stands-once}
+use Rattle.row_bag.specs.AsSets.{is_decided, stands}
+use Rattle.row_bag.specs.Filters.{Decides, passing}
+use Rattle.row_bag.proofs.Deciding.{decided-either}
+use Rattle.row_bag.proofs.Filtering.{bind-passing, filter-laws, passing-append}
+use Rattle.row_bag.proofs.Standing.{bind-standing, stands-once}
 use Rattle.row_bag.specs.Bags.{Agree, Alike, bind, if_there, keep, row, unit}
 use Rattle.row_bag.specs.Errors.{error_among, error_at, error_in}
 use Rattle.row_bag.specs.Joins.{how_many, or_else}
@@ -17,7 +17,7 @@ use Rattle.row_bag.proofs.Agreement.{alike-same, alike-trans}
 use Rattle.row_bag.proofs.Binds.{bind-bind, bind-keep, keep-bind, keep-keep, unit-bind}
 use Rattle.row_bag.proofs.Counts.{agree-from_alike}
 use Rattle.row_bag.proofs.Levels.{least-commutative, least-no, least-yes, no-least}
-use Rattle.row_bag.proofs.Tuples.{same_cells-decides}
+use Rattle.row_bag.proofs.TupleBags.{same_cells-decides}
 use Rattle.sql_value.specs.Cells.{worst_of}
 use Rattle.sql_value.specs.Level.{least}
 use Rattle.sql_value.specs.declared.cell.Cell.{Cell}
@@ -82,7 +82,7 @@ decided-first level xs ys h = λ c s. h.decided c (stands-append c xs ys s)
 pub sets-pass : SetsPass
 sets-pass = λ form width level xs ys h. by form width level xs ys h
   where
-    laws : Rattle.bag_laws.specs.Filters.FilterLaws (List Cell) same_cells
+    laws : Rattle.row_bag.specs.Filters.FilterLaws (List Cell) same_cells
     laws = filter-laws same_cells same_cells-decides
 
     by : SetsPass

@@ -4,7 +4,7 @@ use Rattle.std.specs.List.{list_any}
 use Rattle.std.proofs.lemmas.Bool.{cases_Bool}
 use mathlib.Core.Path.{fun_ext}
 use Rattle.row_bag.specs.Bags.{Alike, bind, if_there, keep, total, unit}
-use Rattle.bag_laws.proofs.OneRow.{exists-of_one}
+use Rattle.row_bag.proofs.OneRow.{exists-of_one}
 use Rattle.row_bag.specs.Joins.{how_many}
 use Rattle.row_bag.proofs.Agreement.{alike-same, alike-trans}
 use Rattle.row_bag.specs.Sets.{SameLevels, distinct, same_cells}
@@ -13,7 +13,7 @@ use Rattle.row_bag.proofs.Binds.{keep-keep}
 use Rattle.row_bag.proofs.Folds.{fold_map-act, fold_map-same}
 use Rattle.row_bag.proofs.GreatestLevels.{distinct-levels, exists-as_join, levels-bind, levels-refl, levels-trans}
 use Rattle.row_bag.proofs.Levels.{least-associative, least-commutative, yes-least}
-use Rattle.row_bag.proofs.Tuples.{same_cells-decides}
+use Rattle.row_bag.proofs.TupleBags.{same_cells-decides}
 use Rattle.sql_value.specs.Level.{greatest, least}
 use Rattle.sql_value.specs.Truths as t
 use Rattle.sql_value.specs.declared.cell.Cell.{Cell}

@@ -1,14 +1,14 @@
 -- DISTINCT over a key goes.
 use Rattle.std.proofs.Common.{ℕ, ◌≡◌, true, List, Some}
-use Rattle.bag_laws.specs.Keys.{HasKey, cells_at}
-use Rattle.bag_laws.proofs.Keying.{key-once}
+use Rattle.row_bag.specs.Keys.{HasKey, cells_at}
+use Rattle.row_bag.proofs.Keying.{key-once}
 use Rattle.row_bag.specs.Bags.{Agree}
 use Rattle.row_bag.specs.Sets.{same_cells}
 use Rattle.row_bag.specs.declared.tables.Table.{Table}
 use Rattle.row_bag.proofs.Agreement.{alike-sym}
 use Rattle.row_bag.proofs.Counts.{agree-from_alike}
 use Rattle.row_bag.proofs.GreatestLevels.{distinct-once}
-use Rattle.row_bag.proofs.Tuples.{same_cells-decides}
+use Rattle.row_bag.proofs.TupleBags.{same_cells-decides}
 use Rattle.qgm_core.specs.Boxes.{QueryGraph, Ordered, box_of, has_box}
 use Rattle.qgm_core.specs.declared.kinds.Distinct.TheVariants.{Enforce, Preserve}
 use Rattle.qgm_core.specs.declared.node.Node.{Node}

@@ -11,7 +11,7 @@ use Rattle.row_bag.specs.declared.row.Row.{Row}
 use Rattle.row_bag.proofs.Agreement.{alike-append, alike-bind, alike-keep_no, alike-refl, alike-same, alike-sym, alike-trans}
 use Rattle.row_bag.proofs.Binds.{bind-bind, bind-append, keep-bind, unit-bind}
 use Rattle.row_bag.proofs.Levels.{least-no, least-yes}
-use Rattle.row_bag.proofs.Tuples.{same_cells-decides}
+use Rattle.row_bag.proofs.TupleBags.{same_cells-decides}
 use Rattle.sql_value.specs.Cells.{worst_of}
 use Rattle.sql_value.specs.Level.{least}
 use Rattle.sql_value.specs.declared.cell.Cell.{Cell}

@@ -1,11 +1,11 @@
 -- A select may be PERMIT where its rows are read by some and every alone.
 use Rattle.std.proofs.Common.{ℕ, ◌==◌, ◌≡◌, cond, Bool, true, false, List, [], ◌∷◌, Option, Some, refl, subst}
-use Rattle.bag_laws.specs.AsSets.{AgreeAsSets, is_clean}
-use Rattle.bag_laws.proofs.Setting.{set-agreement, sets-from_alike, sets-sym}
+use Rattle.row_bag.specs.AsSets.{AgreeAsSets, is_clean}
+use Rattle.row_bag.proofs.Setting.{set-agreement, sets-from_alike, sets-sym}
 use Rattle.row_bag.specs.Sets.{same_cells}
 use Rattle.row_bag.specs.declared.tables.Table.{Table}
 use Rattle.row_bag.proofs.Agreement.{alike-refl}
-use Rattle.row_bag.proofs.Tuples.{same_cells-decides}
+use Rattle.row_bag.proofs.TupleBags.{same_cells-decides}
 use Rattle.qgm_core.specs.Boxes.{QueryGraph, Ordered, box_of, has_box, is_box}
 use Rattle.qgm_core.specs.Kinds.{is_enforce}
 use Rattle.qgm_core.specs.Lists.{first}

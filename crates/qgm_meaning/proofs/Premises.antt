@@ -1,9 +1,9 @@
 -- A small graph meets the premises of laws.
 use Rattle.std.proofs.Common.{◌==◌, ◌≡◌, cond, Bool, true, false, [], ◌∷◌, Some, None, refl}
-use Rattle.bag_laws.specs.AsSets.{AgreeAsSets}
-use Rattle.bag_laws.proofs.Setting.{set-agreement}
+use Rattle.row_bag.specs.AsSets.{AgreeAsSets}
+use Rattle.row_bag.proofs.Setting.{set-agreement}
 use Rattle.row_bag.specs.Sets.{distinct, same_cells}
-use Rattle.row_bag.proofs.Tuples.{same_cells-decides}
+use Rattle.row_bag.proofs.TupleBags.{same_cells-decides}
 use Rattle.qgm_core.specs.declared.kinds.BoxKind.TheVariants.{Select}
 use Rattle.qgm_meaning.specs.AsSets.{AllReadSets, SelectReadsSets, over_found}
 use Rattle.qgm_meaning.specs.Examples.{box, f, lateral_boxes, pairs}

@@ -8,7 +8,7 @@ use Rattle.row_bag.specs.Sets.{same_cells}
 use Rattle.row_bag.specs.declared.tables.Table.{Table}
 use Rattle.row_bag.proofs.Agreement.{alike-bind, alike-refl, alike-same, alike-swap, alike-sym, alike-trans}
 use Rattle.row_bag.proofs.Counts.{agree-from_alike, alike-from_agree}
-use Rattle.row_bag.proofs.Tuples.{same_cells-decides}
+use Rattle.row_bag.proofs.TupleBags.{same_cells-decides}
 use Rattle.sql_value.specs.declared.cell.Cell.{Cell}
 use Rattle.qgm_core.specs.Boxes.{QueryGraph, Ordered, all_over, box_of, has_box, is_quant}
 use Rattle.qgm_core.specs.Kinds.{is_F, is_enforce}

@@ -2,8 +2,8 @@
 use Rattle.std.proofs.Common.{ℕ, suc, ◌≡◌, ◌||◌, cond, nat_eq, Bool, true, List, [], ◌∷◌, Option, Some, None, filter, length, refl, sym, ap, ap₂, subst, ◌∙◌, eqb-true, inl, inr}
 use Rattle.std.specs.List.{list_all, list_any}
 use Rattle.std.proofs.lemmas.Bool.{and_from, and_parts, cases_Bool}
-use Rattle.bag_laws.specs.AsSets.{is_clean, is_decided}
-use Rattle.bag_laws.specs.Keys.{HasKey}
+use Rattle.row_bag.specs.AsSets.{is_clean, is_decided}
+use Rattle.row_bag.specs.Keys.{HasKey}
 use Rattle.row_bag.specs.Bags.{if_there}
 use Rattle.row_bag.specs.Errors.{error_among, error_at, error_in}
 use Rattle.row_bag.specs.Order.{cell_of}

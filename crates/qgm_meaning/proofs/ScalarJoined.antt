@@ -9,7 +9,7 @@ use Rattle.row_bag.specs.Sets.{same_cells}
 use Rattle.row_bag.specs.declared.tables.Table.{Table}
 use Rattle.row_bag.proofs.Agreement.{alike-same, alike-sym, alike-trans}
 use Rattle.row_bag.proofs.Counts.{agree-from_alike, alike-from_agree}
-use Rattle.row_bag.proofs.Tuples.{same_cells-decides}
+use Rattle.row_bag.proofs.TupleBags.{same_cells-decides}
 use Rattle.sql_value.specs.Arithmetic as a
 use Rattle.sql_value.specs.Comparison as c
 use Rattle.sql_value.specs.Truths as t
@@ -37,7 +37,7 @@ use Rattle.qgm_meaning.specs.Values.{Bag, Environment, all_true, bound, chosen_a
 use Rattle.qgm_meaning.proofs.Alikes.{once_if-alike}
 use Rattle.qgm_meaning.proofs.ExistsJoined.{inner, moved, overs-moved, own-append}
 use Rattle.qgm_meaning.proofs.Fitting.{hereditary}
-use Rattle.row_folds.proofs.FoldLaws.{scalar-alike}
+use Rattle.row_bag.proofs.FoldLaws.{scalar-alike}
 use Rattle.qgm_meaning.proofs.Frames.{any-framed, bag-framed, either-left, either-right, given-framed}
 use Rattle.qgm_meaning.proofs.Joined.{over_each-append, unread}
 use Rattle.qgm_meaning.proofs.Merged.{one-row, over_each-within}

@@ -1,10 +1,10 @@
 -- Groups of rows under tags.
 use Rattle.std.proofs.Common.{suc, List, ◌++◌, drop, ap}
-use Rattle.bag_laws.proofs.Leading.{led-groups}
-use Rattle.bag_laws.proofs.LeadingWhole.{led-whole_groups}
+use Rattle.row_bag.proofs.Leading.{led-groups}
+use Rattle.row_bag.proofs.LeadingWhole.{led-whole_groups}
 use Rattle.row_bag.specs.Sets.{same_cells}
 use Rattle.row_bag.proofs.Counts.{alike-from_agree}
-use Rattle.row_bag.proofs.Tuples.{same_cells-decides}
+use Rattle.row_bag.proofs.TupleBags.{same_cells-decides}
 use Rattle.sql_value.specs.declared.cell.Cell.{Cell}
 use Rattle.qgm_meaning.specs.Meaning.{fold_cells, key_cells}
 use Rattle.qgm_meaning.specs.Tags.{GroupTagged, GroupsTagged}

@@ -1,7 +1,7 @@
 -- Boxes whose rows agree as sets: PERMIT boxes, which E and A quantifiers alone range over.
 use Rattle.std.specs.Prelude.{ℕ, ◌≡◌, ◌==◌, ◌&&◌, not, Bool, true, false, List, [], ◌∷◌, Option, Some, None, ⊤}
 use Rattle.std.specs.List.{list_any}
-use Rattle.bag_laws.specs.AsSets.{AgreeAsSets}
+use Rattle.row_bag.specs.AsSets.{AgreeAsSets}
 use Rattle.row_bag.specs.Bags.{Agree}
 use Rattle.row_bag.specs.Sets.{same_cells}
 use Rattle.row_bag.specs.declared.tables.Table.{Table}

@@ -1,7 +1,7 @@
 -- EXISTS as a join where nothing makes the rows distinct.
 use Rattle.std.specs.Prelude.{ℕ, ◌≡◌, ◌==◌, ◌≤◌, ◌++◌, Bool, true, false, List, [], ◌∷◌, Some}
 use Rattle.std.specs.List.{list_any}
-use Rattle.bag_laws.specs.AsSets.{is_clean}
+use Rattle.row_bag.specs.AsSets.{is_clean}
 use Rattle.row_bag.specs.Bags.{Agree}
 use Rattle.row_bag.specs.Joins.{how_many}
 use Rattle.row_bag.specs.Sets.{SameLevels, same_cells}

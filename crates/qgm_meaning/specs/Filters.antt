@@ -1,7 +1,7 @@
 -- Conditions on the rows of a box, before what it does and after it.
 use Rattle.std.specs.Prelude.{ℕ, suc, ◌≡◌, ◌≤◌, ◌++◌, true, List, [], take, length, None, ⊤}
-use Rattle.bag_laws.specs.AsSets.{is_decided, stands}
-use Rattle.bag_laws.specs.Filters.{Decides, passing}
+use Rattle.row_bag.specs.AsSets.{is_decided, stands}
+use Rattle.row_bag.specs.Filters.{Decides, passing}
 use Rattle.row_bag.specs.Bags.{Agree, bind, unit}
 use Rattle.row_bag.specs.Errors.{error_among, error_in}
 use Rattle.row_bag.specs.Joins.{or_else}

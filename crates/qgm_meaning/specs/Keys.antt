@@ -1,7 +1,7 @@
 -- DISTINCT that goes: over a key, and where E and A quantifiers alone range over a box.
 use Rattle.std.specs.Prelude.{ℕ, ◌≡◌, ◌==◌, true, List, Some}
-use Rattle.bag_laws.specs.AsSets.{is_clean}
-use Rattle.bag_laws.specs.Keys.{HasKey}
+use Rattle.row_bag.specs.AsSets.{is_clean}
+use Rattle.row_bag.specs.Keys.{HasKey}
 use Rattle.row_bag.specs.Bags.{Agree}
 use Rattle.row_bag.specs.Sets.{same_cells}
 use Rattle.row_bag.specs.declared.tables.Table.{Table}

@@ -1,7 +1,7 @@
 -- What two rules stand on: the bags that a box gives before and after.
 use Rattle.std.specs.Prelude.{ℕ, ◌≡◌, ◌++◌, true, false, List, [], ◌∷◌, map, Some}
 use Rattle.std.specs.List.{list_any}
-pub use Rattle.bag_laws.specs.Filters.{passing}
+pub use Rattle.row_bag.specs.Filters.{passing}
 use Rattle.row_bag.specs.Bags.{Agree, unit}
 use Rattle.row_bag.specs.Sets.{same_cells}
 use Rattle.row_bag.specs.declared.tables.Table.{Table}

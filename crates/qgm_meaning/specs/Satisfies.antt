@@ -2,8 +2,8 @@
 use Rattle.std.specs.Prelude.{ℕ, ◌≡◌, ◌&&◌, Bool, true, false, List, [], ◌∷◌, Option, Some, None, filter, ⊤}
 use Rattle.std.specs.Prelude as p
 use Rattle.std.specs.List.{list_all, list_any}
-use Rattle.bag_laws.specs.AsSets.{is_clean}
-use Rattle.bag_laws.specs.Keys.{HasKey}
+use Rattle.row_bag.specs.AsSets.{is_clean}
+use Rattle.row_bag.specs.Keys.{HasKey}
 use Rattle.row_bag.specs.Errors.{error_among, error_in}
 use Rattle.row_bag.specs.Order.{cell_of}
 use Rattle.row_bag.specs.Tables.{bag_named}

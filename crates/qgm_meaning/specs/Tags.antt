@@ -1,7 +1,7 @@
 -- Groups of rows under tags.
 use Rattle.std.specs.Prelude.{ℕ, zero, suc, ◌≡◌, ◌==◌, ◌++◌, if◌then◌else◌, true, false, List, [], ◌∷◌, take, drop, length}
-use Rattle.bag_laws.specs.AsSets.{stands}
-use Rattle.bag_laws.specs.Tags.{led}
+use Rattle.row_bag.specs.AsSets.{stands}
+use Rattle.row_bag.specs.Tags.{led}
 use Rattle.row_bag.specs.Bags.{Agree, bind, keep, unit}
 use Rattle.row_bag.specs.Joins.{or_else}
 use Rattle.row_bag.specs.Sets.{grouped, once, same_cells}

@@ -1,9 +1,9 @@
 -- What the words of laws come to on small bags.
 use Rattle.std.specs.Prelude.{◌≡◌, ◌==◌, ◌++◌, true, false, List, [], ◌∷◌, pos, if◌then◌else◌, take, drop}
-use Rattle.bag_laws.specs.AsSets.{AgreeAsSets, is_clean, stands}
-use Rattle.bag_laws.specs.Filters.{passing}
-use Rattle.bag_laws.specs.Keys.{cells_at}
-use Rattle.bag_laws.specs.Tags.{led}
+use Rattle.row_bag.specs.AsSets.{AgreeAsSets, is_clean, stands}
+use Rattle.row_bag.specs.Filters.{passing}
+use Rattle.row_bag.specs.Keys.{cells_at}
+use Rattle.row_bag.specs.Tags.{led}
 use Rattle.row_bag.specs.Bags.{bind, keep, row, unit}
 use Rattle.row_bag.specs.Joins.{or_else}
 use Rattle.row_bag.specs.Sets.{distinct, grouped, multiplicity, once, same_cells}

@@ -18,7 +18,7 @@ use Rattle.sql_value.specs.declared.cell.Cell.TheVariants.{Int, Text, Null, Err}
 use Rattle.sql_value.specs.declared.cell.Kind.TheVariants as kind
 use Rattle.sql_value.specs.declared.truth.Truth.{Truth}
 use Rattle.qgm_props.specs.Facts.{is_sound}
-use Rattle.bag_laws.specs.AsSets.{is_decided}
+use Rattle.row_bag.specs.AsSets.{is_decided}
 use Rattle.qgm_props.proofs.Rows.{greatest-decided, least-decided}
 
 pub no-error : (x : Cell) → is_sound x ≡ true → error_of x ≡ None

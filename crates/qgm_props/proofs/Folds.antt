@@ -4,8 +4,8 @@ use Rattle.std.proofs.lemmas.Bool.{and_parts, lt-ltb, ltb-true}
 use Rattle.std.proofs.lemmas.Int.{ints}
 use Rattle.std.specs.Int.RustNames.{int_div}
 use Rattle.std.specs.Ordering.{is_le}
-use Rattle.row_folds.specs.Arguments.{IsTotalOf}
-use Rattle.row_folds.proofs.Means.{mean_fits, one_within}
+use Rattle.row_bag.specs.Arguments.{IsTotalOf}
+use Rattle.row_bag.proofs.Means.{mean_fits, one_within}
 use Rattle.row_bag.specs.Aggregates.{number_in, same_cell, count_cell, count_rows, exact_total, folded, greater_cell, lesser_cell, mean, of_arguments, single_of_those, unless_null, values}
 use Rattle.row_bag.specs.Bags.{bind, if_there, keep, row, total, unit}
 use Rattle.row_bag.specs.Errors.{error_among, error_at, error_in}

@@ -1,13 +1,13 @@
 -- A key as a test that no two rows pass.
 use Rattle.std.proofs.Common.{ℕ, zero, suc, ◌≡◌, ◌≤◌, ◌+◌, ◌==◌, ◌&&◌, cond, Bool, true, false, List, [], ◌∷◌, length, nat_lt, eqb-true, refl, sym, ap, ap₂, subst, ◌∙◌, arith, inl, inr}
 use Rattle.std.proofs.lemmas.Bool.{and_parts, cases_Bool, eq-eqb, eqb-false, ltb-false, ltb-true, or_cases}
-use Rattle.bag_laws.specs.Keys.{HasKey, cells_at}
-use Rattle.bag_laws.proofs.Images.{multiplicity-image}
+use Rattle.row_bag.specs.Keys.{HasKey, cells_at}
+use Rattle.row_bag.proofs.Images.{multiplicity-image}
 use Rattle.row_bag.specs.Bags.{bind, if_there, total, unit}
 use Rattle.row_bag.specs.Order.{cell_of}
 use Rattle.row_bag.specs.Sets.{multiplicity, same_cells}
 use Rattle.row_bag.specs.Verdict.{is_there}
-use Rattle.row_bag.proofs.Tuples.{same_cells-decides}
+use Rattle.row_bag.proofs.TupleBags.{same_cells-decides}
 use Rattle.sql_value.specs.declared.cell.Cell.{Cell}
 use Rattle.sql_value.specs.declared.level.Level.{Level}
 use Rattle.sql_value.specs.declared.level.Level.TheVariants.{No, Cardinality, Division, Overflow, Yes}

@@ -6,7 +6,7 @@ use Rattle.row_bag.specs.Errors.{error_at}
 use Rattle.row_bag.specs.Sets.{copies, distinct, level_in, multiplicity, once, same_cells}
 use Rattle.row_bag.specs.Verdict.{is_there}
 use Rattle.row_bag.specs.declared.row.Row.{Row}
-use Rattle.row_bag.proofs.Tuples.{same_cells-decides}
+use Rattle.row_bag.proofs.TupleBags.{same_cells-decides}
 use Rattle.sql_value.specs.Level.{greatest, least}
 use Rattle.sql_value.specs.declared.cell.Cell.{Cell}
 use Rattle.sql_value.specs.declared.level.Level.{Level}
@@ -16,7 +16,7 @@ use Rattle.qgm_meaning.specs.Meaning.{once_if}
 use Rattle.qgm_meaning.specs.Values.{Bag}
 use Rattle.qgm_meaning.proofs.Frames.{either-left, either-right}
 use Rattle.qgm_props.specs.Facts.{Each, EachThere}
-use Rattle.bag_laws.specs.AsSets.{is_decided}
+use Rattle.row_bag.specs.AsSets.{is_decided}
 use Rattle.qgm_props.proofs.EachClean.{EachClean, clean-decided, decided-clean}
 
 -- a level of a row that is there

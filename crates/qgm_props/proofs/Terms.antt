@@ -30,7 +30,7 @@ use Rattle.qgm_props.proofs.EachClean.{EachClean, clean-decided}
 use Rattle.qgm_props.specs.Inferred.{Facts, arms_free, clean_under, cond_free, divides, error_free_under, is_free, keeps_free, single_under}
 use Rattle.qgm_props.proofs.Cells.{Decided, decided-and, decided-compare, decided-like, decided-null, decided-or, decided-same, sound-concat, sound-div}
 use Rattle.qgm_props.proofs.Counted.{counted, flag}
-use Rattle.bag_laws.specs.AsSets.{is_decided}
+use Rattle.row_bag.specs.AsSets.{is_decided}
 use Rattle.qgm_props.proofs.Rows.{each-occurs, occurs-each, there_at, there-is}
 
 -- ---- rows of subqueries

@@ -1,6 +1,6 @@
 -- What holds of the rows of a bag.
 use Rattle.std.specs.Prelude.{ℕ, ◌≡◌, ◌≢◌, ◌≤◌, Bool, true, false, List, [], ◌∷◌, ⊤}
-use Rattle.bag_laws.specs.AsSets.{is_clean}
+use Rattle.row_bag.specs.AsSets.{is_clean}
 use Rattle.row_bag.specs.Joins.{how_many}
 use Rattle.row_bag.specs.Order.{cell_of}
 use Rattle.row_bag.specs.Verdict.{is_there}

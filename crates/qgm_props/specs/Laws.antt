@@ -1,6 +1,6 @@
 -- What is inferred holds.
 use Rattle.std.specs.Prelude.{ℕ, ◌≡◌, ◌↔◌, Bool, true, List, Some}
-use Rattle.bag_laws.specs.Keys.{HasKey}
+use Rattle.row_bag.specs.Keys.{HasKey}
 use Rattle.row_bag.specs.declared.tables.Table.{Table}
 use Rattle.qgm_core.specs.Boxes.{Ordered, ids_of, owns, range_in}
 use Rattle.qgm_core.specs.Lists.{EachOnce, In, first}

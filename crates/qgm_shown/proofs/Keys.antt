@@ -5,7 +5,7 @@ use Rattle.std.proofs.lemmas.Bool.{cases_Bool, eq-eqb, eqb-true}
 use Rattle.row_bag.specs.Errors.{error_in}
 use Rattle.row_bag.specs.Order.{cell_of}
 use Rattle.row_bag.specs.Sets.{same_cells}
-use Rattle.row_bag.proofs.Tuples.{same_cells-decides}
+use Rattle.row_bag.proofs.TupleBags.{same_cells-decides}
 use Rattle.row_bag.proofs.Worst.{worst-monoid}
 use Rattle.sql_value.specs.Cells.{error_of, worse, worst_of}
 use Rattle.sql_value.specs.declared.cell.Cell.{Cell}

@@ -14,7 +14,7 @@ use Rattle.sql_value.specs.declared.level.Level.TheVariants.{No, Cardinality, Di
 use Rattle.sql_value.specs.declared.truth.Truth.{Truth}
 use Rattle.row_bag.proofs.Binds.{bind-append, bind-bind, unit-bind}
 use Rattle.row_bag.proofs.Levels.{least-yes}
-use Rattle.row_folds.proofs.Products.{product_one}
+use Rattle.row_bag.proofs.Products.{product_one}
 use Rattle.query_loops.specs.Rows.{beside, listed, picked}
 use Rattle.query_loops.proofs.There.{append-same, keep-same}
 

@@ -10,7 +10,7 @@ use Rattle.sql_value.specs.Truths as t
 use Rattle.sql_value.specs.declared.cell.Cell.{Cell}
 use Rattle.std.specs.Prelude.{true, false}
 use Rattle.query_loops.specs.There.{SameThere}
-use Rattle.row_folds.proofs.Chains.{false_or, true_and}
+use Rattle.row_bag.proofs.Chains.{false_or, true_and}
 use Rattle.query_loops.proofs.There.{total-same}
 
 pub exists_same : (xs ys : List (Row (List Cell))) → SameThere xs ys → u.exists xs ≡ u.exists ys

@@ -4,7 +4,7 @@ use Rattle.sql_meaning.specs.ResolvedMeaning as m
 use Rattle.sql_meaning.specs.ResolvedTrees as q
 use Rattle.row_bag.specs.Bags.{row}
 use Rattle.row_bag.specs.declared.row.Row.{Row}
-pub use Rattle.row_folds.specs.Beside.{beside, with_nulls}
+pub use Rattle.row_bag.specs.Beside.{beside, with_nulls}
 use Rattle.sql_meaning.specs.Groups.{no_group}
 use Rattle.sql_value.specs.Level.{least}
 use Rattle.sql_value.specs.declared.cell.Cell.{Cell}

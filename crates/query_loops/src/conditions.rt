@@ -12,7 +12,7 @@ use crate::nest::Loops;
 use crate::scope::{Group, Scopes, Setting};
 use crate::value::between;
 use row_bag::{Bag, Row};
-use row_folds::{compare_all, compare_any, exists};
+use row_bag::{compare_all, compare_any, exists};
 use shared_types::OutOfMemory;
 use sql_ast::Quantifier;
 use sql_meaning::{From, Query, Test, Value};

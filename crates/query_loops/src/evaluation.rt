@@ -13,7 +13,7 @@ use crate::nest::Loops;
 use crate::scope::{Group, Scopes, Setting, cell_at};
 use crate::value::{additive, multiplicative, null_if};
 use row_bag::Bag;
-use row_folds::scalar;
+use row_bag::scalar;
 use shared_types::OutOfMemory;
 use sql_meaning::{Addend, Arm, Choice, From, Multiplier, Query, Test, Value};
 use sql_value::{Cell, CmpOp, Kind, Level, Truth, compare, neg};

@@ -13,7 +13,7 @@ use crate::scope::{Group, Scopes, Setting};
 use crate::sets::{combined, distinct_if, intersected};
 use crate::source::{Source, rows_named};
 use row_bag::{Bag, Row};
-use row_folds::{copied_rows, product};
+use row_bag::{copied_rows, product};
 use shared_types::OutOfMemory;
 use sql_meaning::{From, Query, Test, Value};
 use sql_value::{Cell, Level, Truth};

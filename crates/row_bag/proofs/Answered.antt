@@ -20,7 +20,7 @@ use Rattle.row_bag.proofs.Inserted.{sorted-ascends, sorted-occurs}
 use Rattle.row_bag.proofs.Order.{less-apart, row_same, same-equal, same-itself}
 use Rattle.row_bag.proofs.SetLaws.{error_among-alike}
 use Rattle.row_bag.proofs.SortedOnce.{ascends-once, occurs}
-use Rattle.row_bag.proofs.Tuples.{same_cells-decides}
+use Rattle.row_bag.proofs.TupleBags.{same_cells-decides}
 
 pub fold_map-sum_by : {X : Type 0} (f : X → ℕ) (xs : List X) → fold_map ◌+◌ 0 f xs ≡ sum_by f xs
 fold_map-sum_by f [] = refl

@@ -18,7 +18,7 @@ use Rattle.row_bag.proofs.Folds.{fold_map-append}
 use Rattle.row_bag.proofs.GreatestLevels.{level_in-absent, total-distinct, total-once}
 use Rattle.row_bag.proofs.Levels.{rank-once}
 use Rattle.row_bag.proofs.SetLaws.{multiplicity-alike}
-use Rattle.row_bag.proofs.Tuples.{same_cells-decides}
+use Rattle.row_bag.proofs.TupleBags.{same_cells-decides}
 use Rattle.row_bag.proofs.Worst.{worst-monoid}
 
 none-greatest : (a b : Level) → greatest a b ≡ No → (a ≡ No) × (b ≡ No)

@@ -32,7 +32,7 @@ use Rattle.row_bag.proofs.Folds.{fold_map-append}
 use Rattle.row_bag.proofs.Levels.{least-yes}
 use Rattle.row_bag.proofs.Order.{cells-total}
 use Rattle.row_bag.proofs.SetLaws.{count-once}
-use Rattle.row_bag.proofs.Tuples.{same_cells-decides}
+use Rattle.row_bag.proofs.TupleBags.{same_cells-decides}
 
 abbrev pub Tuple : Type 0
 Tuple = List Cell

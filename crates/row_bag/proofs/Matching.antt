@@ -25,7 +25,7 @@ use Rattle.row_bag.proofs.Answered.{fold_map-sum_by}
 use Rattle.row_bag.proofs.Folds.{fold_map-append, fold_map-map}
 use Rattle.row_bag.proofs.Order.{cells-total}
 use Rattle.row_bag.proofs.SortedOnce.{Ascends, NoneBelow}
-use Rattle.row_bag.proofs.Tuples.{same_cells-decides}
+use Rattle.row_bag.proofs.TupleBags.{same_cells-decides}
 
 abbrev pub Tuple : Type 0
 Tuple = List Cell

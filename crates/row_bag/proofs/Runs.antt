@@ -27,7 +27,7 @@ use Rattle.row_bag.proofs.Levels.{greatest-above, greatest-associative, greatest
 use Rattle.row_bag.proofs.Order.{cells-total, row-total}
 use Rattle.row_bag.proofs.SetLaws.{level_in-alike}
 use Rattle.row_bag.proofs.SortedOnce.{Ascends, NoneBelow, ascends-sorted}
-use Rattle.row_bag.proofs.Tuples.{same_cells-decides}
+use Rattle.row_bag.proofs.TupleBags.{same_cells-decides}
 
 abbrev pub Tuple : Type 0
 Tuple = List Cell

@@ -1,8 +1,15 @@
 pub mod Aggregates
+pub mod Arguments
+pub mod AsSets
 pub mod Bags
+pub mod Beside
 pub mod Errors
+pub mod ExistsJoins
+pub mod Filters
+pub mod FoldLaws
 pub mod Groups
 pub mod Joins
+pub mod Keys
 pub mod Laws
 pub mod Matched
 pub mod Order
@@ -10,4 +17,5 @@ pub mod Sets
 pub mod Sorted
 pub mod Subqueries
 pub mod Tables
+pub mod Tags
 pub mod Verdict

@@ -1,7 +1,7 @@
 use Rattle.std.proofs.lemmas.Result.{IfOk-weaker}
 use Rattle.row_bag.specs.Sets.{same_cells}
 use Rattle.row_bag.proofs.Counts.{alike-from_agree}
-use Rattle.row_bag.proofs.Tuples.{same_cells-decides}
+use Rattle.row_bag.proofs.TupleBags.{same_cells-decides}
 use Rattle.box_exec.proofs.combining.combined.Goals as goal
 
 pub returns-in-UnionAll : goal.returns-in-UnionAll

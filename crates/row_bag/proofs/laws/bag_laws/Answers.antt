@@ -4,7 +4,7 @@ use Rattle.row_bag.specs.Sets.{same_cells}
 use Rattle.row_bag.proofs.Answered.{error-alike, sorted-alike}
 use Rattle.row_bag.proofs.BagLaws.{agreeing, agreement-laws, bind-laws, kept-agreement}
 use Rattle.row_bag.proofs.Counts.{alike-from_agree}
-use Rattle.row_bag.proofs.Tuples.{same_cells-decides}
+use Rattle.row_bag.proofs.TupleBags.{same_cells-decides}
 use Rattle.row_bag.proofs.laws.bag_laws.Goals as goal
 
 pub returns-clause-bind : goal.returns-clause-bind

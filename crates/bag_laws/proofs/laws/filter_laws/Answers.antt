@@ -1,7 +1,0 @@
-use Rattle.row_bag.specs.Sets.{same_cells}
-use Rattle.row_bag.proofs.Tuples.{same_cells-decides}
-use Rattle.bag_laws.proofs.Filtering.{filter-laws}
-use Rattle.bag_laws.proofs.laws.filter_laws.Goals as goal
-
-pub returns : goal.returns
-returns c = record { filters = filter-laws same_cells same_cells-decides }

@@ -1,9 +1,0 @@
-use Rattle.std.proofs.Common.{List}
-use Rattle.sql_value.specs.declared.cell.Cell.{Cell}
-use Rattle.row_bag.specs.Sets.{same_cells}
-use Rattle.row_bag.proofs.Tuples.{same_cells-decides}
-use Rattle.bag_laws.proofs.OneRow.{exists-laws}
-use Rattle.bag_laws.proofs.laws.join_laws.Goals as goal
-
-pub returns : goal.returns
-returns c = record { exists = exists-laws same_cells same_cells-decides (List Cell) same_cells }

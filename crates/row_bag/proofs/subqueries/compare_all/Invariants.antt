@@ -1,0 +1,7 @@
+use Rattle.std.proofs.Common.{◌≡◌, drop}
+use Rattle.row_bag.specs.Subqueries as u
+use Rattle.sql_value.specs.Truths.{and}
+use Rattle.row_bag.proofs.subqueries.compare_all.Given as goal
+
+abbrev pub invariant-loop-row : goal.invariant-loop-row
+invariant-loop-row l = and l.truth (u.compare_all l.op l.x (drop l.row-index l.rows)) ≡ u.compare_all l.op l.x l.rows

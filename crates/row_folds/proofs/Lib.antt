@@ -1,8 +1,0 @@
-pub mod Chains
-pub mod FirstCells
-pub mod FoldLaws
-pub mod Means
-pub mod Onlys
-pub mod Products
-pub mod Scalars
-pub mod Values

@@ -1,6 +1,0 @@
-use Rattle.std.proofs.Common.{◌≡◌, ◌++◌, drop, map}
-use Rattle.row_folds.specs.Beside.{beside}
-use Rattle.row_folds.proofs.joins.beside_each.Given as goal
-
-abbrev pub invariant-loop-y : goal.invariant-loop-y
-invariant-loop-y l = l.made ++ map (beside l.left) (drop l.y-index l.ys) ≡ map (beside l.left) l.ys
