@@ -1,0 +1,317 @@
+-- What is known of the columns of boxes when heads are looked up so many times.
+use Rattle.std.proofs.Common.{inl, inr, ◌≡◌, ◌≤◌, ℕ, zero, suc, ◌+◌, ◌-◌, ◌==◌, ◌&&◌, ◌||◌, Bool, true, false, cond, List, [], ◌∷◌, length, map, Option, Some, None, refl, ap, ap₂, sym, ◌∙◌, subst, arith}
+use Rattle.std.specs.Prelude.{slice_get}
+use Rattle.std.specs.List.{flat_map, list_all, list_any}
+use Rattle.std.proofs.lemmas.Bool.{and_parts, cases_Bool, eqb-true}
+use Rattle.std.proofs.Math.Dec.{eqb-suc-zero}
+use Rattle.sql_value.specs.declared.order_key.SqlType.{SqlType}
+use Rattle.qgm_core.specs.Boxes.{Ordered, ids_in, ids_of, is_box, is_quant, owns, range_in}
+use Rattle.qgm_core.specs.Lists.{In, first, times}
+use Rattle.qgm_core.specs.declared.node.Node.{Node}
+use Rattle.qgm_core.specs.declared.owned.OwnedQuant.{OwnedQuant}
+use Rattle.qgm_core.specs.declared.kinds.BoxKind.{BoxKind}
+use Rattle.qgm_core.specs.declared.kinds.BoxKind.TheVariants.{Base, Select, Group, SetOp, OuterJoin}
+use Rattle.qgm_terms.specs.Named.{names_in}
+use Rattle.qgm_terms.specs.Terms as t
+use Rattle.qgm_terms.specs.Terms.{Term, Cond}
+use Rattle.qgm_terms.specs.declared.named.QuantNode.{QuantNode}
+use Rattle.qgm_check.specs.Columns.{over_box}
+use Rattle.qgm_check.specs.Types.{aggregate_type, column_type, cond_fits, integer_if, is_integer, is_typed, joined_column, known, term_type, type_found, type_in, typed, types_after, types_by, types_found}
+use Rattle.qgm_check.specs.declared.types.Typed.{Typed}
+use Rattle.qgm_shown.specs.Maps.{Map}
+use Rattle.qgm_shown.specs.Sources.{Sources}
+use Rattle.qgm_laws.proofs.Lists.{any-in, eq-itself}
+use Rattle.qgm_laws.proofs.Scope.{in-first}
+use Rattle.qgm_laws.proofs.Times.{in-times, times-in, times-once}
+use Rattle.qgm_laws.proofs.Turns.{first-own}
+use Rattle.built_queries.proofs.Parts.{CellIs, Cells, Fit, Folds, Heads, Is, all-append, names-pass, node_of}
+use Rattle.built_queries.proofs.TypesFollow.{fit-is, type-is}
+use Rattle.built_queries.proofs.Frames.{At}
+use Rattle.built_queries.proofs.Boxes as boxes
+
+-- ---- what is found
+
+pub first-passes : {X : Type 0} (p : X → Bool) (xs : List X) (x : X) → In x xs → p x ≡ true → (y : X) × ((first p xs ≡ Some y) × (In y xs × (p y ≡ true)))
+first-passes p [] x i h = absurd i
+first-passes {X} p (z ∷ xs) x i h = elim (cases_Bool (p z)) [
+  | inl e ↦ (z, (ap (λ (b : Bool). cond b (Some z) (first p xs)) e, (inl refl, e)))
+  | inr e ↦ (
+      let j : In x xs = elim i [ inl k ↦ absurd (let u : true ≡ false = sym h ∙ ap p (sym k) ∙ e in let w : ⊥ = cc in w) | inr k ↦ k ] in
+      let r = first-passes p xs x j h in
+      (r.0, (ap (λ (b : Bool). cond b (Some z) (first p xs)) e ∙ r.1.0, (inr r.1.1.0, r.1.1.1)))
+      )
+]
+
+pub some-in : {X : Type 0} (p : X → Bool) (xs : List X) (x : X) → first p xs ≡ Some x → In x xs × (p x ≡ true)
+some-in p [] x h = absurd (cc h)
+some-in {X} p (z ∷ xs) x h = elim (cases_Bool (p z)) [
+  | inl e ↦ (let s : z ≡ x = ap (or_one z) (sym (ap (λ (b : Bool). cond b (Some z) (first p xs)) e) ∙ h) in (inl s, ap p (sym s) ∙ e))
+  | inr e ↦ (let r = some-in p xs x (sym (ap (λ (b : Bool). cond b (Some z) (first p xs)) e) ∙ h) in (inr r.0, r.1))
+]
+  where
+    or_one : X → Option X → X
+    or_one d None = d
+    or_one d (Some y) = y
+
+pub number-of : (bs : List Node) (b : ℕ) (n : Node) → first (is_box b) bs ≡ Some n → n.id ≡ b
+number-of bs b n h = eqb-true n.id b (some-in (is_box b) bs n h).1
+
+pub owner-of : (bs : List Node) → ((q : ℕ) → times q (ids_in bs) ≤ 1) → (n : Node) (r : OwnedQuant) → In n bs → In r n.quants → range_in r.id (first (owns r.id) bs) ≡ Some r
+owner-of bs once n r i j =
+    let f = first-passes (owns r.id) bs n i (owned r n.quants j) in
+    let y = f.0 in
+    let any = any-in (is_quant r.id) y.quants f.1.1.1 in
+    let few : 1 ≤ times r.id (ids_of y) = subst (λ z. 1 ≤ times z (ids_of y)) (eqb-true any.0.id r.id any.1.1) (in-times (λ (r : OwnedQuant). r.id) any.0 y.quants any.1.0) in
+    let same : y ≡ n = times-once ids_of r.id y n bs (once r.id) f.1.1.0 i few (in-times (λ (r : OwnedQuant). r.id) r n.quants j) in
+    let less = times-in ids_of r.id n bs i in
+    let o = once r.id in
+    ap (range_in r.id) (f.1.0 ∙ ap Some same) ∙ first-own r n.quants (omega arith) j
+  where
+    owned : (r : OwnedQuant) (rs : List OwnedQuant) → In r rs → list_any (is_quant r.id) rs ≡ true
+    owned r [] j = absurd j
+    owned r (x ∷ rs) (inl e) = ap (λ (z : OwnedQuant). (z.id == r.id) || list_any (is_quant r.id) rs) e ∙ ap (λ b. b || list_any (is_quant r.id) rs) (eq-itself r.id)
+    owned r (x ∷ rs) (inr k) = ap (λ b. (x.id == r.id) || b) (owned r rs k) ∙ or-true (x.id == r.id)
+      where
+        or-true : (b : Bool) → (b || true) ≡ true
+        or-true true = refl
+        or-true false = refl
+
+pub first-typed : (bs : List Node) (table : List Typed) (ns : List Node) (b : ℕ) (n : Node) → first (is_box b) ns ≡ Some n → first (is_typed b) (map (typed bs table) ns) ≡ Some (typed bs table n)
+first-typed bs table [] b n h = absurd (cc h)
+first-typed bs table (m ∷ ns) b n h = elim (m.id == b) as (λ c. cond c (Some m) (first (is_box b) ns) ≡ Some n → ◌≡◌ {A = Option Typed} (cond c (Some (typed bs table m)) (first (is_typed b) (map (typed bs table) ns))) (Some (typed bs table n))) [
+  | true ↦ (λ e. ap (λ (o : Option Node). Some (typed bs table (or_node m o))) e)
+  | false ↦ (λ e. first-typed bs table ns b n e)
+] h
+  where
+    or_node : Node → Option Node → Node
+    or_node d None = d
+    or_node d (Some y) = y
+
+at-get : (types : List SqlType) (i : ℕ) (a : SqlType) → At types i a → joined_column (slice_get (known types) i) ≡ Some a
+at-get [] i a h = absurd h
+at-get (x ∷ types) zero a h = ap Some h
+at-get (x ∷ types) (suc i) a h = at-get types i a h
+
+type_of-found : (k i : ℕ) (o : Option Typed) → k ≡ suc i → type_in k o ≡ joined_column (slice_get (types_found o) i)
+type_of-found k i None e = refl
+type_of-found k i (Some x) e =
+    ap (λ z. cond (z == 0) None (joined_column (slice_get x.types (z - 1)))) e ∙ ap (λ b. cond b None (joined_column (slice_get x.types (suc i - 1)))) (eqb-suc-zero i)
+    ∙ (let f : suc i - 1 ≡ i = omega arith in ap (λ z. joined_column (slice_get x.types z)) f)
+
+-- ---- the boxes of a graph
+
+module _ (bs : List Node) (ordered : Ordered bs) (once : (q : ℕ) → times q (ids_in bs) ≤ 1) where
+  -- the quantifier q is found, over a box that passes
+  abbrev pub under_by : (ℕ → Bool) → Option OwnedQuant → Bool
+  under_by S None = false
+  under_by S (Some r) = S r.over
+
+  abbrev pub under : (ℕ → Bool) → ℕ → Bool
+  under S n = under_by S (range_in n (first (owns n) bs))
+
+  -- all that the head of a box names is found, over boxes that pass
+  abbrev pub step_by : (ℕ → Bool) → Option Node → Bool
+  step_by S None = false
+  step_by S (Some n) = list_all (under S) (flat_map names_in n.parts.head)
+
+  abbrev pub step : (ℕ → Bool) → ℕ → Bool
+  step S b = step_by S (first (is_box b) bs)
+
+  -- what the heads name is known after so many steps
+  abbrev pub settled : ℕ → ℕ → Bool
+  settled zero b = false
+  settled (suc e) b = step (settled e) b
+
+  all-weaker : {X : Type 0} (p r : X → Bool) (xs : List X) → ((x : X) → p x ≡ true → r x ≡ true) → list_all p xs ≡ true → list_all r xs ≡ true
+  all-weaker p r [] f h = refl
+  all-weaker p r (x ∷ xs) f h = let u = and_parts (p x) (list_all p xs) h in ap₂ ◌&&◌ (f x u.0) (all-weaker p r xs f u.1)
+
+  under-more : (S T : ℕ → Bool) → ((b : ℕ) → S b ≡ true → T b ≡ true) → (o : Option OwnedQuant) → under_by S o ≡ true → under_by T o ≡ true
+  under-more S T f None h = absurd (cc h)
+  under-more S T f (Some r) h = f r.over h
+
+  pub step-more : (S T : ℕ → Bool) → ((b : ℕ) → S b ≡ true → T b ≡ true) → (o : Option Node) → step_by S o ≡ true → step_by T o ≡ true
+  step-more S T f None h = absurd (cc h)
+  step-more S T f (Some n) h = all-weaker (under S) (under T) (flat_map names_in n.parts.head) (λ x k. under-more S T f (range_in x (first (owns x) bs)) k) h
+
+  pub settled-suc : (e b : ℕ) → settled e b ≡ true → settled (suc e) b ≡ true
+  settled-suc zero b h = absurd (cc h)
+  settled-suc (suc e) b h = step-more (settled e) (settled (suc e)) (settled-suc e) (first (is_box b) bs) h
+
+  pub settled-add : (k e b : ℕ) → settled e b ≡ true → settled (k + e) b ≡ true
+  settled-add zero e b h = let x : e ≡ zero + e = omega arith in subst (λ z. settled z b ≡ true) x h
+  settled-add (suc k) e b h = let x : suc (k + e) ≡ suc k + e = omega arith in subst (λ z. settled z b ≡ true) x (settled-suc (k + e) b (settled-add k e b h))
+
+  pub settled-more : (d e b : ℕ) → d ≤ e → settled d b ≡ true → settled e b ≡ true
+  settled-more d e b u h = let x : (e - d) + d ≡ e = omega arith in subst (λ z. settled z b ≡ true) x (settled-add (e - d) d b h)
+
+  -- ---- boxes and quantifiers
+
+  abbrev pub Over : ℕ → ℕ → List SqlType → Type 0
+  Over e b types = (settled e b ≡ true) × ((j : ℕ) → e ≤ j → types_found (first (is_typed b) (types_after j bs)) ≡ known types)
+
+  pub more : (d e b : ℕ) (types : List SqlType) → d ≤ e → Over d b types → Over e b types
+  more d e b types u h = (settled-more d e b u h.0, λ j v. h.1 j (omega arith))
+
+  abbrev pub Ranges : ℕ → ℕ → Type 0
+  Ranges n b = (r : OwnedQuant) × ((range_in n (first (owns n) bs) ≡ Some r) × (r.over ≡ b))
+
+  pub ranges-of : (n : Node) → In n bs → (r : OwnedQuant) → In r n.quants → Ranges r.id r.over
+  ranges-of n i r j = (r, (owner-of bs once n r i j, refl))
+
+  settled-under : (e n b : ℕ) → Ranges n b → settled e b ≡ true → under (settled e) n ≡ true
+  settled-under e n b r h = ap (under_by (settled e)) r.1.0 ∙ ap (settled e) r.1.1 ∙ h
+
+  -- a box that is settled is one of these
+  pub settled-found : (e b : ℕ) → settled e b ≡ true → (n : Node) × (first (is_box b) bs ≡ Some n)
+  settled-found zero b h = absurd (cc h)
+  settled-found (suc e) b h = found (first (is_box b) bs) refl h
+    where
+      found : (o : Option Node) → first (is_box b) bs ≡ o → step_by (settled e) o ≡ true → (n : Node) × (first (is_box b) bs ≡ Some n)
+      found None g k = absurd (cc k)
+      found (Some n) g k = (n, g)
+
+  module _ (kinds : List ℕ → List SqlType) (sources : Sources) (counted : (name : List ℕ) → length (kinds name) ≡ sources.columns name) where
+    abbrev pub Column : ℕ → ℕ → ℕ → SqlType → Type 0
+    Column = boxes.Column kinds sources counted Over more Ranges
+
+    pub column-at : (e n k : ℕ) (a : SqlType) → Column e n k a → (j : ℕ) → e ≤ j → column_type bs (types_after j bs) n k ≡ Some a
+    column-at e n k a h j u =
+        let b = h.0 in
+        let r = h.1.0 in
+        let types = h.1.1.0 in
+        let i = h.1.1.1.1.0 in
+        let found = settled-found e b h.1.1.1.0.0 in
+        let table = types_after j bs in
+        ap (λ o. type_found table k (over_box bs o)) r.1.0
+        ∙ ap (λ z. type_found table k (first (is_box z) bs)) r.1.1
+        ∙ ap (type_found table k) found.1
+        ∙ ap (λ z. type_in k (first (is_typed z) table)) (number-of bs b found.0 found.1)
+        ∙ type_of-found k i (first (is_typed b) table) h.1.1.1.1.1.0
+        ∙ ap (λ z. joined_column (slice_get z i)) (h.1.1.1.0.1 j u)
+        ∙ at-get types i a h.1.1.1.1.1.1
+
+    abbrev pub Kn : ℕ → List OwnedQuant → Map → ℕ → ℕ → SqlType → Type 0
+    Kn = boxes.Kn kinds sources counted Over more Ranges
+
+    abbrev pub Nn : ℕ → List OwnedQuant → QuantNode → Type 0
+    Nn = boxes.Nn kinds sources counted Over more Ranges
+
+    abbrev pub Jn : ℕ → ℕ → SqlType → Type 0
+    Jn = boxes.Jn kinds sources counted Over more Ranges
+
+    abbrev pub LocalIs : ℕ → Map → Node → List SqlType → Type 0
+    LocalIs = boxes.LocalIs kinds sources counted Over more Ranges
+
+    abbrev pub LocalBy : ℕ → Map → Node → List SqlType → BoxKind → Type 0
+    LocalBy = boxes.LocalBy kinds sources counted Over more Ranges
+
+    module _ (e : ℕ) (os : List OwnedQuant) (m : Map) where
+      abbrev K : ℕ → ℕ → SqlType → Type 0
+      K = Kn e os m
+
+      abbrev N : QuantNode → Type 0
+      N = Nn e os
+
+      abbrev J : ℕ → SqlType → Type 0
+      J = Jn e
+
+      -- ---- names
+
+      column-settled : (n k : ℕ) (a : SqlType) → K n k a → under (settled e) n ≡ true
+      column-settled n k a h = settled-under e n h.0.0 h.0.1.0 h.0.1.1.1.0.0
+
+      node-settled : (x : QuantNode) → N x → under (settled e) (node_of x) ≡ true
+      node-settled x h = settled-under e (node_of x) h.1.0 h.1.1.0 h.1.1.1.1.0
+
+      pub names-settled : (x : Term) (a : SqlType) → Is K N J x a → list_all (under (settled e)) (names_in x) ≡ true
+      names-settled x a h = names-pass K N J (under (settled e)) column-settled node-settled x a h
+
+      heads-settled : (xs : List Term) (types : List SqlType) → Heads K N J xs types → list_all (under (settled e)) (flat_map names_in xs) ≡ true
+      heads-settled [] types h = refl
+      heads-settled (x ∷ xs) [] h = absurd h
+      heads-settled (x ∷ xs) (a ∷ types) h = all-append K N J (under (settled e)) (names_in x) (flat_map names_in xs) (names-settled x a h.0) (heads-settled xs types h.1)
+
+      cell-settled : (x : Term) (a : SqlType) → CellIs K N J x a → list_all (under (settled e)) (names_in x) ≡ true
+      cell-settled (t.int n) a h = refl
+      cell-settled (t.text x) a h = refl
+      cell-settled t.null_int a h = refl
+      cell-settled t.null_text a h = refl
+      cell-settled (t.col n k) a h = names-settled (t.col n k) a h
+      cell-settled (t.scalar n) a h = names-settled (t.scalar n) a h
+      cell-settled (t.both op x y) a h = names-settled (t.both op x y) a h
+      cell-settled (t.minus_of x) a h = names-settled (t.minus_of x) a h
+      cell-settled (t.choose s x) a h = names-settled (t.choose s x) a h
+      cell-settled t.count_all a h = refl
+      cell-settled (t.fold f d x) a h = names-settled x h.0 h.1.0
+
+      cells-settled : (xs : List Term) (types : List SqlType) → Cells K N J xs types → list_all (under (settled e)) (flat_map names_in xs) ≡ true
+      cells-settled [] types h = refl
+      cells-settled (x ∷ xs) [] h = absurd h
+      cells-settled (x ∷ xs) (a ∷ types) h = all-append K N J (under (settled e)) (names_in x) (flat_map names_in xs) (cell-settled x a h.0) (cells-settled xs types h.1)
+
+      -- ---- types, where columns have them
+
+      module _ (at : ℕ → ℕ → Option SqlType) (at-column : (n k : ℕ) (a : SqlType) → Kn e os m n k a → at n k ≡ Some a) (at-inner : (n : ℕ) (a : SqlType) → Jn e n a → at n 1 ≡ Some a) where
+        pub term-typed : (x : Term) (a : SqlType) → Is K N J x a → term_type at x ≡ Some a
+        term-typed x a h = type-is K N J at at-column at-inner x a h
+
+        pub cond-typed : (c : Cond) → Fit K N J c → cond_fits at c ≡ true
+        cond-typed c h = fit-is K N J at at-column at-inner c h
+
+        heads-typed : (xs : List Term) (types : List SqlType) → Heads K N J xs types → map (term_type at) xs ≡ known types
+        heads-typed [] types h = ap known (sym h)
+        heads-typed (x ∷ xs) [] h = absurd h
+        heads-typed (x ∷ xs) (a ∷ types) h = ap₂ (λ z zs. z ∷ zs) (term-typed x a h.0) (heads-typed xs types h.1)
+
+        folded-typed : (f : t.Aggregate) (v a : SqlType) → Folds K N J f v a → aggregate_type f (Some v) ≡ Some a
+        folded-typed t.single v a h = ap Some (sym h)
+        folded-typed t.count v a h = ap Some (sym h)
+        folded-typed t.sum v a h = ap (λ z. integer_if (is_integer (Some z))) h.0 ∙ ap Some (sym h.1)
+        folded-typed t.avg v a h = ap (λ z. integer_if (is_integer (Some z))) h.0 ∙ ap Some (sym h.1)
+        folded-typed t.least v a h = ap Some (sym h)
+        folded-typed t.greatest v a h = ap Some (sym h)
+
+        cell-typed : (x : Term) (a : SqlType) → CellIs K N J x a → term_type at x ≡ Some a
+        cell-typed (t.int n) a h = ap Some (sym h)
+        cell-typed (t.text x) a h = ap Some (sym h)
+        cell-typed t.null_int a h = ap Some (sym h)
+        cell-typed t.null_text a h = ap Some (sym h)
+        cell-typed (t.col n k) a h = term-typed (t.col n k) a h
+        cell-typed (t.scalar n) a h = term-typed (t.scalar n) a h
+        cell-typed (t.both op x y) a h = term-typed (t.both op x y) a h
+        cell-typed (t.minus_of x) a h = term-typed (t.minus_of x) a h
+        cell-typed (t.choose s x) a h = term-typed (t.choose s x) a h
+        cell-typed t.count_all a h = ap Some (sym h)
+        cell-typed (t.fold f d x) a h = ap (aggregate_type f) (term-typed x h.0 h.1.0) ∙ folded-typed f h.0 a h.1.1
+
+        cells-typed : (xs : List Term) (types : List SqlType) → Cells K N J xs types → map (term_type at) xs ≡ known types
+        cells-typed [] types h = ap known (sym h)
+        cells-typed (x ∷ xs) [] h = absurd h
+        cells-typed (x ∷ xs) (a ∷ types) h = ap₂ (λ z zs. z ∷ zs) (cell-typed x a h.0) (cells-typed xs types h.1)
+
+    -- a box whose head is known after e steps is known after one more
+    local-settled : (e : ℕ) (m : Map) (n : Node) (types : List SqlType) (kind : BoxKind) → LocalBy e m n types kind → list_all (under (settled e)) (flat_map names_in n.parts.head) ≡ true
+    local-settled e m n types (Base table) h = ap (λ z. list_all (under (settled e)) (flat_map names_in z)) h.1.1
+    local-settled e m n types Select h = heads-settled e n.quants m n.parts.head types h.0
+    local-settled e m n types (Group keys) h = cells-settled e n.quants m n.parts.head types h.0
+    local-settled e m n types (SetOp operator columns) h = ap (λ z. list_all (under (settled e)) (flat_map names_in z)) h.1.1
+    local-settled e m n types OuterJoin h = heads-settled e n.quants m n.parts.head types h.0
+
+    pub local-typed : (e : ℕ) (m : Map) (n : Node) (types : List SqlType) (kind : BoxKind) → LocalBy e m n types kind → (at : ℕ → ℕ → Option SqlType) → ((q k : ℕ) (a : SqlType) → Column e q k a → at q k ≡ Some a) → types_by at kind n.parts.head ≡ known types
+    local-typed e m n types (Base table) h at f = ap known (sym h.0)
+    local-typed e m n types Select h at f = heads-typed e n.quants m at (λ q k a z. f q k a z.0) (λ q a z. f q 1 a z) n.parts.head types h.0
+    local-typed e m n types (Group keys) h at f = cells-typed e n.quants m at (λ q k a z. f q k a z.0) (λ q a z. f q 1 a z) n.parts.head types h.0
+    local-typed e m n types (SetOp operator columns) h at f = ap known h.0
+    local-typed e m n types OuterJoin h at f = heads-typed e n.quants m at (λ q k a z. f q k a z.0) (λ q a z. f q 1 a z) n.parts.head types h.0
+
+    pub close : (e : ℕ) (m : Map) (n : Node) (types : List SqlType) → In n bs → LocalIs e m n types → Over (suc e) n.id types
+    close e m n types i h =
+        let f = in-first n bs ordered i in (
+          ap (step_by (settled e)) f ∙ local-settled e m n types n.parts.kind h,
+          λ j u. after j u,
+        )
+      where
+        after : (j : ℕ) → suc e ≤ j → types_found (first (is_typed n.id) (types_after j bs)) ≡ known types
+        after zero u = absurd (omega arith)
+        after (suc j) u = ap types_found (first-typed bs (types_after j bs) bs n.id n (in-first n bs ordered i)) ∙ local-typed e m n types n.parts.kind h (column_type bs (types_after j bs)) (λ q k a z. column-at e q k a z j (omega arith))

@@ -1,0 +1,12 @@
+pub mod Alike
+pub mod Buildable
+pub mod Formed
+pub mod FormedSample
+pub mod Joined
+pub mod OneToOne
+pub mod Reused
+pub mod Sample
+pub mod Sources
+pub mod Told
+pub mod Typed
+pub mod Typing
