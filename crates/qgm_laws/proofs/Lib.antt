@@ -49,5 +49,6 @@ pub mod TypedKept
 pub mod TypedMoved
 pub mod TypedPushed
 pub mod TypedMerged
+pub mod TypedDistinct
 pub mod WellFormedKept
 pub mod Examples

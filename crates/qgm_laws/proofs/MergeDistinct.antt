@@ -68,10 +68,10 @@ bare-same (Group keys) y h = h
 bare-same (SetOp operator types) y h = h
 bare-same OuterJoin y h = h
 
-abbrev loosened : ℕ → Node → Node
+abbrev pub loosened : ℕ → Node → Node
 loosened c = at c (with_distinct Preserve)
 
-by-all : {X : Type 0} (c : ℕ) (f : Node → X) → ((y : Node) → f (with_distinct Preserve y) ≡ f y) → (y : Node) → f (loosened c y) ≡ f y
+pub by-all : {X : Type 0} (c : ℕ) (f : Node → X) → ((y : Node) → f (with_distinct Preserve y) ≡ f y) → (y : Node) → f (loosened c y) ≡ f y
 by-all c f h y = elim (y.id == c) as (λ t. f (cond t (with_distinct Preserve y) y) ≡ f y) [ true ↦ h y | false ↦ refl ]
 
 map-absent : (c : ℕ) (ns : List Node) → has_box ns c ≡ false → map (loosened c) ns ≡ ns
@@ -82,7 +82,7 @@ map-absent c (n ∷ ns) h = elim (cases_Bool (n.id == c)) [
 ]
 
 -- without c it doesn't matter what c was
-without-map : (c : ℕ) (ns : List Node) → Ordered ns → without (is_box c) (map (loosened c) ns) ≡ without (is_box c) ns
+pub without-map : (c : ℕ) (ns : List Node) → Ordered ns → without (is_box c) (map (loosened c) ns) ≡ without (is_box c) ns
 without-map c [] o = refl
 without-map c (n ∷ ns) o =
     let same : (loosened c n).id ≡ n.id = by-all c (λ (y : Node). y.id) (λ y. refl) n in

@@ -3,7 +3,7 @@ ghost use Rattle.qgm_laws.specs.Asked.{Pushed, Singled};
 ghost use Rattle.qgm_laws.specs.EditLaws.{EditsPlaced, NewPlaced};
 ghost use Rattle.qgm_laws.specs.Examples.{Dropped, Same};
 ghost use Rattle.qgm_laws.specs.MergeDistinct.{MergeDistinctKeeps};
-ghost use Rattle.qgm_laws.specs.MergeTyped.{MergeTyped};
+ghost use Rattle.qgm_laws.specs.MergeTyped.{MergeDistinctTyped, MergeTyped};
 ghost use Rattle.qgm_laws.specs.Push.{PushKeeps};
 ghost use Rattle.qgm_laws.specs.Shaped.{CompactShaped, CompactTyped, CompactWellFormed, DropShaped, DropTyped, DropWellFormed, PlacedIsChecked, PushTyped, SoundIsChecked};
 ghost use Rattle.qgm_laws.specs.SoundEdits.{AddSound, EditsAreMaps, KeepBags, KeepSound, NearlyCompact, ScopeLaws};
@@ -60,4 +60,5 @@ pub fn checked_laws()
     ensures drop_formed { DropWellFormed }
     ensures push_typed { PushTyped }
     ensures merge_typed { MergeTyped }
+    ensures merge_distinct_typed { MergeDistinctTyped }
 {}
