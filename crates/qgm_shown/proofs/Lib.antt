@@ -17,3 +17,10 @@ pub mod Loose
 pub mod Views
 pub mod Counted
 pub mod Stand
+pub mod FoldsSame
+pub mod Numbers
+pub mod Fills
+pub mod Order
+pub mod Made
+pub mod Start
+pub mod Times

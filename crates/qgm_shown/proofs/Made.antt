@@ -1,12 +1,13 @@
 -- What each step of the making gives.
-use Rattle.std.proofs.Common.{◌≡◌, ◌≤◌, ◌<◌, ◌||◌, cond, ℕ, suc, ◌+◌, ◌==◌, Bool, true, false, List, [], ◌∷◌, ◌++◌, map, length, append_assoc, append-nil, refl, ap, ap₂, sym, ◌∙◌, subst, arith, Option}
+use Rattle.std.proofs.Common.{◌≡◌, ◌≤◌, ◌<◌, ◌||◌, cond, ℕ, suc, ◌+◌, ◌==◌, Bool, true, false, List, [], ◌∷◌, ◌++◌, map, length, get_or, pos, append_assoc, append-nil, refl, ap, ap₂, sym, ◌∙◌, subst, arith, Option}
 use Rattle.std.proofs.lemmas.Bool.{ne_eqb, eq-eqb, eqb-true}
 use Rattle.sql_ast.specs.declared.word.SetFunction.{SetFunction}
 use Rattle.sql_ast.specs.declared.word.Quantifier.{Quantifier}
 use Rattle.sql_ast.specs.declared.word.Quantifier.TheVariants as quantifier
 use Rattle.sql_meaning.specs.ResolvedTrees.{Value, Addends, Multipliers, Values, Arms, Choices, Test, Tests, From, Froms, Query}
 use Rattle.sql_meaning.specs.ResolvedTrees as q
-use Rattle.qgm_terms.specs.Terms.{Term, Cond}
+use Rattle.qgm_terms.specs.Terms.{Term, Cond, col, count_all, int}
+use Rattle.qgm_terms.specs.Terms as t
 use Rattle.qgm_core.specs.declared.kinds.QuantKind.{QuantKind}
 use Rattle.qgm_core.specs.declared.kinds.QuantKind.TheVariants.{F, E, S}
 use Rattle.qgm_core.specs.declared.kinds.BoxKind.{BoxKind}
@@ -15,6 +16,9 @@ use Rattle.qgm_core.specs.declared.owned.OwnedQuant.{OwnedQuant}
 use Rattle.qgm_core.specs.declared.kinds.BoxKind.TheVariants.{Select, Group, SetOp, OuterJoin}
 use Rattle.qgm_core.specs.Kinds.{is_F}
 use Rattle.qgm_shown.specs.Maps.{Frame, Map, ref_term}
+use Rattle.qgm_shown.specs.Maps as maps
+use Rattle.qgm_shown.specs.Folds.{folds_in}
+use Rattle.qgm_shown.proofs.FoldsSame.{folds_append, test_same, values_same}
 use Rattle.qgm_shown.specs.Leaves.{Leaf, Slots, after, count, every_or_some, fold, leaves, list_leaves, sub, test_leaves}
 use Rattle.qgm_shown.specs.Terms.{split}
 use Rattle.qgm_shown.specs.Leaves as leaf
@@ -22,19 +26,19 @@ use Rattle.qgm_shown.specs.Terms as l
 use Rattle.qgm_shown.specs.Shown.{over_in, uses, HasKey, PlainArguments, Thing, columns_of, fold_terms, key_frame, key_places, no_slots, of_groups, of_operand, of_query, of_rows, refs}
 use Rattle.qgm_shown.specs.Shown as w
 use Rattle.qgm_shown.specs.Sources.{Sources, from_width, froms_width, width}
-use Rattle.qgm_build.specs.Lay.{Boxes, Laid, Drawn, Step, put, numbered, drawn, none, in_turn, over, pair_of}
+use Rattle.qgm_shown.specs.Lay.{Boxes, Laid, Drawn, Step, put, ranging, drawn, none, in_turn, over, pair_of}
 use Rattle.qgm_core.specs.declared.kinds.SetOperator as forms
-use Rattle.qgm_build.specs.Lay as y
-use Rattle.qgm_build.specs.Law as k
+use Rattle.qgm_shown.specs.Lay as y
+use Rattle.qgm_shown.specs.Lays as k
 use Rattle.qgm_shown.specs.Buildable as b
-use Rattle.qgm_build.specs.Law.{Under, UnderIn, owned}
+use Rattle.qgm_shown.specs.Lays.{Under, UnderIn, owned}
 use Rattle.std.specs.List.{list_any}
 use Rattle.qgm_core.specs.Boxes.{is_quant}
-use Rattle.qgm_build.proofs.Numbers.{Rising, fresh-under, rising-append, rising-distinct, rising-fresh, rising-from, rising-in, any-cases, below-or, one-used, or-cases, over-append, stays-false, under-more, under_in-append, under_in-left, under_in-more, under_in-refs, under_in-right, under-keys}
+use Rattle.qgm_shown.proofs.Numbers.{Rising, fresh-under, rising-append, rising-distinct, rising-fresh, rising-from, rising-in, any-cases, below-or, one-used, or-cases, over-append, stays-false, under-more, under_in-append, under_in-left, under_in-more, under_in-refs, under_in-right, under-keys}
 use Rattle.qgm_meaning.specs.Scope.{loose}
 use Rattle.qgm_shown.proofs.Loose.{shown-clear}
-use Rattle.qgm_build.proofs.Order.{low-more, low-not, shows-has, thing-over, thing-settled}
-use Rattle.qgm_build.proofs.Fills.{Fills, FillsAll, fills-crossed, fills-joined, fills-next, fills-none}
+use Rattle.qgm_shown.proofs.Order.{low-more, low-not, shows-has, thing-over, thing-settled}
+use Rattle.qgm_shown.proofs.Fills.{Fills, FillsAll, fills-crossed, fills-joined, fills-next, fills-none}
 
 module _ (sources : Sources) (has : List ℕ → Bool) where
   abbrev pub Shows : List Node → ℕ → Thing → Map → Type 0
@@ -49,13 +53,17 @@ module _ (sources : Sources) (has : List ℕ → Bool) where
   abbrev pub Made : Thing → Map → Boxes → Laid → Type 0
   Made = k.Made sources has
 
+  -- all is told beforehand
+  abbrev pub same : Boxes → Sources
+  same s = sources
+
   -- ---- what stays
 
   pub keeps-refl : (a : Boxes) → Keeps a a
   keeps-refl a = record { boxes = omega arith; quants = omega arith; order = λ o. o; kept = λ j l u. refl; owners = λ q l h. h; same = λ j thing m l h. h }
 
-  pub keeps-numbered : (a : Boxes) → Keeps a (numbered a)
-  keeps-numbered a = record { boxes = omega arith; quants = omega arith; order = λ o. record { low = o.low; ordered = o.ordered; settled = o.settled; bound = λ q h. (let x = o.bound q h in omega arith); once = o.once; unused = o.unused; named = o.named; each = o.each }; kept = λ j l u. refl; owners = λ q l h. h; same = λ j thing m l h. h }
+  pub keeps-ranging : (b : ℕ) (a : Boxes) → Keeps a (ranging b a)
+  keeps-ranging b a = record { boxes = omega arith; quants = omega arith; order = λ o. record { low = o.low; ordered = o.ordered; settled = o.settled; bound = λ q h. (let x = o.bound q h in omega arith); once = o.once; unused = o.unused; named = o.named; each = o.each }; kept = λ j l u. refl; owners = λ q l h. h; same = λ j thing m l h. h }
 
   pub keeps-trans : (a b c : Boxes) → Keeps a b → Keeps b c → Keeps a c
   keeps-trans a b c h k = record {
@@ -134,11 +142,8 @@ module _ (sources : Sources) (has : List ℕ → Bool) where
     later = λ j l. ap (λ b. cond b 1 0 + 0) (ne_eqb r.top j (λ (e : r.top ≡ j). absurd (let x = h.known in omega arith)));
   }
 
-  counts-numbered : (a b : Boxes) (os : List OwnedQuant) → Counts a b os → Counts a (numbered b) os
-  counts-numbered a b os h = record { old = h.old; new = h.new; later = h.later }
-
-  counts-from : (a b : Boxes) (os : List OwnedQuant) → Counts (numbered a) b os → Counts a b os
-  counts-from a b os h = record { old = h.old; new = λ o. h.new ((keeps-numbered a).order o); later = h.later }
+  counts-ranging : (i : ℕ) (a b : Boxes) (os : List OwnedQuant) → Counts a b os → Counts a (ranging i b) os
+  counts-ranging i a b os h = record { old = h.old; new = h.new; later = h.later }
 
   -- a box that is put on top
   pub made-put : (kind : BoxKind) (distinct : Bool) (conds : List Cond) (head : List Term) (quants : List OwnedQuant) (thing : Thing) (m : Map) (a s : Boxes) → Keeps a s → Rising a.quant s.quant quants → Free a s quants → Counts a s quants
@@ -202,13 +207,13 @@ module _ (sources : Sources) (has : List ℕ → Bool) where
       → ((below : ℕ → Thing → Map → Type 0) (os : List OwnedQuant) → w.ShowsOne sources below x m os → w.ShowsFrom sources below x m os)
       → MadeFrom x m s (drawn F r)
   from-one x n m s r h fills frame one = record {
-    keeps = keeps-trans s r.boxes (numbered r.boxes) h.keeps (keeps-numbered r.boxes);
+    keeps = keeps-trans s r.boxes (drawn F r).boxes h.keeps (keeps-ranging r.top r.boxes);
     rising = (h.keeps.quants, omega arith);
     free = free-one s r.boxes F r.top h.keeps;
-    counts = counts-numbered s r.boxes (drawn F r).quants (counts-one (of_operand x) m s r r.boxes.quant F h);
+    counts = counts-ranging r.top s r.boxes (drawn F r).quants (counts-one (of_operand x) m s r r.boxes.quant F h);
     fills = fills;
     under = subst (UnderIn (suc r.boxes.quant)) (sym frame) (under_in-refs (suc r.boxes.quant) r.boxes.quant 1 n (omega arith));
-    shows = λ c k more. one (Shows c.made) ((drawn F r).quants ++ more) (refl, still (of_operand x) m s r c h (keeps-trans r.boxes (numbered r.boxes) c (keeps-numbered r.boxes) k));
+    shows = λ c k more. one (Shows c.made) ((drawn F r).quants ++ more) (refl, still (of_operand x) m s r c h (keeps-trans r.boxes (drawn F r).boxes c (keeps-ranging r.top r.boxes) k));
   }
 
   from-both : (x y z : From) (m : Map) (s : Boxes) (a b : Drawn) → MadeFrom x m s a → MadeFrom y m a.boxes b → Fills sources z (a.quants ++ b.quants)
@@ -318,11 +323,11 @@ module _ (sources : Sources) (has : List ℕ → Bool) where
         let made = h s r in
         let a = lay s in
         record {
-          keeps = keeps-trans s a.boxes (numbered a.boxes) made.keeps (keeps-numbered a.boxes);
+          keeps = keeps-trans s a.boxes (drawn kind a).boxes made.keeps (keeps-ranging a.top a.boxes);
           rising = (made.keeps.quants, omega arith);
           free = free-one s a.boxes kind a.top made.keeps;
-          counts = counts-numbered s a.boxes (drawn kind a).quants (counts-one (of_query x) (fr ∷ m) s a a.boxes.quant kind made);
-          shows = λ c k. (refl, e, fresh-under a.boxes.quant (fr ∷ m) (under-more s.quant a.boxes.quant (fr ∷ m) made.keeps.quants r.under), still (of_query x) (fr ∷ m) s a c made (keeps-trans a.boxes (numbered a.boxes) c (keeps-numbered a.boxes) k), refl);
+          counts = counts-ranging a.top s a.boxes (drawn kind a).quants (counts-one (of_query x) (fr ∷ m) s a a.boxes.quant kind made);
+          shows = λ c k. (refl, e, fresh-under a.boxes.quant (fr ∷ m) (under-more s.quant a.boxes.quant (fr ∷ m) made.keeps.quants r.under), still (of_query x) (fr ∷ m) s a c made (keeps-trans a.boxes (drawn kind a).boxes c (keeps-ranging a.top a.boxes) k), refl);
         };
   }
 
@@ -383,7 +388,7 @@ module _ (sources : Sources) (has : List ℕ → Bool) where
 
   block-made : (distinct : Bool) (list : Values) (from : Froms) (by : Test) (m : Map) (s : Boxes) (f c : Drawn) → Under s.quant m → MadeFroms from m s f
       → MadeSubs m (w.all_leaves sources from by (λ fr. list_leaves fr list) f.quants) f.boxes c
-      → Made (of_query (q.block distinct list from by)) m s (y.select_box sources distinct from by (λ fr. list_leaves fr list) (λ fr s. l.terms sources fr m s list) m f.quants c)
+      → Made (of_query (q.block distinct list from by)) m s (y.select_box sources same distinct from by (λ fr. list_leaves fr list) (λ sources fr s. l.terms sources fr m s list) m f.quants c)
   block-made distinct list from by m s f c u h k =
       let heads : Frame → List Leaf = λ fr. list_leaves fr list in
       let items : Frame → Slots → List Term = λ fr s. l.terms sources fr m s list in
@@ -395,7 +400,7 @@ module _ (sources : Sources) (has : List ℕ → Bool) where
   Flat below x m b = w.ShowsFlat sources below x m b
 
   flat-made : (x : From) (m : Map) (s : Boxes) (f c : Drawn) → ((below : ℕ → Thing → Map → Type 0) (b : Node) → Flat below x m b → w.ShowsOperand sources below x m b) → Under s.quant m → MadeFrom x m s f
-      → MadeSubs m (w.on_leaves sources x f.quants) f.boxes c → Made (of_operand x) m s (y.flat_box sources x m f.quants c)
+      → MadeSubs m (w.on_leaves sources x f.quants) f.boxes c → Made (of_operand x) m s (y.flat_box sources same x m f.quants c)
   flat-made x m s f c to u h k =
       let heads : Frame → List Leaf = λ fr. [] in
       let items : Frame → Slots → List Term = λ fr s. map ref_term fr in
@@ -407,17 +412,17 @@ module _ (sources : Sources) (has : List ℕ → Bool) where
       (subst (λ z. MadeSubs m z f.boxes c) (sym (append-nil (ls ++ []) ∙ append-nil ls)) k)))
 
   outer-made : (x z : From) (n : ℕ) (on : Test) (m : Map) (s : Boxes) (a : Laid) (lay : Boxes → Laid) → Ready s m → Made (of_operand x) m s a → Made (of_operand z) m a.boxes (lay a.boxes)
-      → from_width sources z ≡ n → ((fr : Frame) → test_leaves fr on ≡ []) → Made (of_operand (q.left_joined x z n on)) m s (y.outer_box sources x n on m lay a)
+      → from_width sources z ≡ n → ((fr : Frame) → test_leaves fr on ≡ []) → Made (of_operand (q.left_joined x z n on)) m s (y.outer_box sources same x n on m lay a)
   outer-made x z n on m s a lay r h k e none =
       let b = lay a.boxes in
-      let c = numbered (numbered b.boxes) in
+      let c = ranging b.top (ranging a.top b.boxes) in
       let fr = refs b.boxes.quant 1 (from_width sources x) ++ refs (suc b.boxes.quant) 1 n in
       let os = pair_of b.boxes.quant a.top b.top in
-      let grow = keeps-trans b.boxes (numbered b.boxes) c (keeps-numbered b.boxes) (keeps-numbered (numbered b.boxes)) in
+      let grow = keeps-trans b.boxes (ranging a.top b.boxes) c (keeps-ranging a.top b.boxes) (keeps-ranging b.top (ranging a.top b.boxes)) in
       let later = keeps-trans s a.boxes b.boxes h.keeps k.keeps in
       made-put OuterJoin false (split (l.cond sources fr m no_slots on)) (map ref_term fr) os (of_operand (q.left_joined x z n on)) m s c (keeps-trans s b.boxes c later grow)
       (rising-from s.quant b.boxes.quant c.quant os later.quants (omega arith, (omega arith, omega arith))) (free-pair s b.boxes a.top b.top later)
-      (counts-numbered s (numbered b.boxes) os (counts-numbered s b.boxes os (counts-append s a.boxes b.boxes (record { id = b.boxes.quant; kind = F; over = a.top } ∷ []) (record { id = suc b.boxes.quant; kind = F; over = b.top } ∷ []) h.keeps k.keeps
+      (counts-ranging b.top s (ranging a.top b.boxes) os (counts-ranging a.top s b.boxes os (counts-append s a.boxes b.boxes (record { id = b.boxes.quant; kind = F; over = a.top } ∷ []) (record { id = suc b.boxes.quant; kind = F; over = b.top } ∷ []) h.keeps k.keeps
       (counts-one (of_operand x) m s a b.boxes.quant F h) (counts-one (of_operand z) m a.boxes b (suc b.boxes.quant) F k))))
       (record {
         kind = refl;
@@ -428,17 +433,17 @@ module _ (sources : Sources) (has : List ℕ → Bool) where
 
   two-made : (x z t : Query) (form : forms.SetOperator) (n : ℕ) (m : Map) (s : Boxes) (a : Laid) (lay : Boxes → Laid) → Ready s m → Made (of_query x) m s a → Made (of_query z) m a.boxes (lay a.boxes)
       → width x ≡ n → width z ≡ n
-      → ((below : ℕ → Thing → Map → Type 0) (b : Node) → w.ShowsPair sources below form n x z m b → w.ShowsQuery sources below t m b) → Made (of_query t) m s (y.two_box sources form n lay a)
+      → ((below : ℕ → Thing → Map → Type 0) (b : Node) → w.ShowsPair sources below form n x z m b → w.ShowsQuery sources below t m b) → Made (of_query t) m s (y.two_box sources same form n lay a)
   two-made x z t form n m s a lay r h k left right to =
       let b = lay a.boxes in
-      let c = numbered (numbered b.boxes) in
+      let c = ranging b.top (ranging a.top b.boxes) in
       let os = pair_of b.boxes.quant a.top b.top in
       let kind = SetOp form (map sources.typed (w.columns_of b.boxes.quant 1 n)) in
-      let grow = keeps-trans b.boxes (numbered b.boxes) c (keeps-numbered b.boxes) (keeps-numbered (numbered b.boxes)) in
+      let grow = keeps-trans b.boxes (ranging a.top b.boxes) c (keeps-ranging a.top b.boxes) (keeps-ranging b.top (ranging a.top b.boxes)) in
       let later = keeps-trans s a.boxes b.boxes h.keeps k.keeps in
       made-put kind false [] [] os (of_query t) m s c (keeps-trans s b.boxes c later grow)
       (rising-from s.quant b.boxes.quant c.quant os later.quants (omega arith, (omega arith, omega arith))) (free-pair s b.boxes a.top b.top later)
-      (counts-numbered s (numbered b.boxes) os (counts-numbered s b.boxes os (counts-append s a.boxes b.boxes (record { id = b.boxes.quant; kind = F; over = a.top } ∷ []) (record { id = suc b.boxes.quant; kind = F; over = b.top } ∷ []) h.keeps k.keeps
+      (counts-ranging b.top s (ranging a.top b.boxes) os (counts-ranging a.top s b.boxes os (counts-append s a.boxes b.boxes (record { id = b.boxes.quant; kind = F; over = a.top } ∷ []) (record { id = suc b.boxes.quant; kind = F; over = b.top } ∷ []) h.keeps k.keeps
       (counts-one (of_query x) m s a b.boxes.quant F h) (counts-one (of_query z) m a.boxes b (suc b.boxes.quant) F k))))
       (to (Shows c.made) (y.plain_box c.box kind false [] [] os)
       (record {
@@ -452,60 +457,84 @@ module _ (sources : Sources) (has : List ℕ → Bool) where
 
   -- ---- groups
 
-  rows-made : (from : Froms) (by : Test) (places : List ℕ) (ls : List Leaf) (m : Map) (s : Boxes) (f c : Drawn) → Under s.quant m → ((fr : Frame) → PlainArguments fr ls) → MadeFroms from m s f
+  -- the arguments of aggregates are the same, wherever the columns of the groups are seen
+  arguments-same : (fr : Frame) (ls : List Leaf) → w.argument_terms sources fr (folds_in ls) ≡ w.argument_terms sources fr ls
+  arguments-same fr [] = refl
+  arguments-same fr (sub f kind x ∷ ls) = arguments-same fr ls
+  arguments-same fr (fold f d x ∷ ls) = ap (λ ts. l.term sources fr [] no_slots x ∷ ts) (arguments-same fr ls)
+  arguments-same fr (count ∷ ls) = arguments-same fr ls
+
+  folds-same : (q j : ℕ) (ls : List Leaf) → fold_terms q j (folds_in ls) ≡ fold_terms q j ls
+  folds-same q j [] = refl
+  folds-same q j (sub f kind x ∷ ls) = folds-same q j ls
+  folds-same q j (fold f d x ∷ ls) = ap (λ ts. t.fold (w.aggregate f) (w.taken d) (col q j) ∷ ts) (folds-same q (suc j) ls)
+  folds-same q j (count ∷ ls) = ap (λ ts. count_all ∷ ts) (folds-same q j ls)
+
+  rows-made : (from : Froms) (by : Test) (places : List ℕ) (ks ls : List Leaf) (m : Map) (s : Boxes) (f c : Drawn) → folds_in ks ≡ folds_in ls → Under s.quant m → ((fr : Frame) → PlainArguments fr ls) → MadeFroms from m s f
       → MadeSubs m (w.all_leaves sources from by (λ fr. []) f.quants) f.boxes c
-      → Made (of_rows from by places ls) m s (y.select_box sources false from by (λ fr. []) (w.rows_list sources places ls) m f.quants c)
-  rows-made from by places ls m s f c u plain h k =
+      → Made (of_rows from by places ls) m s (y.select_box sources same false from by (λ fr. []) (λ sources. w.rows_list sources places ks) m f.quants c)
+  rows-made from by places ks ls m s f c alike u plain h k =
       let heads : Frame → List Leaf = λ fr. [] in
       let items : Frame → Slots → List Term = w.rows_list sources places ls in
       let n = select_node false from by heads items m f.quants c in
-      made-put Select false n.parts.conds.items n.parts.head n.quants (of_rows from by places ls) m s c.boxes (keeps-trans s f.boxes c.boxes h.keeps k.keeps)
+      let fr = w.frame_all sources from f.quants in
+      let arguments : w.argument_terms sources fr ks ≡ w.argument_terms sources fr ls = sym (arguments-same fr ks) ∙ ap (w.argument_terms sources fr) alike ∙ arguments-same fr ls in
+      let head = λ ts. w.padded (int (pos 1)) (map (λ place. ref_term (get_or fr place maps.nothing)) places ++ ts) in
+      subst (λ ts. Made (of_rows from by places ls) m s (put Select false n.parts.conds.items (head ts) n.quants c.boxes)) (sym arguments)
+      (made-put Select false n.parts.conds.items n.parts.head n.quants (of_rows from by places ls) m s c.boxes (keeps-trans s f.boxes c.boxes h.keeps k.keeps)
       (rising-append s.quant f.boxes.quant c.boxes.quant f.quants c.quants h.rising k.rising) (free-append s f.boxes c.boxes f.quants c.quants h.keeps k.keeps h.rising h.free k.free) (counts-append s f.boxes c.boxes f.quants c.quants h.keeps k.keeps h.counts k.counts)
-      (record { arguments = plain (w.frame_all sources from n.quants); rows = shows-select false from by heads items m s f c u h k })
+      (record { arguments = plain (w.frame_all sources from n.quants); rows = shows-select false from by heads items m s f c u h k }))
 
-  groups-made : (from : Froms) (by : Test) (places : List ℕ) (ls : List Leaf) (m : Map) (s : Boxes) (r : Laid) → Under s.quant m → Made (of_rows from by places ls) m s r → Made (of_groups from by places ls) m s (y.group_box sources places ls r)
-  groups-made from by places ls m s r u h =
+  groups-made : (from : Froms) (by : Test) (places : List ℕ) (ks ls : List Leaf) (m : Map) (s : Boxes) (r : Laid) → folds_in ks ≡ folds_in ls → Under s.quant m → Made (of_rows from by places ls) m s r
+      → Made (of_groups from by places ls) m s (y.group_box sources same places ks r)
+  groups-made from by places ks ls m s r alike u h =
       let g = r.boxes.quant in
-      let c = numbered r.boxes in
-      made-put (Group (length places)) false [] (w.groups_list places ls g) (drawn F r).quants (of_groups from by places ls) m s c
-      (keeps-trans s r.boxes c h.keeps (keeps-numbered r.boxes)) (rising-from s.quant g c.quant (drawn F r).quants h.keeps.quants (omega arith, omega arith)) (free-one s r.boxes F r.top h.keeps)
-      (counts-numbered s r.boxes (drawn F r).quants (counts-one (of_rows from by places ls) m s r g F h))
+      let c = (drawn F r).boxes in
+      let folds : fold_terms g (suc (length places)) ks ≡ fold_terms g (suc (length places)) ls = sym (folds-same g (suc (length places)) ks) ∙ ap (fold_terms g (suc (length places))) alike ∙ folds-same g (suc (length places)) ls in
+      subst (λ ts. Made (of_groups from by places ls) m s (put (Group (length places)) false [] (columns_of g 1 (length places) ++ ts) (drawn F r).quants c)) (sym folds)
+      (made-put (Group (length places)) false [] (w.groups_list places ls g) (drawn F r).quants (of_groups from by places ls) m s c
+      (keeps-trans s r.boxes c h.keeps (keeps-ranging r.top r.boxes)) (rising-from s.quant g c.quant (drawn F r).quants h.keeps.quants (omega arith, omega arith)) (free-one s r.boxes F r.top h.keeps)
+      (counts-ranging r.top s r.boxes (drawn F r).quants (counts-one (of_rows from by places ls) m s r g F h))
       (record {
         kind = refl;
         plain = record { distinctness = refl; role = refl; numbered = numbered-apart g c.quant m (drawn F r).quants (under-more s.quant g m h.keeps.quants u) (omega arith, omega arith) };
         conds = refl;
-        quants = (refl, (still (of_rows from by places ls) m s r c h (keeps-numbered r.boxes), refl));
-      })
+        quants = (refl, (still (of_rows from by places ls) m s r c h (keeps-ranging r.top r.boxes), refl));
+      }))
 
   abbrev upper_leaves : Frame → Values → Test → List Leaf
   upper_leaves = w.upper_leaves
 
   upper-made : (distinct : Bool) (list : Values) (from : Froms) (by : Test) (places : Option (List ℕ)) (n : ℕ) (having : Test) (m : Map) (s : Boxes) (g : Laid) (c : Drawn) → Under s.quant m → HasKey places
       → froms_width sources from ≡ n
-      → Made (of_groups from by (key_places places) (upper_leaves (key_frame s.quant (key_places places) 0 n) list having)) m (numbered s) g
-      → MadeSubs m (upper_leaves (key_frame s.quant (key_places places) 0 n) list having) g.boxes c
-      → Made (of_query (q.grouped distinct list from by places n having)) m s (y.upper_box sources distinct list (key_places places) n having m s.quant g.top c)
+      → Made (of_groups from by (key_places places) (upper_leaves (key_frame g.boxes.quant (key_places places) 0 n) list having)) m s g
+      → MadeSubs m (upper_leaves (key_frame g.boxes.quant (key_places places) 0 n) list having) (drawn F g).boxes c
+      → Made (of_query (q.grouped distinct list from by places n having)) m s (y.upper_box sources same distinct list (key_places places) n having m g.boxes.quant g.top c)
   upper-made distinct list from by places n having m s g c u key e h k =
-      let fr = key_frame s.quant (key_places places) 0 n in
+      let fr = key_frame g.boxes.quant (key_places places) 0 n in
       let ls = upper_leaves fr list having in
-      let t = w.upper_slots s.quant (suc (length (key_places places))) ls c.quants in
-      let os : List OwnedQuant = record { id = s.quant; kind = F; over = g.top } ∷ c.quants in
-      let below : suc s.quant ≤ g.boxes.quant = h.keeps.quants in
-      let later = keeps-trans (numbered s) g.boxes c.boxes h.keeps k.keeps in
-      let rising : Rising s.quant c.boxes.quant os = (omega arith, rising-from (suc s.quant) g.boxes.quant c.boxes.quant c.quants below k.rising) in
+      let t = w.upper_slots g.boxes.quant (suc (length (key_places places))) ls c.quants in
+      let one : List OwnedQuant = record { id = g.boxes.quant; kind = F; over = g.top } ∷ [] in
+      let os = one ++ c.quants in
+      let d = (drawn F g).boxes in
+      let first = keeps-trans s g.boxes d h.keeps (keeps-ranging g.top g.boxes) in
+      let rises : Rising s.quant d.quant one = (h.keeps.quants, omega arith) in
+      let rising : Rising s.quant c.boxes.quant os = rising-append s.quant d.quant c.boxes.quant one c.quants rises k.rising in
       made-put Select distinct (split (l.cond sources fr m (after (list_leaves fr list) t) having)) (l.terms sources fr m t list) os (of_query (q.grouped distinct list from by places n having)) m s c.boxes
-      (keeps-trans s (numbered s) c.boxes (keeps-numbered s) later) rising
-      (λ o q z. or-cases (s.quant == q) (list_any (is_quant q) c.quants) z
-      (λ i. let same = eqb-true s.quant q i in stays-false (owned q s.made) (owned q c.boxes.made) (later.owners q (omega arith)) (free-new s s (keeps-refl s) o q (omega arith)))
-      (λ i. k.free (h.keeps.order ((keeps-numbered s).order o)) q i))
-      (counts-from s c.boxes os (counts-append (numbered s) g.boxes c.boxes (record { id = s.quant; kind = F; over = g.top } ∷ []) c.quants h.keeps k.keeps
-      (counts-one (of_groups from by (key_places places) ls) m (numbered s) g s.quant F h) k.counts))
+      (keeps-trans s d c.boxes first k.keeps) rising (free-append s d c.boxes one c.quants first k.keeps rises (free-one s g.boxes F g.top h.keeps) k.free)
+      (counts-append s d c.boxes one c.quants first k.keeps (counts-ranging g.top s g.boxes one (counts-one (of_groups from by (key_places places) ls) m s g g.boxes.quant F h)) k.counts)
       (record {
         kind = refl;
         plain = record { distinctness = refl; role = refl; numbered = numbered-apart s.quant c.boxes.quant m os u rising };
         key = key;
         columns = e;
-        upper = record { kind = refl; groups = still (of_groups from by (key_places places) ls) m (numbered s) g c.boxes h k.keeps; subs = k.shows c.boxes (keeps-refl c.boxes); conds = refl; head = refl };
+        upper = record {
+          kind = refl;
+          groups = still (of_groups from by (key_places places) ls) m s g c.boxes h (keeps-trans g.boxes d c.boxes (keeps-ranging g.top g.boxes) k.keeps);
+          subs = k.shows c.boxes (keeps-refl c.boxes);
+          conds = refl;
+          head = refl;
+        };
       })
 
   -- ---- the subqueries of ON
@@ -540,98 +569,101 @@ module _ (sources : Sources) (has : List ℕ → Bool) where
   -- ---- the making
 
   mutual
-    pub laid : (x : Query) (m : Map) (s : Boxes) → b.Buildable sources has x → Ready s m → Made (of_query x) m s (y.lay sources x m s)
+    pub laid : (x : Query) (m : Map) (s : Boxes) → b.Buildable sources has x → Ready s m → Made (of_query x) m s (y.lay sources same x m s)
     laid (q.block distinct list from by) m s h r =
-        let f = y.lay_froms sources m from s in
+        let f = y.lay_froms sources same m from s in
         let a = froms-laid m from s h.0 r in
         let fr = w.frame_all sources from f.quants in
-        let c = in_turn (y.list_subs sources m fr list) (in_turn (y.all_on_subs sources m from f.quants) (y.test_subs sources m fr by)) f.boxes in
+        let c = in_turn (y.list_subs sources same m fr list) (in_turn (y.all_on_subs sources same m from f.quants) (y.test_subs sources same m fr by)) f.boxes in
         let served = both (list-served m fr list h.1) (both (all-on-served m from f.quants h.0) (test-served m fr by h.2)) in
         block-made distinct list from by m s f c r.under a (served.at f.boxes (ready-frame f.boxes fr m (ready-keeps s f.boxes m r a.keeps) a.under))
     laid (q.grouped distinct list from by places n having) m s h r =
-        let f = y.lay_froms sources m from (numbered s) in
-        let ready = ready-keeps s (numbered s) m r (keeps-numbered s) in
-        let a = froms-laid m from (numbered s) h.0 ready in
+        let f = y.lay_froms sources same m from s in
+        let a = froms-laid m from s h.0 r in
         let fr = w.frame_all sources from f.quants in
-        let up = key_frame s.quant (key_places places) 0 n in
-        let ls = upper_leaves up list having in
-        let upper = both (list-served m up list h.1) (test-served m up having h.3) in
+        let ks = upper_leaves [] list having in
         let lower = both (all-on-served m from f.quants h.0) (test-served m fr by h.2) in
-        let c = in_turn (y.all_on_subs sources m from f.quants) (y.test_subs sources m fr by) f.boxes in
-        let rows = y.select_box sources false from by (λ fr. []) (w.rows_list sources (key_places places) ls) m f.quants c in
-        let groups = y.group_box sources (key_places places) ls rows in
-        let made = groups-made from by (key_places places) ls m (numbered s) rows ready.under (rows-made from by (key_places places) ls m (numbered s) f c ready.under upper.plain a
-        (lower.at f.boxes (ready-frame f.boxes fr m (ready-keeps (numbered s) f.boxes m ready a.keeps) a.under))) in
-        let d = in_turn (y.list_subs sources m up list) (y.test_subs sources m up having) groups.boxes in
+        let c = in_turn (y.all_on_subs sources same m from f.quants) (y.test_subs sources same m fr by) f.boxes in
+        let rows = y.select_box sources same false from by (λ fr. []) (λ sources. w.rows_list sources (key_places places) ks) m f.quants c in
+        let groups = y.group_box sources same (key_places places) ks rows in
+        let up = key_frame groups.boxes.quant (key_places places) 0 n in
+        let ls = upper_leaves up list having in
+        let alike : folds_in ks ≡ folds_in ls = folds_append (list_leaves [] list) (test_leaves [] having) ∙ ap₂ (λ a b. a ++ b) (values_same [] up list) (test_same [] up having) ∙ sym (folds_append (list_leaves up list) (test_leaves up having)) in
+        let upper = both (list-served m up list h.1) (test-served m up having h.3) in
+        let made = groups-made from by (key_places places) ks ls m s rows alike r.under (rows-made from by (key_places places) ks ls m s f c alike r.under upper.plain a
+        (lower.at f.boxes (ready-frame f.boxes fr m (ready-keeps s f.boxes m r a.keeps) a.under))) in
+        let e = (drawn F groups).boxes in
+        let grown = keeps-trans s groups.boxes e made.keeps (keeps-ranging groups.top groups.boxes) in
+        let d = in_turn (y.list_subs sources same m up list) (y.test_subs sources same m up having) e in
         upper-made distinct list from by places n having m s groups d r.under h.4 h.5 made
-        (upper.at groups.boxes (ready-frame groups.boxes up m (ready-keeps (numbered s) groups.boxes m ready made.keeps) (under-keys groups.boxes.quant s.quant (key_places places) 0 n made.keeps.quants)))
+        (upper.at e (ready-frame e up m (ready-keeps s e m r grown) (under-keys e.quant groups.boxes.quant (key_places places) 0 n (omega arith))))
     laid (q.combine x op all n z) m s h r =
-        let a = y.lay sources x m s in
+        let a = y.lay sources same x m s in
         let k = laid x m s h.0 r in
-        two-made x z (q.combine x op all n z) (w.form_of op all) n m s a (y.lay sources z m) r k (laid z m a.boxes h.1 (ready-keeps s a.boxes m r k.keeps)) h.2 h.3 (λ below b t. t)
+        two-made x z (q.combine x op all n z) (w.form_of op all) n m s a (y.lay sources same z m) r k (laid z m a.boxes h.1 (ready-keeps s a.boxes m r k.keeps)) h.2 h.3 (λ below b t. t)
     laid (q.intersect x all n z) m s h r =
-        let a = y.lay sources x m s in
+        let a = y.lay sources same x m s in
         let k = laid x m s h.0 r in
-        two-made x z (q.intersect x all n z) (w.common_form all) n m s a (y.lay sources z m) r k (laid z m a.boxes h.1 (ready-keeps s a.boxes m r k.keeps)) h.2 h.3 (λ below b t. t)
+        two-made x z (q.intersect x all n z) (w.common_form all) n m s a (y.lay sources same z m) r k (laid z m a.boxes h.1 (ready-keeps s a.boxes m r k.keeps)) h.2 h.3 (λ below b t. t)
 
-    operand-laid : (x : From) (m : Map) (s : Boxes) → b.FitFrom sources has x → Ready s m → Made (of_operand x) m s (y.lay_operand sources x m s)
+    operand-laid : (x : From) (m : Map) (s : Boxes) → b.FitFrom sources has x → Ready s m → Made (of_operand x) m s (y.lay_operand sources same x m s)
     operand-laid (q.named name) m s h r = named-made name m s h r
-    operand-laid (q.derived query) m s h r = derived-made query m s (y.lay sources query m s) (laid query m s h r)
+    operand-laid (q.derived query) m s h r = derived-made query m s (y.lay sources same query m s) (laid query m s h r)
     operand-laid (q.crossed x z) m s h r =
-        let d = y.lay_from sources m x s in
-        let e = y.lay_from sources m z d.boxes in
+        let d = y.lay_from sources same m x s in
+        let e = y.lay_from sources same m z d.boxes in
         let f : Drawn = record { boxes = e.boxes; quants = d.quants ++ e.quants } in
         let i = from-laid m x s h.0 r in
         let a = from-crossed x z m s d e i (from-laid m z d.boxes h.1 (ready-keeps s d.boxes m r i.keeps)) in
         let served = on-crossed x z m f.quants (on-served m x f.quants h.0) (on-served m z (w.past sources x f.quants) h.1) in
-        flat-made (q.crossed x z) m s f (in_turn (y.on_subs sources m x f.quants) (y.on_subs sources m z (w.past sources x f.quants)) f.boxes) (λ below b t. t) r.under a
+        flat-made (q.crossed x z) m s f (in_turn (y.on_subs sources same m x f.quants) (y.on_subs sources same m z (w.past sources x f.quants)) f.boxes) (λ below b t. t) r.under a
         (served.at f.boxes (ready-frame f.boxes (w.frame sources (q.crossed x z) f.quants) m (ready-keeps s f.boxes m r a.keeps) a.under))
     operand-laid (q.joined x z p) m s h r =
-        let d = y.lay_from sources m x s in
-        let e = y.lay_from sources m z d.boxes in
+        let d = y.lay_from sources same m x s in
+        let e = y.lay_from sources same m z d.boxes in
         let f : Drawn = record { boxes = e.boxes; quants = d.quants ++ e.quants } in
         let fr = w.frame sources (q.joined x z p) f.quants in
         let i = from-laid m x s h.0 r in
         let a = from-joined x z p m s d e i (from-laid m z d.boxes h.1 (ready-keeps s d.boxes m r i.keeps)) in
         let served = on-joined x z p m f.quants (on-served m x f.quants h.0) (on-served m z (w.past sources x f.quants) h.1) (test-served m fr p h.2) in
-        flat-made (q.joined x z p) m s f (in_turn (y.on_subs sources m x f.quants) (in_turn (y.on_subs sources m z (w.past sources x f.quants)) (y.test_subs sources m fr p)) f.boxes) (λ below b t. t) r.under a
+        flat-made (q.joined x z p) m s f (in_turn (y.on_subs sources same m x f.quants) (in_turn (y.on_subs sources same m z (w.past sources x f.quants)) (y.test_subs sources same m fr p)) f.boxes) (λ below b t. t) r.under a
         (served.at f.boxes (ready-frame f.boxes fr m (ready-keeps s f.boxes m r a.keeps) a.under))
     operand-laid (q.left_joined x z n p) m s h r =
-        let a = y.lay_operand sources x m s in
+        let a = y.lay_operand sources same x m s in
         let k = operand-laid x m s h.0 r in
-        outer-made x z n p m s a (y.lay_operand sources z m) r k (operand-laid z m a.boxes h.1 (ready-keeps s a.boxes m r k.keeps)) h.2 h.3
+        outer-made x z n p m s a (y.lay_operand sources same z m) r k (operand-laid z m a.boxes h.1 (ready-keeps s a.boxes m r k.keeps)) h.2 h.3
 
-    from-laid : (m : Map) (x : From) (s : Boxes) → b.FitFrom sources has x → Ready s m → MadeFrom x m s (y.lay_from sources m x s)
+    from-laid : (m : Map) (x : From) (s : Boxes) → b.FitFrom sources has x → Ready s m → MadeFrom x m s (y.lay_from sources same m x s)
     from-laid m (q.named name) s h r =
         from-one (q.named name) (sources.columns name) m s (record { boxes = s; top = sources.shared name }) (named-made name m s h r)
         (record { past = λ more. refl; frame = λ more. refl; leaves = λ more. refl; ons = λ m s more. refl }) refl (λ below os t. t)
     from-laid m (q.derived query) s h r =
-        let a = y.lay sources query m s in
+        let a = y.lay sources same query m s in
         from-one (q.derived query) (width query) m s a (derived-made query m s a (laid query m s h r))
         (record { past = λ more. refl; frame = λ more. refl; leaves = λ more. refl; ons = λ m s more. refl }) refl (λ below os t. t)
     from-laid m (q.crossed x z) s h r =
-        let d = y.lay_from sources m x s in
+        let d = y.lay_from sources same m x s in
         let i = from-laid m x s h.0 r in
-        from-crossed x z m s d (y.lay_from sources m z d.boxes) i (from-laid m z d.boxes h.1 (ready-keeps s d.boxes m r i.keeps))
+        from-crossed x z m s d (y.lay_from sources same m z d.boxes) i (from-laid m z d.boxes h.1 (ready-keeps s d.boxes m r i.keeps))
     from-laid m (q.joined x z p) s h r =
-        let d = y.lay_from sources m x s in
+        let d = y.lay_from sources same m x s in
         let i = from-laid m x s h.0 r in
-        from-joined x z p m s d (y.lay_from sources m z d.boxes) i (from-laid m z d.boxes h.1 (ready-keeps s d.boxes m r i.keeps))
+        from-joined x z p m s d (y.lay_from sources same m z d.boxes) i (from-laid m z d.boxes h.1 (ready-keeps s d.boxes m r i.keeps))
     from-laid m (q.left_joined x z n p) s h r =
-        let a = y.lay_operand sources x m s in
+        let a = y.lay_operand sources same x m s in
         let k = operand-laid x m s h.0 r in
-        from-one (q.left_joined x z n p) (from_width sources x + n) m s (y.outer_box sources x n p m (y.lay_operand sources z m) a)
-        (outer-made x z n p m s a (y.lay_operand sources z m) r k (operand-laid z m a.boxes h.1 (ready-keeps s a.boxes m r k.keeps)) h.2 h.3)
+        from-one (q.left_joined x z n p) (from_width sources x + n) m s (y.outer_box sources same x n p m (y.lay_operand sources same z m) a)
+        (outer-made x z n p m s a (y.lay_operand sources same z m) r k (operand-laid z m a.boxes h.1 (ready-keeps s a.boxes m r k.keeps)) h.2 h.3)
         (record { past = λ more. refl; frame = λ more. refl; leaves = λ more. refl; ons = λ m s more. refl }) refl (λ below os t. t)
 
-    froms-laid : (m : Map) (xs : Froms) (s : Boxes) → b.FitFroms sources has xs → Ready s m → MadeFroms xs m s (y.lay_froms sources m xs s)
+    froms-laid : (m : Map) (xs : Froms) (s : Boxes) → b.FitFroms sources has xs → Ready s m → MadeFroms xs m s (y.lay_froms sources same m xs s)
     froms-laid m q.no_from s h r = froms-none m s
     froms-laid m (q.one_from x xs) s h r =
-        let d = y.lay_from sources m x s in
+        let d = y.lay_from sources same m x s in
         let i = from-laid m x s h.0 r in
-        froms-next x xs m s d (y.lay_froms sources m xs d.boxes) i (froms-laid m xs d.boxes h.1 (ready-keeps s d.boxes m r i.keeps))
+        froms-next x xs m s d (y.lay_froms sources same m xs d.boxes) i (froms-laid m xs d.boxes h.1 (ready-keeps s d.boxes m r i.keeps))
 
-    on-served : (m : Map) (x : From) (os : List OwnedQuant) → b.FitFrom sources has x → Serves (w.frame sources x os) m (w.on_leaves sources x os) (y.on_subs sources m x os)
+    on-served : (m : Map) (x : From) (os : List OwnedQuant) → b.FitFrom sources has x → Serves (w.frame sources x os) m (w.on_leaves sources x os) (y.on_subs sources same m x os)
     on-served m (q.named name) os h = nothing
     on-served m (q.derived query) os h = nothing
     on-served m (q.crossed x z) os h = on-crossed x z m os (on-served m x os h.0) (on-served m z (w.past sources x os) h.1)
@@ -639,11 +671,11 @@ module _ (sources : Sources) (has : List ℕ → Bool) where
         on-joined x z p m os (on-served m x os h.0) (on-served m z (w.past sources x os) h.1) (test-served m (w.frame sources (q.joined x z p) os) p h.2)
     on-served m (q.left_joined x z n p) os h = nothing
 
-    all-on-served : (m : Map) (xs : Froms) (os : List OwnedQuant) → b.FitFroms sources has xs → Serves (w.frame_all sources xs os) m (w.all_on_leaves sources xs os) (y.all_on_subs sources m xs os)
+    all-on-served : (m : Map) (xs : Froms) (os : List OwnedQuant) → b.FitFroms sources has xs → Serves (w.frame_all sources xs os) m (w.all_on_leaves sources xs os) (y.all_on_subs sources same m xs os)
     all-on-served m q.no_from os h = nothing
     all-on-served m (q.one_from x xs) os h = on-next x xs m os (on-served m x os h.0) (all-on-served m xs (w.past sources x os) h.1)
 
-    value-served : (m : Map) (fr : Frame) (x : Value) → b.FitValue sources has x → Serves fr m (leaf.leaves fr x) (y.value_subs sources m fr x)
+    value-served : (m : Map) (fr : Frame) (x : Value) → b.FitValue sources has x → Serves fr m (leaf.leaves fr x) (y.value_subs sources same m fr x)
     value-served m fr (q.number n) h = nothing
     value-served m fr (q.text x) h = nothing
     value-served m fr (q.null type) h = nothing
@@ -655,43 +687,43 @@ module _ (sources : Sources) (has : List ℕ → Bool) where
     value-served m fr (q.simple x xs last) h = both (value-served m fr x h.0) (both (choice-served m fr xs h.1) (value-served m fr last h.2))
     value-served m fr (q.coalesce x xs) h = both (value-served m fr x h.0) (list-served m fr xs h.1)
     value-served m fr (q.null_if x y) h = both (value-served m fr x h.0) (value-served m fr y h.1)
-    value-served m fr (q.scalar query) h = asked S query (y.lay sources query (fr ∷ m)) refl (λ s r. laid query (fr ∷ m) s h r)
+    value-served m fr (q.scalar query) h = asked S query (y.lay sources same query (fr ∷ m)) refl (λ s r. laid query (fr ∷ m) s h r)
     value-served m fr q.count_all h = counted
     value-served m fr (q.aggregate f distinct x) h = folded f distinct x h
 
-    addend-served : (m : Map) (fr : Frame) (x : Addends) → b.FitAddends sources has x → Serves fr m (leaf.addend_leaves fr x) (y.addend_subs sources m fr x)
+    addend-served : (m : Map) (fr : Frame) (x : Addends) → b.FitAddends sources has x → Serves fr m (leaf.addend_leaves fr x) (y.addend_subs sources same m fr x)
     addend-served m fr q.no_addend h = nothing
     addend-served m fr (q.one_addend op x xs) h = both (value-served m fr x h.0) (addend-served m fr xs h.1)
 
-    multiplier-served : (m : Map) (fr : Frame) (x : Multipliers) → b.FitMultipliers sources has x → Serves fr m (leaf.multiplier_leaves fr x) (y.multiplier_subs sources m fr x)
+    multiplier-served : (m : Map) (fr : Frame) (x : Multipliers) → b.FitMultipliers sources has x → Serves fr m (leaf.multiplier_leaves fr x) (y.multiplier_subs sources same m fr x)
     multiplier-served m fr q.no_multiplier h = nothing
     multiplier-served m fr (q.one_multiplier op x xs) h = both (value-served m fr x h.0) (multiplier-served m fr xs h.1)
 
-    list-served : (m : Map) (fr : Frame) (x : Values) → b.FitValues sources has x → Serves fr m (leaf.list_leaves fr x) (y.list_subs sources m fr x)
+    list-served : (m : Map) (fr : Frame) (x : Values) → b.FitValues sources has x → Serves fr m (leaf.list_leaves fr x) (y.list_subs sources same m fr x)
     list-served m fr q.no_value h = nothing
     list-served m fr (q.one_value x xs) h = both (value-served m fr x h.0) (list-served m fr xs h.1)
 
-    arm-served : (m : Map) (fr : Frame) (x : Arms) → b.FitArms sources has x → Serves fr m (leaf.arm_leaves fr x) (y.arm_subs sources m fr x)
+    arm-served : (m : Map) (fr : Frame) (x : Arms) → b.FitArms sources has x → Serves fr m (leaf.arm_leaves fr x) (y.arm_subs sources same m fr x)
     arm-served m fr q.no_arm h = nothing
     arm-served m fr (q.one_arm p x xs) h = both (test-served m fr p h.0) (both (value-served m fr x h.1) (arm-served m fr xs h.2))
 
-    choice-served : (m : Map) (fr : Frame) (x : Choices) → b.FitChoices sources has x → Serves fr m (leaf.choice_leaves fr x) (y.choice_subs sources m fr x)
+    choice-served : (m : Map) (fr : Frame) (x : Choices) → b.FitChoices sources has x → Serves fr m (leaf.choice_leaves fr x) (y.choice_subs sources same m fr x)
     choice-served m fr q.no_choice h = nothing
     choice-served m fr (q.one_choice x y xs) h = both (value-served m fr x h.0) (both (value-served m fr y h.1) (choice-served m fr xs h.2))
 
-    test-served : (m : Map) (fr : Frame) (x : Test) → b.FitTest sources has x → Serves fr m (leaf.test_leaves fr x) (y.test_subs sources m fr x)
+    test-served : (m : Map) (fr : Frame) (x : Test) → b.FitTest sources has x → Serves fr m (leaf.test_leaves fr x) (y.test_subs sources same m fr x)
     test-served m fr (q.all ps) h = tests-served m fr ps h
     test-served m fr (q.any ps) h = tests-served m fr ps h
     test-served m fr (q.negated p) h = test-served m fr p h
     test-served m fr (q.compare x op y) h = both (value-served m fr x h.0) (value-served m fr y h.1)
-    test-served m fr (q.quantified x op each query) h = both (value-served m fr x h.0) (asked (every_or_some each) query (y.lay sources query (fr ∷ m)) (binds-nothing each) (λ s r. laid query (fr ∷ m) s h.1 r))
+    test-served m fr (q.quantified x op each query) h = both (value-served m fr x h.0) (asked (every_or_some each) query (y.lay sources same query (fr ∷ m)) (binds-nothing each) (λ s r. laid query (fr ∷ m) s h.1 r))
     test-served m fr (q.between x y z) h = both (value-served m fr x h.0) (both (value-served m fr y h.1) (value-served m fr z h.2))
     test-served m fr (q.among x xs) h = both (value-served m fr x h.0) (list-served m fr xs h.1)
-    test-served m fr (q.among_rows x query) h = both (value-served m fr x h.0) (asked E query (y.lay sources query (fr ∷ m)) refl (λ s r. laid query (fr ∷ m) s h.1 r))
+    test-served m fr (q.among_rows x query) h = both (value-served m fr x h.0) (asked E query (y.lay sources same query (fr ∷ m)) refl (λ s r. laid query (fr ∷ m) s h.1 r))
     test-served m fr (q.like x y) h = both (value-served m fr x h.0) (value-served m fr y h.1)
     test-served m fr (q.is_null x) h = value-served m fr x h
-    test-served m fr (q.exists query) h = asked E query (y.lay sources query (fr ∷ m)) refl (λ s r. laid query (fr ∷ m) s h r)
+    test-served m fr (q.exists query) h = asked E query (y.lay sources same query (fr ∷ m)) refl (λ s r. laid query (fr ∷ m) s h r)
 
-    tests-served : (m : Map) (fr : Frame) (x : Tests) → b.FitTests sources has x → Serves fr m (leaf.tests_leaves fr x) (y.tests_subs sources m fr x)
+    tests-served : (m : Map) (fr : Frame) (x : Tests) → b.FitTests sources has x → Serves fr m (leaf.tests_leaves fr x) (y.tests_subs sources same m fr x)
     tests-served m fr q.no_test h = nothing
     tests-served m fr (q.one_test p ps) h = both (test-served m fr p h.0) (tests-served m fr ps h.1)

@@ -7,7 +7,7 @@ use Rattle.qgm_core.specs.Lists.{times}
 use Rattle.qgm_core.specs.declared.node.Node.{Node}
 use Rattle.qgm_core.specs.declared.owned.OwnedQuant.{OwnedQuant}
 use Rattle.qgm_shown.specs.Shown.{distinct_ids}
-use Rattle.qgm_build.specs.Law.{Once, owned}
+use Rattle.qgm_shown.specs.Lays.{Once, owned}
 
 times-both : (q : ℕ) (xs ys : List ℕ) → times q (xs ++ ys) ≡ times q xs + times q ys
 times-both q [] ys = omega arith

@@ -11,8 +11,7 @@ use Rattle.qgm_shown.specs.Maps.{Frame, Map, Ref, nothing, none_counted, column}
 use Rattle.qgm_shown.specs.Shown.{Shows, ShowsBox, Thing, distinct_ids, uses, of_operand, of_query}
 use Rattle.qgm_shown.specs.Sources.{Sources}
 use Rattle.qgm_shown.specs.Buildable.{Buildable}
-use Rattle.qgm_core.specs.declared.kinds.BoxKind.TheVariants.{Base}
-use Rattle.qgm_build.specs.Lay.{Boxes, Laid, lay, put}
+use Rattle.qgm_shown.specs.Lay.{Boxes, Laid, lay, lay_table}
 
 -- the columns of a map are those of quantifiers below n
 abbrev pub UnderRef : ℕ → Ref → Type 0
@@ -96,10 +95,14 @@ module _ (sources : Sources) (has : List ℕ → Bool) where
     pub used : InOrder s → (j : ℕ) → s.box ≤ j → j < r.boxes.box → uses j r.boxes.made ≡ (if r.top == j then 0 else 1)
     pub top : (j : ℕ) → j < s.box → Unshared j → (r.top == j) ≡ false
 
+-- what is laid where all is told beforehand: what names stand for, their boxes, and the types of expressions
+abbrev pub laid_over : Sources → Query → Map → Boxes → Laid
+laid_over sources query m s = lay sources (λ s. sources) query m s
+
 abbrev pub Lays : Type 0
 Lays =
     (sources : Sources) (has : List ℕ → Bool)
-    → (query : Query) (m : Map) (s : Boxes) → Buildable sources has query → Ready sources has s m → Made sources has (of_query query) m s (lay sources query m s)
+    → (query : Query) (m : Map) (s : Boxes) → Buildable sources has query → Ready sources has s m → Made sources has (of_query query) m s (laid_over sources query m s)
 
 -- so no number of a quantifier stands twice
 abbrev pub CountedOnce : Type 0
@@ -113,7 +116,7 @@ OneMore has name more = (n : List ℕ) → more n ≡ true → (n ≡ name) ⊎ 
 
 -- the box of a table, on top of all
 abbrev pub lay_base : Sources → List ℕ → Boxes → Laid
-lay_base sources name s = put (Base (sources.stored name)) false [] [] [] s
+lay_base sources name s = lay_table (sources.stored name) s
 
 -- no name stands at first; a table, or a view whose body names what stands, may come after the others, if its number is that of its box
 pub record Starts : Type 0 where
@@ -124,5 +127,5 @@ pub record Starts : Type 0 where
       → Ready sources more (lay_base sources name s).boxes []
   pub view :
       (sources : Sources) (has more : List ℕ → Bool) (name : List ℕ) → OneMore has name more
-      → (body : Query) (s : Boxes) → sources.body name ≡ Some body → sources.shared name ≡ (lay sources body [] s).top → Buildable sources has body → Ready sources has s []
-      → Ready sources more (lay sources body [] s).boxes []
+      → (body : Query) (s : Boxes) → sources.body name ≡ Some body → sources.shared name ≡ (laid_over sources body [] s).top → Buildable sources has body → Ready sources has s []
+      → Ready sources more (laid_over sources body [] s).boxes []

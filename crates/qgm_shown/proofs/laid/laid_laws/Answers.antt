@@ -1,8 +1,8 @@
 use Rattle.std.proofs.Common.{refl}
-use Rattle.qgm_build.proofs.laws.laid_laws.Goals as goal
-use Rattle.qgm_build.proofs.Made.{laid}
-use Rattle.qgm_build.proofs.Times.{counted-once}
-use Rattle.qgm_build.proofs.Start.{base-ready, nothing-ready, view-ready}
+use Rattle.qgm_shown.proofs.laid.laid_laws.Goals as goal
+use Rattle.qgm_shown.proofs.Made.{laid}
+use Rattle.qgm_shown.proofs.Times.{counted-once}
+use Rattle.qgm_shown.proofs.Start.{base-ready, nothing-ready, view-ready}
 
 pub returns-clause-lays : goal.returns-clause-lays
 returns-clause-lays c = λ sources has query m s h r. laid sources has query m s h r
