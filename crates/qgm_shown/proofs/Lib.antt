@@ -21,6 +21,13 @@ pub mod FoldsSame
 pub mod Numbers
 pub mod Fills
 pub mod Order
+pub mod Rows
+pub mod TermsUnder
+pub mod TermsSame
+pub mod FromsSame
 pub mod Made
+pub mod LaidAll
+pub mod Grows
+pub mod Same
 pub mod Start
 pub mod Times

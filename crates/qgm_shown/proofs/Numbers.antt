@@ -108,7 +108,7 @@ any-cases p (x ∷ xs) ys h f g = or-cases (p x) (list_any p (xs ++ ys)) h (λ e
     or-right true b h = refl
     or-right false b h = h
 
-rising-le : (n k : ℕ) (os : List OwnedQuant) → Rising n k os → n ≤ k
+pub rising-le : (n k : ℕ) (os : List OwnedQuant) → Rising n k os → n ≤ k
 rising-le n k [] h = h
 rising-le n k (o ∷ os) h = let x = h.0 in let r = rising-le (suc o.id) k os h.1 in omega arith
 

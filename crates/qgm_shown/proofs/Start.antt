@@ -12,7 +12,8 @@ use Rattle.qgm_shown.specs.Shown.{Thing, of_operand, of_query}
 use Rattle.qgm_shown.specs.Sources.{Sources}
 use Rattle.qgm_shown.specs.Lays.{Made, OneMore, Ready, laid_over, lay_base}
 use Rattle.qgm_shown.specs.Lay.{Boxes, plain_box}
-use Rattle.qgm_shown.proofs.Made.{laid, shows-as}
+use Rattle.qgm_shown.proofs.LaidAll.{laid}
+use Rattle.qgm_shown.proofs.Made.{shows-as}
 
 pub nothing-ready : (sources : Sources) (s : Boxes) → Ready sources (λ name. false) s []
 nothing-ready sources s = record { known = λ name h. absurd (cc h); sourced = λ name h m. absurd (cc h); under = tt }

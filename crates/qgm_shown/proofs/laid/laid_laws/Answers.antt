@@ -1,6 +1,7 @@
 use Rattle.std.proofs.Common.{refl}
 use Rattle.qgm_shown.proofs.laid.laid_laws.Goals as goal
-use Rattle.qgm_shown.proofs.Made.{laid}
+use Rattle.qgm_shown.proofs.LaidAll.{laid}
+use Rattle.qgm_shown.proofs.Same.{lay-same}
 use Rattle.qgm_shown.proofs.Times.{counted-once}
 use Rattle.qgm_shown.proofs.Start.{base-ready, nothing-ready, view-ready}
 
@@ -19,3 +20,6 @@ returns-clause-starts c = record {
 
 pub returns-clause-once : goal.returns-clause-once
 returns-clause-once c = λ ns h q. counted-once ns h q
+
+pub returns-clause-alike : goal.returns-clause-alike
+returns-clause-alike c = λ known sources has rows query m s told fit ready counted begins. lay-same known sources has s.shared rows told query m s fit ready (record { counted = counted; shared = refl }) begins
