@@ -1,5 +1,5 @@
 -- More types of quantifiers are known after each step.
-use Rattle.std.proofs.Common.{ℕ, List, [], ◌∷◌, ◌++◌, get_or}
+use Rattle.std.proofs.Common.{ℕ, false, List, [], ◌∷◌, ◌++◌, get_or}
 use Rattle.sql_value.specs.declared.order_key.SqlType.{SqlType}
 use Rattle.sql_meaning.specs.ResolvedTrees.{Value, Addends, Multipliers, Values, Arms, Choices, Test, Tests, From, Froms, Query}
 use Rattle.sql_meaning.specs.ResolvedTrees as q
@@ -61,7 +61,7 @@ module _ (known : Sources) (at : Boxes → Sources) where
           let groups = y.group_box known at (key_places places) ls rows in
           let up = key_frame groups.boxes.quant (key_places places) 0 n in
           let lower = begins-trans ((froms-grow m from).at s) ((turn (all-on-grow m from f.quants) (test-grow m fr by)).at f.boxes) in
-          let grouped = begins-trans lower (begins-trans (ranged rows.top c.boxes) (ranged groups.top groups.boxes)) in
+          let grouped = begins-trans lower (begins-trans (ranged rows.top rows.boxes) (ranged groups.top groups.boxes)) in
           begins-trans grouped ((turn (list-grow m up list) (test-grow m up having)).at (drawn F groups).boxes);
     }
     lay-grows (q.combine x op all n z) m = record { at = two-grow (lay-grows x m) (lay-grows z m) }

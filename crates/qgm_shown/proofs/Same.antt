@@ -56,11 +56,11 @@ use Rattle.qgm_shown.proofs.TermsSame.{cond-same, rows-same, terms-same}
 use Rattle.qgm_shown.proofs.TermsUnder.{SlotsUnder, after-under, no_slots-under}
 
 -- the boxes of these tables and views stand
-pub record Stands (S : List SharedBox) (s : Boxes) : Type 0 where
+pub record Stands (placed : List SharedBox) (s : Boxes) : Type 0 where
   pub counted : Counted s
-  pub shared : s.shared ≡ S
+  pub shared : s.shared ≡ placed
 
-module _ (known sources : Sources) (has : List ℕ → Bool) (S : List SharedBox) (R : List (List SqlType)) (foretold : Foretold known sources has S R) where
+module _ (known sources : Sources) (has : List ℕ → Bool) (placed : List SharedBox) (R : List (List SqlType)) (foretold : Foretold known sources has placed R) where
   abbrev Ready : Boxes → Map → Type 0
   Ready = k.Ready sources has
 
@@ -79,17 +79,17 @@ module _ (known sources : Sources) (has : List ℕ → Bool) (S : List SharedBox
   abbrev counts : (name : List ℕ) → known.columns name ≡ sources.columns name
   counts = foretold.counts
 
-  stands-keeps : (a b : Boxes) → Keeps a b → Stands S a → Stands S b
+  stands-keeps : (a b : Boxes) → Keeps a b → Stands placed a → Stands placed b
   stands-keeps a b k t = record { counted = k.counted t.counted; shared = k.shared ∙ t.shared }
 
-  agree : (s : Boxes) → Stands S s → Begins s.rows R → (x : Term) → TypedUnder s.quant x → (laying known s).typed x ≡ sources.typed x
+  agree : (s : Boxes) → Stands placed s → Begins s.rows R → (x : Term) → TypedUnder s.quant x → (laying known s).typed x ≡ sources.typed x
   agree s t b x u = sym (typed-begins s.quant b t.counted.rows x u) ∙ sym (foretold.typed x)
 
-  agree-all : (s : Boxes) → Stands S s → Begins s.rows R → (xs : List Term) → HeadUnder s.quant xs → map (laying known s).typed xs ≡ map sources.typed xs
+  agree-all : (s : Boxes) → Stands placed s → Begins s.rows R → (xs : List Term) → HeadUnder s.quant xs → map (laying known s).typed xs ≡ map sources.typed xs
   agree-all s t b [] u = refl
   agree-all s t b (x ∷ xs) u = ap₂ (λ z zs. z ∷ zs) (agree s t b x u.0) (agree-all s t b xs u.1)
 
-  number-same : (name : List ℕ) (s : Boxes) → has name ≡ true → Stands S s → box_named s.shared name ≡ sources.shared name
+  number-same : (name : List ℕ) (s : Boxes) → has name ≡ true → Stands placed s → box_named s.shared name ≡ sources.shared name
   number-same name s h t = ap (λ z. box_named z name) t.shared ∙ foretold.named name h
 
   -- ---- steps
@@ -98,7 +98,7 @@ module _ (known sources : Sources) (has : List ℕ → Bool) (S : List SharedBox
   pub record Agrees (fr : Frame) (m : Map) (ls : List Leaf) (a b : Step) : Type 0 where
     pub served : Serves fr m ls b
     pub grows : Grows a
-    pub same : (s : Boxes) → Ready s (fr ∷ m) → Stands S s → Begins (a s).boxes.rows R → a s ≡ b s
+    pub same : (s : Boxes) → Ready s (fr ∷ m) → Stands placed s → Begins (a s).boxes.rows R → a s ≡ b s
 
   nothing : {fr : Frame} {m : Map} → Agrees fr m [] none none
   nothing {fr} {m} = record { served = mk.nothing sources has; grows = stays; same = λ s r t g. refl }
@@ -132,7 +132,7 @@ module _ (known sources : Sources) (has : List ℕ → Bool) (S : List SharedBox
   said {fr} {m} {ls} {a} {b} {c} e h = subst (λ z. Agrees fr m ls z b) (sym e) h
 
   asked : {fr : Frame} {m : Map} (kind : QuantKind) (x : Query) (lay like : Boxes → Laid) → is_F kind ≡ false → ((s : Boxes) → Ready s (fr ∷ m) → k.Made sources has (of_query x) (fr ∷ m) s (like s)) → Grown lay
-      → ((s : Boxes) → Ready s (fr ∷ m) → Stands S s → Begins (lay s).boxes.rows R → lay s ≡ like s) → Agrees fr m (sub fr kind x ∷ []) (over kind lay) (over kind like)
+      → ((s : Boxes) → Ready s (fr ∷ m) → Stands placed s → Begins (lay s).boxes.rows R → lay s ≡ like s) → Agrees fr m (sub fr kind x ∷ []) (over kind lay) (over kind like)
   asked {fr} {m} kind x lay like e h grown f = record {
     served = mk.asked sources has kind x like e h;
     grows = grown-over kind grown;
@@ -141,7 +141,7 @@ module _ (known sources : Sources) (has : List ℕ → Bool) (S : List SharedBox
 
   -- ---- boxes
 
-  select-same : (distinct : Bool) (from : Froms) (by : Test) (heads : Frame → List Leaf) (list : Sources → Frame → Slots → List Term) (m : Map) (fs : List OwnedQuant) (c : Drawn) → Stands S c.boxes → Begins c.boxes.rows R
+  select-same : (distinct : Bool) (from : Froms) (by : Test) (heads : Frame → List Leaf) (list : Sources → Frame → Slots → List Term) (m : Map) (fs : List OwnedQuant) (c : Drawn) → Stands placed c.boxes → Begins c.boxes.rows R
       → UnderIn c.boxes.quant (w.frame_all sources from fs) → Under c.boxes.quant m → SlotsUnder c.boxes.quant (w.slots_of (w.all_leaves sources from by heads fs) c.quants)
       → (let slots = w.slots_of (w.all_leaves sources from by heads fs) c.quants in list (at c.boxes) (w.frame_all sources from fs) slots ≡ list sources (w.frame_all sources from fs) slots)
       → y.select_box known at distinct from by heads list m fs c ≡ y.select_box sources same distinct from by heads list m fs c
@@ -154,8 +154,8 @@ module _ (known sources : Sources) (has : List ℕ → Bool) (S : List SharedBox
 
   -- a select over a FROM whose quantifiers are the same
   selected : (distinct : Bool) (from : Froms) (by : Test) (heads : Frame → List Leaf) (list : Sources → Frame → Slots → List Term) (m : Map) (s : Boxes) (ls : List Leaf) (f d : Drawn) (step : List OwnedQuant → Step) (like : Step)
-      → Ready s m → Stands S s → f ≡ d → mk.MadeFroms sources has from m s d → Agrees (w.frame_all sources from d.quants) m ls (step d.quants) like → Begins (step f.quants f.boxes).boxes.rows R
-      → ((c : Drawn) → Stands S c.boxes → Begins c.boxes.rows R → UnderIn c.boxes.quant (w.frame_all sources from d.quants) → Under c.boxes.quant m → (slots : Slots) → SlotsUnder c.boxes.quant slots
+      → Ready s m → Stands placed s → f ≡ d → mk.MadeFroms sources has from m s d → Agrees (w.frame_all sources from d.quants) m ls (step d.quants) like → Begins (step f.quants f.boxes).boxes.rows R
+      → ((c : Drawn) → Stands placed c.boxes → Begins c.boxes.rows R → UnderIn c.boxes.quant (w.frame_all sources from d.quants) → Under c.boxes.quant m → (slots : Slots) → SlotsUnder c.boxes.quant slots
       → list (at c.boxes) (w.frame_all sources from d.quants) slots ≡ list sources (w.frame_all sources from d.quants) slots)
       → y.select_box known at distinct from by heads list m f.quants (step f.quants f.boxes) ≡ y.select_box sources same distinct from by heads list m d.quants (like d.boxes)
   selected distinct from by heads list m s ls f d step like r t e a agrees g items =
@@ -189,17 +189,17 @@ module _ (known sources : Sources) (has : List ℕ → Bool) (S : List SharedBox
         subst (λ (l : Laid). Begins (ranging l.top (ranging (xx s).top l.boxes)).rows R) i (subst (λ (l : Laid). Begins (ranging (z l.boxes).top (ranging l.top (z l.boxes).boxes)).rows R) e g),
       )
 
-  stands-ranging : (b : ℕ) (s : Boxes) → Stands S s → Stands S (ranging b s)
+  stands-ranging : (b : ℕ) (s : Boxes) → Stands placed s → Stands placed (ranging b s)
   stands-ranging b s t = stands-keeps s (ranging b s) (mk.keeps-ranging sources has b s) t
 
-  two-last : (form : forms.SetOperator) (n : ℕ) (a b : Laid) → Stands S b.boxes → Begins (ranging b.top (ranging a.top b.boxes)).rows R
+  two-last : (form : forms.SetOperator) (n : ℕ) (a b : Laid) → Stands placed b.boxes → Begins (ranging b.top (ranging a.top b.boxes)).rows R
       → y.two_box known at form n (λ s. b) a ≡ y.two_box sources same form n (λ s. b) a
   two-last form n a b t g =
       let c = ranging b.top (ranging a.top b.boxes) in
       ap (λ ts. put (SetOp form ts) false [] [] (pair_of b.boxes.quant a.top b.top) c)
       (agree-all c (stands-ranging b.top (ranging a.top b.boxes) (stands-ranging a.top b.boxes t)) g (columns_of b.boxes.quant 1 n) (columns-under c.quant b.boxes.quant 1 n (omega arith)))
 
-  outer-last : (x : From) (n : ℕ) (on : Test) (m : Map) (a b : Laid) → Stands S b.boxes → Under b.boxes.quant m → Begins (ranging b.top (ranging a.top b.boxes)).rows R
+  outer-last : (x : From) (n : ℕ) (on : Test) (m : Map) (a b : Laid) → Stands placed b.boxes → Under b.boxes.quant m → Begins (ranging b.top (ranging a.top b.boxes)).rows R
       → y.outer_box known at x n on m (λ s. b) a ≡ y.outer_box sources same x n on m (λ s. b) a
   outer-last x n on m a b t v g =
       let c = ranging b.top (ranging a.top b.boxes) in
@@ -211,7 +211,7 @@ module _ (known sources : Sources) (has : List ℕ → Bool) (S : List SharedBox
       ∙ ap (λ p. put OuterJoin false (split p) (map ref_term fr) (pair_of b.boxes.quant a.top b.top) c)
       (cond-same (at c) sources c.quant stands.counted.some (agree c stands g) fr m u (under-more b.boxes.quant c.quant m (omega arith) v) no_slots (no_slots-under c.quant) on)
 
-  upper-last : (distinct : Bool) (list : Values) (places : List ℕ) (n : ℕ) (having : Test) (m : Map) (u : ℕ) (over : ℕ) (a : ℕ) (c : Drawn) → Stands S c.boxes → Under c.boxes.quant m → u < c.boxes.quant → Rising a c.boxes.quant c.quants → Begins c.boxes.rows R
+  upper-last : (distinct : Bool) (list : Values) (places : List ℕ) (n : ℕ) (having : Test) (m : Map) (u : ℕ) (over : ℕ) (a : ℕ) (c : Drawn) → Stands placed c.boxes → Under c.boxes.quant m → u < c.boxes.quant → Rising a c.boxes.quant c.quants → Begins c.boxes.rows R
       → y.upper_box known at distinct list places n having m u over c ≡ y.upper_box sources same distinct list places n having m u over c
   upper-last distinct list places n having m u over a c t v low rising g =
       let fr = key_frame u places 0 n in
@@ -232,10 +232,65 @@ module _ (known sources : Sources) (has : List ℕ → Bool) (S : List SharedBox
       let rows = y.select_box sources same false from by (λ fr. []) (λ sources. rows_list sources places ks) m d.quants c in
       (mk.groups-made sources has from by places ks ks m s rows refl u (mk.rows-made sources has from by places ks ks m s d c refl u plain.plain made subs)).keeps
 
+  sets-same : (x z : Query) (form : forms.SetOperator) (n : ℕ) (m : Map) (s : Boxes) → b.Buildable sources has x → b.Buildable sources has z → Ready s m → Stands placed s → (Begins (y.lay known at x m s).boxes.rows R → y.lay known at x m s ≡ y.lay sources same x m s)
+      → ((a : Boxes) → Ready a m → Stands placed a → Begins (y.lay known at z m a).boxes.rows R → y.lay known at z m a ≡ y.lay sources same z m a)
+      → Begins (y.two_box known at form n (y.lay known at z m) (y.lay known at x m s)).boxes.rows R → y.two_box known at form n (y.lay known at z m) (y.lay known at x m s) ≡ y.two_box sources same form n (y.lay sources same z m) (y.lay sources same x m s)
+  sets-same x z form n m s h i r t first second g =
+      let a = y.lay sources same x m s in
+      let b = y.lay sources same z m a.boxes in
+      let one = laid sources has x m s h r in
+      let ready = mk.ready-keeps sources has s a.boxes m r one.keeps in
+      let stands = stands-keeps s a.boxes one.keeps t in
+      let two = laid sources has z m a.boxes i ready in
+      let both = pair-same (y.lay known at x m) (y.lay known at z m) (y.lay sources same x m) (y.lay sources same z m) s (lay-grows known at z m) first (second a.boxes ready stands)
+          (λ a b. y.two_box known at form n (λ s. b) a) g in
+      both.0 ∙ two-last form n a b (stands-keeps a.boxes b.boxes two.keeps stands) both.1
+
+  outers-same : (x z : From) (n : ℕ) (on : Test) (m : Map) (s : Boxes) → b.FitFrom sources has x → b.FitFrom sources has z → Ready s m → Stands placed s → (Begins (y.lay_operand known at x m s).boxes.rows R → y.lay_operand known at x m s ≡ y.lay_operand sources same x m s)
+      → ((a : Boxes) → Ready a m → Stands placed a → Begins (y.lay_operand known at z m a).boxes.rows R → y.lay_operand known at z m a ≡ y.lay_operand sources same z m a)
+      → Begins (y.outer_box known at x n on m (y.lay_operand known at z m) (y.lay_operand known at x m s)).boxes.rows R
+      → y.outer_box known at x n on m (y.lay_operand known at z m) (y.lay_operand known at x m s) ≡ y.outer_box sources same x n on m (y.lay_operand sources same z m) (y.lay_operand sources same x m s)
+  outers-same x z n on m s h i r t first second g =
+      let a = y.lay_operand sources same x m s in
+      let b = y.lay_operand sources same z m a.boxes in
+      let one = operand-laid sources has x m s h r in
+      let ready = mk.ready-keeps sources has s a.boxes m r one.keeps in
+      let stands = stands-keeps s a.boxes one.keeps t in
+      let two = operand-laid sources has z m a.boxes i ready in
+      let both = pair-same (y.lay_operand known at x m) (y.lay_operand known at z m) (y.lay_operand sources same x m) (y.lay_operand sources same z m) s (operand-grows known at z m) first (second a.boxes ready stands)
+          (λ a b. y.outer_box known at x n on m (λ s. b) a) g in
+      both.0 ∙ outer-last x n on m a b (stands-keeps a.boxes b.boxes two.keeps stands) (under-more a.boxes.quant b.boxes.quant m two.keeps.quants ready.under) both.1
+
+  turn-same : (x z : From) (m : Map) (s : Boxes) → b.FitFrom sources has x → b.FitFrom sources has z → Ready s m → Stands placed s → (Begins (y.lay_from known at m x s).boxes.rows R → y.lay_from known at m x s ≡ y.lay_from sources same m x s)
+      → ((a : Boxes) → Ready a m → Stands placed a → Begins (y.lay_from known at m z a).boxes.rows R → y.lay_from known at m z a ≡ y.lay_from sources same m z a) → Begins (in_turn (y.lay_from known at m x) (y.lay_from known at m z) s).boxes.rows R
+      → in_turn (y.lay_from known at m x) (y.lay_from known at m z) s ≡ in_turn (y.lay_from sources same m x) (y.lay_from sources same m z) s
+  turn-same x z m s h i r t first second g =
+      let one = y.lay_from known at m x in
+      let two = y.lay_from known at m z in
+      let a = y.lay_from sources same m x s in
+      let made = from-laid sources has m x s h r in
+      let e = first (begins-trans ((from-grows known at m z).at (one s).boxes) g) in
+      let f = second a.boxes (mk.ready-keeps sources has s a.boxes m r made.keeps) (stands-keeps s a.boxes made.keeps t) (subst (λ (d : Drawn). Begins (two d.boxes).boxes.rows R) e g) in
+      ap (λ (d : Drawn). record { boxes = (two d.boxes).boxes; quants = d.quants ++ (two d.boxes).quants }) e ∙ ap (λ (d : Drawn). record { boxes = d.boxes; quants = a.quants ++ d.quants }) f
+
+  crossed-agrees : (x z : From) (m : Map) (os : List OwnedQuant) {a b c d : Step} → Agrees (w.frame sources x os) m (w.on_leaves sources x os) a b → Agrees (w.frame sources z (w.past sources x os)) m (w.on_leaves sources z (w.past sources x os)) c d
+      → Agrees (w.frame sources (q.crossed x z) os) m (w.on_leaves sources (q.crossed x z) os) (in_turn a c) (in_turn b d)
+  crossed-agrees x z m os h k =
+      let past = w.past sources x os in
+      both (within (λ n u. under_in-left n (w.frame sources x os) (w.frame sources z past) u) h) (within (λ n u. under_in-right n (w.frame sources x os) (w.frame sources z past) u) k)
+
+  joined-agrees : (x z : From) (p : Test) (m : Map) (os : List OwnedQuant) {a b c d e f : Step} → Agrees (w.frame sources x os) m (w.on_leaves sources x os) a b
+      → Agrees (w.frame sources z (w.past sources x os)) m (w.on_leaves sources z (w.past sources x os)) c d
+      → Agrees (w.frame sources (q.joined x z p) os) m (test_leaves (w.frame sources (q.joined x z p) os) p) e f
+      → Agrees (w.frame sources (q.joined x z p) os) m (w.on_leaves sources (q.joined x z p) os) (in_turn a (in_turn c e)) (in_turn b (in_turn d f))
+  joined-agrees x z p m os h k j =
+      let past = w.past sources x os in
+      both (within (λ n u. under_in-left n (w.frame sources x os) (w.frame sources z past) u) h) (both (within (λ n u. under_in-right n (w.frame sources x os) (w.frame sources z past) u) k) j)
+
   -- ---- the making
 
   mutual
-    pub lay-same : (x : Query) (m : Map) (s : Boxes) → b.Buildable sources has x → Ready s m → Stands S s → Begins (y.lay known at x m s).boxes.rows R → y.lay known at x m s ≡ y.lay sources same x m s
+    pub lay-same : (x : Query) (m : Map) (s : Boxes) → b.Buildable sources has x → Ready s m → Stands placed s → Begins (y.lay known at x m s).boxes.rows R → y.lay known at x m s ≡ y.lay sources same x m s
     lay-same (q.block distinct list from by) m s h r t g =
         let f = y.lay_froms known at m from s in
         let d = y.lay_froms sources same m from s in
@@ -287,37 +342,10 @@ module _ (known sources : Sources) (has : List ℕ → Bool) (S : List SharedBox
         ∙ upper-last distinct list (key_places places) n having m two.boxes.quant two.top base.quant c (stands-keeps base c.boxes subs.keeps stands)
         (under-more s.quant c.boxes.quant m (mk.keeps-trans sources has s base c.boxes keeps subs.keeps).quants r.under)
         (let low : suc two.boxes.quant ≤ c.boxes.quant = subs.keeps.quants in omega arith) subs.rising (subst (λ (x : Drawn). Begins x.boxes.rows R) steps g_two)
-    lay-same (q.combine x op all n z) m s h r t g = sets-same x z (w.form_of op all) n m s h.0 h.1 r t g
-    lay-same (q.intersect x all n z) m s h r t g = sets-same x z (w.common_form all) n m s h.0 h.1 r t g
+    lay-same (q.combine x op all n z) m s h r t g = sets-same x z (w.form_of op all) n m s h.0 h.1 r t (λ b. lay-same x m s h.0 r t b) (λ a ready stands b. lay-same z m a h.1 ready stands b) g
+    lay-same (q.intersect x all n z) m s h r t g = sets-same x z (w.common_form all) n m s h.0 h.1 r t (λ b. lay-same x m s h.0 r t b) (λ a ready stands b. lay-same z m a h.1 ready stands b) g
 
-    sets-same : (x z : Query) (form : forms.SetOperator) (n : ℕ) (m : Map) (s : Boxes) → b.Buildable sources has x → b.Buildable sources has z → Ready s m → Stands S s
-        → Begins (y.two_box known at form n (y.lay known at z m) (y.lay known at x m s)).boxes.rows R → y.two_box known at form n (y.lay known at z m) (y.lay known at x m s) ≡ y.two_box sources same form n (y.lay sources same z m) (y.lay sources same x m s)
-    sets-same x z form n m s h i r t g =
-        let a = y.lay sources same x m s in
-        let b = y.lay sources same z m a.boxes in
-        let one = laid sources has x m s h r in
-        let ready = mk.ready-keeps sources has s a.boxes m r one.keeps in
-        let stands = stands-keeps s a.boxes one.keeps t in
-        let two = laid sources has z m a.boxes i ready in
-        let both = pair-same (y.lay known at x m) (y.lay known at z m) (y.lay sources same x m) (y.lay sources same z m) s (lay-grows known at z m) (lay-same x m s h r t) (lay-same z m a.boxes i ready stands)
-            (λ a b. y.two_box known at form n (λ s. b) a) g in
-        both.0 ∙ two-last form n a b (stands-keeps a.boxes b.boxes two.keeps stands) both.1
-
-    outers-same : (x z : From) (n : ℕ) (on : Test) (m : Map) (s : Boxes) → b.FitFrom sources has x → b.FitFrom sources has z → Ready s m → Stands S s
-        → Begins (y.outer_box known at x n on m (y.lay_operand known at z m) (y.lay_operand known at x m s)).boxes.rows R
-        → y.outer_box known at x n on m (y.lay_operand known at z m) (y.lay_operand known at x m s) ≡ y.outer_box sources same x n on m (y.lay_operand sources same z m) (y.lay_operand sources same x m s)
-    outers-same x z n on m s h i r t g =
-        let a = y.lay_operand sources same x m s in
-        let b = y.lay_operand sources same z m a.boxes in
-        let one = operand-laid sources has x m s h r in
-        let ready = mk.ready-keeps sources has s a.boxes m r one.keeps in
-        let stands = stands-keeps s a.boxes one.keeps t in
-        let two = operand-laid sources has z m a.boxes i ready in
-        let both = pair-same (y.lay_operand known at x m) (y.lay_operand known at z m) (y.lay_operand sources same x m) (y.lay_operand sources same z m) s (operand-grows known at z m) (operand-same x m s h r t) (operand-same z m a.boxes i ready stands)
-            (λ a b. y.outer_box known at x n on m (λ s. b) a) g in
-        both.0 ∙ outer-last x n on m a b (stands-keeps a.boxes b.boxes two.keeps stands) (under-more a.boxes.quant b.boxes.quant m two.keeps.quants ready.under) both.1
-
-    pub operand-same : (x : From) (m : Map) (s : Boxes) → b.FitFrom sources has x → Ready s m → Stands S s → Begins (y.lay_operand known at x m s).boxes.rows R → y.lay_operand known at x m s ≡ y.lay_operand sources same x m s
+    pub operand-same : (x : From) (m : Map) (s : Boxes) → b.FitFrom sources has x → Ready s m → Stands placed s → Begins (y.lay_operand known at x m s).boxes.rows R → y.lay_operand known at x m s ≡ y.lay_operand sources same x m s
     operand-same (q.named name) m s h r t g = ap (λ j. record { boxes = s; top = j }) (number-same name s h t)
     operand-same (q.derived query) m s h r t g = lay-same query m s h r t g
     operand-same (q.crossed x z) m s h r t g =
@@ -325,9 +353,9 @@ module _ (known sources : Sources) (has : List ℕ → Bool) (S : List SharedBox
         let f = in_turn (y.lay_from known at m x) (y.lay_from known at m z) s in
         let d = in_turn (y.lay_from sources same m x) (y.lay_from sources same m z) s in
         let step : List OwnedQuant → Step = λ os. in_turn (y.on_subs known at m x os) (y.on_subs known at m z (w.past known x os)) in
-        let e = from-same m (q.crossed x z) s h r t (begins-trans ((turn (on-grows known at m x f.quants) (on-grows known at m z (w.past known x f.quants))).at f.boxes) g) in
+        let e = turn-same x z m s h.0 h.1 r t (λ b. from-same m x s h.0 r t b) (λ a ready stands b. from-same m z a h.1 ready stands b) (begins-trans ((turn (on-grows known at m x f.quants) (on-grows known at m z (w.past known x f.quants))).at f.boxes) g) in
         selected false froms (q.all q.no_test) (λ fr. []) (λ sources fr s. map ref_term fr) m s _ f d step (in_turn (y.on_subs sources same m x d.quants) (y.on_subs sources same m z (w.past sources x d.quants))) r t e
-        (mk.froms-alone sources has (q.crossed x z) m s d (from-laid sources has m (q.crossed x z) s h r)) (within (λ n u. under_in-left n (w.frame sources (q.crossed x z) d.quants) [] u) (on-agrees m (q.crossed x z) d.quants h)) g
+        (mk.froms-alone sources has (q.crossed x z) m s d (from-laid sources has m (q.crossed x z) s h r)) (within (λ n u. under_in-left n (w.frame sources (q.crossed x z) d.quants) [] u) (crossed-agrees x z m d.quants (on-agrees m x d.quants h.0) (said (ap (y.on_subs known at m z) (past-same known sources counts x d.quants)) (on-agrees m z (w.past sources x d.quants) h.1)))) g
         (λ c t b u v slots low. refl)
     operand-same (q.joined x z p) m s h r t g =
         let froms = q.one_from (q.joined x z p) q.no_from in
@@ -335,36 +363,26 @@ module _ (known sources : Sources) (has : List ℕ → Bool) (S : List SharedBox
         let d = in_turn (y.lay_from sources same m x) (y.lay_from sources same m z) s in
         let frame : List OwnedQuant → Frame = λ os. w.frame known x os ++ w.frame known z (w.past known x os) in
         let step : List OwnedQuant → Step = λ os. in_turn (y.on_subs known at m x os) (in_turn (y.on_subs known at m z (w.past known x os)) (y.test_subs known at m (frame os) p)) in
-        let e = from-same m (q.joined x z p) s h r t (begins-trans ((turn (on-grows known at m x f.quants) (turn (on-grows known at m z (w.past known x f.quants)) (test-grow known at m (frame f.quants) p))).at f.boxes) g) in
+        let e = turn-same x z m s h.0 h.1 r t (λ b. from-same m x s h.0 r t b) (λ a ready stands b. from-same m z a h.1 ready stands b) (begins-trans ((turn (on-grows known at m x f.quants) (turn (on-grows known at m z (w.past known x f.quants)) (test-grow known at m (frame f.quants) p))).at f.boxes) g) in
         selected false froms (q.all q.no_test) (λ fr. []) (λ sources fr s. map ref_term fr) m s _ f d step
         (in_turn (y.on_subs sources same m x d.quants) (in_turn (y.on_subs sources same m z (w.past sources x d.quants)) (y.test_subs sources same m (w.frame sources x d.quants ++ w.frame sources z (w.past sources x d.quants)) p))) r t e
-        (mk.froms-alone sources has (q.joined x z p) m s d (from-laid sources has m (q.joined x z p) s h r)) (within (λ n u. under_in-left n (w.frame sources (q.joined x z p) d.quants) [] u) (on-agrees m (q.joined x z p) d.quants h)) g
+        (mk.froms-alone sources has (q.joined x z p) m s d (from-laid sources has m (q.joined x z p) s h r)) (within (λ n u. under_in-left n (w.frame sources (q.joined x z p) d.quants) [] u) (joined-agrees x z p m d.quants (on-agrees m x d.quants h.0) (said (ap (y.on_subs known at m z) (past-same known sources counts x d.quants)) (on-agrees m z (w.past sources x d.quants) h.1))
+        (said (ap (λ fr. y.test_subs known at m fr p) (frame-same known sources counts (q.joined x z p) d.quants)) (test-agrees m (w.frame sources (q.joined x z p) d.quants) p h.2)))) g
         (λ c t b u v slots low. refl)
-    operand-same (q.left_joined x z n p) m s h r t g = outers-same x z n p m s h.0 h.1 r t g
+    operand-same (q.left_joined x z n p) m s h r t g = outers-same x z n p m s h.0 h.1 r t (λ b. operand-same x m s h.0 r t b) (λ a ready stands b. operand-same z m a h.1 ready stands b) g
 
-    pub from-same : (m : Map) (x : From) (s : Boxes) → b.FitFrom sources has x → Ready s m → Stands S s → Begins (y.lay_from known at m x s).boxes.rows R → y.lay_from known at m x s ≡ y.lay_from sources same m x s
+    pub from-same : (m : Map) (x : From) (s : Boxes) → b.FitFrom sources has x → Ready s m → Stands placed s → Begins (y.lay_from known at m x s).boxes.rows R → y.lay_from known at m x s ≡ y.lay_from sources same m x s
     from-same m (q.named name) s h r t g = ap (λ j. drawn F (record { boxes = s; top = j })) (number-same name s h t)
     from-same m (q.derived query) s h r t g =
         let a = y.lay known at query m s in
         ap (drawn F) (lay-same query m s h r t (begins-trans (ranged a.top a.boxes) g))
-    from-same m (q.crossed x z) s h r t g = turn-same x z m s h.0 h.1 r t g
-    from-same m (q.joined x z p) s h r t g = turn-same x z m s h.0 h.1 r t g
+    from-same m (q.crossed x z) s h r t g = turn-same x z m s h.0 h.1 r t (λ b. from-same m x s h.0 r t b) (λ a ready stands b. from-same m z a h.1 ready stands b) g
+    from-same m (q.joined x z p) s h r t g = turn-same x z m s h.0 h.1 r t (λ b. from-same m x s h.0 r t b) (λ a ready stands b. from-same m z a h.1 ready stands b) g
     from-same m (q.left_joined x z n p) s h r t g =
         let a = y.outer_box known at x n p m (y.lay_operand known at z m) (y.lay_operand known at x m s) in
-        ap (drawn F) (outers-same x z n p m s h.0 h.1 r t (begins-trans (ranged a.top a.boxes) g))
+        ap (drawn F) (outers-same x z n p m s h.0 h.1 r t (λ b. operand-same x m s h.0 r t b) (λ a ready stands b. operand-same z m a h.1 ready stands b) (begins-trans (ranged a.top a.boxes) g))
 
-    turn-same : (x z : From) (m : Map) (s : Boxes) → b.FitFrom sources has x → b.FitFrom sources has z → Ready s m → Stands S s → Begins (in_turn (y.lay_from known at m x) (y.lay_from known at m z) s).boxes.rows R
-        → in_turn (y.lay_from known at m x) (y.lay_from known at m z) s ≡ in_turn (y.lay_from sources same m x) (y.lay_from sources same m z) s
-    turn-same x z m s h i r t g =
-        let one = y.lay_from known at m x in
-        let two = y.lay_from known at m z in
-        let a = y.lay_from sources same m x s in
-        let made = from-laid sources has m x s h r in
-        let e = from-same m x s h r t (begins-trans ((from-grows known at m z).at (one s).boxes) g) in
-        let f = from-same m z a.boxes i (mk.ready-keeps sources has s a.boxes m r made.keeps) (stands-keeps s a.boxes made.keeps t) (subst (λ (d : Drawn). Begins (two d.boxes).boxes.rows R) e g) in
-        ap (λ (d : Drawn). record { boxes = (two d.boxes).boxes; quants = d.quants ++ (two d.boxes).quants }) e ∙ ap (λ (d : Drawn). record { boxes = d.boxes; quants = a.quants ++ d.quants }) f
-
-    pub froms-same : (m : Map) (xs : Froms) (s : Boxes) → b.FitFroms sources has xs → Ready s m → Stands S s → Begins (y.lay_froms known at m xs s).boxes.rows R → y.lay_froms known at m xs s ≡ y.lay_froms sources same m xs s
+    pub froms-same : (m : Map) (xs : Froms) (s : Boxes) → b.FitFroms sources has xs → Ready s m → Stands placed s → Begins (y.lay_froms known at m xs s).boxes.rows R → y.lay_froms known at m xs s ≡ y.lay_froms sources same m xs s
     froms-same m q.no_from s h r t g = refl
     froms-same m (q.one_from x xs) s h r t g =
         let one = y.lay_from known at m x in
@@ -378,15 +396,10 @@ module _ (known sources : Sources) (has : List ℕ → Bool) (S : List SharedBox
     on-agrees : (m : Map) (x : From) (os : List OwnedQuant) → b.FitFrom sources has x → Agrees (w.frame sources x os) m (w.on_leaves sources x os) (y.on_subs known at m x os) (y.on_subs sources same m x os)
     on-agrees m (q.named name) os h = nothing
     on-agrees m (q.derived query) os h = nothing
-    on-agrees m (q.crossed x z) os h =
-        let past = w.past sources x os in
-        both (within (λ n u. under_in-left n (w.frame sources x os) (w.frame sources z past) u) (on-agrees m x os h.0))
-        (said (ap (y.on_subs known at m z) (past-same known sources counts x os)) (within (λ n u. under_in-right n (w.frame sources x os) (w.frame sources z past) u) (on-agrees m z past h.1)))
+    on-agrees m (q.crossed x z) os h = crossed-agrees x z m os (on-agrees m x os h.0) (said (ap (y.on_subs known at m z) (past-same known sources counts x os)) (on-agrees m z (w.past sources x os) h.1))
     on-agrees m (q.joined x z p) os h =
-        let past = w.past sources x os in
-        both (within (λ n u. under_in-left n (w.frame sources x os) (w.frame sources z past) u) (on-agrees m x os h.0))
-        (both (said (ap (y.on_subs known at m z) (past-same known sources counts x os)) (within (λ n u. under_in-right n (w.frame sources x os) (w.frame sources z past) u) (on-agrees m z past h.1)))
-        (said (ap (λ fr. y.test_subs known at m fr p) (frame-same known sources counts (q.joined x z p) os)) (test-agrees m (w.frame sources (q.joined x z p) os) p h.2)))
+        joined-agrees x z p m os (on-agrees m x os h.0) (said (ap (y.on_subs known at m z) (past-same known sources counts x os)) (on-agrees m z (w.past sources x os) h.1))
+        (said (ap (λ fr. y.test_subs known at m fr p) (frame-same known sources counts (q.joined x z p) os)) (test-agrees m (w.frame sources (q.joined x z p) os) p h.2))
     on-agrees m (q.left_joined x z n p) os h = nothing
 
     all-on-agrees : (m : Map) (xs : Froms) (os : List OwnedQuant) → b.FitFroms sources has xs → Agrees (w.frame_all sources xs os) m (w.all_on_leaves sources xs os) (y.all_on_subs known at m xs os) (y.all_on_subs sources same m xs os)

@@ -18,6 +18,9 @@ abbrev if_untyped : Value → SqlType → SqlType → SqlType
 if_untyped x a b = cond (l.is_untyped x) a b
 
 module _ (one other : Sources) (n : ℕ) (some : 0 < n) (agree : (x : Term) → TypedUnder n x → one.typed x ≡ other.typed x) (fr : Frame) (m : Map) (u : UnderIn n fr) (v : Under n m) where
+  typed-of : (s : Slots) → SlotsUnder n s → (x : Value) → l.term one fr m s x ≡ l.term other fr m s x → one.typed (l.term one fr m s x) ≡ other.typed (l.term other fr m s x)
+  typed-of s h x e = ap one.typed e ∙ agree (l.term other fr m s x) (term-under other n some fr m u v s h x)
+
   mutual
     pub term-same : (s : Slots) → SlotsUnder n s → (x : Value) → l.term one fr m s x ≡ l.term other fr m s x
     term-same s h (q.number k) = refl
@@ -31,7 +34,7 @@ module _ (one other : Sources) (n : ℕ) (some : 0 < n) (agree : (x : Term) → 
         let end = after (arm_leaves fr xs) s in
         let under = after-under n (arm_leaves fr xs) s h in
         let e = term-same end under last in
-        let type = ap (l.arms_type one fr m s xs) (typed-same end under last) ∙ arms_type-same s h xs (other.typed (l.term other fr m end last)) in
+        let type = ap (l.arms_type one fr m s xs) (typed-of end under last e) ∙ arms_type-same s h xs (other.typed (l.term other fr m end last)) in
         let to : SqlType = l.arms_type other fr m s xs (other.typed (l.term other fr m end last)) in
         ap₂ t.choose (ap (λ z. l.arms one fr m z s xs) type ∙ arms-same to s h xs) (ap₂ (λ z x. l.result_as z last x) type e)
     term-same s h (q.simple x xs last) =
@@ -40,20 +43,17 @@ module _ (one other : Sources) (n : ℕ) (some : 0 < n) (agree : (x : Term) → 
         let end = after (choice_leaves fr xs) mid in
         let under = after-under n (choice_leaves fr xs) mid low in
         let e = term-same end under last in
-        let type = ap (l.choices_type one fr m mid xs) (typed-same end under last) ∙ choices_type-same mid low xs (other.typed (l.term other fr m end last)) in
+        let type = ap (l.choices_type one fr m mid xs) (typed-of end under last e) ∙ choices_type-same mid low xs (other.typed (l.term other fr m end last)) in
         let to : SqlType = l.choices_type other fr m mid xs (other.typed (l.term other fr m end last)) in
         ap₂ t.choose (ap₂ (λ z y. l.choices one fr m z mid y xs) type (term-same s h x) ∙ choices-same to mid low (l.term other fr m s x) xs) (ap₂ (λ z x. l.result_as z last x) type e)
     term-same s h (q.coalesce x xs) = ap (λ z. l.coalesced one fr m (after (leaves fr x) s) z xs) (term-same s h x) ∙ coalesced-same (after (leaves fr x) s) (after-under n (leaves fr x) s h) (l.term other fr m s x) xs
     term-same s h (q.null_if x y) =
         let e = term-same s h x in
-        ap₂ (λ p z. l.case p z (l.term one fr m s x)) (ap₂ (t.compare t.equal) e (term-same (after (leaves fr x) s) (after-under n (leaves fr x) s h) y)) (ap l.null_as (typed-same s h x))
+        ap₂ (λ p z. l.case p z (l.term one fr m s x)) (ap₂ (t.compare t.equal) e (term-same (after (leaves fr x) s) (after-under n (leaves fr x) s h) y)) (ap l.null_as (typed-of s h x e))
         ∙ ap (l.case (t.compare t.equal (l.term other fr m s x) (l.term other fr m (after (leaves fr x) s) y)) (l.null_as (other.typed (l.term other fr m s x)))) e
     term-same s h (q.scalar query) = refl
     term-same s h q.count_all = refl
     term-same s h (q.aggregate f distinct x) = refl
-
-    typed-same : (s : Slots) → SlotsUnder n s → (x : Value) → one.typed (l.term one fr m s x) ≡ other.typed (l.term other fr m s x)
-    typed-same s h x = ap one.typed (term-same s h x) ∙ agree (l.term other fr m s x) (term-under other n some fr m u v s h x)
 
     summed-same : (s : Slots) → SlotsUnder n s → (x : Term) (xs : Addends) → l.summed one fr m s x xs ≡ l.summed other fr m s x xs
     summed-same s h x q.no_addend = refl
@@ -72,14 +72,14 @@ module _ (one other : Sources) (n : ℕ) (some : 0 < n) (agree : (x : Term) → 
     arms_type-same s h (q.one_arm p x xs) type =
         let mid = after (test_leaves fr p) s in
         let low = after-under n (test_leaves fr p) s h in
-        ap₂ (λ a b. if_untyped x a b) (arms_type-same (after (leaves fr x) mid) (after-under n (leaves fr x) mid low) xs type) (typed-same mid low x)
+        ap₂ (λ a b. if_untyped x a b) (arms_type-same (after (leaves fr x) mid) (after-under n (leaves fr x) mid low) xs type) (typed-of mid low x (term-same mid low x))
 
     choices_type-same : (s : Slots) → SlotsUnder n s → (xs : Choices) (type : SqlType) → l.choices_type one fr m s xs type ≡ l.choices_type other fr m s xs type
     choices_type-same s h q.no_choice type = refl
     choices_type-same s h (q.one_choice y z xs) type =
         let mid = after (leaves fr y) s in
         let low = after-under n (leaves fr y) s h in
-        ap₂ (λ a b. if_untyped z a b) (choices_type-same (after (leaves fr z) mid) (after-under n (leaves fr z) mid low) xs type) (typed-same mid low z)
+        ap₂ (λ a b. if_untyped z a b) (choices_type-same (after (leaves fr z) mid) (after-under n (leaves fr z) mid low) xs type) (typed-of mid low z (term-same mid low z))
 
     arms-same : (type : SqlType) (s : Slots) → SlotsUnder n s → (xs : Arms) → l.arms one fr m type s xs ≡ l.arms other fr m type s xs
     arms-same type s h q.no_arm = refl

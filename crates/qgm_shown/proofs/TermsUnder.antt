@@ -190,7 +190,7 @@ fold_terms-under n q j (sub f kind x ∷ ls) h = fold_terms-under n q j ls h
 fold_terms-under n q j (fold f d x ∷ ls) h = (h, fold_terms-under n q (suc j) ls h)
 fold_terms-under n q j (count ∷ ls) h = (tt, fold_terms-under n q j ls h)
 
-columns-under : (n q j k : ℕ) → q < n → HeadUnder n (columns_of q j k)
+pub columns-under : (n q j k : ℕ) → q < n → HeadUnder n (columns_of q j k)
 columns-under n q j zero h = tt
 columns-under n q j (suc k) h = (h, columns-under n q (suc j) k h)
 
