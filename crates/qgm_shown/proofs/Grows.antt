@@ -1,5 +1,5 @@
--- More types of quantifiers are known after each step.
-use Rattle.std.proofs.Common.{ℕ, false, List, [], ◌∷◌, ◌++◌, get_or}
+-- More types of quantifiers are known after each step, and the same tables and views were laid.
+use Rattle.std.proofs.Common.{ℕ, refl, false, List, [], ◌∷◌, ◌++◌, get_or}
 use Rattle.sql_value.specs.declared.order_key.SqlType.{SqlType}
 use Rattle.sql_meaning.specs.ResolvedTrees.{Value, Addends, Multipliers, Values, Arms, Choices, Test, Tests, From, Froms, Query}
 use Rattle.sql_meaning.specs.ResolvedTrees as q
@@ -10,37 +10,36 @@ use Rattle.qgm_core.specs.declared.owned.OwnedQuant.{OwnedQuant}
 use Rattle.qgm_shown.specs.Leaves.{every_or_some}
 use Rattle.qgm_shown.specs.Lay.{Boxes, Laid, Drawn, Step, drawn, in_turn, none, over, ranging}
 use Rattle.qgm_shown.specs.Lay as y
-use Rattle.qgm_shown.specs.Lays.{Begins}
 use Rattle.qgm_shown.specs.Maps.{Frame, Map}
 use Rattle.qgm_shown.specs.Shown.{common_form, form_of, key_frame, key_places, rows_list, upper_leaves}
 use Rattle.qgm_shown.specs.Shown as w
 use Rattle.qgm_shown.specs.Sources.{Sources}
-use Rattle.qgm_shown.proofs.Rows.{begins-more, begins-refl, begins-trans}
+use Rattle.qgm_shown.proofs.Rows.{Further, begins-more, further-refl, further-trans}
 
 pub record Grows (step : Step) : Type 0 where
-  pub at : (s : Boxes) → Begins s.rows (step s).boxes.rows
+  pub at : (s : Boxes) → Further s.rows (step s).boxes.rows s.shared (step s).boxes.shared
 
 pub record Grown (lay : Boxes → Laid) : Type 0 where
-  pub at : (s : Boxes) → Begins s.rows (lay s).boxes.rows
+  pub at : (s : Boxes) → Further s.rows (lay s).boxes.rows s.shared (lay s).boxes.shared
 
 pub stays : Grows none
-stays = record { at = λ s. begins-refl s.rows }
+stays = record { at = λ s. further-refl s.rows s.shared }
 
 pub turn : {a b : Step} → Grows a → Grows b → Grows (in_turn a b)
-turn {a} {b} h k = record { at = λ s. begins-trans (h.at s) (k.at (a s).boxes) }
+turn {a} {b} h k = record { at = λ s. further-trans (h.at s) (k.at (a s).boxes) }
 
-pub ranged : (b : ℕ) (s : Boxes) → Begins s.rows (ranging b s).rows
-ranged b s = begins-more s.rows (get_or s.types b [] ∷ [])
+pub ranged : (b : ℕ) (s : Boxes) → Further s.rows (ranging b s).rows s.shared s.shared
+ranged b s = record { rows = begins-more s.rows (get_or s.types b [] ∷ []); shared = refl }
 
 pub grown-over : (kind : QuantKind) {lay : Boxes → Laid} → Grown lay → Grows (over kind lay)
-grown-over kind {lay} h = record { at = λ s. begins-trans (h.at s) (ranged (lay s).top (lay s).boxes) }
+grown-over kind {lay} h = record { at = λ s. further-trans (h.at s) (ranged (lay s).top (lay s).boxes) }
 
 -- two that are laid in turn, and a quantifier over each
-pub two-grow : {x z : Boxes → Laid} → Grown x → Grown z → (s : Boxes) → Begins s.rows (ranging (z (x s).boxes).top (ranging (x s).top (z (x s).boxes).boxes)).rows
+pub two-grow : {x z : Boxes → Laid} → Grown x → Grown z → (s : Boxes) → Further s.rows (ranging (z (x s).boxes).top (ranging (x s).top (z (x s).boxes).boxes)).rows s.shared (z (x s).boxes).boxes.shared
 two-grow {x} {z} h k s =
     let a = x s in
     let b = z a.boxes in
-    begins-trans (begins-trans (h.at s) (k.at a.boxes)) (begins-trans (ranged a.top b.boxes) (ranged b.top (ranging a.top b.boxes)))
+    further-trans (further-trans (h.at s) (k.at a.boxes)) (further-trans (ranged a.top b.boxes) (ranged b.top (ranging a.top b.boxes)))
 
 module _ (known : Sources) (at : Boxes → Sources) where
   mutual
@@ -49,7 +48,7 @@ module _ (known : Sources) (at : Boxes → Sources) where
       at = λ s.
           let f = y.lay_froms known at m from s in
           let fr = w.frame_all known from f.quants in
-          begins-trans ((froms-grow m from).at s) ((turn (list-grow m fr list) (turn (all-on-grow m from f.quants) (test-grow m fr by))).at f.boxes);
+          further-trans ((froms-grow m from).at s) ((turn (list-grow m fr list) (turn (all-on-grow m from f.quants) (test-grow m fr by))).at f.boxes);
     }
     lay-grows (q.grouped distinct list from by places n having) m = record {
       at = λ s.
@@ -60,26 +59,26 @@ module _ (known : Sources) (at : Boxes → Sources) where
           let rows = y.select_box known at false from by (λ fr. []) (λ sources. rows_list sources (key_places places) ls) m f.quants c in
           let groups = y.group_box known at (key_places places) ls rows in
           let up = key_frame groups.boxes.quant (key_places places) 0 n in
-          let lower = begins-trans ((froms-grow m from).at s) ((turn (all-on-grow m from f.quants) (test-grow m fr by)).at f.boxes) in
-          let grouped = begins-trans lower (begins-trans (ranged rows.top rows.boxes) (ranged groups.top groups.boxes)) in
-          begins-trans grouped ((turn (list-grow m up list) (test-grow m up having)).at (drawn F groups).boxes);
+          let lower = further-trans ((froms-grow m from).at s) ((turn (all-on-grow m from f.quants) (test-grow m fr by)).at f.boxes) in
+          let grouped = further-trans lower (further-trans (ranged rows.top rows.boxes) (ranged groups.top groups.boxes)) in
+          further-trans grouped ((turn (list-grow m up list) (test-grow m up having)).at (drawn F groups).boxes);
     }
     lay-grows (q.combine x op all n z) m = record { at = two-grow (lay-grows x m) (lay-grows z m) }
     lay-grows (q.intersect x all n z) m = record { at = two-grow (lay-grows x m) (lay-grows z m) }
 
     pub operand-grows : (x : From) (m : Map) → Grown (y.lay_operand known at x m)
-    operand-grows (q.named name) m = record { at = λ s. begins-refl s.rows }
+    operand-grows (q.named name) m = record { at = λ s. further-refl s.rows s.shared }
     operand-grows (q.derived query) m = record { at = (lay-grows query m).at }
     operand-grows (q.crossed x z) m = record {
       at = λ s.
           let f = in_turn (y.lay_from known at m x) (y.lay_from known at m z) s in
-          begins-trans ((turn (from-grows m x) (from-grows m z)).at s) ((turn (on-grows m x f.quants) (on-grows m z (w.past known x f.quants))).at f.boxes);
+          further-trans ((turn (from-grows m x) (from-grows m z)).at s) ((turn (on-grows m x f.quants) (on-grows m z (w.past known x f.quants))).at f.boxes);
     }
     operand-grows (q.joined x z p) m = record {
       at = λ s.
           let f = in_turn (y.lay_from known at m x) (y.lay_from known at m z) s in
           let fr = w.frame known x f.quants ++ w.frame known z (w.past known x f.quants) in
-          begins-trans ((turn (from-grows m x) (from-grows m z)).at s) ((turn (on-grows m x f.quants) (turn (on-grows m z (w.past known x f.quants)) (test-grow m fr p))).at f.boxes);
+          further-trans ((turn (from-grows m x) (from-grows m z)).at s) ((turn (on-grows m x f.quants) (turn (on-grows m z (w.past known x f.quants)) (test-grow m fr p))).at f.boxes);
     }
     operand-grows (q.left_joined x z n p) m = record { at = two-grow (operand-grows x m) (operand-grows z m) }
 
@@ -91,7 +90,7 @@ module _ (known : Sources) (at : Boxes → Sources) where
     from-grows m (q.left_joined x z n p) = record {
       at = λ s.
           let r = y.outer_box known at x n p m (y.lay_operand known at z m) (y.lay_operand known at x m s) in
-          begins-trans (two-grow (operand-grows x m) (operand-grows z m) s) (ranged r.top r.boxes);
+          further-trans (two-grow (operand-grows x m) (operand-grows z m) s) (ranged r.top r.boxes);
     }
 
     pub froms-grow : (m : Map) (xs : Froms) → Grows (y.lay_froms known at m xs)

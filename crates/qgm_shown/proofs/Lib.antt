@@ -29,5 +29,8 @@ pub mod Made
 pub mod LaidAll
 pub mod Grows
 pub mod Same
+pub mod Reading
 pub mod Start
+pub mod Whole
+pub mod Standing
 pub mod Times

@@ -7,7 +7,7 @@ use Rattle.qgm_core.specs.declared.node.Node.{Node}
 use Rattle.qgm_core.specs.declared.owned.OwnedQuant.{OwnedQuant}
 use Rattle.qgm_terms.specs.Terms.{Term}
 use Rattle.qgm_terms.specs.Terms as t
-use Rattle.qgm_shown.specs.Lay.{Boxes, column_types}
+use Rattle.qgm_shown.specs.Lay.{Boxes, SharedBox, column_types}
 use Rattle.qgm_shown.specs.Lays.{Begins, Counted, EachHasTypes, EachRanges, HasTypes, HeadUnder, Ranges, TypedUnder}
 use Rattle.qgm_shown.specs.Typing.{aggregate_type, column_type, type_at, typed_by}
 
@@ -19,6 +19,17 @@ begins-more xs ys = record { more = ys; is = refl }
 
 pub begins-trans : {xs ys zs : List (List SqlType)} → Begins xs ys → Begins ys zs → Begins xs zs
 begins-trans {xs} {ys} {zs} h k = record { more = h.more ++ k.more; is = k.is ∙ ap (λ z. z ++ k.more) h.is ∙ append_assoc xs h.more k.more }
+
+-- more rows are known, and the same tables and views were laid
+pub record Further (xs ys : List (List SqlType)) (p q : List SharedBox) : Type 0 where
+  pub rows : Begins xs ys
+  pub shared : q ≡ p
+
+pub further-refl : (xs : List (List SqlType)) (p : List SharedBox) → Further xs xs p p
+further-refl xs p = record { rows = begins-refl xs; shared = refl }
+
+pub further-trans : {xs ys zs : List (List SqlType)} {p q r : List SharedBox} → Further xs ys p q → Further ys zs q r → Further xs zs p r
+further-trans h k = record { rows = begins-trans h.rows k.rows; shared = k.shared ∙ h.shared }
 
 get-before : (xs more : List (List SqlType)) (k : ℕ) → k < length xs → get_or (xs ++ more) k [] ≡ get_or xs k []
 get-before [] more k l = absurd (omega arith)

@@ -51,7 +51,7 @@ use Rattle.qgm_shown.specs.Typing.{typed_by}
 use Rattle.qgm_shown.proofs.FromsSame.{all_leaves-same, conds-same, frame-same, frames-same, past-same, width-same}
 use Rattle.qgm_shown.proofs.Grows.{Grown, Grows, all-on-grow, from-grows, froms-grow, grown-over, lay-grows, list-grow, on-grows, operand-grows, ranged, stays, test-grow, turn}
 use Rattle.qgm_shown.proofs.LaidAll.{all-on-served, froms-laid, from-laid, laid, list-served, on-crossed, on-joined, on-next, on-served, operand-laid, test-served, binds-nothing}
-use Rattle.qgm_shown.proofs.Rows.{typed-begins}
+use Rattle.qgm_shown.proofs.Rows.{Further, further-trans, typed-begins}
 use Rattle.qgm_shown.proofs.TermsSame.{cond-same, rows-same, terms-same}
 use Rattle.qgm_shown.proofs.TermsUnder.{SlotsUnder, after-under, no_slots-under}
 
@@ -92,6 +92,9 @@ module _ (known sources : Sources) (has : List ℕ → Bool) (placed : List Shar
   number-same : (name : List ℕ) (s : Boxes) → has name ≡ true → Stands placed s → box_named s.shared name ≡ sources.shared name
   number-same name s h t = ap (λ z. box_named z name) t.shared ∙ foretold.named name h
 
+  back : {xs ys : List (List SqlType)} {p q : List SharedBox} → Further xs ys p q → Begins ys R → Begins xs R
+  back h g = begins-trans h.rows g
+
   -- ---- steps
 
   -- a step makes what these leaves ask for, as it does where all is told beforehand
@@ -114,7 +117,7 @@ module _ (known sources : Sources) (has : List ℕ → Bool) (placed : List Shar
     served = mk.both sources has h.served k.served;
     grows = turn h.grows k.grows;
     same = λ s r t g.
-        let e = h.same s r t (begins-trans (k.grows.at (a s).boxes) g) in
+        let e = h.same s r t (back (k.grows.at (a s).boxes) g) in
         let made = h.served.at s r in
         let f = k.same (b s).boxes (mk.ready-keeps sources has s (b s).boxes (fr ∷ m) r made.keeps) (stands-keeps s (b s).boxes made.keeps t) (subst (λ (x : Drawn). Begins (c x.boxes).boxes.rows R) e g) in
         ap (λ (x : Drawn). record { boxes = (c x.boxes).boxes; quants = x.quants ++ (c x.boxes).quants }) e ∙ ap (λ (x : Drawn). record { boxes = x.boxes; quants = (b s).quants ++ x.quants }) f;
@@ -136,7 +139,7 @@ module _ (known sources : Sources) (has : List ℕ → Bool) (placed : List Shar
   asked {fr} {m} kind x lay like e h grown f = record {
     served = mk.asked sources has kind x like e h;
     grows = grown-over kind grown;
-    same = λ s r t g. ap (drawn kind) (f s r t (begins-trans (ranged (lay s).top (lay s).boxes) g));
+    same = λ s r t g. ap (drawn kind) (f s r t (back (ranged (lay s).top (lay s).boxes) g));
   }
 
   -- ---- boxes
@@ -181,8 +184,8 @@ module _ (known sources : Sources) (has : List ℕ → Bool) (placed : List Shar
       → (G (x s) (z (x s).boxes) ≡ G (xx s) (zz (xx s).boxes)) × Begins (ranging (zz (xx s).boxes).top (ranging (xx s).top (zz (xx s).boxes).boxes)).rows R
   pair-same x z xx zz s grown f h G g =
       let a = x s in
-      let first : Begins (z a.boxes).boxes.rows R = begins-trans (begins-trans (ranged a.top (z a.boxes).boxes) (ranged (z a.boxes).top (ranging a.top (z a.boxes).boxes))) g in
-      let e : x s ≡ xx s = f (begins-trans (grown.at a.boxes) first) in
+      let first : Begins (z a.boxes).boxes.rows R = back (further-trans (ranged a.top (z a.boxes).boxes) (ranged (z a.boxes).top (ranging a.top (z a.boxes).boxes))) g in
+      let e : x s ≡ xx s = f (back (grown.at a.boxes) first) in
       let i : z (xx s).boxes ≡ zz (xx s).boxes = h (subst (λ (l : Laid). Begins (z l.boxes).boxes.rows R) e first) in
       (
         ap (λ (l : Laid). G l (z l.boxes)) e ∙ ap (G (xx s)) i,
@@ -269,7 +272,7 @@ module _ (known sources : Sources) (has : List ℕ → Bool) (placed : List Shar
       let two = y.lay_from known at m z in
       let a = y.lay_from sources same m x s in
       let made = from-laid sources has m x s h r in
-      let e = first (begins-trans ((from-grows known at m z).at (one s).boxes) g) in
+      let e = first (back ((from-grows known at m z).at (one s).boxes) g) in
       let f = second a.boxes (mk.ready-keeps sources has s a.boxes m r made.keeps) (stands-keeps s a.boxes made.keeps t) (subst (λ (d : Drawn). Begins (two d.boxes).boxes.rows R) e g) in
       ap (λ (d : Drawn). record { boxes = (two d.boxes).boxes; quants = d.quants ++ (two d.boxes).quants }) e ∙ ap (λ (d : Drawn). record { boxes = d.boxes; quants = a.quants ++ d.quants }) f
 
@@ -297,7 +300,7 @@ module _ (known sources : Sources) (has : List ℕ → Bool) (placed : List Shar
         let fr = w.frame_all sources from d.quants in
         let step : List OwnedQuant → Step = λ os. in_turn (y.list_subs known at m (w.frame_all known from os) list) (in_turn (y.all_on_subs known at m from os) (y.test_subs known at m (w.frame_all known from os) by)) in
         let grow = turn (list-grow known at m (w.frame_all known from f.quants) list) (turn (all-on-grow known at m from f.quants) (test-grow known at m (w.frame_all known from f.quants) by)) in
-        let e = froms-same m from s h.0 r t (begins-trans (grow.at f.boxes) g) in
+        let e = froms-same m from s h.0 r t (back (grow.at f.boxes) g) in
         let frame = frames-same known sources counts from d.quants in
         let agrees = both (said (ap (λ z. y.list_subs known at m z list) frame) (list-agrees m fr list h.1)) (both (all-on-agrees m from d.quants h.0) (said (ap (λ z. y.test_subs known at m z by) frame) (test-agrees m fr by h.2))) in
         selected distinct from by (λ fr. list_leaves fr list) (λ sources fr s. l.terms sources fr m s list) m s _ f d step
@@ -317,9 +320,9 @@ module _ (known sources : Sources) (has : List ℕ → Bool) (placed : List Shar
         let upper : Laid → Laid = λ g. y.upper_box known at distinct list (key_places places) n having m g.boxes.quant g.top (above g) in
         let rows_one = rows_of f in
         let one = group rows_one in
-        let grown : Begins (drawn F one).boxes.rows R = begins-trans ((turn (list-grow known at m (up one) list) (test-grow known at m (up one) having)).at (drawn F one).boxes) g in
-        let lower : Begins (step f.quants f.boxes).boxes.rows R = begins-trans (begins-trans (ranged rows_one.top rows_one.boxes) (ranged one.top one.boxes)) grown in
-        let e = froms-same m from s h.0 r t (begins-trans ((turn (all-on-grow known at m from f.quants) (test-grow known at m (w.frame_all known from f.quants) by)).at f.boxes) lower) in
+        let grown : Begins (drawn F one).boxes.rows R = back ((turn (list-grow known at m (up one) list) (test-grow known at m (up one) having)).at (drawn F one).boxes) g in
+        let lower : Begins (step f.quants f.boxes).boxes.rows R = back (further-trans (ranged rows_one.top rows_one.boxes) (ranged one.top one.boxes)) grown in
+        let e = froms-same m from s h.0 r t (back ((turn (all-on-grow known at m from f.quants) (test-grow known at m (w.frame_all known from f.quants) by)).at f.boxes) lower) in
         let made = froms-laid sources has m from s h.0 r in
         let like = in_turn (y.all_on_subs sources same m from d.quants) (y.test_subs sources same m fr by) in
         let agrees = both (all-on-agrees m from d.quants h.0) (said (ap (λ z. y.test_subs known at m z by) (frames-same known sources counts from d.quants)) (test-agrees m fr by h.2)) in
@@ -353,7 +356,7 @@ module _ (known sources : Sources) (has : List ℕ → Bool) (placed : List Shar
         let f = in_turn (y.lay_from known at m x) (y.lay_from known at m z) s in
         let d = in_turn (y.lay_from sources same m x) (y.lay_from sources same m z) s in
         let step : List OwnedQuant → Step = λ os. in_turn (y.on_subs known at m x os) (y.on_subs known at m z (w.past known x os)) in
-        let e = turn-same x z m s h.0 h.1 r t (λ b. from-same m x s h.0 r t b) (λ a ready stands b. from-same m z a h.1 ready stands b) (begins-trans ((turn (on-grows known at m x f.quants) (on-grows known at m z (w.past known x f.quants))).at f.boxes) g) in
+        let e = turn-same x z m s h.0 h.1 r t (λ b. from-same m x s h.0 r t b) (λ a ready stands b. from-same m z a h.1 ready stands b) (back ((turn (on-grows known at m x f.quants) (on-grows known at m z (w.past known x f.quants))).at f.boxes) g) in
         selected false froms (q.all q.no_test) (λ fr. []) (λ sources fr s. map ref_term fr) m s _ f d step (in_turn (y.on_subs sources same m x d.quants) (y.on_subs sources same m z (w.past sources x d.quants))) r t e
         (mk.froms-alone sources has (q.crossed x z) m s d (from-laid sources has m (q.crossed x z) s h r)) (within (λ n u. under_in-left n (w.frame sources (q.crossed x z) d.quants) [] u) (crossed-agrees x z m d.quants (on-agrees m x d.quants h.0) (said (ap (y.on_subs known at m z) (past-same known sources counts x d.quants)) (on-agrees m z (w.past sources x d.quants) h.1)))) g
         (λ c t b u v slots low. refl)
@@ -363,7 +366,7 @@ module _ (known sources : Sources) (has : List ℕ → Bool) (placed : List Shar
         let d = in_turn (y.lay_from sources same m x) (y.lay_from sources same m z) s in
         let frame : List OwnedQuant → Frame = λ os. w.frame known x os ++ w.frame known z (w.past known x os) in
         let step : List OwnedQuant → Step = λ os. in_turn (y.on_subs known at m x os) (in_turn (y.on_subs known at m z (w.past known x os)) (y.test_subs known at m (frame os) p)) in
-        let e = turn-same x z m s h.0 h.1 r t (λ b. from-same m x s h.0 r t b) (λ a ready stands b. from-same m z a h.1 ready stands b) (begins-trans ((turn (on-grows known at m x f.quants) (turn (on-grows known at m z (w.past known x f.quants)) (test-grow known at m (frame f.quants) p))).at f.boxes) g) in
+        let e = turn-same x z m s h.0 h.1 r t (λ b. from-same m x s h.0 r t b) (λ a ready stands b. from-same m z a h.1 ready stands b) (back ((turn (on-grows known at m x f.quants) (turn (on-grows known at m z (w.past known x f.quants)) (test-grow known at m (frame f.quants) p))).at f.boxes) g) in
         selected false froms (q.all q.no_test) (λ fr. []) (λ sources fr s. map ref_term fr) m s _ f d step
         (in_turn (y.on_subs sources same m x d.quants) (in_turn (y.on_subs sources same m z (w.past sources x d.quants)) (y.test_subs sources same m (w.frame sources x d.quants ++ w.frame sources z (w.past sources x d.quants)) p))) r t e
         (mk.froms-alone sources has (q.joined x z p) m s d (from-laid sources has m (q.joined x z p) s h r)) (within (λ n u. under_in-left n (w.frame sources (q.joined x z p) d.quants) [] u) (joined-agrees x z p m d.quants (on-agrees m x d.quants h.0) (said (ap (y.on_subs known at m z) (past-same known sources counts x d.quants)) (on-agrees m z (w.past sources x d.quants) h.1))
@@ -375,12 +378,12 @@ module _ (known sources : Sources) (has : List ℕ → Bool) (placed : List Shar
     from-same m (q.named name) s h r t g = ap (λ j. drawn F (record { boxes = s; top = j })) (number-same name s h t)
     from-same m (q.derived query) s h r t g =
         let a = y.lay known at query m s in
-        ap (drawn F) (lay-same query m s h r t (begins-trans (ranged a.top a.boxes) g))
+        ap (drawn F) (lay-same query m s h r t (back (ranged a.top a.boxes) g))
     from-same m (q.crossed x z) s h r t g = turn-same x z m s h.0 h.1 r t (λ b. from-same m x s h.0 r t b) (λ a ready stands b. from-same m z a h.1 ready stands b) g
     from-same m (q.joined x z p) s h r t g = turn-same x z m s h.0 h.1 r t (λ b. from-same m x s h.0 r t b) (λ a ready stands b. from-same m z a h.1 ready stands b) g
     from-same m (q.left_joined x z n p) s h r t g =
         let a = y.outer_box known at x n p m (y.lay_operand known at z m) (y.lay_operand known at x m s) in
-        ap (drawn F) (outers-same x z n p m s h.0 h.1 r t (λ b. operand-same x m s h.0 r t b) (λ a ready stands b. operand-same z m a h.1 ready stands b) (begins-trans (ranged a.top a.boxes) g))
+        ap (drawn F) (outers-same x z n p m s h.0 h.1 r t (λ b. operand-same x m s h.0 r t b) (λ a ready stands b. operand-same z m a h.1 ready stands b) (back (ranged a.top a.boxes) g))
 
     pub froms-same : (m : Map) (xs : Froms) (s : Boxes) → b.FitFroms sources has xs → Ready s m → Stands placed s → Begins (y.lay_froms known at m xs s).boxes.rows R → y.lay_froms known at m xs s ≡ y.lay_froms sources same m xs s
     froms-same m q.no_from s h r t g = refl
@@ -389,7 +392,7 @@ module _ (known sources : Sources) (has : List ℕ → Bool) (placed : List Shar
         let two = y.lay_froms known at m xs in
         let a = y.lay_from sources same m x s in
         let made = from-laid sources has m x s h.0 r in
-        let e = from-same m x s h.0 r t (begins-trans ((froms-grow known at m xs).at (one s).boxes) g) in
+        let e = from-same m x s h.0 r t (back ((froms-grow known at m xs).at (one s).boxes) g) in
         let f = froms-same m xs a.boxes h.1 (mk.ready-keeps sources has s a.boxes m r made.keeps) (stands-keeps s a.boxes made.keeps t) (subst (λ (d : Drawn). Begins (two d.boxes).boxes.rows R) e g) in
         ap (λ (d : Drawn). record { boxes = (two d.boxes).boxes; quants = d.quants ++ (two d.boxes).quants }) e ∙ ap (λ (d : Drawn). record { boxes = d.boxes; quants = a.quants ++ d.quants }) f
 

@@ -22,7 +22,7 @@ nothing-ready sources s = record { known = λ name h. absurd (cc h); sourced = �
 source-as : (sources : Sources) (name : List ℕ) (body : Query) (found : Option Query) (below : ℕ → Thing → Map → Type 0) (n : Node) → found ≡ Some body → w.ShowsQuery sources below body [] n → w.ShowsSource sources below name found n
 source-as sources name body found below n e h = subst (λ z. w.ShowsSource sources below name z n) (sym e) h
 
-base-as : (sources : Sources) (name : List ℕ) (found : Option Query) (below : ℕ → Thing → Map → Type 0) (n : Node) → found ≡ None → w.ShowsBase sources below name n → w.ShowsSource sources below name found n
+pub base-as : (sources : Sources) (name : List ℕ) (found : Option Query) (below : ℕ → Thing → Map → Type 0) (n : Node) → found ≡ None → w.ShowsBase sources below name n → w.ShowsSource sources below name found n
 base-as sources name found below n e h = subst (λ z. w.ShowsSource sources below name z n) (sym e) h
 
 module _ (sources : Sources) (has more : List ℕ → Bool) (name : List ℕ) (one : OneMore has name more) where

@@ -14,4 +14,5 @@ pub mod Lay
 pub mod Lays
 pub mod Reads
 pub mod Whole
+pub mod WholeLaw
 pub mod LaidSample

@@ -1,3 +1,4 @@
+use Rattle.qgm_shown.proofs.Standing.{Good}
 use Rattle.std.proofs.Common.{refl}
 use Rattle.qgm_shown.proofs.laid.laid_laws.Goals as goal
 use Rattle.qgm_shown.proofs.LaidAll.{laid}
