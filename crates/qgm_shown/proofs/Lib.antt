@@ -33,4 +33,6 @@ pub mod Reading
 pub mod Start
 pub mod Whole
 pub mod Standing
+pub mod Used
+pub mod Graphs
 pub mod Times

@@ -230,8 +230,7 @@ module _ (sources : Sources) (has : List ℕ → Bool) where
           counted = λ c. record { some = (k.counted c).some; rows = (k.counted c).rows; types = length-one s.types (column_types s.rows kind head) s.box (k.counted c).types };
           typed = λ c t.
               let d = k.counted c in
-              let more : Later s r.boxes = record { boxes = omega arith; quants = omega arith; rows = begins-refl s.rows; types = begins-more s.types (column_types s.rows kind head ∷ []) } in
-              (
+              let more : Later s r.boxes = record { boxes = omega arith; quants = omega arith; rows = begins-refl s.rows; types = begins-more s.types (column_types s.rows kind head ∷ []) } in (
                 record {
                   laid = omega arith;
                   quants = each_ranges-later s r.boxes d more quants (ranged c);

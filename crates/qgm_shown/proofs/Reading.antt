@@ -115,7 +115,7 @@ module _ (sources : Sources) (has more : List ℕ → Bool) where
 module _ (name : List ℕ) where
   abbrev pub leaf_reads : Leaf → Bool
   leaf_reads (sub fr kind query) = query_reads query name
-  leaf_reads (fold f distinct x) = value_reads x name
+  leaf_reads (fold f distinct x) = false
   leaf_reads count = false
 
   abbrev pub any_reads : List Leaf → Bool
@@ -150,7 +150,7 @@ module _ (name : List ℕ) where
       value-leaves (q.null_if x y) = two (value_reads x name) (value_reads y name) (leaves fr x) (leaves fr y) (value-leaves x) (value-leaves y)
       value-leaves (q.scalar query) = or-false (query_reads query name)
       value-leaves q.count_all = refl
-      value-leaves (q.aggregate f distinct x) = or-false (value_reads x name)
+      value-leaves (q.aggregate f distinct x) = refl
 
       pub addends-leaves : (x : Addends) → addends_read x name ≡ any_reads (addend_leaves fr x)
       addends-leaves q.no_addend = refl
@@ -190,9 +190,6 @@ module _ (name : List ℕ) where
       tests-leaves (q.one_test p ps) = two (test_reads p name) (tests_read ps name) (test_leaves fr p) (tests_leaves fr ps) (test-leaves p) (tests-leaves ps)
 
   -- nothing is read where no leaf is
-  pub no-leaf-reads : (x : Value) → ((fr : Frame) → leaves fr x ≡ []) → value_reads x name ≡ true → ⊥
-  no-leaf-reads x none h = let e : value_reads x name ≡ false = value-leaves [] x ∙ ap any_reads (none []) in let z : true ≡ false = sym h ∙ e in let w : ⊥ = cc in w
-
   pub no-leaf-test : (x : Test) → ((fr : Frame) → test_leaves fr x ≡ []) → test_reads x name ≡ true → ⊥
   no-leaf-test x none h = let e : test_reads x name ≡ false = test-leaves [] x ∙ ap any_reads (none []) in let z : true ≡ false = sym h ∙ e in let w : ⊥ = cc in w
 
@@ -231,7 +228,7 @@ module _ (sources : Sources) (has : List ℕ → Bool) (name : List ℕ) where
     value-has (q.null_if x y) h e = or-cases (value_reads x name) (value_reads y name) e (λ e. value-has x h.0 e) (λ e. value-has y h.1 e)
     value-has (q.scalar query) h e = query-has query h e
     value-has q.count_all h e = absurd (cc e)
-    value-has (q.aggregate f distinct x) h e = absurd (no-leaf-reads name x h e)
+    value-has (q.aggregate f distinct x) h e = absurd (cc e)
 
     pub addends-has : (x : Addends) → FitAddends sources has x → addends_read x name ≡ true → has name ≡ true
     addends-has q.no_addend h e = absurd (cc e)
@@ -303,7 +300,7 @@ module _ (P : List ℕ → Type 0) (name : List ℕ) where
     value-each (q.null_if x y) h e = or-cases (value_reads x name) (value_reads y name) e (λ e. value-each x h.0 e) (λ e. value-each y h.1 e)
     value-each (q.scalar query) h e = query-each query h e
     value-each q.count_all h e = absurd (cc e)
-    value-each (q.aggregate f distinct x) h e = value-each x h e
+    value-each (q.aggregate f distinct x) h e = absurd (cc e)
 
     pub addends-each : (x : Addends) → EachAddends P x → addends_read x name ≡ true → P name
     addends-each q.no_addend h e = absurd (cc e)

@@ -186,8 +186,7 @@ module _ (known sources : Sources) (has : List ℕ → Bool) (placed : List Shar
       let a = x s in
       let first : Begins (z a.boxes).boxes.rows R = back (further-trans (ranged a.top (z a.boxes).boxes) (ranged (z a.boxes).top (ranging a.top (z a.boxes).boxes))) g in
       let e : x s ≡ xx s = f (back (grown.at a.boxes) first) in
-      let i : z (xx s).boxes ≡ zz (xx s).boxes = h (subst (λ (l : Laid). Begins (z l.boxes).boxes.rows R) e first) in
-      (
+      let i : z (xx s).boxes ≡ zz (xx s).boxes = h (subst (λ (l : Laid). Begins (z l.boxes).boxes.rows R) e first) in (
         ap (λ (l : Laid). G l (z l.boxes)) e ∙ ap (G (xx s)) i,
         subst (λ (l : Laid). Begins (ranging l.top (ranging (xx s).top l.boxes)).rows R) i (subst (λ (l : Laid). Begins (ranging (z l.boxes).top (ranging l.top (z l.boxes).boxes)).rows R) e g),
       )
@@ -246,7 +245,7 @@ module _ (known sources : Sources) (has : List ℕ → Bool) (placed : List Shar
       let stands = stands-keeps s a.boxes one.keeps t in
       let two = laid sources has z m a.boxes i ready in
       let both = pair-same (y.lay known at x m) (y.lay known at z m) (y.lay sources same x m) (y.lay sources same z m) s (lay-grows known at z m) first (second a.boxes ready stands)
-          (λ a b. y.two_box known at form n (λ s. b) a) g in
+      (λ a b. y.two_box known at form n (λ s. b) a) g in
       both.0 ∙ two-last form n a b (stands-keeps a.boxes b.boxes two.keeps stands) both.1
 
   outers-same : (x z : From) (n : ℕ) (on : Test) (m : Map) (s : Boxes) → b.FitFrom sources has x → b.FitFrom sources has z → Ready s m → Stands placed s → (Begins (y.lay_operand known at x m s).boxes.rows R → y.lay_operand known at x m s ≡ y.lay_operand sources same x m s)
@@ -261,7 +260,7 @@ module _ (known sources : Sources) (has : List ℕ → Bool) (placed : List Shar
       let stands = stands-keeps s a.boxes one.keeps t in
       let two = operand-laid sources has z m a.boxes i ready in
       let both = pair-same (y.lay_operand known at x m) (y.lay_operand known at z m) (y.lay_operand sources same x m) (y.lay_operand sources same z m) s (operand-grows known at z m) first (second a.boxes ready stands)
-          (λ a b. y.outer_box known at x n on m (λ s. b) a) g in
+      (λ a b. y.outer_box known at x n on m (λ s. b) a) g in
       both.0 ∙ outer-last x n on m a b (stands-keeps a.boxes b.boxes two.keeps stands) (under-more a.boxes.quant b.boxes.quant m two.keeps.quants ready.under) both.1
 
   turn-same : (x z : From) (m : Map) (s : Boxes) → b.FitFrom sources has x → b.FitFrom sources has z → Ready s m → Stands placed s → (Begins (y.lay_from known at m x s).boxes.rows R → y.lay_from known at m x s ≡ y.lay_from sources same m x s)
@@ -328,7 +327,7 @@ module _ (known sources : Sources) (has : List ℕ → Bool) (placed : List Shar
         let agrees = both (all-on-agrees m from d.quants h.0) (said (ap (λ z. y.test_subs known at m z by) (frames-same known sources counts from d.quants)) (test-agrees m fr by h.2)) in
         let rows : Laid = y.select_box sources same false from by (λ fr. []) items m d.quants (like d.boxes) in
         let rows_same : rows_one ≡ rows = selected false from by (λ fr. []) items m s _ f d step like r t e made agrees lower
-            (λ c t b u v slots low. rows-same (at c.boxes) sources c.boxes.quant t.counted.some (agree c.boxes t b) fr u (key_places places) ks slots) in
+        (λ c t b u v slots low. rows-same (at c.boxes) sources c.boxes.quant t.counted.some (agree c.boxes t b) fr u (key_places places) ks slots) in
         let two = group rows in
         let fine : k.Keeps sources has s two.boxes = grouped-keeps from by (key_places places) list having m s d (like d.boxes) h.1 h.3 r.under made (agrees.served.at d.boxes (mk.ready-frame sources has d.boxes fr m (mk.ready-keeps sources has s d.boxes m r made.keeps) made.under)) in
         let base = (drawn F two).boxes in

@@ -122,10 +122,10 @@ module _ (known sources : Sources) (end : Boxes) (told : Final known sources end
         once = λ j l u. below-or j s.box
             (λ z. let e = g.once j z (λ n h. u n (laid-stays s.shared (record { name = t.name; box = s.box } ∷ []) n h)) in let i : 0 + uses j s.made ≡ 1 = omega arith in i)
             (λ z. absurd (
-              let i : s.box ≡ j = omega arith in
-              let y = eq-eqb (sources.shared t.name) j (number ∙ i) in
-              let v = u t.name (laid-one s.shared t.name s.box) in
-              cc (y, v)
+            let i : s.box ≡ j = omega arith in
+            let y = eq-eqb (sources.shared t.name) j (number ∙ i) in
+            let v = u t.name (laid-one s.shared t.name s.box) in
+            cc (y, v)
             ));
       }
 
@@ -145,7 +145,7 @@ module _ (known sources : Sources) (end : Boxes) (told : Final known sources end
       let k = made.keeps in
       let number : sources.shared v.name ≡ r.top = number-new r v.name (ap (λ zs. is_laid zs v.name) k.shared ∙ fresh) towards in
       let more = is_laid new.shared in
-      let one : OneMore has v.name more = λ n h. (elim (laid-new r.boxes.shared v.name r.top n h) [ | inl e ↦ inl e | inr e ↦ inr (sym (ap (λ zs. is_laid zs n) k.shared) ∙ e) ]) in
+      let one : OneMore has v.name more = λ n h. (elim (laid-new r.boxes.shared v.name r.top n h) [ inl e ↦ inl e | inr e ↦ inr (sym (ap (λ zs. is_laid zs n) k.shared) ∙ e) ]) in
       let ready = view-ready sources has more v.name one v.body t said.body number fit g.ready in
       let o = k.order g.order in
       let c = k.counted g.counted in
@@ -217,7 +217,7 @@ module _ (known sources : Sources) (end : Boxes) (told : Final known sources end
             not_yet : is_laid s.shared v.name ≡ false → is_laid t.shared v.name ≡ false
             not_yet f = elim (cases_Bool (is_laid t.shared v.name)) [
               | inr i ↦ i
-              | inl i ↦ elim (read-less known tables views has deep sources views_said depth (deep v.name) v.body said.0.reads s v.name i) [ | inl a ↦ absurd (cc (a, f)) | inr a ↦ absurd (omega arith) ]
+              | inl i ↦ elim (read-less known tables views has deep sources views_said depth (deep v.name) v.body said.0.reads s v.name i) [ inl a ↦ absurd (cc (a, f)) | inr a ↦ absurd (omega arith) ]
             ]
 
     pub read-good : (depth : ℕ) (query : Query) (s : Boxes) → ((n : List ℕ) → query_reads query n ≡ true → deep n ≤ depth) → Good s → Toward (lay_read known tables views depth query s) end → Good (lay_read known tables views depth query s)

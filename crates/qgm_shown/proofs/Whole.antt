@@ -100,7 +100,7 @@ toward-query known query s = let f = (lay-grows known (laying known) query []).a
 pub toward-shares : (name : List ℕ) (r : Laid) → Toward r.boxes (shares name r)
 toward-shares name r = record { rows = begins-refl r.boxes.rows; more = record { name = name; box = r.top } ∷ []; is = refl }
 
-pick : {X : Type 0} (P : X → Type 0) (b : Bool) (x y : X) → (b ≡ true → P x) → (b ≡ false → P y) → P (cond b x y)
+pub pick : {X : Type 0} (P : X → Type 0) (b : Bool) (x y : X) → (b ≡ true → P x) → (b ≡ false → P y) → P (cond b x y)
 pick P true x y f g = f refl
 pick P false x y f g = g refl
 
@@ -193,10 +193,10 @@ module _ (known : Sources) where
     Less k s t = (n : List ℕ) → is_laid t.shared n ≡ true → (is_laid s.shared n ≡ true) ⊎ (deep n < k)
 
     less-trans : (k : ℕ) (a b c : Boxes) → Less k a b → Less k b c → Less k a c
-    less-trans k a b c h g n l = elim (g n l) [ | inl e ↦ h n e | inr e ↦ inr e ]
+    less-trans k a b c h g n l = elim (g n l) [ inl e ↦ h n e | inr e ↦ inr e ]
 
     less-new : (k : ℕ) (s : Boxes) (name : List ℕ) (r : Laid) → Less k s r.boxes → deep name < k → Less k s (shares name r)
-    less-new k s name r h d n l = elim (laid-new r.boxes.shared name r.top n l) [ | inl e ↦ inr (subst (λ z. deep z < k) (sym e) d) | inr e ↦ h n e ]
+    less-new k s name r h d n l = elim (laid-new r.boxes.shared name r.top n l) [ inl e ↦ inr (subst (λ z. deep z < k) (sym e) d) | inr e ↦ h n e ]
 
     tables-less : (k : ℕ) (query : Query) → ((n : List ℕ) → query_reads query n ≡ true → deep n < k) → (ts : List BaseTable) (s : Boxes) → Less k s (lay_tables query ts s)
     tables-less k query f [] s = λ n l. inl l

@@ -1,4 +1,4 @@
--- Which tables and views a query reads: the names in its FROMs, those of its subqueries too.
+-- Which tables and views a query reads: the names in its FROMs, those of its subqueries too. No subquery stands in the argument of an aggregate.
 use Rattle.std.specs.Prelude.{ℕ, Bool, false, ◌||◌, List}
 use Rattle.sql_ast.specs.Names.{same_name}
 use Rattle.sql_meaning.specs.ResolvedTrees.{Value, Addends, Multipliers, Values, Arms, Choices, Test, Tests, From, Froms, Query}
@@ -19,7 +19,7 @@ abbrev mutual
   value_reads (q.null_if x y) name = value_reads x name || value_reads y name
   value_reads (q.scalar query) name = query_reads query name
   value_reads q.count_all name = false
-  value_reads (q.aggregate f distinct x) name = value_reads x name
+  value_reads (q.aggregate f distinct x) name = false
 
   pub addends_read : Addends → List ℕ → Bool
   addends_read q.no_addend name = false

@@ -1,5 +1,7 @@
-use Rattle.qgm_shown.proofs.Standing.{Good}
 use Rattle.std.proofs.Common.{refl}
+use Rattle.qgm_shown.specs.Lay.{laying}
+use Rattle.qgm_shown.specs.Whole.{lay_whole}
+use Rattle.qgm_shown.proofs.Graphs.{is-laid-for}
 use Rattle.qgm_shown.proofs.laid.laid_laws.Goals as goal
 use Rattle.qgm_shown.proofs.LaidAll.{laid}
 use Rattle.qgm_shown.proofs.Same.{lay-same}
@@ -24,3 +26,7 @@ returns-clause-once c = λ ns h q. counted-once ns h q
 
 pub returns-clause-alike : goal.returns-clause-alike
 returns-clause-alike c = λ known sources has rows query m s told fit ready counted begins. lay-same known sources has s.shared rows told query m s fit ready (record { counted = counted; shared = refl }) begins
+
+pub returns-clause-whole : goal.returns-clause-whole
+returns-clause-whole c = λ known sources tables views deep query names order counts over.
+    is-laid-for known (laying sources (lay_whole known tables views query).boxes) tables views deep query names order (record { counts = counts; typed = λ x. refl; shared = λ name. refl }) over
