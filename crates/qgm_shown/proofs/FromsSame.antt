@@ -1,5 +1,5 @@
 -- What a FROM is in quantifiers goes by how many columns names have, and its conditions by the types of the columns of quantifiers.
-use Rattle.std.proofs.Common.{◌≡◌, ◌<◌, ℕ, ◌+◌, List, [], ◌∷◌, ◌++◌, refl, ap, ap₂, sym, ◌∙◌}
+use Rattle.std.proofs.Common.{◌≡◌, ◌<◌, ℕ, ◌+◌, List, ◌++◌, refl, ap, ap₂, ◌∙◌}
 use Rattle.sql_meaning.specs.ResolvedTrees.{Test, From, Froms}
 use Rattle.sql_meaning.specs.ResolvedTrees as q
 use Rattle.qgm_core.specs.declared.owned.OwnedQuant.{OwnedQuant}

@@ -1,9 +1,9 @@
 -- The graph that is laid for a query is built of it.
-use Rattle.std.proofs.Common.{◌≡◌, ◌≤◌, ◌<◌, ◌⊎◌, ◌==◌, ◌||◌, inl, inr, cond, ℕ, zero, suc, ◌+◌, Bool, true, false, List, [], ◌∷◌, ◌++◌, Option, Some, None, refl, ap, sym, ◌∙◌, subst, arith}
+use Rattle.std.proofs.Common.{◌≡◌, ◌≤◌, ◌<◌, ◌⊎◌, ◌==◌, ◌||◌, inl, inr, cond, ℕ, zero, suc, Bool, true, false, List, [], ◌∷◌, Option, refl, ap, sym, ◌∙◌, subst, arith}
 use Rattle.std.specs.Prelude.{nat_lt}
 use Rattle.std.specs.List.{list_all}
 use Rattle.std.specs.Cmp.Lexicographic.{nat_list_eq_equiv}
-use Rattle.std.proofs.lemmas.Bool.{cases_Bool, eq-eqb, eqb-true, lt-ltb, ne_eqb}
+use Rattle.std.proofs.lemmas.Bool.{cases_Bool, eq-eqb, eqb-true, lt-ltb}
 use Rattle.sql_ast.specs.Names.{same_name}
 use Rattle.sql_meaning.specs.ResolvedTrees.{Query}
 use Rattle.sql_meaning.specs.ResolvedTrees as q
@@ -12,15 +12,13 @@ use Rattle.sql_value.specs.declared.order_key.OrderKey.{OrderKey}
 use Rattle.qgm_core.specs.declared.kinds.BaseTable.{BaseTable}
 use Rattle.qgm_core.specs.declared.node.Node.{Node}
 use Rattle.qgm_shown.specs.Buildable.{Buildable}
-use Rattle.qgm_shown.specs.Law.{IsBuiltOf}
-use Rattle.qgm_shown.specs.Lay.{Boxes, Laid, SharedBox, box_named, lay_by, lay_table, laying}
-use Rattle.qgm_shown.specs.Lays.{Low, Made, Ready, Unshared, laid_over}
-use Rattle.qgm_shown.specs.Maps.{Map}
+use Rattle.qgm_shown.specs.Lay.{Boxes, Laid, SharedBox, lay_by, lay_table, laying}
+use Rattle.qgm_shown.specs.Lays.{Low, Made, Unshared, laid_over}
 use Rattle.qgm_shown.specs.Reads.{query_reads}
 use Rattle.qgm_shown.specs.Shown.{Shows, Thing, of_operand, of_query, uses}
 use Rattle.qgm_shown.specs.Shown as w
 use Rattle.qgm_shown.specs.Sources.{Sources}
-use Rattle.qgm_shown.specs.Whole.{graph_of, is_laid, is_wanted, lay_read, lay_tables, lay_views, lay_whole, nothing_laid, shares}
+use Rattle.qgm_shown.specs.Whole.{is_laid, is_wanted, lay_read, lay_tables, lay_views, lay_whole, nothing_laid, shares}
 use Rattle.qgm_shown.specs.WholeLaw.{EachViewSaid, IsLaidFor, IsOver, ViewSaid, is_declared}
 use Rattle.qgm_shown.proofs.Grows.{lay-grows}
 use Rattle.qgm_shown.proofs.LaidAll.{laid}
@@ -32,7 +30,7 @@ use Rattle.qgm_shown.proofs.Same.{lay-same}
 use Rattle.qgm_shown.proofs.Standing.{Final, Good, good-start, named-at, read-good}
 use Rattle.qgm_shown.proofs.Times.{counted-once}
 use Rattle.qgm_shown.proofs.Used.{uses-read}
-use Rattle.qgm_shown.proofs.Whole.{Toward, laid-new, laid-one, pick, read-laid, read-toward, tables-toward, toward-laid, toward-query, toward-refl, toward-shares, toward-trans, views-toward, wanted}
+use Rattle.qgm_shown.proofs.Whole.{Toward, laid-new, laid-one, pick, read-laid, read-toward, tables-toward, toward-laid, toward-query, toward-shares, toward-trans, views-toward, wanted}
 
 -- ---- why a table or a view was laid
 

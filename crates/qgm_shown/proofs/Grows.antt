@@ -1,11 +1,9 @@
 -- More types of quantifiers are known after each step, and the same tables and views were laid.
 use Rattle.std.proofs.Common.{ℕ, refl, false, List, [], ◌∷◌, ◌++◌, get_or}
-use Rattle.sql_value.specs.declared.order_key.SqlType.{SqlType}
 use Rattle.sql_meaning.specs.ResolvedTrees.{Value, Addends, Multipliers, Values, Arms, Choices, Test, Tests, From, Froms, Query}
 use Rattle.sql_meaning.specs.ResolvedTrees as q
 use Rattle.qgm_core.specs.declared.kinds.QuantKind.{QuantKind}
 use Rattle.qgm_core.specs.declared.kinds.QuantKind.TheVariants.{F, E, S}
-use Rattle.qgm_core.specs.declared.kinds.SetOperator as forms
 use Rattle.qgm_core.specs.declared.owned.OwnedQuant.{OwnedQuant}
 use Rattle.qgm_shown.specs.Leaves.{every_or_some}
 use Rattle.qgm_shown.specs.Lay.{Boxes, Laid, Drawn, Step, drawn, in_turn, none, over, ranging}

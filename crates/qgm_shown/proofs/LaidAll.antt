@@ -1,46 +1,26 @@
 -- What is laid for a query shows it.
-use Rattle.std.proofs.Common.{◌≡◌, ◌≤◌, ◌<◌, ◌||◌, cond, ℕ, suc, ◌+◌, ◌==◌, Bool, true, false, List, [], ◌∷◌, ◌++◌, map, length, get_or, pos, append_assoc, append-nil, refl, ap, ap₂, sym, ◌∙◌, subst, arith, Option}
-use Rattle.std.proofs.lemmas.Bool.{ne_eqb, eq-eqb, eqb-true}
-use Rattle.sql_ast.specs.declared.word.SetFunction.{SetFunction}
+use Rattle.std.proofs.Common.{◌≡◌, ℕ, ◌+◌, Bool, false, List, [], ◌∷◌, ◌++◌, refl, ap₂, sym, ◌∙◌, arith}
 use Rattle.sql_ast.specs.declared.word.Quantifier.{Quantifier}
 use Rattle.sql_ast.specs.declared.word.Quantifier.TheVariants as quantifier
 use Rattle.sql_meaning.specs.ResolvedTrees.{Value, Addends, Multipliers, Values, Arms, Choices, Test, Tests, From, Froms, Query}
 use Rattle.sql_meaning.specs.ResolvedTrees as q
-use Rattle.qgm_terms.specs.Terms.{Term, Cond, col, count_all, int}
-use Rattle.qgm_terms.specs.Terms as t
-use Rattle.qgm_core.specs.declared.kinds.QuantKind.{QuantKind}
 use Rattle.qgm_core.specs.declared.kinds.QuantKind.TheVariants.{F, E, S}
-use Rattle.qgm_core.specs.declared.kinds.BoxKind.{BoxKind}
-use Rattle.qgm_core.specs.declared.node.Node.{Node}
 use Rattle.qgm_core.specs.declared.owned.OwnedQuant.{OwnedQuant}
-use Rattle.qgm_core.specs.declared.kinds.BoxKind.TheVariants.{Select, Group, SetOp, OuterJoin}
 use Rattle.qgm_core.specs.Kinds.{is_F}
-use Rattle.qgm_shown.specs.Maps.{Frame, Map, ref_term}
-use Rattle.qgm_shown.specs.Maps as maps
+use Rattle.qgm_shown.specs.Maps.{Frame, Map}
 use Rattle.qgm_shown.specs.Folds.{folds_in}
 use Rattle.qgm_shown.proofs.FoldsSame.{folds_append, test_same, values_same}
 use Rattle.qgm_shown.specs.Leaves.{Leaf, Slots, after, count, every_or_some, fold, leaves, list_leaves, sub, test_leaves}
-use Rattle.qgm_shown.specs.Terms.{split}
 use Rattle.qgm_shown.specs.Leaves as leaf
-use Rattle.qgm_shown.specs.Terms as l
 use Rattle.qgm_shown.specs.Shown.{over_in, uses, HasKey, PlainArguments, Thing, columns_of, fold_terms, key_frame, key_places, no_slots, of_groups, of_operand, of_query, of_rows, refs}
 use Rattle.qgm_shown.specs.Shown as w
-use Rattle.qgm_shown.specs.Sources.{Sources, from_width, froms_width, width}
+use Rattle.qgm_shown.specs.Sources.{Sources, from_width, width}
 use Rattle.qgm_shown.specs.Lay.{Boxes, Laid, Drawn, Step, column_types, put, ranging, drawn, none, in_turn, over, pair_of}
-use Rattle.qgm_core.specs.declared.kinds.SetOperator as forms
 use Rattle.qgm_shown.specs.Lay as y
 use Rattle.qgm_shown.specs.Lays as k
 use Rattle.qgm_shown.specs.Buildable as b
 use Rattle.qgm_shown.specs.Lays.{Counted, EachRanges, HeadUnder, Under, UnderIn, owned}
-use Rattle.qgm_shown.proofs.Rows.{Later, begins-more, begins-refl, begins-trans, each_has_types-later, each_ranges-append, each_ranges-later, get-last, length-one, ranges-later}
-use Rattle.qgm_shown.proofs.TermsUnder.{groups-under, refs-under, rows-under, slots-under, terms-under, upper_slots-under}
-use Rattle.std.specs.List.{list_any}
-use Rattle.qgm_core.specs.Boxes.{is_quant}
-use Rattle.qgm_shown.proofs.Numbers.{Rising, fresh-under, rising-append, rising-distinct, rising-fresh, rising-from, rising-in, any-cases, below-or, one-used, or-cases, over-append, stays-false, under-more, under_in-append, under_in-left, under_in-more, under_in-refs, under_in-right, under-keys}
-use Rattle.qgm_meaning.specs.Scope.{loose}
-use Rattle.qgm_shown.proofs.Loose.{shown-clear}
-use Rattle.qgm_shown.proofs.Order.{low-more, low-not, shows-has, thing-over, thing-settled}
-use Rattle.qgm_shown.proofs.Fills.{Fills, FillsAll, fills-crossed, fills-joined, fills-next, fills-none}
+use Rattle.qgm_shown.proofs.Numbers.{under_in-left, under_in-right, under-keys}
 use Rattle.qgm_shown.proofs.Made as mk
 
 module _ (sources : Sources) (has : List ℕ → Bool) where

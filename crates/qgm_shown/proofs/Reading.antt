@@ -1,5 +1,4 @@
 -- Which names a query reads, those that are known, and those of its leaves.
-use Rattle.std.specs.Prelude.{⊤}
 use Rattle.std.specs.List.{list_any}
 use Rattle.std.proofs.Common.{◌≡◌, ◌||◌, ℕ, Bool, true, false, List, [], ◌∷◌, ◌++◌, refl, ap, ap₂, sym, ◌∙◌, subst}
 use Rattle.sql_ast.specs.Names.{same_name}
@@ -7,7 +6,7 @@ use Rattle.sql_meaning.specs.ResolvedTrees.{Value, Addends, Multipliers, Values,
 use Rattle.sql_meaning.specs.ResolvedTrees as q
 use Rattle.qgm_shown.specs.Buildable.{Buildable, FitAddends, FitArms, FitChoices, FitFrom, FitFroms, FitMultipliers, FitTest, FitTests, FitValue, FitValues}
 use Rattle.qgm_shown.specs.Leaves.{Leaf, addend_leaves, arm_leaves, choice_leaves, count, every_or_some, fold, leaves, list_leaves, multiplier_leaves, sub, test_leaves, tests_leaves}
-use Rattle.qgm_core.specs.declared.kinds.QuantKind.TheVariants.{E, S}
+use Rattle.qgm_core.specs.declared.kinds.QuantKind.TheVariants.{E}
 use Rattle.qgm_shown.specs.Maps.{Frame}
 use Rattle.qgm_shown.specs.Reads.{addends_read, arms_read, choices_read, from_reads, froms_read, multipliers_read, query_reads, test_reads, tests_read, value_reads, values_read}
 use Rattle.qgm_shown.specs.Sources.{Sources}

@@ -1,5 +1,5 @@
 -- The types of the columns of quantifiers and of boxes, as more are known.
-use Rattle.std.proofs.Common.{◌≡◌, ◌≤◌, ◌<◌, ◌+◌, ℕ, zero, suc, List, [], ◌∷◌, ◌++◌, append_assoc, append-nil, get_or, length, map, refl, ap, ap₂, sym, ◌∙◌, subst, arith}
+use Rattle.std.proofs.Common.{◌≡◌, ◌≤◌, ◌<◌, ℕ, zero, suc, List, [], ◌∷◌, ◌++◌, append_assoc, append-nil, get_or, length, map, refl, ap, ap₂, sym, ◌∙◌, subst, arith}
 use Rattle.sql_value.specs.declared.order_key.SqlType.{SqlType}
 use Rattle.qgm_core.specs.declared.kinds.BoxKind.{BoxKind}
 use Rattle.qgm_core.specs.declared.kinds.BoxKind.TheVariants.{Base, Select, Group, SetOp, OuterJoin}
@@ -9,7 +9,7 @@ use Rattle.qgm_terms.specs.Terms.{Term}
 use Rattle.qgm_terms.specs.Terms as t
 use Rattle.qgm_shown.specs.Lay.{Boxes, SharedBox, column_types}
 use Rattle.qgm_shown.specs.Lays.{Begins, Counted, EachHasTypes, EachRanges, HasTypes, HeadUnder, Ranges, TypedUnder}
-use Rattle.qgm_shown.specs.Typing.{aggregate_type, column_type, type_at, typed_by}
+use Rattle.qgm_shown.specs.Typing.{aggregate_type, type_at, typed_by}
 
 pub begins-refl : (xs : List (List SqlType)) → Begins xs xs
 begins-refl xs = record { more = []; is = sym (append-nil xs) }

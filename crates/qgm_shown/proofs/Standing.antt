@@ -1,27 +1,24 @@
 -- The boxes of tables and views stand in order, each after what it reads, and those of the query after them.
-use Rattle.std.proofs.Common.{◌≡◌, ◌≤◌, ◌<◌, ◌⊎◌, ◌==◌, ◌||◌, inl, inr, cond, ℕ, zero, suc, ◌+◌, Bool, true, false, List, [], ◌∷◌, ◌++◌, length, Option, Some, None, refl, ap, sym, ◌∙◌, subst, arith}
-use Rattle.std.proofs.lemmas.Bool.{cases_Bool, eq-eqb, eqb-true, ne_eqb}
-use Rattle.sql_ast.specs.Names.{same_name}
+use Rattle.std.proofs.Common.{◌≡◌, ◌≤◌, ◌<◌, ◌==◌, inl, inr, cond, ℕ, zero, suc, ◌+◌, Bool, true, false, List, [], ◌∷◌, length, refl, ap, sym, ◌∙◌, subst, arith}
+use Rattle.std.proofs.lemmas.Bool.{cases_Bool, eq-eqb}
 use Rattle.sql_meaning.specs.ResolvedTrees.{Query}
 use Rattle.sql_meaning.specs.ResolvedTrees as q
 use Rattle.sql_meaning.specs.ResolvedViews.{ViewTree}
-use Rattle.sql_value.specs.declared.order_key.SqlType.{SqlType}
 use Rattle.qgm_core.specs.declared.kinds.BaseTable.{BaseTable}
 use Rattle.qgm_core.specs.declared.kinds.BoxKind.TheVariants.{Base}
 use Rattle.qgm_core.specs.declared.node.Node.{Node}
 use Rattle.qgm_terms.specs.Terms.{Term}
 use Rattle.qgm_shown.specs.Buildable.{Buildable}
-use Rattle.qgm_shown.specs.Lay.{Boxes, Laid, SharedBox, box_named, lay_by, lay_table, laying, plain_box}
-use Rattle.qgm_shown.specs.Lays.{Begins, Counted, EachHasTypes, EachShows, InOrder, Keeps, Made, OneMore, Ready, ShowsSome, Unshared, laid_over, lay_base}
+use Rattle.qgm_shown.specs.Lay.{Boxes, Laid, box_named, lay_by, lay_table, plain_box}
+use Rattle.qgm_shown.specs.Lays.{Counted, EachHasTypes, EachShows, InOrder, OneMore, Ready, ShowsSome, Unshared, laid_over}
 use Rattle.qgm_shown.specs.Reads.{query_reads}
-use Rattle.qgm_shown.specs.Shown.{Shows, of_operand, of_query, uses}
-use Rattle.qgm_shown.specs.Shown as w
+use Rattle.qgm_shown.specs.Shown.{Shows, of_operand, uses}
 use Rattle.qgm_shown.specs.Sources.{Sources}
 use Rattle.qgm_shown.specs.Typing.{typed_by}
 use Rattle.qgm_shown.specs.Whole.{is_laid, is_wanted, lay_read, lay_tables, lay_views, nothing_laid, shares}
 use Rattle.qgm_shown.specs.WholeLaw.{EachTableSaid, EachViewSaid, TableSaid, ViewSaid, is_declared}
 use Rattle.qgm_shown.proofs.LaidAll.{laid}
-use Rattle.qgm_shown.proofs.Numbers.{below-or, or-cases}
+use Rattle.qgm_shown.proofs.Numbers.{below-or}
 use Rattle.qgm_shown.proofs.Order.{low-more, low-not}
 use Rattle.qgm_shown.proofs.Reading.{query-has, query-narrow}
 use Rattle.qgm_shown.proofs.Rows.{Later, begins-more, begins-refl, each_has_types-later, get-last, length-one}

@@ -1,13 +1,12 @@
 -- Expressions and conditions are the same where the types of the columns that they go by are.
-use Rattle.std.proofs.Common.{◌≡◌, ◌<◌, ℕ, suc, Bool, true, false, List, [], ◌∷◌, ◌++◌, map, get_or, pos, cond, refl, ap, ap₂, sym, ◌∙◌, arith}
+use Rattle.std.proofs.Common.{◌≡◌, ◌<◌, ℕ, List, [], ◌∷◌, ◌++◌, map, get_or, pos, cond, refl, ap, ap₂, ◌∙◌}
 use Rattle.sql_value.specs.declared.order_key.SqlType.{SqlType}
 use Rattle.sql_meaning.specs.ResolvedTrees.{Value, Addends, Multipliers, Values, Arms, Choices, Test, Tests, From, Froms}
 use Rattle.sql_meaning.specs.ResolvedTrees as q
-use Rattle.qgm_core.specs.declared.owned.OwnedQuant.{OwnedQuant}
 use Rattle.qgm_terms.specs.Terms.{Term, Cond}
 use Rattle.qgm_terms.specs.Terms as t
 use Rattle.qgm_shown.specs.Lays.{TypedUnder, Under, UnderIn}
-use Rattle.qgm_shown.specs.Leaves.{Leaf, Slots, after, arm_leaves, choice_leaves, count, first_cell, first_quant, fold, leaves, sub, test_leaves}
+use Rattle.qgm_shown.specs.Leaves.{Leaf, Slots, after, arm_leaves, choice_leaves, count, first_quant, fold, leaves, sub, test_leaves}
 use Rattle.qgm_shown.specs.Maps.{Frame, Map, nothing, ref_term}
 use Rattle.qgm_shown.specs.Shown.{argument_terms, no_slots, padded, rows_list}
 use Rattle.qgm_shown.specs.Sources.{Sources}

@@ -1,6 +1,6 @@
 -- The types of the expressions of a block go by the quantifiers that it sees.
 use Rattle.std.specs.Prelude.{⊤}
-use Rattle.std.proofs.Common.{◌≡◌, ◌<◌, ℕ, zero, suc, Bool, true, false, List, [], ◌∷◌, ◌++◌, get_or, map, pos, cond, Option, Some, None, refl, arith}
+use Rattle.std.proofs.Common.{◌<◌, ℕ, zero, suc, Bool, true, false, List, [], ◌∷◌, ◌++◌, get_or, map, pos, cond, Option, Some, None, arith}
 use Rattle.sql_value.specs.declared.order_key.SqlType.{SqlType}
 use Rattle.sql_value.specs.declared.order_key.SqlType.TheVariants.{Integer, Varchar}
 use Rattle.sql_meaning.specs.ResolvedTrees.{Value, Addends, Multipliers, Values}
@@ -9,10 +9,9 @@ use Rattle.qgm_core.specs.declared.owned.OwnedQuant.{OwnedQuant}
 use Rattle.qgm_terms.specs.Terms.{Term}
 use Rattle.qgm_terms.specs.Terms as t
 use Rattle.qgm_shown.specs.Lays.{HeadUnder, TypedUnder, Under, UnderIn, UnderRef}
-use Rattle.qgm_shown.specs.Leaves.{Leaf, Slots, after, arm_leaves, choice_leaves, count, first_cell, first_quant, fold, leaves, rest_of, sub, test_leaves}
+use Rattle.qgm_shown.specs.Leaves.{Leaf, Slots, after, arm_leaves, choice_leaves, count, first_cell, first_quant, fold, leaves, rest_of, sub}
 use Rattle.qgm_shown.specs.Maps.{Frame, Map, Ref, column, none_counted, nothing, ref_term}
-use Rattle.qgm_shown.specs.Shown.{argument_terms, columns_of, fold_refs, fold_terms, no_slots, padded, refs, rows_list, slots_of, ungrouped, ungrouped_cells, upper_slots}
-use Rattle.qgm_shown.specs.Shown as w
+use Rattle.qgm_shown.specs.Shown.{argument_terms, columns_of, fold_refs, fold_terms, no_slots, padded, rows_list, slots_of, ungrouped, ungrouped_cells, upper_slots}
 use Rattle.sql_ast.specs.declared.word.SetFunction.{SetFunction}
 use Rattle.sql_ast.specs.declared.word.SetFunction.TheVariants as function
 use Rattle.qgm_shown.specs.Sources.{Sources}

@@ -1,36 +1,21 @@
 -- What is laid of tables and views, one after the other.
-use Rattle.std.proofs.Common.{◌≡◌, ◌≤◌, ◌<◌, ◌||◌, ◌&&◌, ◌⊎◌, ◌==◌, not, inl, inr, cond, ℕ, zero, suc, ◌+◌, Bool, true, false, List, [], ◌∷◌, ◌++◌, append_assoc, append-nil, length, Option, Some, None, refl, ap, ap₂, sym, ◌∙◌, subst, arith}
+use Rattle.std.proofs.Common.{◌≡◌, ◌≤◌, ◌<◌, ◌||◌, ◌&&◌, ◌⊎◌, not, inl, inr, cond, ℕ, zero, suc, Bool, true, false, List, [], ◌∷◌, ◌++◌, append_assoc, append-nil, refl, ap, sym, ◌∙◌, subst, arith}
 use Rattle.std.specs.Cmp.Lexicographic.{nat_list_eq_equiv}
-use Rattle.std.proofs.lemmas.Bool.{and_parts, cases_Bool, eq-eqb, ne_eqb}
+use Rattle.std.proofs.lemmas.Bool.{and_parts}
 use Rattle.sql_ast.specs.Names.{same_name}
 use Rattle.sql_meaning.specs.ResolvedTrees.{Query}
-use Rattle.sql_meaning.specs.ResolvedTrees as q
 use Rattle.sql_meaning.specs.ResolvedViews.{ViewTree}
-use Rattle.sql_value.specs.declared.order_key.SqlType.{SqlType}
-use Rattle.qgm_core.specs.Boxes.{Ordered}
 use Rattle.qgm_core.specs.declared.kinds.BaseTable.{BaseTable}
-use Rattle.qgm_core.specs.declared.kinds.BoxKind.TheVariants.{Base}
-use Rattle.qgm_core.specs.declared.node.Node.{Node}
-use Rattle.qgm_terms.specs.Terms.{Term}
-use Rattle.qgm_shown.specs.Buildable.{Buildable}
-use Rattle.qgm_shown.specs.Lay.{Boxes, Laid, SharedBox, box_named, lay_by, lay_table, laying, plain_box}
-use Rattle.qgm_shown.specs.Lays.{Begins, Counted, EachHasTypes, InOrder, Made, OneMore, Ready, Unshared, laid_over, owned}
-use Rattle.qgm_shown.specs.Maps.{Map}
+use Rattle.qgm_shown.specs.Lay.{Boxes, Laid, SharedBox, box_named, lay_by, lay_table, laying}
+use Rattle.qgm_shown.specs.Lays.{Begins}
 use Rattle.qgm_shown.specs.Reads.{query_reads}
-use Rattle.qgm_shown.specs.Shown.{of_operand, of_query, uses}
-use Rattle.qgm_shown.specs.Shown as w
 use Rattle.qgm_shown.specs.Sources.{Sources}
-use Rattle.qgm_shown.specs.Typing.{typed_by}
-use Rattle.qgm_shown.specs.Whole.{is_laid, is_wanted, lay_read, lay_tables, lay_views, nothing_laid, shares}
-use Rattle.qgm_shown.specs.WholeLaw.{EachTableSaid, EachViewSaid, TableSaid, ViewSaid, in_tables, in_views, is_declared}
+use Rattle.qgm_shown.specs.Whole.{is_laid, is_wanted, lay_read, lay_tables, lay_views, shares}
+use Rattle.qgm_shown.specs.WholeLaw.{EachViewSaid, in_tables, in_views, is_declared}
 use Rattle.qgm_shown.proofs.Grows.{lay-grows}
-use Rattle.qgm_shown.proofs.LaidAll.{laid}
-use Rattle.qgm_shown.proofs.Numbers.{below-or, or-cases}
-use Rattle.qgm_shown.proofs.Order.{low-more, low-not}
-use Rattle.qgm_shown.proofs.Reading.{or-left, or-right, query-has, query-narrow, same-eq}
-use Rattle.qgm_shown.proofs.Rows.{Later, begins-more, begins-refl, begins-trans, each_has_types-later, get-last, length-one}
-use Rattle.qgm_shown.proofs.Same.{lay-same}
-use Rattle.qgm_shown.proofs.Start.{base-as, base-ready, nothing-ready, view-ready}
+use Rattle.qgm_shown.proofs.Numbers.{or-cases}
+use Rattle.qgm_shown.proofs.Reading.{or-left, or-right, same-eq}
+use Rattle.qgm_shown.proofs.Rows.{begins-refl, begins-trans}
 
 -- ---- names that were laid
 

@@ -1,18 +1,16 @@
 -- The graph that is laid for a query over tables and views is built of the query, and stands in order.
-use Rattle.std.specs.Prelude.{◌≡◌, ◌≤◌, ◌<◌, ◌==◌, ◌||◌, ◌⊎◌, ℕ, Bool, true, false, List, [], ◌∷◌, length, Option, Some, None, ⊤}
+use Rattle.std.specs.Prelude.{◌≡◌, ◌≤◌, ◌<◌, ◌||◌, ◌⊎◌, ℕ, Bool, true, false, List, [], ◌∷◌, length, Option, Some, None, ⊤}
 use Rattle.sql_ast.specs.Names.{same_name}
 use Rattle.sql_meaning.specs.ResolvedTrees.{Query}
 use Rattle.sql_meaning.specs.ResolvedTrees as q
 use Rattle.sql_meaning.specs.ResolvedViews.{ViewTree}
 use Rattle.sql_value.specs.declared.order_key.OrderKey.{OrderKey}
-use Rattle.sql_value.specs.declared.order_key.SqlType.{SqlType}
-use Rattle.qgm_core.specs.Boxes.{Ordered, QueryGraph, ids_in}
+use Rattle.qgm_core.specs.Boxes.{Ordered, ids_in}
 use Rattle.qgm_core.specs.Lists.{times}
 use Rattle.qgm_core.specs.declared.kinds.BaseTable.{BaseTable}
-use Rattle.qgm_terms.specs.Terms.{Term}
 use Rattle.qgm_shown.specs.Buildable.{Buildable}
 use Rattle.qgm_shown.specs.Law.{IsBuiltOf}
-use Rattle.qgm_shown.specs.Lay.{Boxes, Laid, laying}
+use Rattle.qgm_shown.specs.Lay.{Laid, laying}
 use Rattle.qgm_shown.specs.Lays.{Counted, EachHasTypes}
 use Rattle.qgm_shown.specs.Reads.{query_reads}
 use Rattle.qgm_shown.specs.Shown.{Shows, of_operand, uses}
