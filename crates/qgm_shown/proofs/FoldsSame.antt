@@ -1,14 +1,19 @@
 -- The aggregates of a block are the same, wherever its columns are seen.
-use Rattle.std.proofs.Common.{◌≡◌, List, [], ◌++◌, refl, ap₂, sym, ◌∙◌}
+use Rattle.std.proofs.Common.{◌≡◌, List, [], ◌∷◌, ◌++◌, refl, ap, ap₂, sym, ◌∙◌}
 use Rattle.sql_meaning.specs.ResolvedTrees.{Value, Addends, Multipliers, Values, Arms, Choices, Test, Tests, From, Froms}
 use Rattle.sql_meaning.specs.ResolvedTrees as q
 use Rattle.qgm_core.specs.declared.owned.OwnedQuant.{OwnedQuant}
-use Rattle.qgm_shown.specs.Leaves.{Leaf, addend_leaves, arm_leaves, choice_leaves, leaves, list_leaves, multiplier_leaves, test_leaves, tests_leaves}
+use Rattle.qgm_shown.specs.Leaves.{Leaf, addend_leaves, arm_leaves, choice_leaves, count, fold, leaves, sub, list_leaves, multiplier_leaves, test_leaves, tests_leaves}
 use Rattle.qgm_shown.specs.Maps.{Frame}
 use Rattle.qgm_shown.specs.Shown as w
 use Rattle.qgm_shown.specs.Sources.{Sources}
-use Rattle.qgm_build.specs.Folds.{all_on_folds, folds_in, on_folds}
-use Rattle.qgm_build.proofs.Folding.{folds_append}
+use Rattle.qgm_shown.specs.Folds.{all_on_folds, folds_in, on_folds}
+
+pub folds_append : (xs ys : List Leaf) → folds_in (xs ++ ys) ≡ folds_in xs ++ folds_in ys
+folds_append [] ys = refl
+folds_append (sub fr kind query ∷ xs) ys = folds_append xs ys
+folds_append (fold f distinct x ∷ xs) ys = ap (λ zs. fold f distinct x ∷ zs) (folds_append xs ys)
+folds_append (count ∷ xs) ys = ap (λ zs. count ∷ zs) (folds_append xs ys)
 
 both : (a b c d : List Leaf) → folds_in a ≡ folds_in c → folds_in b ≡ folds_in d → folds_in (a ++ b) ≡ folds_in (c ++ d)
 both a b c d e f = folds_append a b ∙ ap₂ (λ x y. x ++ y) e f ∙ sym (folds_append c d)

@@ -1,40 +1,41 @@
 -- What each step of the making gives.
-use Rattle.std.proofs.Common.{◌≡◌, ◌≤◌, ◌<◌, ◌||◌, cond, ℕ, suc, ◌+◌, ◌==◌, Bool, true, false, List, [], ◌∷◌, ◌++◌, map, length, append_assoc, append-nil, refl, ap, ap₂, sym, ◌∙◌, subst, arith, Option}
+use Rattle.std.proofs.Common.{◌≡◌, ◌≤◌, ◌<◌, ◌||◌, cond, ℕ, suc, ◌+◌, ◌==◌, Bool, true, false, List, [], ◌∷◌, ◌++◌, map, length, get_or, pos, append_assoc, append-nil, refl, ap, ap₂, sym, ◌∙◌, subst, arith, Option}
 use Rattle.std.proofs.lemmas.Bool.{ne_eqb, eq-eqb, eqb-true}
 use Rattle.sql_ast.specs.declared.word.SetFunction.{SetFunction}
-use Rattle.sql_ast.specs.declared.word.Quantifier.{Quantifier}
-use Rattle.sql_ast.specs.declared.word.Quantifier.TheVariants as quantifier
 use Rattle.sql_meaning.specs.ResolvedTrees.{Value, Addends, Multipliers, Values, Arms, Choices, Test, Tests, From, Froms, Query}
 use Rattle.sql_meaning.specs.ResolvedTrees as q
-use Rattle.qgm_terms.specs.Terms.{Term, Cond}
+use Rattle.qgm_terms.specs.Terms.{Term, Cond, col, count_all, int}
+use Rattle.qgm_terms.specs.Terms as t
 use Rattle.qgm_core.specs.declared.kinds.QuantKind.{QuantKind}
-use Rattle.qgm_core.specs.declared.kinds.QuantKind.TheVariants.{F, E, S}
+use Rattle.qgm_core.specs.declared.kinds.QuantKind.TheVariants.{F}
 use Rattle.qgm_core.specs.declared.kinds.BoxKind.{BoxKind}
 use Rattle.qgm_core.specs.declared.node.Node.{Node}
 use Rattle.qgm_core.specs.declared.owned.OwnedQuant.{OwnedQuant}
 use Rattle.qgm_core.specs.declared.kinds.BoxKind.TheVariants.{Select, Group, SetOp, OuterJoin}
 use Rattle.qgm_core.specs.Kinds.{is_F}
 use Rattle.qgm_shown.specs.Maps.{Frame, Map, ref_term}
-use Rattle.qgm_shown.specs.Leaves.{Leaf, Slots, after, count, every_or_some, fold, leaves, list_leaves, sub, test_leaves}
+use Rattle.qgm_shown.specs.Maps as maps
+use Rattle.qgm_shown.specs.Folds.{folds_in}
+use Rattle.qgm_shown.specs.Leaves.{Leaf, Slots, after, count, fold, leaves, list_leaves, sub, test_leaves}
 use Rattle.qgm_shown.specs.Terms.{split}
-use Rattle.qgm_shown.specs.Leaves as leaf
 use Rattle.qgm_shown.specs.Terms as l
 use Rattle.qgm_shown.specs.Shown.{over_in, uses, HasKey, PlainArguments, Thing, columns_of, fold_terms, key_frame, key_places, no_slots, of_groups, of_operand, of_query, of_rows, refs}
 use Rattle.qgm_shown.specs.Shown as w
 use Rattle.qgm_shown.specs.Sources.{Sources, from_width, froms_width, width}
-use Rattle.qgm_build.specs.Lay.{Boxes, Laid, Drawn, Step, put, numbered, drawn, none, in_turn, over, pair_of}
+use Rattle.qgm_shown.specs.Lay.{Boxes, Laid, Drawn, Step, column_types, put, ranging, drawn, none, in_turn, over, pair_of}
 use Rattle.qgm_core.specs.declared.kinds.SetOperator as forms
-use Rattle.qgm_build.specs.Lay as y
-use Rattle.qgm_build.specs.Law as k
-use Rattle.qgm_shown.specs.Buildable as b
-use Rattle.qgm_build.specs.Law.{Under, UnderIn, owned}
+use Rattle.qgm_shown.specs.Lay as y
+use Rattle.qgm_shown.specs.Lays as k
+use Rattle.qgm_shown.specs.Lays.{Counted, EachRanges, HeadUnder, Under, UnderIn, owned}
+use Rattle.qgm_shown.proofs.Rows.{Later, begins-more, begins-refl, begins-trans, each_has_types-later, each_ranges-append, each_ranges-later, get-last, length-one, ranges-later}
+use Rattle.qgm_shown.proofs.TermsUnder.{groups-under, refs-under, rows-under, slots-under, terms-under, upper_slots-under}
 use Rattle.std.specs.List.{list_any}
 use Rattle.qgm_core.specs.Boxes.{is_quant}
-use Rattle.qgm_build.proofs.Numbers.{Rising, fresh-under, rising-append, rising-distinct, rising-fresh, rising-from, rising-in, any-cases, below-or, one-used, or-cases, over-append, stays-false, under-more, under_in-append, under_in-left, under_in-more, under_in-refs, under_in-right, under-keys}
+use Rattle.qgm_shown.proofs.Numbers.{Rising, fresh-under, rising-append, rising-distinct, rising-fresh, rising-from, rising-in, any-cases, below-or, one-used, or-cases, over-append, stays-false, under-more, under_in-append, under_in-more, under_in-refs, under-keys}
 use Rattle.qgm_meaning.specs.Scope.{loose}
 use Rattle.qgm_shown.proofs.Loose.{shown-clear}
-use Rattle.qgm_build.proofs.Order.{low-more, low-not, shows-has, thing-over, thing-settled}
-use Rattle.qgm_build.proofs.Fills.{Fills, FillsAll, fills-crossed, fills-joined, fills-next, fills-none}
+use Rattle.qgm_shown.proofs.Order.{low-more, low-not, shows-has, thing-over, thing-settled}
+use Rattle.qgm_shown.proofs.Fills.{Fills, FillsAll, fills-crossed, fills-joined, fills-next, fills-none}
 
 module _ (sources : Sources) (has : List ℕ → Bool) where
   abbrev pub Shows : List Node → ℕ → Thing → Map → Type 0
@@ -49,13 +50,44 @@ module _ (sources : Sources) (has : List ℕ → Bool) where
   abbrev pub Made : Thing → Map → Boxes → Laid → Type 0
   Made = k.Made sources has
 
+  -- all is told beforehand
+  abbrev pub same : Boxes → Sources
+  same s = sources
+
   -- ---- what stays
 
   pub keeps-refl : (a : Boxes) → Keeps a a
-  keeps-refl a = record { boxes = omega arith; quants = omega arith; order = λ o. o; kept = λ j l u. refl; owners = λ q l h. h; same = λ j thing m l h. h }
+  keeps-refl a = record {
+    boxes = omega arith;
+    quants = omega arith;
+    order = λ o. o;
+    kept = λ j l u. refl;
+    owners = λ q l h. h;
+    same = λ j thing m l h. h;
+    rows = begins-refl a.rows;
+    types = begins-refl a.types;
+    counted = λ c. c;
+    typed = λ c t. t;
+    shared = refl;
+  }
 
-  pub keeps-numbered : (a : Boxes) → Keeps a (numbered a)
-  keeps-numbered a = record { boxes = omega arith; quants = omega arith; order = λ o. record { low = o.low; ordered = o.ordered; settled = o.settled; bound = λ q h. (let x = o.bound q h in omega arith); once = o.once; unused = o.unused; named = o.named; each = o.each }; kept = λ j l u. refl; owners = λ q l h. h; same = λ j thing m l h. h }
+  pub ranging-later : (b : ℕ) (a : Boxes) → Later a (ranging b a)
+  ranging-later b a = record { boxes = omega arith; quants = omega arith; rows = begins-more a.rows (get_or a.types b [] ∷ []); types = begins-refl a.types }
+
+  pub keeps-ranging : (b : ℕ) (a : Boxes) → Keeps a (ranging b a)
+  keeps-ranging b a = record {
+    boxes = omega arith;
+    quants = omega arith;
+    order = λ o. record { low = o.low; ordered = o.ordered; settled = o.settled; bound = λ q h. (let x = o.bound q h in omega arith); once = o.once; unused = o.unused; named = o.named; each = o.each };
+    kept = λ j l u. refl;
+    owners = λ q l h. h;
+    same = λ j thing m l h. h;
+    rows = begins-more a.rows (get_or a.types b [] ∷ []);
+    types = begins-refl a.types;
+    counted = λ c. record { some = omega arith; rows = length-one a.rows (get_or a.types b []) a.quant c.rows; types = c.types };
+    typed = λ c h. each_has_types-later a (ranging b a) c (ranging-later b a) a.made h;
+    shared = refl;
+  }
 
   pub keeps-trans : (a b c : Boxes) → Keeps a b → Keeps b c → Keeps a c
   keeps-trans a b c h k = record {
@@ -65,7 +97,31 @@ module _ (sources : Sources) (has : List ℕ → Bool) where
     kept = λ j l u. k.kept j (let x = h.boxes in omega arith) u ∙ h.kept j l u;
     owners = λ q l t. h.owners q l (k.owners q (let x = h.quants in omega arith) t);
     same = λ j thing m l s. k.same j thing m (let x = h.boxes in omega arith) (h.same j thing m l s);
+    rows = begins-trans h.rows k.rows;
+    types = begins-trans h.types k.types;
+    counted = λ c. k.counted (h.counted c);
+    typed = λ c t. k.typed (h.counted c) (h.typed c t);
+    shared = k.shared ∙ h.shared;
   }
+
+  pub later : (a b : Boxes) → Keeps a b → Later a b
+  later a b k = record { boxes = k.boxes; quants = k.quants; rows = k.rows; types = k.types }
+
+  -- ---- the types of the columns of quantifiers that are drawn
+
+  pub ranged-append : (a b c : Boxes) (os ps : List OwnedQuant) → Keeps a b → Keeps b c → (Counted a → EachRanges b os) → (Counted b → EachRanges c ps) → Counted a → EachRanges c (os ++ ps)
+  ranged-append a b c os ps h k f g d = each_ranges-append c os ps (each_ranges-later b c (h.counted d) (later b c k) os (f d)) (g (h.counted d))
+
+  -- over what was laid
+  pub ranged-one : (a b : Boxes) (kind : QuantKind) (top : ℕ) → Keeps a b → top < b.box → Counted a → EachRanges (ranging top b) (record { id = b.quant; kind = kind; over = top } ∷ [])
+  ranged-one a b kind top h l c = (record { drawn = omega arith; laid = l; types = get-last b.rows (get_or b.types top []) b.quant (h.counted c).rows }, tt)
+
+  pub ranged-two : (s a b : Boxes) (x y : ℕ) → Keeps s b → x < b.box → y < b.box → Counted s → EachRanges (ranging y (ranging x b)) (pair_of b.quant x y)
+  ranged-two s a b x y h l k c =
+      let d = ranging x b in
+      let first = ranged-one s b F x h l c in
+      let then = ranged-one s d F y (keeps-trans s b d h (keeps-ranging x b)) k c in
+      (ranges-later d (ranging y d) ((keeps-ranging x b).counted (h.counted c)) (ranging-later y d) (record { id = b.quant; kind = F; over = x }) first.0, (then.0, tt))
 
   pub ready-keeps : (a b : Boxes) (m : Map) → Ready a m → Keeps a b → Ready b m
   ready-keeps a b m r k = record {
@@ -85,22 +141,22 @@ module _ (sources : Sources) (has : List ℕ → Bool) where
   abbrev pub Free : Boxes → Boxes → List OwnedQuant → Type 0
   Free a b os = k.InOrder sources has a → (q : ℕ) → list_any (is_quant q) os ≡ true → owned q b.made ≡ false
 
-  free-new : (a b : Boxes) → Keeps a b → k.InOrder sources has a → (q : ℕ) → b.quant ≤ q → owned q b.made ≡ false
+  pub free-new : (a b : Boxes) → Keeps a b → k.InOrder sources has a → (q : ℕ) → b.quant ≤ q → owned q b.made ≡ false
   free-new a b h o q l = by_case (owned q b.made) (λ t. (h.order o).bound q t)
     where
       by_case : (x : Bool) → (x ≡ true → q < b.quant) → x ≡ false
       by_case true f = absurd (let t = f refl in omega arith)
       by_case false f = refl
 
-  free-one : (a b : Boxes) (kind : QuantKind) (top : ℕ) → Keeps a b → Free a b (record { id = b.quant; kind = kind; over = top } ∷ [])
+  pub free-one : (a b : Boxes) (kind : QuantKind) (top : ℕ) → Keeps a b → Free a b (record { id = b.quant; kind = kind; over = top } ∷ [])
   free-one a b kind top h o q t = or-cases (b.quant == q) false t (λ e. let same = eqb-true b.quant q e in free-new a b h o q (omega arith)) (λ e. absurd (cc e))
 
-  free-pair : (a b : Boxes) (x y : ℕ) → Keeps a b → Free a b (pair_of b.quant x y)
+  pub free-pair : (a b : Boxes) (x y : ℕ) → Keeps a b → Free a b (pair_of b.quant x y)
   free-pair a b x y h o q t =
       or-cases (b.quant == q) ((suc b.quant == q) || false) t (λ e. let same = eqb-true b.quant q e in free-new a b h o q (omega arith))
       (λ e. or-cases (suc b.quant == q) false e (λ e. let same = eqb-true (suc b.quant) q e in free-new a b h o q (omega arith)) (λ e. absurd (cc e)))
 
-  free-append : (a b c : Boxes) (os ps : List OwnedQuant) → Keeps a b → Keeps b c → Rising a.quant b.quant os → Free a b os → Free b c ps → Free a c (os ++ ps)
+  pub free-append : (a b c : Boxes) (os ps : List OwnedQuant) → Keeps a b → Keeps b c → Rising a.quant b.quant os → Free a b os → Free b c ps → Free a c (os ++ ps)
   free-append a b c os ps h k r f g o q t =
       any-cases (is_quant q) os ps t (λ e. stays-false (owned q b.made) (owned q c.made) (k.owners q (rising-in a.quant b.quant q os r e).1) (f o q e)) (λ e. g (h.order o) q e)
 
@@ -112,13 +168,13 @@ module _ (sources : Sources) (has : List ℕ → Bool) where
     pub new : k.InOrder sources has a → (j : ℕ) → a.box ≤ j → j < b.box → over_in j os + uses j b.made ≡ 1
     pub later : (j : ℕ) → b.box ≤ j → over_in j os ≡ 0
 
-  unshared : (a : Boxes) → k.InOrder sources has a → (j : ℕ) → a.box ≤ j → k.Unshared sources has j
+  pub unshared : (a : Boxes) → k.InOrder sources has a → (j : ℕ) → a.box ≤ j → k.Unshared sources has j
   unshared a o j l name h = ne_eqb (sources.shared name) j (λ (e : sources.shared name ≡ j). absurd (let x = o.named name h in omega arith))
 
-  counts-none : (a : Boxes) → Counts a a []
+  pub counts-none : (a : Boxes) → Counts a a []
   counts-none a = record { old = λ j l u. refl; new = λ o j l t. absurd (omega arith); later = λ j l. refl }
 
-  counts-append : (a b c : Boxes) (os ps : List OwnedQuant) → Keeps a b → Keeps b c → Counts a b os → Counts b c ps → Counts a c (os ++ ps)
+  pub counts-append : (a b c : Boxes) (os ps : List OwnedQuant) → Keeps a b → Keeps b c → Counts a b os → Counts b c ps → Counts a c (os ++ ps)
   counts-append a b c os ps h k f g = record {
     old = λ j l u. (let x = f.old j l u in let y = g.old j (let z = h.boxes in omega arith) u in let e = over-append j os ps in omega arith);
     new = λ o j l t. below-or j b.box
@@ -127,24 +183,21 @@ module _ (sources : Sources) (has : List ℕ → Bool) where
     later = λ j l. (let x = f.later j (let z = k.boxes in omega arith) in let y = g.later j l in let e = over-append j os ps in omega arith);
   }
 
-  counts-one : (thing : Thing) (m : Map) (a : Boxes) (r : Laid) (id : ℕ) (kind : QuantKind) → Made thing m a r → Counts a r.boxes (record { id = id; kind = kind; over = r.top } ∷ [])
+  pub counts-one : (thing : Thing) (m : Map) (a : Boxes) (r : Laid) (id : ℕ) (kind : QuantKind) → Made thing m a r → Counts a r.boxes (record { id = id; kind = kind; over = r.top } ∷ [])
   counts-one thing m a r id kind h = record {
     old = λ j l u. ap (λ b. cond b 1 0 + 0) (h.top j l u);
     new = λ o j l t. one-used (r.top == j) (uses j r.boxes.made) (h.used o j l t);
     later = λ j l. ap (λ b. cond b 1 0 + 0) (ne_eqb r.top j (λ (e : r.top ≡ j). absurd (let x = h.known in omega arith)));
   }
 
-  counts-numbered : (a b : Boxes) (os : List OwnedQuant) → Counts a b os → Counts a (numbered b) os
-  counts-numbered a b os h = record { old = h.old; new = h.new; later = h.later }
-
-  counts-from : (a b : Boxes) (os : List OwnedQuant) → Counts (numbered a) b os → Counts a b os
-  counts-from a b os h = record { old = h.old; new = λ o. h.new ((keeps-numbered a).order o); later = h.later }
+  pub counts-ranging : (i : ℕ) (a b : Boxes) (os : List OwnedQuant) → Counts a b os → Counts a (ranging i b) os
+  counts-ranging i a b os h = record { old = h.old; new = h.new; later = h.later }
 
   -- a box that is put on top
-  pub made-put : (kind : BoxKind) (distinct : Bool) (conds : List Cond) (head : List Term) (quants : List OwnedQuant) (thing : Thing) (m : Map) (a s : Boxes) → Keeps a s → Rising a.quant s.quant quants → Free a s quants → Counts a s quants
+  pub made-put : (kind : BoxKind) (distinct : Bool) (conds : List Cond) (head : List Term) (quants : List OwnedQuant) (thing : Thing) (m : Map) (a s : Boxes) → Keeps a s → Rising a.quant s.quant quants → Free a s quants → Counts a s quants → (Counted a → EachRanges s quants) → (0 < s.quant → HeadUnder s.quant head)
       → w.ShowsBox sources (Shows s.made) thing m (y.plain_box s.box kind distinct conds head quants)
       → Made thing m a (put kind distinct conds head quants s)
-  made-put kind distinct conds head quants thing m a s k rising free counts h =
+  made-put kind distinct conds head quants thing m a s k rising free counts ranged under h =
       let n : Node = y.plain_box s.box kind distinct conds head quants in
       let r : Laid = put kind distinct conds head quants s in
       record {
@@ -167,6 +220,21 @@ module _ (sources : Sources) (has : List ℕ → Bool) where
           owners = λ q l t. or-cases (list_any (is_quant q) quants) (owned q s.made) t (λ e. absurd (let x = (rising-in a.quant s.quant q quants rising e).0 in omega arith)) (λ e. k.owners q l e);
           same = λ j t p l g.
               subst (λ own. w.Either own (w.ShowsBox sources (Shows s.made) t p n) (Shows s.made j t p)) (sym (ne_eqb s.box j (λ (e : s.box ≡ j). absurd (let x = k.boxes in omega arith)))) (k.same j t p l g);
+          rows = k.rows;
+          types = begins-trans k.types (begins-more s.types (column_types s.rows kind head ∷ []));
+          counted = λ c. record { some = (k.counted c).some; rows = (k.counted c).rows; types = length-one s.types (column_types s.rows kind head) s.box (k.counted c).types };
+          typed = λ c t.
+              let d = k.counted c in
+              let more : Later s r.boxes = record { boxes = omega arith; quants = omega arith; rows = begins-refl s.rows; types = begins-more s.types (column_types s.rows kind head ∷ []) } in (
+                record {
+                  laid = omega arith;
+                  quants = each_ranges-later s r.boxes d more quants (ranged c);
+                  head = under d.some;
+                  types = get-last s.types (column_types s.rows kind head) s.box d.types;
+                },
+                each_has_types-later s r.boxes d more s.made (k.typed c t),
+              );
+          shared = k.shared;
         };
         known = omega arith;
         shows = subst (λ own. w.Either own (w.ShowsBox sources (Shows s.made) thing m n) (Shows s.made s.box thing m)) (sym (eq-eqb s.box s.box refl)) h;
@@ -183,6 +251,7 @@ module _ (sources : Sources) (has : List ℕ → Bool) where
     pub rising : Rising s.quant r.boxes.quant r.quants
     pub free : Free s r.boxes r.quants
     pub counts : Counts s r.boxes r.quants
+    pub ranged : Counted s → EachRanges r.boxes r.quants
     pub fills : Fills sources x r.quants
     pub under : UnderIn r.boxes.quant (w.frame sources x r.quants)
     pub shows : (c : Boxes) → Keeps r.boxes c → (more : List OwnedQuant) → w.ShowsFrom sources (Shows c.made) x m (r.quants ++ more)
@@ -192,6 +261,7 @@ module _ (sources : Sources) (has : List ℕ → Bool) where
     pub rising : Rising s.quant r.boxes.quant r.quants
     pub free : Free s r.boxes r.quants
     pub counts : Counts s r.boxes r.quants
+    pub ranged : Counted s → EachRanges r.boxes r.quants
     pub fills : FillsAll sources x r.quants
     pub under : UnderIn r.boxes.quant (w.frame_all sources x r.quants)
     pub shows : (c : Boxes) → Keeps r.boxes c → (more : List OwnedQuant) → w.ShowsFroms sources (Shows c.made) x m (r.quants ++ more)
@@ -202,16 +272,17 @@ module _ (sources : Sources) (has : List ℕ → Bool) where
       → ((below : ℕ → Thing → Map → Type 0) (os : List OwnedQuant) → w.ShowsOne sources below x m os → w.ShowsFrom sources below x m os)
       → MadeFrom x m s (drawn F r)
   from-one x n m s r h fills frame one = record {
-    keeps = keeps-trans s r.boxes (numbered r.boxes) h.keeps (keeps-numbered r.boxes);
+    keeps = keeps-trans s r.boxes (drawn F r).boxes h.keeps (keeps-ranging r.top r.boxes);
     rising = (h.keeps.quants, omega arith);
     free = free-one s r.boxes F r.top h.keeps;
-    counts = counts-numbered s r.boxes (drawn F r).quants (counts-one (of_operand x) m s r r.boxes.quant F h);
+    counts = counts-ranging r.top s r.boxes (drawn F r).quants (counts-one (of_operand x) m s r r.boxes.quant F h);
+    ranged = ranged-one s r.boxes F r.top h.keeps h.known;
     fills = fills;
     under = subst (UnderIn (suc r.boxes.quant)) (sym frame) (under_in-refs (suc r.boxes.quant) r.boxes.quant 1 n (omega arith));
-    shows = λ c k more. one (Shows c.made) ((drawn F r).quants ++ more) (refl, still (of_operand x) m s r c h (keeps-trans r.boxes (numbered r.boxes) c (keeps-numbered r.boxes) k));
+    shows = λ c k more. one (Shows c.made) ((drawn F r).quants ++ more) (refl, still (of_operand x) m s r c h (keeps-trans r.boxes (drawn F r).boxes c (keeps-ranging r.top r.boxes) k));
   }
 
-  from-both : (x y z : From) (m : Map) (s : Boxes) (a b : Drawn) → MadeFrom x m s a → MadeFrom y m a.boxes b → Fills sources z (a.quants ++ b.quants)
+  pub from-both : (x y z : From) (m : Map) (s : Boxes) (a b : Drawn) → MadeFrom x m s a → MadeFrom y m a.boxes b → Fills sources z (a.quants ++ b.quants)
       → ((os : List OwnedQuant) → w.frame sources z os ≡ w.frame sources x os ++ w.frame sources y (w.past sources x os))
       → ((below : ℕ → Thing → Map → Type 0) (os : List OwnedQuant) → w.ShowsFrom sources below x m os × w.ShowsFrom sources below y m (w.past sources x os) → w.ShowsFrom sources below z m os)
       → MadeFrom z m s (record { boxes = b.boxes; quants = a.quants ++ b.quants })
@@ -220,6 +291,7 @@ module _ (sources : Sources) (has : List ℕ → Bool) where
     rising = rising-append s.quant a.boxes.quant b.boxes.quant a.quants b.quants h.rising k.rising;
     free = free-append s a.boxes b.boxes a.quants b.quants h.keeps k.keeps h.rising h.free k.free;
     counts = counts-append s a.boxes b.boxes a.quants b.quants h.keeps k.keeps h.counts k.counts;
+    ranged = ranged-append s a.boxes b.boxes a.quants b.quants h.keeps k.keeps h.ranged k.ranged;
     fills = fills;
     under = subst (UnderIn b.boxes.quant) (sym (frame (a.quants ++ b.quants) ∙ ap₂ (λ f g. f ++ g) (h.fills.frame b.quants) (ap (w.frame sources y) (h.fills.past b.quants))))
         (under_in-append b.boxes.quant (w.frame sources x a.quants) (w.frame sources y b.quants) (under_in-more a.boxes.quant b.boxes.quant (w.frame sources x a.quants) k.keeps.quants h.under) k.under);
@@ -236,7 +308,7 @@ module _ (sources : Sources) (has : List ℕ → Bool) where
   from-joined x y p m s a b h k = from-both x y (q.joined x y p) m s a b h k (fills-joined sources x y p a.quants b.quants h.fills k.fills) (λ os. refl) (λ below os z. z)
 
   pub froms-none : (m : Map) (s : Boxes) → MadeFroms q.no_from m s (none s)
-  froms-none m s = record { keeps = keeps-refl s; rising = omega arith; free = λ o q t. absurd (cc t); counts = counts-none s; fills = fills-none sources; under = tt; shows = λ c k more. tt }
+  froms-none m s = record { keeps = keeps-refl s; rising = omega arith; free = λ o q t. absurd (cc t); counts = counts-none s; ranged = λ c. tt; fills = fills-none sources; under = tt; shows = λ c k more. tt }
 
   pub froms-next : (x : From) (xs : Froms) (m : Map) (s : Boxes) (a b : Drawn) → MadeFrom x m s a → MadeFroms xs m a.boxes b → MadeFroms (q.one_from x xs) m s (record { boxes = b.boxes; quants = a.quants ++ b.quants })
   froms-next x xs m s a b h k = record {
@@ -244,6 +316,7 @@ module _ (sources : Sources) (has : List ℕ → Bool) where
     rising = rising-append s.quant a.boxes.quant b.boxes.quant a.quants b.quants h.rising k.rising;
     free = free-append s a.boxes b.boxes a.quants b.quants h.keeps k.keeps h.rising h.free k.free;
     counts = counts-append s a.boxes b.boxes a.quants b.quants h.keeps k.keeps h.counts k.counts;
+    ranged = ranged-append s a.boxes b.boxes a.quants b.quants h.keeps k.keeps h.ranged k.ranged;
     fills = fills-next sources x xs a.quants b.quants h.fills k.fills;
     under = subst (UnderIn b.boxes.quant) (sym (ap₂ (λ f g. f ++ g) (h.fills.frame b.quants) (ap (w.frame_all sources xs) (h.fills.past b.quants))))
         (under_in-append b.boxes.quant (w.frame sources x a.quants) (w.frame_all sources xs b.quants) (under_in-more a.boxes.quant b.boxes.quant (w.frame sources x a.quants) k.keeps.quants h.under) k.under);
@@ -264,6 +337,7 @@ module _ (sources : Sources) (has : List ℕ → Bool) where
     pub rising : Rising s.quant r.boxes.quant r.quants
     pub free : Free s r.boxes r.quants
     pub counts : Counts s r.boxes r.quants
+    pub ranged : Counted s → EachRanges r.boxes r.quants
     pub shows : (c : Boxes) → Keeps r.boxes c → w.ShowsSubs sources (Shows c.made) m ls r.quants
 
   -- a step that makes what these leaves ask for, which see a frame or parts of it
@@ -271,13 +345,13 @@ module _ (sources : Sources) (has : List ℕ → Bool) where
     pub plain : (f : Frame) → PlainArguments f ls
     pub at : (s : Boxes) → Ready s (fr ∷ m) → MadeSubs m ls s (step s)
 
-  plain-append : (f : Frame) (a b : List Leaf) → PlainArguments f a → PlainArguments f b → PlainArguments f (a ++ b)
+  pub plain-append : (f : Frame) (a b : List Leaf) → PlainArguments f a → PlainArguments f b → PlainArguments f (a ++ b)
   plain-append f [] b h k = k
   plain-append f (sub g kind x ∷ a) b h k = plain-append f a b h k
   plain-append f (fold g d x ∷ a) b h k = (h.0, plain-append f a b h.1 k)
   plain-append f (count ∷ a) b h k = plain-append f a b h k
 
-  subs-append : (below : ℕ → Thing → Map → Type 0) (m : Map) (a b : List Leaf) (os ps : List OwnedQuant) → w.ShowsSubs sources below m a os → w.ShowsSubs sources below m b ps → w.ShowsSubs sources below m (a ++ b) (os ++ ps)
+  pub subs-append : (below : ℕ → Thing → Map → Type 0) (m : Map) (a b : List Leaf) (os ps : List OwnedQuant) → w.ShowsSubs sources below m a os → w.ShowsSubs sources below m b ps → w.ShowsSubs sources below m (a ++ b) (os ++ ps)
   subs-append below m [] b os ps h k = subst (λ z. w.ShowsSubs sources below m b (z ++ ps)) (sym h) k
   subs-append below m (sub f kind x ∷ a) b [] ps h k = absurd h
   subs-append below m (sub f kind x ∷ a) b (o ∷ os) ps h k = (h.0, h.1, h.2, h.3, subs-append below m a b os ps h.4 k)
@@ -285,13 +359,13 @@ module _ (sources : Sources) (has : List ℕ → Bool) where
   subs-append below m (count ∷ a) b os ps h k = subs-append below m a b os ps h k
 
   pub nothing : {fr : Frame} {m : Map} → Serves fr m [] none
-  nothing {fr} {m} = record { plain = λ f. tt; at = λ s r. record { keeps = keeps-refl s; rising = omega arith; free = λ o q t. absurd (cc t); counts = counts-none s; shows = λ c k. refl } }
+  nothing {fr} {m} = record { plain = λ f. tt; at = λ s r. record { keeps = keeps-refl s; rising = omega arith; free = λ o q t. absurd (cc t); counts = counts-none s; ranged = λ c. tt; shows = λ c k. refl } }
 
   pub counted : {fr : Frame} {m : Map} → Serves fr m (count ∷ []) none
-  counted {fr} {m} = record { plain = λ f. tt; at = λ s r. record { keeps = keeps-refl s; rising = omega arith; free = λ o q t. absurd (cc t); counts = counts-none s; shows = λ c k. refl } }
+  counted {fr} {m} = record { plain = λ f. tt; at = λ s r. record { keeps = keeps-refl s; rising = omega arith; free = λ o q t. absurd (cc t); counts = counts-none s; ranged = λ c. tt; shows = λ c k. refl } }
 
   pub folded : {fr : Frame} {m : Map} (f : SetFunction) (d : Bool) (x : q.Value) → ((f : Frame) → leaves f x ≡ []) → Serves fr m (fold f d x ∷ []) none
-  folded {fr} {m} f d x h = record { plain = λ f. (h f, tt); at = λ s r. record { keeps = keeps-refl s; rising = omega arith; free = λ o q t. absurd (cc t); counts = counts-none s; shows = λ c k. refl } }
+  folded {fr} {m} f d x h = record { plain = λ f. (h f, tt); at = λ s r. record { keeps = keeps-refl s; rising = omega arith; free = λ o q t. absurd (cc t); counts = counts-none s; ranged = λ c. tt; shows = λ c k. refl } }
 
   pub both : {fr : Frame} {m : Map} {ls ks : List Leaf} {a b : Step} → Serves fr m ls a → Serves fr m ks b → Serves fr m (ls ++ ks) (in_turn a b)
   both {fr} {m} {ls} {ks} {a} {b} h k = record {
@@ -304,6 +378,7 @@ module _ (sources : Sources) (has : List ℕ → Bool) where
           rising = rising-append s.quant (a s).boxes.quant (b (a s).boxes).boxes.quant (a s).quants (b (a s).boxes).quants x.rising y.rising;
           free = free-append s (a s).boxes (b (a s).boxes).boxes (a s).quants (b (a s).boxes).quants x.keeps y.keeps x.rising x.free y.free;
           counts = counts-append s (a s).boxes (b (a s).boxes).boxes (a s).quants (b (a s).boxes).quants x.keeps y.keeps x.counts y.counts;
+          ranged = ranged-append s (a s).boxes (b (a s).boxes).boxes (a s).quants (b (a s).boxes).quants x.keeps y.keeps x.ranged y.ranged;
           shows = λ c g. subs-append (Shows c.made) m ls ks (a s).quants (b (a s).boxes).quants (x.shows c (keeps-trans (a s).boxes (b (a s).boxes).boxes c y.keeps g)) (y.shows c g);
         };
   }
@@ -318,11 +393,12 @@ module _ (sources : Sources) (has : List ℕ → Bool) where
         let made = h s r in
         let a = lay s in
         record {
-          keeps = keeps-trans s a.boxes (numbered a.boxes) made.keeps (keeps-numbered a.boxes);
+          keeps = keeps-trans s a.boxes (drawn kind a).boxes made.keeps (keeps-ranging a.top a.boxes);
           rising = (made.keeps.quants, omega arith);
           free = free-one s a.boxes kind a.top made.keeps;
-          counts = counts-numbered s a.boxes (drawn kind a).quants (counts-one (of_query x) (fr ∷ m) s a a.boxes.quant kind made);
-          shows = λ c k. (refl, e, fresh-under a.boxes.quant (fr ∷ m) (under-more s.quant a.boxes.quant (fr ∷ m) made.keeps.quants r.under), still (of_query x) (fr ∷ m) s a c made (keeps-trans a.boxes (numbered a.boxes) c (keeps-numbered a.boxes) k), refl);
+          counts = counts-ranging a.top s a.boxes (drawn kind a).quants (counts-one (of_query x) (fr ∷ m) s a a.boxes.quant kind made);
+          ranged = ranged-one s a.boxes kind a.top made.keeps made.known;
+          shows = λ c k. (refl, e, fresh-under a.boxes.quant (fr ∷ m) (under-more s.quant a.boxes.quant (fr ∷ m) made.keeps.quants r.under), still (of_query x) (fr ∷ m) s a c made (keeps-trans a.boxes (drawn kind a).boxes c (keeps-ranging a.top a.boxes) k), refl);
         };
   }
 
@@ -330,6 +406,10 @@ module _ (sources : Sources) (has : List ℕ → Bool) where
 
   pub numbered-apart : (n k : ℕ) (m : Map) (os : List OwnedQuant) → Under n m → Rising n k os → w.Numbered m os
   numbered-apart n k m os u r = (rising-distinct n k os r, rising-fresh n k m os u r)
+
+  -- the columns of a FROM are still seen when its subqueries were made
+  pub frame-later : (from : Froms) (m : Map) (s : Boxes) (f c : Drawn) → MadeFroms from m s f → Keeps f.boxes c.boxes → UnderIn c.boxes.quant (w.frame_all sources from f.quants)
+  frame-later from m s f c h k = under_in-more f.boxes.quant c.boxes.quant (w.frame_all sources from f.quants) k.quants h.under
 
   -- the box of a select
   abbrev pub select_node : Bool → Froms → Test → (Frame → List Leaf) → (Frame → Slots → List Term) → Map → List OwnedQuant → Drawn → Node
@@ -375,27 +455,30 @@ module _ (sources : Sources) (has : List ℕ → Bool) where
       split-as true e later h = to (Shows ns) n (eqb-true n.id b e) h
       split-as false e later h = later h
 
-  derived-made : (x : Query) (m : Map) (s : Boxes) (r : Laid) → Made (of_query x) m s r → Made (of_operand (q.derived x)) m s r
+  pub derived-made : (x : Query) (m : Map) (s : Boxes) (r : Laid) → Made (of_query x) m s r → Made (of_operand (q.derived x)) m s r
   derived-made x m s r h = record { keeps = h.keeps; known = h.known; shows = shows-as (of_query x) (of_operand (q.derived x)) m m r.top (λ below n e z. z) r.boxes.made h.shows; used = h.used; top = h.top }
 
-  named-made : (name : List ℕ) (m : Map) (s : Boxes) → has name ≡ true → Ready s m → Made (of_operand (q.named name)) m s (record { boxes = s; top = sources.shared name })
+  pub named-made : (name : List ℕ) (m : Map) (s : Boxes) → has name ≡ true → Ready s m → Made (of_operand (q.named name)) m s (record { boxes = s; top = sources.shared name })
   named-made name m s h r = record { keeps = keeps-refl s; known = r.known name h; shows = r.sourced name h m; used = λ o j l t. absurd (omega arith); top = λ j l u. u name h }
 
-  block-made : (distinct : Bool) (list : Values) (from : Froms) (by : Test) (m : Map) (s : Boxes) (f c : Drawn) → Under s.quant m → MadeFroms from m s f
+  pub block-made : (distinct : Bool) (list : Values) (from : Froms) (by : Test) (m : Map) (s : Boxes) (f c : Drawn) → Under s.quant m → MadeFroms from m s f
       → MadeSubs m (w.all_leaves sources from by (λ fr. list_leaves fr list) f.quants) f.boxes c
-      → Made (of_query (q.block distinct list from by)) m s (y.select_box sources distinct from by (λ fr. list_leaves fr list) (λ fr s. l.terms sources fr m s list) m f.quants c)
+      → Made (of_query (q.block distinct list from by)) m s (y.select_box sources same distinct from by (λ fr. list_leaves fr list) (λ sources fr s. l.terms sources fr m s list) m f.quants c)
   block-made distinct list from by m s f c u h k =
       let heads : Frame → List Leaf = λ fr. list_leaves fr list in
       let items : Frame → Slots → List Term = λ fr s. l.terms sources fr m s list in
+      let slots = w.slots_of (w.all_leaves sources from by heads f.quants) c.quants in
       let n = select_node distinct from by heads items m f.quants c in
       made-put Select distinct n.parts.conds.items n.parts.head n.quants (of_query (q.block distinct list from by)) m s c.boxes (keeps-trans s f.boxes c.boxes h.keeps k.keeps)
-      (rising-append s.quant f.boxes.quant c.boxes.quant f.quants c.quants h.rising k.rising) (free-append s f.boxes c.boxes f.quants c.quants h.keeps k.keeps h.rising h.free k.free) (counts-append s f.boxes c.boxes f.quants c.quants h.keeps k.keeps h.counts k.counts) (shows-select distinct from by heads items m s f c u h k)
+      (rising-append s.quant f.boxes.quant c.boxes.quant f.quants c.quants h.rising k.rising) (free-append s f.boxes c.boxes f.quants c.quants h.keeps k.keeps h.rising h.free k.free) (counts-append s f.boxes c.boxes f.quants c.quants h.keeps k.keeps h.counts k.counts)
+      (ranged-append s f.boxes c.boxes f.quants c.quants h.keeps k.keeps h.ranged k.ranged) (λ some. terms-under sources c.boxes.quant some (w.frame_all sources from f.quants) m (frame-later from m s f c h k.keeps) (under-more s.quant c.boxes.quant m (keeps-trans s f.boxes c.boxes h.keeps k.keeps).quants u) slots (slots-under f.boxes.quant c.boxes.quant (w.all_leaves sources from by heads f.quants) c.quants k.rising) list)
+      (shows-select distinct from by heads items m s f c u h k)
 
-  abbrev Flat : (ℕ → Thing → Map → Type 0) → From → Map → Node → Type 0
+  abbrev pub Flat : (ℕ → Thing → Map → Type 0) → From → Map → Node → Type 0
   Flat below x m b = w.ShowsFlat sources below x m b
 
-  flat-made : (x : From) (m : Map) (s : Boxes) (f c : Drawn) → ((below : ℕ → Thing → Map → Type 0) (b : Node) → Flat below x m b → w.ShowsOperand sources below x m b) → Under s.quant m → MadeFrom x m s f
-      → MadeSubs m (w.on_leaves sources x f.quants) f.boxes c → Made (of_operand x) m s (y.flat_box sources x m f.quants c)
+  pub flat-made : (x : From) (m : Map) (s : Boxes) (f c : Drawn) → ((below : ℕ → Thing → Map → Type 0) (b : Node) → Flat below x m b → w.ShowsOperand sources below x m b) → Under s.quant m → MadeFrom x m s f
+      → MadeSubs m (w.on_leaves sources x f.quants) f.boxes c → Made (of_operand x) m s (y.flat_box sources same x m f.quants c)
   flat-made x m s f c to u h k =
       let heads : Frame → List Leaf = λ fr. [] in
       let items : Frame → Slots → List Term = λ fr s. map ref_term fr in
@@ -403,22 +486,25 @@ module _ (sources : Sources) (has : List ℕ → Bool) where
       let ls = w.on_leaves sources x f.quants in
       made-put Select false n.parts.conds.items n.parts.head n.quants (of_operand x) m s c.boxes (keeps-trans s f.boxes c.boxes h.keeps k.keeps)
       (rising-append s.quant f.boxes.quant c.boxes.quant f.quants c.quants h.rising k.rising) (free-append s f.boxes c.boxes f.quants c.quants h.keeps k.keeps h.rising h.free k.free) (counts-append s f.boxes c.boxes f.quants c.quants h.keeps k.keeps h.counts k.counts)
+      (ranged-append s f.boxes c.boxes f.quants c.quants h.keeps k.keeps h.ranged k.ranged) (λ some. refs-under c.boxes.quant (w.frame sources x f.quants ++ []) (frame-later (q.one_from x q.no_from) m s f c (froms-alone x m s f h) k.keeps))
       (to (Shows c.boxes.made) n (shows-select false (q.one_from x q.no_from) (q.all q.no_test) heads items m s f c u (froms-alone x m s f h)
       (subst (λ z. MadeSubs m z f.boxes c) (sym (append-nil (ls ++ []) ∙ append-nil ls)) k)))
 
-  outer-made : (x z : From) (n : ℕ) (on : Test) (m : Map) (s : Boxes) (a : Laid) (lay : Boxes → Laid) → Ready s m → Made (of_operand x) m s a → Made (of_operand z) m a.boxes (lay a.boxes)
-      → from_width sources z ≡ n → ((fr : Frame) → test_leaves fr on ≡ []) → Made (of_operand (q.left_joined x z n on)) m s (y.outer_box sources x n on m lay a)
+  pub outer-made : (x z : From) (n : ℕ) (on : Test) (m : Map) (s : Boxes) (a : Laid) (lay : Boxes → Laid) → Ready s m → Made (of_operand x) m s a → Made (of_operand z) m a.boxes (lay a.boxes)
+      → from_width sources z ≡ n → ((fr : Frame) → test_leaves fr on ≡ []) → Made (of_operand (q.left_joined x z n on)) m s (y.outer_box sources same x n on m lay a)
   outer-made x z n on m s a lay r h k e none =
       let b = lay a.boxes in
-      let c = numbered (numbered b.boxes) in
+      let c = ranging b.top (ranging a.top b.boxes) in
       let fr = refs b.boxes.quant 1 (from_width sources x) ++ refs (suc b.boxes.quant) 1 n in
       let os = pair_of b.boxes.quant a.top b.top in
-      let grow = keeps-trans b.boxes (numbered b.boxes) c (keeps-numbered b.boxes) (keeps-numbered (numbered b.boxes)) in
+      let grow = keeps-trans b.boxes (ranging a.top b.boxes) c (keeps-ranging a.top b.boxes) (keeps-ranging b.top (ranging a.top b.boxes)) in
       let later = keeps-trans s a.boxes b.boxes h.keeps k.keeps in
       made-put OuterJoin false (split (l.cond sources fr m no_slots on)) (map ref_term fr) os (of_operand (q.left_joined x z n on)) m s c (keeps-trans s b.boxes c later grow)
       (rising-from s.quant b.boxes.quant c.quant os later.quants (omega arith, (omega arith, omega arith))) (free-pair s b.boxes a.top b.top later)
-      (counts-numbered s (numbered b.boxes) os (counts-numbered s b.boxes os (counts-append s a.boxes b.boxes (record { id = b.boxes.quant; kind = F; over = a.top } ∷ []) (record { id = suc b.boxes.quant; kind = F; over = b.top } ∷ []) h.keeps k.keeps
+      (counts-ranging b.top s (ranging a.top b.boxes) os (counts-ranging a.top s b.boxes os (counts-append s a.boxes b.boxes (record { id = b.boxes.quant; kind = F; over = a.top } ∷ []) (record { id = suc b.boxes.quant; kind = F; over = b.top } ∷ []) h.keeps k.keeps
       (counts-one (of_operand x) m s a b.boxes.quant F h) (counts-one (of_operand z) m a.boxes b (suc b.boxes.quant) F k))))
+      (ranged-two s a.boxes b.boxes a.top b.top later (let z = h.known in let y = k.keeps.boxes in omega arith) k.known)
+      (λ some. refs-under c.quant fr (under_in-append c.quant (refs b.boxes.quant 1 (from_width sources x)) (refs (suc b.boxes.quant) 1 n) (under_in-refs c.quant b.boxes.quant 1 (from_width sources x) (omega arith)) (under_in-refs c.quant (suc b.boxes.quant) 1 n (omega arith))))
       (record {
         kind = refl;
         plain = record { distinctness = refl; role = refl; numbered = numbered-apart b.boxes.quant c.quant m os (under-more s.quant b.boxes.quant m later.quants r.under) (omega arith, (omega arith, omega arith)) };
@@ -426,20 +512,21 @@ module _ (sources : Sources) (has : List ℕ → Bool) where
         quants = (refl, refl, record { left = still (of_operand x) m s a c h (keeps-trans a.boxes b.boxes c k.keeps grow); right = still (of_operand z) m a.boxes b c k grow; on = none fr; conds = refl; head = refl });
       })
 
-  two-made : (x z t : Query) (form : forms.SetOperator) (n : ℕ) (m : Map) (s : Boxes) (a : Laid) (lay : Boxes → Laid) → Ready s m → Made (of_query x) m s a → Made (of_query z) m a.boxes (lay a.boxes)
+  pub two-made : (x z t : Query) (form : forms.SetOperator) (n : ℕ) (m : Map) (s : Boxes) (a : Laid) (lay : Boxes → Laid) → Ready s m → Made (of_query x) m s a → Made (of_query z) m a.boxes (lay a.boxes)
       → width x ≡ n → width z ≡ n
-      → ((below : ℕ → Thing → Map → Type 0) (b : Node) → w.ShowsPair sources below form n x z m b → w.ShowsQuery sources below t m b) → Made (of_query t) m s (y.two_box sources form n lay a)
+      → ((below : ℕ → Thing → Map → Type 0) (b : Node) → w.ShowsPair sources below form n x z m b → w.ShowsQuery sources below t m b) → Made (of_query t) m s (y.two_box sources same form n lay a)
   two-made x z t form n m s a lay r h k left right to =
       let b = lay a.boxes in
-      let c = numbered (numbered b.boxes) in
+      let c = ranging b.top (ranging a.top b.boxes) in
       let os = pair_of b.boxes.quant a.top b.top in
       let kind = SetOp form (map sources.typed (w.columns_of b.boxes.quant 1 n)) in
-      let grow = keeps-trans b.boxes (numbered b.boxes) c (keeps-numbered b.boxes) (keeps-numbered (numbered b.boxes)) in
+      let grow = keeps-trans b.boxes (ranging a.top b.boxes) c (keeps-ranging a.top b.boxes) (keeps-ranging b.top (ranging a.top b.boxes)) in
       let later = keeps-trans s a.boxes b.boxes h.keeps k.keeps in
       made-put kind false [] [] os (of_query t) m s c (keeps-trans s b.boxes c later grow)
       (rising-from s.quant b.boxes.quant c.quant os later.quants (omega arith, (omega arith, omega arith))) (free-pair s b.boxes a.top b.top later)
-      (counts-numbered s (numbered b.boxes) os (counts-numbered s b.boxes os (counts-append s a.boxes b.boxes (record { id = b.boxes.quant; kind = F; over = a.top } ∷ []) (record { id = suc b.boxes.quant; kind = F; over = b.top } ∷ []) h.keeps k.keeps
+      (counts-ranging b.top s (ranging a.top b.boxes) os (counts-ranging a.top s b.boxes os (counts-append s a.boxes b.boxes (record { id = b.boxes.quant; kind = F; over = a.top } ∷ []) (record { id = suc b.boxes.quant; kind = F; over = b.top } ∷ []) h.keeps k.keeps
       (counts-one (of_query x) m s a b.boxes.quant F h) (counts-one (of_query z) m a.boxes b (suc b.boxes.quant) F k))))
+      (ranged-two s a.boxes b.boxes a.top b.top later (let z = h.known in let y = k.keeps.boxes in omega arith) k.known) (λ some. tt)
       (to (Shows c.made) (y.plain_box c.box kind false [] [] os)
       (record {
         kind = refl;
@@ -452,246 +539,89 @@ module _ (sources : Sources) (has : List ℕ → Bool) where
 
   -- ---- groups
 
-  rows-made : (from : Froms) (by : Test) (places : List ℕ) (ls : List Leaf) (m : Map) (s : Boxes) (f c : Drawn) → Under s.quant m → ((fr : Frame) → PlainArguments fr ls) → MadeFroms from m s f
+  -- the arguments of aggregates are the same, wherever the columns of the groups are seen
+  pub arguments-same : (fr : Frame) (ls : List Leaf) → w.argument_terms sources fr (folds_in ls) ≡ w.argument_terms sources fr ls
+  arguments-same fr [] = refl
+  arguments-same fr (sub f kind x ∷ ls) = arguments-same fr ls
+  arguments-same fr (fold f d x ∷ ls) = ap (λ ts. l.term sources fr [] no_slots x ∷ ts) (arguments-same fr ls)
+  arguments-same fr (count ∷ ls) = arguments-same fr ls
+
+  pub folds-same : (q j : ℕ) (ls : List Leaf) → fold_terms q j (folds_in ls) ≡ fold_terms q j ls
+  folds-same q j [] = refl
+  folds-same q j (sub f kind x ∷ ls) = folds-same q j ls
+  folds-same q j (fold f d x ∷ ls) = ap (λ ts. t.fold (w.aggregate f) (w.taken d) (col q j) ∷ ts) (folds-same q (suc j) ls)
+  folds-same q j (count ∷ ls) = ap (λ ts. count_all ∷ ts) (folds-same q j ls)
+
+  pub rows-made : (from : Froms) (by : Test) (places : List ℕ) (ks ls : List Leaf) (m : Map) (s : Boxes) (f c : Drawn) → folds_in ks ≡ folds_in ls → Under s.quant m → ((fr : Frame) → PlainArguments fr ls) → MadeFroms from m s f
       → MadeSubs m (w.all_leaves sources from by (λ fr. []) f.quants) f.boxes c
-      → Made (of_rows from by places ls) m s (y.select_box sources false from by (λ fr. []) (w.rows_list sources places ls) m f.quants c)
-  rows-made from by places ls m s f c u plain h k =
+      → Made (of_rows from by places ls) m s (y.select_box sources same false from by (λ fr. []) (λ sources. w.rows_list sources places ks) m f.quants c)
+  rows-made from by places ks ls m s f c alike u plain h k =
       let heads : Frame → List Leaf = λ fr. [] in
       let items : Frame → Slots → List Term = w.rows_list sources places ls in
       let n = select_node false from by heads items m f.quants c in
-      made-put Select false n.parts.conds.items n.parts.head n.quants (of_rows from by places ls) m s c.boxes (keeps-trans s f.boxes c.boxes h.keeps k.keeps)
+      let fr = w.frame_all sources from f.quants in
+      let arguments : w.argument_terms sources fr ks ≡ w.argument_terms sources fr ls = sym (arguments-same fr ks) ∙ ap (w.argument_terms sources fr) alike ∙ arguments-same fr ls in
+      let head : List Term → List Term = λ ts. w.padded (int (pos 1)) (map (λ place. ref_term (get_or fr place maps.nothing)) places ++ ts) in
+      subst (λ ts. Made (of_rows from by places ls) m s (put Select false n.parts.conds.items (head ts) n.quants c.boxes)) (sym arguments)
+      (made-put Select false n.parts.conds.items n.parts.head n.quants (of_rows from by places ls) m s c.boxes (keeps-trans s f.boxes c.boxes h.keeps k.keeps)
       (rising-append s.quant f.boxes.quant c.boxes.quant f.quants c.quants h.rising k.rising) (free-append s f.boxes c.boxes f.quants c.quants h.keeps k.keeps h.rising h.free k.free) (counts-append s f.boxes c.boxes f.quants c.quants h.keeps k.keeps h.counts k.counts)
-      (record { arguments = plain (w.frame_all sources from n.quants); rows = shows-select false from by heads items m s f c u h k })
+      (ranged-append s f.boxes c.boxes f.quants c.quants h.keeps k.keeps h.ranged k.ranged) (λ some. rows-under sources c.boxes.quant some fr (frame-later from m s f c h k.keeps) places ls (w.slots_of (w.all_leaves sources from by heads f.quants) c.quants))
+      (record { arguments = plain (w.frame_all sources from n.quants); rows = shows-select false from by heads items m s f c u h k }))
 
-  groups-made : (from : Froms) (by : Test) (places : List ℕ) (ls : List Leaf) (m : Map) (s : Boxes) (r : Laid) → Under s.quant m → Made (of_rows from by places ls) m s r → Made (of_groups from by places ls) m s (y.group_box sources places ls r)
-  groups-made from by places ls m s r u h =
+  pub groups-made : (from : Froms) (by : Test) (places : List ℕ) (ks ls : List Leaf) (m : Map) (s : Boxes) (r : Laid) → folds_in ks ≡ folds_in ls → Under s.quant m → Made (of_rows from by places ls) m s r
+      → Made (of_groups from by places ls) m s (y.group_box sources same places ks r)
+  groups-made from by places ks ls m s r alike u h =
       let g = r.boxes.quant in
-      let c = numbered r.boxes in
-      made-put (Group (length places)) false [] (w.groups_list places ls g) (drawn F r).quants (of_groups from by places ls) m s c
-      (keeps-trans s r.boxes c h.keeps (keeps-numbered r.boxes)) (rising-from s.quant g c.quant (drawn F r).quants h.keeps.quants (omega arith, omega arith)) (free-one s r.boxes F r.top h.keeps)
-      (counts-numbered s r.boxes (drawn F r).quants (counts-one (of_rows from by places ls) m s r g F h))
+      let c = (drawn F r).boxes in
+      let folds : fold_terms g (suc (length places)) ks ≡ fold_terms g (suc (length places)) ls = sym (folds-same g (suc (length places)) ks) ∙ ap (fold_terms g (suc (length places))) alike ∙ folds-same g (suc (length places)) ls in
+      subst (λ ts. Made (of_groups from by places ls) m s (put (Group (length places)) false [] (columns_of g 1 (length places) ++ ts) (drawn F r).quants c)) (sym folds)
+      (made-put (Group (length places)) false [] (w.groups_list places ls g) (drawn F r).quants (of_groups from by places ls) m s c
+      (keeps-trans s r.boxes c h.keeps (keeps-ranging r.top r.boxes)) (rising-from s.quant g c.quant (drawn F r).quants h.keeps.quants (omega arith, omega arith)) (free-one s r.boxes F r.top h.keeps)
+      (counts-ranging r.top s r.boxes (drawn F r).quants (counts-one (of_rows from by places ls) m s r g F h)) (ranged-one s r.boxes F r.top h.keeps h.known)
+      (λ some. groups-under c.quant g (length places) (suc (length places)) ls (omega arith))
       (record {
         kind = refl;
         plain = record { distinctness = refl; role = refl; numbered = numbered-apart g c.quant m (drawn F r).quants (under-more s.quant g m h.keeps.quants u) (omega arith, omega arith) };
         conds = refl;
-        quants = (refl, (still (of_rows from by places ls) m s r c h (keeps-numbered r.boxes), refl));
-      })
+        quants = (refl, (still (of_rows from by places ls) m s r c h (keeps-ranging r.top r.boxes), refl));
+      }))
 
-  abbrev upper_leaves : Frame → Values → Test → List Leaf
+  abbrev pub upper_leaves : Frame → Values → Test → List Leaf
   upper_leaves = w.upper_leaves
 
-  upper-made : (distinct : Bool) (list : Values) (from : Froms) (by : Test) (places : Option (List ℕ)) (n : ℕ) (having : Test) (m : Map) (s : Boxes) (g : Laid) (c : Drawn) → Under s.quant m → HasKey places
+  pub upper-made : (distinct : Bool) (list : Values) (from : Froms) (by : Test) (places : Option (List ℕ)) (n : ℕ) (having : Test) (m : Map) (s : Boxes) (g : Laid) (c : Drawn) → Under s.quant m → HasKey places
       → froms_width sources from ≡ n
-      → Made (of_groups from by (key_places places) (upper_leaves (key_frame s.quant (key_places places) 0 n) list having)) m (numbered s) g
-      → MadeSubs m (upper_leaves (key_frame s.quant (key_places places) 0 n) list having) g.boxes c
-      → Made (of_query (q.grouped distinct list from by places n having)) m s (y.upper_box sources distinct list (key_places places) n having m s.quant g.top c)
+      → Made (of_groups from by (key_places places) (upper_leaves (key_frame g.boxes.quant (key_places places) 0 n) list having)) m s g
+      → MadeSubs m (upper_leaves (key_frame g.boxes.quant (key_places places) 0 n) list having) (drawn F g).boxes c
+      → Made (of_query (q.grouped distinct list from by places n having)) m s (y.upper_box sources same distinct list (key_places places) n having m g.boxes.quant g.top c)
   upper-made distinct list from by places n having m s g c u key e h k =
-      let fr = key_frame s.quant (key_places places) 0 n in
+      let fr = key_frame g.boxes.quant (key_places places) 0 n in
       let ls = upper_leaves fr list having in
-      let t = w.upper_slots s.quant (suc (length (key_places places))) ls c.quants in
-      let os : List OwnedQuant = record { id = s.quant; kind = F; over = g.top } ∷ c.quants in
-      let below : suc s.quant ≤ g.boxes.quant = h.keeps.quants in
-      let later = keeps-trans (numbered s) g.boxes c.boxes h.keeps k.keeps in
-      let rising : Rising s.quant c.boxes.quant os = (omega arith, rising-from (suc s.quant) g.boxes.quant c.boxes.quant c.quants below k.rising) in
+      let t = w.upper_slots g.boxes.quant (suc (length (key_places places))) ls c.quants in
+      let one : List OwnedQuant = record { id = g.boxes.quant; kind = F; over = g.top } ∷ [] in
+      let os = one ++ c.quants in
+      let d = (drawn F g).boxes in
+      let first = keeps-trans s g.boxes d h.keeps (keeps-ranging g.top g.boxes) in
+      let rises : Rising s.quant d.quant one = (h.keeps.quants, omega arith) in
+      let rising : Rising s.quant c.boxes.quant os = rising-append s.quant d.quant c.boxes.quant one c.quants rises k.rising in
       made-put Select distinct (split (l.cond sources fr m (after (list_leaves fr list) t) having)) (l.terms sources fr m t list) os (of_query (q.grouped distinct list from by places n having)) m s c.boxes
-      (keeps-trans s (numbered s) c.boxes (keeps-numbered s) later) rising
-      (λ o q z. or-cases (s.quant == q) (list_any (is_quant q) c.quants) z
-      (λ i. let same = eqb-true s.quant q i in stays-false (owned q s.made) (owned q c.boxes.made) (later.owners q (omega arith)) (free-new s s (keeps-refl s) o q (omega arith)))
-      (λ i. k.free (h.keeps.order ((keeps-numbered s).order o)) q i))
-      (counts-from s c.boxes os (counts-append (numbered s) g.boxes c.boxes (record { id = s.quant; kind = F; over = g.top } ∷ []) c.quants h.keeps k.keeps
-      (counts-one (of_groups from by (key_places places) ls) m (numbered s) g s.quant F h) k.counts))
+      (keeps-trans s d c.boxes first k.keeps) rising (free-append s d c.boxes one c.quants first k.keeps rises (free-one s g.boxes F g.top h.keeps) k.free)
+      (counts-append s d c.boxes one c.quants first k.keeps (counts-ranging g.top s g.boxes one (counts-one (of_groups from by (key_places places) ls) m s g g.boxes.quant F h)) k.counts)
+      (ranged-append s d c.boxes one c.quants first k.keeps (ranged-one s g.boxes F g.top h.keeps h.known) k.ranged)
+      (λ some.
+      let low : suc g.boxes.quant ≤ c.boxes.quant = k.keeps.quants in
+      terms-under sources c.boxes.quant some fr m (under-keys c.boxes.quant g.boxes.quant (key_places places) 0 n (omega arith)) (under-more s.quant c.boxes.quant m (keeps-trans s d c.boxes first k.keeps).quants u) t
+      (upper_slots-under d.quant c.boxes.quant g.boxes.quant (suc (length (key_places places))) ls c.quants (omega arith) k.rising) list)
       (record {
         kind = refl;
         plain = record { distinctness = refl; role = refl; numbered = numbered-apart s.quant c.boxes.quant m os u rising };
         key = key;
         columns = e;
-        upper = record { kind = refl; groups = still (of_groups from by (key_places places) ls) m (numbered s) g c.boxes h k.keeps; subs = k.shows c.boxes (keeps-refl c.boxes); conds = refl; head = refl };
+        upper = record {
+          kind = refl;
+          groups = still (of_groups from by (key_places places) ls) m s g c.boxes h (keeps-trans g.boxes d c.boxes (keeps-ranging g.top g.boxes) k.keeps);
+          subs = k.shows c.boxes (keeps-refl c.boxes);
+          conds = refl;
+          head = refl;
+        };
       })
-
-  -- ---- the subqueries of ON
-
-  on-crossed : (x z : From) (m : Map) (os : List OwnedQuant) {a b : Step} → Serves (w.frame sources x os) m (w.on_leaves sources x os) a
-      → Serves (w.frame sources z (w.past sources x os)) m (w.on_leaves sources z (w.past sources x os)) b
-      → Serves (w.frame sources (q.crossed x z) os) m (w.on_leaves sources (q.crossed x z) os) (in_turn a b)
-  on-crossed x z m os h k =
-      both (within (λ n u. under_in-left n (w.frame sources x os) (w.frame sources z (w.past sources x os)) u) h)
-      (within (λ n u. under_in-right n (w.frame sources x os) (w.frame sources z (w.past sources x os)) u) k)
-
-  on-joined : (x z : From) (p : Test) (m : Map) (os : List OwnedQuant) {a b c : Step} → Serves (w.frame sources x os) m (w.on_leaves sources x os) a
-      → Serves (w.frame sources z (w.past sources x os)) m (w.on_leaves sources z (w.past sources x os)) b
-      → Serves (w.frame sources (q.joined x z p) os) m (test_leaves (w.frame sources (q.joined x z p) os) p) c
-      → Serves (w.frame sources (q.joined x z p) os) m (w.on_leaves sources (q.joined x z p) os) (in_turn a (in_turn b c))
-  on-joined x z p m os h k j =
-      both (within (λ n u. under_in-left n (w.frame sources x os) (w.frame sources z (w.past sources x os)) u) h)
-      (both (within (λ n u. under_in-right n (w.frame sources x os) (w.frame sources z (w.past sources x os)) u) k) j)
-
-  on-next : (x : From) (xs : Froms) (m : Map) (os : List OwnedQuant) {a b : Step} → Serves (w.frame sources x os) m (w.on_leaves sources x os) a
-      → Serves (w.frame_all sources xs (w.past sources x os)) m (w.all_on_leaves sources xs (w.past sources x os)) b
-      → Serves (w.frame_all sources (q.one_from x xs) os) m (w.all_on_leaves sources (q.one_from x xs) os) (in_turn a b)
-  on-next x xs m os h k =
-      both (within (λ n u. under_in-left n (w.frame sources x os) (w.frame_all sources xs (w.past sources x os)) u) h)
-      (within (λ n u. under_in-right n (w.frame sources x os) (w.frame_all sources xs (w.past sources x os)) u) k)
-
-  binds-nothing : (each : Quantifier) → is_F (every_or_some each) ≡ false
-  binds-nothing quantifier.Any = refl
-  binds-nothing quantifier.Some = refl
-  binds-nothing quantifier.All = refl
-
-  -- ---- the making
-
-  mutual
-    pub laid : (x : Query) (m : Map) (s : Boxes) → b.Buildable sources has x → Ready s m → Made (of_query x) m s (y.lay sources x m s)
-    laid (q.block distinct list from by) m s h r =
-        let f = y.lay_froms sources m from s in
-        let a = froms-laid m from s h.0 r in
-        let fr = w.frame_all sources from f.quants in
-        let c = in_turn (y.list_subs sources m fr list) (in_turn (y.all_on_subs sources m from f.quants) (y.test_subs sources m fr by)) f.boxes in
-        let served = both (list-served m fr list h.1) (both (all-on-served m from f.quants h.0) (test-served m fr by h.2)) in
-        block-made distinct list from by m s f c r.under a (served.at f.boxes (ready-frame f.boxes fr m (ready-keeps s f.boxes m r a.keeps) a.under))
-    laid (q.grouped distinct list from by places n having) m s h r =
-        let f = y.lay_froms sources m from (numbered s) in
-        let ready = ready-keeps s (numbered s) m r (keeps-numbered s) in
-        let a = froms-laid m from (numbered s) h.0 ready in
-        let fr = w.frame_all sources from f.quants in
-        let up = key_frame s.quant (key_places places) 0 n in
-        let ls = upper_leaves up list having in
-        let upper = both (list-served m up list h.1) (test-served m up having h.3) in
-        let lower = both (all-on-served m from f.quants h.0) (test-served m fr by h.2) in
-        let c = in_turn (y.all_on_subs sources m from f.quants) (y.test_subs sources m fr by) f.boxes in
-        let rows = y.select_box sources false from by (λ fr. []) (w.rows_list sources (key_places places) ls) m f.quants c in
-        let groups = y.group_box sources (key_places places) ls rows in
-        let made = groups-made from by (key_places places) ls m (numbered s) rows ready.under (rows-made from by (key_places places) ls m (numbered s) f c ready.under upper.plain a
-        (lower.at f.boxes (ready-frame f.boxes fr m (ready-keeps (numbered s) f.boxes m ready a.keeps) a.under))) in
-        let d = in_turn (y.list_subs sources m up list) (y.test_subs sources m up having) groups.boxes in
-        upper-made distinct list from by places n having m s groups d r.under h.4 h.5 made
-        (upper.at groups.boxes (ready-frame groups.boxes up m (ready-keeps (numbered s) groups.boxes m ready made.keeps) (under-keys groups.boxes.quant s.quant (key_places places) 0 n made.keeps.quants)))
-    laid (q.combine x op all n z) m s h r =
-        let a = y.lay sources x m s in
-        let k = laid x m s h.0 r in
-        two-made x z (q.combine x op all n z) (w.form_of op all) n m s a (y.lay sources z m) r k (laid z m a.boxes h.1 (ready-keeps s a.boxes m r k.keeps)) h.2 h.3 (λ below b t. t)
-    laid (q.intersect x all n z) m s h r =
-        let a = y.lay sources x m s in
-        let k = laid x m s h.0 r in
-        two-made x z (q.intersect x all n z) (w.common_form all) n m s a (y.lay sources z m) r k (laid z m a.boxes h.1 (ready-keeps s a.boxes m r k.keeps)) h.2 h.3 (λ below b t. t)
-
-    operand-laid : (x : From) (m : Map) (s : Boxes) → b.FitFrom sources has x → Ready s m → Made (of_operand x) m s (y.lay_operand sources x m s)
-    operand-laid (q.named name) m s h r = named-made name m s h r
-    operand-laid (q.derived query) m s h r = derived-made query m s (y.lay sources query m s) (laid query m s h r)
-    operand-laid (q.crossed x z) m s h r =
-        let d = y.lay_from sources m x s in
-        let e = y.lay_from sources m z d.boxes in
-        let f : Drawn = record { boxes = e.boxes; quants = d.quants ++ e.quants } in
-        let i = from-laid m x s h.0 r in
-        let a = from-crossed x z m s d e i (from-laid m z d.boxes h.1 (ready-keeps s d.boxes m r i.keeps)) in
-        let served = on-crossed x z m f.quants (on-served m x f.quants h.0) (on-served m z (w.past sources x f.quants) h.1) in
-        flat-made (q.crossed x z) m s f (in_turn (y.on_subs sources m x f.quants) (y.on_subs sources m z (w.past sources x f.quants)) f.boxes) (λ below b t. t) r.under a
-        (served.at f.boxes (ready-frame f.boxes (w.frame sources (q.crossed x z) f.quants) m (ready-keeps s f.boxes m r a.keeps) a.under))
-    operand-laid (q.joined x z p) m s h r =
-        let d = y.lay_from sources m x s in
-        let e = y.lay_from sources m z d.boxes in
-        let f : Drawn = record { boxes = e.boxes; quants = d.quants ++ e.quants } in
-        let fr = w.frame sources (q.joined x z p) f.quants in
-        let i = from-laid m x s h.0 r in
-        let a = from-joined x z p m s d e i (from-laid m z d.boxes h.1 (ready-keeps s d.boxes m r i.keeps)) in
-        let served = on-joined x z p m f.quants (on-served m x f.quants h.0) (on-served m z (w.past sources x f.quants) h.1) (test-served m fr p h.2) in
-        flat-made (q.joined x z p) m s f (in_turn (y.on_subs sources m x f.quants) (in_turn (y.on_subs sources m z (w.past sources x f.quants)) (y.test_subs sources m fr p)) f.boxes) (λ below b t. t) r.under a
-        (served.at f.boxes (ready-frame f.boxes fr m (ready-keeps s f.boxes m r a.keeps) a.under))
-    operand-laid (q.left_joined x z n p) m s h r =
-        let a = y.lay_operand sources x m s in
-        let k = operand-laid x m s h.0 r in
-        outer-made x z n p m s a (y.lay_operand sources z m) r k (operand-laid z m a.boxes h.1 (ready-keeps s a.boxes m r k.keeps)) h.2 h.3
-
-    from-laid : (m : Map) (x : From) (s : Boxes) → b.FitFrom sources has x → Ready s m → MadeFrom x m s (y.lay_from sources m x s)
-    from-laid m (q.named name) s h r =
-        from-one (q.named name) (sources.columns name) m s (record { boxes = s; top = sources.shared name }) (named-made name m s h r)
-        (record { past = λ more. refl; frame = λ more. refl; leaves = λ more. refl; ons = λ m s more. refl }) refl (λ below os t. t)
-    from-laid m (q.derived query) s h r =
-        let a = y.lay sources query m s in
-        from-one (q.derived query) (width query) m s a (derived-made query m s a (laid query m s h r))
-        (record { past = λ more. refl; frame = λ more. refl; leaves = λ more. refl; ons = λ m s more. refl }) refl (λ below os t. t)
-    from-laid m (q.crossed x z) s h r =
-        let d = y.lay_from sources m x s in
-        let i = from-laid m x s h.0 r in
-        from-crossed x z m s d (y.lay_from sources m z d.boxes) i (from-laid m z d.boxes h.1 (ready-keeps s d.boxes m r i.keeps))
-    from-laid m (q.joined x z p) s h r =
-        let d = y.lay_from sources m x s in
-        let i = from-laid m x s h.0 r in
-        from-joined x z p m s d (y.lay_from sources m z d.boxes) i (from-laid m z d.boxes h.1 (ready-keeps s d.boxes m r i.keeps))
-    from-laid m (q.left_joined x z n p) s h r =
-        let a = y.lay_operand sources x m s in
-        let k = operand-laid x m s h.0 r in
-        from-one (q.left_joined x z n p) (from_width sources x + n) m s (y.outer_box sources x n p m (y.lay_operand sources z m) a)
-        (outer-made x z n p m s a (y.lay_operand sources z m) r k (operand-laid z m a.boxes h.1 (ready-keeps s a.boxes m r k.keeps)) h.2 h.3)
-        (record { past = λ more. refl; frame = λ more. refl; leaves = λ more. refl; ons = λ m s more. refl }) refl (λ below os t. t)
-
-    froms-laid : (m : Map) (xs : Froms) (s : Boxes) → b.FitFroms sources has xs → Ready s m → MadeFroms xs m s (y.lay_froms sources m xs s)
-    froms-laid m q.no_from s h r = froms-none m s
-    froms-laid m (q.one_from x xs) s h r =
-        let d = y.lay_from sources m x s in
-        let i = from-laid m x s h.0 r in
-        froms-next x xs m s d (y.lay_froms sources m xs d.boxes) i (froms-laid m xs d.boxes h.1 (ready-keeps s d.boxes m r i.keeps))
-
-    on-served : (m : Map) (x : From) (os : List OwnedQuant) → b.FitFrom sources has x → Serves (w.frame sources x os) m (w.on_leaves sources x os) (y.on_subs sources m x os)
-    on-served m (q.named name) os h = nothing
-    on-served m (q.derived query) os h = nothing
-    on-served m (q.crossed x z) os h = on-crossed x z m os (on-served m x os h.0) (on-served m z (w.past sources x os) h.1)
-    on-served m (q.joined x z p) os h =
-        on-joined x z p m os (on-served m x os h.0) (on-served m z (w.past sources x os) h.1) (test-served m (w.frame sources (q.joined x z p) os) p h.2)
-    on-served m (q.left_joined x z n p) os h = nothing
-
-    all-on-served : (m : Map) (xs : Froms) (os : List OwnedQuant) → b.FitFroms sources has xs → Serves (w.frame_all sources xs os) m (w.all_on_leaves sources xs os) (y.all_on_subs sources m xs os)
-    all-on-served m q.no_from os h = nothing
-    all-on-served m (q.one_from x xs) os h = on-next x xs m os (on-served m x os h.0) (all-on-served m xs (w.past sources x os) h.1)
-
-    value-served : (m : Map) (fr : Frame) (x : Value) → b.FitValue sources has x → Serves fr m (leaf.leaves fr x) (y.value_subs sources m fr x)
-    value-served m fr (q.number n) h = nothing
-    value-served m fr (q.text x) h = nothing
-    value-served m fr (q.null type) h = nothing
-    value-served m fr (q.column scope place) h = nothing
-    value-served m fr (q.sum x xs) h = both (value-served m fr x h.0) (addend-served m fr xs h.1)
-    value-served m fr (q.product x xs) h = both (value-served m fr x h.0) (multiplier-served m fr xs h.1)
-    value-served m fr (q.negative x) h = value-served m fr x h
-    value-served m fr (q.searched xs last) h = both (arm-served m fr xs h.0) (value-served m fr last h.1)
-    value-served m fr (q.simple x xs last) h = both (value-served m fr x h.0) (both (choice-served m fr xs h.1) (value-served m fr last h.2))
-    value-served m fr (q.coalesce x xs) h = both (value-served m fr x h.0) (list-served m fr xs h.1)
-    value-served m fr (q.null_if x y) h = both (value-served m fr x h.0) (value-served m fr y h.1)
-    value-served m fr (q.scalar query) h = asked S query (y.lay sources query (fr ∷ m)) refl (λ s r. laid query (fr ∷ m) s h r)
-    value-served m fr q.count_all h = counted
-    value-served m fr (q.aggregate f distinct x) h = folded f distinct x h
-
-    addend-served : (m : Map) (fr : Frame) (x : Addends) → b.FitAddends sources has x → Serves fr m (leaf.addend_leaves fr x) (y.addend_subs sources m fr x)
-    addend-served m fr q.no_addend h = nothing
-    addend-served m fr (q.one_addend op x xs) h = both (value-served m fr x h.0) (addend-served m fr xs h.1)
-
-    multiplier-served : (m : Map) (fr : Frame) (x : Multipliers) → b.FitMultipliers sources has x → Serves fr m (leaf.multiplier_leaves fr x) (y.multiplier_subs sources m fr x)
-    multiplier-served m fr q.no_multiplier h = nothing
-    multiplier-served m fr (q.one_multiplier op x xs) h = both (value-served m fr x h.0) (multiplier-served m fr xs h.1)
-
-    list-served : (m : Map) (fr : Frame) (x : Values) → b.FitValues sources has x → Serves fr m (leaf.list_leaves fr x) (y.list_subs sources m fr x)
-    list-served m fr q.no_value h = nothing
-    list-served m fr (q.one_value x xs) h = both (value-served m fr x h.0) (list-served m fr xs h.1)
-
-    arm-served : (m : Map) (fr : Frame) (x : Arms) → b.FitArms sources has x → Serves fr m (leaf.arm_leaves fr x) (y.arm_subs sources m fr x)
-    arm-served m fr q.no_arm h = nothing
-    arm-served m fr (q.one_arm p x xs) h = both (test-served m fr p h.0) (both (value-served m fr x h.1) (arm-served m fr xs h.2))
-
-    choice-served : (m : Map) (fr : Frame) (x : Choices) → b.FitChoices sources has x → Serves fr m (leaf.choice_leaves fr x) (y.choice_subs sources m fr x)
-    choice-served m fr q.no_choice h = nothing
-    choice-served m fr (q.one_choice x y xs) h = both (value-served m fr x h.0) (both (value-served m fr y h.1) (choice-served m fr xs h.2))
-
-    test-served : (m : Map) (fr : Frame) (x : Test) → b.FitTest sources has x → Serves fr m (leaf.test_leaves fr x) (y.test_subs sources m fr x)
-    test-served m fr (q.all ps) h = tests-served m fr ps h
-    test-served m fr (q.any ps) h = tests-served m fr ps h
-    test-served m fr (q.negated p) h = test-served m fr p h
-    test-served m fr (q.compare x op y) h = both (value-served m fr x h.0) (value-served m fr y h.1)
-    test-served m fr (q.quantified x op each query) h = both (value-served m fr x h.0) (asked (every_or_some each) query (y.lay sources query (fr ∷ m)) (binds-nothing each) (λ s r. laid query (fr ∷ m) s h.1 r))
-    test-served m fr (q.between x y z) h = both (value-served m fr x h.0) (both (value-served m fr y h.1) (value-served m fr z h.2))
-    test-served m fr (q.among x xs) h = both (value-served m fr x h.0) (list-served m fr xs h.1)
-    test-served m fr (q.among_rows x query) h = both (value-served m fr x h.0) (asked E query (y.lay sources query (fr ∷ m)) refl (λ s r. laid query (fr ∷ m) s h.1 r))
-    test-served m fr (q.like x y) h = both (value-served m fr x h.0) (value-served m fr y h.1)
-    test-served m fr (q.is_null x) h = value-served m fr x h
-    test-served m fr (q.exists query) h = asked E query (y.lay sources query (fr ∷ m)) refl (λ s r. laid query (fr ∷ m) s h r)
-
-    tests-served : (m : Map) (fr : Frame) (x : Tests) → b.FitTests sources has x → Serves fr m (leaf.tests_leaves fr x) (y.tests_subs sources m fr x)
-    tests-served m fr q.no_test h = nothing
-    tests-served m fr (q.one_test p ps) h = both (test-served m fr p h.0) (tests-served m fr ps h.1)

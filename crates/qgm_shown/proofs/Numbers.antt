@@ -6,7 +6,7 @@ use Rattle.qgm_core.specs.Boxes.{is_quant}
 use Rattle.qgm_core.specs.declared.owned.OwnedQuant.{OwnedQuant}
 use Rattle.qgm_shown.specs.Maps.{Frame, Map, Ref, nothing, none_counted, column, is_apart, fresh, fresh_in}
 use Rattle.qgm_shown.specs.Shown.{over_in, distinct_ids, key_frame, key_ref, refs}
-use Rattle.qgm_build.specs.Law.{Under, UnderIn, UnderRef}
+use Rattle.qgm_shown.specs.Lays.{Under, UnderIn, UnderRef}
 
 apart-under : (n : ℕ) (r : Ref) → UnderRef n r → is_apart n r ≡ true
 apart-under n nothing h = refl
@@ -108,7 +108,7 @@ any-cases p (x ∷ xs) ys h f g = or-cases (p x) (list_any p (xs ++ ys)) h (λ e
     or-right true b h = refl
     or-right false b h = h
 
-rising-le : (n k : ℕ) (os : List OwnedQuant) → Rising n k os → n ≤ k
+pub rising-le : (n k : ℕ) (os : List OwnedQuant) → Rising n k os → n ≤ k
 rising-le n k [] h = h
 rising-le n k (o ∷ os) h = let x = h.0 in let r = rising-le (suc o.id) k os h.1 in omega arith
 

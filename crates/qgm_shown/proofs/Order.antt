@@ -16,7 +16,7 @@ use Rattle.qgm_shown.specs.Shown.{Shows, ShowsBox, Thing, key_places, of_groups,
 use Rattle.qgm_shown.specs.Shown as w
 use Rattle.qgm_shown.specs.Sources.{Sources}
 use Rattle.qgm_shown.proofs.Loose.{source-clear, thing-clear}
-use Rattle.qgm_build.specs.Law.{Low}
+use Rattle.qgm_shown.specs.Lays.{Low}
 
 -- a box that shows something is there
 pub shows-has : (sources : Sources) (ns : List Node) (b : ℕ) (thing : Thing) (m : Map) → Shows sources ns b thing m → has_box ns b ≡ true
