@@ -4,12 +4,11 @@ use Rattle.sql_ast.specs.Declarations.{Declared}
 use Rattle.sql_ast.specs.Syntax as s
 use Rattle.sql_value.specs.declared.order_key.OrderKey.{OrderKey}
 use Rattle.sql_value.specs.declared.order_key.SqlType.{SqlType}
-use Rattle.sql_meaning.specs.ResolvedTrees.{Query}
 use Rattle.name_resolution.specs.Resolved.{query}
 use Rattle.name_resolution.specs.Schema.{schema_columns, view_trees}
 use Rattle.qgm_core.specs.Boxes.{QueryGraph}
 use Rattle.qgm_terms.specs.Terms.{Term}
-use Rattle.qgm_shown.specs.Lay.{Laid, box_named, laying}
+use Rattle.qgm_shown.specs.Lay.{Laid, box_named}
 use Rattle.qgm_shown.specs.Sources.{Sources}
 use Rattle.qgm_shown.specs.Typing.{typed_by}
 use Rattle.qgm_shown.specs.Whole.{graph_of}

@@ -1,5 +1,4 @@
 -- A valid schema says of its tables and views what boxes are made by, and its views end.
-use Rattle.std.specs.Prelude.{All}
 use Rattle.std.proofs.Common.{◌≡◌, ◌≤◌, ◌<◌, ◌||◌, ◌∙◌, ℕ, zero, suc, Bool, true, false, cond, map, find, ◌⊎◌, inl, inr, List, [], ◌∷◌, ◌++◌, length, Option, Some, None, refl, ap, ap₂, sym, subst, arith}
 use Rattle.std.specs.List.{list_any}
 use Rattle.std.specs.Cmp.Lexicographic.{nat_list_eq_equiv, same_text}
@@ -12,8 +11,6 @@ use Rattle.sql_catalog.specs.Catalog.{fault as refusal, has_bad_key, has_duplica
 use Rattle.sql_catalog.specs.Nesting.{is_recursive, nests_over, reader_of, readers_of}
 use Rattle.sql_catalog.specs.TableNames as t
 use Rattle.sql_value.specs.declared.order_key.SqlType.{SqlType}
-use Rattle.sql_meaning.specs.ResolvedTrees.{Query}
-use Rattle.sql_meaning.specs.ResolvedViews.{ViewTree}
 use Rattle.sql_meaning.specs.Scopes.{first_of}
 use Rattle.name_resolution.proofs.Valid.{apart, shallow}
 use Rattle.name_resolution.specs.Resolved.{query}
@@ -21,7 +18,6 @@ use Rattle.name_resolution.specs.Schema.{schema_columns, view_tree, view_trees}
 use Rattle.query_checks.proofs.Members.{Each, each_more, each_of_all}
 use Rattle.query_checks.specs.Scopes.{is_some}
 use Rattle.query_checks.specs.Views.{heads_of, typed_columns}
-use Rattle.query_checks.specs.declared.column.TypedColumn.{TypedColumn}
 use Rattle.qgm_core.specs.declared.kinds.BaseTable.{BaseTable}
 use Rattle.qgm_terms.specs.Terms.{Term}
 use Rattle.qgm_shown.specs.Buildable.{Buildable}
@@ -37,7 +33,6 @@ use Rattle.built_queries.specs.Buildable.{Knows}
 use Rattle.built_queries.specs.Joined.{ValidQuery}
 use Rattle.built_queries.specs.Laid.{graph_table, graph_tables}
 use Rattle.built_queries.specs.Sources.{body_in, sources_of, stored_in, view_body}
-use Rattle.built_queries.specs.Typing.{ValidSchema, kinds_of}
 
 -- ---- how deep views nest
 
@@ -147,10 +142,10 @@ module _ {A : Type 0} (name : A → List ℕ) where
     where
       by_case : (same_name (name x) (name y) ≡ true) ⊎ (same_name (name x) (name y) ≡ false) → same_name (name y) (name x) ≡ false → found (x ∷ xs) (name y) ≡ Some y
       by_case (inl e) f = absurd (
-        let same : name x ≡ name y = same_text (name x) (name y) (sym e) in
-        let i : same_name (name y) (name x) ≡ true = subst (λ (z : List ℕ). same_name (name y) z ≡ true) (sym same) (nat_list_eq_equiv.refl (name y)) in
-        cc (i, f)
-      )
+          let same : name x ≡ name y = same_text (name x) (name y) (sym e) in
+          let i : same_name (name y) (name x) ≡ true = subst (λ (z : List ℕ). same_name (name y) z ≡ true) (sym same) (nat_list_eq_equiv.refl (name y)) in
+          cc (i, f)
+          )
       by_case (inr e) f = ap (λ (b : Bool). cond b (Some x) (found xs (name y))) e ∙ each.0
 
   -- the first of its name is itself

@@ -1,5 +1,5 @@
 -- The types that were known as boxes were laid are those that are found in them.
-use Rattle.std.proofs.Common.{◌≡◌, ℕ, zero, suc, ◌+◌, ◌-◌, ◌==◌, ◌&&◌, Bool, true, false, cond, List, [], ◌∷◌, map, get_or, Option, Some, None, refl, ap, sym, ◌∙◌, subst, inl, inr, arith}
+use Rattle.std.proofs.Common.{◌≡◌, ℕ, zero, suc, ◌-◌, ◌==◌, ◌&&◌, Bool, true, false, cond, List, [], ◌∷◌, map, get_or, Option, Some, None, refl, ap, sym, ◌∙◌, subst, inl, inr, arith}
 use Rattle.std.specs.Prelude.{slice_get}
 use Rattle.std.proofs.lemmas.Bool.{eq-eqb, eqb-true, ne_eqb}
 use Rattle.sql_value.specs.declared.order_key.SqlType.{SqlType}
@@ -18,11 +18,11 @@ use Rattle.qgm_check.specs.Columns.{box_under, over_box}
 use Rattle.qgm_check.specs.Types.{Lookup, arms_fit, integer_if, is_integer, is_known, is_varchar, joined_column, known, term_type, type_if, type_in, types_by, varchar_if}
 use Rattle.qgm_check.specs.Types as c
 use Rattle.qgm_shown.specs.Lay.{Boxes, column_types}
-use Rattle.qgm_shown.specs.Lays.{Counted, EachHasTypes, EachRanges, HasTypes, Ranges}
+use Rattle.qgm_shown.specs.Lays.{EachHasTypes, EachRanges, HasTypes, Ranges}
 use Rattle.qgm_shown.specs.Sources.{Sources}
 use Rattle.qgm_shown.specs.Typing.{aggregate_type, column_type, op_type, type_at, typed_by}
 use Rattle.built_queries.specs.Formed.{Told}
-use Rattle.built_queries.specs.Told.{GivesBack, TellsBy, columns_by}
+use Rattle.built_queries.specs.Told.{GivesBack, columns_by}
 use Rattle.built_queries.proofs.Levels.{number-of, some-in}
 use Rattle.built_queries.proofs.Telling.{told-by}
 

@@ -8,10 +8,8 @@ use Rattle.sql_catalog.specs.Descriptor.{describe}
 use Rattle.sql_value.specs.declared.order_key.OrderKey.{OrderKey}
 use Rattle.sql_value.specs.declared.order_key.SqlType.{SqlType}
 use Rattle.sql_value.specs.declared.order_key.SqlType.TheVariants.{Integer}
-use Rattle.sql_meaning.specs.ResolvedTrees.{Query}
 use Rattle.name_resolution.specs.Resolved.{query}
 use Rattle.name_resolution.specs.Schema.{schema_columns, view_trees}
-use Rattle.query_checks.specs.Views.{heads_of}
 use Rattle.qgm_core.specs.Boxes.{QueryGraph}
 use Rattle.qgm_core.specs.Free.{Reaches}
 use Rattle.qgm_core.specs.Lists.{In}
@@ -25,7 +23,6 @@ use Rattle.qgm_shown.specs.Whole.{graph_of, lay_whole}
 use Rattle.built_queries.specs.Formed.{TypesFound}
 use Rattle.built_queries.specs.Joined.{AreTablesOf, HasRows, IsBuiltOver, IsLaidOut, ValidQuery, stated_types}
 use Rattle.built_queries.specs.Sources.{sources_of, stored_table}
-use Rattle.built_queries.specs.Typing.{kinds_of}
 
 -- a graph is the one that is built of a query over a schema: it is built of it over boxes that tables and views share, and stands in order
 pub record IsGraphOf (catalog : Declared) (text : s.QueryText) (names : List (Option (List ℕ))) (order : List OrderKey) (g : QueryGraph) : Type 0 where
