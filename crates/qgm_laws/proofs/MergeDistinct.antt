@@ -1,6 +1,6 @@
 -- M1 at an ENFORCE select keeps all: the select below may give its rows more than once, and then it is merged.
-use Rattle.std.proofs.Common.{ℕ, ◌==◌, ◌≡◌, ◌&&◌, ◌||◌, ◌≤◌, ◌<◌, cond, Bool, true, false, List, [], ◌∷◌, ◌++◌, map, Some, None, refl, sym, ap, ap₂, subst, ◌∙◌, eqb-true, ◌⊎◌, inl, inr, arith}
-use Rattle.std.specs.List.{flat_map, list_any}
+use Rattle.std.proofs.Common.{ℕ, ◌==◌, ◌≡◌, ◌&&◌, ◌||◌, ◌≤◌, ◌<◌, cond, Bool, true, false, List, [], ◌∷◌, ◌++◌, map, Some, refl, sym, ap, ap₂, subst, ◌∙◌, eqb-true, inl, inr, arith}
+use Rattle.std.specs.List.{list_any}
 use Rattle.std.proofs.lemmas.Bool.{cases_Bool, eq-eqb}
 use mathlib.Core.Path.{fun_ext}
 use Rattle.row_bag.specs.Bags.{Agree, bind, keep, unit}
@@ -23,12 +23,11 @@ use Rattle.qgm_meaning.specs.Laws.{AgreesBack, Stays}
 use Rattle.qgm_meaning.specs.Meaning.{Family, bag_in, given_by, once_if, over_each, quant_rows, rows_by, rows_found, rows_of}
 use Rattle.qgm_meaning.specs.Ranks.{SameUnder}
 use Rattle.qgm_meaning.specs.Scope.{read_by}
-use Rattle.qgm_meaning.specs.Searches.{bare, names, names_cond}
+use Rattle.qgm_meaning.specs.Searches.{names, names_cond}
 use Rattle.qgm_meaning.specs.Values.{Bag, Environment, all_true, bound, head_cells}
 use Rattle.qgm_meaning.proofs.Alikes.{only-alike}
 use Rattle.qgm_meaning.proofs.Nodes.{all_true-nodes, head-nodes}
 use Rattle.qgm_meaning.proofs.Unfold.{rows-local}
-use Rattle.qgm_terms.specs.Substitution.{cell_at}
 use Rattle.qgm_laws.specs.Adds.{at}
 use Rattle.qgm_laws.specs.Changes.{Reparts}
 use Rattle.qgm_laws.specs.Graph.{BareBy, Sound, binds_row, nodes_in, reads_in}
@@ -38,7 +37,7 @@ use Rattle.qgm_laws.specs.MergeDistinct.{MergesDistinct}
 use Rattle.qgm_laws.proofs.Changes.{parts-sound}
 use Rattle.qgm_laws.proofs.Filters.{over-once}
 use Rattle.qgm_laws.proofs.Lists.{any-from, clash, eq-false-sym, eq-itself, in-map, in-right, map-in, or-left, or-right}
-use Rattle.qgm_laws.proofs.Ranks.{in-has, place, place-under, same-box}
+use Rattle.qgm_laws.proofs.Ranks.{place, place-under, same-box}
 use Rattle.qgm_laws.proofs.Rules.{keeps-chained, merge-keeps, same-agree}
 use Rattle.qgm_laws.proofs.Scope.{one-parent, unfold-bag}
 use Rattle.qgm_laws.proofs.Scoped.{few-ids, scoped-of}

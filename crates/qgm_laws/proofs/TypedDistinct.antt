@@ -1,9 +1,8 @@
 -- M1 at an ENFORCE select keeps that types agree.
-use Rattle.std.proofs.Common.{◌≡◌, ◌&&◌, true, List, map, refl, sym, ap₂, subst, ◌∙◌, ◌++◌}
+use Rattle.std.proofs.Common.{◌≡◌, ◌&&◌, true, List, map, refl, ap₂, subst, ◌∙◌, ◌++◌}
 use Rattle.std.specs.List.{list_all}
 use Rattle.qgm_core.specs.Boxes.{QueryGraph}
 use Rattle.qgm_core.specs.Edits.{compact, on_boxes, with_distinct}
-use Rattle.qgm_core.specs.Lists.{In}
 use Rattle.qgm_core.specs.declared.kinds.Distinct.TheVariants.{Preserve}
 use Rattle.qgm_core.specs.declared.node.Node.{Node}
 use Rattle.qgm_core.specs.declared.owned.OwnedQuant.{OwnedQuant}

@@ -1,10 +1,10 @@
 -- M1 keeps that types agree.
-use Rattle.std.proofs.Common.{ℕ, suc, zero, ◌==◌, ◌≡◌, ◌&&◌, ◌||◌, ◌≤◌, ◌<◌, arith, cond, not, Bool, true, false, List, [], ◌∷◌, ◌++◌, length, map, Option, Some, None, get_or, refl, sym, ap, ap₂, subst, ◌∙◌, eqb-true, ◌⊎◌, inl, inr}
+use Rattle.std.proofs.Common.{ℕ, suc, zero, ◌==◌, ◌≡◌, ◌&&◌, ◌||◌, ◌≤◌, arith, cond, not, Bool, true, false, List, [], ◌∷◌, ◌++◌, length, map, Option, Some, None, refl, sym, ap, ap₂, subst, ◌∙◌, eqb-true, inl, inr}
 use Rattle.std.specs.Prelude.{slice_get}
 use Rattle.std.specs.List.{flat_map, list_all, list_any}
 use Rattle.std.proofs.lemmas.Bool.{and_from, and_parts, cases_Bool, eq-eqb}
 use Rattle.sql_value.specs.declared.order_key.SqlType.{SqlType}
-use Rattle.qgm_core.specs.Boxes.{QueryGraph, is_quant, overs_in, overs_of, owns, range_in, width}
+use Rattle.qgm_core.specs.Boxes.{QueryGraph, overs_of, owns, range_in, width}
 use Rattle.qgm_core.specs.Edits.{compact}
 use Rattle.qgm_core.specs.Free.{named_by}
 use Rattle.qgm_core.specs.Kinds.{width_by}
@@ -23,19 +23,18 @@ use Rattle.qgm_meaning.specs.Scope as scope
 use Rattle.qgm_meaning.specs.Searches.{names, names_arms, names_cond, reads_at_arms}
 use Rattle.qgm_check.specs.Columns.{box_under, over_box}
 use Rattle.qgm_check.specs.Types.{Lookup, agree, aggregate_type, all_agree, arm_agrees, arms_agree, arms_fit, cond_fits, integer_if, is_integer, is_known, is_typed, joined_column, known, lookup_of, op_type, sign_fits, term_type, type_found, type_if, types_agree, types_by, types_of}
-use Rattle.qgm_check.specs.declared.types.Typed.{Typed}
 use Rattle.qgm_laws.specs.Graph.{Sound, nodes_in, reads_in}
 use Rattle.qgm_laws.specs.Merge.{Merges, merge_node, merged, merged_in}
 use Rattle.qgm_laws.specs.Shaped as shaped
 use Rattle.qgm_laws.proofs.AllSettled.{all-settled}
 use Rattle.qgm_laws.proofs.AnyPut.{heads-more}
 use Rattle.qgm_laws.proofs.Compact.{holds-in, in-holds}
-use Rattle.qgm_laws.proofs.Edits.{boxes_without, in-without, map-append, without-in, without-one}
+use Rattle.qgm_laws.proofs.Edits.{boxes_without, without-in, without-one}
 use Rattle.qgm_laws.proofs.Filters.{over-once}
 use Rattle.qgm_laws.proofs.Follow.{all-alike, in-flat, settled-types, type-alike, types_at}
 use Rattle.qgm_laws.proofs.Levels as levels
 use Rattle.qgm_laws.proofs.Levels.{number-of}
-use Rattle.qgm_laws.proofs.Lists.{all-from, all-in, any-from, any-none, clash, eq-itself, in-append, in-left, in-map, in-right, map-in, or-false, or-left, or-none, or-right}
+use Rattle.qgm_laws.proofs.Lists.{all-from, all-in, any-from, any-none, clash, eq-itself, in-append, in-left, in-right, map-in, or-false, or-left, or-none, or-right}
 use Rattle.qgm_laws.proofs.Merge as before
 use Rattle.qgm_laws.proofs.MergeSound.{merge-sound}
 use Rattle.qgm_laws.proofs.Naming.{names-any, says}

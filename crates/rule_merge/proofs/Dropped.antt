@@ -1,12 +1,12 @@
 -- M2 preserves.
-use Rattle.std.proofs.Common.{ℕ, ◌==◌, ◌≡◌, ◌<◌, ◌≤◌, cond, not, Bool, true, false, List, [], ◌∷◌, length, map, Some, None, refl, sym, ap, subst, ◌∙◌, eqb-true, inl, inr, arith}
+use Rattle.std.proofs.Common.{ℕ, ◌==◌, ◌≡◌, ◌≤◌, cond, not, Bool, true, false, List, [], ◌∷◌, length, map, Some, refl, sym, ap, subst, ◌∙◌, eqb-true, inl, inr, arith}
 use Rattle.std.proofs.lemmas.Bool.{and_parts, cases_Bool, not-true}
 use Rattle.std.specs.Prelude.{slice_get}
 use Rattle.qgm_core.specs.Boxes.{HasBox, QueryGraph, box_of, is_box, numbers, quant_by, quants_in, quants_of}
 use Rattle.qgm_core.specs.declared.owned.Quant.{Quant}
 use Rattle.qgm_core.specs.Edits.{compact, on_boxes, quants_over}
 use Rattle.qgm_core.specs.Free.{reached}
-use Rattle.qgm_core.specs.Kinds.{is_F, is_enforce, is_preserve}
+use Rattle.qgm_core.specs.Kinds.{is_F, is_enforce}
 use Rattle.qgm_core.specs.Lists.{EachOnce, In, first, holds, without}
 use Rattle.qgm_core.specs.declared.node.Node.{Node}
 use Rattle.qgm_core.specs.declared.owned.OwnedQuant.{OwnedQuant}
@@ -15,7 +15,7 @@ use Rattle.qgm_check.proofs.Faults.{finds-none}
 use Rattle.qgm_meaning.specs.Satisfies.{Satisfies}
 use Rattle.qgm_laws.specs.Drop.{MayDrop, dropped, moved, moved_range}
 use Rattle.qgm_laws.specs.Graph.{Sound}
-use Rattle.qgm_laws.proofs.Compact.{kept, reached_boxes}
+use Rattle.qgm_laws.proofs.Compact.{reached_boxes}
 use Rattle.qgm_laws.proofs.Edits.{boxes_without, without-one}
 use Rattle.qgm_laws.proofs.Formed.{sound-checked}
 use Rattle.qgm_laws.proofs.Lists.{any-from, eq-false-sym, in-map}

@@ -1,6 +1,6 @@
 -- Quantifiers over one box, turned one by one to another, are turned all at once.
-use Rattle.std.proofs.Common.{ℕ, zero, suc, ◌<◌, length, slice_index_or, ◌+◌, ◌==◌, ◌≡◌, ◌≤◌, ◌||◌, cond, filter, Bool, true, false, List, [], ◌∷◌, ◌++◌, map, refl, sym, ap, subst, ◌∙◌, eqb-true, ◌⊎◌, inl, inr, arith}
-use Rattle.std.specs.List.{list_any, flat_map}
+use Rattle.std.proofs.Common.{ℕ, zero, suc, ◌<◌, length, slice_index_or, ◌+◌, ◌==◌, ◌≡◌, ◌≤◌, ◌||◌, cond, filter, Bool, true, false, List, [], ◌∷◌, ◌++◌, map, refl, sym, ap, subst, ◌∙◌, eqb-true, inl, inr, arith}
+use Rattle.std.specs.List.{list_any}
 use Rattle.std.proofs.lemmas.Bool.{cases_Bool, eq-eqb}
 use Rattle.qgm_core.specs.Boxes.{ids_in, ids_of, is_quant, owns}
 use Rattle.qgm_core.specs.Edits.{ids_over, on_quant, quants_over}
@@ -8,7 +8,7 @@ use Rattle.qgm_core.specs.Lists.{In, change, each, times}
 use Rattle.qgm_core.specs.declared.node.Node.{Node}
 use Rattle.qgm_core.specs.declared.owned.OwnedQuant.{OwnedQuant}
 use Rattle.qgm_laws.specs.Drop.{moved, moved_range}
-use Rattle.qgm_laws.proofs.Lists.{any-from, any-in, any-not, clash, eq-itself, in-append, in-map, in-right, or-none}
+use Rattle.qgm_laws.proofs.Lists.{any-from, any-in, eq-itself, in-append, in-map, in-right, or-none}
 use Rattle.qgm_laws.proofs.Moved.{any-moved}
 use Rattle.qgm_laws.proofs.Rules.{append-one}
 use Rattle.qgm_laws.proofs.Times.{in-times, times-append, times-map, times-some}

@@ -1,16 +1,14 @@
 -- What the root doesn't reach goes, whether a box over which nothing ranges stands there or not.
-use Rattle.std.proofs.Common.{ℕ, ◌==◌, ◌≡◌, cond, Bool, true, false, List, [], ◌∷◌, ◌++◌, map, refl, sym, ap, subst, ◌∙◌, eqb-true, ◌⊎◌, inl, inr}
-use Rattle.std.specs.List.{list_any}
+use Rattle.std.proofs.Common.{ℕ, ◌==◌, ◌≡◌, cond, Bool, true, false, List, [], ◌∷◌, ◌++◌, refl, sym, ap, subst, ◌∙◌, eqb-true, inl, inr}
 use Rattle.std.proofs.lemmas.Bool.{cases_Bool, eq-eqb}
-use Rattle.qgm_core.specs.Boxes.{QueryGraph, overs_of}
-use Rattle.qgm_core.specs.Edits.{compact}
+use Rattle.qgm_core.specs.Boxes.{overs_of}
 use Rattle.qgm_core.specs.Free.{marked, reached}
 use Rattle.qgm_core.specs.Lists.{In, holds}
 use Rattle.qgm_core.specs.declared.node.Node.{Node}
 use Rattle.qgm_core.specs.declared.owned.OwnedQuant.{OwnedQuant}
 use Rattle.qgm_laws.proofs.Compact.{come, holds-in, kept, reached_boxes}
 use Rattle.qgm_laws.proofs.Edits.{boxes_without}
-use Rattle.qgm_laws.proofs.Lists.{any-not, clash, in-append, in-map, any-none, eq-itself}
+use Rattle.qgm_laws.proofs.Lists.{any-not, clash, in-append, in-map, any-none}
 
 -- nothing of these boxes ranges over b
 abbrev pub Unused : ℕ → List Node → Type 0
