@@ -34,7 +34,7 @@ opens_from g from subs s s1 s2 start fs fs2 fs3 begin ps fr fr2 st d e2 e3 frs e
     let quants : fs ≡ f.quants = d.quants ∙ ap (λ (os : List OwnedQuant). os ++ f.quants) st in
     let frame_is : fr ≡ frame_all (told_at g) from f.quants = frs ∙ ap (frame_all (told_at g) from) (e2 ∙ quants) in
     let step : subs fr2 fs3 s1 ≡ subs (frame_all (told_at g) from f.quants) f.quants f.boxes =
-        ap₂ (λ x (os : List OwnedQuant). subs x os s1) (e4 ∙ frame_is) (e3 ∙ quants) ∙ ap (subs (frame_all (told_at g) from f.quants) f.quants) d.boxes in
+    ap₂ (λ x (os : List OwnedQuant). subs x os s1) (e4 ∙ frame_is) (e3 ∙ quants) ∙ ap (subs (frame_all (told_at g) from f.quants) f.quants) d.boxes in
     record {
       quants = quants;
       frame = frame_is;
@@ -66,12 +66,12 @@ grouped_laid g distinct list from by keys places n having folds s s1 s2 s3 s4 fr
     let conds = conds_of (laying k c.boxes) from by (λ fr. []) (outer_of g) f.quants (slots_of (all_leaves k from by (λ fr. []) f.quants) c.quants) in
     let seen : Frame = frame_all k from f.quants in
     let same_rows : rows_at places (folds_in ls) ≡ rows_at places ls =
-        ap (λ (zs : List Term). put Select false conds (padded (t.int (pos 1)) (map (λ place. ref_term (get_or seen place nothing)) places ++ zs)) (f.quants ++ c.quants) c.boxes) (arguments_folds (laying k c.boxes) seen ls) in
+    ap (λ (zs : List Term). put Select false conds (padded (t.int (pos 1)) (map (λ place. ref_term (get_or seen place nothing)) places ++ zs)) (f.quants ++ c.quants) c.boxes) (arguments_folds (laying k c.boxes) seen ls) in
     let below : top_at r s2 ≡ rows_at places ls = top_is (gives_over (rows_box g places folds from by) o.quants o.subs o.boxes rows) ∙ ap (rows_at places) folds_are ∙ same_rows in
     let group_at : List ℕ → List Leaf → Laid → Laid = λ ks zs x. l.group_box k (laying k) ks zs x in
     let same_groups : group_at places (folds_in ls) (rows_at places ls) ≡ group_at places ls (rows_at places ls) =
-        let x : Laid = rows_at places ls in
-        ap (λ (zs : List Term). put (Group (length places)) false [] (columns_of x.boxes.quant 1 (length places) ++ zs) (drawn F x).quants (drawn F x).boxes) (fold_terms_folds x.boxes.quant (suc (length places)) ls) in
+    let x : Laid = rows_at places ls in
+    ap (λ (zs : List Term). put (Group (length places)) false [] (columns_of x.boxes.quant 1 (length places) ++ zs) (drawn F x).quants (drawn F x).boxes) (fold_terms_folds x.boxes.quant (suc (length places)) ls) in
     let over : top_at gr s3 ≡ group_at places ls (rows_at places ls) = top_is groups ∙ ap₂ (λ zs (x : Laid). group_at places zs x) folds_are below ∙ same_groups in
     gives_at (ap (upper_laid g distinct list places n having) over ∙ ap (λ ks. upper_laid g distinct list ks n having (group_at ks ls (rows_at ks ls))) at_keys) top
 
@@ -129,5 +129,5 @@ joined_take g a b p s s1 s2 s3 os os1 begin p1 p2 p3 fr fr2 d1 e d2 frs f d3 =
     let seen : Frame = frame k a os ++ frame k b (past k a os) in
     let d : Takes (on_step g b (past k a os)) s1 p1 s2 p2 = record { boxes = d2.boxes ∙ ap (λ (z : List OwnedQuant). (on_step g b z s1).boxes) e; quants = d2.quants ∙ ap (λ (z : List OwnedQuant). p1 ++ (on_step g b z s1).quants) e } in
     let u : Takes (l.test_subs k (laying k) (outer_of g) seen p) s2 p2 s3 p3 =
-        record { boxes = d3.boxes ∙ ap (λ z. (l.test_subs k (laying k) (outer_of g) z p s2).boxes) (f ∙ frs); quants = d3.quants ∙ ap (λ z. p2 ++ (l.test_subs k (laying k) (outer_of g) z p s2).quants) (f ∙ frs) } in
+    record { boxes = d3.boxes ∙ ap (λ z. (l.test_subs k (laying k) (outer_of g) z p s2).boxes) (f ∙ frs); quants = d3.quants ∙ ap (λ z. p2 ++ (l.test_subs k (laying k) (outer_of g) z p s2).quants) (f ∙ frs) } in
     takes_three (on_step g a os) (on_step g b (past k a os)) (l.test_subs k (laying k) (outer_of g) seen p) d1 d u

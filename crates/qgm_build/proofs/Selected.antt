@@ -88,7 +88,7 @@ flat_read k m x s fs subs fs2 fs3 subs2 subs3 head conds quants b t e e2 f g hs 
     let by : Test = q.all q.no_test in
     let sl : Slots = slots_from subs (ungrouped_cells (on_folds x)) in
     let leaves : ungrouped_cells (on_folds x) ≡ ungrouped_cells (all_leaves k from by (λ fr. []) fs) =
-        ap ungrouped_cells (sym (on_same k x fs)) ∙ ungrouped_folds (on_leaves k x fs) ∙ ap ungrouped_cells (sym (append-nil (on_leaves k x fs)) ∙ sym (append-nil (on_leaves k x fs ++ []))) in
+    ap ungrouped_cells (sym (on_same k x fs)) ∙ ungrouped_folds (on_leaves k x fs) ∙ ap ungrouped_cells (sym (append-nil (on_leaves k x fs)) ∙ sym (append-nil (on_leaves k x fs ++ []))) in
     select_read k m false from by (λ fr. []) (λ sources fr sl. map ref_term fr) s fs subs (frame w x fs) sl head conds quants b t
     (frame_same k shared typed x fs ∙ sym (append-nil (frame k x fs))) (ap (slots_from subs) leaves)
     (hs ∙ ap (λ (os : List OwnedQuant). map ref_term (frame w x os)) e)

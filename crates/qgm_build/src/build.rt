@@ -65,7 +65,15 @@ fn lay_table(alloc: Global, table: &TableDecl, st: &mut Store) -> Result<(), Out
     let made = base_table(alloc, table)?;
     let kind = BoxKind::Base(made);
     let conds = Conds::new(alloc);
-    let number = put(alloc, st, kind, false, conds, Head::new(alloc), Owned::new(alloc))?;
+    let number = put(
+        alloc,
+        st,
+        kind,
+        false,
+        conds,
+        Head::new(alloc),
+        Owned::new(alloc),
+    )?;
     share(alloc, &table.name, number, st)
 }
 

@@ -105,7 +105,15 @@ pub(crate) fn finish_block(
     let w = block_parts(g, x, &frame, fs.as_slice(), subs.as_slice(), st)?;
     let mut quants = fs;
     append(&mut quants, subs.as_slice())?;
-    put(g.alloc, st, BoxKind::Select, distinct, w.conds, w.head, quants)
+    put(
+        g.alloc,
+        st,
+        BoxKind::Select,
+        distinct,
+        w.conds,
+        w.head,
+        quants,
+    )
 }
 
 // Adds a key.
@@ -140,11 +148,7 @@ fn argument(g: &Setting<'_>, x: &Value) -> Result<Gx, OutOfMemory>
 
 // Adds the arguments of aggregates.
 #[tactic(auto, using(crate::proofs::Steps::appended))]
-fn argument_terms(
-    g: &Setting<'_>,
-    folds: &[Fold<'_>],
-    out: &mut Vec<Gx>,
-) -> Result<(), OutOfMemory>
+fn argument_terms(g: &Setting<'_>, folds: &[Fold<'_>], out: &mut Vec<Gx>) -> Result<(), OutOfMemory>
     requires alone { outer_in g.now ≡ [] }
     ensures { OnOk result (terms out.new.items ≡ terms out.old.items ++ w.argument_terms (sources_in g.now) (frame_in g.now) (map leaf_of folds.now)) }
 {

@@ -200,7 +200,15 @@ fn block_opened(
     };
     let mut subs = Owned::new(g.alloc);
     list_subs(&h, list, st, &mut subs)?;
-    all_on_subs(g, from, &mut Ranges { rest: fs.as_slice() }, st, &mut subs)?;
+    all_on_subs(
+        g,
+        from,
+        &mut Ranges {
+            rest: fs.as_slice(),
+        },
+        st,
+        &mut subs,
+    )?;
     test_subs(&h, by, st, &mut subs)?;
     Ok(Opened { frame, fs, subs })
 }
@@ -223,7 +231,15 @@ fn rows_opened(
         frame: &frame,
     };
     let mut subs = Owned::new(g.alloc);
-    all_on_subs(g, from, &mut Ranges { rest: fs.as_slice() }, st, &mut subs)?;
+    all_on_subs(
+        g,
+        from,
+        &mut Ranges {
+            rest: fs.as_slice(),
+        },
+        st,
+        &mut subs,
+    )?;
     test_subs(&h, by, st, &mut subs)?;
     Ok(Opened { frame, fs, subs })
 }
@@ -462,7 +478,12 @@ fn value_subs(h: &Seat<'_>, x: &Value, st: &mut Store, out: &mut Owned) -> Resul
 
 // The same of what is added.
 #[cycle(lay)]
-fn addend_subs(h: &Seat<'_>, list: &[Addend], st: &mut Store, out: &mut Owned) -> Result<(), OutOfMemory>
+fn addend_subs(
+    h: &Seat<'_>,
+    list: &[Addend],
+    st: &mut Store,
+    out: &mut Owned,
+) -> Result<(), OutOfMemory>
     ensures { OnOk result (Takes (spec.addend_step h.now (shown.addend_list list.now)) (so_far st.old) out.old (so_far st.new) out.new) }
 {
     for x in list {
@@ -473,7 +494,12 @@ fn addend_subs(h: &Seat<'_>, list: &[Addend], st: &mut Store, out: &mut Owned) -
 
 // The same of what is multiplied.
 #[cycle(lay)]
-fn multiplier_subs(h: &Seat<'_>, list: &[Multiplier], st: &mut Store, out: &mut Owned) -> Result<(), OutOfMemory>
+fn multiplier_subs(
+    h: &Seat<'_>,
+    list: &[Multiplier],
+    st: &mut Store,
+    out: &mut Owned,
+) -> Result<(), OutOfMemory>
     ensures { OnOk result (Takes (spec.multiplier_step h.now (shown.multiplier_list list.now)) (so_far st.old) out.old (so_far st.new) out.new) }
 {
     for x in list {
@@ -484,7 +510,12 @@ fn multiplier_subs(h: &Seat<'_>, list: &[Multiplier], st: &mut Store, out: &mut 
 
 // The same of a list.
 #[cycle(lay)]
-fn list_subs(h: &Seat<'_>, list: &[Value], st: &mut Store, out: &mut Owned) -> Result<(), OutOfMemory>
+fn list_subs(
+    h: &Seat<'_>,
+    list: &[Value],
+    st: &mut Store,
+    out: &mut Owned,
+) -> Result<(), OutOfMemory>
     ensures { OnOk result (Takes (spec.list_step h.now (shown.value_list list.now)) (so_far st.old) out.old (so_far st.new) out.new) }
 {
     for x in list {
@@ -507,7 +538,12 @@ fn arm_subs(h: &Seat<'_>, list: &[Arm], st: &mut Store, out: &mut Owned) -> Resu
 
 // The same of values with their results.
 #[cycle(lay)]
-fn choice_subs(h: &Seat<'_>, list: &[Choice], st: &mut Store, out: &mut Owned) -> Result<(), OutOfMemory>
+fn choice_subs(
+    h: &Seat<'_>,
+    list: &[Choice],
+    st: &mut Store,
+    out: &mut Owned,
+) -> Result<(), OutOfMemory>
     ensures { OnOk result (Takes (spec.choice_step h.now (shown.choice_list list.now)) (so_far st.old) out.old (so_far st.new) out.new) }
 {
     for x in list {
@@ -554,7 +590,12 @@ fn test_subs(h: &Seat<'_>, p: &Test, st: &mut Store, out: &mut Owned) -> Result<
 
 // The same of conditions.
 #[cycle(lay)]
-fn tests_subs(h: &Seat<'_>, list: &[Test], st: &mut Store, out: &mut Owned) -> Result<(), OutOfMemory>
+fn tests_subs(
+    h: &Seat<'_>,
+    list: &[Test],
+    st: &mut Store,
+    out: &mut Owned,
+) -> Result<(), OutOfMemory>
     ensures { OnOk result (Takes (spec.tests_step h.now (shown.test_list list.now)) (so_far st.old) out.old (so_far st.new) out.new) }
 {
     for p in list {

@@ -41,11 +41,7 @@ fn known_columns(columns: &[TypedColumn]) -> Result<usize, OutOfMemory>
 }
 
 // Adds tables.
-fn add_tables(
-    alloc: Global,
-    tables: &[TableDecl],
-    out: &mut Vec<Named>,
-) -> Result<(), OutOfMemory>
+fn add_tables(alloc: Global, tables: &[TableDecl], out: &mut Vec<Named>) -> Result<(), OutOfMemory>
     ensures { OnOk result (out.new.items ≡ out.old.items ++ map named_table tables.now) }
 {
     for table in tables {

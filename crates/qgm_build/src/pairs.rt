@@ -75,12 +75,7 @@ fn column_terms(alloc: Global, q: QuantId, n: usize) -> Result<Vec<Gx>, OutOfMem
 }
 
 // The columns of groups: the keys, then the aggregates.
-fn group_head(
-    alloc: Global,
-    q: QuantId,
-    n: usize,
-    folds: &[Fold<'_>],
-) -> Result<Head, OutOfMemory>
+fn group_head(alloc: Global, q: QuantId, n: usize, folds: &[Fold<'_>]) -> Result<Head, OutOfMemory>
     ensures { IfOk result (λ h. h ≡ w.columns_of q 1 n ++ w.fold_terms q (suc n) (map leaf_of folds.now)) }
 {
     let mut list = column_terms(alloc, q, n)?;
@@ -153,7 +148,15 @@ pub(crate) fn finish_upper(
         over: z.groups,
     })?;
     append(&mut quants, subs.as_slice())?;
-    put(alloc, st, BoxKind::Select, z.distinct, x.conds, x.head, quants)
+    put(
+        alloc,
+        st,
+        BoxKind::Select,
+        z.distinct,
+        x.conds,
+        x.head,
+        quants,
+    )
 }
 
 // Two F quantifiers over these.
@@ -169,7 +172,12 @@ fn pair(alloc: Global, a: BoxId, b: BoxId, st: &mut Store) -> Result<Owned, OutO
 
 // The types of the columns of a quantifier.
 #[tactic(auto, using(crate::proofs::Lists::types_more))]
-fn pair_types(alloc: Global, q: QuantId, n: usize, st: &Store) -> Result<Items<SqlType>, OutOfMemory>
+fn pair_types(
+    alloc: Global,
+    q: QuantId,
+    n: usize,
+    st: &Store,
+) -> Result<Items<SqlType>, OutOfMemory>
     ensures { IfOk result (λ types. types ≡ map (typed_by st.now.rows.items) (w.columns_of q 1 n)) }
 {
     let mut types = Items::new(alloc);
@@ -194,7 +202,15 @@ pub(crate) fn finish_pair(
     let quants = pair(g.alloc, a, b, st)?;
     let types = pair_types(g.alloc, q, n, st)?;
     let kind = BoxKind::SetOp(form, types);
-    put(g.alloc, st, kind, false, Conds::new(g.alloc), Head::new(g.alloc), quants)
+    put(
+        g.alloc,
+        st,
+        kind,
+        false,
+        Conds::new(g.alloc),
+        Head::new(g.alloc),
+        quants,
+    )
 }
 
 // Where the columns of both operands of a LEFT JOIN are seen.
@@ -245,7 +261,14 @@ pub(crate) fn finish_outer(
     let q = st.next_quant;
     let quants = pair(g.alloc, a, b, st)?;
     let seen = outer_frame(g, x, n, q, st)?;
-    let conds = outer_conds(&Seat { ground: *g, frame: &seen }, p, st)?;
+    let conds = outer_conds(
+        &Seat {
+            ground: *g,
+            frame: &seen,
+        },
+        p,
+        st,
+    )?;
     let list = seen_terms(g.alloc, &seen)?;
     let head = head_of(g.alloc, list)?;
     put(g.alloc, st, BoxKind::OuterJoin, false, conds, head, quants)

@@ -12,8 +12,8 @@ ghost use Rattle.qgm_build.specs.SoFar.{so_far};
 
 use crate::types::type_of;
 use qgm_core::{
-    BoxId, BoxKind, BoxParts, Conds, Distinct, Gx, Head, NewBox, Owned, OwnedQuant, QuantId, QuantKind,
-    Role,
+    BoxId, BoxKind, BoxParts, Conds, Distinct, Gx, Head, NewBox, Owned, OwnedQuant, QuantId,
+    QuantKind, Role,
 };
 use shared_types::{OutOfMemory, Text};
 use sql_value::SqlType;
@@ -118,7 +118,12 @@ fn head_types(alloc: Global, st: &Store, head: &Head) -> Result<Items<SqlType>, 
     Ok(types)
 }
 
-fn types_of(alloc: Global, st: &Store, kind: &BoxKind, head: &Head) -> Result<Items<SqlType>, OutOfMemory>
+fn types_of(
+    alloc: Global,
+    st: &Store,
+    kind: &BoxKind,
+    head: &Head,
+) -> Result<Items<SqlType>, OutOfMemory>
     ensures { IfOk result (λ types. types ≡ column_types st.now.rows.items kind.now head.now) }
 {
     match kind {
