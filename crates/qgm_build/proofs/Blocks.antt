@@ -8,13 +8,11 @@ use Rattle.qgm_shown.specs.Maps.{Frame, Map, Ref}
 use Rattle.qgm_shown.specs.Shown.{all_leaves, all_on_leaves, all_ons, conds_of, frame_all, slots_of, ungrouped_cells}
 use Rattle.qgm_shown.specs.Sources.{Sources}
 use Rattle.qgm_shown.specs.Terms.{cond, split, terms}
+use Rattle.qgm_build.specs.Written.{slots_from}
 use Rattle.qgm_shown.specs.Folds.{all_on_folds, folds_in}
 use Rattle.qgm_build.proofs.Folding.{folds_append}
 use Rattle.qgm_shown.proofs.FoldsSame.{all_on_same, test_same, values_same}
 use Rattle.qgm_build.proofs.Grouped.{ungrouped_folds}
-
-abbrev pub slots_from : List OwnedQuant → List Ref → Slots
-slots_from subs cells = record { quants = map (λ (o : OwnedQuant). o.id) subs; cells = cells }
 
 module _ (all : Sources) (m : Map) (from : Froms) (by : Test) (list : Values) (fs subs : List OwnedQuant) where
   abbrev pub leaves_here : List Leaf

@@ -5,6 +5,11 @@ mod Folding
 mod Splitting
 mod Stacked
 mod Steps
+mod Taking
+mod Same
+mod Selected
+mod Paired
+mod Opening
 mod Afters
 mod Wholes
 mod Lists

@@ -1,12 +1,12 @@
 -- Lists of what is seen, one by one.
-use Rattle.std.proofs.Common.{◌≡◌, ◌<◌, ◌+◌, ◌-◌, ℕ, zero, suc, List, [], ◌∷◌, ◌++◌, append_assoc, length, get_or, slice_get, refl, ap, sym, arith, ◌∙◌}
+use Rattle.std.proofs.Common.{◌≡◌, ◌<◌, ◌+◌, ◌-◌, ℕ, zero, suc, List, [], ◌∷◌, ◌++◌, append_assoc, length, map, get_or, slice_get, refl, ap, sym, arith, ◌∙◌}
 use Rattle.sql_value.specs.declared.order_key.SqlType.{SqlType}
 use Rattle.sql_value.specs.declared.order_key.SqlType.TheVariants.{Integer}
-use Rattle.qgm_terms.specs.Terms.{Link, Term, both, linked}
+use Rattle.qgm_terms.specs.Terms.{Link, Term, both, col, linked}
 use Rattle.sql_meaning.specs.ResolvedShown.{value_list}
 use Rattle.sql_meaning.specs.declared.resolved.Value.{Value}
-use Rattle.qgm_shown.specs.Maps.{Ref, column, nothing}
-use Rattle.qgm_shown.specs.Shown.{refs}
+use Rattle.qgm_shown.specs.Maps.{Ref, column, nothing, ref_term}
+use Rattle.qgm_shown.specs.Shown.{columns_of, refs}
 use Rattle.qgm_shown.specs.Sources.{how_many_values}
 use Rattle.qgm_shown.specs.Typing.{chain_type, row_or, type_or, typed_by}
 use Rattle.qgm_build.specs.Written.{frame_of, ref_or}
@@ -44,3 +44,10 @@ refs_more ys q k n a h e = append_assoc a (column q (k + 1) ∷ []) (refs q (k +
 pub values_counted : (xs : List Value) → how_many_values (value_list xs) ≡ length xs
 values_counted [] = refl
 values_counted (x ∷ xs) = ap suc (values_counted xs)
+
+-- the type of one more column
+pub types_more : (ys : List SqlType) (rows : List (List SqlType)) (q k n : ℕ) (a : List SqlType) → k < n → a ++ map (typed_by rows) (columns_of q (k + 1) (n - k)) ≡ ys
+    → (a ++ (typed_by rows (col q (k + 1)) ∷ [])) ++ map (typed_by rows) (columns_of q (k + 1 + 1) (n - (k + 1))) ≡ ys
+types_more ys rows q k n a h e =
+    append_assoc a (typed_by rows (col q (k + 1)) ∷ []) (map (typed_by rows) (columns_of q (k + 1 + 1) (n - (k + 1))))
+    ∙ ap (λ z. a ++ map (typed_by rows) (map ref_term z)) (sym (refs_step q k n h)) ∙ e

@@ -10,6 +10,7 @@ use Rattle.qgm_shown.specs.Sources.{Sources}
 use Rattle.qgm_shown.specs.Terms.{terms}
 use Rattle.qgm_shown.specs.Folds.{all_on_folds, folds_in}
 use Rattle.qgm_build.specs.declared.select.Block.{Block}
+use Rattle.qgm_build.specs.declared.select.Rows.{Rows}
 
 -- its aggregates: those of its list, of the ON conditions, and of WHERE
 abbrev pub aggregates_of : Block → List Leaf
@@ -27,3 +28,14 @@ head_in_block sources m x fs subs = terms sources (frame_of_block sources x fs) 
 
 abbrev pub conds_in_block : Sources → Map → Block → List OwnedQuant → List OwnedQuant → List Cond
 conds_in_block sources m x fs subs = conds_of sources (shown.from_list x.from.now) (shown.test x.by.now) (λ fr. list_leaves fr (shown.value_list x.list.now)) m fs (slots_of_block sources x fs subs)
+
+-- ---- the rows of a grouped block
+
+abbrev pub aggregates_of_rows : Rows → List Leaf
+aggregates_of_rows x = all_on_folds (shown.from_list x.from.now) ++ folds_in (test_leaves [] (shown.test x.by.now))
+
+abbrev pub slots_of_rows : Sources → Rows → List OwnedQuant → List OwnedQuant → Slots
+slots_of_rows sources x fs subs = slots_of (all_leaves sources (shown.from_list x.from.now) (shown.test x.by.now) (λ fr. []) fs) subs
+
+abbrev pub conds_in_rows : Sources → Map → Rows → List OwnedQuant → List OwnedQuant → List Cond
+conds_in_rows sources m x fs subs = conds_of sources (shown.from_list x.from.now) (shown.test x.by.now) (λ fr. []) m fs (slots_of_rows sources x fs subs)

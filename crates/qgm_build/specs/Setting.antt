@@ -1,10 +1,9 @@
 -- What a block sees as it is written: what names stand for, the types of columns, and where its own columns and those of the blocks round it are seen.
-use Rattle.std.specs.Prelude.{ℕ, List, [], ◌∷◌, Option, Some, None, get_or, length, if◌then◌else◌}
+use Rattle.std.specs.Prelude.{ℕ, List, [], ◌∷◌, Option, Some, None, get_or, map, if◌then◌else◌}
 use Rattle.sql_ast.specs.Names.{same_name}
 use Rattle.sql_value.specs.declared.order_key.SqlType.{SqlType}
-use Rattle.sql_meaning.specs.ResolvedShown as shown
-use Rattle.sql_meaning.specs.ResolvedViews.{ViewTree, body_of}
-use Rattle.qgm_core.specs.declared.kinds.BaseTable.{BaseTable}
+use Rattle.sql_value.specs.declared.order_key.SqlType.TheVariants.{Integer}
+use Rattle.qgm_shown.specs.Lay.{SharedBox, box_named}
 use Rattle.qgm_terms.specs.Terms.{Term}
 use Rattle.qgm_shown.specs.Maps.{Frame, Map, nothing, ref_term}
 use Rattle.qgm_shown.specs.Sources.{Sources}
@@ -16,37 +15,38 @@ use Rattle.qgm_shown.specs.Typing.{typed_by}
 use Rattle.qgm_build.specs.Written.{frame_of, map_of}
 use Rattle.qgm_build.specs.declared.setting.Named.{Named}
 use Rattle.qgm_build.specs.declared.setting.Known.{Known}
+use Rattle.qgm_build.specs.declared.setting.Names.{Names}
+use Rattle.qgm_build.specs.declared.store.Shared.{Shared}
 use Rattle.qgm_build.specs.declared.setting.Setting.{Setting}
 
 -- the first of a name
 abbrev pub named_in : List Named → List ℕ → Option Named
 named_in [] name = None
-named_in (x ∷ xs) name = if same_name x.table.name name then Some x else named_in xs name
+named_in (x ∷ xs) name = if same_name x.name name then Some x else named_in xs name
 
 abbrev pub columns_of : Option Named → ℕ
 columns_of None = 0
-columns_of (Some x) = length x.table.types
+columns_of (Some x) = x.columns
 
-abbrev pub stored_as : List ℕ → Option Named → BaseTable
-stored_as name None = record { name = name; types = []; keys = []; not_null = [] }
-stored_as name (Some x) = x.table
-
-abbrev pub number_of : Option Named → ℕ
-number_of None = 0
-number_of (Some x) = x.number
-
--- what names stand for, where quantifiers have columns of these types
-abbrev pub sources_of : List Named → List ViewTree → List (List SqlType) → Sources
-sources_of named views rows = record {
+-- what a schema says of names; their boxes and the types of expressions come with the boxes so far
+abbrev pub told_by : List Named → Sources
+told_by named = record {
   columns = λ name. columns_of (named_in named name);
-  body = body_of views;
-  stored = λ name. stored_as name (named_in named name);
-  shared = λ name. number_of (named_in named name);
-  typed = typed_by rows;
+  body = λ name. None;
+  stored = λ name. record { name = name; types = []; keys = []; not_null = [] };
+  shared = λ name. 0;
+  typed = λ x. Integer;
 }
 
+abbrev pub told : Names → Sources
+told names = told_by names.named.now
+
+abbrev pub shared_box : Shared → SharedBox
+shared_box x = record { name = x.name; box = x.number }
+
+-- what names stand for, where quantifiers have columns of these types
 abbrev pub known_with : Known → List (List SqlType) → Sources
-known_with known rows = sources_of known.named.now (shown.views known.views.now) rows
+known_with known rows = record (told known.names) { shared = box_named (map shared_box known.shared.now); typed = typed_by rows }
 
 abbrev pub sources_in : Setting → Sources
 sources_in g = known_with g.known g.rows.now

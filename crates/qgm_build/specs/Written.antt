@@ -29,6 +29,10 @@ map_of (Inside' frame _ outer) = frame_of frame.now ∷ map_of outer
 abbrev pub slots_with : List OwnedQuant → List Seen → Slots
 slots_with os cells = record { quants = map (λ (o : OwnedQuant). o.id) os; cells = frame_of cells }
 
+-- the same, where aggregates are seen so
+abbrev pub slots_from : List OwnedQuant → Frame → Slots
+slots_from os cells = record { quants = map (λ (o : OwnedQuant). o.id) os; cells = cells }
+
 abbrev pub slots_of : Written → Slots
 slots_of s = slots_with s.quants.now s.cells.now
 

@@ -6,7 +6,7 @@ ghost use Rattle.qgm_shown.specs.Maps.{column};
 ghost use Rattle.qgm_shown.specs.Shown as w;
 ghost use Rattle.qgm_shown.specs.Sources as s;
 ghost use Rattle.std.specs.Option.{option_copied};
-ghost use Rattle.qgm_build.specs.Setting.{columns_of, named_in, number_of};
+ghost use Rattle.qgm_build.specs.Setting.{columns_of, named_in};
 ghost use Rattle.qgm_build.specs.Site.{sources_at};
 ghost use Rattle.qgm_build.specs.Written.{frame_of};
 
@@ -37,9 +37,9 @@ pub(crate) fn next_id(os: &mut Ranges<'_>) -> QuantId
     }
 }
 
-// Columns of a quantifier, from the first on.
+/// Adds columns of a quantifier, from the first on.
 #[tactic(auto, using(crate::proofs::Lists::refs_more))]
-fn push_refs(frame: &mut Vec<Seen>, q: QuantId, n: usize) -> Result<(), OutOfMemory>
+pub(crate) fn push_refs(frame: &mut Vec<Seen>, q: QuantId, n: usize) -> Result<(), OutOfMemory>
     ensures { OnOk result (frame_of frame.new.items ≡ frame_of frame.old.items ++ w.refs q 1 n) }
 {
     for k in 0..n {
@@ -74,7 +74,7 @@ fn find_named<'a>(named: &'a [Named], name: &Text) -> Option<&'a Named>
     ensures { option_copied result ≡ named_in named.now name.now }
 {
     for x in named {
-        if x.table.name == *name {
+        if x.name == *name {
             return Some(x);
         }
     }
@@ -83,20 +83,10 @@ fn find_named<'a>(named: &'a [Named], name: &Text) -> Option<&'a Named>
 
 /// How many columns a name of a FROM has.
 pub(crate) fn columns_named(known: &Known<'_>, name: &Text) -> usize
-    ensures { result ≡ columns_of (named_in known.now.named.now name.now) }
+    ensures { result ≡ columns_of (named_in known.now.names.named.now name.now) }
 {
-    match find_named(known.named, name) {
-        Some(x) => x.table.types.len(),
-        None => 0,
-    }
-}
-
-/// The number of the box that all share who name a table or a view.
-pub(crate) fn number_named(known: &Known<'_>, name: &Text) -> usize
-    ensures { result ≡ number_of (named_in known.now.named.now name.now) }
-{
-    match find_named(known.named, name) {
-        Some(x) => x.number,
+    match find_named(known.names.named, name) {
+        Some(x) => x.columns,
         None => 0,
     }
 }

@@ -36,8 +36,8 @@ pub(crate) fn ungrouped_cells(alloc: Global, folds: &[Fold<'_>]) -> Result<Vec<S
     Ok(out)
 }
 
-// The next number. It fails past 2^64, which no list in memory reaches.
-fn after(n: usize) -> Result<usize, OutOfMemory>
+/// The next number. It fails past 2^64, which no list in memory reaches.
+pub(crate) fn after(n: usize) -> Result<usize, OutOfMemory>
     ensures { IfOk result (λ m. m ≡ suc n) }
 {
     n.checked_add(1).ok_or(OutOfMemory)

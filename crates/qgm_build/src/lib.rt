@@ -1,12 +1,19 @@
 //! The boxes that are made for a query, and that they show it.
 #![tactic(auto)]
 
+mod base;
+mod build;
+mod finish;
 mod folds;
 mod frames;
 mod groups;
 mod heads;
+mod lay;
+mod named;
 mod ons;
+mod pairs;
 mod parts;
+mod reads;
 mod seen;
 mod select;
 mod setting;
@@ -15,3 +22,4 @@ mod store;
 mod terms;
 mod types;
 
+pub use build::build;

@@ -4,7 +4,7 @@ ghost use Rattle.sql_meaning.specs.ResolvedShown as shown;
 ghost use Rattle.qgm_shown.specs.Leaves as l;
 ghost use Rattle.qgm_shown.specs.Leaves.{rest_of};
 ghost use Rattle.qgm_shown.specs.Shown as w;
-ghost use Rattle.qgm_build.specs.Folds as spec;
+ghost use Rattle.qgm_shown.specs.Folds as spec;
 ghost use Rattle.qgm_build.specs.Folds.{leaf_of};
 ghost use Rattle.qgm_build.specs.Site.{sources_at};
 ghost use Rattle.qgm_build.specs.Written.{frame_of, map_of, slots_of};

@@ -33,9 +33,9 @@ fn cell_at(frame: &[Seen], k: usize) -> Seen
     }
 }
 
-// Where a column of a FROM is seen.
+/// Where a column of a FROM is seen, by its place.
 #[tactic(auto, using(crate::proofs::Lists::frame_get))]
-fn in_frame(frame: &[Seen], k: usize) -> Seen
+pub(crate) fn in_frame(frame: &[Seen], k: usize) -> Seen
     ensures { ref_of result ≡ get_or (frame_of frame.now) k nothing }
 {
     cell_at(frame, k)

@@ -1,7 +1,8 @@
 // The head and the conditions of the select over a block's FROM.
 ghost use Rattle.std.specs.Prelude.{◌≡◌, ◌++◌, [], IfOk, OnOk, map};
 ghost use Rattle.sql_meaning.specs.ResolvedShown as shown;
-ghost use Rattle.qgm_build.specs.Block.{aggregates_of, conds_in_block, frame_of_block, head_in_block};
+ghost use Rattle.qgm_build.specs.Block.{aggregates_of, aggregates_of_rows, conds_in_block, conds_in_rows, frame_of_block, head_in_block};
+ghost use Rattle.qgm_shown.specs.Shown.{frame_all};
 ghost use Rattle.qgm_build.specs.Folds.{leaf_of};
 ghost use Rattle.qgm_build.specs.Site.{sources_at};
 ghost use Rattle.qgm_build.specs.Written.{frame_of, map_of};
@@ -27,6 +28,15 @@ pub(crate) struct Block<'a> {
     pub by: &'a Test,
 }
 
+/// The rows of a grouped block: the places of its keys, its aggregates, FROM and WHERE.
+#[derive(Clone, Copy)]
+pub(crate) struct Rows<'a> {
+    pub places: &'a [usize],
+    pub folds: &'a [Fold<'a>],
+    pub from: &'a [From],
+    pub by: &'a Test,
+}
+
 /// The head of a select, and its conditions.
 #[derive(Drop)]
 pub(crate) struct Selected {
@@ -40,6 +50,16 @@ fn block_folds<'a>(g: &Site<'_>, x: &Block<'a>) -> Result<Vec<Fold<'a>>, OutOfMe
 {
     let mut out = Vec::new(g.alloc);
     list_folds(x.list, &mut out)?;
+    all_on_folds(x.from, &mut out)?;
+    test_folds(x.by, &mut out)?;
+    Ok(out)
+}
+
+// The aggregates of the rows of a grouped block, of which a valid query has none.
+fn rows_folds<'a>(g: &Site<'_>, x: &Rows<'a>) -> Result<Vec<Fold<'a>>, OutOfMemory>
+    ensures { IfOk result (λ v. map leaf_of v.items ≡ aggregates_of_rows x.now) }
+{
+    let mut out = Vec::new(g.alloc);
     all_on_folds(x.from, &mut out)?;
     test_folds(x.by, &mut out)?;
     Ok(out)
@@ -82,4 +102,39 @@ pub(crate) fn write_block(
     add_split(&mut conds, p)?;
     let head = head_of(g.alloc, list)?;
     Ok(Selected { head, conds })
+}
+
+/// The conditions of the rows of a grouped block, whose FROM has these quantifiers and whose
+/// subqueries those.
+pub(crate) fn write_conds(
+    g: &Site<'_>,
+    x: &Rows<'_>,
+    outer: &Scopes<'_>,
+    frame: &[Seen],
+    fs: &[OwnedQuant],
+    subs: &[OwnedQuant],
+) -> Result<Conds, OutOfMemory>
+    requires seen { frame_of frame.now ≡ frame_all (sources_at g.now) (shown.from_list x.now.from.now) fs.now }
+    ensures conds { IfOk result (λ c. c.items ≡ conds_in_rows (sources_at g.now) (map_of outer.now) x.now fs.now subs.now) }
+    ensures spare { IfOk result (λ c. c.spare ≡ 0) }
+{
+    let folds = rows_folds(g, x)?;
+    let cells = ungrouped_cells(g.alloc, &folds)?;
+    let mut s = Slots {
+        quants: subs,
+        cells: &cells,
+    };
+    let setting = Setting {
+        alloc: g.alloc,
+        known: g.known,
+        rows: g.rows,
+        frame: &*frame,
+        outer: &*outer,
+    };
+    let mut conds = Conds::new(g.alloc);
+    let mut os = Ranges { rest: fs };
+    all_on_conds(g, x.from, outer, &mut os, &mut s, &mut conds)?;
+    let p = test(&setting, x.by, &mut s)?;
+    add_split(&mut conds, p)?;
+    Ok(conds)
 }

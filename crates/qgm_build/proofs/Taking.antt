@@ -1,0 +1,43 @@
+-- Steps one after the other, and what is left of them.
+use Rattle.std.proofs.Common.{◌≡◌, ◌<◌, ◌+◌, ℕ, List, [], ◌∷◌, ◌++◌, append_assoc, append-nil, length, drop, get_or, ap, ap₂, refl, sym, ◌∙◌}
+use Rattle.qgm_core.specs.declared.kinds.QuantKind.{QuantKind}
+use Rattle.qgm_core.specs.declared.owned.OwnedQuant.{OwnedQuant}
+use Rattle.qgm_shown.specs.Lay.{Boxes, Drawn, Laid, Step, drawn, in_turn, none, over}
+use Rattle.qgm_build.specs.Making.{Gives, Leads, Takes, draws, top_at}
+use Rattle.qgm_build.proofs.Steps.{next_there}
+
+pub takes_none : (s : Boxes) (os : List OwnedQuant) → Takes none s os s os
+takes_none s os = record { boxes = refl; quants = sym (append-nil os) }
+
+pub takes_both : (a b : Step) {s t u : Boxes} {os ps rs : List OwnedQuant} → Takes a s os t ps → Takes b t ps u rs → Takes (in_turn a b) s os u rs
+takes_both a b {s} {t} {u} {os} {ps} {rs} e f =
+    record { boxes = f.boxes ∙ ap (λ (z : Boxes). (b z).boxes) e.boxes; quants = f.quants ∙ ap₂ (λ (zs : List OwnedQuant) (z : Boxes). zs ++ (b z).quants) e.quants e.boxes ∙ append_assoc os (a s).quants (b (a s).boxes).quants }
+
+pub takes_three : (a b d : Step) {s t u v : Boxes} {os ps rs qs : List OwnedQuant} → Takes a s os t ps → Takes b t ps u rs → Takes d u rs v qs → Takes (in_turn a (in_turn b d)) s os v qs
+takes_three a b d e f g = takes_both a (in_turn b d) e (takes_both b d f g)
+
+-- a quantifier over what was laid
+pub takes_over : (kind : QuantKind) (f : Boxes → Laid) {s t u : Boxes} {b : ℕ} {os ps : List OwnedQuant} → Gives (f s) b t → Takes (draws kind b) t os u ps → Takes (over kind f) s os u ps
+takes_over kind f {s} {t} {u} {b} {os} {ps} e d =
+    record { boxes = d.boxes ∙ ap₂ (λ (k : ℕ) (z : Boxes). (draws kind k z).boxes) e.0 e.1; quants = d.quants ∙ ap₂ (λ (k : ℕ) (z : Boxes). os ++ (draws kind k z).quants) e.0 e.1 }
+
+-- what is left after a part
+pub leads_next : (a r : Step) {s t u : Boxes} {os ps rs : List OwnedQuant} → Takes a s os t ps → Leads (in_turn a r) s os u rs → Leads r t ps u rs
+leads_next a r {s} {t} {u} {os} {ps} {rs} f g =
+    record { boxes = ap (λ (z : Boxes). (r z).boxes) f.boxes ∙ g.boxes; quants = ap₂ (λ (zs : List OwnedQuant) (z : Boxes). zs ++ (r z).quants) f.quants f.boxes ∙ append_assoc os (a s).quants (r (a s).boxes).quants ∙ g.quants }
+
+pub leads_at : {a b : Step} {s u : Boxes} {os rs : List OwnedQuant} → a ≡ b → Leads a s os u rs → Leads b s os u rs
+leads_at {a} {b} {s} {u} {os} {rs} e g = record { boxes = ap (λ (z : Step). (z s).boxes) (sym e) ∙ g.boxes; quants = ap (λ (z : Step). os ++ (z s).quants) (sym e) ∙ g.quants }
+
+-- one more item of a list
+pub leads_more : {X : Type 0} (L : List X → Step) (xs : List X) (i : ℕ) (x : X) (a : Step) {s t u : Boxes} {os ps rs : List OwnedQuant} → i < length xs → x ≡ get_or xs i x
+    → L (x ∷ drop (i + 1) xs) ≡ in_turn a (L (drop (i + 1) xs)) → Takes a s os t ps → Leads (L (drop i xs)) s os u rs → Leads (L (drop (i + 1) xs)) t ps u rs
+leads_more {X} L xs i x a low is e f so_far = leads_next a (L (drop (i + 1) xs)) f (leads_at (ap L (next_there xs i x low is) ∙ e) so_far)
+
+-- one more item of two parts
+pub leads_two : {X : Type 0} (L : List X → Step) (xs : List X) (i : ℕ) (x : X) (a b : Step) {s t v u : Boxes} {os ps qs rs : List OwnedQuant} → i < length xs → x ≡ get_or xs i x
+    → L (x ∷ drop (i + 1) xs) ≡ in_turn a (in_turn b (L (drop (i + 1) xs))) → Takes a s os t ps → Takes b t ps v qs → Leads (L (drop i xs)) s os u rs → Leads (L (drop (i + 1) xs)) v qs u rs
+leads_two {X} L xs i x a b low is e f g so_far =
+    leads_next b (L (drop (i + 1) xs)) g (leads_next a (in_turn b (L (drop (i + 1) xs))) f (leads_at (ap L (next_there xs i x low is) ∙ e) so_far))
+
+pub ruleset taking = (takes_none, takes_both, takes_three)

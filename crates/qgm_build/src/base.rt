@@ -1,0 +1,109 @@
+// What a graph knows of a declared table.
+ghost use Rattle.std.specs.Prelude.{◌≡◌, ◌++◌, IfOk, OnOk, filter, map, suc};
+ghost use Rattle.query_checks.specs.Columns as columns;
+ghost use Rattle.built_queries.specs.Sources as spec;
+ghost use Rattle.qgm_build.specs.Schema.{base_of};
+
+use crate::groups::after;
+use qgm_core::BaseTable;
+use shared_types::OutOfMemory;
+use sql_ast::{DataType, TableDecl};
+use sql_catalog::{ColumnDescriptor, KeyDescriptor, describe};
+use sql_value::SqlType;
+use sqlite_items::Items;
+use std::alloc::Global;
+
+// The type of what is declared so.
+fn type_of_declared(of: &DataType) -> SqlType
+    ensures { result ≡ columns.type_of_declared of.now }
+{
+    match of {
+        DataType::Integer | DataType::Int => SqlType::Integer,
+        DataType::Varchar(_) => SqlType::Varchar,
+    }
+}
+
+// The types of columns.
+fn column_types(alloc: Global, columns: &[ColumnDescriptor]) -> Result<Items<SqlType>, OutOfMemory>
+    ensures { IfOk result (λ types. types ≡ map spec.column_type columns.now) }
+{
+    let mut types = Items::new(alloc);
+    for column in columns {
+        types.push(type_of_declared(&column.data_type))?;
+    }
+    Ok(types)
+}
+
+// The places of a key's columns, from 1.
+fn key_places(alloc: Global, key: &KeyDescriptor) -> Result<Items<usize>, OutOfMemory>
+    ensures { IfOk result (λ places. places ≡ spec.key_places key.now) }
+{
+    let mut places = Items::new(alloc);
+    for place in key.places.as_slice() {
+        places.push(after(*place)?)?;
+    }
+    Ok(places)
+}
+
+// Adds PRIMARY KEY, if it is among these.
+fn add_primary(
+    alloc: Global,
+    keys: &[KeyDescriptor],
+    out: &mut Items<Items<usize>>,
+) -> Result<(), OutOfMemory>
+    ensures { OnOk result (out.new ≡ out.old ++ map spec.key_places (filter spec.is_primary keys.now)) }
+{
+    for key in keys {
+        if key.primary {
+            out.push(key_places(alloc, key)?)?;
+        }
+    }
+    Ok(())
+}
+
+// Adds each UNIQUE among these.
+fn add_unique(
+    alloc: Global,
+    keys: &[KeyDescriptor],
+    out: &mut Items<Items<usize>>,
+) -> Result<(), OutOfMemory>
+    ensures { OnOk result (out.new ≡ out.old ++ map spec.key_places (filter spec.is_unique keys.now)) }
+{
+    for key in keys {
+        if !key.primary {
+            out.push(key_places(alloc, key)?)?;
+        }
+    }
+    Ok(())
+}
+
+// The places of the columns that hold no null.
+fn not_null(alloc: Global, columns: &[ColumnDescriptor]) -> Result<Items<usize>, OutOfMemory>
+    ensures { IfOk result (λ places. places ≡ spec.not_null_from 1 columns.now) }
+{
+    let mut places = Items::new(alloc);
+    let mut k = 1;
+    for column in columns {
+        if column.not_null {
+            places.push(k)?;
+        }
+        k = after(k)?;
+    }
+    Ok(places)
+}
+
+/// A declared table: its columns, its keys, PRIMARY KEY before each UNIQUE, and its not-null columns.
+pub(crate) fn base_table(alloc: Global, table: &TableDecl) -> Result<BaseTable, OutOfMemory>
+    ensures { IfOk result (λ b. b ≡ base_of table.now) }
+{
+    let found = describe(alloc, table)?;
+    let mut keys = Items::new(alloc);
+    add_primary(alloc, found.keys.as_slice(), &mut keys)?;
+    add_unique(alloc, found.keys.as_slice(), &mut keys)?;
+    Ok(BaseTable {
+        name: table.name.copy(alloc)?,
+        types: column_types(alloc, found.columns.as_slice())?,
+        keys,
+        not_null: not_null(alloc, found.columns.as_slice())?,
+    })
+}

@@ -1,0 +1,275 @@
+// The boxes over groups and over pairs of boxes.
+ghost use Rattle.std.specs.Prelude.{◌≡◌, ◌++◌, ◌∷◌, [], IfOk, OnOk, map, suc};
+ghost use Rattle.sql_meaning.specs.ResolvedShown as shown;
+ghost use Rattle.qgm_terms.specs.Shown.{terms};
+ghost use Rattle.qgm_terms.specs.Terms as t;
+ghost use Rattle.qgm_shown.specs.Folds.{folds_in};
+ghost use Rattle.qgm_shown.specs.Lay.{laying, ranging};
+ghost use Rattle.qgm_shown.specs.Lay as l;
+ghost use Rattle.qgm_shown.specs.Leaves.{after, list_leaves, test_leaves};
+ghost use Rattle.qgm_shown.specs.Shown as w;
+ghost use Rattle.qgm_shown.specs.Sources.{from_width};
+ghost use Rattle.qgm_shown.specs.Terms as meant;
+ghost use Rattle.qgm_shown.specs.Typing.{typed_by};
+ghost use Rattle.qgm_build.specs.Folds.{leaf_of};
+ghost use Rattle.qgm_build.specs.Laying as spec;
+ghost use Rattle.qgm_build.specs.Laying.{outer_of, told_at};
+ghost use Rattle.qgm_build.specs.Making.{Gives, after_subs};
+ghost use Rattle.qgm_build.specs.SoFar.{so_far};
+ghost use Rattle.qgm_build.specs.Written.{frame_of};
+
+use crate::finish::{append, seen_terms};
+use crate::folds::{Fold, list_folds, test_folds};
+use crate::frames::{from_width, push_refs};
+use crate::groups::{after, fold_terms, group_cells};
+use crate::heads::{add_split, head_of};
+use crate::seen::Seen;
+use crate::select::Selected;
+use crate::setting::{Ground, Seat, setting_of, site_of};
+use crate::slots::Slots;
+use crate::store::{Store, draw, put, row_type};
+use crate::terms::{test, values};
+use qgm_core::{
+    BoxId, BoxKind, Conds, Gx, Head, Owned, OwnedQuant, QuantId, QuantKind, SetOperator,
+};
+use shared_types::OutOfMemory;
+use sql_meaning::{From, Test, Value};
+use sql_value::SqlType;
+use sqlite_items::Items;
+use std::alloc::Global;
+
+/// The select over the groups of a block: its list, the places of the keys, how many columns the FROM
+/// has, HAVING, the quantifier over the groups, and their box.
+#[derive(Clone, Copy)]
+pub(crate) struct Upper<'a> {
+    pub distinct: bool,
+    pub list: &'a [Value],
+    pub places: &'a [usize],
+    pub n: usize,
+    pub having: &'a Test,
+    pub u: QuantId,
+    pub groups: BoxId,
+}
+
+/// The aggregates of a grouped block: those of its list, and of HAVING.
+pub(crate) fn upper_folds<'a>(
+    alloc: Global,
+    list: &'a [Value],
+    having: &'a Test,
+) -> Result<Vec<Fold<'a>>, OutOfMemory>
+    ensures { IfOk result (λ v. map leaf_of v.items ≡ folds_in (list_leaves [] (shown.value_list list.now)) ++ folds_in (test_leaves [] (shown.test having.now))) }
+{
+    let mut out = Vec::new(alloc);
+    list_folds(list, &mut out)?;
+    test_folds(having, &mut out)?;
+    Ok(out)
+}
+
+// Columns of a quantifier, from the first on.
+fn column_terms(alloc: Global, q: QuantId, n: usize) -> Result<Vec<Gx>, OutOfMemory>
+    ensures { IfOk result (λ v. terms v.items ≡ w.columns_of q 1 n) }
+{
+    let mut seen = Vec::new(alloc);
+    push_refs(&mut seen, q, n)?;
+    seen_terms(alloc, &seen)
+}
+
+// The columns of groups: the keys, then the aggregates.
+fn group_head(alloc: Global, q: QuantId, n: usize, folds: &[Fold<'_>]) -> Result<Head, OutOfMemory>
+    ensures { IfOk result (λ h. h ≡ w.columns_of q 1 n ++ w.fold_terms q (suc n) (map leaf_of folds.now)) }
+{
+    let mut list = column_terms(alloc, q, n)?;
+    fold_terms(alloc, q, after(n)?, folds, &mut list)?;
+    head_of(alloc, list)
+}
+
+/// The groups of a block whose rows were laid.
+pub(crate) fn finish_group(
+    g: &Ground<'_>,
+    places: &[usize],
+    folds: &[Fold<'_>],
+    rows: BoxId,
+    st: &mut Store,
+) -> Result<BoxId, OutOfMemory>
+    ensures { IfOk result (λ b. Gives (spec.group_box g.now places.now (map leaf_of folds.now) rows (so_far st.old)) b (so_far st.new)) }
+{
+    let q = st.next_quant;
+    let mut quants = Owned::new(g.alloc);
+    draw(g.alloc, st, QuantKind::F, rows, &mut quants)?;
+    let head = group_head(g.alloc, q, places.len(), folds)?;
+    let kind = BoxKind::Group(places.len());
+    put(g.alloc, st, kind, false, Conds::new(g.alloc), head, quants)
+}
+
+// The head and the conditions of the select over groups, whose subqueries have these quantifiers.
+fn write_upper(
+    h: &Seat<'_>,
+    z: &Upper<'_>,
+    subs: &[OwnedQuant],
+    st: &Store,
+) -> Result<Selected, OutOfMemory>
+    ensures head { IfOk result (λ x. x.head ≡ spec.upper_head h.now z.now.u (shown.value_list z.now.list.now) z.now.places.now (shown.test z.now.having.now) subs.now (so_far st.now)) }
+    ensures conds { IfOk result (λ x. x.conds.items ≡ spec.upper_conds h.now z.now.u (shown.value_list z.now.list.now) z.now.places.now (shown.test z.now.having.now) subs.now (so_far st.now)) }
+    ensures spare { IfOk result (λ x. x.conds.spare ≡ 0) }
+{
+    let alloc = h.ground.alloc;
+    let folds = upper_folds(alloc, z.list, z.having)?;
+    let cells = group_cells(alloc, z.u, after(z.places.len())?, &folds)?;
+    let mut s = Slots {
+        quants: subs,
+        cells: &cells,
+    };
+    let setting = setting_of(h, st);
+    let mut list = Vec::new(alloc);
+    values(&setting, z.list, &mut s, &mut list)?;
+    let p = test(&setting, z.having, &mut s)?;
+    let mut conds = Conds::new(alloc);
+    add_split(&mut conds, p)?;
+    let head = head_of(alloc, list)?;
+    Ok(Selected { head, conds })
+}
+
+/// The select over the groups of a block.
+pub(crate) fn finish_upper(
+    h: &Seat<'_>,
+    z: &Upper<'_>,
+    subs: Owned,
+    st: &mut Store,
+) -> Result<BoxId, OutOfMemory>
+    requires seen { frame_of h.now.frame.now ≡ w.key_frame z.now.u z.now.places.now 0 z.now.n }
+    ensures { IfOk result (λ b. Gives (spec.upper_box h.now.ground z.now.distinct (shown.value_list z.now.list.now) z.now.places.now z.now.n (shown.test z.now.having.now) z.now.u z.now.groups (after_subs (so_far st.old) subs)) b (so_far st.new)) }
+{
+    let alloc = h.ground.alloc;
+    let x = write_upper(h, z, subs.as_slice(), st)?;
+    let mut quants = Owned::new(alloc);
+    quants.push(OwnedQuant {
+        id: z.u,
+        kind: QuantKind::F,
+        over: z.groups,
+    })?;
+    append(&mut quants, subs.as_slice())?;
+    put(
+        alloc,
+        st,
+        BoxKind::Select,
+        z.distinct,
+        x.conds,
+        x.head,
+        quants,
+    )
+}
+
+// Two F quantifiers over these.
+fn pair(alloc: Global, a: BoxId, b: BoxId, st: &mut Store) -> Result<Owned, OutOfMemory>
+    ensures quants { IfOk result (λ os. os ≡ l.pair_of (so_far st.old).quant a b) }
+    ensures store { OnOk result (so_far st.new ≡ ranging b (ranging a (so_far st.old))) }
+{
+    let mut quants = Owned::new(alloc);
+    draw(alloc, st, QuantKind::F, a, &mut quants)?;
+    draw(alloc, st, QuantKind::F, b, &mut quants)?;
+    Ok(quants)
+}
+
+// The types of the columns of a quantifier.
+#[tactic(auto, using(crate::proofs::Lists::types_more))]
+fn pair_types(
+    alloc: Global,
+    q: QuantId,
+    n: usize,
+    st: &Store,
+) -> Result<Items<SqlType>, OutOfMemory>
+    ensures { IfOk result (λ types. types ≡ map (typed_by st.now.rows.items) (w.columns_of q 1 n)) }
+{
+    let mut types = Items::new(alloc);
+    for i in 0..n {
+        types.push(row_type(st, q, i + 1))?;
+    }
+    Ok(types)
+}
+
+/// A set operation over what was laid.
+pub(crate) fn finish_pair(
+    g: &Ground<'_>,
+    form: SetOperator,
+    n: usize,
+    a: BoxId,
+    b: BoxId,
+    st: &mut Store,
+) -> Result<BoxId, OutOfMemory>
+    ensures { IfOk result (λ r. Gives (spec.two_box g.now form n a b (so_far st.old)) r (so_far st.new)) }
+{
+    let q = st.next_quant;
+    let quants = pair(g.alloc, a, b, st)?;
+    let types = pair_types(g.alloc, q, n, st)?;
+    let kind = BoxKind::SetOp(form, types);
+    put(
+        g.alloc,
+        st,
+        kind,
+        false,
+        Conds::new(g.alloc),
+        Head::new(g.alloc),
+        quants,
+    )
+}
+
+// Where the columns of both operands of a LEFT JOIN are seen.
+fn outer_frame(
+    g: &Ground<'_>,
+    x: &From,
+    n: usize,
+    q: QuantId,
+    st: &Store,
+) -> Result<Vec<Seen>, OutOfMemory>
+    ensures { IfOk result (λ v. frame_of v.items ≡ w.refs q 1 (from_width (told_at g.now) (shown.from x.now)) ++ w.refs (suc q) 1 n) }
+{
+    let mut seen = Vec::new(g.alloc);
+    let width = from_width(&site_of(g, st), x)?;
+    push_refs(&mut seen, q, width)?;
+    push_refs(&mut seen, after(q)?, n)?;
+    Ok(seen)
+}
+
+// The conditions of a LEFT JOIN.
+fn outer_conds(h: &Seat<'_>, p: &Test, st: &Store) -> Result<Conds, OutOfMemory>
+    ensures conds { IfOk result (λ c. c.items ≡ meant.split (meant.cond (laying (told_at h.now.ground) (so_far st.now)) (frame_of h.now.frame.now) (outer_of h.now.ground) w.no_slots (shown.test p.now))) }
+    ensures spare { IfOk result (λ c. c.spare ≡ 0) }
+{
+    let setting = setting_of(h, st);
+    let mut s = Slots {
+        quants: &[],
+        cells: &[],
+    };
+    let c = test(&setting, p, &mut s)?;
+    let mut conds = Conds::new(h.ground.alloc);
+    add_split(&mut conds, c)?;
+    Ok(conds)
+}
+
+/// A LEFT JOIN over what was laid.
+pub(crate) fn finish_outer(
+    g: &Ground<'_>,
+    x: &From,
+    n: usize,
+    p: &Test,
+    a: BoxId,
+    b: BoxId,
+    st: &mut Store,
+) -> Result<BoxId, OutOfMemory>
+    ensures { IfOk result (λ r. Gives (spec.outer_box g.now (shown.from x.now) n (shown.test p.now) a b (so_far st.old)) r (so_far st.new)) }
+{
+    let q = st.next_quant;
+    let quants = pair(g.alloc, a, b, st)?;
+    let seen = outer_frame(g, x, n, q, st)?;
+    let conds = outer_conds(
+        &Seat {
+            ground: *g,
+            frame: &seen,
+        },
+        p,
+        st,
+    )?;
+    let list = seen_terms(g.alloc, &seen)?;
+    let head = head_of(g.alloc, list)?;
+    put(g.alloc, st, BoxKind::OuterJoin, false, conds, head, quants)
+}
