@@ -16,8 +16,7 @@ ghost use Rattle.qgm_meaning.specs.Values as meaning;
 use crate::bindings::{Bindings, column};
 use crate::source::{Sub, rows_of};
 use qgm_terms::{Arm, Gc, Gx, Link, Op, QuantId};
-use row_bag::Row;
-use row_bag::{presence, scalar};
+use row_bag::{Row, presence, scalar};
 use shared_types::OutOfMemory;
 use sql_value::{
     Cell, CmpOp, Kind, Level, Text, Truth, add, and, compare, concat, decided, div, is_null, like,

@@ -14,8 +14,10 @@ use crate::bindings::Bindings;
 use crate::evaluation::value;
 use crate::heads::head_cells;
 use qgm_core::{Gx, QuantId};
-use row_bag::{Bag, Group, Row, error_at, failed_row, groups_of, key_error, worst_of};
-use row_bag::{append_cells, count_rows, folded};
+use row_bag::{
+    Bag, Group, Row, append_cells, count_rows, error_at, failed_row, folded, groups_of, key_error,
+    worst_of,
+};
 use shared_types::OutOfMemory;
 use sql_value::{Aggregate, Cell, Kind, Level, Taken};
 use sqlite_items::Items;

@@ -3,8 +3,7 @@ ghost use Rattle.std.specs.Prelude.{◌≡◌, IfOk};
 ghost use Rattle.box_exec.specs.Sources.{held, held_by};
 
 use qgm_terms::QuantId;
-use row_bag::{Bag, Row};
-use row_bag::copied_rows;
+use row_bag::{Bag, Row, copied_rows};
 use shared_types::OutOfMemory;
 use std::alloc::Global;
 

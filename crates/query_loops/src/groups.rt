@@ -18,8 +18,7 @@ ghost use Rattle.sql_value.specs.declared.level.Level.TheVariants.{Yes};
 
 use crate::nest::Loops;
 use crate::scope::{Group, GroupedSelect, Scopes, Setting};
-use row_bag::{Bag, Row, error_at, error_of, failed_cells, same_cells, worst_of};
-use row_bag::{copied, nulls};
+use row_bag::{Bag, Row, copied, error_at, error_of, failed_cells, nulls, same_cells, worst_of};
 use shared_types::OutOfMemory;
 use sql_meaning::{From, Query, Test, Value};
 use sql_value::{Cell, Kind, Level, Truth, copy, keep, level_of};

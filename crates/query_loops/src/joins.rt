@@ -10,8 +10,7 @@ ghost use Rattle.sql_meaning.specs.Joins as joins;
 
 use crate::nest::Loops;
 use crate::scope::{Group, Scopes, Setting};
-use row_bag::{Bag, Row};
-use row_bag::{append_kept, cells_beside, or_with_nulls};
+use row_bag::{Bag, Row, append_kept, cells_beside, or_with_nulls};
 use shared_types::OutOfMemory;
 use sql_meaning::{From, Query, Test, Value};
 use sql_value::{Cell, Level, Truth};

@@ -10,8 +10,7 @@ ghost use Rattle.sql_meaning.specs.Joins as joins;
 
 use crate::nest::Loops;
 use crate::scope::{Group, Scopes, Setting, no_group};
-use row_bag::{Bag, Row};
-use row_bag::{count_cell, folded};
+use row_bag::{Bag, Row, count_cell, folded};
 use shared_types::OutOfMemory;
 use sql_ast::SetFunction;
 use sql_meaning::{From, Query, Test, Value};

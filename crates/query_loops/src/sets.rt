@@ -8,8 +8,7 @@ ghost use Rattle.row_bag.specs.Sets as sets;
 ghost use Rattle.sql_meaning.specs.Joins as joins;
 ghost use Rattle.sql_value.specs.declared.level.Level.TheVariants.{No};
 
-use row_bag::{Bag, Row, error_among, failed_row, same_cells, worst_of};
-use row_bag::copied;
+use row_bag::{Bag, Row, copied, error_among, failed_row, same_cells, worst_of};
 use shared_types::OutOfMemory;
 use sql_ast::SetOperator;
 use sql_value::{Cell, Level, greatest};
