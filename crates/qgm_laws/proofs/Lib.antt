@@ -52,3 +52,4 @@ pub mod TypedMerged
 pub mod TypedDistinct
 pub mod WellFormedKept
 pub mod Examples
+pub mod ShapedPut

@@ -5,7 +5,7 @@ use Rattle.std.proofs.lemmas.Bool.{and_from, and_parts, cases_Bool, not-true, or
 use mathlib.Core.Path.{fun_ext}
 use Rattle.qgm_core.specs.Boxes.{is_box, is_quant, overs_of, owns, range_in, width}
 use Rattle.qgm_core.specs.Free.{free_among, free_in, is_owned, marked, named_by, named_where, put_each, reached}
-use Rattle.qgm_core.specs.Kinds.{is_F, is_plain, is_preserve}
+use Rattle.qgm_core.specs.Kinds.{is_F, is_F_or_S, is_permit, is_plain, is_preserve}
 use Rattle.qgm_core.specs.Lists.{In, first, holds}
 use Rattle.qgm_core.specs.declared.kinds.BoxKind.{BoxKind}
 use Rattle.qgm_core.specs.declared.kinds.BoxKind.TheVariants.{Base, Group, OuterJoin, Select, SetOp}
@@ -84,7 +84,13 @@ module _ (keep : ℕ → Bool) where
       let r = reached-kept (b ∷ []) ns (λ m i. elim i [ inl e ↦ subst (λ z. keep z ≡ true) e k | inr z ↦ elim z [ ] ]) c in
       ap (λ z. free_among z (kept keep ns)) r.0 ∙ among-kept (reached (b ∷ []) ns) r.1 ns
 
-module _ (bs : List Node) (root : ℕ) (w : Sound bs root) (s : Shaped bs root) where
+-- these of the boxes are shaped
+pub record ShapedOn (on bs : List Node) (root : ℕ) : Type 0 where
+  pub columns : (n : Node) → In n on → columns_fit bs n ≡ true
+  pub unseen : (n : Node) → In n on → is_permit n.parts.distinct ≡ true → (n.id ≡ root → ⊥) × ((m : Node) (r : OwnedQuant) → In m bs → In r m.quants → r.over ≡ n.id → is_F_or_S r.kind ≡ false)
+  pub shapes : (n : Node) → In n on → shape_fits root bs n ≡ true
+
+module _ (bs : List Node) (root : ℕ) (w : Sound bs root) where
   abbrev keep : ℕ → Bool
   keep b = holds b (reached (root ∷ []) bs)
 
@@ -126,22 +132,17 @@ module _ (bs : List Node) (root : ℕ) (w : Sound bs root) (s : Shaped bs root) 
       by o j None e = ap (over_box ks) e ∙ sym (ap (over_box bs) e)
       by o j (Some r) e = ap (over_box ks) e ∙ under-kept o j r (range-in q o r e) ∙ sym (ap (over_box bs) e)
 
-  columns-kept : (n : Node) → In n ks → columns_fit ks n ≡ true
-  columns-kept n i =
-      let x = in-kept keep n bs i in
-      let f = and_parts (places_fit n.parts.kind) (list_all (λ (c : Column). fits c.place (box_under bs c.quant)) (columns_of n)) (s.columns n x.0) in
-      and_from (places_fit n.parts.kind) (list_all (λ (c : Column). fits c.place (box_under ks c.quant)) (columns_of n)) f.0 (all-from (λ (c : Column). fits c.place (box_under ks c.quant)) (columns_of n) (λ c j.
-      ap (fits c.place) (box-kept n i c.quant (column-named c.quant c.place n (any-from (is_at c.quant c.place) c (columns_of n) j (and_from (c.quant == c.quant) (c.place == c.place) (eq-itself c.quant) (eq-itself c.place)))))
-      ∙ all-in (λ (c : Column). fits c.place (box_under bs c.quant)) c (columns_of n) f.1 j))
+  -- the box under the second quantifier of a box that is kept is open by the same
+  pub free-same : (n : Node) → In n ks → (d : OwnedQuant) → In d n.quants → free_in ks d.over ≡ free_in bs d.over
+  free-same n i d j = let x = in-kept keep n bs i in free-kept keep d.over bs (closed n d x.0 x.1 j) closed
 
   fed-kept : (n : Node) → In n ks → (rs : List OwnedQuant) → ((r : OwnedQuant) → In r rs → In r n.quants) → fed_by ks n.parts.head rs ≡ fed_by bs n.parts.head rs
   fed-kept n i [] sub = refl
   fed-kept n i (a ∷ []) sub = refl
   fed-kept n i (a ∷ (d ∷ [])) sub =
-      let x = in-kept keep n bs i in
       let ea = under-kept n i a (sub a (inl refl)) in
       let ed = under-kept n i d (sub d (inr (inl refl))) in
-      let ef = free-kept keep d.over bs (closed n d x.0 x.1 (sub d (inr (inl refl)))) closed in
+      let ef = free-same n i d (sub d (inr (inl refl))) in
       ap₂ (λ (u v : Option Node). is_F a.kind && is_F d.kind && magic_found u && only a.id (free_in ks d.over) && heads_are n.parts.head (shapes.columns_from a.id 1 (width_found u) ++ shapes.columns_from d.id 1 (width_found v))) ea ed
       ∙ ap (λ z. is_F a.kind && is_F d.kind && magic_found (first (is_box a.over) bs) && only a.id z && heads_are n.parts.head (columns_through bs a ++ columns_through bs d)) ef
   fed-kept n i (a ∷ (d ∷ (e ∷ rs))) sub = refl
@@ -165,22 +166,38 @@ module _ (bs : List Node) (root : ℕ) (w : Sound bs root) (s : Shaped bs root) 
   scalar-was : (b : ℕ) → is_scalar ks b ≡ true → is_scalar bs b ≡ true
   scalar-was b h = let x = any-in (λ (n : Node). is_scalar_in n.quants b) ks h in any-from (λ (n : Node). is_scalar_in n.quants b) x.0 bs (in-kept keep x.0 bs x.1.0).0 x.1.1
 
-  shape-kept : (n : Node) → In n ks → shape_fits root ks n ≡ true
-  shape-kept n i =
-      let h = s.shapes n (in-kept keep n bs i).0 in
-      let a = and_parts ((kind_fits root bs n n.parts.kind && list_all (node_fits n.quants) (nodes_of n)) && columns_placed n) (not (is_scalar bs n.id) || nat_lt 0 (width n)) h in
-      let d = and_parts (kind_fits root bs n n.parts.kind && list_all (node_fits n.quants) (nodes_of n)) (columns_placed n) a.0 in
-      let e = and_parts (kind_fits root bs n n.parts.kind) (list_all (node_fits n.quants) (nodes_of n)) d.0 in
-      and_from ((kind_fits root ks n n.parts.kind && list_all (node_fits n.quants) (nodes_of n)) && columns_placed n) (not (is_scalar ks n.id) || nat_lt 0 (width n))
-      (and_from (kind_fits root ks n n.parts.kind && list_all (node_fits n.quants) (nodes_of n)) (columns_placed n) (and_from (kind_fits root ks n n.parts.kind) (list_all (node_fits n.quants) (nodes_of n)) (kind-kept n i n.parts.kind e.0) e.1) d.1)
-      (elim (cases_Bool (is_scalar ks n.id)) [
-        | inr f ↦ or-left (not (is_scalar ks n.id)) (nat_lt 0 (width n)) (ap not f)
-        | inl t ↦ or-right (not (is_scalar ks n.id)) (nat_lt 0 (width n)) (elim (or_cases (not (is_scalar bs n.id)) (nat_lt 0 (width n)) a.1) [ inl y ↦ absurd (clash (is_scalar bs n.id) (scalar-was n.id t) (not-true (is_scalar bs n.id) y)) | inr y ↦ y ])
-      ])
+  module _ (s : ShapedOn ks bs root) where
+    columns-kept : (n : Node) → In n ks → columns_fit ks n ≡ true
+    columns-kept n i =
+        let x = in-kept keep n bs i in
+        let f = and_parts (places_fit n.parts.kind) (list_all (λ (c : Column). fits c.place (box_under bs c.quant)) (columns_of n)) (s.columns n i) in
+        and_from (places_fit n.parts.kind) (list_all (λ (c : Column). fits c.place (box_under ks c.quant)) (columns_of n)) f.0 (all-from (λ (c : Column). fits c.place (box_under ks c.quant)) (columns_of n) (λ c j.
+        ap (fits c.place) (box-kept n i c.quant (column-named c.quant c.place n (any-from (is_at c.quant c.place) c (columns_of n) j (and_from (c.quant == c.quant) (c.place == c.place) (eq-itself c.quant) (eq-itself c.place)))))
+        ∙ all-in (λ (c : Column). fits c.place (box_under bs c.quant)) c (columns_of n) f.1 j))
 
-  pub shaped-compact : Shaped ks root
-  shaped-compact = record {
-    columns = columns-kept;
-    unseen = λ n i p. (let x = s.unseen n (in-kept keep n bs i).0 p in (x.0, λ m r j l e. x.1 m r (in-kept keep m bs j).0 l e));
-    shapes = shape-kept;
-  }
+    shape-kept : (n : Node) → In n ks → shape_fits root ks n ≡ true
+    shape-kept n i =
+        let h = s.shapes n i in
+        let a = and_parts ((kind_fits root bs n n.parts.kind && list_all (node_fits n.quants) (nodes_of n)) && columns_placed n) (not (is_scalar bs n.id) || nat_lt 0 (width n)) h in
+        let d = and_parts (kind_fits root bs n n.parts.kind && list_all (node_fits n.quants) (nodes_of n)) (columns_placed n) a.0 in
+        let e = and_parts (kind_fits root bs n n.parts.kind) (list_all (node_fits n.quants) (nodes_of n)) d.0 in
+        and_from ((kind_fits root ks n n.parts.kind && list_all (node_fits n.quants) (nodes_of n)) && columns_placed n) (not (is_scalar ks n.id) || nat_lt 0 (width n))
+        (and_from (kind_fits root ks n n.parts.kind && list_all (node_fits n.quants) (nodes_of n)) (columns_placed n) (and_from (kind_fits root ks n n.parts.kind) (list_all (node_fits n.quants) (nodes_of n)) (kind-kept n i n.parts.kind e.0) e.1) d.1)
+        (elim (cases_Bool (is_scalar ks n.id)) [
+          | inr f ↦ or-left (not (is_scalar ks n.id)) (nat_lt 0 (width n)) (ap not f)
+          | inl t ↦ or-right (not (is_scalar ks n.id)) (nat_lt 0 (width n)) (elim (or_cases (not (is_scalar bs n.id)) (nat_lt 0 (width n)) a.1) [ inl y ↦ absurd (clash (is_scalar bs n.id) (scalar-was n.id t) (not-true (is_scalar bs n.id) y)) | inr y ↦ y ])
+        ])
+
+    pub shaped-on : Shaped ks root
+    shaped-on = record {
+      columns = columns-kept;
+      unseen = λ n i p. (let x = s.unseen n i p in (x.0, λ m r j l e. x.1 m r (in-kept keep m bs j).0 l e));
+      shapes = shape-kept;
+    }
+
+  pub shaped-compact : Shaped bs root → Shaped ks root
+  shaped-compact s = shaped-on (record {
+    columns = λ n i. s.columns n (in-kept keep n bs i).0;
+    unseen = λ n i p. s.unseen n (in-kept keep n bs i).0 p;
+    shapes = λ n i. s.shapes n (in-kept keep n bs i).0;
+  })
