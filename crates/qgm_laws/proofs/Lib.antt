@@ -53,3 +53,5 @@ pub mod TypedDistinct
 pub mod WellFormedKept
 pub mod Examples
 pub mod ShapedPut
+pub mod FreeMerged
+pub mod ShapedMerged

@@ -103,7 +103,7 @@ is_of q (node.Every r) = r == q
 
 module _ (q : ℕ) where
   mutual
-    term-nodes : (x : Term) → list_any (is_of q) (named.nodes_in x) ≡ names q x
+    pub term-nodes : (x : Term) → list_any (is_of q) (named.nodes_in x) ≡ names q x
     term-nodes (int n) = refl
     term-nodes (text s) = refl
     term-nodes null_int = refl
@@ -140,13 +140,13 @@ abbrev pub is_at : ℕ → ℕ → Column → Bool
 is_at q k c = (c.quant == q) && (c.place == k)
 
 module _ (q k : ℕ) where
-  abbrev at_all : Term → Bool
+  abbrev pub at_all : Term → Bool
   at_all = any_in (looking (λ r j. (r == q) && (j == k)) (λ r. false) (λ r. false) (λ r. true))
 
   abbrev at_arms : Arms → Bool
   at_arms = any_in_arms (looking (λ r j. (r == q) && (j == k)) (λ r. false) (λ r. false) (λ r. true))
 
-  abbrev at_cond : Cond → Bool
+  abbrev pub at_cond : Cond → Bool
   at_cond = any_in_cond (looking (λ r j. (r == q) && (j == k)) (λ r. false) (λ r. false) (λ r. true))
 
   mutual
@@ -178,7 +178,7 @@ module _ (q k : ℕ) where
     cond-columns (every r c) = cond-columns c
 
   -- the columns that a box names are found in its cells and conditions
-  columns-found : (n : Node) → list_any (is_at q k) (columns_of n) ≡ (list_any at_all n.parts.head || list_any at_cond n.parts.conds.items)
+  pub columns-found : (n : Node) → list_any (is_at q k) (columns_of n) ≡ (list_any at_all n.parts.head || list_any at_cond n.parts.conds.items)
   columns-found n =
       any-both (is_at q k) (flat_map columns_in n.parts.head) (flat_map columns_in_cond n.parts.conds.items)
       ∙ ap₂ (λ a b. a || b) (any-each (is_at q k) columns_in n.parts.head ∙ any-same (λ x. list_any (is_at q k) (columns_in x)) at_all n.parts.head term-columns)

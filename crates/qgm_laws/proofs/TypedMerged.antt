@@ -212,14 +212,14 @@ module _ (bs : List Node) (root : ℕ) (w : Sound bs root) (b c : Node) (us : Li
   ]
 
   -- the box under another quantifier than r, before and after
-  record Under (p : ℕ) : Type 0 where
-    box : Node
-    within : In box bs
-    not_c : (box.id == c.id) ≡ false
-    was : box_under bs p ≡ Some box
-    is : box_under hm p ≡ Some (g box)
+  pub record Under (p : ℕ) : Type 0 where
+    pub box : Node
+    pub within : In box bs
+    pub not_c : (box.id == c.id) ≡ false
+    pub was : box_under bs p ≡ Some box
+    pub is : box_under hm p ≡ Some (g box)
 
-  under : (p : ℕ) → Found bs p → (p == q) ≡ false → Under p
+  pub under : (p : ℕ) → Found bs p → (p == q) ≡ false → Under p
   under p x n =
       let f : (x.quant.id == q) ≡ false = ap (λ z. z == q) x.is_q ∙ n in
       let u : (x.box.id == c.id) ≡ false = ap (λ z. z == c.id) x.is_over ∙ apart x.owner x.quant x.owner_in x.quant_in f in
@@ -245,7 +245,7 @@ module _ (bs : List Node) (root : ℕ) (w : Sound bs root) (b c : Node) (us : Li
   c-settled : (e : ℕ) → U e q ≡ true → S e c.id ≡ true
   c-settled e h = subst (λ z. S e z ≡ true) m.over_c (sym (ap (levels.under_by bs w.ordered w.once (S e)) (levels.owner-of bs w.once b r m.in_b r-in)) ∙ h)
 
-  c-names-not-q : (p : ℕ) → holds p (named_by c) ≡ true → (p == q) ≡ false
+  pub c-names-not-q : (p : ℕ) → holds p (named_by c) ≡ true → (p == q) ≡ false
   c-names-not-q p h = elim (cases_Bool (p == q)) [
     | inr f ↦ f
     | inl e ↦ absurd (elim (or_cases (read_by c q) (nodes_in q c) (named-split q c (subst (λ z. holds z (named_by c) ≡ true) (eqb-true p q e) h))) [

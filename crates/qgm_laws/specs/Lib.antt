@@ -14,6 +14,7 @@ pub mod Adds
 pub mod SoundEdits
 pub mod Shaped
 pub mod MergeTyped
+pub mod MergeShaped
 pub mod Single
 pub mod Facts
 pub mod Push

@@ -1,0 +1,385 @@
+-- M1 keeps the shapes of boxes.
+use Rattle.std.proofs.Common.{ℕ, ◌==◌, ◌≡◌, ◌&&◌, ◌||◌, ◌≤◌, arith, cond, nat_lt, not, Bool, true, false, List, [], ◌∷◌, ◌++◌, length, map, Option, Some, refl, sym, ap, ap₂, subst, ◌∙◌, eqb-true, ◌⊎◌, inl, inr}
+use Rattle.std.specs.List.{flat_map, list_all, list_any}
+use Rattle.std.proofs.lemmas.Bool.{and_from, and_parts, cases_Bool, eq-eqb, not-true, or_cases}
+use Rattle.qgm_core.specs.Boxes.{QueryGraph, ids_of, is_box, is_quant, owns, width}
+use Rattle.qgm_core.specs.Edits.{compact}
+use Rattle.qgm_core.specs.Free.{IsFree, free_in}
+use Rattle.qgm_core.specs.Kinds.{is_A, is_E, is_F, is_F_or_S, is_S, is_enforce, is_magic, is_permit, is_plain, is_preserve, width_by}
+use Rattle.qgm_core.specs.Kinds as kinds
+use Rattle.qgm_core.specs.Lists.{In, first, holds, times}
+use Rattle.qgm_core.specs.declared.kinds.BoxKind.{BoxKind}
+use Rattle.qgm_core.specs.declared.kinds.BoxKind.TheVariants.{Base, Group, OuterJoin, Select, SetOp}
+use Rattle.qgm_core.specs.declared.kinds.Distinct.{Distinct}
+use Rattle.qgm_core.specs.declared.kinds.QuantKind.{QuantKind}
+use Rattle.qgm_core.specs.declared.kinds.Role.{Role}
+use Rattle.qgm_core.specs.declared.kinds.Role.TheVariants.{Fed, Magic, Plain}
+use Rattle.qgm_core.specs.declared.node.Node.{Node}
+use Rattle.qgm_core.specs.declared.owned.OwnedQuant.{OwnedQuant}
+use Rattle.qgm_terms.specs.Named.{names_in, nodes_in_cond}
+use Rattle.qgm_terms.specs.Named as named
+use Rattle.qgm_terms.specs.Substitution.{cell_at, substituted, substituted_cond}
+use Rattle.qgm_terms.specs.Terms.{Cond, Term}
+use Rattle.qgm_terms.specs.Wanted.{has_aggregate, has_aggregate_cond, reads_at, reads_at_cond, wanted}
+use Rattle.qgm_terms.specs.declared.named.Column.{Column}
+use Rattle.qgm_terms.specs.declared.named.QuantNode.{QuantNode}
+use Rattle.qgm_terms.specs.declared.named.QuantNode.TheVariants as node
+use Rattle.qgm_terms.specs.declared.sought.Sought.TheVariants.{Aggregate}
+use Rattle.qgm_check.specs.Columns.{box_under, columns_fit, columns_of, fits, places_fit, within}
+use Rattle.qgm_check.specs.Shapes.{all_F, are_F, arm_fits, columns_placed, columns_through, fed_by, head_folds, heads_are, is_among, is_column, is_none, is_scalar, is_scalar_in, is_unfolded, kind_fits, looks_up, magic_found, node_fits, nodes_of, only, role_fits, shape_fits, width_found}
+use Rattle.qgm_check.specs.Shapes as shapes
+use Rattle.qgm_check.specs.WellFormed.{is_empty}
+use Rattle.qgm_check.proofs.Below.{free-free}
+use Rattle.qgm_check.proofs.ClosedLaws.{finds-alone}
+use Rattle.qgm_meaning.specs.Scope.{loose, loose_by, loose_each, put_node, read_by, under_any}
+use Rattle.qgm_meaning.specs.Searches.{bare, names, names_cond}
+use Rattle.qgm_meaning.proofs.ExistsJoined.{inner}
+use Rattle.qgm_laws.specs.Graph.{Sound, binds_row, nodes_in}
+use Rattle.qgm_laws.specs.Merge.{Merges, merge_node, merged, merged_in}
+use Rattle.qgm_laws.specs.MergeShaped.{FedOpen, MergeFits}
+use Rattle.qgm_laws.specs.Shaped.{Shaped}
+use Rattle.qgm_laws.proofs.AnyPut.{cell-any, conds-put, heads-bare, heads-put}
+use Rattle.qgm_laws.proofs.Compact.{in-kept, reached_boxes}
+use Rattle.qgm_laws.proofs.Edits.{any-append, boxes_without, length-map, without-one}
+use Rattle.qgm_laws.proofs.FreeMerged as freed
+use Rattle.qgm_laws.proofs.Lists.{all-from, all-in, any-from, any-in, any-none, any-not, clash, eq-itself, in-left, in-right, or-left, or-none, or-right}
+use Rattle.qgm_laws.proofs.Merge as before
+use Rattle.qgm_laws.proofs.Ranks.{has-in, overs-held}
+use Rattle.qgm_laws.proofs.Read.{at_all, at_cond, column-named, columns-found, is_at, is_of, nodes-listed, term-nodes}
+use Rattle.qgm_laws.proofs.Scope.{in-first, unfold-loose}
+use Rattle.qgm_laws.proofs.ShapedKept.{ShapedOn, free-same, shaped-on}
+use Rattle.qgm_laws.proofs.ShapedPut.{Passes, all-joined, all-parts, columns-none, columns-unread, conds-fit, conds-same, heads-fit, heads-same, of_quant, own-unread}
+use Rattle.qgm_laws.proofs.Times.{times-in}
+use Rattle.qgm_laws.proofs.Turns.{first-own}
+use Rattle.qgm_laws.proofs.TypedKept.{found, found-under}
+use Rattle.qgm_laws.proofs.TypedMerged as typed
+use Rattle.qgm_laws.proofs.Unput.{heads-none}
+
+-- ---- lists
+
+none-map : {X Y : Type 0} (f : X → Y) (xs : List X) → is_none (map f xs) ≡ is_none xs
+none-map f [] = refl
+none-map f (x ∷ xs) = refl
+
+flat-joined : {X Y : Type 0} (p : Y → Bool) (f : X → List Y) (xs ys : List X) → list_all p (flat_map f xs) ≡ true → list_all p (flat_map f ys) ≡ true → list_all p (flat_map f (xs ++ ys)) ≡ true
+flat-joined p f [] ys h k = k
+flat-joined p f (x ∷ xs) ys h k = let a = all-parts p (f x) (flat_map f xs) h in all-joined p (f x) (flat_map f (xs ++ ys)) a.0 (flat-joined p f xs ys a.1 k)
+
+in-flat : {X Y : Type 0} (f : X → List Y) (x : X) (xs : List X) (z : Y) → In x xs → In z (f x) → In z (flat_map f xs)
+in-flat f x [] z i j = elim i [ ]
+in-flat f x (y ∷ xs) z i j = elim i [ inl e ↦ in-left z (f y) (flat_map f xs) (subst (λ k. In z (f k)) (sym e) j) | inr k ↦ in-right z (f y) (flat_map f xs) (in-flat f x xs z k j) ]
+
+none-F : (rs : List OwnedQuant) → is_none rs ≡ true → all_F rs ≡ true
+none-F [] h = refl
+none-F (r ∷ rs) h = absurd (let z : ⊥ = cc in z)
+
+some-held : (xs : List ℕ) → is_empty xs ≡ false → (p : ℕ) × (holds p xs ≡ true)
+some-held [] h = absurd (let z : ⊥ = cc in z)
+some-held (x ∷ xs) h = (x, or-left (x == x) (holds x xs) (eq-itself x))
+
+-- a cell without nodes has none that doesn't pass
+pub bare-passes : (p : QuantNode → Bool) (x : Term) → bare x ≡ true → list_all p (named.nodes_in x) ≡ true
+bare-passes p x h = all-from p (named.nodes_in x) (λ z i. absurd (none z i))
+  where
+    one : (k : ℕ) (z : QuantNode) → is_of k z ≡ true → In z (named.nodes_in x) → ⊥
+    one k z e i = clash (names k x) (sym (term-nodes k x) ∙ any-from (is_of k) z (named.nodes_in x) i e) (or-none (names k x) false (heads-bare k (x ∷ []) (ap (λ t. t && true) h))).0
+
+    none : (z : QuantNode) → In z (named.nodes_in x) → ⊥
+    none (node.Scalar k) i = one k (node.Scalar k) (eq-itself k) i
+    none (node.Some k) i = one k (node.Some k) (eq-itself k) i
+    none (node.Every k) i = one k (node.Every k) (eq-itself k) i
+
+-- ---- where own quantifiers are looked up
+
+pub rows-placed : (n : Node) → all_F n.quants ≡ true → columns_placed n ≡ true
+rows-placed n h = all-from (λ t. is_F t.kind || not (looks_up t.id n)) n.quants (λ t j. or-left (is_F t.kind) (not (looks_up t.id n)) (all-in (λ t. is_F t.kind) t n.quants h j))
+
+-- a select of a sound graph looks its own quantifiers up where they are bound
+pub select-placed : (bs : List Node) (root : ℕ) → Sound bs root → (n : Node) → In n bs → n.parts.kind ≡ Select → columns_placed n ≡ true
+select-placed bs root w n i k = all-from (λ t. is_F t.kind || not (looks_up t.id n)) n.quants (λ t j. elim (cases_Bool (is_F t.kind)) [
+  | inl h ↦ or-left (is_F t.kind) (not (looks_up t.id n)) h
+  | inr h ↦ or-right (is_F t.kind) (not (looks_up t.id n)) (ap not (or-none (read_by n t.id) (under_any n.quants (loose bs) t.id) (inner n (loose bs) t.id n.quants (unbound t j h)
+      (sym (ap (λ (z : ℕ → Bool). z t.id) (unfold-loose bs n w.ordered i) ∙ ap (λ z. loose_by z n (loose bs) t.id) k) ∙ w.settled n i t.id (any-from (is_quant t.id) t n.quants j (eq-itself t.id))))).0)
+])
+  where
+    few : (x : ℕ) → times x (ids_of n) ≤ 1
+    few x = let a = times-in ids_of x n bs i in let b = w.once x in omega arith
+
+    unbound : (t : OwnedQuant) → In t n.quants → is_F t.kind ≡ false → binds_row t.id n.quants ≡ false
+    unbound t j f = any-not (λ s. is_F s.kind && is_quant t.id s) n.quants (λ s l. elim (cases_Bool (is_F s.kind && is_quant t.id s)) [
+      | inr g ↦ g
+      | inl h ↦ absurd (
+          let a = and_parts (is_F s.kind) (s.id == t.id) h in
+          let e : first (is_quant t.id) n.quants ≡ Some s = subst (λ z. first (is_quant z) n.quants ≡ Some s) (eqb-true s.id t.id a.1) (first-own s n.quants (few s.id) l) in
+          let d : first (is_quant t.id) n.quants ≡ Some t = first-own t n.quants (few t.id) j in
+          let same : s ≡ t = cc in
+          clash (is_F s.kind) a.0 (ap (λ (z : OwnedQuant). is_F z.kind) same ∙ f))
+    ])
+
+module _ (bs : List Node) (root : ℕ) (w : Sound bs root) (s : Shaped bs root) (b c : Node) (us : List OwnedQuant) (r : OwnedQuant) (vs : List OwnedQuant) (m : Merges bs b c us r vs) where
+  abbrev q : ℕ
+  q = r.id
+
+  abbrev cells : List Term
+  cells = c.parts.head
+
+  abbrev quants : List OwnedQuant
+  quants = us ++ (c.quants ++ vs)
+
+  abbrev box : Node
+  box = merged q c quants b
+
+  abbrev put : Node → Node
+  put = put_node q c.parts.head
+
+  abbrev g : Node → Node
+  g = merge_node b.id q c quants
+
+  abbrev hm : List Node
+  hm = map g (boxes_without c.id bs)
+
+  sound : Sound hm root
+  sound = freed.sound bs root w b c us r vs m
+
+  from : (n : Node) → In n hm → (box ≡ n) ⊎ ((y : Node) × (In y bs × (((y.id == b.id) ≡ false) × (((y.id == c.id) ≡ false) × (put y ≡ n)))))
+  from = freed.from bs root w b c us r vs m
+
+  not-own : (y : Node) → In y bs → (y.id == b.id) ≡ false → (y.id == c.id) ≡ false → owns q y ≡ false
+  not-own = before.not-own-q [] bs root w b c us r vs m
+
+  nodes-apart : (y : Node) → In y bs → nodes_in q y ≡ false
+  nodes-apart = before.nodes-not-q [] bs root w b c us r vs m
+
+  -- a quantifier after was one before
+  was : (n : Node) → In n hm → (t : OwnedQuant) → In t n.quants → (y : Node) × (In y bs × In t y.quants)
+  was n i t j = elim (from n i) [
+    | inl e ↦ elim (freed.quant-of bs root w b c us r vs m t (subst (λ (z : Node). In t z.quants) (sym e) j)) [ inl a ↦ (b, (m.in_b, a)) | inr a ↦ (c, (m.in_c, a)) ]
+    | inr y ↦ (y.0, (y.1.0, subst (λ (z : Node). In t z.quants) (sym y.1.1.1.1) j))
+  ]
+
+  width-g : (y : Node) → width (g y) ≡ width y
+  width-g y = elim (y.id == b.id) as (λ t. width (cond t (merged q c quants y) (put y)) ≡ width y) [ true ↦ ap (width_by y.parts.kind) (length-map (substituted q cells) y.parts.head) | false ↦ ap (width_by y.parts.kind) (length-map (substituted q cells) y.parts.head) ]
+
+  width-put : (y : Node) → width (put y) ≡ width y
+  width-put y = ap (width_by y.parts.kind) (length-map (substituted q cells) y.parts.head)
+
+  role-g : (y : Node) → (g y).parts.role ≡ y.parts.role
+  role-g y = elim (y.id == b.id) as (λ t. ◌≡◌ {A = Role} (cond t (merged q c quants y) (put y)).parts.role y.parts.role) [ true ↦ refl | false ↦ refl ]
+
+  -- the box under a quantifier, before and after
+  under-at : (y : Node) → In y bs → (t : OwnedQuant) → In t y.quants → (t.over == c.id) ≡ false → (u : Node) × ((first (is_box t.over) bs ≡ Some u) × (first (is_box t.over) hm ≡ Some (g u)))
+  under-at y i t j n =
+      let x = has-in t.over bs (overs-held bs y t w.ordered i j) in (
+        x.0,
+        (
+          ap (λ z. first (is_box z) bs) (sym x.1.1) ∙ in-first x.0 bs w.ordered x.1.0,
+          ap (λ z. first (is_box z) hm) (sym x.1.1 ∙ sym (before.g-id [] bs root w b c us r vs m x.0)) ∙ in-first (g x.0) hm sound.ordered (freed.to bs root w b c us r vs m x.0 x.1.0 (ap (λ z. z == c.id) x.1.1 ∙ n)),
+        ),
+      )
+
+  widths : (y : Node) → In y bs → (t : OwnedQuant) → In t y.quants → (t.over == c.id) ≡ false → width_found (first (is_box t.over) hm) ≡ width_found (first (is_box t.over) bs)
+  widths y i t j n = let x = under-at y i t j n in ap width_found x.1.1 ∙ width-g x.0 ∙ sym (ap width_found x.1.0)
+
+  -- ---- what the shape of a box says
+
+  shape-of : (y : Node) → In y bs → (kind_fits root bs y y.parts.kind ≡ true) × (list_all (node_fits y.quants) (nodes_of y) ≡ true) × ((not (is_scalar bs y.id) || nat_lt 0 (width y)) ≡ true)
+  shape-of y i =
+      let a = and_parts ((kind_fits root bs y y.parts.kind && list_all (node_fits y.quants) (nodes_of y)) && columns_placed y) (not (is_scalar bs y.id) || nat_lt 0 (width y)) (s.shapes y i) in
+      let d = and_parts (kind_fits root bs y y.parts.kind && list_all (node_fits y.quants) (nodes_of y)) (columns_placed y) a.0 in
+      let e = and_parts (kind_fits root bs y y.parts.kind) (list_all (node_fits y.quants) (nodes_of y)) d.0 in
+      (e.0, e.1, a.1)
+
+  select-of : (y : Node) → In y bs → y.parts.kind ≡ Select → (is_unfolded y ≡ true) × (role_fits root bs y y.parts.role ≡ true)
+  select-of y i e = and_parts (is_unfolded y) (role_fits root bs y y.parts.role) (subst (λ k. kind_fits root bs y k ≡ true) e (shape-of y i).0)
+
+  -- no aggregates
+
+  folded-none : (y : Node) → is_unfolded y ≡ true → (list_any has_aggregate y.parts.head ≡ false) × (list_any has_aggregate_cond y.parts.conds.items ≡ false)
+  folded-none y h =
+      let a = and_parts (not (list_any has_aggregate y.parts.head)) (not (list_any has_aggregate_cond y.parts.conds.items)) h in
+      (not-true (list_any has_aggregate y.parts.head) a.0, not-true (list_any has_aggregate_cond y.parts.conds.items) a.1)
+
+  c-folds : (list_any has_aggregate c.parts.head ≡ false) × (list_any has_aggregate_cond c.parts.conds.items ≡ false)
+  c-folds = folded-none c (select-of c m.in_c m.select_c).0
+
+  cell-unfolded : (k : ℕ) → has_aggregate (cell_at k cells) ≡ false
+  cell-unfolded k = elim (cases_Bool (has_aggregate (cell_at k cells))) [ inr f ↦ f | inl t ↦ absurd (clash (list_any has_aggregate cells) (cell-any has_aggregate cells k refl t) c-folds.0) ]
+
+  unfolded-put : (y : Node) → is_unfolded (put y) ≡ is_unfolded y
+  unfolded-put y = ap₂ (λ u v. not u && not v) (heads-same q cells (wanted Aggregate) cell-unfolded y.parts.head) (conds-same q cells (wanted Aggregate) cell-unfolded y.parts.conds.items)
+
+  unfolded-box : is_unfolded box ≡ true
+  unfolded-box =
+      let f = folded-none b (select-of b m.in_b m.select_b).0 in
+      let conds : list_any has_aggregate_cond (map (substituted_cond q cells) b.parts.conds.items ++ c.parts.conds.items) ≡ false = (elim (cases_Bool (list_any has_aggregate_cond (map (substituted_cond q cells) b.parts.conds.items ++ c.parts.conds.items))) [
+        | inr n ↦ n
+        | inl t ↦ absurd (elim (any-append has_aggregate_cond (map (substituted_cond q cells) b.parts.conds.items) c.parts.conds.items t) [
+          | inl a ↦ clash (list_any has_aggregate_cond b.parts.conds.items) (sym (conds-same q cells (wanted Aggregate) cell-unfolded b.parts.conds.items) ∙ a) f.1
+          | inr a ↦ clash (list_any has_aggregate_cond c.parts.conds.items) a c-folds.1
+        ])
+      ]) in
+      and_from (not (list_any has_aggregate (map (substituted q cells) b.parts.head))) (not (list_any has_aggregate_cond (map (substituted_cond q cells) b.parts.conds.items ++ c.parts.conds.items))) (ap not (heads-same q cells (wanted Aggregate) cell-unfolded b.parts.head ∙ f.0)) (ap not conds)
+
+  -- ---- columns (I4)
+
+  old-fits : (p k : ℕ) (y : Node) → In y bs → list_any (is_at p k) (columns_of y) ≡ true → fits k (box_under bs p) ≡ true
+  old-fits p k y i h =
+      let d = any-in (is_at p k) (columns_of y) h in
+      let e = and_parts (d.0.quant == p) (d.0.place == k) d.1.1 in
+      let f = and_parts (places_fit y.parts.kind) (list_all (λ (d : Column). fits d.place (box_under bs d.quant)) (columns_of y)) (s.columns y i) in
+      ap₂ (λ x z. fits x (box_under bs z)) (sym (eqb-true d.0.place k e.1)) (sym (eqb-true d.0.quant p e.0)) ∙ all-in (λ (d : Column). fits d.place (box_under bs d.quant)) d.0 (columns_of y) f.1 d.1.0
+
+  new-fits : (p k : ℕ) (y : Node) → In y bs → list_any (is_at p k) (columns_of y) ≡ true → (p == q) ≡ false → fits k (box_under hm p) ≡ true
+  new-fits p k y i h n =
+      let x = typed.under bs root w b c us r vs m p (found bs root w y i p (column-named p k y h)) n in
+      ap (fits k) x.is ∙ ap (λ z. within z k) (width-g x.box) ∙ sym (ap (fits k) x.was) ∙ old-fits p k y i h
+
+  module _ (p k : ℕ) where
+    apart : (t j : ℕ) → (t == q) ≡ false → ((t == p) && (j == k)) ≡ true → (p == q) ≡ false
+    apart t j n e = subst (λ z. (z == q) ≡ false) (eqb-true t p (and_parts (t == p) (j == k) e).0) n
+
+    never : (t : ℕ) → (t == q) ≡ false → false ≡ true → (p == q) ≡ false
+    never t n e = absurd (let z : ⊥ = cc in z)
+
+    c-fits : list_any (is_at p k) (columns_of c) ≡ true → fits k (box_under hm p) ≡ true
+    c-fits h = new-fits p k c m.in_c h (typed.c-names-not-q bs root w b c us r vs m p (column-named p k c h))
+
+    by-head : (y : Node) → list_any (at_all p k) y.parts.head ≡ true → list_any (is_at p k) (columns_of y) ≡ true
+    by-head y h = columns-found p k y ∙ or-left (list_any (at_all p k) y.parts.head) (list_any (at_cond p k) y.parts.conds.items) h
+
+    by-cond : (y : Node) → list_any (at_cond p k) y.parts.conds.items ≡ true → list_any (is_at p k) (columns_of y) ≡ true
+    by-cond y h = columns-found p k y ∙ or-right (list_any (at_all p k) y.parts.head) (list_any (at_cond p k) y.parts.conds.items) h
+
+    cell-column : (j : ℕ) → at_all p k (cell_at j cells) ≡ true → fits k (box_under hm p) ≡ true
+    cell-column j h = c-fits (by-head c (cell-any (at_all p k) cells j refl h))
+
+    head-column : (y : Node) → In y bs → list_any (at_all p k) (map (substituted q cells) y.parts.head) ≡ true → fits k (box_under hm p) ≡ true
+    head-column y i h =
+        elim (heads-put q cells (λ t j. (t == p) && (j == k)) (λ t. false) (λ t. false) (λ t. true) ((p == q) ≡ false) apart never never y.parts.head (or-none (list_any (names q) y.parts.head) (list_any (names_cond q) y.parts.conds.items) (nodes-apart y i)).0 h) [
+          | inl a ↦ new-fits p k y i (by-head y a.0) a.1
+          | inr a ↦ cell-column a.0 a.1.1
+        ]
+
+    cond-column : (y : Node) → In y bs → list_any (at_cond p k) (map (substituted_cond q cells) y.parts.conds.items) ≡ true → fits k (box_under hm p) ≡ true
+    cond-column y i h =
+        elim (conds-put q cells (λ t j. (t == p) && (j == k)) (λ t. false) (λ t. false) (λ t. true) ((p == q) ≡ false) apart never never y.parts.conds.items (or-none (list_any (names q) y.parts.head) (list_any (names_cond q) y.parts.conds.items) (nodes-apart y i)).1 h) [
+          | inl a ↦ new-fits p k y i (by-cond y a.0) a.1
+          | inr a ↦ cell-column a.0 a.1.1
+        ]
+
+    box-column : list_any (is_at p k) (columns_of box) ≡ true → fits k (box_under hm p) ≡ true
+    box-column h = elim (or_cases (list_any (at_all p k) (map (substituted q cells) b.parts.head)) (list_any (at_cond p k) (map (substituted_cond q cells) b.parts.conds.items ++ c.parts.conds.items)) (sym (columns-found p k box) ∙ h)) [
+      | inl a ↦ head-column b m.in_b a
+      | inr a ↦ elim (any-append (at_cond p k) (map (substituted_cond q cells) b.parts.conds.items) c.parts.conds.items a) [ inl d ↦ cond-column b m.in_b d | inr d ↦ c-fits (by-cond c d) ]
+    ]
+
+    put-column : (y : Node) → In y bs → list_any (is_at p k) (columns_of (put y)) ≡ true → fits k (box_under hm p) ≡ true
+    put-column y i h = elim (or_cases (list_any (at_all p k) (map (substituted q cells) y.parts.head)) (list_any (at_cond p k) (map (substituted_cond q cells) y.parts.conds.items)) (sym (columns-found p k (put y)) ∙ h)) [ inl a ↦ head-column y i a | inr a ↦ cond-column y i a ]
+
+  places : (y : Node) → In y bs → places_fit y.parts.kind ≡ true
+  places y i = (and_parts (places_fit y.parts.kind) (list_all (λ (d : Column). fits d.place (box_under bs d.quant)) (columns_of y)) (s.columns y i)).0
+
+  found-itself : (d : Column) (n : Node) → In d (columns_of n) → list_any (is_at d.quant d.place) (columns_of n) ≡ true
+  found-itself d n j = any-from (is_at d.quant d.place) d (columns_of n) j (and_from (d.quant == d.quant) (d.place == d.place) (eq-itself d.quant) (eq-itself d.place))
+
+  columns-after : (n : Node) → In n hm → columns_fit hm n ≡ true
+  columns-after n i = elim (from n i) [
+    | inl e ↦ subst (λ z. columns_fit hm z ≡ true) e (and_from (places_fit b.parts.kind) (list_all (λ (d : Column). fits d.place (box_under hm d.quant)) (columns_of box)) (places b m.in_b) (all-from (λ (d : Column). fits d.place (box_under hm d.quant)) (columns_of box) (λ d j. box-column d.quant d.place (found-itself d box j))))
+    | inr y ↦ subst (λ z. columns_fit hm z ≡ true) y.1.1.1.1 (and_from (places_fit y.0.parts.kind) (list_all (λ (d : Column). fits d.place (box_under hm d.quant)) (columns_of (put y.0))) (places y.0 y.1.0) (all-from (λ (d : Column). fits d.place (box_under hm d.quant)) (columns_of (put y.0)) (λ d j. put-column d.quant d.place y.0 y.1.0 (found-itself d (put y.0) j))))
+  ]
+
+  -- ---- PERMIT (I8)
+
+  unseen-was : (y n : Node) → In y bs → y.id ≡ n.id → y.parts.distinct ≡ n.parts.distinct → is_permit n.parts.distinct ≡ true → (n.id ≡ root → ⊥) × ((o : Node) (t : OwnedQuant) → In o hm → In t o.quants → t.over ≡ n.id → is_F_or_S t.kind ≡ false)
+  unseen-was y n i e d p =
+      let h = s.unseen y i (ap is_permit d ∙ p) in (
+        (λ k. h.0 (e ∙ k)),
+        (λ o t j l k. (let x = was o j t l in h.1 x.0 t x.1.0 x.1.1 (k ∙ sym e))),
+      )
+
+  unseen-after : (n : Node) → In n hm → is_permit n.parts.distinct ≡ true → (n.id ≡ root → ⊥) × ((o : Node) (t : OwnedQuant) → In o hm → In t o.quants → t.over ≡ n.id → is_F_or_S t.kind ≡ false)
+  unseen-after n i p = elim (from n i) [
+    | inl e ↦ unseen-was b n m.in_b (ap (λ (z : Node). z.id) e) (ap (λ (z : Node). z.parts.distinct) e) p
+    | inr y ↦ unseen-was y.0 n y.1.0 (ap (λ (z : Node). z.id) y.1.1.1.1) (ap (λ (z : Node). z.parts.distinct) y.1.1.1.1) p
+  ]
+
+  -- ---- scalars are of boxes with a column (I9)
+
+  scalar-was : (x : ℕ) → is_scalar hm x ≡ true → is_scalar bs x ≡ true
+  scalar-was x h =
+      let o = any-in (λ (n : Node). is_scalar_in n.quants x) hm h in
+      let t = any-in (λ (z : OwnedQuant). (z.over == x) && is_S z.kind) o.0.quants o.1.1 in
+      let y = was o.0 o.1.0 t.0 t.1.0 in
+      any-from (λ (n : Node). is_scalar_in n.quants x) y.0 bs y.1.0 (any-from (λ (z : OwnedQuant). (z.over == x) && is_S z.kind) t.0 y.0.quants y.1.1 t.1.1)
+
+  wide-after : (y n : Node) → In y bs → y.id ≡ n.id → width n ≡ width y → (not (is_scalar hm n.id) || nat_lt 0 (width n)) ≡ true
+  wide-after y n i e d = elim (cases_Bool (is_scalar hm n.id)) [
+    | inr f ↦ or-left (not (is_scalar hm n.id)) (nat_lt 0 (width n)) (ap not f)
+    | inl t ↦ or-right (not (is_scalar hm n.id)) (nat_lt 0 (width n)) (ap (nat_lt 0) d ∙ (elim (or_cases (not (is_scalar bs y.id)) (nat_lt 0 (width y)) (shape-of y i).2) [
+      | inl f ↦ absurd (clash (is_scalar bs y.id) (ap (is_scalar bs) e ∙ scalar-was n.id t) (not-true (is_scalar bs y.id) f))
+      | inr h ↦ h
+    ]))
+  ]
+
+  -- ---- nodes (I9)
+
+  abbrev own_nodes_fit : QuantNode → Bool
+  own_nodes_fit = node_fits quants
+
+  among-c : (p : QuantKind → Bool) (x : ℕ) → is_among p x c.quants ≡ true → is_among p x quants ≡ true
+  among-c p x h = let t = any-in (λ t. is_quant x t && p t.kind) c.quants h in any-from (λ t. is_quant x t && p t.kind) t.0 quants (freed.of-c bs root w b c us r vs m t.0 t.1.0) t.1.1
+
+  among-b : (p : QuantKind → Bool) (x : ℕ) → (x == q) ≡ false → is_among p x b.quants ≡ true → is_among p x quants ≡ true
+  among-b p x n h =
+      let t = any-in (λ t. is_quant x t && p t.kind) b.quants h in
+      let a = and_parts (t.0.id == x) (p t.0.kind) t.1.1 in
+      any-from (λ t. is_quant x t && p t.kind) t.0 quants (freed.of-b bs root w b c us r vs m t.0 t.1.0 (subst (λ z. (z == q) ≡ false) (sym (eqb-true t.0.id x a.0)) n)) t.1.1
+
+  node-c : (z : QuantNode) → node_fits c.quants z ≡ true → own_nodes_fit z ≡ true
+  node-c (node.Scalar x) h = among-c is_S x h
+  node-c (node.Some x) h = among-c is_E x h
+  node-c (node.Every x) h = among-c is_A x h
+
+  -- a node of b isn't of q
+  node-apart : (x : ℕ) (z : QuantNode) → is_of x z ≡ true → In z (nodes_of b) → (x == q) ≡ false
+  node-apart x z e i = elim (cases_Bool (x == q)) [
+    | inr f ↦ f
+    | inl t ↦ absurd (clash (nodes_in q b) (subst (λ k. nodes_in k b ≡ true) (eqb-true x q t) (sym (nodes-listed x b) ∙ any-from (is_of x) z (nodes_of b) i e)) (nodes-apart b m.in_b))
+  ]
+
+  node-b : (z : QuantNode) → In z (nodes_of b) → node_fits b.quants z ≡ true → own_nodes_fit z ≡ true
+  node-b (node.Scalar x) i h = among-b is_S x (node-apart x (node.Scalar x) (eq-itself x) i) h
+  node-b (node.Some x) i h = among-b is_E x (node-apart x (node.Some x) (eq-itself x) i) h
+  node-b (node.Every x) i h = among-b is_A x (node-apart x (node.Every x) (eq-itself x) i) h
+
+  b-nodes : list_all own_nodes_fit (nodes_of b) ≡ true
+  b-nodes = all-from own_nodes_fit (nodes_of b) (λ z i. node-b z i (all-in (node_fits b.quants) z (nodes_of b) (shape-of b m.in_b).1 i))
+
+  c-nodes : list_all own_nodes_fit (nodes_of c) ≡ true
+  c-nodes = all-from own_nodes_fit (nodes_of c) (λ z i. node-c z (all-in (node_fits c.quants) z (nodes_of c) (shape-of c m.in_c).1 i))
+
+  cell-nodes : (k : ℕ) → Passes q cells own_nodes_fit k
+  cell-nodes k = elim (cases_Bool (list_all own_nodes_fit (named.nodes_in (cell_at k cells)))) [
+    | inl t ↦ t
+    | inr f ↦ absurd (
+        let x = any-in (λ (x : Term). not (list_all own_nodes_fit (named.nodes_in x))) cells (cell-any (λ (x : Term). not (list_all own_nodes_fit (named.nodes_in x))) cells k refl (ap not f)) in
+        let parts = all-parts own_nodes_fit (flat_map named.nodes_in cells) (flat_map nodes_in_cond c.parts.conds.items) c-nodes in
+        clash (list_all own_nodes_fit (named.nodes_in x.0)) (all-from own_nodes_fit (named.nodes_in x.0) (λ z i. all-in own_nodes_fit z (flat_map named.nodes_in cells) parts.0 (in-flat named.nodes_in x.0 cells z x.1.0 i))) (not-true (list_all own_nodes_fit (named.nodes_in x.0)) x.1.1))
+  ]
+
+  box-nodes : list_all own_nodes_fit (nodes_of box) ≡ true
+  box-nodes =
+      let n = or-none (list_any (names q) b.parts.head) (list_any (names_cond q) b.parts.conds.items) (nodes-apart b m.in_b) in
+      let pb = all-parts own_nodes_fit (flat_map named.nodes_in b.parts.head) (flat_map nodes_in_cond b.parts.conds.items) b-nodes in
+      let pc = all-parts own_nodes_fit (flat_map named.nodes_in cells) (flat_map nodes_in_cond c.parts.conds.items) c-nodes in
+      all-joined own_nodes_fit (flat_map named.nodes_in (map (substituted q cells) b.parts.head)) (flat_map nodes_in_cond (map (substituted_cond q cells) b.parts.conds.items ++ c.parts.conds.items))
+      (heads-fit q cells own_nodes_fit b.parts.head (λ k h. cell-nodes k) n.0 pb.0)
+      (flat-joined own_nodes_fit nodes_in_cond (map (substituted_cond q cells) b.parts.conds.items) c.parts.conds.items (conds-fit q cells own_nodes_fit b.parts.conds.items (λ k h. cell-nodes k) n.1 pb.1) pc.1)
+
+  put-nodes : (y : Node) → In y bs → (y.id == b.id) ≡ false → list_all (node_fits y.quants) (nodes_of (put y)) ≡ true
+  put-nodes y i l =
+      let n = or-none (list_any (names q) y.parts.head) (list_any (names_cond q) y.parts.conds.items) (nodes-apart y i) in
+      let p = all-parts (node_fits y.quants) (flat_map named.nodes_in y.parts.head) (flat_map nodes_in_cond y.parts.conds.items) (shape-of y i).1 in
+      all-joined (node_fits y.quants) (flat_map named.nodes_in (map (substituted q cells) y.parts.head)) (flat_map nodes_in_cond (map (substituted_cond q cells) y.parts.conds.items))
+      (heads-fit q cells (node_fits y.quants) y.parts.head (λ k h. bare-passes (node_fits y.quants) (cell_at k cells) (m.naked y i l k (or-left (list_any (reads_at q k) y.parts.head) (list_any (reads_at_cond q k) y.parts.conds.items) h))) n.0 p.0)
+      (conds-fit q cells (node_fits y.quants) y.parts.conds.items (λ k h. bare-passes (node_fits y.quants) (cell_at k cells) (m.naked y i l k (or-right (list_any (reads_at q k) y.parts.head) (list_any (reads_at_cond q k) y.parts.conds.items) h))) n.1 p.1)
