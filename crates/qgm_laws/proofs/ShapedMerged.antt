@@ -4,9 +4,8 @@ use Rattle.std.specs.List.{flat_map, list_all, list_any}
 use Rattle.std.proofs.lemmas.Bool.{and_from, and_parts, cases_Bool, eq-eqb, not-true, or_cases}
 use Rattle.qgm_core.specs.Boxes.{QueryGraph, ids_of, is_box, is_quant, owns, width}
 use Rattle.qgm_core.specs.Edits.{compact}
-use Rattle.qgm_core.specs.Free.{IsFree, free_in}
-use Rattle.qgm_core.specs.Kinds.{is_A, is_E, is_F, is_F_or_S, is_S, is_enforce, is_magic, is_permit, is_plain, is_preserve, width_by}
-use Rattle.qgm_core.specs.Kinds as kinds
+use Rattle.qgm_core.specs.Free.{IsFree, free_in, reached}
+use Rattle.qgm_core.specs.Kinds.{is_A, is_E, is_F, is_F_or_S, is_S, is_enforce, is_fed, is_magic, is_permit, is_plain, is_preserve, width_by}
 use Rattle.qgm_core.specs.Lists.{In, first, holds, times}
 use Rattle.qgm_core.specs.declared.kinds.BoxKind.{BoxKind}
 use Rattle.qgm_core.specs.declared.kinds.BoxKind.TheVariants.{Base, Group, OuterJoin, Select, SetOp}
@@ -42,7 +41,7 @@ use Rattle.qgm_laws.proofs.AnyPut.{cell-any, conds-put, heads-bare, heads-put}
 use Rattle.qgm_laws.proofs.Compact.{in-kept, reached_boxes}
 use Rattle.qgm_laws.proofs.Edits.{any-append, boxes_without, length-map, without-one}
 use Rattle.qgm_laws.proofs.FreeMerged as freed
-use Rattle.qgm_laws.proofs.Lists.{all-from, all-in, any-from, any-in, any-none, any-not, clash, eq-itself, in-left, in-right, or-left, or-none, or-right}
+use Rattle.qgm_laws.proofs.Lists.{all-from, all-in, any-from, any-in, any-none, any-not, clash, eq-itself, in-left, in-right, or-both, or-left, or-none, or-right}
 use Rattle.qgm_laws.proofs.Merge as before
 use Rattle.qgm_laws.proofs.Ranks.{has-in, overs-held}
 use Rattle.qgm_laws.proofs.Read.{at_all, at_cond, column-named, columns-found, is_at, is_of, nodes-listed, term-nodes}
@@ -383,3 +382,165 @@ module _ (bs : List Node) (root : ℕ) (w : Sound bs root) (s : Shaped bs root) 
       all-joined (node_fits y.quants) (flat_map named.nodes_in (map (substituted q cells) y.parts.head)) (flat_map nodes_in_cond (map (substituted_cond q cells) y.parts.conds.items))
       (heads-fit q cells (node_fits y.quants) y.parts.head (λ k h. bare-passes (node_fits y.quants) (cell_at k cells) (m.naked y i l k (or-left (list_any (reads_at q k) y.parts.head) (list_any (reads_at_cond q k) y.parts.conds.items) h))) n.0 p.0)
       (conds-fit q cells (node_fits y.quants) y.parts.conds.items (λ k h. bare-passes (node_fits y.quants) (cell_at k cells) (m.naked y i l k (or-right (list_any (reads_at q k) y.parts.head) (list_any (reads_at_cond q k) y.parts.conds.items) h))) n.1 p.1)
+
+  -- ---- roles (I9)
+
+  -- a fed box below which q isn't free goes on being fed
+  module _ (y : Node) (i : In y bs) (n : (y.id == b.id) ≡ false) (l : (y.id == c.id) ≡ false) where
+    own-apart : (t : OwnedQuant) → In t y.quants → (t.id == q) ≡ false
+    own-apart t j = any-none (is_quant q) t y.quants (not-own y i n l) j
+
+    not-over : (t : OwnedQuant) → In t y.quants → (t.over == c.id) ≡ false
+    not-over t j = freed.not-over-c bs root w b c us r vs m y t i n j
+
+    alone-after : (p : ℕ) (t : OwnedQuant) → In t y.quants → (p == q) ≡ false → is_empty (free_in hm t.over) ≡ false → only p (free_in bs t.over) ≡ true → only p (free_in hm t.over) ≡ true
+    alone-after p t j k e h =
+        let z = (finds-alone bs w.ordered t.over p).0 h in
+        let sub : (x : ℕ) → IsFree hm t.over x → IsFree bs t.over x = λ x f. freed.free-from bs root w b c us r vs m t.over x (not-over t j) (λ f. clash (p == q) (eq-eqb p q (sym (z.1 q f))) k) f in
+        let x = some-held (free_in hm t.over) e in
+        let f = (free-free hm sound.ordered t.over x.0).0 x.1 in
+        (finds-alone hm sound.ordered t.over p).1 (subst (λ k. IsFree hm t.over k) (z.1 x.0 (sub x.0 f)) f, λ x f. z.1 x (sub x f))
+
+    two-after : (a d : OwnedQuant) → In a y.quants → In d y.quants → is_empty (free_in hm d.over) ≡ false → shapes.fed_by_two bs y.parts.head a d ≡ true → shapes.fed_by_two hm (map (substituted q cells) y.parts.head) a d ≡ true
+    two-after a d ja jd e h =
+        let p1 = and_parts (is_F a.kind && is_F d.kind && magic_found (first (is_box a.over) bs) && only a.id (free_in bs d.over)) (heads_are y.parts.head (columns_through bs a ++ columns_through bs d)) h in
+        let p2 = and_parts (is_F a.kind && is_F d.kind && magic_found (first (is_box a.over) bs)) (only a.id (free_in bs d.over)) p1.0 in
+        let p3 = and_parts (is_F a.kind && is_F d.kind) (magic_found (first (is_box a.over) bs)) p2.0 in
+        let u = under-at y i a ja (not-over a ja) in
+        let unread = columns-unread q y.parts.head (columns_through bs a ++ columns_through bs d) p1.1 (both (columns_through bs a) (columns_through bs d) (columns-none q a.id 1 (width_found (first (is_box a.over) bs)) (own-apart a ja)) (columns-none q d.id 1 (width_found (first (is_box d.over) bs)) (own-apart d jd))) in
+        and_from (is_F a.kind && is_F d.kind && magic_found (first (is_box a.over) hm) && only a.id (free_in hm d.over)) (heads_are (map (substituted q cells) y.parts.head) (columns_through hm a ++ columns_through hm d))
+        (and_from (is_F a.kind && is_F d.kind && magic_found (first (is_box a.over) hm)) (only a.id (free_in hm d.over))
+        (and_from (is_F a.kind && is_F d.kind) (magic_found (first (is_box a.over) hm)) p3.0 (ap magic_found u.1.1 ∙ ap is_magic (role-g u.0) ∙ sym (ap magic_found u.1.0) ∙ p3.1))
+        (alone-after a.id d jd (own-apart a ja) e p2.1))
+        (ap (λ x. heads_are x (columns_through hm a ++ columns_through hm d)) (heads-none q cells y.parts.head unread)
+        ∙ ap₂ (λ u v. heads_are y.parts.head (shapes.columns_from a.id 1 u ++ shapes.columns_from d.id 1 v)) (widths y i a ja (not-over a ja)) (widths y i d jd (not-over d jd)) ∙ p1.1)
+      where
+        both : (xs ys : List Column) → list_any (of_quant q) xs ≡ false → list_any (of_quant q) ys ≡ false → list_any (of_quant q) (xs ++ ys) ≡ false
+        both [] ys h k = k
+        both (x ∷ xs) ys h k = let z = or-none (of_quant q x) (list_any (of_quant q) xs) h in or-both (of_quant q x) (list_any (of_quant q) (xs ++ ys)) z.0 (both xs ys z.1 k)
+
+    -- fed boxes among these range by the second over open boxes
+    abbrev Opened : Type 0
+    Opened = is_fed y.parts.role ≡ true → (a d : OwnedQuant) → y.quants ≡ a ∷ (d ∷ []) → is_empty (free_in hm d.over) ≡ false
+
+    fed-after : is_fed y.parts.role ≡ true → Opened → (rs : List OwnedQuant) → y.quants ≡ rs → fed_by bs y.parts.head rs ≡ true → fed_by hm (map (substituted q cells) y.parts.head) rs ≡ true
+    fed-after f o [] e h = h
+    fed-after f o (a ∷ []) e h = h
+    fed-after f o (a ∷ (d ∷ [])) e h = two-after a d (subst (λ z. In a z) (sym e) (inl refl)) (subst (λ z. In d z) (sym e) (inr (inl refl))) (o f a d e) h
+    fed-after f o (a ∷ (d ∷ (t ∷ rs))) e h = h
+
+    role-after : Opened → (k : Role) → y.parts.role ≡ k → role_fits root bs y k ≡ true → role_fits root hm (put y) k ≡ true
+    role-after o Plain e h = refl
+    role-after o Magic e h = h
+    role-after o Fed e h =
+        let a = and_parts (not (y.id == root) && is_preserve y.parts.distinct && is_none y.parts.conds.items) (fed_by bs y.parts.head y.quants) h in
+        let d = and_parts (not (y.id == root) && is_preserve y.parts.distinct) (is_none y.parts.conds.items) a.0 in
+        and_from (not (y.id == root) && is_preserve y.parts.distinct && is_none (map (substituted_cond q cells) y.parts.conds.items)) (fed_by hm (map (substituted q cells) y.parts.head) y.quants)
+        (and_from (not (y.id == root) && is_preserve y.parts.distinct) (is_none (map (substituted_cond q cells) y.parts.conds.items)) d.0 (none-map (substituted_cond q cells) y.parts.conds.items ∙ d.1))
+        (fed-after (ap is_fed e) o y.quants refl a.1)
+
+    -- ---- kinds (I9)
+
+    own-head : shapes.head_is_own y ≡ true → map (substituted q cells) y.parts.head ≡ y.parts.head
+    own-head h = heads-none q cells y.parts.head (own-unread q y h (not-own y i n l))
+
+    arms-after : (v : ℕ) (rs : List OwnedQuant) → ((t : OwnedQuant) → In t rs → In t y.quants) → list_all (arm_fits hm v) rs ≡ list_all (arm_fits bs v) rs
+    arms-after v [] sub = refl
+    arms-after v (t ∷ rs) sub = ap₂ (λ (k : ℕ) (z : Bool). (k == v) && z) (widths y i t (sub t (inl refl)) (not-over t (sub t (inl refl)))) (arms-after v rs (λ x j. sub x (inr j)))
+
+    kind-after : Opened → (k : BoxKind) → kind_fits root bs y k ≡ true → kind_fits root hm (put y) k ≡ true
+    kind-after o (Base t) h = ap₂ (λ u v. is_none y.quants && u && v && is_plain y.parts.role) (none-map (substituted_cond q cells) y.parts.conds.items) (none-map (substituted q cells) y.parts.head) ∙ h
+    kind-after o Select h =
+        let x = and_parts (is_unfolded y) (role_fits root bs y y.parts.role) h in
+        and_from (is_unfolded (put y)) (role_fits root hm (put y) y.parts.role) (unfolded-put y ∙ x.0) (role-after o y.parts.role refl x.1)
+    kind-after o (Group k) h =
+        let a = and_parts (are_F 1 y.quants && is_none y.parts.conds.items && is_plain y.parts.role && head_folds k y.parts.head) (shapes.head_is_own y) h in
+        ap₂ (λ (u : Bool) (hd : List Term). are_F 1 y.quants && u && is_plain y.parts.role && head_folds k hd && list_all (λ p. owns p y) (flat_map names_in hd)) (none-map (substituted_cond q cells) y.parts.conds.items) (own-head a.1) ∙ h
+    kind-after o (SetOp form types) h =
+        ap (λ v. are_F 2 y.quants && list_all (arm_fits hm v) y.quants && nat_lt 0 v && is_none (map (substituted_cond q cells) y.parts.conds.items) && is_none (map (substituted q cells) y.parts.head) && is_plain y.parts.role) (width-put y)
+        ∙ ap (λ z. are_F 2 y.quants && z && nat_lt 0 (width y) && is_none (map (substituted_cond q cells) y.parts.conds.items) && is_none (map (substituted q cells) y.parts.head) && is_plain y.parts.role) (arms-after (width y) y.quants (λ t j. j))
+        ∙ ap₂ (λ u v. are_F 2 y.quants && list_all (arm_fits bs (width y)) y.quants && nat_lt 0 (width y) && u && v && is_plain y.parts.role) (none-map (substituted_cond q cells) y.parts.conds.items) (none-map (substituted q cells) y.parts.head) ∙ h
+    kind-after o OuterJoin h =
+        let a = and_parts (are_F 2 y.quants && list_all is_column y.parts.head && shapes.head_is_own y && is_unfolded y) (is_plain y.parts.role) h in
+        let d = and_parts (are_F 2 y.quants && list_all is_column y.parts.head && shapes.head_is_own y) (is_unfolded y) a.0 in
+        let e = and_parts (are_F 2 y.quants && list_all is_column y.parts.head) (shapes.head_is_own y) d.0 in
+        ap₂ (λ (hd : List Term) (u : Bool). are_F 2 y.quants && list_all is_column hd && list_all (λ p. owns p y) (flat_map names_in hd) && u && is_plain y.parts.role) (own-head e.1) (unfolded-put y) ∙ h
+
+    -- a box of another kind has F quantifiers alone
+    placed-after : (k : BoxKind) → y.parts.kind ≡ k → kind_fits root bs y k ≡ true → columns_placed (put y) ≡ true
+    placed-after (Base t) e h = rows-placed (put y) (none-F y.quants (and_parts (is_none y.quants) (is_none y.parts.conds.items) (and_parts (is_none y.quants && is_none y.parts.conds.items) (is_none y.parts.head) (and_parts (is_none y.quants && is_none y.parts.conds.items && is_none y.parts.head) (is_plain y.parts.role) h).0).0).0)
+    placed-after Select e h = select-placed hm root sound (put y) (freed.to-other bs root w b c us r vs m y i n l) e
+    placed-after (Group k) e h =
+        let a = and_parts (are_F 1 y.quants && is_none y.parts.conds.items && is_plain y.parts.role && head_folds k y.parts.head) (shapes.head_is_own y) h in
+        let d = and_parts (are_F 1 y.quants && is_none y.parts.conds.items && is_plain y.parts.role) (head_folds k y.parts.head) a.0 in
+        let f = and_parts (are_F 1 y.quants && is_none y.parts.conds.items) (is_plain y.parts.role) d.0 in
+        rows-placed (put y) (and_parts (length y.quants == 1) (all_F y.quants) (and_parts (are_F 1 y.quants) (is_none y.parts.conds.items) f.0).0).1
+    placed-after (SetOp form types) e h =
+        let a = and_parts (are_F 2 y.quants && list_all (arm_fits bs (width y)) y.quants && nat_lt 0 (width y) && is_none y.parts.conds.items && is_none y.parts.head) (is_plain y.parts.role) h in
+        let d = and_parts (are_F 2 y.quants && list_all (arm_fits bs (width y)) y.quants && nat_lt 0 (width y) && is_none y.parts.conds.items) (is_none y.parts.head) a.0 in
+        let f = and_parts (are_F 2 y.quants && list_all (arm_fits bs (width y)) y.quants && nat_lt 0 (width y)) (is_none y.parts.conds.items) d.0 in
+        let k = and_parts (are_F 2 y.quants && list_all (arm_fits bs (width y)) y.quants) (nat_lt 0 (width y)) f.0 in
+        rows-placed (put y) (and_parts (length y.quants == 2) (all_F y.quants) (and_parts (are_F 2 y.quants) (list_all (arm_fits bs (width y)) y.quants) k.0).0).1
+    placed-after OuterJoin e h =
+        let a = and_parts (are_F 2 y.quants && list_all is_column y.parts.head && shapes.head_is_own y && is_unfolded y) (is_plain y.parts.role) h in
+        let d = and_parts (are_F 2 y.quants && list_all is_column y.parts.head && shapes.head_is_own y) (is_unfolded y) a.0 in
+        let f = and_parts (are_F 2 y.quants && list_all is_column y.parts.head) (shapes.head_is_own y) d.0 in
+        rows-placed (put y) (and_parts (length y.quants == 2) (all_F y.quants) (and_parts (are_F 2 y.quants) (list_all is_column y.parts.head) f.0).0).1
+
+    put-shape : Opened → shape_fits root hm (put y) ≡ true
+    put-shape o =
+        let h = shape-of y i in
+        and_from ((kind_fits root hm (put y) y.parts.kind && list_all (node_fits y.quants) (nodes_of (put y))) && columns_placed (put y)) (not (is_scalar hm y.id) || nat_lt 0 (width (put y)))
+        (and_from (kind_fits root hm (put y) y.parts.kind && list_all (node_fits y.quants) (nodes_of (put y))) (columns_placed (put y))
+        (and_from (kind_fits root hm (put y) y.parts.kind) (list_all (node_fits y.quants) (nodes_of (put y))) (kind-after o y.parts.kind h.0) (put-nodes y i n))
+        (placed-after y.parts.kind refl h.0))
+        (wide-after y (put y) i refl (width-put y))
+
+  -- ---- the merged box
+
+  module _ (not_fed : is_fed b.parts.role ≡ false) (rows_alone : is_magic b.parts.role ≡ true → all_F c.quants ≡ true) where
+    box-role : (k : Role) → b.parts.role ≡ k → role_fits root bs b k ≡ true → role_fits root hm box k ≡ true
+    box-role Plain e h = refl
+    box-role Magic e h =
+        let a = and_parts (is_enforce b.parts.distinct) (all_F b.quants) h in
+        and_from (is_enforce b.parts.distinct) (all_F quants) a.0 (all-from (λ t. is_F t.kind) quants (λ t j. elim (freed.quant-of bs root w b c us r vs m t j) [
+          | inl x ↦ all-in (λ t. is_F t.kind) t b.quants a.1 x
+          | inr x ↦ all-in (λ t. is_F t.kind) t c.quants (rows_alone (ap is_magic e)) x
+        ]))
+    box-role Fed e h = absurd (clash (is_fed b.parts.role) (ap is_fed e) not_fed)
+
+    box-kind : kind_fits root hm box b.parts.kind ≡ true
+    box-kind = subst (λ k. kind_fits root hm box k ≡ true) (sym m.select_b) (and_from (is_unfolded box) (role_fits root hm box b.parts.role) unfolded-box (box-role b.parts.role refl (select-of b m.in_b m.select_b).1))
+
+    box-shape : shape_fits root hm box ≡ true
+    box-shape =
+        and_from ((kind_fits root hm box b.parts.kind && list_all (node_fits quants) (nodes_of box)) && columns_placed box) (not (is_scalar hm b.id) || nat_lt 0 (width box))
+        (and_from (kind_fits root hm box b.parts.kind && list_all (node_fits quants) (nodes_of box)) (columns_placed box)
+        (and_from (kind_fits root hm box b.parts.kind) (list_all (node_fits quants) (nodes_of box)) box-kind box-nodes)
+        (select-placed hm root sound box (freed.box-in bs root w b c us r vs m) m.select_b))
+        (wide-after b box m.in_b refl (ap (width_by b.parts.kind) (length-map (substituted q cells) b.parts.head)))
+
+    abbrev keep : ℕ → Bool
+    keep x = holds x (reached (root ∷ []) hm)
+
+    -- where fed boxes that the root still reaches range by the second over open boxes, shapes stay
+    pub shaped-merged : FedOpen (reached_boxes root hm) → Shaped (reached_boxes root hm) root
+    shaped-merged o = shaped-on hm root sound (record {
+      columns = λ n i. columns-after n (in-kept keep n hm i).0;
+      unseen = λ n i p. unseen-after n (in-kept keep n hm i).0 p;
+      shapes = λ n i. elim (from n (in-kept keep n hm i).0) [
+        | inl e ↦ subst (λ z. shape_fits root hm z ≡ true) e box-shape
+        | inr y ↦ subst (λ z. shape_fits root hm z ≡ true) y.1.1.1.1 (put-shape y.0 y.1.0 y.1.1.0 y.1.1.1.0 (λ f a d e. (
+            let j : In d n.quants = subst (λ (z : Node). In d z.quants) y.1.1.1.1 (subst (λ z. In d z) (sym e) (inr (inl refl))) in
+            ap is_empty (sym (free-same hm root sound n i d j)) ∙ o n i (subst (λ (z : Node). is_fed z.parts.role ≡ true) y.1.1.1.1 f) a d (subst (λ (z : Node). z.quants ≡ a ∷ (d ∷ [])) y.1.1.1.1 e))))
+      ];
+    })
+
+-- M1, with the boxes that the root no longer reaches
+pub merge-shaped : (g : QueryGraph) → Sound g.boxes g.root → Shaped g.boxes g.root → (b c : Node) (us : List OwnedQuant) (rq : OwnedQuant) (vs : List OwnedQuant)
+    → Merges g.boxes b c us rq vs → MergeFits g b c us rq vs → Shaped (merged_in b c us rq vs g).boxes g.root
+merge-shaped g w s b c us rq vs m f =
+    let same = without-one c.id g.boxes w.ordered in
+    subst (λ (z : List Node). Shaped (compact (record g { boxes = map (merge_node b.id rq.id c (us ++ (c.quants ++ vs))) z })).boxes g.root) same
+    (shaped-merged g.boxes g.root w s b c us rq vs m f.not_fed f.rows_alone
+    (subst (λ (z : List Node). FedOpen (compact (record g { boxes = map (merge_node b.id rq.id c (us ++ (c.quants ++ vs))) z })).boxes) (sym same) f.fed_open))
