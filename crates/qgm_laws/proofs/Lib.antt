@@ -55,3 +55,4 @@ pub mod Examples
 pub mod ShapedPut
 pub mod FreeMerged
 pub mod ShapedMerged
+pub mod ShapedDistinct
