@@ -267,10 +267,13 @@ module _ (bs : List Node) (root : ℕ) (w : Sound bs root) (b c : Node) (us : Li
       b-reached : (y : Node) → In y bs → Reaches bs x y.id → holds q (named_by y) ≡ true → Reaches bs x b.id
       b-reached y j l h = elim (cases_Bool (holds b.id (reached (x ∷ []) bs))) [
         | inl t ↦ (reached-reaches bs w.ordered x b.id).0 t
-        | inr u ↦ absurd (f ((y, (j, (l, h))), λ o k e. elim (cases_Bool (owns q o)) [
-          | inr v ↦ v
-          | inl t ↦ absurd (clash (holds b.id (reached (x ∷ []) bs)) ((reached-reaches bs w.ordered x b.id).1 (subst (λ (z : Node). Reaches bs x z.id) (one-owner bs root w q o b k m.in_b t (before.own-q [] bs root w b c us r vs m)) e)) u)
-        ]))
+        | inr u ↦ absurd (f (
+          (y, (j, (l, h))),
+          λ o k e. elim (cases_Bool (owns q o)) [
+            | inr v ↦ v
+            | inl t ↦ absurd (clash (holds b.id (reached (x ∷ []) bs)) ((reached-reaches bs w.ordered x b.id).1 (subst (λ (z : Node). Reaches bs x z.id) (one-owner bs root w q o b k m.in_b t (before.own-q [] bs root w b c us r vs m)) e)) u)
+          ],
+        ))
       ]
 
       boxed : (s : OwnedQuant) → In s quants → (s.id == p) ≡ true → Reaches bs x b.id → ⊥

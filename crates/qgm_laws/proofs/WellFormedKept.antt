@@ -1,5 +1,5 @@
--- The check of a graph finds nothing against it where boxes that the root doesn't reach go, and under M2.
-use Rattle.std.proofs.Common.{ℕ, ◌≡◌, ◌||◌, List, [], ◌∷◌, None, refl, ap₂, ◌∙◌}
+-- The check of a graph finds nothing against it where boxes that the root doesn't reach go, under M2 and under M1.
+use Rattle.std.proofs.Common.{ℕ, ◌≡◌, ◌||◌, List, [], ◌∷◌, ◌++◌, None, refl, ap₂, ◌∙◌}
 use Rattle.qgm_core.specs.Boxes.{Ordered, QueryGraph, has_box, numbers}
 use Rattle.qgm_core.specs.Edits.{compact}
 use Rattle.qgm_core.specs.Lists.{EachOnce, holds}
@@ -8,12 +8,20 @@ use Rattle.qgm_core.specs.declared.owned.OwnedQuant.{OwnedQuant}
 use Rattle.qgm_check.specs.WellFormed.{fault}
 use Rattle.qgm_laws.specs.Drop.{MayDrop, dropped}
 use Rattle.qgm_laws.specs.Graph.{Sound}
+use Rattle.qgm_laws.specs.Merge.{Merges, merged_in}
+use Rattle.qgm_laws.specs.MergeDistinct.{MergesDistinct}
+use Rattle.qgm_laws.specs.MergeShaped.{MergeFits}
 use Rattle.qgm_laws.proofs.Compact.{compact-sound}
 use Rattle.qgm_laws.proofs.Formed.{sound-checked}
-use Rattle.qgm_laws.proofs.Rules.{drop-keeps}
+use Rattle.qgm_laws.proofs.MergeDistinct.{merge-distinct-keeps}
+use Rattle.qgm_laws.proofs.Rules.{drop-keeps, merge-keeps}
+use Rattle.qgm_laws.proofs.ShapedDistinct.{merge-distinct-shaped}
 use Rattle.qgm_laws.proofs.ShapedKept.{shaped-compact}
+use Rattle.qgm_laws.proofs.ShapedMerged.{merge-shaped}
 use Rattle.qgm_laws.proofs.ShapedMoved.{drop-shaped}
+use Rattle.qgm_laws.proofs.TypedDistinct.{merge-distinct-typed}
 use Rattle.qgm_laws.proofs.TypedKept.{typed-compact}
+use Rattle.qgm_laws.proofs.TypedMerged.{merge-typed}
 use Rattle.qgm_laws.proofs.TypedMoved.{drop-typed}
 
 held-same : (b : ℕ) (ns : List Node) → holds b (numbers ns) ≡ has_box ns b
@@ -36,3 +44,17 @@ drop-formed g u f b c r m =
     let p = (sound-checked g u).0 f in
     let w : Sound (dropped b c g).boxes g.root = (drop-keeps g p.0 b c r m).well in
     (sound-checked (dropped b c g) (numbers-once (dropped b c g).boxes w.ordered)).1 (w, drop-typed g p.0 p.1 b c r m, drop-shaped g p.0 p.2 b c r m)
+
+pub merge-formed : (g : QueryGraph) → EachOnce (numbers g.boxes) → fault g ≡ None → (b c : Node) (us : List OwnedQuant) (rq : OwnedQuant) (vs : List OwnedQuant) → Merges g.boxes b c us rq vs → MergeFits g b c us rq vs → fault (merged_in b c us rq vs g) ≡ None
+merge-formed g u f b c us rq vs m k =
+    let p = (sound-checked g u).0 f in
+    let h : QueryGraph = merged_in b c us rq vs g in
+    let w : Sound h.boxes g.root = (merge-keeps g p.0 b c us rq vs m).well in
+    (sound-checked h (numbers-once h.boxes w.ordered)).1 (w, merge-typed g p.0 p.1 b c us rq vs m, merge-shaped g p.0 p.2 b c us rq vs m k)
+
+pub merge-distinct-formed : (g : QueryGraph) → EachOnce (numbers g.boxes) → fault g ≡ None → (b c : Node) (us : List OwnedQuant) (rq : OwnedQuant) (vs : List OwnedQuant) → MergesDistinct g.boxes b c us rq vs → MergeFits g b c us rq vs → fault (merged_in b c us rq vs g) ≡ None
+merge-distinct-formed g u f b c us rq vs m k =
+    let p = (sound-checked g u).0 f in
+    let h : QueryGraph = merged_in b c us rq vs g in
+    let w : Sound h.boxes g.root = (merge-distinct-keeps g p.0 b c us rq vs m).well in
+    (sound-checked h (numbers-once h.boxes w.ordered)).1 (w, merge-distinct-typed g p.0 p.1 b c us rq vs m, merge-distinct-shaped g p.0 p.2 b c us rq vs m k)

@@ -3,6 +3,7 @@ ghost use Rattle.qgm_laws.specs.Asked.{Pushed, Singled};
 ghost use Rattle.qgm_laws.specs.EditLaws.{EditsPlaced, NewPlaced};
 ghost use Rattle.qgm_laws.specs.Examples.{Dropped, Same};
 ghost use Rattle.qgm_laws.specs.MergeDistinct.{MergeDistinctKeeps};
+ghost use Rattle.qgm_laws.specs.MergeShaped.{MergeDistinctShaped, MergeDistinctWellFormed, MergeShaped, MergeWellFormed};
 ghost use Rattle.qgm_laws.specs.MergeTyped.{MergeDistinctTyped, MergeTyped};
 ghost use Rattle.qgm_laws.specs.Push.{PushKeeps};
 ghost use Rattle.qgm_laws.specs.Shaped.{CompactShaped, CompactTyped, CompactWellFormed, DropShaped, DropTyped, DropWellFormed, PlacedIsChecked, PushTyped, SoundIsChecked};
@@ -48,7 +49,7 @@ pub fn sound_laws()
     ensures looks { LooksStay }
 {}
 
-/// What rules need of a graph, with types that agree and shapes, is what the check of a graph finds; so it is for the three clauses that every edit keeps; where boxes that aren't reached go, and under M2, shapes stay, types agree and the check finds nothing more; types agree under P1 and M1. It does nothing.
+/// What rules need of a graph, with types that agree and shapes, is what the check of a graph finds; so it is for the three clauses that every edit keeps; where boxes that aren't reached go, under M2 and under M1 shapes stay, types agree and the check finds nothing more; types agree under P1. It does nothing.
 pub fn checked_laws()
     ensures placed { PlacedIsChecked }
     ensures sound { SoundIsChecked }
@@ -59,6 +60,10 @@ pub fn checked_laws()
     ensures drop_typed { DropTyped }
     ensures drop_formed { DropWellFormed }
     ensures push_typed { PushTyped }
+    ensures merge { MergeShaped }
     ensures merge_typed { MergeTyped }
+    ensures merge_formed { MergeWellFormed }
+    ensures merge_distinct { MergeDistinctShaped }
     ensures merge_distinct_typed { MergeDistinctTyped }
+    ensures merge_distinct_formed { MergeDistinctWellFormed }
 {}

@@ -1,12 +1,14 @@
 use Rattle.qgm_laws.proofs.Formed.{placed-checked, sound-checked}
 use Rattle.qgm_laws.proofs.ShapedKept.{shaped-compact}
+use Rattle.qgm_laws.proofs.ShapedDistinct.{merge-distinct-shaped}
+use Rattle.qgm_laws.proofs.ShapedMerged.{merge-shaped}
 use Rattle.qgm_laws.proofs.ShapedMoved.{drop-shaped}
 use Rattle.qgm_laws.proofs.TypedKept.{typed-compact}
 use Rattle.qgm_laws.proofs.TypedMoved.{drop-typed}
 use Rattle.qgm_laws.proofs.TypedDistinct.{merge-distinct-typed}
 use Rattle.qgm_laws.proofs.TypedMerged.{merge-typed}
 use Rattle.qgm_laws.proofs.TypedPushed.{typed-pushed}
-use Rattle.qgm_laws.proofs.WellFormedKept.{compact-formed, drop-formed}
+use Rattle.qgm_laws.proofs.WellFormedKept.{compact-formed, drop-formed, merge-distinct-formed, merge-formed}
 use Rattle.qgm_laws.proofs.laws.checked_laws.Goals as goal
 
 pub returns-clause-placed : goal.returns-clause-placed
@@ -41,3 +43,15 @@ returns-clause-merge_typed c = merge-typed
 
 pub returns-clause-merge_distinct_typed : goal.returns-clause-merge_distinct_typed
 returns-clause-merge_distinct_typed c = merge-distinct-typed
+
+pub returns-clause-merge : goal.returns-clause-merge
+returns-clause-merge c = merge-shaped
+
+pub returns-clause-merge_formed : goal.returns-clause-merge_formed
+returns-clause-merge_formed c = merge-formed
+
+pub returns-clause-merge_distinct : goal.returns-clause-merge_distinct
+returns-clause-merge_distinct c = merge-distinct-shaped
+
+pub returns-clause-merge_distinct_formed : goal.returns-clause-merge_distinct_formed
+returns-clause-merge_distinct_formed c = merge-distinct-formed
