@@ -1,20 +1,18 @@
 -- What is free in a box after M1.
 use Rattle.std.specs.Prelude.{not as no}
-use Rattle.std.proofs.Common.{ℕ, ◌==◌, ◌≡◌, ◌+◌, ◌≤◌, ◌<◌, ◌&&◌, ◌||◌, arith, cond, Bool, true, false, List, [], ◌∷◌, ◌++◌, map, refl, sym, ap, ap₂, subst, ◌∙◌, eqb-true, ◌⊎◌, inl, inr}
-use Rattle.std.specs.List.{list_any, flat_map}
+use Rattle.std.proofs.Common.{ℕ, ◌==◌, ◌≡◌, ◌+◌, ◌<◌, ◌&&◌, arith, cond, Bool, true, false, List, [], ◌∷◌, ◌++◌, map, refl, sym, ap, subst, ◌∙◌, eqb-true, ◌⊎◌, inl, inr}
+use Rattle.std.specs.List.{list_any}
 use Rattle.std.proofs.lemmas.Bool.{and_parts, cases_Bool, eq-eqb, or_cases}
-use Rattle.qgm_core.specs.Boxes.{ids_in, ids_of, is_quant, owns}
-use Rattle.qgm_core.specs.Free.{IsFree, Reaches, free_in, itself, named_by, reached, through}
+use Rattle.qgm_core.specs.Boxes.{ids_of, is_quant, owns}
+use Rattle.qgm_core.specs.Free.{IsFree, Reaches, itself, named_by, reached, through}
 use Rattle.qgm_core.specs.Lists.{In, holds, times}
 use Rattle.qgm_core.specs.declared.node.Node.{Node}
 use Rattle.qgm_core.specs.declared.owned.OwnedQuant.{OwnedQuant}
 use Rattle.qgm_terms.specs.Substitution.{substituted, substituted_cond}
-use Rattle.qgm_terms.specs.Terms.{Cond, Term}
-use Rattle.qgm_terms.specs.Wanted.{reads_at, reads_at_cond}
 use Rattle.qgm_check.proofs.Below.{reached-reaches}
 use Rattle.qgm_meaning.specs.Scope.{put_node}
 use Rattle.qgm_meaning.specs.Searches.{names, names_cond}
-use Rattle.qgm_laws.specs.Graph.{Sound, nodes_in}
+use Rattle.qgm_laws.specs.Graph.{Sound}
 use Rattle.qgm_laws.specs.Merge.{Merges, merge_node, merged}
 use Rattle.qgm_laws.specs.Placed.{place}
 use Rattle.qgm_laws.proofs.AnyPut.{cell-any, conds-more, conds-put, heads-more, heads-put}

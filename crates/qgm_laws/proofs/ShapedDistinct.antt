@@ -1,12 +1,12 @@
 -- M1 at an ENFORCE select keeps the shapes of boxes.
-use Rattle.std.proofs.Common.{ℕ, ◌==◌, ◌≡◌, ◌&&◌, ◌||◌, cond, nat_lt, not, Bool, true, false, List, [], ◌∷◌, ◌++◌, filter, map, Option, Some, None, refl, sym, ap, ap₂, subst, ◌∙◌, eqb-true, ◌⊎◌, inl, inr}
+use Rattle.std.proofs.Common.{ℕ, ◌==◌, ◌≡◌, ◌&&◌, ◌||◌, cond, nat_lt, not, Bool, true, false, List, [], ◌∷◌, ◌++◌, filter, map, Option, Some, None, refl, sym, ap, ap₂, subst, ◌∙◌, eqb-true, inl, inr}
 use Rattle.std.specs.List.{flat_map, list_all, list_any}
 use Rattle.std.proofs.lemmas.Bool.{and_from, and_parts, cases_Bool}
 use mathlib.Core.Path.{fun_ext}
-use Rattle.qgm_core.specs.Boxes.{QueryGraph, is_box, is_quant, overs_of, owns, range_in, width}
+use Rattle.qgm_core.specs.Boxes.{QueryGraph, is_box, is_quant, owns, range_in, width}
 use Rattle.qgm_core.specs.Edits.{compact, on_boxes, with_distinct}
 use Rattle.qgm_core.specs.Free.{free_among, free_in, is_owned, marked, named_by, named_where, put_each, reached}
-use Rattle.qgm_core.specs.Kinds.{is_F, is_F_or_S, is_fed, is_magic, is_permit, is_plain, is_preserve}
+use Rattle.qgm_core.specs.Kinds.{is_F, is_magic, is_permit, is_plain, is_preserve}
 use Rattle.qgm_core.specs.Lists.{In, first, holds}
 use Rattle.qgm_core.specs.declared.kinds.BoxKind.{BoxKind}
 use Rattle.qgm_core.specs.declared.kinds.BoxKind.TheVariants.{Base, Group, OuterJoin, Select, SetOp}
@@ -25,7 +25,7 @@ use Rattle.qgm_laws.specs.Merge.{merge_node, merged_in}
 use Rattle.qgm_laws.specs.MergeDistinct.{MergesDistinct}
 use Rattle.qgm_laws.specs.MergeShaped.{FedOpen, MergeFits}
 use Rattle.qgm_laws.specs.Shaped.{Shaped}
-use Rattle.qgm_laws.proofs.Lists.{clash, in-map}
+use Rattle.qgm_laws.proofs.Lists.{in-map}
 use Rattle.qgm_laws.proofs.MergeDistinct.{by-all, loosened, merges, sound, without-map}
 use Rattle.qgm_laws.proofs.Ranks.{same-box}
 use Rattle.qgm_laws.proofs.ShapedMerged.{merge-shaped}

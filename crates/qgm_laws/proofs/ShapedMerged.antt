@@ -1,5 +1,5 @@
 -- M1 keeps the shapes of boxes.
-use Rattle.std.proofs.Common.{ℕ, ◌==◌, ◌≡◌, ◌&&◌, ◌||◌, ◌≤◌, arith, cond, nat_lt, not, Bool, true, false, List, [], ◌∷◌, ◌++◌, length, map, Option, Some, refl, sym, ap, ap₂, subst, ◌∙◌, eqb-true, ◌⊎◌, inl, inr}
+use Rattle.std.proofs.Common.{ℕ, ◌==◌, ◌≡◌, ◌&&◌, ◌||◌, ◌≤◌, arith, cond, nat_lt, not, Bool, true, false, List, [], ◌∷◌, ◌++◌, length, map, Some, refl, sym, ap, ap₂, subst, ◌∙◌, eqb-true, ◌⊎◌, inl, inr}
 use Rattle.std.specs.List.{flat_map, list_all, list_any}
 use Rattle.std.proofs.lemmas.Bool.{and_from, and_parts, cases_Bool, eq-eqb, not-true, or_cases}
 use Rattle.qgm_core.specs.Boxes.{QueryGraph, ids_of, is_box, is_quant, owns, width}
@@ -9,7 +9,6 @@ use Rattle.qgm_core.specs.Kinds.{is_A, is_E, is_F, is_F_or_S, is_S, is_enforce, 
 use Rattle.qgm_core.specs.Lists.{In, first, holds, times}
 use Rattle.qgm_core.specs.declared.kinds.BoxKind.{BoxKind}
 use Rattle.qgm_core.specs.declared.kinds.BoxKind.TheVariants.{Base, Group, OuterJoin, Select, SetOp}
-use Rattle.qgm_core.specs.declared.kinds.Distinct.{Distinct}
 use Rattle.qgm_core.specs.declared.kinds.QuantKind.{QuantKind}
 use Rattle.qgm_core.specs.declared.kinds.Role.{Role}
 use Rattle.qgm_core.specs.declared.kinds.Role.TheVariants.{Fed, Magic, Plain}
@@ -18,7 +17,7 @@ use Rattle.qgm_core.specs.declared.owned.OwnedQuant.{OwnedQuant}
 use Rattle.qgm_terms.specs.Named.{names_in, nodes_in_cond}
 use Rattle.qgm_terms.specs.Named as named
 use Rattle.qgm_terms.specs.Substitution.{cell_at, substituted, substituted_cond}
-use Rattle.qgm_terms.specs.Terms.{Cond, Term}
+use Rattle.qgm_terms.specs.Terms.{Term}
 use Rattle.qgm_terms.specs.Wanted.{has_aggregate, has_aggregate_cond, reads_at, reads_at_cond, wanted}
 use Rattle.qgm_terms.specs.declared.named.Column.{Column}
 use Rattle.qgm_terms.specs.declared.named.QuantNode.{QuantNode}
@@ -30,7 +29,7 @@ use Rattle.qgm_check.specs.Shapes as shapes
 use Rattle.qgm_check.specs.WellFormed.{is_empty}
 use Rattle.qgm_check.proofs.Below.{free-free}
 use Rattle.qgm_check.proofs.ClosedLaws.{finds-alone}
-use Rattle.qgm_meaning.specs.Scope.{loose, loose_by, loose_each, put_node, read_by, under_any}
+use Rattle.qgm_meaning.specs.Scope.{loose, loose_by, put_node, read_by, under_any}
 use Rattle.qgm_meaning.specs.Searches.{bare, names, names_cond}
 use Rattle.qgm_meaning.proofs.ExistsJoined.{inner}
 use Rattle.qgm_laws.specs.Graph.{Sound, binds_row, nodes_in}
@@ -46,11 +45,11 @@ use Rattle.qgm_laws.proofs.Merge as before
 use Rattle.qgm_laws.proofs.Ranks.{has-in, overs-held}
 use Rattle.qgm_laws.proofs.Read.{at_all, at_cond, column-named, columns-found, is_at, is_of, nodes-listed, term-nodes}
 use Rattle.qgm_laws.proofs.Scope.{in-first, unfold-loose}
-use Rattle.qgm_laws.proofs.ShapedKept.{ShapedOn, free-same, shaped-on}
+use Rattle.qgm_laws.proofs.ShapedKept.{free-same, shaped-on}
 use Rattle.qgm_laws.proofs.ShapedPut.{Passes, all-joined, all-parts, columns-none, columns-unread, conds-fit, conds-same, heads-fit, heads-same, of_quant, own-unread}
 use Rattle.qgm_laws.proofs.Times.{times-in}
 use Rattle.qgm_laws.proofs.Turns.{first-own}
-use Rattle.qgm_laws.proofs.TypedKept.{found, found-under}
+use Rattle.qgm_laws.proofs.TypedKept.{found}
 use Rattle.qgm_laws.proofs.TypedMerged as typed
 use Rattle.qgm_laws.proofs.Unput.{heads-none}
 

@@ -4,7 +4,7 @@ use Rattle.std.proofs.Common.{ℕ, zero, suc, ◌+◌, ◌==◌, ◌≡◌, ◌&
 use Rattle.std.specs.List.{list_all, list_any, flat_map}
 use Rattle.std.proofs.lemmas.Bool.{and_from, and_parts, cases_Bool}
 use Rattle.qgm_core.specs.Boxes.{owns}
-use Rattle.qgm_core.specs.Lists.{In, holds}
+use Rattle.qgm_core.specs.Lists.{holds}
 use Rattle.qgm_core.specs.declared.node.Node.{Node}
 use Rattle.qgm_terms.specs.Gathered.{listed_arms}
 use Rattle.qgm_terms.specs.Named.{columns_in, names_in, nodes_in, nodes_in_cond}

@@ -1,5 +1,5 @@
 -- The check of a graph finds nothing against it where boxes that the root doesn't reach go, under M2 and under M1.
-use Rattle.std.proofs.Common.{ℕ, ◌≡◌, ◌||◌, List, [], ◌∷◌, ◌++◌, None, refl, ap₂, ◌∙◌}
+use Rattle.std.proofs.Common.{ℕ, ◌≡◌, ◌||◌, List, [], ◌∷◌, None, refl, ap₂, ◌∙◌}
 use Rattle.qgm_core.specs.Boxes.{Ordered, QueryGraph, has_box, numbers}
 use Rattle.qgm_core.specs.Edits.{compact}
 use Rattle.qgm_core.specs.Lists.{EachOnce, holds}
