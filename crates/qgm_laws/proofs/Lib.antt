@@ -56,3 +56,4 @@ pub mod ShapedPut
 pub mod FreeMerged
 pub mod ShapedMerged
 pub mod ShapedDistinct
+pub mod PermitRead

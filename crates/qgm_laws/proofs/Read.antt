@@ -83,7 +83,7 @@ module _ (p : ℕ) where
 
 -- ---- lists of nodes and of columns
 
-any-both : {X : Type 0} (f : X → Bool) (xs ys : List X) → list_any f (xs ++ ys) ≡ (list_any f xs || list_any f ys)
+pub any-both : {X : Type 0} (f : X → Bool) (xs ys : List X) → list_any f (xs ++ ys) ≡ (list_any f xs || list_any f ys)
 any-both f [] ys = refl
 any-both f (x ∷ xs) ys = ap (λ z. f x || z) (any-both f xs ys) ∙ shift (f x) (list_any f xs) (list_any f ys)
   where
@@ -91,7 +91,7 @@ any-both f (x ∷ xs) ys = ap (λ z. f x || z) (any-both f xs ys) ∙ shift (f x
     shift true b c = refl
     shift false b c = refl
 
-any-each : {X Y : Type 0} (f : Y → Bool) (g : X → List Y) (xs : List X) → list_any f (flat_map g xs) ≡ list_any (λ x. list_any f (g x)) xs
+pub any-each : {X Y : Type 0} (f : Y → Bool) (g : X → List Y) (xs : List X) → list_any f (flat_map g xs) ≡ list_any (λ x. list_any f (g x)) xs
 any-each f g [] = refl
 any-each f g (x ∷ xs) = any-both f (g x) (flat_map g xs) ∙ ap (λ z. list_any f (g x) || z) (any-each f g xs)
 

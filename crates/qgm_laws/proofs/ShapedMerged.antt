@@ -5,7 +5,7 @@ use Rattle.std.proofs.lemmas.Bool.{and_from, and_parts, cases_Bool, eq-eqb, not-
 use Rattle.qgm_core.specs.Boxes.{QueryGraph, ids_of, is_box, is_quant, owns, width}
 use Rattle.qgm_core.specs.Edits.{compact}
 use Rattle.qgm_core.specs.Free.{IsFree, free_in, reached}
-use Rattle.qgm_core.specs.Kinds.{is_A, is_E, is_F, is_F_or_S, is_S, is_enforce, is_fed, is_magic, is_permit, is_plain, is_preserve, width_by}
+use Rattle.qgm_core.specs.Kinds.{is_A, is_E, is_F, is_F_or_S, is_S, is_enforce, is_fed, is_magic, is_permit, is_plain, is_preserve, is_select, width_by}
 use Rattle.qgm_core.specs.Lists.{In, first, holds, times}
 use Rattle.qgm_core.specs.declared.kinds.BoxKind.{BoxKind}
 use Rattle.qgm_core.specs.declared.kinds.BoxKind.TheVariants.{Base, Group, OuterJoin, Select, SetOp}
@@ -92,6 +92,27 @@ bare-passes p x h = all-from p (named.nodes_in x) (λ z i. absurd (none z i))
 pub rows-placed : (n : Node) → all_F n.quants ≡ true → columns_placed n ≡ true
 rows-placed n h = all-from (λ t. is_F t.kind || not (looks_up t.id n)) n.quants (λ t j. or-left (is_F t.kind) (not (looks_up t.id n)) (all-in (λ t. is_F t.kind) t n.quants h j))
 
+-- a box of another kind than select has F quantifiers alone
+pub rows-only : (bs : List Node) (root : ℕ) (n : Node) (k : BoxKind) → kind_fits root bs n k ≡ true → is_select k ≡ false → all_F n.quants ≡ true
+rows-only bs root n (Base t) h e = none-F n.quants (and_parts (is_none n.quants) (is_none n.parts.conds.items) (and_parts (is_none n.quants && is_none n.parts.conds.items) (is_none n.parts.head) (and_parts (is_none n.quants && is_none n.parts.conds.items && is_none n.parts.head) (is_plain n.parts.role) h).0).0).0
+rows-only bs root n Select h e = absurd (let z : ⊥ = cc in z)
+rows-only bs root n (Group k) h e =
+    let a = and_parts (are_F 1 n.quants && is_none n.parts.conds.items && is_plain n.parts.role && head_folds k n.parts.head) (shapes.head_is_own n) h in
+    let d = and_parts (are_F 1 n.quants && is_none n.parts.conds.items && is_plain n.parts.role) (head_folds k n.parts.head) a.0 in
+    let f = and_parts (are_F 1 n.quants && is_none n.parts.conds.items) (is_plain n.parts.role) d.0 in
+    (and_parts (length n.quants == 1) (all_F n.quants) (and_parts (are_F 1 n.quants) (is_none n.parts.conds.items) f.0).0).1
+rows-only bs root n (SetOp form types) h e =
+    let a = and_parts (are_F 2 n.quants && list_all (arm_fits bs (width n)) n.quants && nat_lt 0 (width n) && is_none n.parts.conds.items && is_none n.parts.head) (is_plain n.parts.role) h in
+    let d = and_parts (are_F 2 n.quants && list_all (arm_fits bs (width n)) n.quants && nat_lt 0 (width n) && is_none n.parts.conds.items) (is_none n.parts.head) a.0 in
+    let f = and_parts (are_F 2 n.quants && list_all (arm_fits bs (width n)) n.quants && nat_lt 0 (width n)) (is_none n.parts.conds.items) d.0 in
+    let k = and_parts (are_F 2 n.quants && list_all (arm_fits bs (width n)) n.quants) (nat_lt 0 (width n)) f.0 in
+    (and_parts (length n.quants == 2) (all_F n.quants) (and_parts (are_F 2 n.quants) (list_all (arm_fits bs (width n)) n.quants) k.0).0).1
+rows-only bs root n OuterJoin h e =
+    let a = and_parts (are_F 2 n.quants && list_all is_column n.parts.head && shapes.head_is_own n && is_unfolded n) (is_plain n.parts.role) h in
+    let d = and_parts (are_F 2 n.quants && list_all is_column n.parts.head && shapes.head_is_own n) (is_unfolded n) a.0 in
+    let f = and_parts (are_F 2 n.quants && list_all is_column n.parts.head) (shapes.head_is_own n) d.0 in
+    (and_parts (length n.quants == 2) (all_F n.quants) (and_parts (are_F 2 n.quants) (list_all is_column n.parts.head) f.0).0).1
+
 -- a select of a sound graph looks its own quantifiers up where they are bound
 pub select-placed : (bs : List Node) (root : ℕ) → Sound bs root → (n : Node) → In n bs → n.parts.kind ≡ Select → columns_placed n ≡ true
 select-placed bs root w n i k = all-from (λ t. is_F t.kind || not (looks_up t.id n)) n.quants (λ t j. elim (cases_Bool (is_F t.kind)) [
@@ -113,6 +134,14 @@ select-placed bs root w n i k = all-from (λ t. is_F t.kind || not (looks_up t.i
           let same : s ≡ t = cc in
           clash (is_F s.kind) a.0 (ap (λ (z : OwnedQuant). is_F z.kind) same ∙ f))
     ])
+
+-- the parts of a shape
+pub shape-parts : (bs : List Node) (root : ℕ) → Shaped bs root → (y : Node) → In y bs → (kind_fits root bs y y.parts.kind ≡ true) × (list_all (node_fits y.quants) (nodes_of y) ≡ true) × ((not (is_scalar bs y.id) || nat_lt 0 (width y)) ≡ true)
+shape-parts bs root s y i =
+    let a = and_parts ((kind_fits root bs y y.parts.kind && list_all (node_fits y.quants) (nodes_of y)) && columns_placed y) (not (is_scalar bs y.id) || nat_lt 0 (width y)) (s.shapes y i) in
+    let d = and_parts (kind_fits root bs y y.parts.kind && list_all (node_fits y.quants) (nodes_of y)) (columns_placed y) a.0 in
+    let e = and_parts (kind_fits root bs y y.parts.kind) (list_all (node_fits y.quants) (nodes_of y)) d.0 in
+    (e.0, e.1, a.1)
 
 module _ (bs : List Node) (root : ℕ) (w : Sound bs root) (s : Shaped bs root) (b c : Node) (us : List OwnedQuant) (r : OwnedQuant) (vs : List OwnedQuant) (m : Merges bs b c us r vs) where
   abbrev q : ℕ
@@ -181,11 +210,7 @@ module _ (bs : List Node) (root : ℕ) (w : Sound bs root) (s : Shaped bs root) 
   -- ---- what the shape of a box says
 
   shape-of : (y : Node) → In y bs → (kind_fits root bs y y.parts.kind ≡ true) × (list_all (node_fits y.quants) (nodes_of y) ≡ true) × ((not (is_scalar bs y.id) || nat_lt 0 (width y)) ≡ true)
-  shape-of y i =
-      let a = and_parts ((kind_fits root bs y y.parts.kind && list_all (node_fits y.quants) (nodes_of y)) && columns_placed y) (not (is_scalar bs y.id) || nat_lt 0 (width y)) (s.shapes y i) in
-      let d = and_parts (kind_fits root bs y y.parts.kind && list_all (node_fits y.quants) (nodes_of y)) (columns_placed y) a.0 in
-      let e = and_parts (kind_fits root bs y y.parts.kind) (list_all (node_fits y.quants) (nodes_of y)) d.0 in
-      (e.0, e.1, a.1)
+  shape-of = shape-parts bs root s
 
   select-of : (y : Node) → In y bs → y.parts.kind ≡ Select → (is_unfolded y ≡ true) × (role_fits root bs y y.parts.role ≡ true)
   select-of y i e = and_parts (is_unfolded y) (role_fits root bs y y.parts.role) (subst (λ k. kind_fits root bs y k ≡ true) e (shape-of y i).0)
@@ -465,26 +490,12 @@ module _ (bs : List Node) (root : ℕ) (w : Sound bs root) (s : Shaped bs root) 
         let e = and_parts (are_F 2 y.quants && list_all is_column y.parts.head) (shapes.head_is_own y) d.0 in
         ap₂ (λ (hd : List Term) (u : Bool). are_F 2 y.quants && list_all is_column hd && list_all (λ p. owns p y) (flat_map names_in hd) && u && is_plain y.parts.role) (own-head e.1) (unfolded-put y) ∙ h
 
-    -- a box of another kind has F quantifiers alone
     placed-after : (k : BoxKind) → y.parts.kind ≡ k → kind_fits root bs y k ≡ true → columns_placed (put y) ≡ true
-    placed-after (Base t) e h = rows-placed (put y) (none-F y.quants (and_parts (is_none y.quants) (is_none y.parts.conds.items) (and_parts (is_none y.quants && is_none y.parts.conds.items) (is_none y.parts.head) (and_parts (is_none y.quants && is_none y.parts.conds.items && is_none y.parts.head) (is_plain y.parts.role) h).0).0).0)
+    placed-after (Base t) e h = rows-placed (put y) (rows-only bs root y (Base t) h refl)
     placed-after Select e h = select-placed hm root sound (put y) (freed.to-other bs root w b c us r vs m y i n l) e
-    placed-after (Group k) e h =
-        let a = and_parts (are_F 1 y.quants && is_none y.parts.conds.items && is_plain y.parts.role && head_folds k y.parts.head) (shapes.head_is_own y) h in
-        let d = and_parts (are_F 1 y.quants && is_none y.parts.conds.items && is_plain y.parts.role) (head_folds k y.parts.head) a.0 in
-        let f = and_parts (are_F 1 y.quants && is_none y.parts.conds.items) (is_plain y.parts.role) d.0 in
-        rows-placed (put y) (and_parts (length y.quants == 1) (all_F y.quants) (and_parts (are_F 1 y.quants) (is_none y.parts.conds.items) f.0).0).1
-    placed-after (SetOp form types) e h =
-        let a = and_parts (are_F 2 y.quants && list_all (arm_fits bs (width y)) y.quants && nat_lt 0 (width y) && is_none y.parts.conds.items && is_none y.parts.head) (is_plain y.parts.role) h in
-        let d = and_parts (are_F 2 y.quants && list_all (arm_fits bs (width y)) y.quants && nat_lt 0 (width y) && is_none y.parts.conds.items) (is_none y.parts.head) a.0 in
-        let f = and_parts (are_F 2 y.quants && list_all (arm_fits bs (width y)) y.quants && nat_lt 0 (width y)) (is_none y.parts.conds.items) d.0 in
-        let k = and_parts (are_F 2 y.quants && list_all (arm_fits bs (width y)) y.quants) (nat_lt 0 (width y)) f.0 in
-        rows-placed (put y) (and_parts (length y.quants == 2) (all_F y.quants) (and_parts (are_F 2 y.quants) (list_all (arm_fits bs (width y)) y.quants) k.0).0).1
-    placed-after OuterJoin e h =
-        let a = and_parts (are_F 2 y.quants && list_all is_column y.parts.head && shapes.head_is_own y && is_unfolded y) (is_plain y.parts.role) h in
-        let d = and_parts (are_F 2 y.quants && list_all is_column y.parts.head && shapes.head_is_own y) (is_unfolded y) a.0 in
-        let f = and_parts (are_F 2 y.quants && list_all is_column y.parts.head) (shapes.head_is_own y) d.0 in
-        rows-placed (put y) (and_parts (length y.quants == 2) (all_F y.quants) (and_parts (are_F 2 y.quants) (list_all is_column y.parts.head) f.0).0).1
+    placed-after (Group k) e h = rows-placed (put y) (rows-only bs root y (Group k) h refl)
+    placed-after (SetOp form types) e h = rows-placed (put y) (rows-only bs root y (SetOp form types) h refl)
+    placed-after OuterJoin e h = rows-placed (put y) (rows-only bs root y OuterJoin h refl)
 
     put-shape : Opened → shape_fits root hm (put y) ≡ true
     put-shape o =

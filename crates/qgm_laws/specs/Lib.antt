@@ -19,3 +19,4 @@ pub mod Single
 pub mod Facts
 pub mod Push
 pub mod Asked
+pub mod MergePermit
