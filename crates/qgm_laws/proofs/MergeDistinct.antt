@@ -34,6 +34,7 @@ use Rattle.qgm_laws.specs.Graph.{BareBy, Sound, binds_row, nodes_in, reads_in}
 use Rattle.qgm_laws.specs.Keeps.{Keeps}
 use Rattle.qgm_laws.specs.Merge.{Merges, merge_node, merged_in}
 use Rattle.qgm_laws.specs.MergeDistinct.{MergesDistinct}
+use Rattle.qgm_laws.specs.MergePermit.{MergesAny}
 use Rattle.qgm_laws.proofs.Changes.{parts-sound}
 use Rattle.qgm_laws.proofs.Filters.{over-once}
 use Rattle.qgm_laws.proofs.Lists.{any-from, clash, eq-false-sym, eq-itself, in-map, in-right, map-in, or-left, or-right}
@@ -51,7 +52,7 @@ levels-once true rows = levels-distinct same_cells same_cells-decides rows
 levels-once false rows = levels-refl same_cells rows
 
 -- so have the combinations, where the rows of each quantifier have
-each-levels : (s t : Family) (give : Environment → Bag) (rs : List OwnedQuant) → ((x : OwnedQuant) → In x rs → (e : Environment) → SameLevels same_cells (s x.id e) (t x.id e)) → (e : Environment) → SameLevels same_cells (over_each rs s give e) (over_each rs t give e)
+pub each-levels : (s t : Family) (give : Environment → Bag) (rs : List OwnedQuant) → ((x : OwnedQuant) → In x rs → (e : Environment) → SameLevels same_cells (s x.id e) (t x.id e)) → (e : Environment) → SameLevels same_cells (over_each rs s give e) (over_each rs t give e)
 each-levels s t give [] h e = levels-refl same_cells (give e)
 each-levels s t give (r ∷ rs) h e = elim (is_F r.kind) as (λ f. SameLevels same_cells
     (cond f (bind (s r.id e) (λ cells. over_each rs s give (bound r.id cells e))) (over_each rs s give e))
@@ -96,9 +97,23 @@ overs-same : (c : ℕ) (ns : List Node) → overs_in (map (loosened c) ns) ≡ o
 overs-same c [] = refl
 overs-same c (n ∷ ns) = ap₂ (λ (xs ys : List ℕ). xs ++ ys) (by-all c overs_of (λ y. refl) n) (overs-same c ns)
 
+-- whichever DISTINCT both are
+pub any-of : (bs : List Node) (b c : Node) (us : List OwnedQuant) (r : OwnedQuant) (vs : List OwnedQuant) → MergesDistinct bs b c us r vs → MergesAny bs b c us r vs
+any-of bs b c us r vs m = record {
+  in_b = m.in_b;
+  in_c = m.in_c;
+  split = m.split;
+  is_f = m.is_f;
+  over_c = m.over_c;
+  select_b = m.select_b;
+  select_c = m.select_c;
+  one_use = m.one_use;
+  naked = m.naked;
+}
+
 -- ---- the boxes, with c as PRESERVE
 
-module _ (bs : List Node) (root : ℕ) (w : Sound bs root) (b c : Node) (us : List OwnedQuant) (r : OwnedQuant) (vs : List OwnedQuant) (m : MergesDistinct bs b c us r vs) where
+module _ (bs : List Node) (root : ℕ) (w : Sound bs root) (b c : Node) (us : List OwnedQuant) (r : OwnedQuant) (vs : List OwnedQuant) (m : MergesAny bs b c us r vs) where
   abbrev q : ℕ
   q = r.id
 
@@ -108,10 +123,10 @@ module _ (bs : List Node) (root : ℕ) (w : Sound bs root) (b c : Node) (us : Li
   abbrev c' : Node
   c' = with_distinct Preserve c
 
-  in-b : In r b.quants
+  pub in-b : In r b.quants
   in-b = subst (λ z. In r z) (sym m.split) (in-right r us (r ∷ vs) (inl refl))
 
-  b-not-c : (b.id == c.id) ≡ false
+  pub b-not-c : (b.id == c.id) ≡ false
   b-not-c = elim (cases_Bool (b.id == c.id)) [
     | inr f ↦ f
     | inl t ↦ absurd (
@@ -134,10 +149,10 @@ module _ (bs : List Node) (root : ℕ) (w : Sound bs root) (b c : Node) (us : Li
   pub sound : Sound (map g bs) root
   sound = parts-sound bs root w g reparts
 
-  g-other : (y : Node) → (y.id == c.id) ≡ false → g y ≡ y
+  pub g-other : (y : Node) → (y.id == c.id) ≡ false → g y ≡ y
   g-other y f = ap (λ t. cond t (with_distinct Preserve y) y) f
 
-  g-c : g c ≡ c'
+  pub g-c : g c ≡ c'
   g-c = ap (λ t. cond t c' c) (eq-itself c.id)
 
   -- M1 may fire there
@@ -162,13 +177,13 @@ module _ (bs : List Node) (root : ℕ) (w : Sound bs root) (b c : Node) (us : Li
   only-b : (y : Node) (x : OwnedQuant) → In y bs → In x y.quants → x.over ≡ c.id → y ≡ b
   only-b y x i j e = one-parent bs root w c.id y b x r (let a = m.one_use in omega arith) i m.in_b j in-b e m.over_c
 
-  not-over : (y : Node) → In y bs → (y.id == b.id) ≡ false → (x : OwnedQuant) → In x y.quants → (x.over == c.id) ≡ false
+  pub not-over : (y : Node) → In y bs → (y.id == b.id) ≡ false → (x : OwnedQuant) → In x y.quants → (x.over == c.id) ≡ false
   not-over y i n x j = elim (cases_Bool (x.over == c.id)) [ inr f ↦ f | inl t ↦ absurd (clash (y.id == b.id) (eq-eqb y.id b.id (ap (λ (z : Node). z.id) (only-b y x i j (eqb-true x.over c.id t)))) n) ]
 
-  few-b : (x : ℕ) → times x (ids_of b) ≤ 1
+  pub few-b : (x : ℕ) → times x (ids_of b) ≤ 1
   few-b x = few-ids bs b x (w.once x) m.in_b
 
-  alone : (x : OwnedQuant) → In x b.quants → (x.id == q) ≡ false → (x.over == c.id) ≡ false
+  pub alone : (x : OwnedQuant) → In x b.quants → (x.id == q) ≡ false → (x.over == c.id) ≡ false
   alone x j n = elim (cases_Bool (x.over == c.id)) [
     | inr f ↦ f
     | inl t ↦ absurd (clash (x.id == q) (over-once x r b.quants c.id few-c j in-b (eqb-true x.over c.id t) m.over_c) n)
@@ -185,20 +200,20 @@ module _ (bs : List Node) (root : ℕ) (w : Sound bs root) (b c : Node) (us : Li
   ]
 
   module _ (tables : List Table) where
-    abbrev f : Family
+    abbrev pub f : Family
     f = bag_in tables bs
 
     -- the rows of c as those of PRESERVE
-    abbrev raw : Environment → Bag
+    abbrev pub raw : Environment → Bag
     raw e = over_each c.quants (quant_rows c f) (given_by (quant_rows c f) c) e
 
-    abbrev f' : Family
+    abbrev pub f' : Family
     f' x e = cond (x == c.id) (raw e) (f x e)
 
-    f-was : (x : ℕ) → (x == c.id) ≡ false → f' x ≡ f x
+    pub f-was : (x : ℕ) → (x == c.id) ≡ false → f' x ≡ f x
     f-was x n = fun_ext (λ e. ap (λ (t : Bool). cond t (raw e) (f x e)) n)
 
-    f-c : (e : Environment) → f' c.id e ≡ raw e
+    pub f-c : (e : Environment) → f' c.id e ≡ raw e
     f-c e = ap (λ (t : Bool). cond t (raw e) (f c.id e)) (eq-itself c.id)
 
     levels-c : (e : Environment) → SameLevels same_cells (f' c.id e) (f c.id e)
@@ -207,19 +222,19 @@ module _ (bs : List Node) (root : ℕ) (w : Sound bs root) (b c : Node) (us : Li
         was : f c.id e ≡ once_if (is_enforce c.parts.distinct) (raw e)
         was = unfold-bag tables bs c w.ordered m.in_c e ∙ ap (λ z. rows_by z tables c (quant_rows c f) e) m.select_c
 
-    under-same : (rs : List OwnedQuant) → ((x : OwnedQuant) → In x rs → (x.over == c.id) ≡ false) → SameUnder rs f' f
+    pub under-same : (rs : List OwnedQuant) → ((x : OwnedQuant) → In x rs → (x.over == c.id) ≡ false) → SameUnder rs f' f
     under-same [] h = tt
     under-same (x ∷ rs) h = (f-was x.over (h x (inl refl)), under-same rs (λ z j. h z (inr j)))
 
-    c-rows : (e : Environment) → rows_of tables c' f' e ≡ f' c.id e
+    pub c-rows : (e : Environment) → rows_of tables c' f' e ≡ f' c.id e
     c-rows e =
         ap (λ (h : Environment → Bag). h e) (rows-local tables c' f' f (under-same c.quants (not-over c m.in_c (eq-false-sym b.id c.id b-not-c))))
         ∙ ap (λ z. rows_by z tables c' (quant_rows c f) e) m.select_c ∙ sym (f-c e)
 
-    abbrev s : Family
+    abbrev pub s : Family
     s = quant_rows b f
 
-    abbrev s' : Family
+    abbrev pub s' : Family
     s' = quant_rows b f'
 
     s-same : (x : ℕ) → (x == q) ≡ false → s' x ≡ s x
@@ -239,37 +254,37 @@ module _ (bs : List Node) (root : ℕ) (w : Sound bs root) (b c : Node) (us : Li
         let was : s q e ≡ f c.id e = ap (λ o. rows_found o f e) one ∙ ap (λ z. f z e) m.over_c in
         subst (λ z. SameLevels same_cells z (s q e)) (sym now) (subst (λ z. SameLevels same_cells (f' c.id e) z) (sym was) (levels-c e))
 
-    levels-s : (x : OwnedQuant) → In x b.quants → (e : Environment) → SameLevels same_cells (s' x.id e) (s x.id e)
+    pub levels-s : (x : OwnedQuant) → In x b.quants → (e : Environment) → SameLevels same_cells (s' x.id e) (s x.id e)
     levels-s x j e = elim (cases_Bool (x.id == q)) [
       | inl t ↦ subst (λ z. SameLevels same_cells (s' z e) (s z e)) (sym (eqb-true x.id q t)) (levels-q e)
       | inr n ↦ subst (λ (z : Environment → Bag). SameLevels same_cells (z e) (s x.id e)) (sym (s-same x.id n)) (levels-refl same_cells (s x.id e))
     ]
 
-    given-same : (e : Environment) → given_by s' b e ≡ given_by s b e
+    pub given-same : (e : Environment) → given_by s' b e ≡ given_by s b e
     given-same e =
         let same : (x : ℕ) → nodes_in x b ≡ true → s' x e ≡ s x e = λ x t. ap (λ (h : Environment → Bag). h e) (s-same x (no-row x t)) in
         ap (λ (z : Truth). keep z.t (unit (head_cells (λ x. s' x e) b.parts.head e))) (all_true-nodes (λ x. s' x e) (λ x. s x e) b.parts.conds.items e (λ x t. same x (or-right (list_any (names x) b.parts.head) (list_any (names_cond x) b.parts.conds.items) t)))
         ∙ ap (λ h. keep (all_true (λ x. s x e) b.parts.conds.items e).t (unit h)) (head-nodes (λ x. s' x e) (λ x. s x e) b.parts.head e (λ x t. same x (or-left (list_any (names x) b.parts.head) (list_any (names_cond x) b.parts.conds.items) t)))
 
-    b-rows : (e : Environment) → Agree same_cells (rows_of tables b f' e) (f b.id e)
-    b-rows e =
+    b-rows : is_enforce b.parts.distinct ≡ true → (e : Environment) → Agree same_cells (rows_of tables b f' e) (f b.id e)
+    b-rows k e =
         let now : rows_of tables b f' e ≡ once_if true (over_each b.quants s' (given_by s b) e) =
-        ap (λ z. rows_by z tables b s' e) m.select_b ∙ ap (λ o. once_if o (over_each b.quants s' (given_by s' b) e)) m.enforced ∙ ap (λ (h : Environment → Bag). once_if true (over_each b.quants s' h e)) (fun_ext given-same) in
+        ap (λ z. rows_by z tables b s' e) m.select_b ∙ ap (λ o. once_if o (over_each b.quants s' (given_by s' b) e)) k ∙ ap (λ (h : Environment → Bag). once_if true (over_each b.quants s' h e)) (fun_ext given-same) in
         let was : f b.id e ≡ once_if true (over_each b.quants s (given_by s b) e) =
-        unfold-bag tables bs b w.ordered m.in_b e ∙ ap (λ z. rows_by z tables b s e) m.select_b ∙ ap (λ o. once_if o (over_each b.quants s (given_by s b) e)) m.enforced in
+        unfold-bag tables bs b w.ordered m.in_b e ∙ ap (λ z. rows_by z tables b s e) m.select_b ∙ ap (λ o. once_if o (over_each b.quants s (given_by s b) e)) k in
         subst (λ z. Agree same_cells z (f b.id e)) (sym now) (subst (λ z. Agree same_cells (once_if true (over_each b.quants s' (given_by s b) e)) z) (sym was)
         (agree-from_alike same_cells (distinct-levels same_cells same_cells-decides (each-levels s' s (given_by s b) b.quants levels-s e))))
 
-    at-box : (y : Node) → In y bs → (e : Environment) → Agree same_cells (rows_of tables (g y) f' e) (f' y.id e)
-    at-box y i e = elim (cases_Bool (y.id == c.id)) [
+    at-box : is_enforce b.parts.distinct ≡ true → (y : Node) → In y bs → (e : Environment) → Agree same_cells (rows_of tables (g y) f' e) (f' y.id e)
+    at-box k y i e = elim (cases_Bool (y.id == c.id)) [
       | inl t ↦ (
           let same : y ≡ c = same-box bs y c w.ordered i m.in_c (eqb-true y.id c.id t) in
           subst (λ (z : Node). Agree same_cells (rows_of tables (g z) f' e) (f' z.id e)) (sym same) (same-agree (ap (λ z. rows_of tables z f' e) g-c ∙ c-rows e)))
       | inr n ↦ subst (λ (z : Node). Agree same_cells (rows_of tables z f' e) (f' y.id e)) (sym (g-other y n)) (subst (λ (z : Environment → Bag). Agree same_cells (rows_of tables y f' e) (z e)) (sym (f-was y.id n)) (elim (cases_Bool (y.id == b.id)) [
         | inl t ↦ (
             let same : y ≡ b = same-box bs y b w.ordered i m.in_b (eqb-true y.id b.id t) in
-            subst (λ (z : Node). Agree same_cells (rows_of tables z f' e) (f z.id e)) (sym same) (b-rows e))
-        | inr k ↦ same-agree (ap (λ (z : Environment → Bag). z e) (rows-local tables y f' f (under-same y.quants (not-over y i k))) ∙ sym (unfold-bag tables bs y w.ordered i e))
+            subst (λ (z : Node). Agree same_cells (rows_of tables z f' e) (f z.id e)) (sym same) (b-rows k e))
+        | inr d ↦ same-agree (ap (λ (z : Environment → Bag). z e) (rows-local tables y f' f (under-same y.quants (not-over y i d))) ∙ sym (unfold-bag tables bs y w.ordered i e))
       ]))
     ]
 
@@ -281,25 +296,26 @@ module _ (bs : List Node) (root : ℕ) (w : Sound bs root) (b c : Node) (us : Li
     backs [] h = tt
     backs (n ∷ ns) h = (stays (quant_rows n f') n.quants, (λ e p. h n (inl refl) e), backs ns (λ n i. h n (inr i)))
 
-    root-not-c : (root == c.id) ≡ false
+    pub root-not-c : (root == c.id) ≡ false
     root-not-c = elim (cases_Bool (root == c.id)) [ inr n ↦ n | inl t ↦ absurd (let a = w.top in let d = m.one_use in let e : times root (overs_in bs) ≡ times c.id (overs_in bs) = ap (λ z. times z (overs_in bs)) (eqb-true root c.id t) in omega arith) ]
 
-    pub root-same : (e : Environment) → Agree same_cells (bag_in tables (map g bs) root e) (f root e)
-    root-same e = subst (λ (z : Environment → Bag). Agree same_cells (bag_in tables (map g bs) root e) (z e)) (f-was root root-not-c)
+    pub root-same : is_enforce b.parts.distinct ≡ true → (e : Environment) → Agree same_cells (bag_in tables (map g bs) root e) (f root e)
+    root-same k e = subst (λ (z : Environment → Bag). Agree same_cells (bag_in tables (map g bs) root e) (z e)) (f-was root root-not-c)
         (agree-from_alike same_cells (only-alike tables f' (λ e. true) (map g bs) sound.ordered (backs (map g bs) (λ n i e. (
         let y = in-map g n bs i in
-        subst (λ (z : Node). Agree same_cells (rows_of tables z f' e) (f' z.id e)) y.1.1 (subst (λ x. Agree same_cells (rows_of tables (g y.0) f' e) (f' x e)) (sym (by-all c.id (λ n. n.id) (λ y. refl) y.0)) (at-box y.0 y.1.0 e))))) root sound.rooted e refl))
+        subst (λ (z : Node). Agree same_cells (rows_of tables z f' e) (f' z.id e)) y.1.1 (subst (λ x. Agree same_cells (rows_of tables (g y.0) f' e) (f' x e)) (sym (by-all c.id (λ n. n.id) (λ y. refl) y.0)) (at-box k y.0 y.1.0 e))))) root sound.rooted e refl))
 
 pub merge-distinct-keeps : (h : QueryGraph) → Sound h.boxes h.root → (b c : Node) (us : List OwnedQuant) (rq : OwnedQuant) (vs : List OwnedQuant) → MergesDistinct h.boxes b c us rq vs → Keeps h (merged_in b c us rq vs h)
 merge-distinct-keeps h w b c us rq vs m =
+    let a = any-of h.boxes b c us rq vs m in
     let mid : QueryGraph = on_boxes (map (loosened c.id)) h in
     let one : Keeps h mid = record {
-      well = sound h.boxes h.root w b c us rq vs m;
-      bag = λ tables filled. root-same h.boxes h.root w b c us rq vs m tables [];
+      well = sound h.boxes h.root w b c us rq vs a;
+      bag = λ tables filled. root-same h.boxes h.root w b c us rq vs a tables m.enforced [];
       bases = λ tables filled. filled-map tables (loosened c.id) (λ y. by-all c.id (λ n. n.parts.kind) (λ y. refl) y) h.boxes filled;
       names = refl;
       order = refl;
     } in
-    let two : Keeps mid (merged_in b (with_distinct Preserve c) us rq vs mid) = merge-keeps mid one.well b (with_distinct Preserve c) us rq vs (merges h.boxes h.root w b c us rq vs m) in
+    let two : Keeps mid (merged_in b (with_distinct Preserve c) us rq vs mid) = merge-keeps mid one.well b (with_distinct Preserve c) us rq vs (merges h.boxes h.root w b c us rq vs a) in
     subst (λ z. Keeps h (compact (on_boxes (λ bs. map (merge_node b.id rq.id c (us ++ (c.quants ++ vs))) z) h))) (without-map c.id h.boxes w.ordered)
     (keeps-chained.chained h mid (merged_in b (with_distinct Preserve c) us rq vs mid) one two)

@@ -23,10 +23,11 @@ use Rattle.qgm_check.specs.Shapes as shapes
 use Rattle.qgm_laws.specs.Graph.{Sound}
 use Rattle.qgm_laws.specs.Merge.{merge_node, merged_in}
 use Rattle.qgm_laws.specs.MergeDistinct.{MergesDistinct}
+use Rattle.qgm_laws.specs.MergePermit.{MergesAny}
 use Rattle.qgm_laws.specs.MergeShaped.{FedOpen, MergeFits}
 use Rattle.qgm_laws.specs.Shaped.{Shaped}
 use Rattle.qgm_laws.proofs.Lists.{in-map}
-use Rattle.qgm_laws.proofs.MergeDistinct.{by-all, loosened, merges, sound, without-map}
+use Rattle.qgm_laws.proofs.MergeDistinct.{any-of, by-all, loosened, merges, sound, without-map}
 use Rattle.qgm_laws.proofs.Ranks.{same-box}
 use Rattle.qgm_laws.proofs.ShapedMerged.{merge-shaped}
 
@@ -184,9 +185,9 @@ module _ (bs : List Node) (root : ℕ) (w : Sound bs root) (s : Shaped bs root) 
         shape-alike f same-id same-quants same-named same-width same-magic root n bs ∙ ap (shape_fits root bs) (sym y.1.1) ∙ shape-loosened y.0 y.1.0);
   }
 
-pub merge-distinct-shaped : (h : QueryGraph) → Sound h.boxes h.root → Shaped h.boxes h.root → (b c : Node) (us : List OwnedQuant) (rq : OwnedQuant) (vs : List OwnedQuant)
-    → MergesDistinct h.boxes b c us rq vs → MergeFits h b c us rq vs → Shaped (merged_in b c us rq vs h).boxes h.root
-merge-distinct-shaped h w s b c us rq vs m k =
+pub merge-any-shaped : (h : QueryGraph) → Sound h.boxes h.root → Shaped h.boxes h.root → (b c : Node) (us : List OwnedQuant) (rq : OwnedQuant) (vs : List OwnedQuant)
+    → MergesAny h.boxes b c us rq vs → MergeFits h b c us rq vs → Shaped (merged_in b c us rq vs h).boxes h.root
+merge-any-shaped h w s b c us rq vs m k =
     let same = without-map c.id h.boxes w.ordered in
     subst (λ z. Shaped (compact (on_boxes (λ bs. map (merge_node b.id rq.id c (us ++ (c.quants ++ vs))) z) h)).boxes h.root) same
     (merge-shaped (on_boxes (map (loosened c.id)) h) (sound h.boxes h.root w b c us rq vs m) (shaped-loosened h.boxes h.root w s c m.in_c m.select_c k.not_magic) b (with_distinct Preserve c) us rq vs (merges h.boxes h.root w b c us rq vs m) (record {
@@ -195,3 +196,7 @@ merge-distinct-shaped h w s b c us rq vs m k =
       rows_alone = k.rows_alone;
       fed_open = subst (λ z. FedOpen (compact (on_boxes (λ bs. map (merge_node b.id rq.id c (us ++ (c.quants ++ vs))) z) h)).boxes) (sym same) k.fed_open;
     }))
+
+pub merge-distinct-shaped : (h : QueryGraph) → Sound h.boxes h.root → Shaped h.boxes h.root → (b c : Node) (us : List OwnedQuant) (rq : OwnedQuant) (vs : List OwnedQuant)
+    → MergesDistinct h.boxes b c us rq vs → MergeFits h b c us rq vs → Shaped (merged_in b c us rq vs h).boxes h.root
+merge-distinct-shaped h w s b c us rq vs m k = merge-any-shaped h w s b c us rq vs (any-of h.boxes b c us rq vs m) k

@@ -11,9 +11,10 @@ use Rattle.qgm_check.specs.declared.types.Typed.{Typed}
 use Rattle.qgm_laws.specs.Graph.{Sound}
 use Rattle.qgm_laws.specs.Merge.{merge_node, merged_in}
 use Rattle.qgm_laws.specs.MergeDistinct.{MergesDistinct}
+use Rattle.qgm_laws.specs.MergePermit.{MergesAny}
 use Rattle.qgm_laws.specs.Shaped as shaped
 use Rattle.qgm_laws.proofs.Lists.{in-map}
-use Rattle.qgm_laws.proofs.MergeDistinct.{by-all, loosened, merges, sound, without-map}
+use Rattle.qgm_laws.proofs.MergeDistinct.{any-of, by-all, loosened, merges, sound, without-map}
 use Rattle.qgm_laws.proofs.TypedMerged.{merge-typed}
 use Rattle.qgm_laws.proofs.TypedPushed.{lookup-map, tables-map}
 
@@ -34,7 +35,10 @@ module _ (bs : List Node) (c : Node) where
       ap₂ (λ (l : Lookup) (table : List Typed). list_all (λ x. is_known (term_type l x)) (g x.0).parts.head && (list_all (cond_fits l) (g x.0).parts.conds.items && arms_agree table (g x.0).parts.kind (g x.0).quants)) looks tables
       ∙ by-all c.id (λ n. types_agree bs n) (λ y. refl) x.0 ∙ t x.0 x.1.0)
 
-pub merge-distinct-typed : (h : QueryGraph) → Sound h.boxes h.root → shaped.Typed h.boxes → (b c : Node) (us : List OwnedQuant) (rq : OwnedQuant) (vs : List OwnedQuant) → MergesDistinct h.boxes b c us rq vs → shaped.Typed (merged_in b c us rq vs h).boxes
-merge-distinct-typed h w t b c us rq vs m =
+pub merge-any-typed : (h : QueryGraph) → Sound h.boxes h.root → shaped.Typed h.boxes → (b c : Node) (us : List OwnedQuant) (rq : OwnedQuant) (vs : List OwnedQuant) → MergesAny h.boxes b c us rq vs → shaped.Typed (merged_in b c us rq vs h).boxes
+merge-any-typed h w t b c us rq vs m =
     subst (λ z. shaped.Typed (compact (on_boxes (λ bs. map (merge_node b.id rq.id c (us ++ (c.quants ++ vs))) z) h)).boxes) (without-map c.id h.boxes w.ordered)
     (merge-typed (on_boxes (map (loosened c.id)) h) (sound h.boxes h.root w b c us rq vs m) (typed-loosened h.boxes c t) b (with_distinct Preserve c) us rq vs (merges h.boxes h.root w b c us rq vs m))
+
+pub merge-distinct-typed : (h : QueryGraph) → Sound h.boxes h.root → shaped.Typed h.boxes → (b c : Node) (us : List OwnedQuant) (rq : OwnedQuant) (vs : List OwnedQuant) → MergesDistinct h.boxes b c us rq vs → shaped.Typed (merged_in b c us rq vs h).boxes
+merge-distinct-typed h w t b c us rq vs m = merge-any-typed h w t b c us rq vs (any-of h.boxes b c us rq vs m)

@@ -1,14 +1,62 @@
--- PERMIT boxes: who reads them.
-use Rattle.std.specs.Prelude.{ℕ, ◌≡◌, Bool, true, List}
-use Rattle.qgm_core.specs.Kinds.{is_permit}
-use Rattle.qgm_core.specs.Lists.{In}
+-- M1 at a PERMIT select: the select below may be ENFORCE too, where rows are clean.
+use Rattle.std.specs.Prelude.{ℕ, ◌≡◌, ◌==◌, ◌++◌, Bool, true, false, List, ◌∷◌}
+use Rattle.row_bag.specs.AsSets.{is_clean}
+use Rattle.row_bag.specs.Bags.{Agree}
+use Rattle.row_bag.specs.Sets.{same_cells}
+use Rattle.row_bag.specs.declared.tables.Table.{Table}
+use Rattle.qgm_core.specs.Boxes.{QueryGraph, overs_in}
+use Rattle.qgm_core.specs.Edits.{with_distinct}
+use Rattle.qgm_core.specs.Kinds.{is_F, is_permit}
+use Rattle.qgm_core.specs.Lists.{In, times}
+use Rattle.qgm_core.specs.declared.kinds.BoxKind.TheVariants.{Select}
+use Rattle.qgm_core.specs.declared.kinds.Distinct.TheVariants.{Preserve}
 use Rattle.qgm_core.specs.declared.node.Node.{Node}
+use Rattle.qgm_core.specs.declared.owned.OwnedQuant.{OwnedQuant}
 use Rattle.qgm_meaning.specs.AsSets.{ReadsSets}
-use Rattle.qgm_laws.specs.Graph.{Sound}
+use Rattle.qgm_meaning.specs.Fits.{fits}
+use Rattle.qgm_meaning.specs.Meaning.{bag_in, root_bag, rows_of}
+use Rattle.qgm_meaning.specs.Satisfies.{Satisfies}
+use Rattle.qgm_meaning.specs.Searches.{bare}
+use Rattle.qgm_meaning.specs.Values.{Environment}
+use Rattle.qgm_laws.specs.Graph.{Sound, reads_in}
+use Rattle.qgm_laws.specs.Merge.{merged_in}
 use Rattle.qgm_laws.specs.Shaped.{Shaped}
+use Rattle.qgm_terms.specs.Substitution.{cell_at}
 
 -- boxes read the rows of PERMIT boxes by some and every alone
 abbrev pub PermitRead : Type 0
 PermitRead =
     (bs : List Node) (root : ℕ) → Sound bs root → Shaped bs root → (sets : ℕ → Bool) → ((n : Node) → In n bs → sets n.id ≡ true → is_permit n.parts.distinct ≡ true)
     → (n : Node) → In n bs → ReadsSets sets n
+
+-- nb is a select with the quantifiers us, rq, vs, of which rq is an F over the select nc that no other ranges over, of whichever DISTINCT; the cells of nc are bare whose columns another box than nb reads, which are boxes below nb
+pub record MergesAny (bs : List Node) (nb nc : Node) (us : List OwnedQuant) (rq : OwnedQuant) (vs : List OwnedQuant) : Type 0 where
+  pub in_b : In nb bs
+  pub in_c : In nc bs
+  pub split : nb.quants ≡ us ++ rq ∷ vs
+  pub is_f : is_F rq.kind ≡ true
+  pub over_c : rq.over ≡ nc.id
+  pub select_b : nb.parts.kind ≡ Select
+  pub select_c : nc.parts.kind ≡ Select
+  pub one_use : times nc.id (overs_in bs) ≡ 1
+  pub naked : (y : Node) → In y bs → (y.id == nb.id) ≡ false → (k : ℕ) → reads_in rq.id k y ≡ true → bare (cell_at k nc.parts.head) ≡ true
+
+-- nb is PERMIT; over tables that satisfy the bases, in the environments that evaluation meets, the rows of nb are clean, and those of nc without DISTINCT
+pub record MergesPermit (bs : List Node) (nb nc : Node) (us : List OwnedQuant) (rq : OwnedQuant) (vs : List OwnedQuant) : Type 0 where
+  pub any : MergesAny bs nb nc us rq vs
+  pub permitted : is_permit nb.parts.distinct ≡ true
+  pub clean : (tables : List Table) → Satisfies tables bs → (e : Environment) → fits (bag_in tables bs) bs e ≡ true → is_clean (bag_in tables bs nb.id e) ≡ true
+  pub clean_below : (tables : List Table) → Satisfies tables bs → (e : Environment) → fits (bag_in tables bs) bs e ≡ true → is_clean (rows_of tables (with_distinct Preserve nc) (bag_in tables bs) e) ≡ true
+
+-- h is sound; over tables that satisfy the bases of g the roots' bags agree; output names and order keys stay
+pub record KeepsOver (g h : QueryGraph) : Type 0 where
+  pub well : Sound h.boxes h.root
+  pub bag : (tables : List Table) → Satisfies tables g.boxes → Agree same_cells (root_bag tables h) (root_bag tables g)
+  pub names : h.names ≡ g.names
+  pub order : h.order ≡ g.order
+
+-- M1 keeps all there
+abbrev pub MergePermitKeeps : Type 0
+MergePermitKeeps =
+    (g : QueryGraph) → Sound g.boxes g.root → Shaped g.boxes g.root → (b c : Node) (us : List OwnedQuant) (rq : OwnedQuant) (vs : List OwnedQuant)
+    → MergesPermit g.boxes b c us rq vs → KeepsOver g (merged_in b c us rq vs g)
