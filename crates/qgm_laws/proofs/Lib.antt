@@ -57,3 +57,4 @@ pub mod FreeMerged
 pub mod ShapedMerged
 pub mod ShapedDistinct
 pub mod PermitRead
+pub mod MergePermit
