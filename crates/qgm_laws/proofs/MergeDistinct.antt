@@ -305,6 +305,12 @@ module _ (bs : List Node) (root : ℕ) (w : Sound bs root) (b c : Node) (us : Li
         let y = in-map g n bs i in
         subst (λ (z : Node). Agree same_cells (rows_of tables z f' e) (f' z.id e)) y.1.1 (subst (λ x. Agree same_cells (rows_of tables (g y.0) f' e) (f' x e)) (sym (by-all c.id (λ n. n.id) (λ y. refl) y.0)) (at-box k y.0 y.1.0 e))))) root sound.rooted e refl))
 
+-- the graph after M1 is sound, of whichever DISTINCT the two are
+pub merge-any-sound : (h : QueryGraph) → Sound h.boxes h.root → (b c : Node) (us : List OwnedQuant) (rq : OwnedQuant) (vs : List OwnedQuant) → MergesAny h.boxes b c us rq vs → Sound (merged_in b c us rq vs h).boxes h.root
+merge-any-sound h w b c us rq vs m =
+    subst (λ z. Sound (compact (on_boxes (λ bs. map (merge_node b.id rq.id c (us ++ (c.quants ++ vs))) z) h)).boxes h.root) (without-map c.id h.boxes w.ordered)
+    (merge-keeps (on_boxes (map (loosened c.id)) h) (sound h.boxes h.root w b c us rq vs m) b (with_distinct Preserve c) us rq vs (merges h.boxes h.root w b c us rq vs m)).well
+
 pub merge-distinct-keeps : (h : QueryGraph) → Sound h.boxes h.root → (b c : Node) (us : List OwnedQuant) (rq : OwnedQuant) (vs : List OwnedQuant) → MergesDistinct h.boxes b c us rq vs → Keeps h (merged_in b c us rq vs h)
 merge-distinct-keeps h w b c us rq vs m =
     let a = any-of h.boxes b c us rq vs m in

@@ -1,9 +1,8 @@
 -- M1 at a PERMIT select keeps the root's bag, where rows are clean.
-use Rattle.std.proofs.Common.{ℕ, ◌==◌, ◌≡◌, ◌&&◌, ◌||◌, ◌≤◌, arith, cond, Bool, true, false, List, [], ◌∷◌, ◌++◌, map, refl, sym, ap, ap₂, subst, ◌∙◌, eqb-true, ◌⊎◌, inl, inr}
-use Rattle.std.specs.List.{list_all, list_any}
-use Rattle.std.proofs.lemmas.Bool.{and_from, and_parts, cases_Bool, eq-eqb}
+use Rattle.std.proofs.Common.{ℕ, ◌==◌, ◌≡◌, ◌&&◌, ◌≤◌, arith, cond, Bool, true, false, List, [], ◌∷◌, ◌++◌, map, refl, sym, ap, subst, ◌∙◌, eqb-true, ◌⊎◌, inl, inr}
+use Rattle.std.proofs.lemmas.Bool.{and_from, and_parts, cases_Bool}
 use mathlib.Core.Path.{fun_ext}
-use Rattle.row_bag.specs.AsSets.{AgreeAsSets, is_clean, is_decided, stands}
+use Rattle.row_bag.specs.AsSets.{AgreeAsSets, is_clean, is_decided}
 use Rattle.row_bag.specs.Bags.{Agree, bind, if_there, keep, row}
 use Rattle.row_bag.specs.Sets.{same_cells}
 use Rattle.row_bag.specs.Verdict.{is_there}
@@ -43,7 +42,7 @@ use Rattle.qgm_laws.specs.Graph.{Sound}
 use Rattle.qgm_laws.specs.Merge.{merge_node, merged_in}
 use Rattle.qgm_laws.specs.MergePermit.{KeepsOver, MergesAny, MergesPermit}
 use Rattle.qgm_laws.specs.Shaped.{Shaped}
-use Rattle.qgm_laws.proofs.Lists.{all-from, all-in, any-from, any-in, clash, eq-false-sym, eq-itself, in-append, in-left, in-map, in-right, map-in}
+use Rattle.qgm_laws.proofs.Lists.{all-from, all-in, any-from, any-in, clash, eq-itself, in-append, in-left, in-map, in-right, map-in}
 use Rattle.qgm_laws.proofs.MergeDistinct as one
 use Rattle.qgm_laws.proofs.MergeDistinct.{by-all, each-levels, loosened, without-map}
 use Rattle.qgm_laws.proofs.PermitRead.{permit-read}

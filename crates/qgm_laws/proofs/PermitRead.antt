@@ -1,21 +1,20 @@
 -- The rows of PERMIT boxes are read by some and every alone.
 use Rattle.std.specs.Prelude.{not as no}
-use Rattle.std.proofs.Common.{ℕ, ◌==◌, ◌≡◌, ◌&&◌, ◌||◌, ◌≤◌, arith, Bool, true, false, List, [], ◌∷◌, ◌++◌, Some, refl, sym, ap, ap₂, subst, ◌∙◌, eqb-true, inl, inr}
-use Rattle.std.specs.List.{flat_map, list_all, list_any}
+use Rattle.std.proofs.Common.{ℕ, ◌==◌, ◌≡◌, ◌&&◌, ◌||◌, ◌≤◌, arith, Bool, true, false, List, ◌++◌, Some, refl, sym, ap, ap₂, subst, ◌∙◌, eqb-true, inl, inr}
+use Rattle.std.specs.List.{flat_map, list_any}
 use Rattle.std.proofs.lemmas.Bool.{and_parts, cases_Bool}
 use Rattle.qgm_core.specs.Boxes.{ids_of, is_quant}
-use Rattle.qgm_core.specs.Kinds.{is_F, is_F_or_S, is_S, is_permit, is_select}
+use Rattle.qgm_core.specs.Kinds.{is_F, is_F_or_S, is_S, is_permit}
 use Rattle.qgm_core.specs.Lists.{In, first, times}
 use Rattle.qgm_core.specs.declared.node.Node.{Node}
-use Rattle.qgm_core.specs.declared.owned.OwnedQuant.{OwnedQuant}
 use Rattle.qgm_terms.specs.Gathered.{listed_arms}
 use Rattle.qgm_terms.specs.Named.{nodes_in, nodes_in_cond}
 use Rattle.qgm_terms.specs.Named as named
 use Rattle.qgm_terms.specs.Terms.{Term, int, text, null_int, null_text, col, both, minus_of, choose, count_all, fold, scalar, Arms, no_arm, arm, Cond, always, compare, is_null, and, or, not, some, every}
 use Rattle.qgm_terms.specs.declared.named.QuantNode.{QuantNode}
 use Rattle.qgm_terms.specs.declared.named.QuantNode.TheVariants as node
-use Rattle.qgm_check.specs.Shapes.{columns_placed, is_scalar, kind_fits, node_fits, nodes_of}
-use Rattle.qgm_meaning.specs.AsSets.{ReadsSets, SeesNoSet, is_S_found, scalar_in, scalar_in_arms, scalar_in_cond}
+use Rattle.qgm_check.specs.Shapes.{node_fits, nodes_of}
+use Rattle.qgm_meaning.specs.AsSets.{ReadsSets, is_S_found, scalar_in, scalar_in_arms, scalar_in_cond}
 use Rattle.qgm_meaning.proofs.Seen.{reads-what_it_sees}
 use Rattle.qgm_laws.specs.Graph.{Sound}
 use Rattle.qgm_laws.specs.Shaped.{Shaped}

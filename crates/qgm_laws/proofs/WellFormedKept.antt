@@ -10,16 +10,17 @@ use Rattle.qgm_laws.specs.Drop.{MayDrop, dropped}
 use Rattle.qgm_laws.specs.Graph.{Sound}
 use Rattle.qgm_laws.specs.Merge.{Merges, merged_in}
 use Rattle.qgm_laws.specs.MergeDistinct.{MergesDistinct}
+use Rattle.qgm_laws.specs.MergePermit.{MergeAny, MergesAny}
 use Rattle.qgm_laws.specs.MergeShaped.{MergeFits}
 use Rattle.qgm_laws.proofs.Compact.{compact-sound}
 use Rattle.qgm_laws.proofs.Formed.{sound-checked}
-use Rattle.qgm_laws.proofs.MergeDistinct.{merge-distinct-keeps}
+use Rattle.qgm_laws.proofs.MergeDistinct.{any-of, merge-any-sound}
 use Rattle.qgm_laws.proofs.Rules.{drop-keeps, merge-keeps}
-use Rattle.qgm_laws.proofs.ShapedDistinct.{merge-distinct-shaped}
+use Rattle.qgm_laws.proofs.ShapedDistinct.{merge-any-shaped}
 use Rattle.qgm_laws.proofs.ShapedKept.{shaped-compact}
 use Rattle.qgm_laws.proofs.ShapedMerged.{merge-shaped}
 use Rattle.qgm_laws.proofs.ShapedMoved.{drop-shaped}
-use Rattle.qgm_laws.proofs.TypedDistinct.{merge-distinct-typed}
+use Rattle.qgm_laws.proofs.TypedDistinct.{merge-any-typed}
 use Rattle.qgm_laws.proofs.TypedKept.{typed-compact}
 use Rattle.qgm_laws.proofs.TypedMerged.{merge-typed}
 use Rattle.qgm_laws.proofs.TypedMoved.{drop-typed}
@@ -52,9 +53,15 @@ merge-formed g u f b c us rq vs m k =
     let w : Sound h.boxes g.root = (merge-keeps g p.0 b c us rq vs m).well in
     (sound-checked h (numbers-once h.boxes w.ordered)).1 (w, merge-typed g p.0 p.1 b c us rq vs m, merge-shaped g p.0 p.2 b c us rq vs m k)
 
-pub merge-distinct-formed : (g : QueryGraph) → EachOnce (numbers g.boxes) → fault g ≡ None → (b c : Node) (us : List OwnedQuant) (rq : OwnedQuant) (vs : List OwnedQuant) → MergesDistinct g.boxes b c us rq vs → MergeFits g b c us rq vs → fault (merged_in b c us rq vs g) ≡ None
-merge-distinct-formed g u f b c us rq vs m k =
+pub merge-any-formed : (g : QueryGraph) → EachOnce (numbers g.boxes) → fault g ≡ None → (b c : Node) (us : List OwnedQuant) (rq : OwnedQuant) (vs : List OwnedQuant) → MergesAny g.boxes b c us rq vs → MergeFits g b c us rq vs → fault (merged_in b c us rq vs g) ≡ None
+merge-any-formed g u f b c us rq vs m k =
     let p = (sound-checked g u).0 f in
     let h : QueryGraph = merged_in b c us rq vs g in
-    let w : Sound h.boxes g.root = (merge-distinct-keeps g p.0 b c us rq vs m).well in
-    (sound-checked h (numbers-once h.boxes w.ordered)).1 (w, merge-distinct-typed g p.0 p.1 b c us rq vs m, merge-distinct-shaped g p.0 p.2 b c us rq vs m k)
+    let w : Sound h.boxes g.root = merge-any-sound g p.0 b c us rq vs m in
+    (sound-checked h (numbers-once h.boxes w.ordered)).1 (w, merge-any-typed g p.0 p.1 b c us rq vs m, merge-any-shaped g p.0 p.2 b c us rq vs m k)
+
+pub merge-any : MergeAny
+merge-any = record { typed = merge-any-typed; shaped = merge-any-shaped; formed = merge-any-formed }
+
+pub merge-distinct-formed : (g : QueryGraph) → EachOnce (numbers g.boxes) → fault g ≡ None → (b c : Node) (us : List OwnedQuant) (rq : OwnedQuant) (vs : List OwnedQuant) → MergesDistinct g.boxes b c us rq vs → MergeFits g b c us rq vs → fault (merged_in b c us rq vs g) ≡ None
+merge-distinct-formed g u f b c us rq vs m k = merge-any-formed g u f b c us rq vs (any-of g.boxes b c us rq vs m) k

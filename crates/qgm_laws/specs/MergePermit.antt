@@ -1,13 +1,14 @@
 -- M1 at a PERMIT select: the select below may be ENFORCE too, where rows are clean.
-use Rattle.std.specs.Prelude.{ℕ, ◌≡◌, ◌==◌, ◌++◌, Bool, true, false, List, ◌∷◌}
+use Rattle.std.specs.Prelude.{ℕ, ◌≡◌, ◌==◌, ◌++◌, Bool, true, false, List, ◌∷◌, None}
 use Rattle.row_bag.specs.AsSets.{is_clean}
 use Rattle.row_bag.specs.Bags.{Agree}
 use Rattle.row_bag.specs.Sets.{same_cells}
 use Rattle.row_bag.specs.declared.tables.Table.{Table}
-use Rattle.qgm_core.specs.Boxes.{QueryGraph, overs_in}
+use Rattle.qgm_check.specs.WellFormed.{fault}
+use Rattle.qgm_core.specs.Boxes.{QueryGraph, numbers, overs_in}
 use Rattle.qgm_core.specs.Edits.{with_distinct}
 use Rattle.qgm_core.specs.Kinds.{is_F, is_permit}
-use Rattle.qgm_core.specs.Lists.{In, times}
+use Rattle.qgm_core.specs.Lists.{EachOnce, In, times}
 use Rattle.qgm_core.specs.declared.kinds.BoxKind.TheVariants.{Select}
 use Rattle.qgm_core.specs.declared.kinds.Distinct.TheVariants.{Preserve}
 use Rattle.qgm_core.specs.declared.node.Node.{Node}
@@ -20,7 +21,8 @@ use Rattle.qgm_meaning.specs.Searches.{bare}
 use Rattle.qgm_meaning.specs.Values.{Environment}
 use Rattle.qgm_laws.specs.Graph.{Sound, reads_in}
 use Rattle.qgm_laws.specs.Merge.{merged_in}
-use Rattle.qgm_laws.specs.Shaped.{Shaped}
+use Rattle.qgm_laws.specs.MergeShaped.{MergeFits}
+use Rattle.qgm_laws.specs.Shaped.{Shaped, Typed}
 use Rattle.qgm_terms.specs.Substitution.{cell_at}
 
 -- boxes read the rows of PERMIT boxes by some and every alone
@@ -60,3 +62,9 @@ abbrev pub MergePermitKeeps : Type 0
 MergePermitKeeps =
     (g : QueryGraph) → Sound g.boxes g.root → Shaped g.boxes g.root → (b c : Node) (us : List OwnedQuant) (rq : OwnedQuant) (vs : List OwnedQuant)
     → MergesPermit g.boxes b c us rq vs → KeepsOver g (merged_in b c us rq vs g)
+
+-- types agree, shapes stay, and the check finds nothing more, of whichever DISTINCT the two are
+pub record MergeAny : Type 0 where
+  pub typed : (g : QueryGraph) → Sound g.boxes g.root → Typed g.boxes → (b c : Node) (us : List OwnedQuant) (rq : OwnedQuant) (vs : List OwnedQuant) → MergesAny g.boxes b c us rq vs → Typed (merged_in b c us rq vs g).boxes
+  pub shaped : (g : QueryGraph) → Sound g.boxes g.root → Shaped g.boxes g.root → (b c : Node) (us : List OwnedQuant) (rq : OwnedQuant) (vs : List OwnedQuant) → MergesAny g.boxes b c us rq vs → MergeFits g b c us rq vs → Shaped (merged_in b c us rq vs g).boxes g.root
+  pub formed : (g : QueryGraph) → EachOnce (numbers g.boxes) → fault g ≡ None → (b c : Node) (us : List OwnedQuant) (rq : OwnedQuant) (vs : List OwnedQuant) → MergesAny g.boxes b c us rq vs → MergeFits g b c us rq vs → fault (merged_in b c us rq vs g) ≡ None

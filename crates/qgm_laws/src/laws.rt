@@ -3,6 +3,7 @@ ghost use Rattle.qgm_laws.specs.Asked.{Pushed, Singled};
 ghost use Rattle.qgm_laws.specs.EditLaws.{EditsPlaced, NewPlaced};
 ghost use Rattle.qgm_laws.specs.Examples.{Dropped, Same};
 ghost use Rattle.qgm_laws.specs.MergeDistinct.{MergeDistinctKeeps};
+ghost use Rattle.qgm_laws.specs.MergePermit.{MergeAny, MergePermitKeeps, PermitRead};
 ghost use Rattle.qgm_laws.specs.MergeShaped.{MergeDistinctShaped, MergeDistinctWellFormed, MergeShaped, MergeWellFormed};
 ghost use Rattle.qgm_laws.specs.MergeTyped.{MergeDistinctTyped, MergeTyped};
 ghost use Rattle.qgm_laws.specs.Push.{PushKeeps};
@@ -12,7 +13,7 @@ ghost use Rattle.qgm_laws.specs.Facts.{FactsOfAgreeing, LooksStay};
 ghost use Rattle.qgm_laws.specs.Single.{SingleDiffers, SingleKeeps};
 ghost use Rattle.qgm_laws.specs.Laws.{BoundAbove, CheckedFromSound, CompactKeeps, DropKeeps, KeepsChained, MergeKeeps, SettledFromChecked};
 
-/// What a box looks up is bound above it; steps that keep all chain; dropping boxes that aren't reached, M2, M1 (at an ENFORCE box over an ENFORCE box too), U2 and P1 keep all; what is tested of columns that are read is what rules take. It does nothing.
+/// What a box looks up is bound above it; steps that keep all chain; dropping boxes that aren't reached, M2, M1 (at an ENFORCE box over an ENFORCE box too, and at a PERMIT box where rows are clean), U2 and P1 keep all; what is tested of columns that are read is what rules take. It does nothing.
 pub fn rewriting_laws()
     ensures bound_above { BoundAbove }
     ensures chained { KeepsChained }
@@ -20,6 +21,7 @@ pub fn rewriting_laws()
     ensures drop { DropKeeps }
     ensures merge { MergeKeeps }
     ensures merge_distinct { MergeDistinctKeeps }
+    ensures merge_permit { MergePermitKeeps }
     ensures single { SingleKeeps }
     ensures differs { SingleDiffers }
     ensures push { PushKeeps }
@@ -49,7 +51,7 @@ pub fn sound_laws()
     ensures looks { LooksStay }
 {}
 
-/// What rules need of a graph, with types that agree and shapes, is what the check of a graph finds; so it is for the three clauses that every edit keeps; where boxes that aren't reached go, under M2 and under M1 shapes stay, types agree and the check finds nothing more; types agree under P1. It does nothing.
+/// What rules need of a graph, with types that agree and shapes, is what the check of a graph finds; so it is for the three clauses that every edit keeps; where boxes that aren't reached go, under M2 and under M1 shapes stay, types agree and the check finds nothing more; types agree under P1; the rows of PERMIT boxes are read by some and every alone. It does nothing.
 pub fn checked_laws()
     ensures placed { PlacedIsChecked }
     ensures sound { SoundIsChecked }
@@ -66,4 +68,6 @@ pub fn checked_laws()
     ensures merge_distinct { MergeDistinctShaped }
     ensures merge_distinct_typed { MergeDistinctTyped }
     ensures merge_distinct_formed { MergeDistinctWellFormed }
+    ensures merge_any { MergeAny }
+    ensures permit_read { PermitRead }
 {}

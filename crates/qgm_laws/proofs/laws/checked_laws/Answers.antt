@@ -1,5 +1,6 @@
 use Rattle.qgm_laws.proofs.Formed.{placed-checked, sound-checked}
 use Rattle.qgm_laws.proofs.ShapedKept.{shaped-compact}
+use Rattle.qgm_laws.proofs.PermitRead.{permit-read}
 use Rattle.qgm_laws.proofs.ShapedDistinct.{merge-distinct-shaped}
 use Rattle.qgm_laws.proofs.ShapedMerged.{merge-shaped}
 use Rattle.qgm_laws.proofs.ShapedMoved.{drop-shaped}
@@ -8,7 +9,7 @@ use Rattle.qgm_laws.proofs.TypedMoved.{drop-typed}
 use Rattle.qgm_laws.proofs.TypedDistinct.{merge-distinct-typed}
 use Rattle.qgm_laws.proofs.TypedMerged.{merge-typed}
 use Rattle.qgm_laws.proofs.TypedPushed.{typed-pushed}
-use Rattle.qgm_laws.proofs.WellFormedKept.{compact-formed, drop-formed, merge-distinct-formed, merge-formed}
+use Rattle.qgm_laws.proofs.WellFormedKept.{compact-formed, drop-formed, merge-any, merge-distinct-formed, merge-formed}
 use Rattle.qgm_laws.proofs.laws.checked_laws.Goals as goal
 
 pub returns-clause-placed : goal.returns-clause-placed
@@ -55,3 +56,9 @@ returns-clause-merge_distinct c = merge-distinct-shaped
 
 pub returns-clause-merge_distinct_formed : goal.returns-clause-merge_distinct_formed
 returns-clause-merge_distinct_formed c = merge-distinct-formed
+
+pub returns-clause-merge_any : goal.returns-clause-merge_any
+returns-clause-merge_any c = merge-any
+
+pub returns-clause-permit_read : goal.returns-clause-permit_read
+returns-clause-permit_read c = λ bs root w s sets h n i. permit-read bs root w s n i sets h
