@@ -66,5 +66,9 @@ MergePermitKeeps =
 -- types agree, shapes stay, and the check finds nothing more, of whichever DISTINCT the two are
 pub record MergeAny : Type 0 where
   pub typed : (g : QueryGraph) → Sound g.boxes g.root → Typed g.boxes → (b c : Node) (us : List OwnedQuant) (rq : OwnedQuant) (vs : List OwnedQuant) → MergesAny g.boxes b c us rq vs → Typed (merged_in b c us rq vs g).boxes
-  pub shaped : (g : QueryGraph) → Sound g.boxes g.root → Shaped g.boxes g.root → (b c : Node) (us : List OwnedQuant) (rq : OwnedQuant) (vs : List OwnedQuant) → MergesAny g.boxes b c us rq vs → MergeFits g b c us rq vs → Shaped (merged_in b c us rq vs g).boxes g.root
-  pub formed : (g : QueryGraph) → EachOnce (numbers g.boxes) → fault g ≡ None → (b c : Node) (us : List OwnedQuant) (rq : OwnedQuant) (vs : List OwnedQuant) → MergesAny g.boxes b c us rq vs → MergeFits g b c us rq vs → fault (merged_in b c us rq vs g) ≡ None
+  pub shaped :
+      (g : QueryGraph) → Sound g.boxes g.root → Shaped g.boxes g.root → (b c : Node) (us : List OwnedQuant) (rq : OwnedQuant) (vs : List OwnedQuant)
+      → MergesAny g.boxes b c us rq vs → MergeFits g b c us rq vs → Shaped (merged_in b c us rq vs g).boxes g.root
+  pub formed :
+      (g : QueryGraph) → EachOnce (numbers g.boxes) → fault g ≡ None → (b c : Node) (us : List OwnedQuant) (rq : OwnedQuant) (vs : List OwnedQuant)
+      → MergesAny g.boxes b c us rq vs → MergeFits g b c us rq vs → fault (merged_in b c us rq vs g) ≡ None
