@@ -33,14 +33,16 @@ use Rattle.qgm_meaning.specs.Fits.{fits}
 use Rattle.qgm_meaning.specs.Laws.{AllStay, Stays, occurs}
 use Rattle.qgm_meaning.specs.Meaning.{Family, bag_in, given_by, once_if, over_each, quant_rows, root_bag, rows_by, rows_found, rows_of}
 use Rattle.qgm_meaning.specs.Satisfies.{Satisfies}
+use Rattle.qgm_meaning.specs.Scope.{loose, loose_by, loose_each}
 use Rattle.qgm_meaning.specs.Values.{Bag, Environment, bound}
 use Rattle.qgm_meaning.proofs.AsSets.{agree-as, only-sets}
 use Rattle.qgm_meaning.proofs.Fitting.{hereditary}
+use Rattle.qgm_meaning.proofs.Frames.{bag-framed, over_each-framed}
 use Rattle.qgm_meaning.proofs.Satisfying.{of-satisfying}
 use Rattle.qgm_meaning.proofs.Unfold.{rows-local}
 use Rattle.qgm_laws.specs.Graph.{Sound}
 use Rattle.qgm_laws.specs.Merge.{merge_node, merged_in}
-use Rattle.qgm_laws.specs.MergePermit.{KeepsOver, MergesAny, MergesPermit}
+use Rattle.qgm_laws.specs.MergePermit.{KeepsOver, MergesAny, MergesClosed, MergesPermit}
 use Rattle.qgm_laws.specs.Shaped.{Shaped}
 use Rattle.qgm_laws.proofs.Lists.{all-from, all-in, any-from, any-in, clash, eq-itself, in-append, in-left, in-map, in-right, map-in}
 use Rattle.qgm_laws.proofs.MergeDistinct as one
@@ -48,7 +50,7 @@ use Rattle.qgm_laws.proofs.MergeDistinct.{by-all, each-levels, loosened, without
 use Rattle.qgm_laws.proofs.PermitRead.{permit-read}
 use Rattle.qgm_laws.proofs.Ranks.{same-box}
 use Rattle.qgm_laws.proofs.Rules.{merge-keeps, same-agree}
-use Rattle.qgm_laws.proofs.Scope.{unfold-bag}
+use Rattle.qgm_laws.proofs.Scope.{unfold-bag, unfold-loose}
 use Rattle.qgm_laws.proofs.Times.{times-in}
 use Rattle.qgm_laws.proofs.Turns.{first-own}
 use Rattle.qgm_laws.proofs.Widths.{filled-map}
@@ -314,3 +316,18 @@ merge-permit-keeps h w s b c us rq vs m =
       names = refl;
       order = refl;
     })
+
+-- boxes that look nothing up have the same rows in each environment
+pub closed-merges : (bs : List Node) (root : ℕ) → Sound bs root → (b c : Node) (us : List OwnedQuant) (rq : OwnedQuant) (vs : List OwnedQuant) → MergesClosed bs b c us rq vs → MergesPermit bs b c us rq vs
+closed-merges bs root w b c us rq vs m = record {
+  any = m.any;
+  permitted = m.permitted;
+  clean = λ tables sat e p. ap is_clean (bag-framed tables bs b.id e [] (record { rows = λ q l. absurd (clash (loose bs b.id q) l (m.closed q)) })) ∙ m.clean tables sat;
+  clean_below = λ tables sat e p. ap is_clean (
+  ap (λ z. rows_by z tables (with_distinct Preserve c) (quant_rows c (bag_in tables bs)) e) m.any.select_c
+  ∙ over_each-framed c (bag_in tables bs) (loose bs) (bag-framed tables bs) c.quants e [] (record { rows = λ q l. absurd (clash (loose bs c.id q) (below q l) (m.closed_below q)) })
+  ∙ sym (ap (λ z. rows_by z tables (with_distinct Preserve c) (quant_rows c (bag_in tables bs)) []) m.any.select_c)) ∙ m.clean_below tables sat;
+}
+  where
+    below : (q : ℕ) → loose_each c.quants c (loose bs) q ≡ true → loose bs c.id q ≡ true
+    below q l = ap (λ (h : ℕ → Bool). h q) (unfold-loose bs c w.ordered m.any.in_c) ∙ ap (λ z. loose_by z c (loose bs) q) m.any.select_c ∙ l

@@ -1,5 +1,5 @@
 -- M1 at a PERMIT select: the select below may be ENFORCE too, where rows are clean.
-use Rattle.std.specs.Prelude.{ℕ, ◌≡◌, ◌==◌, ◌++◌, Bool, true, false, List, ◌∷◌, None}
+use Rattle.std.specs.Prelude.{ℕ, ◌≡◌, ◌==◌, ◌++◌, Bool, true, false, List, [], ◌∷◌, None}
 use Rattle.row_bag.specs.AsSets.{is_clean}
 use Rattle.row_bag.specs.Bags.{Agree}
 use Rattle.row_bag.specs.Sets.{same_cells}
@@ -17,6 +17,7 @@ use Rattle.qgm_meaning.specs.AsSets.{ReadsSets}
 use Rattle.qgm_meaning.specs.Fits.{fits}
 use Rattle.qgm_meaning.specs.Meaning.{bag_in, root_bag, rows_of}
 use Rattle.qgm_meaning.specs.Satisfies.{Satisfies}
+use Rattle.qgm_meaning.specs.Scope.{loose}
 use Rattle.qgm_meaning.specs.Searches.{bare}
 use Rattle.qgm_meaning.specs.Values.{Environment}
 use Rattle.qgm_laws.specs.Graph.{Sound, reads_in}
@@ -49,6 +50,19 @@ pub record MergesPermit (bs : List Node) (nb nc : Node) (us : List OwnedQuant) (
   pub permitted : is_permit nb.parts.distinct ≡ true
   pub clean : (tables : List Table) → Satisfies tables bs → (e : Environment) → fits (bag_in tables bs) bs e ≡ true → is_clean (bag_in tables bs nb.id e) ≡ true
   pub clean_below : (tables : List Table) → Satisfies tables bs → (e : Environment) → fits (bag_in tables bs) bs e ≡ true → is_clean (rows_of tables (with_distinct Preserve nc) (bag_in tables bs) e) ≡ true
+
+-- the same of boxes that look nothing up: nb is PERMIT, and without bindings its rows are clean, and those of nc without DISTINCT
+pub record MergesClosed (bs : List Node) (nb nc : Node) (us : List OwnedQuant) (rq : OwnedQuant) (vs : List OwnedQuant) : Type 0 where
+  pub any : MergesAny bs nb nc us rq vs
+  pub permitted : is_permit nb.parts.distinct ≡ true
+  pub closed : (q : ℕ) → loose bs nb.id q ≡ false
+  pub closed_below : (q : ℕ) → loose bs nc.id q ≡ false
+  pub clean : (tables : List Table) → Satisfies tables bs → is_clean (bag_in tables bs nb.id []) ≡ true
+  pub clean_below : (tables : List Table) → Satisfies tables bs → is_clean (rows_of tables (with_distinct Preserve nc) (bag_in tables bs) []) ≡ true
+
+-- what is asked of the rows of such boxes without bindings is so in each environment
+abbrev pub ClosedMerges : Type 0
+ClosedMerges = (bs : List Node) (root : ℕ) → Sound bs root → (b c : Node) (us : List OwnedQuant) (rq : OwnedQuant) (vs : List OwnedQuant) → MergesClosed bs b c us rq vs → MergesPermit bs b c us rq vs
 
 -- h is sound; over tables that satisfy the bases of g the roots' bags agree; output names and order keys stay
 pub record KeepsOver (g h : QueryGraph) : Type 0 where

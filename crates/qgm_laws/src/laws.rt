@@ -3,7 +3,7 @@ ghost use Rattle.qgm_laws.specs.Asked.{Pushed, Singled};
 ghost use Rattle.qgm_laws.specs.EditLaws.{EditsPlaced, NewPlaced};
 ghost use Rattle.qgm_laws.specs.Examples.{Dropped, Same};
 ghost use Rattle.qgm_laws.specs.MergeDistinct.{MergeDistinctKeeps};
-ghost use Rattle.qgm_laws.specs.MergePermit.{MergeAny, MergePermitKeeps, PermitRead};
+ghost use Rattle.qgm_laws.specs.MergePermit.{ClosedMerges, MergeAny, MergePermitKeeps, PermitRead};
 ghost use Rattle.qgm_laws.specs.MergeShaped.{MergeDistinctShaped, MergeDistinctWellFormed, MergeShaped, MergeWellFormed};
 ghost use Rattle.qgm_laws.specs.MergeTyped.{MergeDistinctTyped, MergeTyped};
 ghost use Rattle.qgm_laws.specs.Push.{PushKeeps};
@@ -22,6 +22,7 @@ pub fn rewriting_laws()
     ensures merge { MergeKeeps }
     ensures merge_distinct { MergeDistinctKeeps }
     ensures merge_permit { MergePermitKeeps }
+    ensures merge_closed { ClosedMerges }
     ensures single { SingleKeeps }
     ensures differs { SingleDiffers }
     ensures push { PushKeeps }

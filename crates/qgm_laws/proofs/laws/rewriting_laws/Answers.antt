@@ -4,7 +4,7 @@ use Rattle.qgm_laws.proofs.Compact.{compact-bag}
 use Rattle.qgm_laws.proofs.Examples.{dropped-example}
 use Rattle.qgm_laws.proofs.Rules.{compact-keeps, drop-keeps, keeps-chained, merge-keeps}
 use Rattle.qgm_laws.proofs.Asked.{pushed-example, singled-example}
-use Rattle.qgm_laws.proofs.MergePermit.{merge-permit-keeps}
+use Rattle.qgm_laws.proofs.MergePermit.{closed-merges, merge-permit-keeps}
 use Rattle.qgm_laws.proofs.MergeDistinct.{merge-distinct-keeps}
 use Rattle.qgm_laws.proofs.PushRule.{push-keeps}
 use Rattle.qgm_laws.proofs.SingleRule.{single-keeps}
@@ -58,3 +58,6 @@ returns-clause-merge_distinct c = merge-distinct-keeps
 
 pub returns-clause-merge_permit : goal.returns-clause-merge_permit
 returns-clause-merge_permit c = merge-permit-keeps
+
+pub returns-clause-merge_closed : goal.returns-clause-merge_closed
+returns-clause-merge_closed c = closed-merges
