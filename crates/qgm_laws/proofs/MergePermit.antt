@@ -324,9 +324,9 @@ closed-merges bs root w b c us rq vs m = record {
   permitted = m.permitted;
   clean = λ tables sat e p. ap is_clean (bag-framed tables bs b.id e [] (record { rows = λ q l. absurd (clash (loose bs b.id q) l (m.closed q)) })) ∙ m.clean tables sat;
   clean_below = λ tables sat e p. ap is_clean (
-  ap (λ z. rows_by z tables (with_distinct Preserve c) (quant_rows c (bag_in tables bs)) e) m.any.select_c
-  ∙ over_each-framed c (bag_in tables bs) (loose bs) (bag-framed tables bs) c.quants e [] (record { rows = λ q l. absurd (clash (loose bs c.id q) (below q l) (m.closed_below q)) })
-  ∙ sym (ap (λ z. rows_by z tables (with_distinct Preserve c) (quant_rows c (bag_in tables bs)) []) m.any.select_c)) ∙ m.clean_below tables sat;
+      ap (λ z. rows_by z tables (with_distinct Preserve c) (quant_rows c (bag_in tables bs)) e) m.any.select_c
+      ∙ over_each-framed c (bag_in tables bs) (loose bs) (bag-framed tables bs) c.quants e [] (record { rows = λ q l. absurd (clash (loose bs c.id q) (below q l) (m.closed_below q)) })
+      ∙ sym (ap (λ z. rows_by z tables (with_distinct Preserve c) (quant_rows c (bag_in tables bs)) []) m.any.select_c)) ∙ m.clean_below tables sat;
 }
   where
     below : (q : ℕ) → loose_each c.quants c (loose bs) q ≡ true → loose bs c.id q ≡ true
