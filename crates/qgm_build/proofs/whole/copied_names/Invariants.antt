@@ -1,5 +1,5 @@
 use Rattle.std.proofs.Common.{◌≡◌, ◌++◌, ◌+◌, drop, filter, length, map}
-use Rattle.qgm_build.proofs.build.copied_names.Given as goal
+use Rattle.qgm_build.proofs.whole.copied_names.Given as goal
 
 abbrev pub invariant-loop-name : goal.invariant-loop-name
 invariant-loop-name l =

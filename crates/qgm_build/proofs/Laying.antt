@@ -1,0 +1,66 @@
+-- What is laid for a checked query is what is laid for its text.
+use Rattle.std.proofs.Common.{◌≡◌, ◌++◌, ℕ, Bool, true, false, cond, List, [], ◌∷◌, map, length, Option, Some, None, refl, ap, ap₂, sym, ◌∙◌, subst, suc}
+use Rattle.sql_ast.specs.Declarations.{columns_of, table_named}
+use Rattle.sql_ast.specs.Names.{same_name}
+use Rattle.sql_ast.specs.Syntax as s
+use Rattle.sql_ast.specs.declared.schema.ColumnDecl.{ColumnDecl}
+use Rattle.sql_ast.specs.declared.schema.TableDecl.{TableDecl}
+use Rattle.sql_catalog.specs.Shown as declared
+use Rattle.sql_catalog.specs.declared.catalog.Catalog.{Catalog}
+use Rattle.sql_check.specs.Checked.{AreViews}
+use Rattle.sql_check.specs.declared.checked.Checked.{Checked}
+use Rattle.sql_check.specs.declared.checked.Views.{Views}
+use Rattle.sql_meaning.specs.ResolvedTrees.{Query}
+use Rattle.sql_meaning.specs.ResolvedViews.{ViewTree}
+use Rattle.sql_meaning.specs.Scopes.{first_of}
+use Rattle.query_checks.specs.Columns.{columns_or_none}
+use Rattle.query_checks.specs.Views.{typed, typed_columns, view_named}
+use Rattle.query_checks.specs.declared.view.ViewHead.{ViewHead}
+use Rattle.qgm_shown.specs.Lay.{Laid}
+use Rattle.qgm_shown.specs.Whole.{graph_of, lay_whole}
+use Rattle.built_queries.specs.Joined.{ValidQuery}
+use Rattle.built_queries.specs.Laid.{GraphIsRight, IsGraphOf, IsNumbered, LaidIsGraph, LaidIsNumbered, known_in, laid_for}
+use Rattle.built_queries.specs.Typing.{known_types}
+use Rattle.qgm_build.specs.Schema.{base_of, named_table, named_view, schema_named, schema_told, whole}
+use Rattle.qgm_build.specs.Setting.{named_in}
+use Rattle.qgm_build.specs.Setting as g
+use Rattle.qgm_build.specs.Valid.{IsItsGraph, IsItsRight, IsOfText, IsQueryOf}
+
+-- ---- how many columns names have
+
+typed_length : (cs : List ColumnDecl) → length cs ≡ length (known_types (map typed cs))
+typed_length [] = refl
+typed_length (c ∷ cs) = ap (λ n. suc n) (typed_length cs)
+
+view_counts : (hs : List ViewHead) (name : List ℕ) → g.columns_of (named_in (map named_view hs) name) ≡ length (known_types (columns_or_none (view_named hs name)))
+view_counts [] name = refl
+view_counts (h ∷ hs) name = elim (same_name h.name name) as (λ b. g.columns_of (cond b (Some (named_view h)) (named_in (map named_view hs) name)) ≡ length (known_types (columns_or_none (cond b (Some h.columns) (view_named hs name))))) [ true ↦ refl | false ↦ view_counts hs name ]
+
+name_counts : (ts : List TableDecl) (hs : List ViewHead) (name : List ℕ) → g.columns_of (named_in (map named_table ts ++ map named_view hs) name) ≡ length (known_types (columns_or_none (first_of (typed_columns (table_named ts name)) (view_named hs name))))
+name_counts [] hs name = view_counts hs name
+name_counts (t ∷ ts) hs name =
+    elim (same_name t.name name) as (λ b. g.columns_of (cond b (Some (named_table t)) (named_in (map named_table ts ++ map named_view hs) name)) ≡ length (known_types (columns_or_none (first_of (typed_columns (cond b (Some t) (table_named ts name))) (view_named hs name))))) [
+      true ↦ typed_length (columns_of t.elements) | false ↦ name_counts ts hs name
+    ]
+
+module _ (catalog : Catalog) (views : Views) (checked : Checked) (of : IsQueryOf (declared.catalog catalog) views checked) where
+  counts : (name : List ℕ) → (schema_told catalog views).columns name ≡ (known_in (declared.catalog catalog)).columns name
+  counts name =
+      name_counts catalog.tables views.heads.list name
+      ∙ ap (λ hs. length (known_types (columns_or_none (first_of (typed_columns (table_named catalog.tables name)) (view_named hs name))))) of.views.heads
+
+  -- ---- what is laid
+
+  whole_is : (text : s.QueryText) → IsOfText (declared.catalog catalog) checked text → whole catalog views checked ≡ laid_for (schema_told catalog views) (declared.catalog catalog) text
+  whole_is text is = ap₂ (λ (vs : List ViewTree) (x : Query). lay_whole (schema_told catalog views) (map base_of catalog.tables) vs x) of.views.bodies is.query
+
+  pub whole_numbered : LaidIsNumbered → IsNumbered (whole catalog views checked).boxes
+  whole_numbered law = subst (λ (r : Laid). IsNumbered r.boxes) (sym (whole_is of.text of.is)) (law (schema_told catalog views) (declared.catalog catalog) of.text of.is.valid counts)
+
+  pub its_graph : LaidIsGraph → IsItsGraph (declared.catalog catalog) checked (graph_of (whole catalog views checked) checked.names checked.order)
+  its_graph law text is =
+      subst (λ (r : Laid). IsGraphOf (declared.catalog catalog) text checked.names checked.order (graph_of r checked.names checked.order)) (sym (whole_is text is))
+      (law (schema_told catalog views) (declared.catalog catalog) text checked.names checked.order is.valid counts)
+
+  pub its_right : LaidIsGraph → GraphIsRight → IsItsRight (declared.catalog catalog) checked (graph_of (whole catalog views checked) checked.names checked.order)
+  its_right law right text is = right (declared.catalog catalog) text checked.names checked.order (graph_of (whole catalog views checked) checked.names checked.order) is.valid (its_graph law text is)
