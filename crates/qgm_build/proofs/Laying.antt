@@ -15,6 +15,7 @@ use Rattle.sql_meaning.specs.ResolvedViews.{ViewTree}
 use Rattle.sql_meaning.specs.Scopes.{first_of}
 use Rattle.query_checks.specs.Columns.{columns_or_none}
 use Rattle.query_checks.specs.Views.{typed, typed_columns, view_named}
+use Rattle.query_checks.specs.declared.column.TypedColumn.{TypedColumn}
 use Rattle.query_checks.specs.declared.view.ViewHead.{ViewHead}
 use Rattle.qgm_shown.specs.Lay.{Laid}
 use Rattle.qgm_shown.specs.Whole.{graph_of, lay_whole}
@@ -34,7 +35,7 @@ typed_length (c ∷ cs) = ap (λ n. suc n) (typed_length cs)
 
 view_counts : (hs : List ViewHead) (name : List ℕ) → g.columns_of (named_in (map named_view hs) name) ≡ length (known_types (columns_or_none (view_named hs name)))
 view_counts [] name = refl
-view_counts (h ∷ hs) name = elim (same_name h.name name) as (λ b. g.columns_of (cond b (Some (named_view h)) (named_in (map named_view hs) name)) ≡ length (known_types (columns_or_none (cond b (Some h.columns) (view_named hs name))))) [ true ↦ refl | false ↦ view_counts hs name ]
+view_counts (h ∷ hs) name = elim (same_name h.name name) as (λ b. g.columns_of (cond b (Some (named_view h)) (named_in (map named_view hs) name)) ≡ length (known_types (columns_or_none (elim b as (λ _. Option (List TypedColumn)) [ true ↦ Some h.columns | false ↦ view_named hs name ])))) [ true ↦ refl | false ↦ view_counts hs name ]
 
 name_counts : (ts : List TableDecl) (hs : List ViewHead) (name : List ℕ) → g.columns_of (named_in (map named_table ts ++ map named_view hs) name) ≡ length (known_types (columns_or_none (first_of (typed_columns (table_named ts name)) (view_named hs name))))
 name_counts [] hs name = view_counts hs name

@@ -14,3 +14,4 @@ mod Afters
 mod Wholes
 mod Lists
 mod Laying
+mod Turns
