@@ -23,7 +23,7 @@ held-counted x (y ∷ ys) h = by_case (y == x) h (held-counted x ys)
   where
     by_case : (b : Bool) → (b || holds x ys) ≡ true → (holds x ys ≡ true → 1 ≤ times x ys) → 1 ≤ cond {A = ℕ} b 1 0 + times x ys
     by_case true h f = omega arith
-    by_case false h f = f h
+    by_case false h f = let e = f h in omega arith
 
 itself : (x : ℕ) → (x == x) ≡ true
 itself x = let e : x ≡ x = refl in eq-eqb x x e

@@ -17,11 +17,13 @@ use Rattle.query_checks.specs.Columns.{columns_or_none}
 use Rattle.query_checks.specs.Views.{typed, typed_columns, view_named}
 use Rattle.query_checks.specs.declared.column.TypedColumn.{TypedColumn}
 use Rattle.query_checks.specs.declared.view.ViewHead.{ViewHead}
-use Rattle.qgm_shown.specs.Lay.{Laid}
+use Rattle.qgm_core.specs.Boxes.{QueryGraph}
+use Rattle.qgm_shown.specs.Lay.{Boxes, Laid}
 use Rattle.qgm_shown.specs.Whole.{graph_of, lay_whole}
 use Rattle.built_queries.specs.Joined.{ValidQuery}
 use Rattle.built_queries.specs.Laid.{GraphIsRight, IsGraphOf, IsNumbered, LaidIsGraph, LaidIsNumbered, known_in, laid_for}
 use Rattle.built_queries.specs.Typing.{known_types}
+use Rattle.qgm_build.specs.Making.{Gives, top_at}
 use Rattle.qgm_build.specs.Schema.{base_of, named_table, named_view, schema_named, schema_told, whole}
 use Rattle.qgm_build.specs.Setting.{named_in}
 use Rattle.qgm_build.specs.Setting as g
@@ -65,3 +67,20 @@ module _ (catalog : Catalog) (views : Views) (checked : Checked) (of : IsQueryOf
 
   pub its_right : LaidIsGraph → GraphIsRight → IsItsRight (declared.catalog catalog) checked (graph_of (whole catalog views checked) checked.names checked.order)
   its_right law right text is = right (declared.catalog catalog) text checked.names checked.order (graph_of (whole catalog views checked) checked.names checked.order) is.valid (its_graph law text is)
+
+  -- ---- the graph that comes of it
+
+  abbrev pub Is : QueryGraph → Type 0
+  Is x = x ≡ graph_of (whole catalog views checked) checked.names checked.order
+
+  pub graph_is : (x : QueryGraph) (b : ℕ) (s : Boxes) → Gives (whole catalog views checked) b s → x ≡ graph_of (top_at b s) checked.names checked.order → Is x
+  graph_is x b s h e = e ∙ ap₂ (λ c u. graph_of (top_at c u) checked.names checked.order) h.0 h.1
+
+  pub numbered_is : LaidIsNumbered → (b : ℕ) (s : Boxes) → Gives (whole catalog views checked) b s → IsNumbered s
+  numbered_is law b s h = subst IsNumbered (sym h.1) (whole_numbered law)
+
+  pub built_is : LaidIsGraph → (x : QueryGraph) → Is x → IsItsGraph (declared.catalog catalog) checked x
+  built_is law x e = subst (IsItsGraph (declared.catalog catalog) checked) (sym e) (its_graph law)
+
+  pub right_is : LaidIsGraph → GraphIsRight → (x : QueryGraph) → Is x → IsItsRight (declared.catalog catalog) checked x
+  right_is law right x e = subst (IsItsRight (declared.catalog catalog) checked) (sym e) (its_right law right)

@@ -14,4 +14,3 @@ mod Afters
 mod Wholes
 mod Lists
 mod Laying
-mod Turns

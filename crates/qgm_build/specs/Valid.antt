@@ -18,8 +18,8 @@ pub record IsOfText (catalog : Declared) (checked : Checked) (text : s.QueryText
   pub query : shown.query checked.query ≡ query (schema_columns catalog) [] text.query
 
 -- a checked query is one over a catalog whose views are these
-pub record IsQueryOf (catalog : Declared) (views : Views) (checked : Checked) : Type 0 where
-  pub views : AreViews catalog views
+pub record IsQueryOf (catalog : Declared) (held : Views) (checked : Checked) : Type 0 where
+  pub views : AreViews catalog held
   pub text : s.QueryText
   pub is : IsOfText catalog checked text
 
