@@ -10,22 +10,25 @@ use Rattle.sql_catalog.specs.declared.catalog.Catalog.{Catalog}
 use Rattle.sql_check.specs.Checked.{AreViews}
 use Rattle.sql_check.specs.declared.checked.Checked.{Checked}
 use Rattle.sql_check.specs.declared.checked.Views.{Views}
+use Rattle.sql_meaning.specs.ResolvedShown as shown
 use Rattle.sql_meaning.specs.ResolvedTrees.{Query}
 use Rattle.sql_meaning.specs.ResolvedViews.{ViewTree}
 use Rattle.sql_meaning.specs.Scopes.{first_of}
+use Rattle.sql_meaning.specs.declared.resolved.View.{View}
 use Rattle.query_checks.specs.Columns.{columns_or_none}
 use Rattle.query_checks.specs.Views.{typed, typed_columns, view_named}
 use Rattle.query_checks.specs.declared.column.TypedColumn.{TypedColumn}
 use Rattle.query_checks.specs.declared.view.ViewHead.{ViewHead}
 use Rattle.qgm_core.specs.Boxes.{QueryGraph}
-use Rattle.qgm_shown.specs.Lay.{Boxes, Laid}
-use Rattle.qgm_shown.specs.Whole.{graph_of, lay_whole}
+use Rattle.qgm_shown.specs.Lay.{Boxes, Laid, lay_by}
+use Rattle.qgm_shown.specs.Whole.{graph_of, lay_read, lay_whole, nothing_laid}
 use Rattle.built_queries.specs.Joined.{ValidQuery}
 use Rattle.built_queries.specs.Laid.{GraphIsRight, IsGraphOf, IsNumbered, LaidIsGraph, LaidIsNumbered, known_in, laid_for}
 use Rattle.built_queries.specs.Typing.{known_types}
 use Rattle.qgm_build.specs.Making.{Gives, top_at}
 use Rattle.qgm_build.specs.Schema.{base_of, named_table, named_view, schema_named, schema_told, whole}
-use Rattle.qgm_build.specs.Setting.{named_in}
+use Rattle.qgm_build.specs.Setting.{named_in, told_by}
+use Rattle.qgm_build.specs.declared.setting.Named.{Named}
 use Rattle.qgm_build.specs.Setting as g
 use Rattle.qgm_build.specs.Valid.{IsItsGraph, IsItsRight, IsOfText, IsQueryOf}
 
@@ -45,6 +48,22 @@ name_counts (t ∷ ts) hs name =
     elim (same_name t.name name) as (λ b. g.columns_of (cond b (Some (named_table t)) (named_in (map named_table ts ++ map named_view hs) name)) ≡ length (known_types (columns_or_none (first_of (typed_columns (cond b (Some t) (table_named ts name))) (view_named hs name))))) [
       true ↦ typed_length (columns_of t.elements) | false ↦ name_counts ts hs name
     ]
+
+-- ---- the steps of the program
+
+pub whole_steps : (catalog : Catalog) (views : Views) (checked : Checked) (named : List Named) (tables : List TableDecl) (bodies : List View) (s t u : Boxes) (b : ℕ)
+    → named ≡ schema_named catalog views → tables ≡ catalog.tables → bodies ≡ views.schema.views → s ≡ nothing_laid
+    → t ≡ lay_read (told_by named) (map base_of tables) (shown.views bodies) 16 (shown.query checked.query) s → Gives (lay_by (told_by named) (shown.query checked.query) [] t) b u → Gives (whole catalog views checked) b u
+whole_steps catalog views checked named tables bodies s t u b n ts vs e l h = (h.0 ∙ ap (λ (r : Laid). r.top) same, h.1 ∙ ap (λ (r : Laid). r.boxes) same)
+  where
+    x : Query
+    x = shown.query checked.query
+
+    same : lay_by (told_by named) x [] t ≡ whole catalog views checked
+    same =
+        ap (λ (z : Boxes). lay_by (told_by named) x [] z) l
+        ∙ ap₂ (λ (a : List TableDecl) (c : List View). lay_by (told_by named) x [] (lay_read (told_by named) (map base_of a) (shown.views c) 16 x s)) ts vs
+        ∙ ap₂ (λ (a : List Named) (c : Boxes). lay_by (told_by a) x [] (lay_read (told_by a) (map base_of catalog.tables) (shown.views views.schema.views) 16 x c)) n e
 
 module _ (catalog : Catalog) (views : Views) (checked : Checked) (of : IsQueryOf (declared.catalog catalog) views checked) where
   counts : (name : List ℕ) → (schema_told catalog views).columns name ≡ (known_in (declared.catalog catalog)).columns name
