@@ -1,5 +1,6 @@
 -- What is laid for a checked query is what is laid for its text.
 use Rattle.std.proofs.Common.{◌≡◌, ◌++◌, ℕ, Bool, true, false, cond, List, [], ◌∷◌, map, length, Option, Some, None, refl, ap, ap₂, sym, ◌∙◌, subst, suc}
+use Rattle.row_bag.specs.declared.tables.Table.{Table}
 use Rattle.sql_ast.specs.Declarations.{columns_of, table_named}
 use Rattle.sql_ast.specs.Names.{same_name}
 use Rattle.sql_ast.specs.Syntax as s
@@ -7,12 +8,13 @@ use Rattle.sql_ast.specs.declared.schema.ColumnDecl.{ColumnDecl}
 use Rattle.sql_ast.specs.declared.schema.TableDecl.{TableDecl}
 use Rattle.sql_catalog.specs.Shown as declared
 use Rattle.sql_catalog.specs.declared.catalog.Catalog.{Catalog}
-use Rattle.sql_check.specs.Checked.{AreViews}
+use Rattle.sql_check.specs.Checked.{AreViews, rows_of}
 use Rattle.sql_check.specs.declared.checked.Checked.{Checked}
 use Rattle.sql_check.specs.declared.checked.Views.{Views}
 use Rattle.sql_meaning.specs.ResolvedShown as shown
 use Rattle.sql_meaning.specs.ResolvedTrees.{Query}
-use Rattle.sql_meaning.specs.ResolvedViews.{ViewTree}
+use Rattle.sql_meaning.specs.ResolvedMeaning.{rows}
+use Rattle.sql_meaning.specs.ResolvedViews.{ViewTree, known_of}
 use Rattle.sql_meaning.specs.Scopes.{first_of}
 use Rattle.sql_meaning.specs.declared.resolved.View.{View}
 use Rattle.query_checks.specs.Columns.{columns_or_none}
@@ -22,7 +24,8 @@ use Rattle.query_checks.specs.declared.view.ViewHead.{ViewHead}
 use Rattle.qgm_core.specs.Boxes.{QueryGraph}
 use Rattle.qgm_shown.specs.Lay.{Boxes, Laid, lay_by}
 use Rattle.qgm_shown.specs.Whole.{graph_of, lay_read, lay_whole, nothing_laid}
-use Rattle.built_queries.specs.Joined.{ValidQuery}
+use Rattle.qgm_meaning.specs.Meaning.{root_bag}
+use Rattle.built_queries.specs.Joined.{AreTablesOf}
 use Rattle.built_queries.specs.Laid.{GraphIsRight, IsGraphOf, IsNumbered, LaidIsGraph, LaidIsNumbered, known_in, laid_for}
 use Rattle.built_queries.specs.Typing.{known_types}
 use Rattle.qgm_build.specs.Making.{Gives, top_at}
@@ -103,3 +106,9 @@ module _ (catalog : Catalog) (views : Views) (checked : Checked) (of : IsQueryOf
 
   pub right_is : LaidIsGraph → GraphIsRight → (x : QueryGraph) → Is x → IsItsRight (declared.catalog catalog) checked x
   right_is law right x e = subst (IsItsRight (declared.catalog catalog) checked) (sym e) (its_right law right)
+
+  -- its root's bag is the rows of the checked query
+  pub rows_is : LaidIsGraph → GraphIsRight → (x : QueryGraph) → Is x → (tables : List Table) → AreTablesOf (declared.catalog catalog) tables → root_bag tables x ≡ rows_of views checked tables
+  rows_is law right x e tables fit =
+      ((right_is law right x e of.text of.is).rows tables fit).places
+      ∙ sym (ap₂ (λ (vs : List ViewTree) (y : Query). rows (known_of vs tables) y []) of.views.bodies of.is.query)

@@ -1,14 +1,18 @@
 // The graph of a valid query.
 ghost use Rattle.std.specs.Prelude.{◌≡◌, ℕ, List, [], ◌∷◌, None, IfOk, OnOk, map};
+ghost use Rattle.row_bag.specs.declared.tables.Table.{Table};
 ghost use Rattle.sql_catalog.specs.Shown as declared;
+ghost use Rattle.sql_check.specs.Checked.{rows_of};
 ghost use Rattle.sql_meaning.specs.ResolvedShown as shown;
 ghost use Rattle.qgm_core.specs.Free.{Reaches};
 ghost use Rattle.qgm_core.specs.Lists.{In};
 ghost use Rattle.qgm_core.specs.declared.node.Node.{Node};
+ghost use Rattle.qgm_meaning.specs.Meaning.{root_bag};
 ghost use Rattle.qgm_check.specs.WellFormed.{fault};
 ghost use Rattle.qgm_shown.specs.Lay.{lay_by};
 ghost use Rattle.qgm_shown.specs.Lay as l;
 ghost use Rattle.qgm_shown.specs.Whole as spec;
+ghost use Rattle.built_queries.specs.Joined.{AreTablesOf};
 ghost use Rattle.built_queries.specs.Laid.{IsNumbered};
 ghost use Rattle.qgm_build.specs.Laying.{outer_of, told_at};
 ghost use Rattle.qgm_build.specs.Making.{Gives, top_at};
@@ -250,6 +254,7 @@ pub fn build(
     ensures right { IfOk result (λ g. IsItsRight (declared.catalog catalog.now) checked.now g) }
     ensures formed { IfOk result (λ g. fault g ≡ None) }
     ensures reaches { IfOk result (λ g. (n : Node) → In n g.boxes → Reaches g.boxes g.root n.id) }
+    ensures rows { IfOk result (λ g. (tables : List Table) → AreTablesOf (declared.catalog catalog.now) tables → root_bag tables g ≡ rows_of views.now checked.now tables) }
 {
     laid_graph_laws();
     let w = lay_whole(alloc, checked, catalog, views)?;
