@@ -49,7 +49,8 @@ name_counts : (ts : List TableDecl) (hs : List ViewHead) (name : List ℕ) → g
 name_counts [] hs name = view_counts hs name
 name_counts (t ∷ ts) hs name =
     elim (same_name t.name name) as (λ b. g.columns_of (cond b (Some (named_table t)) (named_in (map named_table ts ++ map named_view hs) name)) ≡ length (known_types (columns_or_none (first_of (typed_columns (cond b (Some t) (table_named ts name))) (view_named hs name))))) [
-      true ↦ typed_length (columns_of t.elements) | false ↦ name_counts ts hs name
+      | true ↦ typed_length (columns_of t.elements)
+      | false ↦ name_counts ts hs name
     ]
 
 -- ---- the steps of the program

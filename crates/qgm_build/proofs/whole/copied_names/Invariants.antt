@@ -1,4 +1,4 @@
-use Rattle.std.proofs.Common.{◌≡◌, ◌++◌, ◌+◌, drop, filter, length, map}
+use Rattle.std.proofs.Common.{◌≡◌, ◌++◌, drop}
 use Rattle.qgm_build.proofs.whole.copied_names.Given as goal
 
 abbrev pub invariant-loop-name : goal.invariant-loop-name
