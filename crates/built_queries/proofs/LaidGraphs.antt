@@ -33,6 +33,15 @@ graph_right catalog text names order g valid is =
       rows = λ tables fit. valid_rows catalog is.shared is.typed text names order g tables valid is.built fit;
     }
 
+-- what is laid, by the sources that it knows at its end
+pub laid_is : (known : Sources) (catalog : Declared) (text : s.QueryText) (names : List (Option (List ℕ))) (order : List OrderKey) → ValidQuery catalog text → ((name : List ℕ) → known.columns name ≡ (known_in catalog).columns name)
+    → IsLaidFor (sources_of catalog (box_named (laid_for known catalog text).boxes.shared) (typed_by (laid_for known catalog text).boxes.rows)) (query (schema_columns catalog) [] text.query) names order (laid_for known catalog text)
+laid_is known catalog text names order valid counts =
+    let r : Laid = laid_for known catalog text in
+    let shared : List ℕ → ℕ = box_named r.boxes.shared in
+    let typed : Term → SqlType = typed_by r.boxes.rows in
+    is-laid-for known (sources_of catalog shared typed) (graph_tables catalog) (view_trees catalog) (deep_in catalog) (query (schema_columns catalog) [] text.query) names order (record { counts = counts; typed = λ x. refl; shared = λ name. refl }) (valid_over catalog shared typed text valid)
+
 pub laid_graph : (known : Sources) (catalog : Declared) (text : s.QueryText) (names : List (Option (List ℕ))) (order : List OrderKey) → ValidQuery catalog text → ((name : List ℕ) → known.columns name ≡ (known_in catalog).columns name)
     → IsGraphOf catalog text names order (graph_of (laid_for known catalog text) names order)
 laid_graph known catalog text names order valid counts =
@@ -40,8 +49,7 @@ laid_graph known catalog text names order valid counts =
     let shared : List ℕ → ℕ = box_named r.boxes.shared in
     let typed : Term → SqlType = typed_by r.boxes.rows in
     let sources : Sources = sources_of catalog shared typed in
-    let laid : IsLaidFor sources (query (schema_columns catalog) [] text.query) names order r
-    = is-laid-for known sources (graph_tables catalog) (view_trees catalog) (deep_in catalog) (query (schema_columns catalog) [] text.query) names order (record { counts = counts; typed = λ x. refl; shared = λ name. refl }) (valid_over catalog shared typed text valid) in
+    let laid : IsLaidFor sources (query (schema_columns catalog) [] text.query) names order r = laid_is known catalog text names order valid counts in
     record {
       shared = shared;
       typed = typed;

@@ -23,6 +23,7 @@ pub mod LikeParts
 pub mod LikeTerms
 mod Lookups
 mod Nesting
+mod Numbers
 pub mod OneToOne
 mod Operators
 pub mod Parts

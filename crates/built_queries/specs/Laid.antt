@@ -10,14 +10,15 @@ use Rattle.sql_value.specs.declared.order_key.SqlType.{SqlType}
 use Rattle.sql_value.specs.declared.order_key.SqlType.TheVariants.{Integer}
 use Rattle.name_resolution.specs.Resolved.{query}
 use Rattle.name_resolution.specs.Schema.{schema_columns, view_trees}
-use Rattle.qgm_core.specs.Boxes.{QueryGraph}
+use Rattle.qgm_core.specs.Boxes.{QueryGraph, ids_in}
 use Rattle.qgm_core.specs.Free.{Reaches}
-use Rattle.qgm_core.specs.Lists.{In}
+use Rattle.qgm_core.specs.Lists.{EachOnce, In}
+use Rattle.qgm_core.specs.Numbered.{Under}
 use Rattle.qgm_core.specs.declared.kinds.BaseTable.{BaseTable}
 use Rattle.qgm_core.specs.declared.node.Node.{Node}
 use Rattle.qgm_terms.specs.Terms.{Term}
 use Rattle.qgm_check.specs.WellFormed.{fault}
-use Rattle.qgm_shown.specs.Lay.{Laid}
+use Rattle.qgm_shown.specs.Lay.{Boxes, Laid}
 use Rattle.qgm_shown.specs.Sources.{Sources}
 use Rattle.qgm_shown.specs.Whole.{graph_of, lay_whole}
 use Rattle.built_queries.specs.Formed.{TypesFound}
@@ -63,3 +64,14 @@ abbrev pub LaidIsGraph : Type 0
 LaidIsGraph =
     (known : Sources) (catalog : Declared) (text : s.QueryText) (names : List (Option (List ℕ))) (order : List OrderKey) → ValidQuery catalog text → ((name : List ℕ) → known.columns name ≡ (known_in catalog).columns name)
     → IsGraphOf catalog text names order (graph_of (laid_for known catalog text) names order)
+
+-- no two quantifiers of boxes have one number, and each has one below the next
+pub record IsNumbered (s : Boxes) : Type 0 where
+  pub once : EachOnce (ids_in s.made)
+  pub under : Under s.quant (ids_in s.made)
+
+-- and these boxes are so
+abbrev pub LaidIsNumbered : Type 0
+LaidIsNumbered =
+    (known : Sources) (catalog : Declared) (text : s.QueryText) → ValidQuery catalog text → ((name : List ℕ) → known.columns name ≡ (known_in catalog).columns name)
+    → IsNumbered (laid_for known catalog text).boxes

@@ -10,3 +10,4 @@ pub mod Splits
 pub mod Folds
 pub mod Block
 pub mod Schema
+pub mod Valid

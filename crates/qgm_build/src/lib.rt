@@ -2,7 +2,6 @@
 #![tactic(auto)]
 
 mod base;
-mod build;
 mod finish;
 mod folds;
 mod frames;
@@ -21,5 +20,6 @@ mod slots;
 mod store;
 mod terms;
 mod types;
+mod whole;
 
-pub use build::build;
+pub use whole::build;

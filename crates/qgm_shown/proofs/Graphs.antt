@@ -218,6 +218,7 @@ module _ (known sources : Sources) (tables : List BaseTable) (views : List ViewT
           };
           ordered = stands.ordered;
           once = counted-once like.boxes.made stands.once;
+          bound = stands.bound;
           counted = made.keeps.counted good.counted;
           typed = made.keeps.typed good.counted good.typed;
           apart = apart;

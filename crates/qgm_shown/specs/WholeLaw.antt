@@ -11,7 +11,7 @@ use Rattle.qgm_core.specs.declared.kinds.BaseTable.{BaseTable}
 use Rattle.qgm_shown.specs.Buildable.{Buildable}
 use Rattle.qgm_shown.specs.Law.{IsBuiltOf}
 use Rattle.qgm_shown.specs.Lay.{Laid, laying}
-use Rattle.qgm_shown.specs.Lays.{Counted, EachHasTypes}
+use Rattle.qgm_shown.specs.Lays.{Counted, EachHasTypes, owned}
 use Rattle.qgm_shown.specs.Reads.{query_reads}
 use Rattle.qgm_shown.specs.Shown.{Shows, of_operand, uses}
 use Rattle.qgm_shown.specs.Sources.{Sources}
@@ -58,11 +58,12 @@ pub record IsOver (sources : Sources) (tables : List BaseTable) (views : List Vi
   pub fit : Buildable sources (is_declared tables views) query
   pub shallow : (name : List ℕ) → deep name ≤ 16
 
--- a graph is built of a query by boxes that were laid: these stand in order, no two quantifiers have one number, the types of columns are known, and no other box than those of tables and views is shared
+-- a graph is built of a query by boxes that were laid: these stand in order, no two quantifiers have one number, each number of one is below the next, the types of columns are known, and no other box than those of tables and views is shared
 pub record IsLaidFor (sources : Sources) (query : Query) (names : List (Option (List ℕ))) (order : List OrderKey) (r : Laid) : Type 0 where
   pub built : IsBuiltOf sources query names order (graph_of r names order)
   pub ordered : Ordered r.boxes.made
   pub once : (q : ℕ) → times q (ids_in r.boxes.made) ≤ 1
+  pub bound : (q : ℕ) → owned q r.boxes.made ≡ true → q < r.boxes.quant
   pub counted : Counted r.boxes
   pub typed : EachHasTypes r.boxes r.boxes.made
   pub apart : (b : ℕ) → (uses b r.boxes.made ≤ 1) ⊎ ((name : List ℕ) × Shows sources r.boxes.made b (of_operand (q.named name)) [])

@@ -1,4 +1,5 @@
 use Rattle.built_queries.proofs.LaidGraphs.{graph_right, laid_graph}
+use Rattle.built_queries.proofs.Numbers.{laid_numbered}
 use Rattle.built_queries.proofs.laid.laid_graph_laws.Goals as goal
 
 pub returns-clause-right : goal.returns-clause-right
@@ -6,3 +7,6 @@ returns-clause-right c = graph_right
 
 pub returns-clause-laid : goal.returns-clause-laid
 returns-clause-laid c = laid_graph
+
+pub returns-clause-numbered : goal.returns-clause-numbered
+returns-clause-numbered c = laid_numbered

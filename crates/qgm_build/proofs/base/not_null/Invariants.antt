@@ -1,4 +1,4 @@
-use Rattle.std.proofs.Common.{◌≡◌, ◌++◌, ◌+◌, drop, filter, length, map}
+use Rattle.std.proofs.Common.{◌≡◌, ◌++◌, drop}
 use Rattle.built_queries.specs.Sources as spec
 use Rattle.qgm_build.proofs.base.not_null.Given as goal
 

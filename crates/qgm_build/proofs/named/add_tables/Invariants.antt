@@ -1,4 +1,4 @@
-use Rattle.std.proofs.Common.{◌≡◌, ◌++◌, ◌+◌, drop, filter, length, map}
+use Rattle.std.proofs.Common.{◌≡◌, ◌++◌, drop, map}
 use Rattle.qgm_build.specs.Schema.{named_table}
 use Rattle.qgm_build.proofs.named.add_tables.Given as goal
 

@@ -1,4 +1,4 @@
-use Rattle.std.proofs.Common.{◌≡◌, ◌++◌, ◌+◌, drop, filter, length, map}
+use Rattle.std.proofs.Common.{◌≡◌, ◌++◌, drop, map}
 use Rattle.qgm_build.specs.Schema.{named_view}
 use Rattle.qgm_build.proofs.named.add_views.Given as goal
 

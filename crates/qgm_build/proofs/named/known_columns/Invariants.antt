@@ -1,4 +1,4 @@
-use Rattle.std.proofs.Common.{◌≡◌, ◌++◌, ◌+◌, drop, filter, length, map}
+use Rattle.std.proofs.Common.{◌≡◌, ◌+◌, drop, length}
 use Rattle.built_queries.specs.Typing.{known_types}
 use Rattle.qgm_build.proofs.named.known_columns.Given as goal
 

@@ -1,4 +1,4 @@
-use Rattle.std.proofs.Common.{◌≡◌, ◌++◌, ◌+◌, drop, filter, length, map}
+use Rattle.std.proofs.Common.{◌≡◌, ◌+◌, drop, length}
 use Rattle.sql_ast.specs.Declarations.{columns_of}
 use Rattle.qgm_build.proofs.named.table_columns.Given as goal
 

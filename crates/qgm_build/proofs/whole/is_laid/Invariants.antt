@@ -1,7 +1,7 @@
-use Rattle.std.proofs.Common.{◌≡◌, ◌++◌, ◌+◌, drop, filter, length, map}
+use Rattle.std.proofs.Common.{◌≡◌, drop, map}
 use Rattle.qgm_shown.specs.Whole.{is_laid}
 use Rattle.qgm_build.specs.Setting.{shared_box}
-use Rattle.qgm_build.proofs.build.is_laid.Given as goal
+use Rattle.qgm_build.proofs.whole.is_laid.Given as goal
 
 abbrev pub invariant-loop-x : goal.invariant-loop-x
 invariant-loop-x l =

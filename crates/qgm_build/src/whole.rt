@@ -1,14 +1,24 @@
 // The graph of a valid query.
-ghost use Rattle.std.specs.Prelude.{◌≡◌, ℕ, List, [], IfOk, OnOk, map};
+ghost use Rattle.std.specs.Prelude.{◌≡◌, ℕ, List, [], ◌∷◌, None, IfOk, OnOk, map};
+ghost use Rattle.row_bag.specs.declared.tables.Table.{Table};
 ghost use Rattle.sql_catalog.specs.Shown as declared;
+ghost use Rattle.sql_check.specs.Checked.{rows_of};
 ghost use Rattle.sql_meaning.specs.ResolvedShown as shown;
+ghost use Rattle.qgm_core.specs.Free.{Reaches};
+ghost use Rattle.qgm_core.specs.Lists.{In};
+ghost use Rattle.qgm_core.specs.declared.node.Node.{Node};
+ghost use Rattle.qgm_meaning.specs.Meaning.{root_bag};
+ghost use Rattle.qgm_check.specs.WellFormed.{fault};
 ghost use Rattle.qgm_shown.specs.Lay.{lay_by};
 ghost use Rattle.qgm_shown.specs.Lay as l;
 ghost use Rattle.qgm_shown.specs.Whole as spec;
+ghost use Rattle.built_queries.specs.Joined.{AreTablesOf};
+ghost use Rattle.built_queries.specs.Laid.{IsNumbered};
 ghost use Rattle.qgm_build.specs.Laying.{outer_of, told_at};
 ghost use Rattle.qgm_build.specs.Making.{Gives, top_at};
 ghost use Rattle.qgm_build.specs.Schema.{base_of, whole};
 ghost use Rattle.qgm_build.specs.SoFar.{so_far};
+ghost use Rattle.qgm_build.specs.Valid.{IsItsGraph, IsItsRight, IsQueryOf};
 
 use crate::base::base_table;
 use crate::lay::query;
@@ -17,6 +27,7 @@ use crate::reads::reads;
 use crate::seen::Scopes;
 use crate::setting::{Ground, Names};
 use crate::store::{Shared, Store, put};
+use built_queries::laid_graph_laws;
 use qgm_core::{BoxId, BoxKind, Conds, Graph, Head, Owned};
 use shared_types::{OutOfMemory, Text};
 use sql_ast::TableDecl;
@@ -77,6 +88,21 @@ fn lay_table(alloc: Global, table: &TableDecl, st: &mut Store) -> Result<(), Out
     share(alloc, &table.name, number, st)
 }
 
+// Lays a table that a query reads.
+fn lay_wanted(
+    alloc: Global,
+    reader: &Query,
+    table: &TableDecl,
+    st: &mut Store,
+) -> Result<(), OutOfMemory>
+    ensures { OnOk result (so_far st.new ≡ spec.lay_tables (shown.query reader.now) (base_of table.now ∷ []) (so_far st.old)) }
+{
+    if is_wanted(reader, st, &table.name) {
+        lay_table(alloc, table, st)?;
+    }
+    Ok(())
+}
+
 // Lays those of these tables that a query reads.
 fn lay_tables(
     alloc: Global,
@@ -87,9 +113,7 @@ fn lay_tables(
     ensures { OnOk result (so_far st.new ≡ spec.lay_tables (shown.query reader.now) (map base_of tables.now) (so_far st.old)) }
 {
     for table in tables {
-        if is_wanted(reader, st, &table.name) {
-            lay_table(alloc, table, st)?;
-        }
+        lay_wanted(alloc, reader, table, st)?;
     }
     Ok(())
 }
@@ -170,15 +194,21 @@ fn empty_store(alloc: Global) -> Result<Store, OutOfMemory>
     })
 }
 
-/// The graph of a valid query: the boxes of the tables and the views that it reads, each once, and of
-/// the query itself. It fails only for want of memory.
-pub fn build(
+// All boxes of a checked query, of which the root is topmost.
+#[derive(Drop)]
+struct Whole {
+    store: Store,
+    root: BoxId,
+}
+
+// Lays the tables and the views that a query reads, and then the query.
+fn lay_whole(
     alloc: Global,
     checked: &Checked,
     catalog: &Catalog,
     views: &Views,
-) -> Result<Graph, OutOfMemory>
-    ensures graph { IfOk result (λ g. g ≡ spec.graph_of (whole catalog.now views.now checked.now) checked.now.names checked.now.order) }
+) -> Result<Whole, OutOfMemory>
+    ensures { IfOk result (λ w. Gives (whole catalog.now views.now checked.now) w.root (so_far w.store)) }
 {
     let named = named_of(alloc, catalog, views)?;
     let names = Names { named: &named };
@@ -192,10 +222,41 @@ pub fn build(
         tables: catalog.tables.as_slice(),
         views: views.schema.views.as_slice(),
     };
-    let mut st = empty_store(alloc)?;
-    lay_read(&g, &checked.query, DEEPEST, &schema, &mut st)?;
-    let root = query(&g, &checked.query, &mut st)?;
+    let mut store = empty_store(alloc)?;
+    lay_read(&g, &checked.query, DEEPEST, &schema, &mut store)?;
+    let root = query(&g, &checked.query, &mut store)?;
+    Ok(Whole { store, root })
+}
+
+// The graph of boxes that were laid.
+fn graph_laid(alloc: Global, checked: &Checked, w: Whole) -> Result<Graph, OutOfMemory>
+    requires numbered { IsNumbered (so_far w.store) }
+    ensures { IfOk result (λ g. g ≡ spec.graph_of (top_at w.root (so_far w.store)) checked.now.names checked.now.order) }
+{
+    let Whole { store, root } = w;
     let names = copied_names(alloc, &checked.names)?;
     let order = copied_order(alloc, &checked.order)?;
-    Graph::of_boxes(alloc, st.made, root, names, order, st.next_quant)
+    Graph::of_boxes(alloc, store.made, root, names, order, store.next_quant)
+}
+
+/// The graph of a valid query: the boxes of the tables and the views that it reads, each once, and of
+/// the query itself. It is built of the query, well-formed and reached from its root, and its root's
+/// bag is the query's rows. It fails only for want of memory.
+pub fn build(
+    alloc: Global,
+    checked: &Checked,
+    catalog: &Catalog,
+    views: &Views,
+) -> Result<Graph, OutOfMemory>
+    requires query { IsQueryOf (declared.catalog catalog.now) views.now checked.now }
+    ensures graph { IfOk result (λ g. g ≡ spec.graph_of (whole catalog.now views.now checked.now) checked.now.names checked.now.order) }
+    ensures built { IfOk result (λ g. IsItsGraph (declared.catalog catalog.now) checked.now g) }
+    ensures right { IfOk result (λ g. IsItsRight (declared.catalog catalog.now) checked.now g) }
+    ensures formed { IfOk result (λ g. fault g ≡ None) }
+    ensures reaches { IfOk result (λ g. (n : Node) → In n g.boxes → Reaches g.boxes g.root n.id) }
+    ensures rows { IfOk result (λ g. (tables : List Table) → AreTablesOf (declared.catalog catalog.now) tables → root_bag tables g ≡ rows_of views.now checked.now tables) }
+{
+    laid_graph_laws();
+    let w = lay_whole(alloc, checked, catalog, views)?;
+    graph_laid(alloc, checked, w)
 }
