@@ -1,4 +1,4 @@
-use Rattle.built_queries.proofs.LaidGraphs.{graph_right, laid_graph}
+use Rattle.built_queries.proofs.LaidGraphs.{graph_right, graphs_one_to_one, laid_graph}
 use Rattle.built_queries.proofs.laid.laid_graph_laws.Goals as goal
 
 pub returns-clause-right : goal.returns-clause-right
@@ -6,3 +6,6 @@ returns-clause-right c = graph_right
 
 pub returns-clause-laid : goal.returns-clause-laid
 returns-clause-laid c = laid_graph
+
+pub returns-clause-one_to_one : goal.returns-clause-one_to_one
+returns-clause-one_to_one c = graphs_one_to_one
