@@ -19,7 +19,7 @@ module _ (sources : Sources) where
 
   module _ (below : ℕ → Thing → Map → Type 0) (n : Node) where
     -- a table or a view is shown through any map
-    pub own-map : (thing : Thing) (m : Map) → ShowsBox sources below thing m n → ShowsBox sources below thing (map_of thing m) n
+    own-map : (thing : Thing) (m : Map) → ShowsBox sources below thing m n → ShowsBox sources below thing (map_of thing m) n
     own-map (of_query x) m h = h
     own-map (of_operand (q.named name)) m h = h
     own-map (of_operand (q.derived query)) m h = h
@@ -28,16 +28,6 @@ module _ (sources : Sources) where
     own-map (of_operand (q.left_joined x y i p)) m h = h
     own-map (of_rows from by places ls) m h = h
     own-map (of_groups from by places ls) m h = h
-
-    pub any-map : (thing : Thing) (m : Map) → ShowsBox sources below thing (map_of thing m) n → ShowsBox sources below thing m n
-    any-map (of_query x) m h = h
-    any-map (of_operand (q.named name)) m h = h
-    any-map (of_operand (q.derived query)) m h = h
-    any-map (of_operand (q.crossed x y)) m h = h
-    any-map (of_operand (q.joined x y p)) m h = h
-    any-map (of_operand (q.left_joined x y i p)) m h = h
-    any-map (of_rows from by places ls) m h = h
-    any-map (of_groups from by places ls) m h = h
 
     -- it shows what it is laid as
     shows-laid : (thing : Thing) (m : Map) (other : Thing) → LaidAs sources thing m n.id other → ShowsBox sources below thing m n → ShowsBox sources below other m n
