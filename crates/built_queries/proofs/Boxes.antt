@@ -30,7 +30,7 @@ use Rattle.qgm_shown.specs.Sources.{Sources, from_width, froms_width, width}
 use Rattle.qgm_shown.specs.Terms as l
 use Rattle.built_queries.specs.Typed as typed
 use Rattle.built_queries.specs.Typed.{FoldsTo, Found, FromIs, FromsAre, Gives, IsOf, IsTyped, Scope, keyed, open_scope}
-pub use Rattle.built_queries.specs.OneToOne.{map_of}
+pub use Rattle.qgm_shown.specs.There.{map_of}
 use Rattle.built_queries.proofs.Parts.{Cells, Fit, FitAll, Heads, Is, cells-append, fit-append, heads-append, node_of}
 use Rattle.built_queries.proofs.TermsAre.{Asked, Held, MapIs, RefIs, cond-is, held-append, ref-is, same-some, term-is, terms-are}
 use Rattle.built_queries.proofs.FormedKeys.{Folded, Ins, Refs, agg_types, among, and-right, either-false, append-none, arg_types, at-left, at-padded, at-right, folded, folds-to, ins-all, ins-rest, key_types, keys-length, keys-owned, not-false, or_row}

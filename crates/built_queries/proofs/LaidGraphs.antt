@@ -16,10 +16,12 @@ use Rattle.qgm_shown.specs.WholeLaw.{IsLaidFor}
 use Rattle.qgm_shown.proofs.Graphs.{is-laid-for}
 use Rattle.built_queries.specs.Joined.{IsFormed, ValidQuery, stated_types}
 use Rattle.built_queries.specs.Laid.{IsGraphOf, IsRight, graph_tables, known_in, laid_for}
+use Rattle.built_queries.specs.OneToOne.{AreOneToOne}
 use Rattle.built_queries.specs.Sources.{sources_of}
 use Rattle.built_queries.proofs.Joined.{valid_formed}
 use Rattle.built_queries.proofs.LaidOver.{deep_in, valid_over}
 use Rattle.built_queries.proofs.LaidTold.{laid-told}
+use Rattle.built_queries.proofs.OneToOne.{are-one-to-one}
 use Rattle.built_queries.proofs.Passes.{root-reaches}
 use Rattle.built_queries.proofs.Roots.{valid_rows}
 
@@ -55,4 +57,11 @@ laid_graph known catalog text names order valid counts =
       typed = typed;
       built = laid.built;
       stands = record { ordered = laid.ordered; once = laid.once; told = laid-told r.boxes laid.typed sources (λ x. refl); apart = laid.apart };
+      there = laid.there;
     }
+
+pub graphs_one_to_one : (catalog : Declared) (text : s.QueryText) (names : List (Option (List ℕ))) (order : List OrderKey) (g h : QueryGraph) → IsGraphOf catalog text names order g → IsGraphOf catalog text names order h → AreOneToOne g h
+graphs_one_to_one catalog text names order g h first second =
+    are-one-to-one (sources_of catalog first.shared first.typed) second.shared second.typed (query (schema_columns catalog) [] text.query) names order g h
+    (record { built = first.built; ordered = first.stands.ordered; once = first.stands.once; there = first.there })
+    (record { built = second.built; ordered = second.stands.ordered; once = second.stands.once; there = second.there })

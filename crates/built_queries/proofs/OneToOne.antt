@@ -19,7 +19,8 @@ use Rattle.qgm_laws.proofs.Lists.{eq-itself}
 use Rattle.qgm_laws.proofs.Ranks.{has-in, in-has, overs-held, place, place-under, same-box}
 use Rattle.qgm_laws.proofs.Times.{in-times, times-in, times-once}
 use Rattle.built_queries.specs.Alike.{Meets, OwnedAt, Stands, roots, stands, under}
-use Rattle.built_queries.specs.OneToOne.{AreOneToOne, BuiltApart, IsFor, map_of}
+use Rattle.qgm_shown.specs.There.{IsFor, map_of}
+use Rattle.built_queries.specs.OneToOne.{AreOneToOne, BuiltApart}
 use Rattle.built_queries.proofs.LikeParts as parts
 use Rattle.built_queries.proofs.LikeParts.{LikeThing, Pairs, like_groups, like_rows, same_operand, same_query}
 use Rattle.built_queries.proofs.LikeGraphs.{found, place-of}

@@ -7,7 +7,7 @@ use Rattle.sql_meaning.specs.ResolvedTrees as q
 use Rattle.qgm_shown.specs.Samples.{base, sources}
 use Rattle.qgm_shown.specs.Shown.{Shows, ShowsBase, ShowsBox, ShowsQuery, of_operand, of_query, uses}
 use Rattle.built_queries.specs.Alike.{roots, under}
-use Rattle.built_queries.specs.OneToOne.{EachForOne, IsFor}
+use Rattle.qgm_shown.specs.There.{EachForOne, IsFor}
 use Rattle.built_queries.specs.Reused.{Reused, apart, body, over_u, reusing, top, twice}
 
 base-u : ShowsBase sources (Shows sources []) (codes "U") (base 7 (codes "U"))

@@ -12,7 +12,7 @@ use Rattle.qgm_shown.specs.Leaves.{Leaf}
 use Rattle.qgm_shown.specs.Maps.{Map}
 use Rattle.qgm_shown.specs.Samples.{boxes, graph, query, sources}
 use Rattle.qgm_shown.specs.Shown.{ShowsBox, Thing, key_frame, of_groups, of_operand, of_query, of_rows, refs, upper_leaves, uses}
-use Rattle.built_queries.specs.OneToOne.{EachForOne, IsFor, IsNamed}
+use Rattle.qgm_shown.specs.There.{EachForOne, IsFor, IsNamed}
 
 abbrev list : Values
 list = q.one_value (q.column 0 0) (q.one_value q.count_all (q.one_value (q.aggregate function.Max false (q.column 0 3)) q.no_value))

@@ -9,7 +9,7 @@ use Rattle.qgm_check.specs.declared.check.Clause.TheVariants.{I5}
 use Rattle.qgm_shown.specs.Refused.{texts_boxes}
 use Rattle.qgm_shown.specs.Samples.{graph, query, sources}
 use Rattle.built_queries.specs.Formed.{SourcesTyped}
-use Rattle.built_queries.specs.OneToOne.{EachForOne}
+use Rattle.qgm_shown.specs.There.{EachForOne}
 use Rattle.built_queries.specs.Typed.{Gives}
 
 -- each table and view has two INTEGER columns

@@ -20,17 +20,20 @@ use Rattle.qgm_terms.specs.Terms.{Term}
 use Rattle.qgm_check.specs.WellFormed.{fault}
 use Rattle.qgm_shown.specs.Lay.{Boxes, Laid}
 use Rattle.qgm_shown.specs.Sources.{Sources}
+use Rattle.qgm_shown.specs.There.{EachForOne}
 use Rattle.qgm_shown.specs.Whole.{graph_of, lay_whole}
 use Rattle.built_queries.specs.Formed.{TypesFound}
 use Rattle.built_queries.specs.Joined.{AreTablesOf, HasRows, IsBuiltOver, IsLaidOut, ValidQuery, stated_types}
+use Rattle.built_queries.specs.OneToOne.{AreOneToOne}
 use Rattle.built_queries.specs.Sources.{sources_of, stored_table}
 
--- a graph is the one that is built of a query over a schema: it is built of it over boxes that tables and views share, and stands in order
+-- a graph is the one that is built of a query over a schema: it is built of it over boxes that tables and views share, and stands in order; there is one shared box for each table and each view, and one box for each other thing of the query
 pub record IsGraphOf (catalog : Declared) (text : s.QueryText) (names : List (Option (List ℕ))) (order : List OrderKey) (g : QueryGraph) : Type 0 where
   pub shared : List ℕ → ℕ
   pub typed : Term → SqlType
   pub built : IsBuiltOver catalog (sources_of catalog shared typed) text names order g
   pub stands : IsLaidOut (sources_of catalog shared typed) g
+  pub there : EachForOne (sources_of catalog shared typed) (query (schema_columns catalog) [] text.query) g
 
 -- it is well-formed, its root reaches every box, the root's columns have the types that the checks state, and its bag is the query's rows, by places and by names
 pub record IsRight (catalog : Declared) (text : s.QueryText) (g : QueryGraph) : Type 0 where
@@ -41,6 +44,10 @@ pub record IsRight (catalog : Declared) (text : s.QueryText) (g : QueryGraph) : 
 
 abbrev pub GraphIsRight : Type 0
 GraphIsRight = (catalog : Declared) (text : s.QueryText) (names : List (Option (List ℕ))) (order : List OrderKey) (g : QueryGraph) → ValidQuery catalog text → IsGraphOf catalog text names order g → IsRight catalog text g
+
+-- in two such graphs of one query numbers stand for one another one to one
+abbrev pub GraphsOneToOne : Type 0
+GraphsOneToOne = (catalog : Declared) (text : s.QueryText) (names : List (Option (List ℕ))) (order : List OrderKey) (g h : QueryGraph) → IsGraphOf catalog text names order g → IsGraphOf catalog text names order h → AreOneToOne g h
 
 -- ---- what is laid
 

@@ -1,45 +1,16 @@
 -- In two graphs that are built of one query numbers stand for one another one to one.
-use Rattle.std.specs.Prelude.{◌≡◌, ◌⊎◌, ◌≤◌, ℕ, List, [], Option}
+use Rattle.std.specs.Prelude.{◌≡◌, ◌≤◌, ℕ, List, Option}
 use Rattle.sql_value.specs.declared.order_key.OrderKey.{OrderKey}
 use Rattle.sql_value.specs.declared.order_key.SqlType.{SqlType}
 use Rattle.sql_meaning.specs.ResolvedTrees.{Query}
-use Rattle.sql_meaning.specs.ResolvedTrees as q
 use Rattle.qgm_core.specs.Boxes.{Ordered, QueryGraph, ids_in}
 use Rattle.qgm_core.specs.Lists.{In, times}
 use Rattle.qgm_core.specs.declared.node.Node.{Node}
 use Rattle.qgm_terms.specs.Terms.{Term}
 use Rattle.qgm_shown.specs.Law.{IsBuiltOf}
-use Rattle.qgm_shown.specs.Maps.{Map}
-use Rattle.qgm_shown.specs.Shown.{ShowsBox, Thing, of_groups, of_operand, of_query, of_rows, uses}
 use Rattle.qgm_shown.specs.Sources.{Sources}
+use Rattle.qgm_shown.specs.There.{EachForOne}
 use Rattle.built_queries.specs.Alike.{Meets, Stands}
-
--- a thing is a table or a view, by its name
-abbrev pub IsNamed : Thing → Type 0
-IsNamed thing = (name : List ℕ) × (thing ≡ of_operand (q.named name))
-
--- the map that a thing is seen through: a table or a view sees nothing around it
-abbrev pub map_of : Thing → Map → Map
-map_of (of_query x) m = m
-map_of (of_operand (q.named name)) m = []
-map_of (of_operand (q.derived query)) m = m
-map_of (of_operand (q.crossed x y)) m = m
-map_of (of_operand (q.joined x y p)) m = m
-map_of (of_operand (q.left_joined x y n p)) m = m
-map_of (of_rows from by places ls) m = m
-map_of (of_groups from by places ls) m = m
-
--- a box is there for one thing, through one map
-abbrev pub IsFor : (ℕ → Thing) → (ℕ → Map) → ℕ → Thing → Map → Type 0
-IsFor what seen b thing m = (what b ≡ thing) × (seen b ≡ map_of thing m)
-
--- each box is there for one thing and shows it, over boxes that are there for what lies within, the root for the query; a box that is used more than once is there for a table or a view
-pub record EachForOne (sources : Sources) (query : Query) (g : QueryGraph) : Type 0 where
-  pub what : ℕ → Thing
-  pub seen : ℕ → Map
-  pub root : IsFor what seen g.root (of_query query) []
-  pub each : (n : Node) → In n g.boxes → ShowsBox sources (IsFor what seen) (what n.id) (seen n.id) n
-  pub alone : (b : ℕ) → (uses b g.boxes ≤ 1) ⊎ IsNamed (what b)
 
 -- a graph is built of a query; its boxes stand in order, no two quantifiers have one number, and each box is there for one thing
 pub record BuiltApart (sources : Sources) (query : Query) (names : List (Option (List ℕ))) (order : List OrderKey) (g : QueryGraph) : Type 0 where

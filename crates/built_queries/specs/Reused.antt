@@ -13,7 +13,7 @@ use Rattle.qgm_terms.specs.Terms as t
 use Rattle.qgm_shown.specs.Law.{IsBuiltOf}
 use Rattle.qgm_shown.specs.Samples.{base, box, sources}
 use Rattle.built_queries.specs.Alike.{Meets}
-use Rattle.built_queries.specs.OneToOne.{EachForOne}
+use Rattle.qgm_shown.specs.There.{EachForOne}
 
 -- the body of V: SELECT U.C, U.D FROM U WHERE U.D >= 8
 abbrev pub body : Query

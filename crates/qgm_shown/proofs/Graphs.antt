@@ -17,12 +17,15 @@ use Rattle.qgm_shown.specs.Lays.{Low, Made, Unshared, laid_over}
 use Rattle.qgm_shown.specs.Reads.{query_reads}
 use Rattle.qgm_shown.specs.Shown.{Shows, Thing, of_operand, of_query, uses}
 use Rattle.qgm_shown.specs.Shown as w
+use Rattle.qgm_shown.specs.Maps.{Map}
 use Rattle.qgm_shown.specs.Sources.{Sources}
-use Rattle.qgm_shown.specs.Whole.{is_laid, is_wanted, lay_read, lay_tables, lay_views, lay_whole, nothing_laid, shares}
+use Rattle.qgm_shown.specs.There.{AreFor, EachForOne, Notes, both_noted}
+use Rattle.qgm_shown.specs.Whole.{graph_of, is_laid, is_wanted, lay_read, lay_tables, lay_views, lay_whole, nothing_laid, shares}
 use Rattle.qgm_shown.specs.WholeLaw.{EachViewSaid, IsLaidFor, IsOver, ViewSaid, is_declared}
 use Rattle.qgm_shown.proofs.Grows.{lay-grows}
 use Rattle.qgm_shown.proofs.LaidAll.{laid}
 use Rattle.qgm_shown.proofs.Made.{shows-as}
+use Rattle.qgm_shown.proofs.Noted.{all-noted, seens, whats}
 use Rattle.qgm_shown.proofs.Numbers.{below-or, or-cases}
 use Rattle.qgm_shown.proofs.Reading.{or-left, or-right, query-has, query-narrow, same-eq}
 use Rattle.qgm_shown.proofs.Rows.{begins-refl}
@@ -205,6 +208,25 @@ module _ (known sources : Sources) (tables : List BaseTable) (views : List ViewT
         by_case (inl f) = inr (f.name, subst (λ z. Shows sources like.boxes.made z (of_operand (q.named f.name)) []) f.is (shown f.name f.laid))
         by_case (inr u) = inl (few b u)
 
+    abbrev notes : Notes 0 like.boxes.box
+    notes = both_noted 0 base.box like.boxes.box good.notes (made.notes (of_query query))
+
+    -- each box is there for one thing
+    there : EachForOne sources query (graph_of like names order)
+    there =
+        let what : ℕ → Thing = whats like.boxes.box notes in
+        let seen : ℕ → Map = seens like.boxes.box notes in
+        let are : AreFor what seen 0 like.boxes.box notes = all-noted like.boxes.box notes in
+        let first = good.there what seen are.0 in
+        let then = made.there (of_query query) (inl refl) what seen are.1 first.0 in
+        record {
+          what = what;
+          seen = seen;
+          root = then.0;
+          each = then.1 first.1;
+          alone = λ b. (elim (shared-or sources b base.shared) [ inl f ↦ inr (f.name, subst (λ z. what z ≡ of_operand (q.named f.name)) f.is (first.0 f.name f.laid).0) | inr u ↦ inl (few b u) ]);
+        }
+
     is-laid-like : IsLaidFor sources query names order like
     is-laid-like =
         let stands = made.keeps.order good.order in
@@ -222,6 +244,7 @@ module _ (known sources : Sources) (tables : List BaseTable) (views : List ViewT
           counted = made.keeps.counted good.counted;
           typed = made.keeps.typed good.counted good.typed;
           apart = apart;
+          there = there;
         }
 
     pub is-laid-for : IsLaidFor sources query names order r

@@ -25,6 +25,7 @@ pub mod Rows
 pub mod TermsUnder
 pub mod TermsSame
 pub mod FromsSame
+pub mod Noted
 pub mod Made
 pub mod LaidAll
 pub mod Grows

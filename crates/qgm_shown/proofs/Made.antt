@@ -1,5 +1,5 @@
 -- What each step of the making gives.
-use Rattle.std.proofs.Common.{◌≡◌, ◌≤◌, ◌<◌, ◌||◌, cond, ℕ, suc, ◌+◌, ◌==◌, Bool, true, false, List, [], ◌∷◌, ◌++◌, map, length, get_or, pos, append_assoc, append-nil, refl, ap, ap₂, sym, ◌∙◌, subst, arith, Option}
+use Rattle.std.proofs.Common.{inl, inr, ◌≡◌, ◌≤◌, ◌<◌, ◌||◌, cond, ℕ, suc, ◌+◌, ◌==◌, Bool, true, false, List, [], ◌∷◌, ◌++◌, map, length, get_or, pos, append_assoc, append-nil, refl, ap, ap₂, sym, ◌∙◌, subst, arith, Option}
 use Rattle.std.proofs.lemmas.Bool.{ne_eqb, eq-eqb, eqb-true}
 use Rattle.sql_ast.specs.declared.word.SetFunction.{SetFunction}
 use Rattle.sql_meaning.specs.ResolvedTrees.{Value, Addends, Multipliers, Values, Arms, Choices, Test, Tests, From, Froms, Query}
@@ -22,6 +22,8 @@ use Rattle.qgm_shown.specs.Terms as l
 use Rattle.qgm_shown.specs.Shown.{over_in, uses, HasKey, PlainArguments, Thing, columns_of, fold_terms, key_frame, key_places, no_slots, of_groups, of_operand, of_query, of_rows, refs}
 use Rattle.qgm_shown.specs.Shown as w
 use Rattle.qgm_shown.specs.Sources.{Sources, from_width, froms_width, width}
+use Rattle.qgm_shown.specs.There.{EachFor, IsFor, Notes, both_noted, noted, unnoted}
+use Rattle.qgm_shown.proofs.Noted.{shows-there}
 use Rattle.qgm_shown.specs.Lay.{Boxes, Laid, Drawn, Step, column_types, put, ranging, drawn, none, in_turn, over, pair_of}
 use Rattle.qgm_core.specs.declared.kinds.SetOperator as forms
 use Rattle.qgm_shown.specs.Lay as y
@@ -36,6 +38,14 @@ use Rattle.qgm_meaning.specs.Scope.{loose}
 use Rattle.qgm_shown.proofs.Loose.{shown-clear}
 use Rattle.qgm_shown.proofs.Order.{low-more, low-not, shows-has, thing-over, thing-settled}
 use Rattle.qgm_shown.proofs.Fills.{Fills, FillsAll, fills-crossed, fills-joined, fills-next, fills-none}
+
+-- a box is there for what it is laid as, beside others
+pub each-put : (sources : Sources) (what : ℕ → Thing) (seen : ℕ → Map) (n : Node) (ns : List Node) {X : Type 0} → w.ShowsBox sources (IsFor what seen) (what n.id) (seen n.id) n → (X → EachFor sources what seen ns) → X → EachFor sources what seen (n ∷ ns)
+each-put sources what seen n ns h f x k (inl e) = subst (λ (z : Node). w.ShowsBox sources (IsFor what seen) (what z.id) (seen z.id) z) e h
+each-put sources what seen n ns h f x k (inr i) = f x k i
+
+named-for : (what : ℕ → Thing) (seen : ℕ → Map) (b : ℕ) (name : List ℕ) (other : Thing) (m : Map) → other ≡ of_operand (q.named name) → IsFor what seen b (of_operand (q.named name)) [] → IsFor what seen b other m
+named-for what seen b name other m e h = subst (λ t. IsFor what seen b t m) (sym e) h
 
 module _ (sources : Sources) (has : List ℕ → Bool) where
   abbrev pub Shows : List Node → ℕ → Thing → Map → Type 0
@@ -53,6 +63,9 @@ module _ (sources : Sources) (has : List ℕ → Bool) where
   -- all is told beforehand
   abbrev pub same : Boxes → Sources
   same s = sources
+
+  abbrev pub WhereFor : (s r : Boxes) → Notes s.box r.box → ((ℕ → Thing) → (ℕ → Map) → Type 0) → Type 0
+  WhereFor = k.WhereFor sources has
 
   -- ---- what stays
 
@@ -78,7 +91,7 @@ module _ (sources : Sources) (has : List ℕ → Bool) where
   keeps-ranging b a = record {
     boxes = omega arith;
     quants = omega arith;
-    order = λ o. record { low = o.low; ordered = o.ordered; settled = o.settled; bound = λ q h. (let x = o.bound q h in omega arith); once = o.once; unused = o.unused; named = o.named; each = o.each };
+    order = λ o. record { low = o.low; ordered = o.ordered; settled = o.settled; bound = λ q h. (let x = o.bound q h in omega arith); once = o.once; unused = o.unused; named = o.named };
     kept = λ j l u. refl;
     owners = λ q l h. h;
     same = λ j thing m l h. h;
@@ -196,8 +209,9 @@ module _ (sources : Sources) (has : List ℕ → Bool) where
   -- a box that is put on top
   pub made-put : (kind : BoxKind) (distinct : Bool) (conds : List Cond) (head : List Term) (quants : List OwnedQuant) (thing : Thing) (m : Map) (a s : Boxes) → Keeps a s → Rising a.quant s.quant quants → Free a s quants → Counts a s quants → (Counted a → EachRanges s quants) → (0 < s.quant → HeadUnder s.quant head)
       → w.ShowsBox sources (Shows s.made) thing m (y.plain_box s.box kind distinct conds head quants)
+      → (notes : Notes a.box s.box) → WhereFor a s notes (λ what seen. w.ShowsBox sources (IsFor what seen) thing m (y.plain_box s.box kind distinct conds head quants))
       → Made thing m a (put kind distinct conds head quants s)
-  made-put kind distinct conds head quants thing m a s k rising free counts ranged under h =
+  made-put kind distinct conds head quants thing m a s k rising free counts ranged under h notes there =
       let n : Node = y.plain_box s.box kind distinct conds head quants in
       let r : Laid = put kind distinct conds head quants s in
       record {
@@ -214,7 +228,6 @@ module _ (sources : Sources) (has : List ℕ → Bool) where
                 unused = λ j l. (let z = counts.later j (omega arith) in let v = x.unused j (omega arith) in omega arith);
                 named = λ name t. (let z = x.named name t in omega arith);
                 once = (rising-distinct a.quant s.quant quants rising, (λ q own. free o q own), x.once);
-                each = (record { thing = thing; seen = m; shows = h }, x.each);
               };
           kept = λ j l u. (let x = counts.old j l u in let z = k.kept j l u in omega arith);
           owners = λ q l t. or-cases (list_any (is_quant q) quants) (owned q s.made) t (λ e. absurd (let x = (rising-in a.quant s.quant q quants rising e).0 in omega arith)) (λ e. k.owners q l e);
@@ -242,6 +255,10 @@ module _ (sources : Sources) (has : List ℕ → Bool) where
             (λ z. (let v = counts.new o j l z in v) ∙ sym (ap (λ b. cond b 0 1) (ne_eqb s.box j (λ (e : s.box ≡ j). absurd (omega arith)))))
             (λ z. let v = counts.later j z in let u = (k.order o).unused j z in let e : over_in j quants + uses j s.made ≡ 0 = omega arith in let i : s.box ≡ j = omega arith in e ∙ sym (ap (λ b. cond b 0 1) (eq-eqb s.box j i)));
         top = λ j l u. ne_eqb s.box j (λ (e : s.box ≡ j). absurd (let x = k.boxes in omega arith));
+        notes = λ other. both_noted a.box s.box (suc s.box) notes (noted s.box other m);
+        there = λ other fit what seen are names.
+            let x = there what seen are.0 names in
+            (are.1, each-put sources what seen n s.made (shows-there sources (IsFor what seen) n thing m other what seen fit are.1 x.0) (λ f. x.1 f));
       }
 
   -- ---- the quantifiers of a FROM
@@ -255,6 +272,8 @@ module _ (sources : Sources) (has : List ℕ → Bool) where
     pub fills : Fills sources x r.quants
     pub under : UnderIn r.boxes.quant (w.frame sources x r.quants)
     pub shows : (c : Boxes) → Keeps r.boxes c → (more : List OwnedQuant) → w.ShowsFrom sources (Shows c.made) x m (r.quants ++ more)
+    pub notes : Notes s.box r.boxes.box
+    pub there : WhereFor s r.boxes notes (λ what seen. (more : List OwnedQuant) → w.ShowsFrom sources (IsFor what seen) x m (r.quants ++ more))
 
   pub record MadeFroms (x : Froms) (m : Map) (s : Boxes) (r : Drawn) : Type 0 where
     pub keeps : Keeps s r.boxes
@@ -265,6 +284,8 @@ module _ (sources : Sources) (has : List ℕ → Bool) where
     pub fills : FillsAll sources x r.quants
     pub under : UnderIn r.boxes.quant (w.frame_all sources x r.quants)
     pub shows : (c : Boxes) → Keeps r.boxes c → (more : List OwnedQuant) → w.ShowsFroms sources (Shows c.made) x m (r.quants ++ more)
+    pub notes : Notes s.box r.boxes.box
+    pub there : WhereFor s r.boxes notes (λ what seen. (more : List OwnedQuant) → w.ShowsFroms sources (IsFor what seen) x m (r.quants ++ more))
 
   -- one quantifier over an operand
   pub from-one : (x : From) (n : ℕ) (m : Map) (s : Boxes) (r : Laid) → Made (of_operand x) m s r → Fills sources x (drawn F r).quants
@@ -280,6 +301,10 @@ module _ (sources : Sources) (has : List ℕ → Bool) where
     fills = fills;
     under = subst (UnderIn (suc r.boxes.quant)) (sym frame) (under_in-refs (suc r.boxes.quant) r.boxes.quant 1 n (omega arith));
     shows = λ c k more. one (Shows c.made) ((drawn F r).quants ++ more) (refl, still (of_operand x) m s r c h (keeps-trans r.boxes (drawn F r).boxes c (keeps-ranging r.top r.boxes) k));
+    notes = h.notes (of_operand x);
+    there = λ what seen are names.
+        let y = h.there (of_operand x) refl what seen are names in
+        ((λ more. one (IsFor what seen) ((drawn F r).quants ++ more) (refl, y.0)), y.1);
   }
 
   pub from-both : (x y z : From) (m : Map) (s : Boxes) (a b : Drawn) → MadeFrom x m s a → MadeFrom y m a.boxes b → Fills sources z (a.quants ++ b.quants)
@@ -299,6 +324,16 @@ module _ (sources : Sources) (has : List ℕ → Bool) where
       subst (w.ShowsFrom sources (Shows c.made) x m) (sym (append_assoc a.quants b.quants more)) (h.shows c (keeps-trans a.boxes b.boxes c k.keeps g) (b.quants ++ more)),
       subst (w.ShowsFrom sources (Shows c.made) y m) (sym (ap (w.past sources x) (append_assoc a.quants b.quants more) ∙ h.fills.past (b.quants ++ more))) (k.shows c g more),
     );
+    notes = both_noted s.box a.boxes.box b.boxes.box h.notes k.notes;
+    there = λ what seen are names.
+        let i = h.there what seen are.0 names in
+        let j = k.there what seen are.1 names in (
+          (λ more. both (IsFor what seen) (a.quants ++ b.quants ++ more) (
+            subst (w.ShowsFrom sources (IsFor what seen) x m) (sym (append_assoc a.quants b.quants more)) (i.0 (b.quants ++ more)),
+            subst (w.ShowsFrom sources (IsFor what seen) y m) (sym (ap (w.past sources x) (append_assoc a.quants b.quants more) ∙ h.fills.past (b.quants ++ more))) (j.0 more),
+          )),
+          λ f. j.1 (i.1 f),
+        );
   }
 
   pub from-crossed : (x y : From) (m : Map) (s : Boxes) (a b : Drawn) → MadeFrom x m s a → MadeFrom y m a.boxes b → MadeFrom (q.crossed x y) m s (record { boxes = b.boxes; quants = a.quants ++ b.quants })
@@ -308,7 +343,7 @@ module _ (sources : Sources) (has : List ℕ → Bool) where
   from-joined x y p m s a b h k = from-both x y (q.joined x y p) m s a b h k (fills-joined sources x y p a.quants b.quants h.fills k.fills) (λ os. refl) (λ below os z. z)
 
   pub froms-none : (m : Map) (s : Boxes) → MadeFroms q.no_from m s (none s)
-  froms-none m s = record { keeps = keeps-refl s; rising = omega arith; free = λ o q t. absurd (cc t); counts = counts-none s; ranged = λ c. tt; fills = fills-none sources; under = tt; shows = λ c k more. tt }
+  froms-none m s = record { keeps = keeps-refl s; rising = omega arith; free = λ o q t. absurd (cc t); counts = counts-none s; ranged = λ c. tt; fills = fills-none sources; under = tt; shows = λ c k more. tt; notes = unnoted s.box; there = λ what seen are names. ((λ more. tt), λ f. f) }
 
   pub froms-next : (x : From) (xs : Froms) (m : Map) (s : Boxes) (a b : Drawn) → MadeFrom x m s a → MadeFroms xs m a.boxes b → MadeFroms (q.one_from x xs) m s (record { boxes = b.boxes; quants = a.quants ++ b.quants })
   froms-next x xs m s a b h k = record {
@@ -324,6 +359,16 @@ module _ (sources : Sources) (has : List ℕ → Bool) where
       subst (w.ShowsFrom sources (Shows c.made) x m) (sym (append_assoc a.quants b.quants more)) (h.shows c (keeps-trans a.boxes b.boxes c k.keeps g) (b.quants ++ more)),
       subst (w.ShowsFroms sources (Shows c.made) xs m) (sym (ap (w.past sources x) (append_assoc a.quants b.quants more) ∙ h.fills.past (b.quants ++ more))) (k.shows c g more),
     );
+    notes = both_noted s.box a.boxes.box b.boxes.box h.notes k.notes;
+    there = λ what seen are names.
+        let i = h.there what seen are.0 names in
+        let j = k.there what seen are.1 names in (
+          (λ more. (
+            subst (w.ShowsFrom sources (IsFor what seen) x m) (sym (append_assoc a.quants b.quants more)) (i.0 (b.quants ++ more)),
+            subst (w.ShowsFroms sources (IsFor what seen) xs m) (sym (ap (w.past sources x) (append_assoc a.quants b.quants more) ∙ h.fills.past (b.quants ++ more))) (j.0 more),
+          )),
+          λ f. j.1 (i.1 f),
+        );
   }
 
   -- an operand alone
@@ -339,6 +384,8 @@ module _ (sources : Sources) (has : List ℕ → Bool) where
     pub counts : Counts s r.boxes r.quants
     pub ranged : Counted s → EachRanges r.boxes r.quants
     pub shows : (c : Boxes) → Keeps r.boxes c → w.ShowsSubs sources (Shows c.made) m ls r.quants
+    pub notes : Notes s.box r.boxes.box
+    pub there : WhereFor s r.boxes notes (λ what seen. w.ShowsSubs sources (IsFor what seen) m ls r.quants)
 
   -- a step that makes what these leaves ask for, which see a frame or parts of it
   pub record Serves (fr : Frame) (m : Map) (ls : List Leaf) (step : Step) : Type 0 where
@@ -359,13 +406,13 @@ module _ (sources : Sources) (has : List ℕ → Bool) where
   subs-append below m (count ∷ a) b os ps h k = subs-append below m a b os ps h k
 
   pub nothing : {fr : Frame} {m : Map} → Serves fr m [] none
-  nothing {fr} {m} = record { plain = λ f. tt; at = λ s r. record { keeps = keeps-refl s; rising = omega arith; free = λ o q t. absurd (cc t); counts = counts-none s; ranged = λ c. tt; shows = λ c k. refl } }
+  nothing {fr} {m} = record { plain = λ f. tt; at = λ s r. record { keeps = keeps-refl s; rising = omega arith; free = λ o q t. absurd (cc t); counts = counts-none s; ranged = λ c. tt; shows = λ c k. refl; notes = unnoted s.box; there = λ what seen are names. (refl, λ f. f) } }
 
   pub counted : {fr : Frame} {m : Map} → Serves fr m (count ∷ []) none
-  counted {fr} {m} = record { plain = λ f. tt; at = λ s r. record { keeps = keeps-refl s; rising = omega arith; free = λ o q t. absurd (cc t); counts = counts-none s; ranged = λ c. tt; shows = λ c k. refl } }
+  counted {fr} {m} = record { plain = λ f. tt; at = λ s r. record { keeps = keeps-refl s; rising = omega arith; free = λ o q t. absurd (cc t); counts = counts-none s; ranged = λ c. tt; shows = λ c k. refl; notes = unnoted s.box; there = λ what seen are names. (refl, λ f. f) } }
 
   pub folded : {fr : Frame} {m : Map} (f : SetFunction) (d : Bool) (x : q.Value) → ((f : Frame) → leaves f x ≡ []) → Serves fr m (fold f d x ∷ []) none
-  folded {fr} {m} f d x h = record { plain = λ f. (h f, tt); at = λ s r. record { keeps = keeps-refl s; rising = omega arith; free = λ o q t. absurd (cc t); counts = counts-none s; ranged = λ c. tt; shows = λ c k. refl } }
+  folded {fr} {m} f d x h = record { plain = λ f. (h f, tt); at = λ s r. record { keeps = keeps-refl s; rising = omega arith; free = λ o q t. absurd (cc t); counts = counts-none s; ranged = λ c. tt; shows = λ c k. refl; notes = unnoted s.box; there = λ what seen are names. (refl, λ f. f) } }
 
   pub both : {fr : Frame} {m : Map} {ls ks : List Leaf} {a b : Step} → Serves fr m ls a → Serves fr m ks b → Serves fr m (ls ++ ks) (in_turn a b)
   both {fr} {m} {ls} {ks} {a} {b} h k = record {
@@ -380,6 +427,11 @@ module _ (sources : Sources) (has : List ℕ → Bool) where
           counts = counts-append s (a s).boxes (b (a s).boxes).boxes (a s).quants (b (a s).boxes).quants x.keeps y.keeps x.counts y.counts;
           ranged = ranged-append s (a s).boxes (b (a s).boxes).boxes (a s).quants (b (a s).boxes).quants x.keeps y.keeps x.ranged y.ranged;
           shows = λ c g. subs-append (Shows c.made) m ls ks (a s).quants (b (a s).boxes).quants (x.shows c (keeps-trans (a s).boxes (b (a s).boxes).boxes c y.keeps g)) (y.shows c g);
+          notes = both_noted s.box (a s).boxes.box (b (a s).boxes).boxes.box x.notes y.notes;
+          there = λ what seen are names.
+              let i = x.there what seen are.0 names in
+              let j = y.there what seen are.1 names in
+              (subs-append (IsFor what seen) m ls ks (a s).quants (b (a s).boxes).quants i.0 j.0, λ f. j.1 (i.1 f));
         };
   }
 
@@ -399,6 +451,10 @@ module _ (sources : Sources) (has : List ℕ → Bool) where
           counts = counts-ranging a.top s a.boxes (drawn kind a).quants (counts-one (of_query x) (fr ∷ m) s a a.boxes.quant kind made);
           ranged = ranged-one s a.boxes kind a.top made.keeps made.known;
           shows = λ c k. (refl, e, fresh-under a.boxes.quant (fr ∷ m) (under-more s.quant a.boxes.quant (fr ∷ m) made.keeps.quants r.under), still (of_query x) (fr ∷ m) s a c made (keeps-trans a.boxes (drawn kind a).boxes c (keeps-ranging a.top a.boxes) k), refl);
+          notes = made.notes (of_query x);
+          there = λ what seen are names.
+              let y = made.there (of_query x) (inl refl) what seen are names in
+              ((refl, e, fresh-under a.boxes.quant (fr ∷ m) (under-more s.quant a.boxes.quant (fr ∷ m) made.keeps.quants r.under), y.0, refl), y.1);
         };
   }
 
@@ -419,8 +475,9 @@ module _ (sources : Sources) (has : List ℕ → Bool) where
 
   pub shows-select : (distinct : Bool) (from : Froms) (by : Test) (heads : Frame → List Leaf) (list : Frame → Slots → List Term) (m : Map) (s : Boxes) (f c : Drawn) → Under s.quant m
       → MadeFroms from m s f → MadeSubs m (w.all_leaves sources from by heads f.quants) f.boxes c
-      → w.ShowsSelect sources (Shows c.boxes.made) (w.distinct_of distinct) from by heads list m (select_node distinct from by heads list m f.quants c)
-  shows-select distinct from by heads list m s f c u h k =
+      → (below : ℕ → Thing → Map → Type 0) → w.ShowsFroms sources below from m (f.quants ++ c.quants) → w.ShowsSubs sources below m (w.all_leaves sources from by heads f.quants) c.quants
+      → w.ShowsSelect sources below (w.distinct_of distinct) from by heads list m (select_node distinct from by heads list m f.quants c)
+  shows-select distinct from by heads list m s f c u h k below froms subs =
       let all = f.quants ++ c.quants in
       let leaves_of : List OwnedQuant → List Leaf = w.all_leaves sources from by heads in
       let fr = h.fills.frame c.quants in
@@ -433,15 +490,30 @@ module _ (sources : Sources) (has : List ℕ → Bool) where
       record {
         kind = refl;
         plain = record { distinctness = refl; role = refl; numbered = numbered-apart s.quant c.boxes.quant m all u rising };
-        froms = h.shows c.boxes k.keeps c.quants;
-        subs = subst (λ ls. w.ShowsSubs sources (Shows c.boxes.made) m ls (w.past_all sources from all)) (sym leaves_same)
-            (subst (w.ShowsSubs sources (Shows c.boxes.made) m (leaves_of f.quants)) (sym past) (k.shows c.boxes (keeps-refl c.boxes)));
+        froms = froms;
+        subs = subst (λ ls. w.ShowsSubs sources below m ls (w.past_all sources from all)) (sym leaves_same) (subst (w.ShowsSubs sources below m (leaves_of f.quants)) (sym past) subs);
         conds = sym (ap (w.conds_of sources from by heads m all) slots_same
             ∙ ap₂ (λ a b. a ++ b)
             (h.fills.ons m (after (heads (w.frame_all sources from all)) slots) c.quants ∙ ap (λ g. w.all_ons sources m from f.quants (after (heads g) slots)) fr)
             (ap₂ (λ g ls. split (l.cond sources g m (after ls (after (heads g) slots)) by)) fr on));
         head = sym (ap₂ list fr slots_same);
       }
+
+  -- over the boxes that were made
+  pub shows-made : (distinct : Bool) (from : Froms) (by : Test) (heads : Frame → List Leaf) (list : Frame → Slots → List Term) (m : Map) (s : Boxes) (f c : Drawn) → Under s.quant m
+      → MadeFroms from m s f → MadeSubs m (w.all_leaves sources from by heads f.quants) f.boxes c
+      → w.ShowsSelect sources (Shows c.boxes.made) (w.distinct_of distinct) from by heads list m (select_node distinct from by heads list m f.quants c)
+  shows-made distinct from by heads list m s f c u h k =
+      shows-select distinct from by heads list m s f c u h k (Shows c.boxes.made) (h.shows c.boxes k.keeps c.quants) (k.shows c.boxes (keeps-refl c.boxes))
+
+  -- over boxes that are there for what lies within
+  pub there-select : (distinct : Bool) (from : Froms) (by : Test) (heads : Frame → List Leaf) (list : Frame → Slots → List Term) (m : Map) (s : Boxes) (f c : Drawn) → Under s.quant m
+      → (h : MadeFroms from m s f) (k : MadeSubs m (w.all_leaves sources from by heads f.quants) f.boxes c)
+      → WhereFor s c.boxes (both_noted s.box f.boxes.box c.boxes.box h.notes k.notes) (λ what seen. w.ShowsSelect sources (IsFor what seen) (w.distinct_of distinct) from by heads list m (select_node distinct from by heads list m f.quants c))
+  there-select distinct from by heads list m s f c u h k what seen are names =
+      let i = h.there what seen are.0 names in
+      let j = k.there what seen are.1 names in
+      (shows-select distinct from by heads list m s f c u h k (IsFor what seen) (i.0 c.quants) j.0, λ f. j.1 (i.1 f))
 
   -- ---- boxes
 
@@ -456,10 +528,10 @@ module _ (sources : Sources) (has : List ℕ → Bool) where
       split-as false e later h = later h
 
   pub derived-made : (x : Query) (m : Map) (s : Boxes) (r : Laid) → Made (of_query x) m s r → Made (of_operand (q.derived x)) m s r
-  derived-made x m s r h = record { keeps = h.keeps; known = h.known; shows = shows-as (of_query x) (of_operand (q.derived x)) m m r.top (λ below n e z. z) r.boxes.made h.shows; used = h.used; top = h.top }
+  derived-made x m s r h = record { keeps = h.keeps; known = h.known; shows = shows-as (of_query x) (of_operand (q.derived x)) m m r.top (λ below n e z. z) r.boxes.made h.shows; used = h.used; top = h.top; notes = h.notes; there = λ other fit. h.there other (inr (inl fit)) }
 
   pub named-made : (name : List ℕ) (m : Map) (s : Boxes) → has name ≡ true → Ready s m → Made (of_operand (q.named name)) m s (record { boxes = s; top = sources.shared name })
-  named-made name m s h r = record { keeps = keeps-refl s; known = r.known name h; shows = r.sourced name h m; used = λ o j l t. absurd (omega arith); top = λ j l u. u name h }
+  named-made name m s h r = record { keeps = keeps-refl s; known = r.known name h; shows = r.sourced name h m; used = λ o j l t. absurd (omega arith); top = λ j l u. u name h; notes = λ other. unnoted s.box; there = λ other fit what seen are names. (named-for what seen (sources.shared name) name other m fit (names name h), λ f. f) }
 
   pub block-made : (distinct : Bool) (list : Values) (from : Froms) (by : Test) (m : Map) (s : Boxes) (f c : Drawn) → Under s.quant m → MadeFroms from m s f
       → MadeSubs m (w.all_leaves sources from by (λ fr. list_leaves fr list) f.quants) f.boxes c
@@ -472,7 +544,7 @@ module _ (sources : Sources) (has : List ℕ → Bool) where
       made-put Select distinct n.parts.conds.items n.parts.head n.quants (of_query (q.block distinct list from by)) m s c.boxes (keeps-trans s f.boxes c.boxes h.keeps k.keeps)
       (rising-append s.quant f.boxes.quant c.boxes.quant f.quants c.quants h.rising k.rising) (free-append s f.boxes c.boxes f.quants c.quants h.keeps k.keeps h.rising h.free k.free) (counts-append s f.boxes c.boxes f.quants c.quants h.keeps k.keeps h.counts k.counts)
       (ranged-append s f.boxes c.boxes f.quants c.quants h.keeps k.keeps h.ranged k.ranged) (λ some. terms-under sources c.boxes.quant some (w.frame_all sources from f.quants) m (frame-later from m s f c h k.keeps) (under-more s.quant c.boxes.quant m (keeps-trans s f.boxes c.boxes h.keeps k.keeps).quants u) slots (slots-under f.boxes.quant c.boxes.quant (w.all_leaves sources from by heads f.quants) c.quants k.rising) list)
-      (shows-select distinct from by heads items m s f c u h k)
+      (shows-made distinct from by heads items m s f c u h k) (both_noted s.box f.boxes.box c.boxes.box h.notes k.notes) (there-select distinct from by heads items m s f c u h k)
 
   abbrev pub Flat : (ℕ → Thing → Map → Type 0) → From → Map → Node → Type 0
   Flat below x m b = w.ShowsFlat sources below x m b
@@ -484,11 +556,13 @@ module _ (sources : Sources) (has : List ℕ → Bool) where
       let items : Frame → Slots → List Term = λ fr s. map ref_term fr in
       let n = select_node false (q.one_from x q.no_from) (q.all q.no_test) heads items m f.quants c in
       let ls = w.on_leaves sources x f.quants in
+      let first : MadeFroms (q.one_from x q.no_from) m s f = froms-alone x m s f h in
+      let then : MadeSubs m (w.all_leaves sources (q.one_from x q.no_from) (q.all q.no_test) heads f.quants) f.boxes c = subst (λ z. MadeSubs m z f.boxes c) (sym (append-nil (ls ++ []) ∙ append-nil ls)) k in
       made-put Select false n.parts.conds.items n.parts.head n.quants (of_operand x) m s c.boxes (keeps-trans s f.boxes c.boxes h.keeps k.keeps)
       (rising-append s.quant f.boxes.quant c.boxes.quant f.quants c.quants h.rising k.rising) (free-append s f.boxes c.boxes f.quants c.quants h.keeps k.keeps h.rising h.free k.free) (counts-append s f.boxes c.boxes f.quants c.quants h.keeps k.keeps h.counts k.counts)
       (ranged-append s f.boxes c.boxes f.quants c.quants h.keeps k.keeps h.ranged k.ranged) (λ some. refs-under c.boxes.quant (w.frame sources x f.quants ++ []) (frame-later (q.one_from x q.no_from) m s f c (froms-alone x m s f h) k.keeps))
-      (to (Shows c.boxes.made) n (shows-select false (q.one_from x q.no_from) (q.all q.no_test) heads items m s f c u (froms-alone x m s f h)
-      (subst (λ z. MadeSubs m z f.boxes c) (sym (append-nil (ls ++ []) ∙ append-nil ls)) k)))
+      (to (Shows c.boxes.made) n (shows-made false (q.one_from x q.no_from) (q.all q.no_test) heads items m s f c u first then)) (both_noted s.box f.boxes.box c.boxes.box first.notes then.notes)
+      (λ what seen are names. let z = there-select false (q.one_from x q.no_from) (q.all q.no_test) heads items m s f c u first then what seen are names in (to (IsFor what seen) n z.0, z.1))
 
   pub outer-made : (x z : From) (n : ℕ) (on : Test) (m : Map) (s : Boxes) (a : Laid) (lay : Boxes → Laid) → Ready s m → Made (of_operand x) m s a → Made (of_operand z) m a.boxes (lay a.boxes)
       → from_width sources z ≡ n → ((fr : Frame) → test_leaves fr on ≡ []) → Made (of_operand (q.left_joined x z n on)) m s (y.outer_box sources same x n on m lay a)
@@ -499,18 +573,24 @@ module _ (sources : Sources) (has : List ℕ → Bool) where
       let os = pair_of b.boxes.quant a.top b.top in
       let grow = keeps-trans b.boxes (ranging a.top b.boxes) c (keeps-ranging a.top b.boxes) (keeps-ranging b.top (ranging a.top b.boxes)) in
       let later = keeps-trans s a.boxes b.boxes h.keeps k.keeps in
+      let shows : (below : ℕ → Thing → Map → Type 0) → below a.top (of_operand x) m → below b.top (of_operand z) m → w.ShowsOuter sources below x z n on m (y.plain_box c.box OuterJoin false (split (l.cond sources fr m no_slots on)) (map ref_term fr) os)
+      = λ below i j. record {
+        kind = refl;
+        plain = record { distinctness = refl; role = refl; numbered = numbered-apart b.boxes.quant c.quant m os (under-more s.quant b.boxes.quant m later.quants r.under) (omega arith, (omega arith, omega arith)) };
+        columns = e;
+        quants = (refl, refl, record { left = i; right = j; on = none fr; conds = refl; head = refl });
+      } in
       made-put OuterJoin false (split (l.cond sources fr m no_slots on)) (map ref_term fr) os (of_operand (q.left_joined x z n on)) m s c (keeps-trans s b.boxes c later grow)
       (rising-from s.quant b.boxes.quant c.quant os later.quants (omega arith, (omega arith, omega arith))) (free-pair s b.boxes a.top b.top later)
       (counts-ranging b.top s (ranging a.top b.boxes) os (counts-ranging a.top s b.boxes os (counts-append s a.boxes b.boxes (record { id = b.boxes.quant; kind = F; over = a.top } ∷ []) (record { id = suc b.boxes.quant; kind = F; over = b.top } ∷ []) h.keeps k.keeps
       (counts-one (of_operand x) m s a b.boxes.quant F h) (counts-one (of_operand z) m a.boxes b (suc b.boxes.quant) F k))))
       (ranged-two s a.boxes b.boxes a.top b.top later (let z = h.known in let y = k.keeps.boxes in omega arith) k.known)
       (λ some. refs-under c.quant fr (under_in-append c.quant (refs b.boxes.quant 1 (from_width sources x)) (refs (suc b.boxes.quant) 1 n) (under_in-refs c.quant b.boxes.quant 1 (from_width sources x) (omega arith)) (under_in-refs c.quant (suc b.boxes.quant) 1 n (omega arith))))
-      (record {
-        kind = refl;
-        plain = record { distinctness = refl; role = refl; numbered = numbered-apart b.boxes.quant c.quant m os (under-more s.quant b.boxes.quant m later.quants r.under) (omega arith, (omega arith, omega arith)) };
-        columns = e;
-        quants = (refl, refl, record { left = still (of_operand x) m s a c h (keeps-trans a.boxes b.boxes c k.keeps grow); right = still (of_operand z) m a.boxes b c k grow; on = none fr; conds = refl; head = refl });
-      })
+      (shows (Shows c.made) (still (of_operand x) m s a c h (keeps-trans a.boxes b.boxes c k.keeps grow)) (still (of_operand z) m a.boxes b c k grow)) (both_noted s.box a.boxes.box b.boxes.box (h.notes (of_operand x)) (k.notes (of_operand z)))
+      (λ what seen are names.
+      let i = h.there (of_operand x) refl what seen are.0 names in
+      let j = k.there (of_operand z) refl what seen are.1 names in
+      (shows (IsFor what seen) i.0 j.0, λ f. j.1 (i.1 f)))
 
   pub two-made : (x z t : Query) (form : forms.SetOperator) (n : ℕ) (m : Map) (s : Boxes) (a : Laid) (lay : Boxes → Laid) → Ready s m → Made (of_query x) m s a → Made (of_query z) m a.boxes (lay a.boxes)
       → width x ≡ n → width z ≡ n
@@ -522,20 +602,25 @@ module _ (sources : Sources) (has : List ℕ → Bool) where
       let kind = SetOp form (map sources.typed (w.columns_of b.boxes.quant 1 n)) in
       let grow = keeps-trans b.boxes (ranging a.top b.boxes) c (keeps-ranging a.top b.boxes) (keeps-ranging b.top (ranging a.top b.boxes)) in
       let later = keeps-trans s a.boxes b.boxes h.keeps k.keeps in
-      made-put kind false [] [] os (of_query t) m s c (keeps-trans s b.boxes c later grow)
-      (rising-from s.quant b.boxes.quant c.quant os later.quants (omega arith, (omega arith, omega arith))) (free-pair s b.boxes a.top b.top later)
-      (counts-ranging b.top s (ranging a.top b.boxes) os (counts-ranging a.top s b.boxes os (counts-append s a.boxes b.boxes (record { id = b.boxes.quant; kind = F; over = a.top } ∷ []) (record { id = suc b.boxes.quant; kind = F; over = b.top } ∷ []) h.keeps k.keeps
-      (counts-one (of_query x) m s a b.boxes.quant F h) (counts-one (of_query z) m a.boxes b (suc b.boxes.quant) F k))))
-      (ranged-two s a.boxes b.boxes a.top b.top later (let z = h.known in let y = k.keeps.boxes in omega arith) k.known) (λ some. tt)
-      (to (Shows c.made) (y.plain_box c.box kind false [] [] os)
-      (record {
+      let shows : (below : ℕ → Thing → Map → Type 0) → below a.top (of_query x) m → below b.top (of_query z) m → w.ShowsQuery sources below t m (y.plain_box c.box kind false [] [] os)
+      = λ below i j. to below (y.plain_box c.box kind false [] [] os) (record {
         kind = refl;
         plain = record { distinctness = refl; role = refl; numbered = numbered-apart b.boxes.quant c.quant m os (under-more s.quant b.boxes.quant m later.quants r.under) (omega arith, (omega arith, omega arith)) };
         bare = (refl, refl);
         left = left;
         right = right;
-        quants = (refl, refl, (still (of_query x) m s a c h (keeps-trans a.boxes b.boxes c k.keeps grow), still (of_query z) m a.boxes b c k grow));
-      }))
+        quants = (refl, refl, (i, j));
+      }) in
+      made-put kind false [] [] os (of_query t) m s c (keeps-trans s b.boxes c later grow)
+      (rising-from s.quant b.boxes.quant c.quant os later.quants (omega arith, (omega arith, omega arith))) (free-pair s b.boxes a.top b.top later)
+      (counts-ranging b.top s (ranging a.top b.boxes) os (counts-ranging a.top s b.boxes os (counts-append s a.boxes b.boxes (record { id = b.boxes.quant; kind = F; over = a.top } ∷ []) (record { id = suc b.boxes.quant; kind = F; over = b.top } ∷ []) h.keeps k.keeps
+      (counts-one (of_query x) m s a b.boxes.quant F h) (counts-one (of_query z) m a.boxes b (suc b.boxes.quant) F k))))
+      (ranged-two s a.boxes b.boxes a.top b.top later (let z = h.known in let y = k.keeps.boxes in omega arith) k.known) (λ some. tt)
+      (shows (Shows c.made) (still (of_query x) m s a c h (keeps-trans a.boxes b.boxes c k.keeps grow)) (still (of_query z) m a.boxes b c k grow)) (both_noted s.box a.boxes.box b.boxes.box (h.notes (of_query x)) (k.notes (of_query z)))
+      (λ what seen are names.
+      let i = h.there (of_query x) (inl refl) what seen are.0 names in
+      let j = k.there (of_query z) (inl refl) what seen are.1 names in
+      (shows (IsFor what seen) i.0 j.0, λ f. j.1 (i.1 f)))
 
   -- ---- groups
 
@@ -566,7 +651,8 @@ module _ (sources : Sources) (has : List ℕ → Bool) where
       (made-put Select false n.parts.conds.items n.parts.head n.quants (of_rows from by places ls) m s c.boxes (keeps-trans s f.boxes c.boxes h.keeps k.keeps)
       (rising-append s.quant f.boxes.quant c.boxes.quant f.quants c.quants h.rising k.rising) (free-append s f.boxes c.boxes f.quants c.quants h.keeps k.keeps h.rising h.free k.free) (counts-append s f.boxes c.boxes f.quants c.quants h.keeps k.keeps h.counts k.counts)
       (ranged-append s f.boxes c.boxes f.quants c.quants h.keeps k.keeps h.ranged k.ranged) (λ some. rows-under sources c.boxes.quant some fr (frame-later from m s f c h k.keeps) places ls (w.slots_of (w.all_leaves sources from by heads f.quants) c.quants))
-      (record { arguments = plain (w.frame_all sources from n.quants); rows = shows-select false from by heads items m s f c u h k }))
+      (record { arguments = plain (w.frame_all sources from n.quants); rows = shows-made false from by heads items m s f c u h k }) (both_noted s.box f.boxes.box c.boxes.box h.notes k.notes)
+      (λ what seen are names. let z = there-select false from by heads items m s f c u h k what seen are names in (record { arguments = plain (w.frame_all sources from n.quants); rows = z.0 }, z.1)))
 
   pub groups-made : (from : Froms) (by : Test) (places : List ℕ) (ks ls : List Leaf) (m : Map) (s : Boxes) (r : Laid) → folds_in ks ≡ folds_in ls → Under s.quant m → Made (of_rows from by places ls) m s r
       → Made (of_groups from by places ls) m s (y.group_box sources same places ks r)
@@ -574,17 +660,20 @@ module _ (sources : Sources) (has : List ℕ → Bool) where
       let g = r.boxes.quant in
       let c = (drawn F r).boxes in
       let folds : fold_terms g (suc (length places)) ks ≡ fold_terms g (suc (length places)) ls = sym (folds-same g (suc (length places)) ks) ∙ ap (fold_terms g (suc (length places))) alike ∙ folds-same g (suc (length places)) ls in
+      let shows : (below : ℕ → Thing → Map → Type 0) → below r.top (of_rows from by places ls) m → w.ShowsGroups sources below from by places ls m (y.plain_box c.box (Group (length places)) false [] (w.groups_list places ls g) (drawn F r).quants)
+      = λ below i. record {
+        kind = refl;
+        plain = record { distinctness = refl; role = refl; numbered = numbered-apart g c.quant m (drawn F r).quants (under-more s.quant g m h.keeps.quants u) (omega arith, omega arith) };
+        conds = refl;
+        quants = (refl, (i, refl));
+      } in
       subst (λ ts. Made (of_groups from by places ls) m s (put (Group (length places)) false [] (columns_of g 1 (length places) ++ ts) (drawn F r).quants c)) (sym folds)
       (made-put (Group (length places)) false [] (w.groups_list places ls g) (drawn F r).quants (of_groups from by places ls) m s c
       (keeps-trans s r.boxes c h.keeps (keeps-ranging r.top r.boxes)) (rising-from s.quant g c.quant (drawn F r).quants h.keeps.quants (omega arith, omega arith)) (free-one s r.boxes F r.top h.keeps)
       (counts-ranging r.top s r.boxes (drawn F r).quants (counts-one (of_rows from by places ls) m s r g F h)) (ranged-one s r.boxes F r.top h.keeps h.known)
       (λ some. groups-under c.quant g (length places) (suc (length places)) ls (omega arith))
-      (record {
-        kind = refl;
-        plain = record { distinctness = refl; role = refl; numbered = numbered-apart g c.quant m (drawn F r).quants (under-more s.quant g m h.keeps.quants u) (omega arith, omega arith) };
-        conds = refl;
-        quants = (refl, (still (of_rows from by places ls) m s r c h (keeps-ranging r.top r.boxes), refl));
-      }))
+      (shows (Shows c.made) (still (of_rows from by places ls) m s r c h (keeps-ranging r.top r.boxes))) (h.notes (of_rows from by places ls))
+      (λ what seen are names. let z = h.there (of_rows from by places ls) refl what seen are names in (shows (IsFor what seen) z.0, z.1)))
 
   abbrev pub upper_leaves : Frame → Values → Test → List Leaf
   upper_leaves = w.upper_leaves
@@ -604,7 +693,16 @@ module _ (sources : Sources) (has : List ℕ → Bool) where
       let first = keeps-trans s g.boxes d h.keeps (keeps-ranging g.top g.boxes) in
       let rises : Rising s.quant d.quant one = (h.keeps.quants, omega arith) in
       let rising : Rising s.quant c.boxes.quant os = rising-append s.quant d.quant c.boxes.quant one c.quants rises k.rising in
-      made-put Select distinct (split (l.cond sources fr m (after (list_leaves fr list) t) having)) (l.terms sources fr m t list) os (of_query (q.grouped distinct list from by places n having)) m s c.boxes
+      let conds : List Cond = split (l.cond sources fr m (after (list_leaves fr list) t) having) in
+      let shows : (below : ℕ → Thing → Map → Type 0) → below g.top (of_groups from by (key_places places) ls) m → w.ShowsSubs sources below m ls c.quants → w.ShowsGrouped sources below distinct list from by places n having m (y.plain_box c.boxes.box Select distinct conds (l.terms sources fr m t list) os)
+      = λ below i j. record {
+        kind = refl;
+        plain = record { distinctness = refl; role = refl; numbered = numbered-apart s.quant c.boxes.quant m os u rising };
+        key = key;
+        columns = e;
+        upper = record { kind = refl; groups = i; subs = j; conds = refl; head = refl };
+      } in
+      made-put Select distinct conds (l.terms sources fr m t list) os (of_query (q.grouped distinct list from by places n having)) m s c.boxes
       (keeps-trans s d c.boxes first k.keeps) rising (free-append s d c.boxes one c.quants first k.keeps rises (free-one s g.boxes F g.top h.keeps) k.free)
       (counts-append s d c.boxes one c.quants first k.keeps (counts-ranging g.top s g.boxes one (counts-one (of_groups from by (key_places places) ls) m s g g.boxes.quant F h)) k.counts)
       (ranged-append s d c.boxes one c.quants first k.keeps (ranged-one s g.boxes F g.top h.keeps h.known) k.ranged)
@@ -612,16 +710,9 @@ module _ (sources : Sources) (has : List ℕ → Bool) where
       let low : suc g.boxes.quant ≤ c.boxes.quant = k.keeps.quants in
       terms-under sources c.boxes.quant some fr m (under-keys c.boxes.quant g.boxes.quant (key_places places) 0 n (omega arith)) (under-more s.quant c.boxes.quant m (keeps-trans s d c.boxes first k.keeps).quants u) t
       (upper_slots-under d.quant c.boxes.quant g.boxes.quant (suc (length (key_places places))) ls c.quants (omega arith) k.rising) list)
-      (record {
-        kind = refl;
-        plain = record { distinctness = refl; role = refl; numbered = numbered-apart s.quant c.boxes.quant m os u rising };
-        key = key;
-        columns = e;
-        upper = record {
-          kind = refl;
-          groups = still (of_groups from by (key_places places) ls) m s g c.boxes h (keeps-trans g.boxes d c.boxes (keeps-ranging g.top g.boxes) k.keeps);
-          subs = k.shows c.boxes (keeps-refl c.boxes);
-          conds = refl;
-          head = refl;
-        };
-      })
+      (shows (Shows c.boxes.made) (still (of_groups from by (key_places places) ls) m s g c.boxes h (keeps-trans g.boxes d c.boxes (keeps-ranging g.top g.boxes) k.keeps)) (k.shows c.boxes (keeps-refl c.boxes)))
+      (both_noted s.box g.boxes.box c.boxes.box (h.notes (of_groups from by (key_places places) ls)) k.notes)
+      (λ what seen are names.
+      let i = h.there (of_groups from by (key_places places) ls) refl what seen are.0 names in
+      let j = k.there what seen are.1 names in
+      (shows (IsFor what seen) i.0 j.0, λ f. j.1 (i.1 f)))

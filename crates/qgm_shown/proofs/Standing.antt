@@ -10,14 +10,18 @@ use Rattle.qgm_core.specs.declared.node.Node.{Node}
 use Rattle.qgm_terms.specs.Terms.{Term}
 use Rattle.qgm_shown.specs.Buildable.{Buildable}
 use Rattle.qgm_shown.specs.Lay.{Boxes, Laid, box_named, lay_by, lay_table, plain_box}
-use Rattle.qgm_shown.specs.Lays.{Counted, EachHasTypes, EachShows, InOrder, OneMore, Ready, ShowsSome, Unshared, laid_over}
+use Rattle.qgm_shown.specs.Lays.{Counted, EachHasTypes, InOrder, NamesAreFor, OneMore, Ready, Unshared, laid_over}
 use Rattle.qgm_shown.specs.Reads.{query_reads}
-use Rattle.qgm_shown.specs.Shown.{Shows, of_operand, uses}
+use Rattle.qgm_shown.specs.Maps.{Map}
+use Rattle.qgm_shown.specs.Shown.{ShowsBox, Thing, of_operand, uses}
 use Rattle.qgm_shown.specs.Sources.{Sources}
+use Rattle.qgm_shown.specs.There.{AreFor, EachFor, IsFor, Notes, both_noted, noted, unnoted}
 use Rattle.qgm_shown.specs.Typing.{typed_by}
 use Rattle.qgm_shown.specs.Whole.{is_laid, is_wanted, lay_read, lay_tables, lay_views, nothing_laid, shares}
 use Rattle.qgm_shown.specs.WholeLaw.{EachTableSaid, EachViewSaid, TableSaid, ViewSaid, is_declared}
 use Rattle.qgm_shown.proofs.LaidAll.{laid}
+use Rattle.qgm_shown.proofs.Made.{each-put}
+use Rattle.qgm_shown.proofs.Noted.{shows-there}
 use Rattle.qgm_shown.proofs.Numbers.{below-or}
 use Rattle.qgm_shown.proofs.Order.{low-more, low-not}
 use Rattle.qgm_shown.proofs.Reading.{query-has, query-narrow}
@@ -32,9 +36,9 @@ pub record Final (known sources : Sources) (end : Boxes) : Type 0 where
   pub typed : (x : Term) → sources.typed x ≡ typed_by end.rows x
   pub shared : (name : List ℕ) → sources.shared name ≡ box_named end.shared name
 
-each-as : (sources : Sources) (has more : List ℕ → Bool) (ns : List Node) → EachShows sources has ns → EachShows sources more ns
-each-as sources has more [] h = tt
-each-as sources has more (n ∷ ns) h = (record { thing = h.0.thing; seen = h.0.seen; shows = h.0.shows }, each-as sources has more ns h.1)
+-- and the box of one name more
+names-more : (sources : Sources) (has more : List ℕ → Bool) (what : ℕ → Thing) (seen : ℕ → Map) (name : List ℕ) → OneMore has name more → IsFor what seen (sources.shared name) (of_operand (q.named name)) [] → NamesAreFor sources has what seen → NamesAreFor sources more what seen
+names-more sources has more what seen name one there names n h = elim (one n h) [ inl e ↦ subst (λ z. IsFor what seen (sources.shared z) (of_operand (q.named z)) []) (sym e) there | inr e ↦ names n e ]
 
 module _ (known sources : Sources) (end : Boxes) (told : Final known sources end) where
   pub record Good (s : Boxes) : Type 0 where
@@ -43,6 +47,8 @@ module _ (known sources : Sources) (end : Boxes) (told : Final known sources end
     pub counted : Counted s
     pub typed : EachHasTypes s s.made
     pub once : (j : ℕ) → j < s.box → Unshared sources (is_laid s.shared) j → uses j s.made ≡ 1
+    pub notes : Notes 0 s.box
+    pub there : (what : ℕ → Thing) (seen : ℕ → Map) → AreFor what seen 0 s.box notes → NamesAreFor sources (is_laid s.shared) what seen × EachFor sources what seen s.made
 
   pub named-at : (s : Boxes) → Toward s end → (n : List ℕ) → is_laid s.shared n ≡ true → box_named s.shared n ≡ sources.shared n
   named-at s tw n h = sym (told.shared n ∙ ap (λ zs. box_named zs n) tw.is ∙ box-left s.shared tw.more n h)
@@ -63,11 +69,12 @@ module _ (known sources : Sources) (end : Boxes) (told : Final known sources end
           once = tt;
           unused = λ j l. refl;
           named = λ n h. absurd (cc h);
-          each = tt;
         };
         counted = record { some = omega arith; rows = refl; types = refl };
         typed = tt;
         once = λ j l u. absurd (omega arith);
+        notes = unnoted 0;
+        there = λ what seen are. ((λ n h. absurd (cc h)), λ n i. absurd i);
       }
 
   -- ---- a table
@@ -84,21 +91,17 @@ module _ (known sources : Sources) (end : Boxes) (told : Final known sources end
       let types : length (sources.stored t.name).types ≡ sources.columns t.name = ap (λ (b : BaseTable). length b.types) said.stored ∙ said.columns in
       let ready = subst (λ (b : BaseTable). Ready sources more (lay_table b s).boxes []) said.stored (base-ready sources has more t.name one s said.body number named types g.ready) in
       let box : Node = plain_box s.box (Base t) false [] [] [] in
-      let shows : ShowsSome sources more box s.made = record {
-        thing = of_operand (q.named t.name);
-        seen = [];
-        shows = (
-          sym number,
-          base-as sources t.name (sources.body t.name) (Shows sources s.made) box said.body (record {
-            kind = ap Base (sym said.stored);
-            named = named;
-            types = types;
-            plain = record { distinctness = refl; role = refl; numbered = (refl, refl) };
-            bare = (refl, refl);
-            quants = refl;
-          }),
-        );
-      } in
+      let shows : (below : ℕ → Thing → Map → Type 0) → ShowsBox sources below (of_operand (q.named t.name)) [] box = λ below. (
+        sym number,
+        base-as sources t.name (sources.body t.name) below box said.body (record {
+          kind = ap Base (sym said.stored);
+          named = named;
+          types = types;
+          plain = record { distinctness = refl; role = refl; numbered = (refl, refl) };
+          bare = (refl, refl);
+          quants = refl;
+        }),
+      ) in
       let o = g.order in
       let c = g.counted in
       let later : Later s new = record { boxes = omega arith; quants = omega arith; rows = begins-refl s.rows; types = begins-more s.types (t.types ∷ []) } in
@@ -112,7 +115,6 @@ module _ (known sources : Sources) (end : Boxes) (told : Final known sources end
           once = (refl, (λ q own. absurd (cc own)), o.once);
           unused = λ j l. (let e = o.unused j (omega arith) in omega arith);
           named = λ n h. ready.known n h;
-          each = (shows, each-as sources has more s.made o.each);
         };
         counted = record { some = c.some; rows = c.rows; types = length-one s.types t.types s.box c.types };
         typed = (record { laid = omega arith; quants = tt; head = tt; types = get-last s.types t.types s.box c.types }, each_has_types-later s new c later s.made g.typed);
@@ -124,6 +126,12 @@ module _ (known sources : Sources) (end : Boxes) (told : Final known sources end
             let v = u t.name (laid-one s.shared t.name s.box) in
             cc (y, v)
             ));
+        notes = both_noted 0 s.box (suc s.box) g.notes (noted s.box (of_operand (q.named t.name)) []);
+        there = λ what seen are.
+            let x = g.there what seen are.0 in (
+              names-more sources has more what seen t.name one (subst (λ b. IsFor what seen b (of_operand (q.named t.name)) []) (sym number) are.1) x.0,
+              each-put sources what seen box s.made (shows-there sources (IsFor what seen) box (of_operand (q.named t.name)) [] (of_operand (q.named t.name)) what seen refl are.1 (shows (IsFor what seen))) (λ f. f) x.1,
+            );
       }
 
   -- ---- a view
@@ -158,13 +166,17 @@ module _ (known sources : Sources) (end : Boxes) (told : Final known sources end
           once = o.once;
           unused = o.unused;
           named = λ n h. ready.known n h;
-          each = each-as sources has more r.boxes.made o.each;
         };
         counted = record { some = c.some; rows = c.rows; types = c.types };
         typed = each_has_types-later r.boxes new c later r.boxes.made (k.typed g.counted g.typed);
         once = λ j l u. below-or j t.box
             (λ z. let un : Unshared sources has j = λ n h. u n (still n h) in k.kept j z un ∙ g.once j z un)
             (λ z. made.used g.order j z l ∙ ap (λ b. cond b 0 1) (ap (λ (z : ℕ). z == j) (sym number) ∙ u v.name (laid-one r.boxes.shared v.name r.top)));
+        notes = both_noted 0 t.box r.boxes.box g.notes (made.notes (of_operand (q.named v.name)));
+        there = λ what seen are.
+            let x = g.there what seen are.0 in
+            let y = made.there (of_operand (q.named v.name)) (inr (inr (record { name = v.name; is = refl; body = said.body; shared = number; outermost = refl }))) what seen are.1 x.0 in
+            (names-more sources has more what seen v.name one (subst (λ b. IsFor what seen b (of_operand (q.named v.name)) []) (sym number) y.0) x.0, y.1 x.1);
       } in
       subst (λ (x : Laid). Good (shares v.name x)) (sym same) good
 

@@ -12,8 +12,9 @@ use Rattle.qgm_terms.specs.Terms.{Term}
 use Rattle.qgm_terms.specs.Terms as t
 use Rattle.qgm_meaning.specs.Scope.{loose, loose_of}
 use Rattle.qgm_shown.specs.Maps.{Frame, Map, Ref, nothing, none_counted, column}
-use Rattle.qgm_shown.specs.Shown.{Shows, ShowsBox, Thing, distinct_ids, uses, of_operand, of_query}
+use Rattle.qgm_shown.specs.Shown.{Shows, Thing, distinct_ids, uses, of_operand, of_query}
 use Rattle.qgm_shown.specs.Sources.{Sources}
+use Rattle.qgm_shown.specs.There.{AreFor, EachFor, IsFor, LaidAs, Notes}
 use Rattle.qgm_shown.specs.Buildable.{Buildable}
 use Rattle.qgm_shown.specs.Lay.{Boxes, Laid, SharedBox, box_named, column_types, lay, lay_by, lay_table}
 use Rattle.qgm_shown.specs.Typing.{typed_by}
@@ -108,17 +109,11 @@ module _ (sources : Sources) (has : List ℕ → Bool) where
   abbrev pub Unshared : ℕ → Type 0
   Unshared j = (name : List ℕ) → has name ≡ true → (sources.shared name == j) ≡ false
 
-  -- a box shows something through a map, over the boxes behind it
-  pub record ShowsSome (n : Node) (ns : List Node) : Type 0 where
-    pub thing : Thing
-    pub seen : Map
-    pub shows : ShowsBox sources (Shows sources ns) thing seen n
+  -- the boxes of tables and views are there for them
+  abbrev pub NamesAreFor : (ℕ → Thing) → (ℕ → Map) → Type 0
+  NamesAreFor what seen = (name : List ℕ) → has name ≡ true → IsFor what seen (sources.shared name) (of_operand (q.named name)) []
 
-  abbrev pub EachShows : List Node → Type 0
-  EachShows [] = ⊤
-  EachShows (n ∷ ns) = ShowsSome n ns × EachShows ns
-
-  -- each box shows something and ranges over boxes behind it, no two boxes and no two quantifiers have one number, and no box looks up its own quantifiers
+  -- each box ranges over boxes behind it, no two boxes and no two quantifiers have one number, and no box looks up its own quantifiers
   pub record InOrder (s : Boxes) : Type 0 where
     pub low : Low s.box s.made
     pub ordered : Ordered s.made
@@ -127,7 +122,6 @@ module _ (sources : Sources) (has : List ℕ → Bool) where
     pub once : Once s.made
     pub unused : (j : ℕ) → s.box ≤ j → uses j s.made ≡ 0
     pub named : (name : List ℕ) → has name ≡ true → sources.shared name < s.box
-    pub each : EachShows s.made
 
   -- what was made before stays, in order
   pub record Keeps (a b : Boxes) : Type 0 where
@@ -149,6 +143,11 @@ module _ (sources : Sources) (has : List ℕ → Bool) where
     pub sourced : (name : List ℕ) → has name ≡ true → (m : Map) → Shows sources s.made (sources.shared name) (of_operand (q.named name)) m
     pub under : Under s.quant m
 
+  -- what holds of boxes so far and later, where the boxes between are there for what is noted, and those of tables and views for these
+  abbrev pub WhereFor : (s r : Boxes) → Notes s.box r.box → ((ℕ → Thing) → (ℕ → Map) → Type 0) → Type 0
+  WhereFor s r notes Holds =
+      (what : ℕ → Thing) (seen : ℕ → Map) → AreFor what seen s.box r.box notes → NamesAreFor what seen → Holds what seen × (EachFor sources what seen s.made → EachFor sources what seen r.made)
+
   pub record Made (thing : Thing) (m : Map) (s : Boxes) (r : Laid) : Type 0 where
     pub keeps : Keeps s r.boxes
     pub known : r.top < r.boxes.box
@@ -156,6 +155,9 @@ module _ (sources : Sources) (has : List ℕ → Bool) where
     -- each box that is made has one use, but for the top, which has none; the top is new or shared
     pub used : InOrder s → (j : ℕ) → s.box ≤ j → j < r.boxes.box → uses j r.boxes.made ≡ (if r.top == j then 0 else 1)
     pub top : (j : ℕ) → j < s.box → Unshared j → (r.top == j) ≡ false
+    -- each box that is made is there for one thing, the top for this one, or for what it is laid as
+    pub notes : Thing → Notes s.box r.boxes.box
+    pub there : (other : Thing) → LaidAs sources thing m r.top other → WhereFor s r.boxes (notes other) (λ what seen. IsFor what seen r.top other m)
 
 -- what is laid where all is told beforehand: what names stand for, their boxes, and the types of expressions
 abbrev pub laid_over : Sources → Query → Map → Boxes → Laid

@@ -11,6 +11,7 @@ pub mod Buildable
 pub mod Folds
 pub mod Typing
 pub mod Lay
+pub mod There
 pub mod Lays
 pub mod Reads
 pub mod Whole

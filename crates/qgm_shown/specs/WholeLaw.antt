@@ -15,6 +15,7 @@ use Rattle.qgm_shown.specs.Lays.{Counted, EachHasTypes, owned}
 use Rattle.qgm_shown.specs.Reads.{query_reads}
 use Rattle.qgm_shown.specs.Shown.{Shows, of_operand, uses}
 use Rattle.qgm_shown.specs.Sources.{Sources}
+use Rattle.qgm_shown.specs.There.{EachForOne}
 use Rattle.qgm_shown.specs.Whole.{graph_of, lay_whole}
 
 -- there is a table or a view of a name
@@ -58,7 +59,7 @@ pub record IsOver (sources : Sources) (tables : List BaseTable) (views : List Vi
   pub fit : Buildable sources (is_declared tables views) query
   pub shallow : (name : List ℕ) → deep name ≤ 16
 
--- a graph is built of a query by boxes that were laid: these stand in order, no two quantifiers have one number, each number of one is below the next, the types of columns are known, and no other box than those of tables and views is shared
+-- a graph is built of a query by boxes that were laid: these stand in order, no two quantifiers have one number, each number of one is below the next, the types of columns are known, no other box than those of tables and views is shared, and each box is there for one thing
 pub record IsLaidFor (sources : Sources) (query : Query) (names : List (Option (List ℕ))) (order : List OrderKey) (r : Laid) : Type 0 where
   pub built : IsBuiltOf sources query names order (graph_of r names order)
   pub ordered : Ordered r.boxes.made
@@ -67,6 +68,7 @@ pub record IsLaidFor (sources : Sources) (query : Query) (names : List (Option (
   pub counted : Counted r.boxes
   pub typed : EachHasTypes r.boxes r.boxes.made
   pub apart : (b : ℕ) → (uses b r.boxes.made ≤ 1) ⊎ ((name : List ℕ) × Shows sources r.boxes.made b (of_operand (q.named name)) [])
+  pub there : EachForOne sources query (graph_of r names order)
 
 -- known: how many columns names have
 abbrev pub WholeIsLaid : Type 0

@@ -1,4 +1,4 @@
-use Rattle.built_queries.proofs.LaidGraphs.{graph_right, laid_graph}
+use Rattle.built_queries.proofs.LaidGraphs.{graph_right, graphs_one_to_one, laid_graph}
 use Rattle.built_queries.proofs.Numbers.{laid_numbered}
 use Rattle.built_queries.proofs.laid.laid_graph_laws.Goals as goal
 
@@ -10,3 +10,6 @@ returns-clause-laid c = laid_graph
 
 pub returns-clause-numbered : goal.returns-clause-numbered
 returns-clause-numbered c = laid_numbered
+
+pub returns-clause-one_to_one : goal.returns-clause-one_to_one
+returns-clause-one_to_one c = graphs_one_to_one
