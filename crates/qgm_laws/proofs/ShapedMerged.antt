@@ -43,7 +43,7 @@ use Rattle.qgm_laws.proofs.FreeMerged as freed
 use Rattle.qgm_laws.proofs.Lists.{all-from, all-in, any-from, any-in, any-none, any-not, clash, eq-itself, in-left, in-right, or-both, or-left, or-none, or-right}
 use Rattle.qgm_laws.proofs.Merge as before
 use Rattle.qgm_laws.proofs.Ranks.{has-in, overs-held}
-use Rattle.qgm_laws.proofs.Read.{at_all, at_cond, column-named, columns-found, is_at, is_of, nodes-listed, term-nodes}
+use Rattle.qgm_laws.proofs.Read.{any-both, at_all, at_cond, column-named, columns-found, is_at, is_of, nodes-listed, term-nodes}
 use Rattle.qgm_laws.proofs.Scope.{in-first, unfold-loose}
 use Rattle.qgm_laws.proofs.ShapedKept.{free-same, shaped-on}
 use Rattle.qgm_laws.proofs.ShapedPut.{Passes, all-joined, all-parts, columns-none, columns-unread, conds-fit, conds-same, heads-fit, heads-same, of_quant, own-unread}
@@ -431,17 +431,13 @@ module _ (bs : List Node) (root : ℕ) (w : Sound bs root) (s : Shaped bs root) 
         let p2 = and_parts (is_F a.kind && is_F d.kind && magic_found (first (is_box a.over) bs)) (only a.id (free_in bs d.over)) p1.0 in
         let p3 = and_parts (is_F a.kind && is_F d.kind) (magic_found (first (is_box a.over) bs)) p2.0 in
         let u = under-at y i a ja (not-over a ja) in
-        let unread = columns-unread q y.parts.head (columns_through bs a ++ columns_through bs d) p1.1 (both (columns_through bs a) (columns_through bs d) (columns-none q a.id 1 (width_found (first (is_box a.over) bs)) (own-apart a ja)) (columns-none q d.id 1 (width_found (first (is_box d.over) bs)) (own-apart d jd))) in
+        let unread = columns-unread q y.parts.head (columns_through bs a ++ columns_through bs d) p1.1 (any-both (of_quant q) (columns_through bs a) (columns_through bs d) ∙ or-both (list_any (of_quant q) (columns_through bs a)) (list_any (of_quant q) (columns_through bs d)) (columns-none q a.id 1 (width_found (first (is_box a.over) bs)) (own-apart a ja)) (columns-none q d.id 1 (width_found (first (is_box d.over) bs)) (own-apart d jd))) in
         and_from (is_F a.kind && is_F d.kind && magic_found (first (is_box a.over) hm) && only a.id (free_in hm d.over)) (heads_are (map (substituted q cells) y.parts.head) (columns_through hm a ++ columns_through hm d))
         (and_from (is_F a.kind && is_F d.kind && magic_found (first (is_box a.over) hm)) (only a.id (free_in hm d.over))
         (and_from (is_F a.kind && is_F d.kind) (magic_found (first (is_box a.over) hm)) p3.0 (ap magic_found u.1.1 ∙ ap is_magic (role-g u.0) ∙ sym (ap magic_found u.1.0) ∙ p3.1))
         (alone-after a.id d jd (own-apart a ja) e p2.1))
         (ap (λ x. heads_are x (columns_through hm a ++ columns_through hm d)) (heads-none q cells y.parts.head unread)
         ∙ ap₂ (λ u v. heads_are y.parts.head (shapes.columns_from a.id 1 u ++ shapes.columns_from d.id 1 v)) (widths y i a ja (not-over a ja)) (widths y i d jd (not-over d jd)) ∙ p1.1)
-      where
-        both : (xs ys : List Column) → list_any (of_quant q) xs ≡ false → list_any (of_quant q) ys ≡ false → list_any (of_quant q) (xs ++ ys) ≡ false
-        both [] ys h k = k
-        both (x ∷ xs) ys h k = let z = or-none (of_quant q x) (list_any (of_quant q) xs) h in or-both (of_quant q x) (list_any (of_quant q) (xs ++ ys)) z.0 (both xs ys z.1 k)
 
     -- fed boxes among these range by the second over open boxes
     abbrev Opened : Type 0

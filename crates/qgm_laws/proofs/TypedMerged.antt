@@ -42,6 +42,7 @@ use Rattle.qgm_laws.proofs.Ranks.{has-in, overs-held, same-box}
 use Rattle.qgm_laws.proofs.Read.{named-split}
 use Rattle.qgm_laws.proofs.Scope.{in-first, one-parent}
 use Rattle.qgm_laws.proofs.Settled.{cond-local, kinds-local, term-local}
+use Rattle.qgm_laws.proofs.ShapedPut.{all-joined}
 use Rattle.qgm_laws.proofs.Times.{times-in}
 use Rattle.qgm_laws.proofs.TypedKept.{Found, found, found-under, typed-compact}
 use Rattle.qgm_laws.proofs.TypedMoved.{type-of}
@@ -123,10 +124,6 @@ types-put at now q cells k head h = by k
     by (Group keys) = heads head (λ x i. i)
     by (SetOp operator types) = refl
     by OuterJoin = heads head (λ x i. i)
-
-all-both : {X : Type 0} (p : X → Bool) (xs ys : List X) → list_all p xs ≡ true → list_all p ys ≡ true → list_all p (xs ++ ys) ≡ true
-all-both p [] ys h k = k
-all-both p (x ∷ xs) ys h k = let a = and_parts (p x) (list_all p xs) h in and_from (p x) (list_all p (xs ++ ys)) a.0 (all-both p xs ys a.1 k)
 
 all-put : {X : Type 0} (p r : X → Bool) (f : X → X) (xs : List X) → ((x : X) → In x xs → p (f x) ≡ r x) → list_all p (map f xs) ≡ list_all r xs
 all-put p r f [] h = refl
@@ -389,7 +386,7 @@ module _ (bs : List Node) (root : ℕ) (w : Sound bs root) (b c : Node) (us : Li
     b-typed =
         and_from (list_all (λ x. is_known (term_type now x)) (map (substituted q c.parts.head) b.parts.head)) (list_all (cond_fits now) (map (substituted_cond q c.parts.head) b.parts.conds.items ++ c.parts.conds.items) && arms_agree (types_of hm) b.parts.kind quants) (heads-typed b m.in_b)
         (and_from (list_all (cond_fits now) (map (substituted_cond q c.parts.head) b.parts.conds.items ++ c.parts.conds.items)) (arms_agree (types_of hm) b.parts.kind quants)
-        (all-both (cond_fits now) (map (substituted_cond q c.parts.head) b.parts.conds.items) c.parts.conds.items (conds-typed b m.in_b) (c-conds ∙ (fit c m.in_c).0))
+        (all-joined (cond_fits now) (map (substituted_cond q c.parts.head) b.parts.conds.items) c.parts.conds.items (conds-typed b m.in_b) (c-conds ∙ (fit c m.in_c).0))
         (ap (λ k. arms_agree (types_of hm) k quants) m.select_b))
 
     other-typed : (y : Node) → In y bs → (y.id == b.id) ≡ false → (y.id == c.id) ≡ false → types_agree hm (put_node q c.parts.head y) ≡ true
