@@ -13,3 +13,4 @@ mod Opening
 mod Afters
 mod Wholes
 mod Lists
+mod Finished
