@@ -1,5 +1,5 @@
 -- The select of a block, from its parts in turn.
-use Rattle.std.proofs.Common.{◌≡◌, List, [], ◌++◌, map, ap, ap₂, sym, ◌∙◌}
+use Rattle.std.proofs.Common.{◌≡◌, List, [], ◌++◌, ap, ap₂, sym, ◌∙◌}
 use Rattle.sql_meaning.specs.ResolvedTrees.{Froms, Test, Values}
 use Rattle.qgm_core.specs.declared.owned.OwnedQuant.{OwnedQuant}
 use Rattle.qgm_terms.specs.Terms.{Cond, Term}

@@ -1,5 +1,5 @@
 -- The heads and conditions of boxes over what was laid, from what is written in turn.
-use Rattle.std.proofs.Common.{◌≡◌, ℕ, suc, List, [], ◌∷◌, ◌++◌, length, map, get_or, pos, ap, ap₂, refl, sym, ◌∙◌}
+use Rattle.std.proofs.Common.{◌≡◌, ℕ, suc, List, [], ◌++◌, length, map, get_or, pos, ap, ap₂, refl, sym, ◌∙◌}
 use Rattle.sql_meaning.specs.ResolvedTrees.{From, Froms, Test, Values}
 use Rattle.sql_meaning.specs.ResolvedTrees as q
 use Rattle.qgm_core.specs.declared.owned.OwnedQuant.{OwnedQuant}
@@ -9,7 +9,7 @@ use Rattle.qgm_shown.specs.Folds.{all_on_folds, folds_in, on_folds}
 use Rattle.qgm_shown.specs.Lay.{Boxes, box_named, laying}
 use Rattle.qgm_shown.specs.Leaves.{Leaf, Slots, after, list_leaves, test_leaves}
 use Rattle.qgm_shown.specs.Maps.{Frame, Map, nothing, ref_term}
-use Rattle.qgm_shown.specs.Shown.{all_leaves, all_on_leaves, all_ons, argument_terms, conds_of, fold_refs, frame, frame_all, no_slots, ons, padded, refs, rows_list, slots_of, ungrouped_cells, upper_leaves, upper_slots}
+use Rattle.qgm_shown.specs.Shown.{all_leaves, all_on_leaves, all_ons, argument_terms, conds_of, fold_refs, frame, frame_all, no_slots, ons, padded, refs, rows_list, slots_of, ungrouped_cells, upper_leaves}
 use Rattle.qgm_shown.specs.Sources.{Sources, from_width}
 use Rattle.qgm_shown.specs.Terms.{cond, split, terms}
 use Rattle.qgm_shown.specs.Typing.{typed_by}

@@ -1,7 +1,5 @@
-use Rattle.std.proofs.Common.{◌≡◌, ◌∙◌, refl, ap, sym}
 use Rattle.std.proofs.lemmas.Result.{IfOk-weaker}
 use Rattle.sql_meaning.specs.ResolvedShown as shown
-use Rattle.qgm_build.specs.Folds.{leaf_of}
 use Rattle.qgm_build.specs.Laying.{outer_of, told_at}
 use Rattle.qgm_build.specs.SoFar.{so_far}
 use Rattle.qgm_build.specs.Written.{frame_of}
