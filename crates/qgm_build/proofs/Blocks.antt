@@ -1,5 +1,5 @@
 -- The select of a block, from its parts in turn.
-use Rattle.std.proofs.Common.{◌≡◌, List, [], ◌++◌, map, ap, ap₂, sym, ◌∙◌}
+use Rattle.std.proofs.Common.{◌≡◌, List, [], ◌++◌, ap, ap₂, sym, ◌∙◌}
 use Rattle.sql_meaning.specs.ResolvedTrees.{Froms, Test, Values}
 use Rattle.qgm_core.specs.declared.owned.OwnedQuant.{OwnedQuant}
 use Rattle.qgm_terms.specs.Terms.{Cond, Term}
@@ -10,8 +10,7 @@ use Rattle.qgm_shown.specs.Sources.{Sources}
 use Rattle.qgm_shown.specs.Terms.{cond, split, terms}
 use Rattle.qgm_build.specs.Written.{slots_from}
 use Rattle.qgm_shown.specs.Folds.{all_on_folds, folds_in}
-use Rattle.qgm_build.proofs.Folding.{folds_append}
-use Rattle.qgm_shown.proofs.FoldsSame.{all_on_same, test_same, values_same}
+use Rattle.qgm_shown.proofs.FoldsSame.{all_on_same, folds_append, test_same, values_same}
 use Rattle.qgm_build.proofs.Grouped.{ungrouped_folds}
 
 module _ (all : Sources) (m : Map) (from : Froms) (by : Test) (list : Values) (fs subs : List OwnedQuant) where

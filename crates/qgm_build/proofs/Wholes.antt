@@ -7,7 +7,7 @@ use Rattle.qgm_terms.specs.Terms.{Term, Cond, anded, ored}
 use Rattle.qgm_terms.specs.Terms as t
 use Rattle.qgm_terms.specs.Shown as shown
 use Rattle.qgm_terms.specs.declared.tree.Gx.{Gx}
-use Rattle.sql_meaning.specs.ResolvedViews.{ViewTree}
+use Rattle.qgm_shown.specs.Lay.{SharedBox, box_named}
 use Rattle.qgm_shown.specs.Leaves.{Slots, after, arm_leaves, choice_leaves, leaves, test_leaves}
 use Rattle.qgm_shown.specs.Maps.{Frame, Map}
 use Rattle.qgm_shown.specs.Sources.{Sources}
@@ -15,7 +15,7 @@ use Rattle.qgm_shown.specs.Terms.{and_every, arms, arms_type, case, choices, cho
 use Rattle.qgm_shown.specs.Terms as w
 use Rattle.qgm_shown.specs.Typing.{typed_by}
 use Rattle.qgm_build.specs.Parts.{all_of, any_of, arms_in, choices_in, chosen, closed, closed_choice, coalesced, coalesced_onto, conds_in, first_type, last_type, open_term, own_type}
-use Rattle.qgm_build.specs.Setting.{sources_of}
+use Rattle.qgm_build.specs.Setting.{told_by}
 use Rattle.qgm_build.specs.declared.setting.Named.{Named}
 
 pub coalesced_last : (xs : List Gx) (y : Gx) → coalesced (shown.terms (xs ++ y ∷ [])) ≡ coalesced_onto (shown.terms xs) (shown.term y)
@@ -70,8 +70,11 @@ closed_open : (type : SqlType) (b : Bool) (y : Term) → closed type (if b then 
 closed_open type true y = refl
 closed_open type false y = refl
 
-module _ (named : List Named) (views : List ViewTree) (rows : List (List SqlType)) (fr : Frame) (m : Map) where
-  last_typed : (s : Slots) (x : Value) → last_type rows (open_term x (term (sources_of named views rows) fr m s x)) ≡ typed_by rows (term (sources_of named views rows) fr m s x)
+module _ (named : List Named) (shared : List SharedBox) (rows : List (List SqlType)) (fr : Frame) (m : Map) where
+  abbrev here : Sources
+  here = record (told_by named) { shared = box_named shared; typed = typed_by rows }
+
+  last_typed : (s : Slots) (x : Value) → last_type rows (open_term x (term here fr m s x)) ≡ typed_by rows (term here fr m s x)
   last_typed s (q.null None) = refl
   last_typed s (q.null (Some type)) = refl
   last_typed s (q.number n) = refl
@@ -88,54 +91,54 @@ module _ (named : List Named) (views : List ViewTree) (rows : List (List SqlType
   last_typed s q.count_all = refl
   last_typed s (q.aggregate f distinct x) = refl
 
-  arms_typed : (s : Slots) (xs : Arms) (type : SqlType) → arms_type (sources_of named views rows) fr m s xs type ≡ first_type rows (arms_in (sources_of named views rows) fr m s xs) type
+  arms_typed : (s : Slots) (xs : Arms) (type : SqlType) → arms_type here fr m s xs type ≡ first_type rows (arms_in here fr m s xs) type
   arms_typed s q.no_arm type = refl
   arms_typed s (q.one_arm p x xs) type =
-      let y = term (sources_of named views rows) fr m (after (test_leaves fr p) s) x in
+      let y = term here fr m (after (test_leaves fr p) s) x in
       ap (λ z. if is_untyped x then z else typed_by rows y) (arms_typed (after (leaves fr x) (after (test_leaves fr p) s)) xs type) ∙ sym (own_open rows (is_untyped x) y _)
 
-  arms_closed : (type : SqlType) (s : Slots) (xs : Arms) → arms (sources_of named views rows) fr m type s xs ≡ t.armed (map (closed_choice type) (arms_in (sources_of named views rows) fr m s xs))
+  arms_closed : (type : SqlType) (s : Slots) (xs : Arms) → arms here fr m type s xs ≡ t.armed (map (closed_choice type) (arms_in here fr m s xs))
   arms_closed type s q.no_arm = refl
   arms_closed type s (q.one_arm p x xs) =
-      ap₂ (t.arm (cond (sources_of named views rows) fr m s p)) (sym (closed_open type (is_untyped x) (term (sources_of named views rows) fr m (after (test_leaves fr p) s) x)))
+      ap₂ (t.arm (cond here fr m s p)) (sym (closed_open type (is_untyped x) (term here fr m (after (test_leaves fr p) s) x)))
       (arms_closed type (after (leaves fr x) (after (test_leaves fr p) s)) xs)
 
-  choices_typed : (s : Slots) (x : Term) (xs : Choices) (type : SqlType) → choices_type (sources_of named views rows) fr m s xs type ≡ first_type rows (choices_in (sources_of named views rows) fr m s x xs) type
+  choices_typed : (s : Slots) (x : Term) (xs : Choices) (type : SqlType) → choices_type here fr m s xs type ≡ first_type rows (choices_in here fr m s x xs) type
   choices_typed s x q.no_choice type = refl
   choices_typed s x (q.one_choice y z xs) type =
-      let w = term (sources_of named views rows) fr m (after (leaves fr y) s) z in
+      let w = term here fr m (after (leaves fr y) s) z in
       ap (λ d. if is_untyped z then d else typed_by rows w) (choices_typed (after (leaves fr z) (after (leaves fr y) s)) x xs type) ∙ sym (own_open rows (is_untyped z) w _)
 
   choices_closed : (type : SqlType) (s : Slots) (x : Term) (xs : Choices)
-      → choices (sources_of named views rows) fr m type s x xs ≡ t.armed (map (closed_choice type) (choices_in (sources_of named views rows) fr m s x xs))
+      → choices here fr m type s x xs ≡ t.armed (map (closed_choice type) (choices_in here fr m s x xs))
   choices_closed type s x q.no_choice = refl
   choices_closed type s x (q.one_choice y z xs) =
-      ap₂ (t.arm (t.compare t.equal x (term (sources_of named views rows) fr m s y))) (sym (closed_open type (is_untyped z) (term (sources_of named views rows) fr m (after (leaves fr y) s) z)))
+      ap₂ (t.arm (t.compare t.equal x (term here fr m s y))) (sym (closed_open type (is_untyped z) (term here fr m (after (leaves fr y) s) z)))
       (choices_closed type (after (leaves fr z) (after (leaves fr y) s)) x xs)
 
   pub searched_whole : (s : Slots) (xs : Arms) (last : Value)
-      → term (sources_of named views rows) fr m s (q.searched xs last)
-      ≡ chosen rows (arms_in (sources_of named views rows) fr m s xs) (open_term last (term (sources_of named views rows) fr m (after (arm_leaves fr xs) s) last))
+      → term here fr m s (q.searched xs last)
+      ≡ chosen rows (arms_in here fr m s xs) (open_term last (term here fr m (after (arm_leaves fr xs) s) last))
   searched_whole s xs last =
-      let end = term (sources_of named views rows) fr m (after (arm_leaves fr xs) s) last in
-      let cs = arms_in (sources_of named views rows) fr m s xs in
-      let e : arms_type (sources_of named views rows) fr m s xs (typed_by rows end) ≡ first_type rows cs (last_type rows (open_term last end))
+      let end = term here fr m (after (arm_leaves fr xs) s) last in
+      let cs = arms_in here fr m s xs in
+      let e : arms_type here fr m s xs (typed_by rows end) ≡ first_type rows cs (last_type rows (open_term last end))
       = arms_typed s xs (typed_by rows end) ∙ ap (first_type rows cs) (sym (last_typed (after (arm_leaves fr xs) s) last)) in
-      ap (λ type. t.choose (arms (sources_of named views rows) fr m type s xs) (result_as type last end)) e
+      ap (λ type. t.choose (arms here fr m type s xs) (result_as type last end)) e
       ∙ ap₂ t.choose (arms_closed (first_type rows cs (last_type rows (open_term last end))) s xs) (sym (closed_open (first_type rows cs (last_type rows (open_term last end))) (is_untyped last) end))
 
   pub simple_whole : (s : Slots) (x : Value) (xs : Choices) (last : Value)
-      → term (sources_of named views rows) fr m s (q.simple x xs last)
-      ≡ chosen rows (choices_in (sources_of named views rows) fr m (after (leaves fr x) s) (term (sources_of named views rows) fr m s x) xs)
-      (open_term last (term (sources_of named views rows) fr m (after (choice_leaves fr xs) (after (leaves fr x) s)) last))
+      → term here fr m s (q.simple x xs last)
+      ≡ chosen rows (choices_in here fr m (after (leaves fr x) s) (term here fr m s x) xs)
+      (open_term last (term here fr m (after (choice_leaves fr xs) (after (leaves fr x) s)) last))
   simple_whole s x xs last =
       let mid = after (leaves fr x) s in
-      let end = term (sources_of named views rows) fr m (after (choice_leaves fr xs) mid) last in
-      let y = term (sources_of named views rows) fr m s x in
-      let cs = choices_in (sources_of named views rows) fr m mid y xs in
-      let e : choices_type (sources_of named views rows) fr m mid xs (typed_by rows end) ≡ first_type rows cs (last_type rows (open_term last end))
+      let end = term here fr m (after (choice_leaves fr xs) mid) last in
+      let y = term here fr m s x in
+      let cs = choices_in here fr m mid y xs in
+      let e : choices_type here fr m mid xs (typed_by rows end) ≡ first_type rows cs (last_type rows (open_term last end))
       = choices_typed mid y xs (typed_by rows end) ∙ ap (first_type rows cs) (sym (last_typed (after (choice_leaves fr xs) mid) last)) in
-      ap (λ type. t.choose (choices (sources_of named views rows) fr m type mid y xs) (result_as type last end)) e
+      ap (λ type. t.choose (choices here fr m type mid y xs) (result_as type last end)) e
       ∙ ap₂ t.choose (choices_closed (first_type rows cs (last_type rows (open_term last end))) mid y xs) (sym (closed_open (first_type rows cs (last_type rows (open_term last end))) (is_untyped last) end))
 
 pub ruleset wholes = (coalesced_whole, equals_whole, every_whole, some_whole, searched_whole, simple_whole)

@@ -1,15 +1,13 @@
-use Rattle.std.proofs.Common.{◌≡◌, ◌∙◌, refl, ap, sym}
+use Rattle.std.proofs.Common.{refl}
 use Rattle.std.proofs.lemmas.Result.{IfOk-weaker}
-use Rattle.sql_meaning.specs.ResolvedShown as shown
 use Rattle.qgm_build.specs.Folds.{leaf_of}
-use Rattle.qgm_build.specs.Laying.{outer_of, told_at}
+use Rattle.qgm_build.specs.Laying.{told_at}
 use Rattle.qgm_build.specs.SoFar.{so_far}
-use Rattle.qgm_build.specs.Written.{frame_of}
-use Rattle.std.proofs.Common.{map}
+use Rattle.std.proofs.Common.{length, map}
 use Rattle.qgm_build.proofs.Paired.{group_read}
 use Rattle.qgm_build.proofs.pairs.finish_group.Goals as goal
 
-pub returns-in_ok-head : goal.returns-in_ok-head
-returns-in_ok-head c =
-    IfOk-weaker c.put.result _ _ (λ b e. group_read (told_at c.args.g.now) c.args.places.now (map leaf_of c.args.folds.now) c.args.rows c.len.result b (so_far c.args.st.now) (so_far c.draw.new.st) _ c.new-quants.result c.draw.new.quants c.in_ok-head.head _
-    c.len.ensures c.new-quants.ensures c.in_ok-draw.ensures c.in_ok-head.ensures c.new.ensures.items e) c.put.ensures
+pub returns : goal.returns
+returns c =
+    IfOk-weaker c.put.result _ _ (λ b e. group_read (told_at c.args.g.now) c.args.places.now (map leaf_of c.args.folds.now) c.args.rows (length c.args.places.now) b (so_far c.args.st.now) (so_far c.draw.new.st) _ c.new-quants.result c.draw.new.quants c.in_ok-head.head _
+    refl c.new-quants.ensures c.in_ok-draw.ensures c.in_ok-head.ensures c.new.ensures.items e) c.put.ensures

@@ -1,14 +1,10 @@
-use Rattle.std.proofs.Common.{◌≡◌, ◌∙◌, refl, ap, sym}
 use Rattle.std.proofs.lemmas.Result.{IfOk-weaker}
-use Rattle.sql_meaning.specs.ResolvedShown as shown
-use Rattle.qgm_build.specs.Folds.{leaf_of}
-use Rattle.qgm_build.specs.Laying.{outer_of, told_at}
+use Rattle.qgm_build.specs.Laying.{told_at}
 use Rattle.qgm_build.specs.SoFar.{so_far}
-use Rattle.qgm_build.specs.Written.{frame_of}
 use Rattle.qgm_build.proofs.Paired.{two_read}
 use Rattle.qgm_build.proofs.pairs.finish_pair.Goals as goal
 
-pub returns-in_ok-types : goal.returns-in_ok-types
-returns-in_ok-types c =
+pub returns : goal.returns
+returns c =
     IfOk-weaker c.put.result _ _ (λ r e. two_read (told_at c.args.g.now) c.args.form c.args.n c.args.a c.args.b r (so_far c.args.st.now) (so_far c.pair.new.st) _ c.in_ok-quants.quants c.in_ok-types.types _ _
     c.in_ok-quants.ensures.quants c.in_ok-quants.ensures.store c.in_ok-types.ensures c.new.ensures.items c.new-2.ensures e) c.put.ensures

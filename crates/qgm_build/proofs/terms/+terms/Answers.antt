@@ -1,4 +1,4 @@
-use Rattle.std.proofs.Common.{◌+◌, ◌++◌, List, ◌∷◌, drop, ap₂, sym, ◌∙◌, refl}
+use Rattle.std.proofs.Common.{◌+◌, ◌++◌, List, ◌∷◌, drop, map, ap₂, sym, ◌∙◌, refl}
 use Rattle.sql_meaning.specs.ResolvedShown as shown
 use Rattle.sql_meaning.specs.declared.resolved.Addend.{Addend}
 use Rattle.sql_meaning.specs.declared.resolved.Arm.{Arm}
@@ -14,7 +14,7 @@ use Rattle.qgm_shown.specs.Leaves.{Slots}
 use Rattle.qgm_shown.specs.Terms as t
 use Rattle.qgm_build.specs.Opened.{open_choice}
 use Rattle.qgm_build.specs.Parts.{arms_in, choices_in, conds_in}
-use Rattle.qgm_build.specs.Setting.{frame_in, outer_in, sources_in}
+use Rattle.qgm_build.specs.Setting.{frame_in, outer_in, shared_box, sources_in}
 use Rattle.qgm_build.specs.Written.{slots_of}
 use Rattle.qgm_build.proofs.Afters.{after_append}
 use Rattle.qgm_build.proofs.Steps.{arm_read, choice_read, from_none, from_one, on_ok, step_both, step_chain, step_items, step_slots}
@@ -93,12 +93,12 @@ value-returns-in_ok-first-in-Product-clause-slots h c =
 
 pub value-returns-in_ok-last-in-Searched-clause-term : goal.value-returns-in_ok-last-in-Searched-clause-term
 value-returns-in_ok-last-in-Searched-clause-term h c =
-    rw (c.in-Searched.is, shown.arms_hidden c.in-Searched.list, searched_whole c.args.g.now.known.named.now (shown.views c.args.g.now.known.views.now) c.args.g.now.rows.now (frame_in c.args.g.now) (outer_in c.args.g.now) (slots_of c.args.s.now) (shown.arm_list c.in-Searched.list) (shown.value c.in-Searched.last.value), ← c.as_slice-in-Searched.ensures, ← c.deref-in-Searched.ensures, ← c.in_ok-list-in-Searched.ensures.slots, ← c.in_ok-list-in-Searched.ensures.arms, ← c.in_ok-last-in-Searched.ensures.term)
+    rw (c.in-Searched.is, shown.arms_hidden c.in-Searched.list, searched_whole c.args.g.now.known.names.named.now (map shared_box c.args.g.now.known.shared.now) c.args.g.now.rows.now (frame_in c.args.g.now) (outer_in c.args.g.now) (slots_of c.args.s.now) (shown.arm_list c.in-Searched.list) (shown.value c.in-Searched.last.value), ← c.as_slice-in-Searched.ensures, ← c.deref-in-Searched.ensures, ← c.in_ok-list-in-Searched.ensures.slots, ← c.in_ok-list-in-Searched.ensures.arms, ← c.in_ok-last-in-Searched.ensures.term)
     c.chosen.ensures
 
 pub value-returns-in_ok-last-in-Simple-clause-term : goal.value-returns-in_ok-last-in-Simple-clause-term
 value-returns-in_ok-last-in-Simple-clause-term h c =
-    rw (c.in-Simple.is, shown.choices_hidden c.in-Simple.list, simple_whole c.args.g.now.known.named.now (shown.views c.args.g.now.known.views.now) c.args.g.now.rows.now (frame_in c.args.g.now) (outer_in c.args.g.now) (slots_of c.args.s.now) (shown.value c.in-Simple.a.value) (shown.choice_list c.in-Simple.list) (shown.value c.in-Simple.last.value), ← c.as_slice-in-Simple.ensures, ← c.deref-in-Simple.ensures, ← c.deref-in-Simple-2.ensures, ← c.in_ok-a-in-Simple.ensures.slots, ← c.in_ok-a-in-Simple.ensures.term, ← c.in_ok-list-in-Simple.ensures.slots, ← c.in_ok-list-in-Simple.ensures.arms, ← c.in_ok-last-in-Simple.ensures.term)
+    rw (c.in-Simple.is, shown.choices_hidden c.in-Simple.list, simple_whole c.args.g.now.known.names.named.now (map shared_box c.args.g.now.known.shared.now) c.args.g.now.rows.now (frame_in c.args.g.now) (outer_in c.args.g.now) (slots_of c.args.s.now) (shown.value c.in-Simple.a.value) (shown.choice_list c.in-Simple.list) (shown.value c.in-Simple.last.value), ← c.as_slice-in-Simple.ensures, ← c.deref-in-Simple.ensures, ← c.deref-in-Simple-2.ensures, ← c.in_ok-a-in-Simple.ensures.slots, ← c.in_ok-a-in-Simple.ensures.term, ← c.in_ok-list-in-Simple.ensures.slots, ← c.in_ok-list-in-Simple.ensures.arms, ← c.in_ok-last-in-Simple.ensures.term)
     c.chosen-in-Simple.ensures
 
 pub value-returns-in_ok-last-in-Simple-clause-slots : goal.value-returns-in_ok-last-in-Simple-clause-slots

@@ -1,0 +1,15 @@
+use Rattle.sql_meaning.specs.ResolvedShown as shown
+use Rattle.qgm_terms.specs.Shown.{cond}
+use Rattle.qgm_shown.specs.Lay.{laying}
+use Rattle.qgm_shown.specs.Shown.{no_slots}
+use Rattle.qgm_build.specs.Laying.{outer_of, told_at}
+use Rattle.qgm_build.specs.Setting.{frame_in, outer_in, sources_in}
+use Rattle.qgm_build.specs.SoFar.{so_far}
+use Rattle.qgm_build.specs.Written.{frame_of}
+use Rattle.qgm_build.proofs.Finished.{test_read}
+use Rattle.qgm_build.proofs.pairs.outer_conds.Goals as goal
+
+pub returns-clause-conds : goal.returns-clause-conds
+returns-clause-conds c =
+    test_read (sources_in c.setting_of-setting.result) (laying (told_at c.args.h.now.ground) (so_far c.args.st.now)) (frame_in c.setting_of-setting.result) (frame_of c.args.h.now.frame.now) (outer_in c.setting_of-setting.result) (outer_of c.args.h.now.ground) no_slots (shown.test c.args.p.now) (cond c.in_ok-c.c) _ c.add_split.new.out.items
+    c.setting_of-setting.ensures.sources c.setting_of-setting.ensures.frame c.setting_of-setting.ensures.outer c.in_ok-c.ensures.cond c.new-conds.ensures.items c.in_ok-add_split.ensures.items

@@ -1,0 +1,13 @@
+use Rattle.std.proofs.Common.{ap}
+use Rattle.sql_meaning.specs.ResolvedShown as shown
+use Rattle.qgm_build.specs.Laying.{told_at}
+use Rattle.qgm_build.specs.Site.{sources_at}
+use Rattle.qgm_build.specs.SoFar.{so_far}
+use Rattle.qgm_build.specs.Written.{frame_of}
+use Rattle.qgm_build.proofs.Finished.{outer_frame_read}
+use Rattle.qgm_build.proofs.pairs.outer_frame.Goals as goal
+
+pub returns : goal.returns
+returns c =
+    outer_frame_read (told_at c.args.g.now) (sources_at c.site_of.result) (so_far c.args.st.now) (shown.from c.args.x.now) c.args.q _ c.args.n _ _ _ (frame_of c.push_refs-2.new.frame.items)
+    c.site_of.ensures.sources c.in_ok-width.ensures (ap frame_of c.new-seen.ensures.items) c.in_ok-push_refs.ensures c.in_ok-after.ensures c.in_ok-push_refs-2.ensures
