@@ -10,6 +10,7 @@ mod Same
 mod Selected
 mod Paired
 mod Opening
+mod Cycle
 mod Afters
 mod Wholes
 mod Lists
