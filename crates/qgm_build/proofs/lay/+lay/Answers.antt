@@ -1,4 +1,4 @@
-use Rattle.std.proofs.Common.{◌≡◌, ◌∙◌, ◌+◌, ◌<◌, List, [], drop, map, ap, refl, sym, arith}
+use Rattle.std.proofs.Common.{◌∙◌, ◌+◌, List, drop, map, ap, refl, sym}
 use Rattle.std.proofs.lemmas.Result.{on_ok_weaker}
 use Rattle.sql_meaning.specs.ResolvedShown as shown
 use Rattle.sql_meaning.specs.declared.resolved.Addend.{Addend}
@@ -18,7 +18,7 @@ use Rattle.qgm_build.specs.Folds.{leaf_of}
 use Rattle.qgm_build.proofs.Cycle.{block_ok, combine_ok, crossed_ok, grouped_ok, intersect_ok, joined_ok, joined_step, left_ok, left_step, upper_ok}
 use Rattle.qgm_build.proofs.Opening.{opens_from, opens_seen}
 use Rattle.qgm_build.proofs.Steps.{next_there}
-use Rattle.qgm_build.proofs.Taking.{leads_at, leads_more, leads_next, leads_two, takes_both, takes_over, takes_three}
+use Rattle.qgm_build.proofs.Taking.{leads_at, leads_more, leads_next, leads_two, takes_both, takes_three}
 use Rattle.qgm_build.proofs.lay.+lay.Goals as goal
 
 pub addend_subs-loop-x-preserved : goal.addend_subs-loop-x-preserved
@@ -180,18 +180,3 @@ on_subs-returns-in_ok-frame-in-Joined-clause-step h c =
     on_ok_weaker c.test_subs.result (λ e. joined_step c.args.g.now (shown.from c.args.x.now) (shown.from c.deref-a.result.now) (shown.from c.deref-b.result.now) (shown.test c.deref-in-Joined-2.result.now) (so_far c.args.st.now) (so_far c.on_subs-in-Joined.new.st) (so_far c.on_subs-in-Joined-2.new.st) (so_far c.test_subs.new.st)
     c.args.os.now.rest.now c.args.os.now.rest.now c.args.os.now.rest.now c.on_subs-in-Joined.new.os.rest.now c.args.out.now c.on_subs-in-Joined.new.out c.on_subs-in-Joined-2.new.out c.test_subs.new.out (frame_of c.in_ok-frame-in-Joined.frame.items) (frame_of c.deref-in-Joined.result.now)
     (rw (c.in-Joined.is, ← c.deref-a.ensures, ← c.deref-b.ensures, ← c.deref-in-Joined-2.ensures) refl) refl refl c.in_ok-on_subs-in-Joined.ensures.step c.in_ok-on_subs-in-Joined.ensures.past c.in_ok-on_subs-in-Joined-2.ensures.step c.in_ok-frame-in-Joined.ensures (ap frame_of c.deref-in-Joined.ensures.value) e) c.test_subs.ensures
-
-pub block_opened-froms-requires : goal.block_opened-froms-requires
-block_opened-froms-requires h c = (omega (arith, c.decreases), tt)
-
-pub block_opened-all_on_subs-requires : goal.block_opened-all_on_subs-requires
-block_opened-all_on_subs-requires h c = (omega (arith, c.decreases), tt)
-
-pub block_opened-test_subs-requires : goal.block_opened-test_subs-requires
-block_opened-test_subs-requires h c = (omega (arith, c.decreases), tt)
-
-pub rows_opened-test_subs-requires : goal.rows_opened-test_subs-requires
-rows_opened-test_subs-requires h c = (omega (arith, c.decreases), tt)
-
-pub over_groups-test_subs-requires : goal.over_groups-test_subs-requires
-over_groups-test_subs-requires h c = (omega (arith, c.decreases), tt)
