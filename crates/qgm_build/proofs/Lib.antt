@@ -1,5 +1,6 @@
 mod Afters
 mod Blocks
+mod Cycle
 mod Finished
 mod Folding
 mod Grouped

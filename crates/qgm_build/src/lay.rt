@@ -130,17 +130,22 @@ pub(crate) fn query(g: &Ground<'_>, x: &Query, st: &mut Store) -> Result<BoxId, 
             block(g, *distinct, list.as_slice(), from.as_slice(), by, st)
         }
         Query::Grouped(distinct, list, from, by, places, n, having) => {
+            let list = list.as_slice();
+            let from = from.as_slice();
+            let by: &Test = by;
+            let having: &Test = having;
             let places = places_of(places);
-            let folds = upper_folds(g.alloc, list.as_slice(), having)?;
-            let o = rows_opened(g, from.as_slice(), by, st)?;
+            let found = upper_folds(g.alloc, list, having)?;
+            let folds = found.as_slice();
+            let o = rows_opened(g, from, by, st)?;
             let x = Rows {
                 places,
-                folds: &folds,
-                from: from.as_slice(),
+                folds,
+                from,
                 by,
             };
             let rows = finish_rows(g, &x, o, st)?;
-            let groups = finish_group(g, places, &folds, rows, st)?;
+            let groups = finish_group(g, places, folds, rows, st)?;
             let z = Over {
                 ground: *g,
                 distinct: *distinct,
@@ -148,7 +153,7 @@ pub(crate) fn query(g: &Ground<'_>, x: &Query, st: &mut Store) -> Result<BoxId, 
                 n: *n,
                 groups,
             };
-            over_groups(&z, list.as_slice(), having, st)
+            over_groups(&z, list, having, st)
         }
         Query::Combine(a, op, all, n, b) => {
             let left = query(g, a, st)?;
@@ -285,6 +290,8 @@ fn operand(g: &Ground<'_>, x: &From, st: &mut Store) -> Result<BoxId, OutOfMemor
         From::Named(name) => Ok(number_named(st, name)),
         From::Derived(y) => query(g, y, st),
         From::Crossed(a, b) => {
+            let a: &From = a;
+            let b: &From = b;
             let mut fs = Owned::new(g.alloc);
             from(g, a, st, &mut fs)?;
             from(g, b, st, &mut fs)?;
@@ -297,6 +304,8 @@ fn operand(g: &Ground<'_>, x: &From, st: &mut Store) -> Result<BoxId, OutOfMemor
             finish_flat(g, x, fs, subs, st)
         }
         From::Joined(a, b, p) => {
+            let a: &From = a;
+            let b: &From = b;
             let mut fs = Owned::new(g.alloc);
             from(g, a, st, &mut fs)?;
             from(g, b, st, &mut fs)?;
@@ -315,6 +324,7 @@ fn operand(g: &Ground<'_>, x: &From, st: &mut Store) -> Result<BoxId, OutOfMemor
             finish_flat(g, x, fs, subs, st)
         }
         From::LeftJoined(a, b, n, p) => {
+            let a: &From = a;
             let left = operand(g, a, st)?;
             let right = operand(g, b, st)?;
             finish_outer(g, a, *n, p, left, right, st)
@@ -341,6 +351,7 @@ fn from(g: &Ground<'_>, x: &From, st: &mut Store, out: &mut Owned) -> Result<(),
             from(g, b, st, out)
         }
         From::LeftJoined(a, b, n, p) => {
+            let a: &From = a;
             let left = operand(g, a, st)?;
             let right = operand(g, b, st)?;
             let over = finish_outer(g, a, *n, p, left, right, st)?;
@@ -382,6 +393,8 @@ fn on_subs(
             on_subs(g, b, os, st, out)
         }
         From::Joined(a, b, p) => {
+            let a: &From = a;
+            let b: &From = b;
             let before = os.rest;
             on_subs(g, a, os, st, out)?;
             on_subs(g, b, os, st, out)?;

@@ -1,5 +1,5 @@
-use Rattle.std.proofs.Common.{◌≡◌, ◌∙◌, List, [], drop, ap, refl, sym}
-use Rattle.std.proofs.lemmas.Result.{IfOk-weaker, on_ok_weaker}
+use Rattle.std.proofs.Common.{◌∙◌, ◌+◌, List, drop, map, ap, refl, sym}
+use Rattle.std.proofs.lemmas.Result.{on_ok_weaker}
 use Rattle.sql_meaning.specs.ResolvedShown as shown
 use Rattle.sql_meaning.specs.declared.resolved.Addend.{Addend}
 use Rattle.sql_meaning.specs.declared.resolved.Arm.{Arm}
@@ -8,13 +8,17 @@ use Rattle.sql_meaning.specs.declared.resolved.From.{From}
 use Rattle.sql_meaning.specs.declared.resolved.Multiplier.{Multiplier}
 use Rattle.sql_meaning.specs.declared.resolved.Test.{Test}
 use Rattle.sql_meaning.specs.declared.resolved.Value.{Value}
+use Rattle.qgm_core.specs.declared.kinds.QuantKind.TheVariants.{E}
+use Rattle.qgm_shown.specs.Lay.{over}
 use Rattle.qgm_shown.specs.Shown.{past}
 use Rattle.qgm_build.specs.Laying.{addend_step, all_on_step, arm_step, block_subs, choice_step, from_step, froms_step, inner_laid, list_step, multiplier_step, on_step, rows_subs, test_step, tests_step, told_at, value_step}
 use Rattle.qgm_build.specs.SoFar.{so_far}
 use Rattle.qgm_build.specs.Written.{frame_of}
-use Rattle.qgm_build.proofs.Opening.{block_laid, opens_from, opens_seen, upper_is}
+use Rattle.qgm_build.specs.Folds.{leaf_of}
+use Rattle.qgm_build.proofs.Cycle.{block_ok, combine_ok, crossed_ok, grouped_ok, intersect_ok, joined_ok, joined_step, left_ok, left_step, upper_ok}
+use Rattle.qgm_build.proofs.Opening.{opens_from, opens_seen}
 use Rattle.qgm_build.proofs.Steps.{next_there}
-use Rattle.qgm_build.proofs.Taking.{leads_at, leads_more, leads_next, leads_two, takes_both, takes_over, takes_three}
+use Rattle.qgm_build.proofs.Taking.{leads_at, leads_more, leads_next, leads_two, takes_both, takes_three}
 use Rattle.qgm_build.proofs.lay.+lay.Goals as goal
 
 pub addend_subs-loop-x-preserved : goal.addend_subs-loop-x-preserved
@@ -77,21 +81,13 @@ test_subs-returns-in_ok-value_subs-in-Among h c =
     rw (c.in-Among.is, shown.values_hidden c.in-Among.list, ← c.as_slice.ensures, ← c.deref-in-Among.ensures)
     (on_ok_weaker c.list_subs.result (λ e. takes_both (value_step c.args.h.now (shown.value c.deref-in-Among.result.now)) (list_step c.args.h.now (shown.value_list c.as_slice.result.now)) c.in_ok-value_subs-in-Among.ensures e) c.list_subs.ensures)
 
-pub sub-returns-in_ok-over : goal.sub-returns-in_ok-over
-sub-returns-in_ok-over h c =
-    on_ok_weaker c.draw.result (λ e. takes_over c.args.kind (inner_laid c.args.h.now (shown.query c.args.x.now)) c.in_ok-over.ensures e) c.draw.ensures
-
 pub query-returns-in-Block : goal.query-returns-in-Block
 query-returns-in-Block h c =
-    rw (c.in-Block.is, shown.values_hidden c.in-Block.list, shown.froms_hidden c.in-Block.from, ← c.as_slice.ensures, ← c.as_slice-2.ensures, ← c.deref.ensures) c.block.ensures
+    rw (c.in-Block.is, shown.values_hidden c.in-Block.list, shown.froms_hidden c.in-Block.from, ← c.as_slice.ensures, ← c.as_slice-in-Block.ensures, ← c.deref.ensures) c.block.ensures
 
 pub block-finish_block-requires : goal.block-finish_block-requires
 block-finish_block-requires h c =
-    opens_seen c.args.g.now (shown.from_list c.args.from.now) (block_subs c.args.g.now (shown.value_list c.args.list.now) (shown.from_list c.args.from.now) (shown.test c.args.by.now)) (so_far c.args.st.now) (so_far c.block_opened.new.st) (frame_of c.in_ok-o.o.frame.items) c.in_ok-o.o.fs c.in_ok-o.o.subs c.in_ok-o.ensures
-
-pub block-returns-in_ok-o : goal.block-returns-in_ok-o
-block-returns-in_ok-o h c =
-    IfOk-weaker c.finish_block.result _ _ (λ b e. block_laid c.args.g.now c.args.distinct (shown.value_list c.args.list.now) (shown.from_list c.args.from.now) (shown.test c.args.by.now) (so_far c.args.st.now) (so_far c.block_opened.new.st) _ (frame_of c.in_ok-o.o.frame.items) c.in_ok-o.o.fs c.in_ok-o.o.subs b c.in_ok-o.ensures e) c.finish_block.ensures
+    record { seen = opens_seen c.args.g.now (shown.from_list c.args.from.now) (block_subs c.args.g.now (shown.value_list c.args.list.now) (shown.from_list c.args.from.now) (shown.test c.args.by.now)) (so_far c.args.st.now) (so_far c.block_opened.new.st) (frame_of c.in_ok-o.o.frame.items) c.in_ok-o.o.fs c.in_ok-o.o.subs c.in_ok-o.ensures }
 
 pub block_opened-returns : goal.block_opened-returns
 block_opened-returns h c =
@@ -107,8 +103,80 @@ rows_opened-returns h c =
     c.new-fs.ensures c.in_ok-froms.ensures c.as_slice.ensures c.as_slice-2.ensures c.in_ok-frame.ensures (ap frame_of c.deref.ensures.value) c.new-subs.ensures
     (takes_both _ _ c.in_ok-all_on_subs.ensures c.in_ok-test_subs.ensures)
 
-pub over_groups-returns-in_ok-test_subs : goal.over_groups-returns-in_ok-test_subs
-over_groups-returns-in_ok-test_subs h c =
-    IfOk-weaker c.finish_upper.result _ _ (λ b e. upper_is c.args.z.now.ground c.args.z.now.distinct (shown.value_list c.args.list.now) c.args.z.now.places.now c.args.z.now.n (shown.test c.args.having.now) c.args.z.now.groups c.in_ok-u.u b (so_far c.args.st.now) (so_far c.number.new.st) (so_far c.list_subs.new.st) (so_far c.test_subs.new.st) _
-    (frame_of c.in_ok-frame.frame.items) (frame_of c.deref.result.now) c.new-subs.result c.list_subs.new.out c.test_subs.new.out
-    c.in_ok-u.ensures.number c.in_ok-u.ensures.store c.in_ok-frame.ensures (ap frame_of c.deref.ensures.value) c.new-subs.ensures c.in_ok-list_subs.ensures c.in_ok-test_subs.ensures e) c.finish_upper.ensures
+pub value_subs-returns-in_ok-arm_subs-in-Searched : goal.value_subs-returns-in_ok-arm_subs-in-Searched
+value_subs-returns-in_ok-arm_subs-in-Searched h c =
+    rw (c.in-Searched.is, shown.arms_hidden c.in-Searched.list, ← c.as_slice-in-Searched.ensures, ← c.deref-in-Searched.ensures)
+    (on_ok_weaker c.value_subs-in-Searched.result (λ e. takes_both (arm_step c.args.h.now (shown.arm_list c.as_slice-in-Searched.result.now)) (value_step c.args.h.now (shown.value c.deref-in-Searched.result.now)) c.in_ok-arm_subs-in-Searched.ensures e) c.value_subs-in-Searched.ensures)
+
+pub value_subs-returns-in-Scalar : goal.value_subs-returns-in-Scalar
+value_subs-returns-in-Scalar h c = rw (c.in-Scalar.is, ← c.deref-in-Scalar.ensures) c.sub.ensures
+
+pub test_subs-returns-in_ok-value_subs-in-Quantified : goal.test_subs-returns-in_ok-value_subs-in-Quantified
+test_subs-returns-in_ok-value_subs-in-Quantified h c =
+    rw (c.in-Quantified.is, ← c.deref-in-Quantified.ensures, ← c.deref-in-Quantified-2.ensures, ← c.every_or_some.ensures)
+    (on_ok_weaker c.sub.result (λ e. takes_both (value_step c.args.h.now (shown.value c.deref-in-Quantified.result.now)) (over c.every_or_some.result (inner_laid c.args.h.now (shown.query c.deref-in-Quantified-2.result.now))) c.in_ok-value_subs-in-Quantified.ensures e) c.sub.ensures)
+
+pub test_subs-returns-in_ok-value_subs-in-AmongRows : goal.test_subs-returns-in_ok-value_subs-in-AmongRows
+test_subs-returns-in_ok-value_subs-in-AmongRows h c =
+    rw (c.in-AmongRows.is, ← c.deref-in-AmongRows.ensures, ← c.deref-in-AmongRows-2.ensures)
+    (on_ok_weaker c.sub-in-AmongRows.result (λ e. takes_both (value_step c.args.h.now (shown.value c.deref-in-AmongRows.result.now)) (over E (inner_laid c.args.h.now (shown.query c.deref-in-AmongRows-2.result.now))) c.in_ok-value_subs-in-AmongRows.ensures e) c.sub-in-AmongRows.ensures)
+
+pub test_subs-returns-in-Exists : goal.test_subs-returns-in-Exists
+test_subs-returns-in-Exists h c = rw (c.in-Exists.is, ← c.deref-in-Exists.ensures) c.sub-in-Exists.ensures
+
+pub block-returns : goal.block-returns
+block-returns h c =
+    block_ok c.args.g.now c.args.distinct (shown.value_list c.args.list.now) (shown.from_list c.args.from.now) (shown.test c.args.by.now) (so_far c.args.st.now) (so_far c.block_opened.new.st) (so_far c.finish_block.new.st) (frame_of c.in_ok-o.o.frame.items) c.in_ok-o.o.fs c.in_ok-o.o.subs c.finish_block.result c.in_ok-o.ensures c.finish_block.ensures
+
+pub over_groups-returns : goal.over_groups-returns
+over_groups-returns h c =
+    upper_ok c.args.z.now.ground c.args.z.now.distinct (shown.value_list c.args.list.now) c.args.z.now.places.now c.args.z.now.n (shown.test c.args.having.now) c.args.z.now.groups c.in_ok-u.u (so_far c.args.st.now) (so_far c.number.new.st) (so_far c.list_subs.new.st) (so_far c.test_subs.new.st) (so_far c.finish_upper.new.st)
+    (frame_of c.in_ok-frame.frame.items) (frame_of c.deref.result.now) c.new-subs.result c.list_subs.new.out c.test_subs.new.out c.finish_upper.result
+    c.in_ok-u.ensures.number c.in_ok-u.ensures.store c.in_ok-frame.ensures (ap frame_of c.deref.ensures.value) c.new-subs.ensures c.in_ok-list_subs.ensures c.in_ok-test_subs.ensures c.finish_upper.ensures
+
+pub query-returns-in_ok-groups-in-Grouped : goal.query-returns-in_ok-groups-in-Grouped
+query-returns-in_ok-groups-in-Grouped h c =
+    grouped_ok c.args.g.now c.in-Grouped.distinct (shown.value_list c.as_slice-list.result.now) (shown.from_list c.as_slice-from.result.now) (shown.test c.deref-by.result.now) c.in-Grouped.places c.places_of-places.result.now c.in-Grouped.n (shown.test c.deref-having.result.now) (map leaf_of c.as_slice-folds.result.now)
+    (so_far c.args.st.now) (so_far c.rows_opened.new.st) (so_far c.finish_rows.new.st) (so_far c.finish_group.new.st) (so_far c.over_groups.new.st) (frame_of c.in_ok-o-in-Grouped.o.frame.items) c.in_ok-o-in-Grouped.o.fs c.in_ok-o-in-Grouped.o.subs c.in_ok-rows-in-Grouped.rows c.in_ok-groups-in-Grouped.groups (shown.query c.args.x.now) c.over_groups.result
+    (rw (c.in-Grouped.is, shown.values_hidden c.in-Grouped.list, shown.froms_hidden c.in-Grouped.from, ← c.as_slice-list.ensures, ← c.as_slice-from.ensures, ← c.deref-by.ensures, ← c.deref-having.ensures) refl)
+    c.places_of-places.ensures (ap (map leaf_of) c.as_slice-folds.ensures.value ∙ c.in_ok-found-in-Grouped.ensures) c.in_ok-o-in-Grouped.ensures c.in_ok-rows-in-Grouped.ensures c.in_ok-groups-in-Grouped.ensures c.over_groups.ensures
+
+pub query-returns-in_ok-right-in-Combine : goal.query-returns-in_ok-right-in-Combine
+query-returns-in_ok-right-in-Combine h c =
+    combine_ok c.args.g.now c.form_of.result c.in-Combine.op c.in-Combine.all c.in-Combine.n (shown.query c.args.x.now) (shown.query c.deref-in-Combine.result.now) (shown.query c.deref-in-Combine-2.result.now) c.in_ok-left-in-Combine.left c.in_ok-right-in-Combine.right (so_far c.args.st.now) (so_far c.query.new.st) (so_far c.query-in-Combine.new.st) (so_far c.finish_pair.new.st) c.finish_pair.result
+    (rw (c.in-Combine.is, ← c.deref-in-Combine.ensures, ← c.deref-in-Combine-2.ensures) refl) c.form_of.ensures c.in_ok-left-in-Combine.ensures c.in_ok-right-in-Combine.ensures c.finish_pair.ensures
+
+pub query-returns-in_ok-right-in-Intersect : goal.query-returns-in_ok-right-in-Intersect
+query-returns-in_ok-right-in-Intersect h c =
+    intersect_ok c.args.g.now c.common_form.result c.in-Intersect.all c.in-Intersect.n (shown.query c.args.x.now) (shown.query c.deref-in-Intersect.result.now) (shown.query c.deref-in-Intersect-2.result.now) c.in_ok-left-in-Intersect.left c.in_ok-right-in-Intersect.right (so_far c.args.st.now) (so_far c.query-in-Intersect.new.st) (so_far c.query-in-Intersect-2.new.st) (so_far c.finish_pair-in-Intersect.new.st) c.finish_pair-in-Intersect.result
+    (rw (c.in-Intersect.is, ← c.deref-in-Intersect.ensures, ← c.deref-in-Intersect-2.ensures) refl) c.common_form.ensures c.in_ok-left-in-Intersect.ensures c.in_ok-right-in-Intersect.ensures c.finish_pair-in-Intersect.ensures
+
+pub operand-returns-in_ok-on_subs-in-Crossed-2 : goal.operand-returns-in_ok-on_subs-in-Crossed-2
+operand-returns-in_ok-on_subs-in-Crossed-2 h c =
+    crossed_ok c.args.g.now (shown.from c.args.x.now) (shown.from c.deref-a.result.now) (shown.from c.deref-b.result.now) (so_far c.args.st.now) (so_far c.from.new.st) (so_far c.from-in-Crossed.new.st) (so_far c.on_subs.new.st) (so_far c.on_subs-in-Crossed.new.st) (so_far c.finish_flat.new.st)
+    c.new-fs.result c.from.new.out c.from-in-Crossed.new.out c.new-subs.result c.as_slice.result.now c.on_subs.new.os.rest.now c.on_subs.new.out c.on_subs-in-Crossed.new.out c.finish_flat.result
+    (rw (c.in-Crossed.is, ← c.deref-a.ensures, ← c.deref-b.ensures) refl) c.new-fs.ensures c.in_ok-from-in-Crossed.ensures c.in_ok-from-in-Crossed-2.ensures c.new-subs.ensures c.as_slice.ensures
+    c.in_ok-on_subs-in-Crossed.ensures.step c.in_ok-on_subs-in-Crossed.ensures.past c.in_ok-on_subs-in-Crossed-2.ensures.step c.finish_flat.ensures
+
+pub operand-returns-in_ok-test_subs-in-Joined : goal.operand-returns-in_ok-test_subs-in-Joined
+operand-returns-in_ok-test_subs-in-Joined h c =
+    joined_ok c.args.g.now (shown.from c.args.x.now) (shown.from c.deref-a-in-Joined.result.now) (shown.from c.deref-b-in-Joined.result.now) (shown.test c.deref-in-Joined-2.result.now) (so_far c.args.st.now) (so_far c.from-in-Joined.new.st) (so_far c.from-in-Joined-2.new.st) (so_far c.on_subs-in-Joined.new.st) (so_far c.on_subs-in-Joined-2.new.st) (so_far c.test_subs.new.st) (so_far c.finish_flat-in-Joined.new.st)
+    c.new-fs-in-Joined.result c.from-in-Joined.new.out c.from-in-Joined-2.new.out c.new-subs-in-Joined.result c.as_slice-in-Joined.result.now c.on_subs-in-Joined.new.os.rest.now c.as_slice-in-Joined-2.result.now c.on_subs-in-Joined.new.out c.on_subs-in-Joined-2.new.out c.test_subs.new.out (frame_of c.in_ok-frame-in-Joined.frame.items) (frame_of c.deref-in-Joined.result.now) c.finish_flat-in-Joined.result
+    (rw (c.in-Joined.is, ← c.deref-a-in-Joined.ensures, ← c.deref-b-in-Joined.ensures, ← c.deref-in-Joined-2.ensures) refl) c.new-fs-in-Joined.ensures c.in_ok-from-in-Joined.ensures c.in_ok-from-in-Joined-2.ensures c.new-subs-in-Joined.ensures c.as_slice-in-Joined.ensures c.as_slice-in-Joined-2.ensures
+    c.in_ok-on_subs-in-Joined.ensures.step c.in_ok-on_subs-in-Joined.ensures.past c.in_ok-on_subs-in-Joined-2.ensures.step c.in_ok-frame-in-Joined.ensures (ap frame_of c.deref-in-Joined.ensures.value) c.in_ok-test_subs-in-Joined.ensures c.finish_flat-in-Joined.ensures
+
+pub operand-returns-in_ok-right-in-LeftJoined : goal.operand-returns-in_ok-right-in-LeftJoined
+operand-returns-in_ok-right-in-LeftJoined h c =
+    left_ok c.args.g.now (shown.from c.args.x.now) (shown.from c.deref-a-in-LeftJoined.result.now) (shown.from c.deref-in-LeftJoined.result.now) c.in-LeftJoined.n (shown.test c.deref-in-LeftJoined-2.result.now) c.in_ok-left-in-LeftJoined.left c.in_ok-right-in-LeftJoined.right (so_far c.args.st.now) (so_far c.operand.new.st) (so_far c.operand-in-LeftJoined.new.st) (so_far c.finish_outer.new.st) c.finish_outer.result
+    (rw (c.in-LeftJoined.is, ← c.deref-a-in-LeftJoined.ensures, ← c.deref-in-LeftJoined.ensures, ← c.deref-in-LeftJoined-2.ensures) refl) c.in_ok-left-in-LeftJoined.ensures c.in_ok-right-in-LeftJoined.ensures c.finish_outer.ensures
+
+pub from-returns-in_ok-over-in-LeftJoined : goal.from-returns-in_ok-over-in-LeftJoined
+from-returns-in_ok-over-in-LeftJoined h c =
+    on_ok_weaker c.draw-in-LeftJoined.result (λ e. left_step c.args.g.now (shown.from c.args.x.now) (shown.from c.deref-a.result.now) (shown.from c.deref-in-LeftJoined.result.now) c.in-LeftJoined.n (shown.test c.deref-in-LeftJoined-2.result.now) c.in_ok-left-in-LeftJoined.left c.in_ok-right-in-LeftJoined.right c.in_ok-over-in-LeftJoined.over (so_far c.args.st.now) (so_far c.operand.new.st) (so_far c.operand-in-LeftJoined.new.st) (so_far c.finish_outer.new.st) (so_far c.draw-in-LeftJoined.new.st) c.args.out.now c.draw-in-LeftJoined.new.quants
+    (rw (c.in-LeftJoined.is, ← c.deref-a.ensures, ← c.deref-in-LeftJoined.ensures, ← c.deref-in-LeftJoined-2.ensures) refl) c.in_ok-left-in-LeftJoined.ensures c.in_ok-right-in-LeftJoined.ensures c.in_ok-over-in-LeftJoined.ensures e) c.draw-in-LeftJoined.ensures
+
+pub on_subs-returns-in_ok-frame-in-Joined-clause-step : goal.on_subs-returns-in_ok-frame-in-Joined-clause-step
+on_subs-returns-in_ok-frame-in-Joined-clause-step h c =
+    on_ok_weaker c.test_subs.result (λ e. joined_step c.args.g.now (shown.from c.args.x.now) (shown.from c.deref-a.result.now) (shown.from c.deref-b.result.now) (shown.test c.deref-in-Joined-2.result.now) (so_far c.args.st.now) (so_far c.on_subs-in-Joined.new.st) (so_far c.on_subs-in-Joined-2.new.st) (so_far c.test_subs.new.st)
+    c.args.os.now.rest.now c.args.os.now.rest.now c.args.os.now.rest.now c.on_subs-in-Joined.new.os.rest.now c.args.out.now c.on_subs-in-Joined.new.out c.on_subs-in-Joined-2.new.out c.test_subs.new.out (frame_of c.in_ok-frame-in-Joined.frame.items) (frame_of c.deref-in-Joined.result.now)
+    (rw (c.in-Joined.is, ← c.deref-a.ensures, ← c.deref-b.ensures, ← c.deref-in-Joined-2.ensures) refl) refl refl c.in_ok-on_subs-in-Joined.ensures.step c.in_ok-on_subs-in-Joined.ensures.past c.in_ok-on_subs-in-Joined-2.ensures.step c.in_ok-frame-in-Joined.ensures (ap frame_of c.deref-in-Joined.ensures.value) e) c.test_subs.ensures
