@@ -1,4 +1,4 @@
-//! The boxes that are made for a query, and that they show it.
+//! The boxes of a query, written over what was laid for its parts.
 #![tactic(auto)]
 
 mod base;
@@ -7,7 +7,6 @@ mod folds;
 mod frames;
 mod groups;
 mod heads;
-mod lay;
 mod named;
 mod ons;
 mod pairs;
@@ -20,6 +19,3 @@ mod slots;
 mod store;
 mod terms;
 mod types;
-mod whole;
-
-pub use whole::build;
