@@ -1,4 +1,5 @@
 -- How the stages of a command line fit together.
+use Rattle.std.specs.Prelude.{IfOk}
 use Rattle.std.proofs.Common.{ℕ, ◌≡◌, List, Option, Some, None, Result, Ok, Err, refl, sym, subst}
 use Rattle.csv_tables.specs.Load.{tables_of}
 use Rattle.csv_tables.specs.TableFile.{Refusal}
@@ -8,6 +9,7 @@ use Rattle.io_edge.specs.declared.fetch.Interruption.{Interruption}
 use Rattle.io_edge.specs.declared.fetch.Interruption.TheVariants.{ReadFault, Memory}
 use Rattle.io_edge.proofs.Order.{comes-bind, comes-bind-faulted, comes-bind-starved, comes-done, comes-mapped, comes-starved}
 use Rattle.row_bag.specs.declared.tables.Table.{Table}
+use Rattle.shared_types.specs.declared.memory.OutOfMemory.{OutOfMemory}
 use Rattle.sql_ast.specs.Syntax as s
 use Rattle.sql_ast.specs.Declarations.{Declared}
 use Rattle.query_checks.specs.Views.{view_refusal}
@@ -15,10 +17,12 @@ use Rattle.command_line.specs.Line.{LineText}
 use Rattle.command_line.specs.Reading.{line}
 use Rattle.qgm_app.specs.Outcome.{End, end_of, from_tables, outcome, refusing, with_catalog, with_line, with_query, with_tables, with_task, with_views}
 use Rattle.qgm_app.specs.Questions.{Found}
-use Rattle.qgm_app.specs.Runs.{ComesTold, found_end}
+use Rattle.qgm_app.specs.Printed.{said_of}
+use Rattle.qgm_app.specs.Runs.{ComesTold, Prepares, found_end}
 use Rattle.qgm_app.specs.Telling.{Reports}
 use Rattle.qgm_app.specs.Texts.{catalog_of, valid_query}
 use Rattle.qgm_app.specs.declared.report.Report.{Report}
+use Rattle.qgm_app.specs.declared.report.Said.{Said}
 use Rattle.qgm_app.specs.declared.report.Report.TheVariants.{Usage, SchemaRefused, ViewRefused, DataRefused, QueryRefused}
 
 -- ---- what is found
@@ -124,3 +128,13 @@ no-line t words is =
 pub line-taken : (t u : Option Told) (words : List (List ℕ)) (taken : LineText) (result : Result Report Interruption) → line words ≡ Some taken
     → ComesTold t u (λ fs. with_line (Some taken) fs) result → ComesTold t u (outcome words) result
 line-taken t u words taken result is h = subst (λ (l : Option LineText). ComesTold t u (λ fs. with_line l fs) result) (sym is) h
+
+-- what is said of a report
+pub told-prepares : (t u : Option Told) (o : List File → Outcome End) (report : Report) (result : Result Said OutOfMemory) → ComesTold t u o (Ok report)
+    → IfOk result (λ (said : Said). said ≡ said_of report) → Prepares t u o result
+told-prepares None u o report result h is = tt
+told-prepares (Some t) None o report result h is = absurd h.1
+told-prepares (Some t) (Some u) o report (Ok said) h is =
+    let k = h.1 in
+    (k.0, k.1, (k.2, rw k.3.0 (k.3.1, report, (h.0, k.3.2, h.2), is)))
+told-prepares (Some t) (Some u) o report (Err e) h is = (h.1.0, h.1.1, h.1.2)

@@ -1,5 +1,5 @@
 -- What a command tells of the answer to its question.
-use Rattle.std.specs.Prelude.{ℕ, ◌≡◌, ◌×◌, List, ◌++◌, codes, length, Option, Some, None}
+use Rattle.std.specs.Prelude.{ℕ, ◌≡◌, List, ◌++◌, codes, length, Some}
 use Rattle.std.specs.Fmt.{decimal}
 use Rattle.csv_tables.specs.Printed.{printed_rows}
 use Rattle.generated_input.specs.Made.{depts}
