@@ -45,7 +45,8 @@ fn tell_summary(alloc: Global, rows: u64, answer: &Answered) -> Result<Report, O
 {
     let depts = rows / 10 + 1;
     let number = row_number(answer);
-    let text = format!(in alloc; "TABLES {depts} {rows}\nANSWER {number}\nFIRINGS 0\n")?;
+    let firings: u64 = 0;
+    let text = format!(in alloc; "TABLES {depts} {rows}\nANSWER {number}\nFIRINGS {firings}\n")?;
     Ok(Report::Rows(Items::from_vec(text.as_bytes().to_vec(alloc)?)))
 }
 
