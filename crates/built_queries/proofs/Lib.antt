@@ -12,6 +12,9 @@ pub mod Frames
 mod Full
 mod Joined
 mod Keys
+mod LaidGraphs
+mod LaidOver
+mod LaidTold
 pub mod Levels
 pub mod LikeBoxes
 pub mod LikeGraphs
@@ -29,6 +32,7 @@ mod Plain
 pub mod Reached
 pub mod Reused
 mod Roots
+mod Resolving
 mod Runs
 mod Sampled
 pub mod SampledThere

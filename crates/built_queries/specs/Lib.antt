@@ -3,6 +3,7 @@ pub mod Buildable
 pub mod Formed
 pub mod FormedSample
 pub mod Joined
+pub mod Laid
 pub mod OneToOne
 pub mod Reused
 pub mod Sample

@@ -3,7 +3,9 @@
 #![tactic(auto)]
 
 mod graphs;
+mod laid;
 mod laws;
 
 pub use graphs::formed_laws;
+pub use laid::laid_graph_laws;
 pub use laws::{buildable_laws, built_laws, type_laws};

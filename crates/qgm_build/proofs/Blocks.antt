@@ -8,9 +8,9 @@ use Rattle.qgm_shown.specs.Maps.{Frame, Map, Ref}
 use Rattle.qgm_shown.specs.Shown.{all_leaves, all_on_leaves, all_ons, conds_of, frame_all, slots_of, ungrouped_cells}
 use Rattle.qgm_shown.specs.Sources.{Sources}
 use Rattle.qgm_shown.specs.Terms.{cond, split, terms}
-use Rattle.qgm_build.specs.Folds.{all_on_folds, folds_in}
+use Rattle.qgm_shown.specs.Folds.{all_on_folds, folds_in}
 use Rattle.qgm_build.proofs.Folding.{folds_append}
-use Rattle.qgm_build.proofs.FoldsSame.{all_on_same, test_same, values_same}
+use Rattle.qgm_shown.proofs.FoldsSame.{all_on_same, test_same, values_same}
 use Rattle.qgm_build.proofs.Grouped.{ungrouped_folds}
 
 abbrev pub slots_from : List OwnedQuant → List Ref → Slots

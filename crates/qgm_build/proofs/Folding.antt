@@ -4,14 +4,9 @@ use Rattle.sql_meaning.specs.ResolvedTrees.{Query, Value}
 use Rattle.qgm_core.specs.declared.kinds.QuantKind.{QuantKind}
 use Rattle.qgm_shown.specs.Leaves.{Leaf, count, fold, leaves, sub}
 use Rattle.qgm_shown.specs.Maps.{Frame}
-use Rattle.qgm_build.specs.Folds.{folds_in}
+use Rattle.qgm_shown.specs.Folds.{folds_in}
+use Rattle.qgm_shown.proofs.FoldsSame.{folds_append}
 use Rattle.qgm_build.proofs.Steps.{appended, next_there}
-
-pub folds_append : (xs ys : List Leaf) → folds_in (xs ++ ys) ≡ folds_in xs ++ folds_in ys
-folds_append [] ys = refl
-folds_append (sub fr kind query ∷ xs) ys = folds_append xs ys
-folds_append (fold f distinct x ∷ xs) ys = ap (λ zs. fold f distinct x ∷ zs) (folds_append xs ys)
-folds_append (count ∷ xs) ys = ap (λ zs. count ∷ zs) (folds_append xs ys)
 
 -- those of two parts
 pub fold_two : (ls ks a b c : List Leaf) → b ≡ a ++ folds_in ls → c ≡ b ++ folds_in ks → c ≡ a ++ folds_in (ls ++ ks)

@@ -3,7 +3,8 @@ use Rattle.std.proofs.Common.{◌≡◌, ◌<◌, ◌+◌, ◌-◌, ℕ, suc, Li
 use Rattle.qgm_shown.specs.Leaves.{Leaf, count, fold, sub}
 use Rattle.qgm_shown.specs.Maps.{Ref, column, none_counted}
 use Rattle.qgm_shown.specs.Shown.{fold_refs, key_frame, key_ref, ungrouped, ungrouped_cells}
-use Rattle.qgm_build.specs.Folds.{folds_in, leaf_of}
+use Rattle.qgm_shown.specs.Folds.{folds_in}
+use Rattle.qgm_build.specs.Folds.{leaf_of}
 use Rattle.qgm_build.specs.declared.folds.Fold.{Fold}
 use Rattle.qgm_build.specs.declared.folds.Fold.TheVariants.{CountAll, Of}
 

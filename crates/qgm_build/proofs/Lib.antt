@@ -1,6 +1,5 @@
 mod Blocks
 mod Onning
-mod FoldsSame
 mod Grouped
 mod Folding
 mod Splitting
@@ -9,9 +8,3 @@ mod Steps
 mod Afters
 mod Wholes
 mod Lists
-mod Numbers
-mod Fills
-mod Order
-mod Made
-mod Start
-mod Times

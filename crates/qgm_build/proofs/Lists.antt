@@ -8,7 +8,7 @@ use Rattle.sql_meaning.specs.declared.resolved.Value.{Value}
 use Rattle.qgm_shown.specs.Maps.{Ref, column, nothing}
 use Rattle.qgm_shown.specs.Shown.{refs}
 use Rattle.qgm_shown.specs.Sources.{how_many_values}
-use Rattle.qgm_build.specs.Typing.{chain_type, row_or, type_or, typed_by}
+use Rattle.qgm_shown.specs.Typing.{chain_type, row_or, type_or, typed_by}
 use Rattle.qgm_build.specs.Written.{frame_of, ref_or}
 use Rattle.qgm_build.specs.declared.seen.Seen.{Seen}
 

@@ -11,7 +11,7 @@ use Rattle.qgm_shown.specs.Maps.{Frame, Map}
 use Rattle.qgm_shown.specs.Shown.{all_on_leaves, all_ons, frame, on_leaves, ons, past}
 use Rattle.qgm_shown.specs.Sources.{Sources}
 use Rattle.qgm_shown.specs.Terms.{cond, split}
-use Rattle.qgm_build.specs.Folds.{all_on_folds, on_folds}
+use Rattle.qgm_shown.specs.Folds.{all_on_folds, on_folds}
 use Rattle.qgm_build.proofs.Afters.{after_append}
 use Rattle.qgm_build.proofs.Steps.{next_there}
 

@@ -10,8 +10,8 @@ use Rattle.qgm_core.specs.declared.owned.OwnedQuant.{OwnedQuant}
 use Rattle.qgm_terms.specs.Conjuncts.{Conjuncts}
 use Rattle.qgm_terms.specs.Terms.{Cond, Term}
 use Rattle.qgm_shown.specs.Shown.{distinct_of}
-use Rattle.qgm_build.specs.Lay.{Boxes}
-use Rattle.qgm_build.specs.Lay as y
+use Rattle.qgm_shown.specs.Lay.{Boxes}
+use Rattle.qgm_shown.specs.Lay as y
 
 on_top_more : (b : ℕ) (xs : List NewBox) (n : NewBox) (below : List Node) → on_top b (xs ++ n ∷ []) below ≡ made_box (length xs + b) n ∷ on_top b xs below
 on_top_more b [] n below =

@@ -13,7 +13,7 @@ use Rattle.qgm_shown.specs.Maps.{Frame, Map}
 use Rattle.qgm_shown.specs.Sources.{Sources}
 use Rattle.qgm_shown.specs.Terms.{and_every, arms, arms_type, case, choices, choices_type, cond, equals_one, every, is_untyped, null_as, or_equals, or_some, result_as, some, term, terms}
 use Rattle.qgm_shown.specs.Terms as w
-use Rattle.qgm_build.specs.Typing.{typed_by}
+use Rattle.qgm_shown.specs.Typing.{typed_by}
 use Rattle.qgm_build.specs.Parts.{all_of, any_of, arms_in, choices_in, chosen, closed, closed_choice, coalesced, coalesced_onto, conds_in, first_type, last_type, open_term, own_type}
 use Rattle.qgm_build.specs.Setting.{sources_of}
 use Rattle.qgm_build.specs.declared.setting.Named.{Named}

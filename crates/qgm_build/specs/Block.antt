@@ -8,7 +8,7 @@ use Rattle.qgm_shown.specs.Maps.{Frame, Map}
 use Rattle.qgm_shown.specs.Shown.{all_leaves, conds_of, frame_all, slots_of}
 use Rattle.qgm_shown.specs.Sources.{Sources}
 use Rattle.qgm_shown.specs.Terms.{terms}
-use Rattle.qgm_build.specs.Folds.{all_on_folds, folds_in}
+use Rattle.qgm_shown.specs.Folds.{all_on_folds, folds_in}
 use Rattle.qgm_build.specs.declared.select.Block.{Block}
 
 -- its aggregates: those of its list, of the ON conditions, and of WHERE

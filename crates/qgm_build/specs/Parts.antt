@@ -9,7 +9,7 @@ use Rattle.qgm_shown.specs.Leaves.{Slots, after, leaves, test_leaves}
 use Rattle.qgm_shown.specs.Maps.{Frame, Map}
 use Rattle.qgm_shown.specs.Sources.{Sources}
 use Rattle.qgm_shown.specs.Terms.{case, cond, is_untyped, null_as, term}
-use Rattle.qgm_build.specs.Typing.{typed_by}
+use Rattle.qgm_shown.specs.Typing.{typed_by}
 
 -- the AND of these, true where there is none
 abbrev pub all_of : List Cond → Cond

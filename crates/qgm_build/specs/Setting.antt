@@ -12,7 +12,7 @@ use Rattle.sql_meaning.specs.ResolvedTrees.{Value}
 use Rattle.qgm_shown.specs.Leaves.{Slots}
 use Rattle.qgm_shown.specs.Terms.{term}
 use Rattle.qgm_build.specs.Parts.{open_term}
-use Rattle.qgm_build.specs.Typing.{typed_by}
+use Rattle.qgm_shown.specs.Typing.{typed_by}
 use Rattle.qgm_build.specs.Written.{frame_of, map_of}
 use Rattle.qgm_build.specs.declared.setting.Named.{Named}
 use Rattle.qgm_build.specs.declared.setting.Known.{Known}

@@ -1,7 +1,7 @@
 -- The boxes that the program has made, as those of the definition.
 use Rattle.std.specs.Prelude.{length}
 use Rattle.qgm_core.specs.Made.{boxes_of}
-use Rattle.qgm_build.specs.Lay.{Boxes}
+use Rattle.qgm_shown.specs.Lay.{Boxes}
 use Rattle.qgm_build.specs.declared.store.Store.{Store}
 
 abbrev pub so_far : Store → Boxes

@@ -2,7 +2,8 @@
 ghost use Rattle.std.specs.Prelude.{◌≡◌, ◌++◌, [], OnOk, map};
 ghost use Rattle.sql_meaning.specs.ResolvedShown as shown;
 ghost use Rattle.qgm_shown.specs.Leaves as l;
-ghost use Rattle.qgm_build.specs.Folds.{folds_in, leaf_of};
+ghost use Rattle.qgm_shown.specs.Folds.{folds_in};
+ghost use Rattle.qgm_build.specs.Folds.{leaf_of};
 
 use shared_types::OutOfMemory;
 use sql_ast::SetFunction;

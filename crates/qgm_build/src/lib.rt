@@ -5,7 +5,6 @@ mod folds;
 mod frames;
 mod groups;
 mod heads;
-mod laws;
 mod ons;
 mod parts;
 mod seen;
@@ -16,4 +15,3 @@ mod store;
 mod terms;
 mod types;
 
-pub use laws::laid_laws;

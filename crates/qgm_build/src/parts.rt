@@ -6,7 +6,7 @@ ghost use Rattle.qgm_shown.specs.Maps.{ref_term};
 ghost use Rattle.qgm_shown.specs.Terms as shown;
 ghost use Rattle.qgm_build.specs.Parts as spec;
 ghost use Rattle.qgm_build.specs.Opened.{open_of, opened};
-ghost use Rattle.qgm_build.specs.Typing.{typed_by};
+ghost use Rattle.qgm_shown.specs.Typing.{typed_by};
 ghost use Rattle.qgm_build.specs.Written.{ref_of};
 
 use crate::seen::Seen;

@@ -2,8 +2,8 @@
 ghost use Rattle.std.specs.Prelude.{◌≡◌, ◌++◌, ◌∷◌, [], IfOk, OnOk, length};
 ghost use Rattle.qgm_core.specs.Edits.{range};
 ghost use Rattle.qgm_shown.specs.Shown.{distinct_of};
-ghost use Rattle.qgm_build.specs.Lay.{numbered};
-ghost use Rattle.qgm_build.specs.Lay as spec;
+ghost use Rattle.qgm_shown.specs.Lay.{numbered};
+ghost use Rattle.qgm_shown.specs.Lay as spec;
 ghost use Rattle.qgm_build.specs.SoFar.{so_far};
 
 use qgm_core::{

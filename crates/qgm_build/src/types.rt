@@ -2,7 +2,7 @@
 ghost use Rattle.std.specs.Prelude.{◌≡◌, slice_get, get_or, []};
 ghost use Rattle.sql_value.specs.declared.order_key.SqlType.TheVariants.{Integer};
 ghost use Rattle.qgm_terms.specs.Shown.{links, term};
-ghost use Rattle.qgm_build.specs.Typing as spec;
+ghost use Rattle.qgm_shown.specs.Typing as spec;
 
 use qgm_terms::{Gx, Link, Op, QuantId};
 use sql_value::SqlType;

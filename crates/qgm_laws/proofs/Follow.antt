@@ -29,11 +29,11 @@ use Rattle.qgm_laws.proofs.Settled.{cond-local, kinds-local, stays, term-local}
 abbrev pub types_at : List Node → ℕ → List (Option SqlType)
 types_at bs b = types_found (first (is_typed b) (types_of bs))
 
-in-flat : {X : Type 0} (f : X → List ℕ) (x : X) (xs : List X) (q : ℕ) → In x xs → In q (f x) → In q (flat_map f xs)
+pub in-flat : {X : Type 0} (f : X → List ℕ) (x : X) (xs : List X) (q : ℕ) → In x xs → In q (f x) → In q (flat_map f xs)
 in-flat f x [] q i j = elim i [ ]
 in-flat f x (y ∷ xs) q i j = elim i [ inl e ↦ in-left q (f y) (flat_map f xs) (subst (λ z. In q (f z)) (sym e) j) | inr k ↦ in-right q (f y) (flat_map f xs) (in-flat f x xs q k j) ]
 
-all-alike : {X : Type 0} (p q : X → Bool) (xs : List X) → ((x : X) → In x xs → p x ≡ q x) → list_all p xs ≡ list_all q xs
+pub all-alike : {X : Type 0} (p q : X → Bool) (xs : List X) → ((x : X) → In x xs → p x ≡ q x) → list_all p xs ≡ list_all q xs
 all-alike p q [] h = refl
 all-alike p q (x ∷ xs) h = ap₂ (λ a b. a && b) (h x (inl refl)) (all-alike p q xs (λ y i. h y (inr i)))
 
@@ -43,7 +43,7 @@ settled-types bs root w n i =
     sym (stays bs w.ordered w.once (length bs) n.id (suc (length bs)) (all-settled bs root w n i) (omega arith))
     ∙ ap types_found (first-typed bs (types_of bs) bs n.id n (in-first n bs w.ordered i))
 
-type-alike : (bs hs : List Node) (k u v : ℕ) → types_at hs v ≡ types_at bs u → type_in k (first (is_typed v) (types_of hs)) ≡ type_in k (first (is_typed u) (types_of bs))
+pub type-alike : (bs hs : List Node) (k u v : ℕ) → types_at hs v ≡ types_at bs u → type_in k (first (is_typed v) (types_of hs)) ≡ type_in k (first (is_typed u) (types_of bs))
 type-alike bs hs k u v h = type_by k (first (is_typed v) (types_of hs)) ∙ ap (λ z. cond (k == 0) None (joined_column (slice_get z (k - 1)))) h ∙ sym (type_by k (first (is_typed u) (types_of bs)))
   where
     type_by : (k : ℕ) (o : Option Typed) → type_in k o ≡ cond (k == 0) None (joined_column (slice_get (types_found o) (k - 1)))

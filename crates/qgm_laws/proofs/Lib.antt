@@ -19,6 +19,7 @@ pub mod Turns
 pub mod PutRead
 pub mod Merge
 pub mod MergeSound
+pub mod MergeDistinct
 pub mod AnyPut
 pub mod Looks
 pub mod Checked
@@ -47,5 +48,7 @@ pub mod Follow
 pub mod TypedKept
 pub mod TypedMoved
 pub mod TypedPushed
+pub mod TypedMerged
+pub mod TypedDistinct
 pub mod WellFormedKept
 pub mod Examples

@@ -135,7 +135,7 @@ module _ (at : Lookup) (q : ℕ) (cells : List Term) where
     cond-put (t.every r c) h f = absurd (let z : ⊥ = cc in z)
 
   -- the type of a cell is that of its place
-  cell-type : (xs : List Term) (i : ℕ) → i < length xs → term_type at (get_or xs i t.null_int) ≡ joined_column (slice_get (map (term_type at) xs) i)
+  pub cell-type : (xs : List Term) (i : ℕ) → i < length xs → term_type at (get_or xs i t.null_int) ≡ joined_column (slice_get (map (term_type at) xs) i)
   cell-type [] i h = absurd (omega arith)
   cell-type (x ∷ xs) zero h = refl
   cell-type (x ∷ xs) (suc i) h = cell-type xs i (omega arith)

@@ -21,7 +21,7 @@ held-same b [] = refl
 held-same b (n ∷ ns) = ap₂ (λ x y. x || y) refl (held-same b ns)
 
 -- boxes in order have numbers of their own
-numbers-once : (ns : List Node) → Ordered ns → EachOnce (numbers ns)
+pub numbers-once : (ns : List Node) → Ordered ns → EachOnce (numbers ns)
 numbers-once [] o = tt
 numbers-once (n ∷ ns) o = (held-same n.id ns ∙ o.0, numbers-once ns o.2)
 

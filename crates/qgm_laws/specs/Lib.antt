@@ -2,6 +2,7 @@ pub mod Graph
 pub mod Keeps
 pub mod Drop
 pub mod Merge
+pub mod MergeDistinct
 pub mod Checked
 pub mod Laws
 pub mod Examples
@@ -12,6 +13,7 @@ pub mod Changes
 pub mod Adds
 pub mod SoundEdits
 pub mod Shaped
+pub mod MergeTyped
 pub mod Single
 pub mod Facts
 pub mod Push

@@ -2,6 +2,8 @@
 ghost use Rattle.qgm_laws.specs.Asked.{Pushed, Singled};
 ghost use Rattle.qgm_laws.specs.EditLaws.{EditsPlaced, NewPlaced};
 ghost use Rattle.qgm_laws.specs.Examples.{Dropped, Same};
+ghost use Rattle.qgm_laws.specs.MergeDistinct.{MergeDistinctKeeps};
+ghost use Rattle.qgm_laws.specs.MergeTyped.{MergeDistinctTyped, MergeTyped};
 ghost use Rattle.qgm_laws.specs.Push.{PushKeeps};
 ghost use Rattle.qgm_laws.specs.Shaped.{CompactShaped, CompactTyped, CompactWellFormed, DropShaped, DropTyped, DropWellFormed, PlacedIsChecked, PushTyped, SoundIsChecked};
 ghost use Rattle.qgm_laws.specs.SoundEdits.{AddSound, EditsAreMaps, KeepBags, KeepSound, NearlyCompact, ScopeLaws};
@@ -9,13 +11,14 @@ ghost use Rattle.qgm_laws.specs.Facts.{FactsOfAgreeing, LooksStay};
 ghost use Rattle.qgm_laws.specs.Single.{SingleDiffers, SingleKeeps};
 ghost use Rattle.qgm_laws.specs.Laws.{BoundAbove, CheckedFromSound, CompactKeeps, DropKeeps, KeepsChained, MergeKeeps, SettledFromChecked};
 
-/// What a box looks up is bound above it; steps that keep all chain; dropping boxes that aren't reached, M2, M1, U2 and P1 keep all; what is tested of columns that are read is what rules take. It does nothing.
+/// What a box looks up is bound above it; steps that keep all chain; dropping boxes that aren't reached, M2, M1 (at an ENFORCE box over an ENFORCE box too), U2 and P1 keep all; what is tested of columns that are read is what rules take. It does nothing.
 pub fn rewriting_laws()
     ensures bound_above { BoundAbove }
     ensures chained { KeepsChained }
     ensures compact { CompactKeeps }
     ensures drop { DropKeeps }
     ensures merge { MergeKeeps }
+    ensures merge_distinct { MergeDistinctKeeps }
     ensures single { SingleKeeps }
     ensures differs { SingleDiffers }
     ensures push { PushKeeps }
@@ -45,7 +48,7 @@ pub fn sound_laws()
     ensures looks { LooksStay }
 {}
 
-/// What rules need of a graph, with types that agree and shapes, is what the check of a graph finds; so it is for the three clauses that every edit keeps; where boxes that aren't reached go, and under M2, shapes stay, types agree and the check finds nothing more; types agree under P1. It does nothing.
+/// What rules need of a graph, with types that agree and shapes, is what the check of a graph finds; so it is for the three clauses that every edit keeps; where boxes that aren't reached go, and under M2, shapes stay, types agree and the check finds nothing more; types agree under P1 and M1. It does nothing.
 pub fn checked_laws()
     ensures placed { PlacedIsChecked }
     ensures sound { SoundIsChecked }
@@ -56,4 +59,6 @@ pub fn checked_laws()
     ensures drop_typed { DropTyped }
     ensures drop_formed { DropWellFormed }
     ensures push_typed { PushTyped }
+    ensures merge_typed { MergeTyped }
+    ensures merge_distinct_typed { MergeDistinctTyped }
 {}

@@ -8,3 +8,11 @@ pub mod Views
 pub mod Samples
 pub mod Refused
 pub mod Buildable
+pub mod Folds
+pub mod Typing
+pub mod Lay
+pub mod Lays
+pub mod Reads
+pub mod Whole
+pub mod WholeLaw
+pub mod LaidSample

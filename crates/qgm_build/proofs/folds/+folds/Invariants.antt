@@ -1,7 +1,8 @@
 use Rattle.std.proofs.Common.{◌≡◌, ◌++◌, [], drop, map}
 use Rattle.sql_meaning.specs.ResolvedShown as shown
 use Rattle.qgm_shown.specs.Leaves as w
-use Rattle.qgm_build.specs.Folds.{folds_in, leaf_of}
+use Rattle.qgm_shown.specs.Folds.{folds_in}
+use Rattle.qgm_build.specs.Folds.{leaf_of}
 use Rattle.qgm_build.proofs.folds.+folds.Given as goal
 
 abbrev pub invariant-addend_folds-loop-x : goal.invariant-addend_folds-loop-x

@@ -1,6 +1,7 @@
 use Rattle.std.proofs.Common.{◌≡◌, ◌++◌, drop, map}
 use Rattle.sql_meaning.specs.ResolvedShown as shown
-use Rattle.qgm_build.specs.Folds.{all_on_folds, leaf_of}
+use Rattle.qgm_shown.specs.Folds.{all_on_folds}
+use Rattle.qgm_build.specs.Folds.{leaf_of}
 use Rattle.qgm_build.proofs.ons.all_on_folds.Given as goal
 
 abbrev pub invariant-loop-x : goal.invariant-loop-x

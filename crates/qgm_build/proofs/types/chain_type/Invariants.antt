@@ -1,6 +1,6 @@
 use Rattle.std.proofs.Common.{◌≡◌, drop}
 use Rattle.qgm_terms.specs.Shown.{links}
-use Rattle.qgm_build.specs.Typing as spec
+use Rattle.qgm_shown.specs.Typing as spec
 use Rattle.qgm_build.proofs.types.chain_type.Given as goal
 
 abbrev pub invariant-loop-link : goal.invariant-loop-link

@@ -3,6 +3,8 @@ use Rattle.qgm_laws.proofs.ShapedKept.{shaped-compact}
 use Rattle.qgm_laws.proofs.ShapedMoved.{drop-shaped}
 use Rattle.qgm_laws.proofs.TypedKept.{typed-compact}
 use Rattle.qgm_laws.proofs.TypedMoved.{drop-typed}
+use Rattle.qgm_laws.proofs.TypedDistinct.{merge-distinct-typed}
+use Rattle.qgm_laws.proofs.TypedMerged.{merge-typed}
 use Rattle.qgm_laws.proofs.TypedPushed.{typed-pushed}
 use Rattle.qgm_laws.proofs.WellFormedKept.{compact-formed, drop-formed}
 use Rattle.qgm_laws.proofs.laws.checked_laws.Goals as goal
@@ -33,3 +35,9 @@ returns-clause-drop_formed c = drop-formed
 
 pub returns-clause-push_typed : goal.returns-clause-push_typed
 returns-clause-push_typed c = λ g w t b d ps p qs us r vs m. typed-pushed g.boxes g.root w b d ps p qs us r vs m t
+
+pub returns-clause-merge_typed : goal.returns-clause-merge_typed
+returns-clause-merge_typed c = merge-typed
+
+pub returns-clause-merge_distinct_typed : goal.returns-clause-merge_distinct_typed
+returns-clause-merge_distinct_typed c = merge-distinct-typed

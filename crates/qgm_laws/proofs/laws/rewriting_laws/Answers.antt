@@ -4,6 +4,7 @@ use Rattle.qgm_laws.proofs.Compact.{compact-bag}
 use Rattle.qgm_laws.proofs.Examples.{dropped-example}
 use Rattle.qgm_laws.proofs.Rules.{compact-keeps, drop-keeps, keeps-chained, merge-keeps}
 use Rattle.qgm_laws.proofs.Asked.{pushed-example, singled-example}
+use Rattle.qgm_laws.proofs.MergeDistinct.{merge-distinct-keeps}
 use Rattle.qgm_laws.proofs.PushRule.{push-keeps}
 use Rattle.qgm_laws.proofs.SingleRule.{single-keeps}
 use Rattle.qgm_laws.proofs.Above.{binds-above}
@@ -50,3 +51,6 @@ returns-clause-pushed c = pushed-example
 
 pub returns-clause-singled : goal.returns-clause-singled
 returns-clause-singled c = singled-example
+
+pub returns-clause-merge_distinct : goal.returns-clause-merge_distinct
+returns-clause-merge_distinct c = merge-distinct-keeps

@@ -1,0 +1,108 @@
+//! The rewrite rules that are built, as the engine takes them.
+#![tactic(auto)]
+
+ghost use Rattle.std.specs.Prelude.{IfOk};
+ghost use Rattle.qgm_check.specs.Sentences.{WellFormed};
+ghost use Rattle.rule_engine.specs.Trace.{Traces};
+ghost use Rattle.built_rules.specs.Built.{built_act, built_exact, built_may, built_pairs};
+
+use qgm_core::{BoxId, Graph};
+use rewrite_plan::Plan;
+use rule_api::{Place, Rule, RuleId};
+use rule_engine::{Rules, Trace, rewrite};
+use rule_merge::DropCopy;
+use shared_types::OutOfMemory;
+use std::alloc::Global;
+
+/// The rules that are built: M2.
+#[derive(Clone, Copy, Debug)]
+pub struct BuiltRules;
+
+impl Rules for BuiltRules {
+    ghost pairs = { λ _. built_pairs };
+
+    ghost may = { λ _. built_may };
+
+    ghost act = { λ _. built_act };
+
+    ghost exact = { λ _. built_exact };
+
+    fn places(
+        &self,
+        alloc: Global,
+        rule: RuleId,
+        graph: &Graph,
+        b: BoxId,
+    ) -> Result<Vec<Place>, OutOfMemory> {
+        match rule {
+            RuleId::M2 => DropCopy.places(alloc, graph, b),
+            RuleId::M1
+            | RuleId::U1
+            | RuleId::U2
+            | RuleId::U3
+            | RuleId::U4
+            | RuleId::L1
+            | RuleId::L2
+            | RuleId::L3
+            | RuleId::P1
+            | RuleId::P2
+            | RuleId::P3
+            | RuleId::P4
+            | RuleId::J1
+            | RuleId::J2
+            | RuleId::N1
+            | RuleId::N2
+            | RuleId::G1
+            | RuleId::G2
+            | RuleId::G3
+            | RuleId::G4
+            | RuleId::G5 => Ok(Vec::new(alloc)),
+        }
+    }
+
+    fn apply(
+        &self,
+        alloc: Global,
+        rule: RuleId,
+        graph: &mut Graph,
+        place: Place,
+    ) -> Result<(), OutOfMemory> {
+        match rule {
+            RuleId::M2 => DropCopy.apply(alloc, graph, place),
+            RuleId::M1
+            | RuleId::U1
+            | RuleId::U2
+            | RuleId::U3
+            | RuleId::U4
+            | RuleId::L1
+            | RuleId::L2
+            | RuleId::L3
+            | RuleId::P1
+            | RuleId::P2
+            | RuleId::P3
+            | RuleId::P4
+            | RuleId::J1
+            | RuleId::J2
+            | RuleId::N1
+            | RuleId::N2
+            | RuleId::G1
+            | RuleId::G2
+            | RuleId::G3
+            | RuleId::G4
+            | RuleId::G5 => Ok(()),
+        }
+    }
+}
+
+/// Rewrites a graph by the rules that are built, and says what fired. It fails where there is no
+/// memory.
+pub fn rewrite_built(
+    alloc: Global,
+    graph: Graph,
+    plan: &Plan,
+) -> Result<(Graph, Trace), OutOfMemory>
+    requires { WellFormed graph }
+    ensures { IfOk result (λ r. Traces built_pairs built_may built_act plan.now graph r.1 r.0) }
+{
+    rewrite(alloc, &BuiltRules, graph, plan)
+}

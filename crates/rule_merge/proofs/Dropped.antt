@@ -1,0 +1,173 @@
+-- M2 preserves.
+use Rattle.std.proofs.Common.{ℕ, ◌==◌, ◌≡◌, ◌≤◌, cond, not, Bool, true, false, List, [], ◌∷◌, length, map, Some, refl, sym, ap, subst, ◌∙◌, eqb-true, inl, inr, arith}
+use Rattle.std.proofs.lemmas.Bool.{and_parts, cases_Bool, not-true}
+use Rattle.std.specs.Prelude.{slice_get}
+use Rattle.qgm_core.specs.Boxes.{HasBox, QueryGraph, box_of, is_box, numbers, quant_by, quants_in, quants_of}
+use Rattle.qgm_core.specs.declared.owned.Quant.{Quant}
+use Rattle.qgm_core.specs.Edits.{compact, on_boxes, quants_over}
+use Rattle.qgm_core.specs.Free.{reached}
+use Rattle.qgm_core.specs.Kinds.{is_F, is_enforce}
+use Rattle.qgm_core.specs.Lists.{EachOnce, In, first, holds, without}
+use Rattle.qgm_core.specs.declared.node.Node.{Node}
+use Rattle.qgm_core.specs.declared.owned.OwnedQuant.{OwnedQuant}
+use Rattle.qgm_check.specs.Sentences.{WellFormed}
+use Rattle.qgm_check.proofs.Faults.{finds-none}
+use Rattle.qgm_meaning.specs.Satisfies.{Satisfies}
+use Rattle.qgm_laws.specs.Drop.{MayDrop, dropped, moved, moved_range}
+use Rattle.qgm_laws.specs.Graph.{Sound}
+use Rattle.qgm_laws.proofs.Compact.{reached_boxes}
+use Rattle.qgm_laws.proofs.Edits.{boxes_without, without-one}
+use Rattle.qgm_laws.proofs.Formed.{sound-checked}
+use Rattle.qgm_laws.proofs.Lists.{any-from, eq-false-sym, in-map}
+use Rattle.qgm_laws.proofs.Ranks.{place, place-under}
+use Rattle.qgm_laws.proofs.Rules.{drop-keeps}
+use Rattle.qgm_laws.proofs.WellFormedKept.{drop-formed, numbers-once}
+use Rattle.rule_api.specs.Rules.{Preserves}
+use Rattle.rule_api.specs.declared.place.Place.{Place}
+use Rattle.rule_merge.specs.Copies.{copies, may_go}
+use Rattle.rule_merge.specs.DropCopy.{DropsBox, DropsCopy, IsCopy, found-from}
+use Rattle.rule_merge.specs.Turns.{turned}
+use Rattle.rule_merge.proofs.Preserved.{preserves-kept, satisfies-kept, satisfies-map, satisfies-without}
+use Rattle.rule_merge.proofs.Turned.{turned-all}
+use Rattle.rule_merge.proofs.Unreached.{reached-without}
+
+-- what is found is there, and passes
+pub found-in : {X : Type 0} (p : X → Bool) (xs : List X) (x : X) → first p xs ≡ Some x → In x xs × (p x ≡ true)
+found-in p [] x e = absurd (let z : ⊥ = cc in z)
+found-in {X} p (y ∷ xs) x e = elim (p y) as (λ t. p y ≡ t → cond t (Some y) (first p xs) ≡ Some x → In x (y ∷ xs) × (p x ≡ true)) [
+  | true ↦ λ t h. (let q : y ≡ x = cc in (inl q, subst (λ z. p z ≡ true) q t))
+  | false ↦ λ t h. (let r = found-in p xs x h in (inr r.0, r.1))
+] refl e
+
+moved-without : (b c d : ℕ) (ns : List Node) → boxes_without d (map (moved b c) ns) ≡ map (moved b c) (boxes_without d ns)
+moved-without b c d [] = refl
+moved-without b c d (n ∷ ns) = elim (n.id == d) as (λ t. ◌≡◌ {A = List Node} (cond t (boxes_without d (map (moved b c) ns)) (moved b c n ∷ boxes_without d (map (moved b c) ns))) (map (moved b c) (cond t (boxes_without d ns) (n ∷ boxes_without d ns)))) [
+  | true ↦ moved-without b c d ns
+  | false ↦ ap (λ z. moved b c n ∷ z) (moved-without b c d ns)
+]
+
+module _ (g : QueryGraph) (u : EachOnce (numbers g.boxes)) (f : WellFormed g) (b c : Node) (r : OwnedQuant) (p : Place) (away : (p.at == g.root) ≡ false) (found : box_of p.at g ≡ Some b) (m : IsCopy g b c r) where
+  abbrev at : ℕ
+  at = p.at
+
+  sound : Sound g.boxes g.root
+  sound = ((sound-checked g u).0 ((finds-none g u).1 f)).0
+
+  in-b : In b g.boxes
+  in-b = (found-in (is_box at) g.boxes b found).0
+
+  at-b : b.id ≡ at
+  at-b = eqb-true b.id at (found-in (is_box at) g.boxes b found).1
+
+  not-root : (g.root == b.id) ≡ false
+  not-root = eq-false-sym b.id g.root (subst (λ z. (z == g.root) ≡ false) (sym at-b) away)
+
+  over-c : c.id ≡ r.over
+  over-c = eqb-true c.id r.over (found-in (is_box r.over) g.boxes c m.under).1
+
+  may : MayDrop g b c r
+  may = record {
+    in_b = in-b;
+    in_c = (found-in (is_box r.over) g.boxes c m.under).0;
+    a_select = m.a_select;
+    not_enforced = ap is_enforce m.preserves;
+    not_root = not-root;
+    alone = m.alone;
+    is_f = ap is_F m.is_f;
+    over_c = sym over-c;
+    no_conds = m.no_conjunct;
+    all_columns = m.all_columns;
+  }
+
+  c-not-b : (r.over == b.id) ≡ false
+  c-not-b = elim (cases_Bool (r.over == b.id)) [
+    | inr n ↦ n
+    | inl t ↦ absurd (
+        let less = place-under g.boxes b r sound.ordered in-b (subst (λ z. In r z) (sym m.alone) (inl refl)) in
+        let e : place g.boxes r.over ≡ place g.boxes b.id = ap (place g.boxes) (eqb-true r.over b.id t) in omega arith)
+  ]
+
+  unused : (n : Node) (s : OwnedQuant) → In n (map (moved b.id r.over) g.boxes) → In s n.quants → (s.over == b.id) ≡ false
+  unused n s i j =
+      let y = in-map (moved b.id r.over) n g.boxes i in
+      let x = in-map (moved_range b.id r.over) s y.0.quants (subst (λ (z : Node). In s z.quants) (sym y.1.1) j) in
+      subst (λ (z : OwnedQuant). (z.over == b.id) ≡ false) x.1.1 (elim (x.0.over == b.id) as (λ t. (x.0.over == b.id) ≡ t → (cond t r.over x.0.over == b.id) ≡ false) [ true ↦ λ t. c-not-b | false ↦ λ t. t ] refl)
+
+  -- the boxes after it are those of the law
+  same : compact (on_boxes (map (moved b.id r.over)) g) ≡ dropped b c g
+  same =
+      ap (λ z. record g { boxes = z }) (
+      reached-without b.id g.root (map (moved b.id r.over) g.boxes) not-root unused
+      ∙ ap (reached_boxes g.root) (moved-without b.id r.over b.id g.boxes ∙ ap (map (moved b.id r.over)) (without-one b.id g.boxes sound.ordered)))
+      ∙ ap (λ z. compact (on_boxes (λ bs. map (moved b.id z) (without (is_box b.id) bs)) g)) (sym over-c)
+
+  preserves : Preserves g (dropped b c g)
+  preserves =
+      let k = drop-keeps g sound b c r may in
+      preserves-kept g (dropped b c g) (numbers-once (dropped b c g).boxes k.well.ordered) k (drop-formed g u ((finds-none g u).1 f) b c r may)
+      (λ tables s. (
+      let bs = map (moved b.id c.id) (without (is_box b.id) g.boxes) in
+      satisfies-kept tables (λ x. holds x (reached (g.root ∷ []) bs)) bs
+      (satisfies-map tables (moved b.id c.id) (λ n. refl) (without (is_box b.id) g.boxes)
+      (subst (λ z. Satisfies tables z) (without-one b.id g.boxes sound.ordered) (satisfies-without tables b.id g.boxes s)))))
+
+  -- what the code makes
+  made : (h : QueryGraph) → h ≡ compact (on_boxes (turned r.over (quants_over at g.boxes)) g) → h ≡ compact (on_boxes (map (moved at r.over)) g)
+  made h e = e ∙ ap (λ z. compact (record g { boxes = z })) (turned-all at r.over g.boxes sound.once)
+
+  pub acts : (h : QueryGraph) → h ≡ compact (on_boxes (turned r.over (quants_over at g.boxes)) g) → DropsBox p g h b r
+  acts h e = record { at = found; one = m.alone; after = made h e }
+
+  pub after : (h : QueryGraph) → h ≡ compact (on_boxes (turned r.over (quants_over at g.boxes)) g) → Preserves g h
+  after h e = subst (λ z. Preserves g z) (sym (made h e ∙ ap (λ z. compact (on_boxes (map (moved z r.over)) g)) (sym at-b) ∙ same)) preserves
+
+-- ---- what the code needs, where the test passes
+
+module _ (g : QueryGraph) (p : Place) (passes : may_go g p.at ≡ true) where
+  away : (p.at == g.root) ≡ false
+  away = not-true (p.at == g.root) (and_parts (not (p.at == g.root)) (copies g p.at) passes).0
+
+  h : copies g p.at ≡ true
+  h = (and_parts (not (p.at == g.root)) (copies g p.at) passes).1
+
+  abbrev b : Node
+  b = (found-from g (box_of p.at g) h).0
+
+  abbrev c : Node
+  c = (found-from g (box_of p.at g) h).1.0
+
+  abbrev r : OwnedQuant
+  r = (found-from g (box_of p.at g) h).1.1.0
+
+  found : box_of p.at g ≡ Some b
+  found = (found-from g (box_of p.at g) h).1.1.1.0
+
+  is : IsCopy g b c r
+  is = (found-from g (box_of p.at g) h).1.1.1.1
+
+  quants : quants_of p.at g ≡ r ∷ []
+  quants = ap quants_in found ∙ is.alone
+
+  pub held_of : HasBox p.at g
+  held_of = let i = found-in (is_box p.at) g.boxes b found in any-from (is_box p.at) b g.boxes i.0 i.1
+
+  pub one_of : 1 ≤ length (quants_of p.at g)
+  one_of = let e : length (quants_of p.at g) ≡ 1 = ap length quants in omega arith
+
+  module _ (q : Quant) (e : Some q ≡ quant_by p.at (slice_get (quants_of p.at g) 0)) where
+    over-is : r.over ≡ q.over
+    over-is = let k : Some q ≡ Some (record { owner = p.at; kind = r.kind; over = r.over }) = e ∙ ap (λ z. quant_by p.at (slice_get z 0)) quants in let s : q ≡ record { owner = p.at; kind = r.kind; over = r.over } = cc in ap (λ (z : Quant). z.over) (sym s)
+
+    pub over_held : HasBox q.over g
+    over_held = let i = found-in (is_box r.over) g.boxes c is.under in subst (λ z. HasBox z g) over-is (any-from (is_box r.over) c g.boxes i.0 i.1)
+
+    module _ (u : EachOnce (numbers g.boxes)) (f : WellFormed g) (z : QueryGraph) (made : z ≡ compact (on_boxes (turned q.over (quants_over p.at g.boxes)) g)) where
+      now : z ≡ compact (on_boxes (turned r.over (quants_over p.at g.boxes)) g)
+      now = subst (λ x. z ≡ compact (on_boxes (turned x (quants_over p.at g.boxes)) g)) (sym over-is) made
+
+      pub acts_of : DropsCopy p g z
+      unfolding DropsCopy
+      acts_of = (b, (r, acts g u f b c r p away found is z now))
+
+      pub preserves_of : Preserves g z
+      preserves_of = after g u f b c r p away found is z now

@@ -1,0 +1,64 @@
+// M2.
+ghost use Rattle.std.specs.Prelude.{◌≡◌, IfOk, true};
+ghost use Rattle.qgm_check.specs.Sentences.{WellFormed};
+ghost use Rattle.rule_api.specs.Rules.{Preserves};
+ghost use Rattle.rule_api.specs.declared.place.RuleId.TheVariants.{M2};
+ghost use Rattle.rule_merge.specs.Copies as spec;
+ghost use Rattle.rule_merge.specs.DropCopy.{DropsCopy, MayDropCopy, drop_copy_exact, drop_copy_pairs};
+
+use crate::copies::may_go;
+use crate::moves::moved;
+use qgm_core::{BoxId, Graph};
+use rule_api::{Place, Rule, RuleId, add_if};
+use shared_types::OutOfMemory;
+use std::alloc::Global;
+
+/// M2: a plain select that gives what the box under its one quantifier gives goes, and quantifiers
+/// over it range over that box (Pirahesh, Hellerstein and Hasan 1992, 3.2).
+#[derive(Clone, Copy, Debug)]
+pub struct DropCopy;
+
+// The graph after M2 at a place.
+#[tactic(auto, using(crate::proofs::Dropped::held_of, crate::proofs::Dropped::one_of, crate::proofs::Dropped::over_held, crate::proofs::Dropped::acts_of, crate::proofs::Dropped::preserves_of))]
+fn dropped(alloc: Global, graph: &Graph, place: Place) -> Result<Graph, OutOfMemory>
+    requires formed { WellFormed graph.now }
+    requires given { spec.may_go graph.now place.at ≡ true }
+    ensures acts { IfOk result (λ h. DropsCopy place graph.now h) }
+    ensures preserves { IfOk result (λ h. Preserves graph.now h) }
+{
+    graph.each_number_once();
+    let quant = graph.quant_at(place.at, 1);
+    let after = moved(alloc, graph, place.at, quant.over)?;
+    Ok(after)
+}
+
+impl Rule for DropCopy {
+    ghost pairs = { λ _. drop_copy_pairs };
+
+    ghost may = { λ _. MayDropCopy };
+
+    ghost act = { λ _. DropsCopy };
+
+    ghost name = { λ _. M2 };
+
+    ghost exact = { λ _. drop_copy_exact };
+
+    fn id(&self) -> RuleId {
+        RuleId::M2
+    }
+
+    #[tactic(auto, using(crate::specs::DropCopy::drop_copy_ascending), unfolding(crate::specs::DropCopy::drop_copy_pairs))]
+    fn places(&self, alloc: Global, graph: &Graph, b: BoxId) -> Result<Vec<Place>, OutOfMemory> {
+        let mut out = Vec::new(alloc);
+        let passes = may_go(alloc, graph, b)?;
+        add_if(&mut out, passes, b, 0, 0)?;
+        Ok(out)
+    }
+
+    #[tactic(auto, using(crate::specs::DropCopy::drop_copy_given))]
+    fn apply(&self, alloc: Global, graph: &mut Graph, place: Place) -> Result<(), OutOfMemory> {
+        let after = dropped(alloc, graph, place)?;
+        *graph = after;
+        Ok(())
+    }
+}

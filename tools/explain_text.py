@@ -1,0 +1,328 @@
+"""What `qgm explain` prints, read: the graphs, the firings, and cells and conditions in words."""
+import re
+import unicodedata
+
+# What each rule does, and its class.
+RULES = {
+    "M1": ("merge", "A select takes in the select under one of its F quantifiers: the quantifiers and conditions of that box move up, and its cells stand where its columns were named."),
+    "M2": ("merge", "A select that only hands on the rows of one box goes: whoever ranged over it ranges over that box."),
+    "U1": ("subquery", "An E quantifier becomes an F quantifier, so a subquery becomes a join: repeated rows do no harm here, can't come, or are dropped by the box."),
+    "U2": ("subquery", "A scalar subquery that may have no row, or several, is put under a group of exactly one row: its cell is null over no row, and an error over more than one."),
+    "U3": ("subquery", "A scalar subquery that always has exactly one row becomes an F quantifier, and its value is a column of the join."),
+    "U4": ("subquery", "INTERSECT or EXCEPT becomes a select of distinct rows: the rows of the left operand for which there is an equal row in the right one, or none."),
+    "L1": ("distinct", "A DISTINCT goes where a key tells that no row comes twice."),
+    "L2": ("distinct", "Of this box one only asks whether some row, or every row, meets a condition: so it may give a row any number of times."),
+    "L3": ("distinct", "A DISTINCT goes under a UNION, which drops repeated rows itself."),
+    "P1": ("push", "A condition on the columns of one box moves down into that box, a select."),
+    "P2": ("push", "A condition on grouping columns moves down, below the group, so fewer rows are grouped."),
+    "P3": ("push", "A condition on the columns of a set operation moves down into both its operands."),
+    "P4": ("push", "A condition on left columns of an outer join moves down into its left operand."),
+    "J1": ("trans", "Two columns that equal the same third one equal each other: that condition is added."),
+    "J2": ("trans", "A column that equals another, which equals a literal, equals the literal: that condition is added."),
+    "N1": ("prune", "A column that nobody names goes, and with it each subquery that nothing names any more."),
+    "N2": ("prune", "A quantifier over a box of exactly one row goes, since nobody names it."),
+    "G1": ("magic", "FEED: the rows that a subquery depends on get a box of their own; a magic box gathers the values that it needs, each once; a fed box runs the subquery for these, and its rows are joined back by the values."),
+    "G2": ("magic", "A fed select takes the magic box in as its own first quantifier, and its values as its own first columns."),
+    "G3": ("magic", "A fed group takes the values of the magic box as further keys; where it had none, an outer join brings back the values for which it has no row, and counts them as 0."),
+    "G4": ("magic", "A fed set operation is fed through its two operands."),
+    "G5": ("magic", "A fed outer join is fed through its left operand, and through its right one where that needs values too."),
+}
+# What the number i of a place counts, and the number j; None where the rule has none.
+PLACES = {"M1": ("quantifier", None), "U1": ("quantifier", None), "U2": ("quantifier", None), "U3": ("quantifier", None), "N2": ("quantifier", None), "G1": ("quantifier", None)}
+PLACES.update({rule: ("condition", None) for rule in ("P1", "P2", "P3", "P4")})
+PLACES.update({"J1": ("condition", "condition"), "J2": ("condition", "condition"), "N1": ("column", None)})
+
+QUANTIFIERS = {"F": "each row is taken, as in FROM", "E": "some row meets a condition", "A": "every row meets a condition", "S": "the value of a scalar subquery"}
+COMPARISONS = {"eq": "=", "ne": "<>", "lt": "<", "le": "<=", "gt": ">", "ge": ">=", "same": "is same as", "like": "LIKE"}
+ARITHMETIC = {"add": ("+", 2), "sub": ("-", 2), "cat": ("||", 2), "mul": ("*", 3), "div": ("/", 3)}
+AGGREGATES = ("single", "count", "sum", "avg", "min", "max")
+TIPS = {
+    "enforce": "each row once: DISTINCT", "permit": "may give a row any number of times", "magic": "gathers values that a subquery needs",
+    "fed": "runs a subquery for the values of a magic box", "open": "names a quantifier of a box above it",
+}
+
+
+class Wrong(Exception):
+    """The input isn't what explain prints."""
+
+
+# Reading
+
+
+class Box:
+    """A box: its number, kind, words and lines, and what it holds."""
+
+    def __init__(self, number, kind, words, is_open, text):
+        self.number, self.kind, self.words, self.is_open = number, kind, words, is_open
+        self.quants, self.conds, self.head, self.text = [], [], [], [text]
+
+
+class Step:
+    """A graph, and the firing after it: its rule, box, i and j."""
+
+    def __init__(self):
+        self.names, self.order, self.boxes, self.preamble, self.firing = [], [], [], [], None
+
+    def box(self, number):
+        return self.boxes[number - 1]
+
+
+def lines_of(text):
+    """Yields each line with its number; a line goes on after a line feed that stands within quotes."""
+    at, number = 0, 1
+    while at < len(text):
+        end, quote = at, None
+        while end < len(text) and (quote or text[end] != "\n"):
+            if quote:
+                quote = None if text[end] == quote else quote
+            elif text[end] in "\"'":
+                quote = text[end]
+            end += 1
+        if quote:
+            raise Wrong(f"line {number}: a quote has no end")
+        yield number, text[at:end], end + 1
+        number += text.count("\n", at, end) + 1
+        at = end + 1
+
+
+TOKEN = re.compile(r"""\s*(?:([()])|("(?:[^"]|"")*")|('(?:[^']|'')*')|([^\s()"']+))""")
+
+
+def tokens_of(text):
+    """Returns the tokens of a line: brackets, words, and quoted texts as they stand."""
+    found, at = [], 0
+    text = text.rstrip(" ")
+    while at < len(text):
+        it = TOKEN.match(text, at)
+        if not it:
+            raise Wrong(f"this can't be read: {text[at:at + 40]}")
+        found.append(it[0].lstrip(" "))
+        at = it.end()
+    return found
+
+
+def tree_of(tokens):
+    """Returns the expression that the tokens are, as a word or a tuple of expressions."""
+    stack, made = [], None
+    for it in tokens:
+        if made is not None:
+            raise Wrong("there is more after an expression")
+        if it == "(":
+            stack.append([])
+            continue
+        if it == ")":
+            if not stack or not stack[-1]:
+                raise Wrong("a bracket is out of place")
+            it = tuple(stack.pop())
+        if stack:
+            stack[-1].append(it)
+        else:
+            made = it
+    if stack or made is None:
+        raise Wrong("an expression has no end")
+    return made
+
+
+def number(word):
+    if not re.fullmatch(r"[0-9]{1,20}", word):
+        raise Wrong(f"a number is wanted in place of {word}")
+    return int(word)
+
+
+def unquoted(word):
+    return word[1:-1].replace(word[0] * 2, word[0])
+
+
+def box_of(words, text):
+    """Returns the box that a line begins."""
+    if len(words) < 4 or words[-1] not in ("closed", "open"):
+        raise Wrong("this is no line of a box")
+    kind, own, sizes = words[2], words[3:-1], {"base": 1, "select": 2, "group": 1, "setop": 1, "outerjoin": 0}
+    if sizes.get(kind) != len(own) or (kind == "base" and not own[0].startswith('"')) or (kind == "group" and number(own[0]) < 0):
+        raise Wrong("this is no line of a box")
+    return Box(number(words[1]), kind, own, words[-1] == "open", text)
+
+
+def add_line(step, text):
+    """Adds a line of a graph to it."""
+    words = tokens_of(text)
+    first = words[0] if words else ""
+    if not step.boxes and first in ("out", "order"):
+        if len(step.preamble) != ("out", "order").index(first):
+            raise Wrong("out and order stand once each, before the boxes")
+        step.preamble.append(text)
+        if first == "out":
+            step.names = [None if it == "-" else unquoted(it) for it in words[1:]]
+        else:
+            step.order = list(zip(words[1::2], words[2::2]))
+    elif first == "box" and len(step.preamble) == 2:
+        step.boxes.append(box_of(words, text))
+        if step.boxes[-1].number != len(step.boxes):
+            raise Wrong(f"box {len(step.boxes)} is wanted here")
+    elif step.boxes and first in ("quant", "on", "where", "head"):
+        box = step.boxes[-1]
+        box.text.append(text)
+        if first == "quant" and len(words) == 4 and words[2] in QUANTIFIERS:
+            box.quants.append((number(words[1]), words[2], number(words[3])))
+        elif first in ("on", "where"):
+            box.conds.append(tree_of(words[1:]))
+        elif first == "head" and words[1:2] in (["int"], ["text"]):
+            box.head.append((words[1], tree_of(words[2:]) if len(words) > 2 else None))
+        else:
+            raise Wrong("this is no line of a box")
+    else:
+        raise Wrong("this line has no place here")
+
+
+def check(step):
+    """Sees that a graph has boxes, and that what it names is there."""
+    if not step.boxes:
+        raise Wrong("a graph has no box")
+    for it in step.boxes:
+        for quant, _, over in it.quants:
+            if not 1 <= over <= len(step.boxes):
+                raise Wrong(f"quantifier {quant} ranges over box {over}, which isn't there")
+    if step.firing and not 1 <= step.firing[1] <= len(step.boxes):
+        raise Wrong(f"a firing is at box {step.firing[1]}, which isn't there")
+
+
+def read(text):
+    """Returns the steps, the counts of firings and evaluations, and the answer's text."""
+    steps, firings = [], None
+    for line, it, behind in lines_of(text):
+        try:
+            words = it.split(" ")
+            if words[0] == "GRAPH" and len(words) == 2 and number(words[1]) == len(steps) and (not steps or steps[-1].firing):
+                steps.append(Step())
+            elif not steps:
+                raise Wrong("GRAPH 0 is wanted here")
+            elif words[0] == "FIRE" and len(words) == 6 and number(words[1]) == len(steps) and not steps[-1].firing:
+                steps[-1].firing = (words[2], *map(number, words[3:]))
+                check(steps[-1])
+            elif words[0] == "FIRINGS" and len(words) == 2 and number(words[1]) == len(steps) - 1 and not steps[-1].firing:
+                check(steps[-1])
+                firings = number(words[1])
+            elif words[0] == "EVALS" and len(words) == 2 and firings is not None:
+                return steps, firings, number(words[1]), text[behind:]
+            elif firings is None and not steps[-1].firing:
+                add_line(steps[-1], it)
+            else:
+                raise Wrong("this line has no place here")
+        except Wrong as why:
+            raise Wrong(f"line {line}: {why} ({it[:60]!r})") from None
+    raise Wrong("the input ends before EVALS" if steps else "there is no graph")
+
+
+# Words
+
+
+def plain(text):
+    """Returns a text with a sign in place of each control character."""
+    signs = {"\n": "\u21b5", "\t": "\u21e5"}
+    return "".join(signs.get(it, "\ufffd") if it < " " or "\x7f" <= it <= "\x9f" else it for it in text)
+
+
+def columns(text):
+    """Returns how many places of a fixed width a text takes."""
+    return sum(0 if unicodedata.combining(it) else 2 if unicodedata.east_asian_width(it) in "WF" else 1 for it in text)
+
+
+def bracketed(pieces):
+    return [("(", None), *pieces, (")", None)]
+
+
+def chain(tree, operators):
+    """Returns the operands and operators of a chain that nests to the left."""
+    operands, words = [], []
+    while isinstance(tree, tuple) and tree[0] in operators and len(tree) == 3:
+        operands.append(tree[2])
+        words.append(tree[0])
+        tree = tree[1]
+    return [tree, *operands[::-1]], words[::-1]
+
+
+def cell(tree, rank=0):
+    """Returns an expression as it reads, in pieces: a text, and the quantifier that it names."""
+    name = tree[0] if isinstance(tree, tuple) else tree
+    rest = tree[1:] if isinstance(tree, tuple) else ()
+    if name in ARITHMETIC and len(rest) == 2:
+        level = ARITHMETIC[name][1]
+        operands, words = chain(tree, [it for it in ARITHMETIC if ARITHMETIC[it][1] == level])
+        made = cell(operands[0], level)
+        for word, it in zip(words, operands[1:]):
+            made += [(f" {ARITHMETIC[word][0]} ", None), *cell(it, level + 1)]
+        return bracketed(made) if level < rank else made
+    if name == "int" and len(rest) == 1:
+        return [(f"({rest[0]})" if rest[0].startswith("-") and rank else rest[0], None)]
+    if name == "text" and len(rest) == 1:
+        return [(plain(rest[0]), None)]
+    if name == "null":
+        return [("NULL", None)]
+    if name == "col" and len(rest) == 2:
+        return [(f"q{rest[0]}.{rest[1]}", rest[0])]
+    if name == "scalar" and len(rest) == 1:
+        return [("value of ", None), (f"q{rest[0]}", rest[0])]
+    if name == "neg" and len(rest) == 1:
+        return [("-", None), *cell(rest[0], 4)]
+    if name == "case":
+        return case(rest)
+    if name == "count-all":
+        return [("COUNT(*)", None)]
+    if name.split("-")[0] in AGGREGATES and len(rest) == 1:
+        word, _, each = name.partition("-")
+        return [(f"{word.upper()}({'DISTINCT ' if each else ''}", None), *cell(rest[0]), (")", None)]
+    raise Wrong(f"there is no cell {name}")
+
+
+def case(rest):
+    made, at = [("CASE", None)], 0
+    while at + 1 < len(rest) and rest[at] != "else":
+        made += [(" WHEN ", None), *cond(rest[at]), (" THEN ", None), *cell(rest[at + 1])]
+        at += 2
+    if rest[at:at + 1] != ("else",) or len(rest) != at + 2:
+        raise Wrong("a case has no else")
+    return [*made, (" ELSE ", None), *cell(rest[at + 1]), (" END", None)]
+
+
+def cond(tree, rank=0):
+    """Returns a condition as it reads, in pieces."""
+    name = tree[0] if isinstance(tree, tuple) else tree
+    rest = tree[1:] if isinstance(tree, tuple) else ()
+    if name == "true" and not rest:
+        return [("TRUE", None)]
+    if name in COMPARISONS and len(rest) == 2:
+        return [*cell(rest[0], 1), (f" {COMPARISONS[name]} ", None), *cell(rest[1], 1)]
+    if name == "isnull" and len(rest) == 1:
+        return [*cell(rest[0], 1), (" IS NULL", None)]
+    if name in ("and", "or") and len(rest) == 2:
+        level = ("or", "and").index(name) + 1
+        operands, _ = chain(tree, [name])
+        made = cond(operands[0], level)
+        for it in operands[1:]:
+            made += [(f" {name.upper()} ", None), *cond(it, level + 1)]
+        return bracketed(made) if level < rank else made
+    if name == "not" and len(rest) == 1:
+        return [("NOT ", None), *bracketed(cond(rest[0]))]
+    if name in ("some", "every") and len(rest) == 2:
+        return [(f"{name.upper()} ", None), (f"q{rest[0]}", rest[0]), (": ", None), *bracketed(cond(rest[1]))]
+    raise Wrong(f"there is no condition {name}")
+
+
+def wrapped(pieces, width, most):
+    """Returns pieces as lines of at most so many places, and at most so many lines."""
+    lines, used = [[]], 0
+    for text, quant in pieces:
+        while text:
+            # (a break comes before a piece, or within one that is longer than a line)
+            if lines[-1] and used + columns(text.rstrip(" ")) > width:
+                lines.append([("  ", None)])
+                used, text = 2, text.lstrip(" ")
+            part, room = "", width - used
+            for it in text:
+                if columns(part + it) > max(room, 4):
+                    break
+                part += it
+            part = text if not part or columns(text.rstrip(" ")) <= room else part
+            lines[-1].append((part, quant))
+            used, text = used + columns(part), text[len(part):]
+    return lines if len(lines) <= most else [*lines[: most - 1], [("  ..", None)]]
