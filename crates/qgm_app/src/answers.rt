@@ -53,9 +53,14 @@ pub fn answer(alloc: Global, question: Question) -> Result<Answered, OutOfMemory
     requires ready { IsReady question }
     ensures { IfOk result (λ a. held_answer a ≡ answer_to (question_of question)) }
 {
-    let checked = question.valid.checked;
-    let views = question.views;
-    let bag = rows_of(alloc, &checked, &views, question.tables)?;
+    let Question {
+        views,
+        valid,
+        tables,
+        ..
+    } = question;
+    let checked = valid.checked;
+    let bag = rows_of(alloc, &checked, &views, tables)?;
     let verdict = ordered(alloc, &checked, bag)?;
     Ok(Answered {
         names: checked.names,
