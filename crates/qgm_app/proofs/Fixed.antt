@@ -21,11 +21,11 @@ pub catalog-is : catalog_of (Some schema_text) ≡ Ok fixed
 unfolding catalog_of schema_of spans_of schema_tree too_deep key_word width key_words is_utf8 chars lib.Utf8.encode
 catalog-is = refl
 
-same-ok : (a b : Declared) → Ok {E = ℕ} a ≡ Ok b → a ≡ b
+same-ok : (a b : Declared) → ◌≡◌ {A = Result Declared ℕ} (Ok a) (Ok b) → a ≡ b
 same-ok a b e = cc
 
 -- what is made fits the catalog of the fixed schema
 pub fits-of : (catalog : Declared) (tables : List Table) (seed rows : ℕ) → catalog_of (Some schema_text) ≡ Ok catalog → tables ≡ made seed rows → FitsSchema catalog.tables tables
 fits-of catalog tables seed rows is made-is =
     let same = same-ok fixed catalog (sym catalog-is ∙ is) in
-    subst (λ (c : Declared). FitsSchema c.tables tables) same (rw made-is (made-fits seed rows))
+    subst (λ (c : Declared). FitsSchema c.tables tables) same (subst (λ (ts : List Table). FitsSchema fixed.tables ts) (sym made-is) (made-fits seed rows))
