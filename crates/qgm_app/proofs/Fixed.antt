@@ -1,5 +1,5 @@
 -- The fixed schema, and that the tables which are made fit it.
-use Rattle.std.proofs.Common.{ℕ, ◌≡◌, ◌∙◌, refl, sym, subst, ap, List, [], ◌∷◌, Ok, Some, Result}
+use Rattle.std.proofs.Common.{ℕ, ◌≡◌, ◌∙◌, refl, sym, subst, List, [], ◌∷◌, Ok, Some, Result}
 use Rattle.std.specs.Str.{chars, is_utf8}
 use Rattle.csv_tables.specs.Fits.{FitsSchema}
 use Rattle.generated_input.specs.Made.{made}

@@ -1,5 +1,5 @@
 -- What a command that is taken has as its numbers.
-use Rattle.std.proofs.Common.{ℕ, ◌≡◌, ◌<◌, ◌≤◌, ◌^◌, ◌&&◌, Bool, true, false, refl, sym, true≢false, nat_le, arith}
+use Rattle.std.proofs.Common.{ℕ, ◌≡◌, ◌<◌, ◌^◌, ◌&&◌, Bool, true, false, refl, sym, true≢false, nat_le, arith}
 use Rattle.std.proofs.lemmas.Bool.{leb-true}
 use Rattle.command_line.specs.Line.{gen, is_taken}
 

@@ -1,6 +1,6 @@
 -- The tables that are made fit the fixed schema.
-use Rattle.std.proofs.Common.{ℕ, ℤ, lt-ltb, subst, true≢false, Option, None, ◌≡◌, ◌∙◌, ◌+◌, ◌*◌, ◌^◌, ◌<◌, ◌≤◌, ◌==◌, ◌%◌, ◌++◌, nat_lt, Bool, true, false, refl, sym, ap, zero, suc, pos, List, [], ◌∷◌, Some, length, map, inl, inr, arith, codes, decimal}
-use Rattle.std.specs.List.{All, AllZip, list_any}
+use Rattle.std.proofs.Common.{ℕ, ℤ, lt-ltb, subst, true≢false, Option, None, ◌≡◌, ◌∙◌, ◌+◌, ◌^◌, ◌<◌, ◌≤◌, ◌==◌, ◌%◌, ◌++◌, Bool, true, false, refl, sym, ap, zero, suc, pos, List, [], ◌∷◌, Some, length, inl, inr, arith}
+use Rattle.std.specs.List.{All, list_any}
 use Rattle.std.proofs.lemmas.Bool.{cases_Bool, le-ltb}
 use Rattle.std.proofs.lemmas.List.Elements.{All-cons, All-head, All-nil, All-push, All-tail}
 use Rattle.std.proofs.lemmas.List.Folds.{list_any-append}
@@ -15,7 +15,7 @@ use Rattle.sql_catalog.specs.declared.descriptor.KeyDescriptor.{KeyDescriptor}
 use Rattle.generated_input.specs.Made.{building, dept, dept_of, depts, emp, emp_of, made, name_of, rows_at}
 use Rattle.sql_catalog.specs.declared.descriptor.TableDescriptor.{TableDescriptor}
 use Rattle.csv_tables.specs.Contents.{is_longer}
-use Rattle.csv_tables.specs.Fits.{Distinct, FitsColumn, FitsRow, FitsRows, FitsSchema, FitsTable, OfType}
+use Rattle.csv_tables.specs.Fits.{Distinct, FitsColumn, FitsRow, FitsRows, FitsSchema, OfType}
 use Rattle.csv_tables.specs.KeyCells.{cells_at, with_some, contents_in, key_cells, keys_in, same_cells}
 use Rattle.qgm_app.proofs.FixedTables.{dept_table, emp_table}
 

@@ -1,12 +1,11 @@
 -- What `gen` asks: a fixed query over a fixed schema, and the tables that are made from a number.
-use Rattle.std.specs.Prelude.{ℕ, List, ◌++◌, codes, Option, Some, None, Result, Ok, Err}
+use Rattle.std.specs.Prelude.{ℕ, List, codes, Option, Some, None, Result, Ok, Err}
 use Rattle.generated_input.specs.Made.{made}
 use Rattle.sql_ast.specs.Declarations.{Declared}
 use Rattle.sql_ast.specs.Syntax as s
 use Rattle.query_checks.specs.Views.{view_refusal}
 use Rattle.qgm_app.specs.Questions.{Found}
 use Rattle.qgm_app.specs.Texts.{catalog_of, valid_query}
-use Rattle.qgm_app.specs.declared.report.Report.{Report}
 use Rattle.qgm_app.specs.declared.report.Report.TheVariants.{SchemaRefused, ViewRefused, QueryRefused}
 
 -- the schema

@@ -5,11 +5,11 @@ use Rattle.csv_tables.specs.Printed.{printed_rows}
 use Rattle.generated_input.specs.Made.{depts}
 use Rattle.io_edge.specs.Outcome.{Outcome}
 use Rattle.sql_meaning.specs.Meaning.{Answer, answer_error, answer_rows}
-use Rattle.command_line.specs.Line.{LineText, TaskText, explain, gen, run}
+use Rattle.command_line.specs.Line.{TaskText, explain, gen, run}
 use Rattle.qgm_app.specs.Outcome.{End, answering, refusing}
 use Rattle.qgm_app.specs.Questions.{Question, answer_to}
 use Rattle.qgm_app.specs.declared.report.Report.{Report}
-use Rattle.qgm_app.specs.declared.report.Report.TheVariants.{Rows, Error, Usage}
+use Rattle.qgm_app.specs.declared.report.Report.TheVariants.{Rows, Error}
 
 -- `run`: the rows in CSV, or the error
 abbrev pub report_of : Answer → Report
