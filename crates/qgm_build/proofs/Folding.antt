@@ -1,8 +1,8 @@
 -- The aggregates of leaves that stand one behind the other.
-use Rattle.std.proofs.Common.{◌≡◌, ◌<◌, ◌+◌, ℕ, List, [], ◌∷◌, ◌++◌, append_assoc, append-nil, length, drop, get_or, refl, ap, sym, ◌∙◌}
+use Rattle.std.proofs.Common.{◌≡◌, ◌<◌, ◌+◌, ℕ, List, [], ◌∷◌, ◌++◌, append_assoc, append-nil, length, drop, get_or, ap, sym, ◌∙◌}
 use Rattle.sql_meaning.specs.ResolvedTrees.{Query, Value}
 use Rattle.qgm_core.specs.declared.kinds.QuantKind.{QuantKind}
-use Rattle.qgm_shown.specs.Leaves.{Leaf, count, fold, leaves, sub}
+use Rattle.qgm_shown.specs.Leaves.{Leaf, leaves, sub}
 use Rattle.qgm_shown.specs.Maps.{Frame}
 use Rattle.qgm_shown.specs.Folds.{folds_in}
 use Rattle.qgm_shown.proofs.FoldsSame.{folds_append}

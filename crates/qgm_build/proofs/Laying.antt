@@ -1,5 +1,5 @@
 -- What is laid for a checked query is what is laid for its text.
-use Rattle.std.proofs.Common.{◌≡◌, ◌++◌, ℕ, Bool, true, false, cond, List, [], ◌∷◌, map, length, Option, Some, None, refl, ap, ap₂, sym, ◌∙◌, subst, suc}
+use Rattle.std.proofs.Common.{◌≡◌, ◌++◌, ℕ, true, false, cond, List, [], ◌∷◌, map, length, Option, Some, refl, ap, ap₂, sym, ◌∙◌, subst, suc}
 use Rattle.row_bag.specs.declared.tables.Table.{Table}
 use Rattle.sql_ast.specs.Declarations.{columns_of, table_named}
 use Rattle.sql_ast.specs.Names.{same_name}
@@ -8,7 +8,7 @@ use Rattle.sql_ast.specs.declared.schema.ColumnDecl.{ColumnDecl}
 use Rattle.sql_ast.specs.declared.schema.TableDecl.{TableDecl}
 use Rattle.sql_catalog.specs.Shown as declared
 use Rattle.sql_catalog.specs.declared.catalog.Catalog.{Catalog}
-use Rattle.sql_check.specs.Checked.{AreViews, rows_of}
+use Rattle.sql_check.specs.Checked.{rows_of}
 use Rattle.sql_check.specs.declared.checked.Checked.{Checked}
 use Rattle.sql_check.specs.declared.checked.Views.{Views}
 use Rattle.sql_meaning.specs.ResolvedShown as shown

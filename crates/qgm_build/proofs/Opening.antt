@@ -1,5 +1,5 @@
 -- Blocks, operands and joins from their parts in turn.
-use Rattle.std.proofs.Common.{◌≡◌, ℕ, Bool, false, List, [], ◌∷◌, ◌++◌, map, length, suc, Option, pos, get_or, ap, ap₂, refl, sym, ◌∙◌}
+use Rattle.std.proofs.Common.{◌≡◌, ℕ, Bool, false, List, [], ◌++◌, map, length, suc, Option, pos, get_or, ap, ap₂, sym, ◌∙◌}
 use Rattle.sql_meaning.specs.ResolvedTrees.{From, Froms, Query, Test, Values}
 use Rattle.sql_meaning.specs.ResolvedTrees as q
 use Rattle.qgm_core.specs.declared.kinds.QuantKind.TheVariants.{F}
@@ -11,11 +11,11 @@ use Rattle.qgm_shown.specs.Folds.{folds_in}
 use Rattle.qgm_shown.specs.Lay.{Boxes, Drawn, Laid, Step, drawn, in_turn, laying, put, ranging}
 use Rattle.qgm_shown.specs.Lay as l
 use Rattle.qgm_shown.specs.Leaves.{Leaf, list_leaves, test_leaves}
-use Rattle.qgm_shown.specs.Maps.{Frame, Map, nothing, ref_term}
-use Rattle.qgm_shown.specs.Shown.{all_leaves, columns_of, conds_of, fold_terms, frame, frame_all, key_frame, key_places, padded, past, rows_list, slots_of, upper_leaves}
+use Rattle.qgm_shown.specs.Maps.{Frame, nothing, ref_term}
+use Rattle.qgm_shown.specs.Shown.{all_leaves, columns_of, conds_of, frame, frame_all, key_frame, key_places, padded, past, slots_of, upper_leaves}
 use Rattle.qgm_shown.specs.Sources.{Sources}
 use Rattle.qgm_shown.proofs.FoldsSame.{folds_append}
-use Rattle.qgm_build.specs.Laying.{Opens, all_on_step, block_box, block_subs, flat_box, from_step, froms_step, group_box, on_step, operand_laid, outer_of, query_laid, rows_box, rows_subs, told_at, upper_box, upper_laid}
+use Rattle.qgm_build.specs.Laying.{Opens, block_box, block_subs, flat_box, from_step, froms_step, group_box, on_step, outer_of, query_laid, rows_box, rows_subs, told_at, upper_box, upper_laid}
 use Rattle.qgm_build.specs.Making.{Gives, Takes, after_subs, top_at}
 use Rattle.qgm_build.specs.declared.setting.Ground.{Ground}
 use Rattle.qgm_build.proofs.Paired.{arguments_folds, both_folds, fold_terms_folds}

@@ -1,9 +1,7 @@
 -- The boxes over groups and over pairs of boxes, and blocks from their parts.
-use Rattle.std.proofs.Common.{◌≡◌, ℕ, suc, Bool, false, List, [], ◌∷◌, ◌++◌, length, map, get_or, pos, ap, ap₂, refl, sym, ◌∙◌}
+use Rattle.std.proofs.Common.{◌≡◌, ℕ, suc, Bool, false, List, [], ◌∷◌, ◌++◌, length, map, ap, ap₂, refl, sym, ◌∙◌}
 use Rattle.sql_value.specs.declared.order_key.SqlType.{SqlType}
-use Rattle.sql_meaning.specs.ResolvedTrees.{From, Froms, Test, Values}
-use Rattle.sql_meaning.specs.ResolvedTrees as q
-use Rattle.qgm_core.specs.declared.kinds.BoxKind.{BoxKind}
+use Rattle.sql_meaning.specs.ResolvedTrees.{From, Test, Values}
 use Rattle.qgm_core.specs.declared.kinds.BoxKind.TheVariants.{Group, OuterJoin, Select, SetOp}
 use Rattle.qgm_core.specs.declared.kinds.QuantKind.TheVariants.{F}
 use Rattle.qgm_core.specs.declared.kinds.SetOperator.{SetOperator}
@@ -13,15 +11,14 @@ use Rattle.qgm_terms.specs.Terms as t
 use Rattle.qgm_shown.specs.Folds.{folds_in}
 use Rattle.qgm_shown.specs.Lay.{Boxes, Drawn, Laid, Step, drawn, in_turn, laying, pair_of, put, ranging}
 use Rattle.qgm_shown.specs.Lay as l
-use Rattle.qgm_shown.specs.Leaves.{Leaf, Slots, after, count, fold, list_leaves, sub, test_leaves}
-use Rattle.qgm_shown.specs.Maps.{Frame, Map, column, nothing, ref_term}
-use Rattle.qgm_shown.specs.Shown.{aggregate, argument_terms, columns_of, fold_refs, fold_terms, frame_all, key_frame, no_slots, padded, refs, rows_list, slots_of, taken, upper_leaves, upper_slots}
+use Rattle.qgm_shown.specs.Leaves.{Leaf, after, count, fold, list_leaves, sub, test_leaves}
+use Rattle.qgm_shown.specs.Maps.{Frame, Map, column, ref_term}
+use Rattle.qgm_shown.specs.Shown.{aggregate, argument_terms, columns_of, fold_refs, fold_terms, key_frame, no_slots, refs, taken, upper_leaves, upper_slots}
 use Rattle.qgm_shown.specs.Sources.{Sources, from_width}
 use Rattle.qgm_shown.specs.Terms.{cond, split, term, terms}
 use Rattle.qgm_shown.specs.Typing.{typed_by}
 use Rattle.qgm_shown.proofs.FoldsSame.{folds_append, test_same, values_same}
 use Rattle.qgm_build.specs.Making.{Gives, Takes, after_subs, draws, top_at}
-use Rattle.qgm_build.specs.Written.{slots_from}
 use Rattle.qgm_build.proofs.Selected.{gives_at}
 
 -- ---- subqueries among leaves don't count

@@ -7,7 +7,7 @@ use Rattle.qgm_core.specs.declared.owned.OwnedQuant.{OwnedQuant}
 use Rattle.qgm_terms.specs.Terms.{Term}
 use Rattle.qgm_shown.specs.Leaves.{Leaf, test_leaves}
 use Rattle.qgm_shown.specs.Maps.{Frame}
-use Rattle.qgm_shown.specs.Shown.{all_leaves, all_on_leaves, first_id, frame, frame_all, on_leaves, past, past_all, refs}
+use Rattle.qgm_shown.specs.Shown.{all_leaves, all_on_leaves, first_id, frame, frame_all, on_leaves, past, refs}
 use Rattle.qgm_shown.specs.Sources.{Sources, from_width}
 
 module _ (k : Sources) (shared : List ℕ → ℕ) (typed : Term → SqlType) where

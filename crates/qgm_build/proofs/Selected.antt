@@ -1,11 +1,11 @@
 -- The selects over what was laid, from their heads and conditions.
-use Rattle.std.proofs.Common.{◌≡◌, ℕ, Bool, false, List, [], ◌∷◌, ◌++◌, append-nil, map, ap, ap₂, refl, sym, ◌∙◌}
+use Rattle.std.proofs.Common.{◌≡◌, ℕ, Bool, false, List, [], ◌++◌, append-nil, map, ap, ap₂, sym, ◌∙◌}
 use Rattle.sql_meaning.specs.ResolvedTrees.{From, Froms, Test, Values}
 use Rattle.sql_meaning.specs.ResolvedTrees as q
 use Rattle.qgm_core.specs.declared.kinds.BoxKind.TheVariants.{Select}
 use Rattle.qgm_core.specs.declared.owned.OwnedQuant.{OwnedQuant}
 use Rattle.qgm_terms.specs.Terms.{Cond, Term}
-use Rattle.qgm_shown.specs.Folds.{folds_in, on_folds}
+use Rattle.qgm_shown.specs.Folds.{on_folds}
 use Rattle.qgm_shown.specs.Lay.{Boxes, Drawn, Laid, box_named, flat_box, laying, put, select_box}
 use Rattle.qgm_shown.specs.Leaves.{Leaf, Slots, list_leaves}
 use Rattle.qgm_shown.specs.Maps.{Frame, Map, ref_term}
@@ -17,7 +17,7 @@ use Rattle.qgm_shown.proofs.FoldsSame.{on_same}
 use Rattle.qgm_build.specs.Making.{Gives, after_subs}
 use Rattle.qgm_build.specs.Written.{slots_from}
 use Rattle.qgm_build.proofs.Grouped.{ungrouped_folds}
-use Rattle.qgm_build.proofs.Same.{all_leaves_same, frame_all_same, frame_same, on_leaves_same}
+use Rattle.qgm_build.proofs.Same.{all_leaves_same, frame_all_same, frame_same}
 
 pub gives_at : {r q : Laid} {b : ℕ} {t : Boxes} → r ≡ q → Gives r b t → Gives q b t
 gives_at e g = (g.0 ∙ ap (λ (z : Laid). z.top) e, g.1 ∙ ap (λ (z : Laid). z.boxes) e)

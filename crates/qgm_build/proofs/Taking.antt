@@ -1,9 +1,9 @@
 -- Steps one after the other, and what is left of them.
-use Rattle.std.proofs.Common.{◌≡◌, ◌<◌, ◌+◌, ℕ, List, [], ◌∷◌, ◌++◌, append_assoc, append-nil, length, drop, get_or, ap, ap₂, refl, sym, ◌∙◌}
+use Rattle.std.proofs.Common.{◌≡◌, ◌<◌, ◌+◌, ℕ, List, ◌∷◌, ◌++◌, append_assoc, append-nil, length, drop, get_or, ap, ap₂, refl, sym, ◌∙◌}
 use Rattle.qgm_core.specs.declared.kinds.QuantKind.{QuantKind}
 use Rattle.qgm_core.specs.declared.owned.OwnedQuant.{OwnedQuant}
-use Rattle.qgm_shown.specs.Lay.{Boxes, Drawn, Laid, Step, drawn, in_turn, none, over}
-use Rattle.qgm_build.specs.Making.{Gives, Leads, Takes, draws, top_at}
+use Rattle.qgm_shown.specs.Lay.{Boxes, Laid, Step, in_turn, none, over}
+use Rattle.qgm_build.specs.Making.{Gives, Leads, Takes, draws}
 use Rattle.qgm_build.proofs.Steps.{next_there}
 
 pub takes_none : (s : Boxes) (os : List OwnedQuant) → Takes none s os s os

@@ -12,7 +12,7 @@ use Rattle.qgm_shown.specs.Shown.{frame_all, key_frame, rows_list, upper_leaves,
 use Rattle.qgm_shown.specs.Sources.{Sources}
 use Rattle.qgm_shown.specs.Terms.{cond, split, terms}
 use Rattle.qgm_terms.specs.Terms.{Cond, Term}
-use Rattle.qgm_build.specs.Making.{after_subs, top_at}
+use Rattle.qgm_build.specs.Making.{top_at}
 use Rattle.qgm_build.specs.Setting.{told}
 use Rattle.qgm_build.specs.Written.{frame_of, map_of}
 use Rattle.qgm_build.specs.declared.setting.Ground.{Ground}

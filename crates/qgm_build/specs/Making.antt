@@ -1,15 +1,8 @@
 -- What the making of boxes comes to.
-use Rattle.std.specs.Prelude.{◌≡◌, ℕ, List, [], ◌∷◌, ◌++◌}
-use Rattle.sql_meaning.specs.ResolvedTrees.{Query, Values, Test}
-use Rattle.sql_meaning.specs.ResolvedShown as shown
+use Rattle.std.specs.Prelude.{◌≡◌, ℕ, List, ◌++◌}
 use Rattle.qgm_core.specs.declared.kinds.QuantKind.{QuantKind}
 use Rattle.qgm_core.specs.declared.owned.OwnedQuant.{OwnedQuant}
-use Rattle.qgm_shown.specs.Lay.{Boxes, Drawn, Laid, Step, drawn, in_turn, laying}
-use Rattle.qgm_shown.specs.Lay as l
-use Rattle.qgm_shown.specs.Leaves.{Leaf, list_leaves}
-use Rattle.qgm_shown.specs.Maps.{Frame, Map}
-use Rattle.qgm_shown.specs.Sources.{Sources}
-use Rattle.qgm_shown.specs.Terms.{terms}
+use Rattle.qgm_shown.specs.Lay.{Boxes, Drawn, Laid, Step, drawn}
 
 -- after boxes and quantifiers, a step comes to these boxes, and adds its quantifiers
 pub record Takes (step : Step) (s : Boxes) (os : List OwnedQuant) (t : Boxes) (ps : List OwnedQuant) : Type 0 where

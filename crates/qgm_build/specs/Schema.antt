@@ -1,5 +1,5 @@
 -- What a schema says of the names of its tables and views, as the program holds it.
-use Rattle.std.specs.Prelude.{ℕ, List, ◌++◌, length, map}
+use Rattle.std.specs.Prelude.{List, ◌++◌, length, map}
 use Rattle.sql_ast.specs.Declarations.{columns_of}
 use Rattle.sql_ast.specs.declared.schema.TableDecl.{TableDecl}
 use Rattle.sql_catalog.specs.Descriptor.{describe}
