@@ -17,7 +17,7 @@ use Rattle.qgm_laws.proofs.Levels as levels
 use Rattle.qgm_laws.proofs.Lists.{all-from, all-in, any-in, in-left, or-left}
 use Rattle.qgm_laws.proofs.Ranks.{has-in, overs-held, place, place-under}
 use Rattle.qgm_laws.proofs.Read.{named-split}
-use Rattle.qgm_laws.proofs.Rules.{append-one}
+use Rattle.qgm_laws.proofs.AllColumns.{append-one}
 use Rattle.qgm_laws.proofs.Scope.{climb, in-first, parent, touched, unfold-loose}
 use Rattle.qgm_laws.proofs.Settled.{settled-soon}
 use Rattle.qgm_laws.proofs.Times.{times-in}

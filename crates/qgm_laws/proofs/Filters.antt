@@ -1,15 +1,16 @@
 -- A filter that goes through the loops of selects.
-use Rattle.std.proofs.Common.{ℕ, ◌==◌, ◌≡◌, ◌≤◌, cond, Bool, true, false, List, [], ◌∷◌, ◌++◌, map, refl, sym, ap, ap₂, subst, ◌∙◌, inl, inr, arith}
-use Rattle.std.proofs.lemmas.Bool.{eq-eqb}
+use Rattle.std.proofs.Common.{ℕ, ◌==◌, ◌≡◌, ◌≤◌, cond, Bool, true, false, List, [], ◌∷◌, ◌++◌, map, Some, refl, sym, ap, ap₂, subst, ◌∙◌, inl, inr, arith}
+use Rattle.std.proofs.lemmas.Bool.{cases_Bool, eq-eqb}
 use mathlib.Core.Path.{fun_ext}
 use Rattle.row_bag.specs.Bags.{bind, keep, unit}
 use Rattle.row_bag.proofs.Binds.{bind-bind, bind-keep, keep-bind, unit-bind}
 use Rattle.sql_value.specs.declared.cell.Cell.{Cell}
 use Rattle.sql_value.specs.declared.level.Level.{Level}
+use Rattle.qgm_core.specs.Boxes.{is_quant}
 use Rattle.qgm_core.specs.Kinds.{is_F}
-use Rattle.qgm_core.specs.Lists.{In, times}
+use Rattle.qgm_core.specs.Lists.{In, first, times}
 use Rattle.qgm_core.specs.declared.owned.OwnedQuant.{OwnedQuant}
-use Rattle.qgm_meaning.specs.Meaning.{Family, over_each}
+use Rattle.qgm_meaning.specs.Meaning.{Family, over_each, rows_found}
 use Rattle.qgm_meaning.specs.Values.{Bag, Environment, bound, row_of}
 use Rattle.qgm_laws.proofs.Lists.{eq-itself}
 use Rattle.qgm_laws.proofs.Times.{in-times}
@@ -67,3 +68,11 @@ module _ (s' s : Family) (q : ℕ) (test : List Cell → Level) (give' give : En
     | true ↦ ap₂ (λ (rows : Bag) (h : List Cell → Bag). bind rows h) (ap (λ (z : Environment → Bag). z e) (same x.id (h x (inl refl)))) (fun_ext (λ cells. each-filtered us r vs own f (λ z j. h z (inr j)) k (bound x.id cells e)))
     | false ↦ each-filtered us r vs own f (λ z j. h z (inr j)) k e
   ]
+
+-- what is found under quantifier x where the boxes that such quantifiers range over give the same
+pub found-same : (f' f : Family) (x : ℕ) (rs : List OwnedQuant) → ((y : OwnedQuant) → In y rs → (y.id == x) ≡ true → f' y.over ≡ f y.over) → rows_found (first (is_quant x) rs) f' ≡ rows_found (first (is_quant x) rs) f
+found-same f' f x [] h = refl
+found-same f' f x (y ∷ rs) h = elim (cases_Bool (y.id == x)) [
+  | inl t ↦ ap (λ (z : Bool). rows_found (cond z (Some y) (first (is_quant x) rs)) f') t ∙ h y (inl refl) t ∙ sym (ap (λ (z : Bool). rows_found (cond z (Some y) (first (is_quant x) rs)) f) t)
+  | inr t ↦ ap (λ (z : Bool). rows_found (cond z (Some y) (first (is_quant x) rs)) f') t ∙ found-same f' f x rs (λ z j. h z (inr j)) ∙ sym (ap (λ (z : Bool). rows_found (cond z (Some y) (first (is_quant x) rs)) f) t)
+]

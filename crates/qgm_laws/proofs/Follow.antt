@@ -17,6 +17,7 @@ use Rattle.qgm_check.specs.Columns.{box_under, over_box}
 use Rattle.qgm_check.specs.Types.{all_agree, arm_agrees, arms_agree, cond_fits, is_known, is_typed, joined_column, known, lookup_of, term_type, type_found, type_in, types_agree, types_by, types_found, types_of}
 use Rattle.qgm_check.specs.declared.types.Typed.{Typed}
 use Rattle.qgm_laws.specs.Graph.{Sound}
+pub use Rattle.qgm_laws.specs.Reforms.{types_at}
 use Rattle.qgm_laws.proofs.AllSettled.{all-settled}
 use Rattle.qgm_laws.proofs.Compact.{in-holds}
 use Rattle.qgm_laws.proofs.Levels as levels
@@ -24,10 +25,6 @@ use Rattle.qgm_laws.proofs.Levels.{first-typed, number-of, some-in}
 use Rattle.qgm_laws.proofs.Lists.{all-from, all-in, in-left, in-right}
 use Rattle.qgm_laws.proofs.Scope.{in-first}
 use Rattle.qgm_laws.proofs.Settled.{cond-local, kinds-local, stays, term-local}
-
--- the types that are known of box b
-abbrev pub types_at : List Node → ℕ → List (Option SqlType)
-types_at bs b = types_found (first (is_typed b) (types_of bs))
 
 pub in-flat : {X : Type 0} (f : X → List ℕ) (x : X) (xs : List X) (q : ℕ) → In x xs → In q (f x) → In q (flat_map f xs)
 in-flat f x [] q i j = elim i [ ]

@@ -110,7 +110,7 @@ module _ (bs : List Node) (o : Ordered bs) (once : (q : ℕ) → times q (ids_in
 
   -- nodes of the box's own quantifiers
   module _ (n : Node) (i : In n bs) where
-    same-quant : (r s : OwnedQuant) → In r n.quants → In s n.quants → r.id ≡ s.id → r ≡ s
+    pub same-quant : (r s : OwnedQuant) → In r n.quants → In s n.quants → r.id ≡ s.id → r ≡ s
     same-quant r s j k e =
         let few = few-ids bs n r.id (once r.id) i in
         let a = first-own r n.quants few j in
@@ -346,7 +346,7 @@ below-low ns [] n low o e r j = let z = subst (λ z. Ordered z) e o in all-in (�
 below-low [] (x ∷ up) n low o e r j = absurd (let z : ⊥ = cc in z)
 below-low (y ∷ ns) (x ∷ up) n low o e r j = below-low ns up n low o.2 (let z : ns ≡ up ++ n ∷ low = cc in z) r j
 
-module _ (g : QueryGraph) (w : Sound g.boxes g.root) (t : Typed g.boxes) (s : Shaped g.boxes g.root) where
+module _ (g : QueryGraph) (w : Sound g.boxes g.root) where
   abbrev hs : List Node
   hs = g.boxes
 
@@ -366,7 +366,7 @@ module _ (g : QueryGraph) (w : Sound g.boxes g.root) (t : Typed g.boxes) (s : Sh
   named-owned : (n : Node) → In n hs → (q : ℕ) → holds q (named_by n) ≡ true → HasQuant q g
   named-owned n i q h = elim (named-view n i q h) [ inl y ↦ any-from (owns q) n hs i y | inr y ↦ read-owned hs g.root w n q i y.0 ]
 
-  free-read : (b q : ℕ) → IsFree hs b q → read_free hs b q ≡ true
+  pub free-read : (b q : ℕ) → IsFree hs b q → read_free hs b q ≡ true
   free-read b q x =
       let M = reached (b ∷ []) hs in
       let n = x.0.0 in let i = x.0.1.0 in
@@ -379,18 +379,19 @@ module _ (g : QueryGraph) (w : Sound g.boxes g.root) (t : Typed g.boxes) (s : Sh
         | inl z ↦ (let p = and_parts (holds m.id M) (owns q m) z in absurd (clash (owns q m) p.1 (x.1 m j ((reached-reaches hs w.ordered b m.id).0 p.0))))
       ]) in ap not f)
 
-  kept : (k : Clause) (n : Node) → In n hs → IsKept k g n
-  kept I1 n i = (λ r j. overs-held hs n r w.ordered i j, λ q h. named-owned n i q h)
+module _ (g : QueryGraph) (w : Sound g.boxes g.root) (t : Typed g.boxes) (s : Shaped g.boxes g.root) where
+  kept : (k : Clause) (n : Node) → In n g.boxes → IsKept k g n
+  kept I1 n i = (λ r j. overs-held g.boxes n r w.ordered i j, λ q h. named-owned g w n i q h)
   kept I2 n i = λ r j. (
-      let a = owned-in r.id hs n i (any-from (is_quant r.id) r n.quants j (eq-itself r.id)) in let b = w.once r.id in omega arith)
-  kept I3 n i = λ up low e r j. below-low hs up n low w.ordered e r j
+      let a = owned-in r.id g.boxes n i (any-from (is_quant r.id) r n.quants j (eq-itself r.id)) in let b = w.once r.id in omega arith)
+  kept I3 n i = λ up low e r j. below-low g.boxes up n low w.ordered e r j
   kept I4 n i = s.columns n i
   kept I5 n i = t n i
   kept I6 n i = (
-    λ q h. elim (named-view n i q h) [ inl y ↦ inl y | inr y ↦ inr ((viewers-see hs w.ordered n.id q).0 (ap (holds n.id) (viewers-is q [] hs) ∙ y.1)) ],
-    λ e q x. clash (read_free hs g.root q) (free-read g.root q x) (c.root_free q),
+    λ q h. elim (named-view g w n i q h) [ inl y ↦ inl y | inr y ↦ inr ((viewers-see g.boxes w.ordered n.id q).0 (ap (holds n.id) (viewers-is q [] g.boxes) ∙ y.1)) ],
+    λ e q x. clash (read_free g.boxes g.root q) (free-read g w g.root q x) ((c g w).root_free q),
   )
-  kept I7 n i = (λ e. w.top, λ f q x. w.used n.id q (free-loose hs w.ordered g.root w n.id q (free-read n.id q x)))
+  kept I7 n i = (λ e. w.top, λ f q x. w.used n.id q (free-loose g.boxes w.ordered g.root w n.id q (free-read g w n.id q x)))
   kept I8 n i = s.unseen n i
   kept I9 n i = s.shapes n i
 

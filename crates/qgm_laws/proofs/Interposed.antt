@@ -169,22 +169,22 @@ module _ (xs ys : List Node) (root : ℕ) (w : Sound (xs ++ ys) root) (s o c : N
   o-hs = more-in xs s ys o o-bs
 
   -- a box that was there isn't s
-  apart : (n : Node) → In n bs → (n.id == s.id) ≡ false
+  pub apart : (n : Node) → In n bs → (n.id == s.id) ≡ false
   apart n i = elim (cases_Bool (n.id == s.id)) [ inr f ↦ f | inl t ↦ absurd (clash (has_box bs s.id) (subst (λ z. has_box bs z ≡ true) (eqb-true n.id s.id t) (in-has n bs i)) m.adds.fresh) ]
 
   pub over-apart : (n : Node) (p : OwnedQuant) → In n bs → In p n.quants → (p.over == s.id) ≡ false
   over-apart n p i j = let x = has-in p.over bs (overs-held bs n p w.ordered i j) in subst (λ z. (z == s.id) ≡ false) x.1.1 (apart x.0 x.1.0)
 
-  as-was : (b q : ℕ) → (b == s.id) ≡ false → look b q ≡ loose bs b q
+  pub as-was : (b q : ℕ) → (b == s.id) ≡ false → look b q ≡ loose bs b q
   as-was b q n = ap (λ t. cond t (loose bs c.id q) (loose bs b q)) n
 
-  as-c : (q : ℕ) → look s.id q ≡ loose bs c.id q
+  pub as-c : (q : ℕ) → look s.id q ≡ loose bs c.id q
   as-c q = ap (λ t. cond t (loose bs c.id q) (loose bs s.id q)) (eq-itself s.id)
 
-  id : (y : Node) → (g y).id ≡ y.id
+  pub id : (y : Node) → (g y).id ≡ y.id
   id = g-id hs l.ordered o o-hs f (λ y. refl)
 
-  cases : (y : Node) → In y hs → ((y ≡ o) × (g y ≡ f o)) ⊎ (((y.id == o.id) ≡ false) × (g y ≡ y))
+  pub cases : (y : Node) → In y hs → ((y ≡ o) × (g y ≡ f o)) ⊎ (((y.id == o.id) ≡ false) × (g y ≡ y))
   cases = g-cases hs l.ordered o o-hs f (λ y. refl)
 
   owner : owns r.id o ≡ true
@@ -199,7 +199,7 @@ module _ (xs ys : List Node) (root : ℕ) (w : Sound (xs ++ ys) root) (s o c : N
       let x : p ≡ r = cc in ap (λ (z : OwnedQuant). z.over) x ∙ m.over_c
 
   -- the quantifiers of a box after
-  quants-after : (y : Node) (p : OwnedQuant) → In y hs → In p (g y).quants → In p y.quants ⊎ ((y ≡ o) × ((p.over ≡ s.id) × (p.id ≡ r.id)))
+  pub quants-after : (y : Node) (p : OwnedQuant) → In y hs → In p (g y).quants → In p y.quants ⊎ ((y ≡ o) × ((p.over ≡ s.id) × (p.id ≡ r.id)))
   quants-after y p i j = elim (cases y i) [
     | inl e ↦ elim (turned-in r.id s.id o.quants p (subst (λ (z : Node). In p z.quants) e.1 j)) [
       | inl a ↦ inl (subst (λ (z : Node). In p z.quants) (sym e.0) a)
@@ -214,10 +214,10 @@ module _ (xs ys : List Node) (root : ℕ) (w : Sound (xs ++ ys) root) (s o c : N
   wide : (y : Node) → width (g y) ≡ width y
   wide y = elim (y.id == o.id) as (λ t. width (cond t (f y) y) ≡ width y) [ true ↦ refl | false ↦ refl ]
 
-  parts : (y : Node) → (g y).parts ≡ y.parts
+  pub parts : (y : Node) → (g y).parts ≡ y.parts
   parts y = elim (y.id == o.id) as (λ t. (cond t (f y) y).parts ≡ y.parts) [ true ↦ refl | false ↦ refl ]
 
-  s-hs : In s hs
+  pub s-hs : In s hs
   s-hs = more-own xs s ys
 
   times-after : (b : ℕ) → times b (overs_in (map g hs)) + times b (c.id ∷ []) ≡ (times b (overs_in bs) + times b (overs_of s)) + times b (s.id ∷ [])
@@ -368,12 +368,16 @@ module _ (xs ys : List Node) (root : ℕ) (w : Sound (xs ++ ys) root) (s o c : N
           cases_0 zero = inl refl
           cases_0 (suc k) = inr (omega arith)
 
+  -- each box is scoped by what was looked up, in s what was in c
+  pub scoped-all : (y : Node) → In y hs → Scoped look (g y)
+  scoped-all y i = elim (cases y i) [
+    | inl e ↦ subst (λ z. Scoped look z) (sym e.1) scoped-o
+    | inr e ↦ subst (λ z. Scoped look z) (sym e.1) (elim (in-more xs s ys y i) [ inl x ↦ subst (λ z. Scoped look z) x m.scoped | inr j ↦ scoped-old y j ])
+  ]
+
   pub interposed-sound : Sound (interposed xs ys s o.id r.id) root
   interposed-sound = changed-sound hs root g l.ordered l.rooted changes look
-      (λ y i. elim (cases y i) [
-        | inl e ↦ subst (λ z. Scoped look z) (sym e.1) scoped-o
-        | inr e ↦ subst (λ z. Scoped look z) (sym e.1) (elim (in-more xs s ys y i) [ inl x ↦ subst (λ z. Scoped look z) x m.scoped | inr j ↦ scoped-old y j ])
-      ])
+      scoped-all
       (λ y i q t. (
       let h : owns q y ≡ true = sym (any-after (is_quant q) (λ x. refl) y) ∙ t in
       elim (in-more xs s ys y i) [
@@ -468,3 +472,7 @@ module _ (xs ys : List Node) (root : ℕ) (w : Sound (xs ++ ys) root) (s o c : N
 
     pub others-after : (q : ℕ) → (q == r.id) ≡ false → quant_rows (on_quant r.id (over_now s.id) o) fam q ≡ quant_rows o (bag_in tables (xs ++ ys)) q
     others-after q n = others-found q n o.quants (λ x j. j)
+
+-- a box is of its kind where a quantifier moves onto another box
+pub onto-kind : (o q s : ℕ) (n : Node) → (onto o q s n).parts.kind ≡ n.parts.kind
+onto-kind o q s n = elim (n.id == o) as (λ t. (cond t (on_quant q (over_now s) n) n).parts.kind ≡ n.parts.kind) [ true ↦ refl | false ↦ refl ]

@@ -40,7 +40,7 @@ module _ (bs : List Node) (root : ℕ) (w : Sound bs root) (nc : Node) (i : In n
 
 -- by the edit's equation
 module _ (bs : List Node) (root : ℕ) (w : Sound bs root) (nc : Node) (i : In nc bs) (d : ℕ) where
-  moved-is : moved_below nc.id d bs ≡ moved nc d bs
+  pub moved-is : moved_below nc.id d bs ≡ moved nc d bs
   moved-is = ap (λ o. put_found d o (without (is_box nc.id) bs)) (in-first nc bs w.ordered i)
 
   pub order-sound : Below bs d nc.id → ((n : Node) (r : OwnedQuant) → In n bs → In r n.quants → r.over ≡ nc.id → place bs n.id ≤ place bs d) → Sound (moved_below nc.id d bs) root

@@ -69,7 +69,7 @@ module _ (bs : List Node) (root : ℕ) (w : Sound bs root) (b c : Node) (ps : Li
         (conds-more (λ r k. false) (λ r k. false) (λ r. r == x) (λ r. true) (λ r. r == x) (λ r. true) (λ r. true) (λ r. true) (λ r k h. h) (λ r h. refl) (λ r h. refl) (λ r h. h) (p ∷ []) (or-left (names_cond x p) false t)) (ap (λ t. t || false) m.node_free))
   ]
 
-  read-new : (x : ℕ) → reads_cond x p' ≡ true → list_any (reads x) c.parts.head ≡ true
+  pub read-new : (x : ℕ) → reads_cond x p' ≡ true → list_any (reads x) c.parts.head ≡ true
   read-new x t = elim (cond-put q c.parts.head (λ r k. r == x) (λ r. false) (λ r. false) (λ r. prelude.not (r == x)) ((x == q) ≡ false) (λ r k n h. subst (λ z. (z == q) ≡ false) (eqb-true r x h) n) (λ r n h. absurd (let z : ⊥ = cc in z)) (λ r n h. absurd (let z : ⊥ = cc in z)) p (no-node q) t) [
     | inl a ↦ absurd (clash (x == q) (eq-eqb x q (m.own x a.0)) a.1)
     | inr a ↦ cell-any (reads x) c.parts.head a.0 refl a.1.1
@@ -121,7 +121,7 @@ module _ (bs : List Node) (root : ℕ) (w : Sound bs root) (b c : Node) (ps : Li
     | false ↦ elim (y.id == c.id) as (λ t. f (cond t (conditioned (y.parts.conds.items ++ p' ∷ []) y) y) ≡ f y) [ true ↦ same (y.parts.conds.items ++ p' ∷ []) y | false ↦ refl ]
   ]
 
-  reparts : Reparts bs g
+  pub reparts : Reparts bs g
   reparts = record {
     id = by-all (λ n. n.id) (λ items y. refl);
     kind = λ y i. by-all (λ n. n.parts.kind) (λ items y. refl) y;

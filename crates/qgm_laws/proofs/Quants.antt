@@ -222,7 +222,7 @@ module _ (bs : List Node) (root : ℕ) (w : Sound bs root) (o : Node) (i : ℕ) 
   shown-more (SetOp form v) q done before x h u = u
   shown-more OuterJoin q done before x h u = u
 
-  put-scoped : Scoped (loose bs) (fp o)
+  pub put-scoped : Scoped (loose bs) (fp o)
   put-scoped = record {
     under = λ done x rest e q t. elim (insert-split i r o.quants done x rest e) [
       | inl y ↦ absurd (clash (loose bs r.over q) (subst (λ (z : OwnedQuant). loose bs z.over q ≡ true) (sym y) t) (m.closed q))
@@ -297,7 +297,7 @@ module _ (bs : List Node) (root : ℕ) (w : Sound bs root) (o : Node) (q : ℕ) 
   shown-less (SetOp form v) p done before x n h u = u
   shown-less OuterJoin p done before x n h u = u
 
-  less-scoped : Scoped (loose bs) (fl o)
+  pub less-scoped : Scoped (loose bs) (fl o)
   less-scoped = record {
     under = λ done x rest e p t. (
         let y = less-split q o.quants done x rest e in let n = apart-from p x.over t in
@@ -362,7 +362,7 @@ module _ (bs : List Node) (root : ℕ) (w : Sound bs root) (o : Node) (q : ℕ) 
 -- ---- kinds and order of quantifiers
 
 module _ (bs : List Node) (root : ℕ) (w : Sound bs root) (o : Node) (f : Node → Node) (m : TurnsQuants bs o f) where
-  owned-same : (q : ℕ) → owns q (f o) ≡ owns q o
+  pub owned-same : (q : ℕ) → owns q (f o) ≡ owns q o
   owned-same q = owns-ids q (f o).quants ∙ ap (holds q) m.ids ∙ sym (owns-ids q o.quants)
 
   bare-turned : (k : BoxKind) → BareBy k o → BareBy k (f o)
@@ -434,7 +434,7 @@ module _ (bs : List Node) (root : ℕ) (w : Sound bs root) (o : Node) (r : Owned
   shown-now (SetOp form v) q done x before p e k h = h
   shown-now OuterJoin q done x before p e k h = h
 
-  scoped-now : Scoped (loose bs) (fr o)
+  pub scoped-now : Scoped (loose bs) (fr o)
   scoped-now = record {
     under = λ done x rest e q t. (
         let z = turned-split r.id c.id o.quants done x rest e in

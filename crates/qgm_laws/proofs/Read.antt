@@ -120,7 +120,7 @@ module _ (q : ℕ) where
     arms-nodes no_arm = refl
     arms-nodes (arm c x s) = any-both (is_of q) (nodes_in_cond c) (named.nodes_in x ++ listed_arms named.nodes s) ∙ ap₂ (λ a b. a || b) (cond-nodes c) (any-both (is_of q) (named.nodes_in x) (listed_arms named.nodes s) ∙ ap₂ (λ a b. a || b) (term-nodes x) (arms-nodes s))
 
-    cond-nodes : (c : Cond) → list_any (is_of q) (nodes_in_cond c) ≡ names_cond q c
+    pub cond-nodes : (c : Cond) → list_any (is_of q) (nodes_in_cond c) ≡ names_cond q c
     cond-nodes always = refl
     cond-nodes (compare sign x y) = any-both (is_of q) (named.nodes_in x) (named.nodes_in y) ∙ ap₂ (λ a b. a || b) (term-nodes x) (term-nodes y)
     cond-nodes (is_null x) = term-nodes x

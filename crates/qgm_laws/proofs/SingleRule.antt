@@ -22,7 +22,7 @@ use Rattle.qgm_laws.specs.Graph.{ArmsBy, Sound, reads_in}
 use Rattle.qgm_laws.specs.Keeps.{Keeps}
 use Rattle.qgm_laws.specs.Single.{MaySingle, single_box, single_head, singled}
 use Rattle.qgm_laws.proofs.Adds.{reads-at-read}
-use Rattle.qgm_laws.proofs.Interposed.{fam, fam-was, interposed-bag, interposed-sound, others-after, over_now, rowless, rowless-unread, turned-after, turned-before, turned-each}
+use Rattle.qgm_laws.proofs.Interposed.{fam, fam-was, interposed-bag, interposed-sound, others-after, onto-kind, over_now, rowless, rowless-unread, turned-after, turned-before, turned-each}
 use Rattle.qgm_laws.proofs.Lists.{any-from, clash, eq-itself, in-left, in-right, or-left, or-false}
 use Rattle.qgm_laws.proofs.PlacedLists.{in-more}
 use Rattle.qgm_laws.proofs.Ranks.{in-has, same-box}
@@ -45,9 +45,6 @@ module _ (xs ys : List Node) (g : QueryGraph) (w : Sound (xs ++ ys) g.root) (b p
 
   apart : (n : Node) → In n bs → (n.id == b) ≡ false
   apart n i = elim (cases_Bool (n.id == b)) [ inr f ↦ f | inl t ↦ absurd (clash (has_box bs b) (subst (λ z. has_box bs z ≡ true) (eqb-true n.id b t) (in-has n bs i)) m.new_box) ]
-
-  not-F : is_F r.kind ≡ false
-  not-F = ap is_F m.is_s
 
   owner : owns r.id o ≡ true
   owner = any-from (is_quant r.id) r o.quants m.owned (eq-itself r.id)
@@ -94,7 +91,7 @@ module _ (xs ys : List Node) (g : QueryGraph) (w : Sound (xs ++ ys) g.root) (b p
     };
     fits = λ n i k t. absurd (elim (in-more xs s ys n i) [
       | inl y ↦ clash (p == r.id) (read-s r.id (reads-at-read r.id k s (subst (λ (z : Node). reads_in r.id k z ≡ true) (sym y) t))) p-not-r
-      | inr y ↦ rowless-unread bs g.root w o r o-bs m.owned not-F m.a_select n y (reads-at-read r.id k n t)
+      | inr y ↦ rowless-unread bs g.root w o r o-bs m.owned (ap is_F m.is_s) m.a_select n y (reads-at-read r.id k n t)
     ]);
     arms = subst (λ k. ArmsBy k (width s) (width o)) (sym m.a_select) tt;
   }
@@ -133,7 +130,7 @@ module _ (xs ys : List Node) (g : QueryGraph) (w : Sound (xs ++ ys) g.root) (b p
         ∙ ap (once_if (is_enforce o.parts.distinct)) (turned-each r.id b o.quants t (given_by t (on_quant r.id (over_now b) o)) e
         ∙ each-scalar t (quant_rows o f) r.id (on_quant r.id (over_now b) o) o refl (λ q n. others-after xs ys g.root w s o c r interposes tables give q n)
         (λ e. ap subquery.scalar (turned-after xs ys g.root w s o c r interposes tables give e) ∙ single-scalar p e (f c.id e) (m.safe tables filled e) ∙ ap subquery.scalar (sym (turned-before xs ys g.root w s o c r interposes tables give e)))
-        m.scalars m.scalars_conds o.quants (λ x j h. elim (cases_Bool (x.id == r.id)) [ inr n ↦ n | inl y ↦ absurd (rowless bs g.root w o r o-bs m.owned not-F o o-bs (any-from (λ (q : OwnedQuant). is_F q.kind && is_quant r.id q) x o.quants j (ap₂ (λ (a : Bool) (b : Bool). a && b) h y))) ]) e)
+        m.scalars m.scalars_conds o.quants (λ x j h. elim (cases_Bool (x.id == r.id)) [ inr n ↦ n | inl y ↦ absurd (rowless bs g.root w o r o-bs m.owned (ap is_F m.is_s) o o-bs (any-from (λ (q : OwnedQuant). is_F q.kind && is_quant r.id q) x o.quants j (ap₂ (λ (a : Bool) (b : Bool). a && b) h y))) ]) e)
         ∙ sym (ap (λ k. rows_by k tables o (quant_rows o f) e) m.a_select)
 
     pub root-same : (e : Environment) → bag_in tables (interposed xs ys s o.id r.id) g.root e ≡ f g.root e
@@ -144,10 +141,7 @@ single-keeps xs ys g e w b p o c r m =
     let v : Sound (xs ++ ys) g.root = subst (λ z. Sound z g.root) e w in record {
       well = interposed-sound xs ys g.root v (single_box b p c.id) o c r (interposes xs ys g v b p o c r m);
       bag = λ tables filled. same-agree (root-same xs ys g v b p o c r m tables (subst (Filled tables) e filled) [] ∙ ap (λ z. bag_in tables z g.root []) (sym e));
-      bases = λ tables filled. filled-map tables (onto o.id r.id b) (λ n. kind-stays o.id r.id b n) (xs ++ single_box b p c.id ∷ ys) (filled-more tables xs (single_box b p c.id) ys tt (subst (Filled tables) e filled));
+      bases = λ tables filled. filled-map tables (onto o.id r.id b) (λ n. onto-kind o.id r.id b n) (xs ++ single_box b p c.id ∷ ys) (filled-more tables xs (single_box b p c.id) ys tt (subst (Filled tables) e filled));
       names = refl;
       order = refl;
     }
-  where
-    kind-stays : (o q s : ℕ) (n : Node) → (onto o q s n).parts.kind ≡ n.parts.kind
-    kind-stays o q s n = elim (n.id == o) as (λ t. (cond t (on_quant q (over_now s) n) n).parts.kind ≡ n.parts.kind) [ true ↦ refl | false ↦ refl ]

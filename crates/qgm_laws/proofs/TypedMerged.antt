@@ -111,7 +111,7 @@ module _ (at now : Lookup) (q : ℕ) (cells : List Term) where
         ap (λ b. cond_fits now (cond b c (substituted_cond q cells c))) n.0 ∙ cond-mixed c n.1 (λ k i. f k (ap (λ b. not b && reads_at_cond q k c) n.0 ∙ i))
 
 -- heads with cells put in have the types of the heads before
-types-put : (at now : Lookup) (q : ℕ) (cells : List Term) (k : BoxKind) (head : List Term) → ((x : Term) → In x head → term_type now (substituted q cells x) ≡ term_type at x) → types_by now k (map (substituted q cells) head) ≡ types_by at k head
+pub types-put : (at now : Lookup) (q : ℕ) (cells : List Term) (k : BoxKind) (head : List Term) → ((x : Term) → In x head → term_type now (substituted q cells x) ≡ term_type at x) → types_by now k (map (substituted q cells) head) ≡ types_by at k head
 types-put at now q cells k head h = by k
   where
     heads : (xs : List Term) → ((x : Term) → In x xs → In x head) → map (term_type now) (map (substituted q cells) xs) ≡ map (term_type at) xs
@@ -125,7 +125,7 @@ types-put at now q cells k head h = by k
     by (SetOp operator types) = refl
     by OuterJoin = heads head (λ x i. i)
 
-all-put : {X : Type 0} (p r : X → Bool) (f : X → X) (xs : List X) → ((x : X) → In x xs → p (f x) ≡ r x) → list_all p (map f xs) ≡ list_all r xs
+pub all-put : {X : Type 0} (p r : X → Bool) (f : X → X) (xs : List X) → ((x : X) → In x xs → p (f x) ≡ r x) → list_all p (map f xs) ≡ list_all r xs
 all-put p r f [] h = refl
 all-put p r f (x ∷ xs) h = ap₂ ◌&&◌ (h x (inl refl)) (all-put p r f xs (λ y i. h y (inr i)))
 

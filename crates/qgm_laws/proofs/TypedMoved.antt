@@ -29,7 +29,8 @@ use Rattle.qgm_laws.proofs.Levels as levels
 use Rattle.qgm_laws.proofs.Lists.{in-map, map-in}
 use Rattle.qgm_laws.proofs.Moved.{in-m, moved-sound}
 use Rattle.qgm_laws.proofs.Ranks.{has-in, overs-held, place-under}
-use Rattle.qgm_laws.proofs.Rules.{append-one, copies, length-one}
+use Rattle.qgm_laws.proofs.AllColumns.{append-one, length-one}
+use Rattle.qgm_laws.proofs.Rules.{copies}
 use Rattle.qgm_laws.proofs.Scope.{in-first}
 use Rattle.qgm_laws.proofs.TypedKept.{Found, found, found-under, typed-compact}
 

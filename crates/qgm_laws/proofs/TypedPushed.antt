@@ -140,15 +140,15 @@ module _ (at : Lookup) (q : ℕ) (cells : List Term) where
   cell-type (x ∷ xs) zero h = refl
   cell-type (x ∷ xs) (suc i) h = cell-type xs i (omega arith)
 
-all-without : (p : Cond → Bool) (xs : List Cond) (x : Cond) (ys : List Cond) → list_all p (xs ++ x ∷ ys) ≡ true → list_all p (xs ++ ys) ≡ true
+pub all-without : (p : Cond → Bool) (xs : List Cond) (x : Cond) (ys : List Cond) → list_all p (xs ++ x ∷ ys) ≡ true → list_all p (xs ++ ys) ≡ true
 all-without p [] x ys h = (and_parts (p x) (list_all p ys) h).1
 all-without p (z ∷ xs) x ys h = let a = and_parts (p z) (list_all p (xs ++ x ∷ ys)) h in and_from (p z) (list_all p (xs ++ ys)) a.0 (all-without p xs x ys a.1)
 
-all-one : (p : Cond → Bool) (xs : List Cond) (x : Cond) → list_all p xs ≡ true → p x ≡ true → list_all p (xs ++ x ∷ []) ≡ true
+pub all-one : (p : Cond → Bool) (xs : List Cond) (x : Cond) → list_all p xs ≡ true → p x ≡ true → list_all p (xs ++ x ∷ []) ≡ true
 all-one p [] x h k = and_from (p x) true k refl
 all-one p (z ∷ xs) x h k = let a = and_parts (p z) (list_all p xs) h in and_from (p z) (list_all p (xs ++ x ∷ [])) a.0 (all-one p xs x a.1 k)
 
-all-mid : (p : Cond → Bool) (xs : List Cond) (x : Cond) (ys : List Cond) → list_all p (xs ++ x ∷ ys) ≡ true → p x ≡ true
+pub all-mid : (p : Cond → Bool) (xs : List Cond) (x : Cond) (ys : List Cond) → list_all p (xs ++ x ∷ ys) ≡ true → p x ≡ true
 all-mid p [] x ys h = (and_parts (p x) (list_all p ys) h).0
 all-mid p (z ∷ xs) x ys h = all-mid p xs x ys (and_parts (p z) (list_all p (xs ++ x ∷ ys)) h).1
 
@@ -201,7 +201,7 @@ module _ (bs : List Node) (root : ℕ) (w : Sound bs root) (b c : Node) (ps : Li
   before : list_all (cond_fits at) (ps ++ p ∷ qs) ≡ true
   before = ap (list_all (cond_fits at)) (sym m.conds) ∙ fits b m.in_b
 
-  conds-after : (y : Node) → In y bs → list_all (cond_fits at) (g y).parts.conds.items ≡ true
+  pub conds-after : (y : Node) → In y bs → list_all (cond_fits at) (g y).parts.conds.items ≡ true
   conds-after y i = elim (g-cases bs root w b c ps p qs us r vs m y i) [
     | inl e ↦ ap (λ (z : Node). list_all (cond_fits at) z.parts.conds.items) e.1 ∙ all-without (cond_fits at) ps p qs before
     | inr z ↦ elim z [

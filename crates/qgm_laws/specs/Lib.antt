@@ -13,6 +13,7 @@ pub mod Changes
 pub mod Adds
 pub mod SoundEdits
 pub mod Shaped
+pub mod Reforms
 pub mod MergeTyped
 pub mod MergeShaped
 pub mod Single
@@ -20,3 +21,5 @@ pub mod Facts
 pub mod Push
 pub mod Asked
 pub mod MergePermit
+pub mod FormedEdits
+pub mod FormedAdds

@@ -2,11 +2,14 @@
 ghost use Rattle.qgm_laws.specs.Asked.{Pushed, Singled};
 ghost use Rattle.qgm_laws.specs.EditLaws.{EditsPlaced, NewPlaced};
 ghost use Rattle.qgm_laws.specs.Examples.{Dropped, Same};
+ghost use Rattle.qgm_laws.specs.FormedAdds.{InterposedWellFormed};
+ghost use Rattle.qgm_laws.specs.FormedEdits.{EditsWellFormed, PushWellFormed};
 ghost use Rattle.qgm_laws.specs.MergeDistinct.{MergeDistinctKeeps};
 ghost use Rattle.qgm_laws.specs.MergePermit.{ClosedMerges, MergeAny, MergePermitKeeps, PermitRead};
 ghost use Rattle.qgm_laws.specs.MergeShaped.{MergeDistinctShaped, MergeDistinctWellFormed, MergeShaped, MergeWellFormed};
 ghost use Rattle.qgm_laws.specs.MergeTyped.{MergeDistinctTyped, MergeTyped};
 ghost use Rattle.qgm_laws.specs.Push.{PushKeeps};
+ghost use Rattle.qgm_laws.specs.Reforms.{BoxesFormed, Reformed};
 ghost use Rattle.qgm_laws.specs.Shaped.{CompactShaped, CompactTyped, CompactWellFormed, DropShaped, DropTyped, DropWellFormed, PlacedIsChecked, PushTyped, SoundIsChecked};
 ghost use Rattle.qgm_laws.specs.SoundEdits.{AddSound, EditsAreMaps, KeepBags, KeepSound, NearlyCompact, ScopeLaws};
 ghost use Rattle.qgm_laws.specs.Facts.{FactsOfAgreeing, LooksStay};
@@ -71,4 +74,13 @@ pub fn checked_laws()
     ensures merge_distinct_formed { MergeDistinctWellFormed }
     ensures merge_any { MergeAny }
     ensures permit_read { PermitRead }
+{}
+
+/// What each kind of edit keeps of types and shapes: the check, which finds nothing against a graph, finds nothing after the edit, at its condition. It does nothing.
+pub fn form_laws()
+    ensures reformed { Reformed }
+    ensures boxes { BoxesFormed }
+    ensures edits { EditsWellFormed }
+    ensures push { PushWellFormed }
+    ensures interposed { InterposedWellFormed }
 {}

@@ -3,4 +3,4 @@
 
 mod laws;
 
-pub use laws::{checked_laws, edit_laws, rewriting_laws, sound_laws};
+pub use laws::{checked_laws, edit_laws, form_laws, rewriting_laws, sound_laws};

@@ -1,0 +1,37 @@
+use Rattle.qgm_laws.proofs.BelowForms.{move-below-formed}
+use Rattle.qgm_laws.proofs.BoxForms.{boxes-formed}
+use Rattle.qgm_laws.proofs.DistinctForms.{reserve-formed, set-distinct-formed}
+use Rattle.qgm_laws.proofs.EditForms.{add-quant-formed, drop-quant-formed, put-quant-formed, redirect-formed}
+use Rattle.qgm_laws.proofs.InterposedForms.{interposed-formed}
+use Rattle.qgm_laws.proofs.MoveForms.{conjunct-formed}
+use Rattle.qgm_laws.proofs.MoveQuantForms.{quant-formed}
+use Rattle.qgm_laws.proofs.PushForms.{push-formed}
+use Rattle.qgm_laws.proofs.Reformed.{reformed}
+use Rattle.qgm_laws.proofs.SubstituteForms.{substitute-formed}
+use Rattle.qgm_laws.proofs.laws.form_laws.Goals as goal
+
+pub returns-clause-reformed : goal.returns-clause-reformed
+returns-clause-reformed c = reformed
+
+pub returns-clause-boxes : goal.returns-clause-boxes
+returns-clause-boxes c = boxes-formed
+
+pub returns-clause-edits : goal.returns-clause-edits
+returns-clause-edits c = λ g u f. record {
+  set_distinct = set-distinct-formed g u f;
+  reserve = λ n k i. reserve-formed g u f n k i;
+  move_conjunct = conjunct-formed g u f;
+  put_quant = put-quant-formed g u f;
+  add_quant = add-quant-formed g u f;
+  drop_quant = drop-quant-formed g u f;
+  redirect = redirect-formed g u f;
+  move_quant = quant-formed g u f;
+  substitute = substitute-formed g u f;
+  move_below = move-below-formed g u f;
+}
+
+pub returns-clause-push : goal.returns-clause-push
+returns-clause-push c = push-formed
+
+pub returns-clause-interposed : goal.returns-clause-interposed
+returns-clause-interposed c = interposed-formed
