@@ -1,5 +1,5 @@
 -- Boxes that stay keep types and shapes: the check finds nothing more where a box moves below another one.
-use Rattle.std.proofs.Common.{ℕ, ◌≡◌, true, List, [], ◌∷◌, None, refl, sym, subst, inl, inr}
+use Rattle.std.proofs.Common.{ℕ, ◌≡◌, true, List, None, refl, sym, subst, inl, inr}
 use Rattle.std.proofs.lemmas.Bool.{cases_Bool}
 use Rattle.qgm_core.specs.Boxes.{QueryGraph, has_box, numbers}
 use Rattle.qgm_core.specs.Edits.{move_below, moved_below}

@@ -1,5 +1,5 @@
 -- Boxes that change where they stand, each in its form, keep types and shapes.
-use Rattle.std.proofs.Common.{ℕ, ◌==◌, ◌≡◌, ◌&&◌, nat_lt, Bool, true, false, List, [], ◌∷◌, map, None, refl, sym, ap, subst, ◌∙◌, ◌⊎◌, inl, inr}
+use Rattle.std.proofs.Common.{ℕ, ◌==◌, ◌≡◌, ◌&&◌, nat_lt, true, false, List, [], ◌∷◌, map, None, refl, sym, ap, subst, ◌∙◌, ◌⊎◌, inl, inr}
 use Rattle.std.proofs.lemmas.Bool.{and_from, cases_Bool, eq-eqb}
 use Rattle.qgm_core.specs.Boxes.{QueryGraph, has_box, numbers, owns, width}
 use Rattle.qgm_core.specs.Edits.{on_boxes}
@@ -20,7 +20,6 @@ use Rattle.qgm_laws.proofs.Facts.{looks-stay}
 use Rattle.qgm_laws.proofs.Formed.{sound-checked}
 use Rattle.qgm_laws.proofs.FreeLoose.{alone-to, looks-asked}
 use Rattle.qgm_laws.proofs.Lists.{any-from, clash, in-map}
-use Rattle.qgm_laws.proofs.Ranks.{has-in}
 use Rattle.qgm_laws.proofs.Reformed.{shaped-after, typed-after}
 use Rattle.qgm_laws.proofs.ShapeParts.{fed-parts, shape-parts, two-parts}
 use Rattle.qgm_laws.proofs.WellFormedKept.{numbers-once}

@@ -1,49 +1,35 @@
 -- The check finds nothing more where a conjunct goes from one select to another.
-use Rattle.std.proofs.Common.{ℕ, suc, zero, ◌==◌, ◌≡◌, ◌&&◌, ◌||◌, ◌-◌, cond, not, Bool, true, false, List, [], ◌∷◌, ◌++◌, length, map, Option, Some, None, refl, sym, ap, ap₂, subst, ◌∙◌, eqb-true, ◌⊎◌, inl, inr}
-use Rattle.std.specs.Prelude.{slice_get}
-use Rattle.std.specs.List.{flat_map, list_all, list_any, remove}
+use Rattle.std.proofs.Common.{ℕ, ◌==◌, ◌≡◌, ◌&&◌, ◌||◌, not, Bool, true, false, List, [], ◌∷◌, ◌++◌, refl, sym, ap, ap₂, subst, ◌∙◌, eqb-true, inl, inr}
+use Rattle.std.specs.List.{flat_map, list_all, list_any}
 use Rattle.std.proofs.lemmas.Bool.{and_from, and_parts, cases_Bool, not-true, or_cases}
-use Rattle.qgm_core.specs.Boxes.{QueryGraph, is_box, numbers, owns, width}
-use Rattle.qgm_core.specs.Edits.{cond_at, conds_in, move_conjunct, on_boxes, put_cond_found, with_cond, without_cond}
-use Rattle.qgm_core.specs.Kinds.{is_F, is_enforce, is_fed, is_magic, is_preserve}
-use Rattle.qgm_core.specs.Lists.{EachOnce, In, change, first}
+use Rattle.qgm_core.specs.Kinds.{is_F, is_fed, is_preserve}
+use Rattle.qgm_core.specs.Lists.{In}
 use Rattle.qgm_core.specs.declared.kinds.BoxKind.TheVariants.{Select}
 use Rattle.qgm_core.specs.declared.kinds.Role.{Role}
 use Rattle.qgm_core.specs.declared.kinds.Role.TheVariants.{Fed, Magic, Plain}
 use Rattle.qgm_core.specs.declared.node.Node.{Node}
 use Rattle.qgm_core.specs.declared.owned.OwnedQuant.{OwnedQuant}
-use Rattle.qgm_terms.specs.Named.{columns_in, columns_in_cond, nodes_in, nodes_in_cond}
+use Rattle.qgm_terms.specs.Named.{nodes_in, nodes_in_cond}
 use Rattle.qgm_terms.specs.Terms.{Cond}
-use Rattle.qgm_terms.specs.Wanted.{any_in_cond, has_aggregate, has_aggregate_cond, reads, reads_at, reads_at_cond, reads_cond, wanted}
+use Rattle.qgm_terms.specs.Wanted.{any_in_cond, has_aggregate, has_aggregate_cond, reads, reads_cond, wanted}
 use Rattle.qgm_terms.specs.declared.named.Column.{Column}
 use Rattle.qgm_terms.specs.declared.named.QuantNode.{QuantNode}
 use Rattle.qgm_terms.specs.declared.named.QuantNode.TheVariants as node
 use Rattle.qgm_terms.specs.declared.sought.Sought.TheVariants as sought
 use Rattle.qgm_check.specs.Columns.{box_under, columns_fit, columns_of, fits, places_fit}
-use Rattle.qgm_check.specs.Shapes.{all_F, columns_placed, fed_by, is_none, is_unfolded, kind_fits, looks_up, node_fits, nodes_of, role_fits, shape_fits}
+use Rattle.qgm_check.specs.Shapes.{fed_by, is_none, is_unfolded, kind_fits, looks_up, node_fits, nodes_of, role_fits}
 use Rattle.qgm_check.specs.Types.{arms_agree, cond_fits, is_known, lookup_of, term_type, types_of}
-use Rattle.qgm_check.specs.WellFormed.{fault}
-use Rattle.qgm_meaning.specs.Scope.{loose, read_by}
-use Rattle.qgm_meaning.specs.Searches.{names, names_cond}
-use Rattle.qgm_laws.specs.Changes.{Reparts}
-use Rattle.qgm_laws.specs.Checked.{own_seen}
-use Rattle.qgm_laws.specs.FormedEdits.{MayMoveConjunct}
-use Rattle.qgm_laws.specs.Graph.{BareBy, Sound, binds_row, nodes_in as box_nodes, reads_in}
-use Rattle.qgm_laws.specs.MergeShaped.{FedOpen}
+use Rattle.qgm_meaning.specs.Searches.{names_cond}
+use Rattle.qgm_laws.specs.Graph.{Sound}
 use Rattle.qgm_laws.specs.Shaped.{Shaped, Typed}
 use Rattle.qgm_laws.proofs.AnyPut.{conds-more}
-use Rattle.qgm_laws.proofs.Edits.{any-append, once-each}
-use Rattle.qgm_laws.proofs.Formed.{same-quant, sound-checked}
+use Rattle.qgm_laws.proofs.Edits.{any-append}
 use Rattle.qgm_laws.proofs.Lists.{all-from, all-in, any-from, any-in, clash, eq-itself, in-append, in-left, in-right, or-both, or-false, or-left, or-none, or-right}
-use Rattle.qgm_laws.proofs.OneBox.{at, change-at}
-use Rattle.qgm_laws.proofs.PartForms.{PartForm, at-all, parts-open}
-use Rattle.qgm_laws.proofs.PlacedLists.{any-more, in-more, more-in, more-own}
-use Rattle.qgm_laws.proofs.Ranks.{same-box}
-use Rattle.qgm_laws.proofs.Read.{any-both, at_all, at_cond, columns-found, cond-nodes, is_at, is_of}
-use Rattle.qgm_laws.proofs.Scope.{in-first}
-use Rattle.qgm_laws.proofs.Scoped.{scoped-of}
+use Rattle.qgm_laws.proofs.PartForms.{PartForm}
+use Rattle.qgm_laws.proofs.PlacedLists.{any-more, more-in}
+use Rattle.qgm_laws.proofs.Read.{any-both, at_all, at_cond, columns-found, is_at, is_of}
 use Rattle.qgm_laws.proofs.ShapeParts.{ShapeParts, shape-from, shape-parts}
-use Rattle.qgm_laws.proofs.TypedPushed.{all-mid, all-one, all-without}
+use Rattle.qgm_laws.proofs.TypedPushed.{all-one, all-without}
 
 -- ---- lists
 

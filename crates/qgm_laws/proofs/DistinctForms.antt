@@ -1,8 +1,8 @@
 -- The check finds nothing more where a box becomes ENFORCE, PRESERVE or PERMIT, or has room for more conditions.
-use Rattle.std.proofs.Common.{ℕ, ◌==◌, ◌≡◌, ◌&&◌, ◌||◌, cond, max, not, Bool, true, false, List, map, None, refl, sym, ap, subst, ◌∙◌, ◌⊎◌, inl, inr}
-use Rattle.std.specs.List.{list_all, list_any}
+use Rattle.std.proofs.Common.{ℕ, ◌==◌, ◌≡◌, ◌&&◌, max, not, true, false, List, map, None, refl, sym, ap, subst, ◌∙◌, inl, inr}
+use Rattle.std.specs.List.{list_all}
 use Rattle.std.proofs.lemmas.Bool.{and_from, and_parts}
-use Rattle.qgm_core.specs.Boxes.{QueryGraph, numbers, owns, width}
+use Rattle.qgm_core.specs.Boxes.{QueryGraph, numbers, width}
 use Rattle.qgm_core.specs.Edits.{on_boxes, reserve, set_distinct, with_distinct, with_room}
 use Rattle.qgm_core.specs.Kinds.{is_F_or_S, is_enforce, is_fed, is_magic, is_permit, is_preserve}
 use Rattle.qgm_core.specs.Lists.{EachOnce, In, change}
@@ -13,14 +13,13 @@ use Rattle.qgm_core.specs.declared.kinds.Role.{Role}
 use Rattle.qgm_core.specs.declared.kinds.Role.TheVariants.{Fed, Magic, Plain}
 use Rattle.qgm_core.specs.declared.node.Node.{Node}
 use Rattle.qgm_core.specs.declared.owned.OwnedQuant.{OwnedQuant}
-use Rattle.qgm_check.specs.Columns.{columns_fit}
 use Rattle.qgm_check.specs.Shapes.{all_F, fed_by, is_none, is_unfolded, kind_fits, role_fits, shape_fits}
-use Rattle.qgm_check.specs.Types.{arms_agree, cond_fits, is_known, lookup_of, term_type, types_by, types_of}
+use Rattle.qgm_check.specs.Types.{arms_agree, cond_fits, is_known, lookup_of, term_type, types_of}
 use Rattle.qgm_check.specs.WellFormed.{fault}
 use Rattle.qgm_meaning.specs.Scope.{read_by}
 use Rattle.qgm_laws.specs.Changes.{Reparts}
 use Rattle.qgm_laws.specs.FormedEdits.{MayBe}
-use Rattle.qgm_laws.specs.Graph.{Sound, binds_row, nodes_in, reads_in}
+use Rattle.qgm_laws.specs.Graph.{Sound, nodes_in, reads_in}
 use Rattle.qgm_laws.specs.Shaped.{Shaped, Typed}
 use Rattle.qgm_laws.proofs.Edits.{once-each}
 use Rattle.qgm_laws.proofs.Formed.{sound-checked}

@@ -24,7 +24,7 @@ use Rattle.qgm_meaning.specs.Scope.{loose}
 use Rattle.qgm_laws.specs.Changes.{Redirects}
 use Rattle.qgm_laws.specs.FormedEdits.{MayAddQuant, MayDropQuant, MayRedirect, MayTurn}
 use Rattle.qgm_laws.specs.Graph.{Sound}
-use Rattle.qgm_laws.specs.Reforms.{Stood, types_at}
+use Rattle.qgm_laws.specs.Reforms.{types_at}
 use Rattle.qgm_laws.specs.Shaped.{Shaped, Typed}
 use Rattle.qgm_laws.proofs.Adds.{loose-owned}
 use Rattle.qgm_laws.proofs.BoxForms.{counted-seen, scalar-column, stands}
@@ -33,7 +33,7 @@ use Rattle.qgm_laws.proofs.Follow.{all-alike}
 use Rattle.qgm_laws.proofs.Formed.{same-quant, sound-checked}
 use Rattle.qgm_laws.proofs.FreeLoose.{looks-asked}
 use Rattle.qgm_laws.proofs.Interposed.{over_now}
-use Rattle.qgm_laws.proofs.Lists.{all-from, all-in, any-from, any-in, clash, eq-itself, in-map, map-in}
+use Rattle.qgm_laws.proofs.Lists.{all-from, all-in, any-from, any-in, clash, eq-itself}
 use Rattle.qgm_laws.proofs.OneBox.{at, change-at, owner-at}
 use Rattle.qgm_laws.proofs.PlacedOne.{any-put, in-less, in-put, less-in}
 use Rattle.qgm_laws.proofs.QuantForms.{quants-formed}
@@ -42,7 +42,7 @@ use Rattle.qgm_laws.proofs.Ranks.{has-in, overs-held, same-box}
 use Rattle.qgm_laws.proofs.Read.{is_of, nodes-listed}
 use Rattle.qgm_laws.proofs.Reformed.{wide-types}
 use Rattle.qgm_laws.proofs.Scope.{in-first, one-owner}
-use Rattle.qgm_laws.proofs.ShapeParts.{ShapeParts, shape-from, shape-parts}
+use Rattle.qgm_laws.proofs.ShapeParts.{shape-from, shape-parts}
 use Rattle.qgm_laws.proofs.TypedKept.{found}
 
 -- ---- one quantifier changed, of those of a box

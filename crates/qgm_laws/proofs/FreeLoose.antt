@@ -1,8 +1,8 @@
 -- What is free in a box is what it looks up.
-use Rattle.std.proofs.Common.{ℕ, ◌==◌, ◌≡◌, ◌&&◌, ◌||◌, ◌≤◌, cond, not, Bool, true, false, List, [], ◌∷◌, ◌++◌, Option, Some, None, refl, sym, ap, subst, ◌∙◌, ◌⊎◌, inl, inr, arith}
+use Rattle.std.proofs.Common.{ℕ, ◌==◌, ◌≡◌, ◌&&◌, ◌||◌, ◌≤◌, cond, not, Bool, true, false, List, [], ◌∷◌, Option, Some, None, refl, sym, ap, ◌∙◌, ◌⊎◌, inl, inr, arith}
 use Rattle.std.specs.List.{list_any}
 use Rattle.std.proofs.lemmas.Bool.{and_parts, cases_Bool, or_cases}
-use Rattle.qgm_core.specs.Boxes.{QueryGraph, is_quant, owns}
+use Rattle.qgm_core.specs.Boxes.{is_quant, owns}
 use Rattle.qgm_core.specs.Free.{IsFree, NamedBelow, Reaches, free_in, itself, through}
 use Rattle.qgm_core.specs.Kinds.{is_F}
 use Rattle.qgm_core.specs.Lists.{In, first, holds}
@@ -14,7 +14,7 @@ use Rattle.qgm_check.specs.Shapes.{only}
 use Rattle.qgm_check.specs.WellFormed.{is_empty}
 use Rattle.qgm_check.proofs.Below.{free-free}
 use Rattle.qgm_check.proofs.ClosedLaws.{finds-alone}
-use Rattle.qgm_meaning.specs.Scope.{loose, loose_by, loose_each, loose_of, looks_found, quant_looks, read_beyond, read_by, under_any}
+use Rattle.qgm_meaning.specs.Scope.{loose, loose_by, loose_each, looks_found, quant_looks, read_beyond, read_by, under_any}
 use Rattle.qgm_laws.specs.Graph.{Sound}
 use Rattle.qgm_laws.specs.Placed.{place}
 use Rattle.qgm_laws.proofs.Checked.{free-loose}
@@ -23,7 +23,7 @@ use Rattle.qgm_laws.proofs.Levels.{some-in}
 use Rattle.qgm_laws.proofs.Lists.{any-from, any-in, clash, eq-itself, or-left, or-right}
 use Rattle.qgm_laws.proofs.Ranks.{place-under}
 use Rattle.qgm_laws.proofs.Read.{read-named}
-use Rattle.qgm_laws.proofs.Scope.{above-owner, loose-within, touched-by, touches, unfold-loose}
+use Rattle.qgm_laws.proofs.Scope.{above-owner, loose-within, touches, unfold-loose}
 
 -- ---- what a box looks up it reads, or a box below it looks it up
 

@@ -1,13 +1,13 @@
 -- The check finds nothing more where a box is put between a quantifier and the box that it ranges over.
-use Rattle.std.proofs.Common.{ℕ, ◌==◌, ◌≡◌, ◌&&◌, ◌||◌, ◌-◌, nat_lt, cond, Bool, true, false, List, [], ◌∷◌, ◌++◌, map, Option, Some, None, refl, sym, ap, ap₂, subst, ◌∙◌, eqb-true, ◌⊎◌, inl, inr, arith}
+use Rattle.std.proofs.Common.{ℕ, ◌==◌, ◌≡◌, ◌&&◌, nat_lt, cond, Bool, true, false, List, [], ◌∷◌, ◌++◌, Option, Some, refl, sym, ap, subst, ◌∙◌, eqb-true, ◌⊎◌, inl, inr, arith}
 use Rattle.std.specs.List.{list_all, list_any}
 use Rattle.std.proofs.lemmas.Bool.{and_from, and_parts, cases_Bool, eq-eqb, or_cases}
 use Rattle.sql_value.specs.declared.order_key.SqlType.{SqlType}
-use Rattle.qgm_core.specs.Boxes.{QueryGraph, has_box, is_box, is_quant, numbers, owns, width}
+use Rattle.qgm_core.specs.Boxes.{has_box, is_box, is_quant, owns, width}
 use Rattle.qgm_core.specs.Edits.{on_boxes, on_quant}
 use Rattle.qgm_core.specs.Free.{free_in, named_by}
 use Rattle.qgm_core.specs.Kinds.{is_F_or_S, is_S, is_fed, is_magic, is_permit}
-use Rattle.qgm_core.specs.Lists.{EachOnce, In, first, holds}
+use Rattle.qgm_core.specs.Lists.{In, first, holds}
 use Rattle.qgm_core.specs.declared.kinds.BoxKind.{BoxKind}
 use Rattle.qgm_core.specs.declared.kinds.BoxKind.TheVariants.{Base, Select, Group, SetOp, OuterJoin}
 use Rattle.qgm_core.specs.declared.node.Node.{Node}
@@ -17,8 +17,7 @@ use Rattle.qgm_terms.specs.Wanted.{any_in, any_in_cond}
 use Rattle.qgm_terms.specs.declared.named.Column.{Column}
 use Rattle.qgm_check.specs.Columns.{box_under, columns_fit, columns_of, fits, over_box, places_fit, within}
 use Rattle.qgm_check.specs.Shapes.{fed_by, is_scalar, is_scalar_in, magic_found, only, shape_fits, width_found}
-use Rattle.qgm_check.specs.Types.{Lookup, all_agree, arm_agrees, arms_agree, cond_fits, is_known, known, lookup_of, term_type, type_found, types_agree, types_by, types_of}
-use Rattle.qgm_check.specs.WellFormed.{fault}
+use Rattle.qgm_check.specs.Types.{Lookup, all_agree, arm_agrees, arms_agree, cond_fits, is_known, known, lookup_of, term_type, type_found, types_by, types_of}
 use Rattle.qgm_meaning.specs.Scope.{loose, read_by}
 use Rattle.qgm_laws.specs.Adds.{as_box, interposed, onto}
 use Rattle.qgm_laws.specs.FormedAdds.{InterposedWellFormed, MayInterpose, column_of, of_column, own_box, own_types, types_asked}
@@ -158,8 +157,7 @@ module _ (xs ys : List Node) (root : ℕ) (w : Sound (xs ++ ys) root) (t : Typed
       let p = any-in (is_quant q) s.quants h in
       let e : p.0.id ≡ q = eqb-true p.0.id q p.1.1 in
       let u = under-s p.0 p.1.0 in
-      let one : first (is_quant q) s.quants ≡ Some p.0 = subst (λ z. first (is_quant z) s.quants ≡ Some p.0) e (first-own p.0 s.quants (m.interposes.adds.once p.0.id) p.1.0) in
-      (
+      let one : first (is_quant q) s.quants ≡ Some p.0 = subst (λ z. first (is_quant z) s.quants ≡ Some p.0) e (first-own p.0 s.quants (m.interposes.adds.once p.0.id) p.1.0) in (
         u.0,
         (
           u.1.0,

@@ -1,39 +1,36 @@
 -- The check finds nothing more where a conjunct moves, as it is or as P1 pushes it.
-use Rattle.std.proofs.Common.{ℕ, suc, zero, ◌==◌, ◌≡◌, ◌&&◌, ◌||◌, ◌-◌, cond, Bool, true, false, List, [], ◌∷◌, ◌++◌, length, map, Option, Some, None, refl, sym, ap, ap₂, subst, ◌∙◌, eqb-true, ◌⊎◌, inl, inr}
-use Rattle.std.specs.Prelude.{slice_get, drop, take}
-use Rattle.std.specs.List.{flat_map, list_all, list_any, remove}
-use Rattle.std.proofs.lemmas.Bool.{and_from, and_parts, cases_Bool, eq-eqb, or_cases}
-use Rattle.qgm_core.specs.Boxes.{QueryGraph, is_box, is_quant, numbers, owns, width}
-use Rattle.qgm_core.specs.Edits.{cond_at, conds_in, move_conjunct, on_boxes, put_cond_found, with_cond, without_cond}
+use Rattle.std.proofs.Common.{ℕ, ◌==◌, ◌≡◌, ◌&&◌, ◌||◌, ◌-◌, cond, Bool, true, false, List, [], ◌∷◌, ◌++◌, length, map, Some, None, refl, sym, ap, subst, ◌∙◌, eqb-true, ◌⊎◌, inl, inr}
+use Rattle.std.specs.Prelude.{slice_get}
+use Rattle.std.specs.List.{list_all, list_any, remove}
+use Rattle.std.proofs.lemmas.Bool.{and_parts, cases_Bool, eq-eqb, or_cases}
+use Rattle.qgm_core.specs.Boxes.{QueryGraph, is_box, is_quant, numbers, width}
+use Rattle.qgm_core.specs.Edits.{conds_in, move_conjunct, put_cond_found, with_cond, without_cond}
 use Rattle.qgm_core.specs.Kinds.{is_F}
-use Rattle.qgm_core.specs.Lists.{EachOnce, In, change, first}
+use Rattle.qgm_core.specs.Lists.{EachOnce, In, change}
 use Rattle.qgm_core.specs.declared.node.Node.{Node}
 use Rattle.qgm_core.specs.declared.owned.OwnedQuant.{OwnedQuant}
 use Rattle.qgm_terms.specs.Named.{nodes_in_cond}
 use Rattle.qgm_terms.specs.Terms.{Cond, Term}
 use Rattle.qgm_terms.specs.Wanted.{has_aggregate_cond, reads, reads_at, reads_at_cond, reads_cond}
-use Rattle.qgm_terms.specs.declared.named.QuantNode.{QuantNode}
-use Rattle.qgm_check.specs.Columns.{box_under, columns_of, fits}
-use Rattle.qgm_check.specs.Shapes.{looks_up}
 use Rattle.qgm_check.specs.Types.{cond_fits, lookup_of}
 use Rattle.qgm_check.specs.WellFormed.{fault}
-use Rattle.qgm_meaning.specs.Scope.{loose, read_by}
+use Rattle.qgm_meaning.specs.Scope.{loose}
 use Rattle.qgm_meaning.specs.Searches.{names, names_cond}
 use Rattle.qgm_laws.specs.Changes.{Reparts}
 use Rattle.qgm_laws.specs.Checked.{own_seen}
 use Rattle.qgm_laws.specs.FormedEdits.{MayMoveConjunct}
-use Rattle.qgm_laws.specs.Graph.{BareBy, Sound, binds_row, nodes_in, reads_in}
+use Rattle.qgm_laws.specs.Graph.{BareBy, Sound}
 use Rattle.qgm_laws.specs.MergeShaped.{FedOpen}
 use Rattle.qgm_laws.specs.Shaped.{Shaped, Typed}
 use Rattle.qgm_laws.proofs.ConjunctForms.{less-form, more-form, names-none, node-of, old-conds, old-fits, put_items, unfolded-was}
 use Rattle.qgm_laws.proofs.Edits.{any-append, once-each}
 use Rattle.qgm_laws.proofs.Formed.{same-quant, sound-checked}
-use Rattle.qgm_laws.proofs.Lists.{all-in, any-from, any-in, clash, eq-itself, or-left, or-none, or-right, or-false}
+use Rattle.qgm_laws.proofs.Lists.{any-from, any-in, clash, eq-itself, or-left, or-none, or-right, or-false}
 use Rattle.qgm_laws.proofs.OneBox.{at, change-at, once-map}
 use Rattle.qgm_laws.proofs.PartForms.{PartForm, at-all, parts-open}
 use Rattle.qgm_laws.proofs.PlacedLists.{any-more}
 use Rattle.qgm_laws.proofs.Ranks.{same-box}
-use Rattle.qgm_laws.proofs.Read.{at_cond, at_all, columns-found, cond-nodes, is_at, is_of}
+use Rattle.qgm_laws.proofs.Read.{at_cond, at_all, columns-found, cond-nodes, is_of}
 use Rattle.qgm_laws.proofs.Scope.{in-first}
 use Rattle.qgm_laws.proofs.Scoped.{scoped-of}
 use Rattle.qgm_laws.proofs.TypedPushed.{all-mid}

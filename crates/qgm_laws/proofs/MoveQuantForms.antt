@@ -1,12 +1,11 @@
 -- The check finds nothing more where a quantifier goes from one select to another.
-use Rattle.std.proofs.Common.{ℕ, ◌==◌, ◌≡◌, ◌&&◌, nat_lt, cond, Bool, true, false, List, insert, map, Option, Some, None, refl, sym, ap, subst, ◌∙◌, eqb-true, ◌⊎◌, inl, inr}
+use Rattle.std.proofs.Common.{ℕ, ◌==◌, ◌≡◌, ◌&&◌, cond, Bool, true, false, List, map, None, refl, sym, ap, subst, ◌∙◌, eqb-true, ◌⊎◌, inl, inr}
 use Rattle.std.specs.List.{list_all}
 use Rattle.std.proofs.lemmas.Bool.{and_from, and_parts, cases_Bool, eq-eqb}
-use Rattle.qgm_core.specs.Boxes.{QueryGraph, is_box, is_quant, numbers, owns, range_in, width}
-use Rattle.qgm_core.specs.Edits.{move_quant, on_boxes, put_range, put_range_found, quant_moved, without_quant}
-use Rattle.qgm_core.specs.Kinds.{is_F_or_S, is_S, is_magic, is_permit}
-use Rattle.qgm_core.specs.Lists.{EachOnce, In, change, first}
-use Rattle.qgm_core.specs.declared.kinds.BoxKind.{BoxKind}
+use Rattle.qgm_core.specs.Boxes.{QueryGraph, is_box, is_quant, numbers, owns}
+use Rattle.qgm_core.specs.Edits.{move_quant, put_range, put_range_found, without_quant}
+use Rattle.qgm_core.specs.Kinds.{is_magic, is_permit}
+use Rattle.qgm_core.specs.Lists.{EachOnce, In, change}
 use Rattle.qgm_core.specs.declared.kinds.BoxKind.TheVariants.{Select}
 use Rattle.qgm_core.specs.declared.node.Node.{Node}
 use Rattle.qgm_core.specs.declared.owned.OwnedQuant.{OwnedQuant}

@@ -1,8 +1,8 @@
 -- The check finds nothing more where parts of boxes change, and kinds, the types of columns and quantifiers stay.
-use Rattle.std.proofs.Common.{ℕ, ◌==◌, ◌≡◌, ◌&&◌, cond, Bool, true, false, List, [], ◌∷◌, map, None, refl, sym, ap, ap₂, subst, ◌∙◌, ◌⊎◌, inl, inr}
+use Rattle.std.proofs.Common.{ℕ, ◌==◌, ◌≡◌, ◌&&◌, cond, true, false, List, [], ◌∷◌, map, None, refl, sym, ap, ap₂, subst, ◌∙◌, ◌⊎◌, inl, inr}
 use Rattle.std.specs.List.{list_all}
 use Rattle.std.proofs.lemmas.Bool.{and_from, and_parts, cases_Bool}
-use Rattle.qgm_core.specs.Boxes.{QueryGraph, has_box, numbers, owns, width}
+use Rattle.qgm_core.specs.Boxes.{QueryGraph, has_box, numbers, owns}
 use Rattle.qgm_core.specs.Edits.{on_boxes}
 use Rattle.qgm_core.specs.Kinds.{is_F_or_S, is_fed, is_magic, is_permit}
 use Rattle.qgm_core.specs.Lists.{EachOnce, In}

@@ -1,5 +1,5 @@
 -- The check finds nothing more after P1.
-use Rattle.std.proofs.Common.{ℕ, suc, zero, ◌==◌, ◌≡◌, ◌||◌, ◌&&◌, get_or, Bool, true, false, List, [], ◌∷◌, ◌++◌, map, None, refl, sym, ap, subst, ◌∙◌, eqb-true, ◌⊎◌, inl, inr}
+use Rattle.std.proofs.Common.{ℕ, suc, zero, ◌==◌, ◌≡◌, ◌&&◌, get_or, Bool, true, false, List, [], ◌∷◌, ◌++◌, None, refl, sym, ap, subst, ◌∙◌, ◌⊎◌, inl, inr}
 use Rattle.std.specs.List.{flat_map, list_all, list_any}
 use Rattle.std.specs.Prelude.{⊤}
 use Rattle.std.proofs.lemmas.Bool.{cases_Bool, eq-eqb}
@@ -13,9 +13,8 @@ use Rattle.qgm_terms.specs.Named.{nodes_in_cond}
 use Rattle.qgm_terms.specs.Substitution.{cell_at, substituted_cond}
 use Rattle.qgm_terms.specs.Terms.{Cond, Term, null_int}
 use Rattle.qgm_terms.specs.Wanted.{any_in, any_in_cond, has_aggregate, has_aggregate_cond, reads, reads_cond, wanted}
-use Rattle.qgm_terms.specs.declared.named.QuantNode.{QuantNode}
 use Rattle.qgm_terms.specs.declared.sought.Sought.TheVariants as sought
-use Rattle.qgm_check.specs.Columns.{box_under, columns_of, fits}
+use Rattle.qgm_check.specs.Columns.{box_under, fits}
 use Rattle.qgm_check.specs.Shapes.{node_fits, nodes_of}
 use Rattle.qgm_check.specs.Types.{cond_fits, lookup_of}
 use Rattle.qgm_check.specs.WellFormed.{fault}
@@ -32,7 +31,7 @@ use Rattle.qgm_laws.proofs.PlacedLists.{any-more}
 use Rattle.qgm_laws.proofs.PushSound as push
 use Rattle.qgm_laws.proofs.Read.{at_all, at_cond, columns-found, cond-nodes, is_of}
 use Rattle.qgm_laws.proofs.ShapeParts.{shape-parts}
-use Rattle.qgm_laws.proofs.ShapedPut.{Passes, cond-fits, cond-same}
+use Rattle.qgm_laws.proofs.ShapedPut.{cond-fits, cond-same}
 use Rattle.qgm_laws.proofs.TypedPushed.{conds-after}
 
 -- a cell of a head is one of its cells, or null

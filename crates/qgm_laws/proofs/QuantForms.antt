@@ -1,15 +1,14 @@
 -- The check finds nothing more where the quantifiers of one box change.
-use Rattle.std.proofs.Common.{ℕ, ◌==◌, ◌≡◌, ◌&&◌, ◌||◌, nat_lt, cond, not, Bool, true, false, List, [], ◌∷◌, map, None, refl, sym, ap, ap₂, subst, ◌∙◌, eqb-true, ◌⊎◌, inl, inr}
-use Rattle.std.specs.List.{list_all, list_any}
-use Rattle.std.proofs.lemmas.Bool.{and_from, and_parts, cases_Bool, eq-eqb}
-use Rattle.qgm_core.specs.Boxes.{QueryGraph, has_box, is_box, is_quant, numbers, owns, width}
-use Rattle.qgm_core.specs.Edits.{drop_quant, on_boxes, on_quant, put_quant, put_range, redirect, with_quant, without_quant}
+use Rattle.std.proofs.Common.{ℕ, ◌≡◌, ◌&&◌, nat_lt, true, false, List, map, None, refl, sym, ap, subst, ◌∙◌, ◌⊎◌, inl, inr}
+use Rattle.std.specs.List.{list_all}
+use Rattle.std.proofs.lemmas.Bool.{and_from, and_parts}
+use Rattle.qgm_core.specs.Boxes.{QueryGraph, has_box, numbers, owns, width}
+use Rattle.qgm_core.specs.Edits.{on_boxes}
 use Rattle.qgm_core.specs.Free.{named_by}
-use Rattle.qgm_core.specs.Kinds.{is_F, is_F_or_S, is_S, is_fed, is_magic, is_permit}
-use Rattle.qgm_core.specs.Lists.{EachOnce, In, change, holds}
+use Rattle.qgm_core.specs.Kinds.{is_F_or_S, is_S, is_magic, is_permit}
+use Rattle.qgm_core.specs.Lists.{EachOnce, In, holds}
 use Rattle.qgm_core.specs.declared.kinds.BoxKind.{BoxKind}
 use Rattle.qgm_core.specs.declared.kinds.BoxKind.TheVariants.{Base, Group, OuterJoin, Select, SetOp}
-use Rattle.qgm_core.specs.declared.kinds.QuantKind.{QuantKind}
 use Rattle.qgm_core.specs.declared.node.Node.{Node}
 use Rattle.qgm_core.specs.declared.owned.OwnedQuant.{OwnedQuant}
 use Rattle.qgm_core.specs.declared.parts.BoxParts.{BoxParts}
@@ -24,7 +23,7 @@ use Rattle.qgm_laws.specs.Scoped.{Scoped}
 use Rattle.qgm_laws.specs.Shaped.{Shaped, Typed}
 use Rattle.qgm_laws.proofs.BoxForms.{formed-by, looks-over}
 use Rattle.qgm_laws.proofs.Formed.{sound-checked}
-use Rattle.qgm_laws.proofs.Lists.{all-from, all-in, clash, in-map}
+use Rattle.qgm_laws.proofs.Lists.{all-from, all-in, in-map}
 use Rattle.qgm_laws.proofs.OneBox.{at}
 use Rattle.qgm_laws.proofs.PlacedOne.{g-b, g-cases, g-id}
 use Rattle.qgm_laws.proofs.Quants.{parts-at}
@@ -115,14 +114,13 @@ module _ (g : QueryGraph) (u : EachOnce (numbers g.boxes)) (f : fault g ≡ None
                   subst (λ (z : Node). (owns q z ≡ false) × ((read_by z q ≡ true) ⊎ ((r : OwnedQuant) × (In r z.quants × (loose bs r.over q ≡ true))))) y.1.1
                   (elim (g-cases bs w.ordered o i h same y.0 y.1.0) [
                     | inr e ↦ subst (λ (z : Node). (owns q z ≡ false) × ((read_by z q ≡ true) ⊎ ((r : OwnedQuant) × (In r z.quants × (loose bs r.over q ≡ true))))) (sym e.1) (owned, a)
-                    | inl e ↦ subst (λ (z : Node). (owns q z ≡ false) × ((read_by z q ≡ true) ⊎ ((r : OwnedQuant) × (In r z.quants × (loose bs r.over q ≡ true))))) (sym e.1)
-                        (
-                          kept q (subst (λ (z : Node). loose bs z.id q ≡ true) e.0 l),
-                          elim a [
-                            | inl t ↦ inl (ap (λ (p : BoxParts). read_by (record o { parts = p }) q) parts ∙ subst (λ z. read_by z q ≡ true) e.0 t)
-                            | inr t ↦ inr (under q t.0 (subst (λ (z : Node). In t.0 z.quants) e.0 t.1.0) t.1.1)
-                          ],
-                        )
+                    | inl e ↦ subst (λ (z : Node). (owns q z ≡ false) × ((read_by z q ≡ true) ⊎ ((r : OwnedQuant) × (In r z.quants × (loose bs r.over q ≡ true))))) (sym e.1) (
+                      kept q (subst (λ (z : Node). loose bs z.id q ≡ true) e.0 l),
+                      elim a [
+                        | inl t ↦ inl (ap (λ (p : BoxParts). read_by (record o { parts = p }) q) parts ∙ subst (λ z. read_by z q ≡ true) e.0 t)
+                        | inr t ↦ inr (under q t.0 (subst (λ (z : Node). In t.0 z.quants) e.0 t.1.0) t.1.1)
+                      ],
+                    )
                   ]),
             ),
           ),

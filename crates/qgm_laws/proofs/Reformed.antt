@@ -1,26 +1,21 @@
 -- Boxes that change and keep numbers and the types of their columns keep types and shapes.
-use Rattle.std.proofs.Common.{ℕ, ◌==◌, ◌≡◌, ◌&&◌, ◌-◌, nat_lt, cond, Bool, true, false, List, [], ◌∷◌, length, map, Option, Some, None, refl, sym, ap, ap₂, subst, ◌∙◌, eqb-true, inl, inr}
+use Rattle.std.proofs.Common.{ℕ, ◌==◌, ◌≡◌, ◌&&◌, ◌-◌, nat_lt, cond, true, false, List, length, Some, None, sym, ap, subst, ◌∙◌, eqb-true, inl, inr}
 use Rattle.std.specs.Prelude.{slice_get}
-use Rattle.std.specs.List.{list_all, list_any}
+use Rattle.std.specs.List.{list_all}
 use Rattle.std.proofs.lemmas.Bool.{and_from, and_parts, cases_Bool}
-use Rattle.sql_value.specs.declared.order_key.SqlType.{SqlType}
 use Rattle.qgm_core.specs.Boxes.{is_box, width}
 use Rattle.qgm_core.specs.Free.{named_by}
-use Rattle.qgm_core.specs.Kinds.{is_F_or_S, is_S, is_magic, is_permit, width_by}
+use Rattle.qgm_core.specs.Kinds.{is_F_or_S, is_S, is_permit}
 use Rattle.qgm_core.specs.Lists.{In, first, holds}
-use Rattle.qgm_core.specs.declared.kinds.BoxKind.{BoxKind}
-use Rattle.qgm_core.specs.declared.kinds.BoxKind.TheVariants.{Base, Select, Group, SetOp, OuterJoin}
 use Rattle.qgm_core.specs.declared.node.Node.{Node}
 use Rattle.qgm_core.specs.declared.owned.OwnedQuant.{OwnedQuant}
-use Rattle.qgm_terms.specs.Terms.{Term}
 use Rattle.qgm_terms.specs.declared.named.Column.{Column}
 use Rattle.qgm_check.specs.Columns.{box_under, columns_fit, columns_of, fits, places_fit, within}
 use Rattle.qgm_check.specs.Shapes.{is_scalar, is_scalar_in, magic_found, shape_fits, width_found}
-use Rattle.qgm_check.specs.Types.{Lookup, joined_column, lookup_of, term_type, types_by}
+use Rattle.qgm_check.specs.Types.{joined_column, lookup_of, types_by}
 use Rattle.qgm_laws.specs.Graph.{Sound}
 use Rattle.qgm_laws.specs.Reforms.{Reforms, Reformed}
 use Rattle.qgm_laws.specs.Shaped.{Shaped, Typed}
-use Rattle.qgm_laws.proofs.Edits.{length-map}
 use Rattle.qgm_laws.proofs.Follow.{settled-types, types_at}
 use Rattle.qgm_laws.proofs.FreeLoose.{alone-from}
 use Rattle.qgm_laws.proofs.Lists.{all-from, all-in, any-from, any-in, clash, eq-itself}
@@ -29,17 +24,10 @@ use Rattle.qgm_laws.proofs.Read.{column-named, is_at}
 use Rattle.qgm_laws.proofs.Scope.{in-first}
 use Rattle.qgm_laws.proofs.ShapeParts.{shape-moved}
 use Rattle.qgm_laws.proofs.TypedKept.{Found, found, found-under}
+use Rattle.qgm_laws.proofs.TypedMoved.{types-width}
 use Rattle.qgm_laws.proofs.TypesBy.{agrees-alike, agrees-as, agrees_by, found_by, head-alike, looked, typed-by, via}
 
--- ---- a box has as many types as columns
-
-types-width : (at : Lookup) (k : BoxKind) (head : List Term) → length (types_by at k head) ≡ width_by k (length head)
-types-width at (Base table) head = length-map (λ (t : SqlType). Some t) table.types
-types-width at Select head = length-map (term_type at) head
-types-width at (Group keys) head = length-map (term_type at) head
-types-width at (SetOp form types) head = length-map (λ (t : SqlType). Some t) types
-types-width at OuterJoin head = length-map (term_type at) head
-
+-- a box has as many types as columns
 pub wide-types : (bs : List Node) (root : ℕ) → Sound bs root → (n : Node) → In n bs → length (types_at bs n.id) ≡ width n
 wide-types bs root w n i = ap length (settled-types bs root w n i) ∙ types-width (lookup_of bs) n.parts.kind n.parts.head
 
@@ -88,7 +76,7 @@ module _ (bs hs : List Node) (root : ℕ) (g : Node → Node) (w : Sound bs root
   own n i =
       let y = m.from n i in
       let same : types_by (lookup_of bs) y.0.parts.kind y.0.parts.head ≡ types_by (lookup_of bs) n.parts.kind n.parts.head =
-          sym (m.stay y.0 y.1.0) ∙ ap (λ (z : Node). types_by (lookup_of bs) z.parts.kind z.parts.head) y.1.1 in
+      sym (m.stay y.0 y.1.0) ∙ ap (λ (z : Node). types_by (lookup_of bs) z.parts.kind z.parts.head) y.1.1 in
       ap (types_at bs) (sym (ap (λ (z : Node). z.id) y.1.1) ∙ m.id y.0) ∙ settled-types bs root w y.0 y.1.0 ∙ same ∙ sym (head-alike (via (types_at bs) hs) (lookup_of bs) n (looks n i))
 
   pub typed-after : Typed hs
@@ -104,8 +92,7 @@ module _ (bs hs : List Node) (root : ℕ) (g : Node → Node) (w : Sound bs root
   boxes n r i j =
       let x = has-in r.over hs (overs-held hs n r v.ordered i j) in
       let y = m.from x.0 x.1.0 in
-      let id : y.0.id ≡ r.over = sym (m.id y.0) ∙ ap (λ (z : Node). z.id) y.1.1 ∙ x.1.1 in
-      (
+      let id : y.0.id ≡ r.over = sym (m.id y.0) ∙ ap (λ (z : Node). z.id) y.1.1 ∙ x.1.1 in (
         y.0,
         (
           y.1.0,

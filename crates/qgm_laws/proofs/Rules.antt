@@ -1,12 +1,8 @@
 -- M1, M2 and dropping boxes that are not reached keep what rules keep.
-use Rattle.std.proofs.Common.{ℕ, zero, suc, ◌==◌, ◌≡◌, cond, Bool, false, List, [], ◌∷◌, ◌++◌, length, map, get_or, Some, None, refl, sym, subst, ap, ap₂, ◌∙◌, inl, inr}
-use Rattle.std.specs.List.{list_any, flat_map}
-use Rattle.sql_value.specs.declared.cell.Cell.{Cell}
-use Rattle.sql_value.specs.declared.cell.Cell.TheVariants.{Null}
+use Rattle.std.proofs.Common.{◌≡◌, cond, Bool, List, [], ◌∷◌, ◌++◌, length, map, Some, None, refl, sym, subst, ap, ap₂, ◌∙◌}
+use Rattle.std.specs.List.{list_any}
 use Rattle.row_bag.specs.Bags.{Agree, bind, keep, unit}
-use Rattle.row_bag.specs.Order.{cell_of}
 use Rattle.row_bag.specs.Sets.{same_cells}
-use Rattle.row_bag.specs.declared.row.Row.{Row}
 use Rattle.row_bag.specs.declared.tables.Table.{Table}
 use Rattle.row_bag.proofs.Agreement.{alike-same}
 use Rattle.row_bag.proofs.BagLaws.{agreement-laws}
@@ -16,7 +12,7 @@ use Rattle.row_bag.proofs.Counts.{agree-from_alike}
 use Rattle.qgm_core.specs.declared.node.Node.{Node}
 use Rattle.qgm_core.specs.declared.owned.OwnedQuant.{OwnedQuant}
 use Rattle.qgm_core.specs.Boxes.{QueryGraph, is_quant, width}
-use Rattle.qgm_core.specs.Lists.{In, first, holds}
+use Rattle.qgm_core.specs.Lists.{first, holds}
 use Rattle.qgm_meaning.specs.Meaning.{bag_in, root_bag, given_by, once_if, over_each, quant_rows, rows_by, rows_found}
 use Rattle.qgm_terms.specs.Terms.{Cond, Term}
 use Rattle.qgm_terms.specs.Wanted.{reads, reads_cond}

@@ -54,7 +54,7 @@ type-of i (Some x) = ap (λ b. cond b None (joined_column (slice_get x.types (su
 length-known : (types : List SqlType) → length (known types) ≡ length types
 length-known types = length-map (λ (t : SqlType). Some t) types
 
-types-width : (at : Lookup) (k : BoxKind) (head : List Term) → length (types_by at k head) ≡ width_by k (length head)
+pub types-width : (at : Lookup) (k : BoxKind) (head : List Term) → length (types_by at k head) ≡ width_by k (length head)
 types-width at (Base table) head = length-known table.types
 types-width at Select head = length-map (term_type at) head
 types-width at (Group keys) head = length-map (term_type at) head

@@ -1,8 +1,7 @@
 -- Types that fit box by box are those that are looked up.
-use Rattle.std.proofs.Common.{ℕ, suc, zero, ◌==◌, ◌-◌, ◌≡◌, ◌&&◌, Bool, true, false, cond, List, [], ◌∷◌, length, Option, Some, None, refl, sym, ap, ap₂, subst, ◌∙◌, eqb-true}
+use Rattle.std.proofs.Common.{ℕ, suc, zero, ◌==◌, ◌-◌, ◌≡◌, ◌&&◌, Bool, true, false, cond, List, length, Option, Some, None, refl, sym, ap, ap₂, subst, ◌∙◌, eqb-true}
 use Rattle.std.specs.Prelude.{slice_get}
 use Rattle.std.specs.List.{flat_map, list_all}
-use Rattle.std.proofs.lemmas.Bool.{and_from, and_parts}
 use mathlib.Core.Path.{fun_ext}
 use Rattle.sql_value.specs.declared.order_key.SqlType.{SqlType}
 use Rattle.qgm_core.specs.Boxes.{is_box, owns, range_in}

@@ -1,5 +1,5 @@
 -- What the check finds where a box is put between a quantifier and the box that it ranges over.
-use Rattle.std.specs.Prelude.{ℕ, ◌≡◌, ◌==◌, ◌-◌, ◌++◌, ◌&&◌, ◌||◌, nat_lt, if◌then◌else◌, Bool, true, false, List, Option, Some, None, slice_get}
+use Rattle.std.specs.Prelude.{ℕ, ◌≡◌, ◌==◌, ◌-◌, ◌++◌, ◌&&◌, ◌||◌, nat_lt, if◌then◌else◌, Bool, true, false, List, Option, None, slice_get}
 use Rattle.std.specs.List.{list_all, list_any}
 use Rattle.sql_value.specs.declared.order_key.SqlType.{SqlType}
 use Rattle.qgm_check.specs.Columns.{columns_of, fits, over_box, places_fit, within}
@@ -40,7 +40,9 @@ own_box bs s q = over_box bs (first (is_quant q) s.quants)
 abbrev pub own_types : List Node → Node → Lookup
 own_types bs s q k = type_found (types_of bs) k (own_box bs s q)
 
--- quantifier r of o, a select that isn't fed, moves onto s, which ranges over r's box: s isn't fed, names its own quantifiers, and has types, columns and its shape over the boxes as they were, and the columns that are named of r with their types; what S quantifiers range over has a column, and what is counted isn't PERMIT
+-- quantifier r of o, a select that isn't fed, moves onto s, which ranges over r's box
+-- s isn't fed, names its own quantifiers, and has types, columns and its shape over the boxes as they were, and the columns that are named of r with their types
+-- what S quantifiers range over has a column, and what is counted isn't PERMIT
 pub record MayInterpose (xs ys : List Node) (root : ℕ) (s o c : Node) (r : OwnedQuant) : Type 0 where
   pub interposes : Interposes xs ys root s o c r
   pub select : o.parts.kind ≡ Select

@@ -1,5 +1,5 @@
 -- What the check finds after an edit of a graph against which it finds nothing: nothing, at the edit's condition.
-use Rattle.std.specs.Prelude.{ℕ, ◌≡◌, ◌==◌, ◌≤◌, ◌++◌, ◌||◌, nat_lt, Bool, true, false, List, [], ◌∷◌, length, None}
+use Rattle.std.specs.Prelude.{ℕ, ◌≡◌, ◌==◌, ◌≤◌, ◌++◌, ◌||◌, nat_lt, true, false, List, ◌∷◌, length, None}
 use Rattle.qgm_check.specs.Columns.{columns_fit}
 use Rattle.qgm_check.specs.Shapes.{shape_fits}
 use Rattle.qgm_check.specs.Types.{lookup_of, term_type}

@@ -30,7 +30,9 @@ FedAlone bs =
 abbrev pub Stood : List Node → OwnedQuant → Type 0
 Stood bs r = (o : Node) × (In o bs × ((s : OwnedQuant) × (In s o.quants × ((s.id ≡ r.id) × (types_at bs s.over ≡ types_at bs r.over)))))
 
--- each box of hs is one of bs, changed: its number and the types of its columns stay, and whether it is magic; a quantifier that is named stood before; over the boxes of bs each has types, columns and its shape. What an S quantifier ranges over has a column; no F or S quantifier ranges over a PERMIT box, which isn't the root
+-- each box of hs is one of bs, changed: its number and the types of its columns stay, and whether it is magic; a quantifier that is named stood before
+-- over the boxes of bs each has types, columns and its shape
+-- what an S quantifier ranges over has a column; no F or S quantifier ranges over a PERMIT box, which isn't the root
 pub record Reforms (bs hs : List Node) (root : ℕ) (g : Node → Node) : Type 0 where
   pub from : (n : Node) → In n hs → (y : Node) × (In y bs × (g y ≡ n))
   pub id : (y : Node) → (g y).id ≡ y.id
