@@ -77,3 +77,4 @@ pub mod Conjuncts
 pub mod AllColumns
 pub mod PairLocal
 pub mod InterposedForms
+pub mod AddedForms

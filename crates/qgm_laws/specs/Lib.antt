@@ -23,3 +23,4 @@ pub mod Asked
 pub mod MergePermit
 pub mod FormedEdits
 pub mod FormedAdds
+pub mod FormedBox

@@ -1,3 +1,4 @@
+use Rattle.qgm_laws.proofs.AddedForms.{add-box-formed}
 use Rattle.qgm_laws.proofs.BelowForms.{move-below-formed}
 use Rattle.qgm_laws.proofs.BoxForms.{boxes-formed}
 use Rattle.qgm_laws.proofs.DistinctForms.{reserve-formed, set-distinct-formed}
@@ -35,3 +36,6 @@ returns-clause-push c = push-formed
 
 pub returns-clause-interposed : goal.returns-clause-interposed
 returns-clause-interposed c = interposed-formed
+
+pub returns-clause-add_box : goal.returns-clause-add_box
+returns-clause-add_box c = add-box-formed
