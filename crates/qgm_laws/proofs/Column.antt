@@ -93,7 +93,7 @@ module _ (p k q j : ℕ) where
 abbrev pub shift_each : ℕ → List ℕ → Node → Node
 shift_each k qs n = each (shift_node k) qs n
 
-abbrev place_each : ℕ → List ℕ → ℕ → ℕ → ℕ
+abbrev pub place_each : ℕ → List ℕ → ℕ → ℕ → ℕ
 place_each k [] q i = i
 place_each k (p ∷ qs) q i = place_each k qs q (shifted_place p k q i)
 
@@ -153,7 +153,7 @@ module _ (k : ℕ) where
       one OuterJoin b = tt
 
   -- a quantifier that isn't among these keeps its places
-  place-stays : (qs : List ℕ) (q i : ℕ) → times q qs ≡ 0 → place_each k qs q i ≡ i
+  pub place-stays : (qs : List ℕ) (q i : ℕ) → times q qs ≡ 0 → place_each k qs q i ≡ i
   place-stays [] q i h = refl
   place-stays (p ∷ qs) q i h = elim (cases_Bool (p == q)) [
     | inl t ↦ absurd (let a : ◌≡◌ {A = ℕ} (cond (p == q) 1 0) 1 = ap (λ (b : Bool). cond {A = ℕ} b 1 0) t in omega arith)
@@ -162,7 +162,7 @@ module _ (k : ℕ) where
         ap (λ (b : Bool). place_each k qs q (cond (b && nat_lt k i) (i - 1) i)) (eq-false-sym p q f) ∙ place-stays qs q i (omega arith))
   ]
 
-  place-goes : (qs : List ℕ) (q i : ℕ) → times q qs ≡ 1 → place_each k qs q i ≡ cond (nat_lt k i) (i - 1) i
+  pub place-goes : (qs : List ℕ) (q i : ℕ) → times q qs ≡ 1 → place_each k qs q i ≡ cond (nat_lt k i) (i - 1) i
   place-goes [] q i h = absurd (omega arith)
   place-goes (p ∷ qs) q i h = elim (cases_Bool (p == q)) [
     | inl t ↦ (
@@ -223,35 +223,35 @@ length-remove (x ∷ xs) (suc i) h = let e = length-remove xs i (omega arith) in
 
 module _ (bs : List Node) (root : ℕ) (w : Sound bs root) (b : Node) (k : ℕ) (m : LosesColumn bs b k) where
   -- the quantifiers over b
-  abbrev qs : List ℕ
+  abbrev pub qs : List ℕ
   qs = map (λ (r : OwnedQuant). r.id) (filter (λ r. r.over == b.id) (all_quants bs))
 
-  abbrev cut : Node → Node
+  abbrev pub cut : Node → Node
   cut = at b.id (without_cell (k - 1))
 
-  abbrev g : Node → Node
+  abbrev pub g : Node → Node
   g y = shift_each k qs (cut y)
 
-  cut-id : (y : Node) → (cut y).id ≡ y.id
+  pub cut-id : (y : Node) → (cut y).id ≡ y.id
   cut-id y = elim (y.id == b.id) as (λ t. ◌≡◌ {A = ℕ} (cond t (without_cell (k - 1) y) y).id y.id) [ true ↦ refl | false ↦ refl ]
 
-  cut-quants : (y : Node) → (cut y).quants ≡ y.quants
+  pub cut-quants : (y : Node) → (cut y).quants ≡ y.quants
   cut-quants y = elim (y.id == b.id) as (λ t. ◌≡◌ {A = List OwnedQuant} (cond t (without_cell (k - 1) y) y).quants y.quants) [ true ↦ refl | false ↦ refl ]
 
-  cut-kind : (y : Node) → (cut y).parts.kind ≡ y.parts.kind
+  pub cut-kind : (y : Node) → (cut y).parts.kind ≡ y.parts.kind
   cut-kind y = elim (y.id == b.id) as (λ t. ◌≡◌ {A = BoxKind} (cond t (without_cell (k - 1) y) y).parts.kind y.parts.kind) [ true ↦ refl | false ↦ refl ]
 
-  g-id : (y : Node) → (g y).id ≡ y.id
+  pub g-id : (y : Node) → (g y).id ≡ y.id
   g-id y = each-id k qs (cut y) ∙ cut-id y
 
-  g-quants : (y : Node) → (g y).quants ≡ y.quants
+  pub g-quants : (y : Node) → (g y).quants ≡ y.quants
   g-quants y = each-quants k qs (cut y) ∙ cut-quants y
 
-  g-kind : (y : Node) → (g y).parts.kind ≡ y.parts.kind
+  pub g-kind : (y : Node) → (g y).parts.kind ≡ y.parts.kind
   g-kind y = each-kind k qs (cut y) ∙ cut-kind y
 
   -- what is found with a cell less is found
-  less-read : (p : Term → Bool) (c : Cond → Bool) (y : Node) → (list_any p (cut y).parts.head || list_any c (cut y).parts.conds.items) ≡ true → (list_any p y.parts.head || list_any c y.parts.conds.items) ≡ true
+  pub less-read : (p : Term → Bool) (c : Cond → Bool) (y : Node) → (list_any p (cut y).parts.head || list_any c (cut y).parts.conds.items) ≡ true → (list_any p y.parts.head || list_any c y.parts.conds.items) ≡ true
   less-read p c y t = elim (y.id == b.id) as (λ z. (list_any p (cond z (without_cell (k - 1) y) y).parts.head || list_any c (cond z (without_cell (k - 1) y) y).parts.conds.items) ≡ true → (list_any p y.parts.head || list_any c y.parts.conds.items) ≡ true) [
     | true ↦ λ t. elim (or_cases (list_any p (remove y.parts.head (k - 1))) (list_any c y.parts.conds.items) t) [ inl a ↦ or-left (list_any p y.parts.head) (list_any c y.parts.conds.items) (any-remove p (k - 1) y.parts.head a) | inr a ↦ or-right (list_any p y.parts.head) (list_any c y.parts.conds.items) a ]
     | false ↦ λ t. t
@@ -291,14 +291,14 @@ module _ (bs : List Node) (root : ℕ) (w : Sound bs root) (b : Node) (k : ℕ) 
       by OuterJoin x = refl
 
   -- how often a quantifier stands among those over b
-  over-b : (o : Node) (r : OwnedQuant) → In o bs → In r o.quants → r.over ≡ b.id → times r.id qs ≡ 1
+  pub over-b : (o : Node) (r : OwnedQuant) → In o bs → In r o.quants → r.over ≡ b.id → times r.id qs ≡ 1
   over-b o r i j e =
       let a = few-filtered r.id (λ r. r.over == b.id) (all_quants bs) in
       let c : times r.id (map (λ (r : OwnedQuant). r.id) (all_quants bs)) ≡ times r.id (ids_in bs) = ap (times r.id) (ids-all bs) in
       let d = w.once r.id in
       let f = in-times (λ (r : OwnedQuant). r.id) r (filter (λ r. r.over == b.id) (all_quants bs)) (in-filtered (λ r. r.over == b.id) (all_quants bs) r (in-all o r bs i j) (eq-eqb r.over b.id e)) in omega arith
 
-  not-over : (o : Node) (r : OwnedQuant) → In o bs → In r o.quants → (r.over == b.id) ≡ false → times r.id qs ≡ 0
+  pub not-over : (o : Node) (r : OwnedQuant) → In o bs → In r o.quants → (r.over == b.id) ≡ false → times r.id qs ≡ 0
   not-over o r i j f = elim (zero-or (times r.id qs)) [
     | inl e ↦ e
     | inr h ↦ (
@@ -404,7 +404,7 @@ module _ (bs : List Node) (root : ℕ) (w : Sound bs root) (b : Node) (k : ℕ) 
         (subst (λ c. (own_seen y.parts.kind y q || loose bs c q) ≡ true) (sym (g-id y)) ((scoped-of bs root w y i).own q (g-reads y q t))));
   }
 
-  column-sound : Sound (map g bs) root
+  pub column-sound : Sound (map g bs) root
   column-sound = changed-sound bs root g w.ordered w.rooted changes (loose bs) scoped-g
       (λ y i q t. w.settled y i q (subst (λ rs. list_any (is_quant q) rs ≡ true) (g-quants y) t))
       (λ c q t. overs-same c ∙ w.used c q t)
@@ -415,12 +415,14 @@ module _ (bs : List Node) (root : ℕ) (w : Sound bs root) (b : Node) (k : ℕ) 
       ap₂ (λ (rs : List OwnedQuant) (z : List ℕ). ids_over b.id rs ++ z) (cut-quants n) (quants-cut ns)
       ∙ sym (map-append (λ (r : OwnedQuant). r.id) (filter (λ r. r.over == b.id) n.quants) (filter (λ r. r.over == b.id) (all_quants ns))) ∙ ap (map (λ (r : OwnedQuant). r.id)) (sym (filter-append (λ r. r.over == b.id) n.quants (all_quants ns)))
 
-  -- by the edit's equation
-  pub dropped-column : (h : QueryGraph) → h.boxes ≡ bs → Sound (drop_column b.id k h).boxes root
-  dropped-column h e = subst (λ z. Sound (shifted_over b.id k (change (is_box b.id) (without_cell (k - 1)) z)) root) (sym e)
-      (subst (λ z. Sound (shifted_over b.id k z) root) (sym (change-at b.id (without_cell (k - 1)) bs (once-each bs w.ordered)))
-      (subst (λ z. Sound (each (shift_boxes k) z (map cut bs)) root) (sym (quants-cut bs)) (subst (λ z. Sound z root) (sym (each-is k qs (map cut bs) ∙ fuse bs)) column-sound)))
+  pub column-boxes : shifted_over b.id k (change (is_box b.id) (without_cell (k - 1)) bs) ≡ map g bs
+  column-boxes =
+      ap (shifted_over b.id k) (change-at b.id (without_cell (k - 1)) bs (once-each bs w.ordered)) ∙ ap (λ z. each (shift_boxes k) z (map cut bs)) (quants-cut bs) ∙ (each-is k qs (map cut bs) ∙ fuse bs)
     where
       fuse : (ns : List Node) → map (shift_each k qs) (map cut ns) ≡ map g ns
       fuse [] = refl
       fuse (n ∷ ns) = ap (λ z. g n ∷ z) (fuse ns)
+
+  -- by the edit's equation
+  pub dropped-column : (h : QueryGraph) → h.boxes ≡ bs → Sound (drop_column b.id k h).boxes root
+  dropped-column h e = subst (λ z. Sound (shifted_over b.id k (change (is_box b.id) (without_cell (k - 1)) z)) root) (sym e) (subst (λ z. Sound z root) (sym column-boxes) column-sound)

@@ -51,7 +51,7 @@ use Rattle.qgm_laws.proofs.TypesBy.{Types, agrees-alike, agrees_by, arms_by, fou
 use Rattle.qgm_laws.proofs.WellFormedKept.{numbers-once}
 
 -- a box names the quantifier of a column whose type it asks for
-asked-named : (q k : ℕ) (n : Node) → types_asked q k n ≡ true → holds q (named_by n) ≡ true
+pub asked-named : (q k : ℕ) (n : Node) → types_asked q k n ≡ true → holds q (named_by n) ≡ true
 asked-named q k n h = named-any q n ∙ (elim (or_cases (list_any (any_in (of_column q k)) n.parts.head) (list_any (any_in_cond (of_column q k)) n.parts.conds.items) h) [
   | inl a ↦ or-left (list_any (says q) n.parts.head) (list_any (says_cond q) n.parts.conds.items) (heads-more (λ r j. (r == q) && (j == k)) (λ r j. r == q) (λ r. (r == q) && (1 == k)) (λ r. r == q) (λ r. false) (λ r. r == q) (λ r. true) (λ r. true) (λ r j h. (and_parts (r == q) (j == k) h).0) (λ r h. (and_parts (r == q) (1 == k) h).0) (λ r h. absurd (let z : ⊥ = cc in z)) (λ r h. h) n.parts.head a)
   | inr a ↦ or-right (list_any (says q) n.parts.head) (list_any (says_cond q) n.parts.conds.items) (conds-more (λ r j. (r == q) && (j == k)) (λ r j. r == q) (λ r. (r == q) && (1 == k)) (λ r. r == q) (λ r. false) (λ r. r == q) (λ r. true) (λ r. true) (λ r j h. (and_parts (r == q) (j == k) h).0) (λ r h. (and_parts (r == q) (1 == k) h).0) (λ r h. absurd (let z : ⊥ = cc in z)) (λ r h. h) n.parts.conds.items a)

@@ -78,3 +78,4 @@ pub mod AllColumns
 pub mod PairLocal
 pub mod InterposedForms
 pub mod AddedForms
+pub mod ColumnTypes

@@ -24,3 +24,4 @@ pub mod MergePermit
 pub mod FormedEdits
 pub mod FormedAdds
 pub mod FormedBox
+pub mod FormedColumn

@@ -4,6 +4,7 @@ ghost use Rattle.qgm_laws.specs.EditLaws.{EditsPlaced, NewPlaced};
 ghost use Rattle.qgm_laws.specs.Examples.{Dropped, Same};
 ghost use Rattle.qgm_laws.specs.FormedAdds.{InterposedWellFormed};
 ghost use Rattle.qgm_laws.specs.FormedBox.{AddBoxWellFormed};
+ghost use Rattle.qgm_laws.specs.FormedColumn.{DropColumnTyped};
 ghost use Rattle.qgm_laws.specs.FormedEdits.{EditsWellFormed, PushWellFormed};
 ghost use Rattle.qgm_laws.specs.MergeDistinct.{MergeDistinctKeeps};
 ghost use Rattle.qgm_laws.specs.MergePermit.{ClosedMerges, MergeAny, MergePermitKeeps, PermitRead};
@@ -85,4 +86,5 @@ pub fn form_laws()
     ensures push { PushWellFormed }
     ensures interposed { InterposedWellFormed }
     ensures add_box { AddBoxWellFormed }
+    ensures drop_column_typed { DropColumnTyped }
 {}

@@ -1,6 +1,7 @@
 use Rattle.qgm_laws.proofs.AddedForms.{add-box-formed}
 use Rattle.qgm_laws.proofs.BelowForms.{move-below-formed}
 use Rattle.qgm_laws.proofs.BoxForms.{boxes-formed}
+use Rattle.qgm_laws.proofs.ColumnTypes.{drop-column-typed}
 use Rattle.qgm_laws.proofs.DistinctForms.{reserve-formed, set-distinct-formed}
 use Rattle.qgm_laws.proofs.EditForms.{add-quant-formed, drop-quant-formed, put-quant-formed, redirect-formed}
 use Rattle.qgm_laws.proofs.InterposedForms.{interposed-formed}
@@ -39,3 +40,6 @@ returns-clause-interposed c = interposed-formed
 
 pub returns-clause-add_box : goal.returns-clause-add_box
 returns-clause-add_box c = add-box-formed
+
+pub returns-clause-drop_column_typed : goal.returns-clause-drop_column_typed
+returns-clause-drop_column_typed c = drop-column-typed
