@@ -114,14 +114,14 @@ module _ (kinds : List ℕ → List SqlType) (sources : Sources) (counted : (nam
   map-bound (fr ∷ m) (suc s) p n k h = and-right (fresh_in n fr) (fresh n m) (map-bound m s p n k h)
 
   -- the types of these columns are told
-  columns-told : (K : ℕ → ℕ → SqlType → Type 0) → ((n k : ℕ) (a : SqlType) → K n k a → sources.typed (t.col n k) ≡ a) → (fr : Frame) (types : List SqlType) → Cols K fr types → Refs fr → map sources.typed (map ref_term fr) ≡ types
+  pub columns-told : (K : ℕ → ℕ → SqlType → Type 0) → ((n k : ℕ) (a : SqlType) → K n k a → sources.typed (t.col n k) ≡ a) → (fr : Frame) (types : List SqlType) → Cols K fr types → Refs fr → map sources.typed (map ref_term fr) ≡ types
   columns-told K f [] types h o = sym h
   columns-told K f (r ∷ fr) [] h o = absurd h
   columns-told K f (column n k ∷ fr) (a ∷ types) h o = ap₂ (λ z zs. z ∷ zs) (f n k a h.0) (columns-told K f fr types h.1 o)
   columns-told K f (nothing ∷ fr) (a ∷ types) h o = absurd o
   columns-told K f (none_counted ∷ fr) (a ∷ types) h o = absurd o
 
-  all-refs : (n i w : ℕ) → Refs (refs n i w)
+  pub all-refs : (n i w : ℕ) → Refs (refs n i w)
   all-refs n i zero = tt
   all-refs n i (suc w) = all-refs n (suc i) w
 

@@ -24,6 +24,12 @@ use Rattle.built_queries.proofs.LaidTold.{laid-told}
 use Rattle.built_queries.proofs.OneToOne.{are-one-to-one}
 use Rattle.built_queries.proofs.Passes.{root-reaches}
 use Rattle.built_queries.proofs.Roots.{valid_rows}
+use Rattle.built_queries.proofs.SchemaSources.{schema_sources_typed}
+use Rattle.built_queries.proofs.Together.{same-graphs}
+use Rattle.built_queries.proofs.TypingSchemas.{text_has_types}
+use Rattle.built_queries.specs.Alike.{SameButNumbers}
+use Rattle.built_queries.specs.Typing.{kinds_of}
+use Rattle.query_checks.specs.Views.{heads_of}
 
 pub graph_right : (catalog : Declared) (text : s.QueryText) (names : List (Option (List ℕ))) (order : List OrderKey) (g : QueryGraph) → ValidQuery catalog text → IsGraphOf catalog text names order g → IsRight catalog text g
 graph_right catalog text names order g valid is =
@@ -65,3 +71,8 @@ graphs_one_to_one catalog text names order g h first second =
     are-one-to-one (sources_of catalog first.shared first.typed) second.shared second.typed (query (schema_columns catalog) [] text.query) names order g h
     (record { built = first.built; ordered = first.stands.ordered; once = first.stands.once; there = first.there })
     (record { built = second.built; ordered = second.stands.ordered; once = second.stands.once; there = second.there })
+
+pub graphs_alike : (catalog : Declared) (text : s.QueryText) (names : List (Option (List ℕ))) (order : List OrderKey) (g h : QueryGraph) → ValidQuery catalog text → IsGraphOf catalog text names order g → IsGraphOf catalog text names order h → SameButNumbers g h
+graphs_alike catalog text names order g h valid first second =
+    same-graphs (kinds_of (heads_of catalog)) (sources_of catalog first.shared first.typed) second.shared second.typed (query (schema_columns catalog) [] text.query) (stated_types catalog text) names order g h first.built second.built
+    first.stands.ordered second.stands.ordered first.stands.once second.stands.once (schema_sources_typed catalog first.shared first.typed valid.schema) first.stands.told second.stands.told (text_has_types catalog valid.schema text valid.grammar valid.valid)

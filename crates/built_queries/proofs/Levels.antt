@@ -25,7 +25,7 @@ use Rattle.qgm_laws.proofs.Scope.{in-first}
 use Rattle.qgm_laws.proofs.Times.{in-times, times-in, times-once}
 use Rattle.qgm_laws.proofs.Turns.{first-own}
 use Rattle.built_queries.proofs.Parts.{CellIs, Cells, Fit, Folds, Heads, Is, all-append, names-pass, node_of}
-use Rattle.built_queries.proofs.TypesFollow.{fit-is, type-is}
+use Rattle.built_queries.proofs.TypesFollow.{fit-is, local-follows, type-is}
 use Rattle.built_queries.proofs.Frames.{At}
 use Rattle.built_queries.proofs.Boxes as boxes
 
@@ -87,12 +87,12 @@ first-typed bs table (m ∷ ns) b n h = elim (m.id == b) as (λ c. cond c (Some 
     or_node d None = d
     or_node d (Some y) = y
 
-at-get : (types : List SqlType) (i : ℕ) (a : SqlType) → At types i a → joined_column (slice_get (known types) i) ≡ Some a
+pub at-get : (types : List SqlType) (i : ℕ) (a : SqlType) → At types i a → joined_column (slice_get (known types) i) ≡ Some a
 at-get [] i a h = absurd h
 at-get (x ∷ types) zero a h = ap Some h
 at-get (x ∷ types) (suc i) a h = at-get types i a h
 
-type_of-found : (k i : ℕ) (o : Option Typed) → k ≡ suc i → type_in k o ≡ joined_column (slice_get (types_found o) i)
+pub type_of-found : (k i : ℕ) (o : Option Typed) → k ≡ suc i → type_in k o ≡ joined_column (slice_get (types_found o) i)
 type_of-found k i None e = refl
 type_of-found k i (Some x) e =
     ap (λ z. cond (z == 0) None (joined_column (slice_get x.types (z - 1)))) e ∙ ap (λ b. cond b None (joined_column (slice_get x.types (suc i - 1)))) (eqb-suc-zero i)
@@ -259,37 +259,6 @@ module _ (bs : List Node) (ordered : Ordered bs) (once : (q : ℕ) → times q (
         pub cond-typed : (c : Cond) → Fit K N J c → cond_fits at c ≡ true
         cond-typed c h = fit-is K N J at at-column at-inner c h
 
-        heads-typed : (xs : List Term) (types : List SqlType) → Heads K N J xs types → map (term_type at) xs ≡ known types
-        heads-typed [] types h = ap known (sym h)
-        heads-typed (x ∷ xs) [] h = absurd h
-        heads-typed (x ∷ xs) (a ∷ types) h = ap₂ (λ z zs. z ∷ zs) (term-typed x a h.0) (heads-typed xs types h.1)
-
-        folded-typed : (f : t.Aggregate) (v a : SqlType) → Folds K N J f v a → aggregate_type f (Some v) ≡ Some a
-        folded-typed t.single v a h = ap Some (sym h)
-        folded-typed t.count v a h = ap Some (sym h)
-        folded-typed t.sum v a h = ap (λ z. integer_if (is_integer (Some z))) h.0 ∙ ap Some (sym h.1)
-        folded-typed t.avg v a h = ap (λ z. integer_if (is_integer (Some z))) h.0 ∙ ap Some (sym h.1)
-        folded-typed t.least v a h = ap Some (sym h)
-        folded-typed t.greatest v a h = ap Some (sym h)
-
-        cell-typed : (x : Term) (a : SqlType) → CellIs K N J x a → term_type at x ≡ Some a
-        cell-typed (t.int n) a h = ap Some (sym h)
-        cell-typed (t.text x) a h = ap Some (sym h)
-        cell-typed t.null_int a h = ap Some (sym h)
-        cell-typed t.null_text a h = ap Some (sym h)
-        cell-typed (t.col n k) a h = term-typed (t.col n k) a h
-        cell-typed (t.scalar n) a h = term-typed (t.scalar n) a h
-        cell-typed (t.both op x y) a h = term-typed (t.both op x y) a h
-        cell-typed (t.minus_of x) a h = term-typed (t.minus_of x) a h
-        cell-typed (t.choose s x) a h = term-typed (t.choose s x) a h
-        cell-typed t.count_all a h = ap Some (sym h)
-        cell-typed (t.fold f d x) a h = ap (aggregate_type f) (term-typed x h.0 h.1.0) ∙ folded-typed f h.0 a h.1.1
-
-        cells-typed : (xs : List Term) (types : List SqlType) → Cells K N J xs types → map (term_type at) xs ≡ known types
-        cells-typed [] types h = ap known (sym h)
-        cells-typed (x ∷ xs) [] h = absurd h
-        cells-typed (x ∷ xs) (a ∷ types) h = ap₂ (λ z zs. z ∷ zs) (cell-typed x a h.0) (cells-typed xs types h.1)
-
     -- a box whose head is known after e steps is known after one more
     local-settled : (e : ℕ) (m : Map) (n : Node) (types : List SqlType) (kind : BoxKind) → LocalBy e m n types kind → list_all (under (settled e)) (flat_map names_in n.parts.head) ≡ true
     local-settled e m n types (Base table) h = ap (λ z. list_all (under (settled e)) (flat_map names_in z)) h.1.1
@@ -299,11 +268,7 @@ module _ (bs : List Node) (ordered : Ordered bs) (once : (q : ℕ) → times q (
     local-settled e m n types OuterJoin h = heads-settled e n.quants m n.parts.head types h.0
 
     pub local-typed : (e : ℕ) (m : Map) (n : Node) (types : List SqlType) (kind : BoxKind) → LocalBy e m n types kind → (at : ℕ → ℕ → Option SqlType) → ((q k : ℕ) (a : SqlType) → Column e q k a → at q k ≡ Some a) → types_by at kind n.parts.head ≡ known types
-    local-typed e m n types (Base table) h at f = ap known (sym h.0)
-    local-typed e m n types Select h at f = heads-typed e n.quants m at (λ q k a z. f q k a z.0) (λ q a z. f q 1 a z) n.parts.head types h.0
-    local-typed e m n types (Group keys) h at f = cells-typed e n.quants m at (λ q k a z. f q k a z.0) (λ q a z. f q 1 a z) n.parts.head types h.0
-    local-typed e m n types (SetOp operator columns) h at f = ap known h.0
-    local-typed e m n types OuterJoin h at f = heads-typed e n.quants m at (λ q k a z. f q k a z.0) (λ q a z. f q 1 a z) n.parts.head types h.0
+    local-typed = local-follows kinds sources counted Over more Ranges
 
     pub close : (e : ℕ) (m : Map) (n : Node) (types : List SqlType) → In n bs → LocalIs e m n types → Over (suc e) n.id types
     close e m n types i h =

@@ -48,7 +48,9 @@ mod Stated
 pub mod Telling
 pub mod TermsAre
 mod Tests
+pub mod Together
 pub mod ToldAlike
+pub mod TypesAlike
 pub mod TypesFollow
 mod Typing
 mod TypingSchemas

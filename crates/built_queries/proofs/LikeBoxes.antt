@@ -3,7 +3,7 @@ use Rattle.std.proofs.Common.{◌≡◌, ℕ, zero, suc, List, [], ◌∷◌, �
 use Rattle.sql_value.specs.declared.order_key.SqlType.{SqlType}
 use Rattle.sql_meaning.specs.ResolvedTrees.{From, Froms, Query, Test, Values}
 use Rattle.sql_meaning.specs.ResolvedTrees as q
-use Rattle.qgm_core.specs.declared.kinds.BoxKind.TheVariants.{SetOp}
+use Rattle.qgm_core.specs.declared.kinds.BoxKind.TheVariants.{Select, SetOp}
 use Rattle.qgm_core.specs.declared.kinds.Distinct.{Distinct}
 use Rattle.qgm_core.specs.declared.kinds.SetOperator as forms
 use Rattle.qgm_core.specs.declared.node.Node.{Node}
@@ -18,18 +18,22 @@ use Rattle.qgm_shown.specs.Shown.{Thing, of_groups, of_operand, of_query, of_row
 use Rattle.qgm_shown.specs.Sources.{Sources, from_width}
 use Rattle.qgm_shown.specs.Terms as l
 use Rattle.built_queries.specs.Alike.{Like, LikeBox, LikeConds, LikeHeads, like_int}
+use Rattle.query_checks.proofs.Members.{Each, each_left, each_right}
 use Rattle.built_queries.proofs.LikeParts as parts
-use Rattle.built_queries.proofs.LikeParts.{LikeThing, Pairs, all-on-like, all-ons-like, fold-cells, fold-terms, frame-both, frame-heads, froms-like, heads-both, keys-like, like-conds, like-heads, like-quants, like_groups, like_rows, on-like, past-all-pairs, plain-cells, refs-like, rest-pairs, same_operand, same_query, subs-served, types-same, width-same}
-use Rattle.built_queries.proofs.LikeTerms.{LikeFrame, LikeLeaves, LikeMap, Served, at-like, conds-both, leaves-both, like_aggregate, like_counted, like_sub, list-like, no_leaf, ref-like, served-both, term-like, terms-like, test-like}
+use Rattle.built_queries.proofs.LikeParts.{LikeThing, Pairs, all-on-like, all-ons-like, fold-cells, fold-terms, frame-both, frame-heads, froms-like, heads-both, keys-like, like-conds, like-heads, like-quants, like_groups, like_rows, on-like, past-all-pairs, plain-cells, refs-like, rest-pairs, same_operand, same_query, subs-served, width-same}
+use Rattle.built_queries.proofs.LikeTerms.{LikeFrame, LikeLeaves, LikeMap, Parted, Served, at-like, conds-both, leaves-both, like_aggregate, like_counted, like_sub, list-like, no_leaf, ref-like, served-both, term-like, terms-like, test-like}
 
-module _ (R : ℕ → ℕ → Type 0) (s : Sources) (shared : List ℕ → ℕ) (typed : Term → SqlType) (Below Above : ℕ → Thing → Map → Type 0) (told : (x y : Term) → Like R x y → s.typed x ≡ typed y) (a c : Node) (pairs : Pairs R a.quants c.quants)
-    (kids : parts.Kids R s shared typed Below Above a.quants c.quants) where
+-- T, S, C: a property of expressions, of the arms of a CASE and of conditions; the head of a select and all conditions have it; types: set operations have columns of the same types
+module _ (R : ℕ → ℕ → Type 0) (s : Sources) (shared : List ℕ → ℕ) (typed : Term → SqlType) (Below Above : ℕ → Thing → Map → Type 0) (T : Term → Type 0) (S : t.Arms → Type 0) (C : Cond → Type 0) (parted : Parted T S C)
+    (told : (x y : Term) → T x → Like R x y → s.typed x ≡ typed y) (a c : Node) (pairs : Pairs R a.quants c.quants) (kids : parts.Kids R s shared typed Below Above a.quants c.quants) (head : a.parts.kind ≡ Select → Each T a.parts.head)
+    (conds : Each C a.parts.conds.items)
+    (types : (form : forms.SetOperator) (u : ℕ) (o b p d : OwnedQuant) → a.parts.kind ≡ SetOp form (map s.typed (v.columns_of o.id 1 u)) → a.quants ≡ o ∷ b ∷ [] → c.quants ≡ p ∷ d ∷ [] → map s.typed (v.columns_of o.id 1 u) ≡ map typed (v.columns_of p.id 1 u)) where
   abbrev z : Sources
   z = record s { shared = shared; typed = typed }
 
   module _ (m n : Map) (round : LikeMap R m n) where
     select-like : (d : Distinct) (from : Froms) (by : Test) (heads : Frame → List Leaf) (list other : Frame → Slots → List Term) → v.ShowsSelect s Below d from by heads list m a → v.ShowsSelect z Above d from by heads other n c
-        → ((f g : Frame) → LikeFrame R f g → LikeLeaves R (heads f) (heads g)) → ((f g : Frame) → LikeFrame R f g → f ≡ v.frame_all s from a.quants → g ≡ v.frame_all z from c.quants → (sl tl : Slots) → Served R (heads f) sl tl → LikeHeads R (list f sl) (other g tl)) → LikeBox R a c
+        → ((f g : Frame) → LikeFrame R f g → LikeLeaves R (heads f) (heads g)) → ((f g : Frame) → LikeFrame R f g → f ≡ v.frame_all s from a.quants → g ≡ v.frame_all z from c.quants → (sl tl : Slots) → Served R (heads f) sl tl → Each T (list f sl) → LikeHeads R (list f sl) (other g tl)) → LikeBox R a c
     select-like d from by heads list other h k apart items =
         let os = a.quants in
         let ps = c.quants in
@@ -51,23 +55,25 @@ module _ (R : ℕ → ℕ → Type 0) (s : Sources) (shared : List ℕ → ℕ) 
         let y = served-both R (v.all_on_leaves s from os) (v.all_on_leaves z from ps) (w.test_leaves f by) sm tm on x.1 in
         let sn = after (v.all_on_leaves s from os) sm in
         let tn = after (v.all_on_leaves z from ps) tm in
+        let all : Each C (v.all_ons s m from os sm ++ l.split (l.cond s f m sn by)) = subst (Each C) h.conds conds in
         record {
           kind = h.kind ∙ sym k.kind;
           distinct = h.plain.distinctness ∙ sym k.plain.distinctness;
           role = h.plain.role ∙ sym k.plain.role;
-          head = like-heads R a.parts.head c.parts.head (list f sl) (other g tl) h.head k.head (items f g own refl refl sl tl x.0);
+          head = like-heads R a.parts.head c.parts.head (list f sl) (other g tl) h.head k.head (items f g own refl refl sl tl x.0 (subst (Each T) h.head (head h.kind)));
           conds =
               like-conds R a.parts.conds.items c.parts.conds.items (v.conds_of s from by heads m os sl) (v.conds_of z from by heads n ps tl) h.conds k.conds
-              (conds-both R (v.all_ons s m from os sm) (l.split (l.cond s f m sn by)) (v.all_ons z n from ps tm) (l.split (l.cond z g n tn by)) (all-ons-like R s shared typed Below Above m n round told from os ps sm tm h.froms k.froms pairs y.0)
-              (on-like R s shared typed Below Above m n round told f g sn tn by own y.1));
+              (conds-both R (v.all_ons s m from os sm) (l.split (l.cond s f m sn by)) (v.all_ons z n from ps tm) (l.split (l.cond z g n tn by)) 
+              (all-ons-like R s shared typed Below Above m n round T S C parted told from os ps sm tm h.froms k.froms pairs y.0 (each_left C (v.all_ons s m from os sm) (l.split (l.cond s f m sn by)) all))
+              (on-like R s shared typed Below Above m n round T S C parted told f g sn tn by own y.1 (each_right C (v.all_ons s m from os sm) (l.split (l.cond s f m sn by)) all)));
           quants = like-quants R s shared typed Below Above a.quants c.quants kids;
         }
 
-    upper-like : (list : Values) (from : Froms) (by : Test) (places : List ℕ) (u : ℕ) (having : Test) (os ps : List OwnedQuant) → Pairs R os ps → v.Upper s Below list from by places u having m a os → v.Upper z Above list from by places u having n c ps
+    upper-like : a.parts.kind ≡ Select → (list : Values) (from : Froms) (by : Test) (places : List ℕ) (u : ℕ) (having : Test) (os ps : List OwnedQuant) → Pairs R os ps → v.Upper s Below list from by places u having m a os → v.Upper z Above list from by places u having n c ps
         → LikeHeads R a.parts.head c.parts.head × LikeConds R a.parts.conds.items c.parts.conds.items
-    upper-like list from by places u having [] ps e h k = absurd h
-    upper-like list from by places u having (o ∷ os) [] e h k = absurd k
-    upper-like list from by places u having (o ∷ os) (p ∷ ps) e h k =
+    upper-like sel list from by places u having [] ps e h k = absurd h
+    upper-like sel list from by places u having (o ∷ os) [] e h k = absurd k
+    upper-like sel list from by places u having (o ∷ os) (p ∷ ps) e h k =
         let r = e zero o p refl refl in
         let f = v.key_frame o.id places 0 u in
         let g = v.key_frame p.id places 0 u in
@@ -83,23 +89,24 @@ module _ (R : ℕ → ℕ → Type 0) (s : Sources) (shared : List ℕ → ℕ) 
         let x = served-both R (w.list_leaves f list) (w.list_leaves g list) (w.test_leaves f having) sl tl (list-like R f g own list) served in
         let sm = after (w.list_leaves f list) sl in
         let tm = after (w.list_leaves g list) tl in (
-          like-heads R a.parts.head c.parts.head (l.terms s f m sl list) (l.terms z g n tl list) h.head k.head (terms-like R s z told f g m n own round sl tl list x.0),
-          like-conds R a.parts.conds.items c.parts.conds.items (l.split (l.cond s f m sm having)) (l.split (l.cond z g n tm having)) h.conds k.conds (on-like R s shared typed Below Above m n round told f g sm tm having own x.1),
+          like-heads R a.parts.head c.parts.head (l.terms s f m sl list) (l.terms z g n tl list) h.head k.head (terms-like R s z T S C parted told f g m n own round sl tl list x.0 (subst (Each T) h.head (head sel))),
+          like-conds R a.parts.conds.items c.parts.conds.items (l.split (l.cond s f m sm having)) (l.split (l.cond z g n tm having)) h.conds k.conds (on-like R s shared typed Below Above m n round T S C parted told f g sm tm having own x.1 (subst (Each C) h.conds conds)),
         )
 
-    pair-of : (x y : Query) (u : ℕ) (os ps : List OwnedQuant) → Pairs R os ps → v.Two os (λ o r. Below o.over (of_query x) m × Below r.over (of_query y) m) → v.Two ps (λ o r. Above o.over (of_query x) n × Above r.over (of_query y) n)
-        → (map s.typed (v.columns_of (v.first_id os) 1 u) ≡ map typed (v.columns_of (v.first_id ps) 1 u))
-    pair-of x y u [] ps e h k = absurd h
-    pair-of x y u (o ∷ []) ps e h k = absurd h
-    pair-of x y u (o ∷ b ∷ i ∷ os) ps e h k = absurd h
-    pair-of x y u (o ∷ b ∷ []) [] e h k = absurd k
-    pair-of x y u (o ∷ b ∷ []) (p ∷ []) e h k = absurd k
-    pair-of x y u (o ∷ b ∷ []) (p ∷ d ∷ i ∷ ps) e h k = absurd k
-    pair-of x y u (o ∷ b ∷ []) (p ∷ d ∷ []) e h k = types-same R s shared typed told o.id p.id 1 u (e zero o p refl refl)
+    pair-of : (form : forms.SetOperator) (x y : Query) (u : ℕ) (os ps : List OwnedQuant) → a.quants ≡ os → c.quants ≡ ps → a.parts.kind ≡ SetOp form (map s.typed (v.columns_of (v.first_id os) 1 u))
+        → v.Two os (λ o r. Below o.over (of_query x) m × Below r.over (of_query y) m) → v.Two ps (λ o r. Above o.over (of_query x) n × Above r.over (of_query y) n)
+        → map s.typed (v.columns_of (v.first_id os) 1 u) ≡ map typed (v.columns_of (v.first_id ps) 1 u)
+    pair-of form x y u [] ps i j e h k = absurd h
+    pair-of form x y u (o ∷ []) ps i j e h k = absurd h
+    pair-of form x y u (o ∷ b ∷ r ∷ os) ps i j e h k = absurd h
+    pair-of form x y u (o ∷ b ∷ []) [] i j e h k = absurd k
+    pair-of form x y u (o ∷ b ∷ []) (p ∷ []) i j e h k = absurd k
+    pair-of form x y u (o ∷ b ∷ []) (p ∷ d ∷ r ∷ ps) i j e h k = absurd k
+    pair-of form x y u (o ∷ b ∷ []) (p ∷ d ∷ []) i j e h k = types form u o b p d e i j
 
     pair-like : (form : forms.SetOperator) (u : ℕ) (x y : Query) → v.ShowsPair s Below form u x y m a → v.ShowsPair z Above form u x y n c → LikeBox R a c
     pair-like form u x y h k =
-        let r = pair-of x y u a.quants c.quants pairs h.quants k.quants in
+        let r = pair-of form x y u a.quants c.quants refl refl h.kind h.quants k.quants in
         record {
           kind = h.kind ∙ ap (SetOp form) r ∙ sym k.kind;
           distinct = h.plain.distinctness ∙ sym k.plain.distinctness;
@@ -112,9 +119,9 @@ module _ (R : ℕ → ℕ → Type 0) (s : Sources) (shared : List ℕ → ℕ) 
     query-like : (x : Query) → v.ShowsQuery s Below x m a → v.ShowsQuery z Above x n c → LikeBox R a c
     query-like (q.block distinct list from by) h k =
         select-like (v.distinct_of distinct) from by (λ fr. w.list_leaves fr list) (λ fr i. l.terms s fr m i list) (λ fr i. l.terms z fr n i list) h k (λ f g own. list-like R f g own list)
-        (λ f g own e i sl tl served. terms-like R s z told f g m n own round sl tl list served)
+        (λ f g own e i sl tl served has. terms-like R s z T S C parted told f g m n own round sl tl list served has)
     query-like (q.grouped distinct list from by places u having) h k =
-        let r = upper-like list from by (v.key_places places) u having a.quants c.quants pairs h.upper k.upper in
+        let r = upper-like h.kind list from by (v.key_places places) u having a.quants c.quants pairs h.upper k.upper in
         record {
           kind = h.kind ∙ sym k.kind;
           distinct = h.plain.distinctness ∙ sym k.plain.distinctness;
@@ -128,7 +135,7 @@ module _ (R : ℕ → ℕ → Type 0) (s : Sources) (shared : List ℕ → ℕ) 
 
     flat-like : (x : From) → v.ShowsFlat s Below x m a → v.ShowsFlat z Above x n c → LikeBox R a c
     flat-like x h k =
-        select-like _ (q.one_from x q.no_from) (q.all q.no_test) (λ fr. []) (λ fr i. map ref_term fr) (λ fr i. map ref_term fr) h k (λ f g own. no_leaf) (λ f g own e i sl tl served. frame-heads R f g own)
+        select-like _ (q.one_from x q.no_from) (q.all q.no_test) (λ fr. []) (λ fr i. map ref_term fr) (λ fr i. map ref_term fr) h k (λ f g own. no_leaf) (λ f g own e i sl tl served has. frame-heads R f g own)
 
     outer-of : (x y : From) (u : ℕ) (on : Test) (os ps : List OwnedQuant) → Pairs R os ps → v.Two os (λ i j. v.ShowsSides s Below x y u on m a i j) → v.Two ps (λ i j. v.ShowsSides z Above x y u on n c i j)
         → LikeHeads R a.parts.head c.parts.head × LikeConds R a.parts.conds.items c.parts.conds.items
@@ -147,7 +154,7 @@ module _ (R : ℕ → ℕ → Type 0) (s : Sources) (shared : List ℕ → ℕ) 
         (subst (λ i. LikeFrame R (refs o.id 1 (from_width s x)) (refs p.id 1 i)) (width-same R s shared typed x) (refs-like R o.id p.id 1 (from_width s x) r1)) (refs-like R b.id d.id 1 u r2) in (
           like-heads R a.parts.head c.parts.head (map ref_term f) (map ref_term g) h.2.head k.2.head (frame-heads R f g own),
           like-conds R a.parts.conds.items c.parts.conds.items (l.split (l.cond s f m v.no_slots on)) (l.split (l.cond z g n v.no_slots on)) h.2.conds k.2.conds
-              (on-like R s shared typed Below Above m n round told f g v.no_slots v.no_slots on own (subst (λ (y : List Leaf). Served R y v.no_slots v.no_slots) (sym h.2.on) tt)),
+              (on-like R s shared typed Below Above m n round T S C parted told f g v.no_slots v.no_slots on own (subst (λ (y : List Leaf). Served R y v.no_slots v.no_slots) (sym h.2.on) tt) (subst (Each C) h.2.conds conds)),
         )
 
     outer-like : (x y : From) (u : ℕ) (on : Test) → v.ShowsOuter s Below x y u on m a → v.ShowsOuter z Above x y u on n c → LikeBox R a c
@@ -162,12 +169,12 @@ module _ (R : ℕ → ℕ → Type 0) (s : Sources) (shared : List ℕ → ℕ) 
           quants = like-quants R s shared typed Below Above a.quants c.quants kids;
         }
 
-    arguments-like : (f g : Frame) → LikeFrame R f g → (ls ms : List Leaf) → LikeLeaves R ls ms → v.PlainArguments f ls → LikeHeads R (v.argument_terms s f ls) (v.argument_terms z g ms)
-    arguments-like f g own ls ms no_leaf h = tt
-    arguments-like f g own ls ms (like_sub i j kind x xs ys e k) h = arguments-like f g own xs ys k h
-    arguments-like f g own ls ms (like_aggregate i d x xs ys k) h =
-        (term-like R s z told f g [] [] own tt v.no_slots v.no_slots x (subst (λ (y : List Leaf). Served R y v.no_slots v.no_slots) (sym h.0) tt), arguments-like f g own xs ys k h.1)
-    arguments-like f g own ls ms (like_counted xs ys k) h = arguments-like f g own xs ys k h
+    arguments-like : (f g : Frame) → LikeFrame R f g → (ls ms : List Leaf) → LikeLeaves R ls ms → v.PlainArguments f ls → Each T (v.argument_terms s f ls) → LikeHeads R (v.argument_terms s f ls) (v.argument_terms z g ms)
+    arguments-like f g own ls ms no_leaf h has = tt
+    arguments-like f g own ls ms (like_sub i j kind x xs ys e k) h has = arguments-like f g own xs ys k h has
+    arguments-like f g own ls ms (like_aggregate i d x xs ys k) h has =
+        (term-like R s z T S C parted told f g [] [] own tt v.no_slots v.no_slots x (subst (λ (y : List Leaf). Served R y v.no_slots v.no_slots) (sym h.0) tt) has.0, arguments-like f g own xs ys k h.1 has.1)
+    arguments-like f g own ls ms (like_counted xs ys k) h has = arguments-like f g own xs ys k h has
 
     places-like : (f g : Frame) → LikeFrame R f g → (places : List ℕ) → LikeHeads R (map (λ place. ref_term (get_or f place nothing)) places) (map (λ place. ref_term (get_or g place nothing)) places)
     places-like f g own [] = tt
@@ -179,13 +186,18 @@ module _ (R : ℕ → ℕ → Type 0) (s : Sources) (shared : List ℕ → ℕ) 
     padded-like (x ∷ xs) [] h = absurd h
     padded-like (x ∷ xs) (y ∷ ys) h = h
 
+    padded-each : (xs : List Term) → Each T (v.padded (t.int (pos 1)) xs) → Each T xs
+    padded-each [] h = tt
+    padded-each (x ∷ xs) h = h
+
     rows-like : (from : Froms) (by : Test) (places : List ℕ) (ls ms : List Leaf) → LikeLeaves R ls ms → v.ShowsRows s Below from by places ls m a → v.ShowsRows z Above from by places ms n c → LikeBox R a c
     rows-like from by places ls ms like h k =
         select-like _ from by (λ fr. []) (v.rows_list s places ls) (v.rows_list z places ms) h.rows k.rows (λ f g own. no_leaf)
-        (λ f g own e i sl tl served.
-        padded-like (map (λ place. ref_term (get_or f place nothing)) places ++ v.argument_terms s f ls) (map (λ place. ref_term (get_or g place nothing)) places ++ v.argument_terms z g ms)
-        (heads-both R (map (λ place. ref_term (get_or f place nothing)) places) (v.argument_terms s f ls) (map (λ place. ref_term (get_or g place nothing)) places) (v.argument_terms z g ms) (places-like f g own places)
-        (arguments-like f g own ls ms like (subst (λ (y : Frame). v.PlainArguments y ls) (sym e) h.arguments))))
+        (λ f g own e i sl tl served has.
+        let keys = map (λ place. ref_term (get_or f place nothing)) places in
+        padded-like (keys ++ v.argument_terms s f ls) (map (λ place. ref_term (get_or g place nothing)) places ++ v.argument_terms z g ms)
+        (heads-both R keys (v.argument_terms s f ls) (map (λ place. ref_term (get_or g place nothing)) places) (v.argument_terms z g ms) (places-like f g own places)
+        (arguments-like f g own ls ms like (subst (λ (y : Frame). v.PlainArguments y ls) (sym e) h.arguments) (each_right T keys (v.argument_terms s f ls) (padded-each (keys ++ v.argument_terms s f ls) has)))))
 
     groups-of : (from : Froms) (by : Test) (places : List ℕ) (ls ms : List Leaf) → LikeLeaves R ls ms → (os ps : List OwnedQuant) → Pairs R os ps
         → v.One os (λ p. Below p.over (of_rows from by places ls) m × (a.parts.head ≡ v.groups_list places ls p.id)) → v.One ps (λ p. Above p.over (of_rows from by places ms) n × (c.parts.head ≡ v.groups_list places ms p.id))

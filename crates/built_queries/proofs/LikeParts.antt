@@ -16,7 +16,8 @@ use Rattle.qgm_shown.specs.Shown.{Thing, of_groups, of_operand, of_query, of_row
 use Rattle.qgm_shown.specs.Sources.{Sources, from_width, width}
 use Rattle.qgm_shown.specs.Terms as l
 use Rattle.built_queries.specs.Alike.{Like, LikeConds, LikeHeads, LikeQuants, OwnedAt, like_col, like_count, like_fold}
-use Rattle.built_queries.proofs.LikeTerms.{LikeFrame, LikeLeaves, LikeMap, LikeRef, Served, cond-like, conds-both, leaves-both, like_aggregate, like_counted, like_sub, no_leaf, ref-like, served-both, split-like, test-like}
+use Rattle.query_checks.proofs.Members.{Each, each_left, each_right}
+use Rattle.built_queries.proofs.LikeTerms.{LikeFrame, LikeLeaves, LikeMap, LikeRef, Parted, Served, cond-like, conds-both, leaves-both, like_aggregate, like_counted, like_sub, no_leaf, ref-like, served-both, split-like, test-like, unsplit}
 
 module _ (R : ℕ → ℕ → Type 0) where
   -- quantifiers at one place stand for one another
@@ -184,19 +185,21 @@ module _ (R : ℕ → ℕ → Type 0) where
         all-on-like q.no_from os ps h k e = no_leaf
         all-on-like (q.one_from x xs) os ps h k e = leaves-both R (on-leaves-like x os ps h.0 k.0 e) (all-on-like xs (v.past s x os) (v.past z x ps) h.1 k.1 (past-pairs x os ps e))
 
-        module _ (told : (x y : Term) → Like R x y → s.typed x ≡ typed y) where
-          pub on-like : (f g : Frame) (sl tl : Slots) (p : Test) → LikeFrame R f g → Served R (w.test_leaves f p) sl tl → LikeConds R (l.split (l.cond s f m sl p)) (l.split (l.cond z g n tl p))
-          on-like f g sl tl p own h = split-like R (l.cond s f m sl p) (l.cond z g n tl p) (cond-like R s z told f g m n own round sl tl p h)
+        module _ (T : Term → Type 0) (S : t.Arms → Type 0) (C : Cond → Type 0) (parted : Parted T S C) (told : (x y : Term) → T x → Like R x y → s.typed x ≡ typed y) where
+          pub on-like : (f g : Frame) (sl tl : Slots) (p : Test) → LikeFrame R f g → Served R (w.test_leaves f p) sl tl → Each C (l.split (l.cond s f m sl p)) → LikeConds R (l.split (l.cond s f m sl p)) (l.split (l.cond z g n tl p))
+          on-like f g sl tl p own h i = split-like R (l.cond s f m sl p) (l.cond z g n tl p) (cond-like R s z T S C parted told f g m n own round sl tl p h (unsplit T S C parted (l.cond s f m sl p) i))
 
-          ons-like : (x : From) (os ps : List OwnedQuant) (sl tl : Slots) → v.ShowsFrom s Below x m os → v.ShowsFrom z Above x n ps → Pairs os ps → Served R (v.on_leaves s x os) sl tl → LikeConds R (v.ons s m x os sl) (v.ons z n x ps tl)
-          ons-like (q.named name) os ps sl tl h k e g = tt
-          ons-like (q.derived query) os ps sl tl h k e g = tt
-          ons-like (q.crossed x y) os ps sl tl h k e g =
+          ons-like : (x : From) (os ps : List OwnedQuant) (sl tl : Slots) → v.ShowsFrom s Below x m os → v.ShowsFrom z Above x n ps → Pairs os ps → Served R (v.on_leaves s x os) sl tl → Each C (v.ons s m x os sl)
+              → LikeConds R (v.ons s m x os sl) (v.ons z n x ps tl)
+          ons-like (q.named name) os ps sl tl h k e g i = tt
+          ons-like (q.derived query) os ps sl tl h k e g i = tt
+          ons-like (q.crossed x y) os ps sl tl h k e g i =
               let a = served-both R (v.on_leaves s x os) (v.on_leaves z x ps) (v.on_leaves s y (v.past s x os)) sl tl (on-leaves-like x os ps h.0 k.0 e) g in
               let sm = after (v.on_leaves s x os) sl in
               let tm = after (v.on_leaves z x ps) tl in
-              conds-both R (v.ons s m x os sl) (v.ons s m y (v.past s x os) sm) (v.ons z n x ps tl) (v.ons z n y (v.past z x ps) tm) (ons-like x os ps sl tl h.0 k.0 e a.0) (ons-like y (v.past s x os) (v.past z x ps) sm tm h.1 k.1 (past-pairs x os ps e) a.1)
-          ons-like (q.joined x y p) os ps sl tl h k e g =
+              conds-both R (v.ons s m x os sl) (v.ons s m y (v.past s x os) sm) (v.ons z n x ps tl) (v.ons z n y (v.past z x ps) tm) (ons-like x os ps sl tl h.0 k.0 e a.0 (each_left C (v.ons s m x os sl) (v.ons s m y (v.past s x os) sm) i))
+              (ons-like y (v.past s x os) (v.past z x ps) sm tm h.1 k.1 (past-pairs x os ps e) a.1 (each_right C (v.ons s m x os sl) (v.ons s m y (v.past s x os) sm) i))
+          ons-like (q.joined x y p) os ps sl tl h k e g i =
               let po = v.past s x os in
               let pp = v.past z x ps in
               let f = v.frame s x os ++ v.frame s y po in
@@ -207,18 +210,24 @@ module _ (R : ℕ → ℕ → Type 0) where
               let c = served-both R (v.on_leaves s y po) (v.on_leaves z y pp) (w.test_leaves f p) sm tm (on-leaves-like y po pp h.1 k.1 (past-pairs x os ps e)) a.1 in
               let sn = after (v.on_leaves s y po) sm in
               let tn = after (v.on_leaves z y pp) tm in
-              conds-both R (v.ons s m x os sl) (v.ons s m y po sm ++ l.split (l.cond s f m sn p)) (v.ons z n x ps tl) (v.ons z n y pp tm ++ l.split (l.cond z d n tn p)) (ons-like x os ps sl tl h.0 k.0 e a.0)
-              (conds-both R (v.ons s m y po sm) (l.split (l.cond s f m sn p)) (v.ons z n y pp tm) (l.split (l.cond z d n tn p)) (ons-like y po pp sm tm h.1 k.1 (past-pairs x os ps e) c.0) (on-like f d sn tn p (from-like (q.joined x y p) os ps h k e) c.1))
-          ons-like (q.left_joined x y u p) os ps sl tl h k e g = tt
+              let on = l.split (l.cond s f m sn p) in
+              let rest = each_right C (v.ons s m x os sl) (v.ons s m y po sm ++ on) i in
+              conds-both R (v.ons s m x os sl) (v.ons s m y po sm ++ on) (v.ons z n x ps tl) (v.ons z n y pp tm ++ l.split (l.cond z d n tn p))
+              (ons-like x os ps sl tl h.0 k.0 e a.0 (each_left C (v.ons s m x os sl) (v.ons s m y po sm ++ on) i))
+              (conds-both R (v.ons s m y po sm) on (v.ons z n y pp tm) (l.split (l.cond z d n tn p)) (ons-like y po pp sm tm h.1 k.1 (past-pairs x os ps e) c.0 (each_left C (v.ons s m y po sm) on rest))
+              (on-like f d sn tn p (from-like (q.joined x y p) os ps h k e) c.1 (each_right C (v.ons s m y po sm) on rest)))
+          ons-like (q.left_joined x y u p) os ps sl tl h k e g i = tt
 
-          pub all-ons-like : (xs : Froms) (os ps : List OwnedQuant) (sl tl : Slots) → v.ShowsFroms s Below xs m os → v.ShowsFroms z Above xs n ps → Pairs os ps → Served R (v.all_on_leaves s xs os) sl tl → LikeConds R (v.all_ons s m xs os sl) (v.all_ons z n xs ps tl)
-          all-ons-like q.no_from os ps sl tl h k e g = tt
-          all-ons-like (q.one_from x xs) os ps sl tl h k e g =
+          pub all-ons-like : (xs : Froms) (os ps : List OwnedQuant) (sl tl : Slots) → v.ShowsFroms s Below xs m os → v.ShowsFroms z Above xs n ps → Pairs os ps → Served R (v.all_on_leaves s xs os) sl tl → Each C (v.all_ons s m xs os sl)
+              → LikeConds R (v.all_ons s m xs os sl) (v.all_ons z n xs ps tl)
+          all-ons-like q.no_from os ps sl tl h k e g i = tt
+          all-ons-like (q.one_from x xs) os ps sl tl h k e g i =
               let a = served-both R (v.on_leaves s x os) (v.on_leaves z x ps) (v.all_on_leaves s xs (v.past s x os)) sl tl (on-leaves-like x os ps h.0 k.0 e) g in
               let sm = after (v.on_leaves s x os) sl in
               let tm = after (v.on_leaves z x ps) tl in
-              conds-both R (v.ons s m x os sl) (v.all_ons s m xs (v.past s x os) sm) (v.ons z n x ps tl) (v.all_ons z n xs (v.past z x ps) tm) (ons-like x os ps sl tl h.0 k.0 e a.0)
-              (all-ons-like xs (v.past s x os) (v.past z x ps) sm tm h.1 k.1 (past-pairs x os ps e) a.1)
+              conds-both R (v.ons s m x os sl) (v.all_ons s m xs (v.past s x os) sm) (v.ons z n x ps tl) (v.all_ons z n xs (v.past z x ps) tm)
+              (ons-like x os ps sl tl h.0 k.0 e a.0 (each_left C (v.ons s m x os sl) (v.all_ons s m xs (v.past s x os) sm) i))
+              (all-ons-like xs (v.past s x os) (v.past z x ps) sm tm h.1 k.1 (past-pairs x os ps e) a.1 (each_right C (v.ons s m x os sl) (v.all_ons s m xs (v.past s x os) sm) i))
 
         -- ---- subqueries
 

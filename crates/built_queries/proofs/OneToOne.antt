@@ -30,7 +30,7 @@ use Rattle.built_queries.proofs.Passes.{root-reaches, uses-times}
 
 -- ---- places
 
-at-in : (i : ℕ) (o : OwnedQuant) (os : List OwnedQuant) → OwnedAt i o os → In o os
+pub at-in : (i : ℕ) (o : OwnedQuant) (os : List OwnedQuant) → OwnedAt i o os → In o os
 at-in i o [] a = absurd a
 at-in zero o (p ∷ os) a = inl a
 at-in (suc i) o (p ∷ os) a = inr (at-in i o os a)

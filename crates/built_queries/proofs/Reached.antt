@@ -29,7 +29,7 @@ abbrev pub lev : List Node → ℕ → ℕ
 lev [] e = e
 lev (n ∷ ns) e = suc (lev ns (lev ns e))
 
-lev-ups : (ns : List Node) (e : ℕ) → e ≤ lev ns e
+pub lev-ups : (ns : List Node) (e : ℕ) → e ≤ lev ns e
 lev-ups [] e = omega arith
 lev-ups (n ∷ ns) e = let a = lev-ups ns e in let b = lev-ups ns (lev ns e) in omega arith
 

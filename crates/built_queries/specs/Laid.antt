@@ -22,6 +22,7 @@ use Rattle.qgm_shown.specs.Lay.{Boxes, Laid}
 use Rattle.qgm_shown.specs.Sources.{Sources}
 use Rattle.qgm_shown.specs.There.{EachForOne}
 use Rattle.qgm_shown.specs.Whole.{graph_of, lay_whole}
+use Rattle.built_queries.specs.Alike.{SameButNumbers}
 use Rattle.built_queries.specs.Formed.{TypesFound}
 use Rattle.built_queries.specs.Joined.{AreTablesOf, HasRows, IsBuiltOver, IsLaidOut, ValidQuery, stated_types}
 use Rattle.built_queries.specs.OneToOne.{AreOneToOne}
@@ -48,6 +49,10 @@ GraphIsRight = (catalog : Declared) (text : s.QueryText) (names : List (Option (
 -- in two such graphs of one query numbers stand for one another one to one
 abbrev pub GraphsOneToOne : Type 0
 GraphsOneToOne = (catalog : Declared) (text : s.QueryText) (names : List (Option (List ℕ))) (order : List OrderKey) (g h : QueryGraph) → IsGraphOf catalog text names order g → IsGraphOf catalog text names order h → AreOneToOne g h
+
+-- two such graphs of one valid query differ in numbers alone
+abbrev pub GraphsAlike : Type 0
+GraphsAlike = (catalog : Declared) (text : s.QueryText) (names : List (Option (List ℕ))) (order : List OrderKey) (g h : QueryGraph) → ValidQuery catalog text → IsGraphOf catalog text names order g → IsGraphOf catalog text names order h → SameButNumbers g h
 
 -- ---- what is laid
 

@@ -1,4 +1,4 @@
-use Rattle.built_queries.proofs.LaidGraphs.{graph_right, graphs_one_to_one, laid_graph}
+use Rattle.built_queries.proofs.LaidGraphs.{graph_right, graphs_alike, graphs_one_to_one, laid_graph}
 use Rattle.built_queries.proofs.Numbers.{laid_numbered}
 use Rattle.built_queries.proofs.laid.laid_graph_laws.Goals as goal
 
@@ -13,3 +13,6 @@ returns-clause-numbered c = laid_numbered
 
 pub returns-clause-one_to_one : goal.returns-clause-one_to_one
 returns-clause-one_to_one c = graphs_one_to_one
+
+pub returns-clause-alike : goal.returns-clause-alike
+returns-clause-alike c = graphs_alike
