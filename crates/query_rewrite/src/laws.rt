@@ -3,5 +3,5 @@ ghost use Rattle.query_rewrite.specs.Examples.{OfMerge};
 
 /// A rewriting has this text. It does nothing.
 pub fn examples()
-    ensures merge { OfMerge }
+    ensures { OfMerge }
 {}

@@ -4,6 +4,6 @@ use Rattle.graph_print.specs.GraphText.{box_line, box_lines, cell_line, cond_lin
 use Rattle.query_rewrite.specs.Explained.{count_line, fire_line_in, graph_lines}
 use Rattle.query_rewrite.proofs.laws.examples.Goals as goal
 
-pub returns-clause-merge : goal.returns-clause-merge
+pub returns : goal.returns
 unfolding digits box_line box_lines cell_line cond_line key_text kind_text name_text part_lines quant_line type_line count_line fire_line_in graph_lines
-returns-clause-merge c = refl
+returns c = refl
