@@ -1,5 +1,5 @@
 -- A well-formed graph is fit to be executed, and its quantifiers are bound in it.
-use Rattle.std.proofs.Common.{ℕ, ◌≡◌, ◌≤◌, ◌+◌, List, true, arith}
+use Rattle.std.proofs.Common.{ℕ, ◌≡◌, ◌≤◌, ◌+◌, List, arith}
 use Rattle.box_exec.specs.Closed.{AllClosed, NamesBound, closed_number, reached_number}
 use Rattle.box_exec.specs.Ready.{AllFit}
 use Rattle.box_exec.specs.Settled.{BoundIfTouched, FitIfSettled, Settled}
