@@ -1,10 +1,8 @@
-//! The rewrite rules that are built, as the engine takes them.
-#![tactic(auto)]
-
+// The rules that are built, as the engine takes them.
 ghost use Rattle.std.specs.Prelude.{IfOk};
 ghost use Rattle.qgm_check.specs.Sentences.{WellFormed};
-ghost use Rattle.rule_engine.specs.Trace.{Traces};
-ghost use Rattle.built_rules.specs.Built.{built_act, built_exact, built_may, built_pairs};
+ghost use Rattle.query_rewrite.specs.Answers.{Rewrites};
+ghost use Rattle.query_rewrite.specs.Built.{built_act, built_exact, built_may, built_pairs};
 
 use qgm_core::{BoxId, Graph};
 use rewrite_plan::Plan;
@@ -102,7 +100,7 @@ pub fn rewrite_built(
     plan: &Plan,
 ) -> Result<(Graph, Trace), OutOfMemory>
     requires { WellFormed graph }
-    ensures { IfOk result (λ r. Traces built_pairs built_may built_act plan.now graph r.1 r.0) }
+    ensures { IfOk result (λ r. Rewrites plan.now graph r.1 r.0) }
 {
     rewrite(alloc, &BuiltRules, graph, plan)
 }

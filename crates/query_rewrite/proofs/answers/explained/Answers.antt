@@ -1,0 +1,7 @@
+use Rattle.query_rewrite.proofs.Rewritten.{is_explained}
+use Rattle.query_rewrite.proofs.answers.explained.Goals as goal
+
+pub returns-clause-told : goal.returns-clause-told
+returns-clause-told g c =
+    is_explained c.args.tables.now c.args.plan.now c.args.graph c.in_ok-last.last c.in_ok-last.firings c.in_ok-rows.evals c.args.steps.now c.executed.new.steps c.args.out.now c.told_rewriting.new.out c.put_counts.new.out
+    c.in_ok-last.ensures c.in_ok-rows.ensures.evaluates c.in_ok-put_counts.ensures

@@ -1,0 +1,4 @@
+pub mod Built
+pub mod Answers
+pub mod Explained
+pub mod Examples
