@@ -11,7 +11,7 @@ ghost use Rattle.qgm_app.specs.declared.report.Report.TheVariants.{Rows, Error, 
 ghost use Rattle.qgm_app.specs.declared.report.Said.{Said};
 ghost use Rattle.qgm_app.specs.Outcome.{outcome};
 ghost use Rattle.qgm_app.specs.Printed.{printed, status_of};
-ghost use Rattle.qgm_app.specs.Runs.{ComesTo, IsSaid, Runs};
+ghost use Rattle.qgm_app.specs.Runs.{ComesTo, IsMade, IsSaid, Runs};
 
 use crate::respond::respond;
 use io_edge::{Files, Sink, write_all};
@@ -60,6 +60,8 @@ pub fn run_command<F: Files, K: Sink, L: Ledger>(
         (λ report. (kind : Kind) × (report ≡ Error kind) × (K.written out.new ≡ written_after (printed (Error kind)) (K.written out.old))) }
     ensures usage { result ≡ 2 → (line (map (λ w. string_bytes w) words.now) ≡ None) × (K.written out.new ≡ written_after (codes "USAGE\n") (K.written out.old)) }
     ensures no_line { line (map (λ w. string_bytes w) words.now) ≡ None → (files.new ≡ files.old) × ((result ≡ 2) ⊎ (result ≡ 4) ⊎ (result ≡ 8)) }
+    // `gen` reads no file.
+    ensures unread { IfSome (line (map (λ w. string_bytes w) words.now)) (λ l. IsMade l.task → files.new ≡ files.old) }
     ensures read_fault { result ≡ 3 → Rose (F.faults files.old) (F.faults files.new) }
     ensures read_named { result ≡ 3 → IfSome (F.told files.old) (λ t. IfSome (F.told files.new) (λ u. (asks : List Ask) × (name : List ℕ) × (u.asked ≡ t.asked ++ asks)
         × (failed_name asks ≡ Some name) × (K.written out.new ≡ written_after (codes "READ " ++ (name ++ codes "\n")) (K.written out.old)))) }

@@ -5,8 +5,8 @@ ghost use Rattle.sql_ast.specs.Shown as shown;
 ghost use Rattle.sql_catalog.specs.Shown as catalogs;
 ghost use Rattle.sql_parser.specs.ReadSchema.{schema_tree};
 ghost use Rattle.sql_parser.specs.ReadText.{query_tree};
-ghost use Rattle.qgm_app.specs.Answered.{AreReady};
-ghost use Rattle.qgm_app.specs.Texts.{Gives, GivesAnswering, catalog_of, query_of, refused_by, schema_of, spans_of, tree_of, valid_query};
+ghost use Rattle.qgm_app.specs.Ready.{AreReady, IsChecked};
+ghost use Rattle.qgm_app.specs.Texts.{Gives, catalog_of, query_of, refused_by, schema_of, spans_of, tree_of, valid_query};
 ghost use Rattle.qgm_app.specs.declared.texts.TextRefusal.TheVariants.{Memory};
 
 use query_checks::QueryRefusal;
@@ -118,7 +118,16 @@ fn read_query_text(alloc: Global, text: &Option<Items<u8>>) -> Result<QueryText,
     query_spelled(alloc, spans.as_slice())
 }
 
-// A valid query, its names resolved, else the number of its fault.
+/// A valid query.
+#[derive(Drop)]
+pub struct Valid {
+    /// As it is written.
+    pub query: QueryText,
+    /// With its names resolved.
+    pub checked: Checked,
+}
+
+// A query with its names resolved, else the number of its fault.
 fn checked(
     alloc: Global,
     query: &QueryText,
@@ -126,7 +135,8 @@ fn checked(
     views: &Views,
 ) -> Result<Checked, TextRefusal>
     requires ready { AreReady (catalogs.catalog catalog.now) views.now }
-    ensures { GivesAnswering (catalogs.catalog catalog.now) views.now result (refused_by (fault (catalogs.catalog catalog.now) (shown.query_text query.now)) (shown.query_text query.now)) }
+    ensures gives { Gives (λ _. shown.query_text query.now) result (refused_by (fault (catalogs.catalog catalog.now) (shown.query_text query.now)) (shown.query_text query.now)) }
+    ensures checked { IfOk result (λ x. IsChecked (catalogs.catalog catalog.now) views.now (shown.query_text query.now) x) }
 {
     match check(alloc, query, catalog, views) {
         Ok(checked) => Ok(checked),
@@ -143,17 +153,19 @@ fn checked(
     }
 }
 
-/// The checked query of a query's text, whose bytes are none where they are too many.
+/// The valid query of a query's text, whose bytes are none where they are too many.
 #[tactic(auto, unfolding(crate::specs::Texts::valid_query))]
 pub fn read_query(
     alloc: Global,
     catalog: &Catalog,
     views: &Views,
     text: &Option<Items<u8>>,
-) -> Result<Checked, TextRefusal>
+) -> Result<Valid, TextRefusal>
     requires ready { AreReady (catalogs.catalog catalog.now) views.now }
-    ensures { GivesAnswering (catalogs.catalog catalog.now) views.now result (valid_query (catalogs.catalog catalog.now) text.now) }
+    ensures gives { Gives (λ v. shown.query_text v.query) result (valid_query (catalogs.catalog catalog.now) text.now) }
+    ensures checked { IfOk result (λ v. IsChecked (catalogs.catalog catalog.now) views.now (shown.query_text v.query) v.checked) }
 {
     let query = read_query_text(alloc, text)?;
-    checked(alloc, &query, catalog, views)
+    let checked = checked(alloc, &query, catalog, views)?;
+    Ok(Valid { query, checked })
 }

@@ -1,0 +1,5 @@
+use Rattle.qgm_app.proofs.Steps.{told-prepares}
+use Rattle.qgm_app.proofs.respond.respond.Goals as goal
+
+pub returns-in-Ok-clause-prepares : goal.returns-in-Ok-clause-prepares
+returns-in-Ok-clause-prepares g c = told-prepares _ _ _ c.in-Ok.report c.said.result c.in-Ok.ensures.comes c.said.ensures
