@@ -1,10 +1,11 @@
 -- What the program knows of a query that it has checked.
-use Rattle.std.specs.Prelude.{◌≡◌, ⊤, ℕ, List, [], Option, None, map}
+use Rattle.std.specs.Prelude.{◌≡◌, ⊤, ℕ, true, List, [], Option, None, map}
 use Rattle.csv_tables.specs.Fits.{FitsSchema}
 use Rattle.row_bag.specs.declared.outcome.Verdict.{Verdict}
 use Rattle.row_bag.specs.declared.outcome.Verdict.TheVariants.{Rows, Error}
 use Rattle.row_bag.specs.declared.tables.Table.{Table}
 use Rattle.sql_ast.specs.Declarations.{Declared}
+use Rattle.sql_ast.specs.Grammatical.{is_query}
 use Rattle.sql_ast.specs.Shown as written
 use Rattle.sql_ast.specs.Syntax as s
 use Rattle.sql_catalog.specs.Catalog.{fault}
@@ -19,18 +20,21 @@ use Rattle.query_checks.specs.Laws.{column_names}
 use Rattle.query_checks.specs.Views.{fault as query_fault, heads_of}
 use Rattle.name_resolution.specs.Resolved.{query}
 use Rattle.name_resolution.specs.Schema.{schema_columns}
+use Rattle.built_queries.specs.Buildable.{AreQueries}
 use Rattle.qgm_app.specs.declared.answers.Answered as held
 use Rattle.qgm_app.specs.declared.question.Found.{Found}
 use Rattle.qgm_app.specs.declared.question.Found.TheVariants.{Asked, Refused}
 use Rattle.qgm_app.specs.declared.question.Question.{Question}
 
--- the views of a schema that isn't refused
+-- the views of a schema that isn't refused, and is of the grammar
 pub record AreReady (catalog : Declared) (views : Views) : Type 0 where
   pub valid : fault catalog ≡ None
+  pub queries : AreQueries catalog.views
   pub of_catalog : AreViews catalog views
 
--- a text is a valid query, and this is it with its names resolved: its columns, names and keys are the query's, and over all tables of the catalog it has the answer of the text
+-- a text of the grammar is a valid query, and this is it with its names resolved: its columns, names and keys are the query's, and over all tables of the catalog it has the answer of the text
 pub record IsChecked (catalog : Declared) (views : Views) (text : s.QueryText) (x : Checked) : Type 0 where
+  pub grammar : is_query text.query ≡ true
   pub valid : query_fault catalog text ≡ 0
   pub query : shown.query x.query ≡ query (schema_columns catalog) [] text.query
   pub columns : x.columns ≡ columns (heads_of catalog) text.query []

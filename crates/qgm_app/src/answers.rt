@@ -1,5 +1,7 @@
 // The answer to a question.
-ghost use Rattle.std.specs.Prelude.{◌≡◌, IfOk, List};
+ghost use Rattle.std.specs.Prelude.{◌≡◌, IfOk, List, None};
+ghost use Rattle.box_exec.specs.Ready.{AllFit};
+ghost use Rattle.qgm_check.specs.WellFormed.{fault};
 ghost use Rattle.row_bag.specs.Bags.{Agree};
 ghost use Rattle.row_bag.specs.Sets.{same_cells};
 ghost use Rattle.row_bag.specs.Verdict.{verdict};
@@ -7,16 +9,22 @@ ghost use Rattle.row_bag.specs.declared.row.Row.{Row};
 ghost use Rattle.sql_check.specs.Checked.{rows_of};
 ghost use Rattle.sql_meaning.specs.Meaning.{answer_of};
 ghost use Rattle.sql_value.specs.declared.cell.Cell.{Cell};
+ghost use Rattle.qgm_app.specs.Alike.{AnswersAlike};
 ghost use Rattle.qgm_app.specs.Ready.{IsReady, answer_as, held_answer};
 ghost use Rattle.qgm_app.specs.Questions.{answer_to, question_of};
 
 use crate::question::Question;
-use plain_exec::{answer_laws, execute};
-use row_bag::{Bag, Tables, Verdict, sorted, verdict};
+use box_exec::{execute, execution_laws};
+use qgm_build::build;
+use qgm_core::Graph;
+use qgm_laws::checked_laws;
+use row_bag::{Bag, Verdict, bag_laws, sorted, verdict};
 use shared_types::OutOfMemory;
-use sql_check::{Checked, Views};
+use sql_check::Checked;
 use sql_value::OutNames;
 use std::alloc::Global;
+use std::sync::ledger::Ledger;
+use step_count::Steps;
 
 /// The answer to a question: its columns' names, and the rows in order or the error.
 #[derive(Drop)]
@@ -25,16 +33,41 @@ pub struct Answered {
     pub verdict: Verdict,
 }
 
-// The rows of a checked query over views and tables.
-fn rows_of(
-    alloc: Global,
-    checked: &Checked,
-    views: &Views,
-    tables: Tables,
-) -> Result<Bag, OutOfMemory>
-    ensures { IfOk result (λ bag. Agree same_cells bag (rows_of views.now checked.now tables)) }
+// Bags that agree have one answer: the same error, or the same rows in order. It does nothing.
+fn answer_laws()
+    ensures alike { AnswersAlike }
 {
-    execute(alloc, &checked.query, views.schema.views.as_slice(), tables)
+    bag_laws();
+}
+
+// The boxes of a well-formed graph may be executed. It does nothing.
+fn fit_laws(graph: &Graph)
+    requires formed { fault graph.now ≡ None }
+    ensures { AllFit graph.now.boxes }
+{
+    graph.each_number_once();
+    checked_laws();
+    execution_laws();
+}
+
+// The rows of a question's query, by its graph.
+fn rows_of<L: Ledger>(
+    alloc: Global,
+    question: &Question,
+    steps: &mut Steps<L>,
+) -> Result<Bag, OutOfMemory>
+    requires ready { IsReady question.now }
+    ensures { IfOk result (λ bag. Agree same_cells bag (rows_of question.now.views question.now.valid.checked question.now.tables)) }
+{
+    let graph = build(
+        alloc,
+        &question.valid.checked,
+        &question.catalog,
+        &question.views,
+    )?;
+    fit_laws(&graph);
+    let (bag, _evaluations) = execute(alloc, &graph, &question.tables, steps)?;
+    Ok(bag)
 }
 
 // The rows of a checked query in the order of its keys, or their greatest error.
@@ -48,19 +81,19 @@ fn ordered(alloc: Global, checked: &Checked, bag: Bag) -> Result<Verdict, OutOfM
     }
 }
 
-/// The answer to a question. It fails only for want of memory.
-pub fn answer(alloc: Global, question: Question) -> Result<Answered, OutOfMemory>
+/// The answer to a question, from its graph. Each evaluation of a box is a step. It fails only for want
+/// of memory.
+pub fn answer<L: Ledger>(
+    alloc: Global,
+    question: Question,
+    steps: &mut Steps<L>,
+) -> Result<Answered, OutOfMemory>
     requires ready { IsReady question }
     ensures { IfOk result (λ a. held_answer a ≡ answer_to (question_of question)) }
 {
-    let Question {
-        views,
-        valid,
-        tables,
-        ..
-    } = question;
+    let bag = rows_of(alloc, &question, steps)?;
+    let Question { valid, .. } = question;
     let checked = valid.checked;
-    let bag = rows_of(alloc, &checked, &views, tables)?;
     let verdict = ordered(alloc, &checked, bag)?;
     Ok(Answered {
         names: checked.names,

@@ -3,6 +3,7 @@ ghost use Rattle.std.specs.Prelude.{◌≡◌, ◌≢◌, ◌<◌, ◌^◌, IfOk
 ghost use Rattle.sql_catalog.specs.Catalog.{fault};
 ghost use Rattle.sql_catalog.specs.Shown as catalogs;
 ghost use Rattle.query_checks.specs.Views.{view_refusal};
+ghost use Rattle.built_queries.specs.Buildable.{AreQueries};
 ghost use Rattle.qgm_app.specs.declared.question.Found.TheVariants.{Refused};
 ghost use Rattle.qgm_app.specs.declared.report.Report.TheVariants.{Usage};
 ghost use Rattle.qgm_app.specs.Ready.{AreReady, IsFoundReady};
@@ -73,6 +74,7 @@ fn question_over(
     requires seed { seed < 2147483648 }
     requires rows { rows < 2 ^ 60 }
     requires valid { fault (catalogs.catalog catalog) ≡ None }
+    requires queries { AreQueries (catalogs.catalog catalog).views }
     requires fixed { catalog_of (Some schema_text) ≡ Ok (catalogs.catalog catalog) }
     ensures found { IfOk result (λ found. found_of found ≡ made_views seed rows (catalogs.catalog catalog) (view_refusal (catalogs.catalog catalog))) }
     ensures line { IfOk result (λ found. found ≢ Refused Usage) }

@@ -22,6 +22,8 @@ use command_line::{Line, Task, WordsRefusal, read_line};
 use io_edge::{Files, Interruption};
 use shared_types::OutOfMemory;
 use std::alloc::Global;
+use std::sync::ledger::Ledger;
+use step_count::Steps;
 
 // The question of a command, or the report that refuses it.
 fn find<F: Files>(alloc: Global, task: &Task, files: &mut F) -> Result<Found, Interruption>
@@ -41,7 +43,12 @@ fn find<F: Files>(alloc: Global, task: &Task, files: &mut F) -> Result<Found, In
 }
 
 // The report on a command line.
-fn run_line<F: Files>(alloc: Global, line: &Line<'_>, files: &mut F) -> Result<Report, Interruption>
+fn run_line<F: Files, L: Ledger>(
+    alloc: Global,
+    line: &Line<'_>,
+    files: &mut F,
+    steps: &mut Steps<L>,
+) -> Result<Report, Interruption>
     requires taken { is_taken (task_text line.now.task) ≡ true }
     ensures comes { ComesTold (F.told files.old) (F.told files.new) (λ fs. with_line (Some (line_text line.now)) fs) result }
     ensures line { IfOk result (λ report. report ≢ Usage) }
@@ -51,7 +58,7 @@ fn run_line<F: Files>(alloc: Global, line: &Line<'_>, files: &mut F) -> Result<R
 {
     match find(alloc, &line.task, files)? {
         Found::Asked(question) => {
-            let answer = answer(alloc, question)?;
+            let answer = answer(alloc, question, steps)?;
             Ok(tell(alloc, &line.task, &answer)?)
         }
         Found::Refused(report) => Ok(report),
@@ -59,7 +66,12 @@ fn run_line<F: Files>(alloc: Global, line: &Line<'_>, files: &mut F) -> Result<R
 }
 
 // The report on the command line that the words are.
-fn prepare<F: Files>(alloc: Global, words: &[String], files: &mut F) -> Result<Report, Interruption>
+fn prepare<F: Files, L: Ledger>(
+    alloc: Global,
+    words: &[String],
+    files: &mut F,
+    steps: &mut Steps<L>,
+) -> Result<Report, Interruption>
     ensures comes { ComesTold (F.told files.old) (F.told files.new) (outcome (map (λ w. string_bytes w) words.now)) result }
     ensures no_line { line (map (λ w. string_bytes w) words.now) ≡ None → (files.new ≡ files.old) × IsUsage result }
     ensures line { IfOk result (λ report. report ≡ Usage → line (map (λ w. string_bytes w) words.now) ≡ None) }
@@ -68,17 +80,18 @@ fn prepare<F: Files>(alloc: Global, words: &[String], files: &mut F) -> Result<R
     ensures failed { RoseIfFault result (F.faults files.old) (F.faults files.new) }
 {
     match read_line(alloc, words) {
-        Ok(line) => run_line(alloc, &line, files),
+        Ok(line) => run_line(alloc, &line, files, steps),
         Err(WordsRefusal::Usage) => Ok(Report::Usage),
         Err(WordsRefusal::Memory) => Err(Interruption::Memory),
     }
 }
 
 /// What is said to the words: the report, or the name of a read that failed.
-pub fn respond<F: Files>(
+pub fn respond<F: Files, L: Ledger>(
     alloc: Global,
     words: &[String],
     files: &mut F,
+    steps: &mut Steps<L>,
 ) -> Result<Said, OutOfMemory>
     ensures prepares { Prepares (F.told files.old) (F.told files.new) (outcome (map (λ w. string_bytes w) words.now)) result }
     ensures no_line { line (map (λ w. string_bytes w) words.now) ≡ None → (files.new ≡ files.old) × IfOk result (λ said. said ≡ said_of Usage) }
@@ -88,7 +101,7 @@ pub fn respond<F: Files>(
     ensures failed { IfOk result (λ said. said.status ≡ 3 → Rose (F.faults files.old) (F.faults files.new)) }
     ensures status { IfOk result (λ said. (said.status ≢ 4) × (said.status < 8)) }
 {
-    match prepare(alloc, words, files) {
+    match prepare(alloc, words, files, steps) {
         Ok(report) => report.said(alloc),
         Err(Interruption::ReadFault { name }) => say_fault(alloc, &name),
         Err(Interruption::Memory) => Err(OutOfMemory),

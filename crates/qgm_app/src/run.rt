@@ -36,14 +36,13 @@ const NO_MEMORY: u8 = 8;
 /// - 7: the query is refused
 /// - 8: memory ran out, and nothing was written
 ///
-/// `steps` counts evaluations of boxes, of which there are none: every query is answered by nested
-/// loops over its resolved form.
+/// `steps` counts evaluations of boxes: the graph of the query is built, and executed.
 pub fn run_command<F: Files, K: Sink, L: Ledger>(
     alloc: Global,
     words: &[String],
     files: &mut F,
     out: &mut K,
-    _steps: &mut Steps<L>,
+    steps: &mut Steps<L>,
 ) -> u8
     // The whole, over files that tell of themselves: what was read, and what was written of the report.
     ensures runs { Runs (F.told files.old) (F.told files.new) (outcome (map (λ w. string_bytes w) words.now)) (K.written out.old) (K.written out.new) result }
@@ -82,7 +81,7 @@ pub fn run_command<F: Files, K: Sink, L: Ledger>(
     ensures out_later { K.faults out.old ≤ K.faults out.new }
     ensures status { result ≤ 8 }
 {
-    let Ok(said) = respond(alloc, words, files) else {
+    let Ok(said) = respond(alloc, words, files, steps) else {
         return NO_MEMORY;
     };
     match write_all(out, said.text.as_slice()) {

@@ -5,6 +5,7 @@ ghost use Rattle.sql_ast.specs.Shown as shown;
 ghost use Rattle.sql_catalog.specs.Catalog.{fault};
 ghost use Rattle.sql_catalog.specs.Shown as catalogs;
 ghost use Rattle.query_checks.specs.Views.{view_refusal};
+ghost use Rattle.built_queries.specs.Buildable.{AreQueries};
 ghost use Rattle.qgm_app.specs.declared.question.Found.TheVariants.{Refused};
 ghost use Rattle.qgm_app.specs.declared.report.Report.TheVariants.{Usage};
 ghost use Rattle.qgm_app.specs.Ready.{AreReady, IsChecked, IsFoundReady};
@@ -89,6 +90,7 @@ fn find_views<F: Files>(
     files: &mut F,
 ) -> Result<Found, Interruption>
     requires valid { fault (catalogs.catalog catalog) ≡ None }
+    requires queries { AreQueries (catalogs.catalog catalog).views }
     ensures comes { Comes (F.told files.old) (F.told files.new) (λ fs. with_views query.now dir.now (catalogs.catalog catalog) fs (view_refusal (catalogs.catalog catalog))) (found_end result) }
     ensures later { F.faults files.old ≤ F.faults files.new }
     ensures failed { RoseIfFault result (F.faults files.old) (F.faults files.new) }

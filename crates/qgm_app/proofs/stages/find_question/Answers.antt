@@ -20,17 +20,17 @@ returns-in_err-text-clause-comes g c =
 pub returns-in-Ok-clause-comes : goal.returns-in-Ok-clause-comes
 returns-in-Ok-clause-comes g c =
     text-of-schema _ _ _ c.args.schema.now c.args.query.now c.args.dir.now c.in_ok-text.text (found_end c.find_views.result) c.in_ok-text.ensures.comes
-    (schema-taken _ _ c.args.query.now c.args.dir.now c.in_ok-text.text (catalogs.catalog c.in-Ok.catalog) (found_end c.find_views.result) c.in-Ok.ensures c.find_views.ensures.comes)
+    (schema-taken _ _ c.args.query.now c.args.dir.now c.in_ok-text.text (catalogs.catalog c.in-Ok.catalog) (found_end c.find_views.result) c.in-Ok.ensures.gives c.find_views.ensures.comes)
 
 pub returns-in-Err-Number-clause-comes : goal.returns-in-Err-Number-clause-comes
 returns-in-Err-Number-clause-comes g c =
     rw c.in-Err-Number.field-0-is
     (text-of-schema _ _ _ c.args.schema.now c.args.query.now c.args.dir.now c.in_ok-text.text (answered (Err (SchemaRefused c.in-Err-Number.number))) c.in_ok-text.ensures.comes
-    (schema-refused _ c.args.query.now c.args.dir.now c.in_ok-text.text c.in-Err-Number.number (rw c.in-Err-Number.field-0-is at c.in-Err-Number.ensures)))
+    (schema-refused _ c.args.query.now c.args.dir.now c.in_ok-text.text c.in-Err-Number.number (rw c.in-Err-Number.field-0-is at c.in-Err-Number.ensures.gives)))
 
 pub returns-clause-comes : goal.returns-clause-comes
 returns-clause-comes g c =
     text-of-schema _ _ _ c.args.schema.now c.args.query.now c.args.dir.now c.in_ok-text.text starved c.in_ok-text.ensures.comes (comes-starved _ _)
 
 pub find_views-requires : goal.find_views-requires
-find_views-requires g c = record { valid = valid-catalog c.in_ok-text.text (catalogs.catalog c.in-Ok.catalog) c.in-Ok.ensures }
+find_views-requires g c = record { valid = valid-catalog c.in_ok-text.text (catalogs.catalog c.in-Ok.catalog) c.in-Ok.ensures.gives; queries = c.in-Ok.ensures.queries }

@@ -14,4 +14,4 @@ returns-in-Err-Refused-clause-comes g c =
     (c.in-Err-Refused.ensures.refused c.in-Err-Refused.view c.in-Err-Refused.number c.in-Err-Refused.field-0-is))
 
 pub find_query-requires : goal.find_query-requires
-find_query-requires g c = record { ready = record { valid = c.requires.valid; of_catalog = c.in-Ok.ensures.views } }
+find_query-requires g c = record { ready = record { valid = c.requires.valid; queries = c.requires.queries; of_catalog = c.in-Ok.ensures.views } }

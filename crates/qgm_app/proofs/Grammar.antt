@@ -1,0 +1,23 @@
+-- The views of a schema of the grammar are of it.
+use Rattle.std.proofs.Common.{ℕ, ◌≡◌, ◌&&◌, true, List, [], ◌∷◌, Option, Some, None, Result, Ok, subst}
+use Rattle.std.proofs.lemmas.Bool.{and_parts}
+use Rattle.sql_ast.specs.Declarations.{Declared, views_of}
+use Rattle.sql_ast.specs.Grammatical.{are_elements, are_statements, is_query, some_of}
+use Rattle.sql_ast.specs.Syntax as s
+use Rattle.sql_catalog.specs.Catalog.{all_of, declared, fault, unless}
+use Rattle.built_queries.specs.Buildable.{AreQueries}
+
+views-queries : (xs : List s.Statement) → are_statements xs ≡ true → AreQueries (views_of xs)
+views-queries [] h = tt
+views-queries (s.table d ∷ xs) h = views-queries xs (and_parts (some_of d.elements && are_elements d.elements) (are_statements xs) h).1
+views-queries (s.view v ∷ xs) h =
+    let p = and_parts (is_query v.query) (are_statements xs) h in
+    (p.0, views-queries xs p.1)
+
+of-unless : (d : Declared) (number : Option ℕ) (catalog : Declared) → unless d number ≡ Ok catalog → d ≡ catalog
+of-unless d None catalog is = cc
+of-unless d (Some number) catalog is = absurd (cc is)
+
+pub queries-declared : (schema : s.Schema) (catalog : Declared) → are_statements schema.statements ≡ true → declared schema ≡ Ok catalog → AreQueries catalog.views
+queries-declared schema catalog h is =
+    subst (λ (d : Declared). AreQueries d.views) (of-unless (all_of schema) (fault (all_of schema)) catalog is) (views-queries schema.statements h)
