@@ -27,8 +27,8 @@ task_text (Gen seed rows) = gen seed rows
 abbrev pub line_text : Line → LineText
 line_text l = record { task = task_text l.task; plan = l.plan }
 
--- whether the program takes the command: it is built, and its numbers are within range (`clap` takes no others)
+-- whether the program takes the command: its numbers are within range (`clap` takes no others)
 abbrev pub is_taken : TaskText → Bool
 is_taken (run schema query dir) = true
-is_taken (explain schema query dir) = false
+is_taken (explain schema query dir) = true
 is_taken (gen seed rows) = nat_le seed greatest_seed && nat_le rows greatest_rows

@@ -1,5 +1,5 @@
 -- The fixed schema, and that the tables which are made fit it.
-use Rattle.std.proofs.Common.{ℕ, ◌≡◌, ◌∙◌, refl, sym, subst, List, [], ◌∷◌, Ok, Some, Result}
+use Rattle.std.proofs.Common.{ℕ, ◌≡◌, ◌<◌, ◌^◌, ◌∙◌, refl, sym, subst, List, [], ◌∷◌, Ok, Some, Result}
 use Rattle.std.specs.Str.{chars, is_utf8}
 use Rattle.csv_tables.specs.Fits.{FitsSchema}
 use Rattle.generated_input.specs.Made.{made}
@@ -25,7 +25,7 @@ same-ok : (a b : Declared) → ◌≡◌ {A = Result Declared ℕ} (Ok a) (Ok b)
 same-ok a b e = cc
 
 -- what is made fits the catalog of the fixed schema
-pub fits-of : (catalog : Declared) (tables : List Table) (seed rows : ℕ) → catalog_of (Some schema_text) ≡ Ok catalog → tables ≡ made seed rows → FitsSchema catalog.tables tables
-fits-of catalog tables seed rows is made-is =
+pub fits-of : (catalog : Declared) (tables : List Table) (seed rows : ℕ) → rows < 2 ^ 60 → catalog_of (Some schema_text) ≡ Ok catalog → tables ≡ made seed rows → FitsSchema catalog.tables tables
+fits-of catalog tables seed rows few is made-is =
     let same = same-ok fixed catalog (sym catalog-is ∙ is) in
-    subst (λ (c : Declared). FitsSchema c.tables tables) same (subst (λ (ts : List Table). FitsSchema fixed.tables ts) (sym made-is) (made-fits seed rows))
+    subst (λ (c : Declared). FitsSchema c.tables tables) same (subst (λ (ts : List Table). FitsSchema fixed.tables ts) (sym made-is) (made-fits seed rows few))

@@ -19,7 +19,7 @@ use Rattle.qgm_app.specs.Outcome.{End, end_of, from_tables, outcome, refusing, w
 use Rattle.qgm_app.specs.Questions.{Found}
 use Rattle.qgm_app.specs.Printed.{said_of}
 use Rattle.qgm_app.specs.Runs.{ComesTold, Prepares, found_end}
-use Rattle.qgm_app.specs.Telling.{Reports}
+use Rattle.qgm_app.specs.Telling.{Counts, CountsOf, Reports}
 use Rattle.qgm_app.specs.Texts.{catalog_of, valid_query}
 use Rattle.qgm_app.specs.declared.report.Report.{Report}
 use Rattle.qgm_app.specs.declared.report.Said.{Said}
@@ -138,3 +138,28 @@ told-prepares (Some t) (Some u) o report (Ok said) h is =
     let k = h.1 in
     (k.0, k.1, (k.2, rw k.3.0 (k.3.1, report, (h.0, k.3.2, h.2), is)))
 told-prepares (Some t) (Some u) o report (Err e) h is = (h.1.0, h.1.1, h.1.2)
+
+-- ---- steps
+
+-- these are the steps of what an outcome comes to
+counts-at : (t u : Option Told) (o : List File → Outcome End) (end : End) (before after : ℕ) → Comes t u o (answered end) → Counts end before after → CountsOf t o before after
+counts-at None u o end before after h k = tt
+counts-at (Some t) None o end before after h k = absurd h
+counts-at (Some t) (Some u) o end before after h k = (end, h.3.2, k)
+
+-- of what was found for a command line
+pub line-counts : (t u : Option Told) (taken : LineText) (found : Found) (before after : ℕ)
+    → Comes t u (λ fs. with_task taken.task fs) (answered found) → Counts (end_of taken found) before after → CountsOf t (λ fs. with_line (Some taken) fs) before after
+line-counts t u taken found before after h k = counts-at t u (λ fs. with_line (Some taken) fs) (end_of taken found) before after (line-found t u taken found h) k
+
+-- of words that are no command line
+pub no-line-counts : (t : Option Told) (words : List (List ℕ)) (before after : ℕ) → line words ≡ None → after ≡ before → CountsOf t (outcome words) before after
+unfolding with_line
+no-line-counts t words before after is same =
+    subst (λ (l : Option LineText). CountsOf t (λ fs. with_line l fs) before after) (sym is)
+    (counts-at t t (λ fs. with_line None fs) (refusing Usage) before after (comes-done t (refusing Usage)) same)
+
+-- of words that are one
+pub line-taken-counts : (t : Option Told) (words : List (List ℕ)) (taken : LineText) (before after : ℕ) → line words ≡ Some taken
+    → CountsOf t (λ fs. with_line (Some taken) fs) before after → CountsOf t (outcome words) before after
+line-taken-counts t words taken before after is h = subst (λ (l : Option LineText). CountsOf t (λ fs. with_line l fs) before after) (sym is) h

@@ -49,10 +49,10 @@ with_catalog query dir files (Ok catalog) = with_views query dir catalog files (
 abbrev pub from_schema : List ℕ → List ℕ → List ℕ → List File → Outcome Found
 from_schema schema query dir files = read files schema 65536 >>= (λ text. with_catalog query dir files (catalog_of text))
 
--- the question of a command; one that isn't built yet is in no command line
+-- the question of a command
 abbrev pub with_task : TaskText → List File → Outcome Found
 with_task (run schema query dir) files = from_schema schema query dir files
-with_task (explain schema query dir) files = done (Err Usage)
+with_task (explain schema query dir) files = from_schema schema query dir files
 with_task (gen seed rows) files = done (generated seed rows)
 
 -- what comes of a command line: this report, or a report on the answer to this question

@@ -10,9 +10,9 @@ ghost use Rattle.qgm_app.specs.declared.report.Report.TheVariants.{Usage};
 ghost use Rattle.qgm_app.specs.Ready.{IsFoundReady};
 ghost use Rattle.qgm_app.specs.Outcome.{outcome, with_line, with_task};
 ghost use Rattle.qgm_app.specs.Printed.{said_of};
+ghost use Rattle.qgm_app.specs.Telling.{CountsOf};
 ghost use Rattle.qgm_app.specs.Runs.{ComesTold, IsMade, IsUsage, Prepares, found_end};
 
-use crate::answers::answer;
 use crate::generated::generated;
 use crate::question::Found;
 use crate::report::{Report, Said, say_fault};
@@ -37,7 +37,7 @@ fn find<F: Files>(alloc: Global, task: &Task, files: &mut F) -> Result<Found, In
 {
     match task {
         Task::Run { schema, query, dir } => find_question(alloc, schema, query, dir, files),
-        Task::Explain { .. } => Ok(Found::Refused(Report::Usage)),
+        Task::Explain { schema, query, dir } => find_question(alloc, schema, query, dir, files),
         Task::Gen { seed, rows } => Ok(generated(alloc, *seed, *rows)?),
     }
 }
@@ -52,15 +52,13 @@ fn run_line<F: Files, L: Ledger>(
     requires taken { is_taken (task_text line.now.task) ≡ true }
     ensures comes { ComesTold (F.told files.old) (F.told files.new) (λ fs. with_line (Some (line_text line.now)) fs) result }
     ensures line { IfOk result (λ report. report ≢ Usage) }
+    ensures counts { IfOk result (λ report. CountsOf (F.told files.old) (λ fs. with_line (Some (line_text line.now)) fs) steps.old steps.new) }
     ensures unread { IsMade (task_text line.now.task) → files.new ≡ files.old }
     ensures later { F.faults files.old ≤ F.faults files.new }
     ensures failed { RoseIfFault result (F.faults files.old) (F.faults files.new) }
 {
     match find(alloc, &line.task, files)? {
-        Found::Asked(question) => {
-            let answer = answer(alloc, question, steps)?;
-            Ok(tell(alloc, &line.task, &answer)?)
-        }
+        Found::Asked(question) => Ok(tell(alloc, line, question, steps)?),
         Found::Refused(report) => Ok(report),
     }
 }
@@ -75,6 +73,7 @@ fn prepare<F: Files, L: Ledger>(
     ensures comes { ComesTold (F.told files.old) (F.told files.new) (outcome (map (λ w. string_bytes w) words.now)) result }
     ensures no_line { line (map (λ w. string_bytes w) words.now) ≡ None → (files.new ≡ files.old) × IsUsage result }
     ensures line { IfOk result (λ report. report ≡ Usage → line (map (λ w. string_bytes w) words.now) ≡ None) }
+    ensures counts { IfOk result (λ report. CountsOf (F.told files.old) (outcome (map (λ w. string_bytes w) words.now)) steps.old steps.new) }
     ensures unread { IfSome (line (map (λ w. string_bytes w) words.now)) (λ l. IsMade l.task → files.new ≡ files.old) }
     ensures later { F.faults files.old ≤ F.faults files.new }
     ensures failed { RoseIfFault result (F.faults files.old) (F.faults files.new) }
@@ -99,6 +98,7 @@ pub fn respond<F: Files, L: Ledger>(
     ensures usage { IfOk result (λ said. said.status ≡ 2 → (line (map (λ w. string_bytes w) words.now) ≡ None) × (said ≡ said_of Usage)) }
     ensures later { F.faults files.old ≤ F.faults files.new }
     ensures failed { IfOk result (λ said. said.status ≡ 3 → Rose (F.faults files.old) (F.faults files.new)) }
+    ensures counts { IfOk result (λ said. said.status < 2 → CountsOf (F.told files.old) (outcome (map (λ w. string_bytes w) words.now)) steps.old steps.new) }
     ensures status { IfOk result (λ said. (said.status ≢ 4) × (said.status < 8)) }
 {
     match prepare(alloc, words, files, steps) {

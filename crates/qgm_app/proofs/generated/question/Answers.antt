@@ -13,7 +13,7 @@ pub returns-in-Ok-clause-ready : goal.returns-in-Ok-clause-ready
 returns-in-Ok-clause-ready c = record {
   views = c.requires.ready;
   checked = c.in-Ok.ensures.checked;
-  tables = fits-of (catalogs.catalog c.args.catalog) c.in_ok-made-in-Ok.field-0 c.args.seed c.args.rows c.requires.fixed c.in_ok-made-in-Ok.ensures;
+  tables = fits-of (catalogs.catalog c.args.catalog) c.in_ok-made-in-Ok.field-0 c.args.seed c.args.rows c.requires.rows c.requires.fixed c.in_ok-made-in-Ok.ensures;
 }
 
 pub returns-in-Err-Number-clause-found : goal.returns-in-Err-Number-clause-found
