@@ -1,7 +1,8 @@
 -- A command line, without the addresses of its texts.
-use Rattle.std.specs.Prelude.{ℕ, Bool, true, false}
+use Rattle.std.specs.Prelude.{ℕ, ◌&&◌, nat_le, Bool, true, false}
 use Rattle.clap.specs.Words.{Text}
 use Rattle.rewrite_plan.specs.declared.plan.Plan.{Plan}
+use Rattle.command_line.specs.Command.{greatest_rows, greatest_seed}
 use Rattle.command_line.specs.declared.task.Line.{Line}
 use Rattle.command_line.specs.declared.task.Task.{Task}
 use Rattle.command_line.specs.declared.task.Task.TheVariants.{Run, Explain, Gen}
@@ -26,8 +27,8 @@ task_text (Gen seed rows) = gen seed rows
 abbrev pub line_text : Line → LineText
 line_text l = record { task = task_text l.task; plan = l.plan }
 
--- whether the program has the command
-abbrev pub is_built : TaskText → Bool
-is_built (run schema query dir) = true
-is_built (explain schema query dir) = false
-is_built (gen seed rows) = false
+-- whether the program takes the command: its numbers are within range (`clap` takes no others)
+abbrev pub is_taken : TaskText → Bool
+is_taken (run schema query dir) = true
+is_taken (explain schema query dir) = true
+is_taken (gen seed rows) = nat_le seed greatest_seed && nat_le rows greatest_rows

@@ -13,7 +13,7 @@ use Rattle.rewrite_plan.specs.declared.plan.Walk.{Walk}
 use Rattle.rewrite_plan.specs.declared.plan.Walk.TheVariants.{Depth, Breadth}
 use Rattle.command_line.specs.Classes.{classes_named}
 use Rattle.command_line.specs.Command.{line_app}
-use Rattle.command_line.specs.Line.{LineText, TaskText, run, explain, gen, is_built}
+use Rattle.command_line.specs.Line.{LineText, TaskText, run, explain, gen, is_taken}
 use Rattle.command_line.specs.Named.{◌>>=◌, named}
 
 abbrev pub order_named : Text → Option Order
@@ -72,7 +72,7 @@ abbrev pub no_fault : Kinds → Bool
 no_fault [] = true
 no_fault (k ∷ ks) = false
 
--- what the words say, whose command may not be built yet; none where `clap` doesn't take them, they
+-- what the words say, whose command may not be taken; none where `clap` doesn't take them, they
 -- hold no command, or an order, a walk or a class isn't one of those listed
 unfoldable pub known_line : List Text → Option LineText
 known_line words = if no_fault (fault_of line_app words)
@@ -82,4 +82,4 @@ known_line words = if no_fault (fault_of line_app words)
 unfoldable pub line : List Text → Option LineText
 line words = do
   found ← known_line words
-  if is_built found.task then Some found else None
+  if is_taken found.task then Some found else None

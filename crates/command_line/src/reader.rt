@@ -2,14 +2,14 @@
 ghost use Rattle.std.specs.Prelude.{◌≡◌, ◌≢◌, Err, IfOk, IsErrOf, None, Some, map, option_and_then, option_map, true};
 ghost use Rattle.std.specs.Prelude.{string_bytes};
 ghost use Rattle.clap.specs.Words.{found_of, rows_of, subcommand_rows_of};
-ghost use Rattle.command_line.specs.Line.{is_built, line_text, task_text};
+ghost use Rattle.command_line.specs.Line.{is_taken, line_text, task_text};
 ghost use Rattle.command_line.specs.Reading.{command_at, known_line, line, number, order_named};
 ghost use Rattle.command_line.specs.Reading.{plan_at, task_at, text_at, walk_named};
 
 use crate::classes::classes_named;
 use crate::command::line_command;
 use crate::refusal::WordsRefusal;
-use crate::task::{Line, Task, is_built};
+use crate::task::{Line, Task, is_taken};
 use clap::ArgMatches;
 use clap::error::ErrorKind;
 use rewrite_plan::{Order, Plan, Walk};
@@ -131,7 +131,7 @@ fn refusal_of(kind: ErrorKind) -> WordsRefusal
     }
 }
 
-// The line that the words are, whose command may not be built yet.
+// The line that the words are, whose command may not be taken.
 fn known_line<'a>(alloc: Global, words: &'a [String]) -> Result<Line<'a>, WordsRefusal>
     ensures ok { IfOk result (λ l. known_line (map (λ w. string_bytes w) words.now) ≡ Some (line_text l)) }
     ensures usage { IsErrOf result WordsRefusal.Usage → known_line (map (λ w. string_bytes w) words.now) ≡ None }
@@ -148,15 +148,15 @@ fn known_line<'a>(alloc: Global, words: &'a [String]) -> Result<Line<'a>, WordsR
 
 /// The command line that the words are (those after the program's name). It answers `Usage` where
 /// they are none: where `clap` doesn't take them, they hold no command, an order, a walk or a class
-/// isn't one of those listed, a class stands twice, or the command isn't built yet.
+/// isn't one of those listed, a class stands twice, or the command isn't taken.
 pub fn read_line<'a>(alloc: Global, words: &'a [String]) -> Result<Line<'a>, WordsRefusal>
     ensures ok { IfOk result (λ l. line (map (λ w. string_bytes w) words.now) ≡ Some (line_text l)) }
     ensures usage { IsErrOf result WordsRefusal.Usage → line (map (λ w. string_bytes w) words.now) ≡ None }
-    ensures built { IfOk result (λ l. is_built (task_text l.task) ≡ true) }
+    ensures taken { IfOk result (λ l. is_taken (task_text l.task) ≡ true) }
 {
     match known_line(alloc, words) {
         Ok(line) => {
-            if is_built(&line.task) {
+            if is_taken(&line.task) {
                 Ok(line)
             } else {
                 Err(WordsRefusal::Usage)

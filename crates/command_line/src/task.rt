@@ -1,6 +1,6 @@
 // What a command line asks for.
 ghost use Rattle.std.specs.Prelude.{◌≡◌};
-ghost use Rattle.command_line.specs.Line.{is_built, task_text};
+ghost use Rattle.command_line.specs.Line.{is_taken, task_text};
 
 use rewrite_plan::Plan;
 
@@ -43,12 +43,12 @@ pub struct Line<'a> {
     pub plan: Plan,
 }
 
-// Whether the program has the command.
-pub(crate) fn is_built(task: &Task) -> bool
-    ensures { result ≡ is_built (task_text task.now) }
+// Whether the program takes the command: its numbers are within range.
+pub(crate) fn is_taken(task: &Task) -> bool
+    ensures { result ≡ is_taken (task_text task.now) }
 {
     match task {
-        Task::Run { .. } => true,
-        Task::Explain { .. } | Task::Gen { .. } => false,
+        Task::Run { .. } | Task::Explain { .. } => true,
+        Task::Gen { seed, rows } => *seed <= 2_147_483_647 && *rows <= 100_000,
     }
 }

@@ -4,7 +4,7 @@ use Rattle.std.specs.Fmt.{decimal}
 use Rattle.sql_value.specs.declared.cell.Kind.{Kind}
 use Rattle.sql_value.specs.declared.cell.Kind.TheVariants.{Cardinality, Division, Overflow}
 use Rattle.qgm_app.specs.declared.report.Report.{Report}
-use Rattle.qgm_app.specs.declared.report.Report.TheVariants.{Rows, Error, Usage, SchemaRefused, ViewRefused, DataRefused, QueryRefused}
+use Rattle.qgm_app.specs.declared.report.Report.TheVariants.{Rows, Error, ExplainedError, Usage, SchemaRefused, ViewRefused, DataRefused, QueryRefused}
 use Rattle.qgm_app.specs.declared.report.Said.{Said}
 
 -- the SQLSTATE of a runtime error
@@ -16,15 +16,21 @@ sqlstate Overflow = codes "22003"
 abbrev pub status_of : Report → ℕ
 status_of (Rows bytes) = 0
 status_of (Error kind) = 1
+status_of (ExplainedError told kind) = 1
 status_of Usage = 2
 status_of (SchemaRefused number) = 5
 status_of (ViewRefused view number) = 5
 status_of (DataRefused number table row) = 6
 status_of (QueryRefused number) = 7
 
+-- the line of a runtime error
+abbrev pub error_line : Kind → List ℕ
+error_line kind = codes "ERROR " ++ (sqlstate kind ++ codes "\n")
+
 abbrev pub printed : Report → List ℕ
 printed (Rows bytes) = bytes
-printed (Error kind) = codes "ERROR " ++ (sqlstate kind ++ codes "\n")
+printed (Error kind) = error_line kind
+printed (ExplainedError told kind) = told ++ error_line kind
 printed Usage = codes "USAGE\n"
 printed (SchemaRefused number) = codes "SCHEMA S" ++ (decimal number ++ codes "\n")
 printed (ViewRefused view number) = codes "SCHEMA S11 " ++ (encode_utf8_all view ++ (codes " " ++ (decimal number ++ codes "\n")))

@@ -4,15 +4,12 @@ use Rattle.sql_ast.specs.Syntax as s
 use Rattle.sql_ast.specs.Declarations.{Declared}
 use Rattle.sql_catalog.specs.Catalog.{declared}
 use Rattle.query_checks.specs.Views.{fault}
-use Rattle.sql_check.specs.declared.checked.Views.{Views}
 use Rattle.sql_parser.specs.ReadSchema.{schema_tree}
 use Rattle.sql_parser.specs.ReadText.{query_tree}
 use Rattle.sql_text.specs.Depth.{too_deep}
 use Rattle.sql_text.specs.Tokens.{token_list, tokens}
 use Rattle.sql_text.specs.declared.token.Spanned.{Spanned}
 use Rattle.sql_text.specs.declared.token.Token.{Token}
-use Rattle.sql_check.specs.declared.checked.Checked.{Checked}
-use Rattle.qgm_app.specs.Answered.{Answers}
 use Rattle.qgm_app.specs.declared.texts.TextRefusal.{TextRefusal}
 use Rattle.qgm_app.specs.declared.texts.TextRefusal.TheVariants.{Number, Memory}
 
@@ -66,10 +63,3 @@ abbrev pub Gives : {X Y : Type 0} → (X → Y) → Result X TextRefusal → Res
 Gives seen (Ok x) what = what ≡ Ok (seen x)
 Gives seen (Err (Number number)) what = what ≡ Err number
 Gives seen (Err Memory) what = ⊤
-
--- a call's answer is a checked query with the answer of the text, but where memory ran out
-abbrev pub GivesAnswering : Declared → Views → Result Checked TextRefusal → Result s.QueryText ℕ → Type 0
-GivesAnswering catalog views (Ok x) (Ok query) = Answers catalog views x query
-GivesAnswering catalog views (Ok x) (Err number) = ⊥
-GivesAnswering catalog views (Err (Number number)) what = what ≡ Err number
-GivesAnswering catalog views (Err Memory) what = ⊤

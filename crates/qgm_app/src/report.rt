@@ -1,7 +1,7 @@
 // What a run answers, its status and its text.
-ghost use Rattle.std.specs.Prelude.{◌≡◌, IfOk, encode_utf8_all};
-ghost use Rattle.qgm_app.specs.declared.report.Report.TheVariants.{DataRefused, Error, ViewRefused};
-ghost use Rattle.qgm_app.specs.Printed.{read_failed, said_of};
+ghost use Rattle.std.specs.Prelude.{◌≡◌, ◌++◌, IfOk, encode_utf8_all};
+ghost use Rattle.qgm_app.specs.declared.report.Report.TheVariants.{DataRefused, ViewRefused};
+ghost use Rattle.qgm_app.specs.Printed.{error_line, read_failed, said_of};
 
 use shared_types::{OutOfMemory, Text};
 use sql_text::Name;
@@ -16,6 +16,8 @@ pub enum Report {
     Rows(Items<u8>),
     /// A runtime error.
     Error(Kind),
+    /// Bytes that tell of a rewriting, and behind them a runtime error.
+    ExplainedError { told: Items<u8>, kind: Kind },
     /// The words are no command.
     Usage,
     /// The schema is refused with this number.
@@ -45,15 +47,24 @@ fn say(alloc: Global, status: u8, text: &str) -> Result<Said, OutOfMemory>
     })
 }
 
-// What is said of a runtime error: its SQLSTATE.
-fn say_error(alloc: Global, kind: Kind) -> Result<Said, OutOfMemory>
-    ensures { IfOk result (λ said. said ≡ said_of (Error kind)) }
+// The line of a runtime error: its SQLSTATE.
+fn error_line(kind: Kind) -> &'static str
+    ensures { result.now ≡ error_line kind }
 {
     match kind {
-        Kind::Cardinality => say(alloc, 1, "ERROR 21000\n"),
-        Kind::Division => say(alloc, 1, "ERROR 22012\n"),
-        Kind::Overflow => say(alloc, 1, "ERROR 22003\n"),
+        Kind::Cardinality => "ERROR 21000\n",
+        Kind::Division => "ERROR 22012\n",
+        Kind::Overflow => "ERROR 22003\n",
     }
+}
+
+// What is said of a runtime error behind these bytes.
+fn say_behind(alloc: Global, told: Items<u8>, kind: Kind) -> Result<Said, OutOfMemory>
+    ensures { IfOk result (λ said. said ≡ record { status = 1; text = told ++ error_line kind }) }
+{
+    let mut text = told;
+    text.append(Items::from_slice(alloc, error_line(kind).as_bytes())?)?;
+    Ok(Said { status: 1, text })
 }
 
 // What is said of a view that is refused.
@@ -90,7 +101,8 @@ impl Report {
     {
         match self {
             Report::Rows(text) => Ok(Said { status: 0, text }),
-            Report::Error(kind) => say_error(alloc, kind),
+            Report::Error(kind) => say(alloc, 1, error_line(kind)),
+            Report::ExplainedError { told, kind } => say_behind(alloc, told, kind),
             Report::Usage => say(alloc, 2, "USAGE\n"),
             Report::SchemaRefused(number) => {
                 let line = format!(in alloc; "SCHEMA S{number}\n")?;

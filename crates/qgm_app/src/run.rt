@@ -1,5 +1,5 @@
 // The top call.
-ghost use Rattle.std.specs.Prelude.{◌≡◌, ◌≢◌, ◌≤◌, ◌⊎◌, ◌++◌, ℕ, List, None, Some, IfSome, map, codes};
+ghost use Rattle.std.specs.Prelude.{◌≡◌, ◌≢◌, ◌≤◌, ◌<◌, ◌⊎◌, ◌++◌, ℕ, List, None, Some, IfSome, map, codes};
 ghost use Rattle.std.specs.String.{string_bytes};
 ghost use Rattle.io_edge.specs.Causes.{Rose};
 ghost use Rattle.io_edge.specs.Outcome.{AskedOf, failed_name};
@@ -7,11 +7,12 @@ ghost use Rattle.io_edge.specs.Outside.{Ask, StopsShort, written_after};
 ghost use Rattle.command_line.specs.Reading.{line};
 ghost use Rattle.sql_value.specs.declared.cell.Kind.{Kind};
 ghost use Rattle.qgm_app.specs.declared.report.Report.{Report};
-ghost use Rattle.qgm_app.specs.declared.report.Report.TheVariants.{Rows, Error, SchemaRefused, ViewRefused, DataRefused, QueryRefused};
+ghost use Rattle.qgm_app.specs.declared.report.Report.TheVariants.{Rows, SchemaRefused, ViewRefused, DataRefused, QueryRefused};
 ghost use Rattle.qgm_app.specs.declared.report.Said.{Said};
 ghost use Rattle.qgm_app.specs.Outcome.{outcome};
 ghost use Rattle.qgm_app.specs.Printed.{printed, status_of};
-ghost use Rattle.qgm_app.specs.Runs.{ComesTo, IsSaid, Runs};
+ghost use Rattle.qgm_app.specs.Telling.{CountsOf, IsErrorReport};
+ghost use Rattle.qgm_app.specs.Runs.{ComesTo, IsMade, IsSaid, Runs};
 
 use crate::respond::respond;
 use io_edge::{Files, Sink, write_all};
@@ -36,14 +37,13 @@ const NO_MEMORY: u8 = 8;
 /// - 7: the query is refused
 /// - 8: memory ran out, and nothing was written
 ///
-/// `steps` counts evaluations of boxes, of which there are none: every query is answered by nested
-/// loops over its resolved form.
+/// `steps` counts evaluations of boxes: the graph of the query is built, rewritten, and executed.
 pub fn run_command<F: Files, K: Sink, L: Ledger>(
     alloc: Global,
     words: &[String],
     files: &mut F,
     out: &mut K,
-    _steps: &mut Steps<L>,
+    steps: &mut Steps<L>,
 ) -> u8
     // The whole, over files that tell of themselves: what was read, and what was written of the report.
     ensures runs { Runs (F.told files.old) (F.told files.new) (outcome (map (λ w. string_bytes w) words.now)) (K.written out.old) (K.written out.new) result }
@@ -57,9 +57,11 @@ pub fn run_command<F: Files, K: Sink, L: Ledger>(
     ensures rows { result ≡ 0 → ComesTo (F.told files.old) (outcome (map (λ w. string_bytes w) words.now))
         (λ report. (bytes : List ℕ) × (report ≡ Rows bytes) × (K.written out.new ≡ written_after bytes (K.written out.old))) }
     ensures error { result ≡ 1 → ComesTo (F.told files.old) (outcome (map (λ w. string_bytes w) words.now))
-        (λ report. (kind : Kind) × (report ≡ Error kind) × (K.written out.new ≡ written_after (printed (Error kind)) (K.written out.old))) }
+        (λ report. (kind : Kind) × IsErrorReport kind report × (K.written out.new ≡ written_after (printed report) (K.written out.old))) }
     ensures usage { result ≡ 2 → (line (map (λ w. string_bytes w) words.now) ≡ None) × (K.written out.new ≡ written_after (codes "USAGE\n") (K.written out.old)) }
     ensures no_line { line (map (λ w. string_bytes w) words.now) ≡ None → (files.new ≡ files.old) × ((result ≡ 2) ⊎ (result ≡ 4) ⊎ (result ≡ 8)) }
+    // `gen` reads no file.
+    ensures unread { IfSome (line (map (λ w. string_bytes w) words.now)) (λ l. IsMade l.task → files.new ≡ files.old) }
     ensures read_fault { result ≡ 3 → Rose (F.faults files.old) (F.faults files.new) }
     ensures read_named { result ≡ 3 → IfSome (F.told files.old) (λ t. IfSome (F.told files.new) (λ u. (asks : List Ask) × (name : List ℕ) × (u.asked ≡ t.asked ++ asks)
         × (failed_name asks ≡ Some name) × (K.written out.new ≡ written_after (codes "READ " ++ (name ++ codes "\n")) (K.written out.old)))) }
@@ -76,11 +78,13 @@ pub fn run_command<F: Files, K: Sink, L: Ledger>(
     // The names asked: those of the outcome in order, up to one whose read failed; the files are left as they were.
     ensures asked { IfSome (F.told files.old) (λ t. IfSome (F.told files.new) (λ u. (asks : List Ask) × (u.asked ≡ t.asked ++ asks) × (u.files ≡ t.files)
         × AskedOf (outcome (map (λ w. string_bytes w) words.now) t.files).names asks)) }
+    // The steps: where the answer was written, those of the execution of the graph that the query's graph is rewritten to.
+    ensures counts { result < 2 → CountsOf (F.told files.old) (outcome (map (λ w. string_bytes w) words.now)) steps.old steps.new }
     ensures files_later { F.faults files.old ≤ F.faults files.new }
     ensures out_later { K.faults out.old ≤ K.faults out.new }
     ensures status { result ≤ 8 }
 {
-    let Ok(said) = respond(alloc, words, files) else {
+    let Ok(said) = respond(alloc, words, files, steps) else {
         return NO_MEMORY;
     };
     match write_all(out, said.text.as_slice()) {

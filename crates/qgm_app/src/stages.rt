@@ -1,92 +1,56 @@
-// The stages of a run: each reads a file, and hands what it holds to the next.
-ghost use Rattle.std.specs.Prelude.{◌≡◌, ◌≢◌, ◌≤◌, None, IfOk, List};
-ghost use Rattle.csv_tables.specs.Printed.{printed_rows};
-ghost use Rattle.io_edge.specs.Outcome.{Comes, RoseIfFault, ended};
-ghost use Rattle.row_bag.specs.Bags.{Agree};
-ghost use Rattle.row_bag.specs.Sets.{same_cells};
-ghost use Rattle.row_bag.specs.Sorted.{sorted_rows};
-ghost use Rattle.row_bag.specs.Verdict.{verdict};
-ghost use Rattle.row_bag.specs.declared.row.Row.{Row};
-ghost use Rattle.sql_ast.specs.Syntax.{QueryText};
+// The stages of reading: each reads a file, and hands what it holds to the next.
+ghost use Rattle.std.specs.Prelude.{◌≡◌, ◌≢◌, ◌≤◌, None, IfOk};
+ghost use Rattle.io_edge.specs.Outcome.{Comes, RoseIfFault};
+ghost use Rattle.sql_ast.specs.Shown as shown;
 ghost use Rattle.sql_catalog.specs.Catalog.{fault};
 ghost use Rattle.sql_catalog.specs.Shown as catalogs;
-ghost use Rattle.sql_meaning.specs.Meaning.{answer_of};
-ghost use Rattle.sql_check.specs.Checked.{answer_of as checked_answer};
-ghost use Rattle.sql_value.specs.declared.cell.Cell.{Cell};
 ghost use Rattle.query_checks.specs.Views.{view_refusal};
+ghost use Rattle.built_queries.specs.Buildable.{AreQueries};
+ghost use Rattle.qgm_app.specs.declared.question.Found.TheVariants.{Refused};
 ghost use Rattle.qgm_app.specs.declared.report.Report.TheVariants.{Usage};
-ghost use Rattle.qgm_app.specs.Outcome.{from_query, from_schema, from_tables, report_of, with_views};
-ghost use Rattle.qgm_app.specs.Answered.{Answers, AreReady};
+ghost use Rattle.qgm_app.specs.Ready.{AreReady, IsChecked, IsFoundReady};
+ghost use Rattle.qgm_app.specs.Outcome.{from_query, from_schema, from_tables, with_views};
+ghost use Rattle.qgm_app.specs.Runs.{found_end};
 
+use crate::question::{Found, Question};
 use crate::report::Report;
-use crate::texts::{TextRefusal, read_catalog, read_query};
-use csv_tables::{DataRefusal, load, write_rows};
+use crate::texts::{TextRefusal, Valid, read_catalog, read_query};
+use csv_tables::{DataRefusal, load};
 use io_edge::{Files, Interruption, fetch_file};
-use plain_exec::{answer_laws, execute};
 use query_checks::ViewRefusal;
-use row_bag::{Bag, Tables, Verdict, sorted, verdict};
-use shared_types::OutOfMemory;
 use sql_catalog::Catalog;
-use sql_check::{Checked, Views, check_views};
-use sqlite_items::Items;
+use sql_check::{Views, check_views};
 use std::alloc::Global;
 
 /// The greatest number of bytes of a text.
 const MAX_TEXT: usize = 65_536;
 
-// The header and the rows in the order of the keys, in CSV.
-fn print(alloc: Global, checked: &Checked, bag: Bag) -> Result<Items<u8>, OutOfMemory>
-    ensures { IfOk result (λ bytes. bytes ≡ printed_rows checked.now.names (sorted_rows checked.now.order bag)) }
-{
-    let bag = sorted(bag, &checked.order)?;
-    Ok(Items::from_vec(write_rows(alloc, &checked.names, &bag)?))
-}
-
-// The report of a query with this bag.
-fn report_rows(alloc: Global, checked: &Checked, bag: Bag) -> Result<Report, OutOfMemory>
-    ensures report { IfOk result (λ report. (rows : List (Row (List Cell))) → Agree same_cells bag rows → report ≡ report_of (answer_of checked.now.names checked.now.order (verdict rows))) }
-    ensures line { IfOk result (λ report. report ≢ Usage) }
-{
-    answer_laws();
-    match verdict(bag) {
-        Verdict::Rows(bag) => Ok(Report::Rows(print(alloc, checked, bag)?)),
-        Verdict::Error(kind) => Ok(Report::Error(kind)),
-    }
-}
-
-// The report of a checked query over these views and tables.
-fn answer(
-    alloc: Global,
-    checked: &Checked,
-    views: &Views,
-    tables: Tables,
-) -> Result<Report, OutOfMemory>
-    ensures report { IfOk result (λ report. report ≡ report_of (checked_answer views.now checked.now tables)) }
-    ensures line { IfOk result (λ report. report ≢ Usage) }
-{
-    let bag = execute(alloc, &checked.query, views.schema.views.as_slice(), tables)?;
-    report_rows(alloc, checked, bag)
-}
-
-// Reads the tables, and answers the query.
-fn run_tables<F: Files>(
+// Reads the tables of a valid query.
+fn find_tables<F: Files>(
     alloc: Global,
     dir: &str,
-    catalog: &Catalog,
-    views: &Views,
-    checked: &Checked,
+    catalog: Catalog,
+    views: Views,
+    valid: Valid,
     files: &mut F,
-) -> Result<Report, Interruption>
-    ensures comes { (query : QueryText) → Answers (catalogs.catalog catalog.now) views.now checked.now query
-        → Comes (F.told files.old) (F.told files.new) (λ fs. from_tables dir.now (catalogs.catalog catalog.now) query fs) (ended result) }
+) -> Result<Found, Interruption>
+    requires ready { AreReady (catalogs.catalog catalog) views }
+    requires checked { IsChecked (catalogs.catalog catalog) views (shown.query_text valid.query) valid.checked }
+    ensures comes { Comes (F.told files.old) (F.told files.new) (λ fs. from_tables dir.now (catalogs.catalog catalog) (shown.query_text valid.query) fs) (found_end result) }
     ensures later { F.faults files.old ≤ F.faults files.new }
     ensures failed { RoseIfFault result (F.faults files.old) (F.faults files.new) }
-    ensures line { IfOk result (λ report. report ≢ Usage) }
+    ensures line { IfOk result (λ found. found ≢ Refused Usage) }
+    ensures ready { IfOk result (λ found. IsFoundReady found) }
 {
-    match load(alloc, catalog, dir, files) {
-        Ok(tables) => Ok(answer(alloc, checked, views, tables)?),
+    match load(alloc, &catalog, dir, files) {
+        Ok(tables) => Ok(Found::Asked(Question {
+            catalog,
+            views,
+            valid,
+            tables,
+        })),
         Err(DataRefusal::Refused { number, table, row }) => {
-            Ok(Report::DataRefused { number, table, row })
+            Ok(Found::Refused(Report::DataRefused { number, table, row }))
         }
         Err(DataRefusal::ReadFault { name }) => Err(Interruption::ReadFault { name }),
         Err(DataRefusal::Memory) => Err(Interruption::Memory),
@@ -94,66 +58,73 @@ fn run_tables<F: Files>(
 }
 
 // Reads the query, and goes on to the tables.
-fn run_query<F: Files>(
+fn find_query<F: Files>(
     alloc: Global,
     query: &str,
     dir: &str,
-    catalog: &Catalog,
-    views: &Views,
+    catalog: Catalog,
+    views: Views,
     files: &mut F,
-) -> Result<Report, Interruption>
-    requires ready { AreReady (catalogs.catalog catalog.now) views.now }
-    ensures comes { Comes (F.told files.old) (F.told files.new) (λ fs. from_query query.now dir.now (catalogs.catalog catalog.now) fs) (ended result) }
+) -> Result<Found, Interruption>
+    requires ready { AreReady (catalogs.catalog catalog) views }
+    ensures comes { Comes (F.told files.old) (F.told files.new) (λ fs. from_query query.now dir.now (catalogs.catalog catalog) fs) (found_end result) }
     ensures later { F.faults files.old ≤ F.faults files.new }
     ensures failed { RoseIfFault result (F.faults files.old) (F.faults files.new) }
-    ensures line { IfOk result (λ report. report ≢ Usage) }
+    ensures line { IfOk result (λ found. found ≢ Refused Usage) }
+    ensures ready { IfOk result (λ found. IsFoundReady found) }
 {
     let text = fetch_file(alloc, files, query, MAX_TEXT)?;
-    match read_query(alloc, catalog, views, &text) {
-        Ok(checked) => run_tables(alloc, dir, catalog, views, &checked, files),
-        Err(TextRefusal::Number(number)) => Ok(Report::QueryRefused(number)),
+    match read_query(alloc, &catalog, &views, &text) {
+        Ok(valid) => find_tables(alloc, dir, catalog, views, valid, files),
+        Err(TextRefusal::Number(number)) => Ok(Found::Refused(Report::QueryRefused(number))),
         Err(TextRefusal::Memory) => Err(Interruption::Memory),
     }
 }
 
 // Checks the views of a catalog, and goes on to the query.
-fn run_catalog<F: Files>(
+fn find_views<F: Files>(
     alloc: Global,
     query: &str,
     dir: &str,
-    catalog: &Catalog,
+    catalog: Catalog,
     files: &mut F,
-) -> Result<Report, Interruption>
-    requires valid { fault (catalogs.catalog catalog.now) ≡ None }
-    ensures comes { Comes (F.told files.old) (F.told files.new) (λ fs. with_views query.now dir.now (catalogs.catalog catalog.now) fs (view_refusal (catalogs.catalog catalog.now))) (ended result) }
+) -> Result<Found, Interruption>
+    requires valid { fault (catalogs.catalog catalog) ≡ None }
+    requires queries { AreQueries (catalogs.catalog catalog).views }
+    ensures comes { Comes (F.told files.old) (F.told files.new) (λ fs. with_views query.now dir.now (catalogs.catalog catalog) fs (view_refusal (catalogs.catalog catalog))) (found_end result) }
     ensures later { F.faults files.old ≤ F.faults files.new }
     ensures failed { RoseIfFault result (F.faults files.old) (F.faults files.new) }
-    ensures line { IfOk result (λ report. report ≢ Usage) }
+    ensures line { IfOk result (λ found. found ≢ Refused Usage) }
+    ensures ready { IfOk result (λ found. IsFoundReady found) }
 {
-    match check_views(alloc, catalog) {
-        Ok(views) => run_query(alloc, query, dir, catalog, &views, files),
-        Err(ViewRefusal::Refused { view, number }) => Ok(Report::ViewRefused { view, number }),
+    match check_views(alloc, &catalog) {
+        Ok(views) => find_query(alloc, query, dir, catalog, views, files),
+        Err(ViewRefusal::Refused { view, number }) => {
+            Ok(Found::Refused(Report::ViewRefused { view, number }))
+        }
         Err(ViewRefusal::Memory) => Err(Interruption::Memory),
     }
 }
 
-/// Reads the schema, and goes on to its views and the query.
-pub fn run_schema<F: Files>(
+/// Reads the schema, the query and the tables: a valid query over tables that fit, or the first
+/// refusal.
+pub fn find_question<F: Files>(
     alloc: Global,
     schema: &str,
     query: &str,
     dir: &str,
     files: &mut F,
-) -> Result<Report, Interruption>
-    ensures comes { Comes (F.told files.old) (F.told files.new) (λ fs. from_schema schema.now query.now dir.now fs) (ended result) }
+) -> Result<Found, Interruption>
+    ensures comes { Comes (F.told files.old) (F.told files.new) (λ fs. from_schema schema.now query.now dir.now fs) (found_end result) }
     ensures later { F.faults files.old ≤ F.faults files.new }
     ensures failed { RoseIfFault result (F.faults files.old) (F.faults files.new) }
-    ensures line { IfOk result (λ report. report ≢ Usage) }
+    ensures line { IfOk result (λ found. found ≢ Refused Usage) }
+    ensures ready { IfOk result (λ found. IsFoundReady found) }
 {
     let text = fetch_file(alloc, files, schema, MAX_TEXT)?;
     match read_catalog(alloc, &text) {
-        Ok(catalog) => run_catalog(alloc, query, dir, &catalog, files),
-        Err(TextRefusal::Number(number)) => Ok(Report::SchemaRefused(number)),
+        Ok(catalog) => find_views(alloc, query, dir, catalog, files),
+        Err(TextRefusal::Number(number)) => Ok(Found::Refused(Report::SchemaRefused(number))),
         Err(TextRefusal::Memory) => Err(Interruption::Memory),
     }
 }

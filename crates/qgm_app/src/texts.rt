@@ -1,12 +1,14 @@
 // From the two texts to a catalog and a checked query.
-ghost use Rattle.std.specs.Prelude.{◌≡◌, List, [], IfOk};
+ghost use Rattle.std.specs.Prelude.{◌≡◌, true, IfOk};
+ghost use Rattle.built_queries.specs.Buildable.{AreQueries};
 ghost use Rattle.query_checks.specs.Views.{fault};
+ghost use Rattle.sql_ast.specs.Grammatical.{are_statements, is_query};
 ghost use Rattle.sql_ast.specs.Shown as shown;
 ghost use Rattle.sql_catalog.specs.Shown as catalogs;
 ghost use Rattle.sql_parser.specs.ReadSchema.{schema_tree};
 ghost use Rattle.sql_parser.specs.ReadText.{query_tree};
-ghost use Rattle.qgm_app.specs.Answered.{AreReady};
-ghost use Rattle.qgm_app.specs.Texts.{Gives, GivesAnswering, catalog_of, query_of, refused_by, schema_of, spans_of, tree_of, valid_query};
+ghost use Rattle.qgm_app.specs.Ready.{AreReady, IsChecked};
+ghost use Rattle.qgm_app.specs.Texts.{Gives, catalog_of, query_of, refused_by, schema_of, spans_of, tree_of, valid_query};
 ghost use Rattle.qgm_app.specs.declared.texts.TextRefusal.TheVariants.{Memory};
 
 use query_checks::QueryRefusal;
@@ -61,7 +63,8 @@ fn read_spans(alloc: Global, text: &Option<Items<u8>>) -> Result<Items<Spanned>,
 
 // The schema that these tokens spell.
 fn schema_spelled(alloc: Global, spans: &[Spanned]) -> Result<Schema, TextRefusal>
-    ensures { Gives shown.schema result (tree_of schema_tree spans.now) }
+    ensures gives { Gives shown.schema result (tree_of schema_tree spans.now) }
+    ensures grammar { IfOk result (λ x. are_statements (shown.schema x).statements ≡ true) }
 {
     match parse_schema(alloc, spans) {
         Ok(schema) => Ok(schema),
@@ -74,16 +77,19 @@ fn schema_spelled(alloc: Global, spans: &[Spanned]) -> Result<Schema, TextRefusa
 // The tree of a schema's text.
 #[tactic(auto, unfolding(crate::specs::Texts::schema_of))]
 fn read_schema(alloc: Global, text: &Option<Items<u8>>) -> Result<Schema, TextRefusal>
-    ensures { Gives shown.schema result (schema_of text.now) }
+    ensures gives { Gives shown.schema result (schema_of text.now) }
+    ensures grammar { IfOk result (λ x. are_statements (shown.schema x).statements ≡ true) }
 {
     let spans = read_spans(alloc, text)?;
     schema_spelled(alloc, spans.as_slice())
 }
 
-/// The catalog of a schema's text, whose bytes are none where they are too many.
+/// The catalog of a schema's text, whose bytes are none where they are too many. The bodies of its
+/// views are of the grammar.
 #[tactic(auto, unfolding(crate::specs::Texts::catalog_of))]
 pub fn read_catalog(alloc: Global, text: &Option<Items<u8>>) -> Result<Catalog, TextRefusal>
-    ensures { Gives catalogs.catalog result (catalog_of text.now) }
+    ensures gives { Gives catalogs.catalog result (catalog_of text.now) }
+    ensures queries { IfOk result (λ c. AreQueries (catalogs.catalog c).views) }
 {
     let schema = read_schema(alloc, text)?;
     match build(alloc, schema) {
@@ -99,7 +105,8 @@ pub fn read_catalog(alloc: Global, text: &Option<Items<u8>>) -> Result<Catalog, 
 
 // The query that these tokens spell.
 fn query_spelled(alloc: Global, spans: &[Spanned]) -> Result<QueryText, TextRefusal>
-    ensures { Gives shown.query_text result (tree_of query_tree spans.now) }
+    ensures gives { Gives shown.query_text result (tree_of query_tree spans.now) }
+    ensures grammar { IfOk result (λ x. is_query (shown.query_text x).query ≡ true) }
 {
     match parse_query(alloc, spans) {
         Ok(query) => Ok(query),
@@ -112,13 +119,23 @@ fn query_spelled(alloc: Global, spans: &[Spanned]) -> Result<QueryText, TextRefu
 // The tree of a query's text.
 #[tactic(auto, unfolding(crate::specs::Texts::query_of))]
 fn read_query_text(alloc: Global, text: &Option<Items<u8>>) -> Result<QueryText, TextRefusal>
-    ensures { Gives shown.query_text result (query_of text.now) }
+    ensures gives { Gives shown.query_text result (query_of text.now) }
+    ensures grammar { IfOk result (λ x. is_query (shown.query_text x).query ≡ true) }
 {
     let spans = read_spans(alloc, text)?;
     query_spelled(alloc, spans.as_slice())
 }
 
-// A valid query, its names resolved, else the number of its fault.
+/// A valid query.
+#[derive(Drop)]
+pub struct Valid {
+    /// As it is written.
+    pub query: QueryText,
+    /// With its names resolved.
+    pub checked: Checked,
+}
+
+// A query with its names resolved, else the number of its fault.
 fn checked(
     alloc: Global,
     query: &QueryText,
@@ -126,7 +143,9 @@ fn checked(
     views: &Views,
 ) -> Result<Checked, TextRefusal>
     requires ready { AreReady (catalogs.catalog catalog.now) views.now }
-    ensures { GivesAnswering (catalogs.catalog catalog.now) views.now result (refused_by (fault (catalogs.catalog catalog.now) (shown.query_text query.now)) (shown.query_text query.now)) }
+    requires grammar { is_query (shown.query_text query.now).query ≡ true }
+    ensures gives { Gives (λ _. shown.query_text query.now) result (refused_by (fault (catalogs.catalog catalog.now) (shown.query_text query.now)) (shown.query_text query.now)) }
+    ensures checked { IfOk result (λ x. IsChecked (catalogs.catalog catalog.now) views.now (shown.query_text query.now) x) }
 {
     match check(alloc, query, catalog, views) {
         Ok(checked) => Ok(checked),
@@ -143,17 +162,19 @@ fn checked(
     }
 }
 
-/// The checked query of a query's text, whose bytes are none where they are too many.
+/// The valid query of a query's text, whose bytes are none where they are too many.
 #[tactic(auto, unfolding(crate::specs::Texts::valid_query))]
 pub fn read_query(
     alloc: Global,
     catalog: &Catalog,
     views: &Views,
     text: &Option<Items<u8>>,
-) -> Result<Checked, TextRefusal>
+) -> Result<Valid, TextRefusal>
     requires ready { AreReady (catalogs.catalog catalog.now) views.now }
-    ensures { GivesAnswering (catalogs.catalog catalog.now) views.now result (valid_query (catalogs.catalog catalog.now) text.now) }
+    ensures gives { Gives (λ v. shown.query_text v.query) result (valid_query (catalogs.catalog catalog.now) text.now) }
+    ensures checked { IfOk result (λ v. IsChecked (catalogs.catalog catalog.now) views.now (shown.query_text v.query) v.checked) }
 {
     let query = read_query_text(alloc, text)?;
-    checked(alloc, &query, catalog, views)
+    let checked = checked(alloc, &query, catalog, views)?;
+    Ok(Valid { query, checked })
 }

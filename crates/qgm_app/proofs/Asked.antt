@@ -1,0 +1,89 @@
+-- What a question that is ready is to the graph that is built of it.
+use Rattle.std.proofs.Common.{ℕ, ◌≡◌, ◌-◌, ◌++◌, ◌∙◌, List, [], Option, ap, map, min, subst, sym}
+use Rattle.sql_ast.specs.Shown as written
+use Rattle.sql_catalog.specs.Shown as catalogs
+use Rattle.sql_meaning.specs.Meaning.{order_key}
+use Rattle.sql_value.specs.declared.order_key.OrderKey.{OrderKey}
+use Rattle.query_checks.specs.Laws.{column_names}
+use Rattle.qgm_core.specs.Boxes.{QueryGraph}
+use Rattle.qgm_meaning.specs.Satisfies.{Satisfies}
+use Rattle.built_queries.specs.Joined.{AreTablesOf, ValidQuery}
+use Rattle.built_queries.specs.Laid.{IsGraphOf}
+use Rattle.built_queries.specs.Loaded.{LoadedAreTables, LoadedSatisfies}
+use Rattle.qgm_build.specs.Valid.{IsItsGraph, IsOfText, IsQueryOf}
+use Rattle.query_rewrite.specs.Answers.{IsRewritten}
+use Rattle.query_rewrite.specs.Explained.{IsExplained}
+use Rattle.rewrite_plan.specs.declared.plan.Plan.{Plan}
+use Rattle.sql_check.specs.Checked.{answer_of}
+use Rattle.qgm_app.specs.Questions.{answer_to, question_of}
+use Rattle.qgm_app.specs.Questions as asked
+use Rattle.qgm_app.specs.Ready.{IsReady}
+use Rattle.qgm_app.specs.Rewriting.{IsBuilt, IsExplanation, IsRun, names_of, order_of}
+use Rattle.qgm_app.specs.declared.question.Question.{Question}
+use Rattle.qgm_app.proofs.Sound.{filled}
+
+-- its query is one of the grammar over a schema, both valid
+is-valid : (q : Question) → IsReady q → ValidQuery (catalogs.catalog q.catalog) (written.query_text q.valid.query)
+is-valid q ready = record {
+  schema = record { accepted = ready.views.valid; views = ready.views.of_catalog.valid; queries = ready.views.queries };
+  grammar = ready.checked.grammar;
+  valid = ready.checked.valid;
+}
+
+-- with its names resolved
+of-text : (q : Question) → IsReady q → IsOfText (catalogs.catalog q.catalog) q.valid.checked (written.query_text q.valid.query)
+of-text q ready = record { valid = is-valid q ready; query = ready.checked.query }
+
+pub is-query : (q : Question) → IsReady q → IsQueryOf (catalogs.catalog q.catalog) q.views q.valid.checked
+is-query q ready = record { views = ready.views.of_catalog; text = written.query_text q.valid.query; is = of-text q ready }
+
+-- its tables are of the schema
+pub has-tables : LoadedAreTables → (q : Question) → IsReady q → AreTablesOf (catalogs.catalog q.catalog) q.tables
+has-tables law q ready = law (catalogs.catalog q.catalog) q.tables ready.tables
+
+-- over them the checked query has its answer
+pub has-answer : LoadedAreTables → (q : Question) → IsReady q → answer_of q.views q.valid.checked q.tables ≡ answer_to (question_of q)
+has-answer law q ready = ready.checked.answer q.tables (filled (catalogs.catalog q.catalog) q.tables ready.views.valid (has-tables law q ready))
+
+-- ---- its graph
+
+names-are : (q : Question) → IsReady q → q.valid.checked.names ≡ names_of (question_of q)
+names-are q ready = ready.checked.names ∙ ap column_names ready.checked.columns
+
+order-is : (q : Question) → IsReady q → q.valid.checked.order ≡ order_of (question_of q)
+order-is q ready = ready.checked.order ∙ ap (λ (names : List (Option (List ℕ))). map (order_key names) (written.query_text q.valid.query).order) (names-are q ready)
+
+-- the graph of the checked query is the question's
+pub is-built : (q : Question) → IsReady q → (g : QueryGraph) → IsItsGraph (catalogs.catalog q.catalog) q.valid.checked g → IsBuilt (question_of q) g
+is-built q ready g h =
+    let catalog = catalogs.catalog q.catalog in
+    let text = written.query_text q.valid.query in
+    subst (λ (names : List (Option (List ℕ))). IsGraphOf catalog text names (order_of (question_of q)) g) (names-are q ready)
+    (subst (λ (order : List OrderKey). IsGraphOf catalog text q.valid.checked.names order g) (order-is q ready) (h text (of-text q ready)))
+
+-- its tables satisfy the bases
+pub satisfies : LoadedSatisfies → (q : Question) → IsReady q → (g : QueryGraph) → IsItsGraph (catalogs.catalog q.catalog) q.valid.checked g → Satisfies q.tables g.boxes
+satisfies law q ready g h =
+    law (catalogs.catalog q.catalog) (written.query_text q.valid.query) q.valid.checked.names q.valid.checked.order g q.tables
+    (is-valid q ready) (h (written.query_text q.valid.query) (of-text q ready)) ready.tables
+
+-- ---- what its rows take
+
+pub is-run : (plan : Plan) (q : asked.Question) (g : QueryGraph) (n firings before after : ℕ) → IsBuilt q g → firings ≡ n → IsRewritten q.tables plan g n before after → IsRun plan q firings before after
+is-run plan q g n firings before after built same h = record {
+  graph = g;
+  built = built;
+  rewritten = subst (λ (k : ℕ). IsRewritten q.tables plan g k before after) (sym same) h;
+}
+
+-- a text that was empty before
+pub is-explanation : (plan : Plan) (q : asked.Question) (g : QueryGraph) (n evals before after : ℕ) (old text new : List ℕ) → IsBuilt q g → evals ≡ min (after - before) 18446744073709551615
+    → old ≡ [] → new ≡ old ++ text → IsExplained q.tables plan g n evals before after text → IsExplanation plan q before after new
+is-explanation plan q g n evals before after old text new built counted empty is told = record {
+  graph = g;
+  built = built;
+  firings = n;
+  evals = evals;
+  counted = counted;
+  told = subst (λ (x : List ℕ). IsExplained q.tables plan g n evals before after x) (sym (is ∙ ap (λ (x : List ℕ). x ++ text) empty)) told;
+}

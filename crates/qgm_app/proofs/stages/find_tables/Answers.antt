@@ -1,0 +1,12 @@
+use Rattle.std.proofs.Common.{Ok}
+use Rattle.sql_ast.specs.Shown as shown
+use Rattle.sql_catalog.specs.Shown as catalogs
+use Rattle.qgm_app.proofs.Steps.{tables-read}
+use Rattle.qgm_app.proofs.stages.find_tables.Goals as goal
+
+pub returns-in-Ok-clause-comes : goal.returns-in-Ok-clause-comes
+returns-in-Ok-clause-comes g c =
+    tables-read _ _ c.args.dir.now (catalogs.catalog c.args.catalog) (shown.query_text c.args.valid.query) (Ok c.in-Ok.tables) c.in-Ok.ensures.comes
+
+pub returns-in-Ok-clause-ready : goal.returns-in-Ok-clause-ready
+returns-in-Ok-clause-ready g c = record { views = c.requires.ready; checked = c.requires.checked; tables = c.in-Ok.ensures.fits }

@@ -1,0 +1,145 @@
+// The answer to a question, by the graph that is built of it.
+ghost use Rattle.std.specs.Prelude.{◌≡◌, IfOk, List};
+ghost use Rattle.qgm_check.specs.Sentences.{WellFormed};
+ghost use Rattle.qgm_meaning.specs.Meaning.{root_bag};
+ghost use Rattle.qgm_meaning.specs.Satisfies.{Satisfies};
+ghost use Rattle.row_bag.specs.Bags.{Agree};
+ghost use Rattle.row_bag.specs.Sets.{same_cells};
+ghost use Rattle.row_bag.specs.Verdict.{verdict};
+ghost use Rattle.row_bag.specs.declared.row.Row.{Row};
+ghost use Rattle.sql_check.specs.Checked.{rows_of};
+ghost use Rattle.sql_meaning.specs.Meaning.{answer_of};
+ghost use Rattle.sql_value.specs.declared.cell.Cell.{Cell};
+ghost use Rattle.qgm_app.specs.Alike.{AnswersAlike};
+ghost use Rattle.qgm_app.specs.Ready.{IsReady, answer_as, held_answer};
+ghost use Rattle.qgm_app.specs.Questions.{answer_to, question_of};
+ghost use Rattle.qgm_app.specs.Rewriting.{IsBuilt, IsExplanation, IsRun};
+
+use crate::question::Question;
+use built_queries::loaded_laws;
+use qgm_build::build;
+use qgm_check::fault_laws;
+use qgm_core::Graph;
+use query_rewrite::{answered, explained};
+use rewrite_plan::Plan;
+use row_bag::{Bag, Verdict, bag_laws, sorted, verdict};
+use shared_types::{OutOfMemory, Text};
+use sql_check::Checked;
+use sql_value::OutNames;
+use std::alloc::Global;
+use std::sync::ledger::Ledger;
+use step_count::Steps;
+
+/// The answer to a question: its columns' names, and the rows in order or the error.
+#[derive(Drop)]
+pub struct Answered {
+    pub names: OutNames,
+    pub verdict: Verdict,
+    /// How many rules fired.
+    pub firings: u64,
+}
+
+/// The answer to a question, and the text that tells how it was come by.
+#[derive(Drop)]
+pub struct Explained {
+    pub answered: Answered,
+    pub text: Text,
+}
+
+// Bags that agree have one answer: the same error, or the same rows in order. It does nothing.
+fn answer_laws()
+    ensures alike { AnswersAlike }
+{
+    bag_laws();
+}
+
+// The graph of a question's query.
+fn graph_of(alloc: Global, question: &Question) -> Result<Graph, OutOfMemory>
+    requires ready { IsReady question.now }
+    ensures built { IfOk result (λ g. IsBuilt (question_of question.now) g) }
+    ensures formed { IfOk result (λ g. WellFormed g) }
+    ensures satisfied { IfOk result (λ g. Satisfies question.now.tables g.boxes) }
+    ensures rows { IfOk result (λ g. root_bag question.now.tables g ≡ rows_of question.now.views question.now.valid.checked question.now.tables) }
+{
+    fault_laws();
+    loaded_laws();
+    let graph = build(
+        alloc,
+        &question.valid.checked,
+        &question.catalog,
+        &question.views,
+    )?;
+    graph.each_number_once();
+    Ok(graph)
+}
+
+// The rows of a checked query in the order of its keys, or their greatest error.
+fn ordered(alloc: Global, checked: &Checked, bag: Bag) -> Result<Verdict, OutOfMemory>
+    ensures { IfOk result (λ v. (rows : List (Row (List Cell))) → Agree same_cells bag rows → answer_as checked.now.names v ≡ answer_of checked.now.names checked.now.order (verdict rows)) }
+{
+    answer_laws();
+    match verdict(bag) {
+        Verdict::Rows(bag) => Ok(Verdict::Rows(sorted(bag, &checked.order)?)),
+        Verdict::Error(kind) => Ok(Verdict::Error(kind)),
+    }
+}
+
+// The answer of a checked query whose rows these are, after so many firings.
+fn settled(
+    alloc: Global,
+    checked: Checked,
+    bag: Bag,
+    firings: u64,
+) -> Result<Answered, OutOfMemory>
+    ensures answer { IfOk result (λ a. (rows : List (Row (List Cell))) → Agree same_cells bag rows → held_answer a ≡ answer_of checked.names checked.order (verdict rows)) }
+    ensures firings { IfOk result (λ a. a.firings ≡ firings) }
+{
+    let verdict = ordered(alloc, &checked, bag)?;
+    Ok(Answered {
+        names: checked.names,
+        verdict,
+        firings,
+    })
+}
+
+/// The answer to a question: its graph is built, rewritten by a plan, and executed. Each evaluation of
+/// a box is a step. It fails only for want of memory.
+pub fn answer<L: Ledger>(
+    alloc: Global,
+    question: Question,
+    plan: &Plan,
+    steps: &mut Steps<L>,
+) -> Result<Answered, OutOfMemory>
+    requires ready { IsReady question }
+    ensures answer { IfOk result (λ a. held_answer a ≡ answer_to (question_of question)) }
+    ensures run { IfOk result (λ a. IsRun plan.now (question_of question) a.firings steps.old steps.new) }
+{
+    loaded_laws();
+    let graph = graph_of(alloc, &question)?;
+    let run = answered(alloc, graph, plan, &question.tables, steps)?;
+    let Question { valid, .. } = question;
+    settled(alloc, valid.checked, run.rows, run.firings)
+}
+
+/// The answer to a question, as `answer` gives it, and the text that tells of it: the graph that is
+/// built, each firing with the graph after it, how many there were, and how many evaluations of boxes
+/// the rows took.
+pub fn explain<L: Ledger>(
+    alloc: Global,
+    question: Question,
+    plan: &Plan,
+    steps: &mut Steps<L>,
+) -> Result<Explained, OutOfMemory>
+    requires ready { IsReady question }
+    ensures answer { IfOk result (λ e. held_answer e.answered ≡ answer_to (question_of question)) }
+    ensures run { IfOk result (λ e. IsRun plan.now (question_of question) e.answered.firings steps.old steps.new) }
+    ensures text { IfOk result (λ e. IsExplanation plan.now (question_of question) steps.old steps.new e.text) }
+{
+    loaded_laws();
+    let graph = graph_of(alloc, &question)?;
+    let mut text = Text::new(alloc)?;
+    let run = explained(alloc, graph, plan, &question.tables, steps, &mut text)?;
+    let Question { valid, .. } = question;
+    let answered = settled(alloc, valid.checked, run.rows, run.firings)?;
+    Ok(Explained { answered, text })
+}

@@ -1,7 +1,0 @@
-use Rattle.std.proofs.Common.{◌≡◌, drop}
-use Rattle.row_bag.specs.Sets.{multiplicity, same_cells}
-use Rattle.query_loops.specs.Groups.{keys_of}
-use Rattle.query_loops.proofs.groups.occurs.Given as goal
-
-abbrev pub invariant-loop-row : goal.invariant-loop-row
-invariant-loop-row l = multiplicity same_cells l.key (keys_of l.places (drop l.row-index l.rows)) ≡ multiplicity same_cells l.key (keys_of l.places l.rows)

@@ -1,1 +1,0 @@
-SELECT A, B FROM T
