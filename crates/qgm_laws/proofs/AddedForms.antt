@@ -1,12 +1,12 @@
 -- The check finds nothing more where a box without quantifiers is added.
-use Rattle.std.proofs.Common.{ℕ, ◌==◌, ◌≡◌, ◌&&◌, nat_lt, cond, Bool, true, false, List, [], ◌∷◌, ◌++◌, Option, Some, None, refl, sym, ap, subst, ◌∙◌, eqb-true, ◌⊎◌, inl, inr, arith}
+use Rattle.std.proofs.Common.{ℕ, ◌==◌, ◌≡◌, ◌&&◌, nat_lt, cond, true, false, List, [], ◌∷◌, ◌++◌, Option, Some, refl, sym, ap, subst, ◌∙◌, eqb-true, ◌⊎◌, inl, inr, arith}
 use Rattle.std.specs.List.{list_all, list_any}
 use Rattle.std.proofs.lemmas.Bool.{and_from, and_parts, cases_Bool, eq-eqb, or_cases}
 use Rattle.sql_value.specs.declared.order_key.SqlType.{SqlType}
-use Rattle.qgm_core.specs.Boxes.{QueryGraph, bare_box, has_box, is_box, owns, width}
-use Rattle.qgm_core.specs.Edits.{on_boxes, with_box}
+use Rattle.qgm_core.specs.Boxes.{bare_box, has_box, is_box, width}
+use Rattle.qgm_core.specs.Edits.{with_box}
 use Rattle.qgm_core.specs.Free.{free_in, named_by}
-use Rattle.qgm_core.specs.Kinds.{is_F_or_S, is_S, is_fed, is_permit, is_plain}
+use Rattle.qgm_core.specs.Kinds.{is_S, is_fed, is_plain}
 use Rattle.qgm_core.specs.Lists.{In, first, holds}
 use Rattle.qgm_core.specs.declared.kinds.BoxKind.{BoxKind}
 use Rattle.qgm_core.specs.declared.kinds.BoxKind.TheVariants.{Base, Select, Group, SetOp, OuterJoin}
@@ -17,7 +17,7 @@ use Rattle.qgm_terms.specs.declared.named.Column.{Column}
 use Rattle.qgm_check.specs.Columns.{box_under, columns_fit, columns_of, fits, places_fit}
 use Rattle.qgm_check.specs.Shapes.{fed_by, is_none, is_scalar, is_scalar_in, kind_fits, magic_found, only, shape_fits, width_found}
 use Rattle.qgm_check.specs.Types.{all_agree, arm_agrees, arms_agree, cond_fits, is_known, known, lookup_of, term_type, types_agree, types_by, types_of}
-use Rattle.qgm_meaning.specs.Scope.{loose, read_by}
+use Rattle.qgm_meaning.specs.Scope.{loose}
 use Rattle.qgm_meaning.specs.Searches.{names, names_cond}
 use Rattle.qgm_laws.specs.Adds.{Adds}
 use Rattle.qgm_laws.specs.FormedAdds.{column_of}

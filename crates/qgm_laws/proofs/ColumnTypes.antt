@@ -1,5 +1,5 @@
 -- Types agree where a column that no box names goes.
-use Rattle.std.proofs.Common.{ℕ, zero, suc, ◌==◌, ◌≡◌, ◌&&◌, ◌-◌, ◌≤◌, ◌<◌, nat_lt, cond, Bool, true, false, List, [], ◌∷◌, map, length, Option, Some, None, refl, sym, ap, ap₂, subst, ◌∙◌, eqb-true, inl, inr, arith}
+use Rattle.std.proofs.Common.{ℕ, zero, suc, ◌==◌, ◌≡◌, ◌&&◌, ◌-◌, ◌≤◌, ◌<◌, nat_lt, cond, Bool, true, false, List, [], ◌∷◌, map, length, Option, None, refl, sym, ap, ap₂, subst, ◌∙◌, eqb-true, inl, inr, arith}
 use Rattle.std.specs.Prelude.{slice_get}
 use Rattle.std.specs.List.{list_all, remove}
 use Rattle.std.proofs.lemmas.Bool.{and_from, and_parts, cases_Bool, eq-eqb, ltb-false, ltb-true}
@@ -8,16 +8,13 @@ use Rattle.qgm_core.specs.declared.kinds.BoxKind.{BoxKind}
 use Rattle.qgm_core.specs.declared.kinds.BoxKind.TheVariants.{Base, Select, Group, SetOp, OuterJoin}
 use Rattle.qgm_core.specs.declared.node.Node.{Node}
 use Rattle.qgm_core.specs.declared.owned.OwnedQuant.{OwnedQuant}
-use Rattle.qgm_core.specs.Boxes.{QueryGraph}
 use Rattle.qgm_core.specs.Edits.{shift_node, without_cell}
-use Rattle.qgm_core.specs.Free.{named_by}
-use Rattle.qgm_core.specs.Lists.{In, holds, times}
+use Rattle.qgm_core.specs.Lists.{In, times}
 use Rattle.qgm_terms.specs.Shift.{shifted, shifted_arms, shifted_cond, shifted_place}
 use Rattle.qgm_terms.specs.Terms as t
 use Rattle.qgm_terms.specs.Terms.{Arms, Cond, Term}
 use Rattle.qgm_terms.specs.Wanted.{any_in, any_in_cond}
-use Rattle.qgm_check.specs.Columns.{box_under}
-use Rattle.qgm_check.specs.Types.{Lookup, agree, aggregate_type, all_agree, arm_agrees, arms_agree, arms_fit, cond_fits, integer_if, is_integer, is_known, joined_column, known, lookup_of, op_type, sign_fits, term_type, type_if, types_agree, types_by, types_of}
+use Rattle.qgm_check.specs.Types.{Lookup, agree, aggregate_type, all_agree, arm_agrees, arms_agree, arms_fit, cond_fits, integer_if, is_integer, is_known, joined_column, known, lookup_of, op_type, sign_fits, term_type, type_if, types_by, types_of}
 use Rattle.qgm_laws.specs.Changes.{LosesColumn, is_set_op}
 use Rattle.qgm_laws.specs.FormedAdds.{column_of, of_column, types_asked}
 use Rattle.qgm_laws.specs.FormedColumn.{DropColumnTyped, Unasked}

@@ -78,7 +78,7 @@ pub fn checked_laws()
     ensures permit_read { PermitRead }
 {}
 
-/// What each kind of edit keeps of types and shapes: the check, which finds nothing against a graph, finds nothing after the edit, at its condition. It does nothing.
+/// What each kind of edit keeps of types and shapes: the check, which finds nothing against a graph, finds nothing after the edit, at its condition; where a column is dropped, types agree. It does nothing.
 pub fn form_laws()
     ensures reformed { Reformed }
     ensures boxes { BoxesFormed }
