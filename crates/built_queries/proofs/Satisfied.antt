@@ -1,5 +1,5 @@
 -- Tables that fit a schema satisfy the bases of the graph of a valid query.
-use Rattle.std.proofs.Common.{◌≡◌, ◌∙◌, ◌+◌, ◌≤◌, ◌&&◌, ◌||◌, ℕ, zero, suc, Bool, true, false, cond, not, filter, get_or, map, length, List, [], ◌∷◌, ◌++◌, Option, Some, None, refl, sym, ap, ap₂, subst, inl, inr, arith}
+use Rattle.std.proofs.Common.{◌≡◌, ◌∙◌, ◌+◌, ◌≤◌, ◌&&◌, ◌||◌, ℕ, zero, suc, Bool, true, false, cond, filter, get_or, map, length, List, [], ◌∷◌, Option, Some, None, refl, sym, ap, ap₂, subst, inl, inr, arith}
 use Rattle.std.specs.Prelude.{slice_get}
 use Rattle.std.specs.Bool.{Decides}
 use Rattle.std.specs.List.{All, AllZip, list_all, list_any}
@@ -7,11 +7,10 @@ use Rattle.std.specs.Cmp.Lexicographic.{pointwise_decides}
 use Rattle.std.proofs.lemmas.Bool.{and_parts, cases_Bool}
 use Rattle.std.proofs.lemmas.List.{length-map}
 use Rattle.std.proofs.lemmas.List.Elements.{All-weaker}
-use Rattle.csv_tables.specs.Fits.{Distinct, FitsColumn, FitsRow, FitsRows, FitsSchema, FitsTable, OfType}
+use Rattle.csv_tables.specs.Fits.{Distinct, FitsColumn, FitsRow, FitsRows, FitsSchema, OfType}
 use Rattle.csv_tables.specs.KeyCells as keys
 use Rattle.csv_tables.specs.KeyCells.{contents_in, if_counted, is_null_cell, key_cells, keys_in, with_some}
 use Rattle.csv_tables.specs.Ties.{cell_decides}
-use Rattle.csv_tables.specs.declared.content.Content.{Content}
 use Rattle.csv_tables.specs.declared.content.Content.TheVariants.{Holds}
 use Rattle.row_bag.proofs.TupleBags.{same_cells-decides}
 use Rattle.row_bag.specs.Bags.{bind, if_there, unit}
