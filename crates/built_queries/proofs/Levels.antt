@@ -16,7 +16,7 @@ use Rattle.qgm_terms.specs.Terms as t
 use Rattle.qgm_terms.specs.Terms.{Term, Cond}
 use Rattle.qgm_terms.specs.declared.named.QuantNode.{QuantNode}
 use Rattle.qgm_check.specs.Columns.{over_box}
-use Rattle.qgm_check.specs.Types.{aggregate_type, column_type, cond_fits, integer_if, is_integer, is_typed, joined_column, known, term_type, type_found, type_in, typed, types_after, types_by, types_found}
+use Rattle.qgm_check.specs.Types.{column_type, cond_fits, is_typed, joined_column, known, term_type, type_found, type_in, typed, types_after, types_by, types_found}
 use Rattle.qgm_check.specs.declared.types.Typed.{Typed}
 use Rattle.qgm_shown.specs.Maps.{Map}
 use Rattle.qgm_shown.specs.Sources.{Sources}
@@ -24,7 +24,7 @@ use Rattle.qgm_laws.proofs.Lists.{any-in, eq-itself}
 use Rattle.qgm_laws.proofs.Scope.{in-first}
 use Rattle.qgm_laws.proofs.Times.{in-times, times-in, times-once}
 use Rattle.qgm_laws.proofs.Turns.{first-own}
-use Rattle.built_queries.proofs.Parts.{CellIs, Cells, Fit, Folds, Heads, Is, all-append, names-pass, node_of}
+use Rattle.built_queries.proofs.Parts.{CellIs, Cells, Fit, Heads, Is, all-append, names-pass, node_of}
 use Rattle.built_queries.proofs.TypesFollow.{fit-is, local-follows, type-is}
 use Rattle.built_queries.proofs.Frames.{At}
 use Rattle.built_queries.proofs.Boxes as boxes

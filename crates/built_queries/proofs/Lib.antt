@@ -12,6 +12,7 @@ pub mod Frames
 mod Full
 mod Joined
 mod Keys
+pub mod Known
 mod LaidGraphs
 mod LaidOver
 mod LaidTold
@@ -39,6 +40,7 @@ mod Sampled
 pub mod SampledThere
 mod SchemaSources
 mod Schemas
+pub mod Satisfied
 pub mod Settled
 pub mod Shaped
 mod Sights

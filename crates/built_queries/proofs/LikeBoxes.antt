@@ -63,7 +63,7 @@ module _ (R : ℕ → ℕ → Type 0) (s : Sources) (shared : List ℕ → ℕ) 
           head = like-heads R a.parts.head c.parts.head (list f sl) (other g tl) h.head k.head (items f g own refl refl sl tl x.0 (subst (Each T) h.head (head h.kind)));
           conds =
               like-conds R a.parts.conds.items c.parts.conds.items (v.conds_of s from by heads m os sl) (v.conds_of z from by heads n ps tl) h.conds k.conds
-              (conds-both R (v.all_ons s m from os sm) (l.split (l.cond s f m sn by)) (v.all_ons z n from ps tm) (l.split (l.cond z g n tn by)) 
+              (conds-both R (v.all_ons s m from os sm) (l.split (l.cond s f m sn by)) (v.all_ons z n from ps tm) (l.split (l.cond z g n tn by))
               (all-ons-like R s shared typed Below Above m n round T S C parted told from os ps sm tm h.froms k.froms pairs y.0 (each_left C (v.all_ons s m from os sm) (l.split (l.cond s f m sn by)) all))
               (on-like R s shared typed Below Above m n round T S C parted told f g sn tn by own y.1 (each_right C (v.all_ons s m from os sm) (l.split (l.cond s f m sn by)) all)));
           quants = like-quants R s shared typed Below Above a.quants c.quants kids;

@@ -1,10 +1,10 @@
 -- The quantifiers of the boxes that are laid for a query have numbers of their own.
-use Rattle.std.proofs.Common.{◌≡◌, ◌≤◌, ◌<◌, ◌==◌, ◌+◌, ◌||◌, cond, ℕ, Bool, true, false, List, [], ◌∷◌, ◌++◌, map, refl, ap, ap₂, sym, ◌∙◌, subst, arith}
+use Rattle.std.proofs.Common.{◌≡◌, ◌≤◌, ◌<◌, ◌==◌, ◌+◌, ◌||◌, cond, ℕ, Bool, true, false, List, [], ◌∷◌, ◌++◌, map, refl, ap, ap₂, sym, ◌∙◌, arith}
 use Rattle.std.specs.List.{list_any}
 use Rattle.std.proofs.lemmas.Bool.{eq-eqb}
 use Rattle.sql_ast.specs.Declarations.{Declared}
 use Rattle.sql_ast.specs.Syntax as s
-use Rattle.qgm_core.specs.Boxes.{ids_in, ids_of, is_quant, owns}
+use Rattle.qgm_core.specs.Boxes.{ids_in, ids_of, is_quant}
 use Rattle.qgm_core.specs.Lists.{EachOnce, holds, times}
 use Rattle.qgm_core.specs.Numbered.{Under}
 use Rattle.qgm_core.specs.declared.node.Node.{Node}

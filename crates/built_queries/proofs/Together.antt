@@ -1,5 +1,5 @@
 -- In two graphs that are built of one query with types boxes at one place have columns of the same types, and so the graphs differ in numbers alone.
-use Rattle.std.proofs.Common.{inl, inr, ◌≡◌, ◌≤◌, ℕ, zero, suc, ◌+◌, ◌==◌, Bool, true, false, List, [], ◌∷◌, length, map, Option, Some, None, refl, ap, ap₂, sym, ◌∙◌, subst, arith}
+use Rattle.std.proofs.Common.{inl, inr, ◌≡◌, ◌≤◌, ℕ, zero, suc, ◌+◌, ◌==◌, true, false, List, [], ◌∷◌, length, map, Option, Some, None, refl, ap, ap₂, sym, ◌∙◌, subst, arith}
 use Rattle.std.specs.Prelude.{slice_get}
 use Rattle.std.proofs.lemmas.Bool.{eqb-true}
 use Rattle.std.proofs.lemmas.List.{length-map}
@@ -18,9 +18,8 @@ use Rattle.qgm_core.specs.declared.owned.OwnedQuant.{OwnedQuant}
 use Rattle.qgm_terms.specs.Terms as t
 use Rattle.qgm_terms.specs.Terms.{Arms, Cond, Sign, Term}
 use Rattle.qgm_terms.specs.declared.named.QuantNode.{QuantNode}
-use Rattle.qgm_terms.specs.declared.tree.Op.{Op}
 use Rattle.qgm_check.specs.Columns.{over_box}
-use Rattle.qgm_check.specs.Types.{column_type, is_typed, joined_column, known, term_type, type_found, type_in, types_after, types_by, types_found}
+use Rattle.qgm_check.specs.Types.{column_type, is_typed, joined_column, known, type_found, type_in, types_after, types_by, types_found}
 use Rattle.qgm_shown.specs.Law.{IsBuiltOf}
 use Rattle.qgm_shown.specs.Maps.{Map, ref_term}
 use Rattle.qgm_shown.specs.Shown as v

@@ -1,7 +1,7 @@
 -- Expressions that differ in numbers alone have the same types, where the columns of quantifiers that stand for one another have.
-use Rattle.std.proofs.Common.{◌≡◌, ◌≤◌, ℕ, ◌&&◌, Bool, true, List, [], ◌∷◌, length, map, Option, Some, refl, ap, ap₂, sym, subst, ◌∙◌}
+use Rattle.std.proofs.Common.{◌≡◌, ◌≤◌, ℕ, ◌&&◌, true, List, [], ◌∷◌, length, map, Option, Some, refl, ap, ap₂, sym, subst, ◌∙◌}
 use Rattle.sql_value.specs.declared.order_key.SqlType.{SqlType}
-use Rattle.sql_value.specs.declared.order_key.SqlType.TheVariants.{Integer, Varchar}
+use Rattle.sql_value.specs.declared.order_key.SqlType.TheVariants.{Integer}
 use Rattle.qgm_core.specs.declared.kinds.BoxKind.{BoxKind}
 use Rattle.qgm_core.specs.declared.kinds.BoxKind.TheVariants.{Base, Select, Group, SetOp, OuterJoin}
 use Rattle.qgm_core.specs.declared.node.Node.{Node}
@@ -11,7 +11,7 @@ use Rattle.qgm_terms.specs.declared.named.QuantNode.{QuantNode}
 use Rattle.qgm_check.specs.Types.{Lookup, agree, aggregate_type, arms_fit, cond_fits, integer_if, is_integer, is_known, known, term_type, type_if, types_by}
 use Rattle.qgm_shown.specs.Maps.{Map}
 use Rattle.qgm_shown.specs.Sources.{Sources}
-use Rattle.built_queries.specs.Alike.{Like, LikeArms, LikeBox, LikeCond, LikeHeads, like_always, like_and, like_arm, like_both, like_choose, like_col, like_compare, like_count, like_every, like_fold, like_int, like_is_null, like_minus, like_no_arm, like_not, like_null_int, like_null_text, like_or, like_scalar, like_some, like_text}
+use Rattle.built_queries.specs.Alike.{Like, LikeArms, LikeCond, LikeHeads, like_always, like_and, like_arm, like_both, like_choose, like_col, like_compare, like_count, like_every, like_fold, like_int, like_is_null, like_minus, like_no_arm, like_not, like_null_int, like_null_text, like_or, like_scalar, like_some, like_text}
 use Rattle.built_queries.proofs.Boxes as boxes
 use Rattle.built_queries.proofs.Parts as parts
 use Rattle.built_queries.proofs.TypesFollow.{agreeing, both-true, folded-typed, operated, signs}

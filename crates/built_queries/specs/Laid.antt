@@ -52,7 +52,9 @@ GraphsOneToOne = (catalog : Declared) (text : s.QueryText) (names : List (Option
 
 -- two such graphs of one valid query differ in numbers alone
 abbrev pub GraphsAlike : Type 0
-GraphsAlike = (catalog : Declared) (text : s.QueryText) (names : List (Option (List ℕ))) (order : List OrderKey) (g h : QueryGraph) → ValidQuery catalog text → IsGraphOf catalog text names order g → IsGraphOf catalog text names order h → SameButNumbers g h
+GraphsAlike =
+    (catalog : Declared) (text : s.QueryText) (names : List (Option (List ℕ))) (order : List OrderKey) (g h : QueryGraph)
+    → ValidQuery catalog text → IsGraphOf catalog text names order g → IsGraphOf catalog text names order h → SameButNumbers g h
 
 -- ---- what is laid
 

@@ -4,6 +4,7 @@ pub mod Formed
 pub mod FormedSample
 pub mod Joined
 pub mod Laid
+pub mod Loaded
 pub mod OneToOne
 pub mod Reused
 pub mod Sample

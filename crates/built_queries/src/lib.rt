@@ -5,7 +5,9 @@
 mod graphs;
 mod laid;
 mod laws;
+mod loaded;
 
 pub use graphs::formed_laws;
 pub use laid::laid_graph_laws;
 pub use laws::{buildable_laws, built_laws, type_laws};
+pub use loaded::loaded_laws;

@@ -1,6 +1,7 @@
 -- The tables are of their declarations.
-use Rattle.std.proofs.Common.{ℕ, ◌+◌, ◌<◌, ◌≡◌, ◌∙◌, ◌==◌, List, [], ◌∷◌, ◌++◌, Option, Some, None, Result, Ok, Err, IfOk, get_or, length, take, refl, subst, arith, inl, inr, Bool, true, false, ◌||◌, ◌&&◌, if◌then◌else◌, ℤ}
-use Rattle.std.proofs.lemmas.Bool.{cases_Bool, eqb-true}
+use Rattle.std.proofs.Common.{ℕ, zero, suc, ◌+◌, ◌^◌, ◌<◌, ◌≡◌, ◌∙◌, ◌==◌, List, [], ◌∷◌, ◌++◌, Option, Some, None, Result, Ok, Err, IfOk, drop, get_or, length, slice_index, take, refl, subst, arith, inl, inr, Bool, true, false, ◌||◌, ◌&&◌, if◌then◌else◌, ℤ, pos}
+use Rattle.std.specs.Prelude.{nat_le, nat_lt}
+use Rattle.std.proofs.lemmas.Bool.{and_parts, cases_Bool, eqb-true, lt-ltb}
 use Rattle.std.proofs.lemmas.List.{take_more}
 use Rattle.std.proofs.lemmas.List.Elements.{All-append, All-cons, All-nil}
 use Rattle.std.proofs.lemmas.List.Folds.{list_any-append}
@@ -8,11 +9,14 @@ use Rattle.std.specs.Cmp.{IsEquivalence}
 use Rattle.std.specs.Cmp.Lexicographic.{pointwise}
 use Rattle.std.specs.List.{All, AllZip, list_any}
 use Rattle.std.specs.Str.{bytes_eq, chars, is_utf8}
+use Rattle.std.specs.Str.Parse.{digits_value}
+use lib.IntN.{neg_ℤ}
 use Rattle.row_bag.specs.declared.row.Row.{Row}
 use Rattle.row_bag.specs.declared.tables.Table.{Table}
 use Rattle.sql_ast.specs.declared.schema.TableDecl.{TableDecl}
 use Rattle.sql_ast.specs.declared.word.DataType.{DataType}
 use Rattle.sql_ast.specs.declared.word.DataType.TheVariants as types
+use Rattle.sql_value.specs.Arithmetic.{fits_i64}
 use Rattle.sql_value.specs.declared.cell.Cell.{Cell}
 use Rattle.sql_value.specs.declared.cell.Cell.TheVariants as cell
 use Rattle.csv_tables.specs.declared.content.Content.{Content}
@@ -23,7 +27,7 @@ use Rattle.sql_catalog.specs.Descriptor.{describe}
 use Rattle.sql_catalog.specs.declared.descriptor.ColumnDescriptor.{ColumnDescriptor}
 use Rattle.sql_catalog.specs.declared.descriptor.KeyDescriptor.{KeyDescriptor}
 use Rattle.sql_catalog.specs.declared.descriptor.TableDescriptor.{TableDescriptor}
-use Rattle.csv_tables.specs.Cells.{integer_of, is_null, null_text}
+use Rattle.csv_tables.specs.Cells.{integer_of, is_null, is_number, negative, null_text, positive}
 use Rattle.csv_tables.specs.Contents.{content_of, integer_content, is_longer, number_content, text_content, unescaped}
 use Rattle.csv_tables.specs.Fits.{Distinct, FitsColumn, FitsRow, FitsRows, FitsSchema, FitsTable, OfType}
 use Rattle.csv_tables.specs.KeyCells.{is_among, is_null_cell, key_cells, keys_in, repeats, same_cells}
@@ -44,25 +48,58 @@ HoldsOfType t BadInteger = Unit {0}
 HoldsOfType t TooLong = Unit {0}
 HoldsOfType t BadUtf8 = Unit {0}
 
+-- a number is of 64 bits
+abbrev Fits64 : Option ℤ → Type 0
+Fits64 None = Unit {0}
+Fits64 (Some z) = fits_i64 z ≡ true
+
+negated-fits : (n : ℕ) → nat_le n (2 ^ 63) ≡ true → fits_i64 (neg_ℤ (pos n)) ≡ true
+negated-fits zero h = lt-ltb 0 (2 ^ 63) (omega arith)
+negated-fits (suc n) h = lt-ltb n (2 ^ 63) (grind (arith, h))
+
+positive-fits : (ds : List ℕ) → Fits64 (positive ds)
+unfolding positive
+positive-fits ds = elim (cases_Bool (is_number ds && nat_lt (digits_value 10 ds) (2 ^ 63))) [
+  | inl e ↦ rw e (and_parts (is_number ds) (nat_lt (digits_value 10 ds) (2 ^ 63)) e).1
+  | inr e ↦ rw e tt
+]
+
+negative-fits : (ds : List ℕ) → Fits64 (negative ds)
+unfolding negative
+negative-fits ds = elim (cases_Bool (is_number ds && nat_le (digits_value 10 ds) (2 ^ 63))) [
+  | inl e ↦ rw e (negated-fits (digits_value 10 ds) (and_parts (is_number ds) (nat_le (digits_value 10 ds) (2 ^ 63)) e).1)
+  | inr e ↦ rw e tt
+]
+
+number-fits : (bs : List ℕ) → Fits64 (integer_of bs)
+unfolding integer_of
+number-fits bs = elim (cases_Bool (slice_index bs 0 == 45)) [
+  | inl minus ↦ rw minus (negative-fits (drop 1 bs))
+  | inr other ↦ rw other (elim (cases_Bool (slice_index bs 0 == 43)) [
+    | inl plus ↦ rw plus (positive-fits (drop 1 bs))
+    | inr digit ↦ rw digit (positive-fits bs)
+  ])
+]
+
 integer-fits : (bs : List ℕ) → HoldsOfType types.Integer (integer_content bs)
 integer-fits bs = elim (cases_Bool (is_null bs)) [
   | inl null ↦ rw null tt
-  | inr other ↦ rw other (number (integer_of bs))
+  | inr other ↦ rw other (number (integer_of bs) (number-fits bs))
 ]
   where
-    number : (o : Option ℤ) → HoldsOfType types.Integer (number_content o)
-    number None = tt
-    number (Some z) = tt
+    number : (o : Option ℤ) → Fits64 o → HoldsOfType types.Integer (number_content o)
+    number None h = tt
+    number (Some z) h = h
 
 int-fits : (bs : List ℕ) → HoldsOfType types.Int (integer_content bs)
 int-fits bs = elim (cases_Bool (is_null bs)) [
   | inl null ↦ rw null tt
-  | inr other ↦ rw other (number (integer_of bs))
+  | inr other ↦ rw other (number (integer_of bs) (number-fits bs))
 ]
   where
-    number : (o : Option ℤ) → HoldsOfType types.Int (number_content o)
-    number None = tt
-    number (Some z) = tt
+    number : (o : Option ℤ) → Fits64 o → HoldsOfType types.Int (number_content o)
+    number None h = tt
+    number (Some z) h = h
 
 sized-fits : (n : ℤ) (text : List ℕ) (long : Bool) → is_longer text n ≡ long → HoldsOfType (types.Varchar n) (if long then TooLong else Holds (cell.Text text))
 sized-fits n text true e = tt

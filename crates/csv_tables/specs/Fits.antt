@@ -9,19 +9,20 @@ use Rattle.sql_ast.specs.declared.word.DataType.TheVariants as types
 use Rattle.sql_catalog.specs.Descriptor.{describe}
 use Rattle.sql_catalog.specs.declared.descriptor.ColumnDescriptor.{ColumnDescriptor}
 use Rattle.sql_catalog.specs.declared.descriptor.TableDescriptor.{TableDescriptor}
+use Rattle.sql_value.specs.Arithmetic.{fits_i64}
 use Rattle.sql_value.specs.declared.cell.Cell.{Cell}
 use Rattle.sql_value.specs.declared.cell.Cell.TheVariants as cell
 use Rattle.sql_value.specs.declared.level.Level.TheVariants.{Yes}
 use Rattle.csv_tables.specs.Contents.{is_longer}
 use Rattle.csv_tables.specs.KeyCells.{keys_in, same_cells}
 
--- a cell that a column of this type may hold: null, or a value of the type, of no more characters than the type takes
+-- a cell that a column of this type may hold: null, or a value of the type, a number of 64 bits or a text of no more characters than the type takes
 abbrev pub OfType : DataType → Cell → Type 0
 OfType t cell.Null = ⊤
 OfType t (cell.Err k) = ⊥
-OfType types.Integer (cell.Int z) = ⊤
+OfType types.Integer (cell.Int z) = fits_i64 z ≡ true
 OfType types.Integer (cell.Text text) = ⊥
-OfType types.Int (cell.Int z) = ⊤
+OfType types.Int (cell.Int z) = fits_i64 z ≡ true
 OfType types.Int (cell.Text text) = ⊥
 OfType (types.Varchar n) (cell.Int z) = ⊥
 OfType (types.Varchar n) (cell.Text text) = is_longer text n ≡ false
