@@ -371,3 +371,25 @@ module _ (g : QueryGraph) (u : EachOnce (numbers g.boxes)) (w : WellFormed g) (b
       e1
       ∙ ap (on_boxes (put_each q c.parts.head g.boxes)) e0))))
       ∙ made
+
+  -- what the code has after each step
+  module _ (a0 a1 : QueryGraph) (ns : List Node) (e0 : a0 ≡ g) (en : ns ≡ g.boxes) (e1 : a1 ≡ on_boxes (put_each q c.parts.head ns) a0) where
+    one-is : a1 ≡ on_boxes (put_each q c.parts.head g.boxes) g
+    one-is = e1 ∙ ap (λ z. on_boxes (put_each q c.parts.head z) a0) en ∙ ap (on_boxes (put_each q c.parts.head g.boxes)) e0
+
+    pub step-b : HasBox b.id a1
+    step-b = subst (λ (z : QueryGraph). HasBox b.id z) (sym one-is) has-b
+
+    module _ (a2 : QueryGraph) (e2 : a2 ≡ put_box b.id Select b.parts.role conds head a1) where
+      two-is : a2 ≡ put_box b.id Select b.parts.role conds head (on_boxes (put_each q c.parts.head g.boxes) g)
+      two-is = e2 ∙ ap (put_box b.id Select b.parts.role conds head) one-is
+
+      pub step-q : HasQuant q a2
+      step-q = subst (λ (z : QueryGraph). HasQuant q z) (sym two-is) has-quant
+
+      module _ (a3 : QueryGraph) (e3 : a3 ≡ drop_quant q a2) where
+        pub step-spreads : Spreads a3.boxes b.id i c.id c.quants
+        step-spreads = subst (λ (z : QueryGraph). Spreads z.boxes b.id i c.id c.quants) (sym (e3 ∙ ap (drop_quant q) two-is)) spreads
+
+        pub step-made : (a4 h : QueryGraph) → a4 ≡ on_boxes (map (spread b.id i c.id c.quants 0)) a3 → h ≡ compact a4 → h ≡ merged_with g b c q
+        step-made a4 h e4 e5 = from-code g (on_boxes (put_each q c.parts.head g.boxes) g) a2 a3 a4 h refl refl two-is e3 e4 e5

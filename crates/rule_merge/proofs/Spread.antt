@@ -1,6 +1,6 @@
 -- The quantifiers of a box, taken one by one into another, stand there all.
 use Rattle.std.proofs.Common.{ℕ, zero, suc, ◌<◌, ◌+◌, ◌-◌, ◌==◌, ◌≡◌, ◌≤◌, cond, Bool, true, false, List, [], ◌∷◌, ◌++◌, drop, length, map, take, Option, Some, refl, sym, ap, subst, ◌∙◌, eqb-true, ◌⊎◌, inl, inr, arith}
-use Rattle.std.specs.Prelude.{insert, slice_get}
+use Rattle.std.specs.Prelude.{insert, slice_get, slice_index_or}
 use Rattle.std.specs.List.{list_any}
 use Rattle.std.proofs.lemmas.Bool.{cases_Bool, eq-eqb}
 use Rattle.std.proofs.lemmas.List.{length-append, length-take-le, take-append-drop}
@@ -277,3 +277,35 @@ module _ (bs : List Node) (b i c : ℕ) (cs : List OwnedQuant) (s : Spreads bs b
         let app = length-append (take i s.upper.quants) (drop (suc k) cs ++ drop i s.upper.quants) in
         let tk = length-take-le i s.upper.quants s.within in
         omega arith
+
+-- ---- what the loop needs
+
+pub index-get : {X : Type 0} (k : ℕ) (xs : List X) (d : X) → k < length xs → slice_get xs k ≡ Some (slice_index_or xs k d)
+index-get k [] d h = absurd (omega arith)
+index-get zero (x ∷ xs) d h = refl
+index-get (suc k) (x ∷ xs) d h = index-get k xs d (omega arith)
+
+pub index-in : {X : Type 0} (k : ℕ) (xs : List X) (d : X) → k < length xs → In (slice_index_or xs k d) xs
+index-in k xs d h = get-in k xs (slice_index_or xs k d) (index-get k xs d h)
+
+module _ (g : QueryGraph) (b i c : ℕ) (cs : List OwnedQuant) (s : Spreads g.boxes b i c cs) (k : ℕ) (pos : 0 < k) (list : List OwnedQuant) (same : list ≡ cs) (within : k ≤ length cs) (d : OwnedQuant) (h : QueryGraph) (made : h ≡ on_boxes (map (spread b i c cs k)) g) where
+  abbrev e : OwnedQuant
+  e = slice_index_or list (k - 1) d
+
+  get : slice_get cs (k - 1) ≡ Some e
+  get = subst (λ z. slice_get z (k - 1) ≡ Some e) same (index-get (k - 1) list d (let l : length list ≡ length cs = ap length same in omega arith))
+
+  made-one : h ≡ on_boxes (map (spread b i c cs (suc (k - 1)))) g
+  made-one = made ∙ ap (λ n. on_boxes (map (spread b i c cs n)) g) (omega arith)
+
+  pub step-owned : HasQuant e.id h
+  step-owned = subst (λ (z : QueryGraph). HasQuant e.id z) (sym made-one) (still-owned g.boxes b i c cs s (k - 1) e get)
+
+  pub step-held : HasBox b h
+  step-held = subst (λ (z : QueryGraph). HasBox b z) (sym made-one) (still-held g.boxes b i c cs s (k - 1) e get)
+
+  pub step-room : i ≤ length (quants_of b (drop_quant e.id h))
+  step-room = subst (λ z. i ≤ length (quants_of b (drop_quant e.id z))) (sym made-one) (has-room g.boxes b i c cs s (k - 1) e get)
+
+  pub step-more : on_boxes (quant_moved e.id b i) h ≡ on_boxes (map (spread b i c cs (k - 1))) g
+  step-more = ap (on_boxes (quant_moved e.id b i)) made-one ∙ ap (λ z. record g { boxes = z }) (one-more g.boxes b i c cs s (k - 1) e get)
