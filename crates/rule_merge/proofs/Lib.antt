@@ -7,3 +7,4 @@ pub mod NodeFree
 pub mod Spread
 pub mod Merged
 pub mod MergedKeeps
+pub mod Placed

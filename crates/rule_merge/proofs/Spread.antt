@@ -203,10 +203,10 @@ module _ (bs : List Node) (b i c : ℕ) (cs : List OwnedQuant) (s : Spreads bs b
     range-is : range_in e.id (first (owns e.id) ms) ≡ Some e
     range-is =
         let own : times e.id (map id (take k cs ++ e ∷ [])) ≤ 1 = (
-            let a : times e.id (map id cs) ≡ times e.id (map id ((take k cs ++ e ∷ []) ++ drop (suc k) cs)) = ap (λ z. times e.id (map id z)) (sym (take-append-drop (suc k) cs) ∙ ap (λ z. z ++ drop (suc k) cs) (take-more k cs e get)) in
-            let d : times e.id (map id ((take k cs ++ e ∷ []) ++ drop (suc k) cs)) ≡ times e.id (map id (take k cs ++ e ∷ [])) + times e.id (map id (drop (suc k) cs)) = (
-                ap (times e.id) (map-append id (take k cs ++ e ∷ []) (drop (suc k) cs)) ∙ times-append e.id (map id (take k cs ++ e ∷ [])) (map id (drop (suc k) cs))) in
-            let f = few e.id in omega arith) in
+        let a : times e.id (map id cs) ≡ times e.id (map id ((take k cs ++ e ∷ []) ++ drop (suc k) cs)) = ap (λ z. times e.id (map id z)) (sym (take-append-drop (suc k) cs) ∙ ap (λ z. z ++ drop (suc k) cs) (take-more k cs e get)) in
+        let d : times e.id (map id ((take k cs ++ e ∷ []) ++ drop (suc k) cs)) ≡ times e.id (map id (take k cs ++ e ∷ [])) + times e.id (map id (drop (suc k) cs)) = (
+        ap (times e.id) (map-append id (take k cs ++ e ∷ []) (drop (suc k) cs)) ∙ times-append e.id (map id (take k cs ++ e ∷ [])) (map id (drop (suc k) cs))) in
+        let f = few e.id in omega arith) in
         ap (range_in e.id) found ∙ ap (first (is_quant e.id)) low-quants ∙ first-own e (take k cs ++ e ∷ []) own (in-right e (take k cs) (e ∷ []) (inl refl))
 
     taken : change (owns e.id) (without_quant e.id) ms ≡ map (at c (without_quant e.id)) ms
@@ -272,7 +272,7 @@ module _ (bs : List Node) (b i c : ℕ) (cs : List OwnedQuant) (s : Spreads bs b
         let n : (s.upper.id == c) ≡ false = subst (λ z. (z == c) ≡ false) (sym s.at_upper) s.apart in
         let in-up : In up (map (at c (without_quant e.id)) ms) = subst (λ z. In z (map (at c (without_quant e.id)) ms)) (at-no c (without_quant e.id) up n) (map-in (at c (without_quant e.id)) up ms (map-in (spread b i c cs (suc k)) s.upper bs s.in_upper)) in
         let is : first (is_box b) (change (owns e.id) (without_quant e.id) ms) ≡ Some up = (
-            ap (first (is_box b)) taken ∙ ap (λ z. first (is_box z) (map (at c (without_quant e.id)) ms)) (sym s.at_upper) ∙ first-once up (map (at c (without_quant e.id)) ms) once-taken in-up) in
+        ap (first (is_box b)) taken ∙ ap (λ z. first (is_box z) (map (at c (without_quant e.id)) ms)) (sym s.at_upper) ∙ first-once up (map (at c (without_quant e.id)) ms) once-taken in-up) in
         let len : length (quants_in (first (is_box b) (change (owns e.id) (without_quant e.id) ms))) ≡ length (take i s.upper.quants ++ (drop (suc k) cs ++ drop i s.upper.quants)) = ap (λ z. length (quants_in z)) is ∙ ap length (held-upper (suc k) s.upper t) in
         let app = length-append (take i s.upper.quants) (drop (suc k) cs ++ drop i s.upper.quants) in
         let tk = length-take-le i s.upper.quants s.within in
@@ -296,7 +296,7 @@ module _ (g : QueryGraph) (b i c : ℕ) (cs : List OwnedQuant) (s : Spreads g.bo
   get = subst (λ z. slice_get z (k - 1) ≡ Some e) same (index-get (k - 1) list d (let l : length list ≡ length cs = ap length same in omega arith))
 
   made-one : h ≡ on_boxes (map (spread b i c cs (suc (k - 1)))) g
-  made-one = made ∙ ap (λ n. on_boxes (map (spread b i c cs n)) g) (omega arith)
+  made-one = let n : k ≡ suc (k - 1) = omega arith in made ∙ ap (λ n. on_boxes (map (spread b i c cs n)) g) n
 
   pub step-owned : HasQuant e.id h
   step-owned = subst (λ (z : QueryGraph). HasQuant e.id z) (sym made-one) (still-owned g.boxes b i c cs s (k - 1) e get)

@@ -1,9 +1,10 @@
 // Whether a select may be merged into the select above it.
 ghost use Rattle.std.specs.Prelude.{◌≡◌, ◌≤◌, ◌-◌, IfOk, Some, slice_get};
-ghost use Rattle.std.specs.Prelude.{true};
+ghost use Rattle.std.specs.List.{list_any};
+ghost use Rattle.std.specs.Prelude.{◌&&◌, ◌==◌, not, true};
 ghost use Rattle.qgm_check.specs.Sentences.{WellFormed};
 ghost use Rattle.qgm_check.specs.Shapes.{all_F};
-ghost use Rattle.qgm_core.specs.Boxes.{box_of};
+ghost use Rattle.qgm_core.specs.Boxes.{box_of, owns};
 ghost use Rattle.qgm_core.specs.Kinds as kinds;
 ghost use Rattle.qgm_laws.specs.Graph.{reads_in};
 ghost use Rattle.rule_merge.specs.Merging as spec;
@@ -49,6 +50,20 @@ fn parts_fit(b: &Node, c: &Node) -> bool
         && (!is_magic(b.parts.role) || are_f(c.quants.as_slice()))
 }
 
+// Whether q is another quantifier of c than s.
+fn is_other(c: &Node, s: QuantId, q: QuantId) -> bool
+    ensures { result ≡ (owns q c.now && not (q == s)) }
+{
+    has_range(c.quants.as_slice(), q) && q != s
+}
+
+// Whether one of these is another quantifier of c than s.
+fn has_other(c: &Node, s: QuantId, free: &[QuantId]) -> bool
+    ensures { result ≡ list_any (λ q. owns q c.now && not (q == s)) free.now }
+{
+    free.iter().any(|q| is_other(c, s, *q))
+}
+
 // Whether another quantifier of c than s, an F of c, is named in the box under s or below it.
 fn is_lateral(alloc: Global, graph: &Graph, c: &Node, s: OwnedQuant) -> Result<bool, OutOfMemory>
     ensures { IfOk result (λ lateral. lateral ≡ spec.is_lateral graph.now c.now s) }
@@ -57,9 +72,7 @@ fn is_lateral(alloc: Global, graph: &Graph, c: &Node, s: OwnedQuant) -> Result<b
         return Ok(false);
     }
     let free = free_in(alloc, graph.nodes(), s.over)?;
-    Ok(free
-        .iter()
-        .any(|q| has_range(c.quants.as_slice(), *q) && *q != s.id))
+    Ok(has_other(c, s.id, free.as_slice()))
 }
 
 fn has_lateral(alloc: Global, graph: &Graph, c: &Node) -> Result<bool, OutOfMemory>
@@ -101,11 +114,7 @@ fn cells_free(nodes: &[Node], b: BoxId, q: QuantId, head: &Head) -> bool
 }
 
 // Whether the second of two quantifiers ranges over a closed box.
-fn second_closed(
-    alloc: Global,
-    nodes: &[Node],
-    ranges: &[OwnedQuant],
-) -> Result<bool, OutOfMemory>
+fn second_closed(alloc: Global, nodes: &[Node], ranges: &[OwnedQuant]) -> Result<bool, OutOfMemory>
     ensures { IfOk result (λ closed. closed ≡ spec.second_closed nodes.now ranges.now) }
 {
     match ranges {
@@ -142,9 +151,7 @@ fn any_fed_closed(alloc: Global, graph: &Graph) -> Result<bool, OutOfMemory>
 fn cells_stand(graph: &Graph, b: &Node, r: OwnedQuant, c: &Node) -> bool
     ensures { result ≡ spec.cells_stand graph.now b.now r c.now }
 {
-    parts_fit(b, c)
-        && graph.uses(c.id) == 1
-        && cells_free(graph.nodes(), b.id, r.id, &c.parts.head)
+    parts_fit(b, c) && graph.uses(c.id) == 1 && cells_free(graph.nodes(), b.id, r.id, &c.parts.head)
 }
 
 // Whether c may be merged into b under r, but for what that leaves of fed boxes.

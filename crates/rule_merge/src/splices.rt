@@ -73,13 +73,7 @@ fn put_parts(
     ensures { OnOk result (graph.new ≡ edits.put_box b.now.id Select b.now.parts.role (record b.now.parts.conds { items = map (substituted_cond q c.now.parts.head) b.now.parts.conds.items ++ c.now.parts.conds.items }) (map (substituted q c.now.parts.head) b.now.parts.head) graph.old) }
 {
     let cells = &c.parts.head;
-    let conds = conds_with(
-        alloc,
-        &b.parts.conds,
-        q,
-        cells,
-        c.parts.conds.as_slice(),
-    )?;
+    let conds = conds_with(alloc, &b.parts.conds, q, cells, c.parts.conds.as_slice())?;
     let head = substitute_head(alloc, &b.parts.head, q, cells, ROOM)?;
     graph.put_box(b.id, BoxKind::Select, b.parts.role, conds, head);
     Ok(())
