@@ -1,5 +1,5 @@
 -- The steps of M1's action make the graph of its law.
-use Rattle.std.proofs.Common.{ℕ, zero, suc, ◌<◌, ◌+◌, ◌-◌, ◌==◌, ◌≡◌, ◌≤◌, cond, Bool, true, false, List, [], ◌∷◌, ◌++◌, drop, length, map, take, Some, refl, sym, ap, subst, ◌∙◌, eqb-true, inl, inr, arith}
+use Rattle.std.proofs.Common.{ℕ, zero, suc, ◌-◌, ◌==◌, ◌≡◌, ◌≤◌, cond, Bool, true, false, List, [], ◌∷◌, ◌++◌, drop, length, map, take, Some, refl, sym, ap, subst, ◌∙◌, eqb-true, inl, inr, arith}
 use Rattle.std.specs.Prelude.{slice_get, ◌⊎◌}
 use Rattle.std.specs.List.{list_any}
 use Rattle.std.proofs.lemmas.Bool.{cases_Bool, eq-eqb}
@@ -14,12 +14,12 @@ use Rattle.qgm_core.specs.declared.kinds.BoxKind.TheVariants.{Select}
 use Rattle.qgm_core.specs.declared.node.Node.{Node}
 use Rattle.qgm_core.specs.declared.owned.OwnedQuant.{OwnedQuant}
 use Rattle.qgm_laws.specs.Graph.{Sound}
-use Rattle.qgm_laws.specs.Merge.{merge, merge_node, merged}
+use Rattle.qgm_laws.specs.Merge.{merge_node, merged}
 use Rattle.qgm_laws.proofs.Compact.{reached_boxes}
 use Rattle.qgm_laws.proofs.Edits.{OnceEach, boxes_without, in-without, once-each, split-once, without-one}
 use Rattle.qgm_laws.proofs.Formed.{sound-checked}
 use Rattle.qgm_laws.proofs.Levels.{some-in}
-use Rattle.qgm_laws.proofs.Lists.{any-from, any-in, any-not, clash, eq-false-sym, eq-itself, in-append, in-map, in-right, map-in, or-none}
+use Rattle.qgm_laws.proofs.Lists.{any-from, clash, eq-false-sym, eq-itself, in-append, in-map, map-in}
 use Rattle.qgm_laws.proofs.OneBox.{at, change-at, has-map, once-map, ordered-map, owner-at, ranked}
 use Rattle.qgm_laws.proofs.PlacedOne.{in-less, times-less}
 use Rattle.qgm_laws.proofs.Ranks as ranks

@@ -1,18 +1,16 @@
 -- M1 preserves.
-use Rattle.std.proofs.Common.{ℕ, zero, suc, ◌-◌, ◌==◌, ◌≡◌, ◌≤◌, ◌&&◌, cond, not, Bool, true, false, List, [], ◌∷◌, ◌++◌, length, map, Some, None, refl, sym, ap, subst, ◌∙◌, eqb-true, ◌⊎◌, inl, inr, arith}
-use Rattle.std.specs.Prelude.{slice_get}
+use Rattle.std.proofs.Common.{ℕ, ◌==◌, ◌≡◌, cond, not, true, false, List, [], ◌∷◌, ◌++◌, map, None, refl, sym, ap, subst, eqb-true, inl, inr}
 use Rattle.std.specs.List.{list_any}
 use Rattle.std.proofs.lemmas.Bool.{and_parts, not-true}
 use Rattle.row_bag.specs.declared.tables.Table.{Table}
 use Rattle.qgm_check.proofs.Faults.{finds-none}
 use Rattle.qgm_check.specs.Sentences.{WellFormed}
-use Rattle.qgm_check.specs.Shapes.{all_F, is_unfolded, kind_fits, role_fits}
+use Rattle.qgm_check.specs.Shapes.{is_unfolded, kind_fits, role_fits}
 use Rattle.qgm_check.specs.WellFormed.{fault}
-use Rattle.qgm_core.specs.Boxes.{QueryGraph, box_of, is_box, numbers}
+use Rattle.qgm_core.specs.Boxes.{QueryGraph, is_box, numbers}
 use Rattle.qgm_core.specs.Free.{reached}
-use Rattle.qgm_core.specs.Kinds.{is_F, is_enforce, is_fed, is_magic}
+use Rattle.qgm_core.specs.Kinds.{is_F, is_enforce, is_magic}
 use Rattle.qgm_core.specs.Lists.{EachOnce, In, holds, without}
-use Rattle.qgm_core.specs.declared.kinds.BoxKind.{BoxKind}
 use Rattle.qgm_core.specs.declared.kinds.BoxKind.TheVariants.{Select}
 use Rattle.qgm_core.specs.declared.kinds.Role.{Role}
 use Rattle.qgm_core.specs.declared.kinds.Role.TheVariants.{Plain, Magic, Fed}
@@ -35,7 +33,6 @@ use Rattle.qgm_meaning.specs.Satisfies.{Satisfies}
 use Rattle.qgm_meaning.specs.Scope.{put_node}
 use Rattle.qgm_meaning.specs.Searches.{bare}
 use Rattle.qgm_terms.specs.Substitution.{cell_at}
-use Rattle.qgm_terms.specs.Terms.{Term}
 use Rattle.qgm_terms.specs.Wanted.{has_aggregate, has_aggregate_cond}
 use Rattle.rule_api.specs.Rules.{Preserves}
 use Rattle.rule_merge.specs.MergeSelect.{IsMergeable}

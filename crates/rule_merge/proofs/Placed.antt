@@ -1,5 +1,5 @@
 -- What the code of M1 needs and makes at a place.
-use Rattle.std.proofs.Common.{ℕ, zero, suc, ◌+◌, ◌-◌, ◌==◌, ◌&&◌, ◌||◌, ◌≡◌, ◌≤◌, not, Bool, true, false, List, [], ◌∷◌, ◌++◌, drop, length, Some, refl, sym, ap, subst, ◌∙◌, eqb-true, inl, inr, arith}
+use Rattle.std.proofs.Common.{ℕ, zero, suc, ◌+◌, ◌-◌, ◌&&◌, ◌||◌, ◌≡◌, not, true, List, [], ◌∷◌, ◌++◌, drop, length, Some, refl, sym, ap, subst, ◌∙◌, eqb-true, arith}
 use Rattle.std.specs.Prelude.{slice_get, slice_index_or}
 use Rattle.qgm_check.specs.Sentences.{WellFormed}
 use Rattle.qgm_core.specs.Boxes.{QueryGraph, box_of, is_box, numbers}
@@ -16,7 +16,6 @@ use Rattle.rule_merge.specs.MergeSelect.{IsMergeable, MergesBox, MergesSelect, P
 use Rattle.rule_merge.specs.Merging.{cells_free, may_at, merged_with, read_elsewhere}
 use Rattle.rule_merge.specs.Splices.{Stands}
 use Rattle.rule_merge.proofs.MergedKeeps.{merge-preserves}
-use Rattle.rule_merge.proofs.Spread.{index-get}
 
 -- the first cell that is left is free or not read, and the rest are
 pub cells-more : (b q : ℕ) (bs : List Node) (k j : ℕ) (xs : List Term) (x : Term) → slice_get xs j ≡ Some x → cells_free b q bs k (drop j xs) ≡ ((node_free x || not (read_elsewhere b q k bs)) && cells_free b q bs (k + 1) (drop (j + 1) xs))

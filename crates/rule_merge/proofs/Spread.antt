@@ -1,17 +1,17 @@
 -- The quantifiers of a box, taken one by one into another, stand there all.
-use Rattle.std.proofs.Common.{ℕ, zero, suc, ◌<◌, ◌+◌, ◌-◌, ◌==◌, ◌≡◌, ◌≤◌, cond, Bool, true, false, List, [], ◌∷◌, ◌++◌, drop, length, map, take, Option, Some, refl, sym, ap, subst, ◌∙◌, eqb-true, ◌⊎◌, inl, inr, arith}
+use Rattle.std.proofs.Common.{ℕ, zero, suc, ◌<◌, ◌+◌, ◌-◌, ◌==◌, ◌≡◌, ◌≤◌, cond, Bool, true, false, List, [], ◌∷◌, ◌++◌, drop, length, map, take, Some, refl, sym, ap, subst, ◌∙◌, eqb-true, ◌⊎◌, inl, inr, arith}
 use Rattle.std.specs.Prelude.{insert, slice_get, slice_index_or}
 use Rattle.std.specs.List.{list_any}
 use Rattle.std.proofs.lemmas.Bool.{cases_Bool, eq-eqb}
 use Rattle.std.proofs.lemmas.List.{length-append, length-take-le, take-append-drop}
-use Rattle.qgm_core.specs.Boxes.{HasBox, HasQuant, QueryGraph, has_box, ids_in, ids_of, is_box, is_quant, owns, quants_in, quants_of, range_in}
+use Rattle.qgm_core.specs.Boxes.{HasBox, HasQuant, QueryGraph, has_box, ids_of, is_box, is_quant, owns, quants_in, quants_of, range_in}
 use Rattle.qgm_core.specs.Edits.{drop_quant, on_boxes, put_cells, put_range, put_range_found, quant_moved, without_quant}
-use Rattle.qgm_core.specs.Lists.{In, change, each, first, times, without}
+use Rattle.qgm_core.specs.Lists.{In, change, first, times, without}
 use Rattle.qgm_core.specs.declared.node.Node.{Node}
 use Rattle.qgm_core.specs.declared.owned.OwnedQuant.{OwnedQuant}
 use Rattle.qgm_laws.proofs.Edits.{OnceEach, any-append, map-append, once-each, split-once}
 use Rattle.qgm_laws.proofs.Levels.{first-passes}
-use Rattle.qgm_laws.proofs.Lists.{any-from, any-in, any-not, clash, eq-false-sym, eq-itself, in-append, in-left, in-map, in-right, map-in, or-none, other}
+use Rattle.qgm_laws.proofs.Lists.{any-from, any-in, any-not, clash, eq-false-sym, eq-itself, in-left, in-map, in-right, map-in, or-none, other}
 use Rattle.qgm_laws.proofs.OneBox.{at, change-at, has-map, once-map, owner-at}
 use Rattle.qgm_laws.proofs.Ranks.{in-has, same-box}
 use Rattle.qgm_laws.proofs.Scope.{owned-times}

@@ -1,5 +1,5 @@
 -- M1, a select is merged into the select above it: its condition, its places and its action.
-use Rattle.std.proofs.Common.{ℕ, suc, zero, ◌==◌, ◌&&◌, ◌||◌, ◌≡◌, ◌+◌, ◌≤◌, ◌++◌, not, cond, Bool, true, false, List, [], ◌∷◌, length, map, Option, Some, None, refl, sym, ap, ap₂, subst, ◌∙◌, eqb-true, ◌⊎◌, inl, inr, arith}
+use Rattle.std.proofs.Common.{ℕ, suc, zero, ◌==◌, ◌&&◌, ◌||◌, ◌≡◌, ◌+◌, ◌≤◌, ◌++◌, not, cond, Bool, true, false, List, [], ◌∷◌, length, map, Option, Some, None, refl, sym, ap, subst, ◌∙◌, eqb-true, ◌⊎◌, inl, inr, arith}
 use Rattle.std.specs.Prelude.{◌↔◌}
 use Rattle.std.specs.List.{list_any}
 use Rattle.std.proofs.lemmas.Bool.{and_from, and_parts, cases_Bool, eq-eqb, not-true, or_cases}
@@ -63,7 +63,8 @@ MayMergeSelect p g =
 unfoldable pub merge_select_pairs : QueryGraph → ℕ → List Pair
 merge_select_pairs g b = picks (may_merge g b) 1 (quants_of b g)
 
--- r, quantifier i of the box of the place, b, ranges over c: in h the quantifiers of c stand in the place of r, its conjuncts at the end, and its cells for the columns of r in all boxes; c and boxes that the root doesn't reach are gone; all else is as in g
+-- r, quantifier i of the box of the place, b, ranges over c: in h the quantifiers of c stand in the place of r, its conjuncts at the end, and its cells for the columns of r in all boxes
+-- c and boxes that the root doesn't reach are gone; all else is as in g
 pub record MergesBox (p : Place) (g h : QueryGraph) (b c : Node) (us : List OwnedQuant) (r : OwnedQuant) (vs : List OwnedQuant) : Type 0 where
   pub at : box_of p.at g ≡ Some b
   pub split : b.quants ≡ us ++ r ∷ vs
@@ -126,7 +127,8 @@ lateral-not g c h = any-not (is_lateral g c) c.quants (λ s i. elim (cases_Bool 
 
 -- ---- cells that may stand in other boxes
 
-free-from : (b q : ℕ) (bs : List Node) (k : ℕ) (xs : List Term) → cells_free b q bs k xs ≡ true → (y : Node) → In y bs → (y.id == b) ≡ false → (m j : ℕ) → j ≡ m + k → reads_in q j y ≡ true → node_free (cell_at (suc m) xs) ≡ true
+free-from : (b q : ℕ) (bs : List Node) (k : ℕ) (xs : List Term) → cells_free b q bs k xs ≡ true
+    → (y : Node) → In y bs → (y.id == b) ≡ false → (m j : ℕ) → j ≡ m + k → reads_in q j y ≡ true → node_free (cell_at (suc m) xs) ≡ true
 free-from b q bs k [] h y i f zero j e r = refl
 free-from b q bs k [] h y i f (suc m) j e r = refl
 free-from b q bs k (x ∷ xs) h y i f zero j e r =
@@ -138,7 +140,8 @@ free-from b q bs k (x ∷ xs) h y i f (suc m) j e r =
     let d : j ≡ m + suc k = omega arith in
     free-from b q bs (suc k) xs a.1 y i f m j d r
 
-free-to : (b q : ℕ) (bs : List Node) (k : ℕ) (xs : List Term) → ((y : Node) → In y bs → (y.id == b) ≡ false → (m j : ℕ) → j ≡ m + k → reads_in q j y ≡ true → node_free (cell_at (suc m) xs) ≡ true) → cells_free b q bs k xs ≡ true
+free-to : (b q : ℕ) (bs : List Node) (k : ℕ) (xs : List Term)
+    → ((y : Node) → In y bs → (y.id == b) ≡ false → (m j : ℕ) → j ≡ m + k → reads_in q j y ≡ true → node_free (cell_at (suc m) xs) ≡ true) → cells_free b q bs k xs ≡ true
 free-to b q bs k [] h = refl
 free-to b q bs k (x ∷ xs) h = and_from (node_free x || not (read_elsewhere b q k bs)) (cells_free b q bs (suc k) xs) now (free-to b q bs (suc k) xs (λ y i f m j e r. h y i f (suc m) j (omega arith) r))
   where

@@ -1,6 +1,5 @@
 -- The steps of M1's action.
-use Rattle.std.specs.Prelude.{ℕ, ◌≡◌, ◌==◌, ◌≤◌, ◌-◌, ◌++◌, if◌then◌else◌, true, false, List, Some, drop, length, map, slice_get, take}
-use Rattle.qgm_check.specs.Sentences.{WellFormed}
+use Rattle.std.specs.Prelude.{ℕ, ◌≡◌, ◌==◌, ◌≤◌, ◌-◌, ◌++◌, if◌then◌else◌, false, List, Some, drop, length, slice_get, take}
 use Rattle.qgm_core.specs.Boxes.{Ordered, QueryGraph, box_of, ids_in, is_box, overs_in}
 use Rattle.qgm_core.specs.Edits.{put_cells}
 use Rattle.qgm_core.specs.Lists.{In, change, each, times}

@@ -1,6 +1,4 @@
-use Rattle.std.proofs.Common.{◌≡◌, ◌≤◌, ◌-◌, ◌+◌, ◌∙◌, length, map, sym, ap, arith}
-use Rattle.qgm_core.specs.Boxes.{quants_of}
-use Rattle.qgm_core.specs.Edits.{drop_quant}
+use Rattle.std.proofs.Common.{◌≡◌, ◌-◌, ◌∙◌, length, map, sym, ap, arith}
 use Rattle.qgm_core.specs.declared.kinds.QuantKind.TheVariants.{F}
 use Rattle.rule_merge.specs.Splices.{spread}
 use Rattle.rule_merge.proofs.Spread.{none-taken, step-held, step-more, step-owned, step-room}

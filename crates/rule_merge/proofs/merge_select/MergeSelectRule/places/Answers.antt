@@ -1,6 +1,6 @@
 use Rattle.std.proofs.Common.{◌≡◌, ◌+◌, ◌-◌, ◌∙◌, Some, sym, ap, subst, slice_index_or, arith}
 use Rattle.std.specs.Prelude.{slice_get}
-use Rattle.qgm_core.specs.Boxes.{box_of, is_box}
+use Rattle.qgm_core.specs.Boxes.{is_box}
 use Rattle.qgm_core.specs.Lists.{first}
 use Rattle.qgm_core.specs.declared.kinds.QuantKind.TheVariants.{F}
 use Rattle.qgm_core.specs.declared.owned.OwnedQuant.{OwnedQuant}
