@@ -3,3 +3,8 @@ pub mod Turned
 pub mod Unreached
 pub mod Preserved
 pub mod Dropped
+pub mod NodeFree
+pub mod Spread
+pub mod Merged
+pub mod MergedKeeps
+pub mod Placed

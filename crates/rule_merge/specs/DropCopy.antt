@@ -60,24 +60,24 @@ DropsCopy p g h = (b : Node) × ((r : OwnedQuant) × DropsBox p g h b r)
 
 -- ---- the test says so
 
-select-is : (k : BoxKind) → is_select k ≡ true → k ≡ Select
+pub select-is : (k : BoxKind) → is_select k ≡ true → k ≡ Select
 select-is (Base table) h = absurd (let q : ⊥ = cc in q)
 select-is Select h = refl
 select-is (Group keys) h = absurd (let q : ⊥ = cc in q)
 select-is (SetOp operator types) h = absurd (let q : ⊥ = cc in q)
 select-is OuterJoin h = absurd (let q : ⊥ = cc in q)
 
-plain-is : (r : Role) → is_plain r ≡ true → r ≡ Plain
+pub plain-is : (r : Role) → is_plain r ≡ true → r ≡ Plain
 plain-is Plain h = refl
 plain-is Magic h = absurd (let q : ⊥ = cc in q)
 plain-is Fed h = absurd (let q : ⊥ = cc in q)
 
-preserve-is : (d : Distinct) → is_preserve d ≡ true → d ≡ Preserve
+pub preserve-is : (d : Distinct) → is_preserve d ≡ true → d ≡ Preserve
 preserve-is Enforce h = absurd (let q : ⊥ = cc in q)
 preserve-is Preserve h = refl
 preserve-is Permit h = absurd (let q : ⊥ = cc in q)
 
-f-is : (k : QuantKind) → is_F k ≡ true → k ≡ F
+pub f-is : (k : QuantKind) → is_F k ≡ true → k ≡ F
 f-is F h = refl
 f-is E h = absurd (let q : ⊥ = cc in q)
 f-is A h = absurd (let q : ⊥ = cc in q)

@@ -1,3 +1,6 @@
 pub mod Copies
 pub mod DropCopy
+pub mod MergeSelect
+pub mod Merging
+pub mod Splices
 pub mod Turns

@@ -16,7 +16,7 @@ use shared_types::OutOfMemory;
 use std::alloc::Global;
 
 // The box of a number.
-fn box_at(nodes: &[Node], b: BoxId) -> Option<&Node>
+pub fn box_at(nodes: &[Node], b: BoxId) -> Option<&Node>
     ensures { option_map (λ n. n.now) result ≡ first (is_box b) nodes.now }
 {
     for node in nodes {
@@ -38,7 +38,7 @@ fn width(node: &Node) -> usize
     }
 }
 
-fn is_f(kind: QuantKind) -> bool
+pub fn is_f(kind: QuantKind) -> bool
     ensures { result ≡ kinds.is_F kind }
 {
     match kind {
@@ -47,7 +47,7 @@ fn is_f(kind: QuantKind) -> bool
     }
 }
 
-fn is_select(kind: &BoxKind) -> bool
+pub fn is_select(kind: &BoxKind) -> bool
     ensures { result ≡ kinds.is_select kind.now }
 {
     match kind {
@@ -56,7 +56,7 @@ fn is_select(kind: &BoxKind) -> bool
     }
 }
 
-fn is_plain(role: Role) -> bool
+pub fn is_plain(role: Role) -> bool
     ensures { result ≡ kinds.is_plain role }
 {
     match role {
@@ -65,7 +65,7 @@ fn is_plain(role: Role) -> bool
     }
 }
 
-fn is_fed(role: Role) -> bool
+pub fn is_fed(role: Role) -> bool
     ensures { result ≡ kinds.is_fed role }
 {
     match role {
@@ -74,7 +74,7 @@ fn is_fed(role: Role) -> bool
     }
 }
 
-fn is_preserve(distinct: Distinct) -> bool
+pub fn is_preserve(distinct: Distinct) -> bool
     ensures { result ≡ kinds.is_preserve distinct }
 {
     match distinct {

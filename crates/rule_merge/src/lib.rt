@@ -3,6 +3,10 @@
 
 mod copies;
 mod drop_copy;
+mod merge_select;
+mod merging;
 mod moves;
+mod splices;
 
 pub use drop_copy::DropCopy;
+pub use merge_select::MergeSelect;

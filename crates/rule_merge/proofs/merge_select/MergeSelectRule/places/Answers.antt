@@ -1,0 +1,22 @@
+use Rattle.std.proofs.Common.{◌≡◌, ◌+◌, ◌-◌, ◌∙◌, Some, sym, ap, subst, slice_index_or, arith}
+use Rattle.std.specs.Prelude.{slice_get}
+use Rattle.qgm_core.specs.Boxes.{is_box}
+use Rattle.qgm_core.specs.Lists.{first}
+use Rattle.qgm_core.specs.declared.kinds.QuantKind.TheVariants.{F}
+use Rattle.qgm_core.specs.declared.owned.OwnedQuant.{OwnedQuant}
+use Rattle.rule_merge.proofs.Placed.{found-itself}
+use Rattle.rule_merge.proofs.Spread.{index-get}
+use Rattle.rule_merge.proofs.merge_select.MergeSelectRule.places.Goals as goal
+
+pub may_at-requires-clause-at : goal.may_at-requires-clause-at
+may_at-requires-clause-at c =
+    found-itself c.args.graph.now c.args.b c.in-Some.node.now (sym (c.in-Some.ensures ∙ ap (first (is_box c.args.b)) c.nodes.ensures))
+
+pub may_at-requires-clause-nth : goal.may_at-requires-clause-nth
+may_at-requires-clause-nth c =
+    let k = c.loop-k.k in
+    let list = c.as_slice-list.result.now in
+    let d : OwnedQuant = record { id = 0; kind = F; over = 0 } in
+    let n : k ≡ k + 1 - 1 = omega arith in
+    subst (λ j. slice_get c.in-Some.node.now.quants j ≡ Some (slice_index_or list k d)) n
+    (subst (λ z. slice_get z k ≡ Some (slice_index_or list k d)) c.as_slice-list.ensures (index-get k list d c.loop-k-test.true))

@@ -1,0 +1,76 @@
+// M1.
+ghost use Rattle.std.specs.Prelude.{◌≡◌, IfOk};
+ghost use Rattle.qgm_check.specs.Sentences.{WellFormed};
+ghost use Rattle.rule_api.specs.Rules.{Preserves};
+ghost use Rattle.rule_api.specs.declared.place.RuleId.TheVariants.{M1};
+ghost use Rattle.rule_merge.specs.MergeSelect.{MayMergeSelect, MergesSelect, PassesMerge, merge_select_exact, merge_select_pairs};
+
+use crate::copies::box_at;
+use crate::merging::may_at;
+use crate::splices::merged;
+use qgm_core::{BoxId, Graph};
+use rule_api::{Place, Rule, RuleId, add_if};
+use shared_types::OutOfMemory;
+use std::alloc::Global;
+
+/// M1: a plain select under an F quantifier of a select is merged into it, where it is PRESERVE or
+/// the upper one is ENFORCE (Pirahesh, Hellerstein and Hasan 1992, 3.1). An ENFORCE select is not
+/// yet merged into a PERMIT one.
+#[derive(Clone, Copy, Debug)]
+pub struct MergeSelect;
+
+// The graph after M1 at a place.
+fn merged_at(alloc: Global, graph: &Graph, place: Place) -> Result<Graph, OutOfMemory>
+    requires formed { WellFormed graph.now }
+    requires given { PassesMerge graph.now place.at place.i }
+    ensures acts { IfOk result (λ h. MergesSelect place graph.now h) }
+    ensures preserves { IfOk result (λ h. Preserves graph.now h) }
+{
+    graph.each_number_once();
+    let Some(b) = box_at(graph.nodes(), place.at) else {
+        unreachable!()
+    };
+    let r = b.quants.as_slice()[place.i - 1];
+    let Some(c) = box_at(graph.nodes(), r.over) else {
+        unreachable!()
+    };
+    let after = merged(alloc, graph, b, place.i, r, c)?;
+    Ok(after)
+}
+
+impl Rule for MergeSelect {
+    ghost pairs = { λ _. merge_select_pairs };
+
+    ghost may = { λ _. MayMergeSelect };
+
+    ghost act = { λ _. MergesSelect };
+
+    ghost name = { λ _. M1 };
+
+    ghost exact = { λ _. merge_select_exact };
+
+    fn id(&self) -> RuleId {
+        RuleId::M1
+    }
+
+    #[tactic(auto, using(crate::specs::MergeSelect::merge_select_ascending), unfolding(crate::specs::MergeSelect::merge_select_pairs))]
+    fn places(&self, alloc: Global, graph: &Graph, b: BoxId) -> Result<Vec<Place>, OutOfMemory> {
+        let mut out = Vec::new(alloc);
+        let Some(node) = box_at(graph.nodes(), b) else {
+            return Ok(out);
+        };
+        let list = node.quants.as_slice();
+        for k in 0..list.len() {
+            let passes = may_at(alloc, graph, node, k + 1, list[k])?;
+            add_if(&mut out, passes, b, k + 1, 0)?;
+        }
+        Ok(out)
+    }
+
+    #[tactic(auto, using(crate::specs::MergeSelect::merge_select_given))]
+    fn apply(&self, alloc: Global, graph: &mut Graph, place: Place) -> Result<(), OutOfMemory> {
+        let after = merged_at(alloc, graph, place)?;
+        *graph = after;
+        Ok(())
+    }
+}

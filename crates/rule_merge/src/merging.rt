@@ -1,0 +1,238 @@
+// Whether a select may be merged into the select above it.
+ghost use Rattle.std.specs.Prelude.{◌≡◌, ◌≤◌, ◌-◌, IfOk, Some, slice_get};
+ghost use Rattle.std.specs.List.{list_any};
+ghost use Rattle.std.specs.Prelude.{◌&&◌, ◌==◌, not, true};
+ghost use Rattle.qgm_check.specs.Sentences.{WellFormed};
+ghost use Rattle.qgm_check.specs.Shapes.{all_F};
+ghost use Rattle.qgm_core.specs.Boxes.{box_of, owns};
+ghost use Rattle.qgm_core.specs.Kinds as kinds;
+ghost use Rattle.qgm_laws.specs.Graph.{reads_in};
+ghost use Rattle.rule_merge.specs.Merging as spec;
+
+use crate::copies::{box_at, is_f, is_fed, is_plain, is_preserve, is_select};
+use crate::splices::merged;
+use qgm_core::{BoxId, Distinct, Graph, Head, Node, OwnedQuant, QuantId, Role, free_in, has_range};
+use qgm_terms::{Sought, is_node_free, stands_in_cells, stands_in_conds};
+use shared_types::OutOfMemory;
+use std::alloc::Global;
+
+fn is_enforce(distinct: Distinct) -> bool
+    ensures { result ≡ kinds.is_enforce distinct }
+{
+    match distinct {
+        Distinct::Enforce => true,
+        Distinct::Preserve | Distinct::Permit => false,
+    }
+}
+
+fn is_magic(role: Role) -> bool
+    ensures { result ≡ kinds.is_magic role }
+{
+    match role {
+        Role::Magic => true,
+        Role::Plain | Role::Fed => false,
+    }
+}
+
+fn are_f(ranges: &[OwnedQuant]) -> bool
+    ensures { result ≡ all_F ranges.now }
+{
+    ranges.iter().all(|r| is_f(r.kind))
+}
+
+// Whether c, under b, is of a kind, role and DISTINCT that may be merged.
+fn parts_fit(b: &Node, c: &Node) -> bool
+    ensures { result ≡ spec.parts_fit b.now c.now }
+{
+    is_select(&c.parts.kind)
+        && is_plain(c.parts.role)
+        && (is_preserve(c.parts.distinct) || is_enforce(b.parts.distinct))
+        && (!is_magic(b.parts.role) || are_f(c.quants.as_slice()))
+}
+
+// Whether q is another quantifier of c than s.
+fn is_other(c: &Node, s: QuantId, q: QuantId) -> bool
+    ensures { result ≡ (owns q c.now && not (q == s)) }
+{
+    has_range(c.quants.as_slice(), q) && q != s
+}
+
+// Whether one of these is another quantifier of c than s.
+fn has_other(c: &Node, s: QuantId, free: &[QuantId]) -> bool
+    ensures { result ≡ list_any (λ q. owns q c.now && not (q == s)) free.now }
+{
+    free.iter().any(|q| is_other(c, s, *q))
+}
+
+// Whether another quantifier of c than s, an F of c, is named in the box under s or below it.
+fn is_lateral(alloc: Global, graph: &Graph, c: &Node, s: OwnedQuant) -> Result<bool, OutOfMemory>
+    ensures { IfOk result (λ lateral. lateral ≡ spec.is_lateral graph.now c.now s) }
+{
+    if !is_f(s.kind) {
+        return Ok(false);
+    }
+    let free = free_in(alloc, graph.nodes(), s.over)?;
+    Ok(has_other(c, s.id, free.as_slice()))
+}
+
+fn has_lateral(alloc: Global, graph: &Graph, c: &Node) -> Result<bool, OutOfMemory>
+    ensures { IfOk result (λ lateral. lateral ≡ spec.has_lateral graph.now c.now) }
+{
+    for s in c.quants.as_slice() {
+        if is_lateral(alloc, graph, c, *s)? {
+            return Ok(true);
+        }
+    }
+    Ok(false)
+}
+
+// Whether a box reads column k of q.
+fn reads(node: &Node, q: QuantId, k: usize) -> bool
+    ensures { result ≡ reads_in q k node.now }
+{
+    stands_in_cells(node.parts.head.as_slice(), Sought::Cell(q, k))
+        || stands_in_conds(node.parts.conds.as_slice(), Sought::Cell(q, k))
+}
+
+// Whether another box than b reads it.
+fn read_elsewhere(nodes: &[Node], b: BoxId, q: QuantId, k: usize) -> bool
+    ensures { result ≡ spec.read_elsewhere b q k nodes.now }
+{
+    nodes.iter().any(|y| y.id != b && reads(y, q, k))
+}
+
+// Whether the cells that stand for columns of q which other boxes than b read are node-free.
+fn cells_free(nodes: &[Node], b: BoxId, q: QuantId, head: &Head) -> bool
+    ensures { result ≡ spec.cells_free b q nodes.now 1 head.now }
+{
+    for k in 0..head.len() {
+        if !is_node_free(head.at(k + 1)) && read_elsewhere(nodes, b, q, k + 1) {
+            return false;
+        }
+    }
+    true
+}
+
+// Whether the second of two quantifiers ranges over a closed box.
+fn second_closed(alloc: Global, nodes: &[Node], ranges: &[OwnedQuant]) -> Result<bool, OutOfMemory>
+    ensures { IfOk result (λ closed. closed ≡ spec.second_closed nodes.now ranges.now) }
+{
+    match ranges {
+        [] | [_] | [_, _, _, ..] => Ok(false),
+        [_, d] => {
+            let free = free_in(alloc, nodes, d.over)?;
+            Ok(free.is_empty())
+        }
+    }
+}
+
+// Whether a box is fed, and that over a closed box.
+fn fed_closed(alloc: Global, nodes: &[Node], node: &Node) -> Result<bool, OutOfMemory>
+    ensures { IfOk result (λ closed. closed ≡ spec.fed_closed nodes.now node.now) }
+{
+    if !is_fed(node.parts.role) {
+        return Ok(false);
+    }
+    second_closed(alloc, nodes, node.quants.as_slice())
+}
+
+fn any_fed_closed(alloc: Global, graph: &Graph) -> Result<bool, OutOfMemory>
+    ensures { IfOk result (λ closed. closed ≡ spec.any_fed_closed graph.now) }
+{
+    for node in graph.nodes() {
+        if fed_closed(alloc, graph.nodes(), node)? {
+            return Ok(true);
+        }
+    }
+    Ok(false)
+}
+
+// Whether c has one use, and cells that may stand in other boxes than b.
+fn cells_stand(graph: &Graph, b: &Node, r: OwnedQuant, c: &Node) -> bool
+    ensures { result ≡ spec.cells_stand graph.now b.now r c.now }
+{
+    parts_fit(b, c) && graph.uses(c.id) == 1 && cells_free(graph.nodes(), b.id, r.id, &c.parts.head)
+}
+
+// Whether c may be merged into b under r, but for what that leaves of fed boxes.
+fn may_stand(
+    alloc: Global,
+    graph: &Graph,
+    b: &Node,
+    r: OwnedQuant,
+    c: &Node,
+) -> Result<bool, OutOfMemory>
+    ensures { IfOk result (λ may. may ≡ spec.may_stand graph.now b.now r c.now) }
+{
+    if !cells_stand(graph, b, r, c) {
+        return Ok(false);
+    }
+    let lateral = has_lateral(alloc, graph, c)?;
+    Ok(!lateral)
+}
+
+// Whether c may be merged into b under r.
+fn may_with(
+    alloc: Global,
+    graph: &Graph,
+    b: &Node,
+    place: usize,
+    r: OwnedQuant,
+    c: &Node,
+) -> Result<bool, OutOfMemory>
+    requires formed { WellFormed graph.now }
+    requires at { box_of b.now.id graph.now ≡ Some b.now }
+    requires select { kinds.is_select b.now.parts.kind ≡ true }
+    requires from_one { 1 ≤ place }
+    requires nth { slice_get b.now.quants (place - 1) ≡ Some r }
+    requires under { box_of r.over graph.now ≡ Some c.now }
+    ensures { IfOk result (λ may. may ≡ spec.may_with graph.now b.now r c.now) }
+{
+    if !may_stand(alloc, graph, b, r, c)? {
+        return Ok(false);
+    }
+    let after = merged(alloc, graph, b, place, r, c)?;
+    let closed = any_fed_closed(alloc, &after)?;
+    Ok(!closed)
+}
+
+// Whether the box under r may be merged into b.
+fn may_over(
+    alloc: Global,
+    graph: &Graph,
+    b: &Node,
+    place: usize,
+    r: OwnedQuant,
+) -> Result<bool, OutOfMemory>
+    requires formed { WellFormed graph.now }
+    requires at { box_of b.now.id graph.now ≡ Some b.now }
+    requires select { kinds.is_select b.now.parts.kind ≡ true }
+    requires from_one { 1 ≤ place }
+    requires nth { slice_get b.now.quants (place - 1) ≡ Some r }
+    ensures { IfOk result (λ may. may ≡ spec.may_over graph.now b.now r (box_of r.over graph.now)) }
+{
+    let Some(c) = box_at(graph.nodes(), r.over) else {
+        return Ok(false);
+    };
+    may_with(alloc, graph, b, place, r, c)
+}
+
+/// Whether M1 has a place at quantifier r of b, which stands at this place from 1.
+pub fn may_at(
+    alloc: Global,
+    graph: &Graph,
+    b: &Node,
+    place: usize,
+    r: OwnedQuant,
+) -> Result<bool, OutOfMemory>
+    requires formed { WellFormed graph.now }
+    requires at { box_of b.now.id graph.now ≡ Some b.now }
+    requires from_one { 1 ≤ place }
+    requires nth { slice_get b.now.quants (place - 1) ≡ Some r }
+    ensures { IfOk result (λ may. may ≡ spec.may_at graph.now b.now r) }
+{
+    if !is_select(&b.parts.kind) || is_fed(b.parts.role) || !is_f(r.kind) {
+        return Ok(false);
+    }
+    may_over(alloc, graph, b, place, r)
+}
