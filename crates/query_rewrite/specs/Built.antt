@@ -8,10 +8,11 @@ use Rattle.rule_api.specs.declared.place.Place.{Place}
 use Rattle.rule_api.specs.declared.place.RuleId.{RuleId}
 use Rattle.rule_api.specs.declared.place.RuleId.TheVariants.{M1, M2, U1, U2, U3, U4, L1, L2, L3, P1, P2, P3, P4, J1, J2, N1, N2, G1, G2, G3, G4, G5}
 use Rattle.rule_merge.specs.DropCopy.{DropsCopy, MayDropCopy, drop_copy_exact, drop_copy_pairs}
+use Rattle.rule_merge.specs.MergeSelect.{MayMergeSelect, MergesSelect, merge_select_exact, merge_select_pairs}
 
 -- its places at a box
 abbrev pub built_pairs : RuleId → QueryGraph → ℕ → List Pair
-built_pairs M1 = λ g b. []
+built_pairs M1 = merge_select_pairs
 built_pairs M2 = drop_copy_pairs
 built_pairs U1 = λ g b. []
 built_pairs U2 = λ g b. []
@@ -36,7 +37,7 @@ built_pairs G5 = λ g b. []
 
 -- its condition
 abbrev pub built_may : RuleId → Place → QueryGraph → Type 0
-built_may M1 = λ p g. ⊥
+built_may M1 = MayMergeSelect
 built_may M2 = MayDropCopy
 built_may U1 = λ p g. ⊥
 built_may U2 = λ p g. ⊥
@@ -61,7 +62,7 @@ built_may G5 = λ p g. ⊥
 
 -- its action
 abbrev pub built_act : RuleId → Place → QueryGraph → QueryGraph → Type 0
-built_act M1 = λ p g h. ⊥
+built_act M1 = MergesSelect
 built_act M2 = DropsCopy
 built_act U1 = λ p g h. ⊥
 built_act U2 = λ p g h. ⊥
@@ -86,7 +87,7 @@ built_act G5 = λ p g h. ⊥
 
 -- its places are exactly those where its condition holds
 pub built_exact : (r : RuleId) (g : QueryGraph) (b i j : ℕ) → WellFormed g → In (i, j) (built_pairs r g b) ↔ built_may r (record { at = b; i = i; j = j }) g
-built_exact M1 g b i j w = ((λ h. h), λ h. h)
+built_exact M1 g b i j w = merge_select_exact g b i j w
 built_exact M2 g b i j w = drop_copy_exact g b i j w
 built_exact U1 g b i j w = ((λ h. h), λ h. h)
 built_exact U2 g b i j w = ((λ h. h), λ h. h)

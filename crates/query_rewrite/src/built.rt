@@ -8,11 +8,11 @@ use qgm_core::{BoxId, Graph};
 use rewrite_plan::Plan;
 use rule_api::{Place, Rule, RuleId};
 use rule_engine::{Rules, Trace, rewrite};
-use rule_merge::DropCopy;
+use rule_merge::{DropCopy, MergeSelect};
 use shared_types::OutOfMemory;
 use std::alloc::Global;
 
-/// The rules that are built: M2.
+/// The rules that are built: M1 and M2.
 #[derive(Clone, Copy, Debug)]
 pub struct BuiltRules;
 
@@ -33,9 +33,9 @@ impl Rules for BuiltRules {
         b: BoxId,
     ) -> Result<Vec<Place>, OutOfMemory> {
         match rule {
+            RuleId::M1 => MergeSelect.places(alloc, graph, b),
             RuleId::M2 => DropCopy.places(alloc, graph, b),
-            RuleId::M1
-            | RuleId::U1
+            RuleId::U1
             | RuleId::U2
             | RuleId::U3
             | RuleId::U4
@@ -66,9 +66,9 @@ impl Rules for BuiltRules {
         place: Place,
     ) -> Result<(), OutOfMemory> {
         match rule {
+            RuleId::M1 => MergeSelect.apply(alloc, graph, place),
             RuleId::M2 => DropCopy.apply(alloc, graph, place),
-            RuleId::M1
-            | RuleId::U1
+            RuleId::U1
             | RuleId::U2
             | RuleId::U3
             | RuleId::U4
