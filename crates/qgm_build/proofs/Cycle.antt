@@ -14,10 +14,10 @@ use Rattle.qgm_shown.specs.Lay as l
 use Rattle.qgm_shown.specs.Leaves.{Leaf}
 use Rattle.qgm_shown.specs.Maps.{Frame}
 use Rattle.qgm_shown.specs.Shown.{common_form, form_of, frame, key_frame, key_places, past}
-use Rattle.qgm_build.specs.Laying.{Opens, block_box, block_subs, flat_box, from_step, group_box, on_step, operand_laid, outer_box, outer_of, query_laid, rows_box, rows_subs, told_at, two_box, upper_box, upper_laid}
-use Rattle.qgm_build.specs.Making.{Gives, Takes, after_subs, draws, top_at}
+use Rattle.qgm_build.specs.Laying.{Opens, block_box, block_subs, flat_box, flat_laid, from_step, group_box, groups_laid, on_step, operand_laid, outer_box, outer_of, query_laid, rows_box, rows_subs, told_at, two_box, upper_box}
+use Rattle.qgm_build.specs.Making.{Gives, Takes, after_subs, draws}
 use Rattle.qgm_build.specs.declared.setting.Ground.{Ground}
-use Rattle.qgm_build.proofs.Opening.{block_laid, crossed_subs, crossed_take, flat_laid, grouped_laid, joined_subs, joined_take, upper_is}
+use Rattle.qgm_build.proofs.Opening.{block_laid, flat_made, grouped_laid, groups_made, joined_subs, joined_take, upper_is}
 use Rattle.qgm_build.proofs.Paired.{both_folds, outer_laid, two_laid}
 use Rattle.qgm_build.proofs.Selected.{gives_at}
 use Rattle.qgm_build.proofs.Taking.{takes_over}
@@ -49,47 +49,10 @@ named_take g name b s v os ps e d = takes_over F (operand_laid g (q.named name))
 pub derived_take : (g : Ground) (x : Query) (b : ℕ) (s t v : Boxes) (os ps : List OwnedQuant) → Gives (query_laid g x s) b t → Takes (draws F b) t os v ps → Takes (from_step g (q.derived x)) s os v ps
 derived_take g x b s t v os ps e d = takes_over F (query_laid g x) e d
 
--- an operand that is a cross join
-pub crossed_laid : (g : Ground) (a b : From) (s s1 s2 s3 s4 s5 : Boxes) (start f1 fs begin os0 os1 p1 ps : List OwnedQuant) (r : ℕ)
-    → start ≡ [] → Takes (from_step g a) s start s1 f1 → Takes (from_step g b) s1 f1 s2 fs → begin ≡ [] → os0 ≡ fs
-    → Takes (on_step g a os0) s2 begin s3 p1 → os1 ≡ past (told_at g) a os0 → Takes (on_step g b os1) s3 p1 s4 ps
-    → Gives (flat_box g (q.crossed a b) fs (after_subs s4 ps)) r s5 → Gives (operand_laid g (q.crossed a b) s) r s5
-crossed_laid g a b s s1 s2 s3 s4 s5 start f1 fs begin os0 os1 p1 ps r st d1 d2 bg oe e1 past_is e2 give =
-    flat_laid g (q.crossed a b) a b (crossed_subs g a b) s s1 s2 s4 s5 start f1 fs begin os0 ps r st d1 d2 bg oe (crossed_take g a b s2 s3 s4 os0 os1 begin p1 ps e1 past_is e2) give
-
--- an operand that is a join with a condition
-pub joined_laid : (g : Ground) (a b : From) (p : Test) (s s1 s2 s3 s4 s6 s5 : Boxes) (start f1 fs begin os0 os1 os2 p1 p2 ps : List OwnedQuant) (fr fr2 : Frame) (r : ℕ)
-    → start ≡ [] → Takes (from_step g a) s start s1 f1 → Takes (from_step g b) s1 f1 s2 fs → begin ≡ [] → os0 ≡ fs → os2 ≡ fs
-    → Takes (on_step g a os0) s2 begin s3 p1 → os1 ≡ past (told_at g) a os0 → Takes (on_step g b os1) s3 p1 s4 p2
-    → fr ≡ frame (told_at g) a os2 ++ frame (told_at g) b (past (told_at g) a os2) → fr2 ≡ fr
-    → Takes (l.test_subs (told_at g) (laying (told_at g)) (outer_of g) fr2 p) s4 p2 s6 ps
-    → Gives (flat_box g (q.joined a b p) fs (after_subs s6 ps)) r s5 → Gives (operand_laid g (q.joined a b p) s) r s5
-joined_laid g a b p s s1 s2 s3 s4 s6 s5 start f1 fs begin os0 os1 os2 p1 p2 ps fr fr2 r st d1 d2 bg oe oe2 e1 past_is e2 frs fe e3 give =
-    flat_laid g (q.joined a b p) a b (joined_subs g a b p) s s1 s2 s6 s5 start f1 fs begin os0 ps r st d1 d2 bg oe
-    (joined_take g a b p s2 s3 s4 s6 os0 os1 begin p1 p2 ps fr fr2 e1 past_is e2 (frs ∙ ap (λ (os : List OwnedQuant). frame (told_at g) a os ++ frame (told_at g) b (past (told_at g) a os)) (oe2 ∙ sym oe)) fe e3) give
-
 takes_at : (a b : Step) (s t : Boxes) (os ps : List OwnedQuant) → a ≡ b → Takes a s os t ps → Takes b s os t ps
 takes_at a b s t os ps e d = record { boxes = d.boxes ∙ ap (λ (z : Step). (z s).boxes) e; quants = d.quants ∙ ap (λ (z : Step). os ++ (z s).quants) e }
 
 -- ---- the same of an operand that is known to be one of these
-
-pub crossed_is : (g : Ground) (x a b : From) (s s1 s2 s3 s4 s5 : Boxes) (start f1 fs begin os0 os1 p1 ps : List OwnedQuant) (r : ℕ) → x ≡ q.crossed a b
-    → start ≡ [] → Takes (from_step g a) s start s1 f1 → Takes (from_step g b) s1 f1 s2 fs → begin ≡ [] → os0 ≡ fs
-    → Takes (on_step g a os0) s2 begin s3 p1 → os1 ≡ past (told_at g) a os0 → Takes (on_step g b os1) s3 p1 s4 ps
-    → Gives (flat_box g x fs (after_subs s4 ps)) r s5 → Gives (operand_laid g x s) r s5
-crossed_is g x a b s s1 s2 s3 s4 s5 start f1 fs begin os0 os1 p1 ps r is st d1 d2 bg oe e1 past_is e2 give =
-    gives_at (ap (λ (z : From). operand_laid g z s) (sym is))
-    (crossed_laid g a b s s1 s2 s3 s4 s5 start f1 fs begin os0 os1 p1 ps r st d1 d2 bg oe e1 past_is e2 (gives_at (ap (λ (z : From). flat_box g z fs (after_subs s4 ps)) is) give))
-
-pub joined_is : (g : Ground) (x a b : From) (p : Test) (s s1 s2 s3 s4 s6 s5 : Boxes) (start f1 fs begin os0 os1 os2 p1 p2 ps : List OwnedQuant) (fr fr2 : Frame) (r : ℕ) → x ≡ q.joined a b p
-    → start ≡ [] → Takes (from_step g a) s start s1 f1 → Takes (from_step g b) s1 f1 s2 fs → begin ≡ [] → os0 ≡ fs → os2 ≡ fs
-    → Takes (on_step g a os0) s2 begin s3 p1 → os1 ≡ past (told_at g) a os0 → Takes (on_step g b os1) s3 p1 s4 p2
-    → fr ≡ frame (told_at g) a os2 ++ frame (told_at g) b (past (told_at g) a os2) → fr2 ≡ fr
-    → Takes (l.test_subs (told_at g) (laying (told_at g)) (outer_of g) fr2 p) s4 p2 s6 ps
-    → Gives (flat_box g x fs (after_subs s6 ps)) r s5 → Gives (operand_laid g x s) r s5
-joined_is g x a b p s s1 s2 s3 s4 s6 s5 start f1 fs begin os0 os1 os2 p1 p2 ps fr fr2 r is st d1 d2 bg oe oe2 e1 past_is e2 frs fe e3 give =
-    gives_at (ap (λ (z : From). operand_laid g z s) (sym is))
-    (joined_laid g a b p s s1 s2 s3 s4 s6 s5 start f1 fs begin os0 os1 os2 p1 p2 ps fr fr2 r st d1 d2 bg oe oe2 e1 past_is e2 frs fe e3 (gives_at (ap (λ (z : From). flat_box g z fs (after_subs s6 ps)) is) give))
 
 pub left_is : (g : Ground) (o x y : From) (n : ℕ) (p : Test) (a b r : ℕ) (s s1 s2 u : Boxes) → o ≡ q.left_joined x y n p → Gives (operand_laid g x s) a s1 → Gives (operand_laid g y s1) b s2
     → Gives (outer_box g x n p a b s2) r u → Gives (operand_laid g o s) r u
@@ -110,26 +73,30 @@ joined_step g x a b p s s1 s2 s3 os os0 os2 os1 begin p1 p2 p3 fr fr2 is oe oe2 
 
 -- ---- the same where memory may run out
 
-pub block_ok : (g : Ground) (distinct : Bool) (list : Values) (from : Froms) (by : Test) (s s2 u : Boxes) (fr : Frame) (fs ps : List OwnedQuant) (r : Result ℕ OutOfMemory)
-    → Opens g from (block_subs g list from by) s fr fs ps s2 → IfOk r (λ b. Gives (block_box g distinct list from by fs (after_subs s2 ps)) b u) → IfOk r (λ b. Gives (query_laid g (q.block distinct list from by) s) b u)
-block_ok g distinct list from by s s2 u fr fs ps r o give =
-    IfOk-weaker r (λ b. Gives (block_box g distinct list from by fs (after_subs s2 ps)) b u) (λ b. Gives (query_laid g (q.block distinct list from by) s) b u) (λ b e. block_laid g distinct list from by s s2 u fr fs ps b o e) give
+pub block_ok : (g : Ground) (distinct : Bool) (list : Values) (from : Froms) (by : Test) (s s2 u : Boxes) (fr : Frame) (fs ps : List OwnedQuant) (x : Query) (r : Result ℕ OutOfMemory) → x ≡ q.block distinct list from by
+    → Opens g from (block_subs g list from by) s fr fs ps s2 → IfOk r (λ b. Gives (block_box g distinct list from by fs (after_subs s2 ps)) b u) → IfOk r (λ b. Gives (query_laid g x s) b u)
+block_ok g distinct list from by s s2 u fr fs ps x r is o give =
+    IfOk-weaker r (λ b. Gives (block_box g distinct list from by fs (after_subs s2 ps)) b u) (λ b. Gives (query_laid g x s) b u)
+    (λ b e. gives_at (ap (λ (y : Query). query_laid g y s) (sym is)) (block_laid g distinct list from by s s2 u fr fs ps b o e)) give
 
-pub grouped_ok : (g : Ground) (distinct : Bool) (list : Values) (from : Froms) (by : Test) (keys : Option (List ℕ)) (places : List ℕ) (n : ℕ) (having : Test) (folds : List Leaf) (s s1 s2 s3 s4 : Boxes) (fr : Frame) (fs ps : List OwnedQuant) (r gr : ℕ) (x : Query) (z : Result ℕ OutOfMemory)
+pub groups_ok : (g : Ground) (distinct : Bool) (list : Values) (from : Froms) (by : Test) (keys : Option (List ℕ)) (places : List ℕ) (n : ℕ) (having : Test) (folds : List Leaf) (s s1 s2 s3 : Boxes) (fr : Frame) (fs ps : List OwnedQuant) (rows : ℕ) (x : Query) (r : Result ℕ OutOfMemory)
     → x ≡ q.grouped distinct list from by keys n having → places ≡ key_places keys → folds ≡ both_folds list having
-    → Opens g from (rows_subs g from by) s fr fs ps s1 → Gives (rows_box g places folds from by fs (after_subs s1 ps)) r s2
-    → Gives (group_box g places folds r s2) gr s3 → IfOk z (λ b. Gives (upper_laid g distinct list places n having (top_at gr s3)) b s4) → IfOk z (λ b. Gives (query_laid g x s) b s4)
-grouped_ok g distinct list from by keys places n having folds s s1 s2 s3 s4 fr fs ps r gr x z is at_keys are o rows groups top =
-    IfOk-weaker z (λ b. Gives (upper_laid g distinct list places n having (top_at gr s3)) b s4) (λ b. Gives (query_laid g x s) b s4)
-    (λ b e. gives_at (ap (λ (y : Query). query_laid g y s) (sym is)) (grouped_laid g distinct list from by keys places n having folds s s1 s2 s3 s4 fr fs ps r gr b at_keys are o rows groups e)) top
+    → Opens g from (rows_subs g from by) s fr fs ps s1 → Gives (rows_box g places folds from by fs (after_subs s1 ps)) rows s2
+    → IfOk r (λ b. Gives (group_box g places folds rows s2) b s3) → IfOk r (λ b. Gives (groups_laid g x s) b s3)
+groups_ok g distinct list from by keys places n having folds s s1 s2 s3 fr fs ps rows x r is at_keys are o below give =
+    IfOk-weaker r (λ b. Gives (group_box g places folds rows s2) b s3) (λ b. Gives (groups_laid g x s) b s3)
+    (λ b e. gives_at (ap (λ (y : Query). groups_laid g y s) (sym is)) (groups_made g list from by keys places having folds s s1 s2 s3 fr fs ps rows b at_keys are o below e)) give
 
-pub upper_ok : (g : Ground) (distinct : Bool) (list : Values) (places : List ℕ) (n : ℕ) (having : Test) (groups u : ℕ) (s s1 s2 s3 s4 : Boxes) (fr fr2 : Frame) (begin p1 p2 : List OwnedQuant) (r : Result ℕ OutOfMemory)
-    → u ≡ s.quant → s1 ≡ ranging groups s → fr ≡ key_frame u places 0 n → fr2 ≡ fr → begin ≡ []
-    → Takes (l.list_subs (told_at g) (laying (told_at g)) (outer_of g) fr2 list) s1 begin s2 p1 → Takes (l.test_subs (told_at g) (laying (told_at g)) (outer_of g) fr2 having) s2 p1 s3 p2
-    → IfOk r (λ b. Gives (upper_box g distinct list places n having u groups (after_subs s3 p2)) b s4) → IfOk r (λ b. Gives (upper_laid g distinct list places n having (top_at groups s)) b s4)
-upper_ok g distinct list places n having groups u s s1 s2 s3 s4 fr fr2 begin p1 p2 r us ss frs e bg d1 d2 give =
-    IfOk-weaker r (λ b. Gives (upper_box g distinct list places n having u groups (after_subs s3 p2)) b s4) (λ b. Gives (upper_laid g distinct list places n having (top_at groups s)) b s4)
-    (λ b f. upper_is g distinct list places n having groups u b s s1 s2 s3 s4 fr fr2 begin p1 p2 us ss frs e bg d1 d2 f) give
+-- the select over groups, which were laid
+pub grouped_ok : (g : Ground) (distinct : Bool) (list : Values) (from : Froms) (by : Test) (keys : Option (List ℕ)) (places : List ℕ) (n : ℕ) (having : Test) (groups u : ℕ) (s s1 s2 s3 s4 s5 : Boxes) (fr fr2 : Frame) (begin p1 p2 : List OwnedQuant) (x : Query) (r : Result ℕ OutOfMemory)
+    → x ≡ q.grouped distinct list from by keys n having → places ≡ key_places keys → Gives (groups_laid g x s) groups s1
+    → u ≡ s1.quant → s2 ≡ ranging groups s1 → fr ≡ key_frame u places 0 n → fr2 ≡ fr → begin ≡ []
+    → Takes (l.list_subs (told_at g) (laying (told_at g)) (outer_of g) fr2 list) s2 begin s3 p1 → Takes (l.test_subs (told_at g) (laying (told_at g)) (outer_of g) fr2 having) s3 p1 s4 p2
+    → IfOk r (λ b. Gives (upper_box g distinct list places n having u groups (after_subs s4 p2)) b s5) → IfOk r (λ b. Gives (query_laid g x s) b s5)
+grouped_ok g distinct list from by keys places n having groups u s s1 s2 s3 s4 s5 fr fr2 begin p1 p2 x r is at_keys below us ss frs e bg d1 d2 give =
+    IfOk-weaker r (λ b. Gives (upper_box g distinct list places n having u groups (after_subs s4 p2)) b s5) (λ b. Gives (query_laid g x s) b s5)
+    (λ b f. gives_at (ap (λ (y : Query). query_laid g y s) (sym is)) (grouped_laid g distinct list from by keys places n having s s1 s5 groups b at_keys (gives_at (ap (λ (y : Query). groups_laid g y s) is) below)
+    (upper_is g distinct list places n having groups u b s1 s2 s3 s4 s5 fr fr2 begin p1 p2 us ss frs e bg d1 d2 f))) give
 
 pub pair_ok : (g : Ground) (made form : SetOperator) (n : ℕ) (z x y : Query) (a b : ℕ) (s s1 s2 u : Boxes) (r : Result ℕ OutOfMemory)
     → ((t : Boxes) → query_laid g z t ≡ l.two_box (told_at g) (laying (told_at g)) form n (query_laid g y) (query_laid g x t)) → made ≡ form → Gives (query_laid g x s) a s1 → Gives (query_laid g y s1) b s2
@@ -149,22 +116,18 @@ pub intersect_ok : (g : Ground) (made : SetOperator) (all : Bool) (n : ℕ) (z x
 intersect_ok g made all n z x y a b s s1 s2 u r is e d1 d2 give =
     pair_ok g made (common_form all) n z x y a b s s1 s2 u r (λ (t : Boxes). ap (λ (z : Query). query_laid g z t) is) e d1 d2 give
 
-pub crossed_ok : (g : Ground) (x a b : From) (s s1 s2 s3 s4 s5 : Boxes) (start f1 fs begin os0 os1 p1 ps : List OwnedQuant) (r : Result ℕ OutOfMemory) → x ≡ q.crossed a b
-    → start ≡ [] → Takes (from_step g a) s start s1 f1 → Takes (from_step g b) s1 f1 s2 fs → begin ≡ [] → os0 ≡ fs
-    → Takes (on_step g a os0) s2 begin s3 p1 → os1 ≡ past (told_at g) a os0 → Takes (on_step g b os1) s3 p1 s4 ps
-    → IfOk r (λ c. Gives (flat_box g x fs (after_subs s4 ps)) c s5) → IfOk r (λ c. Gives (operand_laid g x s) c s5)
-crossed_ok g x a b s s1 s2 s3 s4 s5 start f1 fs begin os0 os1 p1 ps r is st d1 d2 bg oe e1 past_is e2 give =
-    IfOk-weaker r (λ c. Gives (flat_box g x fs (after_subs s4 ps)) c s5) (λ c. Gives (operand_laid g x s) c s5) (λ c e. crossed_is g x a b s s1 s2 s3 s4 s5 start f1 fs begin os0 os1 p1 ps c is st d1 d2 bg oe e1 past_is e2 e) give
+pub flat_ok : (g : Ground) (x : From) (s s1 s2 s3 : Boxes) (start fs begin os0 ps : List OwnedQuant) (r : Result ℕ OutOfMemory)
+    → start ≡ [] → Takes (from_step g x) s start s1 fs → begin ≡ [] → os0 ≡ fs → Takes (on_step g x os0) s1 begin s2 ps
+    → IfOk r (λ c. Gives (flat_box g x fs (after_subs s2 ps)) c s3) → IfOk r (λ c. Gives (flat_laid g x s) c s3)
+flat_ok g x s s1 s2 s3 start fs begin os0 ps r st d bg oe u give =
+    IfOk-weaker r (λ c. Gives (flat_box g x fs (after_subs s2 ps)) c s3) (λ c. Gives (flat_laid g x s) c s3) (λ c e. flat_made g x s s1 s2 s3 start fs begin os0 ps c st d bg oe u e) give
 
-pub joined_ok : (g : Ground) (x a b : From) (p : Test) (s s1 s2 s3 s4 s6 s5 : Boxes) (start f1 fs begin os0 os1 os2 p1 p2 ps : List OwnedQuant) (fr fr2 : Frame) (r : Result ℕ OutOfMemory) → x ≡ q.joined a b p
-    → start ≡ [] → Takes (from_step g a) s start s1 f1 → Takes (from_step g b) s1 f1 s2 fs → begin ≡ [] → os0 ≡ fs → os2 ≡ fs
-    → Takes (on_step g a os0) s2 begin s3 p1 → os1 ≡ past (told_at g) a os0 → Takes (on_step g b os1) s3 p1 s4 p2
-    → fr ≡ frame (told_at g) a os2 ++ frame (told_at g) b (past (told_at g) a os2) → fr2 ≡ fr
-    → Takes (l.test_subs (told_at g) (laying (told_at g)) (outer_of g) fr2 p) s4 p2 s6 ps
-    → IfOk r (λ c. Gives (flat_box g x fs (after_subs s6 ps)) c s5) → IfOk r (λ c. Gives (operand_laid g x s) c s5)
-joined_ok g x a b p s s1 s2 s3 s4 s6 s5 start f1 fs begin os0 os1 os2 p1 p2 ps fr fr2 r is st d1 d2 bg oe oe2 e1 past_is e2 frs fe e3 give =
-    IfOk-weaker r (λ c. Gives (flat_box g x fs (after_subs s6 ps)) c s5) (λ c. Gives (operand_laid g x s) c s5)
-    (λ c e. joined_is g x a b p s s1 s2 s3 s4 s6 s5 start f1 fs begin os0 os1 os2 p1 p2 ps fr fr2 c is st d1 d2 bg oe oe2 e1 past_is e2 frs fe e3 e) give
+-- an operand that is one of the two joins
+pub flat_is : (g : Ground) (x y : From) (s u : Boxes) (r : Result ℕ OutOfMemory) → x ≡ y → ((t : Boxes) → operand_laid g y t ≡ flat_laid g y t)
+    → IfOk r (λ c. Gives (flat_laid g x s) c u) → IfOk r (λ c. Gives (operand_laid g x s) c u)
+flat_is g x y s u r is same give =
+    IfOk-weaker r (λ c. Gives (flat_laid g x s) c u) (λ c. Gives (operand_laid g x s) c u)
+    (λ c e. gives_at (ap (λ (z : From). flat_laid g z s) is ∙ sym (same s) ∙ ap (λ (z : From). operand_laid g z s) (sym is)) e) give
 
 pub left_ok : (g : Ground) (o x y : From) (n : ℕ) (p : Test) (a b : ℕ) (s s1 s2 u : Boxes) (r : Result ℕ OutOfMemory) → o ≡ q.left_joined x y n p → Gives (operand_laid g x s) a s1 → Gives (operand_laid g y s1) b s2
     → IfOk r (λ c. Gives (outer_box g x n p a b s2) c u) → IfOk r (λ c. Gives (operand_laid g o s) c u)

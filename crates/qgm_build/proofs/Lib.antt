@@ -11,6 +11,7 @@ mod Opening
 mod Paired
 mod Same
 mod Selected
+mod Sizing
 mod Splitting
 mod Stacked
 mod Steps

@@ -15,7 +15,7 @@ use Rattle.qgm_shown.specs.Maps.{Frame, nothing, ref_term}
 use Rattle.qgm_shown.specs.Shown.{all_leaves, columns_of, conds_of, frame, frame_all, key_frame, key_places, padded, past, slots_of, upper_leaves}
 use Rattle.qgm_shown.specs.Sources.{Sources}
 use Rattle.qgm_shown.proofs.FoldsSame.{folds_append}
-use Rattle.qgm_build.specs.Laying.{Opens, block_box, block_subs, flat_box, from_step, froms_step, group_box, on_step, outer_of, query_laid, rows_box, rows_subs, told_at, upper_box, upper_laid}
+use Rattle.qgm_build.specs.Laying.{Opens, block_box, block_groups, block_subs, flat_box, flat_laid, from_step, froms_step, group_box, on_step, outer_of, query_laid, rows_box, rows_subs, told_at, upper_box, upper_laid}
 use Rattle.qgm_build.specs.Making.{Gives, Takes, after_subs, top_at}
 use Rattle.qgm_build.specs.declared.setting.Ground.{Ground}
 use Rattle.qgm_build.proofs.Paired.{arguments_folds, both_folds, fold_terms_folds}
@@ -50,13 +50,12 @@ pub block_laid : (g : Ground) (distinct : Bool) (list : Values) (from : Froms) (
     → Opens g from (block_subs g list from by) s fr fs ps s2 → Gives (block_box g distinct list from by fs (after_subs s2 ps)) b u → Gives (query_laid g (q.block distinct list from by) s) b u
 block_laid g distinct list from by s s2 u fr fs ps b o e = gives_over (block_box g distinct list from by) o.quants o.subs o.boxes e
 
--- a grouped block
-pub grouped_laid : (g : Ground) (distinct : Bool) (list : Values) (from : Froms) (by : Test) (keys : Option (List ℕ)) (places : List ℕ) (n : ℕ) (having : Test) (folds : List Leaf) (s s1 s2 s3 s4 : Boxes) (fr : Frame) (fs ps : List OwnedQuant) (r gr b : ℕ)
+-- the groups of a grouped block
+pub groups_made : (g : Ground) (list : Values) (from : Froms) (by : Test) (keys : Option (List ℕ)) (places : List ℕ) (having : Test) (folds : List Leaf) (s s1 s2 s3 : Boxes) (fr : Frame) (fs ps : List OwnedQuant) (r b : ℕ)
     → places ≡ key_places keys → folds ≡ both_folds list having
     → Opens g from (rows_subs g from by) s fr fs ps s1 → Gives (rows_box g places folds from by fs (after_subs s1 ps)) r s2
-    → Gives (group_box g places folds r s2) gr s3 → Gives (upper_laid g distinct list places n having (top_at gr s3)) b s4
-    → Gives (query_laid g (q.grouped distinct list from by keys n having) s) b s4
-grouped_laid g distinct list from by keys places n having folds s s1 s2 s3 s4 fr fs ps r gr b at_keys are o rows groups top =
+    → Gives (group_box g places folds r s2) b s3 → Gives (block_groups g list from by (key_places keys) having s) b s3
+groups_made g list from by keys places having folds s s1 s2 s3 fr fs ps r b at_keys are o rows groups =
     let k : Sources = told_at g in
     let ls : List Leaf = upper_leaves [] list having in
     let f : Drawn = froms_step g from s in
@@ -72,8 +71,15 @@ grouped_laid g distinct list from by keys places n having folds s s1 s2 s3 s4 fr
     let same_groups : group_at places (folds_in ls) (rows_at places ls) ≡ group_at places ls (rows_at places ls) =
     let x : Laid = rows_at places ls in
     ap (λ (zs : List Term). put (Group (length places)) false [] (columns_of x.boxes.quant 1 (length places) ++ zs) (drawn F x).quants (drawn F x).boxes) (fold_terms_folds x.boxes.quant (suc (length places)) ls) in
-    let over : top_at gr s3 ≡ group_at places ls (rows_at places ls) = top_is groups ∙ ap₂ (λ zs (x : Laid). group_at places zs x) folds_are below ∙ same_groups in
-    gives_at (ap (upper_laid g distinct list places n having) over ∙ ap (λ ks. upper_laid g distinct list ks n having (group_at ks ls (rows_at ks ls))) at_keys) top
+    gives_at (ap₂ (λ zs (x : Laid). group_at places zs x) folds_are below ∙ same_groups ∙ ap (λ ks. block_groups g list from by ks having s) at_keys) groups
+
+-- a grouped block
+pub grouped_laid : (g : Ground) (distinct : Bool) (list : Values) (from : Froms) (by : Test) (keys : Option (List ℕ)) (places : List ℕ) (n : ℕ) (having : Test) (s s1 s2 : Boxes) (groups b : ℕ)
+    → places ≡ key_places keys → Gives (block_groups g list from by (key_places keys) having s) groups s1
+    → Gives (upper_laid g distinct list places n having (top_at groups s1)) b s2 → Gives (query_laid g (q.grouped distinct list from by keys n having) s) b s2
+grouped_laid g distinct list from by keys places n having s s1 s2 groups b at_keys below top =
+    let r : Laid = block_groups g list from by (key_places keys) having s in
+    gives_at (ap (upper_laid g distinct list places n having) (top_is below) ∙ ap (λ ks. upper_laid g distinct list ks n having r) at_keys) top
 
 -- the select over groups
 pub upper_is : (g : Ground) (distinct : Bool) (list : Values) (places : List ℕ) (n : ℕ) (having : Test) (groups u b : ℕ) (s s1 s2 s3 s4 : Boxes) (fr fr2 : Frame) (begin p1 p2 : List OwnedQuant)
@@ -94,31 +100,20 @@ upper_is g distinct list places n having groups u b s s1 s2 s3 s4 fr fr2 begin p
 
 -- ---- operands
 
--- both operands, and what is laid after them
-pub flat_laid : (g : Ground) (x a b : From) (subs : List OwnedQuant → Step) (s s1 s2 s3 s5 : Boxes) (start f1 fs begin os0 ps : List OwnedQuant) (r : ℕ)
-    → start ≡ [] → Takes (from_step g a) s start s1 f1 → Takes (from_step g b) s1 f1 s2 fs → begin ≡ [] → os0 ≡ fs → Takes (subs os0) s2 begin s3 ps
-    → Gives (flat_box g x fs (after_subs s3 ps)) r s5
-    → Gives (flat_box g x (in_turn (from_step g a) (from_step g b) s).quants (subs (in_turn (from_step g a) (from_step g b) s).quants (in_turn (from_step g a) (from_step g b) s).boxes)) r s5
-flat_laid g x a b subs s s1 s2 s3 s5 start f1 fs begin os0 ps r st d1 d2 bg oe u give =
-    let f : Drawn = in_turn (from_step g a) (from_step g b) s in
-    let d = takes_both (from_step g a) (from_step g b) d1 d2 in
+-- one operand, and what is laid after it
+pub flat_made : (g : Ground) (x : From) (s s1 s2 s3 : Boxes) (start fs begin os0 ps : List OwnedQuant) (b : ℕ)
+    → start ≡ [] → Takes (from_step g x) s start s1 fs → begin ≡ [] → os0 ≡ fs → Takes (on_step g x os0) s1 begin s2 ps
+    → Gives (flat_box g x fs (after_subs s2 ps)) b s3 → Gives (flat_laid g x s) b s3
+flat_made g x s s1 s2 s3 start fs begin os0 ps b st d bg oe u give =
+    let f : Drawn = from_step g x s in
     let quants : fs ≡ f.quants = d.quants ∙ ap (λ (os : List OwnedQuant). os ++ f.quants) st in
-    let step : subs os0 s2 ≡ subs f.quants f.boxes = ap₂ (λ (os : List OwnedQuant) (z : Boxes). subs os z) (oe ∙ quants) d.boxes in
-    gives_over (flat_box g x) quants (u.quants ∙ ap (λ (os : List OwnedQuant). os ++ (subs os0 s2).quants) bg ∙ ap (λ (z : Drawn). z.quants) step) (u.boxes ∙ ap (λ (z : Drawn). z.boxes) step) give
-
-abbrev pub crossed_subs : Ground → From → From → List OwnedQuant → Step
-crossed_subs g a b os = in_turn (on_step g a os) (on_step g b (past (told_at g) a os))
+    let step : on_step g x os0 s1 ≡ on_step g x f.quants f.boxes = ap₂ (λ (os : List OwnedQuant) (z : Boxes). on_step g x os z) (oe ∙ quants) d.boxes in
+    gives_over (flat_box g x) quants (u.quants ∙ ap (λ (os : List OwnedQuant). os ++ (on_step g x os0 s1).quants) bg ∙ ap (λ (z : Drawn). z.quants) step) (u.boxes ∙ ap (λ (z : Drawn). z.boxes) step) give
 
 abbrev pub joined_subs : Ground → From → From → Test → List OwnedQuant → Step
 joined_subs g a b p os =
     in_turn (on_step g a os) (in_turn (on_step g b (past (told_at g) a os))
     (l.test_subs (told_at g) (laying (told_at g)) (outer_of g) (frame (told_at g) a os ++ frame (told_at g) b (past (told_at g) a os)) p))
-
-pub crossed_take : (g : Ground) (a b : From) (s s1 s2 : Boxes) (os os1 begin p1 p2 : List OwnedQuant)
-    → Takes (on_step g a os) s begin s1 p1 → os1 ≡ past (told_at g) a os → Takes (on_step g b os1) s1 p1 s2 p2 → Takes (crossed_subs g a b os) s begin s2 p2
-crossed_take g a b s s1 s2 os os1 begin p1 p2 d1 e d2 =
-    let d : Takes (on_step g b (past (told_at g) a os)) s1 p1 s2 p2 = record { boxes = d2.boxes ∙ ap (λ (z : List OwnedQuant). (on_step g b z s1).boxes) e; quants = d2.quants ∙ ap (λ (z : List OwnedQuant). p1 ++ (on_step g b z s1).quants) e } in
-    takes_both (on_step g a os) (on_step g b (past (told_at g) a os)) d1 d
 
 pub joined_take : (g : Ground) (a b : From) (p : Test) (s s1 s2 s3 : Boxes) (os os1 begin p1 p2 p3 : List OwnedQuant) (fr fr2 : Frame)
     → Takes (on_step g a os) s begin s1 p1 → os1 ≡ past (told_at g) a os → Takes (on_step g b os1) s1 p1 s2 p2

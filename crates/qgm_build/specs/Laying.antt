@@ -1,5 +1,6 @@
 -- The boxes that a query and its parts are made into, by what the program holds of the schema and the blocks round them.
-use Rattle.std.specs.Prelude.{◌≡◌, ℕ, suc, length, Bool, false, List, [], ◌∷◌}
+use Rattle.std.specs.Prelude.{◌≡◌, ℕ, suc, length, Bool, true, false, List, [], ◌∷◌}
+use Rattle.sql_meaning.specs.ResolvedTrees as q
 use Rattle.sql_meaning.specs.ResolvedTrees.{Value, Addends, Multipliers, Values, Arms, Choices, Test, Tests, From, Froms, Query}
 use Rattle.qgm_core.specs.declared.kinds.QuantKind.TheVariants.{F}
 use Rattle.qgm_core.specs.declared.kinds.SetOperator.{SetOperator}
@@ -8,7 +9,7 @@ use Rattle.qgm_shown.specs.Lay.{Boxes, Drawn, Laid, Step, drawn, in_turn, laying
 use Rattle.qgm_shown.specs.Lay as l
 use Rattle.qgm_shown.specs.Leaves.{Leaf, Slots, after, list_leaves}
 use Rattle.qgm_shown.specs.Maps.{Frame, Map}
-use Rattle.qgm_shown.specs.Shown.{frame_all, key_frame, rows_list, upper_leaves, upper_slots}
+use Rattle.qgm_shown.specs.Shown.{frame_all, key_frame, key_places, rows_list, upper_leaves, upper_slots}
 use Rattle.qgm_shown.specs.Sources.{Sources}
 use Rattle.qgm_shown.specs.Terms.{cond, split, terms}
 use Rattle.qgm_terms.specs.Terms.{Cond, Term}
@@ -112,6 +113,12 @@ upper_conds h u list places having subs s =
 abbrev pub flat_box : Ground → From → List OwnedQuant → Drawn → Laid
 flat_box g x fs c = l.flat_box (told_at g) (laying (told_at g)) x (outer_of g) fs c
 
+-- the same, whose quantifiers are drawn, and then those of the subqueries of its ON conditions
+abbrev pub flat_laid : Ground → From → Boxes → Laid
+flat_laid g x s =
+    let f = from_step g x s in
+    flat_box g x f.quants (on_step g x f.quants f.boxes)
+
 abbrev pub outer_box : Ground → From → ℕ → Test → ℕ → ℕ → Boxes → Laid
 outer_box g x n p a b s = l.outer_box (told_at g) (laying (told_at g)) x n p (outer_of g) (top_at b) (top_at a s)
 
@@ -133,3 +140,31 @@ block_subs g list from by fr fs =
 
 abbrev pub rows_subs : Ground → Froms → Test → Frame → List OwnedQuant → Step
 rows_subs g from by fr fs = in_turn (all_on_step g from fs) (l.test_subs (told_at g) (laying (told_at g)) (outer_of g) fr by)
+
+-- ---- grouped blocks before the select over their groups
+
+abbrev pub is_block : Query → Bool
+is_block (q.block distinct list from by) = true
+is_block (q.grouped distinct list from by places n having) = false
+is_block (q.combine x op all n y) = false
+is_block (q.intersect x all n y) = false
+
+abbrev pub is_grouped : Query → Bool
+is_grouped (q.block distinct list from by) = false
+is_grouped (q.grouped distinct list from by places n having) = true
+is_grouped (q.combine x op all n y) = false
+is_grouped (q.intersect x all n y) = false
+
+-- the groups over the rows of a grouped block
+abbrev pub block_groups : Ground → Values → Froms → Test → List ℕ → Test → Boxes → Laid
+block_groups g list from by places having s =
+    let f = froms_step g from s in
+    let ls = upper_leaves [] list having in
+    l.group_box (told_at g) (laying (told_at g)) places ls (rows_box g places ls from by f.quants (rows_subs g from by (frame_all (told_at g) from f.quants) f.quants f.boxes))
+
+-- the groups of a query, which a grouped block alone has
+abbrev pub groups_laid : Ground → Query → Boxes → Laid
+groups_laid g (q.block distinct list from by) s = top_at 0 s
+groups_laid g (q.grouped distinct list from by places n having) s = block_groups g list from by (key_places places) having s
+groups_laid g (q.combine x op all n y) s = top_at 0 s
+groups_laid g (q.intersect x all n y) s = top_at 0 s

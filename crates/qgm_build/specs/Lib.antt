@@ -10,4 +10,5 @@ pub mod Splits
 pub mod Folds
 pub mod Block
 pub mod Schema
+pub mod Sizes
 pub mod Valid

@@ -1,4 +1,4 @@
-//! The boxes of a query, written over what was laid for its parts.
+//! The graph of a valid query: the boxes that are made for it, and that they show it.
 #![tactic(auto)]
 
 mod base;
@@ -7,6 +7,7 @@ mod folds;
 mod frames;
 mod groups;
 mod heads;
+mod lay;
 mod named;
 mod ons;
 mod pairs;
@@ -15,7 +16,11 @@ mod reads;
 mod seen;
 mod select;
 mod setting;
+mod sizes;
 mod slots;
 mod store;
 mod terms;
 mod types;
+mod whole;
+
+pub use whole::build;

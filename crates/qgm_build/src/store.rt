@@ -28,8 +28,8 @@ pub(crate) struct Shared {
 }
 
 /// The boxes so far, each with a number that is its place, and the next number of a quantifier; the
-/// types of the columns of boxes and of quantifiers, by their numbers, and the boxes of tables and views.
-/// Contracts see it as the `Boxes` that it is.
+/// types of the columns of boxes and of quantifiers, by their numbers, and the boxes of tables and views;
+/// and how many terms and conditions may still be written. Contracts see it as the `Boxes` that it is.
 #[derive(Drop)]
 pub(crate) struct Store {
     pub made: Vec<NewBox>,
@@ -37,6 +37,7 @@ pub(crate) struct Store {
     pub types: Vec<Items<SqlType>>,
     pub rows: Vec<Items<SqlType>>,
     pub shared: Vec<Shared>,
+    pub left: usize,
 }
 
 /// The number of the box that all share who name a table or a view; 0 where there is none.

@@ -1,0 +1,550 @@
+// The boxes of a query, made from the lowest up.
+ghost use Rattle.std.specs.Prelude.{◌≡◌, ◌++◌, true, IfOk, OnOk};
+ghost use Rattle.sql_meaning.specs.ResolvedShown as shown;
+ghost use Rattle.qgm_shown.specs.Lay as l;
+ghost use Rattle.qgm_shown.specs.Leaves as leaves;
+ghost use Rattle.qgm_shown.specs.Shown as w;
+ghost use Rattle.qgm_build.specs.Laying as spec;
+ghost use Rattle.qgm_build.specs.Laying.{Opens, told_at};
+ghost use Rattle.qgm_build.specs.Making.{Gives, Takes};
+ghost use Rattle.qgm_build.specs.SoFar.{so_far};
+ghost use Rattle.qgm_build.specs.Written.{frame_of};
+
+use crate::finish::{Opened, finish_block, finish_flat, finish_rows};
+use crate::frames::{Ranges, frame_all, next_id};
+use crate::groups::key_frame;
+use crate::ons::joined_frame;
+use crate::pairs::{Upper, finish_group, finish_outer, finish_pair, finish_upper, upper_folds};
+use crate::seen::{Scopes, Seen};
+use crate::select::{Block, Rows};
+use crate::setting::{Ground, Seat, site_of};
+use crate::store::{Store, draw, number, number_named};
+use qgm_core::{BoxId, Owned, OwnedQuant, QuantKind, SetOperator};
+use shared_types::OutOfMemory;
+use sql_ast::{Quantifier, SetOperator as Combined};
+use sql_meaning::{Addend, Arm, Choice, From, Multiplier, Query, Test, Value};
+use sqlite_items::Items;
+
+// What a comparison with the rows of a subquery asks for.
+fn every_or_some(each: Quantifier) -> QuantKind
+    ensures { result ≡ leaves.every_or_some each }
+{
+    match each {
+        Quantifier::Any | Quantifier::Some => QuantKind::E,
+        Quantifier::All => QuantKind::A,
+    }
+}
+
+// UNION and EXCEPT, with ALL where true stands.
+fn form_of(op: Combined, all: bool) -> SetOperator
+    ensures { result ≡ w.form_of op all }
+{
+    match op {
+        Combined::Union => {
+            if all {
+                SetOperator::UnionAll
+            } else {
+                SetOperator::Union
+            }
+        }
+        Combined::Except => {
+            if all {
+                SetOperator::ExceptAll
+            } else {
+                SetOperator::Except
+            }
+        }
+    }
+}
+
+// INTERSECT, with ALL where true stands.
+fn common_form(all: bool) -> SetOperator
+    ensures { result ≡ w.common_form all }
+{
+    if all {
+        SetOperator::IntersectAll
+    } else {
+        SetOperator::Intersect
+    }
+}
+
+// The places of the keys of a block.
+fn places_of<'a>(places: &'a Option<Items<usize>>) -> &'a [usize]
+    ensures { result.now ≡ w.key_places places.now }
+{
+    match places {
+        Some(places) => places.as_slice(),
+        None => &[],
+    }
+}
+
+// Where the columns of a FROM are seen.
+#[tactic(auto, using(crate::proofs::Same::frames_same))]
+fn from_frame(
+    g: &Ground<'_>,
+    from: &[From],
+    fs: &[OwnedQuant],
+    st: &Store,
+) -> Result<Vec<Seen>, OutOfMemory>
+    ensures { IfOk result (λ v. frame_of v.items ≡ w.frame_all (told_at g.now) (shown.from_list from.now) fs.now) }
+{
+    let mut out = Vec::new(g.alloc);
+    let mut os = Ranges { rest: fs };
+    frame_all(&site_of(g, st), from, &mut os, &mut out)?;
+    Ok(out)
+}
+
+// Where the columns of both operands of a join are seen.
+#[tactic(auto, using(crate::proofs::Same::frames_same))]
+fn both_frame(
+    g: &Ground<'_>,
+    a: &From,
+    b: &From,
+    os: &[OwnedQuant],
+    st: &Store,
+) -> Result<Vec<Seen>, OutOfMemory>
+    ensures { IfOk result (λ v. frame_of v.items ≡ w.frame (told_at g.now) (shown.from a.now) os.now ++ w.frame (told_at g.now) (shown.from b.now) (w.past (told_at g.now) (shown.from a.now) os.now)) }
+{
+    joined_frame(&site_of(g, st), a, b, os)
+}
+
+/// Makes the boxes of a query, and tells the topmost.
+#[cycle(lay)]
+pub(crate) fn query(g: &Ground<'_>, x: &Query, st: &mut Store) -> Result<BoxId, OutOfMemory>
+    ensures { IfOk result (λ b. Gives (spec.query_laid g.now (shown.query x.now) (so_far st.old)) b (so_far st.new)) }
+{
+    match x {
+        Query::Block(_, _, _, _) => block(g, x, st),
+        Query::Grouped(_, _, _, _, _, _, _) => grouped(g, x, st),
+        Query::Combine(a, op, all, n, b) => {
+            let left = query(g, a, st)?;
+            let right = query(g, b, st)?;
+            finish_pair(g, form_of(*op, *all), *n, left, right, st)
+        }
+        Query::Intersect(a, all, n, b) => {
+            let left = query(g, a, st)?;
+            let right = query(g, b, st)?;
+            finish_pair(g, common_form(*all), *n, left, right, st)
+        }
+    }
+}
+
+// A block that isn't grouped.
+#[cycle(lay)]
+fn block(g: &Ground<'_>, x: &Query, st: &mut Store) -> Result<BoxId, OutOfMemory>
+    requires form { spec.is_block (shown.query x.now) ≡ true }
+    ensures { IfOk result (λ b. Gives (spec.query_laid g.now (shown.query x.now) (so_far st.old)) b (so_far st.new)) }
+{
+    let Query::Block(distinct, list, from, by) = x else {
+        unreachable!()
+    };
+    let list = list.as_slice();
+    let from = from.as_slice();
+    let by: &Test = by;
+    let mut fs = Owned::new(g.alloc);
+    froms(g, from, st, &mut fs)?;
+    let frame = from_frame(g, from, fs.as_slice(), st)?;
+    let h = Seat {
+        ground: *g,
+        frame: &frame,
+    };
+    let mut subs = Owned::new(g.alloc);
+    list_subs(&h, list, st, &mut subs)?;
+    let mut os = Ranges {
+        rest: fs.as_slice(),
+    };
+    all_on_subs(g, from, &mut os, st, &mut subs)?;
+    test_subs(&h, by, st, &mut subs)?;
+    let b = Block { list, from, by };
+    finish_block(g, *distinct, &b, Opened { frame, fs, subs }, st)
+}
+
+// The groups of a grouped block, over its rows.
+#[cycle(lay)]
+fn groups(g: &Ground<'_>, x: &Query, st: &mut Store) -> Result<BoxId, OutOfMemory>
+    requires form { spec.is_grouped (shown.query x.now) ≡ true }
+    ensures { IfOk result (λ b. Gives (spec.groups_laid g.now (shown.query x.now) (so_far st.old)) b (so_far st.new)) }
+{
+    let Query::Grouped(_, list, from, by, places, _, having) = x else {
+        unreachable!()
+    };
+    let from = from.as_slice();
+    let by: &Test = by;
+    let mut fs = Owned::new(g.alloc);
+    froms(g, from, st, &mut fs)?;
+    let frame = from_frame(g, from, fs.as_slice(), st)?;
+    let h = Seat {
+        ground: *g,
+        frame: &frame,
+    };
+    let mut subs = Owned::new(g.alloc);
+    let mut os = Ranges {
+        rest: fs.as_slice(),
+    };
+    all_on_subs(g, from, &mut os, st, &mut subs)?;
+    test_subs(&h, by, st, &mut subs)?;
+    let found = upper_folds(g.alloc, list.as_slice(), having)?;
+    let folds = found.as_slice();
+    let places = places_of(places);
+    let r = Rows {
+        places,
+        folds,
+        from,
+        by,
+    };
+    let rows = finish_rows(g, &r, Opened { frame, fs, subs }, st)?;
+    finish_group(g, places, folds, rows, st)
+}
+
+// A grouped block: the select over its groups.
+#[cycle(lay)]
+fn grouped(g: &Ground<'_>, x: &Query, st: &mut Store) -> Result<BoxId, OutOfMemory>
+    requires form { spec.is_grouped (shown.query x.now) ≡ true }
+    ensures { IfOk result (λ b. Gives (spec.query_laid g.now (shown.query x.now) (so_far st.old)) b (so_far st.new)) }
+{
+    let groups = groups(g, x, st)?;
+    let Query::Grouped(distinct, list, _, _, places, n, having) = x else {
+        unreachable!()
+    };
+    let list = list.as_slice();
+    let having: &Test = having;
+    let places = places_of(places);
+    let u = number(g.alloc, groups, st)?;
+    let frame = key_frame(g.alloc, u, places, *n)?;
+    let h = Seat {
+        ground: *g,
+        frame: &frame,
+    };
+    let mut subs = Owned::new(g.alloc);
+    list_subs(&h, list, st, &mut subs)?;
+    test_subs(&h, having, st, &mut subs)?;
+    let z = Upper {
+        distinct: *distinct,
+        list,
+        places,
+        n: *n,
+        having,
+        u,
+        groups,
+    };
+    finish_upper(&h, &z, subs, st)
+}
+
+// The box of an operand of a LEFT JOIN.
+#[cycle(lay)]
+fn operand(g: &Ground<'_>, x: &From, st: &mut Store) -> Result<BoxId, OutOfMemory>
+    ensures { IfOk result (λ b. Gives (spec.operand_laid g.now (shown.from x.now) (so_far st.old)) b (so_far st.new)) }
+{
+    match x {
+        From::Named(name) => Ok(number_named(st, name)),
+        From::Derived(y) => query(g, y, st),
+        From::Crossed(_, _) => flat(g, x, st),
+        From::Joined(_, _, _) => flat(g, x, st),
+        From::LeftJoined(a, b, n, p) => {
+            let a: &From = a;
+            let left = operand(g, a, st)?;
+            let right = operand(g, b, st)?;
+            finish_outer(g, a, *n, p, left, right, st)
+        }
+    }
+}
+
+// A select over the tables of one operand, with the ON conditions of its joins.
+#[cycle(lay)]
+fn flat(g: &Ground<'_>, x: &From, st: &mut Store) -> Result<BoxId, OutOfMemory>
+    ensures { IfOk result (λ b. Gives (spec.flat_laid g.now (shown.from x.now) (so_far st.old)) b (so_far st.new)) }
+{
+    let mut fs = Owned::new(g.alloc);
+    from(g, x, st, &mut fs)?;
+    let mut subs = Owned::new(g.alloc);
+    let mut os = Ranges {
+        rest: fs.as_slice(),
+    };
+    on_subs(g, x, &mut os, st, &mut subs)?;
+    finish_flat(g, x, fs, subs, st)
+}
+
+// Adds the quantifiers of an operand of a FROM.
+#[cycle(lay)]
+fn from(g: &Ground<'_>, x: &From, st: &mut Store, out: &mut Owned) -> Result<(), OutOfMemory>
+    ensures { OnOk result (Takes (spec.from_step g.now (shown.from x.now)) (so_far st.old) out.old (so_far st.new) out.new) }
+{
+    match x {
+        From::Named(name) => {
+            let over = number_named(st, name);
+            draw(g.alloc, st, QuantKind::F, over, out)
+        }
+        From::Derived(y) => {
+            let over = query(g, y, st)?;
+            draw(g.alloc, st, QuantKind::F, over, out)
+        }
+        From::Crossed(a, b) | From::Joined(a, b, _) => {
+            from(g, a, st, out)?;
+            from(g, b, st, out)
+        }
+        From::LeftJoined(a, b, n, p) => {
+            let a: &From = a;
+            let left = operand(g, a, st)?;
+            let right = operand(g, b, st)?;
+            let over = finish_outer(g, a, *n, p, left, right, st)?;
+            draw(g.alloc, st, QuantKind::F, over, out)
+        }
+    }
+}
+
+// The same of a FROM.
+#[cycle(lay)]
+fn froms(g: &Ground<'_>, list: &[From], st: &mut Store, out: &mut Owned) -> Result<(), OutOfMemory>
+    ensures { OnOk result (Takes (spec.froms_step g.now (shown.from_list list.now)) (so_far st.old) out.old (so_far st.new) out.new) }
+{
+    for x in list {
+        from(g, x, st, out)?;
+    }
+    Ok(())
+}
+
+// Adds the quantifiers of the subqueries of ON conditions that are flattened.
+#[cycle(lay)]
+fn on_subs(
+    g: &Ground<'_>,
+    x: &From,
+    os: &mut Ranges<'_>,
+    st: &mut Store,
+    out: &mut Owned,
+) -> Result<(), OutOfMemory>
+    ensures step { OnOk result (Takes (spec.on_step g.now (shown.from x.now) os.old.rest.now) (so_far st.old) out.old (so_far st.new) out.new) }
+    ensures past { OnOk result (os.new.rest.now ≡ w.past (told_at g.now) (shown.from x.now) os.old.rest.now) }
+{
+    match x {
+        From::Named(_) | From::Derived(_) | From::LeftJoined(_, _, _, _) => {
+            let _passed = next_id(os);
+            Ok(())
+        }
+        From::Crossed(a, b) => {
+            on_subs(g, a, os, st, out)?;
+            on_subs(g, b, os, st, out)
+        }
+        From::Joined(a, b, p) => {
+            let a: &From = a;
+            let b: &From = b;
+            let before = os.rest;
+            on_subs(g, a, os, st, out)?;
+            on_subs(g, b, os, st, out)?;
+            let frame = both_frame(g, a, b, before, st)?;
+            let h = Seat {
+                ground: *g,
+                frame: &frame,
+            };
+            test_subs(&h, p, st, out)
+        }
+    }
+}
+
+// The same of a FROM.
+#[cycle(lay)]
+fn all_on_subs(
+    g: &Ground<'_>,
+    list: &[From],
+    os: &mut Ranges<'_>,
+    st: &mut Store,
+    out: &mut Owned,
+) -> Result<(), OutOfMemory>
+    ensures { OnOk result (Takes (spec.all_on_step g.now (shown.from_list list.now) os.old.rest.now) (so_far st.old) out.old (so_far st.new) out.new) }
+{
+    for x in list {
+        on_subs(g, x, os, st, out)?;
+    }
+    Ok(())
+}
+
+// Adds the quantifier of a subquery, which sees the block first.
+#[cycle(lay)]
+fn sub(
+    h: &Seat<'_>,
+    x: &Query,
+    kind: QuantKind,
+    st: &mut Store,
+    out: &mut Owned,
+) -> Result<(), OutOfMemory>
+    ensures { OnOk result (Takes (l.over kind (spec.inner_laid h.now (shown.query x.now))) (so_far st.old) out.old (so_far st.new) out.new) }
+{
+    let outer = Scopes::Inside(h.frame, h.ground.outer);
+    let inner = Ground {
+        alloc: h.ground.alloc,
+        names: h.ground.names,
+        outer: &outer,
+    };
+    let over = query(&inner, x, st)?;
+    draw(h.ground.alloc, st, kind, over, out)
+}
+
+// Adds the quantifiers of the subqueries of an expression.
+#[cycle(lay)]
+#[tactic(auto, using(sql_meaning::specs::ResolvedShown::lists, crate::proofs::Taking::taking))]
+fn value_subs(h: &Seat<'_>, x: &Value, st: &mut Store, out: &mut Owned) -> Result<(), OutOfMemory>
+    ensures { OnOk result (Takes (spec.value_step h.now (shown.value x.now)) (so_far st.old) out.old (so_far st.new) out.new) }
+{
+    match x {
+        Value::Number(_)
+        | Value::Text(_)
+        | Value::Null(_)
+        | Value::Column(_, _)
+        | Value::CountAll
+        | Value::Aggregate(_, _, _) => Ok(()),
+        Value::Sum(a, list) => {
+            value_subs(h, a, st, out)?;
+            addend_subs(h, list.as_slice(), st, out)
+        }
+        Value::Product(a, list) => {
+            value_subs(h, a, st, out)?;
+            multiplier_subs(h, list.as_slice(), st, out)
+        }
+        Value::Negative(a) => value_subs(h, a, st, out),
+        Value::Searched(list, last) => {
+            arm_subs(h, list.as_slice(), st, out)?;
+            value_subs(h, last, st, out)
+        }
+        Value::Simple(a, list, last) => {
+            value_subs(h, a, st, out)?;
+            choice_subs(h, list.as_slice(), st, out)?;
+            value_subs(h, last, st, out)
+        }
+        Value::Coalesce(a, list) => {
+            value_subs(h, a, st, out)?;
+            list_subs(h, list.as_slice(), st, out)
+        }
+        Value::NullIf(a, b) => {
+            value_subs(h, a, st, out)?;
+            value_subs(h, b, st, out)
+        }
+        Value::Scalar(y) => sub(h, y, QuantKind::S, st, out),
+    }
+}
+
+// The same of what is added.
+#[cycle(lay)]
+fn addend_subs(
+    h: &Seat<'_>,
+    list: &[Addend],
+    st: &mut Store,
+    out: &mut Owned,
+) -> Result<(), OutOfMemory>
+    ensures { OnOk result (Takes (spec.addend_step h.now (shown.addend_list list.now)) (so_far st.old) out.old (so_far st.new) out.new) }
+{
+    for x in list {
+        value_subs(h, &x.value, st, out)?;
+    }
+    Ok(())
+}
+
+// The same of what is multiplied.
+#[cycle(lay)]
+fn multiplier_subs(
+    h: &Seat<'_>,
+    list: &[Multiplier],
+    st: &mut Store,
+    out: &mut Owned,
+) -> Result<(), OutOfMemory>
+    ensures { OnOk result (Takes (spec.multiplier_step h.now (shown.multiplier_list list.now)) (so_far st.old) out.old (so_far st.new) out.new) }
+{
+    for x in list {
+        value_subs(h, &x.value, st, out)?;
+    }
+    Ok(())
+}
+
+// The same of a list.
+#[cycle(lay)]
+fn list_subs(
+    h: &Seat<'_>,
+    list: &[Value],
+    st: &mut Store,
+    out: &mut Owned,
+) -> Result<(), OutOfMemory>
+    ensures { OnOk result (Takes (spec.list_step h.now (shown.value_list list.now)) (so_far st.old) out.old (so_far st.new) out.new) }
+{
+    for x in list {
+        value_subs(h, x, st, out)?;
+    }
+    Ok(())
+}
+
+// The same of conditions with their results.
+#[cycle(lay)]
+fn arm_subs(h: &Seat<'_>, list: &[Arm], st: &mut Store, out: &mut Owned) -> Result<(), OutOfMemory>
+    ensures { OnOk result (Takes (spec.arm_step h.now (shown.arm_list list.now)) (so_far st.old) out.old (so_far st.new) out.new) }
+{
+    for x in list {
+        test_subs(h, &x.when, st, out)?;
+        value_subs(h, &x.then, st, out)?;
+    }
+    Ok(())
+}
+
+// The same of values with their results.
+#[cycle(lay)]
+fn choice_subs(
+    h: &Seat<'_>,
+    list: &[Choice],
+    st: &mut Store,
+    out: &mut Owned,
+) -> Result<(), OutOfMemory>
+    ensures { OnOk result (Takes (spec.choice_step h.now (shown.choice_list list.now)) (so_far st.old) out.old (so_far st.new) out.new) }
+{
+    for x in list {
+        value_subs(h, &x.when, st, out)?;
+        value_subs(h, &x.then, st, out)?;
+    }
+    Ok(())
+}
+
+// The same of a condition.
+#[cycle(lay)]
+#[tactic(auto, using(sql_meaning::specs::ResolvedShown::lists, crate::proofs::Taking::taking))]
+fn test_subs(h: &Seat<'_>, p: &Test, st: &mut Store, out: &mut Owned) -> Result<(), OutOfMemory>
+    ensures { OnOk result (Takes (spec.test_step h.now (shown.test p.now)) (so_far st.old) out.old (so_far st.new) out.new) }
+{
+    match p {
+        Test::All(list) | Test::Any(list) => tests_subs(h, list.as_slice(), st, out),
+        Test::Not(p) => test_subs(h, p, st, out),
+        Test::Compare(a, _, b) | Test::Like(a, b) => {
+            value_subs(h, a, st, out)?;
+            value_subs(h, b, st, out)
+        }
+        Test::Quantified(a, _, each, y) => {
+            value_subs(h, a, st, out)?;
+            sub(h, y, every_or_some(*each), st, out)
+        }
+        Test::AmongRows(a, y) => {
+            value_subs(h, a, st, out)?;
+            sub(h, y, QuantKind::E, st, out)
+        }
+        Test::Between(a, b, c) => {
+            value_subs(h, a, st, out)?;
+            value_subs(h, b, st, out)?;
+            value_subs(h, c, st, out)
+        }
+        Test::Among(a, list) => {
+            value_subs(h, a, st, out)?;
+            list_subs(h, list.as_slice(), st, out)
+        }
+        Test::IsNull(a) => value_subs(h, a, st, out),
+        Test::Exists(y) => sub(h, y, QuantKind::E, st, out),
+    }
+}
+
+// The same of conditions.
+#[cycle(lay)]
+fn tests_subs(
+    h: &Seat<'_>,
+    list: &[Test],
+    st: &mut Store,
+    out: &mut Owned,
+) -> Result<(), OutOfMemory>
+    ensures { OnOk result (Takes (spec.tests_step h.now (shown.test_list list.now)) (so_far st.old) out.old (so_far st.new) out.new) }
+{
+    for p in list {
+        test_subs(h, p, st, out)?;
+    }
+    Ok(())
+}
