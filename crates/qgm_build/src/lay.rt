@@ -238,7 +238,8 @@ fn operand(g: &Ground<'_>, x: &From, st: &mut Store) -> Result<BoxId, OutOfMemor
     match x {
         From::Named(name) => Ok(number_named(st, name)),
         From::Derived(y) => query(g, y, st),
-        From::Crossed(_, _) | From::Joined(_, _, _) => flat(g, x, st),
+        From::Crossed(_, _) => flat(g, x, st),
+        From::Joined(_, _, _) => flat(g, x, st),
         From::LeftJoined(a, b, n, p) => {
             let a: &From = a;
             let left = operand(g, a, st)?;

@@ -104,8 +104,8 @@ test_subs-returns-in-Exists h c = rw (c.in-Exists.is, ← c.deref-in-Exists.ensu
 
 pub query-returns-in_ok-right-in-Combine : goal.query-returns-in_ok-right-in-Combine
 query-returns-in_ok-right-in-Combine h c =
-    combine_ok c.args.g.now c.form_of.result c.in-Combine.op c.in-Combine.all c.in-Combine.n (shown.query c.args.x.now) (shown.query c.deref-in-Combine.result.now) (shown.query c.deref-in-Combine-2.result.now) c.in_ok-left-in-Combine.left c.in_ok-right-in-Combine.right (so_far c.args.st.now) (so_far c.query.new.st) (so_far c.query-in-Combine.new.st) (so_far c.finish_pair.new.st) c.finish_pair.result
-    (rw (c.in-Combine.is, ← c.deref-in-Combine.ensures, ← c.deref-in-Combine-2.ensures) refl) c.form_of.ensures c.in_ok-left-in-Combine.ensures c.in_ok-right-in-Combine.ensures c.finish_pair.ensures
+    combine_ok c.args.g.now c.form_of.result c.in-Combine.op c.in-Combine.all c.in-Combine.n (shown.query c.args.x.now) (shown.query c.deref.result.now) (shown.query c.deref-in-Combine.result.now) c.in_ok-left-in-Combine.left c.in_ok-right-in-Combine.right (so_far c.args.st.now) (so_far c.query.new.st) (so_far c.query-in-Combine.new.st) (so_far c.finish_pair.new.st) c.finish_pair.result
+    (rw (c.in-Combine.is, ← c.deref.ensures, ← c.deref-in-Combine.ensures) refl) c.form_of.ensures c.in_ok-left-in-Combine.ensures c.in_ok-right-in-Combine.ensures c.finish_pair.ensures
 
 pub query-returns-in_ok-right-in-Intersect : goal.query-returns-in_ok-right-in-Intersect
 query-returns-in_ok-right-in-Intersect h c =
@@ -168,3 +168,9 @@ pub flat-returns : goal.flat-returns
 flat-returns h c =
     flat_ok c.args.g.now (shown.from c.args.x.now) (so_far c.args.st.now) (so_far c.from.new.st) (so_far c.on_subs.new.st) (so_far c.finish_flat.new.st) c.new-fs.result c.from.new.out c.new-subs.result c.as_slice.result.now c.on_subs.new.out c.finish_flat.result
     c.new-fs.ensures c.in_ok-from.ensures c.new-subs.ensures c.as_slice.ensures c.in_ok-on_subs.ensures.step c.finish_flat.ensures
+
+pub operand-returns-in-Crossed : goal.operand-returns-in-Crossed
+operand-returns-in-Crossed h c = flat_is c.args.g.now (shown.from c.args.x.now) _ (so_far c.args.st.now) (so_far c.flat.new.st) c.flat.result (ap shown.from c.in-Crossed.is) (λ t. refl) c.flat.ensures
+
+pub operand-returns-in-Joined : goal.operand-returns-in-Joined
+operand-returns-in-Joined h c = flat_is c.args.g.now (shown.from c.args.x.now) _ (so_far c.args.st.now) (so_far c.flat-in-Joined.new.st) c.flat-in-Joined.result (ap shown.from c.in-Joined.is) (λ t. refl) c.flat-in-Joined.ensures

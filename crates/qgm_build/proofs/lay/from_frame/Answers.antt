@@ -1,4 +1,4 @@
-use Rattle.std.proofs.Common.{◌≡◌, ◌++◌, ◌∙◌, ap}
+use Rattle.std.proofs.Common.{◌++◌, ◌∙◌, ap}
 use Rattle.sql_meaning.specs.ResolvedShown as shown
 use Rattle.qgm_shown.specs.Lay.{box_named}
 use Rattle.qgm_shown.specs.Shown.{frame_all}

@@ -27,6 +27,9 @@ value-returns-in_ok-a-in-Coalesce t c = rw (c.in-Coalesce.is, shown.values_hidde
 pub value-returns-in_ok-b-in-NullIf : goal.value-returns-in_ok-b-in-NullIf
 value-returns-in_ok-b-in-NullIf t c = rw (c.in-NullIf.is, ← c.deref-in-NullIf.ensures, ← c.deref-in-NullIf-2.ensures, ← c.in_ok-a-in-NullIf.ensures, ← c.in_ok-b-in-NullIf.ensures) c.repeated.ensures
 
+pub test-returns-in_ok-c-in-Between : goal.test-returns-in_ok-c-in-Between
+test-returns-in_ok-c-in-Between t c = rw (c.in-Between.is, ← c.deref-in-Between.ensures, ← c.deref-in-Between-2.ensures, ← c.deref-in-Between-3.ensures, ← c.in_ok-a-in-Between.ensures, ← c.in_ok-b-in-Between.ensures, ← c.in_ok-c-in-Between.ensures) c.between.ensures
+
 pub test-returns-in_ok-list-in-Among : goal.test-returns-in_ok-list-in-Among
 test-returns-in_ok-list-in-Among t c = rw (c.in-Among.is, shown.values_hidden c.in-Among.list, ← c.as_slice-in-Among.ensures, ← c.deref-in-Among.ensures, ← c.in_ok-a-in-Among.ensures, ← c.in_ok-after-in-Among.ensures, ← c.in_ok-list-in-Among.ensures) c.both.ensures
 
