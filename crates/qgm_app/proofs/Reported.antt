@@ -85,7 +85,7 @@ error-of (ViewRefused view number) h = absurd (omega (arith, h))
 error-of (DataRefused number table row) h = absurd (omega (arith, h))
 error-of (QueryRefused number) h = absurd (omega (arith, h))
 
-three-one : 3 ≡ 1 → ⊥
+three-one : ◌≡◌ {A = ℕ} 3 1 → ⊥
 three-one h = omega (arith, h)
 
 -- what is said under that status is a report
