@@ -116,9 +116,9 @@ pub fn answer<L: Ledger>(
 {
     loaded_laws();
     let graph = graph_of(alloc, &question)?;
-    let run = answered(alloc, graph, plan, &question.tables, steps)?;
+    let ran = answered(alloc, graph, plan, &question.tables, steps)?;
     let Question { valid, .. } = question;
-    settled(alloc, valid.checked, run.rows, run.firings)
+    settled(alloc, valid.checked, ran.rows, ran.firings)
 }
 
 /// The answer to a question, as `answer` gives it, and the text that tells of it: the graph that is
@@ -138,8 +138,8 @@ pub fn explain<L: Ledger>(
     loaded_laws();
     let graph = graph_of(alloc, &question)?;
     let mut text = Text::new(alloc)?;
-    let run = explained(alloc, graph, plan, &question.tables, steps, &mut text)?;
+    let ran = explained(alloc, graph, plan, &question.tables, steps, &mut text)?;
     let Question { valid, .. } = question;
-    let answered = settled(alloc, valid.checked, run.rows, run.firings)?;
+    let answered = settled(alloc, valid.checked, ran.rows, ran.firings)?;
     Ok(Explained { answered, text })
 }

@@ -1,20 +1,17 @@
-use Rattle.std.proofs.Common.{◌∙◌}
-use Rattle.std.proofs.lemmas.Result.{IfOk-weaker}
 use Rattle.sql_check.specs.Checked.{rows_of}
-use Rattle.qgm_app.specs.Questions.{question_of}
-use Rattle.qgm_app.proofs.Asked.{has-answer, is-run}
+use Rattle.qgm_meaning.specs.Meaning.{root_bag}
+use Rattle.qgm_app.specs.Questions.{answer_to, question_of}
+use Rattle.qgm_app.proofs.Asked.{has-answer}
+use Rattle.qgm_app.proofs.Reported.{settled-answer, settled-run}
 use Rattle.qgm_app.proofs.answers.answer.Goals as goal
 
 pub returns-clause-answer : goal.returns-clause-answer
 returns-clause-answer g c =
     let q = c.args.question in
-    IfOk-weaker c.settled.result _ _
-    (λ a h. h (rows_of q.views q.valid.checked q.tables) (rw c.in_ok-graph.ensures.rows at c.in_ok-run.ensures.rows)
-    ∙ has-answer c.loaded_laws.ensures.tables q c.requires.ready)
-    c.settled.ensures.answer
+    settled-answer c.settled.result q.valid.checked.names q.valid.checked.order c.in_ok-ran.ran.rows (root_bag q.tables c.in_ok-graph.graph) (rows_of q.views q.valid.checked q.tables)
+    (answer_to (question_of q)) c.settled.ensures.answer c.in_ok-ran.ensures.rows c.in_ok-graph.ensures.rows (has-answer c.loaded_laws.ensures.tables q c.requires.ready)
 
 pub returns-clause-run : goal.returns-clause-run
 returns-clause-run g c =
-    IfOk-weaker c.settled.result _ _
-    (λ a h. is-run c.args.plan.now (question_of c.args.question) c.in_ok-graph.graph c.in_ok-run.run.firings a.firings _ _ c.in_ok-graph.ensures.built h c.in_ok-run.ensures.rewritten)
-    c.settled.ensures.firings
+    settled-run c.settled.result c.args.plan.now (question_of c.args.question) c.in_ok-graph.graph c.in_ok-ran.ran.firings _ _ c.settled.ensures.firings
+    c.in_ok-graph.ensures.built c.in_ok-ran.ensures.rewritten

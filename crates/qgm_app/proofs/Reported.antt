@@ -1,0 +1,103 @@
+-- What the calls that settle and tell an answer give, where memory suffices.
+use Rattle.std.specs.Prelude.{IfOk}
+use Rattle.std.proofs.Common.{ℕ, ◌≡◌, ◌∙◌, List, Option, Some, None, Result, Ok, Err, arith, ap, inl, inr, refl, subst, sym, encode_utf8_all}
+use Rattle.command_line.specs.Line.{TaskText, explain, gen}
+use Rattle.generated_input.specs.Made.{depts}
+use Rattle.io_edge.specs.Outcome.{Outcome}
+use Rattle.io_edge.specs.Outside.{Ask, File, Told, written_after}
+use Rattle.qgm_core.specs.Boxes.{QueryGraph}
+use Rattle.query_rewrite.specs.Answers.{IsRewritten}
+use Rattle.rewrite_plan.specs.declared.plan.Plan.{Plan}
+use Rattle.row_bag.specs.Bags.{Agree}
+use Rattle.row_bag.specs.Sets.{same_cells}
+use Rattle.row_bag.specs.Verdict.{verdict}
+use Rattle.row_bag.specs.declared.row.Row.{Row}
+use Rattle.shared_types.specs.declared.memory.OutOfMemory.{OutOfMemory}
+use Rattle.sql_meaning.specs.Meaning.{Answer, answer_of}
+use Rattle.sql_value.specs.declared.cell.Cell.{Cell}
+use Rattle.sql_value.specs.declared.cell.Kind.{Kind}
+use Rattle.sql_value.specs.declared.order_key.OrderKey.{OrderKey}
+use Rattle.qgm_app.specs.Outcome.{End}
+use Rattle.qgm_app.specs.Printed.{printed, said_of, status_of}
+use Rattle.qgm_app.specs.Questions.{Question, answer_to}
+use Rattle.qgm_app.specs.Ready.{held_answer}
+use Rattle.qgm_app.specs.Rewriting.{IsBuilt, IsExplanation, IsRun}
+use Rattle.qgm_app.specs.Runs.{ComesTo, IsSaid, Prepares}
+use Rattle.qgm_app.specs.Telling.{IsErrorReport, IsReported, TellsBy, report_behind, row_number, summary}
+use Rattle.qgm_app.specs.declared.answers.Answered.{Answered}
+use Rattle.qgm_app.specs.declared.report.Report.{Report}
+use Rattle.qgm_app.specs.declared.report.Report.TheVariants.{Rows, Error, ExplainedError, Usage, SchemaRefused, ViewRefused, DataRefused, QueryRefused}
+use Rattle.qgm_app.specs.declared.report.Said.{Said}
+use Rattle.qgm_app.proofs.Asked.{is-run}
+
+-- ---- answers
+
+-- what holds of no result holds of each
+pub of-each : {X E : Type 0} (r : Result X E) (P : Type 0) → P → IfOk r (λ x. P)
+of-each (Ok x) P p = p
+of-each (Err e) P p = tt
+
+-- the answer of rows that agree with those of a root
+pub settled-answer : (r : Result Answered OutOfMemory) (names : List (Option (List ℕ))) (order : List OrderKey) (bag root rows : List (Row (List Cell))) (what : Answer)
+    → IfOk r (λ a. (rows : List (Row (List Cell))) → Agree same_cells bag rows → held_answer a ≡ answer_of names order (verdict rows))
+    → Agree same_cells bag root → root ≡ rows → answer_of names order (verdict rows) ≡ what → IfOk r (λ a. held_answer a ≡ what)
+settled-answer (Ok a) names order bag root rows what h agree is means = h rows (subst (λ (xs : List (Row (List Cell))). Agree same_cells bag xs) is agree) ∙ means
+settled-answer (Err e) names order bag root rows what h agree is means = tt
+
+-- and how they were come by
+pub settled-run : (r : Result Answered OutOfMemory) (plan : Plan) (q : Question) (g : QueryGraph) (n before after : ℕ)
+    → IfOk r (λ a. a.firings ≡ n) → IsBuilt q g → IsRewritten q.tables plan g n before after → IfOk r (λ a. IsRun plan q a.firings before after)
+settled-run (Ok a) plan q g n before after same built h = is-run plan q g n a.firings before after built same h
+settled-run (Err e) plan q g n before after same built h = tt
+
+-- ---- reports
+
+tells-by : (t u : TaskText) (plan : Plan) (q : Question) (report : Report) → t ≡ u → TellsBy u plan q report → TellsBy t plan q report
+tells-by t u plan q report is h = subst (λ (x : TaskText). TellsBy x plan q report) (sym is) h
+
+pub tells-explained : (r : Result Report OutOfMemory) (t : TaskText) (schema query dir : List ℕ) (plan : Plan) (q : Question) (text : List ℕ) (answer : Answer) (before after : ℕ)
+    → t ≡ explain schema query dir → IfOk r (λ report. report ≡ report_behind (encode_utf8_all text) answer) → answer ≡ answer_to q → IsExplanation plan q before after text
+    → IfOk r (λ report. TellsBy t plan q report)
+tells-explained (Ok report) t schema query dir plan q text answer before after task is same h =
+    tells-by t (explain schema query dir) plan q report task
+    (record { text = text; before = before; after = after; explanation = h; reported = is ∙ ap (λ (a : Answer). report_behind (encode_utf8_all text) a) same })
+tells-explained (Err e) t schema query dir plan q text answer before after task is same h = tt
+
+pub tells-summary : (r : Result Report OutOfMemory) (t : TaskText) (seed rows : ℕ) (plan : Plan) (q : Question) (answer : Answer) (firings before after : ℕ)
+    → t ≡ gen seed rows → IfOk r (λ report. report ≡ Rows (summary (depts rows) rows (row_number answer) firings)) → answer ≡ answer_to q → IsRun plan q firings before after
+    → IfOk r (λ report. TellsBy t plan q report)
+tells-summary (Ok report) t seed rows plan q answer firings before after task is same h =
+    tells-by t (gen seed rows) plan q report task
+    (record { firings = firings; before = before; after = after; run = h; reported = is ∙ ap (λ (a : Answer). Rows (summary (depts rows) rows (row_number a) firings)) same })
+tells-summary (Err e) t seed rows plan q answer firings before after task is same h = tt
+
+-- ---- errors
+
+
+-- a report whose status is 1 is of a runtime error
+error-of : (report : Report) → status_of report ≡ 1 → (kind : Kind) × IsErrorReport kind report
+error-of (Rows bytes) h = absurd (omega (arith, h))
+error-of (Error kind) h = (kind, inl refl)
+error-of (ExplainedError told kind) h = (kind, inr (told, refl))
+error-of Usage h = absurd (omega (arith, h))
+error-of (SchemaRefused number) h = absurd (omega (arith, h))
+error-of (ViewRefused view number) h = absurd (omega (arith, h))
+error-of (DataRefused number table row) h = absurd (omega (arith, h))
+error-of (QueryRefused number) h = absurd (omega (arith, h))
+
+three-one : ◌≡◌ {A = ℕ} 3 1 → ⊥
+three-one h = omega (arith, h)
+
+-- what is said under that status is a report
+error-said : (o : Outcome End) (asks : List Ask) (name : Option (List ℕ)) (said : Said) → IsSaid o asks name said → said.status ≡ 1 → (report : Report) × IsReported o report × (said ≡ said_of report)
+error-said o asks None said h e = (h.1, h.2, h.3)
+error-said o asks (Some name) said h e = absurd (three-one (sym (ap (λ (s : Said). s.status) h) ∙ e))
+
+pub error-told : (t u : Option Told) (o : List File → Outcome End) (said : Said) (bytes : List ℕ) (old new : Option (List ℕ)) → Prepares t u o (Ok said) → bytes ≡ said.text → new ≡ written_after bytes old
+    → said.status ≡ 1 → ComesTo t o (λ report. (kind : Kind) × IsErrorReport kind report × (new ≡ written_after (printed report) old))
+error-told None u o said bytes old new h text is e = tt
+error-told (Some t) None o said bytes old new h text is e = absurd h
+error-told (Some t) (Some u) o said bytes old new h text is e =
+    let r = error-said (o t.files) h.0 _ said h.2.1 e in
+    let k = error-of r.0 (sym (ap (λ (s : Said). s.status) r.2) ∙ e) in
+    (r.0, r.1, (k.0, k.1, is ∙ ap (λ (x : List ℕ). written_after x old) (text ∙ ap (λ (s : Said). s.text) r.2)))

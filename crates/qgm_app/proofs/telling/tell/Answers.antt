@@ -1,0 +1,29 @@
+use Rattle.std.proofs.Common.{ap}
+use Rattle.command_line.specs.Line.{task_text}
+use Rattle.command_line.specs.declared.task.Task.{Task}
+use Rattle.qgm_app.specs.Questions.{question_of}
+use Rattle.qgm_app.specs.Ready.{held_answer}
+use Rattle.qgm_app.proofs.Reported.{of-each, tells-explained, tells-summary}
+use Rattle.qgm_app.proofs.telling.tell.Goals as goal
+
+pub returns-in_ok-answered-in-Run-clause-counts : goal.returns-in_ok-answered-in-Run-clause-counts
+returns-in_ok-answered-in-Run-clause-counts g c = of-each c.tell_answer.result _ (c.in_ok-answered-in-Run.answered.firings, c.in_ok-answered-in-Run.ensures.run)
+
+pub returns-in_ok-explained-in-Explain-clause-tells : goal.returns-in_ok-explained-in-Explain-clause-tells
+returns-in_ok-explained-in-Explain-clause-tells g c =
+    let e = c.in_ok-explained-in-Explain in
+    tells-explained c.tell_explained.result (task_text c.args.line.now.task) c.in-Explain.schema.now c.in-Explain.query.now c.in-Explain.dir.now c.args.line.now.plan (question_of c.args.question)
+    e.explained.text (held_answer e.explained.answered) _ _ (ap (λ (t : Task). task_text t) c.in-Explain.is) c.tell_explained.ensures e.ensures.answer e.ensures.text
+
+pub returns-in_ok-explained-in-Explain-clause-counts : goal.returns-in_ok-explained-in-Explain-clause-counts
+returns-in_ok-explained-in-Explain-clause-counts g c =
+    of-each c.tell_explained.result _ (c.in_ok-explained-in-Explain.explained.answered.firings, c.in_ok-explained-in-Explain.ensures.run)
+
+pub returns-in_ok-answered-in-Gen-clause-tells : goal.returns-in_ok-answered-in-Gen-clause-tells
+returns-in_ok-answered-in-Gen-clause-tells g c =
+    let a = c.in_ok-answered-in-Gen in
+    tells-summary c.tell_summary.result (task_text c.args.line.now.task) c.in-Gen.seed c.in-Gen.rows c.args.line.now.plan (question_of c.args.question) (held_answer a.answered) a.answered.firings _ _
+    (ap (λ (t : Task). task_text t) c.in-Gen.is) c.tell_summary.ensures a.ensures.answer a.ensures.run
+
+pub returns-in_ok-answered-in-Gen-clause-counts : goal.returns-in_ok-answered-in-Gen-clause-counts
+returns-in_ok-answered-in-Gen-clause-counts g c = of-each c.tell_summary.result _ (c.in_ok-answered-in-Gen.answered.firings, c.in_ok-answered-in-Gen.ensures.run)
