@@ -8,6 +8,7 @@ pub mod Counts
 pub mod Deciding
 pub mod Filtering
 pub mod FirstCells
+pub mod FirstNumbers
 pub mod FoldLaws
 pub mod Folds
 pub mod GreatestLevels

@@ -3,11 +3,12 @@ use Rattle.std.proofs.Common.{◌≡◌, ℕ, zero, suc, ◌+◌, zero-add, add-
 use mathlib.Core.Bool.{beq}
 use Rattle.std.proofs.lemmas.Bool.{cases_Bool, false≢true}
 use Rattle.std.proofs.lemmas.Cmp.{tied_itself}
+use Rattle.std.proofs.lemmas.List.{get_or-map, length-map}
 use Rattle.std.proofs.lemmas.List.Sorted.{ranks_by, sum_by-IsPermutation}
 use Rattle.std.specs.Cmp.{IsStrictWeakOrder}
 use Rattle.std.specs.Cmp.Lexicographic.{slice_cmp}
 use Rattle.std.specs.List.{sum_by}
-use Rattle.std.specs.List.Sorted.{IsPermutation}
+use Rattle.std.specs.List.Sorted.{IsPermutation, IsSortedBy}
 use Rattle.std.specs.Ordering.{is_eq, is_lt, ordering_reverse}
 use Rattle.std.specs.declared.cmp.Ordering.{Ordering}
 use Rattle.std.specs.declared.cmp.Ordering.TheVariants.{Less, Equal, Greater}
@@ -18,6 +19,7 @@ use Rattle.sql_value.specs.declared.level.Level.TheVariants.{No, Cardinality, Di
 use Rattle.row_bag.specs.Bags.{count, if_there, row, same_level}
 use Rattle.row_bag.specs.Matched.{NotBelow, often, part, starts_with, tuple_below}
 use Rattle.row_bag.specs.Sets.{multiplicity, same_cells}
+use Rattle.row_bag.specs.Sortable.{cells_below}
 use Rattle.row_bag.specs.Verdict.{those_there}
 use Rattle.row_bag.specs.declared.row.Row.{Row}
 use Rattle.row_bag.proofs.Agreement.{sum-monoid}
@@ -32,6 +34,17 @@ Tuple = List Cell
 
 pub below-ranks : IsStrictWeakOrder tuple_below
 below-ranks = ranks_by cells-total (λ (t : Tuple). t)
+
+pub cells-ranks : IsStrictWeakOrder cells_below
+cells-ranks = ranks_by cells-total (λ (r : Row Tuple). r.cells)
+
+-- the tuples of rows in order
+pub sorted-tuples : (rows : List (Row Tuple)) → IsSortedBy cells_below rows → IsSortedBy tuple_below (map (λ r. r.cells) rows)
+sorted-tuples rows up = λ k d low within.
+    let long = length-map rows (λ (r : Row Tuple). r.cells) in
+    let e = get_or-map (λ (r : Row Tuple). r.cells) rows (k + 1) (row d Yes) d (omega (arith, long, within)) in
+    let f = get_or-map (λ (r : Row Tuple). r.cells) rows k (row d Yes) d (omega (arith, long, within)) in
+    ap₂ (λ a b. tuple_below a b) e f ∙ up k (row d Yes) low (omega (arith, long, within))
 
 not-itself : (t : Tuple) → tuple_below t t ≡ false
 not-itself t = ap is_lt (tied_itself cells-total t)

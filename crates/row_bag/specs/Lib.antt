@@ -14,6 +14,7 @@ pub mod Laws
 pub mod Matched
 pub mod Order
 pub mod Sets
+pub mod Sortable
 pub mod Sorted
 pub mod Subqueries
 pub mod Tables

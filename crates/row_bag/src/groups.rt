@@ -1,5 +1,5 @@
 // Groups of rows by their first cells.
-ghost use Rattle.std.specs.Prelude.{◌≡◌, ◌++◌, ◌<◌, ◌≤◌, List, All, IfOk, OnOk, drop, false, length, map, take, true};
+ghost use Rattle.std.specs.Prelude.{◌≡◌, ◌++◌, ◌<◌, ◌≤◌, List, All, IfOk, OnOk, drop, false, length, map, take, true, Some};
 ghost use Rattle.std.specs.Cmp.Lexicographic.{slice_cmp};
 ghost use Rattle.std.specs.List.{list_any};
 ghost use Rattle.std.specs.List.Sorted.{IsPartitionPoint, IsPermutation, IsSortedBy, IsStableBy};
@@ -8,12 +8,14 @@ ghost use Rattle.sql_value.specs.declared.cell.Cell.{Cell};
 ghost use Rattle.row_bag.specs.Bags.{Agree, at_yes};
 ghost use Rattle.row_bag.specs.Groups as spec;
 ghost use Rattle.row_bag.specs.Sets.{grouped, same_cells};
+ghost use Rattle.row_bag.specs.Sortable.{first_number, numbers_compare};
 ghost use Rattle.row_bag.specs.Verdict.{is_there};
 ghost use Rattle.row_bag.specs.declared.row.Row.{Row};
 
 use crate::answer::{error_at, error_in, is_there, worst_of};
 use crate::bag::Bag;
 use crate::row::{Row, cells_order};
+use crate::sortable::{Sortable, first_order, to_bag, to_sort};
 use shared_types::OutOfMemory;
 use sql_value::{Cell, Kind, copy};
 use sqlite_items::Items;
@@ -46,15 +48,44 @@ fn key_order(a: &Row, b: &Row, keys: usize) -> Ordering
     cells_order(key_of(a, keys), key_of(b, keys))
 }
 
+// The order of two rows by their first cells, where the first ones are one number.
+#[tactic(auto, using(crate::proofs::FirstNumbers::tied_keys))]
+fn order_from_number(a: &Row, b: &Row, keys: usize) -> Ordering
+    requires { numbers_compare (first_number a.now.cells) (first_number b.now.cells) ≡ Some Ordering.Equal }
+    ensures { result ≡ slice_cmp cell_compare (take keys a.now.cells) (take keys b.now.cells) }
+{
+    if keys == 1 {
+        return Ordering::Equal;
+    }
+    key_order(a, b, keys)
+}
+
+// The order of two rows by their first cells.
+#[tactic(auto, using(crate::proofs::FirstNumbers::decided_keys))]
+fn order_of_keys(a: &Sortable, b: &Sortable, keys: usize) -> Ordering
+    ensures { result ≡ slice_cmp cell_compare (take keys a.now.cells) (take keys b.now.cells) }
+{
+    if keys == 0 {
+        return Ordering::Equal;
+    }
+    match first_order(a, b) {
+        Some(Ordering::Less) => Ordering::Less,
+        Some(Ordering::Greater) => Ordering::Greater,
+        Some(Ordering::Equal) => order_from_number(a.row(), b.row(), keys),
+        None => key_order(a.row(), b.row(), keys),
+    }
+}
+
 // The rows in ascending order of their first cells, those of equal ones in their old order.
 fn by_key(bag: Bag, keys: usize) -> Result<Vec<Row>, OutOfMemory>
     ensures ascending { IfOk result (λ rows. IsSortedBy (spec.key_below keys) rows.items) }
     ensures same { IfOk result (λ rows. IsPermutation bag rows.items) }
     ensures stable { IfOk result (λ rows. IsStableBy (spec.key_below keys) bag rows.items) }
 {
-    let mut rows = bag.into_rows();
-    rows.sort_by(|a, b| key_order(a, b, keys))?;
-    Ok(rows)
+    let mut rows = to_sort(bag)?;
+    rows.sort_by(|a, b| order_of_keys(a, b, keys))?;
+    let sorted = to_bag(rows)?;
+    Ok(sorted.into_rows())
 }
 
 // The place of the first of ascending rows whose first cells are those of this row.
@@ -62,7 +93,11 @@ fn place_of(rows: &[Row], row: &Row, keys: usize) -> usize
     ensures bound { result ≤ length rows.now }
     ensures place { IsSortedBy (spec.key_below keys) rows.now → IsPartitionPoint (λ r. spec.key_below keys r row.now ≡ true) (λ r. spec.key_below keys r row.now ≡ false) rows.now result }
 {
-    rows.partition_point(|other| key_order(other, row, keys).is_lt())
+    let mut place = rows.len();
+    while place > 0 && !key_order(&rows[place - 1], row, keys).is_lt() {
+        place -= 1;
+    }
+    place
 }
 
 // Equal cells.

@@ -12,6 +12,7 @@ mod outcome;
 mod row;
 mod sets;
 mod sort;
+mod sortable;
 mod subqueries;
 mod tables;
 mod tuples;

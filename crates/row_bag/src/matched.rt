@@ -4,7 +4,7 @@ ghost use Rattle.std.specs.List.Sorted.{IsPermutation, IsSortedBy};
 ghost use Rattle.row_bag.specs.Bags.{count, same_level};
 ghost use Rattle.row_bag.specs.Matched as spec;
 ghost use Rattle.row_bag.specs.Sets.{multiplicity, same_cells};
-ghost use Rattle.row_bag.specs.Verdict.{those_there};
+ghost use Rattle.row_bag.specs.Sortable.{cells_below};
 ghost use Rattle.sql_value.specs.declared.cell.Cell.{Cell};
 ghost use Rattle.sql_value.specs.declared.level.Level.{Level};
 
@@ -12,27 +12,27 @@ use crate::answer::those_there;
 use crate::bag::Bag;
 use crate::row::{Row, cells_order, same_cells};
 use crate::sets::distinct;
+use crate::sortable::{Sortable, order_of_cells, to_sort};
 use shared_types::OutOfMemory;
 use sql_value::{Cell, Level};
 use sqlite_items::Items;
 use std::alloc::Global;
 
-// The tuples of the rows that are there.
-fn tuples_there(alloc: Global, bag: Bag) -> Result<Vec<Items<Cell>>, OutOfMemory>
-    ensures { IfOk result (λ tuples. tuples.items ≡ map (λ r. r.cells) (those_there bag)) }
+// The rows in ascending order of their cells.
+fn ascending(bag: Bag) -> Result<Vec<Sortable>, OutOfMemory>
+    ensures ascending { IfOk result (λ sorted. IsSortedBy cells_below sorted.items) }
+    ensures same { IfOk result (λ sorted. IsPermutation bag sorted.items) }
 {
-    let rows = those_there(bag).into_rows();
-    Ok(rows.into_iter().map(|row| row.cells).collect(alloc)?)
+    let mut sorted = to_sort(bag)?;
+    sorted.sort_by(|a, b| order_of_cells(a, b))?;
+    Ok(sorted)
 }
 
-// The tuples in ascending order.
-fn ascending(tuples: Vec<Items<Cell>>) -> Result<Vec<Items<Cell>>, OutOfMemory>
-    ensures ascending { IfOk result (λ sorted. IsSortedBy spec.tuple_below sorted.items) }
-    ensures same { IfOk result (λ sorted. IsPermutation tuples.items sorted.items) }
+// The tuples of rows.
+fn tuples(alloc: Global, rows: Vec<Sortable>) -> Result<Vec<Items<Cell>>, OutOfMemory>
+    ensures { IfOk result (λ tuples. tuples.items ≡ map (λ r. r.cells) rows.items) }
 {
-    let mut sorted = tuples;
-    sorted.sort_by(|a, b| cells_order(a.as_slice(), b.as_slice()))?;
-    Ok(sorted)
+    Ok(rows.into_iter().map(|it| it.into_row().cells).collect(alloc)?)
 }
 
 // The tuples of the rows that are there, in ascending order.
@@ -40,7 +40,9 @@ fn ascending_there(alloc: Global, bag: Bag) -> Result<Vec<Items<Cell>>, OutOfMem
     ensures ascending { IfOk result (λ tuples. IsSortedBy spec.tuple_below tuples.items) }
     ensures counts { IfOk result (λ tuples. (c : List Cell) → spec.often c tuples.items ≡ multiplicity same_cells c bag) }
 {
-    ascending(tuples_there(alloc, bag)?)
+    let rows = ascending(those_there(bag))?;
+    let made = tuples(alloc, rows)?;
+    Ok(made)
 }
 
 // Where a search for an equal tuple among ascending ones ended: whether there is one, and the place

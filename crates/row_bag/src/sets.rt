@@ -8,7 +8,8 @@ ghost use Rattle.sql_value.specs.Level.{level_of};
 use crate::answer::{error_among, those_there, worst_of};
 use crate::bag::Bag;
 use crate::matched::matching;
-use crate::row::{Row, row_order, same_cells};
+use crate::row::Row;
+use crate::sortable::{are_same, order_of_rows, to_bag, to_sort};
 use shared_types::OutOfMemory;
 use sql_value::{Cell, Kind, level_of};
 use sqlite_items::Items;
@@ -20,10 +21,11 @@ use std::alloc::Global;
 pub fn distinct(bag: Bag) -> Result<Bag, OutOfMemory>
     ensures { IfOk result (λ b. Agree spec.same_cells b (spec.distinct spec.same_cells bag)) }
 {
-    let mut rows = bag.into_rows();
-    rows.sort_by(|a, b| row_order(b, a))?;
-    rows.dedup_by(|later, kept| same_cells(later.cells.as_slice(), kept.cells.as_slice()));
-    Ok(those_there(Bag::from_rows(rows)))
+    let mut rows = to_sort(bag)?;
+    rows.sort_by(|a, b| order_of_rows(b, a))?;
+    rows.dedup_by(|later, kept| are_same(later, kept));
+    let kept = to_bag(rows)?;
+    Ok(those_there(kept))
 }
 
 // The rows of both, one after the other.

@@ -8,10 +8,13 @@ use Rattle.row_bag.proofs.sort.sorted.Goals as goal
 pub returns-clause-sorted : goal.returns-clause-sorted
 returns-clause-sorted c =
     let moved = c.in_ok-sort_by.ensures.permutation in
-    c.from_rows.ensures
-    ∙ sorted-once c.args.keys.now c.args.bag _ (rw c.into_rows-rows.ensures at moved)
+    c.in_ok-made.ensures
+    ∙ sorted-once c.args.keys.now c.args.bag _ (rw c.in_ok-rows.ensures at moved)
     (c.in_ok-sort_by.ensures.sorted (row_less c.args.keys.now) (less-ranks c.args.keys.now) (always_returns_same _ _ _ (λ a r f called. search rules)))
 
 pub returns-clause-ascending : goal.returns-clause-ascending
 returns-clause-ascending c =
-    rw c.from_rows.ensures (c.in_ok-sort_by.ensures.sorted (row_less c.args.keys.now) (less-ranks c.args.keys.now) (always_returns_same _ _ _ (λ a r f called. search rules)))
+    rw c.in_ok-made.ensures (c.in_ok-sort_by.ensures.sorted (row_less c.args.keys.now) (less-ranks c.args.keys.now) (always_returns_same _ _ _ (λ a r f called. search rules)))
+
+pub returns-clause-same_rows : goal.returns-clause-same_rows
+returns-clause-same_rows c = rw c.in_ok-made.ensures (rw c.in_ok-rows.ensures at c.in_ok-sort_by.ensures.permutation)
