@@ -148,13 +148,15 @@ tenth rows few = omega (arith, few)
 pub made-fits : (seed rows : ℕ) → rows < 2 ^ 60 → FitsSchema (dept_table ∷ emp_table ∷ []) (made seed rows)
 unfolding first-key
 made-fits seed rows few =
-    let d = tenth rows few in
-    (
+    let d = tenth rows few in (
       record { name = refl; rows = fits-rows (describe dept_table.elements) (dept seed) refl (dept-row seed) (dept-key seed) (depts rows) d },
-      (record {
-        name = refl;
-        rows =
-            fits-rows (describe emp_table.elements) (emp seed (depts rows)) refl (λ i small. emp-row seed (depts rows) i (omega arith) (omega (arith, d)) small)
-            (emp-key seed (depts rows)) rows (omega (arith, few));
-      }, tt),
+      (
+        record {
+          name = refl;
+          rows =
+              fits-rows (describe emp_table.elements) (emp seed (depts rows)) refl (λ i small. emp-row seed (depts rows) i (omega arith) (omega (arith, d)) small)
+              (emp-key seed (depts rows)) rows (omega (arith, few));
+        },
+        tt,
+      ),
     )

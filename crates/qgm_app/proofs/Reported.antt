@@ -73,7 +73,6 @@ tells-summary (Err e) t seed rows plan q answer firings before after task is sam
 
 -- ---- errors
 
-
 -- a report whose status is 1 is of a runtime error
 error-of : (report : Report) → status_of report ≡ 1 → (kind : Kind) × IsErrorReport kind report
 error-of (Rows bytes) h = absurd (omega (arith, h))

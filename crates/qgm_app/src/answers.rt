@@ -85,12 +85,7 @@ fn ordered(alloc: Global, checked: &Checked, bag: Bag) -> Result<Verdict, OutOfM
 }
 
 // The answer of a checked query whose rows these are, after so many firings.
-fn settled(
-    alloc: Global,
-    checked: Checked,
-    bag: Bag,
-    firings: u64,
-) -> Result<Answered, OutOfMemory>
+fn settled(alloc: Global, checked: Checked, bag: Bag, firings: u64) -> Result<Answered, OutOfMemory>
     ensures answer { IfOk result (λ a. (rows : List (Row (List Cell))) → Agree same_cells bag rows → held_answer a ≡ answer_of checked.names checked.order (verdict rows)) }
     ensures firings { IfOk result (λ a. a.firings ≡ firings) }
 {
