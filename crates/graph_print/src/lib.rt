@@ -11,3 +11,4 @@ mod writing;
 
 pub use laws::examples;
 pub use text::print;
+pub use writing::{put_number, put_word};

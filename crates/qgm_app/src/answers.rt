@@ -112,7 +112,8 @@ pub fn answer<L: Ledger>(
     loaded_laws();
     let graph = graph_of(alloc, &question)?;
     let ran = answered(alloc, graph, plan, &question.tables, steps)?;
-    let Question { valid, .. } = question;
+    let Question { valid, tables, .. } = question;
+    drop(tables);
     settled(alloc, valid.checked, ran.rows, ran.firings)
 }
 
@@ -134,7 +135,8 @@ pub fn explain<L: Ledger>(
     let graph = graph_of(alloc, &question)?;
     let mut text = Text::new(alloc)?;
     let ran = explained(alloc, graph, plan, &question.tables, steps, &mut text)?;
-    let Question { valid, .. } = question;
+    let Question { valid, tables, .. } = question;
+    drop(tables);
     let answered = settled(alloc, valid.checked, ran.rows, ran.firings)?;
     Ok(Explained { answered, text })
 }

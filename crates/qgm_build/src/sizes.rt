@@ -8,8 +8,8 @@ use crate::groups::after;
 use shared_types::OutOfMemory;
 use sql_meaning::{Addend, Arm, Choice, From, Multiplier, Query, Test, Value};
 
-/// How many terms and conditions the boxes of a graph may be written with. Past them the answer is want
-/// of memory.
+/// How many terms, conditions and columns the boxes of a graph may be written with. Past them the answer
+/// is want of memory.
 pub(crate) const MOST: usize = 4_194_304;
 
 /// How many terms and conditions a part of a query is written with: its own, where a subquery or an

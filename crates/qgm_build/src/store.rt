@@ -29,7 +29,8 @@ pub(crate) struct Shared {
 
 /// The boxes so far, each with a number that is its place, and the next number of a quantifier; the
 /// types of the columns of boxes and of quantifiers, by their numbers, and the boxes of tables and views;
-/// and how many terms and conditions may still be written. Contracts see it as the `Boxes` that it is.
+/// and how many terms, conditions and columns of boxes may still be written. Contracts see it as the
+/// `Boxes` that it is.
 #[derive(Drop)]
 pub(crate) struct Store {
     pub made: Vec<NewBox>,
@@ -134,7 +135,7 @@ fn types_of(
     }
 }
 
-/// Makes a plain box on top of all.
+/// Makes a plain box on top of all, if as many columns as it has may still be written.
 pub(crate) fn put(
     alloc: Global,
     st: &mut Store,
@@ -150,6 +151,7 @@ pub(crate) fn put(
     let id = st.made.len();
     let distinct = distinct_of(distinct);
     let types = types_of(alloc, st, &kind, &head)?;
+    st.left = st.left.checked_sub(types.len()).ok_or(OutOfMemory)?;
     let parts = BoxParts {
         kind,
         distinct,

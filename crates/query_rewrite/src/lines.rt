@@ -1,10 +1,9 @@
 // The lines that tell of a rewriting, added to a text.
-ghost use Rattle.std.specs.Prelude.{◌≡◌, ◌++◌, OnOk, decimal};
+ghost use Rattle.std.specs.Prelude.{◌≡◌, ◌++◌, OnOk};
 ghost use Rattle.graph_print.specs.Places.{place_in};
 ghost use Rattle.query_rewrite.specs.Explained as spec;
 
-use graph_print::print;
-use itoa::Buffer;
+use graph_print::{print, put_number, put_word};
 use qgm_core::{BoxId, Graph};
 use rule_api::{Firing, RuleId};
 use shared_types::{OutOfMemory, Text};
@@ -52,24 +51,6 @@ fn number_in(order: &[BoxId], b: BoxId) -> usize
         number += 1;
     }
     number
-}
-
-// Adds ASCII characters.
-fn put_word(word: &[u8], out: &mut Text) -> Result<(), OutOfMemory>
-    ensures { OnOk result (out.new ≡ out.old ++ word.now) }
-{
-    for b in word {
-        out.push(*b as char)?;
-    }
-    Ok(())
-}
-
-// Adds a number in decimal.
-fn put_number(n: usize, out: &mut Text) -> Result<(), OutOfMemory>
-    ensures { OnOk result (out.new ≡ out.old ++ decimal n) }
-{
-    let mut buffer = Buffer::new();
-    put_word(buffer.format(n).as_bytes(), out)
 }
 
 // Adds a word, a number and the end of a line.

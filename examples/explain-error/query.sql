@@ -1,0 +1,1 @@
+SELECT 1 / (A - 1) FROM T WHERE A > 0
