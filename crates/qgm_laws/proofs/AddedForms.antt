@@ -188,7 +188,7 @@ module _ (xs ys : List Node) (root : ℕ) (w : Sound (xs ++ ys) root) (t : Typed
   shape-after : (n : Node) → ((x : OwnedQuant) → In x n.quants → (u : Node) × (In u bs × (u.id ≡ x.over))) → (is_fed n.parts.role ≡ true → (a d : OwnedQuant) → n.quants ≡ a ∷ (d ∷ []) → only a.id (free_in hs d.over) ≡ true)
       → (is_scalar hs n.id ≡ true → nat_lt 0 (width n) ≡ true) → shape_fits root bs n ≡ true → shape_fits root hs n ≡ true
   shape-after n over alone = shape-moved root bs hs n
-      (λ x j. (let u = over x j in ap width_found (boxes x.over u.0 u.1.0 u.1.1)))
+      (λ x j c. (let u = over x j in ap width_found (boxes x.over u.0 u.1.0 u.1.1)))
       (λ x j. (let u = over x j in ap magic_found (boxes x.over u.0 u.1.0 u.1.1)))
       alone
 
