@@ -1,12 +1,11 @@
 -- A box that isn't fed keeps its shape without a column that is no key.
-use Rattle.std.proofs.Common.{ℕ, zero, suc, ◌==◌, ◌≡◌, ◌&&◌, ◌||◌, ◌+◌, ◌-◌, ◌≤◌, ◌<◌, nat_lt, not, Bool, true, false, List, [], ◌∷◌, ◌++◌, take, drop, length, refl, ap, ap₂, subst, ◌∙◌, inl, inr, arith}
+use Rattle.std.proofs.Common.{ℕ, zero, suc, ◌≡◌, ◌&&◌, ◌||◌, ◌-◌, ◌≤◌, ◌<◌, not, Bool, true, false, List, [], ◌∷◌, take, drop, length, refl, ap, ◌∙◌, inl, inr, arith}
 use Rattle.std.specs.Prelude.{nat_le}
 use Rattle.std.specs.List.{flat_map, list_all, list_any, remove}
 use Rattle.std.proofs.lemmas.Bool.{and_from, and_parts, cases_Bool, le-leb, lt-ltb, not-true, or_cases}
 use Rattle.qgm_core.specs.Boxes.{owns, width}
 use Rattle.qgm_core.specs.Edits.{without_cell}
 use Rattle.qgm_core.specs.Kinds.{is_F, is_fed, is_plain, width_by}
-use Rattle.qgm_core.specs.Lists.{In}
 use Rattle.qgm_core.specs.declared.kinds.BoxKind.{BoxKind}
 use Rattle.qgm_core.specs.declared.kinds.BoxKind.TheVariants.{Base, Group, OuterJoin, Select, SetOp}
 use Rattle.qgm_core.specs.declared.kinds.Role.{Role}

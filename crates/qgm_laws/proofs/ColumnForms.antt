@@ -1,22 +1,19 @@
 -- The check finds nothing more where a column that no box names goes.
-use Rattle.std.proofs.Common.{ℕ, ◌==◌, ◌≡◌, ◌&&◌, ◌||◌, ◌+◌, ◌-◌, ◌≤◌, ◌<◌, nat_lt, cond, Bool, true, false, List, [], ◌∷◌, ◌++◌, map, Option, Some, refl, sym, ap, ap₂, subst, ◌∙◌, eqb-true, inl, inr, arith}
+use Rattle.std.proofs.Common.{ℕ, ◌==◌, ◌≡◌, ◌||◌, ◌+◌, ◌-◌, ◌≤◌, ◌<◌, nat_lt, cond, Bool, true, false, List, [], ◌∷◌, ◌++◌, map, Some, refl, sym, ap, ap₂, subst, ◌∙◌, eqb-true, inl, inr, arith}
 use Rattle.std.specs.Prelude.{nat_le}
 use Rattle.std.specs.List.{flat_map, list_all, list_any, remove}
 use Rattle.std.proofs.lemmas.Bool.{and_from, and_parts, cases_Bool, eq-eqb, le-leb, leb-true, lt-ltb, ltb-false, ltb-true, or_cases}
 use Rattle.qgm_core.specs.Boxes.{is_box, width}
 use Rattle.qgm_core.specs.Edits.{drop_column, shift_node, without_cell}
-use Rattle.qgm_core.specs.Free.{free_in}
-use Rattle.qgm_core.specs.Kinds.{is_F_or_S, is_S, is_fed, is_magic, is_permit}
+use Rattle.qgm_core.specs.Kinds.{is_fed, is_magic, is_permit}
 use Rattle.qgm_core.specs.Lists.{In, first, times}
-use Rattle.qgm_core.specs.declared.kinds.Distinct.{Distinct}
-use Rattle.qgm_core.specs.declared.kinds.Role.{Role}
 use Rattle.qgm_core.specs.declared.node.Node.{Node}
 use Rattle.qgm_core.specs.declared.owned.OwnedQuant.{OwnedQuant}
 use Rattle.qgm_terms.specs.Named.{columns_in, columns_in_cond}
 use Rattle.qgm_terms.specs.Wanted.{reads}
 use Rattle.qgm_terms.specs.declared.named.Column.{Column}
 use Rattle.qgm_check.specs.Columns.{box_under, columns_fit, columns_of, fits, places_fit, within}
-use Rattle.qgm_check.specs.Shapes.{columns_from, columns_through, fed_by, is_scalar, is_scalar_in, magic_found, only, shape_fits, width_found}
+use Rattle.qgm_check.specs.Shapes.{columns_through, is_scalar_in, magic_found, shape_fits, width_found}
 use Rattle.qgm_meaning.specs.Scope.{loose}
 use Rattle.qgm_laws.specs.Changes.{LosesColumn, is_set_op}
 use Rattle.qgm_laws.specs.FormedAdds.{types_asked}
@@ -122,7 +119,7 @@ module _ (bs : List Node) (root : ℕ) (w : Sound bs root) (sh : Shaped bs root)
       let q = x.0.quant in
       let l = x.0.place in
       let at : list_any (is_at q l) (columns_of y) ≡ true = columns-found q l y
-          ∙ c.less-read bs root w b k m (at_all q l) (at_cond q l) y (sym (columns-found q l (cut y)) ∙ any-from (is_at q l) x.0 (columns_of (cut y)) x.1.0 (and_from (q == q) (l == l) (eq-itself q) (eq-itself l))) in
+      ∙ c.less-read bs root w b k m (at_all q l) (at_cond q l) y (sym (columns-found q l (cut y)) ∙ any-from (is_at q l) x.0 (columns_of (cut y)) x.1.0 (and_from (q == q) (l == l) (eq-itself q) (eq-itself l))) in
       let u = under bs root w b k m y i q (column-named q l y at) in
       let old : within (width u.box) l ≡ true = ap (fits l) (sym u.before) ∙ old-fits y a.1 q l at in
       ap (λ z. fits d.place (box_under hs z)) (sym x.1.1.0) ∙ ap (fits d.place) u.after ∙ ap (within (width (g u.box))) (sym x.1.1.1)
@@ -155,12 +152,12 @@ module _ (bs : List Node) (root : ℕ) (w : Sound bs root) (sh : Shaped bs root)
       let found : first (is_box x.over) bs ≡ Some b = subst (λ z. first (is_box z) bs ≡ Some b) (sym e) (in-first b bs w.ordered m.within) in
       let wide : width_found (first (is_box x.over) bs) ≡ width b = ap width_found found in
       let all : list_any (is_at x.id k) (columns_through bs a ++ columns_through bs d) ≡ true = two-at k a d x (width_found (first (is_box a.over) bs)) (width_found (first (is_box d.over) bs)) (width b)
-          (elim (subst (λ z. In x z) t.1.1.0 j) [
-            | inl s ↦ inl (sym s, ap (λ (z : OwnedQuant). width_found (first (is_box z.over) bs)) s ∙ wide)
-            | inr s ↦ elim s [ inl s ↦ inr (sym s, ap (λ (z : OwnedQuant). width_found (first (is_box z.over) bs)) s ∙ wide) | inr s ↦ elim s [ ] ]
-          ]) m.from_one (let u = m.column in let l = m.wide in omega arith) in
+      (elim (subst (λ z. In x z) t.1.1.0 j) [
+        | inl s ↦ inl (sym s, ap (λ (z : OwnedQuant). width_found (first (is_box z.over) bs)) s ∙ wide)
+        | inr s ↦ elim s [ inl s ↦ inr (sym s, ap (λ (z : OwnedQuant). width_found (first (is_box z.over) bs)) s ∙ wide) | inr s ↦ elim s [ ] ]
+      ]) m.from_one (let u = m.column in let l = m.wide in omega arith) in
       let named : list_any (is_at x.id k) (columns_of y) ≡ true = any-both (is_at x.id k) (flat_map columns_in y.parts.head) (flat_map columns_in_cond y.parts.conds.items)
-          ∙ or-left (list_any (is_at x.id k) (flat_map columns_in y.parts.head)) (list_any (is_at x.id k) (flat_map columns_in_cond y.parts.conds.items)) (heads-at x.id k y.parts.head (columns_through bs a ++ columns_through bs d) two.columns all) in
+      ∙ or-left (list_any (is_at x.id k) (flat_map columns_in y.parts.head)) (list_any (is_at x.id k) (flat_map columns_in_cond y.parts.conds.items)) (heads-at x.id k y.parts.head (columns_through bs a ++ columns_through bs d) two.columns all) in
       clash (types_asked x.id k y) (at-asked x.id k y named) (un y y x i i j e)
 
   -- no quantifier over b is read in a fed box
@@ -250,10 +247,12 @@ module _ (bs : List Node) (root : ℕ) (w : Sound bs root) (sh : Shaped bs root)
       unseen = λ n i p. (
           let y = in-map g n bs i in
           let old = sh.unseen y.0 y.1.0 (ap is_permit (sym (g-distinct y.0)) ∙ ap (λ (z : Node). is_permit z.parts.distinct) y.1.1 ∙ p) in
-          let id : y.0.id ≡ n.id = sym (g-id y.0) ∙ ap (λ (z : Node). z.id) y.1.1 in
-          (λ e. old.0 (id ∙ e), λ o x j l e. (
-          let z = in-map g o bs j in
-          old.1 z.0 x z.1.0 (subst (λ rs. In x rs) (g-quants z.0) (subst (λ (u : Node). In x u.quants) (sym z.1.1) l)) (e ∙ sym id))));
+          let id : y.0.id ≡ n.id = sym (g-id y.0) ∙ ap (λ (z : Node). z.id) y.1.1 in (
+            λ e. old.0 (id ∙ e),
+            λ o x j l e. (
+                let z = in-map g o bs j in
+                old.1 z.0 x z.1.0 (subst (λ rs. In x rs) (g-quants z.0) (subst (λ (u : Node). In x u.quants) (sym z.1.1) l)) (e ∙ sym id)),
+          ));
       shapes = λ n i. (let y = in-map g n bs i in subst (λ z. shape_fits root hs z ≡ true) y.1.1 (shape-after y.0 y.1.0));
     }
 

@@ -1,5 +1,5 @@
 -- Shapes of boxes where quantifiers lose a column.
-use Rattle.std.proofs.Common.{ℕ, zero, suc, ◌==◌, ◌≡◌, ◌&&◌, ◌||◌, ◌+◌, ◌≤◌, ◌<◌, nat_lt, not, Bool, true, false, List, [], ◌∷◌, ◌++◌, map, refl, sym, ap, ap₂, subst, ◌∙◌, eqb-true, ◌⊎◌, inl, inr, arith}
+use Rattle.std.proofs.Common.{ℕ, zero, suc, ◌==◌, ◌≡◌, ◌&&◌, ◌||◌, ◌+◌, ◌≤◌, ◌<◌, nat_lt, not, Bool, true, false, List, [], ◌∷◌, ◌++◌, map, refl, ap, ap₂, subst, ◌∙◌, eqb-true, ◌⊎◌, inl, inr, arith}
 use Rattle.std.specs.List.{flat_map, list_all, list_any}
 use Rattle.std.proofs.lemmas.Bool.{and_from, and_parts, cases_Bool, eq-eqb, ltb-false, ltb-true, or_cases}
 use Rattle.qgm_core.specs.Boxes.{width}
@@ -18,7 +18,7 @@ use Rattle.qgm_terms.specs.Terms.{Term}
 use Rattle.qgm_terms.specs.Wanted.{reads, wanted}
 use Rattle.qgm_terms.specs.declared.named.Column.{Column}
 use Rattle.qgm_terms.specs.declared.sought.Sought.TheVariants.{Aggregate, Row}
-use Rattle.qgm_check.specs.Shapes.{are_F, arm_fits, columns_from, columns_placed, columns_through, fed_by, fed_by_two, head_folds, head_is_own, heads_are, is_column, is_none, is_scalar, is_unfolded, kind_fits, looks_up, node_fits, nodes_of, role_fits, same_columns, shape_fits}
+use Rattle.qgm_check.specs.Shapes.{are_F, arm_fits, columns_from, columns_through, fed_by, fed_by_two, head_folds, head_is_own, heads_are, is_column, is_none, is_unfolded, kind_fits, looks_up, node_fits, role_fits, same_columns, shape_fits}
 use Rattle.qgm_laws.proofs.Column.{shift_each}
 use Rattle.qgm_laws.proofs.ColumnNames.{all-columns-shift, columns-kept, folds-shift, nodes-shift, own-shift}
 use Rattle.qgm_laws.proofs.Edits.{length-map}

@@ -1,10 +1,9 @@
 -- The check finds nothing more after U2.
 use Rattle.std.proofs.Common.{ℕ, ◌==◌, ◌≡◌, ◌&&◌, ◌||◌, ◌≤◌, cond, Bool, true, false, List, [], ◌∷◌, ◌++◌, length, Some, None, refl, sym, ap, subst, ◌∙◌, eqb-true, inl, inr, arith}
-use Rattle.std.specs.Prelude.{nat_le}
 use Rattle.std.specs.List.{list_all, list_any}
 use Rattle.std.proofs.lemmas.Bool.{and_from, and_parts, cases_Bool, eq-eqb, le-leb, or_cases}
 use Rattle.sql_value.specs.declared.order_key.SqlType.{SqlType}
-use Rattle.qgm_core.specs.Boxes.{QueryGraph, is_quant, owns, width}
+use Rattle.qgm_core.specs.Boxes.{QueryGraph, is_quant, width}
 use Rattle.qgm_core.specs.Edits.{range}
 use Rattle.qgm_core.specs.Kinds.{is_F, is_F_or_S, is_S, is_fed, width_by}
 use Rattle.qgm_core.specs.Lists.{In}
@@ -14,10 +13,8 @@ use Rattle.qgm_core.specs.declared.kinds.QuantKind.TheVariants.{F}
 use Rattle.qgm_core.specs.declared.node.Node.{Node}
 use Rattle.qgm_core.specs.declared.owned.OwnedQuant.{OwnedQuant}
 use Rattle.qgm_terms.specs.Terms.{Term}
-use Rattle.qgm_terms.specs.declared.named.Column.{Column}
 use Rattle.qgm_check.specs.Columns.{columns_of, fits, over_box}
-use Rattle.qgm_check.specs.Shapes.{shape_fits}
-use Rattle.qgm_check.specs.Types.{Lookup, arms_agree, cond_fits, is_known, known, lookup_of, term_type, type_found, types_agree_at, types_by, types_of}
+use Rattle.qgm_check.specs.Types.{Lookup, arms_agree, cond_fits, is_known, known, lookup_of, term_type, type_found, types_by, types_of}
 use Rattle.qgm_meaning.specs.Searches.{binds, binds_cond, names, names_cond}
 use Rattle.qgm_laws.specs.FormedAdds.{MayInterpose, column_of, own_box, own_types, types_asked}
 use Rattle.qgm_laws.specs.Graph.{Sound, nodes_in}

@@ -2,7 +2,7 @@
 ghost use Rattle.qgm_laws.specs.Asked.{Pushed, Singled};
 ghost use Rattle.qgm_laws.specs.EditLaws.{EditsPlaced, NewPlaced};
 ghost use Rattle.qgm_laws.specs.Examples.{Dropped, Same};
-ghost use Rattle.qgm_laws.specs.FormedAdds.{InterposedWellFormed};
+ghost use Rattle.qgm_laws.specs.FormedAdds.{AddWellFormed, InterposedWellFormed};
 ghost use Rattle.qgm_laws.specs.FormedBox.{AddBoxWellFormed};
 ghost use Rattle.qgm_laws.specs.FormedColumn.{DropColumnTyped, DropColumnWellFormed};
 ghost use Rattle.qgm_laws.specs.FormedEdits.{EditsWellFormed, PushWellFormed};
@@ -86,6 +86,7 @@ pub fn form_laws()
     ensures push { PushWellFormed }
     ensures interposed { InterposedWellFormed }
     ensures add_box { AddBoxWellFormed }
+    ensures added { AddWellFormed }
     ensures drop_column_typed { DropColumnTyped }
     ensures drop_column_formed { DropColumnWellFormed }
     ensures single { SingleWellFormed }

@@ -1,4 +1,4 @@
-use Rattle.qgm_laws.proofs.AddedForms.{add-box-formed}
+use Rattle.qgm_laws.proofs.AddedForms.{add-box-formed, added-formed}
 use Rattle.qgm_laws.proofs.BelowForms.{move-below-formed}
 use Rattle.qgm_laws.proofs.BoxForms.{boxes-formed}
 use Rattle.qgm_laws.proofs.ColumnForms.{drop-column-formed}
@@ -51,3 +51,6 @@ returns-clause-drop_column_formed c = drop-column-formed
 
 pub returns-clause-single : goal.returns-clause-single
 returns-clause-single c = single-formed
+
+pub returns-clause-added : goal.returns-clause-added
+returns-clause-added c = added-formed
