@@ -1,5 +1,5 @@
 // The laws, as theorems.
-ghost use Rattle.qgm_laws.specs.Asked.{Pushed, Singled};
+ghost use Rattle.qgm_laws.specs.Asked.{Pushed, Shortened, Singled};
 ghost use Rattle.qgm_laws.specs.EditLaws.{EditsPlaced, NewPlaced};
 ghost use Rattle.qgm_laws.specs.Examples.{Dropped, Same};
 ghost use Rattle.qgm_laws.specs.FormedAdds.{AddWellFormed, InterposedWellFormed};
@@ -78,7 +78,7 @@ pub fn checked_laws()
     ensures permit_read { PermitRead }
 {}
 
-/// What each kind of edit keeps of types and shapes: the check, which finds nothing against a graph, finds nothing after the edit, at its condition, and nothing after U2; where a column is dropped, types agree in any sound graph. It does nothing.
+/// What each kind of edit keeps of types and shapes: the check, which finds nothing against a graph, finds nothing after the edit, at its condition, and nothing after U2; where a column is dropped, types agree in any sound graph; of a small graph a column may go. It does nothing.
 pub fn form_laws()
     ensures reformed { Reformed }
     ensures boxes { BoxesFormed }
@@ -89,5 +89,6 @@ pub fn form_laws()
     ensures added { AddWellFormed }
     ensures drop_column_typed { DropColumnTyped }
     ensures drop_column_formed { DropColumnWellFormed }
+    ensures shortened { Shortened }
     ensures single { SingleWellFormed }
 {}

@@ -1,4 +1,5 @@
 use Rattle.qgm_laws.proofs.AddedForms.{add-box-formed, added-formed}
+use Rattle.qgm_laws.proofs.Asked.{shortened-example}
 use Rattle.qgm_laws.proofs.BelowForms.{move-below-formed}
 use Rattle.qgm_laws.proofs.BoxForms.{boxes-formed}
 use Rattle.qgm_laws.proofs.ColumnForms.{drop-column-formed}
@@ -54,3 +55,6 @@ returns-clause-single c = single-formed
 
 pub returns-clause-added : goal.returns-clause-added
 returns-clause-added c = added-formed
+
+pub returns-clause-shortened : goal.returns-clause-shortened
+returns-clause-shortened c = shortened-example
