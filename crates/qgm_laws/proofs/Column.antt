@@ -216,7 +216,7 @@ filter-append : (p : OwnedQuant → Bool) (xs ys : List OwnedQuant) → filter p
 filter-append p [] ys = refl
 filter-append p (x ∷ xs) ys = elim (p x) as (λ t. cond t (x ∷ filter p (xs ++ ys)) (filter p (xs ++ ys)) ≡ cond t (x ∷ filter p xs) (filter p xs) ++ filter p ys) [ true ↦ ap (λ z. x ∷ z) (filter-append p xs ys) | false ↦ filter-append p xs ys ]
 
-length-remove : (xs : List Term) (i : ℕ) → i < length xs → length (remove xs i) + 1 ≡ length xs
+pub length-remove : (xs : List Term) (i : ℕ) → i < length xs → length (remove xs i) + 1 ≡ length xs
 length-remove [] i h = absurd (omega arith)
 length-remove (x ∷ xs) zero h = omega arith
 length-remove (x ∷ xs) (suc i) h = let e = length-remove xs i (omega arith) in omega arith
@@ -266,13 +266,13 @@ module _ (bs : List Node) (root : ℕ) (w : Sound bs root) (b : Node) (k : ℕ) 
   g-was : (y : Node) (q j : ℕ) → reads_in q j (g y) ≡ true → (i : ℕ) × ((reads_in q i y ≡ true) × (place_each k qs q i ≡ j))
   g-was y q j t = let x = each-was k qs (cut y) q j t in (x.0, (less-read (reads_at q x.0) (reads_at_cond q x.0) y x.1.0, x.1.1))
 
-  width-is : (y : Node) → width (g y) ≡ width (cut y)
+  pub width-is : (y : Node) → width (g y) ≡ width (cut y)
   width-is y = ap₂ (λ (n : BoxKind) (l : ℕ). width_by n l) (each-kind k qs (cut y)) (each-length k qs (cut y))
 
-  width-other : (y : Node) → (y.id == b.id) ≡ false → width (g y) ≡ width y
+  pub width-other : (y : Node) → (y.id == b.id) ≡ false → width (g y) ≡ width y
   width-other y f = width-is y ∙ ap (λ (t : Bool). width (cond t (without_cell (k - 1) y) y)) f
 
-  width-b : width (g b) + 1 ≡ width b
+  pub width-b : width (g b) + 1 ≡ width b
   width-b =
       let a : width (g b) ≡ width (without_cell (k - 1) b) = width-is b ∙ ap (λ (t : Bool). width (cond t (without_cell (k - 1) b) b)) (eq-itself b.id) in
       let c = m.from_one in let d = m.column in
@@ -392,7 +392,7 @@ module _ (bs : List Node) (root : ℕ) (w : Sound bs root) (b : Node) (k : ℕ) 
           width-other z (subst (λ u. (u == b.id) ≡ false) (sym v) f) ∙ old ∙ sym wy
       arm OuterJoin y z r i j iz v e = tt
 
-  scoped-g : (y : Node) → In y bs → Scoped (loose bs) (g y)
+  pub scoped-g : (y : Node) → In y bs → Scoped (loose bs) (g y)
   scoped-g y i = record {
     under = λ done r rest e q t.
         subst (λ n. (shows_by n (g y).quants done r q || loose bs (g y).id q) ≡ true) (sym (g-kind y))

@@ -1,5 +1,5 @@
 -- Types agree where a column that no box names goes.
-use Rattle.std.proofs.Common.{ℕ, zero, suc, ◌==◌, ◌≡◌, ◌&&◌, ◌-◌, ◌≤◌, ◌<◌, nat_lt, cond, Bool, true, false, List, [], ◌∷◌, map, length, Option, None, refl, sym, ap, ap₂, subst, ◌∙◌, eqb-true, inl, inr, arith}
+use Rattle.std.proofs.Common.{ℕ, zero, suc, ◌==◌, ◌≡◌, ◌&&◌, ◌-◌, ◌≤◌, ◌<◌, nat_lt, cond, Bool, true, false, List, [], ◌∷◌, map, length, Option, Some, None, refl, sym, ap, ap₂, subst, ◌∙◌, eqb-true, ◌⊎◌, inl, inr, arith}
 use Rattle.std.specs.Prelude.{slice_get}
 use Rattle.std.specs.List.{list_all, remove}
 use Rattle.std.proofs.lemmas.Bool.{and_from, and_parts, cases_Bool, eq-eqb, ltb-false, ltb-true}
@@ -9,11 +9,13 @@ use Rattle.qgm_core.specs.declared.kinds.BoxKind.TheVariants.{Base, Select, Grou
 use Rattle.qgm_core.specs.declared.node.Node.{Node}
 use Rattle.qgm_core.specs.declared.owned.OwnedQuant.{OwnedQuant}
 use Rattle.qgm_core.specs.Edits.{shift_node, without_cell}
-use Rattle.qgm_core.specs.Lists.{In, times}
+use Rattle.qgm_core.specs.Free.{named_by}
+use Rattle.qgm_core.specs.Lists.{In, holds, times}
 use Rattle.qgm_terms.specs.Shift.{shifted, shifted_arms, shifted_cond, shifted_place}
 use Rattle.qgm_terms.specs.Terms as t
 use Rattle.qgm_terms.specs.Terms.{Arms, Cond, Term}
 use Rattle.qgm_terms.specs.Wanted.{any_in, any_in_cond}
+use Rattle.qgm_check.specs.Columns.{box_under}
 use Rattle.qgm_check.specs.Types.{Lookup, agree, aggregate_type, all_agree, arm_agrees, arms_agree, arms_fit, cond_fits, integer_if, is_integer, is_known, joined_column, known, lookup_of, op_type, sign_fits, term_type, type_if, types_by, types_of}
 use Rattle.qgm_laws.specs.Changes.{LosesColumn, is_set_op}
 use Rattle.qgm_laws.specs.FormedAdds.{column_of, of_column, types_asked}
@@ -160,11 +162,65 @@ map-less f [] (suc i) = refl
 map-less f (x ∷ xs) zero = refl
 map-less f (x ∷ xs) (suc i) = ap (λ z. f x ∷ z) (map-less f xs i)
 
-all-less : (f : Term → Bool) (xs : List Term) (i : ℕ) → list_all f xs ≡ true → list_all f (remove xs i) ≡ true
+pub all-less : (f : Term → Bool) (xs : List Term) (i : ℕ) → list_all f xs ≡ true → list_all f (remove xs i) ≡ true
 all-less f [] zero h = refl
 all-less f [] (suc i) h = refl
 all-less f (x ∷ xs) zero h = (and_parts (f x) (list_all f xs) h).1
 all-less f (x ∷ xs) (suc i) h = let a = and_parts (f x) (list_all f xs) h in and_from (f x) (list_all f (remove xs i)) a.0 (all-less f xs i a.1)
+
+-- ---- the box under a quantifier that a box names, before and after
+
+module _ (bs : List Node) (root : ℕ) (w : Sound bs root) (b : Node) (k : ℕ) (m : LosesColumn bs b k) where
+  abbrev g' : Node → Node
+  g' = c.g bs root w b k m
+
+  -- its columns keep their places, or it is b, and those behind column k go down by one
+  pub record Under (q : ℕ) : Type 0 where
+    pub owner : Node
+    pub quant : OwnedQuant
+    pub box : Node
+    pub owner_in : In owner bs
+    pub quant_in : In quant owner.quants
+    pub is_q : quant.id ≡ q
+    pub is_over : box.id ≡ quant.over
+    pub before : box_under bs q ≡ Some box
+    pub after : box_under (map g' bs) q ≡ Some (g' box)
+    pub goes : (((box.id == b.id) ≡ false) × ((j : ℕ) → place_each k (c.qs bs root w b k m) q j ≡ j)) ⊎ ((box ≡ b) × ((j : ℕ) → place_each k (c.qs bs root w b k m) q j ≡ cond (nat_lt k j) (j - 1) j))
+
+  pub under : (y : Node) → In y bs → (q : ℕ) → holds q (named_by y) ≡ true → Under q
+  under y i q h =
+      let f = found bs root w y i q h in
+      let v = c.column-sound bs root w b k m in
+      record {
+        owner = f.owner;
+        quant = f.quant;
+        box = f.box;
+        owner_in = f.owner_in;
+        quant_in = f.quant_in;
+        is_q = f.is_q;
+        is_over = f.is_over;
+        before = found-under bs root w q f;
+        after = found-under (map g' bs) root v q (record {
+          owner = g' f.owner;
+          quant = f.quant;
+          box = g' f.box;
+          owner_in = map-in g' f.owner bs f.owner_in;
+          quant_in = subst (λ z. In f.quant z) (sym (c.g-quants bs root w b k m f.owner)) f.quant_in;
+          is_q = f.is_q;
+          box_in = map-in g' f.box bs f.box_in;
+          is_over = c.g-id bs root w b k m f.box ∙ f.is_over;
+        });
+        goes = elim (cases_Bool (f.quant.over == b.id)) [
+          | inr n ↦ inl (subst (λ z. (z == b.id) ≡ false) (sym f.is_over) n, λ j. place-stays k (c.qs bs root w b k m) q j (subst (λ z. times z (c.qs bs root w b k m) ≡ 0) f.is_q (c.not-over bs root w b k m f.owner f.quant f.owner_in f.quant_in n)))
+          | inl n ↦ (
+              let over : f.quant.over ≡ b.id = eqb-true f.quant.over b.id n in
+              inr (same-box bs f.box b w.ordered f.box_in m.within (f.is_over ∙ over), λ j. place-goes k (c.qs bs root w b k m) q j (subst (λ z. times z (c.qs bs root w b k m) ≡ 1) f.is_q (c.over-b bs root w b k m f.owner f.quant f.owner_in f.quant_in over))))
+        ];
+      }
+
+  -- where it is b, column k of it isn't asked for
+  pub not-asked : Unasked bs b.id k → (y : Node) → In y bs → (q : ℕ) (x : Under q) → x.box ≡ b → types_asked q k y ≡ false
+  not-asked un y i q x e = subst (λ z. types_asked z k y ≡ false) x.is_q (un y x.owner x.quant i x.owner_in x.quant_in (sym x.is_over ∙ ap (λ (z : Node). z.id) e))
 
 -- ---- the edit
 
@@ -199,33 +255,18 @@ module _ (bs : List Node) (root : ℕ) (w : Sound bs root) (typed : Typed bs) (b
   alike : (y : Node) → In y bs → (q j : ℕ) → types_asked q j (cut y) ≡ true → at q j ≡ lookup_of bs q j
   alike y i q j h =
       let a : types_asked q j y ≡ true = c.less-read bs root w b k m (any_in (of_column q j)) (any_in_cond (of_column q j)) y h in
-      let f = found bs root w y i q (asked-named q j y a) in
-      let before = found-under bs root w q f in
-      let after = found-under hs root v q (record {
-        owner = g f.owner;
-        quant = f.quant;
-        box = g f.box;
-        owner_in = map-in g f.owner bs f.owner_in;
-        quant_in = subst (λ z. In f.quant z) (sym (c.g-quants bs root w b k m f.owner)) f.quant_in;
-        is_q = f.is_q;
-        box_in = map-in g f.box bs f.box_in;
-        is_over = c.g-id bs root w b k m f.box ∙ f.is_over;
-      }) in
-      let was : column_of (types_at bs f.box.id) j ≡ lookup_of bs q j = sym (ap (found_by (types_at bs) j) before) ∙ sym (looked bs q j) in
-      let now : (l : ℕ) → via T hs q l ≡ column_of (T f.box.id) l = (λ l. ap (found_by T l) after ∙ ap (λ z. column_of (T z) l) (c.g-id bs root w b k m f.box)) in
-      elim (cases_Bool (f.quant.over == b.id)) [
-        | inr n ↦ (
-            let stays = place-stays k qs q j (subst (λ z. times z qs ≡ 0) f.is_q (c.not-over bs root w b k m f.owner f.quant f.owner_in f.quant_in n)) in
-            ap (via T hs q) stays ∙ now j ∙ ap (λ z. column_of z j) (T-other f.box.id (subst (λ z. (z == b.id) ≡ false) (sym f.is_over) n)) ∙ was)
-        | inl n ↦ (
-            let over : f.quant.over ≡ b.id = eqb-true f.quant.over b.id n in
-            let same : f.box.id ≡ b.id = f.is_over ∙ over in
-            let goes = place-goes k qs q j (subst (λ z. times z qs ≡ 1) f.is_q (c.over-b bs root w b k m f.owner f.quant f.owner_in f.quant_in over)) in
+      let x = under bs root w b k m y i q (asked-named q j y a) in
+      let was : column_of (types_at bs x.box.id) j ≡ lookup_of bs q j = sym (ap (found_by (types_at bs) j) x.before) ∙ sym (looked bs q j) in
+      let now : (l : ℕ) → via T hs q l ≡ column_of (T x.box.id) l = (λ l. ap (found_by T l) x.after ∙ ap (λ z. column_of (T z) l) (c.g-id bs root w b k m x.box)) in
+      elim x.goes [
+        | inl s ↦ ap (via T hs q) (s.1 j) ∙ now j ∙ ap (λ z. column_of z j) (T-other x.box.id s.0) ∙ was
+        | inr s ↦ (
+            let same : x.box.id ≡ b.id = ap (λ (z : Node). z.id) s.0 in
             let ne : (j == k) ≡ false = (elim (cases_Bool (j == k)) [
               | inr e ↦ e
-              | inl e ↦ absurd (clash (types_asked q k y) (subst (λ z. types_asked q z y ≡ true) (eqb-true j k e) a) (subst (λ z. types_asked z k y ≡ false) f.is_q (un y f.owner f.quant i f.owner_in f.quant_in over)))
+              | inl e ↦ absurd (clash (types_asked q k y) (subst (λ z. types_asked q z y ≡ true) (eqb-true j k e) a) (not-asked bs root w b k m un y i q x s.0))
             ]) in
-            ap (via T hs q) goes ∙ now (cond (nat_lt k j) (j - 1) j) ∙ ap (λ z. column_of z (cond (nat_lt k j) (j - 1) j)) (ap T same ∙ T-b) ∙ column-less (types_at bs b.id) k j m.from_one ne ∙ ap (λ z. column_of (types_at bs z) j) (sym same) ∙ was)
+            ap (via T hs q) (s.1 j) ∙ now (cond (nat_lt k j) (j - 1) j) ∙ ap (λ z. column_of z (cond (nat_lt k j) (j - 1) j)) (ap T same ∙ T-b) ∙ column-less (types_at bs b.id) k j m.from_one ne ∙ ap (λ z. column_of (types_at bs z) j) (sym same) ∙ was)
       ]
 
   -- the types of a box's columns, over the boxes as they were, without the cell

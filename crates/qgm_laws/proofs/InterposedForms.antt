@@ -293,7 +293,7 @@ module _ (xs ys : List Node) (root : ℕ) (w : Sound (xs ++ ys) root) (t : Typed
   module _ (n : Node) (over : (x : OwnedQuant) → In x n.quants → (u : Node) × (In u bs × (u.id ≡ x.over))) (alone : is_fed n.parts.role ≡ true → (a d : OwnedQuant) → n.quants ≡ a ∷ (d ∷ []) → only a.id (free_in hs d.over) ≡ true) where
     shape-after : (is_scalar hs n.id ≡ true → nat_lt 0 (width n) ≡ true) → shape_fits root bs n ≡ true → shape_fits root hs n ≡ true
     shape-after = shape-moved root bs hs n
-        (λ x j. (let u = over x j in let b = boxes x.over u.0 u.1.0 u.1.1 in ap width_found b.1 ∙ wide-g u.0 ∙ sym (ap width_found b.0)))
+        (λ x j c. (let u = over x j in let b = boxes x.over u.0 u.1.0 u.1.1 in ap width_found b.1 ∙ wide-g u.0 ∙ sym (ap width_found b.0)))
         (λ x j. (let u = over x j in let b = boxes x.over u.0 u.1.0 u.1.1 in ap magic_found b.1 ∙ ap (λ (p : BoxParts). is_magic p.role) (same-parts u.0) ∙ sym (ap magic_found b.0)))
         alone
 

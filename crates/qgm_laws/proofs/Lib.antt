@@ -79,3 +79,8 @@ pub mod PairLocal
 pub mod InterposedForms
 pub mod AddedForms
 pub mod ColumnTypes
+pub mod ColumnNames
+pub mod ColumnShapes
+pub mod ColumnCut
+pub mod ColumnForms
+pub mod SingleForms

@@ -6,7 +6,7 @@ use Rattle.qgm_core.specs.declared.node.Node.{Node}
 use Rattle.qgm_core.specs.Free.{named_by}
 use Rattle.qgm_core.specs.Lists.{holds}
 use Rattle.qgm_meaning.specs.Scope.{read_by}
-use Rattle.qgm_meaning.specs.Searches.{looking, names, names_arms, names_cond, reads_arms}
+use Rattle.qgm_meaning.specs.Searches.{binds, binds_arms, binds_cond, looking, names, names_arms, names_cond, reads_arms, reads_at_arms}
 use Rattle.qgm_terms.specs.Gathered.{listed_arms}
 use Rattle.qgm_terms.specs.Named.{columns_in, columns_in_cond, nodes_in_cond}
 use Rattle.qgm_terms.specs.Named as named
@@ -19,7 +19,7 @@ use Rattle.qgm_check.specs.Columns.{columns_of}
 use Rattle.qgm_check.specs.Shapes.{nodes_of}
 use Rattle.qgm_laws.specs.Graph.{nodes_in, reads_in}
 use Rattle.qgm_laws.proofs.AnyPut.{conds-more, heads-more}
-use Rattle.qgm_laws.proofs.Lists.{or-false, or-left, or-right}
+use Rattle.qgm_laws.proofs.Lists.{or-false, or-left, or-none, or-right}
 use Rattle.qgm_laws.proofs.Naming.{any-same, named-any, says, says_arms, says_cond}
 use Rattle.std.specs.Prelude as prelude
 
@@ -201,3 +201,55 @@ module _ (q k : ℕ) where
         | inl a ↦ or-left (list_any at_all n.parts.head) (list_any at_cond n.parts.conds.items) (heads-more (λ r j. (r == q) && (j == k)) (λ r j. (r == q) && (j == k)) (λ r. false) (λ r. false) (λ r. false) (λ r. false) (λ r. prelude.not (r == q)) (λ r. true) (λ r j h. h) (λ r h. h) (λ r h. h) (λ r h. refl) n.parts.head a)
         | inr a ↦ or-right (list_any at_all n.parts.head) (list_any at_cond n.parts.conds.items) (conds-more (λ r j. (r == q) && (j == k)) (λ r j. (r == q) && (j == k)) (λ r. false) (λ r. false) (λ r. false) (λ r. false) (λ r. prelude.not (r == q)) (λ r. true) (λ r j h. h) (λ r h. h) (λ r h. h) (λ r h. refl) n.parts.conds.items a)
       ])
+
+-- ---- columns beside the some and every of their quantifier
+
+module _ (q k : ℕ) where
+  beside : (a b r s m n : Bool) → (m ≡ false → a ≡ true → r ≡ true) → (n ≡ false → b ≡ true → s ≡ true) → (m || n) ≡ false → (a || b) ≡ true → (r || s) ≡ true
+  beside a b r s m n f g o t = let z = or-none m n o in elim (or_cases a b t) [ inl x ↦ or-left r s (f z.0 x) | inr x ↦ or-right r s (g z.1 x) ]
+
+  entered : (r : ℕ) (c : Cond) → (binds_cond q c ≡ false → at_cond q k c ≡ true → reads_at_cond q k c ≡ true) → ((r == q) || binds_cond q c) ≡ false → at_cond q k c ≡ true → (prelude.not (r == q) && reads_at_cond q k c) ≡ true
+  entered r c f o t = let z = or-none (r == q) (binds_cond q c) o in ap (λ b. prelude.not b && reads_at_cond q k c) z.0 ∙ f z.1 t
+
+  mutual
+    term-unbound : (x : Term) → binds q x ≡ false → at_all q k x ≡ true → reads_at q k x ≡ true
+    term-unbound (int n) o h = h
+    term-unbound (text s) o h = h
+    term-unbound null_int o h = h
+    term-unbound null_text o h = h
+    term-unbound (col r j) o h = h
+    term-unbound (both u x y) o h = beside (at_all q k x) (at_all q k y) (reads_at q k x) (reads_at q k y) (binds q x) (binds q y) (term-unbound x) (term-unbound y) o h
+    term-unbound (minus_of x) o h = term-unbound x o h
+    term-unbound (choose s x) o h = beside (at_arms q k s) (at_all q k x) (reads_at_arms q k s) (reads_at q k x) (binds_arms q s) (binds q x) (arms-unbound s) (term-unbound x) o h
+    term-unbound count_all o h = h
+    term-unbound (fold f t x) o h = term-unbound x o h
+    term-unbound (scalar r) o h = h
+
+    arms-unbound : (s : Arms) → binds_arms q s ≡ false → at_arms q k s ≡ true → reads_at_arms q k s ≡ true
+    arms-unbound no_arm o h = h
+    arms-unbound (arm c x s) o h =
+        beside (at_cond q k c) (at_all q k x || at_arms q k s) (reads_at_cond q k c) (reads_at q k x || reads_at_arms q k s) (binds_cond q c) (binds q x || binds_arms q s) (cond-unbound c)
+        (beside (at_all q k x) (at_arms q k s) (reads_at q k x) (reads_at_arms q k s) (binds q x) (binds_arms q s) (term-unbound x) (arms-unbound s)) o h
+
+    cond-unbound : (c : Cond) → binds_cond q c ≡ false → at_cond q k c ≡ true → reads_at_cond q k c ≡ true
+    cond-unbound always o h = h
+    cond-unbound (compare sign x y) o h = beside (at_all q k x) (at_all q k y) (reads_at q k x) (reads_at q k y) (binds q x) (binds q y) (term-unbound x) (term-unbound y) o h
+    cond-unbound (is_null x) o h = term-unbound x o h
+    cond-unbound (and c d) o h = beside (at_cond q k c) (at_cond q k d) (reads_at_cond q k c) (reads_at_cond q k d) (binds_cond q c) (binds_cond q d) (cond-unbound c) (cond-unbound d) o h
+    cond-unbound (or c d) o h = beside (at_cond q k c) (at_cond q k d) (reads_at_cond q k c) (reads_at_cond q k d) (binds_cond q c) (binds_cond q d) (cond-unbound c) (cond-unbound d) o h
+    cond-unbound (not c) o h = cond-unbound c o h
+    cond-unbound (some r c) o h = entered r c (cond-unbound c) o h
+    cond-unbound (every r c) o h = entered r c (cond-unbound c) o h
+
+  heads-unbound : (xs : List Term) → list_any (binds q) xs ≡ false → list_any (at_all q k) xs ≡ true → list_any (reads_at q k) xs ≡ true
+  heads-unbound [] o h = h
+  heads-unbound (x ∷ xs) o h = beside (at_all q k x) (list_any (at_all q k) xs) (reads_at q k x) (list_any (reads_at q k) xs) (binds q x) (list_any (binds q) xs) (term-unbound x) (heads-unbound xs) o h
+
+  conds-unbound : (xs : List Cond) → list_any (binds_cond q) xs ≡ false → list_any (at_cond q k) xs ≡ true → list_any (reads_at_cond q k) xs ≡ true
+  conds-unbound [] o h = h
+  conds-unbound (x ∷ xs) o h = beside (at_cond q k x) (list_any (at_cond q k) xs) (reads_at_cond q k x) (list_any (reads_at_cond q k) xs) (binds_cond q x) (list_any (binds_cond q) xs) (cond-unbound x) (conds-unbound xs) o h
+
+  -- a box without a some or every of q reads the columns of q that it names
+  pub unbound-reads : (n : Node) → (list_any (binds q) n.parts.head || list_any (binds_cond q) n.parts.conds.items) ≡ false → list_any (is_at q k) (columns_of n) ≡ true → reads_in q k n ≡ true
+  unbound-reads n o h = beside (list_any (at_all q k) n.parts.head) (list_any (at_cond q k) n.parts.conds.items) (list_any (reads_at q k) n.parts.head) (list_any (reads_at_cond q k) n.parts.conds.items) (list_any (binds q) n.parts.head) (list_any (binds_cond q) n.parts.conds.items)
+      (heads-unbound n.parts.head) (conds-unbound n.parts.conds.items) o (sym (columns-found q k n) ∙ h)

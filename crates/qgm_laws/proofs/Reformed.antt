@@ -138,7 +138,7 @@ module _ (bs hs : List Node) (root : ℕ) (g : Node → Node) (w : Sound bs root
     shapes = λ n i. (
         let y = m.from n i in
         shape-moved root bs hs n
-        (λ r j. (let b = boxes n r i j in ap width_found b.1.1.1.1 ∙ width-g b.0 b.1.0 ∙ sym (ap width_found b.1.1.1.0)))
+        (λ r j c. (let b = boxes n r i j in ap width_found b.1.1.1.1 ∙ width-g b.0 b.1.0 ∙ sym (ap width_found b.1.1.1.0)))
         (λ r j. (let b = boxes n r i j in ap magic_found b.1.1.1.1 ∙ m.magic b.0 b.1.0 ∙ sym (ap magic_found b.1.1.1.0)))
         (λ f a d e. (let x = m.fed n i f a d e in alone-from hs root v d.over a.id x.0 x.1))
         (scalar-wide n i) (subst (λ z. shape_fits root bs z ≡ true) y.1.1 (m.shapes y.0 y.1.0)));

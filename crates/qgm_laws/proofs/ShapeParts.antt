@@ -15,6 +15,7 @@ use Rattle.qgm_core.specs.declared.owned.OwnedQuant.{OwnedQuant}
 use Rattle.qgm_terms.specs.Terms.{Term}
 use Rattle.qgm_check.specs.Shapes.{arm_fits, columns_from, columns_placed, columns_through, fed_by, fed_by_two, heads_are, is_none, is_scalar, is_unfolded, kind_fits, magic_found, node_fits, nodes_of, only, role_fits, shape_fits, width_found}
 use Rattle.qgm_check.specs.Shapes as shapes
+use Rattle.qgm_laws.specs.Changes.{is_set_op}
 use Rattle.qgm_laws.proofs.Lists.{clash, or-left, or-right}
 
 pub record ShapeParts (root : ℕ) (bs : List Node) (n : Node) : Type 0 where
@@ -103,24 +104,29 @@ module _ (bs : List Node) (head : List Term) (a d : OwnedQuant) where
 
 -- ---- a shape sees of the boxes under quantifiers their widths and whether they are magic, and what is looked up under the second of a fed box
 
+-- a set operation or a fed box, which counts the columns of the boxes below it
+abbrev pub counts : Node → Bool
+counts n = is_set_op n.parts.kind || is_fed n.parts.role
+
 module _ (root : ℕ) (bs hs : List Node) (n : Node)
-    (wide : (r : OwnedQuant) → In r n.quants → width_found (first (is_box r.over) hs) ≡ width_found (first (is_box r.over) bs))
+    (wide : (r : OwnedQuant) → In r n.quants → counts n ≡ true → width_found (first (is_box r.over) hs) ≡ width_found (first (is_box r.over) bs))
     (magic : (r : OwnedQuant) → In r n.quants → magic_found (first (is_box r.over) hs) ≡ magic_found (first (is_box r.over) bs))
     (alone : is_fed n.parts.role ≡ true → (a d : OwnedQuant) → n.quants ≡ a ∷ (d ∷ []) → only a.id (free_in hs d.over) ≡ true) where
-  two-moved : (a d : OwnedQuant) → In a n.quants → In d n.quants → only a.id (free_in hs d.over) ≡ true → fed_by_two bs n.parts.head a d ≡ true → fed_by_two hs n.parts.head a d ≡ true
-  two-moved a d i j o h =
+  two-moved : is_fed n.parts.role ≡ true → (a d : OwnedQuant) → In a n.quants → In d n.quants → only a.id (free_in hs d.over) ≡ true → fed_by_two bs n.parts.head a d ≡ true → fed_by_two hs n.parts.head a d ≡ true
+  two-moved f a d i j o h =
+      let c = or-right (is_set_op n.parts.kind) (is_fed n.parts.role) f in
       let p = two-parts bs n.parts.head a d h in
       two-from hs n.parts.head a d (record {
         kinds = p.kinds;
         magic = magic a i ∙ p.magic;
         alone = o;
-        columns = ap₂ (λ u v. heads_are n.parts.head (columns_from a.id 1 u ++ columns_from d.id 1 v)) (wide a i) (wide d j) ∙ p.columns;
+        columns = ap₂ (λ u v. heads_are n.parts.head (columns_from a.id 1 u ++ columns_from d.id 1 v)) (wide a i c) (wide d j c) ∙ p.columns;
       })
 
   fed-moved : is_fed n.parts.role ≡ true → (rs : List OwnedQuant) → n.quants ≡ rs → fed_by bs n.parts.head rs ≡ true → fed_by hs n.parts.head rs ≡ true
   fed-moved f [] e h = h
   fed-moved f (a ∷ []) e h = h
-  fed-moved f (a ∷ (d ∷ [])) e h = two-moved a d (subst (λ z. In a z) (sym e) (inl refl)) (subst (λ z. In d z) (sym e) (inr (inl refl))) (alone f a d e) h
+  fed-moved f (a ∷ (d ∷ [])) e h = two-moved f a d (subst (λ z. In a z) (sym e) (inl refl)) (subst (λ z. In d z) (sym e) (inr (inl refl))) (alone f a d e) h
   fed-moved f (a ∷ (d ∷ (t ∷ rs))) e h = h
 
   role-moved : (k : Role) → n.parts.role ≡ k → role_fits root bs n k ≡ true → role_fits root hs n k ≡ true
@@ -130,16 +136,16 @@ module _ (root : ℕ) (bs hs : List Node) (n : Node)
       let a = and_parts (not (n.id == root) && is_preserve n.parts.distinct && is_none n.parts.conds.items) (fed_by bs n.parts.head n.quants) h in
       and_from (not (n.id == root) && is_preserve n.parts.distinct && is_none n.parts.conds.items) (fed_by hs n.parts.head n.quants) a.0 (fed-moved (ap is_fed e) n.quants refl a.1)
 
-  arms-moved : (rs : List OwnedQuant) → ((r : OwnedQuant) → In r rs → In r n.quants) → list_all (arm_fits hs (width n)) rs ≡ list_all (arm_fits bs (width n)) rs
-  arms-moved [] sub = refl
-  arms-moved (r ∷ rs) sub = ap₂ (λ (k : ℕ) (z : Bool). (k == width n) && z) (wide r (sub r (inl refl))) (arms-moved rs (λ x j. sub x (inr j)))
+  arms-moved : is_set_op n.parts.kind ≡ true → (rs : List OwnedQuant) → ((r : OwnedQuant) → In r rs → In r n.quants) → list_all (arm_fits hs (width n)) rs ≡ list_all (arm_fits bs (width n)) rs
+  arms-moved s [] sub = refl
+  arms-moved s (r ∷ rs) sub = ap₂ (λ (k : ℕ) (z : Bool). (k == width n) && z) (wide r (sub r (inl refl)) (or-left (is_set_op n.parts.kind) (is_fed n.parts.role) s)) (arms-moved s rs (λ x j. sub x (inr j)))
 
-  kind-moved : (k : BoxKind) → kind_fits root bs n k ≡ true → kind_fits root hs n k ≡ true
-  kind-moved (Base t) h = h
-  kind-moved Select h = let x = and_parts (is_unfolded n) (role_fits root bs n n.parts.role) h in and_from (is_unfolded n) (role_fits root hs n n.parts.role) x.0 (role-moved n.parts.role refl x.1)
-  kind-moved (Group k) h = h
-  kind-moved (SetOp form types) h = ap (λ z. shapes.are_F 2 n.quants && z && nat_lt 0 (width n) && is_none n.parts.conds.items && is_none n.parts.head && is_plain n.parts.role) (arms-moved n.quants (λ r j. j)) ∙ h
-  kind-moved OuterJoin h = h
+  kind-moved : (k : BoxKind) → n.parts.kind ≡ k → kind_fits root bs n k ≡ true → kind_fits root hs n k ≡ true
+  kind-moved (Base t) e h = h
+  kind-moved Select e h = let x = and_parts (is_unfolded n) (role_fits root bs n n.parts.role) h in and_from (is_unfolded n) (role_fits root hs n n.parts.role) x.0 (role-moved n.parts.role refl x.1)
+  kind-moved (Group k) e h = h
+  kind-moved (SetOp form types) e h = ap (λ z. shapes.are_F 2 n.quants && z && nat_lt 0 (width n) && is_none n.parts.conds.items && is_none n.parts.head && is_plain n.parts.role) (arms-moved (ap is_set_op e) n.quants (λ r j. j)) ∙ h
+  kind-moved OuterJoin e h = h
 
   pub shape-moved : (is_scalar hs n.id ≡ true → nat_lt 0 (width n) ≡ true) → shape_fits root bs n ≡ true → shape_fits root hs n ≡ true
-  shape-moved scalar h = let p = shape-parts root bs n h in shape-from root hs n (record { kind = kind-moved n.parts.kind p.kind; nodes = p.nodes; placed = p.placed; scalar = scalar })
+  shape-moved scalar h = let p = shape-parts root bs n h in shape-from root hs n (record { kind = kind-moved n.parts.kind refl p.kind; nodes = p.nodes; placed = p.placed; scalar = scalar })

@@ -55,7 +55,7 @@ use Rattle.qgm_laws.proofs.Unput.{heads-none}
 
 -- ---- lists
 
-none-map : {X Y : Type 0} (f : X → Y) (xs : List X) → is_none (map f xs) ≡ is_none xs
+pub none-map : {X Y : Type 0} (f : X → Y) (xs : List X) → is_none (map f xs) ≡ is_none xs
 none-map f [] = refl
 none-map f (x ∷ xs) = refl
 

@@ -55,7 +55,7 @@ module _ (xs ys : List Node) (g : QueryGraph) (w : Sound (xs ++ ys) g.root) (b p
   read-s : (q : ℕ) → read_by s q ≡ true → (p == q) ≡ true
   read-s q t = sym (or-false (p == q)) ∙ sym (or-false ((p == q) || false)) ∙ t
 
-  interposes : Interposes xs ys g.root s o c r
+  pub interposes : Interposes xs ys g.root s o c r
   interposes = record {
     adds = record {
       fresh = m.new_box;

@@ -1,4 +1,4 @@
--- P1 and U2 on small graphs.
+-- P1, U2 and a dropped column on small graphs.
 use Rattle.std.specs.Prelude.{ℕ, ◌≡◌, ◌++◌, pos, codes, List, [], ◌∷◌, None}
 use Rattle.qgm_core.specs.declared.kinds.BoxKind.{BoxKind}
 use Rattle.qgm_core.specs.declared.kinds.BoxKind.TheVariants.{Group, Select}
@@ -8,12 +8,14 @@ use Rattle.qgm_core.specs.declared.kinds.Role.TheVariants.{Plain}
 use Rattle.qgm_core.specs.declared.node.Node.{Node}
 use Rattle.qgm_core.specs.declared.owned.OwnedQuant.{OwnedQuant}
 use Rattle.qgm_core.specs.Boxes.{QueryGraph}
+use Rattle.qgm_core.specs.Edits.{drop_column}
 use Rattle.qgm_check.specs.WellFormed.{fault}
 use Rattle.qgm_meaning.specs.Examples.{stored, tables}
 use Rattle.qgm_meaning.specs.Meaning.{root_bag}
 use Rattle.qgm_terms.specs.Terms.{Cond, Term, both, col, compare, count_all, equal, int, scalar}
 use Rattle.qgm_terms.specs.declared.tree.Op.TheVariants.{Add}
 use Rattle.qgm_laws.specs.Examples.{f}
+use Rattle.qgm_laws.specs.FormedColumn.{MayDropColumn}
 use Rattle.qgm_laws.specs.Graph.{Sound}
 use Rattle.qgm_laws.specs.Push.{MayPush, pushed}
 use Rattle.qgm_laws.specs.Single.{MaySingle, singled}
@@ -69,3 +71,21 @@ pub record Singled : Type 0 where
   pub may : MaySingle (counting ∷ []) below 1 4 4 counting counted (s 2 2)
   pub after : fault (singled (counting ∷ []) below 4 4 counting counted (s 2 2) scalars) ≡ None
   pub same : root_bag tables (singled (counting ∷ []) below 4 4 counting counted (s 2 2) scalars) ≡ root_bag tables scalars
+
+-- ---- box 2 loses its second column
+
+abbrev pub naming : Node
+naming = node 1 Select [] (col 1 3 ∷ (col 1 1 ∷ [])) (f 1 2 ∷ [])
+
+abbrev pub named : Node
+named = node 2 Select [] (col 2 1 ∷ (int (pos 1) ∷ (int (pos 2) ∷ []))) (f 2 3 ∷ [])
+
+abbrev pub broad : QueryGraph
+broad = graph_of (naming ∷ (named ∷ (node 3 (stored (codes "T")) [] [] [] ∷ [])))
+
+-- no box names the column; the check finds no fault before and after
+pub record Shortened : Type 0 where
+  pub checked : fault broad ≡ None
+  pub may : MayDropColumn broad named 2
+  pub after : fault (drop_column 2 2 broad) ≡ None
+  pub same : root_bag tables (drop_column 2 2 broad) ≡ root_bag tables broad

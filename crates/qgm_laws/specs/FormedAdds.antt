@@ -1,5 +1,5 @@
--- What the check finds where a box is put between a quantifier and the box that it ranges over.
-use Rattle.std.specs.Prelude.{ℕ, ◌≡◌, ◌==◌, ◌-◌, ◌++◌, ◌&&◌, ◌||◌, nat_lt, if◌then◌else◌, Bool, true, false, List, Option, None, slice_get}
+-- What the check finds where a box with quantifiers is added, and where one is put between a quantifier and the box that it ranges over.
+use Rattle.std.specs.Prelude.{ℕ, ◌≡◌, ◌==◌, ◌-◌, ◌++◌, ◌&&◌, ◌||◌, nat_lt, if◌then◌else◌, Bool, true, false, List, ◌∷◌, Option, None, slice_get}
 use Rattle.std.specs.List.{list_all, list_any}
 use Rattle.sql_value.specs.declared.order_key.SqlType.{SqlType}
 use Rattle.qgm_check.specs.Columns.{columns_of, fits, over_box, places_fit, within}
@@ -14,11 +14,13 @@ use Rattle.qgm_core.specs.Lists.{EachOnce, In, first, holds}
 use Rattle.qgm_core.specs.declared.kinds.BoxKind.TheVariants.{Select}
 use Rattle.qgm_core.specs.declared.node.Node.{Node}
 use Rattle.qgm_core.specs.declared.owned.OwnedQuant.{OwnedQuant}
+use Rattle.qgm_meaning.specs.Scope.{loose}
 use Rattle.qgm_meaning.specs.Searches.{looking}
 use Rattle.qgm_terms.specs.Wanted.{Wanted, any_in, any_in_cond}
 use Rattle.qgm_terms.specs.declared.named.Column.{Column}
-use Rattle.qgm_laws.specs.Adds.{Interposes, interposed}
+use Rattle.qgm_laws.specs.Adds.{Adds, Interposes, interposed}
 use Rattle.qgm_laws.specs.Reforms.{types_at}
+use Rattle.qgm_laws.specs.Scoped.{Scoped}
 
 -- column k of q, or where k is 1 a scalar of q
 abbrev pub of_column : ℕ → ℕ → Wanted
@@ -39,6 +41,22 @@ own_box bs s q = over_box bs (first (is_quant q) s.quants)
 -- the types of its columns
 abbrev pub own_types : List Node → Node → Lookup
 own_types bs s q k = type_found (types_of bs) k (own_box bs s q)
+
+-- s may be added, a box over which no quantifier ranges: as for soundness, and it has types, columns and its shape over the boxes as they were
+-- what its S quantifiers range over has a column, and what it counts isn't PERMIT
+pub record MayAdd (xs ys : List Node) (root : ℕ) (s : Node) : Type 0 where
+  pub adds : Adds xs ys root s
+  pub scoped : Scoped (loose (xs ++ ys)) s
+  pub closed : (p : OwnedQuant) → In p s.quants → (q : ℕ) → loose (xs ++ ys) p.over q ≡ false
+  pub types : types_agree_at (own_types (xs ++ ys) s) (types_of (xs ++ ys)) s ≡ true
+  pub columns : (places_fit s.parts.kind && list_all (λ d. fits d.place (own_box (xs ++ ys) s d.quant)) (columns_of s)) ≡ true
+  pub shape : shape_fits root (xs ++ ys) s ≡ true
+  pub scalars : (p : OwnedQuant) (z : Node) → In p s.quants → In z (xs ++ ys) → z.id ≡ p.over → is_S p.kind ≡ true → nat_lt 0 (width z) ≡ true
+  pub unseen : (p : OwnedQuant) (z : Node) → In p s.quants → In z (xs ++ ys) → z.id ≡ p.over → is_F_or_S p.kind ≡ true → is_permit z.parts.distinct ≡ false
+
+-- the check finds nothing after it where it found nothing before
+abbrev pub AddWellFormed : Type 0
+AddWellFormed = (xs ys : List Node) (g : QueryGraph) → g.boxes ≡ xs ++ ys → EachOnce (numbers g.boxes) → fault g ≡ None → (s : Node) → MayAdd xs ys g.root s → fault (on_boxes (λ boxes. xs ++ s ∷ ys) g) ≡ None
 
 -- quantifier r of o, a select that isn't fed, moves onto s, which ranges over r's box
 -- s isn't fed, names its own quantifiers, and has types, columns and its shape over the boxes as they were, and the columns that are named of r with their types

@@ -1,14 +1,15 @@
 -- U2, an S quantifier over a box ranges over a group of it without keys: its one row is the single cell.
-use Rattle.std.specs.Prelude.{ℕ, ◌≡◌, ◌==◌, ◌≤◌, ◌++◌, ◌⊎◌, pos, false, List, [], ◌∷◌}
+use Rattle.std.specs.Prelude.{ℕ, ◌≡◌, ◌==◌, ◌≤◌, ◌++◌, ◌⊎◌, pos, false, List, [], ◌∷◌, None}
 use Rattle.std.specs.List.{list_any}
 use Rattle.sql_value.specs.declared.cell.Cell.{Cell}
 use Rattle.row_bag.specs.Bags.{bind, unit}
 use Rattle.row_bag.specs.Subqueries.{only_cell}
 use Rattle.row_bag.specs.declared.row.Row.{Row}
 use Rattle.row_bag.specs.declared.tables.Table.{Table}
-use Rattle.qgm_core.specs.Boxes.{QueryGraph, has_box, owns, width}
+use Rattle.qgm_check.specs.WellFormed.{fault}
+use Rattle.qgm_core.specs.Boxes.{QueryGraph, has_box, numbers, owns, width}
 use Rattle.qgm_core.specs.Edits.{on_boxes, range}
-use Rattle.qgm_core.specs.Lists.{In}
+use Rattle.qgm_core.specs.Lists.{EachOnce, In}
 use Rattle.qgm_core.specs.declared.kinds.BoxKind.TheVariants.{Group, Select}
 use Rattle.qgm_core.specs.declared.kinds.Distinct.TheVariants.{Preserve}
 use Rattle.qgm_core.specs.declared.kinds.QuantKind.TheVariants.{F, S}
@@ -63,6 +64,12 @@ singled xs ys b p o c r g = on_boxes (λ boxes. interposed xs ys (single_box b p
 -- U2
 abbrev pub SingleKeeps : Type 0
 SingleKeeps = (xs ys : List Node) (g : QueryGraph) → g.boxes ≡ xs ++ ys → Sound g.boxes g.root → (b p : ℕ) (o c : Node) (r : OwnedQuant) → MaySingle xs ys g.root b p o c r → Keeps g (singled xs ys b p o c r g)
+
+-- and the check finds nothing after it where it found nothing before
+abbrev pub SingleWellFormed : Type 0
+SingleWellFormed =
+    (xs ys : List Node) (g : QueryGraph) → g.boxes ≡ xs ++ ys → EachOnce (numbers g.boxes) → fault g ≡ None → (b p : ℕ) (o c : Node) (r : OwnedQuant)
+    → MaySingle xs ys g.root b p o c r → fault (singled xs ys b p o c r g) ≡ None
 
 -- two rows, of which one has an error in its cell: the scalar is the cardinality error, and the single is the cell's
 abbrev pub two_rows : Bag

@@ -1,10 +1,10 @@
 // The laws, as theorems.
-ghost use Rattle.qgm_laws.specs.Asked.{Pushed, Singled};
+ghost use Rattle.qgm_laws.specs.Asked.{Pushed, Shortened, Singled};
 ghost use Rattle.qgm_laws.specs.EditLaws.{EditsPlaced, NewPlaced};
 ghost use Rattle.qgm_laws.specs.Examples.{Dropped, Same};
-ghost use Rattle.qgm_laws.specs.FormedAdds.{InterposedWellFormed};
+ghost use Rattle.qgm_laws.specs.FormedAdds.{AddWellFormed, InterposedWellFormed};
 ghost use Rattle.qgm_laws.specs.FormedBox.{AddBoxWellFormed};
-ghost use Rattle.qgm_laws.specs.FormedColumn.{DropColumnTyped};
+ghost use Rattle.qgm_laws.specs.FormedColumn.{DropColumnTyped, DropColumnWellFormed};
 ghost use Rattle.qgm_laws.specs.FormedEdits.{EditsWellFormed, PushWellFormed};
 ghost use Rattle.qgm_laws.specs.MergeDistinct.{MergeDistinctKeeps};
 ghost use Rattle.qgm_laws.specs.MergePermit.{ClosedMerges, MergeAny, MergePermitKeeps, PermitRead};
@@ -15,7 +15,7 @@ ghost use Rattle.qgm_laws.specs.Reforms.{BoxesFormed, Reformed};
 ghost use Rattle.qgm_laws.specs.Shaped.{CompactShaped, CompactTyped, CompactWellFormed, DropShaped, DropTyped, DropWellFormed, PlacedIsChecked, PushTyped, SoundIsChecked};
 ghost use Rattle.qgm_laws.specs.SoundEdits.{AddSound, EditsAreMaps, KeepBags, KeepSound, NearlyCompact, ScopeLaws};
 ghost use Rattle.qgm_laws.specs.Facts.{FactsOfAgreeing, LooksStay};
-ghost use Rattle.qgm_laws.specs.Single.{SingleDiffers, SingleKeeps};
+ghost use Rattle.qgm_laws.specs.Single.{SingleDiffers, SingleKeeps, SingleWellFormed};
 ghost use Rattle.qgm_laws.specs.Laws.{BoundAbove, CheckedFromSound, CompactKeeps, DropKeeps, KeepsChained, MergeKeeps, SettledFromChecked};
 
 /// What a box looks up is bound above it; steps that keep all chain; dropping boxes that aren't reached, M2, M1 (at an ENFORCE box over an ENFORCE box too, and at a PERMIT box where rows are clean), U2 and P1 keep all; what is tested of columns that are read is what rules take. It does nothing.
@@ -78,7 +78,7 @@ pub fn checked_laws()
     ensures permit_read { PermitRead }
 {}
 
-/// What each kind of edit keeps of types and shapes: the check, which finds nothing against a graph, finds nothing after the edit, at its condition; where a column is dropped, types agree. It does nothing.
+/// What each kind of edit keeps of types and shapes: the check, which finds nothing against a graph, finds nothing after the edit, at its condition, and nothing after U2; where a column is dropped, types agree in any sound graph; of a small graph a column may go. It does nothing.
 pub fn form_laws()
     ensures reformed { Reformed }
     ensures boxes { BoxesFormed }
@@ -86,5 +86,9 @@ pub fn form_laws()
     ensures push { PushWellFormed }
     ensures interposed { InterposedWellFormed }
     ensures add_box { AddBoxWellFormed }
+    ensures added { AddWellFormed }
     ensures drop_column_typed { DropColumnTyped }
+    ensures drop_column_formed { DropColumnWellFormed }
+    ensures shortened { Shortened }
+    ensures single { SingleWellFormed }
 {}

@@ -1,6 +1,8 @@
-use Rattle.qgm_laws.proofs.AddedForms.{add-box-formed}
+use Rattle.qgm_laws.proofs.AddedForms.{add-box-formed, added-formed}
+use Rattle.qgm_laws.proofs.Asked.{shortened-example}
 use Rattle.qgm_laws.proofs.BelowForms.{move-below-formed}
 use Rattle.qgm_laws.proofs.BoxForms.{boxes-formed}
+use Rattle.qgm_laws.proofs.ColumnForms.{drop-column-formed}
 use Rattle.qgm_laws.proofs.ColumnTypes.{drop-column-typed}
 use Rattle.qgm_laws.proofs.DistinctForms.{reserve-formed, set-distinct-formed}
 use Rattle.qgm_laws.proofs.EditForms.{add-quant-formed, drop-quant-formed, put-quant-formed, redirect-formed}
@@ -9,6 +11,7 @@ use Rattle.qgm_laws.proofs.MoveForms.{conjunct-formed}
 use Rattle.qgm_laws.proofs.MoveQuantForms.{quant-formed}
 use Rattle.qgm_laws.proofs.PushForms.{push-formed}
 use Rattle.qgm_laws.proofs.Reformed.{reformed}
+use Rattle.qgm_laws.proofs.SingleForms.{single-formed}
 use Rattle.qgm_laws.proofs.SubstituteForms.{substitute-formed}
 use Rattle.qgm_laws.proofs.laws.form_laws.Goals as goal
 
@@ -43,3 +46,15 @@ returns-clause-add_box c = add-box-formed
 
 pub returns-clause-drop_column_typed : goal.returns-clause-drop_column_typed
 returns-clause-drop_column_typed c = drop-column-typed
+
+pub returns-clause-drop_column_formed : goal.returns-clause-drop_column_formed
+returns-clause-drop_column_formed c = drop-column-formed
+
+pub returns-clause-single : goal.returns-clause-single
+returns-clause-single c = single-formed
+
+pub returns-clause-added : goal.returns-clause-added
+returns-clause-added c = added-formed
+
+pub returns-clause-shortened : goal.returns-clause-shortened
+returns-clause-shortened c = shortened-example
