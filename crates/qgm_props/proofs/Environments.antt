@@ -13,9 +13,10 @@ use Rattle.qgm_meaning.specs.Values.{Bag, Environment, row_of}
 use Rattle.qgm_meaning.proofs.Frames.{either-left, either-right}
 use Rattle.qgm_props.specs.Facts.{HasAtMostOne, IsClean, IsErrorFree, is_sound}
 use Rattle.qgm_props.proofs.EachClean.{clean-each}
-use Rattle.qgm_props.specs.Holding.{AllBound, Fitting, Holds, is_bound}
+use Rattle.qgm_props.specs.Holding.{is_bound}
 use Rattle.qgm_props.specs.Inferred.{Fact, Facts, at_most_one, clean, error_free, error_free_under, not_null, not_null_under, of_over, says}
 use Rattle.qgm_props.specs.Laws.{Premises}
+use Rattle.qgm_props.proofs.Partial.{AllBoundIn, FittingIn, HoldsIn, is_bound_in}
 use Rattle.qgm_props.proofs.Rows.{occurs-each}
 use Rattle.qgm_props.proofs.Terms.{SoundColumns, SoundRows, no-cell}
 
@@ -47,11 +48,11 @@ found-first (t ∷ rs) r d i = elim i [
     one true w h j = absurd (let x : holds t.id (map (λ r. r.id) rs) ≡ true = subst (λ p. holds p (map (λ r. r.id) rs) ≡ true) (sym (eqb-true t.id r.id w)) (held rs r j) in let y : true ≡ false = sym x ∙ d.0 in let z : ⊥ = cc in z)
     one false w h j = h
 
-module _ (tables : List Table) (ns : List Node) (known : Facts) (given : Premises tables ns) (all : (fact : Fact) → says known fact ≡ true → Holds tables ns fact) where
+module _ (partial : Bool) (tables : List Table) (ns : List Node) (known : Facts) (given : Premises tables ns) (all : (fact : Fact) → says known fact ≡ true → HoldsIn partial tables ns fact) where
   abbrev pub bags : Family
   bags = bag_in tables ns
 
-  pub columns-sound : (env : Environment) → Fitting bags ns env → SoundColumns ns known env
+  pub columns-sound : (env : Environment) → FittingIn partial bags ns env → SoundColumns ns known env
   columns-sound [] f q k e = no-cell k
   columns-sound (binding ∷ env) f q k e = one (columns-sound env f.1 q k e) (binding.0 == q) refl
     where
@@ -62,17 +63,19 @@ module _ (tables : List Table) (ns : List Node) (known : Facts) (given : Premise
           occurs-each (λ cells. is_sound (cell_of k cells) ≡ true) (bags f.0.range.over env) (all (error_free f.0.range.over k) t env f.1 f.0.before) binding.1 f.0.row
       one i false w = i
 
-  pub columns-filled : (env : Environment) → Fitting bags ns env → (q k : ℕ) → is_bound q env ≡ true → not_null_under ns known q k ≡ true → cell_of k (row_of q env) ≢ Null
-  columns-filled [] f q k b e = absurd (let z : ⊥ = cc in z)
-  columns-filled (binding ∷ env) f q k b e = one (columns-filled env f.1 q k) (binding.0 == q) refl b
+  pub columns-filled : partial ≡ false → (env : Environment) → FittingIn partial bags ns env → (q k : ℕ) → is_bound_in partial q env ≡ true → not_null_under ns known q k ≡ true → cell_of k (row_of q env) ≢ Null
+  columns-filled whole env f q k b e = filled env f (subst (λ p. (p || is_bound q env) ≡ true) whole b)
     where
-      one : (is_bound q env ≡ true → not_null_under ns known q k ≡ true → cell_of k (row_of q env) ≢ Null) → (b : Bool) → (binding.0 == q) ≡ b → (b || is_bound q env) ≡ true
-          → cell_of k (cond b binding.1 (row_of q env)) ≢ Null
-      one i true w x =
-          let h : not_null_under ns known binding.0 k ≡ true = subst (λ p. not_null_under ns known p k ≡ true) (sym (eqb-true binding.0 q w)) e in
-          let t : known.not_null f.0.range.over k ≡ true = sym (ap (of_over false (λ b. known.not_null b k)) f.0.owned) ∙ h in
-          occurs-each (λ cells. cell_of k cells ≢ Null) (bags f.0.range.over env) (all (not_null f.0.range.over k) t env f.1 f.0.before) binding.1 f.0.row
-      one i false w x = i x e
+      filled : (env : Environment) → FittingIn partial bags ns env → is_bound q env ≡ true → cell_of k (row_of q env) ≢ Null
+      filled [] f b = absurd (let z : ⊥ = cc in z)
+      filled (binding ∷ env) f b = one (filled env f.1) (binding.0 == q) refl b
+        where
+          one : (is_bound q env ≡ true → cell_of k (row_of q env) ≢ Null) → (b : Bool) → (binding.0 == q) ≡ b → (b || is_bound q env) ≡ true → cell_of k (cond b binding.1 (row_of q env)) ≢ Null
+          one i true w x =
+              let h : not_null_under ns known binding.0 k ≡ true = subst (λ p. not_null_under ns known p k ≡ true) (sym (eqb-true binding.0 q w)) e in
+              let t : known.not_null f.0.range.over k ≡ true = sym (ap (of_over false (λ b. known.not_null b k)) f.0.owned) ∙ h in
+              occurs-each (λ cells. cell_of k cells ≢ Null) (bags f.0.range.over env) (all (not_null f.0.range.over k) t whole env f.1 f.0.before) binding.1 f.0.row
+          one i false w x = i x
 
   -- ---- a box among these
 
@@ -89,14 +92,14 @@ module _ (tables : List Table) (ns : List Node) (known : Facts) (given : Premise
     known-of r i said = ap (of_over false said) (given.found n r here i)
 
     -- what is known of the boxes under its quantifiers holds of their rows, where what these look up is bound
-    pub rows-sound : (env : Environment) → Fitting bags ns env → ((r : OwnedQuant) → In r n.quants → AllBound ns r.over env) → SoundRows ns known (λ q. rows q env)
+    pub rows-sound : (env : Environment) → FittingIn partial bags ns env → ((r : OwnedQuant) → In r n.quants → AllBoundIn partial ns r.over env) → SoundRows ns known (λ q. rows q env)
     rows-sound env f b = record {
       clean = λ q h. clean-each (rows q env) (at IsClean known.clean (λ c k. all (clean c) k env f) q refl h);
       free = λ q k h. at (IsErrorFree k) (λ c. known.error_free c k) (λ c j. all (error_free c k) j env f) q tt h;
       single = λ q h. at HasAtMostOne known.at_most_one (λ c k. all (at_most_one c) k env f) q (omega (arith)) h;
     }
       where
-        at : (P : Bag → Type 0) (said : ℕ → Bool) → ((c : ℕ) → said c ≡ true → AllBound ns c env → P (bags c env)) → (q : ℕ) → P [] → of_over false said (range_in q (first (owns q) ns)) ≡ true → P (rows q env)
+        at : (P : Bag → Type 0) (said : ℕ → Bool) → ((c : ℕ) → said c ≡ true → AllBoundIn partial ns c env → P (bags c env)) → (q : ℕ) → P [] → of_over false said (range_in q (first (owns q) ns)) ≡ true → P (rows q env)
         at P said holds q none h = one (first (is_quant q) n.quants) refl
           where
             one : (o : Option OwnedQuant) → first (is_quant q) n.quants ≡ o → P (rows_found o bags env)

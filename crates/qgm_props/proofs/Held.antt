@@ -1,5 +1,5 @@
 -- What is inferred of a box of each kind holds.
-use Rattle.std.proofs.Common.{ℕ, zero, suc, ◌≡◌, ◌≢◌, ◌≤◌, ◌<◌, nat_le, nat_lt, ◌==◌, ◌&&◌, ◌||◌, cond, Bool, true, false, List, [], ◌∷◌, ◌++◌, map, take, length, replicate, Option, Some, None, eqb-true, refl, sym, ap, subst, ◌∙◌, arith, inl, inr}
+use Rattle.std.proofs.Common.{ℕ, zero, suc, ◌≡◌, ◌≢◌, ◌≤◌, nat_le, ◌==◌, ◌&&◌, ◌||◌, cond, Bool, true, false, List, [], ◌∷◌, ◌++◌, map, take, length, Option, Some, None, eqb-true, refl, sym, ap, subst, ◌∙◌, arith, inl, inr}
 use Rattle.std.proofs.Common as p
 use Rattle.std.proofs.lemmas.Bool.{and_parts, and_from, eq-eqb, leb-true, leb-false}
 use Rattle.std.specs.List.{list_any, list_all}
@@ -34,10 +34,10 @@ use Rattle.qgm_meaning.specs.Values.{Bag, Environment, bound, head_cells, row_of
 use Rattle.qgm_meaning.specs.Widths.{Wide}
 use Rattle.qgm_meaning.proofs.Frames.{either-left, either-right}
 use Rattle.qgm_terms.specs.Wanted.{reads, reads_cond}
-use Rattle.qgm_terms.specs.Terms.{Term, int, text, null_int, null_text, col, scalar, both, minus_of, choose, count_all, fold, Cond}
+use Rattle.qgm_terms.specs.Terms.{Term, int, text, null_int, null_text, col, scalar, both, minus_of, choose, count_all, fold}
 use Rattle.qgm_props.specs.Facts.{EachThere, HasAtMostOne, HasExactlyOne, IsClean, IsErrorFree, IsNotNull, is_sound}
 use Rattle.qgm_props.proofs.EachClean.{EachClean, clean-each}
-use Rattle.qgm_props.specs.Holding.{AllBound, Fitting, Holds, is_bound}
+use Rattle.qgm_props.specs.Holding.{is_bound}
 use Rattle.qgm_props.specs.Inferred.{Fact, Facts, arms_error_free, at_most_one, at_place, clean, clean_op, cond_free, error_free, exactly_one, free_op, holds_left, holds_value, is_count, is_free, not_null, not_null_under, says, under_first, under_second, under_two}
 use Rattle.qgm_props.specs.Laws.{Premises}
 use Rattle.qgm_props.proofs.Environments.{columns-sound, known-of, rows, rows-are, rows-sound}
@@ -45,6 +45,7 @@ use Rattle.qgm_props.proofs.Folds.{clean-among, clean-none, uncollapsed}
 use Rattle.qgm_props.proofs.HeldGroups.{fold-sound, group-each, no-key-error, nothing-sound}
 use Rattle.qgm_props.proofs.HeldOuters.{null-bound, outer-clean, outer-each, outer-exact, outer-single}
 use Rattle.qgm_props.proofs.HeldSets.{NoneIn, clean-combined, combined-clean, combined-each, none-in-arms, places-all}
+use Rattle.qgm_props.proofs.Partial.{AllBoundIn, FittingIn, HoldsIn, is_bound_in}
 use Rattle.qgm_props.proofs.Rows.{clean-bind, clean-once, occurs-each}
 use Rattle.qgm_props.proofs.Selects.{Ready, head-cell, value-filled}
 use Rattle.qgm_props.proofs.Wide.{arm-rows}
@@ -57,18 +58,18 @@ any-from {X} p x (y ∷ xs) i h = elim i [
   | inr j ↦ either-right (p y) (list_any p xs) (any-from p x xs j h)
 ]
 
-module _ (tables : List Table) (ns : List Node) (known : Facts) (given : Premises tables ns) (all : (fact : Fact) → says known fact ≡ true → Holds tables ns fact) where
-  module _ (n : Node) (here : In n ns) (env : Environment) (fit : Fitting (bag_in tables ns) ns env) where
+module _ (partial : Bool) (tables : List Table) (ns : List Node) (known : Facts) (given : Premises tables ns) (all : (fact : Fact) → says known fact ≡ true → HoldsIn partial tables ns fact) where
+  module _ (n : Node) (here : In n ns) (env : Environment) (fit : FittingIn partial (bag_in tables ns) ns env) where
     abbrev pub s : Family
-    s = rows tables ns known given all n here
+    s = rows partial tables ns known given all n here
 
     -- what the box looks up, being of this kind, is bound
     abbrev pub Looked : BoxKind → Type 0
-    Looked kind = (q : ℕ) → loose_by kind n (loose ns) q ≡ true → is_bound q env ≡ true
+    Looked kind = (q : ℕ) → loose_by kind n (loose ns) q ≡ true → is_bound_in partial q env ≡ true
 
     -- ---- a select
 
-    pub ready : Looked Select → Ready tables ns known given all n here n.quants env
+    pub ready : Looked Select → Ready partial tables ns known given all n here n.quants env
     ready look = record { fit = fit; bound-all = look; own = λ r i. i }
 
     -- ---- a quantifier of a box that shows none of its own
@@ -81,19 +82,19 @@ module _ (tables : List Table) (ns : List Node) (known : Facts) (given : Premise
     ]
 
     -- the boxes under the quantifiers have what they look up
-    module _ (unders : (q : ℕ) → under_any n.quants (loose ns) q ≡ true → is_bound q env ≡ true) where
-      pub under-bound : (r : OwnedQuant) → In r n.quants → AllBound ns r.over env
+    module _ (unders : (q : ℕ) → under_any n.quants (loose ns) q ≡ true → is_bound_in partial q env ≡ true) where
+      pub under-bound : (r : OwnedQuant) → In r n.quants → AllBoundIn partial ns r.over env
       under-bound r i q h = unders q (any-under n.quants r q i h)
 
-      pub under-holds : (P : Bag → Type 0) (r : OwnedQuant) → In r n.quants → ((env : Environment) → Fitting (bag_in tables ns) ns env → AllBound ns r.over env → P (bag_in tables ns r.over env)) → P (s r.id env)
-      under-holds P r i h = subst P (sym (rows-are tables ns known given all n here r i env)) (h env fit (under-bound r i))
+      pub under-holds : (P : Bag → Type 0) (r : OwnedQuant) → In r n.quants → ((env : Environment) → FittingIn partial (bag_in tables ns) ns env → AllBoundIn partial ns r.over env → P (bag_in tables ns r.over env)) → P (s r.id env)
+      under-holds P r i h = subst P (sym (rows-are partial tables ns known given all n here r i env)) (h env fit (under-bound r i))
 
       pub under-rows : SoundRows ns known (λ q. s q env)
-      under-rows = rows-sound tables ns known given all n here env fit under-bound
+      under-rows = rows-sound partial tables ns known given all n here env fit under-bound
 
       -- a quantifier bound to one of its rows
       pub one-bound : (r : OwnedQuant) → In r n.quants → (cells : List Cell) → occurs cells (s r.id env) ≡ true → SoundColumns ns known (bound r.id cells env)
-      one-bound r i cells o = sound-bound ns known (λ q. s q env) under-rows r.id cells env (columns-sound tables ns known given all env fit) o
+      one-bound r i cells o = sound-bound ns known (λ q. s q env) under-rows r.id cells env (columns-sound partial tables ns known given all env fit) o
 
       -- and two
       pub two-bound : (r t : OwnedQuant) → In r n.quants → In t n.quants → (a b : List Cell) → occurs a (s r.id env) ≡ true → occurs b (s t.id env) ≡ true → SoundColumns ns known (bound t.id b (bound r.id a env))
@@ -125,16 +126,16 @@ module _ (tables : List Table) (ns : List Node) (known : Facts) (given : Premise
     second-own p q more e = subst (In q) (sym e) (inr (inl refl))
 
     -- what is looked up below a box that shows none of its own
-    group-under : (k : ℕ) → Looked (Group k) → (q : ℕ) → under_any n.quants (loose ns) q ≡ true → is_bound q env ≡ true
+    group-under : (k : ℕ) → Looked (Group k) → (q : ℕ) → under_any n.quants (loose ns) q ≡ true → is_bound_in partial q env ≡ true
     group-under k look q h = look q (either-left (under_any n.quants (loose ns) q) (read_beyond (take 1 n.quants) (read_by n) q) h)
 
-    outer-under : Looked OuterJoin → (q : ℕ) → under_any n.quants (loose ns) q ≡ true → is_bound q env ≡ true
+    outer-under : Looked OuterJoin → (q : ℕ) → under_any n.quants (loose ns) q ≡ true → is_bound_in partial q env ≡ true
     outer-under look q h = look q (either-left (under_any n.quants (loose ns) q) (read_beyond (take 2 n.quants) (read_by n) q) h)
 
     -- ---- set operations
 
     -- an operation over clean arms without errors reads no error
-    no-error-read : (form : SetOperator) (types : List SqlType) → n.parts.kind ≡ SetOp form types → (unders : (q : ℕ) → under_any n.quants (loose ns) q ≡ true → is_bound q env ≡ true)
+    no-error-read : (form : SetOperator) (types : List SqlType) → n.parts.kind ≡ SetOp form types → (unders : (q : ℕ) → under_any n.quants (loose ns) q ≡ true → is_bound_in partial q env ≡ true)
         → (p q : OwnedQuant) → In p n.quants → In q n.quants → known.clean p.over ≡ true → known.clean q.over ≡ true
         → ((k : ℕ) → 1 ≤ k → k ≤ length types → (known.error_free p.over k ≡ true) × (known.error_free q.over k ≡ true)) → error_among error_in (s p.id env ++ s q.id env) ≡ None
     no-error-read form types e unders p q i j c d f =
@@ -230,11 +231,11 @@ module _ (tables : List Table) (ns : List Node) (known : Facts) (given : Premise
     -- ---- groups
 
     -- what a group reads of its own quantifier or of others is bound
-    group-reads : (k : ℕ) (r : OwnedQuant) (more : List OwnedQuant) → n.quants ≡ r ∷ more → Looked (Group k) → (cells : List Cell) (q : ℕ) → list_any (reads q) n.parts.head ≡ true → is_bound q (bound r.id cells env) ≡ true
+    group-reads : (k : ℕ) (r : OwnedQuant) (more : List OwnedQuant) → n.quants ≡ r ∷ more → Looked (Group k) → (cells : List Cell) (q : ℕ) → list_any (reads q) n.parts.head ≡ true → is_bound_in partial q (bound r.id cells env) ≡ true
     group-reads k r more e look cells q h = one (r.id == q) refl
       where
-        one : (b : Bool) → (r.id == q) ≡ b → (b || is_bound q env) ≡ true
-        one true w = refl
+        one : (b : Bool) → (r.id == q) ≡ b → (partial || (b || is_bound q env)) ≡ true
+        one true w = either-right partial true refl
         one false w = look q (either-right (under_any n.quants (loose ns) q) (read_beyond (take 1 n.quants) (read_by n) q)
             (subst (λ (rs : List OwnedQuant). read_beyond (take 1 rs) (read_by n) q ≡ true) (sym e)
             (and_from (p.not (list_any (is_quant q) (take 1 (r ∷ more)))) (read_by n q) (ap p.not (or-none w)) (either-left (list_any (reads q) n.parts.head) (list_any (reads_cond q) n.parts.conds.items) h))))
@@ -243,12 +244,12 @@ module _ (tables : List Table) (ns : List Node) (known : Facts) (given : Premise
             or-none w = ap (λ b. b || false) w
 
     -- the quantifier of a group bound to one of its rows
-    group-fits : (k : ℕ) (r : OwnedQuant) → In r n.quants → Looked (Group k) → (cells : List Cell) → occurs cells (s r.id env) ≡ true → Fitting (bag_in tables ns) ns (bound r.id cells env)
+    group-fits : (k : ℕ) (r : OwnedQuant) → In r n.quants → Looked (Group k) → (cells : List Cell) → occurs cells (s r.id env) ≡ true → FittingIn partial (bag_in tables ns) ns (bound r.id cells env)
     group-fits k r i look cells o = (
       record {
         range = r;
         owned = given.found n r here i;
-        row = ap (occurs cells) (sym (rows-are tables ns known given all n here r i env)) ∙ o;
+        row = ap (occurs cells) (sym (rows-are partial tables ns known given all n here r i env)) ∙ o;
         before = under-bound (group-under k look) r i;
       },
       fit,
@@ -341,9 +342,9 @@ module _ (tables : List Table) (ns : List Node) (known : Facts) (given : Premise
     count-filled members q (choose a x) h = absurd (let z : ⊥ = cc in z)
 
     -- a key, or a count, holds no null
-    pub filled-group : (k place : ℕ) → Looked (Group k) → cond (nat_le place k) (at_place (holds_value ns known) n.parts.head place) (at_place is_count n.parts.head place) ≡ true
+    pub filled-group : partial ≡ false → (k place : ℕ) → Looked (Group k) → cond (nat_le place k) (at_place (holds_value ns known) n.parts.head place) (at_place is_count n.parts.head place) ≡ true
         → IsNotNull place (of_one n.quants (λ q. grouped_rows k n.parts.head q env (s q env)))
-    filled-group k place look h = go n.quants refl
+    filled-group whole k place look h = go n.quants refl
       where
         NotNull : List Cell → Type 0
         NotNull cells = cell_of place cells ≢ Null
@@ -365,7 +366,7 @@ module _ (tables : List Table) (ns : List Node) (known : Facts) (given : Premise
                 either-group NotNull (length n.parts.head) (error_among (λ cells. error_in (key_cells k n.parts.head r.id env cells)) (s r.id env)) (groups k n.parts.head r.id env (s r.id env))
                 (λ x. let b = at-within (holds_value ns known) n.parts.head place h in failed-cell (length n.parts.head) place x b.0 b.1)
                 (λ x. group-each ns known r.id n.parts.head env (s r.id env) columns (holds_value ns known) (λ c. c ≢ Null) k place h
-                (λ l cells o y u t. value-filled tables ns known given all n here nothing y (bound r.id cells env) (group-fits k r i look cells o)
+                (λ l cells o y u t. value-filled partial tables ns known given all n here whole nothing y (bound r.id cells env) (group-fits k r i look cells o)
                 (λ q b. group-reads k r more e look cells q (any-from (reads q) y n.parts.head u b)) t)
                 (λ l members m inside fewer y u t. absurd (let v = leb-true place k w in let z : ⊥ = omega (arith, l, v) in z))
                 (clean-among (λ cells. error_in (key_cells k n.parts.head r.id env cells)) (s r.id env) x).0)
@@ -426,9 +427,9 @@ module _ (tables : List Table) (ns : List Node) (known : Facts) (given : Premise
         ap is_sound x.1.1 ∙ value-sound ns known nothing (nothing-sound ns known) false x.0 (bound q.id b (bound p.id a env)) c x.1.0)
 
     -- a literal, or a column of the first quantifier
-    left-filled : (p q : OwnedQuant) (more : List OwnedQuant) → n.quants ≡ p ∷ q ∷ more → Looked OuterJoin → (x : Term) → holds_left ns known (p ∷ q ∷ more) x ≡ true
+    left-filled : partial ≡ false → (p q : OwnedQuant) (more : List OwnedQuant) → n.quants ≡ p ∷ q ∷ more → Looked OuterJoin → (x : Term) → holds_left ns known (p ∷ q ∷ more) x ≡ true
         → (a b : List Cell) → occurs a (s p.id env) ≡ true → value nothing x (bound q.id b (bound p.id a env)) ≢ Null
-    left-filled p q more e look (col r k) h a b o = second (q.id == r) refl
+    left-filled whole p q more e look (col r k) h a b o = second (q.id == r) refl
       where
         parts : (list_any (is_quant r) (p ∷ []) ≡ true) × (not_null_under ns known r k ≡ true)
         parts = and_parts (list_any (is_quant r) (p ∷ [])) (not_null_under ns known r k) h
@@ -446,8 +447,8 @@ module _ (tables : List Table) (ns : List Node) (known : Facts) (given : Premise
         filled : cell_of k a ≢ Null
         filled =
             let u : not_null_under ns known p.id k ≡ true = subst (λ r. not_null_under ns known r k ≡ true) (sym (eqb-true p.id r is-first)) parts.1 in
-            let t : known.not_null p.over k ≡ true = sym (known-of tables ns known given all n here p i (λ b. known.not_null b k)) ∙ u in
-            occurs-each (λ cells. cell_of k cells ≢ Null) (s p.id env) (under-holds (outer-under look) (IsNotNull k) p i (all (not_null p.over k) t)) a o
+            let t : known.not_null p.over k ≡ true = sym (known-of partial tables ns known given all n here p i (λ b. known.not_null b k)) ∙ u in
+            occurs-each (λ cells. cell_of k cells ≢ Null) (s p.id env) (under-holds (outer-under look) (IsNotNull k) p i (all (not_null p.over k) t whole)) a o
 
         first : (b : Bool) → (p.id == r) ≡ b → cell_of k (cond b a (row_of r env)) ≢ Null
         first true w = filled
@@ -460,23 +461,23 @@ module _ (tables : List Table) (ns : List Node) (known : Facts) (given : Premise
             let v : true ≡ false = sym (either-left (q.id == p.id) (list_any (λ m. m == p.id) (map (λ r. r.id) more)) u) ∙ d.0 in let z : ⊥ = cc in z
             )
         second false w = first (p.id == r) refl
-    left-filled p q more e look (int m) h a b o = λ x. let z : ⊥ = cc in z
-    left-filled p q more e look (text m) h a b o = λ x. let z : ⊥ = cc in z
-    left-filled p q more e look null_int h a b o = absurd (let z : ⊥ = cc in z)
-    left-filled p q more e look null_text h a b o = absurd (let z : ⊥ = cc in z)
-    left-filled p q more e look (scalar r) h a b o = absurd (let z : ⊥ = cc in z)
-    left-filled p q more e look (both m x y) h a b o = absurd (let z : ⊥ = cc in z)
-    left-filled p q more e look (minus_of x) h a b o = absurd (let z : ⊥ = cc in z)
-    left-filled p q more e look (choose m x) h a b o = absurd (let z : ⊥ = cc in z)
-    left-filled p q more e look count_all h a b o = absurd (let z : ⊥ = cc in z)
-    left-filled p q more e look (fold f d x) h a b o = absurd (let z : ⊥ = cc in z)
+    left-filled whole p q more e look (int m) h a b o = λ x. let z : ⊥ = cc in z
+    left-filled whole p q more e look (text m) h a b o = λ x. let z : ⊥ = cc in z
+    left-filled whole p q more e look null_int h a b o = absurd (let z : ⊥ = cc in z)
+    left-filled whole p q more e look null_text h a b o = absurd (let z : ⊥ = cc in z)
+    left-filled whole p q more e look (scalar r) h a b o = absurd (let z : ⊥ = cc in z)
+    left-filled whole p q more e look (both m x y) h a b o = absurd (let z : ⊥ = cc in z)
+    left-filled whole p q more e look (minus_of x) h a b o = absurd (let z : ⊥ = cc in z)
+    left-filled whole p q more e look (choose m x) h a b o = absurd (let z : ⊥ = cc in z)
+    left-filled whole p q more e look count_all h a b o = absurd (let z : ⊥ = cc in z)
+    left-filled whole p q more e look (fold f d x) h a b o = absurd (let z : ⊥ = cc in z)
 
-    pub filled-outer : (k : ℕ) → Looked OuterJoin → at_place (holds_left ns known n.quants) n.parts.head k ≡ true → IsNotNull k (of_two n.quants (outer_rows n s env))
-    filled-outer k look h =
+    pub filled-outer : partial ≡ false → (k : ℕ) → Looked OuterJoin → at_place (holds_left ns known n.quants) n.parts.head k ≡ true → IsNotNull k (of_two n.quants (outer_rows n s env))
+    filled-outer whole k look h =
         each-outer (λ cells. cell_of k cells ≢ Null) look
         (λ p q more e a b o c w.
         let x = head-cell (holds_left ns known (p ∷ q ∷ more)) nothing n.parts.head (bound q.id b (bound p.id a env)) k (subst (λ rs. at_place (holds_left ns known rs) n.parts.head k ≡ true) e h) in
-        left-filled p q more e look x.0 x.1.0 a b o (sym x.1.1 ∙ w))
+        left-filled whole p q more e look x.0 x.1.0 a b o (sym x.1.1 ∙ w))
 
     pub single-outer : Looked OuterJoin → under_two known.at_most_one n.quants ≡ true → HasAtMostOne (of_two n.quants (outer_rows n s env))
     single-outer look h =

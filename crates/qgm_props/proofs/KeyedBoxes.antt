@@ -9,7 +9,7 @@ use Rattle.row_bag.specs.Errors.{error_among, error_in}
 use Rattle.row_bag.specs.Joins.{how_many, or_else}
 use Rattle.row_bag.specs.Order.{cell_of}
 use Rattle.row_bag.specs.Sets as sets
-use Rattle.row_bag.specs.Sets.{copies, distinct, error_or_bag, failed_cells, level_in, multiplicity, of_group, once, same_cells}
+use Rattle.row_bag.specs.Sets.{copies, distinct, error_or_bag, failed_cells, multiplicity, of_group, once, same_cells}
 use Rattle.row_bag.specs.Tables.{bag_named}
 use Rattle.row_bag.specs.Verdict.{is_there}
 use Rattle.row_bag.specs.declared.tables.Table.{Table}
@@ -38,7 +38,7 @@ use Rattle.qgm_meaning.proofs.Ranked.{unfold-rank}
 use Rattle.qgm_meaning.proofs.Satisfying.{of-satisfying}
 use Rattle.qgm_terms.specs.Terms.{Term, col}
 use Rattle.qgm_props.specs.Facts.{EachThere}
-use Rattle.qgm_props.specs.Holding.{AllBound, Fitting, Holds, OfRows}
+use Rattle.qgm_props.specs.Holding.{Holds, OfRows}
 use Rattle.qgm_props.specs.Inferred.{Fact, Facts, at_most_one, says}
 use Rattle.qgm_props.specs.Keys.{all_within, among, cell_at, columns_at, holds_key, keyed, keyed_by, keyed_op, keyed_under, keyed_under_F, keyed_under_two}
 use Rattle.qgm_props.specs.Laws.{Premises}
@@ -55,6 +55,7 @@ use Rattle.qgm_props.proofs.Selects.{Ready, each-given, next-ready, skip-ready, 
 use Rattle.qgm_props.proofs.KeyTests.{agree-from, agreed, all-agreed, by, cells-same, key-two, two-key, within-holds}
 use Rattle.qgm_props.proofs.KeyRanks.{column-place, in-first, keyed-local}
 use Rattle.qgm_props.proofs.NoTwo.{NoTwo, Test, no-two-bind, no-two-copies, no-two-distinct, no-two-once, no-two-weaker, none-two, once-apart}
+use Rattle.qgm_props.proofs.Partial.{AllBoundIn, FittingIn, HoldsIn, OfRowsIn, holds-in, in-rows}
 use Rattle.qgm_props.proofs.Rows.{each-append, each-bind, each-distinct, each-keep, occurs-each}
 
 -- ---- by rank
@@ -191,14 +192,14 @@ groups-keyed (suc k) ks head q env rows h =
 
 -- ---- boxes
 
-module _ (tables : List Table) (ns : List Node) (known : Facts) (given' : Premises tables ns) (all : (fact : Fact) → says known fact ≡ true → Holds tables ns fact) where
+module _ (partial : Bool) (tables : List Table) (ns : List Node) (known : Facts) (given' : Premises tables ns) (all : (fact : Fact) → says known fact ≡ true → HoldsIn partial tables ns fact) where
   -- no two rows of box b agree on columns that hold a key
   abbrev pub Keyed : ℕ → Type 0
-  Keyed b = (ks : List ℕ) → holds_key known.at_most_one ns b ks ≡ true → OfRows tables ns b (NoTwo (by ks))
+  Keyed b = (ks : List ℕ) → holds_key known.at_most_one ns b ks ≡ true → OfRowsIn partial tables ns b (NoTwo (by ks))
 
   module _ (n : Node) (here : In n ns) (under : (r : OwnedQuant) → In r n.quants → Keyed r.over) where
     abbrev pub t : Family
-    t = rows tables ns known given' all n here
+    t = rows partial tables ns known given' all n here
 
     -- ---- a select
 
@@ -222,22 +223,22 @@ module _ (tables : List Table) (ns : List Node) (known : Facts) (given' : Premis
             (λ cells o. subst (λ row. EachThere (λ c. cell_of p c ≡ cell_of k row) (over_each rs t (given_by t n) (bound r.id cells env))) (kept cells) (i (bound r.id cells env)))
         one false i = i env
 
-    each-keyed : (ks : List ℕ) (rs : List OwnedQuant) (env : Environment) → Ready tables ns known given' all n here rs env → EachOnce (map (λ r. r.id) rs)
+    each-keyed : (ks : List ℕ) (rs : List OwnedQuant) (env : Environment) → Ready partial tables ns known given' all n here rs env → EachOnce (map (λ r. r.id) rs)
         → keyed_under_F n.parts.head (holds_key known.at_most_one ns) ks rs ≡ true → NoTwo (by ks) (over_each rs t (given_by t n) env)
     each-keyed ks [] env ready d h = none-two (by ks) (given_by t n env) (kept-one (all_true (λ q. t q env) n.parts.conds.items env).t (head_cells (λ q. t q env) n.parts.head env))
     each-keyed ks (r ∷ rs) env ready d h = one (is_F r.kind) refl h (λ env ready h. each-keyed ks rs env ready d.1 h)
       where
         one : (b : Bool) → is_F r.kind ≡ b
             → cond b (keyed_under n.parts.head (holds_key known.at_most_one ns) ks r && keyed_under_F n.parts.head (holds_key known.at_most_one ns) ks rs) (keyed_under_F n.parts.head (holds_key known.at_most_one ns) ks rs) ≡ true
-            → ((env : Environment) → Ready tables ns known given' all n here rs env → keyed_under_F n.parts.head (holds_key known.at_most_one ns) ks rs ≡ true → NoTwo (by ks) (over_each rs t (given_by t n) env))
+            → ((env : Environment) → Ready partial tables ns known given' all n here rs env → keyed_under_F n.parts.head (holds_key known.at_most_one ns) ks rs ≡ true → NoTwo (by ks) (over_each rs t (given_by t n) env))
             → NoTwo (by ks) (cond b (bind (t r.id env) (λ cells. over_each rs t (given_by t n) (bound r.id cells env))) (over_each rs t (given_by t n) env))
-        one false f h i = i env (skip-ready tables ns known given' all n here r rs env f ready) h
+        one false f h i = i env (skip-ready partial tables ns known given' all n here r rs env f ready) h
         one true f h i =
             let a = and_parts (keyed_under n.parts.head (holds_key known.at_most_one ns) ks r) (keyed_under_F n.parts.head (holds_key known.at_most_one ns) ks rs) h in
             no-two-bind (by ks) (by (columns_at r.id n.parts.head ks)) (t r.id env) (λ cells. over_each rs t (given_by t n) (bound r.id cells env))
-            (subst (NoTwo (by (columns_at r.id n.parts.head ks))) (sym (rows-are tables ns known given' all n here r (ready.own r (inl refl)) env))
-            (under r (ready.own r (inl refl)) (columns_at r.id n.parts.head ks) a.0 env ready.fit (under-bound tables ns known given' all n here r rs env f ready)))
-            (λ x o. i (bound r.id x env) (next-ready tables ns known given' all n here r rs env f ready x o) a.1)
+            (subst (NoTwo (by (columns_at r.id n.parts.head ks))) (sym (rows-are partial tables ns known given' all n here r (ready.own r (inl refl)) env))
+            (under r (ready.own r (inl refl)) (columns_at r.id n.parts.head ks) a.0 env ready.fit (under-bound partial tables ns known given' all n here r rs env f ready)))
+            (λ x o. i (bound r.id x env) (next-ready partial tables ns known given' all n here r rs env f ready x o) a.1)
             (λ x y c e o w u v k. agree-under r.id n.parts.head ks x y c e (λ p j m. from x c u p j m) (λ p j m. from y e v p j m) k)
           where
             own : (x : List Cell) → row_of r.id (bound r.id x env) ≡ x
@@ -248,7 +249,7 @@ module _ (tables : List Table) (ns : List Node) (known : Facts) (given' : Premis
                 occurs-each (λ c. cell_of p c ≡ cell_of j (row_of r.id (bound r.id x env))) (over_each rs t (given_by t n) (bound r.id x env)) (over-cell r.id j p m rs d.0 (bound r.id x env)) c u
                 ∙ ap (cell_of j) (own x)
 
-    select-keyed : (ks : List ℕ) (env : Environment) → Ready tables ns known given' all n here n.quants env
+    select-keyed : (ks : List ℕ) (env : Environment) → Ready partial tables ns known given' all n here n.quants env
         → ((is_enforce n.parts.distinct && all_within (length n.parts.head) ks) || keyed_under_F n.parts.head (holds_key known.at_most_one ns) ks n.quants) ≡ true
         → NoTwo (by ks) (once_if (is_enforce n.parts.distinct) (over_each n.quants t (given_by t n) env))
     select-keyed ks env ready h = elim (or_cases (is_enforce n.parts.distinct && all_within (length n.parts.head) ks) (keyed_under_F n.parts.head (holds_key known.at_most_one ns) ks n.quants) h) [
@@ -256,7 +257,7 @@ module _ (tables : List Table) (ns : List Node) (known : Facts) (given' : Premis
           let a = and_parts (is_enforce n.parts.distinct) (all_within (length n.parts.head) ks) w in
           subst (λ b. NoTwo (by ks) (once_if b (over_each n.quants t (given_by t n) env))) (sym a.0)
           (distinct-keyed (length n.parts.head) ks (over_each n.quants t (given_by t n) env)
-          (each-given tables ns known given' all n here (λ c. length c ≡ length n.parts.head) n.quants env ready (λ env ready. length-map n.parts.head (λ x. value (λ q. t q env) x env))) a.1)
+          (each-given partial tables ns known given' all n here (λ c. length c ≡ length n.parts.head) n.quants env ready (λ env ready. length-map n.parts.head (λ x. value (λ q. t q env) x env))) a.1)
           )
       | inr w ↦ either (is_enforce n.parts.distinct) (each-keyed ks n.quants env ready (given'.apart n here) w)
     ]
@@ -267,7 +268,7 @@ module _ (tables : List Table) (ns : List Node) (known : Facts) (given' : Premis
 
     -- ---- an outer join
 
-    outer-keyed : (ks : List ℕ) (env : Environment) → Fitting (bag_in tables ns) ns env → ((r : OwnedQuant) → In r n.quants → AllBound ns r.over env) → (rs : List OwnedQuant) → n.quants ≡ rs
+    outer-keyed : (ks : List ℕ) (env : Environment) → FittingIn partial (bag_in tables ns) ns env → ((r : OwnedQuant) → In r n.quants → AllBoundIn partial ns r.over env) → (rs : List OwnedQuant) → n.quants ≡ rs
         → keyed_under_two n.parts.head (holds_key known.at_most_one ns) ks rs ≡ true → NoTwo (by ks) (of_two rs (outer_rows n t env))
     outer-keyed ks env fit look [] e h = absurd (let z : ⊥ = cc in z)
     outer-keyed ks env fit look (p ∷ []) e h = absurd (let z : ⊥ = cc in z)
@@ -284,7 +285,7 @@ module _ (tables : List Table) (ns : List Node) (known : Facts) (given' : Premis
         parts = and_parts (keyed_under n.parts.head (holds_key known.at_most_one ns) ks p) (keyed_under n.parts.head (holds_key known.at_most_one ns) ks q) h
 
         keyed : (r : OwnedQuant) → In r n.quants → keyed_under n.parts.head (holds_key known.at_most_one ns) ks r ≡ true → NoTwo (by (columns_at r.id n.parts.head ks)) (t r.id env)
-        keyed r i k = subst (NoTwo (by (columns_at r.id n.parts.head ks))) (sym (rows-are tables ns known given' all n here r i env)) (under r i (columns_at r.id n.parts.head ks) k env fit (look r i))
+        keyed r i k = subst (NoTwo (by (columns_at r.id n.parts.head ks))) (sym (rows-are partial tables ns known given' all n here r i env)) (under r i (columns_at r.id n.parts.head ks) k env fit (look r i))
 
         partners : List Cell → Bag
         partners a = bind (t q.id env) (λ b. given nothing n (bound q.id b (bound p.id a env)))
@@ -325,10 +326,10 @@ module _ (tables : List Table) (ns : List Node) (known : Facts) (given' : Premis
 
     -- ---- a box of each kind
 
-    module _ (env : Environment) (fit : Fitting (bag_in tables ns) ns env) where
+    module _ (env : Environment) (fit : FittingIn partial (bag_in tables ns) ns env) where
       -- the boxes under the quantifiers of a box that shows none of its own
-      unders : (kind : BoxKind) → ((q : ℕ) → under_any n.quants (loose ns) q ≡ true → loose_by kind n (loose ns) q ≡ true) → Looked tables ns known given' all n here env fit kind
-          → (r : OwnedQuant) → In r n.quants → AllBound ns r.over env
+      unders : (kind : BoxKind) → ((q : ℕ) → under_any n.quants (loose ns) q ≡ true → loose_by kind n (loose ns) q ≡ true) → Looked partial tables ns known given' all n here env fit kind
+          → (r : OwnedQuant) → In r n.quants → AllBoundIn partial ns r.over env
       unders kind f look r i q h = look q (f q (any-looks n.quants r i q h))
         where
           any-looks : (rs : List OwnedQuant) (r : OwnedQuant) → In r rs → (q : ℕ) → loose ns r.over q ≡ true → under_any rs (loose ns) q ≡ true
@@ -359,10 +360,10 @@ module _ (tables : List Table) (ns : List Node) (known : Facts) (given' : Premis
             | inr u ↦ among-holds key ks p.1 k u
           ]
 
-      kind-keyed : (kind : BoxKind) → n.parts.kind ≡ kind → SatisfiesBy kind tables → Looked tables ns known given' all n here env fit kind → (ks : List ℕ) → keyed_by kind n (holds_key known.at_most_one ns) ks ≡ true
+      kind-keyed : (kind : BoxKind) → n.parts.kind ≡ kind → SatisfiesBy kind tables → Looked partial tables ns known given' all n here env fit kind → (ks : List ℕ) → keyed_by kind n (holds_key known.at_most_one ns) ks ≡ true
           → NoTwo (by ks) (rows_by kind tables n t env)
       kind-keyed (Base table) e b look ks h = base-keyed table (bag_named tables table.name) b ks table.keys (λ k i. i) h
-      kind-keyed Select e b look ks h = select-keyed ks env (ready tables ns known given' all n here env fit look) h
+      kind-keyed Select e b look ks h = select-keyed ks env (ready partial tables ns known given' all n here env fit look) h
       kind-keyed (Group k) e b look ks h = group-keyed n.quants
         where
           group-keyed : (rs : List OwnedQuant) → NoTwo (by ks) (of_one rs (λ q. grouped_rows k n.parts.head q env (t q env)))
@@ -371,7 +372,7 @@ module _ (tables : List Table) (ns : List Node) (known : Facts) (given' : Premis
       kind-keyed (SetOp form types) e b look ks h = two n.quants (λ r i. i)
         where
           wide : (r : OwnedQuant) → In r n.quants → Wide (length types) (t r.id env)
-          wide r i = subst (Wide (length types)) (sym (rows-are tables ns known given' all n here r i env)) (arm-rows tables ns given' n form types r here e i env)
+          wide r i = subst (Wide (length types)) (sym (rows-are partial tables ns known given' all n here r i env)) (arm-rows tables ns given' n form types r here e i env)
 
           two : (rs : List OwnedQuant) → ((r : OwnedQuant) → In r rs → In r n.quants) → NoTwo (by ks) (of_two rs (λ p q. combined form (length types) (t p env) (t q env)))
           two [] sub = tt
@@ -408,4 +409,5 @@ module _ (tables : List Table) (ns : List Node) (known : Facts) (given' : Premis
 
 pub keys-hold : (tables : List Table) (ns : List Node) (known : Facts) → Premises tables ns → ((fact : Fact) → says known fact ≡ true → Holds tables ns fact) → (b : ℕ) (ks : List ℕ)
     → holds_key known.at_most_one ns b ks ≡ true → OfRows tables ns b (HasKey ks)
-keys-hold tables ns known given' all b ks h env fit bound = two-key ks (bag_in tables ns b env) (all-keyed tables ns known given' all b ks h env fit bound)
+keys-hold tables ns known given' all b ks h =
+    in-rows tables ns b (HasKey ks) (λ env fit bound. two-key ks (bag_in tables ns b env) (all-keyed false tables ns known given' (λ fact k. holds-in tables ns fact (all fact k)) b ks h env fit bound))

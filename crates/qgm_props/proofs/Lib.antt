@@ -3,7 +3,9 @@ mod Rows
 mod Counted
 mod Cells
 mod Terms
+mod Partial
 mod Environments
+mod Fitted
 mod Selects
 mod HeldBases
 mod Folds
@@ -18,7 +20,7 @@ mod TableLaws
 mod Improving
 mod Steps
 mod Step
-mod Settled
+pub mod Settled
 mod Monotone
 mod NoTwo
 mod KeyTests

@@ -1,5 +1,5 @@
 -- What is inferred of a select holds.
-use Rattle.std.proofs.Common.{ℕ, zero, suc, ◌≡◌, ◌≢◌, ◌≤◌, ◌==◌, ◌&&◌, ◌||◌, cond, Bool, true, false, List, [], ◌∷◌, map, Option, Some, None, slice_get, eqb-true, refl, sym, ap, subst, ◌∙◌, arith, inl, inr}
+use Rattle.std.proofs.Common.{ℕ, zero, suc, ◌≡◌, ◌≢◌, ◌≤◌, ◌==◌, ◌&&◌, ◌||◌, cond, Bool, true, false, List, [], ◌∷◌, refl, sym, ap, subst, ◌∙◌, arith, inl, inr}
 use Rattle.std.proofs.Common as p
 use Rattle.std.proofs.lemmas.Bool.{and_parts, and_from, eq-eqb}
 use Rattle.std.specs.List.{list_any, list_all}
@@ -25,11 +25,12 @@ use Rattle.qgm_terms.specs.Terms.{Term, int, text, null_int, null_text, col, sca
 use Rattle.row_bag.specs.declared.tables.Table.{Table}
 use Rattle.qgm_props.specs.Facts.{EachThere, HasAtMostOne, HasExactlyOne, IsClean, is_sound}
 use Rattle.qgm_props.proofs.EachClean.{EachClean, clean-each}
-use Rattle.qgm_props.specs.Holding.{AllBound, Fitting, Holds, is_bound}
+use Rattle.qgm_props.specs.Holding.{is_bound}
 use Rattle.qgm_props.specs.Inferred.{Fact, Facts, all_under_F, at_most_one, at_place, clean, cond_free, exactly_one, holds_value, no_cond, is_free, says}
 use Rattle.qgm_props.specs.Laws.{Premises}
 use Rattle.qgm_props.proofs.Counted.{bind-exact, bind-one}
 use Rattle.qgm_props.proofs.Environments.{columns-filled, columns-sound, found-first, rows, rows-are, rows-sound}
+use Rattle.qgm_props.proofs.Partial.{AllBoundIn, FittingIn, HoldsIn, is_bound_in}
 use Rattle.qgm_props.proofs.Rows.{clean-bind, clean-keep, each-bind, each-keep}
 use Rattle.qgm_props.proofs.Terms.{SoundColumns, SoundRows, all-decided, value-sound}
 
@@ -41,23 +42,23 @@ head-cell test rows [] env (suc k) h = absurd (let z : ⊥ = cc in z)
 head-cell test rows (x ∷ xs) env (suc zero) h = (x, (h, refl))
 head-cell test rows (x ∷ xs) env (suc (suc k)) h = head-cell test rows xs env (suc k) h
 
-module _ (tables : List Table) (ns : List Node) (known : Facts) (given' : Premises tables ns) (all : (fact : Fact) → says known fact ≡ true → Holds tables ns fact) where
+module _ (partial : Bool) (tables : List Table) (ns : List Node) (known : Facts) (given' : Premises tables ns) (all : (fact : Fact) → says known fact ≡ true → HoldsIn partial tables ns fact) where
   module _ (n : Node) (here : In n ns) where
     abbrev pub s : Family
-    s = rows tables ns known given' all n here
+    s = rows partial tables ns known given' all n here
 
     -- where the F quantifiers among these are still to be bound: the environment fits, and what is looked up is bound
     pub record Ready (rs : List OwnedQuant) (env : Environment) : Type 0 where
-      pub fit : Fitting (bag_in tables ns) ns env
-      pub bound-all : (q : ℕ) → loose_each rs n (loose ns) q ≡ true → is_bound q env ≡ true
+      pub fit : FittingIn partial (bag_in tables ns) ns env
+      pub bound-all : (q : ℕ) → loose_each rs n (loose ns) q ≡ true → is_bound_in partial q env ≡ true
       pub own : (r : OwnedQuant) → In r rs → In r n.quants
 
     -- an F quantifier comes first
     module _ (r : OwnedQuant) (rs : List OwnedQuant) (env : Environment) (f : is_F r.kind ≡ true) (ready : Ready (r ∷ rs) env) where
-      looks : (q : ℕ) → (quant_looks n (loose ns) r.id q || (p.not (r.id == q) && loose_each rs n (loose ns) q)) ≡ true → is_bound q env ≡ true
+      looks : (q : ℕ) → (quant_looks n (loose ns) r.id q || (p.not (r.id == q) && loose_each rs n (loose ns) q)) ≡ true → is_bound_in partial q env ≡ true
       looks q h = ready.bound-all q (subst (λ b. cond b (quant_looks n (loose ns) r.id q || (p.not (r.id == q) && loose_each rs n (loose ns) q)) (loose_each rs n (loose ns) q) ≡ true) (sym f) h)
 
-      pub under-bound : AllBound ns r.over env
+      pub under-bound : AllBoundIn partial ns r.over env
       under-bound q h = looks q (either-left (quant_looks n (loose ns) r.id q) (p.not (r.id == q) && loose_each rs n (loose ns) q) (ap (λ o. looks_found o (loose ns) q) (found-first n.quants r (given'.apart n here) (ready.own r (inl refl))) ∙ h))
 
       pub next-ready : (cells : List Cell) → occurs cells (s r.id env) ≡ true → Ready rs (bound r.id cells env)
@@ -66,7 +67,7 @@ module _ (tables : List Table) (ns : List Node) (known : Facts) (given' : Premis
           record {
             range = r;
             owned = given'.found n r here (ready.own r (inl refl));
-            row = ap (occurs cells) (sym (rows-are tables ns known given' all n here r (ready.own r (inl refl)) env)) ∙ o;
+            row = ap (occurs cells) (sym (rows-are partial tables ns known given' all n here r (ready.own r (inl refl)) env)) ∙ o;
             before = under-bound;
           },
           ready.fit,
@@ -75,8 +76,8 @@ module _ (tables : List Table) (ns : List Node) (known : Facts) (given' : Premis
         own = λ t i. ready.own t (inr i);
       }
         where
-          one : (q : ℕ) → loose_each rs n (loose ns) q ≡ true → (b : Bool) → (r.id == q) ≡ b → (b || is_bound q env) ≡ true
-          one q h true w = refl
+          one : (q : ℕ) → loose_each rs n (loose ns) q ≡ true → (b : Bool) → (r.id == q) ≡ b → (partial || (b || is_bound q env)) ≡ true
+          one q h true w = either-right partial true refl
           one q h false w = looks q (either-right (quant_looks n (loose ns) r.id q) (p.not (r.id == q) && loose_each rs n (loose ns) q) (and_from (p.not (r.id == q)) (loose_each rs n (loose ns) q) (ap p.not w) h))
 
     -- another quantifier comes first
@@ -96,10 +97,10 @@ module _ (tables : List Table) (ns : List Node) (known : Facts) (given' : Premis
     ]
 
     pub all-rows : (env : Environment) → Ready [] env → SoundRows ns known (λ q. s q env)
-    all-rows env ready = rows-sound tables ns known given' all n here env ready.fit (λ r i q h. ready.bound-all q (either-right (read_by n q) (under_any n.quants (loose ns) q) (under-any n.quants r q i h)))
+    all-rows env ready = rows-sound partial tables ns known given' all n here env ready.fit (λ r i q h. ready.bound-all q (either-right (read_by n q) (under_any n.quants (loose ns) q) (under-any n.quants r q i h)))
 
     pub all-columns : (env : Environment) (rs : List OwnedQuant) → Ready rs env → SoundColumns ns known env
-    all-columns env rs ready = columns-sound tables ns known given' all env ready.fit
+    all-columns env rs ready = columns-sound partial tables ns known given' all env ready.fit
 
     -- ---- clean
 
@@ -118,7 +119,7 @@ module _ (tables : List Table) (ns : List Node) (known : Facts) (given' : Premis
         one true f c i =
             let a = and_parts (known.clean r.over) (all_under_F known.clean rs) c in
             clean-bind (s r.id env) (λ cells. over_each rs s (given_by s n) (bound r.id cells env))
-            (clean-each (s r.id env) (subst IsClean (sym (rows-are tables ns known given' all n here r (ready.own r (inl refl)) env)) (all (clean r.over) a.0 env ready.fit (under-bound r rs env f ready))))
+            (clean-each (s r.id env) (subst IsClean (sym (rows-are partial tables ns known given' all n here r (ready.own r (inl refl)) env)) (all (clean r.over) a.0 env ready.fit (under-bound r rs env f ready))))
             (λ cells o. i (bound r.id cells env) (next-ready r rs env f ready cells o) a.1)
         one false f c i = i env (skip-ready r rs env f ready) c
 
@@ -141,30 +142,30 @@ module _ (tables : List Table) (ns : List Node) (known : Facts) (given' : Premis
 
     -- ---- columns that hold no null
 
-    pub value-filled : (rows : ℕ → Bag) (x : Term) (env : Environment) → Fitting (bag_in tables ns) ns env → ((q : ℕ) → reads q x ≡ true → is_bound q env ≡ true) → holds_value ns known x ≡ true → value rows x env ≢ Null
-    value-filled rows (int z) env f b h = λ e. let w : ⊥ = cc in w
-    value-filled rows (text t) env f b h = λ e. let w : ⊥ = cc in w
-    value-filled rows null_int env f b h = absurd (let w : ⊥ = cc in w)
-    value-filled rows null_text env f b h = absurd (let w : ⊥ = cc in w)
-    value-filled rows (col q k) env f b h = columns-filled tables ns known given' all env f q k (b q (eq-eqb q q refl)) h
-    value-filled rows (scalar q) env f b h = absurd (let w : ⊥ = cc in w)
-    value-filled rows (both o x y) env f b h = absurd (let w : ⊥ = cc in w)
-    value-filled rows (minus_of x) env f b h = absurd (let w : ⊥ = cc in w)
-    value-filled rows (choose a x) env f b h = absurd (let w : ⊥ = cc in w)
-    value-filled rows count_all env f b h = absurd (let w : ⊥ = cc in w)
-    value-filled rows (fold g d x) env f b h = absurd (let w : ⊥ = cc in w)
+    pub value-filled : partial ≡ false → (rows : ℕ → Bag) (x : Term) (env : Environment) → FittingIn partial (bag_in tables ns) ns env → ((q : ℕ) → reads q x ≡ true → is_bound_in partial q env ≡ true) → holds_value ns known x ≡ true → value rows x env ≢ Null
+    value-filled whole rows (int z) env f b h = λ e. let w : ⊥ = cc in w
+    value-filled whole rows (text t) env f b h = λ e. let w : ⊥ = cc in w
+    value-filled whole rows null_int env f b h = absurd (let w : ⊥ = cc in w)
+    value-filled whole rows null_text env f b h = absurd (let w : ⊥ = cc in w)
+    value-filled whole rows (col q k) env f b h = columns-filled partial tables ns known given' all whole env f q k (b q (eq-eqb q q refl)) h
+    value-filled whole rows (scalar q) env f b h = absurd (let w : ⊥ = cc in w)
+    value-filled whole rows (both o x y) env f b h = absurd (let w : ⊥ = cc in w)
+    value-filled whole rows (minus_of x) env f b h = absurd (let w : ⊥ = cc in w)
+    value-filled whole rows (choose a x) env f b h = absurd (let w : ⊥ = cc in w)
+    value-filled whole rows count_all env f b h = absurd (let w : ⊥ = cc in w)
+    value-filled whole rows (fold g d x) env f b h = absurd (let w : ⊥ = cc in w)
 
     -- the cell at a place of a head holds no null, where what the head reads is bound
-    pub place-filled : (rows : ℕ → Bag) (head : List Term) (env : Environment) (k : ℕ) → Fitting (bag_in tables ns) ns env → ((q : ℕ) → list_any (reads q) head ≡ true → is_bound q env ≡ true)
+    pub place-filled : partial ≡ false → (rows : ℕ → Bag) (head : List Term) (env : Environment) (k : ℕ) → FittingIn partial (bag_in tables ns) ns env → ((q : ℕ) → list_any (reads q) head ≡ true → is_bound_in partial q env ≡ true)
         → at_place (holds_value ns known) head k ≡ true → cell_of k (head_cells rows head env) ≢ Null
-    place-filled rows head env zero f b h = absurd (let w : ⊥ = cc in w)
-    place-filled rows [] env (suc k) f b h = absurd (let w : ⊥ = cc in w)
-    place-filled rows (x ∷ xs) env (suc zero) f b h = value-filled rows x env f (λ q r. b q (either-left (reads q x) (list_any (reads q) xs) r)) h
-    place-filled rows (x ∷ xs) env (suc (suc k)) f b h = place-filled rows xs env (suc k) f (λ q r. b q (either-right (reads q x) (list_any (reads q) xs) r)) h
+    place-filled whole rows head env zero f b h = absurd (let w : ⊥ = cc in w)
+    place-filled whole rows [] env (suc k) f b h = absurd (let w : ⊥ = cc in w)
+    place-filled whole rows (x ∷ xs) env (suc zero) f b h = value-filled whole rows x env f (λ q r. b q (either-left (reads q x) (list_any (reads q) xs) r)) h
+    place-filled whole rows (x ∷ xs) env (suc (suc k)) f b h = place-filled whole rows xs env (suc k) f (λ q r. b q (either-right (reads q x) (list_any (reads q) xs) r)) h
 
-    pub cell-filled : (k : ℕ) → at_place (holds_value ns known) n.parts.head k ≡ true → (env : Environment) → Ready [] env → cell_of k (head_cells (λ q. s q env) n.parts.head env) ≢ Null
-    cell-filled k h env ready =
-        place-filled (λ q. s q env) n.parts.head env k ready.fit
+    pub cell-filled : partial ≡ false → (k : ℕ) → at_place (holds_value ns known) n.parts.head k ≡ true → (env : Environment) → Ready [] env → cell_of k (head_cells (λ q. s q env) n.parts.head env) ≢ Null
+    cell-filled whole k h env ready =
+        place-filled whole (λ q. s q env) n.parts.head env k ready.fit
         (λ q r. ready.bound-all q (either-left (read_by n q) (under_any n.quants (loose ns) q) (either-left (list_any (reads q) n.parts.head) (list_any (reads_cond q) n.parts.conds.items) r))) h
 
     -- ---- rows
@@ -186,7 +187,7 @@ module _ (tables : List Table) (ns : List Node) (known : Facts) (given' : Premis
         one true f c i =
             let a = and_parts (known.at_most_one r.over) (all_under_F known.at_most_one rs) c in
             bind-one 1 (s r.id env) (λ cells. over_each rs s (given_by s n) (bound r.id cells env))
-            (subst HasAtMostOne (sym (rows-are tables ns known given' all n here r (ready.own r (inl refl)) env)) (all (at_most_one r.over) a.0 env ready.fit (under-bound r rs env f ready)))
+            (subst HasAtMostOne (sym (rows-are partial tables ns known given' all n here r (ready.own r (inl refl)) env)) (all (at_most_one r.over) a.0 env ready.fit (under-bound r rs env f ready)))
             (λ cells o. i (bound r.id cells env) (next-ready r rs env f ready cells o) a.1)
         one false f c i = i env (skip-ready r rs env f ready) c
 
@@ -200,7 +201,7 @@ module _ (tables : List Table) (ns : List Node) (known : Facts) (given' : Premis
         one true f c i =
             let a = and_parts (known.exactly_one r.over) (all_under_F known.exactly_one rs) c in
             bind-exact 1 (s r.id env) (λ cells. over_each rs s (given_by s n) (bound r.id cells env))
-            (subst HasExactlyOne (sym (rows-are tables ns known given' all n here r (ready.own r (inl refl)) env)) (all (exactly_one r.over) a.0 env ready.fit (under-bound r rs env f ready)))
+            (subst HasExactlyOne (sym (rows-are partial tables ns known given' all n here r (ready.own r (inl refl)) env)) (all (exactly_one r.over) a.0 env ready.fit (under-bound r rs env f ready)))
             (λ cells o. i (bound r.id cells env) (next-ready r rs env f ready cells o) a.1)
         one false f c i = i env (skip-ready r rs env f ready) c
 

@@ -3,13 +3,19 @@ use Rattle.std.specs.Prelude.{ℕ, ◌≡◌, ◌↔◌, Bool, true, List, Some}
 use Rattle.row_bag.specs.Keys.{HasKey}
 use Rattle.row_bag.specs.declared.tables.Table.{Table}
 use Rattle.qgm_core.specs.Boxes.{Ordered, ids_of, owns, range_in}
+use Rattle.qgm_core.specs.Edits.{with_distinct}
 use Rattle.qgm_core.specs.Lists.{EachOnce, In, first}
+use Rattle.qgm_core.specs.declared.kinds.Distinct.{Distinct}
 use Rattle.qgm_core.specs.declared.node.Node.{Node}
 use Rattle.qgm_core.specs.declared.owned.OwnedQuant.{OwnedQuant}
-use Rattle.qgm_meaning.specs.Widths.{Even}
+use Rattle.qgm_meaning.specs.Fits.{fits}
+use Rattle.qgm_meaning.specs.Meaning.{bag_in, rows_of}
 use Rattle.qgm_meaning.specs.Satisfies.{Satisfies}
+use Rattle.qgm_meaning.specs.Values.{Environment}
+use Rattle.qgm_meaning.specs.Widths.{Even}
+use Rattle.qgm_props.specs.Facts.{IsClean}
 use Rattle.qgm_props.specs.Holding.{Holds, OfRows}
-use Rattle.qgm_props.specs.Inferred.{Fact, Facts, Inferred, inferred_once, says}
+use Rattle.qgm_props.specs.Inferred.{Fact, Facts, Inferred, clean, inferred_once, says}
 use Rattle.qgm_props.specs.InferredKeys.{KeyAmong}
 use Rattle.qgm_props.specs.Keys.{holds_key}
 
@@ -34,6 +40,12 @@ StepHolds = (tables : List Table) (ns : List Node) → Premises tables ns → (k
 abbrev pub InferredHolds : Type 0
 InferredHolds = (tables : List Table) (ns : List Node) → Premises tables ns → (fact : Fact) → Inferred ns fact → Holds tables ns fact
 
+-- a box that is inferred to be clean is so in each environment that fits, whichever quantifiers are bound there, and whether it has DISTINCT or not
+abbrev pub CleanFits : Type 0
+CleanFits =
+    (tables : List Table) (ns : List Node) → Premises tables ns → (n : Node) → In n ns → Inferred ns (clean n.id) → (d : Distinct) (env : Environment) → fits (bag_in tables ns) ns env ≡ true
+    → IsClean (rows_of tables (with_distinct d n) (bag_in tables ns) env)
+
 -- over facts that hold, keys hold
 abbrev pub KeysHold : Type 0
 KeysHold =
@@ -47,6 +59,14 @@ KeysExact = (single : ℕ → Bool) (boxes : List Node) → Ordered boxes → (b
 -- facts are those that are inferred of the boxes, all and no others
 abbrev pub Tells : Facts → List Node → Type 0
 Tells known ns = (fact : Fact) → (says known fact ≡ true) ↔ Inferred ns fact
+
+-- there are such facts
+abbrev pub AllTold : Type 0
+AllTold = (ns : List Node) → (known : Facts) × Tells known ns
+
+-- what is inferred a sentence infers of them
+abbrev pub Founded : Type 0
+Founded = (ns : List Node) (known : Facts) → Tells known ns → (fact : Fact) → Inferred ns fact → says (inferred_once ns known) fact ≡ true
 
 -- no two rows that are there agree on these columns, over all tables that satisfy the bases
 abbrev pub KeyHolds : List Node → ℕ → List ℕ → Type 0

@@ -1,12 +1,15 @@
 // The laws, as theorems.
 ghost use Rattle.qgm_props.specs.Examples.{OfExpressions, OfConditions, OfAggregates, OfBoxes, OfRows, OfNulls, OfKeys, OfCalm, OfScalars};
-ghost use Rattle.qgm_props.specs.Laws.{InferredHolds, KeysExact, KeysHold, Least, StepHolds};
+ghost use Rattle.qgm_props.specs.Laws.{AllTold, CleanFits, Founded, InferredHolds, KeysExact, KeysHold, Least, StepHolds};
 
-/// What is inferred of boxes is the least set of facts that the sentences give, and it holds. It does nothing.
+/// What is inferred of boxes is the least set of facts that the sentences give, and it holds. A box that is inferred to be clean is so, with or without DISTINCT, in each environment that fits. It does nothing.
 pub fn fact_laws()
     ensures least { Least }
     ensures step { StepHolds }
     ensures facts { InferredHolds }
+    ensures clean { CleanFits }
+    ensures told { AllTold }
+    ensures founded { Founded }
     ensures keys { KeysHold }
     ensures exact { KeysExact }
 {}

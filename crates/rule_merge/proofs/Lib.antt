@@ -6,5 +6,6 @@ pub mod Dropped
 pub mod NodeFree
 pub mod Spread
 pub mod Merged
+pub mod Clean
 pub mod MergedKeeps
 pub mod Placed

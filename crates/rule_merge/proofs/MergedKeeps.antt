@@ -1,5 +1,5 @@
 -- M1 preserves.
-use Rattle.std.proofs.Common.{ℕ, ◌==◌, ◌≡◌, cond, not, true, false, List, [], ◌∷◌, ◌++◌, map, None, refl, sym, ap, subst, eqb-true, inl, inr}
+use Rattle.std.proofs.Common.{ℕ, ◌==◌, ◌≡◌, cond, not, true, false, List, [], ◌∷◌, ◌++◌, map, None, refl, sym, ap, subst, eqb-true}
 use Rattle.std.specs.List.{list_any}
 use Rattle.std.proofs.lemmas.Bool.{and_parts, not-true}
 use Rattle.row_bag.specs.declared.tables.Table.{Table}
@@ -9,7 +9,7 @@ use Rattle.qgm_check.specs.Shapes.{is_unfolded, kind_fits, role_fits}
 use Rattle.qgm_check.specs.WellFormed.{fault}
 use Rattle.qgm_core.specs.Boxes.{QueryGraph, is_box, numbers}
 use Rattle.qgm_core.specs.Free.{reached}
-use Rattle.qgm_core.specs.Kinds.{is_F, is_enforce, is_magic}
+use Rattle.qgm_core.specs.Kinds.{is_F, is_enforce, is_magic, is_permit}
 use Rattle.qgm_core.specs.Lists.{EachOnce, In, holds, without}
 use Rattle.qgm_core.specs.declared.kinds.BoxKind.TheVariants.{Select}
 use Rattle.qgm_core.specs.declared.kinds.Role.{Role}
@@ -20,22 +20,25 @@ use Rattle.qgm_laws.specs.Graph.{Sound, reads_in}
 use Rattle.qgm_laws.specs.Keeps.{Keeps}
 use Rattle.qgm_laws.specs.Merge.{Merges, merge_node, merged, merged_in}
 use Rattle.qgm_laws.specs.MergeDistinct.{MergesDistinct}
+use Rattle.qgm_laws.specs.MergePermit.{MergesAny, MergesPermit}
 use Rattle.qgm_laws.specs.MergeShaped.{MergeFits}
 use Rattle.qgm_laws.specs.Shaped.{Shaped, Typed}
 use Rattle.qgm_laws.proofs.Edits.{without-one}
 use Rattle.qgm_laws.proofs.Formed.{sound-checked}
 use Rattle.qgm_laws.proofs.Levels.{some-in}
 use Rattle.qgm_laws.proofs.MergeDistinct.{merge-distinct-keeps}
+use Rattle.qgm_laws.proofs.MergePermit.{merge-permit-keeps}
 use Rattle.qgm_laws.proofs.Rules.{merge-keeps}
 use Rattle.qgm_laws.proofs.ShapedMerged.{shape-parts}
-use Rattle.qgm_laws.proofs.WellFormedKept.{merge-distinct-formed, merge-formed, numbers-once}
+use Rattle.qgm_laws.proofs.WellFormedKept.{merge-any-formed, merge-distinct-formed, merge-formed, numbers-once}
 use Rattle.qgm_meaning.specs.Satisfies.{Satisfies}
 use Rattle.qgm_meaning.specs.Scope.{put_node}
 use Rattle.qgm_meaning.specs.Searches.{bare}
 use Rattle.qgm_terms.specs.Substitution.{cell_at}
 use Rattle.qgm_terms.specs.Wanted.{has_aggregate, has_aggregate_cond}
 use Rattle.rule_api.specs.Rules.{Preserves}
-use Rattle.rule_merge.specs.MergeSelect.{IsMergeable}
+use Rattle.rule_merge.specs.MergeSelect.{IsMergeable, enforced, permitted, preserved}
+use Rattle.rule_merge.proofs.Clean.{clean-of, clean-under, clean-without}
 use Rattle.rule_merge.proofs.NodeFree.{bare-cell}
 use Rattle.rule_merge.proofs.Preserved.{preserves-kept, satisfies-kept, satisfies-map, satisfies-without}
 
@@ -91,9 +94,22 @@ module _ (g : QueryGraph) (u : EachOnce (numbers g.boxes)) (w : WellFormed g) (b
   from-keeps : Keeps g h → fault h ≡ None → Preserves g h
   from-keeps k f = preserves-kept g h (numbers-once h.boxes k.well.ordered) k f bases
 
+  any : MergesAny g.boxes b c us r vs
+  any = record {
+    in_b = in-b;
+    in_c = in-c;
+    split = m.split;
+    is_f = ap is_F m.is_f;
+    over_c = over-c;
+    select_b = m.select_b;
+    select_c = m.select_c;
+    one_use = m.one_use;
+    naked = naked;
+  }
+
   pub merge-preserves : Preserves g h
   merge-preserves = elim m.distinct [
-    | inl e ↦ (
+    | preserved e ↦ (
         let d : Merges g.boxes b c us r vs = record {
           in_b = in-b;
           in_c = in-c;
@@ -107,7 +123,7 @@ module _ (g : QueryGraph) (u : EachOnce (numbers g.boxes)) (w : WellFormed g) (b
           naked = naked;
         } in
         from-keeps (merge-keeps g sound b c us r vs d) (merge-formed g u ((finds-none g u).1 w) b c us r vs d fits))
-    | inr e ↦ (
+    | enforced e ↦ (
         let d : MergesDistinct g.boxes b c us r vs = record {
           in_b = in-b;
           in_c = in-c;
@@ -121,4 +137,19 @@ module _ (g : QueryGraph) (u : EachOnce (numbers g.boxes)) (w : WellFormed g) (b
           naked = naked;
         } in
         from-keeps (merge-distinct-keeps g sound b c us r vs d) (merge-distinct-formed g u ((finds-none g u).1 w) b c us r vs d fits))
+    | permitted e i j ↦ (
+        let d : MergesPermit g.boxes b c us r vs = record {
+          any = any;
+          permitted = ap is_permit e;
+          clean = λ tables s env p. clean-of g.boxes g.root sound b in-b i tables s env p;
+          clean_below = λ tables s env p. clean-without g.boxes g.root sound c in-c (clean-under g.boxes g.root sound b c us r vs in-b m.split m.select_b (ap is_F m.is_f) over-c i) tables s env p;
+        } in
+        let k = merge-permit-keeps g sound checked.2 b c us r vs d in
+        record {
+          formed = (finds-none h (numbers-once h.boxes k.well.ordered)).0 (merge-any-formed g u ((finds-none g u).1 w) b c us r vs any fits);
+          bag = k.bag;
+          bases = bases;
+          names = k.names;
+          order = k.order;
+        })
   ]

@@ -2,12 +2,13 @@
 use Rattle.std.proofs.Common.{ℕ, zero, suc, ◌+◌, ◌-◌, ◌&&◌, ◌||◌, ◌≡◌, not, true, List, [], ◌∷◌, ◌++◌, drop, length, Some, refl, sym, ap, subst, ◌∙◌, eqb-true, arith}
 use Rattle.std.specs.Prelude.{slice_get, slice_index_or}
 use Rattle.qgm_check.specs.Sentences.{WellFormed}
-use Rattle.qgm_core.specs.Boxes.{QueryGraph, box_of, is_box, numbers}
+use Rattle.qgm_core.specs.Boxes.{HasBox, QueryGraph, box_of, is_box, numbers}
 use Rattle.qgm_core.specs.Lists.{EachOnce, In}
 use Rattle.qgm_core.specs.declared.node.Node.{Node}
 use Rattle.qgm_core.specs.declared.owned.OwnedQuant.{OwnedQuant}
 use Rattle.qgm_laws.specs.Merge.{merged_in}
 use Rattle.qgm_laws.proofs.Levels.{some-in}
+use Rattle.qgm_laws.proofs.Ranks.{in-has}
 use Rattle.qgm_terms.specs.Terms.{Term}
 use Rattle.qgm_terms.specs.Wanted.{node_free}
 use Rattle.rule_api.specs.Rules.{Preserves}
@@ -31,6 +32,9 @@ cells-more b q bs k (suc j) (y ∷ xs) x e =
 -- a box that is found has the number by which it is found
 pub found-itself : (g : QueryGraph) (b : ℕ) (n : Node) → box_of b g ≡ Some n → box_of n.id g ≡ Some n
 found-itself g b n e = subst (λ z. box_of z g ≡ Some n) (sym (eqb-true n.id b (some-in (is_box b) g.boxes n e).1)) e
+
+pub found_has : (g : QueryGraph) (b : ℕ) (n : Node) → box_of b g ≡ Some n → HasBox n.id g
+found_has g b n e = in-has n g.boxes (some-in (is_box b) g.boxes n e).0
 
 get-mid : {X : Type 0} (us : List X) (x : X) (vs : List X) → slice_get (us ++ x ∷ vs) (length us) ≡ Some x
 get-mid [] x vs = refl

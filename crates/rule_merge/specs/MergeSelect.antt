@@ -1,5 +1,5 @@
 -- M1, a select is merged into the select above it: its condition, its places and its action.
-use Rattle.std.proofs.Common.{ℕ, suc, zero, ◌==◌, ◌&&◌, ◌||◌, ◌≡◌, ◌+◌, ◌≤◌, ◌++◌, not, cond, Bool, true, false, List, [], ◌∷◌, length, map, Option, Some, None, refl, sym, ap, subst, ◌∙◌, eqb-true, ◌⊎◌, inl, inr, arith}
+use Rattle.std.proofs.Common.{ℕ, suc, zero, ◌==◌, ◌&&◌, ◌||◌, ◌≡◌, ◌+◌, ◌≤◌, ◌++◌, not, cond, Bool, true, false, List, [], ◌∷◌, length, map, Option, Some, None, refl, sym, ap, subst, ◌∙◌, eqb-true, inl, inr, arith}
 use Rattle.std.specs.Prelude.{◌↔◌}
 use Rattle.std.specs.List.{list_any}
 use Rattle.std.proofs.lemmas.Bool.{and_from, and_parts, cases_Bool, eq-eqb, not-true, or_cases}
@@ -8,9 +8,9 @@ use Rattle.qgm_check.specs.Shapes.{all_F}
 use Rattle.qgm_check.specs.WellFormed.{is_empty}
 use Rattle.qgm_check.specs.declared.check.Clause.TheVariants.{I2}
 use Rattle.qgm_core.specs.Boxes.{QueryGraph, box_of, ids_in, ids_of, is_box, is_quant, overs_in, owns, quants_in, quants_of}
-use Rattle.qgm_core.specs.Edits.{compact, on_boxes}
+use Rattle.qgm_core.specs.Edits.{compact, on_boxes, set_distinct}
 use Rattle.qgm_core.specs.Free.{free, free_in}
-use Rattle.qgm_core.specs.Kinds.{is_F, is_enforce, is_fed, is_magic, is_plain, is_preserve, is_select}
+use Rattle.qgm_core.specs.Kinds.{is_F, is_enforce, is_fed, is_magic, is_permit, is_plain, is_preserve, is_select}
 use Rattle.qgm_core.specs.Lists.{In, times}
 use Rattle.qgm_core.specs.declared.kinds.BoxKind.TheVariants.{Select}
 use Rattle.qgm_core.specs.declared.kinds.Distinct.{Distinct}
@@ -27,6 +27,9 @@ use Rattle.qgm_laws.proofs.Edits.{split-once}
 use Rattle.qgm_laws.proofs.Levels.{some-in}
 use Rattle.qgm_laws.proofs.Lists.{any-from, any-in, any-none, any-not, clash, eq-itself, in-right, or-left, or-none, or-right}
 use Rattle.qgm_laws.proofs.Times.{times-in}
+use Rattle.qgm_props.specs.Inferred.{Facts, Inferred, clean}
+use Rattle.qgm_props.specs.Laws.{Tells}
+use Rattle.qgm_props.proofs.Settled.{all-told}
 use Rattle.qgm_terms.specs.Substitution.{cell_at}
 use Rattle.qgm_terms.specs.Terms.{Term}
 use Rattle.qgm_terms.specs.Wanted.{node_free}
@@ -35,10 +38,16 @@ use Rattle.rule_api.specs.Picks.{Passes, picks}
 use Rattle.rule_api.specs.Rules.{Ascending, Pair}
 use Rattle.rule_api.specs.declared.place.Place.{Place}
 use Rattle.rule_merge.specs.DropCopy.{f-is, plain-is, preserve-is, select-is}
-use Rattle.rule_merge.specs.Merging.{any_fed_closed, cells_free, cells_stand, fed_closed, has_lateral, is_lateral, may_at, may_in, may_merge, may_over, may_stand, may_with, merged_with, parts_fit, read_elsewhere, second_closed, spliced}
+use Rattle.rule_merge.specs.Merging.{any_fed_closed, are_clean, cells_free, cells_stand, distinct_fits, fed_closed, has_lateral, infers_clean, is_lateral, may_at, may_in, may_merge, may_over, may_stand, may_with, merged_with, parts_fit, read_elsewhere, second_closed, spliced}
+
+-- c is PRESERVE, or b is ENFORCE, or b is PERMIT and no row is at an error level: it is inferred that b is clean, and that c is in the graph in which it is PRESERVE
+pub data DistinctFits (g : QueryGraph) (b c : Node) : Type 0 where
+  preserved : c.parts.distinct ≡ Preserve → DistinctFits g b c
+  enforced : b.parts.distinct ≡ Enforce → DistinctFits g b c
+  permitted : b.parts.distinct ≡ Permit → Inferred g.boxes (clean b.id) → Inferred (set_distinct c.id Preserve g).boxes (clean c.id) → DistinctFits g b c
 
 -- b is a plain or magic select with the quantifiers us, r, vs; r is an F over c, a plain select that no other quantifier ranges over and that has no lateral quantifier: what is free in the box under an F of it is no other quantifier of c
--- c is PRESERVE, or b is ENFORCE; if b is magic, c has F quantifiers alone; the cells of c whose columns another box reads, one below b, are node-free; merged, no fed box is left over a closed box
+-- b may have the DISTINCT of c in its place; if b is magic, c has F quantifiers alone; the cells of c whose columns another box reads, one below b, are node-free; merged, no fed box is left over a closed box
 pub record IsMergeable (g : QueryGraph) (b c : Node) (us : List OwnedQuant) (r : OwnedQuant) (vs : List OwnedQuant) : Type 0 where
   pub select_b : b.parts.kind ≡ Select
   pub not_fed : is_fed b.parts.role ≡ false
@@ -49,7 +58,7 @@ pub record IsMergeable (g : QueryGraph) (b c : Node) (us : List OwnedQuant) (r :
   pub plain_c : c.parts.role ≡ Plain
   pub one_use : times c.id (overs_in g.boxes) ≡ 1
   pub no_lateral : (s : OwnedQuant) (q : ℕ) → In s c.quants → s.kind ≡ F → In q (free s.over g) → owns q c ≡ true → (q == s.id) ≡ true
-  pub distinct : (c.parts.distinct ≡ Preserve) ⊎ (b.parts.distinct ≡ Enforce)
+  pub distinct : DistinctFits g b c
   pub rows_alone : b.parts.role ≡ Magic → all_F c.quants ≡ true
   pub cells : (y : Node) → In y g.boxes → (y.id == b.id) ≡ false → (k : ℕ) → reads_in r.id k y ≡ true → node_free (cell_at k c.parts.head) ≡ true
   pub fed_open : FedOpen (merged_in b c us r vs g).boxes
@@ -82,6 +91,11 @@ enforce-is Enforce h = refl
 enforce-is Preserve h = absurd (let q : ⊥ = cc in q)
 enforce-is Permit h = absurd (let q : ⊥ = cc in q)
 
+permit-is : (d : Distinct) → is_permit d ≡ true → d ≡ Permit
+permit-is Enforce h = absurd (let q : ⊥ = cc in q)
+permit-is Preserve h = absurd (let q : ⊥ = cc in q)
+permit-is Permit h = refl
+
 magic-is : (r : Role) → is_magic r ≡ true → r ≡ Magic
 magic-is Plain h = absurd (let q : ⊥ = cc in q)
 magic-is Magic h = refl
@@ -95,11 +109,40 @@ or-rest : (a b : Bool) → (a || not b) ≡ true → b ≡ true → a ≡ true
 or-rest true b h t = refl
 or-rest false b h t = absurd (clash (not b) h (ap not t))
 
-distinct-from : (d e : Distinct) → (is_preserve d || is_enforce e) ≡ true → (d ≡ Preserve) ⊎ (e ≡ Enforce)
-distinct-from d e h = elim (or_cases (is_preserve d) (is_enforce e) h) [ inl t ↦ inl (preserve-is d t) | inr t ↦ inr (enforce-is e t) ]
+-- what is told of boxes is what is inferred of them
+clean-from : (g : QueryGraph) (b : ℕ) → infers_clean g b ≡ true → Inferred g.boxes (clean b)
+unfolding infers_clean
+clean-from g b h = ((all-told g.boxes).1 (clean b)).0 h
 
-distinct-to : (d e : Distinct) → (d ≡ Preserve) ⊎ (e ≡ Enforce) → (is_preserve d || is_enforce e) ≡ true
-distinct-to d e h = elim h [ inl t ↦ or-left (is_preserve d) (is_enforce e) (ap is_preserve t) | inr t ↦ or-right (is_preserve d) (is_enforce e) (ap is_enforce t) ]
+clean-to : (g : QueryGraph) (b : ℕ) → Inferred g.boxes (clean b) → infers_clean g b ≡ true
+unfolding infers_clean
+clean-to g b h = ((all-told g.boxes).1 (clean b)).1 h
+
+pub told-clean : (g : QueryGraph) (known : Facts) (b : ℕ) → Tells known g.boxes → known.clean b ≡ infers_clean g b
+told-clean g known b tells = elim (cases_Bool (infers_clean g b)) [
+  | inl t ↦ (tells (clean b)).1 (clean-from g b t) ∙ sym t
+  | inr f ↦ elim (cases_Bool (known.clean b)) [
+    | inr k ↦ k ∙ sym f
+    | inl t ↦ absurd (clash (infers_clean g b) (clean-to g b ((tells (clean b)).0 t)) f)
+  ]
+]
+
+distinct-from : (g : QueryGraph) (b c : Node) → distinct_fits g b c ≡ true → DistinctFits g b c
+distinct-from g b c h = elim (or_cases (is_preserve c.parts.distinct || is_enforce b.parts.distinct) (is_permit b.parts.distinct && are_clean g b c) h) [
+  | inl t ↦ elim (or_cases (is_preserve c.parts.distinct) (is_enforce b.parts.distinct) t) [ inl p ↦ preserved (preserve-is c.parts.distinct p) | inr e ↦ enforced (enforce-is b.parts.distinct e) ]
+  | inr t ↦ (
+      let a = and_parts (is_permit b.parts.distinct) (are_clean g b c) t in
+      let k = and_parts (infers_clean g b.id) (infers_clean (set_distinct c.id Preserve g) c.id) a.1 in
+      permitted (permit-is b.parts.distinct a.0) (clean-from g b.id k.0) (clean-from (set_distinct c.id Preserve g) c.id k.1))
+]
+
+distinct-to : (g : QueryGraph) (b c : Node) → DistinctFits g b c → distinct_fits g b c ≡ true
+distinct-to g b c (preserved e) = or-left (is_preserve c.parts.distinct || is_enforce b.parts.distinct) (is_permit b.parts.distinct && are_clean g b c) (or-left (is_preserve c.parts.distinct) (is_enforce b.parts.distinct) (ap is_preserve e))
+distinct-to g b c (enforced e) = or-left (is_preserve c.parts.distinct || is_enforce b.parts.distinct) (is_permit b.parts.distinct && are_clean g b c) (or-right (is_preserve c.parts.distinct) (is_enforce b.parts.distinct) (ap is_enforce e))
+distinct-to g b c (permitted e i j) =
+    or-right (is_preserve c.parts.distinct || is_enforce b.parts.distinct) (is_permit b.parts.distinct && are_clean g b c)
+    (and_from (is_permit b.parts.distinct) (are_clean g b c) (ap is_permit e)
+    (and_from (infers_clean g b.id) (infers_clean (set_distinct c.id Preserve g) c.id) (clean-to g b.id i) (clean-to (set_distinct c.id Preserve g) c.id j)))
 
 rows-from : (r : Role) (b : Bool) → (not (is_magic r) || b) ≡ true → r ≡ Magic → b ≡ true
 rows-from r b h e = elim (or_cases (not (is_magic r)) b h) [ inl t ↦ absurd (clash (not (is_magic r)) t (ap (λ z. not (is_magic z)) e)) | inr t ↦ t ]
@@ -219,13 +262,13 @@ module _ (g : QueryGraph) (w : WellFormed g) (b : Node) (us : List OwnedQuant) (
       let a3 = and_parts (is_select b.parts.kind) (not (is_fed b.parts.role)) a2.0 in
       let x = over-from g b r (box_of r.over g) a1.1 in
       let c : Node = x.0 in
-      let b1 = and_parts (may_stand g b r c) (not (any_fed_closed (merged_with g b c r.id))) x.1.1 in
-      let b2 = and_parts (cells_stand g b r c) (not (has_lateral g c)) b1.0 in
+      let b1 = and_parts (may_stand g b r c && distinct_fits g b c) (not (any_fed_closed (merged_with g b c r.id))) x.1.1 in
+      let d1 = and_parts (may_stand g b r c) (distinct_fits g b c) b1.0 in
+      let b2 = and_parts (cells_stand g b r c) (not (has_lateral g c)) d1.0 in
       let b3 = and_parts (parts_fit b c && (times c.id (overs_in g.boxes) == 1)) (cells_free b.id r.id g.boxes 1 c.parts.head) b2.0 in
       let b4 = and_parts (parts_fit b c) (times c.id (overs_in g.boxes) == 1) b3.0 in
-      let p1 = and_parts (is_select c.parts.kind && is_plain c.parts.role && (is_preserve c.parts.distinct || is_enforce b.parts.distinct)) (not (is_magic b.parts.role) || all_F c.quants) b4.0 in
-      let p2 = and_parts (is_select c.parts.kind && is_plain c.parts.role) (is_preserve c.parts.distinct || is_enforce b.parts.distinct) p1.0 in
-      let p3 = and_parts (is_select c.parts.kind) (is_plain c.parts.role) p2.0 in (
+      let p1 = and_parts (is_select c.parts.kind && is_plain c.parts.role) (not (is_magic b.parts.role) || all_F c.quants) b4.0 in
+      let p2 = and_parts (is_select c.parts.kind) (is_plain c.parts.role) p1.0 in (
         c,
         record {
           select_b = select-is b.parts.kind a3.0;
@@ -233,11 +276,11 @@ module _ (g : QueryGraph) (w : WellFormed g) (b : Node) (us : List OwnedQuant) (
           split = split;
           is_f = f-is r.kind a2.1;
           under = x.1.0;
-          select_c = select-is c.parts.kind p3.0;
-          plain_c = plain-is c.parts.role p3.1;
+          select_c = select-is c.parts.kind p2.0;
+          plain_c = plain-is c.parts.role p2.1;
           one_use = eqb-true (times c.id (overs_in g.boxes)) 1 b4.1;
           no_lateral = not-lateral g c (not-true (has_lateral g c) b2.1);
-          distinct = distinct-from c.parts.distinct b.parts.distinct p2.1;
+          distinct = distinct-from g b c d1.1;
           rows_alone = rows-from b.parts.role (all_F c.quants) p1.1;
           cells = cells-from b.id r.id g.boxes c.parts.head b3.1;
           fed_open = subst (λ (z : QueryGraph). FedOpen z.boxes) (merged-same g w b c us r vs in-b split) (fed-from (merged_with g b c r.id) (not-true (any_fed_closed (merged_with g b c r.id)) b1.1));
@@ -250,19 +293,20 @@ module _ (g : QueryGraph) (w : WellFormed g) (b : Node) (us : List OwnedQuant) (
       (and_from (is_select b.parts.kind && not (is_fed b.parts.role)) (is_F r.kind)
       (and_from (is_select b.parts.kind) (not (is_fed b.parts.role)) (ap is_select m.select_b) (ap not m.not_fed)) (ap is_F m.is_f))
       (ap (may_over g b r) m.under
-      ∙ and_from (may_stand g b r c) (not (any_fed_closed (merged_with g b c r.id)))
+      ∙ and_from (may_stand g b r c && distinct_fits g b c) (not (any_fed_closed (merged_with g b c r.id)))
+      (and_from (may_stand g b r c) (distinct_fits g b c)
       (and_from (cells_stand g b r c) (not (has_lateral g c))
       (and_from (parts_fit b c && (times c.id (overs_in g.boxes) == 1)) (cells_free b.id r.id g.boxes 1 c.parts.head)
       (and_from (parts_fit b c) (times c.id (overs_in g.boxes) == 1) fit (eq-eqb (times c.id (overs_in g.boxes)) 1 m.one_use))
       (cells-to b.id r.id g.boxes c.parts.head m.cells))
       (ap not (lateral-not g c m.no_lateral)))
+      (distinct-to g b c m.distinct))
       (ap not (fed-to (merged_with g b c r.id) (subst (λ (z : QueryGraph). FedOpen z.boxes) (sym (merged-same g w b c us r vs in-b split)) m.fed_open))))
     where
       fit : parts_fit b c ≡ true
       fit =
-          and_from (is_select c.parts.kind && is_plain c.parts.role && (is_preserve c.parts.distinct || is_enforce b.parts.distinct)) (not (is_magic b.parts.role) || all_F c.quants)
-          (and_from (is_select c.parts.kind && is_plain c.parts.role) (is_preserve c.parts.distinct || is_enforce b.parts.distinct)
-          (and_from (is_select c.parts.kind) (is_plain c.parts.role) (ap is_select m.select_c) (ap is_plain m.plain_c)) (distinct-to c.parts.distinct b.parts.distinct m.distinct))
+          and_from (is_select c.parts.kind && is_plain c.parts.role) (not (is_magic b.parts.role) || all_F c.quants)
+          (and_from (is_select c.parts.kind) (is_plain c.parts.role) (ap is_select m.select_c) (ap is_plain m.plain_c))
           (rows-to b.parts.role (all_F c.quants) m.rows_alone)
 
 -- ---- places

@@ -4,14 +4,16 @@ use Rattle.std.specs.List.{list_any}
 use Rattle.qgm_check.specs.Shapes.{all_F}
 use Rattle.qgm_check.specs.WellFormed.{is_empty}
 use Rattle.qgm_core.specs.Boxes.{QueryGraph, box_of, overs_in, owns}
-use Rattle.qgm_core.specs.Edits.{compact, on_boxes}
+use Rattle.qgm_core.specs.Edits.{compact, on_boxes, set_distinct}
 use Rattle.qgm_core.specs.Free.{free, free_in}
-use Rattle.qgm_core.specs.Kinds.{is_F, is_enforce, is_fed, is_magic, is_plain, is_preserve, is_select}
+use Rattle.qgm_core.specs.Kinds.{is_F, is_enforce, is_fed, is_magic, is_permit, is_plain, is_preserve, is_select}
 use Rattle.qgm_core.specs.Lists.{times}
+use Rattle.qgm_core.specs.declared.kinds.Distinct.TheVariants.{Preserve}
 use Rattle.qgm_core.specs.declared.node.Node.{Node}
 use Rattle.qgm_core.specs.declared.owned.OwnedQuant.{OwnedQuant}
 use Rattle.qgm_laws.specs.Graph.{reads_in}
 use Rattle.qgm_laws.specs.Merge.{merge}
+use Rattle.qgm_props.proofs.Settled.{all-told}
 use Rattle.qgm_terms.specs.Terms.{Term}
 use Rattle.qgm_terms.specs.Wanted.{node_free}
 
@@ -28,11 +30,21 @@ merged_with g b c q = compact (on_boxes (merge b.id q c (spliced q c.quants b.qu
 
 -- ---- what is asked
 
--- c is a plain select, PRESERVE unless b is ENFORCE; if b is magic, c has F quantifiers alone
+-- c is a plain select; if b is magic, c has F quantifiers alone
 abbrev pub parts_fit : Node → Node → Bool
-parts_fit b c =
-    is_select c.parts.kind && is_plain c.parts.role && (is_preserve c.parts.distinct || is_enforce b.parts.distinct)
-    && (not (is_magic b.parts.role) || all_F c.quants)
+parts_fit b c = is_select c.parts.kind && is_plain c.parts.role && (not (is_magic b.parts.role) || all_F c.quants)
+
+-- box b is inferred to be clean
+unfoldable pub infers_clean : QueryGraph → ℕ → Bool
+infers_clean g b = (all-told g.boxes).0.clean b
+
+-- b is, and c is where it is PRESERVE
+abbrev pub are_clean : QueryGraph → Node → Node → Bool
+are_clean g b c = infers_clean g b.id && infers_clean (set_distinct c.id Preserve g) c.id
+
+-- c is PRESERVE, or b is ENFORCE, or b is PERMIT and both are inferred to be clean
+abbrev pub distinct_fits : QueryGraph → Node → Node → Bool
+distinct_fits g b c = (is_preserve c.parts.distinct || is_enforce b.parts.distinct) || (is_permit b.parts.distinct && are_clean g b c)
 
 -- another quantifier of c is named in the box under s, an F of c, or below it
 abbrev pub is_lateral : QueryGraph → Node → OwnedQuant → Bool
@@ -72,9 +84,9 @@ cells_stand g b r c = parts_fit b c && (times c.id (overs_in g.boxes) == 1) && c
 abbrev pub may_stand : QueryGraph → Node → OwnedQuant → Node → Bool
 may_stand g b r c = cells_stand g b r c && not (has_lateral g c)
 
--- and no fed box is left over a closed box
+-- and a DISTINCT that b may have in its place, and no fed box is left over a closed box
 abbrev pub may_with : QueryGraph → Node → OwnedQuant → Node → Bool
-may_with g b r c = may_stand g b r c && not (any_fed_closed (merged_with g b c r.id))
+may_with g b r c = (may_stand g b r c && distinct_fits g b c) && not (any_fed_closed (merged_with g b c r.id))
 
 abbrev pub may_over : QueryGraph → Node → OwnedQuant → Option Node → Bool
 may_over g b r None = false

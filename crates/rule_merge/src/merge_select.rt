@@ -13,9 +13,9 @@ use rule_api::{Place, Rule, RuleId, add_if};
 use shared_types::OutOfMemory;
 use std::alloc::Global;
 
-/// M1: a plain select under an F quantifier of a select is merged into it, where it is PRESERVE or
-/// the upper one is ENFORCE (Pirahesh, Hellerstein and Hasan 1992, 3.1). An ENFORCE select is not
-/// yet merged into a PERMIT one.
+/// M1: a plain select under an F quantifier of a select is merged into it, where it is PRESERVE, or
+/// the upper one is ENFORCE, or the upper one is PERMIT and both are inferred to be clean, the lower
+/// one without DISTINCT (Pirahesh, Hellerstein and Hasan 1992, 3.1).
 #[derive(Clone, Copy, Debug)]
 pub struct MergeSelect;
 

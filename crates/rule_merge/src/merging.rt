@@ -4,14 +4,17 @@ ghost use Rattle.std.specs.List.{list_any};
 ghost use Rattle.std.specs.Prelude.{◌&&◌, ◌==◌, not, true};
 ghost use Rattle.qgm_check.specs.Sentences.{WellFormed};
 ghost use Rattle.qgm_check.specs.Shapes.{all_F};
-ghost use Rattle.qgm_core.specs.Boxes.{box_of, owns};
+ghost use Rattle.qgm_core.specs.Boxes.{HasBox, box_of, owns};
+ghost use Rattle.qgm_core.specs.Edits.{set_distinct};
 ghost use Rattle.qgm_core.specs.Kinds as kinds;
+ghost use Rattle.qgm_core.specs.declared.kinds.Distinct.TheVariants.{Preserve};
 ghost use Rattle.qgm_laws.specs.Graph.{reads_in};
 ghost use Rattle.rule_merge.specs.Merging as spec;
 
 use crate::copies::{box_at, is_f, is_fed, is_plain, is_preserve, is_select};
 use crate::splices::merged;
 use qgm_core::{BoxId, Distinct, Graph, Head, Node, OwnedQuant, QuantId, Role, free_in, has_range};
+use qgm_props::props;
 use qgm_terms::{Sought, is_node_free, stands_in_cells, stands_in_conds};
 use shared_types::OutOfMemory;
 use std::alloc::Global;
@@ -22,6 +25,15 @@ fn is_enforce(distinct: Distinct) -> bool
     match distinct {
         Distinct::Enforce => true,
         Distinct::Preserve | Distinct::Permit => false,
+    }
+}
+
+fn is_permit(distinct: Distinct) -> bool
+    ensures { result ≡ kinds.is_permit distinct }
+{
+    match distinct {
+        Distinct::Permit => true,
+        Distinct::Enforce | Distinct::Preserve => false,
     }
 }
 
@@ -40,13 +52,12 @@ fn are_f(ranges: &[OwnedQuant]) -> bool
     ranges.iter().all(|r| is_f(r.kind))
 }
 
-// Whether c, under b, is of a kind, role and DISTINCT that may be merged.
+// Whether c, under b, is of a kind and role that may be merged.
 fn parts_fit(b: &Node, c: &Node) -> bool
     ensures { result ≡ spec.parts_fit b.now c.now }
 {
     is_select(&c.parts.kind)
         && is_plain(c.parts.role)
-        && (is_preserve(c.parts.distinct) || is_enforce(b.parts.distinct))
         && (!is_magic(b.parts.role) || are_f(c.quants.as_slice()))
 }
 
@@ -154,7 +165,39 @@ fn cells_stand(graph: &Graph, b: &Node, r: OwnedQuant, c: &Node) -> bool
     parts_fit(b, c) && graph.uses(c.id) == 1 && cells_free(graph.nodes(), b.id, r.id, &c.parts.head)
 }
 
-// Whether c may be merged into b under r, but for what that leaves of fed boxes.
+// Whether it is inferred that no row of a box is at an error level.
+fn infers_clean(alloc: Global, graph: &Graph, b: BoxId) -> Result<bool, OutOfMemory>
+    ensures { IfOk result (λ clean. clean ≡ spec.infers_clean graph.now b) }
+{
+    let known = props(alloc, graph)?;
+    Ok(known.clean(b))
+}
+
+// Whether it is where the box is PRESERVE.
+fn infers_clean_rows(alloc: Global, graph: &Graph, b: BoxId) -> Result<bool, OutOfMemory>
+    requires { HasBox b graph.now }
+    ensures { IfOk result (λ clean. clean ≡ spec.infers_clean (set_distinct b Preserve graph.now) b) }
+{
+    let mut loose = graph.copy(alloc)?;
+    loose.set_distinct(b, Distinct::Preserve);
+    infers_clean(alloc, &loose, b)
+}
+
+// Whether b may have the DISTINCT of c in its place.
+fn distinct_fits(alloc: Global, graph: &Graph, b: &Node, c: &Node) -> Result<bool, OutOfMemory>
+    requires { HasBox c.now.id graph.now }
+    ensures { IfOk result (λ fits. fits ≡ spec.distinct_fits graph.now b.now c.now) }
+{
+    if is_preserve(c.parts.distinct) || is_enforce(b.parts.distinct) {
+        return Ok(true);
+    }
+    if !is_permit(b.parts.distinct) || !infers_clean(alloc, graph, b.id)? {
+        return Ok(false);
+    }
+    infers_clean_rows(alloc, graph, c.id)
+}
+
+// Whether c may be merged into b under r, but for its DISTINCT and for what that leaves of fed boxes.
 fn may_stand(
     alloc: Global,
     graph: &Graph,
@@ -172,6 +215,7 @@ fn may_stand(
 }
 
 // Whether c may be merged into b under r.
+#[tactic(auto, using(crate::proofs::Placed::found_has))]
 fn may_with(
     alloc: Global,
     graph: &Graph,
@@ -188,7 +232,7 @@ fn may_with(
     requires under { box_of r.over graph.now ≡ Some c.now }
     ensures { IfOk result (λ may. may ≡ spec.may_with graph.now b.now r c.now) }
 {
-    if !may_stand(alloc, graph, b, r, c)? {
+    if !may_stand(alloc, graph, b, r, c)? || !distinct_fits(alloc, graph, b, c)? {
         return Ok(false);
     }
     let after = merged(alloc, graph, b, place, r, c)?;

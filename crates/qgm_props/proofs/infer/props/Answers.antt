@@ -8,7 +8,7 @@ use Rattle.qgm_props.specs.Table.{facts_of}
 use Rattle.qgm_props.specs.declared.facts.BoxFacts.{BoxFacts}
 use Rattle.qgm_props.proofs.Improving.{all-said, closed}
 use Rattle.qgm_props.proofs.Monotone.{least}
-use Rattle.qgm_props.proofs.Step.{step}
+use Rattle.qgm_props.proofs.Step.{step-holds}
 use Rattle.qgm_props.proofs.infer.props.Goals as goal
 
 pub returns-clause-exact : goal.returns-clause-exact
@@ -22,4 +22,4 @@ returns-clause-exact c = subst (λ (t : List BoxFacts). (fact : Fact) → ((says
 pub returns-clause-holds : goal.returns-clause-holds
 returns-clause-holds c = subst (λ (t : List BoxFacts). (tables : List Table) → Premises tables c.args.graph.now.boxes → (fact : Fact) → says (facts_of t) fact ≡ true → Holds tables c.args.graph.now.boxes fact) (sym c.of.ensures)
     (subst (λ (ns : List Node). (tables : List Table) → Premises tables ns → (fact : Fact) → says (facts_of c.in_ok-boxes.boxes.items) fact ≡ true → Holds tables ns fact) c.nodes.ensures
-    (λ tables given fact h. all-said c.nodes.result.now (Holds tables c.nodes.result.now) (λ known all fact k. step tables c.nodes.result.now known given all fact k) c.in_ok-boxes.boxes.items c.in_ok-boxes.ensures.improves fact h))
+    (λ tables given fact h. all-said c.nodes.result.now (Holds tables c.nodes.result.now) (λ known all fact k. step-holds tables c.nodes.result.now known given all fact k) c.in_ok-boxes.boxes.items c.in_ok-boxes.ensures.improves fact h))
