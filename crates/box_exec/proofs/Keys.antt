@@ -194,14 +194,10 @@ module _ (keys folds : List Term) (q : ℕ) (env : Environment) (rows made : Bag
       (alike-same (ap (grouped same_cells (take n) (group_of n folds q env)) is ∙ groups-keyed n key long folds q env rows
       ∙ sym (ap (λ (o : Option Kind). error_or_bag (failed_cells (length keys + length folds)) o result) (error None h))))
 
--- one more of these has been gone through
-pub at-yes-more : {X : Type 0} (f : X → List Cell) (xs : List X) (i : ℕ) (x : X) → i < length xs → x ≡ get_or xs i x → at_yes (map f (take (i + 1) xs)) ≡ at_yes (map f (take i xs)) ++ row (f x) Yes ∷ []
-at-yes-more {X} f xs i x l at =
-    ap (λ (ys : List X). at_yes (map f ys)) (take_more xs i x l ∙ ap (λ (y : X). take i xs ++ y ∷ []) (sym at)) ∙ appended (take i xs)
-  where
-    appended : (ys : List X) → at_yes (map f (ys ++ x ∷ [])) ≡ at_yes (map f ys) ++ row (f x) Yes ∷ []
-    appended [] = refl
-    appended (y ∷ ys) = ap (λ (b : Bag). row (f y) Yes ∷ b) (appended ys)
+-- one more has been gone through
+pub at-yes-more : {X : Type 0} (f : X → List Cell) (xs : List X) (x : X) → at_yes (map f (xs ++ x ∷ [])) ≡ at_yes (map f xs) ++ row (f x) Yes ∷ []
+at-yes-more f [] x = refl
+at-yes-more f (y ∷ xs) x = ap (λ (b : Bag). row (f y) Yes ∷ b) (at-yes-more f xs x)
 
 -- ---- cells that are no aggregate
 

@@ -16,3 +16,4 @@ mod Totals
 mod Settled
 mod Bounded
 mod Rejections
+mod Probes

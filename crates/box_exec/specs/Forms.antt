@@ -1,4 +1,4 @@
--- What comparisons make of the cells of their operands.
+-- The operands of comparisons, and what these make of their cells.
 use Rattle.std.specs.Prelude.{true}
 use Rattle.qgm_terms.specs.declared.tree.Gc.{Gc, True, Eq', Ne', Lt', Le', Gt', Ge', Same', Like', IsNull', All', Any', Not', Some', Every'}
 use Rattle.qgm_terms.specs.Terms as s
@@ -6,6 +6,12 @@ use Rattle.sql_value.specs.Truths.{truth_of}
 use Rattle.sql_value.specs.declared.cell.Cell.{Cell}
 use Rattle.sql_value.specs.declared.truth.Truth.{Truth}
 use Rattle.qgm_meaning.specs.Values.{compared}
+use Rattle.box_exec.specs.declared.operand.Operand.{Operand}
+use Rattle.box_exec.specs.declared.operand.Operand.TheVariants.{Borrowed, Made}
+
+abbrev pub cell_held : Operand → Cell
+cell_held (Borrowed cell) = cell.now
+cell_held (Made cell) = cell
 
 -- a comparison of these cells; true of other conditions
 abbrev pub compared_by : Gc → Cell → Cell → Truth

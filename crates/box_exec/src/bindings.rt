@@ -1,8 +1,9 @@
 // The rows that quantifiers are bound to.
-ghost use Rattle.std.specs.Prelude.{◌≡◌, IfOk};
+ghost use Rattle.std.specs.Prelude.{◌≡◌, IfOk, IfSome, None};
 ghost use Rattle.box_exec.specs.Bound.{env_of};
 ghost use Rattle.qgm_meaning.specs.Values.{row_of};
 ghost use Rattle.row_bag.specs.Order.{cell_of};
+ghost use Rattle.sql_value.specs.declared.cell.Cell.TheVariants.{Null};
 
 use qgm_terms::QuantId;
 use shared_types::OutOfMemory;
@@ -26,17 +27,32 @@ fn row_of<'a>(env: &Bindings<'a>, q: QuantId) -> &'a [Cell]
     }
 }
 
-// The cell of a column, counted from 1; null where the row has no such column.
+/// The cell of a column, counted from 1, where it stands, if the row has such a column.
+pub(crate) fn cell_at(row: &[Cell], column: usize) -> Option<&Cell>
+    ensures some { IfSome result (λ cell. cell.now ≡ cell_of column row.now) }
+    ensures none { result ≡ None → cell_of column row.now ≡ Null }
+{
+    if column == 0 {
+        return None;
+    }
+    row.get(column - 1)
+}
+
+// The cell of a column; null where the row has no such column.
 fn cell_of(alloc: Global, column: usize, row: &[Cell]) -> Result<Cell, OutOfMemory>
     ensures { IfOk result (λ cell. cell ≡ cell_of column row.now) }
 {
-    if column == 0 {
-        return Ok(Cell::Null);
-    }
-    match row.get(column - 1) {
+    match cell_at(row, column) {
         Some(cell) => copy(alloc, cell),
         None => Ok(Cell::Null),
     }
+}
+
+/// The cell of a quantifier's column where it stands, if its row has such a column.
+pub(crate) fn placed<'a>(env: &Bindings<'a>, q: QuantId, column: usize) -> Option<&'a Cell>
+    ensures { IfSome result (λ cell. cell.now ≡ cell_of column (row_of q (env_of env.now))) }
+{
+    cell_at(row_of(env, q), column)
 }
 
 /// The cell of a quantifier's column.

@@ -18,6 +18,7 @@ use crate::early::{Early, early_conds, rejected};
 use crate::grouping::grouped;
 use crate::heads::{add_given, once_if};
 use crate::joining::{Join, outer_joined};
+use crate::probe::{probe_of, skips};
 use crate::source::{Source, Sub};
 use crate::under::{Loop, Run, Under, is_f, loops, table_rows};
 use qgm_core::{BoxKind, Node, SetOperator};
@@ -182,17 +183,14 @@ fn each<'x, L: Ledger>(
         return each(at, k + 1, level, env, out, steps, count);
     }
     let rows = rows_under(at, l, env, steps, count)?;
+    let probe = probe_of(at.run.alloc, at.early, k + 1, l.range.id, &*env)?;
     for row in rows.rows() {
-        let inside = Bindings::Row(l.range.id, row.cells.as_slice(), &*env);
-        each(
-            at,
-            k + 1,
-            least(level, row.level),
-            &inside,
-            out,
-            steps,
-            count,
-        )?;
+        let cells = row.cells.as_slice();
+        if !skips(&probe, cells) {
+            let level = least(level, row.level);
+            let inside = Bindings::Row(l.range.id, cells, &*env);
+            each(at, k + 1, level, &inside, out, steps, count)?;
+        }
     }
     Ok(())
 }

@@ -98,8 +98,8 @@ pub(crate) fn early_conds<'a>(
     Ok(made)
 }
 
-// Whether nothing is there.
-fn is_none(level: Level) -> bool
+/// Whether nothing is there.
+pub(crate) fn is_none(level: Level) -> bool
     ensures { result ≡ is_none level }
 {
     match level {

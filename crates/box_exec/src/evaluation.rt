@@ -8,12 +8,13 @@ ghost use Rattle.sql_value.specs.Truths as truths;
 ghost use Rattle.sql_value.specs.declared.cell.Cell.{Cell};
 ghost use Rattle.box_exec.specs.Bound.{env_of};
 ghost use Rattle.box_exec.specs.Sources.{held_by};
-ghost use Rattle.box_exec.specs.Forms.{compared_by};
+ghost use Rattle.box_exec.specs.Forms.{cell_held, compared_by};
 ghost use Rattle.box_exec.specs.Lists as lists;
 ghost use Rattle.row_bag.specs.Subqueries as u;
 ghost use Rattle.qgm_meaning.specs.Values as meaning;
 
 use crate::bindings::{Bindings, column};
+use crate::operand::{Operand, standing};
 use crate::source::{Sub, rows_of};
 use qgm_terms::{Arm, Gc, Gx, Link, Op, QuantId};
 use row_bag::{Row, presence, scalar};
@@ -179,6 +180,23 @@ fn first_true(
     Ok(None)
 }
 
+// The cell of an operand: where it stands if it is a column's.
+#[cycle(value)]
+#[inline(never)]
+fn operand<'a>(
+    alloc: Global,
+    x: &Gx,
+    subs: &[Sub<'_>],
+    env: &Bindings<'a>,
+) -> Result<Operand<'a>, OutOfMemory>
+    ensures { IfOk result (λ o. cell_held o ≡ meaning.value (held_by subs.now) (term x.now) (env_of env.now)) }
+{
+    match standing(x, env) {
+        Some(cell) => Ok(Operand::Borrowed(cell)),
+        None => Ok(Operand::Made(value(alloc, x, subs, env)?)),
+    }
+}
+
 /// How far a condition is true and false.
 #[cycle(value)]
 #[tactic(auto, using(qgm_terms::proofs::Lists::lists))]
@@ -195,9 +213,9 @@ pub fn hold(alloc: Global, p: &Gc, subs: &[Sub<'_>], env: &Bindings) -> Result<T
         | Gc::Ge(a, b)
         | Gc::Same(a, b)
         | Gc::Like(a, b) => {
-            let a = value(alloc, a, subs, env)?;
-            let b = value(alloc, b, subs, env)?;
-            Ok(comparison(p, &a, &b))
+            let a = operand(alloc, a, subs, env)?;
+            let b = operand(alloc, b, subs, env)?;
+            Ok(comparison(p, a.cell(), b.cell()))
         }
         Gc::IsNull(a) => Ok(is_null(&value(alloc, a, subs, env)?)),
         Gc::All(a, list) => {

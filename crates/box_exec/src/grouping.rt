@@ -12,7 +12,7 @@ ghost use Rattle.sql_value.specs.declared.cell.Cell.TheVariants.{Null};
 
 use crate::bindings::Bindings;
 use crate::evaluation::value;
-use crate::heads::head_cells;
+use crate::heads::append_head;
 use qgm_core::{Gx, QuantId};
 use row_bag::{
     Bag, Group, Row, append_cells, count_rows, error_at, failed_row, folded, groups_of, key_error,
@@ -126,7 +126,7 @@ fn group_cells(
 ) -> Result<Items<Cell>, OutOfMemory>
     ensures { IfOk result (λ cells. cells ≡ key.now ++ map (m.fold_cell over.now.quant (env_of over.now.env.now) (spec.without_keys over.now.keys over.now.rows.now)) (terms folds.now)) }
 {
-    let mut cells = Vec::new(alloc);
+    let mut cells = Vec::with_capacity(alloc, key.len().saturating_add(folds.len()))?;
     append_cells(alloc, &mut cells, key)?;
     for x in folds {
         cells.push(fold_cell(alloc, x, over)?)?;
@@ -144,9 +144,11 @@ fn keyed(
 ) -> Result<Row, OutOfMemory>
     ensures { IfOk result (λ made. made ≡ spec.keyed (spec.key_of (terms keys.now) quant (env_of env.now)) row.now) }
 {
-    let inside = Bindings::Row(quant, row.cells.as_slice(), &*env);
-    let mut cells = head_cells(alloc, keys, &[], &inside)?;
-    append_cells(alloc, &mut cells, row.cells.as_slice())?;
+    let old = row.cells.as_slice();
+    let inside = Bindings::Row(quant, old, &*env);
+    let mut cells = Vec::with_capacity(alloc, keys.len().saturating_add(old.len()))?;
+    append_head(alloc, keys, &[], &inside, &mut cells)?;
+    append_cells(alloc, &mut cells, old)?;
     Ok(Row {
         cells: Items::from_vec(cells),
         level: row.level,
@@ -163,25 +165,26 @@ fn keyed_rows(
 ) -> Result<Bag, OutOfMemory>
     ensures { IfOk result (λ made. made ≡ map (spec.keyed (spec.key_of (terms keys.now) quant (env_of env.now))) rows.now) }
 {
-    let mut made = Bag::new(alloc);
+    let mut made = Vec::with_capacity(alloc, rows.len())?;
     for row in rows {
         made.push(keyed(alloc, keys, quant, row, env)?)?;
     }
-    Ok(made)
+    Ok(Bag::from_rows(made))
 }
 
-// What the groups give: of each its key, and then its other cells.
+// What the groups give: of each its key, and then its other cells. A group is let go once its row is
+// made.
 fn group_rows(
     alloc: Global,
     folds: &[Gx],
     quant: QuantId,
     keys: usize,
-    groups: &[Group],
+    groups: Vec<Group>,
     env: &Bindings,
 ) -> Result<Bag, OutOfMemory>
-    ensures { IfOk result (λ made. made ≡ at_yes (map (λ g. spec.group_of keys (terms folds.now) quant (env_of env.now) g.key g.rows) groups.now)) }
+    ensures { IfOk result (λ made. made ≡ at_yes (map (λ g. spec.group_of keys (terms folds.now) quant (env_of env.now) g.key g.rows) groups.items)) }
 {
-    let mut made = Bag::new(alloc);
+    let mut made = Vec::with_capacity(alloc, groups.len())?;
     for group in groups {
         let over = Members {
             quant,
@@ -194,7 +197,7 @@ fn group_rows(
             level: Level::Yes,
         })?;
     }
-    Ok(made)
+    Ok(Bag::from_rows(made))
 }
 
 // One row for each tuple of these first cells of a head.
@@ -213,7 +216,7 @@ fn by_keys(
         Some(kind) => failed_row(alloc, keys.len() + folds.len(), kind),
         None => {
             let groups = groups_of(alloc, keyed, keys.len())?;
-            group_rows(alloc, folds, quant, keys.len(), &groups, env)
+            group_rows(alloc, folds, quant, keys.len(), groups, env)
         }
     }
 }

@@ -39,6 +39,22 @@ fn filtered(
     Ok(level)
 }
 
+/// Adds the cells of a head at the end. It fails only for want of memory.
+pub(crate) fn append_head(
+    alloc: Global,
+    list: &[Gx],
+    subs: &[Sub<'_>],
+    env: &Bindings,
+    out: &mut Vec<Cell>,
+) -> Result<(), OutOfMemory>
+    ensures { OnOk result (out.new.items ≡ out.old.items ++ v.head_cells (held_by subs.now) (terms list.now) (env_of env.now)) }
+{
+    for x in list {
+        out.push(value(alloc, x, subs, env)?)?;
+    }
+    Ok(())
+}
+
 /// The cells of a head. It fails only for want of memory.
 pub(crate) fn head_cells(
     alloc: Global,
@@ -49,9 +65,7 @@ pub(crate) fn head_cells(
     ensures { IfOk result (λ cells. cells.items ≡ v.head_cells (held_by subs.now) (terms list.now) (env_of env.now)) }
 {
     let mut cells = Vec::with_capacity(alloc, list.len())?;
-    for x in list {
-        cells.push(value(alloc, x, subs, env)?)?;
-    }
+    append_head(alloc, list, subs, env, &mut cells)?;
     Ok(cells)
 }
 

@@ -13,6 +13,8 @@ mod heads;
 mod joining;
 mod laws;
 mod memo;
+mod operand;
+mod probe;
 mod source;
 mod under;
 

@@ -1,7 +1,6 @@
-use Rattle.std.proofs.Common.{◌∙◌, ap, sym, length, take, List, map, subst}
-use Rattle.row_bag.specs.Bags.{Agree, at_yes}
+use Rattle.std.proofs.Common.{◌∙◌, sym, length, take, subst}
+use Rattle.row_bag.specs.Bags.{Agree}
 use Rattle.row_bag.specs.Sets.{grouped, same_cells}
-use Rattle.row_bag.specs.declared.groups.Group.{Group}
 use Rattle.qgm_meaning.specs.Values.{Bag}
 use Rattle.std.proofs.lemmas.List.{length-map}
 use Rattle.std.proofs.lemmas.Result.{IfOk-weaker}
@@ -23,6 +22,6 @@ returns-in_ok-groups-in-None c =
     IfOk-weaker c.group_rows.result _ _
     (λ made h. keys-made (terms c.args.keys.now) (terms c.args.folds.now) c.args.quant (env_of c.args.env.now) c.args.rows.now c.in_ok-keyed.keyed (length c.args.keys.now) (sym (length-map c.args.keys.now term)) c.in_ok-keyed.ensures made (sym c.key_error.ensures ∙ c.in-None.is)
     (subst (λ (b : Bag). Agree same_cells b (grouped same_cells (take (length c.args.keys.now)) (group_of (length c.args.keys.now) (terms c.args.folds.now) c.args.quant (env_of c.args.env.now)) c.in_ok-keyed.keyed))
-    (sym (h ∙ ap (λ (gs : List Group). at_yes (map (λ g. group_of (length c.args.keys.now) (terms c.args.folds.now) c.args.quant (env_of c.args.env.now) g.key g.rows) gs)) c.deref.ensures.value))
+    (sym h)
     (c.in_ok-groups-in-None.ensures.grouped (group_of (length c.args.keys.now) (terms c.args.folds.now) c.args.quant (env_of c.args.env.now)))))
     c.group_rows.ensures

@@ -12,10 +12,10 @@ use Rattle.box_exec.proofs.grouping.group_rows.Goals as goal
 
 pub loop-group-preserved : goal.loop-group-preserved
 loop-group-preserved c =
-    let g = c.group-item.result in
+    let g = c.in-Some.group in
     let f : Group → List Cell = λ g. group_of c.args.keys (terms c.args.folds.now) c.args.quant (env_of c.args.env.now) g.key g.rows in
     let cells : c.in_ok-group_cells.field-0 ≡ f g =
     c.in_ok-group_cells.ensures ∙ ap₂ (λ (key : List Cell) (rows : Bag). group_of c.args.keys (terms c.args.folds.now) c.args.quant (env_of c.args.env.now) key rows) c.as_slice.ensures c.rows.ensures in
-    c.in_ok-push.ensures.ok
+    c.in_ok-push.ensures.items
     ∙ ap₂ (λ (b : Bag) (cells : List Cell). b ++ row cells Yes ∷ []) c.loop-group.invariant cells
-    ∙ sym (at-yes-more f c.args.groups.now c.loop-group.group-index g c.loop-group-test.true c.group-item.is)
+    ∙ sym (at-yes-more f c.loop-group.yielded g)

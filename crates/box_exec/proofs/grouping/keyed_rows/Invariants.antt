@@ -5,4 +5,4 @@ use Rattle.box_exec.specs.Groups.{key_of, keyed}
 use Rattle.box_exec.proofs.grouping.keyed_rows.Given as goal
 
 abbrev pub invariant-loop-row : goal.invariant-loop-row
-invariant-loop-row l = l.made ≡ map (keyed (key_of (terms l.keys) l.quant (env_of l.env))) (take l.row-index l.rows)
+invariant-loop-row l = l.made.items ≡ map (keyed (key_of (terms l.keys) l.quant (env_of l.env))) (take l.row-index l.rows)
