@@ -8,3 +8,6 @@ pub mod Spread
 pub mod Merged
 pub mod MergedKeeps
 pub mod Placed
+pub mod Unfed
+pub mod Alone
+pub mod Unread
