@@ -59,7 +59,7 @@ in-get (y ∷ ys) (suc k) x e = inr (in-get ys k x e)
 
 -- ---- candidates
 
-at-to : (pairs : Pairs) (rs : List RuleId) (g : QueryGraph) (b : ℕ) (f : Firing) → In f (at_box pairs rs g b) → In f.rule rs × (f.place.at ≡ b) × In (f.place.i, f.place.j) (pairs f.rule g b)
+pub at-to : (pairs : Pairs) (rs : List RuleId) (g : QueryGraph) (b : ℕ) (f : Firing) → In f (at_box pairs rs g b) → In f.rule rs × (f.place.at ≡ b) × In (f.place.i, f.place.j) (pairs f.rule g b)
 at-to pairs rs g b f i =
     let r = in-flat_map (λ r. map (firing r) (map (place_at b) (pairs r g b))) rs f i in
     let p = in-map (firing r.0) (map (place_at b) (pairs r.0 g b)) f r.1.1 in

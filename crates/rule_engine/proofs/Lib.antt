@@ -5,3 +5,4 @@ pub mod Enabled
 pub mod Walked
 pub mod Chains
 pub mod Examples
+pub mod First

@@ -1,5 +1,5 @@
 -- The candidates in order, and which of them is next.
-use Rattle.std.specs.Prelude.{ℕ, zero, suc, ◌+◌, ◌*◌, ◌/◌, ◌%◌, ◌==◌, ◌++◌, nat_le, if◌then◌else◌, Bool, List, [], ◌∷◌, map, length, Option, slice_get}
+use Rattle.std.specs.Prelude.{ℕ, zero, suc, ◌+◌, ◌*◌, ◌/◌, ◌%◌, ◌==◌, ◌++◌, nat_le, if◌then◌else◌, Bool, false, List, [], ◌∷◌, map, length, Option, Some, None, slice_get}
 use Rattle.std.specs.List.{flat_map, list_all, list_any}
 use Rattle.qgm_core.specs.Boxes.{QueryGraph}
 use Rattle.qgm_core.specs.Lists.{first}
@@ -91,6 +91,15 @@ is_least list f = list_all (λ e. nat_le (rank_of f.rule) (rank_of e.rule)) list
 -- the first of those whose rule ranks first
 unfoldable pub earliest : List Firing → Option Firing
 earliest list = first (is_least list) list
+
+-- no rule of these ranks before that of f
+abbrev pub is_foremost : List RuleId → Firing → Bool
+is_foremost rules f = list_all (λ r. nat_le (rank_of f.rule) (rank_of r)) rules
+
+-- one is found, and no rule of these ranks before its own
+abbrev pub ranks_first : List RuleId → Option Firing → Bool
+ranks_first rules None = false
+ranks_first rules (Some f) = is_foremost rules f
 
 -- the states of the generator
 abbrev pub x_at : ℕ → ℕ → ℕ

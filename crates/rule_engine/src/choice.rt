@@ -7,7 +7,7 @@ use rewrite_plan::{Order, Plan};
 use rule_api::Firing;
 
 // The first of those whose rule ranks first.
-fn earliest(list: &[Firing]) -> Option<Firing>
+pub fn earliest(list: &[Firing]) -> Option<Firing>
     ensures { result ≡ spec.earliest list.now }
 {
     let mut found: Option<Firing> = None;

@@ -94,7 +94,7 @@ fn add_class(out: &mut Vec<RuleId>, class: Class) -> Result<(), OutOfMemory>
 }
 
 // The rules of these classes.
-fn enabled_rules(alloc: Global, classes: &[Class]) -> Result<Vec<RuleId>, OutOfMemory>
+pub fn enabled_rules(alloc: Global, classes: &[Class]) -> Result<Vec<RuleId>, OutOfMemory>
     ensures { IfOk result (λ v. v.items ≡ spec.enabled classes.now) }
 {
     let mut out = Vec::new(alloc);
@@ -128,7 +128,7 @@ fn add_rule<T: Rules>(
 }
 
 // Adds the places of these rules at a box.
-fn add_box<T: Rules>(
+pub fn add_box<T: Rules>(
     alloc: Global,
     table: &T,
     graph: &Graph,

@@ -5,6 +5,7 @@ mod choice;
 mod control;
 mod laws;
 mod rules;
+mod selection;
 mod steps;
 mod trace;
 

@@ -3,9 +3,8 @@ ghost use Rattle.std.specs.Prelude.{◌≡◌, IfOk, OnErr};
 ghost use Rattle.qgm_check.specs.Sentences.{WellFormed};
 ghost use Rattle.rule_engine.specs.Trace.{Steps, Traces};
 
-use crate::choice::next;
-use crate::control::candidates;
 use crate::rules::Rules;
+use crate::selection::chosen;
 use crate::trace::Trace;
 use qgm_core::Graph;
 use rewrite_plan::Plan;
@@ -26,8 +25,7 @@ pub fn step<T: Rules>(
     ensures ok { IfOk result (λ f. Steps (T.pairs table.now) (T.may table.now) (T.act table.now) plan.now count graph.old f graph.new) }
     ensures err { OnErr result (graph.new ≡ graph.old) }
 {
-    let list = candidates(alloc, table, graph, plan)?;
-    let Some(f) = next(plan, &list, count) else {
+    let Some(f) = chosen(alloc, table, graph, plan, count)? else {
         return Ok(None);
     };
     table.apply(alloc, f.rule, graph, f.place)?;

@@ -9,3 +9,6 @@ pub mod Merged
 pub mod Clean
 pub mod MergedKeeps
 pub mod Placed
+pub mod Unfed
+pub mod Alone
+pub mod Unread

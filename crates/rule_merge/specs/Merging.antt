@@ -76,6 +76,10 @@ fed_closed boxes n = is_fed n.parts.role && second_closed boxes n.quants
 abbrev pub any_fed_closed : QueryGraph → Bool
 any_fed_closed g = list_any (fed_closed g.boxes) g.boxes
 
+-- a box of these is fed
+abbrev pub any_fed : List Node → Bool
+any_fed boxes = list_any (λ n. is_fed n.parts.role) boxes
+
 -- c has one use, and cells that may stand in other boxes than b
 abbrev pub cells_stand : QueryGraph → Node → OwnedQuant → Node → Bool
 cells_stand g b r c = parts_fit b c && (times c.id (overs_in g.boxes) == 1) && cells_free b.id r.id g.boxes 1 c.parts.head

@@ -1,12 +1,19 @@
 -- The steps of M1's action.
-use Rattle.std.specs.Prelude.{ℕ, ◌≡◌, ◌==◌, ◌≤◌, ◌-◌, ◌++◌, if◌then◌else◌, false, List, Some, drop, length, slice_get, take}
+use Rattle.std.specs.Prelude.{ℕ, ◌≡◌, ◌==◌, ◌≤◌, ◌-◌, ◌++◌, ◌||◌, if◌then◌else◌, Bool, false, List, Some, drop, length, slice_get, take}
+use Rattle.std.specs.List.{list_any}
 use Rattle.qgm_core.specs.Boxes.{Ordered, QueryGraph, box_of, ids_in, is_box, overs_in}
 use Rattle.qgm_core.specs.Edits.{put_cells}
 use Rattle.qgm_core.specs.Lists.{In, change, each, times}
 use Rattle.qgm_core.specs.declared.kinds.BoxKind.TheVariants.{Select}
 use Rattle.qgm_core.specs.declared.node.Node.{Node}
 use Rattle.qgm_core.specs.declared.owned.OwnedQuant.{OwnedQuant}
+use Rattle.qgm_core.specs.declared.parts.BoxParts.{BoxParts}
 use Rattle.qgm_terms.specs.Terms.{Term}
+use Rattle.qgm_terms.specs.Wanted.{reads, reads_cond}
+
+-- a box of these parts reads a column of q
+abbrev pub reads_any : ℕ → BoxParts → Bool
+reads_any q parts = list_any (reads q) parts.head || list_any (reads_cond q) parts.conds.items
 
 -- cells for the columns of q in these boxes, one by one
 abbrev pub put_each : ℕ → List Term → List Node → List Node → List Node

@@ -86,9 +86,14 @@ fn is_lateral(alloc: Global, graph: &Graph, c: &Node, s: OwnedQuant) -> Result<b
     Ok(has_other(c, s.id, free.as_slice()))
 }
 
+// Whether a quantifier of c is lateral, which one alone never is.
+#[tactic(auto, using(crate::proofs::Alone::alone_apart))]
 fn has_lateral(alloc: Global, graph: &Graph, c: &Node) -> Result<bool, OutOfMemory>
     ensures { IfOk result (λ lateral. lateral ≡ spec.has_lateral graph.now c.now) }
 {
+    if c.quants.as_slice().len() <= 1 {
+        return Ok(false);
+    }
     for s in c.quants.as_slice() {
         if is_lateral(alloc, graph, c, *s)? {
             return Ok(true);
@@ -158,6 +163,12 @@ fn any_fed_closed(alloc: Global, graph: &Graph) -> Result<bool, OutOfMemory>
     Ok(false)
 }
 
+fn any_fed(nodes: &[Node]) -> bool
+    ensures { result ≡ spec.any_fed nodes.now }
+{
+    nodes.iter().any(|n| is_fed(n.parts.role))
+}
+
 // Whether c has one use, and cells that may stand in other boxes than b.
 fn cells_stand(graph: &Graph, b: &Node, r: OwnedQuant, c: &Node) -> bool
     ensures { result ≡ spec.cells_stand graph.now b.now r c.now }
@@ -214,8 +225,9 @@ fn may_stand(
     Ok(!lateral)
 }
 
-// Whether c may be merged into b under r.
-#[tactic(auto, using(crate::proofs::Placed::found_has))]
+// Whether c may be merged into b under r. Where no box is fed, none will be, so that the graph after
+// it isn't made.
+#[tactic(auto, using(crate::proofs::Placed::found_has, crate::proofs::Unfed::merged_unfed))]
 fn may_with(
     alloc: Global,
     graph: &Graph,
@@ -234,6 +246,9 @@ fn may_with(
 {
     if !may_stand(alloc, graph, b, r, c)? || !distinct_fits(alloc, graph, b, c)? {
         return Ok(false);
+    }
+    if !any_fed(graph.nodes()) {
+        return Ok(true);
     }
     let after = merged(alloc, graph, b, place, r, c)?;
     let closed = any_fed_closed(alloc, &after)?;

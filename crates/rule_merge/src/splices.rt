@@ -4,18 +4,48 @@ ghost use Rattle.qgm_check.specs.Sentences.{WellFormed};
 ghost use Rattle.qgm_core.specs.Boxes.{HasBox};
 ghost use Rattle.qgm_core.specs.Edits as edits;
 ghost use Rattle.qgm_core.specs.Edits.{on_boxes};
+ghost use Rattle.qgm_core.specs.Held.{HasAll};
 ghost use Rattle.qgm_core.specs.Lists.{In};
 ghost use Rattle.qgm_core.specs.declared.kinds.BoxKind.TheVariants.{Select};
 ghost use Rattle.qgm_core.specs.declared.node.Node.{Node};
 ghost use Rattle.qgm_terms.specs.Shown.{conds};
 ghost use Rattle.qgm_terms.specs.Substitution.{substituted, substituted_cond};
 ghost use Rattle.rule_merge.specs.Merging.{merged_with};
-ghost use Rattle.rule_merge.specs.Splices.{Spreads, Stands, put_each, spread};
+ghost use Rattle.rule_merge.specs.Splices.{Spreads, Stands, put_each, reads_any, spread};
 
-use qgm_core::{BoxId, BoxKind, Conds, Gc, Graph, Head, Node, OwnedQuant, QuantId};
-use qgm_terms::{ROOM, copy_cond, substitute_conds, substitute_head};
+use qgm_core::{BoxId, BoxKind, BoxParts, Conds, Gc, Graph, Head, Node, OwnedQuant, QuantId};
+use qgm_terms::{
+    ROOM, Sought, copy_cond, stands_in_cells, stands_in_conds, substitute_conds, substitute_head,
+};
 use shared_types::OutOfMemory;
 use std::alloc::Global;
+
+// Whether a box reads a column of q.
+fn reads_any(parts: &BoxParts, q: QuantId) -> bool
+    ensures { result ≡ reads_any q parts.now }
+{
+    stands_in_cells(parts.head.as_slice(), Sought::Row(q))
+        || stands_in_conds(parts.conds.as_slice(), Sought::Row(q))
+}
+
+// Cells for the columns of q in a box. One that reads none stays.
+#[tactic(auto, using(crate::proofs::Unread::unread_same))]
+fn put_in(
+    alloc: Global,
+    graph: &mut Graph,
+    b: BoxId,
+    q: QuantId,
+    cells: &Head,
+) -> Result<(), OutOfMemory>
+    requires { HasBox b graph.old }
+    ensures ok { OnOk result (graph.new ≡ edits.substitute b q cells.now graph.old) }
+    ensures kept { HasAll graph.old graph.new }
+{
+    if !reads_any(graph.parts(b), q) {
+        return Ok(());
+    }
+    graph.substitute(alloc, b, q, cells)
+}
 
 // Cells for the columns of q in each of these boxes.
 fn put_each(
@@ -29,7 +59,7 @@ fn put_each(
     ensures { OnOk result (graph.new ≡ on_boxes (put_each q cells.now nodes.now) graph.old) }
 {
     for node in nodes {
-        graph.substitute(alloc, node.id, q, cells)?;
+        put_in(alloc, graph, node.id, q, cells)?;
     }
     Ok(())
 }

@@ -1,0 +1,7 @@
+use Rattle.std.proofs.Common.{◌≡◌, take}
+use Rattle.std.specs.List.{flat_map}
+use Rattle.rule_engine.specs.Control.{at_box}
+use Rattle.rule_engine.proofs.selection.earliest_candidate.Given as goal
+
+abbrev pub invariant-loop-b : goal.invariant-loop-b
+invariant-loop-b g l = l.out.items ≡ flat_map (at_box (g.T.Rules.pairs l.table) l.rules.items l.graph) (take l.b-index l.b-items)
