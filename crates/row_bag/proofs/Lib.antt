@@ -13,7 +13,9 @@ pub mod Folds
 pub mod GreatestLevels
 pub mod Grouping
 pub mod Images
+pub mod Indexed
 pub mod Inserted
+pub mod Keeping
 pub mod Keying
 pub mod Leading
 pub mod LeadingWhole
@@ -24,7 +26,6 @@ pub mod OneRow
 pub mod Onlys
 pub mod Order
 pub mod Products
-pub mod Runs
 pub mod Scalars
 pub mod SetLaws
 pub mod Setting
