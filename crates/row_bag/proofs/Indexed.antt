@@ -1,5 +1,5 @@
 -- Tuples found by the chains of their hashes.
-use Rattle.std.proofs.Common.{◌≡◌, ℕ, zero, suc, ◌+◌, ◌-◌, ◌<◌, ◌≤◌, ◌%◌, zero-add, Bool, true, false, cond, nat_eq, eqb-true, List, [], ◌∷◌, ◌++◌, map, length, get_or, set, replicate, Option, Some, None, refl, sym, ap, ◌∙◌, arith, inl, inr}
+use Rattle.std.proofs.Common.{◌≡◌, ℕ, zero, suc, ◌+◌, ◌-◌, ◌<◌, ◌≤◌, ◌%◌, zero-add, Bool, true, cond, nat_eq, eqb-true, List, [], ◌∷◌, ◌++◌, map, length, get_or, set, replicate, Some, refl, sym, ap, ◌∙◌, arith, inl, inr}
 use Rattle.std.specs.Prelude.{option_map, slice_get}
 use Rattle.std.proofs.lemmas.Bool.{cases_Bool, cases_lt, eqb-false}
 use Rattle.std.proofs.lemmas.Grind.{get_or-set_at}
@@ -193,10 +193,9 @@ long hash tuple links items e = sym (length-map links hash) ∙ sizes (map hash 
 pub stands : {G : Type 0} (tuple : G → Tuple) (items : List G) (at : ℕ) (x : G) (t cells : Tuple) (b : Bool) → at < length items → x ≡ get_or items at x → t ≡ tuple x → b ≡ same_cells t cells
     → (b ≡ true → slice_get (map tuple items) at ≡ Some cells) × (slice_get (map tuple items) at ≡ Some cells → b ≡ true)
 stands tuple items at x t cells b within is et eb =
-    let here : slice_get (map tuple items) at ≡ Some t = slice_get-map tuple items at ∙ ap (option_map tuple) (slice_get-get_or items at x within) ∙ ap (λ y. Some (tuple y)) (sym is) ∙ ap (λ (u : Tuple). Some u) (sym et) in
-    (
+    let here : slice_get (map tuple items) at ≡ Some t = slice_get-map tuple items at ∙ ap (option_map tuple) (slice_get-get_or items at x within) ∙ ap (λ y. Some (tuple y)) (sym is) ∙ ap (λ (u : Tuple). Some u) (sym et) in (
       λ yes. here ∙ ap (λ (u : Tuple). Some u) ((same_cells-decides t cells).0 (sym eb ∙ yes)),
-      λ found. eb ∙ (same_cells-decides t cells).1 (some-same t cells (sym here ∙ found))
+      λ found. eb ∙ (same_cells-decides t cells).1 (some-same t cells (sym here ∙ found)),
     )
 
 -- a place whose hash is another isn't that of the cells
@@ -204,9 +203,8 @@ pub other-hash : {L G : Type 0} (hash : L → ℕ) (tuple : G → Tuple) (links 
     → (hash (get_or links at d) ≡ h → ⊥)
     → (nat_eq (hash (get_or links at d)) h ≡ true → slice_get (map tuple items) at ≡ Some cells) × (slice_get (map tuple items) at ≡ Some cells → nat_eq (hash (get_or links at d)) h ≡ true)
 other-hash hash tuple links items at d h cells within e eh differ =
-    let size = length-map links hash in
-    (
+    let size = length-map links hash in (
       λ yes. absurd (differ (eqb-true (hash (get_or links at d)) h yes)),
       λ found.
-          absurd (differ (sym (get_or-map hash links at d 0 within) ∙ hash-at (map hash links) (map tuple items) at cells e (omega (arith, size, within)) found ∙ sym eh))
+          absurd (differ (sym (get_or-map hash links at d 0 within) ∙ hash-at (map hash links) (map tuple items) at cells e (omega (arith, size, within)) found ∙ sym eh)),
     )

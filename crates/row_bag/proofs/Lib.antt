@@ -7,6 +7,7 @@ pub mod Copies
 pub mod Counts
 pub mod Deciding
 pub mod Filtering
+pub mod Entering
 pub mod FirstCells
 pub mod FoldLaws
 pub mod Folds

@@ -1,4 +1,4 @@
-use Rattle.std.proofs.Common.{rules, ◌≡◌, ◌∙◌, ◌∷◌, [], sym, ap, arith}
+use Rattle.std.proofs.Common.{rules, ◌∙◌, sym, arith}
 use Rattle.std.specs.Vec.Iter.{into_iter_items}
 use Rattle.row_bag.proofs.GreatestLevels.{levels-refl}
 use Rattle.row_bag.proofs.Keeping.{keep-more, kept-whole, none_left, one_less}

@@ -1,4 +1,4 @@
-use Rattle.std.proofs.Common.{◌≡◌, ◌∙◌, ap, set}
+use Rattle.std.proofs.Common.{◌∙◌, ap, set}
 use Rattle.std.proofs.Math.Seq.{map-set_same}
 use Rattle.sql_value.specs.Level.{greatest}
 use Rattle.row_bag.specs.Bags.{row}

@@ -1,4 +1,4 @@
-use Rattle.std.proofs.Common.{◌≡◌, ◌∙◌, ◌-◌, arith, get_or, length, map, refl, sym}
+use Rattle.std.proofs.Common.{◌∙◌, ◌-◌, arith, get_or, length, map, refl, sym}
 use Rattle.std.proofs.lemmas.Bool.{false≢true}
 use Rattle.std.proofs.lemmas.List.{get_or-map, length-map}
 use Rattle.row_bag.specs.declared.tuple_index.Link.{Link}

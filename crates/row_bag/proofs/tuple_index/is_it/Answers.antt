@@ -1,4 +1,4 @@
-use Rattle.std.proofs.Common.{◌≡◌, ◌<◌, length, arith}
+use Rattle.std.proofs.Common.{arith}
 use Rattle.row_bag.specs.declared.tuple_index.Link.{Link}
 use Rattle.row_bag.proofs.Indexed.{long, other-hash, stands}
 use Rattle.row_bag.proofs.tuple_index.is_it.Goals as goal
