@@ -7,13 +7,16 @@ pub mod Copies
 pub mod Counts
 pub mod Deciding
 pub mod Filtering
+pub mod Entering
 pub mod FirstCells
 pub mod FoldLaws
 pub mod Folds
 pub mod GreatestLevels
 pub mod Grouping
 pub mod Images
+pub mod Indexed
 pub mod Inserted
+pub mod Keeping
 pub mod Keying
 pub mod Leading
 pub mod LeadingWhole
@@ -24,7 +27,6 @@ pub mod OneRow
 pub mod Onlys
 pub mod Order
 pub mod Products
-pub mod Runs
 pub mod Scalars
 pub mod SetLaws
 pub mod Setting

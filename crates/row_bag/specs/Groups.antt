@@ -1,11 +1,12 @@
 -- Groups of rows by their first cells.
-use Rattle.std.specs.Prelude.{ℕ, Bool, List, take, Option, None}
+use Rattle.std.specs.Prelude.{◌≡◌, ℕ, All, List, ◌∷◌, ◌++◌, map, take, Option, None}
 use Rattle.sql_value.specs.Cells.{worst_of}
 use Rattle.sql_value.specs.declared.cell.Cell.{Cell}
 use Rattle.sql_value.specs.declared.cell.Kind.{Kind}
 use Rattle.row_bag.specs.Bags.{bind, if_there, unit}
 use Rattle.row_bag.specs.Errors.{error_among, error_at, error_in}
-use Rattle.row_bag.specs.Matched.{tuple_below}
+use Rattle.row_bag.specs.Hashes.{AreDifferent}
+use Rattle.row_bag.specs.Matched.{often}
 use Rattle.row_bag.specs.Sets.{of_group, once, same_cells}
 use Rattle.row_bag.specs.declared.row.Row.{Row}
 
@@ -25,10 +26,12 @@ key_error_of n r = if_there None (λ cells level. worst_of (error_at level) (err
 abbrev pub key_error : ℕ → List (Row (List Cell)) → Option Kind
 key_error n rows = error_among (λ cells. error_in (take n cells)) rows
 
--- the first n cells of a row are this key
-abbrev pub has_key : ℕ → List Cell → Row (List Cell) → Bool
-has_key n key r = same_cells (take n r.cells) key
+-- groups of the rows of a bag that come before these: each key once, with its rows so far; a key of no group is one of later rows, if any
+pub record AreGroups {G : Type 0} (key : G → List Cell) (members : G → List (Row (List Cell))) (n : ℕ) (bag rest : List (Row (List Cell))) (groups : List G) : Type 0 where
+  pub own : All (λ g. members g ++ rows_of n (key g) rest ≡ rows_of n (key g) bag) groups
+  pub once : AreDifferent (map key groups)
+  pub fresh : (k : List Cell) → often k (map key groups) ≡ 0 → rows_of n k rest ≡ rows_of n k bag
 
--- the first n cells of the first row stand below those of the second
-abbrev pub key_below : ℕ → Row (List Cell) → Row (List Cell) → Bool
-key_below n a b = tuple_below (take n a.cells) (take n b.cells)
+-- groups of one row more
+abbrev pub HasEntered : {G : Type 0} → (G → List Cell) → (G → List (Row (List Cell))) → ℕ → Row (List Cell) → List G → List G → Type 0
+HasEntered key members n r old new = (bag rest : List (Row (List Cell))) → AreGroups key members n bag (r ∷ rest) old → AreGroups key members n bag rest new

@@ -8,6 +8,7 @@ pub mod ExistsJoins
 pub mod Filters
 pub mod FoldLaws
 pub mod Groups
+pub mod Hashes
 pub mod Joins
 pub mod Keys
 pub mod Laws

@@ -1,30 +1,38 @@
 // Groups of rows by their first cells.
-ghost use Rattle.std.specs.Prelude.{◌≡◌, ◌++◌, ◌<◌, ◌≤◌, List, All, IfOk, OnOk, drop, false, length, map, take, true};
-ghost use Rattle.std.specs.Cmp.Lexicographic.{slice_cmp};
+ghost use Rattle.std.specs.Prelude.{◌≡◌, ◌∷◌, [], List, All, IfOk, OnOk, Some, filter, map, slice_get, take};
 ghost use Rattle.std.specs.List.{list_any};
-ghost use Rattle.std.specs.List.Sorted.{IsPartitionPoint, IsPermutation, IsSortedBy, IsStableBy};
-ghost use Rattle.sql_value.specs.Cells.{cell_compare};
 ghost use Rattle.sql_value.specs.declared.cell.Cell.{Cell};
 ghost use Rattle.row_bag.specs.Bags.{Agree, at_yes};
 ghost use Rattle.row_bag.specs.Groups as spec;
+ghost use Rattle.row_bag.specs.Hashes.{hashes_of};
+ghost use Rattle.row_bag.specs.Matched.{often};
 ghost use Rattle.row_bag.specs.Sets.{grouped, same_cells};
 ghost use Rattle.row_bag.specs.Verdict.{is_there};
 ghost use Rattle.row_bag.specs.declared.row.Row.{Row};
 
 use crate::answer::{error_at, error_in, is_there, worst_of};
 use crate::bag::Bag;
-use crate::row::{Row, cells_order};
+use crate::row::Row;
+use crate::tuple_index::{HasTuple, TupleIndex};
+use crate::tuples::copied;
 use shared_types::OutOfMemory;
-use sql_value::{Cell, Kind, copy};
+use sql_value::{Cell, Kind};
 use sqlite_items::Items;
 use std::alloc::Global;
-use std::cmp::Ordering;
 
 /// A group: its key, and its rows, whose first cells are the key.
 #[derive(Debug, Drop)]
 pub struct Group {
     pub key: Items<Cell>,
     pub rows: Bag,
+}
+
+impl HasTuple for Group {
+    ghost tuple = { λ g. g.key };
+
+    fn tuple(&self) -> &[Cell] {
+        self.key.as_slice()
+    }
 }
 
 // The first cells of a row, so many or as many as there are.
@@ -39,61 +47,68 @@ fn key_of(row: &Row, keys: usize) -> &[Cell]
     }
 }
 
-// The order of two rows by their first cells.
-fn key_order(a: &Row, b: &Row, keys: usize) -> Ordering
-    ensures { result ≡ slice_cmp cell_compare (take keys a.now.cells) (take keys b.now.cells) }
+// A group of one row.
+fn group_of(alloc: Global, row: Row, keys: usize) -> Result<Group, OutOfMemory>
+    ensures key { IfOk result (λ g. g.key ≡ take keys row.cells) }
+    ensures rows { IfOk result (λ g. g.rows ≡ row ∷ []) }
 {
-    cells_order(key_of(a, keys), key_of(b, keys))
+    let key = copied(alloc, key_of(&row, keys))?;
+    let mut rows = Bag::new(alloc);
+    rows.push(row)?;
+    Ok(Group { key, rows })
 }
 
-// The rows in ascending order of their first cells, those of equal ones in their old order.
-fn by_key(bag: Bag, keys: usize) -> Result<Vec<Row>, OutOfMemory>
-    ensures ascending { IfOk result (λ rows. IsSortedBy (spec.key_below keys) rows.items) }
-    ensures same { IfOk result (λ rows. IsPermutation bag rows.items) }
-    ensures stable { IfOk result (λ rows. IsStableBy (spec.key_below keys) bag rows.items) }
+// Adds a row to the group at a place, whose key it has.
+fn add_row(groups: &mut Vec<Group>, place: usize, row: Row, keys: usize) -> Result<(), OutOfMemory>
+    requires { slice_get (map (λ g. g.key) groups.old.items) place ≡ Some (take keys row.cells) }
+    ensures keys { OnOk result (map (λ g. g.key) groups.new.items ≡ map (λ g. g.key) groups.old.items) }
+    ensures entered { OnOk result (spec.HasEntered (λ g. g.key) (λ g. g.rows) keys row groups.old.items groups.new.items) }
 {
-    let mut rows = bag.into_rows();
-    rows.sort_by(|a, b| key_order(a, b, keys))?;
-    Ok(rows)
+    groups[place].rows.push(row)?;
+    Ok(())
 }
 
-// The place of the first of ascending rows whose first cells are those of this row.
-fn place_of(rows: &[Row], row: &Row, keys: usize) -> usize
-    ensures bound { result ≤ length rows.now }
-    ensures place { IsSortedBy (spec.key_below keys) rows.now → IsPartitionPoint (λ r. spec.key_below keys r row.now ≡ true) (λ r. spec.key_below keys r row.now ≡ false) rows.now result }
+// Adds a group of a row whose key no group has.
+fn add_group(
+    alloc: Global,
+    index: &mut TupleIndex,
+    groups: &mut Vec<Group>,
+    row: Row,
+    keys: usize,
+) -> Result<(), OutOfMemory>
+    requires index { index.old ≡ hashes_of (map (λ g. g.key) groups.old.items) }
+    requires none { often (take keys row.cells) (map (λ g. g.key) groups.old.items) ≡ 0 }
+    ensures index { OnOk result (index.new ≡ hashes_of (map (λ g. g.key) groups.new.items)) }
+    ensures entered { OnOk result (spec.HasEntered (λ g. g.key) (λ g. g.rows) keys row groups.old.items groups.new.items) }
 {
-    rows.partition_point(|other| key_order(other, row, keys).is_lt())
+    let group = group_of(alloc, row, keys)?;
+    index.push(group.key.as_slice())?;
+    groups.push(group)?;
+    Ok(())
 }
 
-// Equal cells.
-fn copied(alloc: Global, cells: &[Cell]) -> Result<Items<Cell>, OutOfMemory>
-    ensures { IfOk result (λ it. it ≡ cells.now) }
+// Adds a row to the group of its key, which is a new one where there is none.
+fn enter(
+    alloc: Global,
+    index: &mut TupleIndex,
+    groups: &mut Vec<Group>,
+    row: Row,
+    keys: usize,
+) -> Result<(), OutOfMemory>
+    requires { index.old ≡ hashes_of (map (λ g. g.key) groups.old.items) }
+    ensures index { OnOk result (index.new ≡ hashes_of (map (λ g. g.key) groups.new.items)) }
+    ensures entered { OnOk result (spec.HasEntered (λ g. g.key) (λ g. g.rows) keys row groups.old.items groups.new.items) }
 {
-    let mut made = Items::new(alloc);
-    for cell in cells {
-        made.push(copy(alloc, cell)?)?;
+    match index.find(groups.as_slice(), key_of(&row, keys)) {
+        Some(place) => {
+            add_row(groups, place, row, keys)?;
+            Ok(())
+        }
+        None => {
+            add_group(alloc, index, groups, row, keys)?;
+            Ok(())
+        }
     }
-    Ok(made)
-}
-
-// The last group of ascending rows, which it takes away from them.
-fn last_group(alloc: Global, rows: &mut Vec<Row>, keys: usize) -> Result<Group, OutOfMemory>
-    requires some { 0 < length rows.old.items }
-    requires ascending { IsSortedBy (spec.key_below keys) rows.old.items }
-    ensures ascending { OnOk result (IsSortedBy (spec.key_below keys) rows.new.items) }
-    ensures parts { IfOk result (λ g. rows.old.items ≡ rows.new.items ++ g.rows) }
-    ensures some { IfOk result (λ g. 0 < length g.rows) }
-    ensures run { IfOk result (λ g. All (λ r. spec.has_key keys g.key r ≡ true) g.rows) }
-    ensures apart { IfOk result (λ g. All (λ r. spec.has_key keys g.key r ≡ false) rows.new.items) }
-{
-    let last = &rows[rows.len() - 1];
-    let key = copied(alloc, key_of(last, keys))?;
-    let place = place_of(rows, last, keys);
-    let run = rows.split_off(place)?;
-    Ok(Group {
-        key,
-        rows: Bag::from_rows(run),
-    })
 }
 
 // A row is there.
@@ -101,6 +116,15 @@ fn is_any_there(rows: &[Row]) -> bool
     ensures { result ≡ list_any is_there rows.now }
 {
     rows.iter().any(|row| is_there(row))
+}
+
+// The groups of which a row is there.
+fn those_with_rows(groups: Vec<Group>) -> Vec<Group>
+    ensures { result.items ≡ filter (λ g. list_any is_there g.rows) groups.items }
+{
+    let mut groups = groups;
+    groups.retain(|group| is_any_there(group.rows.rows()));
+    groups
 }
 
 /// The groups of rows by their first cells, so many or as many as a row has (SQL-92 7.7). Each key
@@ -112,15 +136,13 @@ pub fn groups_of(alloc: Global, bag: Bag, keys: usize) -> Result<Vec<Group>, Out
     ensures members { IfOk result (λ groups. All (λ g. g.rows ≡ spec.rows_of keys g.key bag) groups.items) }
     ensures grouped { IfOk result (λ groups. (f : List Cell → List (Row (List Cell)) → List Cell) → Agree same_cells (at_yes (map (λ g. f g.key g.rows) groups.items)) (grouped same_cells (take keys) f bag)) }
 {
-    let mut rows = by_key(bag, keys)?;
+    let rows = bag.into_rows();
+    let mut index = TupleIndex::with_chains(alloc, rows.len())?;
     let mut groups = Vec::new(alloc);
-    'groups: while !rows.is_empty() {
-        let group = last_group(alloc, &mut rows, keys)?;
-        if is_any_there(group.rows.rows()) {
-            groups.push(group)?;
-        }
+    for row in rows {
+        enter(alloc, &mut index, &mut groups, row, keys)?;
     }
-    Ok(groups)
+    Ok(those_with_rows(groups))
 }
 
 // The greatest error of a row that is there among its level and its first cells.

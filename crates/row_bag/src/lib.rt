@@ -14,6 +14,7 @@ mod sets;
 mod sort;
 mod subqueries;
 mod tables;
+mod tuple_index;
 mod tuples;
 
 pub use aggregates::{count_cell, count_rows, folded};

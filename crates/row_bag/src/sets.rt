@@ -1,18 +1,61 @@
 // Operations that go by how often a tuple occurs.
-ghost use Rattle.std.specs.Prelude.{◌≡◌, ◌++◌, ◌∷◌, [], IfOk, if◌then◌else◌};
+ghost use Rattle.std.specs.Prelude.{◌≡◌, ◌++◌, ◌∷◌, [], IfOk, OnOk, Some, slice_get, if◌then◌else◌};
 ghost use Rattle.row_bag.specs.Bags.{Agree, row};
 ghost use Rattle.row_bag.specs.Errors as errors;
+ghost use Rattle.row_bag.specs.Hashes.{AreDifferent, hashes_of, tuples_of};
 ghost use Rattle.row_bag.specs.Sets as spec;
 ghost use Rattle.sql_value.specs.Level.{level_of};
 
 use crate::answer::{error_among, those_there, worst_of};
 use crate::bag::Bag;
 use crate::matched::matching;
-use crate::row::{Row, row_order, same_cells};
+use crate::row::Row;
+use crate::tuple_index::TupleIndex;
 use shared_types::OutOfMemory;
-use sql_value::{Cell, Kind, level_of};
+use sql_value::{Cell, Kind, greatest, level_of};
 use sqlite_items::Items;
 use std::alloc::Global;
+
+// Raises the level of the row at a place to that of a row of an equal tuple.
+fn raise(kept: &mut Vec<Row>, place: usize, row: &Row)
+    requires { slice_get (tuples_of kept.old.items) place ≡ Some row.now.cells }
+    ensures tuples { tuples_of kept.new.items ≡ tuples_of kept.old.items }
+    ensures levels { spec.SameLevels spec.same_cells kept.new.items (kept.old.items ++ row.now ∷ []) }
+{
+    let level = greatest(kept[place].level, row.level);
+    kept[place].level = level;
+}
+
+// Adds a row of a tuple that doesn't stand among the rows.
+fn keep_new(index: &mut TupleIndex, kept: &mut Vec<Row>, row: Row) -> Result<(), OutOfMemory>
+    requires { index.old ≡ hashes_of (tuples_of kept.old.items) }
+    ensures index { OnOk result (index.new ≡ hashes_of (tuples_of kept.new.items)) }
+    ensures kept { OnOk result (kept.new.items ≡ kept.old.items ++ row ∷ []) }
+{
+    index.push(row.cells.as_slice())?;
+    kept.push(row)?;
+    Ok(())
+}
+
+// Adds a row to rows of different tuples: the one of an equal tuple is raised to its level, and
+// where there is none, it is kept too.
+fn keep(index: &mut TupleIndex, kept: &mut Vec<Row>, row: Row) -> Result<(), OutOfMemory>
+    requires { index.old ≡ hashes_of (tuples_of kept.old.items) }
+    ensures index { OnOk result (index.new ≡ hashes_of (tuples_of kept.new.items)) }
+    ensures levels { OnOk result (spec.SameLevels spec.same_cells kept.new.items (kept.old.items ++ row ∷ [])) }
+    ensures once { OnOk result (AreDifferent (tuples_of kept.old.items) → AreDifferent (tuples_of kept.new.items)) }
+{
+    match index.find(kept.as_slice(), row.cells.as_slice()) {
+        Some(place) => {
+            raise(kept, place, &row);
+            Ok(())
+        }
+        None => {
+            keep_new(index, kept, row)?;
+            Ok(())
+        }
+    }
+}
 
 /// DISTINCT: each tuple once, at its greatest level. Tuples are equal where their cells are the
 /// same data, nulls and errors of one kind too (SQL-92 3.1, "distinct"). It fails only for want of
@@ -20,10 +63,14 @@ use std::alloc::Global;
 pub fn distinct(bag: Bag) -> Result<Bag, OutOfMemory>
     ensures { IfOk result (λ b. Agree spec.same_cells b (spec.distinct spec.same_cells bag)) }
 {
-    let mut rows = bag.into_rows();
-    rows.sort_by(|a, b| row_order(b, a))?;
-    rows.dedup_by(|later, kept| same_cells(later.cells.as_slice(), kept.cells.as_slice()));
-    Ok(those_there(Bag::from_rows(rows)))
+    let rows = bag.into_rows();
+    let alloc = *rows.allocator();
+    let mut index = TupleIndex::with_chains(alloc, rows.len())?;
+    let mut kept = Vec::new(alloc);
+    for row in rows {
+        keep(&mut index, &mut kept, row)?;
+    }
+    Ok(those_there(Bag::from_rows(kept)))
 }
 
 // The rows of both, one after the other.

@@ -1,33 +1,38 @@
-use Rattle.std.proofs.Common.{rules, ◌≡◌, ◌∙◌, [], sym, ap, true, false}
-use Rattle.std.specs.List.{list_any}
-use Rattle.row_bag.specs.Verdict.{is_there}
-use Rattle.row_bag.proofs.Grouping.{begun, ended, groups-agree, next, no-row}
+use Rattle.std.proofs.Common.{rules, ◌≡◌, ◌∙◌, [], sym}
+use Rattle.std.specs.Vec.Iter.{into_iter_items}
+use Rattle.row_bag.specs.declared.groups.Group.{Group}
+use Rattle.row_bag.proofs.Entering.{begun, keys-whole, whole-kept}
+use Rattle.row_bag.proofs.Grouping.{groups-agree}
+use Rattle.row_bag.proofs.Keeping.{none_left, one_less}
 use Rattle.row_bag.proofs.groups.groups_of.Goals as goal
 
-pub groups-init : goal.groups-init
-groups-init c = rw c.new-groups.ensures.items (begun c.args.keys c.args.bag c.in_ok-rows.rows.items c.in_ok-rows.ensures.ascending c.in_ok-rows.ensures.same c.in_ok-rows.ensures.stable)
+pub loop-row-init : goal.loop-row-init
+loop-row-init c =
+    let same = c.into_iter-row-iterator.ensures.into_iter_gives.0 in
+    rw (same, c.new-groups.ensures.items, c.into_rows-rows.ensures) (record {
+      index = search rules;
+      so = begun (λ (g : Group). g.key) (λ (g : Group). g.rows) c.args.keys c.args.bag;
+      left = search rules;
+    })
 
-pub groups-preserved-in-Continue-branch-3 : goal.groups-preserved-in-Continue-branch-3
-groups-preserved-in-Continue-branch-3 c =
-    let g = c.in_ok-group.group in
-    let any : list_any is_there g.rows ≡ true = ap (list_any is_there) (sym c.rows.ensures) ∙ sym c.is_any_there.ensures ∙ c.if-is_any_there.true in
-    rw c.in_ok-push.ensures.items
-    (next c.args.keys c.args.bag c.groups.rows.items c.last_group.new.rows.items c.groups.groups.items g true c.groups.invariant c.in_ok-group.ensures.ascending c.in_ok-group.ensures.parts
-    c.in_ok-group.ensures.some c.in_ok-group.ensures.run c.in_ok-group.ensures.apart any)
-
-pub groups-preserved : goal.groups-preserved
-groups-preserved c =
-    let g = c.in_ok-group.group in
-    let any : list_any is_there g.rows ≡ false = ap (list_any is_there) (sym c.rows.ensures) ∙ sym c.is_any_there.ensures ∙ c.if-is_any_there.false in
-    next c.args.keys c.args.bag c.groups.rows.items c.last_group.new.rows.items c.groups.groups.items g false c.groups.invariant c.in_ok-group.ensures.ascending c.in_ok-group.ensures.parts
-    c.in_ok-group.ensures.some c.in_ok-group.ensures.run c.in_ok-group.ensures.apart any
+pub loop-row-preserved : goal.loop-row-preserved
+loop-row-preserved c =
+    let steps = c.in-Some.ensures.steps in
+    record {
+      index = c.in_ok-enter.ensures.index;
+      so = c.in_ok-enter.ensures.entered c.args.bag (into_iter_items c.next.new.self) (rw steps.0 at c.loop-row.invariant.so);
+      left = one_less c.in-Some.row (into_iter_items c.loop-row.row-iterator) (into_iter_items c.next.new.self) _ _ steps.0 steps.1 c.loop-row.invariant.left;
+    }
 
 pub returns-clause-keys : goal.returns-clause-keys
 returns-clause-keys c =
-    let none : c.groups.rows.items ≡ [] = no-row c.groups.rows.items (search rules) in
-    ended c.args.keys c.args.bag c.groups.rows.items c.groups.groups.items c.groups.invariant none
+    let none : into_iter_items c.loop-row.row-iterator ≡ [] = none_left _ (sym c.loop-row.invariant.left ∙ c.in-None.ensures.steps.0) in
+    rw c.those_with_rows.ensures (keys-whole (λ (g : Group). g.key) (λ (g : Group). g.rows) c.args.keys c.args.bag c.loop-row.groups.items (rw none at c.loop-row.invariant.so))
+
+pub returns-clause-members : goal.returns-clause-members
+returns-clause-members c =
+    let none : into_iter_items c.loop-row.row-iterator ≡ [] = none_left _ (sym c.loop-row.invariant.left ∙ c.in-None.ensures.steps.0) in
+    rw c.those_with_rows.ensures (whole-kept (λ (g : Group). g.key) (λ (g : Group). g.rows) c.args.keys c.args.bag c.loop-row.groups.items (rw none at c.loop-row.invariant.so))
 
 pub returns-clause-grouped : goal.returns-clause-grouped
-returns-clause-grouped c = λ f.
-    let none : c.groups.rows.items ≡ [] = no-row c.groups.rows.items (search rules) in
-    groups-agree c.args.keys f c.args.bag c.groups.groups.items (ended c.args.keys c.args.bag c.groups.rows.items c.groups.groups.items c.groups.invariant none) c.groups.invariant.members
+returns-clause-grouped c = λ f. groups-agree c.args.keys f c.args.bag c.those_with_rows.result.items (returns-clause-keys c) (returns-clause-members c)

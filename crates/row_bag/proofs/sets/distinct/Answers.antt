@@ -1,12 +1,31 @@
-use Rattle.std.proofs.Common.{rules}
-use Rattle.std.proofs.lemmas.Fn.{dedup_same}
-use Rattle.std.proofs.lemmas.List.Sorted.{answers_always}
-use Rattle.row_bag.proofs.Runs.{above-ranks, distinct-runs, row_above, same_tuples}
+use Rattle.std.proofs.Common.{rules, ◌∙◌, sym, arith}
+use Rattle.std.specs.Vec.Iter.{into_iter_items}
+use Rattle.row_bag.proofs.GreatestLevels.{levels-refl}
+use Rattle.row_bag.proofs.Keeping.{keep-more, kept-whole, none_left, one_less}
+use Rattle.row_bag.specs.Sets.{same_cells}
 use Rattle.row_bag.proofs.sets.distinct.Goals as goal
+
+pub loop-row-init : goal.loop-row-init
+loop-row-init c =
+    let same = c.into_iter-row-iterator.ensures.into_iter_gives.0 in
+    rw (same, c.new-kept.ensures.items, c.into_rows-rows.ensures) (record {
+      index = search rules;
+      levels = levels-refl same_cells c.args.bag;
+      once = λ t. omega arith;
+      left = search rules;
+    })
+
+pub loop-row-preserved : goal.loop-row-preserved
+loop-row-preserved c =
+    let steps = c.in-Some.ensures.steps in
+    record {
+      index = c.in_ok-keep.ensures.index;
+      levels = keep-more c.loop-row.kept.items c.keep.new.kept.items (into_iter_items c.loop-row.row-iterator) (into_iter_items c.next.new.self) c.args.bag c.in-Some.row steps.0 c.in_ok-keep.ensures.levels c.loop-row.invariant.levels;
+      once = c.in_ok-keep.ensures.once c.loop-row.invariant.once;
+      left = one_less c.in-Some.row (into_iter_items c.loop-row.row-iterator) (into_iter_items c.next.new.self) _ _ steps.0 steps.1 c.loop-row.invariant.left;
+    }
 
 pub returns : goal.returns
 returns c =
-    let moved = c.in_ok-sort_by.ensures.permutation in
-    let left = dedup_same _ same_tuples _ (λ x y b f' x' y' k. search rules) _ _ c.dedup_by.ensures.filtered in
-    rw (c.those_there.ensures, c.from_rows.ensures, left)
-    (distinct-runs c.args.bag _ (rw c.into_rows-rows.ensures at moved) (c.in_ok-sort_by.ensures.sorted row_above above-ranks (answers_always _ _ _ (λ f a r q k. search rules))))
+    rw (c.those_there.ensures, c.from_rows.ensures)
+    (kept-whole c.loop-row.kept.items (into_iter_items c.loop-row.row-iterator) c.args.bag (none_left _ (sym c.loop-row.invariant.left ∙ c.in-None.ensures.steps.0)) c.loop-row.invariant.levels c.loop-row.invariant.once)

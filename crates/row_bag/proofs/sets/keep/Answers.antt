@@ -1,0 +1,12 @@
+use Rattle.std.proofs.Common.{◌≡◌, refl}
+use Rattle.std.proofs.lemmas.List.{map_push}
+use Rattle.row_bag.specs.Hashes.{tuples_of}
+use Rattle.row_bag.specs.Matched.{often}
+use Rattle.row_bag.specs.declared.row.Row.{Row}
+use Rattle.row_bag.proofs.Keeping.{Tuple, different-push}
+use Rattle.row_bag.proofs.sets.keep.Goals as goal
+
+pub returns-in_ok-keep_new-in-None-clause-once : goal.returns-in_ok-keep_new-in-None-clause-once
+returns-in_ok-keep_new-in-None-clause-once c = λ once t.
+    let none : often c.args.row.cells (tuples_of c.args.kept.now.items) ≡ 0 = rw (c.as_slice.ensures.value, c.as_slice-2.ensures) at (c.in-None.ensures.none refl) in
+    rw (c.in_ok-keep_new-in-None.ensures.kept, map_push (λ (r : Row Tuple). r.cells) c.args.kept.now.items c.args.row) (different-push (tuples_of c.args.kept.now.items) c.args.row.cells none once t)
