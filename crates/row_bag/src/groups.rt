@@ -53,9 +53,12 @@ fn group_of(alloc: Global, row: Row, keys: usize) -> Result<Group, OutOfMemory>
     ensures rows { IfOk result (λ g. g.rows ≡ row ∷ []) }
 {
     let key = copied(alloc, key_of(&row, keys))?;
-    let mut rows = Bag::new(alloc);
+    let mut rows = Vec::with_capacity(alloc, 1)?;
     rows.push(row)?;
-    Ok(Group { key, rows })
+    Ok(Group {
+        key,
+        rows: Bag::from_rows(rows),
+    })
 }
 
 // Adds a row to the group at a place, whose key it has.
