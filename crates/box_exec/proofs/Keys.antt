@@ -1,6 +1,6 @@
 -- Groups of rows behind their keys.
-use Rattle.std.proofs.Common.{ℕ, suc, zero, ◌≡◌, ◌<◌, get_or, ◌+◌, ◌++◌, Bool, true, false, cond, List, [], ◌∷◌, drop, length, map, take, min, refl, sym, ◌∙◌, ap, ap₂, arith, Option, None, Some}
-use Rattle.std.proofs.lemmas.List.{length-map, nil_from_length, take_min, take_more}
+use Rattle.std.proofs.Common.{ℕ, suc, zero, ◌≡◌, ◌<◌, ◌+◌, ◌++◌, Bool, true, false, cond, List, [], ◌∷◌, drop, length, map, take, min, refl, sym, ◌∙◌, ap, ap₂, arith, Option, None, Some}
+use Rattle.std.proofs.lemmas.List.{length-map, nil_from_length, take_min}
 use mathlib.Core.Path.{fun_ext}
 use Rattle.row_bag.specs.Bags.{Agree, Alike, at_yes, bind, if_there, row, unit}
 use Rattle.row_bag.specs.Errors.{error_among, error_at, error_in}

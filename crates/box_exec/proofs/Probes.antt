@@ -22,7 +22,7 @@ use Rattle.qgm_meaning.proofs.Frames.{SameRows, itself, value-framed}
 use Rattle.qgm_terms.specs.Shown as shown
 use Rattle.qgm_terms.specs.Terms.{Term, col}
 use Rattle.qgm_terms.specs.Wanted.{reads}
-use Rattle.box_exec.specs.Early.{is_none, rejects}
+use Rattle.box_exec.specs.Early.{is_none}
 use Rattle.box_exec.specs.Probes.{AreSides, Equates, Rejecting}
 use Rattle.box_exec.specs.Sources.{held_by}
 use Rattle.box_exec.specs.declared.early.Early.{Early}

@@ -154,7 +154,7 @@ fn selected<L: Ledger>(
 }
 
 // Adds what a select gives for each combination of rows of its F quantifiers from a place on, each
-// row at the lower one of its level and this one.
+// row at the lower one of its level and this one. A row that an equality rejects is passed over.
 #[cycle(rows)]
 fn each<'x, L: Ledger>(
     at: &At<'_>,

@@ -67,7 +67,7 @@ each-loop-row-preserved g t c =
                 (subst (λ (x : Level). Alike new (c.loop-row.out ++ keep x (over r.cells))) w.least-level.ensures added));
             took = λ kept keeps.
                 let took = rows-took (cost kept) rows i r c.args.level (cost kept cells) c.rows_under.new.steps c.loop-row.steps w.each-then-not-skips.new.steps c.loop-row-test.true c.row-item.is (ap (cost kept) c.as_slice-cells.ensures) (c.loop-row.invariant.took kept keeps)
-                    (subst (λ (x : Level). Between 0 (at_level x (cost kept cells)) c.loop-row.steps w.each-then-not-skips.new.steps) w.least-level.ensures (w.in_ok-each.ensures.took kept keeps)) in
+                (subst (λ (x : Level). Between 0 (at_level x (cost kept cells)) c.loop-row.steps w.each-then-not-skips.new.steps) w.least-level.ensures (w.in_ok-each.ensures.took kept keeps)) in
                 (omega (arith, took.0, steps), omega (arith, took.1, steps));
             counted = λ start h. search (rules, w.in_ok-each.ensures.counted start (c.loop-row.invariant.counted start h));
             probe = c.loop-row.invariant.probe;

@@ -15,6 +15,6 @@ returns-in-None c =
     let b = c.in-Eq.b.value in
     IfSome_then c.sides_of-in-None.result c.sides_of-in-None.ensures
     (λ s h. λ rows cells env.
-        let sides : AreSides q (term b) (term a) s =
-        subst (λ (x : Gx). AreSides q (term b) (term x) s) c.deref-in-None-2.ensures (subst (λ (x : Gx). AreSides q (term x) (term c.deref-in-None-2.result.now) s) c.deref-in-None.ensures h) in
-        ap (λ (p : Gc). truth rows (cond p) (bound q cells env)) c.in-Eq.is ∙ equates-second q (term a) (term b) s rows cells env sides)
+    let sides : AreSides q (term b) (term a) s =
+    subst (λ (x : Gx). AreSides q (term b) (term x) s) c.deref-in-None-2.ensures (subst (λ (x : Gx). AreSides q (term x) (term c.deref-in-None-2.result.now) s) c.deref-in-None.ensures h) in
+    ap (λ (p : Gc). truth rows (cond p) (bound q cells env)) c.in-Eq.is ∙ equates-second q (term a) (term b) s rows cells env sides)
