@@ -40,14 +40,14 @@ use Rattle.rule_api.specs.declared.place.Place.{Place}
 use Rattle.rule_merge.specs.DropCopy.{f-is, plain-is, preserve-is, select-is}
 use Rattle.rule_merge.specs.Merging.{any_fed_closed, are_clean, cells_free, cells_stand, distinct_fits, fed_closed, has_lateral, infers_clean, is_lateral, may_at, may_in, may_merge, may_over, may_stand, may_with, merged_with, parts_fit, read_elsewhere, second_closed, spliced}
 
--- c is PRESERVE, or b is ENFORCE, or b is PERMIT and no row is at an error level: it is inferred that b is clean, and that c is in the graph in which it is PRESERVE
+-- c is PRESERVE, or its DISTINCT may go: b is ENFORCE, or b is PERMIT and two facts are inferred, that b is clean, and that c is clean in the graph in which c is PRESERVE
 pub data DistinctFits (g : QueryGraph) (b c : Node) : Type 0 where
   preserved : c.parts.distinct ≡ Preserve → DistinctFits g b c
   enforced : b.parts.distinct ≡ Enforce → DistinctFits g b c
   permitted : b.parts.distinct ≡ Permit → Inferred g.boxes (clean b.id) → Inferred (set_distinct c.id Preserve g).boxes (clean c.id) → DistinctFits g b c
 
 -- b is a plain or magic select with the quantifiers us, r, vs; r is an F over c, a plain select that no other quantifier ranges over and that has no lateral quantifier: what is free in the box under an F of it is no other quantifier of c
--- b may have the DISTINCT of c in its place; if b is magic, c has F quantifiers alone; the cells of c whose columns another box reads, one below b, are node-free; merged, no fed box is left over a closed box
+-- c has no DISTINCT, or one that may go; if b is magic, c has F quantifiers alone; the cells of c whose columns another box reads, one below b, are node-free; merged, no fed box is left over a closed box
 pub record IsMergeable (g : QueryGraph) (b c : Node) (us : List OwnedQuant) (r : OwnedQuant) (vs : List OwnedQuant) : Type 0 where
   pub select_b : b.parts.kind ≡ Select
   pub not_fed : is_fed b.parts.role ≡ false

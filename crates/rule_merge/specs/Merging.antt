@@ -38,7 +38,7 @@ parts_fit b c = is_select c.parts.kind && is_plain c.parts.role && (not (is_magi
 unfoldable pub infers_clean : QueryGraph → ℕ → Bool
 infers_clean g b = (all-told g.boxes).0.clean b
 
--- b is, and c is where it is PRESERVE
+-- b is, and c is in the graph in which c is PRESERVE
 abbrev pub are_clean : QueryGraph → Node → Node → Bool
 are_clean g b c = infers_clean g b.id && infers_clean (set_distinct c.id Preserve g) c.id
 
@@ -88,7 +88,7 @@ cells_stand g b r c = parts_fit b c && (times c.id (overs_in g.boxes) == 1) && c
 abbrev pub may_stand : QueryGraph → Node → OwnedQuant → Node → Bool
 may_stand g b r c = cells_stand g b r c && not (has_lateral g c)
 
--- and a DISTINCT that b may have in its place, and no fed box is left over a closed box
+-- and no DISTINCT, or one that may go, and no fed box is left over a closed box
 abbrev pub may_with : QueryGraph → Node → OwnedQuant → Node → Bool
 may_with g b r c = (may_stand g b r c && distinct_fits g b c) && not (any_fed_closed (merged_with g b c r.id))
 

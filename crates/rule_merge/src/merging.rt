@@ -184,17 +184,17 @@ fn infers_clean(alloc: Global, graph: &Graph, b: BoxId) -> Result<bool, OutOfMem
     Ok(known.clean(b))
 }
 
-// Whether it is where the box is PRESERVE.
-fn infers_clean_rows(alloc: Global, graph: &Graph, b: BoxId) -> Result<bool, OutOfMemory>
+// Whether it is in the graph in which the box is PRESERVE.
+fn infers_clean_preserve(alloc: Global, graph: &Graph, b: BoxId) -> Result<bool, OutOfMemory>
     requires { HasBox b graph.now }
     ensures { IfOk result (λ clean. clean ≡ spec.infers_clean (set_distinct b Preserve graph.now) b) }
 {
-    let mut loose = graph.copy(alloc)?;
-    loose.set_distinct(b, Distinct::Preserve);
-    infers_clean(alloc, &loose, b)
+    let mut after = graph.copy(alloc)?;
+    after.set_distinct(b, Distinct::Preserve);
+    infers_clean(alloc, &after, b)
 }
 
-// Whether b may have the DISTINCT of c in its place.
+// Whether c, under b, has no DISTINCT, or one that may go.
 fn distinct_fits(alloc: Global, graph: &Graph, b: &Node, c: &Node) -> Result<bool, OutOfMemory>
     requires { HasBox c.now.id graph.now }
     ensures { IfOk result (λ fits. fits ≡ spec.distinct_fits graph.now b.now c.now) }
@@ -205,7 +205,7 @@ fn distinct_fits(alloc: Global, graph: &Graph, b: &Node, c: &Node) -> Result<boo
     if !is_permit(b.parts.distinct) || !infers_clean(alloc, graph, b.id)? {
         return Ok(false);
     }
-    infers_clean_rows(alloc, graph, c.id)
+    infers_clean_preserve(alloc, graph, c.id)
 }
 
 // Whether c may be merged into b under r, but for its DISTINCT and for what that leaves of fed boxes.
