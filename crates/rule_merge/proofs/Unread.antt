@@ -1,5 +1,5 @@
 -- Cells put in for columns that a box doesn't read change nothing.
-use Rattle.std.proofs.Common.{ℕ, ◌==◌, ◌≡◌, cond, true, false, List, [], ◌∷◌, Bool, Option, Some, None, refl, sym, ap, ap₂, ◌∙◌}
+use Rattle.std.proofs.Common.{ℕ, ◌≡◌, cond, true, false, List, [], ◌∷◌, Bool, Option, Some, None, refl, sym, ap, ap₂, ◌∙◌}
 use Rattle.std.specs.Prelude.{option_map}
 use Rattle.std.specs.List.{list_any}
 use Rattle.qgm_core.specs.Boxes.{QueryGraph, box_of, is_box}
