@@ -1,14 +1,13 @@
-// Conditions that are tested before all quantifiers of their box are bound.
-ghost use Rattle.std.specs.List.{list_any};
+// Conditions that are tested as soon as what they read is bound.
 ghost use Rattle.std.specs.Prelude.{◌≡◌, All, IfOk, drop, false};
 ghost use Rattle.box_exec.specs.Bound.{env_of};
 ghost use Rattle.box_exec.specs.Early.{IsEarly, is_none, is_open, names_any, reads_any, rejects};
-ghost use Rattle.qgm_core.specs.Kinds.{is_F, is_select};
+ghost use Rattle.qgm_core.specs.Kinds.{is_select};
 ghost use Rattle.qgm_terms.specs.Shown.{cond};
 
 use crate::bindings::Bindings;
 use crate::evaluation::hold;
-use crate::under::{Loop, Under, is_f};
+use crate::under::{Loop, Under};
 use qgm_core::{BoxKind, Gc, Node};
 use qgm_terms::{Sought, stands_in_cond};
 use shared_types::OutOfMemory;
@@ -55,13 +54,6 @@ fn place_from(c: &Gc, loops: &[Loop<'_>]) -> usize
     place
 }
 
-// Whether one of these binds rows from a place on.
-fn binds_rows(loops: &[Loop<'_>], place: usize) -> bool
-    ensures { result ≡ list_any (λ l. is_F l.range.kind) (drop place loops.now) }
-{
-    loops.iter().skip(place).any(|l| is_f(l.range.kind))
-}
-
 // Whether it is a select.
 fn is_select(kind: &BoxKind) -> bool
     ensures { result ≡ is_select kind.now }
@@ -72,9 +64,9 @@ fn is_select(kind: &BoxKind) -> bool
     }
 }
 
-/// The conditions of a select that are tested before all its quantifiers are bound: none where a box
-/// under one of these is evaluated anew, so that no evaluation is left out. It fails only for want of
-/// memory.
+/// The conditions of a select that are tested as soon as the quantifiers that they read are bound: none
+/// where a box under one of these is evaluated anew, so that no evaluation is left out. It fails only for
+/// want of memory.
 #[inline(never)]
 pub(crate) fn early_conds<'a>(
     alloc: Global,
@@ -90,9 +82,7 @@ pub(crate) fn early_conds<'a>(
     for c in node.parts.conds.as_slice() {
         if !names_any(c, loops) {
             let place = place_from(c, loops);
-            if binds_rows(loops, place) {
-                made.push(Early { place, cond: c })?;
-            }
+            made.push(Early { place, cond: c })?;
         }
     }
     Ok(made)
