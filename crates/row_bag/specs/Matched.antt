@@ -1,5 +1,5 @@
 -- How many of equal tuples match.
-use Rattle.std.specs.Prelude.{◌≡◌, ℕ, ◌+◌, ◌-◌, if◌then◌else◌, min, Bool, true, false, List, [], ◌∷◌}
+use Rattle.std.specs.Prelude.{◌≡◌, ℕ, ◌+◌, ◌-◌, ◌&&◌, if◌then◌else◌, min, Bool, true, false, List, [], ◌∷◌}
 use Rattle.sql_value.specs.declared.cell.Cell.{Cell}
 use Rattle.sql_value.specs.declared.level.Level.{Level}
 use Rattle.sql_value.specs.declared.level.Level.TheVariants.{Yes}
@@ -29,3 +29,11 @@ AreMatched all matched a b rows = (c : List Cell) → (l : Level) → count same
 abbrev pub left_of : {L : Type 0} → (L → List Cell) → (L → ℕ) → List Cell → List L → ℕ
 left_of tuple left c [] = 0
 left_of tuple left c (x ∷ xs) = (if same_cells (tuple x) c then left x else 0) + left_of tuple left c xs
+
+-- one more of a tuple is left
+abbrev pub HasCounted : {L : Type 0} → (L → List Cell) → (L → ℕ) → List Cell → List L → List L → Type 0
+HasCounted tuple left cells old new = (c : List Cell) → left_of tuple left c new ≡ left_of tuple left c old + (if same_cells cells c then 1 else 0)
+
+-- one of a tuple is taken, where that is so, and all others are left
+abbrev pub HasTaken : {L : Type 0} → (L → List Cell) → (L → ℕ) → Bool → List Cell → List L → List L → Type 0
+HasTaken tuple left taken cells old new = (c : List Cell) → left_of tuple left c old ≡ (if taken && same_cells cells c then 1 else 0) + left_of tuple left c new

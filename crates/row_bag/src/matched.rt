@@ -1,5 +1,5 @@
 // The tuples of one bag that those of another match.
-ghost use Rattle.std.specs.Prelude.{◌≡◌, ◌+◌, ◌^◌, ◌&&◌, [], List, IfOk, OnOk, Some, if◌then◌else◌, false, map, slice_get, ◌<◌};
+ghost use Rattle.std.specs.Prelude.{◌≡◌, ◌+◌, ◌^◌, [], List, IfOk, OnOk, Some, if◌then◌else◌, false, map, slice_get, ◌<◌};
 ghost use Rattle.row_bag.specs.Bags.{count, same_level};
 ghost use Rattle.row_bag.specs.Hashes.{AreDifferent, hashes_of};
 ghost use Rattle.row_bag.specs.Matched as spec;
@@ -54,7 +54,7 @@ fn count_one(items: &mut Vec<Left>, place: usize, cells: &[Cell])
     requires once { AreDifferent (map (λ l. l.cells) items.old.items) }
     requires room { spec.left_of (λ l. l.cells) (λ l. l.count) cells.now items.old.items + 1 < 2 ^ 64 }
     ensures tuples { map (λ l. l.cells) items.new.items ≡ map (λ l. l.cells) items.old.items }
-    ensures counts { (c : List Cell) → spec.left_of (λ l. l.cells) (λ l. l.count) c items.new.items ≡ spec.left_of (λ l. l.cells) (λ l. l.count) c items.old.items + (if same_cells cells.now c then 1 else 0) }
+    ensures counts { spec.HasCounted (λ l. l.cells) (λ l. l.count) cells.now items.old.items items.new.items }
 {
     items[place].count += 1;
 }
@@ -64,7 +64,7 @@ fn take_one(items: &mut Vec<Left>, place: usize, cells: &[Cell]) -> bool
     requires place { slice_get (map (λ l. l.cells) items.old.items) place ≡ Some cells.now }
     requires once { AreDifferent (map (λ l. l.cells) items.old.items) }
     ensures tuples { map (λ l. l.cells) items.new.items ≡ map (λ l. l.cells) items.old.items }
-    ensures rest { (c : List Cell) → spec.left_of (λ l. l.cells) (λ l. l.count) c items.old.items ≡ (if result && same_cells cells.now c then 1 else 0) + spec.left_of (λ l. l.cells) (λ l. l.count) c items.new.items }
+    ensures rest { spec.HasTaken (λ l. l.cells) (λ l. l.count) result cells.now items.old.items items.new.items }
     ensures none { result ≡ false → spec.left_of (λ l. l.cells) (λ l. l.count) cells.now items.new.items ≡ 0 }
 {
     let count = items[place].count;
@@ -80,7 +80,7 @@ fn take(index: &TupleIndex, items: &mut Vec<Left>, cells: &[Cell]) -> bool
     requires index { index.now ≡ hashes_of (map (λ l. l.cells) items.old.items) }
     requires once { AreDifferent (map (λ l. l.cells) items.old.items) }
     ensures tuples { map (λ l. l.cells) items.new.items ≡ map (λ l. l.cells) items.old.items }
-    ensures rest { (c : List Cell) → spec.left_of (λ l. l.cells) (λ l. l.count) c items.old.items ≡ (if result && same_cells cells.now c then 1 else 0) + spec.left_of (λ l. l.cells) (λ l. l.count) c items.new.items }
+    ensures rest { spec.HasTaken (λ l. l.cells) (λ l. l.count) result cells.now items.old.items items.new.items }
     ensures none { result ≡ false → spec.left_of (λ l. l.cells) (λ l. l.count) cells.now items.new.items ≡ 0 }
 {
     match index.find(items.as_slice(), cells) {
@@ -100,7 +100,7 @@ fn add_tuple(
     requires none { spec.often cells (map (λ l. l.cells) items.old.items) ≡ 0 }
     ensures index { OnOk result (index.new ≡ hashes_of (map (λ l. l.cells) items.new.items)) }
     ensures once { OnOk result (AreDifferent (map (λ l. l.cells) items.new.items)) }
-    ensures counts { OnOk result ((c : List Cell) → spec.left_of (λ l. l.cells) (λ l. l.count) c items.new.items ≡ spec.left_of (λ l. l.cells) (λ l. l.count) c items.old.items + (if same_cells cells c then 1 else 0)) }
+    ensures counts { OnOk result (spec.HasCounted (λ l. l.cells) (λ l. l.count) cells items.old.items items.new.items) }
 {
     index.push(cells.as_slice())?;
     items.push(Left { cells, count: 1 })?;
@@ -118,7 +118,7 @@ fn count_tuple(
     requires room { spec.left_of (λ l. l.cells) (λ l. l.count) cells items.old.items + 1 < 2 ^ 64 }
     ensures index { OnOk result (index.new ≡ hashes_of (map (λ l. l.cells) items.new.items)) }
     ensures once { OnOk result (AreDifferent (map (λ l. l.cells) items.new.items)) }
-    ensures counts { OnOk result ((c : List Cell) → spec.left_of (λ l. l.cells) (λ l. l.count) c items.new.items ≡ spec.left_of (λ l. l.cells) (λ l. l.count) c items.old.items + (if same_cells cells c then 1 else 0)) }
+    ensures counts { OnOk result (spec.HasCounted (λ l. l.cells) (λ l. l.count) cells items.old.items items.new.items) }
 {
     match index.find(items.as_slice(), cells.as_slice()) {
         Some(place) => {
