@@ -6,7 +6,7 @@ ghost use Rattle.graph_print.specs.TermText.{doubled};
 use itoa::Buffer;
 use shared_types::{OutOfMemory, Text};
 
-/// Adds ASCII characters.
+/// Adds ASCII characters. It fails only for want of memory, and then a part of them may stand there.
 pub fn put_word(word: &[u8], out: &mut Text) -> Result<(), OutOfMemory>
     ensures { OnOk result (out.new ≡ out.old ++ word.now) }
 {
@@ -16,7 +16,7 @@ pub fn put_word(word: &[u8], out: &mut Text) -> Result<(), OutOfMemory>
     Ok(())
 }
 
-/// Adds a number in decimal.
+/// Adds a number in decimal. It fails only for want of memory, and then a part of it may stand there.
 pub fn put_number(n: usize, out: &mut Text) -> Result<(), OutOfMemory>
     ensures { OnOk result (out.new ≡ out.old ++ decimal n) }
 {
