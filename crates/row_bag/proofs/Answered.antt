@@ -1,15 +1,11 @@
 -- Rows that agree are answered alike.
 use Rattle.std.proofs.Common.{ℕ, ◌+◌, ◌≡◌, ◌∙◌, cond, List, [], ◌∷◌, refl, sym, ap, zero-add}
-use Rattle.std.proofs.lemmas.List.Sorted.{sum_by-IsPermutation}
-use Rattle.std.proofs.lemmas.List.Sums.{sum_by-cons}
-use Rattle.std.specs.List.{sum_by}
-use Rattle.std.specs.List.Sorted.{IsPermutation}
 use Rattle.sql_value.specs.declared.cell.Cell.{Cell}
 use Rattle.sql_value.specs.declared.level.Level.{Level}
 use Rattle.sql_value.specs.declared.level.Level.TheVariants.{No, Cardinality, Division, Overflow, Yes}
 use Rattle.sql_value.specs.declared.order_key.OrderKey.{OrderKey}
 use Rattle.row_bag.specs.declared.row.Row.{Row}
-use Rattle.row_bag.specs.Bags.{Alike, fold_map, if_there, row, total}
+use Rattle.row_bag.specs.Bags.{Alike, if_there, row, total}
 use Rattle.row_bag.specs.Errors.{error_among, error_in}
 use Rattle.row_bag.specs.Order.{row_less}
 use Rattle.row_bag.specs.Sets.{same_cells}
@@ -21,19 +17,6 @@ use Rattle.row_bag.proofs.Order.{less-apart, row_same, same-equal, same-itself}
 use Rattle.row_bag.proofs.SetLaws.{error_among-alike}
 use Rattle.row_bag.proofs.SortedOnce.{ascends-once, occurs}
 use Rattle.row_bag.proofs.TupleBags.{same_cells-decides}
-
-pub fold_map-sum_by : {X : Type 0} (f : X → ℕ) (xs : List X) → fold_map ◌+◌ 0 f xs ≡ sum_by f xs
-fold_map-sum_by f [] = refl
-fold_map-sum_by f (x ∷ xs) = ap (λ n. f x + n) (fold_map-sum_by f xs) ∙ sym (sum_by-cons f x xs)
-
--- rows in another order agree
-pub alike-permuted : {T : Type 0} (xs ys : List (Row T)) → IsPermutation xs ys → Alike xs ys
-alike-permuted xs ys h = record {
-  sums = λ f.
-      fold_map-sum_by (λ r. if_there 0 f r.cells r.level) xs
-      ∙ sym (sum_by-IsPermutation (λ r. if_there 0 f r.cells r.level) xs ys h)
-      ∙ sym (fold_map-sum_by (λ r. if_there 0 f r.cells r.level) ys);
-}
 
 -- a row at no, first in a list, isn't there
 alike-first : {T : Type 0} (c : T) (l : Level) {xs ys : List (Row T)} → Alike xs ys → Alike (row c l ∷ xs) (row c l ∷ ys)

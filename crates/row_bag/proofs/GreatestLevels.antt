@@ -7,7 +7,7 @@ use Rattle.sql_value.specs.declared.level.Level.TheVariants.{No, Cardinality, Di
 use Rattle.sql_value.specs.Level.{rank, least, greatest}
 use Rattle.row_bag.specs.Bags.{row, keep, bind, fold_map, if_there, total, same_level, count, Alike, IsCommutativeMonoid}
 use Rattle.row_bag.specs.declared.row.Row.{Row}
-use Rattle.row_bag.specs.Sets.{multiplicity, level_in, once, distinct, SameLevels, IsDistinctOf}
+use Rattle.row_bag.specs.Sets.{multiplicity, level_in, once, distinct, SameLevels}
 use Rattle.row_bag.proofs.Levels.{greatest-monoid, level_is_no, least-associative, least-commutative, least-no, no-least, yes-least, least-greatest, greatest-associative, greatest-commutative, greatest-itself, greatest-no, no-greatest, greatest-either, same_level-true}
 use Rattle.row_bag.proofs.Folds.{four, fold_map-append, fold_map-act}
 use Rattle.row_bag.proofs.Agreement.{sum-monoid, total-keep, total-bind}
@@ -281,9 +281,6 @@ module _ {T : Type 0} (same : T → T → Bool) (dec : (a b : T) → Decides (sa
     counts = λ c l n.
         distinct-is xs c l n ∙ ap (λ m. cond (same_level m l) 1 0) (h.levels c) ∙ sym (distinct-is ys c l n);
   })
-
-  pub alike-from_distinct : {xs ys : List (Row T)} → IsDistinctOf same xs ys → Alike ys (distinct same xs)
-  alike-from_distinct {xs = xs} h = alike-from_agree same dec (record { counts = λ c l n. h.counts c l n ∙ sym (distinct-is xs c l n) })
 
   pub levels-distinct : (xs : List (Row T)) → SameLevels same (distinct same xs) xs
   levels-distinct xs = record {

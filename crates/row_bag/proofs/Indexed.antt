@@ -1,9 +1,9 @@
 -- Tuples found by the chains of their hashes.
-use Rattle.std.proofs.Common.{◌≡◌, ℕ, zero, suc, ◌+◌, ◌-◌, ◌<◌, ◌≤◌, ◌%◌, zero-add, Bool, true, cond, nat_eq, eqb-true, List, [], ◌∷◌, ◌++◌, map, length, get_or, set, replicate, Some, refl, sym, ap, ◌∙◌, arith, inl, inr}
+use Rattle.std.proofs.Common.{◌≡◌, ℕ, zero, suc, ◌+◌, ◌-◌, ◌<◌, ◌≤◌, ◌%◌, zero-add, Bool, true, cond, nat_eq, eqb-true, List, [], ◌∷◌, ◌++◌, map, length, get_or, set, Some, refl, sym, ap, ◌∙◌, arith, inl, inr}
 use Rattle.std.specs.Prelude.{option_map, slice_get}
 use Rattle.std.proofs.lemmas.Bool.{cases_Bool, cases_lt, eqb-false}
 use Rattle.std.proofs.lemmas.Grind.{get_or-set_at}
-use Rattle.std.proofs.lemmas.List.{get_or-map, get_or-replicate, get_or-set_other, get_or_append_left, get_or_push, length-map, length-replicate, length-set, length_push, map_push}
+use Rattle.std.proofs.lemmas.List.{get_or-map, get_or-set_other, get_or_append_left, get_or_push, length-map, length-set, length_push, map_push}
 use Rattle.std.proofs.lemmas.Option.{get_or_from_slice_get, slice_get-get_or, slice_get-map}
 use Rattle.sql_value.specs.declared.cell.Cell.{Cell}
 use Rattle.row_bag.specs.Hashes.{AreChained, IsLastOf, chains_of, hash_of, hashes_of}
@@ -86,20 +86,6 @@ chained-push heads befores hashes hash chain before last long inside is old new 
     size : length (chains_of (length heads) hashes) ≡ length hashes
     size = length-map hashes (λ h. h % length heads)
 
-pub chained-none : (heads : List ℕ) (n : ℕ) → 0 < n → heads ≡ replicate n 0 → AreChained heads [] []
-chained-none heads n some is = record {
-  some = rw (is, length-replicate {A = ℕ} n 0) some;
-  last = λ c within.
-      let within' : c < n = rw (is, length-replicate {A = ℕ} n 0) at within in
-      let zero : get_or heads c 0 ≡ 0 = ap (λ (h : List ℕ). get_or h c 0) is ∙ get_or-replicate n c 0 0 within' in
-      record {
-        within = omega (arith, zero);
-        own = λ more. absurd (omega (arith, zero, more));
-        others = λ k from to same. absurd (omega (arith, to));
-      };
-  before = λ k within. absurd (omega (arith, within));
-}
-
 -- ---- a walk along a chain
 
 pub sizes : (hashes : List ℕ) (tuples : List Tuple) → hashes ≡ hashes_of tuples → length hashes ≡ length tuples
@@ -154,11 +140,6 @@ walk-goes heads befores hashes tuples cells place before e some eb a w not =
         ]
       ];
     }
-
-pub walk-falls : (heads befores hashes : List ℕ) (place before : ℕ) → 0 < place → place ≤ length hashes → before ≡ get_or befores (place - 1) 0 → AreChained heads befores hashes → before < place
-walk-falls heads befores hashes place before some top eb a =
-    let low = (a.before (place - 1) (omega (arith, top, some))).within in
-    omega (arith, eb, low, some)
 
 -- ---- tuples that stand nowhere
 

@@ -1,7 +1,6 @@
 -- The laws of the chain of levels.
-use Rattle.std.proofs.Common.{◌≡◌, ◌≢◌, ℕ, Bool, true, false, cond, nat_eq, nat_le, ◌&&◌, ◌||◌, refl, ap, sym, ◌∙◌, eqb-true, ◌⊎◌, inl, inr}
+use Rattle.std.proofs.Common.{◌≡◌, ◌≢◌, ℕ, Bool, true, false, cond, nat_eq, nat_le, ◌&&◌, refl, ap, sym, ◌∙◌, eqb-true, ◌⊎◌, inl, inr}
 use Rattle.std.proofs.lemmas.Bool.{and_parts, cases_Bool}
-use Rattle.std.specs.Ordering.{is_lt, nat_cmp}
 use Rattle.sql_value.specs.Level.{greatest, least, rank}
 use Rattle.sql_value.specs.declared.level.Level.{Level}
 use Rattle.sql_value.specs.declared.level.Level.TheVariants.{No, Cardinality, Division, Overflow, Yes}
@@ -99,14 +98,6 @@ least-greatest a b c = same_level-true _ _ (each3_at (λ a b c. same_level (leas
 
 pub greatest-either : (a b : Level) → (greatest a b ≡ a) ⊎ (greatest a b ≡ b)
 greatest-either a b = elim (cases_Bool (nat_le (rank a) (rank b))) [ inl t ↦ inr (ap (λ x. cond x b a) t) | inr t ↦ inl (ap (λ x. cond x b a) t) ]
-
--- of two levels the first is the greatest where it is not below the second
-pub greatest-above : (a b : Level) → is_lt (nat_cmp (rank a) (rank b)) ≡ false → greatest a b ≡ a
-greatest-above a b h = same_level-true _ _ (or_else _ _ h (each2_at (λ a b. is_lt (nat_cmp (rank a) (rank b)) || same_level (greatest a b) a) refl a b))
-  where
-    or_else : (p q : Bool) → p ≡ false → (p || q) ≡ true → q ≡ true
-    or_else true q h k = cc h
-    or_else false q h k = k
 
 -- no is the same level as no other
 pub no-other : (l : Level) → l ≢ No → same_level No l ≡ false

@@ -20,6 +20,7 @@ pub mod Keeping
 pub mod Keying
 pub mod Leading
 pub mod LeadingWhole
+pub mod Lefts
 pub mod Levels
 pub mod Matching
 pub mod Means

@@ -1,18 +1,11 @@
--- Tuples in ascending order, and how many of equal ones match.
-use Rattle.std.specs.Prelude.{◌≡◌, ℕ, ◌-◌, if◌then◌else◌, min, Bool, true, false, List, [], ◌∷◌}
-use Rattle.std.specs.Cmp.Lexicographic.{slice_cmp}
-use Rattle.std.specs.Ordering.{is_lt}
-use Rattle.sql_value.specs.Cells.{cell_compare}
+-- How many of equal tuples match.
+use Rattle.std.specs.Prelude.{◌≡◌, ℕ, ◌+◌, ◌-◌, ◌&&◌, if◌then◌else◌, min, Bool, true, false, List, [], ◌∷◌}
 use Rattle.sql_value.specs.declared.cell.Cell.{Cell}
 use Rattle.sql_value.specs.declared.level.Level.{Level}
 use Rattle.sql_value.specs.declared.level.Level.TheVariants.{Yes}
 use Rattle.row_bag.specs.Bags.{at_yes, count, same_level}
 use Rattle.row_bag.specs.Sets.{multiplicity, same_cells}
 use Rattle.row_bag.specs.declared.row.Row.{Row}
-
--- the first tuple stands below the second
-abbrev pub tuple_below : List Cell → List Cell → Bool
-tuple_below a b = is_lt (slice_cmp cell_compare a b)
 
 -- how often a tuple stands among tuples
 abbrev pub often : List Cell → List (List Cell) → ℕ
@@ -32,12 +25,15 @@ abbrev pub AreMatched : Bool → Bool → List (Row (List Cell)) → List (Row (
 AreMatched all matched a b rows = (c : List Cell) → (l : Level) → count same_cells c l rows
     ≡ (if same_level Yes l then part matched (all_or_once all (multiplicity same_cells c a)) (multiplicity same_cells c b) else 0)
 
--- the first of these tuples, where there is one, doesn't stand below the cells
-abbrev pub NotBelow : List Cell → List (List Cell) → Type 0
-NotBelow cells [] = Unit {0}
-NotBelow cells (t ∷ tuples) = tuple_below t cells ≡ false
+-- how many of a tuple are left among these, of which each holds a tuple and how many of it are left
+abbrev pub left_of : {L : Type 0} → (L → List Cell) → (L → ℕ) → List Cell → List L → ℕ
+left_of tuple left c [] = 0
+left_of tuple left c (x ∷ xs) = (if same_cells (tuple x) c then left x else 0) + left_of tuple left c xs
 
--- the first of these tuples is these cells
-abbrev pub starts_with : List Cell → List (List Cell) → Bool
-starts_with cells [] = false
-starts_with cells (t ∷ tuples) = same_cells t cells
+-- one more of a tuple is left
+abbrev pub HasCounted : {L : Type 0} → (L → List Cell) → (L → ℕ) → List Cell → List L → List L → Type 0
+HasCounted tuple left cells old new = (c : List Cell) → left_of tuple left c new ≡ left_of tuple left c old + (if same_cells cells c then 1 else 0)
+
+-- one of a tuple is taken, where that is so, and all others are left
+abbrev pub HasTaken : {L : Type 0} → (L → List Cell) → (L → ℕ) → Bool → List Cell → List L → List L → Type 0
+HasTaken tuple left taken cells old new = (c : List Cell) → left_of tuple left c old ≡ (if taken && same_cells cells c then 1 else 0) + left_of tuple left c new

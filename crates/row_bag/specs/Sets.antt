@@ -1,5 +1,5 @@
 -- Operations that go by how often a tuple occurs, and groups.
-use Rattle.std.specs.Prelude.{◌≡◌, ◌≢◌, ℕ, ◌+◌, ◌-◌, min, All, Bool, List, [], ◌∷◌, ◌++◌, replicate, nat_eq, if◌then◌else◌, Option, Some, None}
+use Rattle.std.specs.Prelude.{◌≡◌, ℕ, ◌+◌, ◌-◌, min, Bool, List, [], ◌∷◌, ◌++◌, replicate, nat_eq, if◌then◌else◌, Option, Some, None}
 use Rattle.std.specs.Cmp.Lexicographic.{slice_cmp}
 use Rattle.std.specs.Ordering.{is_eq}
 use Rattle.sql_value.specs.Cells.{cell_compare}
@@ -9,7 +9,7 @@ use Rattle.sql_value.specs.declared.cell.Cell.TheVariants.{Err}
 use Rattle.sql_value.specs.declared.cell.Kind.{Kind}
 use Rattle.sql_value.specs.declared.level.Level.{Level}
 use Rattle.sql_value.specs.declared.level.Level.TheVariants.{No, Yes}
-use Rattle.row_bag.specs.Bags.{bind, count, if_there, row, same_level, total, unit}
+use Rattle.row_bag.specs.Bags.{bind, if_there, row, total, unit}
 use Rattle.row_bag.specs.Errors.{error_among}
 use Rattle.row_bag.specs.declared.row.Row.{Row}
 
@@ -82,8 +82,3 @@ failed_cells columns k = replicate columns (Err k)
 -- the same tuples at the same greatest levels
 pub record SameLevels {T : Type 0} (same : T → T → Bool) (xs ys : List (Row T)) : Type 0 where
   pub levels : (c : T) → level_in same c xs ≡ level_in same c ys
-
--- what is left of xs under DISTINCT, in whatever order: each tuple once, at its greatest level
-pub record IsDistinctOf {T : Type 0} (same : T → T → Bool) (xs ys : List (Row T)) : Type 0 where
-  pub counts : (c : T) (level : Level) → level ≢ No → count same c level ys ≡ (if same_level (level_in same c xs) level then 1 else 0)
-  pub there : All (λ r. r.level ≢ No) ys

@@ -1,10 +1,12 @@
 // Aggregates of cells (SQL-92, 6.5).
-ghost use Rattle.std.specs.Prelude.{◌≡◌, ℕ, pos, if◌then◌else◌, None, not, nat_eq, filter, is_some, unwrap_or, [], IfOk};
+ghost use Rattle.std.specs.Prelude.{◌≡◌, ℕ, pos, if◌then◌else◌, None, nat_eq, filter, is_some, unwrap_or, map, [], ◌∷◌, ◌++◌, IfOk, List, OnOk};
 ghost use Rattle.row_bag.specs.Aggregates as spec;
 ghost use Rattle.row_bag.specs.Bags.{if_there, total, unit};
 ghost use Rattle.row_bag.specs.Errors.{error_among, error_at};
+ghost use Rattle.row_bag.specs.Hashes.{hashes_of};
 ghost use Rattle.row_bag.specs.Joins.{how_many};
-ghost use Rattle.row_bag.specs.Sets.{multiplicity, once};
+ghost use Rattle.row_bag.specs.Matched.{often};
+ghost use Rattle.row_bag.specs.Sets.{once};
 ghost use Rattle.row_bag.specs.Verdict.{those_there};
 ghost use Rattle.row_bag.specs.Arguments.{IsTotalOf, is_value};
 ghost use Rattle.sql_value.specs.Cells as cells;
@@ -12,10 +14,11 @@ ghost use Rattle.sql_value.specs.declared.cell.Cell.TheVariants.{Null};
 
 use crate::answer::{error_at, error_of, worst_of};
 use crate::row::Row;
+use crate::tuple_index::{HasTuple, TupleIndex};
 use shared_types::OutOfMemory;
 use sql_value::{Aggregate, Cell, Kind, Level, Taken, cell_order, copy};
 use std::alloc::Global;
-use std::cmp::Ordering;
+use std::slice;
 
 // The greatest error of a row that is there.
 fn error_of_row(row: &Row<Cell>) -> Option<Kind>
@@ -60,57 +63,68 @@ fn without_nulls(rows: Vec<Row<Cell>>) -> Vec<Row<Cell>>
     rows
 }
 
-// A row is there, and this is its cell.
-fn is_hit(cell: &Cell, row: &Row<Cell>) -> bool
-    ensures { ◌≡◌ {A = ℕ} (if result then 1 else 0) (if_there 0 (λ k level. if spec.same_cell k cell.now then 1 else 0) row.now.cells row.now.level) }
+impl HasTuple for Row<Cell> {
+    ghost tuple = { λ r. r.cells ∷ [] };
+
+    fn tuple(&self) -> &[Cell] {
+        slice::from_ref(&self.cells)
+    }
+}
+
+// Adds a cell that doesn't stand among these.
+fn keep_cell(
+    alloc: Global,
+    index: &mut TupleIndex,
+    kept: &mut Vec<Row<Cell>>,
+    cell: &Cell,
+) -> Result<(), OutOfMemory>
+    requires { index.old ≡ hashes_of (map (λ r. r.cells ∷ []) kept.old.items) }
+    ensures index { OnOk result (index.new ≡ hashes_of (map (λ r. r.cells ∷ []) kept.new.items)) }
+    ensures kept { OnOk result (kept.new.items ≡ kept.old.items ++ (if nat_eq (often (cell.now ∷ []) (map (λ r. r.cells ∷ []) kept.old.items)) 0 then unit cell.now else [])) }
+{
+    let tuple = slice::from_ref(cell);
+    if index.find(kept.as_slice(), tuple).is_none() {
+        index.push(tuple)?;
+        kept.push(Row {
+            cells: copy(alloc, cell)?,
+            level: Level::Yes,
+        })?;
+    }
+    Ok(())
+}
+
+// Adds the cell of a row that is there, if it doesn't stand among these.
+fn keep_row(
+    alloc: Global,
+    index: &mut TupleIndex,
+    kept: &mut Vec<Row<Cell>>,
+    row: &Row<Cell>,
+) -> Result<(), OutOfMemory>
+    requires { index.old ≡ hashes_of (map (λ r. r.cells ∷ []) kept.old.items) }
+    ensures index { OnOk result (index.new ≡ hashes_of (map (λ r. r.cells ∷ []) kept.new.items)) }
+    ensures kept { OnOk result (kept.new.items ≡ kept.old.items ++ if_there [] (λ c level. if nat_eq (often (c ∷ []) (map (λ r. r.cells ∷ []) kept.old.items)) 0 then unit c else []) row.now.cells row.now.level) }
 {
     match row.level {
-        Level::No => false,
+        Level::No => Ok(()),
         Level::Cardinality | Level::Division | Level::Overflow | Level::Yes => {
-            cell_order(&row.cells, cell) == Ordering::Equal
+            keep_cell(alloc, index, kept, &row.cells)
         }
     }
 }
 
-// Whether a cell occurs.
-fn occurs(cell: &Cell, rows: &[Row<Cell>]) -> bool
-    ensures { nat_eq (multiplicity spec.same_cell cell.now rows.now) 0 ≡ not result }
-{
-    for row in rows {
-        if is_hit(cell, row) {
-            return true;
-        }
-    }
-    false
-}
-
-// Whether a row is there and its cell doesn't occur in the rows after it.
-fn is_last(row: &Row<Cell>, after: &[Row<Cell>]) -> bool
-    ensures { (if result then unit row.now.cells else []) ≡ if_there [] (λ c level. if nat_eq (multiplicity spec.same_cell c after.now) 0 then unit c else []) row.now.cells row.now.level }
-{
-    match row.level {
-        Level::No => false,
-        Level::Cardinality | Level::Division | Level::Overflow | Level::Yes => {
-            !occurs(&row.cells, after)
-        }
-    }
-}
-
-// Each cell once.
-#[tactic(auto, using(crate::proofs::Values::once_steps))]
+// Each cell once, where it stands last.
 fn once(alloc: Global, rows: &[Row<Cell>]) -> Result<Vec<Row<Cell>>, OutOfMemory>
     ensures { IfOk result (λ made. made.items ≡ once spec.same_cell rows.now) }
 {
-    let mut made = Vec::new(alloc);
-    for i in 0..rows.len() {
-        if is_last(&rows[i], &rows[i + 1..]) {
-            made.push(Row {
-                cells: copy(alloc, &rows[i].cells)?,
-                level: Level::Yes,
-            })?;
-        }
+    let mut index = TupleIndex::with_chains(alloc, rows.len())?;
+    let mut kept = Vec::new(alloc);
+    let mut i = rows.len();
+    while i > 0 {
+        i -= 1;
+        keep_row(alloc, &mut index, &mut kept, &rows[i])?;
     }
-    Ok(made)
+    kept.reverse();
+    Ok(kept)
 }
 
 // With DISTINCT each cell once.

@@ -1,7 +1,7 @@
 // The tuples of one bag that those of another match.
-ghost use Rattle.std.specs.Prelude.{◌≡◌, ◌+◌, ◌&&◌, List, IfOk, drop, if◌then◌else◌, false, true, map, min, ◌<◌, length};
-ghost use Rattle.std.specs.List.Sorted.{IsPermutation, IsSortedBy};
+ghost use Rattle.std.specs.Prelude.{◌≡◌, ◌+◌, ◌^◌, [], List, IfOk, OnOk, Some, if◌then◌else◌, false, map, slice_get, ◌<◌};
 ghost use Rattle.row_bag.specs.Bags.{count, same_level};
+ghost use Rattle.row_bag.specs.Hashes.{AreDifferent, hashes_of};
 ghost use Rattle.row_bag.specs.Matched as spec;
 ghost use Rattle.row_bag.specs.Sets.{multiplicity, same_cells};
 ghost use Rattle.row_bag.specs.Verdict.{those_there};
@@ -10,12 +10,35 @@ ghost use Rattle.sql_value.specs.declared.level.Level.{Level};
 
 use crate::answer::those_there;
 use crate::bag::Bag;
-use crate::row::{Row, cells_order, same_cells};
+use crate::row::Row;
 use crate::sets::distinct;
+use crate::tuple_index::{HasTuple, TupleIndex};
 use shared_types::OutOfMemory;
 use sql_value::{Cell, Level};
 use sqlite_items::Items;
 use std::alloc::Global;
+
+/// A tuple, and how many equal ones are left to be matched.
+#[derive(Drop)]
+struct Left {
+    cells: Items<Cell>,
+    count: usize,
+}
+
+impl HasTuple for Left {
+    ghost tuple = { λ l. l.cells };
+
+    fn tuple(&self) -> &[Cell] {
+        self.cells.as_slice()
+    }
+}
+
+// Different tuples, found by hash, and how many of each are left to be matched.
+#[derive(Drop)]
+struct Lefts {
+    index: TupleIndex,
+    items: Vec<Left>,
+}
 
 // The tuples of the rows that are there.
 fn tuples_there(alloc: Global, bag: Bag) -> Result<Vec<Items<Cell>>, OutOfMemory>
@@ -25,85 +48,121 @@ fn tuples_there(alloc: Global, bag: Bag) -> Result<Vec<Items<Cell>>, OutOfMemory
     Ok(rows.into_iter().map(|row| row.cells).collect(alloc)?)
 }
 
-// The tuples in ascending order.
-fn ascending(tuples: Vec<Items<Cell>>) -> Result<Vec<Items<Cell>>, OutOfMemory>
-    ensures ascending { IfOk result (λ sorted. IsSortedBy spec.tuple_below sorted.items) }
-    ensures same { IfOk result (λ sorted. IsPermutation tuples.items sorted.items) }
+// Counts one more of the tuple at a place.
+fn count_one(items: &mut Vec<Left>, place: usize, cells: &[Cell])
+    requires place { slice_get (map (λ l. l.cells) items.old.items) place ≡ Some cells.now }
+    requires once { AreDifferent (map (λ l. l.cells) items.old.items) }
+    requires room { spec.left_of (λ l. l.cells) (λ l. l.count) cells.now items.old.items + 1 < 2 ^ 64 }
+    ensures tuples { map (λ l. l.cells) items.new.items ≡ map (λ l. l.cells) items.old.items }
+    ensures counts { spec.HasCounted (λ l. l.cells) (λ l. l.count) cells.now items.old.items items.new.items }
 {
-    let mut sorted = tuples;
-    sorted.sort_by(|a, b| cells_order(a.as_slice(), b.as_slice()))?;
-    Ok(sorted)
+    items[place].count += 1;
 }
 
-// The tuples of the rows that are there, in ascending order.
-fn ascending_there(alloc: Global, bag: Bag) -> Result<Vec<Items<Cell>>, OutOfMemory>
-    ensures ascending { IfOk result (λ tuples. IsSortedBy spec.tuple_below tuples.items) }
-    ensures counts { IfOk result (λ tuples. (c : List Cell) → spec.often c tuples.items ≡ multiplicity same_cells c bag) }
+// Takes one of the tuple at a place, where one is left.
+fn take_one(items: &mut Vec<Left>, place: usize, cells: &[Cell]) -> bool
+    requires place { slice_get (map (λ l. l.cells) items.old.items) place ≡ Some cells.now }
+    requires once { AreDifferent (map (λ l. l.cells) items.old.items) }
+    ensures tuples { map (λ l. l.cells) items.new.items ≡ map (λ l. l.cells) items.old.items }
+    ensures rest { spec.HasTaken (λ l. l.cells) (λ l. l.count) result cells.now items.old.items items.new.items }
+    ensures none { result ≡ false → spec.left_of (λ l. l.cells) (λ l. l.count) cells.now items.new.items ≡ 0 }
 {
-    ascending(tuples_there(alloc, bag)?)
-}
-
-// Where a search for an equal tuple among ascending ones ended: whether there is one, and the place
-// from which the next search goes on.
-#[derive(Clone, Copy)]
-struct Search {
-    found: bool,
-    next: usize,
-}
-
-// The first place from this one on of a tuple that doesn't stand below these cells.
-fn not_below(tuples: &[Items<Cell>], from: usize, cells: &[Cell]) -> usize
-    ensures rest { (c : List Cell) → spec.tuple_below c cells.now ≡ false → spec.often c (drop result tuples.now) ≡ spec.often c (drop from tuples.now) }
-    ensures stop { spec.NotBelow cells.now (drop result tuples.now) }
-{
-    let mut next = from;
-    while next < tuples.len() && cells_order(tuples[next].as_slice(), cells).is_lt() {
-        next += 1;
+    let count = items[place].count;
+    if count == 0 {
+        return false;
     }
-    next
+    items[place].count = count - 1;
+    true
 }
 
-// The tuple at this place equals these cells.
-fn stands_at(tuples: &[Items<Cell>], at: usize, cells: &[Cell]) -> bool
-    ensures first { result ≡ spec.starts_with cells.now (drop at tuples.now) }
-    ensures within { result ≡ true → at < length tuples.now }
+// Takes one of a tuple, where one is left.
+fn take(index: &TupleIndex, items: &mut Vec<Left>, cells: &[Cell]) -> bool
+    requires index { index.now ≡ hashes_of (map (λ l. l.cells) items.old.items) }
+    requires once { AreDifferent (map (λ l. l.cells) items.old.items) }
+    ensures tuples { map (λ l. l.cells) items.new.items ≡ map (λ l. l.cells) items.old.items }
+    ensures rest { spec.HasTaken (λ l. l.cells) (λ l. l.count) result cells.now items.old.items items.new.items }
+    ensures none { result ≡ false → spec.left_of (λ l. l.cells) (λ l. l.count) cells.now items.new.items ≡ 0 }
 {
-    match tuples.get(at) {
-        Some(tuple) => same_cells(tuple.as_slice(), cells),
+    match index.find(items.as_slice(), cells) {
+        Some(place) => take_one(items, place, cells),
         None => false,
     }
 }
 
-// The next of ascending tuples that equals these cells.
-fn look_up(tuples: &[Items<Cell>], from: usize, cells: &[Cell]) -> Search
-    requires { IsSortedBy spec.tuple_below tuples.now }
-    ensures rest { (c : List Cell) → spec.tuple_below c cells.now ≡ false → spec.often c (drop from tuples.now) ≡ (if result.found && same_cells cells.now c then 1 else 0) + spec.often c (drop result.next tuples.now) }
-    ensures none { result.found ≡ false → spec.often cells.now (drop result.next tuples.now) ≡ 0 }
+// Adds a tuple that isn't among them.
+fn add_tuple(
+    index: &mut TupleIndex,
+    items: &mut Vec<Left>,
+    cells: Items<Cell>,
+) -> Result<(), OutOfMemory>
+    requires index { index.old ≡ hashes_of (map (λ l. l.cells) items.old.items) }
+    requires once { AreDifferent (map (λ l. l.cells) items.old.items) }
+    requires none { spec.often cells (map (λ l. l.cells) items.old.items) ≡ 0 }
+    ensures index { OnOk result (index.new ≡ hashes_of (map (λ l. l.cells) items.new.items)) }
+    ensures once { OnOk result (AreDifferent (map (λ l. l.cells) items.new.items)) }
+    ensures counts { OnOk result (spec.HasCounted (λ l. l.cells) (λ l. l.count) cells items.old.items items.new.items) }
 {
-    let at = not_below(tuples, from, cells);
-    let found = stands_at(tuples, at, cells);
-    let next = if found { at + 1 } else { at };
-    Search { found, next }
+    index.push(cells.as_slice())?;
+    items.push(Left { cells, count: 1 })?;
+    Ok(())
 }
 
-// Of ascending tuples those that others match, each of which matches at most one, or those that
-// none matches; as rows at yes.
+// Counts one more of a tuple.
+fn count_tuple(
+    index: &mut TupleIndex,
+    items: &mut Vec<Left>,
+    cells: Items<Cell>,
+) -> Result<(), OutOfMemory>
+    requires index { index.old ≡ hashes_of (map (λ l. l.cells) items.old.items) }
+    requires once { AreDifferent (map (λ l. l.cells) items.old.items) }
+    requires room { spec.left_of (λ l. l.cells) (λ l. l.count) cells items.old.items + 1 < 2 ^ 64 }
+    ensures index { OnOk result (index.new ≡ hashes_of (map (λ l. l.cells) items.new.items)) }
+    ensures once { OnOk result (AreDifferent (map (λ l. l.cells) items.new.items)) }
+    ensures counts { OnOk result (spec.HasCounted (λ l. l.cells) (λ l. l.count) cells items.old.items items.new.items) }
+{
+    match index.find(items.as_slice(), cells.as_slice()) {
+        Some(place) => {
+            count_one(items, place, cells.as_slice());
+            Ok(())
+        }
+        None => {
+            add_tuple(index, items, cells)?;
+            Ok(())
+        }
+    }
+}
+
+// The different tuples among these, each with how often it stands there.
+fn counted(alloc: Global, tuples: Vec<Items<Cell>>) -> Result<Lefts, OutOfMemory>
+    ensures index { IfOk result (λ made. made.index ≡ hashes_of (map (λ l. l.cells) made.items.items)) }
+    ensures once { IfOk result (λ made. AreDifferent (map (λ l. l.cells) made.items.items)) }
+    ensures counts { IfOk result (λ made. (c : List Cell) → spec.left_of (λ l. l.cells) (λ l. l.count) c made.items.items ≡ spec.often c tuples.items) }
+{
+    let mut index = TupleIndex::with_chains(alloc, tuples.len())?;
+    let mut items = Vec::new(alloc);
+    for cells in tuples {
+        count_tuple(&mut index, &mut items, cells)?;
+    }
+    Ok(Lefts { index, items })
+}
+
+// Of tuples those that others match, each of which matches at most one, or those that none matches;
+// as rows at yes.
 fn parted(
     alloc: Global,
     xs: Vec<Items<Cell>>,
-    ys: &[Items<Cell>],
+    index: &TupleIndex,
+    items: Vec<Left>,
     matched: bool,
 ) -> Result<Bag, OutOfMemory>
-    requires xs { IsSortedBy spec.tuple_below xs.items }
-    requires ys { IsSortedBy spec.tuple_below ys.now }
-    ensures { IfOk result (λ rows. (c : List Cell) → (l : Level) → count same_cells c l rows ≡ (if same_level Level.Yes l then spec.part matched (spec.often c xs.items) (spec.often c ys.now) else 0)) }
+    requires index { index.now ≡ hashes_of (map (λ l. l.cells) items.items) }
+    requires once { AreDifferent (map (λ l. l.cells) items.items) }
+    ensures { IfOk result (λ rows. (c : List Cell) → (l : Level) → count same_cells c l rows ≡ (if same_level Level.Yes l then spec.part matched (spec.often c xs.items) (spec.left_of (λ l. l.cells) (λ l. l.count) c items.items) else 0)) }
 {
+    let mut items = items;
     let mut kept = Bag::new(alloc);
-    let mut next = 0;
     for cells in xs {
-        let search = look_up(ys, next, cells.as_slice());
-        next = search.next;
-        if search.found == matched {
+        if take(index, &mut items, cells.as_slice()) == matched {
             kept.push(Row {
                 cells,
                 level: Level::Yes,
@@ -131,7 +190,7 @@ pub(crate) fn matching(
 ) -> Result<Bag, OutOfMemory>
     ensures { IfOk result (λ rows. spec.AreMatched all matched a b rows) }
 {
-    let xs = ascending_there(alloc, all_or_once(a, all)?)?;
-    let ys = ascending_there(alloc, b)?;
-    parted(alloc, xs, &ys, matched)
+    let xs = tuples_there(alloc, all_or_once(a, all)?)?;
+    let Lefts { index, items } = counted(alloc, tuples_there(alloc, b)?)?;
+    parted(alloc, xs, &index, items, matched)
 }

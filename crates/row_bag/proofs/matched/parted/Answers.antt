@@ -1,19 +1,23 @@
-use Rattle.std.proofs.Common.{rules, ◌≡◌, ◌+◌, ◌∙◌, ◌∷◌, ◌++◌, [], sym, ap, cond, drop, zero-add, add-zero}
+use Rattle.std.proofs.Common.{rules, ◌≡◌, ◌+◌, ◌∙◌, ◌∷◌, ◌++◌, [], List, sym, ap, cond, zero-add, add-zero}
 use Rattle.std.specs.Vec.Iter.{into_iter_items}
+use Rattle.sql_value.specs.declared.cell.Cell.{Cell}
 use Rattle.sql_value.specs.declared.level.Level.TheVariants.{Yes}
-use Rattle.row_bag.specs.Bags.{count, row, same_level}
-use Rattle.row_bag.specs.Matched.{often, part, tuple_below}
+use Rattle.row_bag.specs.Bags.{count, row}
+use Rattle.row_bag.specs.Hashes.{hashes_of}
+use Rattle.row_bag.specs.Matched.{left_of}
 use Rattle.row_bag.specs.Sets.{same_cells}
-use Rattle.row_bag.proofs.Matching.{at_end, below-ranks, one_less, turn, none_left}
-use Rattle.row_bag.proofs.SortedOnce.{ascends-sorted}
+use Rattle.row_bag.specs.declared.matched.Left.{Left}
+use Rattle.row_bag.proofs.Keeping.{none_left, one_less}
+use Rattle.row_bag.proofs.Matching.{at_end, turn}
 use Rattle.row_bag.proofs.matched.parted.Goals as goal
 
 pub loop-cells-init : goal.loop-cells-init
 loop-cells-init c =
     let same = c.into_iter-cells-iterator.ensures.into_iter_gives.0 in
     rw (same, c.new-kept.ensures) (record {
-      counts = λ t m. zero-add (cond (same_level Yes m) (part c.args.matched (often t c.args.xs.items) (often t c.args.ys.now)) 0);
-      up = ascends-sorted tuple_below below-ranks c.args.xs.items c.requires.xs;
+      index = c.requires.index;
+      once = c.requires.once;
+      counts = λ t m. zero-add _;
       left = search rules;
     })
 
@@ -24,14 +28,13 @@ loop-cells-preserved-in-Continue-1 c =
     let from = into_iter_items c.loop-cells.cells-iterator in
     let rest = into_iter_items c.next.new.self in
     let first : from ≡ x ∷ rest = steps.0 ∙ ap (λ y. y ∷ rest) (sym c.as_slice.ensures) in
-    let same = c.if-search-matched.true in
-    let more = c.in_ok-push.ensures.ok ∙ ap (λ y. c.loop-cells.kept ++ row y Yes ∷ []) (sym c.as_slice.ensures) ∙ ap (λ b. cond b (c.loop-cells.kept ++ row x Yes ∷ []) c.loop-cells.kept) (sym same) in
+    let left = λ (t : List Cell). left_of (λ (y : Left). y.cells) (λ (y : Left). y.count) t c.loop-cells.items.items in
+    let after = λ (t : List Cell). left_of (λ (y : Left). y.cells) (λ (y : Left). y.count) t c.take.new.items.items in
+    let more = c.in_ok-push.ensures.ok ∙ ap (λ y. c.loop-cells.kept ++ row y Yes ∷ []) (sym c.as_slice.ensures) ∙ ap (λ b. cond b (c.loop-cells.kept ++ row x Yes ∷ []) c.loop-cells.kept) (sym c.if-take-matched.true) in
     record {
-      counts = λ t m.
-          turn c.args.matched c.look_up-search.result.found x from rest (drop c.loop-cells.next c.args.ys.now) (drop c.look_up-search.result.next c.args.ys.now) c.loop-cells.kept c.push.new.self first
-          c.loop-cells.invariant.up c.look_up-search.ensures.rest c.look_up-search.ensures.none more t m
-          ∙ c.loop-cells.invariant.counts t m;
-      up = (rw first at c.loop-cells.invariant.up).1;
+      index = c.loop-cells.invariant.index ∙ ap hashes_of (sym c.take.ensures.tuples);
+      once = rw c.take.ensures.tuples c.loop-cells.invariant.once;
+      counts = λ t m. turn c.args.matched c.take.result x from rest left after c.loop-cells.kept c.push.new.self first c.take.ensures.rest c.take.ensures.none more t m ∙ c.loop-cells.invariant.counts t m;
       left = one_less x from rest _ _ first steps.1 c.loop-cells.invariant.left;
     }
 
@@ -42,17 +45,17 @@ loop-cells-preserved c =
     let from = into_iter_items c.loop-cells.cells-iterator in
     let rest = into_iter_items c.next.new.self in
     let first : from ≡ x ∷ rest = steps.0 ∙ ap (λ y. y ∷ rest) (sym c.as_slice.ensures) in
-    let more = ap (λ b. cond b (c.loop-cells.kept ++ row x Yes ∷ []) c.loop-cells.kept) (sym c.if-search-matched.false) in
+    let left = λ (t : List Cell). left_of (λ (y : Left). y.cells) (λ (y : Left). y.count) t c.loop-cells.items.items in
+    let after = λ (t : List Cell). left_of (λ (y : Left). y.cells) (λ (y : Left). y.count) t c.take.new.items.items in
+    let more = ap (λ b. cond b (c.loop-cells.kept ++ row x Yes ∷ []) c.loop-cells.kept) (sym c.if-take-matched.false) in
     record {
-      counts = λ t m.
-          turn c.args.matched c.look_up-search.result.found x from rest (drop c.loop-cells.next c.args.ys.now) (drop c.look_up-search.result.next c.args.ys.now) c.loop-cells.kept c.loop-cells.kept first
-          c.loop-cells.invariant.up c.look_up-search.ensures.rest c.look_up-search.ensures.none more t m
-          ∙ c.loop-cells.invariant.counts t m;
-      up = (rw first at c.loop-cells.invariant.up).1;
+      index = c.loop-cells.invariant.index ∙ ap hashes_of (sym c.take.ensures.tuples);
+      once = rw c.take.ensures.tuples c.loop-cells.invariant.once;
+      counts = λ t m. turn c.args.matched c.take.result x from rest left after c.loop-cells.kept c.loop-cells.kept first c.take.ensures.rest c.take.ensures.none more t m ∙ c.loop-cells.invariant.counts t m;
       left = one_less x from rest _ _ first steps.1 c.loop-cells.invariant.left;
     }
 
 pub returns : goal.returns
 returns c = λ t m.
-    let e = at_end c.args.matched t m (into_iter_items c.loop-cells.cells-iterator) (often t (drop c.loop-cells.next c.args.ys.now)) (none_left _ (sym c.loop-cells.invariant.left ∙ c.in-None.ensures.steps.0)) in
+    let e = at_end c.args.matched t m (into_iter_items c.loop-cells.cells-iterator) (left_of (λ (x : Left). x.cells) (λ (x : Left). x.count) t c.loop-cells.items.items) (none_left _ (sym c.loop-cells.invariant.left ∙ c.in-None.ensures.steps.0)) in
     sym (add-zero _) ∙ ap (λ n. count same_cells t m c.loop-cells.kept + n) (sym e) ∙ c.loop-cells.invariant.counts t m
