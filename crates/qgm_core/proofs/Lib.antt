@@ -12,3 +12,4 @@ pub mod Shifts
 pub mod Held
 pub mod ByNumber
 pub mod Spliced
+pub mod Owning

@@ -27,7 +27,7 @@ use crate::places::{box_place, new_place, owner_place};
 use crate::quants::Quants;
 use crate::shifted::shift_over;
 use crate::uses::uses_in;
-use crate::walks::{by_levels, visit};
+use crate::walks::{by_levels, depth_first};
 use qgm_terms::{Conds, Gc, Head, QuantId, ROOM, substitute_conds, substitute_head};
 use rewrite_plan::Walk;
 use shared_types::OutOfMemory;
@@ -276,11 +276,7 @@ impl Graph {
         ensures { IfOk result (λ v. v.items ≡ walk w self.now) }
     {
         match w {
-            Walk::Depth => {
-                let mut seen = Vec::new(alloc);
-                visit(&self.nodes, self.root, &mut seen)?;
-                Ok(seen)
-            }
+            Walk::Depth => depth_first(alloc, &self.nodes, self.root),
             Walk::Breadth => by_levels(alloc, &self.nodes, self.root),
         }
     }

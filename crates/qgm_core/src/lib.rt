@@ -24,7 +24,7 @@ mod walks;
 
 pub use box_places::{Places, node_at};
 pub use counts::{Counts, uses_of};
-pub use free::{add_names_of_node, free_in, is_marked, mark_each};
+pub use free::{add_names_of_node, free_in, is_marked, mark_each, owned_by, reached};
 pub use graph::Graph;
 pub use kinds::{BaseTable, BoxId, BoxKind, Distinct, QuantKind, Role, SetOperator};
 pub use made::NewBox;

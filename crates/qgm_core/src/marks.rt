@@ -49,6 +49,20 @@ impl Marks {
         Ok(())
     }
 
+    // The numbers.
+    pub(crate) fn as_slice(&self) -> &[usize]
+        ensures { result.now ≡ self.now }
+    {
+        &self.list
+    }
+
+    // The numbers, without the flags.
+    pub(crate) fn into_list(self) -> Vec<usize>
+        ensures { result.items ≡ self }
+    {
+        self.list
+    }
+
     /// Whether a number is marked.
     pub fn has(&self, x: usize) -> bool
         ensures { result ≡ holds x self.now }
