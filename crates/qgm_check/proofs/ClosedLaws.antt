@@ -3,11 +3,11 @@ use Rattle.std.proofs.Common.{ℕ, ◌==◌, ◌≡◌, ◌≤◌, ◌<◌, ◌&
 use Rattle.std.specs.List.{list_all, flat_map}
 use Rattle.std.proofs.lemmas.Bool.{and_parts, and_from, cases_Bool, eq-eqb, eqb-true, ltb-true, ltb-false, not-true}
 use Rattle.qgm_core.specs.Boxes.{Ordered, ids_of, is_quant, owns}
-use Rattle.qgm_core.specs.Free.{IsFree, free_among, free_in, is_owned, named_where, put_each, put_once, reached}
+use Rattle.qgm_core.specs.Free.{IsFree, free_among, free_in, is_owned, named_where, owned_where, put_each, put_once, reached}
 use Rattle.qgm_core.specs.Lists.{In, holds}
 use Rattle.qgm_core.specs.declared.node.Node.{Node}
 use Rattle.qgm_core.specs.declared.owned.OwnedQuant.{OwnedQuant}
-use Rattle.qgm_check.specs.Closed.{names_owned, owned_where}
+use Rattle.qgm_check.specs.Closed.{names_owned}
 use Rattle.qgm_check.specs.Laws.{Ascending}
 use Rattle.qgm_check.specs.Shapes.{only}
 use Rattle.qgm_check.specs.WellFormed.{is_empty}

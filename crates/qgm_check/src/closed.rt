@@ -1,14 +1,13 @@
 // Whether nothing is free in a box.
-ghost use Rattle.std.specs.Prelude.{◌≡◌, ◌++◌, ◌∷◌, [], OnOk, IfOk};
-ghost use Rattle.std.specs.List.{list_all, flat_map};
-ghost use Rattle.qgm_core.specs.Free.{free_in, marked, named_by, reached};
+ghost use Rattle.std.specs.Prelude.{◌≡◌, IfOk};
+ghost use Rattle.std.specs.List.{list_all};
+ghost use Rattle.qgm_core.specs.Free.{free_in, named_by};
 ghost use Rattle.qgm_core.specs.Lists.{holds};
 ghost use Rattle.qgm_check.specs.Closed as spec;
 ghost use Rattle.qgm_check.specs.Shapes.{only};
 ghost use Rattle.qgm_check.specs.WellFormed.{is_empty};
 
-use crate::marks::{Marks, mark_ids, mark_overs};
-use qgm_core::{BoxId, Node, QuantId, add_names_of_node};
+use qgm_core::{BoxId, Marks, Node, QuantId, add_names_of_node, owned_by, reached};
 use shared_types::OutOfMemory;
 use std::alloc::Global;
 
@@ -19,49 +18,6 @@ pub fn names_of(alloc: Global, node: &Node) -> Result<Vec<QuantId>, OutOfMemory>
     let mut names = Vec::new(alloc);
     add_names_of_node(node, &mut names)?;
     Ok(names)
-}
-
-// Marks what a box that is marked ranges over.
-fn mark(node: &Node, marks: &mut Marks) -> Result<(), OutOfMemory>
-    ensures { OnOk result (marks.new ≡ marked marks.old node.now) }
-{
-    if marks.has(node.id) {
-        mark_overs(node.quants.as_slice(), marks)?;
-    }
-    Ok(())
-}
-
-// The boxes that are reached from one.
-fn reached(alloc: Global, nodes: &[Node], b: BoxId) -> Result<Marks, OutOfMemory>
-    ensures { IfOk result (λ marks. marks ≡ reached (b ∷ []) nodes.now) }
-{
-    let mut marks = Marks::new(alloc);
-    marks.push(b)?;
-    for node in nodes {
-        mark(node, &mut marks)?;
-    }
-    Ok(marks)
-}
-
-// Marks the quantifiers of a box that is marked.
-fn mark_owned(marks: &Marks, node: &Node, owned: &mut Marks) -> Result<(), OutOfMemory>
-    ensures { OnOk result (owned.new ≡ owned.old ++ spec.owned_where marks.now node.now) }
-{
-    if marks.has(node.id) {
-        mark_ids(node.quants.as_slice(), owned)?;
-    }
-    Ok(())
-}
-
-// The quantifiers of marked boxes.
-fn owned_by(alloc: Global, marks: &Marks, nodes: &[Node]) -> Result<Marks, OutOfMemory>
-    ensures { IfOk result (λ owned. owned ≡ flat_map (spec.owned_where marks.now) nodes.now) }
-{
-    let mut owned = Marks::new(alloc);
-    for node in nodes {
-        mark_owned(marks, node, &mut owned)?;
-    }
-    Ok(owned)
 }
 
 // Whether each is among those that are owned.

@@ -6,7 +6,6 @@ mod closed;
 mod columns_fit;
 mod kinds;
 mod laws;
-mod marks;
 mod places;
 mod shapes;
 mod types;

@@ -3,8 +3,7 @@ ghost use Rattle.std.specs.Prelude.{◌≡◌, ◌++◌, [], false, OnOk, IfOk};
 ghost use Rattle.qgm_check.specs.View as spec;
 
 use crate::kinds::{is_f, is_select};
-use crate::marks::{Marks, mark_overs};
-use qgm_core::{Node, OwnedQuant, QuantId, has_range};
+use qgm_core::{Marks, Node, OwnedQuant, QuantId, has_range, mark_overs};
 use shared_types::OutOfMemory;
 use std::alloc::Global;
 

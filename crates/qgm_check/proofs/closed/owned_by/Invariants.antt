@@ -1,7 +1,0 @@
-use Rattle.std.proofs.Common.{◌≡◌, take}
-use Rattle.std.specs.List.{flat_map}
-use Rattle.qgm_check.specs.Closed as spec
-use Rattle.qgm_check.proofs.closed.owned_by.Given as goal
-
-abbrev pub invariant-loop-node : goal.invariant-loop-node
-invariant-loop-node l = l.owned ≡ flat_map (spec.owned_where l.marks) (take l.node-index l.nodes)
