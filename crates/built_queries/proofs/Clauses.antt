@@ -26,8 +26,9 @@ use Rattle.qgm_shown.specs.Maps.{Map}
 use Rattle.qgm_shown.specs.Sources.{Sources}
 use Rattle.qgm_laws.proofs.Lists.{any-from}
 use Rattle.built_queries.proofs.Frames.{At}
+use Rattle.qgm_laws.proofs.Levels as laws
 use Rattle.built_queries.proofs.Levels as levels
-use Rattle.built_queries.proofs.Levels.{first-typed, number-of, some-in}
+use Rattle.qgm_laws.proofs.Levels.{first-typed, number-of, some-in}
 use Rattle.built_queries.proofs.Parts.{CellIs, Cells, FitAll, Heads, Is, all-append, listed-fit, listed-pass, node_of}
 
 -- ---- what a search lists of a box
@@ -125,7 +126,7 @@ module _ (bs : List Node) (ordered : Ordered bs) (few : (q : ℕ) → times q (i
         let b = h.0 in
         let types = h.1.1.0 in
         let i = h.1.1.1.1.0 in
-        let f = levels.settled-found bs ordered few e b h.1.1.1.0.0 in
+        let f = laws.settled-found bs ordered few e b h.1.1.1.0.0 in
         ap (λ o. fits k (over_box bs o)) h.1.0.1.0 ∙ ap (λ z. fits k (first (is_box z) bs)) h.1.0.1.1 ∙ ap (fits k) f.1 ∙ ap (within (width f.0)) h.1.1.1.1.1.0
         ∙ within-of (width f.0) i (subst (λ z. i < z) (wide e b types f.0 h.1.1.1.0 f.1) (at-less types i a h.1.1.1.1.1.1))
 

@@ -23,7 +23,7 @@ use Rattle.qgm_shown.specs.Sources.{Sources}
 use Rattle.qgm_shown.specs.Typing.{aggregate_type, column_type, op_type, type_at, typed_by}
 use Rattle.built_queries.specs.Formed.{Told}
 use Rattle.built_queries.specs.Told.{GivesBack, columns_by}
-use Rattle.built_queries.proofs.Levels.{number-of, some-in}
+use Rattle.qgm_laws.proofs.Levels.{number-of, some-in}
 use Rattle.built_queries.proofs.Telling.{told-by}
 
 same_type : (a b : SqlType) → Some a ≡ Some b → a ≡ b

@@ -1,11 +1,10 @@
 -- What is known of the columns of boxes when heads are looked up so many times.
-use Rattle.std.proofs.Common.{inl, inr, ◌≡◌, ◌≤◌, ℕ, zero, suc, ◌+◌, ◌-◌, ◌==◌, ◌&&◌, ◌||◌, Bool, true, false, cond, List, [], ◌∷◌, length, map, Option, Some, None, refl, ap, ap₂, sym, ◌∙◌, subst, arith}
+use Rattle.std.proofs.Common.{◌≡◌, ◌≤◌, ℕ, zero, suc, ◌-◌, ◌==◌, Bool, true, cond, List, [], ◌∷◌, length, Option, Some, None, refl, ap, ◌∙◌, arith}
 use Rattle.std.specs.Prelude.{slice_get}
-use Rattle.std.specs.List.{flat_map, list_all, list_any}
-use Rattle.std.proofs.lemmas.Bool.{and_parts, cases_Bool, eqb-true}
+use Rattle.std.specs.List.{flat_map, list_all}
 use Rattle.std.proofs.Math.Dec.{eqb-suc-zero}
 use Rattle.sql_value.specs.declared.order_key.SqlType.{SqlType}
-use Rattle.qgm_core.specs.Boxes.{Ordered, ids_in, ids_of, is_box, is_quant, owns, range_in}
+use Rattle.qgm_core.specs.Boxes.{Ordered, ids_in, is_box, owns, range_in}
 use Rattle.qgm_core.specs.Lists.{In, first, times}
 use Rattle.qgm_core.specs.declared.node.Node.{Node}
 use Rattle.qgm_core.specs.declared.owned.OwnedQuant.{OwnedQuant}
@@ -16,76 +15,19 @@ use Rattle.qgm_terms.specs.Terms as t
 use Rattle.qgm_terms.specs.Terms.{Term, Cond}
 use Rattle.qgm_terms.specs.declared.named.QuantNode.{QuantNode}
 use Rattle.qgm_check.specs.Columns.{over_box}
-use Rattle.qgm_check.specs.Types.{column_type, cond_fits, is_typed, joined_column, known, term_type, type_found, type_in, typed, types_after, types_by, types_found}
+use Rattle.qgm_check.specs.Types.{column_type, cond_fits, is_typed, joined_column, known, term_type, type_found, type_in, types_after, types_by, types_found}
 use Rattle.qgm_check.specs.declared.types.Typed.{Typed}
 use Rattle.qgm_shown.specs.Maps.{Map}
 use Rattle.qgm_shown.specs.Sources.{Sources}
-use Rattle.qgm_laws.proofs.Lists.{any-in, eq-itself}
+use Rattle.qgm_laws.proofs.Levels as laws
+use Rattle.qgm_laws.proofs.Levels.{first-typed, number-of, owner-of}
 use Rattle.qgm_laws.proofs.Scope.{in-first}
-use Rattle.qgm_laws.proofs.Times.{in-times, times-in, times-once}
-use Rattle.qgm_laws.proofs.Turns.{first-own}
 use Rattle.built_queries.proofs.Parts.{CellIs, Cells, Fit, Heads, Is, all-append, names-pass, node_of}
 use Rattle.built_queries.proofs.TypesFollow.{fit-is, local-follows, type-is}
 use Rattle.built_queries.proofs.Frames.{At}
 use Rattle.built_queries.proofs.Boxes as boxes
 
--- ---- what is found
-
-pub first-passes : {X : Type 0} (p : X → Bool) (xs : List X) (x : X) → In x xs → p x ≡ true → (y : X) × ((first p xs ≡ Some y) × (In y xs × (p y ≡ true)))
-first-passes p [] x i h = absurd i
-first-passes {X} p (z ∷ xs) x i h = elim (cases_Bool (p z)) [
-  | inl e ↦ (z, (ap (λ (b : Bool). cond b (Some z) (first p xs)) e, (inl refl, e)))
-  | inr e ↦ (
-      let j : In x xs = elim i [ inl k ↦ absurd (let u : true ≡ false = sym h ∙ ap p (sym k) ∙ e in let w : ⊥ = cc in w) | inr k ↦ k ] in
-      let r = first-passes p xs x j h in
-      (r.0, (ap (λ (b : Bool). cond b (Some z) (first p xs)) e ∙ r.1.0, (inr r.1.1.0, r.1.1.1)))
-      )
-]
-
-pub some-in : {X : Type 0} (p : X → Bool) (xs : List X) (x : X) → first p xs ≡ Some x → In x xs × (p x ≡ true)
-some-in p [] x h = absurd (cc h)
-some-in {X} p (z ∷ xs) x h = elim (cases_Bool (p z)) [
-  | inl e ↦ (let s : z ≡ x = ap (or_one z) (sym (ap (λ (b : Bool). cond b (Some z) (first p xs)) e) ∙ h) in (inl s, ap p (sym s) ∙ e))
-  | inr e ↦ (let r = some-in p xs x (sym (ap (λ (b : Bool). cond b (Some z) (first p xs)) e) ∙ h) in (inr r.0, r.1))
-]
-  where
-    or_one : X → Option X → X
-    or_one d None = d
-    or_one d (Some y) = y
-
-pub number-of : (bs : List Node) (b : ℕ) (n : Node) → first (is_box b) bs ≡ Some n → n.id ≡ b
-number-of bs b n h = eqb-true n.id b (some-in (is_box b) bs n h).1
-
-pub owner-of : (bs : List Node) → ((q : ℕ) → times q (ids_in bs) ≤ 1) → (n : Node) (r : OwnedQuant) → In n bs → In r n.quants → range_in r.id (first (owns r.id) bs) ≡ Some r
-owner-of bs once n r i j =
-    let f = first-passes (owns r.id) bs n i (owned r n.quants j) in
-    let y = f.0 in
-    let any = any-in (is_quant r.id) y.quants f.1.1.1 in
-    let few : 1 ≤ times r.id (ids_of y) = subst (λ z. 1 ≤ times z (ids_of y)) (eqb-true any.0.id r.id any.1.1) (in-times (λ (r : OwnedQuant). r.id) any.0 y.quants any.1.0) in
-    let same : y ≡ n = times-once ids_of r.id y n bs (once r.id) f.1.1.0 i few (in-times (λ (r : OwnedQuant). r.id) r n.quants j) in
-    let less = times-in ids_of r.id n bs i in
-    let o = once r.id in
-    ap (range_in r.id) (f.1.0 ∙ ap Some same) ∙ first-own r n.quants (omega arith) j
-  where
-    owned : (r : OwnedQuant) (rs : List OwnedQuant) → In r rs → list_any (is_quant r.id) rs ≡ true
-    owned r [] j = absurd j
-    owned r (x ∷ rs) (inl e) = ap (λ (z : OwnedQuant). (z.id == r.id) || list_any (is_quant r.id) rs) e ∙ ap (λ b. b || list_any (is_quant r.id) rs) (eq-itself r.id)
-    owned r (x ∷ rs) (inr k) = ap (λ b. (x.id == r.id) || b) (owned r rs k) ∙ or-true (x.id == r.id)
-      where
-        or-true : (b : Bool) → (b || true) ≡ true
-        or-true true = refl
-        or-true false = refl
-
-pub first-typed : (bs : List Node) (table : List Typed) (ns : List Node) (b : ℕ) (n : Node) → first (is_box b) ns ≡ Some n → first (is_typed b) (map (typed bs table) ns) ≡ Some (typed bs table n)
-first-typed bs table [] b n h = absurd (cc h)
-first-typed bs table (m ∷ ns) b n h = elim (m.id == b) as (λ c. cond c (Some m) (first (is_box b) ns) ≡ Some n → ◌≡◌ {A = Option Typed} (cond c (Some (typed bs table m)) (first (is_typed b) (map (typed bs table) ns))) (Some (typed bs table n))) [
-  | true ↦ (λ e. ap (λ (o : Option Node). Some (typed bs table (or_node m o))) e)
-  | false ↦ (λ e. first-typed bs table ns b n e)
-] h
-  where
-    or_node : Node → Option Node → Node
-    or_node d None = d
-    or_node d (Some y) = y
+-- ---- types that are found
 
 pub at-get : (types : List SqlType) (i : ℕ) (a : SqlType) → At types i a → joined_column (slice_get (known types) i) ≡ Some a
 at-get [] i a h = absurd h
@@ -101,49 +43,14 @@ type_of-found k i (Some x) e =
 -- ---- the boxes of a graph
 
 module _ (bs : List Node) (ordered : Ordered bs) (once : (q : ℕ) → times q (ids_in bs) ≤ 1) where
-  -- the quantifier q is found, over a box that passes
-  abbrev pub under_by : (ℕ → Bool) → Option OwnedQuant → Bool
-  under_by S None = false
-  under_by S (Some r) = S r.over
+  abbrev under_by : (ℕ → Bool) → Option OwnedQuant → Bool
+  under_by = laws.under_by bs ordered once
 
-  abbrev pub under : (ℕ → Bool) → ℕ → Bool
-  under S n = under_by S (range_in n (first (owns n) bs))
+  abbrev under : (ℕ → Bool) → ℕ → Bool
+  under = laws.under bs ordered once
 
-  -- all that the head of a box names is found, over boxes that pass
-  abbrev pub step_by : (ℕ → Bool) → Option Node → Bool
-  step_by S None = false
-  step_by S (Some n) = list_all (under S) (flat_map names_in n.parts.head)
-
-  abbrev pub step : (ℕ → Bool) → ℕ → Bool
-  step S b = step_by S (first (is_box b) bs)
-
-  -- what the heads name is known after so many steps
-  abbrev pub settled : ℕ → ℕ → Bool
-  settled zero b = false
-  settled (suc e) b = step (settled e) b
-
-  all-weaker : {X : Type 0} (p r : X → Bool) (xs : List X) → ((x : X) → p x ≡ true → r x ≡ true) → list_all p xs ≡ true → list_all r xs ≡ true
-  all-weaker p r [] f h = refl
-  all-weaker p r (x ∷ xs) f h = let u = and_parts (p x) (list_all p xs) h in ap₂ ◌&&◌ (f x u.0) (all-weaker p r xs f u.1)
-
-  under-more : (S T : ℕ → Bool) → ((b : ℕ) → S b ≡ true → T b ≡ true) → (o : Option OwnedQuant) → under_by S o ≡ true → under_by T o ≡ true
-  under-more S T f None h = absurd (cc h)
-  under-more S T f (Some r) h = f r.over h
-
-  pub step-more : (S T : ℕ → Bool) → ((b : ℕ) → S b ≡ true → T b ≡ true) → (o : Option Node) → step_by S o ≡ true → step_by T o ≡ true
-  step-more S T f None h = absurd (cc h)
-  step-more S T f (Some n) h = all-weaker (under S) (under T) (flat_map names_in n.parts.head) (λ x k. under-more S T f (range_in x (first (owns x) bs)) k) h
-
-  pub settled-suc : (e b : ℕ) → settled e b ≡ true → settled (suc e) b ≡ true
-  settled-suc zero b h = absurd (cc h)
-  settled-suc (suc e) b h = step-more (settled e) (settled (suc e)) (settled-suc e) (first (is_box b) bs) h
-
-  pub settled-add : (k e b : ℕ) → settled e b ≡ true → settled (k + e) b ≡ true
-  settled-add zero e b h = let x : e ≡ zero + e = omega arith in subst (λ z. settled z b ≡ true) x h
-  settled-add (suc k) e b h = let x : suc (k + e) ≡ suc k + e = omega arith in subst (λ z. settled z b ≡ true) x (settled-suc (k + e) b (settled-add k e b h))
-
-  pub settled-more : (d e b : ℕ) → d ≤ e → settled d b ≡ true → settled e b ≡ true
-  settled-more d e b u h = let x : (e - d) + d ≡ e = omega arith in subst (λ z. settled z b ≡ true) x (settled-add (e - d) d b h)
+  abbrev settled : ℕ → ℕ → Bool
+  settled = laws.settled bs ordered once
 
   -- ---- boxes and quantifiers
 
@@ -151,7 +58,7 @@ module _ (bs : List Node) (ordered : Ordered bs) (once : (q : ℕ) → times q (
   Over e b types = (settled e b ≡ true) × ((j : ℕ) → e ≤ j → types_found (first (is_typed b) (types_after j bs)) ≡ known types)
 
   pub more : (d e b : ℕ) (types : List SqlType) → d ≤ e → Over d b types → Over e b types
-  more d e b types u h = (settled-more d e b u h.0, λ j v. h.1 j (omega arith))
+  more d e b types u h = (laws.settled-more bs ordered once d e b u h.0, λ j v. h.1 j (omega arith))
 
   abbrev pub Ranges : ℕ → ℕ → Type 0
   Ranges n b = (r : OwnedQuant) × ((range_in n (first (owns n) bs) ≡ Some r) × (r.over ≡ b))
@@ -161,15 +68,6 @@ module _ (bs : List Node) (ordered : Ordered bs) (once : (q : ℕ) → times q (
 
   settled-under : (e n b : ℕ) → Ranges n b → settled e b ≡ true → under (settled e) n ≡ true
   settled-under e n b r h = ap (under_by (settled e)) r.1.0 ∙ ap (settled e) r.1.1 ∙ h
-
-  -- a box that is settled is one of these
-  pub settled-found : (e b : ℕ) → settled e b ≡ true → (n : Node) × (first (is_box b) bs ≡ Some n)
-  settled-found zero b h = absurd (cc h)
-  settled-found (suc e) b h = found (first (is_box b) bs) refl h
-    where
-      found : (o : Option Node) → first (is_box b) bs ≡ o → step_by (settled e) o ≡ true → (n : Node) × (first (is_box b) bs ≡ Some n)
-      found None g k = absurd (cc k)
-      found (Some n) g k = (n, g)
 
   module _ (kinds : List ℕ → List SqlType) (sources : Sources) (counted : (name : List ℕ) → length (kinds name) ≡ sources.columns name) where
     abbrev pub Column : ℕ → ℕ → ℕ → SqlType → Type 0
@@ -181,7 +79,7 @@ module _ (bs : List Node) (ordered : Ordered bs) (once : (q : ℕ) → times q (
         let r = h.1.0 in
         let types = h.1.1.0 in
         let i = h.1.1.1.1.0 in
-        let found = settled-found e b h.1.1.1.0.0 in
+        let found = laws.settled-found bs ordered once e b h.1.1.1.0.0 in
         let table = types_after j bs in
         ap (λ o. type_found table k (over_box bs o)) r.1.0
         ∙ ap (λ z. type_found table k (first (is_box z) bs)) r.1.1

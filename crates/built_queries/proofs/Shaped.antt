@@ -33,6 +33,7 @@ use Rattle.qgm_laws.proofs.Lists.{any-from, clash}
 use Rattle.built_queries.specs.Typed.{Gives, NotNone, Scope}
 use Rattle.built_queries.proofs.Boxes as boxes
 use Rattle.built_queries.proofs.Clauses.{wide}
+use Rattle.qgm_laws.proofs.Levels as laws
 use Rattle.built_queries.proofs.Levels as levels
 use Rattle.built_queries.proofs.Parts.{CellIs, Cells, FitAll, Heads, aggregates-none, aggregates-nowhere, reads-none, reads-nowhere}
 
@@ -224,7 +225,7 @@ module _ (bs : List Node) (ordered : Ordered bs) (few : (q : ℕ) → times q (i
   arms-shape : (e w : ℕ) (os : List OwnedQuant) (types : List SqlType) → boxes.Arms kinds sources counted (levels.Over bs ordered few) (levels.more bs ordered few) (levels.Ranges bs ordered few) e os types → length types ≡ w → list_all (arm_fits bs w) os ≡ true
   arms-shape e w [] types h l = refl
   arms-shape e w (o ∷ os) types h l =
-      let f = levels.settled-found bs ordered few e o.over h.0.0 in
+      let f = laws.settled-found bs ordered few e o.over h.0.0 in
       ap₂ ◌&&◌ (ap (λ z. width_found z == w) f.1 ∙ eq-eqb (width f.0) w (sym (wide bs ordered few e o.over types f.0 h.0 f.1) ∙ l)) (arms-shape e w os types h.1 l)
 
   pair-shape : (Below : ℕ → Thing → Map → Type 0) (form : forms.SetOperator) (w : ℕ) (x y : Query) (e : ℕ) (m c : Map) (n : Node) (types : List SqlType) → v.ShowsPair sources Below form w x y c n → NotNone types → LocalBy e m n types n.parts.kind → Fits n

@@ -20,7 +20,7 @@ use Rattle.qgm_check.specs.declared.types.Typed.{Typed}
 use Rattle.qgm_shown.specs.Sources.{Sources}
 use Rattle.built_queries.specs.Formed.{Told}
 use Rattle.built_queries.specs.Told.{GivesBack, TellsBy, columns_by}
-use Rattle.built_queries.proofs.Levels.{first-typed, number-of}
+use Rattle.qgm_laws.proofs.Levels.{first-typed, number-of}
 
 -- a type that is known, is known as the same
 abbrev Kept : Option SqlType → Option SqlType → Type 0

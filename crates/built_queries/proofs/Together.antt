@@ -33,7 +33,8 @@ use Rattle.built_queries.specs.Typed.{Gives, Scope}
 use Rattle.built_queries.proofs.Boxes as boxes
 use Rattle.built_queries.proofs.Frames.{At, map-none, refs-cols}
 use Rattle.built_queries.proofs.Levels as levels
-use Rattle.built_queries.proofs.Levels.{at-get, first-typed, number-of, owner-of, some-in, type_of-found}
+use Rattle.qgm_laws.proofs.Levels.{first-typed, number-of, owner-of, some-in}
+use Rattle.built_queries.proofs.Levels.{at-get, type_of-found}
 use Rattle.built_queries.proofs.LikeBoxes.{thing-like}
 use Rattle.built_queries.proofs.LikeGraphs as graphs
 use Rattle.built_queries.proofs.LikeTerms.{Parted}
