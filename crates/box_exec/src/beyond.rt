@@ -1,12 +1,9 @@
 // The quantifiers that boxes name, themselves or below them, and that no box on the way owns.
-ghost use Rattle.std.specs.Prelude.{◌≡◌, ◌++◌, ◌∷◌, [], map, IfOk, OnOk};
+ghost use Rattle.std.specs.Prelude.{◌≡◌, ◌++◌, map, IfOk, OnOk};
 ghost use Rattle.box_exec.specs.Beyond as spec;
-ghost use Rattle.qgm_core.specs.Free as free;
 
 use crate::under::place_of;
-use qgm_core::{
-    BoxId, Node, OwnedQuant, QuantId, add_names_of_node, has_range, is_marked, mark_each,
-};
+use qgm_core::{BoxId, Node, OwnedQuant, QuantId, add_names_of_node, has_range};
 use shared_types::OutOfMemory;
 use std::alloc::Global;
 
@@ -61,26 +58,4 @@ pub(crate) fn beyond(
         add_beyond(below, range.over, named, &mut names)?;
     }
     Ok(not_owned(node.quants.as_slice(), names))
-}
-
-// Marks what a box that is marked ranges over.
-fn mark(node: &Node, marks: &mut Vec<BoxId>) -> Result<(), OutOfMemory>
-    ensures { OnOk result (marks.new.items ≡ free.marked marks.old.items node.now) }
-{
-    if is_marked(marks, node.id) {
-        mark_each(node.quants.as_slice(), marks)?;
-    }
-    Ok(())
-}
-
-/// The boxes that are reached from one. It fails only for want of memory.
-pub(crate) fn reached(alloc: Global, nodes: &[Node], b: BoxId) -> Result<Vec<BoxId>, OutOfMemory>
-    ensures { IfOk result (λ marks. marks.items ≡ free.reached (b ∷ []) nodes.now) }
-{
-    let mut marks = Vec::new(alloc);
-    marks.push(b)?;
-    for node in nodes {
-        mark(node, &mut marks)?;
-    }
-    Ok(marks)
 }

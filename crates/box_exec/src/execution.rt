@@ -8,12 +8,11 @@ ghost use Rattle.qgm_meaning.specs.Plain.{plain};
 ghost use Rattle.row_bag.specs.Bags.{Agree};
 ghost use Rattle.row_bag.specs.Sets.{same_cells};
 
-use crate::beyond::reached;
 use crate::bindings::Bindings;
 use crate::boxes::evaluated;
 use crate::memo::memo_of;
 use crate::under::{Run, behind, place_of};
-use qgm_core::Graph;
+use qgm_core::{Graph, reached};
 use row_bag::{Bag, Tables};
 use shared_types::OutOfMemory;
 use std::alloc::Global;

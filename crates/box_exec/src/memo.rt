@@ -14,7 +14,7 @@ use crate::bindings::Bindings;
 use crate::boxes::{evaluated, step};
 use crate::source::Source;
 use crate::under::{Run, behind, table_rows};
-use qgm_core::{BoxId, BoxKind, Node, QuantId, is_marked};
+use qgm_core::{BoxId, BoxKind, Marks, Node, QuantId};
 use row_bag::Tables;
 use shared_types::OutOfMemory;
 use std::alloc::Global;
@@ -95,12 +95,12 @@ fn entry_if<'t, L: Ledger>(
 }
 
 // A box is kept if it is marked and names nothing beyond itself.
-fn is_kept(names: &[QuantId], marks: &[BoxId], b: BoxId) -> bool
+fn is_kept(names: &[QuantId], marks: &Marks, b: BoxId) -> bool
     ensures nothing { result ≡ true → names.now ≡ [] }
     ensures kept { result ≡ (is_nil names.now && holds b marks.now) }
 {
     match names {
-        [] => is_marked(marks, b),
+        [] => marks.has(b),
         [_, ..] => false,
     }
 }
@@ -111,7 +111,7 @@ pub(crate) fn memo_of<'t, L: Ledger>(
     alloc: Global,
     nodes: &[Node],
     tables: &'t Tables,
-    marks: &[BoxId],
+    marks: &Marks,
     steps: &mut Steps<L>,
     count: &mut u64,
 ) -> Result<Vec<Option<Source<'t>>>, OutOfMemory>

@@ -26,10 +26,10 @@ returns-in_default-clause-took g c = λ has kept how.
 
 pub returns-clause-took : goal.returns-clause-took
 returns-clause-took g c = λ has kept how.
-    let found = root-took c.args.graph.now.boxes c.nodes-nodes.result.now c.args.graph.now.root c.root-root.result c.nodes-nodes.ensures c.root-root.ensures c.args.tables.now c.in-Some.i c.index-nodes-i.result c.behind-below.result.now c.deref.result.now kept
-    (sym c.place_of.ensures ∙ c.in-Some.is) c.index-nodes-i.is c.behind-below.ensures (c.deref.ensures.value ∙ c.in_ok-marks.ensures) how in
+    let found = root-took c.args.graph.now.boxes c.nodes-nodes.result.now c.args.graph.now.root c.root-root.result c.nodes-nodes.ensures c.root-root.ensures c.args.tables.now c.in-Some.i c.index-nodes-i.result c.behind-below.result.now c.in_ok-marks.marks kept
+    (sym c.place_of.ensures ∙ c.in-Some.is) c.index-nodes-i.is c.behind-below.ensures c.in_ok-marks.ensures how in
     found.1 c.args.steps.now c.memo_of.new.steps c.evaluated.new.steps (c.in_ok-memo.ensures.took kept found.0)
-    (c.in_ok-rows.ensures.took kept (subst (λ (m : _). Keeps m kept c.behind-below.result.now) (sym c.deref-2.ensures.value) (c.in_ok-memo.ensures.keeps kept found.0)))
+    (c.in_ok-rows.ensures.took kept (subst (λ (m : _). Keeps m kept c.behind-below.result.now) (sym c.deref.ensures.value) (c.in_ok-memo.ensures.keeps kept found.0)))
 
 pub returns-in_default-clause-exact : goal.returns-in_default-clause-exact
 returns-in_default-clause-exact g c = λ w all. took-exactly c.args.tables.now c.args.graph.now w all c.args.steps.now c.args.steps.now (returns-in_default-clause-took g c)
