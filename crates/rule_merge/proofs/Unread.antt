@@ -13,7 +13,7 @@ use Rattle.qgm_terms.specs.Terms.{Cond, Term}
 use Rattle.qgm_terms.specs.Wanted.{reads, reads_cond}
 use Rattle.rule_merge.specs.Splices.{reads_any}
 
-cells-none : (q : ℕ) (cells : List Term) (n : Node) → reads_any q n.parts ≡ false → put_cells q cells n ≡ n
+pub cells-none : (q : ℕ) (cells : List Term) (n : Node) → reads_any q n.parts ≡ false → put_cells q cells n ≡ n
 cells-none q cells n h =
     let a = or-none (list_any (reads q) n.parts.head) (list_any (reads_cond q) n.parts.conds.items) h in
     ap₂ (λ (xs : List Cond) (ys : List Term). record n { parts = record n.parts { conds = record n.parts.conds { items = xs }; head = ys } })

@@ -5,7 +5,7 @@ use Rattle.qgm_core.specs.Lists.{first}
 use Rattle.qgm_core.specs.declared.kinds.QuantKind.TheVariants.{F}
 use Rattle.qgm_core.specs.declared.owned.OwnedQuant.{OwnedQuant}
 use Rattle.rule_merge.proofs.Placed.{found-itself}
-use Rattle.rule_merge.proofs.Spread.{index-get}
+use Rattle.rule_merge.proofs.Lists.{index-get}
 use Rattle.rule_merge.proofs.merge_select.MergeSelectRule.places.Goals as goal
 
 pub may_at-requires-clause-at : goal.may_at-requires-clause-at
