@@ -1,43 +1,11 @@
--- Elements of a list that pass, kept from the last to the first.
-use Rattle.std.proofs.Common.{ℕ, zero, suc, ◌==◌, ◌≡◌, ◌<◌, ◌≤◌, cond, Bool, true, false, List, [], ◌∷◌, length, get_or, filter, refl, sym, ap, arith}
-use Rattle.std.specs.List.{remove}
+-- Numbers of boxes and quantifiers, where only boxes that pass are kept.
+use Rattle.std.proofs.Common.{ℕ, ◌==◌, ◌≡◌, ◌≤◌, cond, Bool, true, false, List, [], ◌∷◌, length, filter, refl, arith}
 use Rattle.std.proofs.lemmas.List.{length-append}
 use Rattle.qgm_core.specs.Boxes.{ids_in, ids_of, numbers}
-use Rattle.qgm_core.specs.Lists.{EachOnce, holds, kept_at}
+use Rattle.qgm_core.specs.Lists.{EachOnce, holds}
 use Rattle.qgm_core.specs.Numbered.{Numbered, Under}
 use Rattle.qgm_core.specs.declared.node.Node.{Node}
 use Rattle.qgm_core.proofs.Fresh.{or_false, or_from, under-append, under-left, under-right}
-
-module _ {X : Type 0} (p : X → Bool) where
-  -- the first i, and those behind them that pass
-  abbrev pub kept_from : ℕ → List X → List X
-  kept_from zero xs = filter p xs
-  kept_from (suc i) [] = []
-  kept_from (suc i) (x ∷ xs) = x ∷ kept_from i xs
-
-  pub kept-none : (xs : List X) → kept_from (length xs) xs ≡ xs
-  kept-none [] = refl
-  kept-none (x ∷ xs) = ap (λ (ys : List X). x ∷ ys) (kept-none xs)
-
-  pub kept-more : (i : ℕ) (xs : List X) → i < length xs → kept_at p i (kept_from (suc i) xs) ≡ kept_from i xs
-  kept-more i [] l = absurd (omega arith)
-  kept-more zero (x ∷ xs) l = refl
-  kept-more (suc i) (x ∷ xs) l = ap (λ (ys : List X). x ∷ ys) (kept-more i xs (omega arith))
-
-  pub kept-within : (i : ℕ) (xs : List X) → i < length xs → i < length (kept_from (suc i) xs)
-  kept-within i [] l = absurd (omega arith)
-  kept-within zero (x ∷ xs) l = omega arith
-  kept-within (suc i) (x ∷ xs) l = let h = kept-within i xs (omega arith) in omega (arith, h)
-
-  pub kept-yes : (i : ℕ) (xs : List X) (d : X) → p (get_or xs i d) ≡ true → i < length xs → xs ≡ kept_at p i xs
-  kept-yes i [] d h l = absurd (omega arith)
-  kept-yes zero (x ∷ xs) d h l = sym (ap (λ (b : Bool). cond b (x ∷ xs) xs) h)
-  kept-yes (suc i) (x ∷ xs) d h l = ap (λ (ys : List X). x ∷ ys) (kept-yes i xs d h (omega arith))
-
-  pub kept-no : (i : ℕ) (xs : List X) (d : X) → p (get_or xs i d) ≡ false → i < length xs → remove xs i ≡ kept_at p i xs
-  kept-no i [] d h l = absurd (omega arith)
-  kept-no zero (x ∷ xs) d h l = sym (ap (λ (b : Bool). cond b (x ∷ xs) xs) h)
-  kept-no (suc i) (x ∷ xs) d h l = ap (λ (ys : List X). x ∷ ys) (kept-no i xs d h (omega arith))
 
 module _ (p : Node → Bool) where
   under-numbers : (a : ℕ) (ns : List Node) → Under a (numbers ns) → Under a (numbers (filter p ns))

@@ -10,3 +10,6 @@ pub mod Stacked
 pub mod Requanted
 pub mod Shifts
 pub mod Held
+pub mod ByNumber
+pub mod Spliced
+pub mod Owning

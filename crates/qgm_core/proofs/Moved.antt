@@ -9,13 +9,13 @@ use Rattle.qgm_core.specs.declared.node.Node.{Node}
 use Rattle.qgm_core.proofs.Fresh.{or_false, or_from, under-append, under-left, under-right}
 
 -- a box, and others without it
-record Apart (a b : ℕ) (n : Node) (ns : List Node) : Type 0 where
-  low : n.id < a
-  lows : Under a (numbers ns)
-  new : holds n.id (numbers ns) ≡ false
-  once : EachOnce (numbers ns)
-  own : Under b (ids_of n)
-  others : Under b (ids_in ns)
+pub record Apart (a b : ℕ) (n : Node) (ns : List Node) : Type 0 where
+  pub low : n.id < a
+  pub lows : Under a (numbers ns)
+  pub new : holds n.id (numbers ns) ≡ false
+  pub once : EachOnce (numbers ns)
+  pub own : Under b (ids_of n)
+  pub others : Under b (ids_in ns)
 
 symmetric : (x y : ℕ) → (x == y) ≡ false → (y == x) ≡ false
 symmetric x y e = ne_eqb y x (λ f. let g = eq-eqb x y (sym f) in absurd (let q : ⊥ = cc in q))
@@ -39,7 +39,7 @@ module _ (p : Node → Bool) where
         | false ↦ λ e. other x ns n s.1 e
       ] e
 
-  count : (ns : List Node) (n : Node) → first p ns ≡ Some n → length (ids_of n) + length (ids_in (without p ns)) ≡ length (ids_in ns)
+  pub count : (ns : List Node) (n : Node) → first p ns ≡ Some n → length (ids_of n) + length (ids_in (without p ns)) ≡ length (ids_in ns)
   count [] n e = absurd (let q : ⊥ = cc in q)
   count (x ∷ ns) n e =
       let s = length-append (ids_of x) (ids_in ns) in
@@ -48,7 +48,7 @@ module _ (p : Node → Bool) where
         | false ↦ λ e. (let k = count ns n e in let z = length-append (ids_of x) (ids_in (without p ns)) in omega (arith, s, k, z))
       ] e
 
-  taken : (a b : ℕ) (ns : List Node) (n : Node) → Under a (numbers ns) → EachOnce (numbers ns) → Under b (ids_in ns) → first p ns ≡ Some n → Apart a b n (without p ns)
+  pub taken : (a b : ℕ) (ns : List Node) (n : Node) → Under a (numbers ns) → EachOnce (numbers ns) → Under b (ids_in ns) → first p ns ≡ Some n → Apart a b n (without p ns)
   taken a b [] n u o v e = absurd (let q : ⊥ = cc in q)
   taken a b (x ∷ ns) n u o v e =
       let l = under-left b (ids_of x) (ids_in ns) v in

@@ -36,7 +36,7 @@ set-twice (z ∷ xs) zero x y = refl
 set-twice (z ∷ xs) (suc i) x y = ap (λ zs. z ∷ zs) (set-twice xs i x y)
 
 -- the first that passes, where another is written that passes as the one there did
-position-set : {X : Type 0} (p : X → Bool) (xs : List X) (i : ℕ) (y d : X) → p y ≡ p (get_or xs i d) → position p (set xs i y) ≡ position p xs
+pub position-set : {X : Type 0} (p : X → Bool) (xs : List X) (i : ℕ) (y d : X) → p y ≡ p (get_or xs i d) → position p (set xs i y) ≡ position p xs
 position-set p xs i y d e = ap (λ (k : ℕ). cond (nat_lt k (length (set xs i y))) (Some k) None) (position_or_len-set p xs i y d e)
     ∙ ap (λ (m : ℕ). cond (nat_lt (position_or_len p xs) m) (Some (position_or_len p xs)) None) (length-set xs i y)
 

@@ -1,17 +1,17 @@
 -- Boxes that are visited, by the place at which they stand.
-use Rattle.std.proofs.Common.{◌≡◌, ℕ, zero, suc, ◌==◌, ◌<◌, ◌+◌, ◌-◌, ◌++◌, Bool, true, false, List, [], ◌∷◌, Option, Some, None, length, drop, get_or, refl, sym, ap, ◌∙◌, arith, cond, position, inl, inr, map, take, add-one}
-use Rattle.std.proofs.Math.Seq.{drop-append_seam, take-length}
-use Rattle.std.proofs.lemmas.List.{append_assoc, append-nil, length-drop}
+use Rattle.std.proofs.Common.{◌≡◌, ℕ, zero, suc, ◌==◌, ◌<◌, ◌≤◌, ◌+◌, ◌-◌, ◌++◌, Bool, true, false, List, [], ◌∷◌, Some, None, length, drop, get_or, refl, sym, ap, ◌∙◌, arith, cond, position, inl, inr, map, add-one, subst, eqb-true}
+use Rattle.std.proofs.Math.Seq.{drop-append_seam}
+use Rattle.std.proofs.lemmas.List.{append_assoc}
 use Rattle.std.proofs.lemmas.Bool.{cases_Bool}
 use Rattle.std.proofs.lemmas.List.Quantifiers.{position-Some}
 use Rattle.std.specs.List.{list_any}
-use Rattle.qgm_core.specs.Boxes.{is_box, overs_of, quants_in}
-use Rattle.qgm_core.specs.Lists.{each, first, holds}
+use Rattle.qgm_core.specs.Boxes.{is_box, numbers, overs_of}
+use Rattle.qgm_core.specs.Lists.{EachOnce, each, first, holds}
 use Rattle.qgm_core.specs.Walk.{levels, news, under, visit}
 use Rattle.qgm_core.specs.declared.node.Node.{Node}
 use Rattle.qgm_core.specs.declared.owned.OwnedQuant.{OwnedQuant}
 use Rattle.qgm_core.proofs.First.{absent, is_first}
-use Rattle.qgm_core.proofs.Fresh.{or_false}
+use Rattle.qgm_core.proofs.Fresh.{or_false, or_from}
 
 none_passes : (b : ℕ) (ns : List Node) → position (is_box b) ns ≡ None → list_any (is_box b) ns ≡ false
 none_passes b ns e =
@@ -42,16 +42,12 @@ visit_at b [] i d seen h t n = absurd (omega arith)
 visit_at b (x ∷ xs) zero d seen h t n = rw t refl
 visit_at b (x ∷ xs) (suc i) d seen h t n = rw (n zero (omega arith)) (visit_at b xs i d seen (omega arith) t (λ k l. n (suc k) (omega arith)))
 
--- no box is visited that doesn't stand here
-pub visit_none : (b : ℕ) (ns : List Node) (seen : List ℕ) → position (is_box b) ns ≡ None → visit ns b seen ≡ seen
-visit_none b ns seen e = visit_from b ns seen (none_passes b ns e)
-
 -- none that was seen
-pub visit_seen : (b : ℕ) (ns : List Node) (i : ℕ) (seen : List ℕ) (d : Node) → position (is_box b) ns ≡ Some i → holds b seen ≡ true → visit ns b seen ≡ seen
+visit_seen : (b : ℕ) (ns : List Node) (i : ℕ) (seen : List ℕ) (d : Node) → position (is_box b) ns ≡ Some i → holds b seen ≡ true → visit ns b seen ≡ seen
 visit_seen b ns i seen d e h = let at = position-Some (is_box b) ns i d e in visit_at b ns i d seen at.0 at.1 at.2 ∙ ap (λ (t : Bool). cond t seen (each (visit (drop (suc i) ns)) (overs_of (get_or ns i d)) (seen ++ b ∷ []))) h
 
 -- one that wasn't, and then those under its quantifiers
-pub visit_new : (b : ℕ) (ns : List Node) (i : ℕ) (d : Node) (seen : List ℕ) → position (is_box b) ns ≡ Some i → holds b seen ≡ false →
+visit_new : (b : ℕ) (ns : List Node) (i : ℕ) (d : Node) (seen : List ℕ) → position (is_box b) ns ≡ Some i → holds b seen ≡ false →
     visit ns b seen ≡ each (visit (drop (suc i) ns)) (overs_of (get_or ns i d)) (seen ++ b ∷ [])
 visit_new b ns i d seen e h = let at = position-Some (is_box b) ns i d e in visit_at b ns i d seen at.0 at.1 at.2 ∙ ap (λ (t : Bool). cond t seen (each (visit (drop (suc i) ns)) (overs_of (get_or ns i d)) (seen ++ b ∷ []))) h
 
@@ -82,18 +78,52 @@ news_seen b bs seen h = rw h refl
 pub news_new : (b : ℕ) (bs seen : List ℕ) → holds b seen ≡ false → seen ++ news seen (b ∷ bs) ≡ (seen ++ b ∷ []) ++ news (seen ++ b ∷ []) bs
 news_new b bs seen h = rw h (sym (append_assoc seen (b ∷ []) (news (seen ++ b ∷ []) bs)))
 
--- a box that is visited, as far as its quantifiers
-pub visit_start : (b : ℕ) (ns : List Node) (i : ℕ) (d : Node) (seen after : List ℕ) (behind : List Node) (rs : List OwnedQuant) →
-    position (is_box b) ns ≡ Some i → holds b seen ≡ false → behind ≡ drop (suc i) ns → rs ≡ (get_or ns i d).quants → after ≡ seen ++ b ∷ [] →
-    each (visit behind) (map (λ r. r.over) rs) after ≡ visit ns b seen
-visit_start b ns i d seen after behind rs e h f g k = rw (f, g, k) (sym (visit_new b ns i d seen e h))
+-- ---- boxes at a place or behind it
 
--- the boxes behind a place
-pub behind_at : (ns : List Node) (i : ℕ) → i < length ns → take (length ns - (i + 1)) (drop (i + 1) ns) ≡ drop (suc i) ns
-behind_at ns i l =
-    let e : length ns - (i + 1) ≡ length (drop (i + 1) ns) = sym (length-drop (i + 1) ns) in
-    rw (e, take-length (drop (i + 1) ns)) (ap (λ (k : ℕ). drop k ns) (add-one i))
+unheld-behind : (x from : ℕ) (ns : List Node) → holds x (numbers ns) ≡ false → list_any (is_box x) (drop from ns) ≡ false
+unheld-behind x zero [] h = refl
+unheld-behind x (suc from) [] h = refl
+unheld-behind x zero (n ∷ ns) h = let s = or_false (n.id == x) (holds x (numbers ns)) h in or_from (n.id == x) (list_any (is_box x) ns) s.0 (unheld-behind x zero ns s.1)
+unheld-behind x (suc from) (n ∷ ns) h = let s = or_false (n.id == x) (holds x (numbers ns)) h in unheld-behind x from ns s.1
 
--- a box that doesn't stand here ranges over none
-pub overs_none : (b : ℕ) (ns : List Node) (out : List ℕ) → position (is_box b) ns ≡ None → out ≡ out ++ map (λ r. r.over) (quants_in (first (is_box b) ns))
-overs_none b ns out e = sym (ap (λ (o : Option Node). out ++ map (λ r. r.over) (quants_in o)) (first_none b ns e) ∙ append-nil out)
+once-behind : (b : ℕ) (ns : List Node) (i from : ℕ) (d : Node) → EachOnce (numbers ns) → i < length ns → is_box b (get_or ns i d) ≡ true → i < from → list_any (is_box b) (drop from ns) ≡ false
+once-behind b [] i from d o l t m = absurd (omega (arith, l))
+once-behind b (n ∷ ns) i zero d o l t m = absurd (omega (arith, m))
+once-behind b (n ∷ ns) zero (suc from) d o l t m = unheld-behind b from ns (subst (λ (x : ℕ). holds x (numbers ns) ≡ false) (eqb-true n.id b t) o.0)
+once-behind b (n ∷ ns) (suc i) (suc from) d o l t m = once-behind b ns i from d o.1 (omega (arith, l)) t (omega (arith, m))
+
+none-behind : (b from : ℕ) (ns : List Node) → list_any (is_box b) ns ≡ false → list_any (is_box b) (drop from ns) ≡ false
+none-behind b zero ns h = h
+none-behind b (suc from) [] h = refl
+none-behind b (suc from) (n ∷ ns) h = none-behind b from ns (or_false (n.id == b) (list_any (is_box b) ns) h).1
+
+visit-skipped : (b from : ℕ) (ns : List Node) (d : Node) (seen : List ℕ) → ((k : ℕ) → k < from → is_box b (get_or ns k d) ≡ false) → visit (drop from ns) b seen ≡ visit ns b seen
+visit-skipped b zero ns d seen h = refl
+visit-skipped b (suc from) [] d seen h = refl
+visit-skipped b (suc from) (n ∷ ns) d seen h =
+    visit-skipped b from ns d seen (λ k l. h (suc k) (omega (arith, l)))
+    ∙ sym (ap (λ (t : Bool). cond t (cond (holds b seen) seen (each (visit ns) (overs_of n) (seen ++ b ∷ []))) (visit ns b seen)) (h zero (omega arith)))
+
+-- no box is visited that doesn't stand here
+pub behind-none : (b from : ℕ) (ns : List Node) (seen : List ℕ) → position (is_box b) ns ≡ None → visit (drop from ns) b seen ≡ seen
+behind-none b from ns seen e = visit_from b (drop from ns) seen (none-behind b from ns (none_passes b ns e))
+
+-- none that stands before
+pub behind-before : (b from : ℕ) (ns : List Node) (i : ℕ) (seen : List ℕ) → EachOnce (numbers ns) → position (is_box b) ns ≡ Some i → i < from → visit (drop from ns) b seen ≡ seen
+behind-before b from [] i seen o e l = behind-none b from [] seen refl
+behind-before b from (n ∷ ns) i seen o e l = let at = position-Some (is_box b) (n ∷ ns) i n e in visit_from b (drop from (n ∷ ns)) seen (once-behind b (n ∷ ns) i from n o at.0 at.1 l)
+
+-- none that was seen
+pub behind-seen : (b from : ℕ) (ns : List Node) (i : ℕ) (seen : List ℕ) → position (is_box b) ns ≡ Some i → from ≤ i → holds b seen ≡ true → visit (drop from ns) b seen ≡ seen
+behind-seen b from [] i seen e l h = behind-none b from [] seen refl
+behind-seen b from (n ∷ ns) i seen e l h =
+    let at = position-Some (is_box b) (n ∷ ns) i n e in visit-skipped b from (n ∷ ns) n seen (λ k m. at.2 k (omega (arith, m, l))) ∙ visit_seen b (n ∷ ns) i seen n e h
+
+-- one that wasn't, as far as its quantifiers
+pub behind-start : (b from : ℕ) (ns : List Node) (i : ℕ) (d : Node) (seen after : List ℕ) (rs : List OwnedQuant) →
+    position (is_box b) ns ≡ Some i → from ≤ i → holds b seen ≡ false → rs ≡ (get_or ns i d).quants → after ≡ seen ++ b ∷ [] →
+    each (visit (drop (i + 1) ns)) (map (λ r. r.over) rs) after ≡ visit (drop from ns) b seen
+behind-start b from ns i d seen after rs e l h g k =
+    let at = position-Some (is_box b) ns i d e in
+    let f : drop (i + 1) ns ≡ drop (suc i) ns = ap (λ (j : ℕ). drop j ns) (add-one i) in
+    rw (f, g, k) (sym (visit-skipped b from ns d seen (λ k m. at.2 k (omega (arith, m, l))) ∙ visit_new b ns i d seen e h))

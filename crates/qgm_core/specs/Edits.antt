@@ -1,7 +1,7 @@
 -- What each edit makes of a graph: one function of the list of its boxes. Root, names and order stay.
-use Rattle.std.specs.Prelude.{ℕ, ◌==◌, ◌-◌, ◌++◌, max, List, [], ◌∷◌, Option, Some, None, map, insert, filter, slice_get}
+use Rattle.std.specs.Prelude.{ℕ, suc, ◌==◌, ◌-◌, ◌++◌, max, List, [], ◌∷◌, Option, Some, None, map, insert, filter, slice_get, take, drop}
 use Rattle.std.specs.List.{remove, flat_map}
-use Rattle.qgm_core.specs.Boxes.{QueryGraph, is_box, is_quant, owns, put_at, range_in}
+use Rattle.qgm_core.specs.Boxes.{QueryGraph, is_box, is_quant, owns, put_at, quants_in, range_in}
 use Rattle.qgm_core.specs.Free.{reached}
 use Rattle.qgm_core.specs.Lists.{first, change, without, put_below, each, holds}
 use Rattle.qgm_core.specs.declared.kinds.BoxKind.{BoxKind}
@@ -44,6 +44,10 @@ moved_below c d boxes = put_found d (first (is_box c) boxes) (without (is_box c)
 abbrev pub move_below : ℕ → ℕ → QueryGraph → QueryGraph
 move_below c d g = on_boxes (moved_below c d) g
 
+-- a box goes, with its quantifiers
+abbrev pub drop_box : ℕ → QueryGraph → QueryGraph
+drop_box b g = on_boxes (without (is_box b)) g
+
 -- the boxes that the root reaches
 abbrev pub compact : QueryGraph → QueryGraph
 compact g = on_boxes (λ boxes. filter (λ n. holds n.id (reached (g.root ∷ []) boxes)) boxes) g
@@ -56,6 +60,13 @@ parted kind role conds head n = record n { parts = record { kind = kind; distinc
 -- another kind, role, conditions and head; the distinctness stays
 abbrev pub put_box : ℕ → BoxKind → Role → Conjuncts → List Term → QueryGraph → QueryGraph
 put_box b kind role conds head g = on_box b (parted kind role conds head) g
+
+abbrev pub with_terms : Conjuncts → List Term → Node → Node
+with_terms conds head n = record n { parts = record n.parts { conds = conds; head = head } }
+
+-- other conditions and another head
+abbrev pub put_terms : ℕ → Conjuncts → List Term → QueryGraph → QueryGraph
+put_terms b conds head g = on_box b (with_terms conds head) g
 
 abbrev pub with_distinct : Distinct → Node → Node
 with_distinct distinct n = record n { parts = record n.parts { distinct = distinct } }
@@ -146,6 +157,17 @@ quant_moved q b i boxes = put_range_found b i (range_in q (first (owns q) boxes)
 -- a quantifier goes to box b, at place i from 0 among those that b then owns beside it
 abbrev pub move_quant : ℕ → ℕ → ℕ → QueryGraph → QueryGraph
 move_quant q b i g = on_boxes (quant_moved q b i) g
+
+-- these in the place, from 0, of one of those
+abbrev pub spliced_at : ℕ → List OwnedQuant → List OwnedQuant → List OwnedQuant
+spliced_at i cs rs = take i rs ++ (cs ++ drop (suc i) rs)
+
+abbrev pub absorbed : ℕ → ℕ → ℕ → List Node → List Node
+absorbed b i c boxes = change (is_box b) (with_quants (spliced_at i (quants_in (first (is_box c) boxes)))) (without (is_box c) boxes)
+
+-- the quantifiers of box c stand in box b in the place of the one at place i, from 0, and box c goes
+abbrev pub absorb : ℕ → ℕ → ℕ → QueryGraph → QueryGraph
+absorb b i c g = on_boxes (absorbed b i c) g
 
 -- ---- cells
 

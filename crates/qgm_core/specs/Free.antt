@@ -1,7 +1,7 @@
 -- What is below a box, and its free quantifiers.
 use Rattle.std.specs.Prelude.{ℕ, ◌≡◌, ◌++◌, ◌&&◌, ◌==◌, nat_lt, not, if◌then◌else◌, Bool, true, false, List, [], ◌∷◌, filter}
 use Rattle.std.specs.List.{list_any, flat_map}
-use Rattle.qgm_core.specs.Boxes.{QueryGraph, owns, overs_of}
+use Rattle.qgm_core.specs.Boxes.{QueryGraph, ids_of, owns, overs_of}
 use Rattle.qgm_core.specs.Lists.{In, holds}
 use Rattle.qgm_core.specs.declared.node.Node.{Node}
 use Rattle.qgm_core.specs.declared.owned.OwnedQuant.{OwnedQuant}
@@ -38,6 +38,10 @@ reached marks (n ∷ ns) = reached (marked marks n) ns
 -- what a box names if it is marked
 abbrev pub named_where : List ℕ → Node → List ℕ
 named_where marks n = if holds n.id marks then named_by n else []
+
+-- the quantifiers of a box, if it is marked
+abbrev pub owned_where : List ℕ → Node → List ℕ
+owned_where marks n = if holds n.id marks then ids_of n else []
 
 -- a marked box owns the quantifier
 abbrev pub is_owned : List ℕ → List Node → ℕ → Bool

@@ -1,5 +1,5 @@
 -- What is found in lists, and lists with one element changed.
-use Rattle.std.specs.Prelude.{ℕ, zero, suc, ◌≡◌, ◌==◌, ◌<◌, ◌+◌, if◌then◌else◌, Bool, true, false, List, [], ◌∷◌, Option, Some, None, length, insert, slice_set, slice_index_or, ⊤, ◌⊎◌}
+use Rattle.std.specs.Prelude.{ℕ, ◌≡◌, ◌==◌, ◌<◌, ◌+◌, if◌then◌else◌, Bool, true, false, List, [], ◌∷◌, Option, Some, None, length, insert, slice_set, slice_index_or, ⊤, ◌⊎◌}
 use Rattle.std.specs.List.{list_any, remove}
 
 -- x stands here
@@ -43,12 +43,6 @@ insert_found i (Some x) xs = insert xs i x
 -- the first that passes at place i, from 0, among the others
 abbrev pub moved_to : {X : Type 0} → (X → Bool) → ℕ → List X → List X
 moved_to p i xs = insert_found i (first p xs) (without p xs)
-
--- without the one at place i, from 0, unless it passes
-abbrev pub kept_at : {X : Type 0} → (X → Bool) → ℕ → List X → List X
-kept_at p i [] = []
-kept_at p zero (x ∷ xs) = if p x then x ∷ xs else xs
-kept_at p (suc i) (x ∷ xs) = x ∷ kept_at p i xs
 
 -- x just below the first that passes, else last
 abbrev pub put_below : {X : Type 0} → (X → Bool) → X → List X → List X

@@ -1,13 +1,13 @@
 // The quantifiers that a box names, itself or below it, and that are owned neither there nor below.
-ghost use Rattle.std.specs.Prelude.{◌≡◌, ◌++◌, ◌∷◌, [], ◌<◌, ◌≤◌, ℕ, length, slice_index_or, map, OnOk, IfOk};
-ghost use Rattle.std.specs.List.{list_any, flat_map};
-ghost use Rattle.qgm_core.specs.Boxes.{owns};
+ghost use Rattle.std.specs.Prelude.{◌≡◌, ◌++◌, ◌∷◌, [], ◌<◌, ◌≤◌, ℕ, length, slice_index_or, filter, map, not, OnOk, IfOk};
+ghost use Rattle.std.specs.List.{flat_map};
 ghost use Rattle.qgm_core.specs.Free as spec;
 ghost use Rattle.qgm_core.specs.Lists.{holds};
 
 use crate::kinds::BoxId;
+use crate::marks::{Marks, mark_ids, mark_overs};
 use crate::node::Node;
-use crate::owned::{OwnedQuant, has_range};
+use crate::owned::OwnedQuant;
 use qgm_terms::{QuantId, add_names_of_cells, add_names_of_conds};
 use shared_types::OutOfMemory;
 use std::alloc::Global;
@@ -30,20 +30,20 @@ pub fn mark_each(ranges: &[OwnedQuant], marks: &mut Vec<BoxId>) -> Result<(), Ou
 }
 
 // Marks what a box that is marked ranges over.
-fn mark(node: &Node, marks: &mut Vec<BoxId>) -> Result<(), OutOfMemory>
-    ensures { OnOk result (marks.new.items ≡ spec.marked marks.old.items node.now) }
+fn mark(node: &Node, marks: &mut Marks) -> Result<(), OutOfMemory>
+    ensures { OnOk result (marks.new ≡ spec.marked marks.old node.now) }
 {
-    if is_marked(marks, node.id) {
-        mark_each(node.quants.as_slice(), marks)?;
+    if marks.has(node.id) {
+        mark_overs(node.quants.as_slice(), marks)?;
     }
     Ok(())
 }
 
-// The boxes that are reached from one.
-pub fn reached(alloc: Global, nodes: &[Node], b: BoxId) -> Result<Vec<BoxId>, OutOfMemory>
-    ensures { IfOk result (λ marks. marks.items ≡ spec.reached (b ∷ []) nodes.now) }
+/// The boxes that are reached from one.
+pub fn reached(alloc: Global, nodes: &[Node], b: BoxId) -> Result<Marks, OutOfMemory>
+    ensures { IfOk result (λ marks. marks ≡ spec.reached (b ∷ []) nodes.now) }
 {
-    let mut marks = Vec::new(alloc);
+    let mut marks = Marks::new(alloc);
     marks.push(b)?;
     for node in nodes {
         mark(node, &mut marks)?;
@@ -62,19 +62,19 @@ pub fn add_names_of_node(node: &Node, out: &mut Vec<QuantId>) -> Result<(), OutO
 // Appends what a box names, where it is marked.
 fn add_names_of_marked(
     node: &Node,
-    marks: &[BoxId],
+    marks: &Marks,
     out: &mut Vec<QuantId>,
 ) -> Result<(), OutOfMemory>
     ensures { OnOk result (out.new.items ≡ out.old.items ++ spec.named_where marks.now node.now) }
 {
-    if is_marked(marks, node.id) {
+    if marks.has(node.id) {
         add_names_of_node(node, out)?;
     }
     Ok(())
 }
 
 // What the marked boxes name.
-fn named(alloc: Global, nodes: &[Node], marks: &[BoxId]) -> Result<Vec<QuantId>, OutOfMemory>
+fn named(alloc: Global, nodes: &[Node], marks: &Marks) -> Result<Vec<QuantId>, OutOfMemory>
     ensures { IfOk result (λ names. names.items ≡ flat_map (spec.named_where marks.now) nodes.now) }
 {
     let mut names = Vec::new(alloc);
@@ -84,11 +84,25 @@ fn named(alloc: Global, nodes: &[Node], marks: &[BoxId]) -> Result<Vec<QuantId>,
     Ok(names)
 }
 
-// Whether a marked box owns the quantifier.
-fn is_owned(nodes: &[Node], marks: &[BoxId], q: QuantId) -> bool
-    ensures { result ≡ spec.is_owned marks.now nodes.now q }
+// Marks the quantifiers of a box that is marked.
+fn mark_owned(marks: &Marks, node: &Node, owned: &mut Marks) -> Result<(), OutOfMemory>
+    ensures { OnOk result (owned.new ≡ owned.old ++ spec.owned_where marks.now node.now) }
 {
-    nodes.iter().any(|n| is_marked(marks, n.id) && has_range(n.quants.as_slice(), q))
+    if marks.has(node.id) {
+        mark_ids(node.quants.as_slice(), owned)?;
+    }
+    Ok(())
+}
+
+/// The quantifiers of marked boxes.
+pub fn owned_by(alloc: Global, marks: &Marks, nodes: &[Node]) -> Result<Marks, OutOfMemory>
+    ensures { IfOk result (λ owned. owned ≡ flat_map (spec.owned_where marks.now) nodes.now) }
+{
+    let mut owned = Marks::new(alloc);
+    for node in nodes {
+        mark_owned(marks, node, &mut owned)?;
+    }
+    Ok(owned)
 }
 
 // Where a quantifier goes among ascending ones: those before are less, and the one there isn't.
@@ -117,17 +131,25 @@ fn put_once(out: &mut Vec<QuantId>, q: QuantId) -> Result<(), OutOfMemory>
     Ok(())
 }
 
+// Those that aren't owned, ascending, each once.
+fn not_owned(alloc: Global, names: &[QuantId], owned: &Marks) -> Result<Vec<QuantId>, OutOfMemory>
+    ensures { IfOk result (λ free. free.items ≡ spec.put_each [] (filter (λ q. not (holds q owned.now)) names.now)) }
+{
+    let mut free = Vec::new(alloc);
+    for q in names {
+        if !owned.has(*q) {
+            put_once(&mut free, *q)?;
+        }
+    }
+    Ok(free)
+}
+
 /// The free quantifiers of a box, ascending.
 pub fn free_in(alloc: Global, nodes: &[Node], b: BoxId) -> Result<Vec<QuantId>, OutOfMemory>
     ensures { IfOk result (λ free. free.items ≡ spec.free_in nodes.now b) }
 {
     let marks = reached(alloc, nodes, b)?;
+    let owned = owned_by(alloc, &marks, nodes)?;
     let names = named(alloc, nodes, &marks)?;
-    let mut free = Vec::new(alloc);
-    for q in &names {
-        if !is_owned(nodes, &marks, *q) {
-            put_once(&mut free, *q)?;
-        }
-    }
-    Ok(free)
+    not_owned(alloc, &names, &owned)
 }

@@ -13,6 +13,7 @@ ghost use Rattle.qgm_terms.specs.Depth.{depth_cond, room};
 ghost use Rattle.qgm_terms.specs.Shown.{cond};
 ghost use Rattle.qgm_terms.specs.Substitution.{substituted_cond};
 
+use crate::absorbed::absorb_box;
 use crate::compact::keep_marked;
 use crate::copies::{copy_names, copy_nodes, copy_order};
 use crate::free::{free_in, reached};
@@ -26,7 +27,7 @@ use crate::places::{box_place, new_place, owner_place};
 use crate::quants::Quants;
 use crate::shifted::shift_over;
 use crate::uses::uses_in;
-use crate::walks::{by_levels, visit};
+use crate::walks::{by_levels, depth_first};
 use qgm_terms::{Conds, Gc, Head, QuantId, ROOM, substitute_conds, substitute_head};
 use rewrite_plan::Walk;
 use shared_types::OutOfMemory;
@@ -275,11 +276,7 @@ impl Graph {
         ensures { IfOk result (λ v. v.items ≡ walk w self.now) }
     {
         match w {
-            Walk::Depth => {
-                let mut seen = Vec::new(alloc);
-                visit(&self.nodes, self.root, &mut seen)?;
-                Ok(seen)
-            }
+            Walk::Depth => depth_first(alloc, &self.nodes, self.root),
             Walk::Breadth => by_levels(alloc, &self.nodes, self.root),
         }
     }
@@ -376,6 +373,42 @@ impl Graph {
             conds,
             head,
         };
+    }
+
+    /// Gives a box other conditions and another head. It takes no memory.
+    pub fn put_terms(&mut self, b: BoxId, conds: Conds, head: Head)
+        requires { spec.HasBox b self.old }
+        ensures graph { self.new ≡ edits.put_terms b conds head self.old }
+        ensures kept { HasAll self.old self.new }
+    {
+        let k = box_place(&self.nodes, b);
+        let parts = &mut self.nodes[k].parts;
+        parts.conds = conds;
+        parts.head = head;
+    }
+
+    /// Drops a box, with its quantifiers. It takes no memory.
+    pub fn drop_box(&mut self, b: BoxId)
+        requires { spec.HasBox b self.old }
+        ensures { self.new ≡ edits.drop_box b self.old }
+    {
+        let k = box_place(&self.nodes, b);
+        let _dropped = self.nodes.remove(k);
+    }
+
+    /// Puts the quantifiers of box c into box b, in the place, from 1, of one of b's, and drops box c.
+    /// It fails where there is no memory.
+    pub fn absorb(&mut self, b: BoxId, place: usize, c: BoxId) -> Result<(), OutOfMemory>
+        requires owner { spec.HasBox b self.old }
+        requires other { spec.HasBox c self.old }
+        requires apart { (b == c) ≡ false }
+        requires from_one { 1 ≤ place }
+        requires within { place ≤ length (spec.quants_of b self.old) }
+        ensures ok { OnOk result (self.new ≡ edits.absorb b (place - 1) c self.old) }
+        ensures err { OnErr result (self.new ≡ self.old) }
+    {
+        absorb_box(&mut self.nodes, b, place - 1, c)?;
+        Ok(())
     }
 
     /// Sets whether a box gives rows more than once. It takes no memory.

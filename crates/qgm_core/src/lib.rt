@@ -1,12 +1,16 @@
 //! The query graph: boxes that stand in one list, and the quantifiers that they own.
 #![tactic(auto)]
 
+mod absorbed;
+mod box_places;
 mod compact;
 mod copies;
+mod counts;
 mod free;
 mod graph;
 mod kinds;
 mod made;
+mod marks;
 mod moves;
 mod node;
 mod owned;
@@ -14,13 +18,17 @@ mod parts;
 mod places;
 mod quants;
 mod shifted;
+mod tables;
 mod uses;
 mod walks;
 
-pub use free::{add_names_of_node, free_in, is_marked, mark_each};
+pub use box_places::{Places, node_at};
+pub use counts::{Counts, uses_of};
+pub use free::{add_names_of_node, free_in, is_marked, mark_each, owned_by, reached};
 pub use graph::Graph;
 pub use kinds::{BaseTable, BoxId, BoxKind, Distinct, QuantKind, Role, SetOperator};
 pub use made::NewBox;
+pub use marks::{Marks, mark_ids, mark_overs};
 pub use node::Node;
 pub use owned::{Owned, OwnedQuant, Quant, has_range};
 pub use parts::BoxParts;

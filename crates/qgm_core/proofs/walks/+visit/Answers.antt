@@ -1,15 +1,36 @@
-use Rattle.std.proofs.Common.{◌≡◌, ◌<◌, Some, false, length, position, sym, ◌∙◌}
+use Rattle.std.proofs.Common.{◌≡◌, ℕ, ◌==◌, List, Some, None, true, false, position, sym, ap, ◌∙◌}
 use Rattle.qgm_core.specs.Boxes.{is_box}
 use Rattle.qgm_core.specs.Lists.{holds}
-use Rattle.qgm_core.proofs.First.{is_first}
-use Rattle.qgm_core.proofs.Visited.{behind_at, visit_start}
+use Rattle.qgm_core.proofs.ByNumber.{position-numbers}
+use Rattle.qgm_core.proofs.Visited.{behind-before, behind-none, behind-seen, behind-start}
 use Rattle.qgm_core.proofs.walks.+visit.Goals as goal
 
-pub loop-range-init : goal.loop-range-init
-loop-range-init k c =
+pub returns-in_default : goal.returns-in_default
+returns-in_default t c =
     let ns = c.args.nodes.now in
-    let i = c.in-Some.i in
-    let e : position (is_box c.args.b) ns ≡ Some i = sym c.find_box.ensures ∙ c.in-Some.is in
-    let l : i < length ns = (is_first (is_box c.args.b) ns i e).0 in
-    let h : holds c.args.b c.args.seen.now.items ≡ false = sym (rw c.deref.ensures.value at c.is_marked.ensures) ∙ c.if-is_marked.false in
-    visit_start c.args.b ns i c.index-nodes-i.result c.args.seen.now.items c.push.new.self.items _ c.as_slice-range-items.result.now e h (behind_at ns i l) c.as_slice-range-items.ensures c.in_ok-push.ensures.items
+    let b = c.args.b in
+    let at : position (is_box b) ns ≡ None = sym (position-numbers b ns) ∙ sym (ap (λ (xs : List ℕ). position (λ x. x == b) xs) c.requires.places) ∙ sym c.find.ensures ∙ c.in_default.is in
+    sym (behind-none b c.args.from ns c.args.seen.now at)
+
+pub returns-then-i-from : goal.returns-then-i-from
+returns-then-i-from t c =
+    let ns = c.args.nodes.now in
+    let b = c.args.b in
+    let at : position (is_box b) ns ≡ Some c.in-Some.i = sym (position-numbers b ns) ∙ sym (ap (λ (xs : List ℕ). position (λ x. x == b) xs) c.requires.places) ∙ sym c.find.ensures ∙ c.in-Some.is in
+    sym (behind-before b c.args.from ns c.in-Some.i c.args.seen.now c.requires.once at c.if-i-from.true)
+
+pub returns-then-has : goal.returns-then-has
+returns-then-has t c =
+    let ns = c.args.nodes.now in
+    let b = c.args.b in
+    let at : position (is_box b) ns ≡ Some c.in-Some.i = sym (position-numbers b ns) ∙ sym (ap (λ (xs : List ℕ). position (λ x. x == b) xs) c.requires.places) ∙ sym c.find.ensures ∙ c.in-Some.is in
+    let h : holds b c.args.seen.now ≡ true = sym c.has.ensures ∙ c.if-has.true in
+    sym (behind-seen b c.args.from ns c.in-Some.i c.args.seen.now at c.if-i-from.false h)
+
+pub loop-range-init : goal.loop-range-init
+loop-range-init t c =
+    let ns = c.args.nodes.now in
+    let b = c.args.b in
+    let at : position (is_box b) ns ≡ Some c.in-Some.i = sym (position-numbers b ns) ∙ sym (ap (λ (xs : List ℕ). position (λ x. x == b) xs) c.requires.places) ∙ sym c.find.ensures ∙ c.in-Some.is in
+    let h : holds b c.args.seen.now ≡ false = sym c.has.ensures ∙ c.if-has.false in
+    behind-start b c.args.from ns c.in-Some.i c.index-nodes-i.result c.args.seen.now c.push.new.self c.as_slice-range-items.result.now at c.if-i-from.false h c.as_slice-range-items.ensures c.in_ok-push.ensures

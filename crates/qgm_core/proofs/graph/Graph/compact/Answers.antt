@@ -12,7 +12,7 @@ invariant_of-self c =
     let a = c.self.inside.next_box in
     let b = c.self.inside.next_quant in
     subst (Numbered a b) (sym c.keep_marked.ensures)
-    (numbered-filter (λ (n : Node). holds n.id c.deref-2.result.now) a b c.self.inside.nodes.items c.self.invariant)
+    (numbered-filter (λ (n : Node). holds n.id c.in_ok-marks.marks) a b c.self.inside.nodes.items c.self.invariant)
 
 pub returns-clause-ok : goal.returns-clause-ok
 returns-clause-ok c = search rules

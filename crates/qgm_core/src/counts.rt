@@ -1,0 +1,84 @@
+// How often numbers stand in a list.
+ghost use Rattle.std.specs.Prelude.{◌≡◌, ◌++◌, ◌∷◌, [], map, IfOk, OnOk};
+ghost use Rattle.qgm_core.specs.Boxes.{overs_in};
+ghost use Rattle.qgm_core.specs.Lists.{times};
+
+use crate::node::Node;
+use crate::owned::OwnedQuant;
+use crate::tables::make_long;
+use shared_types::OutOfMemory;
+use std::alloc::Global;
+use std::marker::Model;
+
+/// Numbers that are counted, each at once. Contracts see it as the list of them.
+#[derive(Drop)]
+pub struct Counts {
+    list: Vec<usize>,
+    counts: Vec<usize>,
+}
+
+impl Model for Counts {
+    ghost use Rattle.std.specs.Prelude.{ℕ, List, ◌≡◌, slice_index_or};
+    ghost use Rattle.qgm_core.specs.Lists.{times};
+
+    ghost Value = { List ℕ };
+
+    ghost view = { λ c. c.list.items };
+
+    ghost invariant = { λ c. (x : ℕ) → slice_index_or c.counts.items x 0 ≡ times x c.list.items };
+}
+
+impl Counts {
+    /// None.
+    pub fn new(alloc: Global) -> Counts
+        ensures { result ≡ [] }
+    {
+        Counts {
+            list: Vec::new(alloc),
+            counts: Vec::new(alloc),
+        }
+    }
+
+    /// Counts one more.
+    pub fn push(&mut self, x: usize) -> Result<(), OutOfMemory>
+        ensures { OnOk result (self.new ≡ self.old ++ x ∷ []) }
+    {
+        self.list.reserve(1)?;
+        make_long(&mut self.counts, x, 0)?;
+        self.counts[x] += 1;
+        let _ = self.list.push(x);
+        Ok(())
+    }
+
+    /// How often a number was counted.
+    pub fn count(&self, x: usize) -> usize
+        ensures { result ≡ times x self.now }
+    {
+        if x < self.counts.len() {
+            self.counts[x]
+        } else {
+            0
+        }
+    }
+}
+
+// Counts the boxes that these quantifiers range over.
+fn count_overs(ranges: &[OwnedQuant], counts: &mut Counts) -> Result<(), OutOfMemory>
+    ensures { OnOk result (counts.new ≡ counts.old ++ map (λ r. r.over) ranges.now) }
+{
+    for range in ranges {
+        counts.push(range.over)?;
+    }
+    Ok(())
+}
+
+/// How many quantifiers of the boxes range over each box.
+pub fn uses_of(alloc: Global, nodes: &[Node]) -> Result<Counts, OutOfMemory>
+    ensures { IfOk result (λ c. c ≡ overs_in nodes.now) }
+{
+    let mut counts = Counts::new(alloc);
+    for node in nodes {
+        count_overs(node.quants.as_slice(), &mut counts)?;
+    }
+    Ok(counts)
+}
