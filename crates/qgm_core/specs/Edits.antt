@@ -52,6 +52,10 @@ drop_box b g = on_boxes (without (is_box b)) g
 abbrev pub compact : QueryGraph → QueryGraph
 compact g = on_boxes (λ boxes. filter (λ n. holds n.id (reached (g.root ∷ []) boxes)) boxes) g
 
+-- the marked boxes
+abbrev pub keep : List ℕ → QueryGraph → QueryGraph
+keep marks g = on_boxes (filter (λ n. holds n.id marks)) g
+
 -- ---- parts
 
 abbrev pub parted : BoxKind → Role → Conjuncts → List Term → Node → Node

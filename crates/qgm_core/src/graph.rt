@@ -19,6 +19,7 @@ use crate::copies::{copy_names, copy_nodes, copy_order};
 use crate::free::{free_in, reached};
 use crate::kinds::{BoxId, BoxKind, Distinct, QuantKind, Role};
 use crate::made::{NewBox, numbered};
+use crate::marks::Marks;
 use crate::moves::{move_below, move_quant, places_for};
 use crate::node::Node;
 use crate::owned::{Owned, OwnedQuant, Quant, range_of};
@@ -345,6 +346,13 @@ impl Graph {
         let marks = reached(alloc, &self.nodes, self.root)?;
         keep_marked(&mut self.nodes, &marks);
         Ok(())
+    }
+
+    /// Drops the boxes that aren't marked. It takes no memory.
+    pub fn keep(&mut self, marks: &Marks)
+        ensures { self.new ≡ edits.keep marks.now self.old }
+    {
+        keep_marked(&mut self.nodes, marks);
     }
 
     /// Moves a box just below another one. It takes no memory.
