@@ -13,4 +13,5 @@ pub mod MergedKeeps
 pub mod Placed
 pub mod Unfed
 pub mod Alone
+pub mod Bases
 pub mod Unread

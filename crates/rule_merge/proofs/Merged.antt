@@ -294,6 +294,9 @@ module _ (g : QueryGraph) (u : EachOnce (numbers g.boxes)) (w : WellFormed g) (b
       let o = in-map want n (boxes_without c.id bs) j in
       subst (λ z. (z == c.id) ≡ false) (sym (want-id o.0) ∙ ap (λ (z : Node). z.id) o.1.1) (in-without c.id o.0 bs o.1.0).1
 
+  abbrev keep-boxes : List Node → List Node
+  keep-boxes z = filter (λ n. holds n.id (reached (g.root ∷ []) g.boxes)) z
+
   made : keep (reached (g.root ∷ []) g.boxes) (on_boxes (put_all (new_terms b.id q c bs)) (absorb b.id i c.id g)) ≡ merged_with g b c q
   made = ap (λ z. record g { boxes = z }) (
       ap (λ z. keep-boxes z) put-is
@@ -301,9 +304,6 @@ module _ (g : QueryGraph) (u : EachOnce (numbers g.boxes)) (w : WellFormed g) (b
       (λ n j h. subst (λ z. Reaches ms (cond z b.id g.root) n.id) not-root (down g.root n.id h (not-c n j)))
       (λ n j h. up g.root n.id h)
       ∙ ap (λ z. reached_boxes g.root (map want z)) (without-one c.id bs sound.ordered))
-    where
-      abbrev keep-boxes : List Node → List Node
-      keep-boxes z = filter (λ n. holds n.id (reached (g.root ∷ []) g.boxes)) z
 
   -- ---- what the steps need, and what they make
 

@@ -2,8 +2,8 @@
 use Rattle.std.proofs.Common.{ℕ, zero, suc, ◌<◌, length, slice_index_or, ◌+◌, ◌==◌, ◌≡◌, ◌≤◌, ◌||◌, cond, filter, Bool, true, false, List, [], ◌∷◌, ◌++◌, map, refl, sym, ap, subst, ◌∙◌, eqb-true, inl, inr, arith}
 use Rattle.std.specs.List.{list_any}
 use Rattle.std.proofs.lemmas.Bool.{cases_Bool, eq-eqb}
-use Rattle.qgm_core.specs.Boxes.{ids_in, ids_of, is_quant, owns}
-use Rattle.qgm_core.specs.Edits.{ids_over, on_quant, quants_over}
+use Rattle.qgm_core.specs.Boxes.{HasBox, QueryGraph, has_box, ids_in, ids_of, is_quant, owns}
+use Rattle.qgm_core.specs.Edits.{ids_over, on_boxes, on_quant, quants_over}
 use Rattle.qgm_core.specs.Lists.{In, change, each, times}
 use Rattle.qgm_core.specs.declared.node.Node.{Node}
 use Rattle.qgm_core.specs.declared.owned.OwnedQuant.{OwnedQuant}
@@ -135,3 +135,18 @@ turned-all b c (n ∷ ns) h =
     ∙ ap (turned c (quants_over b ns)) (turn-own b c n ns [] n.quants own)
     ∙ turn-below c (moved b c n) ns (quants_over b ns) other
     ∙ ap (λ z. moved b c n ∷ z) (turned-all b c ns rest)
+
+-- the boxes keep their numbers
+has-changed : (p : Node → Bool) (f : Node → Node) → ((n : Node) → (f n).id ≡ n.id) → (ns : List Node) (b : ℕ) → has_box (change p f ns) b ≡ has_box ns b
+has-changed p f same [] b = refl
+has-changed p f same (n ∷ ns) b = elim (p n) as (λ t. has_box (cond t (f n ∷ ns) (n ∷ change p f ns)) b ≡ has_box (n ∷ ns) b) [
+  | true ↦ ap (λ z. (z == b) || has_box ns b) (same n)
+  | false ↦ ap (λ z. (n.id == b) || z) (has-changed p f same ns b)
+]
+
+turned-has : (c : ℕ) (qs : List ℕ) (ns : List Node) (b : ℕ) → has_box (turned c qs ns) b ≡ has_box ns b
+turned-has c [] ns b = refl
+turned-has c (q ∷ qs) ns b = turned-has c qs (turned_one c q ns) b ∙ has-changed (owns q) (on_quant q (over c)) (λ n. refl) ns b
+
+pub turned_held : (g h : QueryGraph) (c : ℕ) (qs : List ℕ) (b : ℕ) → h ≡ on_boxes (turned c qs) g → HasBox b g → HasBox b h
+turned_held g h c qs b e k = subst (λ (z : QueryGraph). HasBox b z) (sym e) (turned-has c qs g.boxes b ∙ k)

@@ -4,7 +4,7 @@ use Rattle.std.specs.List.{list_any}
 use Rattle.qgm_core.specs.Boxes.{HasBox, QueryGraph, box_of, is_box, overs_in, quants_of}
 use Rattle.qgm_core.specs.Edits.{absorb, keep, on_boxes, with_terms}
 use Rattle.qgm_core.specs.Free.{reached}
-use Rattle.qgm_core.specs.Lists.{In, change, each, times}
+use Rattle.qgm_core.specs.Lists.{In, change, times}
 use Rattle.qgm_core.specs.declared.kinds.BoxKind.TheVariants.{Select}
 use Rattle.qgm_core.specs.declared.node.Node.{Node}
 use Rattle.qgm_core.specs.declared.owned.OwnedQuant.{OwnedQuant}
@@ -39,9 +39,10 @@ new_terms b q c ns = map (terms_for b q c) (filter (is_changed b q c.id) ns)
 abbrev pub put_one : NewTerms → List Node → List Node
 put_one t boxes = change (is_box t.at) (with_terms t.conds t.head) boxes
 
--- each of these has
+-- each of these has, the last one first
 abbrev pub put_all : List NewTerms → List Node → List Node
-put_all ts boxes = each put_one ts boxes
+put_all [] boxes = boxes
+put_all (t ∷ ts) boxes = put_one t (put_all ts boxes)
 
 -- the steps: c's quantifiers go to b, the boxes have their terms, and those stay that the root reached before
 abbrev pub merge_steps : MergePlan → QueryGraph → QueryGraph

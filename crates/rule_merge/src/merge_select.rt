@@ -5,7 +5,8 @@ ghost use Rattle.rule_api.specs.declared.place.RuleId.TheVariants.{M1};
 ghost use Rattle.rule_merge.specs.MergeSelect.{MayMergeSelect, MergesSelect, PassesMerge, PlansAt, merge_select_exact, merge_select_pairs};
 
 use crate::copies::box_at;
-use crate::merging::may_at;
+use crate::known::tables_of;
+use crate::merging::{may_at, may_have};
 use crate::splices::{MergePlan, merge, plan};
 use qgm_core::{BoxId, Graph};
 use rule_api::{Place, Rule, RuleId, add_if};
@@ -50,15 +51,19 @@ impl Rule for MergeSelect {
         RuleId::M1
     }
 
-    #[tactic(auto, using(crate::specs::MergeSelect::merge_select_ascending), unfolding(crate::specs::MergeSelect::merge_select_pairs))]
+    #[tactic(auto, using(crate::specs::MergeSelect::merge_select_ascending, crate::proofs::Bases::none_found), unfolding(crate::specs::MergeSelect::merge_select_pairs))]
     fn places(&self, alloc: Global, graph: &Graph, b: BoxId) -> Result<Vec<Place>, OutOfMemory> {
         let mut out = Vec::new(alloc);
         let Some(node) = box_at(graph.nodes(), b) else {
             return Ok(out);
         };
+        if !may_have(node) {
+            return Ok(out);
+        }
+        let tables = tables_of(alloc, graph)?;
         let list = node.quants.as_slice();
         for k in 0..list.len() {
-            let passes = may_at(alloc, graph, node, k + 1, list[k])?;
+            let passes = may_at(alloc, &tables, node, k + 1, list[k])?;
             add_if(&mut out, passes, b, k + 1, 0)?;
         }
         Ok(out)

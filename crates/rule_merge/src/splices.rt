@@ -142,7 +142,8 @@ fn put_all(graph: &mut Graph, terms: Vec<NewTerms>)
     requires { (t : NewTerms) → In t terms.items → HasBox t.at graph.old }
     ensures { graph.new ≡ on_boxes (spec.put_all terms.items) graph.old }
 {
-    for t in terms {
+    let mut left = terms;
+    while let Some(t) = left.pop() {
         graph.put_terms(t.at, t.conds, t.head);
     }
 }
