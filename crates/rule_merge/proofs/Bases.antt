@@ -1,5 +1,5 @@
 -- In a base nothing is free, and M1 has places only at a select that isn't fed and has an F.
-use Rattle.std.proofs.Common.{ℕ, ◌+◌, ◌==◌, ◌&&◌, ◌≡◌, not, cond, Bool, true, false, List, [], ◌∷◌, ◌++◌, filter, Option, Some, None, refl, sym, ap, subst, ◌∙◌, eqb-true, inl, inr}
+use Rattle.std.proofs.Common.{ℕ, ◌+◌, ◌==◌, ◌&&◌, ◌≡◌, not, cond, Bool, true, false, List, [], ◌∷◌, ◌++◌, filter, Option, Some, None, refl, ap, subst, ◌∙◌, eqb-true, inl, inr}
 use Rattle.std.specs.List.{flat_map, list_any}
 use Rattle.std.proofs.Math.Bool.{and-false}
 use Rattle.std.proofs.lemmas.Bool.{and_from, and_parts, cases_Bool}
@@ -7,7 +7,7 @@ use Rattle.qgm_check.proofs.Below.{reached-reaches}
 use Rattle.qgm_check.proofs.Faults.{finds-none}
 use Rattle.qgm_check.specs.Sentences.{WellFormed}
 use Rattle.qgm_core.specs.Boxes.{QueryGraph, box_of, is_box, numbers, owns, quants_in, quants_of}
-use Rattle.qgm_core.specs.Free.{Reaches, free, free_among, is_owned, itself, named_by, named_where, put_each, reached, through}
+use Rattle.qgm_core.specs.Free.{Reaches, free, is_owned, itself, named_by, named_where, put_each, reached, through}
 use Rattle.qgm_core.specs.Kinds.{is_F, is_base, is_fed, is_select}
 use Rattle.qgm_core.specs.Lists.{EachOnce, In, holds}
 use Rattle.qgm_core.specs.declared.kinds.BoxKind.{BoxKind}
@@ -17,7 +17,7 @@ use Rattle.qgm_core.specs.declared.owned.OwnedQuant.{OwnedQuant}
 use Rattle.qgm_laws.specs.Graph.{BareBy, Sound}
 use Rattle.qgm_laws.proofs.Formed.{sound-checked}
 use Rattle.qgm_laws.proofs.Levels.{some-in}
-use Rattle.qgm_laws.proofs.Lists.{any-from, any-not, clash}
+use Rattle.qgm_laws.proofs.Lists.{any-from, clash}
 use Rattle.qgm_laws.proofs.Ranks.{same-box}
 use Rattle.qgm_terms.specs.Named.{names_in, names_in_cond}
 use Rattle.rule_api.specs.Picks.{picked, picks}

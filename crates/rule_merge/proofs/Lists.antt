@@ -4,7 +4,6 @@ use Rattle.std.specs.Prelude.{slice_get, slice_index_or}
 use Rattle.std.proofs.lemmas.List.{take-append-drop}
 use Rattle.qgm_core.specs.Lists.{In}
 use Rattle.qgm_core.specs.declared.node.Node.{Node}
-use Rattle.qgm_core.specs.declared.owned.OwnedQuant.{OwnedQuant}
 use Rattle.qgm_laws.proofs.Lists.{in-right}
 use Rattle.qgm_laws.proofs.OneBox.{at}
 
@@ -46,6 +45,3 @@ index-get (suc k) (x ∷ xs) d h = index-get k xs d (omega arith)
 
 pub at-id : (c : ℕ) (f : Node → Node) → ((y : Node) → (f y).id ≡ y.id) → (y : Node) → (at c f y).id ≡ y.id
 at-id c f h y = elim (y.id == c) as (λ t. (λ (z : Node). z.id) (cond t (f y) y) ≡ y.id) [ true ↦ h y | false ↦ refl ]
-
-abbrev pub holding : Node → List OwnedQuant → Node
-holding n rs = record n { quants = rs }

@@ -1,12 +1,10 @@
 -- The steps of M1's action make the graph of its law.
-use Rattle.std.proofs.Common.{ℕ, suc, ◌<◌, ◌-◌, ◌==◌, ◌&&◌, ◌||◌, ◌≡◌, ◌≤◌, not, cond, true, false, List, [], ◌∷◌, ◌++◌, drop, length, map, take, Some, filter, refl, sym, ap, subst, ◌∙◌, eqb-true, ◌⊎◌, inl, inr, arith}
-use Rattle.std.specs.Prelude.{slice_get}
-use Rattle.std.specs.List.{list_any}
+use Rattle.std.proofs.Common.{ℕ, suc, ◌<◌, ◌-◌, ◌==◌, ◌&&◌, ◌||◌, ◌≡◌, ◌≤◌, not, cond, true, false, List, [], ◌∷◌, ◌++◌, drop, length, map, take, filter, refl, sym, ap, subst, ◌∙◌, eqb-true, ◌⊎◌, inl, inr, arith}
 use Rattle.std.proofs.lemmas.Bool.{and_from, and_parts, cases_Bool, eq-eqb, not-true}
 use Rattle.qgm_check.proofs.Faults.{finds-none}
 use Rattle.qgm_check.specs.Sentences.{WellFormed}
-use Rattle.qgm_core.specs.Boxes.{HasBox, Ordered, QueryGraph, has_box, is_box, is_quant, numbers, overs_in, overs_of, quants_in, quants_of}
-use Rattle.qgm_core.specs.Edits.{absorb, absorbed, keep, on_boxes, put_cells, spliced_at, with_quants, with_terms}
+use Rattle.qgm_core.specs.Boxes.{HasBox, Ordered, QueryGraph, has_box, is_box, numbers, overs_in, overs_of, quants_in, quants_of}
+use Rattle.qgm_core.specs.Edits.{absorb, absorbed, keep, on_boxes, spliced_at, with_quants, with_terms}
 use Rattle.qgm_core.specs.Free.{Reaches, itself, reached, through}
 use Rattle.qgm_core.specs.Lists.{EachOnce, In, change, first, holds, times, without}
 use Rattle.qgm_core.specs.declared.node.Node.{Node}
@@ -17,7 +15,7 @@ use Rattle.qgm_laws.proofs.Compact.{reached_boxes}
 use Rattle.qgm_laws.proofs.Edits.{OnceEach, boxes_without, in-without, once-each, once-without, ordered-edit, split-once, without-in, without-one}
 use Rattle.qgm_laws.proofs.Formed.{sound-checked}
 use Rattle.qgm_laws.proofs.Levels.{some-in}
-use Rattle.qgm_laws.proofs.Lists.{any-from, clash, eq-false-sym, eq-itself, in-append, in-left, in-map, in-right, map-in, or-left}
+use Rattle.qgm_laws.proofs.Lists.{clash, eq-itself, in-append, in-left, in-map, in-right, map-in, or-left}
 use Rattle.qgm_laws.proofs.OneBox.{at, change-at, has-map}
 use Rattle.qgm_laws.proofs.Ranks as ranks
 use Rattle.qgm_laws.proofs.Ranks.{in-has, overs-held, place-under, same-box}
@@ -28,10 +26,10 @@ use Rattle.qgm_terms.specs.Substitution.{substituted, substituted_cond}
 use Rattle.qgm_terms.specs.Terms.{Cond, Term}
 use Rattle.rule_merge.specs.MergeSelect.{own-apart, spliced-at}
 use Rattle.rule_merge.specs.Merging.{merged_with, spliced}
-use Rattle.rule_merge.specs.Splices.{MayStep, Plans, Stands, conds_for, is_changed, merge_steps, new_terms, put_all, reads_any, terms_for}
+use Rattle.rule_merge.specs.Splices.{MayStep, Plans, Stands, is_changed, merge_steps, new_terms, put_all, reads_any, terms_for}
 use Rattle.rule_merge.specs.declared.splices.MergePlan.{MergePlan}
 use Rattle.rule_merge.specs.declared.splices.NewTerms.{NewTerms}
-use Rattle.rule_merge.proofs.Lists.{at-id, get-in, get-less, holding, in-filter, map-same, split-at}
+use Rattle.rule_merge.proofs.Lists.{at-id, get-in, get-less, in-filter, map-same, split-at}
 use Rattle.rule_merge.proofs.Put.{after, put-each}
 use Rattle.rule_merge.proofs.Reach.{kept-same}
 use Rattle.rule_merge.proofs.Unread.{cells-none}
@@ -219,11 +217,14 @@ module _ (g : QueryGraph) (u : EachOnce (numbers g.boxes)) (w : WellFormed g) (b
         let l : In x (us ++ (c.quants ++ vs)) = subst (λ z. In x z) want-b (subst (λ (z : Node). In x (want z).quants) e k) in
         subst (λ (z : Node). (has_box bs x.over ≡ true) × (ranks.place bs z.id < ranks.place bs x.over) × ((x.over == c.id) ≡ false)) (sym e) (under-b x l))
     | inr n ↦ (
-        let l : In x y.quants = subst (λ z. In x z) (want-other y n) k in
-        (overs-held bs y x sound.ordered j l, place-under bs y x sound.ordered j l, elim (cases_Bool (x.over == c.id)) [
-          | inr m ↦ m
-          | inl m ↦ absurd (clash (y.id == b.id) (eq-eqb y.id b.id (ap (λ (z : Node). z.id) (b-alone y x j l m))) n)
-        ]))
+        let l : In x y.quants = subst (λ z. In x z) (want-other y n) k in (
+          overs-held bs y x sound.ordered j l,
+          place-under bs y x sound.ordered j l,
+          elim (cases_Bool (x.over == c.id)) [
+            | inr m ↦ m
+            | inl m ↦ absurd (clash (y.id == b.id) (eq-eqb y.id b.id (ap (λ (z : Node). z.id) (b-alone y x j l m))) n)
+          ],
+        ))
   ])
     where
       under-b : (x : OwnedQuant) → In x (us ++ (c.quants ++ vs)) → (has_box bs x.over ≡ true) × (ranks.place bs b.id < ranks.place bs x.over) × ((x.over == c.id) ≡ false)
@@ -335,7 +336,7 @@ module _ (g : QueryGraph) (u : EachOnce (numbers g.boxes)) (w : WellFormed g) (b
       apart = ap (λ z. z == m.c) p.upper ∙ ap (λ z. b.id == z) p.lower ∙ apart;
       from_one = subst (λ z. 1 ≤ z) (sym p.at) s.from_one;
       within = (
-        let e : length (quants_of m.b g) ≡ length b.quants = ap (λ z. length (quants_of z g)) p.upper ∙ ap (λ z. length (quants_in z)) s.at in
-        let l = get-less i b.quants r s.nth in let f = s.from_one in let a = p.at in omega arith);
+          let e : length (quants_of m.b g) ≡ length b.quants = ap (λ z. length (quants_of z g)) p.upper ∙ ap (λ z. length (quants_in z)) s.at in
+          let l = get-less i b.quants r s.nth in let f = s.from_one in let a = p.at in omega arith);
       held = λ t j. subst (λ (z : QueryGraph). HasBox t.at z) (sym absorb-same) (held-then t (subst (λ z. In t z) p.changed j));
     }

@@ -13,6 +13,7 @@ use Rattle.qgm_laws.proofs.Moved.{any-moved}
 use Rattle.qgm_laws.proofs.Rules.{append-one}
 use Rattle.qgm_laws.proofs.Times.{in-times, times-append, times-map, times-some}
 use Rattle.rule_merge.specs.Turns.{turned, turned_one}
+use Rattle.rule_merge.proofs.Lists.{in-filter}
 
 each-append : {X Y : Type 0} (f : X → Y → Y) (xs ys : List X) (a : Y) → each f (xs ++ ys) a ≡ each f ys (each f xs a)
 each-append f [] ys a = refl
@@ -84,13 +85,6 @@ turn-below c n ns [] h = refl
 turn-below c n ns (q ∷ qs) h =
     ap (λ z. turned c qs (cond z (on_quant q (over c) n ∷ ns) (n ∷ turned_one c q ns))) (h q (inl refl)) ∙ turn-below c n (turned_one c q ns) qs (λ p i. h p (inr i))
 
-in-filter : {X : Type 0} (p : X → Bool) (x : X) (xs : List X) → In x (filter p xs) → In x xs
-in-filter p x [] i = i
-in-filter p x (y ∷ xs) i = elim (p y) as (λ t. In x (cond t (y ∷ filter p xs) (filter p xs)) → In x (y ∷ xs)) [
-  | true ↦ λ i. elim i [ inl e ↦ inl e | inr j ↦ inr (in-filter p x xs j) ]
-  | false ↦ λ i. inr (in-filter p x xs i)
-] i
-
 -- the quantifiers over a box are quantifiers
 pub over-owned : (b q : ℕ) (ns : List Node) → In q (quants_over b ns) → 1 ≤ times q (ids_in ns)
 over-owned b q [] i = elim i [ ]
@@ -99,7 +93,7 @@ over-owned b q (n ∷ ns) i =
     elim (in-append q (ids_over b n.quants) (quants_over b ns) i) [
       | inl j ↦ (
           let m = in-map (λ (x : OwnedQuant). x.id) q (filter (λ (x : OwnedQuant). x.over == b) n.quants) j in
-          let k : 1 ≤ times q (ids_of n) = subst (λ z. 1 ≤ times z (ids_of n)) m.1.1 (in-times (λ (x : OwnedQuant). x.id) m.0 n.quants (in-filter (λ (x : OwnedQuant). x.over == b) m.0 n.quants m.1.0)) in
+          let k : 1 ≤ times q (ids_of n) = subst (λ z. 1 ≤ times z (ids_of n)) m.1.1 (in-times (λ (x : OwnedQuant). x.id) m.0 n.quants (in-filter (λ (x : OwnedQuant). x.over == b) m.0 n.quants m.1.0).0) in
           omega arith)
       | inr j ↦ (let k = over-owned b q ns j in omega arith)
     ]

@@ -56,6 +56,12 @@ fn are_f(ranges: &[OwnedQuant]) -> bool
     ranges.iter().all(|r| is_f(r.kind))
 }
 
+fn any_f(ranges: &[OwnedQuant]) -> bool
+    ensures { result ≡ list_any (λ r. kinds.is_F r.kind) ranges.now }
+{
+    ranges.iter().any(|r| is_f(r.kind))
+}
+
 // Whether c, under b, is of a kind and role that may be merged.
 fn parts_fit(b: &Node, c: &Node) -> bool
     ensures { result ≡ spec.parts_fit b.now c.now }
@@ -336,7 +342,5 @@ pub fn may_at(
 pub fn may_have(b: &Node) -> bool
     ensures { result ≡ spec.may_have b.now }
 {
-    is_select(&b.parts.kind)
-        && !is_fed(b.parts.role)
-        && b.quants.as_slice().iter().any(|r| is_f(r.kind))
+    is_select(&b.parts.kind) && !is_fed(b.parts.role) && any_f(b.quants.as_slice())
 }

@@ -1,4 +1,4 @@
-use Rattle.std.proofs.Common.{◌≡◌, ◌++◌, ◌∷◌, [], ◌∙◌, List, refl, sym, ap, subst, inl}
+use Rattle.std.proofs.Common.{◌∷◌, [], ◌∙◌, List, refl, sym, ap, subst, inl}
 use Rattle.qgm_core.specs.Edits.{on_boxes}
 use Rattle.qgm_core.specs.Lists.{In}
 use Rattle.qgm_core.specs.declared.node.Node.{Node}
