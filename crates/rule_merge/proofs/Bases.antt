@@ -1,15 +1,16 @@
 -- In a base nothing is free, and M1 has places only at a select that isn't fed and has an F.
-use Rattle.std.proofs.Common.{ℕ, ◌+◌, ◌==◌, ◌&&◌, ◌≡◌, not, cond, Bool, true, false, List, [], ◌∷◌, ◌++◌, filter, Option, Some, None, refl, ap, subst, ◌∙◌, eqb-true, inl, inr}
+use Rattle.std.proofs.Common.{ℕ, ◌+◌, ◌==◌, ◌&&◌, ◌||◌, ◌≡◌, not, cond, Bool, true, false, List, [], ◌∷◌, ◌++◌, filter, Option, Some, None, refl, sym, ap, subst, ◌∙◌, eqb-true, inl, inr}
 use Rattle.std.specs.List.{flat_map, list_any}
 use Rattle.std.proofs.Math.Bool.{and-false}
-use Rattle.std.proofs.lemmas.Bool.{and_from, and_parts, cases_Bool}
+use Rattle.std.proofs.lemmas.Bool.{and_from, and_parts, cases_Bool, eq-eqb}
 use Rattle.qgm_check.proofs.Below.{reached-reaches}
 use Rattle.qgm_check.proofs.Faults.{finds-none}
 use Rattle.qgm_check.specs.Sentences.{WellFormed}
-use Rattle.qgm_core.specs.Boxes.{QueryGraph, box_of, is_box, numbers, owns, quants_in, quants_of}
+use Rattle.qgm_check.specs.Shapes.{all_F}
+use Rattle.qgm_core.specs.Boxes.{QueryGraph, box_of, is_box, numbers, overs_in, owns, quants_in, quants_of}
 use Rattle.qgm_core.specs.Free.{Reaches, free, is_owned, itself, named_by, named_where, put_each, reached, through}
-use Rattle.qgm_core.specs.Kinds.{is_F, is_base, is_fed, is_select}
-use Rattle.qgm_core.specs.Lists.{EachOnce, In, holds}
+use Rattle.qgm_core.specs.Kinds.{is_F, is_base, is_fed, is_magic, is_plain, is_select}
+use Rattle.qgm_core.specs.Lists.{EachOnce, In, holds, times}
 use Rattle.qgm_core.specs.declared.kinds.BoxKind.{BoxKind}
 use Rattle.qgm_core.specs.declared.kinds.BoxKind.TheVariants.{Base, Group, OuterJoin, Select, SetOp}
 use Rattle.qgm_core.specs.declared.node.Node.{Node}
@@ -21,7 +22,8 @@ use Rattle.qgm_laws.proofs.Lists.{any-from, clash}
 use Rattle.qgm_laws.proofs.Ranks.{same-box}
 use Rattle.qgm_terms.specs.Named.{names_in, names_in_cond}
 use Rattle.rule_api.specs.Picks.{picked, picks}
-use Rattle.rule_merge.specs.Merging.{base_found, is_lateral, may_at, may_have, may_in, may_merge, may_over, over_base}
+use Rattle.rule_merge.specs.Copies.{ranges_over}
+use Rattle.rule_merge.specs.Merging.{any_fed_closed, any_under, base_found, cells_free, cells_stand, distinct_fits, has_lateral, is_lateral, lies_under, may_at, may_have, may_in, may_merge, may_over, may_stand, merged_with, over_base, parts_fit}
 
 -- a base names nothing and owns no quantifier
 bare-of : (k : BoxKind) (n : Node) → is_base k ≡ true → BareBy k n → (n.quants ≡ []) × (named_by n ≡ [])
@@ -90,3 +92,31 @@ none_there g b h = none-picked (may_at g b) 1 b.quants (not-at g b h)
 
 pub none_found : (g : QueryGraph) (b : ℕ) (n : Node) → box_of b g ≡ Some n → may_have n ≡ false → picks (may_merge g b) 1 (quants_of b g) ≡ []
 none_found g b n e h = ap (λ z. picks (may_in g z) 1 (quants_in z)) e ∙ none_there g n h
+
+-- a plain select
+abbrev lies : Node → Bool
+lies c = is_select c.parts.kind && is_plain c.parts.role
+
+over-then : (g : QueryGraph) (b : Node) (r : OwnedQuant) (found : Option Node) → may_over g b r found ≡ true → (c : Node) × ((found ≡ Some c) × (lies c ≡ true))
+over-then g b r None h = absurd (let z : ⊥ = cc in z)
+over-then g b r (Some c) h =
+    let a1 = and_parts (may_stand g b r c && distinct_fits g b c) (not (any_fed_closed (merged_with g b c r.id))) h in
+    let a2 = and_parts (may_stand g b r c) (distinct_fits g b c) a1.0 in
+    let a3 = and_parts (cells_stand g b r c) (not (has_lateral g c)) a2.0 in
+    let a4 = and_parts (parts_fit b c && (times c.id (overs_in g.boxes) == 1)) (cells_free b.id r.id g.boxes 1 c.parts.head) a3.0 in
+    let a5 = and_parts (parts_fit b c) (times c.id (overs_in g.boxes) == 1) a4.0 in
+    let a6 = and_parts (lies c) (not (is_magic b.parts.role) || all_F c.quants) a5.0 in
+    (c, (refl, a6.0))
+
+not-under : (g : QueryGraph) (b : Node) → any_under b.quants g.boxes ≡ false → (r : OwnedQuant) → In r b.quants → may_at g b r ≡ false
+not-under g b h r i = elim (cases_Bool (may_at g b r)) [
+  | inr f ↦ f
+  | inl t ↦ (
+      let x = over-then g b r (box_of r.over g) (and_parts (is_select b.parts.kind && not (is_fed b.parts.role) && is_F r.kind) (may_over g b r (box_of r.over g)) t).1 in
+      let c = some-in (is_box r.over) g.boxes x.0 x.1.0 in
+      let over : ranges_over x.0.id b.quants ≡ true = any-from (λ (s : OwnedQuant). s.over == x.0.id) r b.quants i (eq-eqb r.over x.0.id (sym (eqb-true x.0.id r.over c.1))) in
+      absurd (clash (any_under b.quants g.boxes) (any-from (lies_under b.quants) x.0 g.boxes c.0 (and_from (lies x.0) (ranges_over x.0.id b.quants) x.1.1 over)) h))
+]
+
+pub none_under : (g : QueryGraph) (b : ℕ) (n : Node) → box_of b g ≡ Some n → any_under n.quants g.boxes ≡ false → picks (may_merge g b) 1 (quants_of b g) ≡ []
+none_under g b n e h = ap (λ z. picks (may_in g z) 1 (quants_in z)) e ∙ none-picked (may_at g n) 1 n.quants (not-under g n h)

@@ -16,6 +16,7 @@ use Rattle.qgm_laws.specs.Merge.{merge}
 use Rattle.qgm_props.proofs.Settled.{all-told}
 use Rattle.qgm_terms.specs.Terms.{Term}
 use Rattle.qgm_terms.specs.Wanted.{node_free}
+use Rattle.rule_merge.specs.Copies.{ranges_over}
 
 -- ---- the graph after M1
 
@@ -112,6 +113,14 @@ may_at g b r = is_select b.parts.kind && not (is_fed b.parts.role) && is_F r.kin
 -- such a box has an F
 abbrev pub may_have : Node → Bool
 may_have b = is_select b.parts.kind && not (is_fed b.parts.role) && list_any (λ r. is_F r.kind) b.quants
+
+-- n is a plain select, and one of these ranges over it
+abbrev pub lies_under : List OwnedQuant → Node → Bool
+lies_under rs n = is_select n.parts.kind && is_plain n.parts.role && ranges_over n.id rs
+
+-- a box is
+abbrev pub any_under : List OwnedQuant → List Node → Bool
+any_under rs boxes = list_any (lies_under rs) boxes
 
 abbrev pub may_in : QueryGraph → Option Node → OwnedQuant → Bool
 may_in g None r = false

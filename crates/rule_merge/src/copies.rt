@@ -168,7 +168,7 @@ fn copies_by(
     }
 }
 
-fn ranges_over(ranges: &[OwnedQuant], b: BoxId) -> bool
+pub fn ranges_over(ranges: &[OwnedQuant], b: BoxId) -> bool
     ensures { result ≡ spec.ranges_over b ranges.now }
 {
     ranges.iter().any(|r| r.over == b)

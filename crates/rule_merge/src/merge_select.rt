@@ -6,7 +6,7 @@ ghost use Rattle.rule_merge.specs.MergeSelect.{MayMergeSelect, MergesSelect, Pas
 
 use crate::copies::box_at;
 use crate::known::tables_of;
-use crate::merging::{may_at, may_have};
+use crate::merging::{may_at, may_fit, may_have};
 use crate::splices::{MergePlan, merge, plan};
 use qgm_core::{BoxId, Graph};
 use rule_api::{Place, Rule, RuleId, add_if};
@@ -51,17 +51,17 @@ impl Rule for MergeSelect {
         RuleId::M1
     }
 
-    #[tactic(auto, using(crate::specs::MergeSelect::merge_select_ascending, crate::proofs::Bases::none_found), unfolding(crate::specs::MergeSelect::merge_select_pairs))]
+    #[tactic(auto, using(crate::specs::MergeSelect::merge_select_ascending, crate::proofs::Bases::none_found, crate::proofs::Bases::none_under), unfolding(crate::specs::MergeSelect::merge_select_pairs))]
     fn places(&self, alloc: Global, graph: &Graph, b: BoxId) -> Result<Vec<Place>, OutOfMemory> {
         let mut out = Vec::new(alloc);
         let Some(node) = box_at(graph.nodes(), b) else {
             return Ok(out);
         };
-        if !may_have(node) {
+        let list = node.quants.as_slice();
+        if !may_have(node) || !may_fit(graph.nodes(), list) {
             return Ok(out);
         }
         let tables = tables_of(alloc, graph)?;
-        let list = node.quants.as_slice();
         for k in 0..list.len() {
             let passes = may_at(alloc, &tables, node, k + 1, list[k])?;
             add_if(&mut out, passes, b, k + 1, 0)?;

@@ -1,7 +1,7 @@
 // Whether a select may be merged into the select above it.
 ghost use Rattle.std.specs.Prelude.{◌≡◌, ◌≤◌, ◌-◌, IfOk, Some, slice_get};
 ghost use Rattle.std.specs.List.{list_any};
-ghost use Rattle.std.specs.Prelude.{◌&&◌, ◌==◌, not, true};
+ghost use Rattle.std.specs.Prelude.{◌&&◌, ◌==◌, not, false, true};
 ghost use Rattle.qgm_check.specs.Sentences.{WellFormed};
 ghost use Rattle.qgm_check.specs.Shapes.{all_F};
 ghost use Rattle.qgm_core.specs.Boxes.{HasBox, box_of, owns};
@@ -12,7 +12,7 @@ ghost use Rattle.qgm_laws.specs.Graph.{reads_in};
 ghost use Rattle.rule_merge.specs.Known.{Tabled};
 ghost use Rattle.rule_merge.specs.Merging as spec;
 
-use crate::copies::{is_base, is_f, is_fed, is_plain, is_preserve, is_select};
+use crate::copies::{is_base, is_f, is_fed, is_plain, is_preserve, is_select, ranges_over};
 use crate::known::Tables;
 use crate::splices::merged;
 use qgm_core::{
@@ -22,6 +22,9 @@ use qgm_props::props;
 use qgm_terms::{Sought, is_node_free, stands_in_cells, stands_in_conds};
 use shared_types::OutOfMemory;
 use std::alloc::Global;
+
+// More quantifiers than these are looked up in tables at once.
+const FEW: usize = 8;
 
 fn is_enforce(distinct: Distinct) -> bool
     ensures { result ≡ kinds.is_enforce distinct }
@@ -343,4 +346,25 @@ pub fn may_have(b: &Node) -> bool
     ensures { result ≡ spec.may_have b.now }
 {
     is_select(&b.parts.kind) && !is_fed(b.parts.role) && any_f(b.quants.as_slice())
+}
+
+// Whether a box is a plain select over which one of these ranges.
+fn lies_under(node: &Node, ranges: &[OwnedQuant]) -> bool
+    ensures { result ≡ spec.lies_under ranges.now node.now }
+{
+    is_select(&node.parts.kind) && is_plain(node.parts.role) && ranges_over(ranges, node.id)
+}
+
+fn any_under(nodes: &[Node], ranges: &[OwnedQuant]) -> bool
+    ensures { result ≡ spec.any_under ranges.now nodes.now }
+{
+    nodes.iter().any(|n| lies_under(n, ranges))
+}
+
+/// Whether one of these may range over a plain select. Where they are few, that is seen without
+/// tables.
+pub fn may_fit(nodes: &[Node], ranges: &[OwnedQuant]) -> bool
+    ensures { result ≡ false → spec.any_under ranges.now nodes.now ≡ false }
+{
+    ranges.len() > FEW || any_under(nodes, ranges)
 }
