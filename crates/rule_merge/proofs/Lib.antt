@@ -4,11 +4,14 @@ pub mod Unreached
 pub mod Preserved
 pub mod Dropped
 pub mod NodeFree
-pub mod Spread
+pub mod Lists
+pub mod Put
+pub mod Reach
 pub mod Merged
 pub mod Clean
 pub mod MergedKeeps
 pub mod Placed
 pub mod Unfed
 pub mod Alone
+pub mod Bases
 pub mod Unread

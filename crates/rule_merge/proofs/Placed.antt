@@ -1,6 +1,7 @@
 -- What the code of M1 needs and makes at a place.
-use Rattle.std.proofs.Common.{ℕ, zero, suc, ◌+◌, ◌-◌, ◌&&◌, ◌||◌, ◌≡◌, not, true, List, [], ◌∷◌, ◌++◌, drop, length, Some, refl, sym, ap, subst, ◌∙◌, eqb-true, arith}
+use Rattle.std.proofs.Common.{ℕ, zero, suc, ◌<◌, ◌+◌, ◌-◌, ◌&&◌, ◌||◌, ◌≡◌, not, true, List, [], ◌∷◌, ◌++◌, drop, length, Some, refl, sym, ap, subst, ◌∙◌, eqb-true, arith}
 use Rattle.std.specs.Prelude.{slice_get, slice_index_or}
+use Rattle.std.proofs.lemmas.List.{length-append}
 use Rattle.qgm_check.specs.Sentences.{WellFormed}
 use Rattle.qgm_core.specs.Boxes.{HasBox, QueryGraph, box_of, is_box, numbers}
 use Rattle.qgm_core.specs.Lists.{EachOnce, In}
@@ -13,9 +14,12 @@ use Rattle.qgm_terms.specs.Terms.{Term}
 use Rattle.qgm_terms.specs.Wanted.{node_free}
 use Rattle.rule_api.specs.Rules.{Preserves}
 use Rattle.rule_api.specs.declared.place.Place.{Place}
-use Rattle.rule_merge.specs.MergeSelect.{IsMergeable, MergesBox, MergesSelect, PassesMerge, mergeable-from, merged-same}
+use Rattle.rule_merge.specs.MergeSelect.{IsMergeable, MergesBox, MergesSelect, PassesMerge, PlansAt, mergeable-from, merged-same}
 use Rattle.rule_merge.specs.Merging.{cells_free, may_at, merged_with, read_elsewhere}
-use Rattle.rule_merge.specs.Splices.{Stands}
+use Rattle.rule_merge.specs.Splices.{MayStep, Stands, merge_steps}
+use Rattle.rule_merge.specs.declared.splices.MergePlan.{MergePlan}
+use Rattle.rule_merge.proofs.Lists.{index-get}
+use Rattle.rule_merge.proofs.Merged.{may-step, steps-made}
 use Rattle.rule_merge.proofs.MergedKeeps.{merge-preserves}
 
 -- the first cell that is left is free or not read, and the rest are
@@ -40,64 +44,73 @@ get-mid : {X : Type 0} (us : List X) (x : X) (vs : List X) → slice_get (us ++ 
 get-mid [] x vs = refl
 get-mid (u ∷ us) x vs = get-mid us x vs
 
-index-of : {X : Type 0} (k : ℕ) (xs : List X) (x d : X) → slice_get xs k ≡ Some x → slice_index_or xs k d ≡ x
-index-of k [] x d e = absurd (let z : ⊥ = cc in z)
-index-of zero (y ∷ xs) x d e = cc
-index-of (suc k) (y ∷ xs) x d e = index-of k xs x d e
-
 some-same : {X : Type 0} (x y : X) → Some x ≡ Some y → x ≡ y
 some-same x y e = cc
 
-module _ (g : QueryGraph) (w : WellFormed g) (p : Place) (d : PassesMerge g p.at p.i) (b : Node) (found : box_of p.at g ≡ Some b) (list : List OwnedQuant) (own : list ≡ b.quants) (z : OwnedQuant) (c : Node) (under : box_of (slice_index_or list (p.i - 1) z).over g ≡ Some c) where
-  abbrev r : OwnedQuant
-  r = slice_index_or list (p.i - 1) z
+module _ (g : QueryGraph) (u : EachOnce (numbers g.boxes)) (w : WellFormed g) (p : Place) (d : PassesMerge g p.at p.i) (m : MergePlan) (x : PlansAt g p m) where
+  same-b : d.n ≡ x.b
+  same-b = some-same d.n x.b (sym d.at ∙ x.found)
 
-  same-b : d.n ≡ b
-  same-b = some-same d.n b (sym d.at ∙ found)
+  in-b : In x.b g.boxes
+  in-b = (some-in (is_box p.at) g.boxes x.b x.found).0
 
-  in-b : In b g.boxes
-  in-b = (some-in (is_box p.at) g.boxes b found).0
+  split-then : x.b.quants ≡ d.us ++ d.r ∷ d.vs
+  split-then = subst (λ (y : Node). y.quants ≡ d.us ++ d.r ∷ d.vs) same-b d.split
 
-  split-then : b.quants ≡ d.us ++ d.r ∷ d.vs
-  split-then = subst (λ (x : Node). x.quants ≡ d.us ++ d.r ∷ d.vs) same-b d.split
-
-  get-then : slice_get b.quants (p.i - 1) ≡ Some d.r
+  get-then : slice_get x.b.quants (p.i - 1) ≡ Some d.r
   get-then =
       let n : p.i - 1 ≡ length d.us = (let e = d.nth in omega arith) in
-      ap (λ x. slice_get x (p.i - 1)) split-then ∙ ap (slice_get (d.us ++ d.r ∷ d.vs)) n ∙ get-mid d.us d.r d.vs
+      ap (λ y. slice_get y (p.i - 1)) split-then ∙ ap (slice_get (d.us ++ d.r ∷ d.vs)) n ∙ get-mid d.us d.r d.vs
 
-  same-r : r ≡ d.r
-  same-r = index-of (p.i - 1) list d.r z (ap (λ x. slice_get x (p.i - 1)) own ∙ get-then)
+  same-r : x.r ≡ d.r
+  same-r = some-same x.r d.r (sym x.nth ∙ get-then)
 
-  under-then : box_of d.r.over g ≡ Some c
-  under-then = subst (λ (x : OwnedQuant). box_of x.over g ≡ Some c) same-r under
+  under-then : box_of d.r.over g ≡ Some x.c
+  under-then = subst (λ (y : OwnedQuant). box_of y.over g ≡ Some x.c) same-r x.under
 
-  is : IsMergeable g b c d.us d.r d.vs
+  is : IsMergeable g x.b x.c d.us d.r d.vs
   is =
-      let m = mergeable-from g w b d.us d.r d.vs in-b split-then (subst (λ x. may_at g x d.r ≡ true) same-b d.passes) in
-      let s : m.0 ≡ c = some-same m.0 c (sym m.1.under ∙ under-then) in
-      subst (λ x. IsMergeable g b x d.us d.r d.vs) s m.1
+      let n = mergeable-from g w x.b d.us d.r d.vs in-b split-then (subst (λ y. may_at g y d.r ≡ true) same-b d.passes) in
+      let s : n.0 ≡ x.c = some-same n.0 x.c (sym n.1.under ∙ under-then) in
+      subst (λ y. IsMergeable g x.b y d.us d.r d.vs) s n.1
 
-  pub stands-then : Stands g b p.i r c
+  stands-then : Stands g x.b p.i x.r x.c
   stands-then = record {
-    at = found-itself g p.at b found;
+    at = found-itself g p.at x.b x.found;
     select_b = is.select_b;
     from_one = (let e = d.nth in omega arith);
-    nth = get-then ∙ ap Some (sym same-r);
-    under = under;
+    nth = x.nth;
+    under = x.under;
     one_use = is.one_use;
   }
 
-  module _ (h : QueryGraph) (made : h ≡ merged_with g b c r.id) where
-    after-then : h ≡ merged_in b c d.us d.r d.vs g
-    after-then = made ∙ ap (λ (x : OwnedQuant). merged_with g b c x.id) same-r ∙ merged-same g w b c d.us d.r d.vs in-b split-then
+  pub may-step-then : MayStep g m
+  may-step-then = may-step g u w x.b p.i x.r x.c stands-then m x.plans
 
-    merges-then : MergesBox p g h b c d.us d.r d.vs
-    merges-then = record { at = found; split = split-then; nth = d.nth; under = under-then; after = after-then }
+  module _ (h : QueryGraph) (made : h ≡ merge_steps m g) where
+    after-then : h ≡ merged_in x.b x.c d.us d.r d.vs g
+    after-then = made ∙ steps-made g u w x.b p.i x.r x.c stands-then m x.plans ∙ ap (λ (y : OwnedQuant). merged_with g x.b x.c y.id) same-r ∙ merged-same g w x.b x.c d.us d.r d.vs in-b split-then
+
+    merges-then : MergesBox p g h x.b x.c d.us d.r d.vs
+    merges-then = record { at = x.found; split = split-then; nth = d.nth; under = under-then; after = after-then }
 
     pub acts-then : MergesSelect p g h
     unfolding MergesSelect
-    acts-then = (b, (c, (d.us, (d.r, (d.vs, merges-then)))))
+    acts-then = (x.b, (x.c, (d.us, (d.r, (d.vs, merges-then)))))
 
-    pub preserves-then : EachOnce (numbers g.boxes) → Preserves g h
-    preserves-then u = subst (λ x. Preserves g x) (sym after-then) (merge-preserves g u w b c d.us d.r d.vs in-b is)
+    pub preserves-then : Preserves g h
+    preserves-then = subst (λ y. Preserves g y) (sym after-then) (merge-preserves g u w x.b x.c d.us d.r d.vs in-b is)
+
+-- what the code has at a place is what the place says
+module _ (g : QueryGraph) (p : Place) (d : PassesMerge g p.at p.i) (b : Node) (found : box_of p.at g ≡ Some b) where
+  pub room-then : p.i - 1 < length b.quants
+  room-then =
+      let e : length b.quants ≡ length (d.us ++ d.r ∷ d.vs) = ap length (sym (ap (λ (y : Node). y.quants) (some-same d.n b (sym d.at ∙ found))) ∙ d.split) in
+      let l = length-append d.us (d.r ∷ d.vs) in
+      let n = d.nth in
+      omega arith
+
+  pub get-at : (list : List OwnedQuant) → list ≡ b.quants → (z : OwnedQuant) → slice_get b.quants (p.i - 1) ≡ Some (slice_index_or list (p.i - 1) z)
+  get-at list own z =
+      subst (λ y. slice_get y (p.i - 1) ≡ Some (slice_index_or list (p.i - 1) z)) own
+      (index-get (p.i - 1) list z (let h = room-then in let e : length list ≡ length b.quants = ap length own in omega arith))

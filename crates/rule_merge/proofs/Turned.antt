@@ -2,8 +2,8 @@
 use Rattle.std.proofs.Common.{ℕ, zero, suc, ◌<◌, length, slice_index_or, ◌+◌, ◌==◌, ◌≡◌, ◌≤◌, ◌||◌, cond, filter, Bool, true, false, List, [], ◌∷◌, ◌++◌, map, refl, sym, ap, subst, ◌∙◌, eqb-true, inl, inr, arith}
 use Rattle.std.specs.List.{list_any}
 use Rattle.std.proofs.lemmas.Bool.{cases_Bool, eq-eqb}
-use Rattle.qgm_core.specs.Boxes.{ids_in, ids_of, is_quant, owns}
-use Rattle.qgm_core.specs.Edits.{ids_over, on_quant, quants_over}
+use Rattle.qgm_core.specs.Boxes.{HasBox, QueryGraph, has_box, ids_in, ids_of, is_quant, owns}
+use Rattle.qgm_core.specs.Edits.{ids_over, on_boxes, on_quant, quants_over}
 use Rattle.qgm_core.specs.Lists.{In, change, each, times}
 use Rattle.qgm_core.specs.declared.node.Node.{Node}
 use Rattle.qgm_core.specs.declared.owned.OwnedQuant.{OwnedQuant}
@@ -13,6 +13,7 @@ use Rattle.qgm_laws.proofs.Moved.{any-moved}
 use Rattle.qgm_laws.proofs.Rules.{append-one}
 use Rattle.qgm_laws.proofs.Times.{in-times, times-append, times-map, times-some}
 use Rattle.rule_merge.specs.Turns.{turned, turned_one}
+use Rattle.rule_merge.proofs.Lists.{in-filter}
 
 each-append : {X Y : Type 0} (f : X → Y → Y) (xs ys : List X) (a : Y) → each f (xs ++ ys) a ≡ each f ys (each f xs a)
 each-append f [] ys a = refl
@@ -84,13 +85,6 @@ turn-below c n ns [] h = refl
 turn-below c n ns (q ∷ qs) h =
     ap (λ z. turned c qs (cond z (on_quant q (over c) n ∷ ns) (n ∷ turned_one c q ns))) (h q (inl refl)) ∙ turn-below c n (turned_one c q ns) qs (λ p i. h p (inr i))
 
-in-filter : {X : Type 0} (p : X → Bool) (x : X) (xs : List X) → In x (filter p xs) → In x xs
-in-filter p x [] i = i
-in-filter p x (y ∷ xs) i = elim (p y) as (λ t. In x (cond t (y ∷ filter p xs) (filter p xs)) → In x (y ∷ xs)) [
-  | true ↦ λ i. elim i [ inl e ↦ inl e | inr j ↦ inr (in-filter p x xs j) ]
-  | false ↦ λ i. inr (in-filter p x xs i)
-] i
-
 -- the quantifiers over a box are quantifiers
 pub over-owned : (b q : ℕ) (ns : List Node) → In q (quants_over b ns) → 1 ≤ times q (ids_in ns)
 over-owned b q [] i = elim i [ ]
@@ -99,7 +93,7 @@ over-owned b q (n ∷ ns) i =
     elim (in-append q (ids_over b n.quants) (quants_over b ns) i) [
       | inl j ↦ (
           let m = in-map (λ (x : OwnedQuant). x.id) q (filter (λ (x : OwnedQuant). x.over == b) n.quants) j in
-          let k : 1 ≤ times q (ids_of n) = subst (λ z. 1 ≤ times z (ids_of n)) m.1.1 (in-times (λ (x : OwnedQuant). x.id) m.0 n.quants (in-filter (λ (x : OwnedQuant). x.over == b) m.0 n.quants m.1.0)) in
+          let k : 1 ≤ times q (ids_of n) = subst (λ z. 1 ≤ times z (ids_of n)) m.1.1 (in-times (λ (x : OwnedQuant). x.id) m.0 n.quants (in-filter (λ (x : OwnedQuant). x.over == b) m.0 n.quants m.1.0).0) in
           omega arith)
       | inr j ↦ (let k = over-owned b q ns j in omega arith)
     ]
@@ -135,3 +129,18 @@ turned-all b c (n ∷ ns) h =
     ∙ ap (turned c (quants_over b ns)) (turn-own b c n ns [] n.quants own)
     ∙ turn-below c (moved b c n) ns (quants_over b ns) other
     ∙ ap (λ z. moved b c n ∷ z) (turned-all b c ns rest)
+
+-- the boxes keep their numbers
+has-changed : (p : Node → Bool) (f : Node → Node) → ((n : Node) → (f n).id ≡ n.id) → (ns : List Node) (b : ℕ) → has_box (change p f ns) b ≡ has_box ns b
+has-changed p f same [] b = refl
+has-changed p f same (n ∷ ns) b = elim (p n) as (λ t. has_box (cond t (f n ∷ ns) (n ∷ change p f ns)) b ≡ has_box (n ∷ ns) b) [
+  | true ↦ ap (λ z. (z == b) || has_box ns b) (same n)
+  | false ↦ ap (λ z. (n.id == b) || z) (has-changed p f same ns b)
+]
+
+turned-has : (c : ℕ) (qs : List ℕ) (ns : List Node) (b : ℕ) → has_box (turned c qs ns) b ≡ has_box ns b
+turned-has c [] ns b = refl
+turned-has c (q ∷ qs) ns b = turned-has c qs (turned_one c q ns) b ∙ has-changed (owns q) (on_quant q (over c)) (λ n. refl) ns b
+
+pub turned_held : (g h : QueryGraph) (c : ℕ) (qs : List ℕ) (b : ℕ) → h ≡ on_boxes (turned c qs) g → HasBox b g → HasBox b h
+turned_held g h c qs b e k = subst (λ (z : QueryGraph). HasBox b z) (sym e) (turned-has c qs g.boxes b ∙ k)

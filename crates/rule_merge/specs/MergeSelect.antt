@@ -1,6 +1,6 @@
 -- M1, a select is merged into the select above it: its condition, its places and its action.
 use Rattle.std.proofs.Common.{ℕ, suc, zero, ◌==◌, ◌&&◌, ◌||◌, ◌≡◌, ◌+◌, ◌≤◌, ◌++◌, not, cond, Bool, true, false, List, [], ◌∷◌, length, map, Option, Some, None, refl, sym, ap, subst, ◌∙◌, eqb-true, inl, inr, arith}
-use Rattle.std.specs.Prelude.{◌↔◌}
+use Rattle.std.specs.Prelude.{◌↔◌, ◌-◌, slice_get}
 use Rattle.std.specs.List.{list_any}
 use Rattle.std.proofs.lemmas.Bool.{and_from, and_parts, cases_Bool, eq-eqb, not-true, or_cases}
 use Rattle.qgm_check.specs.Sentences.{WellFormed}
@@ -39,6 +39,8 @@ use Rattle.rule_api.specs.Rules.{Ascending, Pair}
 use Rattle.rule_api.specs.declared.place.Place.{Place}
 use Rattle.rule_merge.specs.DropCopy.{f-is, plain-is, preserve-is, select-is}
 use Rattle.rule_merge.specs.Merging.{any_fed_closed, are_clean, cells_free, cells_stand, distinct_fits, fed_closed, has_lateral, infers_clean, is_lateral, may_at, may_in, may_merge, may_over, may_stand, may_with, merged_with, parts_fit, read_elsewhere, second_closed, spliced}
+use Rattle.rule_merge.specs.Splices.{Plans}
+use Rattle.rule_merge.specs.declared.splices.MergePlan.{MergePlan}
 
 -- c is PRESERVE, or its DISTINCT may go: b is ENFORCE, or b is PERMIT and two facts are inferred, that b is clean, and that c is clean in the graph in which c is PRESERVE
 pub data DistinctFits (g : QueryGraph) (b c : Node) : Type 0 where
@@ -384,3 +386,13 @@ merge_select_given g b i j h =
       nth = (let e = x.1.1.1.1 in omega arith);
       passes = m.1.1;
     }
+
+-- r, quantifier i of the box of the place, ranges over c, and what is planned is the merge of c under r
+pub record PlansAt (g : QueryGraph) (p : Place) (m : MergePlan) : Type 0 where
+  pub b : Node
+  pub r : OwnedQuant
+  pub c : Node
+  pub found : box_of p.at g ≡ Some b
+  pub nth : slice_get b.quants (p.i - 1) ≡ Some r
+  pub under : box_of r.over g ≡ Some c
+  pub plans : Plans g b p.i r c m

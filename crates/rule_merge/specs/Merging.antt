@@ -6,7 +6,7 @@ use Rattle.qgm_check.specs.WellFormed.{is_empty}
 use Rattle.qgm_core.specs.Boxes.{QueryGraph, box_of, overs_in, owns}
 use Rattle.qgm_core.specs.Edits.{compact, on_boxes, set_distinct}
 use Rattle.qgm_core.specs.Free.{free, free_in}
-use Rattle.qgm_core.specs.Kinds.{is_F, is_enforce, is_fed, is_magic, is_permit, is_plain, is_preserve, is_select}
+use Rattle.qgm_core.specs.Kinds.{is_F, is_base, is_enforce, is_fed, is_magic, is_permit, is_plain, is_preserve, is_select}
 use Rattle.qgm_core.specs.Lists.{times}
 use Rattle.qgm_core.specs.declared.kinds.Distinct.TheVariants.{Preserve}
 use Rattle.qgm_core.specs.declared.node.Node.{Node}
@@ -16,6 +16,7 @@ use Rattle.qgm_laws.specs.Merge.{merge}
 use Rattle.qgm_props.proofs.Settled.{all-told}
 use Rattle.qgm_terms.specs.Terms.{Term}
 use Rattle.qgm_terms.specs.Wanted.{node_free}
+use Rattle.rule_merge.specs.Copies.{ranges_over}
 
 -- ---- the graph after M1
 
@@ -49,6 +50,15 @@ distinct_fits g b c = (is_preserve c.parts.distinct || is_enforce b.parts.distin
 -- another quantifier of c is named in the box under s, an F of c, or below it
 abbrev pub is_lateral : QueryGraph → Node → OwnedQuant → Bool
 is_lateral g c s = is_F s.kind && list_any (λ q. owns q c && not (q == s.id)) (free s.over g)
+
+-- a base is found
+abbrev pub base_found : Option Node → Bool
+base_found None = false
+base_found (Some n) = is_base n.parts.kind
+
+-- s ranges over a base
+abbrev pub over_base : QueryGraph → OwnedQuant → Bool
+over_base g s = base_found (box_of s.over g)
 
 abbrev pub has_lateral : QueryGraph → Node → Bool
 has_lateral g c = list_any (is_lateral g c) c.quants
@@ -99,6 +109,18 @@ may_over g b r (Some c) = may_with g b r c
 -- b is a select that isn't fed, and r an F over such a box
 abbrev pub may_at : QueryGraph → Node → OwnedQuant → Bool
 may_at g b r = is_select b.parts.kind && not (is_fed b.parts.role) && is_F r.kind && may_over g b r (box_of r.over g)
+
+-- such a box has an F
+abbrev pub may_have : Node → Bool
+may_have b = is_select b.parts.kind && not (is_fed b.parts.role) && list_any (λ r. is_F r.kind) b.quants
+
+-- n is a plain select, and one of these ranges over it
+abbrev pub lies_under : List OwnedQuant → Node → Bool
+lies_under rs n = is_select n.parts.kind && is_plain n.parts.role && ranges_over n.id rs
+
+-- a box is
+abbrev pub any_under : List OwnedQuant → List Node → Bool
+any_under rs boxes = list_any (lies_under rs) boxes
 
 abbrev pub may_in : QueryGraph → Option Node → OwnedQuant → Bool
 may_in g None r = false

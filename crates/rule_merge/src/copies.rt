@@ -56,6 +56,15 @@ pub fn is_select(kind: &BoxKind) -> bool
     }
 }
 
+pub fn is_base(kind: &BoxKind) -> bool
+    ensures { result ≡ kinds.is_base kind.now }
+{
+    match kind {
+        BoxKind::Base(_) => true,
+        BoxKind::Select | BoxKind::Group(_) | BoxKind::SetOp(_, _) | BoxKind::OuterJoin => false,
+    }
+}
+
 pub fn is_plain(role: Role) -> bool
     ensures { result ≡ kinds.is_plain role }
 {
@@ -159,7 +168,7 @@ fn copies_by(
     }
 }
 
-fn ranges_over(ranges: &[OwnedQuant], b: BoxId) -> bool
+pub fn ranges_over(ranges: &[OwnedQuant], b: BoxId) -> bool
     ensures { result ≡ spec.ranges_over b ranges.now }
 {
     ranges.iter().any(|r| r.over == b)
@@ -190,13 +199,16 @@ fn is_plain_copy(node: &Node) -> bool
 fn is_copy(alloc: Global, graph: &Graph, node: &Node) -> Result<bool, OutOfMemory>
     ensures { IfOk result (λ copy. copy ≡ spec.is_copy graph.now node.now) }
 {
+    if !is_plain_copy(node) {
+        return Ok(false);
+    }
     let all = copies_by(
         alloc,
         graph.nodes(),
         &node.parts.head,
         node.quants.as_slice(),
     )?;
-    Ok(is_plain_copy(node) && all && !is_fed_by(graph.nodes(), node.id))
+    Ok(all && !is_fed_by(graph.nodes(), node.id))
 }
 
 // Whether a box gives what the box under it gives, and no fed box owns a quantifier over it.

@@ -1,5 +1,5 @@
 // M2.
-ghost use Rattle.std.specs.Prelude.{◌≡◌, IfOk, true};
+ghost use Rattle.std.specs.Prelude.{◌≡◌, OnErr, OnOk, true};
 ghost use Rattle.qgm_check.specs.Sentences.{WellFormed};
 ghost use Rattle.rule_api.specs.Rules.{Preserves};
 ghost use Rattle.rule_api.specs.declared.place.RuleId.TheVariants.{M2};
@@ -18,18 +18,19 @@ use std::alloc::Global;
 #[derive(Clone, Copy, Debug)]
 pub struct DropCopy;
 
-// The graph after M2 at a place.
+// Does M2 at a place.
 #[tactic(auto, using(crate::proofs::Dropped::held_of, crate::proofs::Dropped::one_of, crate::proofs::Dropped::over_held, crate::proofs::Dropped::acts_of, crate::proofs::Dropped::preserves_of))]
-fn dropped(alloc: Global, graph: &Graph, place: Place) -> Result<Graph, OutOfMemory>
-    requires formed { WellFormed graph.now }
-    requires given { spec.may_go graph.now place.at ≡ true }
-    ensures acts { IfOk result (λ h. DropsCopy place graph.now h) }
-    ensures preserves { IfOk result (λ h. Preserves graph.now h) }
+fn dropped(alloc: Global, graph: &mut Graph, place: Place) -> Result<(), OutOfMemory>
+    requires formed { WellFormed graph.old }
+    requires given { spec.may_go graph.old place.at ≡ true }
+    ensures acts { OnOk result (DropsCopy place graph.old graph.new) }
+    ensures preserves { OnOk result (Preserves graph.old graph.new) }
+    ensures err { OnErr result (graph.new ≡ graph.old) }
 {
     graph.each_number_once();
     let quant = graph.quant_at(place.at, 1);
-    let after = moved(alloc, graph, place.at, quant.over)?;
-    Ok(after)
+    moved(alloc, graph, place.at, quant.over)?;
+    Ok(())
 }
 
 impl Rule for DropCopy {
@@ -57,8 +58,7 @@ impl Rule for DropCopy {
 
     #[tactic(auto, using(crate::specs::DropCopy::drop_copy_given))]
     fn apply(&self, alloc: Global, graph: &mut Graph, place: Place) -> Result<(), OutOfMemory> {
-        let after = dropped(alloc, graph, place)?;
-        *graph = after;
+        dropped(alloc, graph, place)?;
         Ok(())
     }
 }

@@ -1,13 +1,13 @@
 // M1.
 ghost use Rattle.std.specs.Prelude.{◌≡◌, IfOk};
 ghost use Rattle.qgm_check.specs.Sentences.{WellFormed};
-ghost use Rattle.rule_api.specs.Rules.{Preserves};
 ghost use Rattle.rule_api.specs.declared.place.RuleId.TheVariants.{M1};
-ghost use Rattle.rule_merge.specs.MergeSelect.{MayMergeSelect, MergesSelect, PassesMerge, merge_select_exact, merge_select_pairs};
+ghost use Rattle.rule_merge.specs.MergeSelect.{MayMergeSelect, MergesSelect, PassesMerge, PlansAt, merge_select_exact, merge_select_pairs};
 
 use crate::copies::box_at;
-use crate::merging::may_at;
-use crate::splices::merged;
+use crate::known::tables_of;
+use crate::merging::{may_at, may_fit, may_have};
+use crate::splices::{MergePlan, merge, plan};
 use qgm_core::{BoxId, Graph};
 use rule_api::{Place, Rule, RuleId, add_if};
 use shared_types::OutOfMemory;
@@ -19,14 +19,12 @@ use std::alloc::Global;
 #[derive(Clone, Copy, Debug)]
 pub struct MergeSelect;
 
-// The graph after M1 at a place.
-fn merged_at(alloc: Global, graph: &Graph, place: Place) -> Result<Graph, OutOfMemory>
+// What M1 does at a place.
+fn plan_at(alloc: Global, graph: &Graph, place: Place) -> Result<MergePlan, OutOfMemory>
     requires formed { WellFormed graph.now }
     requires given { PassesMerge graph.now place.at place.i }
-    ensures acts { IfOk result (λ h. MergesSelect place graph.now h) }
-    ensures preserves { IfOk result (λ h. Preserves graph.now h) }
+    ensures { IfOk result (λ m. PlansAt graph.now place m) }
 {
-    graph.each_number_once();
     let Some(b) = box_at(graph.nodes(), place.at) else {
         unreachable!()
     };
@@ -34,8 +32,8 @@ fn merged_at(alloc: Global, graph: &Graph, place: Place) -> Result<Graph, OutOfM
     let Some(c) = box_at(graph.nodes(), r.over) else {
         unreachable!()
     };
-    let after = merged(alloc, graph, b, place.i, r, c)?;
-    Ok(after)
+    let steps = plan(alloc, graph, b, place.i, r, c)?;
+    Ok(steps)
 }
 
 impl Rule for MergeSelect {
@@ -53,15 +51,19 @@ impl Rule for MergeSelect {
         RuleId::M1
     }
 
-    #[tactic(auto, using(crate::specs::MergeSelect::merge_select_ascending), unfolding(crate::specs::MergeSelect::merge_select_pairs))]
+    #[tactic(auto, using(crate::specs::MergeSelect::merge_select_ascending, crate::proofs::Bases::none_found, crate::proofs::Bases::none_under), unfolding(crate::specs::MergeSelect::merge_select_pairs))]
     fn places(&self, alloc: Global, graph: &Graph, b: BoxId) -> Result<Vec<Place>, OutOfMemory> {
         let mut out = Vec::new(alloc);
         let Some(node) = box_at(graph.nodes(), b) else {
             return Ok(out);
         };
         let list = node.quants.as_slice();
+        if !may_have(node) || !may_fit(graph.nodes(), list) {
+            return Ok(out);
+        }
+        let tables = tables_of(alloc, graph)?;
         for k in 0..list.len() {
-            let passes = may_at(alloc, graph, node, k + 1, list[k])?;
+            let passes = may_at(alloc, &tables, node, k + 1, list[k])?;
             add_if(&mut out, passes, b, k + 1, 0)?;
         }
         Ok(out)
@@ -69,8 +71,9 @@ impl Rule for MergeSelect {
 
     #[tactic(auto, using(crate::specs::MergeSelect::merge_select_given))]
     fn apply(&self, alloc: Global, graph: &mut Graph, place: Place) -> Result<(), OutOfMemory> {
-        let after = merged_at(alloc, graph, place)?;
-        *graph = after;
+        graph.each_number_once();
+        let steps = plan_at(alloc, graph, place)?;
+        merge(alloc, graph, steps)?;
         Ok(())
     }
 }

@@ -1,7 +1,7 @@
 // Whether a select may be merged into the select above it.
 ghost use Rattle.std.specs.Prelude.{◌≡◌, ◌≤◌, ◌-◌, IfOk, Some, slice_get};
 ghost use Rattle.std.specs.List.{list_any};
-ghost use Rattle.std.specs.Prelude.{◌&&◌, ◌==◌, not, true};
+ghost use Rattle.std.specs.Prelude.{◌&&◌, ◌==◌, not, false, true};
 ghost use Rattle.qgm_check.specs.Sentences.{WellFormed};
 ghost use Rattle.qgm_check.specs.Shapes.{all_F};
 ghost use Rattle.qgm_core.specs.Boxes.{HasBox, box_of, owns};
@@ -9,15 +9,22 @@ ghost use Rattle.qgm_core.specs.Edits.{set_distinct};
 ghost use Rattle.qgm_core.specs.Kinds as kinds;
 ghost use Rattle.qgm_core.specs.declared.kinds.Distinct.TheVariants.{Preserve};
 ghost use Rattle.qgm_laws.specs.Graph.{reads_in};
+ghost use Rattle.rule_merge.specs.Known.{Tabled};
 ghost use Rattle.rule_merge.specs.Merging as spec;
 
-use crate::copies::{box_at, is_f, is_fed, is_plain, is_preserve, is_select};
+use crate::copies::{is_base, is_f, is_fed, is_plain, is_preserve, is_select, ranges_over};
+use crate::known::Tables;
 use crate::splices::merged;
-use qgm_core::{BoxId, Distinct, Graph, Head, Node, OwnedQuant, QuantId, Role, free_in, has_range};
+use qgm_core::{
+    BoxId, Distinct, Graph, Head, Node, OwnedQuant, QuantId, Role, free_in, has_range, node_at,
+};
 use qgm_props::props;
 use qgm_terms::{Sought, is_node_free, stands_in_cells, stands_in_conds};
 use shared_types::OutOfMemory;
 use std::alloc::Global;
+
+// More quantifiers than these are looked up in tables at once.
+const FEW: usize = 8;
 
 fn is_enforce(distinct: Distinct) -> bool
     ensures { result ≡ kinds.is_enforce distinct }
@@ -52,6 +59,12 @@ fn are_f(ranges: &[OwnedQuant]) -> bool
     ranges.iter().all(|r| is_f(r.kind))
 }
 
+fn any_f(ranges: &[OwnedQuant]) -> bool
+    ensures { result ≡ list_any (λ r. kinds.is_F r.kind) ranges.now }
+{
+    ranges.iter().any(|r| is_f(r.kind))
+}
+
 // Whether c, under b, is of a kind and role that may be merged.
 fn parts_fit(b: &Node, c: &Node) -> bool
     ensures { result ≡ spec.parts_fit b.now c.now }
@@ -75,27 +88,50 @@ fn has_other(c: &Node, s: QuantId, free: &[QuantId]) -> bool
     free.iter().any(|q| is_other(c, s, *q))
 }
 
-// Whether another quantifier of c than s, an F of c, is named in the box under s or below it.
-fn is_lateral(alloc: Global, graph: &Graph, c: &Node, s: OwnedQuant) -> Result<bool, OutOfMemory>
-    ensures { IfOk result (λ lateral. lateral ≡ spec.is_lateral graph.now c.now s) }
+// Whether a quantifier ranges over a base.
+fn over_base(tables: &Tables<'_>, s: OwnedQuant) -> bool
+    requires { Tabled tables.now }
+    ensures { result ≡ spec.over_base tables.now.graph.now s }
 {
-    if !is_f(s.kind) {
+    match node_at(tables.graph.nodes(), &tables.places, s.over) {
+        Some(node) => is_base(&node.parts.kind),
+        None => false,
+    }
+}
+
+// Whether another quantifier of c than s, an F of c, is named in the box under s or below it. In a
+// base none is named.
+#[tactic(auto, using(crate::proofs::Bases::base_apart))]
+fn is_lateral(
+    alloc: Global,
+    tables: &Tables<'_>,
+    c: &Node,
+    s: OwnedQuant,
+) -> Result<bool, OutOfMemory>
+    requires formed { WellFormed tables.now.graph.now }
+    requires tables { Tabled tables.now }
+    ensures { IfOk result (λ lateral. lateral ≡ spec.is_lateral tables.now.graph.now c.now s) }
+{
+    tables.graph.each_number_once();
+    if !is_f(s.kind) || over_base(tables, s) {
         return Ok(false);
     }
-    let free = free_in(alloc, graph.nodes(), s.over)?;
+    let free = free_in(alloc, tables.graph.nodes(), s.over)?;
     Ok(has_other(c, s.id, free.as_slice()))
 }
 
 // Whether a quantifier of c is lateral, which one alone never is.
 #[tactic(auto, using(crate::proofs::Alone::alone_apart))]
-fn has_lateral(alloc: Global, graph: &Graph, c: &Node) -> Result<bool, OutOfMemory>
-    ensures { IfOk result (λ lateral. lateral ≡ spec.has_lateral graph.now c.now) }
+fn has_lateral(alloc: Global, tables: &Tables<'_>, c: &Node) -> Result<bool, OutOfMemory>
+    requires formed { WellFormed tables.now.graph.now }
+    requires tables { Tabled tables.now }
+    ensures { IfOk result (λ lateral. lateral ≡ spec.has_lateral tables.now.graph.now c.now) }
 {
     if c.quants.as_slice().len() <= 1 {
         return Ok(false);
     }
     for s in c.quants.as_slice() {
-        if is_lateral(alloc, graph, c, *s)? {
+        if is_lateral(alloc, tables, c, *s)? {
             return Ok(true);
         }
     }
@@ -170,10 +206,13 @@ fn any_fed(nodes: &[Node]) -> bool
 }
 
 // Whether c has one use, and cells that may stand in other boxes than b.
-fn cells_stand(graph: &Graph, b: &Node, r: OwnedQuant, c: &Node) -> bool
-    ensures { result ≡ spec.cells_stand graph.now b.now r c.now }
+fn cells_stand(tables: &Tables<'_>, b: &Node, r: OwnedQuant, c: &Node) -> bool
+    requires { Tabled tables.now }
+    ensures { result ≡ spec.cells_stand tables.now.graph.now b.now r c.now }
 {
-    parts_fit(b, c) && graph.uses(c.id) == 1 && cells_free(graph.nodes(), b.id, r.id, &c.parts.head)
+    parts_fit(b, c)
+        && tables.counts.count(c.id) == 1
+        && cells_free(tables.graph.nodes(), b.id, r.id, &c.parts.head)
 }
 
 // Whether it is inferred that no row of a box is at an error level.
@@ -211,17 +250,19 @@ fn distinct_fits(alloc: Global, graph: &Graph, b: &Node, c: &Node) -> Result<boo
 // Whether c may be merged into b under r, but for its DISTINCT and for what that leaves of fed boxes.
 fn may_stand(
     alloc: Global,
-    graph: &Graph,
+    tables: &Tables<'_>,
     b: &Node,
     r: OwnedQuant,
     c: &Node,
 ) -> Result<bool, OutOfMemory>
-    ensures { IfOk result (λ may. may ≡ spec.may_stand graph.now b.now r c.now) }
+    requires formed { WellFormed tables.now.graph.now }
+    requires tables { Tabled tables.now }
+    ensures { IfOk result (λ may. may ≡ spec.may_stand tables.now.graph.now b.now r c.now) }
 {
-    if !cells_stand(graph, b, r, c) {
+    if !cells_stand(tables, b, r, c) {
         return Ok(false);
     }
-    let lateral = has_lateral(alloc, graph, c)?;
+    let lateral = has_lateral(alloc, tables, c)?;
     Ok(!lateral)
 }
 
@@ -230,21 +271,23 @@ fn may_stand(
 #[tactic(auto, using(crate::proofs::Placed::found_has, crate::proofs::Unfed::merged_unfed))]
 fn may_with(
     alloc: Global,
-    graph: &Graph,
+    tables: &Tables<'_>,
     b: &Node,
     place: usize,
     r: OwnedQuant,
     c: &Node,
 ) -> Result<bool, OutOfMemory>
-    requires formed { WellFormed graph.now }
-    requires at { box_of b.now.id graph.now ≡ Some b.now }
+    requires formed { WellFormed tables.now.graph.now }
+    requires tables { Tabled tables.now }
+    requires at { box_of b.now.id tables.now.graph.now ≡ Some b.now }
     requires select { kinds.is_select b.now.parts.kind ≡ true }
     requires from_one { 1 ≤ place }
     requires nth { slice_get b.now.quants (place - 1) ≡ Some r }
-    requires under { box_of r.over graph.now ≡ Some c.now }
-    ensures { IfOk result (λ may. may ≡ spec.may_with graph.now b.now r c.now) }
+    requires under { box_of r.over tables.now.graph.now ≡ Some c.now }
+    ensures { IfOk result (λ may. may ≡ spec.may_with tables.now.graph.now b.now r c.now) }
 {
-    if !may_stand(alloc, graph, b, r, c)? || !distinct_fits(alloc, graph, b, c)? {
+    let graph = tables.graph;
+    if !may_stand(alloc, tables, b, r, c)? || !distinct_fits(alloc, graph, b, c)? {
         return Ok(false);
     }
     if !any_fed(graph.nodes()) {
@@ -258,40 +301,70 @@ fn may_with(
 // Whether the box under r may be merged into b.
 fn may_over(
     alloc: Global,
-    graph: &Graph,
+    tables: &Tables<'_>,
     b: &Node,
     place: usize,
     r: OwnedQuant,
 ) -> Result<bool, OutOfMemory>
-    requires formed { WellFormed graph.now }
-    requires at { box_of b.now.id graph.now ≡ Some b.now }
+    requires formed { WellFormed tables.now.graph.now }
+    requires tables { Tabled tables.now }
+    requires at { box_of b.now.id tables.now.graph.now ≡ Some b.now }
     requires select { kinds.is_select b.now.parts.kind ≡ true }
     requires from_one { 1 ≤ place }
     requires nth { slice_get b.now.quants (place - 1) ≡ Some r }
-    ensures { IfOk result (λ may. may ≡ spec.may_over graph.now b.now r (box_of r.over graph.now)) }
+    ensures { IfOk result (λ may. may ≡ spec.may_over tables.now.graph.now b.now r (box_of r.over tables.now.graph.now)) }
 {
-    let Some(c) = box_at(graph.nodes(), r.over) else {
+    let Some(c) = node_at(tables.graph.nodes(), &tables.places, r.over) else {
         return Ok(false);
     };
-    may_with(alloc, graph, b, place, r, c)
+    may_with(alloc, tables, b, place, r, c)
 }
 
 /// Whether M1 has a place at quantifier r of b, which stands at this place from 1.
 pub fn may_at(
     alloc: Global,
-    graph: &Graph,
+    tables: &Tables<'_>,
     b: &Node,
     place: usize,
     r: OwnedQuant,
 ) -> Result<bool, OutOfMemory>
-    requires formed { WellFormed graph.now }
-    requires at { box_of b.now.id graph.now ≡ Some b.now }
+    requires formed { WellFormed tables.now.graph.now }
+    requires tables { Tabled tables.now }
+    requires at { box_of b.now.id tables.now.graph.now ≡ Some b.now }
     requires from_one { 1 ≤ place }
     requires nth { slice_get b.now.quants (place - 1) ≡ Some r }
-    ensures { IfOk result (λ may. may ≡ spec.may_at graph.now b.now r) }
+    ensures { IfOk result (λ may. may ≡ spec.may_at tables.now.graph.now b.now r) }
 {
     if !is_select(&b.parts.kind) || is_fed(b.parts.role) || !is_f(r.kind) {
         return Ok(false);
     }
-    may_over(alloc, graph, b, place, r)
+    may_over(alloc, tables, b, place, r)
+}
+
+/// Whether b is a select that isn't fed and has an F. Else M1 has no place there.
+pub fn may_have(b: &Node) -> bool
+    ensures { result ≡ spec.may_have b.now }
+{
+    is_select(&b.parts.kind) && !is_fed(b.parts.role) && any_f(b.quants.as_slice())
+}
+
+// Whether a box is a plain select over which one of these ranges.
+fn lies_under(node: &Node, ranges: &[OwnedQuant]) -> bool
+    ensures { result ≡ spec.lies_under ranges.now node.now }
+{
+    is_select(&node.parts.kind) && is_plain(node.parts.role) && ranges_over(ranges, node.id)
+}
+
+fn any_under(nodes: &[Node], ranges: &[OwnedQuant]) -> bool
+    ensures { result ≡ spec.any_under ranges.now nodes.now }
+{
+    nodes.iter().any(|n| lies_under(n, ranges))
+}
+
+/// Whether one of these may range over a plain select. Where they are few, that is seen without
+/// tables.
+pub fn may_fit(nodes: &[Node], ranges: &[OwnedQuant]) -> bool
+    ensures { result ≡ false → spec.any_under ranges.now nodes.now ≡ false }
+{
+    ranges.len() > FEW || any_under(nodes, ranges)
 }

@@ -1,11 +1,11 @@
 // Quantifiers over one box range over another.
-ghost use Rattle.std.specs.Prelude.{ℕ, ◌≡◌, ◌++◌, IfOk, OnOk};
+ghost use Rattle.std.specs.Prelude.{ℕ, ◌≡◌, ◌++◌, IfOk, OnErr, OnOk};
 ghost use Rattle.qgm_core.specs.Boxes.{HasBox, HasQuant};
-ghost use Rattle.qgm_core.specs.Edits.{compact, ids_over, on_boxes, quants_over};
+ghost use Rattle.qgm_core.specs.Edits.{ids_over, on_boxes, quants_over};
 ghost use Rattle.qgm_core.specs.Lists.{In};
-ghost use Rattle.rule_merge.specs.Turns.{turned};
+ghost use Rattle.rule_merge.specs.Turns.{drop_steps, turned};
 
-use qgm_core::{BoxId, Graph, Node, OwnedQuant, QuantId};
+use qgm_core::{BoxId, Graph, Node, OwnedQuant, QuantId, reached};
 use shared_types::OutOfMemory;
 use std::alloc::Global;
 
@@ -43,15 +43,19 @@ fn turn(graph: &mut Graph, list: &[QuantId], c: BoxId)
     }
 }
 
-/// The graph whose quantifiers over b range over c, without what the root doesn't reach.
-#[tactic(auto, using(crate::proofs::Turned::over_has))]
-pub fn moved(alloc: Global, graph: &Graph, b: BoxId, c: BoxId) -> Result<Graph, OutOfMemory>
-    requires { HasBox c graph.now }
-    ensures { IfOk result (λ h. h ≡ compact (on_boxes (turned c (quants_over b graph.now.boxes)) graph.now)) }
+/// Quantifiers over b range over c, and b goes, with what the root then doesn't reach. Where there is
+/// no memory it fails, and the graph is as before.
+#[tactic(auto, using(crate::proofs::Turned::over_has, crate::proofs::Turned::turned_held))]
+pub fn moved(alloc: Global, graph: &mut Graph, b: BoxId, c: BoxId) -> Result<(), OutOfMemory>
+    requires gone { HasBox b graph.old }
+    requires held { HasBox c graph.old }
+    ensures ok { OnOk result (graph.new ≡ drop_steps b c graph.old) }
+    ensures err { OnErr result (graph.new ≡ graph.old) }
 {
     let list = quants_over(alloc, graph.nodes(), b)?;
-    let mut after = graph.copy(alloc)?;
-    turn(&mut after, &list, c);
-    after.compact(alloc)?;
-    Ok(after)
+    let marks = reached(alloc, graph.nodes(), graph.root())?;
+    turn(graph, &list, c);
+    graph.drop_box(b);
+    graph.keep(&marks);
+    Ok(())
 }

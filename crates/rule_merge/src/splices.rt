@@ -1,67 +1,52 @@
 // A box stands in the place of the quantifier over it.
-ghost use Rattle.std.specs.Prelude.{ℕ, ◌≡◌, ◌≤◌, ◌-◌, ◌++◌, IfOk, OnOk, map};
+ghost use Rattle.std.specs.Prelude.{ℕ, ◌≡◌, ◌++◌, ◌∷◌, [], IfOk, OnErr, OnOk};
 ghost use Rattle.qgm_check.specs.Sentences.{WellFormed};
 ghost use Rattle.qgm_core.specs.Boxes.{HasBox};
-ghost use Rattle.qgm_core.specs.Edits as edits;
 ghost use Rattle.qgm_core.specs.Edits.{on_boxes};
-ghost use Rattle.qgm_core.specs.Held.{HasAll};
 ghost use Rattle.qgm_core.specs.Lists.{In};
-ghost use Rattle.qgm_core.specs.declared.kinds.BoxKind.TheVariants.{Select};
-ghost use Rattle.qgm_core.specs.declared.node.Node.{Node};
 ghost use Rattle.qgm_terms.specs.Shown.{conds};
-ghost use Rattle.qgm_terms.specs.Substitution.{substituted, substituted_cond};
 ghost use Rattle.rule_merge.specs.Merging.{merged_with};
-ghost use Rattle.rule_merge.specs.Splices.{Spreads, Stands, put_each, reads_any, spread};
+ghost use Rattle.rule_merge.specs.Splices as spec;
+ghost use Rattle.rule_merge.specs.declared.splices.NewTerms.{NewTerms};
 
-use qgm_core::{BoxId, BoxKind, BoxParts, Conds, Gc, Graph, Head, Node, OwnedQuant, QuantId};
+use qgm_core::{BoxId, BoxParts, Conds, Gc, Graph, Head, Node, OwnedQuant, QuantId, reached};
 use qgm_terms::{
     ROOM, Sought, copy_cond, stands_in_cells, stands_in_conds, substitute_conds, substitute_head,
 };
 use shared_types::OutOfMemory;
 use std::alloc::Global;
 
+/// The conditions and the head that a box gets.
+#[derive(Drop)]
+pub struct NewTerms {
+    pub at: BoxId,
+    pub conds: Conds,
+    pub head: Head,
+}
+
+/// What M1 does at a place: the quantifiers of box c stand in box b in the place, from 1, of the one
+/// over c, and these boxes get other terms.
+#[derive(Drop)]
+pub struct MergePlan {
+    pub b: BoxId,
+    pub place: usize,
+    pub c: BoxId,
+    pub terms: Vec<NewTerms>,
+}
+
 // Whether a box reads a column of q.
 fn reads_any(parts: &BoxParts, q: QuantId) -> bool
-    ensures { result ≡ reads_any q parts.now }
+    ensures { result ≡ spec.reads_any q parts.now }
 {
     stands_in_cells(parts.head.as_slice(), Sought::Row(q))
         || stands_in_conds(parts.conds.as_slice(), Sought::Row(q))
 }
 
-// Cells for the columns of q in a box. One that reads none stays.
-#[tactic(auto, using(crate::proofs::Unread::unread_same))]
-fn put_in(
-    alloc: Global,
-    graph: &mut Graph,
-    b: BoxId,
-    q: QuantId,
-    cells: &Head,
-) -> Result<(), OutOfMemory>
-    requires { HasBox b graph.old }
-    ensures ok { OnOk result (graph.new ≡ edits.substitute b q cells.now graph.old) }
-    ensures kept { HasAll graph.old graph.new }
+// Whether a box, not c, is b or reads a column of q.
+fn is_changed(node: &Node, b: BoxId, q: QuantId, c: BoxId) -> bool
+    ensures { result ≡ spec.is_changed b q c node.now }
 {
-    if !reads_any(graph.parts(b), q) {
-        return Ok(());
-    }
-    graph.substitute(alloc, b, q, cells)
-}
-
-// Cells for the columns of q in each of these boxes.
-fn put_each(
-    alloc: Global,
-    graph: &mut Graph,
-    nodes: &[Node],
-    q: QuantId,
-    cells: &Head,
-) -> Result<(), OutOfMemory>
-    requires { (n : Node) → In n nodes.now → HasBox n.id graph.old }
-    ensures { OnOk result (graph.new ≡ on_boxes (put_each q cells.now nodes.now) graph.old) }
-{
-    for node in nodes {
-        put_in(alloc, graph, node.id, q, cells)?;
-    }
-    Ok(())
+    node.id != c && (node.id == b || reads_any(&node.parts, q))
 }
 
 // Adds copies of conditions.
@@ -76,51 +61,103 @@ fn add_each(alloc: Global, all: &mut Conds, list: &[Gc]) -> Result<(), OutOfMemo
     Ok(())
 }
 
-// Conditions with cells for the columns of q, and more behind them.
-fn conds_with(
+// The conditions of a box with c's cells for the columns of q, and of b with c's behind its own.
+fn conds_for(
     alloc: Global,
-    list: &Conds,
+    node: &Node,
+    b: BoxId,
     q: QuantId,
-    cells: &Head,
-    more: &[Gc],
+    c: &Node,
 ) -> Result<Conds, OutOfMemory>
-    ensures { IfOk result (λ a. a ≡ record list.now { items = map (substituted_cond q cells.now) list.now.items ++ conds more.now }) }
+    ensures { IfOk result (λ a. a ≡ record node.now.parts.conds { items = spec.conds_for b q c.now node.now }) }
 {
-    let mut all = substitute_conds(alloc, list, q, cells, ROOM)?;
-    add_each(alloc, &mut all, more)?;
+    let mut all = substitute_conds(alloc, &node.parts.conds, q, &c.parts.head, ROOM)?;
+    if node.id == b {
+        add_each(alloc, &mut all, c.parts.conds.as_slice())?;
+    }
     Ok(all)
 }
 
-// Box b has c's cells for the columns of q, and c's conditions behind its own.
-fn put_parts(
+// What a box becomes.
+fn terms_for(
     alloc: Global,
-    graph: &mut Graph,
-    b: &Node,
+    node: &Node,
+    b: BoxId,
     q: QuantId,
     c: &Node,
-) -> Result<(), OutOfMemory>
-    requires { HasBox b.now.id graph.old }
-    ensures { OnOk result (graph.new ≡ edits.put_box b.now.id Select b.now.parts.role (record b.now.parts.conds { items = map (substituted_cond q c.now.parts.head) b.now.parts.conds.items ++ c.now.parts.conds.items }) (map (substituted q c.now.parts.head) b.now.parts.head) graph.old) }
+) -> Result<NewTerms, OutOfMemory>
+    ensures { IfOk result (λ t. t ≡ spec.terms_for b q c.now node.now) }
 {
-    let cells = &c.parts.head;
-    let conds = conds_with(alloc, &b.parts.conds, q, cells, c.parts.conds.as_slice())?;
-    let head = substitute_head(alloc, &b.parts.head, q, cells, ROOM)?;
-    graph.put_box(b.id, BoxKind::Select, b.parts.role, conds, head);
-    Ok(())
+    let conds = conds_for(alloc, node, b, q, c)?;
+    let head = substitute_head(alloc, &node.parts.head, q, &c.parts.head, ROOM)?;
+    Ok(NewTerms {
+        at: node.id,
+        conds,
+        head,
+    })
 }
 
-// The quantifiers of c stand in box b, at a place from 1.
-fn spread(graph: &mut Graph, b: BoxId, place: usize, c: &Node) -> Result<(), OutOfMemory>
-    requires from_one { 1 ≤ place }
-    requires spreads { Spreads graph.old.boxes b (place - 1) c.now.id c.now.quants }
-    ensures { OnOk result (graph.new ≡ on_boxes (map (spread b (place - 1) c.now.id c.now.quants 0)) graph.old) }
+// What the boxes become that are changed.
+fn new_terms(
+    alloc: Global,
+    nodes: &[Node],
+    b: BoxId,
+    q: QuantId,
+    c: &Node,
+) -> Result<Vec<NewTerms>, OutOfMemory>
+    ensures { IfOk result (λ v. v.items ≡ spec.new_terms b q c.now nodes.now) }
 {
-    let list = c.quants.as_slice();
-    let mut k = list.len();
-    while k > 0 {
-        k -= 1;
-        graph.move_quant(list[k].id, b, place)?;
+    let mut out = Vec::new(alloc);
+    for node in nodes {
+        if is_changed(node, b, q, c.id) {
+            let terms = terms_for(alloc, node, b, q, c)?;
+            out.push(terms)?;
+        }
     }
+    Ok(out)
+}
+
+/// What M1 does where r, the quantifier of b at this place, from 1, ranges over c.
+pub fn plan(
+    alloc: Global,
+    graph: &Graph,
+    b: &Node,
+    place: usize,
+    r: OwnedQuant,
+    c: &Node,
+) -> Result<MergePlan, OutOfMemory>
+    ensures { IfOk result (λ m. spec.Plans graph.now b.now place r c.now m) }
+{
+    let terms = new_terms(alloc, graph.nodes(), b.id, r.id, c)?;
+    Ok(MergePlan {
+        b: b.id,
+        place,
+        c: c.id,
+        terms,
+    })
+}
+
+// Boxes get other terms.
+fn put_all(graph: &mut Graph, terms: Vec<NewTerms>)
+    requires { (t : NewTerms) → In t terms.items → HasBox t.at graph.old }
+    ensures { graph.new ≡ on_boxes (spec.put_all terms.items) graph.old }
+{
+    let mut left = terms;
+    while let Some(t) = left.pop() {
+        graph.put_terms(t.at, t.conds, t.head);
+    }
+}
+
+/// Does it. Where there is no memory it fails, and the graph is as before.
+pub fn merge(alloc: Global, graph: &mut Graph, steps: MergePlan) -> Result<(), OutOfMemory>
+    requires { spec.MayStep graph.old steps }
+    ensures ok { OnOk result (graph.new ≡ spec.merge_steps steps graph.old) }
+    ensures err { OnErr result (graph.new ≡ graph.old) }
+{
+    let marks = reached(alloc, graph.nodes(), graph.root())?;
+    graph.absorb(steps.b, steps.place, steps.c)?;
+    put_all(graph, steps.terms);
+    graph.keep(&marks);
     Ok(())
 }
 
@@ -134,15 +171,12 @@ pub fn merged(
     c: &Node,
 ) -> Result<Graph, OutOfMemory>
     requires formed { WellFormed graph.now }
-    requires stands { Stands graph.now b.now place r c.now }
+    requires stands { spec.Stands graph.now b.now place r c.now }
     ensures { IfOk result (λ h. h ≡ merged_with graph.now b.now c.now r.id) }
 {
     graph.each_number_once();
+    let steps = plan(alloc, graph, b, place, r, c)?;
     let mut after = graph.copy(alloc)?;
-    put_each(alloc, &mut after, graph.nodes(), r.id, &c.parts.head)?;
-    put_parts(alloc, &mut after, b, r.id, c)?;
-    after.drop_quant(r.id);
-    spread(&mut after, b.id, place, c)?;
-    after.compact(alloc)?;
+    merge(alloc, &mut after, steps)?;
     Ok(after)
 }

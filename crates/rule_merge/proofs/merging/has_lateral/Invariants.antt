@@ -5,4 +5,4 @@ use Rattle.rule_merge.proofs.merging.has_lateral.Given as goal
 
 -- what is left decides
 abbrev pub invariant-loop-s : goal.invariant-loop-s
-invariant-loop-s l = list_any (is_lateral l.graph l.c) (drop l.s-index l.s-items) ≡ list_any (is_lateral l.graph l.c) l.c.quants
+invariant-loop-s l = list_any (is_lateral l.tables.graph.now l.c) (drop l.s-index l.s-items) ≡ list_any (is_lateral l.tables.graph.now l.c) l.c.quants

@@ -1,16 +1,17 @@
 use Rattle.std.proofs.Common.{◌≡◌, ◌+◌, ◌-◌, ◌∙◌, Some, sym, ap, subst, slice_index_or, arith}
 use Rattle.std.specs.Prelude.{slice_get}
-use Rattle.qgm_core.specs.Boxes.{is_box}
+use Rattle.qgm_core.specs.Boxes.{QueryGraph, box_of, is_box}
 use Rattle.qgm_core.specs.Lists.{first}
 use Rattle.qgm_core.specs.declared.kinds.QuantKind.TheVariants.{F}
 use Rattle.qgm_core.specs.declared.owned.OwnedQuant.{OwnedQuant}
 use Rattle.rule_merge.proofs.Placed.{found-itself}
-use Rattle.rule_merge.proofs.Spread.{index-get}
+use Rattle.rule_merge.proofs.Lists.{index-get}
 use Rattle.rule_merge.proofs.merge_select.MergeSelectRule.places.Goals as goal
 
 pub may_at-requires-clause-at : goal.may_at-requires-clause-at
 may_at-requires-clause-at c =
-    found-itself c.args.graph.now c.args.b c.in-Some.node.now (sym (c.in-Some.ensures ∙ ap (first (is_box c.args.b)) c.nodes.ensures))
+    subst (λ (g : QueryGraph). box_of c.in-Some.node.now.id g ≡ Some c.in-Some.node.now) (sym c.in_ok-tables.ensures.graph)
+    (found-itself c.args.graph.now c.args.b c.in-Some.node.now (sym (c.in-Some.ensures ∙ ap (first (is_box c.args.b)) c.nodes.ensures)))
 
 pub may_at-requires-clause-nth : goal.may_at-requires-clause-nth
 may_at-requires-clause-nth c =

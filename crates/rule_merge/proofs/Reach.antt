@@ -1,0 +1,24 @@
+-- Boxes that the root reaches after steps are those that it reached before, where as much is said of single boxes.
+use Rattle.std.proofs.Common.{ℕ, ◌≡◌, Bool, true, false, List, [], ◌∷◌, filter, refl}
+use Rattle.qgm_check.proofs.Below.{reached-reaches}
+use Rattle.qgm_core.specs.Boxes.{Ordered}
+use Rattle.qgm_core.specs.Free.{Reaches, reached}
+use Rattle.qgm_core.specs.Lists.{In, holds}
+use Rattle.qgm_core.specs.declared.node.Node.{Node}
+use Rattle.qgm_laws.proofs.Compact.{reached_boxes}
+use Rattle.rule_merge.proofs.Lists.{filter-same}
+
+both-or-none : (a b : Bool) → (a ≡ true → b ≡ true) → (b ≡ true → a ≡ true) → a ≡ b
+both-or-none true true h k = refl
+both-or-none true false h k = let z : false ≡ true = h refl in absurd (let w : ⊥ = cc in w)
+both-or-none false true h k = k refl
+both-or-none false false h k = refl
+
+pub kept-same : (bs ms : List Node) (root : ℕ) → Ordered bs → Ordered ms
+    → ((n : Node) → In n ms → Reaches bs root n.id → Reaches ms root n.id) → ((n : Node) → In n ms → Reaches ms root n.id → Reaches bs root n.id)
+    → filter (λ n. holds n.id (reached (root ∷ []) bs)) ms ≡ reached_boxes root ms
+kept-same bs ms root o p down up =
+    filter-same (λ n. holds n.id (reached (root ∷ []) bs)) (λ n. holds n.id (reached (root ∷ []) ms)) ms
+    (λ n i. both-or-none (holds n.id (reached (root ∷ []) bs)) (holds n.id (reached (root ∷ []) ms))
+    (λ t. (reached-reaches ms p root n.id).1 (down n i ((reached-reaches bs o root n.id).0 t)))
+    (λ t. (reached-reaches bs o root n.id).1 (up n i ((reached-reaches ms p root n.id).0 t))))

@@ -1,0 +1,15 @@
+use Rattle.rule_merge.specs.MergeSelect.{merge_select_given}
+use Rattle.rule_merge.proofs.Placed.{acts-then, may-step-then, preserves-then}
+use Rattle.rule_merge.proofs.merge_select.MergeSelectRule.apply.Goals as goal
+
+pub merge-requires : goal.merge-requires
+merge-requires c =
+    may-step-then c.args.graph.now c.each_number_once.ensures c.requires.formed c.args.place (merge_select_given c.args.graph.now c.args.place.at c.args.place.i c.args.place.j c.requires.given) c.in_ok-steps.steps c.in_ok-steps.ensures
+
+pub returns-clause-acts : goal.returns-clause-acts
+returns-clause-acts c =
+    acts-then c.args.graph.now c.each_number_once.ensures c.requires.formed c.args.place (merge_select_given c.args.graph.now c.args.place.at c.args.place.i c.args.place.j c.requires.given) c.in_ok-steps.steps c.in_ok-steps.ensures c.merge.new.graph c.in_ok-merge.ensures.ok
+
+pub returns-clause-preserves : goal.returns-clause-preserves
+returns-clause-preserves c =
+    preserves-then c.args.graph.now c.each_number_once.ensures c.requires.formed c.args.place (merge_select_given c.args.graph.now c.args.place.at c.args.place.i c.args.place.j c.requires.given) c.in_ok-steps.steps c.in_ok-steps.ensures c.merge.new.graph c.in_ok-merge.ensures.ok
