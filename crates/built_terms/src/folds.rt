@@ -88,7 +88,7 @@ fn multiplier_folds<'a>(list: &'a [Multiplier], out: &mut Vec<Fold<'a>>) -> Resu
     Ok(())
 }
 
-// The same of a list.
+/// Adds the aggregates of a list, in their order.
 #[cycle(folds)]
 pub fn list_folds<'a>(list: &'a [Value], out: &mut Vec<Fold<'a>>) -> Result<(), OutOfMemory>
     ensures { OnOk result (map leaf_of out.new.items ≡ map leaf_of out.old.items ++ folds_in (l.list_leaves [] (shown.value_list list.now))) }
@@ -123,7 +123,7 @@ fn choice_folds<'a>(list: &'a [Choice], out: &mut Vec<Fold<'a>>) -> Result<(), O
     Ok(())
 }
 
-// The same of a condition.
+/// Adds the aggregates of a condition, in their order.
 #[cycle(folds)]
 #[tactic(auto, using(sql_meaning::specs::ResolvedShown::lists, crate::proofs::Folding::folding))]
 pub fn test_folds<'a>(p: &'a Test, out: &mut Vec<Fold<'a>>) -> Result<(), OutOfMemory>

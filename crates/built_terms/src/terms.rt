@@ -51,7 +51,7 @@ fn column(g: &Setting<'_>, scope: usize, place: usize) -> Gx
     made::seen_term(seen_at(&inner, scope, place))
 }
 
-// An expression.
+/// The expression of a value, where it stands. It fails only for want of memory.
 #[cycle(terms)]
 #[tactic(auto, using(sql_meaning::specs::ResolvedShown::lists, crate::proofs::Afters::afters, crate::proofs::Wholes::wholes))]
 pub fn value(g: &Setting<'_>, x: &Value, s: &mut Slots<'_>) -> Result<Gx, OutOfMemory>
@@ -136,7 +136,7 @@ fn product(
     Ok(total)
 }
 
-// The expressions of a list, at the end of others.
+/// Adds the expressions of a list of values at the end of others. It fails only for want of memory.
 #[cycle(terms)]
 #[tactic(auto, using(crate::proofs::Afters::afters))]
 pub fn values(
@@ -206,7 +206,7 @@ fn choices(
     Ok(out)
 }
 
-// A condition.
+/// The condition of a test, where it stands. It fails only for want of memory.
 #[cycle(terms)]
 #[tactic(auto, using(sql_meaning::specs::ResolvedShown::lists, crate::proofs::Afters::afters, crate::proofs::Wholes::wholes))]
 pub fn test(g: &Setting<'_>, p: &Test, s: &mut Slots<'_>) -> Result<Gc, OutOfMemory>
