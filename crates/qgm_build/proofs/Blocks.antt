@@ -8,10 +8,10 @@ use Rattle.qgm_shown.specs.Maps.{Frame, Map, Ref}
 use Rattle.qgm_shown.specs.Shown.{all_leaves, all_on_leaves, all_ons, conds_of, frame_all, slots_of, ungrouped_cells}
 use Rattle.qgm_shown.specs.Sources.{Sources}
 use Rattle.qgm_shown.specs.Terms.{cond, split, terms}
-use Rattle.qgm_build.specs.Written.{slots_from}
+use Rattle.built_terms.specs.Written.{slots_from}
 use Rattle.qgm_shown.specs.Folds.{all_on_folds, folds_in}
 use Rattle.qgm_shown.proofs.FoldsSame.{all_on_same, folds_append, test_same, values_same}
-use Rattle.qgm_build.proofs.Grouped.{ungrouped_folds}
+use Rattle.built_terms.proofs.Grouped.{ungrouped_folds}
 
 module _ (all : Sources) (m : Map) (from : Froms) (by : Test) (list : Values) (fs subs : List OwnedQuant) where
   abbrev pub leaves_here : List Leaf

@@ -15,8 +15,8 @@ use Rattle.qgm_shown.specs.Leaves.{Leaf}
 use Rattle.qgm_shown.specs.Maps.{Frame}
 use Rattle.qgm_shown.specs.Shown.{common_form, form_of, frame, key_frame, key_places, past}
 use Rattle.qgm_build.specs.Laying.{Opens, block_box, block_subs, flat_box, flat_laid, from_step, group_box, groups_laid, on_step, operand_laid, outer_box, outer_of, query_laid, rows_box, rows_subs, told_at, two_box, upper_box}
-use Rattle.qgm_build.specs.Making.{Gives, Takes, after_subs, draws}
-use Rattle.qgm_build.specs.declared.setting.Ground.{Ground}
+use Rattle.built_terms.specs.Making.{Gives, Takes, after_subs, draws}
+use Rattle.built_terms.specs.declared.setting.Ground.{Ground}
 use Rattle.qgm_build.proofs.Opening.{block_laid, flat_made, grouped_laid, groups_made, joined_subs, joined_take, upper_is}
 use Rattle.qgm_build.proofs.Paired.{both_folds, outer_laid, two_laid}
 use Rattle.qgm_build.proofs.Selected.{gives_at}

@@ -13,7 +13,7 @@ use Rattle.qgm_shown.specs.Shown.{all_leaves, all_on_leaves, all_ons, argument_t
 use Rattle.qgm_shown.specs.Sources.{Sources, from_width}
 use Rattle.qgm_shown.specs.Terms.{cond, split, terms}
 use Rattle.qgm_shown.specs.Typing.{typed_by}
-use Rattle.qgm_build.specs.Written.{slots_from}
+use Rattle.built_terms.specs.Written.{slots_from}
 use Rattle.qgm_build.proofs.Blocks.{cells_here, conds_read}
 use Rattle.qgm_build.proofs.Paired.{both_folds, upper_cells}
 use Rattle.qgm_build.proofs.Same.{frame_all_same, width_same}

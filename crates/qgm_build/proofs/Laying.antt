@@ -28,11 +28,11 @@ use Rattle.qgm_meaning.specs.Meaning.{root_bag}
 use Rattle.built_queries.specs.Joined.{AreTablesOf}
 use Rattle.built_queries.specs.Laid.{GraphIsRight, IsGraphOf, IsNumbered, LaidIsGraph, LaidIsNumbered, known_in, laid_for}
 use Rattle.built_queries.specs.Typing.{known_types}
-use Rattle.qgm_build.specs.Making.{Gives, top_at}
+use Rattle.built_terms.specs.Making.{Gives, top_at}
 use Rattle.qgm_build.specs.Schema.{base_of, named_table, named_view, schema_named, schema_told, whole}
-use Rattle.qgm_build.specs.Setting.{named_in, told_by}
-use Rattle.qgm_build.specs.declared.setting.Named.{Named}
-use Rattle.qgm_build.specs.Setting as g
+use Rattle.built_terms.specs.Setting.{named_in, told_by}
+use Rattle.built_terms.specs.declared.setting.Named.{Named}
+use Rattle.built_terms.specs.Setting as g
 use Rattle.qgm_build.specs.Valid.{IsItsGraph, IsItsRight, IsOfText, IsQueryOf}
 
 -- ---- how many columns names have

@@ -16,8 +16,8 @@ use Rattle.qgm_shown.specs.Shown.{all_leaves, columns_of, conds_of, frame, frame
 use Rattle.qgm_shown.specs.Sources.{Sources}
 use Rattle.qgm_shown.proofs.FoldsSame.{folds_append}
 use Rattle.qgm_build.specs.Laying.{Opens, block_box, block_groups, block_subs, flat_box, flat_laid, from_step, froms_step, group_box, on_step, outer_of, query_laid, rows_box, rows_subs, told_at, upper_box, upper_laid}
-use Rattle.qgm_build.specs.Making.{Gives, Takes, after_subs, top_at}
-use Rattle.qgm_build.specs.declared.setting.Ground.{Ground}
+use Rattle.built_terms.specs.Making.{Gives, Takes, after_subs, top_at}
+use Rattle.built_terms.specs.declared.setting.Ground.{Ground}
 use Rattle.qgm_build.proofs.Paired.{arguments_folds, both_folds, fold_terms_folds}
 use Rattle.qgm_build.proofs.Selected.{gives_at, gives_over}
 use Rattle.qgm_build.proofs.Taking.{takes_both, takes_three}

@@ -18,7 +18,7 @@ use Rattle.qgm_shown.specs.Sources.{Sources, from_width}
 use Rattle.qgm_shown.specs.Terms.{cond, split, term, terms}
 use Rattle.qgm_shown.specs.Typing.{typed_by}
 use Rattle.qgm_shown.proofs.FoldsSame.{folds_append, test_same, values_same}
-use Rattle.qgm_build.specs.Making.{Gives, Takes, after_subs, draws, top_at}
+use Rattle.built_terms.specs.Making.{Gives, Takes, after_subs, draws, top_at}
 use Rattle.qgm_build.proofs.Selected.{gives_at}
 
 -- ---- subqueries among leaves don't count

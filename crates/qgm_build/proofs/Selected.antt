@@ -14,9 +14,9 @@ use Rattle.qgm_shown.specs.Sources.{Sources}
 use Rattle.qgm_shown.specs.Terms.{terms}
 use Rattle.qgm_shown.specs.Typing.{typed_by}
 use Rattle.qgm_shown.proofs.FoldsSame.{on_same}
-use Rattle.qgm_build.specs.Making.{Gives, after_subs}
-use Rattle.qgm_build.specs.Written.{slots_from}
-use Rattle.qgm_build.proofs.Grouped.{ungrouped_folds}
+use Rattle.built_terms.specs.Making.{Gives, after_subs}
+use Rattle.built_terms.specs.Written.{slots_from}
+use Rattle.built_terms.proofs.Grouped.{ungrouped_folds}
 use Rattle.qgm_build.proofs.Same.{all_leaves_same, frame_all_same, frame_same}
 
 pub gives_at : {r q : Laid} {b : ℕ} {t : Boxes} → r ≡ q → Gives r b t → Gives q b t

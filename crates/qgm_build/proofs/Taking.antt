@@ -3,8 +3,8 @@ use Rattle.std.proofs.Common.{◌≡◌, ◌<◌, ◌+◌, ℕ, List, ◌∷◌,
 use Rattle.qgm_core.specs.declared.kinds.QuantKind.{QuantKind}
 use Rattle.qgm_core.specs.declared.owned.OwnedQuant.{OwnedQuant}
 use Rattle.qgm_shown.specs.Lay.{Boxes, Laid, Step, in_turn, none, over}
-use Rattle.qgm_build.specs.Making.{Gives, Leads, Takes, draws}
-use Rattle.qgm_build.proofs.Steps.{next_there}
+use Rattle.built_terms.specs.Making.{Gives, Leads, Takes, draws}
+use Rattle.built_terms.proofs.Steps.{next_there}
 
 pub takes_none : (s : Boxes) (os : List OwnedQuant) → Takes none s os s os
 takes_none s os = record { boxes = refl; quants = sym (append-nil os) }

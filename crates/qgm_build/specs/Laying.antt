@@ -13,11 +13,11 @@ use Rattle.qgm_shown.specs.Shown.{frame_all, key_frame, key_places, rows_list, u
 use Rattle.qgm_shown.specs.Sources.{Sources}
 use Rattle.qgm_shown.specs.Terms.{cond, split, terms}
 use Rattle.qgm_terms.specs.Terms.{Cond, Term}
-use Rattle.qgm_build.specs.Making.{top_at}
-use Rattle.qgm_build.specs.Setting.{told}
-use Rattle.qgm_build.specs.Written.{frame_of, map_of}
-use Rattle.qgm_build.specs.declared.setting.Ground.{Ground}
-use Rattle.qgm_build.specs.declared.setting.Seat.{Seat}
+use Rattle.built_terms.specs.Making.{top_at}
+use Rattle.built_terms.specs.Setting.{told}
+use Rattle.built_terms.specs.Written.{frame_of, map_of}
+use Rattle.built_terms.specs.declared.setting.Ground.{Ground}
+use Rattle.built_terms.specs.declared.setting.Seat.{Seat}
 
 abbrev pub told_at : Ground → Sources
 told_at g = told g.names

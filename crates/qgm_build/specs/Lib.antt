@@ -1,14 +1,4 @@
-pub mod Written
-pub mod Parts
-pub mod Opened
-pub mod Setting
-pub mod SoFar
-pub mod Making
 pub mod Laying
-pub mod Site
-pub mod Splits
-pub mod Folds
 pub mod Block
 pub mod Schema
-pub mod Sizes
 pub mod Valid

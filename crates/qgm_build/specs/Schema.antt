@@ -14,8 +14,8 @@ use Rattle.qgm_core.specs.declared.kinds.BaseTable.{BaseTable}
 use Rattle.qgm_shown.specs.Lay.{Laid}
 use Rattle.qgm_shown.specs.Sources.{Sources}
 use Rattle.qgm_shown.specs.Whole.{lay_whole}
-use Rattle.qgm_build.specs.Setting.{told_by}
-use Rattle.qgm_build.specs.declared.setting.Named.{Named}
+use Rattle.built_terms.specs.Setting.{told_by}
+use Rattle.built_terms.specs.declared.setting.Named.{Named}
 
 -- a declared table
 abbrev pub base_of : TableDecl → BaseTable

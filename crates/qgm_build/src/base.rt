@@ -4,7 +4,7 @@ ghost use Rattle.query_checks.specs.Columns as columns;
 ghost use Rattle.built_queries.specs.Sources as spec;
 ghost use Rattle.qgm_build.specs.Schema.{base_of};
 
-use crate::groups::after;
+use built_terms::after;
 use qgm_core::BaseTable;
 use shared_types::OutOfMemory;
 use sql_ast::{DataType, TableDecl};

@@ -9,26 +9,19 @@ ghost use Rattle.qgm_shown.specs.Shown as w;
 ghost use Rattle.qgm_shown.specs.Terms as meant;
 ghost use Rattle.qgm_shown.specs.Folds.{on_folds};
 ghost use Rattle.qgm_build.specs.Block.{conds_in_block, conds_in_rows, head_in_block};
-ghost use Rattle.qgm_build.specs.Folds.{leaf_of};
+ghost use Rattle.built_terms.specs.Folds.{leaf_of};
 ghost use Rattle.qgm_build.specs.Laying as spec;
 ghost use Rattle.qgm_build.specs.Laying.{outer_of, told_at};
-ghost use Rattle.qgm_build.specs.Making.{Gives, after_subs};
-ghost use Rattle.qgm_build.specs.Setting.{frame_in, outer_in, sources_in};
-ghost use Rattle.qgm_build.specs.SoFar.{so_far};
-ghost use Rattle.qgm_build.specs.Written.{frame_of, ref_of, slots_from};
+ghost use Rattle.built_terms.specs.Making.{Gives, after_subs};
+ghost use Rattle.built_terms.specs.Setting.{frame_in, outer_in, sources_in};
+ghost use Rattle.built_terms.specs.SoFar.{so_far};
+ghost use Rattle.built_terms.specs.Written.{frame_of, ref_of, slots_from};
 
-use crate::folds::Fold;
-use crate::frames::{Ranges, frame};
-use crate::groups::ungrouped_cells;
-use crate::heads::head_of;
-use crate::ons::{on_conds, on_folds};
-use crate::parts::seen_term;
-use crate::seen::{Scopes, Seen, in_frame};
 use crate::select::{Block, Rows, Selected, write_block, write_conds};
-use crate::setting::{Ground, Seat, Setting, setting_of, site_of};
-use crate::slots::Slots;
-use crate::store::{Store, put};
-use crate::terms::value;
+use built_terms::{
+    Fold, Ground, Ranges, Scopes, Seat, Seen, Setting, Slots, Store, frame, head_of, in_frame,
+    on_conds, on_folds, put, seen_term, setting_of, site_of, ungrouped_cells, value,
+};
 use qgm_core::{BoxId, BoxKind, Conds, Gx, Head, Owned, OwnedQuant};
 use shared_types::OutOfMemory;
 use sql_meaning::{From, Value};
@@ -147,7 +140,7 @@ fn argument(g: &Setting<'_>, x: &Value) -> Result<Gx, OutOfMemory>
 }
 
 // Adds the arguments of aggregates.
-#[tactic(auto, using(crate::proofs::Steps::appended))]
+#[tactic(auto, using(built_terms::proofs::Steps::appended))]
 fn argument_terms(g: &Setting<'_>, folds: &[Fold<'_>], out: &mut Vec<Gx>) -> Result<(), OutOfMemory>
     requires alone { outer_in g.now ≡ [] }
     ensures { OnOk result (terms out.new.items ≡ terms out.old.items ++ w.argument_terms (sources_in g.now) (frame_in g.now) (map leaf_of folds.now)) }

@@ -6,19 +6,17 @@ ghost use Rattle.qgm_shown.specs.Leaves as leaves;
 ghost use Rattle.qgm_shown.specs.Shown as w;
 ghost use Rattle.qgm_build.specs.Laying as spec;
 ghost use Rattle.qgm_build.specs.Laying.{Opens, told_at};
-ghost use Rattle.qgm_build.specs.Making.{Gives, Takes};
-ghost use Rattle.qgm_build.specs.SoFar.{so_far};
-ghost use Rattle.qgm_build.specs.Written.{frame_of};
+ghost use Rattle.built_terms.specs.Making.{Gives, Takes};
+ghost use Rattle.built_terms.specs.SoFar.{so_far};
+ghost use Rattle.built_terms.specs.Written.{frame_of};
 
 use crate::finish::{Opened, finish_block, finish_flat, finish_rows};
-use crate::frames::{Ranges, frame_all, next_id};
-use crate::groups::key_frame;
-use crate::ons::joined_frame;
 use crate::pairs::{Upper, finish_group, finish_outer, finish_pair, finish_upper, upper_folds};
-use crate::seen::{Scopes, Seen};
 use crate::select::{Block, Rows};
-use crate::setting::{Ground, Seat, site_of};
-use crate::store::{Store, draw, number, number_named};
+use built_terms::{
+    Ground, Ranges, Scopes, Seat, Seen, Store, draw, frame_all, joined_frame, key_frame, next_id,
+    number, number_named, site_of,
+};
 use qgm_core::{BoxId, Owned, OwnedQuant, QuantKind, SetOperator};
 use shared_types::OutOfMemory;
 use sql_ast::{Quantifier, SetOperator as Combined};

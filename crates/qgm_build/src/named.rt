@@ -4,8 +4,7 @@ ghost use Rattle.sql_ast.specs.Declarations.{columns_of};
 ghost use Rattle.built_queries.specs.Typing.{known_types};
 ghost use Rattle.qgm_build.specs.Schema.{named_table, named_view, schema_named};
 
-use crate::groups::after;
-use crate::setting::Named;
+use built_terms::{Named, after};
 use query_checks::{TypedColumn, ViewHead};
 use shared_types::OutOfMemory;
 use sql_ast::{Element, TableDecl};

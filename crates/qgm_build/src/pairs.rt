@@ -11,24 +11,20 @@ ghost use Rattle.qgm_shown.specs.Shown as w;
 ghost use Rattle.qgm_shown.specs.Sources.{from_width};
 ghost use Rattle.qgm_shown.specs.Terms as meant;
 ghost use Rattle.qgm_shown.specs.Typing.{typed_by};
-ghost use Rattle.qgm_build.specs.Folds.{leaf_of};
+ghost use Rattle.built_terms.specs.Folds.{leaf_of};
 ghost use Rattle.qgm_build.specs.Laying as spec;
 ghost use Rattle.qgm_build.specs.Laying.{outer_of, told_at};
-ghost use Rattle.qgm_build.specs.Making.{Gives, after_subs};
-ghost use Rattle.qgm_build.specs.SoFar.{so_far};
-ghost use Rattle.qgm_build.specs.Written.{frame_of};
+ghost use Rattle.built_terms.specs.Making.{Gives, after_subs};
+ghost use Rattle.built_terms.specs.SoFar.{so_far};
+ghost use Rattle.built_terms.specs.Written.{frame_of};
 
 use crate::finish::{append, seen_terms};
-use crate::folds::{Fold, list_folds, test_folds};
-use crate::frames::{from_width, push_refs};
-use crate::groups::{after, fold_terms, group_cells};
-use crate::heads::{add_split, head_of};
-use crate::seen::Seen;
 use crate::select::Selected;
-use crate::setting::{Ground, Seat, setting_of, site_of};
-use crate::slots::Slots;
-use crate::store::{Store, draw, put, row_type};
-use crate::terms::{test, values};
+use built_terms::{
+    Fold, Ground, Seat, Seen, Slots, Store, add_split, after, draw, fold_terms, from_width,
+    group_cells, head_of, list_folds, push_refs, put, row_type, setting_of, site_of, test,
+    test_folds, values,
+};
 use qgm_core::{
     BoxId, BoxKind, Conds, Gx, Head, Owned, OwnedQuant, QuantId, QuantKind, SetOperator,
 };
@@ -171,7 +167,7 @@ fn pair(alloc: Global, a: BoxId, b: BoxId, st: &mut Store) -> Result<Owned, OutO
 }
 
 // The types of the columns of a quantifier.
-#[tactic(auto, using(crate::proofs::Lists::types_more))]
+#[tactic(auto, using(built_terms::proofs::Lists::types_more))]
 fn pair_types(
     alloc: Global,
     q: QuantId,

@@ -3,19 +3,14 @@ ghost use Rattle.std.specs.Prelude.{◌≡◌, ◌++◌, [], IfOk, OnOk, map};
 ghost use Rattle.sql_meaning.specs.ResolvedShown as shown;
 ghost use Rattle.qgm_build.specs.Block.{aggregates_of, aggregates_of_rows, conds_in_block, conds_in_rows, frame_of_block, head_in_block};
 ghost use Rattle.qgm_shown.specs.Shown.{frame_all};
-ghost use Rattle.qgm_build.specs.Folds.{leaf_of};
-ghost use Rattle.qgm_build.specs.Site.{sources_at};
-ghost use Rattle.qgm_build.specs.Written.{frame_of, map_of};
+ghost use Rattle.built_terms.specs.Folds.{leaf_of};
+ghost use Rattle.built_terms.specs.Site.{sources_at};
+ghost use Rattle.built_terms.specs.Written.{frame_of, map_of};
 
-use crate::folds::{Fold, list_folds, test_folds};
-use crate::frames::Ranges;
-use crate::groups::ungrouped_cells;
-use crate::heads::{add_split, head_of};
-use crate::ons::{all_on_conds, all_on_folds};
-use crate::seen::{Scopes, Seen};
-use crate::setting::{Setting, Site};
-use crate::slots::Slots;
-use crate::terms::{test, values};
+use built_terms::{
+    Fold, Ranges, Scopes, Seen, Setting, Site, Slots, add_split, all_on_conds, all_on_folds,
+    head_of, list_folds, test, test_folds, ungrouped_cells, values,
+};
 use qgm_core::{Conds, Head, OwnedQuant};
 use shared_types::OutOfMemory;
 use sql_meaning::{From, Test, Value};

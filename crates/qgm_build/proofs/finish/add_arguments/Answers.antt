@@ -4,7 +4,7 @@ use Rattle.qgm_terms.specs.Shown.{terms}
 use Rattle.qgm_shown.specs.Maps.{Frame}
 use Rattle.qgm_shown.specs.Shown.{argument_terms}
 use Rattle.qgm_shown.specs.Sources.{Sources}
-use Rattle.qgm_build.specs.Folds.{leaf_of}
+use Rattle.built_terms.specs.Folds.{leaf_of}
 use Rattle.qgm_build.proofs.finish.add_arguments.Goals as goal
 
 pub returns : goal.returns

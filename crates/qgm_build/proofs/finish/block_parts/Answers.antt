@@ -4,9 +4,9 @@ use Rattle.sql_meaning.specs.ResolvedShown as shown
 use Rattle.qgm_shown.specs.Sources.{Sources}
 use Rattle.qgm_build.specs.Block.{conds_in_block, head_in_block}
 use Rattle.qgm_build.specs.Laying.{outer_of, told_at}
-use Rattle.qgm_build.specs.Site.{sources_at}
-use Rattle.qgm_build.specs.SoFar.{so_far}
-use Rattle.qgm_build.specs.Written.{frame_of}
+use Rattle.built_terms.specs.Site.{sources_at}
+use Rattle.built_terms.specs.SoFar.{so_far}
+use Rattle.built_terms.specs.Written.{frame_of}
 use Rattle.qgm_build.proofs.Finished.{frame_at}
 use Rattle.qgm_build.proofs.finish.block_parts.Goals as goal
 

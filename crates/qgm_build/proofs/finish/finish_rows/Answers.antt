@@ -1,10 +1,10 @@
 use Rattle.std.proofs.Common.{◌∙◌, ap}
 use Rattle.std.proofs.lemmas.Result.{IfOk-weaker}
 use Rattle.sql_meaning.specs.ResolvedShown as shown
-use Rattle.qgm_build.specs.Folds.{leaf_of}
+use Rattle.built_terms.specs.Folds.{leaf_of}
 use Rattle.qgm_build.specs.Laying.{outer_of, told_at}
-use Rattle.qgm_build.specs.SoFar.{so_far}
-use Rattle.qgm_build.specs.Written.{frame_of}
+use Rattle.built_terms.specs.SoFar.{so_far}
+use Rattle.built_terms.specs.Written.{frame_of}
 use Rattle.std.proofs.Common.{map}
 use Rattle.qgm_build.proofs.Selected.{rows_read}
 use Rattle.qgm_build.proofs.finish.finish_rows.Goals as goal

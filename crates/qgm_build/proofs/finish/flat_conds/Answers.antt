@@ -1,11 +1,11 @@
 use Rattle.std.proofs.Common.{map, ap}
 use Rattle.sql_meaning.specs.ResolvedShown as shown
 use Rattle.qgm_shown.specs.Lay.{laying}
-use Rattle.qgm_build.specs.Folds.{leaf_of}
+use Rattle.built_terms.specs.Folds.{leaf_of}
 use Rattle.qgm_build.specs.Laying.{outer_of, told_at}
-use Rattle.qgm_build.specs.Site.{sources_at}
-use Rattle.qgm_build.specs.SoFar.{so_far}
-use Rattle.qgm_build.specs.Written.{frame_of}
+use Rattle.built_terms.specs.Site.{sources_at}
+use Rattle.built_terms.specs.SoFar.{so_far}
+use Rattle.built_terms.specs.Written.{frame_of}
 use Rattle.qgm_build.proofs.Finished.{flat_conds_read}
 use Rattle.qgm_build.proofs.finish.flat_conds.Goals as goal
 

@@ -2,10 +2,10 @@ use Rattle.std.proofs.Common.{map, refl}
 use Rattle.std.proofs.lemmas.Result.{IfOk-weaker}
 use Rattle.qgm_terms.specs.Shown.{terms}
 use Rattle.qgm_shown.specs.Lay.{laying}
-use Rattle.qgm_build.specs.Folds.{leaf_of}
+use Rattle.built_terms.specs.Folds.{leaf_of}
 use Rattle.qgm_build.specs.Laying.{told_at}
-use Rattle.qgm_build.specs.SoFar.{so_far}
-use Rattle.qgm_build.specs.Written.{frame_of}
+use Rattle.built_terms.specs.SoFar.{so_far}
+use Rattle.built_terms.specs.Written.{frame_of}
 use Rattle.qgm_build.proofs.Finished.{rows_list_read}
 use Rattle.qgm_build.proofs.finish.rows_terms.Goals as goal
 

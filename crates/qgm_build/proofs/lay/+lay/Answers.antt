@@ -12,12 +12,12 @@ use Rattle.qgm_core.specs.declared.kinds.QuantKind.TheVariants.{E}
 use Rattle.qgm_shown.specs.Lay.{over}
 use Rattle.qgm_shown.specs.Shown.{frame_all, past}
 use Rattle.qgm_build.specs.Laying.{addend_step, all_on_step, arm_step, block_subs, choice_step, from_step, froms_step, inner_laid, list_step, multiplier_step, on_step, rows_subs, test_step, tests_step, told_at, value_step}
-use Rattle.qgm_build.specs.SoFar.{so_far}
-use Rattle.qgm_build.specs.Written.{frame_of}
-use Rattle.qgm_build.specs.Folds.{leaf_of}
+use Rattle.built_terms.specs.SoFar.{so_far}
+use Rattle.built_terms.specs.Written.{frame_of}
+use Rattle.built_terms.specs.Folds.{leaf_of}
 use Rattle.qgm_build.proofs.Cycle.{block_ok, combine_ok, flat_is, flat_ok, grouped_ok, groups_ok, intersect_ok, joined_step, left_ok, left_step}
 use Rattle.qgm_build.proofs.Opening.{opens_from}
-use Rattle.qgm_build.proofs.Steps.{next_there}
+use Rattle.built_terms.proofs.Steps.{next_there}
 use Rattle.qgm_build.proofs.Taking.{leads_at, leads_more, leads_next, leads_two, takes_both, takes_three}
 use Rattle.qgm_build.proofs.lay.+lay.Goals as goal
 

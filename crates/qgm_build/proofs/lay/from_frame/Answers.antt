@@ -5,9 +5,9 @@ use Rattle.qgm_shown.specs.Shown.{frame_all}
 use Rattle.qgm_shown.specs.Sources.{Sources}
 use Rattle.qgm_shown.specs.Typing.{typed_by}
 use Rattle.qgm_build.specs.Laying.{told_at}
-use Rattle.qgm_build.specs.Site.{sources_at}
-use Rattle.qgm_build.specs.SoFar.{so_far}
-use Rattle.qgm_build.specs.Written.{frame_of}
+use Rattle.built_terms.specs.Site.{sources_at}
+use Rattle.built_terms.specs.SoFar.{so_far}
+use Rattle.built_terms.specs.Written.{frame_of}
 use Rattle.qgm_build.proofs.Same.{frame_all_same}
 use Rattle.qgm_build.proofs.lay.from_frame.Goals as goal
 

@@ -1,8 +1,8 @@
 use Rattle.std.proofs.Common.{refl}
 use Rattle.std.proofs.lemmas.Result.{IfOk-weaker}
-use Rattle.qgm_build.specs.Folds.{leaf_of}
+use Rattle.built_terms.specs.Folds.{leaf_of}
 use Rattle.qgm_build.specs.Laying.{told_at}
-use Rattle.qgm_build.specs.SoFar.{so_far}
+use Rattle.built_terms.specs.SoFar.{so_far}
 use Rattle.std.proofs.Common.{length, map}
 use Rattle.qgm_build.proofs.Paired.{group_read}
 use Rattle.qgm_build.proofs.pairs.finish_group.Goals as goal

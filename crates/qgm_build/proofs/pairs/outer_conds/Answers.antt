@@ -3,9 +3,9 @@ use Rattle.qgm_terms.specs.Shown.{cond}
 use Rattle.qgm_shown.specs.Lay.{laying}
 use Rattle.qgm_shown.specs.Shown.{no_slots}
 use Rattle.qgm_build.specs.Laying.{outer_of, told_at}
-use Rattle.qgm_build.specs.Setting.{frame_in, outer_in, sources_in}
-use Rattle.qgm_build.specs.SoFar.{so_far}
-use Rattle.qgm_build.specs.Written.{frame_of}
+use Rattle.built_terms.specs.Setting.{frame_in, outer_in, sources_in}
+use Rattle.built_terms.specs.SoFar.{so_far}
+use Rattle.built_terms.specs.Written.{frame_of}
 use Rattle.qgm_build.proofs.Finished.{test_read}
 use Rattle.qgm_build.proofs.pairs.outer_conds.Goals as goal
 

@@ -1,9 +1,9 @@
 use Rattle.std.proofs.Common.{ap}
 use Rattle.sql_meaning.specs.ResolvedShown as shown
 use Rattle.qgm_build.specs.Laying.{told_at}
-use Rattle.qgm_build.specs.Site.{sources_at}
-use Rattle.qgm_build.specs.SoFar.{so_far}
-use Rattle.qgm_build.specs.Written.{frame_of}
+use Rattle.built_terms.specs.Site.{sources_at}
+use Rattle.built_terms.specs.SoFar.{so_far}
+use Rattle.built_terms.specs.Written.{frame_of}
 use Rattle.qgm_build.proofs.Finished.{outer_frame_read}
 use Rattle.qgm_build.proofs.pairs.outer_frame.Goals as goal
 

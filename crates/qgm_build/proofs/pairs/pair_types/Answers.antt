@@ -2,7 +2,7 @@ use Rattle.std.proofs.Common.{◌++◌, ◌∷◌, [], ◌+◌, ◌-◌, ◌∙�
 use Rattle.sql_value.specs.declared.order_key.SqlType.{SqlType}
 use Rattle.qgm_shown.specs.Shown.{columns_of}
 use Rattle.qgm_shown.specs.Typing.{typed_by}
-use Rattle.qgm_build.proofs.Lists.{types_more}
+use Rattle.built_terms.proofs.Lists.{types_more}
 use Rattle.qgm_build.proofs.pairs.pair_types.Goals as goal
 
 pub loop-i-preserved : goal.loop-i-preserved

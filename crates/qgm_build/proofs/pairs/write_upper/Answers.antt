@@ -3,11 +3,11 @@ use Rattle.sql_meaning.specs.ResolvedShown as shown
 use Rattle.qgm_terms.specs.Shown.{cond, terms}
 use Rattle.qgm_shown.specs.Lay.{laying}
 use Rattle.qgm_shown.specs.Shown.{fold_refs, upper_leaves}
-use Rattle.qgm_build.specs.Folds.{leaf_of}
+use Rattle.built_terms.specs.Folds.{leaf_of}
 use Rattle.qgm_build.specs.Laying.{outer_of, told_at}
-use Rattle.qgm_build.specs.Setting.{frame_in, outer_in, sources_in}
-use Rattle.qgm_build.specs.SoFar.{so_far}
-use Rattle.qgm_build.specs.Written.{frame_of, slots_of}
+use Rattle.built_terms.specs.Setting.{frame_in, outer_in, sources_in}
+use Rattle.built_terms.specs.SoFar.{so_far}
+use Rattle.built_terms.specs.Written.{frame_of, slots_of}
 use Rattle.qgm_build.proofs.Finished.{having_read, list_read, upper_cells_read}
 use Rattle.qgm_build.proofs.pairs.write_upper.Goals as goal
 

@@ -3,11 +3,11 @@ use Rattle.sql_meaning.specs.ResolvedShown as shown
 use Rattle.qgm_terms.specs.Shown.{cond, term}
 use Rattle.qgm_terms.specs.Terms.{Cond}
 use Rattle.qgm_shown.specs.Shown.{all_ons}
-use Rattle.qgm_build.specs.Folds.{leaf_of}
-use Rattle.qgm_build.specs.Site.{sources_at}
-use Rattle.qgm_build.specs.Written.{frame_of, map_of, slots_from, slots_of}
+use Rattle.built_terms.specs.Folds.{leaf_of}
+use Rattle.built_terms.specs.Site.{sources_at}
+use Rattle.built_terms.specs.Written.{frame_of, map_of, slots_from, slots_of}
 use Rattle.qgm_build.proofs.Blocks.{cells_here, conds_read, head_read}
-use Rattle.qgm_build.proofs.Steps.{from_none}
+use Rattle.built_terms.proofs.Steps.{from_none}
 use Rattle.qgm_build.proofs.select.write_block.Goals as goal
 
 pub returns-clause-head : goal.returns-clause-head

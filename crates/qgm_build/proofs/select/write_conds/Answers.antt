@@ -1,9 +1,9 @@
 use Rattle.std.proofs.Common.{map, ap}
 use Rattle.sql_meaning.specs.ResolvedShown as shown
 use Rattle.qgm_terms.specs.Shown.{cond}
-use Rattle.qgm_build.specs.Folds.{leaf_of}
-use Rattle.qgm_build.specs.Site.{sources_at}
-use Rattle.qgm_build.specs.Written.{frame_of, map_of, slots_of}
+use Rattle.built_terms.specs.Folds.{leaf_of}
+use Rattle.built_terms.specs.Site.{sources_at}
+use Rattle.built_terms.specs.Written.{frame_of, map_of, slots_of}
 use Rattle.qgm_build.proofs.Finished.{rows_conds_read}
 use Rattle.qgm_build.proofs.select.write_conds.Goals as goal
 

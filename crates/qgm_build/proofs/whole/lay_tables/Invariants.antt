@@ -2,7 +2,7 @@ use Rattle.std.proofs.Common.{◌≡◌, drop, map}
 use Rattle.sql_meaning.specs.ResolvedShown as shown
 use Rattle.qgm_shown.specs.Whole as spec
 use Rattle.qgm_build.specs.Schema.{base_of}
-use Rattle.qgm_build.specs.SoFar.{so_far}
+use Rattle.built_terms.specs.SoFar.{so_far}
 use Rattle.qgm_build.proofs.whole.lay_tables.Given as goal
 
 abbrev pub invariant-loop-table : goal.invariant-loop-table

@@ -1,0 +1,117 @@
+use Rattle.std.proofs.Common.{◌+◌, ◌++◌, List, ◌∷◌, drop, map, ap₂, sym, ◌∙◌, refl}
+use Rattle.sql_meaning.specs.ResolvedShown as shown
+use Rattle.sql_meaning.specs.declared.resolved.Addend.{Addend}
+use Rattle.sql_meaning.specs.declared.resolved.Arm.{Arm}
+use Rattle.sql_meaning.specs.declared.resolved.Choice.{Choice}
+use Rattle.sql_meaning.specs.declared.resolved.Multiplier.{Multiplier}
+use Rattle.sql_meaning.specs.declared.resolved.Test.{Test}
+use Rattle.sql_meaning.specs.declared.resolved.Value.{Value}
+use Rattle.qgm_terms.specs.Shown.{cond, term}
+use Rattle.qgm_terms.specs.Terms as tree
+use Rattle.qgm_terms.specs.Terms.{Cond, Term}
+use Rattle.qgm_shown.specs.Leaves as w
+use Rattle.qgm_shown.specs.Leaves.{Slots}
+use Rattle.qgm_shown.specs.Terms as t
+use Rattle.built_terms.specs.Opened.{open_choice}
+use Rattle.built_terms.specs.Parts.{arms_in, choices_in, conds_in}
+use Rattle.built_terms.specs.Setting.{frame_in, outer_in, shared_box, sources_in}
+use Rattle.built_terms.specs.Written.{slots_of}
+use Rattle.built_terms.proofs.Afters.{after_append}
+use Rattle.built_terms.proofs.Steps.{arm_read, choice_read, from_none, from_one, on_ok, step_both, step_chain, step_items, step_slots}
+use Rattle.built_terms.proofs.Wholes.{coalesced_whole, equals_whole, searched_whole, simple_whole}
+use Rattle.built_terms.proofs.terms.+terms.Goals as goal
+
+pub sum-loop-x-preserved : goal.sum-loop-x-preserved
+sum-loop-x-preserved h c = record {
+  term = step_chain (λ (s : Slots) (x : Term) (xs : List Addend). t.summed (sources_in c.args.g.now) (frame_in c.args.g.now) (outer_in c.args.g.now) s x (shown.addend_list xs)) c.args.list.now c.loop-x.x-index c.x-item.result (slots_of c.loop-x.s) (slots_of c.value.new.s) (term c.loop-x.total) (term c.in_ok-total.total) _ c.loop-x-test.true c.x-item.is
+      (ap₂ (λ (s : Slots) (x : Term). t.summed (sources_in c.args.g.now) (frame_in c.args.g.now) (outer_in c.args.g.now) s x (shown.addend_list (drop (c.loop-x.x-index + 1) c.args.list.now))) (sym c.in_ok-next.ensures.slots) (ap₂ (λ o y. tree.both o (term c.loop-x.total) y) (sym c.additive.ensures) (sym c.in_ok-next.ensures.term) ∙ sym c.in_ok-total.ensures))
+      c.loop-x.invariant.term;
+  slots = step_slots (λ (xs : List Addend). w.addend_leaves (frame_in c.args.g.now) (shown.addend_list xs)) c.args.list.now c.loop-x.x-index c.x-item.result (w.leaves (frame_in c.args.g.now) (shown.value c.x-item.result.value)) (slots_of c.loop-x.s) (slots_of c.value.new.s) _ c.loop-x-test.true c.x-item.is refl c.in_ok-next.ensures.slots c.loop-x.invariant.slots;
+}
+
+pub product-loop-x-preserved : goal.product-loop-x-preserved
+product-loop-x-preserved h c = record {
+  term = step_chain (λ (s : Slots) (x : Term) (xs : List Multiplier). t.multiplied (sources_in c.args.g.now) (frame_in c.args.g.now) (outer_in c.args.g.now) s x (shown.multiplier_list xs)) c.args.list.now c.loop-x.x-index c.x-item.result (slots_of c.loop-x.s) (slots_of c.value.new.s) (term c.loop-x.total) (term c.in_ok-total.total) _ c.loop-x-test.true c.x-item.is
+      (ap₂ (λ (s : Slots) (x : Term). t.multiplied (sources_in c.args.g.now) (frame_in c.args.g.now) (outer_in c.args.g.now) s x (shown.multiplier_list (drop (c.loop-x.x-index + 1) c.args.list.now))) (sym c.in_ok-next.ensures.slots) (ap₂ (λ o y. tree.both o (term c.loop-x.total) y) (sym c.multiplicative.ensures) (sym c.in_ok-next.ensures.term) ∙ sym c.in_ok-total.ensures))
+      c.loop-x.invariant.term;
+  slots = step_slots (λ (xs : List Multiplier). w.multiplier_leaves (frame_in c.args.g.now) (shown.multiplier_list xs)) c.args.list.now c.loop-x.x-index c.x-item.result (w.leaves (frame_in c.args.g.now) (shown.value c.x-item.result.value)) (slots_of c.loop-x.s) (slots_of c.value.new.s) _ c.loop-x-test.true c.x-item.is refl c.in_ok-next.ensures.slots c.loop-x.invariant.slots;
+}
+
+pub values-loop-x-preserved : goal.values-loop-x-preserved
+values-loop-x-preserved h c = record {
+  parts = step_items term (λ (s : Slots) (xs : List Value). t.terms (sources_in c.args.g.now) (frame_in c.args.g.now) (outer_in c.args.g.now) s (shown.value_list xs)) c.args.list.now c.loop-x.x-index c.x-item.result c.in_ok-y.y (slots_of c.loop-x.s) (slots_of c.value.new.s) c.loop-x.out.items c.push.new.self.items _ c.loop-x-test.true c.x-item.is c.in_ok-push.ensures.items
+      (ap₂ (λ (y : Term) (s : Slots). y ∷ t.terms (sources_in c.args.g.now) (frame_in c.args.g.now) (outer_in c.args.g.now) s (shown.value_list (drop (c.loop-x.x-index + 1) c.args.list.now))) (sym c.in_ok-y.ensures.term) (sym c.in_ok-y.ensures.slots)) c.loop-x.invariant.parts;
+  slots = step_slots (λ (xs : List Value). w.list_leaves (frame_in c.args.g.now) (shown.value_list xs)) c.args.list.now c.loop-x.x-index c.x-item.result (w.leaves (frame_in c.args.g.now) (shown.value c.x-item.result)) (slots_of c.loop-x.s) (slots_of c.value.new.s) _ c.loop-x-test.true c.x-item.is refl c.in_ok-y.ensures.slots c.loop-x.invariant.slots;
+}
+
+pub tests-loop-p-preserved : goal.tests-loop-p-preserved
+tests-loop-p-preserved h c = record {
+  parts = step_items cond (λ (s : Slots) (xs : List Test). conds_in (sources_in c.args.g.now) (frame_in c.args.g.now) (outer_in c.args.g.now) s (shown.test_list xs)) c.args.list.now c.loop-p.p-index c.p-item.result c.in_ok-c.c (slots_of c.loop-p.s) (slots_of c.test.new.s) c.loop-p.out.items c.push.new.self.items _ c.loop-p-test.true c.p-item.is c.in_ok-push.ensures.items
+      (ap₂ (λ (y : Cond) (s : Slots). y ∷ conds_in (sources_in c.args.g.now) (frame_in c.args.g.now) (outer_in c.args.g.now) s (shown.test_list (drop (c.loop-p.p-index + 1) c.args.list.now))) (sym c.in_ok-c.ensures.cond) (sym c.in_ok-c.ensures.slots)) c.loop-p.invariant.parts;
+  slots = step_slots (λ (xs : List Test). w.tests_leaves (frame_in c.args.g.now) (shown.test_list xs)) c.args.list.now c.loop-p.p-index c.p-item.result (w.test_leaves (frame_in c.args.g.now) (shown.test c.p-item.result)) (slots_of c.loop-p.s) (slots_of c.test.new.s) _ c.loop-p-test.true c.p-item.is refl c.in_ok-c.ensures.slots c.loop-p.invariant.slots;
+}
+
+pub arms-loop-arm-preserved : goal.arms-loop-arm-preserved
+arms-loop-arm-preserved h c = record {
+  parts = step_items open_choice (λ (s : Slots) (xs : List Arm). arms_in (sources_in c.args.g.now) (frame_in c.args.g.now) (outer_in c.args.g.now) s (shown.arm_list xs)) c.args.list.now c.loop-arm.arm-index c.arm-item.result (record { when = c.in_ok-when.when; then = c.in_ok-then.then }) (slots_of c.loop-arm.s) (slots_of c.outcome.new.s) c.loop-arm.out.items c.push.new.self.items _ c.loop-arm-test.true c.arm-item.is c.in_ok-push.ensures.items
+      (arm_read (sources_in c.args.g.now) (frame_in c.args.g.now) (outer_in c.args.g.now) (slots_of c.loop-arm.s) (slots_of c.test.new.s) (slots_of c.outcome.new.s) (shown.test c.arm-item.result.when) (shown.value c.arm-item.result.then) (shown.arm_list (drop (c.loop-arm.arm-index + 1) c.args.list.now)) _ _ c.in_ok-when.ensures.cond c.in_ok-when.ensures.slots c.in_ok-then.ensures.term c.in_ok-then.ensures.slots) c.loop-arm.invariant.parts;
+  slots = step_both (λ (xs : List Arm). w.arm_leaves (frame_in c.args.g.now) (shown.arm_list xs)) c.args.list.now c.loop-arm.arm-index c.arm-item.result (w.test_leaves (frame_in c.args.g.now) (shown.test c.arm-item.result.when)) (w.leaves (frame_in c.args.g.now) (shown.value c.arm-item.result.then)) (slots_of c.loop-arm.s) (slots_of c.test.new.s) (slots_of c.outcome.new.s) _ c.loop-arm-test.true c.arm-item.is refl c.in_ok-when.ensures.slots c.in_ok-then.ensures.slots c.loop-arm.invariant.slots;
+}
+
+pub choices-loop-choice-preserved : goal.choices-loop-choice-preserved
+choices-loop-choice-preserved h c = record {
+  parts = step_items open_choice (λ (s : Slots) (xs : List Choice). choices_in (sources_in c.args.g.now) (frame_in c.args.g.now) (outer_in c.args.g.now) s (term c.args.x.now) (shown.choice_list xs)) c.args.list.now c.loop-choice.choice-index c.choice-item.result (record { when = c.in_ok-when.when; then = c.in_ok-then.then }) (slots_of c.loop-choice.s) (slots_of c.outcome.new.s) c.loop-choice.out.items c.push.new.self.items _ c.loop-choice-test.true c.choice-item.is c.in_ok-push.ensures.items
+      (choice_read (sources_in c.args.g.now) (frame_in c.args.g.now) (outer_in c.args.g.now) (slots_of c.loop-choice.s) (slots_of c.value.new.s) (slots_of c.outcome.new.s) (term c.args.x.now) (shown.value c.choice-item.result.when) (shown.value c.choice-item.result.then) (shown.choice_list (drop (c.loop-choice.choice-index + 1) c.args.list.now)) _ _ _ c.in_ok-y.ensures.term c.in_ok-y.ensures.slots c.in_ok-when.ensures c.in_ok-then.ensures.term c.in_ok-then.ensures.slots) c.loop-choice.invariant.parts;
+  slots = step_both (λ (xs : List Choice). w.choice_leaves (frame_in c.args.g.now) (shown.choice_list xs)) c.args.list.now c.loop-choice.choice-index c.choice-item.result (w.leaves (frame_in c.args.g.now) (shown.value c.choice-item.result.when)) (w.leaves (frame_in c.args.g.now) (shown.value c.choice-item.result.then)) (slots_of c.loop-choice.s) (slots_of c.value.new.s) (slots_of c.outcome.new.s) _ c.loop-choice-test.true c.choice-item.is refl c.in_ok-y.ensures.slots c.in_ok-then.ensures.slots c.loop-choice.invariant.slots;
+}
+
+pub test-returns-in_ok-values-in-Among-clause-cond : goal.test-returns-in_ok-values-in-Among-clause-cond
+test-returns-in_ok-values-in-Among-clause-cond h c =
+    rw (c.in-Among.is, shown.values_hidden c.in-Among.list, equals_whole (sources_in c.args.g.now) (frame_in c.args.g.now) (outer_in c.args.g.now) (w.after (w.leaves (frame_in c.args.g.now) (shown.value c.in-Among.a.value)) (slots_of c.args.s.now)) (t.term (sources_in c.args.g.now) (frame_in c.args.g.now) (outer_in c.args.g.now) (slots_of c.args.s.now) (shown.value c.in-Among.a.value)) (shown.value_list c.in-Among.list), ← c.as_slice-in-Among.ensures, ← c.deref-in-Among.ensures, ← c.in_ok-a-in-Among.ensures.slots, ← c.in_ok-a-in-Among.ensures.term, ← from_none term c.in_ok-values-in-Among.ensures.terms c.new-all.ensures.items)
+    c.equals_one.ensures
+
+pub test-returns-in_ok-values-in-Among-clause-slots : goal.test-returns-in_ok-values-in-Among-clause-slots
+test-returns-in_ok-values-in-Among-clause-slots h c =
+    rw (c.in-Among.is, shown.values_hidden c.in-Among.list, after_append (w.leaves (frame_in c.args.g.now) (shown.value c.in-Among.a.value)) (w.list_leaves (frame_in c.args.g.now) (shown.value_list c.in-Among.list)) (slots_of c.args.s.now), ← c.as_slice-in-Among.ensures, ← c.deref-in-Among.ensures, ← c.in_ok-a-in-Among.ensures.slots)
+    (on_ok c.equals_one.result c.in_ok-values-in-Among.ensures.slots)
+
+pub value-returns-in_ok-first-in-Sum-clause-term : goal.value-returns-in_ok-first-in-Sum-clause-term
+value-returns-in_ok-first-in-Sum-clause-term h c =
+    rw (c.in-Sum.is, shown.addends_hidden c.in-Sum.list, ← c.as_slice.ensures, ← c.deref.ensures, ← c.in_ok-first-in-Sum.ensures.slots, ← c.in_ok-first-in-Sum.ensures.term) c.sum.ensures.term
+
+pub value-returns-in_ok-first-in-Sum-clause-slots : goal.value-returns-in_ok-first-in-Sum-clause-slots
+value-returns-in_ok-first-in-Sum-clause-slots h c =
+    rw (c.in-Sum.is, shown.addends_hidden c.in-Sum.list, after_append (w.leaves (frame_in c.args.g.now) (shown.value c.in-Sum.a.value)) (w.addend_leaves (frame_in c.args.g.now) (shown.addend_list c.in-Sum.list)) (slots_of c.args.s.now), ← c.as_slice.ensures, ← c.deref.ensures, ← c.in_ok-first-in-Sum.ensures.slots) c.sum.ensures.slots
+
+pub value-returns-in_ok-first-in-Product-clause-term : goal.value-returns-in_ok-first-in-Product-clause-term
+value-returns-in_ok-first-in-Product-clause-term h c =
+    rw (c.in-Product.is, shown.multipliers_hidden c.in-Product.list, ← c.as_slice-in-Product.ensures, ← c.deref-in-Product.ensures, ← c.in_ok-first-in-Product.ensures.slots, ← c.in_ok-first-in-Product.ensures.term) c.product.ensures.term
+
+pub value-returns-in_ok-first-in-Product-clause-slots : goal.value-returns-in_ok-first-in-Product-clause-slots
+value-returns-in_ok-first-in-Product-clause-slots h c =
+    rw (c.in-Product.is, shown.multipliers_hidden c.in-Product.list, after_append (w.leaves (frame_in c.args.g.now) (shown.value c.in-Product.a.value)) (w.multiplier_leaves (frame_in c.args.g.now) (shown.multiplier_list c.in-Product.list)) (slots_of c.args.s.now), ← c.as_slice-in-Product.ensures, ← c.deref-in-Product.ensures, ← c.in_ok-first-in-Product.ensures.slots) c.product.ensures.slots
+
+pub value-returns-in_ok-last-in-Searched-clause-term : goal.value-returns-in_ok-last-in-Searched-clause-term
+value-returns-in_ok-last-in-Searched-clause-term h c =
+    rw (c.in-Searched.is, shown.arms_hidden c.in-Searched.list, searched_whole c.args.g.now.known.names.named.now (map shared_box c.args.g.now.known.shared.now) c.args.g.now.rows.now (frame_in c.args.g.now) (outer_in c.args.g.now) (slots_of c.args.s.now) (shown.arm_list c.in-Searched.list) (shown.value c.in-Searched.last.value), ← c.as_slice-in-Searched.ensures, ← c.deref-in-Searched.ensures, ← c.in_ok-list-in-Searched.ensures.slots, ← c.in_ok-list-in-Searched.ensures.arms, ← c.in_ok-last-in-Searched.ensures.term)
+    c.chosen.ensures
+
+pub value-returns-in_ok-last-in-Simple-clause-term : goal.value-returns-in_ok-last-in-Simple-clause-term
+value-returns-in_ok-last-in-Simple-clause-term h c =
+    rw (c.in-Simple.is, shown.choices_hidden c.in-Simple.list, simple_whole c.args.g.now.known.names.named.now (map shared_box c.args.g.now.known.shared.now) c.args.g.now.rows.now (frame_in c.args.g.now) (outer_in c.args.g.now) (slots_of c.args.s.now) (shown.value c.in-Simple.a.value) (shown.choice_list c.in-Simple.list) (shown.value c.in-Simple.last.value), ← c.as_slice-in-Simple.ensures, ← c.deref-in-Simple.ensures, ← c.deref-in-Simple-2.ensures, ← c.in_ok-a-in-Simple.ensures.slots, ← c.in_ok-a-in-Simple.ensures.term, ← c.in_ok-list-in-Simple.ensures.slots, ← c.in_ok-list-in-Simple.ensures.arms, ← c.in_ok-last-in-Simple.ensures.term)
+    c.chosen-in-Simple.ensures
+
+pub value-returns-in_ok-last-in-Simple-clause-slots : goal.value-returns-in_ok-last-in-Simple-clause-slots
+value-returns-in_ok-last-in-Simple-clause-slots h c =
+    rw (c.in-Simple.is, shown.choices_hidden c.in-Simple.list, after_append (w.leaves (frame_in c.args.g.now) (shown.value c.in-Simple.a.value)) (w.choice_leaves (frame_in c.args.g.now) (shown.choice_list c.in-Simple.list) ++ w.leaves (frame_in c.args.g.now) (shown.value c.in-Simple.last.value)) (slots_of c.args.s.now), after_append (w.choice_leaves (frame_in c.args.g.now) (shown.choice_list c.in-Simple.list)) (w.leaves (frame_in c.args.g.now) (shown.value c.in-Simple.last.value)) (w.after (w.leaves (frame_in c.args.g.now) (shown.value c.in-Simple.a.value)) (slots_of c.args.s.now)), ← c.as_slice-in-Simple.ensures, ← c.deref-in-Simple.ensures, ← c.deref-in-Simple-2.ensures, ← c.in_ok-a-in-Simple.ensures.slots, ← c.in_ok-list-in-Simple.ensures.slots)
+    (on_ok c.chosen-in-Simple.result c.in_ok-last-in-Simple.ensures.slots)
+
+pub value-returns-in_ok-values-in-Coalesce-clause-term : goal.value-returns-in_ok-values-in-Coalesce-clause-term
+value-returns-in_ok-values-in-Coalesce-clause-term h c =
+    rw (c.in-Coalesce.is, shown.values_hidden c.in-Coalesce.list, coalesced_whole (sources_in c.args.g.now) (frame_in c.args.g.now) (outer_in c.args.g.now) (w.after (w.leaves (frame_in c.args.g.now) (shown.value c.in-Coalesce.a.value)) (slots_of c.args.s.now)) (t.term (sources_in c.args.g.now) (frame_in c.args.g.now) (outer_in c.args.g.now) (slots_of c.args.s.now) (shown.value c.in-Coalesce.a.value)) (shown.value_list c.in-Coalesce.list), ← c.as_slice-in-Coalesce.ensures, ← c.deref-in-Coalesce.ensures, ← c.in_ok-a-in-Coalesce.ensures.slots, ← c.in_ok-a-in-Coalesce.ensures.term, ← from_one term c.in_ok-values-in-Coalesce.ensures.terms c.in_ok-push-in-Coalesce.ensures.items c.new-all.ensures.items)
+    c.coalesced.ensures
+
+pub value-returns-in_ok-values-in-Coalesce-clause-slots : goal.value-returns-in_ok-values-in-Coalesce-clause-slots
+value-returns-in_ok-values-in-Coalesce-clause-slots h c =
+    rw (c.in-Coalesce.is, shown.values_hidden c.in-Coalesce.list, after_append (w.leaves (frame_in c.args.g.now) (shown.value c.in-Coalesce.a.value)) (w.list_leaves (frame_in c.args.g.now) (shown.value_list c.in-Coalesce.list)) (slots_of c.args.s.now), ← c.as_slice-in-Coalesce.ensures, ← c.deref-in-Coalesce.ensures, ← c.in_ok-a-in-Coalesce.ensures.slots)
+    (on_ok c.coalesced.result c.in_ok-values-in-Coalesce.ensures.slots)

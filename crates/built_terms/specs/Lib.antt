@@ -1,0 +1,9 @@
+pub mod Written
+pub mod Parts
+pub mod Opened
+pub mod Setting
+pub mod SoFar
+pub mod Making
+pub mod Site
+pub mod Splits
+pub mod Folds

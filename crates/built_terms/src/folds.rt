@@ -1,0 +1,164 @@
+// The aggregates of a block, in the order of the text.
+ghost use Rattle.std.specs.Prelude.{◌≡◌, ◌++◌, [], OnOk, map};
+ghost use Rattle.sql_meaning.specs.ResolvedShown as shown;
+ghost use Rattle.qgm_shown.specs.Leaves as l;
+ghost use Rattle.qgm_shown.specs.Folds.{folds_in};
+ghost use Rattle.built_terms.specs.Folds.{leaf_of};
+
+use shared_types::OutOfMemory;
+use sql_ast::SetFunction;
+use sql_meaning::{Addend, Arm, Choice, Multiplier, Test, Value};
+
+/// An aggregate of the text.
+#[derive(Clone, Copy)]
+pub enum Fold<'a> {
+    CountAll,
+    /// Of an argument, with DISTINCT where the bool is true.
+    Of(SetFunction, bool, &'a Value),
+}
+
+// Adds the aggregates of an expression.
+#[cycle(folds)]
+#[tactic(auto, using(sql_meaning::specs::ResolvedShown::lists, crate::proofs::Folding::folding))]
+pub(crate) fn value_folds<'a>(x: &'a Value, out: &mut Vec<Fold<'a>>) -> Result<(), OutOfMemory>
+    ensures { OnOk result (map leaf_of out.new.items ≡ map leaf_of out.old.items ++ folds_in (l.leaves [] (shown.value x.now))) }
+{
+    match x {
+        Value::Number(_)
+        | Value::Text(_)
+        | Value::Null(_)
+        | Value::Column(_, _)
+        | Value::Scalar(_) => Ok(()),
+        Value::Sum(a, list) => {
+            value_folds(a, out)?;
+            addend_folds(list.as_slice(), out)
+        }
+        Value::Product(a, list) => {
+            value_folds(a, out)?;
+            multiplier_folds(list.as_slice(), out)
+        }
+        Value::Negative(a) => value_folds(a, out),
+        Value::Searched(list, last) => {
+            arm_folds(list.as_slice(), out)?;
+            value_folds(last, out)
+        }
+        Value::Simple(a, list, last) => {
+            value_folds(a, out)?;
+            choice_folds(list.as_slice(), out)?;
+            value_folds(last, out)
+        }
+        Value::Coalesce(a, list) => {
+            value_folds(a, out)?;
+            list_folds(list.as_slice(), out)
+        }
+        Value::NullIf(a, b) => {
+            value_folds(a, out)?;
+            value_folds(b, out)
+        }
+        Value::CountAll => {
+            out.push(Fold::CountAll)?;
+            Ok(())
+        }
+        Value::Aggregate(function, distinct, a) => {
+            out.push(Fold::Of(*function, *distinct, a))?;
+            Ok(())
+        }
+    }
+}
+
+// The same of what is added.
+#[cycle(folds)]
+fn addend_folds<'a>(list: &'a [Addend], out: &mut Vec<Fold<'a>>) -> Result<(), OutOfMemory>
+    ensures { OnOk result (map leaf_of out.new.items ≡ map leaf_of out.old.items ++ folds_in (l.addend_leaves [] (shown.addend_list list.now))) }
+{
+    for x in list {
+        value_folds(&x.value, out)?;
+    }
+    Ok(())
+}
+
+// The same of what is multiplied.
+#[cycle(folds)]
+fn multiplier_folds<'a>(list: &'a [Multiplier], out: &mut Vec<Fold<'a>>) -> Result<(), OutOfMemory>
+    ensures { OnOk result (map leaf_of out.new.items ≡ map leaf_of out.old.items ++ folds_in (l.multiplier_leaves [] (shown.multiplier_list list.now))) }
+{
+    for x in list {
+        value_folds(&x.value, out)?;
+    }
+    Ok(())
+}
+
+/// Adds the aggregates of a list, in their order.
+#[cycle(folds)]
+pub fn list_folds<'a>(list: &'a [Value], out: &mut Vec<Fold<'a>>) -> Result<(), OutOfMemory>
+    ensures { OnOk result (map leaf_of out.new.items ≡ map leaf_of out.old.items ++ folds_in (l.list_leaves [] (shown.value_list list.now))) }
+{
+    for x in list {
+        value_folds(x, out)?;
+    }
+    Ok(())
+}
+
+// The same of conditions with their results.
+#[cycle(folds)]
+fn arm_folds<'a>(list: &'a [Arm], out: &mut Vec<Fold<'a>>) -> Result<(), OutOfMemory>
+    ensures { OnOk result (map leaf_of out.new.items ≡ map leaf_of out.old.items ++ folds_in (l.arm_leaves [] (shown.arm_list list.now))) }
+{
+    for x in list {
+        test_folds(&x.when, out)?;
+        value_folds(&x.then, out)?;
+    }
+    Ok(())
+}
+
+// The same of values with their results.
+#[cycle(folds)]
+fn choice_folds<'a>(list: &'a [Choice], out: &mut Vec<Fold<'a>>) -> Result<(), OutOfMemory>
+    ensures { OnOk result (map leaf_of out.new.items ≡ map leaf_of out.old.items ++ folds_in (l.choice_leaves [] (shown.choice_list list.now))) }
+{
+    for x in list {
+        value_folds(&x.when, out)?;
+        value_folds(&x.then, out)?;
+    }
+    Ok(())
+}
+
+/// Adds the aggregates of a condition, in their order.
+#[cycle(folds)]
+#[tactic(auto, using(sql_meaning::specs::ResolvedShown::lists, crate::proofs::Folding::folding))]
+pub fn test_folds<'a>(p: &'a Test, out: &mut Vec<Fold<'a>>) -> Result<(), OutOfMemory>
+    ensures { OnOk result (map leaf_of out.new.items ≡ map leaf_of out.old.items ++ folds_in (l.test_leaves [] (shown.test p.now))) }
+{
+    match p {
+        Test::All(list) | Test::Any(list) => tests_folds(list.as_slice(), out),
+        Test::Not(p) => test_folds(p, out),
+        Test::Compare(a, _, b) | Test::Like(a, b) => {
+            value_folds(a, out)?;
+            value_folds(b, out)
+        }
+        Test::Quantified(a, _, _, _) => value_folds(a, out),
+        Test::AmongRows(a, _) => value_folds(a, out),
+        Test::Between(a, b, c) => {
+            value_folds(a, out)?;
+            value_folds(b, out)?;
+            value_folds(c, out)
+        }
+        Test::Among(a, list) => {
+            value_folds(a, out)?;
+            list_folds(list.as_slice(), out)
+        }
+        Test::IsNull(a) => value_folds(a, out),
+        Test::Exists(_) => Ok(()),
+    }
+}
+
+// The same of conditions.
+#[cycle(folds)]
+fn tests_folds<'a>(list: &'a [Test], out: &mut Vec<Fold<'a>>) -> Result<(), OutOfMemory>
+    ensures { OnOk result (map leaf_of out.new.items ≡ map leaf_of out.old.items ++ folds_in (l.tests_leaves [] (shown.test_list list.now))) }
+{
+    for p in list {
+        test_folds(p, out)?;
+    }
+    Ok(())
+}

@@ -1,0 +1,165 @@
+// The boxes that were made so far.
+ghost use Rattle.std.specs.Prelude.{◌≡◌, ◌++◌, ◌∷◌, [], IfOk, OnOk, get_or, map};
+ghost use Rattle.qgm_terms.specs.Shown.{terms};
+ghost use Rattle.qgm_terms.specs.Terms.{col};
+ghost use Rattle.qgm_shown.specs.Lay.{box_named, column_types, ranging};
+ghost use Rattle.qgm_shown.specs.Lay as spec;
+ghost use Rattle.qgm_shown.specs.Shown.{columns_of};
+ghost use Rattle.qgm_shown.specs.Shown as shown;
+ghost use Rattle.qgm_shown.specs.Typing.{typed_by};
+ghost use Rattle.built_terms.specs.Making.{Gives, Takes, draws};
+ghost use Rattle.built_terms.specs.SoFar.{so_far};
+
+use crate::types::type_of;
+use qgm_core::{
+    BoxId, BoxKind, BoxParts, Conds, Distinct, Gx, Head, NewBox, Owned, OwnedQuant, QuantId,
+    QuantKind, Role,
+};
+use shared_types::{OutOfMemory, Text};
+use sql_value::SqlType;
+use sqlite_items::Items;
+use std::alloc::Global;
+
+/// The box that all share who name a table or a view.
+#[derive(Drop)]
+pub struct Shared {
+    pub name: Text,
+    pub number: BoxId,
+}
+
+/// The boxes so far, each with a number that is its place, and the next number of a quantifier; the
+/// types of the columns of boxes and of quantifiers, by their numbers, and the boxes of tables and views;
+/// and how many terms, conditions and columns of boxes may still be written. Contracts see it as the
+/// `Boxes` that it is.
+#[derive(Drop)]
+pub struct Store {
+    pub made: Vec<NewBox>,
+    pub next_quant: QuantId,
+    pub types: Vec<Items<SqlType>>,
+    pub rows: Vec<Items<SqlType>>,
+    pub shared: Vec<Shared>,
+    pub left: usize,
+}
+
+/// The number of the box that all share who name a table or a view; 0 where there is none.
+pub fn number_named(st: &Store, name: &Text) -> BoxId
+    ensures { result ≡ box_named (so_far st.now).shared name.now }
+{
+    for x in &st.shared {
+        if x.name == *name {
+            return x.number;
+        }
+    }
+    0
+}
+
+/// The types of the columns of a box.
+fn types_of_box(alloc: Global, st: &Store, b: BoxId) -> Result<Items<SqlType>, OutOfMemory>
+    ensures { IfOk result (λ types. types ≡ get_or st.now.types.items b []) }
+{
+    match st.types.get(b) {
+        Some(types) => Ok(Items::from_slice(alloc, types.as_slice())?),
+        None => Ok(Items::new(alloc)),
+    }
+}
+
+/// The type of a column of a quantifier.
+pub fn row_type(st: &Store, q: QuantId, k: usize) -> SqlType
+    ensures { result ≡ typed_by st.now.rows.items (col q k) }
+{
+    type_of(&st.rows, &Gx::Col(q, k))
+}
+
+/// The number of a new quantifier over a box.
+pub fn number(alloc: Global, over: BoxId, st: &mut Store) -> Result<QuantId, OutOfMemory>
+    ensures number { IfOk result (λ q. q ≡ (so_far st.old).quant) }
+    ensures store { OnOk result (so_far st.new ≡ ranging over (so_far st.old)) }
+{
+    let id = st.next_quant;
+    let Some(next) = id.checked_add(1) else {
+        return Err(OutOfMemory);
+    };
+    let types = types_of_box(alloc, st, over)?;
+    st.rows.push(types)?;
+    st.next_quant = next;
+    Ok(id)
+}
+
+/// Adds a new quantifier over a box to others.
+pub fn draw(
+    alloc: Global,
+    st: &mut Store,
+    kind: QuantKind,
+    over: BoxId,
+    quants: &mut Owned,
+) -> Result<(), OutOfMemory>
+    ensures { OnOk result (Takes (draws kind over) (so_far st.old) quants.old (so_far st.new) quants.new) }
+{
+    let id = number(alloc, over, st)?;
+    quants.push(OwnedQuant { id, kind, over })
+}
+
+// Each row once, where true stands.
+fn distinct_of(distinct: bool) -> Distinct
+    ensures { result ≡ shown.distinct_of distinct }
+{
+    if distinct {
+        Distinct::Enforce
+    } else {
+        Distinct::Preserve
+    }
+}
+
+fn head_types(alloc: Global, st: &Store, head: &Head) -> Result<Items<SqlType>, OutOfMemory>
+    ensures { IfOk result (λ types. types ≡ map (typed_by st.now.rows.items) head.now) }
+{
+    let mut types = Items::new(alloc);
+    for x in head.as_slice() {
+        types.push(type_of(&st.rows, x))?;
+    }
+    Ok(types)
+}
+
+fn types_of(
+    alloc: Global,
+    st: &Store,
+    kind: &BoxKind,
+    head: &Head,
+) -> Result<Items<SqlType>, OutOfMemory>
+    ensures { IfOk result (λ types. types ≡ column_types st.now.rows.items kind.now head.now) }
+{
+    match kind {
+        BoxKind::Base(table) => Ok(Items::from_slice(alloc, table.types.as_slice())?),
+        BoxKind::SetOp(_, types) => Ok(Items::from_slice(alloc, types.as_slice())?),
+        BoxKind::Select | BoxKind::Group(_) | BoxKind::OuterJoin => head_types(alloc, st, head),
+    }
+}
+
+/// Makes a plain box on top of all, if as many columns as it has may still be written.
+pub fn put(
+    alloc: Global,
+    st: &mut Store,
+    kind: BoxKind,
+    distinct: bool,
+    conds: Conds,
+    head: Head,
+    quants: Owned,
+) -> Result<BoxId, OutOfMemory>
+    requires spare { conds.spare ≡ 0 }
+    ensures { IfOk result (λ b. Gives (spec.put kind distinct conds.items head quants (so_far st.old)) b (so_far st.new)) }
+{
+    let id = st.made.len();
+    let distinct = distinct_of(distinct);
+    let types = types_of(alloc, st, &kind, &head)?;
+    st.left = st.left.checked_sub(types.len()).ok_or(OutOfMemory)?;
+    let parts = BoxParts {
+        kind,
+        distinct,
+        role: Role::Plain,
+        conds,
+        head,
+    };
+    st.types.push(types)?;
+    st.made.push(NewBox { parts, quants })?;
+    Ok(id)
+}

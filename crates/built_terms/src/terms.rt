@@ -1,0 +1,279 @@
+// The expressions and the conditions of a block, as those of a box.
+ghost use Rattle.std.specs.Prelude.{◌≡◌, ◌++◌, ◌∷◌, [], IfOk, OnOk};
+ghost use Rattle.sql_meaning.specs.ResolvedShown as shown;
+ghost use Rattle.qgm_terms.specs.Shown.{cond, conds, term, terms};
+ghost use Rattle.qgm_shown.specs.Terms as t;
+ghost use Rattle.qgm_shown.specs.Leaves as l;
+ghost use Rattle.built_terms.specs.Opened.{open_of, opened};
+ghost use Rattle.built_terms.specs.Parts.{arms_in, choices_in, conds_in};
+ghost use Rattle.built_terms.specs.Setting as spec;
+ghost use Rattle.built_terms.specs.Setting.{frame_in, outer_in, sources_in};
+ghost use Rattle.built_terms.specs.Written.{slots_of};
+
+use crate::parts as made;
+use crate::parts::OpenArm;
+use crate::seen::{Scopes, seen_at};
+use crate::setting::Setting;
+use crate::slots::{Slots, take_cell, take_quant};
+use qgm_terms::{Gc, Gx, chained, negated};
+use shared_types::{CmpOp, OutOfMemory};
+use sql_meaning::{Addend, Arm, Choice, Multiplier, Test, Value};
+use std::alloc::Global;
+
+// Whether it is a NULL that has no type of its own.
+fn is_untyped(x: &Value) -> bool
+    ensures { result ≡ t.is_untyped (shown.value x.now) }
+{
+    match x {
+        Value::Null(None) => true,
+        Value::Null(Some(_))
+        | Value::Number(_)
+        | Value::Text(_)
+        | Value::Column(_, _)
+        | Value::Sum(_, _)
+        | Value::Product(_, _)
+        | Value::Negative(_)
+        | Value::Searched(_, _)
+        | Value::Simple(_, _, _)
+        | Value::Coalesce(_, _)
+        | Value::NullIf(_, _)
+        | Value::Scalar(_)
+        | Value::CountAll
+        | Value::Aggregate(_, _, _) => false,
+    }
+}
+
+// A column.
+fn column(g: &Setting<'_>, scope: usize, place: usize) -> Gx
+    ensures { term result ≡ spec.column_in g.now scope place }
+{
+    let inner = Scopes::Inside(g.frame, g.outer);
+    made::seen_term(seen_at(&inner, scope, place))
+}
+
+/// The expression of a value, where it stands. It fails only for want of memory.
+#[cycle(terms)]
+#[tactic(auto, using(sql_meaning::specs::ResolvedShown::lists, crate::proofs::Afters::afters, crate::proofs::Wholes::wholes))]
+pub fn value(g: &Setting<'_>, x: &Value, s: &mut Slots<'_>) -> Result<Gx, OutOfMemory>
+    ensures term { IfOk result (λ y. term y ≡ t.term (sources_in g.now) (frame_in g.now) (outer_in g.now) (slots_of s.old) (shown.value x.now)) }
+    ensures slots { OnOk result (slots_of s.new ≡ l.after (l.leaves (frame_in g.now) (shown.value x.now)) (slots_of s.old)) }
+{
+    let alloc = g.alloc;
+    match x {
+        Value::Number(n) => Ok(Gx::Int(*n)),
+        Value::Text(x) => made::text(alloc, x),
+        Value::Null(of) => Ok(made::null_of(*of)),
+        Value::Column(scope, place) => Ok(column(g, *scope, *place)),
+        Value::Sum(a, list) => {
+            let first = value(g, a, s)?;
+            sum(g, list.as_slice(), first, s)
+        }
+        Value::Product(a, list) => {
+            let first = value(g, a, s)?;
+            product(g, list.as_slice(), first, s)
+        }
+        Value::Negative(a) => made::negative(alloc, value(g, a, s)?),
+        Value::Searched(list, last) => {
+            let list = arms(g, list.as_slice(), s)?;
+            let last = outcome(g, last, s)?;
+            made::chosen(alloc, g.rows, list, last)
+        }
+        Value::Simple(a, list, last) => {
+            let a = value(g, a, s)?;
+            let list = choices(g, list.as_slice(), &a, s)?;
+            let last = outcome(g, last, s)?;
+            made::chosen(alloc, g.rows, list, last)
+        }
+        Value::Coalesce(a, list) => {
+            let mut all = Vec::new(alloc);
+            let a = value(g, a, s)?;
+            all.push(a)?;
+            values(g, list.as_slice(), s, &mut all)?;
+            made::coalesced(alloc, all)
+        }
+        Value::NullIf(a, b) => {
+            let a = value(g, a, s)?;
+            let b = value(g, b, s)?;
+            made::null_if(alloc, g.rows, a, b)
+        }
+        Value::Scalar(_) => Ok(Gx::Scalar(take_quant(s))),
+        Value::CountAll | Value::Aggregate(_, _, _) => Ok(made::seen_term(take_cell(s))),
+    }
+}
+
+// A first operand, and what is added to it.
+#[cycle(terms)]
+#[tactic(auto, using(crate::proofs::Afters::afters))]
+fn sum(g: &Setting<'_>, list: &[Addend], first: Gx, s: &mut Slots<'_>) -> Result<Gx, OutOfMemory>
+    ensures term { IfOk result (λ y. term y ≡ t.summed (sources_in g.now) (frame_in g.now) (outer_in g.now) (slots_of s.old) (term first) (shown.addend_list list.now)) }
+    ensures slots { OnOk result (slots_of s.new ≡ l.after (l.addend_leaves (frame_in g.now) (shown.addend_list list.now)) (slots_of s.old)) }
+{
+    let mut total = first;
+    for x in list {
+        let next = value(g, &x.value, s)?;
+        total = chained(g.alloc, total, made::additive(x.op), next)?;
+    }
+    Ok(total)
+}
+
+// A first operand, and what it is multiplied by.
+#[cycle(terms)]
+#[tactic(auto, using(crate::proofs::Afters::afters))]
+fn product(
+    g: &Setting<'_>,
+    list: &[Multiplier],
+    first: Gx,
+    s: &mut Slots<'_>,
+) -> Result<Gx, OutOfMemory>
+    ensures term { IfOk result (λ y. term y ≡ t.multiplied (sources_in g.now) (frame_in g.now) (outer_in g.now) (slots_of s.old) (term first) (shown.multiplier_list list.now)) }
+    ensures slots { OnOk result (slots_of s.new ≡ l.after (l.multiplier_leaves (frame_in g.now) (shown.multiplier_list list.now)) (slots_of s.old)) }
+{
+    let mut total = first;
+    for x in list {
+        let next = value(g, &x.value, s)?;
+        total = chained(g.alloc, total, made::multiplicative(x.op), next)?;
+    }
+    Ok(total)
+}
+
+/// Adds the expressions of a list of values at the end of others. It fails only for want of memory.
+#[cycle(terms)]
+#[tactic(auto, using(crate::proofs::Afters::afters))]
+pub fn values(
+    g: &Setting<'_>,
+    list: &[Value],
+    s: &mut Slots<'_>,
+    out: &mut Vec<Gx>,
+) -> Result<(), OutOfMemory>
+    ensures terms { OnOk result (terms out.new.items ≡ terms out.old.items ++ t.terms (sources_in g.now) (frame_in g.now) (outer_in g.now) (slots_of s.old) (shown.value_list list.now)) }
+    ensures slots { OnOk result (slots_of s.new ≡ l.after (l.list_leaves (frame_in g.now) (shown.value_list list.now)) (slots_of s.old)) }
+{
+    for x in list {
+        let y = value(g, x, s)?;
+        out.push(y)?;
+    }
+    Ok(())
+}
+
+// A result of a CASE; none for a NULL without a type of its own.
+#[cycle(terms)]
+fn outcome(g: &Setting<'_>, x: &Value, s: &mut Slots<'_>) -> Result<Option<Gx>, OutOfMemory>
+    ensures term { IfOk result (λ y. open_of y ≡ spec.outcome_in g.now (slots_of s.old) (shown.value x.now)) }
+    ensures slots { OnOk result (slots_of s.new ≡ l.after (l.leaves (frame_in g.now) (shown.value x.now)) (slots_of s.old)) }
+{
+    let y = value(g, x, s)?;
+    if is_untyped(x) {
+        return Ok(None);
+    }
+    Ok(Some(y))
+}
+
+// The conditions of a CASE with their results.
+#[cycle(terms)]
+#[tactic(auto, using(crate::proofs::Afters::afters))]
+fn arms(g: &Setting<'_>, list: &[Arm], s: &mut Slots<'_>) -> Result<Vec<OpenArm>, OutOfMemory>
+    ensures arms { IfOk result (λ v. opened v.items ≡ arms_in (sources_in g.now) (frame_in g.now) (outer_in g.now) (slots_of s.old) (shown.arm_list list.now)) }
+    ensures slots { OnOk result (slots_of s.new ≡ l.after (l.arm_leaves (frame_in g.now) (shown.arm_list list.now)) (slots_of s.old)) }
+{
+    let mut out = Vec::new(g.alloc);
+    for arm in list {
+        let when = test(g, &arm.when, s)?;
+        let then = outcome(g, &arm.then, s)?;
+        out.push(OpenArm { when, then })?;
+    }
+    Ok(out)
+}
+
+// The values of a CASE, which are compared with x, with their results.
+#[cycle(terms)]
+#[tactic(auto, using(crate::proofs::Afters::afters))]
+fn choices(
+    g: &Setting<'_>,
+    list: &[Choice],
+    x: &Gx,
+    s: &mut Slots<'_>,
+) -> Result<Vec<OpenArm>, OutOfMemory>
+    ensures arms { IfOk result (λ v. opened v.items ≡ choices_in (sources_in g.now) (frame_in g.now) (outer_in g.now) (slots_of s.old) (term x.now) (shown.choice_list list.now)) }
+    ensures slots { OnOk result (slots_of s.new ≡ l.after (l.choice_leaves (frame_in g.now) (shown.choice_list list.now)) (slots_of s.old)) }
+{
+    let mut out = Vec::new(g.alloc);
+    for choice in list {
+        let y = value(g, &choice.when, s)?;
+        let when = made::equal_copy(g.alloc, x, y)?;
+        let then = outcome(g, &choice.then, s)?;
+        out.push(OpenArm { when, then })?;
+    }
+    Ok(out)
+}
+
+/// The condition of a test, where it stands. It fails only for want of memory.
+#[cycle(terms)]
+#[tactic(auto, using(sql_meaning::specs::ResolvedShown::lists, crate::proofs::Afters::afters, crate::proofs::Wholes::wholes))]
+pub fn test(g: &Setting<'_>, p: &Test, s: &mut Slots<'_>) -> Result<Gc, OutOfMemory>
+    ensures cond { IfOk result (λ c. cond c ≡ t.cond (sources_in g.now) (frame_in g.now) (outer_in g.now) (slots_of s.old) (shown.test p.now)) }
+    ensures slots { OnOk result (slots_of s.new ≡ l.after (l.test_leaves (frame_in g.now) (shown.test p.now)) (slots_of s.old)) }
+{
+    let alloc = g.alloc;
+    match p {
+        Test::All(list) => {
+            let list = tests(g, list.as_slice(), s)?;
+            made::all_of(alloc, list)
+        }
+        Test::Any(list) => {
+            let list = tests(g, list.as_slice(), s)?;
+            made::any_of(alloc, list)
+        }
+        Test::Not(p) => negated(alloc, test(g, p, s)?),
+        Test::Compare(a, op, b) => {
+            let a = value(g, a, s)?;
+            let b = value(g, b, s)?;
+            made::compare(alloc, *op, a, b)
+        }
+        Test::Quantified(a, op, each, _) => {
+            let a = value(g, a, s)?;
+            let q = take_quant(s);
+            let p = made::compare_column(alloc, *op, a, q)?;
+            made::quantified(alloc, *each, q, p)
+        }
+        Test::Between(a, b, c) => {
+            let a = value(g, a, s)?;
+            let b = value(g, b, s)?;
+            let c = value(g, c, s)?;
+            made::between(alloc, a, b, c)
+        }
+        Test::Among(a, list) => {
+            let a = value(g, a, s)?;
+            let mut all = Vec::new(alloc);
+            values(g, list.as_slice(), s, &mut all)?;
+            made::equals_one(alloc, &a, all)
+        }
+        Test::AmongRows(a, _) => {
+            let a = value(g, a, s)?;
+            let q = take_quant(s);
+            let p = made::compare_column(alloc, CmpOp::Eq, a, q)?;
+            made::some_row(alloc, q, p)
+        }
+        Test::Like(a, b) => {
+            let a = value(g, a, s)?;
+            let b = value(g, b, s)?;
+            made::like(alloc, a, b)
+        }
+        Test::IsNull(a) => made::is_null(alloc, value(g, a, s)?),
+        Test::Exists(_) => made::some_row(alloc, take_quant(s), Gc::True),
+    }
+}
+
+// The conditions of a list.
+#[cycle(terms)]
+#[tactic(auto, using(crate::proofs::Afters::afters))]
+fn tests(g: &Setting<'_>, list: &[Test], s: &mut Slots<'_>) -> Result<Vec<Gc>, OutOfMemory>
+    ensures conds { IfOk result (λ v. conds v.items ≡ conds_in (sources_in g.now) (frame_in g.now) (outer_in g.now) (slots_of s.old) (shown.test_list list.now)) }
+    ensures slots { OnOk result (slots_of s.new ≡ l.after (l.tests_leaves (frame_in g.now) (shown.test_list list.now)) (slots_of s.old)) }
+{
+    let mut out = Vec::new(g.alloc);
+    for p in list {
+        let c = test(g, p, s)?;
+        out.push(c)?;
+    }
+    Ok(out)
+}

@@ -1,7 +1,0 @@
-use Rattle.std.proofs.Common.{◌≡◌, drop}
-use Rattle.qgm_build.specs.Opened.{opened}
-use Rattle.qgm_build.specs.Parts as spec
-use Rattle.qgm_build.proofs.parts.first_type.Given as goal
-
-abbrev pub invariant-loop-arm : goal.invariant-loop-arm
-invariant-loop-arm l = spec.first_type l.rows (opened (drop l.arm-index l.list)) l.other ≡ spec.first_type l.rows (opened l.list) l.other

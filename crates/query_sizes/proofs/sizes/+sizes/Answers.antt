@@ -1,0 +1,66 @@
+use Rattle.std.proofs.Common.{List, suc, ap, ap₂, refl, ◌∙◌}
+use Rattle.sql_meaning.specs.ResolvedShown as shown
+use Rattle.sql_meaning.specs.declared.resolved.Addend.{Addend}
+use Rattle.sql_meaning.specs.declared.resolved.Arm.{Arm}
+use Rattle.sql_meaning.specs.declared.resolved.Choice.{Choice}
+use Rattle.sql_meaning.specs.declared.resolved.From.{From}
+use Rattle.sql_meaning.specs.declared.resolved.Multiplier.{Multiplier}
+use Rattle.sql_meaning.specs.declared.resolved.Test.{Test}
+use Rattle.sql_meaning.specs.declared.resolved.Value.{Value}
+use Rattle.query_sizes.specs.Sizes as spec
+use Rattle.query_sizes.specs.Sizes.{plus}
+use Rattle.query_sizes.proofs.Sizing.{coalesced_turn, size_more}
+use Rattle.query_sizes.proofs.sizes.+sizes.Goals as goal
+
+pub value-returns-in_ok-list-in-Sum : goal.value-returns-in_ok-list-in-Sum
+value-returns-in_ok-list-in-Sum t c = rw (c.in-Sum.is, shown.addends_hidden c.in-Sum.list, ← c.as_slice.ensures, ← c.deref.ensures, ← c.in_ok-a-in-Sum.ensures, ← c.in_ok-list-in-Sum.ensures) c.both.ensures
+
+pub value-returns-in_ok-list-in-Product : goal.value-returns-in_ok-list-in-Product
+value-returns-in_ok-list-in-Product t c = rw (c.in-Product.is, shown.multipliers_hidden c.in-Product.list, ← c.as_slice-in-Product.ensures, ← c.deref-in-Product.ensures, ← c.in_ok-a-in-Product.ensures, ← c.in_ok-list-in-Product.ensures) c.both-in-Product.ensures
+
+pub value-returns-in_ok-last-in-Simple : goal.value-returns-in_ok-last-in-Simple
+value-returns-in_ok-last-in-Simple t c = rw (c.in-Simple.is, shown.choices_hidden c.in-Simple.list, ← c.as_slice-in-Simple.ensures, ← c.deref-in-Simple.ensures, ← c.deref-in-Simple-2.ensures, ← c.in_ok-a-in-Simple.ensures, ← c.in_ok-list-in-Simple.ensures, ← c.in_ok-last-in-Simple.ensures) c.simple.ensures
+
+pub value-returns-in_ok-a-in-Coalesce : goal.value-returns-in_ok-a-in-Coalesce
+value-returns-in_ok-a-in-Coalesce t c = rw (c.in-Coalesce.is, shown.values_hidden c.in-Coalesce.list, ← c.as_slice-in-Coalesce.ensures, ← c.deref-in-Coalesce.ensures, ← c.in_ok-a-in-Coalesce.ensures) c.coalesced.ensures
+
+pub value-returns-in_ok-b-in-NullIf : goal.value-returns-in_ok-b-in-NullIf
+value-returns-in_ok-b-in-NullIf t c = rw (c.in-NullIf.is, ← c.deref-in-NullIf.ensures, ← c.deref-in-NullIf-2.ensures, ← c.in_ok-a-in-NullIf.ensures, ← c.in_ok-b-in-NullIf.ensures) c.repeated.ensures
+
+pub test-returns-in_ok-c-in-Between : goal.test-returns-in_ok-c-in-Between
+test-returns-in_ok-c-in-Between t c = rw (c.in-Between.is, ← c.deref-in-Between.ensures, ← c.deref-in-Between-2.ensures, ← c.deref-in-Between-3.ensures, ← c.in_ok-a-in-Between.ensures, ← c.in_ok-b-in-Between.ensures, ← c.in_ok-c-in-Between.ensures) c.between.ensures
+
+pub test-returns-in_ok-list-in-Among : goal.test-returns-in_ok-list-in-Among
+test-returns-in_ok-list-in-Among t c = rw (c.in-Among.is, shown.values_hidden c.in-Among.list, ← c.as_slice-in-Among.ensures, ← c.deref-in-Among.ensures, ← c.in_ok-a-in-Among.ensures, ← c.in_ok-after-in-Among.ensures, ← c.in_ok-list-in-Among.ensures) c.both.ensures
+
+pub query-returns-in_ok-by-in-Block : goal.query-returns-in_ok-by-in-Block
+query-returns-in_ok-by-in-Block t c = rw (c.in-Block.is, shown.values_hidden c.in-Block.list, shown.froms_hidden c.in-Block.tables, ← c.as_slice.ensures, ← c.as_slice-in-Block.ensures, ← c.deref.ensures, ← c.in_ok-list-in-Block.ensures, ← c.in_ok-tables-in-Block.ensures, ← c.in_ok-by-in-Block.ensures) c.block_of.ensures
+
+pub query-returns-in_ok-having-in-Grouped : goal.query-returns-in_ok-having-in-Grouped
+query-returns-in_ok-having-in-Grouped t c = rw (c.in-Grouped.is, shown.values_hidden c.in-Grouped.list, shown.froms_hidden c.in-Grouped.tables, ← c.as_slice-in-Grouped.ensures, ← c.as_slice-in-Grouped-2.ensures, ← c.deref-in-Grouped.ensures, ← c.deref-in-Grouped-2.ensures, ← c.in_ok-list-in-Grouped.ensures, ← c.in_ok-tables-in-Grouped.ensures, ← c.in_ok-by-in-Grouped.ensures, ← c.in_ok-having-in-Grouped.ensures) c.grouped_of.ensures
+
+pub addends-loop-x-preserved : goal.addends-loop-x-preserved
+addends-loop-x-preserved t c = size_more (λ (xs : List Addend). spec.addends_size (shown.addend_list xs)) c.args.list.now c.loop-x.x-index c.x-item.result (spec.value_size (shown.value c.x-item.result.value)) _ _ _ c.loop-x-test.true c.x-item.is refl (c.in_ok-total.ensures ∙ ap (plus c.loop-x.total) c.in_ok-value.ensures) c.loop-x.invariant
+
+pub multipliers-loop-x-preserved : goal.multipliers-loop-x-preserved
+multipliers-loop-x-preserved t c = size_more (λ (xs : List Multiplier). spec.multipliers_size (shown.multiplier_list xs)) c.args.list.now c.loop-x.x-index c.x-item.result (spec.value_size (shown.value c.x-item.result.value)) _ _ _ c.loop-x-test.true c.x-item.is refl (c.in_ok-total.ensures ∙ ap (plus c.loop-x.total) c.in_ok-value.ensures) c.loop-x.invariant
+
+pub values-loop-x-preserved : goal.values-loop-x-preserved
+values-loop-x-preserved t c = size_more (λ (xs : List Value). spec.values_size c.args.n (shown.value_list xs)) c.args.list.now c.loop-x.x-index c.x-item.result (spec.more c.args.n (spec.value_size (shown.value c.x-item.result))) _ _ _ c.loop-x-test.true c.x-item.is refl (c.in_ok-total.ensures ∙ ap (plus c.loop-x.total) (c.in_ok-next.ensures ∙ ap (spec.more c.args.n) c.in_ok-value.ensures)) c.loop-x.invariant
+
+pub tests-loop-p-preserved : goal.tests-loop-p-preserved
+tests-loop-p-preserved t c = size_more (λ (xs : List Test). spec.tests_size (shown.test_list xs)) c.args.list.now c.loop-p.p-index c.p-item.result (spec.test_size (shown.test c.p-item.result)) _ _ _ c.loop-p-test.true c.p-item.is refl (c.in_ok-total.ensures ∙ ap (plus c.loop-p.total) c.in_ok-test.ensures) c.loop-p.invariant
+
+pub froms-loop-x-preserved : goal.froms-loop-x-preserved
+froms-loop-x-preserved t c = size_more (λ (xs : List From). spec.froms_size (shown.from_list xs)) c.args.list.now c.loop-x.x-index c.x-item.result (spec.from_size (shown.from c.x-item.result)) _ _ _ c.loop-x-test.true c.x-item.is refl (c.in_ok-total.ensures ∙ ap (plus c.loop-x.total) c.in_ok-from.ensures) c.loop-x.invariant
+
+pub arms-loop-x-preserved : goal.arms-loop-x-preserved
+arms-loop-x-preserved t c = size_more (λ (xs : List Arm). spec.arms_size (shown.arm_list xs)) c.args.list.now c.loop-x.x-index c.x-item.result (plus (spec.test_size (shown.test c.x-item.result.when)) (spec.value_size (shown.value c.x-item.result.then))) _ _ _ c.loop-x-test.true c.x-item.is refl
+    (c.in_ok-total.ensures ∙ ap (plus c.loop-x.total) (c.in_ok-plus.ensures ∙ ap₂ plus c.in_ok-when.ensures c.in_ok-then.ensures)) c.loop-x.invariant
+
+pub choices-loop-x-preserved : goal.choices-loop-x-preserved
+choices-loop-x-preserved t c = size_more (λ (xs : List Choice). spec.choices_size c.args.n (shown.choice_list xs)) c.args.list.now c.loop-x.x-index c.x-item.result (spec.more (suc c.args.n) (plus (spec.value_size (shown.value c.x-item.result.when)) (spec.value_size (shown.value c.x-item.result.then)))) _ _ _ c.loop-x-test.true c.x-item.is refl
+    (c.in_ok-total.ensures ∙ ap (plus c.loop-x.total) (c.in_ok-choice.ensures ∙ ap (spec.more (suc c.args.n)) (ap₂ plus c.in_ok-when.ensures c.in_ok-then.ensures))) c.loop-x.invariant
+
+pub coalesced-loop-x-preserved : goal.coalesced-loop-x-preserved
+coalesced-loop-x-preserved t c = coalesced_turn c.args.list.now c.loop-x.x-index c.x-item.result c.loop-x.last c.in_ok-last.last c.loop-x.total c.in_ok-total.total _ c.loop-x-test.true c.x-item.is (c.in_ok-total.ensures ∙ ap (plus c.loop-x.total) c.in_ok-present.ensures) c.in_ok-last.ensures c.loop-x.invariant
