@@ -171,7 +171,7 @@ module _ (bs : List Node) (ordered : Ordered bs) (once : (q : ℕ) → times q (
     pub close : (e : ℕ) (m : Map) (n : Node) (types : List SqlType) → In n bs → LocalIs e m n types → Over (suc e) n.id types
     close e m n types i h =
         let f = in-first n bs ordered i in (
-          ap (step_by (settled e)) f ∙ local-settled e m n types n.parts.kind h,
+          ap (laws.step_by bs ordered once (settled e)) f ∙ local-settled e m n types n.parts.kind h,
           λ j u. after j u,
         )
       where
