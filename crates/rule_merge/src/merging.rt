@@ -199,12 +199,6 @@ fn any_fed_closed(alloc: Global, graph: &Graph) -> Result<bool, OutOfMemory>
     Ok(false)
 }
 
-fn any_fed(nodes: &[Node]) -> bool
-    ensures { result ≡ spec.any_fed nodes.now }
-{
-    nodes.iter().any(|n| is_fed(n.parts.role))
-}
-
 // Whether c has one use, and cells that may stand in other boxes than b.
 fn cells_stand(tables: &Tables<'_>, b: &Node, r: OwnedQuant, c: &Node) -> bool
     requires { Tabled tables.now }
@@ -290,7 +284,7 @@ fn may_with(
     if !may_stand(alloc, tables, b, r, c)? || !distinct_fits(alloc, graph, b, c)? {
         return Ok(false);
     }
-    if !any_fed(graph.nodes()) {
+    if !tables.is_any_fed {
         return Ok(true);
     }
     let after = merged(alloc, graph, b, place, r, c)?;
