@@ -2,7 +2,7 @@
 use Rattle.std.proofs.Common.{ℕ, ◌+◌, ◌==◌, ◌&&◌, ◌||◌, ◌≡◌, not, cond, Bool, true, false, List, [], ◌∷◌, ◌++◌, filter, Option, Some, None, refl, sym, ap, subst, ◌∙◌, eqb-true, inl, inr}
 use Rattle.std.specs.List.{flat_map, list_any}
 use Rattle.std.proofs.Math.Bool.{and-false}
-use Rattle.std.proofs.lemmas.Bool.{and_from, and_parts, cases_Bool, eq-eqb}
+use Rattle.std.proofs.lemmas.Bool.{and_from, and_parts, cases_Bool}
 use Rattle.qgm_check.proofs.Below.{reached-reaches}
 use Rattle.qgm_check.proofs.Faults.{finds-none}
 use Rattle.qgm_check.specs.Sentences.{WellFormed}
@@ -10,7 +10,7 @@ use Rattle.qgm_check.specs.Shapes.{all_F}
 use Rattle.qgm_core.specs.Boxes.{QueryGraph, box_of, is_box, numbers, overs_in, owns, quants_in, quants_of}
 use Rattle.qgm_core.specs.Free.{Reaches, free, is_owned, itself, named_by, named_where, put_each, reached, through}
 use Rattle.qgm_core.specs.Kinds.{is_F, is_base, is_fed, is_magic, is_plain, is_select}
-use Rattle.qgm_core.specs.Lists.{EachOnce, In, holds, times}
+use Rattle.qgm_core.specs.Lists.{EachOnce, In, first, holds, times}
 use Rattle.qgm_core.specs.declared.kinds.BoxKind.{BoxKind}
 use Rattle.qgm_core.specs.declared.kinds.BoxKind.TheVariants.{Base, Group, OuterJoin, Select, SetOp}
 use Rattle.qgm_core.specs.declared.node.Node.{Node}
@@ -22,8 +22,7 @@ use Rattle.qgm_laws.proofs.Lists.{any-from, clash}
 use Rattle.qgm_laws.proofs.Ranks.{same-box}
 use Rattle.qgm_terms.specs.Named.{names_in, names_in_cond}
 use Rattle.rule_api.specs.Picks.{picked, picks}
-use Rattle.rule_merge.specs.Copies.{ranges_over}
-use Rattle.rule_merge.specs.Merging.{any_fed_closed, any_under, base_found, cells_free, cells_stand, distinct_fits, has_lateral, is_lateral, lies_under, may_at, may_have, may_in, may_merge, may_over, may_stand, merged_with, over_base, parts_fit}
+use Rattle.rule_merge.specs.Merging.{any_fed_closed, any_under, base_found, cells_free, cells_stand, distinct_fits, has_lateral, is_lateral, is_plain_select, may_at, may_have, may_in, may_merge, may_over, may_stand, merged_with, over_base, parts_fit}
 
 -- a base names nothing and owns no quantifier
 bare-of : (k : BoxKind) (n : Node) → is_base k ≡ true → BareBy k n → (n.quants ≡ []) × (named_by n ≡ [])
@@ -113,9 +112,7 @@ not-under g b h r i = elim (cases_Bool (may_at g b r)) [
   | inr f ↦ f
   | inl t ↦ (
       let x = over-then g b r (box_of r.over g) (and_parts (is_select b.parts.kind && not (is_fed b.parts.role) && is_F r.kind) (may_over g b r (box_of r.over g)) t).1 in
-      let c = some-in (is_box r.over) g.boxes x.0 x.1.0 in
-      let over : ranges_over x.0.id b.quants ≡ true = any-from (λ (s : OwnedQuant). s.over == x.0.id) r b.quants i (eq-eqb r.over x.0.id (sym (eqb-true x.0.id r.over c.1))) in
-      absurd (clash (any_under b.quants g.boxes) (any-from (lies_under b.quants) x.0 g.boxes c.0 (and_from (lies x.0) (ranges_over x.0.id b.quants) x.1.1 over)) h))
+      absurd (clash (any_under b.quants g.boxes) (any-from (λ (s : OwnedQuant). is_plain_select (first (is_box s.over) g.boxes)) r b.quants i (ap is_plain_select x.1.0 ∙ x.1.1)) h))
 ]
 
 pub none_under : (g : QueryGraph) (b : ℕ) (n : Node) → box_of b g ≡ Some n → any_under n.quants g.boxes ≡ false → picks (may_merge g b) 1 (quants_of b g) ≡ []

@@ -15,3 +15,4 @@ pub mod Unfed
 pub mod Alone
 pub mod Bases
 pub mod Unread
+pub mod Numbered

@@ -3,11 +3,11 @@ use Rattle.std.specs.Prelude.{ℕ, suc, ◌==◌, ◌&&◌, ◌||◌, ◌++◌, 
 use Rattle.std.specs.List.{list_any}
 use Rattle.qgm_check.specs.Shapes.{all_F}
 use Rattle.qgm_check.specs.WellFormed.{is_empty}
-use Rattle.qgm_core.specs.Boxes.{QueryGraph, box_of, overs_in, owns}
+use Rattle.qgm_core.specs.Boxes.{QueryGraph, box_of, is_box, overs_in, owns}
 use Rattle.qgm_core.specs.Edits.{compact, on_boxes, set_distinct}
 use Rattle.qgm_core.specs.Free.{free, free_in}
 use Rattle.qgm_core.specs.Kinds.{is_F, is_base, is_enforce, is_fed, is_magic, is_permit, is_plain, is_preserve, is_select}
-use Rattle.qgm_core.specs.Lists.{times}
+use Rattle.qgm_core.specs.Lists.{first, times}
 use Rattle.qgm_core.specs.declared.kinds.Distinct.TheVariants.{Preserve}
 use Rattle.qgm_core.specs.declared.node.Node.{Node}
 use Rattle.qgm_core.specs.declared.owned.OwnedQuant.{OwnedQuant}
@@ -16,7 +16,6 @@ use Rattle.qgm_laws.specs.Merge.{merge}
 use Rattle.qgm_props.proofs.Settled.{all-told}
 use Rattle.qgm_terms.specs.Terms.{Term}
 use Rattle.qgm_terms.specs.Wanted.{node_free}
-use Rattle.rule_merge.specs.Copies.{ranges_over}
 
 -- ---- the graph after M1
 
@@ -114,13 +113,14 @@ may_at g b r = is_select b.parts.kind && not (is_fed b.parts.role) && is_F r.kin
 abbrev pub may_have : Node → Bool
 may_have b = is_select b.parts.kind && not (is_fed b.parts.role) && list_any (λ r. is_F r.kind) b.quants
 
--- n is a plain select, and one of these ranges over it
-abbrev pub lies_under : List OwnedQuant → Node → Bool
-lies_under rs n = is_select n.parts.kind && is_plain n.parts.role && ranges_over n.id rs
+-- a plain select is found
+abbrev pub is_plain_select : Option Node → Bool
+is_plain_select None = false
+is_plain_select (Some n) = is_select n.parts.kind && is_plain n.parts.role
 
--- a box is
+-- one of these ranges over a plain select
 abbrev pub any_under : List OwnedQuant → List Node → Bool
-any_under rs boxes = list_any (lies_under rs) boxes
+any_under rs boxes = list_any (λ r. is_plain_select (first (is_box r.over) boxes)) rs
 
 abbrev pub may_in : QueryGraph → Option Node → OwnedQuant → Bool
 may_in g None r = false

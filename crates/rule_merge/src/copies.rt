@@ -1,9 +1,9 @@
 // Whether a box gives what the box under it gives.
 ghost use Rattle.std.specs.Prelude.{◌≡◌, IfOk, Some, option_map};
 ghost use Rattle.std.specs.List.{list_any};
-ghost use Rattle.qgm_core.specs.Boxes.{is_box, width};
+ghost use Rattle.qgm_core.specs.Boxes.{is_box, numbers, width};
 ghost use Rattle.qgm_core.specs.Kinds as kinds;
-ghost use Rattle.qgm_core.specs.Lists.{first};
+ghost use Rattle.qgm_core.specs.Lists.{EachOnce, first};
 ghost use Rattle.qgm_terms.specs.Shown.{conds, term};
 ghost use Rattle.qgm_terms.specs.Terms.{col};
 ghost use Rattle.rule_merge.specs.Copies as spec;
@@ -15,8 +15,8 @@ use qgm_terms::same_term;
 use shared_types::OutOfMemory;
 use std::alloc::Global;
 
-// The box of a number.
-pub fn box_at(nodes: &[Node], b: BoxId) -> Option<&Node>
+// The box of a number, sought among all.
+fn box_among(nodes: &[Node], b: BoxId) -> Option<&Node>
     ensures { option_map (λ n. n.now) result ≡ first (is_box b) nodes.now }
 {
     for node in nodes {
@@ -25,6 +25,18 @@ pub fn box_at(nodes: &[Node], b: BoxId) -> Option<&Node>
         }
     }
     None
+}
+
+// The box of a number. Boxes stand mostly by descending numbers, so it is looked for by halves first.
+pub fn box_at(nodes: &[Node], b: BoxId) -> Option<&Node>
+    requires { EachOnce (numbers nodes.now) }
+    ensures { option_map (λ n. n.now) result ≡ first (is_box b) nodes.now }
+{
+    let i = nodes.partition_point(|n| n.id > b);
+    if i < nodes.len() && nodes[i].id == b {
+        return Some(&nodes[i]);
+    }
+    box_among(nodes, b)
 }
 
 // How many columns a box has.
@@ -142,6 +154,7 @@ fn copies_one(
     head: &Head,
     r: OwnedQuant,
 ) -> Result<bool, OutOfMemory>
+    requires { EachOnce (numbers nodes.now) }
     ensures { IfOk result (λ all. all ≡ spec.copies_one nodes.now head.now r) }
 {
     if !is_f(r.kind) {
@@ -160,6 +173,7 @@ fn copies_by(
     head: &Head,
     ranges: &[OwnedQuant],
 ) -> Result<bool, OutOfMemory>
+    requires { EachOnce (numbers nodes.now) }
     ensures { IfOk result (λ all. all ≡ spec.copies_by nodes.now head.now ranges.now) }
 {
     match ranges {
@@ -168,7 +182,7 @@ fn copies_by(
     }
 }
 
-pub fn ranges_over(ranges: &[OwnedQuant], b: BoxId) -> bool
+fn ranges_over(ranges: &[OwnedQuant], b: BoxId) -> bool
     ensures { result ≡ spec.ranges_over b ranges.now }
 {
     ranges.iter().any(|r| r.over == b)
@@ -202,6 +216,7 @@ fn is_copy(alloc: Global, graph: &Graph, node: &Node) -> Result<bool, OutOfMemor
     if !is_plain_copy(node) {
         return Ok(false);
     }
+    graph.each_number_once();
     let all = copies_by(
         alloc,
         graph.nodes(),
@@ -215,6 +230,7 @@ fn is_copy(alloc: Global, graph: &Graph, node: &Node) -> Result<bool, OutOfMemor
 pub fn copies(alloc: Global, graph: &Graph, b: BoxId) -> Result<bool, OutOfMemory>
     ensures { IfOk result (λ copy. copy ≡ spec.copies graph.now b) }
 {
+    graph.each_number_once();
     let Some(node) = box_at(graph.nodes(), b) else {
         return Ok(false);
     };

@@ -25,6 +25,7 @@ fn plan_at(alloc: Global, graph: &Graph, place: Place) -> Result<MergePlan, OutO
     requires given { PassesMerge graph.now place.at place.i }
     ensures { IfOk result (λ m. PlansAt graph.now place m) }
 {
+    graph.each_number_once();
     let Some(b) = box_at(graph.nodes(), place.at) else {
         unreachable!()
     };
@@ -54,6 +55,7 @@ impl Rule for MergeSelect {
     #[tactic(auto, using(crate::specs::MergeSelect::merge_select_ascending, crate::proofs::Bases::none_found, crate::proofs::Bases::none_under), unfolding(crate::specs::MergeSelect::merge_select_pairs))]
     fn places(&self, alloc: Global, graph: &Graph, b: BoxId) -> Result<Vec<Place>, OutOfMemory> {
         let mut out = Vec::new(alloc);
+        graph.each_number_once();
         let Some(node) = box_at(graph.nodes(), b) else {
             return Ok(out);
         };

@@ -4,15 +4,16 @@ ghost use Rattle.std.specs.List.{list_any};
 ghost use Rattle.std.specs.Prelude.{◌&&◌, ◌==◌, not, false, true};
 ghost use Rattle.qgm_check.specs.Sentences.{WellFormed};
 ghost use Rattle.qgm_check.specs.Shapes.{all_F};
-ghost use Rattle.qgm_core.specs.Boxes.{HasBox, box_of, owns};
+ghost use Rattle.qgm_core.specs.Boxes.{HasBox, box_of, is_box, numbers, owns};
 ghost use Rattle.qgm_core.specs.Edits.{set_distinct};
 ghost use Rattle.qgm_core.specs.Kinds as kinds;
+ghost use Rattle.qgm_core.specs.Lists.{EachOnce, first};
 ghost use Rattle.qgm_core.specs.declared.kinds.Distinct.TheVariants.{Preserve};
 ghost use Rattle.qgm_laws.specs.Graph.{reads_in};
 ghost use Rattle.rule_merge.specs.Known.{Tabled};
 ghost use Rattle.rule_merge.specs.Merging as spec;
 
-use crate::copies::{is_base, is_f, is_fed, is_plain, is_preserve, is_select, ranges_over};
+use crate::copies::{box_at, is_base, is_f, is_fed, is_plain, is_preserve, is_select};
 use crate::known::Tables;
 use crate::splices::merged;
 use qgm_core::{
@@ -342,22 +343,34 @@ pub fn may_have(b: &Node) -> bool
     is_select(&b.parts.kind) && !is_fed(b.parts.role) && any_f(b.quants.as_slice())
 }
 
-// Whether a box is a plain select over which one of these ranges.
-fn lies_under(node: &Node, ranges: &[OwnedQuant]) -> bool
-    ensures { result ≡ spec.lies_under ranges.now node.now }
+// Whether a quantifier ranges over a plain select.
+fn over_select(nodes: &[Node], r: OwnedQuant) -> bool
+    requires { EachOnce (numbers nodes.now) }
+    ensures { result ≡ spec.is_plain_select (first (is_box r.over) nodes.now) }
 {
-    is_select(&node.parts.kind) && is_plain(node.parts.role) && ranges_over(ranges, node.id)
+    match box_at(nodes, r.over) {
+        Some(node) => is_select(&node.parts.kind) && is_plain(node.parts.role),
+        None => false,
+    }
 }
 
+// Whether one of these ranges over a plain select.
 fn any_under(nodes: &[Node], ranges: &[OwnedQuant]) -> bool
+    requires { EachOnce (numbers nodes.now) }
     ensures { result ≡ spec.any_under ranges.now nodes.now }
 {
-    nodes.iter().any(|n| lies_under(n, ranges))
+    for r in ranges {
+        if over_select(nodes, *r) {
+            return true;
+        }
+    }
+    false
 }
 
 /// Whether one of these may range over a plain select. Where they are few, that is seen without
 /// tables.
 pub fn may_fit(nodes: &[Node], ranges: &[OwnedQuant]) -> bool
+    requires { EachOnce (numbers nodes.now) }
     ensures { result ≡ false → spec.any_under ranges.now nodes.now ≡ false }
 {
     ranges.len() > FEW || any_under(nodes, ranges)
