@@ -16,3 +16,4 @@ pub mod Alone
 pub mod Bases
 pub mod Unread
 pub mod Numbered
+pub mod Unnamed

@@ -1,20 +1,28 @@
 // What is made once of a graph before the quantifiers of a box are tested.
 ghost use Rattle.std.specs.Prelude.{◌≡◌, IfOk};
+ghost use Rattle.qgm_core.specs.Boxes.{numbers};
 ghost use Rattle.rule_merge.specs.Known.{Tabled};
 ghost use Rattle.rule_merge.specs.Merging.{any_fed};
 
 use crate::copies::is_fed;
-use qgm_core::{Counts, Graph, Node, Places, uses_of};
+use crate::foreign::foreign_if;
+use qgm_core::{Counts, Graph, Marks, Node, OwnedQuant, Places, node_at, uses_of};
 use shared_types::OutOfMemory;
 use std::alloc::Global;
 
-/// A graph, where its boxes stand, how many quantifiers range over each, and whether one is fed.
+/// For so many quantifiers at most no tables are made where none ranges over a plain select, and it
+/// isn't noted what boxes name that they don't own.
+pub const FEW: usize = 8;
+
+/// A graph, where its boxes stand, how many quantifiers range over each, whether one is fed, and what
+/// they name that they don't own, where that is worth its time.
 #[derive(Drop)]
 pub struct Tables<'a> {
     pub graph: &'a Graph,
     pub places: Places,
     pub counts: Counts,
     pub is_any_fed: bool,
+    pub foreign: Option<Marks>,
 }
 
 // Whether a box of these is fed.
@@ -24,17 +32,50 @@ fn any_fed(nodes: &[Node]) -> bool
     nodes.iter().any(|n| is_fed(n.parts.role))
 }
 
-/// Those of a graph.
-pub fn tables_of<'a>(alloc: Global, graph: &'a Graph) -> Result<Tables<'a>, OutOfMemory>
+// Whether a quantifier ranges over a box with two or more.
+fn over_join(nodes: &[Node], places: &Places, r: OwnedQuant) -> bool
+    requires { places.now ≡ numbers nodes.now }
+{
+    match node_at(nodes, places, r.over) {
+        Some(node) => node.quants.as_slice().len() > 1,
+        None => false,
+    }
+}
+
+// Whether it is worth its time to note what boxes name that they don't own: of many quantifiers one
+// ranges over a join.
+fn is_worth(nodes: &[Node], places: &Places, ranges: &[OwnedQuant]) -> bool
+    requires { places.now ≡ numbers nodes.now }
+{
+    if ranges.len() <= FEW {
+        return false;
+    }
+    for r in ranges {
+        if over_join(nodes, places, *r) {
+            return true;
+        }
+    }
+    false
+}
+
+/// Those of a graph, for these quantifiers.
+pub fn tables_of<'a>(
+    alloc: Global,
+    graph: &'a Graph,
+    ranges: &[OwnedQuant],
+) -> Result<Tables<'a>, OutOfMemory>
     ensures graph { IfOk result (λ t. t.graph.now ≡ graph.now) }
     ensures tables { IfOk result (λ t. Tabled t) }
 {
-    let places = Places::of(alloc, graph.nodes())?;
-    let counts = uses_of(alloc, graph.nodes())?;
+    let nodes = graph.nodes();
+    let places = Places::of(alloc, nodes)?;
+    let counts = uses_of(alloc, nodes)?;
+    let foreign = foreign_if(alloc, nodes, is_worth(nodes, &places, ranges))?;
     Ok(Tables {
         graph,
         places,
         counts,
-        is_any_fed: any_fed(graph.nodes()),
+        is_any_fed: any_fed(nodes),
+        foreign,
     })
 }

@@ -3,6 +3,7 @@
 
 mod copies;
 mod drop_copy;
+mod foreign;
 mod known;
 mod merge_select;
 mod merging;

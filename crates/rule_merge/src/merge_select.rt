@@ -63,7 +63,7 @@ impl Rule for MergeSelect {
         if !may_have(node) || !may_fit(graph.nodes(), list) {
             return Ok(out);
         }
-        let tables = tables_of(alloc, graph)?;
+        let tables = tables_of(alloc, graph, list)?;
         for k in 0..list.len() {
             let passes = may_at(alloc, &tables, node, k + 1, list[k])?;
             add_if(&mut out, passes, b, k + 1, 0)?;

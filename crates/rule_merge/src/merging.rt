@@ -14,7 +14,8 @@ ghost use Rattle.rule_merge.specs.Known.{Tabled};
 ghost use Rattle.rule_merge.specs.Merging as spec;
 
 use crate::copies::{box_at, is_base, is_f, is_fed, is_plain, is_preserve, is_select};
-use crate::known::Tables;
+use crate::foreign::any_named;
+use crate::known::{FEW, Tables};
 use crate::splices::merged;
 use qgm_core::{
     BoxId, Distinct, Graph, Head, Node, OwnedQuant, QuantId, Role, free_in, has_range, node_at,
@@ -23,9 +24,6 @@ use qgm_props::props;
 use qgm_terms::{Sought, is_node_free, stands_in_cells, stands_in_conds};
 use shared_types::OutOfMemory;
 use std::alloc::Global;
-
-// More quantifiers than these are looked up in tables at once.
-const FEW: usize = 8;
 
 fn is_enforce(distinct: Distinct) -> bool
     ensures { result ≡ kinds.is_enforce distinct }
@@ -121,6 +119,20 @@ fn is_lateral(
     Ok(has_other(c, s.id, free.as_slice()))
 }
 
+// Whether it is known that no box names a quantifier of c but its owner. Then none is lateral.
+#[tactic(auto, using(crate::proofs::Unnamed::unnamed_apart))]
+fn is_unnamed(tables: &Tables<'_>, c: &Node) -> bool
+    requires formed { WellFormed tables.now.graph.now }
+    requires tables { Tabled tables.now }
+    ensures { result ≡ true → spec.has_lateral tables.now.graph.now c.now ≡ false }
+{
+    tables.graph.each_number_once();
+    match &tables.foreign {
+        Some(names) => !any_named(names, c.quants.as_slice()),
+        None => false,
+    }
+}
+
 // Whether a quantifier of c is lateral, which one alone never is.
 #[tactic(auto, using(crate::proofs::Alone::alone_apart))]
 fn has_lateral(alloc: Global, tables: &Tables<'_>, c: &Node) -> Result<bool, OutOfMemory>
@@ -128,7 +140,7 @@ fn has_lateral(alloc: Global, tables: &Tables<'_>, c: &Node) -> Result<bool, Out
     requires tables { Tabled tables.now }
     ensures { IfOk result (λ lateral. lateral ≡ spec.has_lateral tables.now.graph.now c.now) }
 {
-    if c.quants.as_slice().len() <= 1 {
+    if c.quants.as_slice().len() <= 1 || is_unnamed(tables, c) {
         return Ok(false);
     }
     for s in c.quants.as_slice() {
