@@ -4,15 +4,19 @@ use Rattle.sql_value.specs.declared.cell.Cell.{Cell}
 use Rattle.sql_value.specs.declared.level.Level.{Level}
 use Rattle.sql_value.specs.declared.level.Level.TheVariants.{No, Cardinality, Division, Overflow, Yes}
 use Rattle.row_bag.specs.Bags.{Agree, Alike, at_yes, bind, count, if_there, row, same_level, total, unit}
-use Rattle.row_bag.specs.Groups.{key, key_in, keys_of, rows_of}
+use Rattle.row_bag.specs.Groups.{key, key_error, key_error_of, key_in, keys_of, rows_of}
 use Rattle.row_bag.specs.Matched.{often}
 use Rattle.row_bag.specs.Sets.{grouped, multiplicity, same_cells}
 use Rattle.row_bag.specs.declared.groups.Group.{Group}
 use Rattle.row_bag.specs.declared.row.Row.{Row}
 use Rattle.row_bag.proofs.Agreement.{alike-bind, alike-refl, alike-same, alike-trans}
+use Rattle.row_bag.proofs.Chains.{worst_none}
 use Rattle.row_bag.proofs.Counts.{agree-from_alike, alike-from_agree}
+use Rattle.row_bag.proofs.Folds.{fold_map-append}
 use Rattle.row_bag.proofs.Levels.{least-yes}
 use Rattle.row_bag.proofs.TupleBags.{same_cells-decides}
+use Rattle.row_bag.proofs.Worst.{worst-monoid}
+use Rattle.sql_value.specs.Cells.{worst_of}
 
 abbrev pub Tuple : Type 0
 Tuple = List Cell
@@ -91,3 +95,7 @@ groups-agree n f bag groups keys members = agree-from_alike same_cells (groups-a
 pub key-more : (n : ℕ) (rows : Rows) (r : Row Tuple) → 0 < length rows → key_in n (rows ++ r ∷ []) ≡ key_in n rows
 key-more n [] r some = absurd (omega (arith, some))
 key-more n (first ∷ rows) r some = refl
+
+-- the greatest error of a row more
+pub key_error-push : (n : ℕ) (rows : Rows) (r : Row Tuple) → key_error n (rows ++ r ∷ []) ≡ worst_of (key_error n rows) (key_error_of n r)
+key_error-push n rows r = fold_map-append worst-monoid (key_error_of n) rows (r ∷ []) ∙ ap (worst_of (key_error n rows)) (worst_none (key_error_of n r))

@@ -167,8 +167,9 @@ pub fn groups_of(alloc: Global, bag: Bag, keys: usize) -> Result<Vec<Group>, Out
     Ok(those_with_rows(groups))
 }
 
-// The greatest error of a row that is there among its level and its first cells.
-fn key_error_of_row(row: &Row, keys: usize) -> Option<Kind>
+/// The greatest error among the level and the first cells, so many, of a row that is there; none of
+/// a row that isn't.
+pub fn key_error_of(row: &Row, keys: usize) -> Option<Kind>
     ensures { result ≡ spec.key_error_of keys row.now }
 {
     if is_there(row) {
@@ -185,7 +186,7 @@ pub fn key_error(bag: &Bag, keys: usize) -> Option<Kind>
 {
     let mut found = None;
     for row in bag.rows() {
-        found = worst_of(found, key_error_of_row(row, keys));
+        found = worst_of(found, key_error_of(row, keys));
     }
     found
 }
