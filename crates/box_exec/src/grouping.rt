@@ -8,6 +8,7 @@ ghost use Rattle.qgm_terms.specs.Shown.{term, terms};
 ghost use Rattle.row_bag.specs.Aggregates.{folded};
 ghost use Rattle.row_bag.specs.Bags.{Alike, at_yes, bind, row, unit};
 ghost use Rattle.row_bag.specs.Errors.{error_among, error_in};
+ghost use Rattle.row_bag.specs.Groups.{key, key_error};
 ghost use Rattle.sql_value.specs.declared.cell.Cell.TheVariants.{Null};
 
 use crate::bindings::Bindings;
@@ -15,8 +16,8 @@ use crate::evaluation::value;
 use crate::heads::append_head;
 use qgm_core::{Gx, QuantId};
 use row_bag::{
-    Bag, Group, Row, append_cells, count_rows, error_at, failed_row, folded, groups_of, key_error,
-    worst_of,
+    Bag, Group, Row, append_cells, count_rows, error_at, failed_row, folded, groups_of,
+    key_error_of, worst_of,
 };
 use shared_types::OutOfMemory;
 use sql_value::{Aggregate, Cell, Kind, Level, Taken};
@@ -155,21 +156,35 @@ fn keyed(
     })
 }
 
-// The same of each row.
+/// Rows behind their keys, and the greatest error among their levels and keys.
+#[derive(Drop)]
+struct KeyedRows {
+    rows: Bag,
+    error: Option<Kind>,
+}
+
+// The same of each row, and the greatest error.
 fn keyed_rows(
     alloc: Global,
     keys: &[Gx],
     quant: QuantId,
     rows: &[Row],
     env: &Bindings,
-) -> Result<Bag, OutOfMemory>
-    ensures { IfOk result (λ made. made ≡ map (spec.keyed (spec.key_of (terms keys.now) quant (env_of env.now))) rows.now) }
+) -> Result<KeyedRows, OutOfMemory>
+    ensures rows { IfOk result (λ made. made.rows ≡ map (spec.keyed (spec.key_of (terms keys.now) quant (env_of env.now))) rows.now) }
+    ensures error { IfOk result (λ made. made.error ≡ key_error (length keys.now) made.rows) }
 {
     let mut made = Vec::with_capacity(alloc, rows.len())?;
+    let mut error = None;
     for row in rows {
-        made.push(keyed(alloc, keys, quant, row, env)?)?;
+        let behind = keyed(alloc, keys, quant, row, env)?;
+        error = worst_of(error, key_error_of(&behind, keys.len()));
+        made.push(behind)?;
     }
-    Ok(Bag::from_rows(made))
+    Ok(KeyedRows {
+        rows: Bag::from_rows(made),
+        error,
+    })
 }
 
 // What the groups give: of each its key, and then its other cells. A group is let go once its row is
@@ -182,7 +197,7 @@ fn group_rows(
     groups: Vec<Group>,
     env: &Bindings,
 ) -> Result<Bag, OutOfMemory>
-    ensures { IfOk result (λ made. made ≡ at_yes (map (λ g. spec.group_of keys (terms folds.now) quant (env_of env.now) g.key g.rows) groups.items)) }
+    ensures { IfOk result (λ made. made ≡ at_yes (map (λ g. spec.group_of keys (terms folds.now) quant (env_of env.now) (key g) g.rows) groups.items)) }
 {
     let mut made = Vec::with_capacity(alloc, groups.len())?;
     for group in groups {
@@ -193,7 +208,7 @@ fn group_rows(
             env: &*env,
         };
         made.push(Row {
-            cells: group_cells(alloc, group.key.as_slice(), folds, &over)?,
+            cells: group_cells(alloc, group.key(), folds, &over)?,
             level: Level::Yes,
         })?;
     }
@@ -211,11 +226,11 @@ fn by_keys(
 ) -> Result<Bag, OutOfMemory>
     ensures { IfOk result (λ made. Alike made (spec.by_keys (terms keys.now) (terms folds.now) quant (env_of env.now) rows.now)) }
 {
-    let keyed = keyed_rows(alloc, keys, quant, rows, env)?;
-    match key_error(&keyed, keys.len()) {
+    let KeyedRows { rows: made, error } = keyed_rows(alloc, keys, quant, rows, env)?;
+    match error {
         Some(kind) => failed_row(alloc, keys.len() + folds.len(), kind),
         None => {
-            let groups = groups_of(alloc, keyed, keys.len())?;
+            let groups = groups_of(alloc, made, keys.len())?;
             group_rows(alloc, folds, quant, keys.len(), groups, env)
         }
     }

@@ -1,5 +1,5 @@
 -- Groups of rows by their first cells.
-use Rattle.std.specs.Prelude.{◌≡◌, ℕ, All, List, ◌∷◌, ◌++◌, map, take, Option, None}
+use Rattle.std.specs.Prelude.{◌≡◌, ◌<◌, ℕ, All, List, [], ◌∷◌, ◌++◌, length, map, take, Option, None}
 use Rattle.sql_value.specs.Cells.{worst_of}
 use Rattle.sql_value.specs.declared.cell.Cell.{Cell}
 use Rattle.sql_value.specs.declared.cell.Kind.{Kind}
@@ -8,6 +8,7 @@ use Rattle.row_bag.specs.Errors.{error_among, error_at, error_in}
 use Rattle.row_bag.specs.Hashes.{AreDifferent}
 use Rattle.row_bag.specs.Matched.{often}
 use Rattle.row_bag.specs.Sets.{of_group, once, same_cells}
+use Rattle.row_bag.specs.declared.groups.Group.{Group}
 use Rattle.row_bag.specs.declared.row.Row.{Row}
 
 -- the first n cells of each row that is there, each tuple of them once
@@ -17,6 +18,19 @@ keys_of n rows = once same_cells (bind rows (λ cells. unit (take n cells)))
 -- the rows whose first n cells are this key, in their order
 abbrev pub rows_of : ℕ → List Cell → List (Row (List Cell)) → List (Row (List Cell))
 rows_of n key rows = of_group same_cells (take n) key rows
+
+-- the first n cells of the first of these rows
+abbrev pub key_in : ℕ → List (Row (List Cell)) → List Cell
+key_in n [] = []
+key_in n (r ∷ rows) = take n r.cells
+
+-- the key of a group
+abbrev pub key : Group → List Cell
+key g = key_in g.keys g.rows
+
+-- each group has a row
+abbrev pub HaveRows : List Group → Type 0
+HaveRows groups = All (λ g. 0 < length g.rows) groups
 
 -- the greatest error of a row among its level and its first n cells; none of a row that isn't there
 abbrev pub key_error_of : ℕ → Row (List Cell) → Option Kind

@@ -14,7 +14,7 @@ ghost use Rattle.sql_value.specs.declared.cell.Cell.TheVariants.{Null};
 
 use crate::answer::{error_at, error_of, worst_of};
 use crate::row::Row;
-use crate::tuple_index::{HasTuple, TupleIndex};
+use crate::tuple_index::{HasTuple, TupleIndex, hash_of};
 use shared_types::OutOfMemory;
 use sql_value::{Aggregate, Cell, Kind, Level, Taken, cell_order, copy};
 use std::alloc::Global;
@@ -83,8 +83,9 @@ fn keep_cell(
     ensures kept { OnOk result (kept.new.items ≡ kept.old.items ++ (if nat_eq (often (cell.now ∷ []) (map (λ r. r.cells ∷ []) kept.old.items)) 0 then unit cell.now else [])) }
 {
     let tuple = slice::from_ref(cell);
-    if index.find(kept.as_slice(), tuple).is_none() {
-        index.push(tuple)?;
+    let hash = hash_of(tuple);
+    if index.find(kept.as_slice(), hash, tuple).is_none() {
+        index.push(hash)?;
         kept.push(Row {
             cells: copy(alloc, cell)?,
             level: Level::Yes,

@@ -59,4 +59,17 @@ impl Bag {
         self.rows.push(row)?;
         Ok(())
     }
+    /// Adds a row at the end. A bag that is full doubles its room, from 1 on, so that one of two rows
+    /// has no room for more.
+    pub(crate) fn push_doubling(&mut self, row: Row) -> Result<(), OutOfMemory>
+        ensures ok { OnOk result (self.new ≡ self.old ++ row ∷ []) }
+        ensures err { OnErr result (self.new ≡ self.old) }
+    {
+        let many = self.rows.len();
+        if many == self.rows.capacity() {
+            self.rows.reserve_exact(many.max(1))?;
+        }
+        self.rows.push(row)?;
+        Ok(())
+    }
 }

@@ -22,7 +22,7 @@ pub use answer::{
     error_among, error_at, error_in, error_of, is_there, those_there, verdict, worst_of,
 };
 pub use bag::Bag;
-pub use groups::{Group, groups_of, key_error};
+pub use groups::{Group, groups_of, key_error, key_error_of};
 pub use joins::{append_kept, beside, cells_beside, nulls, or_with_nulls, product, with_nulls};
 pub use laws::{bag_laws, filter_laws, fold_laws, join_laws, key_laws, set_laws, tag_laws};
 pub use outcome::Verdict;

@@ -1,7 +1,7 @@
 // The tuples of one bag that those of another match.
 ghost use Rattle.std.specs.Prelude.{◌≡◌, ◌+◌, ◌^◌, [], List, IfOk, OnOk, Some, if◌then◌else◌, false, map, slice_get, ◌<◌};
 ghost use Rattle.row_bag.specs.Bags.{count, same_level};
-ghost use Rattle.row_bag.specs.Hashes.{AreDifferent, hashes_of};
+ghost use Rattle.row_bag.specs.Hashes.{AreDifferent, hash_of, hashes_of};
 ghost use Rattle.row_bag.specs.Matched as spec;
 ghost use Rattle.row_bag.specs.Sets.{multiplicity, same_cells};
 ghost use Rattle.row_bag.specs.Verdict.{those_there};
@@ -12,7 +12,7 @@ use crate::answer::those_there;
 use crate::bag::Bag;
 use crate::row::Row;
 use crate::sets::distinct;
-use crate::tuple_index::{HasTuple, TupleIndex};
+use crate::tuple_index::{HasTuple, TupleIndex, hash_of};
 use shared_types::OutOfMemory;
 use sql_value::{Cell, Level};
 use sqlite_items::Items;
@@ -83,26 +83,28 @@ fn take(index: &TupleIndex, items: &mut Vec<Left>, cells: &[Cell]) -> bool
     ensures rest { spec.HasTaken (λ l. l.cells) (λ l. l.count) result cells.now items.old.items items.new.items }
     ensures none { result ≡ false → spec.left_of (λ l. l.cells) (λ l. l.count) cells.now items.new.items ≡ 0 }
 {
-    match index.find(items.as_slice(), cells) {
+    match index.find(items.as_slice(), hash_of(cells), cells) {
         Some(place) => take_one(items, place, cells),
         None => false,
     }
 }
 
-// Adds a tuple that isn't among them.
+// Adds a tuple, of this hash, that isn't among them.
 fn add_tuple(
     index: &mut TupleIndex,
     items: &mut Vec<Left>,
+    hash: u64,
     cells: Items<Cell>,
 ) -> Result<(), OutOfMemory>
     requires index { index.old ≡ hashes_of (map (λ l. l.cells) items.old.items) }
     requires once { AreDifferent (map (λ l. l.cells) items.old.items) }
+    requires hash { hash ≡ hash_of cells }
     requires none { spec.often cells (map (λ l. l.cells) items.old.items) ≡ 0 }
     ensures index { OnOk result (index.new ≡ hashes_of (map (λ l. l.cells) items.new.items)) }
     ensures once { OnOk result (AreDifferent (map (λ l. l.cells) items.new.items)) }
     ensures counts { OnOk result (spec.HasCounted (λ l. l.cells) (λ l. l.count) cells items.old.items items.new.items) }
 {
-    index.push(cells.as_slice())?;
+    index.push(hash)?;
     items.push(Left { cells, count: 1 })?;
     Ok(())
 }
@@ -120,13 +122,14 @@ fn count_tuple(
     ensures once { OnOk result (AreDifferent (map (λ l. l.cells) items.new.items)) }
     ensures counts { OnOk result (spec.HasCounted (λ l. l.cells) (λ l. l.count) cells items.old.items items.new.items) }
 {
-    match index.find(items.as_slice(), cells.as_slice()) {
+    let hash = hash_of(cells.as_slice());
+    match index.find(items.as_slice(), hash, cells.as_slice()) {
         Some(place) => {
             count_one(items, place, cells.as_slice());
             Ok(())
         }
         None => {
-            add_tuple(index, items, cells)?;
+            add_tuple(index, items, hash, cells)?;
             Ok(())
         }
     }

@@ -2,7 +2,7 @@
 ghost use Rattle.std.specs.Prelude.{◌≡◌, ◌++◌, ◌∷◌, [], IfOk, OnOk, Some, slice_get, if◌then◌else◌};
 ghost use Rattle.row_bag.specs.Bags.{Agree, row};
 ghost use Rattle.row_bag.specs.Errors as errors;
-ghost use Rattle.row_bag.specs.Hashes.{AreDifferent, hashes_of, tuples_of};
+ghost use Rattle.row_bag.specs.Hashes.{AreDifferent, hash_of, hashes_of, tuples_of};
 ghost use Rattle.row_bag.specs.Sets as spec;
 ghost use Rattle.sql_value.specs.Level.{level_of};
 
@@ -10,7 +10,7 @@ use crate::answer::{error_among, those_there, worst_of};
 use crate::bag::Bag;
 use crate::matched::matching;
 use crate::row::Row;
-use crate::tuple_index::TupleIndex;
+use crate::tuple_index::{TupleIndex, hash_of};
 use shared_types::OutOfMemory;
 use sql_value::{Cell, Kind, greatest, level_of};
 use sqlite_items::Items;
@@ -26,13 +26,19 @@ fn raise(kept: &mut Vec<Row>, place: usize, row: &Row)
     kept[place].level = level;
 }
 
-// Adds a row of a tuple that doesn't stand among the rows.
-fn keep_new(index: &mut TupleIndex, kept: &mut Vec<Row>, row: Row) -> Result<(), OutOfMemory>
-    requires { index.old ≡ hashes_of (tuples_of kept.old.items) }
+// Adds a row of a tuple, of this hash, that doesn't stand among the rows.
+fn keep_new(
+    index: &mut TupleIndex,
+    kept: &mut Vec<Row>,
+    hash: u64,
+    row: Row,
+) -> Result<(), OutOfMemory>
+    requires index { index.old ≡ hashes_of (tuples_of kept.old.items) }
+    requires hash { hash ≡ hash_of row.cells }
     ensures index { OnOk result (index.new ≡ hashes_of (tuples_of kept.new.items)) }
     ensures kept { OnOk result (kept.new.items ≡ kept.old.items ++ row ∷ []) }
 {
-    index.push(row.cells.as_slice())?;
+    index.push(hash)?;
     kept.push(row)?;
     Ok(())
 }
@@ -45,13 +51,14 @@ fn keep(index: &mut TupleIndex, kept: &mut Vec<Row>, row: Row) -> Result<(), Out
     ensures levels { OnOk result (spec.SameLevels spec.same_cells kept.new.items (kept.old.items ++ row ∷ [])) }
     ensures once { OnOk result (AreDifferent (tuples_of kept.old.items) → AreDifferent (tuples_of kept.new.items)) }
 {
-    match index.find(kept.as_slice(), row.cells.as_slice()) {
+    let hash = hash_of(row.cells.as_slice());
+    match index.find(kept.as_slice(), hash, row.cells.as_slice()) {
         Some(place) => {
             raise(kept, place, &row);
             Ok(())
         }
         None => {
-            keep_new(index, kept, row)?;
+            keep_new(index, kept, hash, row)?;
             Ok(())
         }
     }

@@ -42,9 +42,9 @@ fn feed(cell: &Cell, hasher: &mut FoldHasher)
     }
 }
 
-// The hash of cells.
+/// The hash of cells.
 #[tactic(auto, unfolding(crate::specs::Hashes::hash_of))]
-fn hash_of(cells: &[Cell]) -> u64
+pub(crate) fn hash_of(cells: &[Cell]) -> u64
     ensures { result ≡ spec.hash_of cells.now }
 {
     let mut hasher = FoldHasher::default();
@@ -85,14 +85,15 @@ fn find_in<T: HasTuple>(
     heads: &[usize],
     links: &[Link],
     items: &[T],
+    hash: u64,
     cells: &[Cell],
 ) -> Option<usize>
     requires chained { spec.AreChained heads.now (map (λ l. l.before) links.now) (map (λ l. l.hash) links.now) }
     requires hashes { map (λ l. l.hash) links.now ≡ spec.hashes_of (map T.tuple items.now) }
+    requires hash { hash ≡ spec.hash_of cells.now }
     ensures found { IfSome result (λ k. slice_get (map T.tuple items.now) k ≡ Some cells.now) }
     ensures none { result ≡ None → often cells.now (map T.tuple items.now) ≡ 0 }
 {
-    let hash = hash_of(cells);
     let mut place = heads[chain_of(hash, heads.len())];
     while place > 0 {
         if is_it(links, items, place - 1, hash, cells) {
@@ -148,19 +149,21 @@ impl TupleIndex {
         })
     }
 
-    /// Adds the hash of a tuple at the end.
-    pub(crate) fn push(&mut self, cells: &[Cell]) -> Result<(), OutOfMemory>
-        ensures { OnOk result (self.new ≡ self.old ++ spec.hash_of cells.now ∷ []) }
+    /// Adds a hash at the end.
+    pub(crate) fn push(&mut self, hash: u64) -> Result<(), OutOfMemory>
+        ensures { OnOk result (self.new ≡ self.old ++ hash ∷ []) }
     {
-        add(&mut self.heads, &mut self.links, hash_of(cells))
+        add(&mut self.heads, &mut self.links, hash)
     }
 
-    /// A place of these cells among the tuples; none exactly where they don't stand among them.
-    pub(crate) fn find<T: HasTuple>(&self, items: &[T], cells: &[Cell]) -> Option<usize>
-        requires { self.now ≡ spec.hashes_of (map T.tuple items.now) }
+    /// A place of these cells, of this hash, among the tuples; none exactly where they don't stand
+    /// among them.
+    pub(crate) fn find<T: HasTuple>(&self, items: &[T], hash: u64, cells: &[Cell]) -> Option<usize>
+        requires hashes { self.now ≡ spec.hashes_of (map T.tuple items.now) }
+        requires hash { hash ≡ spec.hash_of cells.now }
         ensures found { IfSome result (λ k. slice_get (map T.tuple items.now) k ≡ Some cells.now) }
         ensures none { result ≡ None → often cells.now (map T.tuple items.now) ≡ 0 }
     {
-        find_in(&self.heads, &self.links, items, cells)
+        find_in(&self.heads, &self.links, items, hash, cells)
     }
 }

@@ -1,5 +1,6 @@
 use Rattle.std.proofs.Common.{List, ◌++◌, ◌∷◌, [], ◌≡◌, ◌∙◌, ap₂, sym}
 use Rattle.row_bag.specs.Bags.{row}
+use Rattle.row_bag.specs.Groups.{key}
 use Rattle.row_bag.specs.declared.groups.Group.{Group}
 use Rattle.sql_value.specs.declared.cell.Cell.{Cell}
 use Rattle.sql_value.specs.declared.level.Level.TheVariants.{Yes}
@@ -13,9 +14,9 @@ use Rattle.box_exec.proofs.grouping.group_rows.Goals as goal
 pub loop-group-preserved : goal.loop-group-preserved
 loop-group-preserved c =
     let g = c.in-Some.group in
-    let f : Group → List Cell = λ g. group_of c.args.keys (terms c.args.folds.now) c.args.quant (env_of c.args.env.now) g.key g.rows in
+    let f : Group → List Cell = λ g. group_of c.args.keys (terms c.args.folds.now) c.args.quant (env_of c.args.env.now) (key g) g.rows in
     let cells : c.in_ok-group_cells.field-0 ≡ f g =
-    c.in_ok-group_cells.ensures ∙ ap₂ (λ (key : List Cell) (rows : Bag). group_of c.args.keys (terms c.args.folds.now) c.args.quant (env_of c.args.env.now) key rows) c.as_slice.ensures c.rows.ensures in
+    c.in_ok-group_cells.ensures ∙ ap₂ (λ (key : List Cell) (rows : Bag). group_of c.args.keys (terms c.args.folds.now) c.args.quant (env_of c.args.env.now) key rows) c.key.ensures c.rows.ensures in
     c.in_ok-push.ensures.items
     ∙ ap₂ (λ (b : Bag) (cells : List Cell). b ++ row cells Yes ∷ []) c.loop-group.invariant cells
     ∙ sym (at-yes-more f c.loop-group.yielded g)

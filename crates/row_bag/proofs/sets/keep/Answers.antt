@@ -8,5 +8,5 @@ use Rattle.row_bag.proofs.sets.keep.Goals as goal
 
 pub returns-in_ok-keep_new-in-None-clause-once : goal.returns-in_ok-keep_new-in-None-clause-once
 returns-in_ok-keep_new-in-None-clause-once c = λ once t.
-    let none : often c.args.row.cells (tuples_of c.args.kept.now.items) ≡ 0 = rw (c.as_slice.ensures.value, c.as_slice-2.ensures) at (c.in-None.ensures.none refl) in
+    let none : often c.args.row.cells (tuples_of c.args.kept.now.items) ≡ 0 = rw (c.as_slice-2.ensures.value, c.as_slice-3.ensures) at (c.in-None.ensures.none refl) in
     rw (c.in_ok-keep_new-in-None.ensures.kept, map_push (λ (r : Row Tuple). r.cells) c.args.kept.now.items c.args.row) (different-push (tuples_of c.args.kept.now.items) c.args.row.cells none once t)

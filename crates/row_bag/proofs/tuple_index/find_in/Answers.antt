@@ -7,8 +7,8 @@ use Rattle.row_bag.proofs.tuple_index.find_in.Goals as goal
 
 pub loop-place-init : goal.loop-place-init
 loop-place-init g c =
-    walk-begins c.args.heads.now (map (λ (l : Link). l.before) c.args.links.now) (map (λ (l : Link). l.hash) c.args.links.now) (map g.T.HasTuple.tuple c.args.items.now) c.args.cells.now c.hash_of-hash.result c.chain_of.result
-    (get_or c.args.heads.now c.chain_of.result 0) c.requires.hashes c.hash_of-hash.ensures c.chain_of.ensures.within c.chain_of.ensures.chain refl c.requires.chained
+    walk-begins c.args.heads.now (map (λ (l : Link). l.before) c.args.links.now) (map (λ (l : Link). l.hash) c.args.links.now) (map g.T.HasTuple.tuple c.args.items.now) c.args.cells.now c.args.hash c.chain_of.result
+    (get_or c.args.heads.now c.chain_of.result 0) c.requires.hashes c.requires.hash c.chain_of.ensures.within c.chain_of.ensures.chain refl c.requires.chained
 
 pub loop-place-preserved : goal.loop-place-preserved
 loop-place-preserved g c =
