@@ -6,6 +6,7 @@ mod Evaluations
 mod Quantifiers
 mod Names
 mod Entries
+mod HandedOn
 mod Roots
 mod Stand
 mod Marks

@@ -91,7 +91,7 @@ open-under tables memo ns behind b i n e at is unheld ready =
     let h = ready-at tables memo ns i n l at ready in
     subst (IsOpen tables memo ns b n) (sym is) (record { bag = bag-at tables ns b i n e at; fit = h.0; ready = h.2; less = weight-at ns i n l at; keeps = keeps-under tables memo ns b i n e at free })
 
-entry-holds : (tables : List Table) (n : Node) (ns : List Node) (o : Option (Option Source)) (rows : Bag) (env : Environment) → Entry tables n ns o → Held o rows → Alike rows (rows_of tables n (bag_in tables ns) env)
+pub entry-holds : (tables : List Table) (n : Node) (ns : List Node) (o : Option (Option Source)) (rows : Bag) (env : Environment) → Entry tables n ns o → Held o rows → Alike rows (rows_of tables n (bag_in tables ns) env)
 entry-holds tables n ns None rows env h e = absurd e
 entry-holds tables n ns (Some None) rows env h e = absurd e
 entry-holds tables n ns (Some (Some s)) rows env h e = subst (λ (b : Bag). Alike b (rows_of tables n (bag_in tables ns) env)) (sym e) (h env)

@@ -8,10 +8,9 @@ ghost use Rattle.qgm_meaning.specs.Plain.{plain};
 ghost use Rattle.row_bag.specs.Bags.{Agree};
 ghost use Rattle.row_bag.specs.Sets.{same_cells};
 
-use crate::bindings::Bindings;
-use crate::boxes::evaluated;
+use crate::handed_on::root_rows;
 use crate::memo::memo_of;
-use crate::under::{Run, behind, place_of};
+use crate::under::{Place, behind, place_of};
 use qgm_core::{Graph, reached};
 use row_bag::{Bag, Tables};
 use shared_types::OutOfMemory;
@@ -47,11 +46,10 @@ pub fn execute<L: Ledger>(
     let below = behind(nodes, i);
     let marks = reached(alloc, nodes, root)?;
     let memo = memo_of(alloc, below, tables, &marks, steps, &mut count)?;
-    let run = Run {
-        alloc,
-        tables,
-        memo: &memo,
+    let place = Place {
+        node: &nodes[i],
+        below,
     };
-    let rows = evaluated(&run, &nodes[i], below, &Bindings::Empty, steps, &mut count)?;
+    let rows = root_rows(alloc, tables, memo, &place, steps, &mut count)?;
     Ok((rows, count))
 }

@@ -9,6 +9,7 @@ mod early;
 mod evaluation;
 mod execution;
 mod grouping;
+mod handed_on;
 mod heads;
 mod joining;
 mod laws;

@@ -12,8 +12,9 @@ ghost use Rattle.qgm_meaning.specs.Plain.{counted_by};
 use crate::beyond::beyond;
 use crate::bindings::Bindings;
 use crate::boxes::{evaluated, step};
+use crate::handed_on::lent;
 use crate::source::Source;
-use crate::under::{Run, behind, table_rows};
+use crate::under::{Place, Run, behind, table_rows};
 use qgm_core::{BoxId, BoxKind, Marks, Node, QuantId};
 use row_bag::Tables;
 use shared_types::OutOfMemory;
@@ -21,14 +22,8 @@ use std::alloc::Global;
 use std::sync::ledger::Ledger;
 use step_count::Steps;
 
-/// A box, and those behind it.
-#[derive(Clone, Copy)]
-struct Place<'a> {
-    node: &'a Node,
-    below: &'a [Node],
-}
-
-// The rows of a box that looks no quantifier up: a table's where they stand, or made.
+// The rows of a box that looks no quantifier up: a table's where they stand, of a box that hands such
+// rows on too, or made.
 fn entry<'t, L: Ledger>(
     alloc: Global,
     tables: &'t Tables,
@@ -50,6 +45,10 @@ fn entry<'t, L: Ledger>(
             Ok(Source::Borrowed(table_rows(tables, &table.name)))
         }
         BoxKind::Select | BoxKind::Group(_) | BoxKind::SetOp(_, _) | BoxKind::OuterJoin => {
+            if let Some(rows) = lent(memo, place) {
+                step(steps, count);
+                return Ok(Source::Borrowed(rows));
+            }
             let run = Run {
                 alloc,
                 tables,

@@ -21,6 +21,13 @@ pub(crate) struct Run<'a> {
     pub memo: &'a [Option<Source<'a>>],
 }
 
+/// A box, and those behind it.
+#[derive(Clone, Copy)]
+pub(crate) struct Place<'a> {
+    pub node: &'a Node,
+    pub below: &'a [Node],
+}
+
 /// What stands under a quantifier: rows that are kept, a box with those behind it, which is evaluated
 /// anew wherever it is asked, or no box.
 #[derive(Clone, Copy)]
@@ -72,8 +79,8 @@ pub(crate) fn table_rows<'a>(tables: &'a Tables, name: &Text) -> &'a [Row]
     }
 }
 
-// The rows of a box with so many boxes behind it, if they are kept.
-fn kept<'a>(memo: &'a [Option<Source<'a>>], i: usize) -> Option<&'a [Row]>
+/// The rows of a box with so many boxes behind it, if they are kept.
+pub(crate) fn kept<'a>(memo: &'a [Option<Source<'_>>], i: usize) -> Option<&'a [Row]>
     ensures some { IfSome result (λ rows. Held (slice_get memo.now i) rows.now) }
     ensures none { result ≡ None → is_held (slice_get memo.now i) ≡ false }
 {

@@ -1,6 +1,5 @@
-use Rattle.std.proofs.Common.{sym, ◌∙◌, subst}
+use Rattle.std.proofs.Common.{sym, ◌∙◌}
 use Rattle.box_exec.proofs.Roots.{root-behind, root-fit, root-none, root-rows, root-there, root-took}
-use Rattle.box_exec.specs.Costs.{Keeps}
 use Rattle.box_exec.proofs.Totals.{took-exactly, took-within}
 use Rattle.box_exec.proofs.execution.execute.Goals as goal
 
@@ -12,8 +11,8 @@ pub memo_of-requires : goal.memo_of-requires
 memo_of-requires g c =
     root-behind c.args.graph.now.boxes c.nodes-nodes.result.now c.args.graph.now.root c.root-root.result c.nodes-nodes.ensures c.root-root.ensures c.in-Some.i c.behind-below.result.now c.behind-below.ensures c.requires.fit
 
-pub evaluated-requires-clause-fit : goal.evaluated-requires-clause-fit
-evaluated-requires-clause-fit g c =
+pub root_rows-requires-clause-fit : goal.root_rows-requires-clause-fit
+root_rows-requires-clause-fit g c =
     root-fit c.args.graph.now.boxes c.nodes-nodes.result.now c.args.graph.now.root c.root-root.result c.nodes-nodes.ensures c.root-root.ensures c.in-Some.i c.index-nodes-i.result c.behind-below.result.now (sym c.place_of.ensures ∙ c.in-Some.is) c.index-nodes-i.is c.behind-below.ensures c.requires.fit
 
 pub returns-clause-rows : goal.returns-clause-rows
@@ -28,8 +27,8 @@ pub returns-clause-took : goal.returns-clause-took
 returns-clause-took g c = λ has kept how.
     let found = root-took c.args.graph.now.boxes c.nodes-nodes.result.now c.args.graph.now.root c.root-root.result c.nodes-nodes.ensures c.root-root.ensures c.args.tables.now c.in-Some.i c.index-nodes-i.result c.behind-below.result.now c.in_ok-marks.marks kept
     (sym c.place_of.ensures ∙ c.in-Some.is) c.index-nodes-i.is c.behind-below.ensures c.in_ok-marks.ensures how in
-    found.1 c.args.steps.now c.memo_of.new.steps c.evaluated.new.steps (c.in_ok-memo.ensures.took kept found.0)
-    (c.in_ok-rows.ensures.took kept (subst (λ (m : _). Keeps m kept c.behind-below.result.now) (sym c.deref.ensures.value) (c.in_ok-memo.ensures.keeps kept found.0)))
+    found.1 c.args.steps.now c.memo_of.new.steps c.root_rows.new.steps (c.in_ok-memo.ensures.took kept found.0)
+    (c.in_ok-rows.ensures.took kept (c.in_ok-memo.ensures.keeps kept found.0))
 
 pub returns-in_default-clause-exact : goal.returns-in_default-clause-exact
 returns-in_default-clause-exact g c = λ w all. took-exactly c.args.tables.now c.args.graph.now w all c.args.steps.now c.args.steps.now (returns-in_default-clause-took g c)
@@ -41,10 +40,10 @@ pub returns-in_default-clause-at_most_plain : goal.returns-in_default-clause-at_
 returns-in_default-clause-at_most_plain g c = λ w. (took-within c.args.tables.now c.args.graph.now w c.args.steps.now c.args.steps.now (returns-in_default-clause-took g c)).1
 
 pub returns-clause-exact : goal.returns-clause-exact
-returns-clause-exact g c = λ w all. took-exactly c.args.tables.now c.args.graph.now w all c.args.steps.now c.evaluated.new.steps (returns-clause-took g c)
+returns-clause-exact g c = λ w all. took-exactly c.args.tables.now c.args.graph.now w all c.args.steps.now c.root_rows.new.steps (returns-clause-took g c)
 
 pub returns-clause-at_least_closed : goal.returns-clause-at_least_closed
-returns-clause-at_least_closed g c = λ w. (took-within c.args.tables.now c.args.graph.now w c.args.steps.now c.evaluated.new.steps (returns-clause-took g c)).0
+returns-clause-at_least_closed g c = λ w. (took-within c.args.tables.now c.args.graph.now w c.args.steps.now c.root_rows.new.steps (returns-clause-took g c)).0
 
 pub returns-clause-at_most_plain : goal.returns-clause-at_most_plain
-returns-clause-at_most_plain g c = λ w. (took-within c.args.tables.now c.args.graph.now w c.args.steps.now c.evaluated.new.steps (returns-clause-took g c)).1
+returns-clause-at_most_plain g c = λ w. (took-within c.args.tables.now c.args.graph.now w c.args.steps.now c.root_rows.new.steps (returns-clause-took g c)).1

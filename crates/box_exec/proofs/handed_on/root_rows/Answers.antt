@@ -1,0 +1,21 @@
+use Rattle.std.proofs.Common.{[], slice_get, sym, subst}
+use Rattle.std.proofs.lemmas.Result.{IfOk-weaker}
+use Rattle.box_exec.specs.Costs.{Keeps}
+use Rattle.box_exec.specs.Ready.{Entry, Held, Ready}
+use Rattle.box_exec.proofs.Places.{entry-holds}
+use Rattle.box_exec.proofs.handed_on.root_rows.Goals as goal
+
+pub returns-in_default-clause-took : goal.returns-in_default-clause-took
+returns-in_default-clause-took g c = λ kept keeps.
+    c.evaluated.ensures.took kept (subst (λ (m : _). Keeps m kept c.args.root.now.below.now) (sym c.deref-in_default.ensures.value) keeps)
+
+pub returns-clause-rows : goal.returns-clause-rows
+returns-clause-rows g c =
+    let tables = c.args.tables.now in
+    let n = c.args.root.now.node.now in
+    let below = c.args.root.now.below.now in
+    let o = slice_get c.args.memo.items c.in-Some.k in
+    let entry : Entry tables n below o =
+    subst (λ (m : _). Entry tables n below (slice_get m c.in-Some.k)) c.deref.ensures.value
+    (c.in-Some.ensures.entry tables (subst (λ (m : _). Ready tables m below) (sym c.deref.ensures.value) c.requires.ready)) in
+    IfOk-weaker c.into_bag.result _ _ (λ bag h. entry-holds tables n below o bag [] entry (subst (λ (b : _). Held o b) (sym h) c.taken.ensures)) c.into_bag.ensures
