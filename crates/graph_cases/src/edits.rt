@@ -175,7 +175,7 @@ fn cells(alloc: Global, rest: Rest) -> Result<Head, LineError> {
     let mut cells = Head::new(alloc);
     for item in rest.into_items() {
         match item {
-            Item::Cell(x) => cells.push(x)?,
+            Item::Cell(x) => cells.push(Box::into_inner(x))?,
             Item::Word(_) | Item::Quoted(_) | Item::Cond(_) => {
                 return Err(LineError::Faulty("a cell is to stand here"));
             }

@@ -12,6 +12,16 @@ fn no_form() -> LineError {
     LineError::Faulty("no form of a cell or a condition")
 }
 
+// An expression.
+fn cell(alloc: Global, x: Gx) -> Result<Item, LineError> {
+    Ok(Item::Cell(Box::new(alloc, x)?))
+}
+
+// A condition.
+fn cond(alloc: Global, c: Gc) -> Result<Item, LineError> {
+    Ok(Item::Cond(Box::new(alloc, c)?))
+}
+
 /// What stands in brackets, from the left: a word, and what it is of.
 pub fn formed(alloc: Global, within: Vec<Item>) -> Result<Item, LineError> {
     let mut items = within.into_iter();
@@ -27,8 +37,8 @@ pub fn formed(alloc: Global, within: Vec<Item>) -> Result<Item, LineError> {
 // What a word is of no, one or two items.
 fn formed_of(alloc: Global, word: &str, mut items: IntoIter<Item>) -> Result<Item, LineError> {
     let formed = match items.next() {
-        None => of_none(word),
-        Some(Item::Quoted(text)) => of_text(word, text),
+        None => of_none(alloc, word),
+        Some(Item::Quoted(text)) => of_text(alloc, word, text),
         Some(Item::Word(first)) => of_word(alloc, word, first.as_str(), items.next()),
         Some(Item::Cell(x)) => of_cell(alloc, word, x, items.next()),
         Some(Item::Cond(c)) => of_cond(alloc, word, c, items.next()),
@@ -40,18 +50,18 @@ fn formed_of(alloc: Global, word: &str, mut items: IntoIter<Item>) -> Result<Ite
 }
 
 // `(count-all)` and `(true)`.
-fn of_none(word: &str) -> Result<Item, LineError> {
+fn of_none(alloc: Global, word: &str) -> Result<Item, LineError> {
     match word {
-        "count-all" => Ok(Item::Cell(Gx::CountAll)),
-        "true" => Ok(Item::Cond(Gc::True)),
+        "count-all" => cell(alloc, Gx::CountAll),
+        "true" => cond(alloc, Gc::True),
         _ => Err(no_form()),
     }
 }
 
 // `(text 's')`.
-fn of_text(word: &str, text: Text) -> Result<Item, LineError> {
+fn of_text(alloc: Global, word: &str, text: Text) -> Result<Item, LineError> {
     match word {
-        "text" => Ok(Item::Cell(Gx::Text(text))),
+        "text" => cell(alloc, Gx::Text(text)),
         _ => Err(no_form()),
     }
 }
@@ -64,46 +74,51 @@ fn of_word(
     second: Option<Item>,
 ) -> Result<Item, LineError> {
     match second {
-        None => of_one_word(word, first),
-        Some(Item::Word(second)) => of_column(word, number(first)?, number(second.as_str())?),
-        Some(Item::Cond(c)) => of_rows(word, number(first)?, Box::new(alloc, c)?),
+        None => of_one_word(alloc, word, first),
+        Some(Item::Word(second)) => of_column(
+            alloc,
+            word,
+            number(first)?,
+            number(second.as_str())?,
+        ),
+        Some(Item::Cond(c)) => of_rows(alloc, word, number(first)?, c),
         Some(Item::Quoted(_) | Item::Cell(_)) => Err(no_form()),
     }
 }
 
 // `(col q k)`.
-fn of_column(word: &str, q: usize, k: usize) -> Result<Item, LineError> {
+fn of_column(alloc: Global, word: &str, q: usize, k: usize) -> Result<Item, LineError> {
     match word {
-        "col" => Ok(Item::Cell(Gx::Col(q, k))),
+        "col" => cell(alloc, Gx::Col(q, k)),
         _ => Err(no_form()),
     }
 }
 
 // `(int n)`, `(null int)`, `(null text)`, `(scalar q)`.
-fn of_one_word(word: &str, first: &str) -> Result<Item, LineError> {
+fn of_one_word(alloc: Global, word: &str, first: &str) -> Result<Item, LineError> {
     match (word, first) {
         ("int", _) => match first.parse::<i64>() {
-            Ok(n) => Ok(Item::Cell(Gx::Int(n))),
+            Ok(n) => cell(alloc, Gx::Int(n)),
             Err(_) => Err(no_form()),
         },
-        ("null", "int") => Ok(Item::Cell(Gx::NullInt)),
-        ("null", "text") => Ok(Item::Cell(Gx::NullText)),
-        ("scalar", _) => Ok(Item::Cell(Gx::Scalar(number(first)?))),
+        ("null", "int") => cell(alloc, Gx::NullInt),
+        ("null", "text") => cell(alloc, Gx::NullText),
+        ("scalar", _) => cell(alloc, Gx::Scalar(number(first)?)),
         (_, _) => Err(no_form()),
     }
 }
 
 // What begins with a cell behind its word.
-fn of_cell(alloc: Global, word: &str, x: Gx, second: Option<Item>) -> Result<Item, LineError> {
+fn of_cell(alloc: Global, word: &str, x: Box<Gx>, second: Option<Item>) -> Result<Item, LineError> {
     match second {
-        None => of_one_cell(word, Box::new(alloc, x)?),
+        None => of_one_cell(alloc, word, x),
         Some(Item::Cell(y)) => of_cells(alloc, word, x, y),
         Some(Item::Word(_) | Item::Quoted(_) | Item::Cond(_)) => Err(no_form()),
     }
 }
 
 // What begins with a condition behind its word.
-fn of_cond(alloc: Global, word: &str, c: Gc, second: Option<Item>) -> Result<Item, LineError> {
+fn of_cond(alloc: Global, word: &str, c: Box<Gc>, second: Option<Item>) -> Result<Item, LineError> {
     match second {
         None => of_one_cond(alloc, word, c),
         Some(Item::Cond(d)) => of_conds(alloc, word, c, d),
@@ -112,25 +127,35 @@ fn of_cond(alloc: Global, word: &str, c: Gc, second: Option<Item>) -> Result<Ite
 }
 
 // `(not c)`.
-fn of_one_cond(alloc: Global, word: &str, c: Gc) -> Result<Item, LineError> {
+fn of_one_cond(alloc: Global, word: &str, c: Box<Gc>) -> Result<Item, LineError> {
     match word {
-        "not" => Ok(Item::Cond(negated(alloc, c)?)),
+        "not" => cond(alloc, negated(alloc, Box::into_inner(c))?),
         _ => Err(no_form()),
     }
 }
 
+// Both of two conditions.
+fn both_conds(alloc: Global, c: Box<Gc>, d: Box<Gc>) -> Result<Item, LineError> {
+    cond(alloc, anded(alloc, Box::into_inner(c), Box::into_inner(d))?)
+}
+
+// One of two conditions, or both.
+fn either_cond(alloc: Global, c: Box<Gc>, d: Box<Gc>) -> Result<Item, LineError> {
+    cond(alloc, ored(alloc, Box::into_inner(c), Box::into_inner(d))?)
+}
+
 // `(and c d)`, `(or c d)`.
-fn of_conds(alloc: Global, word: &str, c: Gc, d: Gc) -> Result<Item, LineError> {
+fn of_conds(alloc: Global, word: &str, c: Box<Gc>, d: Box<Gc>) -> Result<Item, LineError> {
     match word {
-        "and" => Ok(Item::Cond(anded(alloc, c, d)?)),
-        "or" => Ok(Item::Cond(ored(alloc, c, d)?)),
+        "and" => both_conds(alloc, c, d),
+        "or" => either_cond(alloc, c, d),
         _ => Err(no_form()),
     }
 }
 
 // `(neg x)`, the aggregates of a cell, `(isnull x)`.
-fn of_one_cell(word: &str, x: Box<Gx>) -> Result<Item, LineError> {
-    Ok(Item::Cell(match word {
+fn of_one_cell(alloc: Global, word: &str, x: Box<Gx>) -> Result<Item, LineError> {
+    let made = match word {
         "neg" => Gx::Neg(x),
         "single" => Gx::Single(x),
         "count" => Gx::Count(x),
@@ -143,12 +168,13 @@ fn of_one_cell(word: &str, x: Box<Gx>) -> Result<Item, LineError> {
         "avg-distinct" => Gx::AvgDistinct(x),
         "min-distinct" => Gx::MinDistinct(x),
         "max-distinct" => Gx::MaxDistinct(x),
-        "isnull" => return Ok(Item::Cond(Gc::IsNull(x))),
+        "isnull" => return cond(alloc, Gc::IsNull(x)),
         _ => return Err(no_form()),
-    }))
+    };
+    cell(alloc, made)
 }
 
-// An operation on two values.
+// The operation on two values that a word names.
 fn operation(word: &str) -> Option<Op> {
     match word {
         "add" => Some(Op::Add),
@@ -160,14 +186,20 @@ fn operation(word: &str) -> Option<Op> {
     }
 }
 
+// An operation on two values.
+fn operated(alloc: Global, x: Box<Gx>, op: Op, y: Box<Gx>) -> Result<Item, LineError> {
+    cell(
+        alloc,
+        chained(alloc, Box::into_inner(x), op, Box::into_inner(y))?,
+    )
+}
+
 // `(add x y)` and the like, `(eq x y)` and the like.
-fn of_cells(alloc: Global, word: &str, x: Gx, y: Gx) -> Result<Item, LineError> {
+fn of_cells(alloc: Global, word: &str, x: Box<Gx>, y: Box<Gx>) -> Result<Item, LineError> {
     if let Some(op) = operation(word) {
-        return Ok(Item::Cell(chained(alloc, x, op, y)?));
+        return operated(alloc, x, op, y);
     }
-    let x = Box::new(alloc, x)?;
-    let y = Box::new(alloc, y)?;
-    Ok(Item::Cond(match word {
+    let made = match word {
         "eq" => Gc::Eq(x, y),
         "ne" => Gc::Ne(x, y),
         "lt" => Gc::Lt(x, y),
@@ -177,14 +209,15 @@ fn of_cells(alloc: Global, word: &str, x: Gx, y: Gx) -> Result<Item, LineError> 
         "same" => Gc::Same(x, y),
         "like" => Gc::Like(x, y),
         _ => return Err(no_form()),
-    }))
+    };
+    cond(alloc, made)
 }
 
 // `(some q c)`, `(every q c)`.
-fn of_rows(word: &str, q: usize, c: Box<Gc>) -> Result<Item, LineError> {
+fn of_rows(alloc: Global, word: &str, q: usize, c: Box<Gc>) -> Result<Item, LineError> {
     match word {
-        "some" => Ok(Item::Cond(Gc::Some(q, c))),
-        "every" => Ok(Item::Cond(Gc::Every(q, c))),
+        "some" => cond(alloc, Gc::Some(q, c)),
+        "every" => cond(alloc, Gc::Every(q, c)),
         _ => Err(no_form()),
     }
 }
@@ -195,16 +228,16 @@ enum Awaited {
     /// A condition is to come, or `else`.
     When,
     /// The result of this condition is to come.
-    Then(Gc),
+    Then(Box<Gc>),
     /// The last value is to come.
     Last,
     /// Nothing is to come behind this last value.
-    End(Gx),
+    End(Box<Gx>),
 }
 
 impl Awaited {
     // A condition comes.
-    fn cond(self, c: Gc) -> Result<Awaited, LineError> {
+    fn cond(self, c: Box<Gc>) -> Result<Awaited, LineError> {
         match self {
             Awaited::When => Ok(Awaited::Then(c)),
             Awaited::Then(_) | Awaited::Last | Awaited::End(_) => Err(no_form()),
@@ -220,10 +253,13 @@ impl Awaited {
     }
 
     // A cell comes.
-    fn cell(self, x: Gx, arms: &mut Vec<Arm>) -> Result<Awaited, LineError> {
+    fn cell(self, x: Box<Gx>, arms: &mut Vec<Arm>) -> Result<Awaited, LineError> {
         match self {
             Awaited::Then(when) => {
-                arms.push(Arm { when, then: x })?;
+                arms.push(Arm {
+                    when: Box::into_inner(when),
+                    then: Box::into_inner(x),
+                })?;
                 Ok(Awaited::When)
             }
             Awaited::Last => Ok(Awaited::End(x)),
@@ -245,7 +281,7 @@ fn case_of(alloc: Global, items: IntoIter<Item>) -> Result<Item, LineError> {
         };
     }
     match awaited {
-        Awaited::End(x) => Ok(Item::Cell(Gx::Case(arms, Box::new(alloc, x)?))),
+        Awaited::End(x) => cell(alloc, Gx::Case(arms, x)),
         Awaited::When | Awaited::Then(_) | Awaited::Last => Err(no_form()),
     }
 }

@@ -16,9 +16,9 @@ pub enum Item {
     /// Characters in quotes.
     Quoted(Text),
     /// An expression in brackets.
-    Cell(Gx),
+    Cell(Box<Gx>),
     /// A condition in brackets.
-    Cond(Gc),
+    Cond(Box<Gc>),
 }
 
 /// What is left of a line.
@@ -105,7 +105,7 @@ impl Rest {
     }
 
     /// The next item, which is a condition.
-    pub fn cond(&mut self) -> Result<Gc, LineError> {
+    pub fn cond(&mut self) -> Result<Box<Gc>, LineError> {
         match self.items.next() {
             Some(Item::Cond(c)) => Ok(c),
             None | Some(Item::Word(_) | Item::Quoted(_) | Item::Cell(_)) => {

@@ -170,7 +170,7 @@ impl Sketch {
         match word {
             "quant" => self.add_quant(&mut rest)?,
             "head" => self.add_head(&mut rest)?,
-            "on" | "where" => self.parts.conds.add(rest.cond()?)?,
+            "on" | "where" => self.parts.conds.add(Box::into_inner(rest.cond()?))?,
             "key" | "not-null" => {
                 let columns = Items::from_vec(rest.numbers(alloc)?);
                 return add_facts(&mut self.parts.kind, word, columns);
@@ -189,7 +189,7 @@ impl Sketch {
 
     fn add_head(&mut self, rest: &mut Rest) -> Result<(), LineError> {
         match rest.next() {
-            Some(Item::Cell(x)) => Ok(self.parts.head.push(x)?),
+            Some(Item::Cell(x)) => Ok(self.parts.head.push(Box::into_inner(x))?),
             Some(Item::Word(word)) => add_column(&mut self.parts.kind, word.as_str()),
             None | Some(Item::Quoted(_) | Item::Cond(_)) => {
                 Err(LineError::Faulty("a cell is to stand here"))
