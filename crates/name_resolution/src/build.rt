@@ -6,6 +6,7 @@ ghost use Rattle.sql_meaning.specs.Groups.{is_distinct};
 ghost use Rattle.name_resolution.specs.Onto.{arms_onto, choices_onto, froms_onto, values_onto};
 ghost use Rattle.name_resolution.specs.Resolved as spec;
 
+use crate::boxes::{boxed, push};
 use crate::chain::perhaps_not;
 use crate::place::ColumnPlace;
 use shared_types::{CmpOp, OutOfMemory, Text};
@@ -15,27 +16,27 @@ use sqlite_items::Items;
 use std::alloc::Global;
 
 /// A text.
-pub(crate) fn text(alloc: Global, x: &Text) -> Result<Value, OutOfMemory>
-    ensures { IfOk result (λ v. shown.value v ≡ tree.text x.now) }
+pub(crate) fn text(alloc: Global, x: &Text) -> Result<Box<Value>, OutOfMemory>
+    ensures { IfOk result (λ v. shown.value v.value ≡ tree.text x.now) }
 {
-    Ok(Value::Text(x.copy(alloc)?))
+    boxed(alloc, Value::Text(x.copy(alloc)?))
 }
 
 /// A column that was found, or null.
-pub(crate) fn column(found: Option<ColumnPlace>) -> Value
-    ensures { shown.value result ≡ spec.column_at found }
+pub(crate) fn column(alloc: Global, found: Option<ColumnPlace>) -> Result<Box<Value>, OutOfMemory>
+    ensures { IfOk result (λ v. shown.value v.value ≡ spec.column_at found) }
 {
     match found {
-        Some(p) => Value::Column(p.scope, p.place),
-        None => Value::Null(None),
+        Some(p) => boxed(alloc, Value::Column(p.scope, p.place)),
+        None => boxed(alloc, Value::Null(None)),
     }
 }
 
 /// A scalar subquery.
-pub(crate) fn scalar(alloc: Global, q: Query) -> Result<Value, OutOfMemory>
-    ensures { IfOk result (λ v. shown.value v ≡ tree.scalar (shown.query q)) }
+pub(crate) fn scalar(alloc: Global, q: Box<Query>) -> Result<Box<Value>, OutOfMemory>
+    ensures { IfOk result (λ v. shown.value v.value ≡ tree.scalar (shown.query q.value)) }
 {
-    Ok(Value::Scalar(Box::new(alloc, q)?))
+    boxed(alloc, Value::Scalar(q))
 }
 
 /// Whether DISTINCT is written.
@@ -53,92 +54,104 @@ pub(crate) fn aggregate(
     alloc: Global,
     function: SetFunction,
     quantifier: Option<SetQuantifier>,
-    x: Value,
-) -> Result<Value, OutOfMemory>
-    ensures { IfOk result (λ v. shown.value v ≡ tree.aggregate function (is_distinct quantifier) (shown.value x)) }
+    x: Box<Value>,
+) -> Result<Box<Value>, OutOfMemory>
+    ensures { IfOk result (λ v. shown.value v.value ≡ tree.aggregate function (is_distinct quantifier) (shown.value x.value)) }
 {
-    let distinct = distinct(quantifier);
-    Ok(Value::Aggregate(function, distinct, Box::new(alloc, x)?))
+    boxed(alloc, Value::Aggregate(function, distinct(quantifier), x))
 }
 
 /// `CASE` with conditions.
 #[tactic(auto, using(sql_meaning::specs::ResolvedShown::lists))]
-pub(crate) fn searched(alloc: Global, list: Items<Arm>, last: Value) -> Result<Value, OutOfMemory>
-    ensures { IfOk result (λ v. shown.value v ≡ tree.searched (shown.arm_list list) (shown.value last)) }
+pub(crate) fn searched(
+    alloc: Global,
+    list: Items<Arm>,
+    last: Box<Value>,
+) -> Result<Box<Value>, OutOfMemory>
+    ensures { IfOk result (λ v. shown.value v.value ≡ tree.searched (shown.arm_list list) (shown.value last.value)) }
 {
-    Ok(Value::Searched(list, Box::new(alloc, last)?))
+    boxed(alloc, Value::Searched(list, last))
 }
 
 /// `CASE` with an operand.
 #[tactic(auto, using(sql_meaning::specs::ResolvedShown::lists))]
 pub(crate) fn simple(
     alloc: Global,
-    x: Value,
+    x: Box<Value>,
     list: Items<Choice>,
-    last: Value,
-) -> Result<Value, OutOfMemory>
-    ensures { IfOk result (λ v. shown.value v ≡ tree.simple (shown.value x) (shown.choice_list list) (shown.value last)) }
+    last: Box<Value>,
+) -> Result<Box<Value>, OutOfMemory>
+    ensures { IfOk result (λ v. shown.value v.value ≡ tree.simple (shown.value x.value) (shown.choice_list list) (shown.value last.value)) }
 {
-    Ok(Value::Simple(Box::new(alloc, x)?, list, Box::new(alloc, last)?))
+    boxed(alloc, Value::Simple(x, list, last))
 }
 
 /// `COALESCE(x, ..)`.
 #[tactic(auto, using(sql_meaning::specs::ResolvedShown::lists))]
-pub(crate) fn coalesce(alloc: Global, x: Value, list: Items<Value>) -> Result<Value, OutOfMemory>
-    ensures { IfOk result (λ v. shown.value v ≡ tree.coalesce (shown.value x) (shown.value_list list)) }
+pub(crate) fn coalesce(
+    alloc: Global,
+    x: Box<Value>,
+    list: Items<Value>,
+) -> Result<Box<Value>, OutOfMemory>
+    ensures { IfOk result (λ v. shown.value v.value ≡ tree.coalesce (shown.value x.value) (shown.value_list list)) }
 {
-    Ok(Value::Coalesce(Box::new(alloc, x)?, list))
+    boxed(alloc, Value::Coalesce(x, list))
 }
 
 /// `NULLIF(x, y)`.
-pub(crate) fn null_if(alloc: Global, x: Value, y: Value) -> Result<Value, OutOfMemory>
-    ensures { IfOk result (λ v. shown.value v ≡ tree.null_if (shown.value x) (shown.value y)) }
+pub(crate) fn null_if(
+    alloc: Global,
+    x: Box<Value>,
+    y: Box<Value>,
+) -> Result<Box<Value>, OutOfMemory>
+    ensures { IfOk result (λ v. shown.value v.value ≡ tree.null_if (shown.value x.value) (shown.value y.value)) }
 {
-    Ok(Value::NullIf(Box::new(alloc, x)?, Box::new(alloc, y)?))
+    boxed(alloc, Value::NullIf(x, y))
 }
 
 /// NOT of a condition.
-pub(crate) fn negated(alloc: Global, p: Test) -> Result<Test, OutOfMemory>
-    ensures { IfOk result (λ t. shown.test t ≡ tree.negated (shown.test p)) }
+pub(crate) fn negated(alloc: Global, p: Box<Test>) -> Result<Box<Test>, OutOfMemory>
+    ensures { IfOk result (λ t. shown.test t.value ≡ tree.negated (shown.test p.value)) }
 {
-    Ok(Test::Not(Box::new(alloc, p)?))
+    boxed(alloc, Test::Not(p))
 }
 
 /// A comparison.
-pub(crate) fn compare(alloc: Global, x: Value, op: CmpOp, y: Value) -> Result<Test, OutOfMemory>
-    ensures { IfOk result (λ t. shown.test t ≡ tree.compare (shown.value x) op (shown.value y)) }
+pub(crate) fn compare(
+    alloc: Global,
+    x: Box<Value>,
+    op: CmpOp,
+    y: Box<Value>,
+) -> Result<Box<Test>, OutOfMemory>
+    ensures { IfOk result (λ t. shown.test t.value ≡ tree.compare (shown.value x.value) op (shown.value y.value)) }
 {
-    Ok(Test::Compare(Box::new(alloc, x)?, op, Box::new(alloc, y)?))
+    boxed(alloc, Test::Compare(x, op, y))
 }
 
 /// A comparison with the rows of a subquery.
 pub(crate) fn quantified(
     alloc: Global,
-    x: Value,
+    x: Box<Value>,
     op: CmpOp,
     each: Quantifier,
-    q: Query,
-) -> Result<Test, OutOfMemory>
-    ensures { IfOk result (λ t. shown.test t ≡ tree.quantified (shown.value x) op each (shown.query q)) }
+    q: Box<Query>,
+) -> Result<Box<Test>, OutOfMemory>
+    ensures { IfOk result (λ t. shown.test t.value ≡ tree.quantified (shown.value x.value) op each (shown.query q.value)) }
 {
-    Ok(Test::Quantified(Box::new(alloc, x)?, op, each, Box::new(alloc, q)?))
+    boxed(alloc, Test::Quantified(x, op, each, q))
 }
 
 /// `x BETWEEN y AND z`, or its NOT.
 pub(crate) fn between(
     alloc: Global,
-    x: Value,
+    x: Box<Value>,
     negative: bool,
-    y: Value,
-    z: Value,
-) -> Result<Test, OutOfMemory>
-    ensures { IfOk result (λ t. shown.test t ≡ spec.perhaps_not negative (tree.between (shown.value x) (shown.value y) (shown.value z))) }
+    y: Box<Value>,
+    z: Box<Value>,
+) -> Result<Box<Test>, OutOfMemory>
+    ensures { IfOk result (λ t. shown.test t.value ≡ spec.perhaps_not negative (tree.between (shown.value x.value) (shown.value y.value) (shown.value z.value))) }
 {
-    let p = Test::Between(
-        Box::new(alloc, x)?,
-        Box::new(alloc, y)?,
-        Box::new(alloc, z)?,
-    );
+    let p = boxed(alloc, Test::Between(x, y, z))?;
     perhaps_not(alloc, negative, p)
 }
 
@@ -146,148 +159,161 @@ pub(crate) fn between(
 #[tactic(auto, using(sql_meaning::specs::ResolvedShown::lists))]
 pub(crate) fn among(
     alloc: Global,
-    x: Value,
+    x: Box<Value>,
     negative: bool,
     list: Items<Value>,
-) -> Result<Test, OutOfMemory>
-    ensures { IfOk result (λ t. shown.test t ≡ spec.perhaps_not negative (tree.among (shown.value x) (shown.value_list list))) }
+) -> Result<Box<Test>, OutOfMemory>
+    ensures { IfOk result (λ t. shown.test t.value ≡ spec.perhaps_not negative (tree.among (shown.value x.value) (shown.value_list list))) }
 {
-    let p = Test::Among(Box::new(alloc, x)?, list);
+    let p = boxed(alloc, Test::Among(x, list))?;
     perhaps_not(alloc, negative, p)
 }
 
 /// `x IN` a subquery, or its NOT.
 pub(crate) fn among_rows(
     alloc: Global,
-    x: Value,
+    x: Box<Value>,
     negative: bool,
-    q: Query,
-) -> Result<Test, OutOfMemory>
-    ensures { IfOk result (λ t. shown.test t ≡ spec.perhaps_not negative (tree.among_rows (shown.value x) (shown.query q))) }
+    q: Box<Query>,
+) -> Result<Box<Test>, OutOfMemory>
+    ensures { IfOk result (λ t. shown.test t.value ≡ spec.perhaps_not negative (tree.among_rows (shown.value x.value) (shown.query q.value))) }
 {
-    let p = Test::AmongRows(Box::new(alloc, x)?, Box::new(alloc, q)?);
+    let p = boxed(alloc, Test::AmongRows(x, q))?;
     perhaps_not(alloc, negative, p)
 }
 
 /// `x LIKE y`, or its NOT.
-pub(crate) fn like(alloc: Global, x: Value, negative: bool, y: Value) -> Result<Test, OutOfMemory>
-    ensures { IfOk result (λ t. shown.test t ≡ spec.perhaps_not negative (tree.like (shown.value x) (shown.value y))) }
+pub(crate) fn like(
+    alloc: Global,
+    x: Box<Value>,
+    negative: bool,
+    y: Box<Value>,
+) -> Result<Box<Test>, OutOfMemory>
+    ensures { IfOk result (λ t. shown.test t.value ≡ spec.perhaps_not negative (tree.like (shown.value x.value) (shown.value y.value))) }
 {
-    let p = Test::Like(Box::new(alloc, x)?, Box::new(alloc, y)?);
+    let p = boxed(alloc, Test::Like(x, y))?;
     perhaps_not(alloc, negative, p)
 }
 
 /// `x IS NULL`, or its NOT.
-pub(crate) fn is_null(alloc: Global, x: Value, negative: bool) -> Result<Test, OutOfMemory>
-    ensures { IfOk result (λ t. shown.test t ≡ spec.perhaps_not negative (tree.is_null (shown.value x))) }
+pub(crate) fn is_null(
+    alloc: Global,
+    x: Box<Value>,
+    negative: bool,
+) -> Result<Box<Test>, OutOfMemory>
+    ensures { IfOk result (λ t. shown.test t.value ≡ spec.perhaps_not negative (tree.is_null (shown.value x.value))) }
 {
-    let p = Test::IsNull(Box::new(alloc, x)?);
+    let p = boxed(alloc, Test::IsNull(x))?;
     perhaps_not(alloc, negative, p)
 }
 
 /// `EXISTS` a subquery.
-pub(crate) fn exists(alloc: Global, q: Query) -> Result<Test, OutOfMemory>
-    ensures { IfOk result (λ t. shown.test t ≡ tree.exists (shown.query q)) }
+pub(crate) fn exists(alloc: Global, q: Box<Query>) -> Result<Box<Test>, OutOfMemory>
+    ensures { IfOk result (λ t. shown.test t.value ≡ tree.exists (shown.query q.value)) }
 {
-    Ok(Test::Exists(Box::new(alloc, q)?))
+    boxed(alloc, Test::Exists(q))
 }
 
 /// No condition.
 #[tactic(auto, using(sql_meaning::specs::ResolvedShown::lists))]
-pub(crate) fn no_test(alloc: Global) -> Test
-    ensures { shown.test result ≡ tree.all tree.no_test }
+pub(crate) fn no_test(alloc: Global) -> Result<Box<Test>, OutOfMemory>
+    ensures { IfOk result (λ t. shown.test t.value ≡ tree.all tree.no_test) }
 {
-    Test::All(Items::new(alloc))
+    boxed(alloc, Test::All(Items::new(alloc)))
 }
 
 /// Adds a value at the end.
 #[tactic(auto, using(crate::proofs::Ontos::values_more))]
-pub(crate) fn push_value(list: &mut Items<Value>, x: Value) -> Result<(), OutOfMemory>
-    ensures { OnOk result ((rest : tree.Values) → values_onto list.new rest ≡ values_onto list.old (tree.one_value (shown.value x) rest)) }
+pub(crate) fn push_value(list: &mut Items<Value>, x: Box<Value>) -> Result<(), OutOfMemory>
+    ensures { OnOk result ((rest : tree.Values) → values_onto list.new rest ≡ values_onto list.old (tree.one_value (shown.value x.value) rest)) }
 {
-    list.push(x)?;
-    Ok(())
+    push(list, Box::into_inner(x))
 }
 
 /// Adds a condition with its result at the end.
 #[tactic(auto, using(crate::proofs::Ontos::arms_more))]
-pub(crate) fn push_arm(list: &mut Items<Arm>, when: Test, then: Value) -> Result<(), OutOfMemory>
-    ensures { OnOk result ((rest : tree.Arms) → arms_onto list.new rest ≡ arms_onto list.old (tree.one_arm (shown.test when) (shown.value then) rest)) }
+pub(crate) fn push_arm(
+    list: &mut Items<Arm>,
+    when: Box<Test>,
+    then: Box<Value>,
+) -> Result<(), OutOfMemory>
+    ensures { OnOk result ((rest : tree.Arms) → arms_onto list.new rest ≡ arms_onto list.old (tree.one_arm (shown.test when.value) (shown.value then.value) rest)) }
 {
-    list.push(Arm { when, then })?;
-    Ok(())
+    let arm = Arm {
+        when: Box::into_inner(when),
+        then: Box::into_inner(then),
+    };
+    push(list, arm)
 }
 
 /// Adds a value with its result at the end.
 #[tactic(auto, using(crate::proofs::Ontos::choices_more))]
 pub(crate) fn push_choice(
     list: &mut Items<Choice>,
-    when: Value,
-    then: Value,
+    when: Box<Value>,
+    then: Box<Value>,
 ) -> Result<(), OutOfMemory>
-    ensures { OnOk result ((rest : tree.Choices) → choices_onto list.new rest ≡ choices_onto list.old (tree.one_choice (shown.value when) (shown.value then) rest)) }
+    ensures { OnOk result ((rest : tree.Choices) → choices_onto list.new rest ≡ choices_onto list.old (tree.one_choice (shown.value when.value) (shown.value then.value) rest)) }
 {
-    list.push(Choice { when, then })?;
-    Ok(())
+    let choice = Choice {
+        when: Box::into_inner(when),
+        then: Box::into_inner(then),
+    };
+    push(list, choice)
 }
 
 /// Adds a table of a FROM at the end.
 #[tactic(auto, using(crate::proofs::Ontos::froms_more))]
-pub(crate) fn push_from(list: &mut Items<From>, x: From) -> Result<(), OutOfMemory>
-    ensures { OnOk result ((rest : tree.Froms) → froms_onto list.new rest ≡ froms_onto list.old (tree.one_from (shown.from x) rest)) }
+pub(crate) fn push_from(list: &mut Items<From>, x: Box<From>) -> Result<(), OutOfMemory>
+    ensures { OnOk result ((rest : tree.Froms) → froms_onto list.new rest ≡ froms_onto list.old (tree.one_from (shown.from x.value) rest)) }
 {
-    list.push(x)?;
-    Ok(())
+    push(list, Box::into_inner(x))
 }
 
 /// A table or a view.
-pub(crate) fn named(alloc: Global, name: &Text) -> Result<From, OutOfMemory>
-    ensures { IfOk result (λ x. shown.from x ≡ tree.named name.now) }
+pub(crate) fn named(alloc: Global, name: &Text) -> Result<Box<From>, OutOfMemory>
+    ensures { IfOk result (λ x. shown.from x.value ≡ tree.named name.now) }
 {
-    Ok(From::Named(name.copy(alloc)?))
+    boxed(alloc, From::Named(name.copy(alloc)?))
 }
 
 /// A subquery in FROM.
-pub(crate) fn derived(alloc: Global, q: Query) -> Result<From, OutOfMemory>
-    ensures { IfOk result (λ x. shown.from x ≡ tree.derived (shown.query q)) }
+pub(crate) fn derived(alloc: Global, q: Box<Query>) -> Result<Box<From>, OutOfMemory>
+    ensures { IfOk result (λ x. shown.from x.value ≡ tree.derived (shown.query q.value)) }
 {
-    Ok(From::Derived(Box::new(alloc, q)?))
+    boxed(alloc, From::Derived(q))
 }
 
 /// A cross join.
-pub(crate) fn crossed(alloc: Global, x: From, y: From) -> Result<From, OutOfMemory>
-    ensures { IfOk result (λ z. shown.from z ≡ tree.crossed (shown.from x) (shown.from y)) }
+pub(crate) fn crossed(alloc: Global, x: Box<From>, y: Box<From>) -> Result<Box<From>, OutOfMemory>
+    ensures { IfOk result (λ z. shown.from z.value ≡ tree.crossed (shown.from x.value) (shown.from y.value)) }
 {
-    Ok(From::Crossed(Box::new(alloc, x)?, Box::new(alloc, y)?))
+    boxed(alloc, From::Crossed(x, y))
 }
 
 /// A join.
-pub(crate) fn joined(alloc: Global, x: From, y: From, p: Test) -> Result<From, OutOfMemory>
-    ensures { IfOk result (λ z. shown.from z ≡ tree.joined (shown.from x) (shown.from y) (shown.test p)) }
+pub(crate) fn joined(
+    alloc: Global,
+    x: Box<From>,
+    y: Box<From>,
+    p: Box<Test>,
+) -> Result<Box<From>, OutOfMemory>
+    ensures { IfOk result (λ z. shown.from z.value ≡ tree.joined (shown.from x.value) (shown.from y.value) (shown.test p.value)) }
 {
-    Ok(From::Joined(
-        Box::new(alloc, x)?,
-        Box::new(alloc, y)?,
-        Box::new(alloc, p)?,
-    ))
+    boxed(alloc, From::Joined(x, y, p))
 }
 
 /// A left join, whose right has so many columns.
 pub(crate) fn left_joined(
     alloc: Global,
-    x: From,
-    y: From,
+    x: Box<From>,
+    y: Box<From>,
     width: usize,
-    p: Test,
-) -> Result<From, OutOfMemory>
-    ensures { IfOk result (λ z. shown.from z ≡ tree.left_joined (shown.from x) (shown.from y) width (shown.test p)) }
+    p: Box<Test>,
+) -> Result<Box<From>, OutOfMemory>
+    ensures { IfOk result (λ z. shown.from z.value ≡ tree.left_joined (shown.from x.value) (shown.from y.value) width (shown.test p.value)) }
 {
-    Ok(From::LeftJoined(
-        Box::new(alloc, x)?,
-        Box::new(alloc, y)?,
-        width,
-        Box::new(alloc, p)?,
-    ))
+    boxed(alloc, From::LeftJoined(x, y, width, p))
 }
 
 /// A block that isn't grouped.
@@ -297,11 +323,11 @@ pub(crate) fn block(
     distinct: bool,
     list: Items<Value>,
     from: Items<From>,
-    by: Test,
-) -> Result<Query, OutOfMemory>
-    ensures { IfOk result (λ q. shown.query q ≡ tree.block distinct (shown.value_list list) (shown.from_list from) (shown.test by)) }
+    by: Box<Test>,
+) -> Result<Box<Query>, OutOfMemory>
+    ensures { IfOk result (λ q. shown.query q.value ≡ tree.block distinct (shown.value_list list) (shown.from_list from) (shown.test by.value)) }
 {
-    Ok(Query::Block(distinct, list, from, Box::new(alloc, by)?))
+    boxed(alloc, Query::Block(distinct, list, from, by))
 }
 
 /// The groups of a block: the places of its grouping columns, where GROUP BY is written, the number
@@ -310,7 +336,7 @@ pub(crate) fn block(
 pub(crate) struct Groups {
     pub places: Option<Items<usize>>,
     pub width: usize,
-    pub having: Test,
+    pub having: Box<Test>,
 }
 
 /// A grouped block.
@@ -320,49 +346,55 @@ pub(crate) fn grouped(
     distinct: bool,
     list: Items<Value>,
     from: Items<From>,
-    by: Test,
+    by: Box<Test>,
     groups: Groups,
-) -> Result<Query, OutOfMemory>
-    ensures { IfOk result (λ q. shown.query q ≡ tree.grouped distinct (shown.value_list list) (shown.from_list from) (shown.test by) groups.places groups.width (shown.test groups.having)) }
+) -> Result<Box<Query>, OutOfMemory>
+    ensures { IfOk result (λ q. shown.query q.value ≡ tree.grouped distinct (shown.value_list list) (shown.from_list from) (shown.test by.value) groups.places groups.width (shown.test groups.having.value)) }
 {
-    let by = Box::new(alloc, by)?;
-    let having = Box::new(alloc, groups.having)?;
-    Ok(Query::Grouped(
-        distinct,
-        list,
-        from,
-        by,
-        groups.places,
-        groups.width,
+    let Groups {
+        places,
+        width,
         having,
-    ))
+    } = groups;
+    boxed(
+        alloc,
+        Query::Grouped(distinct, list, from, by, places, width, having),
+    )
 }
 
 /// UNION or EXCEPT.
 pub(crate) fn combine(
     alloc: Global,
-    x: Query,
+    x: Box<Query>,
     op: SetOperator,
     all: bool,
     width: usize,
-    y: Query,
-) -> Result<Query, OutOfMemory>
-    ensures { IfOk result (λ q. shown.query q ≡ tree.combine (shown.query x) op all width (shown.query y)) }
+    y: Box<Query>,
+) -> Result<Box<Query>, OutOfMemory>
+    ensures { IfOk result (λ q. shown.query q.value ≡ tree.combine (shown.query x.value) op all width (shown.query y.value)) }
 {
-    Ok(Query::Combine(Box::new(alloc, x)?, op, all, width, Box::new(alloc, y)?))
+    boxed(alloc, Query::Combine(x, op, all, width, y))
 }
 
 /// INTERSECT.
 pub(crate) fn intersect(
     alloc: Global,
-    x: Query,
+    x: Box<Query>,
     all: bool,
     width: usize,
-    y: Query,
-) -> Result<Query, OutOfMemory>
-    ensures { IfOk result (λ q. shown.query q ≡ tree.intersect (shown.query x) all width (shown.query y)) }
+    y: Box<Query>,
+) -> Result<Box<Query>, OutOfMemory>
+    ensures { IfOk result (λ q. shown.query q.value ≡ tree.intersect (shown.query x.value) all width (shown.query y.value)) }
 {
-    Ok(Query::Intersect(Box::new(alloc, x)?, all, width, Box::new(alloc, y)?))
+    boxed(alloc, Query::Intersect(x, all, width, y))
+}
+
+// Adds a column at the end.
+#[tactic(auto, using(crate::proofs::Ontos::values_more))]
+fn push_column(list: &mut Items<Value>, scope: usize, place: usize) -> Result<(), OutOfMemory>
+    ensures { OnOk result ((rest : tree.Values) → values_onto list.new rest ≡ values_onto list.old (tree.one_value (tree.column scope place) rest)) }
+{
+    push(list, Value::Column(scope, place))
 }
 
 /// Adds so many columns of a scope, from a place on, at the end.
@@ -377,7 +409,7 @@ pub(crate) fn push_columns(
     ensures { OnOk result ((rest : tree.Values) → values_onto list.new rest ≡ values_onto list.old (spec.append (spec.columns_from scope first count) rest)) }
 {
     for i in 0..count {
-        push_value(list, Value::Column(scope, first + i))?;
+        push_column(list, scope, first + i)?;
     }
     Ok(())
 }

@@ -4,21 +4,13 @@ ghost use Rattle.sql_meaning.specs.ResolvedShown as shown;
 ghost use Rattle.name_resolution.specs.Forms as forms;
 ghost use Rattle.name_resolution.specs.Resolved as spec;
 
+use crate::boxes::{boxed, one, push};
 use shared_types::OutOfMemory;
 use sql_ast::{AdditiveOp, DataType, MultiplicativeOp, Sign};
 use sql_meaning::{Addend, Multiplier, Test, Value};
 use sql_value::SqlType;
 use sqlite_items::Items;
 use std::alloc::Global;
-
-// A list of one.
-fn one<T: Drop>(alloc: Global, item: T) -> Result<Items<T>, OutOfMemory>
-    ensures { IfOk result (λ list. list ≡ item ∷ []) }
-{
-    let mut list = Items::new(alloc);
-    list.push(item)?;
-    Ok(list)
-}
 
 // Whether a value is a chain of `+`, `-` or `||`.
 fn sums(x: &Value) -> bool
@@ -44,38 +36,40 @@ fn sums(x: &Value) -> bool
 
 // A chain with one more operand.
 #[tactic(auto, using(sql_meaning::specs::ResolvedShown::lists, crate::proofs::Pushed::addends_pushed))]
-fn longer_sum(left: Value, next: Addend) -> Result<Value, OutOfMemory>
-    requires { forms.sums (shown.value left) ≡ true }
-    ensures { IfOk result (λ v. shown.value v ≡ spec.plus (shown.value left) next.op (shown.value next.value)) }
+fn longer_sum(alloc: Global, left: Box<Value>, next: Addend) -> Result<Box<Value>, OutOfMemory>
+    requires { forms.sums (shown.value left.value) ≡ true }
+    ensures { IfOk result (λ v. shown.value v.value ≡ spec.plus (shown.value left.value) next.op (shown.value next.value)) }
 {
-    let Value::Sum(first, mut addends) = left else {
+    let Value::Sum(first, mut addends) = Box::into_inner(left) else {
         unreachable!()
     };
-    addends.push(next)?;
-    Ok(Value::Sum(first, addends))
+    push(&mut addends, next)?;
+    boxed(alloc, Value::Sum(first, addends))
 }
 
 // A chain of two operands.
 #[tactic(auto, using(sql_meaning::specs::ResolvedShown::lists, crate::proofs::Pushed::plus_first))]
-fn first_sum(alloc: Global, left: Value, next: Addend) -> Result<Value, OutOfMemory>
-    requires { forms.sums (shown.value left) ≡ false }
-    ensures { IfOk result (λ v. shown.value v ≡ spec.plus (shown.value left) next.op (shown.value next.value)) }
+fn first_sum(alloc: Global, left: Box<Value>, next: Addend) -> Result<Box<Value>, OutOfMemory>
+    requires { forms.sums (shown.value left.value) ≡ false }
+    ensures { IfOk result (λ v. shown.value v.value ≡ spec.plus (shown.value left.value) next.op (shown.value next.value)) }
 {
-    Ok(Value::Sum(Box::new(alloc, left)?, one(alloc, next)?))
+    let addends = one(alloc, next)?;
+    boxed(alloc, Value::Sum(left, addends))
 }
 
 /// `left + right`, `left - right` or `left || right`.
 pub(crate) fn sum(
     alloc: Global,
-    left: Value,
+    left: Box<Value>,
     op: AdditiveOp,
-    right: Value,
-) -> Result<Value, OutOfMemory>
-    ensures { IfOk result (λ v. shown.value v ≡ spec.plus (shown.value left) op (shown.value right)) }
+    right: Box<Value>,
+) -> Result<Box<Value>, OutOfMemory>
+    ensures { IfOk result (λ v. shown.value v.value ≡ spec.plus (shown.value left.value) op (shown.value right.value)) }
 {
-    let next = Addend { op, value: right };
+    let value = Box::into_inner(right);
+    let next = Addend { op, value };
     if sums(&left) {
-        longer_sum(left, next)
+        longer_sum(alloc, left, next)
     } else {
         first_sum(alloc, left, next)
     }
@@ -105,38 +99,48 @@ fn multiplies(x: &Value) -> bool
 
 // A chain with one more operand.
 #[tactic(auto, using(sql_meaning::specs::ResolvedShown::lists, crate::proofs::Pushed::multipliers_pushed))]
-fn longer_product(left: Value, next: Multiplier) -> Result<Value, OutOfMemory>
-    requires { forms.multiplies (shown.value left) ≡ true }
-    ensures { IfOk result (λ v. shown.value v ≡ spec.times (shown.value left) next.op (shown.value next.value)) }
+fn longer_product(
+    alloc: Global,
+    left: Box<Value>,
+    next: Multiplier,
+) -> Result<Box<Value>, OutOfMemory>
+    requires { forms.multiplies (shown.value left.value) ≡ true }
+    ensures { IfOk result (λ v. shown.value v.value ≡ spec.times (shown.value left.value) next.op (shown.value next.value)) }
 {
-    let Value::Product(first, mut multipliers) = left else {
+    let Value::Product(first, mut multipliers) = Box::into_inner(left) else {
         unreachable!()
     };
-    multipliers.push(next)?;
-    Ok(Value::Product(first, multipliers))
+    push(&mut multipliers, next)?;
+    boxed(alloc, Value::Product(first, multipliers))
 }
 
 // A chain of two operands.
 #[tactic(auto, using(sql_meaning::specs::ResolvedShown::lists, crate::proofs::Pushed::times_first))]
-fn first_product(alloc: Global, left: Value, next: Multiplier) -> Result<Value, OutOfMemory>
-    requires { forms.multiplies (shown.value left) ≡ false }
-    ensures { IfOk result (λ v. shown.value v ≡ spec.times (shown.value left) next.op (shown.value next.value)) }
+fn first_product(
+    alloc: Global,
+    left: Box<Value>,
+    next: Multiplier,
+) -> Result<Box<Value>, OutOfMemory>
+    requires { forms.multiplies (shown.value left.value) ≡ false }
+    ensures { IfOk result (λ v. shown.value v.value ≡ spec.times (shown.value left.value) next.op (shown.value next.value)) }
 {
-    Ok(Value::Product(Box::new(alloc, left)?, one(alloc, next)?))
+    let multipliers = one(alloc, next)?;
+    boxed(alloc, Value::Product(left, multipliers))
 }
 
 /// `left * right` or `left / right`.
 pub(crate) fn product(
     alloc: Global,
-    left: Value,
+    left: Box<Value>,
     op: MultiplicativeOp,
-    right: Value,
-) -> Result<Value, OutOfMemory>
-    ensures { IfOk result (λ v. shown.value v ≡ spec.times (shown.value left) op (shown.value right)) }
+    right: Box<Value>,
+) -> Result<Box<Value>, OutOfMemory>
+    ensures { IfOk result (λ v. shown.value v.value ≡ spec.times (shown.value left.value) op (shown.value right.value)) }
 {
-    let next = Multiplier { op, value: right };
+    let value = Box::into_inner(right);
+    let next = Multiplier { op, value };
     if multiplies(&left) {
-        longer_product(left, next)
+        longer_product(alloc, left, next)
     } else {
         first_product(alloc, left, next)
     }
@@ -163,31 +167,35 @@ fn wants_all(p: &Test) -> bool
 
 // A chain with one more operand.
 #[tactic(auto, using(sql_meaning::specs::ResolvedShown::lists, crate::proofs::Pushed::tests_pushed))]
-fn longer_both(left: Test, right: Test) -> Result<Test, OutOfMemory>
-    requires { forms.wants_all (shown.test left) ≡ true }
-    ensures { IfOk result (λ p. shown.test p ≡ spec.both (shown.test left) (shown.test right)) }
+fn longer_both(mut left: Box<Test>, right: Box<Test>) -> Result<Box<Test>, OutOfMemory>
+    requires { forms.wants_all (shown.test left.value) ≡ true }
+    ensures { IfOk result (λ p. shown.test p.value ≡ spec.both (shown.test left.value) (shown.test right.value)) }
 {
-    let Test::All(mut tests) = left else {
+    let Test::All(tests) = &mut *left else {
         unreachable!()
     };
-    tests.push(right)?;
-    Ok(Test::All(tests))
+    push(tests, Box::into_inner(right))?;
+    Ok(left)
 }
 
 // A chain of two operands.
 #[tactic(auto, using(sql_meaning::specs::ResolvedShown::lists, crate::proofs::Pushed::both_first))]
-fn first_both(alloc: Global, left: Test, right: Test) -> Result<Test, OutOfMemory>
-    requires { forms.wants_all (shown.test left) ≡ false }
-    ensures { IfOk result (λ p. shown.test p ≡ spec.both (shown.test left) (shown.test right)) }
+fn first_both(alloc: Global, left: Box<Test>, right: Box<Test>) -> Result<Box<Test>, OutOfMemory>
+    requires { forms.wants_all (shown.test left.value) ≡ false }
+    ensures { IfOk result (λ p. shown.test p.value ≡ spec.both (shown.test left.value) (shown.test right.value)) }
 {
-    let mut tests = one(alloc, left)?;
-    tests.push(right)?;
-    Ok(Test::All(tests))
+    let mut tests = one(alloc, Box::into_inner(left))?;
+    push(&mut tests, Box::into_inner(right))?;
+    boxed(alloc, Test::All(tests))
 }
 
 /// `left AND right`.
-pub(crate) fn both(alloc: Global, left: Test, right: Test) -> Result<Test, OutOfMemory>
-    ensures { IfOk result (λ p. shown.test p ≡ spec.both (shown.test left) (shown.test right)) }
+pub(crate) fn both(
+    alloc: Global,
+    left: Box<Test>,
+    right: Box<Test>,
+) -> Result<Box<Test>, OutOfMemory>
+    ensures { IfOk result (λ p. shown.test p.value ≡ spec.both (shown.test left.value) (shown.test right.value)) }
 {
     if wants_all(&left) {
         longer_both(left, right)
@@ -217,31 +225,35 @@ fn wants_any(p: &Test) -> bool
 
 // A chain with one more operand.
 #[tactic(auto, using(sql_meaning::specs::ResolvedShown::lists, crate::proofs::Pushed::tests_pushed))]
-fn longer_either(left: Test, right: Test) -> Result<Test, OutOfMemory>
-    requires { forms.wants_any (shown.test left) ≡ true }
-    ensures { IfOk result (λ p. shown.test p ≡ spec.either (shown.test left) (shown.test right)) }
+fn longer_either(mut left: Box<Test>, right: Box<Test>) -> Result<Box<Test>, OutOfMemory>
+    requires { forms.wants_any (shown.test left.value) ≡ true }
+    ensures { IfOk result (λ p. shown.test p.value ≡ spec.either (shown.test left.value) (shown.test right.value)) }
 {
-    let Test::Any(mut tests) = left else {
+    let Test::Any(tests) = &mut *left else {
         unreachable!()
     };
-    tests.push(right)?;
-    Ok(Test::Any(tests))
+    push(tests, Box::into_inner(right))?;
+    Ok(left)
 }
 
 // A chain of two operands.
 #[tactic(auto, using(sql_meaning::specs::ResolvedShown::lists, crate::proofs::Pushed::either_first))]
-fn first_either(alloc: Global, left: Test, right: Test) -> Result<Test, OutOfMemory>
-    requires { forms.wants_any (shown.test left) ≡ false }
-    ensures { IfOk result (λ p. shown.test p ≡ spec.either (shown.test left) (shown.test right)) }
+fn first_either(alloc: Global, left: Box<Test>, right: Box<Test>) -> Result<Box<Test>, OutOfMemory>
+    requires { forms.wants_any (shown.test left.value) ≡ false }
+    ensures { IfOk result (λ p. shown.test p.value ≡ spec.either (shown.test left.value) (shown.test right.value)) }
 {
-    let mut tests = one(alloc, left)?;
-    tests.push(right)?;
-    Ok(Test::Any(tests))
+    let mut tests = one(alloc, Box::into_inner(left))?;
+    push(&mut tests, Box::into_inner(right))?;
+    boxed(alloc, Test::Any(tests))
 }
 
 /// `left OR right`.
-pub(crate) fn either(alloc: Global, left: Test, right: Test) -> Result<Test, OutOfMemory>
-    ensures { IfOk result (λ p. shown.test p ≡ spec.either (shown.test left) (shown.test right)) }
+pub(crate) fn either(
+    alloc: Global,
+    left: Box<Test>,
+    right: Box<Test>,
+) -> Result<Box<Test>, OutOfMemory>
+    ensures { IfOk result (λ p. shown.test p.value ≡ spec.either (shown.test left.value) (shown.test right.value)) }
 {
     if wants_any(&left) {
         longer_either(left, right)
@@ -251,21 +263,25 @@ pub(crate) fn either(alloc: Global, left: Test, right: Test) -> Result<Test, Out
 }
 
 /// `+ x` or `- x`.
-pub(crate) fn signed(alloc: Global, sign: Sign, x: Value) -> Result<Value, OutOfMemory>
-    ensures { IfOk result (λ v. shown.value v ≡ spec.signed sign (shown.value x)) }
+pub(crate) fn signed(alloc: Global, sign: Sign, x: Box<Value>) -> Result<Box<Value>, OutOfMemory>
+    ensures { IfOk result (λ v. shown.value v.value ≡ spec.signed sign (shown.value x.value)) }
 {
     match sign {
         Sign::Plus => Ok(x),
-        Sign::Minus => Ok(Value::Negative(Box::new(alloc, x)?)),
+        Sign::Minus => boxed(alloc, Value::Negative(x)),
     }
 }
 
 /// NOT, where it is written.
-pub(crate) fn perhaps_not(alloc: Global, negative: bool, p: Test) -> Result<Test, OutOfMemory>
-    ensures { IfOk result (λ q. shown.test q ≡ spec.perhaps_not negative (shown.test p)) }
+pub(crate) fn perhaps_not(
+    alloc: Global,
+    negative: bool,
+    p: Box<Test>,
+) -> Result<Box<Test>, OutOfMemory>
+    ensures { IfOk result (λ q. shown.test q.value ≡ spec.perhaps_not negative (shown.test p.value)) }
 {
     if negative {
-        Ok(Test::Not(Box::new(alloc, p)?))
+        boxed(alloc, Test::Not(p))
     } else {
         Ok(p)
     }

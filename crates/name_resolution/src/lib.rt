@@ -1,6 +1,7 @@
 //! Names resolved: each column of a query as a scope and a place.
 #![tactic(auto)]
 
+mod boxes;
 mod build;
 mod chain;
 mod grouping;

@@ -12,6 +12,7 @@ ghost use Rattle.name_resolution.specs.Resolved as spec;
 ghost use Rattle.name_resolution.specs.Resolved.{bare, named_range};
 ghost use Rattle.name_resolution.specs.Shapes.{block_of, columns_of, on_of, shapes};
 
+use crate::boxes::boxed;
 use crate::build as made;
 use crate::chain::{both, either, product, signed, sum, type_of};
 use crate::grouping::grouping_places;
@@ -29,7 +30,7 @@ use std::alloc::Global;
 /// A query with its names resolved, and the names of its columns.
 #[derive(Drop)]
 pub(crate) struct ResolvedQuery {
-    pub query: Query,
+    pub query: Box<Query>,
     pub columns: OutNames,
 }
 
@@ -43,7 +44,7 @@ struct ResolvedFrom {
 // The same of one table, which may be a join.
 #[derive(Drop)]
 struct ResolvedTable {
-    table: From,
+    table: Box<From>,
     scope: Scope,
 }
 
@@ -54,8 +55,8 @@ pub(crate) fn value(
     setting: &Setting<'_>,
     x: &ast::Expr,
     s: &Shapes<'_>,
-) -> Result<Value, OutOfMemory>
-    ensures { IfOk result (λ v. shown.value v ≡ spec.value (columns_of setting.now) (shapes s.now) (written.expr x.now)) }
+) -> Result<Box<Value>, OutOfMemory>
+    ensures { IfOk result (λ v. shown.value v.value ≡ spec.value (columns_of setting.now) (shapes s.now) (written.expr x.now)) }
 {
     match x {
         ast::Expr::Add(_, _, _) => sum_of(setting, x, s),
@@ -78,9 +79,9 @@ pub(crate) fn value(
 
 // `a + b`, `a - b` or `a || b`.
 #[cycle(resolve)]
-fn sum_of(setting: &Setting<'_>, x: &ast::Expr, s: &Shapes<'_>) -> Result<Value, OutOfMemory>
+fn sum_of(setting: &Setting<'_>, x: &ast::Expr, s: &Shapes<'_>) -> Result<Box<Value>, OutOfMemory>
     requires form { is_sum (written.expr x.now) ≡ true }
-    ensures { IfOk result (λ v. shown.value v ≡ spec.value (columns_of setting.now) (shapes s.now) (written.expr x.now)) }
+    ensures { IfOk result (λ v. shown.value v.value ≡ spec.value (columns_of setting.now) (shapes s.now) (written.expr x.now)) }
 {
     let ast::Expr::Add(a, op, b) = x else {
         unreachable!()
@@ -92,9 +93,13 @@ fn sum_of(setting: &Setting<'_>, x: &ast::Expr, s: &Shapes<'_>) -> Result<Value,
 
 // `a * b` or `a / b`.
 #[cycle(resolve)]
-fn product_of(setting: &Setting<'_>, x: &ast::Expr, s: &Shapes<'_>) -> Result<Value, OutOfMemory>
+fn product_of(
+    setting: &Setting<'_>,
+    x: &ast::Expr,
+    s: &Shapes<'_>,
+) -> Result<Box<Value>, OutOfMemory>
     requires form { is_product (written.expr x.now) ≡ true }
-    ensures { IfOk result (λ v. shown.value v ≡ spec.value (columns_of setting.now) (shapes s.now) (written.expr x.now)) }
+    ensures { IfOk result (λ v. shown.value v.value ≡ spec.value (columns_of setting.now) (shapes s.now) (written.expr x.now)) }
 {
     let ast::Expr::Multiply(a, op, b) = x else {
         unreachable!()
@@ -107,20 +112,20 @@ fn product_of(setting: &Setting<'_>, x: &ast::Expr, s: &Shapes<'_>) -> Result<Va
 // An expression that is no chain of operators.
 #[cycle(resolve)]
 #[tactic(auto, using(sql_ast::specs::Shown::lists))]
-fn operand(setting: &Setting<'_>, x: &ast::Expr, s: &Shapes<'_>) -> Result<Value, OutOfMemory>
+fn operand(setting: &Setting<'_>, x: &ast::Expr, s: &Shapes<'_>) -> Result<Box<Value>, OutOfMemory>
     requires no_sum { is_sum (written.expr x.now) ≡ false }
     requires no_product { is_product (written.expr x.now) ≡ false }
-    ensures { IfOk result (λ v. shown.value v ≡ spec.value (columns_of setting.now) (shapes s.now) (written.expr x.now)) }
+    ensures { IfOk result (λ v. shown.value v.value ≡ spec.value (columns_of setting.now) (shapes s.now) (written.expr x.now)) }
 {
     let alloc = setting.alloc;
     match x {
         ast::Expr::Signed(sign, a) => signed(alloc, *sign, value(setting, a, s)?),
-        ast::Expr::Number(n) => Ok(Value::Number(*n)),
+        ast::Expr::Number(n) => boxed(alloc, Value::Number(*n)),
         ast::Expr::Str(x) => made::text(alloc, x),
-        ast::Expr::Column(c) => Ok(made::column(place_of(c, s)?)),
+        ast::Expr::Column(c) => made::column(alloc, place_of(c, s)?),
         ast::Expr::Paren(a) => value(setting, a, s),
         ast::Expr::Scalar(q) => made::scalar(alloc, subquery(setting, q, s)?),
-        ast::Expr::CountAll => Ok(Value::CountAll),
+        ast::Expr::CountAll => boxed(alloc, Value::CountAll),
         ast::Expr::Aggregate(function, each, a) => {
             let a = argument(setting, a, s)?;
             made::aggregate(alloc, *function, *each, a)
@@ -142,15 +147,15 @@ fn operand(setting: &Setting<'_>, x: &ast::Expr, s: &Shapes<'_>) -> Result<Value
             let a = value(setting, a, s)?;
             made::null_if(alloc, a, value(setting, b, s)?)
         }
-        ast::Expr::CastNull(to) => Ok(Value::Null(Some(type_of(to)))),
+        ast::Expr::CastNull(to) => boxed(alloc, Value::Null(Some(type_of(to)))),
         ast::Expr::Add(_, _, _) | ast::Expr::Multiply(_, _, _) => unreachable!(),
     }
 }
 
 // The argument of an aggregate, which is read in the rows of the innermost scope alone.
 #[cycle(resolve)]
-fn argument(setting: &Setting<'_>, x: &ast::Expr, s: &Shapes<'_>) -> Result<Value, OutOfMemory>
-    ensures { IfOk result (λ v. shown.value v ≡ spec.value (columns_of setting.now) (innermost (shapes s.now) ∷ []) (written.expr x.now)) }
+fn argument(setting: &Setting<'_>, x: &ast::Expr, s: &Shapes<'_>) -> Result<Box<Value>, OutOfMemory>
+    ensures { IfOk result (λ v. shown.value v.value ≡ spec.value (columns_of setting.now) (innermost (shapes s.now) ∷ []) (written.expr x.now)) }
 {
     match s {
         Shapes::Inside(scope, _) => {
@@ -182,12 +187,12 @@ fn values(
 
 // A result of a CASE.
 #[cycle(resolve)]
-fn outcome(setting: &Setting<'_>, res: &ast::Res, s: &Shapes<'_>) -> Result<Value, OutOfMemory>
-    ensures { IfOk result (λ v. shown.value v ≡ spec.result (columns_of setting.now) (shapes s.now) (written.res res.now)) }
+fn outcome(setting: &Setting<'_>, res: &ast::Res, s: &Shapes<'_>) -> Result<Box<Value>, OutOfMemory>
+    ensures { IfOk result (λ v. shown.value v.value ≡ spec.result (columns_of setting.now) (shapes s.now) (written.res res.now)) }
 {
     match res {
         ast::Res::Value(x) => value(setting, x, s),
-        ast::Res::Null => Ok(Value::Null(None)),
+        ast::Res::Null => boxed(setting.alloc, Value::Null(None)),
     }
 }
 
@@ -197,11 +202,11 @@ fn otherwise(
     setting: &Setting<'_>,
     other: &ast::Otherwise,
     s: &Shapes<'_>,
-) -> Result<Value, OutOfMemory>
-    ensures { IfOk result (λ v. shown.value v ≡ spec.otherwise (columns_of setting.now) (shapes s.now) (written.otherwise other.now)) }
+) -> Result<Box<Value>, OutOfMemory>
+    ensures { IfOk result (λ v. shown.value v.value ≡ spec.otherwise (columns_of setting.now) (shapes s.now) (written.otherwise other.now)) }
 {
     match other {
-        ast::Otherwise::Absent => Ok(Value::Null(None)),
+        ast::Otherwise::Absent => boxed(setting.alloc, Value::Null(None)),
         ast::Otherwise::Else(res) => outcome(setting, res, s),
     }
 }
@@ -246,8 +251,8 @@ pub(crate) fn test(
     setting: &Setting<'_>,
     p: &ast::Cond,
     s: &Shapes<'_>,
-) -> Result<Test, OutOfMemory>
-    ensures { IfOk result (λ t. shown.test t ≡ spec.test (columns_of setting.now) (shapes s.now) (written.cond p.now)) }
+) -> Result<Box<Test>, OutOfMemory>
+    ensures { IfOk result (λ t. shown.test t.value ≡ spec.test (columns_of setting.now) (shapes s.now) (written.cond p.now)) }
 {
     match p {
         ast::Cond::Or(_, _) => disjunction(setting, p, s),
@@ -267,9 +272,13 @@ pub(crate) fn test(
 
 // `a OR b`.
 #[cycle(resolve)]
-fn disjunction(setting: &Setting<'_>, p: &ast::Cond, s: &Shapes<'_>) -> Result<Test, OutOfMemory>
+fn disjunction(
+    setting: &Setting<'_>,
+    p: &ast::Cond,
+    s: &Shapes<'_>,
+) -> Result<Box<Test>, OutOfMemory>
     requires form { is_disjunction (written.cond p.now) ≡ true }
-    ensures { IfOk result (λ t. shown.test t ≡ spec.test (columns_of setting.now) (shapes s.now) (written.cond p.now)) }
+    ensures { IfOk result (λ t. shown.test t.value ≡ spec.test (columns_of setting.now) (shapes s.now) (written.cond p.now)) }
 {
     let ast::Cond::Or(a, b) = p else {
         unreachable!()
@@ -281,9 +290,13 @@ fn disjunction(setting: &Setting<'_>, p: &ast::Cond, s: &Shapes<'_>) -> Result<T
 
 // `a AND b`.
 #[cycle(resolve)]
-fn conjunction(setting: &Setting<'_>, p: &ast::Cond, s: &Shapes<'_>) -> Result<Test, OutOfMemory>
+fn conjunction(
+    setting: &Setting<'_>,
+    p: &ast::Cond,
+    s: &Shapes<'_>,
+) -> Result<Box<Test>, OutOfMemory>
     requires form { is_conjunction (written.cond p.now) ≡ true }
-    ensures { IfOk result (λ t. shown.test t ≡ spec.test (columns_of setting.now) (shapes s.now) (written.cond p.now)) }
+    ensures { IfOk result (λ t. shown.test t.value ≡ spec.test (columns_of setting.now) (shapes s.now) (written.cond p.now)) }
 {
     let ast::Cond::And(a, b) = p else {
         unreachable!()
@@ -296,10 +309,10 @@ fn conjunction(setting: &Setting<'_>, p: &ast::Cond, s: &Shapes<'_>) -> Result<T
 // A condition that is no chain of OR or AND.
 #[cycle(resolve)]
 #[tactic(auto, using(sql_ast::specs::Shown::lists))]
-fn conjunct(setting: &Setting<'_>, p: &ast::Cond, s: &Shapes<'_>) -> Result<Test, OutOfMemory>
+fn conjunct(setting: &Setting<'_>, p: &ast::Cond, s: &Shapes<'_>) -> Result<Box<Test>, OutOfMemory>
     requires no_disjunction { is_disjunction (written.cond p.now) ≡ false }
     requires no_conjunction { is_conjunction (written.cond p.now) ≡ false }
-    ensures { IfOk result (λ t. shown.test t ≡ spec.test (columns_of setting.now) (shapes s.now) (written.cond p.now)) }
+    ensures { IfOk result (λ t. shown.test t.value ≡ spec.test (columns_of setting.now) (shapes s.now) (written.cond p.now)) }
 {
     let alloc = setting.alloc;
     match p {
@@ -338,11 +351,15 @@ fn conjunct(setting: &Setting<'_>, p: &ast::Cond, s: &Shapes<'_>) -> Result<Test
 
 // A WHERE or a HAVING.
 #[cycle(resolve)]
-fn filter(setting: &Setting<'_>, filter: &ast::Filter, s: &Shapes<'_>) -> Result<Test, OutOfMemory>
-    ensures { IfOk result (λ t. shown.test t ≡ spec.filter (columns_of setting.now) (shapes s.now) (written.filter filter.now)) }
+fn filter(
+    setting: &Setting<'_>,
+    filter: &ast::Filter,
+    s: &Shapes<'_>,
+) -> Result<Box<Test>, OutOfMemory>
+    ensures { IfOk result (λ t. shown.test t.value ≡ spec.filter (columns_of setting.now) (shapes s.now) (written.filter filter.now)) }
 {
     match filter {
-        ast::Filter::Absent => Ok(made::no_test(setting.alloc)),
+        ast::Filter::Absent => made::no_test(setting.alloc),
         ast::Filter::Given(p) => test(setting, p, s),
     }
 }
@@ -426,7 +443,7 @@ fn table(
     x: &ast::TableRef,
     s: &Shapes<'_>,
 ) -> Result<ResolvedTable, OutOfMemory>
-    ensures table { IfOk result (λ v. shown.from v.table ≡ spec.table (columns_of setting.now) (shapes s.now) (written.table x.now)) }
+    ensures table { IfOk result (λ v. shown.from v.table.value ≡ spec.table (columns_of setting.now) (shapes s.now) (written.table x.now)) }
     ensures scope { IfOk result (λ v. v.scope ≡ named.table_shape (bare (columns_of setting.now)) (written.table x.now) (shapes s.now)) }
 {
     match x {
@@ -459,7 +476,7 @@ fn inner_join(
     on: &ast::Cond,
     s: &Shapes<'_>,
 ) -> Result<ResolvedTable, OutOfMemory>
-    ensures table { IfOk result (λ v. shown.from v.table ≡ tree.joined (shown.from left.table) (shown.from right.table) (on_of setting.now s.now left.scope right.scope on.now)) }
+    ensures table { IfOk result (λ v. shown.from v.table.value ≡ tree.joined (shown.from left.table.value) (shown.from right.table.value) (on_of setting.now s.now left.scope right.scope on.now)) }
     ensures scope { IfOk result (λ v. v.scope ≡ left.scope ++ right.scope) }
 {
     let scope = left.scope.join(setting.alloc, right.scope)?;
@@ -477,7 +494,7 @@ fn left_join(
     on: &ast::Cond,
     s: &Shapes<'_>,
 ) -> Result<ResolvedTable, OutOfMemory>
-    ensures table { IfOk result (λ v. shown.from v.table ≡ tree.left_joined (shown.from left.table) (shown.from right.table) (width right.scope) (on_of setting.now s.now left.scope right.scope on.now)) }
+    ensures table { IfOk result (λ v. shown.from v.table.value ≡ tree.left_joined (shown.from left.table.value) (shown.from right.table.value) (width right.scope) (on_of setting.now s.now left.scope right.scope on.now)) }
     ensures scope { IfOk result (λ v. v.scope ≡ left.scope ++ right.scope) }
 {
     let width = right.scope.width();
@@ -493,7 +510,7 @@ fn cross_join(
     left: ResolvedTable,
     right: ResolvedTable,
 ) -> Result<ResolvedTable, OutOfMemory>
-    ensures table { IfOk result (λ v. shown.from v.table ≡ tree.crossed (shown.from left.table) (shown.from right.table)) }
+    ensures table { IfOk result (λ v. shown.from v.table.value ≡ tree.crossed (shown.from left.table.value) (shown.from right.table.value)) }
     ensures scope { IfOk result (λ v. v.scope ≡ left.scope ++ right.scope) }
 {
     let scope = left.scope.join(alloc, right.scope)?;
@@ -507,7 +524,7 @@ fn named_table(
     name: &Text,
     alias: &Option<ast::Correlation>,
 ) -> Result<ResolvedTable, OutOfMemory>
-    ensures table { IfOk result (λ v. shown.from v.table ≡ tree.named name.now) }
+    ensures table { IfOk result (λ v. shown.from v.table.value ≡ tree.named name.now) }
     ensures scope { IfOk result (λ v. v.scope ≡ named_range (columns_of setting.now) name.now alias.now ∷ []) }
 {
     Ok(ResolvedTable {
@@ -522,7 +539,7 @@ fn derived_table(
     q: ResolvedQuery,
     alias: &ast::Correlation,
 ) -> Result<ResolvedTable, OutOfMemory>
-    ensures table { IfOk result (λ v. shown.from v.table ≡ tree.derived (shown.query q.query)) }
+    ensures table { IfOk result (λ v. shown.from v.table.value ≡ tree.derived (shown.query q.query.value)) }
     ensures scope { IfOk result (λ v. v.scope ≡ (alias.now.name, named.renamed alias.now.columns q.columns) ∷ []) }
 {
     let scope = derived_scope(alloc, alias, q.columns.as_slice())?;
@@ -534,8 +551,12 @@ fn derived_table(
 
 // A subquery whose columns need no names.
 #[cycle(resolve)]
-fn subquery(setting: &Setting<'_>, q: &ast::Query, s: &Shapes<'_>) -> Result<Query, OutOfMemory>
-    ensures { IfOk result (λ v. shown.query v ≡ spec.query (columns_of setting.now) (shapes s.now) (written.query q.now)) }
+fn subquery(
+    setting: &Setting<'_>,
+    q: &ast::Query,
+    s: &Shapes<'_>,
+) -> Result<Box<Query>, OutOfMemory>
+    ensures { IfOk result (λ v. shown.query v.value ≡ spec.query (columns_of setting.now) (shapes s.now) (written.query q.now)) }
 {
     Ok(query(setting, q, s)?.query)
 }
@@ -548,7 +569,7 @@ pub(crate) fn query(
     q: &ast::Query,
     s: &Shapes<'_>,
 ) -> Result<ResolvedQuery, OutOfMemory>
-    ensures query { IfOk result (λ v. shown.query v.query ≡ spec.query (columns_of setting.now) (shapes s.now) (written.query q.now)) }
+    ensures query { IfOk result (λ v. shown.query v.query.value ≡ spec.query (columns_of setting.now) (shapes s.now) (written.query q.now)) }
     ensures columns { IfOk result (λ v. v.columns ≡ named.names (bare (columns_of setting.now)) (written.query q.now) (shapes s.now)) }
 {
     match q {
@@ -571,9 +592,9 @@ fn combine(
     left: ResolvedQuery,
     op: ast::SetOperator,
     all: bool,
-    right: Query,
+    right: Box<Query>,
 ) -> Result<ResolvedQuery, OutOfMemory>
-    ensures query { IfOk result (λ v. shown.query v.query ≡ tree.combine (shown.query left.query) op all (length left.columns) (shown.query right)) }
+    ensures query { IfOk result (λ v. shown.query v.query.value ≡ tree.combine (shown.query left.query.value) op all (length left.columns) (shown.query right.value)) }
     ensures columns { IfOk result (λ v. v.columns ≡ left.columns) }
 {
     let width = left.columns.len();
@@ -588,9 +609,9 @@ fn intersect(
     alloc: Global,
     left: ResolvedQuery,
     all: bool,
-    right: Query,
+    right: Box<Query>,
 ) -> Result<ResolvedQuery, OutOfMemory>
-    ensures query { IfOk result (λ v. shown.query v.query ≡ tree.intersect (shown.query left.query) all (length left.columns) (shown.query right)) }
+    ensures query { IfOk result (λ v. shown.query v.query.value ≡ tree.intersect (shown.query left.query.value) all (length left.columns) (shown.query right.value)) }
     ensures columns { IfOk result (λ v. v.columns ≡ left.columns) }
 {
     let width = left.columns.len();
@@ -607,7 +628,7 @@ fn block(
     b: &ast::Block,
     s: &Shapes<'_>,
 ) -> Result<ResolvedQuery, OutOfMemory>
-    ensures query { IfOk result (λ v. shown.query v.query ≡ spec.query (columns_of setting.now) (shapes s.now) (block_of b.now)) }
+    ensures query { IfOk result (λ v. shown.query v.query.value ≡ spec.query (columns_of setting.now) (shapes s.now) (block_of b.now)) }
     ensures columns { IfOk result (λ v. v.columns ≡ named.names (bare (columns_of setting.now)) (block_of b.now) (shapes s.now)) }
 {
     let ResolvedFrom { from, scope } = froms(setting, b.from.as_slice(), s)?;
@@ -624,10 +645,10 @@ fn block_over(
     from: Items<From>,
     scope: &Scope,
     s: &Shapes<'_>,
-) -> Result<Query, OutOfMemory>
+) -> Result<Box<Query>, OutOfMemory>
     requires from { shown.from_list from ≡ spec.froms (columns_of setting.now) (shapes s.now) (written.table_list b.now.from) }
     requires scope { scope.now ≡ named.shape (bare (columns_of setting.now)) (written.table_list b.now.from) (shapes s.now) }
-    ensures { IfOk result (λ v. shown.query v ≡ spec.query (columns_of setting.now) (shapes s.now) (block_of b.now)) }
+    ensures { IfOk result (λ v. shown.query v.value ≡ spec.query (columns_of setting.now) (shapes s.now) (block_of b.now)) }
 {
     let alloc = setting.alloc;
     let inner = Shapes::Inside(scope, &*s);

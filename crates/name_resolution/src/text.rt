@@ -41,6 +41,6 @@ pub fn resolve_text(
     Ok(ResolvedText {
         columns: resolved.columns,
         order,
-        query: resolved.query,
+        query: Box::into_inner(resolved.query),
     })
 }

@@ -97,7 +97,7 @@ fn resolved_view(setting: &Setting<'_>, view: &ViewDecl) -> Result<ResolvedView,
     };
     let view = View {
         name: view.name.copy(alloc)?,
-        body: body.query,
+        body: Box::into_inner(body.query),
     };
     Ok(ResolvedView { range, view })
 }

@@ -1,0 +1,30 @@
+// Boxes and lists of any parts. Where there is no memory for one, the part is dropped.
+ghost use Rattle.std.specs.Prelude.{◌≡◌, [], ◌∷◌, ◌++◌, IfOk, OnOk};
+
+use shared_types::OutOfMemory;
+use sqlite_items::Items;
+use std::alloc::Global;
+
+/// A part in a box.
+pub(crate) fn boxed<T: Drop>(alloc: Global, part: T) -> Result<Box<T>, OutOfMemory>
+    ensures { IfOk result (λ b. b.value ≡ part) }
+{
+    Ok(Box::new(alloc, part)?)
+}
+
+/// A list of one.
+pub(crate) fn one<T: Drop>(alloc: Global, item: T) -> Result<Items<T>, OutOfMemory>
+    ensures { IfOk result (λ list. list ≡ item ∷ []) }
+{
+    let mut list = Items::new(alloc);
+    list.push(item)?;
+    Ok(list)
+}
+
+/// Adds an item at the end.
+pub(crate) fn push<T: Drop>(list: &mut Items<T>, item: T) -> Result<(), OutOfMemory>
+    ensures { OnOk result (list.new ≡ list.old ++ item ∷ []) }
+{
+    list.push(item)?;
+    Ok(())
+}
