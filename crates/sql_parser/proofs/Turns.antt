@@ -1,6 +1,7 @@
 -- A recursion on a count of turns, beside a loop that counts up; where the loop ends early.
 use Rattle.std.proofs.Common.{◌≡◌, ℕ, zero, suc, ◌+◌, ◌-◌, ◌<◌, ◌≤◌, length, List, [], ◌∷◌, ◌++◌, false, Option, Some, None, ap, ◌∙◌, arith, refl}
 use Rattle.std.proofs.lemmas.List.{length-map}
+use Rattle.std.specs.Global.{Box}
 use Rattle.std.specs.Prelude.{Err}
 use denote.Bor.{Bor}
 use Rattle.sql_text.specs.Tokens.{token_list}
@@ -14,12 +15,13 @@ use Rattle.sql_ast.specs.declared.tree.Cond.{Cond}
 use Rattle.sql_ast.specs.declared.tree.Expr.{Expr}
 use Rattle.sql_ast.specs.declared.word.AdditiveOp.{AdditiveOp}
 use Rattle.sql_ast.specs.declared.word.MultiplicativeOp.{MultiplicativeOp}
+use Rattle.sql_ast.specs.declared.word.SetFunction.TheVariants as of
 use Rattle.sql_ast.specs.Shown as shown
 use Rattle.sql_ast.specs.Syntax as s
 use Rattle.sql_parser.specs.declared.refusal.ParseRefusal.{ParseRefusal}
 use Rattle.sql_parser.specs.declared.refusal.ParseRefusal.TheVariants.{OverLimit, Syntax, Memory}
 use Rattle.sql_parser.specs.Words.{Gives, Found, Parser, ◌>>=◌, mapped, additive_at, multiplicative_at}
-use Rattle.sql_parser.specs.Read.{more_exprs, more_arms, more_choices, more_factors, more_terms, more_negs, more_conjs, factor, term, sum, pred, pred_after, test, neg, conj, disj, starts_comma, starts_when, starts_not, starts_exists, starts_and, starts_or}
+use Rattle.sql_parser.specs.Read.{more_exprs, more_arms, more_choices, more_factors, more_terms, more_negs, more_conjs, aggregate, count, factor, term, sum, pred, pred_after, test, neg, conj, disj, starts_comma, starts_open_star, starts_when, starts_not, starts_exists, starts_and, starts_or}
 
 -- ---- turns
 
@@ -96,6 +98,10 @@ module _ (e : Parser s.Expr) (c : Parser s.Cond) (q : Parser s.Query) (j : Parse
   pub plain_pred : (ts : List Token) → starts_exists ts ≡ false → pred e c q j ts ≡ (sum e c q j ts >>= pred_after e c q j)
   plain_pred (t.Key k.Exists ∷ ts) h = absurd (cc)
   plain_pred ts h = refl
+
+  pub plain_count : (ts : List Token) → starts_open_star ts ≡ false → count e c q j ts ≡ aggregate e c q j of.Count ts
+  plain_count (t.LeftParen ∷ t.Star ∷ ts) h = absurd (cc)
+  plain_count ts h = refl
 
   pub plain_neg : (ts : List Token) → starts_not ts ≡ false → neg e c q j ts ≡ test e c q j ts
   plain_neg (t.Key k.Not ∷ ts) h = absurd (cc)
@@ -197,8 +203,8 @@ fails v w Memory m n f h = tt
 fails v w OverLimit m n f h = h
 
 -- how an answer is seen
-abbrev pub expr_seen : Expr × Bor (List Spanned) → s.Expr × List Token
-expr_seen x = (shown.expr x.0, token_list x.1.now)
+abbrev pub expr_seen : Box Expr × Bor (List Spanned) → s.Expr × List Token
+expr_seen x = (shown.expr x.0.value, token_list x.1.now)
 
-abbrev pub cond_seen : Cond × Bor (List Spanned) → s.Cond × List Token
-cond_seen x = (shown.cond x.0, token_list x.1.now)
+abbrev pub cond_seen : Box Cond × Bor (List Spanned) → s.Cond × List Token
+cond_seen x = (shown.cond x.0.value, token_list x.1.now)

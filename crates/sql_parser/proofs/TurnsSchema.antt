@@ -1,17 +1,24 @@
--- A recursion on a count of turns, beside a loop that counts up: of elements and of statements.
+-- A recursion on a count of turns, beside a loop that counts up: of elements and of statements; where no constraint stands first.
 use Rattle.std.proofs.Common.{◌≡◌, ℕ, zero, suc, List, [], ◌∷◌, ◌++◌, map, false, Option, Some, None, ap, ◌∙◌, sym, refl}
 use Rattle.std.specs.Option.{option_map, option_and_then}
 use Rattle.std.proofs.lemmas.List.{append_assoc, map-append}
+use Rattle.sql_text.specs.declared.key.Key.TheVariants as k
 use Rattle.sql_text.specs.declared.token.Token.{Token}
 use Rattle.sql_text.specs.declared.token.Token.TheVariants as t
 use Rattle.sql_parser.specs.Read.{starts_comma}
 use Rattle.sql_ast.specs.Syntax as s
-use Rattle.sql_parser.specs.ReadSchema.{more_elements, ended, statements}
+use Rattle.sql_parser.specs.ReadSchema.{constraints, starts_not_null, starts_primary_key, starts_unique, more_elements, ended, statements}
 
 pub elements_stop : (n : ℕ) (ts : List Token) → starts_comma ts ≡ false → more_elements n ts ≡ Some ([], ts)
 elements_stop zero ts h = refl
 elements_stop (suc n) (t.Comma ∷ ts) h = absurd (cc)
 elements_stop (suc n) ts h = refl
+
+pub no_constraint : (ts : List Token) → starts_not_null ts ≡ false → starts_primary_key ts ≡ false → starts_unique ts ≡ false → constraints ts ≡ ([], ts)
+no_constraint (t.Key k.Not ∷ t.Key k.Null ∷ ts) not_null primary_key unique = absurd (cc)
+no_constraint (t.Key k.Primary ∷ t.Key k.Key ∷ ts) not_null primary_key unique = absurd (cc)
+no_constraint (t.Key k.Unique ∷ ts) not_null primary_key unique = absurd (cc)
+no_constraint ts not_null primary_key unique = refl
 
 -- ---- a list that is read up to the end
 

@@ -14,6 +14,7 @@ use Rattle.sql_ast.specs.declared.tree.TableRef.{TableRef}
 use Rattle.sql_ast.specs.declared.word.SetOperator.{SetOperator}
 use Rattle.sql_parser.specs.declared.word.JoinKind.{JoinKind}
 use denote.Bor.{Bor}
+use Rattle.std.specs.Global.{Box}
 use Rattle.sql_ast.specs.Shown as shown
 use Rattle.sql_ast.specs.Syntax as s
 use Rattle.sql_parser.specs.Read.{starts_comma, starts_intersect, starts_star, listed, select_list, join_after, more_joins, tref, tables, more_tables, item, items, more_items, qprim, more_qprims, qterm, more_qterms, combined}
@@ -83,11 +84,11 @@ module _ (e : Parser s.Expr) (c : Parser s.Cond) (q : Parser s.Query) (j : Parse
 
 -- ---- how a call's answer is seen
 
-abbrev pub query_seen : Query × Bor (List Spanned) → s.Query × List Token
-query_seen x = (shown.query x.0, token_list x.1.now)
+abbrev pub query_seen : Box Query × Bor (List Spanned) → s.Query × List Token
+query_seen x = (shown.query x.0.value, token_list x.1.now)
 
-abbrev pub table_seen : TableRef × Bor (List Spanned) → s.TableRef × List Token
-table_seen x = (shown.table x.0, token_list x.1.now)
+abbrev pub table_seen : Box TableRef × Bor (List Spanned) → s.TableRef × List Token
+table_seen x = (shown.table x.0.value, token_list x.1.now)
 
 abbrev pub sort_seen : Sort × Bor (List Spanned) → Sort × List Token
 sort_seen x = (x.0, token_list x.1.now)

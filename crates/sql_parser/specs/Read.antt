@@ -61,6 +61,11 @@ abbrev pub starts_star : List Token → Bool
 starts_star (t.Star ∷ ts) = true
 starts_star _ = false
 
+-- "(" "*" stands first
+abbrev pub starts_open_star : List Token → Bool
+starts_open_star (t.LeftParen ∷ t.Star ∷ ts) = true
+starts_open_star _ = false
+
 -- INTERSECT stands first
 abbrev pub starts_intersect : List Token → Bool
 starts_intersect (t.Key k.Intersect ∷ ts) = true

@@ -1,5 +1,5 @@
 -- Reading of the text of a schema.
-use Rattle.std.specs.Prelude.{ℕ, zero, suc, List, [], ◌∷◌, length, Option, Some, None}
+use Rattle.std.specs.Prelude.{ℕ, zero, suc, Bool, true, false, List, [], ◌∷◌, length, Option, Some, None}
 use Rattle.std.specs.Option.{option_map, option_and_then}
 use Rattle.sql_text.specs.declared.key.Key.TheVariants as k
 use Rattle.sql_text.specs.declared.token.Token.{Token}
@@ -11,6 +11,21 @@ use Rattle.sql_ast.specs.declared.schema.Element.TheVariants as el
 use Rattle.sql_ast.specs.Syntax as s
 use Rattle.sql_parser.specs.Read.{query}
 use Rattle.sql_parser.specs.Words.{Parser, ◌>>=◌, closed, names, column_list, data_type}
+
+-- NOT NULL stands first
+abbrev pub starts_not_null : List Token → Bool
+starts_not_null (t.Key k.Not ∷ t.Key k.Null ∷ ts) = true
+starts_not_null _ = false
+
+-- PRIMARY KEY stands first
+abbrev pub starts_primary_key : List Token → Bool
+starts_primary_key (t.Key k.Primary ∷ t.Key k.Key ∷ ts) = true
+starts_primary_key _ = false
+
+-- UNIQUE stands first
+abbrev pub starts_unique : List Token → Bool
+starts_unique (t.Key k.Unique ∷ ts) = true
+starts_unique _ = false
 
 -- { NOT NULL | PRIMARY KEY | UNIQUE }, as far as it goes
 abbrev pub constraints : List Token → List ColumnConstraint × List Token

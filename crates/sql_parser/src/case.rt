@@ -1,5 +1,5 @@
 // CASE (SQL-92, 6.9).
-ghost use Rattle.std.specs.Prelude.{◌≡◌, ◌∷◌, false, IfSome, IfNone};
+ghost use Rattle.std.specs.Prelude.{◌≡◌, ◌∷◌, false, IfOk, IfSome, IfNone};
 ghost use Rattle.sql_ast.specs.Shown as shown;
 ghost use Rattle.sql_parser.specs.Nests.{Nests};
 ghost use Rattle.sql_parser.specs.Read as read;
@@ -8,9 +8,11 @@ ghost use Rattle.sql_text.specs.Tokens.{token_list};
 ghost use Rattle.sql_text.specs.declared.key.Key.TheVariants as k;
 ghost use Rattle.sql_text.specs.declared.token.Token.TheVariants as t;
 
+use crate::boxes::{boxed, push_boxed};
 use crate::grammar::Grammar;
 use crate::refusal::ParseRefusal;
 use crate::word::first;
+use shared_types::OutOfMemory;
 use sql_ast::{Arm, Choice, Cond, Expr, Otherwise, Query, Res, TableRef};
 use sql_text::{Key, Spanned, Token};
 use sqlite_items::Items;
@@ -27,11 +29,29 @@ fn after_when(ts: &[Spanned]) -> Option<&[Spanned]>
     }
 }
 
+/// `WHEN cond THEN res`, in a box
+fn boxed_arm(alloc: Global, when: Box<Cond>, then: Res) -> Result<Box<Arm>, OutOfMemory>
+    ensures when { IfOk result (λ arm. arm.value.when ≡ when.value) }
+    ensures then { IfOk result (λ arm. arm.value.then ≡ then) }
+{
+    let when = Box::into_inner(when);
+    boxed(alloc, Arm { when, then })
+}
+
+/// `WHEN expr THEN res`, in a box
+fn boxed_choice(alloc: Global, when: Box<Expr>, then: Res) -> Result<Box<Choice>, OutOfMemory>
+    ensures when { IfOk result (λ choice. choice.value.when ≡ when.value) }
+    ensures then { IfOk result (λ choice. choice.value.then ≡ then) }
+{
+    let when = Box::into_inner(when);
+    boxed(alloc, Choice { when, then })
+}
+
 impl<
-    E: Fn(Global, u8, &[Spanned]) -> Result<(Expr, &[Spanned]), ParseRefusal>,
-    C: Fn(Global, u8, &[Spanned]) -> Result<(Cond, &[Spanned]), ParseRefusal>,
-    Q: Fn(Global, u8, &[Spanned]) -> Result<(Query, &[Spanned]), ParseRefusal>,
-    T: Fn(Global, u8, &[Spanned]) -> Result<(TableRef, &[Spanned]), ParseRefusal>,
+    E: Fn(Global, u8, &[Spanned]) -> Result<(Box<Expr>, &[Spanned]), ParseRefusal>,
+    C: Fn(Global, u8, &[Spanned]) -> Result<(Box<Cond>, &[Spanned]), ParseRefusal>,
+    Q: Fn(Global, u8, &[Spanned]) -> Result<(Box<Query>, &[Spanned]), ParseRefusal>,
+    T: Fn(Global, u8, &[Spanned]) -> Result<(Box<TableRef>, &[Spanned]), ParseRefusal>,
 > Grammar<E, C, Q, T> {
     /// `res = expr | NULL`
     fn res<'a>(&self, ts: &'a [Spanned]) -> Result<(Res, &'a [Spanned]), ParseRefusal>
@@ -45,7 +65,7 @@ impl<
             Some((Token::Key(Key::Null), rest)) => Ok((Res::Null, rest)),
             _ => {
                 let (value, rest) = self.nested_expr(ts)?;
-                Ok((Res::Value(Box::new(self.alloc, value)?), rest))
+                Ok((Res::Value(value), rest))
             }
         }
     }
@@ -53,31 +73,31 @@ impl<
     /// `THEN res`, after `WHEN cond`
     fn then_arm<'a>(
         &self,
-        when: Cond,
+        when: Box<Cond>,
         ts: &'a [Spanned],
-    ) -> Result<(Arm, &'a [Spanned]), ParseRefusal>
+    ) -> Result<(Box<Arm>, &'a [Spanned]), ParseRefusal>
         requires expr { Nests shown.expr (read.expr self.now.depth) self.now.depth (E.pre self.now.expr) (E.post self.now.expr) }
         requires cond { Nests shown.cond (read.cond self.now.depth) self.now.depth (C.pre self.now.cond) (C.post self.now.cond) }
         requires query { Nests shown.query (read.query self.now.depth) self.now.depth (Q.pre self.now.query) (Q.post self.now.query) }
         requires table { Nests shown.table (read.table self.now.depth) self.now.depth (T.pre self.now.table) (T.post self.now.table) }
-        ensures { Gives (λ x. ((shown.cond x.0.when, shown.res x.0.then), token_list x.1.now)) result (read.then_res (read.expr self.now.depth) (read.cond self.now.depth) (read.query self.now.depth) (read.table self.now.depth) (shown.cond when) (token_list ts.now)) }
+        ensures { Gives (λ x. ((shown.cond x.0.value.when, shown.res x.0.value.then), token_list x.1.now)) result (read.then_res (read.expr self.now.depth) (read.cond self.now.depth) (read.query self.now.depth) (read.table self.now.depth) (shown.cond when.value) (token_list ts.now)) }
     {
         match first(ts) {
             Some((Token::Key(Key::Then), rest)) => {
                 let (then, rest) = self.res(rest)?;
-                Ok((Arm { when, then }, rest))
+                Ok((boxed_arm(self.alloc, when, then)?, rest))
             }
             _ => Err(ParseRefusal::Syntax),
         }
     }
 
     /// `cond THEN res`, after `WHEN`
-    fn arm<'a>(&self, ts: &'a [Spanned]) -> Result<(Arm, &'a [Spanned]), ParseRefusal>
+    fn arm<'a>(&self, ts: &'a [Spanned]) -> Result<(Box<Arm>, &'a [Spanned]), ParseRefusal>
         requires expr { Nests shown.expr (read.expr self.now.depth) self.now.depth (E.pre self.now.expr) (E.post self.now.expr) }
         requires cond { Nests shown.cond (read.cond self.now.depth) self.now.depth (C.pre self.now.cond) (C.post self.now.cond) }
         requires query { Nests shown.query (read.query self.now.depth) self.now.depth (Q.pre self.now.query) (Q.post self.now.query) }
         requires table { Nests shown.table (read.table self.now.depth) self.now.depth (T.pre self.now.table) (T.post self.now.table) }
-        ensures { Gives (λ x. ((shown.cond x.0.when, shown.res x.0.then), token_list x.1.now)) result (read.at_depth self.now.depth read.arm (token_list ts.now)) }
+        ensures { Gives (λ x. ((shown.cond x.0.value.when, shown.res x.0.value.then), token_list x.1.now)) result (read.at_depth self.now.depth read.arm (token_list ts.now)) }
     {
         let (when, rest) = self.nested_cond(ts)?;
         self.then_arm(when, rest)
@@ -96,14 +116,14 @@ impl<
         };
         let (first, after) = self.arm(after)?;
         let mut arms = Items::new(self.alloc);
-        arms.push(first)?;
+        push_boxed(&mut arms, first)?;
         let mut rest = after;
         'arms: for _turn in 0..after.len() {
             match after_when(rest) {
                 None => return Ok((arms, rest)),
                 Some(next) => {
                     let (item, next) = self.arm(next)?;
-                    arms.push(item)?;
+                    push_boxed(&mut arms, item)?;
                     rest = next;
                 }
             }
@@ -114,31 +134,31 @@ impl<
     /// `THEN res`, after `WHEN expr`
     fn then_choice<'a>(
         &self,
-        when: Expr,
+        when: Box<Expr>,
         ts: &'a [Spanned],
-    ) -> Result<(Choice, &'a [Spanned]), ParseRefusal>
+    ) -> Result<(Box<Choice>, &'a [Spanned]), ParseRefusal>
         requires expr { Nests shown.expr (read.expr self.now.depth) self.now.depth (E.pre self.now.expr) (E.post self.now.expr) }
         requires cond { Nests shown.cond (read.cond self.now.depth) self.now.depth (C.pre self.now.cond) (C.post self.now.cond) }
         requires query { Nests shown.query (read.query self.now.depth) self.now.depth (Q.pre self.now.query) (Q.post self.now.query) }
         requires table { Nests shown.table (read.table self.now.depth) self.now.depth (T.pre self.now.table) (T.post self.now.table) }
-        ensures { Gives (λ x. ((shown.expr x.0.when, shown.res x.0.then), token_list x.1.now)) result (read.then_res (read.expr self.now.depth) (read.cond self.now.depth) (read.query self.now.depth) (read.table self.now.depth) (shown.expr when) (token_list ts.now)) }
+        ensures { Gives (λ x. ((shown.expr x.0.value.when, shown.res x.0.value.then), token_list x.1.now)) result (read.then_res (read.expr self.now.depth) (read.cond self.now.depth) (read.query self.now.depth) (read.table self.now.depth) (shown.expr when.value) (token_list ts.now)) }
     {
         match first(ts) {
             Some((Token::Key(Key::Then), rest)) => {
                 let (then, rest) = self.res(rest)?;
-                Ok((Choice { when, then }, rest))
+                Ok((boxed_choice(self.alloc, when, then)?, rest))
             }
             _ => Err(ParseRefusal::Syntax),
         }
     }
 
     /// `expr THEN res`, after `WHEN`
-    fn choice<'a>(&self, ts: &'a [Spanned]) -> Result<(Choice, &'a [Spanned]), ParseRefusal>
+    fn choice<'a>(&self, ts: &'a [Spanned]) -> Result<(Box<Choice>, &'a [Spanned]), ParseRefusal>
         requires expr { Nests shown.expr (read.expr self.now.depth) self.now.depth (E.pre self.now.expr) (E.post self.now.expr) }
         requires cond { Nests shown.cond (read.cond self.now.depth) self.now.depth (C.pre self.now.cond) (C.post self.now.cond) }
         requires query { Nests shown.query (read.query self.now.depth) self.now.depth (Q.pre self.now.query) (Q.post self.now.query) }
         requires table { Nests shown.table (read.table self.now.depth) self.now.depth (T.pre self.now.table) (T.post self.now.table) }
-        ensures { Gives (λ x. ((shown.expr x.0.when, shown.res x.0.then), token_list x.1.now)) result (read.at_depth self.now.depth read.choice (token_list ts.now)) }
+        ensures { Gives (λ x. ((shown.expr x.0.value.when, shown.res x.0.value.then), token_list x.1.now)) result (read.at_depth self.now.depth read.choice (token_list ts.now)) }
     {
         let (when, rest) = self.nested_expr(ts)?;
         self.then_choice(when, rest)
@@ -157,14 +177,14 @@ impl<
         };
         let (first, after) = self.choice(after)?;
         let mut choices = Items::new(self.alloc);
-        choices.push(first)?;
+        push_boxed(&mut choices, first)?;
         let mut rest = after;
         'choices: for _turn in 0..after.len() {
             match after_when(rest) {
                 None => return Ok((choices, rest)),
                 Some(next) => {
                     let (item, next) = self.choice(next)?;
-                    choices.push(item)?;
+                    push_boxed(&mut choices, item)?;
                     rest = next;
                 }
             }
@@ -191,50 +211,51 @@ impl<
 
     /// `{ WHEN cond THEN res } [ ELSE res ] END`, with one arm at least
     #[tactic(auto, using(sql_ast::specs::Shown::lists))]
-    fn searched<'a>(&self, ts: &'a [Spanned]) -> Result<(Expr, &'a [Spanned]), ParseRefusal>
+    fn searched<'a>(&self, ts: &'a [Spanned]) -> Result<(Box<Expr>, &'a [Spanned]), ParseRefusal>
         requires expr { Nests shown.expr (read.expr self.now.depth) self.now.depth (E.pre self.now.expr) (E.post self.now.expr) }
         requires cond { Nests shown.cond (read.cond self.now.depth) self.now.depth (C.pre self.now.cond) (C.post self.now.cond) }
         requires query { Nests shown.query (read.query self.now.depth) self.now.depth (Q.pre self.now.query) (Q.post self.now.query) }
         requires table { Nests shown.table (read.table self.now.depth) self.now.depth (T.pre self.now.table) (T.post self.now.table) }
-        ensures { Gives (λ x. (shown.expr x.0, token_list x.1.now)) result (read.at_depth self.now.depth read.searched (token_list ts.now)) }
+        ensures { Gives (λ x. (shown.expr x.0.value, token_list x.1.now)) result (read.at_depth self.now.depth read.searched (token_list ts.now)) }
     {
         let (arms, rest) = self.arms(ts)?;
         let (otherwise, rest) = self.otherwise(rest)?;
         match first(rest) {
-            Some((Token::Key(Key::End), rest)) => Ok((Expr::Searched(arms, otherwise), rest)),
+            Some((Token::Key(Key::End), rest)) => {
+                Ok((boxed(self.alloc, Expr::Searched(arms, otherwise))?, rest))
+            }
             _ => Err(ParseRefusal::Syntax),
         }
     }
 
     /// `expr { WHEN expr THEN res } [ ELSE res ] END`, with one choice at least
     #[tactic(auto, using(sql_ast::specs::Shown::lists))]
-    fn simple<'a>(&self, ts: &'a [Spanned]) -> Result<(Expr, &'a [Spanned]), ParseRefusal>
+    fn simple<'a>(&self, ts: &'a [Spanned]) -> Result<(Box<Expr>, &'a [Spanned]), ParseRefusal>
         requires expr { Nests shown.expr (read.expr self.now.depth) self.now.depth (E.pre self.now.expr) (E.post self.now.expr) }
         requires cond { Nests shown.cond (read.cond self.now.depth) self.now.depth (C.pre self.now.cond) (C.post self.now.cond) }
         requires query { Nests shown.query (read.query self.now.depth) self.now.depth (Q.pre self.now.query) (Q.post self.now.query) }
         requires table { Nests shown.table (read.table self.now.depth) self.now.depth (T.pre self.now.table) (T.post self.now.table) }
-        ensures { Gives (λ x. (shown.expr x.0, token_list x.1.now)) result (read.at_depth self.now.depth read.simple (token_list ts.now)) }
+        ensures { Gives (λ x. (shown.expr x.0.value, token_list x.1.now)) result (read.at_depth self.now.depth read.simple (token_list ts.now)) }
     {
         let (operand, rest) = self.nested_expr(ts)?;
-        let operand = Box::new(self.alloc, operand)?;
         let (choices, rest) = self.choices(rest)?;
         let (otherwise, rest) = self.otherwise(rest)?;
         match first(rest) {
-            Some((Token::Key(Key::End), rest)) => Ok((
-                Expr::Simple(operand, choices, otherwise),
-                rest,
-            )),
+            Some((Token::Key(Key::End), rest)) => {
+                let case = boxed(self.alloc, Expr::Simple(operand, choices, otherwise))?;
+                Ok((case, rest))
+            }
             _ => Err(ParseRefusal::Syntax),
         }
     }
 
     /// What follows `CASE`
-    pub fn case<'a>(&self, ts: &'a [Spanned]) -> Result<(Expr, &'a [Spanned]), ParseRefusal>
+    pub fn case<'a>(&self, ts: &'a [Spanned]) -> Result<(Box<Expr>, &'a [Spanned]), ParseRefusal>
         requires expr { Nests shown.expr (read.expr self.now.depth) self.now.depth (E.pre self.now.expr) (E.post self.now.expr) }
         requires cond { Nests shown.cond (read.cond self.now.depth) self.now.depth (C.pre self.now.cond) (C.post self.now.cond) }
         requires query { Nests shown.query (read.query self.now.depth) self.now.depth (Q.pre self.now.query) (Q.post self.now.query) }
         requires table { Nests shown.table (read.table self.now.depth) self.now.depth (T.pre self.now.table) (T.post self.now.table) }
-        ensures { Gives (λ x. (shown.expr x.0, token_list x.1.now)) result (read.at_depth self.now.depth read.case (token_list ts.now)) }
+        ensures { Gives (λ x. (shown.expr x.0.value, token_list x.1.now)) result (read.at_depth self.now.depth read.case (token_list ts.now)) }
     {
         match first(ts) {
             Some((Token::Key(Key::When), _)) => self.searched(ts),

@@ -10,6 +10,7 @@ ghost use Rattle.sql_text.specs.declared.key.Key.TheVariants as k;
 ghost use Rattle.sql_text.specs.declared.token.Token.TheVariants as t;
 
 use crate::ahead::{at_query, opens_cond};
+use crate::boxes::boxed;
 use crate::grammar::Grammar;
 use crate::refusal::ParseRefusal;
 use crate::word::{close, first, not_at, quantifier_at};
@@ -62,31 +63,30 @@ fn after_or(ts: &[Spanned]) -> Option<&[Spanned]>
 }
 
 impl<
-    E: Fn(Global, u8, &[Spanned]) -> Result<(Expr, &[Spanned]), ParseRefusal>,
-    C: Fn(Global, u8, &[Spanned]) -> Result<(Cond, &[Spanned]), ParseRefusal>,
-    Q: Fn(Global, u8, &[Spanned]) -> Result<(Query, &[Spanned]), ParseRefusal>,
-    T: Fn(Global, u8, &[Spanned]) -> Result<(TableRef, &[Spanned]), ParseRefusal>,
+    E: Fn(Global, u8, &[Spanned]) -> Result<(Box<Expr>, &[Spanned]), ParseRefusal>,
+    C: Fn(Global, u8, &[Spanned]) -> Result<(Box<Cond>, &[Spanned]), ParseRefusal>,
+    Q: Fn(Global, u8, &[Spanned]) -> Result<(Box<Query>, &[Spanned]), ParseRefusal>,
+    T: Fn(Global, u8, &[Spanned]) -> Result<(Box<TableRef>, &[Spanned]), ParseRefusal>,
 > Grammar<E, C, Q, T> {
     /// `AND expr`, after the lower bound
     fn upper<'a>(
         &self,
         operand: Box<Expr>,
         negative: bool,
-        low: Expr,
+        low: Box<Expr>,
         ts: &'a [Spanned],
-    ) -> Result<(Cond, &'a [Spanned]), ParseRefusal>
+    ) -> Result<(Box<Cond>, &'a [Spanned]), ParseRefusal>
         requires expr { Nests shown.expr (read.expr self.now.depth) self.now.depth (E.pre self.now.expr) (E.post self.now.expr) }
         requires cond { Nests shown.cond (read.cond self.now.depth) self.now.depth (C.pre self.now.cond) (C.post self.now.cond) }
         requires query { Nests shown.query (read.query self.now.depth) self.now.depth (Q.pre self.now.query) (Q.post self.now.query) }
         requires table { Nests shown.table (read.table self.now.depth) self.now.depth (T.pre self.now.table) (T.post self.now.table) }
-        ensures { Gives (λ x. (shown.cond x.0, token_list x.1.now)) result (read.at_depth self.now.depth read.upper (shown.expr operand.value) negative (shown.expr low) (token_list ts.now)) }
+        ensures { Gives (λ x. (shown.cond x.0.value, token_list x.1.now)) result (read.at_depth self.now.depth read.upper (shown.expr operand.value) negative (shown.expr low.value) (token_list ts.now)) }
     {
-        let low = Box::new(self.alloc, low)?;
         match first(ts) {
             Some((Token::Key(Key::And), rest)) => {
                 let (high, rest) = self.sum(rest)?;
-                let high = Box::new(self.alloc, high)?;
-                Ok((Cond::Between(operand, negative, low, high), rest))
+                let between = boxed(self.alloc, Cond::Between(operand, negative, low, high))?;
+                Ok((between, rest))
             }
             _ => Err(ParseRefusal::Syntax),
         }
@@ -98,12 +98,12 @@ impl<
         operand: Box<Expr>,
         negative: bool,
         ts: &'a [Spanned],
-    ) -> Result<(Cond, &'a [Spanned]), ParseRefusal>
+    ) -> Result<(Box<Cond>, &'a [Spanned]), ParseRefusal>
         requires expr { Nests shown.expr (read.expr self.now.depth) self.now.depth (E.pre self.now.expr) (E.post self.now.expr) }
         requires cond { Nests shown.cond (read.cond self.now.depth) self.now.depth (C.pre self.now.cond) (C.post self.now.cond) }
         requires query { Nests shown.query (read.query self.now.depth) self.now.depth (Q.pre self.now.query) (Q.post self.now.query) }
         requires table { Nests shown.table (read.table self.now.depth) self.now.depth (T.pre self.now.table) (T.post self.now.table) }
-        ensures { Gives (λ x. (shown.cond x.0, token_list x.1.now)) result (read.at_depth self.now.depth read.between (shown.expr operand.value) negative (token_list ts.now)) }
+        ensures { Gives (λ x. (shown.cond x.0.value, token_list x.1.now)) result (read.at_depth self.now.depth read.between (shown.expr operand.value) negative (token_list ts.now)) }
     {
         let (low, rest) = self.sum(ts)?;
         self.upper(operand, negative, low, rest)
@@ -116,24 +116,25 @@ impl<
         operand: Box<Expr>,
         negative: bool,
         ts: &'a [Spanned],
-    ) -> Result<(Cond, &'a [Spanned]), ParseRefusal>
+    ) -> Result<(Box<Cond>, &'a [Spanned]), ParseRefusal>
         requires expr { Nests shown.expr (read.expr self.now.depth) self.now.depth (E.pre self.now.expr) (E.post self.now.expr) }
         requires cond { Nests shown.cond (read.cond self.now.depth) self.now.depth (C.pre self.now.cond) (C.post self.now.cond) }
         requires query { Nests shown.query (read.query self.now.depth) self.now.depth (Q.pre self.now.query) (Q.post self.now.query) }
         requires table { Nests shown.table (read.table self.now.depth) self.now.depth (T.pre self.now.table) (T.post self.now.table) }
-        ensures { Gives (λ x. (shown.cond x.0, token_list x.1.now)) result (read.at_depth self.now.depth read.in_after (shown.expr operand.value) negative (token_list ts.now)) }
+        ensures { Gives (λ x. (shown.cond x.0.value, token_list x.1.now)) result (read.at_depth self.now.depth read.in_after (shown.expr operand.value) negative (token_list ts.now)) }
     {
         match first(ts) {
             Some((Token::LeftParen, rest)) => {
                 if at_query(rest) {
                     let (query, rest) = self.nested_query(rest)?;
-                    let query = Box::new(self.alloc, query)?;
                     let rest = close(rest)?;
-                    Ok((Cond::InQuery(operand, negative, query), rest))
+                    let within = boxed(self.alloc, Cond::InQuery(operand, negative, query))?;
+                    Ok((within, rest))
                 } else {
                     let (list, rest) = self.exprs(rest)?;
                     let rest = close(rest)?;
-                    Ok((Cond::InList(operand, negative, list), rest))
+                    let within = boxed(self.alloc, Cond::InList(operand, negative, list))?;
+                    Ok((within, rest))
                 }
             }
             _ => Err(ParseRefusal::Syntax),
@@ -146,20 +147,20 @@ impl<
         operand: Box<Expr>,
         negative: bool,
         ts: &'a [Spanned],
-    ) -> Result<(Cond, &'a [Spanned]), ParseRefusal>
+    ) -> Result<(Box<Cond>, &'a [Spanned]), ParseRefusal>
         requires expr { Nests shown.expr (read.expr self.now.depth) self.now.depth (E.pre self.now.expr) (E.post self.now.expr) }
         requires cond { Nests shown.cond (read.cond self.now.depth) self.now.depth (C.pre self.now.cond) (C.post self.now.cond) }
         requires query { Nests shown.query (read.query self.now.depth) self.now.depth (Q.pre self.now.query) (Q.post self.now.query) }
         requires table { Nests shown.table (read.table self.now.depth) self.now.depth (T.pre self.now.table) (T.post self.now.table) }
-        ensures { Gives (λ x. (shown.cond x.0, token_list x.1.now)) result (read.at_depth self.now.depth read.negatable (shown.expr operand.value) negative (token_list ts.now)) }
+        ensures { Gives (λ x. (shown.cond x.0.value, token_list x.1.now)) result (read.at_depth self.now.depth read.negatable (shown.expr operand.value) negative (token_list ts.now)) }
     {
         match first(ts) {
             Some((Token::Key(Key::Between), rest)) => self.between(operand, negative, rest),
             Some((Token::Key(Key::In), rest)) => self.in_after(operand, negative, rest),
             Some((Token::Key(Key::Like), rest)) => {
                 let (pattern, rest) = self.sum(rest)?;
-                let pattern = Box::new(self.alloc, pattern)?;
-                Ok((Cond::Like(operand, negative, pattern), rest))
+                let like = boxed(self.alloc, Cond::Like(operand, negative, pattern))?;
+                Ok((like, rest))
             }
             _ => Err(ParseRefusal::Syntax),
         }
@@ -171,25 +172,25 @@ impl<
         operand: Box<Expr>,
         op: CmpOp,
         ts: &'a [Spanned],
-    ) -> Result<(Cond, &'a [Spanned]), ParseRefusal>
+    ) -> Result<(Box<Cond>, &'a [Spanned]), ParseRefusal>
         requires expr { Nests shown.expr (read.expr self.now.depth) self.now.depth (E.pre self.now.expr) (E.post self.now.expr) }
         requires cond { Nests shown.cond (read.cond self.now.depth) self.now.depth (C.pre self.now.cond) (C.post self.now.cond) }
         requires query { Nests shown.query (read.query self.now.depth) self.now.depth (Q.pre self.now.query) (Q.post self.now.query) }
         requires table { Nests shown.table (read.table self.now.depth) self.now.depth (T.pre self.now.table) (T.post self.now.table) }
-        ensures { Gives (λ x. (shown.cond x.0, token_list x.1.now)) result (read.at_depth self.now.depth read.compared (shown.expr operand.value) op (token_list ts.now)) }
+        ensures { Gives (λ x. (shown.cond x.0.value, token_list x.1.now)) result (read.at_depth self.now.depth read.compared (shown.expr operand.value) op (token_list ts.now)) }
     {
         match quantifier_at(ts) {
             None => {
                 let (right, rest) = self.sum(ts)?;
-                let right = Box::new(self.alloc, right)?;
-                Ok((Cond::Compare(operand, op, right), rest))
+                let compared = boxed(self.alloc, Cond::Compare(operand, op, right))?;
+                Ok((compared, rest))
             }
             Some((quantifier, rest)) => match first(rest) {
                 Some((Token::LeftParen, rest)) => {
                     let (query, rest) = self.nested_query(rest)?;
-                    let query = Box::new(self.alloc, query)?;
                     let rest = close(rest)?;
-                    Ok((Cond::Quantified(operand, op, quantifier, query), rest))
+                    let compared = Cond::Quantified(operand, op, quantifier, query);
+                    Ok((boxed(self.alloc, compared)?, rest))
                 }
                 _ => Err(ParseRefusal::Syntax),
             },
@@ -202,15 +203,17 @@ impl<
         operand: Box<Expr>,
         negative: bool,
         ts: &'a [Spanned],
-    ) -> Result<(Cond, &'a [Spanned]), ParseRefusal>
+    ) -> Result<(Box<Cond>, &'a [Spanned]), ParseRefusal>
         requires expr { Nests shown.expr (read.expr self.now.depth) self.now.depth (E.pre self.now.expr) (E.post self.now.expr) }
         requires cond { Nests shown.cond (read.cond self.now.depth) self.now.depth (C.pre self.now.cond) (C.post self.now.cond) }
         requires query { Nests shown.query (read.query self.now.depth) self.now.depth (Q.pre self.now.query) (Q.post self.now.query) }
         requires table { Nests shown.table (read.table self.now.depth) self.now.depth (T.pre self.now.table) (T.post self.now.table) }
-        ensures { Gives (λ x. (shown.cond x.0, token_list x.1.now)) result (read.at_depth self.now.depth read.null_word (shown.expr operand.value) negative (token_list ts.now)) }
+        ensures { Gives (λ x. (shown.cond x.0.value, token_list x.1.now)) result (read.at_depth self.now.depth read.null_word (shown.expr operand.value) negative (token_list ts.now)) }
     {
         match first(ts) {
-            Some((Token::Key(Key::Null), rest)) => Ok((Cond::IsNull(operand, negative), rest)),
+            Some((Token::Key(Key::Null), rest)) => {
+                Ok((boxed(self.alloc, Cond::IsNull(operand, negative))?, rest))
+            }
             _ => Err(ParseRefusal::Syntax),
         }
     }
@@ -218,16 +221,15 @@ impl<
     /// What follows the first operand of a predicate
     fn pred_after<'a>(
         &self,
-        operand: Expr,
+        operand: Box<Expr>,
         ts: &'a [Spanned],
-    ) -> Result<(Cond, &'a [Spanned]), ParseRefusal>
+    ) -> Result<(Box<Cond>, &'a [Spanned]), ParseRefusal>
         requires expr { Nests shown.expr (read.expr self.now.depth) self.now.depth (E.pre self.now.expr) (E.post self.now.expr) }
         requires cond { Nests shown.cond (read.cond self.now.depth) self.now.depth (C.pre self.now.cond) (C.post self.now.cond) }
         requires query { Nests shown.query (read.query self.now.depth) self.now.depth (Q.pre self.now.query) (Q.post self.now.query) }
         requires table { Nests shown.table (read.table self.now.depth) self.now.depth (T.pre self.now.table) (T.post self.now.table) }
-        ensures { Gives (λ x. (shown.cond x.0, token_list x.1.now)) result (read.at_depth self.now.depth read.pred_after (shown.expr operand) (token_list ts.now)) }
+        ensures { Gives (λ x. (shown.cond x.0.value, token_list x.1.now)) result (read.at_depth self.now.depth read.pred_after (shown.expr operand.value) (token_list ts.now)) }
     {
-        let operand = Box::new(self.alloc, operand)?;
         match first(ts) {
             Some((Token::Compare(op), rest)) => self.compared(operand, *op, rest),
             Some((Token::Key(Key::Is), rest)) => {
@@ -242,31 +244,30 @@ impl<
     }
 
     /// `"(" query ")"`, after `EXISTS`
-    fn exists<'a>(&self, ts: &'a [Spanned]) -> Result<(Cond, &'a [Spanned]), ParseRefusal>
+    fn exists<'a>(&self, ts: &'a [Spanned]) -> Result<(Box<Cond>, &'a [Spanned]), ParseRefusal>
         requires expr { Nests shown.expr (read.expr self.now.depth) self.now.depth (E.pre self.now.expr) (E.post self.now.expr) }
         requires cond { Nests shown.cond (read.cond self.now.depth) self.now.depth (C.pre self.now.cond) (C.post self.now.cond) }
         requires query { Nests shown.query (read.query self.now.depth) self.now.depth (Q.pre self.now.query) (Q.post self.now.query) }
         requires table { Nests shown.table (read.table self.now.depth) self.now.depth (T.pre self.now.table) (T.post self.now.table) }
-        ensures { Gives (λ x. (shown.cond x.0, token_list x.1.now)) result (read.sub (read.expr self.now.depth) (read.cond self.now.depth) (read.query self.now.depth) (read.table self.now.depth) s.exists (token_list ts.now)) }
+        ensures { Gives (λ x. (shown.cond x.0.value, token_list x.1.now)) result (read.sub (read.expr self.now.depth) (read.cond self.now.depth) (read.query self.now.depth) (read.table self.now.depth) s.exists (token_list ts.now)) }
     {
         match first(ts) {
             Some((Token::LeftParen, rest)) => {
                 let (query, rest) = self.nested_query(rest)?;
-                let query = Box::new(self.alloc, query)?;
                 let rest = close(rest)?;
-                Ok((Cond::Exists(query), rest))
+                Ok((boxed(self.alloc, Cond::Exists(query))?, rest))
             }
             _ => Err(ParseRefusal::Syntax),
         }
     }
 
     /// A predicate
-    fn pred<'a>(&self, ts: &'a [Spanned]) -> Result<(Cond, &'a [Spanned]), ParseRefusal>
+    fn pred<'a>(&self, ts: &'a [Spanned]) -> Result<(Box<Cond>, &'a [Spanned]), ParseRefusal>
         requires expr { Nests shown.expr (read.expr self.now.depth) self.now.depth (E.pre self.now.expr) (E.post self.now.expr) }
         requires cond { Nests shown.cond (read.cond self.now.depth) self.now.depth (C.pre self.now.cond) (C.post self.now.cond) }
         requires query { Nests shown.query (read.query self.now.depth) self.now.depth (Q.pre self.now.query) (Q.post self.now.query) }
         requires table { Nests shown.table (read.table self.now.depth) self.now.depth (T.pre self.now.table) (T.post self.now.table) }
-        ensures { Gives (λ x. (shown.cond x.0, token_list x.1.now)) result (read.at_depth self.now.depth read.pred (token_list ts.now)) }
+        ensures { Gives (λ x. (shown.cond x.0.value, token_list x.1.now)) result (read.at_depth self.now.depth read.pred (token_list ts.now)) }
     {
         match after_exists(ts) {
             Some(rest) => self.exists(rest),
@@ -278,31 +279,30 @@ impl<
     }
 
     /// `"(" cond ")"`
-    fn bracket<'a>(&self, ts: &'a [Spanned]) -> Result<(Cond, &'a [Spanned]), ParseRefusal>
+    fn bracket<'a>(&self, ts: &'a [Spanned]) -> Result<(Box<Cond>, &'a [Spanned]), ParseRefusal>
         requires expr { Nests shown.expr (read.expr self.now.depth) self.now.depth (E.pre self.now.expr) (E.post self.now.expr) }
         requires cond { Nests shown.cond (read.cond self.now.depth) self.now.depth (C.pre self.now.cond) (C.post self.now.cond) }
         requires query { Nests shown.query (read.query self.now.depth) self.now.depth (Q.pre self.now.query) (Q.post self.now.query) }
         requires table { Nests shown.table (read.table self.now.depth) self.now.depth (T.pre self.now.table) (T.post self.now.table) }
-        ensures { Gives (λ x. (shown.cond x.0, token_list x.1.now)) result (read.at_depth self.now.depth read.bracket (token_list ts.now)) }
+        ensures { Gives (λ x. (shown.cond x.0.value, token_list x.1.now)) result (read.at_depth self.now.depth read.bracket (token_list ts.now)) }
     {
         match first(ts) {
             Some((Token::LeftParen, rest)) => {
                 let (inner, rest) = self.nested_cond(rest)?;
-                let inner = Box::new(self.alloc, inner)?;
                 let rest = close(rest)?;
-                Ok((Cond::Bracket(inner), rest))
+                Ok((boxed(self.alloc, Cond::Bracket(inner))?, rest))
             }
             _ => Err(ParseRefusal::Syntax),
         }
     }
 
     /// `pred | "(" cond ")"`
-    fn test<'a>(&self, ts: &'a [Spanned]) -> Result<(Cond, &'a [Spanned]), ParseRefusal>
+    fn test<'a>(&self, ts: &'a [Spanned]) -> Result<(Box<Cond>, &'a [Spanned]), ParseRefusal>
         requires expr { Nests shown.expr (read.expr self.now.depth) self.now.depth (E.pre self.now.expr) (E.post self.now.expr) }
         requires cond { Nests shown.cond (read.cond self.now.depth) self.now.depth (C.pre self.now.cond) (C.post self.now.cond) }
         requires query { Nests shown.query (read.query self.now.depth) self.now.depth (Q.pre self.now.query) (Q.post self.now.query) }
         requires table { Nests shown.table (read.table self.now.depth) self.now.depth (T.pre self.now.table) (T.post self.now.table) }
-        ensures { Gives (λ x. (shown.cond x.0, token_list x.1.now)) result (read.at_depth self.now.depth read.test (token_list ts.now)) }
+        ensures { Gives (λ x. (shown.cond x.0.value, token_list x.1.now)) result (read.at_depth self.now.depth read.test (token_list ts.now)) }
     {
         if opens_cond(ts) {
             self.bracket(ts)
@@ -312,29 +312,29 @@ impl<
     }
 
     /// `neg = [ NOT ] ( pred | "(" cond ")" )`
-    fn neg<'a>(&self, ts: &'a [Spanned]) -> Result<(Cond, &'a [Spanned]), ParseRefusal>
+    fn neg<'a>(&self, ts: &'a [Spanned]) -> Result<(Box<Cond>, &'a [Spanned]), ParseRefusal>
         requires expr { Nests shown.expr (read.expr self.now.depth) self.now.depth (E.pre self.now.expr) (E.post self.now.expr) }
         requires cond { Nests shown.cond (read.cond self.now.depth) self.now.depth (C.pre self.now.cond) (C.post self.now.cond) }
         requires query { Nests shown.query (read.query self.now.depth) self.now.depth (Q.pre self.now.query) (Q.post self.now.query) }
         requires table { Nests shown.table (read.table self.now.depth) self.now.depth (T.pre self.now.table) (T.post self.now.table) }
-        ensures { Gives (λ x. (shown.cond x.0, token_list x.1.now)) result (read.at_depth self.now.depth read.neg (token_list ts.now)) }
+        ensures { Gives (λ x. (shown.cond x.0.value, token_list x.1.now)) result (read.at_depth self.now.depth read.neg (token_list ts.now)) }
     {
         match after_not(ts) {
             Some(rest) => {
                 let (inner, rest) = self.test(rest)?;
-                Ok((Cond::Not(Box::new(self.alloc, inner)?), rest))
+                Ok((boxed(self.alloc, Cond::Not(inner))?, rest))
             }
             None => self.test(ts),
         }
     }
 
     /// `conj = neg { AND neg }`
-    fn conj<'a>(&self, ts: &'a [Spanned]) -> Result<(Cond, &'a [Spanned]), ParseRefusal>
+    fn conj<'a>(&self, ts: &'a [Spanned]) -> Result<(Box<Cond>, &'a [Spanned]), ParseRefusal>
         requires expr { Nests shown.expr (read.expr self.now.depth) self.now.depth (E.pre self.now.expr) (E.post self.now.expr) }
         requires cond { Nests shown.cond (read.cond self.now.depth) self.now.depth (C.pre self.now.cond) (C.post self.now.cond) }
         requires query { Nests shown.query (read.query self.now.depth) self.now.depth (Q.pre self.now.query) (Q.post self.now.query) }
         requires table { Nests shown.table (read.table self.now.depth) self.now.depth (T.pre self.now.table) (T.post self.now.table) }
-        ensures { Gives (λ x. (shown.cond x.0, token_list x.1.now)) result (read.at_depth self.now.depth read.conj (token_list ts.now)) }
+        ensures { Gives (λ x. (shown.cond x.0.value, token_list x.1.now)) result (read.at_depth self.now.depth read.conj (token_list ts.now)) }
     {
         let (mut left, mut rest) = self.neg(ts)?;
         'negs: for _turn in 0..ts.len() {
@@ -342,7 +342,7 @@ impl<
                 None => return Ok((left, rest)),
                 Some(after) => {
                     let (right, after) = self.neg(after)?;
-                    left = Cond::And(Box::new(self.alloc, left)?, Box::new(self.alloc, right)?);
+                    left = boxed(self.alloc, Cond::And(left, right))?;
                     rest = after;
                 }
             }
@@ -351,12 +351,12 @@ impl<
     }
 
     /// `cond = conj { OR conj }`
-    pub fn disj<'a>(&self, ts: &'a [Spanned]) -> Result<(Cond, &'a [Spanned]), ParseRefusal>
+    pub fn disj<'a>(&self, ts: &'a [Spanned]) -> Result<(Box<Cond>, &'a [Spanned]), ParseRefusal>
         requires expr { Nests shown.expr (read.expr self.now.depth) self.now.depth (E.pre self.now.expr) (E.post self.now.expr) }
         requires cond { Nests shown.cond (read.cond self.now.depth) self.now.depth (C.pre self.now.cond) (C.post self.now.cond) }
         requires query { Nests shown.query (read.query self.now.depth) self.now.depth (Q.pre self.now.query) (Q.post self.now.query) }
         requires table { Nests shown.table (read.table self.now.depth) self.now.depth (T.pre self.now.table) (T.post self.now.table) }
-        ensures { Gives (λ x. (shown.cond x.0, token_list x.1.now)) result (read.at_depth self.now.depth read.disj (token_list ts.now)) }
+        ensures { Gives (λ x. (shown.cond x.0.value, token_list x.1.now)) result (read.at_depth self.now.depth read.disj (token_list ts.now)) }
     {
         let (mut left, mut rest) = self.conj(ts)?;
         'conjs: for _turn in 0..ts.len() {
@@ -364,7 +364,7 @@ impl<
                 None => return Ok((left, rest)),
                 Some(after) => {
                     let (right, after) = self.conj(after)?;
-                    left = Cond::Or(Box::new(self.alloc, left)?, Box::new(self.alloc, right)?);
+                    left = boxed(self.alloc, Cond::Or(left, right))?;
                     rest = after;
                 }
             }
@@ -386,7 +386,7 @@ impl<
         match first(ts) {
             Some((Token::Key(Key::Where), rest)) => {
                 let (cond, rest) = self.disj(rest)?;
-                Ok((Filter::Given(Box::new(self.alloc, cond)?), rest))
+                Ok((Filter::Given(cond), rest))
             }
             _ => Ok((Filter::Absent, ts)),
         }
@@ -406,7 +406,7 @@ impl<
         match first(ts) {
             Some((Token::Key(Key::Having), rest)) => {
                 let (cond, rest) = self.disj(rest)?;
-                Ok((Filter::Given(Box::new(self.alloc, cond)?), rest))
+                Ok((Filter::Given(cond), rest))
             }
             _ => Ok((Filter::Absent, ts)),
         }

@@ -1,5 +1,5 @@
 // What stands between the brackets of CREATE TABLE.
-ghost use Rattle.std.specs.Prelude.{◌≡◌, ◌∷◌, ◌<◌, [], Some, IfSome, IfNone, length};
+ghost use Rattle.std.specs.Prelude.{◌≡◌, ◌∷◌, ◌<◌, [], false, Some, IfSome, IfNone, length};
 ghost use Rattle.sql_ast.specs.declared.schema.Element.TheVariants as el;
 ghost use Rattle.sql_text.specs.declared.key.Key.TheVariants as k;
 ghost use Rattle.sql_text.specs.declared.token.Token.TheVariants as t;
@@ -15,14 +15,18 @@ use sql_text::{Key, Name, Spanned, Token};
 use sqlite_items::Items;
 use std::alloc::Global;
 
-/// `NULL`, after `NOT`
-fn after_null(ts: &[Spanned]) -> Option<&[Spanned]>
-    ensures found { IfSome result (λ rest. token_list ts.now ≡ t.Key k.Null ∷ token_list rest.now) }
+/// The tokens after `NOT NULL`.
+fn after_not_null(ts: &[Spanned]) -> Option<&[Spanned]>
+    ensures found { IfSome result (λ rest. token_list ts.now ≡ t.Key k.Not ∷ t.Key k.Null ∷ token_list rest.now) }
     ensures shorter { IfSome result (λ rest. length rest.now < length ts.now) }
-    ensures none { IfNone result (read.constraints (t.Key k.Not ∷ token_list ts.now) ≡ ([], t.Key k.Not ∷ token_list ts.now)) }
+    ensures none { IfNone result (read.starts_not_null (token_list ts.now) ≡ false) }
 {
     match ts {
         [
+            Spanned {
+                token: Token::Key(Key::Not),
+                ..
+            },
             Spanned {
                 token: Token::Key(Key::Null),
                 ..
@@ -33,16 +37,38 @@ fn after_null(ts: &[Spanned]) -> Option<&[Spanned]>
     }
 }
 
-/// `KEY`, after `PRIMARY`
-fn after_key(ts: &[Spanned]) -> Option<&[Spanned]>
-    ensures found { IfSome result (λ rest. token_list ts.now ≡ t.Key k.Key ∷ token_list rest.now) }
+/// The tokens after `PRIMARY KEY`.
+fn after_primary_key(ts: &[Spanned]) -> Option<&[Spanned]>
+    ensures found { IfSome result (λ rest. token_list ts.now ≡ t.Key k.Primary ∷ t.Key k.Key ∷ token_list rest.now) }
     ensures shorter { IfSome result (λ rest. length rest.now < length ts.now) }
-    ensures none { IfNone result (read.constraints (t.Key k.Primary ∷ token_list ts.now) ≡ ([], t.Key k.Primary ∷ token_list ts.now)) }
+    ensures none { IfNone result (read.starts_primary_key (token_list ts.now) ≡ false) }
 {
     match ts {
         [
             Spanned {
+                token: Token::Key(Key::Primary),
+                ..
+            },
+            Spanned {
                 token: Token::Key(Key::Key),
+                ..
+            },
+            rest @ ..,
+        ] => Some(rest),
+        _ => None,
+    }
+}
+
+/// The tokens after `UNIQUE`.
+fn after_unique(ts: &[Spanned]) -> Option<&[Spanned]>
+    ensures found { IfSome result (λ rest. token_list ts.now ≡ t.Key k.Unique ∷ token_list rest.now) }
+    ensures shorter { IfSome result (λ rest. length rest.now < length ts.now) }
+    ensures none { IfNone result (read.starts_unique (token_list ts.now) ≡ false) }
+{
+    match ts {
+        [
+            Spanned {
+                token: Token::Key(Key::Unique),
                 ..
             },
             rest @ ..,
@@ -57,29 +83,14 @@ fn constraint_at(ts: &[Spanned]) -> Option<(ColumnConstraint, &[Spanned])>
     ensures shorter { IfSome result (λ x. length x.1.now < length ts.now) }
     ensures none { IfNone result (read.constraints (token_list ts.now) ≡ ([], token_list ts.now)) }
 {
-    match ts {
-        [
-            Spanned {
-                token: Token::Key(Key::Not),
-                ..
-            },
-            rest @ ..,
-        ] => { after_null(rest).map(|rest| (ColumnConstraint::NotNull, rest)) }
-        [
-            Spanned {
-                token: Token::Key(Key::Primary),
-                ..
-            },
-            rest @ ..,
-        ] => { after_key(rest).map(|rest| (ColumnConstraint::PrimaryKey, rest)) }
-        [
-            Spanned {
-                token: Token::Key(Key::Unique),
-                ..
-            },
-            rest @ ..,
-        ] => { Some((ColumnConstraint::Unique, rest)) }
-        _ => None,
+    if let Some(rest) = after_not_null(ts) {
+        Some((ColumnConstraint::NotNull, rest))
+    } else if let Some(rest) = after_primary_key(ts) {
+        Some((ColumnConstraint::PrimaryKey, rest))
+    } else if let Some(rest) = after_unique(ts) {
+        Some((ColumnConstraint::Unique, rest))
+    } else {
+        None
     }
 }
 

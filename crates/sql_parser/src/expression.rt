@@ -1,12 +1,14 @@
 // Expressions (SQL-92, 6.11 to 6.14, 6.5 and 6.9).
-ghost use Rattle.std.specs.Prelude.{◌≡◌};
+ghost use Rattle.std.specs.Prelude.{◌≡◌, ◌∷◌, false, IfSome, IfNone};
 ghost use Rattle.sql_ast.specs.Shown as shown;
 ghost use Rattle.sql_parser.specs.Nests.{Nests};
 ghost use Rattle.sql_parser.specs.Read as read;
 ghost use Rattle.sql_parser.specs.Words.{Gives};
 ghost use Rattle.sql_text.specs.Tokens.{token_list};
+ghost use Rattle.sql_text.specs.declared.token.Token.TheVariants as t;
 
 use crate::ahead::at_query;
+use crate::boxes::{boxed, push_boxed};
 use crate::grammar::Grammar;
 use crate::naming::column_after;
 use crate::refusal::ParseRefusal;
@@ -18,11 +20,32 @@ use sql_text::{Key, Spanned, Token};
 use sqlite_items::Items;
 use std::alloc::Global;
 
+/// The tokens after `"(" "*"`.
+fn after_open_star(ts: &[Spanned]) -> Option<&[Spanned]>
+    ensures found { IfSome result (λ rest. token_list ts.now ≡ t.LeftParen ∷ t.Star ∷ token_list rest.now) }
+    ensures none { IfNone result (read.starts_open_star (token_list ts.now) ≡ false) }
+{
+    match ts {
+        [
+            Spanned {
+                token: Token::LeftParen,
+                ..
+            },
+            Spanned {
+                token: Token::Star,
+                ..
+            },
+            rest @ ..,
+        ] => Some(rest),
+        _ => None,
+    }
+}
+
 impl<
-    E: Fn(Global, u8, &[Spanned]) -> Result<(Expr, &[Spanned]), ParseRefusal>,
-    C: Fn(Global, u8, &[Spanned]) -> Result<(Cond, &[Spanned]), ParseRefusal>,
-    Q: Fn(Global, u8, &[Spanned]) -> Result<(Query, &[Spanned]), ParseRefusal>,
-    T: Fn(Global, u8, &[Spanned]) -> Result<(TableRef, &[Spanned]), ParseRefusal>,
+    E: Fn(Global, u8, &[Spanned]) -> Result<(Box<Expr>, &[Spanned]), ParseRefusal>,
+    C: Fn(Global, u8, &[Spanned]) -> Result<(Box<Cond>, &[Spanned]), ParseRefusal>,
+    Q: Fn(Global, u8, &[Spanned]) -> Result<(Box<Query>, &[Spanned]), ParseRefusal>,
+    T: Fn(Global, u8, &[Spanned]) -> Result<(Box<TableRef>, &[Spanned]), ParseRefusal>,
 > Grammar<E, C, Q, T> {
     /// `expr { "," expr }`, in brackets
     pub fn exprs<'a>(&self, ts: &'a [Spanned]) -> Result<(Items<Expr>, &'a [Spanned]), ParseRefusal>
@@ -34,14 +57,14 @@ impl<
     {
         let (first, after) = self.nested_expr(ts)?;
         let mut exprs = Items::new(self.alloc);
-        exprs.push(first)?;
+        push_boxed(&mut exprs, first)?;
         let mut rest = after;
         'exprs: for _turn in 0..after.len() {
             match after_comma(rest) {
                 None => return Ok((exprs, rest)),
                 Some(next) => {
                     let (item, next) = self.nested_expr(next)?;
-                    exprs.push(item)?;
+                    push_boxed(&mut exprs, item)?;
                     rest = next;
                 }
             }
@@ -54,49 +77,39 @@ impl<
         &self,
         function: SetFunction,
         ts: &'a [Spanned],
-    ) -> Result<(Expr, &'a [Spanned]), ParseRefusal>
+    ) -> Result<(Box<Expr>, &'a [Spanned]), ParseRefusal>
         requires expr { Nests shown.expr (read.expr self.now.depth) self.now.depth (E.pre self.now.expr) (E.post self.now.expr) }
         requires cond { Nests shown.cond (read.cond self.now.depth) self.now.depth (C.pre self.now.cond) (C.post self.now.cond) }
         requires query { Nests shown.query (read.query self.now.depth) self.now.depth (Q.pre self.now.query) (Q.post self.now.query) }
         requires table { Nests shown.table (read.table self.now.depth) self.now.depth (T.pre self.now.table) (T.post self.now.table) }
-        ensures { Gives (λ x. (shown.expr x.0, token_list x.1.now)) result (read.at_depth self.now.depth read.aggregate function (token_list ts.now)) }
+        ensures { Gives (λ x. (shown.expr x.0.value, token_list x.1.now)) result (read.at_depth self.now.depth read.aggregate function (token_list ts.now)) }
     {
         match first(ts) {
             Some((Token::LeftParen, rest)) => {
                 let (quantifier, rest) = set_quantifier_at(rest);
                 let (operand, rest) = self.nested_expr(rest)?;
-                let operand = Box::new(self.alloc, operand)?;
                 let rest = close(rest)?;
-                Ok((Expr::Aggregate(function, quantifier, operand), rest))
+                let aggregate = boxed(self.alloc, Expr::Aggregate(function, quantifier, operand))?;
+                Ok((aggregate, rest))
             }
             _ => Err(ParseRefusal::Syntax),
         }
     }
 
     /// `"(" "*" ")" | "(" [ ALL | DISTINCT ] expr ")"`, after `COUNT`
-    fn count<'a>(&self, ts: &'a [Spanned]) -> Result<(Expr, &'a [Spanned]), ParseRefusal>
+    fn count<'a>(&self, ts: &'a [Spanned]) -> Result<(Box<Expr>, &'a [Spanned]), ParseRefusal>
         requires expr { Nests shown.expr (read.expr self.now.depth) self.now.depth (E.pre self.now.expr) (E.post self.now.expr) }
         requires cond { Nests shown.cond (read.cond self.now.depth) self.now.depth (C.pre self.now.cond) (C.post self.now.cond) }
         requires query { Nests shown.query (read.query self.now.depth) self.now.depth (Q.pre self.now.query) (Q.post self.now.query) }
         requires table { Nests shown.table (read.table self.now.depth) self.now.depth (T.pre self.now.table) (T.post self.now.table) }
-        ensures { Gives (λ x. (shown.expr x.0, token_list x.1.now)) result (read.at_depth self.now.depth read.count (token_list ts.now)) }
+        ensures { Gives (λ x. (shown.expr x.0.value, token_list x.1.now)) result (read.at_depth self.now.depth read.count (token_list ts.now)) }
     {
-        match ts {
-            [
-                Spanned {
-                    token: Token::LeftParen,
-                    ..
-                },
-                Spanned {
-                    token: Token::Star,
-                    ..
-                },
-                rest @ ..,
-            ] => {
+        match after_open_star(ts) {
+            Some(rest) => {
                 let rest = close(rest)?;
-                Ok((Expr::CountAll, rest))
+                Ok((boxed(self.alloc, Expr::CountAll)?, rest))
             }
-            _ => self.aggregate(SetFunction::Count, ts),
+            None => self.aggregate(SetFunction::Count, ts),
         }
     }
 
@@ -104,33 +117,32 @@ impl<
     #[tactic(auto, using(sql_ast::specs::Shown::lists))]
     fn coalesce_rest<'a>(
         &self,
-        operand: Expr,
+        operand: Box<Expr>,
         ts: &'a [Spanned],
-    ) -> Result<(Expr, &'a [Spanned]), ParseRefusal>
+    ) -> Result<(Box<Expr>, &'a [Spanned]), ParseRefusal>
         requires expr { Nests shown.expr (read.expr self.now.depth) self.now.depth (E.pre self.now.expr) (E.post self.now.expr) }
         requires cond { Nests shown.cond (read.cond self.now.depth) self.now.depth (C.pre self.now.cond) (C.post self.now.cond) }
         requires query { Nests shown.query (read.query self.now.depth) self.now.depth (Q.pre self.now.query) (Q.post self.now.query) }
         requires table { Nests shown.table (read.table self.now.depth) self.now.depth (T.pre self.now.table) (T.post self.now.table) }
-        ensures { Gives (λ x. (shown.expr x.0, token_list x.1.now)) result (read.at_depth self.now.depth read.coalesce_rest (shown.expr operand) (token_list ts.now)) }
+        ensures { Gives (λ x. (shown.expr x.0.value, token_list x.1.now)) result (read.at_depth self.now.depth read.coalesce_rest (shown.expr operand.value) (token_list ts.now)) }
     {
-        let operand = Box::new(self.alloc, operand)?;
         match first(ts) {
             Some((Token::Comma, rest)) => {
                 let (others, rest) = self.exprs(rest)?;
                 let rest = close(rest)?;
-                Ok((Expr::Coalesce(operand, others), rest))
+                Ok((boxed(self.alloc, Expr::Coalesce(operand, others))?, rest))
             }
             _ => Err(ParseRefusal::Syntax),
         }
     }
 
     /// `"(" expr "," expr { "," expr } ")"`, after `COALESCE`
-    fn coalesce<'a>(&self, ts: &'a [Spanned]) -> Result<(Expr, &'a [Spanned]), ParseRefusal>
+    fn coalesce<'a>(&self, ts: &'a [Spanned]) -> Result<(Box<Expr>, &'a [Spanned]), ParseRefusal>
         requires expr { Nests shown.expr (read.expr self.now.depth) self.now.depth (E.pre self.now.expr) (E.post self.now.expr) }
         requires cond { Nests shown.cond (read.cond self.now.depth) self.now.depth (C.pre self.now.cond) (C.post self.now.cond) }
         requires query { Nests shown.query (read.query self.now.depth) self.now.depth (Q.pre self.now.query) (Q.post self.now.query) }
         requires table { Nests shown.table (read.table self.now.depth) self.now.depth (T.pre self.now.table) (T.post self.now.table) }
-        ensures { Gives (λ x. (shown.expr x.0, token_list x.1.now)) result (read.at_depth self.now.depth read.coalesce (token_list ts.now)) }
+        ensures { Gives (λ x. (shown.expr x.0.value, token_list x.1.now)) result (read.at_depth self.now.depth read.coalesce (token_list ts.now)) }
     {
         match first(ts) {
             Some((Token::LeftParen, rest)) => {
@@ -144,34 +156,32 @@ impl<
     /// `"," expr ")"`, after the first of `NULLIF`
     fn null_if_rest<'a>(
         &self,
-        a: Expr,
+        a: Box<Expr>,
         ts: &'a [Spanned],
-    ) -> Result<(Expr, &'a [Spanned]), ParseRefusal>
+    ) -> Result<(Box<Expr>, &'a [Spanned]), ParseRefusal>
         requires expr { Nests shown.expr (read.expr self.now.depth) self.now.depth (E.pre self.now.expr) (E.post self.now.expr) }
         requires cond { Nests shown.cond (read.cond self.now.depth) self.now.depth (C.pre self.now.cond) (C.post self.now.cond) }
         requires query { Nests shown.query (read.query self.now.depth) self.now.depth (Q.pre self.now.query) (Q.post self.now.query) }
         requires table { Nests shown.table (read.table self.now.depth) self.now.depth (T.pre self.now.table) (T.post self.now.table) }
-        ensures { Gives (λ x. (shown.expr x.0, token_list x.1.now)) result (read.at_depth self.now.depth read.null_if_rest (shown.expr a) (token_list ts.now)) }
+        ensures { Gives (λ x. (shown.expr x.0.value, token_list x.1.now)) result (read.at_depth self.now.depth read.null_if_rest (shown.expr a.value) (token_list ts.now)) }
     {
-        let a = Box::new(self.alloc, a)?;
         match first(ts) {
             Some((Token::Comma, rest)) => {
                 let (b, rest) = self.nested_expr(rest)?;
-                let b = Box::new(self.alloc, b)?;
                 let rest = close(rest)?;
-                Ok((Expr::NullIf(a, b), rest))
+                Ok((boxed(self.alloc, Expr::NullIf(a, b))?, rest))
             }
             _ => Err(ParseRefusal::Syntax),
         }
     }
 
     /// `"(" expr "," expr ")"`, after `NULLIF`
-    fn null_if<'a>(&self, ts: &'a [Spanned]) -> Result<(Expr, &'a [Spanned]), ParseRefusal>
+    fn null_if<'a>(&self, ts: &'a [Spanned]) -> Result<(Box<Expr>, &'a [Spanned]), ParseRefusal>
         requires expr { Nests shown.expr (read.expr self.now.depth) self.now.depth (E.pre self.now.expr) (E.post self.now.expr) }
         requires cond { Nests shown.cond (read.cond self.now.depth) self.now.depth (C.pre self.now.cond) (C.post self.now.cond) }
         requires query { Nests shown.query (read.query self.now.depth) self.now.depth (Q.pre self.now.query) (Q.post self.now.query) }
         requires table { Nests shown.table (read.table self.now.depth) self.now.depth (T.pre self.now.table) (T.post self.now.table) }
-        ensures { Gives (λ x. (shown.expr x.0, token_list x.1.now)) result (read.at_depth self.now.depth read.null_if (token_list ts.now)) }
+        ensures { Gives (λ x. (shown.expr x.0.value, token_list x.1.now)) result (read.at_depth self.now.depth read.null_if (token_list ts.now)) }
     {
         match first(ts) {
             Some((Token::LeftParen, rest)) => {
@@ -183,30 +193,30 @@ impl<
     }
 
     /// `AS type ")"`, after `CAST "(" NULL`
-    fn cast_type<'a>(&self, ts: &'a [Spanned]) -> Result<(Expr, &'a [Spanned]), ParseRefusal>
+    fn cast_type<'a>(&self, ts: &'a [Spanned]) -> Result<(Box<Expr>, &'a [Spanned]), ParseRefusal>
         requires expr { Nests shown.expr (read.expr self.now.depth) self.now.depth (E.pre self.now.expr) (E.post self.now.expr) }
         requires cond { Nests shown.cond (read.cond self.now.depth) self.now.depth (C.pre self.now.cond) (C.post self.now.cond) }
         requires query { Nests shown.query (read.query self.now.depth) self.now.depth (Q.pre self.now.query) (Q.post self.now.query) }
         requires table { Nests shown.table (read.table self.now.depth) self.now.depth (T.pre self.now.table) (T.post self.now.table) }
-        ensures { Gives (λ x. (shown.expr x.0, token_list x.1.now)) result (read.at_depth self.now.depth read.cast_type (token_list ts.now)) }
+        ensures { Gives (λ x. (shown.expr x.0.value, token_list x.1.now)) result (read.at_depth self.now.depth read.cast_type (token_list ts.now)) }
     {
         match first(ts) {
             Some((Token::Key(Key::As), rest)) => {
                 let (data_type, rest) = data_type(rest)?;
                 let rest = close(rest)?;
-                Ok((Expr::CastNull(data_type), rest))
+                Ok((boxed(self.alloc, Expr::CastNull(data_type))?, rest))
             }
             _ => Err(ParseRefusal::Syntax),
         }
     }
 
     /// `"(" NULL AS type ")"`, after `CAST`
-    fn cast<'a>(&self, ts: &'a [Spanned]) -> Result<(Expr, &'a [Spanned]), ParseRefusal>
+    fn cast<'a>(&self, ts: &'a [Spanned]) -> Result<(Box<Expr>, &'a [Spanned]), ParseRefusal>
         requires expr { Nests shown.expr (read.expr self.now.depth) self.now.depth (E.pre self.now.expr) (E.post self.now.expr) }
         requires cond { Nests shown.cond (read.cond self.now.depth) self.now.depth (C.pre self.now.cond) (C.post self.now.cond) }
         requires query { Nests shown.query (read.query self.now.depth) self.now.depth (Q.pre self.now.query) (Q.post self.now.query) }
         requires table { Nests shown.table (read.table self.now.depth) self.now.depth (T.pre self.now.table) (T.post self.now.table) }
-        ensures { Gives (λ x. (shown.expr x.0, token_list x.1.now)) result (read.at_depth self.now.depth read.cast (token_list ts.now)) }
+        ensures { Gives (λ x. (shown.expr x.0.value, token_list x.1.now)) result (read.at_depth self.now.depth read.cast (token_list ts.now)) }
     {
         match ts {
             [
@@ -229,12 +239,12 @@ impl<
         &self,
         word: Key,
         ts: &'a [Spanned],
-    ) -> Result<(Expr, &'a [Spanned]), ParseRefusal>
+    ) -> Result<(Box<Expr>, &'a [Spanned]), ParseRefusal>
         requires expr { Nests shown.expr (read.expr self.now.depth) self.now.depth (E.pre self.now.expr) (E.post self.now.expr) }
         requires cond { Nests shown.cond (read.cond self.now.depth) self.now.depth (C.pre self.now.cond) (C.post self.now.cond) }
         requires query { Nests shown.query (read.query self.now.depth) self.now.depth (Q.pre self.now.query) (Q.post self.now.query) }
         requires table { Nests shown.table (read.table self.now.depth) self.now.depth (T.pre self.now.table) (T.post self.now.table) }
-        ensures { Gives (λ x. (shown.expr x.0, token_list x.1.now)) result (read.at_depth self.now.depth read.word_prim word (token_list ts.now)) }
+        ensures { Gives (λ x. (shown.expr x.0.value, token_list x.1.now)) result (read.at_depth self.now.depth read.word_prim word (token_list ts.now)) }
     {
         match word {
             Key::Case => self.case(ts),
@@ -251,31 +261,32 @@ impl<
     }
 
     /// A number, a string, a column, a bracket, or what begins with a key word
-    fn prim<'a>(&self, ts: &'a [Spanned]) -> Result<(Expr, &'a [Spanned]), ParseRefusal>
+    fn prim<'a>(&self, ts: &'a [Spanned]) -> Result<(Box<Expr>, &'a [Spanned]), ParseRefusal>
         requires expr { Nests shown.expr (read.expr self.now.depth) self.now.depth (E.pre self.now.expr) (E.post self.now.expr) }
         requires cond { Nests shown.cond (read.cond self.now.depth) self.now.depth (C.pre self.now.cond) (C.post self.now.cond) }
         requires query { Nests shown.query (read.query self.now.depth) self.now.depth (Q.pre self.now.query) (Q.post self.now.query) }
         requires table { Nests shown.table (read.table self.now.depth) self.now.depth (T.pre self.now.table) (T.post self.now.table) }
-        ensures { Gives (λ x. (shown.expr x.0, token_list x.1.now)) result (read.at_depth self.now.depth read.prim (token_list ts.now)) }
+        ensures { Gives (λ x. (shown.expr x.0.value, token_list x.1.now)) result (read.at_depth self.now.depth read.prim (token_list ts.now)) }
     {
         match first(ts) {
-            Some((Token::Number(n), rest)) => Ok((Expr::Number(*n), rest)),
-            Some((Token::Str(x), rest)) => Ok((Expr::Str(x.copy(self.alloc)?), rest)),
+            Some((Token::Number(n), rest)) => Ok((boxed(self.alloc, Expr::Number(*n))?, rest)),
+            Some((Token::Str(x), rest)) => {
+                let x = x.copy(self.alloc)?;
+                Ok((boxed(self.alloc, Expr::Str(x))?, rest))
+            }
             Some((Token::Name(name), rest)) => {
                 let (column, rest) = column_after(self.alloc, name, rest)?;
-                Ok((Expr::Column(column), rest))
+                Ok((boxed(self.alloc, Expr::Column(column))?, rest))
             }
             Some((Token::LeftParen, rest)) => {
                 if at_query(rest) {
                     let (query, rest) = self.nested_query(rest)?;
-                    let query = Box::new(self.alloc, query)?;
                     let rest = close(rest)?;
-                    Ok((Expr::Scalar(query), rest))
+                    Ok((boxed(self.alloc, Expr::Scalar(query))?, rest))
                 } else {
                     let (operand, rest) = self.nested_expr(rest)?;
-                    let operand = Box::new(self.alloc, operand)?;
                     let rest = close(rest)?;
-                    Ok((Expr::Paren(operand), rest))
+                    Ok((boxed(self.alloc, Expr::Paren(operand))?, rest))
                 }
             }
             Some((Token::Key(word), rest)) => self.word_prim(*word, rest),
@@ -284,39 +295,33 @@ impl<
     }
 
     /// `factor = [ "+" | "-" ] prim`
-    fn factor<'a>(&self, ts: &'a [Spanned]) -> Result<(Expr, &'a [Spanned]), ParseRefusal>
+    fn factor<'a>(&self, ts: &'a [Spanned]) -> Result<(Box<Expr>, &'a [Spanned]), ParseRefusal>
         requires expr { Nests shown.expr (read.expr self.now.depth) self.now.depth (E.pre self.now.expr) (E.post self.now.expr) }
         requires cond { Nests shown.cond (read.cond self.now.depth) self.now.depth (C.pre self.now.cond) (C.post self.now.cond) }
         requires query { Nests shown.query (read.query self.now.depth) self.now.depth (Q.pre self.now.query) (Q.post self.now.query) }
         requires table { Nests shown.table (read.table self.now.depth) self.now.depth (T.pre self.now.table) (T.post self.now.table) }
-        ensures { Gives (λ x. (shown.expr x.0, token_list x.1.now)) result (read.at_depth self.now.depth read.factor (token_list ts.now)) }
+        ensures { Gives (λ x. (shown.expr x.0.value, token_list x.1.now)) result (read.at_depth self.now.depth read.factor (token_list ts.now)) }
     {
         match first(ts) {
             Some((Token::Plus, rest)) => {
                 let (operand, rest) = self.prim(rest)?;
-                Ok((
-                    Expr::Signed(Sign::Plus, Box::new(self.alloc, operand)?),
-                    rest,
-                ))
+                Ok((boxed(self.alloc, Expr::Signed(Sign::Plus, operand))?, rest))
             }
             Some((Token::Minus, rest)) => {
                 let (operand, rest) = self.prim(rest)?;
-                Ok((
-                    Expr::Signed(Sign::Minus, Box::new(self.alloc, operand)?),
-                    rest,
-                ))
+                Ok((boxed(self.alloc, Expr::Signed(Sign::Minus, operand))?, rest))
             }
             _ => self.prim(ts),
         }
     }
 
     /// `term = factor { ( "*" | "/" ) factor }`
-    fn term<'a>(&self, ts: &'a [Spanned]) -> Result<(Expr, &'a [Spanned]), ParseRefusal>
+    fn term<'a>(&self, ts: &'a [Spanned]) -> Result<(Box<Expr>, &'a [Spanned]), ParseRefusal>
         requires expr { Nests shown.expr (read.expr self.now.depth) self.now.depth (E.pre self.now.expr) (E.post self.now.expr) }
         requires cond { Nests shown.cond (read.cond self.now.depth) self.now.depth (C.pre self.now.cond) (C.post self.now.cond) }
         requires query { Nests shown.query (read.query self.now.depth) self.now.depth (Q.pre self.now.query) (Q.post self.now.query) }
         requires table { Nests shown.table (read.table self.now.depth) self.now.depth (T.pre self.now.table) (T.post self.now.table) }
-        ensures { Gives (λ x. (shown.expr x.0, token_list x.1.now)) result (read.at_depth self.now.depth read.term (token_list ts.now)) }
+        ensures { Gives (λ x. (shown.expr x.0.value, token_list x.1.now)) result (read.at_depth self.now.depth read.term (token_list ts.now)) }
     {
         let (mut left, mut rest) = self.factor(ts)?;
         'factors: for _turn in 0..ts.len() {
@@ -324,11 +329,7 @@ impl<
                 None => return Ok((left, rest)),
                 Some((op, after)) => {
                     let (right, after) = self.factor(after)?;
-                    left = Expr::Multiply(
-                        Box::new(self.alloc, left)?,
-                        op,
-                        Box::new(self.alloc, right)?,
-                    );
+                    left = boxed(self.alloc, Expr::Multiply(left, op, right))?;
                     rest = after;
                 }
             }
@@ -337,12 +338,12 @@ impl<
     }
 
     /// `expr = term { ( "+" | "-" | "||" ) term }`
-    pub fn sum<'a>(&self, ts: &'a [Spanned]) -> Result<(Expr, &'a [Spanned]), ParseRefusal>
+    pub fn sum<'a>(&self, ts: &'a [Spanned]) -> Result<(Box<Expr>, &'a [Spanned]), ParseRefusal>
         requires expr { Nests shown.expr (read.expr self.now.depth) self.now.depth (E.pre self.now.expr) (E.post self.now.expr) }
         requires cond { Nests shown.cond (read.cond self.now.depth) self.now.depth (C.pre self.now.cond) (C.post self.now.cond) }
         requires query { Nests shown.query (read.query self.now.depth) self.now.depth (Q.pre self.now.query) (Q.post self.now.query) }
         requires table { Nests shown.table (read.table self.now.depth) self.now.depth (T.pre self.now.table) (T.post self.now.table) }
-        ensures { Gives (λ x. (shown.expr x.0, token_list x.1.now)) result (read.at_depth self.now.depth read.sum (token_list ts.now)) }
+        ensures { Gives (λ x. (shown.expr x.0.value, token_list x.1.now)) result (read.at_depth self.now.depth read.sum (token_list ts.now)) }
     {
         let (mut left, mut rest) = self.term(ts)?;
         'terms: for _turn in 0..ts.len() {
@@ -350,11 +351,7 @@ impl<
                 None => return Ok((left, rest)),
                 Some((op, after)) => {
                     let (right, after) = self.term(after)?;
-                    left = Expr::Add(
-                        Box::new(self.alloc, left)?,
-                        op,
-                        Box::new(self.alloc, right)?,
-                    );
+                    left = boxed(self.alloc, Expr::Add(left, op, right))?;
                     rest = after;
                 }
             }

@@ -24,23 +24,29 @@ pub(crate) struct Grammar<E, C, Q, T> {
 }
 
 impl<
-    E: Fn(Global, u8, &[Spanned]) -> Result<(Expr, &[Spanned]), ParseRefusal>,
-    C: Fn(Global, u8, &[Spanned]) -> Result<(Cond, &[Spanned]), ParseRefusal>,
-    Q: Fn(Global, u8, &[Spanned]) -> Result<(Query, &[Spanned]), ParseRefusal>,
-    T: Fn(Global, u8, &[Spanned]) -> Result<(TableRef, &[Spanned]), ParseRefusal>,
+    E: Fn(Global, u8, &[Spanned]) -> Result<(Box<Expr>, &[Spanned]), ParseRefusal>,
+    C: Fn(Global, u8, &[Spanned]) -> Result<(Box<Cond>, &[Spanned]), ParseRefusal>,
+    Q: Fn(Global, u8, &[Spanned]) -> Result<(Box<Query>, &[Spanned]), ParseRefusal>,
+    T: Fn(Global, u8, &[Spanned]) -> Result<(Box<TableRef>, &[Spanned]), ParseRefusal>,
 > Grammar<E, C, Q, T> {
     /// An expression within brackets.
-    pub fn nested_expr<'a>(&self, ts: &'a [Spanned]) -> Result<(Expr, &'a [Spanned]), ParseRefusal>
+    pub fn nested_expr<'a>(
+        &self,
+        ts: &'a [Spanned],
+    ) -> Result<(Box<Expr>, &'a [Spanned]), ParseRefusal>
         requires { Nests shown.expr (read.expr self.now.depth) self.now.depth (E.pre self.now.expr) (E.post self.now.expr) }
-        ensures { Gives (λ x. (shown.expr x.0, token_list x.1.now)) result (read.expr self.now.depth (token_list ts.now)) }
+        ensures { Gives (λ x. (shown.expr x.0.value, token_list x.1.now)) result (read.expr self.now.depth (token_list ts.now)) }
     {
         (self.expr)(self.alloc, self.depth, ts)
     }
 
     /// A condition within brackets.
-    pub fn nested_cond<'a>(&self, ts: &'a [Spanned]) -> Result<(Cond, &'a [Spanned]), ParseRefusal>
+    pub fn nested_cond<'a>(
+        &self,
+        ts: &'a [Spanned],
+    ) -> Result<(Box<Cond>, &'a [Spanned]), ParseRefusal>
         requires { Nests shown.cond (read.cond self.now.depth) self.now.depth (C.pre self.now.cond) (C.post self.now.cond) }
-        ensures { Gives (λ x. (shown.cond x.0, token_list x.1.now)) result (read.cond self.now.depth (token_list ts.now)) }
+        ensures { Gives (λ x. (shown.cond x.0.value, token_list x.1.now)) result (read.cond self.now.depth (token_list ts.now)) }
     {
         (self.cond)(self.alloc, self.depth, ts)
     }
@@ -49,9 +55,9 @@ impl<
     pub fn nested_query<'a>(
         &self,
         ts: &'a [Spanned],
-    ) -> Result<(Query, &'a [Spanned]), ParseRefusal>
+    ) -> Result<(Box<Query>, &'a [Spanned]), ParseRefusal>
         requires { Nests shown.query (read.query self.now.depth) self.now.depth (Q.pre self.now.query) (Q.post self.now.query) }
-        ensures { Gives (λ x. (shown.query x.0, token_list x.1.now)) result (read.query self.now.depth (token_list ts.now)) }
+        ensures { Gives (λ x. (shown.query x.0.value, token_list x.1.now)) result (read.query self.now.depth (token_list ts.now)) }
     {
         (self.query)(self.alloc, self.depth, ts)
     }
@@ -60,9 +66,9 @@ impl<
     pub fn nested_table<'a>(
         &self,
         ts: &'a [Spanned],
-    ) -> Result<(TableRef, &'a [Spanned]), ParseRefusal>
+    ) -> Result<(Box<TableRef>, &'a [Spanned]), ParseRefusal>
         requires { Nests shown.table (read.table self.now.depth) self.now.depth (T.pre self.now.table) (T.post self.now.table) }
-        ensures { Gives (λ x. (shown.table x.0, token_list x.1.now)) result (read.table self.now.depth (token_list ts.now)) }
+        ensures { Gives (λ x. (shown.table x.0.value, token_list x.1.now)) result (read.table self.now.depth (token_list ts.now)) }
     {
         (self.table)(self.alloc, self.depth, ts)
     }

@@ -2,6 +2,7 @@
 #![tactic(auto)]
 
 mod ahead;
+mod boxes;
 mod case;
 mod condition;
 mod elements;

@@ -1,5 +1,5 @@
 // Names, columns, and what names a table or an item.
-ghost use Rattle.std.specs.Prelude.{◌≡◌, ◌∷◌, ◌<◌, [], Some, IfSome, IfNone, length};
+ghost use Rattle.std.specs.Prelude.{◌≡◌, ◌∷◌, ◌++◌, ◌<◌, [], Some, OnOk, IfSome, IfNone, length};
 ghost use Rattle.std.specs.Option.{option_map};
 ghost use Rattle.sql_text.specs.Tokens.{token_list};
 ghost use Rattle.sql_text.specs.declared.token.Token.TheVariants as t;
@@ -8,6 +8,7 @@ ghost use Rattle.sql_parser.specs.Words.{Gives};
 
 use crate::refusal::ParseRefusal;
 use crate::word::{after_comma, close, first};
+use shared_types::OutOfMemory;
 use sql_ast::{Alias, Column, Correlation, Names};
 use sql_text::{Key, Name, Spanned, Token};
 use sqlite_items::Items;
@@ -35,6 +36,14 @@ fn comma_name(ts: &[Spanned]) -> Option<(&Name, &[Spanned])>
     }
 }
 
+/// Adds a copy of the name.
+fn push_name(alloc: Global, names: &mut Names, name: &Name) -> Result<(), OutOfMemory>
+    ensures { OnOk result (names.new ≡ names.old ++ name.now ∷ []) }
+{
+    names.push(name.copy(alloc)?)?;
+    Ok(())
+}
+
 /// `names = name { "," name }`, as far as it goes
 pub(crate) fn names(alloc: Global, ts: &[Spanned]) -> Result<(Names, &[Spanned]), ParseRefusal>
     ensures { Gives (λ x. (x.0, token_list x.1.now)) result (words.names (token_list ts.now)) }
@@ -43,10 +52,10 @@ pub(crate) fn names(alloc: Global, ts: &[Spanned]) -> Result<(Names, &[Spanned])
         return Err(ParseRefusal::Syntax);
     };
     let mut names = Items::new(alloc);
-    names.push(name.copy(alloc)?)?;
+    push_name(alloc, &mut names, name)?;
     let mut rest = after;
     'names: while let Some((name, after)) = comma_name(rest) {
-        names.push(name.copy(alloc)?)?;
+        push_name(alloc, &mut names, name)?;
         rest = after;
     }
     Ok((names, rest))

@@ -9,6 +9,7 @@ ghost use Rattle.sql_text.specs.Tokens.{token_list};
 ghost use Rattle.sql_text.specs.declared.key.Key.TheVariants.{Intersect};
 ghost use Rattle.sql_text.specs.declared.token.Token.TheVariants as t;
 
+use crate::boxes::boxed;
 use crate::grammar::Grammar;
 use crate::naming::{alias_at, all_of_at, group_by};
 use crate::refusal::ParseRefusal;
@@ -41,10 +42,10 @@ fn after_star(ts: &[Spanned]) -> Option<&[Spanned]>
 }
 
 impl<
-    E: Fn(Global, u8, &[Spanned]) -> Result<(Expr, &[Spanned]), ParseRefusal>,
-    C: Fn(Global, u8, &[Spanned]) -> Result<(Cond, &[Spanned]), ParseRefusal>,
-    Q: Fn(Global, u8, &[Spanned]) -> Result<(Query, &[Spanned]), ParseRefusal>,
-    T: Fn(Global, u8, &[Spanned]) -> Result<(TableRef, &[Spanned]), ParseRefusal>,
+    E: Fn(Global, u8, &[Spanned]) -> Result<(Box<Expr>, &[Spanned]), ParseRefusal>,
+    C: Fn(Global, u8, &[Spanned]) -> Result<(Box<Cond>, &[Spanned]), ParseRefusal>,
+    Q: Fn(Global, u8, &[Spanned]) -> Result<(Box<Query>, &[Spanned]), ParseRefusal>,
+    T: Fn(Global, u8, &[Spanned]) -> Result<(Box<TableRef>, &[Spanned]), ParseRefusal>,
 > Grammar<E, C, Q, T> {
     /// `item = expr [ [ AS ] name ] | name "." "*"`
     fn item<'a>(&self, ts: &'a [Spanned]) -> Result<(Item, &'a [Spanned]), ParseRefusal>
@@ -61,7 +62,6 @@ impl<
             }
             None => {
                 let (value, rest) = self.sum(ts)?;
-                let value = Box::new(self.alloc, value)?;
                 let (alias, rest) = alias_at(self.alloc, rest)?;
                 Ok((Item::Value(value, alias), rest))
             }
@@ -131,12 +131,12 @@ impl<
         list: SelectList,
         from: Items<TableRef>,
         ts: &'a [Spanned],
-    ) -> Result<(Query, &'a [Spanned]), ParseRefusal>
+    ) -> Result<(Box<Query>, &'a [Spanned]), ParseRefusal>
         requires expr { Nests shown.expr (read.expr self.now.depth) self.now.depth (E.pre self.now.expr) (E.post self.now.expr) }
         requires cond { Nests shown.cond (read.cond self.now.depth) self.now.depth (C.pre self.now.cond) (C.post self.now.cond) }
         requires query { Nests shown.query (read.query self.now.depth) self.now.depth (Q.pre self.now.query) (Q.post self.now.query) }
         requires table { Nests shown.table (read.table self.now.depth) self.now.depth (T.pre self.now.table) (T.post self.now.table) }
-        ensures { Gives (λ x. (shown.query x.0, token_list x.1.now)) result (read.at_depth self.now.depth read.block_end quantifier (shown.select_list list) (shown.table_list from) (token_list ts.now)) }
+        ensures { Gives (λ x. (shown.query x.0.value, token_list x.1.now)) result (read.at_depth self.now.depth read.block_end quantifier (shown.select_list list) (shown.table_list from) (token_list ts.now)) }
     {
         let (filter, rest) = self.where_filter(ts)?;
         let (grouping, rest) = group_by(self.alloc, rest)?;
@@ -149,16 +149,17 @@ impl<
             grouping,
             having,
         };
-        Ok((Query::Block(Box::new(self.alloc, block)?), rest))
+        let block = boxed(self.alloc, block)?;
+        Ok((boxed(self.alloc, Query::Block(block))?, rest))
     }
 
     /// `[ ALL | DISTINCT ] list FROM tref { "," tref }`, and the rest of a block, after `SELECT`
-    fn block<'a>(&self, ts: &'a [Spanned]) -> Result<(Query, &'a [Spanned]), ParseRefusal>
+    fn block<'a>(&self, ts: &'a [Spanned]) -> Result<(Box<Query>, &'a [Spanned]), ParseRefusal>
         requires expr { Nests shown.expr (read.expr self.now.depth) self.now.depth (E.pre self.now.expr) (E.post self.now.expr) }
         requires cond { Nests shown.cond (read.cond self.now.depth) self.now.depth (C.pre self.now.cond) (C.post self.now.cond) }
         requires query { Nests shown.query (read.query self.now.depth) self.now.depth (Q.pre self.now.query) (Q.post self.now.query) }
         requires table { Nests shown.table (read.table self.now.depth) self.now.depth (T.pre self.now.table) (T.post self.now.table) }
-        ensures { Gives (λ x. (shown.query x.0, token_list x.1.now)) result (read.at_depth self.now.depth read.block (token_list ts.now)) }
+        ensures { Gives (λ x. (shown.query x.0.value, token_list x.1.now)) result (read.at_depth self.now.depth read.block (token_list ts.now)) }
     {
         let (quantifier, rest) = set_quantifier_at(ts);
         let (list, rest) = self.select_list(rest)?;
@@ -167,32 +168,31 @@ impl<
     }
 
     /// `qprim = block | sub`
-    fn qprim<'a>(&self, ts: &'a [Spanned]) -> Result<(Query, &'a [Spanned]), ParseRefusal>
+    fn qprim<'a>(&self, ts: &'a [Spanned]) -> Result<(Box<Query>, &'a [Spanned]), ParseRefusal>
         requires expr { Nests shown.expr (read.expr self.now.depth) self.now.depth (E.pre self.now.expr) (E.post self.now.expr) }
         requires cond { Nests shown.cond (read.cond self.now.depth) self.now.depth (C.pre self.now.cond) (C.post self.now.cond) }
         requires query { Nests shown.query (read.query self.now.depth) self.now.depth (Q.pre self.now.query) (Q.post self.now.query) }
         requires table { Nests shown.table (read.table self.now.depth) self.now.depth (T.pre self.now.table) (T.post self.now.table) }
-        ensures { Gives (λ x. (shown.query x.0, token_list x.1.now)) result (read.at_depth self.now.depth read.qprim (token_list ts.now)) }
+        ensures { Gives (λ x. (shown.query x.0.value, token_list x.1.now)) result (read.at_depth self.now.depth read.qprim (token_list ts.now)) }
     {
         match first(ts) {
             Some((Token::Key(Key::Select), rest)) => self.block(rest),
             Some((Token::LeftParen, rest)) => {
                 let (query, rest) = self.nested_query(rest)?;
-                let query = Box::new(self.alloc, query)?;
                 let rest = close(rest)?;
-                Ok((Query::Enclosed(query), rest))
+                Ok((boxed(self.alloc, Query::Enclosed(query))?, rest))
             }
             _ => Err(ParseRefusal::Syntax),
         }
     }
 
     /// `qterm = qprim { INTERSECT [ ALL ] qprim }`
-    fn qterm<'a>(&self, ts: &'a [Spanned]) -> Result<(Query, &'a [Spanned]), ParseRefusal>
+    fn qterm<'a>(&self, ts: &'a [Spanned]) -> Result<(Box<Query>, &'a [Spanned]), ParseRefusal>
         requires expr { Nests shown.expr (read.expr self.now.depth) self.now.depth (E.pre self.now.expr) (E.post self.now.expr) }
         requires cond { Nests shown.cond (read.cond self.now.depth) self.now.depth (C.pre self.now.cond) (C.post self.now.cond) }
         requires query { Nests shown.query (read.query self.now.depth) self.now.depth (Q.pre self.now.query) (Q.post self.now.query) }
         requires table { Nests shown.table (read.table self.now.depth) self.now.depth (T.pre self.now.table) (T.post self.now.table) }
-        ensures { Gives (λ x. (shown.query x.0, token_list x.1.now)) result (read.at_depth self.now.depth read.qterm (token_list ts.now)) }
+        ensures { Gives (λ x. (shown.query x.0.value, token_list x.1.now)) result (read.at_depth self.now.depth read.qterm (token_list ts.now)) }
     {
         let (mut left, mut rest) = self.qprim(ts)?;
         'qprims: for _turn in 0..ts.len() {
@@ -201,11 +201,7 @@ impl<
                 Some(after) => {
                     let (all, after) = all_at(after);
                     let (right, after) = self.qprim(after)?;
-                    left = Query::Intersect(
-                        Box::new(self.alloc, left)?,
-                        all,
-                        Box::new(self.alloc, right)?,
-                    );
+                    left = boxed(self.alloc, Query::Intersect(left, all, right))?;
                     rest = after;
                 }
             }
@@ -214,12 +210,15 @@ impl<
     }
 
     /// `query = qterm { ( UNION | EXCEPT ) [ ALL ] qterm }`
-    pub fn combined<'a>(&self, ts: &'a [Spanned]) -> Result<(Query, &'a [Spanned]), ParseRefusal>
+    pub fn combined<'a>(
+        &self,
+        ts: &'a [Spanned],
+    ) -> Result<(Box<Query>, &'a [Spanned]), ParseRefusal>
         requires expr { Nests shown.expr (read.expr self.now.depth) self.now.depth (E.pre self.now.expr) (E.post self.now.expr) }
         requires cond { Nests shown.cond (read.cond self.now.depth) self.now.depth (C.pre self.now.cond) (C.post self.now.cond) }
         requires query { Nests shown.query (read.query self.now.depth) self.now.depth (Q.pre self.now.query) (Q.post self.now.query) }
         requires table { Nests shown.table (read.table self.now.depth) self.now.depth (T.pre self.now.table) (T.post self.now.table) }
-        ensures { Gives (λ x. (shown.query x.0, token_list x.1.now)) result (read.at_depth self.now.depth read.combined (token_list ts.now)) }
+        ensures { Gives (λ x. (shown.query x.0.value, token_list x.1.now)) result (read.at_depth self.now.depth read.combined (token_list ts.now)) }
     {
         let (mut left, mut rest) = self.qterm(ts)?;
         'qterms: for _turn in 0..ts.len() {
@@ -228,12 +227,7 @@ impl<
                 Some((operator, after)) => {
                     let (all, after) = all_at(after);
                     let (right, after) = self.qterm(after)?;
-                    left = Query::Combine(
-                        Box::new(self.alloc, left)?,
-                        operator,
-                        all,
-                        Box::new(self.alloc, right)?,
-                    );
+                    left = boxed(self.alloc, Query::Combine(left, operator, all, right))?;
                     rest = after;
                 }
             }

@@ -45,8 +45,8 @@ fn table_decl(alloc: Global, ts: &[Spanned]) -> Result<(Statement, &[Spanned]), 
 }
 
 /// `AS query`
-fn view_query(alloc: Global, ts: &[Spanned]) -> Result<(Query, &[Spanned]), ParseRefusal>
-    ensures { Gives (λ x. (shown.query x.0, token_list x.1.now)) result (read.view_query (token_list ts.now)) }
+fn view_query(alloc: Global, ts: &[Spanned]) -> Result<(Box<Query>, &[Spanned]), ParseRefusal>
+    ensures { Gives (λ x. (shown.query x.0.value, token_list x.1.now)) result (read.view_query (token_list ts.now)) }
 {
     match first(ts) {
         Some((Token::Key(Key::As), rest)) => query(alloc, 65, rest),
@@ -67,7 +67,7 @@ fn view_decl(alloc: Global, ts: &[Spanned]) -> Result<(Statement, &[Spanned]), P
     let view = ViewDecl {
         name,
         columns,
-        query,
+        query: Box::into_inner(query),
     };
     Ok((Statement::View(view), rest))
 }

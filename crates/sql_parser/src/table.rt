@@ -9,6 +9,7 @@ ghost use Rattle.sql_parser.specs.declared.word.JoinKind.TheVariants as join_of;
 ghost use Rattle.sql_text.specs.Tokens.{token_list};
 
 use crate::ahead::at_query;
+use crate::boxes::{boxed, push_boxed};
 use crate::grammar::Grammar;
 use crate::naming::{correlation, optional_correlation};
 use crate::refusal::ParseRefusal;
@@ -22,16 +23,15 @@ use std::alloc::Global;
 /// `")" [ AS ] name [ "(" names ")" ]`, after a query
 fn name_derived<'a>(
     alloc: Global,
-    query: Query,
+    query: Box<Query>,
     ts: &'a [Spanned],
-) -> Result<(TableRef, &'a [Spanned]), ParseRefusal>
-    ensures { Gives (λ x. (shown.table x.0, token_list x.1.now)) result (read.name_derived (shown.query query) (token_list ts.now)) }
+) -> Result<(Box<TableRef>, &'a [Spanned]), ParseRefusal>
+    ensures { Gives (λ x. (shown.table x.0.value, token_list x.1.now)) result (read.name_derived (shown.query query.value) (token_list ts.now)) }
 {
-    let query = Box::new(alloc, query)?;
     match first(ts) {
         Some((Token::RightParen, rest)) => {
             let (named, rest) = correlation(alloc, rest)?;
-            Ok((TableRef::Derived(query, named), rest))
+            Ok((boxed(alloc, TableRef::Derived(query, named))?, rest))
         }
         _ => Err(ParseRefusal::Syntax),
     }
@@ -50,19 +50,17 @@ fn is_tprim(x: &TableRef) -> bool
 /// `")"`, after a table with its joins
 fn close_join<'a>(
     alloc: Global,
-    x: TableRef,
+    x: Box<TableRef>,
     ts: &'a [Spanned],
-) -> Result<(TableRef, &'a [Spanned]), ParseRefusal>
-    ensures { Gives (λ x. (shown.table x.0, token_list x.1.now)) result (read.close_join (shown.table x) (token_list ts.now)) }
+) -> Result<(Box<TableRef>, &'a [Spanned]), ParseRefusal>
+    ensures { Gives (λ x. (shown.table x.0.value, token_list x.1.now)) result (read.close_join (shown.table x.value) (token_list ts.now)) }
 {
-    let lone = is_tprim(&x);
-    let x = Box::new(alloc, x)?;
     match first(ts) {
         Some((Token::RightParen, rest)) => {
-            if lone {
+            if is_tprim(&x) {
                 Err(ParseRefusal::Syntax)
             } else {
-                Ok((TableRef::Joined(x), rest))
+                Ok((boxed(alloc, TableRef::Joined(x))?, rest))
             }
         }
         _ => Err(ParseRefusal::Syntax),
@@ -70,24 +68,24 @@ fn close_join<'a>(
 }
 
 impl<
-    E: Fn(Global, u8, &[Spanned]) -> Result<(Expr, &[Spanned]), ParseRefusal>,
-    C: Fn(Global, u8, &[Spanned]) -> Result<(Cond, &[Spanned]), ParseRefusal>,
-    Q: Fn(Global, u8, &[Spanned]) -> Result<(Query, &[Spanned]), ParseRefusal>,
-    T: Fn(Global, u8, &[Spanned]) -> Result<(TableRef, &[Spanned]), ParseRefusal>,
+    E: Fn(Global, u8, &[Spanned]) -> Result<(Box<Expr>, &[Spanned]), ParseRefusal>,
+    C: Fn(Global, u8, &[Spanned]) -> Result<(Box<Cond>, &[Spanned]), ParseRefusal>,
+    Q: Fn(Global, u8, &[Spanned]) -> Result<(Box<Query>, &[Spanned]), ParseRefusal>,
+    T: Fn(Global, u8, &[Spanned]) -> Result<(Box<TableRef>, &[Spanned]), ParseRefusal>,
 > Grammar<E, C, Q, T> {
     /// `tprim`
-    fn tprim<'a>(&self, ts: &'a [Spanned]) -> Result<(TableRef, &'a [Spanned]), ParseRefusal>
+    fn tprim<'a>(&self, ts: &'a [Spanned]) -> Result<(Box<TableRef>, &'a [Spanned]), ParseRefusal>
         requires expr { Nests shown.expr (read.expr self.now.depth) self.now.depth (E.pre self.now.expr) (E.post self.now.expr) }
         requires cond { Nests shown.cond (read.cond self.now.depth) self.now.depth (C.pre self.now.cond) (C.post self.now.cond) }
         requires query { Nests shown.query (read.query self.now.depth) self.now.depth (Q.pre self.now.query) (Q.post self.now.query) }
         requires table { Nests shown.table (read.table self.now.depth) self.now.depth (T.pre self.now.table) (T.post self.now.table) }
-        ensures { Gives (λ x. (shown.table x.0, token_list x.1.now)) result (read.at_depth self.now.depth read.tprim (token_list ts.now)) }
+        ensures { Gives (λ x. (shown.table x.0.value, token_list x.1.now)) result (read.at_depth self.now.depth read.tprim (token_list ts.now)) }
     {
         match first(ts) {
             Some((Token::Name(name), rest)) => {
                 let (named, rest) = optional_correlation(self.alloc, rest)?;
                 let name = name.copy(self.alloc)?;
-                Ok((TableRef::Named(name, named), rest))
+                Ok((boxed(self.alloc, TableRef::Named(name, named))?, rest))
             }
             Some((Token::LeftParen, rest)) => {
                 if at_query(rest) {
@@ -103,12 +101,12 @@ impl<
     }
 
     /// `ON cond`
-    fn on<'a>(&self, ts: &'a [Spanned]) -> Result<(Cond, &'a [Spanned]), ParseRefusal>
+    fn on<'a>(&self, ts: &'a [Spanned]) -> Result<(Box<Cond>, &'a [Spanned]), ParseRefusal>
         requires expr { Nests shown.expr (read.expr self.now.depth) self.now.depth (E.pre self.now.expr) (E.post self.now.expr) }
         requires cond { Nests shown.cond (read.cond self.now.depth) self.now.depth (C.pre self.now.cond) (C.post self.now.cond) }
         requires query { Nests shown.query (read.query self.now.depth) self.now.depth (Q.pre self.now.query) (Q.post self.now.query) }
         requires table { Nests shown.table (read.table self.now.depth) self.now.depth (T.pre self.now.table) (T.post self.now.table) }
-        ensures { Gives (λ x. (shown.cond x.0, token_list x.1.now)) result (read.at_depth self.now.depth read.on (token_list ts.now)) }
+        ensures { Gives (λ x. (shown.cond x.0.value, token_list x.1.now)) result (read.at_depth self.now.depth read.on (token_list ts.now)) }
     {
         match first(ts) {
             Some((Token::Key(Key::On), rest)) => self.disj(rest),
@@ -122,18 +120,17 @@ impl<
         left: Box<TableRef>,
         inner: bool,
         ts: &'a [Spanned],
-    ) -> Result<(TableRef, &'a [Spanned]), ParseRefusal>
+    ) -> Result<(Box<TableRef>, &'a [Spanned]), ParseRefusal>
         requires expr { Nests shown.expr (read.expr self.now.depth) self.now.depth (E.pre self.now.expr) (E.post self.now.expr) }
         requires cond { Nests shown.cond (read.cond self.now.depth) self.now.depth (C.pre self.now.cond) (C.post self.now.cond) }
         requires query { Nests shown.query (read.query self.now.depth) self.now.depth (Q.pre self.now.query) (Q.post self.now.query) }
         requires table { Nests shown.table (read.table self.now.depth) self.now.depth (T.pre self.now.table) (T.post self.now.table) }
-        ensures { Gives (λ x. (shown.table x.0, token_list x.1.now)) result (read.at_depth self.now.depth read.join_after (shown.table left.value) (join_of.Inner inner) (token_list ts.now)) }
+        ensures { Gives (λ x. (shown.table x.0.value, token_list x.1.now)) result (read.at_depth self.now.depth read.join_after (shown.table left.value) (join_of.Inner inner) (token_list ts.now)) }
     {
         let (right, rest) = self.tprim(ts)?;
-        let right = Box::new(self.alloc, right)?;
         let (on, rest) = self.on(rest)?;
-        let on = Box::new(self.alloc, on)?;
-        Ok((TableRef::Join(left, inner, right, on), rest))
+        let join = boxed(self.alloc, TableRef::Join(left, inner, right, on))?;
+        Ok((join, rest))
     }
 
     /// `tprim ON cond`, after `LEFT [ OUTER ] JOIN`, where the cond holds no sub
@@ -142,20 +139,18 @@ impl<
         left: Box<TableRef>,
         outer: bool,
         ts: &'a [Spanned],
-    ) -> Result<(TableRef, &'a [Spanned]), ParseRefusal>
+    ) -> Result<(Box<TableRef>, &'a [Spanned]), ParseRefusal>
         requires expr { Nests shown.expr (read.expr self.now.depth) self.now.depth (E.pre self.now.expr) (E.post self.now.expr) }
         requires cond { Nests shown.cond (read.cond self.now.depth) self.now.depth (C.pre self.now.cond) (C.post self.now.cond) }
         requires query { Nests shown.query (read.query self.now.depth) self.now.depth (Q.pre self.now.query) (Q.post self.now.query) }
         requires table { Nests shown.table (read.table self.now.depth) self.now.depth (T.pre self.now.table) (T.post self.now.table) }
-        ensures { Gives (λ x. (shown.table x.0, token_list x.1.now)) result (read.at_depth self.now.depth read.join_after (shown.table left.value) (join_of.Left outer) (token_list ts.now)) }
+        ensures { Gives (λ x. (shown.table x.0.value, token_list x.1.now)) result (read.at_depth self.now.depth read.join_after (shown.table left.value) (join_of.Left outer) (token_list ts.now)) }
     {
         let (right, rest) = self.tprim(ts)?;
-        let right = Box::new(self.alloc, right)?;
         let (on, rest) = self.on(rest)?;
-        let fits = without_sub(&on);
-        let on = Box::new(self.alloc, on)?;
-        if fits {
-            Ok((TableRef::LeftJoin(left, outer, right, on), rest))
+        if without_sub(&on) {
+            let join = boxed(self.alloc, TableRef::LeftJoin(left, outer, right, on))?;
+            Ok((join, rest))
         } else {
             Err(ParseRefusal::Syntax)
         }
@@ -164,35 +159,36 @@ impl<
     /// What follows the words of a join: `tprim`, and its `ON cond` where the join has one
     fn join_after<'a>(
         &self,
-        left: TableRef,
+        left: Box<TableRef>,
         kind: JoinKind,
         ts: &'a [Spanned],
-    ) -> Result<(TableRef, &'a [Spanned]), ParseRefusal>
+    ) -> Result<(Box<TableRef>, &'a [Spanned]), ParseRefusal>
         requires expr { Nests shown.expr (read.expr self.now.depth) self.now.depth (E.pre self.now.expr) (E.post self.now.expr) }
         requires cond { Nests shown.cond (read.cond self.now.depth) self.now.depth (C.pre self.now.cond) (C.post self.now.cond) }
         requires query { Nests shown.query (read.query self.now.depth) self.now.depth (Q.pre self.now.query) (Q.post self.now.query) }
         requires table { Nests shown.table (read.table self.now.depth) self.now.depth (T.pre self.now.table) (T.post self.now.table) }
-        ensures { Gives (λ x. (shown.table x.0, token_list x.1.now)) result (read.at_depth self.now.depth read.join_after (shown.table left) kind (token_list ts.now)) }
+        ensures { Gives (λ x. (shown.table x.0.value, token_list x.1.now)) result (read.at_depth self.now.depth read.join_after (shown.table left.value) kind (token_list ts.now)) }
     {
-        let left = Box::new(self.alloc, left)?;
         match kind {
             JoinKind::Inner(inner) => self.inner_join(left, inner, ts),
             JoinKind::Left(outer) => self.left_join(left, outer, ts),
             JoinKind::Cross => {
                 let (right, rest) = self.tprim(ts)?;
-                let right = Box::new(self.alloc, right)?;
-                Ok((TableRef::CrossJoin(left, right), rest))
+                Ok((boxed(self.alloc, TableRef::CrossJoin(left, right))?, rest))
             }
         }
     }
 
     /// `tref = tprim { join }`
-    pub fn tref<'a>(&self, ts: &'a [Spanned]) -> Result<(TableRef, &'a [Spanned]), ParseRefusal>
+    pub fn tref<'a>(
+        &self,
+        ts: &'a [Spanned],
+    ) -> Result<(Box<TableRef>, &'a [Spanned]), ParseRefusal>
         requires expr { Nests shown.expr (read.expr self.now.depth) self.now.depth (E.pre self.now.expr) (E.post self.now.expr) }
         requires cond { Nests shown.cond (read.cond self.now.depth) self.now.depth (C.pre self.now.cond) (C.post self.now.cond) }
         requires query { Nests shown.query (read.query self.now.depth) self.now.depth (Q.pre self.now.query) (Q.post self.now.query) }
         requires table { Nests shown.table (read.table self.now.depth) self.now.depth (T.pre self.now.table) (T.post self.now.table) }
-        ensures { Gives (λ x. (shown.table x.0, token_list x.1.now)) result (read.at_depth self.now.depth read.tref (token_list ts.now)) }
+        ensures { Gives (λ x. (shown.table x.0.value, token_list x.1.now)) result (read.at_depth self.now.depth read.tref (token_list ts.now)) }
     {
         let (mut left, mut rest) = self.tprim(ts)?;
         'joins: for _turn in 0..ts.len() {
@@ -221,14 +217,14 @@ impl<
     {
         let (table_first, after_first) = self.tref(ts)?;
         let mut tables = Items::new(self.alloc);
-        tables.push(table_first)?;
+        push_boxed(&mut tables, table_first)?;
         let mut rest = after_first;
         'tables: for _turn in 0..after_first.len() {
             match after_comma(rest) {
                 None => return Ok((tables, rest)),
                 Some(after) => {
                     let (next, after) = self.tref(after)?;
-                    tables.push(next)?;
+                    push_boxed(&mut tables, next)?;
                     rest = after;
                 }
             }

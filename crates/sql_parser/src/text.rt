@@ -25,8 +25,8 @@ fn expr<'a>(
     alloc: Global,
     depth: u8,
     ts: &'a [Spanned],
-) -> Result<(Expr, &'a [Spanned]), ParseRefusal>
-    ensures { Gives (λ x. (shown.expr x.0, token_list x.1.now)) result (read.expr depth (token_list ts.now)) }
+) -> Result<(Box<Expr>, &'a [Spanned]), ParseRefusal>
+    ensures { Gives (λ x. (shown.expr x.0.value, token_list x.1.now)) result (read.expr depth (token_list ts.now)) }
 {
     if depth == 0 {
         return Err(ParseRefusal::Syntax);
@@ -47,8 +47,8 @@ fn cond<'a>(
     alloc: Global,
     depth: u8,
     ts: &'a [Spanned],
-) -> Result<(Cond, &'a [Spanned]), ParseRefusal>
-    ensures { Gives (λ x. (shown.cond x.0, token_list x.1.now)) result (read.cond depth (token_list ts.now)) }
+) -> Result<(Box<Cond>, &'a [Spanned]), ParseRefusal>
+    ensures { Gives (λ x. (shown.cond x.0.value, token_list x.1.now)) result (read.cond depth (token_list ts.now)) }
 {
     if depth == 0 {
         return Err(ParseRefusal::Syntax);
@@ -69,8 +69,8 @@ pub(crate) fn query<'a>(
     alloc: Global,
     depth: u8,
     ts: &'a [Spanned],
-) -> Result<(Query, &'a [Spanned]), ParseRefusal>
-    ensures { Gives (λ x. (shown.query x.0, token_list x.1.now)) result (read.query depth (token_list ts.now)) }
+) -> Result<(Box<Query>, &'a [Spanned]), ParseRefusal>
+    ensures { Gives (λ x. (shown.query x.0.value, token_list x.1.now)) result (read.query depth (token_list ts.now)) }
 {
     if depth == 0 {
         return Err(ParseRefusal::Syntax);
@@ -91,8 +91,8 @@ fn table<'a>(
     alloc: Global,
     depth: u8,
     ts: &'a [Spanned],
-) -> Result<(TableRef, &'a [Spanned]), ParseRefusal>
-    ensures { Gives (λ x. (shown.table x.0, token_list x.1.now)) result (read.table depth (token_list ts.now)) }
+) -> Result<(Box<TableRef>, &'a [Spanned]), ParseRefusal>
+    ensures { Gives (λ x. (shown.table x.0.value, token_list x.1.now)) result (read.table depth (token_list ts.now)) }
 {
     if depth == 0 {
         return Err(ParseRefusal::Syntax);
@@ -208,7 +208,7 @@ fn query_text(alloc: Global, tokens: &[Spanned]) -> Result<QueryText, ParseRefus
     let (order, rest) = order_by(alloc, rest)?;
     let semicolon = last_semicolon(rest)?;
     Ok(QueryText {
-        query,
+        query: Box::into_inner(query),
         order,
         semicolon,
     })

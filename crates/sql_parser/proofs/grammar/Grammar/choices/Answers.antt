@@ -6,8 +6,8 @@ use Rattle.sql_parser.proofs.grammar.Grammar.choices.Goals as goal
 
 pub choices-init : goal.choices-init
 choices-init g c =
-    rw (c.in-Some.ensures.found, c.in_ok-first.ensures, c.in_ok-push.ensures.ok, c.new-choices.ensures)
-    (choices_first c.in_ok-first.first _ ∙ no_turn (λ n. choices_then (c.in_ok-first.first ∷ []) (read.more_choices (read.expr c.args.self.now.depth) (read.cond c.args.self.now.depth) (read.query c.args.self.now.depth) (read.table c.args.self.now.depth) n (token_list c.in_ok-first.after.now))) c.in_ok-first.after.now)
+    rw (c.in-Some.ensures.found, c.in_ok-first.ensures, c.in_ok-push_boxed.ensures.ok, c.new-choices.ensures)
+    (choices_first c.in_ok-first.first.value _ ∙ no_turn (λ n. choices_then (c.in_ok-first.first.value ∷ []) (read.more_choices (read.expr c.args.self.now.depth) (read.cond c.args.self.now.depth) (read.query c.args.self.now.depth) (read.table c.args.self.now.depth) n (token_list c.in_ok-first.after.now))) c.in_ok-first.after.now)
 
 pub returns-in-None : goal.returns-in-None
 returns-in-None g c =
@@ -18,7 +18,7 @@ returns-in-None g c =
 pub choices-preserved : goal.choices-preserved
 choices-preserved g c =
     let e = one_more (λ n. choices_then c.choices.choices (read.more_choices (read.expr c.args.self.now.depth) (read.cond c.args.self.now.depth) (read.query c.args.self.now.depth) (read.table c.args.self.now.depth) n (token_list c.choices.rest.now))) _ c.choices._turn c.choices-test.true c.choices.invariant in
-    e ∙ rw (c.in-Some-after_when.ensures.found, c.in_ok-item-in-Some-after_when.ensures, c.in_ok-push-in-Some-after_when.ensures.ok) (choices_more c.choices.choices c.in_ok-item-in-Some-after_when.item _)
+    e ∙ rw (c.in-Some-after_when.ensures.found, c.in_ok-item-in-Some-after_when.ensures, c.in_ok-push_boxed-in-Some-after_when.ensures.ok) (choices_more c.choices.choices c.in_ok-item-in-Some-after_when.item.value _)
 
 pub returns : goal.returns
 returns g c =

@@ -9,18 +9,18 @@ use Rattle.sql_parser.proofs.grammar.Grammar.combined.Goals as goal
 
 pub qterms-init : goal.qterms-init
 qterms-init g c =
-    combined_begin (read.expr c.args.self.now.depth) (read.cond c.args.self.now.depth) (read.query c.args.self.now.depth) (read.table c.args.self.now.depth) c.args.ts.now (shown.query c.in_ok-left.left) (token_list c.in_ok-left.rest.now) c.in_ok-left.ensures
+    combined_begin (read.expr c.args.self.now.depth) (read.cond c.args.self.now.depth) (read.query c.args.self.now.depth) (read.table c.args.self.now.depth) c.args.ts.now (shown.query c.in_ok-left.left.value) (token_list c.in_ok-left.rest.now) c.in_ok-left.ensures
 
 pub returns-in-None : goal.returns-in-None
-returns-in-None g c = c.qterms.invariant ∙ qterms_stop (read.expr c.args.self.now.depth) (read.cond c.args.self.now.depth) (read.query c.args.self.now.depth) (read.table c.args.self.now.depth) _ (shown.query c.qterms.left) (token_list c.qterms.rest.now) (sym c.in-None.ensures)
+returns-in-None g c = c.qterms.invariant ∙ qterms_stop (read.expr c.args.self.now.depth) (read.cond c.args.self.now.depth) (read.query c.args.self.now.depth) (read.table c.args.self.now.depth) _ (shown.query c.qterms.left.value) (token_list c.qterms.rest.now) (sym c.in-None.ensures)
 
 pub returns-in_err-right-in-Some : goal.returns-in_err-right-in-Some
 returns-in_err-right-in-Some g c =
     let p = err_from_is_err_and c.from_residual-in_err-right-in-Some.result c.from_residual-in_err-right-in-Some.ensures.1 in
-    let e = one_more (λ n. read.more_qterms (read.expr c.args.self.now.depth) (read.cond c.args.self.now.depth) (read.query c.args.self.now.depth) (read.table c.args.self.now.depth) n (shown.query c.qterms.left) (token_list c.qterms.rest.now)) _ c.qterms._turn c.qterms-test.true c.qterms.invariant in
-    rw (p.1, p.2) (fails query_seen query_seen _ _ _ (λ none. e ∙ qterms_next (read.expr c.args.self.now.depth) (read.cond c.args.self.now.depth) (read.query c.args.self.now.depth) (read.table c.args.self.now.depth) _ (shown.query c.qterms.left) (token_list c.qterms.rest.now) (c.in-Some.operator, token_list c.in-Some.after.now) c.in-Some.ensures ∙ rw (← c.all_at-all.ensures, none) refl) c.in_err-right-in-Some.ensures)
+    let e = one_more (λ n. read.more_qterms (read.expr c.args.self.now.depth) (read.cond c.args.self.now.depth) (read.query c.args.self.now.depth) (read.table c.args.self.now.depth) n (shown.query c.qterms.left.value) (token_list c.qterms.rest.now)) _ c.qterms._turn c.qterms-test.true c.qterms.invariant in
+    rw (p.1, p.2) (fails query_seen query_seen _ _ _ (λ none. e ∙ qterms_next (read.expr c.args.self.now.depth) (read.cond c.args.self.now.depth) (read.query c.args.self.now.depth) (read.table c.args.self.now.depth) _ (shown.query c.qterms.left.value) (token_list c.qterms.rest.now) (c.in-Some.operator, token_list c.in-Some.after.now) c.in-Some.ensures ∙ rw (← c.all_at-all.ensures, none) refl) c.in_err-right-in-Some.ensures)
 
 pub qterms-preserved : goal.qterms-preserved
 qterms-preserved g c =
-    let e = one_more (λ n. read.more_qterms (read.expr c.args.self.now.depth) (read.cond c.args.self.now.depth) (read.query c.args.self.now.depth) (read.table c.args.self.now.depth) n (shown.query c.qterms.left) (token_list c.qterms.rest.now)) _ c.qterms._turn c.qterms-test.true c.qterms.invariant in
-    e ∙ qterms_next (read.expr c.args.self.now.depth) (read.cond c.args.self.now.depth) (read.query c.args.self.now.depth) (read.table c.args.self.now.depth) _ (shown.query c.qterms.left) (token_list c.qterms.rest.now) (c.in-Some.operator, token_list c.in-Some.after.now) c.in-Some.ensures ∙ rw (← c.all_at-all.ensures, c.in_ok-right-in-Some.ensures, c.in_ok-new-in-Some.ensures.ok, c.in_ok-new-in-Some-2.ensures.ok) refl
+    let e = one_more (λ n. read.more_qterms (read.expr c.args.self.now.depth) (read.cond c.args.self.now.depth) (read.query c.args.self.now.depth) (read.table c.args.self.now.depth) n (shown.query c.qterms.left.value) (token_list c.qterms.rest.now)) _ c.qterms._turn c.qterms-test.true c.qterms.invariant in
+    e ∙ qterms_next (read.expr c.args.self.now.depth) (read.cond c.args.self.now.depth) (read.query c.args.self.now.depth) (read.table c.args.self.now.depth) _ (shown.query c.qterms.left.value) (token_list c.qterms.rest.now) (c.in-Some.operator, token_list c.in-Some.after.now) c.in-Some.ensures ∙ rw (← c.all_at-all.ensures, c.in_ok-right-in-Some.ensures, c.in_ok-left-in-Some.ensures) refl

@@ -7,4 +7,4 @@ use Rattle.sql_parser.proofs.grammar.Grammar.combined.Given as goal
 abbrev pub invariant-qterms : goal.invariant-qterms
 invariant-qterms g l =
     read.combined (read.expr l.self.depth) (read.cond l.self.depth) (read.query l.self.depth) (read.table l.self.depth) (token_list l.ts)
-    ≡ read.more_qterms (read.expr l.self.depth) (read.cond l.self.depth) (read.query l.self.depth) (read.table l.self.depth) (l._turn-end - l._turn) (shown.query l.left) (token_list l.rest)
+    ≡ read.more_qterms (read.expr l.self.depth) (read.cond l.self.depth) (read.query l.self.depth) (read.table l.self.depth) (l._turn-end - l._turn) (shown.query l.left.value) (token_list l.rest)

@@ -8,19 +8,19 @@ use Rattle.sql_parser.proofs.grammar.Grammar.conj.Goals as goal
 
 pub negs-init : goal.negs-init
 negs-init g c =
-    negs_begin (read.expr c.args.self.now.depth) (read.cond c.args.self.now.depth) (read.query c.args.self.now.depth) (read.table c.args.self.now.depth) (shown.cond c.in_ok-left.left) (token_list c.args.ts.now) (token_list c.in_ok-left.rest.now) c.in_ok-left.ensures
-    ∙ no_turn (λ n. read.more_negs (read.expr c.args.self.now.depth) (read.cond c.args.self.now.depth) (read.query c.args.self.now.depth) (read.table c.args.self.now.depth) n (shown.cond c.in_ok-left.left) (token_list c.in_ok-left.rest.now)) c.args.ts.now
+    negs_begin (read.expr c.args.self.now.depth) (read.cond c.args.self.now.depth) (read.query c.args.self.now.depth) (read.table c.args.self.now.depth) (shown.cond c.in_ok-left.left.value) (token_list c.args.ts.now) (token_list c.in_ok-left.rest.now) c.in_ok-left.ensures
+    ∙ no_turn (λ n. read.more_negs (read.expr c.args.self.now.depth) (read.cond c.args.self.now.depth) (read.query c.args.self.now.depth) (read.table c.args.self.now.depth) n (shown.cond c.in_ok-left.left.value) (token_list c.in_ok-left.rest.now)) c.args.ts.now
 
 pub returns-in-None : goal.returns-in-None
-returns-in-None g c = c.negs.invariant ∙ negs_stop (read.expr c.args.self.now.depth) (read.cond c.args.self.now.depth) (read.query c.args.self.now.depth) (read.table c.args.self.now.depth) _ (shown.cond c.negs.left) (token_list c.negs.rest.now) c.in-None.ensures.none
+returns-in-None g c = c.negs.invariant ∙ negs_stop (read.expr c.args.self.now.depth) (read.cond c.args.self.now.depth) (read.query c.args.self.now.depth) (read.table c.args.self.now.depth) _ (shown.cond c.negs.left.value) (token_list c.negs.rest.now) c.in-None.ensures.none
 
 pub returns-in_err-right-in-Some : goal.returns-in_err-right-in-Some
 returns-in_err-right-in-Some g c =
     let p = err_from_is_err_and c.from_residual-in_err-right-in-Some.result c.from_residual-in_err-right-in-Some.ensures.1 in
-    let e = one_more (λ n. read.more_negs (read.expr c.args.self.now.depth) (read.cond c.args.self.now.depth) (read.query c.args.self.now.depth) (read.table c.args.self.now.depth) n (shown.cond c.negs.left) (token_list c.negs.rest.now)) _ c.negs._turn c.negs-test.true c.negs.invariant in
+    let e = one_more (λ n. read.more_negs (read.expr c.args.self.now.depth) (read.cond c.args.self.now.depth) (read.query c.args.self.now.depth) (read.table c.args.self.now.depth) n (shown.cond c.negs.left.value) (token_list c.negs.rest.now)) _ c.negs._turn c.negs-test.true c.negs.invariant in
     rw (p.1, p.2) (fails cond_seen cond_seen _ _ _ (λ none. e ∙ rw (c.in-Some.ensures.found, none) refl) c.in_err-right-in-Some.ensures)
 
 pub negs-preserved : goal.negs-preserved
 negs-preserved g c =
-    let e = one_more (λ n. read.more_negs (read.expr c.args.self.now.depth) (read.cond c.args.self.now.depth) (read.query c.args.self.now.depth) (read.table c.args.self.now.depth) n (shown.cond c.negs.left) (token_list c.negs.rest.now)) _ c.negs._turn c.negs-test.true c.negs.invariant in
-    e ∙ rw (c.in-Some.ensures.found, c.in_ok-right-in-Some.ensures, c.in_ok-new-in-Some.ensures.ok, c.in_ok-new-in-Some-2.ensures.ok) refl
+    let e = one_more (λ n. read.more_negs (read.expr c.args.self.now.depth) (read.cond c.args.self.now.depth) (read.query c.args.self.now.depth) (read.table c.args.self.now.depth) n (shown.cond c.negs.left.value) (token_list c.negs.rest.now)) _ c.negs._turn c.negs-test.true c.negs.invariant in
+    e ∙ rw (c.in-Some.ensures.found, c.in_ok-right-in-Some.ensures, c.in_ok-left-in-Some.ensures) refl

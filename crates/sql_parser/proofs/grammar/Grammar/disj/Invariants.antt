@@ -7,4 +7,4 @@ use Rattle.sql_parser.proofs.grammar.Grammar.disj.Given as goal
 abbrev pub invariant-conjs : goal.invariant-conjs
 invariant-conjs g l =
     read.disj (read.expr l.self.depth) (read.cond l.self.depth) (read.query l.self.depth) (read.table l.self.depth) (token_list l.ts)
-    ≡ read.more_conjs (read.expr l.self.depth) (read.cond l.self.depth) (read.query l.self.depth) (read.table l.self.depth) (l._turn-end - l._turn) (shown.cond l.left) (token_list l.rest)
+    ≡ read.more_conjs (read.expr l.self.depth) (read.cond l.self.depth) (read.query l.self.depth) (read.table l.self.depth) (l._turn-end - l._turn) (shown.cond l.left.value) (token_list l.rest)

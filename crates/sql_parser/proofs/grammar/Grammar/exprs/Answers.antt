@@ -6,8 +6,8 @@ use Rattle.sql_parser.proofs.grammar.Grammar.exprs.Goals as goal
 
 pub exprs-init : goal.exprs-init
 exprs-init g c =
-    rw (c.in_ok-first.ensures, c.in_ok-push.ensures.ok, c.new-exprs.ensures)
-    (exprs_first c.in_ok-first.first _ ∙ no_turn (λ n. exprs_then (c.in_ok-first.first ∷ []) (read.more_exprs (read.expr c.args.self.now.depth) (read.cond c.args.self.now.depth) (read.query c.args.self.now.depth) (read.table c.args.self.now.depth) n (token_list c.in_ok-first.after.now))) c.in_ok-first.after.now)
+    rw (c.in_ok-first.ensures, c.in_ok-push_boxed.ensures.ok, c.new-exprs.ensures)
+    (exprs_first c.in_ok-first.first.value _ ∙ no_turn (λ n. exprs_then (c.in_ok-first.first.value ∷ []) (read.more_exprs (read.expr c.args.self.now.depth) (read.cond c.args.self.now.depth) (read.query c.args.self.now.depth) (read.table c.args.self.now.depth) n (token_list c.in_ok-first.after.now))) c.in_ok-first.after.now)
 
 pub returns-in-None : goal.returns-in-None
 returns-in-None g c =
@@ -18,7 +18,7 @@ returns-in-None g c =
 pub exprs-preserved : goal.exprs-preserved
 exprs-preserved g c =
     let e = one_more (λ n. exprs_then c.exprs.exprs (read.more_exprs (read.expr c.args.self.now.depth) (read.cond c.args.self.now.depth) (read.query c.args.self.now.depth) (read.table c.args.self.now.depth) n (token_list c.exprs.rest.now))) _ c.exprs._turn c.exprs-test.true c.exprs.invariant in
-    e ∙ rw (c.in-Some.ensures.found, c.in_ok-item-in-Some.ensures, c.in_ok-push-in-Some.ensures.ok) (exprs_more c.exprs.exprs c.in_ok-item-in-Some.item _)
+    e ∙ rw (c.in-Some.ensures.found, c.in_ok-item-in-Some.ensures, c.in_ok-push_boxed-in-Some.ensures.ok) (exprs_more c.exprs.exprs c.in_ok-item-in-Some.item.value _)
 
 pub returns : goal.returns
 returns g c =

@@ -8,19 +8,19 @@ use Rattle.sql_parser.proofs.grammar.Grammar.sum.Goals as goal
 
 pub terms-init : goal.terms-init
 terms-init g c =
-    terms_begin (read.expr c.args.self.now.depth) (read.cond c.args.self.now.depth) (read.query c.args.self.now.depth) (read.table c.args.self.now.depth) (shown.expr c.in_ok-left.left) (token_list c.args.ts.now) (token_list c.in_ok-left.rest.now) c.in_ok-left.ensures
-    ∙ no_turn (λ n. read.more_terms (read.expr c.args.self.now.depth) (read.cond c.args.self.now.depth) (read.query c.args.self.now.depth) (read.table c.args.self.now.depth) n (shown.expr c.in_ok-left.left) (token_list c.in_ok-left.rest.now)) c.args.ts.now
+    terms_begin (read.expr c.args.self.now.depth) (read.cond c.args.self.now.depth) (read.query c.args.self.now.depth) (read.table c.args.self.now.depth) (shown.expr c.in_ok-left.left.value) (token_list c.args.ts.now) (token_list c.in_ok-left.rest.now) c.in_ok-left.ensures
+    ∙ no_turn (λ n. read.more_terms (read.expr c.args.self.now.depth) (read.cond c.args.self.now.depth) (read.query c.args.self.now.depth) (read.table c.args.self.now.depth) n (shown.expr c.in_ok-left.left.value) (token_list c.in_ok-left.rest.now)) c.args.ts.now
 
 pub returns-in-None : goal.returns-in-None
-returns-in-None g c = c.terms.invariant ∙ terms_stop (read.expr c.args.self.now.depth) (read.cond c.args.self.now.depth) (read.query c.args.self.now.depth) (read.table c.args.self.now.depth) _ (shown.expr c.terms.left) (token_list c.terms.rest.now) c.in-None.ensures
+returns-in-None g c = c.terms.invariant ∙ terms_stop (read.expr c.args.self.now.depth) (read.cond c.args.self.now.depth) (read.query c.args.self.now.depth) (read.table c.args.self.now.depth) _ (shown.expr c.terms.left.value) (token_list c.terms.rest.now) c.in-None.ensures
 
 pub returns-in_err-right-in-Some : goal.returns-in_err-right-in-Some
 returns-in_err-right-in-Some g c =
     let p = err_from_is_err_and c.from_residual-in_err-right-in-Some.result c.from_residual-in_err-right-in-Some.ensures.1 in
-    let e = one_more (λ n. read.more_terms (read.expr c.args.self.now.depth) (read.cond c.args.self.now.depth) (read.query c.args.self.now.depth) (read.table c.args.self.now.depth) n (shown.expr c.terms.left) (token_list c.terms.rest.now)) _ c.terms._turn c.terms-test.true c.terms.invariant in
-    rw (p.1, p.2) (fails expr_seen expr_seen _ _ _ (λ none. e ∙ rw (terms_go (read.expr c.args.self.now.depth) (read.cond c.args.self.now.depth) (read.query c.args.self.now.depth) (read.table c.args.self.now.depth) _ (shown.expr c.terms.left) c.in-Some.op (token_list c.terms.rest.now) (token_list c.in-Some.after.now) c.in-Some.ensures, none) refl) c.in_err-right-in-Some.ensures)
+    let e = one_more (λ n. read.more_terms (read.expr c.args.self.now.depth) (read.cond c.args.self.now.depth) (read.query c.args.self.now.depth) (read.table c.args.self.now.depth) n (shown.expr c.terms.left.value) (token_list c.terms.rest.now)) _ c.terms._turn c.terms-test.true c.terms.invariant in
+    rw (p.1, p.2) (fails expr_seen expr_seen _ _ _ (λ none. e ∙ rw (terms_go (read.expr c.args.self.now.depth) (read.cond c.args.self.now.depth) (read.query c.args.self.now.depth) (read.table c.args.self.now.depth) _ (shown.expr c.terms.left.value) c.in-Some.op (token_list c.terms.rest.now) (token_list c.in-Some.after.now) c.in-Some.ensures, none) refl) c.in_err-right-in-Some.ensures)
 
 pub terms-preserved : goal.terms-preserved
 terms-preserved g c =
-    let e = one_more (λ n. read.more_terms (read.expr c.args.self.now.depth) (read.cond c.args.self.now.depth) (read.query c.args.self.now.depth) (read.table c.args.self.now.depth) n (shown.expr c.terms.left) (token_list c.terms.rest.now)) _ c.terms._turn c.terms-test.true c.terms.invariant in
-    e ∙ rw (terms_go (read.expr c.args.self.now.depth) (read.cond c.args.self.now.depth) (read.query c.args.self.now.depth) (read.table c.args.self.now.depth) _ (shown.expr c.terms.left) c.in-Some.op (token_list c.terms.rest.now) (token_list c.in-Some.after.now) c.in-Some.ensures, c.in_ok-right-in-Some.ensures, c.in_ok-new-in-Some.ensures.ok, c.in_ok-new-in-Some-2.ensures.ok) refl
+    let e = one_more (λ n. read.more_terms (read.expr c.args.self.now.depth) (read.cond c.args.self.now.depth) (read.query c.args.self.now.depth) (read.table c.args.self.now.depth) n (shown.expr c.terms.left.value) (token_list c.terms.rest.now)) _ c.terms._turn c.terms-test.true c.terms.invariant in
+    e ∙ rw (terms_go (read.expr c.args.self.now.depth) (read.cond c.args.self.now.depth) (read.query c.args.self.now.depth) (read.table c.args.self.now.depth) _ (shown.expr c.terms.left.value) c.in-Some.op (token_list c.terms.rest.now) (token_list c.in-Some.after.now) c.in-Some.ensures, c.in_ok-right-in-Some.ensures, c.in_ok-left-in-Some.ensures) refl

@@ -10,9 +10,9 @@ use Rattle.sql_parser.proofs.grammar.Grammar.tables.Goals as goal
 
 pub tables-init : goal.tables-init
 tables-init g c =
-    tables_begin (read.expr c.args.self.now.depth) (read.cond c.args.self.now.depth) (read.query c.args.self.now.depth) (read.table c.args.self.now.depth) (token_list c.args.ts.now) (shown.table c.in_ok-table_first.table_first) c.in_ok-table_first.after_first.now c.in_ok-table_first.ensures
+    tables_begin (read.expr c.args.self.now.depth) (read.cond c.args.self.now.depth) (read.query c.args.self.now.depth) (read.table c.args.self.now.depth) (token_list c.args.ts.now) (shown.table c.in_ok-table_first.table_first.value) c.in_ok-table_first.after_first.now c.in_ok-table_first.ensures
     ∙ ap (λ xs. mapped (append_tables (shown.table_list xs)) (read.more_tables (read.expr c.args.self.now.depth) (read.cond c.args.self.now.depth) (read.query c.args.self.now.depth) (read.table c.args.self.now.depth) (length c.in_ok-table_first.after_first.now - 0) (token_list c.in_ok-table_first.after_first.now)))
-    (sym (c.in_ok-push.ensures.ok ∙ ap (λ xs. xs ++ c.in_ok-table_first.table_first ∷ []) c.new-tables.ensures))
+    (sym (c.in_ok-push_boxed.ensures.ok ∙ ap (λ xs. xs ++ c.in_ok-table_first.table_first.value ∷ []) c.new-tables.ensures))
 
 pub returns-in-None : goal.returns-in-None
 returns-in-None g c =
@@ -29,7 +29,7 @@ returns-in_err-next-in-Some g c =
 pub tables-preserved : goal.tables-preserved
 tables-preserved g c =
     let e = one_more (λ n. mapped (append_tables (shown.table_list c.tables.tables)) (read.more_tables (read.expr c.args.self.now.depth) (read.cond c.args.self.now.depth) (read.query c.args.self.now.depth) (read.table c.args.self.now.depth) n (token_list c.tables.rest.now))) _ c.tables._turn c.tables-test.true c.tables.invariant in
-    e ∙ rw (c.in-Some.ensures.found, c.in_ok-next-in-Some.ensures, c.in_ok-push-in-Some.ensures.ok, table_one c.tables.tables c.in_ok-next-in-Some.next) (next_table (shown.table_list c.tables.tables) (shown.table c.in_ok-next-in-Some.next) _)
+    e ∙ rw (c.in-Some.ensures.found, c.in_ok-next-in-Some.ensures, c.in_ok-push_boxed-in-Some.ensures.ok, table_one c.tables.tables c.in_ok-next-in-Some.next.value) (next_table (shown.table_list c.tables.tables) (shown.table c.in_ok-next-in-Some.next.value) _)
 
 pub returns : goal.returns
 returns g c =

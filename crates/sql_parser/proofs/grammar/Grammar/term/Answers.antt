@@ -8,19 +8,19 @@ use Rattle.sql_parser.proofs.grammar.Grammar.term.Goals as goal
 
 pub factors-init : goal.factors-init
 factors-init g c =
-    factors_begin (read.expr c.args.self.now.depth) (read.cond c.args.self.now.depth) (read.query c.args.self.now.depth) (read.table c.args.self.now.depth) (shown.expr c.in_ok-left.left) (token_list c.args.ts.now) (token_list c.in_ok-left.rest.now) c.in_ok-left.ensures
-    ∙ no_turn (λ n. read.more_factors (read.expr c.args.self.now.depth) (read.cond c.args.self.now.depth) (read.query c.args.self.now.depth) (read.table c.args.self.now.depth) n (shown.expr c.in_ok-left.left) (token_list c.in_ok-left.rest.now)) c.args.ts.now
+    factors_begin (read.expr c.args.self.now.depth) (read.cond c.args.self.now.depth) (read.query c.args.self.now.depth) (read.table c.args.self.now.depth) (shown.expr c.in_ok-left.left.value) (token_list c.args.ts.now) (token_list c.in_ok-left.rest.now) c.in_ok-left.ensures
+    ∙ no_turn (λ n. read.more_factors (read.expr c.args.self.now.depth) (read.cond c.args.self.now.depth) (read.query c.args.self.now.depth) (read.table c.args.self.now.depth) n (shown.expr c.in_ok-left.left.value) (token_list c.in_ok-left.rest.now)) c.args.ts.now
 
 pub returns-in-None : goal.returns-in-None
-returns-in-None g c = c.factors.invariant ∙ factors_stop (read.expr c.args.self.now.depth) (read.cond c.args.self.now.depth) (read.query c.args.self.now.depth) (read.table c.args.self.now.depth) _ (shown.expr c.factors.left) (token_list c.factors.rest.now) c.in-None.ensures
+returns-in-None g c = c.factors.invariant ∙ factors_stop (read.expr c.args.self.now.depth) (read.cond c.args.self.now.depth) (read.query c.args.self.now.depth) (read.table c.args.self.now.depth) _ (shown.expr c.factors.left.value) (token_list c.factors.rest.now) c.in-None.ensures
 
 pub returns-in_err-right-in-Some : goal.returns-in_err-right-in-Some
 returns-in_err-right-in-Some g c =
     let p = err_from_is_err_and c.from_residual-in_err-right-in-Some.result c.from_residual-in_err-right-in-Some.ensures.1 in
-    let e = one_more (λ n. read.more_factors (read.expr c.args.self.now.depth) (read.cond c.args.self.now.depth) (read.query c.args.self.now.depth) (read.table c.args.self.now.depth) n (shown.expr c.factors.left) (token_list c.factors.rest.now)) _ c.factors._turn c.factors-test.true c.factors.invariant in
-    rw (p.1, p.2) (fails expr_seen expr_seen _ _ _ (λ none. e ∙ rw (factors_go (read.expr c.args.self.now.depth) (read.cond c.args.self.now.depth) (read.query c.args.self.now.depth) (read.table c.args.self.now.depth) _ (shown.expr c.factors.left) c.in-Some.op (token_list c.factors.rest.now) (token_list c.in-Some.after.now) c.in-Some.ensures, none) refl) c.in_err-right-in-Some.ensures)
+    let e = one_more (λ n. read.more_factors (read.expr c.args.self.now.depth) (read.cond c.args.self.now.depth) (read.query c.args.self.now.depth) (read.table c.args.self.now.depth) n (shown.expr c.factors.left.value) (token_list c.factors.rest.now)) _ c.factors._turn c.factors-test.true c.factors.invariant in
+    rw (p.1, p.2) (fails expr_seen expr_seen _ _ _ (λ none. e ∙ rw (factors_go (read.expr c.args.self.now.depth) (read.cond c.args.self.now.depth) (read.query c.args.self.now.depth) (read.table c.args.self.now.depth) _ (shown.expr c.factors.left.value) c.in-Some.op (token_list c.factors.rest.now) (token_list c.in-Some.after.now) c.in-Some.ensures, none) refl) c.in_err-right-in-Some.ensures)
 
 pub factors-preserved : goal.factors-preserved
 factors-preserved g c =
-    let e = one_more (λ n. read.more_factors (read.expr c.args.self.now.depth) (read.cond c.args.self.now.depth) (read.query c.args.self.now.depth) (read.table c.args.self.now.depth) n (shown.expr c.factors.left) (token_list c.factors.rest.now)) _ c.factors._turn c.factors-test.true c.factors.invariant in
-    e ∙ rw (factors_go (read.expr c.args.self.now.depth) (read.cond c.args.self.now.depth) (read.query c.args.self.now.depth) (read.table c.args.self.now.depth) _ (shown.expr c.factors.left) c.in-Some.op (token_list c.factors.rest.now) (token_list c.in-Some.after.now) c.in-Some.ensures, c.in_ok-right-in-Some.ensures, c.in_ok-new-in-Some.ensures.ok, c.in_ok-new-in-Some-2.ensures.ok) refl
+    let e = one_more (λ n. read.more_factors (read.expr c.args.self.now.depth) (read.cond c.args.self.now.depth) (read.query c.args.self.now.depth) (read.table c.args.self.now.depth) n (shown.expr c.factors.left.value) (token_list c.factors.rest.now)) _ c.factors._turn c.factors-test.true c.factors.invariant in
+    e ∙ rw (factors_go (read.expr c.args.self.now.depth) (read.cond c.args.self.now.depth) (read.query c.args.self.now.depth) (read.table c.args.self.now.depth) _ (shown.expr c.factors.left.value) c.in-Some.op (token_list c.factors.rest.now) (token_list c.in-Some.after.now) c.in-Some.ensures, c.in_ok-right-in-Some.ensures, c.in_ok-left-in-Some.ensures) refl

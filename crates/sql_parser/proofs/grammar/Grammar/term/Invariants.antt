@@ -7,4 +7,4 @@ use Rattle.sql_parser.proofs.grammar.Grammar.term.Given as goal
 abbrev pub invariant-factors : goal.invariant-factors
 invariant-factors g l =
     read.term (read.expr l.self.depth) (read.cond l.self.depth) (read.query l.self.depth) (read.table l.self.depth) (token_list l.ts)
-    ≡ read.more_factors (read.expr l.self.depth) (read.cond l.self.depth) (read.query l.self.depth) (read.table l.self.depth) (l._turn-end - l._turn) (shown.expr l.left) (token_list l.rest)
+    ≡ read.more_factors (read.expr l.self.depth) (read.cond l.self.depth) (read.query l.self.depth) (read.table l.self.depth) (l._turn-end - l._turn) (shown.expr l.left.value) (token_list l.rest)

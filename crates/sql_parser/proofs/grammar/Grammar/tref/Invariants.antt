@@ -7,4 +7,4 @@ use Rattle.sql_parser.proofs.grammar.Grammar.tref.Given as goal
 abbrev pub invariant-joins : goal.invariant-joins
 invariant-joins g l =
     read.tref (read.expr l.self.depth) (read.cond l.self.depth) (read.query l.self.depth) (read.table l.self.depth) (token_list l.ts)
-    ≡ read.more_joins (read.expr l.self.depth) (read.cond l.self.depth) (read.query l.self.depth) (read.table l.self.depth) (l._turn-end - l._turn) (shown.table l.left) (token_list l.rest)
+    ≡ read.more_joins (read.expr l.self.depth) (read.cond l.self.depth) (read.query l.self.depth) (read.table l.self.depth) (l._turn-end - l._turn) (shown.table l.left.value) (token_list l.rest)

@@ -1,0 +1,6 @@
+use Rattle.sql_text.specs.Tokens.{token_list}
+use Rattle.sql_parser.proofs.TurnsSchema.{no_constraint}
+use Rattle.sql_parser.proofs.elements.constraint_at.Goals as goal
+
+pub returns-in_default-after_unique-clause-none : goal.returns-in_default-after_unique-clause-none
+returns-in_default-after_unique-clause-none c = no_constraint (token_list c.args.ts.now) c.in_default.ensures.none c.in_default-after_primary_key.ensures.none c.in_default-after_unique.ensures.none
