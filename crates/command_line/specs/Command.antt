@@ -59,8 +59,12 @@ bare_top = record (new_app (codes "qgm")).top {
   disable_version_flag = true;
 }
 
+-- the command without commands below it
+abbrev pub top_app : App
+top_app = record { top = bare_top; subs = [] }
+
 -- the whole command
 unfoldable pub line_app : App
 line_app = with_subcommand (with_subcommand (with_subcommand
-    (record { top = bare_top; subs = [] })
+    top_app
     (table_app (codes "run")).top) (table_app (codes "explain")).top) gen_app.top

@@ -139,7 +139,7 @@ fn known_line<'a>(alloc: Global, words: &'a [String]) -> Result<Line<'a>, WordsR
     let Ok(command) = line_command(alloc) else {
         return Err(WordsRefusal::Memory);
     };
-    let matches = match command.try_get_matches_from(words) {
+    let matches = match Box::into_inner(command).try_get_matches_from(words) {
         Ok(matches) => matches,
         Err(error) => return Err(refusal_of(error.kind())),
     };

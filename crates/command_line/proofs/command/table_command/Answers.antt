@@ -7,7 +7,7 @@ use Rattle.command_line.proofs.command.table_command.Goals as goal
 pub returns-clause-shape : goal.returns-clause-shape
 unfolding table_app
 returns-clause-shape c =
-    let a1 = c.in_ok-first.ensures.shape c.text_place.ensures.local ∙ ap₂ with_rule c.new-bare.ensures.app c.text_place.ensures.rule in
-    let a2 = c.in_ok-second.ensures.shape c.text_place-2.ensures.local ∙ ap₂ with_rule a1 c.text_place-2.ensures.rule in
-    let a3 = c.in_ok-third.ensures.shape c.text_place-3.ensures.local ∙ ap₂ with_rule a2 c.text_place-3.ensures.rule in
+    let a1 = c.in_ok-first.ensures.shape ∙ ap₂ with_rule c.in_ok-bare.ensures.shape c.text_place.ensures.rule in
+    let a2 = c.in_ok-second.ensures.shape ∙ ap₂ with_rule a1 c.text_place-2.ensures.rule in
+    let a3 = c.in_ok-third.ensures.shape ∙ ap₂ with_rule a2 c.text_place-3.ensures.rule in
     IfOk-weaker c.with_options.result _ _ (λ r h. h ∙ ap with_option_rules a3) c.with_options.ensures.shape
