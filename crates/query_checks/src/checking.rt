@@ -5,6 +5,7 @@ ghost use Rattle.sql_catalog.specs.Shown as declared;
 ghost use Rattle.query_checks.specs.Columns.{columns};
 ghost use Rattle.query_checks.specs.Faults.{text_fault};
 ghost use Rattle.query_checks.specs.Numbers.{number};
+ghost use Rattle.query_checks.specs.Rules as rule;
 ghost use Rattle.query_checks.specs.Shown.{heads, least_fault};
 ghost use Rattle.query_checks.specs.Views as spec;
 ghost use Rattle.query_checks.specs.declared.refusal.QueryRefusal.TheVariants as QueryRefusal;
@@ -21,15 +22,27 @@ use crate::scope::Scopes;
 use crate::typed::Output;
 use crate::view::{ViewHead, view_heads};
 use shared_types::OutOfMemory;
-use sql_ast::QueryText;
+use sql_ast::{QueryText, Sort};
 use sql_catalog::{Catalog, readers};
 use sqlite_items::Items;
 use std::alloc::Global;
 
 /// The views of a catalog with their columns, all of which are valid.
-#[derive(Debug, Drop)]
+#[derive(Drop)]
 pub struct ViewHeads {
     pub list: Items<ViewHead>,
+}
+
+// A query's columns, and its fault with that of its ORDER BY.
+fn ordered(found: Output, sorts: &[Sort]) -> Output
+    ensures columns { result.columns ≡ found.columns }
+    ensures fault { number result.fault ≡ rule.lesser (number found.fault) (rule.keys_unfit found.columns sorts.now) }
+{
+    let keys = keys_unfit(found.columns.as_slice(), sorts);
+    Output {
+        fault: lesser(found.fault, keys),
+        columns: found.columns,
+    }
 }
 
 // The columns of a query's text, and its fault.
@@ -38,11 +51,7 @@ fn text_output(alloc: Global, text: &QueryText, known: &Known<'_>) -> Result<Out
     ensures fault { IfOk result (λ x. number x.fault ≡ text_fault (heads known.now) (written.query_text text.now)) }
 {
     let found = query(alloc, &text.query, &Scopes::Outermost, known)?;
-    let keys = keys_unfit(found.columns.as_slice(), text.order.as_slice());
-    Ok(Output {
-        fault: lesser(found.fault, keys),
-        columns: found.columns,
-    })
+    Ok(ordered(found, text.order.as_slice()))
 }
 
 /// The output columns of a valid query, over the views of its catalog. Else it is the refusal of the

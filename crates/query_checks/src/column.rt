@@ -13,14 +13,14 @@ use sqlite_items::Items;
 use std::alloc::Global;
 
 /// A column: its name, if it has one, and its type, where that is known.
-#[derive(Debug, Drop)]
+#[derive(Drop)]
 pub struct TypedColumn {
     pub name: Option<Name>,
     pub sort: Option<SqlType>,
 }
 
 /// A table of a FROM under its range name, with its columns (SQL-92, 6.3).
-#[derive(Debug, Drop)]
+#[derive(Drop)]
 pub struct TypedRange {
     pub name: Name,
     pub columns: Items<TypedColumn>,

@@ -2,7 +2,6 @@
 ghost use Rattle.std.specs.Prelude.{◌≡◌, ◌+◌, ℕ, map, IfOk};
 ghost use Rattle.std.specs.List.{list_any};
 ghost use Rattle.sql_ast.specs.Shown as written;
-ghost use Rattle.sql_ast.specs.Names.{contains};
 ghost use Rattle.sql_catalog.specs.Nesting.{readers_of};
 ghost use Rattle.sql_catalog.specs.Shown as declared;
 ghost use Rattle.sql_meaning.specs.Scopes.{first_of};
@@ -12,6 +11,7 @@ ghost use Rattle.query_checks.specs.Views as views;
 
 use crate::fault::order;
 use crate::known::Known;
+use crate::operands::contains;
 use crate::view::view_fault;
 use shared_types::OutOfMemory;
 use sql_ast::ViewDecl;
@@ -23,13 +23,6 @@ use std::alloc::Global;
 /// A mark for each view of a catalog.
 pub(crate) type Marks = Items<bool>;
 
-// Whether one of these names is this name.
-fn has_name(names: &[Name], name: &Name) -> bool
-    ensures { result ≡ contains names.now name.now }
-{
-    names.iter().any(|other| *other == *name)
-}
-
 // Whether one of these views is marked and has one of these names.
 fn reads_marked(reads: &[Name], views: &[Reader], marks: &[bool]) -> bool
     ensures { result ≡ spec.reads_marked reads.now views.now marks.now }
@@ -39,7 +32,7 @@ fn reads_marked(reads: &[Name], views: &[Reader], marks: &[bool]) -> bool
         match rest {
             [] => return false,
             [mark, others @ ..] => {
-                if *mark && has_name(reads, &view.name) {
+                if *mark && contains(reads, &view.name) {
                     return true;
                 }
                 rest = others;
@@ -87,7 +80,7 @@ pub(crate) fn deeper(alloc: Global, views: &[Reader], marks: &[bool]) -> Result<
 }
 
 /// A view that isn't valid: its name, and the number of its fault.
-#[derive(Debug, Drop)]
+#[derive(Drop)]
 pub(crate) struct Faulty {
     pub view: Name,
     pub number: u8,

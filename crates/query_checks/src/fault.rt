@@ -6,7 +6,7 @@ ghost use Rattle.query_checks.specs.Rules as spec;
 use crate::site::Site;
 
 /// Why a query isn't valid, the first of several in this order.
-#[derive(Clone, Copy, Debug, PartialEq, Eq)]
+#[derive(Clone, Copy)]
 pub(crate) enum Fault {
     UnknownTable,
     DuplicateRange,

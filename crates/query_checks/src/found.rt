@@ -14,7 +14,7 @@ use sql_text::Name;
 use sql_value::SqlType;
 
 /// What a name finds among columns: no column, one of this type, or several, the first of this type.
-#[derive(Clone, Copy, Debug)]
+#[derive(Clone, Copy)]
 pub(crate) enum Found {
     Nothing,
     One(Option<SqlType>),

@@ -52,7 +52,7 @@ pub(crate) fn combined(a: Output, b: &Output) -> Output
 }
 
 // Whether one of these names is this name.
-fn contains(list: &[Name], name: &Name) -> bool
+pub(crate) fn contains(list: &[Name], name: &Name) -> bool
     ensures { result ≡ names.contains list.now name.now }
 {
     list.iter().any(|other| *other == *name)
@@ -72,11 +72,20 @@ fn has_twins(list: &[Name]) -> bool
     false
 }
 
+// The fault of the length of a column list; none is written where it is empty.
+fn list_unequal(list: &[Name], columns: &[TypedColumn]) -> Option<Fault>
+    ensures { number result ≡ rule.list_unequal list.now columns.now }
+{
+    match list {
+        [] => None,
+        [_, ..] => fault_if(list.len() != columns.len(), Fault::Degree),
+    }
+}
+
 /// The fault of a column list over columns; none is written where it is empty.
 pub(crate) fn list_fault(list: &[Name], columns: &[TypedColumn]) -> Option<Fault>
     ensures { number result ≡ spec.list_fault list.now columns.now }
 {
     let equal = fault_if(has_twins(list), Fault::DuplicateRange);
-    let unequal = !list.is_empty() && list.len() != columns.len();
-    lesser(equal, fault_if(unequal, Fault::Degree))
+    lesser(equal, list_unequal(list, columns))
 }

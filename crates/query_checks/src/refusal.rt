@@ -11,7 +11,7 @@ use thiserror::Error;
 
 /// Why a query is not valid. Of several causes it is the first in this order; want of memory has no
 /// place in it.
-#[derive(Clone, Copy, Debug, PartialEq, Eq, Error)]
+#[derive(Clone, Copy, Debug, Error)]
 pub enum QueryRefusal {
     /// A table's name is neither a table nor a view (SQL-92, 6.3).
     #[error("there is no such table")]

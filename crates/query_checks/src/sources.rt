@@ -56,6 +56,16 @@ fn one(
     })
 }
 
+// One range of these columns, renamed by a column list where one is written.
+fn ranged(alloc: Global, name: &Name, list: &[Name], found: Output) -> Result<Source, OutOfMemory>
+    ensures tables { IfOk result (λ s. s.tables ≡ types.range name.now (types.renamed list.now found.columns) ∷ []) }
+    ensures fault { IfOk result (λ s. number s.fault ≡ rule.lesser (number found.fault) (spec.list_fault list.now found.columns)) }
+{
+    let fault = lesser(found.fault, list_fault(list, found.columns.as_slice()));
+    let columns = renamed(alloc, list, found.columns)?;
+    one(alloc, name, columns, fault)
+}
+
 // A subquery of a FROM.
 pub(crate) fn derived(
     alloc: Global,
@@ -65,10 +75,7 @@ pub(crate) fn derived(
     ensures tables { IfOk result (λ s. s.tables ≡ types.derived_range alias.now found.columns ∷ []) }
     ensures fault { IfOk result (λ s. number s.fault ≡ rule.lesser (number found.fault) (spec.list_fault alias.now.columns found.columns)) }
 {
-    let list = alias.columns.as_slice();
-    let fault = lesser(found.fault, list_fault(list, found.columns.as_slice()));
-    let columns = renamed(alloc, list, found.columns)?;
-    one(alloc, &alias.name, columns, fault)
+    ranged(alloc, &alias.name, alias.columns.as_slice(), found)
 }
 
 // The range name of a table: its alias, else the table's name.
@@ -119,10 +126,7 @@ pub(crate) fn named(
     ensures fault { IfOk result (λ s. number s.fault ≡ spec.named_fault alias.now (heads known.now name.now)) }
 {
     let found = table(alloc, name, known)?;
-    let list = column_list(alias);
-    let fault = lesser(found.fault, list_fault(list, found.columns.as_slice()));
-    let columns = renamed(alloc, list, found.columns)?;
-    one(alloc, range_name(name, alias), columns, fault)
+    ranged(alloc, range_name(name, alias), column_list(alias), found)
 }
 
 // Whether one of these ranges has this name.

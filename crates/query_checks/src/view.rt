@@ -22,7 +22,7 @@ use sqlite_items::Items;
 use std::alloc::Global;
 
 /// A view: its name and its columns.
-#[derive(Debug, Drop)]
+#[derive(Drop)]
 pub struct ViewHead {
     pub name: Name,
     pub columns: Columns,
