@@ -3,6 +3,7 @@ ghost use Rattle.std.specs.Prelude.{◌≡◌, ℕ, List, [], None, Some, IfOk, 
 ghost use Rattle.sql_ast.specs.Shown as written;
 ghost use Rattle.sql_catalog.specs.Shown as declared;
 ghost use Rattle.query_checks.specs.Columns.{columns};
+ghost use Rattle.query_checks.specs.Depths.{refusal};
 ghost use Rattle.query_checks.specs.Faults.{text_fault};
 ghost use Rattle.query_checks.specs.Numbers.{number};
 ghost use Rattle.query_checks.specs.Rules as rule;
@@ -13,7 +14,7 @@ ghost use Rattle.query_checks.specs.declared.refusal.ViewRefusal.TheVariants as 
 
 use crate::checks::query;
 use crate::column::Columns;
-use crate::depth::refused_view;
+use crate::depth::{Faulty, refused_view};
 use crate::fault::lesser;
 use crate::known::Known;
 use crate::order::keys_unfit;
@@ -54,6 +55,26 @@ fn text_output(alloc: Global, text: &QueryText, known: &Known<'_>) -> Result<Out
     Ok(ordered(found, text.order.as_slice()))
 }
 
+// The columns of a query without fault, else the refusal that its fault is.
+fn accepted(found: Output) -> Result<Columns, QueryRefusal>
+    ensures valid { IfOk result (λ _. number found.fault ≡ 0) }
+    ensures columns { IfOk result (λ all. all ≡ found.columns) }
+    ensures unknown_table { IsErrOf result QueryRefusal.UnknownTable → number found.fault ≡ 6 }
+    ensures duplicate_range { IsErrOf result QueryRefusal.DuplicateRange → number found.fault ≡ 7 }
+    ensures unknown_column { IsErrOf result QueryRefusal.UnknownColumn → number found.fault ≡ 8 }
+    ensures ambiguous { IsErrOf result QueryRefusal.Ambiguous → number found.fault ≡ 9 }
+    ensures type_mismatch { IsErrOf result QueryRefusal.TypeMismatch → number found.fault ≡ 10 }
+    ensures degree { IsErrOf result QueryRefusal.Degree → number found.fault ≡ 11 }
+    ensures grouping { IsErrOf result QueryRefusal.Grouping → number found.fault ≡ 12 }
+    ensures aggregate_place { IsErrOf result QueryRefusal.AggregatePlace → number found.fault ≡ 13 }
+    ensures order_column { IsErrOf result QueryRefusal.OrderColumn → number found.fault ≡ 14 }
+{
+    match refused(found.fault) {
+        Ok(()) => Ok(found.columns),
+        Err(refusal) => Err(refusal),
+    }
+}
+
 /// The output columns of a valid query, over the views of its catalog. Else it is the refusal of the
 /// least number that holds of the query. `Memory` may come in place of any of these.
 pub fn check_query(
@@ -80,8 +101,29 @@ pub fn check_query(
         views: views.list.as_slice(),
     };
     let found = text_output(alloc, text, &known)?;
-    refused(found.fault)?;
-    Ok(found.columns)
+    accepted(found)
+}
+
+// The views of a catalog with their columns, and the refusal of the first that isn't valid.
+#[derive(Drop)]
+struct CheckedViews {
+    list: Items<ViewHead>,
+    faulty: Option<Faulty>,
+}
+
+// The views of a catalog with their columns, and the first of them that isn't valid.
+fn checked_views(alloc: Global, catalog: &Catalog) -> Result<CheckedViews, OutOfMemory>
+    ensures heads { IfOk result (λ x. x.list ≡ spec.view_heads (declared.catalog catalog.now)) }
+    ensures faulty { IfOk result (λ x. refusal x.faulty ≡ spec.view_refusal (declared.catalog catalog.now)) }
+{
+    let all = readers(alloc, catalog.views.as_slice())?;
+    let list = view_heads(alloc, catalog, all.as_slice())?;
+    let known = Known {
+        catalog,
+        views: list.as_slice(),
+    };
+    let faulty = refused_view(alloc, all.as_slice(), &known)?;
+    Ok(CheckedViews { list, faulty })
 }
 
 /// The views of a catalog with their columns. Else it is the first view, by nesting depth and then in
@@ -92,13 +134,8 @@ pub fn check_views(alloc: Global, catalog: &Catalog) -> Result<ViewHeads, ViewRe
     ensures valid { IfOk result (λ _. spec.view_refusal (declared.catalog catalog.now) ≡ None) }
     ensures refused { IfErr result (λ e. (name : List ℕ) → (n : ℕ) → e ≡ ViewRefusal.Refused name n → spec.view_refusal (declared.catalog catalog.now) ≡ Some (name, n)) }
 {
-    let all = readers(alloc, catalog.views.as_slice())?;
-    let list = view_heads(alloc, catalog, all.as_slice())?;
-    let known = Known {
-        catalog,
-        views: list.as_slice(),
-    };
-    match refused_view(alloc, all.as_slice(), &known)? {
+    let CheckedViews { list, faulty } = checked_views(alloc, catalog)?;
+    match faulty {
         Some(found) => Err(ViewRefusal::Refused {
             view: found.view,
             number: found.number,
