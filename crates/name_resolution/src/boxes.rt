@@ -21,6 +21,19 @@ pub(crate) fn one<T: Drop>(alloc: Global, item: T) -> Result<Items<T>, OutOfMemo
     Ok(list)
 }
 
+/// A list of two that are in boxes.
+pub(crate) fn two<T: Drop>(
+    alloc: Global,
+    first: Box<T>,
+    second: Box<T>,
+) -> Result<Items<T>, OutOfMemory>
+    ensures { IfOk result (λ list. list ≡ first.value ∷ second.value ∷ []) }
+{
+    let mut list = one(alloc, Box::into_inner(first))?;
+    push(&mut list, Box::into_inner(second))?;
+    Ok(list)
+}
+
 /// Adds an item at the end.
 pub(crate) fn push<T: Drop>(list: &mut Items<T>, item: T) -> Result<(), OutOfMemory>
     ensures { OnOk result (list.new ≡ list.old ++ item ∷ []) }

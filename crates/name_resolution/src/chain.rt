@@ -1,10 +1,11 @@
 // Chains of operators, which are one list however long they are.
-ghost use Rattle.std.specs.Prelude.{◌≡◌, [], ◌∷◌, true, false, IfOk};
+ghost use Rattle.std.specs.Prelude.{◌≡◌, true, false, IfOk, OnOk};
 ghost use Rattle.sql_meaning.specs.ResolvedShown as shown;
+ghost use Rattle.sql_meaning.specs.ResolvedTrees as tree;
 ghost use Rattle.name_resolution.specs.Forms as forms;
 ghost use Rattle.name_resolution.specs.Resolved as spec;
 
-use crate::boxes::{boxed, one, push};
+use crate::boxes::{boxed, one, push, two};
 use shared_types::OutOfMemory;
 use sql_ast::{AdditiveOp, DataType, MultiplicativeOp, Sign};
 use sql_meaning::{Addend, Multiplier, Test, Value};
@@ -34,26 +35,61 @@ fn sums(x: &Value) -> bool
     }
 }
 
+// Adds an operator and its right operand at the end.
+#[tactic(auto, using(crate::proofs::Pushed::addends_pushed))]
+fn push_addend(
+    addends: &mut Items<Addend>,
+    op: AdditiveOp,
+    right: Box<Value>,
+) -> Result<(), OutOfMemory>
+    ensures { OnOk result (shown.addend_list addends.new ≡ spec.more_addends (shown.addend_list addends.old) op (shown.value right.value)) }
+{
+    let value = Box::into_inner(right);
+    push(addends, Addend { op, value })
+}
+
+// One operator and its right operand.
+fn one_addend(
+    alloc: Global,
+    op: AdditiveOp,
+    right: Box<Value>,
+) -> Result<Items<Addend>, OutOfMemory>
+    ensures { IfOk result (λ addends. shown.addend_list addends ≡ tree.one_addend op (shown.value right.value) tree.no_addend) }
+{
+    let value = Box::into_inner(right);
+    one(alloc, Addend { op, value })
+}
+
 // A chain with one more operand.
-#[tactic(auto, using(sql_meaning::specs::ResolvedShown::lists, crate::proofs::Pushed::addends_pushed))]
-fn longer_sum(alloc: Global, left: Box<Value>, next: Addend) -> Result<Box<Value>, OutOfMemory>
+#[tactic(auto, using(sql_meaning::specs::ResolvedShown::lists))]
+fn longer_sum(
+    alloc: Global,
+    left: Box<Value>,
+    op: AdditiveOp,
+    right: Box<Value>,
+) -> Result<Box<Value>, OutOfMemory>
     requires { forms.sums (shown.value left.value) ≡ true }
-    ensures { IfOk result (λ v. shown.value v.value ≡ spec.plus (shown.value left.value) next.op (shown.value next.value)) }
+    ensures { IfOk result (λ v. shown.value v.value ≡ spec.plus (shown.value left.value) op (shown.value right.value)) }
 {
     let Value::Sum(first, mut addends) = Box::into_inner(left) else {
         unreachable!()
     };
-    push(&mut addends, next)?;
+    push_addend(&mut addends, op, right)?;
     boxed(alloc, Value::Sum(first, addends))
 }
 
 // A chain of two operands.
 #[tactic(auto, using(sql_meaning::specs::ResolvedShown::lists, crate::proofs::Pushed::plus_first))]
-fn first_sum(alloc: Global, left: Box<Value>, next: Addend) -> Result<Box<Value>, OutOfMemory>
+fn first_sum(
+    alloc: Global,
+    left: Box<Value>,
+    op: AdditiveOp,
+    right: Box<Value>,
+) -> Result<Box<Value>, OutOfMemory>
     requires { forms.sums (shown.value left.value) ≡ false }
-    ensures { IfOk result (λ v. shown.value v.value ≡ spec.plus (shown.value left.value) next.op (shown.value next.value)) }
+    ensures { IfOk result (λ v. shown.value v.value ≡ spec.plus (shown.value left.value) op (shown.value right.value)) }
 {
-    let addends = one(alloc, next)?;
+    let addends = one_addend(alloc, op, right)?;
     boxed(alloc, Value::Sum(left, addends))
 }
 
@@ -66,12 +102,10 @@ pub(crate) fn sum(
 ) -> Result<Box<Value>, OutOfMemory>
     ensures { IfOk result (λ v. shown.value v.value ≡ spec.plus (shown.value left.value) op (shown.value right.value)) }
 {
-    let value = Box::into_inner(right);
-    let next = Addend { op, value };
     if sums(&left) {
-        longer_sum(alloc, left, next)
+        longer_sum(alloc, left, op, right)
     } else {
-        first_sum(alloc, left, next)
+        first_sum(alloc, left, op, right)
     }
 }
 
@@ -97,20 +131,46 @@ fn multiplies(x: &Value) -> bool
     }
 }
 
+// Adds an operator and its right operand at the end.
+#[tactic(auto, using(crate::proofs::Pushed::multipliers_pushed))]
+fn push_multiplier(
+    multipliers: &mut Items<Multiplier>,
+    op: MultiplicativeOp,
+    right: Box<Value>,
+) -> Result<(), OutOfMemory>
+    ensures { OnOk result (shown.multiplier_list multipliers.new ≡ spec.more_multipliers (shown.multiplier_list multipliers.old) op (shown.value right.value)) }
+{
+    let value = Box::into_inner(right);
+    push(multipliers, Multiplier { op, value })
+}
+
+// One operator and its right operand.
+fn one_multiplier(
+    alloc: Global,
+    op: MultiplicativeOp,
+    right: Box<Value>,
+) -> Result<Items<Multiplier>, OutOfMemory>
+    ensures { IfOk result (λ multipliers. shown.multiplier_list multipliers ≡ tree.one_multiplier op (shown.value right.value) tree.no_multiplier) }
+{
+    let value = Box::into_inner(right);
+    one(alloc, Multiplier { op, value })
+}
+
 // A chain with one more operand.
-#[tactic(auto, using(sql_meaning::specs::ResolvedShown::lists, crate::proofs::Pushed::multipliers_pushed))]
+#[tactic(auto, using(sql_meaning::specs::ResolvedShown::lists))]
 fn longer_product(
     alloc: Global,
     left: Box<Value>,
-    next: Multiplier,
+    op: MultiplicativeOp,
+    right: Box<Value>,
 ) -> Result<Box<Value>, OutOfMemory>
     requires { forms.multiplies (shown.value left.value) ≡ true }
-    ensures { IfOk result (λ v. shown.value v.value ≡ spec.times (shown.value left.value) next.op (shown.value next.value)) }
+    ensures { IfOk result (λ v. shown.value v.value ≡ spec.times (shown.value left.value) op (shown.value right.value)) }
 {
     let Value::Product(first, mut multipliers) = Box::into_inner(left) else {
         unreachable!()
     };
-    push(&mut multipliers, next)?;
+    push_multiplier(&mut multipliers, op, right)?;
     boxed(alloc, Value::Product(first, multipliers))
 }
 
@@ -119,12 +179,13 @@ fn longer_product(
 fn first_product(
     alloc: Global,
     left: Box<Value>,
-    next: Multiplier,
+    op: MultiplicativeOp,
+    right: Box<Value>,
 ) -> Result<Box<Value>, OutOfMemory>
     requires { forms.multiplies (shown.value left.value) ≡ false }
-    ensures { IfOk result (λ v. shown.value v.value ≡ spec.times (shown.value left.value) next.op (shown.value next.value)) }
+    ensures { IfOk result (λ v. shown.value v.value ≡ spec.times (shown.value left.value) op (shown.value right.value)) }
 {
-    let multipliers = one(alloc, next)?;
+    let multipliers = one_multiplier(alloc, op, right)?;
     boxed(alloc, Value::Product(left, multipliers))
 }
 
@@ -137,13 +198,19 @@ pub(crate) fn product(
 ) -> Result<Box<Value>, OutOfMemory>
     ensures { IfOk result (λ v. shown.value v.value ≡ spec.times (shown.value left.value) op (shown.value right.value)) }
 {
-    let value = Box::into_inner(right);
-    let next = Multiplier { op, value };
     if multiplies(&left) {
-        longer_product(alloc, left, next)
+        longer_product(alloc, left, op, right)
     } else {
-        first_product(alloc, left, next)
+        first_product(alloc, left, op, right)
     }
+}
+
+// Adds a condition at the end.
+#[tactic(auto, using(crate::proofs::Pushed::tests_pushed))]
+fn push_test(tests: &mut Items<Test>, p: Box<Test>) -> Result<(), OutOfMemory>
+    ensures { OnOk result (shown.test_list tests.new ≡ spec.more_tests (shown.test_list tests.old) (shown.test p.value)) }
+{
+    push(tests, Box::into_inner(p))
 }
 
 // Whether a condition is a chain of AND.
@@ -166,7 +233,7 @@ fn wants_all(p: &Test) -> bool
 }
 
 // A chain with one more operand.
-#[tactic(auto, using(sql_meaning::specs::ResolvedShown::lists, crate::proofs::Pushed::tests_pushed))]
+#[tactic(auto, using(sql_meaning::specs::ResolvedShown::lists))]
 fn longer_both(mut left: Box<Test>, right: Box<Test>) -> Result<Box<Test>, OutOfMemory>
     requires { forms.wants_all (shown.test left.value) ≡ true }
     ensures { IfOk result (λ p. shown.test p.value ≡ spec.both (shown.test left.value) (shown.test right.value)) }
@@ -174,7 +241,7 @@ fn longer_both(mut left: Box<Test>, right: Box<Test>) -> Result<Box<Test>, OutOf
     let Test::All(tests) = &mut *left else {
         unreachable!()
     };
-    push(tests, Box::into_inner(right))?;
+    push_test(tests, right)?;
     Ok(left)
 }
 
@@ -184,8 +251,7 @@ fn first_both(alloc: Global, left: Box<Test>, right: Box<Test>) -> Result<Box<Te
     requires { forms.wants_all (shown.test left.value) ≡ false }
     ensures { IfOk result (λ p. shown.test p.value ≡ spec.both (shown.test left.value) (shown.test right.value)) }
 {
-    let mut tests = one(alloc, Box::into_inner(left))?;
-    push(&mut tests, Box::into_inner(right))?;
+    let tests = two(alloc, left, right)?;
     boxed(alloc, Test::All(tests))
 }
 
@@ -224,7 +290,7 @@ fn wants_any(p: &Test) -> bool
 }
 
 // A chain with one more operand.
-#[tactic(auto, using(sql_meaning::specs::ResolvedShown::lists, crate::proofs::Pushed::tests_pushed))]
+#[tactic(auto, using(sql_meaning::specs::ResolvedShown::lists))]
 fn longer_either(mut left: Box<Test>, right: Box<Test>) -> Result<Box<Test>, OutOfMemory>
     requires { forms.wants_any (shown.test left.value) ≡ true }
     ensures { IfOk result (λ p. shown.test p.value ≡ spec.either (shown.test left.value) (shown.test right.value)) }
@@ -232,7 +298,7 @@ fn longer_either(mut left: Box<Test>, right: Box<Test>) -> Result<Box<Test>, Out
     let Test::Any(tests) = &mut *left else {
         unreachable!()
     };
-    push(tests, Box::into_inner(right))?;
+    push_test(tests, right)?;
     Ok(left)
 }
 
@@ -242,8 +308,7 @@ fn first_either(alloc: Global, left: Box<Test>, right: Box<Test>) -> Result<Box<
     requires { forms.wants_any (shown.test left.value) ≡ false }
     ensures { IfOk result (λ p. shown.test p.value ≡ spec.either (shown.test left.value) (shown.test right.value)) }
 {
-    let mut tests = one(alloc, Box::into_inner(left))?;
-    push(&mut tests, Box::into_inner(right))?;
+    let tests = two(alloc, left, right)?;
     boxed(alloc, Test::Any(tests))
 }
 

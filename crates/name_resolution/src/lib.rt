@@ -9,11 +9,13 @@ mod laws;
 mod names;
 mod order;
 mod place;
+mod queries;
 mod range;
 mod resolve;
 mod scope;
 mod span;
 mod stars;
+mod tables;
 mod text;
 mod views;
 

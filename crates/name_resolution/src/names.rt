@@ -1,5 +1,5 @@
 // The names of the columns of tables of a FROM and of select lists (SQL-92, 6.3 and 7.9).
-ghost use Rattle.std.specs.Prelude.{◌≡◌, ◌++◌, ◌∷◌, [], option_map, IfOk, OnOk};
+ghost use Rattle.std.specs.Prelude.{◌≡◌, ◌++◌, ◌∷◌, [], option_map, Some, IfOk, OnOk};
 ghost use Rattle.sql_ast.specs.Shown as written;
 ghost use Rattle.sql_meaning.specs.Names as spec;
 ghost use Rattle.sql_meaning.specs.Scopes.{columns_in, columns_of_range};
@@ -7,6 +7,7 @@ ghost use Rattle.name_resolution.specs.Places.{names_in};
 ghost use Rattle.name_resolution.specs.Resolved.{bare, named_range};
 ghost use Rattle.name_resolution.specs.Shapes.{columns_of, shape, shapes};
 
+use crate::boxes::push;
 use crate::place::span_of;
 use crate::range::Range;
 use crate::scope::{Scope, Setting, Shapes};
@@ -27,6 +28,20 @@ fn copied(alloc: Global, name: &Option<Text>) -> Result<Option<Text>, OutOfMemor
     }
 }
 
+// Adds a name at the end.
+fn push_name(alloc: Global, name: &Text, out: &mut OutNames) -> Result<(), OutOfMemory>
+    ensures { OnOk result (out.new ≡ out.old ++ Some name.now ∷ []) }
+{
+    push(out, Some(name.copy(alloc)?))
+}
+
+// Adds a name that may be there at the end.
+fn push_copy(alloc: Global, name: &Option<Text>, out: &mut OutNames) -> Result<(), OutOfMemory>
+    ensures { OnOk result (out.new ≡ out.old ++ name.now ∷ []) }
+{
+    push(out, copied(alloc, name)?)
+}
+
 // Adds names at the end.
 fn push_names(
     alloc: Global,
@@ -36,7 +51,7 @@ fn push_names(
     ensures { OnOk result (out.new ≡ out.old ++ columns.now) }
 {
     for column in columns {
-        out.push(copied(alloc, column)?)?;
+        push_copy(alloc, column, out)?;
     }
     Ok(())
 }
@@ -64,11 +79,11 @@ fn push_listed(
         None => Ok(()),
         Some((_, rest)) => match names.split_first() {
             Some((name, more)) => {
-                out.push(Some(name.copy(alloc)?))?;
+                push_name(alloc, name, out)?;
                 push_listed(alloc, more, rest, out)
             }
             None => {
-                out.push(None)?;
+                push(out, None)?;
                 push_listed(alloc, names, rest, out)
             }
         },
@@ -152,10 +167,7 @@ fn push_item_names(
     ensures { OnOk result (out.new ≡ out.old ++ spec.item_names (written.item item.now) (shapes s.now)) }
 {
     match item {
-        Item::Value(x, alias) => {
-            out.push(item_name(alloc, x, alias)?)?;
-            Ok(())
-        }
+        Item::Value(x, alias) => push(out, item_name(alloc, x, alias)?),
         Item::AllOf(name) => push_names(alloc, out, range_columns(name, s)?),
     }
 }
@@ -218,7 +230,7 @@ pub(crate) fn named_scope(
 {
     let columns = named_columns(setting, name, alias)?;
     let name = range_name(name, alias).copy(setting.alloc)?;
-    Scope::lone(setting.alloc, name, columns)
+    Scope::lone(setting.alloc, Range { name, columns })
 }
 
 /// The scope of a subquery in a FROM that gives these columns. The error is want of memory.
@@ -230,5 +242,6 @@ pub(crate) fn derived_scope(
     ensures { IfOk result (λ scope. scope ≡ (alias.now.name, spec.renamed alias.now.columns columns.now) ∷ []) }
 {
     let columns = renamed(alloc, alias.columns.as_slice(), columns)?;
-    Scope::lone(alloc, alias.name.copy(alloc)?, columns)
+    let name = alias.name.copy(alloc)?;
+    Scope::lone(alloc, Range { name, columns })
 }

@@ -10,7 +10,7 @@ use shared_types::{OutOfMemory, Text};
 use sql_ast::Column;
 
 /// A column: the scope, from the innermost, and the place in its row, both from 0.
-#[derive(Clone, Copy, Debug)]
+#[derive(Clone, Copy)]
 pub(crate) struct ColumnPlace {
     pub scope: usize,
     pub place: usize,

@@ -5,7 +5,7 @@ use sqlite_items::Items;
 
 /// A table of a FROM under its range name (SQL-92, 6.3), or a table or view under its own: the
 /// names of its columns in order, some of which may have none.
-#[derive(Debug, Drop)]
+#[derive(Drop)]
 pub struct Range {
     pub name: Text,
     pub columns: OutNames,

@@ -1,5 +1,5 @@
 // Queries with their names resolved: each part in the ranges of the blocks that enclose it.
-ghost use Rattle.std.specs.Prelude.{◌≡◌, ◌∷◌, ◌++◌, [], length, true, false, IfOk, OnOk};
+ghost use Rattle.std.specs.Prelude.{◌≡◌, ◌∷◌, ◌++◌, [], true, false, IfOk, OnOk};
 ghost use Rattle.sql_meaning.specs.Even.{innermost};
 ghost use Rattle.sql_meaning.specs.Names as named;
 ghost use Rattle.sql_meaning.specs.ResolvedShown as shown;
@@ -9,44 +9,25 @@ ghost use Rattle.name_resolution.specs.Forms.{is_conjunction, is_disjunction, is
 ghost use Rattle.name_resolution.specs.Onto.{values_onto};
 ghost use Rattle.name_resolution.specs.Places.{width};
 ghost use Rattle.name_resolution.specs.Resolved as spec;
-ghost use Rattle.name_resolution.specs.Resolved.{bare, named_range};
+ghost use Rattle.name_resolution.specs.Resolved.{bare};
 ghost use Rattle.name_resolution.specs.Shapes.{block_of, columns_of, on_of, shapes};
 
 use crate::boxes::boxed;
 use crate::build as made;
 use crate::chain::{both, either, product, signed, sum, type_of};
-use crate::grouping::grouping_places;
-use crate::names::{derived_scope, list_names, named_scope};
+use crate::names::list_names;
 use crate::place::place_of;
-use crate::scope::{Scope, Setting, Shapes};
+use crate::queries::{ResolvedQuery, combine, grouped, intersect, resolved, ungrouped};
+use crate::scope::{Setting, Shapes};
 use crate::stars::{push_innermost, push_range_columns};
-use shared_types::{OutOfMemory, Text};
+use crate::tables::{
+    ResolvedFrom, ResolvedJoin, ResolvedTable, cross_join, derived_table, inner_join, left_join,
+    named_table, no_tables, paired, push_table,
+};
+use shared_types::OutOfMemory;
 use sql_ast as ast;
-use sql_meaning::{Arm, Choice, From, Query, Test, Value, is_grouped};
-use sql_value::OutNames;
+use sql_meaning::{Arm, Choice, Query, Test, Value, is_grouped};
 use sqlite_items::Items;
-use std::alloc::Global;
-
-/// A query with its names resolved, and the names of its columns.
-#[derive(Drop)]
-pub(crate) struct ResolvedQuery {
-    pub query: Box<Query>,
-    pub columns: OutNames,
-}
-
-// Tables of a FROM with their names resolved, and the scope of their ranges.
-#[derive(Drop)]
-struct ResolvedFrom {
-    from: Items<From>,
-    scope: Scope,
-}
-
-// The same of one table, which may be a join.
-#[derive(Drop)]
-struct ResolvedTable {
-    table: Box<From>,
-    scope: Scope,
-}
 
 // An expression with its names resolved. Chains of operators stand apart from all else, so that each
 // of thousands of operators takes little of the stack.
@@ -59,8 +40,14 @@ pub(crate) fn value(
     ensures { IfOk result (λ v. shown.value v.value ≡ spec.value (columns_of setting.now) (shapes s.now) (written.expr x.now)) }
 {
     match x {
-        ast::Expr::Add(_, _, _) => sum_of(setting, x, s),
-        ast::Expr::Multiply(_, _, _) => product_of(setting, x, s),
+        ast::Expr::Add(a, op, b) => {
+            let a = value(setting, a, s)?;
+            sum(setting.alloc, a, *op, value(setting, b, s)?)
+        }
+        ast::Expr::Multiply(a, op, b) => {
+            let a = value(setting, a, s)?;
+            product(setting.alloc, a, *op, value(setting, b, s)?)
+        }
         ast::Expr::Signed(_, _)
         | ast::Expr::Number(_)
         | ast::Expr::Str(_)
@@ -75,38 +62,6 @@ pub(crate) fn value(
         | ast::Expr::NullIf(_, _)
         | ast::Expr::CastNull(_) => operand(setting, x, s),
     }
-}
-
-// `a + b`, `a - b` or `a || b`.
-#[cycle(resolve)]
-fn sum_of(setting: &Setting<'_>, x: &ast::Expr, s: &Shapes<'_>) -> Result<Box<Value>, OutOfMemory>
-    requires form { is_sum (written.expr x.now) ≡ true }
-    ensures { IfOk result (λ v. shown.value v.value ≡ spec.value (columns_of setting.now) (shapes s.now) (written.expr x.now)) }
-{
-    let ast::Expr::Add(a, op, b) = x else {
-        unreachable!()
-    };
-    let a = value(setting, a, s)?;
-    let b = value(setting, b, s)?;
-    sum(setting.alloc, a, *op, b)
-}
-
-// `a * b` or `a / b`.
-#[cycle(resolve)]
-fn product_of(
-    setting: &Setting<'_>,
-    x: &ast::Expr,
-    s: &Shapes<'_>,
-) -> Result<Box<Value>, OutOfMemory>
-    requires form { is_product (written.expr x.now) ≡ true }
-    ensures { IfOk result (λ v. shown.value v.value ≡ spec.value (columns_of setting.now) (shapes s.now) (written.expr x.now)) }
-{
-    let ast::Expr::Multiply(a, op, b) = x else {
-        unreachable!()
-    };
-    let a = value(setting, a, s)?;
-    let b = value(setting, b, s)?;
-    product(setting.alloc, a, *op, b)
 }
 
 // An expression that is no chain of operators.
@@ -162,8 +117,8 @@ fn argument(setting: &Setting<'_>, x: &ast::Expr, s: &Shapes<'_>) -> Result<Box<
             value(setting, x, &Shapes::Inside(*scope, &Shapes::Outermost))
         }
         Shapes::Outermost => {
-            let scope = Scope::new(setting.alloc);
-            value(setting, x, &Shapes::Inside(&scope, &Shapes::Outermost))
+            let none = no_tables(setting.alloc)?;
+            value(setting, x, &Shapes::Inside(&none.scope, &Shapes::Outermost))
         }
     }
 }
@@ -255,8 +210,14 @@ pub(crate) fn test(
     ensures { IfOk result (λ t. shown.test t.value ≡ spec.test (columns_of setting.now) (shapes s.now) (written.cond p.now)) }
 {
     match p {
-        ast::Cond::Or(_, _) => disjunction(setting, p, s),
-        ast::Cond::And(_, _) => conjunction(setting, p, s),
+        ast::Cond::Or(a, b) => {
+            let a = test(setting, a, s)?;
+            either(setting.alloc, a, test(setting, b, s)?)
+        }
+        ast::Cond::And(a, b) => {
+            let a = test(setting, a, s)?;
+            both(setting.alloc, a, test(setting, b, s)?)
+        }
         ast::Cond::Not(_)
         | ast::Cond::Bracket(_)
         | ast::Cond::Compare(_, _, _)
@@ -268,42 +229,6 @@ pub(crate) fn test(
         | ast::Cond::IsNull(_, _)
         | ast::Cond::Exists(_) => conjunct(setting, p, s),
     }
-}
-
-// `a OR b`.
-#[cycle(resolve)]
-fn disjunction(
-    setting: &Setting<'_>,
-    p: &ast::Cond,
-    s: &Shapes<'_>,
-) -> Result<Box<Test>, OutOfMemory>
-    requires form { is_disjunction (written.cond p.now) ≡ true }
-    ensures { IfOk result (λ t. shown.test t.value ≡ spec.test (columns_of setting.now) (shapes s.now) (written.cond p.now)) }
-{
-    let ast::Cond::Or(a, b) = p else {
-        unreachable!()
-    };
-    let a = test(setting, a, s)?;
-    let b = test(setting, b, s)?;
-    either(setting.alloc, a, b)
-}
-
-// `a AND b`.
-#[cycle(resolve)]
-fn conjunction(
-    setting: &Setting<'_>,
-    p: &ast::Cond,
-    s: &Shapes<'_>,
-) -> Result<Box<Test>, OutOfMemory>
-    requires form { is_conjunction (written.cond p.now) ≡ true }
-    ensures { IfOk result (λ t. shown.test t.value ≡ spec.test (columns_of setting.now) (shapes s.now) (written.cond p.now)) }
-{
-    let ast::Cond::And(a, b) = p else {
-        unreachable!()
-    };
-    let a = test(setting, a, s)?;
-    let b = test(setting, b, s)?;
-    both(setting.alloc, a, b)
 }
 
 // A condition that is no chain of OR or AND.
@@ -417,23 +342,19 @@ fn select_list(
 
 // The tables of a FROM.
 #[cycle(resolve)]
-#[tactic(auto, using(crate::proofs::Ontos::froms_whole))]
 fn froms(
     setting: &Setting<'_>,
     list: &[ast::TableRef],
     s: &Shapes<'_>,
-) -> Result<ResolvedFrom, OutOfMemory>
-    ensures from { IfOk result (λ v. shown.from_list v.from ≡ spec.froms (columns_of setting.now) (shapes s.now) (written.table_list list.now)) }
-    ensures scope { IfOk result (λ v. v.scope ≡ named.shape (bare (columns_of setting.now)) (written.table_list list.now) (shapes s.now)) }
+) -> Result<Box<ResolvedFrom>, OutOfMemory>
+    ensures from { IfOk result (λ v. shown.from_list v.value.from ≡ spec.froms (columns_of setting.now) (shapes s.now) (written.table_list list.now)) }
+    ensures scope { IfOk result (λ v. v.value.scope ≡ named.shape (bare (columns_of setting.now)) (written.table_list list.now) (shapes s.now)) }
 {
-    let mut from = Items::new(setting.alloc);
-    let mut scope = Scope::new(setting.alloc);
+    let mut out = no_tables(setting.alloc)?;
     for x in list {
-        let next = table(setting, x, s)?;
-        made::push_from(&mut from, next.table)?;
-        scope = scope.join(setting.alloc, next.scope)?;
+        push_table(setting.alloc, &mut *out, table(setting, x, s)?)?;
     }
-    Ok(ResolvedFrom { from, scope })
+    Ok(out)
 }
 
 // A table of a FROM.
@@ -442,111 +363,50 @@ fn table(
     setting: &Setting<'_>,
     x: &ast::TableRef,
     s: &Shapes<'_>,
-) -> Result<ResolvedTable, OutOfMemory>
-    ensures table { IfOk result (λ v. shown.from v.table.value ≡ spec.table (columns_of setting.now) (shapes s.now) (written.table x.now)) }
-    ensures scope { IfOk result (λ v. v.scope ≡ named.table_shape (bare (columns_of setting.now)) (written.table x.now) (shapes s.now)) }
+) -> Result<Box<ResolvedTable>, OutOfMemory>
+    ensures table { IfOk result (λ v. shown.from v.value.table.value ≡ spec.table (columns_of setting.now) (shapes s.now) (written.table x.now)) }
+    ensures scope { IfOk result (λ v. v.value.scope ≡ named.table_shape (bare (columns_of setting.now)) (written.table x.now) (shapes s.now)) }
 {
+    let alloc = setting.alloc;
     match x {
         ast::TableRef::Join(a, _, b, p) => {
             let a = table(setting, a, s)?;
-            inner_join(setting, a, table(setting, b, s)?, p, s)
+            let b = table(setting, b, s)?;
+            inner_join(alloc, join(setting, a, b, p, s)?)
         }
         ast::TableRef::LeftJoin(a, _, b, p) => {
             let a = table(setting, a, s)?;
-            left_join(setting, a, table(setting, b, s)?, p, s)
+            let b = table(setting, b, s)?;
+            left_join(alloc, join(setting, a, b, p, s)?)
         }
         ast::TableRef::CrossJoin(a, b) => {
             let a = table(setting, a, s)?;
-            cross_join(setting.alloc, a, table(setting, b, s)?)
+            cross_join(alloc, a, table(setting, b, s)?)
         }
         ast::TableRef::Named(name, alias) => named_table(setting, name, alias),
-        ast::TableRef::Derived(q, alias) => {
-            derived_table(setting.alloc, query(setting, q, s)?, alias)
-        }
+        ast::TableRef::Derived(q, alias) => derived_table(alloc, query(setting, q, s)?, alias),
         ast::TableRef::Joined(a) => table(setting, a, s),
     }
 }
 
 // A join of two tables by a condition, which sees the columns of both.
 #[cycle(resolve)]
-fn inner_join(
+fn join(
     setting: &Setting<'_>,
-    left: ResolvedTable,
-    right: ResolvedTable,
+    left: Box<ResolvedTable>,
+    right: Box<ResolvedTable>,
     on: &ast::Cond,
     s: &Shapes<'_>,
-) -> Result<ResolvedTable, OutOfMemory>
-    ensures table { IfOk result (λ v. shown.from v.table.value ≡ tree.joined (shown.from left.table.value) (shown.from right.table.value) (on_of setting.now s.now left.scope right.scope on.now)) }
-    ensures scope { IfOk result (λ v. v.scope ≡ left.scope ++ right.scope) }
+) -> Result<ResolvedJoin, OutOfMemory>
+    ensures left { IfOk result (λ v. v.pair.value.left.value ≡ left.value.table.value) }
+    ensures right { IfOk result (λ v. v.pair.value.right.value ≡ right.value.table.value) }
+    ensures width { IfOk result (λ v. v.pair.value.width ≡ width right.value.scope) }
+    ensures scope { IfOk result (λ v. v.pair.value.scope ≡ left.value.scope ++ right.value.scope) }
+    ensures on { IfOk result (λ v. shown.test v.on.value ≡ on_of setting.now s.now left.value.scope right.value.scope on.now) }
 {
-    let scope = left.scope.join(setting.alloc, right.scope)?;
-    let on = test(setting, on, &Shapes::Inside(&scope, &*s))?;
-    let table = made::joined(setting.alloc, left.table, right.table, on)?;
-    Ok(ResolvedTable { table, scope })
-}
-
-// The same of a left join.
-#[cycle(resolve)]
-fn left_join(
-    setting: &Setting<'_>,
-    left: ResolvedTable,
-    right: ResolvedTable,
-    on: &ast::Cond,
-    s: &Shapes<'_>,
-) -> Result<ResolvedTable, OutOfMemory>
-    ensures table { IfOk result (λ v. shown.from v.table.value ≡ tree.left_joined (shown.from left.table.value) (shown.from right.table.value) (width right.scope) (on_of setting.now s.now left.scope right.scope on.now)) }
-    ensures scope { IfOk result (λ v. v.scope ≡ left.scope ++ right.scope) }
-{
-    let width = right.scope.width();
-    let scope = left.scope.join(setting.alloc, right.scope)?;
-    let on = test(setting, on, &Shapes::Inside(&scope, &*s))?;
-    let table = made::left_joined(setting.alloc, left.table, right.table, width, on)?;
-    Ok(ResolvedTable { table, scope })
-}
-
-// The cross join of two tables.
-fn cross_join(
-    alloc: Global,
-    left: ResolvedTable,
-    right: ResolvedTable,
-) -> Result<ResolvedTable, OutOfMemory>
-    ensures table { IfOk result (λ v. shown.from v.table.value ≡ tree.crossed (shown.from left.table.value) (shown.from right.table.value)) }
-    ensures scope { IfOk result (λ v. v.scope ≡ left.scope ++ right.scope) }
-{
-    let scope = left.scope.join(alloc, right.scope)?;
-    let table = made::crossed(alloc, left.table, right.table)?;
-    Ok(ResolvedTable { table, scope })
-}
-
-// A table or a view.
-fn named_table(
-    setting: &Setting<'_>,
-    name: &Text,
-    alias: &Option<ast::Correlation>,
-) -> Result<ResolvedTable, OutOfMemory>
-    ensures table { IfOk result (λ v. shown.from v.table.value ≡ tree.named name.now) }
-    ensures scope { IfOk result (λ v. v.scope ≡ named_range (columns_of setting.now) name.now alias.now ∷ []) }
-{
-    Ok(ResolvedTable {
-        table: made::named(setting.alloc, name)?,
-        scope: named_scope(setting, name, alias)?,
-    })
-}
-
-// A subquery in FROM.
-fn derived_table(
-    alloc: Global,
-    q: ResolvedQuery,
-    alias: &ast::Correlation,
-) -> Result<ResolvedTable, OutOfMemory>
-    ensures table { IfOk result (λ v. shown.from v.table.value ≡ tree.derived (shown.query q.query.value)) }
-    ensures scope { IfOk result (λ v. v.scope ≡ (alias.now.name, named.renamed alias.now.columns q.columns) ∷ []) }
-{
-    let scope = derived_scope(alloc, alias, q.columns.as_slice())?;
-    Ok(ResolvedTable {
-        table: made::derived(alloc, q.query)?,
-        scope,
-    })
+    let pair = paired(setting.alloc, left, right)?;
+    let on = test(setting, on, &Shapes::Inside(&pair.scope, &*s))?;
+    Ok(ResolvedJoin { pair, on })
 }
 
 // A subquery whose columns need no names.
@@ -558,7 +418,7 @@ fn subquery(
 ) -> Result<Box<Query>, OutOfMemory>
     ensures { IfOk result (λ v. shown.query v.value ≡ spec.query (columns_of setting.now) (shapes s.now) (written.query q.now)) }
 {
-    Ok(query(setting, q, s)?.query)
+    Ok(Box::into_inner(query(setting, q, s)?).query)
 }
 
 /// A query with its names resolved. It fails only for want of memory.
@@ -568,9 +428,9 @@ pub(crate) fn query(
     setting: &Setting<'_>,
     q: &ast::Query,
     s: &Shapes<'_>,
-) -> Result<ResolvedQuery, OutOfMemory>
-    ensures query { IfOk result (λ v. shown.query v.query.value ≡ spec.query (columns_of setting.now) (shapes s.now) (written.query q.now)) }
-    ensures columns { IfOk result (λ v. v.columns ≡ named.names (bare (columns_of setting.now)) (written.query q.now) (shapes s.now)) }
+) -> Result<Box<ResolvedQuery>, OutOfMemory>
+    ensures query { IfOk result (λ v. shown.query v.value.query.value ≡ spec.query (columns_of setting.now) (shapes s.now) (written.query q.now)) }
+    ensures columns { IfOk result (λ v. v.value.columns ≡ named.names (bare (columns_of setting.now)) (written.query q.now) (shapes s.now)) }
 {
     match q {
         ast::Query::Combine(x, op, all, y) => {
@@ -586,55 +446,20 @@ pub(crate) fn query(
     }
 }
 
-// UNION or EXCEPT, which has the columns of its left operand.
-fn combine(
-    alloc: Global,
-    left: ResolvedQuery,
-    op: ast::SetOperator,
-    all: bool,
-    right: Box<Query>,
-) -> Result<ResolvedQuery, OutOfMemory>
-    ensures query { IfOk result (λ v. shown.query v.query.value ≡ tree.combine (shown.query left.query.value) op all (length left.columns) (shown.query right.value)) }
-    ensures columns { IfOk result (λ v. v.columns ≡ left.columns) }
-{
-    let width = left.columns.len();
-    Ok(ResolvedQuery {
-        query: made::combine(alloc, left.query, op, all, width, right)?,
-        columns: left.columns,
-    })
-}
-
-// INTERSECT, likewise.
-fn intersect(
-    alloc: Global,
-    left: ResolvedQuery,
-    all: bool,
-    right: Box<Query>,
-) -> Result<ResolvedQuery, OutOfMemory>
-    ensures query { IfOk result (λ v. shown.query v.query.value ≡ tree.intersect (shown.query left.query.value) all (length left.columns) (shown.query right.value)) }
-    ensures columns { IfOk result (λ v. v.columns ≡ left.columns) }
-{
-    let width = left.columns.len();
-    Ok(ResolvedQuery {
-        query: made::intersect(alloc, left.query, all, width, right)?,
-        columns: left.columns,
-    })
-}
-
 // A block: its FROM, and the rest in the scope of that FROM.
 #[cycle(resolve)]
 fn block(
     setting: &Setting<'_>,
     b: &ast::Block,
     s: &Shapes<'_>,
-) -> Result<ResolvedQuery, OutOfMemory>
-    ensures query { IfOk result (λ v. shown.query v.query.value ≡ spec.query (columns_of setting.now) (shapes s.now) (block_of b.now)) }
-    ensures columns { IfOk result (λ v. v.columns ≡ named.names (bare (columns_of setting.now)) (block_of b.now) (shapes s.now)) }
+) -> Result<Box<ResolvedQuery>, OutOfMemory>
+    ensures query { IfOk result (λ v. shown.query v.value.query.value ≡ spec.query (columns_of setting.now) (shapes s.now) (block_of b.now)) }
+    ensures columns { IfOk result (λ v. v.value.columns ≡ named.names (bare (columns_of setting.now)) (block_of b.now) (shapes s.now)) }
 {
-    let ResolvedFrom { from, scope } = froms(setting, b.from.as_slice(), s)?;
-    let columns = list_names(setting.alloc, &b.list, &scope, s)?;
-    let query = block_over(setting, b, from, &scope, s)?;
-    Ok(ResolvedQuery { query, columns })
+    let from = froms(setting, b.from.as_slice(), s)?;
+    let columns = list_names(setting.alloc, &b.list, &from.scope, s)?;
+    let query = block_over(setting, b, from, s)?;
+    resolved(setting.alloc, query, columns)
 }
 
 // The list, WHERE, GROUP BY and HAVING of a block in the scope of its FROM, which is resolved.
@@ -642,27 +467,21 @@ fn block(
 fn block_over(
     setting: &Setting<'_>,
     b: &ast::Block,
-    from: Items<From>,
-    scope: &Scope,
+    from: Box<ResolvedFrom>,
     s: &Shapes<'_>,
 ) -> Result<Box<Query>, OutOfMemory>
-    requires from { shown.from_list from ≡ spec.froms (columns_of setting.now) (shapes s.now) (written.table_list b.now.from) }
-    requires scope { scope.now ≡ named.shape (bare (columns_of setting.now)) (written.table_list b.now.from) (shapes s.now) }
+    requires from { shown.from_list from.value.from ≡ spec.froms (columns_of setting.now) (shapes s.now) (written.table_list b.now.from) }
+    requires scope { from.value.scope ≡ named.shape (bare (columns_of setting.now)) (written.table_list b.now.from) (shapes s.now) }
     ensures { IfOk result (λ v. shown.query v.value ≡ spec.query (columns_of setting.now) (shapes s.now) (block_of b.now)) }
 {
     let alloc = setting.alloc;
-    let inner = Shapes::Inside(scope, &*s);
+    let inner = Shapes::Inside(&from.scope, &*s);
     let list = select_list(setting, &b.list, &inner)?;
     let by = filter(setting, &b.filter, &inner)?;
-    let distinct = made::distinct(b.quantifier);
     if is_grouped(&b.list, b.grouping.as_slice(), &b.having) {
-        let groups = made::Groups {
-            places: grouping_places(alloc, b.grouping.as_slice(), scope)?,
-            width: scope.width(),
-            having: filter(setting, &b.having, &inner)?,
-        };
-        made::grouped(alloc, distinct, list, from, by, groups)
+        let having = filter(setting, &b.having, &inner)?;
+        grouped(alloc, b, list, from, by, having)
     } else {
-        made::block(alloc, distinct, list, from, by)
+        ungrouped(alloc, b.quantifier, list, from, by)
     }
 }

@@ -5,11 +5,11 @@ ghost use Rattle.name_resolution.specs.Places as spec;
 ghost use Rattle.name_resolution.specs.Ranges.{shape};
 ghost use Rattle.name_resolution.specs.Spans.{span};
 
+use crate::boxes::one;
 use crate::range::{Range, Ranges};
 use crate::span::Span;
 use shared_types::{OutOfMemory, Text};
 use sql_meaning::ColumnIndex;
-use sql_value::OutNames;
 use sqlite_items::Items;
 use std::alloc::Global;
 use std::marker::Model;
@@ -89,13 +89,12 @@ impl Scope {
     }
 
     /// The scope of one range. The error is want of memory.
-    pub(crate) fn lone(alloc: Global, name: Text, columns: OutNames) -> Result<Scope, OutOfMemory>
-        ensures { IfOk result (λ scope. scope ≡ (name, columns) ∷ []) }
+    pub(crate) fn lone(alloc: Global, range: Range) -> Result<Scope, OutOfMemory>
+        ensures { IfOk result (λ scope. scope ≡ (range.name, range.columns) ∷ []) }
     {
         let mut index = ColumnIndex::new(alloc);
-        index.append(alloc, columns.as_slice())?;
-        let mut ranges = Items::new(alloc);
-        ranges.push(Range { name, columns })?;
+        index.append(alloc, range.columns.as_slice())?;
+        let ranges = one(alloc, range)?;
         Ok(Scope {
             ranges,
             columns: index,

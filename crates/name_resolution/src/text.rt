@@ -36,7 +36,8 @@ pub fn resolve_text(
     ensures order { IfOk result (λ x. x.order ≡ map (order_key (named.names (spec.bare (columns_among known.now)) (written.query text.now.query) [])) text.now.order) }
     ensures query { IfOk result (λ x. shown.query x.query ≡ spec.query (columns_among known.now) [] (written.query text.now.query)) }
 {
-    let resolved = query(&Setting { alloc, known }, &text.query, &Shapes::Outermost)?;
+    let setting = Setting { alloc, known };
+    let resolved = Box::into_inner(query(&setting, &text.query, &Shapes::Outermost)?);
     let order = order_keys(alloc, resolved.columns.as_slice(), text.order.as_slice())?;
     Ok(ResolvedText {
         columns: resolved.columns,

@@ -90,7 +90,7 @@ fn resolved_view(setting: &Setting<'_>, view: &ViewDecl) -> Result<ResolvedView,
     ensures view { IfOk result (λ v. shown.view v.view ≡ view_over (columns_of setting.now) (written.view view.now)) }
 {
     let alloc = setting.alloc;
-    let body = query(setting, &view.query, &Shapes::Outermost)?;
+    let body = Box::into_inner(query(setting, &view.query, &Shapes::Outermost)?);
     let range = Range {
         name: view.name.copy(alloc)?,
         columns: renamed(alloc, view.columns.as_slice(), body.columns.as_slice())?,

@@ -31,8 +31,8 @@ choices-returns t c =
 
 pub froms-returns-clause-from : goal.froms-returns-clause-from
 froms-returns-clause-from t c =
-    froms_whole c.loop-x.from
-    ∙ sym (at_drop_all (λ (xs : List TableRef). froms_onto c.loop-x.from (spec.froms (columns_of c.args.setting.now) (shapes c.args.s.now) (written.table_list xs))) c.args.list.now c.loop-x.x-index c.loop-x-test.false)
+    froms_whole c.loop-x.out.value.from
+    ∙ sym (at_drop_all (λ (xs : List TableRef). froms_onto c.loop-x.out.value.from (spec.froms (columns_of c.args.setting.now) (shapes c.args.s.now) (written.table_list xs))) c.args.list.now c.loop-x.x-index c.loop-x-test.false)
     ∙ c.loop-x.invariant.from
 
 pub push_items-loop-item-preserved : goal.push_items-loop-item-preserved

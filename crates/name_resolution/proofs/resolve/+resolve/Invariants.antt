@@ -19,8 +19,8 @@ invariant-choices-loop-choice l = choices_onto l.out (spec.choices (columns_of l
 
 abbrev pub invariant-froms-loop-x : goal.invariant-froms-loop-x
 invariant-froms-loop-x l = record {
-  from : froms_onto l.from (spec.froms (columns_of l.setting) (shapes l.s) (written.table_list (drop l.x-index l.list))) ≡ spec.froms (columns_of l.setting) (shapes l.s) (written.table_list l.list);
-  scope : l.scope ++ named.shape (bare (columns_of l.setting)) (written.table_list (drop l.x-index l.list)) (shapes l.s) ≡ named.shape (bare (columns_of l.setting)) (written.table_list l.list) (shapes l.s);
+  from : froms_onto l.out.value.from (spec.froms (columns_of l.setting) (shapes l.s) (written.table_list (drop l.x-index l.list))) ≡ spec.froms (columns_of l.setting) (shapes l.s) (written.table_list l.list);
+  scope : l.out.value.scope ++ named.shape (bare (columns_of l.setting)) (written.table_list (drop l.x-index l.list)) (shapes l.s) ≡ named.shape (bare (columns_of l.setting)) (written.table_list l.list) (shapes l.s);
 }
 
 abbrev pub invariant-push_items-loop-item : goal.invariant-push_items-loop-item
