@@ -1,11 +1,12 @@
 // From a schema's tree to its catalog.
-ghost use Rattle.std.specs.Prelude.{◌≡◌, Ok, Err, IfOk, IsErrOf, reverse};
+ghost use Rattle.std.specs.Prelude.{◌≡◌, ◌++◌, ◌∷◌, [], Ok, Err, IfOk, IsErrOf, OnOk, map, reverse};
+ghost use Rattle.sql_ast.specs.Declarations.{tables_of, views_of};
 ghost use Rattle.sql_ast.specs.Shown as shown;
 ghost use Rattle.sql_catalog.specs.Catalog.{all_of, declared};
 ghost use Rattle.sql_catalog.specs.Shown.{catalog};
 ghost use Rattle.sql_catalog.specs.declared.refusal.SchemaRefusal.TheVariants as SchemaRefusal;
 
-use crate::catalog::Catalog;
+use crate::catalog::{Catalog, TableList, ViewList};
 use crate::faults::refuse;
 use crate::refusal::SchemaRefusal;
 use shared_types::OutOfMemory;
@@ -25,21 +26,31 @@ fn reversed<T: Drop>(alloc: Global, items: Items<T>) -> Result<Items<T>, OutOfMe
     Ok(all)
 }
 
+// Adds the table or the view that a statement declares at the end of its list.
+fn add(
+    statement: Statement,
+    tables: &mut TableList,
+    views: &mut ViewList,
+) -> Result<(), OutOfMemory>
+    ensures tables { OnOk result (tables.new ≡ tables.old ++ tables_of (shown.statement statement ∷ [])) }
+    ensures views { OnOk result (map shown.view views.new ≡ map shown.view views.old ++ views_of (shown.statement statement ∷ [])) }
+{
+    match statement {
+        Statement::Table(table) => Ok(tables.push(table)?),
+        Statement::View(view) => Ok(views.push(view)?),
+    }
+}
+
 // The tables and views of a schema, each in declared order.
 fn split(alloc: Global, schema: Schema) -> Result<Catalog, OutOfMemory>
     ensures { IfOk result (λ c. catalog c ≡ all_of (shown.schema schema)) }
 {
-    let mut left = schema.statements;
+    let mut left = reversed(alloc, schema.statements)?;
     let mut tables = Items::new(alloc);
     let mut views = Items::new(alloc);
     while let Some(statement) = left.pop() {
-        match statement {
-            Statement::Table(table) => tables.push(table)?,
-            Statement::View(view) => views.push(view)?,
-        }
+        add(statement, &mut tables, &mut views)?;
     }
-    let tables = reversed(alloc, tables)?;
-    let views = reversed(alloc, views)?;
     Ok(Catalog { tables, views })
 }
 

@@ -1,7 +1,7 @@
 // What a table declares, as those who read it need it.
-ghost use Rattle.std.specs.Prelude.{◌≡◌, ◌&&◌, IfOk, map};
+ghost use Rattle.std.specs.Prelude.{◌≡◌, ◌++◌, ◌∷◌, [], ◌&&◌, IfOk, OnOk, map};
 ghost use Rattle.sql_catalog.specs.Descriptor as spec;
-ghost use Rattle.sql_ast.specs.Declarations.{columns_of};
+ghost use Rattle.sql_ast.specs.Declarations.{columns_of, names_of};
 
 use crate::key::{Key, column_names, keys};
 use shared_types::OutOfMemory;
@@ -11,7 +11,7 @@ use sqlite_items::Items;
 use std::alloc::Global;
 
 /// A column of a table (SQL-92, 4.8).
-#[derive(Debug, Drop)]
+#[derive(Drop)]
 pub struct ColumnDescriptor {
     pub name: Name,
     pub data_type: DataType,
@@ -20,7 +20,7 @@ pub struct ColumnDescriptor {
 }
 
 /// A key of a table (SQL-92, 4.10.2).
-#[derive(Debug, Drop)]
+#[derive(Drop)]
 pub struct KeyDescriptor {
     /// Whether it is declared by PRIMARY KEY, and not by UNIQUE.
     pub primary: bool,
@@ -29,7 +29,7 @@ pub struct KeyDescriptor {
 }
 
 /// The columns of a table in order, and its keys in the order of the text (SQL-92, 4.9).
-#[derive(Debug, Drop)]
+#[derive(Drop)]
 pub struct TableDescriptor {
     pub columns: Items<ColumnDescriptor>,
     pub keys: Items<KeyDescriptor>,
@@ -75,6 +75,24 @@ fn describe_column(
     })
 }
 
+// Adds the column that an element is, if it is one.
+fn add_column(
+    alloc: Global,
+    keys: &[Key],
+    element: &Element,
+    all: &mut Items<ColumnDescriptor>,
+) -> Result<(), OutOfMemory>
+    ensures { OnOk result (all.new ≡ all.old ++ map (spec.describe_column keys.now) (columns_of (element.now ∷ []))) }
+{
+    match element {
+        Element::Column(column) => {
+            all.push(describe_column(alloc, keys, column)?)?;
+            Ok(())
+        }
+        Element::PrimaryKey(_) | Element::Unique(_) => Ok(()),
+    }
+}
+
 fn describe_columns(
     alloc: Global,
     keys: &[Key],
@@ -84,10 +102,7 @@ fn describe_columns(
 {
     let mut all = Items::new(alloc);
     for element in elements {
-        match element {
-            Element::Column(column) => all.push(describe_column(alloc, keys, column)?)?,
-            Element::PrimaryKey(_) | Element::Unique(_) => {}
-        }
+        add_column(alloc, keys, element, &mut all)?;
     }
     Ok(all)
 }
@@ -131,15 +146,26 @@ fn describe_keys(
     Ok(all)
 }
 
+// The keys of a table's elements, each column by its place.
+fn placed_keys(
+    alloc: Global,
+    elements: &[Element],
+    keys: &[Key],
+) -> Result<Items<KeyDescriptor>, OutOfMemory>
+    ensures { IfOk result (λ all. all ≡ map (spec.describe_key (names_of (columns_of elements.now))) keys.now) }
+{
+    let names = column_names(alloc, elements)?;
+    describe_keys(alloc, names.as_slice(), keys)
+}
+
 /// What a table declares. A name of a key that is no column of the table, which a table of a
 /// catalog has not, has the place after the last.
 pub fn describe(alloc: Global, table: &TableDecl) -> Result<TableDescriptor, OutOfMemory>
     ensures { IfOk result (λ d. d ≡ spec.describe table.now.elements) }
 {
     let elements = table.elements.as_slice();
-    let names = column_names(alloc, elements)?;
     let declared = keys(alloc, elements)?;
     let columns = describe_columns(alloc, declared.as_slice(), elements)?;
-    let keys = describe_keys(alloc, names.as_slice(), declared.as_slice())?;
+    let keys = placed_keys(alloc, elements, declared.as_slice())?;
     Ok(TableDescriptor { columns, keys })
 }

@@ -10,6 +10,7 @@ ghost use Rattle.sql_catalog.specs.declared.refusal.SchemaRefusal.TheVariants as
 
 use crate::key::{Key, column_names, keys};
 use crate::limits::{are_too_many, one_is_over_limits};
+use crate::name_list::note;
 use crate::name_set::{NameSet, has_twins, lacks_one};
 use crate::nesting::{is_recursive, one_nests_over};
 use crate::reader::{Reader, readers};
@@ -29,7 +30,7 @@ fn table_names(alloc: Global, tables: &[TableDecl]) -> Result<Names, OutOfMemory
 {
     let mut names = Items::new(alloc);
     for table in tables {
-        names.push(table.name.copy(alloc)?)?;
+        note(alloc, &table.name, &mut names)?;
     }
     Ok(names)
 }
@@ -44,7 +45,7 @@ fn known_names(
 {
     let mut names = table_names(alloc, tables)?;
     for view in views {
-        names.push(view.name.copy(alloc)?)?;
+        note(alloc, &view.name, &mut names)?;
     }
     Ok(names)
 }
@@ -185,6 +186,41 @@ fn passes_limits(alloc: Global, tables: &[TableDecl], views: &[Reader]) -> Resul
     one_nests_over(alloc, views, MAX_DEPTH)
 }
 
+// Refuses tables and views, whose names and reads these are, by the first cause that holds of them.
+fn refuse_by(
+    alloc: Global,
+    known: &[Name],
+    reads: &[Reader],
+    tables: &[TableDecl],
+    views: &[ViewDecl],
+) -> Result<(), SchemaRefusal>
+    requires known { known.now ≡ schema.known_names (schema.declares tables.now (map shown.view views.now)) }
+    requires reads { reads.now ≡ readers_of (map shown.view views.now) }
+    ensures valid { IfOk result (λ _. catalog.fault (schema.declares tables.now (map shown.view views.now)) ≡ None) }
+    ensures unknown_table { IsErrOf result SchemaRefusal.UnknownTable → catalog.fault (schema.declares tables.now (map shown.view views.now)) ≡ Some 6 }
+    ensures recursive_view { IsErrOf result SchemaRefusal.RecursiveView → catalog.fault (schema.declares tables.now (map shown.view views.now)) ≡ Some 7 }
+    ensures duplicate_name { IsErrOf result SchemaRefusal.DuplicateName → catalog.fault (schema.declares tables.now (map shown.view views.now)) ≡ Some 8 }
+    ensures bad_key { IsErrOf result SchemaRefusal.BadKey → catalog.fault (schema.declares tables.now (map shown.view views.now)) ≡ Some 9 }
+    ensures limits { IsErrOf result SchemaRefusal.Limits → catalog.fault (schema.declares tables.now (map shown.view views.now)) ≡ Some 10 }
+{
+    if reads_unknown(alloc, known, reads)? {
+        return Err(SchemaRefusal::UnknownTable);
+    }
+    if is_recursive(alloc, reads)? {
+        return Err(SchemaRefusal::RecursiveView);
+    }
+    if has_duplicate(alloc, known, tables, views)? {
+        return Err(SchemaRefusal::DuplicateName);
+    }
+    if one_has_bad_key(alloc, tables)? {
+        return Err(SchemaRefusal::BadKey);
+    }
+    if passes_limits(alloc, tables, reads)? {
+        return Err(SchemaRefusal::Limits);
+    }
+    Ok(())
+}
+
 /// Refuses tables and views by the first cause that holds of them.
 pub fn refuse(alloc: Global, tables: &[TableDecl], views: &[ViewDecl]) -> Result<(), SchemaRefusal>
     ensures valid { IfOk result (λ _. catalog.fault (schema.declares tables.now (map shown.view views.now)) ≡ None) }
@@ -196,20 +232,5 @@ pub fn refuse(alloc: Global, tables: &[TableDecl], views: &[ViewDecl]) -> Result
 {
     let known = known_names(alloc, tables, views)?;
     let reads = readers(alloc, views)?;
-    if reads_unknown(alloc, known.as_slice(), reads.as_slice())? {
-        return Err(SchemaRefusal::UnknownTable);
-    }
-    if is_recursive(alloc, reads.as_slice())? {
-        return Err(SchemaRefusal::RecursiveView);
-    }
-    if has_duplicate(alloc, known.as_slice(), tables, views)? {
-        return Err(SchemaRefusal::DuplicateName);
-    }
-    if one_has_bad_key(alloc, tables)? {
-        return Err(SchemaRefusal::BadKey);
-    }
-    if passes_limits(alloc, tables, reads.as_slice())? {
-        return Err(SchemaRefusal::Limits);
-    }
-    Ok(())
+    refuse_by(alloc, known.as_slice(), reads.as_slice(), tables, views)
 }

@@ -3,6 +3,7 @@ ghost use Rattle.std.specs.Prelude.{◌≡◌, ◌++◌, ◌∷◌, [], IfOk, On
 ghost use Rattle.sql_ast.specs.Declarations.{columns_of, names_of, types_of};
 ghost use Rattle.sql_catalog.specs.Keys.{key, column_keys, keys_of};
 
+use crate::name_list::note;
 use shared_types::OutOfMemory;
 use sql_ast::{ColumnConstraint, ColumnDecl, DataType, Element, Names};
 use sql_text::Name;
@@ -10,7 +11,7 @@ use sqlite_items::Items;
 use std::alloc::Global;
 
 /// A key of a table (SQL-92, 11.7).
-#[derive(Debug, Drop)]
+#[derive(Drop)]
 pub struct Key {
     /// Whether it is declared by PRIMARY KEY, and not by UNIQUE.
     pub primary: bool,
@@ -25,7 +26,7 @@ pub fn column_names(alloc: Global, elements: &[Element]) -> Result<Names, OutOfM
     let mut names = Items::new(alloc);
     for element in elements {
         match element {
-            Element::Column(column) => names.push(column.name.copy(alloc)?)?,
+            Element::Column(column) => note(alloc, &column.name, &mut names)?,
             Element::PrimaryKey(_) | Element::Unique(_) => {}
         }
     }
@@ -56,7 +57,7 @@ fn add_column_key(
     ensures { OnOk result (all.new ≡ all.old ++ key primary (name.now ∷ []) ∷ []) }
 {
     let mut columns = Items::new(alloc);
-    columns.push(name.copy(alloc)?)?;
+    note(alloc, name, &mut columns)?;
     all.push(Key { primary, columns })?;
     Ok(())
 }
@@ -72,7 +73,7 @@ fn add_key(
 {
     let mut columns = Items::new(alloc);
     for name in names {
-        columns.push(name.copy(alloc)?)?;
+        note(alloc, name, &mut columns)?;
     }
     all.push(Key { primary, columns })?;
     Ok(())
@@ -96,17 +97,24 @@ fn add_column_keys(
     Ok(())
 }
 
+// Adds the keys that an element declares, in order.
+fn add_keys(alloc: Global, element: &Element, all: &mut Items<Key>) -> Result<(), OutOfMemory>
+    ensures { OnOk result (all.new ≡ all.old ++ keys_of (element.now ∷ [])) }
+{
+    match element {
+        Element::Column(column) => add_column_keys(alloc, column, all),
+        Element::PrimaryKey(names) => add_key(alloc, true, names.as_slice(), all),
+        Element::Unique(names) => add_key(alloc, false, names.as_slice(), all),
+    }
+}
+
 /// The keys that a table's elements declare, in order.
 pub fn keys(alloc: Global, elements: &[Element]) -> Result<Items<Key>, OutOfMemory>
     ensures { IfOk result (λ all. all ≡ keys_of elements.now) }
 {
     let mut all = Items::new(alloc);
     for element in elements {
-        match element {
-            Element::Column(column) => add_column_keys(alloc, column, &mut all)?,
-            Element::PrimaryKey(names) => add_key(alloc, true, names.as_slice(), &mut all)?,
-            Element::Unique(names) => add_key(alloc, false, names.as_slice(), &mut all)?,
-        }
+        add_keys(alloc, element, &mut all)?;
     }
     Ok(all)
 }

@@ -7,6 +7,7 @@ mod descriptor;
 mod faults;
 mod key;
 mod limits;
+mod name_list;
 mod name_set;
 mod nesting;
 mod reader;

@@ -47,16 +47,33 @@ impl NameSet {
         Ok(added)
     }
 
+    /// Adds an equal name at the end if the set lacks it, and says whether it lacked it.
+    pub fn insert_copy(&mut self, alloc: Global, name: &Name) -> Result<bool, OutOfMemory>
+        ensures added { IfOk result (λ added. added ≡ not (contains self.old name.now)) }
+        ensures names { OnOk result (self.new ≡ if contains self.old name.now then self.old else self.old ++ name.now ∷ []) }
+    {
+        self.insert(name.copy(alloc)?)
+    }
+
     /// The set of the names of a slice.
     pub fn of(alloc: Global, names: &[Name]) -> Result<NameSet, OutOfMemory>
         ensures { IfOk result (λ set. (name : List ℕ) → contains set name ≡ contains names.now name) }
     {
         let mut set = NameSet::new(alloc);
-        for name in names {
-            set.insert(name.copy(alloc)?)?;
-        }
+        fill(alloc, &mut set, names)?;
         Ok(set)
     }
+}
+
+// Adds the names of a slice to a set that has none.
+fn fill(alloc: Global, set: &mut NameSet, names: &[Name]) -> Result<(), OutOfMemory>
+    requires { set.old ≡ [] }
+    ensures { OnOk result ((name : List ℕ) → contains set.new name ≡ contains names.now name) }
+{
+    for name in names {
+        set.insert_copy(alloc, name)?;
+    }
+    Ok(())
 }
 
 /// Whether the set has one of the names.
@@ -73,15 +90,23 @@ pub fn lacks_one(set: &NameSet, names: &[Name]) -> bool
     names.iter().any(|name| !set.contains(name))
 }
 
+// Whether two of the names are equal, which are added to a set that has none.
+fn adds_twins(alloc: Global, seen: &mut NameSet, names: &[Name]) -> Result<bool, OutOfMemory>
+    requires { seen.old ≡ [] }
+    ensures { IfOk result (λ twins. twins ≡ has_twins names.now) }
+{
+    for name in names {
+        if !seen.insert_copy(alloc, name)? {
+            return Ok(true);
+        }
+    }
+    Ok(false)
+}
+
 /// Whether two of the names are equal.
 pub fn has_twins(alloc: Global, names: &[Name]) -> Result<bool, OutOfMemory>
     ensures { IfOk result (λ twins. twins ≡ has_twins names.now) }
 {
     let mut seen = NameSet::new(alloc);
-    for name in names {
-        if !seen.insert(name.copy(alloc)?)? {
-            return Ok(true);
-        }
-    }
-    Ok(false)
+    adds_twins(alloc, &mut seen, names)
 }

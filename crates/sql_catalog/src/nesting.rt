@@ -4,6 +4,7 @@ ghost use Rattle.std.specs.List.{list_any};
 ghost use Rattle.sql_ast.specs.Names.{contains};
 ghost use Rattle.sql_catalog.specs.Nesting.{reader_names, nests_over, is_recursive};
 
+use crate::name_list::note;
 use crate::name_set::{NameSet, has_one};
 use crate::reader::Reader;
 use shared_types::OutOfMemory;
@@ -18,7 +19,7 @@ fn reader_names(alloc: Global, views: &[Reader]) -> Result<Names, OutOfMemory>
 {
     let mut names = Items::new(alloc);
     for view in views {
-        names.push(view.name.copy(alloc)?)?;
+        note(alloc, &view.name, &mut names)?;
     }
     Ok(names)
 }
@@ -30,7 +31,7 @@ fn names_that_read(alloc: Global, views: &[Reader], read: &NameSet) -> Result<Na
     let mut names = Items::new(alloc);
     for view in views {
         if has_one(read, view.reads.as_slice()) {
-            names.push(view.name.copy(alloc)?)?;
+            note(alloc, &view.name, &mut names)?;
         }
     }
     Ok(names)

@@ -1,5 +1,5 @@
 // What views read.
-ghost use Rattle.std.specs.Prelude.{◌≡◌, IfOk, map};
+ghost use Rattle.std.specs.Prelude.{◌≡◌, ◌++◌, ◌∷◌, [], IfOk, OnOk, map};
 ghost use Rattle.sql_ast.specs.Shown as shown;
 ghost use Rattle.sql_catalog.specs.Nesting.{readers_of};
 
@@ -11,10 +11,21 @@ use sqlite_items::Items;
 use std::alloc::Global;
 
 /// A view's name, and the names of tables and views that its body reads, in the order of the text.
-#[derive(Debug, Drop)]
+#[derive(Drop)]
 pub struct Reader {
     pub name: Name,
     pub reads: Names,
+}
+
+// Adds what a view reads.
+fn add_reader(alloc: Global, view: &ViewDecl, all: &mut Items<Reader>) -> Result<(), OutOfMemory>
+    ensures { OnOk result (all.new ≡ all.old ++ readers_of (shown.view view.now ∷ [])) }
+{
+    let mut reads = Items::new(alloc);
+    query_names(alloc, &view.query, &mut reads)?;
+    let name = view.name.copy(alloc)?;
+    all.push(Reader { name, reads })?;
+    Ok(())
 }
 
 /// For each view what it reads, in order.
@@ -23,10 +34,7 @@ pub fn readers(alloc: Global, views: &[ViewDecl]) -> Result<Items<Reader>, OutOf
 {
     let mut all = Items::new(alloc);
     for view in views {
-        let name = view.name.copy(alloc)?;
-        let mut reads = Items::new(alloc);
-        query_names(alloc, &view.query, &mut reads)?;
-        all.push(Reader { name, reads })?;
+        add_reader(alloc, view, &mut all)?;
     }
     Ok(all)
 }

@@ -3,33 +3,26 @@ ghost use Rattle.std.specs.Prelude.{◌≡◌};
 ghost use Rattle.sql_catalog.specs.declared.refusal.SchemaRefusal.TheVariants.{Memory};
 
 use shared_types::OutOfMemory;
-use thiserror::Error;
 
 /// Why a schema declares no catalog. Of several causes it is the first in this order; want of memory
 /// has no place in it.
-#[derive(Clone, Copy, Debug, PartialEq, Eq, Error)]
+#[derive(Clone, Copy, PartialEq, Eq)]
 pub enum SchemaRefusal {
     /// A view's body names neither a table nor a view of the schema (SQL-92, 6.3).
-    #[error("a view reads an unknown table")]
     UnknownTable,
     /// A chain of views leads from a view to itself (SQL-92, 11.19).
-    #[error("a view reads itself")]
     RecursiveView,
     /// Two tables or views, two columns of a table, or two names in a view's list are equal
     /// (SQL-92, 11.3, 11.4 and 11.19).
-    #[error("two names are equal")]
     DuplicateName,
     /// A key names a column that the table lacks, or one column twice, or a table has two primary
     /// keys (SQL-92, 11.7).
-    #[error("a key is bad")]
     BadKey,
     /// There are over 64 tables, over 64 views or over 64 columns in a table, the length of a
     /// VARCHAR is not 1 to 4,096, views nest over 16 deep, a table has no column, or its name has
     /// another character than ASCII letters, digits and `_`.
-    #[error("a limit is passed")]
     Limits,
     /// Memory ran out. It says nothing of the schema.
-    #[error("out of memory")]
     Memory,
 }
 

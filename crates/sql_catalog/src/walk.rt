@@ -1,23 +1,15 @@
 // The names of tables that a tree reads.
-ghost use Rattle.std.specs.Prelude.{◌≡◌, ◌++◌, ◌∷◌, [], OnOk};
+ghost use Rattle.std.specs.Prelude.{◌≡◌, ◌++◌, OnOk};
 ghost use Rattle.sql_ast.specs.Shown as shown;
 ghost use Rattle.sql_catalog.specs.TableNames as names;
 
+use crate::name_list::note;
 use shared_types::OutOfMemory;
 use sql_ast::{
     Arm, Block, Choice, Cond, Expr, Filter, Item, Names, Otherwise, Query, Res, SelectList,
     TableRef,
 };
-use sql_text::Name;
 use std::alloc::Global;
-
-// Adds an equal name at the end.
-fn note(alloc: Global, name: &Name, out: &mut Names) -> Result<(), OutOfMemory>
-    ensures { OnOk result (out.new ≡ out.old ++ name.now ∷ []) }
-{
-    out.push(name.copy(alloc)?)?;
-    Ok(())
-}
 
 // Adds the names that an expression reads.
 #[cycle(walk)]

@@ -1,16 +1,16 @@
-use Rattle.std.proofs.Common.{◌≡◌, ◌++◌, map, reverse}
+use Rattle.std.proofs.Common.{ap, map}
 use Rattle.sql_ast.specs.Shown as shown
-use Rattle.sql_catalog.proofs.SplitLaws.{table_moved, table_passed, view_moved, view_passed}
+use Rattle.sql_catalog.proofs.SplitLaws.{table_added, tables_first, view_added, views_first}
 use Rattle.sql_catalog.proofs.declare.split.Goals as goal
 
-pub loop-statement-preserved-in-Continue-1 : goal.loop-statement-preserved-in-Continue-1
-loop-statement-preserved-in-Continue-1 c = record {
-  tables = table_moved c.loop-statement.left c.pop.new.self c.in-Some.statement c.in-Table.table c.loop-statement.tables c.push.new.self _ c.in-Some.ensures c.in-Table.is c.in_ok-push-in-Table.ensures.ok c.loop-statement.invariant.tables;
-  views = table_passed c.loop-statement.left c.pop.new.self c.in-Some.statement c.in-Table.table _ _ c.in-Some.ensures c.in-Table.is c.loop-statement.invariant.views;
+pub loop-statement-init : goal.loop-statement-init
+loop-statement-init c = record {
+  tables = tables_first c.in_ok-left.left c.args.schema.statements c.new-tables.result c.in_ok-left.ensures c.new-tables.ensures;
+  views = views_first c.in_ok-left.left c.args.schema.statements (map shown.view c.new-views.result) c.in_ok-left.ensures (ap (map shown.view) c.new-views.ensures);
 }
 
 pub loop-statement-preserved : goal.loop-statement-preserved
 loop-statement-preserved c = record {
-  tables = view_passed c.loop-statement.left c.pop.new.self c.in-Some.statement c.in-View.view _ _ c.in-Some.ensures c.in-View.is c.loop-statement.invariant.tables;
-  views = view_moved c.loop-statement.left c.pop.new.self c.in-Some.statement c.in-View.view c.loop-statement.views c.push-in-View.new.self _ c.in-Some.ensures c.in-View.is c.in_ok-push-in-View.ensures.ok c.loop-statement.invariant.views;
+  tables = table_added c.loop-statement.left c.pop.new.self c.in-Some.statement c.loop-statement.tables c.add.new.tables _ c.in-Some.ensures c.in_ok-add.ensures.tables c.loop-statement.invariant.tables;
+  views = view_added c.loop-statement.left c.pop.new.self c.in-Some.statement (map shown.view c.loop-statement.views) (map shown.view c.add.new.views) _ c.in-Some.ensures c.in_ok-add.ensures.views c.loop-statement.invariant.views;
 }

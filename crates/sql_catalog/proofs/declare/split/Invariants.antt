@@ -5,8 +5,8 @@ use Rattle.sql_catalog.proofs.declare.split.Given as goal
 
 abbrev pub invariant-loop-statement : goal.invariant-loop-statement
 invariant-loop-statement l = record {
-  tables : tables_of (map shown.statement l.left) ++ reverse l.tables ≡ tables_of (map shown.statement l.fn.schema.statements);
-  views : views_of (map shown.statement l.left) ++ map shown.view (reverse l.views) ≡ views_of (map shown.statement l.fn.schema.statements);
+  tables : l.tables ++ tables_of (map shown.statement (reverse l.left)) ≡ tables_of (map shown.statement l.fn.schema.statements);
+  views : map shown.view l.views ++ views_of (map shown.statement (reverse l.left)) ≡ views_of (map shown.statement l.fn.schema.statements);
 }
 
 abbrev pub decreases-loop-statement : goal.decreases-loop-statement
