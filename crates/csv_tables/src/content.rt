@@ -10,7 +10,7 @@ use sql_value::Cell;
 use std::alloc::Global;
 
 /// What a field holds, by the type of its column.
-#[derive(Debug, Drop)]
+#[derive(Drop)]
 pub enum Content {
     /// A cell of the column's type.
     Holds(Cell),

@@ -2,20 +2,16 @@
 use crate::rule::Rule;
 use io_edge::Interruption;
 use shared_types::{OutOfMemory, Text};
-use thiserror::Error;
 
 /// Why the files do not hold the tables of a catalog.
-#[derive(Debug, Drop, Error)]
+#[derive(Drop)]
 pub enum DataRefusal {
     /// A file is not of the form: the number of the rule that it breaks, the table, and the
     /// record, where the header is record 0.
-    #[error("a table's file is refused")]
     Refused { number: u8, table: Text, row: u64 },
     /// A read failed: the name that was asked for.
-    #[error("a read failed")]
     ReadFault { name: Text },
     /// Memory ran out.
-    #[error("out of memory")]
     Memory,
 }
 
@@ -45,13 +41,11 @@ impl From<Interruption> for DataRefusal {
 }
 
 /// Why the bytes of a file are no rows of a table.
-#[derive(Debug, Drop, Error)]
+#[derive(Drop)]
 pub enum TableRefusal {
     /// The rule that is broken, and the record that breaks it, where the header is record 0.
-    #[error("a table's file is refused")]
     Broken { rule: Rule, record_number: u64 },
     /// Memory ran out.
-    #[error("out of memory")]
     Memory,
 }
 

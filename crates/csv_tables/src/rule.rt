@@ -3,7 +3,7 @@ ghost use Rattle.std.specs.Prelude.{◌≡◌};
 ghost use Rattle.csv_tables.specs.Rules as spec;
 
 /// A rule that a table's file breaks, in the order of their numbers.
-#[derive(Clone, Copy, Debug, PartialEq, Eq)]
+#[derive(Clone, Copy)]
 pub enum Rule {
     /// There is no header, or its fields are not the column names in declared order.
     Header,
