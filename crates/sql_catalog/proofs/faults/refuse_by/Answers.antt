@@ -1,4 +1,4 @@
-use Rattle.std.proofs.Common.{◌≡◌, map, true, false}
+use Rattle.std.proofs.Common.{◌≡◌, ◌∙◌, sym, map, true, false}
 use Rattle.sql_ast.specs.Shown as shown
 use Rattle.sql_ast.specs.Declarations as schema
 use Rattle.sql_catalog.proofs.FaultLaws.{fault_limits}
@@ -6,18 +6,18 @@ use Rattle.sql_catalog.proofs.faults.refuse_by.Goals as goal
 
 pub returns-then-branch-5-clause-limits : goal.returns-then-branch-5-clause-limits
 returns-then-branch-5-clause-limits c = λ _. fault_limits (schema.declares c.args.tables.now (map shown.view c.args.views.now))
-    (cc (c.if-branch.false, c.in_ok-reads_unknown.ensures, c.requires.known, c.requires.reads))
-    (cc (c.if-branch-2.false, c.in_ok-is_recursive.ensures, c.requires.reads))
-    (cc (c.if-branch-3.false, c.in_ok-has_duplicate.ensures, c.requires.known))
-    (cc (c.if-branch-4.false, c.in_ok-one_has_bad_key.ensures))
+    (rw (← c.requires.known, ← c.requires.reads) (sym c.in_ok-reads_unknown.ensures ∙ c.if-branch.false))
+    (rw (← c.requires.reads) (sym c.in_ok-is_recursive.ensures ∙ c.if-branch-2.false))
+    (rw (← c.requires.known) (sym c.in_ok-has_duplicate.ensures ∙ c.if-branch-3.false))
+    (sym c.in_ok-one_has_bad_key.ensures ∙ c.if-branch-4.false)
     true
-    (cc (c.if-branch-5.true, c.in_ok-passes_limits.ensures, c.requires.reads))
+    (rw (← c.requires.reads) (sym c.in_ok-passes_limits.ensures ∙ c.if-branch-5.true))
 
 pub returns-clause-valid : goal.returns-clause-valid
 returns-clause-valid c = fault_limits (schema.declares c.args.tables.now (map shown.view c.args.views.now))
-    (cc (c.if-branch.false, c.in_ok-reads_unknown.ensures, c.requires.known, c.requires.reads))
-    (cc (c.if-branch-2.false, c.in_ok-is_recursive.ensures, c.requires.reads))
-    (cc (c.if-branch-3.false, c.in_ok-has_duplicate.ensures, c.requires.known))
-    (cc (c.if-branch-4.false, c.in_ok-one_has_bad_key.ensures))
+    (rw (← c.requires.known, ← c.requires.reads) (sym c.in_ok-reads_unknown.ensures ∙ c.if-branch.false))
+    (rw (← c.requires.reads) (sym c.in_ok-is_recursive.ensures ∙ c.if-branch-2.false))
+    (rw (← c.requires.known) (sym c.in_ok-has_duplicate.ensures ∙ c.if-branch-3.false))
+    (sym c.in_ok-one_has_bad_key.ensures ∙ c.if-branch-4.false)
     false
-    (cc (c.if-branch-5.false, c.in_ok-passes_limits.ensures, c.requires.reads))
+    (rw (← c.requires.reads) (sym c.in_ok-passes_limits.ensures ∙ c.if-branch-5.false))
