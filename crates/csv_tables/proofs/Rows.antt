@@ -1,9 +1,12 @@
 -- Steps from record to record.
 use Rattle.std.proofs.Common.{ℕ, ◌<◌, ◌≡◌, ◌∙◌, ◌==◌, List, [], ◌∷◌, ◌++◌, length, map, nat_le, Bool, true, false, if◌then◌else◌, Option, Some, None, Result, Ok, Err, refl, inl, inr}
 use Rattle.std.proofs.lemmas.Bool.{cases_Bool, eq-eqb, eqb-true, leb-false}
+use Rattle.std.specs.Prelude.{IfOk}
+use Rattle.std.specs.Bool.{MatchBool}
 use Rattle.std.specs.List.{list_any}
 use Rattle.std.specs.Cmp.Lexicographic.{pointwise}
 use Rattle.row_bag.specs.declared.row.Row.{Row}
+use Rattle.shared_types.specs.declared.memory.OutOfMemory.{OutOfMemory}
 use Rattle.sql_value.specs.declared.cell.Cell.{Cell}
 use Rattle.csv_tables.specs.declared.content.Content.{Content}
 use Rattle.csv_tables.specs.declared.rule.Rule.{Rule}
@@ -18,7 +21,7 @@ use Rattle.csv_tables.specs.Seen.{seen_in, seen_with}
 use Rattle.csv_tables.proofs.SeenSteps.{Sound, seen-push}
 use Rattle.csv_tables.specs.Records.{Fields, records_of}
 use Rattle.csv_tables.specs.Rules.{Fault}
-use Rattle.csv_tables.specs.Tables.{at_header, broken_by, fits_column, cells_of, contents_of, has_refused_null, is_bad_integer, is_bad_utf8, is_too_long, row_after, row_unless, rows_after, table_row, table_rows}
+use Rattle.csv_tables.specs.Tables.{at_header, broken_by, fits_column, cells_of, contents_of, has_refused_null, is_bad_integer, is_bad_utf8, is_too_long, row_after, row_unless, rows_after, table_row, table_rows, under_header}
 
 -- a record with another number of fields
 pub row-count : (s : TableDescriptor) (before : List (Row (List Cell))) (fs : Fields) → (length fs ≡ length s.columns → ⊥) → row_after s before fs ≡ row_unless (length before) [] (Some FieldCount)
@@ -84,14 +87,13 @@ pub rows-end : (s : TableDescriptor) (before : List (Row (List Cell))) (all : Re
 unfolding rows_after
 rows-end s before all e = e
 
-pub table-none : (s : TableDescriptor) (bytes : List ℕ) → records_of bytes ≡ [] → table_rows s bytes ≡ Err (at_header Header)
+pub table-rows : (s : TableDescriptor) (bytes : List ℕ) → table_rows s bytes ≡ under_header s (records_of bytes)
 unfolding table_rows
-table-none s bytes e = rw e refl
+table-rows s bytes = refl
 
-pub table-other : (s : TableDescriptor) (bytes : List ℕ) (header : Fields) (rs : List Fields) → records_of bytes ≡ header ∷ rs → pointwise fits_column s.columns header ≡ false → table_rows s bytes ≡ Err (at_header Header)
-unfolding table_rows
-table-other s bytes header rs e other = rw (e, other) refl
-
-pub table-under : (s : TableDescriptor) (bytes : List ℕ) (header : Fields) (rs : List Fields) → records_of bytes ≡ header ∷ rs → pointwise fits_column s.columns header ≡ true → table_rows s bytes ≡ rows_after s [] rs
-unfolding table_rows
-table-under s bytes header rs e same = rw (e, same) refl
+-- the rows under a header, by whether it is for the columns
+pub header-under : (r : Result Bool OutOfMemory) (s : TableDescriptor) (all : List Fields) (header : Fields) (rs : List Fields) → all ≡ header ∷ rs → IfOk r (λ b. b ≡ pointwise fits_column s.columns header)
+    → IfOk r (λ b. MatchBool b (under_header s all ≡ rows_after s [] rs) (under_header s all ≡ Err (at_header Header)))
+header-under (Ok true) s all header rs e fits = rw (e, ← fits) refl
+header-under (Ok false) s all header rs e fits = rw (e, ← fits) refl
+header-under (Err why) s all header rs e fits = tt

@@ -1,5 +1,6 @@
 // The rows of a table's file.
 ghost use Rattle.std.specs.Prelude.{◌≡◌, ◌<◌, ◌≤◌, ◌+◌, ◌++◌, ◌∷◌, ◌&&◌, [], List, Ok, Err, IfOk, IfErr, IsErr, OnOk, None, true, false, length, map};
+ghost use Rattle.std.specs.Bool.{MatchBool};
 ghost use Rattle.std.specs.List.{list_any};
 ghost use Rattle.csv.specs.Records.{fields_of};
 ghost use Rattle.csv_tables.specs.KeyCells as spec_keys;
@@ -277,6 +278,38 @@ fn rows(alloc: Global, table: TableDescriptor, records: &mut Records) -> Result<
     }
 }
 
+// Takes the header, and tells whether its fields are for the table's columns, in declared order.
+fn takes_header(
+    alloc: Global,
+    table: &TableDescriptor,
+    records: &mut Records,
+) -> Result<bool, OutOfMemory>
+    ensures { IfOk result (λ fits. MatchBool fits (spec.under_header table.now records.old ≡ spec.rows_after table.now [] records.new) (spec.under_header table.now records.old ≡ Err (spec.at_header Rule.Header))) }
+{
+    let mut header = ByteRecord::new(alloc);
+    if !records.next(&mut header)? {
+        return Ok(false);
+    }
+    fits_header(alloc, table.columns.as_slice(), &header)
+}
+
+// The rows of the records behind the header.
+fn read_rows(
+    alloc: Global,
+    table: TableDescriptor,
+    records: &mut Records,
+) -> Result<Bag, TableRefusal>
+    ensures { Gives (spec.under_header table records.old) result }
+{
+    if !takes_header(alloc, &table, records)? {
+        return Err(TableRefusal::Broken {
+            rule: Rule::Header,
+            record_number: 0,
+        });
+    }
+    rows(alloc, table, records)
+}
+
 /// The rows of a table's file, in the file's order. It fails at the first record that breaks a
 /// rule, with the rule of the least number that this record breaks, and for want of memory.
 pub fn read_table(alloc: Global, decl: &TableDecl, bytes: &[u8]) -> Result<Bag, TableRefusal>
@@ -284,18 +317,5 @@ pub fn read_table(alloc: Global, decl: &TableDecl, bytes: &[u8]) -> Result<Bag, 
 {
     let table = describe(alloc, decl)?;
     let mut records = Records::new(alloc, bytes);
-    let mut header = ByteRecord::new(alloc);
-    if !records.next(&mut header)? {
-        return Err(TableRefusal::Broken {
-            rule: Rule::Header,
-            record_number: 0,
-        });
-    }
-    if !fits_header(alloc, table.columns.as_slice(), &header)? {
-        return Err(TableRefusal::Broken {
-            rule: Rule::Header,
-            record_number: 0,
-        });
-    }
-    rows(alloc, table, &mut records)
+    read_rows(alloc, table, &mut records)
 }
