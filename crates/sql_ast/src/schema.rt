@@ -38,12 +38,25 @@ pub struct TableDecl {
 }
 
 /// `CREATE VIEW name [ "(" names ")" ] AS query` (SQL-92, 11.19).
-#[derive(Drop)]
 pub struct ViewDecl {
     pub name: Name,
     /// The column list; none is written where this is empty.
     pub columns: Names,
     pub query: Query,
+}
+
+// By hand, as that of a query's text.
+impl Drop for ViewDecl {
+    fn drop(self) {
+        let ViewDecl {
+            name,
+            columns,
+            query,
+        } = self;
+        drop(name);
+        drop(columns);
+        drop(query);
+    }
 }
 
 /// `stmt`: a table or a view.

@@ -19,10 +19,23 @@ pub struct Sort {
 }
 
 /// `text = query [ ORDER BY sort { "," sort } ] [ ";" ]`.
-#[derive(Drop)]
 pub struct QueryText {
     pub query: Query,
     /// The keys; no ORDER BY is written where this is empty.
     pub order: Items<Sort>,
     pub semicolon: bool,
+}
+
+// By hand, so that crates above cite this function: a derived one is proved in each of them, with those
+// of all trees.
+impl Drop for QueryText {
+    fn drop(self) {
+        let QueryText {
+            query,
+            order,
+            semicolon: _,
+        } = self;
+        drop(query);
+        drop(order);
+    }
 }
