@@ -18,10 +18,14 @@ use Rattle.built_terms.specs.Parts.{all_of, any_of, arms_in, choices_in, chosen,
 use Rattle.built_terms.specs.Setting.{told_by}
 use Rattle.built_terms.specs.declared.setting.Named.{Named}
 
-pub coalesced_last : (xs : List Gx) (y : Gx) → coalesced (shown.terms (xs ++ y ∷ [])) ≡ coalesced_onto (shown.terms xs) (shown.term y)
+coalesced_last : (xs : List Gx) (y : Gx) → coalesced (shown.terms (xs ++ y ∷ [])) ≡ coalesced_onto (shown.terms xs) (shown.term y)
 coalesced_last [] y = refl
 coalesced_last (x ∷ []) y = refl
 coalesced_last (x ∷ z ∷ xs) y = ap (case (t.not (t.is_null (shown.term x))) (shown.term x)) (coalesced_last (z ∷ xs) y)
+
+pub coalesced_first : (x : Term) (xs : List Gx) (y : Gx) → coalesced (x ∷ shown.terms (xs ++ y ∷ [])) ≡ coalesced_onto (x ∷ shown.terms xs) (shown.term y)
+coalesced_first x [] y = refl
+coalesced_first x (z ∷ xs) y = ap (case (t.not (t.is_null x)) x) (coalesced_last (z ∷ xs) y)
 
 pub coalesced_more : (xs : List Gx) (x : Gx) (y : Term) → coalesced_onto (shown.terms (xs ++ x ∷ [])) y ≡ coalesced_onto (shown.terms xs) (case (t.not (t.is_null (shown.term x))) (shown.term x) y)
 coalesced_more [] x y = refl

@@ -64,6 +64,14 @@ pub fn add_split(out: &mut Conds, p: Gc) -> Result<(), OutOfMemory>
     }
 }
 
+/// The same of a condition in a box.
+pub fn add_boxed(out: &mut Conds, p: Box<Gc>) -> Result<(), OutOfMemory>
+    ensures items { OnOk result (out.new.items ≡ out.old.items ++ split (cond p.value)) }
+    ensures spare { out.new.spare ≡ out.old.spare }
+{
+    add_split(out, Box::into_inner(p))
+}
+
 // The same of conditions.
 #[cycle(split)]
 fn add_splits(out: &mut Conds, list: Vec<Gc>) -> Result<(), OutOfMemory>

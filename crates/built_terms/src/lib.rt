@@ -2,6 +2,7 @@
 //! far, and what is seen at a place of a query.
 #![tactic(auto)]
 
+mod boxes;
 mod folds;
 mod frames;
 mod groups;
@@ -15,10 +16,11 @@ mod store;
 mod terms;
 mod types;
 
+pub use boxes::push_boxed;
 pub use folds::{Fold, list_folds, test_folds};
 pub use frames::{Ranges, frame, frame_all, from_width, next_id, push_refs};
 pub use groups::{after, fold_terms, group_cells, key_frame, ungrouped_cells};
-pub use heads::{add_split, head_of};
+pub use heads::{add_boxed, head_of};
 pub use ons::{all_on_conds, all_on_folds, joined_frame, on_conds, on_folds};
 pub use parts::seen_term;
 pub use seen::{Scopes, Seen, in_frame};

@@ -11,7 +11,7 @@ ghost use Rattle.built_terms.specs.Written.{frame_of, map_of, slots_of};
 
 use crate::folds::{Fold, test_folds};
 use crate::frames::{Ranges, frame, next_id};
-use crate::heads::add_split;
+use crate::heads::add_boxed;
 use crate::seen::{Scopes, Seen};
 use crate::setting::{Setting, Site};
 use crate::slots::Slots;
@@ -73,7 +73,7 @@ pub fn on_conds(
                 outer: &*outer,
             };
             let c = test(&setting, p, s)?;
-            add_split(out, c)
+            add_boxed(out, c)
         }
     }
 }

@@ -1,19 +1,22 @@
 // Expressions and conditions from their own parts, abbreviations written out.
-ghost use Rattle.std.specs.Prelude.{◌≡◌, ◌∷◌, [], IfOk, OnOk, List, map};
+ghost use Rattle.std.specs.Prelude.{◌≡◌, ◌∷◌, ◌++◌, [], IfOk, OnOk, map};
+ghost use Rattle.sql_meaning.specs.ResolvedShown as meant;
 ghost use Rattle.qgm_terms.specs.Shown.{choices, cond, conds, term, terms};
 ghost use Rattle.qgm_terms.specs.Terms as t;
 ghost use Rattle.qgm_shown.specs.Maps.{ref_term};
 ghost use Rattle.qgm_shown.specs.Terms as shown;
 ghost use Rattle.built_terms.specs.Parts as spec;
-ghost use Rattle.built_terms.specs.Opened.{open_of, opened};
+ghost use Rattle.built_terms.specs.Opened.{open_choice, open_of, opened};
 ghost use Rattle.qgm_shown.specs.Typing.{typed_by};
 ghost use Rattle.built_terms.specs.Written.{ref_of};
 
+use crate::boxes::{boxed, push, push_boxed, take_first};
 use crate::seen::Seen;
 use crate::types::type_of;
-use qgm_terms::{Arm, Gc, Gx, Op, QuantId, ROOM, anded, copy, negated};
+use qgm_terms::{Arm, Gc, Gx, Op, QuantId, ROOM, anded, chained, copy};
 use shared_types::{CmpOp, OutOfMemory, Text};
 use sql_ast::{AdditiveOp, MultiplicativeOp, Quantifier};
+use sql_meaning::Value;
 use sql_value::SqlType;
 use sqlite_items::Items;
 use std::alloc::Global;
@@ -21,34 +24,42 @@ use std::alloc::Global;
 /// A condition of a CASE and its result; none stands for a NULL without a type of its own.
 #[derive(Drop)]
 pub(crate) struct OpenArm {
-    pub when: Gc,
-    pub then: Option<Gx>,
+    pub when: Box<Gc>,
+    pub then: Option<Box<Gx>>,
+}
+
+/// A number.
+pub(crate) fn number(alloc: Global, n: i64) -> Result<Box<Gx>, OutOfMemory>
+    ensures { IfOk result (λ y. term y.value ≡ t.int n) }
+{
+    boxed(alloc, Gx::Int(n))
 }
 
 /// A text.
-pub(crate) fn text(alloc: Global, x: &Text) -> Result<Gx, OutOfMemory>
-    ensures { IfOk result (λ y. term y ≡ t.text x.now) }
+pub(crate) fn text(alloc: Global, x: &Text) -> Result<Box<Gx>, OutOfMemory>
+    ensures { IfOk result (λ y. term y.value ≡ t.text x.now) }
 {
-    Ok(Gx::Text(x.copy(alloc)?))
+    let x = x.copy(alloc)?;
+    boxed(alloc, Gx::Text(x))
 }
 
 /// NULL of a type.
-pub(crate) fn null_as(of: SqlType) -> Gx
-    ensures { term result ≡ shown.null_as of }
+pub(crate) fn null_as(alloc: Global, of: SqlType) -> Result<Box<Gx>, OutOfMemory>
+    ensures { IfOk result (λ y. term y.value ≡ shown.null_as of) }
 {
     match of {
-        SqlType::Integer => Gx::NullInt,
-        SqlType::Varchar => Gx::NullText,
+        SqlType::Integer => boxed(alloc, Gx::NullInt),
+        SqlType::Varchar => boxed(alloc, Gx::NullText),
     }
 }
 
 /// NULL of the type of a CAST.
-pub(crate) fn null_of(of: Option<SqlType>) -> Gx
-    ensures { term result ≡ shown.null_of of }
+pub(crate) fn null_of(alloc: Global, of: Option<SqlType>) -> Result<Box<Gx>, OutOfMemory>
+    ensures { IfOk result (λ y. term y.value ≡ shown.null_of of) }
 {
     match of {
-        Some(of) => null_as(of),
-        None => Gx::NullInt,
+        Some(of) => null_as(alloc, of),
+        None => boxed(alloc, Gx::NullInt),
     }
 }
 
@@ -61,6 +72,27 @@ pub fn seen_term(x: Seen) -> Gx
         Seen::NoneCounted => Gx::Int(0),
         Seen::At(q, k) => Gx::Col(q, k),
     }
+}
+
+/// The same, in a box.
+pub(crate) fn seen(alloc: Global, x: Seen) -> Result<Box<Gx>, OutOfMemory>
+    ensures { IfOk result (λ y. term y.value ≡ ref_term (ref_of x)) }
+{
+    boxed(alloc, seen_term(x))
+}
+
+/// The value of the one row of a quantifier.
+pub(crate) fn scalar(alloc: Global, q: QuantId) -> Result<Box<Gx>, OutOfMemory>
+    ensures { IfOk result (λ y. term y.value ≡ t.scalar q) }
+{
+    boxed(alloc, Gx::Scalar(q))
+}
+
+// A copy of an expression.
+fn copied(alloc: Global, x: &Gx) -> Result<Box<Gx>, OutOfMemory>
+    ensures { IfOk result (λ y. term y.value ≡ term x.now) }
+{
+    boxed(alloc, copy(alloc, x, ROOM)?)
 }
 
 /// The operator of a sum.
@@ -84,58 +116,96 @@ pub(crate) fn multiplicative(op: MultiplicativeOp) -> Op
     }
 }
 
-/// `- x`.
-pub(crate) fn negative(alloc: Global, x: Gx) -> Result<Gx, OutOfMemory>
-    ensures { IfOk result (λ y. term y ≡ t.minus_of (term x)) }
+/// `total op next`.
+pub(crate) fn longer(
+    alloc: Global,
+    total: Box<Gx>,
+    op: Op,
+    next: Box<Gx>,
+) -> Result<Box<Gx>, OutOfMemory>
+    ensures { IfOk result (λ y. term y.value ≡ t.both op (term total.value) (term next.value)) }
 {
-    Ok(Gx::Neg(Box::new(alloc, x)?))
+    boxed(
+        alloc,
+        chained(alloc, Box::into_inner(total), op, Box::into_inner(next))?,
+    )
+}
+
+/// `- x`.
+pub(crate) fn negative(alloc: Global, x: Box<Gx>) -> Result<Box<Gx>, OutOfMemory>
+    ensures { IfOk result (λ y. term y.value ≡ t.minus_of (term x.value)) }
+{
+    boxed(alloc, Gx::Neg(x))
 }
 
 /// A comparison.
-pub(crate) fn compare(alloc: Global, op: CmpOp, x: Gx, y: Gx) -> Result<Gc, OutOfMemory>
-    ensures { IfOk result (λ p. cond p ≡ t.compare (shown.sign op) (term x) (term y)) }
+pub(crate) fn compare(
+    alloc: Global,
+    op: CmpOp,
+    x: Box<Gx>,
+    y: Box<Gx>,
+) -> Result<Box<Gc>, OutOfMemory>
+    ensures { IfOk result (λ p. cond p.value ≡ t.compare (shown.sign op) (term x.value) (term y.value)) }
 {
-    let x = Box::new(alloc, x)?;
-    let y = Box::new(alloc, y)?;
-    Ok(match op {
-        CmpOp::Eq => Gc::Eq(x, y),
-        CmpOp::Ne => Gc::Ne(x, y),
-        CmpOp::Lt => Gc::Lt(x, y),
-        CmpOp::Le => Gc::Le(x, y),
-        CmpOp::Gt => Gc::Gt(x, y),
-        CmpOp::Ge => Gc::Ge(x, y),
-    })
+    match op {
+        CmpOp::Eq => boxed(alloc, Gc::Eq(x, y)),
+        CmpOp::Ne => boxed(alloc, Gc::Ne(x, y)),
+        CmpOp::Lt => boxed(alloc, Gc::Lt(x, y)),
+        CmpOp::Le => boxed(alloc, Gc::Le(x, y)),
+        CmpOp::Gt => boxed(alloc, Gc::Gt(x, y)),
+        CmpOp::Ge => boxed(alloc, Gc::Ge(x, y)),
+    }
 }
 
 /// `x = y`, of copies of x and of a whole y.
-pub(crate) fn equal_copy(alloc: Global, x: &Gx, y: Gx) -> Result<Gc, OutOfMemory>
-    ensures { IfOk result (λ p. cond p ≡ t.compare t.equal (term x.now) (term y)) }
+pub(crate) fn equal_copy(alloc: Global, x: &Gx, y: Box<Gx>) -> Result<Box<Gc>, OutOfMemory>
+    ensures { IfOk result (λ p. cond p.value ≡ t.compare t.equal (term x.now) (term y.value)) }
 {
-    compare(alloc, CmpOp::Eq, copy(alloc, x, ROOM)?, y)
+    let x = copied(alloc, x)?;
+    compare(alloc, CmpOp::Eq, x, y)
 }
 
 /// `x LIKE y`.
-pub(crate) fn like(alloc: Global, x: Gx, y: Gx) -> Result<Gc, OutOfMemory>
-    ensures { IfOk result (λ p. cond p ≡ t.compare t.like (term x) (term y)) }
+pub(crate) fn like(alloc: Global, x: Box<Gx>, y: Box<Gx>) -> Result<Box<Gc>, OutOfMemory>
+    ensures { IfOk result (λ p. cond p.value ≡ t.compare t.like (term x.value) (term y.value)) }
 {
-    Ok(Gc::Like(Box::new(alloc, x)?, Box::new(alloc, y)?))
+    boxed(alloc, Gc::Like(x, y))
 }
 
 /// `x IS NULL`.
-pub(crate) fn is_null(alloc: Global, x: Gx) -> Result<Gc, OutOfMemory>
-    ensures { IfOk result (λ p. cond p ≡ t.is_null (term x)) }
+pub(crate) fn is_null(alloc: Global, x: Box<Gx>) -> Result<Box<Gc>, OutOfMemory>
+    ensures { IfOk result (λ p. cond p.value ≡ t.is_null (term x.value)) }
 {
-    Ok(Gc::IsNull(Box::new(alloc, x)?))
+    boxed(alloc, Gc::IsNull(x))
+}
+
+/// `NOT p`.
+pub(crate) fn not(alloc: Global, p: Box<Gc>) -> Result<Box<Gc>, OutOfMemory>
+    ensures { IfOk result (λ r. cond r.value ≡ t.not (cond p.value)) }
+{
+    boxed(alloc, Gc::Not(p))
+}
+
+// `p AND q`.
+fn both_hold(alloc: Global, p: Box<Gc>, q: Box<Gc>) -> Result<Box<Gc>, OutOfMemory>
+    ensures { IfOk result (λ r. cond r.value ≡ t.and (cond p.value) (cond q.value)) }
+{
+    boxed(alloc, anded(alloc, Box::into_inner(p), Box::into_inner(q))?)
 }
 
 /// `x BETWEEN y AND z`.
-pub(crate) fn between(alloc: Global, x: Gx, y: Gx, z: Gx) -> Result<Gc, OutOfMemory>
-    ensures { IfOk result (λ p. cond p ≡ t.and (t.compare t.at_least (term x) (term y)) (t.compare t.at_most (term x) (term z))) }
+pub(crate) fn between(
+    alloc: Global,
+    x: Box<Gx>,
+    y: Box<Gx>,
+    z: Box<Gx>,
+) -> Result<Box<Gc>, OutOfMemory>
+    ensures { IfOk result (λ p. cond p.value ≡ t.and (t.compare t.at_least (term x.value) (term y.value)) (t.compare t.at_most (term x.value) (term z.value))) }
 {
-    let again = copy(alloc, &x, ROOM)?;
+    let again = copied(alloc, &x)?;
     let low = compare(alloc, CmpOp::Ge, x, y)?;
     let high = compare(alloc, CmpOp::Le, again, z)?;
-    anded(alloc, low, high)
+    both_hold(alloc, low, high)
 }
 
 /// Of some row, where it is asked for any, or of every row.
@@ -143,113 +213,188 @@ pub(crate) fn quantified(
     alloc: Global,
     each: Quantifier,
     q: QuantId,
-    p: Gc,
-) -> Result<Gc, OutOfMemory>
-    ensures { IfOk result (λ r. cond r ≡ shown.quantified each q (cond p)) }
+    p: Box<Gc>,
+) -> Result<Box<Gc>, OutOfMemory>
+    ensures { IfOk result (λ r. cond r.value ≡ shown.quantified each q (cond p.value)) }
 {
-    let p = Box::new(alloc, p)?;
-    Ok(match each {
-        Quantifier::Any | Quantifier::Some => Gc::Some(q, p),
-        Quantifier::All => Gc::Every(q, p),
-    })
+    match each {
+        Quantifier::Any | Quantifier::Some => boxed(alloc, Gc::Some(q, p)),
+        Quantifier::All => boxed(alloc, Gc::Every(q, p)),
+    }
+}
+
+// Adds a condition of a CASE and its result.
+fn push_arm(list: &mut Vec<Arm>, when: Box<Gc>, then: Box<Gx>) -> Result<(), OutOfMemory>
+    ensures { OnOk result (list.new.items ≡ list.old.items ++ (record { when = when.value; then = then.value }) ∷ []) }
+{
+    let arm = Arm {
+        when: Box::into_inner(when),
+        then: Box::into_inner(then),
+    };
+    push(list, arm)
 }
 
 /// `CASE WHEN p THEN x ELSE y END`.
 #[tactic(auto, using(qgm_terms::proofs::Lists::lists))]
-pub(crate) fn case_of(alloc: Global, p: Gc, x: Gx, y: Gx) -> Result<Gx, OutOfMemory>
-    ensures { IfOk result (λ z. term z ≡ shown.case (cond p) (term x) (term y)) }
+pub(crate) fn case_of(
+    alloc: Global,
+    p: Box<Gc>,
+    x: Box<Gx>,
+    y: Box<Gx>,
+) -> Result<Box<Gx>, OutOfMemory>
+    ensures { IfOk result (λ z. term z.value ≡ shown.case (cond p.value) (term x.value) (term y.value)) }
 {
     let mut arms = Vec::new(alloc);
-    arms.push(Arm { when: p, then: x })?;
-    Ok(Gx::Case(arms, Box::new(alloc, y)?))
+    push_arm(&mut arms, p, x)?;
+    boxed(alloc, Gx::Case(arms, y))
 }
 
 /// `NULLIF(x, y)`: `CASE WHEN x = y THEN NULL ELSE x END`, whose NULL has the type of x.
 pub(crate) fn null_if(
     alloc: Global,
     rows: &[Items<SqlType>],
-    x: Gx,
-    y: Gx,
-) -> Result<Gx, OutOfMemory>
-    ensures { IfOk result (λ z. term z ≡ shown.case (t.compare t.equal (term x) (term y)) (shown.null_as (typed_by rows.now (term x))) (term x)) }
+    x: Box<Gx>,
+    y: Box<Gx>,
+) -> Result<Box<Gx>, OutOfMemory>
+    ensures { IfOk result (λ z. term z.value ≡ shown.case (t.compare t.equal (term x.value) (term y.value)) (shown.null_as (typed_by rows.now (term x.value))) (term x.value)) }
 {
     let p = equal_copy(alloc, &x, y)?;
-    let null = null_as(type_of(rows, &x));
+    let null = null_as(alloc, type_of(rows, &x))?;
     case_of(alloc, p, null, x)
 }
 
 // `CASE WHEN x IS NOT NULL THEN x ELSE y END`.
-fn present_or(alloc: Global, x: Gx, y: Gx) -> Result<Gx, OutOfMemory>
-    ensures { IfOk result (λ z. term z ≡ shown.case (t.not (t.is_null (term x))) (term x) (term y)) }
+fn present_or(alloc: Global, x: Box<Gx>, y: Box<Gx>) -> Result<Box<Gx>, OutOfMemory>
+    ensures { IfOk result (λ z. term z.value ≡ shown.case (t.not (t.is_null (term x.value))) (term x.value) (term y.value)) }
 {
-    let again = copy(alloc, &x, ROOM)?;
-    let p = negated(alloc, is_null(alloc, again)?)?;
+    let again = copied(alloc, &x)?;
+    let p = is_null(alloc, again)?;
+    let p = not(alloc, p)?;
     case_of(alloc, p, x, y)
 }
 
 /// The AND of these, true where there is none.
 #[tactic(auto, using(qgm_terms::proofs::Lists::lists))]
-pub(crate) fn all_of(alloc: Global, list: Vec<Gc>) -> Result<Gc, OutOfMemory>
-    ensures { IfOk result (λ p. cond p ≡ spec.all_of (conds list.items)) }
+pub(crate) fn all_of(alloc: Global, list: Vec<Gc>) -> Result<Box<Gc>, OutOfMemory>
+    ensures { IfOk result (λ p. cond p.value ≡ spec.all_of (conds list.items)) }
 {
     if list.is_empty() {
-        return Ok(Gc::True);
+        return boxed(alloc, Gc::True);
     }
     let mut rest = list;
-    let first = rest.remove(0);
-    Ok(Gc::All(Box::new(alloc, first)?, rest))
+    let first = take_first(alloc, &mut rest)?;
+    boxed(alloc, Gc::All(first, rest))
+}
+
+// Never.
+fn never(alloc: Global) -> Result<Box<Gc>, OutOfMemory>
+    ensures { IfOk result (λ p. cond p.value ≡ t.not t.always) }
+{
+    let p = boxed(alloc, Gc::True)?;
+    not(alloc, p)
 }
 
 /// The OR of these, false where there is none.
 #[tactic(auto, using(qgm_terms::proofs::Lists::lists))]
-pub(crate) fn any_of(alloc: Global, list: Vec<Gc>) -> Result<Gc, OutOfMemory>
-    ensures { IfOk result (λ p. cond p ≡ spec.any_of (conds list.items)) }
+pub(crate) fn any_of(alloc: Global, list: Vec<Gc>) -> Result<Box<Gc>, OutOfMemory>
+    ensures { IfOk result (λ p. cond p.value ≡ spec.any_of (conds list.items)) }
 {
     if list.is_empty() {
-        return negated(alloc, Gc::True);
+        return never(alloc);
     }
     let mut rest = list;
-    let first = rest.remove(0);
-    Ok(Gc::Any(Box::new(alloc, first)?, rest))
+    let first = take_first(alloc, &mut rest)?;
+    boxed(alloc, Gc::Any(first, rest))
 }
 
 // Turns the last two of these into one while there are two: `COALESCE`, written out from its end.
 #[tactic(auto, using(crate::proofs::Wholes::coalesced_more))]
-fn coalesced_onto(alloc: Global, list: Vec<Gx>, last: Gx) -> Result<Gx, OutOfMemory>
-    ensures { IfOk result (λ y. term y ≡ spec.coalesced_onto (terms list.items) (term last)) }
+fn coalesced_onto(alloc: Global, list: Vec<Gx>, last: Box<Gx>) -> Result<Box<Gx>, OutOfMemory>
+    ensures { IfOk result (λ y. term y.value ≡ spec.coalesced_onto (terms list.items) (term last.value)) }
 {
     let mut rest = list;
     let mut total = last;
     while let Some(x) = rest.pop() {
+        let x = boxed(alloc, x)?;
         total = present_or(alloc, x, total)?;
     }
     Ok(total)
 }
 
-/// The first of these that isn't null, the last where each before it is; null where there is none.
-#[tactic(auto, using(crate::proofs::Wholes::coalesced_last))]
-pub(crate) fn coalesced(alloc: Global, list: Vec<Gx>) -> Result<Gx, OutOfMemory>
-    ensures { IfOk result (λ y. term y ≡ spec.coalesced (terms list.items)) }
+// The first of these that isn't null, the last where each before it is.
+fn coalesced_before(
+    alloc: Global,
+    first: Box<Gx>,
+    list: Vec<Gx>,
+    last: Box<Gx>,
+) -> Result<Box<Gx>, OutOfMemory>
+    ensures { IfOk result (λ y. term y.value ≡ spec.coalesced_onto (term first.value ∷ terms list.items) (term last.value)) }
 {
-    let mut rest = list;
+    let others = coalesced_onto(alloc, list, last)?;
+    present_or(alloc, first, others)
+}
+
+/// The first of these that isn't null, the last where each before it is.
+#[tactic(auto, using(crate::proofs::Wholes::coalesced_first))]
+pub(crate) fn coalesced(
+    alloc: Global,
+    first: Box<Gx>,
+    others: Vec<Gx>,
+) -> Result<Box<Gx>, OutOfMemory>
+    ensures { IfOk result (λ y. term y.value ≡ spec.coalesced (term first.value ∷ terms others.items)) }
+{
+    let mut rest = others;
     match rest.pop() {
-        Some(last) => coalesced_onto(alloc, rest, last),
-        None => Ok(Gx::NullInt),
+        Some(last) => {
+            let last = boxed(alloc, last)?;
+            coalesced_before(alloc, first, rest, last)
+        }
+        None => Ok(first),
     }
 }
 
-// The result of a CASE of this type.
-fn closed(of: SqlType, x: Option<Gx>) -> Gx
-    ensures { term result ≡ spec.closed of (open_of x) }
+// Whether it is a NULL that has no type of its own.
+fn is_untyped(x: &Value) -> bool
+    ensures { result ≡ shown.is_untyped (meant.value x.now) }
 {
     match x {
-        Some(x) => x,
-        None => null_as(of),
+        Value::Null(None) => true,
+        Value::Null(Some(_))
+        | Value::Number(_)
+        | Value::Text(_)
+        | Value::Column(_, _)
+        | Value::Sum(_, _)
+        | Value::Product(_, _)
+        | Value::Negative(_)
+        | Value::Searched(_, _)
+        | Value::Simple(_, _, _)
+        | Value::Coalesce(_, _)
+        | Value::NullIf(_, _)
+        | Value::Scalar(_)
+        | Value::CountAll
+        | Value::Aggregate(_, _, _) => false,
+    }
+}
+
+/// What a result of a CASE stands as: none for a NULL without a type of its own.
+pub(crate) fn open(x: &Value, y: Box<Gx>) -> Option<Box<Gx>>
+    ensures { open_of result ≡ spec.open_term (meant.value x.now) (term y.value) }
+{
+    if is_untyped(x) { None } else { Some(y) }
+}
+
+// The result of a CASE of this type.
+fn closed(alloc: Global, of: SqlType, x: Option<Box<Gx>>) -> Result<Box<Gx>, OutOfMemory>
+    ensures { IfOk result (λ y. term y.value ≡ spec.closed of (open_of x)) }
+{
+    match x {
+        Some(x) => Ok(x),
+        None => null_as(alloc, of),
     }
 }
 
 // The type of a result, or this one where it has none of its own.
-fn own_type(rows: &[Items<SqlType>], x: &Option<Gx>, other: SqlType) -> SqlType
+fn own_type(rows: &[Items<SqlType>], x: &Option<Box<Gx>>, other: SqlType) -> SqlType
     ensures { result ≡ spec.own_type rows.now (open_of x.now) other }
 {
     match x {
@@ -270,16 +415,26 @@ fn first_type(rows: &[Items<SqlType>], list: &[OpenArm], other: SqlType) -> SqlT
     other
 }
 
+// Adds a condition of a CASE, whose result has this type.
+fn push_closed(
+    alloc: Global,
+    of: SqlType,
+    arm: OpenArm,
+    out: &mut Vec<Arm>,
+) -> Result<(), OutOfMemory>
+    ensures { OnOk result (choices out.new.items ≡ choices out.old.items ++ spec.closed_choice of (open_choice arm) ∷ []) }
+{
+    let then = closed(alloc, of, arm.then)?;
+    push_arm(out, arm.when, then)
+}
+
 // The conditions of a CASE, whose results have this type.
 fn closed_arms(alloc: Global, of: SqlType, list: Vec<OpenArm>) -> Result<Vec<Arm>, OutOfMemory>
     ensures { IfOk result (λ v. choices v.items ≡ map (spec.closed_choice of) (opened list.items)) }
 {
     let mut arms = Vec::new(alloc);
     for arm in list {
-        arms.push(Arm {
-            when: arm.when,
-            then: closed(of, arm.then),
-        })?;
+        push_closed(alloc, of, arm, &mut arms)?;
     }
     Ok(arms)
 }
@@ -290,12 +445,13 @@ fn chosen_as(
     alloc: Global,
     of: SqlType,
     list: Vec<OpenArm>,
-    last: Option<Gx>,
-) -> Result<Gx, OutOfMemory>
-    ensures { IfOk result (λ y. term y ≡ spec.chosen_as of (opened list.items) (open_of last)) }
+    last: Option<Box<Gx>>,
+) -> Result<Box<Gx>, OutOfMemory>
+    ensures { IfOk result (λ y. term y.value ≡ spec.chosen_as of (opened list.items) (open_of last)) }
 {
+    let last = closed(alloc, of, last)?;
     let arms = closed_arms(alloc, of, list)?;
-    Ok(Gx::Case(arms, Box::new(alloc, closed(of, last))?))
+    boxed(alloc, Gx::Case(arms, last))
 }
 
 /// `CASE WHEN .. THEN .. ELSE .. END`. A NULL without a type has that of the first result that has one.
@@ -303,13 +459,22 @@ pub(crate) fn chosen(
     alloc: Global,
     rows: &[Items<SqlType>],
     list: Vec<OpenArm>,
-    last: Option<Gx>,
-) -> Result<Gx, OutOfMemory>
-    ensures { IfOk result (λ y. term y ≡ spec.chosen rows.now (opened list.items) (open_of last)) }
+    last: Option<Box<Gx>>,
+) -> Result<Box<Gx>, OutOfMemory>
+    ensures { IfOk result (λ y. term y.value ≡ spec.chosen rows.now (opened list.items) (open_of last)) }
 {
     let other = own_type(rows, &last, SqlType::Integer);
     let of = first_type(rows, &list, other);
     chosen_as(alloc, of, list, last)
+}
+
+// Adds `x = y`.
+fn push_equal(alloc: Global, x: &Gx, y: Gx, out: &mut Vec<Gc>) -> Result<(), OutOfMemory>
+    ensures { OnOk result (conds out.new.items ≡ conds out.old.items ++ t.compare t.equal (term x.now) (term y) ∷ []) }
+{
+    let y = boxed(alloc, y)?;
+    let p = equal_copy(alloc, x, y)?;
+    push_boxed(out, p)
 }
 
 // `x = y` for each y of a list.
@@ -318,29 +483,43 @@ fn equal_each(alloc: Global, x: &Gx, list: Vec<Gx>) -> Result<Vec<Gc>, OutOfMemo
 {
     let mut all = Vec::new(alloc);
     for y in list {
-        all.push(equal_copy(alloc, x, y)?)?;
+        push_equal(alloc, x, y, &mut all)?;
     }
     Ok(all)
 }
 
 /// `x IN (..)`: `x = y OR ..`.
-pub(crate) fn equals_one(alloc: Global, x: &Gx, list: Vec<Gx>) -> Result<Gc, OutOfMemory>
-    ensures { IfOk result (λ p. cond p ≡ spec.any_of (map (t.compare t.equal (term x.now)) (terms list.items))) }
+pub(crate) fn equals_one(alloc: Global, x: Box<Gx>, list: Vec<Gx>) -> Result<Box<Gc>, OutOfMemory>
+    ensures { IfOk result (λ p. cond p.value ≡ spec.any_of (map (t.compare t.equal (term x.value)) (terms list.items))) }
 {
-    let all = equal_each(alloc, x, list)?;
+    let all = equal_each(alloc, &x, list)?;
     any_of(alloc, all)
 }
 
 /// A comparison with the column of a quantifier.
-pub(crate) fn compare_column(alloc: Global, op: CmpOp, x: Gx, q: QuantId) -> Result<Gc, OutOfMemory>
-    ensures { IfOk result (λ p. cond p ≡ t.compare (shown.sign op) (term x) (t.col q 1)) }
+pub(crate) fn compare_column(
+    alloc: Global,
+    op: CmpOp,
+    x: Box<Gx>,
+    q: QuantId,
+) -> Result<Box<Gc>, OutOfMemory>
+    ensures { IfOk result (λ p. cond p.value ≡ t.compare (shown.sign op) (term x.value) (t.col q 1)) }
 {
-    compare(alloc, op, x, Gx::Col(q, 1))
+    let y = boxed(alloc, Gx::Col(q, 1))?;
+    compare(alloc, op, x, y)
 }
 
 /// Of some row.
-pub(crate) fn some_row(alloc: Global, q: QuantId, p: Gc) -> Result<Gc, OutOfMemory>
-    ensures { IfOk result (λ r. cond r ≡ t.some q (cond p)) }
+pub(crate) fn some_row(alloc: Global, q: QuantId, p: Box<Gc>) -> Result<Box<Gc>, OutOfMemory>
+    ensures { IfOk result (λ r. cond r.value ≡ t.some q (cond p.value)) }
 {
-    Ok(Gc::Some(q, Box::new(alloc, p)?))
+    boxed(alloc, Gc::Some(q, p))
+}
+
+/// Whether there is a row.
+pub(crate) fn any_row(alloc: Global, q: QuantId) -> Result<Box<Gc>, OutOfMemory>
+    ensures { IfOk result (λ r. cond r.value ≡ t.some q t.always) }
+{
+    let p = boxed(alloc, Gc::True)?;
+    some_row(alloc, q, p)
 }

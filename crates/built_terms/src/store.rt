@@ -10,6 +10,7 @@ ghost use Rattle.qgm_shown.specs.Typing.{typed_by};
 ghost use Rattle.built_terms.specs.Making.{Gives, Takes, draws};
 ghost use Rattle.built_terms.specs.SoFar.{so_far};
 
+use crate::boxes::push;
 use crate::types::type_of;
 use qgm_core::{
     BoxId, BoxKind, BoxParts, Conds, Distinct, Gx, Head, NewBox, Owned, OwnedQuant, QuantId,
@@ -110,29 +111,51 @@ fn distinct_of(distinct: bool) -> Distinct
     }
 }
 
-fn head_types(alloc: Global, st: &Store, head: &Head) -> Result<Items<SqlType>, OutOfMemory>
-    ensures { IfOk result (λ types. types ≡ map (typed_by st.now.rows.items) head.now) }
+// The types of the expressions of a head.
+fn head_types(
+    alloc: Global,
+    rows: &[Items<SqlType>],
+    head: &Head,
+) -> Result<Items<SqlType>, OutOfMemory>
+    ensures { IfOk result (λ types. types ≡ map (typed_by rows.now) head.now) }
 {
     let mut types = Items::new(alloc);
     for x in head.as_slice() {
-        types.push(type_of(&st.rows, x))?;
+        types.push(type_of(rows, x))?;
     }
     Ok(types)
 }
 
+// The types of the columns of a box of this kind and with this head.
 fn types_of(
     alloc: Global,
-    st: &Store,
+    rows: &[Items<SqlType>],
     kind: &BoxKind,
     head: &Head,
 ) -> Result<Items<SqlType>, OutOfMemory>
-    ensures { IfOk result (λ types. types ≡ column_types st.now.rows.items kind.now head.now) }
+    ensures { IfOk result (λ types. types ≡ column_types rows.now kind.now head.now) }
 {
     match kind {
         BoxKind::Base(table) => Ok(Items::from_slice(alloc, table.types.as_slice())?),
         BoxKind::SetOp(_, types) => Ok(Items::from_slice(alloc, types.as_slice())?),
-        BoxKind::Select | BoxKind::Group(_) | BoxKind::OuterJoin => head_types(alloc, st, head),
+        BoxKind::Select | BoxKind::Group(_) | BoxKind::OuterJoin => head_types(alloc, rows, head),
     }
+}
+
+// Adds the types of the columns of a box, if as many as it has may still be written.
+fn add_types(
+    alloc: Global,
+    rows: &[Items<SqlType>],
+    kind: &BoxKind,
+    head: &Head,
+    left: &mut usize,
+    out: &mut Vec<Items<SqlType>>,
+) -> Result<(), OutOfMemory>
+    ensures { OnOk result (out.new.items ≡ out.old.items ++ column_types rows.now kind.now head.now ∷ []) }
+{
+    let types = types_of(alloc, rows, kind, head)?;
+    *left = left.checked_sub(types.len()).ok_or(OutOfMemory)?;
+    push(out, types)
 }
 
 /// Makes a plain box on top of all, if as many columns as it has may still be written.
@@ -150,8 +173,7 @@ pub fn put(
 {
     let id = st.made.len();
     let distinct = distinct_of(distinct);
-    let types = types_of(alloc, st, &kind, &head)?;
-    st.left = st.left.checked_sub(types.len()).ok_or(OutOfMemory)?;
+    add_types(alloc, &st.rows, &kind, &head, &mut st.left, &mut st.types)?;
     let parts = BoxParts {
         kind,
         distinct,
@@ -159,7 +181,6 @@ pub fn put(
         conds,
         head,
     };
-    st.types.push(types)?;
-    st.made.push(NewBox { parts, quants })?;
+    push(&mut st.made, NewBox { parts, quants })?;
     Ok(id)
 }

@@ -10,60 +10,38 @@ ghost use Rattle.built_terms.specs.Setting as spec;
 ghost use Rattle.built_terms.specs.Setting.{frame_in, outer_in, sources_in};
 ghost use Rattle.built_terms.specs.Written.{slots_of};
 
+use crate::boxes::push_boxed;
 use crate::parts as made;
 use crate::parts::OpenArm;
 use crate::seen::{Scopes, seen_at};
 use crate::setting::Setting;
 use crate::slots::{Slots, take_cell, take_quant};
-use qgm_terms::{Gc, Gx, chained, negated};
+use qgm_terms::{Gc, Gx};
 use shared_types::{CmpOp, OutOfMemory};
 use sql_meaning::{Addend, Arm, Choice, Multiplier, Test, Value};
 use std::alloc::Global;
 
-// Whether it is a NULL that has no type of its own.
-fn is_untyped(x: &Value) -> bool
-    ensures { result ≡ t.is_untyped (shown.value x.now) }
-{
-    match x {
-        Value::Null(None) => true,
-        Value::Null(Some(_))
-        | Value::Number(_)
-        | Value::Text(_)
-        | Value::Column(_, _)
-        | Value::Sum(_, _)
-        | Value::Product(_, _)
-        | Value::Negative(_)
-        | Value::Searched(_, _)
-        | Value::Simple(_, _, _)
-        | Value::Coalesce(_, _)
-        | Value::NullIf(_, _)
-        | Value::Scalar(_)
-        | Value::CountAll
-        | Value::Aggregate(_, _, _) => false,
-    }
-}
-
 // A column.
-fn column(g: &Setting<'_>, scope: usize, place: usize) -> Gx
-    ensures { term result ≡ spec.column_in g.now scope place }
+fn column(g: &Setting<'_>, scope: usize, place: usize) -> Result<Box<Gx>, OutOfMemory>
+    ensures { IfOk result (λ y. term y.value ≡ spec.column_in g.now scope place) }
 {
     let inner = Scopes::Inside(g.frame, g.outer);
-    made::seen_term(seen_at(&inner, scope, place))
+    made::seen(g.alloc, seen_at(&inner, scope, place))
 }
 
 /// The expression of a value, where it stands. It fails only for want of memory.
 #[cycle(terms)]
 #[tactic(auto, using(sql_meaning::specs::ResolvedShown::lists, crate::proofs::Afters::afters, crate::proofs::Wholes::wholes))]
-pub fn value(g: &Setting<'_>, x: &Value, s: &mut Slots<'_>) -> Result<Gx, OutOfMemory>
-    ensures term { IfOk result (λ y. term y ≡ t.term (sources_in g.now) (frame_in g.now) (outer_in g.now) (slots_of s.old) (shown.value x.now)) }
+pub fn value(g: &Setting<'_>, x: &Value, s: &mut Slots<'_>) -> Result<Box<Gx>, OutOfMemory>
+    ensures term { IfOk result (λ y. term y.value ≡ t.term (sources_in g.now) (frame_in g.now) (outer_in g.now) (slots_of s.old) (shown.value x.now)) }
     ensures slots { OnOk result (slots_of s.new ≡ l.after (l.leaves (frame_in g.now) (shown.value x.now)) (slots_of s.old)) }
 {
     let alloc = g.alloc;
     match x {
-        Value::Number(n) => Ok(Gx::Int(*n)),
+        Value::Number(n) => made::number(alloc, *n),
         Value::Text(x) => made::text(alloc, x),
-        Value::Null(of) => Ok(made::null_of(*of)),
-        Value::Column(scope, place) => Ok(column(g, *scope, *place)),
+        Value::Null(of) => made::null_of(alloc, *of),
+        Value::Column(scope, place) => column(g, *scope, *place),
         Value::Sum(a, list) => {
             let first = value(g, a, s)?;
             sum(g, list.as_slice(), first, s)
@@ -80,38 +58,43 @@ pub fn value(g: &Setting<'_>, x: &Value, s: &mut Slots<'_>) -> Result<Gx, OutOfM
         }
         Value::Simple(a, list, last) => {
             let a = value(g, a, s)?;
-            let list = choices(g, list.as_slice(), &a, s)?;
+            let x: &Gx = &a;
+            let list = choices(g, list.as_slice(), x, s)?;
             let last = outcome(g, last, s)?;
             made::chosen(alloc, g.rows, list, last)
         }
         Value::Coalesce(a, list) => {
-            let mut all = Vec::new(alloc);
             let a = value(g, a, s)?;
-            all.push(a)?;
+            let mut all = Vec::new(alloc);
             values(g, list.as_slice(), s, &mut all)?;
-            made::coalesced(alloc, all)
+            made::coalesced(alloc, a, all)
         }
         Value::NullIf(a, b) => {
             let a = value(g, a, s)?;
             let b = value(g, b, s)?;
             made::null_if(alloc, g.rows, a, b)
         }
-        Value::Scalar(_) => Ok(Gx::Scalar(take_quant(s))),
-        Value::CountAll | Value::Aggregate(_, _, _) => Ok(made::seen_term(take_cell(s))),
+        Value::Scalar(_) => made::scalar(alloc, take_quant(s)),
+        Value::CountAll | Value::Aggregate(_, _, _) => made::seen(alloc, take_cell(s)),
     }
 }
 
 // A first operand, and what is added to it.
 #[cycle(terms)]
 #[tactic(auto, using(crate::proofs::Afters::afters))]
-fn sum(g: &Setting<'_>, list: &[Addend], first: Gx, s: &mut Slots<'_>) -> Result<Gx, OutOfMemory>
-    ensures term { IfOk result (λ y. term y ≡ t.summed (sources_in g.now) (frame_in g.now) (outer_in g.now) (slots_of s.old) (term first) (shown.addend_list list.now)) }
+fn sum(
+    g: &Setting<'_>,
+    list: &[Addend],
+    first: Box<Gx>,
+    s: &mut Slots<'_>,
+) -> Result<Box<Gx>, OutOfMemory>
+    ensures term { IfOk result (λ y. term y.value ≡ t.summed (sources_in g.now) (frame_in g.now) (outer_in g.now) (slots_of s.old) (term first.value) (shown.addend_list list.now)) }
     ensures slots { OnOk result (slots_of s.new ≡ l.after (l.addend_leaves (frame_in g.now) (shown.addend_list list.now)) (slots_of s.old)) }
 {
     let mut total = first;
     for x in list {
         let next = value(g, &x.value, s)?;
-        total = chained(g.alloc, total, made::additive(x.op), next)?;
+        total = made::longer(g.alloc, total, made::additive(x.op), next)?;
     }
     Ok(total)
 }
@@ -122,16 +105,16 @@ fn sum(g: &Setting<'_>, list: &[Addend], first: Gx, s: &mut Slots<'_>) -> Result
 fn product(
     g: &Setting<'_>,
     list: &[Multiplier],
-    first: Gx,
+    first: Box<Gx>,
     s: &mut Slots<'_>,
-) -> Result<Gx, OutOfMemory>
-    ensures term { IfOk result (λ y. term y ≡ t.multiplied (sources_in g.now) (frame_in g.now) (outer_in g.now) (slots_of s.old) (term first) (shown.multiplier_list list.now)) }
+) -> Result<Box<Gx>, OutOfMemory>
+    ensures term { IfOk result (λ y. term y.value ≡ t.multiplied (sources_in g.now) (frame_in g.now) (outer_in g.now) (slots_of s.old) (term first.value) (shown.multiplier_list list.now)) }
     ensures slots { OnOk result (slots_of s.new ≡ l.after (l.multiplier_leaves (frame_in g.now) (shown.multiplier_list list.now)) (slots_of s.old)) }
 {
     let mut total = first;
     for x in list {
         let next = value(g, &x.value, s)?;
-        total = chained(g.alloc, total, made::multiplicative(x.op), next)?;
+        total = made::longer(g.alloc, total, made::multiplicative(x.op), next)?;
     }
     Ok(total)
 }
@@ -150,22 +133,19 @@ pub fn values(
 {
     for x in list {
         let y = value(g, x, s)?;
-        out.push(y)?;
+        push_boxed(out, y)?;
     }
     Ok(())
 }
 
 // A result of a CASE; none for a NULL without a type of its own.
 #[cycle(terms)]
-fn outcome(g: &Setting<'_>, x: &Value, s: &mut Slots<'_>) -> Result<Option<Gx>, OutOfMemory>
+fn outcome(g: &Setting<'_>, x: &Value, s: &mut Slots<'_>) -> Result<Option<Box<Gx>>, OutOfMemory>
     ensures term { IfOk result (λ y. open_of y ≡ spec.outcome_in g.now (slots_of s.old) (shown.value x.now)) }
     ensures slots { OnOk result (slots_of s.new ≡ l.after (l.leaves (frame_in g.now) (shown.value x.now)) (slots_of s.old)) }
 {
     let y = value(g, x, s)?;
-    if is_untyped(x) {
-        return Ok(None);
-    }
-    Ok(Some(y))
+    Ok(made::open(x, y))
 }
 
 // The conditions of a CASE with their results.
@@ -209,8 +189,8 @@ fn choices(
 /// The condition of a test, where it stands. It fails only for want of memory.
 #[cycle(terms)]
 #[tactic(auto, using(sql_meaning::specs::ResolvedShown::lists, crate::proofs::Afters::afters, crate::proofs::Wholes::wholes))]
-pub fn test(g: &Setting<'_>, p: &Test, s: &mut Slots<'_>) -> Result<Gc, OutOfMemory>
-    ensures cond { IfOk result (λ c. cond c ≡ t.cond (sources_in g.now) (frame_in g.now) (outer_in g.now) (slots_of s.old) (shown.test p.now)) }
+pub fn test(g: &Setting<'_>, p: &Test, s: &mut Slots<'_>) -> Result<Box<Gc>, OutOfMemory>
+    ensures cond { IfOk result (λ c. cond c.value ≡ t.cond (sources_in g.now) (frame_in g.now) (outer_in g.now) (slots_of s.old) (shown.test p.now)) }
     ensures slots { OnOk result (slots_of s.new ≡ l.after (l.test_leaves (frame_in g.now) (shown.test p.now)) (slots_of s.old)) }
 {
     let alloc = g.alloc;
@@ -223,7 +203,7 @@ pub fn test(g: &Setting<'_>, p: &Test, s: &mut Slots<'_>) -> Result<Gc, OutOfMem
             let list = tests(g, list.as_slice(), s)?;
             made::any_of(alloc, list)
         }
-        Test::Not(p) => negated(alloc, test(g, p, s)?),
+        Test::Not(p) => made::not(alloc, test(g, p, s)?),
         Test::Compare(a, op, b) => {
             let a = value(g, a, s)?;
             let b = value(g, b, s)?;
@@ -245,7 +225,7 @@ pub fn test(g: &Setting<'_>, p: &Test, s: &mut Slots<'_>) -> Result<Gc, OutOfMem
             let a = value(g, a, s)?;
             let mut all = Vec::new(alloc);
             values(g, list.as_slice(), s, &mut all)?;
-            made::equals_one(alloc, &a, all)
+            made::equals_one(alloc, a, all)
         }
         Test::AmongRows(a, _) => {
             let a = value(g, a, s)?;
@@ -259,7 +239,7 @@ pub fn test(g: &Setting<'_>, p: &Test, s: &mut Slots<'_>) -> Result<Gc, OutOfMem
             made::like(alloc, a, b)
         }
         Test::IsNull(a) => made::is_null(alloc, value(g, a, s)?),
-        Test::Exists(_) => made::some_row(alloc, take_quant(s), Gc::True),
+        Test::Exists(_) => made::any_row(alloc, take_quant(s)),
     }
 }
 
@@ -273,7 +253,7 @@ fn tests(g: &Setting<'_>, list: &[Test], s: &mut Slots<'_>) -> Result<Vec<Gc>, O
     let mut out = Vec::new(g.alloc);
     for p in list {
         let c = test(g, p, s)?;
-        out.push(c)?;
+        push_boxed(&mut out, c)?;
     }
     Ok(out)
 }

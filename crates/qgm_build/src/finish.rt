@@ -20,7 +20,7 @@ ghost use Rattle.built_terms.specs.Written.{frame_of, ref_of, slots_from};
 use crate::select::{Block, Rows, Selected, write_block, write_conds};
 use built_terms::{
     Fold, Ground, Ranges, Scopes, Seat, Seen, Setting, Slots, Store, frame, head_of, in_frame,
-    on_conds, on_folds, put, seen_term, setting_of, site_of, ungrouped_cells, value,
+    on_conds, on_folds, push_boxed, put, seen_term, setting_of, site_of, ungrouped_cells, value,
 };
 use qgm_core::{BoxId, BoxKind, Conds, Gx, Head, Owned, OwnedQuant};
 use shared_types::OutOfMemory;
@@ -128,9 +128,9 @@ fn key_terms(alloc: Global, frame: &[Seen], places: &[usize]) -> Result<Vec<Gx>,
 }
 
 // An argument of an aggregate, which sees its row alone.
-fn argument(g: &Setting<'_>, x: &Value) -> Result<Gx, OutOfMemory>
+fn argument(g: &Setting<'_>, x: &Value) -> Result<Box<Gx>, OutOfMemory>
     requires alone { outer_in g.now ≡ [] }
-    ensures { IfOk result (λ y. term y ≡ meant.term (sources_in g.now) (frame_in g.now) [] w.no_slots (shown.value x.now)) }
+    ensures { IfOk result (λ y. term y.value ≡ meant.term (sources_in g.now) (frame_in g.now) [] w.no_slots (shown.value x.now)) }
 {
     let mut s = Slots {
         quants: &[],
@@ -150,7 +150,7 @@ fn argument_terms(g: &Setting<'_>, folds: &[Fold<'_>], out: &mut Vec<Gx>) -> Res
             Fold::CountAll => {}
             Fold::Of(_, _, a) => {
                 let y = argument(g, a)?;
-                out.push(y)?;
+                push_boxed(out, y)?;
             }
         }
     }

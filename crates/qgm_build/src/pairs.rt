@@ -21,7 +21,7 @@ ghost use Rattle.built_terms.specs.Written.{frame_of};
 use crate::finish::{append, seen_terms};
 use crate::select::Selected;
 use built_terms::{
-    Fold, Ground, Seat, Seen, Slots, Store, add_split, after, draw, fold_terms, from_width,
+    Fold, Ground, Seat, Seen, Slots, Store, add_boxed, after, draw, fold_terms, from_width,
     group_cells, head_of, list_folds, push_refs, put, row_type, setting_of, site_of, test,
     test_folds, values,
 };
@@ -120,7 +120,7 @@ fn write_upper(
     values(&setting, z.list, &mut s, &mut list)?;
     let p = test(&setting, z.having, &mut s)?;
     let mut conds = Conds::new(alloc);
-    add_split(&mut conds, p)?;
+    add_boxed(&mut conds, p)?;
     let head = head_of(alloc, list)?;
     Ok(Selected { head, conds })
 }
@@ -238,7 +238,7 @@ fn outer_conds(h: &Seat<'_>, p: &Test, st: &Store) -> Result<Conds, OutOfMemory>
     };
     let c = test(&setting, p, &mut s)?;
     let mut conds = Conds::new(h.ground.alloc);
-    add_split(&mut conds, c)?;
+    add_boxed(&mut conds, c)?;
     Ok(conds)
 }
 

@@ -8,7 +8,7 @@ ghost use Rattle.built_terms.specs.Site.{sources_at};
 ghost use Rattle.built_terms.specs.Written.{frame_of, map_of};
 
 use built_terms::{
-    Fold, Ranges, Scopes, Seen, Setting, Site, Slots, add_split, all_on_conds, all_on_folds,
+    Fold, Ranges, Scopes, Seen, Setting, Site, Slots, add_boxed, all_on_conds, all_on_folds,
     head_of, list_folds, test, test_folds, ungrouped_cells, values,
 };
 use qgm_core::{Conds, Head, OwnedQuant};
@@ -94,7 +94,7 @@ pub(crate) fn write_block(
     let mut os = Ranges { rest: fs };
     all_on_conds(g, x.from, outer, &mut os, &mut s, &mut conds)?;
     let p = test(&setting, x.by, &mut s)?;
-    add_split(&mut conds, p)?;
+    add_boxed(&mut conds, p)?;
     let head = head_of(g.alloc, list)?;
     Ok(Selected { head, conds })
 }
@@ -130,6 +130,6 @@ pub(crate) fn write_conds(
     let mut os = Ranges { rest: fs };
     all_on_conds(g, x.from, outer, &mut os, &mut s, &mut conds)?;
     let p = test(&setting, x.by, &mut s)?;
-    add_split(&mut conds, p)?;
+    add_boxed(&mut conds, p)?;
     Ok(conds)
 }

@@ -9,10 +9,10 @@ use Rattle.built_terms.proofs.ons.+on_conds.Goals as goal
 
 pub returns-in_ok-c-in-Joined-clause-conds : goal.returns-in_ok-c-in-Joined-clause-conds
 returns-in_ok-c-in-Joined-clause-conds h c =
-    rw c.in-Joined.is (on_ok_weaker c.add_split.result (λ e. joined_read (sources_at c.args.g.now) (map_of c.args.outer.now) (shown.from c.in-Joined.a.value) (shown.from c.in-Joined.b.value)
+    rw c.in-Joined.is (on_ok_weaker c.add_boxed.result (λ e. joined_read (sources_at c.args.g.now) (map_of c.args.outer.now) (shown.from c.in-Joined.a.value) (shown.from c.in-Joined.b.value)
     (shown.from c.deref-in-Joined.result.now) (shown.from c.deref-in-Joined-2.result.now) (shown.from c.deref-in-Joined-3.result.now) (shown.from c.deref-in-Joined-4.result.now) (shown.test c.in-Joined.p.value) (shown.test c.deref-in-Joined-6.result.now)
     c.args.os.now.rest.now c.on_conds-in-Joined.new.os.rest.now (slots_of c.args.s.now) (slots_of c.on_conds-in-Joined.new.s) (slots_of c.on_conds-in-Joined-2.new.s)
-    (frame_of c.in_ok-seen-in-Joined.seen.items) (frame_of c.deref-in-Joined-5.result.now) c.args.out.now.items c.on_conds-in-Joined.new.out.items c.on_conds-in-Joined-2.new.out.items c.add_split.new.out.items (cond c.in_ok-c-in-Joined.c)
+    (frame_of c.in_ok-seen-in-Joined.seen.items) (frame_of c.deref-in-Joined-5.result.now) c.args.out.now.items c.on_conds-in-Joined.new.out.items c.on_conds-in-Joined-2.new.out.items c.add_boxed.new.out.items (cond c.in_ok-c-in-Joined.c.value)
     (ap shown.from c.deref-in-Joined.ensures) (ap shown.from c.deref-in-Joined-2.ensures) (ap shown.from c.deref-in-Joined-3.ensures) (ap shown.from c.deref-in-Joined-4.ensures) (ap shown.test c.deref-in-Joined-6.ensures) (ap frame_of c.deref-in-Joined-5.ensures.value)
     c.in_ok-on_conds-in-Joined.ensures.conds c.in_ok-on_conds-in-Joined.ensures.slots c.in_ok-on_conds-in-Joined.ensures.past c.in_ok-on_conds-in-Joined-2.ensures.conds c.in_ok-on_conds-in-Joined-2.ensures.slots
-    c.in_ok-seen-in-Joined.ensures c.in_ok-c-in-Joined.ensures.cond e) c.add_split.ensures.items)
+    c.in_ok-seen-in-Joined.ensures c.in_ok-c-in-Joined.ensures.cond e) c.add_boxed.ensures.items)

@@ -17,36 +17,36 @@ use Rattle.built_terms.specs.Parts.{arms_in, choices_in, conds_in}
 use Rattle.built_terms.specs.Setting.{frame_in, outer_in, shared_box, sources_in}
 use Rattle.built_terms.specs.Written.{slots_of}
 use Rattle.built_terms.proofs.Afters.{after_append}
-use Rattle.built_terms.proofs.Steps.{arm_read, choice_read, from_none, from_one, on_ok, step_both, step_chain, step_items, step_slots}
+use Rattle.built_terms.proofs.Steps.{arm_read, choice_read, from_none, on_ok, step_both, step_chain, step_items, step_slots}
 use Rattle.built_terms.proofs.Wholes.{coalesced_whole, equals_whole, searched_whole, simple_whole}
 use Rattle.built_terms.proofs.terms.+terms.Goals as goal
 
 pub sum-loop-x-preserved : goal.sum-loop-x-preserved
 sum-loop-x-preserved h c = record {
-  term = step_chain (λ (s : Slots) (x : Term) (xs : List Addend). t.summed (sources_in c.args.g.now) (frame_in c.args.g.now) (outer_in c.args.g.now) s x (shown.addend_list xs)) c.args.list.now c.loop-x.x-index c.x-item.result (slots_of c.loop-x.s) (slots_of c.value.new.s) (term c.loop-x.total) (term c.in_ok-total.total) _ c.loop-x-test.true c.x-item.is
-      (ap₂ (λ (s : Slots) (x : Term). t.summed (sources_in c.args.g.now) (frame_in c.args.g.now) (outer_in c.args.g.now) s x (shown.addend_list (drop (c.loop-x.x-index + 1) c.args.list.now))) (sym c.in_ok-next.ensures.slots) (ap₂ (λ o y. tree.both o (term c.loop-x.total) y) (sym c.additive.ensures) (sym c.in_ok-next.ensures.term) ∙ sym c.in_ok-total.ensures))
+  term = step_chain (λ (s : Slots) (x : Term) (xs : List Addend). t.summed (sources_in c.args.g.now) (frame_in c.args.g.now) (outer_in c.args.g.now) s x (shown.addend_list xs)) c.args.list.now c.loop-x.x-index c.x-item.result (slots_of c.loop-x.s) (slots_of c.value.new.s) (term c.loop-x.total.value) (term c.in_ok-total.total.value) _ c.loop-x-test.true c.x-item.is
+      (ap₂ (λ (s : Slots) (x : Term). t.summed (sources_in c.args.g.now) (frame_in c.args.g.now) (outer_in c.args.g.now) s x (shown.addend_list (drop (c.loop-x.x-index + 1) c.args.list.now))) (sym c.in_ok-next.ensures.slots) (ap₂ (λ o y. tree.both o (term c.loop-x.total.value) y) (sym c.additive.ensures) (sym c.in_ok-next.ensures.term) ∙ sym c.in_ok-total.ensures))
       c.loop-x.invariant.term;
   slots = step_slots (λ (xs : List Addend). w.addend_leaves (frame_in c.args.g.now) (shown.addend_list xs)) c.args.list.now c.loop-x.x-index c.x-item.result (w.leaves (frame_in c.args.g.now) (shown.value c.x-item.result.value)) (slots_of c.loop-x.s) (slots_of c.value.new.s) _ c.loop-x-test.true c.x-item.is refl c.in_ok-next.ensures.slots c.loop-x.invariant.slots;
 }
 
 pub product-loop-x-preserved : goal.product-loop-x-preserved
 product-loop-x-preserved h c = record {
-  term = step_chain (λ (s : Slots) (x : Term) (xs : List Multiplier). t.multiplied (sources_in c.args.g.now) (frame_in c.args.g.now) (outer_in c.args.g.now) s x (shown.multiplier_list xs)) c.args.list.now c.loop-x.x-index c.x-item.result (slots_of c.loop-x.s) (slots_of c.value.new.s) (term c.loop-x.total) (term c.in_ok-total.total) _ c.loop-x-test.true c.x-item.is
-      (ap₂ (λ (s : Slots) (x : Term). t.multiplied (sources_in c.args.g.now) (frame_in c.args.g.now) (outer_in c.args.g.now) s x (shown.multiplier_list (drop (c.loop-x.x-index + 1) c.args.list.now))) (sym c.in_ok-next.ensures.slots) (ap₂ (λ o y. tree.both o (term c.loop-x.total) y) (sym c.multiplicative.ensures) (sym c.in_ok-next.ensures.term) ∙ sym c.in_ok-total.ensures))
+  term = step_chain (λ (s : Slots) (x : Term) (xs : List Multiplier). t.multiplied (sources_in c.args.g.now) (frame_in c.args.g.now) (outer_in c.args.g.now) s x (shown.multiplier_list xs)) c.args.list.now c.loop-x.x-index c.x-item.result (slots_of c.loop-x.s) (slots_of c.value.new.s) (term c.loop-x.total.value) (term c.in_ok-total.total.value) _ c.loop-x-test.true c.x-item.is
+      (ap₂ (λ (s : Slots) (x : Term). t.multiplied (sources_in c.args.g.now) (frame_in c.args.g.now) (outer_in c.args.g.now) s x (shown.multiplier_list (drop (c.loop-x.x-index + 1) c.args.list.now))) (sym c.in_ok-next.ensures.slots) (ap₂ (λ o y. tree.both o (term c.loop-x.total.value) y) (sym c.multiplicative.ensures) (sym c.in_ok-next.ensures.term) ∙ sym c.in_ok-total.ensures))
       c.loop-x.invariant.term;
   slots = step_slots (λ (xs : List Multiplier). w.multiplier_leaves (frame_in c.args.g.now) (shown.multiplier_list xs)) c.args.list.now c.loop-x.x-index c.x-item.result (w.leaves (frame_in c.args.g.now) (shown.value c.x-item.result.value)) (slots_of c.loop-x.s) (slots_of c.value.new.s) _ c.loop-x-test.true c.x-item.is refl c.in_ok-next.ensures.slots c.loop-x.invariant.slots;
 }
 
 pub values-loop-x-preserved : goal.values-loop-x-preserved
 values-loop-x-preserved h c = record {
-  parts = step_items term (λ (s : Slots) (xs : List Value). t.terms (sources_in c.args.g.now) (frame_in c.args.g.now) (outer_in c.args.g.now) s (shown.value_list xs)) c.args.list.now c.loop-x.x-index c.x-item.result c.in_ok-y.y (slots_of c.loop-x.s) (slots_of c.value.new.s) c.loop-x.out.items c.push.new.self.items _ c.loop-x-test.true c.x-item.is c.in_ok-push.ensures.items
+  parts = step_items term (λ (s : Slots) (xs : List Value). t.terms (sources_in c.args.g.now) (frame_in c.args.g.now) (outer_in c.args.g.now) s (shown.value_list xs)) c.args.list.now c.loop-x.x-index c.x-item.result c.in_ok-y.y.value (slots_of c.loop-x.s) (slots_of c.value.new.s) c.loop-x.out.items c.push_boxed.new.list.items _ c.loop-x-test.true c.x-item.is c.in_ok-push_boxed.ensures
       (ap₂ (λ (y : Term) (s : Slots). y ∷ t.terms (sources_in c.args.g.now) (frame_in c.args.g.now) (outer_in c.args.g.now) s (shown.value_list (drop (c.loop-x.x-index + 1) c.args.list.now))) (sym c.in_ok-y.ensures.term) (sym c.in_ok-y.ensures.slots)) c.loop-x.invariant.parts;
   slots = step_slots (λ (xs : List Value). w.list_leaves (frame_in c.args.g.now) (shown.value_list xs)) c.args.list.now c.loop-x.x-index c.x-item.result (w.leaves (frame_in c.args.g.now) (shown.value c.x-item.result)) (slots_of c.loop-x.s) (slots_of c.value.new.s) _ c.loop-x-test.true c.x-item.is refl c.in_ok-y.ensures.slots c.loop-x.invariant.slots;
 }
 
 pub tests-loop-p-preserved : goal.tests-loop-p-preserved
 tests-loop-p-preserved h c = record {
-  parts = step_items cond (λ (s : Slots) (xs : List Test). conds_in (sources_in c.args.g.now) (frame_in c.args.g.now) (outer_in c.args.g.now) s (shown.test_list xs)) c.args.list.now c.loop-p.p-index c.p-item.result c.in_ok-c.c (slots_of c.loop-p.s) (slots_of c.test.new.s) c.loop-p.out.items c.push.new.self.items _ c.loop-p-test.true c.p-item.is c.in_ok-push.ensures.items
+  parts = step_items cond (λ (s : Slots) (xs : List Test). conds_in (sources_in c.args.g.now) (frame_in c.args.g.now) (outer_in c.args.g.now) s (shown.test_list xs)) c.args.list.now c.loop-p.p-index c.p-item.result c.in_ok-c.c.value (slots_of c.loop-p.s) (slots_of c.test.new.s) c.loop-p.out.items c.push_boxed.new.list.items _ c.loop-p-test.true c.p-item.is c.in_ok-push_boxed.ensures
       (ap₂ (λ (y : Cond) (s : Slots). y ∷ conds_in (sources_in c.args.g.now) (frame_in c.args.g.now) (outer_in c.args.g.now) s (shown.test_list (drop (c.loop-p.p-index + 1) c.args.list.now))) (sym c.in_ok-c.ensures.cond) (sym c.in_ok-c.ensures.slots)) c.loop-p.invariant.parts;
   slots = step_slots (λ (xs : List Test). w.tests_leaves (frame_in c.args.g.now) (shown.test_list xs)) c.args.list.now c.loop-p.p-index c.p-item.result (w.test_leaves (frame_in c.args.g.now) (shown.test c.p-item.result)) (slots_of c.loop-p.s) (slots_of c.test.new.s) _ c.loop-p-test.true c.p-item.is refl c.in_ok-c.ensures.slots c.loop-p.invariant.slots;
 }
@@ -98,7 +98,7 @@ value-returns-in_ok-last-in-Searched-clause-term h c =
 
 pub value-returns-in_ok-last-in-Simple-clause-term : goal.value-returns-in_ok-last-in-Simple-clause-term
 value-returns-in_ok-last-in-Simple-clause-term h c =
-    rw (c.in-Simple.is, shown.choices_hidden c.in-Simple.list, simple_whole c.args.g.now.known.names.named.now (map shared_box c.args.g.now.known.shared.now) c.args.g.now.rows.now (frame_in c.args.g.now) (outer_in c.args.g.now) (slots_of c.args.s.now) (shown.value c.in-Simple.a.value) (shown.choice_list c.in-Simple.list) (shown.value c.in-Simple.last.value), ← c.as_slice-in-Simple.ensures, ← c.deref-in-Simple.ensures, ← c.deref-in-Simple-2.ensures, ← c.in_ok-a-in-Simple.ensures.slots, ← c.in_ok-a-in-Simple.ensures.term, ← c.in_ok-list-in-Simple.ensures.slots, ← c.in_ok-list-in-Simple.ensures.arms, ← c.in_ok-last-in-Simple.ensures.term)
+    rw (c.in-Simple.is, shown.choices_hidden c.in-Simple.list, simple_whole c.args.g.now.known.names.named.now (map shared_box c.args.g.now.known.shared.now) c.args.g.now.rows.now (frame_in c.args.g.now) (outer_in c.args.g.now) (slots_of c.args.s.now) (shown.value c.in-Simple.a.value) (shown.choice_list c.in-Simple.list) (shown.value c.in-Simple.last.value), ← c.as_slice-in-Simple.ensures, ← c.deref-in-Simple.ensures, ← c.deref-in-Simple-2.ensures, ← c.in_ok-a-in-Simple.ensures.slots, ← c.in_ok-a-in-Simple.ensures.term, ← c.deref-x.ensures, ← c.in_ok-list-in-Simple.ensures.slots, ← c.in_ok-list-in-Simple.ensures.arms, ← c.in_ok-last-in-Simple.ensures.term)
     c.chosen-in-Simple.ensures
 
 pub value-returns-in_ok-last-in-Simple-clause-slots : goal.value-returns-in_ok-last-in-Simple-clause-slots
@@ -108,7 +108,7 @@ value-returns-in_ok-last-in-Simple-clause-slots h c =
 
 pub value-returns-in_ok-values-in-Coalesce-clause-term : goal.value-returns-in_ok-values-in-Coalesce-clause-term
 value-returns-in_ok-values-in-Coalesce-clause-term h c =
-    rw (c.in-Coalesce.is, shown.values_hidden c.in-Coalesce.list, coalesced_whole (sources_in c.args.g.now) (frame_in c.args.g.now) (outer_in c.args.g.now) (w.after (w.leaves (frame_in c.args.g.now) (shown.value c.in-Coalesce.a.value)) (slots_of c.args.s.now)) (t.term (sources_in c.args.g.now) (frame_in c.args.g.now) (outer_in c.args.g.now) (slots_of c.args.s.now) (shown.value c.in-Coalesce.a.value)) (shown.value_list c.in-Coalesce.list), ← c.as_slice-in-Coalesce.ensures, ← c.deref-in-Coalesce.ensures, ← c.in_ok-a-in-Coalesce.ensures.slots, ← c.in_ok-a-in-Coalesce.ensures.term, ← from_one term c.in_ok-values-in-Coalesce.ensures.terms c.in_ok-push-in-Coalesce.ensures.items c.new-all.ensures.items)
+    rw (c.in-Coalesce.is, shown.values_hidden c.in-Coalesce.list, coalesced_whole (sources_in c.args.g.now) (frame_in c.args.g.now) (outer_in c.args.g.now) (w.after (w.leaves (frame_in c.args.g.now) (shown.value c.in-Coalesce.a.value)) (slots_of c.args.s.now)) (t.term (sources_in c.args.g.now) (frame_in c.args.g.now) (outer_in c.args.g.now) (slots_of c.args.s.now) (shown.value c.in-Coalesce.a.value)) (shown.value_list c.in-Coalesce.list), ← c.as_slice-in-Coalesce.ensures, ← c.deref-in-Coalesce.ensures, ← c.in_ok-a-in-Coalesce.ensures.slots, ← c.in_ok-a-in-Coalesce.ensures.term, ← from_none term c.in_ok-values-in-Coalesce.ensures.terms c.new-all.ensures.items)
     c.coalesced.ensures
 
 pub value-returns-in_ok-values-in-Coalesce-clause-slots : goal.value-returns-in_ok-values-in-Coalesce-clause-slots

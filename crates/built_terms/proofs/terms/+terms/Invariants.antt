@@ -11,13 +11,13 @@ use Rattle.built_terms.proofs.terms.+terms.Given as goal
 
 abbrev pub invariant-sum-loop-x : goal.invariant-sum-loop-x
 invariant-sum-loop-x l = record {
-  term : t.summed (sources_in l.g) (frame_in l.g) (outer_in l.g) (slots_of l.s) (term l.total) (shown.addend_list (drop l.x-index l.list)) ≡ t.summed (sources_in l.g) (frame_in l.g) (outer_in l.g) (slots_of l.fn.s) (term l.fn.first) (shown.addend_list l.list);
+  term : t.summed (sources_in l.g) (frame_in l.g) (outer_in l.g) (slots_of l.s) (term l.total.value) (shown.addend_list (drop l.x-index l.list)) ≡ t.summed (sources_in l.g) (frame_in l.g) (outer_in l.g) (slots_of l.fn.s) (term l.fn.first.value) (shown.addend_list l.list);
   slots : w.after (w.addend_leaves (frame_in l.g) (shown.addend_list (drop l.x-index l.list))) (slots_of l.s) ≡ w.after (w.addend_leaves (frame_in l.g) (shown.addend_list l.list)) (slots_of l.fn.s);
 }
 
 abbrev pub invariant-product-loop-x : goal.invariant-product-loop-x
 invariant-product-loop-x l = record {
-  term : t.multiplied (sources_in l.g) (frame_in l.g) (outer_in l.g) (slots_of l.s) (term l.total) (shown.multiplier_list (drop l.x-index l.list)) ≡ t.multiplied (sources_in l.g) (frame_in l.g) (outer_in l.g) (slots_of l.fn.s) (term l.fn.first) (shown.multiplier_list l.list);
+  term : t.multiplied (sources_in l.g) (frame_in l.g) (outer_in l.g) (slots_of l.s) (term l.total.value) (shown.multiplier_list (drop l.x-index l.list)) ≡ t.multiplied (sources_in l.g) (frame_in l.g) (outer_in l.g) (slots_of l.fn.s) (term l.fn.first.value) (shown.multiplier_list l.list);
   slots : w.after (w.multiplier_leaves (frame_in l.g) (shown.multiplier_list (drop l.x-index l.list))) (slots_of l.s) ≡ w.after (w.multiplier_leaves (frame_in l.g) (shown.multiplier_list l.list)) (slots_of l.fn.s);
 }
 

@@ -11,5 +11,5 @@ use Rattle.qgm_build.proofs.pairs.outer_conds.Goals as goal
 
 pub returns-clause-conds : goal.returns-clause-conds
 returns-clause-conds c =
-    test_read (sources_in c.setting_of-setting.result) (laying (told_at c.args.h.now.ground) (so_far c.args.st.now)) (frame_in c.setting_of-setting.result) (frame_of c.args.h.now.frame.now) (outer_in c.setting_of-setting.result) (outer_of c.args.h.now.ground) no_slots (shown.test c.args.p.now) (cond c.in_ok-c.c) _ c.add_split.new.out.items
-    c.setting_of-setting.ensures.sources c.setting_of-setting.ensures.frame c.setting_of-setting.ensures.outer c.in_ok-c.ensures.cond c.new-conds.ensures.items c.in_ok-add_split.ensures.items
+    test_read (sources_in c.setting_of-setting.result) (laying (told_at c.args.h.now.ground) (so_far c.args.st.now)) (frame_in c.setting_of-setting.result) (frame_of c.args.h.now.frame.now) (outer_in c.setting_of-setting.result) (outer_of c.args.h.now.ground) no_slots (shown.test c.args.p.now) (cond c.in_ok-c.c.value) _ c.add_boxed.new.out.items
+    c.setting_of-setting.ensures.sources c.setting_of-setting.ensures.frame c.setting_of-setting.ensures.outer c.in_ok-c.ensures.cond c.new-conds.ensures.items c.in_ok-add_boxed.ensures.items

@@ -23,8 +23,8 @@ returns-clause-head c =
 pub returns-clause-conds : goal.returns-clause-conds
 returns-clause-conds c =
     having_read (sources_in c.setting_of-setting.result) (laying (told_at c.args.h.now.ground) (so_far c.args.st.now)) (frame_in c.setting_of-setting.result) (frame_of c.args.h.now.frame.now) (outer_in c.setting_of-setting.result) (outer_of c.args.h.now.ground) c.args.subs.now (frame_of c.deref-2.result.now)
-    (fold_refs c.args.z.now.u (suc (length c.args.z.now.places.now)) (upper_leaves (frame_of c.args.h.now.frame.now) (shown.value_list c.args.z.now.list.now) (shown.test c.args.z.now.having.now))) (shown.value_list c.args.z.now.list.now) (shown.test c.args.z.now.having.now) (slots_of c.values.new.s) (cond c.in_ok-p.p) _ c.add_split.new.out.items
+    (fold_refs c.args.z.now.u (suc (length c.args.z.now.places.now)) (upper_leaves (frame_of c.args.h.now.frame.now) (shown.value_list c.args.z.now.list.now) (shown.test c.args.z.now.having.now))) (shown.value_list c.args.z.now.list.now) (shown.test c.args.z.now.having.now) (slots_of c.values.new.s) (cond c.in_ok-p.p.value) _ c.add_boxed.new.out.items
     c.setting_of-setting.ensures.sources c.setting_of-setting.ensures.frame c.setting_of-setting.ensures.outer
     (upper_cells_read c.args.z.now.u (length c.args.z.now.places.now) _ c.args.z.now.places.now (frame_of c.args.h.now.frame.now) (shown.value_list c.args.z.now.list.now) (shown.test c.args.z.now.having.now) _ (map leaf_of c.deref.result.now) _ (frame_of c.deref-2.result.now)
     refl c.in_ok-after.ensures c.in_ok-folds.ensures (ap (map leaf_of) c.deref.ensures.value) c.in_ok-cells.ensures (ap frame_of c.deref-2.ensures.value))
-    c.in_ok-values.ensures.slots c.in_ok-p.ensures.cond c.new-conds.ensures.items c.in_ok-add_split.ensures.items
+    c.in_ok-values.ensures.slots c.in_ok-p.ensures.cond c.new-conds.ensures.items c.in_ok-add_boxed.ensures.items

@@ -17,7 +17,7 @@ returns-clause-head c =
 
 pub returns-clause-conds : goal.returns-clause-conds
 returns-clause-conds c =
-    conds_read (sources_at c.args.g.now) (map_of c.args.outer.now) (shown.from_list c.args.x.now.from.now) (shown.test c.args.x.now.by.now) (shown.value_list c.args.x.now.list.now) c.args.fs.now c.args.subs.now (frame_of c.args.frame.now) (slots_from c.args.subs.now (frame_of c.deref-2.result.now)) (slots_of c.values.new.s) (slots_of c.all_on_conds.new.s) (cond c.in_ok-p.p) c.all_on_conds.new.out.items c.add_split.new.out.items c.requires.seen
+    conds_read (sources_at c.args.g.now) (map_of c.args.outer.now) (shown.from_list c.args.x.now.from.now) (shown.test c.args.x.now.by.now) (shown.value_list c.args.x.now.list.now) c.args.fs.now c.args.subs.now (frame_of c.args.frame.now) (slots_from c.args.subs.now (frame_of c.deref-2.result.now)) (slots_of c.values.new.s) (slots_of c.all_on_conds.new.s) (cond c.in_ok-p.p.value) c.all_on_conds.new.out.items c.add_boxed.new.out.items c.requires.seen
     (cells_here (sources_at c.args.g.now) (map_of c.args.outer.now) (shown.from_list c.args.x.now.from.now) (shown.test c.args.x.now.by.now) (shown.value_list c.args.x.now.list.now) c.args.fs.now c.args.subs.now (map leaf_of c.deref.result.now) (frame_of c.deref-2.result.now) (ap (map leaf_of) c.deref.ensures.value ∙ c.in_ok-folds.ensures) (ap frame_of c.deref-2.ensures.value ∙ c.in_ok-cells.ensures)) c.in_ok-values.ensures.slots
     (c.in_ok-all_on_conds.ensures.conds ∙ ap (λ (zs : List Cond). zs ++ all_ons (sources_at c.args.g.now) (map_of c.args.outer.now) (shown.from_list c.args.x.now.from.now) c.args.fs.now (slots_of c.values.new.s)) c.new-conds.ensures.items)
-    c.in_ok-all_on_conds.ensures.slots c.in_ok-p.ensures.cond c.in_ok-add_split.ensures.items
+    c.in_ok-all_on_conds.ensures.slots c.in_ok-p.ensures.cond c.in_ok-add_boxed.ensures.items
