@@ -3,14 +3,17 @@ use Rattle.std.proofs.Common.{◌≡◌, Bool, true, List, ◌∷◌, Some, ◌�
 use Rattle.sql_text.specs.declared.key.Key.TheVariants as k
 use Rattle.sql_text.specs.declared.token.Token.{Token}
 use Rattle.sql_text.specs.declared.token.Token.TheVariants as t
-use Rattle.sql_parser.specs.Read.{end_case}
+use Rattle.sql_parser.specs.Read.{ending as at_end, end_case}
 use Rattle.sql_parser.specs.Words.{Parser, ◌>>=◌, closed}
 use Rattle.sql_parser.proofs.Steps.{some_inj, none_some, bind_ok, closed_ok}
 
+ending_ok : {A : Type 0} (x : A) (ts : List Token) (r : A × List Token) → at_end x ts ≡ Some r → (r.0 ≡ x) × (ts ≡ t.Key k.End ∷ r.1)
+ending_ok x (t.Key k.End ∷ ts) r h = (cc, cc)
+ending_ok x _ r h = absurd (none_some r h)
+
 pub end_case_ok : {A B : Type 0} (f : A → B) (x : A) (ts : List Token) (r : B × List Token) → end_case f x ts ≡ Some r
     → (r.0 ≡ f x) × (ts ≡ t.Key k.End ∷ r.1)
-end_case_ok f x (t.Key k.End ∷ ts) r h = (cc, cc)
-end_case_ok f x _ r h = absurd (none_some r h)
+end_case_ok f x = ending_ok (f x)
 
 -- the tokens are the tree's, and then the rest
 pub record Takes {A : Type 0} (ok : A → Bool) (spell : A → List Token → List Token) (ts : List Token) (x : A × List Token) : Type 0 where

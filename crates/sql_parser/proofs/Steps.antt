@@ -3,7 +3,7 @@ use Rattle.std.proofs.Common.{◌≡◌, Bool, true, false, List, ◌∷◌, Som
 use Rattle.std.specs.Prelude.{◌&&◌, not}
 use Rattle.sql_text.specs.declared.token.Token.{Token}
 use Rattle.sql_text.specs.declared.token.Token.TheVariants as t
-use Rattle.sql_parser.specs.Words.{Found, Parser, ◌>>=◌, closed, mapped}
+use Rattle.sql_parser.specs.Words.{Found, Parser, ◌>>=◌, closing, closed, mapped}
 
 pub some_inj : {A : Type 0} (x y : A) → Some x ≡ Some y → x ≡ y
 some_inj x y h = cc
@@ -40,7 +40,10 @@ pub not_true : (a : Bool) → a ≡ false → not a ≡ true
 not_true true h = absurd (cc)
 not_true false h = refl
 
+pub closing_ok : {A : Type 0} (x : A) (ts : List Token) (r : A × List Token) → closing x ts ≡ Some r → (r.0 ≡ x) × (ts ≡ t.RightParen ∷ r.1)
+closing_ok x (t.RightParen ∷ ts) r h = (cc, cc)
+closing_ok x _ r h = absurd (none_some r h)
+
 pub closed_ok : {A B : Type 0} (f : A → B) (x : A) (ts : List Token) (r : B × List Token) → closed f x ts ≡ Some r
     → (r.0 ≡ f x) × (ts ≡ t.RightParen ∷ r.1)
-closed_ok f x (t.RightParen ∷ ts) r h = (cc, cc)
-closed_ok f x _ r h = absurd (none_some r h)
+closed_ok f x = closing_ok (f x)

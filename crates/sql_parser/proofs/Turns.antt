@@ -21,7 +21,7 @@ use Rattle.sql_ast.specs.Syntax as s
 use Rattle.sql_parser.specs.declared.refusal.ParseRefusal.{ParseRefusal}
 use Rattle.sql_parser.specs.declared.refusal.ParseRefusal.TheVariants.{OverLimit, Syntax, Memory}
 use Rattle.sql_parser.specs.Words.{Gives, Found, Parser, ◌>>=◌, mapped, additive_at, multiplicative_at}
-use Rattle.sql_parser.specs.Read.{more_exprs, more_arms, more_choices, more_factors, more_terms, more_negs, more_conjs, aggregate, count, factor, term, sum, pred, pred_after, test, neg, conj, disj, starts_comma, starts_open_star, starts_when, starts_not, starts_exists, starts_and, starts_or}
+use Rattle.sql_parser.specs.Read.{more_exprs, more_arms, more_choices, more_factors, more_terms, more_negs, more_conjs, multiplied, added, joined_and, joined_or, aggregate, count, factor, term, sum, pred, pred_after, test, neg, conj, disj, starts_comma, starts_open_star, starts_when, starts_not, starts_exists, starts_and, starts_or}
 
 -- ---- turns
 
@@ -34,6 +34,11 @@ no_turn f spans = let none_yet : length spans ≡ length spans - 0 = omega arith
 
 pub no_more : {X : Type 0} {x : X} (f : ℕ → X) (n at : ℕ) → n ≤ at → x ≡ f (n - at) → x ≡ f 0
 no_more f n at done e = let none : n - at ≡ 0 = omega arith in e ∙ ap f none
+
+-- a reading that changes what it found, and goes on
+pub found_then : {A B C : Type 0} (m : Found A) (f : A → B) (k : B → Parser C) → (m >>= (λ x. k (f x))) ≡ ((m >>= (λ x. λ us. Some (f x, us))) >>= k)
+found_then None f k = refl
+found_then (Some r) f k = refl
 
 -- ---- where a loop ends
 
@@ -58,26 +63,32 @@ module _ (e : Parser s.Expr) (c : Parser s.Cond) (q : Parser s.Query) (j : Parse
   factors_stop (suc n) left ts h = rw (← h, more_factors) refl
 
   pub factors_go : (n : ℕ) (left : s.Expr) (op : MultiplicativeOp) (ts us : List Token) → Some (op, us) ≡ multiplicative_at ts
-      → more_factors e c q j (suc n) left ts ≡ (factor e c q j us >>= (λ right. more_factors e c q j n (s.multiply left op right)))
-  factors_go n left op ts us h = rw (← h, more_factors) refl
+      → more_factors e c q j (suc n) left ts ≡ (multiplied e c q j left op us >>= more_factors e c q j n)
+  factors_go n left op ts us h = rw (← h, more_factors) (found_then (factor e c q j us) (s.multiply left op) (more_factors e c q j n))
 
   pub terms_stop : (n : ℕ) (left : s.Expr) (ts : List Token) → None ≡ additive_at ts → more_terms e c q j n left ts ≡ Some (left, ts)
   terms_stop zero left ts h = refl
   terms_stop (suc n) left ts h = rw (← h, more_terms) refl
 
   pub terms_go : (n : ℕ) (left : s.Expr) (op : AdditiveOp) (ts us : List Token) → Some (op, us) ≡ additive_at ts
-      → more_terms e c q j (suc n) left ts ≡ (term e c q j us >>= (λ right. more_terms e c q j n (s.add left op right)))
-  terms_go n left op ts us h = rw (← h, more_terms) refl
+      → more_terms e c q j (suc n) left ts ≡ (added e c q j left op us >>= more_terms e c q j n)
+  terms_go n left op ts us h = rw (← h, more_terms) (found_then (term e c q j us) (s.add left op) (more_terms e c q j n))
 
   pub negs_stop : (n : ℕ) (left : s.Cond) (ts : List Token) → starts_and ts ≡ false → more_negs e c q j n left ts ≡ Some (left, ts)
   negs_stop zero left ts h = refl
   negs_stop (suc n) left (t.Key k.And ∷ ts) h = absurd (cc)
   negs_stop (suc n) left ts h = refl
 
+  pub negs_go : (n : ℕ) (left : s.Cond) (ts us : List Token) → ts ≡ t.Key k.And ∷ us → more_negs e c q j (suc n) left ts ≡ (joined_and e c q j left us >>= more_negs e c q j n)
+  negs_go n left ts us h = rw (h) (found_then (neg e c q j us) (s.both left) (more_negs e c q j n))
+
   pub conjs_stop : (n : ℕ) (left : s.Cond) (ts : List Token) → starts_or ts ≡ false → more_conjs e c q j n left ts ≡ Some (left, ts)
   conjs_stop zero left ts h = refl
   conjs_stop (suc n) left (t.Key k.Or ∷ ts) h = absurd (cc)
   conjs_stop (suc n) left ts h = refl
+
+  pub conjs_go : (n : ℕ) (left : s.Cond) (ts us : List Token) → ts ≡ t.Key k.Or ∷ us → more_conjs e c q j (suc n) left ts ≡ (joined_or e c q j left us >>= more_conjs e c q j n)
+  conjs_go n left ts us h = rw (h) (found_then (conj e c q j us) (s.either left) (more_conjs e c q j n))
 
   -- ---- where a loop begins
 

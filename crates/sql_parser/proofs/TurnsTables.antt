@@ -17,9 +17,9 @@ use denote.Bor.{Bor}
 use Rattle.std.specs.Global.{Box}
 use Rattle.sql_ast.specs.Shown as shown
 use Rattle.sql_ast.specs.Syntax as s
-use Rattle.sql_parser.specs.Read.{starts_comma, starts_intersect, starts_star, listed, select_list, join_after, more_joins, tref, tables, more_tables, item, items, more_items, qprim, more_qprims, qterm, more_qterms, combined}
+use Rattle.sql_parser.specs.Read.{starts_comma, starts_intersect, starts_star, listed, select_list, join_after, more_joins, tref, tables, more_tables, item, items, more_items, qprim, intersected, more_qprims, qterm, united, more_qterms, combined}
 use Rattle.sql_parser.specs.ReadText.{more_sorts}
-use Rattle.sql_parser.proofs.Turns.{no_turn}
+use Rattle.sql_parser.proofs.Turns.{found_then, no_turn}
 use Rattle.sql_parser.specs.Words.{Found, Parser, ◌>>=◌, mapped, join_at, all_at, set_operator_at, more_columns}
 
 -- ---- lists that are plain
@@ -75,12 +75,17 @@ module _ (e : Parser s.Expr) (c : Parser s.Cond) (q : Parser s.Query) (j : Parse
   qprims_stop (suc n) left (t.Key k.Intersect ∷ ts) h = absurd (cc)
   qprims_stop (suc n) left ts h = refl
 
+  pub qprims_next : (n : ℕ) (left : s.Query) (ts us : List Token) → ts ≡ t.Key k.Intersect ∷ us → more_qprims e c q j (suc n) left ts ≡ (intersected e c q j left us >>= more_qprims e c q j n)
+  qprims_next n left ts us h = rw (h) (found_then (qprim e c q j (all_at us).1) (s.intersect left (all_at us).0) (more_qprims e c q j n))
+
   pub qterms_stop : (n : ℕ) (left : s.Query) (ts : List Token) → set_operator_at ts ≡ None → more_qterms e c q j n left ts ≡ Some (left, ts)
   qterms_stop zero left ts h = refl
   qterms_stop (suc n) left ts h = ap (λ o. elim o as (λ _. Found s.Query) [ None ↦ Some (left, ts) | Some r ↦ qterm e c q j (all_at r.1).1 >>= (λ right. more_qterms e c q j n (s.combine left r.0 (all_at r.1).0 right)) ]) h
 
-  pub qterms_next : (n : ℕ) (left : s.Query) (ts : List Token) (r : SetOperator × List Token) → Some r ≡ set_operator_at ts → more_qterms e c q j (suc n) left ts ≡ (qterm e c q j (all_at r.1).1 >>= (λ right. more_qterms e c q j n (s.combine left r.0 (all_at r.1).0 right)))
-  qterms_next n left ts r h = ap (λ o. elim o as (λ _. Found s.Query) [ None ↦ Some (left, ts) | Some r ↦ qterm e c q j (all_at r.1).1 >>= (λ right. more_qterms e c q j n (s.combine left r.0 (all_at r.1).0 right)) ]) (sym h)
+  pub qterms_next : (n : ℕ) (left : s.Query) (ts : List Token) (r : SetOperator × List Token) → Some r ≡ set_operator_at ts → more_qterms e c q j (suc n) left ts ≡ (united e c q j left r.0 r.1 >>= more_qterms e c q j n)
+  qterms_next n left ts r h =
+      ap (λ o. elim o as (λ _. Found s.Query) [ None ↦ Some (left, ts) | Some r ↦ qterm e c q j (all_at r.1).1 >>= (λ right. more_qterms e c q j n (s.combine left r.0 (all_at r.1).0 right)) ]) (sym h)
+      ∙ found_then (qterm e c q j (all_at r.1).1) (s.combine left r.0 (all_at r.1).0) (more_qterms e c q j n)
 
 -- ---- how a call's answer is seen
 

@@ -5,9 +5,13 @@ use Rattle.sql_text.specs.declared.key.Key.{Key}
 use Rattle.sql_text.specs.declared.key.Key.TheVariants as k
 use Rattle.sql_text.specs.declared.token.Token.{Token}
 use Rattle.sql_text.specs.declared.token.Token.TheVariants as t
+use Rattle.sql_ast.specs.declared.word.AdditiveOp.{AdditiveOp}
+use Rattle.sql_ast.specs.declared.word.MultiplicativeOp.{MultiplicativeOp}
 use Rattle.sql_ast.specs.declared.word.SetFunction.{SetFunction}
+use Rattle.sql_ast.specs.declared.word.SetOperator.{SetOperator}
 use Rattle.sql_ast.specs.declared.word.SetFunction.TheVariants as of
 use Rattle.sql_ast.specs.declared.word.SetQuantifier.{SetQuantifier}
+use Rattle.sql_ast.specs.declared.word.Sign.{Sign}
 use Rattle.sql_ast.specs.declared.word.Sign.TheVariants as sign
 use Rattle.sql_ast.specs.Grammatical.{cond_without_sub, is_tprim}
 use Rattle.sql_ast.specs.Syntax as s
@@ -16,20 +20,32 @@ use Rattle.sql_parser.specs.declared.word.JoinKind.TheVariants as join_of
 use Rattle.sql_parser.specs.Ahead.{at_query, opens_cond}
 use Rattle.sql_parser.specs.Words.{Found, Parser, ◌>>=◌, closed, additive_at, multiplicative_at, quantifier_at, set_operator_at, set_quantifier_at, all_at, not_at, join_at, column_after, group_by, alias_at, correlation, optional_correlation, all_of_at, data_type}
 
+-- [ "." name ], after a name: the column that they are
+abbrev pub column_expr : List ℕ → Parser s.Expr
+column_expr n ts = column_after n ts >>= (λ x. λ us. Some (s.col x, us))
+
 -- ")", after the joins of a table in brackets
 abbrev pub close_join : s.TableRef → Parser s.TableRef
 close_join x (t.RightParen ∷ ts) = if is_tprim x then None else Some (s.joined x, ts)
 close_join x _ = None
+
+-- [ [ AS ] name [ "(" names ")" ] ], after the name of a table
+abbrev pub named_table : List ℕ → Parser s.TableRef
+named_table n ts = optional_correlation ts >>= (λ x. λ us. Some (s.named n x, us))
 
 -- ")" [ AS ] name [ "(" names ")" ], after a query
 abbrev pub name_derived : s.Query → Parser s.TableRef
 name_derived x (t.RightParen ∷ ts) = correlation ts >>= (λ c. λ us. Some (s.derived x c, us))
 name_derived x _ = None
 
--- END
+-- END, after what has been read
+abbrev pub ending : {A : Type 0} → A → Parser A
+ending x (t.Key k.End ∷ ts) = Some (x, ts)
+ending x _ = None
+
+-- END, after a value
 abbrev pub end_case : {A B : Type 0} → (A → B) → A → Parser B
-end_case f x (t.Key k.End ∷ ts) = Some (f x, ts)
-end_case f x _ = None
+end_case f x ts = ending (f x) ts
 
 -- WHEN stands first
 abbrev pub starts_when : List Token → Bool
@@ -207,19 +223,31 @@ module _ (e : Parser s.Expr) (c : Parser s.Cond) (q : Parser s.Query) (j : Parse
   word_prim k.Cast ts = cast ts
   word_prim _ ts = None
 
+  -- query ")" | expr ")", after "("
+  abbrev pub paren : Parser s.Expr
+  paren ts = if at_query ts then (q ts >>= closed s.scalar) else (e ts >>= closed s.paren)
+
   abbrev pub prim : Parser s.Expr
   prim (t.Number n ∷ ts) = Some (s.number n, ts)
   prim (t.Str x ∷ ts) = Some (s.string x, ts)
-  prim (t.Name n ∷ ts) = column_after n ts >>= (λ x. λ us. Some (s.col x, us))
-  prim (t.LeftParen ∷ ts) = if at_query ts then (q ts >>= closed s.scalar) else (e ts >>= closed s.paren)
+  prim (t.Name n ∷ ts) = column_expr n ts
+  prim (t.LeftParen ∷ ts) = paren ts
   prim (t.Key word ∷ ts) = word_prim word ts
   prim _ = None
 
+  -- prim, after its sign
+  abbrev pub signed : Sign → Parser s.Expr
+  signed x ts = prim ts >>= (λ a. λ us. Some (s.signed x a, us))
+
   -- factor = [ "+" | "-" ] prim
   abbrev pub factor : Parser s.Expr
-  factor (t.Plus ∷ ts) = prim ts >>= (λ a. λ us. Some (s.signed sign.Plus a, us))
-  factor (t.Minus ∷ ts) = prim ts >>= (λ a. λ us. Some (s.signed sign.Minus a, us))
+  factor (t.Plus ∷ ts) = signed sign.Plus ts
+  factor (t.Minus ∷ ts) = signed sign.Minus ts
   factor ts = prim ts
+
+  -- factor, after its sign and what stands before that
+  abbrev pub multiplied : s.Expr → MultiplicativeOp → Parser s.Expr
+  multiplied left op ts = factor ts >>= (λ right. λ us. Some (s.multiply left op right, us))
 
   -- { ( "*" | "/" ) factor }
   abbrev pub more_factors : ℕ → s.Expr → Parser s.Expr
@@ -232,6 +260,10 @@ module _ (e : Parser s.Expr) (c : Parser s.Cond) (q : Parser s.Query) (j : Parse
   -- term = factor { ( "*" | "/" ) factor }
   abbrev pub term : Parser s.Expr
   term ts = factor ts >>= more_factors (length ts)
+
+  -- term, after its sign and what stands before that
+  abbrev pub added : s.Expr → AdditiveOp → Parser s.Expr
+  added left op ts = term ts >>= (λ right. λ us. Some (s.add left op right, us))
 
   -- { ( "+" | "-" | "||" ) term }
   abbrev pub more_terms : ℕ → s.Expr → Parser s.Expr
@@ -304,6 +336,10 @@ module _ (e : Parser s.Expr) (c : Parser s.Cond) (q : Parser s.Query) (j : Parse
   neg (t.Key k.Not ∷ ts) = test ts >>= (λ x. λ us. Some (s.negated x, us))
   neg ts = test ts
 
+  -- neg, after AND and what stands before that
+  abbrev pub joined_and : s.Cond → Parser s.Cond
+  joined_and left ts = neg ts >>= (λ right. λ us. Some (s.both left right, us))
+
   -- { AND neg }
   abbrev pub more_negs : ℕ → s.Cond → Parser s.Cond
   more_negs zero left ts = Some (left, ts)
@@ -313,6 +349,10 @@ module _ (e : Parser s.Expr) (c : Parser s.Cond) (q : Parser s.Query) (j : Parse
   -- conj = neg { AND neg }
   abbrev pub conj : Parser s.Cond
   conj ts = neg ts >>= more_negs (length ts)
+
+  -- conj, after OR and what stands before that
+  abbrev pub joined_or : s.Cond → Parser s.Cond
+  joined_or left ts = conj ts >>= (λ right. λ us. Some (s.either left right, us))
 
   -- { OR conj }
   abbrev pub more_conjs : ℕ → s.Cond → Parser s.Cond
@@ -337,7 +377,7 @@ module _ (e : Parser s.Expr) (c : Parser s.Cond) (q : Parser s.Query) (j : Parse
   -- ---- tables
 
   abbrev pub tprim : Parser s.TableRef
-  tprim (t.Name n ∷ ts) = optional_correlation ts >>= (λ x. λ us. Some (s.named n x, us))
+  tprim (t.Name n ∷ ts) = named_table n ts
   tprim (t.LeftParen ∷ ts) = if at_query ts then (q ts >>= name_derived) else (j ts >>= close_join)
   tprim _ = None
 
@@ -424,6 +464,10 @@ module _ (e : Parser s.Expr) (c : Parser s.Cond) (q : Parser s.Query) (j : Parse
   qprim (t.Key k.Select ∷ ts) = block ts
   qprim ts = sub s.enclosed ts
 
+  -- [ ALL ] qprim, after INTERSECT and what stands before that
+  abbrev pub intersected : s.Query → Parser s.Query
+  intersected left ts = qprim (all_at ts).1 >>= (λ right. λ us. Some (s.intersect left (all_at ts).0 right, us))
+
   -- { INTERSECT [ ALL ] qprim }
   abbrev pub more_qprims : ℕ → s.Query → Parser s.Query
   more_qprims zero left ts = Some (left, ts)
@@ -433,6 +477,10 @@ module _ (e : Parser s.Expr) (c : Parser s.Cond) (q : Parser s.Query) (j : Parse
   -- qterm = qprim { INTERSECT [ ALL ] qprim }
   abbrev pub qterm : Parser s.Query
   qterm ts = qprim ts >>= more_qprims (length ts)
+
+  -- [ ALL ] qterm, after UNION or EXCEPT and what stands before that
+  abbrev pub united : s.Query → SetOperator → Parser s.Query
+  united left operator ts = qterm (all_at ts).1 >>= (λ right. λ us. Some (s.combine left operator (all_at ts).0 right, us))
 
   -- { ( UNION | EXCEPT ) [ ALL ] qterm }
   abbrev pub more_qterms : ℕ → s.Query → Parser s.Query

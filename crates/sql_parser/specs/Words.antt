@@ -45,10 +45,18 @@ abbrev pub close : List Token → Option (List Token)
 close (t.RightParen ∷ ts) = Some ts
 close _ = None
 
+-- what has been read, and the tokens after it
+abbrev pub found : {A : Type 0} → A → Parser A
+found x ts = Some (x, ts)
+
+-- ")", after what has been read
+abbrev pub closing : {A : Type 0} → A → Parser A
+closing x (t.RightParen ∷ ts) = Some (x, ts)
+closing x _ = None
+
 -- ")", after a value
 abbrev pub closed : {A B : Type 0} → (A → B) → A → Parser B
-closed f x (t.RightParen ∷ ts) = Some (f x, ts)
-closed f x _ = None
+closed f x ts = closing (f x) ts
 
 -- ---- words and signs
 

@@ -1,18 +1,19 @@
 // CASE (SQL-92, 6.9).
-ghost use Rattle.std.specs.Prelude.{◌≡◌, ◌∷◌, false, IfOk, IfSome, IfNone};
+ghost use Rattle.std.specs.Prelude.{◌≡◌, ◌∷◌, false, IfSome, IfNone};
 ghost use Rattle.sql_ast.specs.Shown as shown;
+ghost use Rattle.sql_ast.specs.Syntax as s;
 ghost use Rattle.sql_parser.specs.Nests.{Nests};
 ghost use Rattle.sql_parser.specs.Read as read;
+ghost use Rattle.sql_parser.specs.Words as words;
 ghost use Rattle.sql_parser.specs.Words.{Gives};
 ghost use Rattle.sql_text.specs.Tokens.{token_list};
 ghost use Rattle.sql_text.specs.declared.key.Key.TheVariants as k;
 ghost use Rattle.sql_text.specs.declared.token.Token.TheVariants as t;
 
-use crate::boxes::{boxed, push_boxed};
+use crate::boxes::{boxed, ended_expr, push_boxed};
 use crate::grammar::Grammar;
 use crate::refusal::ParseRefusal;
 use crate::word::first;
-use shared_types::OutOfMemory;
 use sql_ast::{Arm, Choice, Cond, Expr, Otherwise, Query, Res, TableRef};
 use sql_text::{Key, Spanned, Token};
 use sqlite_items::Items;
@@ -29,22 +30,30 @@ fn after_when(ts: &[Spanned]) -> Option<&[Spanned]>
     }
 }
 
-/// `WHEN cond THEN res`, in a box
-fn boxed_arm(alloc: Global, when: Box<Cond>, then: Res) -> Result<Box<Arm>, OutOfMemory>
-    ensures when { IfOk result (λ arm. arm.value.when ≡ when.value) }
-    ensures then { IfOk result (λ arm. arm.value.then ≡ then) }
+/// `WHEN cond THEN res`, in a box, and the tokens after it
+fn found_arm(
+    alloc: Global,
+    when: Box<Cond>,
+    then: Res,
+    rest: &[Spanned],
+) -> Result<(Box<Arm>, &[Spanned]), ParseRefusal>
+    ensures { Gives (λ x. ((shown.cond x.0.value.when, shown.res x.0.value.then), token_list x.1.now)) result (words.found {A = s.Cond × s.Res} (shown.cond when.value, shown.res then) (token_list rest.now)) }
 {
     let when = Box::into_inner(when);
-    boxed(alloc, Arm { when, then })
+    Ok((boxed(alloc, Arm { when, then })?, rest))
 }
 
-/// `WHEN expr THEN res`, in a box
-fn boxed_choice(alloc: Global, when: Box<Expr>, then: Res) -> Result<Box<Choice>, OutOfMemory>
-    ensures when { IfOk result (λ choice. choice.value.when ≡ when.value) }
-    ensures then { IfOk result (λ choice. choice.value.then ≡ then) }
+/// `WHEN expr THEN res`, in a box, and the tokens after it
+fn found_choice(
+    alloc: Global,
+    when: Box<Expr>,
+    then: Res,
+    rest: &[Spanned],
+) -> Result<(Box<Choice>, &[Spanned]), ParseRefusal>
+    ensures { Gives (λ x. ((shown.expr x.0.value.when, shown.res x.0.value.then), token_list x.1.now)) result (words.found {A = s.Expr × s.Res} (shown.expr when.value, shown.res then) (token_list rest.now)) }
 {
     let when = Box::into_inner(when);
-    boxed(alloc, Choice { when, then })
+    Ok((boxed(alloc, Choice { when, then })?, rest))
 }
 
 impl<
@@ -85,7 +94,7 @@ impl<
         match first(ts) {
             Some((Token::Key(Key::Then), rest)) => {
                 let (then, rest) = self.res(rest)?;
-                Ok((boxed_arm(self.alloc, when, then)?, rest))
+                found_arm(self.alloc, when, then, rest)
             }
             _ => Err(ParseRefusal::Syntax),
         }
@@ -146,7 +155,7 @@ impl<
         match first(ts) {
             Some((Token::Key(Key::Then), rest)) => {
                 let (then, rest) = self.res(rest)?;
-                Ok((boxed_choice(self.alloc, when, then)?, rest))
+                found_choice(self.alloc, when, then, rest)
             }
             _ => Err(ParseRefusal::Syntax),
         }
@@ -220,12 +229,7 @@ impl<
     {
         let (arms, rest) = self.arms(ts)?;
         let (otherwise, rest) = self.otherwise(rest)?;
-        match first(rest) {
-            Some((Token::Key(Key::End), rest)) => {
-                Ok((boxed(self.alloc, Expr::Searched(arms, otherwise))?, rest))
-            }
-            _ => Err(ParseRefusal::Syntax),
-        }
+        ended_expr(self.alloc, Expr::Searched(arms, otherwise), rest)
     }
 
     /// `expr { WHEN expr THEN res } [ ELSE res ] END`, with one choice at least
@@ -240,13 +244,7 @@ impl<
         let (operand, rest) = self.nested_expr(ts)?;
         let (choices, rest) = self.choices(rest)?;
         let (otherwise, rest) = self.otherwise(rest)?;
-        match first(rest) {
-            Some((Token::Key(Key::End), rest)) => {
-                let case = boxed(self.alloc, Expr::Simple(operand, choices, otherwise))?;
-                Ok((case, rest))
-            }
-            _ => Err(ParseRefusal::Syntax),
-        }
+        ended_expr(self.alloc, Expr::Simple(operand, choices, otherwise), rest)
     }
 
     /// What follows `CASE`

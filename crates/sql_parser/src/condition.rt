@@ -10,11 +10,11 @@ ghost use Rattle.sql_text.specs.declared.key.Key.TheVariants as k;
 ghost use Rattle.sql_text.specs.declared.token.Token.TheVariants as t;
 
 use crate::ahead::{at_query, opens_cond};
-use crate::boxes::boxed;
+use crate::boxes::{closed_cond, found_cond};
 use crate::grammar::Grammar;
 use crate::refusal::ParseRefusal;
-use crate::word::{close, first, not_at, quantifier_at};
-use sql_ast::{Cond, Expr, Filter, Query, TableRef};
+use crate::word::{first, not_at, quantifier_at};
+use sql_ast::{Cond, Expr, Filter, Quantifier, Query, TableRef};
 use sql_text::{CmpOp, Key, Spanned, Token};
 use std::alloc::Global;
 
@@ -85,8 +85,11 @@ impl<
         match first(ts) {
             Some((Token::Key(Key::And), rest)) => {
                 let (high, rest) = self.sum(rest)?;
-                let between = boxed(self.alloc, Cond::Between(operand, negative, low, high))?;
-                Ok((between, rest))
+                found_cond(
+                    self.alloc,
+                    Cond::Between(operand, negative, low, high),
+                    rest,
+                )
             }
             _ => Err(ParseRefusal::Syntax),
         }
@@ -127,14 +130,10 @@ impl<
             Some((Token::LeftParen, rest)) => {
                 if at_query(rest) {
                     let (query, rest) = self.nested_query(rest)?;
-                    let rest = close(rest)?;
-                    let within = boxed(self.alloc, Cond::InQuery(operand, negative, query))?;
-                    Ok((within, rest))
+                    closed_cond(self.alloc, Cond::InQuery(operand, negative, query), rest)
                 } else {
                     let (list, rest) = self.exprs(rest)?;
-                    let rest = close(rest)?;
-                    let within = boxed(self.alloc, Cond::InList(operand, negative, list))?;
-                    Ok((within, rest))
+                    closed_cond(self.alloc, Cond::InList(operand, negative, list), rest)
                 }
             }
             _ => Err(ParseRefusal::Syntax),
@@ -159,8 +158,34 @@ impl<
             Some((Token::Key(Key::In), rest)) => self.in_after(operand, negative, rest),
             Some((Token::Key(Key::Like), rest)) => {
                 let (pattern, rest) = self.sum(rest)?;
-                let like = boxed(self.alloc, Cond::Like(operand, negative, pattern))?;
-                Ok((like, rest))
+                found_cond(self.alloc, Cond::Like(operand, negative, pattern), rest)
+            }
+            _ => Err(ParseRefusal::Syntax),
+        }
+    }
+
+    /// `"(" query ")"`, after `ANY`, `SOME` or `ALL`
+    fn quantified<'a>(
+        &self,
+        operand: Box<Expr>,
+        op: CmpOp,
+        quantifier: Quantifier,
+        ts: &'a [Spanned],
+    ) -> Result<(Box<Cond>, &'a [Spanned]), ParseRefusal>
+        requires expr { Nests shown.expr (read.expr self.now.depth) self.now.depth (E.pre self.now.expr) (E.post self.now.expr) }
+        requires cond { Nests shown.cond (read.cond self.now.depth) self.now.depth (C.pre self.now.cond) (C.post self.now.cond) }
+        requires query { Nests shown.query (read.query self.now.depth) self.now.depth (Q.pre self.now.query) (Q.post self.now.query) }
+        requires table { Nests shown.table (read.table self.now.depth) self.now.depth (T.pre self.now.table) (T.post self.now.table) }
+        ensures { Gives (λ x. (shown.cond x.0.value, token_list x.1.now)) result (read.sub (read.expr self.now.depth) (read.cond self.now.depth) (read.query self.now.depth) (read.table self.now.depth) (s.quantified (shown.expr operand.value) op quantifier) (token_list ts.now)) }
+    {
+        match first(ts) {
+            Some((Token::LeftParen, rest)) => {
+                let (query, rest) = self.nested_query(rest)?;
+                closed_cond(
+                    self.alloc,
+                    Cond::Quantified(operand, op, quantifier, query),
+                    rest,
+                )
             }
             _ => Err(ParseRefusal::Syntax),
         }
@@ -182,18 +207,9 @@ impl<
         match quantifier_at(ts) {
             None => {
                 let (right, rest) = self.sum(ts)?;
-                let compared = boxed(self.alloc, Cond::Compare(operand, op, right))?;
-                Ok((compared, rest))
+                found_cond(self.alloc, Cond::Compare(operand, op, right), rest)
             }
-            Some((quantifier, rest)) => match first(rest) {
-                Some((Token::LeftParen, rest)) => {
-                    let (query, rest) = self.nested_query(rest)?;
-                    let rest = close(rest)?;
-                    let compared = Cond::Quantified(operand, op, quantifier, query);
-                    Ok((boxed(self.alloc, compared)?, rest))
-                }
-                _ => Err(ParseRefusal::Syntax),
-            },
+            Some((quantifier, rest)) => self.quantified(operand, op, quantifier, rest),
         }
     }
 
@@ -212,7 +228,7 @@ impl<
     {
         match first(ts) {
             Some((Token::Key(Key::Null), rest)) => {
-                Ok((boxed(self.alloc, Cond::IsNull(operand, negative))?, rest))
+                found_cond(self.alloc, Cond::IsNull(operand, negative), rest)
             }
             _ => Err(ParseRefusal::Syntax),
         }
@@ -254,8 +270,7 @@ impl<
         match first(ts) {
             Some((Token::LeftParen, rest)) => {
                 let (query, rest) = self.nested_query(rest)?;
-                let rest = close(rest)?;
-                Ok((boxed(self.alloc, Cond::Exists(query))?, rest))
+                closed_cond(self.alloc, Cond::Exists(query), rest)
             }
             _ => Err(ParseRefusal::Syntax),
         }
@@ -289,8 +304,7 @@ impl<
         match first(ts) {
             Some((Token::LeftParen, rest)) => {
                 let (inner, rest) = self.nested_cond(rest)?;
-                let rest = close(rest)?;
-                Ok((boxed(self.alloc, Cond::Bracket(inner))?, rest))
+                closed_cond(self.alloc, Cond::Bracket(inner), rest)
             }
             _ => Err(ParseRefusal::Syntax),
         }
@@ -322,10 +336,26 @@ impl<
         match after_not(ts) {
             Some(rest) => {
                 let (inner, rest) = self.test(rest)?;
-                Ok((boxed(self.alloc, Cond::Not(inner))?, rest))
+                found_cond(self.alloc, Cond::Not(inner), rest)
             }
             None => self.test(ts),
         }
+    }
+
+    /// `neg`, after `AND`
+    fn joined_and<'a>(
+        &self,
+        left: Box<Cond>,
+        ts: &'a [Spanned],
+    ) -> Result<(Box<Cond>, &'a [Spanned]), ParseRefusal>
+        requires expr { Nests shown.expr (read.expr self.now.depth) self.now.depth (E.pre self.now.expr) (E.post self.now.expr) }
+        requires cond { Nests shown.cond (read.cond self.now.depth) self.now.depth (C.pre self.now.cond) (C.post self.now.cond) }
+        requires query { Nests shown.query (read.query self.now.depth) self.now.depth (Q.pre self.now.query) (Q.post self.now.query) }
+        requires table { Nests shown.table (read.table self.now.depth) self.now.depth (T.pre self.now.table) (T.post self.now.table) }
+        ensures { Gives (λ x. (shown.cond x.0.value, token_list x.1.now)) result (read.at_depth self.now.depth read.joined_and (shown.cond left.value) (token_list ts.now)) }
+    {
+        let (right, rest) = self.neg(ts)?;
+        found_cond(self.alloc, Cond::And(left, right), rest)
     }
 
     /// `conj = neg { AND neg }`
@@ -341,13 +371,29 @@ impl<
             match after_and(rest) {
                 None => return Ok((left, rest)),
                 Some(after) => {
-                    let (right, after) = self.neg(after)?;
-                    left = boxed(self.alloc, Cond::And(left, right))?;
+                    let (next, after) = self.joined_and(left, after)?;
+                    left = next;
                     rest = after;
                 }
             }
         }
         Ok((left, rest))
+    }
+
+    /// `conj`, after `OR`
+    fn joined_or<'a>(
+        &self,
+        left: Box<Cond>,
+        ts: &'a [Spanned],
+    ) -> Result<(Box<Cond>, &'a [Spanned]), ParseRefusal>
+        requires expr { Nests shown.expr (read.expr self.now.depth) self.now.depth (E.pre self.now.expr) (E.post self.now.expr) }
+        requires cond { Nests shown.cond (read.cond self.now.depth) self.now.depth (C.pre self.now.cond) (C.post self.now.cond) }
+        requires query { Nests shown.query (read.query self.now.depth) self.now.depth (Q.pre self.now.query) (Q.post self.now.query) }
+        requires table { Nests shown.table (read.table self.now.depth) self.now.depth (T.pre self.now.table) (T.post self.now.table) }
+        ensures { Gives (λ x. (shown.cond x.0.value, token_list x.1.now)) result (read.at_depth self.now.depth read.joined_or (shown.cond left.value) (token_list ts.now)) }
+    {
+        let (right, rest) = self.conj(ts)?;
+        found_cond(self.alloc, Cond::Or(left, right), rest)
     }
 
     /// `cond = conj { OR conj }`
@@ -363,8 +409,8 @@ impl<
             match after_or(rest) {
                 None => return Ok((left, rest)),
                 Some(after) => {
-                    let (right, after) = self.conj(after)?;
-                    left = boxed(self.alloc, Cond::Or(left, right))?;
+                    let (next, after) = self.joined_or(left, after)?;
+                    left = next;
                     rest = after;
                 }
             }

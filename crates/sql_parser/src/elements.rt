@@ -158,32 +158,13 @@ fn unique(alloc: Global, ts: &[Spanned]) -> Result<(Element, &[Spanned]), ParseR
 fn element(alloc: Global, ts: &[Spanned]) -> Result<(Element, &[Spanned]), ParseRefusal>
     ensures { Gives (λ x. (x.0, token_list x.1.now)) result (read.element (token_list ts.now)) }
 {
-    match ts {
-        [
-            Spanned {
-                token: Token::Name(name),
-                ..
-            },
-            rest @ ..,
-        ] => column_decl(alloc, name, rest),
-        [
-            Spanned {
-                token: Token::Key(Key::Primary),
-                ..
-            },
-            Spanned {
-                token: Token::Key(Key::Key),
-                ..
-            },
-            rest @ ..,
-        ] => primary_key(alloc, rest),
-        [
-            Spanned {
-                token: Token::Key(Key::Unique),
-                ..
-            },
-            rest @ ..,
-        ] => unique(alloc, rest),
+    match first(ts) {
+        Some((Token::Name(name), rest)) => column_decl(alloc, name, rest),
+        Some((Token::Key(Key::Primary), rest)) => match first(rest) {
+            Some((Token::Key(Key::Key), rest)) => primary_key(alloc, rest),
+            _ => Err(ParseRefusal::Syntax),
+        },
+        Some((Token::Key(Key::Unique), rest)) => unique(alloc, rest),
         _ => Err(ParseRefusal::Syntax),
     }
 }

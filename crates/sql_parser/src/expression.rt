@@ -1,22 +1,25 @@
 // Expressions (SQL-92, 6.11 to 6.14, 6.5 and 6.9).
 ghost use Rattle.std.specs.Prelude.{◌≡◌, ◌∷◌, false, IfSome, IfNone};
 ghost use Rattle.sql_ast.specs.Shown as shown;
+ghost use Rattle.sql_ast.specs.Syntax as s;
 ghost use Rattle.sql_parser.specs.Nests.{Nests};
 ghost use Rattle.sql_parser.specs.Read as read;
+ghost use Rattle.sql_parser.specs.Words as words;
 ghost use Rattle.sql_parser.specs.Words.{Gives};
 ghost use Rattle.sql_text.specs.Tokens.{token_list};
 ghost use Rattle.sql_text.specs.declared.token.Token.TheVariants as t;
 
 use crate::ahead::at_query;
-use crate::boxes::{boxed, push_boxed};
+use crate::boxes::{closed_expr, found_expr, push_boxed};
 use crate::grammar::Grammar;
 use crate::naming::column_after;
 use crate::refusal::ParseRefusal;
 use crate::word::{
-    additive_at, after_comma, close, data_type, first, multiplicative_at, set_quantifier_at,
+    additive_at, after_comma, data_type, first, multiplicative_at, set_quantifier_at,
 };
-use sql_ast::{Cond, Expr, Query, SetFunction, Sign, TableRef};
-use sql_text::{Key, Spanned, Token};
+use shared_types::Text;
+use sql_ast::{AdditiveOp, Cond, Expr, MultiplicativeOp, Query, SetFunction, Sign, TableRef};
+use sql_text::{Key, Name, Spanned, Token};
 use sqlite_items::Items;
 use std::alloc::Global;
 
@@ -25,20 +28,37 @@ fn after_open_star(ts: &[Spanned]) -> Option<&[Spanned]>
     ensures found { IfSome result (λ rest. token_list ts.now ≡ t.LeftParen ∷ t.Star ∷ token_list rest.now) }
     ensures none { IfNone result (read.starts_open_star (token_list ts.now) ≡ false) }
 {
-    match ts {
-        [
-            Spanned {
-                token: Token::LeftParen,
-                ..
-            },
-            Spanned {
-                token: Token::Star,
-                ..
-            },
-            rest @ ..,
-        ] => Some(rest),
+    match first(ts) {
+        Some((Token::LeftParen, rest)) => match first(rest) {
+            Some((Token::Star, rest)) => Some(rest),
+            _ => None,
+        },
         _ => None,
     }
+}
+
+/// A string, which stands before the tokens.
+fn string<'a>(
+    alloc: Global,
+    value: &Text,
+    ts: &'a [Spanned],
+) -> Result<(Box<Expr>, &'a [Spanned]), ParseRefusal>
+    ensures { Gives (λ x. (shown.expr x.0.value, token_list x.1.now)) result (words.found (s.string value.now) (token_list ts.now)) }
+{
+    let value = value.copy(alloc)?;
+    found_expr(alloc, Expr::Str(value), ts)
+}
+
+/// `[ "." name ]`, after a name: the column that they are
+fn column_expr<'a>(
+    alloc: Global,
+    name: &Name,
+    ts: &'a [Spanned],
+) -> Result<(Box<Expr>, &'a [Spanned]), ParseRefusal>
+    ensures { Gives (λ x. (shown.expr x.0.value, token_list x.1.now)) result (read.column_expr name.now (token_list ts.now)) }
+{
+    let (column, rest) = column_after(alloc, name, ts)?;
+    found_expr(alloc, Expr::Column(column), rest)
 }
 
 impl<
@@ -88,9 +108,11 @@ impl<
             Some((Token::LeftParen, rest)) => {
                 let (quantifier, rest) = set_quantifier_at(rest);
                 let (operand, rest) = self.nested_expr(rest)?;
-                let rest = close(rest)?;
-                let aggregate = boxed(self.alloc, Expr::Aggregate(function, quantifier, operand))?;
-                Ok((aggregate, rest))
+                closed_expr(
+                    self.alloc,
+                    Expr::Aggregate(function, quantifier, operand),
+                    rest,
+                )
             }
             _ => Err(ParseRefusal::Syntax),
         }
@@ -105,10 +127,7 @@ impl<
         ensures { Gives (λ x. (shown.expr x.0.value, token_list x.1.now)) result (read.at_depth self.now.depth read.count (token_list ts.now)) }
     {
         match after_open_star(ts) {
-            Some(rest) => {
-                let rest = close(rest)?;
-                Ok((boxed(self.alloc, Expr::CountAll)?, rest))
-            }
+            Some(rest) => closed_expr(self.alloc, Expr::CountAll, rest),
             None => self.aggregate(SetFunction::Count, ts),
         }
     }
@@ -129,8 +148,7 @@ impl<
         match first(ts) {
             Some((Token::Comma, rest)) => {
                 let (others, rest) = self.exprs(rest)?;
-                let rest = close(rest)?;
-                Ok((boxed(self.alloc, Expr::Coalesce(operand, others))?, rest))
+                closed_expr(self.alloc, Expr::Coalesce(operand, others), rest)
             }
             _ => Err(ParseRefusal::Syntax),
         }
@@ -168,8 +186,7 @@ impl<
         match first(ts) {
             Some((Token::Comma, rest)) => {
                 let (b, rest) = self.nested_expr(rest)?;
-                let rest = close(rest)?;
-                Ok((boxed(self.alloc, Expr::NullIf(a, b))?, rest))
+                closed_expr(self.alloc, Expr::NullIf(a, b), rest)
             }
             _ => Err(ParseRefusal::Syntax),
         }
@@ -203,8 +220,7 @@ impl<
         match first(ts) {
             Some((Token::Key(Key::As), rest)) => {
                 let (data_type, rest) = data_type(rest)?;
-                let rest = close(rest)?;
-                Ok((boxed(self.alloc, Expr::CastNull(data_type))?, rest))
+                closed_expr(self.alloc, Expr::CastNull(data_type), rest)
             }
             _ => Err(ParseRefusal::Syntax),
         }
@@ -218,18 +234,11 @@ impl<
         requires table { Nests shown.table (read.table self.now.depth) self.now.depth (T.pre self.now.table) (T.post self.now.table) }
         ensures { Gives (λ x. (shown.expr x.0.value, token_list x.1.now)) result (read.at_depth self.now.depth read.cast (token_list ts.now)) }
     {
-        match ts {
-            [
-                Spanned {
-                    token: Token::LeftParen,
-                    ..
-                },
-                Spanned {
-                    token: Token::Key(Key::Null),
-                    ..
-                },
-                rest @ ..,
-            ] => self.cast_type(rest),
+        match first(ts) {
+            Some((Token::LeftParen, rest)) => match first(rest) {
+                Some((Token::Key(Key::Null), rest)) => self.cast_type(rest),
+                _ => Err(ParseRefusal::Syntax),
+            },
             _ => Err(ParseRefusal::Syntax),
         }
     }
@@ -260,6 +269,23 @@ impl<
         }
     }
 
+    /// `query ")" | expr ")"`, after `"("`
+    fn paren<'a>(&self, ts: &'a [Spanned]) -> Result<(Box<Expr>, &'a [Spanned]), ParseRefusal>
+        requires expr { Nests shown.expr (read.expr self.now.depth) self.now.depth (E.pre self.now.expr) (E.post self.now.expr) }
+        requires cond { Nests shown.cond (read.cond self.now.depth) self.now.depth (C.pre self.now.cond) (C.post self.now.cond) }
+        requires query { Nests shown.query (read.query self.now.depth) self.now.depth (Q.pre self.now.query) (Q.post self.now.query) }
+        requires table { Nests shown.table (read.table self.now.depth) self.now.depth (T.pre self.now.table) (T.post self.now.table) }
+        ensures { Gives (λ x. (shown.expr x.0.value, token_list x.1.now)) result (read.at_depth self.now.depth read.paren (token_list ts.now)) }
+    {
+        if at_query(ts) {
+            let (query, rest) = self.nested_query(ts)?;
+            closed_expr(self.alloc, Expr::Scalar(query), rest)
+        } else {
+            let (operand, rest) = self.nested_expr(ts)?;
+            closed_expr(self.alloc, Expr::Paren(operand), rest)
+        }
+    }
+
     /// A number, a string, a column, a bracket, or what begins with a key word
     fn prim<'a>(&self, ts: &'a [Spanned]) -> Result<(Box<Expr>, &'a [Spanned]), ParseRefusal>
         requires expr { Nests shown.expr (read.expr self.now.depth) self.now.depth (E.pre self.now.expr) (E.post self.now.expr) }
@@ -269,29 +295,29 @@ impl<
         ensures { Gives (λ x. (shown.expr x.0.value, token_list x.1.now)) result (read.at_depth self.now.depth read.prim (token_list ts.now)) }
     {
         match first(ts) {
-            Some((Token::Number(n), rest)) => Ok((boxed(self.alloc, Expr::Number(*n))?, rest)),
-            Some((Token::Str(x), rest)) => {
-                let x = x.copy(self.alloc)?;
-                Ok((boxed(self.alloc, Expr::Str(x))?, rest))
-            }
-            Some((Token::Name(name), rest)) => {
-                let (column, rest) = column_after(self.alloc, name, rest)?;
-                Ok((boxed(self.alloc, Expr::Column(column))?, rest))
-            }
-            Some((Token::LeftParen, rest)) => {
-                if at_query(rest) {
-                    let (query, rest) = self.nested_query(rest)?;
-                    let rest = close(rest)?;
-                    Ok((boxed(self.alloc, Expr::Scalar(query))?, rest))
-                } else {
-                    let (operand, rest) = self.nested_expr(rest)?;
-                    let rest = close(rest)?;
-                    Ok((boxed(self.alloc, Expr::Paren(operand))?, rest))
-                }
-            }
+            Some((Token::Number(n), rest)) => found_expr(self.alloc, Expr::Number(*n), rest),
+            Some((Token::Str(x), rest)) => string(self.alloc, x, rest),
+            Some((Token::Name(name), rest)) => column_expr(self.alloc, name, rest),
+            Some((Token::LeftParen, rest)) => self.paren(rest),
             Some((Token::Key(word), rest)) => self.word_prim(*word, rest),
             _ => Err(ParseRefusal::Syntax),
         }
+    }
+
+    /// `prim`, after its sign
+    fn signed<'a>(
+        &self,
+        sign: Sign,
+        ts: &'a [Spanned],
+    ) -> Result<(Box<Expr>, &'a [Spanned]), ParseRefusal>
+        requires expr { Nests shown.expr (read.expr self.now.depth) self.now.depth (E.pre self.now.expr) (E.post self.now.expr) }
+        requires cond { Nests shown.cond (read.cond self.now.depth) self.now.depth (C.pre self.now.cond) (C.post self.now.cond) }
+        requires query { Nests shown.query (read.query self.now.depth) self.now.depth (Q.pre self.now.query) (Q.post self.now.query) }
+        requires table { Nests shown.table (read.table self.now.depth) self.now.depth (T.pre self.now.table) (T.post self.now.table) }
+        ensures { Gives (λ x. (shown.expr x.0.value, token_list x.1.now)) result (read.at_depth self.now.depth read.signed sign (token_list ts.now)) }
+    {
+        let (operand, rest) = self.prim(ts)?;
+        found_expr(self.alloc, Expr::Signed(sign, operand), rest)
     }
 
     /// `factor = [ "+" | "-" ] prim`
@@ -303,16 +329,27 @@ impl<
         ensures { Gives (λ x. (shown.expr x.0.value, token_list x.1.now)) result (read.at_depth self.now.depth read.factor (token_list ts.now)) }
     {
         match first(ts) {
-            Some((Token::Plus, rest)) => {
-                let (operand, rest) = self.prim(rest)?;
-                Ok((boxed(self.alloc, Expr::Signed(Sign::Plus, operand))?, rest))
-            }
-            Some((Token::Minus, rest)) => {
-                let (operand, rest) = self.prim(rest)?;
-                Ok((boxed(self.alloc, Expr::Signed(Sign::Minus, operand))?, rest))
-            }
+            Some((Token::Plus, rest)) => self.signed(Sign::Plus, rest),
+            Some((Token::Minus, rest)) => self.signed(Sign::Minus, rest),
             _ => self.prim(ts),
         }
+    }
+
+    /// `factor`, after `*` or `/`
+    fn multiplied<'a>(
+        &self,
+        left: Box<Expr>,
+        op: MultiplicativeOp,
+        ts: &'a [Spanned],
+    ) -> Result<(Box<Expr>, &'a [Spanned]), ParseRefusal>
+        requires expr { Nests shown.expr (read.expr self.now.depth) self.now.depth (E.pre self.now.expr) (E.post self.now.expr) }
+        requires cond { Nests shown.cond (read.cond self.now.depth) self.now.depth (C.pre self.now.cond) (C.post self.now.cond) }
+        requires query { Nests shown.query (read.query self.now.depth) self.now.depth (Q.pre self.now.query) (Q.post self.now.query) }
+        requires table { Nests shown.table (read.table self.now.depth) self.now.depth (T.pre self.now.table) (T.post self.now.table) }
+        ensures { Gives (λ x. (shown.expr x.0.value, token_list x.1.now)) result (read.at_depth self.now.depth read.multiplied (shown.expr left.value) op (token_list ts.now)) }
+    {
+        let (right, rest) = self.factor(ts)?;
+        found_expr(self.alloc, Expr::Multiply(left, op, right), rest)
     }
 
     /// `term = factor { ( "*" | "/" ) factor }`
@@ -328,13 +365,30 @@ impl<
             match multiplicative_at(rest) {
                 None => return Ok((left, rest)),
                 Some((op, after)) => {
-                    let (right, after) = self.factor(after)?;
-                    left = boxed(self.alloc, Expr::Multiply(left, op, right))?;
+                    let (next, after) = self.multiplied(left, op, after)?;
+                    left = next;
                     rest = after;
                 }
             }
         }
         Ok((left, rest))
+    }
+
+    /// `term`, after `+`, `-` or `||`
+    fn added<'a>(
+        &self,
+        left: Box<Expr>,
+        op: AdditiveOp,
+        ts: &'a [Spanned],
+    ) -> Result<(Box<Expr>, &'a [Spanned]), ParseRefusal>
+        requires expr { Nests shown.expr (read.expr self.now.depth) self.now.depth (E.pre self.now.expr) (E.post self.now.expr) }
+        requires cond { Nests shown.cond (read.cond self.now.depth) self.now.depth (C.pre self.now.cond) (C.post self.now.cond) }
+        requires query { Nests shown.query (read.query self.now.depth) self.now.depth (Q.pre self.now.query) (Q.post self.now.query) }
+        requires table { Nests shown.table (read.table self.now.depth) self.now.depth (T.pre self.now.table) (T.post self.now.table) }
+        ensures { Gives (λ x. (shown.expr x.0.value, token_list x.1.now)) result (read.at_depth self.now.depth read.added (shown.expr left.value) op (token_list ts.now)) }
+    {
+        let (right, rest) = self.term(ts)?;
+        found_expr(self.alloc, Expr::Add(left, op, right), rest)
     }
 
     /// `expr = term { ( "+" | "-" | "||" ) term }`
@@ -350,8 +404,8 @@ impl<
             match additive_at(rest) {
                 None => return Ok((left, rest)),
                 Some((op, after)) => {
-                    let (right, after) = self.term(after)?;
-                    left = boxed(self.alloc, Expr::Add(left, op, right))?;
+                    let (next, after) = self.added(left, op, after)?;
+                    left = next;
                     rest = after;
                 }
             }

@@ -94,35 +94,21 @@ pub(crate) fn column_after<'a>(
 ) -> Result<(Column, &'a [Spanned]), ParseRefusal>
     ensures { Gives (λ x. (x.0, token_list x.1.now)) result (words.column_after name.now (token_list ts.now)) }
 {
-    match ts {
-        [
-            Spanned {
-                token: Token::Dot,
-                ..
-            },
-            Spanned {
-                token: Token::Name(column),
-                ..
-            },
-            rest @ ..,
-        ] => {
-            let range = name.copy(alloc)?;
-            let name = column.copy(alloc)?;
-            Ok((
-                Column {
-                    range: Some(range),
-                    name,
-                },
-                rest,
-            ))
-        }
-        [
-            Spanned {
-                token: Token::Dot,
-                ..
-            },
-            ..
-        ] => Err(ParseRefusal::Syntax),
+    match first(ts) {
+        Some((Token::Dot, rest)) => match first(rest) {
+            Some((Token::Name(column), rest)) => {
+                let range = name.copy(alloc)?;
+                let name = column.copy(alloc)?;
+                Ok((
+                    Column {
+                        range: Some(range),
+                        name,
+                    },
+                    rest,
+                ))
+            }
+            _ => Err(ParseRefusal::Syntax),
+        },
         _ => {
             let name = name.copy(alloc)?;
             Ok((Column { range: None, name }, ts))
@@ -168,18 +154,11 @@ pub(crate) fn group_by(
 ) -> Result<(Items<Column>, &[Spanned]), ParseRefusal>
     ensures { Gives (λ x. (x.0, token_list x.1.now)) result (words.group_by (token_list ts.now)) }
 {
-    match ts {
-        [
-            Spanned {
-                token: Token::Key(Key::Group),
-                ..
-            },
-            Spanned {
-                token: Token::Key(Key::By),
-                ..
-            },
-            rest @ ..,
-        ] => columns(alloc, rest),
+    match first(ts) {
+        Some((Token::Key(Key::Group), rest)) => match first(rest) {
+            Some((Token::Key(Key::By), rest)) => columns(alloc, rest),
+            _ => Ok((Items::new(alloc), ts)),
+        },
         _ => Ok((Items::new(alloc), ts)),
     }
 }
@@ -282,22 +261,14 @@ pub(crate) fn optional_correlation(
 pub(crate) fn all_of_at(ts: &[Spanned]) -> Option<(&Name, &[Spanned])>
     ensures { option_map (λ x. (x.0.now, token_list x.1.now)) result ≡ words.all_of_at (token_list ts.now) }
 {
-    match ts {
-        [
-            Spanned {
-                token: Token::Name(name),
-                ..
+    match first(ts) {
+        Some((Token::Name(name), rest)) => match first(rest) {
+            Some((Token::Dot, rest)) => match first(rest) {
+                Some((Token::Star, rest)) => Some((name, rest)),
+                _ => None,
             },
-            Spanned {
-                token: Token::Dot,
-                ..
-            },
-            Spanned {
-                token: Token::Star,
-                ..
-            },
-            rest @ ..,
-        ] => Some((name, rest)),
+            _ => None,
+        },
         _ => None,
     }
 }

@@ -9,12 +9,12 @@ ghost use Rattle.sql_text.specs.Tokens.{token_list};
 ghost use Rattle.sql_text.specs.declared.key.Key.TheVariants.{Intersect};
 ghost use Rattle.sql_text.specs.declared.token.Token.TheVariants as t;
 
-use crate::boxes::boxed;
+use crate::boxes::{boxed, closed_query, found_query};
 use crate::grammar::Grammar;
 use crate::naming::{alias_at, all_of_at, group_by};
 use crate::refusal::ParseRefusal;
-use crate::word::{after_comma, all_at, close, first, set_operator_at, set_quantifier_at};
-use sql_ast::{Block, Cond, Expr, Item, Query, SelectList, SetQuantifier, TableRef};
+use crate::word::{after_comma, all_at, first, set_operator_at, set_quantifier_at};
+use sql_ast::{Block, Cond, Expr, Item, Query, SelectList, SetOperator, SetQuantifier, TableRef};
 use sql_text::{Key, Spanned, Token};
 use sqlite_items::Items;
 use std::alloc::Global;
@@ -150,7 +150,7 @@ impl<
             having,
         };
         let block = boxed(self.alloc, block)?;
-        Ok((boxed(self.alloc, Query::Block(block))?, rest))
+        found_query(self.alloc, Query::Block(block), rest)
     }
 
     /// `[ ALL | DISTINCT ] list FROM tref { "," tref }`, and the rest of a block, after `SELECT`
@@ -179,11 +179,27 @@ impl<
             Some((Token::Key(Key::Select), rest)) => self.block(rest),
             Some((Token::LeftParen, rest)) => {
                 let (query, rest) = self.nested_query(rest)?;
-                let rest = close(rest)?;
-                Ok((boxed(self.alloc, Query::Enclosed(query))?, rest))
+                closed_query(self.alloc, Query::Enclosed(query), rest)
             }
             _ => Err(ParseRefusal::Syntax),
         }
+    }
+
+    /// `[ ALL ] qprim`, after `INTERSECT`
+    fn intersected<'a>(
+        &self,
+        left: Box<Query>,
+        ts: &'a [Spanned],
+    ) -> Result<(Box<Query>, &'a [Spanned]), ParseRefusal>
+        requires expr { Nests shown.expr (read.expr self.now.depth) self.now.depth (E.pre self.now.expr) (E.post self.now.expr) }
+        requires cond { Nests shown.cond (read.cond self.now.depth) self.now.depth (C.pre self.now.cond) (C.post self.now.cond) }
+        requires query { Nests shown.query (read.query self.now.depth) self.now.depth (Q.pre self.now.query) (Q.post self.now.query) }
+        requires table { Nests shown.table (read.table self.now.depth) self.now.depth (T.pre self.now.table) (T.post self.now.table) }
+        ensures { Gives (λ x. (shown.query x.0.value, token_list x.1.now)) result (read.at_depth self.now.depth read.intersected (shown.query left.value) (token_list ts.now)) }
+    {
+        let (all, rest) = all_at(ts);
+        let (right, rest) = self.qprim(rest)?;
+        found_query(self.alloc, Query::Intersect(left, all, right), rest)
     }
 
     /// `qterm = qprim { INTERSECT [ ALL ] qprim }`
@@ -199,14 +215,31 @@ impl<
             match after_intersect(rest) {
                 None => return Ok((left, rest)),
                 Some(after) => {
-                    let (all, after) = all_at(after);
-                    let (right, after) = self.qprim(after)?;
-                    left = boxed(self.alloc, Query::Intersect(left, all, right))?;
+                    let (next, after) = self.intersected(left, after)?;
+                    left = next;
                     rest = after;
                 }
             }
         }
         Ok((left, rest))
+    }
+
+    /// `[ ALL ] qterm`, after `UNION` or `EXCEPT`
+    fn united<'a>(
+        &self,
+        left: Box<Query>,
+        operator: SetOperator,
+        ts: &'a [Spanned],
+    ) -> Result<(Box<Query>, &'a [Spanned]), ParseRefusal>
+        requires expr { Nests shown.expr (read.expr self.now.depth) self.now.depth (E.pre self.now.expr) (E.post self.now.expr) }
+        requires cond { Nests shown.cond (read.cond self.now.depth) self.now.depth (C.pre self.now.cond) (C.post self.now.cond) }
+        requires query { Nests shown.query (read.query self.now.depth) self.now.depth (Q.pre self.now.query) (Q.post self.now.query) }
+        requires table { Nests shown.table (read.table self.now.depth) self.now.depth (T.pre self.now.table) (T.post self.now.table) }
+        ensures { Gives (λ x. (shown.query x.0.value, token_list x.1.now)) result (read.at_depth self.now.depth read.united (shown.query left.value) operator (token_list ts.now)) }
+    {
+        let (all, rest) = all_at(ts);
+        let (right, rest) = self.qterm(rest)?;
+        found_query(self.alloc, Query::Combine(left, operator, all, right), rest)
     }
 
     /// `query = qterm { ( UNION | EXCEPT ) [ ALL ] qterm }`
@@ -225,9 +258,8 @@ impl<
             match set_operator_at(rest) {
                 None => return Ok((left, rest)),
                 Some((operator, after)) => {
-                    let (all, after) = all_at(after);
-                    let (right, after) = self.qterm(after)?;
-                    left = boxed(self.alloc, Query::Combine(left, operator, all, right))?;
+                    let (next, after) = self.united(left, operator, after)?;
+                    left = next;
                     rest = after;
                 }
             }

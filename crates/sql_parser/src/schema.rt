@@ -76,29 +76,12 @@ fn view_decl(alloc: Global, ts: &[Spanned]) -> Result<(Statement, &[Spanned]), P
 fn statement(alloc: Global, ts: &[Spanned]) -> Result<(Statement, &[Spanned]), ParseRefusal>
     ensures { Gives (λ x. (shown.statement x.0, token_list x.1.now)) result (read.statement (token_list ts.now)) }
 {
-    match ts {
-        [
-            Spanned {
-                token: Token::Key(Key::Create),
-                ..
-            },
-            Spanned {
-                token: Token::Key(Key::Table),
-                ..
-            },
-            rest @ ..,
-        ] => table_decl(alloc, rest),
-        [
-            Spanned {
-                token: Token::Key(Key::Create),
-                ..
-            },
-            Spanned {
-                token: Token::Key(Key::View),
-                ..
-            },
-            rest @ ..,
-        ] => view_decl(alloc, rest),
+    match first(ts) {
+        Some((Token::Key(Key::Create), rest)) => match first(rest) {
+            Some((Token::Key(Key::Table), rest)) => table_decl(alloc, rest),
+            Some((Token::Key(Key::View), rest)) => view_decl(alloc, rest),
+            _ => Err(ParseRefusal::Syntax),
+        },
         _ => Err(ParseRefusal::Syntax),
     }
 }

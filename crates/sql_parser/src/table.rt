@@ -9,14 +9,14 @@ ghost use Rattle.sql_parser.specs.declared.word.JoinKind.TheVariants as join_of;
 ghost use Rattle.sql_text.specs.Tokens.{token_list};
 
 use crate::ahead::at_query;
-use crate::boxes::{boxed, push_boxed};
+use crate::boxes::{found_table, push_boxed};
 use crate::grammar::Grammar;
 use crate::naming::{correlation, optional_correlation};
 use crate::refusal::ParseRefusal;
 use crate::sub::without_sub;
 use crate::word::{JoinKind, after_comma, first, join_at};
 use sql_ast::{Cond, Expr, Query, TableRef};
-use sql_text::{Key, Spanned, Token};
+use sql_text::{Key, Name, Spanned, Token};
 use sqlite_items::Items;
 use std::alloc::Global;
 
@@ -31,10 +31,23 @@ fn name_derived<'a>(
     match first(ts) {
         Some((Token::RightParen, rest)) => {
             let (named, rest) = correlation(alloc, rest)?;
-            Ok((boxed(alloc, TableRef::Derived(query, named))?, rest))
+            found_table(alloc, TableRef::Derived(query, named), rest)
         }
         _ => Err(ParseRefusal::Syntax),
     }
+}
+
+/// `[ [ AS ] name [ "(" names ")" ] ]`, after the name of a table
+fn named_table<'a>(
+    alloc: Global,
+    name: &Name,
+    ts: &'a [Spanned],
+) -> Result<(Box<TableRef>, &'a [Spanned]), ParseRefusal>
+    ensures { Gives (λ x. (shown.table x.0.value, token_list x.1.now)) result (read.named_table name.now (token_list ts.now)) }
+{
+    let (named, rest) = optional_correlation(alloc, ts)?;
+    let name = name.copy(alloc)?;
+    found_table(alloc, TableRef::Named(name, named), rest)
 }
 
 /// Whether a table has no join outside of brackets.
@@ -60,7 +73,7 @@ fn close_join<'a>(
             if is_tprim(&x) {
                 Err(ParseRefusal::Syntax)
             } else {
-                Ok((boxed(alloc, TableRef::Joined(x))?, rest))
+                found_table(alloc, TableRef::Joined(x), rest)
             }
         }
         _ => Err(ParseRefusal::Syntax),
@@ -82,11 +95,7 @@ impl<
         ensures { Gives (λ x. (shown.table x.0.value, token_list x.1.now)) result (read.at_depth self.now.depth read.tprim (token_list ts.now)) }
     {
         match first(ts) {
-            Some((Token::Name(name), rest)) => {
-                let (named, rest) = optional_correlation(self.alloc, rest)?;
-                let name = name.copy(self.alloc)?;
-                Ok((boxed(self.alloc, TableRef::Named(name, named))?, rest))
-            }
+            Some((Token::Name(name), rest)) => named_table(self.alloc, name, rest),
             Some((Token::LeftParen, rest)) => {
                 if at_query(rest) {
                     let (query, rest) = self.nested_query(rest)?;
@@ -129,8 +138,7 @@ impl<
     {
         let (right, rest) = self.tprim(ts)?;
         let (on, rest) = self.on(rest)?;
-        let join = boxed(self.alloc, TableRef::Join(left, inner, right, on))?;
-        Ok((join, rest))
+        found_table(self.alloc, TableRef::Join(left, inner, right, on), rest)
     }
 
     /// `tprim ON cond`, after `LEFT [ OUTER ] JOIN`, where the cond holds no sub
@@ -149,8 +157,7 @@ impl<
         let (right, rest) = self.tprim(ts)?;
         let (on, rest) = self.on(rest)?;
         if without_sub(&on) {
-            let join = boxed(self.alloc, TableRef::LeftJoin(left, outer, right, on))?;
-            Ok((join, rest))
+            found_table(self.alloc, TableRef::LeftJoin(left, outer, right, on), rest)
         } else {
             Err(ParseRefusal::Syntax)
         }
@@ -174,7 +181,7 @@ impl<
             JoinKind::Left(outer) => self.left_join(left, outer, ts),
             JoinKind::Cross => {
                 let (right, rest) = self.tprim(ts)?;
-                Ok((boxed(self.alloc, TableRef::CrossJoin(left, right))?, rest))
+                found_table(self.alloc, TableRef::CrossJoin(left, right), rest)
             }
         }
     }

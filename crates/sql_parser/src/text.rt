@@ -167,18 +167,11 @@ fn sorts(alloc: Global, ts: &[Spanned]) -> Result<(Items<Sort>, &[Spanned]), Par
 fn order_by(alloc: Global, ts: &[Spanned]) -> Result<(Items<Sort>, &[Spanned]), ParseRefusal>
     ensures { Gives (λ x. (x.0, token_list x.1.now)) result (text.order_by (token_list ts.now)) }
 {
-    match ts {
-        [
-            Spanned {
-                token: Token::Key(Key::Order),
-                ..
-            },
-            Spanned {
-                token: Token::Key(Key::By),
-                ..
-            },
-            rest @ ..,
-        ] => sorts(alloc, rest),
+    match first(ts) {
+        Some((Token::Key(Key::Order), rest)) => match first(rest) {
+            Some((Token::Key(Key::By), rest)) => sorts(alloc, rest),
+            _ => Ok((Items::new(alloc), ts)),
+        },
         _ => Ok((Items::new(alloc), ts)),
     }
 }

@@ -145,54 +145,20 @@ fn after_left(outer: bool, ts: &[Spanned]) -> Option<(JoinKind, &[Spanned])>
 pub(crate) fn join_at(ts: &[Spanned]) -> Option<(JoinKind, &[Spanned])>
     ensures { option_map (λ x. (x.0, token_list x.1.now)) result ≡ words.join_at (token_list ts.now) }
 {
-    match ts {
-        [
-            Spanned {
-                token: Token::Key(Key::Join),
-                ..
-            },
-            rest @ ..,
-        ] => { Some((JoinKind::Inner(false), rest)) }
-        [
-            Spanned {
-                token: Token::Key(Key::Inner),
-                ..
-            },
-            Spanned {
-                token: Token::Key(Key::Join),
-                ..
-            },
-            rest @ ..,
-        ] => Some((JoinKind::Inner(true), rest)),
-        [
-            Spanned {
-                token: Token::Key(Key::Left),
-                ..
-            },
-            Spanned {
-                token: Token::Key(Key::Outer),
-                ..
-            },
-            rest @ ..,
-        ] => after_left(true, rest),
-        [
-            Spanned {
-                token: Token::Key(Key::Left),
-                ..
-            },
-            rest @ ..,
-        ] => after_left(false, rest),
-        [
-            Spanned {
-                token: Token::Key(Key::Cross),
-                ..
-            },
-            Spanned {
-                token: Token::Key(Key::Join),
-                ..
-            },
-            rest @ ..,
-        ] => Some((JoinKind::Cross, rest)),
+    match first(ts) {
+        Some((Token::Key(Key::Join), rest)) => Some((JoinKind::Inner(false), rest)),
+        Some((Token::Key(Key::Inner), rest)) => match first(rest) {
+            Some((Token::Key(Key::Join), rest)) => Some((JoinKind::Inner(true), rest)),
+            _ => None,
+        },
+        Some((Token::Key(Key::Left), rest)) => match first(rest) {
+            Some((Token::Key(Key::Outer), rest)) => after_left(true, rest),
+            _ => after_left(false, rest),
+        },
+        Some((Token::Key(Key::Cross), rest)) => match first(rest) {
+            Some((Token::Key(Key::Join), rest)) => Some((JoinKind::Cross, rest)),
+            _ => None,
+        },
         _ => None,
     }
 }
@@ -201,21 +167,14 @@ pub(crate) fn join_at(ts: &[Spanned]) -> Option<(JoinKind, &[Spanned])>
 fn varchar_length(ts: &[Spanned]) -> Result<(DataType, &[Spanned]), ParseRefusal>
     ensures { Gives (λ x. (x.0, token_list x.1.now)) result (words.varchar_length (token_list ts.now)) }
 {
-    match ts {
-        [
-            Spanned {
-                token: Token::LeftParen,
-                ..
-            },
-            Spanned {
-                token: Token::Number(most),
-                ..
-            },
-            rest @ ..,
-        ] => {
-            let rest = close(rest)?;
-            Ok((DataType::Varchar(*most), rest))
-        }
+    match first(ts) {
+        Some((Token::LeftParen, rest)) => match first(rest) {
+            Some((Token::Number(most), rest)) => {
+                let rest = close(rest)?;
+                Ok((DataType::Varchar(*most), rest))
+            }
+            _ => Err(ParseRefusal::Syntax),
+        },
         _ => Err(ParseRefusal::Syntax),
     }
 }

@@ -14,13 +14,13 @@ qterms-init g c =
 pub returns-in-None : goal.returns-in-None
 returns-in-None g c = c.qterms.invariant ∙ qterms_stop (read.expr c.args.self.now.depth) (read.cond c.args.self.now.depth) (read.query c.args.self.now.depth) (read.table c.args.self.now.depth) _ (shown.query c.qterms.left.value) (token_list c.qterms.rest.now) (sym c.in-None.ensures)
 
-pub returns-in_err-right-in-Some : goal.returns-in_err-right-in-Some
-returns-in_err-right-in-Some g c =
-    let p = err_from_is_err_and c.from_residual-in_err-right-in-Some.result c.from_residual-in_err-right-in-Some.ensures.1 in
+pub returns-in_err-next-in-Some : goal.returns-in_err-next-in-Some
+returns-in_err-next-in-Some g c =
+    let p = err_from_is_err_and c.from_residual-in_err-next-in-Some.result c.from_residual-in_err-next-in-Some.ensures.1 in
     let e = one_more (λ n. read.more_qterms (read.expr c.args.self.now.depth) (read.cond c.args.self.now.depth) (read.query c.args.self.now.depth) (read.table c.args.self.now.depth) n (shown.query c.qterms.left.value) (token_list c.qterms.rest.now)) _ c.qterms._turn c.qterms-test.true c.qterms.invariant in
-    rw (p.1, p.2) (fails query_seen query_seen _ _ _ (λ none. e ∙ qterms_next (read.expr c.args.self.now.depth) (read.cond c.args.self.now.depth) (read.query c.args.self.now.depth) (read.table c.args.self.now.depth) _ (shown.query c.qterms.left.value) (token_list c.qterms.rest.now) (c.in-Some.operator, token_list c.in-Some.after.now) c.in-Some.ensures ∙ rw (← c.all_at-all.ensures, none) refl) c.in_err-right-in-Some.ensures)
+    rw (p.1, p.2) (fails query_seen query_seen _ _ _ (λ none. e ∙ qterms_next (read.expr c.args.self.now.depth) (read.cond c.args.self.now.depth) (read.query c.args.self.now.depth) (read.table c.args.self.now.depth) _ (shown.query c.qterms.left.value) (token_list c.qterms.rest.now) (c.in-Some.operator, token_list c.in-Some.after.now) c.in-Some.ensures ∙ rw (none) refl) c.in_err-next-in-Some.ensures)
 
 pub qterms-preserved : goal.qterms-preserved
 qterms-preserved g c =
     let e = one_more (λ n. read.more_qterms (read.expr c.args.self.now.depth) (read.cond c.args.self.now.depth) (read.query c.args.self.now.depth) (read.table c.args.self.now.depth) n (shown.query c.qterms.left.value) (token_list c.qterms.rest.now)) _ c.qterms._turn c.qterms-test.true c.qterms.invariant in
-    e ∙ qterms_next (read.expr c.args.self.now.depth) (read.cond c.args.self.now.depth) (read.query c.args.self.now.depth) (read.table c.args.self.now.depth) _ (shown.query c.qterms.left.value) (token_list c.qterms.rest.now) (c.in-Some.operator, token_list c.in-Some.after.now) c.in-Some.ensures ∙ rw (← c.all_at-all.ensures, c.in_ok-right-in-Some.ensures, c.in_ok-left-in-Some.ensures) refl
+    e ∙ qterms_next (read.expr c.args.self.now.depth) (read.cond c.args.self.now.depth) (read.query c.args.self.now.depth) (read.table c.args.self.now.depth) _ (shown.query c.qterms.left.value) (token_list c.qterms.rest.now) (c.in-Some.operator, token_list c.in-Some.after.now) c.in-Some.ensures ∙ rw (c.in_ok-next-in-Some.ensures) refl

@@ -14,13 +14,13 @@ terms-init g c =
 pub returns-in-None : goal.returns-in-None
 returns-in-None g c = c.terms.invariant ∙ terms_stop (read.expr c.args.self.now.depth) (read.cond c.args.self.now.depth) (read.query c.args.self.now.depth) (read.table c.args.self.now.depth) _ (shown.expr c.terms.left.value) (token_list c.terms.rest.now) c.in-None.ensures
 
-pub returns-in_err-right-in-Some : goal.returns-in_err-right-in-Some
-returns-in_err-right-in-Some g c =
-    let p = err_from_is_err_and c.from_residual-in_err-right-in-Some.result c.from_residual-in_err-right-in-Some.ensures.1 in
+pub returns-in_err-next-in-Some : goal.returns-in_err-next-in-Some
+returns-in_err-next-in-Some g c =
+    let p = err_from_is_err_and c.from_residual-in_err-next-in-Some.result c.from_residual-in_err-next-in-Some.ensures.1 in
     let e = one_more (λ n. read.more_terms (read.expr c.args.self.now.depth) (read.cond c.args.self.now.depth) (read.query c.args.self.now.depth) (read.table c.args.self.now.depth) n (shown.expr c.terms.left.value) (token_list c.terms.rest.now)) _ c.terms._turn c.terms-test.true c.terms.invariant in
-    rw (p.1, p.2) (fails expr_seen expr_seen _ _ _ (λ none. e ∙ rw (terms_go (read.expr c.args.self.now.depth) (read.cond c.args.self.now.depth) (read.query c.args.self.now.depth) (read.table c.args.self.now.depth) _ (shown.expr c.terms.left.value) c.in-Some.op (token_list c.terms.rest.now) (token_list c.in-Some.after.now) c.in-Some.ensures, none) refl) c.in_err-right-in-Some.ensures)
+    rw (p.1, p.2) (fails expr_seen expr_seen _ _ _ (λ none. e ∙ rw (terms_go (read.expr c.args.self.now.depth) (read.cond c.args.self.now.depth) (read.query c.args.self.now.depth) (read.table c.args.self.now.depth) _ (shown.expr c.terms.left.value) c.in-Some.op (token_list c.terms.rest.now) (token_list c.in-Some.after.now) c.in-Some.ensures, none) refl) c.in_err-next-in-Some.ensures)
 
 pub terms-preserved : goal.terms-preserved
 terms-preserved g c =
     let e = one_more (λ n. read.more_terms (read.expr c.args.self.now.depth) (read.cond c.args.self.now.depth) (read.query c.args.self.now.depth) (read.table c.args.self.now.depth) n (shown.expr c.terms.left.value) (token_list c.terms.rest.now)) _ c.terms._turn c.terms-test.true c.terms.invariant in
-    e ∙ rw (terms_go (read.expr c.args.self.now.depth) (read.cond c.args.self.now.depth) (read.query c.args.self.now.depth) (read.table c.args.self.now.depth) _ (shown.expr c.terms.left.value) c.in-Some.op (token_list c.terms.rest.now) (token_list c.in-Some.after.now) c.in-Some.ensures, c.in_ok-right-in-Some.ensures, c.in_ok-left-in-Some.ensures) refl
+    e ∙ rw (terms_go (read.expr c.args.self.now.depth) (read.cond c.args.self.now.depth) (read.query c.args.self.now.depth) (read.table c.args.self.now.depth) _ (shown.expr c.terms.left.value) c.in-Some.op (token_list c.terms.rest.now) (token_list c.in-Some.after.now) c.in-Some.ensures, c.in_ok-next-in-Some.ensures) refl

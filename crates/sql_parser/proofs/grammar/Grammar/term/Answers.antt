@@ -14,13 +14,13 @@ factors-init g c =
 pub returns-in-None : goal.returns-in-None
 returns-in-None g c = c.factors.invariant ∙ factors_stop (read.expr c.args.self.now.depth) (read.cond c.args.self.now.depth) (read.query c.args.self.now.depth) (read.table c.args.self.now.depth) _ (shown.expr c.factors.left.value) (token_list c.factors.rest.now) c.in-None.ensures
 
-pub returns-in_err-right-in-Some : goal.returns-in_err-right-in-Some
-returns-in_err-right-in-Some g c =
-    let p = err_from_is_err_and c.from_residual-in_err-right-in-Some.result c.from_residual-in_err-right-in-Some.ensures.1 in
+pub returns-in_err-next-in-Some : goal.returns-in_err-next-in-Some
+returns-in_err-next-in-Some g c =
+    let p = err_from_is_err_and c.from_residual-in_err-next-in-Some.result c.from_residual-in_err-next-in-Some.ensures.1 in
     let e = one_more (λ n. read.more_factors (read.expr c.args.self.now.depth) (read.cond c.args.self.now.depth) (read.query c.args.self.now.depth) (read.table c.args.self.now.depth) n (shown.expr c.factors.left.value) (token_list c.factors.rest.now)) _ c.factors._turn c.factors-test.true c.factors.invariant in
-    rw (p.1, p.2) (fails expr_seen expr_seen _ _ _ (λ none. e ∙ rw (factors_go (read.expr c.args.self.now.depth) (read.cond c.args.self.now.depth) (read.query c.args.self.now.depth) (read.table c.args.self.now.depth) _ (shown.expr c.factors.left.value) c.in-Some.op (token_list c.factors.rest.now) (token_list c.in-Some.after.now) c.in-Some.ensures, none) refl) c.in_err-right-in-Some.ensures)
+    rw (p.1, p.2) (fails expr_seen expr_seen _ _ _ (λ none. e ∙ rw (factors_go (read.expr c.args.self.now.depth) (read.cond c.args.self.now.depth) (read.query c.args.self.now.depth) (read.table c.args.self.now.depth) _ (shown.expr c.factors.left.value) c.in-Some.op (token_list c.factors.rest.now) (token_list c.in-Some.after.now) c.in-Some.ensures, none) refl) c.in_err-next-in-Some.ensures)
 
 pub factors-preserved : goal.factors-preserved
 factors-preserved g c =
     let e = one_more (λ n. read.more_factors (read.expr c.args.self.now.depth) (read.cond c.args.self.now.depth) (read.query c.args.self.now.depth) (read.table c.args.self.now.depth) n (shown.expr c.factors.left.value) (token_list c.factors.rest.now)) _ c.factors._turn c.factors-test.true c.factors.invariant in
-    e ∙ rw (factors_go (read.expr c.args.self.now.depth) (read.cond c.args.self.now.depth) (read.query c.args.self.now.depth) (read.table c.args.self.now.depth) _ (shown.expr c.factors.left.value) c.in-Some.op (token_list c.factors.rest.now) (token_list c.in-Some.after.now) c.in-Some.ensures, c.in_ok-right-in-Some.ensures, c.in_ok-left-in-Some.ensures) refl
+    e ∙ rw (factors_go (read.expr c.args.self.now.depth) (read.cond c.args.self.now.depth) (read.query c.args.self.now.depth) (read.table c.args.self.now.depth) _ (shown.expr c.factors.left.value) c.in-Some.op (token_list c.factors.rest.now) (token_list c.in-Some.after.now) c.in-Some.ensures, c.in_ok-next-in-Some.ensures) refl
