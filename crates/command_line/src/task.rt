@@ -5,7 +5,7 @@ ghost use Rattle.command_line.specs.Line.{is_taken, task_text};
 use rewrite_plan::Plan;
 
 /// A command with its arguments.
-#[derive(Clone, Copy, Debug)]
+#[derive(Clone, Copy)]
 pub enum Task<'a> {
     /// Answers a query.
     Run {
@@ -35,7 +35,7 @@ pub enum Task<'a> {
 }
 
 /// A command line.
-#[derive(Debug, Drop)]
+#[derive(Drop)]
 pub struct Line<'a> {
     /// What is to be done.
     pub task: Task<'a>,

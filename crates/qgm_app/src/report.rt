@@ -10,7 +10,7 @@ use sqlite_items::Items;
 use std::alloc::Global;
 
 /// What a run answers, where no read fails.
-#[derive(Debug, Drop)]
+#[derive(Drop)]
 pub enum Report {
     /// A header and rows, in CSV.
     Rows(Items<u8>),
@@ -31,7 +31,7 @@ pub enum Report {
 }
 
 /// A status, and what is printed.
-#[derive(Debug, Drop)]
+#[derive(Drop)]
 pub struct Said {
     pub status: u8,
     pub text: Items<u8>,

@@ -39,7 +39,6 @@ use std::marker::Model;
 /// A query as a graph of boxes (Pirahesh, Hellerstein and Hasan 1992, 2). Contracts see it as the
 /// list of its boxes by rank, each with its quantifiers by place, the number of its root, the names
 /// of its columns, and the keys of its order.
-#[derive(Drop)]
 pub struct Graph {
     nodes: Vec<Node>,
     root: BoxId,
@@ -49,6 +48,24 @@ pub struct Graph {
     next_box: BoxId,
     // Above the numbers of all quantifiers.
     next_quant: QuantId,
+}
+
+// By hand, so that crates above cite this function: a derived one is proved in each of them, with those
+// of all cells and conditions.
+impl Drop for Graph {
+    fn drop(self) {
+        let Graph {
+            nodes,
+            root: _,
+            names,
+            order,
+            next_box: _,
+            next_quant: _,
+        } = self;
+        drop(nodes);
+        drop(names);
+        drop(order);
+    }
 }
 
 impl Model for Graph {

@@ -19,7 +19,7 @@ pub struct BaseTable {
 }
 
 /// How the rows of two tables are put together (SQL-92, 7.10).
-#[derive(Clone, Copy, Debug, PartialEq, Eq)]
+#[derive(Clone, Copy, PartialEq, Eq)]
 pub enum SetOperator {
     Union,
     UnionAll,
@@ -45,7 +45,7 @@ pub enum BoxKind {
 }
 
 /// What a quantifier ranges for (Pirahesh, Hellerstein and Hasan 1992, 2.1).
-#[derive(Clone, Copy, Debug, PartialEq, Eq)]
+#[derive(Clone, Copy, PartialEq, Eq)]
 pub enum QuantKind {
     /// Each row takes part.
     F,
@@ -58,7 +58,7 @@ pub enum QuantKind {
 }
 
 /// Whether a box gives rows more than once (Pirahesh, Hellerstein and Hasan 1992, 2.1).
-#[derive(Clone, Copy, Debug, PartialEq, Eq)]
+#[derive(Clone, Copy, PartialEq, Eq)]
 pub enum Distinct {
     /// It gives each row once.
     Enforce,
@@ -69,7 +69,7 @@ pub enum Distinct {
 }
 
 /// What a box is for, where a query is decorrelated (Seshadri, Pirahesh and Leung 1996, 4).
-#[derive(Clone, Copy, Debug, PartialEq, Eq)]
+#[derive(Clone, Copy, PartialEq, Eq)]
 pub enum Role {
     Plain,
     /// It holds the bindings of a correlated box.

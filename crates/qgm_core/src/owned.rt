@@ -13,7 +13,7 @@ use std::marker::Model;
 
 /// A quantifier: the box that owns it, what it ranges for, and the box that it ranges over
 /// (Pirahesh, Hellerstein and Hasan 1992, 2.1).
-#[derive(Clone, Copy, Debug, PartialEq, Eq)]
+#[derive(Clone, Copy, PartialEq, Eq)]
 pub struct Quant {
     pub owner: BoxId,
     pub kind: QuantKind,
@@ -22,7 +22,7 @@ pub struct Quant {
 
 /// A quantifier in the box that owns it: its number, what it ranges for, and the box that it ranges
 /// over.
-#[derive(Clone, Copy, Debug)]
+#[derive(Clone, Copy)]
 pub struct OwnedQuant {
     pub id: QuantId,
     pub kind: QuantKind,
@@ -30,7 +30,7 @@ pub struct OwnedQuant {
 }
 
 /// The quantifiers of a box, by place. Contracts see it as the list of them.
-#[derive(Debug, Drop)]
+#[derive(Drop)]
 pub struct Owned {
     ids: Quants,
     ranges: Vec<OwnedQuant>,

@@ -8,7 +8,7 @@ use std::alloc::Global;
 use std::marker::Model;
 
 /// Quantifiers by place. Contracts see it as the list of their numbers.
-#[derive(Debug, Drop)]
+#[derive(Drop)]
 pub struct Quants {
     ids: Vec<QuantId>,
 }

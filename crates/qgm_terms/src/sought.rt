@@ -8,7 +8,7 @@ use crate::named::QuantId;
 use crate::tree::{Arm, Gc, Gx, Link};
 
 /// What is looked for.
-#[derive(Clone, Copy, Debug, PartialEq, Eq)]
+#[derive(Clone, Copy, PartialEq, Eq)]
 pub enum Sought {
     /// A scalar, some or every.
     Node,

@@ -7,7 +7,7 @@ use shared_types::Text;
 pub const ROOM: usize = 4_096;
 
 /// An operation on two values.
-#[derive(Clone, Copy, Debug, PartialEq, Eq)]
+#[derive(Clone, Copy, PartialEq, Eq)]
 pub enum Op {
     Add,
     Sub,

@@ -13,7 +13,7 @@ use shared_types::OutOfMemory;
 use std::alloc::Global;
 
 /// The rules that are built: M1 and M2.
-#[derive(Clone, Copy, Debug)]
+#[derive(Clone, Copy)]
 pub struct BuiltRules;
 
 impl Rules for BuiltRules {

@@ -3,7 +3,7 @@ use row_bag::Bag;
 
 /// The rows of a graph that was rewritten, how many firings there were, and how many evaluations of
 /// boxes the rows took.
-#[derive(Debug, Drop)]
+#[derive(Drop)]
 pub struct Answered {
     pub rows: Bag,
     pub firings: u64,

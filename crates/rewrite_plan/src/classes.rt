@@ -8,7 +8,7 @@ use std::alloc::Global;
 use std::marker::Model;
 
 /// A class of rewrite rules.
-#[derive(Clone, Copy, Debug, PartialEq, Eq)]
+#[derive(Clone, Copy, PartialEq, Eq)]
 pub enum Class {
     /// A box is merged into the box that reads it.
     Merge,
@@ -27,7 +27,7 @@ pub enum Class {
 }
 
 /// Classes, in the order in which they are to be tried. Contracts see the list of them.
-#[derive(Debug, Drop)]
+#[derive(Drop)]
 pub struct Classes {
     classes: Items<Class>,
 }

@@ -2,7 +2,7 @@
 use crate::classes::Classes;
 
 /// How the next firing is picked among the candidates.
-#[derive(Clone, Copy, Debug, PartialEq, Eq)]
+#[derive(Clone, Copy, PartialEq, Eq)]
 pub enum Order {
     /// The first of them.
     Sequence,
@@ -13,7 +13,7 @@ pub enum Order {
 }
 
 /// How the boxes of a graph are listed.
-#[derive(Clone, Copy, Debug, PartialEq, Eq)]
+#[derive(Clone, Copy, PartialEq, Eq)]
 pub enum Walk {
     /// Depth first.
     Depth,
@@ -22,7 +22,7 @@ pub enum Walk {
 }
 
 /// How a query is to be rewritten.
-#[derive(Debug, Drop)]
+#[derive(Drop)]
 pub struct Plan {
     /// The classes of rules that may fire, in the order in which they are to be tried.
     pub classes: Classes,

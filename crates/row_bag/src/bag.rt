@@ -9,7 +9,7 @@ use std::alloc::Global;
 use std::marker::Model;
 
 /// Rows, of which several may be equal. Contracts see it as the list of the rows.
-#[derive(Debug, Drop)]
+#[derive(Drop)]
 pub struct Bag {
     rows: Vec<Row>,
 }

@@ -19,7 +19,7 @@ use sql_value::{Cell, Kind};
 use std::alloc::Global;
 
 /// A group: its rows, of which it has one at least, and how many first cells of them are its key.
-#[derive(Debug, Drop)]
+#[derive(Drop)]
 pub struct Group {
     pub keys: usize,
     pub rows: Bag,

@@ -3,7 +3,7 @@ use crate::bag::Bag;
 use sql_value::Kind;
 
 /// What a query answers.
-#[derive(Debug, Drop)]
+#[derive(Drop)]
 pub enum Verdict {
     /// The rows.
     Rows(Bag),

@@ -12,7 +12,7 @@ use std::cmp::Ordering;
 
 /// A row: a tuple, and the level at which it is there. The tuple of a table's or of a query's row
 /// is a cell for each column, in the columns' order; definitions speak of other tuples too.
-#[derive(Debug, Drop)]
+#[derive(Drop)]
 pub struct Row<T = Items<Cell>> {
     pub cells: T,
     pub level: Level,

@@ -10,14 +10,14 @@ use std::marker::Model;
 use std::mem::replace;
 
 /// A table: its name and its rows.
-#[derive(Debug, Drop)]
+#[derive(Drop)]
 pub struct Table {
     pub name: Text,
     pub bag: Bag,
 }
 
 /// Tables, in declared order. Contracts see it as the list of them.
-#[derive(Debug, Drop)]
+#[derive(Drop)]
 pub struct Tables {
     tables: Vec<Table>,
 }

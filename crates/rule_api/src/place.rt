@@ -2,7 +2,7 @@
 use qgm_core::BoxId;
 
 /// A rewrite rule, in the order in which `Order::Priority` takes them.
-#[derive(Clone, Copy, Debug, PartialEq, Eq)]
+#[derive(Clone, Copy, PartialEq, Eq)]
 pub enum RuleId {
     /// A select is merged into the select that reads it.
     M1,
@@ -52,7 +52,7 @@ pub enum RuleId {
 
 /// Where a rule may fire: a box and, from 1, up to two places of a quantifier, conjunct or column of it;
 /// 0 where the rule has none.
-#[derive(Clone, Copy, Debug, PartialEq, Eq)]
+#[derive(Clone, Copy, PartialEq, Eq)]
 pub struct Place {
     pub at: BoxId,
     pub i: usize,
@@ -60,7 +60,7 @@ pub struct Place {
 }
 
 /// A rule at a place.
-#[derive(Clone, Copy, Debug, PartialEq, Eq)]
+#[derive(Clone, Copy, PartialEq, Eq)]
 pub struct Firing {
     pub rule: RuleId,
     pub place: Place,

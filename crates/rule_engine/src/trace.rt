@@ -8,7 +8,7 @@ use std::alloc::Global;
 use std::marker::Model;
 
 /// What has fired, in order. Contracts see the list of it.
-#[derive(Debug, Drop)]
+#[derive(Drop)]
 pub struct Trace {
     firings: Items<Firing>,
 }

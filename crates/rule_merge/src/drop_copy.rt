@@ -15,7 +15,7 @@ use std::alloc::Global;
 
 /// M2: a plain select that gives what the box under its one quantifier gives goes, and quantifiers
 /// over it range over that box (Pirahesh, Hellerstein and Hasan 1992, 3.2).
-#[derive(Clone, Copy, Debug)]
+#[derive(Clone, Copy)]
 pub struct DropCopy;
 
 // Does M2 at a place.

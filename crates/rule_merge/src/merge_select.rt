@@ -16,7 +16,7 @@ use std::alloc::Global;
 /// M1: a plain select under an F quantifier of a select is merged into it, where it is PRESERVE, or
 /// the upper one is ENFORCE, or the upper one is PERMIT and both are inferred to be clean, the lower
 /// one without DISTINCT (Pirahesh, Hellerstein and Hasan 1992, 3.1).
-#[derive(Clone, Copy, Debug)]
+#[derive(Clone, Copy)]
 pub struct MergeSelect;
 
 // What M1 does at a place.

@@ -6,14 +6,14 @@ use sqlite_items::Items;
 pub type Names = Items<Name>;
 
 /// `name [ "." name ]`: a column, perhaps after the range that it is of (SQL-92, 6.4).
-#[derive(Debug, Drop)]
+#[derive(Drop)]
 pub struct Column {
     pub range: Option<Name>,
     pub name: Name,
 }
 
 /// `[ AS ] name` after an item of a list.
-#[derive(Debug, Drop)]
+#[derive(Drop)]
 pub struct Alias {
     /// Whether `AS` is written.
     pub noise: bool,
@@ -21,7 +21,7 @@ pub struct Alias {
 }
 
 /// `[ AS ] name [ "(" names ")" ]` after a table (SQL-92, 6.3).
-#[derive(Debug, Drop)]
+#[derive(Drop)]
 pub struct Correlation {
     /// Whether `AS` is written.
     pub noise: bool,

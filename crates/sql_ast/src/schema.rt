@@ -6,7 +6,7 @@ use sql_text::Name;
 use sqlite_items::Items;
 
 /// `NOT NULL | PRIMARY KEY | UNIQUE` after a column.
-#[derive(Clone, Copy, Debug, PartialEq, Eq)]
+#[derive(Clone, Copy, PartialEq, Eq)]
 pub enum ColumnConstraint {
     NotNull,
     PrimaryKey,
@@ -14,7 +14,7 @@ pub enum ColumnConstraint {
 }
 
 /// `name type { NOT NULL | PRIMARY KEY | UNIQUE }` (SQL-92, 11.4).
-#[derive(Debug, Drop)]
+#[derive(Drop)]
 pub struct ColumnDecl {
     pub name: Name,
     pub data_type: DataType,
@@ -23,7 +23,7 @@ pub struct ColumnDecl {
 
 /// `element = name type { NOT NULL | PRIMARY KEY | UNIQUE } | PRIMARY KEY "(" names ")"
 /// | UNIQUE "(" names ")"` (SQL-92, 11.3 and 11.7).
-#[derive(Debug, Drop)]
+#[derive(Drop)]
 pub enum Element {
     Column(ColumnDecl),
     PrimaryKey(Names),
@@ -31,7 +31,7 @@ pub enum Element {
 }
 
 /// `CREATE TABLE name "(" element { "," element } ")"` (SQL-92, 11.3).
-#[derive(Debug, Drop)]
+#[derive(Drop)]
 pub struct TableDecl {
     pub name: Name,
     pub elements: Items<Element>,

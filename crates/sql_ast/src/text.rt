@@ -5,14 +5,14 @@ use sql_text::Name;
 use sqlite_items::Items;
 
 /// `name | number`: an output column by its name, or by its place from 1.
-#[derive(Debug, Drop)]
+#[derive(Drop)]
 pub enum SortKey {
     Name(Name),
     Number(i64),
 }
 
 /// `sort = ( name | number ) [ ASC | DESC ]` (SQL-92, 13.1).
-#[derive(Debug, Drop)]
+#[derive(Drop)]
 pub struct Sort {
     pub key: SortKey,
     pub direction: Option<Direction>,

@@ -1,7 +1,7 @@
 // What one word or sign of the grammar may be, and the types of columns.
 
 /// `+`, `-` or `||` between two operands.
-#[derive(Clone, Copy, Debug, PartialEq, Eq)]
+#[derive(Clone, Copy, PartialEq, Eq)]
 pub enum AdditiveOp {
     Plus,
     Minus,
@@ -9,28 +9,28 @@ pub enum AdditiveOp {
 }
 
 /// `*` or `/` between two operands.
-#[derive(Clone, Copy, Debug, PartialEq, Eq)]
+#[derive(Clone, Copy, PartialEq, Eq)]
 pub enum MultiplicativeOp {
     Times,
     Divide,
 }
 
 /// `+` or `-` before an operand.
-#[derive(Clone, Copy, Debug, PartialEq, Eq)]
+#[derive(Clone, Copy, PartialEq, Eq)]
 pub enum Sign {
     Plus,
     Minus,
 }
 
 /// `ALL` or `DISTINCT` (SQL-92, 6.5, set quantifier).
-#[derive(Clone, Copy, Debug, PartialEq, Eq)]
+#[derive(Clone, Copy, PartialEq, Eq)]
 pub enum SetQuantifier {
     All,
     Distinct,
 }
 
 /// The name of an aggregate (SQL-92, 6.5, set function type).
-#[derive(Clone, Copy, Debug, PartialEq, Eq)]
+#[derive(Clone, Copy, PartialEq, Eq)]
 pub enum SetFunction {
     Count,
     Sum,
@@ -40,7 +40,7 @@ pub enum SetFunction {
 }
 
 /// The quantifier of a comparison with a subquery (SQL-92, 8.7). `ANY` and `SOME` mean the same.
-#[derive(Clone, Copy, Debug, PartialEq, Eq)]
+#[derive(Clone, Copy, PartialEq, Eq)]
 pub enum Quantifier {
     Any,
     Some,
@@ -48,21 +48,21 @@ pub enum Quantifier {
 }
 
 /// `UNION` or `EXCEPT` (SQL-92, 7.10).
-#[derive(Clone, Copy, Debug, PartialEq, Eq)]
+#[derive(Clone, Copy, PartialEq, Eq)]
 pub enum SetOperator {
     Union,
     Except,
 }
 
 /// `ASC` or `DESC` (SQL-92, 13.1).
-#[derive(Clone, Copy, Debug, PartialEq, Eq)]
+#[derive(Clone, Copy, PartialEq, Eq)]
 pub enum Direction {
     Asc,
     Desc,
 }
 
 /// `INTEGER | INT | VARCHAR "(" number ")"` (SQL-92, 6.1).
-#[derive(Clone, Copy, Debug, PartialEq, Eq)]
+#[derive(Clone, Copy, PartialEq, Eq)]
 pub enum DataType {
     Integer,
     Int,

@@ -9,7 +9,7 @@ use std::alloc::Global;
 use std::marker::Model;
 
 /// How often a name stands among columns, and the place where it stands first, from 0.
-#[derive(Clone, Copy, Debug)]
+#[derive(Clone, Copy)]
 pub enum Occurrence {
     Nowhere,
     Once(usize),

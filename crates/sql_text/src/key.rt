@@ -2,7 +2,7 @@
 
 /// A key word: a word that a name can't be, written in letters of either case. SQL-92, 5.2, keeps
 /// more; these are the ones that this language uses or keeps for what is to come.
-#[derive(Clone, Copy, Debug, PartialEq, Eq)]
+#[derive(Clone, Copy, PartialEq, Eq)]
 pub enum Key {
     All,
     And,

@@ -7,7 +7,7 @@ use shared_types::{CmpOp, Text};
 pub type Name = Text;
 
 /// A token (SQL-92, 5.2).
-#[derive(Debug, Drop)]
+#[derive(Drop)]
 pub enum Token {
     /// A key word.
     Key(Key),
@@ -33,7 +33,7 @@ pub enum Token {
 }
 
 /// A token with its place: the bytes from `start` up to, and without, `end`.
-#[derive(Debug, Drop)]
+#[derive(Drop)]
 pub struct Spanned {
     pub token: Token,
     pub start: usize,

@@ -20,7 +20,7 @@ pub enum Kind {
 }
 
 /// A cell: a number of 64 bits, a text, null, or an error.
-#[derive(Debug, Drop)]
+#[derive(Drop)]
 pub enum Cell {
     Int(i64),
     Text(Text),

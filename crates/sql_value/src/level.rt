@@ -5,7 +5,7 @@ ghost use Rattle.sql_value.specs.Level as spec;
 use crate::cell::Kind;
 
 /// How far a row is there, or a condition is true or false. The levels ascend in this order.
-#[derive(Clone, Copy, Debug, PartialEq, Eq, PartialOrd, Ord)]
+#[derive(Clone, Copy, PartialEq, Eq, PartialOrd, Ord)]
 pub enum Level {
     /// Not at all.
     No,

@@ -2,7 +2,7 @@
 use sqlite_items::Items;
 
 /// The type of a column.
-#[derive(Clone, Copy, Debug, PartialEq, Eq)]
+#[derive(Clone, Copy, PartialEq, Eq)]
 pub enum SqlType {
     /// Numbers of 64 bits.
     Integer,
@@ -11,7 +11,7 @@ pub enum SqlType {
 }
 
 /// A column that a result is ordered by.
-#[derive(Clone, Copy, Debug, PartialEq, Eq)]
+#[derive(Clone, Copy, PartialEq, Eq)]
 pub struct OrderKey {
     /// The column's place in the result, from 1.
     pub column: usize,

@@ -8,7 +8,7 @@ use crate::level::{Level, greatest, least, level_of};
 /// How far a condition is true, and how far false. It is true at (Yes, No), false at (No, Yes),
 /// unknown at (No, No), and an error at the error's level on both sides (SQL-92 8.12, with
 /// errors as further values).
-#[derive(Clone, Copy, Debug, PartialEq, Eq)]
+#[derive(Clone, Copy, PartialEq, Eq)]
 pub struct Truth {
     /// How far it is true.
     pub t: Level,
