@@ -7,6 +7,7 @@ use Rattle.io_edge.specs.Outcome.{Outcome}
 use Rattle.io_edge.specs.Outside.{Ask, File, Told, written_after}
 use Rattle.qgm_core.specs.Boxes.{QueryGraph}
 use Rattle.query_rewrite.specs.Answers.{IsRewritten}
+use Rattle.query_rewrite.specs.declared.outcome.Answered as rewritten
 use Rattle.rewrite_plan.specs.declared.plan.Plan.{Plan}
 use Rattle.row_bag.specs.Bags.{Agree}
 use Rattle.row_bag.specs.Sets.{same_cells}
@@ -37,18 +38,29 @@ pub of-each : {X E : Type 0} (r : Result X E) (P : Type 0) → P → IfOk r (λ 
 of-each (Ok x) P p = p
 of-each (Err e) P p = tt
 
--- the answer of rows that agree with those of a root
-pub settled-answer : (r : Result Answered OutOfMemory) (names : List (Option (List ℕ))) (order : List OrderKey) (bag root rows : List (Row (List Cell))) (what : Answer)
+-- what ran gives the rows that the root has
+pub ran-rows : (r : Result rewritten.Answered OutOfMemory) (root rows : List (Row (List Cell))) → IfOk r (λ ran. Agree same_cells ran.rows root) → root ≡ rows → IfOk r (λ ran. Agree same_cells ran.rows rows)
+ran-rows (Ok ran) root rows h is = subst (λ (xs : List (Row (List Cell))). Agree same_cells ran.rows xs) is h
+ran-rows (Err e) root rows h is = tt
+
+-- and is a run
+pub ran-run : (r : Result rewritten.Answered OutOfMemory) (plan : Plan) (q : Question) (g : QueryGraph) (before after : ℕ)
+    → IsBuilt q g → IfOk r (λ ran. IsRewritten q.tables plan g ran.firings before after) → IfOk r (λ ran. IsRun plan q ran.firings before after)
+ran-run (Ok ran) plan q g before after built h = is-run plan q g ran.firings ran.firings before after built refl h
+ran-run (Err e) plan q g before after built h = tt
+
+-- the answer of rows that agree with a question's
+pub settled-answer : (r : Result Answered OutOfMemory) (names : List (Option (List ℕ))) (order : List OrderKey) (bag rows : List (Row (List Cell))) (what : Answer)
     → IfOk r (λ a. (rows : List (Row (List Cell))) → Agree same_cells bag rows → held_answer a ≡ answer_of names order (verdict rows))
-    → Agree same_cells bag root → root ≡ rows → answer_of names order (verdict rows) ≡ what → IfOk r (λ a. held_answer a ≡ what)
-settled-answer (Ok a) names order bag root rows what h agree is means = h rows (subst (λ (xs : List (Row (List Cell))). Agree same_cells bag xs) is agree) ∙ means
-settled-answer (Err e) names order bag root rows what h agree is means = tt
+    → Agree same_cells bag rows → answer_of names order (verdict rows) ≡ what → IfOk r (λ a. held_answer a ≡ what)
+settled-answer (Ok a) names order bag rows what h agree means = h rows agree ∙ means
+settled-answer (Err e) names order bag rows what h agree means = tt
 
 -- and how they were come by
-pub settled-run : (r : Result Answered OutOfMemory) (plan : Plan) (q : Question) (g : QueryGraph) (n before after : ℕ)
-    → IfOk r (λ a. a.firings ≡ n) → IsBuilt q g → IsRewritten q.tables plan g n before after → IfOk r (λ a. IsRun plan q a.firings before after)
-settled-run (Ok a) plan q g n before after same built h = is-run plan q g n a.firings before after built same h
-settled-run (Err e) plan q g n before after same built h = tt
+pub settled-run : (r : Result Answered OutOfMemory) (plan : Plan) (q : Question) (n before after : ℕ)
+    → IfOk r (λ a. a.firings ≡ n) → IsRun plan q n before after → IfOk r (λ a. IsRun plan q a.firings before after)
+settled-run (Ok a) plan q n before after same h = subst (λ (k : ℕ). IsRun plan q k before after) (sym same) h
+settled-run (Err e) plan q n before after same h = tt
 
 -- ---- reports
 

@@ -20,12 +20,11 @@ use built_queries::loaded_laws;
 use qgm_build::build;
 use qgm_check::fault_laws;
 use qgm_core::Graph;
-use query_rewrite::{answered, explained};
+use query_rewrite::{Answered as Ran, answered, explained};
 use rewrite_plan::Plan;
 use row_bag::{Bag, Verdict, bag_laws, sorted, verdict};
 use shared_types::{OutOfMemory, Text};
-use sql_check::Checked;
-use sql_value::OutNames;
+use sql_value::{OrderKeys, OutNames};
 use std::alloc::Global;
 use std::sync::ledger::Ledger;
 use step_count::Steps;
@@ -73,28 +72,81 @@ fn graph_of(alloc: Global, question: &Question) -> Result<Graph, OutOfMemory>
     Ok(graph)
 }
 
-// The rows of a checked query in the order of its keys, or their greatest error.
-fn ordered(alloc: Global, checked: &Checked, bag: Bag) -> Result<Verdict, OutOfMemory>
-    ensures { IfOk result (λ v. (rows : List (Row (List Cell))) → Agree same_cells bag rows → answer_as checked.now.names v ≡ answer_of checked.now.names checked.now.order (verdict rows)) }
+// What the answer of a query takes of the query itself.
+#[derive(Drop)]
+struct Heading {
+    names: OutNames,
+    order: OrderKeys,
+}
+
+// The heading of a question's query. The tables and all else go, before the rows are sorted.
+fn heading_of(question: Question) -> Heading
+    ensures names { result.names ≡ question.valid.checked.names }
+    ensures order { result.order ≡ question.valid.checked.order }
+{
+    let valid = question.valid;
+    let checked = valid.checked;
+    Heading {
+        names: checked.names,
+        order: checked.order,
+    }
+}
+
+// The rows in the order of these keys, or their greatest error.
+fn ordered(alloc: Global, heading: &Heading, bag: Bag) -> Result<Verdict, OutOfMemory>
+    ensures { IfOk result (λ v. (rows : List (Row (List Cell))) → Agree same_cells bag rows → answer_as heading.now.names v ≡ answer_of heading.now.names heading.now.order (verdict rows)) }
 {
     answer_laws();
     match verdict(bag) {
-        Verdict::Rows(bag) => Ok(Verdict::Rows(sorted(bag, &checked.order)?)),
+        Verdict::Rows(bag) => Ok(Verdict::Rows(sorted(bag, &heading.order)?)),
         Verdict::Error(kind) => Ok(Verdict::Error(kind)),
     }
 }
 
-// The answer of a checked query whose rows these are, after so many firings.
-fn settled(alloc: Global, checked: Checked, bag: Bag, firings: u64) -> Result<Answered, OutOfMemory>
-    ensures answer { IfOk result (λ a. (rows : List (Row (List Cell))) → Agree same_cells bag rows → held_answer a ≡ answer_of checked.names checked.order (verdict rows)) }
-    ensures firings { IfOk result (λ a. a.firings ≡ firings) }
+// The answer under a heading whose rows these are, after so many firings.
+fn settled(alloc: Global, heading: Heading, ran: Ran) -> Result<Answered, OutOfMemory>
+    ensures answer { IfOk result (λ a. (rows : List (Row (List Cell))) → Agree same_cells ran.rows rows → held_answer a ≡ answer_of heading.names heading.order (verdict rows)) }
+    ensures firings { IfOk result (λ a. a.firings ≡ ran.firings) }
 {
-    let verdict = ordered(alloc, &checked, bag)?;
+    let verdict = ordered(alloc, &heading, ran.rows)?;
     Ok(Answered {
-        names: checked.names,
+        names: heading.names,
         verdict,
-        firings,
+        firings: ran.firings,
     })
+}
+
+// The rows of a question: its graph is rewritten by a plan, and executed.
+fn ran<L: Ledger>(
+    alloc: Global,
+    question: &Question,
+    plan: &Plan,
+    steps: &mut Steps<L>,
+) -> Result<Ran, OutOfMemory>
+    requires ready { IsReady question.now }
+    ensures rows { IfOk result (λ ran. Agree same_cells ran.rows (rows_of question.now.views question.now.valid.checked question.now.tables)) }
+    ensures run { IfOk result (λ ran. IsRun plan.now (question_of question.now) ran.firings steps.old steps.new) }
+{
+    let graph = graph_of(alloc, question)?;
+    answered(alloc, graph, plan, &question.tables, steps)
+}
+
+// The same, and the text that tells of it.
+fn told<L: Ledger>(
+    alloc: Global,
+    question: &Question,
+    plan: &Plan,
+    steps: &mut Steps<L>,
+) -> Result<(Ran, Text), OutOfMemory>
+    requires ready { IsReady question.now }
+    ensures rows { IfOk result (λ x. Agree same_cells x.0.rows (rows_of question.now.views question.now.valid.checked question.now.tables)) }
+    ensures run { IfOk result (λ x. IsRun plan.now (question_of question.now) x.0.firings steps.old steps.new) }
+    ensures text { IfOk result (λ x. IsExplanation plan.now (question_of question.now) steps.old steps.new x.1) }
+{
+    let mut text = Text::new(alloc)?;
+    let graph = graph_of(alloc, question)?;
+    let ran = explained(alloc, graph, plan, &question.tables, steps, &mut text)?;
+    Ok((ran, text))
 }
 
 /// The answer to a question: its graph is built, rewritten by a plan, and executed. Each evaluation of
@@ -110,11 +162,10 @@ pub fn answer<L: Ledger>(
     ensures run { IfOk result (λ a. IsRun plan.now (question_of question) a.firings steps.old steps.new) }
 {
     loaded_laws();
-    let graph = graph_of(alloc, &question)?;
-    let ran = answered(alloc, graph, plan, &question.tables, steps)?;
-    let Question { valid, tables, .. } = question;
-    drop(tables);
-    settled(alloc, valid.checked, ran.rows, ran.firings)
+    let ran = ran(alloc, &question, plan, steps);
+    let heading = heading_of(question);
+    let ran = ran?;
+    settled(alloc, heading, ran)
 }
 
 /// The answer to a question, as `answer` gives it, and the text that tells of it: the graph that is
@@ -132,11 +183,9 @@ pub fn explain<L: Ledger>(
     ensures text { IfOk result (λ e. IsExplanation plan.now (question_of question) steps.old steps.new e.text) }
 {
     loaded_laws();
-    let graph = graph_of(alloc, &question)?;
-    let mut text = Text::new(alloc)?;
-    let ran = explained(alloc, graph, plan, &question.tables, steps, &mut text)?;
-    let Question { valid, tables, .. } = question;
-    drop(tables);
-    let answered = settled(alloc, valid.checked, ran.rows, ran.firings)?;
+    let told = told(alloc, &question, plan, steps);
+    let heading = heading_of(question);
+    let (ran, text) = told?;
+    let answered = settled(alloc, heading, ran)?;
     Ok(Explained { answered, text })
 }

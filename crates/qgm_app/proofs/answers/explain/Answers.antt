@@ -1,24 +1,24 @@
-use Rattle.std.proofs.Common.{◌∙◌, subst}
-use Rattle.row_bag.specs.Bags.{Agree}
-use Rattle.row_bag.specs.Sets.{same_cells}
+use Rattle.std.proofs.Common.{ℕ, ◌≡◌, ◌∙◌, subst, sym}
+use Rattle.row_bag.specs.Verdict.{verdict}
 use Rattle.sql_check.specs.Checked.{rows_of}
-use Rattle.qgm_app.specs.Questions.{question_of}
-use Rattle.qgm_app.proofs.Asked.{has-answer, is-explanation, is-run}
+use Rattle.sql_meaning.specs.Meaning.{answer_of}
+use Rattle.qgm_app.specs.Questions.{answer_to, question_of}
+use Rattle.qgm_app.specs.Rewriting.{IsRun}
+use Rattle.qgm_app.proofs.Asked.{has-answer}
 use Rattle.qgm_app.proofs.answers.explain.Goals as goal
 
 pub returns-clause-answer : goal.returns-clause-answer
 returns-clause-answer g c =
     let q = c.args.question in
-    c.in_ok-answered.ensures.answer (rows_of q.views q.valid.checked q.tables) (subst (λ xs. Agree same_cells c.in_ok-ran.ran.rows xs) c.in_ok-graph.ensures.rows c.in_ok-ran.ensures.rows)
-    ∙ has-answer c.loaded_laws.ensures.tables q c.requires.ready
+    let h = c.heading_of-heading.result in
+    let rows = rows_of q.views q.valid.checked q.tables in
+    let means : answer_of h.names h.order (verdict rows) ≡ answer_to (question_of q) =
+    rw (c.heading_of-heading.ensures.names, c.heading_of-heading.ensures.order) (has-answer c.loaded_laws.ensures.tables q c.requires.ready) in
+    c.in_ok-answered.ensures.answer rows c.in_ok-ran.ensures.rows ∙ means
 
 pub returns-clause-run : goal.returns-clause-run
 returns-clause-run g c =
-    is-run c.args.plan.now (question_of c.args.question) c.in_ok-graph.graph c.in_ok-ran.ran.firings c.in_ok-answered.answered.firings _ _ c.in_ok-graph.ensures.built
-    c.in_ok-answered.ensures.firings c.in_ok-ran.ensures.rewritten
+    subst (λ (k : ℕ). IsRun c.args.plan.now (question_of c.args.question) k c.args.steps.now c.told-told.new.steps) (sym c.in_ok-answered.ensures.firings) c.in_ok-ran.ensures.run
 
 pub returns-clause-text : goal.returns-clause-text
-returns-clause-text g c =
-    let t = c.in_ok-ran.ensures.told in
-    is-explanation c.args.plan.now (question_of c.args.question) c.in_ok-graph.graph c.in_ok-ran.ran.firings c.in_ok-ran.ran.evals _ _ _ t.0 _ c.in_ok-graph.ensures.built
-    c.in_ok-ran.ensures.counted c.in_ok-text.ensures t.1 t.2
+returns-clause-text g c = c.in_ok-ran.ensures.text

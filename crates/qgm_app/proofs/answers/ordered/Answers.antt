@@ -8,10 +8,10 @@ use Rattle.qgm_app.proofs.answers.ordered.Goals as goal
 
 pub returns-in_ok-sorted-in-Rows : goal.returns-in_ok-sorted-in-Rows
 returns-in_ok-sorted-in-Rows c =
-    let own : answer_as c.args.checked.now.names (Rows c.in_ok-sorted-in-Rows.field-0) ≡ answer_of c.args.checked.now.names c.args.checked.now.order (verdict c.args.bag) = grind (arith, common_steps) in
-    λ rows agree. own ∙ c.answer_laws.ensures.alike c.args.checked.now.names c.args.checked.now.order c.args.bag rows agree
+    let own : answer_as c.args.heading.now.names (Rows c.in_ok-sorted-in-Rows.field-0) ≡ answer_of c.args.heading.now.names c.args.heading.now.order (verdict c.args.bag) = grind (arith, common_steps) in
+    λ rows agree. own ∙ c.answer_laws.ensures.alike c.args.heading.now.names c.args.heading.now.order c.args.bag rows agree
 
 pub returns-in-Error : goal.returns-in-Error
 returns-in-Error c =
-    let own : answer_as c.args.checked.now.names (Error c.in-Error.kind) ≡ answer_of c.args.checked.now.names c.args.checked.now.order (verdict c.args.bag) = grind (arith, common_steps) in
-    λ rows agree. own ∙ c.answer_laws.ensures.alike c.args.checked.now.names c.args.checked.now.order c.args.bag rows agree
+    let own : answer_as c.args.heading.now.names (Error c.in-Error.kind) ≡ answer_of c.args.heading.now.names c.args.heading.now.order (verdict c.args.bag) = grind (arith, common_steps) in
+    λ rows agree. own ∙ c.answer_laws.ensures.alike c.args.heading.now.names c.args.heading.now.order c.args.bag rows agree
