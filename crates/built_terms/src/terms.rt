@@ -31,7 +31,6 @@ fn column(g: &Setting<'_>, scope: usize, place: usize) -> Result<Box<Gx>, OutOfM
 
 /// The expression of a value, where it stands. It fails only for want of memory.
 #[cycle(terms)]
-#[tactic(auto, using(sql_meaning::specs::ResolvedShown::lists, crate::proofs::Afters::afters, crate::proofs::Wholes::wholes))]
 pub fn value(g: &Setting<'_>, x: &Value, s: &mut Slots<'_>) -> Result<Box<Gx>, OutOfMemory>
     ensures term { IfOk result (λ y. term y.value ≡ t.term (sources_in g.now) (frame_in g.now) (outer_in g.now) (slots_of s.old) (shown.value x.now)) }
     ensures slots { OnOk result (slots_of s.new ≡ l.after (l.leaves (frame_in g.now) (shown.value x.now)) (slots_of s.old)) }
@@ -81,7 +80,6 @@ pub fn value(g: &Setting<'_>, x: &Value, s: &mut Slots<'_>) -> Result<Box<Gx>, O
 
 // A first operand, and what is added to it.
 #[cycle(terms)]
-#[tactic(auto, using(crate::proofs::Afters::afters))]
 fn sum(
     g: &Setting<'_>,
     list: &[Addend],
@@ -101,7 +99,6 @@ fn sum(
 
 // A first operand, and what it is multiplied by.
 #[cycle(terms)]
-#[tactic(auto, using(crate::proofs::Afters::afters))]
 fn product(
     g: &Setting<'_>,
     list: &[Multiplier],
@@ -121,7 +118,6 @@ fn product(
 
 /// Adds the expressions of a list of values at the end of others. It fails only for want of memory.
 #[cycle(terms)]
-#[tactic(auto, using(crate::proofs::Afters::afters))]
 pub fn values(
     g: &Setting<'_>,
     list: &[Value],
@@ -150,7 +146,6 @@ fn outcome(g: &Setting<'_>, x: &Value, s: &mut Slots<'_>) -> Result<Option<Box<G
 
 // The conditions of a CASE with their results.
 #[cycle(terms)]
-#[tactic(auto, using(crate::proofs::Afters::afters))]
 fn arms(g: &Setting<'_>, list: &[Arm], s: &mut Slots<'_>) -> Result<Vec<OpenArm>, OutOfMemory>
     ensures arms { IfOk result (λ v. opened v.items ≡ arms_in (sources_in g.now) (frame_in g.now) (outer_in g.now) (slots_of s.old) (shown.arm_list list.now)) }
     ensures slots { OnOk result (slots_of s.new ≡ l.after (l.arm_leaves (frame_in g.now) (shown.arm_list list.now)) (slots_of s.old)) }
@@ -166,7 +161,6 @@ fn arms(g: &Setting<'_>, list: &[Arm], s: &mut Slots<'_>) -> Result<Vec<OpenArm>
 
 // The values of a CASE, which are compared with x, with their results.
 #[cycle(terms)]
-#[tactic(auto, using(crate::proofs::Afters::afters))]
 fn choices(
     g: &Setting<'_>,
     list: &[Choice],
@@ -188,7 +182,6 @@ fn choices(
 
 /// The condition of a test, where it stands. It fails only for want of memory.
 #[cycle(terms)]
-#[tactic(auto, using(sql_meaning::specs::ResolvedShown::lists, crate::proofs::Afters::afters, crate::proofs::Wholes::wholes))]
 pub fn test(g: &Setting<'_>, p: &Test, s: &mut Slots<'_>) -> Result<Box<Gc>, OutOfMemory>
     ensures cond { IfOk result (λ c. cond c.value ≡ t.cond (sources_in g.now) (frame_in g.now) (outer_in g.now) (slots_of s.old) (shown.test p.now)) }
     ensures slots { OnOk result (slots_of s.new ≡ l.after (l.test_leaves (frame_in g.now) (shown.test p.now)) (slots_of s.old)) }
@@ -245,7 +238,6 @@ pub fn test(g: &Setting<'_>, p: &Test, s: &mut Slots<'_>) -> Result<Box<Gc>, Out
 
 // The conditions of a list.
 #[cycle(terms)]
-#[tactic(auto, using(crate::proofs::Afters::afters))]
 fn tests(g: &Setting<'_>, list: &[Test], s: &mut Slots<'_>) -> Result<Vec<Gc>, OutOfMemory>
     ensures conds { IfOk result (λ v. conds v.items ≡ conds_in (sources_in g.now) (frame_in g.now) (outer_in g.now) (slots_of s.old) (shown.test_list list.now)) }
     ensures slots { OnOk result (slots_of s.new ≡ l.after (l.tests_leaves (frame_in g.now) (shown.test_list list.now)) (slots_of s.old)) }

@@ -1,4 +1,4 @@
-use Rattle.std.proofs.Common.{◌+◌, ◌++◌, List, ◌∷◌, drop, map, ap₂, sym, ◌∙◌, refl}
+use Rattle.std.proofs.Common.{arith, ◌+◌, ◌++◌, List, ◌∷◌, drop, map, ap₂, sym, ◌∙◌, refl}
 use Rattle.sql_meaning.specs.ResolvedShown as shown
 use Rattle.sql_meaning.specs.declared.resolved.Addend.{Addend}
 use Rattle.sql_meaning.specs.declared.resolved.Arm.{Arm}
@@ -18,7 +18,7 @@ use Rattle.built_terms.specs.Setting.{frame_in, outer_in, shared_box, sources_in
 use Rattle.built_terms.specs.Written.{slots_of}
 use Rattle.built_terms.proofs.Afters.{after_append}
 use Rattle.built_terms.proofs.Steps.{arm_read, choice_read, from_none, on_ok, step_both, step_chain, step_items, step_slots}
-use Rattle.built_terms.proofs.Wholes.{coalesced_whole, equals_whole, searched_whole, simple_whole}
+use Rattle.built_terms.proofs.Wholes.{coalesced_whole, equals_whole, every_whole, searched_whole, simple_whole, some_whole}
 use Rattle.built_terms.proofs.terms.+terms.Goals as goal
 
 pub sum-loop-x-preserved : goal.sum-loop-x-preserved
@@ -115,3 +115,36 @@ pub value-returns-in_ok-values-in-Coalesce-clause-slots : goal.value-returns-in_
 value-returns-in_ok-values-in-Coalesce-clause-slots h c =
     rw (c.in-Coalesce.is, shown.values_hidden c.in-Coalesce.list, after_append (w.leaves (frame_in c.args.g.now) (shown.value c.in-Coalesce.a.value)) (w.list_leaves (frame_in c.args.g.now) (shown.value_list c.in-Coalesce.list)) (slots_of c.args.s.now), ← c.as_slice-in-Coalesce.ensures, ← c.deref-in-Coalesce.ensures, ← c.in_ok-a-in-Coalesce.ensures.slots)
     (on_ok c.coalesced.result c.in_ok-values-in-Coalesce.ensures.slots)
+
+pub test-returns-in_ok-list-in-All-clause-cond : goal.test-returns-in_ok-list-in-All-clause-cond
+test-returns-in_ok-list-in-All-clause-cond h c = grind (arith, shown.lists, every_whole)
+
+pub test-returns-in_ok-list-in-All-clause-slots : goal.test-returns-in_ok-list-in-All-clause-slots
+test-returns-in_ok-list-in-All-clause-slots h c = grind (arith, shown.lists)
+
+pub test-returns-in_ok-list-in-Any-clause-cond : goal.test-returns-in_ok-list-in-Any-clause-cond
+test-returns-in_ok-list-in-Any-clause-cond h c = grind (arith, shown.lists, some_whole)
+
+pub test-returns-in_ok-list-in-Any-clause-slots : goal.test-returns-in_ok-list-in-Any-clause-slots
+test-returns-in_ok-list-in-Any-clause-slots h c = grind (arith, shown.lists)
+
+pub test-returns-in_ok-b-in-Compare-clause-slots : goal.test-returns-in_ok-b-in-Compare-clause-slots
+test-returns-in_ok-b-in-Compare-clause-slots h c = grind (arith, after_append)
+
+pub test-returns-in_ok-p-in-Quantified-clause-slots : goal.test-returns-in_ok-p-in-Quantified-clause-slots
+test-returns-in_ok-p-in-Quantified-clause-slots h c = grind (arith, after_append)
+
+pub test-returns-in_ok-c-in-Between-clause-slots : goal.test-returns-in_ok-c-in-Between-clause-slots
+test-returns-in_ok-c-in-Between-clause-slots h c = grind (arith, after_append)
+
+pub test-returns-in_ok-p-in-AmongRows-clause-slots : goal.test-returns-in_ok-p-in-AmongRows-clause-slots
+test-returns-in_ok-p-in-AmongRows-clause-slots h c = grind (arith, after_append)
+
+pub test-returns-in_ok-b-in-Like-clause-slots : goal.test-returns-in_ok-b-in-Like-clause-slots
+test-returns-in_ok-b-in-Like-clause-slots h c = grind (arith, after_append)
+
+pub value-returns-in_ok-last-in-Searched-clause-slots : goal.value-returns-in_ok-last-in-Searched-clause-slots
+value-returns-in_ok-last-in-Searched-clause-slots h c = grind (arith, shown.lists, after_append)
+
+pub value-returns-in_ok-b-in-NullIf-clause-slots : goal.value-returns-in_ok-b-in-NullIf-clause-slots
+value-returns-in_ok-b-in-NullIf-clause-slots h c = grind (arith, after_append)
