@@ -1,25 +1,25 @@
 // The checks of a query: one pass for types, columns and the least fault.
-ghost use Rattle.std.specs.Prelude.{◌≡◌, ◌++◌, ◌∷◌, false, true, IfOk, OnOk};
+ghost use Rattle.std.specs.Prelude.{◌≡◌, ◌++◌, ◌∷◌, false, true, IfOk, IsOkAnd, OnOk};
 ghost use Rattle.sql_ast.specs.Shown as written;
 ghost use Rattle.query_checks.specs.Columns as types;
 ghost use Rattle.query_checks.specs.Faults as spec;
-ghost use Rattle.query_checks.specs.Forms.{block_of, is_conjunction, is_disjunction, is_product, is_searched, is_simple, is_subquery_test, is_sum};
+ghost use Rattle.query_checks.specs.Forms.{block_of, is_conjunction, is_disjunction, is_product, is_searched, is_simple, is_sum};
 ghost use Rattle.query_checks.specs.Numbers.{number};
 ghost use Rattle.query_checks.specs.Rules as rule;
 ghost use Rattle.query_checks.specs.Shown.{heads, scopes};
 ghost use Rattle.query_checks.specs.Sorts.{fault_of, sorts_of};
 
-use crate::fault::{Fault, aggregate_misplaced, lesser};
+use crate::fault::{Fault, aggregate_misplaced};
 use crate::known::Known;
 use crate::lists::{list_scope, push_range_star, push_star, push_value};
 use crate::operands::combined;
 use crate::scope::{Scopes, column, grouping_fault};
 use crate::site::Site;
-use crate::sources::{Source, block_output, both, derived, named, no_source};
+use crate::sources::{Source, block_output, both, derived, named, no_source, with_fault};
 use crate::typed::{
     Listed, Output, Typed, aggregate, alone, among, between, case_ending, chosen, coalesce,
-    compared, compared_query, exists, like, limited, no_output, none_after, null_if, of_type,
-    operated, push, push_result, scalar, signed,
+    compared, compared_query, exists, given, least, like, limited, no_output, none_after, null_if,
+    of_type, operated, own_fault, push, push_result, scalar, signed,
 };
 use crate::types::{length_unfit, operand_type, type_of_declared};
 use shared_types::OutOfMemory;
@@ -43,8 +43,16 @@ fn expr(
     ensures fault { IfOk result (λ t. number t.fault ≡ spec.expr_fault (heads known.now) place (written.expr x.now) (scopes inner.now)) }
 {
     match x {
-        Expr::Add(_, _, _) => sum(alloc, x, place, inner, known),
-        Expr::Multiply(_, _, _) => product(alloc, x, place, inner, known),
+        Expr::Add(a, op, b) => {
+            let a = expr(alloc, a, place, inner, known);
+            let b = expr(alloc, b, place, inner, known);
+            operated(a, operand_type(*op), b)
+        }
+        Expr::Multiply(a, _, b) => {
+            let a = expr(alloc, a, place, inner, known);
+            let b = expr(alloc, b, place, inner, known);
+            operated(a, SqlType::Integer, b)
+        }
         Expr::Signed(_, _)
         | Expr::Number(_)
         | Expr::Str(_)
@@ -59,50 +67,6 @@ fn expr(
         | Expr::NullIf(_, _)
         | Expr::CastNull(_) => operand(alloc, x, place, inner, known),
     }
-}
-
-// `a + b`, `a - b` or `a || b`.
-#[cycle(checks)]
-#[tactic(auto, using(sql_ast::specs::Shown::lists))]
-fn sum(
-    alloc: Global,
-    x: &Expr,
-    place: Site,
-    inner: &Scopes<'_>,
-    known: &Known<'_>,
-) -> Result<Typed, OutOfMemory>
-    requires form { is_sum (written.expr x.now) ≡ true }
-    ensures sort { IfOk result (λ t. t.sort ≡ types.type_of (heads known.now) (written.expr x.now) (scopes inner.now)) }
-    ensures fault { IfOk result (λ t. number t.fault ≡ spec.expr_fault (heads known.now) place (written.expr x.now) (scopes inner.now)) }
-{
-    let Expr::Add(a, op, b) = x else {
-        unreachable!()
-    };
-    let a = expr(alloc, a, place, inner, known)?;
-    let b = expr(alloc, b, place, inner, known)?;
-    Ok(operated(a, operand_type(*op), b))
-}
-
-// `a * b` or `a / b`.
-#[cycle(checks)]
-#[tactic(auto, using(sql_ast::specs::Shown::lists))]
-fn product(
-    alloc: Global,
-    x: &Expr,
-    place: Site,
-    inner: &Scopes<'_>,
-    known: &Known<'_>,
-) -> Result<Typed, OutOfMemory>
-    requires form { is_product (written.expr x.now) ≡ true }
-    ensures sort { IfOk result (λ t. t.sort ≡ types.type_of (heads known.now) (written.expr x.now) (scopes inner.now)) }
-    ensures fault { IfOk result (λ t. number t.fault ≡ spec.expr_fault (heads known.now) place (written.expr x.now) (scopes inner.now)) }
-{
-    let Expr::Multiply(a, _, b) = x else {
-        unreachable!()
-    };
-    let a = expr(alloc, a, place, inner, known)?;
-    let b = expr(alloc, b, place, inner, known)?;
-    Ok(operated(a, SqlType::Integer, b))
 }
 
 // An expression that is no chain of operators.
@@ -122,30 +86,27 @@ fn operand(
 {
     match x {
         Expr::Add(_, _, _) | Expr::Multiply(_, _, _) => unreachable!(),
-        Expr::Signed(_, a) => Ok(signed(expr(alloc, a, place, inner, known)?)),
+        Expr::Signed(_, a) => signed(expr(alloc, a, place, inner, known)),
         Expr::Number(_) => Ok(of_type(SqlType::Integer, None)),
         Expr::Str(_) => Ok(of_type(SqlType::Varchar, None)),
         Expr::Column(name) => Ok(column(place, name, inner)),
         Expr::Paren(a) => expr(alloc, a, place, inner, known),
-        Expr::Scalar(q) => {
-            let found = query(alloc, q, inner, known)?;
-            Ok(scalar(place, &found))
-        }
+        Expr::Scalar(q) => scalar(place, query(alloc, q, inner, known)),
         Expr::CountAll => Ok(of_type(SqlType::Integer, aggregate_misplaced(place))),
         Expr::Aggregate(function, _, a) => {
-            let argument = expr(alloc, a, Site::Argument, &Scopes::Released(&*inner), known)?;
-            Ok(aggregate(*function, argument, place))
+            let argument = expr(alloc, a, Site::Argument, &Scopes::Released(&*inner), known);
+            aggregate(*function, argument, place)
         }
         Expr::Searched(_, _) => searched(alloc, x, place, inner, known),
         Expr::Simple(_, _, _) => simple(alloc, x, place, inner, known),
         Expr::Coalesce(a, list) => {
-            let a = expr(alloc, a, place, inner, known)?;
+            let a = expr(alloc, a, place, inner, known);
             coalesced(alloc, a, list.as_slice(), place, inner, known)
         }
         Expr::NullIf(a, b) => {
-            let a = expr(alloc, a, place, inner, known)?;
-            let b = expr(alloc, b, place, inner, known)?;
-            Ok(null_if(a, b))
+            let a = expr(alloc, a, place, inner, known);
+            let b = expr(alloc, b, place, inner, known);
+            null_if(a, b)
         }
         Expr::CastNull(to) => Ok(of_type(type_of_declared(to), length_unfit(to))),
     }
@@ -166,8 +127,7 @@ fn exprs(
     ensures fault { OnOk result (number listed.new.fault ≡ rule.lesser (number listed.old.fault) (spec.exprs_fault (heads known.now) place (written.expr_list list.now) (scopes inner.now))) }
 {
     for x in list {
-        let x = expr(alloc, x, place, inner, known)?;
-        push(listed, x)?;
+        push(listed, expr(alloc, x, place, inner, known))?;
     }
     Ok(())
 }
@@ -185,7 +145,7 @@ fn outcome(
     ensures fault { IfOk result (λ r. fault_of r ≡ spec.res_fault (heads known.now) place (written.res res.now) (scopes inner.now)) }
 {
     match res {
-        Res::Value(x) => Ok(Some(expr(alloc, x, place, inner, known)?)),
+        Res::Value(x) => given(expr(alloc, x, place, inner, known)),
         Res::Null => Ok(None),
     }
 }
@@ -208,24 +168,6 @@ fn otherwise(
     }
 }
 
-// Adds a condition of a CASE with its result.
-#[cycle(checks)]
-fn add_arm(
-    alloc: Global,
-    arm: &Arm,
-    place: Site,
-    inner: &Scopes<'_>,
-    known: &Known<'_>,
-    listed: &mut Listed,
-) -> Result<(), OutOfMemory>
-    ensures sorts { OnOk result (listed.new.sorts ≡ listed.old.sorts ++ types.res_types (heads known.now) (written.res arm.now.then) (scopes inner.now)) }
-    ensures fault { OnOk result (number listed.new.fault ≡ rule.lesser (number listed.old.fault) (spec.arm_fault (heads known.now) place (written.cond arm.now.when) (written.res arm.now.then) (scopes inner.now))) }
-{
-    let when = cond(alloc, &arm.when, place, inner, known)?;
-    let then = outcome(alloc, &arm.then, place, inner, known)?;
-    push_result(listed, when, then)
-}
-
 // The conditions of a CASE with their results.
 #[cycle(checks)]
 #[tactic(auto, using(crate::proofs::Orders::fault_steps))]
@@ -241,28 +183,11 @@ fn arms(
     ensures fault { OnOk result (number listed.new.fault ≡ rule.lesser (number listed.old.fault) (spec.arms_fault (heads known.now) place (written.arm_list list.now) (scopes inner.now))) }
 {
     for arm in list {
-        add_arm(alloc, arm, place, inner, known, listed)?;
+        let when = cond(alloc, &arm.when, place, inner, known);
+        let then = outcome(alloc, &arm.then, place, inner, known);
+        push_result(listed, when, then)?;
     }
     Ok(())
-}
-
-// Adds a value of a CASE with its result. The operand that it is compared with has this type.
-#[cycle(checks)]
-fn add_choice(
-    alloc: Global,
-    operand: Option<SqlType>,
-    choice: &Choice,
-    place: Site,
-    inner: &Scopes<'_>,
-    known: &Known<'_>,
-    listed: &mut Listed,
-) -> Result<(), OutOfMemory>
-    ensures sorts { OnOk result (listed.new.sorts ≡ listed.old.sorts ++ types.res_types (heads known.now) (written.res choice.now.then) (scopes inner.now)) }
-    ensures fault { OnOk result (number listed.new.fault ≡ rule.lesser (number listed.old.fault) (spec.choice_fault (heads known.now) place operand (written.expr choice.now.when) (written.res choice.now.then) (scopes inner.now))) }
-{
-    let when = expr(alloc, &choice.when, place, inner, known)?;
-    let then = outcome(alloc, &choice.then, place, inner, known)?;
-    push_result(listed, chosen(operand, when), then)
 }
 
 // The values of a CASE with their results. The operand that they are compared with has this type.
@@ -281,7 +206,9 @@ fn choices(
     ensures fault { OnOk result (number listed.new.fault ≡ rule.lesser (number listed.old.fault) (spec.choices_fault (heads known.now) place operand (written.choice_list list.now) (scopes inner.now))) }
 {
     for choice in list {
-        add_choice(alloc, operand, choice, place, inner, known, listed)?;
+        let when = expr(alloc, &choice.when, place, inner, known);
+        let then = outcome(alloc, &choice.then, place, inner, known);
+        push_result(listed, chosen(operand, when), then)?;
     }
     Ok(())
 }
@@ -304,8 +231,9 @@ fn searched(
         unreachable!()
     };
     let mut listed = none_after(alloc, None);
-    arms(alloc, list.as_slice(), place, inner, known, &mut listed)?;
-    case_of(alloc, listed, last, place, inner, known)
+    let read = arms(alloc, list.as_slice(), place, inner, known, &mut listed);
+    let last = otherwise(alloc, last, place, inner, known);
+    case_ending(read, listed, last)
 }
 
 // `CASE x WHEN y THEN r .. END`
@@ -328,60 +256,45 @@ fn simple(
     let a = expr(alloc, a, place, inner, known)?;
     let list = list.as_slice();
     let mut listed = none_after(alloc, a.fault);
-    choices(alloc, a.sort, list, place, inner, known, &mut listed)?;
-    case_of(alloc, listed, last, place, inner, known)
-}
-
-// A CASE of these results, which ends with its ELSE.
-#[cycle(checks)]
-fn case_of(
-    alloc: Global,
-    listed: Listed,
-    last: &Otherwise,
-    place: Site,
-    inner: &Scopes<'_>,
-    known: &Known<'_>,
-) -> Result<Typed, OutOfMemory>
-    ensures sort { IfOk result (λ t. t.sort ≡ types.case_type (heads known.now) listed.sorts (written.otherwise last.now) (scopes inner.now)) }
-    ensures fault { IfOk result (λ t. number t.fault ≡ spec.case_fault (heads known.now) place (number listed.fault) listed.sorts (written.otherwise last.now) (scopes inner.now)) }
-{
-    let last = otherwise(alloc, last, place, inner, known)?;
-    case_ending(listed, last)
+    let read = choices(alloc, a.sort, list, place, inner, known, &mut listed);
+    let last = otherwise(alloc, last, place, inner, known);
+    case_ending(read, listed, last)
 }
 
 // `COALESCE(x, ..)`
 #[cycle(checks)]
 fn coalesced(
     alloc: Global,
-    x: Typed,
+    x: Result<Typed, OutOfMemory>,
     list: &[Expr],
     place: Site,
     inner: &Scopes<'_>,
     known: &Known<'_>,
 ) -> Result<Typed, OutOfMemory>
-    ensures sort { IfOk result (λ t. t.sort ≡ types.first_known (x.sort ∷ types.types_of (heads known.now) (written.expr_list list.now) (scopes inner.now))) }
-    ensures fault { IfOk result (λ t. number t.fault ≡ spec.coalesce_fault (heads known.now) place (number x.fault) x.sort (written.expr_list list.now) (scopes inner.now)) }
+    ensures sort { IfOk result (λ t. IsOkAnd x (λ first. t.sort ≡ types.first_known (first.sort ∷ types.types_of (heads known.now) (written.expr_list list.now) (scopes inner.now)))) }
+    ensures fault { IfOk result (λ t. IsOkAnd x (λ first. number t.fault ≡ spec.coalesce_fault (heads known.now) place (number first.fault) first.sort (written.expr_list list.now) (scopes inner.now))) }
 {
     let mut listed = alone(alloc, x)?;
-    exprs(alloc, list, place, inner, known, &mut listed)?;
-    Ok(coalesce(&listed))
+    let read = exprs(alloc, list, place, inner, known, &mut listed);
+    coalesce(read, &listed)
 }
 
 // `x IN (..)`
 #[cycle(checks)]
 fn in_list(
     alloc: Global,
-    x: Typed,
+    x: Result<Typed, OutOfMemory>,
     list: &[Expr],
     place: Site,
     inner: &Scopes<'_>,
     known: &Known<'_>,
 ) -> Result<Option<Fault>, OutOfMemory>
-    ensures { IfOk result (λ f. number f ≡ spec.in_list_fault (heads known.now) place (number x.fault) x.sort (written.expr_list list.now) (scopes inner.now)) }
+    ensures { IfOk result (λ f. IsOkAnd x (λ first. number f ≡ spec.in_list_fault (heads known.now) place (number first.fault) first.sort (written.expr_list list.now) (scopes inner.now))) }
 {
+    let x = x?;
     let mut listed = none_after(alloc, x.fault);
-    exprs(alloc, list, place, inner, known, &mut listed)?;
-    Ok(among(x.sort, &listed))
+    let read = exprs(alloc, list, place, inner, known, &mut listed);
+    among(read, x.sort, &listed)
 }
 
 // A condition. Chains stand apart, as above.
@@ -396,8 +309,11 @@ fn cond(
     ensures { IfOk result (λ f. number f ≡ spec.cond_fault (heads known.now) place (written.cond p.now) (scopes inner.now)) }
 {
     match p {
-        Cond::Or(_, _) => disjunction(alloc, p, place, inner, known),
-        Cond::And(_, _) => conjunction(alloc, p, place, inner, known),
+        Cond::Or(a, b) | Cond::And(a, b) => {
+            let a = cond(alloc, a, place, inner, known);
+            let b = cond(alloc, b, place, inner, known);
+            least(a, b)
+        }
         Cond::Not(_)
         | Cond::Bracket(_)
         | Cond::Compare(_, _, _)
@@ -409,42 +325,6 @@ fn cond(
         | Cond::InQuery(_, _, _)
         | Cond::Exists(_) => predicate(alloc, p, place, inner, known),
     }
-}
-
-// `a OR b`
-#[cycle(checks)]
-fn disjunction(
-    alloc: Global,
-    p: &Cond,
-    place: Site,
-    inner: &Scopes<'_>,
-    known: &Known<'_>,
-) -> Result<Option<Fault>, OutOfMemory>
-    requires form { is_disjunction (written.cond p.now) ≡ true }
-    ensures { IfOk result (λ f. number f ≡ spec.cond_fault (heads known.now) place (written.cond p.now) (scopes inner.now)) }
-{
-    let Cond::Or(a, b) = p else { unreachable!() };
-    let a = cond(alloc, a, place, inner, known)?;
-    let b = cond(alloc, b, place, inner, known)?;
-    Ok(lesser(a, b))
-}
-
-// `a AND b`
-#[cycle(checks)]
-fn conjunction(
-    alloc: Global,
-    p: &Cond,
-    place: Site,
-    inner: &Scopes<'_>,
-    known: &Known<'_>,
-) -> Result<Option<Fault>, OutOfMemory>
-    requires form { is_conjunction (written.cond p.now) ≡ true }
-    ensures { IfOk result (λ f. number f ≡ spec.cond_fault (heads known.now) place (written.cond p.now) (scopes inner.now)) }
-{
-    let Cond::And(a, b) = p else { unreachable!() };
-    let a = cond(alloc, a, place, inner, known)?;
-    let b = cond(alloc, b, place, inner, known)?;
-    Ok(lesser(a, b))
 }
 
 // A condition that is no chain of OR or AND.
@@ -463,66 +343,33 @@ fn predicate(
 {
     match p {
         Cond::Or(_, _) | Cond::And(_, _) => unreachable!(),
-        Cond::Not(a) => cond(alloc, a, place, inner, known),
-        Cond::Bracket(a) => cond(alloc, a, place, inner, known),
+        Cond::Not(a) | Cond::Bracket(a) => cond(alloc, a, place, inner, known),
         Cond::Compare(a, _, b) => {
-            let a = expr(alloc, a, place, inner, known)?;
-            let b = expr(alloc, b, place, inner, known)?;
-            Ok(compared(a, b))
+            let a = expr(alloc, a, place, inner, known);
+            let b = expr(alloc, b, place, inner, known);
+            compared(a, b)
         }
         Cond::Between(a, _, b, c) => {
-            let a = expr(alloc, a, place, inner, known)?;
-            let b = expr(alloc, b, place, inner, known)?;
-            let c = expr(alloc, c, place, inner, known)?;
-            Ok(between(a, b, c))
+            let a = expr(alloc, a, place, inner, known);
+            let b = expr(alloc, b, place, inner, known);
+            let c = expr(alloc, c, place, inner, known);
+            between(a, b, c)
         }
         Cond::InList(a, _, list) => {
-            let a = expr(alloc, a, place, inner, known)?;
+            let a = expr(alloc, a, place, inner, known);
             in_list(alloc, a, list.as_slice(), place, inner, known)
         }
         Cond::Like(a, _, b) => {
-            let a = expr(alloc, a, place, inner, known)?;
-            let b = expr(alloc, b, place, inner, known)?;
-            Ok(like(a, b))
+            let a = expr(alloc, a, place, inner, known);
+            let b = expr(alloc, b, place, inner, known);
+            like(a, b)
         }
-        Cond::IsNull(a, _) => Ok(expr(alloc, a, place, inner, known)?.fault),
-        Cond::Quantified(_, _, _, _) | Cond::InQuery(_, _, _) | Cond::Exists(_) => {
-            subquery_test(alloc, p, place, inner, known)
-        }
-    }
-}
-
-// A condition on a subquery: a comparison with ANY, SOME or ALL, IN, or EXISTS.
-#[cycle(checks)]
-fn subquery_test(
-    alloc: Global,
-    p: &Cond,
-    place: Site,
-    inner: &Scopes<'_>,
-    known: &Known<'_>,
-) -> Result<Option<Fault>, OutOfMemory>
-    requires form { is_subquery_test (written.cond p.now) ≡ true }
-    ensures { IfOk result (λ f. number f ≡ spec.cond_fault (heads known.now) place (written.cond p.now) (scopes inner.now)) }
-{
-    match p {
+        Cond::IsNull(a, _) => own_fault(expr(alloc, a, place, inner, known)),
         Cond::Quantified(a, _, _, q) | Cond::InQuery(a, _, q) => {
-            let a = expr(alloc, a, place, inner, known)?;
-            let q = query(alloc, q, inner, known)?;
-            Ok(compared_query(place, a, &q))
+            let a = expr(alloc, a, place, inner, known);
+            compared_query(place, a, query(alloc, q, inner, known))
         }
-        Cond::Exists(q) => {
-            let q = query(alloc, q, inner, known)?;
-            Ok(exists(place, &q))
-        }
-        Cond::Or(_, _)
-        | Cond::And(_, _)
-        | Cond::Not(_)
-        | Cond::Bracket(_)
-        | Cond::Compare(_, _, _)
-        | Cond::Between(_, _, _, _)
-        | Cond::InList(_, _, _)
-        | Cond::Like(_, _, _)
-        | Cond::IsNull(_, _) => unreachable!(),
+        Cond::Exists(q) => exists(place, query(alloc, q, inner, known)),
     }
 }
 
@@ -557,7 +404,7 @@ fn item(
 {
     match x {
         Item::Value(x, alias) => {
-            let found = expr(alloc, x, Site::Listed, inner, known)?;
+            let found = expr(alloc, x, Site::Listed, inner, known);
             push_value(alloc, out, x, alias, found)
         }
         Item::AllOf(name) => push_range_star(alloc, out, name, inner),
@@ -614,26 +461,18 @@ fn source(
     ensures fault { IfOk result (λ s. number s.fault ≡ spec.table_fault (heads known.now) (written.table x.now) (scopes inner.now)) }
 {
     match x {
-        TableRef::Join(a, _, b, p) => {
-            let a = source(alloc, a, inner, known)?;
-            let b = source(alloc, b, inner, known)?;
-            joined(alloc, both(alloc, a, b)?, p, inner, known)
-        }
-        TableRef::LeftJoin(a, _, b, p) => {
-            let a = source(alloc, a, inner, known)?;
-            let b = source(alloc, b, inner, known)?;
-            joined(alloc, both(alloc, a, b)?, p, inner, known)
+        TableRef::Join(a, _, b, p) | TableRef::LeftJoin(a, _, b, p) => {
+            let a = source(alloc, a, inner, known);
+            let b = source(alloc, b, inner, known);
+            joined(alloc, both(alloc, a, b), p, inner, known)
         }
         TableRef::CrossJoin(a, b) => {
-            let a = source(alloc, a, inner, known)?;
-            let b = source(alloc, b, inner, known)?;
+            let a = source(alloc, a, inner, known);
+            let b = source(alloc, b, inner, known);
             both(alloc, a, b)
         }
         TableRef::Named(name, alias) => named(alloc, name, alias, known),
-        TableRef::Derived(q, alias) => {
-            let q = query(alloc, q, inner, known)?;
-            derived(alloc, q, alias)
-        }
+        TableRef::Derived(q, alias) => { derived(alloc, query(alloc, q, inner, known), alias) }
         TableRef::Joined(a) => source(alloc, a, inner, known),
     }
 }
@@ -642,20 +481,18 @@ fn source(
 #[cycle(checks)]
 fn joined(
     alloc: Global,
-    operands: Source,
+    operands: Result<Source, OutOfMemory>,
     p: &Cond,
     inner: &Scopes<'_>,
     known: &Known<'_>,
 ) -> Result<Source, OutOfMemory>
-    ensures tables { IfOk result (λ s. s.tables ≡ operands.tables) }
-    ensures fault { IfOk result (λ s. number s.fault ≡ rule.lesser (number operands.fault) (spec.on_fault (heads known.now) (written.cond p.now) operands.tables (scopes inner.now))) }
+    ensures tables { IfOk result (λ s. IsOkAnd operands (λ o. s.tables ≡ o.tables)) }
+    ensures fault { IfOk result (λ s. IsOkAnd operands (λ o. number s.fault ≡ rule.lesser (number o.fault) (spec.on_fault (heads known.now) (written.cond p.now) o.tables (scopes inner.now)))) }
 {
+    let operands = operands?;
     let own = Scopes::Plain(&operands.tables, &*inner);
-    let on = cond(alloc, p, Site::Filtered, &own, known)?;
-    Ok(Source {
-        fault: lesser(operands.fault, on),
-        tables: operands.tables,
-    })
+    let on = cond(alloc, p, Site::Filtered, &own, known);
+    with_fault(operands, on)
 }
 
 // The tables of a FROM.
@@ -672,8 +509,7 @@ fn sources(
 {
     let mut all = no_source(alloc);
     for x in list {
-        let x = source(alloc, x, inner, known)?;
-        all = both(alloc, all, x)?;
+        all = both(alloc, Ok(all), source(alloc, x, inner, known))?;
     }
     Ok(all)
 }
@@ -688,8 +524,8 @@ fn before_groups(
 ) -> Result<Option<Fault>, OutOfMemory>
     ensures { IfOk result (λ f. number f ≡ spec.input_fault (heads known.now) (written.filter block.now.filter) block.now.grouping (scopes inner.now)) }
 {
-    let kept = filter(alloc, &block.filter, Site::Filtered, inner, known)?;
-    Ok(lesser(kept, grouping_fault(block.grouping.as_slice(), inner)))
+    let kept = filter(alloc, &block.filter, Site::Filtered, inner, known);
+    least(kept, Ok(grouping_fault(block.grouping.as_slice(), inner)))
 }
 
 // The list and HAVING of a block in their scope.
@@ -704,9 +540,9 @@ fn after_groups(
     ensures fault { IfOk result (λ x. number x.fault ≡ spec.output_fault (heads known.now) (written.select_list block.now.list) (written.filter block.now.having) (scopes inner.now)) }
 {
     let mut out = no_output(alloc);
-    select(alloc, &block.list, inner, known, &mut out)?;
-    let having = filter(alloc, &block.having, Site::Listed, inner, known)?;
-    Ok(limited(out, having))
+    let read = select(alloc, &block.list, inner, known, &mut out);
+    let having = filter(alloc, &block.having, Site::Listed, inner, known);
+    limited(read, out, having)
 }
 
 // A block.
@@ -723,9 +559,9 @@ fn block(
 {
     let from = sources(alloc, block.from.as_slice(), inner, known)?;
     let own = &from.tables;
-    let before = before_groups(alloc, block, &Scopes::Plain(own, &*inner), known)?;
-    let after = after_groups(alloc, block, &list_scope(&*block, own, &*inner), known)?;
-    Ok(block_output(&from, before, after))
+    let before = before_groups(alloc, block, &Scopes::Plain(own, &*inner), known);
+    let after = after_groups(alloc, block, &list_scope(&*block, own, &*inner), known);
+    block_output(&from, before, after)
 }
 
 // A query.
@@ -741,15 +577,10 @@ pub(crate) fn query(
     ensures fault { IfOk result (λ x. number x.fault ≡ spec.query_fault (heads known.now) (written.query q.now) (scopes inner.now)) }
 {
     match q {
-        Query::Combine(a, _, _, b) => {
-            let a = query(alloc, a, inner, known)?;
-            let b = query(alloc, b, inner, known)?;
-            Ok(combined(a, &b))
-        }
-        Query::Intersect(a, _, b) => {
-            let a = query(alloc, a, inner, known)?;
-            let b = query(alloc, b, inner, known)?;
-            Ok(combined(a, &b))
+        Query::Combine(a, _, _, b) | Query::Intersect(a, _, b) => {
+            let a = query(alloc, a, inner, known);
+            let b = query(alloc, b, inner, known);
+            combined(a, b)
         }
         Query::Block(b) => block(alloc, b, inner, known),
         Query::Enclosed(q) => query(alloc, q, inner, known),

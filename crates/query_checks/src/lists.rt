@@ -1,5 +1,5 @@
 // The list of a SELECT: its output columns, put together.
-ghost use Rattle.std.specs.Prelude.{◌≡◌, ◌++◌, ◌∷◌, [], not, option_map, IfOk, OnOk};
+ghost use Rattle.std.specs.Prelude.{◌≡◌, ◌++◌, ◌∷◌, [], not, option_map, IfOk, IsOkAnd, OnOk};
 ghost use Rattle.sql_ast.specs.Shown as written;
 ghost use Rattle.sql_meaning.specs.Names as meaning;
 ghost use Rattle.query_checks.specs.Columns as types;
@@ -100,11 +100,12 @@ pub(crate) fn push_value(
     out: &mut Output,
     x: &Expr,
     alias: &Option<Alias>,
-    found: Typed,
+    found: Result<Typed, OutOfMemory>,
 ) -> Result<(), OutOfMemory>
-    ensures columns { OnOk result (out.new.columns ≡ out.old.columns ++ types.column (meaning.item_name (written.expr x.now) alias.now) found.sort ∷ []) }
-    ensures fault { OnOk result (number out.new.fault ≡ rule.lesser (number out.old.fault) (number found.fault)) }
+    ensures columns { OnOk result (IsOkAnd found (λ t. out.new.columns ≡ out.old.columns ++ types.column (meaning.item_name (written.expr x.now) alias.now) t.sort ∷ [])) }
+    ensures fault { OnOk result (IsOkAnd found (λ t. number out.new.fault ≡ rule.lesser (number out.old.fault) (number t.fault))) }
 {
+    let found = found?;
     let name = item_name(alloc, x, alias)?;
     out.fault = lesser(out.fault, found.fault);
     out.columns.push(TypedColumn {

@@ -1,5 +1,5 @@
 // The operands of set operations, and column lists.
-ghost use Rattle.std.specs.Prelude.{◌≡◌};
+ghost use Rattle.std.specs.Prelude.{◌≡◌, IfOk, IsOkAnd};
 ghost use Rattle.sql_ast.specs.Names as names;
 ghost use Rattle.query_checks.specs.Faults as spec;
 ghost use Rattle.query_checks.specs.Numbers.{number};
@@ -9,6 +9,7 @@ use crate::column::TypedColumn;
 use crate::fault::{Fault, fault_if, lesser};
 use crate::typed::Output;
 use crate::types::differ;
+use shared_types::OutOfMemory;
 use sql_text::Name;
 
 // Whether columns at the same place differ in type.
@@ -40,15 +41,20 @@ fn operands_fault(a: &[TypedColumn], b: &[TypedColumn]) -> Option<Fault>
 }
 
 /// A set operation of two operands: the columns are those of the left one.
-pub(crate) fn combined(a: Output, b: &Output) -> Output
-    ensures columns { result.columns ≡ a.columns }
-    ensures fault { number result.fault ≡ rule.lesser (rule.lesser (number a.fault) (number b.now.fault)) (spec.operands_fault a.columns b.now.columns) }
+pub(crate) fn combined(
+    a: Result<Output, OutOfMemory>,
+    b: Result<Output, OutOfMemory>,
+) -> Result<Output, OutOfMemory>
+    ensures columns { IfOk result (λ q. IsOkAnd a (λ x. q.columns ≡ x.columns)) }
+    ensures fault { IfOk result (λ q. IsOkAnd a (λ x. IsOkAnd b (λ y. number q.fault ≡ rule.lesser (rule.lesser (number x.fault) (number y.fault)) (spec.operands_fault x.columns y.columns)))) }
 {
+    let a = a?;
+    let b = b?;
     let own = operands_fault(a.columns.as_slice(), b.columns.as_slice());
-    Output {
+    Ok(Output {
         fault: lesser(lesser(a.fault, b.fault), own),
         columns: a.columns,
-    }
+    })
 }
 
 // Whether one of these names is this name.

@@ -1,5 +1,5 @@
 // The ranges of a FROM, put together from those of its parts.
-ghost use Rattle.std.specs.Prelude.{◌≡◌, ◌++◌, ◌∷◌, [], map, IfOk, OnOk};
+ghost use Rattle.std.specs.Prelude.{◌≡◌, ◌++◌, ◌∷◌, [], map, IfOk, IsOkAnd};
 ghost use Rattle.sql_ast.specs.Names as names;
 ghost use Rattle.sql_meaning.specs.Names as meaning;
 ghost use Rattle.query_checks.specs.Columns as types;
@@ -28,10 +28,16 @@ pub(crate) struct Source {
 }
 
 // The tables of both.
-pub(crate) fn both(alloc: Global, left: Source, right: Source) -> Result<Source, OutOfMemory>
-    ensures tables { IfOk result (λ s. s.tables ≡ left.tables ++ right.tables) }
-    ensures fault { IfOk result (λ s. number s.fault ≡ rule.lesser (number left.fault) (number right.fault)) }
+pub(crate) fn both(
+    alloc: Global,
+    left: Result<Source, OutOfMemory>,
+    right: Result<Source, OutOfMemory>,
+) -> Result<Source, OutOfMemory>
+    ensures tables { IfOk result (λ s. IsOkAnd left (λ a. IsOkAnd right (λ b. s.tables ≡ a.tables ++ b.tables))) }
+    ensures fault { IfOk result (λ s. IsOkAnd left (λ a. IsOkAnd right (λ b. number s.fault ≡ rule.lesser (number a.fault) (number b.fault)))) }
 {
+    let left = left?;
+    let right = right?;
     let fault = lesser(left.fault, right.fault);
     Ok(Source {
         tables: Tables::join(alloc, left.tables, right.tables)?,
@@ -69,13 +75,13 @@ fn ranged(alloc: Global, name: &Name, list: &[Name], found: Output) -> Result<So
 // A subquery of a FROM.
 pub(crate) fn derived(
     alloc: Global,
-    found: Output,
+    found: Result<Output, OutOfMemory>,
     alias: &Correlation,
 ) -> Result<Source, OutOfMemory>
-    ensures tables { IfOk result (λ s. s.tables ≡ types.derived_range alias.now found.columns ∷ []) }
-    ensures fault { IfOk result (λ s. number s.fault ≡ rule.lesser (number found.fault) (spec.list_fault alias.now.columns found.columns)) }
+    ensures tables { IfOk result (λ s. IsOkAnd found (λ q. s.tables ≡ types.derived_range alias.now q.columns ∷ [])) }
+    ensures fault { IfOk result (λ s. IsOkAnd found (λ q. number s.fault ≡ rule.lesser (number q.fault) (spec.list_fault alias.now.columns q.columns))) }
 {
-    ranged(alloc, &alias.name, alias.columns.as_slice(), found)
+    ranged(alloc, &alias.name, alias.columns.as_slice(), found?)
 }
 
 // The range name of a table: its alias, else the table's name.
@@ -173,14 +179,34 @@ pub(crate) fn no_source(alloc: Global) -> Source
     }
 }
 
-// The output of a block: that of its list, with the faults of its FROM and of what stands between.
-pub(crate) fn block_output(from: &Source, before: Option<Fault>, after: Output) -> Output
-    ensures columns { result.columns ≡ after.columns }
-    ensures fault { number result.fault ≡ rule.lesser (rule.lesser (number from.now.fault) (rule.ranges_equal from.now.tables)) (rule.lesser (number before) (number after.fault)) }
+// Operands of a join with the fault of its ON.
+pub(crate) fn with_fault(
+    operands: Source,
+    on: Result<Option<Fault>, OutOfMemory>,
+) -> Result<Source, OutOfMemory>
+    ensures tables { IfOk result (λ s. s.tables ≡ operands.tables) }
+    ensures fault { IfOk result (λ s. IsOkAnd on (λ f. number s.fault ≡ rule.lesser (number operands.fault) (number f))) }
 {
+    Ok(Source {
+        fault: lesser(operands.fault, on?),
+        tables: operands.tables,
+    })
+}
+
+// The output of a block: that of its list, with the faults of its FROM and of what stands between.
+pub(crate) fn block_output(
+    from: &Source,
+    before: Result<Option<Fault>, OutOfMemory>,
+    after: Result<Output, OutOfMemory>,
+) -> Result<Output, OutOfMemory>
+    ensures columns { IfOk result (λ x. IsOkAnd after (λ q. x.columns ≡ q.columns)) }
+    ensures fault { IfOk result (λ x. IsOkAnd before (λ b. IsOkAnd after (λ q. number x.fault ≡ rule.lesser (rule.lesser (number from.now.fault) (rule.ranges_equal from.now.tables)) (rule.lesser (number b) (number q.fault))))) }
+{
+    let before = before?;
+    let after = after?;
     let tables = lesser(from.fault, ranges_equal(from.tables.ranges()));
-    Output {
+    Ok(Output {
         fault: lesser(tables, lesser(before, after.fault)),
         columns: after.columns,
-    }
+    })
 }
