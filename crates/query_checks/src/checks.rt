@@ -346,14 +346,12 @@ fn predicate(
         Cond::Not(a) | Cond::Bracket(a) => cond(alloc, a, place, inner, known),
         Cond::Compare(a, _, b) => {
             let a = expr(alloc, a, place, inner, known);
-            let b = expr(alloc, b, place, inner, known);
-            compared(a, b)
+            compared(a, expr(alloc, b, place, inner, known))
         }
         Cond::Between(a, _, b, c) => {
             let a = expr(alloc, a, place, inner, known);
             let b = expr(alloc, b, place, inner, known);
-            let c = expr(alloc, c, place, inner, known);
-            between(a, b, c)
+            between(a, b, expr(alloc, c, place, inner, known))
         }
         Cond::InList(a, _, list) => {
             let a = expr(alloc, a, place, inner, known);
@@ -361,8 +359,7 @@ fn predicate(
         }
         Cond::Like(a, _, b) => {
             let a = expr(alloc, a, place, inner, known);
-            let b = expr(alloc, b, place, inner, known);
-            like(a, b)
+            like(a, expr(alloc, b, place, inner, known))
         }
         Cond::IsNull(a, _) => own_fault(expr(alloc, a, place, inner, known)),
         Cond::Quantified(a, _, _, q) | Cond::InQuery(a, _, q) => {
