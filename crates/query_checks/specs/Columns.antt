@@ -176,9 +176,3 @@ module _ (heads : Heads) where
     table_ranges (s.named name c) scopes = named_range name c (heads name) ∷ []
     table_ranges (s.derived q c) scopes = derived_range c (columns q scopes) ∷ []
     table_ranges (s.joined x) scopes = table_ranges x scopes
-
-  -- ---- parts that stand together
-
-  -- a CASE whose results have these types, with its ELSE
-  abbrev pub case_type : List (Option SqlType) → s.Otherwise → Scopes → Option SqlType
-  case_type types o scopes = first_known (types ++ else_types o scopes)

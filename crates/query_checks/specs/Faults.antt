@@ -169,18 +169,6 @@ module _ (heads : Heads) where
 
   -- ---- parts that stand together
 
-  -- a condition of a CASE with its result
-  abbrev pub arm_fault : Site → s.Cond → s.Res → Scopes → ℕ
-  arm_fault place p r scopes = lesser (cond_fault place p scopes) (res_fault place r scopes)
-
-  -- a value of a CASE with its result, where the operand has this type
-  abbrev pub choice_fault : Site → Option SqlType → s.Expr → s.Res → Scopes → ℕ
-  choice_fault place t x r scopes = lesser (lesser (expr_fault place x scopes) (pair_differs t (type_of heads x scopes))) (res_fault place r scopes)
-
-  -- a CASE whose conditions and values have this fault, and their results these types, with its ELSE
-  abbrev pub case_fault : Site → ℕ → List (Option SqlType) → s.Otherwise → Scopes → ℕ
-  case_fault place n types o scopes = lesser (lesser n (else_fault place o scopes)) (results_differ (types ++ else_types heads o scopes))
-
   -- a COALESCE, and an operand with a list after IN, whose first expression has this fault and type
   abbrev pub coalesce_fault : Site → ℕ → Option SqlType → s.Exprs → Scopes → ℕ
   coalesce_fault place n t xs scopes = lesser (lesser n (exprs_fault place xs scopes)) (parts_differ (t ∷ types_of heads xs scopes))

@@ -34,13 +34,6 @@ abbrev pub is_conjunction : s.Cond → Bool
 is_conjunction (s.both p q) = true
 is_conjunction _ = false
 
--- ANY, SOME, ALL or IN with a subquery, or EXISTS
-abbrev pub is_subquery_test : s.Cond → Bool
-is_subquery_test (s.quantified x op each q) = true
-is_subquery_test (s.in_query x negative q) = true
-is_subquery_test (s.exists q) = true
-is_subquery_test _ = false
-
 -- a block, as the code has it
 abbrev pub block_of : Block → s.Query
 block_of b = s.block b.quantifier (written.select_list b.list) (written.table_list b.from) (written.filter b.filter) b.grouping (written.filter b.having)
