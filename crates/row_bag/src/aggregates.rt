@@ -33,7 +33,6 @@ fn error_of_row(row: &Row<Cell>) -> Option<Kind>
 }
 
 // The greatest error among cells.
-#[tactic(auto, using(crate::proofs::Chains::worst_steps))]
 fn error_among_cells(rows: &[Row<Cell>]) -> Option<Kind>
     ensures { result ≡ error_among cells.error_of rows.now }
 {
@@ -139,7 +138,6 @@ fn as_taken(alloc: Global, each: Taken, rows: Vec<Row<Cell>>) -> Result<Vec<Row<
 }
 
 // The values among arguments.
-#[tactic(auto, using(crate::proofs::Values::values_bound))]
 fn values(alloc: Global, each: Taken, rows: Vec<Row<Cell>>) -> Result<Vec<Row<Cell>>, OutOfMemory>
     ensures { IfOk result (λ made. made.items ≡ spec.values each rows.items) }
 {
@@ -188,7 +186,6 @@ fn number_of(row: &Row<Cell>) -> Option<i64>
 }
 
 // How many rows there are, and the exact total of their numbers.
-#[tactic(auto, using(crate::proofs::Chains::sum_steps))]
 fn add_up(rows: &[Row<Cell>]) -> Totals
     ensures count { result.count ≡ how_many rows.now }
     ensures total { result.total ≡ spec.exact_total rows.now }

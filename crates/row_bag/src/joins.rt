@@ -61,7 +61,6 @@ pub fn with_nulls(alloc: Global, left: &[Cell], width: usize) -> Result<Row, Out
 }
 
 // Adds rows at the end, each at the lower one of its level and this one.
-#[tactic(auto, using(crate::proofs::Products::keep_steps))]
 fn append_each(out: &mut Bag, level: Level, rows: Vec<Row>) -> Result<(), OutOfMemory>
     ensures { OnOk result (out.new ≡ out.old ++ keep level rows.items) }
 {
@@ -95,7 +94,6 @@ fn beside_each(alloc: Global, left: &[Cell], ys: &[Row]) -> Result<Bag, OutOfMem
 
 /// A product: each row of the first beside each of the second, at the lower one of both levels
 /// (SQL-92 7.4). It fails only for want of memory.
-#[tactic(auto, using(crate::proofs::Products::product_steps))]
 pub fn product(alloc: Global, xs: &[Row], ys: &[Row]) -> Result<Bag, OutOfMemory>
     ensures { IfOk result (λ made. made ≡ joins.product xs.now ys.now) }
 {
@@ -109,7 +107,6 @@ pub fn product(alloc: Global, xs: &[Row], ys: &[Row]) -> Result<Bag, OutOfMemory
 
 /// The partners of a left row, or where none of them is there this row once with so many nulls
 /// (SQL-92 7.5). It fails only for want of memory.
-#[tactic(auto, using(crate::proofs::Products::or_else_steps))]
 pub fn or_with_nulls(
     alloc: Global,
     partners: Bag,

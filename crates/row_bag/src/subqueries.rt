@@ -91,7 +91,6 @@ fn all_one(op: CmpOp, x: &Cell, row: &Row) -> Truth
 }
 
 /// EXISTS: whether a row is there (SQL-92 8.8).
-#[tactic(auto, using(crate::proofs::Chains::or_steps))]
 pub fn exists(rows: &[Row]) -> Truth
     ensures { result ≡ u.exists rows.now }
 {
@@ -103,7 +102,6 @@ pub fn exists(rows: &[Row]) -> Truth
 }
 
 /// `x op ANY`: whether the comparison holds of some row's cell (SQL-92 8.7).
-#[tactic(auto, using(crate::proofs::Chains::or_steps))]
 pub fn compare_any(op: CmpOp, x: &Cell, rows: &[Row]) -> Truth
     ensures { result ≡ u.compare_any op x.now rows.now }
 {
@@ -115,7 +113,6 @@ pub fn compare_any(op: CmpOp, x: &Cell, rows: &[Row]) -> Truth
 }
 
 /// `x op ALL`: whether the comparison holds of every row's cell (SQL-92 8.7).
-#[tactic(auto, using(crate::proofs::Chains::and_steps))]
 pub fn compare_all(op: CmpOp, x: &Cell, rows: &[Row]) -> Truth
     ensures { result ≡ u.compare_all op x.now rows.now }
 {
@@ -134,7 +131,6 @@ fn level_error_one(row: &Row) -> Option<Kind>
 }
 
 // The greatest of the errors that levels of rows are.
-#[tactic(auto, using(crate::proofs::Chains::worst_steps))]
 fn level_error(rows: &[Row]) -> Option<Kind>
     ensures { result ≡ u.level_error rows.now }
 {
@@ -176,7 +172,6 @@ pub fn any_there(rows: &[Row]) -> bool
 /// A scalar subquery of these rows (SQL-92 7.11): null of no row, the cell of one at yes, and else the
 /// greatest of their error levels and, where there are two or more, cardinality. It fails only for
 /// want of memory.
-#[tactic(auto, using(crate::proofs::Scalars::scalar_steps))]
 pub fn scalar(alloc: Global, rows: &[Row]) -> Result<Cell, OutOfMemory>
     ensures { IfOk result (λ cell. cell ≡ u.scalar rows.now) }
 {
