@@ -114,7 +114,6 @@ fn no_cond(list: &[Gc]) -> bool
 }
 
 // Whether an expression is column k of q.
-#[tactic(auto, using(crate::proofs::Columns::col_same))]
 fn is_col(alloc: Global, x: &Gx, q: QuantId, k: usize) -> Result<bool, OutOfMemory>
     ensures { IfOk result (λ same. same ≡ spec.is_col q k (term x.now)) }
 {

@@ -19,7 +19,6 @@ use std::alloc::Global;
 pub struct DropCopy;
 
 // Does M2 at a place.
-#[tactic(auto, using(crate::proofs::Dropped::held_of, crate::proofs::Dropped::one_of, crate::proofs::Dropped::over_held, crate::proofs::Dropped::acts_of, crate::proofs::Dropped::preserves_of))]
 fn dropped(alloc: Global, graph: &mut Graph, place: Place) -> Result<(), OutOfMemory>
     requires formed { WellFormed graph.old }
     requires given { spec.may_go graph.old place.at ≡ true }
@@ -48,7 +47,7 @@ impl Rule for DropCopy {
         RuleId::M2
     }
 
-    #[tactic(auto, using(crate::specs::DropCopy::drop_copy_ascending), unfolding(crate::specs::DropCopy::drop_copy_pairs))]
+    #[tactic(auto, unfolding(crate::specs::DropCopy::drop_copy_pairs))]
     fn places(&self, alloc: Global, graph: &Graph, b: BoxId) -> Result<Vec<Place>, OutOfMemory> {
         let mut out = Vec::new(alloc);
         let passes = may_go(alloc, graph, b)?;
@@ -56,7 +55,6 @@ impl Rule for DropCopy {
         Ok(out)
     }
 
-    #[tactic(auto, using(crate::specs::DropCopy::drop_copy_given))]
     fn apply(&self, alloc: Global, graph: &mut Graph, place: Place) -> Result<(), OutOfMemory> {
         dropped(alloc, graph, place)?;
         Ok(())

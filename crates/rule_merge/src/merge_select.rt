@@ -52,7 +52,7 @@ impl Rule for MergeSelect {
         RuleId::M1
     }
 
-    #[tactic(auto, using(crate::specs::MergeSelect::merge_select_ascending, crate::proofs::Bases::none_found, crate::proofs::Bases::none_under), unfolding(crate::specs::MergeSelect::merge_select_pairs))]
+    #[tactic(auto, using(crate::proofs::Bases::none_found, crate::proofs::Bases::none_under), unfolding(crate::specs::MergeSelect::merge_select_pairs))]
     fn places(&self, alloc: Global, graph: &Graph, b: BoxId) -> Result<Vec<Place>, OutOfMemory> {
         let mut out = Vec::new(alloc);
         graph.each_number_once();
@@ -71,7 +71,6 @@ impl Rule for MergeSelect {
         Ok(out)
     }
 
-    #[tactic(auto, using(crate::specs::MergeSelect::merge_select_given))]
     fn apply(&self, alloc: Global, graph: &mut Graph, place: Place) -> Result<(), OutOfMemory> {
         graph.each_number_once();
         let steps = plan_at(alloc, graph, place)?;

@@ -100,7 +100,6 @@ fn over_base(tables: &Tables<'_>, s: OwnedQuant) -> bool
 
 // Whether another quantifier of c than s, an F of c, is named in the box under s or below it. In a
 // base none is named.
-#[tactic(auto, using(crate::proofs::Bases::base_apart))]
 fn is_lateral(
     alloc: Global,
     tables: &Tables<'_>,
@@ -120,7 +119,6 @@ fn is_lateral(
 }
 
 // Whether it is known that no box names a quantifier of c but its owner. Then none is lateral.
-#[tactic(auto, using(crate::proofs::Unnamed::unnamed_apart))]
 fn is_unnamed(tables: &Tables<'_>, c: &Node) -> bool
     requires formed { WellFormed tables.now.graph.now }
     requires tables { Tabled tables.now }
@@ -134,7 +132,6 @@ fn is_unnamed(tables: &Tables<'_>, c: &Node) -> bool
 }
 
 // Whether a quantifier of c is lateral, which one alone never is.
-#[tactic(auto, using(crate::proofs::Alone::alone_apart))]
 fn has_lateral(alloc: Global, tables: &Tables<'_>, c: &Node) -> Result<bool, OutOfMemory>
     requires formed { WellFormed tables.now.graph.now }
     requires tables { Tabled tables.now }
@@ -275,7 +272,6 @@ fn may_stand(
 
 // Whether c may be merged into b under r. Where no box is fed, none will be, so that the graph after
 // it isn't made.
-#[tactic(auto, using(crate::proofs::Placed::found_has, crate::proofs::Unfed::merged_unfed))]
 fn may_with(
     alloc: Global,
     tables: &Tables<'_>,

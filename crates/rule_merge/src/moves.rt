@@ -45,7 +45,6 @@ fn turn(graph: &mut Graph, list: &[QuantId], c: BoxId)
 
 /// Quantifiers over b range over c, and b goes, with what the root then doesn't reach. Where there is
 /// no memory it fails, and the graph is as before.
-#[tactic(auto, using(crate::proofs::Turned::over_has, crate::proofs::Turned::turned_held))]
 pub fn moved(alloc: Global, graph: &mut Graph, b: BoxId, c: BoxId) -> Result<(), OutOfMemory>
     requires gone { HasBox b graph.old }
     requires held { HasBox c graph.old }

@@ -1,3 +1,5 @@
+use Rattle.std.proofs.Common.{arith}
+use Rattle.std.proofs.lemmas.Grind.{common_steps}
 use Rattle.rule_merge.specs.MergeSelect.{merge_select_given}
 use Rattle.rule_merge.proofs.Placed.{acts-then, may-step-then, preserves-then}
 use Rattle.rule_merge.proofs.merge_select.MergeSelectRule.apply.Goals as goal
@@ -13,3 +15,6 @@ returns-clause-acts c =
 pub returns-clause-preserves : goal.returns-clause-preserves
 returns-clause-preserves c =
     preserves-then c.args.graph.now c.each_number_once.ensures c.requires.formed c.args.place (merge_select_given c.args.graph.now c.args.place.at c.args.place.i c.args.place.j c.requires.given) c.in_ok-steps.steps c.in_ok-steps.ensures c.merge.new.graph c.in_ok-merge.ensures.ok
+
+pub plan_at-requires-clause-given : goal.plan_at-requires-clause-given
+plan_at-requires-clause-given c = grind (arith, common_steps, merge_select_given)

@@ -1,3 +1,5 @@
+use Rattle.std.proofs.lemmas.Grind.{common_steps}
+use Rattle.rule_merge.specs.MergeSelect.{merge_select_ascending}
 use Rattle.std.proofs.Common.{◌≡◌, ◌+◌, ◌-◌, ◌∙◌, Some, sym, ap, subst, slice_index_or, arith}
 use Rattle.std.specs.Prelude.{slice_get}
 use Rattle.qgm_core.specs.Boxes.{QueryGraph, box_of, is_box}
@@ -21,3 +23,18 @@ may_at-requires-clause-nth c =
     let n : k ≡ k + 1 - 1 = omega arith in
     subst (λ j. slice_get c.in-Some.node.now.quants j ≡ Some (slice_index_or list k d)) n
     (subst (λ z. slice_get z k ≡ Some (slice_index_or list k d)) c.as_slice-list.ensures (index-get k list d c.loop-k-test.true))
+
+pub returns-then-not-may_have-clause-order : goal.returns-then-not-may_have-clause-order
+returns-then-not-may_have-clause-order c = grind (arith, common_steps, merge_select_ascending)
+
+pub returns-in_err-tables-clause-order : goal.returns-in_err-tables-clause-order
+returns-in_err-tables-clause-order c = grind (arith, common_steps, merge_select_ascending)
+
+pub returns-in_err-passes-clause-order : goal.returns-in_err-passes-clause-order
+returns-in_err-passes-clause-order c = grind (arith, common_steps, merge_select_ascending)
+
+pub returns-in_err-add_if-clause-order : goal.returns-in_err-add_if-clause-order
+returns-in_err-add_if-clause-order c = grind (arith, common_steps, merge_select_ascending)
+
+pub returns-clause-order : goal.returns-clause-order
+returns-clause-order c = grind (arith, common_steps, merge_select_ascending)

@@ -1,0 +1,7 @@
+use Rattle.std.proofs.Common.{arith}
+use Rattle.std.proofs.lemmas.Grind.{common_steps}
+use Rattle.rule_merge.proofs.Alone.{alone_apart}
+use Rattle.rule_merge.proofs.merging.has_lateral.Goals as goal
+
+pub returns-then-as_slice-le1 : goal.returns-then-as_slice-le1
+returns-then-as_slice-le1 c = grind (arith, common_steps, alone_apart)

@@ -1,0 +1,11 @@
+use Rattle.std.proofs.Common.{arith}
+use Rattle.std.proofs.lemmas.Grind.{common_steps}
+use Rattle.rule_merge.proofs.Unfed.{merged_unfed}
+use Rattle.rule_merge.proofs.Placed.{found_has}
+use Rattle.rule_merge.proofs.merging.may_with.Goals as goal
+
+pub distinct_fits-requires : goal.distinct_fits-requires
+distinct_fits-requires c = grind (arith, common_steps, found_has, merged_unfed)
+
+pub returns-then-not-tables : goal.returns-then-not-tables
+returns-then-not-tables c = grind (arith, common_steps, found_has, merged_unfed)

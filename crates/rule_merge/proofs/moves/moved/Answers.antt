@@ -1,0 +1,10 @@
+use Rattle.std.proofs.Common.{arith}
+use Rattle.std.proofs.lemmas.Grind.{common_steps}
+use Rattle.rule_merge.proofs.Turned.{over_has, turned_held}
+use Rattle.rule_merge.proofs.moves.moved.Goals as goal
+
+pub turn-requires-clause-quants : goal.turn-requires-clause-quants
+turn-requires-clause-quants c = grind (arith, common_steps, over_has, turned_held)
+
+pub drop_box-requires : goal.drop_box-requires
+drop_box-requires c = grind (arith, common_steps, over_has, turned_held)
