@@ -157,7 +157,6 @@ fn grouped_of(list: Size, from: Size, by: Size, having: Size) -> Result<usize, O
 
 // An expression.
 #[cycle(sizes)]
-#[tactic(auto, using(sql_meaning::specs::ResolvedShown::lists))]
 fn value(x: &Value) -> Result<Size, OutOfMemory>
     ensures { IfOk result (λ s. s ≡ spec.value_size (shown.value x.now)) }
 {
@@ -281,7 +280,6 @@ fn coalesced(first: Size, list: &[Value]) -> Result<Size, OutOfMemory>
 
 // A condition.
 #[cycle(sizes)]
-#[tactic(auto, using(sql_meaning::specs::ResolvedShown::lists))]
 fn test(p: &Test) -> Result<Size, OutOfMemory>
     ensures { IfOk result (λ s. s ≡ spec.test_size (shown.test p.now)) }
 {
@@ -363,7 +361,6 @@ fn froms(list: &[From]) -> Result<Size, OutOfMemory>
 
 // A query.
 #[cycle(sizes)]
-#[tactic(auto, using(sql_meaning::specs::ResolvedShown::lists))]
 fn query(x: &Query) -> Result<usize, OutOfMemory>
     ensures { IfOk result (λ n. n ≡ spec.query_size (shown.query x.now)) }
 {

@@ -1,4 +1,5 @@
-use Rattle.std.proofs.Common.{List, suc, ap, ap₂, refl, ◌∙◌}
+use Rattle.std.proofs.lemmas.Grind.{common_steps}
+use Rattle.std.proofs.Common.{List, suc, ap, ap₂, refl, ◌∙◌, arith}
 use Rattle.sql_meaning.specs.ResolvedShown as shown
 use Rattle.sql_meaning.specs.declared.resolved.Addend.{Addend}
 use Rattle.sql_meaning.specs.declared.resolved.Arm.{Arm}
@@ -64,3 +65,12 @@ choices-loop-x-preserved t c = size_more (λ (xs : List Choice). spec.choices_si
 
 pub coalesced-loop-x-preserved : goal.coalesced-loop-x-preserved
 coalesced-loop-x-preserved t c = coalesced_turn c.args.list.now c.loop-x.x-index c.x-item.result c.loop-x.last c.in_ok-last.last c.loop-x.total c.in_ok-total.total _ c.loop-x-test.true c.x-item.is (c.in_ok-total.ensures ∙ ap (plus c.loop-x.total) c.in_ok-present.ensures) c.in_ok-last.ensures c.loop-x.invariant
+
+pub test-returns-in_ok-tests-in-All : goal.test-returns-in_ok-tests-in-All
+test-returns-in_ok-tests-in-All t c = grind (arith, common_steps, shown.lists)
+
+pub test-returns-in_ok-tests-in-Any : goal.test-returns-in_ok-tests-in-Any
+test-returns-in_ok-tests-in-Any t c = grind (arith, common_steps, shown.lists)
+
+pub value-returns-in_ok-last-in-Searched : goal.value-returns-in_ok-last-in-Searched
+value-returns-in_ok-last-in-Searched t c = grind (arith, common_steps, shown.lists)
