@@ -1,5 +1,5 @@
 // Boxes and lists of any parts. Where there is no memory for one, the part is dropped.
-ghost use Rattle.std.specs.Prelude.{◌≡◌, [], ◌∷◌, ◌++◌, IfOk, OnOk};
+ghost use Rattle.std.specs.Prelude.{◌≡◌, [], ◌∷◌, ◌++◌, IfOk, OnOk, Ok};
 
 use shared_types::OutOfMemory;
 use sqlite_items::Items;
@@ -10,6 +10,17 @@ pub(crate) fn boxed<T: Drop>(alloc: Global, part: T) -> Result<Box<T>, OutOfMemo
     ensures { IfOk result (λ b. b.value ≡ part) }
 {
     Ok(Box::new(alloc, part)?)
+}
+
+/// Two parts, where both are there.
+pub(crate) fn pair<A: Drop, B: Drop>(
+    first: Result<A, OutOfMemory>,
+    second: Result<B, OutOfMemory>,
+) -> Result<(A, B), OutOfMemory>
+    ensures { IfOk result (λ parts. (first ≡ Ok parts.0) × (second ≡ Ok parts.1)) }
+{
+    let first = first?;
+    Ok((first, second?))
 }
 
 /// A list of one.

@@ -1,17 +1,23 @@
-// Parts of resolved queries, from their own parts.
+// Parts of resolved queries, from their own parts. Where there was no memory for one of those, there is
+// none for the whole.
 ghost use Rattle.std.specs.Prelude.{◌≡◌, [], ◌∷◌, ◌+◌, ◌-◌, ◌<◌, ◌^◌, IfOk, OnOk};
 ghost use Rattle.sql_meaning.specs.ResolvedShown as shown;
 ghost use Rattle.sql_meaning.specs.ResolvedTrees as tree;
 ghost use Rattle.sql_meaning.specs.Groups.{is_distinct};
 ghost use Rattle.name_resolution.specs.Onto.{arms_onto, choices_onto, froms_onto, values_onto};
+ghost use Rattle.name_resolution.specs.Places as places;
 ghost use Rattle.name_resolution.specs.Resolved as spec;
+ghost use Rattle.name_resolution.specs.Shapes.{shapes};
 
-use crate::boxes::{boxed, push};
+use crate::boxes::{boxed, pair, push};
 use crate::chain::perhaps_not;
-use crate::place::ColumnPlace;
+use crate::place::place_of;
+use crate::queries::{ResolvedQuery, query_of};
+use crate::scope::Shapes;
 use shared_types::{CmpOp, OutOfMemory, Text};
-use sql_ast::{Quantifier, SetFunction, SetOperator, SetQuantifier};
+use sql_ast::{Column, Quantifier, SetFunction, SetOperator, SetQuantifier};
 use sql_meaning::{Arm, Choice, From, Query, Test, Value};
+use sql_value::SqlType;
 use sqlite_items::Items;
 use std::alloc::Global;
 
@@ -22,21 +28,49 @@ pub(crate) fn text(alloc: Global, x: &Text) -> Result<Box<Value>, OutOfMemory>
     boxed(alloc, Value::Text(x.copy(alloc)?))
 }
 
-/// A column that was found, or null.
-pub(crate) fn column(alloc: Global, found: Option<ColumnPlace>) -> Result<Box<Value>, OutOfMemory>
-    ensures { IfOk result (λ v. shown.value v.value ≡ spec.column_at found) }
+/// A number.
+pub(crate) fn number(alloc: Global, n: i64) -> Result<Box<Value>, OutOfMemory>
+    ensures { IfOk result (λ v. shown.value v.value ≡ tree.number n) }
 {
-    match found {
+    boxed(alloc, Value::Number(n))
+}
+
+/// NULL, of a type where it has one.
+pub(crate) fn null(alloc: Global, kind: Option<SqlType>) -> Result<Box<Value>, OutOfMemory>
+    ensures { IfOk result (λ v. shown.value v.value ≡ tree.null kind) }
+{
+    boxed(alloc, Value::Null(kind))
+}
+
+/// `COUNT(*)`.
+pub(crate) fn count_all(alloc: Global) -> Result<Box<Value>, OutOfMemory>
+    ensures { IfOk result (λ v. shown.value v.value ≡ tree.count_all) }
+{
+    boxed(alloc, Value::CountAll)
+}
+
+/// The column that a name stands for, or null.
+pub(crate) fn column(
+    alloc: Global,
+    name: &Column,
+    s: &Shapes<'_>,
+) -> Result<Box<Value>, OutOfMemory>
+    ensures { IfOk result (λ v. shown.value v.value ≡ spec.column_at (places.place_of name.now.range name.now.name (shapes s.now))) }
+{
+    match place_of(name, s)? {
         Some(p) => boxed(alloc, Value::Column(p.scope, p.place)),
         None => boxed(alloc, Value::Null(None)),
     }
 }
 
 /// A scalar subquery.
-pub(crate) fn scalar(alloc: Global, q: Box<Query>) -> Result<Box<Value>, OutOfMemory>
-    ensures { IfOk result (λ v. shown.value v.value ≡ tree.scalar (shown.query q.value)) }
+pub(crate) fn scalar(
+    alloc: Global,
+    q: Result<Box<ResolvedQuery>, OutOfMemory>,
+) -> Result<Box<Value>, OutOfMemory>
+    ensures { (a : tree.Query) → IfOk q (λ v. shown.query v.value.query.value ≡ a) → IfOk result (λ v. shown.value v.value ≡ tree.scalar a) }
 {
-    boxed(alloc, Value::Scalar(q))
+    boxed(alloc, Value::Scalar(query_of(q)?))
 }
 
 /// Whether DISTINCT is written.
@@ -54,22 +88,23 @@ pub(crate) fn aggregate(
     alloc: Global,
     function: SetFunction,
     quantifier: Option<SetQuantifier>,
-    x: Box<Value>,
+    x: Result<Box<Value>, OutOfMemory>,
 ) -> Result<Box<Value>, OutOfMemory>
-    ensures { IfOk result (λ v. shown.value v.value ≡ tree.aggregate function (is_distinct quantifier) (shown.value x.value)) }
+    ensures { (a : tree.Value) → IfOk x (λ v. shown.value v.value ≡ a) → IfOk result (λ v. shown.value v.value ≡ tree.aggregate function (is_distinct quantifier) a) }
 {
-    boxed(alloc, Value::Aggregate(function, distinct(quantifier), x))
+    boxed(alloc, Value::Aggregate(function, distinct(quantifier), x?))
 }
 
 /// `CASE` with conditions.
 #[tactic(auto, using(sql_meaning::specs::ResolvedShown::lists))]
 pub(crate) fn searched(
     alloc: Global,
-    list: Items<Arm>,
-    last: Box<Value>,
+    list: Result<Items<Arm>, OutOfMemory>,
+    last: Result<Box<Value>, OutOfMemory>,
 ) -> Result<Box<Value>, OutOfMemory>
-    ensures { IfOk result (λ v. shown.value v.value ≡ tree.searched (shown.arm_list list) (shown.value last.value)) }
+    ensures { (a : tree.Arms) (b : tree.Value) → IfOk list (λ v. shown.arm_list v ≡ a) → IfOk last (λ v. shown.value v.value ≡ b) → IfOk result (λ v. shown.value v.value ≡ tree.searched a b) }
 {
+    let (list, last) = pair(list, last)?;
     boxed(alloc, Value::Searched(list, last))
 }
 
@@ -77,12 +112,13 @@ pub(crate) fn searched(
 #[tactic(auto, using(sql_meaning::specs::ResolvedShown::lists))]
 pub(crate) fn simple(
     alloc: Global,
-    x: Box<Value>,
-    list: Items<Choice>,
-    last: Box<Value>,
+    x: Result<Box<Value>, OutOfMemory>,
+    list: Result<Items<Choice>, OutOfMemory>,
+    last: Result<Box<Value>, OutOfMemory>,
 ) -> Result<Box<Value>, OutOfMemory>
-    ensures { IfOk result (λ v. shown.value v.value ≡ tree.simple (shown.value x.value) (shown.choice_list list) (shown.value last.value)) }
+    ensures { (a : tree.Value) (b : tree.Choices) (c : tree.Value) → IfOk x (λ v. shown.value v.value ≡ a) → IfOk list (λ v. shown.choice_list v ≡ b) → IfOk last (λ v. shown.value v.value ≡ c) → IfOk result (λ v. shown.value v.value ≡ tree.simple a b c) }
 {
+    let (x, (list, last)) = pair(x, pair(list, last))?;
     boxed(alloc, Value::Simple(x, list, last))
 }
 
@@ -90,128 +126,137 @@ pub(crate) fn simple(
 #[tactic(auto, using(sql_meaning::specs::ResolvedShown::lists))]
 pub(crate) fn coalesce(
     alloc: Global,
-    x: Box<Value>,
-    list: Items<Value>,
+    x: Result<Box<Value>, OutOfMemory>,
+    list: Result<Items<Value>, OutOfMemory>,
 ) -> Result<Box<Value>, OutOfMemory>
-    ensures { IfOk result (λ v. shown.value v.value ≡ tree.coalesce (shown.value x.value) (shown.value_list list)) }
+    ensures { (a : tree.Value) (b : tree.Values) → IfOk x (λ v. shown.value v.value ≡ a) → IfOk list (λ v. shown.value_list v ≡ b) → IfOk result (λ v. shown.value v.value ≡ tree.coalesce a b) }
 {
+    let (x, list) = pair(x, list)?;
     boxed(alloc, Value::Coalesce(x, list))
 }
 
 /// `NULLIF(x, y)`.
 pub(crate) fn null_if(
     alloc: Global,
-    x: Box<Value>,
-    y: Box<Value>,
+    x: Result<Box<Value>, OutOfMemory>,
+    y: Result<Box<Value>, OutOfMemory>,
 ) -> Result<Box<Value>, OutOfMemory>
-    ensures { IfOk result (λ v. shown.value v.value ≡ tree.null_if (shown.value x.value) (shown.value y.value)) }
+    ensures { (a b : tree.Value) → IfOk x (λ v. shown.value v.value ≡ a) → IfOk y (λ v. shown.value v.value ≡ b) → IfOk result (λ v. shown.value v.value ≡ tree.null_if a b) }
 {
+    let (x, y) = pair(x, y)?;
     boxed(alloc, Value::NullIf(x, y))
 }
 
 /// NOT of a condition.
-pub(crate) fn negated(alloc: Global, p: Box<Test>) -> Result<Box<Test>, OutOfMemory>
-    ensures { IfOk result (λ t. shown.test t.value ≡ tree.negated (shown.test p.value)) }
+pub(crate) fn negated(
+    alloc: Global,
+    p: Result<Box<Test>, OutOfMemory>,
+) -> Result<Box<Test>, OutOfMemory>
+    ensures { (a : tree.Test) → IfOk p (λ v. shown.test v.value ≡ a) → IfOk result (λ v. shown.test v.value ≡ tree.negated a) }
 {
-    boxed(alloc, Test::Not(p))
+    boxed(alloc, Test::Not(p?))
 }
 
 /// A comparison.
 pub(crate) fn compare(
     alloc: Global,
-    x: Box<Value>,
+    x: Result<Box<Value>, OutOfMemory>,
     op: CmpOp,
-    y: Box<Value>,
+    y: Result<Box<Value>, OutOfMemory>,
 ) -> Result<Box<Test>, OutOfMemory>
-    ensures { IfOk result (λ t. shown.test t.value ≡ tree.compare (shown.value x.value) op (shown.value y.value)) }
+    ensures { (a b : tree.Value) → IfOk x (λ v. shown.value v.value ≡ a) → IfOk y (λ v. shown.value v.value ≡ b) → IfOk result (λ v. shown.test v.value ≡ tree.compare a op b) }
 {
+    let (x, y) = pair(x, y)?;
     boxed(alloc, Test::Compare(x, op, y))
 }
 
 /// A comparison with the rows of a subquery.
 pub(crate) fn quantified(
     alloc: Global,
-    x: Box<Value>,
+    x: Result<Box<Value>, OutOfMemory>,
     op: CmpOp,
     each: Quantifier,
-    q: Box<Query>,
+    q: Result<Box<ResolvedQuery>, OutOfMemory>,
 ) -> Result<Box<Test>, OutOfMemory>
-    ensures { IfOk result (λ t. shown.test t.value ≡ tree.quantified (shown.value x.value) op each (shown.query q.value)) }
+    ensures { (a : tree.Value) (b : tree.Query) → IfOk x (λ v. shown.value v.value ≡ a) → IfOk q (λ v. shown.query v.value.query.value ≡ b) → IfOk result (λ v. shown.test v.value ≡ tree.quantified a op each b) }
 {
+    let (x, q) = pair(x, query_of(q))?;
     boxed(alloc, Test::Quantified(x, op, each, q))
 }
 
 /// `x BETWEEN y AND z`, or its NOT.
 pub(crate) fn between(
     alloc: Global,
-    x: Box<Value>,
+    x: Result<Box<Value>, OutOfMemory>,
     negative: bool,
-    y: Box<Value>,
-    z: Box<Value>,
+    y: Result<Box<Value>, OutOfMemory>,
+    z: Result<Box<Value>, OutOfMemory>,
 ) -> Result<Box<Test>, OutOfMemory>
-    ensures { IfOk result (λ t. shown.test t.value ≡ spec.perhaps_not negative (tree.between (shown.value x.value) (shown.value y.value) (shown.value z.value))) }
+    ensures { (a b c : tree.Value) → IfOk x (λ v. shown.value v.value ≡ a) → IfOk y (λ v. shown.value v.value ≡ b) → IfOk z (λ v. shown.value v.value ≡ c) → IfOk result (λ v. shown.test v.value ≡ spec.perhaps_not negative (tree.between a b c)) }
 {
-    let p = boxed(alloc, Test::Between(x, y, z))?;
-    perhaps_not(alloc, negative, p)
+    let (x, (y, z)) = pair(x, pair(y, z))?;
+    perhaps_not(alloc, negative, boxed(alloc, Test::Between(x, y, z)))
 }
 
 /// `x IN (..)`, or its NOT.
 #[tactic(auto, using(sql_meaning::specs::ResolvedShown::lists))]
 pub(crate) fn among(
     alloc: Global,
-    x: Box<Value>,
+    x: Result<Box<Value>, OutOfMemory>,
     negative: bool,
-    list: Items<Value>,
+    list: Result<Items<Value>, OutOfMemory>,
 ) -> Result<Box<Test>, OutOfMemory>
-    ensures { IfOk result (λ t. shown.test t.value ≡ spec.perhaps_not negative (tree.among (shown.value x.value) (shown.value_list list))) }
+    ensures { (a : tree.Value) (b : tree.Values) → IfOk x (λ v. shown.value v.value ≡ a) → IfOk list (λ v. shown.value_list v ≡ b) → IfOk result (λ v. shown.test v.value ≡ spec.perhaps_not negative (tree.among a b)) }
 {
-    let p = boxed(alloc, Test::Among(x, list))?;
-    perhaps_not(alloc, negative, p)
+    let (x, list) = pair(x, list)?;
+    perhaps_not(alloc, negative, boxed(alloc, Test::Among(x, list)))
 }
 
 /// `x IN` a subquery, or its NOT.
 pub(crate) fn among_rows(
     alloc: Global,
-    x: Box<Value>,
+    x: Result<Box<Value>, OutOfMemory>,
     negative: bool,
-    q: Box<Query>,
+    q: Result<Box<ResolvedQuery>, OutOfMemory>,
 ) -> Result<Box<Test>, OutOfMemory>
-    ensures { IfOk result (λ t. shown.test t.value ≡ spec.perhaps_not negative (tree.among_rows (shown.value x.value) (shown.query q.value))) }
+    ensures { (a : tree.Value) (b : tree.Query) → IfOk x (λ v. shown.value v.value ≡ a) → IfOk q (λ v. shown.query v.value.query.value ≡ b) → IfOk result (λ v. shown.test v.value ≡ spec.perhaps_not negative (tree.among_rows a b)) }
 {
-    let p = boxed(alloc, Test::AmongRows(x, q))?;
-    perhaps_not(alloc, negative, p)
+    let (x, q) = pair(x, query_of(q))?;
+    perhaps_not(alloc, negative, boxed(alloc, Test::AmongRows(x, q)))
 }
 
 /// `x LIKE y`, or its NOT.
 pub(crate) fn like(
     alloc: Global,
-    x: Box<Value>,
+    x: Result<Box<Value>, OutOfMemory>,
     negative: bool,
-    y: Box<Value>,
+    y: Result<Box<Value>, OutOfMemory>,
 ) -> Result<Box<Test>, OutOfMemory>
-    ensures { IfOk result (λ t. shown.test t.value ≡ spec.perhaps_not negative (tree.like (shown.value x.value) (shown.value y.value))) }
+    ensures { (a b : tree.Value) → IfOk x (λ v. shown.value v.value ≡ a) → IfOk y (λ v. shown.value v.value ≡ b) → IfOk result (λ v. shown.test v.value ≡ spec.perhaps_not negative (tree.like a b)) }
 {
-    let p = boxed(alloc, Test::Like(x, y))?;
-    perhaps_not(alloc, negative, p)
+    let (x, y) = pair(x, y)?;
+    perhaps_not(alloc, negative, boxed(alloc, Test::Like(x, y)))
 }
 
 /// `x IS NULL`, or its NOT.
 pub(crate) fn is_null(
     alloc: Global,
-    x: Box<Value>,
+    x: Result<Box<Value>, OutOfMemory>,
     negative: bool,
 ) -> Result<Box<Test>, OutOfMemory>
-    ensures { IfOk result (λ t. shown.test t.value ≡ spec.perhaps_not negative (tree.is_null (shown.value x.value))) }
+    ensures { (a : tree.Value) → IfOk x (λ v. shown.value v.value ≡ a) → IfOk result (λ v. shown.test v.value ≡ spec.perhaps_not negative (tree.is_null a)) }
 {
-    let p = boxed(alloc, Test::IsNull(x))?;
-    perhaps_not(alloc, negative, p)
+    perhaps_not(alloc, negative, boxed(alloc, Test::IsNull(x?)))
 }
 
 /// `EXISTS` a subquery.
-pub(crate) fn exists(alloc: Global, q: Box<Query>) -> Result<Box<Test>, OutOfMemory>
-    ensures { IfOk result (λ t. shown.test t.value ≡ tree.exists (shown.query q.value)) }
+pub(crate) fn exists(
+    alloc: Global,
+    q: Result<Box<ResolvedQuery>, OutOfMemory>,
+) -> Result<Box<Test>, OutOfMemory>
+    ensures { (a : tree.Query) → IfOk q (λ v. shown.query v.value.query.value ≡ a) → IfOk result (λ v. shown.test v.value ≡ tree.exists a) }
 {
-    boxed(alloc, Test::Exists(q))
+    boxed(alloc, Test::Exists(query_of(q)?))
 }
 
 /// No condition.
@@ -224,21 +269,25 @@ pub(crate) fn no_test(alloc: Global) -> Result<Box<Test>, OutOfMemory>
 
 /// Adds a value at the end.
 #[tactic(auto, using(crate::proofs::Ontos::values_more))]
-pub(crate) fn push_value(list: &mut Items<Value>, x: Box<Value>) -> Result<(), OutOfMemory>
-    ensures { OnOk result ((rest : tree.Values) → values_onto list.new rest ≡ values_onto list.old (tree.one_value (shown.value x.value) rest)) }
+pub(crate) fn push_value(
+    list: &mut Items<Value>,
+    x: Result<Box<Value>, OutOfMemory>,
+) -> Result<(), OutOfMemory>
+    ensures { (a : tree.Value) → IfOk x (λ v. shown.value v.value ≡ a) → OnOk result ((rest : tree.Values) → values_onto list.new rest ≡ values_onto list.old (tree.one_value a rest)) }
 {
-    push(list, Box::into_inner(x))
+    push(list, Box::into_inner(x?))
 }
 
 /// Adds a condition with its result at the end.
 #[tactic(auto, using(crate::proofs::Ontos::arms_more))]
 pub(crate) fn push_arm(
     list: &mut Items<Arm>,
-    when: Box<Test>,
-    then: Box<Value>,
+    when: Result<Box<Test>, OutOfMemory>,
+    then: Result<Box<Value>, OutOfMemory>,
 ) -> Result<(), OutOfMemory>
-    ensures { OnOk result ((rest : tree.Arms) → arms_onto list.new rest ≡ arms_onto list.old (tree.one_arm (shown.test when.value) (shown.value then.value) rest)) }
+    ensures { (a : tree.Test) (b : tree.Value) → IfOk when (λ v. shown.test v.value ≡ a) → IfOk then (λ v. shown.value v.value ≡ b) → OnOk result ((rest : tree.Arms) → arms_onto list.new rest ≡ arms_onto list.old (tree.one_arm a b rest)) }
 {
+    let (when, then) = pair(when, then)?;
     let arm = Arm {
         when: Box::into_inner(when),
         then: Box::into_inner(then),
@@ -250,11 +299,12 @@ pub(crate) fn push_arm(
 #[tactic(auto, using(crate::proofs::Ontos::choices_more))]
 pub(crate) fn push_choice(
     list: &mut Items<Choice>,
-    when: Box<Value>,
-    then: Box<Value>,
+    when: Result<Box<Value>, OutOfMemory>,
+    then: Result<Box<Value>, OutOfMemory>,
 ) -> Result<(), OutOfMemory>
-    ensures { OnOk result ((rest : tree.Choices) → choices_onto list.new rest ≡ choices_onto list.old (tree.one_choice (shown.value when.value) (shown.value then.value) rest)) }
+    ensures { (a b : tree.Value) → IfOk when (λ v. shown.value v.value ≡ a) → IfOk then (λ v. shown.value v.value ≡ b) → OnOk result ((rest : tree.Choices) → choices_onto list.new rest ≡ choices_onto list.old (tree.one_choice a b rest)) }
 {
+    let (when, then) = pair(when, then)?;
     let choice = Choice {
         when: Box::into_inner(when),
         then: Box::into_inner(then),

@@ -5,7 +5,7 @@ ghost use Rattle.sql_meaning.specs.ResolvedTrees as tree;
 ghost use Rattle.name_resolution.specs.Forms as forms;
 ghost use Rattle.name_resolution.specs.Resolved as spec;
 
-use crate::boxes::{boxed, one, push, two};
+use crate::boxes::{boxed, one, pair, push, two};
 use shared_types::OutOfMemory;
 use sql_ast::{AdditiveOp, DataType, MultiplicativeOp, Sign};
 use sql_meaning::{Addend, Multiplier, Test, Value};
@@ -96,12 +96,13 @@ fn first_sum(
 /// `left + right`, `left - right` or `left || right`.
 pub(crate) fn sum(
     alloc: Global,
-    left: Box<Value>,
+    left: Result<Box<Value>, OutOfMemory>,
     op: AdditiveOp,
-    right: Box<Value>,
+    right: Result<Box<Value>, OutOfMemory>,
 ) -> Result<Box<Value>, OutOfMemory>
-    ensures { IfOk result (λ v. shown.value v.value ≡ spec.plus (shown.value left.value) op (shown.value right.value)) }
+    ensures { (a b : tree.Value) → IfOk left (λ v. shown.value v.value ≡ a) → IfOk right (λ v. shown.value v.value ≡ b) → IfOk result (λ v. shown.value v.value ≡ spec.plus a op b) }
 {
+    let (left, right) = pair(left, right)?;
     if sums(&left) {
         longer_sum(alloc, left, op, right)
     } else {
@@ -192,12 +193,13 @@ fn first_product(
 /// `left * right` or `left / right`.
 pub(crate) fn product(
     alloc: Global,
-    left: Box<Value>,
+    left: Result<Box<Value>, OutOfMemory>,
     op: MultiplicativeOp,
-    right: Box<Value>,
+    right: Result<Box<Value>, OutOfMemory>,
 ) -> Result<Box<Value>, OutOfMemory>
-    ensures { IfOk result (λ v. shown.value v.value ≡ spec.times (shown.value left.value) op (shown.value right.value)) }
+    ensures { (a b : tree.Value) → IfOk left (λ v. shown.value v.value ≡ a) → IfOk right (λ v. shown.value v.value ≡ b) → IfOk result (λ v. shown.value v.value ≡ spec.times a op b) }
 {
+    let (left, right) = pair(left, right)?;
     if multiplies(&left) {
         longer_product(alloc, left, op, right)
     } else {
@@ -258,11 +260,12 @@ fn first_both(alloc: Global, left: Box<Test>, right: Box<Test>) -> Result<Box<Te
 /// `left AND right`.
 pub(crate) fn both(
     alloc: Global,
-    left: Box<Test>,
-    right: Box<Test>,
+    left: Result<Box<Test>, OutOfMemory>,
+    right: Result<Box<Test>, OutOfMemory>,
 ) -> Result<Box<Test>, OutOfMemory>
-    ensures { IfOk result (λ p. shown.test p.value ≡ spec.both (shown.test left.value) (shown.test right.value)) }
+    ensures { (a b : tree.Test) → IfOk left (λ v. shown.test v.value ≡ a) → IfOk right (λ v. shown.test v.value ≡ b) → IfOk result (λ v. shown.test v.value ≡ spec.both a b) }
 {
+    let (left, right) = pair(left, right)?;
     if wants_all(&left) {
         longer_both(left, right)
     } else {
@@ -315,11 +318,12 @@ fn first_either(alloc: Global, left: Box<Test>, right: Box<Test>) -> Result<Box<
 /// `left OR right`.
 pub(crate) fn either(
     alloc: Global,
-    left: Box<Test>,
-    right: Box<Test>,
+    left: Result<Box<Test>, OutOfMemory>,
+    right: Result<Box<Test>, OutOfMemory>,
 ) -> Result<Box<Test>, OutOfMemory>
-    ensures { IfOk result (λ p. shown.test p.value ≡ spec.either (shown.test left.value) (shown.test right.value)) }
+    ensures { (a b : tree.Test) → IfOk left (λ v. shown.test v.value ≡ a) → IfOk right (λ v. shown.test v.value ≡ b) → IfOk result (λ v. shown.test v.value ≡ spec.either a b) }
 {
+    let (left, right) = pair(left, right)?;
     if wants_any(&left) {
         longer_either(left, right)
     } else {
@@ -328,12 +332,16 @@ pub(crate) fn either(
 }
 
 /// `+ x` or `- x`.
-pub(crate) fn signed(alloc: Global, sign: Sign, x: Box<Value>) -> Result<Box<Value>, OutOfMemory>
-    ensures { IfOk result (λ v. shown.value v.value ≡ spec.signed sign (shown.value x.value)) }
+pub(crate) fn signed(
+    alloc: Global,
+    sign: Sign,
+    x: Result<Box<Value>, OutOfMemory>,
+) -> Result<Box<Value>, OutOfMemory>
+    ensures { (a : tree.Value) → IfOk x (λ v. shown.value v.value ≡ a) → IfOk result (λ v. shown.value v.value ≡ spec.signed sign a) }
 {
     match sign {
-        Sign::Plus => Ok(x),
-        Sign::Minus => boxed(alloc, Value::Negative(x)),
+        Sign::Plus => x,
+        Sign::Minus => boxed(alloc, Value::Negative(x?)),
     }
 }
 
@@ -341,14 +349,14 @@ pub(crate) fn signed(alloc: Global, sign: Sign, x: Box<Value>) -> Result<Box<Val
 pub(crate) fn perhaps_not(
     alloc: Global,
     negative: bool,
-    p: Box<Test>,
+    p: Result<Box<Test>, OutOfMemory>,
 ) -> Result<Box<Test>, OutOfMemory>
-    ensures { IfOk result (λ q. shown.test q.value ≡ spec.perhaps_not negative (shown.test p.value)) }
+    ensures { (a : tree.Test) → IfOk p (λ v. shown.test v.value ≡ a) → IfOk result (λ v. shown.test v.value ≡ spec.perhaps_not negative a) }
 {
     if negative {
-        boxed(alloc, Test::Not(p))
+        boxed(alloc, Test::Not(p?))
     } else {
-        Ok(p)
+        p
     }
 }
 

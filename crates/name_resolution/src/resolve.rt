@@ -1,28 +1,26 @@
 // Queries with their names resolved: each part in the ranges of the blocks that enclose it.
-ghost use Rattle.std.specs.Prelude.{◌≡◌, ◌∷◌, ◌++◌, [], true, false, IfOk, OnOk};
+ghost use Rattle.std.specs.Prelude.{◌≡◌, ◌∷◌, ◌++◌, [], ℕ, true, false, IfOk, OnOk};
 ghost use Rattle.sql_meaning.specs.Even.{innermost};
 ghost use Rattle.sql_meaning.specs.Names as named;
 ghost use Rattle.sql_meaning.specs.ResolvedShown as shown;
 ghost use Rattle.sql_meaning.specs.ResolvedTrees as tree;
+ghost use Rattle.sql_meaning.specs.Scopes.{Shape};
 ghost use Rattle.sql_ast.specs.Shown as written;
 ghost use Rattle.name_resolution.specs.Forms.{is_conjunction, is_disjunction, is_product, is_sum};
 ghost use Rattle.name_resolution.specs.Onto.{values_onto};
-ghost use Rattle.name_resolution.specs.Places.{width};
 ghost use Rattle.name_resolution.specs.Resolved as spec;
 ghost use Rattle.name_resolution.specs.Resolved.{bare};
 ghost use Rattle.name_resolution.specs.Shapes.{block_of, columns_of, on_of, shapes};
 
-use crate::boxes::boxed;
 use crate::build as made;
 use crate::chain::{both, either, product, signed, sum, type_of};
 use crate::names::list_names;
-use crate::place::place_of;
 use crate::queries::{ResolvedQuery, combine, grouped, intersect, resolved, ungrouped};
 use crate::scope::{Setting, Shapes};
 use crate::stars::{push_innermost, push_range_columns};
 use crate::tables::{
-    ResolvedFrom, ResolvedJoin, ResolvedTable, cross_join, derived_table, inner_join, left_join,
-    named_table, no_tables, paired, push_table,
+    ResolvedFrom, ResolvedJoin, ResolvedPair, ResolvedTable, cross_join, derived_table, inner_join,
+    left_join, named_table, no_tables, paired, push_table, with_condition,
 };
 use shared_types::OutOfMemory;
 use sql_ast as ast;
@@ -41,12 +39,12 @@ pub(crate) fn value(
 {
     match x {
         ast::Expr::Add(a, op, b) => {
-            let a = value(setting, a, s)?;
-            sum(setting.alloc, a, *op, value(setting, b, s)?)
+            let a = value(setting, a, s);
+            sum(setting.alloc, a, *op, value(setting, b, s))
         }
         ast::Expr::Multiply(a, op, b) => {
-            let a = value(setting, a, s)?;
-            product(setting.alloc, a, *op, value(setting, b, s)?)
+            let a = value(setting, a, s);
+            product(setting.alloc, a, *op, value(setting, b, s))
         }
         ast::Expr::Signed(_, _)
         | ast::Expr::Number(_)
@@ -74,35 +72,34 @@ fn operand(setting: &Setting<'_>, x: &ast::Expr, s: &Shapes<'_>) -> Result<Box<V
 {
     let alloc = setting.alloc;
     match x {
-        ast::Expr::Signed(sign, a) => signed(alloc, *sign, value(setting, a, s)?),
-        ast::Expr::Number(n) => boxed(alloc, Value::Number(*n)),
+        ast::Expr::Signed(sign, a) => signed(alloc, *sign, value(setting, a, s)),
+        ast::Expr::Number(n) => made::number(alloc, *n),
         ast::Expr::Str(x) => made::text(alloc, x),
-        ast::Expr::Column(c) => made::column(alloc, place_of(c, s)?),
+        ast::Expr::Column(c) => made::column(alloc, c, s),
         ast::Expr::Paren(a) => value(setting, a, s),
-        ast::Expr::Scalar(q) => made::scalar(alloc, subquery(setting, q, s)?),
-        ast::Expr::CountAll => boxed(alloc, Value::CountAll),
+        ast::Expr::Scalar(q) => made::scalar(alloc, query(setting, q, s)),
+        ast::Expr::CountAll => made::count_all(alloc),
         ast::Expr::Aggregate(function, each, a) => {
-            let a = argument(setting, a, s)?;
-            made::aggregate(alloc, *function, *each, a)
+            made::aggregate(alloc, *function, *each, argument(setting, a, s))
         }
         ast::Expr::Searched(list, last) => {
-            let list = arms(setting, list.as_slice(), s)?;
-            made::searched(alloc, list, otherwise(setting, last, s)?)
+            let list = arms(setting, list.as_slice(), s);
+            made::searched(alloc, list, otherwise(setting, last, s))
         }
         ast::Expr::Simple(a, list, last) => {
-            let a = value(setting, a, s)?;
-            let list = choices(setting, list.as_slice(), s)?;
-            made::simple(alloc, a, list, otherwise(setting, last, s)?)
+            let a = value(setting, a, s);
+            let list = choices(setting, list.as_slice(), s);
+            made::simple(alloc, a, list, otherwise(setting, last, s))
         }
         ast::Expr::Coalesce(a, list) => {
-            let a = value(setting, a, s)?;
-            made::coalesce(alloc, a, values(setting, list.as_slice(), s)?)
+            let a = value(setting, a, s);
+            made::coalesce(alloc, a, values(setting, list.as_slice(), s))
         }
         ast::Expr::NullIf(a, b) => {
-            let a = value(setting, a, s)?;
-            made::null_if(alloc, a, value(setting, b, s)?)
+            let a = value(setting, a, s);
+            made::null_if(alloc, a, value(setting, b, s))
         }
-        ast::Expr::CastNull(to) => boxed(alloc, Value::Null(Some(type_of(to)))),
+        ast::Expr::CastNull(to) => made::null(alloc, Some(type_of(to))),
         ast::Expr::Add(_, _, _) | ast::Expr::Multiply(_, _, _) => unreachable!(),
     }
 }
@@ -135,7 +132,7 @@ fn values(
 {
     let mut out = Items::new(setting.alloc);
     for x in list {
-        made::push_value(&mut out, value(setting, x, s)?)?;
+        made::push_value(&mut out, value(setting, x, s))?;
     }
     Ok(out)
 }
@@ -147,7 +144,7 @@ fn outcome(setting: &Setting<'_>, res: &ast::Res, s: &Shapes<'_>) -> Result<Box<
 {
     match res {
         ast::Res::Value(x) => value(setting, x, s),
-        ast::Res::Null => boxed(setting.alloc, Value::Null(None)),
+        ast::Res::Null => made::null(setting.alloc, None),
     }
 }
 
@@ -161,7 +158,7 @@ fn otherwise(
     ensures { IfOk result (λ v. shown.value v.value ≡ spec.otherwise (columns_of setting.now) (shapes s.now) (written.otherwise other.now)) }
 {
     match other {
-        ast::Otherwise::Absent => boxed(setting.alloc, Value::Null(None)),
+        ast::Otherwise::Absent => made::null(setting.alloc, None),
         ast::Otherwise::Else(res) => outcome(setting, res, s),
     }
 }
@@ -174,9 +171,8 @@ fn arms(setting: &Setting<'_>, list: &[ast::Arm], s: &Shapes<'_>) -> Result<Item
 {
     let mut out = Items::new(setting.alloc);
     for arm in list {
-        let when = test(setting, &arm.when, s)?;
-        let then = outcome(setting, &arm.then, s)?;
-        made::push_arm(&mut out, when, then)?;
+        let when = test(setting, &arm.when, s);
+        made::push_arm(&mut out, when, outcome(setting, &arm.then, s))?;
     }
     Ok(out)
 }
@@ -193,9 +189,8 @@ fn choices(
 {
     let mut out = Items::new(setting.alloc);
     for choice in list {
-        let when = value(setting, &choice.when, s)?;
-        let then = outcome(setting, &choice.then, s)?;
-        made::push_choice(&mut out, when, then)?;
+        let when = value(setting, &choice.when, s);
+        made::push_choice(&mut out, when, outcome(setting, &choice.then, s))?;
     }
     Ok(out)
 }
@@ -211,12 +206,12 @@ pub(crate) fn test(
 {
     match p {
         ast::Cond::Or(a, b) => {
-            let a = test(setting, a, s)?;
-            either(setting.alloc, a, test(setting, b, s)?)
+            let a = test(setting, a, s);
+            either(setting.alloc, a, test(setting, b, s))
         }
         ast::Cond::And(a, b) => {
-            let a = test(setting, a, s)?;
-            both(setting.alloc, a, test(setting, b, s)?)
+            let a = test(setting, a, s);
+            both(setting.alloc, a, test(setting, b, s))
         }
         ast::Cond::Not(_)
         | ast::Cond::Bracket(_)
@@ -241,35 +236,35 @@ fn conjunct(setting: &Setting<'_>, p: &ast::Cond, s: &Shapes<'_>) -> Result<Box<
 {
     let alloc = setting.alloc;
     match p {
-        ast::Cond::Not(a) => made::negated(alloc, test(setting, a, s)?),
+        ast::Cond::Not(a) => made::negated(alloc, test(setting, a, s)),
         ast::Cond::Bracket(a) => test(setting, a, s),
         ast::Cond::Compare(a, op, b) => {
-            let a = value(setting, a, s)?;
-            made::compare(alloc, a, *op, value(setting, b, s)?)
+            let a = value(setting, a, s);
+            made::compare(alloc, a, *op, value(setting, b, s))
         }
         ast::Cond::Quantified(a, op, each, q) => {
-            let a = value(setting, a, s)?;
-            made::quantified(alloc, a, *op, *each, subquery(setting, q, s)?)
+            let a = value(setting, a, s);
+            made::quantified(alloc, a, *op, *each, query(setting, q, s))
         }
         ast::Cond::Between(a, negative, b, c) => {
-            let a = value(setting, a, s)?;
-            let b = value(setting, b, s)?;
-            made::between(alloc, a, *negative, b, value(setting, c, s)?)
+            let a = value(setting, a, s);
+            let b = value(setting, b, s);
+            made::between(alloc, a, *negative, b, value(setting, c, s))
         }
         ast::Cond::InQuery(a, negative, q) => {
-            let a = value(setting, a, s)?;
-            made::among_rows(alloc, a, *negative, subquery(setting, q, s)?)
+            let a = value(setting, a, s);
+            made::among_rows(alloc, a, *negative, query(setting, q, s))
         }
         ast::Cond::InList(a, negative, list) => {
-            let a = value(setting, a, s)?;
-            made::among(alloc, a, *negative, values(setting, list.as_slice(), s)?)
+            let a = value(setting, a, s);
+            made::among(alloc, a, *negative, values(setting, list.as_slice(), s))
         }
         ast::Cond::Like(a, negative, b) => {
-            let a = value(setting, a, s)?;
-            made::like(alloc, a, *negative, value(setting, b, s)?)
+            let a = value(setting, a, s);
+            made::like(alloc, a, *negative, value(setting, b, s))
         }
-        ast::Cond::IsNull(a, negative) => made::is_null(alloc, value(setting, a, s)?, *negative),
-        ast::Cond::Exists(q) => made::exists(alloc, subquery(setting, q, s)?),
+        ast::Cond::IsNull(a, negative) => made::is_null(alloc, value(setting, a, s), *negative),
+        ast::Cond::Exists(q) => made::exists(alloc, query(setting, q, s)),
         ast::Cond::Or(_, _) | ast::Cond::And(_, _) => unreachable!(),
     }
 }
@@ -300,7 +295,7 @@ fn push_item(
     ensures { OnOk result ((rest : tree.Values) → values_onto out.new rest ≡ values_onto out.old (spec.append (spec.item (columns_of setting.now) (shapes s.now) (written.item item.now)) rest)) }
 {
     match item {
-        ast::Item::Value(x, _) => made::push_value(out, value(setting, x, s)?),
+        ast::Item::Value(x, _) => made::push_value(out, value(setting, x, s)),
         ast::Item::AllOf(name) => push_range_columns(name, s, out),
     }
 }
@@ -370,55 +365,42 @@ fn table(
     let alloc = setting.alloc;
     match x {
         ast::TableRef::Join(a, _, b, p) => {
-            let a = table(setting, a, s)?;
-            let b = table(setting, b, s)?;
-            inner_join(alloc, join(setting, a, b, p, s)?)
+            let a = table(setting, a, s);
+            let pair = paired(alloc, a, table(setting, b, s));
+            inner_join(alloc, join(setting, p, pair, s))
         }
         ast::TableRef::LeftJoin(a, _, b, p) => {
-            let a = table(setting, a, s)?;
-            let b = table(setting, b, s)?;
-            left_join(alloc, join(setting, a, b, p, s)?)
+            let a = table(setting, a, s);
+            let pair = paired(alloc, a, table(setting, b, s));
+            left_join(alloc, join(setting, p, pair, s))
         }
         ast::TableRef::CrossJoin(a, b) => {
-            let a = table(setting, a, s)?;
-            cross_join(alloc, a, table(setting, b, s)?)
+            let a = table(setting, a, s);
+            cross_join(alloc, a, table(setting, b, s))
         }
         ast::TableRef::Named(name, alias) => named_table(setting, name, alias),
-        ast::TableRef::Derived(q, alias) => derived_table(alloc, query(setting, q, s)?, alias),
+        ast::TableRef::Derived(q, alias) => derived_table(alloc, query(setting, q, s), alias),
         ast::TableRef::Joined(a) => table(setting, a, s),
     }
 }
 
-// A join of two tables by a condition, which sees the columns of both.
+// Two tables of a join with its condition, which sees the columns of both.
 #[cycle(resolve)]
 fn join(
     setting: &Setting<'_>,
-    left: Box<ResolvedTable>,
-    right: Box<ResolvedTable>,
     on: &ast::Cond,
+    pair: Result<Box<ResolvedPair>, OutOfMemory>,
     s: &Shapes<'_>,
 ) -> Result<ResolvedJoin, OutOfMemory>
-    ensures left { IfOk result (λ v. v.pair.value.left.value ≡ left.value.table.value) }
-    ensures right { IfOk result (λ v. v.pair.value.right.value ≡ right.value.table.value) }
-    ensures width { IfOk result (λ v. v.pair.value.width ≡ width right.value.scope) }
-    ensures scope { IfOk result (λ v. v.pair.value.scope ≡ left.value.scope ++ right.value.scope) }
-    ensures on { IfOk result (λ v. shown.test v.on.value ≡ on_of setting.now s.now left.value.scope right.value.scope on.now) }
+    ensures left { (a : tree.From) → IfOk pair (λ v. shown.from v.value.left.value ≡ a) → IfOk result (λ v. shown.from v.pair.value.left.value ≡ a) }
+    ensures right { (a : tree.From) → IfOk pair (λ v. shown.from v.value.right.value ≡ a) → IfOk result (λ v. shown.from v.pair.value.right.value ≡ a) }
+    ensures width { (n : ℕ) → IfOk pair (λ v. v.value.width ≡ n) → IfOk result (λ v. v.pair.value.width ≡ n) }
+    ensures scope { (a : Shape) → IfOk pair (λ v. v.value.scope ≡ a) → IfOk result (λ v. v.pair.value.scope ≡ a) }
+    ensures on { (a b : Shape) → IfOk pair (λ v. v.value.scope ≡ a ++ b) → IfOk result (λ v. shown.test v.on.value ≡ on_of setting.now s.now a b on.now) }
 {
-    let pair = paired(setting.alloc, left, right)?;
-    let on = test(setting, on, &Shapes::Inside(&pair.scope, &*s))?;
-    Ok(ResolvedJoin { pair, on })
-}
-
-// A subquery whose columns need no names.
-#[cycle(resolve)]
-fn subquery(
-    setting: &Setting<'_>,
-    q: &ast::Query,
-    s: &Shapes<'_>,
-) -> Result<Box<Query>, OutOfMemory>
-    ensures { IfOk result (λ v. shown.query v.value ≡ spec.query (columns_of setting.now) (shapes s.now) (written.query q.now)) }
-{
-    Ok(Box::into_inner(query(setting, q, s)?).query)
+    let pair = pair?;
+    let on = test(setting, on, &Shapes::Inside(&pair.scope, &*s));
+    with_condition(pair, on)
 }
 
 /// A query with its names resolved. It fails only for want of memory.
@@ -434,12 +416,12 @@ pub(crate) fn query(
 {
     match q {
         ast::Query::Combine(x, op, all, y) => {
-            let x = query(setting, x, s)?;
-            combine(setting.alloc, x, *op, *all, subquery(setting, y, s)?)
+            let x = query(setting, x, s);
+            combine(setting.alloc, x, *op, *all, query(setting, y, s))
         }
         ast::Query::Intersect(x, all, y) => {
-            let x = query(setting, x, s)?;
-            intersect(setting.alloc, x, *all, subquery(setting, y, s)?)
+            let x = query(setting, x, s);
+            intersect(setting.alloc, x, *all, query(setting, y, s))
         }
         ast::Query::Enclosed(x) => query(setting, x, s),
         ast::Query::Block(b) => block(setting, b, s),
@@ -457,9 +439,8 @@ fn block(
     ensures columns { IfOk result (λ v. v.value.columns ≡ named.names (bare (columns_of setting.now)) (block_of b.now) (shapes s.now)) }
 {
     let from = froms(setting, b.from.as_slice(), s)?;
-    let columns = list_names(setting.alloc, &b.list, &from.scope, s)?;
-    let query = block_over(setting, b, from, s)?;
-    resolved(setting.alloc, query, columns)
+    let columns = list_names(setting.alloc, &b.list, &from.scope, s);
+    resolved(setting.alloc, block_over(setting, b, from, s), columns)
 }
 
 // The list, WHERE, GROUP BY and HAVING of a block in the scope of its FROM, which is resolved.
@@ -476,10 +457,10 @@ fn block_over(
 {
     let alloc = setting.alloc;
     let inner = Shapes::Inside(&from.scope, &*s);
-    let list = select_list(setting, &b.list, &inner)?;
-    let by = filter(setting, &b.filter, &inner)?;
+    let list = select_list(setting, &b.list, &inner);
+    let by = filter(setting, &b.filter, &inner);
     if is_grouped(&b.list, b.grouping.as_slice(), &b.having) {
-        let having = filter(setting, &b.having, &inner)?;
+        let having = filter(setting, &b.having, &inner);
         grouped(alloc, b, list, from, by, having)
     } else {
         ungrouped(alloc, b.quantifier, list, from, by)

@@ -5,7 +5,7 @@ ghost use Rattle.name_resolution.specs.Places as spec;
 ghost use Rattle.name_resolution.specs.Ranges.{shape};
 ghost use Rattle.name_resolution.specs.Spans.{span};
 
-use crate::boxes::one;
+use crate::boxes::{one, pair};
 use crate::range::{Range, Ranges};
 use crate::span::Span;
 use shared_types::{OutOfMemory, Text};
@@ -13,6 +13,7 @@ use sql_meaning::ColumnIndex;
 use sqlite_items::Items;
 use std::alloc::Global;
 use std::marker::Model;
+use std::mem;
 
 /// The ranges of a FROM with an index of their columns. Contracts see it as the ranges.
 #[derive(Drop)]
@@ -56,6 +57,27 @@ fn add_columns(alloc: Global, index: &mut ColumnIndex, ranges: &[Range]) -> Resu
         index.append(alloc, range.columns.as_slice())?;
     }
     Ok(())
+}
+
+// An index with the columns of ranges added.
+fn longer_index(
+    alloc: Global,
+    mut index: ColumnIndex,
+    ranges: &[Range],
+) -> Result<ColumnIndex, OutOfMemory>
+    ensures { IfOk result (λ longer. (before : List (Option (List ℕ))) → Indexes before index → Indexes (before ++ spec.names_in (shape ranges.now)) longer) }
+{
+    add_columns(alloc, &mut index, ranges)?;
+    Ok(index)
+}
+
+// Ranges with those of a scope at their right.
+fn with_ranges(mut left: Ranges, right: Scope) -> Result<Ranges, OutOfMemory>
+    ensures { IfOk result (λ ranges. shape ranges ≡ shape left ++ right) }
+{
+    let Scope { ranges, columns: _ } = right;
+    left.append(ranges)?;
+    Ok(left)
 }
 
 // The columns of the first of these ranges that has a name.
@@ -107,15 +129,29 @@ impl Scope {
         ensures { IfOk result (λ scope. scope ≡ self ++ right) }
     {
         if self.ranges.is_empty() {
-            return Ok(right);
+            Ok(right)
+        } else {
+            self.and_right(alloc, right)
         }
-        let Scope {
-            mut ranges,
-            mut columns,
-        } = self;
-        add_columns(alloc, &mut columns, right.ranges.as_slice())?;
-        ranges.append(right.ranges)?;
+    }
+
+    // The same, also where this scope has no ranges.
+    fn and_right(self, alloc: Global, right: Scope) -> Result<Scope, OutOfMemory>
+        ensures { IfOk result (λ scope. scope ≡ self ++ right) }
+    {
+        let Scope { ranges, columns } = self;
+        let columns = longer_index(alloc, columns, right.ranges());
+        let (ranges, columns) = pair(with_ranges(ranges, right), columns)?;
         Ok(Scope { ranges, columns })
+    }
+
+    /// Adds the ranges of another at the right. The error is want of memory.
+    pub(crate) fn append(&mut self, alloc: Global, right: Scope) -> Result<(), OutOfMemory>
+        ensures { OnOk result (self.new ≡ self.old ++ right) }
+    {
+        let left = mem::replace(self, Scope::new(alloc));
+        *self = left.join(alloc, right)?;
+        Ok(())
     }
 
     /// The ranges.

@@ -5,8 +5,10 @@ use Rattle.sql_ast.specs.declared.tree.Choice.{Choice}
 use Rattle.sql_ast.specs.declared.tree.Expr.{Expr}
 use Rattle.sql_ast.specs.declared.tree.TableRef.{TableRef}
 use Rattle.sql_ast.specs.Shown as written
+use Rattle.sql_meaning.specs.Names as named
 use Rattle.name_resolution.specs.Onto.{arms_onto, choices_onto, froms_onto, values_onto}
 use Rattle.name_resolution.specs.Resolved as spec
+use Rattle.name_resolution.specs.Resolved.{bare}
 use Rattle.name_resolution.specs.Shapes.{columns_of, shapes}
 use Rattle.name_resolution.proofs.Ontos.{arms_whole, choices_whole, froms_whole, item_pushed, values_whole}
 use Rattle.name_resolution.proofs.resolve.+resolve.Goals as goal
@@ -39,14 +41,41 @@ pub push_items-loop-item-preserved : goal.push_items-loop-item-preserved
 push_items-loop-item-preserved t c =
     item_pushed (columns_of c.args.setting.now) (shapes c.args.s.now) c.args.items.now c.loop-item.item-index c.item-item.result c.loop-item.out c.push_item.new.out c.args.out.now c.loop-item-test.true c.item-item.is c.in_ok-push_item.ensures c.loop-item.invariant
 
-pub conjunct-returns-in_ok-values-in-InList : goal.conjunct-returns-in_ok-values-in-InList
-conjunct-returns-in_ok-values-in-InList t c =
-    rw (c.in-InList.is, written.exprs_hidden c.in-InList.list, ← c.as_slice.ensures, ← c.deref-in-InList.ensures, ← c.in_ok-a-in-InList.ensures, ← c.in_ok-values-in-InList.ensures) c.among.ensures
+pub push_item-returns-in-Value : goal.push_item-returns-in-Value
+push_item-returns-in-Value t c =
+    rw (c.in-Value.is, ← c.deref.ensures) (c.push_value.ensures _ c.value.ensures)
 
-pub operand-returns-in_ok-otherwise-in-Simple : goal.operand-returns-in_ok-otherwise-in-Simple
-operand-returns-in_ok-otherwise-in-Simple t c =
-    rw (c.in-Simple.is, written.choices_hidden c.in-Simple.list, ← c.as_slice-in-Simple.ensures, ← c.deref-in-Simple.ensures, ← c.in_ok-a-in-Simple.ensures, ← c.in_ok-list-in-Simple.ensures, ← c.in_ok-otherwise-in-Simple.ensures) c.simple.ensures
+pub conjunct-returns-in-InList : goal.conjunct-returns-in-InList
+conjunct-returns-in-InList t c =
+    rw (c.in-InList.is, written.exprs_hidden c.in-InList.list, ← c.as_slice.ensures, ← c.deref-in-InList.ensures) (c.among.ensures _ _ c.value-a-in-InList.ensures c.values.ensures)
 
-pub operand-returns-in_ok-values-in-Coalesce : goal.operand-returns-in_ok-values-in-Coalesce
-operand-returns-in_ok-values-in-Coalesce t c =
-    rw (c.in-Coalesce.is, written.exprs_hidden c.in-Coalesce.list, ← c.as_slice-in-Coalesce.ensures, ← c.deref-in-Coalesce.ensures, ← c.in_ok-a-in-Coalesce.ensures, ← c.in_ok-values-in-Coalesce.ensures) c.coalesce.ensures
+pub operand-returns-in-Simple : goal.operand-returns-in-Simple
+operand-returns-in-Simple t c =
+    rw (c.in-Simple.is, written.choices_hidden c.in-Simple.list, ← c.as_slice-in-Simple.ensures, ← c.deref-in-Simple.ensures) (c.simple.ensures _ _ _ c.value-a.ensures c.choices-list.ensures c.otherwise-in-Simple.ensures)
+
+pub operand-returns-in-Coalesce : goal.operand-returns-in-Coalesce
+operand-returns-in-Coalesce t c =
+    rw (c.in-Coalesce.is, written.exprs_hidden c.in-Coalesce.list, ← c.as_slice-in-Coalesce.ensures, ← c.deref-in-Coalesce.ensures) (c.coalesce.ensures _ _ c.value-a-in-Coalesce.ensures c.values.ensures)
+
+pub table-returns-in-Join-clause-table : goal.table-returns-in-Join-clause-table
+table-returns-in-Join-clause-table t c =
+    rw (c.in-Join.is, ← c.deref.ensures, ← c.deref-in-Join.ensures, ← c.deref-in-Join-2.ensures) (c.inner_join.ensures.table _ _ _
+    (c.join.ensures.left _ (c.paired-pair.ensures.left _ c.table-a.ensures.table))
+    (c.join.ensures.right _ (c.paired-pair.ensures.right _ c.table.ensures.table))
+    (c.join.ensures.on (named.table_shape (bare (columns_of c.args.setting.now)) (written.table c.deref.result.now) (shapes c.args.s.now)) (named.table_shape (bare (columns_of c.args.setting.now)) (written.table c.deref-in-Join.result.now) (shapes c.args.s.now)) (c.paired-pair.ensures.scope _ _ c.table-a.ensures.scope c.table.ensures.scope)))
+
+pub table-returns-in-Join-clause-scope : goal.table-returns-in-Join-clause-scope
+table-returns-in-Join-clause-scope t c =
+    rw (c.in-Join.is, ← c.deref.ensures, ← c.deref-in-Join.ensures) (c.inner_join.ensures.scope _ (c.join.ensures.scope _ (c.paired-pair.ensures.scope _ _ c.table-a.ensures.scope c.table.ensures.scope)))
+
+pub table-returns-in-LeftJoin-clause-table : goal.table-returns-in-LeftJoin-clause-table
+table-returns-in-LeftJoin-clause-table t c =
+    rw (c.in-LeftJoin.is, ← c.deref-in-LeftJoin.ensures, ← c.deref-in-LeftJoin-2.ensures, ← c.deref-in-LeftJoin-3.ensures) (c.left_join.ensures.table _ _ _ _
+    (c.join-in-LeftJoin.ensures.left _ (c.paired-pair-in-LeftJoin.ensures.left _ c.table-a-in-LeftJoin.ensures.table))
+    (c.join-in-LeftJoin.ensures.right _ (c.paired-pair-in-LeftJoin.ensures.right _ c.table-in-LeftJoin.ensures.table))
+    (c.join-in-LeftJoin.ensures.width _ (c.paired-pair-in-LeftJoin.ensures.width _ c.table-in-LeftJoin.ensures.scope))
+    (c.join-in-LeftJoin.ensures.on (named.table_shape (bare (columns_of c.args.setting.now)) (written.table c.deref-in-LeftJoin.result.now) (shapes c.args.s.now)) (named.table_shape (bare (columns_of c.args.setting.now)) (written.table c.deref-in-LeftJoin-2.result.now) (shapes c.args.s.now)) (c.paired-pair-in-LeftJoin.ensures.scope _ _ c.table-a-in-LeftJoin.ensures.scope c.table-in-LeftJoin.ensures.scope)))
+
+pub table-returns-in-LeftJoin-clause-scope : goal.table-returns-in-LeftJoin-clause-scope
+table-returns-in-LeftJoin-clause-scope t c =
+    rw (c.in-LeftJoin.is, ← c.deref-in-LeftJoin.ensures, ← c.deref-in-LeftJoin-2.ensures) (c.left_join.ensures.scope _ (c.join-in-LeftJoin.ensures.scope _ (c.paired-pair-in-LeftJoin.ensures.scope _ _ c.table-a-in-LeftJoin.ensures.scope c.table-in-LeftJoin.ensures.scope)))
