@@ -13,7 +13,6 @@ use std::alloc::Global;
 
 // Adds the names that an expression reads.
 #[cycle(walk)]
-#[tactic(auto, using(sql_ast::specs::Shown::lists))]
 fn expr_names(alloc: Global, expr: &Expr, out: &mut Names) -> Result<(), OutOfMemory>
     ensures { OnOk result (out.new ≡ out.old ++ names.in_expr (shown.expr expr.now)) }
 {
@@ -57,7 +56,6 @@ fn expr_names(alloc: Global, expr: &Expr, out: &mut Names) -> Result<(), OutOfMe
 
 // Adds the names that expressions read, in order.
 #[cycle(walk)]
-#[tactic(auto, using(sql_ast::specs::Shown::lists))]
 fn exprs_names(alloc: Global, exprs: &[Expr], out: &mut Names) -> Result<(), OutOfMemory>
     ensures { OnOk result (out.new ≡ out.old ++ names.in_exprs (shown.expr_list exprs.now)) }
 {
@@ -69,7 +67,6 @@ fn exprs_names(alloc: Global, exprs: &[Expr], out: &mut Names) -> Result<(), Out
 
 // Adds the names that a result reads.
 #[cycle(walk)]
-#[tactic(auto, using(sql_ast::specs::Shown::lists))]
 fn res_names(alloc: Global, res: &Res, out: &mut Names) -> Result<(), OutOfMemory>
     ensures { OnOk result (out.new ≡ out.old ++ names.in_res (shown.res res.now)) }
 {
@@ -81,7 +78,6 @@ fn res_names(alloc: Global, res: &Res, out: &mut Names) -> Result<(), OutOfMemor
 
 // Adds the names that `WHEN cond THEN res` reads, for each.
 #[cycle(walk)]
-#[tactic(auto, using(sql_ast::specs::Shown::lists))]
 fn arm_names(alloc: Global, arms: &[Arm], out: &mut Names) -> Result<(), OutOfMemory>
     ensures { OnOk result (out.new ≡ out.old ++ names.in_arms (shown.arm_list arms.now)) }
 {
@@ -94,7 +90,6 @@ fn arm_names(alloc: Global, arms: &[Arm], out: &mut Names) -> Result<(), OutOfMe
 
 // Adds the names that `WHEN expr THEN res` reads, for each.
 #[cycle(walk)]
-#[tactic(auto, using(sql_ast::specs::Shown::lists))]
 fn choice_names(alloc: Global, choices: &[Choice], out: &mut Names) -> Result<(), OutOfMemory>
     ensures { OnOk result (out.new ≡ out.old ++ names.in_choices (shown.choice_list choices.now)) }
 {
@@ -107,7 +102,6 @@ fn choice_names(alloc: Global, choices: &[Choice], out: &mut Names) -> Result<()
 
 // Adds the names that `[ ELSE res ]` reads.
 #[cycle(walk)]
-#[tactic(auto, using(sql_ast::specs::Shown::lists))]
 fn otherwise_names(alloc: Global, otherwise: &Otherwise, out: &mut Names) -> Result<(), OutOfMemory>
     ensures { OnOk result (out.new ≡ out.old ++ names.in_otherwise (shown.otherwise otherwise.now)) }
 {
@@ -119,7 +113,6 @@ fn otherwise_names(alloc: Global, otherwise: &Otherwise, out: &mut Names) -> Res
 
 // Adds the names that a condition reads.
 #[cycle(walk)]
-#[tactic(auto, using(sql_ast::specs::Shown::lists))]
 fn cond_names(alloc: Global, cond: &Cond, out: &mut Names) -> Result<(), OutOfMemory>
     ensures { OnOk result (out.new ≡ out.old ++ names.in_cond (shown.cond cond.now)) }
 {
@@ -166,7 +159,6 @@ fn cond_names(alloc: Global, cond: &Cond, out: &mut Names) -> Result<(), OutOfMe
 
 // Adds the names that `[ WHERE cond ]` or `[ HAVING cond ]` reads.
 #[cycle(walk)]
-#[tactic(auto, using(sql_ast::specs::Shown::lists))]
 fn filter_names(alloc: Global, filter: &Filter, out: &mut Names) -> Result<(), OutOfMemory>
     ensures { OnOk result (out.new ≡ out.old ++ names.in_filter (shown.filter filter.now)) }
 {
@@ -178,7 +170,6 @@ fn filter_names(alloc: Global, filter: &Filter, out: &mut Names) -> Result<(), O
 
 // Adds the names that items of a list read, in order.
 #[cycle(walk)]
-#[tactic(auto, using(sql_ast::specs::Shown::lists))]
 fn item_names(alloc: Global, items: &[Item], out: &mut Names) -> Result<(), OutOfMemory>
     ensures { OnOk result (out.new ≡ out.old ++ names.in_items (shown.item_list items.now)) }
 {
@@ -193,7 +184,6 @@ fn item_names(alloc: Global, items: &[Item], out: &mut Names) -> Result<(), OutO
 
 // Adds the names that a list reads.
 #[cycle(walk)]
-#[tactic(auto, using(sql_ast::specs::Shown::lists))]
 fn list_names(alloc: Global, list: &SelectList, out: &mut Names) -> Result<(), OutOfMemory>
     ensures { OnOk result (out.new ≡ out.old ++ names.in_list (shown.select_list list.now)) }
 {
@@ -205,7 +195,6 @@ fn list_names(alloc: Global, list: &SelectList, out: &mut Names) -> Result<(), O
 
 // Adds the names that a table of a FROM reads.
 #[cycle(walk)]
-#[tactic(auto, using(sql_ast::specs::Shown::lists))]
 fn table_names(alloc: Global, table: &TableRef, out: &mut Names) -> Result<(), OutOfMemory>
     ensures { OnOk result (out.new ≡ out.old ++ names.in_table (shown.table table.now)) }
 {
@@ -232,7 +221,6 @@ fn table_names(alloc: Global, table: &TableRef, out: &mut Names) -> Result<(), O
 
 // Adds the names that the tables of a FROM read, in order.
 #[cycle(walk)]
-#[tactic(auto, using(sql_ast::specs::Shown::lists))]
 fn from_names(alloc: Global, from: &[TableRef], out: &mut Names) -> Result<(), OutOfMemory>
     ensures { OnOk result (out.new ≡ out.old ++ names.in_tables (shown.table_list from.now)) }
 {
@@ -244,7 +232,6 @@ fn from_names(alloc: Global, from: &[TableRef], out: &mut Names) -> Result<(), O
 
 // Adds the names that a block reads.
 #[cycle(walk)]
-#[tactic(auto, using(sql_ast::specs::Shown::lists))]
 fn block_names(alloc: Global, block: &Block, out: &mut Names) -> Result<(), OutOfMemory>
     ensures { OnOk result (out.new ≡ out.old ++ names.in_block block.now) }
 {
@@ -256,7 +243,6 @@ fn block_names(alloc: Global, block: &Block, out: &mut Names) -> Result<(), OutO
 
 /// Adds the names of tables that a query reads, in the order of the text.
 #[cycle(walk)]
-#[tactic(auto, using(sql_ast::specs::Shown::lists))]
 pub fn query_names(alloc: Global, query: &Query, out: &mut Names) -> Result<(), OutOfMemory>
     ensures { OnOk result (out.new ≡ out.old ++ names.in_query (shown.query query.now)) }
 {

@@ -18,3 +18,9 @@ expr_names-returns-in_ok-choice_names-in-Simple t c = rw (c.in-Simple.is, shown.
 pub expr_names-returns-in_ok-expr_names-in-Coalesce :
     goal.expr_names-returns-in_ok-expr_names-in-Coalesce
 expr_names-returns-in_ok-expr_names-in-Coalesce t c = rw (c.in-Coalesce.is, shown.exprs_hidden c.in-Coalesce.others) (grind (arith, common_steps))
+
+pub list_names-returns-in-Items : goal.list_names-returns-in-Items
+list_names-returns-in-Items t c = grind (arith, common_steps, shown.lists)
+
+pub query_names-returns-in-Block : goal.query_names-returns-in-Block
+query_names-returns-in-Block t c = grind (arith, common_steps, shown.lists)
