@@ -1,5 +1,6 @@
 -- The selects over what was laid, from their heads and conditions.
-use Rattle.std.proofs.Common.{◌≡◌, ℕ, Bool, false, List, [], ◌++◌, append-nil, map, ap, ap₂, sym, ◌∙◌}
+use Rattle.std.specs.Prelude.{IfOk, IsOkAnd}
+use Rattle.std.proofs.Common.{◌≡◌, ℕ, Bool, false, Result, Ok, Err, List, [], ◌++◌, append-nil, map, ap, ap₂, sym, ◌∙◌}
 use Rattle.sql_meaning.specs.ResolvedTrees.{From, Froms, Test, Values}
 use Rattle.sql_meaning.specs.ResolvedTrees as q
 use Rattle.qgm_core.specs.declared.kinds.BoxKind.TheVariants.{Select}
@@ -94,3 +95,12 @@ flat_read k m x s fs subs fs2 fs3 subs2 subs3 head conds quants b t e e2 f g hs 
     (hs ∙ ap (λ (os : List OwnedQuant). map ref_term (frame w x os)) e)
     (cs ∙ ap₂ (λ (os ps : List OwnedQuant). ons w m x os (slots_from ps (ungrouped_cells (on_folds x)))) e2 f ∙ sym (append-nil (ons w m x fs sl)) ∙ sym (append-nil (ons w m x fs sl ++ [])))
     (qs ∙ ap (λ (ps : List OwnedQuant). fs ++ ps) g) give
+
+-- a box that is made of parts and quantifiers, by what holds of these
+pub made_of : {W E : Type 0} (r : Result ℕ E) (parts : Result W E) (quants : Result (List OwnedQuant) E) (P : ℕ → W → List OwnedQuant → Type 0) (A B : W → Type 0) (S : List OwnedQuant → Type 0) (T : ℕ → Type 0)
+    → IfOk r (λ b. IsOkAnd parts (λ made. IsOkAnd quants (λ qs. P b made qs))) → IfOk parts A → IfOk parts B → IfOk quants S
+    → ((b : ℕ) (made : W) (qs : List OwnedQuant) → P b made qs → A made → B made → S qs → T b) → IfOk r T
+made_of (Ok b) (Ok made) (Ok qs) P A B S T h a c s f = f b made qs h a c s
+made_of (Ok b) (Ok made) (Err e) P A B S T h a c s f = absurd h
+made_of (Ok b) (Err e) quants P A B S T h a c s f = absurd h
+made_of (Err e) parts quants P A B S T h a c s f = tt

@@ -1,9 +1,10 @@
 // The selects over what was laid.
-ghost use Rattle.std.specs.Prelude.{◌≡◌, ◌++◌, ◌∷◌, [], IfOk, OnOk, map, get_or, pos};
+ghost use Rattle.std.specs.Prelude.{◌≡◌, ◌++◌, ◌∷◌, [], IfOk, IsOkAnd, OnOk, map, get_or, pos};
 ghost use Rattle.sql_meaning.specs.ResolvedShown as shown;
 ghost use Rattle.qgm_terms.specs.Shown.{term, terms};
 ghost use Rattle.qgm_terms.specs.Terms as t;
-ghost use Rattle.qgm_shown.specs.Lay.{laying};
+ghost use Rattle.qgm_core.specs.declared.kinds.BoxKind.TheVariants.{Select};
+ghost use Rattle.qgm_shown.specs.Lay.{laying, put};
 ghost use Rattle.qgm_shown.specs.Maps.{nothing, ref_term};
 ghost use Rattle.qgm_shown.specs.Shown as w;
 ghost use Rattle.qgm_shown.specs.Terms as meant;
@@ -44,6 +45,31 @@ pub(crate) fn append(out: &mut Owned, more: &[OwnedQuant]) -> Result<(), OutOfMe
         out.push(*o)?;
     }
     Ok(())
+}
+
+// The quantifiers of a FROM, and then those of the subqueries.
+fn all_quants(fs: Owned, subs: Owned) -> Result<Owned, OutOfMemory>
+    ensures { IfOk result (λ quants. quants ≡ fs ++ subs) }
+{
+    let mut quants = fs;
+    append(&mut quants, subs.as_slice())?;
+    Ok(quants)
+}
+
+// A select of a head, conditions and quantifiers, where all were made.
+fn put_select(
+    g: &Ground<'_>,
+    st: &mut Store,
+    distinct: bool,
+    parts: Result<Selected, OutOfMemory>,
+    quants: Result<Owned, OutOfMemory>,
+) -> Result<BoxId, OutOfMemory>
+    requires spare { IfOk parts (λ made. made.conds.spare ≡ 0) }
+    ensures { IfOk result (λ b. IsOkAnd parts (λ made. IsOkAnd quants (λ qs. Gives (put Select distinct made.conds.items made.head qs (so_far st.old)) b (so_far st.new)))) }
+{
+    let quants = quants?;
+    let Selected { head, conds } = parts?;
+    put(g.alloc, st, BoxKind::Select, distinct, conds, head, quants)
 }
 
 /// What is seen, as expressions.
@@ -95,18 +121,8 @@ pub(crate) fn finish_block(
     ensures { IfOk result (λ b. Gives (spec.block_box g.now distinct (shown.value_list x.now.list.now) (shown.from_list x.now.from.now) (shown.test x.now.by.now) o.fs (after_subs (so_far st.old) o.subs)) b (so_far st.new)) }
 {
     let Opened { frame, fs, subs } = o;
-    let w = block_parts(g, x, &frame, fs.as_slice(), subs.as_slice(), st)?;
-    let mut quants = fs;
-    append(&mut quants, subs.as_slice())?;
-    put(
-        g.alloc,
-        st,
-        BoxKind::Select,
-        distinct,
-        w.conds,
-        w.head,
-        quants,
-    )
+    let parts = block_parts(g, x, &frame, fs.as_slice(), subs.as_slice(), st);
+    put_select(g, st, distinct, parts, all_quants(fs, subs))
 }
 
 // Adds a key.
@@ -231,6 +247,25 @@ fn rows_conds(
     write_conds(&site_of(g, st), x, g.outer, frame, fs, subs)
 }
 
+// Both.
+fn rows_parts(
+    g: &Ground<'_>,
+    x: &Rows<'_>,
+    frame: &[Seen],
+    fs: &[OwnedQuant],
+    subs: &[OwnedQuant],
+    st: &Store,
+) -> Result<Selected, OutOfMemory>
+    requires seen { frame_of frame.now ≡ w.frame_all (told_at g.now) (shown.from_list x.now.from.now) fs.now }
+    ensures head { IfOk result (λ made. made.head ≡ w.rows_list (laying (told_at g.now) (so_far st.now)) x.now.places.now (map leaf_of x.now.folds.now) (frame_of frame.now) w.no_slots) }
+    ensures conds { IfOk result (λ made. made.conds.items ≡ conds_in_rows (laying (told_at g.now) (so_far st.now)) (outer_of g.now) x.now fs.now subs.now) }
+    ensures spare { IfOk result (λ made. made.conds.spare ≡ 0) }
+{
+    let head = rows_head(g, x, frame, st)?;
+    let conds = rows_conds(g, x, frame, fs, subs, st)?;
+    Ok(Selected { head, conds })
+}
+
 /// The rows of a grouped block.
 pub(crate) fn finish_rows(
     g: &Ground<'_>,
@@ -242,11 +277,8 @@ pub(crate) fn finish_rows(
     ensures { IfOk result (λ b. Gives (spec.rows_box g.now x.now.places.now (map leaf_of x.now.folds.now) (shown.from_list x.now.from.now) (shown.test x.now.by.now) o.fs (after_subs (so_far st.old) o.subs)) b (so_far st.new)) }
 {
     let Opened { frame, fs, subs } = o;
-    let head = rows_head(g, x, &frame, st)?;
-    let conds = rows_conds(g, x, &frame, fs.as_slice(), subs.as_slice(), st)?;
-    let mut quants = fs;
-    append(&mut quants, subs.as_slice())?;
-    put(g.alloc, st, BoxKind::Select, false, conds, head, quants)
+    let parts = rows_parts(g, x, &frame, fs.as_slice(), subs.as_slice(), st);
+    put_select(g, st, false, parts, all_quants(fs, subs))
 }
 
 // The columns of an operand.
@@ -284,6 +316,23 @@ fn flat_conds(
     Ok(conds)
 }
 
+// Both.
+fn flat_parts(
+    g: &Ground<'_>,
+    x: &From,
+    fs: &[OwnedQuant],
+    subs: &[OwnedQuant],
+    st: &Store,
+) -> Result<Selected, OutOfMemory>
+    ensures head { IfOk result (λ made. made.head ≡ map ref_term (w.frame (laying (told_at g.now) (so_far st.now)) (shown.from x.now) fs.now)) }
+    ensures conds { IfOk result (λ made. made.conds.items ≡ w.ons (laying (told_at g.now) (so_far st.now)) (outer_of g.now) (shown.from x.now) fs.now (slots_from subs.now (w.ungrouped_cells (on_folds (shown.from x.now))))) }
+    ensures spare { IfOk result (λ made. made.conds.spare ≡ 0) }
+{
+    let head = flat_head(g, x, fs, st)?;
+    let conds = flat_conds(g, x, fs, subs, st)?;
+    Ok(Selected { head, conds })
+}
+
 /// A select over one operand of a FROM, with all its columns.
 pub(crate) fn finish_flat(
     g: &Ground<'_>,
@@ -294,9 +343,6 @@ pub(crate) fn finish_flat(
 ) -> Result<BoxId, OutOfMemory>
     ensures { IfOk result (λ b. Gives (spec.flat_box g.now (shown.from x.now) fs (after_subs (so_far st.old) subs)) b (so_far st.new)) }
 {
-    let head = flat_head(g, x, fs.as_slice(), st)?;
-    let conds = flat_conds(g, x, fs.as_slice(), subs.as_slice(), st)?;
-    let mut quants = fs;
-    append(&mut quants, subs.as_slice())?;
-    put(g.alloc, st, BoxKind::Select, false, conds, head, quants)
+    let parts = flat_parts(g, x, fs.as_slice(), subs.as_slice(), st);
+    put_select(g, st, false, parts, all_quants(fs, subs))
 }
