@@ -92,7 +92,6 @@ fn push_seen_term(out: &mut Vec<Gx>, x: Seen) -> Result<(), OutOfMemory>
 }
 
 // The head and the conditions of the select of a block.
-#[tactic(auto, using(crate::proofs::Same::frames_same))]
 fn block_parts(
     g: &Ground<'_>,
     x: &Block<'_>,
@@ -156,7 +155,6 @@ fn argument(g: &Setting<'_>, x: &Value) -> Result<Box<Gx>, OutOfMemory>
 }
 
 // Adds the arguments of aggregates.
-#[tactic(auto, using(built_terms::proofs::Steps::appended))]
 fn argument_terms(g: &Setting<'_>, folds: &[Fold<'_>], out: &mut Vec<Gx>) -> Result<(), OutOfMemory>
     requires alone { outer_in g.now ≡ [] }
     ensures { OnOk result (terms out.new.items ≡ terms out.old.items ++ w.argument_terms (sources_in g.now) (frame_in g.now) (map leaf_of folds.now)) }
@@ -231,7 +229,6 @@ fn rows_head(g: &Ground<'_>, x: &Rows<'_>, frame: &[Seen], st: &Store) -> Result
 }
 
 // The conditions of the rows of a grouped block.
-#[tactic(auto, using(crate::proofs::Same::frames_same))]
 fn rows_conds(
     g: &Ground<'_>,
     x: &Rows<'_>,

@@ -77,7 +77,6 @@ fn places_of<'a>(places: &'a Option<Items<usize>>) -> &'a [usize]
 }
 
 // Where the columns of a FROM are seen.
-#[tactic(auto, using(crate::proofs::Same::frames_same))]
 fn from_frame(
     g: &Ground<'_>,
     from: &[From],
@@ -93,7 +92,6 @@ fn from_frame(
 }
 
 // Where the columns of both operands of a join are seen.
-#[tactic(auto, using(crate::proofs::Same::frames_same))]
 fn both_frame(
     g: &Ground<'_>,
     a: &From,
@@ -378,7 +376,6 @@ fn sub(
 
 // Adds the quantifiers of the subqueries of an expression.
 #[cycle(lay)]
-#[tactic(auto, using(sql_meaning::specs::ResolvedShown::lists, crate::proofs::Taking::taking))]
 fn value_subs(h: &Seat<'_>, x: &Value, st: &mut Store, out: &mut Owned) -> Result<(), OutOfMemory>
     ensures { OnOk result (Takes (spec.value_step h.now (shown.value x.now)) (so_far st.old) out.old (so_far st.new) out.new) }
 {
@@ -498,7 +495,6 @@ fn choice_subs(
 
 // The same of a condition.
 #[cycle(lay)]
-#[tactic(auto, using(sql_meaning::specs::ResolvedShown::lists, crate::proofs::Taking::taking))]
 fn test_subs(h: &Seat<'_>, p: &Test, st: &mut Store, out: &mut Owned) -> Result<(), OutOfMemory>
     ensures { OnOk result (Takes (spec.test_step h.now (shown.test p.now)) (so_far st.old) out.old (so_far st.new) out.new) }
 {

@@ -167,7 +167,6 @@ fn pair(alloc: Global, a: BoxId, b: BoxId, st: &mut Store) -> Result<Owned, OutO
 }
 
 // The types of the columns of a quantifier.
-#[tactic(auto, using(built_terms::proofs::Lists::types_more))]
 fn pair_types(
     alloc: Global,
     q: QuantId,

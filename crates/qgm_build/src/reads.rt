@@ -8,7 +8,6 @@ use sql_meaning::{Addend, Arm, Choice, From, Multiplier, Query, Test, Value};
 
 // Whether a subquery of an expression reads this table.
 #[cycle(reads)]
-#[tactic(auto, using(sql_meaning::specs::ResolvedShown::lists))]
 fn value_reads(x: &Value, name: &Text) -> bool
     ensures { result ≡ spec.value_reads (shown.value x.now) name.now }
 {
@@ -99,7 +98,6 @@ fn choices_read(list: &[Choice], name: &Text) -> bool
 
 // The same of a condition.
 #[cycle(reads)]
-#[tactic(auto, using(sql_meaning::specs::ResolvedShown::lists))]
 pub(crate) fn test_reads(p: &Test, name: &Text) -> bool
     ensures { result ≡ spec.test_reads (shown.test p.now) name.now }
 {
@@ -162,7 +160,6 @@ fn froms_read(list: &[From], name: &Text) -> bool
 
 /// Whether this name stands in a FROM of a query or of a subquery of it.
 #[cycle(reads)]
-#[tactic(auto, using(sql_meaning::specs::ResolvedShown::lists))]
 pub fn reads(query: &Query, name: &Text) -> bool
     ensures { result ≡ spec.query_reads (shown.query query.now) name.now }
 {

@@ -1,4 +1,5 @@
-use Rattle.std.proofs.Common.{◌∙◌, ◌+◌, List, drop, map, ap, refl, sym}
+use Rattle.std.proofs.lemmas.Grind.{common_steps}
+use Rattle.std.proofs.Common.{◌∙◌, ◌+◌, List, drop, map, ap, refl, sym, arith}
 use Rattle.std.proofs.lemmas.Result.{on_ok_weaker}
 use Rattle.sql_meaning.specs.ResolvedShown as shown
 use Rattle.sql_meaning.specs.declared.resolved.Addend.{Addend}
@@ -18,7 +19,7 @@ use Rattle.built_terms.specs.Folds.{leaf_of}
 use Rattle.qgm_build.proofs.Cycle.{block_ok, combine_ok, flat_is, flat_ok, grouped_ok, groups_ok, intersect_ok, joined_step, left_ok, left_step}
 use Rattle.qgm_build.proofs.Opening.{opens_from}
 use Rattle.built_terms.proofs.Steps.{next_there}
-use Rattle.qgm_build.proofs.Taking.{leads_at, leads_more, leads_next, leads_two, takes_both, takes_three}
+use Rattle.qgm_build.proofs.Taking.{leads_at, leads_more, leads_next, leads_two, takes_both, takes_three, taking}
 use Rattle.qgm_build.proofs.lay.+lay.Goals as goal
 
 pub addend_subs-loop-x-preserved : goal.addend_subs-loop-x-preserved
@@ -174,3 +175,6 @@ operand-returns-in-Crossed h c = flat_is c.args.g.now (shown.from c.args.x.now) 
 
 pub operand-returns-in-Joined : goal.operand-returns-in-Joined
 operand-returns-in-Joined h c = flat_is c.args.g.now (shown.from c.args.x.now) _ (so_far c.args.st.now) (so_far c.flat-in-Joined.new.st) c.flat-in-Joined.result (ap shown.from c.in-Joined.is) (λ t. refl) c.flat-in-Joined.ensures
+
+pub test_subs-returns-in-All : goal.test_subs-returns-in-All
+test_subs-returns-in-All t c = grind (arith, common_steps, shown.lists, taking)

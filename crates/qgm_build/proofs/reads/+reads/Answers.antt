@@ -38,3 +38,12 @@ value_reads-returns-else-choices_read t c = rw (c.in-Simple.is, shown.choices_hi
 
 pub value_reads-returns-else-value_reads-4 : goal.value_reads-returns-else-value_reads-4
 value_reads-returns-else-value_reads-4 t c = rw (c.in-Coalesce.is, shown.values_hidden c.in-Coalesce.list) (grind (arith, common_steps))
+
+pub test_reads-returns-in-All : goal.test_reads-returns-in-All
+test_reads-returns-in-All t c = grind (arith, common_steps, shown.lists)
+
+pub value_reads-returns-then-arms_read : goal.value_reads-returns-then-arms_read
+value_reads-returns-then-arms_read t c = grind (arith, common_steps, shown.lists)
+
+pub value_reads-returns-else-arms_read : goal.value_reads-returns-else-arms_read
+value_reads-returns-else-arms_read t c = grind (arith, common_steps, shown.lists)
