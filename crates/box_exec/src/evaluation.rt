@@ -73,7 +73,6 @@ fn comparison(p: &Gc, a: &Cell, b: &Cell) -> Truth
 
 /// The cell that an expression is.
 #[cycle(value)]
-#[tactic(auto, using(qgm_terms::proofs::Lists::lists))]
 pub fn value(alloc: Global, x: &Gx, subs: &[Sub<'_>], env: &Bindings) -> Result<Cell, OutOfMemory>
     ensures { IfOk result (λ cell. cell ≡ meaning.value (held_by subs.now) (term x.now) (env_of env.now)) }
 {
@@ -199,7 +198,6 @@ fn operand<'a>(
 
 /// How far a condition is true and false.
 #[cycle(value)]
-#[tactic(auto, using(qgm_terms::proofs::Lists::lists))]
 pub fn hold(alloc: Global, p: &Gc, subs: &[Sub<'_>], env: &Bindings) -> Result<Truth, OutOfMemory>
     ensures { IfOk result (λ truth. truth ≡ meaning.truth (held_by subs.now) (cond p.now) (env_of env.now)) }
 {
@@ -273,7 +271,6 @@ fn any_of(
 // For a row of the quantifier.
 #[cycle(value)]
 #[inline(never)]
-#[tactic(auto, using(row_bag::proofs::Chains::or_steps))]
 fn some(
     alloc: Global,
     q: QuantId,
@@ -321,7 +318,6 @@ fn some_row(
 // For each row of the quantifier.
 #[cycle(value)]
 #[inline(never)]
-#[tactic(auto, using(row_bag::proofs::Chains::and_steps))]
 fn every(
     alloc: Global,
     q: QuantId,

@@ -244,7 +244,6 @@ fn level_error_of(row: &Row) -> Option<Kind>
 }
 
 // The greatest error that the level of a row is.
-#[tactic(auto, using(row_bag::proofs::Chains::worst_steps))]
 fn level_error(rows: &[Row]) -> Option<Kind>
     ensures { result ≡ error_among (λ cells. error_in []) rows.now }
 {
