@@ -25,7 +25,6 @@ fn ungrouped(x: &Fold<'_>) -> Seen
 }
 
 /// What aggregates are where no group is, which no valid query has.
-#[tactic(auto, using(crate::proofs::Grouped::ungrouped_more))]
 pub fn ungrouped_cells(alloc: Global, folds: &[Fold<'_>]) -> Result<Vec<Seen>, OutOfMemory>
     ensures { IfOk result (λ v. frame_of v.items ≡ w.ungrouped_cells (map leaf_of folds.now)) }
 {
@@ -44,7 +43,6 @@ pub fn after(n: usize) -> Result<usize, OutOfMemory>
 }
 
 /// The columns of a group box from the j-th on, in which aggregates are seen.
-#[tactic(auto, using(crate::proofs::Grouped::refs_more))]
 pub fn group_cells(
     alloc: Global,
     u: QuantId,
