@@ -1,5 +1,5 @@
 // Expressions and conditions from their own parts, abbreviations written out.
-ghost use Rattle.std.specs.Prelude.{◌≡◌, ◌∷◌, ◌++◌, [], IfOk, OnOk, map};
+ghost use Rattle.std.specs.Prelude.{◌≡◌, ◌∷◌, ◌++◌, [], IfOk, IsOkAnd, OnOk, map};
 ghost use Rattle.sql_meaning.specs.ResolvedShown as meant;
 ghost use Rattle.qgm_terms.specs.Shown.{choices, cond, conds, term, terms};
 ghost use Rattle.qgm_terms.specs.Terms as t;
@@ -132,21 +132,26 @@ pub(crate) fn longer(
 }
 
 /// `- x`.
-pub(crate) fn negative(alloc: Global, x: Box<Gx>) -> Result<Box<Gx>, OutOfMemory>
-    ensures { IfOk result (λ y. term y.value ≡ t.minus_of (term x.value)) }
+pub(crate) fn negative(
+    alloc: Global,
+    x: Result<Box<Gx>, OutOfMemory>,
+) -> Result<Box<Gx>, OutOfMemory>
+    ensures { IfOk result (λ y. IsOkAnd x (λ a. term y.value ≡ t.minus_of (term a.value))) }
 {
-    boxed(alloc, Gx::Neg(x))
+    boxed(alloc, Gx::Neg(x?))
 }
 
 /// A comparison.
 pub(crate) fn compare(
     alloc: Global,
     op: CmpOp,
-    x: Box<Gx>,
-    y: Box<Gx>,
+    x: Result<Box<Gx>, OutOfMemory>,
+    y: Result<Box<Gx>, OutOfMemory>,
 ) -> Result<Box<Gc>, OutOfMemory>
-    ensures { IfOk result (λ p. cond p.value ≡ t.compare (shown.sign op) (term x.value) (term y.value)) }
+    ensures { IfOk result (λ p. IsOkAnd x (λ a. IsOkAnd y (λ b. cond p.value ≡ t.compare (shown.sign op) (term a.value) (term b.value)))) }
 {
+    let x = x?;
+    let y = y?;
     match op {
         CmpOp::Eq => boxed(alloc, Gc::Eq(x, y)),
         CmpOp::Ne => boxed(alloc, Gc::Ne(x, y)),
@@ -161,51 +166,63 @@ pub(crate) fn compare(
 pub(crate) fn equal_copy(alloc: Global, x: &Gx, y: Box<Gx>) -> Result<Box<Gc>, OutOfMemory>
     ensures { IfOk result (λ p. cond p.value ≡ t.compare t.equal (term x.now) (term y.value)) }
 {
-    let x = copied(alloc, x)?;
-    compare(alloc, CmpOp::Eq, x, y)
+    compare(alloc, CmpOp::Eq, copied(alloc, x), Ok(y))
 }
 
 /// `x LIKE y`.
-pub(crate) fn like(alloc: Global, x: Box<Gx>, y: Box<Gx>) -> Result<Box<Gc>, OutOfMemory>
-    ensures { IfOk result (λ p. cond p.value ≡ t.compare t.like (term x.value) (term y.value)) }
+pub(crate) fn like(
+    alloc: Global,
+    x: Result<Box<Gx>, OutOfMemory>,
+    y: Result<Box<Gx>, OutOfMemory>,
+) -> Result<Box<Gc>, OutOfMemory>
+    ensures { IfOk result (λ p. IsOkAnd x (λ a. IsOkAnd y (λ b. cond p.value ≡ t.compare t.like (term a.value) (term b.value)))) }
 {
-    boxed(alloc, Gc::Like(x, y))
+    boxed(alloc, Gc::Like(x?, y?))
 }
 
 /// `x IS NULL`.
-pub(crate) fn is_null(alloc: Global, x: Box<Gx>) -> Result<Box<Gc>, OutOfMemory>
-    ensures { IfOk result (λ p. cond p.value ≡ t.is_null (term x.value)) }
+pub(crate) fn is_null(
+    alloc: Global,
+    x: Result<Box<Gx>, OutOfMemory>,
+) -> Result<Box<Gc>, OutOfMemory>
+    ensures { IfOk result (λ p. IsOkAnd x (λ a. cond p.value ≡ t.is_null (term a.value))) }
 {
-    boxed(alloc, Gc::IsNull(x))
+    boxed(alloc, Gc::IsNull(x?))
 }
 
 /// `NOT p`.
-pub(crate) fn not(alloc: Global, p: Box<Gc>) -> Result<Box<Gc>, OutOfMemory>
-    ensures { IfOk result (λ r. cond r.value ≡ t.not (cond p.value)) }
+pub(crate) fn not(alloc: Global, p: Result<Box<Gc>, OutOfMemory>) -> Result<Box<Gc>, OutOfMemory>
+    ensures { IfOk result (λ r. IsOkAnd p (λ a. cond r.value ≡ t.not (cond a.value))) }
 {
-    boxed(alloc, Gc::Not(p))
+    boxed(alloc, Gc::Not(p?))
 }
 
 // `p AND q`.
-fn both_hold(alloc: Global, p: Box<Gc>, q: Box<Gc>) -> Result<Box<Gc>, OutOfMemory>
-    ensures { IfOk result (λ r. cond r.value ≡ t.and (cond p.value) (cond q.value)) }
+fn both_hold(
+    alloc: Global,
+    p: Result<Box<Gc>, OutOfMemory>,
+    q: Result<Box<Gc>, OutOfMemory>,
+) -> Result<Box<Gc>, OutOfMemory>
+    ensures { IfOk result (λ r. IsOkAnd p (λ a. IsOkAnd q (λ b. cond r.value ≡ t.and (cond a.value) (cond b.value)))) }
 {
-    boxed(alloc, anded(alloc, Box::into_inner(p), Box::into_inner(q))?)
+    let p = Box::into_inner(p?);
+    let q = Box::into_inner(q?);
+    boxed(alloc, anded(alloc, p, q)?)
 }
 
 /// `x BETWEEN y AND z`.
 pub(crate) fn between(
     alloc: Global,
-    x: Box<Gx>,
-    y: Box<Gx>,
-    z: Box<Gx>,
+    x: Result<Box<Gx>, OutOfMemory>,
+    y: Result<Box<Gx>, OutOfMemory>,
+    z: Result<Box<Gx>, OutOfMemory>,
 ) -> Result<Box<Gc>, OutOfMemory>
-    ensures { IfOk result (λ p. cond p.value ≡ t.and (t.compare t.at_least (term x.value) (term y.value)) (t.compare t.at_most (term x.value) (term z.value))) }
+    ensures { IfOk result (λ p. IsOkAnd x (λ a. IsOkAnd y (λ b. IsOkAnd z (λ d. cond p.value ≡ t.and (t.compare t.at_least (term a.value) (term b.value)) (t.compare t.at_most (term a.value) (term d.value)))))) }
 {
-    let again = copied(alloc, &x)?;
-    let low = compare(alloc, CmpOp::Ge, x, y)?;
-    let high = compare(alloc, CmpOp::Le, again, z)?;
-    both_hold(alloc, low, high)
+    let x = x?;
+    let again = copied(alloc, &x);
+    let low = compare(alloc, CmpOp::Ge, Ok(x), y);
+    both_hold(alloc, low, compare(alloc, CmpOp::Le, again, z))
 }
 
 /// Of some row, where it is asked for any, or of every row.
@@ -213,10 +230,11 @@ pub(crate) fn quantified(
     alloc: Global,
     each: Quantifier,
     q: QuantId,
-    p: Box<Gc>,
+    p: Result<Box<Gc>, OutOfMemory>,
 ) -> Result<Box<Gc>, OutOfMemory>
-    ensures { IfOk result (λ r. cond r.value ≡ shown.quantified each q (cond p.value)) }
+    ensures { IfOk result (λ r. IsOkAnd p (λ a. cond r.value ≡ shown.quantified each q (cond a.value))) }
 {
+    let p = p?;
     match each {
         Quantifier::Any | Quantifier::Some => boxed(alloc, Gc::Some(q, p)),
         Quantifier::All => boxed(alloc, Gc::Every(q, p)),
@@ -253,12 +271,13 @@ pub(crate) fn case_of(
 pub(crate) fn null_if(
     alloc: Global,
     rows: &[Items<SqlType>],
-    x: Box<Gx>,
-    y: Box<Gx>,
+    x: Result<Box<Gx>, OutOfMemory>,
+    y: Result<Box<Gx>, OutOfMemory>,
 ) -> Result<Box<Gx>, OutOfMemory>
-    ensures { IfOk result (λ z. term z.value ≡ shown.case (t.compare t.equal (term x.value) (term y.value)) (shown.null_as (typed_by rows.now (term x.value))) (term x.value)) }
+    ensures { IfOk result (λ z. IsOkAnd x (λ a. IsOkAnd y (λ b. term z.value ≡ shown.case (t.compare t.equal (term a.value) (term b.value)) (shown.null_as (typed_by rows.now (term a.value))) (term a.value)))) }
 {
-    let p = equal_copy(alloc, &x, y)?;
+    let x = x?;
+    let p = equal_copy(alloc, &x, y?)?;
     let null = null_as(alloc, type_of(rows, &x))?;
     case_of(alloc, p, null, x)
 }
@@ -267,17 +286,20 @@ pub(crate) fn null_if(
 fn present_or(alloc: Global, x: Box<Gx>, y: Box<Gx>) -> Result<Box<Gx>, OutOfMemory>
     ensures { IfOk result (λ z. term z.value ≡ shown.case (t.not (t.is_null (term x.value))) (term x.value) (term y.value)) }
 {
-    let again = copied(alloc, &x)?;
-    let p = is_null(alloc, again)?;
-    let p = not(alloc, p)?;
+    let again = copied(alloc, &x);
+    let p = not(alloc, is_null(alloc, again))?;
     case_of(alloc, p, x, y)
 }
 
 /// The AND of these, true where there is none.
 #[tactic(auto, using(qgm_terms::proofs::Lists::lists))]
-pub(crate) fn all_of(alloc: Global, list: Vec<Gc>) -> Result<Box<Gc>, OutOfMemory>
-    ensures { IfOk result (λ p. cond p.value ≡ spec.all_of (conds list.items)) }
+pub(crate) fn all_of(
+    alloc: Global,
+    list: Result<Vec<Gc>, OutOfMemory>,
+) -> Result<Box<Gc>, OutOfMemory>
+    ensures { IfOk result (λ p. IsOkAnd list (λ v. cond p.value ≡ spec.all_of (conds v.items))) }
 {
+    let list = list?;
     if list.is_empty() {
         return boxed(alloc, Gc::True);
     }
@@ -290,15 +312,18 @@ pub(crate) fn all_of(alloc: Global, list: Vec<Gc>) -> Result<Box<Gc>, OutOfMemor
 fn never(alloc: Global) -> Result<Box<Gc>, OutOfMemory>
     ensures { IfOk result (λ p. cond p.value ≡ t.not t.always) }
 {
-    let p = boxed(alloc, Gc::True)?;
-    not(alloc, p)
+    not(alloc, boxed(alloc, Gc::True))
 }
 
 /// The OR of these, false where there is none.
 #[tactic(auto, using(qgm_terms::proofs::Lists::lists))]
-pub(crate) fn any_of(alloc: Global, list: Vec<Gc>) -> Result<Box<Gc>, OutOfMemory>
-    ensures { IfOk result (λ p. cond p.value ≡ spec.any_of (conds list.items)) }
+pub(crate) fn any_of(
+    alloc: Global,
+    list: Result<Vec<Gc>, OutOfMemory>,
+) -> Result<Box<Gc>, OutOfMemory>
+    ensures { IfOk result (λ p. IsOkAnd list (λ v. cond p.value ≡ spec.any_of (conds v.items))) }
 {
+    let list = list?;
     if list.is_empty() {
         return never(alloc);
     }
@@ -492,34 +517,35 @@ fn equal_each(alloc: Global, x: &Gx, list: Vec<Gx>) -> Result<Vec<Gc>, OutOfMemo
 pub(crate) fn equals_one(alloc: Global, x: Box<Gx>, list: Vec<Gx>) -> Result<Box<Gc>, OutOfMemory>
     ensures { IfOk result (λ p. cond p.value ≡ spec.any_of (map (t.compare t.equal (term x.value)) (terms list.items))) }
 {
-    let all = equal_each(alloc, &x, list)?;
-    any_of(alloc, all)
+    any_of(alloc, equal_each(alloc, &x, list))
 }
 
 /// A comparison with the column of a quantifier.
 pub(crate) fn compare_column(
     alloc: Global,
     op: CmpOp,
-    x: Box<Gx>,
+    x: Result<Box<Gx>, OutOfMemory>,
     q: QuantId,
 ) -> Result<Box<Gc>, OutOfMemory>
-    ensures { IfOk result (λ p. cond p.value ≡ t.compare (shown.sign op) (term x.value) (t.col q 1)) }
+    ensures { IfOk result (λ p. IsOkAnd x (λ a. cond p.value ≡ t.compare (shown.sign op) (term a.value) (t.col q 1))) }
 {
-    let y = boxed(alloc, Gx::Col(q, 1))?;
-    compare(alloc, op, x, y)
+    compare(alloc, op, x, boxed(alloc, Gx::Col(q, 1)))
 }
 
 /// Of some row.
-pub(crate) fn some_row(alloc: Global, q: QuantId, p: Box<Gc>) -> Result<Box<Gc>, OutOfMemory>
-    ensures { IfOk result (λ r. cond r.value ≡ t.some q (cond p.value)) }
+pub(crate) fn some_row(
+    alloc: Global,
+    q: QuantId,
+    p: Result<Box<Gc>, OutOfMemory>,
+) -> Result<Box<Gc>, OutOfMemory>
+    ensures { IfOk result (λ r. IsOkAnd p (λ a. cond r.value ≡ t.some q (cond a.value))) }
 {
-    boxed(alloc, Gc::Some(q, p))
+    boxed(alloc, Gc::Some(q, p?))
 }
 
 /// Whether there is a row.
 pub(crate) fn any_row(alloc: Global, q: QuantId) -> Result<Box<Gc>, OutOfMemory>
     ensures { IfOk result (λ r. cond r.value ≡ t.some q t.always) }
 {
-    let p = boxed(alloc, Gc::True)?;
-    some_row(alloc, q, p)
+    some_row(alloc, q, boxed(alloc, Gc::True))
 }

@@ -49,7 +49,7 @@ pub fn value(g: &Setting<'_>, x: &Value, s: &mut Slots<'_>) -> Result<Box<Gx>, O
             let first = value(g, a, s)?;
             product(g, list.as_slice(), first, s)
         }
-        Value::Negative(a) => made::negative(alloc, value(g, a, s)?),
+        Value::Negative(a) => made::negative(alloc, value(g, a, s)),
         Value::Searched(list, last) => {
             let list = arms(g, list.as_slice(), s)?;
             let last = outcome(g, last, s)?;
@@ -69,8 +69,8 @@ pub fn value(g: &Setting<'_>, x: &Value, s: &mut Slots<'_>) -> Result<Box<Gx>, O
             made::coalesced(alloc, a, all)
         }
         Value::NullIf(a, b) => {
-            let a = value(g, a, s)?;
-            let b = value(g, b, s)?;
+            let a = value(g, a, s);
+            let b = value(g, b, s);
             made::null_if(alloc, g.rows, a, b)
         }
         Value::Scalar(_) => made::scalar(alloc, take_quant(s)),
@@ -188,30 +188,24 @@ pub fn test(g: &Setting<'_>, p: &Test, s: &mut Slots<'_>) -> Result<Box<Gc>, Out
 {
     let alloc = g.alloc;
     match p {
-        Test::All(list) => {
-            let list = tests(g, list.as_slice(), s)?;
-            made::all_of(alloc, list)
-        }
-        Test::Any(list) => {
-            let list = tests(g, list.as_slice(), s)?;
-            made::any_of(alloc, list)
-        }
-        Test::Not(p) => made::not(alloc, test(g, p, s)?),
+        Test::All(list) => made::all_of(alloc, tests(g, list.as_slice(), s)),
+        Test::Any(list) => made::any_of(alloc, tests(g, list.as_slice(), s)),
+        Test::Not(p) => made::not(alloc, test(g, p, s)),
         Test::Compare(a, op, b) => {
-            let a = value(g, a, s)?;
-            let b = value(g, b, s)?;
+            let a = value(g, a, s);
+            let b = value(g, b, s);
             made::compare(alloc, *op, a, b)
         }
         Test::Quantified(a, op, each, _) => {
-            let a = value(g, a, s)?;
+            let a = value(g, a, s);
             let q = take_quant(s);
-            let p = made::compare_column(alloc, *op, a, q)?;
+            let p = made::compare_column(alloc, *op, a, q);
             made::quantified(alloc, *each, q, p)
         }
         Test::Between(a, b, c) => {
-            let a = value(g, a, s)?;
-            let b = value(g, b, s)?;
-            let c = value(g, c, s)?;
+            let a = value(g, a, s);
+            let b = value(g, b, s);
+            let c = value(g, c, s);
             made::between(alloc, a, b, c)
         }
         Test::Among(a, list) => {
@@ -221,17 +215,17 @@ pub fn test(g: &Setting<'_>, p: &Test, s: &mut Slots<'_>) -> Result<Box<Gc>, Out
             made::equals_one(alloc, a, all)
         }
         Test::AmongRows(a, _) => {
-            let a = value(g, a, s)?;
+            let a = value(g, a, s);
             let q = take_quant(s);
-            let p = made::compare_column(alloc, CmpOp::Eq, a, q)?;
+            let p = made::compare_column(alloc, CmpOp::Eq, a, q);
             made::some_row(alloc, q, p)
         }
         Test::Like(a, b) => {
-            let a = value(g, a, s)?;
-            let b = value(g, b, s)?;
+            let a = value(g, a, s);
+            let b = value(g, b, s);
             made::like(alloc, a, b)
         }
-        Test::IsNull(a) => made::is_null(alloc, value(g, a, s)?),
+        Test::IsNull(a) => made::is_null(alloc, value(g, a, s)),
         Test::Exists(_) => made::any_row(alloc, take_quant(s)),
     }
 }

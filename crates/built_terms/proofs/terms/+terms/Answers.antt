@@ -116,35 +116,35 @@ value-returns-in_ok-values-in-Coalesce-clause-slots h c =
     rw (c.in-Coalesce.is, shown.values_hidden c.in-Coalesce.list, after_append (w.leaves (frame_in c.args.g.now) (shown.value c.in-Coalesce.a.value)) (w.list_leaves (frame_in c.args.g.now) (shown.value_list c.in-Coalesce.list)) (slots_of c.args.s.now), ← c.as_slice-in-Coalesce.ensures, ← c.deref-in-Coalesce.ensures, ← c.in_ok-a-in-Coalesce.ensures.slots)
     (on_ok c.coalesced.result c.in_ok-values-in-Coalesce.ensures.slots)
 
-pub test-returns-in_ok-list-in-All-clause-cond : goal.test-returns-in_ok-list-in-All-clause-cond
-test-returns-in_ok-list-in-All-clause-cond h c = grind (arith, shown.lists, every_whole)
+pub test-returns-in-All-clause-cond : goal.test-returns-in-All-clause-cond
+test-returns-in-All-clause-cond h c = grind (arith, shown.lists, every_whole)
 
-pub test-returns-in_ok-list-in-All-clause-slots : goal.test-returns-in_ok-list-in-All-clause-slots
-test-returns-in_ok-list-in-All-clause-slots h c = grind (arith, shown.lists)
+pub test-returns-in-All-clause-slots : goal.test-returns-in-All-clause-slots
+test-returns-in-All-clause-slots h c = grind (arith, shown.lists)
 
-pub test-returns-in_ok-list-in-Any-clause-cond : goal.test-returns-in_ok-list-in-Any-clause-cond
-test-returns-in_ok-list-in-Any-clause-cond h c = grind (arith, shown.lists, some_whole)
+pub test-returns-in-Any-clause-cond : goal.test-returns-in-Any-clause-cond
+test-returns-in-Any-clause-cond h c = grind (arith, shown.lists, some_whole)
 
-pub test-returns-in_ok-list-in-Any-clause-slots : goal.test-returns-in_ok-list-in-Any-clause-slots
-test-returns-in_ok-list-in-Any-clause-slots h c = grind (arith, shown.lists)
+pub test-returns-in-Any-clause-slots : goal.test-returns-in-Any-clause-slots
+test-returns-in-Any-clause-slots h c = grind (arith, shown.lists)
 
-pub test-returns-in_ok-b-in-Compare-clause-slots : goal.test-returns-in_ok-b-in-Compare-clause-slots
-test-returns-in_ok-b-in-Compare-clause-slots h c = grind (arith, after_append)
+pub test-returns-in-Compare-clause-slots : goal.test-returns-in-Compare-clause-slots
+test-returns-in-Compare-clause-slots h c = grind (arith, after_append)
 
-pub test-returns-in_ok-p-in-Quantified-clause-slots : goal.test-returns-in_ok-p-in-Quantified-clause-slots
-test-returns-in_ok-p-in-Quantified-clause-slots h c = grind (arith, after_append)
+pub test-returns-in-Quantified-clause-slots : goal.test-returns-in-Quantified-clause-slots
+test-returns-in-Quantified-clause-slots h c = grind (arith, after_append)
 
-pub test-returns-in_ok-c-in-Between-clause-slots : goal.test-returns-in_ok-c-in-Between-clause-slots
-test-returns-in_ok-c-in-Between-clause-slots h c = grind (arith, after_append)
+pub test-returns-in-Between-clause-slots : goal.test-returns-in-Between-clause-slots
+test-returns-in-Between-clause-slots h c = grind (arith, after_append)
 
-pub test-returns-in_ok-p-in-AmongRows-clause-slots : goal.test-returns-in_ok-p-in-AmongRows-clause-slots
-test-returns-in_ok-p-in-AmongRows-clause-slots h c = grind (arith, after_append)
+pub test-returns-in-AmongRows-clause-slots : goal.test-returns-in-AmongRows-clause-slots
+test-returns-in-AmongRows-clause-slots h c = grind (arith, after_append)
 
-pub test-returns-in_ok-b-in-Like-clause-slots : goal.test-returns-in_ok-b-in-Like-clause-slots
-test-returns-in_ok-b-in-Like-clause-slots h c = grind (arith, after_append)
+pub test-returns-in-Like-clause-slots : goal.test-returns-in-Like-clause-slots
+test-returns-in-Like-clause-slots h c = grind (arith, after_append)
 
 pub value-returns-in_ok-last-in-Searched-clause-slots : goal.value-returns-in_ok-last-in-Searched-clause-slots
 value-returns-in_ok-last-in-Searched-clause-slots h c = grind (arith, shown.lists, after_append)
 
-pub value-returns-in_ok-b-in-NullIf-clause-slots : goal.value-returns-in_ok-b-in-NullIf-clause-slots
-value-returns-in_ok-b-in-NullIf-clause-slots h c = grind (arith, after_append)
+pub value-returns-in-NullIf-clause-slots : goal.value-returns-in-NullIf-clause-slots
+value-returns-in-NullIf-clause-slots h c = grind (arith, after_append)
