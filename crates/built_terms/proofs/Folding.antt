@@ -1,5 +1,6 @@
 -- The aggregates of leaves that stand one behind the other.
-use Rattle.std.proofs.Common.{◌≡◌, ◌<◌, ◌+◌, ℕ, List, [], ◌∷◌, ◌++◌, append_assoc, append-nil, length, drop, get_or, ap, sym, ◌∙◌}
+use Rattle.std.proofs.Common.{◌≡◌, ◌<◌, ◌+◌, ℕ, List, [], ◌∷◌, ◌++◌, append_assoc, append-nil, length, drop, get_or, ap, sym, ◌∙◌, Result, Ok, Err}
+use Rattle.std.specs.Result.{OnOk, result_and}
 use Rattle.sql_meaning.specs.ResolvedTrees.{Query, Value}
 use Rattle.qgm_core.specs.declared.kinds.QuantKind.{QuantKind}
 use Rattle.qgm_shown.specs.Leaves.{Leaf, leaves, sub}
@@ -26,5 +27,17 @@ fold_more {X} L xs i x ls old new end low is e f so_far =
     ap (λ zs. zs ++ folds_in (L (drop (i + 1) xs))) f ∙ append_assoc old (folds_in ls) (folds_in (L (drop (i + 1) xs)))
     ∙ ap (λ zs. old ++ zs) (sym (folds_append ls (L (drop (i + 1) xs)))) ∙ ap (λ zs. old ++ folds_in zs) (sym e)
     ∙ ap (λ (ys : List X). old ++ folds_in (L ys)) (sym (next_there xs i x low is)) ∙ so_far
+
+-- what holds of two results and of three, where each is Ok
+pub on_both : {T U E P Q R : Type 0} (a : Result T E) (b : Result U E) → (P → Q → R) → OnOk a P → OnOk b Q → OnOk (result_and a b) R
+on_both (Ok x) (Ok y) f p q = f p q
+on_both (Ok x) (Err e) f p q = tt
+on_both (Err e) b f p q = tt
+
+pub on_three : {T U V E P Q S R : Type 0} (a : Result T E) (b : Result U E) (d : Result V E) → (P → Q → S → R) → OnOk a P → OnOk b Q → OnOk d S → OnOk (result_and (result_and a b) d) R
+on_three (Ok x) (Ok y) (Ok z) f p q r = f p q r
+on_three (Ok x) (Ok y) (Err e) f p q r = tt
+on_three (Ok x) (Err e) d f p q r = tt
+on_three (Err e) b d f p q r = tt
 
 pub ruleset folding = (folds_append, appended)

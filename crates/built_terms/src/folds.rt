@@ -1,5 +1,5 @@
 // The aggregates of a block, in the order of the text.
-ghost use Rattle.std.specs.Prelude.{◌≡◌, ◌++◌, [], OnOk, map};
+ghost use Rattle.std.specs.Prelude.{◌≡◌, ◌++◌, ◌∷◌, [], OnOk, map};
 ghost use Rattle.sql_meaning.specs.ResolvedShown as shown;
 ghost use Rattle.qgm_shown.specs.Leaves as l;
 ghost use Rattle.qgm_shown.specs.Folds.{folds_in};
@@ -17,9 +17,16 @@ pub enum Fold<'a> {
     Of(SetFunction, bool, &'a Value),
 }
 
+// Adds an aggregate.
+fn push_fold<'a>(out: &mut Vec<Fold<'a>>, x: Fold<'a>) -> Result<(), OutOfMemory>
+    ensures { OnOk result (map leaf_of out.new.items ≡ map leaf_of out.old.items ++ leaf_of x.entry ∷ []) }
+{
+    out.push(x)?;
+    Ok(())
+}
+
 // Adds the aggregates of an expression.
 #[cycle(folds)]
-#[tactic(auto, using(sql_meaning::specs::ResolvedShown::lists, crate::proofs::Folding::folding))]
 pub(crate) fn value_folds<'a>(x: &'a Value, out: &mut Vec<Fold<'a>>) -> Result<(), OutOfMemory>
     ensures { OnOk result (map leaf_of out.new.items ≡ map leaf_of out.old.items ++ folds_in (l.leaves [] (shown.value x.now))) }
 {
@@ -29,40 +36,23 @@ pub(crate) fn value_folds<'a>(x: &'a Value, out: &mut Vec<Fold<'a>>) -> Result<(
         | Value::Null(_)
         | Value::Column(_, _)
         | Value::Scalar(_) => Ok(()),
-        Value::Sum(a, list) => {
-            value_folds(a, out)?;
-            addend_folds(list.as_slice(), out)
-        }
+        Value::Sum(a, list) => value_folds(a, out).and(addend_folds(list.as_slice(), out)),
         Value::Product(a, list) => {
-            value_folds(a, out)?;
-            multiplier_folds(list.as_slice(), out)
+            value_folds(a, out).and(multiplier_folds(list.as_slice(), out))
         }
         Value::Negative(a) => value_folds(a, out),
-        Value::Searched(list, last) => {
-            arm_folds(list.as_slice(), out)?;
-            value_folds(last, out)
-        }
+        Value::Searched(list, last) => arm_folds(list.as_slice(), out).and(value_folds(last, out)),
         Value::Simple(a, list, last) => {
-            value_folds(a, out)?;
-            choice_folds(list.as_slice(), out)?;
-            value_folds(last, out)
+            let read = value_folds(a, out).and(choice_folds(list.as_slice(), out));
+            read.and(value_folds(last, out))
         }
-        Value::Coalesce(a, list) => {
-            value_folds(a, out)?;
-            list_folds(list.as_slice(), out)
-        }
-        Value::NullIf(a, b) => {
-            value_folds(a, out)?;
-            value_folds(b, out)
-        }
-        Value::CountAll => {
-            out.push(Fold::CountAll)?;
-            Ok(())
-        }
-        Value::Aggregate(function, distinct, a) => {
-            out.push(Fold::Of(*function, *distinct, a))?;
-            Ok(())
-        }
+        Value::Coalesce(a, list) => value_folds(a, out).and(list_folds(list.as_slice(), out)),
+        Value::NullIf(a, b) => value_folds(a, out).and(value_folds(b, out)),
+        Value::CountAll => push_fold(out, Fold::CountAll),
+        Value::Aggregate(function, distinct, a) => push_fold(
+            out,
+            Fold::Of(*function, *distinct, a),
+        ),
     }
 }
 
@@ -125,7 +115,6 @@ fn choice_folds<'a>(list: &'a [Choice], out: &mut Vec<Fold<'a>>) -> Result<(), O
 
 /// Adds the aggregates of a condition, in their order.
 #[cycle(folds)]
-#[tactic(auto, using(sql_meaning::specs::ResolvedShown::lists, crate::proofs::Folding::folding))]
 pub fn test_folds<'a>(p: &'a Test, out: &mut Vec<Fold<'a>>) -> Result<(), OutOfMemory>
     ensures { OnOk result (map leaf_of out.new.items ≡ map leaf_of out.old.items ++ folds_in (l.test_leaves [] (shown.test p.now))) }
 {
@@ -133,20 +122,15 @@ pub fn test_folds<'a>(p: &'a Test, out: &mut Vec<Fold<'a>>) -> Result<(), OutOfM
         Test::All(list) | Test::Any(list) => tests_folds(list.as_slice(), out),
         Test::Not(p) => test_folds(p, out),
         Test::Compare(a, _, b) | Test::Like(a, b) => {
-            value_folds(a, out)?;
-            value_folds(b, out)
+            value_folds(a, out).and(value_folds(b, out))
         }
         Test::Quantified(a, _, _, _) => value_folds(a, out),
         Test::AmongRows(a, _) => value_folds(a, out),
         Test::Between(a, b, c) => {
-            value_folds(a, out)?;
-            value_folds(b, out)?;
-            value_folds(c, out)
+            let read = value_folds(a, out).and(value_folds(b, out));
+            read.and(value_folds(c, out))
         }
-        Test::Among(a, list) => {
-            value_folds(a, out)?;
-            list_folds(list.as_slice(), out)
-        }
+        Test::Among(a, list) => value_folds(a, out).and(list_folds(list.as_slice(), out)),
         Test::IsNull(a) => value_folds(a, out),
         Test::Exists(_) => Ok(()),
     }

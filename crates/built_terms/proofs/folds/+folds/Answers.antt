@@ -1,4 +1,5 @@
-use Rattle.std.proofs.Common.{◌+◌, ◌++◌, drop, List, [], map, ap, refl, sym, append_assoc}
+use Rattle.std.proofs.Common.{arith, ◌+◌, ◌++◌, drop, List, [], map, ap, refl, sym, append_assoc}
+use Rattle.std.proofs.lemmas.Grind.{common_steps}
 use Rattle.std.proofs.lemmas.Result.{on_ok_weaker}
 use Rattle.sql_meaning.specs.ResolvedShown as shown
 use Rattle.sql_meaning.specs.declared.resolved.Addend.{Addend}
@@ -9,7 +10,7 @@ use Rattle.sql_meaning.specs.declared.resolved.Test.{Test}
 use Rattle.sql_meaning.specs.declared.resolved.Value.{Value}
 use Rattle.qgm_shown.specs.Leaves as w
 use Rattle.built_terms.specs.Folds.{leaf_of}
-use Rattle.built_terms.proofs.Folding.{fold_more, fold_sub, fold_three, fold_two}
+use Rattle.built_terms.proofs.Folding.{fold_more, fold_sub, fold_three, fold_two, folding, on_both, on_three}
 use Rattle.built_terms.proofs.folds.+folds.Goals as goal
 
 pub addend_folds-loop-x-preserved : goal.addend_folds-loop-x-preserved
@@ -30,32 +31,6 @@ choice_folds-loop-x-preserved h c = fold_more (λ (xs : List Choice). w.choice_l
 pub tests_folds-loop-p-preserved : goal.tests_folds-loop-p-preserved
 tests_folds-loop-p-preserved h c = fold_more (λ (xs : List Test). w.tests_leaves [] (shown.test_list xs)) c.args.list.now c.loop-p.p-index c.p-item.result (w.test_leaves [] (shown.test c.p-item.result)) (map leaf_of c.loop-p.out.items) _ _ c.loop-p-test.true c.p-item.is refl c.in_ok-test_folds.ensures c.loop-p.invariant
 
-pub value_folds-returns-in_ok-value_folds-in-Sum : goal.value_folds-returns-in_ok-value_folds-in-Sum
-value_folds-returns-in_ok-value_folds-in-Sum h c =
-    rw (c.in-Sum.is, shown.addends_hidden c.in-Sum.list, ← c.as_slice.ensures, ← c.deref.ensures)
-    (on_ok_weaker c.addend_folds.result (λ e. fold_two (w.leaves [] (shown.value c.deref.result.now)) (w.addend_leaves [] (shown.addend_list c.as_slice.result.now)) _ _ _ c.in_ok-value_folds-in-Sum.ensures e) c.addend_folds.ensures)
-
-pub value_folds-returns-in_ok-value_folds-in-Product : goal.value_folds-returns-in_ok-value_folds-in-Product
-value_folds-returns-in_ok-value_folds-in-Product h c =
-    rw (c.in-Product.is, shown.multipliers_hidden c.in-Product.list, ← c.as_slice-in-Product.ensures, ← c.deref-in-Product.ensures)
-    (on_ok_weaker c.multiplier_folds.result (λ e. fold_two (w.leaves [] (shown.value c.deref-in-Product.result.now)) (w.multiplier_leaves [] (shown.multiplier_list c.as_slice-in-Product.result.now)) _ _ _ c.in_ok-value_folds-in-Product.ensures e) c.multiplier_folds.ensures)
-
-pub value_folds-returns-in_ok-value_folds-in-Coalesce : goal.value_folds-returns-in_ok-value_folds-in-Coalesce
-value_folds-returns-in_ok-value_folds-in-Coalesce h c =
-    rw (c.in-Coalesce.is, shown.values_hidden c.in-Coalesce.list, ← c.as_slice-in-Coalesce.ensures, ← c.deref-in-Coalesce.ensures)
-    (on_ok_weaker c.list_folds.result (λ e. fold_two (w.leaves [] (shown.value c.deref-in-Coalesce.result.now)) (w.list_leaves [] (shown.value_list c.as_slice-in-Coalesce.result.now)) _ _ _ c.in_ok-value_folds-in-Coalesce.ensures e) c.list_folds.ensures)
-
-pub value_folds-returns-in_ok-choice_folds-in-Simple : goal.value_folds-returns-in_ok-choice_folds-in-Simple
-value_folds-returns-in_ok-choice_folds-in-Simple h c =
-    rw (c.in-Simple.is, shown.choices_hidden c.in-Simple.list, ← c.as_slice-in-Simple.ensures, ← c.deref-in-Simple.ensures, ← c.deref-in-Simple-2.ensures)
-    (on_ok_weaker c.value_folds-in-Simple-2.result (λ e. fold_three (w.leaves [] (shown.value c.deref-in-Simple.result.now)) (w.choice_leaves [] (shown.choice_list c.as_slice-in-Simple.result.now)) (w.leaves [] (shown.value c.deref-in-Simple-2.result.now)) _ _ _ _
-    c.in_ok-value_folds-in-Simple.ensures c.in_ok-choice_folds-in-Simple.ensures e) c.value_folds-in-Simple-2.ensures)
-
-pub test_folds-returns-in_ok-value_folds-in-Among : goal.test_folds-returns-in_ok-value_folds-in-Among
-test_folds-returns-in_ok-value_folds-in-Among h c =
-    rw (c.in-Among.is, shown.values_hidden c.in-Among.list, ← c.as_slice.ensures, ← c.deref-in-Among.ensures)
-    (on_ok_weaker c.list_folds.result (λ e. fold_two (w.leaves [] (shown.value c.deref-in-Among.result.now)) (w.list_leaves [] (shown.value_list c.as_slice.result.now)) _ _ _ c.in_ok-value_folds-in-Among.ensures e) c.list_folds.ensures)
-
 pub test_folds-returns-in-Quantified : goal.test_folds-returns-in-Quantified
 test_folds-returns-in-Quantified h c =
     rw c.in-Quantified.is (on_ok_weaker c.value_folds.result (λ e. fold_sub (shown.value c.deref-in-Quantified.result.now) (shown.value c.in-Quantified.a.value) _ _ _ _ _ (ap shown.value c.deref-in-Quantified.ensures) e) c.value_folds.ensures)
@@ -63,3 +38,44 @@ test_folds-returns-in-Quantified h c =
 pub test_folds-returns-in-AmongRows : goal.test_folds-returns-in-AmongRows
 test_folds-returns-in-AmongRows h c =
     rw c.in-AmongRows.is (on_ok_weaker c.value_folds-in-AmongRows.result (λ e. fold_sub (shown.value c.deref-in-AmongRows.result.now) (shown.value c.in-AmongRows.a.value) _ _ _ _ _ (ap shown.value c.deref-in-AmongRows.ensures) e) c.value_folds-in-AmongRows.ensures)
+
+pub value_folds-returns-in-Sum : goal.value_folds-returns-in-Sum
+value_folds-returns-in-Sum h c =
+    rw (c.and.ensures, c.in-Sum.is, shown.addends_hidden c.in-Sum.list, ← c.as_slice.ensures, ← c.deref.ensures)
+    (on_both c.value_folds.result c.addend_folds.result (λ d e. fold_two (w.leaves [] (shown.value c.deref.result.now)) (w.addend_leaves [] (shown.addend_list c.as_slice.result.now)) _ _ _ d e) c.value_folds.ensures c.addend_folds.ensures)
+
+pub value_folds-returns-in-Product : goal.value_folds-returns-in-Product
+value_folds-returns-in-Product h c =
+    rw (c.and-in-Product.ensures, c.in-Product.is, shown.multipliers_hidden c.in-Product.list, ← c.as_slice-in-Product.ensures, ← c.deref-in-Product.ensures)
+    (on_both c.value_folds-in-Product.result c.multiplier_folds.result (λ d e. fold_two (w.leaves [] (shown.value c.deref-in-Product.result.now)) (w.multiplier_leaves [] (shown.multiplier_list c.as_slice-in-Product.result.now)) _ _ _ d e) c.value_folds-in-Product.ensures c.multiplier_folds.ensures)
+
+pub value_folds-returns-in-Searched : goal.value_folds-returns-in-Searched
+value_folds-returns-in-Searched h c = grind (arith, common_steps, shown.lists, folding)
+
+pub value_folds-returns-in-Simple : goal.value_folds-returns-in-Simple
+value_folds-returns-in-Simple h c =
+    rw (c.and-in-Simple.ensures, c.and-read.ensures, c.in-Simple.is, shown.choices_hidden c.in-Simple.list, ← c.as_slice-in-Simple.ensures, ← c.deref-in-Simple.ensures, ← c.deref-in-Simple-2.ensures)
+    (on_three c.value_folds-in-Simple.result c.choice_folds.result c.value_folds-in-Simple-2.result (λ d e f. fold_three (w.leaves [] (shown.value c.deref-in-Simple.result.now)) (w.choice_leaves [] (shown.choice_list c.as_slice-in-Simple.result.now)) (w.leaves [] (shown.value c.deref-in-Simple-2.result.now)) _ _ _ _ d e f)
+    c.value_folds-in-Simple.ensures c.choice_folds.ensures c.value_folds-in-Simple-2.ensures)
+
+pub value_folds-returns-in-Coalesce : goal.value_folds-returns-in-Coalesce
+value_folds-returns-in-Coalesce h c =
+    rw (c.and-in-Coalesce.ensures, c.in-Coalesce.is, shown.values_hidden c.in-Coalesce.list, ← c.as_slice-in-Coalesce.ensures, ← c.deref-in-Coalesce.ensures)
+    (on_both c.value_folds-in-Coalesce.result c.list_folds.result (λ d e. fold_two (w.leaves [] (shown.value c.deref-in-Coalesce.result.now)) (w.list_leaves [] (shown.value_list c.as_slice-in-Coalesce.result.now)) _ _ _ d e) c.value_folds-in-Coalesce.ensures c.list_folds.ensures)
+
+pub value_folds-returns-in-NullIf : goal.value_folds-returns-in-NullIf
+value_folds-returns-in-NullIf h c = grind (arith, common_steps, shown.lists, folding)
+
+pub test_folds-returns-in-All : goal.test_folds-returns-in-All
+test_folds-returns-in-All h c = grind (arith, common_steps, shown.lists, folding)
+
+pub test_folds-returns-in-Compare : goal.test_folds-returns-in-Compare
+test_folds-returns-in-Compare h c = grind (arith, common_steps, shown.lists, folding)
+
+pub test_folds-returns-in-Between : goal.test_folds-returns-in-Between
+test_folds-returns-in-Between h c = grind (arith, common_steps, shown.lists, folding)
+
+pub test_folds-returns-in-Among : goal.test_folds-returns-in-Among
+test_folds-returns-in-Among h c =
+    rw (c.and-in-Among.ensures, c.in-Among.is, shown.values_hidden c.in-Among.list, ← c.as_slice.ensures, ← c.deref-in-Among.ensures)
+    (on_both c.value_folds-in-Among.result c.list_folds.result (λ d e. fold_two (w.leaves [] (shown.value c.deref-in-Among.result.now)) (w.list_leaves [] (shown.value_list c.as_slice.result.now)) _ _ _ d e) c.value_folds-in-Among.ensures c.list_folds.ensures)
