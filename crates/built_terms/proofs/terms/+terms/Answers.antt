@@ -1,4 +1,5 @@
 use Rattle.std.proofs.Common.{arith, ◌+◌, ◌++◌, List, ◌∷◌, drop, map, ap₂, sym, ◌∙◌, refl}
+use Rattle.std.proofs.lemmas.Grind.{common_steps}
 use Rattle.sql_meaning.specs.ResolvedShown as shown
 use Rattle.sql_meaning.specs.declared.resolved.Addend.{Addend}
 use Rattle.sql_meaning.specs.declared.resolved.Arm.{Arm}
@@ -148,3 +149,30 @@ value-returns-in_ok-last-in-Searched-clause-slots h c = grind (arith, shown.list
 
 pub value-returns-in-NullIf-clause-slots : goal.value-returns-in-NullIf-clause-slots
 value-returns-in-NullIf-clause-slots h c = grind (arith, after_append)
+
+pub test-returns-in-Compare-clause-cond : goal.test-returns-in-Compare-clause-cond
+test-returns-in-Compare-clause-cond h c = grind (arith, common_steps)
+
+pub test-returns-in-Like-clause-cond : goal.test-returns-in-Like-clause-cond
+test-returns-in-Like-clause-cond h c = grind (arith, common_steps)
+
+pub test-returns-in-Between-clause-cond : goal.test-returns-in-Between-clause-cond
+test-returns-in-Between-clause-cond h c = grind (arith, common_steps)
+
+pub test-returns-in-Quantified-clause-cond : goal.test-returns-in-Quantified-clause-cond
+test-returns-in-Quantified-clause-cond h c = grind (arith, common_steps)
+
+pub test-returns-in-AmongRows-clause-cond : goal.test-returns-in-AmongRows-clause-cond
+test-returns-in-AmongRows-clause-cond h c = grind (arith, common_steps)
+
+pub test-returns-in-Not-clause-cond : goal.test-returns-in-Not-clause-cond
+test-returns-in-Not-clause-cond h c = grind (arith, common_steps)
+
+pub test-returns-in-IsNull-clause-cond : goal.test-returns-in-IsNull-clause-cond
+test-returns-in-IsNull-clause-cond h c = grind (arith, common_steps)
+
+pub value-returns-in-NullIf-clause-term : goal.value-returns-in-NullIf-clause-term
+value-returns-in-NullIf-clause-term h c = grind (arith, common_steps)
+
+pub value-returns-in-Negative-clause-term : goal.value-returns-in-Negative-clause-term
+value-returns-in-Negative-clause-term h c = grind (arith, common_steps)
