@@ -38,7 +38,6 @@ pub fn next_id(os: &mut Ranges<'_>) -> QuantId
 }
 
 /// Adds columns of a quantifier, from the first on.
-#[tactic(auto, using(crate::proofs::Lists::refs_more))]
 pub fn push_refs(frame: &mut Vec<Seen>, q: QuantId, n: usize) -> Result<(), OutOfMemory>
     ensures { OnOk result (frame_of frame.new.items ≡ frame_of frame.old.items ++ w.refs q 1 n) }
 {
@@ -135,7 +134,6 @@ pub fn frame(
 }
 
 /// The same of a FROM.
-#[tactic(auto, using(crate::proofs::Steps::appended))]
 pub fn frame_all(
     g: &Site<'_>,
     list: &[From],

@@ -137,7 +137,6 @@ fn key_ref(u: QuantId, places: &[usize], i: usize) -> Seen
 }
 
 /// Where n columns of a FROM are seen, of which the grouping ones are keys.
-#[tactic(auto, using(crate::proofs::Grouped::key_more))]
 pub fn key_frame(
     alloc: Global,
     u: QuantId,
