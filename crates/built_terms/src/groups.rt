@@ -100,7 +100,6 @@ fn fold_term(
 }
 
 /// Adds the aggregates of a group box, whose arguments stand from column j on.
-#[tactic(auto, using(crate::proofs::Steps::appended))]
 pub fn fold_terms(
     alloc: Global,
     q: QuantId,

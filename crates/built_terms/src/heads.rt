@@ -31,7 +31,6 @@ fn add_any(out: &mut Conds, first: Box<Gc>, list: Vec<Gc>) -> Result<(), OutOfMe
 
 /// Adds a condition, split at each AND that isn't under OR and NOT.
 #[cycle(split)]
-#[tactic(auto, using(qgm_terms::proofs::Lists::lists))]
 pub fn add_split(out: &mut Conds, p: Gc) -> Result<(), OutOfMemory>
     ensures items { OnOk result (out.new.items ≡ out.old.items ++ split (cond p)) }
     ensures spare { out.new.spare ≡ out.old.spare }

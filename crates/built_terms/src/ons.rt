@@ -37,7 +37,6 @@ pub fn joined_frame(
 }
 
 /// Adds the ON conditions of an operand, whose quantifiers come first.
-#[tactic(auto, using(crate::proofs::Afters::afters, crate::proofs::Steps::appended))]
 pub fn on_conds(
     g: &Site<'_>,
     x: &From,
@@ -79,7 +78,6 @@ pub fn on_conds(
 }
 
 /// The aggregates of the ON conditions of an operand.
-#[tactic(auto, using(crate::proofs::Steps::appended))]
 pub fn on_folds<'a>(x: &'a From, out: &mut Vec<Fold<'a>>) -> Result<(), OutOfMemory>
     ensures { OnOk result (map leaf_of out.new.items ≡ map leaf_of out.old.items ++ spec.on_folds (shown.from x.now)) }
 {
@@ -98,7 +96,6 @@ pub fn on_folds<'a>(x: &'a From, out: &mut Vec<Fold<'a>>) -> Result<(), OutOfMem
 }
 
 /// Adds the ON conditions of a FROM, whose quantifiers come first.
-#[tactic(auto, using(crate::proofs::Afters::afters, crate::proofs::Steps::appended))]
 pub fn all_on_conds(
     g: &Site<'_>,
     list: &[From],
@@ -118,7 +115,6 @@ pub fn all_on_conds(
 }
 
 /// The aggregates of the ON conditions of a FROM.
-#[tactic(auto, using(crate::proofs::Steps::appended))]
 pub fn all_on_folds<'a>(list: &'a [From], out: &mut Vec<Fold<'a>>) -> Result<(), OutOfMemory>
     ensures { OnOk result (map leaf_of out.new.items ≡ map leaf_of out.old.items ++ spec.all_on_folds (shown.from_list list.now)) }
 {

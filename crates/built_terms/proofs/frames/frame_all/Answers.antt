@@ -4,4 +4,4 @@ use Rattle.built_terms.proofs.Steps.{appended}
 use Rattle.built_terms.proofs.frames.frame_all.Goals as goal
 
 pub loop-x-preserved : goal.loop-x-preserved
-loop-x-preserved c = record { frame = grind (arith, common_steps, appended); past = grind (arith, common_steps, appended); }
+loop-x-preserved c = record { frame = grind (arith, common_steps, appended); past = grind (arith, common_steps, appended) }

@@ -3,7 +3,7 @@ use Rattle.std.proofs.lemmas.Grind.{common_steps}
 use Rattle.std.proofs.lemmas.Result.{on_ok_weaker}
 use Rattle.qgm_terms.specs.Shown.{cond, conds}
 use Rattle.qgm_shown.specs.Terms.{split}
-use Rattle.qgm_terms.proofs.Lists.{conds_hidden}
+use Rattle.qgm_terms.proofs.Lists.{conds_hidden, lists}
 use Rattle.built_terms.proofs.Splitting.{split_all, split_next, split_none}
 use Rattle.built_terms.proofs.heads.+split.Goals as goal
 
@@ -22,3 +22,6 @@ pub add_split-returns-then-is_empty-clause-items : goal.add_split-returns-then-i
 add_split-returns-then-is_empty-clause-items h c =
     let e : length c.in-Any.list.items ≡ 0 = grind (arith, common_steps) in
     rw (c.in-Any.is, conds_hidden c.in-Any.list, split_none (cond c.in-Any.first.value) c.in-Any.list.items e, ← c.into_inner-then-is_empty.ensures) c.add_split-then-is_empty.ensures.items
+
+pub add_split-returns-else-is_empty-clause-items : goal.add_split-returns-else-is_empty-clause-items
+add_split-returns-else-is_empty-clause-items h c = grind (arith, common_steps, lists)

@@ -1,10 +1,13 @@
-use Rattle.std.proofs.Common.{ap}
+use Rattle.std.proofs.Common.{ap, arith}
+use Rattle.std.proofs.lemmas.Grind.{common_steps}
 use Rattle.std.proofs.lemmas.Result.{on_ok_weaker}
 use Rattle.sql_meaning.specs.ResolvedShown as shown
 use Rattle.qgm_terms.specs.Shown.{cond}
 use Rattle.built_terms.specs.Site.{sources_at}
 use Rattle.built_terms.specs.Written.{frame_of, map_of, slots_of}
+use Rattle.built_terms.proofs.Afters.{after_append}
 use Rattle.built_terms.proofs.Onning.{joined_read}
+use Rattle.built_terms.proofs.Steps.{appended}
 use Rattle.built_terms.proofs.ons.+on_conds.Goals as goal
 
 pub returns-in_ok-c-in-Joined-clause-conds : goal.returns-in_ok-c-in-Joined-clause-conds
@@ -16,3 +19,9 @@ returns-in_ok-c-in-Joined-clause-conds h c =
     (ap shown.from c.deref-in-Joined.ensures) (ap shown.from c.deref-in-Joined-2.ensures) (ap shown.from c.deref-in-Joined-3.ensures) (ap shown.from c.deref-in-Joined-4.ensures) (ap shown.test c.deref-in-Joined-6.ensures) (ap frame_of c.deref-in-Joined-5.ensures.value)
     c.in_ok-on_conds-in-Joined.ensures.conds c.in_ok-on_conds-in-Joined.ensures.slots c.in_ok-on_conds-in-Joined.ensures.past c.in_ok-on_conds-in-Joined-2.ensures.conds c.in_ok-on_conds-in-Joined-2.ensures.slots
     c.in_ok-seen-in-Joined.ensures c.in_ok-c-in-Joined.ensures.cond e) c.add_boxed.ensures.items)
+
+pub returns-in_ok-c-in-Joined-clause-slots : goal.returns-in_ok-c-in-Joined-clause-slots
+returns-in_ok-c-in-Joined-clause-slots h c = grind (arith, common_steps, after_append, appended)
+
+pub returns-in_ok-on_conds-in-Crossed-clause-slots : goal.returns-in_ok-on_conds-in-Crossed-clause-slots
+returns-in_ok-on_conds-in-Crossed-clause-slots h c = grind (arith, common_steps, after_append, appended)
