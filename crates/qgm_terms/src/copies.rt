@@ -4,9 +4,11 @@ ghost use Rattle.std.specs.Prelude.{◌≡◌, IfOk};
 ghost use Rattle.qgm_terms.specs.Shown.{choices, cond, conds, links, term};
 ghost use Rattle.qgm_terms.specs.Terms as t;
 
-use crate::chains::{anded, chained, ored};
 use crate::parts::{Conds, Head};
-use crate::rebuilt::{with_operand, with_operands};
+use crate::rebuilt::{
+    anded_of, case_of, chained_of, every_of, is_null_of, not_of, of_operand, of_operands, ored_of,
+    push_arm, some_of,
+};
 use crate::tree::{Arm, Gc, Gx, Link};
 use shared_types::{OutOfMemory, Text};
 use std::alloc::Global;
@@ -37,11 +39,11 @@ pub fn copy(alloc: Global, x: &Gx, room: usize) -> Result<Gx, OutOfMemory>
         Gx::Col(q, k) => Ok(Gx::Col(*q, *k)),
         Gx::Scalar(q) => Ok(Gx::Scalar(*q)),
         Gx::CountAll => Ok(Gx::CountAll),
-        Gx::Chain(a, list) => {
-            let first = copy(alloc, a, room - 1)?;
-            copy_links(alloc, first, list, room - 1)
+        Gx::Chain(a, list) => copy_chain(alloc, a, list, room - 1),
+        Gx::Case(list, a) => {
+            let arms = copy_arms(alloc, list, room - 1);
+            case_of(alloc, arms, copy(alloc, a, room - 1))
         }
-        Gx::Case(list, a) => copy_case(alloc, list, a, room - 1),
         Gx::Neg(a)
         | Gx::Single(a)
         | Gx::Count(a)
@@ -53,50 +55,34 @@ pub fn copy(alloc: Global, x: &Gx, room: usize) -> Result<Gx, OutOfMemory>
         | Gx::SumDistinct(a)
         | Gx::AvgDistinct(a)
         | Gx::MinDistinct(a)
-        | Gx::MaxDistinct(a) => Ok(with_operand(x, copy_box(alloc, a, room - 1)?)),
+        | Gx::MaxDistinct(a) => of_operand(alloc, x, copy(alloc, a, room - 1)),
     }
 }
 
+// A chain of a first operand and others.
 #[cycle(copy)]
 #[inline(never)]
-fn copy_box(alloc: Global, x: &Gx, room: usize) -> Result<Box<Gx>, OutOfMemory>
-    ensures { IfOk result (λ y. term y.value ≡ term x.now) }
+fn copy_chain(alloc: Global, a: &Gx, list: &[Link], room: usize) -> Result<Gx, OutOfMemory>
+    ensures { IfOk result (λ y. term y ≡ t.linked (term a.now) (links list.now)) }
 {
-    Ok(Box::new(alloc, copy(alloc, x, room)?)?)
-}
-
-// A chain behind a first operand.
-#[cycle(copy)]
-#[inline(never)]
-fn copy_links(alloc: Global, first: Gx, list: &[Link], room: usize) -> Result<Gx, OutOfMemory>
-    ensures { IfOk result (λ y. term y ≡ t.linked (term first) (links list.now)) }
-{
-    let mut total = first;
+    let mut total = copy(alloc, a, room);
     for link in list {
-        let next = copy(alloc, &link.right, room)?;
-        total = chained(alloc, total, link.op, next)?;
+        let next = copy(alloc, &link.right, room);
+        total = chained_of(alloc, total, link.op, next);
     }
-    Ok(total)
+    total
 }
 
+// The arms of a CASE.
 #[cycle(copy)]
 #[inline(never)]
-fn copy_case(alloc: Global, list: &[Arm], last: &Gx, room: usize) -> Result<Gx, OutOfMemory>
-    ensures { IfOk result (λ y. term y ≡ t.choose (t.armed (choices list.now)) (term last.now)) }
-{
-    let arms = copy_arms(alloc, list, room)?;
-    Ok(Gx::Case(arms, copy_box(alloc, last, room)?))
-}
-
-#[cycle(copy)]
 fn copy_arms(alloc: Global, list: &[Arm], room: usize) -> Result<Vec<Arm>, OutOfMemory>
     ensures { IfOk result (λ v. choices v.items ≡ choices list.now) }
 {
     let mut all = Vec::new(alloc);
     for arm in list {
-        let when = copy_cond(alloc, &arm.when, room)?;
-        let then = copy(alloc, &arm.then, room)?;
-        all.push(Arm { when, then })?;
+        let when = copy_cond(alloc, &arm.when, room);
+        push_arm(&mut all, when, copy(alloc, &arm.then, room))?;
     }
     Ok(all)
 }
@@ -120,59 +106,44 @@ pub fn copy_cond(alloc: Global, c: &Gc, room: usize) -> Result<Gc, OutOfMemory>
         | Gc::Ge(a, b)
         | Gc::Same(a, b)
         | Gc::Like(a, b) => {
-            let left = copy_box(alloc, a, room - 1)?;
-            let right = copy_box(alloc, b, room - 1)?;
-            Ok(with_operands(c, left, right))
+            let left = copy(alloc, a, room - 1);
+            of_operands(alloc, c, left, copy(alloc, b, room - 1))
         }
-        Gc::IsNull(a) => Ok(Gc::IsNull(copy_box(alloc, a, room - 1)?)),
-        Gc::All(a, list) => {
-            let first = copy_cond(alloc, a, room - 1)?;
-            copy_all(alloc, first, list, room - 1)
-        }
-        Gc::Any(a, list) => {
-            let first = copy_cond(alloc, a, room - 1)?;
-            copy_any(alloc, first, list, room - 1)
-        }
-        Gc::Not(a) => Ok(Gc::Not(copy_cond_box(alloc, a, room - 1)?)),
-        Gc::Some(q, a) => Ok(Gc::Some(*q, copy_cond_box(alloc, a, room - 1)?)),
-        Gc::Every(q, a) => Ok(Gc::Every(*q, copy_cond_box(alloc, a, room - 1)?)),
+        Gc::IsNull(a) => is_null_of(alloc, copy(alloc, a, room - 1)),
+        Gc::All(a, list) => copy_all(alloc, a, list, room - 1),
+        Gc::Any(a, list) => copy_any(alloc, a, list, room - 1),
+        Gc::Not(a) => not_of(alloc, copy_cond(alloc, a, room - 1)),
+        Gc::Some(q, a) => some_of(alloc, *q, copy_cond(alloc, a, room - 1)),
+        Gc::Every(q, a) => every_of(alloc, *q, copy_cond(alloc, a, room - 1)),
     }
 }
 
+// The AND of a first condition and others.
 #[cycle(copy)]
 #[inline(never)]
-pub(crate) fn copy_cond_box(alloc: Global, c: &Gc, room: usize) -> Result<Box<Gc>, OutOfMemory>
-    ensures { IfOk result (λ p. cond p.value ≡ cond c.now) }
+fn copy_all(alloc: Global, a: &Gc, list: &[Gc], room: usize) -> Result<Gc, OutOfMemory>
+    ensures { IfOk result (λ p. cond p ≡ t.anded (cond a.now) (conds list.now)) }
 {
-    Ok(Box::new(alloc, copy_cond(alloc, c, room)?)?)
-}
-
-// The AND behind a first condition.
-#[cycle(copy)]
-#[inline(never)]
-fn copy_all(alloc: Global, first: Gc, list: &[Gc], room: usize) -> Result<Gc, OutOfMemory>
-    ensures { IfOk result (λ p. cond p ≡ t.anded (cond first) (conds list.now)) }
-{
-    let mut total = first;
+    let mut total = copy_cond(alloc, a, room);
     for c in list {
-        let next = copy_cond(alloc, c, room)?;
-        total = anded(alloc, total, next)?;
+        let next = copy_cond(alloc, c, room);
+        total = anded_of(alloc, total, next);
     }
-    Ok(total)
+    total
 }
 
-// The OR behind a first condition.
+// The OR of a first condition and others.
 #[cycle(copy)]
 #[inline(never)]
-fn copy_any(alloc: Global, first: Gc, list: &[Gc], room: usize) -> Result<Gc, OutOfMemory>
-    ensures { IfOk result (λ p. cond p ≡ t.ored (cond first) (conds list.now)) }
+fn copy_any(alloc: Global, a: &Gc, list: &[Gc], room: usize) -> Result<Gc, OutOfMemory>
+    ensures { IfOk result (λ p. cond p ≡ t.ored (cond a.now) (conds list.now)) }
 {
-    let mut total = first;
+    let mut total = copy_cond(alloc, a, room);
     for c in list {
-        let next = copy_cond(alloc, c, room)?;
-        total = ored(alloc, total, next)?;
+        let next = copy_cond(alloc, c, room);
+        total = ored_of(alloc, total, next);
     }
-    Ok(total)
+    total
 }
 
 /// A copy of a head.

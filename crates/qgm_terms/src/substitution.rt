@@ -4,11 +4,13 @@ ghost use Rattle.qgm_terms.specs.Substitution.{substituted, column_substituted, 
 ghost use Rattle.qgm_terms.specs.Shown.{choices, cond, conds, links, term};
 ghost use Rattle.qgm_terms.specs.Terms as t;
 
-use crate::chains::{anded, chained, ored};
-use crate::copies::{copy, copy_cond_box, text};
+use crate::copies::{copy, copy_cond, text};
 use crate::named::QuantId;
 use crate::parts::{Conds, Head};
-use crate::rebuilt::{with_operand, with_operands};
+use crate::rebuilt::{
+    anded_of, case_of, chained_of, every_of, is_null_of, not_of, of_operand, of_operands, ored_of,
+    push_arm, some_of,
+};
 use crate::tree::{Arm, Gc, Gx, Link};
 use shared_types::OutOfMemory;
 use std::alloc::Global;
@@ -60,11 +62,11 @@ pub fn substitute(
         Gx::Col(r, k) => cell_of(alloc, *r, *k, q, cells, room),
         Gx::Scalar(r) => Ok(Gx::Scalar(*r)),
         Gx::CountAll => Ok(Gx::CountAll),
-        Gx::Chain(a, list) => {
-            let first = substitute(alloc, a, q, cells, room - 1)?;
-            substitute_links(alloc, first, list, q, cells, room - 1)
+        Gx::Chain(a, list) => substitute_chain(alloc, a, list, q, cells, room - 1),
+        Gx::Case(list, a) => {
+            let arms = substitute_arms(alloc, list, q, cells, room - 1);
+            case_of(alloc, arms, substitute(alloc, a, q, cells, room - 1))
         }
-        Gx::Case(list, a) => substitute_case(alloc, list, a, q, cells, room - 1),
         Gx::Neg(a)
         | Gx::Single(a)
         | Gx::Count(a)
@@ -76,62 +78,34 @@ pub fn substitute(
         | Gx::SumDistinct(a)
         | Gx::AvgDistinct(a)
         | Gx::MinDistinct(a)
-        | Gx::MaxDistinct(a) => Ok(with_operand(x, substitute_box(alloc, a, q, cells, room - 1)?)),
+        | Gx::MaxDistinct(a) => of_operand(alloc, x, substitute(alloc, a, q, cells, room - 1)),
     }
 }
 
+// A chain of a first operand and others.
 #[cycle(substitute)]
 #[inline(never)]
-fn substitute_box(
+fn substitute_chain(
     alloc: Global,
-    x: &Gx,
-    q: QuantId,
-    cells: &Head,
-    room: usize,
-) -> Result<Box<Gx>, OutOfMemory>
-    ensures { IfOk result (λ y. term y.value ≡ substituted q cells.now (term x.now)) }
-{
-    Ok(Box::new(alloc, substitute(alloc, x, q, cells, room)?)?)
-}
-
-// A chain behind a first operand.
-#[cycle(substitute)]
-#[inline(never)]
-fn substitute_links(
-    alloc: Global,
-    first: Gx,
+    a: &Gx,
     list: &[Link],
     q: QuantId,
     cells: &Head,
     room: usize,
 ) -> Result<Gx, OutOfMemory>
-    ensures { IfOk result (λ y. term y ≡ t.linked (term first) (substituted_links q cells.now (links list.now))) }
+    ensures { IfOk result (λ y. term y ≡ t.linked (substituted q cells.now (term a.now)) (substituted_links q cells.now (links list.now))) }
 {
-    let mut total = first;
+    let mut total = substitute(alloc, a, q, cells, room);
     for link in list {
-        let next = substitute(alloc, &link.right, q, cells, room)?;
-        total = chained(alloc, total, link.op, next)?;
+        let next = substitute(alloc, &link.right, q, cells, room);
+        total = chained_of(alloc, total, link.op, next);
     }
-    Ok(total)
+    total
 }
 
+// The arms of a CASE.
 #[cycle(substitute)]
 #[inline(never)]
-fn substitute_case(
-    alloc: Global,
-    list: &[Arm],
-    last: &Gx,
-    q: QuantId,
-    cells: &Head,
-    room: usize,
-) -> Result<Gx, OutOfMemory>
-    ensures { IfOk result (λ y. term y ≡ t.choose (t.armed (substituted_choices q cells.now (choices list.now))) (substituted q cells.now (term last.now))) }
-{
-    let arms = substitute_arms(alloc, list, q, cells, room)?;
-    Ok(Gx::Case(arms, substitute_box(alloc, last, q, cells, room)?))
-}
-
-#[cycle(substitute)]
 fn substitute_arms(
     alloc: Global,
     list: &[Arm],
@@ -143,9 +117,9 @@ fn substitute_arms(
 {
     let mut all = Vec::new(alloc);
     for arm in list {
-        let when = substitute_cond(alloc, &arm.when, q, cells, room)?;
-        let then = substitute(alloc, &arm.then, q, cells, room)?;
-        all.push(Arm { when, then })?;
+        let when = substitute_cond(alloc, &arm.when, q, cells, room);
+        let then = substitute(alloc, &arm.then, q, cells, room);
+        push_arm(&mut all, when, then)?;
     }
     Ok(all)
 }
@@ -175,37 +149,25 @@ pub fn substitute_cond(
         | Gc::Ge(a, b)
         | Gc::Same(a, b)
         | Gc::Like(a, b) => {
-            let left = substitute_box(alloc, a, q, cells, room - 1)?;
-            let right = substitute_box(alloc, b, q, cells, room - 1)?;
-            Ok(with_operands(c, left, right))
+            let left = substitute(alloc, a, q, cells, room - 1);
+            let right = substitute(alloc, b, q, cells, room - 1);
+            of_operands(alloc, c, left, right)
         }
-        Gc::IsNull(a) => Ok(Gc::IsNull(substitute_box(alloc, a, q, cells, room - 1)?)),
-        Gc::All(a, list) => {
-            let first = substitute_cond(alloc, a, q, cells, room - 1)?;
-            substitute_all(alloc, first, list, q, cells, room - 1)
-        }
-        Gc::Any(a, list) => {
-            let first = substitute_cond(alloc, a, q, cells, room - 1)?;
-            substitute_any(alloc, first, list, q, cells, room - 1)
-        }
-        Gc::Not(a) => Ok(Gc::Not(substitute_cond_box(alloc, a, q, cells, room - 1)?)),
-        Gc::Some(r, a) => Ok(Gc::Some(*r, substitute_within(alloc, *r, a, q, cells, room - 1)?)),
-        Gc::Every(r, a) => Ok(Gc::Every(*r, substitute_within(alloc, *r, a, q, cells, room - 1)?)),
+        Gc::IsNull(a) => is_null_of(alloc, substitute(alloc, a, q, cells, room - 1)),
+        Gc::All(a, list) => substitute_all(alloc, a, list, q, cells, room - 1),
+        Gc::Any(a, list) => substitute_any(alloc, a, list, q, cells, room - 1),
+        Gc::Not(a) => not_of(alloc, substitute_cond(alloc, a, q, cells, room - 1)),
+        Gc::Some(r, a) => some_of(
+            alloc,
+            *r,
+            substitute_within(alloc, *r, a, q, cells, room - 1),
+        ),
+        Gc::Every(r, a) => every_of(
+            alloc,
+            *r,
+            substitute_within(alloc, *r, a, q, cells, room - 1),
+        ),
     }
-}
-
-#[cycle(substitute)]
-#[inline(never)]
-fn substitute_cond_box(
-    alloc: Global,
-    c: &Gc,
-    q: QuantId,
-    cells: &Head,
-    room: usize,
-) -> Result<Box<Gc>, OutOfMemory>
-    ensures { IfOk result (λ p. cond p.value ≡ substituted_cond q cells.now (cond c.now)) }
-{
-    Ok(Box::new(alloc, substitute_cond(alloc, c, q, cells, room)?)?)
 }
 
 // The condition of a some or every of a quantifier.
@@ -218,56 +180,56 @@ fn substitute_within(
     q: QuantId,
     cells: &Head,
     room: usize,
-) -> Result<Box<Gc>, OutOfMemory>
-    ensures { IfOk result (λ p. cond p.value ≡ substituted_within q cells.now r (cond c.now)) }
+) -> Result<Gc, OutOfMemory>
+    ensures { IfOk result (λ p. cond p ≡ substituted_within q cells.now r (cond c.now)) }
 {
     if r == q {
-        copy_cond_box(alloc, c, room)
+        copy_cond(alloc, c, room)
     } else {
-        substitute_cond_box(alloc, c, q, cells, room)
+        substitute_cond(alloc, c, q, cells, room)
     }
 }
 
-// The AND behind a first condition.
+// The AND of a first condition and others.
 #[cycle(substitute)]
 #[inline(never)]
 fn substitute_all(
     alloc: Global,
-    first: Gc,
+    a: &Gc,
     list: &[Gc],
     q: QuantId,
     cells: &Head,
     room: usize,
 ) -> Result<Gc, OutOfMemory>
-    ensures { IfOk result (λ p. cond p ≡ t.anded (cond first) (map (substituted_cond q cells.now) (conds list.now))) }
+    ensures { IfOk result (λ p. cond p ≡ t.anded (substituted_cond q cells.now (cond a.now)) (map (substituted_cond q cells.now) (conds list.now))) }
 {
-    let mut total = first;
+    let mut total = substitute_cond(alloc, a, q, cells, room);
     for c in list {
-        let next = substitute_cond(alloc, c, q, cells, room)?;
-        total = anded(alloc, total, next)?;
+        let next = substitute_cond(alloc, c, q, cells, room);
+        total = anded_of(alloc, total, next);
     }
-    Ok(total)
+    total
 }
 
-// The OR behind a first condition.
+// The OR of a first condition and others.
 #[cycle(substitute)]
 #[inline(never)]
 fn substitute_any(
     alloc: Global,
-    first: Gc,
+    a: &Gc,
     list: &[Gc],
     q: QuantId,
     cells: &Head,
     room: usize,
 ) -> Result<Gc, OutOfMemory>
-    ensures { IfOk result (λ p. cond p ≡ t.ored (cond first) (map (substituted_cond q cells.now) (conds list.now))) }
+    ensures { IfOk result (λ p. cond p ≡ t.ored (substituted_cond q cells.now (cond a.now)) (map (substituted_cond q cells.now) (conds list.now))) }
 {
-    let mut total = first;
+    let mut total = substitute_cond(alloc, a, q, cells, room);
     for c in list {
-        let next = substitute_cond(alloc, c, q, cells, room)?;
-        total = ored(alloc, total, next)?;
+        let next = substitute_cond(alloc, c, q, cells, room);
+        total = ored_of(alloc, total, next);
     }
-    Ok(total)
+    total
 }
 
 /// The same of a head.
