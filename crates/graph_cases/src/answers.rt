@@ -43,22 +43,10 @@ impl Question {
     pub fn read(text: &str) -> Result<Option<Question>, LineError> {
         let mut words = text.split_whitespace();
         let question = match words.next() {
-            Some("check") => Question::Check,
-            Some("walk") => Question::Walk(next_walk(&mut words)?),
-            Some("root") => Question::Root,
-            Some("len") => Question::Len,
-            Some("names") => Question::Names,
-            Some("keys") => Question::Keys,
-            Some(word) => match of_number(word, &mut words)? {
-                Some(question) => question,
-                None => return Ok(None),
-            },
-            None => return Ok(None),
+            Some(word) => next_question(word, &mut words),
+            None => Ok(None),
         };
-        match words.next() {
-            None => Ok(Some(question)),
-            Some(_) => Err(LineError::Faulty("more is asked than can be")),
-        }
+        whole(question, words.next())
     }
 
     /// The answer.
@@ -80,27 +68,75 @@ impl Question {
     }
 }
 
-// A question of numbers, by its first word.
-fn of_number(word: &str, words: &mut SplitWhitespace<'_>) -> Result<Option<Question>, LineError> {
-    if word == "quantifier-at" {
-        let b = next_number(words)?;
-        return Ok(Some(Question::QuantAt(b, next_number(words)?)));
+// A question that no word may stand behind.
+fn whole(
+    question: Result<Option<Question>, LineError>,
+    more: Option<&str>,
+) -> Result<Option<Question>, LineError> {
+    match (question?, more) {
+        (Some(_), Some(_)) => Err(LineError::Faulty("more is asked than can be")),
+        (question, _) => Ok(question),
     }
-    let n = match words.next() {
-        Some(word) => word.parse::<usize>(),
-        None => return Ok(None),
-    };
-    let Ok(n) = n else {
-        return Ok(None);
-    };
-    Ok(match word {
+}
+
+// A question, by its first word and those behind it.
+fn next_question(
+    word: &str,
+    words: &mut SplitWhitespace<'_>,
+) -> Result<Option<Question>, LineError> {
+    match word {
+        "walk" => walk_by(next_walk(words)),
+        "quantifier-at" => quant_of(next_number(words), next_number(words)),
+        word => match of_word(word) {
+            None => Ok(of_next(word, words.next())),
+            asked => Ok(asked),
+        },
+    }
+}
+
+// The question of a walk.
+fn walk_by(walk: Result<Walk, LineError>) -> Result<Option<Question>, LineError> {
+    Ok(Some(Question::Walk(walk?)))
+}
+
+// The question of a quantifier at a place of a box.
+fn quant_of(
+    b: Result<BoxId, LineError>,
+    k: Result<usize, LineError>,
+) -> Result<Option<Question>, LineError> {
+    Ok(Some(Question::QuantAt(b?, k?)))
+}
+
+// A question of one word.
+fn of_word(word: &str) -> Option<Question> {
+    match word {
+        "check" => Some(Question::Check),
+        "root" => Some(Question::Root),
+        "len" => Some(Question::Len),
+        "names" => Some(Question::Names),
+        "keys" => Some(Question::Keys),
+        _ => None,
+    }
+}
+
+// A question of a number, by its first word and the next one.
+fn of_next(word: &str, next: Option<&str>) -> Option<Question> {
+    match next?.parse::<usize>() {
+        Ok(n) => of_number(word, n),
+        Err(_) => None,
+    }
+}
+
+// A question of a number, by its first word.
+fn of_number(word: &str, n: usize) -> Option<Question> {
+    match word {
         "free" => Some(Question::Free(n)),
         "uses" => Some(Question::Uses(n)),
         "rank" => Some(Question::Rank(n)),
         "quantifiers" => Some(Question::Quants(n)),
         "quantifier" => Some(Question::Quant(n)),
         _ => None,
-    })
+    }
 }
 
 // The number that stands next.

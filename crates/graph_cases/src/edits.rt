@@ -75,13 +75,12 @@ pub fn add_box(
     lines: &[Line],
     at: &mut usize,
 ) -> Result<(), LineError> {
-    let mut sketch = Sketch::read(alloc, *at, rest)?;
-    sketch.add_lines(alloc, lines, at)?;
-    let id = sketch.id;
+    let sketch = Sketch::of_lines(alloc, rest, lines, at)?;
     if let Some(b) = below {
         need_box(graph, b)?;
     }
-    let given = graph.add_box(alloc, sketch.parts, below)?;
+    let id = sketch.id;
+    let given = graph.add_box(alloc, sketch.into_parts(), below)?;
     need(given == id, "the new box has another number")
 }
 
@@ -106,8 +105,7 @@ pub fn put_box(
     lines: &[Line],
     at: &mut usize,
 ) -> Result<(), LineError> {
-    let mut sketch = Sketch::read(alloc, *at, rest)?;
-    sketch.add_lines(alloc, lines, at)?;
+    let sketch = Sketch::of_lines(alloc, rest, lines, at)?;
     let b = sketch.id;
     need_box(graph, b)?;
     let BoxParts {
@@ -116,7 +114,7 @@ pub fn put_box(
         conds,
         head,
         ..
-    } = sketch.parts;
+    } = sketch.into_parts();
     graph.put_box(b, kind, role, conds, head);
     Ok(())
 }

@@ -276,9 +276,8 @@ impl Setting {
         at: &mut usize,
     ) -> Result<Outcome, LineError> {
         self.graph = None;
-        let mut sketch = Sketch::read(alloc, *at, rest)?;
-        sketch.add_lines(alloc, lines, at)?;
-        self.graph = Some(graph_of_one(alloc, sketch)?);
+        let sketch = Sketch::of_lines(alloc, rest, lines, at)?;
+        self.graph = Some(graph_of_one(alloc, Box::into_inner(sketch))?);
         Ok(Outcome::Drawn)
     }
 }

@@ -17,11 +17,16 @@ pub struct Step {
     pub below: Vec<Line>,
 }
 
+// The first words of lines that say more of one above them.
+const WORDS_OF_MORE: [&str; 12] = [
+    "out", "order", "root", "box", "quant", "head", "on", "where", "key", "not-null", "table",
+    "row",
+];
+
 // Whether a line says more of one above it.
 fn says_more(text: &str) -> bool {
     match text.split_whitespace().next() {
-        Some("out" | "order" | "root" | "box" | "quant" | "head" | "on" | "where" | "key") => true,
-        Some(word) => matches!(word, "not-null" | "table" | "row"),
+        Some(word) => WORDS_OF_MORE.contains(&word),
         None => false,
     }
 }

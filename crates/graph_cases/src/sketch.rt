@@ -148,8 +148,26 @@ impl Sketch {
         Ok(())
     }
 
-    /// What lines below that of the box say of it. `at` is the number of the line that is read.
-    pub fn add_lines(
+    /// The box of a line, behind its first word, and of the lines below it. `at` is the number of the line
+    /// that is read.
+    pub fn of_lines(
+        alloc: Global,
+        rest: Rest,
+        lines: &[Line],
+        at: &mut usize,
+    ) -> Result<Box<Sketch>, LineError> {
+        let mut sketch = Box::new(alloc, Sketch::read(alloc, *at, rest)?)?;
+        sketch.add_lines(alloc, lines, at)?;
+        Ok(sketch)
+    }
+
+    /// What the graph holds of it.
+    pub fn into_parts(self: Box<Sketch>) -> BoxParts {
+        Box::into_inner(self).parts
+    }
+
+    // What lines below that of the box say of it. `at` is the number of the line that is read.
+    fn add_lines(
         &mut self,
         alloc: Global,
         lines: &[Line],
