@@ -2,7 +2,7 @@
 ghost use Rattle.std.specs.Prelude.{◌≡◌, ◌∷◌, false, IfSome, IfNone};
 ghost use Rattle.sql_ast.specs.Shown as shown;
 ghost use Rattle.sql_ast.specs.Syntax as s;
-ghost use Rattle.sql_parser.specs.Nests.{Nests};
+ghost use Rattle.sql_parser.specs.NestsEach.{NestsEach};
 ghost use Rattle.sql_parser.specs.Read as read;
 ghost use Rattle.sql_parser.specs.Words as words;
 ghost use Rattle.sql_parser.specs.Words.{Gives};
@@ -64,10 +64,7 @@ impl<
 > Grammar<E, C, Q, T> {
     /// `res = expr | NULL`
     fn res<'a>(&self, ts: &'a [Spanned]) -> Result<(Res, &'a [Spanned]), ParseRefusal>
-        requires expr { Nests shown.expr (read.expr self.now.depth) self.now.depth (E.pre self.now.expr) (E.post self.now.expr) }
-        requires cond { Nests shown.cond (read.cond self.now.depth) self.now.depth (C.pre self.now.cond) (C.post self.now.cond) }
-        requires query { Nests shown.query (read.query self.now.depth) self.now.depth (Q.pre self.now.query) (Q.post self.now.query) }
-        requires table { Nests shown.table (read.table self.now.depth) self.now.depth (T.pre self.now.table) (T.post self.now.table) }
+        requires { NestsEach self.now.depth (E.pre self.now.expr) (E.post self.now.expr) (C.pre self.now.cond) (C.post self.now.cond) (Q.pre self.now.query) (Q.post self.now.query) (T.pre self.now.table) (T.post self.now.table) }
         ensures { Gives (λ x. (shown.res x.0, token_list x.1.now)) result (read.at_depth self.now.depth read.res (token_list ts.now)) }
     {
         match first(ts) {
@@ -85,10 +82,7 @@ impl<
         when: Box<Cond>,
         ts: &'a [Spanned],
     ) -> Result<(Box<Arm>, &'a [Spanned]), ParseRefusal>
-        requires expr { Nests shown.expr (read.expr self.now.depth) self.now.depth (E.pre self.now.expr) (E.post self.now.expr) }
-        requires cond { Nests shown.cond (read.cond self.now.depth) self.now.depth (C.pre self.now.cond) (C.post self.now.cond) }
-        requires query { Nests shown.query (read.query self.now.depth) self.now.depth (Q.pre self.now.query) (Q.post self.now.query) }
-        requires table { Nests shown.table (read.table self.now.depth) self.now.depth (T.pre self.now.table) (T.post self.now.table) }
+        requires { NestsEach self.now.depth (E.pre self.now.expr) (E.post self.now.expr) (C.pre self.now.cond) (C.post self.now.cond) (Q.pre self.now.query) (Q.post self.now.query) (T.pre self.now.table) (T.post self.now.table) }
         ensures { Gives (λ x. ((shown.cond x.0.value.when, shown.res x.0.value.then), token_list x.1.now)) result (read.then_res (read.expr self.now.depth) (read.cond self.now.depth) (read.query self.now.depth) (read.table self.now.depth) (shown.cond when.value) (token_list ts.now)) }
     {
         match first(ts) {
@@ -102,10 +96,7 @@ impl<
 
     /// `cond THEN res`, after `WHEN`
     fn arm<'a>(&self, ts: &'a [Spanned]) -> Result<(Box<Arm>, &'a [Spanned]), ParseRefusal>
-        requires expr { Nests shown.expr (read.expr self.now.depth) self.now.depth (E.pre self.now.expr) (E.post self.now.expr) }
-        requires cond { Nests shown.cond (read.cond self.now.depth) self.now.depth (C.pre self.now.cond) (C.post self.now.cond) }
-        requires query { Nests shown.query (read.query self.now.depth) self.now.depth (Q.pre self.now.query) (Q.post self.now.query) }
-        requires table { Nests shown.table (read.table self.now.depth) self.now.depth (T.pre self.now.table) (T.post self.now.table) }
+        requires { NestsEach self.now.depth (E.pre self.now.expr) (E.post self.now.expr) (C.pre self.now.cond) (C.post self.now.cond) (Q.pre self.now.query) (Q.post self.now.query) (T.pre self.now.table) (T.post self.now.table) }
         ensures { Gives (λ x. ((shown.cond x.0.value.when, shown.res x.0.value.then), token_list x.1.now)) result (read.at_depth self.now.depth read.arm (token_list ts.now)) }
     {
         let (when, rest) = self.nested_cond(ts)?;
@@ -114,10 +105,7 @@ impl<
 
     /// `WHEN cond THEN res { WHEN cond THEN res }`
     fn arms<'a>(&self, ts: &'a [Spanned]) -> Result<(Items<Arm>, &'a [Spanned]), ParseRefusal>
-        requires expr { Nests shown.expr (read.expr self.now.depth) self.now.depth (E.pre self.now.expr) (E.post self.now.expr) }
-        requires cond { Nests shown.cond (read.cond self.now.depth) self.now.depth (C.pre self.now.cond) (C.post self.now.cond) }
-        requires query { Nests shown.query (read.query self.now.depth) self.now.depth (Q.pre self.now.query) (Q.post self.now.query) }
-        requires table { Nests shown.table (read.table self.now.depth) self.now.depth (T.pre self.now.table) (T.post self.now.table) }
+        requires { NestsEach self.now.depth (E.pre self.now.expr) (E.post self.now.expr) (C.pre self.now.cond) (C.post self.now.cond) (Q.pre self.now.query) (Q.post self.now.query) (T.pre self.now.table) (T.post self.now.table) }
         ensures { Gives (λ x. (shown.arm_list x.0, token_list x.1.now)) result (read.at_depth self.now.depth read.arms (token_list ts.now)) }
     {
         let Some(after) = after_when(ts) else {
@@ -146,10 +134,7 @@ impl<
         when: Box<Expr>,
         ts: &'a [Spanned],
     ) -> Result<(Box<Choice>, &'a [Spanned]), ParseRefusal>
-        requires expr { Nests shown.expr (read.expr self.now.depth) self.now.depth (E.pre self.now.expr) (E.post self.now.expr) }
-        requires cond { Nests shown.cond (read.cond self.now.depth) self.now.depth (C.pre self.now.cond) (C.post self.now.cond) }
-        requires query { Nests shown.query (read.query self.now.depth) self.now.depth (Q.pre self.now.query) (Q.post self.now.query) }
-        requires table { Nests shown.table (read.table self.now.depth) self.now.depth (T.pre self.now.table) (T.post self.now.table) }
+        requires { NestsEach self.now.depth (E.pre self.now.expr) (E.post self.now.expr) (C.pre self.now.cond) (C.post self.now.cond) (Q.pre self.now.query) (Q.post self.now.query) (T.pre self.now.table) (T.post self.now.table) }
         ensures { Gives (λ x. ((shown.expr x.0.value.when, shown.res x.0.value.then), token_list x.1.now)) result (read.then_res (read.expr self.now.depth) (read.cond self.now.depth) (read.query self.now.depth) (read.table self.now.depth) (shown.expr when.value) (token_list ts.now)) }
     {
         match first(ts) {
@@ -163,10 +148,7 @@ impl<
 
     /// `expr THEN res`, after `WHEN`
     fn choice<'a>(&self, ts: &'a [Spanned]) -> Result<(Box<Choice>, &'a [Spanned]), ParseRefusal>
-        requires expr { Nests shown.expr (read.expr self.now.depth) self.now.depth (E.pre self.now.expr) (E.post self.now.expr) }
-        requires cond { Nests shown.cond (read.cond self.now.depth) self.now.depth (C.pre self.now.cond) (C.post self.now.cond) }
-        requires query { Nests shown.query (read.query self.now.depth) self.now.depth (Q.pre self.now.query) (Q.post self.now.query) }
-        requires table { Nests shown.table (read.table self.now.depth) self.now.depth (T.pre self.now.table) (T.post self.now.table) }
+        requires { NestsEach self.now.depth (E.pre self.now.expr) (E.post self.now.expr) (C.pre self.now.cond) (C.post self.now.cond) (Q.pre self.now.query) (Q.post self.now.query) (T.pre self.now.table) (T.post self.now.table) }
         ensures { Gives (λ x. ((shown.expr x.0.value.when, shown.res x.0.value.then), token_list x.1.now)) result (read.at_depth self.now.depth read.choice (token_list ts.now)) }
     {
         let (when, rest) = self.nested_expr(ts)?;
@@ -175,10 +157,7 @@ impl<
 
     /// `WHEN expr THEN res { WHEN expr THEN res }`
     fn choices<'a>(&self, ts: &'a [Spanned]) -> Result<(Items<Choice>, &'a [Spanned]), ParseRefusal>
-        requires expr { Nests shown.expr (read.expr self.now.depth) self.now.depth (E.pre self.now.expr) (E.post self.now.expr) }
-        requires cond { Nests shown.cond (read.cond self.now.depth) self.now.depth (C.pre self.now.cond) (C.post self.now.cond) }
-        requires query { Nests shown.query (read.query self.now.depth) self.now.depth (Q.pre self.now.query) (Q.post self.now.query) }
-        requires table { Nests shown.table (read.table self.now.depth) self.now.depth (T.pre self.now.table) (T.post self.now.table) }
+        requires { NestsEach self.now.depth (E.pre self.now.expr) (E.post self.now.expr) (C.pre self.now.cond) (C.post self.now.cond) (Q.pre self.now.query) (Q.post self.now.query) (T.pre self.now.table) (T.post self.now.table) }
         ensures { Gives (λ x. (shown.choice_list x.0, token_list x.1.now)) result (read.at_depth self.now.depth read.choices (token_list ts.now)) }
     {
         let Some(after) = after_when(ts) else {
@@ -203,10 +182,7 @@ impl<
 
     /// `[ ELSE res ]`
     fn otherwise<'a>(&self, ts: &'a [Spanned]) -> Result<(Otherwise, &'a [Spanned]), ParseRefusal>
-        requires expr { Nests shown.expr (read.expr self.now.depth) self.now.depth (E.pre self.now.expr) (E.post self.now.expr) }
-        requires cond { Nests shown.cond (read.cond self.now.depth) self.now.depth (C.pre self.now.cond) (C.post self.now.cond) }
-        requires query { Nests shown.query (read.query self.now.depth) self.now.depth (Q.pre self.now.query) (Q.post self.now.query) }
-        requires table { Nests shown.table (read.table self.now.depth) self.now.depth (T.pre self.now.table) (T.post self.now.table) }
+        requires { NestsEach self.now.depth (E.pre self.now.expr) (E.post self.now.expr) (C.pre self.now.cond) (C.post self.now.cond) (Q.pre self.now.query) (Q.post self.now.query) (T.pre self.now.table) (T.post self.now.table) }
         ensures { Gives (λ x. (shown.otherwise x.0, token_list x.1.now)) result (read.at_depth self.now.depth read.otherwise (token_list ts.now)) }
     {
         match first(ts) {
@@ -221,10 +197,7 @@ impl<
     /// `{ WHEN cond THEN res } [ ELSE res ] END`, with one arm at least
     #[tactic(auto, using(sql_ast::specs::Shown::lists))]
     fn searched<'a>(&self, ts: &'a [Spanned]) -> Result<(Box<Expr>, &'a [Spanned]), ParseRefusal>
-        requires expr { Nests shown.expr (read.expr self.now.depth) self.now.depth (E.pre self.now.expr) (E.post self.now.expr) }
-        requires cond { Nests shown.cond (read.cond self.now.depth) self.now.depth (C.pre self.now.cond) (C.post self.now.cond) }
-        requires query { Nests shown.query (read.query self.now.depth) self.now.depth (Q.pre self.now.query) (Q.post self.now.query) }
-        requires table { Nests shown.table (read.table self.now.depth) self.now.depth (T.pre self.now.table) (T.post self.now.table) }
+        requires { NestsEach self.now.depth (E.pre self.now.expr) (E.post self.now.expr) (C.pre self.now.cond) (C.post self.now.cond) (Q.pre self.now.query) (Q.post self.now.query) (T.pre self.now.table) (T.post self.now.table) }
         ensures { Gives (λ x. (shown.expr x.0.value, token_list x.1.now)) result (read.at_depth self.now.depth read.searched (token_list ts.now)) }
     {
         let (arms, rest) = self.arms(ts)?;
@@ -235,10 +208,7 @@ impl<
     /// `expr { WHEN expr THEN res } [ ELSE res ] END`, with one choice at least
     #[tactic(auto, using(sql_ast::specs::Shown::lists))]
     fn simple<'a>(&self, ts: &'a [Spanned]) -> Result<(Box<Expr>, &'a [Spanned]), ParseRefusal>
-        requires expr { Nests shown.expr (read.expr self.now.depth) self.now.depth (E.pre self.now.expr) (E.post self.now.expr) }
-        requires cond { Nests shown.cond (read.cond self.now.depth) self.now.depth (C.pre self.now.cond) (C.post self.now.cond) }
-        requires query { Nests shown.query (read.query self.now.depth) self.now.depth (Q.pre self.now.query) (Q.post self.now.query) }
-        requires table { Nests shown.table (read.table self.now.depth) self.now.depth (T.pre self.now.table) (T.post self.now.table) }
+        requires { NestsEach self.now.depth (E.pre self.now.expr) (E.post self.now.expr) (C.pre self.now.cond) (C.post self.now.cond) (Q.pre self.now.query) (Q.post self.now.query) (T.pre self.now.table) (T.post self.now.table) }
         ensures { Gives (λ x. (shown.expr x.0.value, token_list x.1.now)) result (read.at_depth self.now.depth read.simple (token_list ts.now)) }
     {
         let (operand, rest) = self.nested_expr(ts)?;
@@ -249,10 +219,7 @@ impl<
 
     /// What follows `CASE`
     pub fn case<'a>(&self, ts: &'a [Spanned]) -> Result<(Box<Expr>, &'a [Spanned]), ParseRefusal>
-        requires expr { Nests shown.expr (read.expr self.now.depth) self.now.depth (E.pre self.now.expr) (E.post self.now.expr) }
-        requires cond { Nests shown.cond (read.cond self.now.depth) self.now.depth (C.pre self.now.cond) (C.post self.now.cond) }
-        requires query { Nests shown.query (read.query self.now.depth) self.now.depth (Q.pre self.now.query) (Q.post self.now.query) }
-        requires table { Nests shown.table (read.table self.now.depth) self.now.depth (T.pre self.now.table) (T.post self.now.table) }
+        requires { NestsEach self.now.depth (E.pre self.now.expr) (E.post self.now.expr) (C.pre self.now.cond) (C.post self.now.cond) (Q.pre self.now.query) (Q.post self.now.query) (T.pre self.now.table) (T.post self.now.table) }
         ensures { Gives (λ x. (shown.expr x.0.value, token_list x.1.now)) result (read.at_depth self.now.depth read.case (token_list ts.now)) }
     {
         match first(ts) {

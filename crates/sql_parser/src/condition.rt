@@ -1,7 +1,7 @@
 // Conditions (SQL-92, 8.2 to 8.8 and 8.12).
 ghost use Rattle.std.specs.Prelude.{◌≡◌, ◌∷◌, false, IfSome, IfNone};
 ghost use Rattle.sql_ast.specs.Shown as shown;
-ghost use Rattle.sql_parser.specs.Nests.{Nests};
+ghost use Rattle.sql_parser.specs.NestsEach.{NestsEach};
 ghost use Rattle.sql_parser.specs.Read as read;
 ghost use Rattle.sql_parser.specs.Words.{Gives};
 ghost use Rattle.sql_text.specs.Tokens.{token_list};
@@ -76,10 +76,7 @@ impl<
         low: Box<Expr>,
         ts: &'a [Spanned],
     ) -> Result<(Box<Cond>, &'a [Spanned]), ParseRefusal>
-        requires expr { Nests shown.expr (read.expr self.now.depth) self.now.depth (E.pre self.now.expr) (E.post self.now.expr) }
-        requires cond { Nests shown.cond (read.cond self.now.depth) self.now.depth (C.pre self.now.cond) (C.post self.now.cond) }
-        requires query { Nests shown.query (read.query self.now.depth) self.now.depth (Q.pre self.now.query) (Q.post self.now.query) }
-        requires table { Nests shown.table (read.table self.now.depth) self.now.depth (T.pre self.now.table) (T.post self.now.table) }
+        requires { NestsEach self.now.depth (E.pre self.now.expr) (E.post self.now.expr) (C.pre self.now.cond) (C.post self.now.cond) (Q.pre self.now.query) (Q.post self.now.query) (T.pre self.now.table) (T.post self.now.table) }
         ensures { Gives (λ x. (shown.cond x.0.value, token_list x.1.now)) result (read.at_depth self.now.depth read.upper (shown.expr operand.value) negative (shown.expr low.value) (token_list ts.now)) }
     {
         match first(ts) {
@@ -102,10 +99,7 @@ impl<
         negative: bool,
         ts: &'a [Spanned],
     ) -> Result<(Box<Cond>, &'a [Spanned]), ParseRefusal>
-        requires expr { Nests shown.expr (read.expr self.now.depth) self.now.depth (E.pre self.now.expr) (E.post self.now.expr) }
-        requires cond { Nests shown.cond (read.cond self.now.depth) self.now.depth (C.pre self.now.cond) (C.post self.now.cond) }
-        requires query { Nests shown.query (read.query self.now.depth) self.now.depth (Q.pre self.now.query) (Q.post self.now.query) }
-        requires table { Nests shown.table (read.table self.now.depth) self.now.depth (T.pre self.now.table) (T.post self.now.table) }
+        requires { NestsEach self.now.depth (E.pre self.now.expr) (E.post self.now.expr) (C.pre self.now.cond) (C.post self.now.cond) (Q.pre self.now.query) (Q.post self.now.query) (T.pre self.now.table) (T.post self.now.table) }
         ensures { Gives (λ x. (shown.cond x.0.value, token_list x.1.now)) result (read.at_depth self.now.depth read.between (shown.expr operand.value) negative (token_list ts.now)) }
     {
         let (low, rest) = self.sum(ts)?;
@@ -120,10 +114,7 @@ impl<
         negative: bool,
         ts: &'a [Spanned],
     ) -> Result<(Box<Cond>, &'a [Spanned]), ParseRefusal>
-        requires expr { Nests shown.expr (read.expr self.now.depth) self.now.depth (E.pre self.now.expr) (E.post self.now.expr) }
-        requires cond { Nests shown.cond (read.cond self.now.depth) self.now.depth (C.pre self.now.cond) (C.post self.now.cond) }
-        requires query { Nests shown.query (read.query self.now.depth) self.now.depth (Q.pre self.now.query) (Q.post self.now.query) }
-        requires table { Nests shown.table (read.table self.now.depth) self.now.depth (T.pre self.now.table) (T.post self.now.table) }
+        requires { NestsEach self.now.depth (E.pre self.now.expr) (E.post self.now.expr) (C.pre self.now.cond) (C.post self.now.cond) (Q.pre self.now.query) (Q.post self.now.query) (T.pre self.now.table) (T.post self.now.table) }
         ensures { Gives (λ x. (shown.cond x.0.value, token_list x.1.now)) result (read.at_depth self.now.depth read.in_after (shown.expr operand.value) negative (token_list ts.now)) }
     {
         match first(ts) {
@@ -147,10 +138,7 @@ impl<
         negative: bool,
         ts: &'a [Spanned],
     ) -> Result<(Box<Cond>, &'a [Spanned]), ParseRefusal>
-        requires expr { Nests shown.expr (read.expr self.now.depth) self.now.depth (E.pre self.now.expr) (E.post self.now.expr) }
-        requires cond { Nests shown.cond (read.cond self.now.depth) self.now.depth (C.pre self.now.cond) (C.post self.now.cond) }
-        requires query { Nests shown.query (read.query self.now.depth) self.now.depth (Q.pre self.now.query) (Q.post self.now.query) }
-        requires table { Nests shown.table (read.table self.now.depth) self.now.depth (T.pre self.now.table) (T.post self.now.table) }
+        requires { NestsEach self.now.depth (E.pre self.now.expr) (E.post self.now.expr) (C.pre self.now.cond) (C.post self.now.cond) (Q.pre self.now.query) (Q.post self.now.query) (T.pre self.now.table) (T.post self.now.table) }
         ensures { Gives (λ x. (shown.cond x.0.value, token_list x.1.now)) result (read.at_depth self.now.depth read.negatable (shown.expr operand.value) negative (token_list ts.now)) }
     {
         match first(ts) {
@@ -172,10 +160,7 @@ impl<
         quantifier: Quantifier,
         ts: &'a [Spanned],
     ) -> Result<(Box<Cond>, &'a [Spanned]), ParseRefusal>
-        requires expr { Nests shown.expr (read.expr self.now.depth) self.now.depth (E.pre self.now.expr) (E.post self.now.expr) }
-        requires cond { Nests shown.cond (read.cond self.now.depth) self.now.depth (C.pre self.now.cond) (C.post self.now.cond) }
-        requires query { Nests shown.query (read.query self.now.depth) self.now.depth (Q.pre self.now.query) (Q.post self.now.query) }
-        requires table { Nests shown.table (read.table self.now.depth) self.now.depth (T.pre self.now.table) (T.post self.now.table) }
+        requires { NestsEach self.now.depth (E.pre self.now.expr) (E.post self.now.expr) (C.pre self.now.cond) (C.post self.now.cond) (Q.pre self.now.query) (Q.post self.now.query) (T.pre self.now.table) (T.post self.now.table) }
         ensures { Gives (λ x. (shown.cond x.0.value, token_list x.1.now)) result (read.sub (read.expr self.now.depth) (read.cond self.now.depth) (read.query self.now.depth) (read.table self.now.depth) (s.quantified (shown.expr operand.value) op quantifier) (token_list ts.now)) }
     {
         match first(ts) {
@@ -198,10 +183,7 @@ impl<
         op: CmpOp,
         ts: &'a [Spanned],
     ) -> Result<(Box<Cond>, &'a [Spanned]), ParseRefusal>
-        requires expr { Nests shown.expr (read.expr self.now.depth) self.now.depth (E.pre self.now.expr) (E.post self.now.expr) }
-        requires cond { Nests shown.cond (read.cond self.now.depth) self.now.depth (C.pre self.now.cond) (C.post self.now.cond) }
-        requires query { Nests shown.query (read.query self.now.depth) self.now.depth (Q.pre self.now.query) (Q.post self.now.query) }
-        requires table { Nests shown.table (read.table self.now.depth) self.now.depth (T.pre self.now.table) (T.post self.now.table) }
+        requires { NestsEach self.now.depth (E.pre self.now.expr) (E.post self.now.expr) (C.pre self.now.cond) (C.post self.now.cond) (Q.pre self.now.query) (Q.post self.now.query) (T.pre self.now.table) (T.post self.now.table) }
         ensures { Gives (λ x. (shown.cond x.0.value, token_list x.1.now)) result (read.at_depth self.now.depth read.compared (shown.expr operand.value) op (token_list ts.now)) }
     {
         match quantifier_at(ts) {
@@ -220,10 +202,7 @@ impl<
         negative: bool,
         ts: &'a [Spanned],
     ) -> Result<(Box<Cond>, &'a [Spanned]), ParseRefusal>
-        requires expr { Nests shown.expr (read.expr self.now.depth) self.now.depth (E.pre self.now.expr) (E.post self.now.expr) }
-        requires cond { Nests shown.cond (read.cond self.now.depth) self.now.depth (C.pre self.now.cond) (C.post self.now.cond) }
-        requires query { Nests shown.query (read.query self.now.depth) self.now.depth (Q.pre self.now.query) (Q.post self.now.query) }
-        requires table { Nests shown.table (read.table self.now.depth) self.now.depth (T.pre self.now.table) (T.post self.now.table) }
+        requires { NestsEach self.now.depth (E.pre self.now.expr) (E.post self.now.expr) (C.pre self.now.cond) (C.post self.now.cond) (Q.pre self.now.query) (Q.post self.now.query) (T.pre self.now.table) (T.post self.now.table) }
         ensures { Gives (λ x. (shown.cond x.0.value, token_list x.1.now)) result (read.at_depth self.now.depth read.null_word (shown.expr operand.value) negative (token_list ts.now)) }
     {
         match first(ts) {
@@ -240,10 +219,7 @@ impl<
         operand: Box<Expr>,
         ts: &'a [Spanned],
     ) -> Result<(Box<Cond>, &'a [Spanned]), ParseRefusal>
-        requires expr { Nests shown.expr (read.expr self.now.depth) self.now.depth (E.pre self.now.expr) (E.post self.now.expr) }
-        requires cond { Nests shown.cond (read.cond self.now.depth) self.now.depth (C.pre self.now.cond) (C.post self.now.cond) }
-        requires query { Nests shown.query (read.query self.now.depth) self.now.depth (Q.pre self.now.query) (Q.post self.now.query) }
-        requires table { Nests shown.table (read.table self.now.depth) self.now.depth (T.pre self.now.table) (T.post self.now.table) }
+        requires { NestsEach self.now.depth (E.pre self.now.expr) (E.post self.now.expr) (C.pre self.now.cond) (C.post self.now.cond) (Q.pre self.now.query) (Q.post self.now.query) (T.pre self.now.table) (T.post self.now.table) }
         ensures { Gives (λ x. (shown.cond x.0.value, token_list x.1.now)) result (read.at_depth self.now.depth read.pred_after (shown.expr operand.value) (token_list ts.now)) }
     {
         match first(ts) {
@@ -261,10 +237,7 @@ impl<
 
     /// `"(" query ")"`, after `EXISTS`
     fn exists<'a>(&self, ts: &'a [Spanned]) -> Result<(Box<Cond>, &'a [Spanned]), ParseRefusal>
-        requires expr { Nests shown.expr (read.expr self.now.depth) self.now.depth (E.pre self.now.expr) (E.post self.now.expr) }
-        requires cond { Nests shown.cond (read.cond self.now.depth) self.now.depth (C.pre self.now.cond) (C.post self.now.cond) }
-        requires query { Nests shown.query (read.query self.now.depth) self.now.depth (Q.pre self.now.query) (Q.post self.now.query) }
-        requires table { Nests shown.table (read.table self.now.depth) self.now.depth (T.pre self.now.table) (T.post self.now.table) }
+        requires { NestsEach self.now.depth (E.pre self.now.expr) (E.post self.now.expr) (C.pre self.now.cond) (C.post self.now.cond) (Q.pre self.now.query) (Q.post self.now.query) (T.pre self.now.table) (T.post self.now.table) }
         ensures { Gives (λ x. (shown.cond x.0.value, token_list x.1.now)) result (read.sub (read.expr self.now.depth) (read.cond self.now.depth) (read.query self.now.depth) (read.table self.now.depth) s.exists (token_list ts.now)) }
     {
         match first(ts) {
@@ -278,10 +251,7 @@ impl<
 
     /// A predicate
     fn pred<'a>(&self, ts: &'a [Spanned]) -> Result<(Box<Cond>, &'a [Spanned]), ParseRefusal>
-        requires expr { Nests shown.expr (read.expr self.now.depth) self.now.depth (E.pre self.now.expr) (E.post self.now.expr) }
-        requires cond { Nests shown.cond (read.cond self.now.depth) self.now.depth (C.pre self.now.cond) (C.post self.now.cond) }
-        requires query { Nests shown.query (read.query self.now.depth) self.now.depth (Q.pre self.now.query) (Q.post self.now.query) }
-        requires table { Nests shown.table (read.table self.now.depth) self.now.depth (T.pre self.now.table) (T.post self.now.table) }
+        requires { NestsEach self.now.depth (E.pre self.now.expr) (E.post self.now.expr) (C.pre self.now.cond) (C.post self.now.cond) (Q.pre self.now.query) (Q.post self.now.query) (T.pre self.now.table) (T.post self.now.table) }
         ensures { Gives (λ x. (shown.cond x.0.value, token_list x.1.now)) result (read.at_depth self.now.depth read.pred (token_list ts.now)) }
     {
         match after_exists(ts) {
@@ -295,10 +265,7 @@ impl<
 
     /// `"(" cond ")"`
     fn bracket<'a>(&self, ts: &'a [Spanned]) -> Result<(Box<Cond>, &'a [Spanned]), ParseRefusal>
-        requires expr { Nests shown.expr (read.expr self.now.depth) self.now.depth (E.pre self.now.expr) (E.post self.now.expr) }
-        requires cond { Nests shown.cond (read.cond self.now.depth) self.now.depth (C.pre self.now.cond) (C.post self.now.cond) }
-        requires query { Nests shown.query (read.query self.now.depth) self.now.depth (Q.pre self.now.query) (Q.post self.now.query) }
-        requires table { Nests shown.table (read.table self.now.depth) self.now.depth (T.pre self.now.table) (T.post self.now.table) }
+        requires { NestsEach self.now.depth (E.pre self.now.expr) (E.post self.now.expr) (C.pre self.now.cond) (C.post self.now.cond) (Q.pre self.now.query) (Q.post self.now.query) (T.pre self.now.table) (T.post self.now.table) }
         ensures { Gives (λ x. (shown.cond x.0.value, token_list x.1.now)) result (read.at_depth self.now.depth read.bracket (token_list ts.now)) }
     {
         match first(ts) {
@@ -312,10 +279,7 @@ impl<
 
     /// `pred | "(" cond ")"`
     fn test<'a>(&self, ts: &'a [Spanned]) -> Result<(Box<Cond>, &'a [Spanned]), ParseRefusal>
-        requires expr { Nests shown.expr (read.expr self.now.depth) self.now.depth (E.pre self.now.expr) (E.post self.now.expr) }
-        requires cond { Nests shown.cond (read.cond self.now.depth) self.now.depth (C.pre self.now.cond) (C.post self.now.cond) }
-        requires query { Nests shown.query (read.query self.now.depth) self.now.depth (Q.pre self.now.query) (Q.post self.now.query) }
-        requires table { Nests shown.table (read.table self.now.depth) self.now.depth (T.pre self.now.table) (T.post self.now.table) }
+        requires { NestsEach self.now.depth (E.pre self.now.expr) (E.post self.now.expr) (C.pre self.now.cond) (C.post self.now.cond) (Q.pre self.now.query) (Q.post self.now.query) (T.pre self.now.table) (T.post self.now.table) }
         ensures { Gives (λ x. (shown.cond x.0.value, token_list x.1.now)) result (read.at_depth self.now.depth read.test (token_list ts.now)) }
     {
         if opens_cond(ts) {
@@ -327,10 +291,7 @@ impl<
 
     /// `neg = [ NOT ] ( pred | "(" cond ")" )`
     fn neg<'a>(&self, ts: &'a [Spanned]) -> Result<(Box<Cond>, &'a [Spanned]), ParseRefusal>
-        requires expr { Nests shown.expr (read.expr self.now.depth) self.now.depth (E.pre self.now.expr) (E.post self.now.expr) }
-        requires cond { Nests shown.cond (read.cond self.now.depth) self.now.depth (C.pre self.now.cond) (C.post self.now.cond) }
-        requires query { Nests shown.query (read.query self.now.depth) self.now.depth (Q.pre self.now.query) (Q.post self.now.query) }
-        requires table { Nests shown.table (read.table self.now.depth) self.now.depth (T.pre self.now.table) (T.post self.now.table) }
+        requires { NestsEach self.now.depth (E.pre self.now.expr) (E.post self.now.expr) (C.pre self.now.cond) (C.post self.now.cond) (Q.pre self.now.query) (Q.post self.now.query) (T.pre self.now.table) (T.post self.now.table) }
         ensures { Gives (λ x. (shown.cond x.0.value, token_list x.1.now)) result (read.at_depth self.now.depth read.neg (token_list ts.now)) }
     {
         match after_not(ts) {
@@ -348,10 +309,7 @@ impl<
         left: Box<Cond>,
         ts: &'a [Spanned],
     ) -> Result<(Box<Cond>, &'a [Spanned]), ParseRefusal>
-        requires expr { Nests shown.expr (read.expr self.now.depth) self.now.depth (E.pre self.now.expr) (E.post self.now.expr) }
-        requires cond { Nests shown.cond (read.cond self.now.depth) self.now.depth (C.pre self.now.cond) (C.post self.now.cond) }
-        requires query { Nests shown.query (read.query self.now.depth) self.now.depth (Q.pre self.now.query) (Q.post self.now.query) }
-        requires table { Nests shown.table (read.table self.now.depth) self.now.depth (T.pre self.now.table) (T.post self.now.table) }
+        requires { NestsEach self.now.depth (E.pre self.now.expr) (E.post self.now.expr) (C.pre self.now.cond) (C.post self.now.cond) (Q.pre self.now.query) (Q.post self.now.query) (T.pre self.now.table) (T.post self.now.table) }
         ensures { Gives (λ x. (shown.cond x.0.value, token_list x.1.now)) result (read.at_depth self.now.depth read.joined_and (shown.cond left.value) (token_list ts.now)) }
     {
         let (right, rest) = self.neg(ts)?;
@@ -360,10 +318,7 @@ impl<
 
     /// `conj = neg { AND neg }`
     fn conj<'a>(&self, ts: &'a [Spanned]) -> Result<(Box<Cond>, &'a [Spanned]), ParseRefusal>
-        requires expr { Nests shown.expr (read.expr self.now.depth) self.now.depth (E.pre self.now.expr) (E.post self.now.expr) }
-        requires cond { Nests shown.cond (read.cond self.now.depth) self.now.depth (C.pre self.now.cond) (C.post self.now.cond) }
-        requires query { Nests shown.query (read.query self.now.depth) self.now.depth (Q.pre self.now.query) (Q.post self.now.query) }
-        requires table { Nests shown.table (read.table self.now.depth) self.now.depth (T.pre self.now.table) (T.post self.now.table) }
+        requires { NestsEach self.now.depth (E.pre self.now.expr) (E.post self.now.expr) (C.pre self.now.cond) (C.post self.now.cond) (Q.pre self.now.query) (Q.post self.now.query) (T.pre self.now.table) (T.post self.now.table) }
         ensures { Gives (λ x. (shown.cond x.0.value, token_list x.1.now)) result (read.at_depth self.now.depth read.conj (token_list ts.now)) }
     {
         let (mut left, mut rest) = self.neg(ts)?;
@@ -386,10 +341,7 @@ impl<
         left: Box<Cond>,
         ts: &'a [Spanned],
     ) -> Result<(Box<Cond>, &'a [Spanned]), ParseRefusal>
-        requires expr { Nests shown.expr (read.expr self.now.depth) self.now.depth (E.pre self.now.expr) (E.post self.now.expr) }
-        requires cond { Nests shown.cond (read.cond self.now.depth) self.now.depth (C.pre self.now.cond) (C.post self.now.cond) }
-        requires query { Nests shown.query (read.query self.now.depth) self.now.depth (Q.pre self.now.query) (Q.post self.now.query) }
-        requires table { Nests shown.table (read.table self.now.depth) self.now.depth (T.pre self.now.table) (T.post self.now.table) }
+        requires { NestsEach self.now.depth (E.pre self.now.expr) (E.post self.now.expr) (C.pre self.now.cond) (C.post self.now.cond) (Q.pre self.now.query) (Q.post self.now.query) (T.pre self.now.table) (T.post self.now.table) }
         ensures { Gives (λ x. (shown.cond x.0.value, token_list x.1.now)) result (read.at_depth self.now.depth read.joined_or (shown.cond left.value) (token_list ts.now)) }
     {
         let (right, rest) = self.conj(ts)?;
@@ -398,10 +350,7 @@ impl<
 
     /// `cond = conj { OR conj }`
     pub fn disj<'a>(&self, ts: &'a [Spanned]) -> Result<(Box<Cond>, &'a [Spanned]), ParseRefusal>
-        requires expr { Nests shown.expr (read.expr self.now.depth) self.now.depth (E.pre self.now.expr) (E.post self.now.expr) }
-        requires cond { Nests shown.cond (read.cond self.now.depth) self.now.depth (C.pre self.now.cond) (C.post self.now.cond) }
-        requires query { Nests shown.query (read.query self.now.depth) self.now.depth (Q.pre self.now.query) (Q.post self.now.query) }
-        requires table { Nests shown.table (read.table self.now.depth) self.now.depth (T.pre self.now.table) (T.post self.now.table) }
+        requires { NestsEach self.now.depth (E.pre self.now.expr) (E.post self.now.expr) (C.pre self.now.cond) (C.post self.now.cond) (Q.pre self.now.query) (Q.post self.now.query) (T.pre self.now.table) (T.post self.now.table) }
         ensures { Gives (λ x. (shown.cond x.0.value, token_list x.1.now)) result (read.at_depth self.now.depth read.disj (token_list ts.now)) }
     {
         let (mut left, mut rest) = self.conj(ts)?;
@@ -423,10 +372,7 @@ impl<
         &self,
         ts: &'a [Spanned],
     ) -> Result<(Filter, &'a [Spanned]), ParseRefusal>
-        requires expr { Nests shown.expr (read.expr self.now.depth) self.now.depth (E.pre self.now.expr) (E.post self.now.expr) }
-        requires cond { Nests shown.cond (read.cond self.now.depth) self.now.depth (C.pre self.now.cond) (C.post self.now.cond) }
-        requires query { Nests shown.query (read.query self.now.depth) self.now.depth (Q.pre self.now.query) (Q.post self.now.query) }
-        requires table { Nests shown.table (read.table self.now.depth) self.now.depth (T.pre self.now.table) (T.post self.now.table) }
+        requires { NestsEach self.now.depth (E.pre self.now.expr) (E.post self.now.expr) (C.pre self.now.cond) (C.post self.now.cond) (Q.pre self.now.query) (Q.post self.now.query) (T.pre self.now.table) (T.post self.now.table) }
         ensures { Gives (λ x. (shown.filter x.0, token_list x.1.now)) result (read.at_depth self.now.depth read.where_filter (token_list ts.now)) }
     {
         match first(ts) {
@@ -443,10 +389,7 @@ impl<
         &self,
         ts: &'a [Spanned],
     ) -> Result<(Filter, &'a [Spanned]), ParseRefusal>
-        requires expr { Nests shown.expr (read.expr self.now.depth) self.now.depth (E.pre self.now.expr) (E.post self.now.expr) }
-        requires cond { Nests shown.cond (read.cond self.now.depth) self.now.depth (C.pre self.now.cond) (C.post self.now.cond) }
-        requires query { Nests shown.query (read.query self.now.depth) self.now.depth (Q.pre self.now.query) (Q.post self.now.query) }
-        requires table { Nests shown.table (read.table self.now.depth) self.now.depth (T.pre self.now.table) (T.post self.now.table) }
+        requires { NestsEach self.now.depth (E.pre self.now.expr) (E.post self.now.expr) (C.pre self.now.cond) (C.post self.now.cond) (Q.pre self.now.query) (Q.post self.now.query) (T.pre self.now.table) (T.post self.now.table) }
         ensures { Gives (λ x. (shown.filter x.0, token_list x.1.now)) result (read.at_depth self.now.depth read.having_filter (token_list ts.now)) }
     {
         match first(ts) {

@@ -2,7 +2,7 @@
 ghost use Rattle.std.specs.Prelude.{◌≡◌, ◌∷◌, false, IfSome, IfNone};
 ghost use Rattle.sql_ast.specs.Shown as shown;
 ghost use Rattle.sql_ast.specs.Syntax as s;
-ghost use Rattle.sql_parser.specs.Nests.{Nests};
+ghost use Rattle.sql_parser.specs.NestsEach.{NestsEach};
 ghost use Rattle.sql_parser.specs.Read as read;
 ghost use Rattle.sql_parser.specs.Words as words;
 ghost use Rattle.sql_parser.specs.Words.{Gives};
@@ -69,10 +69,7 @@ impl<
 > Grammar<E, C, Q, T> {
     /// `expr { "," expr }`, in brackets
     pub fn exprs<'a>(&self, ts: &'a [Spanned]) -> Result<(Items<Expr>, &'a [Spanned]), ParseRefusal>
-        requires expr { Nests shown.expr (read.expr self.now.depth) self.now.depth (E.pre self.now.expr) (E.post self.now.expr) }
-        requires cond { Nests shown.cond (read.cond self.now.depth) self.now.depth (C.pre self.now.cond) (C.post self.now.cond) }
-        requires query { Nests shown.query (read.query self.now.depth) self.now.depth (Q.pre self.now.query) (Q.post self.now.query) }
-        requires table { Nests shown.table (read.table self.now.depth) self.now.depth (T.pre self.now.table) (T.post self.now.table) }
+        requires { NestsEach self.now.depth (E.pre self.now.expr) (E.post self.now.expr) (C.pre self.now.cond) (C.post self.now.cond) (Q.pre self.now.query) (Q.post self.now.query) (T.pre self.now.table) (T.post self.now.table) }
         ensures { Gives (λ x. (shown.expr_list x.0, token_list x.1.now)) result (read.at_depth self.now.depth read.exprs (token_list ts.now)) }
     {
         let (first, after) = self.nested_expr(ts)?;
@@ -98,10 +95,7 @@ impl<
         function: SetFunction,
         ts: &'a [Spanned],
     ) -> Result<(Box<Expr>, &'a [Spanned]), ParseRefusal>
-        requires expr { Nests shown.expr (read.expr self.now.depth) self.now.depth (E.pre self.now.expr) (E.post self.now.expr) }
-        requires cond { Nests shown.cond (read.cond self.now.depth) self.now.depth (C.pre self.now.cond) (C.post self.now.cond) }
-        requires query { Nests shown.query (read.query self.now.depth) self.now.depth (Q.pre self.now.query) (Q.post self.now.query) }
-        requires table { Nests shown.table (read.table self.now.depth) self.now.depth (T.pre self.now.table) (T.post self.now.table) }
+        requires { NestsEach self.now.depth (E.pre self.now.expr) (E.post self.now.expr) (C.pre self.now.cond) (C.post self.now.cond) (Q.pre self.now.query) (Q.post self.now.query) (T.pre self.now.table) (T.post self.now.table) }
         ensures { Gives (λ x. (shown.expr x.0.value, token_list x.1.now)) result (read.at_depth self.now.depth read.aggregate function (token_list ts.now)) }
     {
         match first(ts) {
@@ -120,10 +114,7 @@ impl<
 
     /// `"(" "*" ")" | "(" [ ALL | DISTINCT ] expr ")"`, after `COUNT`
     fn count<'a>(&self, ts: &'a [Spanned]) -> Result<(Box<Expr>, &'a [Spanned]), ParseRefusal>
-        requires expr { Nests shown.expr (read.expr self.now.depth) self.now.depth (E.pre self.now.expr) (E.post self.now.expr) }
-        requires cond { Nests shown.cond (read.cond self.now.depth) self.now.depth (C.pre self.now.cond) (C.post self.now.cond) }
-        requires query { Nests shown.query (read.query self.now.depth) self.now.depth (Q.pre self.now.query) (Q.post self.now.query) }
-        requires table { Nests shown.table (read.table self.now.depth) self.now.depth (T.pre self.now.table) (T.post self.now.table) }
+        requires { NestsEach self.now.depth (E.pre self.now.expr) (E.post self.now.expr) (C.pre self.now.cond) (C.post self.now.cond) (Q.pre self.now.query) (Q.post self.now.query) (T.pre self.now.table) (T.post self.now.table) }
         ensures { Gives (λ x. (shown.expr x.0.value, token_list x.1.now)) result (read.at_depth self.now.depth read.count (token_list ts.now)) }
     {
         match after_open_star(ts) {
@@ -139,10 +130,7 @@ impl<
         operand: Box<Expr>,
         ts: &'a [Spanned],
     ) -> Result<(Box<Expr>, &'a [Spanned]), ParseRefusal>
-        requires expr { Nests shown.expr (read.expr self.now.depth) self.now.depth (E.pre self.now.expr) (E.post self.now.expr) }
-        requires cond { Nests shown.cond (read.cond self.now.depth) self.now.depth (C.pre self.now.cond) (C.post self.now.cond) }
-        requires query { Nests shown.query (read.query self.now.depth) self.now.depth (Q.pre self.now.query) (Q.post self.now.query) }
-        requires table { Nests shown.table (read.table self.now.depth) self.now.depth (T.pre self.now.table) (T.post self.now.table) }
+        requires { NestsEach self.now.depth (E.pre self.now.expr) (E.post self.now.expr) (C.pre self.now.cond) (C.post self.now.cond) (Q.pre self.now.query) (Q.post self.now.query) (T.pre self.now.table) (T.post self.now.table) }
         ensures { Gives (λ x. (shown.expr x.0.value, token_list x.1.now)) result (read.at_depth self.now.depth read.coalesce_rest (shown.expr operand.value) (token_list ts.now)) }
     {
         match first(ts) {
@@ -156,10 +144,7 @@ impl<
 
     /// `"(" expr "," expr { "," expr } ")"`, after `COALESCE`
     fn coalesce<'a>(&self, ts: &'a [Spanned]) -> Result<(Box<Expr>, &'a [Spanned]), ParseRefusal>
-        requires expr { Nests shown.expr (read.expr self.now.depth) self.now.depth (E.pre self.now.expr) (E.post self.now.expr) }
-        requires cond { Nests shown.cond (read.cond self.now.depth) self.now.depth (C.pre self.now.cond) (C.post self.now.cond) }
-        requires query { Nests shown.query (read.query self.now.depth) self.now.depth (Q.pre self.now.query) (Q.post self.now.query) }
-        requires table { Nests shown.table (read.table self.now.depth) self.now.depth (T.pre self.now.table) (T.post self.now.table) }
+        requires { NestsEach self.now.depth (E.pre self.now.expr) (E.post self.now.expr) (C.pre self.now.cond) (C.post self.now.cond) (Q.pre self.now.query) (Q.post self.now.query) (T.pre self.now.table) (T.post self.now.table) }
         ensures { Gives (λ x. (shown.expr x.0.value, token_list x.1.now)) result (read.at_depth self.now.depth read.coalesce (token_list ts.now)) }
     {
         match first(ts) {
@@ -177,10 +162,7 @@ impl<
         a: Box<Expr>,
         ts: &'a [Spanned],
     ) -> Result<(Box<Expr>, &'a [Spanned]), ParseRefusal>
-        requires expr { Nests shown.expr (read.expr self.now.depth) self.now.depth (E.pre self.now.expr) (E.post self.now.expr) }
-        requires cond { Nests shown.cond (read.cond self.now.depth) self.now.depth (C.pre self.now.cond) (C.post self.now.cond) }
-        requires query { Nests shown.query (read.query self.now.depth) self.now.depth (Q.pre self.now.query) (Q.post self.now.query) }
-        requires table { Nests shown.table (read.table self.now.depth) self.now.depth (T.pre self.now.table) (T.post self.now.table) }
+        requires { NestsEach self.now.depth (E.pre self.now.expr) (E.post self.now.expr) (C.pre self.now.cond) (C.post self.now.cond) (Q.pre self.now.query) (Q.post self.now.query) (T.pre self.now.table) (T.post self.now.table) }
         ensures { Gives (λ x. (shown.expr x.0.value, token_list x.1.now)) result (read.at_depth self.now.depth read.null_if_rest (shown.expr a.value) (token_list ts.now)) }
     {
         match first(ts) {
@@ -194,10 +176,7 @@ impl<
 
     /// `"(" expr "," expr ")"`, after `NULLIF`
     fn null_if<'a>(&self, ts: &'a [Spanned]) -> Result<(Box<Expr>, &'a [Spanned]), ParseRefusal>
-        requires expr { Nests shown.expr (read.expr self.now.depth) self.now.depth (E.pre self.now.expr) (E.post self.now.expr) }
-        requires cond { Nests shown.cond (read.cond self.now.depth) self.now.depth (C.pre self.now.cond) (C.post self.now.cond) }
-        requires query { Nests shown.query (read.query self.now.depth) self.now.depth (Q.pre self.now.query) (Q.post self.now.query) }
-        requires table { Nests shown.table (read.table self.now.depth) self.now.depth (T.pre self.now.table) (T.post self.now.table) }
+        requires { NestsEach self.now.depth (E.pre self.now.expr) (E.post self.now.expr) (C.pre self.now.cond) (C.post self.now.cond) (Q.pre self.now.query) (Q.post self.now.query) (T.pre self.now.table) (T.post self.now.table) }
         ensures { Gives (λ x. (shown.expr x.0.value, token_list x.1.now)) result (read.at_depth self.now.depth read.null_if (token_list ts.now)) }
     {
         match first(ts) {
@@ -211,10 +190,7 @@ impl<
 
     /// `AS type ")"`, after `CAST "(" NULL`
     fn cast_type<'a>(&self, ts: &'a [Spanned]) -> Result<(Box<Expr>, &'a [Spanned]), ParseRefusal>
-        requires expr { Nests shown.expr (read.expr self.now.depth) self.now.depth (E.pre self.now.expr) (E.post self.now.expr) }
-        requires cond { Nests shown.cond (read.cond self.now.depth) self.now.depth (C.pre self.now.cond) (C.post self.now.cond) }
-        requires query { Nests shown.query (read.query self.now.depth) self.now.depth (Q.pre self.now.query) (Q.post self.now.query) }
-        requires table { Nests shown.table (read.table self.now.depth) self.now.depth (T.pre self.now.table) (T.post self.now.table) }
+        requires { NestsEach self.now.depth (E.pre self.now.expr) (E.post self.now.expr) (C.pre self.now.cond) (C.post self.now.cond) (Q.pre self.now.query) (Q.post self.now.query) (T.pre self.now.table) (T.post self.now.table) }
         ensures { Gives (λ x. (shown.expr x.0.value, token_list x.1.now)) result (read.at_depth self.now.depth read.cast_type (token_list ts.now)) }
     {
         match first(ts) {
@@ -228,10 +204,7 @@ impl<
 
     /// `"(" NULL AS type ")"`, after `CAST`
     fn cast<'a>(&self, ts: &'a [Spanned]) -> Result<(Box<Expr>, &'a [Spanned]), ParseRefusal>
-        requires expr { Nests shown.expr (read.expr self.now.depth) self.now.depth (E.pre self.now.expr) (E.post self.now.expr) }
-        requires cond { Nests shown.cond (read.cond self.now.depth) self.now.depth (C.pre self.now.cond) (C.post self.now.cond) }
-        requires query { Nests shown.query (read.query self.now.depth) self.now.depth (Q.pre self.now.query) (Q.post self.now.query) }
-        requires table { Nests shown.table (read.table self.now.depth) self.now.depth (T.pre self.now.table) (T.post self.now.table) }
+        requires { NestsEach self.now.depth (E.pre self.now.expr) (E.post self.now.expr) (C.pre self.now.cond) (C.post self.now.cond) (Q.pre self.now.query) (Q.post self.now.query) (T.pre self.now.table) (T.post self.now.table) }
         ensures { Gives (λ x. (shown.expr x.0.value, token_list x.1.now)) result (read.at_depth self.now.depth read.cast (token_list ts.now)) }
     {
         match first(ts) {
@@ -249,10 +222,7 @@ impl<
         word: Key,
         ts: &'a [Spanned],
     ) -> Result<(Box<Expr>, &'a [Spanned]), ParseRefusal>
-        requires expr { Nests shown.expr (read.expr self.now.depth) self.now.depth (E.pre self.now.expr) (E.post self.now.expr) }
-        requires cond { Nests shown.cond (read.cond self.now.depth) self.now.depth (C.pre self.now.cond) (C.post self.now.cond) }
-        requires query { Nests shown.query (read.query self.now.depth) self.now.depth (Q.pre self.now.query) (Q.post self.now.query) }
-        requires table { Nests shown.table (read.table self.now.depth) self.now.depth (T.pre self.now.table) (T.post self.now.table) }
+        requires { NestsEach self.now.depth (E.pre self.now.expr) (E.post self.now.expr) (C.pre self.now.cond) (C.post self.now.cond) (Q.pre self.now.query) (Q.post self.now.query) (T.pre self.now.table) (T.post self.now.table) }
         ensures { Gives (λ x. (shown.expr x.0.value, token_list x.1.now)) result (read.at_depth self.now.depth read.word_prim word (token_list ts.now)) }
     {
         match word {
@@ -271,10 +241,7 @@ impl<
 
     /// `query ")" | expr ")"`, after `"("`
     fn paren<'a>(&self, ts: &'a [Spanned]) -> Result<(Box<Expr>, &'a [Spanned]), ParseRefusal>
-        requires expr { Nests shown.expr (read.expr self.now.depth) self.now.depth (E.pre self.now.expr) (E.post self.now.expr) }
-        requires cond { Nests shown.cond (read.cond self.now.depth) self.now.depth (C.pre self.now.cond) (C.post self.now.cond) }
-        requires query { Nests shown.query (read.query self.now.depth) self.now.depth (Q.pre self.now.query) (Q.post self.now.query) }
-        requires table { Nests shown.table (read.table self.now.depth) self.now.depth (T.pre self.now.table) (T.post self.now.table) }
+        requires { NestsEach self.now.depth (E.pre self.now.expr) (E.post self.now.expr) (C.pre self.now.cond) (C.post self.now.cond) (Q.pre self.now.query) (Q.post self.now.query) (T.pre self.now.table) (T.post self.now.table) }
         ensures { Gives (λ x. (shown.expr x.0.value, token_list x.1.now)) result (read.at_depth self.now.depth read.paren (token_list ts.now)) }
     {
         if at_query(ts) {
@@ -288,10 +255,7 @@ impl<
 
     /// A number, a string, a column, a bracket, or what begins with a key word
     fn prim<'a>(&self, ts: &'a [Spanned]) -> Result<(Box<Expr>, &'a [Spanned]), ParseRefusal>
-        requires expr { Nests shown.expr (read.expr self.now.depth) self.now.depth (E.pre self.now.expr) (E.post self.now.expr) }
-        requires cond { Nests shown.cond (read.cond self.now.depth) self.now.depth (C.pre self.now.cond) (C.post self.now.cond) }
-        requires query { Nests shown.query (read.query self.now.depth) self.now.depth (Q.pre self.now.query) (Q.post self.now.query) }
-        requires table { Nests shown.table (read.table self.now.depth) self.now.depth (T.pre self.now.table) (T.post self.now.table) }
+        requires { NestsEach self.now.depth (E.pre self.now.expr) (E.post self.now.expr) (C.pre self.now.cond) (C.post self.now.cond) (Q.pre self.now.query) (Q.post self.now.query) (T.pre self.now.table) (T.post self.now.table) }
         ensures { Gives (λ x. (shown.expr x.0.value, token_list x.1.now)) result (read.at_depth self.now.depth read.prim (token_list ts.now)) }
     {
         match first(ts) {
@@ -310,10 +274,7 @@ impl<
         sign: Sign,
         ts: &'a [Spanned],
     ) -> Result<(Box<Expr>, &'a [Spanned]), ParseRefusal>
-        requires expr { Nests shown.expr (read.expr self.now.depth) self.now.depth (E.pre self.now.expr) (E.post self.now.expr) }
-        requires cond { Nests shown.cond (read.cond self.now.depth) self.now.depth (C.pre self.now.cond) (C.post self.now.cond) }
-        requires query { Nests shown.query (read.query self.now.depth) self.now.depth (Q.pre self.now.query) (Q.post self.now.query) }
-        requires table { Nests shown.table (read.table self.now.depth) self.now.depth (T.pre self.now.table) (T.post self.now.table) }
+        requires { NestsEach self.now.depth (E.pre self.now.expr) (E.post self.now.expr) (C.pre self.now.cond) (C.post self.now.cond) (Q.pre self.now.query) (Q.post self.now.query) (T.pre self.now.table) (T.post self.now.table) }
         ensures { Gives (λ x. (shown.expr x.0.value, token_list x.1.now)) result (read.at_depth self.now.depth read.signed sign (token_list ts.now)) }
     {
         let (operand, rest) = self.prim(ts)?;
@@ -322,10 +283,7 @@ impl<
 
     /// `factor = [ "+" | "-" ] prim`
     fn factor<'a>(&self, ts: &'a [Spanned]) -> Result<(Box<Expr>, &'a [Spanned]), ParseRefusal>
-        requires expr { Nests shown.expr (read.expr self.now.depth) self.now.depth (E.pre self.now.expr) (E.post self.now.expr) }
-        requires cond { Nests shown.cond (read.cond self.now.depth) self.now.depth (C.pre self.now.cond) (C.post self.now.cond) }
-        requires query { Nests shown.query (read.query self.now.depth) self.now.depth (Q.pre self.now.query) (Q.post self.now.query) }
-        requires table { Nests shown.table (read.table self.now.depth) self.now.depth (T.pre self.now.table) (T.post self.now.table) }
+        requires { NestsEach self.now.depth (E.pre self.now.expr) (E.post self.now.expr) (C.pre self.now.cond) (C.post self.now.cond) (Q.pre self.now.query) (Q.post self.now.query) (T.pre self.now.table) (T.post self.now.table) }
         ensures { Gives (λ x. (shown.expr x.0.value, token_list x.1.now)) result (read.at_depth self.now.depth read.factor (token_list ts.now)) }
     {
         match first(ts) {
@@ -342,10 +300,7 @@ impl<
         op: MultiplicativeOp,
         ts: &'a [Spanned],
     ) -> Result<(Box<Expr>, &'a [Spanned]), ParseRefusal>
-        requires expr { Nests shown.expr (read.expr self.now.depth) self.now.depth (E.pre self.now.expr) (E.post self.now.expr) }
-        requires cond { Nests shown.cond (read.cond self.now.depth) self.now.depth (C.pre self.now.cond) (C.post self.now.cond) }
-        requires query { Nests shown.query (read.query self.now.depth) self.now.depth (Q.pre self.now.query) (Q.post self.now.query) }
-        requires table { Nests shown.table (read.table self.now.depth) self.now.depth (T.pre self.now.table) (T.post self.now.table) }
+        requires { NestsEach self.now.depth (E.pre self.now.expr) (E.post self.now.expr) (C.pre self.now.cond) (C.post self.now.cond) (Q.pre self.now.query) (Q.post self.now.query) (T.pre self.now.table) (T.post self.now.table) }
         ensures { Gives (λ x. (shown.expr x.0.value, token_list x.1.now)) result (read.at_depth self.now.depth read.multiplied (shown.expr left.value) op (token_list ts.now)) }
     {
         let (right, rest) = self.factor(ts)?;
@@ -354,10 +309,7 @@ impl<
 
     /// `term = factor { ( "*" | "/" ) factor }`
     fn term<'a>(&self, ts: &'a [Spanned]) -> Result<(Box<Expr>, &'a [Spanned]), ParseRefusal>
-        requires expr { Nests shown.expr (read.expr self.now.depth) self.now.depth (E.pre self.now.expr) (E.post self.now.expr) }
-        requires cond { Nests shown.cond (read.cond self.now.depth) self.now.depth (C.pre self.now.cond) (C.post self.now.cond) }
-        requires query { Nests shown.query (read.query self.now.depth) self.now.depth (Q.pre self.now.query) (Q.post self.now.query) }
-        requires table { Nests shown.table (read.table self.now.depth) self.now.depth (T.pre self.now.table) (T.post self.now.table) }
+        requires { NestsEach self.now.depth (E.pre self.now.expr) (E.post self.now.expr) (C.pre self.now.cond) (C.post self.now.cond) (Q.pre self.now.query) (Q.post self.now.query) (T.pre self.now.table) (T.post self.now.table) }
         ensures { Gives (λ x. (shown.expr x.0.value, token_list x.1.now)) result (read.at_depth self.now.depth read.term (token_list ts.now)) }
     {
         let (mut left, mut rest) = self.factor(ts)?;
@@ -381,10 +333,7 @@ impl<
         op: AdditiveOp,
         ts: &'a [Spanned],
     ) -> Result<(Box<Expr>, &'a [Spanned]), ParseRefusal>
-        requires expr { Nests shown.expr (read.expr self.now.depth) self.now.depth (E.pre self.now.expr) (E.post self.now.expr) }
-        requires cond { Nests shown.cond (read.cond self.now.depth) self.now.depth (C.pre self.now.cond) (C.post self.now.cond) }
-        requires query { Nests shown.query (read.query self.now.depth) self.now.depth (Q.pre self.now.query) (Q.post self.now.query) }
-        requires table { Nests shown.table (read.table self.now.depth) self.now.depth (T.pre self.now.table) (T.post self.now.table) }
+        requires { NestsEach self.now.depth (E.pre self.now.expr) (E.post self.now.expr) (C.pre self.now.cond) (C.post self.now.cond) (Q.pre self.now.query) (Q.post self.now.query) (T.pre self.now.table) (T.post self.now.table) }
         ensures { Gives (λ x. (shown.expr x.0.value, token_list x.1.now)) result (read.at_depth self.now.depth read.added (shown.expr left.value) op (token_list ts.now)) }
     {
         let (right, rest) = self.term(ts)?;
@@ -393,10 +342,7 @@ impl<
 
     /// `expr = term { ( "+" | "-" | "||" ) term }`
     pub fn sum<'a>(&self, ts: &'a [Spanned]) -> Result<(Box<Expr>, &'a [Spanned]), ParseRefusal>
-        requires expr { Nests shown.expr (read.expr self.now.depth) self.now.depth (E.pre self.now.expr) (E.post self.now.expr) }
-        requires cond { Nests shown.cond (read.cond self.now.depth) self.now.depth (C.pre self.now.cond) (C.post self.now.cond) }
-        requires query { Nests shown.query (read.query self.now.depth) self.now.depth (Q.pre self.now.query) (Q.post self.now.query) }
-        requires table { Nests shown.table (read.table self.now.depth) self.now.depth (T.pre self.now.table) (T.post self.now.table) }
+        requires { NestsEach self.now.depth (E.pre self.now.expr) (E.post self.now.expr) (C.pre self.now.cond) (C.post self.now.cond) (Q.pre self.now.query) (Q.post self.now.query) (T.pre self.now.table) (T.post self.now.table) }
         ensures { Gives (λ x. (shown.expr x.0.value, token_list x.1.now)) result (read.at_depth self.now.depth read.sum (token_list ts.now)) }
     {
         let (mut left, mut rest) = self.term(ts)?;

@@ -1,7 +1,7 @@
 // Queries.
 ghost use Rattle.std.specs.Prelude.{◌≡◌, ◌∷◌, false, IfSome, IfNone};
 ghost use Rattle.sql_ast.specs.Shown as shown;
-ghost use Rattle.sql_parser.specs.Nests.{Nests};
+ghost use Rattle.sql_parser.specs.NestsEach.{NestsEach};
 ghost use Rattle.sql_parser.specs.Read as read;
 ghost use Rattle.sql_parser.specs.Read.{starts_intersect, starts_star};
 ghost use Rattle.sql_parser.specs.Words.{Gives};
@@ -49,10 +49,7 @@ impl<
 > Grammar<E, C, Q, T> {
     /// `item = expr [ [ AS ] name ] | name "." "*"`
     fn item<'a>(&self, ts: &'a [Spanned]) -> Result<(Item, &'a [Spanned]), ParseRefusal>
-        requires expr { Nests shown.expr (read.expr self.now.depth) self.now.depth (E.pre self.now.expr) (E.post self.now.expr) }
-        requires cond { Nests shown.cond (read.cond self.now.depth) self.now.depth (C.pre self.now.cond) (C.post self.now.cond) }
-        requires query { Nests shown.query (read.query self.now.depth) self.now.depth (Q.pre self.now.query) (Q.post self.now.query) }
-        requires table { Nests shown.table (read.table self.now.depth) self.now.depth (T.pre self.now.table) (T.post self.now.table) }
+        requires { NestsEach self.now.depth (E.pre self.now.expr) (E.post self.now.expr) (C.pre self.now.cond) (C.post self.now.cond) (Q.pre self.now.query) (Q.post self.now.query) (T.pre self.now.table) (T.post self.now.table) }
         ensures { Gives (λ x. (shown.item x.0, token_list x.1.now)) result (read.at_depth self.now.depth read.item (token_list ts.now)) }
     {
         match all_of_at(ts) {
@@ -70,10 +67,7 @@ impl<
 
     /// `item { "," item }`
     fn items<'a>(&self, ts: &'a [Spanned]) -> Result<(Items<Item>, &'a [Spanned]), ParseRefusal>
-        requires expr { Nests shown.expr (read.expr self.now.depth) self.now.depth (E.pre self.now.expr) (E.post self.now.expr) }
-        requires cond { Nests shown.cond (read.cond self.now.depth) self.now.depth (C.pre self.now.cond) (C.post self.now.cond) }
-        requires query { Nests shown.query (read.query self.now.depth) self.now.depth (Q.pre self.now.query) (Q.post self.now.query) }
-        requires table { Nests shown.table (read.table self.now.depth) self.now.depth (T.pre self.now.table) (T.post self.now.table) }
+        requires { NestsEach self.now.depth (E.pre self.now.expr) (E.post self.now.expr) (C.pre self.now.cond) (C.post self.now.cond) (Q.pre self.now.query) (Q.post self.now.query) (T.pre self.now.table) (T.post self.now.table) }
         ensures { Gives (λ x. (shown.item_list x.0, token_list x.1.now)) result (read.at_depth self.now.depth read.items (token_list ts.now)) }
     {
         let (item_first, after_first) = self.item(ts)?;
@@ -96,10 +90,7 @@ impl<
     /// `item { "," item }`, as a list
     #[tactic(auto, using(sql_ast::specs::Shown::lists))]
     fn listed<'a>(&self, ts: &'a [Spanned]) -> Result<(SelectList, &'a [Spanned]), ParseRefusal>
-        requires expr { Nests shown.expr (read.expr self.now.depth) self.now.depth (E.pre self.now.expr) (E.post self.now.expr) }
-        requires cond { Nests shown.cond (read.cond self.now.depth) self.now.depth (C.pre self.now.cond) (C.post self.now.cond) }
-        requires query { Nests shown.query (read.query self.now.depth) self.now.depth (Q.pre self.now.query) (Q.post self.now.query) }
-        requires table { Nests shown.table (read.table self.now.depth) self.now.depth (T.pre self.now.table) (T.post self.now.table) }
+        requires { NestsEach self.now.depth (E.pre self.now.expr) (E.post self.now.expr) (C.pre self.now.cond) (C.post self.now.cond) (Q.pre self.now.query) (Q.post self.now.query) (T.pre self.now.table) (T.post self.now.table) }
         ensures { Gives (λ x. (shown.select_list x.0, token_list x.1.now)) result (read.at_depth self.now.depth read.listed (token_list ts.now)) }
     {
         let (items, rest) = self.items(ts)?;
@@ -111,10 +102,7 @@ impl<
         &self,
         ts: &'a [Spanned],
     ) -> Result<(SelectList, &'a [Spanned]), ParseRefusal>
-        requires expr { Nests shown.expr (read.expr self.now.depth) self.now.depth (E.pre self.now.expr) (E.post self.now.expr) }
-        requires cond { Nests shown.cond (read.cond self.now.depth) self.now.depth (C.pre self.now.cond) (C.post self.now.cond) }
-        requires query { Nests shown.query (read.query self.now.depth) self.now.depth (Q.pre self.now.query) (Q.post self.now.query) }
-        requires table { Nests shown.table (read.table self.now.depth) self.now.depth (T.pre self.now.table) (T.post self.now.table) }
+        requires { NestsEach self.now.depth (E.pre self.now.expr) (E.post self.now.expr) (C.pre self.now.cond) (C.post self.now.cond) (Q.pre self.now.query) (Q.post self.now.query) (T.pre self.now.table) (T.post self.now.table) }
         ensures { Gives (λ x. (shown.select_list x.0, token_list x.1.now)) result (read.at_depth self.now.depth read.select_list (token_list ts.now)) }
     {
         match after_star(ts) {
@@ -132,10 +120,7 @@ impl<
         from: Items<TableRef>,
         ts: &'a [Spanned],
     ) -> Result<(Box<Query>, &'a [Spanned]), ParseRefusal>
-        requires expr { Nests shown.expr (read.expr self.now.depth) self.now.depth (E.pre self.now.expr) (E.post self.now.expr) }
-        requires cond { Nests shown.cond (read.cond self.now.depth) self.now.depth (C.pre self.now.cond) (C.post self.now.cond) }
-        requires query { Nests shown.query (read.query self.now.depth) self.now.depth (Q.pre self.now.query) (Q.post self.now.query) }
-        requires table { Nests shown.table (read.table self.now.depth) self.now.depth (T.pre self.now.table) (T.post self.now.table) }
+        requires { NestsEach self.now.depth (E.pre self.now.expr) (E.post self.now.expr) (C.pre self.now.cond) (C.post self.now.cond) (Q.pre self.now.query) (Q.post self.now.query) (T.pre self.now.table) (T.post self.now.table) }
         ensures { Gives (λ x. (shown.query x.0.value, token_list x.1.now)) result (read.at_depth self.now.depth read.block_end quantifier (shown.select_list list) (shown.table_list from) (token_list ts.now)) }
     {
         let (filter, rest) = self.where_filter(ts)?;
@@ -155,10 +140,7 @@ impl<
 
     /// `[ ALL | DISTINCT ] list FROM tref { "," tref }`, and the rest of a block, after `SELECT`
     fn block<'a>(&self, ts: &'a [Spanned]) -> Result<(Box<Query>, &'a [Spanned]), ParseRefusal>
-        requires expr { Nests shown.expr (read.expr self.now.depth) self.now.depth (E.pre self.now.expr) (E.post self.now.expr) }
-        requires cond { Nests shown.cond (read.cond self.now.depth) self.now.depth (C.pre self.now.cond) (C.post self.now.cond) }
-        requires query { Nests shown.query (read.query self.now.depth) self.now.depth (Q.pre self.now.query) (Q.post self.now.query) }
-        requires table { Nests shown.table (read.table self.now.depth) self.now.depth (T.pre self.now.table) (T.post self.now.table) }
+        requires { NestsEach self.now.depth (E.pre self.now.expr) (E.post self.now.expr) (C.pre self.now.cond) (C.post self.now.cond) (Q.pre self.now.query) (Q.post self.now.query) (T.pre self.now.table) (T.post self.now.table) }
         ensures { Gives (λ x. (shown.query x.0.value, token_list x.1.now)) result (read.at_depth self.now.depth read.block (token_list ts.now)) }
     {
         let (quantifier, rest) = set_quantifier_at(ts);
@@ -169,10 +151,7 @@ impl<
 
     /// `qprim = block | sub`
     fn qprim<'a>(&self, ts: &'a [Spanned]) -> Result<(Box<Query>, &'a [Spanned]), ParseRefusal>
-        requires expr { Nests shown.expr (read.expr self.now.depth) self.now.depth (E.pre self.now.expr) (E.post self.now.expr) }
-        requires cond { Nests shown.cond (read.cond self.now.depth) self.now.depth (C.pre self.now.cond) (C.post self.now.cond) }
-        requires query { Nests shown.query (read.query self.now.depth) self.now.depth (Q.pre self.now.query) (Q.post self.now.query) }
-        requires table { Nests shown.table (read.table self.now.depth) self.now.depth (T.pre self.now.table) (T.post self.now.table) }
+        requires { NestsEach self.now.depth (E.pre self.now.expr) (E.post self.now.expr) (C.pre self.now.cond) (C.post self.now.cond) (Q.pre self.now.query) (Q.post self.now.query) (T.pre self.now.table) (T.post self.now.table) }
         ensures { Gives (λ x. (shown.query x.0.value, token_list x.1.now)) result (read.at_depth self.now.depth read.qprim (token_list ts.now)) }
     {
         match first(ts) {
@@ -191,10 +170,7 @@ impl<
         left: Box<Query>,
         ts: &'a [Spanned],
     ) -> Result<(Box<Query>, &'a [Spanned]), ParseRefusal>
-        requires expr { Nests shown.expr (read.expr self.now.depth) self.now.depth (E.pre self.now.expr) (E.post self.now.expr) }
-        requires cond { Nests shown.cond (read.cond self.now.depth) self.now.depth (C.pre self.now.cond) (C.post self.now.cond) }
-        requires query { Nests shown.query (read.query self.now.depth) self.now.depth (Q.pre self.now.query) (Q.post self.now.query) }
-        requires table { Nests shown.table (read.table self.now.depth) self.now.depth (T.pre self.now.table) (T.post self.now.table) }
+        requires { NestsEach self.now.depth (E.pre self.now.expr) (E.post self.now.expr) (C.pre self.now.cond) (C.post self.now.cond) (Q.pre self.now.query) (Q.post self.now.query) (T.pre self.now.table) (T.post self.now.table) }
         ensures { Gives (λ x. (shown.query x.0.value, token_list x.1.now)) result (read.at_depth self.now.depth read.intersected (shown.query left.value) (token_list ts.now)) }
     {
         let (all, rest) = all_at(ts);
@@ -204,10 +180,7 @@ impl<
 
     /// `qterm = qprim { INTERSECT [ ALL ] qprim }`
     fn qterm<'a>(&self, ts: &'a [Spanned]) -> Result<(Box<Query>, &'a [Spanned]), ParseRefusal>
-        requires expr { Nests shown.expr (read.expr self.now.depth) self.now.depth (E.pre self.now.expr) (E.post self.now.expr) }
-        requires cond { Nests shown.cond (read.cond self.now.depth) self.now.depth (C.pre self.now.cond) (C.post self.now.cond) }
-        requires query { Nests shown.query (read.query self.now.depth) self.now.depth (Q.pre self.now.query) (Q.post self.now.query) }
-        requires table { Nests shown.table (read.table self.now.depth) self.now.depth (T.pre self.now.table) (T.post self.now.table) }
+        requires { NestsEach self.now.depth (E.pre self.now.expr) (E.post self.now.expr) (C.pre self.now.cond) (C.post self.now.cond) (Q.pre self.now.query) (Q.post self.now.query) (T.pre self.now.table) (T.post self.now.table) }
         ensures { Gives (λ x. (shown.query x.0.value, token_list x.1.now)) result (read.at_depth self.now.depth read.qterm (token_list ts.now)) }
     {
         let (mut left, mut rest) = self.qprim(ts)?;
@@ -231,10 +204,7 @@ impl<
         operator: SetOperator,
         ts: &'a [Spanned],
     ) -> Result<(Box<Query>, &'a [Spanned]), ParseRefusal>
-        requires expr { Nests shown.expr (read.expr self.now.depth) self.now.depth (E.pre self.now.expr) (E.post self.now.expr) }
-        requires cond { Nests shown.cond (read.cond self.now.depth) self.now.depth (C.pre self.now.cond) (C.post self.now.cond) }
-        requires query { Nests shown.query (read.query self.now.depth) self.now.depth (Q.pre self.now.query) (Q.post self.now.query) }
-        requires table { Nests shown.table (read.table self.now.depth) self.now.depth (T.pre self.now.table) (T.post self.now.table) }
+        requires { NestsEach self.now.depth (E.pre self.now.expr) (E.post self.now.expr) (C.pre self.now.cond) (C.post self.now.cond) (Q.pre self.now.query) (Q.post self.now.query) (T.pre self.now.table) (T.post self.now.table) }
         ensures { Gives (λ x. (shown.query x.0.value, token_list x.1.now)) result (read.at_depth self.now.depth read.united (shown.query left.value) operator (token_list ts.now)) }
     {
         let (all, rest) = all_at(ts);
@@ -247,10 +217,7 @@ impl<
         &self,
         ts: &'a [Spanned],
     ) -> Result<(Box<Query>, &'a [Spanned]), ParseRefusal>
-        requires expr { Nests shown.expr (read.expr self.now.depth) self.now.depth (E.pre self.now.expr) (E.post self.now.expr) }
-        requires cond { Nests shown.cond (read.cond self.now.depth) self.now.depth (C.pre self.now.cond) (C.post self.now.cond) }
-        requires query { Nests shown.query (read.query self.now.depth) self.now.depth (Q.pre self.now.query) (Q.post self.now.query) }
-        requires table { Nests shown.table (read.table self.now.depth) self.now.depth (T.pre self.now.table) (T.post self.now.table) }
+        requires { NestsEach self.now.depth (E.pre self.now.expr) (E.post self.now.expr) (C.pre self.now.cond) (C.post self.now.cond) (Q.pre self.now.query) (Q.post self.now.query) (T.pre self.now.table) (T.post self.now.table) }
         ensures { Gives (λ x. (shown.query x.0.value, token_list x.1.now)) result (read.at_depth self.now.depth read.combined (token_list ts.now)) }
     {
         let (mut left, mut rest) = self.qterm(ts)?;

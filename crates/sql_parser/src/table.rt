@@ -2,7 +2,7 @@
 ghost use Rattle.std.specs.Prelude.{◌≡◌};
 ghost use Rattle.sql_ast.specs.Grammatical as grammatical;
 ghost use Rattle.sql_ast.specs.Shown as shown;
-ghost use Rattle.sql_parser.specs.Nests.{Nests};
+ghost use Rattle.sql_parser.specs.NestsEach.{NestsEach};
 ghost use Rattle.sql_parser.specs.Read as read;
 ghost use Rattle.sql_parser.specs.Words.{Gives};
 ghost use Rattle.sql_parser.specs.declared.word.JoinKind.TheVariants as join_of;
@@ -88,10 +88,7 @@ impl<
 > Grammar<E, C, Q, T> {
     /// `tprim`
     fn tprim<'a>(&self, ts: &'a [Spanned]) -> Result<(Box<TableRef>, &'a [Spanned]), ParseRefusal>
-        requires expr { Nests shown.expr (read.expr self.now.depth) self.now.depth (E.pre self.now.expr) (E.post self.now.expr) }
-        requires cond { Nests shown.cond (read.cond self.now.depth) self.now.depth (C.pre self.now.cond) (C.post self.now.cond) }
-        requires query { Nests shown.query (read.query self.now.depth) self.now.depth (Q.pre self.now.query) (Q.post self.now.query) }
-        requires table { Nests shown.table (read.table self.now.depth) self.now.depth (T.pre self.now.table) (T.post self.now.table) }
+        requires { NestsEach self.now.depth (E.pre self.now.expr) (E.post self.now.expr) (C.pre self.now.cond) (C.post self.now.cond) (Q.pre self.now.query) (Q.post self.now.query) (T.pre self.now.table) (T.post self.now.table) }
         ensures { Gives (λ x. (shown.table x.0.value, token_list x.1.now)) result (read.at_depth self.now.depth read.tprim (token_list ts.now)) }
     {
         match first(ts) {
@@ -111,10 +108,7 @@ impl<
 
     /// `ON cond`
     fn on<'a>(&self, ts: &'a [Spanned]) -> Result<(Box<Cond>, &'a [Spanned]), ParseRefusal>
-        requires expr { Nests shown.expr (read.expr self.now.depth) self.now.depth (E.pre self.now.expr) (E.post self.now.expr) }
-        requires cond { Nests shown.cond (read.cond self.now.depth) self.now.depth (C.pre self.now.cond) (C.post self.now.cond) }
-        requires query { Nests shown.query (read.query self.now.depth) self.now.depth (Q.pre self.now.query) (Q.post self.now.query) }
-        requires table { Nests shown.table (read.table self.now.depth) self.now.depth (T.pre self.now.table) (T.post self.now.table) }
+        requires { NestsEach self.now.depth (E.pre self.now.expr) (E.post self.now.expr) (C.pre self.now.cond) (C.post self.now.cond) (Q.pre self.now.query) (Q.post self.now.query) (T.pre self.now.table) (T.post self.now.table) }
         ensures { Gives (λ x. (shown.cond x.0.value, token_list x.1.now)) result (read.at_depth self.now.depth read.on (token_list ts.now)) }
     {
         match first(ts) {
@@ -130,10 +124,7 @@ impl<
         inner: bool,
         ts: &'a [Spanned],
     ) -> Result<(Box<TableRef>, &'a [Spanned]), ParseRefusal>
-        requires expr { Nests shown.expr (read.expr self.now.depth) self.now.depth (E.pre self.now.expr) (E.post self.now.expr) }
-        requires cond { Nests shown.cond (read.cond self.now.depth) self.now.depth (C.pre self.now.cond) (C.post self.now.cond) }
-        requires query { Nests shown.query (read.query self.now.depth) self.now.depth (Q.pre self.now.query) (Q.post self.now.query) }
-        requires table { Nests shown.table (read.table self.now.depth) self.now.depth (T.pre self.now.table) (T.post self.now.table) }
+        requires { NestsEach self.now.depth (E.pre self.now.expr) (E.post self.now.expr) (C.pre self.now.cond) (C.post self.now.cond) (Q.pre self.now.query) (Q.post self.now.query) (T.pre self.now.table) (T.post self.now.table) }
         ensures { Gives (λ x. (shown.table x.0.value, token_list x.1.now)) result (read.at_depth self.now.depth read.join_after (shown.table left.value) (join_of.Inner inner) (token_list ts.now)) }
     {
         let (right, rest) = self.tprim(ts)?;
@@ -148,10 +139,7 @@ impl<
         outer: bool,
         ts: &'a [Spanned],
     ) -> Result<(Box<TableRef>, &'a [Spanned]), ParseRefusal>
-        requires expr { Nests shown.expr (read.expr self.now.depth) self.now.depth (E.pre self.now.expr) (E.post self.now.expr) }
-        requires cond { Nests shown.cond (read.cond self.now.depth) self.now.depth (C.pre self.now.cond) (C.post self.now.cond) }
-        requires query { Nests shown.query (read.query self.now.depth) self.now.depth (Q.pre self.now.query) (Q.post self.now.query) }
-        requires table { Nests shown.table (read.table self.now.depth) self.now.depth (T.pre self.now.table) (T.post self.now.table) }
+        requires { NestsEach self.now.depth (E.pre self.now.expr) (E.post self.now.expr) (C.pre self.now.cond) (C.post self.now.cond) (Q.pre self.now.query) (Q.post self.now.query) (T.pre self.now.table) (T.post self.now.table) }
         ensures { Gives (λ x. (shown.table x.0.value, token_list x.1.now)) result (read.at_depth self.now.depth read.join_after (shown.table left.value) (join_of.Left outer) (token_list ts.now)) }
     {
         let (right, rest) = self.tprim(ts)?;
@@ -170,10 +158,7 @@ impl<
         kind: JoinKind,
         ts: &'a [Spanned],
     ) -> Result<(Box<TableRef>, &'a [Spanned]), ParseRefusal>
-        requires expr { Nests shown.expr (read.expr self.now.depth) self.now.depth (E.pre self.now.expr) (E.post self.now.expr) }
-        requires cond { Nests shown.cond (read.cond self.now.depth) self.now.depth (C.pre self.now.cond) (C.post self.now.cond) }
-        requires query { Nests shown.query (read.query self.now.depth) self.now.depth (Q.pre self.now.query) (Q.post self.now.query) }
-        requires table { Nests shown.table (read.table self.now.depth) self.now.depth (T.pre self.now.table) (T.post self.now.table) }
+        requires { NestsEach self.now.depth (E.pre self.now.expr) (E.post self.now.expr) (C.pre self.now.cond) (C.post self.now.cond) (Q.pre self.now.query) (Q.post self.now.query) (T.pre self.now.table) (T.post self.now.table) }
         ensures { Gives (λ x. (shown.table x.0.value, token_list x.1.now)) result (read.at_depth self.now.depth read.join_after (shown.table left.value) kind (token_list ts.now)) }
     {
         match kind {
@@ -191,10 +176,7 @@ impl<
         &self,
         ts: &'a [Spanned],
     ) -> Result<(Box<TableRef>, &'a [Spanned]), ParseRefusal>
-        requires expr { Nests shown.expr (read.expr self.now.depth) self.now.depth (E.pre self.now.expr) (E.post self.now.expr) }
-        requires cond { Nests shown.cond (read.cond self.now.depth) self.now.depth (C.pre self.now.cond) (C.post self.now.cond) }
-        requires query { Nests shown.query (read.query self.now.depth) self.now.depth (Q.pre self.now.query) (Q.post self.now.query) }
-        requires table { Nests shown.table (read.table self.now.depth) self.now.depth (T.pre self.now.table) (T.post self.now.table) }
+        requires { NestsEach self.now.depth (E.pre self.now.expr) (E.post self.now.expr) (C.pre self.now.cond) (C.post self.now.cond) (Q.pre self.now.query) (Q.post self.now.query) (T.pre self.now.table) (T.post self.now.table) }
         ensures { Gives (λ x. (shown.table x.0.value, token_list x.1.now)) result (read.at_depth self.now.depth read.tref (token_list ts.now)) }
     {
         let (mut left, mut rest) = self.tprim(ts)?;
@@ -216,10 +198,7 @@ impl<
         &self,
         ts: &'a [Spanned],
     ) -> Result<(Items<TableRef>, &'a [Spanned]), ParseRefusal>
-        requires expr { Nests shown.expr (read.expr self.now.depth) self.now.depth (E.pre self.now.expr) (E.post self.now.expr) }
-        requires cond { Nests shown.cond (read.cond self.now.depth) self.now.depth (C.pre self.now.cond) (C.post self.now.cond) }
-        requires query { Nests shown.query (read.query self.now.depth) self.now.depth (Q.pre self.now.query) (Q.post self.now.query) }
-        requires table { Nests shown.table (read.table self.now.depth) self.now.depth (T.pre self.now.table) (T.post self.now.table) }
+        requires { NestsEach self.now.depth (E.pre self.now.expr) (E.post self.now.expr) (C.pre self.now.cond) (C.post self.now.cond) (Q.pre self.now.query) (Q.post self.now.query) (T.pre self.now.table) (T.post self.now.table) }
         ensures { Gives (λ x. (shown.table_list x.0, token_list x.1.now)) result (read.at_depth self.now.depth read.tables (token_list ts.now)) }
     {
         let (table_first, after_first) = self.tref(ts)?;
@@ -244,10 +223,7 @@ impl<
         &self,
         ts: &'a [Spanned],
     ) -> Result<(Items<TableRef>, &'a [Spanned]), ParseRefusal>
-        requires expr { Nests shown.expr (read.expr self.now.depth) self.now.depth (E.pre self.now.expr) (E.post self.now.expr) }
-        requires cond { Nests shown.cond (read.cond self.now.depth) self.now.depth (C.pre self.now.cond) (C.post self.now.cond) }
-        requires query { Nests shown.query (read.query self.now.depth) self.now.depth (Q.pre self.now.query) (Q.post self.now.query) }
-        requires table { Nests shown.table (read.table self.now.depth) self.now.depth (T.pre self.now.table) (T.post self.now.table) }
+        requires { NestsEach self.now.depth (E.pre self.now.expr) (E.post self.now.expr) (C.pre self.now.cond) (C.post self.now.cond) (Q.pre self.now.query) (Q.post self.now.query) (T.pre self.now.table) (T.post self.now.table) }
         ensures { Gives (λ x. (shown.table_list x.0, token_list x.1.now)) result (read.at_depth self.now.depth read.from (token_list ts.now)) }
     {
         match first(ts) {
