@@ -2,6 +2,7 @@
 ghost use Rattle.std.specs.Prelude.{◌≡◌, ◌∷◌, false, IfSome, IfNone};
 ghost use Rattle.sql_ast.specs.Shown as shown;
 ghost use Rattle.sql_ast.specs.Syntax as s;
+ghost use Rattle.sql_parser.specs.Nests.{Nests};
 ghost use Rattle.sql_parser.specs.NestsEach.{NestsEach};
 ghost use Rattle.sql_parser.specs.Read as read;
 ghost use Rattle.sql_parser.specs.Words as words;
@@ -58,13 +59,13 @@ fn found_choice(
 
 impl<
     E: Fn(Global, u8, &[Spanned]) -> Result<(Box<Expr>, &[Spanned]), ParseRefusal>,
-    C: Fn(Global, u8, &[Spanned]) -> Result<(Box<Cond>, &[Spanned]), ParseRefusal>,
-    Q: Fn(Global, u8, &[Spanned]) -> Result<(Box<Query>, &[Spanned]), ParseRefusal>,
-    T: Fn(Global, u8, &[Spanned]) -> Result<(Box<TableRef>, &[Spanned]), ParseRefusal>,
+    C,
+    Q,
+    T,
 > Grammar<E, C, Q, T> {
     /// `res = expr | NULL`
     fn res<'a>(&self, ts: &'a [Spanned]) -> Result<(Res, &'a [Spanned]), ParseRefusal>
-        requires { NestsEach self.now.depth (E.pre self.now.expr) (E.post self.now.expr) (C.pre self.now.cond) (C.post self.now.cond) (Q.pre self.now.query) (Q.post self.now.query) (T.pre self.now.table) (T.post self.now.table) }
+        requires { Nests shown.expr (read.expr self.now.depth) self.now.depth (E.pre self.now.expr) (E.post self.now.expr) }
         ensures { Gives (λ x. (shown.res x.0, token_list x.1.now)) result (read.at_depth self.now.depth read.res (token_list ts.now)) }
     {
         match first(ts) {
@@ -82,7 +83,7 @@ impl<
         when: Box<Cond>,
         ts: &'a [Spanned],
     ) -> Result<(Box<Arm>, &'a [Spanned]), ParseRefusal>
-        requires { NestsEach self.now.depth (E.pre self.now.expr) (E.post self.now.expr) (C.pre self.now.cond) (C.post self.now.cond) (Q.pre self.now.query) (Q.post self.now.query) (T.pre self.now.table) (T.post self.now.table) }
+        requires { Nests shown.expr (read.expr self.now.depth) self.now.depth (E.pre self.now.expr) (E.post self.now.expr) }
         ensures { Gives (λ x. ((shown.cond x.0.value.when, shown.res x.0.value.then), token_list x.1.now)) result (read.then_res (read.expr self.now.depth) (read.cond self.now.depth) (read.query self.now.depth) (read.table self.now.depth) (shown.cond when.value) (token_list ts.now)) }
     {
         match first(ts) {
@@ -94,6 +95,91 @@ impl<
         }
     }
 
+    /// `THEN res`, after `WHEN expr`
+    fn then_choice<'a>(
+        &self,
+        when: Box<Expr>,
+        ts: &'a [Spanned],
+    ) -> Result<(Box<Choice>, &'a [Spanned]), ParseRefusal>
+        requires { Nests shown.expr (read.expr self.now.depth) self.now.depth (E.pre self.now.expr) (E.post self.now.expr) }
+        ensures { Gives (λ x. ((shown.expr x.0.value.when, shown.res x.0.value.then), token_list x.1.now)) result (read.then_res (read.expr self.now.depth) (read.cond self.now.depth) (read.query self.now.depth) (read.table self.now.depth) (shown.expr when.value) (token_list ts.now)) }
+    {
+        match first(ts) {
+            Some((Token::Key(Key::Then), rest)) => {
+                let (then, rest) = self.res(rest)?;
+                found_choice(self.alloc, when, then, rest)
+            }
+            _ => Err(ParseRefusal::Syntax),
+        }
+    }
+
+    /// `expr THEN res`, after `WHEN`
+    fn choice<'a>(&self, ts: &'a [Spanned]) -> Result<(Box<Choice>, &'a [Spanned]), ParseRefusal>
+        requires { Nests shown.expr (read.expr self.now.depth) self.now.depth (E.pre self.now.expr) (E.post self.now.expr) }
+        ensures { Gives (λ x. ((shown.expr x.0.value.when, shown.res x.0.value.then), token_list x.1.now)) result (read.at_depth self.now.depth read.choice (token_list ts.now)) }
+    {
+        let (when, rest) = self.nested_expr(ts)?;
+        self.then_choice(when, rest)
+    }
+
+    /// `WHEN expr THEN res { WHEN expr THEN res }`
+    fn choices<'a>(&self, ts: &'a [Spanned]) -> Result<(Items<Choice>, &'a [Spanned]), ParseRefusal>
+        requires { Nests shown.expr (read.expr self.now.depth) self.now.depth (E.pre self.now.expr) (E.post self.now.expr) }
+        ensures { Gives (λ x. (shown.choice_list x.0, token_list x.1.now)) result (read.at_depth self.now.depth read.choices (token_list ts.now)) }
+    {
+        let Some(after) = after_when(ts) else {
+            return Err(ParseRefusal::Syntax);
+        };
+        let (first, after) = self.choice(after)?;
+        let mut choices = Items::new(self.alloc);
+        push_boxed(&mut choices, first)?;
+        let mut rest = after;
+        'choices: for _turn in 0..after.len() {
+            match after_when(rest) {
+                None => return Ok((choices, rest)),
+                Some(next) => {
+                    let (item, next) = self.choice(next)?;
+                    push_boxed(&mut choices, item)?;
+                    rest = next;
+                }
+            }
+        }
+        Ok((choices, rest))
+    }
+
+    /// `[ ELSE res ]`
+    fn otherwise<'a>(&self, ts: &'a [Spanned]) -> Result<(Otherwise, &'a [Spanned]), ParseRefusal>
+        requires { Nests shown.expr (read.expr self.now.depth) self.now.depth (E.pre self.now.expr) (E.post self.now.expr) }
+        ensures { Gives (λ x. (shown.otherwise x.0, token_list x.1.now)) result (read.at_depth self.now.depth read.otherwise (token_list ts.now)) }
+    {
+        match first(ts) {
+            Some((Token::Key(Key::Else), rest)) => {
+                let (value, rest) = self.res(rest)?;
+                Ok((Otherwise::Else(value), rest))
+            }
+            _ => Ok((Otherwise::Absent, ts)),
+        }
+    }
+
+    /// `expr { WHEN expr THEN res } [ ELSE res ] END`, with one choice at least
+    #[tactic(auto, using(sql_ast::specs::Shown::lists))]
+    fn simple<'a>(&self, ts: &'a [Spanned]) -> Result<(Box<Expr>, &'a [Spanned]), ParseRefusal>
+        requires { Nests shown.expr (read.expr self.now.depth) self.now.depth (E.pre self.now.expr) (E.post self.now.expr) }
+        ensures { Gives (λ x. (shown.expr x.0.value, token_list x.1.now)) result (read.at_depth self.now.depth read.simple (token_list ts.now)) }
+    {
+        let (operand, rest) = self.nested_expr(ts)?;
+        let (choices, rest) = self.choices(rest)?;
+        let (otherwise, rest) = self.otherwise(rest)?;
+        ended_expr(self.alloc, Expr::Simple(operand, choices, otherwise), rest)
+    }
+}
+
+impl<
+    E: Fn(Global, u8, &[Spanned]) -> Result<(Box<Expr>, &[Spanned]), ParseRefusal>,
+    C: Fn(Global, u8, &[Spanned]) -> Result<(Box<Cond>, &[Spanned]), ParseRefusal>,
+    Q: Fn(Global, u8, &[Spanned]) -> Result<(Box<Query>, &[Spanned]), ParseRefusal>,
+    T: Fn(Global, u8, &[Spanned]) -> Result<(Box<TableRef>, &[Spanned]), ParseRefusal>,
+> Grammar<E, C, Q, T> {
     /// `cond THEN res`, after `WHEN`
     fn arm<'a>(&self, ts: &'a [Spanned]) -> Result<(Box<Arm>, &'a [Spanned]), ParseRefusal>
         requires { NestsEach self.now.depth (E.pre self.now.expr) (E.post self.now.expr) (C.pre self.now.cond) (C.post self.now.cond) (Q.pre self.now.query) (Q.post self.now.query) (T.pre self.now.table) (T.post self.now.table) }
@@ -128,72 +214,6 @@ impl<
         Ok((arms, rest))
     }
 
-    /// `THEN res`, after `WHEN expr`
-    fn then_choice<'a>(
-        &self,
-        when: Box<Expr>,
-        ts: &'a [Spanned],
-    ) -> Result<(Box<Choice>, &'a [Spanned]), ParseRefusal>
-        requires { NestsEach self.now.depth (E.pre self.now.expr) (E.post self.now.expr) (C.pre self.now.cond) (C.post self.now.cond) (Q.pre self.now.query) (Q.post self.now.query) (T.pre self.now.table) (T.post self.now.table) }
-        ensures { Gives (λ x. ((shown.expr x.0.value.when, shown.res x.0.value.then), token_list x.1.now)) result (read.then_res (read.expr self.now.depth) (read.cond self.now.depth) (read.query self.now.depth) (read.table self.now.depth) (shown.expr when.value) (token_list ts.now)) }
-    {
-        match first(ts) {
-            Some((Token::Key(Key::Then), rest)) => {
-                let (then, rest) = self.res(rest)?;
-                found_choice(self.alloc, when, then, rest)
-            }
-            _ => Err(ParseRefusal::Syntax),
-        }
-    }
-
-    /// `expr THEN res`, after `WHEN`
-    fn choice<'a>(&self, ts: &'a [Spanned]) -> Result<(Box<Choice>, &'a [Spanned]), ParseRefusal>
-        requires { NestsEach self.now.depth (E.pre self.now.expr) (E.post self.now.expr) (C.pre self.now.cond) (C.post self.now.cond) (Q.pre self.now.query) (Q.post self.now.query) (T.pre self.now.table) (T.post self.now.table) }
-        ensures { Gives (λ x. ((shown.expr x.0.value.when, shown.res x.0.value.then), token_list x.1.now)) result (read.at_depth self.now.depth read.choice (token_list ts.now)) }
-    {
-        let (when, rest) = self.nested_expr(ts)?;
-        self.then_choice(when, rest)
-    }
-
-    /// `WHEN expr THEN res { WHEN expr THEN res }`
-    fn choices<'a>(&self, ts: &'a [Spanned]) -> Result<(Items<Choice>, &'a [Spanned]), ParseRefusal>
-        requires { NestsEach self.now.depth (E.pre self.now.expr) (E.post self.now.expr) (C.pre self.now.cond) (C.post self.now.cond) (Q.pre self.now.query) (Q.post self.now.query) (T.pre self.now.table) (T.post self.now.table) }
-        ensures { Gives (λ x. (shown.choice_list x.0, token_list x.1.now)) result (read.at_depth self.now.depth read.choices (token_list ts.now)) }
-    {
-        let Some(after) = after_when(ts) else {
-            return Err(ParseRefusal::Syntax);
-        };
-        let (first, after) = self.choice(after)?;
-        let mut choices = Items::new(self.alloc);
-        push_boxed(&mut choices, first)?;
-        let mut rest = after;
-        'choices: for _turn in 0..after.len() {
-            match after_when(rest) {
-                None => return Ok((choices, rest)),
-                Some(next) => {
-                    let (item, next) = self.choice(next)?;
-                    push_boxed(&mut choices, item)?;
-                    rest = next;
-                }
-            }
-        }
-        Ok((choices, rest))
-    }
-
-    /// `[ ELSE res ]`
-    fn otherwise<'a>(&self, ts: &'a [Spanned]) -> Result<(Otherwise, &'a [Spanned]), ParseRefusal>
-        requires { NestsEach self.now.depth (E.pre self.now.expr) (E.post self.now.expr) (C.pre self.now.cond) (C.post self.now.cond) (Q.pre self.now.query) (Q.post self.now.query) (T.pre self.now.table) (T.post self.now.table) }
-        ensures { Gives (λ x. (shown.otherwise x.0, token_list x.1.now)) result (read.at_depth self.now.depth read.otherwise (token_list ts.now)) }
-    {
-        match first(ts) {
-            Some((Token::Key(Key::Else), rest)) => {
-                let (value, rest) = self.res(rest)?;
-                Ok((Otherwise::Else(value), rest))
-            }
-            _ => Ok((Otherwise::Absent, ts)),
-        }
-    }
-
     /// `{ WHEN cond THEN res } [ ELSE res ] END`, with one arm at least
     #[tactic(auto, using(sql_ast::specs::Shown::lists))]
     fn searched<'a>(&self, ts: &'a [Spanned]) -> Result<(Box<Expr>, &'a [Spanned]), ParseRefusal>
@@ -203,18 +223,6 @@ impl<
         let (arms, rest) = self.arms(ts)?;
         let (otherwise, rest) = self.otherwise(rest)?;
         ended_expr(self.alloc, Expr::Searched(arms, otherwise), rest)
-    }
-
-    /// `expr { WHEN expr THEN res } [ ELSE res ] END`, with one choice at least
-    #[tactic(auto, using(sql_ast::specs::Shown::lists))]
-    fn simple<'a>(&self, ts: &'a [Spanned]) -> Result<(Box<Expr>, &'a [Spanned]), ParseRefusal>
-        requires { NestsEach self.now.depth (E.pre self.now.expr) (E.post self.now.expr) (C.pre self.now.cond) (C.post self.now.cond) (Q.pre self.now.query) (Q.post self.now.query) (T.pre self.now.table) (T.post self.now.table) }
-        ensures { Gives (λ x. (shown.expr x.0.value, token_list x.1.now)) result (read.at_depth self.now.depth read.simple (token_list ts.now)) }
-    {
-        let (operand, rest) = self.nested_expr(ts)?;
-        let (choices, rest) = self.choices(rest)?;
-        let (otherwise, rest) = self.otherwise(rest)?;
-        ended_expr(self.alloc, Expr::Simple(operand, choices, otherwise), rest)
     }
 
     /// What follows `CASE`

@@ -2,6 +2,7 @@
 ghost use Rattle.std.specs.Prelude.{◌≡◌, ◌∷◌, false, IfSome, IfNone};
 ghost use Rattle.sql_ast.specs.Shown as shown;
 ghost use Rattle.sql_ast.specs.Syntax as s;
+ghost use Rattle.sql_parser.specs.Nests.{Nests};
 ghost use Rattle.sql_parser.specs.NestsEach.{NestsEach};
 ghost use Rattle.sql_parser.specs.Read as read;
 ghost use Rattle.sql_parser.specs.Words as words;
@@ -63,13 +64,13 @@ fn column_expr<'a>(
 
 impl<
     E: Fn(Global, u8, &[Spanned]) -> Result<(Box<Expr>, &[Spanned]), ParseRefusal>,
-    C: Fn(Global, u8, &[Spanned]) -> Result<(Box<Cond>, &[Spanned]), ParseRefusal>,
-    Q: Fn(Global, u8, &[Spanned]) -> Result<(Box<Query>, &[Spanned]), ParseRefusal>,
-    T: Fn(Global, u8, &[Spanned]) -> Result<(Box<TableRef>, &[Spanned]), ParseRefusal>,
+    C,
+    Q,
+    T,
 > Grammar<E, C, Q, T> {
     /// `expr { "," expr }`, in brackets
     pub fn exprs<'a>(&self, ts: &'a [Spanned]) -> Result<(Items<Expr>, &'a [Spanned]), ParseRefusal>
-        requires { NestsEach self.now.depth (E.pre self.now.expr) (E.post self.now.expr) (C.pre self.now.cond) (C.post self.now.cond) (Q.pre self.now.query) (Q.post self.now.query) (T.pre self.now.table) (T.post self.now.table) }
+        requires { Nests shown.expr (read.expr self.now.depth) self.now.depth (E.pre self.now.expr) (E.post self.now.expr) }
         ensures { Gives (λ x. (shown.expr_list x.0, token_list x.1.now)) result (read.at_depth self.now.depth read.exprs (token_list ts.now)) }
     {
         let (first, after) = self.nested_expr(ts)?;
@@ -95,7 +96,7 @@ impl<
         function: SetFunction,
         ts: &'a [Spanned],
     ) -> Result<(Box<Expr>, &'a [Spanned]), ParseRefusal>
-        requires { NestsEach self.now.depth (E.pre self.now.expr) (E.post self.now.expr) (C.pre self.now.cond) (C.post self.now.cond) (Q.pre self.now.query) (Q.post self.now.query) (T.pre self.now.table) (T.post self.now.table) }
+        requires { Nests shown.expr (read.expr self.now.depth) self.now.depth (E.pre self.now.expr) (E.post self.now.expr) }
         ensures { Gives (λ x. (shown.expr x.0.value, token_list x.1.now)) result (read.at_depth self.now.depth read.aggregate function (token_list ts.now)) }
     {
         match first(ts) {
@@ -114,7 +115,7 @@ impl<
 
     /// `"(" "*" ")" | "(" [ ALL | DISTINCT ] expr ")"`, after `COUNT`
     fn count<'a>(&self, ts: &'a [Spanned]) -> Result<(Box<Expr>, &'a [Spanned]), ParseRefusal>
-        requires { NestsEach self.now.depth (E.pre self.now.expr) (E.post self.now.expr) (C.pre self.now.cond) (C.post self.now.cond) (Q.pre self.now.query) (Q.post self.now.query) (T.pre self.now.table) (T.post self.now.table) }
+        requires { Nests shown.expr (read.expr self.now.depth) self.now.depth (E.pre self.now.expr) (E.post self.now.expr) }
         ensures { Gives (λ x. (shown.expr x.0.value, token_list x.1.now)) result (read.at_depth self.now.depth read.count (token_list ts.now)) }
     {
         match after_open_star(ts) {
@@ -130,7 +131,7 @@ impl<
         operand: Box<Expr>,
         ts: &'a [Spanned],
     ) -> Result<(Box<Expr>, &'a [Spanned]), ParseRefusal>
-        requires { NestsEach self.now.depth (E.pre self.now.expr) (E.post self.now.expr) (C.pre self.now.cond) (C.post self.now.cond) (Q.pre self.now.query) (Q.post self.now.query) (T.pre self.now.table) (T.post self.now.table) }
+        requires { Nests shown.expr (read.expr self.now.depth) self.now.depth (E.pre self.now.expr) (E.post self.now.expr) }
         ensures { Gives (λ x. (shown.expr x.0.value, token_list x.1.now)) result (read.at_depth self.now.depth read.coalesce_rest (shown.expr operand.value) (token_list ts.now)) }
     {
         match first(ts) {
@@ -144,7 +145,7 @@ impl<
 
     /// `"(" expr "," expr { "," expr } ")"`, after `COALESCE`
     fn coalesce<'a>(&self, ts: &'a [Spanned]) -> Result<(Box<Expr>, &'a [Spanned]), ParseRefusal>
-        requires { NestsEach self.now.depth (E.pre self.now.expr) (E.post self.now.expr) (C.pre self.now.cond) (C.post self.now.cond) (Q.pre self.now.query) (Q.post self.now.query) (T.pre self.now.table) (T.post self.now.table) }
+        requires { Nests shown.expr (read.expr self.now.depth) self.now.depth (E.pre self.now.expr) (E.post self.now.expr) }
         ensures { Gives (λ x. (shown.expr x.0.value, token_list x.1.now)) result (read.at_depth self.now.depth read.coalesce (token_list ts.now)) }
     {
         match first(ts) {
@@ -162,7 +163,7 @@ impl<
         a: Box<Expr>,
         ts: &'a [Spanned],
     ) -> Result<(Box<Expr>, &'a [Spanned]), ParseRefusal>
-        requires { NestsEach self.now.depth (E.pre self.now.expr) (E.post self.now.expr) (C.pre self.now.cond) (C.post self.now.cond) (Q.pre self.now.query) (Q.post self.now.query) (T.pre self.now.table) (T.post self.now.table) }
+        requires { Nests shown.expr (read.expr self.now.depth) self.now.depth (E.pre self.now.expr) (E.post self.now.expr) }
         ensures { Gives (λ x. (shown.expr x.0.value, token_list x.1.now)) result (read.at_depth self.now.depth read.null_if_rest (shown.expr a.value) (token_list ts.now)) }
     {
         match first(ts) {
@@ -176,7 +177,7 @@ impl<
 
     /// `"(" expr "," expr ")"`, after `NULLIF`
     fn null_if<'a>(&self, ts: &'a [Spanned]) -> Result<(Box<Expr>, &'a [Spanned]), ParseRefusal>
-        requires { NestsEach self.now.depth (E.pre self.now.expr) (E.post self.now.expr) (C.pre self.now.cond) (C.post self.now.cond) (Q.pre self.now.query) (Q.post self.now.query) (T.pre self.now.table) (T.post self.now.table) }
+        requires { Nests shown.expr (read.expr self.now.depth) self.now.depth (E.pre self.now.expr) (E.post self.now.expr) }
         ensures { Gives (λ x. (shown.expr x.0.value, token_list x.1.now)) result (read.at_depth self.now.depth read.null_if (token_list ts.now)) }
     {
         match first(ts) {
@@ -187,10 +188,11 @@ impl<
             _ => Err(ParseRefusal::Syntax),
         }
     }
+}
 
+impl<E, C, Q, T> Grammar<E, C, Q, T> {
     /// `AS type ")"`, after `CAST "(" NULL`
     fn cast_type<'a>(&self, ts: &'a [Spanned]) -> Result<(Box<Expr>, &'a [Spanned]), ParseRefusal>
-        requires { NestsEach self.now.depth (E.pre self.now.expr) (E.post self.now.expr) (C.pre self.now.cond) (C.post self.now.cond) (Q.pre self.now.query) (Q.post self.now.query) (T.pre self.now.table) (T.post self.now.table) }
         ensures { Gives (λ x. (shown.expr x.0.value, token_list x.1.now)) result (read.at_depth self.now.depth read.cast_type (token_list ts.now)) }
     {
         match first(ts) {
@@ -204,7 +206,6 @@ impl<
 
     /// `"(" NULL AS type ")"`, after `CAST`
     fn cast<'a>(&self, ts: &'a [Spanned]) -> Result<(Box<Expr>, &'a [Spanned]), ParseRefusal>
-        requires { NestsEach self.now.depth (E.pre self.now.expr) (E.post self.now.expr) (C.pre self.now.cond) (C.post self.now.cond) (Q.pre self.now.query) (Q.post self.now.query) (T.pre self.now.table) (T.post self.now.table) }
         ensures { Gives (λ x. (shown.expr x.0.value, token_list x.1.now)) result (read.at_depth self.now.depth read.cast (token_list ts.now)) }
     {
         match first(ts) {
@@ -215,7 +216,14 @@ impl<
             _ => Err(ParseRefusal::Syntax),
         }
     }
+}
 
+impl<
+    E: Fn(Global, u8, &[Spanned]) -> Result<(Box<Expr>, &[Spanned]), ParseRefusal>,
+    C: Fn(Global, u8, &[Spanned]) -> Result<(Box<Cond>, &[Spanned]), ParseRefusal>,
+    Q: Fn(Global, u8, &[Spanned]) -> Result<(Box<Query>, &[Spanned]), ParseRefusal>,
+    T: Fn(Global, u8, &[Spanned]) -> Result<(Box<TableRef>, &[Spanned]), ParseRefusal>,
+> Grammar<E, C, Q, T> {
     /// A prim that begins with a key word, after that word
     fn word_prim<'a>(
         &self,

@@ -25,9 +25,9 @@ pub(crate) struct Grammar<E, C, Q, T> {
 
 impl<
     E: Fn(Global, u8, &[Spanned]) -> Result<(Box<Expr>, &[Spanned]), ParseRefusal>,
-    C: Fn(Global, u8, &[Spanned]) -> Result<(Box<Cond>, &[Spanned]), ParseRefusal>,
-    Q: Fn(Global, u8, &[Spanned]) -> Result<(Box<Query>, &[Spanned]), ParseRefusal>,
-    T: Fn(Global, u8, &[Spanned]) -> Result<(Box<TableRef>, &[Spanned]), ParseRefusal>,
+    C,
+    Q,
+    T,
 > Grammar<E, C, Q, T> {
     /// An expression within brackets.
     pub fn nested_expr<'a>(
@@ -39,7 +39,14 @@ impl<
     {
         (self.expr)(self.alloc, self.depth, ts)
     }
+}
 
+impl<
+    E: Fn(Global, u8, &[Spanned]) -> Result<(Box<Expr>, &[Spanned]), ParseRefusal>,
+    C: Fn(Global, u8, &[Spanned]) -> Result<(Box<Cond>, &[Spanned]), ParseRefusal>,
+    Q: Fn(Global, u8, &[Spanned]) -> Result<(Box<Query>, &[Spanned]), ParseRefusal>,
+    T: Fn(Global, u8, &[Spanned]) -> Result<(Box<TableRef>, &[Spanned]), ParseRefusal>,
+> Grammar<E, C, Q, T> {
     /// A condition within brackets.
     pub fn nested_cond<'a>(
         &self,
