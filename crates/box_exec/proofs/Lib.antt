@@ -4,6 +4,7 @@ mod Keys
 mod Places
 mod Evaluations
 mod Quantifiers
+mod Parts
 mod Names
 mod Entries
 mod HandedOn

@@ -11,10 +11,7 @@ use std::alloc::Global;
 fn append(names: &[QuantId], out: &mut Vec<QuantId>) -> Result<(), OutOfMemory>
     ensures { OnOk result (out.new.items ≡ out.old.items ++ names.now) }
 {
-    for q in names {
-        out.push(*q)?;
-    }
-    Ok(())
+    Ok(out.extend_from_slice(names)?)
 }
 
 // Appends what box b names so, if it is among these; the lists are those of these boxes, from the last.

@@ -16,10 +16,10 @@ use crate::bindings::Bindings;
 use crate::combining::combined;
 use crate::early::{Early, early_conds, rejected};
 use crate::grouping::grouped;
-use crate::heads::{add_given, once_if};
+use crate::heads::{add_given, once_added};
 use crate::joining::{Join, outer_joined};
 use crate::probe::{probe_of, skips};
-use crate::source::{Source, Sub};
+use crate::source::{Source, Sub, made, push_sub};
 use crate::under::{Loop, Run, Under, is_f, loops, table_rows};
 use qgm_core::{BoxKind, Node, SetOperator};
 use row_bag::{Bag, copied_rows};
@@ -128,9 +128,7 @@ fn rows_under<'a, L: Ledger>(
 {
     match l.under {
         Under::Kept(rows) => Ok(Source::Borrowed(rows)),
-        Under::Open(node, behind) => {
-            Ok(Source::Made(evaluated(at.run, node, behind, env, steps, count)?))
-        }
+        Under::Open(node, behind) => made(evaluated(at.run, node, behind, env, steps, count)),
         Under::Nothing => Ok(Source::Borrowed(&[])),
     }
 }
@@ -149,8 +147,8 @@ fn selected<L: Ledger>(
     ensures took { (kept : ℕ → Bool) → plan.KeepsAt at.now kept → IfOk result (λ bag. Between 0 (plan.cost_left at.now kept 0 (env_of env.now)) steps.old steps.new) }
 {
     let mut out = Bag::new(at.run.alloc);
-    each(at, 0, Level::Yes, &*env, &mut out, steps, count)?;
-    once_if(at.node.parts.distinct, out)
+    let added = each(at, 0, Level::Yes, &*env, &mut out, steps, count);
+    once_added(at.node.parts.distinct, added, out)
 }
 
 // Adds what a select gives for each combination of rows of its F quantifiers from a place on, each
@@ -231,11 +229,8 @@ fn subs<'a, L: Ledger>(
     let mut subs = Vec::new(at.run.alloc);
     for l in at.loops {
         if !is_f(l.range.kind) {
-            let rows = rows_under(at, l, env, steps, count)?;
-            subs.push(Sub {
-                quant: l.range.id,
-                rows,
-            })?;
+            let rows = rows_under(at, l, env, steps, count);
+            push_sub(&mut subs, l.range.id, rows)?;
         }
     }
     Ok(subs)
@@ -258,9 +253,9 @@ fn groups<L: Ledger>(
     let Some(l) = at.loops.get(0) else {
         return Ok(Bag::new(at.run.alloc));
     };
-    let rows = rows_under(at, l, env, steps, count)?;
+    let rows = rows_under(at, l, env, steps, count);
     let head = at.node.parts.head.as_slice();
-    grouped(at.run.alloc, keys, head, l.range.id, rows.rows(), env)
+    grouped(at.run.alloc, keys, head, l.range.id, rows, env)
 }
 
 // The rows of a set operation.
@@ -281,10 +276,8 @@ fn put_together<L: Ledger>(
     let [p, q, ..] = at.loops else {
         return Ok(Bag::new(at.run.alloc));
     };
-    let xs = rows_under(at, p, env, steps, count)?;
-    let ys = rows_under(at, q, env, steps, count)?;
-    let xs = xs.into_bag(at.run.alloc)?;
-    let ys = ys.into_bag(at.run.alloc)?;
+    let xs = rows_under(at, p, env, steps, count);
+    let ys = rows_under(at, q, env, steps, count);
     combined(at.run.alloc, operator, width, xs, ys)
 }
 
@@ -304,12 +297,12 @@ fn joined<L: Ledger>(
     let [p, q, ..] = at.loops else {
         return Ok(Bag::new(at.run.alloc));
     };
-    let xs = rows_under(at, p, env, steps, count)?;
-    let ys = rows_under(at, q, env, steps, count)?;
+    let xs = rows_under(at, p, env, steps, count);
+    let ys = rows_under(at, q, env, steps, count);
     let join = Join {
         node: at.node,
         left: p.range.id,
         right: q.range.id,
     };
-    outer_joined(at.run.alloc, &join, xs.rows(), ys.rows(), env)
+    outer_joined(at.run.alloc, &join, xs, ys, env)
 }

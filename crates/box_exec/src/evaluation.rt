@@ -1,9 +1,10 @@
 // What expressions and conditions are.
-ghost use Rattle.std.specs.Prelude.{◌≡◌, IfOk, true, false, unwrap_or};
+ghost use Rattle.std.specs.Prelude.{◌≡◌, IfOk, IsOkAnd, true, false, unwrap_or};
 ghost use Rattle.qgm_terms.specs.Shown.{choices, cond, conds, links, term};
 ghost use Rattle.qgm_terms.specs.Terms.{armed};
 ghost use Rattle.row_bag.specs.Bags.{if_there, total};
 ghost use Rattle.sql_value.specs.Arithmetic as arithmetic;
+ghost use Rattle.sql_value.specs.Comparison as comparisons;
 ghost use Rattle.sql_value.specs.Truths as truths;
 ghost use Rattle.sql_value.specs.declared.cell.Cell.{Cell};
 ghost use Rattle.box_exec.specs.Bound.{env_of};
@@ -71,6 +72,44 @@ fn comparison(p: &Gc, a: &Cell, b: &Cell) -> Truth
     }
 }
 
+// What a comparison makes of its two operands.
+#[inline(never)]
+fn compared(
+    p: &Gc,
+    a: Result<Operand<'_>, OutOfMemory>,
+    b: Result<Operand<'_>, OutOfMemory>,
+) -> Result<Truth, OutOfMemory>
+    ensures { IfOk result (λ truth. IsOkAnd a.entry (λ x. IsOkAnd b.entry (λ y. truth ≡ compared_by p.now (cell_held x) (cell_held y)))) }
+{
+    let a = a?;
+    let b = b?;
+    Ok(comparison(p, a.cell(), b.cell()))
+}
+
+// Whether a cell is null.
+#[inline(never)]
+fn null_test(a: Result<Cell, OutOfMemory>) -> Result<Truth, OutOfMemory>
+    ensures { IfOk result (λ truth. IsOkAnd a (λ x. truth ≡ comparisons.is_null x)) }
+{
+    Ok(is_null(&a?))
+}
+
+// `-a`.
+#[inline(never)]
+fn negative(a: Result<Cell, OutOfMemory>) -> Result<Cell, OutOfMemory>
+    ensures { IfOk result (λ cell. IsOkAnd a (λ x. cell ≡ arithmetic.neg x)) }
+{
+    Ok(neg(&a?))
+}
+
+// `NOT p`.
+#[inline(never)]
+fn negated(p: Result<Truth, OutOfMemory>) -> Result<Truth, OutOfMemory>
+    ensures { IfOk result (λ truth. IsOkAnd p (λ q. truth ≡ truths.negated q)) }
+{
+    Ok(not(p?))
+}
+
 /// The cell that an expression is.
 #[cycle(value)]
 pub fn value(alloc: Global, x: &Gx, subs: &[Sub<'_>], env: &Bindings) -> Result<Cell, OutOfMemory>
@@ -85,9 +124,9 @@ pub fn value(alloc: Global, x: &Gx, subs: &[Sub<'_>], env: &Bindings) -> Result<
             let first = value(alloc, a, subs, env)?;
             chain(alloc, first, list, subs, env)
         }
-        Gx::Neg(a) => negative(alloc, a, subs, env),
+        Gx::Neg(a) => negative(value(alloc, a, subs, env)),
         Gx::Case(list, last) => {
-            let found = first_true(alloc, list, subs, env)?;
+            let found = first_true(alloc, list, subs, env);
             or_last(alloc, found, last, subs, env)
         }
         // An aggregate is a cell of a group alone.
@@ -106,15 +145,6 @@ pub fn value(alloc: Global, x: &Gx, subs: &[Sub<'_>], env: &Bindings) -> Result<
         | Gx::MinDistinct(_)
         | Gx::MaxDistinct(_) => Ok(Cell::Null),
     }
-}
-
-// `-a`.
-#[cycle(value)]
-#[inline(never)]
-fn negative(alloc: Global, a: &Gx, subs: &[Sub<'_>], env: &Bindings) -> Result<Cell, OutOfMemory>
-    ensures { IfOk result (λ cell. cell ≡ arithmetic.neg (meaning.value (held_by subs.now) (term a.now) (env_of env.now))) }
-{
-    Ok(neg(&value(alloc, a, subs, env)?))
 }
 
 // A first operand, and then operators and operands.
@@ -142,14 +172,14 @@ fn chain(
 #[inline(never)]
 fn or_last(
     alloc: Global,
-    found: Option<Cell>,
+    found: Result<Option<Cell>, OutOfMemory>,
     last: &Gx,
     subs: &[Sub<'_>],
     env: &Bindings,
 ) -> Result<Cell, OutOfMemory>
-    ensures { IfOk result (λ cell. cell ≡ unwrap_or found (meaning.value (held_by subs.now) (term last.now) (env_of env.now))) }
+    ensures { IfOk result (λ cell. IsOkAnd found (λ o. cell ≡ unwrap_or o (meaning.value (held_by subs.now) (term last.now) (env_of env.now)))) }
 {
-    match found {
+    match found? {
         Some(cell) => Ok(cell),
         None => value(alloc, last, subs, env),
     }
@@ -211,11 +241,10 @@ pub fn hold(alloc: Global, p: &Gc, subs: &[Sub<'_>], env: &Bindings) -> Result<T
         | Gc::Ge(a, b)
         | Gc::Same(a, b)
         | Gc::Like(a, b) => {
-            let a = operand(alloc, a, subs, env)?;
-            let b = operand(alloc, b, subs, env)?;
-            Ok(comparison(p, a.cell(), b.cell()))
+            let left = operand(alloc, a, subs, env);
+            compared(p, left, operand(alloc, b, subs, env))
         }
-        Gc::IsNull(a) => Ok(is_null(&value(alloc, a, subs, env)?)),
+        Gc::IsNull(a) => null_test(value(alloc, a, subs, env)),
         Gc::All(a, list) => {
             let first = hold(alloc, a, subs, env)?;
             all_of(alloc, first, list, subs, env)
@@ -224,7 +253,7 @@ pub fn hold(alloc: Global, p: &Gc, subs: &[Sub<'_>], env: &Bindings) -> Result<T
             let first = hold(alloc, a, subs, env)?;
             any_of(alloc, first, list, subs, env)
         }
-        Gc::Not(a) => Ok(not(hold(alloc, a, subs, env)?)),
+        Gc::Not(a) => negated(hold(alloc, a, subs, env)),
         Gc::Some(q, a) => some(alloc, *q, a, rows_of(subs, *q), subs, env),
         Gc::Every(q, a) => every(alloc, *q, a, rows_of(subs, *q), subs, env),
     }

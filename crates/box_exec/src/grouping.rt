@@ -1,7 +1,8 @@
 // The groups of a box (SQL-92, 7.7 and 6.5).
-ghost use Rattle.std.specs.Prelude.{◌≡◌, ◌≤◌, ◌∷◌, [], ◌++◌, drop, length, map, take, IfOk};
+ghost use Rattle.std.specs.Prelude.{◌≡◌, ◌≤◌, ◌∷◌, [], ◌++◌, drop, length, map, take, IfOk, IsOkAnd};
 ghost use Rattle.box_exec.specs.Bound.{env_of};
 ghost use Rattle.box_exec.specs.Groups as spec;
+ghost use Rattle.box_exec.specs.Sources.{held};
 ghost use Rattle.qgm_meaning.specs.Meaning as m;
 ghost use Rattle.qgm_meaning.specs.Values as v;
 ghost use Rattle.qgm_terms.specs.Shown.{term, terms};
@@ -14,6 +15,7 @@ ghost use Rattle.sql_value.specs.declared.cell.Cell.TheVariants.{Null};
 use crate::bindings::Bindings;
 use crate::evaluation::value;
 use crate::heads::append_head;
+use crate::source::Source;
 use qgm_core::{Gx, QuantId};
 use row_bag::{
     Bag, Group, Row, append_cells, count_rows, error_at, failed_row, folded, groups_of,
@@ -297,10 +299,9 @@ fn last_cells(head: &[Gx], n: usize) -> &[Gx]
     &head[n..]
 }
 
-/// The groups of rows of a quantifier by the first cells of a head, so many: one row for each group,
-/// or one row of the greatest error, where a row is at an error level or a key cell is an error. It
-/// fails only for want of memory.
-pub(crate) fn grouped(
+// The groups of rows of a quantifier by the first cells of a head, so many: one row for each group,
+// or one row of the greatest error, where a row is at an error level or a key cell is an error.
+fn in_groups(
     alloc: Global,
     keys: usize,
     head: &[Gx],
@@ -317,4 +318,21 @@ pub(crate) fn grouped(
     let first = first_cells(head, n);
     let last = last_cells(head, n);
     by_keys(alloc, first, last, quant, rows, env)
+}
+
+/// The groups of rows of a quantifier by the first cells of a head, so many: one row for each group,
+/// or one row of the greatest error, where a row is at an error level or a key cell is an error. It
+/// fails where the rows do, or for want of memory.
+pub(crate) fn grouped(
+    alloc: Global,
+    keys: usize,
+    head: &[Gx],
+    quant: QuantId,
+    rows: Result<Source<'_>, OutOfMemory>,
+    env: &Bindings,
+) -> Result<Bag, OutOfMemory>
+    ensures { IfOk result (λ made. IsOkAnd rows.entry (λ s. Alike made (m.grouped_rows keys (terms head.now) quant (env_of env.now) (held s)))) }
+{
+    let rows = rows?;
+    in_groups(alloc, keys, head, quant, rows.rows(), env)
 }

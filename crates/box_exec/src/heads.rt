@@ -1,5 +1,5 @@
 // What a box gives where its quantifiers are bound.
-ghost use Rattle.std.specs.Prelude.{◌≡◌, ◌++◌, IfOk, OnOk};
+ghost use Rattle.std.specs.Prelude.{◌≡◌, ◌++◌, IfOk, IsOkAnd, OnOk};
 ghost use Rattle.box_exec.specs.Bound.{env_of};
 ghost use Rattle.box_exec.specs.Sources.{held_by};
 ghost use Rattle.qgm_core.specs.Kinds.{is_enforce};
@@ -92,12 +92,25 @@ pub(crate) fn add_given(
     })
 }
 
-/// Each row once, where this is asked for. It fails only for want of memory.
-pub(crate) fn once_if(each: Distinct, rows: Bag) -> Result<Bag, OutOfMemory>
+// Each row once, where this is asked for.
+fn once_if(each: Distinct, rows: Bag) -> Result<Bag, OutOfMemory>
     ensures { IfOk result (λ bag. Alike bag (m.once_if (is_enforce each) rows)) }
 {
     match each {
         Distinct::Enforce => distinct(rows),
         Distinct::Preserve | Distinct::Permit => Ok(rows),
     }
+}
+
+/// Each of the added rows once, where this is asked for. It fails where adding them did, or for want of
+/// memory.
+pub(crate) fn once_added(
+    each: Distinct,
+    added: Result<(), OutOfMemory>,
+    rows: Bag,
+) -> Result<Bag, OutOfMemory>
+    ensures { IfOk result (λ bag. IsOkAnd added (λ _. Alike bag (m.once_if (is_enforce each) rows))) }
+{
+    added?;
+    once_if(each, rows)
 }

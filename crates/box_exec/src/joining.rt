@@ -1,12 +1,14 @@
 // The rows of an outer join (SQL-92, 7.5).
-ghost use Rattle.std.specs.Prelude.{◌≡◌, [], IfOk, OnOk};
+ghost use Rattle.std.specs.Prelude.{◌≡◌, [], IfOk, IsOkAnd, OnOk};
 ghost use Rattle.box_exec.specs.Bound.{env_of};
 ghost use Rattle.box_exec.specs.Outer.{joined_rows, null_row, partner_rows};
+ghost use Rattle.box_exec.specs.Sources.{held};
 ghost use Rattle.row_bag.specs.Bags.{Alike};
 ghost use Rattle.row_bag.specs.Joins.{or_else};
 
 use crate::bindings::Bindings;
 use crate::heads::{add_given, head_cells};
+use crate::source::Source;
 use qgm_core::{Node, QuantId};
 use row_bag::{Bag, Row, any_there, append_kept};
 use shared_types::OutOfMemory;
@@ -78,9 +80,8 @@ fn joined(
     with_nulls(alloc, join, left, env)
 }
 
-/// What the box gives: each left row beside its partners, and where it has none beside nulls. It fails
-/// only for want of memory.
-pub(crate) fn outer_joined(
+// What the box gives: each left row beside its partners, and where it has none beside nulls.
+fn each_joined(
     alloc: Global,
     join: &Join<'_>,
     xs: &[Row],
@@ -95,4 +96,20 @@ pub(crate) fn outer_joined(
         append_kept(&mut made, x.level, rows)?;
     }
     Ok(made)
+}
+
+/// What the box gives: each left row beside its partners, and where it has none beside nulls. It fails
+/// where the rows do, or for want of memory.
+pub(crate) fn outer_joined(
+    alloc: Global,
+    join: &Join<'_>,
+    xs: Result<Source<'_>, OutOfMemory>,
+    ys: Result<Source<'_>, OutOfMemory>,
+    env: &Bindings,
+) -> Result<Bag, OutOfMemory>
+    ensures { IfOk result (λ made. IsOkAnd xs.entry (λ s. IsOkAnd ys.entry (λ t. Alike made (joined_rows join.now.node.now join.now.left join.now.right (held s) (held t) (env_of env.now))))) }
+{
+    let xs = xs?;
+    let ys = ys?;
+    each_joined(alloc, join, xs.rows(), ys.rows(), env)
 }

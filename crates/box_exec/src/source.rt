@@ -1,5 +1,5 @@
 // Rows that are borrowed or made.
-ghost use Rattle.std.specs.Prelude.{◌≡◌, IfOk};
+ghost use Rattle.std.specs.Prelude.{◌≡◌, ◌++◌, ◌∷◌, [], IfOk, IsOkAnd, OnOk};
 ghost use Rattle.box_exec.specs.Sources.{held, held_by};
 
 use qgm_terms::QuantId;
@@ -36,6 +36,23 @@ impl<'a> Source<'a> {
     }
 }
 
+/// Rows that are made. It fails where these do.
+pub(crate) fn made<'a>(rows: Result<Bag, OutOfMemory>) -> Result<Source<'a>, OutOfMemory>
+    ensures { IfOk result (λ s. IsOkAnd rows (λ bag. held s ≡ bag)) }
+{
+    Ok(Source::Made(rows?))
+}
+
+/// Rows as a bag of their own. It fails where these do, or for want of memory.
+pub(crate) fn bag_of(
+    alloc: Global,
+    rows: Result<Source<'_>, OutOfMemory>,
+) -> Result<Bag, OutOfMemory>
+    ensures { IfOk result (λ bag. IsOkAnd rows.entry (λ s. bag ≡ held s)) }
+{
+    rows?.into_bag(alloc)
+}
+
 /// The rows of an E, A or S quantifier.
 #[derive(Drop)]
 pub struct Sub<'a> {
@@ -53,4 +70,17 @@ pub fn rows_of<'a>(subs: &'a [Sub], q: QuantId) -> &'a [Row]
         }
     }
     &[]
+}
+
+/// Adds the rows of a quantifier. It fails where these do, or for want of memory.
+pub(crate) fn push_sub<'a>(
+    subs: &mut Vec<Sub<'a>>,
+    quant: QuantId,
+    rows: Result<Source<'a>, OutOfMemory>,
+) -> Result<(), OutOfMemory>
+    ensures { OnOk result (IsOkAnd rows.entry (λ s. subs.new.items ≡ subs.old.items ++ record { quant = quant; rows = s } ∷ [])) }
+{
+    let rows = rows?;
+    subs.push(Sub { quant, rows })?;
+    Ok(())
 }

@@ -19,9 +19,11 @@ use Rattle.box_exec.proofs.Evaluations.{all-took, one-under, others-more, rows-b
 use Rattle.box_exec.specs.Ready.{IsOpen, Stands, SubsOf, isnt_F}
 use Rattle.box_exec.specs.declared.under.Under.{Under}
 use Rattle.std.proofs.lemmas.List.{take_all}
+use Rattle.box_exec.proofs.Parts.{is_there, of_part, of_parts, subs_pushed}
+use Rattle.box_exec.specs.Sources.{held}
 use Rattle.box_exec.proofs.Loops.{each-all, each-more, rows-once}
-use Rattle.box_exec.proofs.Quantifiers.{combined-rows, free-more, free-same, given-at, group-rows, left-bound, left-over, level-none, outer-rows, past-all, placed, range-at, range-past, range-within, subs-more, two-at}
-use Rattle.box_exec.proofs.boxes.+rows.Goals.{each-then-not-skips+in_ok-each, each-else-not-skips, subs-then-not-is_f+in_ok-rows+in_ok-push, subs-else-not-is_f}
+use Rattle.box_exec.proofs.Quantifiers.{combined-rows, free-more, free-same, given-at, group-rows, left-bound, left-over, level-none, outer-rows, past-all, placed, range-at, range-past, range-within, two-at}
+use Rattle.box_exec.proofs.boxes.+rows.Goals.{each-then-not-skips+in_ok-each, each-else-not-skips, subs-then-not-is_f+in_ok-push_sub, subs-else-not-is_f}
 use Rattle.box_exec.proofs.Rejections.{nothing-added, rejects-all}
 use Rattle.box_exec.proofs.boxes.+rows.Goals as goal
 
@@ -109,12 +111,9 @@ groups-returns-clause-rows g t c =
     let at = c.args.at.now in
     let l = c.in-Some.l.now in
     let env = env_of c.args.env.now in
-    let rows = c.rows.result.now in
-    IfOk-weaker c.grouped.result _ _
-    (λ bag h. group-rows at c.requires.planned l c.args.keys env rows bag c.in-Some.ensures.lookup.3.0 c.in-Some.ensures.lookup.1
-    (subst (λ (b : Bag). Alike b (family at l.range.over env)) (sym c.rows.ensures) c.in_ok-rows.ensures.rows)
-    (subst (λ (head : List Term). Alike bag (grouped_rows c.args.keys head l.range.id env rows)) c.as_slice-head.ensures h))
-    c.grouped.ensures
+    of_part c.grouped.result c.rows_under-rows.result _ _ _ c.grouped.ensures c.rows_under-rows.ensures.rows
+    (λ bag s h same. group-rows at c.requires.planned l c.args.keys env (held s) bag c.in-Some.ensures.lookup.3.0 c.in-Some.ensures.lookup.1 same
+    (subst (λ (head : List Term). Alike bag (grouped_rows c.args.keys head l.range.id env (held s))) c.as_slice-head.ensures h))
 
 pub joined-returns-clause-rows : goal.joined-returns-clause-rows
 joined-returns-clause-rows g t c =
@@ -122,12 +121,8 @@ joined-returns-clause-rows g t c =
     let p = c.p-item.result in
     let q = c.q-item.result in
     let env = env_of c.args.env.now in
-    IfOk-weaker c.outer_joined.result _ _
-    (λ bag h. outer-rows at c.requires.planned p q env c.rows.result.now c.rows-2.result.now bag c.in-len2-up.len_at_least c.p-item.is c.q-item.is
-    (subst (λ (b : Bag). Alike b (family at p.range.over env)) (sym c.rows.ensures) c.in_ok-xs.ensures.rows)
-    (subst (λ (b : Bag). Alike b (family at q.range.over env)) (sym c.rows-2.ensures) c.in_ok-ys.ensures.rows)
-    h)
-    c.outer_joined.ensures
+    of_parts c.outer_joined.result c.rows_under-xs.result c.rows_under-ys.result _ _ _ _ c.outer_joined.ensures c.rows_under-xs.ensures.rows c.rows_under-ys.ensures.rows
+    (λ bag xs ys h u v. outer-rows at c.requires.planned p q env (held xs) (held ys) bag c.in-len2-up.len_at_least c.p-item.is c.q-item.is u v h)
 
 pub put_together-returns-clause-rows : goal.put_together-returns-clause-rows
 put_together-returns-clause-rows g t c =
@@ -135,19 +130,14 @@ put_together-returns-clause-rows g t c =
     let p = c.p-item.result in
     let q = c.q-item.result in
     let env = env_of c.args.env.now in
-    IfOk-weaker c.combined.result _ _
-    (λ bag h. combined-rows at c.requires.planned p q c.args.operator c.args.width env c.in_ok-xs-2.xs c.in_ok-ys-2.ys bag c.in-len2-up.len_at_least c.p-item.is c.q-item.is
-    (subst (λ (b : Bag). Alike b (family at p.range.over env)) (sym c.in_ok-xs-2.ensures) c.in_ok-xs.ensures.rows)
-    (subst (λ (b : Bag). Alike b (family at q.range.over env)) (sym c.in_ok-ys-2.ensures) c.in_ok-ys.ensures.rows)
-    h)
-    c.combined.ensures
+    of_parts c.combined.result c.rows_under-xs.result c.rows_under-ys.result _ _ _ _ c.combined.ensures c.rows_under-xs.ensures.rows c.rows_under-ys.ensures.rows
+    (λ bag xs ys h u v. combined-rows at c.requires.planned p q c.args.operator c.args.width env (held xs) (held ys) bag c.in-len2-up.len_at_least c.p-item.is c.q-item.is u v h)
 
 pub selected-returns-clause-rows : goal.selected-returns-clause-rows
 selected-returns-clause-rows g t c =
     let at = c.args.at.now in
-    IfOk-weaker c.once_if.result _ _
-    (λ bag h. rows-once (is_enforce at.node.now.parts.distinct) c.new-out.result c.each.new.out (left_at at 0 (env_of c.args.env.now)) bag c.new-out.ensures c.in_ok-each.ensures.rows h)
-    c.once_if.ensures
+    of_part c.once_added.result c.each-added.result _ _ _ c.once_added.ensures c.each-added.ensures.rows
+    (λ bag _ h added. rows-once (is_enforce at.node.now.parts.distinct) c.new-out.result c.each-added.new.out (left_at at 0 (env_of c.args.env.now)) bag c.new-out.ensures added h)
 
 pub subs-loop-l-preserved : goal.subs-loop-l-preserved
 subs-loop-l-preserved g t c =
@@ -161,22 +151,23 @@ subs-loop-l-preserved g t c =
     let inside = range-within at.loops.now i c.loop-l-test.true in
     let here = range-at at.loops.now i l c.loop-l-test.true c.l-item.is in
     elim c.if-not-is_f.branch [
-      | subs-then-not-is_f+in_ok-rows+in_ok-push w ↦
+      | subs-then-not-is_f+in_ok-push_sub w ↦
           let free : is_F r.kind ≡ false = search rules in
-          let more : SubsOf f env (filter isnt_F (take (i + 1) rs)) (c.loop-l.subs.items ++ record { quant = r.id; rows = w.in_ok-rows.rows } ∷ []) =
-          subst (λ (xs : List OwnedQuant). SubsOf f env xs (c.loop-l.subs.items ++ record { quant = r.id; rows = w.in_ok-rows.rows } ∷ [])) (sym (free-more rs i r inside here free))
-          (subs-more f env (filter isnt_F (take i rs)) c.loop-l.subs.items r (record { quant = r.id; rows = w.in_ok-rows.rows }) refl w.in_ok-rows.ensures.rows c.loop-l.invariant.rows) in
-          let put : c.loop-l.subs.items ++ record { quant = r.id; rows = w.in_ok-rows.rows } ∷ [] ≡ c.if-not-is_f.subs.items = search rules in
+          let more : SubsOf f env (filter isnt_F (take (i + 1) rs)) w.push_sub.new.subs.items =
+          subst (λ (xs : List OwnedQuant). SubsOf f env xs w.push_sub.new.subs.items) (sym (free-more rs i r inside here free))
+          (is_there w.rows_under-rows.result _ _ _ w.in_ok-push_sub.ensures w.rows_under-rows.ensures.rows (λ s e h. subs_pushed f env (filter isnt_F (take i rs)) c.loop-l.subs.items w.push_sub.new.subs.items r s e h c.loop-l.invariant.rows)) in
+          let put : w.push_sub.new.subs.items ≡ c.if-not-is_f.subs.items = search rules in
           record {
             rows = subst (λ (ss : _). SubsOf f env (filter isnt_F (take (i + 1) rs)) ss) put more;
             took = λ kept keeps.
                 let more = others-more rs (asked_at at kept) env i r inside here in
                 let one : cond (is_F r.kind) 0 (asked_at at kept r.over env) ≡ asked_at at kept r.over env = ap (λ (b : Bool). cond b 0 (asked_at at kept r.over env)) free in
                 let so = c.loop-l.invariant.took kept keeps in
-                let now = w.in_ok-rows.ensures.took kept keeps in
-                let steps : w.rows_under.new.steps ≡ c.if-not-is_f.steps = search rules in
+                let now : Between 0 (asked_at at kept r.over env) c.loop-l.steps w.rows_under-rows.new.steps =
+                is_there w.rows_under-rows.result _ _ _ w.in_ok-push_sub.ensures (w.rows_under-rows.ensures.took kept keeps) (λ s e h. h) in
+                let steps : w.rows_under-rows.new.steps ≡ c.if-not-is_f.steps = search rules in
                 (omega (arith, so.0, now.0, steps), omega (arith, so.1, now.1, steps, more, one));
-            counted = λ start h. search (rules, w.in_ok-rows.ensures.counted start (c.loop-l.invariant.counted start h));
+            counted = λ start h. search (rules, w.rows_under-rows.ensures.counted start (c.loop-l.invariant.counted start h));
           }
       | subs-else-not-is_f w ↦
           let bound_to : is_F r.kind ≡ true = search rules in
@@ -239,34 +230,32 @@ of_kind-returns-in-OuterJoin-clause-took g t c = λ kept keeps.
     IfOk-weaker c.joined.result _ _ (λ bag h. (omega (arith, h.0), omega (arith, h.1, e))) (c.joined.ensures.took kept keeps)
 
 pub selected-returns-clause-took : goal.selected-returns-clause-took
-selected-returns-clause-took g t c = λ kept keeps. IfOk-weaker c.once_if.result _ _ (λ bag h. c.in_ok-each.ensures.took kept keeps) c.once_if.ensures
+selected-returns-clause-took g t c = λ kept keeps.
+    of_part c.once_added.result c.each-added.result _ _ _ c.once_added.ensures (c.each-added.ensures.took kept keeps) (λ bag _ h took. took)
 
 pub groups-returns-clause-took : goal.groups-returns-clause-took
 groups-returns-clause-took g t c = λ kept keeps.
     let at = c.args.at.now in
     let l = c.in-Some.l.now in
     let env = env_of c.args.env.now in
-    let took = c.in_ok-rows.ensures.took kept keeps in
     let less = one-under at.node.now.quants (asked_at at kept) env l.range (drop 1 at.node.now.quants) (placed at c.requires.planned 0 l c.in-Some.ensures.lookup.3.0 c.in-Some.ensures.lookup.1).0 in
-    IfOk-weaker c.grouped.result _ _ (λ bag h. (omega (arith, took.0), omega (arith, took.1, less))) c.grouped.ensures
+    of_part c.grouped.result c.rows_under-rows.result _ _ _ c.grouped.ensures (c.rows_under-rows.ensures.took kept keeps) (λ bag s h took. (omega (arith, took.0), omega (arith, took.1, less)))
 
 pub joined-returns-clause-took : goal.joined-returns-clause-took
 joined-returns-clause-took g t c = λ kept keeps.
     let at = c.args.at.now in
     let env = env_of c.args.env.now in
-    let xs = c.in_ok-xs.ensures.took kept keeps in
-    let ys = c.in_ok-ys.ensures.took kept keeps in
     let less = two-at at c.requires.planned c.p-item.result c.q-item.result (asked_at at kept) env c.in-len2-up.len_at_least c.p-item.is c.q-item.is in
-    IfOk-weaker c.outer_joined.result _ _ (λ bag h. (omega (arith, xs.0, ys.0), omega (arith, xs.1, ys.1, less))) c.outer_joined.ensures
+    of_parts c.outer_joined.result c.rows_under-xs.result c.rows_under-ys.result _ _ _ _ c.outer_joined.ensures (c.rows_under-xs.ensures.took kept keeps) (c.rows_under-ys.ensures.took kept keeps)
+    (λ bag s t h xs ys. (omega (arith, xs.0, ys.0), omega (arith, xs.1, ys.1, less)))
 
 pub put_together-returns-clause-took : goal.put_together-returns-clause-took
 put_together-returns-clause-took g t c = λ kept keeps.
     let at = c.args.at.now in
     let env = env_of c.args.env.now in
-    let xs = c.in_ok-xs.ensures.took kept keeps in
-    let ys = c.in_ok-ys.ensures.took kept keeps in
     let less = two-at at c.requires.planned c.p-item.result c.q-item.result (asked_at at kept) env c.in-len2-up.len_at_least c.p-item.is c.q-item.is in
-    IfOk-weaker c.combined.result _ _ (λ bag h. (omega (arith, xs.0, ys.0), omega (arith, xs.1, ys.1, less))) c.combined.ensures
+    of_parts c.combined.result c.rows_under-xs.result c.rows_under-ys.result _ _ _ _ c.combined.ensures (c.rows_under-xs.ensures.took kept keeps) (c.rows_under-ys.ensures.took kept keeps)
+    (λ bag s t h xs ys. (omega (arith, xs.0, ys.0), omega (arith, xs.1, ys.1, less)))
 
 pub each-returns-then-not-is_f-clause-took : goal.each-returns-then-not-is_f-clause-took
 each-returns-then-not-is_f-clause-took g t c = λ kept keeps.
@@ -313,15 +302,24 @@ add_head-returns-clause-took g t c = λ kept keeps.
     (λ h. subst (λ (rs : List OwnedQuant). Between 0 (under_others rs (asked_at at kept) (env_of c.args.env.now)) c.args.steps.now c.subs.new.steps) c.requires.planned.ranged (c.in_ok-subs.ensures.took kept keeps))
     c.add_given.ensures
 
-pub rows_under-returns-in_ok-evaluated-in-Open-clause-took : goal.rows_under-returns-in_ok-evaluated-in-Open-clause-took
-rows_under-returns-in_ok-evaluated-in-Open-clause-took g t c = λ kept keeps.
+pub rows_under-returns-in-Open-clause-rows : goal.rows_under-returns-in-Open-clause-rows
+rows_under-returns-in-Open-clause-rows g t c =
+    let at = c.args.at.now in
+    let env = env_of c.args.env.now in
+    let anew : IsOpen (tables_of at) at.run.now.memo.now at.below.now c.args.l.now.range.over c.in-Open.node.now c.in-Open.behind.now =
+    subst (λ (u : Under). Stands (tables_of at) at.run.now.memo.now at.below.now c.args.l.now.range.over u) c.in-Open.is c.requires.stands in
+    of_part c.made.result c.evaluated.result _ _ _ c.made.ensures c.evaluated.ensures.rows
+    (λ s bag e h. subst (λ (b : Bag). Alike b (family at c.args.l.now.range.over env)) (sym e) (subst (λ (b : Bag). Alike bag b) (sym (anew.bag env)) h))
+
+pub rows_under-returns-in-Open-clause-took : goal.rows_under-returns-in-Open-clause-took
+rows_under-returns-in-Open-clause-took g t c = λ kept keeps.
     let at = c.args.at.now in
     let anew : IsOpen (tables_of at) at.run.now.memo.now at.below.now c.args.l.now.range.over c.in-Open.node.now c.in-Open.behind.now =
     subst (λ (u : Under). Stands (tables_of at) at.run.now.memo.now at.below.now c.args.l.now.range.over u) c.in-Open.is c.requires.stands in
     let below = anew.keeps kept keeps in
-    let took = c.in_ok-evaluated-in-Open.ensures.took kept below.0 in
     let e = below.1 (env_of c.args.env.now) in
-    (omega (arith, took.0), omega (arith, took.1, e))
+    of_part c.made.result c.evaluated.result _ _ _ c.made.ensures (c.evaluated.ensures.took kept below.0)
+    (λ s bag h took. (omega (arith, took.0), omega (arith, took.1, e)))
 
 pub subs-returns-clause-took : goal.subs-returns-clause-took
 subs-returns-clause-took g t c = λ kept keeps.

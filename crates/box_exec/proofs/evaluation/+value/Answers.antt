@@ -48,5 +48,5 @@ pub value-returns-in_ok-first-in-Chain : goal.value-returns-in_ok-first-in-Chain
 value-returns-in_ok-first-in-Chain t c =
     rw (c.in-Chain.is, listed.links_hidden c.in-Chain.list, value_linked (held_by c.args.subs.now) (term c.in-Chain.a.value) (links c.in-Chain.list.items) (env_of c.args.env.now)) (grind (arith, common_steps))
 
-pub value-returns-in_ok-found-in-Case : goal.value-returns-in_ok-found-in-Case
-value-returns-in_ok-found-in-Case t c = grind (arith, common_steps, listed.lists)
+pub value-returns-in-Case : goal.value-returns-in-Case
+value-returns-in-Case t c = grind (arith, common_steps, listed.lists)

@@ -2,7 +2,7 @@ use Rattle.std.proofs.lemmas.Result.{IfOk-weaker}
 use Rattle.row_bag.specs.Sets.{same_cells}
 use Rattle.row_bag.proofs.Counts.{alike-from_agree}
 use Rattle.row_bag.proofs.TupleBags.{same_cells-decides}
-use Rattle.box_exec.proofs.combining.combined.Goals as goal
+use Rattle.box_exec.proofs.combining.of_bags.Goals as goal
 
 pub returns-in-UnionAll : goal.returns-in-UnionAll
 returns-in-UnionAll c = rw (c.in-UnionAll.is) (IfOk-weaker c.union.result _ _ (λ bag h. alike-from_agree same_cells same_cells-decides h) c.union.ensures)

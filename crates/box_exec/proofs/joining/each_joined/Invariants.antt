@@ -2,7 +2,7 @@ use Rattle.std.proofs.Common.{take}
 use Rattle.row_bag.specs.Bags.{Alike}
 use Rattle.box_exec.specs.Bound.{env_of}
 use Rattle.box_exec.specs.Outer.{joined_rows}
-use Rattle.box_exec.proofs.joining.outer_joined.Given as goal
+use Rattle.box_exec.proofs.joining.each_joined.Given as goal
 
 abbrev pub invariant-loop-x : goal.invariant-loop-x
 invariant-loop-x l = Alike l.made (joined_rows l.join.node.now l.join.left l.join.right (take l.x-index l.xs) l.ys (env_of l.env))

@@ -7,7 +7,7 @@ use Rattle.qgm_meaning.specs.Values.{Bag}
 use Rattle.box_exec.specs.Bound.{env_of}
 use Rattle.box_exec.specs.Outer.{null_row, partner_rows}
 use Rattle.box_exec.proofs.Loops.{bind-more}
-use Rattle.box_exec.proofs.joining.outer_joined.Goals as goal
+use Rattle.box_exec.proofs.joining.each_joined.Goals as goal
 
 pub loop-x-preserved : goal.loop-x-preserved
 loop-x-preserved c =

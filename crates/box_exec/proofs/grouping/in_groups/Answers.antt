@@ -6,7 +6,7 @@ use Rattle.std.proofs.lemmas.Result.{IfOk-weaker}
 use Rattle.row_bag.proofs.Agreement.{alike-same, alike-trans}
 use Rattle.box_exec.specs.Bound.{env_of}
 use Rattle.box_exec.proofs.Keys.{head-split}
-use Rattle.box_exec.proofs.grouping.grouped.Goals as goal
+use Rattle.box_exec.proofs.grouping.in_groups.Goals as goal
 
 pub returns : goal.returns
 returns c =
