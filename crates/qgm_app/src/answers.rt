@@ -24,7 +24,8 @@ use query_rewrite::{Answered as Ran, answered, explained};
 use rewrite_plan::Plan;
 use row_bag::{Bag, Verdict, bag_laws, sorted, verdict};
 use shared_types::{OutOfMemory, Text};
-use sql_value::{OrderKeys, OutNames};
+use sql_check::Heading;
+use sql_value::OutNames;
 use std::alloc::Global;
 use std::sync::ledger::Ledger;
 use step_count::Steps;
@@ -72,24 +73,12 @@ fn graph_of(alloc: Global, question: &Question) -> Result<Graph, OutOfMemory>
     Ok(graph)
 }
 
-// What the answer of a query takes of the query itself.
-#[derive(Drop)]
-struct Heading {
-    names: OutNames,
-    order: OrderKeys,
-}
-
 // The heading of a question's query. The tables and all else go, before the rows are sorted.
 fn heading_of(question: Question) -> Heading
     ensures names { result.names ≡ question.valid.checked.names }
     ensures order { result.order ≡ question.valid.checked.order }
 {
-    let valid = question.valid;
-    let checked = valid.checked;
-    Heading {
-        names: checked.names,
-        order: checked.order,
-    }
+    question.valid.into_checked().into_heading()
 }
 
 // The rows in the order of these keys, or their greatest error.

@@ -127,12 +127,31 @@ fn read_query_text(alloc: Global, text: &Option<Items<u8>>) -> Result<QueryText,
 }
 
 /// A valid query.
-#[derive(Drop)]
 pub struct Valid {
     /// As it is written.
     pub query: QueryText,
     /// With its names resolved.
     pub checked: Checked,
+}
+
+// By hand, so that each function that ends early with one cites this.
+impl Drop for Valid {
+    fn drop(self) {
+        let Valid { query, checked } = self;
+        drop(query);
+        drop(checked);
+    }
+}
+
+impl Valid {
+    /// The query with its names resolved. The text's tree goes.
+    pub fn into_checked(self) -> Checked
+        ensures { result ≡ self.checked }
+    {
+        let Valid { query, checked } = self;
+        drop(query);
+        checked
+    }
 }
 
 // A query with its names resolved, else the number of its fault.

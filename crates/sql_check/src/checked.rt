@@ -1,11 +1,12 @@
 // Valid queries and views, with their names resolved.
+ghost use Rattle.std.specs.Prelude.{◌≡◌};
+
 use name_resolution::ResolvedSchema;
 use query_checks::{Columns, ViewHeads};
 use sql_meaning::Query;
 use sql_value::{OrderKeys, OutNames};
 
 /// A valid query with its names resolved.
-#[derive(Drop)]
 pub struct Checked {
     /// The query, each column of it a scope and a place.
     pub query: Query,
@@ -17,10 +18,60 @@ pub struct Checked {
     pub order: OrderKeys,
 }
 
+// By hand, so that crates above cite this function: a derived one is proved in each of them, with those
+// of all parts.
+impl Drop for Checked {
+    fn drop(self) {
+        let Checked {
+            query,
+            columns,
+            names,
+            order,
+        } = self;
+        drop(query);
+        drop(columns);
+        drop(names);
+        drop(order);
+    }
+}
+
+/// What the answer of a query takes of the query itself.
+#[derive(Drop)]
+pub struct Heading {
+    pub names: OutNames,
+    pub order: OrderKeys,
+}
+
+impl Checked {
+    /// The heading of its answer. The query goes.
+    pub fn into_heading(self) -> Heading
+        ensures names { result.names ≡ self.names }
+        ensures order { result.order ≡ self.order }
+    {
+        let Checked {
+            query,
+            columns,
+            names,
+            order,
+        } = self;
+        drop(query);
+        drop(columns);
+        Heading { names, order }
+    }
+}
+
 /// The views of a catalog, all of which are valid: their columns, and their bodies with their names
 /// resolved.
-#[derive(Drop)]
 pub struct Views {
     pub heads: ViewHeads,
     pub schema: ResolvedSchema,
+}
+
+// By hand, as that of a valid query.
+impl Drop for Views {
+    fn drop(self) {
+        let Views { heads, schema } = self;
+        drop(heads);
+        drop(schema);
+    }
 }

@@ -5,5 +5,5 @@
 mod checked;
 mod checking;
 
-pub use checked::{Checked, Views};
+pub use checked::{Checked, Heading, Views};
 pub use checking::{check, check_views};
