@@ -3,7 +3,7 @@ use Rattle.std.specs.Prelude.{IfOk}
 use Rattle.std.proofs.Common.{ℕ, ◌≡◌, List, Option, Some, None, Result, Ok, Err, refl, sym, subst}
 use Rattle.csv_tables.specs.Load.{tables_of}
 use Rattle.csv_tables.specs.TableFile.{Refusal}
-use Rattle.io_edge.specs.Outcome.{Comes, Ended, Outcome, answered, done, ended, read, starved, ◌>>=◌}
+use Rattle.io_edge.specs.Outcome.{Comes, Ended, Outcome, answered, done, ended, faulted, read, starved, ◌>>=◌}
 use Rattle.io_edge.specs.Outside.{File, Told}
 use Rattle.io_edge.specs.declared.fetch.Interruption.{Interruption}
 use Rattle.io_edge.specs.declared.fetch.Interruption.TheVariants.{ReadFault, Memory}
@@ -38,6 +38,17 @@ pub tables-read : (t u : Option Told) (dir : List ℕ) (catalog : Declared) (que
     → Comes t u (λ fs. tables_of catalog.tables dir fs) (answered found)
     → Comes t u (λ fs. from_tables dir catalog query fs) (answered (with_tables catalog query found))
 tables-read t u dir catalog query found h = comes-mapped t u (λ fs. tables_of catalog.tables dir fs) (with_tables catalog query) found h
+
+-- the read of a table failed
+pub tables-faulted : (t u : Option Told) (dir : List ℕ) (catalog : Declared) (query : s.QueryText) (name : List ℕ)
+    → Comes t u (λ fs. tables_of catalog.tables dir fs) (faulted name) → Comes t u (λ fs. from_tables dir catalog query fs) (faulted name)
+tables-faulted t u dir catalog query name h =
+    comes-bind-faulted t u (λ fs. tables_of catalog.tables dir fs) (λ found fs. done (with_tables catalog query found)) name h
+
+-- memory ran out while the tables were read
+pub tables-starved : (t u : Option Told) (dir : List ℕ) (catalog : Declared) (query : s.QueryText)
+    → Comes t u (λ fs. tables_of catalog.tables dir fs) starved → Comes t u (λ fs. from_tables dir catalog query fs) starved
+tables-starved t u dir catalog query h = comes-bind-starved t u (λ fs. tables_of catalog.tables dir fs) (λ found fs. done (with_tables catalog query found)) h
 
 -- the query's text was read, and then this was done with it
 pub text-of-query : (t u v : Option Told) (name dir : List ℕ) (catalog : Declared) (text : Option (List ℕ)) (end : Ended Found)
