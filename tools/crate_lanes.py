@@ -185,12 +185,13 @@ class Lanes:
     def end(self):
         """Takes what came of the work that has ended since, and stops where it failed."""
         for made in [it for it in self.running if it.poll() is not None]:
-            name, *_ = self.running.pop(made)
+            name, *_ = self.running[made]
             if made.returncode < 0:
                 stop(f"the proof of {name} was ended by signal {-made.returncode}")
             if made.returncode:
                 fail(name, f"{self.room}/{name}.log")
             self.done(name)
+            del self.running[made]
 
     def tell(self):
         """Says how far it is, where that changed, and once a minute."""
@@ -215,4 +216,4 @@ class Lanes:
                 self.interrupted(name)
 
     def interrupted(self, name):
-        """Keeps what can be kept of work that was ended."""
+        """Keeps what can be kept of work that was ended, or that failed."""
