@@ -53,17 +53,21 @@ fn copy_kind(alloc: Global, kind: &BoxKind) -> Result<BoxKind, OutOfMemory>
 fn copy_node(alloc: Global, node: &Node) -> Result<Node, OutOfMemory>
     ensures { IfOk result (λ n. n ≡ node.now) }
 {
-    let parts = BoxParts {
-        kind: copy_kind(alloc, &node.parts.kind)?,
-        distinct: node.parts.distinct,
-        role: node.parts.role,
-        conds: copy_conds(alloc, &node.parts.conds, ROOM)?,
-        head: copy_head(alloc, &node.parts.head, ROOM)?,
-    };
+    let quants = node.quants.copy(alloc)?;
+    let conds = copy_conds(alloc, &node.parts.conds, ROOM)?;
+    let head = copy_head(alloc, &node.parts.head, ROOM)?;
+    // (the kind last: what ends early while it is there is proved for each variant)
+    let kind = copy_kind(alloc, &node.parts.kind)?;
     Ok(Node {
         id: node.id,
-        parts,
-        quants: node.quants.copy(alloc)?,
+        parts: BoxParts {
+            kind,
+            distinct: node.parts.distinct,
+            role: node.parts.role,
+            conds,
+            head,
+        },
+        quants,
     })
 }
 

@@ -24,7 +24,6 @@ pub(crate) fn text(alloc: Global, characters: &Text) -> Result<Gx, OutOfMemory>
 /// A copy of an expression. It fails where there is no memory, or the expression has more levels than
 /// `room`. A chain at the head of a chain goes into one list with it.
 #[cycle(copy)]
-#[tactic(auto, using(crate::proofs::Lists::lists))]
 pub fn copy(alloc: Global, x: &Gx, room: usize) -> Result<Gx, OutOfMemory>
     ensures { IfOk result (λ y. term y ≡ term x.now) }
 {
@@ -89,7 +88,6 @@ fn copy_arms(alloc: Global, list: &[Arm], room: usize) -> Result<Vec<Arm>, OutOf
 
 /// A copy of a condition. It fails where there is no memory, or the condition has more levels than `room`.
 #[cycle(copy)]
-#[tactic(auto, using(crate::proofs::Lists::lists))]
 pub fn copy_cond(alloc: Global, c: &Gc, room: usize) -> Result<Gc, OutOfMemory>
     ensures { IfOk result (λ p. cond p ≡ cond c.now) }
 {

@@ -7,7 +7,6 @@ use crate::tree::{Arm, Gc, Gx, Link};
 
 /// Whether an expression has at most so many levels. It goes no deeper itself.
 #[cycle(fits)]
-#[tactic(auto, using(crate::proofs::Levels::depth_positive))]
 pub fn fits(x: &Gx, room: usize) -> bool
     ensures { IsTrue result ↔ (depth x.now ≤ room) }
 {
@@ -67,7 +66,6 @@ fn fits_arms(list: &[Arm], room: usize) -> bool
 
 /// Whether a condition has at most so many levels. It goes no deeper itself.
 #[cycle(fits)]
-#[tactic(auto, using(crate::proofs::Levels::depth_cond_positive))]
 pub fn fits_cond(c: &Gc, room: usize) -> bool
     ensures { IsTrue result ↔ (depth_cond c.now ≤ room) }
 {

@@ -9,7 +9,6 @@ use crate::tree::{Arm, Gc, Gx, Link};
 
 /// Names of later columns of the quantifier go down by one. It takes no memory.
 #[cycle(shift)]
-#[tactic(auto, using(crate::proofs::Lists::lists, crate::proofs::Shifted::shift_laws))]
 pub fn shift(x: &mut Gx, q: QuantId, k: usize)
     ensures tree { term x.new ≡ shifted q k (term x.old) }
     ensures depth { depth x.new ≡ depth x.old }
@@ -69,7 +68,6 @@ fn shift_arms(list: &mut [Arm], q: QuantId, k: usize)
 
 /// The same in a condition.
 #[cycle(shift)]
-#[tactic(auto, using(crate::proofs::Lists::lists, crate::proofs::Shifted::shift_laws))]
 pub fn shift_cond(c: &mut Gc, q: QuantId, k: usize)
     ensures tree { cond c.new ≡ shifted_cond q k (cond c.old) }
     ensures depth { depth_cond c.new ≡ depth_cond c.old }

@@ -83,7 +83,6 @@ pub(crate) fn both(a: bool, b: bool) -> bool
 
 /// Whether it stands in an expression.
 #[cycle(stands_in)]
-#[tactic(auto, using(crate::proofs::Lists::lists))]
 pub fn stands_in(x: &Gx, sought: Sought) -> bool
     ensures { result ≡ any_in (wanted sought) (term x.now) }
 {
@@ -137,7 +136,6 @@ fn stands_in_arms(list: &[Arm], sought: Sought) -> bool
 
 /// Whether it stands in a condition.
 #[cycle(stands_in)]
-#[tactic(auto, using(crate::proofs::Lists::lists))]
 pub fn stands_in_cond(c: &Gc, sought: Sought) -> bool
     ensures { result ≡ any_in_cond (wanted sought) (cond c.now) }
 {

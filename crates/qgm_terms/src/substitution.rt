@@ -41,7 +41,6 @@ fn cell_of(
 /// there is no memory, or the copy has more levels than `room`. A chain at the head of a chain goes into
 /// one list with it.
 #[cycle(substitute)]
-#[tactic(auto, using(crate::proofs::Lists::lists))]
 pub fn substitute(
     alloc: Global,
     x: &Gx,
@@ -126,7 +125,6 @@ fn substitute_arms(
 
 /// A copy of a condition in which each column of the quantifier is the cell at its place.
 #[cycle(substitute)]
-#[tactic(auto, using(crate::proofs::Lists::lists))]
 pub fn substitute_cond(
     alloc: Global,
     c: &Gc,

@@ -136,7 +136,6 @@ fn add_comparison(c: &Gc, out: &mut Vec<Token>) -> Result<(), OutOfMemory>
 
 // Appends the tokens of an expression.
 #[cycle(tokens)]
-#[tactic(auto, using(crate::proofs::Lists::lists))]
 pub(crate) fn add_tokens(x: &Gx, out: &mut Vec<Token>) -> Result<(), OutOfMemory>
     ensures { OnOk result (out.new.items ≡ out.old.items ++ spec.tokens (term x.now)) }
 {
@@ -201,7 +200,6 @@ fn add_tokens_of_arms(list: &[Arm], out: &mut Vec<Token>) -> Result<(), OutOfMem
 
 // Appends the tokens of a condition.
 #[cycle(tokens)]
-#[tactic(auto, using(crate::proofs::Lists::lists))]
 pub(crate) fn add_tokens_of_cond(c: &Gc, out: &mut Vec<Token>) -> Result<(), OutOfMemory>
     ensures { OnOk result (out.new.items ≡ out.old.items ++ spec.tokens_cond (cond c.now)) }
 {

@@ -25,6 +25,7 @@ use Rattle.box_exec.proofs.Loops.{each-all, each-more, rows-once}
 use Rattle.box_exec.proofs.Quantifiers.{combined-rows, free-more, free-same, given-at, group-rows, left-bound, left-over, level-none, outer-rows, past-all, placed, range-at, range-past, range-within, two-at}
 use Rattle.box_exec.proofs.boxes.+rows.Goals.{each-then-not-skips+in_ok-each, each-else-not-skips, subs-then-not-is_f+in_ok-push_sub, subs-else-not-is_f}
 use Rattle.box_exec.proofs.Rejections.{nothing-added, rejects-all}
+use Rattle.std.proofs.lemmas.Grind.{common_steps}
 use Rattle.box_exec.proofs.boxes.+rows.Goals as goal
 
 pub add_head-returns-clause-rows : goal.add_head-returns-clause-rows
@@ -333,3 +334,33 @@ each-returns-then-branch-clause-rows g t c =
     let at = c.args.at.now in
     let env = env_of c.args.env.now in
     nothing-added c.args.level c.args.out.now (left_at at c.args.k env) (rejects-all at c.requires.planned c.args.k env (sym c.in_ok-rejected.ensures ∙ c.if-branch.true))
+
+pub evaluated-of_kind-requires : goal.evaluated-of_kind-requires
+evaluated-of_kind-requires t c = grind (arith, common_steps)
+
+pub groups-returns-clause-counted : goal.groups-returns-clause-counted
+groups-returns-clause-counted t c = grind (arith, common_steps)
+
+pub groups-returns-in_default-clause-rows : goal.groups-returns-in_default-clause-rows
+groups-returns-in_default-clause-rows t c = grind (arith, common_steps)
+
+pub joined-returns-in_default-clause-rows : goal.joined-returns-in_default-clause-rows
+joined-returns-in_default-clause-rows t c = grind (arith, common_steps)
+
+pub joined-rows_under-xs-requires : goal.joined-rows_under-xs-requires
+joined-rows_under-xs-requires t c = grind (arith, common_steps)
+
+pub joined-rows_under-ys-requires : goal.joined-rows_under-ys-requires
+joined-rows_under-ys-requires t c = grind (arith, common_steps)
+
+pub put_together-returns-in_default-clause-rows : goal.put_together-returns-in_default-clause-rows
+put_together-returns-in_default-clause-rows t c = grind (arith, common_steps)
+
+pub put_together-rows_under-xs-requires : goal.put_together-rows_under-xs-requires
+put_together-rows_under-xs-requires t c = grind (arith, common_steps)
+
+pub put_together-rows_under-ys-requires : goal.put_together-rows_under-ys-requires
+put_together-rows_under-ys-requires t c = grind (arith, common_steps)
+
+pub subs-rows_under-rows-requires : goal.subs-rows_under-rows-requires
+subs-rows_under-rows-requires t c = grind (arith, common_steps)

@@ -1,4 +1,4 @@
-use Rattle.std.proofs.Common.{◌≡◌, List, All, false, rules, subst}
+use Rattle.std.proofs.Common.{◌≡◌, List, All, false, rules, subst, arith}
 use Rattle.qgm_core.specs.Lists.{In}
 use Rattle.qgm_terms.specs.Terms.{Cond}
 use Rattle.qgm_terms.specs.Shown.{cond}
@@ -6,6 +6,7 @@ use Rattle.box_exec.specs.Early.{IsEarly, names_any}
 use Rattle.box_exec.specs.declared.early.Early.{Early}
 use Rattle.box_exec.proofs.Rejections.{all-more, in-map-at}
 use Rattle.box_exec.proofs.early.early_conds.Goals.{then-not-names_any+in_ok-push, else-not-names_any}
+use Rattle.std.proofs.lemmas.Grind.{common_steps}
 use Rattle.box_exec.proofs.early.early_conds.Goals as goal
 
 pub loop-c-preserved : goal.loop-c-preserved
@@ -25,3 +26,6 @@ loop-c-preserved c =
           let same : c.loop-c.made.items ≡ c.if-not-names_any.made.items = search rules in
           subst (All early) same c.loop-c.invariant
     ]
+
+pub loop-c-init : goal.loop-c-init
+loop-c-init c = grind (arith, common_steps)

@@ -50,3 +50,12 @@ value-returns-in_ok-first-in-Chain t c =
 
 pub value-returns-in-Case : goal.value-returns-in-Case
 value-returns-in-Case t c = grind (arith, common_steps, listed.lists)
+
+pub first_true-loop-arm-preserved : goal.first_true-loop-arm-preserved
+first_true-loop-arm-preserved t c = grind (arith, common_steps)
+
+pub first_true-returns-in-Yes : goal.first_true-returns-in-Yes
+first_true-returns-in-Yes t c = grind (arith, common_steps)
+
+pub hold-returns-in-Eq : goal.hold-returns-in-Eq
+hold-returns-in-Eq t c = grind (arith, common_steps)

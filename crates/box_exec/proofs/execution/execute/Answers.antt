@@ -1,6 +1,7 @@
-use Rattle.std.proofs.Common.{sym, ◌∙◌}
+use Rattle.std.proofs.Common.{sym, ◌∙◌, arith}
 use Rattle.box_exec.proofs.Roots.{root-behind, root-fit, root-none, root-rows, root-there, root-took}
 use Rattle.box_exec.proofs.Totals.{took-exactly, took-within}
+use Rattle.std.proofs.lemmas.Grind.{common_steps}
 use Rattle.box_exec.proofs.execution.execute.Goals as goal
 
 pub returns-in_default-clause-rows : goal.returns-in_default-clause-rows
@@ -47,3 +48,12 @@ returns-clause-at_least_closed g c = λ w. (took-within c.args.tables.now c.args
 
 pub returns-clause-at_most_plain : goal.returns-clause-at_most_plain
 returns-clause-at_most_plain g c = λ w. (took-within c.args.tables.now c.args.graph.now w c.args.steps.now c.root_rows.new.steps (returns-clause-took g c)).1
+
+pub bounds-nodes-i : goal.bounds-nodes-i
+bounds-nodes-i c = grind (arith, common_steps)
+
+pub offset_bounds-nodes-i : goal.offset_bounds-nodes-i
+offset_bounds-nodes-i c = grind (arith, common_steps)
+
+pub returns-clause-counted : goal.returns-clause-counted
+returns-clause-counted c = grind (arith, common_steps)

@@ -1,4 +1,4 @@
-use Rattle.std.proofs.Common.{◌∙◌, ap₂, List}
+use Rattle.std.proofs.Common.{◌∙◌, ap₂, List, arith}
 use Rattle.qgm_terms.specs.Shown.{terms}
 use Rattle.qgm_terms.specs.declared.tree.Gx.{Gx}
 use Rattle.box_exec.specs.Groups.{by_keys}
@@ -6,6 +6,7 @@ use Rattle.std.proofs.lemmas.Result.{IfOk-weaker}
 use Rattle.row_bag.proofs.Agreement.{alike-same, alike-trans}
 use Rattle.box_exec.specs.Bound.{env_of}
 use Rattle.box_exec.proofs.Keys.{head-split}
+use Rattle.std.proofs.lemmas.Grind.{common_steps}
 use Rattle.box_exec.proofs.grouping.in_groups.Goals as goal
 
 pub returns : goal.returns
@@ -17,3 +18,6 @@ returns c =
     (λ made h. alike-trans h (alike-same (ap₂ (λ (xs ys : List Gx). by_keys (terms xs) (terms ys) q env rows) c.first_cells-first.ensures c.last_cells-last.ensures
     ∙ head-split c.args.keys c.min-n.result c.args.head.now q env rows c.if-keys-eq0.false c.min-n.ensures)))
     c.by_keys.ensures
+
+pub returns-then-keys-eq0 : goal.returns-then-keys-eq0
+returns-then-keys-eq0 c = grind (arith, common_steps)

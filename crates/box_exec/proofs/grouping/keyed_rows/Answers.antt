@@ -12,3 +12,6 @@ loop-row-preserved c =
       rows = grind (arith, common_steps, c.loop-row.invariant.rows, c.in_ok-push.ensures.items, c.in_ok-behind.ensures, c.row-item.is);
       error = c.worst_of-error.ensures ∙ ap₂ worst_of c.loop-row.invariant.error c.key_error_of.ensures ∙ sym (key_error-push n c.loop-row.made.items c.in_ok-behind.behind) ∙ ap (key_error n) (sym c.in_ok-push.ensures.items);
     }
+
+pub returns-clause-rows : goal.returns-clause-rows
+returns-clause-rows c = grind (arith, common_steps)

@@ -9,6 +9,7 @@ use Rattle.box_exec.specs.Costs.{Between, Keeps, asked}
 use Rattle.box_exec.specs.Kept.{KeptAs, is_nil}
 use Rattle.box_exec.proofs.Entries.{beyonds-more, fit-here, keeps-more, kept-here, kept-took, long-more, map-push, ready-more}
 use Rattle.box_exec.proofs.Names.{looks-nowhere}
+use Rattle.std.proofs.lemmas.Grind.{common_steps}
 use Rattle.box_exec.proofs.memo.memo_of.Goals as goal
 
 pub beyond-requires : goal.beyond-requires
@@ -70,3 +71,6 @@ pub returns-clause-keeps : goal.returns-clause-keeps
 returns-clause-keeps g c = λ kept how.
     let done : c.boxes.i ≡ 0 = omega (arith, c.boxes-test.false) in
     subst (λ (k : ℕ). Keeps c.boxes.memo.items kept (drop k c.args.nodes.now)) done (c.boxes.invariant.keeps kept how)
+
+pub boxes-init : goal.boxes-init
+boxes-init c = grind (arith, common_steps)

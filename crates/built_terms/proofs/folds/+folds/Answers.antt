@@ -79,3 +79,21 @@ pub test_folds-returns-in-Among : goal.test_folds-returns-in-Among
 test_folds-returns-in-Among h c =
     rw (c.and-in-Among.ensures, c.in-Among.is, shown.values_hidden c.in-Among.list, ← c.as_slice.ensures, ← c.deref-in-Among.ensures)
     (on_both c.value_folds-in-Among.result c.list_folds.result (λ d e. fold_two (w.leaves [] (shown.value c.deref-in-Among.result.now)) (w.list_leaves [] (shown.value_list c.as_slice.result.now)) _ _ _ d e) c.value_folds-in-Among.ensures c.list_folds.ensures)
+
+pub addend_folds-returns : goal.addend_folds-returns
+addend_folds-returns t c = grind (arith, common_steps)
+
+pub arm_folds-returns : goal.arm_folds-returns
+arm_folds-returns t c = grind (arith, common_steps)
+
+pub choice_folds-returns : goal.choice_folds-returns
+choice_folds-returns t c = grind (arith, common_steps)
+
+pub list_folds-returns : goal.list_folds-returns
+list_folds-returns t c = grind (arith, common_steps)
+
+pub multiplier_folds-returns : goal.multiplier_folds-returns
+multiplier_folds-returns t c = grind (arith, common_steps)
+
+pub tests_folds-returns : goal.tests_folds-returns
+tests_folds-returns t c = grind (arith, common_steps)

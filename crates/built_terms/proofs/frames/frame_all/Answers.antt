@@ -5,3 +5,9 @@ use Rattle.built_terms.proofs.frames.frame_all.Goals as goal
 
 pub loop-x-preserved : goal.loop-x-preserved
 loop-x-preserved c = record { frame = grind (arith, common_steps, appended); past = grind (arith, common_steps, appended) }
+
+pub returns-clause-frame : goal.returns-clause-frame
+returns-clause-frame c = grind (arith, common_steps)
+
+pub returns-clause-past : goal.returns-clause-past
+returns-clause-past c = grind (arith, common_steps)

@@ -5,3 +5,6 @@ use Rattle.built_terms.proofs.frames.push_refs.Goals as goal
 
 pub loop-k-preserved : goal.loop-k-preserved
 loop-k-preserved c = grind (arith, common_steps, refs_more)
+
+pub returns : goal.returns
+returns c = grind (arith, common_steps)

@@ -5,3 +5,6 @@ use Rattle.built_terms.proofs.groups.group_cells.Goals as goal
 
 pub loop-x-preserved : goal.loop-x-preserved
 loop-x-preserved c = grind (arith, common_steps, refs_more)
+
+pub returns : goal.returns
+returns c = grind (arith, common_steps)

@@ -5,3 +5,6 @@ use Rattle.built_terms.proofs.groups.key_frame.Goals as goal
 
 pub loop-i-preserved : goal.loop-i-preserved
 loop-i-preserved c = grind (arith, common_steps, key_more)
+
+pub returns : goal.returns
+returns c = grind (arith, common_steps)

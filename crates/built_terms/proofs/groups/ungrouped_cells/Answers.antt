@@ -5,3 +5,6 @@ use Rattle.built_terms.proofs.groups.ungrouped_cells.Goals as goal
 
 pub loop-x-preserved : goal.loop-x-preserved
 loop-x-preserved c = grind (arith, common_steps, ungrouped_more)
+
+pub returns : goal.returns
+returns c = grind (arith, common_steps)

@@ -176,3 +176,42 @@ value-returns-in-NullIf-clause-term h c = grind (arith, common_steps)
 
 pub value-returns-in-Negative-clause-term : goal.value-returns-in-Negative-clause-term
 value-returns-in-Negative-clause-term h c = grind (arith, common_steps)
+
+pub arms-returns-clause-arms : goal.arms-returns-clause-arms
+arms-returns-clause-arms t c = grind (arith, common_steps)
+
+pub arms-returns-clause-slots : goal.arms-returns-clause-slots
+arms-returns-clause-slots t c = grind (arith, common_steps)
+
+pub choices-returns-clause-arms : goal.choices-returns-clause-arms
+choices-returns-clause-arms t c = grind (arith, common_steps)
+
+pub choices-returns-clause-slots : goal.choices-returns-clause-slots
+choices-returns-clause-slots t c = grind (arith, common_steps)
+
+pub outcome-returns-clause-term : goal.outcome-returns-clause-term
+outcome-returns-clause-term t c = grind (arith, common_steps)
+
+pub product-returns-clause-slots : goal.product-returns-clause-slots
+product-returns-clause-slots t c = grind (arith, common_steps)
+
+pub product-returns-clause-term : goal.product-returns-clause-term
+product-returns-clause-term t c = grind (arith, common_steps)
+
+pub sum-returns-clause-slots : goal.sum-returns-clause-slots
+sum-returns-clause-slots t c = grind (arith, common_steps)
+
+pub sum-returns-clause-term : goal.sum-returns-clause-term
+sum-returns-clause-term t c = grind (arith, common_steps)
+
+pub tests-returns-clause-conds : goal.tests-returns-clause-conds
+tests-returns-clause-conds t c = grind (arith, common_steps)
+
+pub tests-returns-clause-slots : goal.tests-returns-clause-slots
+tests-returns-clause-slots t c = grind (arith, common_steps)
+
+pub values-returns-clause-slots : goal.values-returns-clause-slots
+values-returns-clause-slots t c = grind (arith, common_steps)
+
+pub values-returns-clause-terms : goal.values-returns-clause-terms
+values-returns-clause-terms t c = grind (arith, common_steps)

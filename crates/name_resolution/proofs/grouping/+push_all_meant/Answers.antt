@@ -1,6 +1,7 @@
-use Rattle.std.proofs.Common.{ap, ◌+◌, ℕ}
+use Rattle.std.proofs.Common.{ap, ◌+◌, ℕ, arith}
 use Rattle.std.proofs.lemmas.Result.{on_ok_weaker}
 use Rattle.name_resolution.proofs.Meant.{ranges_meant}
+use Rattle.std.proofs.lemmas.Grind.{common_steps}
 use Rattle.name_resolution.proofs.grouping.+push_all_meant.Goals as goal
 
 pub returns-in_ok-push_meant-in-Some : goal.returns-in_ok-push_meant-in-Some
@@ -9,3 +10,9 @@ returns-in_ok-push_meant-in-Some t c =
     (ranges_meant c.args.first (c.args.first + c.len.result) c.args.d.now c.args.ranges.now c.in-Some.range.now c.in-Some.rest.now c.args.out.now c.push_meant.new.out c.push_all_meant.new.out
     c.in-Some.ensures.cases.0 (ap (λ (n : ℕ). c.args.first + n) c.len.ensures) c.in_ok-push_meant-in-Some.ensures)
     c.push_all_meant.ensures
+
+pub overflow_add-first : goal.overflow_add-first
+overflow_add-first t c = grind (arith, common_steps)
+
+pub push_all_meant-requires : goal.push_all_meant-requires
+push_all_meant-requires t c = grind (arith, common_steps)

@@ -1,4 +1,4 @@
-use Rattle.std.proofs.Common.{◌∙◌, List, sym}
+use Rattle.std.proofs.Common.{◌∙◌, List, sym, arith}
 use Rattle.std.proofs.lemmas.List.{at_drop_all}
 use Rattle.sql_ast.specs.declared.tree.Arm.{Arm}
 use Rattle.sql_ast.specs.declared.tree.Choice.{Choice}
@@ -11,6 +11,7 @@ use Rattle.name_resolution.specs.Resolved as spec
 use Rattle.name_resolution.specs.Resolved.{bare}
 use Rattle.name_resolution.specs.Shapes.{columns_of, shapes}
 use Rattle.name_resolution.proofs.Ontos.{arms_whole, choices_whole, froms_whole, item_pushed, values_whole}
+use Rattle.std.proofs.lemmas.Grind.{common_steps}
 use Rattle.name_resolution.proofs.resolve.+resolve.Goals as goal
 
 pub values-returns : goal.values-returns
@@ -79,3 +80,105 @@ table-returns-in-LeftJoin-clause-table t c =
 pub table-returns-in-LeftJoin-clause-scope : goal.table-returns-in-LeftJoin-clause-scope
 table-returns-in-LeftJoin-clause-scope t c =
     rw (c.in-LeftJoin.is, ← c.deref-in-LeftJoin.ensures, ← c.deref-in-LeftJoin-2.ensures) (c.left_join.ensures.scope _ (c.join-in-LeftJoin.ensures.scope _ (c.paired-pair-in-LeftJoin.ensures.scope _ _ c.table-a-in-LeftJoin.ensures.scope c.table-in-LeftJoin.ensures.scope)))
+
+pub argument-returns-in_ok-none-in-Outermost : goal.argument-returns-in_ok-none-in-Outermost
+argument-returns-in_ok-none-in-Outermost t c = grind (arith, common_steps)
+
+pub arms-loop-arm-preserved : goal.arms-loop-arm-preserved
+arms-loop-arm-preserved t c = grind (arith, common_steps)
+
+pub block-block_over-requires : goal.block-block_over-requires
+block-block_over-requires t c = grind (arith, common_steps)
+
+pub block-returns-clause-columns : goal.block-returns-clause-columns
+block-returns-clause-columns t c = grind (arith, common_steps)
+
+pub block-returns-clause-query : goal.block-returns-clause-query
+block-returns-clause-query t c = grind (arith, common_steps)
+
+pub block_over-returns-else-is_grouped : goal.block_over-returns-else-is_grouped
+block_over-returns-else-is_grouped t c = grind (arith, common_steps)
+
+pub block_over-returns-then-is_grouped : goal.block_over-returns-then-is_grouped
+block_over-returns-then-is_grouped t c = grind (arith, common_steps)
+
+pub choices-loop-choice-preserved : goal.choices-loop-choice-preserved
+choices-loop-choice-preserved t c = grind (arith, common_steps)
+
+pub conjunct-returns-in-Between : goal.conjunct-returns-in-Between
+conjunct-returns-in-Between t c = grind (arith, common_steps)
+
+pub conjunct-returns-in-Bracket : goal.conjunct-returns-in-Bracket
+conjunct-returns-in-Bracket t c = grind (arith, common_steps)
+
+pub conjunct-returns-in-Compare : goal.conjunct-returns-in-Compare
+conjunct-returns-in-Compare t c = grind (arith, common_steps)
+
+pub conjunct-returns-in-Exists : goal.conjunct-returns-in-Exists
+conjunct-returns-in-Exists t c = grind (arith, common_steps)
+
+pub conjunct-returns-in-InQuery : goal.conjunct-returns-in-InQuery
+conjunct-returns-in-InQuery t c = grind (arith, common_steps)
+
+pub conjunct-returns-in-IsNull : goal.conjunct-returns-in-IsNull
+conjunct-returns-in-IsNull t c = grind (arith, common_steps)
+
+pub conjunct-returns-in-Like : goal.conjunct-returns-in-Like
+conjunct-returns-in-Like t c = grind (arith, common_steps)
+
+pub conjunct-returns-in-Not : goal.conjunct-returns-in-Not
+conjunct-returns-in-Not t c = grind (arith, common_steps)
+
+pub conjunct-returns-in-Quantified : goal.conjunct-returns-in-Quantified
+conjunct-returns-in-Quantified t c = grind (arith, common_steps)
+
+pub froms-loop-x-preserved : goal.froms-loop-x-preserved
+froms-loop-x-preserved t c = grind (arith, common_steps)
+
+pub operand-returns-in-Aggregate : goal.operand-returns-in-Aggregate
+operand-returns-in-Aggregate t c = grind (arith, common_steps)
+
+pub operand-returns-in-CastNull : goal.operand-returns-in-CastNull
+operand-returns-in-CastNull t c = grind (arith, common_steps)
+
+pub operand-returns-in-Column : goal.operand-returns-in-Column
+operand-returns-in-Column t c = grind (arith, common_steps)
+
+pub operand-returns-in-NullIf : goal.operand-returns-in-NullIf
+operand-returns-in-NullIf t c = grind (arith, common_steps)
+
+pub operand-returns-in-Number : goal.operand-returns-in-Number
+operand-returns-in-Number t c = grind (arith, common_steps)
+
+pub operand-returns-in-Paren : goal.operand-returns-in-Paren
+operand-returns-in-Paren t c = grind (arith, common_steps)
+
+pub operand-returns-in-Scalar : goal.operand-returns-in-Scalar
+operand-returns-in-Scalar t c = grind (arith, common_steps)
+
+pub operand-returns-in-Signed : goal.operand-returns-in-Signed
+operand-returns-in-Signed t c = grind (arith, common_steps)
+
+pub push_items-returns : goal.push_items-returns
+push_items-returns t c = grind (arith, common_steps)
+
+pub table-returns-in-Joined-clause-scope : goal.table-returns-in-Joined-clause-scope
+table-returns-in-Joined-clause-scope t c = grind (arith, common_steps)
+
+pub table-returns-in-Joined-clause-table : goal.table-returns-in-Joined-clause-table
+table-returns-in-Joined-clause-table t c = grind (arith, common_steps)
+
+pub test-returns-in-And : goal.test-returns-in-And
+test-returns-in-And t c = grind (arith, common_steps)
+
+pub test-returns-in-Or : goal.test-returns-in-Or
+test-returns-in-Or t c = grind (arith, common_steps)
+
+pub value-returns-in-Add : goal.value-returns-in-Add
+value-returns-in-Add t c = grind (arith, common_steps)
+
+pub value-returns-in-Multiply : goal.value-returns-in-Multiply
+value-returns-in-Multiply t c = grind (arith, common_steps)
+
+pub values-loop-x-preserved : goal.values-loop-x-preserved
+values-loop-x-preserved t c = grind (arith, common_steps)

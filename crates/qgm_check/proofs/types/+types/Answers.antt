@@ -21,3 +21,15 @@ cond_fits-returns-in-All t c =
 pub cond_fits-returns-in-Any : goal.cond_fits-returns-in-Any
 cond_fits-returns-in-Any t c =
     rw (c.in-Any.is, lists.conds_hidden c.in-Any.list, laws.fits_ored (type_at c.args.table.now c.args.places.now) (shown.cond c.in-Any.a.value) (shown.conds c.in-Any.list.items)) (grind (arith, common_steps))
+
+pub arms_fit-loop-arm-preserved : goal.arms_fit-loop-arm-preserved
+arms_fit-loop-arm-preserved t c = grind (arith, common_steps)
+
+pub arms_fit-returns-then-not-both : goal.arms_fit-returns-then-not-both
+arms_fit-returns-then-not-both t c = grind (arith, common_steps)
+
+pub conds_fit-loop-c-preserved : goal.conds_fit-loop-c-preserved
+conds_fit-loop-c-preserved t c = grind (arith, common_steps)
+
+pub conds_fit-returns-then-not-cond_fits : goal.conds_fit-returns-then-not-cond_fits
+conds_fit-returns-then-not-cond_fits t c = grind (arith, common_steps)

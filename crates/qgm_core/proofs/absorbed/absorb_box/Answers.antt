@@ -1,9 +1,10 @@
-use Rattle.std.proofs.Common.{◌≡◌, List, get_or, ap, sym, ◌∙◌}
+use Rattle.std.proofs.Common.{◌≡◌, List, get_or, ap, sym, ◌∙◌, arith}
 use Rattle.qgm_core.specs.Edits.{spliced_at, with_quants}
 use Rattle.qgm_core.specs.declared.node.Node.{Node}
 use Rattle.qgm_core.specs.declared.owned.OwnedQuant.{OwnedQuant}
 use Rattle.qgm_core.proofs.ByNumber.{read-within}
 use Rattle.qgm_core.proofs.Spliced.{absorbed-at}
+use Rattle.std.proofs.lemmas.Grind.{common_steps}
 use Rattle.qgm_core.proofs.absorbed.absorb_box.Goals as goal
 
 pub returns-clause-ok : goal.returns-clause-ok
@@ -24,3 +25,6 @@ returns-clause-ok c =
     c.remove-dropped.ensures.items
     ∙ absorbed-at c.args.b i c.args.c xs j k _ n e own (sym at) c.requires.apart
     (ap {B = Node} (λ (rs : List OwnedQuant). record n { quants = rs }) all ∙ ap (with_quants (spliced_at i cs)) c.index_mut.ensures.value)
+
+pub spliced-requires : goal.spliced-requires
+spliced-requires c = grind (arith, common_steps)

@@ -6,6 +6,7 @@ use Rattle.qgm_core.specs.declared.node.Node.{Node}
 use Rattle.qgm_core.specs.declared.owned.OwnedQuant.{OwnedQuant}
 use Rattle.qgm_core.proofs.Changed.{found}
 use Rattle.qgm_core.proofs.Requanted.{moved-other, moved-same, places-other, places-same}
+use Rattle.std.proofs.lemmas.Grind.{common_steps}
 use Rattle.qgm_core.proofs.moves.move_quant.Goals as goal
 
 pub move_to-requires-clause-within : goal.move_to-requires-clause-within
@@ -59,3 +60,6 @@ returns-clause-ok c =
     _ _ c.index_mut-2.result.now c.index_mut-3.result.now c.if-from-to.false
     (ap {B = Node} (λ (rs : List OwnedQuant). record c.index_mut-2.result.now { quants = rs }) c.in_ok-insert.ensures.ok ∙ ap (put_range c.args.i r) c.index_mut-2.ensures.value)
     (ap {B = Node} (λ (rs : List OwnedQuant). record c.index_mut-3.result.now { quants = rs }) c.remove.ensures ∙ ap (without_quant q) c.index_mut-3.ensures.value)
+
+pub returns-in_err-insert-clause-err : goal.returns-in_err-insert-clause-err
+returns-in_err-insert-clause-err c = grind (arith, common_steps)

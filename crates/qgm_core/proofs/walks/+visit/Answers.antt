@@ -1,8 +1,9 @@
-use Rattle.std.proofs.Common.{◌≡◌, ℕ, ◌==◌, List, Some, None, true, false, position, sym, ap, ◌∙◌}
+use Rattle.std.proofs.Common.{◌≡◌, ℕ, ◌==◌, List, Some, None, true, false, position, sym, ap, ◌∙◌, arith}
 use Rattle.qgm_core.specs.Boxes.{is_box}
 use Rattle.qgm_core.specs.Lists.{holds}
 use Rattle.qgm_core.proofs.ByNumber.{position-numbers}
 use Rattle.qgm_core.proofs.Visited.{behind-before, behind-none, behind-seen, behind-start}
+use Rattle.std.proofs.lemmas.Grind.{common_steps}
 use Rattle.qgm_core.proofs.walks.+visit.Goals as goal
 
 pub returns-in_default : goal.returns-in_default
@@ -34,3 +35,15 @@ loop-range-init t c =
     let at : position (is_box b) ns ≡ Some c.in-Some.i = sym (position-numbers b ns) ∙ sym (ap (λ (xs : List ℕ). position (λ x. x == b) xs) c.requires.places) ∙ sym c.find.ensures ∙ c.in-Some.is in
     let h : holds b c.args.seen.now ≡ false = sym c.has.ensures ∙ c.if-has.false in
     behind-start b c.args.from ns c.in-Some.i c.index-nodes-i.result c.args.seen.now c.push.new.self c.as_slice-range-items.result.now at c.if-i-from.false h c.as_slice-range-items.ensures c.in_ok-push.ensures
+
+pub bounds-nodes-i : goal.bounds-nodes-i
+bounds-nodes-i t c = grind (arith, common_steps)
+
+pub loop-range-preserved : goal.loop-range-preserved
+loop-range-preserved t c = grind (arith, common_steps)
+
+pub overflow_add-i : goal.overflow_add-i
+overflow_add-i t c = grind (arith, common_steps)
+
+pub visit-requires : goal.visit-requires
+visit-requires t c = grind (arith, common_steps)

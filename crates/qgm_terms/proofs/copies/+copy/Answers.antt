@@ -14,3 +14,9 @@ copy_cond-returns-in-All t c = rw (c.in-All.is, conds_hidden c.in-All.list) (gri
 
 pub copy_cond-returns-in-Any : goal.copy_cond-returns-in-Any
 copy_cond-returns-in-Any t c = rw (c.in-Any.is, conds_hidden c.in-Any.list) (grind (arith, common_steps))
+
+pub copy_arms-loop-arm-preserved : goal.copy_arms-loop-arm-preserved
+copy_arms-loop-arm-preserved t c = grind (arith, common_steps)
+
+pub copy_arms-returns : goal.copy_arms-returns
+copy_arms-returns t c = grind (arith, common_steps)

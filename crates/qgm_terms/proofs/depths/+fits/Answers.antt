@@ -1,6 +1,6 @@
 use Rattle.std.proofs.Common.{max, arith}
 use Rattle.std.proofs.lemmas.Grind.{common_steps}
-use Rattle.qgm_terms.proofs.Levels.{arm_depths_hidden, cond_depths_hidden, link_depths_hidden}
+use Rattle.qgm_terms.proofs.Levels.{arm_depths_hidden, cond_depths_hidden, depth_cond_positive, depth_positive, link_depths_hidden}
 use Rattle.qgm_terms.proofs.Most.{most_at, most_so_far}
 use Rattle.qgm_terms.specs.Depth.{depth, depth_cond}
 use Rattle.qgm_terms.proofs.depths.+fits.Goals as goal
@@ -43,3 +43,18 @@ fits_conds-returns-then-not-fits_cond t c =
 pub fits_conds-loop-c-preserved : goal.fits_conds-loop-c-preserved
 fits_conds-loop-c-preserved t c =
     most_so_far depth_cond c.args.list.now c.loop-c.c-index c.args.room c.c-item.result (omega arith) c.loop-c.invariant (grind (arith, common_steps))
+
+pub fits-returns-then-room-eq0 : goal.fits-returns-then-room-eq0
+fits-returns-then-room-eq0 t c = grind (arith, common_steps, depth_positive)
+
+pub fits_cond-returns-then-room-eq0 : goal.fits_cond-returns-then-room-eq0
+fits_cond-returns-then-room-eq0 t c = grind (arith, common_steps, depth_cond_positive)
+
+pub fits_arms-returns : goal.fits_arms-returns
+fits_arms-returns t c = grind (arith, common_steps)
+
+pub fits_links-returns : goal.fits_links-returns
+fits_links-returns t c = grind (arith, common_steps)
+
+pub fits_conds-returns : goal.fits_conds-returns
+fits_conds-returns t c = grind (arith, common_steps)

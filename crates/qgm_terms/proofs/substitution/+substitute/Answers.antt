@@ -16,3 +16,9 @@ substitute_cond-returns-in-Any t c = rw (c.in-Any.is, conds_hidden c.in-Any.list
 
 pub substitute-returns-in-Case : goal.substitute-returns-in-Case
 substitute-returns-in-Case t c = rw (c.in-Case.is, choices_hidden c.in-Case.list, chains.substituted_armed c.args.q c.args.cells.now (choices c.in-Case.list.items)) (grind (arith, common_steps))
+
+pub substitute_arms-loop-arm-preserved : goal.substitute_arms-loop-arm-preserved
+substitute_arms-loop-arm-preserved t c = grind (arith, common_steps)
+
+pub substitute_arms-returns : goal.substitute_arms-returns
+substitute_arms-returns t c = grind (arith, common_steps)

@@ -20,3 +20,21 @@ add_tokens_of_cond-returns-in_ok-add_tokens_of_cond-in-All t c =
 pub add_tokens_of_cond-returns-in_ok-add_tokens_of_cond-in-Any : goal.add_tokens_of_cond-returns-in_ok-add_tokens_of_cond-in-Any
 add_tokens_of_cond-returns-in_ok-add_tokens_of_cond-in-Any t c =
     rw (c.in-Any.is, lists.conds_hidden c.in-Any.list, laws.tokens_ored (shown.cond c.in-Any.a.value) (shown.conds c.in-Any.list.items)) (grind (arith, common_steps))
+
+pub add_tokens_of_arms-loop-arm-preserved : goal.add_tokens_of_arms-loop-arm-preserved
+add_tokens_of_arms-loop-arm-preserved t c = grind (arith, common_steps)
+
+pub add_tokens_of_conds-loop-c-preserved : goal.add_tokens_of_conds-loop-c-preserved
+add_tokens_of_conds-loop-c-preserved t c = grind (arith, common_steps)
+
+pub add_tokens_of_links-loop-link-preserved : goal.add_tokens_of_links-loop-link-preserved
+add_tokens_of_links-loop-link-preserved t c = grind (arith, common_steps)
+
+pub add_tokens_of_conds-returns : goal.add_tokens_of_conds-returns
+add_tokens_of_conds-returns t c = grind (arith, common_steps)
+
+pub add_tokens_of_links-returns : goal.add_tokens_of_links-returns
+add_tokens_of_links-returns t c = grind (arith, common_steps)
+
+pub add_tokens_of_arms-returns : goal.add_tokens_of_arms-returns
+add_tokens_of_arms-returns t c = grind (arith, common_steps)

@@ -18,3 +18,21 @@ operand-returns-in-Coalesce-clause-fault t c = rw (c.in-Coalesce.is, written.exp
 
 pub predicate-returns-in-InList : goal.predicate-returns-in-InList
 predicate-returns-in-InList t c = rw (c.in-InList.is, written.exprs_hidden c.in-InList.list, ← c.as_slice.ensures, ← c.deref-in-InList.ensures) (grind (arith, common_steps))
+
+pub cond-returns-in-Or : goal.cond-returns-in-Or
+cond-returns-in-Or t c = grind (arith, common_steps)
+
+pub in_list-returns : goal.in_list-returns
+in_list-returns t c = grind (arith, common_steps)
+
+pub predicate-returns-in-Between : goal.predicate-returns-in-Between
+predicate-returns-in-Between t c = grind (arith, common_steps)
+
+pub predicate-returns-in-Compare : goal.predicate-returns-in-Compare
+predicate-returns-in-Compare t c = grind (arith, common_steps)
+
+pub predicate-returns-in-Like : goal.predicate-returns-in-Like
+predicate-returns-in-Like t c = grind (arith, common_steps)
+
+pub predicate-returns-in-Quantified : goal.predicate-returns-in-Quantified
+predicate-returns-in-Quantified t c = grind (arith, common_steps)

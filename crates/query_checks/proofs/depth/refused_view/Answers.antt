@@ -1,6 +1,7 @@
-use Rattle.std.proofs.Common.{◌∙◌}
+use Rattle.std.proofs.Common.{◌∙◌, arith}
 use Rattle.sql_catalog.specs.Shown as declared
 use Rattle.query_checks.proofs.Nested.{refused_step}
+use Rattle.std.proofs.lemmas.Grind.{common_steps}
 use Rattle.query_checks.proofs.depth.refused_view.Goals as goal
 
 pub loop-depth-preserved : goal.loop-depth-preserved
@@ -13,3 +14,6 @@ loop-depth-preserved c =
           ∙ refused_step (declared.catalog c.args.known.now.catalog.now) c.loop-depth._depth c.args.known.now.views.now c.args.all.now _ _ _ c.requires.views c.requires.readers c.loop-depth.invariant.found
           (c.as_slice-in-loop-depth.ensures ∙ c.loop-depth.invariant.marks) (c.as_slice-in-loop-depth-2.ensures ∙ next);
     }
+
+pub returns : goal.returns
+returns c = grind (arith, common_steps)

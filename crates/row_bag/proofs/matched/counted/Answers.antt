@@ -4,6 +4,7 @@ use Rattle.row_bag.specs.Sets.{same_cells}
 use Rattle.row_bag.proofs.Matching.{often-long}
 use Rattle.row_bag.proofs.TupleBags.{same_cells-decides}
 use Rattle.std.proofs.Common.{ℕ, refl}
+use Rattle.std.proofs.lemmas.Grind.{common_steps}
 use Rattle.row_bag.proofs.matched.counted.Goals as goal
 
 pub count_tuple-requires-clause-room : goal.count_tuple-requires-clause-room
@@ -16,3 +17,6 @@ count_tuple-requires-clause-room c =
     let size : c.len.result ≡ length c.args.tuples.items = search rules in
     let fits : c.len.result < 18446744073709551616 = search rules in
     omega (arith, all, first, own, most, size, fits)
+
+pub returns-clause-counts : goal.returns-clause-counts
+returns-clause-counts c = grind (arith, common_steps)

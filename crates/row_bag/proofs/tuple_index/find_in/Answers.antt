@@ -3,6 +3,7 @@ use Rattle.std.proofs.lemmas.Bool.{false≢true}
 use Rattle.std.proofs.lemmas.List.{get_or-map, length-map}
 use Rattle.row_bag.specs.declared.tuple_index.Link.{Link}
 use Rattle.row_bag.proofs.Indexed.{walk-begins, walk-ends, walk-goes}
+use Rattle.std.proofs.lemmas.Grind.{common_steps}
 use Rattle.row_bag.proofs.tuple_index.find_in.Goals as goal
 
 pub loop-place-init : goal.loop-place-init
@@ -23,3 +24,15 @@ pub returns-clause-none : goal.returns-clause-none
 returns-clause-none g c = λ same.
     let over = c.loop-place-test.false in
     walk-ends (length c.args.heads.now) (map (λ (l : Link). l.hash) c.args.links.now) (map g.T.HasTuple.tuple c.args.items.now) c.args.cells.now c.loop-place.place c.requires.hashes (omega (arith, over)) c.loop-place.invariant
+
+pub bounds-links-place : goal.bounds-links-place
+bounds-links-place c = grind (arith, common_steps)
+
+pub is_it-requires-clause-within : goal.is_it-requires-clause-within
+is_it-requires-clause-within c = grind (arith, common_steps)
+
+pub loop-place-smaller : goal.loop-place-smaller
+loop-place-smaller c = grind (arith, common_steps)
+
+pub offset_bounds-links-place : goal.offset_bounds-links-place
+offset_bounds-links-place c = grind (arith, common_steps)

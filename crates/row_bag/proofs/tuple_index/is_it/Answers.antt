@@ -1,6 +1,7 @@
 use Rattle.std.proofs.Common.{arith}
 use Rattle.row_bag.specs.declared.tuple_index.Link.{Link}
 use Rattle.row_bag.proofs.Indexed.{long, other-hash, stands}
+use Rattle.std.proofs.lemmas.Grind.{common_steps}
 use Rattle.row_bag.proofs.tuple_index.is_it.Goals as goal
 
 pub returns-then-links-at : goal.returns-then-links-at
@@ -12,3 +13,6 @@ returns-then-links-at g c =
 pub returns-else-links-at : goal.returns-else-links-at
 returns-else-links-at g c =
     other-hash (λ (l : Link). l.hash) g.T.HasTuple.tuple c.args.links.now c.args.items.now c.args.at (record { hash = 0; before = 0 }) c.args.hash c.args.cells.now c.requires.within c.requires.hashes c.requires.hash c.if-links-at.false
+
+pub bounds-items-at : goal.bounds-items-at
+bounds-items-at c = grind (arith, common_steps)

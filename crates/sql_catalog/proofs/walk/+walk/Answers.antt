@@ -24,3 +24,66 @@ list_names-returns-in-Items t c = grind (arith, common_steps, shown.lists)
 
 pub query_names-returns-in-Block : goal.query_names-returns-in-Block
 query_names-returns-in-Block t c = grind (arith, common_steps, shown.lists)
+
+pub arm_names-loop-arm-preserved : goal.arm_names-loop-arm-preserved
+arm_names-loop-arm-preserved t c = grind (arith, common_steps)
+
+pub block_names-returns : goal.block_names-returns
+block_names-returns t c = grind (arith, common_steps)
+
+pub choice_names-loop-choice-preserved : goal.choice_names-loop-choice-preserved
+choice_names-loop-choice-preserved t c = grind (arith, common_steps)
+
+pub cond_names-returns-in_ok-cond_names-in-And : goal.cond_names-returns-in_ok-cond_names-in-And
+cond_names-returns-in_ok-cond_names-in-And t c = grind (arith, common_steps)
+
+pub cond_names-returns-in_ok-cond_names-in-Or : goal.cond_names-returns-in_ok-cond_names-in-Or
+cond_names-returns-in_ok-cond_names-in-Or t c = grind (arith, common_steps)
+
+pub cond_names-returns-in_ok-expr_names-in-Between-2 : goal.cond_names-returns-in_ok-expr_names-in-Between-2
+cond_names-returns-in_ok-expr_names-in-Between-2 t c = grind (arith, common_steps)
+
+pub cond_names-returns-in_ok-expr_names-in-Compare : goal.cond_names-returns-in_ok-expr_names-in-Compare
+cond_names-returns-in_ok-expr_names-in-Compare t c = grind (arith, common_steps)
+
+pub cond_names-returns-in_ok-expr_names-in-InQuery : goal.cond_names-returns-in_ok-expr_names-in-InQuery
+cond_names-returns-in_ok-expr_names-in-InQuery t c = grind (arith, common_steps)
+
+pub cond_names-returns-in_ok-expr_names-in-Like : goal.cond_names-returns-in_ok-expr_names-in-Like
+cond_names-returns-in_ok-expr_names-in-Like t c = grind (arith, common_steps)
+
+pub cond_names-returns-in_ok-expr_names-in-Quantified : goal.cond_names-returns-in_ok-expr_names-in-Quantified
+cond_names-returns-in_ok-expr_names-in-Quantified t c = grind (arith, common_steps)
+
+pub expr_names-returns-in_ok-expr_names-in-Add : goal.expr_names-returns-in_ok-expr_names-in-Add
+expr_names-returns-in_ok-expr_names-in-Add t c = grind (arith, common_steps)
+
+pub expr_names-returns-in_ok-expr_names-in-Multiply : goal.expr_names-returns-in_ok-expr_names-in-Multiply
+expr_names-returns-in_ok-expr_names-in-Multiply t c = grind (arith, common_steps)
+
+pub expr_names-returns-in_ok-expr_names-in-NullIf : goal.expr_names-returns-in_ok-expr_names-in-NullIf
+expr_names-returns-in_ok-expr_names-in-NullIf t c = grind (arith, common_steps)
+
+pub exprs_names-loop-expr-preserved : goal.exprs_names-loop-expr-preserved
+exprs_names-loop-expr-preserved t c = grind (arith, common_steps)
+
+pub from_names-loop-table-preserved : goal.from_names-loop-table-preserved
+from_names-loop-table-preserved t c = grind (arith, common_steps)
+
+pub item_names-loop-item-preserved : goal.item_names-loop-item-preserved
+item_names-loop-item-preserved t c = grind (arith, common_steps)
+
+pub query_names-returns-in_ok-query_names-in-Combine : goal.query_names-returns-in_ok-query_names-in-Combine
+query_names-returns-in_ok-query_names-in-Combine t c = grind (arith, common_steps)
+
+pub query_names-returns-in_ok-query_names-in-Intersect : goal.query_names-returns-in_ok-query_names-in-Intersect
+query_names-returns-in_ok-query_names-in-Intersect t c = grind (arith, common_steps)
+
+pub table_names-returns-in_ok-table_names-in-CrossJoin : goal.table_names-returns-in_ok-table_names-in-CrossJoin
+table_names-returns-in_ok-table_names-in-CrossJoin t c = grind (arith, common_steps)
+
+pub table_names-returns-in_ok-table_names-in-Join-2 : goal.table_names-returns-in_ok-table_names-in-Join-2
+table_names-returns-in_ok-table_names-in-Join-2 t c = grind (arith, common_steps)
+
+pub table_names-returns-in_ok-table_names-in-LeftJoin-2 : goal.table_names-returns-in_ok-table_names-in-LeftJoin-2
+table_names-returns-in_ok-table_names-in-LeftJoin-2 t c = grind (arith, common_steps)

@@ -1,8 +1,9 @@
-use Rattle.std.proofs.Common.{◌∷◌, [], ◌++◌, ◌∙◌, ap}
+use Rattle.std.proofs.Common.{◌∷◌, [], ◌++◌, ◌∙◌, ap, arith}
 use Rattle.sql_text.specs.Tokens.{token_list}
 use Rattle.sql_parser.specs.Words as words
 use Rattle.sql_parser.proofs.Turns.{one_more, no_turn, no_more}
 use Rattle.sql_parser.proofs.TurnsTables.{first_item, next_item, no_item, columns_stop}
+use Rattle.std.proofs.lemmas.Grind.{common_steps}
 use Rattle.sql_parser.proofs.naming.columns.Goals as goal
 
 pub columns-init : goal.columns-init

@@ -1,7 +1,8 @@
-use Rattle.std.proofs.Common.{◌≡◌, ◌∙◌, true, false, refl}
+use Rattle.std.proofs.Common.{◌≡◌, ◌∙◌, true, false, refl, arith}
 use Rattle.sql_ast.specs.Grammatical as gram
 use Rattle.sql_ast.specs.Shown as shown
 use Rattle.sql_ast.specs.Shown.{choices_hidden, exprs_hidden}
+use Rattle.std.proofs.lemmas.Grind.{common_steps}
 use Rattle.sql_parser.proofs.sub.+without_sub.Goals as goal
 use Rattle.sql_parser.proofs.sub.+without_sub.Goals.{expr_without_sub-then-expr_without_sub-3, expr_without_sub-else-expr_without_sub-3}
 
@@ -41,3 +42,30 @@ without_sub-returns-then-expr_without_sub-4 t c =
     let first : gram.expr_without_sub (shown.expr c.in-InList.a.value) ≡ true = cc in
     let others : c.exprs_without_sub.result ≡ gram.exprs_without_sub (shown.expr_list c.in-InList.xs) = cc in
     others ∙ rw (c.in-InList.is, exprs_hidden c.in-InList.xs, first) refl
+
+pub arms_without_sub-arms-preserved : goal.arms_without_sub-arms-preserved
+arms_without_sub-arms-preserved t c = grind (arith, common_steps)
+
+pub arms_without_sub-returns : goal.arms_without_sub-returns
+arms_without_sub-returns t c = grind (arith, common_steps)
+
+pub arms_without_sub-returns-then-not-without_sub : goal.arms_without_sub-returns-then-not-without_sub
+arms_without_sub-returns-then-not-without_sub t c = grind (arith, common_steps)
+
+pub choices_without_sub-choices-preserved : goal.choices_without_sub-choices-preserved
+choices_without_sub-choices-preserved t c = grind (arith, common_steps)
+
+pub choices_without_sub-returns : goal.choices_without_sub-returns
+choices_without_sub-returns t c = grind (arith, common_steps)
+
+pub choices_without_sub-returns-then-not-expr_without_sub : goal.choices_without_sub-returns-then-not-expr_without_sub
+choices_without_sub-returns-then-not-expr_without_sub t c = grind (arith, common_steps)
+
+pub exprs_without_sub-exprs-preserved : goal.exprs_without_sub-exprs-preserved
+exprs_without_sub-exprs-preserved t c = grind (arith, common_steps)
+
+pub exprs_without_sub-returns : goal.exprs_without_sub-returns
+exprs_without_sub-returns t c = grind (arith, common_steps)
+
+pub exprs_without_sub-returns-then-not-expr_without_sub : goal.exprs_without_sub-returns-then-not-expr_without_sub
+exprs_without_sub-returns-then-not-expr_without_sub t c = grind (arith, common_steps)

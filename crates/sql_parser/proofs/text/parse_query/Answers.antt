@@ -1,4 +1,4 @@
-use Rattle.std.proofs.Common.{sym}
+use Rattle.std.proofs.Common.{sym, arith}
 use Rattle.sql_ast.specs.Grammatical.{SpellsQuery}
 use Rattle.sql_ast.specs.Shown as shown
 use Rattle.sql_text.proofs.Crowds.{shallow_if_read}
@@ -7,6 +7,7 @@ use Rattle.sql_parser.specs.ReadText.{query_tree}
 use Rattle.sql_parser.proofs.Complete.{query_complete, query_unique}
 use Rattle.sql_parser.proofs.Outcomes.{found_of, only_of, none_of}
 use Rattle.sql_parser.proofs.SoundText.{query_sound}
+use Rattle.std.proofs.lemmas.Grind.{common_steps}
 use Rattle.sql_parser.proofs.text.parse_query.Goals as goal
 
 pub returns-then-too_deep-clause-unique : goal.returns-then-too_deep-clause-unique
@@ -34,3 +35,18 @@ returns-clause-reading c = λ flat. λ x. let ts = token_list c.args.tokens.now 
 
 pub returns-clause-unique : goal.returns-clause-unique
 returns-clause-unique c = λ a b. query_unique a b (token_list c.args.tokens.now)
+
+pub returns-clause-over : goal.returns-clause-over
+returns-clause-over c = grind (arith, common_steps)
+
+pub returns-then-too_deep-clause-gives : goal.returns-then-too_deep-clause-gives
+returns-then-too_deep-clause-gives c = grind (arith, common_steps)
+
+pub returns-then-too_deep-clause-none : goal.returns-then-too_deep-clause-none
+returns-then-too_deep-clause-none c = grind (arith, common_steps)
+
+pub returns-then-too_deep-clause-over : goal.returns-then-too_deep-clause-over
+returns-then-too_deep-clause-over c = grind (arith, common_steps)
+
+pub returns-then-too_deep-clause-reading : goal.returns-then-too_deep-clause-reading
+returns-then-too_deep-clause-reading c = grind (arith, common_steps)

@@ -1,4 +1,4 @@
-use Rattle.std.proofs.Common.{◌≡◌, ◌+◌, List, refl, sym, subst, insert, ap, map, rules}
+use Rattle.std.proofs.Common.{◌≡◌, ◌+◌, List, refl, sym, subst, insert, ap, map, rules, arith}
 use Rattle.qgm_core.specs.Boxes.{QueryGraph, HasBox, bare_box}
 use Rattle.qgm_core.specs.Numbered.{Numbered}
 use Rattle.qgm_core.specs.declared.node.Node.{Node}
@@ -6,6 +6,7 @@ use Rattle.qgm_core.specs.declared.owned.OwnedQuant.{OwnedQuant}
 use Rattle.qgm_core.proofs.Fresh.{no_box, numbered-insert}
 use Rattle.qgm_core.specs.Held.{HasAll}
 use Rattle.qgm_core.proofs.Held.{all-more}
+use Rattle.std.proofs.lemmas.Grind.{common_steps}
 use Rattle.qgm_core.proofs.graph.Graph.add_box.Goals as goal
 
 pub invariant_of-self-2 : goal.invariant_of-self-2
@@ -29,3 +30,9 @@ pub returns-clause-kept : goal.returns-clause-kept
 returns-clause-kept c =
     let g = c.args.self.now in
     subst (λ (h : QueryGraph). HasAll g h) (sym (returns-clause-ok c)) (all-more c.args.below (bare_box c.self.inside.next_box c.args.parts) g.boxes)
+
+pub invariant_of-self : goal.invariant_of-self
+invariant_of-self c = grind (arith, common_steps)
+
+pub returns-clause-held : goal.returns-clause-held
+returns-clause-held c = grind (arith, common_steps)

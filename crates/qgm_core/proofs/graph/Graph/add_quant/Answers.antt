@@ -1,4 +1,4 @@
-use Rattle.std.proofs.Common.{List, ◌-◌, ◌+◌, ap, ◌∙◌, refl, sym, subst, rules}
+use Rattle.std.proofs.Common.{List, ◌-◌, ◌+◌, ap, ◌∙◌, refl, sym, subst, rules, arith}
 use Rattle.qgm_core.specs.Boxes.{QueryGraph, HasQuant, is_box}
 use Rattle.qgm_core.specs.Edits.{put_range, range}
 use Rattle.qgm_core.specs.Numbered.{Numbered}
@@ -7,6 +7,7 @@ use Rattle.qgm_core.specs.declared.owned.OwnedQuant.{OwnedQuant}
 use Rattle.qgm_core.proofs.Fresh.{no_quant, numbered-quant}
 use Rattle.qgm_core.specs.Held.{HasAll}
 use Rattle.qgm_core.proofs.Held.{all-range, range-held}
+use Rattle.std.proofs.lemmas.Grind.{common_steps}
 use Rattle.qgm_core.proofs.graph.Graph.add_quant.Goals as goal
 
 pub invariant_of-self-2 : goal.invariant_of-self-2
@@ -40,3 +41,12 @@ pub returns-clause-held : goal.returns-clause-held
 returns-clause-held c =
     let q = c.self.inside.next_quant in
     subst (λ (h : QueryGraph). HasQuant q h) (sym (returns-clause-ok c)) (range-held c.args.owner (c.args.place - 1) (range q c.args.kind c.args.over) c.args.self.now.boxes c.requires.owner)
+
+pub invariant_of-self : goal.invariant_of-self
+invariant_of-self c = grind (arith, common_steps)
+
+pub returns-in_err-insert-clause-err : goal.returns-in_err-insert-clause-err
+returns-in_err-insert-clause-err c = grind (arith, common_steps)
+
+pub returns-in_err-insert-clause-kept : goal.returns-in_err-insert-clause-kept
+returns-in_err-insert-clause-kept c = grind (arith, common_steps)

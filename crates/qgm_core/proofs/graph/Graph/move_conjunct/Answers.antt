@@ -1,4 +1,4 @@
-use Rattle.std.proofs.Common.{◌-◌, ◌≤◌, ℕ, ◌∙◌, ap, sym, refl, subst}
+use Rattle.std.proofs.Common.{◌-◌, ◌≤◌, ℕ, ◌∙◌, ap, sym, refl, subst, arith}
 use Rattle.qgm_core.specs.Boxes.{QueryGraph, has_box, is_box}
 use Rattle.qgm_core.specs.Edits.{spare_in, without_cond, with_cond}
 use Rattle.qgm_core.specs.Lists.{first, change}
@@ -6,6 +6,7 @@ use Rattle.qgm_core.proofs.Changed.{has-change, spare-without}
 use Rattle.qgm_core.specs.Held.{HasAll}
 use Rattle.qgm_terms.specs.Shown.{cond}
 use Rattle.qgm_core.proofs.Held.{all-parts, all-then}
+use Rattle.std.proofs.lemmas.Grind.{common_steps}
 use Rattle.qgm_core.proofs.graph.Graph.move_conjunct.Goals as goal
 
 pub put_cond-requires-clause-held : goal.put_cond-requires-clause-held
@@ -30,3 +31,6 @@ returns-clause-kept c =
     (all-then g.boxes ns (change (is_box c.args.to) (with_cond t) ns)
     (all-parts (is_box c.args.b) (without_cond (c.args.i - 1)) g.boxes (λ n. refl) (λ n. refl))
     (all-parts (is_box c.args.to) (with_cond t) ns (λ n. refl) (λ n. refl))))
+
+pub returns-clause-graph : goal.returns-clause-graph
+returns-clause-graph c = grind (arith, common_steps)

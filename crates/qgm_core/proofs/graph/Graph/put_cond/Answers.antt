@@ -1,7 +1,8 @@
-use Rattle.std.proofs.Common.{ap}
+use Rattle.std.proofs.Common.{ap, arith}
 use Rattle.qgm_core.specs.Boxes.{ids_of}
 use Rattle.qgm_core.specs.declared.node.Node.{Node}
 use Rattle.qgm_core.proofs.Fresh.{numbered-set}
+use Rattle.std.proofs.lemmas.Grind.{common_steps}
 use Rattle.qgm_core.proofs.graph.Graph.put_cond.Goals as goal
 
 pub invariant_of-self : goal.invariant_of-self
@@ -9,3 +10,6 @@ invariant_of-self c =
     let at = rw c.deref.ensures.value at c.box_place-k.ensures.first in
     let e = c.index_mut.ensures.value in
     numbered-set c.self.inside.next_box c.self.inside.next_quant c.self.inside.nodes.items c.box_place-k.result _ c.index_mut.result.now at.0 (ap (λ (n : Node). n.id) e) (ap ids_of e) c.self.invariant
+
+pub returns : goal.returns
+returns c = grind (arith, common_steps)

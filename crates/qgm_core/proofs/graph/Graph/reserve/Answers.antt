@@ -1,10 +1,11 @@
-use Rattle.std.proofs.Common.{ap, rules, subst, sym, refl}
+use Rattle.std.proofs.Common.{ap, rules, subst, sym, refl, arith}
 use Rattle.qgm_core.specs.Boxes.{ids_of, QueryGraph, is_box}
 use Rattle.qgm_core.specs.declared.node.Node.{Node}
 use Rattle.qgm_core.proofs.Fresh.{numbered-set}
 use Rattle.qgm_core.specs.Held.{HasAll}
 use Rattle.qgm_core.specs.Edits.{with_room}
 use Rattle.qgm_core.proofs.Held.{all-parts}
+use Rattle.std.proofs.lemmas.Grind.{common_steps}
 use Rattle.qgm_core.proofs.graph.Graph.reserve.Goals as goal
 
 pub invariant_of-self-2 : goal.invariant_of-self-2
@@ -20,3 +21,12 @@ pub returns-clause-kept : goal.returns-clause-kept
 returns-clause-kept c =
     let g = c.args.self.now in
     subst (λ (h : QueryGraph). HasAll g h) (sym (returns-clause-ok c)) (all-parts (is_box c.args.b) (with_room c.args.n) g.boxes (λ n. refl) (λ n. refl))
+
+pub invariant_of-self : goal.invariant_of-self
+invariant_of-self c = grind (arith, common_steps)
+
+pub returns-in_err-make_room-clause-err : goal.returns-in_err-make_room-clause-err
+returns-in_err-make_room-clause-err c = grind (arith, common_steps)
+
+pub returns-in_err-make_room-clause-kept : goal.returns-in_err-make_room-clause-kept
+returns-in_err-make_room-clause-kept c = grind (arith, common_steps)

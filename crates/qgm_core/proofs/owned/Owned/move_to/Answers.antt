@@ -4,6 +4,7 @@ use Rattle.std.specs.List.{remove}
 use Rattle.std.proofs.Math.ListN.{get_or-map}
 use Rattle.qgm_core.specs.declared.owned.OwnedQuant.{OwnedQuant}
 use Rattle.qgm_core.proofs.Fresh.{if_ok, map_insert, map_remove}
+use Rattle.std.proofs.lemmas.Grind.{common_steps}
 use Rattle.qgm_core.proofs.owned.Owned.move_to.Goals as goal
 
 pub invariant_of-self : goal.invariant_of-self
@@ -22,3 +23,9 @@ invariant_of-self c =
     ∙ ap (λ (qs : List ℕ). insert qs c.args.j (id r)) (map_remove id rs i ∙ ap (λ (xs : List OwnedQuant). map id xs) (sym c.remove-range.ensures.items))
     ∙ map_insert id c.remove-range.new.self.items c.args.j r
     ∙ ap (λ (xs : List OwnedQuant). map id xs) (sym new)
+
+pub move_to-requires-clause-from : goal.move_to-requires-clause-from
+move_to-requires-clause-from c = grind (arith, common_steps)
+
+pub move_to-requires-clause-to : goal.move_to-requires-clause-to
+move_to-requires-clause-to c = grind (arith, common_steps)

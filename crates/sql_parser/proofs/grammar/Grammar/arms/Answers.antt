@@ -1,7 +1,8 @@
-use Rattle.std.proofs.Common.{◌∷◌, [], ◌∙◌, ap}
+use Rattle.std.proofs.Common.{◌∷◌, [], ◌∙◌, ap, arith}
 use Rattle.sql_text.specs.Tokens.{token_list}
 use Rattle.sql_parser.specs.Read as read
 use Rattle.sql_parser.proofs.Turns.{no_turn, one_more, no_more, arms_then, arms_stop, arms_first, arms_more, arms_whole}
+use Rattle.std.proofs.lemmas.Grind.{common_steps}
 use Rattle.sql_parser.proofs.grammar.Grammar.arms.Goals as goal
 
 pub arms-init : goal.arms-init

@@ -1,7 +1,8 @@
-use Rattle.std.proofs.Common.{◌∷◌, [], ◌∙◌, ap}
+use Rattle.std.proofs.Common.{◌∷◌, [], ◌∙◌, ap, arith}
 use Rattle.sql_text.specs.Tokens.{token_list}
 use Rattle.sql_parser.specs.Read as read
 use Rattle.sql_parser.proofs.Turns.{no_turn, one_more, no_more, choices_then, choices_stop, choices_first, choices_more, choices_whole}
+use Rattle.std.proofs.lemmas.Grind.{common_steps}
 use Rattle.sql_parser.proofs.grammar.Grammar.choices.Goals as goal
 
 pub choices-init : goal.choices-init

@@ -1,10 +1,11 @@
-use Rattle.std.proofs.Common.{◌∙◌, sym, refl}
+use Rattle.std.proofs.Common.{◌∙◌, sym, refl, arith}
 use Rattle.std.proofs.lemmas.Result.{err_from_is_err_and}
 use Rattle.sql_text.specs.Tokens.{token_list}
 use Rattle.sql_ast.specs.Shown as shown
 use Rattle.sql_parser.specs.Read as read
 use Rattle.sql_parser.proofs.Turns.{one_more, fails}
 use Rattle.sql_parser.proofs.TurnsTables.{qterms_stop, qterms_next, combined_begin, query_seen}
+use Rattle.std.proofs.lemmas.Grind.{common_steps}
 use Rattle.sql_parser.proofs.grammar.Grammar.combined.Goals as goal
 
 pub qterms-init : goal.qterms-init
@@ -24,3 +25,6 @@ pub qterms-preserved : goal.qterms-preserved
 qterms-preserved g c =
     let e = one_more (λ n. read.more_qterms (read.expr c.args.self.now.depth) (read.cond c.args.self.now.depth) (read.query c.args.self.now.depth) (read.table c.args.self.now.depth) n (shown.query c.qterms.left.value) (token_list c.qterms.rest.now)) _ c.qterms._turn c.qterms-test.true c.qterms.invariant in
     e ∙ qterms_next (read.expr c.args.self.now.depth) (read.cond c.args.self.now.depth) (read.query c.args.self.now.depth) (read.table c.args.self.now.depth) _ (shown.query c.qterms.left.value) (token_list c.qterms.rest.now) (c.in-Some.operator, token_list c.in-Some.after.now) c.in-Some.ensures ∙ rw (c.in_ok-next-in-Some.ensures) refl
+
+pub returns : goal.returns
+returns c = grind (arith, common_steps)

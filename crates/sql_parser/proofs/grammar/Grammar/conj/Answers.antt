@@ -1,9 +1,10 @@
-use Rattle.std.proofs.Common.{◌∙◌, refl}
+use Rattle.std.proofs.Common.{◌∙◌, refl, arith}
 use Rattle.std.proofs.lemmas.Result.{err_from_is_err_and}
 use Rattle.sql_text.specs.Tokens.{token_list}
 use Rattle.sql_ast.specs.Shown as shown
 use Rattle.sql_parser.specs.Read as read
 use Rattle.sql_parser.proofs.Turns.{no_turn, one_more, negs_begin, negs_stop, negs_go, fails, cond_seen}
+use Rattle.std.proofs.lemmas.Grind.{common_steps}
 use Rattle.sql_parser.proofs.grammar.Grammar.conj.Goals as goal
 
 pub negs-init : goal.negs-init
@@ -24,3 +25,6 @@ pub negs-preserved : goal.negs-preserved
 negs-preserved g c =
     let e = one_more (λ n. read.more_negs (read.expr c.args.self.now.depth) (read.cond c.args.self.now.depth) (read.query c.args.self.now.depth) (read.table c.args.self.now.depth) n (shown.cond c.negs.left.value) (token_list c.negs.rest.now)) _ c.negs._turn c.negs-test.true c.negs.invariant in
     e ∙ negs_go (read.expr c.args.self.now.depth) (read.cond c.args.self.now.depth) (read.query c.args.self.now.depth) (read.table c.args.self.now.depth) _ (shown.cond c.negs.left.value) (token_list c.negs.rest.now) (token_list c.in-Some.after.now) c.in-Some.ensures.found ∙ rw (c.in_ok-next-in-Some.ensures) refl
+
+pub returns : goal.returns
+returns c = grind (arith, common_steps)

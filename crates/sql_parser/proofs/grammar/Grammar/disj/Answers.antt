@@ -1,9 +1,10 @@
-use Rattle.std.proofs.Common.{◌∙◌, refl}
+use Rattle.std.proofs.Common.{◌∙◌, refl, arith}
 use Rattle.std.proofs.lemmas.Result.{err_from_is_err_and}
 use Rattle.sql_text.specs.Tokens.{token_list}
 use Rattle.sql_ast.specs.Shown as shown
 use Rattle.sql_parser.specs.Read as read
 use Rattle.sql_parser.proofs.Turns.{no_turn, one_more, conjs_begin, conjs_stop, conjs_go, fails, cond_seen}
+use Rattle.std.proofs.lemmas.Grind.{common_steps}
 use Rattle.sql_parser.proofs.grammar.Grammar.disj.Goals as goal
 
 pub conjs-init : goal.conjs-init
@@ -24,3 +25,6 @@ pub conjs-preserved : goal.conjs-preserved
 conjs-preserved g c =
     let e = one_more (λ n. read.more_conjs (read.expr c.args.self.now.depth) (read.cond c.args.self.now.depth) (read.query c.args.self.now.depth) (read.table c.args.self.now.depth) n (shown.cond c.conjs.left.value) (token_list c.conjs.rest.now)) _ c.conjs._turn c.conjs-test.true c.conjs.invariant in
     e ∙ conjs_go (read.expr c.args.self.now.depth) (read.cond c.args.self.now.depth) (read.query c.args.self.now.depth) (read.table c.args.self.now.depth) _ (shown.cond c.conjs.left.value) (token_list c.conjs.rest.now) (token_list c.in-Some.after.now) c.in-Some.ensures.found ∙ rw (c.in_ok-next-in-Some.ensures) refl
+
+pub returns : goal.returns
+returns c = grind (arith, common_steps)

@@ -1,7 +1,8 @@
-use Rattle.std.proofs.Common.{◌∷◌, [], ◌∙◌, ap}
+use Rattle.std.proofs.Common.{◌∷◌, [], ◌∙◌, ap, arith}
 use Rattle.sql_text.specs.Tokens.{token_list}
 use Rattle.sql_parser.specs.Read as read
 use Rattle.sql_parser.proofs.Turns.{no_turn, one_more, no_more, exprs_then, exprs_stop, exprs_first, exprs_more, exprs_whole}
+use Rattle.std.proofs.lemmas.Grind.{common_steps}
 use Rattle.sql_parser.proofs.grammar.Grammar.exprs.Goals as goal
 
 pub exprs-init : goal.exprs-init
@@ -24,3 +25,6 @@ pub returns : goal.returns
 returns g c =
     no_more (λ n. exprs_then c.exprs.exprs (read.more_exprs (read.expr c.args.self.now.depth) (read.cond c.args.self.now.depth) (read.query c.args.self.now.depth) (read.table c.args.self.now.depth) n (token_list c.exprs.rest.now))) _ c.exprs._turn c.exprs-test.false c.exprs.invariant
     ∙ exprs_whole c.exprs.exprs (token_list c.exprs.rest.now)
+
+pub returns-in_err-item-in-Some : goal.returns-in_err-item-in-Some
+returns-in_err-item-in-Some c = grind (arith, common_steps)

@@ -1,10 +1,11 @@
-use Rattle.std.proofs.Common.{◌∙◌, refl}
+use Rattle.std.proofs.Common.{◌∙◌, refl, arith}
 use Rattle.std.proofs.lemmas.Result.{err_from_is_err_and}
 use Rattle.sql_text.specs.Tokens.{token_list}
 use Rattle.sql_ast.specs.Shown as shown
 use Rattle.sql_parser.specs.Read as read
 use Rattle.sql_parser.proofs.Turns.{one_more, fails}
 use Rattle.sql_parser.proofs.TurnsTables.{qprims_stop, qprims_next, qterm_begin, query_seen}
+use Rattle.std.proofs.lemmas.Grind.{common_steps}
 use Rattle.sql_parser.proofs.grammar.Grammar.qterm.Goals as goal
 
 pub qprims-init : goal.qprims-init
@@ -24,3 +25,6 @@ pub qprims-preserved : goal.qprims-preserved
 qprims-preserved g c =
     let e = one_more (λ n. read.more_qprims (read.expr c.args.self.now.depth) (read.cond c.args.self.now.depth) (read.query c.args.self.now.depth) (read.table c.args.self.now.depth) n (shown.query c.qprims.left.value) (token_list c.qprims.rest.now)) _ c.qprims._turn c.qprims-test.true c.qprims.invariant in
     e ∙ qprims_next (read.expr c.args.self.now.depth) (read.cond c.args.self.now.depth) (read.query c.args.self.now.depth) (read.table c.args.self.now.depth) _ (shown.query c.qprims.left.value) (token_list c.qprims.rest.now) (token_list c.in-Some.after.now) c.in-Some.ensures.found ∙ rw (c.in_ok-next-in-Some.ensures) refl
+
+pub returns : goal.returns
+returns c = grind (arith, common_steps)

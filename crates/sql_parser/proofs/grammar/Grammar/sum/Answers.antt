@@ -1,9 +1,10 @@
-use Rattle.std.proofs.Common.{◌∙◌, refl}
+use Rattle.std.proofs.Common.{◌∙◌, refl, arith}
 use Rattle.std.proofs.lemmas.Result.{err_from_is_err_and}
 use Rattle.sql_text.specs.Tokens.{token_list}
 use Rattle.sql_ast.specs.Shown as shown
 use Rattle.sql_parser.specs.Read as read
 use Rattle.sql_parser.proofs.Turns.{no_turn, one_more, terms_begin, terms_stop, terms_go, fails, expr_seen}
+use Rattle.std.proofs.lemmas.Grind.{common_steps}
 use Rattle.sql_parser.proofs.grammar.Grammar.sum.Goals as goal
 
 pub terms-init : goal.terms-init
@@ -24,3 +25,6 @@ pub terms-preserved : goal.terms-preserved
 terms-preserved g c =
     let e = one_more (λ n. read.more_terms (read.expr c.args.self.now.depth) (read.cond c.args.self.now.depth) (read.query c.args.self.now.depth) (read.table c.args.self.now.depth) n (shown.expr c.terms.left.value) (token_list c.terms.rest.now)) _ c.terms._turn c.terms-test.true c.terms.invariant in
     e ∙ rw (terms_go (read.expr c.args.self.now.depth) (read.cond c.args.self.now.depth) (read.query c.args.self.now.depth) (read.table c.args.self.now.depth) _ (shown.expr c.terms.left.value) c.in-Some.op (token_list c.terms.rest.now) (token_list c.in-Some.after.now) c.in-Some.ensures, c.in_ok-next-in-Some.ensures) refl
+
+pub returns : goal.returns
+returns c = grind (arith, common_steps)

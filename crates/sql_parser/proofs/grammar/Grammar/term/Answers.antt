@@ -1,9 +1,10 @@
-use Rattle.std.proofs.Common.{◌∙◌, refl}
+use Rattle.std.proofs.Common.{◌∙◌, refl, arith}
 use Rattle.std.proofs.lemmas.Result.{err_from_is_err_and}
 use Rattle.sql_text.specs.Tokens.{token_list}
 use Rattle.sql_ast.specs.Shown as shown
 use Rattle.sql_parser.specs.Read as read
 use Rattle.sql_parser.proofs.Turns.{no_turn, one_more, factors_begin, factors_stop, factors_go, fails, expr_seen}
+use Rattle.std.proofs.lemmas.Grind.{common_steps}
 use Rattle.sql_parser.proofs.grammar.Grammar.term.Goals as goal
 
 pub factors-init : goal.factors-init
@@ -24,3 +25,6 @@ pub factors-preserved : goal.factors-preserved
 factors-preserved g c =
     let e = one_more (λ n. read.more_factors (read.expr c.args.self.now.depth) (read.cond c.args.self.now.depth) (read.query c.args.self.now.depth) (read.table c.args.self.now.depth) n (shown.expr c.factors.left.value) (token_list c.factors.rest.now)) _ c.factors._turn c.factors-test.true c.factors.invariant in
     e ∙ rw (factors_go (read.expr c.args.self.now.depth) (read.cond c.args.self.now.depth) (read.query c.args.self.now.depth) (read.table c.args.self.now.depth) _ (shown.expr c.factors.left.value) c.in-Some.op (token_list c.factors.rest.now) (token_list c.in-Some.after.now) c.in-Some.ensures, c.in_ok-next-in-Some.ensures) refl
+
+pub returns : goal.returns
+returns c = grind (arith, common_steps)

@@ -1,10 +1,11 @@
-use Rattle.std.proofs.Common.{◌∙◌, sym, refl}
+use Rattle.std.proofs.Common.{◌∙◌, sym, refl, arith}
 use Rattle.std.proofs.lemmas.Result.{err_from_is_err_and}
 use Rattle.sql_text.specs.Tokens.{token_list}
 use Rattle.sql_ast.specs.Shown as shown
 use Rattle.sql_parser.specs.Read as read
 use Rattle.sql_parser.proofs.Turns.{one_more, no_turn, fails}
 use Rattle.sql_parser.proofs.TurnsTables.{joins_stop, joins_next, table_seen}
+use Rattle.std.proofs.lemmas.Grind.{common_steps}
 use Rattle.sql_parser.proofs.grammar.Grammar.tref.Goals as goal
 
 pub joins-init : goal.joins-init
@@ -24,3 +25,6 @@ pub joins-preserved : goal.joins-preserved
 joins-preserved g c =
     let e = one_more (λ n. read.more_joins (read.expr c.args.self.now.depth) (read.cond c.args.self.now.depth) (read.query c.args.self.now.depth) (read.table c.args.self.now.depth) n (shown.table c.joins.left.value) (token_list c.joins.rest.now)) _ c.joins._turn c.joins-test.true c.joins.invariant in
     e ∙ joins_next (read.expr c.args.self.now.depth) (read.cond c.args.self.now.depth) (read.query c.args.self.now.depth) (read.table c.args.self.now.depth) _ (shown.table c.joins.left.value) (token_list c.joins.rest.now) (c.in-Some.kind, token_list c.in-Some.after.now) c.in-Some.ensures ∙ rw (c.in_ok-next-in-Some.ensures) refl
+
+pub returns : goal.returns
+returns c = grind (arith, common_steps)

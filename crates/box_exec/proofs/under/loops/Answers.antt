@@ -1,0 +1,9 @@
+use Rattle.std.proofs.Common.{arith}
+use Rattle.std.proofs.lemmas.Grind.{common_steps}
+use Rattle.box_exec.proofs.under.loops.Goals as goal
+
+pub loop-range-preserved : goal.loop-range-preserved
+loop-range-preserved c = grind (arith, common_steps)
+
+pub returns-clause-ranges : goal.returns-clause-ranges
+returns-clause-ranges c = grind (arith, common_steps)

@@ -1,0 +1,6 @@
+use Rattle.std.proofs.Common.{arith}
+use Rattle.std.proofs.lemmas.Grind.{common_steps}
+use Rattle.built_terms.proofs.ons.+on_folds.Goals as goal
+
+pub returns-in_ok-on_folds-in-Joined-2 : goal.returns-in_ok-on_folds-in-Joined-2
+returns-in_ok-on_folds-in-Joined-2 t c = grind (arith, common_steps)

@@ -1,0 +1,9 @@
+use Rattle.std.proofs.Common.{arith}
+use Rattle.std.proofs.lemmas.Grind.{common_steps}
+use Rattle.name_resolution.proofs.chain.both.Goals as goal
+
+pub returns-else-wants_all : goal.returns-else-wants_all
+returns-else-wants_all c = grind (arith, common_steps)
+
+pub returns-then-wants_all : goal.returns-then-wants_all
+returns-then-wants_all c = grind (arith, common_steps)

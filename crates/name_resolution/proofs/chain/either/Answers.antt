@@ -1,0 +1,9 @@
+use Rattle.std.proofs.Common.{arith}
+use Rattle.std.proofs.lemmas.Grind.{common_steps}
+use Rattle.name_resolution.proofs.chain.either.Goals as goal
+
+pub returns-else-wants_any : goal.returns-else-wants_any
+returns-else-wants_any c = grind (arith, common_steps)
+
+pub returns-then-wants_any : goal.returns-then-wants_any
+returns-then-wants_any c = grind (arith, common_steps)

@@ -1,0 +1,9 @@
+use Rattle.std.proofs.Common.{arith}
+use Rattle.std.proofs.lemmas.Grind.{common_steps}
+use Rattle.name_resolution.proofs.chain.product.Goals as goal
+
+pub returns-else-multiplies : goal.returns-else-multiplies
+returns-else-multiplies c = grind (arith, common_steps)
+
+pub returns-then-multiplies : goal.returns-then-multiplies
+returns-then-multiplies c = grind (arith, common_steps)

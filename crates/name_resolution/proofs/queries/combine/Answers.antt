@@ -1,0 +1,6 @@
+use Rattle.std.proofs.Common.{arith}
+use Rattle.std.proofs.lemmas.Grind.{common_steps}
+use Rattle.name_resolution.proofs.queries.combine.Goals as goal
+
+pub returns-clause-query : goal.returns-clause-query
+returns-clause-query c = grind (arith, common_steps)

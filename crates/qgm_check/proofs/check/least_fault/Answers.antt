@@ -1,0 +1,9 @@
+use Rattle.std.proofs.Common.{arith}
+use Rattle.std.proofs.lemmas.Grind.{common_steps}
+use Rattle.qgm_check.proofs.check.least_fault.Goals as goal
+
+pub loop-i-preserved : goal.loop-i-preserved
+loop-i-preserved c = grind (arith, common_steps)
+
+pub loop-i-preserved-then-not-branch : goal.loop-i-preserved-then-not-branch
+loop-i-preserved-then-not-branch c = grind (arith, common_steps)

@@ -1,0 +1,18 @@
+use Rattle.std.proofs.Common.{arith}
+use Rattle.std.proofs.lemmas.Grind.{common_steps}
+use Rattle.query_checks.proofs.depth.refused_marked.Goals as goal
+
+pub bounds-deep-0 : goal.bounds-deep-0
+bounds-deep-0 c = grind (arith, common_steps)
+
+pub loop-view-preserved : goal.loop-view-preserved
+loop-view-preserved c = grind (arith, common_steps)
+
+pub returns : goal.returns
+returns c = grind (arith, common_steps)
+
+pub returns-in-Some : goal.returns-in-Some
+returns-in-Some c = grind (arith, common_steps)
+
+pub returns-in_default : goal.returns-in_default
+returns-in_default c = grind (arith, common_steps)

@@ -1,0 +1,9 @@
+use Rattle.std.proofs.Common.{arith}
+use Rattle.std.proofs.lemmas.Grind.{common_steps}
+use Rattle.sql_parser.proofs.grammar.Grammar.null_if_rest.Goals as goal
+
+pub returns-in_default : goal.returns-in_default
+returns-in_default c = grind (arith, common_steps)
+
+pub returns-in_ok-b-in-Some-Comma-default : goal.returns-in_ok-b-in-Some-Comma-default
+returns-in_ok-b-in-Some-Comma-default c = grind (arith, common_steps)

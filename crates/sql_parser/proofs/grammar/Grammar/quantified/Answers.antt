@@ -1,0 +1,6 @@
+use Rattle.std.proofs.Common.{arith}
+use Rattle.std.proofs.lemmas.Grind.{common_steps}
+use Rattle.sql_parser.proofs.grammar.Grammar.quantified.Goals as goal
+
+pub returns-in_ok-query-in-Some-LeftParen-default : goal.returns-in_ok-query-in-Some-LeftParen-default
+returns-in_ok-query-in-Some-LeftParen-default c = grind (arith, common_steps)

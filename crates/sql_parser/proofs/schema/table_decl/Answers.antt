@@ -1,0 +1,15 @@
+use Rattle.std.proofs.Common.{arith}
+use Rattle.std.proofs.lemmas.Grind.{common_steps}
+use Rattle.sql_parser.proofs.schema.table_decl.Goals as goal
+
+pub returns : goal.returns
+returns c = grind (arith, common_steps)
+
+pub returns-in_default : goal.returns-in_default
+returns-in_default c = grind (arith, common_steps)
+
+pub returns-in_err-elements : goal.returns-in_err-elements
+returns-in_err-elements c = grind (arith, common_steps)
+
+pub returns-in_err-rest : goal.returns-in_err-rest
+returns-in_err-rest c = grind (arith, common_steps)
