@@ -1,6 +1,9 @@
 -- What a question that is ready is to the graph that is built of it.
-use Rattle.std.proofs.Common.{ℕ, ◌≡◌, ◌-◌, ◌++◌, ◌∙◌, List, [], Option, ap, map, min, subst, sym}
+use Rattle.std.proofs.Common.{ℕ, ◌≡◌, ◌-◌, ◌++◌, ◌∙◌, List, [], Option, None, ap, map, min, subst, sym}
+use Rattle.row_bag.specs.declared.tables.Table.{Table}
+use Rattle.sql_ast.specs.Declarations.{Declared}
 use Rattle.sql_ast.specs.Shown as written
+use Rattle.sql_catalog.specs.Catalog.{fault}
 use Rattle.sql_catalog.specs.Shown as catalogs
 use Rattle.sql_meaning.specs.Meaning.{order_key}
 use Rattle.sql_value.specs.declared.order_key.OrderKey.{OrderKey}
@@ -14,13 +17,12 @@ use Rattle.qgm_build.specs.Valid.{IsItsGraph, IsOfText, IsQueryOf}
 use Rattle.query_rewrite.specs.Answers.{IsRewritten}
 use Rattle.query_rewrite.specs.Explained.{IsExplained}
 use Rattle.rewrite_plan.specs.declared.plan.Plan.{Plan}
-use Rattle.sql_check.specs.Checked.{answer_of}
-use Rattle.qgm_app.specs.Questions.{answer_to, question_of}
-use Rattle.qgm_app.specs.Questions as asked
-use Rattle.qgm_app.specs.Ready.{IsReady}
+use Rattle.sql_check.specs.Checked.{IsFilled, answer_of}
+use Rattle.command_input.specs.Questions.{answer_to, question_of}
+use Rattle.command_input.specs.Questions as asked
+use Rattle.command_input.specs.Ready.{IsReady}
+use Rattle.command_input.specs.declared.question.Question.{Question}
 use Rattle.qgm_app.specs.Rewriting.{IsBuilt, IsExplanation, IsRun, names_of, order_of}
-use Rattle.qgm_app.specs.declared.question.Question.{Question}
-use Rattle.qgm_app.proofs.Sound.{filled}
 
 -- its query is one of the grammar over a schema, both valid
 is-valid : (q : Question) → IsReady q → ValidQuery (catalogs.catalog q.catalog) (written.query_text q.valid.query)
@@ -40,6 +42,10 @@ is-query q ready = record { views = ready.views.of_catalog; text = written.query
 -- its tables are of the schema
 pub has-tables : LoadedAreTables → (q : Question) → IsReady q → AreTablesOf (catalogs.catalog q.catalog) q.tables
 has-tables law q ready = law (catalogs.catalog q.catalog) q.tables ready.tables
+
+-- tables of a schema that isn't refused are what the checked query asks for
+filled : (catalog : Declared) (tables : List Table) → fault catalog ≡ None → AreTablesOf catalog tables → IsFilled catalog tables
+filled catalog tables valid are = record { valid = valid; declared = are.loaded; wide = are.wide }
 
 -- over them the checked query has its answer
 pub has-answer : LoadedAreTables → (q : Question) → IsReady q → answer_of q.views q.valid.checked q.tables ≡ answer_to (question_of q)

@@ -18,17 +18,17 @@ use Rattle.sql_meaning.specs.Meaning.{Answer, answer_of}
 use Rattle.sql_value.specs.declared.cell.Cell.{Cell}
 use Rattle.sql_value.specs.declared.cell.Kind.{Kind}
 use Rattle.sql_value.specs.declared.order_key.OrderKey.{OrderKey}
+use Rattle.command_input.specs.Printed.{printed, said_of, status_of}
+use Rattle.command_input.specs.Questions.{Question, answer_to}
+use Rattle.command_input.specs.declared.report.Report.{Report}
+use Rattle.command_input.specs.declared.report.Report.TheVariants.{Rows, Error, ExplainedError, Usage, SchemaRefused, ViewRefused, DataRefused, QueryRefused}
+use Rattle.command_input.specs.declared.report.Said.{Said}
 use Rattle.qgm_app.specs.Outcome.{End}
-use Rattle.qgm_app.specs.Printed.{printed, said_of, status_of}
-use Rattle.qgm_app.specs.Questions.{Question, answer_to}
-use Rattle.qgm_app.specs.Ready.{held_answer}
+use Rattle.qgm_app.specs.Held.{held_answer}
 use Rattle.qgm_app.specs.Rewriting.{IsBuilt, IsExplanation, IsRun}
 use Rattle.qgm_app.specs.Runs.{ComesTo, IsSaid, Prepares}
 use Rattle.qgm_app.specs.Telling.{IsErrorReport, IsReported, TellsBy, report_behind, row_number, summary}
 use Rattle.qgm_app.specs.declared.answers.Answered.{Answered}
-use Rattle.qgm_app.specs.declared.report.Report.{Report}
-use Rattle.qgm_app.specs.declared.report.Report.TheVariants.{Rows, Error, ExplainedError, Usage, SchemaRefused, ViewRefused, DataRefused, QueryRefused}
-use Rattle.qgm_app.specs.declared.report.Said.{Said}
 use Rattle.qgm_app.proofs.Asked.{is-run}
 
 -- ---- answers

@@ -1,103 +1,25 @@
--- How the stages of a command line fit together.
+-- How what is found for a command line and what is told of it fit together.
 use Rattle.std.specs.Prelude.{IfOk}
 use Rattle.std.proofs.Common.{ℕ, ◌≡◌, List, Option, Some, None, Result, Ok, Err, refl, sym, subst}
-use Rattle.csv_tables.specs.Load.{tables_of}
-use Rattle.csv_tables.specs.TableFile.{Refusal}
-use Rattle.io_edge.specs.Outcome.{Comes, Ended, Outcome, answered, done, ended, faulted, read, starved, ◌>>=◌}
+use Rattle.io_edge.specs.Outcome.{Comes, Outcome, answered, done, starved}
 use Rattle.io_edge.specs.Outside.{File, Told}
 use Rattle.io_edge.specs.declared.fetch.Interruption.{Interruption}
 use Rattle.io_edge.specs.declared.fetch.Interruption.TheVariants.{ReadFault, Memory}
 use Rattle.io_edge.proofs.Order.{comes-bind, comes-bind-faulted, comes-bind-starved, comes-done, comes-mapped, comes-starved}
-use Rattle.row_bag.specs.declared.tables.Table.{Table}
 use Rattle.shared_types.specs.declared.memory.OutOfMemory.{OutOfMemory}
-use Rattle.sql_ast.specs.Syntax as s
-use Rattle.sql_ast.specs.Declarations.{Declared}
-use Rattle.query_checks.specs.Views.{view_refusal}
 use Rattle.command_line.specs.Line.{LineText}
 use Rattle.command_line.specs.Reading.{line}
-use Rattle.qgm_app.specs.Outcome.{End, end_of, from_tables, outcome, refusing, with_catalog, with_line, with_query, with_tables, with_task, with_views}
-use Rattle.qgm_app.specs.Questions.{Found}
-use Rattle.qgm_app.specs.Printed.{said_of}
-use Rattle.qgm_app.specs.Runs.{ComesTold, Prepares, found_end}
+use Rattle.command_input.specs.Printed.{said_of}
+use Rattle.command_input.specs.Questions.{Found}
+use Rattle.command_input.specs.Stages.{found_end}
+use Rattle.command_input.specs.declared.report.Report.{Report}
+use Rattle.command_input.specs.declared.report.Report.TheVariants.{Usage}
+use Rattle.command_input.specs.declared.report.Said.{Said}
+use Rattle.qgm_app.specs.Outcome.{End, end_of, outcome, refusing, with_line, with_task}
+use Rattle.qgm_app.specs.Runs.{ComesTold, Prepares}
 use Rattle.qgm_app.specs.Telling.{Counts, CountsOf, Reports}
-use Rattle.qgm_app.specs.Texts.{catalog_of, valid_query}
-use Rattle.qgm_app.specs.declared.report.Report.{Report}
-use Rattle.qgm_app.specs.declared.report.Said.{Said}
-use Rattle.qgm_app.specs.declared.report.Report.TheVariants.{Usage, SchemaRefused, ViewRefused, QueryRefused}
 
 -- ---- what is found
-
--- a call that was interrupted interrupts what follows
-pub find-interrupted : {X : Type 0} (t u : Option Told) (o : List File → Outcome X) (f : X → List File → Outcome Found) (e : Interruption)
-    → Comes t u o (ended (Err e)) → Comes t u (λ fs. o fs >>= (λ x. f x fs)) (found_end (Err e))
-find-interrupted t u o f (ReadFault name) h = comes-bind-faulted t u o f _ h
-find-interrupted t u o f Memory h = comes-bind-starved t u o f h
-
--- the tables were read, or refused
-pub tables-read : (t u : Option Told) (dir : List ℕ) (catalog : Declared) (query : s.QueryText) (found : Result (List Table) Refusal)
-    → Comes t u (λ fs. tables_of catalog.tables dir fs) (answered found)
-    → Comes t u (λ fs. from_tables dir catalog query fs) (answered (with_tables catalog query found))
-tables-read t u dir catalog query found h = comes-mapped t u (λ fs. tables_of catalog.tables dir fs) (with_tables catalog query) found h
-
--- the read of a table failed
-pub tables-faulted : (t u : Option Told) (dir : List ℕ) (catalog : Declared) (query : s.QueryText) (name : List ℕ)
-    → Comes t u (λ fs. tables_of catalog.tables dir fs) (faulted name) → Comes t u (λ fs. from_tables dir catalog query fs) (faulted name)
-tables-faulted t u dir catalog query name h =
-    comes-bind-faulted t u (λ fs. tables_of catalog.tables dir fs) (λ found fs. done (with_tables catalog query found)) name h
-
--- memory ran out while the tables were read
-pub tables-starved : (t u : Option Told) (dir : List ℕ) (catalog : Declared) (query : s.QueryText)
-    → Comes t u (λ fs. tables_of catalog.tables dir fs) starved → Comes t u (λ fs. from_tables dir catalog query fs) starved
-tables-starved t u dir catalog query h = comes-bind-starved t u (λ fs. tables_of catalog.tables dir fs) (λ found fs. done (with_tables catalog query found)) h
-
--- the query's text was read, and then this was done with it
-pub text-of-query : (t u v : Option Told) (name dir : List ℕ) (catalog : Declared) (text : Option (List ℕ)) (end : Ended Found)
-    → Comes t u (λ fs. read fs name 65536) (answered text) → Comes u v (λ fs. with_query dir catalog fs (valid_query catalog text)) end
-    → Comes t v (λ fs. read fs name 65536 >>= (λ x. with_query dir catalog fs (valid_query catalog x))) end
-text-of-query t u v name dir catalog text end h k = comes-bind t u v (λ fs. read fs name 65536) (λ x fs. with_query dir catalog fs (valid_query catalog x)) text end h k
-
--- the query is refused
-pub query-refused : (t : Option Told) (dir : List ℕ) (catalog : Declared) (text : Option (List ℕ)) (number : ℕ) → valid_query catalog text ≡ Err number
-    → Comes t t (λ fs. with_query dir catalog fs (valid_query catalog text)) (answered (Err (QueryRefused number)))
-unfolding with_query
-query-refused t dir catalog text number is =
-    subst (λ (q : Result s.QueryText ℕ). Comes t t (λ fs. with_query dir catalog fs q) (answered (Err (QueryRefused number)))) (sym is) (comes-done t (Err (QueryRefused number)))
-
--- the query is valid, and the tables are next
-pub query-taken : (t u : Option Told) (dir : List ℕ) (catalog : Declared) (text : Option (List ℕ)) (query : s.QueryText) (end : Ended Found) → valid_query catalog text ≡ Ok query
-    → Comes t u (λ fs. from_tables dir catalog query fs) end → Comes t u (λ fs. with_query dir catalog fs (valid_query catalog text)) end
-unfolding with_query
-query-taken t u dir catalog text query end is h = subst (λ (q : Result s.QueryText ℕ). Comes t u (λ fs. with_query dir catalog fs q) end) (sym is) h
-
--- the schema's text was read, and then this was done with it
-pub text-of-schema : (t u v : Option Told) (name query dir : List ℕ) (text : Option (List ℕ)) (end : Ended Found)
-    → Comes t u (λ fs. read fs name 65536) (answered text) → Comes u v (λ fs. with_catalog query dir fs (catalog_of text)) end
-    → Comes t v (λ fs. read fs name 65536 >>= (λ x. with_catalog query dir fs (catalog_of x))) end
-text-of-schema t u v name query dir text end h k = comes-bind t u v (λ fs. read fs name 65536) (λ x fs. with_catalog query dir fs (catalog_of x)) text end h k
-
-pub schema-refused : (t : Option Told) (query dir : List ℕ) (text : Option (List ℕ)) (number : ℕ) → catalog_of text ≡ Err number
-    → Comes t t (λ fs. with_catalog query dir fs (catalog_of text)) (answered (Err (SchemaRefused number)))
-unfolding with_catalog
-schema-refused t query dir text number is =
-    subst (λ (catalog : Result Declared ℕ). Comes t t (λ fs. with_catalog query dir fs catalog) (answered (Err (SchemaRefused number)))) (sym is) (comes-done t (Err (SchemaRefused number)))
-
-pub schema-taken : (t u : Option Told) (query dir : List ℕ) (text : Option (List ℕ)) (catalog : Declared) (end : Ended Found) → catalog_of text ≡ Ok catalog
-    → Comes t u (λ fs. with_views query dir catalog fs (view_refusal catalog)) end → Comes t u (λ fs. with_catalog query dir fs (catalog_of text)) end
-unfolding with_catalog
-schema-taken t u query dir text catalog end is h = subst (λ (c : Result Declared ℕ). Comes t u (λ fs. with_catalog query dir fs c) end) (sym is) h
-
--- a view is refused
-pub view-refused : (t : Option Told) (query dir : List ℕ) (catalog : Declared) (view : List ℕ) (number : ℕ) → view_refusal catalog ≡ Some (view, number)
-    → Comes t t (λ fs. with_views query dir catalog fs (view_refusal catalog)) (answered (Err (ViewRefused view number)))
-unfolding with_views
-view-refused t query dir catalog view number is =
-    subst (λ (found : Option (List ℕ × ℕ)). Comes t t (λ fs. with_views query dir catalog fs found) (answered (Err (ViewRefused view number)))) (sym is) (comes-done t (Err (ViewRefused view number)))
-
--- the views are valid, and the query is next
-pub views-taken : (t u : Option Told) (query dir : List ℕ) (catalog : Declared) (end : Ended Found) → view_refusal catalog ≡ None
-    → Comes t u (λ fs. read fs query 65536 >>= (λ x. with_query dir catalog fs (valid_query catalog x))) end → Comes t u (λ fs. with_views query dir catalog fs (view_refusal catalog)) end
-unfolding with_views
-views-taken t u query dir catalog end is h = subst (λ (found : Option (List ℕ × ℕ)). Comes t u (λ fs. with_views query dir catalog fs found) end) (sym is) h
 
 -- nothing is read
 pub found-done : (t : Option Told) (found made : Found) → found ≡ made → Comes t t (λ fs. done made) (answered found)

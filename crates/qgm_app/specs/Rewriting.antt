@@ -10,7 +10,7 @@ use Rattle.query_rewrite.specs.Explained.{IsExplained}
 use Rattle.rewrite_plan.specs.declared.plan.Plan.{Plan}
 use Rattle.sql_meaning.specs.Meaning.{order_key}
 use Rattle.sql_value.specs.declared.order_key.OrderKey.{OrderKey}
-use Rattle.qgm_app.specs.Questions.{Question}
+use Rattle.command_input.specs.Questions.{Question}
 
 -- the names of the columns of a question's query
 abbrev pub names_of : Question → List (Option (List ℕ))

@@ -1,25 +1,17 @@
 -- What a run has done, held against the outcome that it is to come to.
 use Rattle.std.specs.Prelude.{ℕ, ◌≡◌, ◌≢◌, ⊤, List, length, Option, Some, None, IfSome, Result, Ok, Err, encode_utf8_all}
-use Rattle.io_edge.specs.Outcome.{AskedOf, Comes, Ended, Outcome, answered, faulted, failed_name, starved}
+use Rattle.io_edge.specs.Outcome.{AskedOf, Comes, Outcome, answered, faulted, failed_name, starved}
 use Rattle.io_edge.specs.Outside.{Ask, File, StopsShort, Told, with_asked, written_after}
 use Rattle.io_edge.specs.declared.fetch.Interruption.{Interruption}
 use Rattle.io_edge.specs.declared.fetch.Interruption.TheVariants.{ReadFault, Memory}
 use Rattle.shared_types.specs.declared.memory.OutOfMemory.{OutOfMemory}
 use Rattle.command_line.specs.Line.{TaskText, explain, gen, run}
+use Rattle.command_input.specs.Printed.{read_failed, said_of}
+use Rattle.command_input.specs.declared.report.Report.{Report}
+use Rattle.command_input.specs.declared.report.Report.TheVariants.{Usage}
+use Rattle.command_input.specs.declared.report.Said.{Said}
 use Rattle.qgm_app.specs.Outcome.{End}
-use Rattle.qgm_app.specs.Printed.{read_failed, said_of}
-use Rattle.qgm_app.specs.Questions.{Found, found_of}
 use Rattle.qgm_app.specs.Telling.{IsReported, Reports}
-use Rattle.qgm_app.specs.declared.question.Found as held
-use Rattle.qgm_app.specs.declared.report.Report.{Report}
-use Rattle.qgm_app.specs.declared.report.Report.TheVariants.{Usage}
-use Rattle.qgm_app.specs.declared.report.Said.{Said}
-
--- how the search for a question ended
-abbrev pub found_end : Result held.Found Interruption → Ended Found
-found_end (Ok found) = answered (found_of found)
-found_end (Err (ReadFault name)) = faulted (encode_utf8_all name)
-found_end (Err Memory) = starved
 
 -- what came of a command line, as `Comes`: a report of it, or the interruption
 abbrev pub ComesTold : Option Told → Option Told → (List File → Outcome End) → Result Report Interruption → Type 0

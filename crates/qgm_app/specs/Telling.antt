@@ -9,11 +9,11 @@ use Rattle.rewrite_plan.specs.declared.plan.Plan.{Plan}
 use Rattle.sql_value.specs.declared.cell.Kind.{Kind}
 use Rattle.sql_meaning.specs.Meaning.{Answer, answer_error, answer_rows}
 use Rattle.command_line.specs.Line.{LineText, TaskText, explain, gen, run}
+use Rattle.command_input.specs.Questions.{Question, answer_to}
+use Rattle.command_input.specs.declared.report.Report.{Report}
+use Rattle.command_input.specs.declared.report.Report.TheVariants.{Rows, Error, ExplainedError}
 use Rattle.qgm_app.specs.Outcome.{End, answering, refusing}
-use Rattle.qgm_app.specs.Questions.{Question, answer_to}
 use Rattle.qgm_app.specs.Rewriting.{IsExplanation, IsRun}
-use Rattle.qgm_app.specs.declared.report.Report.{Report}
-use Rattle.qgm_app.specs.declared.report.Report.TheVariants.{Rows, Error, ExplainedError}
 
 -- `run`: the rows in CSV, or the error
 abbrev pub report_of : Answer → Report

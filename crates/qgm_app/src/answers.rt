@@ -10,13 +10,14 @@ ghost use Rattle.row_bag.specs.declared.row.Row.{Row};
 ghost use Rattle.sql_check.specs.Checked.{rows_of};
 ghost use Rattle.sql_meaning.specs.Meaning.{answer_of};
 ghost use Rattle.sql_value.specs.declared.cell.Cell.{Cell};
+ghost use Rattle.command_input.specs.Ready.{IsReady};
+ghost use Rattle.command_input.specs.Questions.{answer_to, question_of};
 ghost use Rattle.qgm_app.specs.Alike.{AnswersAlike};
-ghost use Rattle.qgm_app.specs.Ready.{IsReady, answer_as, held_answer};
-ghost use Rattle.qgm_app.specs.Questions.{answer_to, question_of};
+ghost use Rattle.qgm_app.specs.Held.{answer_as, held_answer};
 ghost use Rattle.qgm_app.specs.Rewriting.{IsBuilt, IsExplanation, IsRun};
 
-use crate::question::Question;
 use built_queries::loaded_laws;
+use command_input::Question;
 use qgm_build::build;
 use qgm_check::fault_laws;
 use qgm_core::Graph;

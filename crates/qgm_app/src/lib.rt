@@ -1,14 +1,10 @@
-//! The whole of the program, over files and a sink that are handed in.
+//! The whole of the program, over files and a sink that are handed in: the answer to the question
+//! that a command asks, and what is told of it.
 #![tactic(auto)]
 
 mod answers;
-mod generated;
-mod question;
-mod report;
 mod respond;
 mod run;
-mod stages;
 mod telling;
-mod texts;
 
 pub use run::run_command;

@@ -6,11 +6,11 @@ ghost use Rattle.io_edge.specs.Outcome.{AskedOf, failed_name};
 ghost use Rattle.io_edge.specs.Outside.{Ask, StopsShort, written_after};
 ghost use Rattle.command_line.specs.Reading.{line};
 ghost use Rattle.sql_value.specs.declared.cell.Kind.{Kind};
-ghost use Rattle.qgm_app.specs.declared.report.Report.{Report};
-ghost use Rattle.qgm_app.specs.declared.report.Report.TheVariants.{Rows, SchemaRefused, ViewRefused, DataRefused, QueryRefused};
-ghost use Rattle.qgm_app.specs.declared.report.Said.{Said};
+ghost use Rattle.command_input.specs.declared.report.Report.{Report};
+ghost use Rattle.command_input.specs.declared.report.Report.TheVariants.{Rows, SchemaRefused, ViewRefused, DataRefused, QueryRefused};
+ghost use Rattle.command_input.specs.declared.report.Said.{Said};
+ghost use Rattle.command_input.specs.Printed.{printed, status_of};
 ghost use Rattle.qgm_app.specs.Outcome.{outcome};
-ghost use Rattle.qgm_app.specs.Printed.{printed, status_of};
 ghost use Rattle.qgm_app.specs.Telling.{CountsOf, IsErrorReport};
 ghost use Rattle.qgm_app.specs.Runs.{ComesTo, IsMade, IsSaid, Runs};
 

@@ -2,16 +2,16 @@
 ghost use Rattle.std.specs.Prelude.{◌≡◌, ◌≢◌, IfOk, encode_utf8_all};
 ghost use Rattle.command_line.specs.Line.{line_text};
 ghost use Rattle.generated_input.specs.Made.{depts};
-ghost use Rattle.qgm_app.specs.Ready.{IsReady, held_answer};
-ghost use Rattle.qgm_app.specs.Questions.{question_of};
+ghost use Rattle.command_input.specs.Ready.{IsReady};
+ghost use Rattle.command_input.specs.Questions.{question_of};
+ghost use Rattle.command_input.specs.declared.report.Report.TheVariants.{Rows, Usage};
+ghost use Rattle.qgm_app.specs.Held.{held_answer};
 ghost use Rattle.qgm_app.specs.Rewriting.{IsRun};
 ghost use Rattle.qgm_app.specs.Telling.{Counts, IsExplained, IsSummary, Tells, report_behind, report_of, row_number, summary};
 ghost use Rattle.qgm_app.specs.Outcome.{answering};
-ghost use Rattle.qgm_app.specs.declared.report.Report.TheVariants.{Rows, Usage};
 
 use crate::answers::{Answered, Explained, answer, explain};
-use crate::question::Question;
-use crate::report::Report;
+use command_input::{Question, Report};
 use command_line::{Line, Task};
 use csv_tables::write_rows;
 use row_bag::Verdict;

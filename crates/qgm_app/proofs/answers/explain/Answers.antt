@@ -2,7 +2,7 @@ use Rattle.std.proofs.Common.{ℕ, ◌≡◌, ◌∙◌, subst, sym}
 use Rattle.row_bag.specs.Verdict.{verdict}
 use Rattle.sql_check.specs.Checked.{rows_of}
 use Rattle.sql_meaning.specs.Meaning.{answer_of}
-use Rattle.qgm_app.specs.Questions.{answer_to, question_of}
+use Rattle.command_input.specs.Questions.{answer_to, question_of}
 use Rattle.qgm_app.specs.Rewriting.{IsRun}
 use Rattle.qgm_app.proofs.Asked.{has-answer}
 use Rattle.qgm_app.proofs.answers.explain.Goals as goal

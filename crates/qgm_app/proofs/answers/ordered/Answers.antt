@@ -3,7 +3,7 @@ use Rattle.std.proofs.lemmas.Grind.{common_steps}
 use Rattle.row_bag.specs.Verdict.{verdict}
 use Rattle.row_bag.specs.declared.outcome.Verdict.TheVariants.{Error, Rows}
 use Rattle.sql_meaning.specs.Meaning.{answer_of}
-use Rattle.qgm_app.specs.Ready.{answer_as}
+use Rattle.qgm_app.specs.Held.{answer_as}
 use Rattle.qgm_app.proofs.answers.ordered.Goals as goal
 
 pub returns-in_ok-sorted-in-Rows : goal.returns-in_ok-sorted-in-Rows

@@ -1,6 +1,6 @@
 use Rattle.qgm_meaning.specs.Meaning.{root_bag}
 use Rattle.sql_check.specs.Checked.{rows_of}
-use Rattle.qgm_app.specs.Questions.{question_of}
+use Rattle.command_input.specs.Questions.{question_of}
 use Rattle.qgm_app.proofs.Reported.{ran-rows, ran-run}
 use Rattle.qgm_app.proofs.answers.ran.Goals as goal
 

@@ -1,7 +1,7 @@
 use Rattle.std.proofs.Common.{refl, subst}
 use Rattle.row_bag.specs.Bags.{Agree}
 use Rattle.row_bag.specs.Sets.{same_cells}
-use Rattle.qgm_app.specs.Questions.{question_of}
+use Rattle.command_input.specs.Questions.{question_of}
 use Rattle.qgm_app.proofs.Asked.{is-explanation, is-run}
 use Rattle.qgm_app.proofs.answers.told.Goals as goal
 

@@ -1,7 +1,7 @@
 use Rattle.std.proofs.Common.{refl}
 use Rattle.std.proofs.lemmas.Result.{err_from_is_err_and}
 use Rattle.command_line.specs.Line.{line_text}
-use Rattle.qgm_app.specs.Questions.{found_of}
+use Rattle.command_input.specs.Questions.{found_of}
 use Rattle.qgm_app.proofs.Steps.{line-counts, line-interrupted, line-starved, line-told}
 use Rattle.qgm_app.proofs.respond.run_line.Goals as goal
 

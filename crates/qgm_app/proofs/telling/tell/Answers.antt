@@ -1,8 +1,8 @@
 use Rattle.std.proofs.Common.{ap}
 use Rattle.command_line.specs.Line.{task_text}
 use Rattle.command_line.specs.declared.task.Task.{Task}
-use Rattle.qgm_app.specs.Questions.{question_of}
-use Rattle.qgm_app.specs.Ready.{held_answer}
+use Rattle.command_input.specs.Questions.{question_of}
+use Rattle.qgm_app.specs.Held.{held_answer}
 use Rattle.qgm_app.proofs.Reported.{of-each, tells-explained, tells-summary}
 use Rattle.qgm_app.proofs.telling.tell.Goals as goal
 

@@ -1,0 +1,32 @@
+use Rattle.std.proofs.Common.{Err}
+use Rattle.std.proofs.lemmas.Result.{err_from_is_err_and}
+use Rattle.io_edge.specs.Outcome.{answered, read, starved}
+use Rattle.io_edge.proofs.Order.{comes-starved}
+use Rattle.sql_ast.specs.Shown as shown
+use Rattle.sql_catalog.specs.Shown as catalogs
+use Rattle.command_input.specs.Stages.{found_end, with_query}
+use Rattle.command_input.specs.Texts.{valid_query}
+use Rattle.command_input.specs.declared.report.Report.TheVariants.{QueryRefused}
+use Rattle.command_input.proofs.Steps.{find-interrupted, query-refused, query-taken, text-of-query}
+use Rattle.command_input.proofs.stages.find_query.Goals as goal
+
+pub returns-in_err-text-clause-comes : goal.returns-in_err-text-clause-comes
+returns-in_err-text-clause-comes g c =
+    let p = err_from_is_err_and c.from_residual.result c.from_residual.ensures.1 in
+    rw (p.1, p.2) (find-interrupted _ _ (λ fs. read fs c.args.query.now 65536)
+    (λ x fs. with_query c.args.dir.now (catalogs.catalog c.args.catalog) fs (valid_query (catalogs.catalog c.args.catalog) x)) c.in_err-text.field-0.0 c.in_err-text.ensures.comes)
+
+pub returns-in-Ok-clause-comes : goal.returns-in-Ok-clause-comes
+returns-in-Ok-clause-comes g c =
+    text-of-query _ _ _ c.args.query.now c.args.dir.now (catalogs.catalog c.args.catalog) c.in_ok-text.text (found_end c.find_tables.result) c.in_ok-text.ensures.comes
+    (query-taken _ _ c.args.dir.now (catalogs.catalog c.args.catalog) c.in_ok-text.text (shown.query_text c.in-Ok.valid.query) (found_end c.find_tables.result) c.in-Ok.ensures.gives c.find_tables.ensures.comes)
+
+pub returns-in-Err-Number-clause-comes : goal.returns-in-Err-Number-clause-comes
+returns-in-Err-Number-clause-comes g c =
+    rw c.in-Err-Number.field-0-is
+    (text-of-query _ _ _ c.args.query.now c.args.dir.now (catalogs.catalog c.args.catalog) c.in_ok-text.text (answered (Err (QueryRefused c.in-Err-Number.number))) c.in_ok-text.ensures.comes
+    (query-refused _ c.args.dir.now (catalogs.catalog c.args.catalog) c.in_ok-text.text c.in-Err-Number.number (rw c.in-Err-Number.field-0-is at c.in-Err-Number.ensures.gives)))
+
+pub returns-clause-comes : goal.returns-clause-comes
+returns-clause-comes g c =
+    text-of-query _ _ _ c.args.query.now c.args.dir.now (catalogs.catalog c.args.catalog) c.in_ok-text.text starved c.in_ok-text.ensures.comes (comes-starved _ _)

@@ -1,0 +1,51 @@
+-- What the program knows of a query that it has checked.
+use Rattle.std.specs.Prelude.{◌≡◌, ⊤, true, List, [], None, map}
+use Rattle.csv_tables.specs.Fits.{FitsSchema}
+use Rattle.row_bag.specs.declared.tables.Table.{Table}
+use Rattle.sql_ast.specs.Declarations.{Declared}
+use Rattle.sql_ast.specs.Grammatical.{is_query}
+use Rattle.sql_ast.specs.Shown as written
+use Rattle.sql_ast.specs.Syntax as s
+use Rattle.sql_catalog.specs.Catalog.{fault}
+use Rattle.sql_catalog.specs.Shown as catalogs
+use Rattle.sql_check.specs.Checked.{AreViews, IsFilled, answer_of}
+use Rattle.sql_check.specs.declared.checked.Checked.{Checked}
+use Rattle.sql_check.specs.declared.checked.Views.{Views}
+use Rattle.sql_meaning.specs.Meaning.{answer, known_of, order_key}
+use Rattle.sql_meaning.specs.ResolvedShown as shown
+use Rattle.query_checks.specs.Columns.{columns}
+use Rattle.query_checks.specs.Laws.{column_names}
+use Rattle.query_checks.specs.Views.{fault as query_fault, heads_of}
+use Rattle.name_resolution.specs.Resolved.{query}
+use Rattle.name_resolution.specs.Schema.{schema_columns}
+use Rattle.built_queries.specs.Buildable.{AreQueries}
+use Rattle.command_input.specs.declared.question.Found.{Found}
+use Rattle.command_input.specs.declared.question.Found.TheVariants.{Asked, Refused}
+use Rattle.command_input.specs.declared.question.Question.{Question}
+
+-- the views of a schema that isn't refused, and is of the grammar
+pub record AreReady (catalog : Declared) (views : Views) : Type 0 where
+  pub valid : fault catalog ≡ None
+  pub queries : AreQueries catalog.views
+  pub of_catalog : AreViews catalog views
+
+-- a text of the grammar is a valid query, and this is it with its names resolved: its columns, names and keys are the query's, and over all tables of the catalog it has the answer of the text
+pub record IsChecked (catalog : Declared) (views : Views) (text : s.QueryText) (x : Checked) : Type 0 where
+  pub grammar : is_query text.query ≡ true
+  pub valid : query_fault catalog text ≡ 0
+  pub query : shown.query x.query ≡ query (schema_columns catalog) [] text.query
+  pub columns : x.columns ≡ columns (heads_of catalog) text.query []
+  pub names : x.names ≡ column_names x.columns
+  pub order : x.order ≡ map (order_key x.names) text.order
+  pub answer : (tables : List Table) → IsFilled catalog tables → answer_of views x tables ≡ answer (known_of catalog tables) text
+
+-- a question may be answered: its query is checked, and its tables fit the catalog
+pub record IsReady (q : Question) : Type 0 where
+  pub views : AreReady (catalogs.catalog q.catalog) q.views
+  pub checked : IsChecked (catalogs.catalog q.catalog) q.views (written.query_text q.valid.query) q.valid.checked
+  pub tables : FitsSchema (catalogs.catalog q.catalog).tables q.tables
+
+-- a question that was found may be
+abbrev pub IsFoundReady : Found → Type 0
+IsFoundReady (Asked q) = IsReady q
+IsFoundReady (Refused report) = ⊤

@@ -1,0 +1,130 @@
+// The stages of reading: each reads a file, and hands what it holds to the next.
+ghost use Rattle.std.specs.Prelude.{◌≡◌, ◌≢◌, ◌≤◌, None, IfOk};
+ghost use Rattle.io_edge.specs.Outcome.{Comes, RoseIfFault};
+ghost use Rattle.sql_ast.specs.Shown as shown;
+ghost use Rattle.sql_catalog.specs.Catalog.{fault};
+ghost use Rattle.sql_catalog.specs.Shown as catalogs;
+ghost use Rattle.query_checks.specs.Views.{view_refusal};
+ghost use Rattle.built_queries.specs.Buildable.{AreQueries};
+ghost use Rattle.command_input.specs.declared.question.Found.TheVariants.{Refused};
+ghost use Rattle.command_input.specs.declared.report.Report.TheVariants.{Usage};
+ghost use Rattle.command_input.specs.Ready.{AreReady, IsChecked, IsFoundReady};
+ghost use Rattle.command_input.specs.Stages.{found_end, from_query, from_schema, from_tables, with_views};
+
+use crate::question::{Found, Question};
+use crate::report::Report;
+use crate::texts::{TextRefusal, Valid, read_catalog, read_query};
+use csv_tables::{DataRefusal, load};
+use io_edge::{Files, Interruption, fetch_file};
+use query_checks::ViewRefusal;
+use sql_catalog::Catalog;
+use sql_check::{Views, check_views};
+use std::alloc::Global;
+
+/// The greatest number of bytes of a text.
+const MAX_TEXT: usize = 65_536;
+
+// Reads the tables of a valid query.
+fn find_tables<F: Files>(
+    alloc: Global,
+    dir: &str,
+    catalog: Catalog,
+    views: Views,
+    valid: Valid,
+    files: &mut F,
+) -> Result<Found, Interruption>
+    requires ready { AreReady (catalogs.catalog catalog) views }
+    requires checked { IsChecked (catalogs.catalog catalog) views (shown.query_text valid.query) valid.checked }
+    ensures comes { Comes (F.told files.old) (F.told files.new) (λ fs. from_tables dir.now (catalogs.catalog catalog) (shown.query_text valid.query) fs) (found_end result) }
+    ensures later { F.faults files.old ≤ F.faults files.new }
+    ensures failed { RoseIfFault result (F.faults files.old) (F.faults files.new) }
+    ensures line { IfOk result (λ found. found ≢ Refused Usage) }
+    ensures ready { IfOk result (λ found. IsFoundReady found) }
+{
+    match load(alloc, &catalog, dir, files) {
+        Ok(tables) => Ok(Found::Asked(Question {
+            catalog,
+            views,
+            valid,
+            tables,
+        })),
+        Err(DataRefusal::Refused { number, table, row }) => {
+            Ok(Found::Refused(Report::DataRefused { number, table, row }))
+        }
+        Err(DataRefusal::ReadFault { name }) => Err(Interruption::ReadFault { name }),
+        Err(DataRefusal::Memory) => Err(Interruption::Memory),
+    }
+}
+
+// Reads the query, and goes on to the tables.
+fn find_query<F: Files>(
+    alloc: Global,
+    query: &str,
+    dir: &str,
+    catalog: Catalog,
+    views: Views,
+    files: &mut F,
+) -> Result<Found, Interruption>
+    requires ready { AreReady (catalogs.catalog catalog) views }
+    ensures comes { Comes (F.told files.old) (F.told files.new) (λ fs. from_query query.now dir.now (catalogs.catalog catalog) fs) (found_end result) }
+    ensures later { F.faults files.old ≤ F.faults files.new }
+    ensures failed { RoseIfFault result (F.faults files.old) (F.faults files.new) }
+    ensures line { IfOk result (λ found. found ≢ Refused Usage) }
+    ensures ready { IfOk result (λ found. IsFoundReady found) }
+{
+    let text = fetch_file(alloc, files, query, MAX_TEXT)?;
+    match read_query(alloc, &catalog, &views, &text) {
+        Ok(valid) => find_tables(alloc, dir, catalog, views, valid, files),
+        Err(TextRefusal::Number(number)) => Ok(Found::Refused(Report::QueryRefused(number))),
+        Err(TextRefusal::Memory) => Err(Interruption::Memory),
+    }
+}
+
+// Checks the views of a catalog, and goes on to the query.
+fn find_views<F: Files>(
+    alloc: Global,
+    query: &str,
+    dir: &str,
+    catalog: Catalog,
+    files: &mut F,
+) -> Result<Found, Interruption>
+    requires valid { fault (catalogs.catalog catalog) ≡ None }
+    requires queries { AreQueries (catalogs.catalog catalog).views }
+    ensures comes { Comes (F.told files.old) (F.told files.new) (λ fs. with_views query.now dir.now (catalogs.catalog catalog) fs (view_refusal (catalogs.catalog catalog))) (found_end result) }
+    ensures later { F.faults files.old ≤ F.faults files.new }
+    ensures failed { RoseIfFault result (F.faults files.old) (F.faults files.new) }
+    ensures line { IfOk result (λ found. found ≢ Refused Usage) }
+    ensures ready { IfOk result (λ found. IsFoundReady found) }
+{
+    match check_views(alloc, &catalog) {
+        Ok(views) => find_query(alloc, query, dir, catalog, views, files),
+        Err(ViewRefusal::Refused { view, number }) => {
+            Ok(Found::Refused(Report::ViewRefused { view, number }))
+        }
+        Err(ViewRefusal::Memory) => Err(Interruption::Memory),
+    }
+}
+
+/// Reads the schema, the query and the tables, files of these names and in this directory: a valid
+/// query over tables that fit, or the first refusal. It fails where a read fails, with its name, or
+/// where memory runs out.
+pub fn find_question<F: Files>(
+    alloc: Global,
+    schema: &str,
+    query: &str,
+    dir: &str,
+    files: &mut F,
+) -> Result<Found, Interruption>
+    ensures comes { Comes (F.told files.old) (F.told files.new) (λ fs. from_schema schema.now query.now dir.now fs) (found_end result) }
+    ensures later { F.faults files.old ≤ F.faults files.new }
+    ensures failed { RoseIfFault result (F.faults files.old) (F.faults files.new) }
+    ensures line { IfOk result (λ found. found ≢ Refused Usage) }
+    ensures ready { IfOk result (λ found. IsFoundReady found) }
+{
+    let text = fetch_file(alloc, files, schema, MAX_TEXT)?;
+    match read_catalog(alloc, &text) {
+        Ok(catalog) => find_views(alloc, query, dir, catalog, files),
+        Err(TextRefusal::Number(number)) => Ok(Found::Refused(Report::SchemaRefused(number))),
+        Err(TextRefusal::Memory) => Err(Interruption::Memory),
+    }
+}
