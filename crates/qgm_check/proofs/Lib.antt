@@ -6,5 +6,6 @@ pub mod Seen
 pub mod Kept
 pub mod Faults
 pub mod Tables
+pub mod Upward
 pub mod ClosedLaws
 pub mod Rounds

@@ -1,6 +1,7 @@
 pub mod Columns
 pub mod Places
 pub mod Types
+pub mod Known
 pub mod View
 pub mod Shapes
 pub mod Closed

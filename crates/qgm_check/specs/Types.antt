@@ -1,9 +1,10 @@
 -- The types of columns, and where types disagree.
-use Rattle.std.specs.Prelude.{ℕ, ◌≡◌, ◌==◌, ◌-◌, nat_eq, ◌&&◌, zero, suc, if◌then◌else◌, Bool, true, false, List, [], ◌∷◌, map, length, Option, Some, None, slice_get}
+use Rattle.std.specs.Prelude.{ℕ, ◌≡◌, ◌==◌, ◌-◌, nat_eq, nat_lt, ◌&&◌, zero, suc, if◌then◌else◌, Bool, true, false, List, [], ◌∷◌, map, length, Option, Some, None, slice_get}
 use Rattle.std.specs.HashMap.{HashMap, get}
 use Rattle.std.specs.List.{list_all}
 use Rattle.sql_value.specs.declared.order_key.SqlType.{SqlType}
 use Rattle.sql_value.specs.declared.order_key.SqlType.TheVariants.{Integer, Varchar}
+use Rattle.qgm_core.specs.Free.{named_by}
 use Rattle.qgm_core.specs.Lists.{first}
 use Rattle.qgm_core.specs.declared.kinds.BoxKind.{BoxKind}
 use Rattle.qgm_core.specs.declared.kinds.BoxKind.TheVariants.{Base, Select, Group, SetOp, OuterJoin}
@@ -211,10 +212,24 @@ abbrev pub row_at : List Typed → Option ℕ → Option Typed
 row_at table None = None
 row_at table (Some i) = slice_get table i
 
+-- what a quantifier ranges over stands behind place i, if it ranges over a box
+abbrev pub is_behind : ℕ → Option ℕ → Bool
+is_behind i None = true
+is_behind i (Some p) = nat_lt i p
+
 module _ {S : Type 0} where
   -- the type of a column, where the places of the boxes are known
   abbrev pub type_at : List Typed → HashMap ℕ ℕ S → Lookup
   type_at table places q k = type_in k (row_at table (get nat_eq places q))
+
+  -- a box at place i names only quantifiers over boxes behind it
+  abbrev pub reads_behind : HashMap ℕ ℕ S → ℕ → Node → Bool
+  reads_behind places i n = list_all (λ q. is_behind i (get nat_eq places q)) (named_by n)
+
+  -- each of the boxes from place i on names only quantifiers over boxes behind it
+  abbrev pub all_read_behind : HashMap ℕ ℕ S → ℕ → List Node → Bool
+  all_read_behind places i [] = true
+  all_read_behind places i (n ∷ ns) = reads_behind places i n && all_read_behind places (suc i) ns
 
 -- the types of all columns are known, and the places of the boxes
 abbrev pub Knows : List Node → KnownTypes → Type 0

@@ -3,9 +3,9 @@ ghost use Rattle.std.specs.Prelude.{◌≡◌, ◌++◌, [], Some, None, false, 
 ghost use Rattle.std.specs.List.{list_any, list_all};
 ghost use Rattle.qgm_core.specs.Boxes.{all_over, ids_in, ids_of, overs_in, owns};
 ghost use Rattle.qgm_core.specs.Free.{named_by};
-ghost use Rattle.qgm_check.specs.Types.{Knows};
 ghost use Rattle.qgm_check.specs.View.{in_view};
 ghost use Rattle.qgm_check.specs.Sentences.{IsFault, WellFormed};
+ghost use Rattle.qgm_check.specs.Known.{IsKnown};
 ghost use Rattle.qgm_check.specs.WellFormed as spec;
 ghost use Rattle.qgm_check.specs.declared.check.Fault.{Fault};
 ghost use Rattle.qgm_check.specs.declared.check.IllFormed.TheVariants.{Fails, Memory};
@@ -136,11 +136,30 @@ fn overs_in(alloc: Global, nodes: &[Node]) -> Result<Vec<BoxId>, OutOfMemory>
     Ok(overs)
 }
 
-fn owned_once(alloc: Global, nodes: &[Node], node: &Node) -> Result<bool, OutOfMemory>
-    ensures { IfOk result (λ k. k ≡ spec.owned_once nodes.now node.now) }
+// Whether each quantifier of a box stands once among these.
+fn owned_once(ids: &[QuantId], node: &Node) -> bool
+    ensures { result ≡ list_all (λ r. spec.once r.id ids.now) node.now.quants }
 {
-    let ids = ids_in(alloc, nodes)?;
-    Ok(node.quants.as_slice().iter().all(|r| once(r.id, &ids)))
+    node.quants.as_slice().iter().all(|r| once(r.id, ids))
+}
+
+// What is looked up once for all boxes: types, the quantifiers that boxes own, and the boxes that
+// these range over.
+#[derive(Drop)]
+struct Known {
+    types: KnownTypes,
+    ids: Vec<QuantId>,
+    overs: Vec<BoxId>,
+}
+
+fn known_of_all(alloc: Global, nodes: &[Node]) -> Result<Known, OutOfMemory>
+    ensures { IfOk result (λ known. IsKnown nodes.now known) }
+{
+    Ok(Known {
+        types: known_of(alloc, nodes)?,
+        ids: ids_in(alloc, nodes)?,
+        overs: overs_in(alloc, nodes)?,
+    })
 }
 
 // Whether an F or S quantifier ranges over the box.
@@ -196,14 +215,20 @@ fn names_in_view(
 }
 
 #[tactic(auto, using(crate::proofs::Stand::or_true, crate::proofs::Stand::or_none))]
-fn opened_once(alloc: Global, root: BoxId, nodes: &[Node], node: &Node) -> Result<bool, OutOfMemory>
+fn opened_once(
+    alloc: Global,
+    root: BoxId,
+    nodes: &[Node],
+    overs: &[BoxId],
+    node: &Node,
+) -> Result<bool, OutOfMemory>
+    requires { overs.now ≡ overs_in nodes.now }
     ensures { IfOk result (λ k. k ≡ spec.opened_once root nodes.now node.now) }
 {
-    let overs = overs_in(alloc, nodes)?;
     if node.id == root {
-        return Ok(!is_marked(&overs, node.id));
+        return Ok(!is_marked(overs, node.id));
     }
-    if once(node.id, &overs) {
+    if once(node.id, overs) {
         return Ok(true);
     }
     is_closed(alloc, nodes, node.id)
@@ -215,21 +240,21 @@ fn keeps(
     clause: Clause,
     root: BoxId,
     nodes: &[Node],
-    known: &KnownTypes,
+    known: &Known,
     below: &[Node],
     node: &Node,
 ) -> Result<bool, OutOfMemory>
-    requires { Knows nodes.now known.now }
+    requires { IsKnown nodes.now known.now }
     ensures { IfOk result (λ k. k ≡ spec.keeps clause root nodes.now below.now node.now) }
 {
     match clause {
         Clause::I1 => ids_known(alloc, nodes, node),
-        Clause::I2 => owned_once(alloc, nodes, node),
+        Clause::I2 => Ok(owned_once(&known.ids, node)),
         Clause::I3 => Ok(all_over(below, node.quants.as_slice())),
         Clause::I4 => columns_fit(alloc, nodes, node),
-        Clause::I5 => Ok(types_agree(known, node)),
+        Clause::I5 => Ok(types_agree(&known.types, node)),
         Clause::I6 => names_in_view(alloc, root, nodes, node),
-        Clause::I7 => opened_once(alloc, root, nodes, node),
+        Clause::I7 => opened_once(alloc, root, nodes, &known.overs, node),
         Clause::I8 => Ok(permit_unseen(root, nodes, node)),
         Clause::I9 => shape_fits(alloc, root, nodes, node),
     }
@@ -274,9 +299,9 @@ fn least_fault(
     clause: Clause,
     root: BoxId,
     nodes: &[Node],
-    known: &KnownTypes,
+    known: &Known,
 ) -> Result<Option<BoxId>, OutOfMemory>
-    requires { Knows nodes.now known.now }
+    requires { IsKnown nodes.now known.now }
     ensures { IfOk result (λ b. b ≡ spec.least (spec.faults clause root nodes.now nodes.now)) }
 {
     let mut best = at_no_box(clause, root, nodes);
@@ -297,9 +322,9 @@ fn first_fault(
     clauses: &[Clause],
     root: BoxId,
     nodes: &[Node],
-    known: &KnownTypes,
+    known: &Known,
 ) -> Result<Option<Fault>, OutOfMemory>
-    requires { Knows nodes.now known.now }
+    requires { IsKnown nodes.now known.now }
     ensures { IfOk result (λ f. f ≡ spec.first_fault clauses.now root nodes.now) }
 {
     for clause in clauses {
@@ -329,7 +354,7 @@ fn find_fault(alloc: Global, graph: &Graph) -> Result<Option<Fault>, OutOfMemory
         Clause::I9,
     ];
     let nodes = graph.nodes();
-    let known = known_of(alloc, nodes)?;
+    let known = known_of_all(alloc, nodes)?;
     first_fault(alloc, &clauses, graph.root(), nodes, &known)
 }
 

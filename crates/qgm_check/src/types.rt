@@ -1,11 +1,13 @@
 // The types of expressions and columns.
-ghost use Rattle.std.specs.Prelude.{◌≡◌, ◌&&◌, map, option_map, IfOk};
+ghost use Rattle.std.specs.Prelude.{◌≡◌, ◌&&◌, length, map, nat_eq, option_map, IfOk};
+ghost use Rattle.std.specs.HashMap.{get};
 ghost use Rattle.std.specs.List.{list_all};
 ghost use Rattle.qgm_core.specs.Lists.{first};
 ghost use Rattle.qgm_terms.specs.Shown.{choices, cond, conds, links, term, terms};
 ghost use Rattle.qgm_check.specs.Places.{ArePlaces};
 ghost use Rattle.qgm_check.specs.Types as spec;
 
+use crate::closed::names_of;
 use crate::places::{Places, places_of};
 use qgm_core::{BoxId, BoxKind, Node, OwnedQuant, QuantId};
 use qgm_terms::{Arm, Gc, Gx, Link, Op};
@@ -372,7 +374,11 @@ fn same_tables(a: &[Typed], b: &[Typed]) -> bool
 }
 
 // The types of the columns of all boxes, looked up as often as there are boxes, or until they stay.
-fn types_of(alloc: Global, nodes: &[Node], places: &Places) -> Result<Vec<Typed>, OutOfMemory>
+fn types_in_rounds(
+    alloc: Global,
+    nodes: &[Node],
+    places: &Places,
+) -> Result<Vec<Typed>, OutOfMemory>
     requires { ArePlaces nodes.now places.now }
     ensures { IfOk result (λ ts. ts.items ≡ spec.types_of nodes.now) }
 {
@@ -385,6 +391,80 @@ fn types_of(alloc: Global, nodes: &[Node], places: &Places) -> Result<Vec<Typed>
         table = next;
     }
     Ok(table)
+}
+
+// A row for each box, with no column.
+fn blank_rows(alloc: Global, nodes: &[Node]) -> Result<Vec<Typed>, OutOfMemory>
+    ensures { IfOk result (λ rows. length rows.items ≡ length nodes.now) }
+{
+    let mut rows = Vec::new(alloc);
+    for node in nodes {
+        rows.push(Typed {
+            id: node.id,
+            types: Items::new(alloc),
+        })?;
+    }
+    Ok(rows)
+}
+
+// A guess: the types of the columns of all boxes, looked up once, the lowest box first.
+fn types_upward(alloc: Global, nodes: &[Node], places: &Places) -> Result<Vec<Typed>, OutOfMemory>
+    ensures { IfOk result (λ rows. length rows.items ≡ length nodes.now) }
+{
+    let mut rows = blank_rows(alloc, nodes)?;
+    let mut i = nodes.len();
+    while i > 0 {
+        i -= 1;
+        let row = types_in(alloc, &rows, places, &nodes[i])?;
+        rows[i] = row;
+    }
+    Ok(rows)
+}
+
+// Whether what a quantifier ranges over stands behind this place, if it ranges over a box.
+fn is_behind(places: &Places, i: usize, q: QuantId) -> bool
+    ensures { result ≡ spec.is_behind i (get nat_eq places.now q) }
+{
+    match places.get(&q) {
+        Some(place) => i < *place,
+        None => true,
+    }
+}
+
+// Whether a box at this place names only quantifiers over boxes behind it.
+fn reads_behind(alloc: Global, places: &Places, i: usize, node: &Node) -> Result<bool, OutOfMemory>
+    ensures { IfOk result (λ b. b ≡ spec.reads_behind places.now i node.now) }
+{
+    let names = names_of(alloc, node)?;
+    Ok(names.iter().all(|q| is_behind(places, i, *q)))
+}
+
+// Whether each box names only quantifiers over boxes behind it.
+fn all_read_behind(alloc: Global, nodes: &[Node], places: &Places) -> Result<bool, OutOfMemory>
+    ensures { IfOk result (λ b. b ≡ spec.all_read_behind places.now 0 nodes.now) }
+{
+    for i in 0..nodes.len() {
+        if !reads_behind(alloc, places, i, &nodes[i])? {
+            return Ok(false);
+        }
+    }
+    Ok(true)
+}
+
+// The types of the columns of all boxes. Where each box names only boxes behind it, one look from
+// the last to the first finds them.
+fn types_of(alloc: Global, nodes: &[Node], places: &Places) -> Result<Vec<Typed>, OutOfMemory>
+    requires { ArePlaces nodes.now places.now }
+    ensures { IfOk result (λ ts. ts.items ≡ spec.types_of nodes.now) }
+{
+    if all_read_behind(alloc, nodes, places)? {
+        let guess = types_upward(alloc, nodes, places)?;
+        let next = typed_all(alloc, nodes, &guess, places)?;
+        if same_tables(&guess, &next) {
+            return Ok(next);
+        }
+    }
+    types_in_rounds(alloc, nodes, places)
 }
 
 /// What is known of types: those of all columns, and where the boxes stand.
