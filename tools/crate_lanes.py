@@ -84,6 +84,16 @@ def lines_in(name, ending):
     return count
 
 
+def cost_of(name):
+    """Returns about how long a proof of the crate takes, in lines of code: a `?`, where a function may end early, counts as 15."""
+    questions = 0
+    for file in texts_of(name):
+        if file.endswith(".rt"):
+            with open(file, "rb") as it:
+                questions += it.read().count(b"?")
+    return lines_in(name, ".rt") + 15 * questions
+
+
 def locked(folders):
     """Returns what keeps every other rt and launcher out of these folders until it is closed, as rt itself does."""
     held = []
@@ -152,13 +162,14 @@ class Lanes:
         self.below, self.room, self.left, self.running = below, room, [*below], {}
         self.lanes = len(os.sched_getaffinity(0))
         self.code = {it: lines_in(it, ".rt") for it in below}
+        self.cost = {it: cost_of(it) for it in below}
         with open("/proc/meminfo") as it:
             self.memory = 0.85 * 1024 * int(re.search(r"MemAvailable:\s+(\d+)", it.read())[1])
         self.told, self.told_at = None, 0
 
     def behind(self, name):
-        """Returns the lines of code of the longest chain of crates that wait for this one, itself among them."""
-        return self.code[name] + max((self.behind(it) for it in self.below if name in self.below[it]), default=0)
+        """Returns how long the proofs of the longest chain of crates that wait for this one take, itself among them."""
+        return self.cost[name] + max((self.behind(it) for it in self.below if name in self.below[it]), default=0)
 
     def need(self, name):
         """Returns about how much memory a proof of the crate takes, in bytes."""
