@@ -8,10 +8,11 @@ use crate::bindings::{Bindings, cell_at};
 use crate::early::{Early, is_none};
 use crate::evaluation::value;
 use qgm_core::{Gc, Gx, QuantId};
-use qgm_terms::{Sought, stands_in};
+use qgm_terms::Sought;
 use shared_types::OutOfMemory;
 use sql_value::{Cell, CmpOp, compare};
 use std::alloc::Global;
+use term_contents::stands_in;
 
 /// A column, and the cell that it is to equal in a row.
 #[derive(Drop)]

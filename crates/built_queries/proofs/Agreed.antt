@@ -12,9 +12,9 @@ use Rattle.qgm_core.specs.declared.owned.OwnedQuant.{OwnedQuant}
 use Rattle.qgm_core.specs.declared.kinds.BoxKind.{BoxKind}
 use Rattle.qgm_core.specs.declared.kinds.BoxKind.TheVariants.{Base, Select, Group, SetOp, OuterJoin}
 use Rattle.qgm_terms.specs.Terms.{Cond, Term}
-use Rattle.qgm_check.specs.Types.{Lookup, all_agree, arm_agrees, arms_agree, column_type, cond_fits, is_known, known, term_type, types_after, types_agree, types_of}
+use Rattle.qgm_formed.specs.Types.{Lookup, all_agree, arm_agrees, arms_agree, column_type, cond_fits, is_known, known, term_type, types_after, types_agree, types_of}
 use Rattle.qgm_core.specs.Free.{reached as reached_by}
-use Rattle.qgm_check.specs.View.{viewers}
+use Rattle.qgm_formed.specs.View.{viewers}
 use Rattle.qgm_shown.specs.Maps.{Map, fresh}
 use Rattle.qgm_shown.specs.Shown as v
 use Rattle.qgm_shown.specs.Shown.{Shows, ShowsBox, Thing, of_query}

@@ -19,8 +19,8 @@ use Rattle.qgm_core.specs.declared.kinds.SetOperator as forms
 use Rattle.qgm_terms.specs.Terms as t
 use Rattle.qgm_terms.specs.Terms.{Term, Cond}
 use Rattle.qgm_terms.specs.declared.named.QuantNode.{QuantNode}
-use Rattle.qgm_check.specs.Shapes.{node_fits}
-use Rattle.qgm_check.specs.View.{is_row}
+use Rattle.qgm_formed.specs.Shapes.{node_fits}
+use Rattle.qgm_formed.specs.View.{is_row}
 use Rattle.qgm_shown.specs.Leaves as w
 use Rattle.qgm_shown.specs.Leaves.{Leaf, Slots, after, list_leaves, test_leaves}
 use Rattle.qgm_shown.specs.Maps.{Frame, Map, Ref, column, fresh, fresh_in, is_apart, none_counted, nothing, ref_term}

@@ -18,10 +18,10 @@ use Rattle.qgm_terms.specs.Terms as t
 use Rattle.qgm_terms.specs.Terms.{Cond, Term}
 use Rattle.qgm_terms.specs.declared.named.QuantNode.{QuantNode}
 use Rattle.qgm_terms.specs.declared.named.QuantNode.TheVariants as node
-use Rattle.qgm_check.specs.Columns.{box_under, columns_of, fits, over_box, within}
-use Rattle.qgm_check.specs.Shapes.{node_fits, nodes_of}
-use Rattle.qgm_check.specs.Types.{column_type, types_after, types_by, types_found}
-use Rattle.qgm_check.specs.WellFormed.{once}
+use Rattle.qgm_formed.specs.Columns.{box_under, columns_of, fits, over_box, within}
+use Rattle.qgm_formed.specs.Shapes.{node_fits, nodes_of}
+use Rattle.qgm_formed.specs.Types.{column_type, types_after, types_by, types_found}
+use Rattle.qgm_formed.specs.WellFormed.{once}
 use Rattle.qgm_shown.specs.Maps.{Map}
 use Rattle.qgm_shown.specs.Sources.{Sources}
 use Rattle.qgm_laws.proofs.Lists.{any-from}

@@ -19,12 +19,12 @@ use Rattle.qgm_core.specs.declared.kinds.BoxKind.TheVariants.{Base}
 use Rattle.qgm_core.specs.declared.kinds.QuantKind.{QuantKind}
 use Rattle.qgm_terms.specs.declared.named.QuantNode.{QuantNode}
 use Rattle.qgm_terms.specs.declared.named.QuantNode.TheVariants as node
-use Rattle.qgm_check.specs.Columns.{columns_fit, places_fit}
-use Rattle.qgm_check.specs.Shapes.{is_scalar, is_scalar_in, node_fits, shape_fits}
-use Rattle.qgm_check.specs.View.{in_view, is_row, viewers}
-use Rattle.qgm_check.specs.WellFormed.{at_no_box, clauses, fault, fault_or, faults, first_fault, ids_known, is_counted, is_empty, keeps, least, names_in_view, once, opened_once, owned_once, permit_unseen}
-use Rattle.qgm_check.specs.declared.check.Clause.{Clause}
-use Rattle.qgm_check.specs.declared.check.Clause.TheVariants.{I1, I2, I3, I4, I5, I6, I7, I8, I9}
+use Rattle.qgm_formed.specs.Columns.{columns_fit, places_fit}
+use Rattle.qgm_formed.specs.Shapes.{is_scalar, is_scalar_in, node_fits, shape_fits}
+use Rattle.qgm_formed.specs.View.{in_view, is_row, viewers}
+use Rattle.qgm_formed.specs.WellFormed.{at_no_box, clauses, fault, fault_or, faults, first_fault, ids_known, is_counted, is_empty, keeps, least, names_in_view, once, opened_once, owned_once, permit_unseen}
+use Rattle.qgm_formed.specs.declared.clause.Clause.{Clause}
+use Rattle.qgm_formed.specs.declared.clause.Clause.TheVariants.{I1, I2, I3, I4, I5, I6, I7, I8, I9}
 use Rattle.qgm_shown.specs.Maps.{Map, fresh}
 use Rattle.qgm_shown.specs.Shown as v
 use Rattle.qgm_shown.specs.Shown.{Shows, Thing, of_operand, of_query, uses}

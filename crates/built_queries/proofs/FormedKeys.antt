@@ -14,7 +14,7 @@ use Rattle.qgm_core.specs.declared.kinds.QuantKind.{QuantKind}
 use Rattle.qgm_terms.specs.declared.named.QuantNode.{QuantNode}
 use Rattle.qgm_shown.specs.Leaves as w
 use Rattle.qgm_shown.specs.Leaves.{Leaf}
-use Rattle.qgm_check.specs.View.{is_row}
+use Rattle.qgm_formed.specs.View.{is_row}
 use Rattle.qgm_shown.specs.Maps.{Frame, column, fresh_in, is_apart, none_counted, nothing}
 use Rattle.qgm_shown.specs.Shown as v
 use Rattle.built_queries.specs.Typed.{FoldsTo, Found, IsOf, Scope}

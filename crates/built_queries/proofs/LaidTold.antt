@@ -14,9 +14,9 @@ use Rattle.qgm_terms.specs.Terms.{Aggregate, Term}
 use Rattle.qgm_terms.specs.Terms as t
 use Rattle.qgm_terms.specs.declared.tree.Op.{Op}
 use Rattle.qgm_terms.specs.declared.tree.Op.TheVariants.{Add, Sub, Mul, Div, Cat}
-use Rattle.qgm_check.specs.Columns.{box_under, over_box}
-use Rattle.qgm_check.specs.Types.{Lookup, arms_fit, integer_if, is_integer, is_known, is_varchar, joined_column, known, term_type, type_if, type_in, types_by, varchar_if}
-use Rattle.qgm_check.specs.Types as c
+use Rattle.qgm_formed.specs.Columns.{box_under, over_box}
+use Rattle.qgm_formed.specs.Types.{Lookup, arms_fit, integer_if, is_integer, is_known, is_varchar, joined_column, known, term_type, type_if, type_in, types_by, varchar_if}
+use Rattle.qgm_formed.specs.Types as c
 use Rattle.qgm_shown.specs.Lay.{Boxes, column_types}
 use Rattle.qgm_shown.specs.Lays.{EachHasTypes, EachRanges, HasTypes, Ranges}
 use Rattle.qgm_shown.specs.Sources.{Sources}

@@ -14,9 +14,9 @@ use Rattle.qgm_terms.specs.Named.{names_in}
 use Rattle.qgm_terms.specs.Terms as t
 use Rattle.qgm_terms.specs.Terms.{Term, Cond}
 use Rattle.qgm_terms.specs.declared.named.QuantNode.{QuantNode}
-use Rattle.qgm_check.specs.Columns.{over_box}
-use Rattle.qgm_check.specs.Types.{column_type, cond_fits, is_typed, joined_column, known, term_type, type_found, type_in, types_after, types_by, types_found}
-use Rattle.qgm_check.specs.declared.types.Typed.{Typed}
+use Rattle.qgm_formed.specs.Columns.{over_box}
+use Rattle.qgm_formed.specs.Types.{column_type, cond_fits, is_typed, joined_column, known, term_type, type_found, type_in, types_after, types_by, types_found}
+use Rattle.qgm_formed.specs.declared.types.Typed.{Typed}
 use Rattle.qgm_shown.specs.Maps.{Map}
 use Rattle.qgm_shown.specs.Sources.{Sources}
 use Rattle.qgm_laws.proofs.Levels as laws

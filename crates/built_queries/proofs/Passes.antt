@@ -9,8 +9,8 @@ use Rattle.qgm_core.specs.Kinds.{is_F, is_select}
 use Rattle.qgm_core.specs.Lists.{In, holds, times}
 use Rattle.qgm_core.specs.declared.node.Node.{Node}
 use Rattle.qgm_core.specs.declared.owned.OwnedQuant.{OwnedQuant}
-use Rattle.qgm_check.specs.View.{is_row, scoped, shown_by, viewers}
-use Rattle.qgm_check.specs.WellFormed.{is_empty}
+use Rattle.qgm_formed.specs.View.{is_row, scoped, shown_by, viewers}
+use Rattle.qgm_formed.specs.WellFormed.{is_empty}
 use Rattle.qgm_shown.specs.Shown.{over_in, uses}
 use Rattle.qgm_laws.proofs.Lists.{clash, eq-itself, or-left, or-right}
 use Rattle.qgm_laws.proofs.Times.{times-append}

@@ -15,7 +15,7 @@ use Rattle.sql_catalog.specs.declared.descriptor.ColumnDescriptor.{ColumnDescrip
 use Rattle.sql_catalog.specs.declared.descriptor.KeyDescriptor.{KeyDescriptor}
 use Rattle.sql_catalog.specs.declared.key.Key.{Key}
 use Rattle.query_checks.proofs.Members.{Each}
-use Rattle.qgm_check.specs.Columns.{places_fit, within}
+use Rattle.qgm_formed.specs.Columns.{places_fit, within}
 use Rattle.qgm_core.specs.declared.kinds.BoxKind.TheVariants.{Base}
 use Rattle.built_queries.proofs.Accepted.{each_not, good_keys, or_first, or_second}
 use Rattle.built_queries.proofs.Nesting.{found_each}

@@ -8,7 +8,7 @@ use Rattle.qgm_core.specs.Boxes.{Ordered, all_over, has_box, ids_in, is_box, ove
 use Rattle.qgm_core.specs.Free.{reached}
 use Rattle.qgm_core.specs.Kinds.{is_F, is_select}
 use Rattle.qgm_core.specs.Lists.{In, holds, times}
-use Rattle.qgm_check.specs.View.{is_row}
+use Rattle.qgm_formed.specs.View.{is_row}
 use Rattle.qgm_core.specs.declared.node.Node.{Node}
 use Rattle.qgm_core.specs.declared.owned.OwnedQuant.{OwnedQuant}
 use Rattle.qgm_terms.specs.Terms.{Term}
@@ -16,7 +16,7 @@ use Rattle.qgm_shown.specs.Maps.{Map, fresh}
 use Rattle.qgm_shown.specs.Shown as v
 use Rattle.qgm_shown.specs.Shown.{Shows, ShowsBox, Thing, over_in, uses}
 use Rattle.qgm_shown.specs.Sources.{Sources}
-use Rattle.qgm_check.specs.Types.{column_type, term_type, types_after}
+use Rattle.qgm_formed.specs.Types.{column_type, term_type, types_after}
 use Rattle.qgm_laws.proofs.Lists.{all-in, clash, eq-itself, or-right}
 use Rattle.built_queries.specs.Typed.{Scope}
 use Rattle.built_queries.proofs.Parts.{Is}

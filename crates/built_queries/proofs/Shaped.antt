@@ -21,8 +21,8 @@ use Rattle.qgm_terms.specs.Terms as t
 use Rattle.qgm_terms.specs.Terms.{Cond, Term}
 use Rattle.qgm_terms.specs.Wanted.{has_aggregate, has_aggregate_cond, reads, reads_cond}
 use Rattle.qgm_terms.specs.declared.named.QuantNode.{QuantNode}
-use Rattle.qgm_check.specs.Shapes.{are_F, arm_fits, columns_placed, head_folds, head_is_own, is_aggregate, is_column, is_none, is_unfolded, kind_fits, looks_up, role_fits, width_found}
-use Rattle.qgm_check.specs.View.{is_row}
+use Rattle.qgm_formed.specs.Shapes.{are_F, arm_fits, columns_placed, head_folds, head_is_own, is_aggregate, is_column, is_none, is_unfolded, kind_fits, looks_up, role_fits, width_found}
+use Rattle.qgm_formed.specs.View.{is_row}
 use Rattle.qgm_shown.specs.Leaves as w
 use Rattle.qgm_shown.specs.Leaves.{Leaf}
 use Rattle.qgm_shown.specs.Maps.{Map, fresh, ref_term}

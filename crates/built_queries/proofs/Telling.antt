@@ -14,9 +14,9 @@ use Rattle.qgm_terms.specs.Terms as t
 use Rattle.qgm_terms.specs.Terms.{Aggregate, Arms, Cond, Sign, Term}
 use Rattle.qgm_terms.specs.declared.tree.Op.{Op}
 use Rattle.qgm_terms.specs.declared.tree.Op.TheVariants.{Add, Sub, Mul, Div, Cat}
-use Rattle.qgm_check.specs.Columns.{box_under, over_box}
-use Rattle.qgm_check.specs.Types.{Lookup, agree, aggregate_type, arms_fit, column_type, cond_fits, integer_if, is_integer, is_known, is_typed, joined_column, op_type, sign_fits, term_type, type_found, type_if, type_in, types_after, types_by}
-use Rattle.qgm_check.specs.declared.types.Typed.{Typed}
+use Rattle.qgm_formed.specs.Columns.{box_under, over_box}
+use Rattle.qgm_formed.specs.Types.{Lookup, agree, aggregate_type, arms_fit, column_type, cond_fits, integer_if, is_integer, is_known, is_typed, joined_column, op_type, sign_fits, term_type, type_found, type_if, type_in, types_after, types_by}
+use Rattle.qgm_formed.specs.declared.types.Typed.{Typed}
 use Rattle.qgm_shown.specs.Sources.{Sources}
 use Rattle.built_queries.specs.Formed.{Told}
 use Rattle.built_queries.specs.Told.{GivesBack, TellsBy, columns_by}

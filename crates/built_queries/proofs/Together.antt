@@ -18,8 +18,8 @@ use Rattle.qgm_core.specs.declared.owned.OwnedQuant.{OwnedQuant}
 use Rattle.qgm_terms.specs.Terms as t
 use Rattle.qgm_terms.specs.Terms.{Arms, Cond, Sign, Term}
 use Rattle.qgm_terms.specs.declared.named.QuantNode.{QuantNode}
-use Rattle.qgm_check.specs.Columns.{over_box}
-use Rattle.qgm_check.specs.Types.{column_type, is_typed, joined_column, known, type_found, type_in, types_after, types_by, types_found}
+use Rattle.qgm_formed.specs.Columns.{over_box}
+use Rattle.qgm_formed.specs.Types.{column_type, is_typed, joined_column, known, type_found, type_in, types_after, types_by, types_found}
 use Rattle.qgm_shown.specs.Law.{IsBuiltOf}
 use Rattle.qgm_shown.specs.Maps.{Map, ref_term}
 use Rattle.qgm_shown.specs.Shown as v

@@ -8,7 +8,7 @@ use Rattle.qgm_core.specs.declared.node.Node.{Node}
 use Rattle.qgm_terms.specs.Terms as t
 use Rattle.qgm_terms.specs.Terms.{Term, Arms, Cond}
 use Rattle.qgm_terms.specs.declared.named.QuantNode.{QuantNode}
-use Rattle.qgm_check.specs.Types.{Lookup, agree, aggregate_type, arms_fit, cond_fits, integer_if, is_integer, is_known, known, term_type, type_if, types_by}
+use Rattle.qgm_formed.specs.Types.{Lookup, agree, aggregate_type, arms_fit, cond_fits, integer_if, is_integer, is_known, known, term_type, type_if, types_by}
 use Rattle.qgm_shown.specs.Maps.{Map}
 use Rattle.qgm_shown.specs.Sources.{Sources}
 use Rattle.built_queries.specs.Alike.{Like, LikeArms, LikeCond, LikeHeads, like_always, like_and, like_arm, like_both, like_choose, like_col, like_compare, like_count, like_every, like_fold, like_int, like_is_null, like_minus, like_no_arm, like_not, like_null_int, like_null_text, like_or, like_scalar, like_some, like_text}

@@ -10,7 +10,7 @@ use Rattle.qgm_terms.specs.Terms.{Term, Arms, Cond, Sign}
 use Rattle.qgm_terms.specs.declared.named.QuantNode.{QuantNode}
 use Rattle.qgm_terms.specs.declared.tree.Op.{Op}
 use Rattle.qgm_terms.specs.declared.tree.Op.TheVariants.{Add, Sub, Mul, Div, Cat}
-use Rattle.qgm_check.specs.Types.{Lookup, agree, aggregate_type, arms_fit, cond_fits, integer_if, is_integer, is_known, is_varchar, known, op_type, sign_fits, term_type, type_if, types_by}
+use Rattle.qgm_formed.specs.Types.{Lookup, agree, aggregate_type, arms_fit, cond_fits, integer_if, is_integer, is_known, is_varchar, known, op_type, sign_fits, term_type, type_if, types_by}
 use Rattle.qgm_shown.specs.Maps.{Map}
 use Rattle.qgm_shown.specs.Sources.{Sources}
 use Rattle.built_queries.proofs.Boxes as boxes

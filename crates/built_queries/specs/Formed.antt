@@ -11,9 +11,9 @@ use Rattle.qgm_core.specs.Lists.{In, first, times}
 use Rattle.qgm_core.specs.declared.kinds.BoxKind.TheVariants.{Base}
 use Rattle.qgm_core.specs.declared.node.Node.{Node}
 use Rattle.qgm_terms.specs.Terms.{Term}
-use Rattle.qgm_check.specs.Types.{column_type, is_typed, known, term_type, types_after, types_agree, types_found, types_of}
-use Rattle.qgm_check.specs.Columns.{places_fit}
-use Rattle.qgm_check.specs.WellFormed.{fault}
+use Rattle.qgm_formed.specs.Types.{column_type, is_typed, known, term_type, types_after, types_agree, types_found, types_of}
+use Rattle.qgm_formed.specs.Columns.{places_fit}
+use Rattle.qgm_formed.specs.WellFormed.{fault}
 use Rattle.qgm_shown.specs.Law.{IsBuiltOf}
 use Rattle.qgm_shown.specs.Shown.{Shows, of_operand, uses}
 use Rattle.qgm_shown.specs.Sources.{Sources}

@@ -4,8 +4,8 @@ use Rattle.sql_value.specs.declared.order_key.SqlType.{SqlType}
 use Rattle.sql_value.specs.declared.order_key.SqlType.TheVariants.{Integer}
 use Rattle.qgm_core.specs.Boxes.{QueryGraph}
 use Rattle.qgm_terms.specs.Terms.{Term, null_int, null_text}
-use Rattle.qgm_check.specs.WellFormed.{fault}
-use Rattle.qgm_check.specs.declared.check.Clause.TheVariants.{I5}
+use Rattle.qgm_formed.specs.WellFormed.{fault}
+use Rattle.qgm_formed.specs.declared.clause.Clause.TheVariants.{I5}
 use Rattle.qgm_shown.specs.Refused.{texts_boxes}
 use Rattle.qgm_shown.specs.Samples.{graph, query, sources}
 use Rattle.built_queries.specs.Formed.{SourcesTyped}

@@ -18,7 +18,7 @@ use Rattle.qgm_core.specs.Boxes.{Ordered, QueryGraph, ids_in}
 use Rattle.qgm_core.specs.Lists.{times}
 use Rattle.qgm_terms.specs.Terms.{Term}
 use Rattle.qgm_meaning.specs.Meaning.{root_bag}
-use Rattle.qgm_check.specs.WellFormed.{fault}
+use Rattle.qgm_formed.specs.WellFormed.{fault}
 use Rattle.built_queries.specs.Formed.{SharedOrOnce, Told, TypesFound}
 use Rattle.qgm_shown.specs.Buildable.{Buildable}
 use Rattle.qgm_shown.specs.Law.{IsBuiltOf, StandFor}

@@ -17,7 +17,7 @@ use Rattle.qgm_core.specs.Numbered.{Under}
 use Rattle.qgm_core.specs.declared.kinds.BaseTable.{BaseTable}
 use Rattle.qgm_core.specs.declared.node.Node.{Node}
 use Rattle.qgm_terms.specs.Terms.{Term}
-use Rattle.qgm_check.specs.WellFormed.{fault}
+use Rattle.qgm_formed.specs.WellFormed.{fault}
 use Rattle.qgm_shown.specs.Lay.{Boxes, Laid}
 use Rattle.qgm_shown.specs.Sources.{Sources}
 use Rattle.qgm_shown.specs.There.{EachForOne}

@@ -3,9 +3,9 @@ use Rattle.std.specs.Prelude.{◌≡◌, ℕ, List, Some}
 use Rattle.sql_value.specs.declared.order_key.SqlType.{SqlType}
 use Rattle.qgm_core.specs.declared.node.Node.{Node}
 use Rattle.qgm_terms.specs.Terms.{Term}
-use Rattle.qgm_check.specs.Columns.{box_under}
-use Rattle.qgm_check.specs.Types.{Lookup, term_type, type_in, types_by}
-use Rattle.qgm_check.specs.declared.types.Typed.{Typed}
+use Rattle.qgm_formed.specs.Columns.{box_under}
+use Rattle.qgm_formed.specs.Types.{Lookup, term_type, type_in, types_by}
+use Rattle.qgm_formed.specs.declared.types.Typed.{Typed}
 use Rattle.qgm_shown.specs.Sources.{Sources}
 use Rattle.built_queries.specs.Formed.{Told}
 

@@ -4,8 +4,9 @@ ghost use Rattle.box_exec.specs.Ready.{AllFit};
 
 use crate::faults::LineError;
 use box_exec::{execute, execution_laws};
-use qgm_check::{IllFormed, check_graph, fault_laws};
+use qgm_check::{IllFormed, check_graph};
 use qgm_core::Graph;
+use qgm_formed::fault_laws;
 use qgm_laws::checked_laws;
 use row_bag::{Bag, Row, Tables, Verdict, sorted, verdict};
 use sql_value::{Cell, Kind};

@@ -19,8 +19,8 @@ use Rattle.qgm_core.specs.declared.kinds.SetOperator.{SetOperator}
 use Rattle.qgm_core.specs.declared.kinds.SetOperator.TheVariants.{Union, UnionAll, Intersect, IntersectAll, Except, ExceptAll}
 use Rattle.qgm_core.specs.declared.node.Node.{Node}
 use Rattle.qgm_core.specs.declared.owned.OwnedQuant.{OwnedQuant}
-use Rattle.qgm_check.specs.Types.{Lookup, lookup_of, term_type}
-use Rattle.qgm_check.specs.WellFormed.{is_empty}
+use Rattle.qgm_formed.specs.Types.{Lookup, lookup_of, term_type}
+use Rattle.qgm_formed.specs.WellFormed.{is_empty}
 use Rattle.qgm_terms.specs.Terms.{Cond, Term}
 use Rattle.rewrite_plan.specs.declared.plan.Walk.TheVariants.{Depth}
 use Rattle.graph_print.specs.Places.{place_in}

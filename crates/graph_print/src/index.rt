@@ -7,8 +7,8 @@ ghost use Rattle.qgm_core.specs.Boxes.{is_box, quants_in};
 ghost use Rattle.qgm_core.specs.Lists.{first};
 
 use crate::numbers::Places;
-use qgm_check::{KnownTypes, column_types};
 use qgm_core::{BoxId, Graph, Node};
+use qgm_formed::{KnownTypes, column_types};
 use shared_types::OutOfMemory;
 use std::alloc::Global;
 

@@ -1,6 +1,6 @@
 // The answer to a question, by the graph that is built of it.
 ghost use Rattle.std.specs.Prelude.{◌≡◌, IfOk, List};
-ghost use Rattle.qgm_check.specs.Sentences.{WellFormed};
+ghost use Rattle.qgm_formed.specs.Sentences.{WellFormed};
 ghost use Rattle.qgm_meaning.specs.Meaning.{root_bag};
 ghost use Rattle.qgm_meaning.specs.Satisfies.{Satisfies};
 ghost use Rattle.row_bag.specs.Bags.{Agree};
@@ -19,8 +19,8 @@ ghost use Rattle.qgm_app.specs.Rewriting.{IsBuilt, IsExplanation, IsRun};
 use built_queries::loaded_laws;
 use command_input::Question;
 use qgm_build::build;
-use qgm_check::fault_laws;
 use qgm_core::Graph;
+use qgm_formed::fault_laws;
 use query_rewrite::{Answered as Ran, answered, explained};
 use rewrite_plan::Plan;
 use row_bag::{Bag, Verdict, bag_laws, sorted, verdict};

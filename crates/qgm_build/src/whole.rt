@@ -8,7 +8,7 @@ ghost use Rattle.qgm_core.specs.Free.{Reaches};
 ghost use Rattle.qgm_core.specs.Lists.{In};
 ghost use Rattle.qgm_core.specs.declared.node.Node.{Node};
 ghost use Rattle.qgm_meaning.specs.Meaning.{root_bag};
-ghost use Rattle.qgm_check.specs.WellFormed.{fault};
+ghost use Rattle.qgm_formed.specs.WellFormed.{fault};
 ghost use Rattle.qgm_shown.specs.Lay.{lay_by};
 ghost use Rattle.qgm_shown.specs.Lay as l;
 ghost use Rattle.qgm_shown.specs.Whole as spec;

@@ -1,10 +1,1 @@
-pub mod Columns
-pub mod Places
-pub mod Types
 pub mod Known
-pub mod View
-pub mod Shapes
-pub mod Closed
-pub mod WellFormed
-pub mod Sentences
-pub mod Laws

@@ -3,54 +3,22 @@ ghost use Rattle.std.specs.Prelude.{◌≡◌, ◌++◌, [], Some, None, false, 
 ghost use Rattle.std.specs.List.{list_any, list_all};
 ghost use Rattle.qgm_core.specs.Boxes.{all_over, ids_in, ids_of, overs_in, owns};
 ghost use Rattle.qgm_core.specs.Free.{named_by};
-ghost use Rattle.qgm_check.specs.View.{in_view};
-ghost use Rattle.qgm_check.specs.Sentences.{IsFault, WellFormed};
+ghost use Rattle.qgm_formed.specs.View.{in_view};
+ghost use Rattle.qgm_formed.specs.Sentences.{IsFault, WellFormed};
 ghost use Rattle.qgm_check.specs.Known.{IsKnown};
-ghost use Rattle.qgm_check.specs.WellFormed as spec;
-ghost use Rattle.qgm_check.specs.declared.check.Fault.{Fault};
+ghost use Rattle.qgm_formed.specs.WellFormed as spec;
+ghost use Rattle.qgm_formed.specs.declared.clause.Fault.{Fault};
 ghost use Rattle.qgm_check.specs.declared.check.IllFormed.TheVariants.{Fails, Memory};
 
-use crate::closed::{is_closed, names_of};
 use crate::columns_fit::columns_fit;
 use crate::kinds::{is_f_or_s, is_permit};
 use crate::shapes::shape_fits;
-use crate::types::{KnownTypes, known_of, types_agree};
 use crate::view::in_view;
 use qgm_core::{BoxId, Graph, Node, OwnedQuant, QuantId, has_box, has_quant, is_marked, mark_each};
+use qgm_formed::{Clause, Fault, KnownTypes, is_closed, known_of, names_of, types_agree};
 use shared_types::OutOfMemory;
 use std::alloc::Global;
 use thiserror::Error;
-
-/// What a graph must keep.
-#[derive(Clone, Copy, Debug, PartialEq, Eq)]
-pub enum Clause {
-    /// Each number that is named is that of a box or a quantifier of the graph.
-    I1,
-    /// Each quantifier has one owner.
-    I2,
-    /// Each quantifier ranges over a box of lower rank than its owner.
-    I3,
-    /// Each column that is named is there.
-    I4,
-    /// Types agree.
-    I5,
-    /// Each name is in view, and the root has no free quantifier.
-    I6,
-    /// Each open box has one quantifier over it, and the root has none.
-    I7,
-    /// A PERMIT box isn't the root and has no F or S quantifier over it.
-    I8,
-    /// Each box has the shape of its kind and role.
-    I9,
-}
-
-/// A clause that fails, and the least box at which it does; the greatest `usize` for a root that
-/// the graph lacks.
-#[derive(Clone, Copy, Debug, PartialEq, Eq)]
-pub struct Fault {
-    pub clause: Clause,
-    pub at: BoxId,
-}
 
 /// Why a graph isn't well-formed.
 #[derive(Clone, Copy, Debug, PartialEq, Eq, Error)]
@@ -214,7 +182,7 @@ fn names_in_view(
     Ok(seen && closed)
 }
 
-#[tactic(auto, using(crate::proofs::Stand::or_true, crate::proofs::Stand::or_none))]
+#[tactic(auto, using(qgm_formed::proofs::Stand::or_true, qgm_formed::proofs::Stand::or_none))]
 fn opened_once(
     alloc: Global,
     root: BoxId,

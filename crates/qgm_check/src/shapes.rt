@@ -7,21 +7,21 @@ ghost use Rattle.qgm_core.specs.Lists.{first};
 ghost use Rattle.qgm_terms.specs.Named.{names_in};
 ghost use Rattle.qgm_terms.specs.Wanted.{has_aggregate};
 ghost use Rattle.qgm_terms.specs.Shown.{links, term, terms};
-ghost use Rattle.qgm_check.specs.Shapes as spec;
+ghost use Rattle.qgm_formed.specs.Shapes as spec;
 
-use crate::closed::is_free_alone;
 use crate::columns_fit::{box_at, width};
 use crate::kinds::{is_a, is_e, is_enforce, is_f, is_magic, is_plain, is_preserve, is_s};
-use crate::types::both;
 use qgm_core::{
     BoxId, BoxKind, Column, Gx, Link, Node, OwnedQuant, QuantId, QuantNode, Role, has_range,
 };
-use qgm_terms::{
-    Sought, add_columns_of_cells, add_names_of_cells, add_nodes_of_cells, add_nodes_of_conds,
-    has_aggregate, stands_in_cells, stands_in_conds,
-};
+use qgm_formed::is_free_alone;
+use qgm_terms::{Sought, add_names_of_cells, both};
 use shared_types::OutOfMemory;
 use std::alloc::Global;
+use term_contents::{
+    add_columns_of_cells, add_nodes_of_cells, add_nodes_of_conds, has_aggregate, stands_in_cells,
+    stands_in_conds,
+};
 
 // Whether no operand stands behind the first one.
 fn is_alone(list: &[Link]) -> bool

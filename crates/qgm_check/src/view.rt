@@ -1,6 +1,6 @@
 // Which quantifiers are in view in a box.
 ghost use Rattle.std.specs.Prelude.{◌≡◌, ◌++◌, [], false, OnOk, IfOk};
-ghost use Rattle.qgm_check.specs.View as spec;
+ghost use Rattle.qgm_formed.specs.View as spec;
 
 use crate::kinds::{is_f, is_select};
 use qgm_core::{Marks, Node, OwnedQuant, QuantId, has_range, mark_overs};

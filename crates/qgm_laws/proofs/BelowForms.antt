@@ -6,7 +6,7 @@ use Rattle.qgm_core.specs.Edits.{move_below, moved_below}
 use Rattle.qgm_core.specs.Kinds.{is_permit}
 use Rattle.qgm_core.specs.Lists.{EachOnce, In}
 use Rattle.qgm_core.specs.declared.node.Node.{Node}
-use Rattle.qgm_check.specs.WellFormed.{fault}
+use Rattle.qgm_formed.specs.WellFormed.{fault}
 use Rattle.qgm_meaning.specs.Scope.{loose}
 use Rattle.qgm_laws.specs.FormedEdits.{MayMoveBelow}
 use Rattle.qgm_laws.specs.Graph.{Sound}

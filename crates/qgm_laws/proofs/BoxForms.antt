@@ -8,10 +8,10 @@ use Rattle.qgm_core.specs.Kinds.{is_F_or_S, is_S, is_fed, is_magic, is_permit}
 use Rattle.qgm_core.specs.Lists.{EachOnce, In, holds}
 use Rattle.qgm_core.specs.declared.node.Node.{Node}
 use Rattle.qgm_core.specs.declared.owned.OwnedQuant.{OwnedQuant}
-use Rattle.qgm_check.specs.Columns.{columns_fit}
-use Rattle.qgm_check.specs.Shapes.{fed_by, is_scalar_in, shape_fits}
-use Rattle.qgm_check.specs.Types.{lookup_of, types_agree, types_by}
-use Rattle.qgm_check.specs.WellFormed.{fault}
+use Rattle.qgm_formed.specs.Columns.{columns_fit}
+use Rattle.qgm_formed.specs.Shapes.{fed_by, is_scalar_in, shape_fits}
+use Rattle.qgm_formed.specs.Types.{lookup_of, types_agree, types_by}
+use Rattle.qgm_formed.specs.WellFormed.{fault}
 use Rattle.qgm_meaning.specs.Scope.{loose, read_by}
 use Rattle.qgm_laws.specs.Graph.{Sound}
 use Rattle.qgm_laws.specs.Reforms.{BoxForm, BoxesFormed, FedAlone, Reforms, Stood}

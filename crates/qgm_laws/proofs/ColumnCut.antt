@@ -15,7 +15,7 @@ use Rattle.qgm_core.specs.declared.owned.OwnedQuant.{OwnedQuant}
 use Rattle.qgm_terms.specs.Named.{names_in, nodes_in, nodes_in_cond}
 use Rattle.qgm_terms.specs.Terms.{Term}
 use Rattle.qgm_terms.specs.Wanted.{has_aggregate, has_aggregate_cond, reads, reads_cond}
-use Rattle.qgm_check.specs.Shapes.{are_F, head_folds, head_is_own, is_aggregate, is_column, is_none, is_scalar, is_unfolded, kind_fits, looks_up, node_fits, role_fits, shape_fits}
+use Rattle.qgm_formed.specs.Shapes.{are_F, head_folds, head_is_own, is_aggregate, is_column, is_none, is_scalar, is_unfolded, kind_fits, looks_up, node_fits, role_fits, shape_fits}
 use Rattle.qgm_laws.specs.FormedColumn.{keys_of}
 use Rattle.qgm_laws.specs.Graph.{BareBy}
 use Rattle.qgm_laws.proofs.Column.{length-remove}

@@ -12,8 +12,8 @@ use Rattle.qgm_core.specs.declared.owned.OwnedQuant.{OwnedQuant}
 use Rattle.qgm_terms.specs.Named.{columns_in, columns_in_cond}
 use Rattle.qgm_terms.specs.Wanted.{reads}
 use Rattle.qgm_terms.specs.declared.named.Column.{Column}
-use Rattle.qgm_check.specs.Columns.{box_under, columns_fit, columns_of, fits, places_fit, within}
-use Rattle.qgm_check.specs.Shapes.{columns_through, is_scalar_in, magic_found, shape_fits, width_found}
+use Rattle.qgm_formed.specs.Columns.{box_under, columns_fit, columns_of, fits, places_fit, within}
+use Rattle.qgm_formed.specs.Shapes.{columns_through, is_scalar_in, magic_found, shape_fits, width_found}
 use Rattle.qgm_meaning.specs.Scope.{loose}
 use Rattle.qgm_laws.specs.Changes.{LosesColumn, is_set_op}
 use Rattle.qgm_laws.specs.FormedAdds.{types_asked}

@@ -16,8 +16,8 @@ use Rattle.qgm_terms.specs.Terms as t
 use Rattle.qgm_terms.specs.Wanted.{any_in, any_in_cond, has_aggregate, reads, wanted}
 use Rattle.qgm_terms.specs.declared.named.Column.{Column}
 use Rattle.qgm_terms.specs.declared.sought.Sought.TheVariants.{Aggregate}
-use Rattle.qgm_check.specs.Columns.{columns_of}
-use Rattle.qgm_check.specs.Shapes.{head_folds, head_is_own, is_aggregate, is_column, nodes_of}
+use Rattle.qgm_formed.specs.Columns.{columns_of}
+use Rattle.qgm_formed.specs.Shapes.{head_folds, head_is_own, is_aggregate, is_column, nodes_of}
 use Rattle.qgm_core.specs.Boxes.{owns}
 use Rattle.qgm_laws.specs.FormedAdds.{of_column, types_asked}
 use Rattle.qgm_laws.proofs.AnyPut.{conds-more, heads-more}

@@ -18,7 +18,7 @@ use Rattle.qgm_terms.specs.Terms.{Term}
 use Rattle.qgm_terms.specs.Wanted.{reads, wanted}
 use Rattle.qgm_terms.specs.declared.named.Column.{Column}
 use Rattle.qgm_terms.specs.declared.sought.Sought.TheVariants.{Aggregate, Row}
-use Rattle.qgm_check.specs.Shapes.{are_F, arm_fits, columns_from, columns_through, fed_by, fed_by_two, head_folds, head_is_own, heads_are, is_column, is_none, is_unfolded, kind_fits, looks_up, node_fits, role_fits, same_columns, shape_fits}
+use Rattle.qgm_formed.specs.Shapes.{are_F, arm_fits, columns_from, columns_through, fed_by, fed_by_two, head_folds, head_is_own, heads_are, is_column, is_none, is_unfolded, kind_fits, looks_up, node_fits, role_fits, same_columns, shape_fits}
 use Rattle.qgm_laws.proofs.Column.{shift_each}
 use Rattle.qgm_laws.proofs.ColumnNames.{all-columns-shift, columns-kept, folds-shift, nodes-shift, own-shift}
 use Rattle.qgm_laws.proofs.Edits.{length-map}

@@ -15,8 +15,8 @@ use Rattle.qgm_terms.specs.Shift.{shifted, shifted_arms, shifted_cond, shifted_p
 use Rattle.qgm_terms.specs.Terms as t
 use Rattle.qgm_terms.specs.Terms.{Arms, Cond, Term}
 use Rattle.qgm_terms.specs.Wanted.{any_in, any_in_cond}
-use Rattle.qgm_check.specs.Columns.{box_under}
-use Rattle.qgm_check.specs.Types.{Lookup, agree, aggregate_type, all_agree, arm_agrees, arms_agree, arms_fit, cond_fits, integer_if, is_integer, is_known, joined_column, known, lookup_of, op_type, sign_fits, term_type, type_if, types_by, types_of}
+use Rattle.qgm_formed.specs.Columns.{box_under}
+use Rattle.qgm_formed.specs.Types.{Lookup, agree, aggregate_type, all_agree, arm_agrees, arms_agree, arms_fit, cond_fits, integer_if, is_integer, is_known, joined_column, known, lookup_of, op_type, sign_fits, term_type, type_if, types_by, types_of}
 use Rattle.qgm_laws.specs.Changes.{LosesColumn, is_set_op}
 use Rattle.qgm_laws.specs.FormedAdds.{column_of, of_column, types_asked}
 use Rattle.qgm_laws.specs.FormedColumn.{DropColumnTyped, Unasked}

@@ -16,9 +16,9 @@ use Rattle.qgm_terms.specs.declared.named.Column.{Column}
 use Rattle.qgm_terms.specs.declared.named.QuantNode.{QuantNode}
 use Rattle.qgm_terms.specs.declared.named.QuantNode.TheVariants as node
 use Rattle.qgm_terms.specs.declared.sought.Sought.TheVariants as sought
-use Rattle.qgm_check.specs.Columns.{box_under, columns_fit, columns_of, fits, places_fit}
-use Rattle.qgm_check.specs.Shapes.{fed_by, is_none, is_unfolded, kind_fits, looks_up, node_fits, nodes_of, role_fits}
-use Rattle.qgm_check.specs.Types.{arms_agree, cond_fits, is_known, lookup_of, term_type, types_of}
+use Rattle.qgm_formed.specs.Columns.{box_under, columns_fit, columns_of, fits, places_fit}
+use Rattle.qgm_formed.specs.Shapes.{fed_by, is_none, is_unfolded, kind_fits, looks_up, node_fits, nodes_of, role_fits}
+use Rattle.qgm_formed.specs.Types.{arms_agree, cond_fits, is_known, lookup_of, term_type, types_of}
 use Rattle.qgm_meaning.specs.Searches.{names_cond}
 use Rattle.qgm_laws.specs.Graph.{Sound}
 use Rattle.qgm_laws.specs.Shaped.{Shaped, Typed}

@@ -13,9 +13,9 @@ use Rattle.qgm_core.specs.declared.kinds.Role.{Role}
 use Rattle.qgm_core.specs.declared.kinds.Role.TheVariants.{Fed, Magic, Plain}
 use Rattle.qgm_core.specs.declared.node.Node.{Node}
 use Rattle.qgm_core.specs.declared.owned.OwnedQuant.{OwnedQuant}
-use Rattle.qgm_check.specs.Shapes.{all_F, fed_by, is_none, is_unfolded, kind_fits, role_fits, shape_fits}
-use Rattle.qgm_check.specs.Types.{arms_agree, cond_fits, is_known, lookup_of, term_type, types_of}
-use Rattle.qgm_check.specs.WellFormed.{fault}
+use Rattle.qgm_formed.specs.Shapes.{all_F, fed_by, is_none, is_unfolded, kind_fits, role_fits, shape_fits}
+use Rattle.qgm_formed.specs.Types.{arms_agree, cond_fits, is_known, lookup_of, term_type, types_of}
+use Rattle.qgm_formed.specs.WellFormed.{fault}
 use Rattle.qgm_meaning.specs.Scope.{read_by}
 use Rattle.qgm_laws.specs.Changes.{Reparts}
 use Rattle.qgm_laws.specs.FormedEdits.{MayBe}

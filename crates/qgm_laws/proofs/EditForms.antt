@@ -16,9 +16,9 @@ use Rattle.qgm_core.specs.declared.node.Node.{Node}
 use Rattle.qgm_core.specs.declared.owned.OwnedQuant.{OwnedQuant}
 use Rattle.qgm_terms.specs.declared.named.QuantNode.{QuantNode}
 use Rattle.qgm_terms.specs.declared.named.QuantNode.TheVariants as node
-use Rattle.qgm_check.specs.Shapes.{arm_fits, columns_placed, head_is_own, is_among, is_none, is_unfolded, kind_fits, looks_up, node_fits, nodes_of, role_fits, shape_fits, width_found}
-use Rattle.qgm_check.specs.Shapes as shapes
-use Rattle.qgm_check.specs.WellFormed.{fault}
+use Rattle.qgm_formed.specs.Shapes.{arm_fits, columns_placed, head_is_own, is_among, is_none, is_unfolded, kind_fits, looks_up, node_fits, nodes_of, role_fits, shape_fits, width_found}
+use Rattle.qgm_formed.specs.Shapes as shapes
+use Rattle.qgm_formed.specs.WellFormed.{fault}
 use Rattle.qgm_core.specs.Boxes.{is_box}
 use Rattle.qgm_meaning.specs.Scope.{loose}
 use Rattle.qgm_laws.specs.Changes.{Redirects}

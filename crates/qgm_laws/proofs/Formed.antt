@@ -16,18 +16,18 @@ use Rattle.qgm_meaning.specs.Scope.{read_by}
 use Rattle.qgm_terms.specs.declared.named.Column.{Column}
 use Rattle.qgm_terms.specs.declared.named.QuantNode.{QuantNode}
 use Rattle.qgm_terms.specs.declared.named.QuantNode.TheVariants as node
-use Rattle.qgm_check.specs.Columns.{box_under, columns_fit, columns_of, fits, over_box, places_fit}
-use Rattle.qgm_check.specs.Sentences.{IsKept, WellFormed}
-use Rattle.qgm_check.specs.Shapes.{arm_fits, are_F, columns_placed, is_among, is_none, is_scalar, is_set_op, is_group, is_outer_join, kind_fits, node_fits, nodes_of, shape_fits, width_found}
-use Rattle.qgm_check.specs.Shapes as shapes
-use Rattle.qgm_check.specs.View as view
-use Rattle.qgm_check.specs.View.{InView, Sees, is_row}
-use Rattle.qgm_check.specs.WellFormed.{fault}
-use Rattle.qgm_check.specs.declared.check.Clause.{Clause}
-use Rattle.qgm_check.specs.declared.check.Clause.TheVariants.{I1, I2, I3, I4, I5, I6, I7, I8, I9}
-use Rattle.qgm_check.proofs.Below.{reached-reaches}
-use Rattle.qgm_check.proofs.Faults.{finds-none}
-use Rattle.qgm_check.proofs.Seen.{viewers-see}
+use Rattle.qgm_formed.specs.Columns.{box_under, columns_fit, columns_of, fits, over_box, places_fit}
+use Rattle.qgm_formed.specs.Sentences.{IsKept, WellFormed}
+use Rattle.qgm_formed.specs.Shapes.{arm_fits, are_F, columns_placed, is_among, is_none, is_scalar, is_set_op, is_group, is_outer_join, kind_fits, node_fits, nodes_of, shape_fits, width_found}
+use Rattle.qgm_formed.specs.Shapes as shapes
+use Rattle.qgm_formed.specs.View as view
+use Rattle.qgm_formed.specs.View.{InView, Sees, is_row}
+use Rattle.qgm_formed.specs.WellFormed.{fault}
+use Rattle.qgm_formed.specs.declared.clause.Clause.{Clause}
+use Rattle.qgm_formed.specs.declared.clause.Clause.TheVariants.{I1, I2, I3, I4, I5, I6, I7, I8, I9}
+use Rattle.qgm_formed.proofs.Below.{reached-reaches}
+use Rattle.qgm_formed.proofs.Faults.{finds-none}
+use Rattle.qgm_formed.proofs.Seen.{viewers-see}
 use Rattle.qgm_laws.specs.Checked.{Checked, own_seen, read_free, scoped, scoped_by, shown, viewers}
 use Rattle.qgm_laws.specs.Graph.{ArmsBy, BareBy, Fits, Sound, binds_row, nodes_in, reads_in}
 use Rattle.qgm_laws.specs.Placed.{Placed}

@@ -10,10 +10,10 @@ use Rattle.qgm_core.specs.declared.kinds.BoxKind.{BoxKind}
 use Rattle.qgm_core.specs.declared.kinds.BoxKind.TheVariants.{Base, Group, OuterJoin, Select, SetOp}
 use Rattle.qgm_core.specs.declared.node.Node.{Node}
 use Rattle.qgm_core.specs.declared.owned.OwnedQuant.{OwnedQuant}
-use Rattle.qgm_check.specs.Shapes.{only}
-use Rattle.qgm_check.specs.WellFormed.{is_empty}
-use Rattle.qgm_check.proofs.Below.{free-free}
-use Rattle.qgm_check.proofs.ClosedLaws.{finds-alone}
+use Rattle.qgm_formed.specs.Shapes.{only}
+use Rattle.qgm_formed.specs.WellFormed.{is_empty}
+use Rattle.qgm_formed.proofs.Below.{free-free}
+use Rattle.qgm_formed.proofs.ClosedLaws.{finds-alone}
 use Rattle.qgm_meaning.specs.Scope.{loose, loose_by, loose_each, looks_found, quant_looks, read_beyond, read_by, under_any}
 use Rattle.qgm_laws.specs.Graph.{Sound}
 use Rattle.qgm_laws.specs.Placed.{place}

@@ -9,7 +9,7 @@ use Rattle.qgm_core.specs.Lists.{In, holds, times}
 use Rattle.qgm_core.specs.declared.node.Node.{Node}
 use Rattle.qgm_core.specs.declared.owned.OwnedQuant.{OwnedQuant}
 use Rattle.qgm_terms.specs.Substitution.{substituted, substituted_cond}
-use Rattle.qgm_check.proofs.Below.{reached-reaches}
+use Rattle.qgm_formed.proofs.Below.{reached-reaches}
 use Rattle.qgm_meaning.specs.Scope.{put_node}
 use Rattle.qgm_meaning.specs.Searches.{names, names_cond}
 use Rattle.qgm_laws.specs.Graph.{Sound}

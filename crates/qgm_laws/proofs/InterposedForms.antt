@@ -15,9 +15,9 @@ use Rattle.qgm_core.specs.declared.owned.OwnedQuant.{OwnedQuant}
 use Rattle.qgm_core.specs.declared.parts.BoxParts.{BoxParts}
 use Rattle.qgm_terms.specs.Wanted.{any_in, any_in_cond}
 use Rattle.qgm_terms.specs.declared.named.Column.{Column}
-use Rattle.qgm_check.specs.Columns.{box_under, columns_fit, columns_of, fits, over_box, places_fit, within}
-use Rattle.qgm_check.specs.Shapes.{fed_by, is_scalar, is_scalar_in, magic_found, only, shape_fits, width_found}
-use Rattle.qgm_check.specs.Types.{Lookup, all_agree, arm_agrees, arms_agree, cond_fits, is_known, known, lookup_of, term_type, type_found, types_by, types_of}
+use Rattle.qgm_formed.specs.Columns.{box_under, columns_fit, columns_of, fits, over_box, places_fit, within}
+use Rattle.qgm_formed.specs.Shapes.{fed_by, is_scalar, is_scalar_in, magic_found, only, shape_fits, width_found}
+use Rattle.qgm_formed.specs.Types.{Lookup, all_agree, arm_agrees, arms_agree, cond_fits, is_known, known, lookup_of, term_type, type_found, types_by, types_of}
 use Rattle.qgm_meaning.specs.Scope.{loose, read_by}
 use Rattle.qgm_laws.specs.Adds.{as_box, interposed, onto}
 use Rattle.qgm_laws.specs.FormedAdds.{InterposedWellFormed, MayInterpose, column_of, of_column, own_box, own_types, types_asked}

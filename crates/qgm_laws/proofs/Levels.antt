@@ -7,8 +7,8 @@ use Rattle.qgm_core.specs.Lists.{In, first, times}
 use Rattle.qgm_core.specs.declared.node.Node.{Node}
 use Rattle.qgm_core.specs.declared.owned.OwnedQuant.{OwnedQuant}
 use Rattle.qgm_terms.specs.Named.{names_in}
-use Rattle.qgm_check.specs.Types.{is_typed, typed}
-use Rattle.qgm_check.specs.declared.types.Typed.{Typed}
+use Rattle.qgm_formed.specs.Types.{is_typed, typed}
+use Rattle.qgm_formed.specs.declared.types.Typed.{Typed}
 use Rattle.qgm_laws.proofs.Lists.{any-in, eq-itself}
 use Rattle.qgm_laws.proofs.Times.{in-times, times-in, times-once}
 use Rattle.qgm_laws.proofs.Turns.{first-own}

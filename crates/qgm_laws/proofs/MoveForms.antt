@@ -12,8 +12,8 @@ use Rattle.qgm_core.specs.declared.owned.OwnedQuant.{OwnedQuant}
 use Rattle.qgm_terms.specs.Named.{nodes_in_cond}
 use Rattle.qgm_terms.specs.Terms.{Cond, Term}
 use Rattle.qgm_terms.specs.Wanted.{has_aggregate_cond, reads, reads_at, reads_at_cond, reads_cond}
-use Rattle.qgm_check.specs.Types.{cond_fits, lookup_of}
-use Rattle.qgm_check.specs.WellFormed.{fault}
+use Rattle.qgm_formed.specs.Types.{cond_fits, lookup_of}
+use Rattle.qgm_formed.specs.WellFormed.{fault}
 use Rattle.qgm_meaning.specs.Scope.{loose}
 use Rattle.qgm_meaning.specs.Searches.{names, names_cond}
 use Rattle.qgm_laws.specs.Changes.{Reparts}

@@ -10,10 +10,10 @@ use Rattle.qgm_core.specs.declared.kinds.BoxKind.TheVariants.{Select}
 use Rattle.qgm_core.specs.declared.node.Node.{Node}
 use Rattle.qgm_core.specs.declared.owned.OwnedQuant.{OwnedQuant}
 use Rattle.qgm_core.specs.declared.parts.BoxParts.{BoxParts}
-use Rattle.qgm_check.specs.Columns.{columns_fit}
-use Rattle.qgm_check.specs.Shapes.{shape_fits}
-use Rattle.qgm_check.specs.Types.{arms_agree, cond_fits, is_known, lookup_of, term_type, types_agree, types_by, types_of}
-use Rattle.qgm_check.specs.WellFormed.{fault}
+use Rattle.qgm_formed.specs.Columns.{columns_fit}
+use Rattle.qgm_formed.specs.Shapes.{shape_fits}
+use Rattle.qgm_formed.specs.Types.{arms_agree, cond_fits, is_known, lookup_of, term_type, types_agree, types_by, types_of}
+use Rattle.qgm_formed.specs.WellFormed.{fault}
 use Rattle.qgm_laws.specs.FormedEdits.{MayMoveQuant}
 use Rattle.qgm_laws.specs.Graph.{Sound}
 use Rattle.qgm_laws.specs.Reforms.{BoxForm, FedAlone}

@@ -9,7 +9,7 @@ use Rattle.qgm_core.specs.declared.node.Node.{Node}
 use Rattle.qgm_terms.specs.Terms as t
 use Rattle.qgm_terms.specs.Terms.{Arms, Cond, Term}
 use Rattle.qgm_terms.specs.Wanted.{any_in, any_in_arms, any_in_cond}
-use Rattle.qgm_check.specs.Types.{Lookup, agree, aggregate_type, arms_fit, cond_fits, integer_if, is_integer, is_known, op_type, sign_fits, term_type, type_if, types_by}
+use Rattle.qgm_formed.specs.Types.{Lookup, agree, aggregate_type, arms_fit, cond_fits, integer_if, is_integer, is_known, op_type, sign_fits, term_type, type_if, types_by}
 use Rattle.qgm_laws.specs.FormedAdds.{of_column, types_asked}
 use Rattle.qgm_laws.proofs.Follow.{all-alike}
 use Rattle.qgm_laws.proofs.Lists.{any-from, eq-itself, or-left, or-right}

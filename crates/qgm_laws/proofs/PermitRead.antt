@@ -13,7 +13,7 @@ use Rattle.qgm_terms.specs.Named as named
 use Rattle.qgm_terms.specs.Terms.{Term, int, text, null_int, null_text, col, both, minus_of, choose, count_all, fold, scalar, Arms, no_arm, arm, Cond, always, compare, is_null, and, or, not, some, every}
 use Rattle.qgm_terms.specs.declared.named.QuantNode.{QuantNode}
 use Rattle.qgm_terms.specs.declared.named.QuantNode.TheVariants as node
-use Rattle.qgm_check.specs.Shapes.{node_fits, nodes_of}
+use Rattle.qgm_formed.specs.Shapes.{node_fits, nodes_of}
 use Rattle.qgm_meaning.specs.AsSets.{ReadsSets, is_S_found, scalar_in, scalar_in_arms, scalar_in_cond}
 use Rattle.qgm_meaning.proofs.Seen.{reads-what_it_sees}
 use Rattle.qgm_laws.specs.Graph.{Sound}

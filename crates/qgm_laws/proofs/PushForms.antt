@@ -14,10 +14,10 @@ use Rattle.qgm_terms.specs.Substitution.{cell_at, substituted_cond}
 use Rattle.qgm_terms.specs.Terms.{Cond, Term, null_int}
 use Rattle.qgm_terms.specs.Wanted.{any_in, any_in_cond, has_aggregate, has_aggregate_cond, reads, reads_cond, wanted}
 use Rattle.qgm_terms.specs.declared.sought.Sought.TheVariants as sought
-use Rattle.qgm_check.specs.Columns.{box_under, fits}
-use Rattle.qgm_check.specs.Shapes.{node_fits, nodes_of}
-use Rattle.qgm_check.specs.Types.{cond_fits, lookup_of}
-use Rattle.qgm_check.specs.WellFormed.{fault}
+use Rattle.qgm_formed.specs.Columns.{box_under, fits}
+use Rattle.qgm_formed.specs.Shapes.{node_fits, nodes_of}
+use Rattle.qgm_formed.specs.Types.{cond_fits, lookup_of}
+use Rattle.qgm_formed.specs.WellFormed.{fault}
 use Rattle.qgm_laws.specs.FormedEdits.{PushFits}
 use Rattle.qgm_laws.specs.Graph.{Sound}
 use Rattle.qgm_laws.specs.Push.{MayPush, pushed, pushed_in}

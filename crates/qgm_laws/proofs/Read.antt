@@ -15,8 +15,8 @@ use Rattle.qgm_terms.specs.Wanted.{any_in, any_in_arms, any_in_cond, reads, read
 use Rattle.qgm_terms.specs.declared.named.Column.{Column}
 use Rattle.qgm_terms.specs.declared.named.QuantNode.{QuantNode}
 use Rattle.qgm_terms.specs.declared.named.QuantNode.TheVariants as node
-use Rattle.qgm_check.specs.Columns.{columns_of}
-use Rattle.qgm_check.specs.Shapes.{nodes_of}
+use Rattle.qgm_formed.specs.Columns.{columns_of}
+use Rattle.qgm_formed.specs.Shapes.{nodes_of}
 use Rattle.qgm_laws.specs.Graph.{nodes_in, reads_in}
 use Rattle.qgm_laws.proofs.AnyPut.{conds-more, heads-more}
 use Rattle.qgm_laws.proofs.Lists.{or-false, or-left, or-none, or-right}

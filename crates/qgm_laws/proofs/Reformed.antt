@@ -10,9 +10,9 @@ use Rattle.qgm_core.specs.Lists.{In, first, holds}
 use Rattle.qgm_core.specs.declared.node.Node.{Node}
 use Rattle.qgm_core.specs.declared.owned.OwnedQuant.{OwnedQuant}
 use Rattle.qgm_terms.specs.declared.named.Column.{Column}
-use Rattle.qgm_check.specs.Columns.{box_under, columns_fit, columns_of, fits, places_fit, within}
-use Rattle.qgm_check.specs.Shapes.{is_scalar, is_scalar_in, magic_found, shape_fits, width_found}
-use Rattle.qgm_check.specs.Types.{joined_column, lookup_of, types_by}
+use Rattle.qgm_formed.specs.Columns.{box_under, columns_fit, columns_of, fits, places_fit, within}
+use Rattle.qgm_formed.specs.Shapes.{is_scalar, is_scalar_in, magic_found, shape_fits, width_found}
+use Rattle.qgm_formed.specs.Types.{joined_column, lookup_of, types_by}
 use Rattle.qgm_laws.specs.Graph.{Sound}
 use Rattle.qgm_laws.specs.Reforms.{Reforms, Reformed}
 use Rattle.qgm_laws.specs.Shaped.{Shaped, Typed}

@@ -15,9 +15,9 @@ use Rattle.qgm_terms.specs.Gathered.{listed_arms}
 use Rattle.qgm_terms.specs.Named.{names, names_in, names_in_cond}
 use Rattle.qgm_terms.specs.Terms as t
 use Rattle.qgm_terms.specs.Terms.{Arms, Cond, Term}
-use Rattle.qgm_check.specs.Columns.{over_box}
-use Rattle.qgm_check.specs.Types.{Lookup, agree, aggregate_type, arms_fit, column_type, cond_fits, integer_if, is_integer, is_known, is_typed, joined_column, op_type, sign_fits, term_type, type_found, type_if, type_in, types_after, types_by, types_found}
-use Rattle.qgm_check.specs.declared.types.Typed.{Typed}
+use Rattle.qgm_formed.specs.Columns.{over_box}
+use Rattle.qgm_formed.specs.Types.{Lookup, agree, aggregate_type, arms_fit, column_type, cond_fits, integer_if, is_integer, is_known, is_typed, joined_column, op_type, sign_fits, term_type, type_found, type_if, type_in, types_after, types_by, types_found}
+use Rattle.qgm_formed.specs.declared.types.Typed.{Typed}
 use Rattle.qgm_laws.proofs.Levels as levels
 use Rattle.qgm_laws.proofs.Levels.{first-typed, number-of, some-in}
 

@@ -13,8 +13,8 @@ use Rattle.qgm_core.specs.declared.kinds.Role.TheVariants.{Fed, Magic, Plain}
 use Rattle.qgm_core.specs.declared.node.Node.{Node}
 use Rattle.qgm_core.specs.declared.owned.OwnedQuant.{OwnedQuant}
 use Rattle.qgm_terms.specs.Terms.{Term}
-use Rattle.qgm_check.specs.Shapes.{arm_fits, columns_from, columns_placed, columns_through, fed_by, fed_by_two, heads_are, is_none, is_scalar, is_unfolded, kind_fits, magic_found, node_fits, nodes_of, only, role_fits, shape_fits, width_found}
-use Rattle.qgm_check.specs.Shapes as shapes
+use Rattle.qgm_formed.specs.Shapes.{arm_fits, columns_from, columns_placed, columns_through, fed_by, fed_by_two, heads_are, is_none, is_scalar, is_unfolded, kind_fits, magic_found, node_fits, nodes_of, only, role_fits, shape_fits, width_found}
+use Rattle.qgm_formed.specs.Shapes as shapes
 use Rattle.qgm_laws.specs.Changes.{is_set_op}
 use Rattle.qgm_laws.proofs.Lists.{clash, or-left, or-right}
 

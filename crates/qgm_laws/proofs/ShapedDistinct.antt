@@ -17,9 +17,9 @@ use Rattle.qgm_core.specs.declared.node.Node.{Node}
 use Rattle.qgm_core.specs.declared.owned.OwnedQuant.{OwnedQuant}
 use Rattle.qgm_terms.specs.Terms.{Term}
 use Rattle.qgm_terms.specs.declared.named.Column.{Column}
-use Rattle.qgm_check.specs.Columns.{box_under, columns_fit, columns_of, fits, over_box, places_fit, within}
-use Rattle.qgm_check.specs.Shapes.{arm_fits, columns_from, columns_placed, fed_by, heads_are, is_none, is_scalar, is_scalar_in, is_unfolded, kind_fits, magic_found, node_fits, nodes_of, only, role_fits, shape_fits, width_found}
-use Rattle.qgm_check.specs.Shapes as shapes
+use Rattle.qgm_formed.specs.Columns.{box_under, columns_fit, columns_of, fits, over_box, places_fit, within}
+use Rattle.qgm_formed.specs.Shapes.{arm_fits, columns_from, columns_placed, fed_by, heads_are, is_none, is_scalar, is_scalar_in, is_unfolded, kind_fits, magic_found, node_fits, nodes_of, only, role_fits, shape_fits, width_found}
+use Rattle.qgm_formed.specs.Shapes as shapes
 use Rattle.qgm_laws.specs.Graph.{Sound}
 use Rattle.qgm_laws.specs.Merge.{merge_node, merged_in}
 use Rattle.qgm_laws.specs.MergeDistinct.{MergesDistinct}

@@ -14,9 +14,9 @@ use Rattle.qgm_core.specs.declared.kinds.Role.TheVariants.{Fed, Magic, Plain}
 use Rattle.qgm_core.specs.declared.node.Node.{Node}
 use Rattle.qgm_core.specs.declared.owned.OwnedQuant.{OwnedQuant}
 use Rattle.qgm_terms.specs.declared.named.Column.{Column}
-use Rattle.qgm_check.specs.Columns.{box_under, columns_fit, columns_of, fits, over_box, places_fit}
-use Rattle.qgm_check.specs.Shapes.{arm_fits, columns_placed, columns_through, fed_by, fed_by_two, heads_are, is_fed, is_scalar, is_scalar_in, kind_fits, magic_found, node_fits, nodes_of, only, role_fits, shape_fits, width_found}
-use Rattle.qgm_check.specs.Shapes as shapes
+use Rattle.qgm_formed.specs.Columns.{box_under, columns_fit, columns_of, fits, over_box, places_fit}
+use Rattle.qgm_formed.specs.Shapes.{arm_fits, columns_placed, columns_through, fed_by, fed_by_two, heads_are, is_fed, is_scalar, is_scalar_in, kind_fits, magic_found, node_fits, nodes_of, only, role_fits, shape_fits, width_found}
+use Rattle.qgm_formed.specs.Shapes as shapes
 use Rattle.qgm_laws.specs.Graph.{Sound, nodes_in}
 use Rattle.qgm_laws.specs.Shaped.{Shaped}
 use Rattle.qgm_meaning.specs.Scope.{read_by}

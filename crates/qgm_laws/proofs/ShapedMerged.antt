@@ -23,12 +23,12 @@ use Rattle.qgm_terms.specs.declared.named.Column.{Column}
 use Rattle.qgm_terms.specs.declared.named.QuantNode.{QuantNode}
 use Rattle.qgm_terms.specs.declared.named.QuantNode.TheVariants as node
 use Rattle.qgm_terms.specs.declared.sought.Sought.TheVariants.{Aggregate}
-use Rattle.qgm_check.specs.Columns.{box_under, columns_fit, columns_of, fits, places_fit, within}
-use Rattle.qgm_check.specs.Shapes.{all_F, are_F, arm_fits, columns_placed, columns_through, fed_by, head_folds, heads_are, is_among, is_column, is_none, is_scalar, is_scalar_in, is_unfolded, kind_fits, looks_up, magic_found, node_fits, nodes_of, only, role_fits, shape_fits, width_found}
-use Rattle.qgm_check.specs.Shapes as shapes
-use Rattle.qgm_check.specs.WellFormed.{is_empty}
-use Rattle.qgm_check.proofs.Below.{free-free}
-use Rattle.qgm_check.proofs.ClosedLaws.{finds-alone}
+use Rattle.qgm_formed.specs.Columns.{box_under, columns_fit, columns_of, fits, places_fit, within}
+use Rattle.qgm_formed.specs.Shapes.{all_F, are_F, arm_fits, columns_placed, columns_through, fed_by, head_folds, heads_are, is_among, is_column, is_none, is_scalar, is_scalar_in, is_unfolded, kind_fits, looks_up, magic_found, node_fits, nodes_of, only, role_fits, shape_fits, width_found}
+use Rattle.qgm_formed.specs.Shapes as shapes
+use Rattle.qgm_formed.specs.WellFormed.{is_empty}
+use Rattle.qgm_formed.proofs.Below.{free-free}
+use Rattle.qgm_formed.proofs.ClosedLaws.{finds-alone}
 use Rattle.qgm_meaning.specs.Scope.{loose, loose_by, put_node, read_by, under_any}
 use Rattle.qgm_meaning.specs.Searches.{bare, names, names_cond}
 use Rattle.qgm_meaning.proofs.ExistsJoined.{inner}

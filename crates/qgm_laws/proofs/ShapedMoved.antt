@@ -18,10 +18,10 @@ use Rattle.qgm_core.specs.declared.owned.OwnedQuant.{OwnedQuant}
 use Rattle.qgm_terms.specs.declared.named.Column.{Column}
 use Rattle.qgm_terms.specs.declared.named.QuantNode.{QuantNode}
 use Rattle.qgm_terms.specs.declared.named.QuantNode.TheVariants as node
-use Rattle.qgm_check.specs.Columns.{box_under, columns_fit, columns_of, fits, over_box, places_fit, within}
-use Rattle.qgm_check.specs.Shapes.{arm_fits, columns_placed, columns_through, fed_by, fed_by_two, heads_are, is_among, is_fed, is_scalar, is_scalar_in, kind_fits, magic_found, node_fits, nodes_of, only, role_fits, shape_fits, width_found}
-use Rattle.qgm_check.specs.Shapes as shapes
-use Rattle.qgm_check.proofs.ClosedLaws.{finds-alone}
+use Rattle.qgm_formed.specs.Columns.{box_under, columns_fit, columns_of, fits, over_box, places_fit, within}
+use Rattle.qgm_formed.specs.Shapes.{arm_fits, columns_placed, columns_through, fed_by, fed_by_two, heads_are, is_among, is_fed, is_scalar, is_scalar_in, kind_fits, magic_found, node_fits, nodes_of, only, role_fits, shape_fits, width_found}
+use Rattle.qgm_formed.specs.Shapes as shapes
+use Rattle.qgm_formed.proofs.ClosedLaws.{finds-alone}
 use Rattle.qgm_meaning.specs.Scope.{read_by}
 use Rattle.qgm_laws.specs.Drop.{MayDrop, dropped, moved, moved_range}
 use Rattle.qgm_laws.specs.Graph.{Sound, nodes_in}

@@ -15,7 +15,7 @@ use Rattle.qgm_terms.specs.Wanted.{Wanted, any_in, any_in_arms, any_in_cond, rea
 use Rattle.qgm_terms.specs.declared.named.Column.{Column}
 use Rattle.qgm_terms.specs.declared.named.QuantNode.{QuantNode}
 use Rattle.qgm_terms.specs.declared.named.QuantNode.TheVariants as node
-use Rattle.qgm_check.specs.Shapes.{columns_from, head_is_own, heads_are, is_column, same_columns}
+use Rattle.qgm_formed.specs.Shapes.{columns_from, head_is_own, heads_are, is_column, same_columns}
 use Rattle.qgm_meaning.specs.Searches.{names, names_arms, names_cond, reads_at_arms}
 use Rattle.qgm_laws.proofs.AnyPut.{heads-more}
 use Rattle.qgm_laws.proofs.Compact.{holds-in}

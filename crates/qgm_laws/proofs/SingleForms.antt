@@ -13,8 +13,8 @@ use Rattle.qgm_core.specs.declared.kinds.QuantKind.TheVariants.{F}
 use Rattle.qgm_core.specs.declared.node.Node.{Node}
 use Rattle.qgm_core.specs.declared.owned.OwnedQuant.{OwnedQuant}
 use Rattle.qgm_terms.specs.Terms.{Term}
-use Rattle.qgm_check.specs.Columns.{columns_of, fits, over_box}
-use Rattle.qgm_check.specs.Types.{Lookup, arms_agree, cond_fits, is_known, known, lookup_of, term_type, type_found, types_by, types_of}
+use Rattle.qgm_formed.specs.Columns.{columns_of, fits, over_box}
+use Rattle.qgm_formed.specs.Types.{Lookup, arms_agree, cond_fits, is_known, known, lookup_of, term_type, type_found, types_by, types_of}
 use Rattle.qgm_meaning.specs.Searches.{binds, binds_cond, names, names_cond}
 use Rattle.qgm_laws.specs.FormedAdds.{MayInterpose, column_of, own_box, own_types, types_asked}
 use Rattle.qgm_laws.specs.Graph.{Sound, nodes_in}

@@ -11,8 +11,8 @@ use Rattle.qgm_core.specs.declared.node.Node.{Node}
 use Rattle.qgm_terms.specs.Substitution.{substituted, substituted_cond}
 use Rattle.qgm_terms.specs.Terms.{Cond, Term}
 use Rattle.qgm_terms.specs.Wanted.{reads_at, reads_at_cond}
-use Rattle.qgm_check.specs.Types.{Lookup, arms_agree, cond_fits, is_known, lookup_of, term_type, types_of}
-use Rattle.qgm_check.specs.WellFormed.{fault}
+use Rattle.qgm_formed.specs.Types.{Lookup, arms_agree, cond_fits, is_known, lookup_of, term_type, types_of}
+use Rattle.qgm_formed.specs.WellFormed.{fault}
 use Rattle.qgm_meaning.specs.Searches.{names, names_cond}
 use Rattle.qgm_laws.specs.FormedEdits.{MaySubstitute}
 use Rattle.qgm_laws.specs.MergeShaped.{FedOpen}

@@ -6,8 +6,8 @@ use Rattle.qgm_core.specs.Edits.{compact, on_boxes, with_distinct}
 use Rattle.qgm_core.specs.declared.kinds.Distinct.TheVariants.{Preserve}
 use Rattle.qgm_core.specs.declared.node.Node.{Node}
 use Rattle.qgm_core.specs.declared.owned.OwnedQuant.{OwnedQuant}
-use Rattle.qgm_check.specs.Types.{Lookup, arms_agree, cond_fits, is_known, lookup_of, term_type, types_agree, types_of}
-use Rattle.qgm_check.specs.declared.types.Typed.{Typed}
+use Rattle.qgm_formed.specs.Types.{Lookup, arms_agree, cond_fits, is_known, lookup_of, term_type, types_agree, types_of}
+use Rattle.qgm_formed.specs.declared.types.Typed.{Typed}
 use Rattle.qgm_laws.specs.Graph.{Sound}
 use Rattle.qgm_laws.specs.Merge.{merge_node, merged_in}
 use Rattle.qgm_laws.specs.MergeDistinct.{MergesDistinct}

@@ -7,7 +7,7 @@ use Rattle.qgm_core.specs.Free.{named_by, reached}
 use Rattle.qgm_core.specs.Lists.{In, first, holds}
 use Rattle.qgm_core.specs.declared.node.Node.{Node}
 use Rattle.qgm_core.specs.declared.owned.OwnedQuant.{OwnedQuant}
-use Rattle.qgm_check.specs.Columns.{box_under, over_box}
+use Rattle.qgm_formed.specs.Columns.{box_under, over_box}
 use Rattle.qgm_meaning.specs.Scope.{read_by}
 use Rattle.qgm_laws.specs.Graph.{Sound, nodes_in}
 use Rattle.qgm_laws.specs.Shaped.{Typed}

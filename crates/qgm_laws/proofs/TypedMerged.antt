@@ -21,8 +21,8 @@ use Rattle.qgm_terms.specs.Wanted.{reads_at, reads_at_cond}
 use Rattle.qgm_meaning.specs.Scope.{put_node, read_by, under_any}
 use Rattle.qgm_meaning.specs.Scope as scope
 use Rattle.qgm_meaning.specs.Searches.{names, names_arms, names_cond, reads_at_arms}
-use Rattle.qgm_check.specs.Columns.{box_under, over_box}
-use Rattle.qgm_check.specs.Types.{Lookup, agree, aggregate_type, all_agree, arm_agrees, arms_agree, arms_fit, cond_fits, integer_if, is_integer, is_known, is_typed, joined_column, known, lookup_of, op_type, sign_fits, term_type, type_found, type_if, types_agree, types_by, types_of}
+use Rattle.qgm_formed.specs.Columns.{box_under, over_box}
+use Rattle.qgm_formed.specs.Types.{Lookup, agree, aggregate_type, all_agree, arm_agrees, arms_agree, arms_fit, cond_fits, integer_if, is_integer, is_known, is_typed, joined_column, known, lookup_of, op_type, sign_fits, term_type, type_found, type_if, types_agree, types_by, types_of}
 use Rattle.qgm_laws.specs.Graph.{Sound, nodes_in, reads_in}
 use Rattle.qgm_laws.specs.Merge.{Merges, merge_node, merged, merged_in}
 use Rattle.qgm_laws.specs.Shaped as shaped

@@ -16,9 +16,9 @@ use Rattle.qgm_core.specs.declared.node.Node.{Node}
 use Rattle.qgm_core.specs.declared.owned.OwnedQuant.{OwnedQuant}
 use Rattle.qgm_terms.specs.Named.{names_in}
 use Rattle.qgm_terms.specs.Terms.{Term}
-use Rattle.qgm_check.specs.Columns.{box_under}
-use Rattle.qgm_check.specs.Types.{Lookup, is_typed, joined_column, known, lookup_of, term_type, type_found, type_in, types_agree, types_by, types_found, types_of}
-use Rattle.qgm_check.specs.declared.types.Typed.{Typed}
+use Rattle.qgm_formed.specs.Columns.{box_under}
+use Rattle.qgm_formed.specs.Types.{Lookup, is_typed, joined_column, known, lookup_of, term_type, type_found, type_in, types_agree, types_by, types_found, types_of}
+use Rattle.qgm_formed.specs.declared.types.Typed.{Typed}
 use Rattle.qgm_laws.specs.Drop.{MayDrop, columns_from, dropped, moved, moved_range}
 use Rattle.qgm_laws.specs.Graph.{Sound}
 use Rattle.qgm_laws.specs.Placed.{place}

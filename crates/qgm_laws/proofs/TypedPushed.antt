@@ -15,9 +15,9 @@ use Rattle.qgm_terms.specs.Terms as t
 use Rattle.qgm_terms.specs.Terms.{Arms, Cond, Term}
 use Rattle.qgm_terms.specs.Wanted.{any_in, any_in_arms, any_in_cond, reads_at, reads_at_cond, reads_cond, wanted}
 use Rattle.qgm_terms.specs.declared.sought.Sought.TheVariants as sought
-use Rattle.qgm_check.specs.Columns.{box_under, over_box}
-use Rattle.qgm_check.specs.Types.{Lookup, agree, aggregate_type, arms_agree, arms_fit, column_type, cond_fits, integer_if, is_integer, is_known, is_typed, joined_column, lookup_of, op_type, sign_fits, term_type, type_found, type_if, types_after, types_agree, types_by, types_of}
-use Rattle.qgm_check.specs.declared.types.Typed.{Typed}
+use Rattle.qgm_formed.specs.Columns.{box_under, over_box}
+use Rattle.qgm_formed.specs.Types.{Lookup, agree, aggregate_type, arms_agree, arms_fit, column_type, cond_fits, integer_if, is_integer, is_known, is_typed, joined_column, lookup_of, op_type, sign_fits, term_type, type_found, type_if, types_after, types_agree, types_by, types_of}
+use Rattle.qgm_formed.specs.declared.types.Typed.{Typed}
 use Rattle.qgm_laws.specs.Graph.{Sound}
 use Rattle.qgm_laws.specs.Push.{MayPush, conditioned, pushed_in}
 use Rattle.qgm_laws.specs.Shaped as shaped

@@ -12,9 +12,9 @@ use Rattle.qgm_core.specs.declared.kinds.BoxKind.TheVariants.{Base, Select, Grou
 use Rattle.qgm_core.specs.declared.node.Node.{Node}
 use Rattle.qgm_core.specs.declared.owned.OwnedQuant.{OwnedQuant}
 use Rattle.qgm_terms.specs.Named.{names_in, names_in_cond}
-use Rattle.qgm_check.specs.Columns.{box_under, over_box}
-use Rattle.qgm_check.specs.Types.{Lookup, all_agree, arm_agrees, arms_agree, cond_fits, is_known, is_typed, joined_column, known, lookup_of, term_type, type_found, type_in, types_agree, types_by, types_found, types_of}
-use Rattle.qgm_check.specs.declared.types.Typed.{Typed}
+use Rattle.qgm_formed.specs.Columns.{box_under, over_box}
+use Rattle.qgm_formed.specs.Types.{Lookup, all_agree, arm_agrees, arms_agree, cond_fits, is_known, is_typed, joined_column, known, lookup_of, term_type, type_found, type_in, types_agree, types_by, types_found, types_of}
+use Rattle.qgm_formed.specs.declared.types.Typed.{Typed}
 use Rattle.qgm_laws.specs.Graph.{Sound}
 use Rattle.qgm_laws.specs.Shaped as shaped
 use Rattle.qgm_laws.proofs.AllSettled.{all-settled}

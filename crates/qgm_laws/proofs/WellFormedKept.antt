@@ -5,7 +5,7 @@ use Rattle.qgm_core.specs.Edits.{compact}
 use Rattle.qgm_core.specs.Lists.{EachOnce, holds}
 use Rattle.qgm_core.specs.declared.node.Node.{Node}
 use Rattle.qgm_core.specs.declared.owned.OwnedQuant.{OwnedQuant}
-use Rattle.qgm_check.specs.WellFormed.{fault}
+use Rattle.qgm_formed.specs.WellFormed.{fault}
 use Rattle.qgm_laws.specs.Drop.{MayDrop, dropped}
 use Rattle.qgm_laws.specs.Graph.{Sound}
 use Rattle.qgm_laws.specs.Merge.{Merges, merged_in}

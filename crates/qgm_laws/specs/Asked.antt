@@ -9,7 +9,7 @@ use Rattle.qgm_core.specs.declared.node.Node.{Node}
 use Rattle.qgm_core.specs.declared.owned.OwnedQuant.{OwnedQuant}
 use Rattle.qgm_core.specs.Boxes.{QueryGraph}
 use Rattle.qgm_core.specs.Edits.{drop_column}
-use Rattle.qgm_check.specs.WellFormed.{fault}
+use Rattle.qgm_formed.specs.WellFormed.{fault}
 use Rattle.qgm_meaning.specs.Examples.{stored, tables}
 use Rattle.qgm_meaning.specs.Meaning.{root_bag}
 use Rattle.qgm_terms.specs.Terms.{Cond, Term, both, col, compare, count_all, equal, int, scalar}

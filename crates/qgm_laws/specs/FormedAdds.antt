@@ -2,10 +2,10 @@
 use Rattle.std.specs.Prelude.{ℕ, ◌≡◌, ◌==◌, ◌-◌, ◌++◌, ◌&&◌, ◌||◌, nat_lt, if◌then◌else◌, Bool, true, false, List, ◌∷◌, Option, None, slice_get}
 use Rattle.std.specs.List.{list_all, list_any}
 use Rattle.sql_value.specs.declared.order_key.SqlType.{SqlType}
-use Rattle.qgm_check.specs.Columns.{columns_of, fits, over_box, places_fit, within}
-use Rattle.qgm_check.specs.Shapes.{shape_fits}
-use Rattle.qgm_check.specs.Types.{Lookup, joined_column, type_found, types_agree_at, types_by, types_of}
-use Rattle.qgm_check.specs.WellFormed.{fault}
+use Rattle.qgm_formed.specs.Columns.{columns_of, fits, over_box, places_fit, within}
+use Rattle.qgm_formed.specs.Shapes.{shape_fits}
+use Rattle.qgm_formed.specs.Types.{Lookup, joined_column, type_found, types_agree_at, types_by, types_of}
+use Rattle.qgm_formed.specs.WellFormed.{fault}
 use Rattle.qgm_core.specs.Boxes.{QueryGraph, is_quant, numbers, owns, width}
 use Rattle.qgm_core.specs.Edits.{on_boxes}
 use Rattle.qgm_core.specs.Free.{named_by}

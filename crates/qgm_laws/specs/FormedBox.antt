@@ -1,9 +1,9 @@
 -- What the check finds where a box without quantifiers is added.
 use Rattle.std.specs.Prelude.{ℕ, ◌≡◌, true, false, Option, None}
-use Rattle.qgm_check.specs.Columns.{columns_fit}
-use Rattle.qgm_check.specs.Shapes.{shape_fits}
-use Rattle.qgm_check.specs.Types.{types_agree}
-use Rattle.qgm_check.specs.WellFormed.{fault}
+use Rattle.qgm_formed.specs.Columns.{columns_fit}
+use Rattle.qgm_formed.specs.Shapes.{shape_fits}
+use Rattle.qgm_formed.specs.Types.{types_agree}
+use Rattle.qgm_formed.specs.WellFormed.{fault}
 use Rattle.qgm_core.specs.Boxes.{QueryGraph, bare_box, has_box, numbers}
 use Rattle.qgm_core.specs.Edits.{with_box}
 use Rattle.qgm_core.specs.Free.{named_by}

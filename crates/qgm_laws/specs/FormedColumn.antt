@@ -1,7 +1,7 @@
 -- What the check finds where a column of a box is dropped.
 use Rattle.std.specs.Prelude.{ℕ, ◌≡◌, ◌≤◌, ◌<◌, true, false, List, length, None}
-use Rattle.qgm_check.specs.Shapes.{is_scalar}
-use Rattle.qgm_check.specs.WellFormed.{fault}
+use Rattle.qgm_formed.specs.Shapes.{is_scalar}
+use Rattle.qgm_formed.specs.WellFormed.{fault}
 use Rattle.qgm_core.specs.Boxes.{QueryGraph, numbers}
 use Rattle.qgm_core.specs.Edits.{drop_column}
 use Rattle.qgm_core.specs.Kinds.{is_fed}

@@ -1,9 +1,9 @@
 -- What the check finds after an edit of a graph against which it finds nothing: nothing, at the edit's condition.
 use Rattle.std.specs.Prelude.{ℕ, ◌≡◌, ◌==◌, ◌≤◌, ◌++◌, ◌||◌, nat_lt, true, false, List, ◌∷◌, length, None}
-use Rattle.qgm_check.specs.Columns.{columns_fit}
-use Rattle.qgm_check.specs.Shapes.{shape_fits}
-use Rattle.qgm_check.specs.Types.{lookup_of, term_type}
-use Rattle.qgm_check.specs.WellFormed.{fault}
+use Rattle.qgm_formed.specs.Columns.{columns_fit}
+use Rattle.qgm_formed.specs.Shapes.{shape_fits}
+use Rattle.qgm_formed.specs.Types.{lookup_of, term_type}
+use Rattle.qgm_formed.specs.WellFormed.{fault}
 use Rattle.qgm_core.specs.Boxes.{QueryGraph, numbers, width}
 use Rattle.qgm_core.specs.Edits.{drop_quant, move_below, move_conjunct, move_quant, on_quant, put_cells, put_quant, put_range, redirect, reserve, set_distinct, substitute, with_quant, without_quant}
 use Rattle.qgm_core.specs.Kinds.{is_F_or_S, is_S, is_enforce, is_fed, is_magic, is_permit, is_preserve}

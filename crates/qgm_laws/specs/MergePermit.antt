@@ -4,7 +4,7 @@ use Rattle.row_bag.specs.AsSets.{is_clean}
 use Rattle.row_bag.specs.Bags.{Agree}
 use Rattle.row_bag.specs.Sets.{same_cells}
 use Rattle.row_bag.specs.declared.tables.Table.{Table}
-use Rattle.qgm_check.specs.WellFormed.{fault}
+use Rattle.qgm_formed.specs.WellFormed.{fault}
 use Rattle.qgm_core.specs.Boxes.{QueryGraph, numbers, overs_in}
 use Rattle.qgm_core.specs.Edits.{with_distinct}
 use Rattle.qgm_core.specs.Kinds.{is_F, is_permit}

@@ -1,7 +1,7 @@
 -- Shapes under M1.
 use Rattle.std.specs.Prelude.{◌≡◌, true, false, List, [], ◌∷◌, None}
-use Rattle.qgm_check.specs.Shapes.{all_F}
-use Rattle.qgm_check.specs.WellFormed.{fault, is_empty}
+use Rattle.qgm_formed.specs.Shapes.{all_F}
+use Rattle.qgm_formed.specs.WellFormed.{fault, is_empty}
 use Rattle.qgm_core.specs.Boxes.{QueryGraph, numbers}
 use Rattle.qgm_core.specs.Free.{free_in}
 use Rattle.qgm_core.specs.Kinds.{is_fed, is_magic}

@@ -1,10 +1,10 @@
 -- Types and shapes, where boxes change and keep their numbers and the types of their columns.
 use Rattle.std.specs.Prelude.{ℕ, ◌≡◌, ◌⊎◌, nat_lt, true, false, List, [], ◌∷◌, map, None, Option}
 use Rattle.sql_value.specs.declared.order_key.SqlType.{SqlType}
-use Rattle.qgm_check.specs.Columns.{columns_fit}
-use Rattle.qgm_check.specs.Shapes.{shape_fits}
-use Rattle.qgm_check.specs.Types.{is_typed, lookup_of, types_agree, types_by, types_found, types_of}
-use Rattle.qgm_check.specs.WellFormed.{fault}
+use Rattle.qgm_formed.specs.Columns.{columns_fit}
+use Rattle.qgm_formed.specs.Shapes.{shape_fits}
+use Rattle.qgm_formed.specs.Types.{is_typed, lookup_of, types_agree, types_by, types_found, types_of}
+use Rattle.qgm_formed.specs.WellFormed.{fault}
 use Rattle.qgm_core.specs.Boxes.{QueryGraph, numbers, width}
 use Rattle.qgm_core.specs.Edits.{on_boxes}
 use Rattle.qgm_core.specs.Free.{named_by}

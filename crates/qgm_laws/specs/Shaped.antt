@@ -6,12 +6,12 @@ use Rattle.qgm_core.specs.Kinds.{is_F_or_S, is_permit}
 use Rattle.qgm_core.specs.Lists.{EachOnce, In}
 use Rattle.qgm_core.specs.declared.node.Node.{Node}
 use Rattle.qgm_core.specs.declared.owned.OwnedQuant.{OwnedQuant}
-use Rattle.qgm_check.specs.Columns.{columns_fit}
-use Rattle.qgm_check.specs.Sentences.{IsKept}
-use Rattle.qgm_check.specs.Shapes.{shape_fits}
-use Rattle.qgm_check.specs.Types.{types_agree}
-use Rattle.qgm_check.specs.WellFormed.{fault}
-use Rattle.qgm_check.specs.declared.check.Clause.TheVariants.{I1, I2, I3}
+use Rattle.qgm_formed.specs.Columns.{columns_fit}
+use Rattle.qgm_formed.specs.Sentences.{IsKept}
+use Rattle.qgm_formed.specs.Shapes.{shape_fits}
+use Rattle.qgm_formed.specs.Types.{types_agree}
+use Rattle.qgm_formed.specs.WellFormed.{fault}
+use Rattle.qgm_formed.specs.declared.clause.Clause.TheVariants.{I1, I2, I3}
 use Rattle.qgm_laws.specs.Drop.{MayDrop, dropped}
 use Rattle.qgm_laws.specs.Graph.{Sound}
 use Rattle.qgm_laws.specs.Placed.{Placed}

@@ -6,7 +6,7 @@ use Rattle.row_bag.specs.Bags.{bind, unit}
 use Rattle.row_bag.specs.Subqueries.{only_cell}
 use Rattle.row_bag.specs.declared.row.Row.{Row}
 use Rattle.row_bag.specs.declared.tables.Table.{Table}
-use Rattle.qgm_check.specs.WellFormed.{fault}
+use Rattle.qgm_formed.specs.WellFormed.{fault}
 use Rattle.qgm_core.specs.Boxes.{QueryGraph, has_box, numbers, owns, width}
 use Rattle.qgm_core.specs.Edits.{on_boxes, range}
 use Rattle.qgm_core.specs.Lists.{EachOnce, In}

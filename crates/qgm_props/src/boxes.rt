@@ -8,19 +8,13 @@ ghost use Rattle.qgm_props.specs.Inferred as spec;
 ghost use Rattle.qgm_props.specs.Table.{either_flags, facts_of, flags, improved, nothing_of};
 
 use crate::columns::{is_column_filled, is_column_free, is_free_in_arms};
-use crate::expressions::{are_conds_free, both, is_free};
+use crate::expressions::{are_conds_free, is_free};
 use crate::facts::{BoxFacts, has_at_most_one, has_exactly_one, is_clean};
 use qgm_core::{BoxKind, Gx, Node, OwnedQuant, QuantKind, SetOperator};
+use qgm_terms::{both, either};
 use shared_types::OutOfMemory;
 use sqlite_items::Items;
 use std::alloc::Global;
-
-// OR, as a call: one path where an expression would be two.
-pub fn either(a: bool, b: bool) -> bool
-    ensures { result ≡ (a || b) }
-{
-    a || b
-}
 
 pub fn is_f(kind: QuantKind) -> bool
     ensures { result ≡ is_F kind }

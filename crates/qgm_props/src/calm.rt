@@ -1,21 +1,21 @@
 // Whether a graph is calm.
 ghost use Rattle.std.specs.Prelude.{◌≡◌, ◌||◌, not, IfOk};
 ghost use Rattle.std.specs.List.{list_all};
-ghost use Rattle.qgm_check.specs.Columns.{columns_of};
+ghost use Rattle.qgm_formed.specs.Columns.{columns_of};
 ghost use Rattle.qgm_core.specs.Kinds.{is_S, is_magic};
 ghost use Rattle.qgm_props.specs.Calm as spec;
 ghost use Rattle.qgm_props.specs.Inferred.{all_places, all_under};
 ghost use Rattle.qgm_props.specs.Table.{facts_of};
 
 use crate::answers::Props;
-use crate::boxes::{either, width_of};
-use crate::expressions::both;
+use crate::boxes::width_of;
 use crate::facts::{BoxFacts, has_at_most_one, is_clean, is_error_free};
 use crate::ranges::is_error_free_under;
 use qgm_core::{BoxId, Column, Graph, Node, OwnedQuant, QuantKind, Role, free_in, has_range};
-use qgm_terms::{add_columns_of_cells, add_columns_of_conds};
+use qgm_terms::{both, either};
 use shared_types::OutOfMemory;
 use std::alloc::Global;
+use term_contents::{add_columns_of_cells, add_columns_of_conds};
 
 fn is_s(kind: QuantKind) -> bool
     ensures { result ≡ is_S kind }

@@ -7,10 +7,11 @@ ghost use Rattle.qgm_terms.specs.Shown.{links, term, terms};
 ghost use Rattle.qgm_props.specs.Inferred as spec;
 ghost use Rattle.qgm_props.specs.Table.{element, facts_of};
 
-use crate::expressions::{both, is_alone, is_free};
+use crate::expressions::{is_alone, is_free};
 use crate::facts::{BoxFacts, has_at_most_one, is_clean, is_error_free};
 use crate::ranges::is_not_null_under;
 use qgm_core::{BoxKind, Gx, Node, OwnedQuant, QuantId, SetOperator, is_marked};
+use qgm_terms::both;
 
 // Whether a column of the boxes under the first two quantifiers is known to hold no error.
 pub fn is_free_in_arms(table: &[BoxFacts], ranges: &[OwnedQuant], k: usize) -> bool

@@ -10,14 +10,7 @@ ghost use Rattle.qgm_props.specs.Table.{facts_of};
 use crate::facts::BoxFacts;
 use crate::ranges::{is_clean_under, is_error_free_under, is_not_null_under, is_single_under};
 use qgm_core::{Node, OwnedQuant, QuantId};
-use qgm_terms::{Arm, Gc, Gx, Link, Op};
-
-// AND, as a call: one path where an expression would be two.
-pub fn both(a: bool, b: bool) -> bool
-    ensures { result ≡ (a && b) }
-{
-    a && b
-}
+use qgm_terms::{Arm, Gc, Gx, Link, Op, both};
 
 // A number has 64 bits.
 fn fits(n: i64) -> bool

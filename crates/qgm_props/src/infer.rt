@@ -7,9 +7,10 @@ ghost use Rattle.qgm_props.specs.Laws.{Premises, Tells};
 ghost use Rattle.qgm_props.specs.Table.{Improves, Stable, StableAt, facts_of, nothing_of, unknown_in};
 
 use crate::answers::Props;
-use crate::boxes::{either, improved_facts, nothing_known};
+use crate::boxes::{improved_facts, nothing_known};
 use crate::facts::BoxFacts;
 use qgm_core::{Graph, Node};
+use qgm_terms::either;
 use shared_types::OutOfMemory;
 use std::alloc::Global;
 

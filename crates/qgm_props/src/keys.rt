@@ -9,11 +9,12 @@ ghost use Rattle.qgm_props.specs.Table.{facts_of};
 
 use crate::boxes::is_f;
 use crate::columns::cell_at;
-use crate::expressions::{both, is_alone};
+use crate::expressions::is_alone;
 use crate::facts::{BoxFacts, has_at_most_one};
 use qgm_core::{
     BaseTable, BoxId, BoxKind, Distinct, Gx, Node, OwnedQuant, QuantId, SetOperator, is_marked,
 };
+use qgm_terms::both;
 use shared_types::OutOfMemory;
 use sqlite_items::Items;
 use std::alloc::Global;

@@ -6,7 +6,5 @@ pub mod InPlace
 pub mod Found
 pub mod Shifted
 pub mod Substituted
-pub mod PostfixLaws
-pub mod PostfixRead
 pub mod Levels
 pub mod Most

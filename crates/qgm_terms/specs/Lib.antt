@@ -8,5 +8,4 @@ pub mod Wanted
 pub mod Shift
 pub mod Rebuilt
 pub mod Substitution
-pub mod Postfix
 pub mod Depth

@@ -2,7 +2,7 @@
 ghost use Rattle.std.specs.Prelude.{◌≤◌, ◌↔◌, IsTrue};
 ghost use Rattle.qgm_terms.specs.Depth.{arm_depths, cond_depths, depth, depth_cond, link_depths, most};
 
-use crate::sought::both;
+use crate::connectives::both;
 use crate::tree::{Arm, Gc, Gx, Link};
 
 /// Whether an expression has at most so many levels. It goes no deeper itself.

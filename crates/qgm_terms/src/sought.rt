@@ -1,11 +1,8 @@
-// Whether something stands in expressions and conditions.
-ghost use Rattle.std.specs.Prelude.{◌≡◌, ◌&&◌, ◌||◌};
-ghost use Rattle.std.specs.List.{list_any};
-ghost use Rattle.qgm_terms.specs.Shown.{choices, cond, conds, links, term, terms};
-ghost use Rattle.qgm_terms.specs.Wanted.{any_in, any_in_choices, any_in_cond, any_in_links, has_aggregate, has_aggregate_cond, node_free, node_free_cond, wanted};
+// What is looked for in expressions and conditions.
+ghost use Rattle.std.specs.Prelude.{◌≡◌};
+ghost use Rattle.qgm_terms.specs.Wanted.{wanted};
 
 use crate::named::QuantId;
-use crate::tree::{Arm, Gc, Gx, Link};
 
 /// What is looked for.
 #[derive(Clone, Copy, PartialEq, Eq)]
@@ -23,8 +20,8 @@ pub enum Sought {
 }
 
 impl Sought {
-    // Whether a column is.
-    fn is_column(self, r: QuantId, j: usize) -> bool
+    /// Whether a column is looked for.
+    pub fn is_column(self, r: QuantId, j: usize) -> bool
         ensures { result ≡ (wanted self).column r j }
     {
         match self {
@@ -34,8 +31,8 @@ impl Sought {
         }
     }
 
-    // Whether a scalar, a some or an every is.
-    fn is_node(self, r: QuantId) -> bool
+    /// Whether a scalar, a some or an every is looked for.
+    pub fn is_node(self, r: QuantId) -> bool
         ensures scalar { result ≡ (wanted self).cell r }
         ensures node { result ≡ (wanted self).node r }
     {
@@ -46,8 +43,8 @@ impl Sought {
         }
     }
 
-    // Whether it is looked for within a some or every.
-    fn enters(self, r: QuantId) -> bool
+    /// Whether it is looked for within a some or every.
+    pub fn enters(self, r: QuantId) -> bool
         ensures { result ≡ (wanted self).enter r }
     {
         match self {
@@ -56,8 +53,8 @@ impl Sought {
         }
     }
 
-    // Whether an aggregate is.
-    fn is_aggregate(self) -> bool
+    /// Whether an aggregate is looked for.
+    pub fn is_aggregate(self) -> bool
         ensures { result ≡ (wanted self).aggregate }
     {
         match self {
@@ -65,150 +62,4 @@ impl Sought {
             Sought::Node | Sought::NodeOf(_) | Sought::Row(_) | Sought::Cell(_, _) => false,
         }
     }
-}
-
-// OR, as a call: one path where an expression would be two.
-fn either(a: bool, b: bool) -> bool
-    ensures { result ≡ (a || b) }
-{
-    a || b
-}
-
-// AND, as a call.
-pub(crate) fn both(a: bool, b: bool) -> bool
-    ensures { result ≡ (a && b) }
-{
-    a && b
-}
-
-/// Whether it stands in an expression.
-#[cycle(stands_in)]
-pub fn stands_in(x: &Gx, sought: Sought) -> bool
-    ensures { result ≡ any_in (wanted sought) (term x.now) }
-{
-    match x {
-        Gx::Int(_) | Gx::Text(_) | Gx::NullInt | Gx::NullText => false,
-        Gx::Col(r, j) => sought.is_column(*r, *j),
-        Gx::Scalar(r) => sought.is_node(*r),
-        Gx::CountAll => either(sought.is_aggregate(), false),
-        Gx::Chain(a, list) => either(stands_in(a, sought), stands_in_links(list, sought)),
-        Gx::Case(list, a) => either(stands_in_arms(list, sought), stands_in(a, sought)),
-        Gx::Neg(a) => stands_in(a, sought),
-        Gx::Single(a)
-        | Gx::Count(a)
-        | Gx::Sum(a)
-        | Gx::Avg(a)
-        | Gx::Min(a)
-        | Gx::Max(a)
-        | Gx::CountDistinct(a)
-        | Gx::SumDistinct(a)
-        | Gx::AvgDistinct(a)
-        | Gx::MinDistinct(a)
-        | Gx::MaxDistinct(a) => either(sought.is_aggregate(), stands_in(a, sought)),
-    }
-}
-
-// Whether it stands in an operand behind a first one.
-#[cycle(stands_in)]
-fn stands_in_links(list: &[Link], sought: Sought) -> bool
-    ensures { result ≡ any_in_links (wanted sought) (links list.now) }
-{
-    for link in list {
-        if stands_in(&link.right, sought) {
-            return true;
-        }
-    }
-    false
-}
-
-// Whether it stands in an arm of a CASE.
-#[cycle(stands_in)]
-fn stands_in_arms(list: &[Arm], sought: Sought) -> bool
-    ensures { result ≡ any_in_choices (wanted sought) (choices list.now) }
-{
-    for arm in list {
-        if stands_in_cond(&arm.when, sought) || stands_in(&arm.then, sought) {
-            return true;
-        }
-    }
-    false
-}
-
-/// Whether it stands in a condition.
-#[cycle(stands_in)]
-pub fn stands_in_cond(c: &Gc, sought: Sought) -> bool
-    ensures { result ≡ any_in_cond (wanted sought) (cond c.now) }
-{
-    match c {
-        Gc::True => false,
-        Gc::Eq(a, b)
-        | Gc::Ne(a, b)
-        | Gc::Lt(a, b)
-        | Gc::Le(a, b)
-        | Gc::Gt(a, b)
-        | Gc::Ge(a, b)
-        | Gc::Same(a, b)
-        | Gc::Like(a, b) => either(stands_in(a, sought), stands_in(b, sought)),
-        Gc::IsNull(a) => stands_in(a, sought),
-        Gc::All(a, list) => either(stands_in_cond(a, sought), stands_in_conds(list, sought)),
-        Gc::Any(a, list) => either(stands_in_cond(a, sought), stands_in_conds(list, sought)),
-        Gc::Not(a) => stands_in_cond(a, sought),
-        Gc::Some(r, a) | Gc::Every(r, a) => either(
-            sought.is_node(*r),
-            both(sought.enters(*r), stands_in_cond(a, sought)),
-        ),
-    }
-}
-
-/// Whether it stands in one of these conditions.
-#[cycle(stands_in)]
-pub fn stands_in_conds(list: &[Gc], sought: Sought) -> bool
-    ensures { result ≡ list_any (any_in_cond (wanted sought)) (conds list.now) }
-{
-    for c in list {
-        if stands_in_cond(c, sought) {
-            return true;
-        }
-    }
-    false
-}
-
-/// Whether it stands in one of the cells of a head.
-pub fn stands_in_cells(list: &[Gx], sought: Sought) -> bool
-    ensures { result ≡ list_any (any_in (wanted sought)) (terms list.now) }
-{
-    for x in list {
-        if stands_in(x, sought) {
-            return true;
-        }
-    }
-    false
-}
-
-/// Whether no scalar, some or every stands in an expression.
-pub fn is_node_free(x: &Gx) -> bool
-    ensures { result ≡ node_free (term x.now) }
-{
-    !stands_in(x, Sought::Node)
-}
-
-/// Whether no scalar, some or every stands in a condition.
-pub fn is_node_free_cond(c: &Gc) -> bool
-    ensures { result ≡ node_free_cond (cond c.now) }
-{
-    !stands_in_cond(c, Sought::Node)
-}
-
-/// Whether an aggregate stands in an expression.
-pub fn has_aggregate(x: &Gx) -> bool
-    ensures { result ≡ has_aggregate (term x.now) }
-{
-    stands_in(x, Sought::Aggregate)
-}
-
-/// Whether an aggregate stands in a condition.
-pub fn has_aggregate_cond(c: &Gc) -> bool
-    ensures { result ≡ has_aggregate_cond (cond c.now) }
-{
-    stands_in_cond(c, Sought::Aggregate)
 }

@@ -3,8 +3,8 @@ use Rattle.std.proofs.Common.{ℕ, ◌≡◌, ◌≤◌, ◌+◌, List, arith}
 use Rattle.box_exec.specs.Closed.{AllClosed, NamesBound, closed_number, reached_number}
 use Rattle.box_exec.specs.Ready.{AllFit}
 use Rattle.box_exec.specs.Settled.{BoundIfTouched, FitIfSettled, Settled}
-use Rattle.qgm_check.proofs.Faults.{finds-none}
-use Rattle.qgm_check.specs.Sentences.{WellFormed}
+use Rattle.qgm_formed.proofs.Faults.{finds-none}
+use Rattle.qgm_formed.specs.Sentences.{WellFormed}
 use Rattle.qgm_core.specs.Boxes.{QueryGraph, numbers}
 use Rattle.qgm_core.specs.Lists.{EachOnce}
 use Rattle.qgm_laws.specs.Graph.{Sound}

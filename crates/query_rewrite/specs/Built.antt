@@ -2,7 +2,7 @@
 use Rattle.std.specs.Prelude.{ℕ, ◌↔◌, List, []}
 use Rattle.qgm_core.specs.Boxes.{QueryGraph}
 use Rattle.qgm_core.specs.Lists.{In}
-use Rattle.qgm_check.specs.Sentences.{WellFormed}
+use Rattle.qgm_formed.specs.Sentences.{WellFormed}
 use Rattle.rule_api.specs.Rules.{Pair}
 use Rattle.rule_api.specs.declared.place.Place.{Place}
 use Rattle.rule_api.specs.declared.place.RuleId.{RuleId}

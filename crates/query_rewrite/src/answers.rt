@@ -1,6 +1,6 @@
 // The rows of a graph that is rewritten first.
 ghost use Rattle.std.specs.Prelude.{◌≡◌, ◌≤◌, ◌-◌, ◌++◌, ℕ, List, IfOk, min};
-ghost use Rattle.qgm_check.specs.Sentences.{WellFormed};
+ghost use Rattle.qgm_formed.specs.Sentences.{WellFormed};
 ghost use Rattle.qgm_meaning.specs.Meaning.{root_bag};
 ghost use Rattle.qgm_meaning.specs.Satisfies.{Satisfies};
 ghost use Rattle.query_rewrite.specs.Answers.{IsRewritten};

@@ -1,6 +1,6 @@
 // The rules that are built, as the engine takes them.
 ghost use Rattle.std.specs.Prelude.{IfOk};
-ghost use Rattle.qgm_check.specs.Sentences.{WellFormed};
+ghost use Rattle.qgm_formed.specs.Sentences.{WellFormed};
 ghost use Rattle.query_rewrite.specs.Answers.{Rewrites};
 ghost use Rattle.query_rewrite.specs.Built.{built_act, built_exact, built_may, built_pairs};
 

@@ -1,6 +1,6 @@
 // The execution of a well-formed graph.
 ghost use Rattle.std.specs.Prelude.{◌≡◌, ◌≤◌, ◌-◌, IfOk, min};
-ghost use Rattle.qgm_check.specs.Sentences.{WellFormed};
+ghost use Rattle.qgm_formed.specs.Sentences.{WellFormed};
 ghost use Rattle.qgm_meaning.specs.Meaning.{root_bag};
 ghost use Rattle.query_rewrite.specs.Answers.{Evaluates};
 ghost use Rattle.row_bag.specs.Bags.{Agree};

@@ -1,6 +1,6 @@
 // A rewriting that tells of each firing.
 ghost use Rattle.std.specs.Prelude.{◌≡◌, ◌++◌, ◌<◌, IfOk};
-ghost use Rattle.qgm_check.specs.Sentences.{WellFormed};
+ghost use Rattle.qgm_formed.specs.Sentences.{WellFormed};
 ghost use Rattle.query_rewrite.specs.Built.{built_act, built_may, built_pairs};
 ghost use Rattle.query_rewrite.specs.Explained.{Told, step_lines};
 ghost use Rattle.rule_engine.specs.Trace.{Steps};

@@ -2,7 +2,7 @@
 ghost use Rattle.std.specs.Prelude.{ℕ, ◌≡◌, ◌↔◌, IfOk, List, OnErr, OnOk, map};
 ghost use Rattle.qgm_core.specs.Boxes.{HasBox, QueryGraph};
 ghost use Rattle.qgm_core.specs.Lists.{In};
-ghost use Rattle.qgm_check.specs.Sentences.{WellFormed};
+ghost use Rattle.qgm_formed.specs.Sentences.{WellFormed};
 ghost use Rattle.rule_api.specs.Rules.{Ascending, Pair, Preserves, place_at};
 ghost use Rattle.rule_api.specs.declared.place.Place.{Place};
 ghost use Rattle.rule_api.specs.declared.place.RuleId.{RuleId};

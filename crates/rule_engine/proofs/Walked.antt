@@ -6,8 +6,8 @@ use Rattle.qgm_core.specs.Lists.{In, each, first, holds}
 use Rattle.qgm_core.specs.Walk.{levels, news, under, visit, walk}
 use Rattle.qgm_core.specs.declared.node.Node.{Node}
 use Rattle.qgm_core.specs.declared.owned.OwnedQuant.{OwnedQuant}
-use Rattle.qgm_check.specs.Sentences.{WellFormed}
-use Rattle.qgm_check.specs.declared.check.Clause.TheVariants.{I1}
+use Rattle.qgm_formed.specs.Sentences.{WellFormed}
+use Rattle.qgm_formed.specs.declared.clause.Clause.TheVariants.{I1}
 use Rattle.rewrite_plan.specs.declared.plan.Walk.{Walk}
 use Rattle.rewrite_plan.specs.declared.plan.Walk.TheVariants.{Depth, Breadth}
 use Rattle.rule_engine.proofs.Chosen.{in-append, in-flat_map}

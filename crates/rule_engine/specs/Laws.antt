@@ -3,7 +3,7 @@ use Rattle.std.specs.Prelude.{ℕ, ◌≡◌, ◌↔◌, List, [], Some, None}
 use Rattle.qgm_core.specs.Boxes.{HasBox, QueryGraph}
 use Rattle.qgm_core.specs.Lists.{In}
 use Rattle.qgm_core.specs.Walk.{walk}
-use Rattle.qgm_check.specs.Sentences.{WellFormed}
+use Rattle.qgm_formed.specs.Sentences.{WellFormed}
 use Rattle.rewrite_plan.specs.declared.classes.Class.{Class}
 use Rattle.rewrite_plan.specs.declared.plan.Plan.{Plan}
 use Rattle.rewrite_plan.specs.declared.plan.Walk.{Walk}

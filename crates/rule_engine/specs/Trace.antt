@@ -1,7 +1,7 @@
 -- What a step and a whole rewriting do.
 use Rattle.std.specs.Prelude.{ℕ, ◌≡◌, ◌+◌, ◌<◌, ◌≤◌, List, [], ◌∷◌, length, Option, Some, None}
 use Rattle.qgm_core.specs.Boxes.{QueryGraph}
-use Rattle.qgm_check.specs.Sentences.{WellFormed}
+use Rattle.qgm_formed.specs.Sentences.{WellFormed}
 use Rattle.rewrite_plan.specs.declared.plan.Plan.{Plan}
 use Rattle.rule_api.specs.Rules.{Preserves}
 use Rattle.rule_api.specs.declared.place.Firing.{Firing}

@@ -1,7 +1,7 @@
 // The candidate that fires, found without those behind it where the order lets it.
 ghost use Rattle.std.specs.Prelude.{◌≡◌, IfOk, map, slice_get};
 ghost use Rattle.qgm_core.specs.Boxes.{HasBox};
-ghost use Rattle.qgm_check.specs.Sentences.{WellFormed};
+ghost use Rattle.qgm_formed.specs.Sentences.{WellFormed};
 ghost use Rattle.rule_api.specs.Rules.{place_at};
 ghost use Rattle.rule_engine.specs.Control as spec;
 

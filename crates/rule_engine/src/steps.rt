@@ -1,6 +1,6 @@
 // A step, and a whole rewriting.
 ghost use Rattle.std.specs.Prelude.{◌≡◌, IfOk, OnErr};
-ghost use Rattle.qgm_check.specs.Sentences.{WellFormed};
+ghost use Rattle.qgm_formed.specs.Sentences.{WellFormed};
 ghost use Rattle.rule_engine.specs.Trace.{Steps, Traces};
 
 use crate::rules::Rules;

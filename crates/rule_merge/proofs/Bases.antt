@@ -3,10 +3,10 @@ use Rattle.std.proofs.Common.{ℕ, ◌+◌, ◌==◌, ◌&&◌, ◌||◌, ◌≡
 use Rattle.std.specs.List.{flat_map, list_any}
 use Rattle.std.proofs.Math.Bool.{and-false}
 use Rattle.std.proofs.lemmas.Bool.{and_from, and_parts, cases_Bool}
-use Rattle.qgm_check.proofs.Below.{reached-reaches}
-use Rattle.qgm_check.proofs.Faults.{finds-none}
-use Rattle.qgm_check.specs.Sentences.{WellFormed}
-use Rattle.qgm_check.specs.Shapes.{all_F}
+use Rattle.qgm_formed.proofs.Below.{reached-reaches}
+use Rattle.qgm_formed.proofs.Faults.{finds-none}
+use Rattle.qgm_formed.specs.Sentences.{WellFormed}
+use Rattle.qgm_formed.specs.Shapes.{all_F}
 use Rattle.qgm_core.specs.Boxes.{QueryGraph, box_of, is_box, numbers, overs_in, owns, quants_in, quants_of}
 use Rattle.qgm_core.specs.Free.{Reaches, free, is_owned, itself, named_by, named_where, put_each, reached, through}
 use Rattle.qgm_core.specs.Kinds.{is_F, is_base, is_fed, is_magic, is_plain, is_select}

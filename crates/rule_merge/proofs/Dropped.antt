@@ -10,8 +10,8 @@ use Rattle.qgm_core.specs.Kinds.{is_F, is_enforce}
 use Rattle.qgm_core.specs.Lists.{EachOnce, In, first, holds, without}
 use Rattle.qgm_core.specs.declared.node.Node.{Node}
 use Rattle.qgm_core.specs.declared.owned.OwnedQuant.{OwnedQuant}
-use Rattle.qgm_check.specs.Sentences.{WellFormed}
-use Rattle.qgm_check.proofs.Faults.{finds-none}
+use Rattle.qgm_formed.specs.Sentences.{WellFormed}
+use Rattle.qgm_formed.proofs.Faults.{finds-none}
 use Rattle.qgm_meaning.specs.Satisfies.{Satisfies}
 use Rattle.qgm_laws.specs.Drop.{MayDrop, dropped, moved, moved_range}
 use Rattle.qgm_laws.specs.Graph.{Sound}

@@ -1,8 +1,8 @@
 -- The steps of M1's action make the graph of its law.
 use Rattle.std.proofs.Common.{ℕ, suc, ◌<◌, ◌-◌, ◌==◌, ◌&&◌, ◌||◌, ◌≡◌, ◌≤◌, not, cond, true, false, List, [], ◌∷◌, ◌++◌, drop, length, map, take, filter, refl, sym, ap, subst, ◌∙◌, eqb-true, ◌⊎◌, inl, inr, arith}
 use Rattle.std.proofs.lemmas.Bool.{and_from, and_parts, cases_Bool, eq-eqb, not-true}
-use Rattle.qgm_check.proofs.Faults.{finds-none}
-use Rattle.qgm_check.specs.Sentences.{WellFormed}
+use Rattle.qgm_formed.proofs.Faults.{finds-none}
+use Rattle.qgm_formed.specs.Sentences.{WellFormed}
 use Rattle.qgm_core.specs.Boxes.{HasBox, Ordered, QueryGraph, has_box, is_box, numbers, overs_in, overs_of, quants_in, quants_of}
 use Rattle.qgm_core.specs.Edits.{absorb, absorbed, keep, on_boxes, spliced_at, with_quants, with_terms}
 use Rattle.qgm_core.specs.Free.{Reaches, itself, reached, through}

@@ -3,10 +3,10 @@ use Rattle.std.proofs.Common.{ℕ, ◌==◌, ◌≡◌, cond, not, true, false, 
 use Rattle.std.specs.List.{list_any}
 use Rattle.std.proofs.lemmas.Bool.{and_parts, not-true}
 use Rattle.row_bag.specs.declared.tables.Table.{Table}
-use Rattle.qgm_check.proofs.Faults.{finds-none}
-use Rattle.qgm_check.specs.Sentences.{WellFormed}
-use Rattle.qgm_check.specs.Shapes.{is_unfolded, kind_fits, role_fits}
-use Rattle.qgm_check.specs.WellFormed.{fault}
+use Rattle.qgm_formed.proofs.Faults.{finds-none}
+use Rattle.qgm_formed.specs.Sentences.{WellFormed}
+use Rattle.qgm_formed.specs.Shapes.{is_unfolded, kind_fits, role_fits}
+use Rattle.qgm_formed.specs.WellFormed.{fault}
 use Rattle.qgm_core.specs.Boxes.{QueryGraph, is_box, numbers}
 use Rattle.qgm_core.specs.Free.{reached}
 use Rattle.qgm_core.specs.Kinds.{is_F, is_enforce, is_magic, is_permit}

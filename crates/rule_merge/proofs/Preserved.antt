@@ -4,8 +4,8 @@ use Rattle.row_bag.specs.declared.tables.Table.{Table}
 use Rattle.qgm_core.specs.Boxes.{QueryGraph, numbers}
 use Rattle.qgm_core.specs.Lists.{EachOnce}
 use Rattle.qgm_core.specs.declared.node.Node.{Node}
-use Rattle.qgm_check.specs.WellFormed.{fault}
-use Rattle.qgm_check.proofs.Faults.{finds-none}
+use Rattle.qgm_formed.specs.WellFormed.{fault}
+use Rattle.qgm_formed.proofs.Faults.{finds-none}
 use Rattle.qgm_meaning.specs.Satisfies.{Satisfies, SatisfiesBy}
 use Rattle.qgm_meaning.proofs.Satisfying.{of-satisfying}
 use Rattle.qgm_laws.specs.Keeps.{Keeps}

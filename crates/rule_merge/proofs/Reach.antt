@@ -1,6 +1,6 @@
 -- Boxes that the root reaches after steps are those that it reached before, where as much is said of single boxes.
 use Rattle.std.proofs.Common.{ℕ, ◌≡◌, Bool, true, false, List, [], ◌∷◌, filter, refl}
-use Rattle.qgm_check.proofs.Below.{reached-reaches}
+use Rattle.qgm_formed.proofs.Below.{reached-reaches}
 use Rattle.qgm_core.specs.Boxes.{Ordered}
 use Rattle.qgm_core.specs.Free.{Reaches, reached}
 use Rattle.qgm_core.specs.Lists.{In, holds}

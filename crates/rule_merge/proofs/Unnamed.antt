@@ -3,9 +3,9 @@ use Rattle.std.proofs.Common.{ℕ, ◌==◌, ◌&&◌, ◌≡◌, not, cond, Boo
 use Rattle.std.specs.List.{flat_map, list_any}
 use Rattle.std.proofs.Math.Bool.{and-false}
 use Rattle.std.proofs.lemmas.Bool.{and_parts, cases_Bool, eq-eqb}
-use Rattle.qgm_check.proofs.Below.{free-free}
-use Rattle.qgm_check.proofs.Faults.{finds-none}
-use Rattle.qgm_check.specs.Sentences.{WellFormed}
+use Rattle.qgm_formed.proofs.Below.{free-free}
+use Rattle.qgm_formed.proofs.Faults.{finds-none}
+use Rattle.qgm_formed.specs.Sentences.{WellFormed}
 use Rattle.qgm_core.specs.Boxes.{QueryGraph, is_quant, numbers, owns}
 use Rattle.qgm_core.specs.Free.{IsFree, free, named_by}
 use Rattle.qgm_core.specs.Kinds.{is_F}

@@ -19,7 +19,7 @@ use Rattle.qgm_core.specs.declared.node.Node.{Node}
 use Rattle.qgm_core.specs.declared.owned.OwnedQuant.{OwnedQuant}
 use Rattle.qgm_terms.specs.Terms as t
 use Rattle.qgm_terms.specs.Terms.{Cond, Term}
-use Rattle.qgm_check.specs.Sentences.{WellFormed}
+use Rattle.qgm_formed.specs.Sentences.{WellFormed}
 use Rattle.qgm_laws.specs.Drop.{columns_from, moved}
 use Rattle.qgm_laws.proofs.Lists.{any-from, any-in, any-not, clash, eq-itself}
 use Rattle.rule_api.specs.PickLaws.{once_exact}

@@ -3,10 +3,10 @@ use Rattle.std.proofs.Common.{ℕ, suc, zero, ◌==◌, ◌&&◌, ◌||◌, ◌�
 use Rattle.std.specs.Prelude.{◌↔◌, ◌-◌, slice_get}
 use Rattle.std.specs.List.{list_any}
 use Rattle.std.proofs.lemmas.Bool.{and_from, and_parts, cases_Bool, eq-eqb, not-true, or_cases}
-use Rattle.qgm_check.specs.Sentences.{WellFormed}
-use Rattle.qgm_check.specs.Shapes.{all_F}
-use Rattle.qgm_check.specs.WellFormed.{is_empty}
-use Rattle.qgm_check.specs.declared.check.Clause.TheVariants.{I2}
+use Rattle.qgm_formed.specs.Sentences.{WellFormed}
+use Rattle.qgm_formed.specs.Shapes.{all_F}
+use Rattle.qgm_formed.specs.WellFormed.{is_empty}
+use Rattle.qgm_formed.specs.declared.clause.Clause.TheVariants.{I2}
 use Rattle.qgm_core.specs.Boxes.{QueryGraph, box_of, ids_in, ids_of, is_box, is_quant, overs_in, owns, quants_in, quants_of}
 use Rattle.qgm_core.specs.Edits.{compact, on_boxes, set_distinct}
 use Rattle.qgm_core.specs.Free.{free, free_in}

@@ -1,8 +1,8 @@
 -- The test of M1: a select under an F quantifier of a select.
 use Rattle.std.specs.Prelude.{ℕ, suc, ◌==◌, ◌&&◌, ◌||◌, ◌++◌, not, if◌then◌else◌, Bool, true, false, List, [], ◌∷◌, Option, Some, None}
 use Rattle.std.specs.List.{list_any}
-use Rattle.qgm_check.specs.Shapes.{all_F}
-use Rattle.qgm_check.specs.WellFormed.{is_empty}
+use Rattle.qgm_formed.specs.Shapes.{all_F}
+use Rattle.qgm_formed.specs.WellFormed.{is_empty}
 use Rattle.qgm_core.specs.Boxes.{QueryGraph, box_of, is_box, overs_in, owns}
 use Rattle.qgm_core.specs.Edits.{compact, on_boxes, set_distinct}
 use Rattle.qgm_core.specs.Free.{free, free_in}

@@ -11,9 +11,9 @@ ghost use Rattle.rule_merge.specs.Copies as spec;
 use qgm_core::{
     BoxId, BoxKind, Distinct, Gc, Graph, Gx, Head, Node, OwnedQuant, QuantId, QuantKind, Role,
 };
-use qgm_terms::same_term;
 use shared_types::OutOfMemory;
 use std::alloc::Global;
+use term_contents::same_term;
 
 // The box of a number, sought among all.
 fn box_among(nodes: &[Node], b: BoxId) -> Option<&Node>

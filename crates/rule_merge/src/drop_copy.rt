@@ -1,6 +1,6 @@
 // M2.
 ghost use Rattle.std.specs.Prelude.{◌≡◌, OnErr, OnOk, true};
-ghost use Rattle.qgm_check.specs.Sentences.{WellFormed};
+ghost use Rattle.qgm_formed.specs.Sentences.{WellFormed};
 ghost use Rattle.rule_api.specs.Rules.{Preserves};
 ghost use Rattle.rule_api.specs.declared.place.RuleId.TheVariants.{M2};
 ghost use Rattle.rule_merge.specs.Copies as spec;

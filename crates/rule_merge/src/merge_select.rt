@@ -1,6 +1,6 @@
 // M1.
 ghost use Rattle.std.specs.Prelude.{◌≡◌, IfOk};
-ghost use Rattle.qgm_check.specs.Sentences.{WellFormed};
+ghost use Rattle.qgm_formed.specs.Sentences.{WellFormed};
 ghost use Rattle.rule_api.specs.declared.place.RuleId.TheVariants.{M1};
 ghost use Rattle.rule_merge.specs.MergeSelect.{MayMergeSelect, MergesSelect, PassesMerge, PlansAt, merge_select_exact, merge_select_pairs};
 

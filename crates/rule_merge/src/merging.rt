@@ -2,8 +2,8 @@
 ghost use Rattle.std.specs.Prelude.{◌≡◌, ◌≤◌, ◌-◌, IfOk, Some, slice_get};
 ghost use Rattle.std.specs.List.{list_any};
 ghost use Rattle.std.specs.Prelude.{◌&&◌, ◌==◌, not, false, true};
-ghost use Rattle.qgm_check.specs.Sentences.{WellFormed};
-ghost use Rattle.qgm_check.specs.Shapes.{all_F};
+ghost use Rattle.qgm_formed.specs.Sentences.{WellFormed};
+ghost use Rattle.qgm_formed.specs.Shapes.{all_F};
 ghost use Rattle.qgm_core.specs.Boxes.{HasBox, box_of, is_box, numbers, owns};
 ghost use Rattle.qgm_core.specs.Edits.{set_distinct};
 ghost use Rattle.qgm_core.specs.Kinds as kinds;
@@ -21,9 +21,10 @@ use qgm_core::{
     BoxId, Distinct, Graph, Head, Node, OwnedQuant, QuantId, Role, free_in, has_range, node_at,
 };
 use qgm_props::props;
-use qgm_terms::{Sought, is_node_free, stands_in_cells, stands_in_conds};
+use qgm_terms::Sought;
 use shared_types::OutOfMemory;
 use std::alloc::Global;
+use term_contents::{is_node_free, stands_in_cells, stands_in_conds};
 
 fn is_enforce(distinct: Distinct) -> bool
     ensures { result ≡ kinds.is_enforce distinct }

@@ -1,6 +1,6 @@
 // A box stands in the place of the quantifier over it.
 ghost use Rattle.std.specs.Prelude.{ℕ, ◌≡◌, ◌++◌, ◌∷◌, [], IfOk, OnErr, OnOk};
-ghost use Rattle.qgm_check.specs.Sentences.{WellFormed};
+ghost use Rattle.qgm_formed.specs.Sentences.{WellFormed};
 ghost use Rattle.qgm_core.specs.Boxes.{HasBox};
 ghost use Rattle.qgm_core.specs.Edits.{on_boxes};
 ghost use Rattle.qgm_core.specs.Lists.{In};
@@ -10,11 +10,10 @@ ghost use Rattle.rule_merge.specs.Splices as spec;
 ghost use Rattle.rule_merge.specs.declared.splices.NewTerms.{NewTerms};
 
 use qgm_core::{BoxId, BoxParts, Conds, Gc, Graph, Head, Node, OwnedQuant, QuantId, reached};
-use qgm_terms::{
-    ROOM, Sought, copy_cond, stands_in_cells, stands_in_conds, substitute_conds, substitute_head,
-};
+use qgm_terms::{ROOM, Sought, copy_cond, substitute_conds, substitute_head};
 use shared_types::OutOfMemory;
 use std::alloc::Global;
+use term_contents::{stands_in_cells, stands_in_conds};
 
 /// The conditions and the head that a box gets.
 #[derive(Drop)]

@@ -1,0 +1,11 @@
+pub mod TypeLaws
+pub mod HeadLaws
+pub mod Stand
+pub mod Below
+pub mod Seen
+pub mod Kept
+pub mod Faults
+pub mod Tables
+pub mod Upward
+pub mod ClosedLaws
+pub mod Rounds

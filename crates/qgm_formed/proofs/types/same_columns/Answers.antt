@@ -1,0 +1,10 @@
+use Rattle.std.proofs.Common.{arith}
+use Rattle.std.proofs.lemmas.Grind.{common_steps}
+use Rattle.qgm_formed.proofs.Tables.{unequal-columns}
+use Rattle.qgm_formed.proofs.types.same_columns.Goals as goal
+
+pub returns-then-a-b : goal.returns-then-a-b
+returns-then-a-b c = unequal-columns c.args.a.now c.args.b.now (λ p. grind (arith, common_steps, p, c.if-a-b.true))
+
+pub loop-i-preserved : goal.loop-i-preserved
+loop-i-preserved c = grind (arith, common_steps)

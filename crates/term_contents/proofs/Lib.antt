@@ -1,0 +1,2 @@
+pub mod PostfixLaws
+pub mod PostfixRead

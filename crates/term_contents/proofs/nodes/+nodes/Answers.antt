@@ -1,0 +1,23 @@
+use Rattle.std.proofs.Common.{arith}
+use Rattle.std.proofs.lemmas.Grind.{common_steps}
+use Rattle.qgm_terms.proofs.Listed as listed
+use Rattle.qgm_terms.proofs.Lists as lists
+use Rattle.qgm_terms.specs.Named.{nodes}
+use Rattle.qgm_terms.specs.Shown as shown
+use Rattle.term_contents.proofs.nodes.+nodes.Goals as goal
+
+pub add_nodes-returns-in_ok-add_nodes-in-Chain : goal.add_nodes-returns-in_ok-add_nodes-in-Chain
+add_nodes-returns-in_ok-add_nodes-in-Chain t c =
+    rw (c.in-Chain.is, lists.links_hidden c.in-Chain.list, listed.listed_linked nodes (shown.term c.in-Chain.a.value) (shown.links c.in-Chain.list.items)) (grind (arith, common_steps))
+
+pub add_nodes-returns-in_ok-add_nodes_of_arms-in-Case : goal.add_nodes-returns-in_ok-add_nodes_of_arms-in-Case
+add_nodes-returns-in_ok-add_nodes_of_arms-in-Case t c =
+    rw (c.in-Case.is, lists.choices_hidden c.in-Case.list, listed.listed_case nodes (shown.choices c.in-Case.list.items) (shown.term c.in-Case.a.value)) (grind (arith, common_steps))
+
+pub add_nodes_of_cond-returns-in_ok-add_nodes_of_cond-in-All : goal.add_nodes_of_cond-returns-in_ok-add_nodes_of_cond-in-All
+add_nodes_of_cond-returns-in_ok-add_nodes_of_cond-in-All t c =
+    rw (c.in-All.is, lists.conds_hidden c.in-All.list, listed.listed_anded nodes (shown.cond c.in-All.a.value) (shown.conds c.in-All.list.items)) (grind (arith, common_steps))
+
+pub add_nodes_of_cond-returns-in_ok-add_nodes_of_cond-in-Any : goal.add_nodes_of_cond-returns-in_ok-add_nodes_of_cond-in-Any
+add_nodes_of_cond-returns-in_ok-add_nodes_of_cond-in-Any t c =
+    rw (c.in-Any.is, lists.conds_hidden c.in-Any.list, listed.listed_ored nodes (shown.cond c.in-Any.a.value) (shown.conds c.in-Any.list.items)) (grind (arith, common_steps))

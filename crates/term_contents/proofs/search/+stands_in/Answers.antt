@@ -1,0 +1,23 @@
+use Rattle.std.proofs.Common.{arith}
+use Rattle.std.proofs.lemmas.Grind.{common_steps}
+use Rattle.qgm_terms.proofs.Found as found
+use Rattle.qgm_terms.proofs.Lists as lists
+use Rattle.qgm_terms.specs.Shown as shown
+use Rattle.qgm_terms.specs.Wanted.{wanted}
+use Rattle.term_contents.proofs.search.+stands_in.Goals as goal
+
+pub stands_in-returns-in-Chain : goal.stands_in-returns-in-Chain
+stands_in-returns-in-Chain t c =
+    rw (c.in-Chain.is, lists.links_hidden c.in-Chain.list, found.any_linked (wanted c.args.sought) (shown.term c.in-Chain.a.value) (shown.links c.in-Chain.list.items)) (grind (arith, common_steps))
+
+pub stands_in-returns-in-Case : goal.stands_in-returns-in-Case
+stands_in-returns-in-Case t c =
+    rw (c.in-Case.is, lists.choices_hidden c.in-Case.list, found.any_case (wanted c.args.sought) (shown.choices c.in-Case.list.items) (shown.term c.in-Case.a.value)) (grind (arith, common_steps))
+
+pub stands_in_cond-returns-in-All : goal.stands_in_cond-returns-in-All
+stands_in_cond-returns-in-All t c =
+    rw (c.in-All.is, lists.conds_hidden c.in-All.list, found.any_anded (wanted c.args.sought) (shown.cond c.in-All.a.value) (shown.conds c.in-All.list.items)) (grind (arith, common_steps))
+
+pub stands_in_cond-returns-in-Any : goal.stands_in_cond-returns-in-Any
+stands_in_cond-returns-in-Any t c =
+    rw (c.in-Any.is, lists.conds_hidden c.in-Any.list, found.any_ored (wanted c.args.sought) (shown.cond c.in-Any.a.value) (shown.conds c.in-Any.list.items)) (grind (arith, common_steps))
