@@ -1,4 +1,5 @@
-use Rattle.std.proofs.Common.{sym, ◌∙◌, ◌++◌, ◌≡◌, List, ℕ, ap, append-nil, subst}
+use Rattle.std.proofs.lemmas.Grind.{common_steps}
+use Rattle.std.proofs.Common.{sym, ◌∙◌, ◌++◌, ◌≡◌, List, ℕ, ap, append-nil, subst, arith}
 use Rattle.std.specs.Result.{OnOk}
 use Rattle.box_exec.proofs.Names.{beyond-at, beyond-none, index-within}
 use Rattle.box_exec.proofs.beyond.add_beyond.Goals as goal
@@ -16,3 +17,9 @@ returns c =
     subst (λ (xs : List ℕ). OnOk c.append.result (c.append.new.out.items ≡ c.args.out.now.items ++ xs))
     (c.deref.ensures.value ∙ beyond-at c.args.below.now c.args.b c.in-Some.i c.args.named.now c.index-named-below.result place c.requires (index-within c.args.below.now c.args.b c.in-Some.i c.args.named.now place c.requires) c.index-named-below.is)
     c.append.ensures
+
+pub overflow_sub-below : goal.overflow_sub-below
+overflow_sub-below c = grind (arith, common_steps)
+
+pub overflow_sub-below-2 : goal.overflow_sub-below-2
+overflow_sub-below-2 c = grind (arith, common_steps)

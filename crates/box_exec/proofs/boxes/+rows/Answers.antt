@@ -364,3 +364,129 @@ put_together-rows_under-ys-requires t c = grind (arith, common_steps)
 
 pub subs-rows_under-rows-requires : goal.subs-rows_under-rows-requires
 subs-rows_under-rows-requires t c = grind (arith, common_steps)
+
+pub subs-loop-l-init : goal.subs-loop-l-init
+subs-loop-l-init g t c = grind (arith, common_steps)
+
+pub joined-bounds-p-0 : goal.joined-bounds-p-0
+joined-bounds-p-0 g t c = grind (arith, common_steps)
+
+pub evaluated-returns-clause-rows : goal.evaluated-returns-clause-rows
+evaluated-returns-clause-rows g t c = grind (arith, common_steps)
+
+pub add_head-returns-clause-counted : goal.add_head-returns-clause-counted
+add_head-returns-clause-counted g t c = grind (arith, common_steps)
+
+pub each-add_head-requires : goal.each-add_head-requires
+each-add_head-requires g t c = grind (arith, common_steps)
+
+pub each-returns-then-is_no-clause-took : goal.each-returns-then-is_no-clause-took
+each-returns-then-is_no-clause-took g t c = grind (arith, common_steps)
+
+pub put_together-bounds-p-0 : goal.put_together-bounds-p-0
+put_together-bounds-p-0 g t c = grind (arith, common_steps)
+
+pub evaluated-returns-clause-counted : goal.evaluated-returns-clause-counted
+evaluated-returns-clause-counted g t c = grind (arith, common_steps)
+
+pub each-each-requires-then-not-skips : goal.each-each-requires-then-not-skips
+each-each-requires-then-not-skips g t c = grind (arith, common_steps)
+
+pub rows_under-returns-in-Kept-clause-took : goal.rows_under-returns-in-Kept-clause-took
+rows_under-returns-in-Kept-clause-took g t c = grind (arith, common_steps)
+
+pub each-overflow_add-k-2 : goal.each-overflow_add-k-2
+each-overflow_add-k-2 g t c = grind (arith, common_steps)
+
+pub each-overflow_add-k : goal.each-overflow_add-k
+each-overflow_add-k g t c = grind (arith, common_steps)
+
+pub of_kind-put_together-requires : goal.of_kind-put_together-requires
+of_kind-put_together-requires g t c = grind (arith, common_steps)
+
+pub rows_under-returns-in-Kept-clause-rows : goal.rows_under-returns-in-Kept-clause-rows
+rows_under-returns-in-Kept-clause-rows g t c = grind (arith, common_steps)
+
+pub each-returns-then-branch-clause-took : goal.each-returns-then-branch-clause-took
+each-returns-then-branch-clause-took g t c = grind (arith, common_steps)
+
+pub each-returns-in_err-probe-clause-counted : goal.each-returns-in_err-probe-clause-counted
+each-returns-in_err-probe-clause-counted g t c = grind (arith, common_steps)
+
+pub put_together-returns-clause-counted : goal.put_together-returns-clause-counted
+put_together-returns-clause-counted g t c = grind (arith, common_steps)
+
+pub each-loop-row-smaller : goal.each-loop-row-smaller
+each-loop-row-smaller g t c = grind (arith, common_steps)
+
+pub rows_under-returns-in-Nothing-clause-rows : goal.rows_under-returns-in-Nothing-clause-rows
+rows_under-returns-in-Nothing-clause-rows g t c = grind (arith, common_steps)
+
+pub each-offset_bounds-row-items-row-index : goal.each-offset_bounds-row-items-row-index
+each-offset_bounds-row-items-row-index g t c = grind (arith, common_steps)
+
+pub each-rows_under-requires : goal.each-rows_under-requires
+each-rows_under-requires g t c = grind (arith, common_steps)
+
+pub subs-returns-clause-counted : goal.subs-returns-clause-counted
+subs-returns-clause-counted g t c = grind (arith, common_steps)
+
+pub each-each-requires : goal.each-each-requires
+each-each-requires g t c = grind (arith, common_steps)
+
+pub subs-returns-clause-rows : goal.subs-returns-clause-rows
+subs-returns-clause-rows g t c = grind (arith, common_steps)
+
+pub joined-returns-clause-counted : goal.joined-returns-clause-counted
+joined-returns-clause-counted g t c = grind (arith, common_steps)
+
+pub put_together-bounds-q-1 : goal.put_together-bounds-q-1
+put_together-bounds-q-1 g t c = grind (arith, common_steps)
+
+pub each-returns-clause-counted : goal.each-returns-clause-counted
+each-returns-clause-counted g t c = grind (arith, common_steps)
+
+pub each-returns-in_default-clause-rows : goal.each-returns-in_default-clause-rows
+each-returns-in_default-clause-rows g t c = grind (arith, common_steps)
+
+pub rows_under-evaluated-requires : goal.rows_under-evaluated-requires
+rows_under-evaluated-requires g t c = grind (arith, common_steps)
+
+pub evaluated-returns-in_err-loops-clause-counted : goal.evaluated-returns-in_err-loops-clause-counted
+evaluated-returns-in_err-loops-clause-counted g t c = grind (arith, common_steps)
+
+pub each-returns-then-not-is_f-clause-counted : goal.each-returns-then-not-is_f-clause-counted
+each-returns-then-not-is_f-clause-counted g t c = grind (arith, common_steps)
+
+pub joined-bounds-q-1 : goal.joined-bounds-q-1
+joined-bounds-q-1 g t c = grind (arith, common_steps)
+
+pub groups-returns-in_default-clause-took : goal.groups-returns-in_default-clause-took
+groups-returns-in_default-clause-took g t c = grind (arith, common_steps)
+
+pub each-overflow_add-k-then-not-skips : goal.each-overflow_add-k-then-not-skips
+each-overflow_add-k-then-not-skips g t c = grind (arith, common_steps)
+
+pub each-returns-in_default-clause-counted : goal.each-returns-in_default-clause-counted
+each-returns-in_default-clause-counted g t c = grind (arith, common_steps)
+
+pub rows_under-returns-in-Nothing-clause-took : goal.rows_under-returns-in-Nothing-clause-took
+rows_under-returns-in-Nothing-clause-took g t c = grind (arith, common_steps)
+
+pub of_kind-selected-requires : goal.of_kind-selected-requires
+of_kind-selected-requires g t c = grind (arith, common_steps)
+
+pub evaluated-returns-in_err-early-clause-counted : goal.evaluated-returns-in_err-early-clause-counted
+evaluated-returns-in_err-early-clause-counted g t c = grind (arith, common_steps)
+
+pub rows_under-returns-in-Open-clause-counted : goal.rows_under-returns-in-Open-clause-counted
+rows_under-returns-in-Open-clause-counted g t c = grind (arith, common_steps)
+
+pub each-returns-in_err-rows-clause-counted : goal.each-returns-in_err-rows-clause-counted
+each-returns-in_err-rows-clause-counted g t c = grind (arith, common_steps)
+
+pub each-returns-in_err-rejected-clause-counted : goal.each-returns-in_err-rejected-clause-counted
+each-returns-in_err-rejected-clause-counted g t c = grind (arith, common_steps)
+
+pub groups-rows_under-rows-requires : goal.groups-rows_under-rows-requires
+groups-rows_under-rows-requires g t c = grind (arith, common_steps)

@@ -29,3 +29,9 @@ loop-c-preserved c =
 
 pub loop-c-init : goal.loop-c-init
 loop-c-init c = grind (arith, common_steps)
+
+pub returns : goal.returns
+returns c = grind (arith, common_steps)
+
+pub returns-then-not-is_select : goal.returns-then-not-is_select
+returns-then-not-is_select c = grind (arith, common_steps)

@@ -4,3 +4,9 @@ use Rattle.box_exec.proofs.early.rejected.Goals as goal
 
 pub returns-then-is_none : goal.returns-then-is_none
 returns-then-is_none c = grind (arith, common_steps)
+
+pub loop-e-preserved : goal.loop-e-preserved
+loop-e-preserved c = grind (arith, common_steps)
+
+pub returns : goal.returns
+returns c = grind (arith, common_steps)

@@ -59,3 +59,57 @@ first_true-returns-in-Yes t c = grind (arith, common_steps)
 
 pub hold-returns-in-Eq : goal.hold-returns-in-Eq
 hold-returns-in-Eq t c = grind (arith, common_steps)
+
+pub first_true-returns-in-Cardinality : goal.first_true-returns-in-Cardinality
+first_true-returns-in-Cardinality t c = grind (arith, common_steps)
+
+pub or_last-returns-in-None : goal.or_last-returns-in-None
+or_last-returns-in-None t c = grind (arith, common_steps)
+
+pub every-loop-row-init : goal.every-loop-row-init
+every-loop-row-init t c = grind (arith, common_steps)
+
+pub chain-loop-link-smaller : goal.chain-loop-link-smaller
+chain-loop-link-smaller t c = grind (arith, common_steps)
+
+pub value-returns-in-Neg : goal.value-returns-in-Neg
+value-returns-in-Neg t c = grind (arith, common_steps)
+
+pub first_true-returns-in-Overflow : goal.first_true-returns-in-Overflow
+first_true-returns-in-Overflow t c = grind (arith, common_steps)
+
+pub value-returns-in-Scalar : goal.value-returns-in-Scalar
+value-returns-in-Scalar t c = grind (arith, common_steps)
+
+pub hold-returns-in-Not : goal.hold-returns-in-Not
+hold-returns-in-Not t c = grind (arith, common_steps)
+
+pub first_true-returns : goal.first_true-returns
+first_true-returns t c = grind (arith, common_steps)
+
+pub value-returns-in-Col : goal.value-returns-in-Col
+value-returns-in-Col t c = grind (arith, common_steps)
+
+pub some-loop-row-init : goal.some-loop-row-init
+some-loop-row-init t c = grind (arith, common_steps)
+
+pub all_of-returns : goal.all_of-returns
+all_of-returns t c = grind (arith, common_steps)
+
+pub chain-returns : goal.chain-returns
+chain-returns t c = grind (arith, common_steps)
+
+pub any_of-returns : goal.any_of-returns
+any_of-returns t c = grind (arith, common_steps)
+
+pub every-returns : goal.every-returns
+every-returns t c = grind (arith, common_steps)
+
+pub hold-returns-in-IsNull : goal.hold-returns-in-IsNull
+hold-returns-in-IsNull t c = grind (arith, common_steps)
+
+pub first_true-returns-in-Division : goal.first_true-returns-in-Division
+first_true-returns-in-Division t c = grind (arith, common_steps)
+
+pub some-returns : goal.some-returns
+some-returns t c = grind (arith, common_steps)

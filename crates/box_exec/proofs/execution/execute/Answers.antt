@@ -57,3 +57,27 @@ offset_bounds-nodes-i c = grind (arith, common_steps)
 
 pub returns-clause-counted : goal.returns-clause-counted
 returns-clause-counted c = grind (arith, common_steps)
+
+pub returns-in_err-rows-clause-at_most_plain : goal.returns-in_err-rows-clause-at_most_plain
+returns-in_err-rows-clause-at_most_plain g c = grind (arith, common_steps)
+
+pub behind-below-requires : goal.behind-below-requires
+behind-below-requires g c = grind (arith, common_steps)
+
+pub returns-in_err-rows-clause-counted : goal.returns-in_err-rows-clause-counted
+returns-in_err-rows-clause-counted g c = grind (arith, common_steps)
+
+pub returns-in_err-rows-clause-exact : goal.returns-in_err-rows-clause-exact
+returns-in_err-rows-clause-exact g c = grind (arith, common_steps)
+
+pub returns-in_err-rows-clause-took : goal.returns-in_err-rows-clause-took
+returns-in_err-rows-clause-took g c = grind (arith, common_steps)
+
+pub returns-in_err-rows-clause-at_least_closed : goal.returns-in_err-rows-clause-at_least_closed
+returns-in_err-rows-clause-at_least_closed g c = grind (arith, common_steps)
+
+pub root_rows-requires-clause-ready : goal.root_rows-requires-clause-ready
+root_rows-requires-clause-ready g c = grind (arith, common_steps)
+
+pub returns-in_err-rows-clause-rows : goal.returns-in_err-rows-clause-rows
+returns-in_err-rows-clause-rows g c = grind (arith, common_steps)

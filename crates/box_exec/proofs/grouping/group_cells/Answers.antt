@@ -7,3 +7,9 @@ loop-x-preserved c = grind (arith, common_steps)
 
 pub returns : goal.returns
 returns c = grind (arith, common_steps)
+
+pub bounds-folds-x-index : goal.bounds-folds-x-index
+bounds-folds-x-index c = grind (arith, common_steps)
+
+pub loop-x-init : goal.loop-x-init
+loop-x-init c = grind (arith, common_steps)

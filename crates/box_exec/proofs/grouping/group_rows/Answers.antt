@@ -1,4 +1,5 @@
-use Rattle.std.proofs.Common.{List, ◌++◌, ◌∷◌, [], ◌≡◌, ◌∙◌, ap₂, sym}
+use Rattle.std.proofs.lemmas.Grind.{common_steps}
+use Rattle.std.proofs.Common.{List, ◌++◌, ◌∷◌, [], ◌≡◌, ◌∙◌, ap₂, sym, arith}
 use Rattle.row_bag.specs.Bags.{row}
 use Rattle.row_bag.specs.Groups.{key}
 use Rattle.row_bag.specs.declared.groups.Group.{Group}
@@ -20,3 +21,6 @@ loop-group-preserved c =
     c.in_ok-push.ensures.items
     ∙ ap₂ (λ (b : Bag) (cells : List Cell). b ++ row cells Yes ∷ []) c.loop-group.invariant cells
     ∙ sym (at-yes-more f c.loop-group.yielded g)
+
+pub loop-group-preserved-derived : goal.loop-group-preserved-derived
+loop-group-preserved-derived c = grind (arith, common_steps)

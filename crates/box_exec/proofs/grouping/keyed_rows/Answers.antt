@@ -15,3 +15,6 @@ loop-row-preserved c =
 
 pub returns-clause-rows : goal.returns-clause-rows
 returns-clause-rows c = grind (arith, common_steps)
+
+pub returns-clause-error : goal.returns-clause-error
+returns-clause-error c = grind (arith, common_steps)

@@ -1,4 +1,5 @@
-use Rattle.std.proofs.Common.{List, ◌++◌, ◌∷◌, [], ◌≡◌, ◌∙◌, ap₂, None, rules}
+use Rattle.std.proofs.lemmas.Grind.{common_steps}
+use Rattle.std.proofs.Common.{List, ◌++◌, ◌∷◌, [], ◌≡◌, ◌∙◌, ap₂, None, rules, arith}
 use Rattle.row_bag.specs.Bags.{row}
 use Rattle.row_bag.specs.Errors.{error_among, error_in}
 use Rattle.sql_value.specs.declared.cell.Cell.{Cell}
@@ -15,3 +16,6 @@ returns c =
     c.in_ok-push.ensures.ok
     ∙ ap₂ (λ (b : Bag) (cells : List Cell). b ++ row cells Yes ∷ []) c.new-made.ensures c.in_ok-group_cells.ensures
     ∙ whole-group (terms c.args.folds.now) c.args.quant (env_of c.args.env.now) c.args.rows.now none
+
+pub returns-in-Some : goal.returns-in-Some
+returns-in-Some c = grind (arith, common_steps)

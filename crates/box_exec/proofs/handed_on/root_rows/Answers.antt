@@ -1,4 +1,5 @@
-use Rattle.std.proofs.Common.{[], slice_get, sym, subst}
+use Rattle.std.proofs.lemmas.Grind.{common_steps}
+use Rattle.std.proofs.Common.{[], slice_get, sym, subst, arith}
 use Rattle.std.proofs.lemmas.Result.{IfOk-weaker}
 use Rattle.box_exec.specs.Costs.{Keeps}
 use Rattle.box_exec.specs.Ready.{Entry, Held, Ready}
@@ -19,3 +20,18 @@ returns-clause-rows g c =
     subst (λ (m : _). Entry tables n below (slice_get m c.in-Some.k)) c.deref.ensures.value
     (c.in-Some.ensures.entry tables (subst (λ (m : _). Ready tables m below) (sym c.deref.ensures.value) c.requires.ready)) in
     IfOk-weaker c.into_bag.result _ _ (λ bag h. entry-holds tables n below o bag [] entry (subst (λ (b : _). Held o b) (sym h) c.taken.ensures)) c.into_bag.ensures
+
+pub evaluated-requires-clause-ready : goal.evaluated-requires-clause-ready
+evaluated-requires-clause-ready g c = grind (arith, common_steps)
+
+pub taken-requires : goal.taken-requires
+taken-requires g c = grind (arith, common_steps)
+
+pub returns-in_default-clause-rows : goal.returns-in_default-clause-rows
+returns-in_default-clause-rows g c = grind (arith, common_steps)
+
+pub returns-clause-counted : goal.returns-clause-counted
+returns-clause-counted g c = grind (arith, common_steps)
+
+pub returns-in_default-clause-counted : goal.returns-in_default-clause-counted
+returns-in_default-clause-counted g c = grind (arith, common_steps)

@@ -4,3 +4,6 @@ use Rattle.box_exec.proofs.heads.filtered.Goals as goal
 
 pub loop-p-preserved : goal.loop-p-preserved
 loop-p-preserved c = grind (arith, common_steps)
+
+pub returns : goal.returns
+returns c = grind (arith, common_steps)

@@ -1,3 +1,4 @@
+use Rattle.std.proofs.lemmas.Grind.{common_steps}
 use Rattle.std.proofs.Common.{ℕ, Bool, ◌≡◌, [], ap, arith, cond}
 use Rattle.qgm_meaning.specs.Meaning.{bag_in}
 use Rattle.qgm_meaning.specs.Plain.{counted_by}
@@ -12,3 +13,9 @@ returns-in_ok-rows-clause-took g c = λ kept keeps.
     let one : ◌≡◌ {A = ℕ} (cond c.args.keep 1 0) 1 = ap (λ (b : Bool). cond b 1 0) c.if-keep.true in
     let all : cond c.args.keep cost 0 ≡ cost = ap (λ (b : Bool). cond b cost 0) c.if-keep.true in
     (omega (arith, took.0, one), omega (arith, took.1, all))
+
+pub returns-in_ok-rows-clause-counted : goal.returns-in_ok-rows-clause-counted
+returns-in_ok-rows-clause-counted g c = grind (arith, common_steps)
+
+pub returns-in_ok-rows-clause-rows : goal.returns-in_ok-rows-clause-rows
+returns-in_ok-rows-clause-rows g c = grind (arith, common_steps)

@@ -74,3 +74,15 @@ returns-clause-keeps g c = λ kept how.
 
 pub boxes-init : goal.boxes-init
 boxes-init c = grind (arith, common_steps)
+
+pub returns-clause-took : goal.returns-clause-took
+returns-clause-took g c = grind (arith, common_steps)
+
+pub returns-clause-ready : goal.returns-clause-ready
+returns-clause-ready g c = grind (arith, common_steps)
+
+pub returns-in_err-names-clause-counted : goal.returns-in_err-names-clause-counted
+returns-in_err-names-clause-counted g c = grind (arith, common_steps)
+
+pub returns-clause-counted : goal.returns-clause-counted
+returns-clause-counted g c = grind (arith, common_steps)

@@ -1,4 +1,5 @@
-use Rattle.std.proofs.Common.{◌∙◌, ap, subst}
+use Rattle.std.proofs.lemmas.Grind.{common_steps}
+use Rattle.std.proofs.Common.{◌∙◌, ap, subst, arith}
 use Rattle.std.proofs.lemmas.Option.{IfSome_then}
 use Rattle.qgm_meaning.specs.Values.{bound, truth}
 use Rattle.qgm_terms.specs.Shown.{cond, term}
@@ -18,3 +19,6 @@ returns-in-None c =
     let sides : AreSides q (term b) (term a) s =
     subst (λ (x : Gx). AreSides q (term b) (term x) s) c.deref-in-None-2.ensures (subst (λ (x : Gx). AreSides q (term x) (term c.deref-in-None-2.result.now) s) c.deref-in-None.ensures h) in
     ap (λ (p : Gc). truth rows (cond p) (bound q cells env)) c.in-Eq.is ∙ equates-second q (term a) (term b) s rows cells env sides)
+
+pub returns-in-Some : goal.returns-in-Some
+returns-in-Some c = grind (arith, common_steps)

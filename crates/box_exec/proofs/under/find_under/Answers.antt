@@ -1,4 +1,5 @@
-use Rattle.std.proofs.Common.{sym, ◌∙◌}
+use Rattle.std.proofs.lemmas.Grind.{common_steps}
+use Rattle.std.proofs.Common.{sym, ◌∙◌, arith}
 use Rattle.box_exec.proofs.Places.{kept-under, nothing-under, open-under}
 use Rattle.box_exec.proofs.under.find_under.Goals as goal
 
@@ -12,3 +13,12 @@ returns-in-Some-kept c =
 pub returns-in-None : goal.returns-in-None
 returns-in-None c =
     open-under c.args.run.now.tables.now c.args.run.now.memo.now c.args.below.now c.behind-behind.result.now c.args.b c.in-Some.i c.index-below-i.result (sym c.place_of.ensures ∙ c.in-Some.is) c.index-below-i.is c.behind-behind.ensures (c.kept.ensures.none c.in-None.is) c.requires
+
+pub offset_bounds-below-i : goal.offset_bounds-below-i
+offset_bounds-below-i c = grind (arith, common_steps)
+
+pub bounds-below-i : goal.bounds-below-i
+bounds-below-i c = grind (arith, common_steps)
+
+pub behind-behind-requires : goal.behind-behind-requires
+behind-behind-requires c = grind (arith, common_steps)

@@ -7,3 +7,9 @@ loop-range-preserved c = grind (arith, common_steps)
 
 pub returns-clause-ranges : goal.returns-clause-ranges
 returns-clause-ranges c = grind (arith, common_steps)
+
+pub loop-range-init : goal.loop-range-init
+loop-range-init c = grind (arith, common_steps)
+
+pub returns-clause-stand : goal.returns-clause-stand
+returns-clause-stand c = grind (arith, common_steps)

@@ -97,3 +97,36 @@ multiplier_folds-returns t c = grind (arith, common_steps)
 
 pub tests_folds-returns : goal.tests_folds-returns
 tests_folds-returns t c = grind (arith, common_steps)
+
+pub test_folds-returns-in-IsNull : goal.test_folds-returns-in-IsNull
+test_folds-returns-in-IsNull t c = grind (arith, common_steps)
+
+pub test_folds-returns-in-Not : goal.test_folds-returns-in-Not
+test_folds-returns-in-Not t c = grind (arith, common_steps)
+
+pub value_folds-returns-in-Number-5 : goal.value_folds-returns-in-Number-5
+value_folds-returns-in-Number-5 t c = grind (arith, common_steps)
+
+pub choice_folds-loop-x-smaller : goal.choice_folds-loop-x-smaller
+choice_folds-loop-x-smaller t c = grind (arith, common_steps)
+
+pub value_folds-returns-in-CountAll : goal.value_folds-returns-in-CountAll
+value_folds-returns-in-CountAll t c = grind (arith, common_steps)
+
+pub value_folds-returns-in-Number-2 : goal.value_folds-returns-in-Number-2
+value_folds-returns-in-Number-2 t c = grind (arith, common_steps)
+
+pub test_folds-returns-in-Exists : goal.test_folds-returns-in-Exists
+test_folds-returns-in-Exists t c = grind (arith, common_steps)
+
+pub value_folds-returns-in-Number-4 : goal.value_folds-returns-in-Number-4
+value_folds-returns-in-Number-4 t c = grind (arith, common_steps)
+
+pub arm_folds-loop-x-smaller : goal.arm_folds-loop-x-smaller
+arm_folds-loop-x-smaller t c = grind (arith, common_steps)
+
+pub value_folds-returns-in-Aggregate : goal.value_folds-returns-in-Aggregate
+value_folds-returns-in-Aggregate t c = grind (arith, common_steps)
+
+pub value_folds-returns-in-Negative : goal.value_folds-returns-in-Negative
+value_folds-returns-in-Negative t c = grind (arith, common_steps)

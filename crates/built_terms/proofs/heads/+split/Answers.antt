@@ -25,3 +25,54 @@ add_split-returns-then-is_empty-clause-items h c =
 
 pub add_split-returns-else-is_empty-clause-items : goal.add_split-returns-else-is_empty-clause-items
 add_split-returns-else-is_empty-clause-items h c = grind (arith, common_steps, lists)
+
+pub add_split-returns-in-Like-clause-items : goal.add_split-returns-in-Like-clause-items
+add_split-returns-in-Like-clause-items t c = grind (arith, common_steps)
+
+pub add_split-returns-in-Same-clause-items : goal.add_split-returns-in-Same-clause-items
+add_split-returns-in-Same-clause-items t c = grind (arith, common_steps)
+
+pub add_split-returns-in-True-clause-items : goal.add_split-returns-in-True-clause-items
+add_split-returns-in-True-clause-items t c = grind (arith, common_steps)
+
+pub add_split-returns-in-Ge-clause-items : goal.add_split-returns-in-Ge-clause-items
+add_split-returns-in-Ge-clause-items t c = grind (arith, common_steps)
+
+pub add_split-returns-in-Every-clause-items : goal.add_split-returns-in-Every-clause-items
+add_split-returns-in-Every-clause-items t c = grind (arith, common_steps)
+
+pub add_split-add_any-requires : goal.add_split-add_any-requires
+add_split-add_any-requires t c = grind (arith, common_steps)
+
+pub add_split-returns-in-IsNull-clause-items : goal.add_split-returns-in-IsNull-clause-items
+add_split-returns-in-IsNull-clause-items t c = grind (arith, common_steps)
+
+pub add_split-returns-in-Some-clause-items : goal.add_split-returns-in-Some-clause-items
+add_split-returns-in-Some-clause-items t c = grind (arith, common_steps)
+
+pub add_split-returns-in-Not-clause-items : goal.add_split-returns-in-Not-clause-items
+add_split-returns-in-Not-clause-items t c = grind (arith, common_steps)
+
+pub add_splits-loop-p-init : goal.add_splits-loop-p-init
+add_splits-loop-p-init t c = grind (arith, common_steps)
+
+pub add_split-returns-in_ok-add_split-in-All-clause-spare : goal.add_split-returns-in_ok-add_split-in-All-clause-spare
+add_split-returns-in_ok-add_split-in-All-clause-spare t c = grind (arith, common_steps)
+
+pub add_split-returns-in-Gt-clause-items : goal.add_split-returns-in-Gt-clause-items
+add_split-returns-in-Gt-clause-items t c = grind (arith, common_steps)
+
+pub add_split-returns-in-Eq-clause-items : goal.add_split-returns-in-Eq-clause-items
+add_split-returns-in-Eq-clause-items t c = grind (arith, common_steps)
+
+pub add_split-returns-in-Le-clause-items : goal.add_split-returns-in-Le-clause-items
+add_split-returns-in-Le-clause-items t c = grind (arith, common_steps)
+
+pub add_split-returns-in-Ne-clause-items : goal.add_split-returns-in-Ne-clause-items
+add_split-returns-in-Ne-clause-items t c = grind (arith, common_steps)
+
+pub add_split-returns-then-is_empty-clause-spare : goal.add_split-returns-then-is_empty-clause-spare
+add_split-returns-then-is_empty-clause-spare t c = grind (arith, common_steps)
+
+pub add_split-returns-in-Lt-clause-items : goal.add_split-returns-in-Lt-clause-items
+add_split-returns-in-Lt-clause-items t c = grind (arith, common_steps)

@@ -25,3 +25,27 @@ returns-in_ok-c-in-Joined-clause-slots h c = grind (arith, common_steps, after_a
 
 pub returns-in_ok-on_conds-in-Crossed-clause-slots : goal.returns-in_ok-on_conds-in-Crossed-clause-slots
 returns-in_ok-on_conds-in-Crossed-clause-slots h c = grind (arith, common_steps, after_append, appended)
+
+pub returns-in_ok-on_conds-in-Crossed-clause-past : goal.returns-in_ok-on_conds-in-Crossed-clause-past
+returns-in_ok-on_conds-in-Crossed-clause-past t c = grind (arith, common_steps)
+
+pub returns-in_ok-c-in-Joined-clause-spare : goal.returns-in_ok-c-in-Joined-clause-spare
+returns-in_ok-c-in-Joined-clause-spare t c = grind (arith, common_steps)
+
+pub returns-in_ok-on_conds-in-Crossed-clause-spare : goal.returns-in_ok-on_conds-in-Crossed-clause-spare
+returns-in_ok-on_conds-in-Crossed-clause-spare t c = grind (arith, common_steps)
+
+pub returns-in_ok-on_conds-in-Crossed-clause-conds : goal.returns-in_ok-on_conds-in-Crossed-clause-conds
+returns-in_ok-on_conds-in-Crossed-clause-conds t c = grind (arith, common_steps)
+
+pub returns-in-Named-clause-past : goal.returns-in-Named-clause-past
+returns-in-Named-clause-past t c = grind (arith, common_steps)
+
+pub returns-in-Named-clause-conds : goal.returns-in-Named-clause-conds
+returns-in-Named-clause-conds t c = grind (arith, common_steps)
+
+pub returns-in-Named-clause-slots : goal.returns-in-Named-clause-slots
+returns-in-Named-clause-slots t c = grind (arith, common_steps)
+
+pub returns-in_ok-c-in-Joined-clause-past : goal.returns-in_ok-c-in-Joined-clause-past
+returns-in_ok-c-in-Joined-clause-past t c = grind (arith, common_steps)

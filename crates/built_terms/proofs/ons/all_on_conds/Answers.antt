@@ -1,4 +1,5 @@
-use Rattle.std.proofs.Common.{◌∙◌}
+use Rattle.std.proofs.lemmas.Grind.{common_steps}
+use Rattle.std.proofs.Common.{◌∙◌, arith}
 use Rattle.built_terms.specs.Site.{sources_at}
 use Rattle.built_terms.specs.Written.{map_of, slots_of}
 use Rattle.built_terms.proofs.Onning.{conds_step, leaves_step}
@@ -12,3 +13,15 @@ loop-x-preserved c = record {
   slots = leaves_step (sources_at c.args.g.now) (map_of c.args.outer.now) c.args.list.now c.loop-x.x-index c.x-item.result c.loop-x-test.true c.x-item.is c.loop-x.os.rest.now c.on_conds.new.os.rest.now (slots_of c.loop-x.s) (slots_of c.on_conds.new.s) _ c.in_ok-on_conds.ensures.past c.in_ok-on_conds.ensures.slots
       c.loop-x.invariant.slots;
 }
+
+pub returns-clause-slots : goal.returns-clause-slots
+returns-clause-slots c = grind (arith, common_steps)
+
+pub returns-clause-spare : goal.returns-clause-spare
+returns-clause-spare c = grind (arith, common_steps)
+
+pub loop-x-init : goal.loop-x-init
+loop-x-init c = grind (arith, common_steps)
+
+pub returns-clause-conds : goal.returns-clause-conds
+returns-clause-conds c = grind (arith, common_steps)

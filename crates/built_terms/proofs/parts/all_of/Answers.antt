@@ -4,3 +4,6 @@ use Rattle.built_terms.proofs.parts.all_of.Goals as goal
 
 pub returns-then-is_empty : goal.returns-then-is_empty
 returns-then-is_empty c = grind (arith, common_steps)
+
+pub take_first-requires : goal.take_first-requires
+take_first-requires c = grind (arith, common_steps)

@@ -4,3 +4,6 @@ use Rattle.built_terms.proofs.parts.closed_arms.Goals as goal
 
 pub loop-arm-preserved : goal.loop-arm-preserved
 loop-arm-preserved c = grind (arith, common_steps)
+
+pub loop-arm-init : goal.loop-arm-init
+loop-arm-init c = grind (arith, common_steps)

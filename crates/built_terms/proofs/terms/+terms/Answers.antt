@@ -215,3 +215,123 @@ values-returns-clause-slots t c = grind (arith, common_steps)
 
 pub values-returns-clause-terms : goal.values-returns-clause-terms
 values-returns-clause-terms t c = grind (arith, common_steps)
+
+pub choices-loop-choice-smaller : goal.choices-loop-choice-smaller
+choices-loop-choice-smaller t c = grind (arith, common_steps)
+
+pub choices-offset_bounds-list-choice-index : goal.choices-offset_bounds-list-choice-index
+choices-offset_bounds-list-choice-index t c = grind (arith, common_steps)
+
+pub test-returns-in-Exists-clause-slots : goal.test-returns-in-Exists-clause-slots
+test-returns-in-Exists-clause-slots t c = grind (arith, common_steps)
+
+pub value-returns-in_err-list-in-Simple-clause-term : goal.value-returns-in_err-list-in-Simple-clause-term
+value-returns-in_err-list-in-Simple-clause-term t c = grind (arith, common_steps)
+
+pub tests-loop-p-smaller : goal.tests-loop-p-smaller
+tests-loop-p-smaller t c = grind (arith, common_steps)
+
+pub value-returns-in_err-last-in-Simple-clause-term : goal.value-returns-in_err-last-in-Simple-clause-term
+value-returns-in_err-last-in-Simple-clause-term t c = grind (arith, common_steps)
+
+pub product-loop-x-init : goal.product-loop-x-init
+product-loop-x-init t c = grind (arith, common_steps)
+
+pub product-offset_bounds-list-x-index : goal.product-offset_bounds-list-x-index
+product-offset_bounds-list-x-index t c = grind (arith, common_steps)
+
+pub sum-offset_bounds-list-x-index : goal.sum-offset_bounds-list-x-index
+sum-offset_bounds-list-x-index t c = grind (arith, common_steps)
+
+pub product-loop-x-smaller : goal.product-loop-x-smaller
+product-loop-x-smaller t c = grind (arith, common_steps)
+
+pub choices-loop-choice-init : goal.choices-loop-choice-init
+choices-loop-choice-init t c = grind (arith, common_steps)
+
+pub value-returns-in-Negative-clause-slots : goal.value-returns-in-Negative-clause-slots
+value-returns-in-Negative-clause-slots t c = grind (arith, common_steps)
+
+pub value-returns-in-Scalar-clause-term : goal.value-returns-in-Scalar-clause-term
+value-returns-in-Scalar-clause-term t c = grind (arith, common_steps)
+
+pub value-returns-in-Null-clause-slots : goal.value-returns-in-Null-clause-slots
+value-returns-in-Null-clause-slots t c = grind (arith, common_steps)
+
+pub value-returns-in-Scalar-clause-slots : goal.value-returns-in-Scalar-clause-slots
+value-returns-in-Scalar-clause-slots t c = grind (arith, common_steps)
+
+pub arms-loop-arm-init : goal.arms-loop-arm-init
+arms-loop-arm-init t c = grind (arith, common_steps)
+
+pub value-returns-in-Number-clause-slots : goal.value-returns-in-Number-clause-slots
+value-returns-in-Number-clause-slots t c = grind (arith, common_steps)
+
+pub value-returns-in-Null-clause-term : goal.value-returns-in-Null-clause-term
+value-returns-in-Null-clause-term t c = grind (arith, common_steps)
+
+pub test-returns-in-Not-clause-slots : goal.test-returns-in-Not-clause-slots
+test-returns-in-Not-clause-slots t c = grind (arith, common_steps)
+
+pub choices-returns-in_err-push-clause-arms : goal.choices-returns-in_err-push-clause-arms
+choices-returns-in_err-push-clause-arms t c = grind (arith, common_steps)
+
+pub outcome-returns-clause-slots : goal.outcome-returns-clause-slots
+outcome-returns-clause-slots t c = grind (arith, common_steps)
+
+pub value-returns-in-Text-clause-slots : goal.value-returns-in-Text-clause-slots
+value-returns-in-Text-clause-slots t c = grind (arith, common_steps)
+
+pub arms-offset_bounds-list-arm-index : goal.arms-offset_bounds-list-arm-index
+arms-offset_bounds-list-arm-index t c = grind (arith, common_steps)
+
+pub arms-loop-arm-smaller : goal.arms-loop-arm-smaller
+arms-loop-arm-smaller t c = grind (arith, common_steps)
+
+pub value-returns-in-Column-clause-term : goal.value-returns-in-Column-clause-term
+value-returns-in-Column-clause-term t c = grind (arith, common_steps)
+
+pub sum-loop-x-smaller : goal.sum-loop-x-smaller
+sum-loop-x-smaller t c = grind (arith, common_steps)
+
+pub value-returns-in-CountAll-clause-slots : goal.value-returns-in-CountAll-clause-slots
+value-returns-in-CountAll-clause-slots t c = grind (arith, common_steps)
+
+pub values-offset_bounds-list-x-index : goal.values-offset_bounds-list-x-index
+values-offset_bounds-list-x-index t c = grind (arith, common_steps)
+
+pub value-returns-in-Column-clause-slots : goal.value-returns-in-Column-clause-slots
+value-returns-in-Column-clause-slots t c = grind (arith, common_steps)
+
+pub values-loop-x-init : goal.values-loop-x-init
+values-loop-x-init t c = grind (arith, common_steps)
+
+pub value-returns-in-CountAll-clause-term : goal.value-returns-in-CountAll-clause-term
+value-returns-in-CountAll-clause-term t c = grind (arith, common_steps)
+
+pub test-returns-in-IsNull-clause-slots : goal.test-returns-in-IsNull-clause-slots
+test-returns-in-IsNull-clause-slots t c = grind (arith, common_steps)
+
+pub value-returns-in-Number-clause-term : goal.value-returns-in-Number-clause-term
+value-returns-in-Number-clause-term t c = grind (arith, common_steps)
+
+pub tests-offset_bounds-list-p-index : goal.tests-offset_bounds-list-p-index
+tests-offset_bounds-list-p-index t c = grind (arith, common_steps)
+
+pub value-returns-in-Text-clause-term : goal.value-returns-in-Text-clause-term
+value-returns-in-Text-clause-term t c = grind (arith, common_steps)
+
+pub test-returns-in-Exists-clause-cond : goal.test-returns-in-Exists-clause-cond
+test-returns-in-Exists-clause-cond t c = grind (arith, common_steps)
+
+pub tests-loop-p-init : goal.tests-loop-p-init
+tests-loop-p-init t c = grind (arith, common_steps)
+
+pub value-returns-in_err-last-in-Searched-clause-term : goal.value-returns-in_err-last-in-Searched-clause-term
+value-returns-in_err-last-in-Searched-clause-term t c = grind (arith, common_steps)
+
+pub values-loop-x-smaller : goal.values-loop-x-smaller
+values-loop-x-smaller t c = grind (arith, common_steps)
+
+pub sum-loop-x-init : goal.sum-loop-x-init
+sum-loop-x-init t c = grind (arith, common_steps)

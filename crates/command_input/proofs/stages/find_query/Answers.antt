@@ -1,4 +1,5 @@
-use Rattle.std.proofs.Common.{Err}
+use Rattle.std.proofs.lemmas.Grind.{common_steps}
+use Rattle.std.proofs.Common.{Err, arith}
 use Rattle.std.proofs.lemmas.Result.{err_from_is_err_and}
 use Rattle.io_edge.specs.Outcome.{answered, read, starved}
 use Rattle.io_edge.proofs.Order.{comes-starved}
@@ -30,3 +31,57 @@ returns-in-Err-Number-clause-comes g c =
 pub returns-clause-comes : goal.returns-clause-comes
 returns-clause-comes g c =
     text-of-query _ _ _ c.args.query.now c.args.dir.now (catalogs.catalog c.args.catalog) c.in_ok-text.text starved c.in_ok-text.ensures.comes (comes-starved _ _)
+
+pub returns-in-Err-Number-clause-failed : goal.returns-in-Err-Number-clause-failed
+returns-in-Err-Number-clause-failed g c = grind (arith, common_steps)
+
+pub returns-in-Ok-clause-ready : goal.returns-in-Ok-clause-ready
+returns-in-Ok-clause-ready g c = grind (arith, common_steps)
+
+pub find_tables-requires-clause-checked : goal.find_tables-requires-clause-checked
+find_tables-requires-clause-checked g c = grind (arith, common_steps)
+
+pub returns-in-Ok-clause-line : goal.returns-in-Ok-clause-line
+returns-in-Ok-clause-line g c = grind (arith, common_steps)
+
+pub returns-in-Err-Number-clause-later : goal.returns-in-Err-Number-clause-later
+returns-in-Err-Number-clause-later g c = grind (arith, common_steps)
+
+pub returns-in-Err-Number-clause-line : goal.returns-in-Err-Number-clause-line
+returns-in-Err-Number-clause-line g c = grind (arith, common_steps)
+
+pub find_tables-requires-clause-ready : goal.find_tables-requires-clause-ready
+find_tables-requires-clause-ready g c = grind (arith, common_steps)
+
+pub returns-clause-line : goal.returns-clause-line
+returns-clause-line g c = grind (arith, common_steps)
+
+pub read_query-requires : goal.read_query-requires
+read_query-requires g c = grind (arith, common_steps)
+
+pub returns-in_err-text-clause-later : goal.returns-in_err-text-clause-later
+returns-in_err-text-clause-later g c = grind (arith, common_steps)
+
+pub returns-in-Ok-clause-later : goal.returns-in-Ok-clause-later
+returns-in-Ok-clause-later g c = grind (arith, common_steps)
+
+pub returns-in_err-text-clause-ready : goal.returns-in_err-text-clause-ready
+returns-in_err-text-clause-ready g c = grind (arith, common_steps)
+
+pub returns-in_err-text-clause-failed : goal.returns-in_err-text-clause-failed
+returns-in_err-text-clause-failed g c = grind (arith, common_steps)
+
+pub returns-clause-later : goal.returns-clause-later
+returns-clause-later g c = grind (arith, common_steps)
+
+pub returns-in-Err-Number-clause-ready : goal.returns-in-Err-Number-clause-ready
+returns-in-Err-Number-clause-ready g c = grind (arith, common_steps)
+
+pub returns-in_err-text-clause-line : goal.returns-in_err-text-clause-line
+returns-in_err-text-clause-line g c = grind (arith, common_steps)
+
+pub returns-clause-ready : goal.returns-clause-ready
+returns-clause-ready g c = grind (arith, common_steps)
+
+pub returns-clause-failed : goal.returns-clause-failed
+returns-clause-failed g c = grind (arith, common_steps)

@@ -1,3 +1,5 @@
+use Rattle.std.proofs.Common.{arith}
+use Rattle.std.proofs.lemmas.Grind.{common_steps}
 use Rattle.sql_catalog.specs.Shown as catalogs
 use Rattle.command_input.specs.Stages.{found_end}
 use Rattle.command_input.proofs.Steps.{view-refused, views-taken}
@@ -15,3 +17,39 @@ returns-in-Err-Refused-clause-comes g c =
 
 pub find_query-requires : goal.find_query-requires
 find_query-requires g c = record { ready = record { valid = c.requires.valid; queries = c.requires.queries; of_catalog = c.in-Ok.ensures.views } }
+
+pub returns-in-Err-Refused-clause-line : goal.returns-in-Err-Refused-clause-line
+returns-in-Err-Refused-clause-line g c = grind (arith, common_steps)
+
+pub returns-in-Err-Refused-clause-later : goal.returns-in-Err-Refused-clause-later
+returns-in-Err-Refused-clause-later g c = grind (arith, common_steps)
+
+pub returns-clause-ready : goal.returns-clause-ready
+returns-clause-ready g c = grind (arith, common_steps)
+
+pub returns-in-Ok-clause-failed : goal.returns-in-Ok-clause-failed
+returns-in-Ok-clause-failed g c = grind (arith, common_steps)
+
+pub returns-clause-line : goal.returns-clause-line
+returns-clause-line g c = grind (arith, common_steps)
+
+pub returns-clause-failed : goal.returns-clause-failed
+returns-clause-failed g c = grind (arith, common_steps)
+
+pub returns-in-Ok-clause-ready : goal.returns-in-Ok-clause-ready
+returns-in-Ok-clause-ready g c = grind (arith, common_steps)
+
+pub returns-in-Ok-clause-line : goal.returns-in-Ok-clause-line
+returns-in-Ok-clause-line g c = grind (arith, common_steps)
+
+pub returns-in-Ok-clause-later : goal.returns-in-Ok-clause-later
+returns-in-Ok-clause-later g c = grind (arith, common_steps)
+
+pub returns-clause-comes : goal.returns-clause-comes
+returns-clause-comes g c = grind (arith, common_steps)
+
+pub returns-in-Err-Refused-clause-ready : goal.returns-in-Err-Refused-clause-ready
+returns-in-Err-Refused-clause-ready g c = grind (arith, common_steps)
+
+pub returns-in-Err-Refused-clause-failed : goal.returns-in-Err-Refused-clause-failed
+returns-in-Err-Refused-clause-failed g c = grind (arith, common_steps)

@@ -1,4 +1,5 @@
-use Rattle.std.proofs.Common.{◌∙◌, sym}
+use Rattle.std.proofs.lemmas.Grind.{common_steps}
+use Rattle.std.proofs.Common.{◌∙◌, sym, arith}
 use Rattle.csv_tables.proofs.Hashes.{hash-more, hash-none}
 use Rattle.csv_tables.proofs.differ.hashes.Goals as goal
 use Rattle.csv_tables.proofs.differ.hashes.Goals.{in-Some+in_ok-push, in_default}
@@ -8,3 +9,6 @@ loop-i-preserved c = elim c.match-hash_of.branch [
   | in-Some+in_ok-push w ↦ rw (w.hashes-is, w.in_ok-push.ensures.items) (hash-more c.args.key.now c.args.rows.now c.loop-i.i c.index-rows-i.result w.in-Some.hash c.loop-i.hashes.items c.loop-i-test.true c.index-rows-i.is (sym c.hash_of.ensures ∙ w.in-Some.is) c.loop-i.invariant)
   | in_default w ↦ rw w.hashes-is (hash-none c.args.key.now c.args.rows.now c.loop-i.i c.index-rows-i.result c.loop-i.hashes.items c.loop-i-test.true c.index-rows-i.is (sym c.hash_of.ensures ∙ w.in_default.is) c.loop-i.invariant)
 ]
+
+pub returns : goal.returns
+returns c = grind (arith, common_steps)

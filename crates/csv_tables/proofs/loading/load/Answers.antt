@@ -1,3 +1,4 @@
+use Rattle.std.proofs.lemmas.Grind.{common_steps}
 use Rattle.std.proofs.Common.{arith}
 use Rattle.std.proofs.lemmas.Result.{err_from_is_err_and}
 use Rattle.csv_tables.proofs.Fits.{fits-more}
@@ -27,3 +28,27 @@ pub returns-clause-comes : goal.returns-clause-comes
 returns-clause-comes g c =
     let whole = carries-all _ _ c.as_slice-decl-items.result.now c.loop-decl.decl-index c.args.dir.now c.loop-decl.tables c.loop-decl-test.false c.loop-decl.invariant.comes in
     rw (← c.tables.ensures, ← c.as_slice-decl-items.ensures) whole
+
+pub returns-in_err-table-clause-fits : goal.returns-in_err-table-clause-fits
+returns-in_err-table-clause-fits g c = grind (arith, common_steps)
+
+pub returns-in_err-push-clause-fits : goal.returns-in_err-push-clause-fits
+returns-in_err-push-clause-fits g c = grind (arith, common_steps)
+
+pub returns-in_err-push-clause-failed : goal.returns-in_err-push-clause-failed
+returns-in_err-push-clause-failed g c = grind (arith, common_steps)
+
+pub returns-in_err-table-clause-later : goal.returns-in_err-table-clause-later
+returns-in_err-table-clause-later g c = grind (arith, common_steps)
+
+pub loop-decl-init : goal.loop-decl-init
+loop-decl-init g c = grind (arith, common_steps)
+
+pub returns-clause-fits : goal.returns-clause-fits
+returns-clause-fits g c = grind (arith, common_steps)
+
+pub returns-in_err-table-clause-failed : goal.returns-in_err-table-clause-failed
+returns-in_err-table-clause-failed g c = grind (arith, common_steps)
+
+pub returns-in_err-push-clause-later : goal.returns-in_err-push-clause-later
+returns-in_err-push-clause-later g c = grind (arith, common_steps)

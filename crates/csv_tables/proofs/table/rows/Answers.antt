@@ -1,4 +1,5 @@
-use Rattle.std.proofs.Common.{[], ◌∷◌}
+use Rattle.std.proofs.lemmas.Grind.{common_steps}
+use Rattle.std.proofs.Common.{[], ◌∷◌, arith}
 use Rattle.csv.specs.Records.{fields_of}
 use Rattle.csv_tables.proofs.Checks.{all-checked, row-stays, seen-all}
 use Rattle.csv_tables.proofs.Passing.{all-differ}
@@ -35,3 +36,12 @@ returns c =
     let all = rw c.if-not-stopped-2.false at (c.in_ok-stopped.ensures.rows c.args.table.keys) in
     let left = all-checked c.args.table c.take_rows.new.rows (fields_of c.take_rows.new.fields ∷ c.take_rows.new.records) c.in_ok-seen.seen.items _ seen all in
     rows-refused c.args.table c.rows-3.result.now (fields_of c.take_rows.new.fields) c.take_rows.new.records c.in-Err.refusal _ c.in-Err.ensures.row (rw (← c.rows-3.ensures) at left)
+
+pub same-keys : goal.same-keys
+same-keys c = grind (arith, common_steps)
+
+pub same-rows-then-not-stopped-2 : goal.same-rows-then-not-stopped-2
+same-rows-then-not-stopped-2 c = grind (arith, common_steps)
+
+pub row_after-requires-clause-few : goal.row_after-requires-clause-few
+row_after-requires-clause-few c = grind (arith, common_steps)

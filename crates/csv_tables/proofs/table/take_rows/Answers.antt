@@ -1,3 +1,4 @@
+use Rattle.std.proofs.lemmas.Grind.{common_steps}
 use Rattle.std.proofs.Common.{arith}
 use Rattle.std.proofs.lemmas.List.{length-append}
 use Rattle.csv.specs.Records.{fields_of}
@@ -21,3 +22,12 @@ loop-seen-preserved c =
       few = rw (c.in_ok-push-in-Ok.ensures.ok, length-append c.loop-seen.rows) (omega (arith, few));
       seen = rw c.requires.keys at c.in-Ok.ensures.seen;
     }
+
+pub returns-in-Err-Broken-clause-stops : goal.returns-in-Err-Broken-clause-stops
+returns-in-Err-Broken-clause-stops c = grind (arith, common_steps)
+
+pub returns-in-Err-Broken-clause-rows : goal.returns-in-Err-Broken-clause-rows
+returns-in-Err-Broken-clause-rows c = grind (arith, common_steps)
+
+pub loop-seen-smaller : goal.loop-seen-smaller
+loop-seen-smaller c = grind (arith, common_steps)

@@ -1,4 +1,5 @@
-use Rattle.std.proofs.Common.{rules, ◌≡◌, ◌≢◌, ◌∙◌, ap, false, map, take}
+use Rattle.std.proofs.lemmas.Grind.{common_steps}
+use Rattle.std.proofs.Common.{rules, ◌≡◌, ◌≢◌, ◌∙◌, ap, false, map, take, arith}
 use Rattle.std.specs.Result.{is_err}
 use Rattle.std.proofs.lemmas.List.{take_more}
 use Rattle.csv.specs.Writing.{writer_setup}
@@ -23,3 +24,12 @@ loop-row-preserved c =
       text = rw (take_more c.rows-row-items.result.now c.loop-row.row-index c.row-item.result c.loop-row-test.true, ← c.row-item.is)
           (text-more _ _ c.args.names.now (take c.loop-row.row-index c.rows-row-items.result.now) _ _ inv.text (c.in_ok-put_cells.ensures ∙ ap (map cell_text) c.as_slice.ensures) (rw inv.setup at bytes));
     }
+
+pub offset_bounds-row-items-row-index : goal.offset_bounds-row-items-row-index
+offset_bounds-row-items-row-index c = grind (arith, common_steps)
+
+pub returns-in-Ok : goal.returns-in-Ok
+returns-in-Ok c = grind (arith, common_steps)
+
+pub same-fields-in-loop-row : goal.same-fields-in-loop-row
+same-fields-in-loop-row c = grind (arith, common_steps)

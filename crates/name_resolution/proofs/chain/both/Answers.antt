@@ -7,3 +7,9 @@ returns-else-wants_all c = grind (arith, common_steps)
 
 pub returns-then-wants_all : goal.returns-then-wants_all
 returns-then-wants_all c = grind (arith, common_steps)
+
+pub longer_both-requires : goal.longer_both-requires
+longer_both-requires c = grind (arith, common_steps)
+
+pub first_both-requires : goal.first_both-requires
+first_both-requires c = grind (arith, common_steps)

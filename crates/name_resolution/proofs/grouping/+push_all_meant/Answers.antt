@@ -16,3 +16,9 @@ overflow_add-first t c = grind (arith, common_steps)
 
 pub push_all_meant-requires : goal.push_all_meant-requires
 push_all_meant-requires t c = grind (arith, common_steps)
+
+pub returns-in-None : goal.returns-in-None
+returns-in-None t c = grind (arith, common_steps)
+
+pub push_meant-requires : goal.push_meant-requires
+push_meant-requires t c = grind (arith, common_steps)

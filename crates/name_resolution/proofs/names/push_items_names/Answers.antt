@@ -4,3 +4,9 @@ use Rattle.name_resolution.proofs.names.push_items_names.Goals as goal
 
 pub loop-item-preserved : goal.loop-item-preserved
 loop-item-preserved c = grind (arith, common_steps)
+
+pub returns : goal.returns
+returns c = grind (arith, common_steps)
+
+pub offset_bounds-items-item-index : goal.offset_bounds-items-item-index
+offset_bounds-items-item-index c = grind (arith, common_steps)

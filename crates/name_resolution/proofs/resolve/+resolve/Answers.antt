@@ -182,3 +182,153 @@ value-returns-in-Multiply t c = grind (arith, common_steps)
 
 pub values-loop-x-preserved : goal.values-loop-x-preserved
 values-loop-x-preserved t c = grind (arith, common_steps)
+
+pub choices-loop-choice-init : goal.choices-loop-choice-init
+choices-loop-choice-init t c = grind (arith, common_steps)
+
+pub value-returns-in-Signed : goal.value-returns-in-Signed
+value-returns-in-Signed t c = grind (arith, common_steps)
+
+pub join-returns-clause-scope : goal.join-returns-clause-scope
+join-returns-clause-scope t c = grind (arith, common_steps)
+
+pub otherwise-returns-in-Else : goal.otherwise-returns-in-Else
+otherwise-returns-in-Else t c = grind (arith, common_steps)
+
+pub query-returns-in-Intersect-clause-columns : goal.query-returns-in-Intersect-clause-columns
+query-returns-in-Intersect-clause-columns t c = grind (arith, common_steps)
+
+pub operand-unreachable-requires : goal.operand-unreachable-requires
+operand-unreachable-requires t c = grind (arith, common_steps)
+
+pub join-returns-clause-width : goal.join-returns-clause-width
+join-returns-clause-width t c = grind (arith, common_steps)
+
+pub table-returns-in-CrossJoin-clause-scope : goal.table-returns-in-CrossJoin-clause-scope
+table-returns-in-CrossJoin-clause-scope t c = grind (arith, common_steps)
+
+pub otherwise-returns-in-Absent : goal.otherwise-returns-in-Absent
+otherwise-returns-in-Absent t c = grind (arith, common_steps)
+
+pub push_items-loop-item-smaller : goal.push_items-loop-item-smaller
+push_items-loop-item-smaller t c = grind (arith, common_steps)
+
+pub arms-offset_bounds-list-arm-index : goal.arms-offset_bounds-list-arm-index
+arms-offset_bounds-list-arm-index t c = grind (arith, common_steps)
+
+pub table-returns-in-Named-clause-scope : goal.table-returns-in-Named-clause-scope
+table-returns-in-Named-clause-scope t c = grind (arith, common_steps)
+
+pub froms-offset_bounds-list-x-index : goal.froms-offset_bounds-list-x-index
+froms-offset_bounds-list-x-index t c = grind (arith, common_steps)
+
+pub table-returns-in-Derived-clause-table : goal.table-returns-in-Derived-clause-table
+table-returns-in-Derived-clause-table t c = grind (arith, common_steps)
+
+pub table-returns-in-Derived-clause-scope : goal.table-returns-in-Derived-clause-scope
+table-returns-in-Derived-clause-scope t c = grind (arith, common_steps)
+
+pub choices-offset_bounds-list-choice-index : goal.choices-offset_bounds-list-choice-index
+choices-offset_bounds-list-choice-index t c = grind (arith, common_steps)
+
+pub operand-returns-in-CountAll : goal.operand-returns-in-CountAll
+operand-returns-in-CountAll t c = grind (arith, common_steps)
+
+pub join-returns-clause-right : goal.join-returns-clause-right
+join-returns-clause-right t c = grind (arith, common_steps)
+
+pub table-returns-in-CrossJoin-clause-table : goal.table-returns-in-CrossJoin-clause-table
+table-returns-in-CrossJoin-clause-table t c = grind (arith, common_steps)
+
+pub push_items-offset_bounds-items-item-index : goal.push_items-offset_bounds-items-item-index
+push_items-offset_bounds-items-item-index t c = grind (arith, common_steps)
+
+pub push_item-returns-in-AllOf : goal.push_item-returns-in-AllOf
+push_item-returns-in-AllOf t c = grind (arith, common_steps)
+
+pub table-returns-in-Named-clause-table : goal.table-returns-in-Named-clause-table
+table-returns-in-Named-clause-table t c = grind (arith, common_steps)
+
+pub choices-loop-choice-smaller : goal.choices-loop-choice-smaller
+choices-loop-choice-smaller t c = grind (arith, common_steps)
+
+pub query-returns-in-Enclosed-clause-columns : goal.query-returns-in-Enclosed-clause-columns
+query-returns-in-Enclosed-clause-columns t c = grind (arith, common_steps)
+
+pub arms-loop-arm-init : goal.arms-loop-arm-init
+arms-loop-arm-init t c = grind (arith, common_steps)
+
+pub filter-returns-in-Absent : goal.filter-returns-in-Absent
+filter-returns-in-Absent t c = grind (arith, common_steps)
+
+pub query-returns-in-Combine-clause-columns : goal.query-returns-in-Combine-clause-columns
+query-returns-in-Combine-clause-columns t c = grind (arith, common_steps)
+
+pub query-returns-in-Combine-clause-query : goal.query-returns-in-Combine-clause-query
+query-returns-in-Combine-clause-query t c = grind (arith, common_steps)
+
+pub join-returns-clause-on : goal.join-returns-clause-on
+join-returns-clause-on t c = grind (arith, common_steps)
+
+pub operand-returns-in-Str : goal.operand-returns-in-Str
+operand-returns-in-Str t c = grind (arith, common_steps)
+
+pub values-loop-x-init : goal.values-loop-x-init
+values-loop-x-init t c = grind (arith, common_steps)
+
+pub value-operand-requires : goal.value-operand-requires
+value-operand-requires t c = grind (arith, common_steps)
+
+pub froms-bounds-list-x-index : goal.froms-bounds-list-x-index
+froms-bounds-list-x-index t c = grind (arith, common_steps)
+
+pub push_items-loop-item-init : goal.push_items-loop-item-init
+push_items-loop-item-init t c = grind (arith, common_steps)
+
+pub query-returns-in-Intersect-clause-query : goal.query-returns-in-Intersect-clause-query
+query-returns-in-Intersect-clause-query t c = grind (arith, common_steps)
+
+pub conjunct-unreachable-requires : goal.conjunct-unreachable-requires
+conjunct-unreachable-requires t c = grind (arith, common_steps)
+
+pub test-conjunct-requires : goal.test-conjunct-requires
+test-conjunct-requires t c = grind (arith, common_steps)
+
+pub froms-loop-x-smaller : goal.froms-loop-x-smaller
+froms-loop-x-smaller t c = grind (arith, common_steps)
+
+pub froms-returns-clause-scope : goal.froms-returns-clause-scope
+froms-returns-clause-scope t c = grind (arith, common_steps)
+
+pub filter-returns-in-Given : goal.filter-returns-in-Given
+filter-returns-in-Given t c = grind (arith, common_steps)
+
+pub outcome-returns-in-Value : goal.outcome-returns-in-Value
+outcome-returns-in-Value t c = grind (arith, common_steps)
+
+pub query-returns-in-Enclosed-clause-query : goal.query-returns-in-Enclosed-clause-query
+query-returns-in-Enclosed-clause-query t c = grind (arith, common_steps)
+
+pub values-offset_bounds-list-x-index : goal.values-offset_bounds-list-x-index
+values-offset_bounds-list-x-index t c = grind (arith, common_steps)
+
+pub arms-loop-arm-smaller : goal.arms-loop-arm-smaller
+arms-loop-arm-smaller t c = grind (arith, common_steps)
+
+pub froms-loop-x-init : goal.froms-loop-x-init
+froms-loop-x-init t c = grind (arith, common_steps)
+
+pub argument-returns-in-Inside : goal.argument-returns-in-Inside
+argument-returns-in-Inside t c = grind (arith, common_steps)
+
+pub test-returns-in-Not : goal.test-returns-in-Not
+test-returns-in-Not t c = grind (arith, common_steps)
+
+pub outcome-returns-in-Null : goal.outcome-returns-in-Null
+outcome-returns-in-Null t c = grind (arith, common_steps)
+
+pub join-returns-clause-left : goal.join-returns-clause-left
+join-returns-clause-left t c = grind (arith, common_steps)
+
+pub values-loop-x-smaller : goal.values-loop-x-smaller
+values-loop-x-smaller t c = grind (arith, common_steps)

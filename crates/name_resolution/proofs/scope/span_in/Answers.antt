@@ -7,3 +7,9 @@ invariant_of-result c = grind (arith, common_steps)
 
 pub overflow_add-first : goal.overflow_add-first
 overflow_add-first c = grind (arith, common_steps)
+
+pub returns-then-eq : goal.returns-then-eq
+returns-then-eq c = grind (arith, common_steps)
+
+pub loop-range-preserved : goal.loop-range-preserved
+loop-range-preserved c = grind (arith, common_steps)

@@ -4,3 +4,6 @@ use Rattle.name_resolution.proofs.tables.left_join.Goals as goal
 
 pub returns-clause-table : goal.returns-clause-table
 returns-clause-table c = grind (arith, common_steps)
+
+pub returns-clause-scope : goal.returns-clause-scope
+returns-clause-scope c = grind (arith, common_steps)

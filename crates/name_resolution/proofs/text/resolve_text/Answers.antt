@@ -4,3 +4,9 @@ use Rattle.name_resolution.proofs.text.resolve_text.Goals as goal
 
 pub returns-clause-query : goal.returns-clause-query
 returns-clause-query c = grind (arith, common_steps)
+
+pub returns-clause-order : goal.returns-clause-order
+returns-clause-order c = grind (arith, common_steps)
+
+pub returns-clause-columns : goal.returns-clause-columns
+returns-clause-columns c = grind (arith, common_steps)

@@ -4,3 +4,6 @@ use Rattle.name_resolution.proofs.views.+same_ranges.Goals as goal
 
 pub returns-in-None-Some : goal.returns-in-None-Some
 returns-in-None-Some t c = grind (arith, common_steps)
+
+pub returns-in-None-None : goal.returns-in-None-None
+returns-in-None-None t c = grind (arith, common_steps)

@@ -10,3 +10,9 @@ returns-clause-ranges c = grind (arith, common_steps)
 
 pub returns-clause-views : goal.returns-clause-views
 returns-clause-views c = grind (arith, common_steps)
+
+pub offset_bounds-views-view-index : goal.offset_bounds-views-view-index
+offset_bounds-views-view-index c = grind (arith, common_steps)
+
+pub loop-view-init : goal.loop-view-init
+loop-view-init c = grind (arith, common_steps)

@@ -178,3 +178,126 @@ operand-returns-in-Joined h c = flat_is c.args.g.now (shown.from c.args.x.now) _
 
 pub test_subs-returns-in-All : goal.test_subs-returns-in-All
 test_subs-returns-in-All t c = grind (arith, common_steps, shown.lists, taking)
+
+pub arm_subs-returns : goal.arm_subs-returns
+arm_subs-returns t c = grind (arith, common_steps)
+
+pub groups-same-subs-2 : goal.groups-same-subs-2
+groups-same-subs-2 t c = grind (arith, common_steps)
+
+pub test_subs-returns-in-Not : goal.test_subs-returns-in-Not
+test_subs-returns-in-Not t c = grind (arith, common_steps)
+
+pub from-returns-in_ok-over-in-Derived : goal.from-returns-in_ok-over-in-Derived
+from-returns-in_ok-over-in-Derived t c = grind (arith, common_steps)
+
+pub test_subs-returns-in-IsNull : goal.test_subs-returns-in-IsNull
+test_subs-returns-in-IsNull t c = grind (arith, common_steps)
+
+pub value_subs-returns-in-Number : goal.value_subs-returns-in-Number
+value_subs-returns-in-Number t c = grind (arith, common_steps)
+
+pub on_subs-returns-in_ok-on_subs-in-Crossed-clause-step : goal.on_subs-returns-in_ok-on_subs-in-Crossed-clause-step
+on_subs-returns-in_ok-on_subs-in-Crossed-clause-step t c = grind (arith, common_steps)
+
+pub sub-returns : goal.sub-returns
+sub-returns t c = grind (arith, common_steps)
+
+pub froms-returns : goal.froms-returns
+froms-returns t c = grind (arith, common_steps)
+
+pub grouped-finish_upper-requires : goal.grouped-finish_upper-requires
+grouped-finish_upper-requires t c = grind (arith, common_steps)
+
+pub value_subs-returns-in-Number-5 : goal.value_subs-returns-in-Number-5
+value_subs-returns-in-Number-5 t c = grind (arith, common_steps)
+
+pub tests_subs-returns : goal.tests_subs-returns
+tests_subs-returns t c = grind (arith, common_steps)
+
+pub grouped-same-subs-2 : goal.grouped-same-subs-2
+grouped-same-subs-2 t c = grind (arith, common_steps)
+
+pub value_subs-returns-in-Number-4 : goal.value_subs-returns-in-Number-4
+value_subs-returns-in-Number-4 t c = grind (arith, common_steps)
+
+pub on_subs-returns-in_ok-frame-in-Joined-clause-past : goal.on_subs-returns-in_ok-frame-in-Joined-clause-past
+on_subs-returns-in_ok-frame-in-Joined-clause-past t c = grind (arith, common_steps)
+
+pub flat-same-fs : goal.flat-same-fs
+flat-same-fs t c = grind (arith, common_steps)
+
+pub value_subs-returns-in-Number-2 : goal.value_subs-returns-in-Number-2
+value_subs-returns-in-Number-2 t c = grind (arith, common_steps)
+
+pub list_subs-returns : goal.list_subs-returns
+list_subs-returns t c = grind (arith, common_steps)
+
+pub on_subs-returns-in-Named-clause-past : goal.on_subs-returns-in-Named-clause-past
+on_subs-returns-in-Named-clause-past t c = grind (arith, common_steps)
+
+pub block-same-fs : goal.block-same-fs
+block-same-fs t c = grind (arith, common_steps)
+
+pub from-returns-in-Named : goal.from-returns-in-Named
+from-returns-in-Named t c = grind (arith, common_steps)
+
+pub arm_subs-loop-x-smaller : goal.arm_subs-loop-x-smaller
+arm_subs-loop-x-smaller t c = grind (arith, common_steps)
+
+pub operand-returns-in-Named : goal.operand-returns-in-Named
+operand-returns-in-Named t c = grind (arith, common_steps)
+
+pub block-same-subs-3 : goal.block-same-subs-3
+block-same-subs-3 t c = grind (arith, common_steps)
+
+pub value_subs-returns-in-Number-6 : goal.value_subs-returns-in-Number-6
+value_subs-returns-in-Number-6 t c = grind (arith, common_steps)
+
+pub on_subs-returns-in_ok-on_subs-in-Crossed-clause-past : goal.on_subs-returns-in_ok-on_subs-in-Crossed-clause-past
+on_subs-returns-in_ok-on_subs-in-Crossed-clause-past t c = grind (arith, common_steps)
+
+pub value_subs-returns-in-Negative : goal.value_subs-returns-in-Negative
+value_subs-returns-in-Negative t c = grind (arith, common_steps)
+
+pub groups-same-fs : goal.groups-same-fs
+groups-same-fs t c = grind (arith, common_steps)
+
+pub test_subs-returns-in_ok-value_subs-in-Compare : goal.test_subs-returns-in_ok-value_subs-in-Compare
+test_subs-returns-in_ok-value_subs-in-Compare t c = grind (arith, common_steps)
+
+pub value_subs-returns-in_ok-value_subs-in-NullIf : goal.value_subs-returns-in_ok-value_subs-in-NullIf
+value_subs-returns-in_ok-value_subs-in-NullIf t c = grind (arith, common_steps)
+
+pub all_on_subs-returns : goal.all_on_subs-returns
+all_on_subs-returns t c = grind (arith, common_steps)
+
+pub multiplier_subs-returns : goal.multiplier_subs-returns
+multiplier_subs-returns t c = grind (arith, common_steps)
+
+pub value_subs-returns-in-Number-3 : goal.value_subs-returns-in-Number-3
+value_subs-returns-in-Number-3 t c = grind (arith, common_steps)
+
+pub groups-same-subs : goal.groups-same-subs
+groups-same-subs t c = grind (arith, common_steps)
+
+pub choice_subs-returns : goal.choice_subs-returns
+choice_subs-returns t c = grind (arith, common_steps)
+
+pub addend_subs-returns : goal.addend_subs-returns
+addend_subs-returns t c = grind (arith, common_steps)
+
+pub test_subs-returns-in_ok-value_subs-in-Between-2 : goal.test_subs-returns-in_ok-value_subs-in-Between-2
+test_subs-returns-in_ok-value_subs-in-Between-2 t c = grind (arith, common_steps)
+
+pub all_on_subs-loop-x-smaller : goal.all_on_subs-loop-x-smaller
+all_on_subs-loop-x-smaller t c = grind (arith, common_steps)
+
+pub on_subs-returns-in-Named-clause-step : goal.on_subs-returns-in-Named-clause-step
+on_subs-returns-in-Named-clause-step t c = grind (arith, common_steps)
+
+pub operand-returns-in-Derived : goal.operand-returns-in-Derived
+operand-returns-in-Derived t c = grind (arith, common_steps)
+
+pub from-returns-in_ok-from-in-Crossed : goal.from-returns-in_ok-from-in-Crossed
+from-returns-in_ok-from-in-Crossed t c = grind (arith, common_steps)

@@ -1,4 +1,5 @@
-use Rattle.std.proofs.Common.{suc, length, map, ap, refl}
+use Rattle.std.proofs.lemmas.Grind.{common_steps}
+use Rattle.std.proofs.Common.{suc, length, map, ap, refl, arith}
 use Rattle.sql_meaning.specs.ResolvedShown as shown
 use Rattle.qgm_terms.specs.Shown.{cond, terms}
 use Rattle.qgm_shown.specs.Lay.{laying}
@@ -28,3 +29,6 @@ returns-clause-conds c =
     (upper_cells_read c.args.z.now.u (length c.args.z.now.places.now) _ c.args.z.now.places.now (frame_of c.args.h.now.frame.now) (shown.value_list c.args.z.now.list.now) (shown.test c.args.z.now.having.now) _ (map leaf_of c.deref.result.now) _ (frame_of c.deref-2.result.now)
     refl c.in_ok-after.ensures c.in_ok-folds.ensures (ap (map leaf_of) c.deref.ensures.value) c.in_ok-cells.ensures (ap frame_of c.deref-2.ensures.value))
     c.in_ok-values.ensures.slots c.in_ok-p.ensures.cond c.new-conds.ensures.items c.in_ok-add_boxed.ensures.items
+
+pub returns-clause-spare : goal.returns-clause-spare
+returns-clause-spare c = grind (arith, common_steps)

@@ -1,4 +1,5 @@
-use Rattle.std.proofs.Common.{◌++◌, ◌∙◌, List, map, ap}
+use Rattle.std.proofs.lemmas.Grind.{common_steps}
+use Rattle.std.proofs.Common.{◌++◌, ◌∙◌, List, map, ap, arith}
 use Rattle.sql_meaning.specs.ResolvedShown as shown
 use Rattle.qgm_terms.specs.Shown.{cond, term}
 use Rattle.qgm_terms.specs.Terms.{Cond}
@@ -21,3 +22,6 @@ returns-clause-conds c =
     (cells_here (sources_at c.args.g.now) (map_of c.args.outer.now) (shown.from_list c.args.x.now.from.now) (shown.test c.args.x.now.by.now) (shown.value_list c.args.x.now.list.now) c.args.fs.now c.args.subs.now (map leaf_of c.deref.result.now) (frame_of c.deref-2.result.now) (ap (map leaf_of) c.deref.ensures.value ∙ c.in_ok-folds.ensures) (ap frame_of c.deref-2.ensures.value ∙ c.in_ok-cells.ensures)) c.in_ok-values.ensures.slots
     (c.in_ok-all_on_conds.ensures.conds ∙ ap (λ (zs : List Cond). zs ++ all_ons (sources_at c.args.g.now) (map_of c.args.outer.now) (shown.from_list c.args.x.now.from.now) c.args.fs.now (slots_of c.values.new.s)) c.new-conds.ensures.items)
     c.in_ok-all_on_conds.ensures.slots c.in_ok-p.ensures.cond c.in_ok-add_boxed.ensures.items
+
+pub returns-clause-spare : goal.returns-clause-spare
+returns-clause-spare c = grind (arith, common_steps)

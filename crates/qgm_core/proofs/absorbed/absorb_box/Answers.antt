@@ -28,3 +28,6 @@ returns-clause-ok c =
 
 pub spliced-requires : goal.spliced-requires
 spliced-requires c = grind (arith, common_steps)
+
+pub remove-dropped-requires : goal.remove-dropped-requires
+remove-dropped-requires c = grind (arith, common_steps)

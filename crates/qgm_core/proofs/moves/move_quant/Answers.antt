@@ -63,3 +63,9 @@ returns-clause-ok c =
 
 pub returns-in_err-insert-clause-err : goal.returns-in_err-insert-clause-err
 returns-in_err-insert-clause-err c = grind (arith, common_steps)
+
+pub remove-requires : goal.remove-requires
+remove-requires c = grind (arith, common_steps)
+
+pub index_mut-requires-3 : goal.index_mut-requires-3
+index_mut-requires-3 c = grind (arith, common_steps)

@@ -1,3 +1,4 @@
+use Rattle.std.proofs.lemmas.Grind.{common_steps}
 use Rattle.std.proofs.Common.{◌≤◌, ◌+◌, ℕ, length, sym, arith, Option, subst}
 use Rattle.qgm_core.specs.Boxes.{is_box, IsNewPlace}
 use Rattle.qgm_core.proofs.First.{goes_below}
@@ -10,3 +11,6 @@ returns-in-Some c =
     let h = c.box_place.ensures.first.0 in
     let l : i + 1 ≤ length xs = omega arith in
     subst (λ (o : Option ℕ). IsNewPlace o xs (i + 1)) (sym c.in-Some.is) (l, λ n. goes_below (is_box c.in-Some.c) xs i n (sym c.box_place.ensures.at))
+
+pub returns-in-None : goal.returns-in-None
+returns-in-None c = grind (arith, common_steps)

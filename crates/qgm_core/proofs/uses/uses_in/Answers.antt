@@ -1,3 +1,4 @@
+use Rattle.std.proofs.lemmas.Grind.{common_steps}
 use Rattle.std.proofs.Common.{◌≡◌, ◌+◌, Some, slice_get, filter, length, List, ap, sym, ◌∙◌, ◌==◌, arith}
 use Rattle.qgm_core.specs.declared.node.Node.{Node}
 use Rattle.qgm_core.specs.declared.owned.OwnedQuant.{OwnedQuant}
@@ -24,3 +25,6 @@ loop-node-preserved c =
     let e : slice_get ns i ≡ Some c.node-item.result = at-get ns i c.node-item.result (omega (arith, l)) ∙ ap (λ (n : Node). Some n) (sym c.node-item.is) in
     let r = c.uses_by-total.ensures ∙ ap (λ (rs : List OwnedQuant). length (filter (λ r. r.over == c.args.b) rs)) c.as_slice.ensures in
     uses-step c.args.b ns i c.node-item.result c.loop-node.total c.uses_by-total.result e c.loop-node.invariant r
+
+pub returns : goal.returns
+returns c = grind (arith, common_steps)

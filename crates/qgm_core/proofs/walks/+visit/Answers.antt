@@ -47,3 +47,15 @@ overflow_add-i t c = grind (arith, common_steps)
 
 pub visit-requires : goal.visit-requires
 visit-requires t c = grind (arith, common_steps)
+
+pub offset_bounds-nodes-i : goal.offset_bounds-nodes-i
+offset_bounds-nodes-i t c = grind (arith, common_steps)
+
+pub offset_bounds-range-items-range-index : goal.offset_bounds-range-items-range-index
+offset_bounds-range-items-range-index t c = grind (arith, common_steps)
+
+pub loop-range-smaller : goal.loop-range-smaller
+loop-range-smaller t c = grind (arith, common_steps)
+
+pub returns : goal.returns
+returns t c = grind (arith, common_steps)

@@ -4,3 +4,6 @@ use Rattle.qgm_formed.proofs.closed.all_owned.Goals as goal
 
 pub loop-q-preserved : goal.loop-q-preserved
 loop-q-preserved c = grind (arith, common_steps)
+
+pub returns-then-not-has : goal.returns-then-not-has
+returns-then-not-has c = grind (arith, common_steps)

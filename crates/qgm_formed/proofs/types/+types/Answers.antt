@@ -33,3 +33,12 @@ conds_fit-loop-c-preserved t c = grind (arith, common_steps)
 
 pub conds_fit-returns-then-not-cond_fits : goal.conds_fit-returns-then-not-cond_fits
 conds_fit-returns-then-not-cond_fits t c = grind (arith, common_steps)
+
+pub chain_type-loop-link-preserved : goal.chain_type-loop-link-preserved
+chain_type-loop-link-preserved t c = grind (arith, common_steps)
+
+pub arms_fit-returns : goal.arms_fit-returns
+arms_fit-returns t c = grind (arith, common_steps)
+
+pub conds_fit-returns : goal.conds_fit-returns
+conds_fit-returns t c = grind (arith, common_steps)

@@ -8,3 +8,9 @@ returns-then-a-b c = unequal-columns c.args.a.now c.args.b.now (λ p. grind (ari
 
 pub loop-i-preserved : goal.loop-i-preserved
 loop-i-preserved c = grind (arith, common_steps)
+
+pub returns-then-not-same_type : goal.returns-then-not-same_type
+returns-then-not-same_type c = grind (arith, common_steps)
+
+pub returns : goal.returns
+returns c = grind (arith, common_steps)

@@ -21,3 +21,27 @@ is_cond_free-returns-in-All t c =
 pub is_cond_free-returns-in-Any : goal.is_cond_free-returns-in-Any
 is_cond_free-returns-in-Any t c =
     rw (c.in-Any.is, lists.conds_hidden c.in-Any.list, laws.free_ored c.args.nodes.now (facts_of c.args.table.now) c.args.one (shown.cond c.in-Any.a.value) (shown.conds c.in-Any.list.items)) (grind (arith, common_steps))
+
+pub are_arms_free-loop-arm-preserved : goal.are_arms_free-loop-arm-preserved
+are_arms_free-loop-arm-preserved t c = grind (arith, common_steps)
+
+pub are_conds_free-loop-c-preserved : goal.are_conds_free-loop-c-preserved
+are_conds_free-loop-c-preserved t c = grind (arith, common_steps)
+
+pub are_conds_free-returns-then-not-is_cond_free : goal.are_conds_free-returns-then-not-is_cond_free
+are_conds_free-returns-then-not-is_cond_free t c = grind (arith, common_steps)
+
+pub is_chain_free-loop-link-preserved : goal.is_chain_free-loop-link-preserved
+is_chain_free-loop-link-preserved t c = grind (arith, common_steps)
+
+pub are_arms_free-returns-then-not-both : goal.are_arms_free-returns-then-not-both
+are_arms_free-returns-then-not-both t c = grind (arith, common_steps)
+
+pub is_chain_free-returns : goal.is_chain_free-returns
+is_chain_free-returns t c = grind (arith, common_steps)
+
+pub are_arms_free-returns : goal.are_arms_free-returns
+are_arms_free-returns t c = grind (arith, common_steps)
+
+pub are_conds_free-returns : goal.are_conds_free-returns
+are_conds_free-returns t c = grind (arith, common_steps)

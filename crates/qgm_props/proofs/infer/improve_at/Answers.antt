@@ -1,3 +1,4 @@
+use Rattle.std.proofs.lemmas.Grind.{common_steps}
 use Rattle.std.proofs.Common.{◌≡◌, ◌<◌, ◌∙◌, length, true, false, refl, sym, arith}
 use Rattle.qgm_props.proofs.Improving.{beside, beside-long}
 use Rattle.qgm_props.proofs.Steps.{step-improves, step-less, step-stable}
@@ -34,3 +35,6 @@ returns-clause-less c =
     let inside : c.args.i < length c.args.table.now.items = omega (arith, b, w) in
     λ _. step-less c.args.nodes.now c.args.table.now.items c.deref.result.now c.args.i c.index-nodes-i.result c.index.result.now c.index-2.result.now c.in_ok-next.next c.requires.improves c.deref.ensures.value c.requires.within inside c.index-nodes-i.is c.index.ensures c.index-2.ensures c.in_ok-next.ensures
     (λ same. let t = c.is_same.ensures.1 same in let f = c.if-is_same.false in let k : true ≡ false = sym t ∙ f in cc)
+
+pub returns-then-is_same-clause-less : goal.returns-then-is_same-clause-less
+returns-then-is_same-clause-less c = grind (arith, common_steps)

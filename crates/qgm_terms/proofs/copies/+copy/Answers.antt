@@ -20,3 +20,66 @@ copy_arms-loop-arm-preserved t c = grind (arith, common_steps)
 
 pub copy_arms-returns : goal.copy_arms-returns
 copy_arms-returns t c = grind (arith, common_steps)
+
+pub copy_all-returns : goal.copy_all-returns
+copy_all-returns t c = grind (arith, common_steps)
+
+pub copy_cond-returns-in-Some : goal.copy_cond-returns-in-Some
+copy_cond-returns-in-Some t c = grind (arith, common_steps)
+
+pub copy-returns-in-NullInt : goal.copy-returns-in-NullInt
+copy-returns-in-NullInt t c = grind (arith, common_steps)
+
+pub copy-returns-in-Col : goal.copy-returns-in-Col
+copy-returns-in-Col t c = grind (arith, common_steps)
+
+pub copy_cond-returns-in-Every : goal.copy_cond-returns-in-Every
+copy_cond-returns-in-Every t c = grind (arith, common_steps)
+
+pub copy_cond-returns-in-True : goal.copy_cond-returns-in-True
+copy_cond-returns-in-True t c = grind (arith, common_steps)
+
+pub copy_chain-returns : goal.copy_chain-returns
+copy_chain-returns t c = grind (arith, common_steps)
+
+pub copy_all-loop-c-preserved : goal.copy_all-loop-c-preserved
+copy_all-loop-c-preserved t c = grind (arith, common_steps)
+
+pub copy-returns-in-Scalar : goal.copy-returns-in-Scalar
+copy-returns-in-Scalar t c = grind (arith, common_steps)
+
+pub copy_chain-loop-link-preserved : goal.copy_chain-loop-link-preserved
+copy_chain-loop-link-preserved t c = grind (arith, common_steps)
+
+pub copy_arms-loop-arm-init : goal.copy_arms-loop-arm-init
+copy_arms-loop-arm-init t c = grind (arith, common_steps)
+
+pub copy_cond-returns-in-Not : goal.copy_cond-returns-in-Not
+copy_cond-returns-in-Not t c = grind (arith, common_steps)
+
+pub copy_cond-returns-in-Eq : goal.copy_cond-returns-in-Eq
+copy_cond-returns-in-Eq t c = grind (arith, common_steps)
+
+pub copy_any-returns : goal.copy_any-returns
+copy_any-returns t c = grind (arith, common_steps)
+
+pub copy_any-loop-c-preserved : goal.copy_any-loop-c-preserved
+copy_any-loop-c-preserved t c = grind (arith, common_steps)
+
+pub copy-returns-in-CountAll : goal.copy-returns-in-CountAll
+copy-returns-in-CountAll t c = grind (arith, common_steps)
+
+pub copy-returns-in-NullText : goal.copy-returns-in-NullText
+copy-returns-in-NullText t c = grind (arith, common_steps)
+
+pub copy_cond-returns-in-IsNull : goal.copy_cond-returns-in-IsNull
+copy_cond-returns-in-IsNull t c = grind (arith, common_steps)
+
+pub copy-returns-in-Neg : goal.copy-returns-in-Neg
+copy-returns-in-Neg t c = grind (arith, common_steps)
+
+pub copy-returns-in-Int : goal.copy-returns-in-Int
+copy-returns-in-Int t c = grind (arith, common_steps)
+
+pub copy_arms-loop-arm-smaller : goal.copy_arms-loop-arm-smaller
+copy_arms-loop-arm-smaller t c = grind (arith, common_steps)

@@ -58,3 +58,9 @@ fits_links-returns t c = grind (arith, common_steps)
 
 pub fits_conds-returns : goal.fits_conds-returns
 fits_conds-returns t c = grind (arith, common_steps)
+
+pub fits-returns-in-Neg : goal.fits-returns-in-Neg
+fits-returns-in-Neg t c = grind (arith, common_steps)
+
+pub fits_cond-returns-in-Some : goal.fits_cond-returns-in-Some
+fits_cond-returns-in-Some t c = grind (arith, common_steps)

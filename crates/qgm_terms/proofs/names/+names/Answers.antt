@@ -21,3 +21,33 @@ add_names_of_cond-returns-in_ok-add_names_of_cond-in-All t c =
 pub add_names_of_cond-returns-in_ok-add_names_of_cond-in-Any : goal.add_names_of_cond-returns-in_ok-add_names_of_cond-in-Any
 add_names_of_cond-returns-in_ok-add_names_of_cond-in-Any t c =
     rw (c.in-Any.is, lists.conds_hidden c.in-Any.list, listed.listed_ored names (shown.cond c.in-Any.a.value) (shown.conds c.in-Any.list.items)) (grind (arith, common_steps))
+
+pub add_names-returns-in-Neg : goal.add_names-returns-in-Neg
+add_names-returns-in-Neg t c = grind (arith, common_steps)
+
+pub add_names_of_links-returns : goal.add_names_of_links-returns
+add_names_of_links-returns t c = grind (arith, common_steps)
+
+pub add_names_of_arms-returns : goal.add_names_of_arms-returns
+add_names_of_arms-returns t c = grind (arith, common_steps)
+
+pub add_names-returns-in_ok-push-in-Col : goal.add_names-returns-in_ok-push-in-Col
+add_names-returns-in_ok-push-in-Col t c = grind (arith, common_steps)
+
+pub add_names_of_cond-returns-in_ok-add_names-in-Eq : goal.add_names_of_cond-returns-in_ok-add_names-in-Eq
+add_names_of_cond-returns-in_ok-add_names-in-Eq t c = grind (arith, common_steps)
+
+pub add_names_of_links-loop-link-preserved : goal.add_names_of_links-loop-link-preserved
+add_names_of_links-loop-link-preserved t c = grind (arith, common_steps)
+
+pub add_names_of_arms-loop-arm-preserved : goal.add_names_of_arms-loop-arm-preserved
+add_names_of_arms-loop-arm-preserved t c = grind (arith, common_steps)
+
+pub add_names_of_cond-returns-in_ok-push-in-Some : goal.add_names_of_cond-returns-in_ok-push-in-Some
+add_names_of_cond-returns-in_ok-push-in-Some t c = grind (arith, common_steps)
+
+pub add_names_of_conds-loop-p-preserved : goal.add_names_of_conds-loop-p-preserved
+add_names_of_conds-loop-p-preserved t c = grind (arith, common_steps)
+
+pub add_names_of_conds-returns : goal.add_names_of_conds-returns
+add_names_of_conds-returns t c = grind (arith, common_steps)

@@ -155,3 +155,57 @@ shift_cond-returns-in-IsNull t c = record { tree = grind (arith, common_steps); 
 
 pub shift_cond-returns-in-Not : goal.shift_cond-returns-in-Not
 shift_cond-returns-in-Not t c = record { tree = grind (arith, common_steps); depth = grind (arith, common_steps) }
+
+pub shift-returns-then-k-place-clause-depth : goal.shift-returns-then-k-place-clause-depth
+shift-returns-then-k-place-clause-depth t c = grind (arith, common_steps)
+
+pub shift_conds-loop-i-init : goal.shift_conds-loop-i-init
+shift_conds-loop-i-init t c = grind (arith, common_steps)
+
+pub shift-overflow_sub-place : goal.shift-overflow_sub-place
+shift-overflow_sub-place t c = grind (arith, common_steps)
+
+pub shift_links-loop-i-init : goal.shift_links-loop-i-init
+shift_links-loop-i-init t c = grind (arith, common_steps)
+
+pub shift-returns-2-clause-tree : goal.shift-returns-2-clause-tree
+shift-returns-2-clause-tree t c = grind (arith, common_steps)
+
+pub shift_arms-loop-i-init : goal.shift_arms-loop-i-init
+shift_arms-loop-i-init t c = grind (arith, common_steps)
+
+pub shift-returns-then-k-place-clause-tree : goal.shift-returns-then-k-place-clause-tree
+shift-returns-then-k-place-clause-tree t c = grind (arith, common_steps)
+
+pub shift_links-returns-clause-trees : goal.shift_links-returns-clause-trees
+shift_links-returns-clause-trees t c = grind (arith, common_steps)
+
+pub shift-returns-5-clause-tree : goal.shift-returns-5-clause-tree
+shift-returns-5-clause-tree t c = grind (arith, common_steps)
+
+pub shift-returns-6-clause-tree : goal.shift-returns-6-clause-tree
+shift-returns-6-clause-tree t c = grind (arith, common_steps)
+
+pub shift-returns-else-r-q-clause-tree : goal.shift-returns-else-r-q-clause-tree
+shift-returns-else-r-q-clause-tree t c = grind (arith, common_steps)
+
+pub shift_conds-returns-clause-trees : goal.shift_conds-returns-clause-trees
+shift_conds-returns-clause-trees t c = grind (arith, common_steps)
+
+pub shift-returns-clause-tree : goal.shift-returns-clause-tree
+shift-returns-clause-tree t c = grind (arith, common_steps)
+
+pub shift-returns-else-r-q-clause-depth : goal.shift-returns-else-r-q-clause-depth
+shift-returns-else-r-q-clause-depth t c = grind (arith, common_steps)
+
+pub shift-returns-4-clause-tree : goal.shift-returns-4-clause-tree
+shift-returns-4-clause-tree t c = grind (arith, common_steps)
+
+pub shift-returns-3-clause-tree : goal.shift-returns-3-clause-tree
+shift-returns-3-clause-tree t c = grind (arith, common_steps)
+
+pub shift_cond-returns-in-True-clause-tree : goal.shift_cond-returns-in-True-clause-tree
+shift_cond-returns-in-True-clause-tree t c = grind (arith, common_steps)
+
+pub shift_arms-returns-clause-trees : goal.shift_arms-returns-clause-trees
+shift_arms-returns-clause-trees t c = grind (arith, common_steps)

@@ -1,3 +1,4 @@
+use Rattle.std.proofs.lemmas.Grind.{common_steps}
 use Rattle.std.proofs.Common.{◌<◌, ◌∙◌, length, arith}
 use Rattle.std.proofs.Math.ListN.{length-set}
 use Rattle.qgm_terms.proofs.InPlace.{map_view_kept, map_view_more}
@@ -15,3 +16,9 @@ loop-i-preserved c =
       same = simp length-set c.loop-i.invariant.same;
       depths = map_view_kept depth c.loop-i.list c.loop-i.i c.shift.new.x c.index-list-i.result in_range c.shift.ensures.depth ∙ c.loop-i.invariant.depths;
     }
+
+pub loop-i-init : goal.loop-i-init
+loop-i-init c = grind (arith, common_steps)
+
+pub returns-clause-trees : goal.returns-clause-trees
+returns-clause-trees c = grind (arith, common_steps)

@@ -4,3 +4,6 @@ use Rattle.query_checks.proofs.checking.text_output.Goals as goal
 
 pub returns-clause-fault : goal.returns-clause-fault
 returns-clause-fault c = grind (arith, common_steps)
+
+pub returns-clause-columns : goal.returns-clause-columns
+returns-clause-columns c = grind (arith, common_steps)

@@ -74,3 +74,90 @@ test-returns-in_ok-tests-in-Any t c = grind (arith, common_steps, shown.lists)
 
 pub value-returns-in_ok-last-in-Searched : goal.value-returns-in_ok-last-in-Searched
 value-returns-in_ok-last-in-Searched t c = grind (arith, common_steps, shown.lists)
+
+pub coalesced-loop-x-smaller : goal.coalesced-loop-x-smaller
+coalesced-loop-x-smaller t c = grind (arith, common_steps)
+
+pub value-returns-in_ok-value-in-Negative : goal.value-returns-in_ok-value-in-Negative
+value-returns-in_ok-value-in-Negative t c = grind (arith, common_steps)
+
+pub test-returns-in_ok-b-in-Compare : goal.test-returns-in_ok-b-in-Compare
+test-returns-in_ok-b-in-Compare t c = grind (arith, common_steps)
+
+pub multipliers-returns : goal.multipliers-returns
+multipliers-returns t c = grind (arith, common_steps)
+
+pub froms-loop-x-smaller : goal.froms-loop-x-smaller
+froms-loop-x-smaller t c = grind (arith, common_steps)
+
+pub tests-loop-p-smaller : goal.tests-loop-p-smaller
+tests-loop-p-smaller t c = grind (arith, common_steps)
+
+pub addends-returns : goal.addends-returns
+addends-returns t c = grind (arith, common_steps)
+
+pub multipliers-loop-x-smaller : goal.multipliers-loop-x-smaller
+multipliers-loop-x-smaller t c = grind (arith, common_steps)
+
+pub value-returns-in_ok-value-in-Aggregate : goal.value-returns-in_ok-value-in-Aggregate
+value-returns-in_ok-value-in-Aggregate t c = grind (arith, common_steps)
+
+pub choices-returns : goal.choices-returns
+choices-returns t c = grind (arith, common_steps)
+
+pub coalesced-returns : goal.coalesced-returns
+coalesced-returns t c = grind (arith, common_steps)
+
+pub from-returns-in_ok-p-in-Joined : goal.from-returns-in_ok-p-in-Joined
+from-returns-in_ok-p-in-Joined t c = grind (arith, common_steps)
+
+pub value-returns-in_ok-query-in-Scalar : goal.value-returns-in_ok-query-in-Scalar
+value-returns-in_ok-query-in-Scalar t c = grind (arith, common_steps)
+
+pub query-returns-in_ok-b-in-Combine : goal.query-returns-in_ok-b-in-Combine
+query-returns-in_ok-b-in-Combine t c = grind (arith, common_steps)
+
+pub from-returns-in_ok-query-in-Derived : goal.from-returns-in_ok-query-in-Derived
+from-returns-in_ok-query-in-Derived t c = grind (arith, common_steps)
+
+pub values-loop-x-smaller : goal.values-loop-x-smaller
+values-loop-x-smaller t c = grind (arith, common_steps)
+
+pub test-returns-in_ok-value-in-IsNull : goal.test-returns-in_ok-value-in-IsNull
+test-returns-in_ok-value-in-IsNull t c = grind (arith, common_steps)
+
+pub arms-returns : goal.arms-returns
+arms-returns t c = grind (arith, common_steps)
+
+pub tests-returns : goal.tests-returns
+tests-returns t c = grind (arith, common_steps)
+
+pub value-returns-in-Number : goal.value-returns-in-Number
+value-returns-in-Number t c = grind (arith, common_steps)
+
+pub values-returns : goal.values-returns
+values-returns t c = grind (arith, common_steps)
+
+pub from-returns-in_ok-b-in-Crossed : goal.from-returns-in_ok-b-in-Crossed
+from-returns-in_ok-b-in-Crossed t c = grind (arith, common_steps)
+
+pub test-returns-in_ok-query-in-Exists : goal.test-returns-in_ok-query-in-Exists
+test-returns-in_ok-query-in-Exists t c = grind (arith, common_steps)
+
+pub test-returns-in_ok-rows-in-Quantified : goal.test-returns-in_ok-rows-in-Quantified
+test-returns-in_ok-rows-in-Quantified t c = grind (arith, common_steps)
+
+pub froms-returns : goal.froms-returns
+froms-returns t c = grind (arith, common_steps)
+
+pub arms-loop-x-smaller : goal.arms-loop-x-smaller
+arms-loop-x-smaller t c = grind (arith, common_steps)
+
+pub addends-loop-x-smaller : goal.addends-loop-x-smaller
+addends-loop-x-smaller t c = grind (arith, common_steps)
+
+pub choices-loop-x-smaller : goal.choices-loop-x-smaller
+choices-loop-x-smaller t c = grind (arith, common_steps)
+
+pub test-returns-in_ok-test-in-Not : goal.test-returns-in_ok-test-in-Not
+test-returns-in_ok-test-in-Not t c = grind (arith, common_steps)

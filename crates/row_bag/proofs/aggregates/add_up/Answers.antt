@@ -40,3 +40,9 @@ loop-row-preserved c =
             within = (omega (arith, ints, w.total-is, w.count-is, c.loop-row.invariant.within.0), omega (arith, ints, w.total-is, w.count-is, c.loop-row.invariant.within.1));
           }
     ]
+
+pub returns-clause-total : goal.returns-clause-total
+returns-clause-total c = grind (arith, common_steps)
+
+pub overflow_add-total : goal.overflow_add-total
+overflow_add-total c = grind (arith, common_steps)

@@ -9,3 +9,6 @@ returns-else-is_none-clause-kept c =
 
 pub returns-in_ok-push-2-clause-index : goal.returns-in_ok-push-2-clause-index
 returns-in_ok-push-2-clause-index c = grind (arith, common_steps)
+
+pub returns-in_ok-push-2-clause-kept : goal.returns-in_ok-push-2-clause-kept
+returns-in_ok-push-2-clause-kept c = grind (arith, common_steps)

@@ -1,3 +1,4 @@
+use Rattle.std.proofs.lemmas.Grind.{common_steps}
 use Rattle.std.proofs.Common.{rules, arith, ◌≡◌, ◌∙◌, [], sym}
 use Rattle.std.specs.Vec.Iter.{into_iter_items}
 use Rattle.row_bag.specs.Groups.{key}
@@ -39,3 +40,6 @@ returns-clause-members c =
 
 pub returns-clause-grouped : goal.returns-clause-grouped
 returns-clause-grouped c = λ f. groups-agree c.args.keys f c.args.bag c.those_with_rows.result.items (returns-clause-keys c) (returns-clause-members c)
+
+pub enter-requires-clause-some : goal.enter-requires-clause-some
+enter-requires-clause-some c = grind (arith, common_steps)

@@ -1,4 +1,5 @@
-use Rattle.std.proofs.Common.{map}
+use Rattle.std.proofs.lemmas.Grind.{common_steps}
+use Rattle.std.proofs.Common.{map, arith}
 use Rattle.std.proofs.lemmas.List.{map_push}
 use Rattle.row_bag.specs.declared.matched.Left.{Left}
 use Rattle.row_bag.proofs.Keeping.{different-push}
@@ -15,3 +16,6 @@ pub returns-clause-counts : goal.returns-clause-counts
 returns-clause-counts c = λ t.
     let new : Left = record { cells = c.args.cells; count = 1 } in
     rw c.in_ok-push-2.ensures.items (left-push (λ (l : Left). l.cells) (λ (l : Left). l.count) t c.args.items.now.items new)
+
+pub returns-clause-index : goal.returns-clause-index
+returns-clause-index c = grind (arith, common_steps)

@@ -20,3 +20,9 @@ count_tuple-requires-clause-room c =
 
 pub returns-clause-counts : goal.returns-clause-counts
 returns-clause-counts c = grind (arith, common_steps)
+
+pub returns-clause-once : goal.returns-clause-once
+returns-clause-once c = grind (arith, common_steps)
+
+pub count_tuple-requires-clause-once : goal.count_tuple-requires-clause-once
+count_tuple-requires-clause-once c = grind (arith, common_steps)

@@ -1,4 +1,5 @@
-use Rattle.std.proofs.Common.{rules, ◌≡◌, ◌+◌, ◌∙◌, ◌∷◌, ◌++◌, [], List, sym, ap, cond, zero-add, add-zero}
+use Rattle.std.proofs.lemmas.Grind.{common_steps}
+use Rattle.std.proofs.Common.{rules, ◌≡◌, ◌+◌, ◌∙◌, ◌∷◌, ◌++◌, [], List, sym, ap, cond, zero-add, add-zero, arith}
 use Rattle.std.specs.Vec.Iter.{into_iter_items}
 use Rattle.sql_value.specs.declared.cell.Cell.{Cell}
 use Rattle.sql_value.specs.declared.level.Level.TheVariants.{Yes}
@@ -59,3 +60,6 @@ pub returns : goal.returns
 returns c = λ t m.
     let e = at_end c.args.matched t m (into_iter_items c.loop-cells.cells-iterator) (left_of (λ (x : Left). x.cells) (λ (x : Left). x.count) t c.loop-cells.items.items) (none_left _ (sym c.loop-cells.invariant.left ∙ c.in-None.ensures.steps.0)) in
     sym (add-zero _) ∙ ap (λ n. count same_cells t m c.loop-cells.kept + n) (sym e) ∙ c.loop-cells.invariant.counts t m
+
+pub take-requires-clause-once : goal.take-requires-clause-once
+take-requires-clause-once c = grind (arith, common_steps)

@@ -11,3 +11,6 @@ returns c =
 
 pub loop-i-preserved : goal.loop-i-preserved
 loop-i-preserved c = grind (arith, common_steps)
+
+pub returns-then-ne : goal.returns-then-ne
+returns-then-ne c = grind (arith, common_steps)

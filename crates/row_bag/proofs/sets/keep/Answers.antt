@@ -1,4 +1,5 @@
-use Rattle.std.proofs.Common.{◌≡◌, refl}
+use Rattle.std.proofs.lemmas.Grind.{common_steps}
+use Rattle.std.proofs.Common.{◌≡◌, refl, arith}
 use Rattle.std.proofs.lemmas.List.{map_push}
 use Rattle.row_bag.specs.Hashes.{tuples_of}
 use Rattle.row_bag.specs.Matched.{often}
@@ -10,3 +11,9 @@ pub returns-in_ok-keep_new-in-None-clause-once : goal.returns-in_ok-keep_new-in-
 returns-in_ok-keep_new-in-None-clause-once c = λ once t.
     let none : often c.args.row.cells (tuples_of c.args.kept.now.items) ≡ 0 = rw (c.as_slice-2.ensures.value, c.as_slice-3.ensures) at (c.in-None.ensures.none refl) in
     rw (c.in_ok-keep_new-in-None.ensures.kept, map_push (λ (r : Row Tuple). r.cells) c.args.kept.now.items c.args.row) (different-push (tuples_of c.args.kept.now.items) c.args.row.cells none once t)
+
+pub returns-in_ok-keep_new-in-None-clause-levels : goal.returns-in_ok-keep_new-in-None-clause-levels
+returns-in_ok-keep_new-in-None-clause-levels c = grind (arith, common_steps)
+
+pub returns-in-Some-clause-once : goal.returns-in-Some-clause-once
+returns-in-Some-clause-once c = grind (arith, common_steps)

@@ -17,3 +17,6 @@ loop-row-preserved c =
     ∙ ap (λ (p : Truth). and c.loop-row.truth (and p (u.compare_all c.args.op c.args.x.now rest))) c.all_one.ensures
     ∙ ap (λ (rows : List (Row (List Cell))). and c.loop-row.truth (u.compare_all c.args.op c.args.x.now rows)) (sym step)
     ∙ c.loop-row.invariant
+
+pub returns : goal.returns
+returns c = grind (arith, common_steps)

@@ -17,3 +17,6 @@ loop-row-preserved c =
     ∙ ap (λ (p : Truth). or c.loop-row.truth (or p (u.compare_any c.args.op c.args.x.now rest))) c.any_one.ensures
     ∙ ap (λ (rows : List (Row (List Cell))). or c.loop-row.truth (u.compare_any c.args.op c.args.x.now rows)) (sym step)
     ∙ c.loop-row.invariant
+
+pub returns : goal.returns
+returns c = grind (arith, common_steps)

@@ -8,3 +8,6 @@ returns-then-any_there c = grind (arith, common_steps, scalar_steps)
 
 pub returns-then-is_there : goal.returns-then-is_there
 returns-then-is_there c = grind (arith, common_steps, scalar_steps)
+
+pub loop-i-preserved : goal.loop-i-preserved
+loop-i-preserved c = grind (arith, common_steps)

@@ -1,4 +1,5 @@
-use Rattle.std.proofs.Common.{rules, ◌≡◌, ◌∙◌, ◌+◌, ◌%◌, ap, length, map, sym}
+use Rattle.std.proofs.lemmas.Grind.{common_steps}
+use Rattle.std.proofs.Common.{rules, ◌≡◌, ◌∙◌, ◌+◌, ◌%◌, ap, length, map, sym, arith}
 use Rattle.std.proofs.lemmas.List.{get_or_default, length-map, length_push, map_push}
 use Rattle.row_bag.specs.declared.tuple_index.Link.{Link}
 use Rattle.row_bag.proofs.Indexed.{chained-push}
@@ -17,3 +18,6 @@ returns-clause-chained c =
     rw (c.in_ok-push.ensures.items, map_push (λ (l : Link). l.before) links link, map_push (λ (l : Link). l.hash) links link)
     (chained-push heads (map (λ (l : Link). l.before) links) (map (λ (l : Link). l.hash) links) c.args.hash c.chain_of-chain.result c.index-before.result.now c.len-2.result (length-map links (λ (l : Link). l.before) ∙ sym hashes)
     inside (c.chain_of-chain.ensures.chain ∙ ap (λ n. c.args.hash % n) chains) (c.index-before.ensures ∙ get_or_default heads c.chain_of-chain.result c.index-before.result.now 0 inside) last c.requires)
+
+pub returns-clause-ok : goal.returns-clause-ok
+returns-clause-ok c = grind (arith, common_steps)

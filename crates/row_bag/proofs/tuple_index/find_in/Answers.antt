@@ -36,3 +36,6 @@ loop-place-smaller c = grind (arith, common_steps)
 
 pub offset_bounds-links-place : goal.offset_bounds-links-place
 offset_bounds-links-place c = grind (arith, common_steps)
+
+pub returns-then-is_it-clause-none : goal.returns-then-is_it-clause-none
+returns-then-is_it-clause-none g c = grind (arith, common_steps)

@@ -16,3 +16,6 @@ returns-else-links-at g c =
 
 pub bounds-items-at : goal.bounds-items-at
 bounds-items-at c = grind (arith, common_steps)
+
+pub offset_bounds-items-at : goal.offset_bounds-items-at
+offset_bounds-items-at g c = grind (arith, common_steps)

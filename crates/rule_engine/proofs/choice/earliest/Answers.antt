@@ -7,3 +7,6 @@ pub returns : goal.returns
 returns c =
     let ended : drop c.loop-f.f-index c.args.list.now ≡ [] = grind (arith, common_steps) in
     ap (best c.loop-f.found) (sym ended) ∙ c.loop-f.invariant ∙ best-earliest c.args.list.now
+
+pub loop-f-preserved : goal.loop-f-preserved
+loop-f-preserved c = grind (arith, common_steps)

@@ -1,4 +1,5 @@
-use Rattle.std.proofs.Common.{ℕ, ◌≡◌, ◌<◌, ◌++◌, ◌∙◌, List, true, length, sym, ap, rules}
+use Rattle.std.proofs.lemmas.Grind.{common_steps}
+use Rattle.std.proofs.Common.{ℕ, ◌≡◌, ◌<◌, ◌++◌, ◌∙◌, List, true, length, sym, ap, rules, arith}
 use Rattle.std.specs.Prelude.{slice_index_or}
 use Rattle.qgm_core.specs.Walk.{walk}
 use Rattle.rule_api.specs.declared.place.Firing.{Firing}
@@ -25,3 +26,6 @@ returns-then-ranks_first g c =
     ∙ stop-at (g.T.Rules.pairs c.args.table.now) c.in_ok-rules.rules.items c.args.graph.now c.loop-b.b-index c.deref-b-items.result.now c.loop-b.out.items c.deref-in-loop-b.result.now
     within c.loop-b.invariant added (ap (ranks_first c.in_ok-rules.rules.items) (sym c.earliest-found.ensures) ∙ first)
     ∙ ap earliest (candidates-of (g.T.Rules.pairs c.args.table.now) c.args.plan.now c.args.graph.now c.in_ok-rules.rules.items c.deref-b-items.result.now own boxes)
+
+pub loop-b-preserved : goal.loop-b-preserved
+loop-b-preserved g c = grind (arith, common_steps)

@@ -17,3 +17,6 @@ loop-count-preserved g c =
       formed = s.0.formed;
       preserves = preserves-chained c.args.graph c.loop-count.graph c.step.new.graph i.preserves s.1;
     }
+
+pub returns-in_default : goal.returns-in_default
+returns-in_default g c = grind (arith, common_steps)

@@ -1,4 +1,5 @@
-use Rattle.std.proofs.Common.{◌-◌, ◌∙◌, sym, ap, slice_index_or}
+use Rattle.std.proofs.lemmas.Grind.{common_steps}
+use Rattle.std.proofs.Common.{◌-◌, ◌∙◌, sym, ap, slice_index_or, arith}
 use Rattle.qgm_core.specs.Boxes.{is_box}
 use Rattle.qgm_core.specs.Lists.{first}
 use Rattle.qgm_core.specs.declared.kinds.QuantKind.TheVariants.{F}
@@ -17,3 +18,12 @@ returns c =
       under = sym (c.in-Some-box_at.ensures ∙ ap (first (is_box (slice_index_or c.as_slice.result.now (c.args.place.i - 1) (record { id = 0; kind = F; over = 0 })).over)) c.nodes-2.ensures);
       plans = c.in_ok-steps.ensures;
     }
+
+pub offset_bounds-as_slice-place : goal.offset_bounds-as_slice-place
+offset_bounds-as_slice-place c = grind (arith, common_steps)
+
+pub unreachable-requires-in_default-box_at : goal.unreachable-requires-in_default-box_at
+unreachable-requires-in_default-box_at c = grind (arith, common_steps)
+
+pub bounds-as_slice-place : goal.bounds-as_slice-place
+bounds-as_slice-place c = grind (arith, common_steps)

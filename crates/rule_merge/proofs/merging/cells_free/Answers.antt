@@ -1,3 +1,4 @@
+use Rattle.std.proofs.lemmas.Grind.{common_steps}
 use Rattle.std.proofs.Common.{◌≡◌, ◌&&◌, ◌||◌, ◌+◌, ◌-◌, not, Some, true, false, drop, sym, subst, ◌∙◌, ap, arith}
 use Rattle.std.specs.Prelude.{slice_get}
 use Rattle.qgm_laws.proofs.Lists.{or-left, or-right}
@@ -38,3 +39,6 @@ loop-k-preserved c =
     let z : k + 1 - 1 ≡ k = omega arith in
     let e : slice_get head k ≡ Some x = subst (λ j. slice_get head j ≡ Some x) z c.at.ensures in
     sym (ap (λ v. v && cells_free b q bs (k + 1 + 1) (drop (k + 1) head)) t) ∙ sym (cells-more b q bs (k + 1) k head x e) ∙ c.loop-k.invariant
+
+pub returns : goal.returns
+returns c = grind (arith, common_steps)

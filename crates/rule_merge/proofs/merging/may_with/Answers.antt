@@ -9,3 +9,6 @@ distinct_fits-requires c = grind (arith, common_steps, found_has, merged_unfed)
 
 pub returns-then-not-tables : goal.returns-then-not-tables
 returns-then-not-tables c = grind (arith, common_steps, found_has, merged_unfed)
+
+pub merged-requires-clause-stands : goal.merged-requires-clause-stands
+merged-requires-clause-stands c = grind (arith, common_steps)

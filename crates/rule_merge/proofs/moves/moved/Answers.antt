@@ -8,3 +8,6 @@ turn-requires-clause-quants c = grind (arith, common_steps, over_has, turned_hel
 
 pub drop_box-requires : goal.drop_box-requires
 drop_box-requires c = grind (arith, common_steps, over_has, turned_held)
+
+pub returns-clause-ok : goal.returns-clause-ok
+returns-clause-ok c = grind (arith, common_steps)

@@ -8,3 +8,9 @@ loop-item-preserved g c = item_moved c.loop-item.left c.pop.new.self c.in-Some.i
 
 pub loop-item-smaller : goal.loop-item-smaller
 loop-item-smaller c = grind (arith, common_steps)
+
+pub loop-item-init : goal.loop-item-init
+loop-item-init g c = grind (arith, common_steps)
+
+pub returns : goal.returns
+returns g c = grind (arith, common_steps)

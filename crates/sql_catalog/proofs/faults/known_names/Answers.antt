@@ -7,3 +7,9 @@ loop-view-preserved c = grind (arith, common_steps)
 
 pub returns : goal.returns
 returns c = grind (arith, common_steps)
+
+pub loop-view-init : goal.loop-view-init
+loop-view-init c = grind (arith, common_steps)
+
+pub offset_bounds-views-view-index : goal.offset_bounds-views-view-index
+offset_bounds-views-view-index c = grind (arith, common_steps)

@@ -9,3 +9,6 @@ loop-name-init c = rw (c.requires) (ap (λ b. b || has_twins c.args.names.now) (
 
 pub loop-name-preserved : goal.loop-name-preserved
 loop-name-preserved c = grind (arith, common_steps, twins_more)
+
+pub returns-then-not-branch : goal.returns-then-not-branch
+returns-then-not-branch c = grind (arith, common_steps)

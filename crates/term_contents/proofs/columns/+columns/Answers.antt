@@ -21,3 +21,30 @@ add_columns_of_cond-returns-in_ok-add_columns_of_cond-in-All t c =
 pub add_columns_of_cond-returns-in_ok-add_columns_of_cond-in-Any : goal.add_columns_of_cond-returns-in_ok-add_columns_of_cond-in-Any
 add_columns_of_cond-returns-in_ok-add_columns_of_cond-in-Any t c =
     rw (c.in-Any.is, lists.conds_hidden c.in-Any.list, listed.listed_ored columns (shown.cond c.in-Any.a.value) (shown.conds c.in-Any.list.items)) (grind (arith, common_steps))
+
+pub add_columns-returns-in-Neg : goal.add_columns-returns-in-Neg
+add_columns-returns-in-Neg t c = grind (arith, common_steps)
+
+pub add_columns_of_conds-returns : goal.add_columns_of_conds-returns
+add_columns_of_conds-returns t c = grind (arith, common_steps)
+
+pub add_columns_of_arms-loop-arm-preserved : goal.add_columns_of_arms-loop-arm-preserved
+add_columns_of_arms-loop-arm-preserved t c = grind (arith, common_steps)
+
+pub add_columns_of_cond-returns-in-Some : goal.add_columns_of_cond-returns-in-Some
+add_columns_of_cond-returns-in-Some t c = grind (arith, common_steps)
+
+pub add_columns_of_cond-returns-in_ok-add_columns-in-Eq : goal.add_columns_of_cond-returns-in_ok-add_columns-in-Eq
+add_columns_of_cond-returns-in_ok-add_columns-in-Eq t c = grind (arith, common_steps)
+
+pub add_columns_of_conds-loop-p-preserved : goal.add_columns_of_conds-loop-p-preserved
+add_columns_of_conds-loop-p-preserved t c = grind (arith, common_steps)
+
+pub add_columns_of_links-loop-link-preserved : goal.add_columns_of_links-loop-link-preserved
+add_columns_of_links-loop-link-preserved t c = grind (arith, common_steps)
+
+pub add_columns_of_links-returns : goal.add_columns_of_links-returns
+add_columns_of_links-returns t c = grind (arith, common_steps)
+
+pub add_columns_of_arms-returns : goal.add_columns_of_arms-returns
+add_columns_of_arms-returns t c = grind (arith, common_steps)

@@ -21,3 +21,33 @@ add_nodes_of_cond-returns-in_ok-add_nodes_of_cond-in-All t c =
 pub add_nodes_of_cond-returns-in_ok-add_nodes_of_cond-in-Any : goal.add_nodes_of_cond-returns-in_ok-add_nodes_of_cond-in-Any
 add_nodes_of_cond-returns-in_ok-add_nodes_of_cond-in-Any t c =
     rw (c.in-Any.is, lists.conds_hidden c.in-Any.list, listed.listed_ored nodes (shown.cond c.in-Any.a.value) (shown.conds c.in-Any.list.items)) (grind (arith, common_steps))
+
+pub add_nodes_of_conds-loop-p-preserved : goal.add_nodes_of_conds-loop-p-preserved
+add_nodes_of_conds-loop-p-preserved t c = grind (arith, common_steps)
+
+pub add_nodes_of_cond-returns-in_ok-push-in-Some : goal.add_nodes_of_cond-returns-in_ok-push-in-Some
+add_nodes_of_cond-returns-in_ok-push-in-Some t c = grind (arith, common_steps)
+
+pub add_nodes_of_cond-returns-in_ok-push-in-Every : goal.add_nodes_of_cond-returns-in_ok-push-in-Every
+add_nodes_of_cond-returns-in_ok-push-in-Every t c = grind (arith, common_steps)
+
+pub add_nodes_of_cond-returns-in_ok-add_nodes-in-Eq : goal.add_nodes_of_cond-returns-in_ok-add_nodes-in-Eq
+add_nodes_of_cond-returns-in_ok-add_nodes-in-Eq t c = grind (arith, common_steps)
+
+pub add_nodes_of_conds-returns : goal.add_nodes_of_conds-returns
+add_nodes_of_conds-returns t c = grind (arith, common_steps)
+
+pub add_nodes_of_links-loop-link-preserved : goal.add_nodes_of_links-loop-link-preserved
+add_nodes_of_links-loop-link-preserved t c = grind (arith, common_steps)
+
+pub add_nodes_of_links-returns : goal.add_nodes_of_links-returns
+add_nodes_of_links-returns t c = grind (arith, common_steps)
+
+pub add_nodes-returns-in-Neg : goal.add_nodes-returns-in-Neg
+add_nodes-returns-in-Neg t c = grind (arith, common_steps)
+
+pub add_nodes_of_arms-returns : goal.add_nodes_of_arms-returns
+add_nodes_of_arms-returns t c = grind (arith, common_steps)
+
+pub add_nodes_of_arms-loop-arm-preserved : goal.add_nodes_of_arms-loop-arm-preserved
+add_nodes_of_arms-loop-arm-preserved t c = grind (arith, common_steps)

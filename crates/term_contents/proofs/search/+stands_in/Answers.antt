@@ -21,3 +21,36 @@ stands_in_cond-returns-in-All t c =
 pub stands_in_cond-returns-in-Any : goal.stands_in_cond-returns-in-Any
 stands_in_cond-returns-in-Any t c =
     rw (c.in-Any.is, lists.conds_hidden c.in-Any.list, found.any_ored (wanted c.args.sought) (shown.cond c.in-Any.a.value) (shown.conds c.in-Any.list.items)) (grind (arith, common_steps))
+
+pub stands_in_links-returns-then-stands_in : goal.stands_in_links-returns-then-stands_in
+stands_in_links-returns-then-stands_in t c = grind (arith, common_steps)
+
+pub stands_in_links-returns : goal.stands_in_links-returns
+stands_in_links-returns t c = grind (arith, common_steps)
+
+pub stands_in_cond-returns-in-Some : goal.stands_in_cond-returns-in-Some
+stands_in_cond-returns-in-Some t c = grind (arith, common_steps)
+
+pub stands_in_arms-returns : goal.stands_in_arms-returns
+stands_in_arms-returns t c = grind (arith, common_steps)
+
+pub stands_in_conds-returns-then-stands_in_cond : goal.stands_in_conds-returns-then-stands_in_cond
+stands_in_conds-returns-then-stands_in_cond t c = grind (arith, common_steps)
+
+pub stands_in_conds-returns : goal.stands_in_conds-returns
+stands_in_conds-returns t c = grind (arith, common_steps)
+
+pub stands_in_links-loop-link-preserved : goal.stands_in_links-loop-link-preserved
+stands_in_links-loop-link-preserved t c = grind (arith, common_steps)
+
+pub stands_in-returns-in-Single : goal.stands_in-returns-in-Single
+stands_in-returns-in-Single t c = grind (arith, common_steps)
+
+pub stands_in_arms-loop-arm-preserved : goal.stands_in_arms-loop-arm-preserved
+stands_in_arms-loop-arm-preserved t c = grind (arith, common_steps)
+
+pub stands_in_arms-returns-then-stands_in_cond : goal.stands_in_arms-returns-then-stands_in_cond
+stands_in_arms-returns-then-stands_in_cond t c = grind (arith, common_steps)
+
+pub stands_in_conds-loop-c-preserved : goal.stands_in_conds-loop-c-preserved
+stands_in_conds-loop-c-preserved t c = grind (arith, common_steps)

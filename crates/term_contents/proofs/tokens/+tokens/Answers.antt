@@ -38,3 +38,30 @@ add_tokens_of_links-returns t c = grind (arith, common_steps)
 
 pub add_tokens_of_arms-returns : goal.add_tokens_of_arms-returns
 add_tokens_of_arms-returns t c = grind (arith, common_steps)
+
+pub add_tokens_of_cond-returns-in_ok-push-in-Some : goal.add_tokens_of_cond-returns-in_ok-push-in-Some
+add_tokens_of_cond-returns-in_ok-push-in-Some t c = grind (arith, common_steps)
+
+pub add_tokens_of_cond-returns-in_ok-add_tokens_of_cond-in-Not : goal.add_tokens_of_cond-returns-in_ok-add_tokens_of_cond-in-Not
+add_tokens_of_cond-returns-in_ok-add_tokens_of_cond-in-Not t c = grind (arith, common_steps)
+
+pub add_tokens-returns-in_ok-push-in-Col : goal.add_tokens-returns-in_ok-push-in-Col
+add_tokens-returns-in_ok-push-in-Col t c = grind (arith, common_steps)
+
+pub add_tokens-returns-in_ok-add_tokens-in-Neg : goal.add_tokens-returns-in_ok-add_tokens-in-Neg
+add_tokens-returns-in_ok-add_tokens-in-Neg t c = grind (arith, common_steps)
+
+pub add_tokens_of_cond-returns-in_ok-add_tokens-in-IsNull : goal.add_tokens_of_cond-returns-in_ok-add_tokens-in-IsNull
+add_tokens_of_cond-returns-in_ok-add_tokens-in-IsNull t c = grind (arith, common_steps)
+
+pub add_tokens_of_cond-returns-in_ok-add_tokens-in-Eq-2 : goal.add_tokens_of_cond-returns-in_ok-add_tokens-in-Eq-2
+add_tokens_of_cond-returns-in_ok-add_tokens-in-Eq-2 t c = grind (arith, common_steps)
+
+pub add_tokens_of_cond-returns-in_ok-push-in-Every : goal.add_tokens_of_cond-returns-in_ok-push-in-Every
+add_tokens_of_cond-returns-in_ok-push-in-Every t c = grind (arith, common_steps)
+
+pub add_tokens-returns-in_ok-push-in-Int : goal.add_tokens-returns-in_ok-push-in-Int
+add_tokens-returns-in_ok-push-in-Int t c = grind (arith, common_steps)
+
+pub add_tokens-returns-in_ok-push-in-Scalar : goal.add_tokens-returns-in_ok-push-in-Scalar
+add_tokens-returns-in_ok-push-in-Scalar t c = grind (arith, common_steps)

@@ -1,3 +1,4 @@
+use Rattle.std.proofs.lemmas.Grind.{common_steps}
 use Rattle.std.proofs.Common.{◌≡◌, ◌+◌, ◌++◌, ◌∷◌, [], ℕ, List, ap, sym, ◌∙◌, arith}
 use Rattle.std.specs.Prelude.{IsOk}
 use Rattle.qgm_core.specs.Lists.{times}
@@ -30,3 +31,6 @@ invariant_of-self-2 c =
     let new : c.push.new.self.items ≡ c.reserve.new.self.items ++ x ∷ [] = if_ok c.push.result _ _ _ done c.push.ensures.items in
     let all : c.push.new.self.items ≡ list ++ x ∷ [] = new ∙ ap (λ (xs : List ℕ). xs ++ x ∷ []) c.reserve.ensures.items in
     λ y. counted-more list c.self.inside.counts.items long x (v + 1) c.self.invariant c.in_ok-make_long.ensures.same l (omega (arith, e)) y ∙ ap (λ (xs : List ℕ). times y xs) (sym all)
+
+pub invariant_of-self-in_err-make_long : goal.invariant_of-self-in_err-make_long
+invariant_of-self-in_err-make_long c = grind (arith, common_steps)

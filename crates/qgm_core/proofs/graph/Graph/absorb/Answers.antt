@@ -1,4 +1,5 @@
-use Rattle.std.proofs.Common.{◌-◌, subst, sym}
+use Rattle.std.proofs.lemmas.Grind.{common_steps}
+use Rattle.std.proofs.Common.{◌-◌, subst, sym, arith}
 use Rattle.qgm_core.specs.Boxes.{HasBox, QueryGraph, is_box}
 use Rattle.qgm_core.specs.Numbered.{Numbered}
 use Rattle.qgm_core.proofs.Spliced.{numbered-absorbed}
@@ -12,3 +13,9 @@ invariant_of-self-2 c =
     let xs = c.self.inside.nodes.items in
     let n = found (is_box c.args.c) xs (subst (λ (g : QueryGraph). HasBox c.args.c g) (sym c.self.view_is) c.requires.other) in
     subst (Numbered a b) (sym c.in_ok-absorb_box.ensures.ok) (numbered-absorbed c.args.b (c.args.place - 1) c.args.c a b xs n.0 n.1 c.self.invariant)
+
+pub returns-clause-ok : goal.returns-clause-ok
+returns-clause-ok c = grind (arith, common_steps)
+
+pub invariant_of-self : goal.invariant_of-self
+invariant_of-self c = grind (arith, common_steps)

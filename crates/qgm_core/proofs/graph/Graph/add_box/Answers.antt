@@ -36,3 +36,9 @@ invariant_of-self c = grind (arith, common_steps)
 
 pub returns-clause-held : goal.returns-clause-held
 returns-clause-held c = grind (arith, common_steps)
+
+pub new_place-i-requires : goal.new_place-i-requires
+new_place-i-requires c = grind (arith, common_steps)
+
+pub returns-in_err-insert-clause-kept : goal.returns-in_err-insert-clause-kept
+returns-in_err-insert-clause-kept c = grind (arith, common_steps)

@@ -1,4 +1,5 @@
-use Rattle.std.proofs.Common.{List, ap, sym, subst, rules, refl, ◌-◌}
+use Rattle.std.proofs.lemmas.Grind.{common_steps}
+use Rattle.std.proofs.Common.{List, ap, sym, subst, rules, refl, ◌-◌, arith}
 use Rattle.qgm_core.specs.Boxes.{ids_of, QueryGraph, is_box}
 use Rattle.qgm_core.specs.Edits.{quants_over, shifted_over, without_cell}
 use Rattle.qgm_core.specs.Numbered.{Numbered}
@@ -30,3 +31,6 @@ returns-clause-kept c =
     let ns = change (is_box c.args.b) (without_cell (c.args.k - 1)) g.boxes in
     subst (λ (h : QueryGraph). HasAll g h) (sym (returns-clause-graph c))
     (all-then g.boxes ns (shifted_over c.args.b c.args.k ns) (all-parts (is_box c.args.b) (without_cell (c.args.k - 1)) g.boxes (λ n. refl) (λ n. refl)) (all-shifted c.args.k (quants_over c.args.b ns) ns))
+
+pub remove-requires-clause-within : goal.remove-requires-clause-within
+remove-requires-clause-within c = grind (arith, common_steps)

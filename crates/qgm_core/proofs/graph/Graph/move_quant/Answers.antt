@@ -1,4 +1,5 @@
-use Rattle.std.proofs.Common.{◌-◌, subst, sym, rules}
+use Rattle.std.proofs.lemmas.Grind.{common_steps}
+use Rattle.std.proofs.Common.{◌-◌, subst, sym, rules, arith}
 use Rattle.qgm_core.specs.Boxes.{HasQuant, QueryGraph}
 use Rattle.qgm_core.specs.Numbered.{Numbered}
 use Rattle.qgm_core.proofs.Requanted.{numbered-requanted}
@@ -21,3 +22,6 @@ pub returns-clause-kept : goal.returns-clause-kept
 returns-clause-kept c =
     let g = c.args.self.now in
     subst (λ (h : QueryGraph). HasAll g h) (sym (returns-clause-ok c)) (all-requanted c.args.q c.args.owner (c.args.place - 1) g.boxes c.requires.quant c.requires.owner)
+
+pub invariant_of-self : goal.invariant_of-self
+invariant_of-self c = grind (arith, common_steps)

@@ -7,3 +7,6 @@ invariant_of-result c = grind (arith, common_steps)
 
 pub returns-clause-graph : goal.returns-clause-graph
 returns-clause-graph c = grind (arith, common_steps)
+
+pub returns-clause-held : goal.returns-clause-held
+returns-clause-held c = grind (arith, common_steps)

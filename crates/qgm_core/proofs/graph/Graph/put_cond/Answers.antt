@@ -13,3 +13,6 @@ invariant_of-self c =
 
 pub returns : goal.returns
 returns c = grind (arith, common_steps)
+
+pub put_cond-requires-clause-spare : goal.put_cond-requires-clause-spare
+put_cond-requires-clause-spare c = grind (arith, common_steps)

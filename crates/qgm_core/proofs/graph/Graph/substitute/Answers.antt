@@ -1,4 +1,5 @@
-use Rattle.std.proofs.Common.{ap, rules, subst, sym, refl}
+use Rattle.std.proofs.lemmas.Grind.{common_steps}
+use Rattle.std.proofs.Common.{ap, rules, subst, sym, refl, arith}
 use Rattle.qgm_core.specs.Boxes.{ids_of, QueryGraph, is_box}
 use Rattle.qgm_core.specs.declared.node.Node.{Node}
 use Rattle.qgm_core.proofs.Fresh.{numbered-set}
@@ -20,3 +21,6 @@ pub returns-clause-kept : goal.returns-clause-kept
 returns-clause-kept c =
     let g = c.args.self.now in
     subst (λ (h : QueryGraph). HasAll g h) (sym (returns-clause-ok c)) (all-parts (is_box c.args.b) (put_cells c.args.q c.args.cells.now) g.boxes (λ n. refl) (λ n. refl))
+
+pub index_mut-requires : goal.index_mut-requires
+index_mut-requires c = grind (arith, common_steps)

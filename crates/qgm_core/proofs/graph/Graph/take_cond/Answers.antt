@@ -16,3 +16,6 @@ returns-clause-graph c = grind (arith, common_steps)
 
 pub returns-clause-taken : goal.returns-clause-taken
 returns-clause-taken c = grind (arith, common_steps)
+
+pub take_cond-requires-clause-within : goal.take_cond-requires-clause-within
+take_cond-requires-clause-within c = grind (arith, common_steps)

@@ -1,3 +1,4 @@
+use Rattle.std.proofs.lemmas.Grind.{common_steps}
 use Rattle.std.proofs.Common.{◌≡◌, sym, ◌∙◌, ap, List, insert, map, ℕ, arith}
 use Rattle.std.specs.Prelude.{IsOk}
 use Rattle.qgm_core.specs.declared.owned.OwnedQuant.{OwnedQuant}
@@ -15,3 +16,9 @@ invariant_of-self-2 c =
     ∙ map_insert (λ (r : OwnedQuant). r.id) c.self.inside.ranges.items c.args.i c.args.r
     ∙ ap (λ (rs : List OwnedQuant). ids (insert rs c.args.i c.args.r)) (sym c.reserve.ensures.items)
     ∙ ap ids (sym new)
+
+pub insert-requires : goal.insert-requires
+insert-requires c = grind (arith, common_steps)
+
+pub insert-requires-2 : goal.insert-requires-2
+insert-requires-2 c = grind (arith, common_steps)

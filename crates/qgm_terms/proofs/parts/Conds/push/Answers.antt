@@ -9,3 +9,12 @@ invariant_of-self c = (
   grind (arith, common_steps, c.push.ensures.upper_bound, c.push.ensures.capacity, c.self.invariant.0),
   most_after depth_cond _ _ _ _ room c.push.ensures.items c.self.invariant.1 c.requires.depth,
 )
+
+pub returns-clause-items : goal.returns-clause-items
+returns-clause-items c = grind (arith, common_steps)
+
+pub returns-clause-spare : goal.returns-clause-spare
+returns-clause-spare c = grind (arith, common_steps)
+
+pub overflow_sub-self : goal.overflow_sub-self
+overflow_sub-self c = grind (arith, common_steps)

@@ -23,3 +23,6 @@ pub returns-clause-depth : goal.returns-clause-depth
 returns-clause-depth c =
     let in_range : c.args.i - 1 < length c.self.inside.conds.items = grind (arith, common_steps) in
     subst (λ (p : Gc). depth_cond p ≤ room) (sym c.remove.ensures.value) (most_at depth_cond c.self.inside.conds.items (c.args.i - 1) room c.remove.result in_range c.self.invariant.1)
+
+pub remove-requires : goal.remove-requires
+remove-requires c = grind (arith, common_steps)

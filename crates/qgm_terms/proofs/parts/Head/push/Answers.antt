@@ -8,3 +8,9 @@ pub invariant_of-self-2 : goal.invariant_of-self-2
 invariant_of-self-2 c =
     let fits : depth c.args.x ≤ room = grind (arith, common_steps) in
     most_after depth _ _ _ _ room c.push.ensures.items c.self.invariant fits
+
+pub returns-clause-ok : goal.returns-clause-ok
+returns-clause-ok c = grind (arith, common_steps)
+
+pub invariant_of-self : goal.invariant_of-self
+invariant_of-self c = grind (arith, common_steps)

@@ -12,3 +12,6 @@ invariant_of-result c = λ name.
     let all : c.left.inside.ranges ++ c.as_slice.result.now ≡ c.append.new.self = grind (arith, common_steps) in
     tells_more c.left.inside.finds.entries c.note_ranges.new.finds.entries c.left.inside.ranges c.as_slice.result.now c.left.invariant c.in_ok-note_ranges.ensures name
     ∙ ap (λ (rs : List TypedRange). found (columns_named name (all_columns rs))) all
+
+pub returns : goal.returns
+returns c = grind (arith, common_steps)

@@ -38,3 +38,15 @@ returns-in_err-add_if-clause-order c = grind (arith, common_steps, merge_select_
 
 pub returns-clause-order : goal.returns-clause-order
 returns-clause-order c = grind (arith, common_steps, merge_select_ascending)
+
+pub may_at-requires-clause-formed : goal.may_at-requires-clause-formed
+may_at-requires-clause-formed c = grind (arith, common_steps)
+
+pub may_at-requires-clause-tables : goal.may_at-requires-clause-tables
+may_at-requires-clause-tables c = grind (arith, common_steps)
+
+pub loop-k-preserved : goal.loop-k-preserved
+loop-k-preserved c = grind (arith, common_steps)
+
+pub overflow_add-k-in-loop-k : goal.overflow_add-k-in-loop-k
+overflow_add-k-in-loop-k c = grind (arith, common_steps)

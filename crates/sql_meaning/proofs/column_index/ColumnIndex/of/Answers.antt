@@ -1,3 +1,4 @@
+use Rattle.std.proofs.lemmas.Grind.{common_steps}
 use Rattle.std.proofs.Common.{◌<◌, ◌∙◌, ap, cond, sym, length, List, ℕ, Option, arith}
 use Rattle.std.specs.Borrow.{Bor}
 use Rattle.sql_meaning.specs.Scopes.{is_named}
@@ -12,3 +13,6 @@ loop-place-preserved c = λ q.
     c.in_ok-note.ensures q
     ∙ ap (λ (o : Occurrence). cond (is_named q c.index-columns-place.result.now) (then_at o c.loop-place.place) o) (c.loop-place.invariant q)
     ∙ rw (← c.index-columns-place.is) at (sym (occurrence_next (λ (column : Bor (Option (List ℕ))). column.now) c.args.columns.now c.loop-place.place c.index-columns-place.result low q))
+
+pub returns : goal.returns
+returns c = grind (arith, common_steps)
