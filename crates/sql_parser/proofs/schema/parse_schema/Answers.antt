@@ -1,4 +1,5 @@
-use Rattle.std.proofs.Common.{sym}
+use Rattle.std.proofs.lemmas.Grind.{common_steps}
+use Rattle.std.proofs.Common.{sym, arith}
 use Rattle.sql_ast.specs.Grammatical.{SpellsSchema}
 use Rattle.sql_ast.specs.Shown as shown
 use Rattle.sql_text.proofs.Crowds.{shallow_if_read}
@@ -34,3 +35,9 @@ returns-clause-reading c = λ flat. λ x. let ts = token_list c.args.tokens.now 
 
 pub returns-clause-unique : goal.returns-clause-unique
 returns-clause-unique c = schema_unique (token_list c.args.tokens.now)
+
+pub returns-then-too_deep-clause-over : goal.returns-then-too_deep-clause-over
+returns-then-too_deep-clause-over c = grind (arith, common_steps)
+
+pub returns-clause-over : goal.returns-clause-over
+returns-clause-over c = grind (arith, common_steps)

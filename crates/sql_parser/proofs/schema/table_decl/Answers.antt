@@ -13,3 +13,21 @@ returns-in_err-elements c = grind (arith, common_steps)
 
 pub returns-in_err-rest : goal.returns-in_err-rest
 returns-in_err-rest c = grind (arith, common_steps)
+
+pub slice_bounds-rest-count : goal.slice_bounds-rest-count
+slice_bounds-rest-count c = grind (arith, common_steps)
+
+pub bounds-ts-0 : goal.bounds-ts-0
+bounds-ts-0 c = grind (arith, common_steps)
+
+pub bounds-1 : goal.bounds-1
+bounds-1 c = grind (arith, common_steps)
+
+pub slice_bounds-rest-start : goal.slice_bounds-rest-start
+slice_bounds-rest-start c = grind (arith, common_steps)
+
+pub bounds-ts-0-in-LeftParen-1 : goal.bounds-ts-0-in-LeftParen-1
+bounds-ts-0-in-LeftParen-1 c = grind (arith, common_steps)
+
+pub bounds-0 : goal.bounds-0
+bounds-0 c = grind (arith, common_steps)

@@ -4,3 +4,6 @@ use Rattle.sql_parser.proofs.schema.view_decl.Goals as goal
 
 pub returns : goal.returns
 returns c = grind (arith, common_steps)
+
+pub returns-in_default : goal.returns-in_default
+returns-in_default c = grind (arith, common_steps)

@@ -4,3 +4,6 @@ use Rattle.sql_parser.proofs.schema.view_query.Goals as goal
 
 pub returns-in_default : goal.returns-in_default
 returns-in_default c = grind (arith, common_steps)
+
+pub returns-in-Some-Key-As-default : goal.returns-in-Some-Key-As-default
+returns-in-Some-Key-As-default c = grind (arith, common_steps)

@@ -50,3 +50,12 @@ returns-then-too_deep-clause-over c = grind (arith, common_steps)
 
 pub returns-then-too_deep-clause-reading : goal.returns-then-too_deep-clause-reading
 returns-then-too_deep-clause-reading c = grind (arith, common_steps)
+
+pub returns-then-too_deep-clause-only : goal.returns-then-too_deep-clause-only
+returns-then-too_deep-clause-only c = grind (arith, common_steps)
+
+pub returns-clause-gives : goal.returns-clause-gives
+returns-clause-gives c = grind (arith, common_steps)
+
+pub returns-then-too_deep-clause-found : goal.returns-then-too_deep-clause-found
+returns-then-too_deep-clause-found c = grind (arith, common_steps)

@@ -25,3 +25,9 @@ pub returns : goal.returns
 returns g c =
     no_more (λ n. arms_then c.arms.arms (read.more_arms (read.expr c.args.self.now.depth) (read.cond c.args.self.now.depth) (read.query c.args.self.now.depth) (read.table c.args.self.now.depth) n (token_list c.arms.rest.now))) _ c.arms._turn c.arms-test.false c.arms.invariant
     ∙ arms_whole c.arms.arms (token_list c.arms.rest.now)
+
+pub arm-requires-in-Some-after_when : goal.arm-requires-in-Some-after_when
+arm-requires-in-Some-after_when g c = grind (arith, common_steps)
+
+pub same-arms-in-arms : goal.same-arms-in-arms
+same-arms-in-arms g c = grind (arith, common_steps)

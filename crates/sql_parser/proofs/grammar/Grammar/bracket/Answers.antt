@@ -7,3 +7,9 @@ returns-in_default c = grind (arith, common_steps)
 
 pub returns-in_ok-inner-in-Some-LeftParen-default : goal.returns-in_ok-inner-in-Some-LeftParen-default
 returns-in_ok-inner-in-Some-LeftParen-default c = grind (arith, common_steps)
+
+pub returns-in_err-inner-in-Some-LeftParen-default : goal.returns-in_err-inner-in-Some-LeftParen-default
+returns-in_err-inner-in-Some-LeftParen-default c = grind (arith, common_steps)
+
+pub nested_cond-requires : goal.nested_cond-requires
+nested_cond-requires c = grind (arith, common_steps)

@@ -4,3 +4,6 @@ use Rattle.sql_parser.proofs.grammar.Grammar.cast.Goals as goal
 
 pub returns-in_default : goal.returns-in_default
 returns-in_default c = grind (arith, common_steps)
+
+pub returns-in-Some-Key-Null-default : goal.returns-in-Some-Key-Null-default
+returns-in-Some-Key-Null-default c = grind (arith, common_steps)

@@ -28,3 +28,6 @@ negs-preserved g c =
 
 pub returns : goal.returns
 returns c = grind (arith, common_steps)
+
+pub joined_and-requires : goal.joined_and-requires
+joined_and-requires g c = grind (arith, common_steps)

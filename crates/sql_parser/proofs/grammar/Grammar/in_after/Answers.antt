@@ -4,3 +4,9 @@ use Rattle.sql_parser.proofs.grammar.Grammar.in_after.Goals as goal
 
 pub returns-in_ok-query-in-Some-LeftParen-default : goal.returns-in_ok-query-in-Some-LeftParen-default
 returns-in_ok-query-in-Some-LeftParen-default c = grind (arith, common_steps)
+
+pub nested_query-requires : goal.nested_query-requires
+nested_query-requires c = grind (arith, common_steps)
+
+pub exprs-requires : goal.exprs-requires
+exprs-requires c = grind (arith, common_steps)

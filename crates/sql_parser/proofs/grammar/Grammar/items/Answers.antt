@@ -1,4 +1,5 @@
-use Rattle.std.proofs.Common.{◌-◌, ◌∙◌, [], ◌∷◌, ◌++◌, length, ap, sym, refl}
+use Rattle.std.proofs.lemmas.Grind.{common_steps}
+use Rattle.std.proofs.Common.{◌-◌, ◌∙◌, [], ◌∷◌, ◌++◌, length, ap, sym, refl, arith}
 use Rattle.std.proofs.lemmas.Result.{err_from_is_err_and}
 use Rattle.sql_text.specs.Tokens.{token_list}
 use Rattle.sql_ast.specs.Shown as shown
@@ -35,3 +36,9 @@ pub returns : goal.returns
 returns g c =
     no_more (λ n. mapped (append_items (shown.item_list c.items.items)) (read.more_items (read.expr c.args.self.now.depth) (read.cond c.args.self.now.depth) (read.query c.args.self.now.depth) (read.table c.args.self.now.depth) n (token_list c.items.rest.now))) _ c.items._turn c.items-test.false c.items.invariant
     ∙ no_more_items (shown.item_list c.items.items) (token_list c.items.rest.now)
+
+pub same-items-in-Some : goal.same-items-in-Some
+same-items-in-Some g c = grind (arith, common_steps)
+
+pub item-requires-in-Some : goal.item-requires-in-Some
+item-requires-in-Some g c = grind (arith, common_steps)

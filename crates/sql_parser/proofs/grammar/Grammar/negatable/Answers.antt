@@ -7,3 +7,6 @@ returns-in-Some-Key-Between-default c = grind (arith, common_steps)
 
 pub returns-in_ok-pattern-in-Some-Key-Like-default : goal.returns-in_ok-pattern-in-Some-Key-Like-default
 returns-in_ok-pattern-in-Some-Key-Like-default c = grind (arith, common_steps)
+
+pub returns-in-Some-Key-In-default : goal.returns-in-Some-Key-In-default
+returns-in-Some-Key-In-default c = grind (arith, common_steps)

@@ -4,3 +4,6 @@ use Rattle.sql_parser.proofs.grammar.Grammar.null_if.Goals as goal
 
 pub returns-in_default : goal.returns-in_default
 returns-in_default c = grind (arith, common_steps)
+
+pub returns-in_ok-a-in-Some-LeftParen-default : goal.returns-in_ok-a-in-Some-LeftParen-default
+returns-in_ok-a-in-Some-LeftParen-default c = grind (arith, common_steps)

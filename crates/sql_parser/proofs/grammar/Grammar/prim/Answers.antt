@@ -7,3 +7,12 @@ returns-in-Some-Key-default c = grind (arith, common_steps)
 
 pub returns-in-Some-Number-default : goal.returns-in-Some-Number-default
 returns-in-Some-Number-default c = grind (arith, common_steps)
+
+pub returns-in-Some-Name-default : goal.returns-in-Some-Name-default
+returns-in-Some-Name-default c = grind (arith, common_steps)
+
+pub returns-in-Some-Str-default : goal.returns-in-Some-Str-default
+returns-in-Some-Str-default c = grind (arith, common_steps)
+
+pub returns-in-Some-LeftParen-default : goal.returns-in-Some-LeftParen-default
+returns-in-Some-LeftParen-default c = grind (arith, common_steps)

@@ -28,3 +28,6 @@ qprims-preserved g c =
 
 pub returns : goal.returns
 returns c = grind (arith, common_steps)
+
+pub intersected-requires : goal.intersected-requires
+intersected-requires g c = grind (arith, common_steps)

@@ -28,3 +28,6 @@ terms-preserved g c =
 
 pub returns : goal.returns
 returns c = grind (arith, common_steps)
+
+pub added-requires : goal.added-requires
+added-requires g c = grind (arith, common_steps)

@@ -1,4 +1,5 @@
-use Rattle.std.proofs.Common.{◌-◌, ◌∙◌, [], ◌∷◌, ◌++◌, length, ap, sym, refl}
+use Rattle.std.proofs.lemmas.Grind.{common_steps}
+use Rattle.std.proofs.Common.{◌-◌, ◌∙◌, [], ◌∷◌, ◌++◌, length, ap, sym, refl, arith}
 use Rattle.std.proofs.lemmas.Result.{err_from_is_err_and}
 use Rattle.sql_text.specs.Tokens.{token_list}
 use Rattle.sql_ast.specs.Shown as shown
@@ -35,3 +36,9 @@ pub returns : goal.returns
 returns g c =
     no_more (λ n. mapped (append_tables (shown.table_list c.tables.tables)) (read.more_tables (read.expr c.args.self.now.depth) (read.cond c.args.self.now.depth) (read.query c.args.self.now.depth) (read.table c.args.self.now.depth) n (token_list c.tables.rest.now))) _ c.tables._turn c.tables-test.false c.tables.invariant
     ∙ no_more_tables (shown.table_list c.tables.tables) (token_list c.tables.rest.now)
+
+pub tref-requires-in-Some : goal.tref-requires-in-Some
+tref-requires-in-Some g c = grind (arith, common_steps)
+
+pub same-tables-in-Some : goal.same-tables-in-Some
+same-tables-in-Some g c = grind (arith, common_steps)

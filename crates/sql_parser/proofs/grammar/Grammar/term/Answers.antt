@@ -28,3 +28,6 @@ factors-preserved g c =
 
 pub returns : goal.returns
 returns c = grind (arith, common_steps)
+
+pub multiplied-requires : goal.multiplied-requires
+multiplied-requires g c = grind (arith, common_steps)

@@ -10,3 +10,12 @@ returns-in_ok-query-in-Some-LeftParen-default c = grind (arith, common_steps)
 
 pub returns-in_ok-table-in-Some-LeftParen-default : goal.returns-in_ok-table-in-Some-LeftParen-default
 returns-in_ok-table-in-Some-LeftParen-default c = grind (arith, common_steps)
+
+pub nested_table-requires : goal.nested_table-requires
+nested_table-requires c = grind (arith, common_steps)
+
+pub nested_query-requires : goal.nested_query-requires
+nested_query-requires c = grind (arith, common_steps)
+
+pub returns-in-Some-Name-default : goal.returns-in-Some-Name-default
+returns-in-Some-Name-default c = grind (arith, common_steps)

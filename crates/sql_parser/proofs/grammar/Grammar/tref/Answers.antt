@@ -28,3 +28,6 @@ joins-preserved g c =
 
 pub returns : goal.returns
 returns c = grind (arith, common_steps)
+
+pub join_after-requires : goal.join_after-requires
+join_after-requires g c = grind (arith, common_steps)

@@ -1,0 +1,6 @@
+use Rattle.std.proofs.Common.{arith}
+use Rattle.std.proofs.lemmas.Grind.{common_steps}
+use Rattle.sql_parser.proofs.text.order_by.Goals as goal
+
+pub returns-in-Some-Key-By-default : goal.returns-in-Some-Key-By-default
+returns-in-Some-Key-By-default c = grind (arith, common_steps)
