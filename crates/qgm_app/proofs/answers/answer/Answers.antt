@@ -1,4 +1,5 @@
-use Rattle.std.proofs.Common.{◌≡◌}
+use Rattle.std.proofs.lemmas.Grind.{common_steps}
+use Rattle.std.proofs.Common.{◌≡◌, arith}
 use Rattle.row_bag.specs.Verdict.{verdict}
 use Rattle.sql_check.specs.Checked.{rows_of}
 use Rattle.sql_meaning.specs.Meaning.{answer_of}
@@ -19,3 +20,6 @@ returns-clause-answer g c =
 pub returns-clause-run : goal.returns-clause-run
 returns-clause-run g c =
     settled-run c.settled.result c.args.plan.now (question_of c.args.question) c.in_ok-ran.ran.firings _ _ c.settled.ensures.firings c.in_ok-ran.ensures.run
+
+pub ran-ran-requires : goal.ran-ran-requires
+ran-ran-requires g c = grind (arith, common_steps)

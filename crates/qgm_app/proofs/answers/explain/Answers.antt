@@ -1,4 +1,5 @@
-use Rattle.std.proofs.Common.{ℕ, ◌≡◌, ◌∙◌, subst, sym}
+use Rattle.std.proofs.lemmas.Grind.{common_steps}
+use Rattle.std.proofs.Common.{ℕ, ◌≡◌, ◌∙◌, subst, sym, arith}
 use Rattle.row_bag.specs.Verdict.{verdict}
 use Rattle.sql_check.specs.Checked.{rows_of}
 use Rattle.sql_meaning.specs.Meaning.{answer_of}
@@ -22,3 +23,6 @@ returns-clause-run g c =
 
 pub returns-clause-text : goal.returns-clause-text
 returns-clause-text g c = c.in_ok-ran.ensures.text
+
+pub told-told-requires : goal.told-told-requires
+told-told-requires g c = grind (arith, common_steps)

@@ -1,4 +1,5 @@
-use Rattle.std.proofs.Common.{Err, ap, map, refl}
+use Rattle.std.proofs.lemmas.Grind.{common_steps}
+use Rattle.std.proofs.Common.{Err, ap, map, refl, arith}
 use Rattle.std.proofs.lemmas.Result.{IfOk-weaker}
 use Rattle.std.specs.String.{string_bytes}
 use Rattle.command_line.specs.Line.{line_text}
@@ -19,3 +20,15 @@ returns-in-Ok-clause-counts g c = IfOk-weaker c.run_line.result _ _
 pub returns-in-Err-Usage-clause-counts : goal.returns-in-Err-Usage-clause-counts
 returns-in-Err-Usage-clause-counts g c =
     no-line-counts _ (map (λ w. string_bytes w) c.args.words.now) _ _ (c.in-Err-Usage.ensures.usage (ap (λ e. Err e) c.in-Err-Usage.field-0-is)) refl
+
+pub returns-in-Ok-clause-no_line : goal.returns-in-Ok-clause-no_line
+returns-in-Ok-clause-no_line g c = grind (arith, common_steps)
+
+pub returns-in-Err-Memory-clause-unread : goal.returns-in-Err-Memory-clause-unread
+returns-in-Err-Memory-clause-unread g c = grind (arith, common_steps)
+
+pub returns-in-Ok-clause-line : goal.returns-in-Ok-clause-line
+returns-in-Ok-clause-line g c = grind (arith, common_steps)
+
+pub returns-in-Err-Memory-clause-comes : goal.returns-in-Err-Memory-clause-comes
+returns-in-Err-Memory-clause-comes g c = grind (arith, common_steps)

@@ -1,4 +1,5 @@
-use Rattle.std.proofs.Common.{refl}
+use Rattle.std.proofs.lemmas.Grind.{common_steps}
+use Rattle.std.proofs.Common.{refl, arith}
 use Rattle.std.proofs.lemmas.Result.{err_from_is_err_and}
 use Rattle.command_line.specs.Line.{line_text}
 use Rattle.command_input.specs.Questions.{found_of}
@@ -32,3 +33,27 @@ returns-in-Refused-clause-comes g c =
 pub returns-in-Refused-clause-counts : goal.returns-in-Refused-clause-counts
 returns-in-Refused-clause-counts g c =
     line-counts _ _ (line_text c.args.line.now) (found_of c.in_ok-question.field-0) _ _ c.in_ok-question.ensures.comes (rw c.in-Refused.is refl)
+
+pub returns-in-Refused-clause-failed : goal.returns-in-Refused-clause-failed
+returns-in-Refused-clause-failed g c = grind (arith, common_steps)
+
+pub returns-in_ok-tell-in-Asked-clause-later : goal.returns-in_ok-tell-in-Asked-clause-later
+returns-in_ok-tell-in-Asked-clause-later g c = grind (arith, common_steps)
+
+pub find-requires : goal.find-requires
+find-requires g c = grind (arith, common_steps)
+
+pub returns-in_ok-tell-in-Asked-clause-failed : goal.returns-in_ok-tell-in-Asked-clause-failed
+returns-in_ok-tell-in-Asked-clause-failed g c = grind (arith, common_steps)
+
+pub returns-in-Refused-clause-line : goal.returns-in-Refused-clause-line
+returns-in-Refused-clause-line g c = grind (arith, common_steps)
+
+pub returns-in-Refused-clause-later : goal.returns-in-Refused-clause-later
+returns-in-Refused-clause-later g c = grind (arith, common_steps)
+
+pub returns-in-Refused-clause-unread : goal.returns-in-Refused-clause-unread
+returns-in-Refused-clause-unread g c = grind (arith, common_steps)
+
+pub returns-in_ok-tell-in-Asked-clause-line : goal.returns-in_ok-tell-in-Asked-clause-line
+returns-in_ok-tell-in-Asked-clause-line g c = grind (arith, common_steps)

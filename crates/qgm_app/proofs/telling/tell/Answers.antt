@@ -1,4 +1,5 @@
-use Rattle.std.proofs.Common.{ap}
+use Rattle.std.proofs.lemmas.Grind.{common_steps}
+use Rattle.std.proofs.Common.{ap, arith}
 use Rattle.command_line.specs.Line.{task_text}
 use Rattle.command_line.specs.declared.task.Task.{Task}
 use Rattle.command_input.specs.Questions.{question_of}
@@ -27,3 +28,12 @@ returns-in_ok-answered-in-Gen-clause-tells g c =
 
 pub returns-in_ok-answered-in-Gen-clause-counts : goal.returns-in_ok-answered-in-Gen-clause-counts
 returns-in_ok-answered-in-Gen-clause-counts g c = of-each c.tell_summary.result _ (c.in_ok-answered-in-Gen.answered.firings, c.in_ok-answered-in-Gen.ensures.run)
+
+pub answer-requires : goal.answer-requires
+answer-requires g c = grind (arith, common_steps)
+
+pub answer-requires-in-Gen : goal.answer-requires-in-Gen
+answer-requires-in-Gen g c = grind (arith, common_steps)
+
+pub explain-requires : goal.explain-requires
+explain-requires g c = grind (arith, common_steps)
