@@ -104,9 +104,6 @@ test_folds-returns-in-IsNull t c = grind (arith, common_steps)
 pub test_folds-returns-in-Not : goal.test_folds-returns-in-Not
 test_folds-returns-in-Not t c = grind (arith, common_steps)
 
-pub value_folds-returns-in-Number-5 : goal.value_folds-returns-in-Number-5
-value_folds-returns-in-Number-5 t c = grind (arith, common_steps)
-
 pub choice_folds-loop-x-smaller : goal.choice_folds-loop-x-smaller
 choice_folds-loop-x-smaller t c = grind (arith, common_steps)
 

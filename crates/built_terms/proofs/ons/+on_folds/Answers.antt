@@ -7,6 +7,3 @@ returns-in_ok-on_folds-in-Joined-2 t c = grind (arith, common_steps)
 
 pub returns-in_ok-on_folds-in-Crossed : goal.returns-in_ok-on_folds-in-Crossed
 returns-in_ok-on_folds-in-Crossed t c = grind (arith, common_steps)
-
-pub returns-in-Named-3 : goal.returns-in-Named-3
-returns-in-Named-3 t c = grind (arith, common_steps)

@@ -37,9 +37,6 @@ returns c =
     let left = all-checked c.args.table c.take_rows.new.rows (fields_of c.take_rows.new.fields ∷ c.take_rows.new.records) c.in_ok-seen.seen.items _ seen all in
     rows-refused c.args.table c.rows-3.result.now (fields_of c.take_rows.new.fields) c.take_rows.new.records c.in-Err.refusal _ c.in-Err.ensures.row (rw (← c.rows-3.ensures) at left)
 
-pub same-keys : goal.same-keys
-same-keys c = grind (arith, common_steps)
-
 pub same-rows-then-not-stopped-2 : goal.same-rows-then-not-stopped-2
 same-rows-then-not-stopped-2 c = grind (arith, common_steps)
 

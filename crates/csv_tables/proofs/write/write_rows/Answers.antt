@@ -30,6 +30,3 @@ offset_bounds-row-items-row-index c = grind (arith, common_steps)
 
 pub returns-in-Ok : goal.returns-in-Ok
 returns-in-Ok c = grind (arith, common_steps)
-
-pub same-fields-in-loop-row : goal.same-fields-in-loop-row
-same-fields-in-loop-row c = grind (arith, common_steps)

@@ -182,9 +182,6 @@ test_subs-returns-in-All t c = grind (arith, common_steps, shown.lists, taking)
 pub arm_subs-returns : goal.arm_subs-returns
 arm_subs-returns t c = grind (arith, common_steps)
 
-pub groups-same-subs-2 : goal.groups-same-subs-2
-groups-same-subs-2 t c = grind (arith, common_steps)
-
 pub test_subs-returns-in-Not : goal.test_subs-returns-in-Not
 test_subs-returns-in-Not t c = grind (arith, common_steps)
 

@@ -4,6 +4,3 @@ use Rattle.qgm_core.proofs.copies.copy_node.Goals as goal
 
 pub returns : goal.returns
 returns c = grind (arith, common_steps)
-
-pub same-conds : goal.same-conds
-same-conds c = grind (arith, common_steps)

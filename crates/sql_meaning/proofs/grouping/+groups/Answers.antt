@@ -81,9 +81,6 @@ in_expr-returns-else-in_expr-3 t c = grind (arith, common_steps)
 pub in_else-returns-in-Else : goal.in_else-returns-in-Else
 in_else-returns-in-Else t c = grind (arith, common_steps)
 
-pub in_expr-returns-in-Number-3 : goal.in_expr-returns-in-Number-3
-in_expr-returns-in-Number-3 t c = grind (arith, common_steps)
-
 pub in_expr-returns-in-CountAll-2 : goal.in_expr-returns-in-CountAll-2
 in_expr-returns-in-CountAll-2 t c = grind (arith, common_steps)
 

@@ -26,8 +26,5 @@ bounds-1 c = grind (arith, common_steps)
 pub slice_bounds-rest-start : goal.slice_bounds-rest-start
 slice_bounds-rest-start c = grind (arith, common_steps)
 
-pub bounds-ts-0-in-LeftParen-1 : goal.bounds-ts-0-in-LeftParen-1
-bounds-ts-0-in-LeftParen-1 c = grind (arith, common_steps)
-
 pub bounds-0 : goal.bounds-0
 bounds-0 c = grind (arith, common_steps)

@@ -28,6 +28,3 @@ returns g c =
 
 pub arm-requires-in-Some-after_when : goal.arm-requires-in-Some-after_when
 arm-requires-in-Some-after_when g c = grind (arith, common_steps)
-
-pub same-arms-in-arms : goal.same-arms-in-arms
-same-arms-in-arms g c = grind (arith, common_steps)

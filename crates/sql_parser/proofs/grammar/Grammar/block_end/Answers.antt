@@ -7,6 +7,3 @@ returns-in_err-grouping c = grind (arith, common_steps)
 
 pub returns-in_err-having : goal.returns-in_err-having
 returns-in_err-having c = grind (arith, common_steps)
-
-pub same-from : goal.same-from
-same-from c = grind (arith, common_steps)

@@ -25,6 +25,3 @@ pub returns : goal.returns
 returns g c =
     no_more (λ n. choices_then c.choices.choices (read.more_choices (read.expr c.args.self.now.depth) (read.cond c.args.self.now.depth) (read.query c.args.self.now.depth) (read.table c.args.self.now.depth) n (token_list c.choices.rest.now))) _ c.choices._turn c.choices-test.false c.choices.invariant
     ∙ choices_whole c.choices.choices (token_list c.choices.rest.now)
-
-pub same-choices-in-choices : goal.same-choices-in-choices
-same-choices-in-choices g c = grind (arith, common_steps)

@@ -28,6 +28,3 @@ returns g c =
 
 pub returns-in_err-item-in-Some : goal.returns-in_err-item-in-Some
 returns-in_err-item-in-Some c = grind (arith, common_steps)
-
-pub same-exprs-in-exprs : goal.same-exprs-in-exprs
-same-exprs-in-exprs g c = grind (arith, common_steps)

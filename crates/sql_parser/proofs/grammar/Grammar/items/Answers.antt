@@ -37,8 +37,5 @@ returns g c =
     no_more (λ n. mapped (append_items (shown.item_list c.items.items)) (read.more_items (read.expr c.args.self.now.depth) (read.cond c.args.self.now.depth) (read.query c.args.self.now.depth) (read.table c.args.self.now.depth) n (token_list c.items.rest.now))) _ c.items._turn c.items-test.false c.items.invariant
     ∙ no_more_items (shown.item_list c.items.items) (token_list c.items.rest.now)
 
-pub same-items-in-Some : goal.same-items-in-Some
-same-items-in-Some g c = grind (arith, common_steps)
-
 pub item-requires-in-Some : goal.item-requires-in-Some
 item-requires-in-Some g c = grind (arith, common_steps)

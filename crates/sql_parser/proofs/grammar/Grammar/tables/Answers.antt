@@ -39,6 +39,3 @@ returns g c =
 
 pub tref-requires-in-Some : goal.tref-requires-in-Some
 tref-requires-in-Some g c = grind (arith, common_steps)
-
-pub same-tables-in-Some : goal.same-tables-in-Some
-same-tables-in-Some g c = grind (arith, common_steps)
