@@ -1,4 +1,5 @@
 -- The sizes of parts that stand one behind the other.
+use Rattle.std.specs.Prelude.{Result, Ok, Err, IfOk, IsOkAnd}
 use Rattle.std.proofs.Common.{◌≡◌, ◌<◌, ◌+◌, ℕ, List, ◌∷◌, length, drop, get_or, ap, ap₂, sym, ◌∙◌, arith}
 use Rattle.std.proofs.lemmas.List.{drop_more}
 use Rattle.sql_meaning.specs.ResolvedShown as shown
@@ -48,3 +49,12 @@ coalesced_turn xs i x last next old new end low is e f so_far =
     ∙ ap (λ (ys : List Value). plus old (coalesced_size last (shown.value_list ys))) (sym (next_there xs i x low is)) ∙ so_far
 
 pub ruleset sizing = (plus_first, plus_last, plus_turn)
+
+-- what is made of three parts, each of which is there
+pub of_three : {S X Y Z E : Type 0} (r : Result S E) (a : Result X E) (b : Result Y E) (c : Result Z E) (F : X → Y → Z → S) (x : X) (y : Y) (z : Z)
+    → IfOk r (λ s. IsOkAnd a (λ u. IsOkAnd b (λ v. IsOkAnd c (λ w. s ≡ F u v w)))) → IfOk a (λ u. u ≡ x) → IfOk b (λ v. v ≡ y) → IfOk c (λ w. w ≡ z) → IfOk r (λ s. s ≡ F x y z)
+of_three (Err e) a b c F x y z h i j k = tt
+of_three (Ok s) (Err e) b c F x y z h i j k = absurd h
+of_three (Ok s) (Ok u) (Err e) c F x y z h i j k = absurd h
+of_three (Ok s) (Ok u) (Ok v) (Err e) F x y z h i j k = absurd h
+of_three (Ok s) (Ok u) (Ok v) (Ok w) F x y z h i j k = h ∙ ap (λ m. F m v w) i ∙ ap (λ m. F x m w) j ∙ ap (F x y) k

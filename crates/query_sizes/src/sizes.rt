@@ -1,6 +1,6 @@
 // How many terms and conditions a query is written with, abbreviations written out. A copy doubles what
 // it is made of, so nested abbreviations can ask for more of them than there is memory.
-ghost use Rattle.std.specs.Prelude.{◌≡◌, ◌+◌, suc, IfOk};
+ghost use Rattle.std.specs.Prelude.{◌≡◌, ◌+◌, suc, IfOk, IsOkAnd};
 ghost use Rattle.sql_meaning.specs.ResolvedShown as shown;
 ghost use Rattle.query_sizes.specs.Sizes as spec;
 
@@ -84,75 +84,139 @@ fn all_of(a: Size) -> Result<usize, OutOfMemory>
     a.own.checked_add(a.below).ok_or(OutOfMemory)
 }
 
-// Of both, with n more.
-fn both(n: usize, a: Size, b: Size) -> Result<Size, OutOfMemory>
-    ensures { IfOk result (λ s. s ≡ spec.more n (spec.plus a b)) }
+// With n more where it stands.
+fn one(n: usize, a: Result<Size, OutOfMemory>) -> Result<Size, OutOfMemory>
+    ensures { IfOk result (λ s. IsOkAnd a (λ x. s ≡ spec.more n x)) }
 {
-    more(n, plus(a, b)?)
+    more(n, a?)
+}
+
+// Of both, with n more.
+fn both(
+    n: usize,
+    a: Result<Size, OutOfMemory>,
+    b: Result<Size, OutOfMemory>,
+) -> Result<Size, OutOfMemory>
+    ensures { IfOk result (λ s. IsOkAnd a (λ x. IsOkAnd b (λ y. s ≡ spec.more n (spec.plus x y)))) }
+{
+    more(n, plus(a?, b?)?)
+}
+
+// Of both.
+fn beside(a: Result<Size, OutOfMemory>, b: Result<Size, OutOfMemory>) -> Result<Size, OutOfMemory>
+    ensures { IfOk result (λ s. IsOkAnd a (λ x. IsOkAnd b (λ y. s ≡ spec.plus x y))) }
+{
+    plus(a?, b?)
 }
 
 // Of all three.
-fn three(a: Size, b: Size, c: Size) -> Result<Size, OutOfMemory>
-    ensures { IfOk result (λ s. s ≡ spec.plus a (spec.plus b c)) }
+fn three(
+    a: Result<Size, OutOfMemory>,
+    b: Result<Size, OutOfMemory>,
+    c: Result<Size, OutOfMemory>,
+) -> Result<Size, OutOfMemory>
+    ensures { IfOk result (λ s. IsOkAnd a (λ x. IsOkAnd b (λ y. IsOkAnd c (λ z. s ≡ spec.plus x (spec.plus y z))))) }
 {
-    plus(a, plus(b, c)?)
+    plus(a?, plus(b?, c?)?)
 }
 
 // CASE with an operand.
-fn simple(a: Size, list: Size, last: Size) -> Result<Size, OutOfMemory>
-    ensures { IfOk result (λ s. s ≡ spec.more 1 (spec.plus a (spec.plus list last))) }
+fn simple(
+    a: Result<Size, OutOfMemory>,
+    list: Result<Size, OutOfMemory>,
+    last: Result<Size, OutOfMemory>,
+) -> Result<Size, OutOfMemory>
+    ensures { IfOk result (λ s. IsOkAnd a (λ x. IsOkAnd list (λ y. IsOkAnd last (λ z. s ≡ spec.more 1 (spec.plus x (spec.plus y z)))))) }
 {
-    more(1, three(a, list, last)?)
+    one(1, three(a, list, last))
 }
 
 // An abbreviation that writes its first part twice.
-fn repeated(a: Size, b: Size) -> Result<Size, OutOfMemory>
-    ensures { IfOk result (λ s. s ≡ spec.more 3 (spec.plus a (spec.plus (spec.again a) b))) }
+fn repeated(a: Result<Size, OutOfMemory>, b: Result<Size, OutOfMemory>) -> Result<Size, OutOfMemory>
+    ensures { IfOk result (λ s. IsOkAnd a (λ x. IsOkAnd b (λ y. s ≡ spec.more 3 (spec.plus x (spec.plus (spec.again x) y))))) }
 {
-    more(3, three(a, again(a), b)?)
+    let first = a?;
+    more(3, plus(first, plus(again(first), b?)?)?)
 }
 
 // BETWEEN.
-fn between(a: Size, b: Size, c: Size) -> Result<Size, OutOfMemory>
-    ensures { IfOk result (λ s. s ≡ spec.more 3 (spec.plus a (spec.plus (spec.again a) (spec.plus b c)))) }
+fn between(
+    a: Result<Size, OutOfMemory>,
+    b: Result<Size, OutOfMemory>,
+    c: Result<Size, OutOfMemory>,
+) -> Result<Size, OutOfMemory>
+    ensures { IfOk result (λ s. IsOkAnd a (λ x. IsOkAnd b (λ y. IsOkAnd c (λ z. s ≡ spec.more 3 (spec.plus x (spec.plus (spec.again x) (spec.plus y z))))))) }
 {
-    repeated(a, plus(b, c)?)
+    repeated(a, Ok(plus(b?, c?)?))
 }
 
 // A part of COALESCE that isn't its last one.
 fn present(a: Size) -> Result<Size, OutOfMemory>
     ensures { IfOk result (λ s. s ≡ spec.more 3 (spec.plus a (spec.again a))) }
 {
-    both(3, a, again(a))
+    more(3, plus(a, again(a))?)
 }
 
 // A comparison with a copy of n, and its result.
 fn choice(n: usize, a: Size, b: Size) -> Result<Size, OutOfMemory>
     ensures { IfOk result (λ s. s ≡ spec.more (suc n) (spec.plus a b)) }
 {
-    both(after(n)?, a, b)
+    more(after(n)?, plus(a, b)?)
 }
 
 // An aggregate of an argument.
-fn aggregate(a: Size) -> Result<Size, OutOfMemory>
-    ensures { IfOk result (λ s. s ≡ spec.over (2 + spec.all_of a)) }
+fn aggregate(a: Result<Size, OutOfMemory>) -> Result<Size, OutOfMemory>
+    ensures { IfOk result (λ s. IsOkAnd a (λ x. s ≡ spec.over (2 + spec.all_of x))) }
 {
-    let n = all_of(a)?.checked_add(2).ok_or(OutOfMemory)?;
+    let n = all_of(a?)?.checked_add(2).ok_or(OutOfMemory)?;
     Ok(over(n))
 }
 
+// A subquery in place of a value.
+fn scalar(n: Result<usize, OutOfMemory>) -> Result<Size, OutOfMemory>
+    ensures { IfOk result (λ s. IsOkAnd n (λ m. s ≡ spec.over m)) }
+{
+    Ok(over(n?))
+}
+
+// A subquery in a FROM.
+fn derived(n: Result<usize, OutOfMemory>) -> Result<Size, OutOfMemory>
+    ensures { IfOk result (λ s. IsOkAnd n (λ m. s ≡ spec.under m)) }
+{
+    Ok(under(n?))
+}
+
 // Of a block: its list, FROM and WHERE.
-fn block_of(list: Size, from: Size, by: Size) -> Result<usize, OutOfMemory>
-    ensures { IfOk result (λ n. n ≡ spec.all_of (spec.plus list (spec.plus from by))) }
+fn block_of(
+    list: Result<Size, OutOfMemory>,
+    from: Result<Size, OutOfMemory>,
+    by: Result<Size, OutOfMemory>,
+) -> Result<usize, OutOfMemory>
+    ensures { IfOk result (λ n. IsOkAnd list (λ x. IsOkAnd from (λ y. IsOkAnd by (λ z. n ≡ spec.all_of (spec.plus x (spec.plus y z)))))) }
 {
     all_of(three(list, from, by)?)
 }
 
 // Of a grouped block: its list, FROM, WHERE and HAVING.
-fn grouped_of(list: Size, from: Size, by: Size, having: Size) -> Result<usize, OutOfMemory>
-    ensures { IfOk result (λ n. n ≡ spec.all_of (spec.plus list (spec.plus from (spec.plus by having)))) }
+fn grouped_of(
+    list: Result<Size, OutOfMemory>,
+    from: Result<Size, OutOfMemory>,
+    by: Result<Size, OutOfMemory>,
+    having: Result<Size, OutOfMemory>,
+) -> Result<usize, OutOfMemory>
+    ensures { IfOk result (λ n. IsOkAnd list (λ x. IsOkAnd from (λ y. IsOkAnd by (λ z. IsOkAnd having (λ w. n ≡ spec.all_of (spec.plus x (spec.plus y (spec.plus z w)))))))) }
 {
-    block_of(list, from, plus(by, having)?)
+    block_of(list, from, Ok(plus(by?, having?)?))
+}
+
+// Of both queries.
+fn total_of(
+    a: Result<usize, OutOfMemory>,
+    b: Result<usize, OutOfMemory>,
+) -> Result<usize, OutOfMemory>
+    ensures { IfOk result (λ n. IsOkAnd a (λ x. IsOkAnd b (λ y. n ≡ x + y))) }
+{
+    a?.checked_add(b?).ok_or(OutOfMemory)
 }
 
 // An expression.
@@ -162,40 +226,19 @@ fn value(x: &Value) -> Result<Size, OutOfMemory>
 {
     match x {
         Value::Number(_) | Value::Text(_) | Value::Null(_) | Value::Column(_, _) => Ok(over(0)),
-        Value::Sum(a, list) => {
-            let a = value(a)?;
-            let list = addends(list.as_slice())?;
-            both(1, a, list)
-        }
-        Value::Product(a, list) => {
-            let a = value(a)?;
-            let list = multipliers(list.as_slice())?;
-            both(1, a, list)
-        }
-        Value::Negative(a) => more(1, value(a)?),
-        Value::Searched(list, last) => {
-            let list = arms(list.as_slice())?;
-            let last = value(last)?;
-            both(1, list, last)
-        }
+        Value::Sum(a, list) => both(1, value(a), addends(list.as_slice())),
+        Value::Product(a, list) => both(1, value(a), multipliers(list.as_slice())),
+        Value::Negative(a) => one(1, value(a)),
+        Value::Searched(list, last) => both(1, arms(list.as_slice()), value(last)),
         Value::Simple(a, list, last) => {
-            let a = value(a)?;
-            let list = choices(a.own, list.as_slice())?;
-            let last = value(last)?;
-            simple(a, list, last)
+            let a = value(a);
+            simple(a, compared(a, list.as_slice()), value(last))
         }
-        Value::Coalesce(a, list) => {
-            let a = value(a)?;
-            coalesced(a, list.as_slice())
-        }
-        Value::NullIf(a, b) => {
-            let a = value(a)?;
-            let b = value(b)?;
-            repeated(a, b)
-        }
-        Value::Scalar(y) => Ok(over(query(y)?)),
+        Value::Coalesce(a, list) => coalesce(value(a), list.as_slice()),
+        Value::NullIf(a, b) => repeated(value(a), value(b)),
+        Value::Scalar(y) => scalar(query(y)),
         Value::CountAll => Ok(over(1)),
-        Value::Aggregate(_, _, a) => aggregate(value(a)?),
+        Value::Aggregate(_, _, a) => aggregate(value(a)),
     }
 }
 
@@ -264,6 +307,22 @@ fn choices(n: usize, list: &[Choice]) -> Result<Size, OutOfMemory>
     Ok(total)
 }
 
+// The same, each compared with a copy of this operand.
+#[cycle(sizes)]
+fn compared(operand: Result<Size, OutOfMemory>, list: &[Choice]) -> Result<Size, OutOfMemory>
+    ensures { IfOk result (λ s. IsOkAnd operand (λ x. s ≡ spec.choices_size x.own (shown.choice_list list.now))) }
+{
+    choices(operand?.own, list)
+}
+
+// Values that are each compared with a copy of this operand.
+#[cycle(sizes)]
+fn among(operand: Result<Size, OutOfMemory>, list: &[Value]) -> Result<Size, OutOfMemory>
+    ensures { IfOk result (λ s. IsOkAnd operand (λ x. s ≡ spec.values_size (suc x.own) (shown.value_list list.now))) }
+{
+    values(after(operand?.own)?, list)
+}
+
 // A first part of COALESCE, and the others.
 #[cycle(sizes)]
 fn coalesced(first: Size, list: &[Value]) -> Result<Size, OutOfMemory>
@@ -278,38 +337,34 @@ fn coalesced(first: Size, list: &[Value]) -> Result<Size, OutOfMemory>
     plus(total, last)
 }
 
+// COALESCE.
+#[cycle(sizes)]
+fn coalesce(first: Result<Size, OutOfMemory>, list: &[Value]) -> Result<Size, OutOfMemory>
+    ensures { IfOk result (λ s. IsOkAnd first (λ x. s ≡ spec.coalesced_size x (shown.value_list list.now))) }
+{
+    coalesced(first?, list)
+}
+
 // A condition.
 #[cycle(sizes)]
 fn test(p: &Test) -> Result<Size, OutOfMemory>
     ensures { IfOk result (λ s. s ≡ spec.test_size (shown.test p.now)) }
 {
     match p {
-        Test::All(list) => more(1, tests(list.as_slice())?),
-        Test::Any(list) => more(2, tests(list.as_slice())?),
-        Test::Not(p) => more(1, test(p)?),
-        Test::Compare(a, _, b) | Test::Like(a, b) => {
-            let a = value(a)?;
-            let b = value(b)?;
-            both(1, a, b)
-        }
+        Test::All(list) => one(1, tests(list.as_slice())),
+        Test::Any(list) => one(2, tests(list.as_slice())),
+        Test::Not(p) => one(1, test(p)),
+        Test::Compare(a, _, b) | Test::Like(a, b) => both(1, value(a), value(b)),
         Test::Quantified(a, _, _, y) | Test::AmongRows(a, y) => {
-            let a = value(a)?;
-            let rows = query(y)?;
-            both(2, a, over(rows))
+            both(2, value(a), scalar(query(y)))
         }
-        Test::Between(a, b, c) => {
-            let a = value(a)?;
-            let b = value(b)?;
-            let c = value(c)?;
-            between(a, b, c)
-        }
+        Test::Between(a, b, c) => between(value(a), value(b), value(c)),
         Test::Among(a, list) => {
-            let a = value(a)?;
-            let list = values(after(a.own)?, list.as_slice())?;
-            both(2, a, list)
+            let a = value(a);
+            both(2, a, among(a, list.as_slice()))
         }
-        Test::IsNull(a) => more(1, value(a)?),
-        Test::Exists(y) => more(1, over(query(y)?)),
+        Test::IsNull(a) => one(1, value(a)),
+        Test::Exists(y) => one(1, scalar(query(y))),
     }
 }
 
@@ -332,18 +387,9 @@ fn from(x: &From) -> Result<Size, OutOfMemory>
 {
     match x {
         From::Named(_) => Ok(nothing()),
-        From::Derived(y) => Ok(under(query(y)?)),
-        From::Crossed(a, b) => {
-            let a = from(a)?;
-            let b = from(b)?;
-            plus(a, b)
-        }
-        From::Joined(a, b, p) | From::LeftJoined(a, b, _, p) => {
-            let a = from(a)?;
-            let b = from(b)?;
-            let p = test(p)?;
-            three(a, b, p)
-        }
+        From::Derived(y) => derived(query(y)),
+        From::Crossed(a, b) => beside(from(a), from(b)),
+        From::Joined(a, b, p) | From::LeftJoined(a, b, _, p) => three(from(a), from(b), test(p)),
     }
 }
 
@@ -365,23 +411,19 @@ fn query(x: &Query) -> Result<usize, OutOfMemory>
     ensures { IfOk result (λ n. n ≡ spec.query_size (shown.query x.now)) }
 {
     match x {
-        Query::Block(_, list, tables, by) => {
-            let list = values(0, list.as_slice())?;
-            let tables = froms(tables.as_slice())?;
-            let by = test(by)?;
-            block_of(list, tables, by)
-        }
-        Query::Grouped(_, list, tables, by, _, _, having) => {
-            let list = values(0, list.as_slice())?;
-            let tables = froms(tables.as_slice())?;
-            let by = test(by)?;
-            let having = test(having)?;
-            grouped_of(list, tables, by, having)
-        }
+        Query::Block(_, list, tables, by) => block_of(
+            values(0, list.as_slice()),
+            froms(tables.as_slice()),
+            test(by),
+        ),
+        Query::Grouped(_, list, tables, by, _, _, having) => grouped_of(
+            values(0, list.as_slice()),
+            froms(tables.as_slice()),
+            test(by),
+            test(having),
+        ),
         Query::Combine(a, _, _, _, b) | Query::Intersect(a, _, _, b) => {
-            let a = query(a)?;
-            let b = query(b)?;
-            a.checked_add(b).ok_or(OutOfMemory)
+            total_of(query(a), query(b))
         }
     }
 }

@@ -10,35 +10,8 @@ use Rattle.sql_meaning.specs.declared.resolved.Test.{Test}
 use Rattle.sql_meaning.specs.declared.resolved.Value.{Value}
 use Rattle.query_sizes.specs.Sizes as spec
 use Rattle.query_sizes.specs.Sizes.{plus}
-use Rattle.query_sizes.proofs.Sizing.{coalesced_turn, size_more}
+use Rattle.query_sizes.proofs.Sizing.{coalesced_turn, of_three, size_more}
 use Rattle.query_sizes.proofs.sizes.+sizes.Goals as goal
-
-pub value-returns-in_ok-list-in-Sum : goal.value-returns-in_ok-list-in-Sum
-value-returns-in_ok-list-in-Sum t c = rw (c.in-Sum.is, shown.addends_hidden c.in-Sum.list, ← c.as_slice.ensures, ← c.deref.ensures, ← c.in_ok-a-in-Sum.ensures, ← c.in_ok-list-in-Sum.ensures) c.both.ensures
-
-pub value-returns-in_ok-list-in-Product : goal.value-returns-in_ok-list-in-Product
-value-returns-in_ok-list-in-Product t c = rw (c.in-Product.is, shown.multipliers_hidden c.in-Product.list, ← c.as_slice-in-Product.ensures, ← c.deref-in-Product.ensures, ← c.in_ok-a-in-Product.ensures, ← c.in_ok-list-in-Product.ensures) c.both-in-Product.ensures
-
-pub value-returns-in_ok-last-in-Simple : goal.value-returns-in_ok-last-in-Simple
-value-returns-in_ok-last-in-Simple t c = rw (c.in-Simple.is, shown.choices_hidden c.in-Simple.list, ← c.as_slice-in-Simple.ensures, ← c.deref-in-Simple.ensures, ← c.deref-in-Simple-2.ensures, ← c.in_ok-a-in-Simple.ensures, ← c.in_ok-list-in-Simple.ensures, ← c.in_ok-last-in-Simple.ensures) c.simple.ensures
-
-pub value-returns-in_ok-a-in-Coalesce : goal.value-returns-in_ok-a-in-Coalesce
-value-returns-in_ok-a-in-Coalesce t c = rw (c.in-Coalesce.is, shown.values_hidden c.in-Coalesce.list, ← c.as_slice-in-Coalesce.ensures, ← c.deref-in-Coalesce.ensures, ← c.in_ok-a-in-Coalesce.ensures) c.coalesced.ensures
-
-pub value-returns-in_ok-b-in-NullIf : goal.value-returns-in_ok-b-in-NullIf
-value-returns-in_ok-b-in-NullIf t c = rw (c.in-NullIf.is, ← c.deref-in-NullIf.ensures, ← c.deref-in-NullIf-2.ensures, ← c.in_ok-a-in-NullIf.ensures, ← c.in_ok-b-in-NullIf.ensures) c.repeated.ensures
-
-pub test-returns-in_ok-c-in-Between : goal.test-returns-in_ok-c-in-Between
-test-returns-in_ok-c-in-Between t c = rw (c.in-Between.is, ← c.deref-in-Between.ensures, ← c.deref-in-Between-2.ensures, ← c.deref-in-Between-3.ensures, ← c.in_ok-a-in-Between.ensures, ← c.in_ok-b-in-Between.ensures, ← c.in_ok-c-in-Between.ensures) c.between.ensures
-
-pub test-returns-in_ok-list-in-Among : goal.test-returns-in_ok-list-in-Among
-test-returns-in_ok-list-in-Among t c = rw (c.in-Among.is, shown.values_hidden c.in-Among.list, ← c.as_slice-in-Among.ensures, ← c.deref-in-Among.ensures, ← c.in_ok-a-in-Among.ensures, ← c.in_ok-after-in-Among.ensures, ← c.in_ok-list-in-Among.ensures) c.both.ensures
-
-pub query-returns-in_ok-by-in-Block : goal.query-returns-in_ok-by-in-Block
-query-returns-in_ok-by-in-Block t c = rw (c.in-Block.is, shown.values_hidden c.in-Block.list, shown.froms_hidden c.in-Block.tables, ← c.as_slice.ensures, ← c.as_slice-in-Block.ensures, ← c.deref.ensures, ← c.in_ok-list-in-Block.ensures, ← c.in_ok-tables-in-Block.ensures, ← c.in_ok-by-in-Block.ensures) c.block_of.ensures
-
-pub query-returns-in_ok-having-in-Grouped : goal.query-returns-in_ok-having-in-Grouped
-query-returns-in_ok-having-in-Grouped t c = rw (c.in-Grouped.is, shown.values_hidden c.in-Grouped.list, shown.froms_hidden c.in-Grouped.tables, ← c.as_slice-in-Grouped.ensures, ← c.as_slice-in-Grouped-2.ensures, ← c.deref-in-Grouped.ensures, ← c.deref-in-Grouped-2.ensures, ← c.in_ok-list-in-Grouped.ensures, ← c.in_ok-tables-in-Grouped.ensures, ← c.in_ok-by-in-Grouped.ensures, ← c.in_ok-having-in-Grouped.ensures) c.grouped_of.ensures
 
 pub addends-loop-x-preserved : goal.addends-loop-x-preserved
 addends-loop-x-preserved t c = size_more (λ (xs : List Addend). spec.addends_size (shown.addend_list xs)) c.args.list.now c.loop-x.x-index c.x-item.result (spec.value_size (shown.value c.x-item.result.value)) _ _ _ c.loop-x-test.true c.x-item.is refl (c.in_ok-total.ensures ∙ ap (plus c.loop-x.total) c.in_ok-value.ensures) c.loop-x.invariant
@@ -66,23 +39,8 @@ choices-loop-x-preserved t c = size_more (λ (xs : List Choice). spec.choices_si
 pub coalesced-loop-x-preserved : goal.coalesced-loop-x-preserved
 coalesced-loop-x-preserved t c = coalesced_turn c.args.list.now c.loop-x.x-index c.x-item.result c.loop-x.last c.in_ok-last.last c.loop-x.total c.in_ok-total.total _ c.loop-x-test.true c.x-item.is (c.in_ok-total.ensures ∙ ap (plus c.loop-x.total) c.in_ok-present.ensures) c.in_ok-last.ensures c.loop-x.invariant
 
-pub test-returns-in_ok-tests-in-All : goal.test-returns-in_ok-tests-in-All
-test-returns-in_ok-tests-in-All t c = grind (arith, common_steps, shown.lists)
-
-pub test-returns-in_ok-tests-in-Any : goal.test-returns-in_ok-tests-in-Any
-test-returns-in_ok-tests-in-Any t c = grind (arith, common_steps, shown.lists)
-
-pub value-returns-in_ok-last-in-Searched : goal.value-returns-in_ok-last-in-Searched
-value-returns-in_ok-last-in-Searched t c = grind (arith, common_steps, shown.lists)
-
 pub coalesced-loop-x-smaller : goal.coalesced-loop-x-smaller
 coalesced-loop-x-smaller t c = grind (arith, common_steps)
-
-pub value-returns-in_ok-value-in-Negative : goal.value-returns-in_ok-value-in-Negative
-value-returns-in_ok-value-in-Negative t c = grind (arith, common_steps)
-
-pub test-returns-in_ok-b-in-Compare : goal.test-returns-in_ok-b-in-Compare
-test-returns-in_ok-b-in-Compare t c = grind (arith, common_steps)
 
 pub multipliers-returns : goal.multipliers-returns
 multipliers-returns t c = grind (arith, common_steps)
@@ -99,32 +57,14 @@ addends-returns t c = grind (arith, common_steps)
 pub multipliers-loop-x-smaller : goal.multipliers-loop-x-smaller
 multipliers-loop-x-smaller t c = grind (arith, common_steps)
 
-pub value-returns-in_ok-value-in-Aggregate : goal.value-returns-in_ok-value-in-Aggregate
-value-returns-in_ok-value-in-Aggregate t c = grind (arith, common_steps)
-
 pub choices-returns : goal.choices-returns
 choices-returns t c = grind (arith, common_steps)
 
 pub coalesced-returns : goal.coalesced-returns
 coalesced-returns t c = grind (arith, common_steps)
 
-pub from-returns-in_ok-p-in-Joined : goal.from-returns-in_ok-p-in-Joined
-from-returns-in_ok-p-in-Joined t c = grind (arith, common_steps)
-
-pub value-returns-in_ok-query-in-Scalar : goal.value-returns-in_ok-query-in-Scalar
-value-returns-in_ok-query-in-Scalar t c = grind (arith, common_steps)
-
-pub query-returns-in_ok-b-in-Combine : goal.query-returns-in_ok-b-in-Combine
-query-returns-in_ok-b-in-Combine t c = grind (arith, common_steps)
-
-pub from-returns-in_ok-query-in-Derived : goal.from-returns-in_ok-query-in-Derived
-from-returns-in_ok-query-in-Derived t c = grind (arith, common_steps)
-
 pub values-loop-x-smaller : goal.values-loop-x-smaller
 values-loop-x-smaller t c = grind (arith, common_steps)
-
-pub test-returns-in_ok-value-in-IsNull : goal.test-returns-in_ok-value-in-IsNull
-test-returns-in_ok-value-in-IsNull t c = grind (arith, common_steps)
 
 pub arms-returns : goal.arms-returns
 arms-returns t c = grind (arith, common_steps)
@@ -132,20 +72,8 @@ arms-returns t c = grind (arith, common_steps)
 pub tests-returns : goal.tests-returns
 tests-returns t c = grind (arith, common_steps)
 
-pub value-returns-in-Number : goal.value-returns-in-Number
-value-returns-in-Number t c = grind (arith, common_steps)
-
 pub values-returns : goal.values-returns
 values-returns t c = grind (arith, common_steps)
-
-pub from-returns-in_ok-b-in-Crossed : goal.from-returns-in_ok-b-in-Crossed
-from-returns-in_ok-b-in-Crossed t c = grind (arith, common_steps)
-
-pub test-returns-in_ok-query-in-Exists : goal.test-returns-in_ok-query-in-Exists
-test-returns-in_ok-query-in-Exists t c = grind (arith, common_steps)
-
-pub test-returns-in_ok-rows-in-Quantified : goal.test-returns-in_ok-rows-in-Quantified
-test-returns-in_ok-rows-in-Quantified t c = grind (arith, common_steps)
 
 pub froms-returns : goal.froms-returns
 froms-returns t c = grind (arith, common_steps)
@@ -159,5 +87,37 @@ addends-loop-x-smaller t c = grind (arith, common_steps)
 pub choices-loop-x-smaller : goal.choices-loop-x-smaller
 choices-loop-x-smaller t c = grind (arith, common_steps)
 
-pub test-returns-in_ok-test-in-Not : goal.test-returns-in_ok-test-in-Not
-test-returns-in_ok-test-in-Not t c = grind (arith, common_steps)
+pub query-returns-in-Block : goal.query-returns-in-Block
+query-returns-in-Block t c = rw (c.in-Block.is, shown.values_hidden c.in-Block.list, shown.froms_hidden c.in-Block.tables) (grind (arith, common_steps))
+
+pub query-returns-in-Grouped : goal.query-returns-in-Grouped
+query-returns-in-Grouped t c = rw (c.in-Grouped.is, shown.values_hidden c.in-Grouped.list, shown.froms_hidden c.in-Grouped.tables) (grind (arith, common_steps))
+
+pub test-returns-in-All : goal.test-returns-in-All
+test-returns-in-All t c = grind (arith, common_steps, shown.lists)
+
+pub test-returns-in-Any : goal.test-returns-in-Any
+test-returns-in-Any t c = grind (arith, common_steps, shown.lists)
+
+pub test-returns-in-Among : goal.test-returns-in-Among
+test-returns-in-Among t c = rw (c.in-Among.is, shown.values_hidden c.in-Among.list) (grind (arith, common_steps))
+
+pub value-returns-in-Sum : goal.value-returns-in-Sum
+value-returns-in-Sum t c = rw (c.in-Sum.is, shown.addends_hidden c.in-Sum.list) (grind (arith, common_steps))
+
+pub value-returns-in-Product : goal.value-returns-in-Product
+value-returns-in-Product t c = rw (c.in-Product.is, shown.multipliers_hidden c.in-Product.list) (grind (arith, common_steps))
+
+pub value-returns-in-Searched : goal.value-returns-in-Searched
+value-returns-in-Searched t c = grind (arith, common_steps, shown.lists)
+
+pub value-returns-in-Simple : goal.value-returns-in-Simple
+value-returns-in-Simple t c = rw (c.in-Simple.is, shown.choices_hidden c.in-Simple.list) (grind (arith, common_steps))
+
+pub value-returns-in-Coalesce : goal.value-returns-in-Coalesce
+value-returns-in-Coalesce t c = rw (c.in-Coalesce.is, shown.values_hidden c.in-Coalesce.list) (grind (arith, common_steps))
+
+pub test-returns-in-Between : goal.test-returns-in-Between
+test-returns-in-Between t c =
+    rw (c.in-Between.is, ← c.deref-in-Between.ensures, ← c.deref-in-Between-2.ensures, ← c.deref-in-Between-3.ensures)
+    (of_three c.between.result c.value.result c.value-in-Between.result c.value-in-Between-2.result (λ x y z. spec.more 3 (plus x (plus (spec.again x) (plus y z)))) _ _ _ c.between.ensures c.value.ensures c.value-in-Between.ensures c.value-in-Between-2.ensures)
