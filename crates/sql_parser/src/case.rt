@@ -3,7 +3,6 @@ ghost use Rattle.std.specs.Prelude.{◌≡◌, ◌∷◌, false, IfSome, IfNone}
 ghost use Rattle.sql_ast.specs.Shown as shown;
 ghost use Rattle.sql_ast.specs.Syntax as s;
 ghost use Rattle.sql_parser.specs.Nests.{Nests};
-ghost use Rattle.sql_parser.specs.NestsEach.{NestsEach};
 ghost use Rattle.sql_parser.specs.Read as read;
 ghost use Rattle.sql_parser.specs.Words as words;
 ghost use Rattle.sql_parser.specs.Words.{Gives};
@@ -13,9 +12,10 @@ ghost use Rattle.sql_text.specs.declared.token.Token.TheVariants as t;
 
 use crate::boxes::{boxed, ended_expr, push_boxed};
 use crate::grammar::Grammar;
+use crate::nested::{Nonterminal, Tree};
 use crate::refusal::ParseRefusal;
 use crate::word::first;
-use sql_ast::{Arm, Choice, Cond, Expr, Otherwise, Query, Res, TableRef};
+use sql_ast::{Arm, Choice, Cond, Expr, Otherwise, Res};
 use sql_text::{Key, Spanned, Token};
 use sqlite_items::Items;
 use std::alloc::Global;
@@ -58,14 +58,11 @@ fn found_choice(
 }
 
 impl<
-    E: Fn(Global, u8, &[Spanned]) -> Result<(Box<Expr>, &[Spanned]), ParseRefusal>,
-    C,
-    Q,
-    T,
-> Grammar<E, C, Q, T> {
+    N: Fn(Global, u8, Nonterminal, &[Spanned]) -> Result<(Tree, &[Spanned]), ParseRefusal>,
+> Grammar<N> {
     /// `res = expr | NULL`
     fn res<'a>(&self, ts: &'a [Spanned]) -> Result<(Res, &'a [Spanned]), ParseRefusal>
-        requires { Nests shown.expr (read.expr self.now.depth) self.now.depth (E.pre self.now.expr) (E.post self.now.expr) }
+        requires { Nests self.now.depth (N.pre self.now.nested) (N.post self.now.nested) }
         ensures { Gives (λ x. (shown.res x.0, token_list x.1.now)) result (read.at_depth self.now.depth read.res (token_list ts.now)) }
     {
         match first(ts) {
@@ -83,7 +80,7 @@ impl<
         when: Box<Cond>,
         ts: &'a [Spanned],
     ) -> Result<(Box<Arm>, &'a [Spanned]), ParseRefusal>
-        requires { Nests shown.expr (read.expr self.now.depth) self.now.depth (E.pre self.now.expr) (E.post self.now.expr) }
+        requires { Nests self.now.depth (N.pre self.now.nested) (N.post self.now.nested) }
         ensures { Gives (λ x. ((shown.cond x.0.value.when, shown.res x.0.value.then), token_list x.1.now)) result (read.then_res (read.expr self.now.depth) (read.cond self.now.depth) (read.query self.now.depth) (read.table self.now.depth) (shown.cond when.value) (token_list ts.now)) }
     {
         match first(ts) {
@@ -101,7 +98,7 @@ impl<
         when: Box<Expr>,
         ts: &'a [Spanned],
     ) -> Result<(Box<Choice>, &'a [Spanned]), ParseRefusal>
-        requires { Nests shown.expr (read.expr self.now.depth) self.now.depth (E.pre self.now.expr) (E.post self.now.expr) }
+        requires { Nests self.now.depth (N.pre self.now.nested) (N.post self.now.nested) }
         ensures { Gives (λ x. ((shown.expr x.0.value.when, shown.res x.0.value.then), token_list x.1.now)) result (read.then_res (read.expr self.now.depth) (read.cond self.now.depth) (read.query self.now.depth) (read.table self.now.depth) (shown.expr when.value) (token_list ts.now)) }
     {
         match first(ts) {
@@ -115,7 +112,7 @@ impl<
 
     /// `expr THEN res`, after `WHEN`
     fn choice<'a>(&self, ts: &'a [Spanned]) -> Result<(Box<Choice>, &'a [Spanned]), ParseRefusal>
-        requires { Nests shown.expr (read.expr self.now.depth) self.now.depth (E.pre self.now.expr) (E.post self.now.expr) }
+        requires { Nests self.now.depth (N.pre self.now.nested) (N.post self.now.nested) }
         ensures { Gives (λ x. ((shown.expr x.0.value.when, shown.res x.0.value.then), token_list x.1.now)) result (read.at_depth self.now.depth read.choice (token_list ts.now)) }
     {
         let (when, rest) = self.nested_expr(ts)?;
@@ -124,7 +121,7 @@ impl<
 
     /// `WHEN expr THEN res { WHEN expr THEN res }`
     fn choices<'a>(&self, ts: &'a [Spanned]) -> Result<(Items<Choice>, &'a [Spanned]), ParseRefusal>
-        requires { Nests shown.expr (read.expr self.now.depth) self.now.depth (E.pre self.now.expr) (E.post self.now.expr) }
+        requires { Nests self.now.depth (N.pre self.now.nested) (N.post self.now.nested) }
         ensures { Gives (λ x. (shown.choice_list x.0, token_list x.1.now)) result (read.at_depth self.now.depth read.choices (token_list ts.now)) }
     {
         let Some(after) = after_when(ts) else {
@@ -149,7 +146,7 @@ impl<
 
     /// `[ ELSE res ]`
     fn otherwise<'a>(&self, ts: &'a [Spanned]) -> Result<(Otherwise, &'a [Spanned]), ParseRefusal>
-        requires { Nests shown.expr (read.expr self.now.depth) self.now.depth (E.pre self.now.expr) (E.post self.now.expr) }
+        requires { Nests self.now.depth (N.pre self.now.nested) (N.post self.now.nested) }
         ensures { Gives (λ x. (shown.otherwise x.0, token_list x.1.now)) result (read.at_depth self.now.depth read.otherwise (token_list ts.now)) }
     {
         match first(ts) {
@@ -164,7 +161,7 @@ impl<
     /// `expr { WHEN expr THEN res } [ ELSE res ] END`, with one choice at least
     #[tactic(auto, using(sql_ast::specs::Shown::lists))]
     fn simple<'a>(&self, ts: &'a [Spanned]) -> Result<(Box<Expr>, &'a [Spanned]), ParseRefusal>
-        requires { Nests shown.expr (read.expr self.now.depth) self.now.depth (E.pre self.now.expr) (E.post self.now.expr) }
+        requires { Nests self.now.depth (N.pre self.now.nested) (N.post self.now.nested) }
         ensures { Gives (λ x. (shown.expr x.0.value, token_list x.1.now)) result (read.at_depth self.now.depth read.simple (token_list ts.now)) }
     {
         let (operand, rest) = self.nested_expr(ts)?;
@@ -175,14 +172,11 @@ impl<
 }
 
 impl<
-    E: Fn(Global, u8, &[Spanned]) -> Result<(Box<Expr>, &[Spanned]), ParseRefusal>,
-    C: Fn(Global, u8, &[Spanned]) -> Result<(Box<Cond>, &[Spanned]), ParseRefusal>,
-    Q: Fn(Global, u8, &[Spanned]) -> Result<(Box<Query>, &[Spanned]), ParseRefusal>,
-    T: Fn(Global, u8, &[Spanned]) -> Result<(Box<TableRef>, &[Spanned]), ParseRefusal>,
-> Grammar<E, C, Q, T> {
+    N: Fn(Global, u8, Nonterminal, &[Spanned]) -> Result<(Tree, &[Spanned]), ParseRefusal>,
+> Grammar<N> {
     /// `cond THEN res`, after `WHEN`
     fn arm<'a>(&self, ts: &'a [Spanned]) -> Result<(Box<Arm>, &'a [Spanned]), ParseRefusal>
-        requires { NestsEach self.now.depth (E.pre self.now.expr) (E.post self.now.expr) (C.pre self.now.cond) (C.post self.now.cond) (Q.pre self.now.query) (Q.post self.now.query) (T.pre self.now.table) (T.post self.now.table) }
+        requires { Nests self.now.depth (N.pre self.now.nested) (N.post self.now.nested) }
         ensures { Gives (λ x. ((shown.cond x.0.value.when, shown.res x.0.value.then), token_list x.1.now)) result (read.at_depth self.now.depth read.arm (token_list ts.now)) }
     {
         let (when, rest) = self.nested_cond(ts)?;
@@ -191,7 +185,7 @@ impl<
 
     /// `WHEN cond THEN res { WHEN cond THEN res }`
     fn arms<'a>(&self, ts: &'a [Spanned]) -> Result<(Items<Arm>, &'a [Spanned]), ParseRefusal>
-        requires { NestsEach self.now.depth (E.pre self.now.expr) (E.post self.now.expr) (C.pre self.now.cond) (C.post self.now.cond) (Q.pre self.now.query) (Q.post self.now.query) (T.pre self.now.table) (T.post self.now.table) }
+        requires { Nests self.now.depth (N.pre self.now.nested) (N.post self.now.nested) }
         ensures { Gives (λ x. (shown.arm_list x.0, token_list x.1.now)) result (read.at_depth self.now.depth read.arms (token_list ts.now)) }
     {
         let Some(after) = after_when(ts) else {
@@ -217,7 +211,7 @@ impl<
     /// `{ WHEN cond THEN res } [ ELSE res ] END`, with one arm at least
     #[tactic(auto, using(sql_ast::specs::Shown::lists))]
     fn searched<'a>(&self, ts: &'a [Spanned]) -> Result<(Box<Expr>, &'a [Spanned]), ParseRefusal>
-        requires { NestsEach self.now.depth (E.pre self.now.expr) (E.post self.now.expr) (C.pre self.now.cond) (C.post self.now.cond) (Q.pre self.now.query) (Q.post self.now.query) (T.pre self.now.table) (T.post self.now.table) }
+        requires { Nests self.now.depth (N.pre self.now.nested) (N.post self.now.nested) }
         ensures { Gives (λ x. (shown.expr x.0.value, token_list x.1.now)) result (read.at_depth self.now.depth read.searched (token_list ts.now)) }
     {
         let (arms, rest) = self.arms(ts)?;
@@ -227,7 +221,7 @@ impl<
 
     /// What follows `CASE`
     pub fn case<'a>(&self, ts: &'a [Spanned]) -> Result<(Box<Expr>, &'a [Spanned]), ParseRefusal>
-        requires { NestsEach self.now.depth (E.pre self.now.expr) (E.post self.now.expr) (C.pre self.now.cond) (C.post self.now.cond) (Q.pre self.now.query) (Q.post self.now.query) (T.pre self.now.table) (T.post self.now.table) }
+        requires { Nests self.now.depth (N.pre self.now.nested) (N.post self.now.nested) }
         ensures { Gives (λ x. (shown.expr x.0.value, token_list x.1.now)) result (read.at_depth self.now.depth read.case (token_list ts.now)) }
     {
         match first(ts) {

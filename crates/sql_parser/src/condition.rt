@@ -1,7 +1,7 @@
 // Conditions (SQL-92, 8.2 to 8.8 and 8.12).
 ghost use Rattle.std.specs.Prelude.{◌≡◌, ◌∷◌, false, IfSome, IfNone};
 ghost use Rattle.sql_ast.specs.Shown as shown;
-ghost use Rattle.sql_parser.specs.NestsEach.{NestsEach};
+ghost use Rattle.sql_parser.specs.Nests.{Nests};
 ghost use Rattle.sql_parser.specs.Read as read;
 ghost use Rattle.sql_parser.specs.Words.{Gives};
 ghost use Rattle.sql_text.specs.Tokens.{token_list};
@@ -12,9 +12,10 @@ ghost use Rattle.sql_text.specs.declared.token.Token.TheVariants as t;
 use crate::ahead::{at_query, opens_cond};
 use crate::boxes::{closed_cond, found_cond};
 use crate::grammar::Grammar;
+use crate::nested::{Nonterminal, Tree};
 use crate::refusal::ParseRefusal;
 use crate::word::{first, not_at, quantifier_at};
-use sql_ast::{Cond, Expr, Filter, Quantifier, Query, TableRef};
+use sql_ast::{Cond, Expr, Filter, Quantifier};
 use sql_text::{CmpOp, Key, Spanned, Token};
 use std::alloc::Global;
 
@@ -63,11 +64,8 @@ fn after_or(ts: &[Spanned]) -> Option<&[Spanned]>
 }
 
 impl<
-    E: Fn(Global, u8, &[Spanned]) -> Result<(Box<Expr>, &[Spanned]), ParseRefusal>,
-    C: Fn(Global, u8, &[Spanned]) -> Result<(Box<Cond>, &[Spanned]), ParseRefusal>,
-    Q: Fn(Global, u8, &[Spanned]) -> Result<(Box<Query>, &[Spanned]), ParseRefusal>,
-    T: Fn(Global, u8, &[Spanned]) -> Result<(Box<TableRef>, &[Spanned]), ParseRefusal>,
-> Grammar<E, C, Q, T> {
+    N: Fn(Global, u8, Nonterminal, &[Spanned]) -> Result<(Tree, &[Spanned]), ParseRefusal>,
+> Grammar<N> {
     /// `AND expr`, after the lower bound
     fn upper<'a>(
         &self,
@@ -76,7 +74,7 @@ impl<
         low: Box<Expr>,
         ts: &'a [Spanned],
     ) -> Result<(Box<Cond>, &'a [Spanned]), ParseRefusal>
-        requires { NestsEach self.now.depth (E.pre self.now.expr) (E.post self.now.expr) (C.pre self.now.cond) (C.post self.now.cond) (Q.pre self.now.query) (Q.post self.now.query) (T.pre self.now.table) (T.post self.now.table) }
+        requires { Nests self.now.depth (N.pre self.now.nested) (N.post self.now.nested) }
         ensures { Gives (λ x. (shown.cond x.0.value, token_list x.1.now)) result (read.at_depth self.now.depth read.upper (shown.expr operand.value) negative (shown.expr low.value) (token_list ts.now)) }
     {
         match first(ts) {
@@ -99,7 +97,7 @@ impl<
         negative: bool,
         ts: &'a [Spanned],
     ) -> Result<(Box<Cond>, &'a [Spanned]), ParseRefusal>
-        requires { NestsEach self.now.depth (E.pre self.now.expr) (E.post self.now.expr) (C.pre self.now.cond) (C.post self.now.cond) (Q.pre self.now.query) (Q.post self.now.query) (T.pre self.now.table) (T.post self.now.table) }
+        requires { Nests self.now.depth (N.pre self.now.nested) (N.post self.now.nested) }
         ensures { Gives (λ x. (shown.cond x.0.value, token_list x.1.now)) result (read.at_depth self.now.depth read.between (shown.expr operand.value) negative (token_list ts.now)) }
     {
         let (low, rest) = self.sum(ts)?;
@@ -114,7 +112,7 @@ impl<
         negative: bool,
         ts: &'a [Spanned],
     ) -> Result<(Box<Cond>, &'a [Spanned]), ParseRefusal>
-        requires { NestsEach self.now.depth (E.pre self.now.expr) (E.post self.now.expr) (C.pre self.now.cond) (C.post self.now.cond) (Q.pre self.now.query) (Q.post self.now.query) (T.pre self.now.table) (T.post self.now.table) }
+        requires { Nests self.now.depth (N.pre self.now.nested) (N.post self.now.nested) }
         ensures { Gives (λ x. (shown.cond x.0.value, token_list x.1.now)) result (read.at_depth self.now.depth read.in_after (shown.expr operand.value) negative (token_list ts.now)) }
     {
         match first(ts) {
@@ -138,7 +136,7 @@ impl<
         negative: bool,
         ts: &'a [Spanned],
     ) -> Result<(Box<Cond>, &'a [Spanned]), ParseRefusal>
-        requires { NestsEach self.now.depth (E.pre self.now.expr) (E.post self.now.expr) (C.pre self.now.cond) (C.post self.now.cond) (Q.pre self.now.query) (Q.post self.now.query) (T.pre self.now.table) (T.post self.now.table) }
+        requires { Nests self.now.depth (N.pre self.now.nested) (N.post self.now.nested) }
         ensures { Gives (λ x. (shown.cond x.0.value, token_list x.1.now)) result (read.at_depth self.now.depth read.negatable (shown.expr operand.value) negative (token_list ts.now)) }
     {
         match first(ts) {
@@ -160,7 +158,7 @@ impl<
         quantifier: Quantifier,
         ts: &'a [Spanned],
     ) -> Result<(Box<Cond>, &'a [Spanned]), ParseRefusal>
-        requires { NestsEach self.now.depth (E.pre self.now.expr) (E.post self.now.expr) (C.pre self.now.cond) (C.post self.now.cond) (Q.pre self.now.query) (Q.post self.now.query) (T.pre self.now.table) (T.post self.now.table) }
+        requires { Nests self.now.depth (N.pre self.now.nested) (N.post self.now.nested) }
         ensures { Gives (λ x. (shown.cond x.0.value, token_list x.1.now)) result (read.sub (read.expr self.now.depth) (read.cond self.now.depth) (read.query self.now.depth) (read.table self.now.depth) (s.quantified (shown.expr operand.value) op quantifier) (token_list ts.now)) }
     {
         match first(ts) {
@@ -183,7 +181,7 @@ impl<
         op: CmpOp,
         ts: &'a [Spanned],
     ) -> Result<(Box<Cond>, &'a [Spanned]), ParseRefusal>
-        requires { NestsEach self.now.depth (E.pre self.now.expr) (E.post self.now.expr) (C.pre self.now.cond) (C.post self.now.cond) (Q.pre self.now.query) (Q.post self.now.query) (T.pre self.now.table) (T.post self.now.table) }
+        requires { Nests self.now.depth (N.pre self.now.nested) (N.post self.now.nested) }
         ensures { Gives (λ x. (shown.cond x.0.value, token_list x.1.now)) result (read.at_depth self.now.depth read.compared (shown.expr operand.value) op (token_list ts.now)) }
     {
         match quantifier_at(ts) {
@@ -202,7 +200,7 @@ impl<
         negative: bool,
         ts: &'a [Spanned],
     ) -> Result<(Box<Cond>, &'a [Spanned]), ParseRefusal>
-        requires { NestsEach self.now.depth (E.pre self.now.expr) (E.post self.now.expr) (C.pre self.now.cond) (C.post self.now.cond) (Q.pre self.now.query) (Q.post self.now.query) (T.pre self.now.table) (T.post self.now.table) }
+        requires { Nests self.now.depth (N.pre self.now.nested) (N.post self.now.nested) }
         ensures { Gives (λ x. (shown.cond x.0.value, token_list x.1.now)) result (read.at_depth self.now.depth read.null_word (shown.expr operand.value) negative (token_list ts.now)) }
     {
         match first(ts) {
@@ -219,7 +217,7 @@ impl<
         operand: Box<Expr>,
         ts: &'a [Spanned],
     ) -> Result<(Box<Cond>, &'a [Spanned]), ParseRefusal>
-        requires { NestsEach self.now.depth (E.pre self.now.expr) (E.post self.now.expr) (C.pre self.now.cond) (C.post self.now.cond) (Q.pre self.now.query) (Q.post self.now.query) (T.pre self.now.table) (T.post self.now.table) }
+        requires { Nests self.now.depth (N.pre self.now.nested) (N.post self.now.nested) }
         ensures { Gives (λ x. (shown.cond x.0.value, token_list x.1.now)) result (read.at_depth self.now.depth read.pred_after (shown.expr operand.value) (token_list ts.now)) }
     {
         match first(ts) {
@@ -237,7 +235,7 @@ impl<
 
     /// `"(" query ")"`, after `EXISTS`
     fn exists<'a>(&self, ts: &'a [Spanned]) -> Result<(Box<Cond>, &'a [Spanned]), ParseRefusal>
-        requires { NestsEach self.now.depth (E.pre self.now.expr) (E.post self.now.expr) (C.pre self.now.cond) (C.post self.now.cond) (Q.pre self.now.query) (Q.post self.now.query) (T.pre self.now.table) (T.post self.now.table) }
+        requires { Nests self.now.depth (N.pre self.now.nested) (N.post self.now.nested) }
         ensures { Gives (λ x. (shown.cond x.0.value, token_list x.1.now)) result (read.sub (read.expr self.now.depth) (read.cond self.now.depth) (read.query self.now.depth) (read.table self.now.depth) s.exists (token_list ts.now)) }
     {
         match first(ts) {
@@ -251,7 +249,7 @@ impl<
 
     /// A predicate
     fn pred<'a>(&self, ts: &'a [Spanned]) -> Result<(Box<Cond>, &'a [Spanned]), ParseRefusal>
-        requires { NestsEach self.now.depth (E.pre self.now.expr) (E.post self.now.expr) (C.pre self.now.cond) (C.post self.now.cond) (Q.pre self.now.query) (Q.post self.now.query) (T.pre self.now.table) (T.post self.now.table) }
+        requires { Nests self.now.depth (N.pre self.now.nested) (N.post self.now.nested) }
         ensures { Gives (λ x. (shown.cond x.0.value, token_list x.1.now)) result (read.at_depth self.now.depth read.pred (token_list ts.now)) }
     {
         match after_exists(ts) {
@@ -265,7 +263,7 @@ impl<
 
     /// `"(" cond ")"`
     fn bracket<'a>(&self, ts: &'a [Spanned]) -> Result<(Box<Cond>, &'a [Spanned]), ParseRefusal>
-        requires { NestsEach self.now.depth (E.pre self.now.expr) (E.post self.now.expr) (C.pre self.now.cond) (C.post self.now.cond) (Q.pre self.now.query) (Q.post self.now.query) (T.pre self.now.table) (T.post self.now.table) }
+        requires { Nests self.now.depth (N.pre self.now.nested) (N.post self.now.nested) }
         ensures { Gives (λ x. (shown.cond x.0.value, token_list x.1.now)) result (read.at_depth self.now.depth read.bracket (token_list ts.now)) }
     {
         match first(ts) {
@@ -279,7 +277,7 @@ impl<
 
     /// `pred | "(" cond ")"`
     fn test<'a>(&self, ts: &'a [Spanned]) -> Result<(Box<Cond>, &'a [Spanned]), ParseRefusal>
-        requires { NestsEach self.now.depth (E.pre self.now.expr) (E.post self.now.expr) (C.pre self.now.cond) (C.post self.now.cond) (Q.pre self.now.query) (Q.post self.now.query) (T.pre self.now.table) (T.post self.now.table) }
+        requires { Nests self.now.depth (N.pre self.now.nested) (N.post self.now.nested) }
         ensures { Gives (λ x. (shown.cond x.0.value, token_list x.1.now)) result (read.at_depth self.now.depth read.test (token_list ts.now)) }
     {
         if opens_cond(ts) {
@@ -291,7 +289,7 @@ impl<
 
     /// `neg = [ NOT ] ( pred | "(" cond ")" )`
     fn neg<'a>(&self, ts: &'a [Spanned]) -> Result<(Box<Cond>, &'a [Spanned]), ParseRefusal>
-        requires { NestsEach self.now.depth (E.pre self.now.expr) (E.post self.now.expr) (C.pre self.now.cond) (C.post self.now.cond) (Q.pre self.now.query) (Q.post self.now.query) (T.pre self.now.table) (T.post self.now.table) }
+        requires { Nests self.now.depth (N.pre self.now.nested) (N.post self.now.nested) }
         ensures { Gives (λ x. (shown.cond x.0.value, token_list x.1.now)) result (read.at_depth self.now.depth read.neg (token_list ts.now)) }
     {
         match after_not(ts) {
@@ -309,7 +307,7 @@ impl<
         left: Box<Cond>,
         ts: &'a [Spanned],
     ) -> Result<(Box<Cond>, &'a [Spanned]), ParseRefusal>
-        requires { NestsEach self.now.depth (E.pre self.now.expr) (E.post self.now.expr) (C.pre self.now.cond) (C.post self.now.cond) (Q.pre self.now.query) (Q.post self.now.query) (T.pre self.now.table) (T.post self.now.table) }
+        requires { Nests self.now.depth (N.pre self.now.nested) (N.post self.now.nested) }
         ensures { Gives (λ x. (shown.cond x.0.value, token_list x.1.now)) result (read.at_depth self.now.depth read.joined_and (shown.cond left.value) (token_list ts.now)) }
     {
         let (right, rest) = self.neg(ts)?;
@@ -318,7 +316,7 @@ impl<
 
     /// `conj = neg { AND neg }`
     fn conj<'a>(&self, ts: &'a [Spanned]) -> Result<(Box<Cond>, &'a [Spanned]), ParseRefusal>
-        requires { NestsEach self.now.depth (E.pre self.now.expr) (E.post self.now.expr) (C.pre self.now.cond) (C.post self.now.cond) (Q.pre self.now.query) (Q.post self.now.query) (T.pre self.now.table) (T.post self.now.table) }
+        requires { Nests self.now.depth (N.pre self.now.nested) (N.post self.now.nested) }
         ensures { Gives (λ x. (shown.cond x.0.value, token_list x.1.now)) result (read.at_depth self.now.depth read.conj (token_list ts.now)) }
     {
         let (mut left, mut rest) = self.neg(ts)?;
@@ -341,7 +339,7 @@ impl<
         left: Box<Cond>,
         ts: &'a [Spanned],
     ) -> Result<(Box<Cond>, &'a [Spanned]), ParseRefusal>
-        requires { NestsEach self.now.depth (E.pre self.now.expr) (E.post self.now.expr) (C.pre self.now.cond) (C.post self.now.cond) (Q.pre self.now.query) (Q.post self.now.query) (T.pre self.now.table) (T.post self.now.table) }
+        requires { Nests self.now.depth (N.pre self.now.nested) (N.post self.now.nested) }
         ensures { Gives (λ x. (shown.cond x.0.value, token_list x.1.now)) result (read.at_depth self.now.depth read.joined_or (shown.cond left.value) (token_list ts.now)) }
     {
         let (right, rest) = self.conj(ts)?;
@@ -350,7 +348,7 @@ impl<
 
     /// `cond = conj { OR conj }`
     pub fn disj<'a>(&self, ts: &'a [Spanned]) -> Result<(Box<Cond>, &'a [Spanned]), ParseRefusal>
-        requires { NestsEach self.now.depth (E.pre self.now.expr) (E.post self.now.expr) (C.pre self.now.cond) (C.post self.now.cond) (Q.pre self.now.query) (Q.post self.now.query) (T.pre self.now.table) (T.post self.now.table) }
+        requires { Nests self.now.depth (N.pre self.now.nested) (N.post self.now.nested) }
         ensures { Gives (λ x. (shown.cond x.0.value, token_list x.1.now)) result (read.at_depth self.now.depth read.disj (token_list ts.now)) }
     {
         let (mut left, mut rest) = self.conj(ts)?;
@@ -372,7 +370,7 @@ impl<
         &self,
         ts: &'a [Spanned],
     ) -> Result<(Filter, &'a [Spanned]), ParseRefusal>
-        requires { NestsEach self.now.depth (E.pre self.now.expr) (E.post self.now.expr) (C.pre self.now.cond) (C.post self.now.cond) (Q.pre self.now.query) (Q.post self.now.query) (T.pre self.now.table) (T.post self.now.table) }
+        requires { Nests self.now.depth (N.pre self.now.nested) (N.post self.now.nested) }
         ensures { Gives (λ x. (shown.filter x.0, token_list x.1.now)) result (read.at_depth self.now.depth read.where_filter (token_list ts.now)) }
     {
         match first(ts) {
@@ -389,7 +387,7 @@ impl<
         &self,
         ts: &'a [Spanned],
     ) -> Result<(Filter, &'a [Spanned]), ParseRefusal>
-        requires { NestsEach self.now.depth (E.pre self.now.expr) (E.post self.now.expr) (C.pre self.now.cond) (C.post self.now.cond) (Q.pre self.now.query) (Q.post self.now.query) (T.pre self.now.table) (T.post self.now.table) }
+        requires { Nests self.now.depth (N.pre self.now.nested) (N.post self.now.nested) }
         ensures { Gives (λ x. (shown.filter x.0, token_list x.1.now)) result (read.at_depth self.now.depth read.having_filter (token_list ts.now)) }
     {
         match first(ts) {

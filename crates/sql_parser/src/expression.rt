@@ -3,7 +3,6 @@ ghost use Rattle.std.specs.Prelude.{◌≡◌, ◌∷◌, false, IfSome, IfNone}
 ghost use Rattle.sql_ast.specs.Shown as shown;
 ghost use Rattle.sql_ast.specs.Syntax as s;
 ghost use Rattle.sql_parser.specs.Nests.{Nests};
-ghost use Rattle.sql_parser.specs.NestsEach.{NestsEach};
 ghost use Rattle.sql_parser.specs.Read as read;
 ghost use Rattle.sql_parser.specs.Words as words;
 ghost use Rattle.sql_parser.specs.Words.{Gives};
@@ -14,12 +13,13 @@ use crate::ahead::at_query;
 use crate::boxes::{closed_expr, found_expr, push_boxed};
 use crate::grammar::Grammar;
 use crate::naming::column_after;
+use crate::nested::{Nonterminal, Tree};
 use crate::refusal::ParseRefusal;
 use crate::word::{
     additive_at, after_comma, data_type, first, multiplicative_at, set_quantifier_at,
 };
 use shared_types::Text;
-use sql_ast::{AdditiveOp, Cond, Expr, MultiplicativeOp, Query, SetFunction, Sign, TableRef};
+use sql_ast::{AdditiveOp, Expr, MultiplicativeOp, SetFunction, Sign};
 use sql_text::{Key, Name, Spanned, Token};
 use sqlite_items::Items;
 use std::alloc::Global;
@@ -63,14 +63,11 @@ fn column_expr<'a>(
 }
 
 impl<
-    E: Fn(Global, u8, &[Spanned]) -> Result<(Box<Expr>, &[Spanned]), ParseRefusal>,
-    C,
-    Q,
-    T,
-> Grammar<E, C, Q, T> {
+    N: Fn(Global, u8, Nonterminal, &[Spanned]) -> Result<(Tree, &[Spanned]), ParseRefusal>,
+> Grammar<N> {
     /// `expr { "," expr }`, in brackets
     pub fn exprs<'a>(&self, ts: &'a [Spanned]) -> Result<(Items<Expr>, &'a [Spanned]), ParseRefusal>
-        requires { Nests shown.expr (read.expr self.now.depth) self.now.depth (E.pre self.now.expr) (E.post self.now.expr) }
+        requires { Nests self.now.depth (N.pre self.now.nested) (N.post self.now.nested) }
         ensures { Gives (λ x. (shown.expr_list x.0, token_list x.1.now)) result (read.at_depth self.now.depth read.exprs (token_list ts.now)) }
     {
         let (first, after) = self.nested_expr(ts)?;
@@ -96,7 +93,7 @@ impl<
         function: SetFunction,
         ts: &'a [Spanned],
     ) -> Result<(Box<Expr>, &'a [Spanned]), ParseRefusal>
-        requires { Nests shown.expr (read.expr self.now.depth) self.now.depth (E.pre self.now.expr) (E.post self.now.expr) }
+        requires { Nests self.now.depth (N.pre self.now.nested) (N.post self.now.nested) }
         ensures { Gives (λ x. (shown.expr x.0.value, token_list x.1.now)) result (read.at_depth self.now.depth read.aggregate function (token_list ts.now)) }
     {
         match first(ts) {
@@ -115,7 +112,7 @@ impl<
 
     /// `"(" "*" ")" | "(" [ ALL | DISTINCT ] expr ")"`, after `COUNT`
     fn count<'a>(&self, ts: &'a [Spanned]) -> Result<(Box<Expr>, &'a [Spanned]), ParseRefusal>
-        requires { Nests shown.expr (read.expr self.now.depth) self.now.depth (E.pre self.now.expr) (E.post self.now.expr) }
+        requires { Nests self.now.depth (N.pre self.now.nested) (N.post self.now.nested) }
         ensures { Gives (λ x. (shown.expr x.0.value, token_list x.1.now)) result (read.at_depth self.now.depth read.count (token_list ts.now)) }
     {
         match after_open_star(ts) {
@@ -131,7 +128,7 @@ impl<
         operand: Box<Expr>,
         ts: &'a [Spanned],
     ) -> Result<(Box<Expr>, &'a [Spanned]), ParseRefusal>
-        requires { Nests shown.expr (read.expr self.now.depth) self.now.depth (E.pre self.now.expr) (E.post self.now.expr) }
+        requires { Nests self.now.depth (N.pre self.now.nested) (N.post self.now.nested) }
         ensures { Gives (λ x. (shown.expr x.0.value, token_list x.1.now)) result (read.at_depth self.now.depth read.coalesce_rest (shown.expr operand.value) (token_list ts.now)) }
     {
         match first(ts) {
@@ -145,7 +142,7 @@ impl<
 
     /// `"(" expr "," expr { "," expr } ")"`, after `COALESCE`
     fn coalesce<'a>(&self, ts: &'a [Spanned]) -> Result<(Box<Expr>, &'a [Spanned]), ParseRefusal>
-        requires { Nests shown.expr (read.expr self.now.depth) self.now.depth (E.pre self.now.expr) (E.post self.now.expr) }
+        requires { Nests self.now.depth (N.pre self.now.nested) (N.post self.now.nested) }
         ensures { Gives (λ x. (shown.expr x.0.value, token_list x.1.now)) result (read.at_depth self.now.depth read.coalesce (token_list ts.now)) }
     {
         match first(ts) {
@@ -163,7 +160,7 @@ impl<
         a: Box<Expr>,
         ts: &'a [Spanned],
     ) -> Result<(Box<Expr>, &'a [Spanned]), ParseRefusal>
-        requires { Nests shown.expr (read.expr self.now.depth) self.now.depth (E.pre self.now.expr) (E.post self.now.expr) }
+        requires { Nests self.now.depth (N.pre self.now.nested) (N.post self.now.nested) }
         ensures { Gives (λ x. (shown.expr x.0.value, token_list x.1.now)) result (read.at_depth self.now.depth read.null_if_rest (shown.expr a.value) (token_list ts.now)) }
     {
         match first(ts) {
@@ -177,7 +174,7 @@ impl<
 
     /// `"(" expr "," expr ")"`, after `NULLIF`
     fn null_if<'a>(&self, ts: &'a [Spanned]) -> Result<(Box<Expr>, &'a [Spanned]), ParseRefusal>
-        requires { Nests shown.expr (read.expr self.now.depth) self.now.depth (E.pre self.now.expr) (E.post self.now.expr) }
+        requires { Nests self.now.depth (N.pre self.now.nested) (N.post self.now.nested) }
         ensures { Gives (λ x. (shown.expr x.0.value, token_list x.1.now)) result (read.at_depth self.now.depth read.null_if (token_list ts.now)) }
     {
         match first(ts) {
@@ -190,7 +187,7 @@ impl<
     }
 }
 
-impl<E, C, Q, T> Grammar<E, C, Q, T> {
+impl<N> Grammar<N> {
     /// `AS type ")"`, after `CAST "(" NULL`
     fn cast_type<'a>(&self, ts: &'a [Spanned]) -> Result<(Box<Expr>, &'a [Spanned]), ParseRefusal>
         ensures { Gives (λ x. (shown.expr x.0.value, token_list x.1.now)) result (read.at_depth self.now.depth read.cast_type (token_list ts.now)) }
@@ -219,18 +216,15 @@ impl<E, C, Q, T> Grammar<E, C, Q, T> {
 }
 
 impl<
-    E: Fn(Global, u8, &[Spanned]) -> Result<(Box<Expr>, &[Spanned]), ParseRefusal>,
-    C: Fn(Global, u8, &[Spanned]) -> Result<(Box<Cond>, &[Spanned]), ParseRefusal>,
-    Q: Fn(Global, u8, &[Spanned]) -> Result<(Box<Query>, &[Spanned]), ParseRefusal>,
-    T: Fn(Global, u8, &[Spanned]) -> Result<(Box<TableRef>, &[Spanned]), ParseRefusal>,
-> Grammar<E, C, Q, T> {
+    N: Fn(Global, u8, Nonterminal, &[Spanned]) -> Result<(Tree, &[Spanned]), ParseRefusal>,
+> Grammar<N> {
     /// A prim that begins with a key word, after that word
     fn word_prim<'a>(
         &self,
         word: Key,
         ts: &'a [Spanned],
     ) -> Result<(Box<Expr>, &'a [Spanned]), ParseRefusal>
-        requires { NestsEach self.now.depth (E.pre self.now.expr) (E.post self.now.expr) (C.pre self.now.cond) (C.post self.now.cond) (Q.pre self.now.query) (Q.post self.now.query) (T.pre self.now.table) (T.post self.now.table) }
+        requires { Nests self.now.depth (N.pre self.now.nested) (N.post self.now.nested) }
         ensures { Gives (λ x. (shown.expr x.0.value, token_list x.1.now)) result (read.at_depth self.now.depth read.word_prim word (token_list ts.now)) }
     {
         match word {
@@ -249,7 +243,7 @@ impl<
 
     /// `query ")" | expr ")"`, after `"("`
     fn paren<'a>(&self, ts: &'a [Spanned]) -> Result<(Box<Expr>, &'a [Spanned]), ParseRefusal>
-        requires { NestsEach self.now.depth (E.pre self.now.expr) (E.post self.now.expr) (C.pre self.now.cond) (C.post self.now.cond) (Q.pre self.now.query) (Q.post self.now.query) (T.pre self.now.table) (T.post self.now.table) }
+        requires { Nests self.now.depth (N.pre self.now.nested) (N.post self.now.nested) }
         ensures { Gives (λ x. (shown.expr x.0.value, token_list x.1.now)) result (read.at_depth self.now.depth read.paren (token_list ts.now)) }
     {
         if at_query(ts) {
@@ -263,7 +257,7 @@ impl<
 
     /// A number, a string, a column, a bracket, or what begins with a key word
     fn prim<'a>(&self, ts: &'a [Spanned]) -> Result<(Box<Expr>, &'a [Spanned]), ParseRefusal>
-        requires { NestsEach self.now.depth (E.pre self.now.expr) (E.post self.now.expr) (C.pre self.now.cond) (C.post self.now.cond) (Q.pre self.now.query) (Q.post self.now.query) (T.pre self.now.table) (T.post self.now.table) }
+        requires { Nests self.now.depth (N.pre self.now.nested) (N.post self.now.nested) }
         ensures { Gives (λ x. (shown.expr x.0.value, token_list x.1.now)) result (read.at_depth self.now.depth read.prim (token_list ts.now)) }
     {
         match first(ts) {
@@ -282,7 +276,7 @@ impl<
         sign: Sign,
         ts: &'a [Spanned],
     ) -> Result<(Box<Expr>, &'a [Spanned]), ParseRefusal>
-        requires { NestsEach self.now.depth (E.pre self.now.expr) (E.post self.now.expr) (C.pre self.now.cond) (C.post self.now.cond) (Q.pre self.now.query) (Q.post self.now.query) (T.pre self.now.table) (T.post self.now.table) }
+        requires { Nests self.now.depth (N.pre self.now.nested) (N.post self.now.nested) }
         ensures { Gives (λ x. (shown.expr x.0.value, token_list x.1.now)) result (read.at_depth self.now.depth read.signed sign (token_list ts.now)) }
     {
         let (operand, rest) = self.prim(ts)?;
@@ -291,7 +285,7 @@ impl<
 
     /// `factor = [ "+" | "-" ] prim`
     fn factor<'a>(&self, ts: &'a [Spanned]) -> Result<(Box<Expr>, &'a [Spanned]), ParseRefusal>
-        requires { NestsEach self.now.depth (E.pre self.now.expr) (E.post self.now.expr) (C.pre self.now.cond) (C.post self.now.cond) (Q.pre self.now.query) (Q.post self.now.query) (T.pre self.now.table) (T.post self.now.table) }
+        requires { Nests self.now.depth (N.pre self.now.nested) (N.post self.now.nested) }
         ensures { Gives (λ x. (shown.expr x.0.value, token_list x.1.now)) result (read.at_depth self.now.depth read.factor (token_list ts.now)) }
     {
         match first(ts) {
@@ -308,7 +302,7 @@ impl<
         op: MultiplicativeOp,
         ts: &'a [Spanned],
     ) -> Result<(Box<Expr>, &'a [Spanned]), ParseRefusal>
-        requires { NestsEach self.now.depth (E.pre self.now.expr) (E.post self.now.expr) (C.pre self.now.cond) (C.post self.now.cond) (Q.pre self.now.query) (Q.post self.now.query) (T.pre self.now.table) (T.post self.now.table) }
+        requires { Nests self.now.depth (N.pre self.now.nested) (N.post self.now.nested) }
         ensures { Gives (λ x. (shown.expr x.0.value, token_list x.1.now)) result (read.at_depth self.now.depth read.multiplied (shown.expr left.value) op (token_list ts.now)) }
     {
         let (right, rest) = self.factor(ts)?;
@@ -317,7 +311,7 @@ impl<
 
     /// `term = factor { ( "*" | "/" ) factor }`
     fn term<'a>(&self, ts: &'a [Spanned]) -> Result<(Box<Expr>, &'a [Spanned]), ParseRefusal>
-        requires { NestsEach self.now.depth (E.pre self.now.expr) (E.post self.now.expr) (C.pre self.now.cond) (C.post self.now.cond) (Q.pre self.now.query) (Q.post self.now.query) (T.pre self.now.table) (T.post self.now.table) }
+        requires { Nests self.now.depth (N.pre self.now.nested) (N.post self.now.nested) }
         ensures { Gives (λ x. (shown.expr x.0.value, token_list x.1.now)) result (read.at_depth self.now.depth read.term (token_list ts.now)) }
     {
         let (mut left, mut rest) = self.factor(ts)?;
@@ -341,7 +335,7 @@ impl<
         op: AdditiveOp,
         ts: &'a [Spanned],
     ) -> Result<(Box<Expr>, &'a [Spanned]), ParseRefusal>
-        requires { NestsEach self.now.depth (E.pre self.now.expr) (E.post self.now.expr) (C.pre self.now.cond) (C.post self.now.cond) (Q.pre self.now.query) (Q.post self.now.query) (T.pre self.now.table) (T.post self.now.table) }
+        requires { Nests self.now.depth (N.pre self.now.nested) (N.post self.now.nested) }
         ensures { Gives (λ x. (shown.expr x.0.value, token_list x.1.now)) result (read.at_depth self.now.depth read.added (shown.expr left.value) op (token_list ts.now)) }
     {
         let (right, rest) = self.term(ts)?;
@@ -350,7 +344,7 @@ impl<
 
     /// `expr = term { ( "+" | "-" | "||" ) term }`
     pub fn sum<'a>(&self, ts: &'a [Spanned]) -> Result<(Box<Expr>, &'a [Spanned]), ParseRefusal>
-        requires { NestsEach self.now.depth (E.pre self.now.expr) (E.post self.now.expr) (C.pre self.now.cond) (C.post self.now.cond) (Q.pre self.now.query) (Q.post self.now.query) (T.pre self.now.table) (T.post self.now.table) }
+        requires { Nests self.now.depth (N.pre self.now.nested) (N.post self.now.nested) }
         ensures { Gives (λ x. (shown.expr x.0.value, token_list x.1.now)) result (read.at_depth self.now.depth read.sum (token_list ts.now)) }
     {
         let (mut left, mut rest) = self.term(ts)?;

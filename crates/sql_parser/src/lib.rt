@@ -9,6 +9,7 @@ mod elements;
 mod expression;
 mod grammar;
 mod naming;
+mod nested;
 mod query;
 mod refusal;
 mod schema;

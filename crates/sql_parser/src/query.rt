@@ -1,7 +1,7 @@
 // Queries.
 ghost use Rattle.std.specs.Prelude.{◌≡◌, ◌∷◌, false, IfSome, IfNone};
 ghost use Rattle.sql_ast.specs.Shown as shown;
-ghost use Rattle.sql_parser.specs.NestsEach.{NestsEach};
+ghost use Rattle.sql_parser.specs.Nests.{Nests};
 ghost use Rattle.sql_parser.specs.Read as read;
 ghost use Rattle.sql_parser.specs.Read.{starts_intersect, starts_star};
 ghost use Rattle.sql_parser.specs.Words.{Gives};
@@ -12,9 +12,10 @@ ghost use Rattle.sql_text.specs.declared.token.Token.TheVariants as t;
 use crate::boxes::{boxed, closed_query, found_query};
 use crate::grammar::Grammar;
 use crate::naming::{alias_at, all_of_at, group_by};
+use crate::nested::{Nonterminal, Tree};
 use crate::refusal::ParseRefusal;
 use crate::word::{after_comma, all_at, first, set_operator_at, set_quantifier_at};
-use sql_ast::{Block, Cond, Expr, Item, Query, SelectList, SetOperator, SetQuantifier, TableRef};
+use sql_ast::{Block, Item, Query, SelectList, SetOperator, SetQuantifier, TableRef};
 use sql_text::{Key, Spanned, Token};
 use sqlite_items::Items;
 use std::alloc::Global;
@@ -42,14 +43,11 @@ fn after_star(ts: &[Spanned]) -> Option<&[Spanned]>
 }
 
 impl<
-    E: Fn(Global, u8, &[Spanned]) -> Result<(Box<Expr>, &[Spanned]), ParseRefusal>,
-    C: Fn(Global, u8, &[Spanned]) -> Result<(Box<Cond>, &[Spanned]), ParseRefusal>,
-    Q: Fn(Global, u8, &[Spanned]) -> Result<(Box<Query>, &[Spanned]), ParseRefusal>,
-    T: Fn(Global, u8, &[Spanned]) -> Result<(Box<TableRef>, &[Spanned]), ParseRefusal>,
-> Grammar<E, C, Q, T> {
+    N: Fn(Global, u8, Nonterminal, &[Spanned]) -> Result<(Tree, &[Spanned]), ParseRefusal>,
+> Grammar<N> {
     /// `item = expr [ [ AS ] name ] | name "." "*"`
     fn item<'a>(&self, ts: &'a [Spanned]) -> Result<(Item, &'a [Spanned]), ParseRefusal>
-        requires { NestsEach self.now.depth (E.pre self.now.expr) (E.post self.now.expr) (C.pre self.now.cond) (C.post self.now.cond) (Q.pre self.now.query) (Q.post self.now.query) (T.pre self.now.table) (T.post self.now.table) }
+        requires { Nests self.now.depth (N.pre self.now.nested) (N.post self.now.nested) }
         ensures { Gives (λ x. (shown.item x.0, token_list x.1.now)) result (read.at_depth self.now.depth read.item (token_list ts.now)) }
     {
         match all_of_at(ts) {
@@ -67,7 +65,7 @@ impl<
 
     /// `item { "," item }`
     fn items<'a>(&self, ts: &'a [Spanned]) -> Result<(Items<Item>, &'a [Spanned]), ParseRefusal>
-        requires { NestsEach self.now.depth (E.pre self.now.expr) (E.post self.now.expr) (C.pre self.now.cond) (C.post self.now.cond) (Q.pre self.now.query) (Q.post self.now.query) (T.pre self.now.table) (T.post self.now.table) }
+        requires { Nests self.now.depth (N.pre self.now.nested) (N.post self.now.nested) }
         ensures { Gives (λ x. (shown.item_list x.0, token_list x.1.now)) result (read.at_depth self.now.depth read.items (token_list ts.now)) }
     {
         let (item_first, after_first) = self.item(ts)?;
@@ -90,7 +88,7 @@ impl<
     /// `item { "," item }`, as a list
     #[tactic(auto, using(sql_ast::specs::Shown::lists))]
     fn listed<'a>(&self, ts: &'a [Spanned]) -> Result<(SelectList, &'a [Spanned]), ParseRefusal>
-        requires { NestsEach self.now.depth (E.pre self.now.expr) (E.post self.now.expr) (C.pre self.now.cond) (C.post self.now.cond) (Q.pre self.now.query) (Q.post self.now.query) (T.pre self.now.table) (T.post self.now.table) }
+        requires { Nests self.now.depth (N.pre self.now.nested) (N.post self.now.nested) }
         ensures { Gives (λ x. (shown.select_list x.0, token_list x.1.now)) result (read.at_depth self.now.depth read.listed (token_list ts.now)) }
     {
         let (items, rest) = self.items(ts)?;
@@ -102,7 +100,7 @@ impl<
         &self,
         ts: &'a [Spanned],
     ) -> Result<(SelectList, &'a [Spanned]), ParseRefusal>
-        requires { NestsEach self.now.depth (E.pre self.now.expr) (E.post self.now.expr) (C.pre self.now.cond) (C.post self.now.cond) (Q.pre self.now.query) (Q.post self.now.query) (T.pre self.now.table) (T.post self.now.table) }
+        requires { Nests self.now.depth (N.pre self.now.nested) (N.post self.now.nested) }
         ensures { Gives (λ x. (shown.select_list x.0, token_list x.1.now)) result (read.at_depth self.now.depth read.select_list (token_list ts.now)) }
     {
         match after_star(ts) {
@@ -120,7 +118,7 @@ impl<
         from: Items<TableRef>,
         ts: &'a [Spanned],
     ) -> Result<(Box<Query>, &'a [Spanned]), ParseRefusal>
-        requires { NestsEach self.now.depth (E.pre self.now.expr) (E.post self.now.expr) (C.pre self.now.cond) (C.post self.now.cond) (Q.pre self.now.query) (Q.post self.now.query) (T.pre self.now.table) (T.post self.now.table) }
+        requires { Nests self.now.depth (N.pre self.now.nested) (N.post self.now.nested) }
         ensures { Gives (λ x. (shown.query x.0.value, token_list x.1.now)) result (read.at_depth self.now.depth read.block_end quantifier (shown.select_list list) (shown.table_list from) (token_list ts.now)) }
     {
         let (filter, rest) = self.where_filter(ts)?;
@@ -140,7 +138,7 @@ impl<
 
     /// `[ ALL | DISTINCT ] list FROM tref { "," tref }`, and the rest of a block, after `SELECT`
     fn block<'a>(&self, ts: &'a [Spanned]) -> Result<(Box<Query>, &'a [Spanned]), ParseRefusal>
-        requires { NestsEach self.now.depth (E.pre self.now.expr) (E.post self.now.expr) (C.pre self.now.cond) (C.post self.now.cond) (Q.pre self.now.query) (Q.post self.now.query) (T.pre self.now.table) (T.post self.now.table) }
+        requires { Nests self.now.depth (N.pre self.now.nested) (N.post self.now.nested) }
         ensures { Gives (λ x. (shown.query x.0.value, token_list x.1.now)) result (read.at_depth self.now.depth read.block (token_list ts.now)) }
     {
         let (quantifier, rest) = set_quantifier_at(ts);
@@ -151,7 +149,7 @@ impl<
 
     /// `qprim = block | sub`
     fn qprim<'a>(&self, ts: &'a [Spanned]) -> Result<(Box<Query>, &'a [Spanned]), ParseRefusal>
-        requires { NestsEach self.now.depth (E.pre self.now.expr) (E.post self.now.expr) (C.pre self.now.cond) (C.post self.now.cond) (Q.pre self.now.query) (Q.post self.now.query) (T.pre self.now.table) (T.post self.now.table) }
+        requires { Nests self.now.depth (N.pre self.now.nested) (N.post self.now.nested) }
         ensures { Gives (λ x. (shown.query x.0.value, token_list x.1.now)) result (read.at_depth self.now.depth read.qprim (token_list ts.now)) }
     {
         match first(ts) {
@@ -170,7 +168,7 @@ impl<
         left: Box<Query>,
         ts: &'a [Spanned],
     ) -> Result<(Box<Query>, &'a [Spanned]), ParseRefusal>
-        requires { NestsEach self.now.depth (E.pre self.now.expr) (E.post self.now.expr) (C.pre self.now.cond) (C.post self.now.cond) (Q.pre self.now.query) (Q.post self.now.query) (T.pre self.now.table) (T.post self.now.table) }
+        requires { Nests self.now.depth (N.pre self.now.nested) (N.post self.now.nested) }
         ensures { Gives (λ x. (shown.query x.0.value, token_list x.1.now)) result (read.at_depth self.now.depth read.intersected (shown.query left.value) (token_list ts.now)) }
     {
         let (all, rest) = all_at(ts);
@@ -180,7 +178,7 @@ impl<
 
     /// `qterm = qprim { INTERSECT [ ALL ] qprim }`
     fn qterm<'a>(&self, ts: &'a [Spanned]) -> Result<(Box<Query>, &'a [Spanned]), ParseRefusal>
-        requires { NestsEach self.now.depth (E.pre self.now.expr) (E.post self.now.expr) (C.pre self.now.cond) (C.post self.now.cond) (Q.pre self.now.query) (Q.post self.now.query) (T.pre self.now.table) (T.post self.now.table) }
+        requires { Nests self.now.depth (N.pre self.now.nested) (N.post self.now.nested) }
         ensures { Gives (λ x. (shown.query x.0.value, token_list x.1.now)) result (read.at_depth self.now.depth read.qterm (token_list ts.now)) }
     {
         let (mut left, mut rest) = self.qprim(ts)?;
@@ -204,7 +202,7 @@ impl<
         operator: SetOperator,
         ts: &'a [Spanned],
     ) -> Result<(Box<Query>, &'a [Spanned]), ParseRefusal>
-        requires { NestsEach self.now.depth (E.pre self.now.expr) (E.post self.now.expr) (C.pre self.now.cond) (C.post self.now.cond) (Q.pre self.now.query) (Q.post self.now.query) (T.pre self.now.table) (T.post self.now.table) }
+        requires { Nests self.now.depth (N.pre self.now.nested) (N.post self.now.nested) }
         ensures { Gives (λ x. (shown.query x.0.value, token_list x.1.now)) result (read.at_depth self.now.depth read.united (shown.query left.value) operator (token_list ts.now)) }
     {
         let (all, rest) = all_at(ts);
@@ -217,7 +215,7 @@ impl<
         &self,
         ts: &'a [Spanned],
     ) -> Result<(Box<Query>, &'a [Spanned]), ParseRefusal>
-        requires { NestsEach self.now.depth (E.pre self.now.expr) (E.post self.now.expr) (C.pre self.now.cond) (C.post self.now.cond) (Q.pre self.now.query) (Q.post self.now.query) (T.pre self.now.table) (T.post self.now.table) }
+        requires { Nests self.now.depth (N.pre self.now.nested) (N.post self.now.nested) }
         ensures { Gives (λ x. (shown.query x.0.value, token_list x.1.now)) result (read.at_depth self.now.depth read.combined (token_list ts.now)) }
     {
         let (mut left, mut rest) = self.qterm(ts)?;

@@ -2,7 +2,7 @@
 ghost use Rattle.std.specs.Prelude.{◌≡◌};
 ghost use Rattle.sql_ast.specs.Grammatical as grammatical;
 ghost use Rattle.sql_ast.specs.Shown as shown;
-ghost use Rattle.sql_parser.specs.NestsEach.{NestsEach};
+ghost use Rattle.sql_parser.specs.Nests.{Nests};
 ghost use Rattle.sql_parser.specs.Read as read;
 ghost use Rattle.sql_parser.specs.Words.{Gives};
 ghost use Rattle.sql_parser.specs.declared.word.JoinKind.TheVariants as join_of;
@@ -12,10 +12,11 @@ use crate::ahead::at_query;
 use crate::boxes::{found_table, push_boxed};
 use crate::grammar::Grammar;
 use crate::naming::{correlation, optional_correlation};
+use crate::nested::{Nonterminal, Tree};
 use crate::refusal::ParseRefusal;
 use crate::sub::without_sub;
 use crate::word::{JoinKind, after_comma, first, join_at};
-use sql_ast::{Cond, Expr, Query, TableRef};
+use sql_ast::{Cond, Query, TableRef};
 use sql_text::{Key, Name, Spanned, Token};
 use sqlite_items::Items;
 use std::alloc::Global;
@@ -81,14 +82,11 @@ fn close_join<'a>(
 }
 
 impl<
-    E: Fn(Global, u8, &[Spanned]) -> Result<(Box<Expr>, &[Spanned]), ParseRefusal>,
-    C: Fn(Global, u8, &[Spanned]) -> Result<(Box<Cond>, &[Spanned]), ParseRefusal>,
-    Q: Fn(Global, u8, &[Spanned]) -> Result<(Box<Query>, &[Spanned]), ParseRefusal>,
-    T: Fn(Global, u8, &[Spanned]) -> Result<(Box<TableRef>, &[Spanned]), ParseRefusal>,
-> Grammar<E, C, Q, T> {
+    N: Fn(Global, u8, Nonterminal, &[Spanned]) -> Result<(Tree, &[Spanned]), ParseRefusal>,
+> Grammar<N> {
     /// `tprim`
     fn tprim<'a>(&self, ts: &'a [Spanned]) -> Result<(Box<TableRef>, &'a [Spanned]), ParseRefusal>
-        requires { NestsEach self.now.depth (E.pre self.now.expr) (E.post self.now.expr) (C.pre self.now.cond) (C.post self.now.cond) (Q.pre self.now.query) (Q.post self.now.query) (T.pre self.now.table) (T.post self.now.table) }
+        requires { Nests self.now.depth (N.pre self.now.nested) (N.post self.now.nested) }
         ensures { Gives (λ x. (shown.table x.0.value, token_list x.1.now)) result (read.at_depth self.now.depth read.tprim (token_list ts.now)) }
     {
         match first(ts) {
@@ -108,7 +106,7 @@ impl<
 
     /// `ON cond`
     fn on<'a>(&self, ts: &'a [Spanned]) -> Result<(Box<Cond>, &'a [Spanned]), ParseRefusal>
-        requires { NestsEach self.now.depth (E.pre self.now.expr) (E.post self.now.expr) (C.pre self.now.cond) (C.post self.now.cond) (Q.pre self.now.query) (Q.post self.now.query) (T.pre self.now.table) (T.post self.now.table) }
+        requires { Nests self.now.depth (N.pre self.now.nested) (N.post self.now.nested) }
         ensures { Gives (λ x. (shown.cond x.0.value, token_list x.1.now)) result (read.at_depth self.now.depth read.on (token_list ts.now)) }
     {
         match first(ts) {
@@ -124,7 +122,7 @@ impl<
         inner: bool,
         ts: &'a [Spanned],
     ) -> Result<(Box<TableRef>, &'a [Spanned]), ParseRefusal>
-        requires { NestsEach self.now.depth (E.pre self.now.expr) (E.post self.now.expr) (C.pre self.now.cond) (C.post self.now.cond) (Q.pre self.now.query) (Q.post self.now.query) (T.pre self.now.table) (T.post self.now.table) }
+        requires { Nests self.now.depth (N.pre self.now.nested) (N.post self.now.nested) }
         ensures { Gives (λ x. (shown.table x.0.value, token_list x.1.now)) result (read.at_depth self.now.depth read.join_after (shown.table left.value) (join_of.Inner inner) (token_list ts.now)) }
     {
         let (right, rest) = self.tprim(ts)?;
@@ -139,7 +137,7 @@ impl<
         outer: bool,
         ts: &'a [Spanned],
     ) -> Result<(Box<TableRef>, &'a [Spanned]), ParseRefusal>
-        requires { NestsEach self.now.depth (E.pre self.now.expr) (E.post self.now.expr) (C.pre self.now.cond) (C.post self.now.cond) (Q.pre self.now.query) (Q.post self.now.query) (T.pre self.now.table) (T.post self.now.table) }
+        requires { Nests self.now.depth (N.pre self.now.nested) (N.post self.now.nested) }
         ensures { Gives (λ x. (shown.table x.0.value, token_list x.1.now)) result (read.at_depth self.now.depth read.join_after (shown.table left.value) (join_of.Left outer) (token_list ts.now)) }
     {
         let (right, rest) = self.tprim(ts)?;
@@ -158,7 +156,7 @@ impl<
         kind: JoinKind,
         ts: &'a [Spanned],
     ) -> Result<(Box<TableRef>, &'a [Spanned]), ParseRefusal>
-        requires { NestsEach self.now.depth (E.pre self.now.expr) (E.post self.now.expr) (C.pre self.now.cond) (C.post self.now.cond) (Q.pre self.now.query) (Q.post self.now.query) (T.pre self.now.table) (T.post self.now.table) }
+        requires { Nests self.now.depth (N.pre self.now.nested) (N.post self.now.nested) }
         ensures { Gives (λ x. (shown.table x.0.value, token_list x.1.now)) result (read.at_depth self.now.depth read.join_after (shown.table left.value) kind (token_list ts.now)) }
     {
         match kind {
@@ -176,7 +174,7 @@ impl<
         &self,
         ts: &'a [Spanned],
     ) -> Result<(Box<TableRef>, &'a [Spanned]), ParseRefusal>
-        requires { NestsEach self.now.depth (E.pre self.now.expr) (E.post self.now.expr) (C.pre self.now.cond) (C.post self.now.cond) (Q.pre self.now.query) (Q.post self.now.query) (T.pre self.now.table) (T.post self.now.table) }
+        requires { Nests self.now.depth (N.pre self.now.nested) (N.post self.now.nested) }
         ensures { Gives (λ x. (shown.table x.0.value, token_list x.1.now)) result (read.at_depth self.now.depth read.tref (token_list ts.now)) }
     {
         let (mut left, mut rest) = self.tprim(ts)?;
@@ -198,7 +196,7 @@ impl<
         &self,
         ts: &'a [Spanned],
     ) -> Result<(Items<TableRef>, &'a [Spanned]), ParseRefusal>
-        requires { NestsEach self.now.depth (E.pre self.now.expr) (E.post self.now.expr) (C.pre self.now.cond) (C.post self.now.cond) (Q.pre self.now.query) (Q.post self.now.query) (T.pre self.now.table) (T.post self.now.table) }
+        requires { Nests self.now.depth (N.pre self.now.nested) (N.post self.now.nested) }
         ensures { Gives (λ x. (shown.table_list x.0, token_list x.1.now)) result (read.at_depth self.now.depth read.tables (token_list ts.now)) }
     {
         let (table_first, after_first) = self.tref(ts)?;
@@ -223,7 +221,7 @@ impl<
         &self,
         ts: &'a [Spanned],
     ) -> Result<(Items<TableRef>, &'a [Spanned]), ParseRefusal>
-        requires { NestsEach self.now.depth (E.pre self.now.expr) (E.post self.now.expr) (C.pre self.now.cond) (C.post self.now.cond) (Q.pre self.now.query) (Q.post self.now.query) (T.pre self.now.table) (T.post self.now.table) }
+        requires { Nests self.now.depth (N.pre self.now.nested) (N.post self.now.nested) }
         ensures { Gives (λ x. (shown.table_list x.0, token_list x.1.now)) result (read.at_depth self.now.depth read.from (token_list ts.now)) }
     {
         match first(ts) {

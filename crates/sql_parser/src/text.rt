@@ -7,64 +7,60 @@ ghost use Rattle.sql_ast.specs.Syntax as s;
 ghost use Rattle.sql_parser.specs.Read as read;
 ghost use Rattle.sql_parser.specs.ReadText as text;
 ghost use Rattle.sql_parser.specs.ReadText.{query_tree};
+ghost use Rattle.sql_parser.specs.Trees as trees;
+ghost use Rattle.sql_parser.specs.Trees.{seen};
 ghost use Rattle.sql_parser.specs.Words.{Gives};
 ghost use Rattle.sql_parser.specs.declared.refusal.ParseRefusal.TheVariants.{OverLimit, Syntax};
 ghost use Rattle.sql_text.specs.Depth.{too_deep};
 ghost use Rattle.sql_text.specs.Tokens.{token_list};
 
 use crate::grammar::Grammar;
+use crate::nested::{Nonterminal, Tree};
 use crate::refusal::ParseRefusal;
 use crate::word::{after_comma, first};
-use sql_ast::{Cond, Direction, Expr, Query, QueryText, Sort, SortKey, TableRef};
+use sql_ast::{Direction, Query, QueryText, Sort, SortKey};
 use sql_text::{Key, Spanned, Token, too_deep};
 use sqlite_items::Items;
 use std::alloc::Global;
 
-#[cycle(knot)]
-fn expr<'a>(
+// What is read of a kind, with brackets and CASE nested less deep than the number.
+fn nested<'a>(
     alloc: Global,
     depth: u8,
+    kind: Nonterminal,
     ts: &'a [Spanned],
-) -> Result<(Box<Expr>, &'a [Spanned]), ParseRefusal>
-    ensures { Gives (λ x. (shown.expr x.0.value, token_list x.1.now)) result (read.expr depth (token_list ts.now)) }
+) -> Result<(Tree, &'a [Spanned]), ParseRefusal>
+    ensures { Gives (λ x. (seen x.0, token_list x.1.now)) result (trees.nested kind depth (token_list ts.now)) }
 {
     if depth == 0 {
         return Err(ParseRefusal::Syntax);
     }
-    Grammar {
+    let grammar = Grammar {
         alloc,
         depth: depth - 1,
-        expr,
-        cond,
-        query,
-        table,
+        nested,
+    };
+    match kind {
+        Nonterminal::Expr => {
+            let (tree, rest) = grammar.sum(ts)?;
+            Ok((Tree::Expr(tree), rest))
+        }
+        Nonterminal::Cond => {
+            let (tree, rest) = grammar.disj(ts)?;
+            Ok((Tree::Cond(tree), rest))
+        }
+        Nonterminal::Query => {
+            let (tree, rest) = grammar.combined(ts)?;
+            Ok((Tree::Query(tree), rest))
+        }
+        Nonterminal::Table => {
+            let (tree, rest) = grammar.tref(ts)?;
+            Ok((Tree::Table(tree), rest))
+        }
     }
-    .sum(ts)
 }
 
-#[cycle(knot)]
-fn cond<'a>(
-    alloc: Global,
-    depth: u8,
-    ts: &'a [Spanned],
-) -> Result<(Box<Cond>, &'a [Spanned]), ParseRefusal>
-    ensures { Gives (λ x. (shown.cond x.0.value, token_list x.1.now)) result (read.cond depth (token_list ts.now)) }
-{
-    if depth == 0 {
-        return Err(ParseRefusal::Syntax);
-    }
-    Grammar {
-        alloc,
-        depth: depth - 1,
-        expr,
-        cond,
-        query,
-        table,
-    }
-    .disj(ts)
-}
-
-#[cycle(knot)]
+/// A query, with brackets and CASE nested less deep than the number.
 pub(crate) fn query<'a>(
     alloc: Global,
     depth: u8,
@@ -78,34 +74,9 @@ pub(crate) fn query<'a>(
     Grammar {
         alloc,
         depth: depth - 1,
-        expr,
-        cond,
-        query,
-        table,
+        nested,
     }
     .combined(ts)
-}
-
-#[cycle(knot)]
-fn table<'a>(
-    alloc: Global,
-    depth: u8,
-    ts: &'a [Spanned],
-) -> Result<(Box<TableRef>, &'a [Spanned]), ParseRefusal>
-    ensures { Gives (λ x. (shown.table x.0.value, token_list x.1.now)) result (read.table depth (token_list ts.now)) }
-{
-    if depth == 0 {
-        return Err(ParseRefusal::Syntax);
-    }
-    Grammar {
-        alloc,
-        depth: depth - 1,
-        expr,
-        cond,
-        query,
-        table,
-    }
-    .tref(ts)
 }
 
 /// `[ ASC | DESC ]`
