@@ -3,7 +3,6 @@ pub mod Folding
 pub mod Grouped
 pub mod Lists
 pub mod Onning
-pub mod Splitting
 pub mod Stacked
 pub mod Steps
 pub mod Wholes

@@ -5,5 +5,4 @@ pub mod Setting
 pub mod SoFar
 pub mod Making
 pub mod Site
-pub mod Splits
 pub mod Folds

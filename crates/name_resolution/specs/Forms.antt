@@ -1,5 +1,6 @@
 -- Forms of which chains are made.
 use Rattle.std.specs.Prelude.{Bool, true, false}
+pub use Rattle.sql_meaning.specs.Chains.{sums, multiplies}
 use Rattle.sql_meaning.specs.ResolvedTrees as q
 use Rattle.sql_ast.specs.Syntax as s
 
@@ -22,16 +23,6 @@ is_disjunction _ = false
 abbrev pub is_conjunction : s.Cond → Bool
 is_conjunction (s.both p q) = true
 is_conjunction _ = false
-
--- a chain of "+", "-" or "||"
-abbrev pub sums : q.Value → Bool
-sums (q.sum x xs) = true
-sums _ = false
-
--- a chain of "*" or "/"
-abbrev pub multiplies : q.Value → Bool
-multiplies (q.product x xs) = true
-multiplies _ = false
 
 -- a chain of AND
 abbrev pub wants_all : q.Test → Bool

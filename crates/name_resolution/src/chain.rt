@@ -71,9 +71,7 @@ fn longer_sum(
     requires { forms.sums (shown.value left.value) ≡ true }
     ensures { IfOk result (λ v. shown.value v.value ≡ spec.plus (shown.value left.value) op (shown.value right.value)) }
 {
-    let Value::Sum(first, mut addends) = Box::into_inner(left) else {
-        unreachable!()
-    };
+    let (first, mut addends) = Box::into_inner(left).into_sum();
     push_addend(&mut addends, op, right)?;
     boxed(alloc, Value::Sum(first, addends))
 }
@@ -168,9 +166,7 @@ fn longer_product(
     requires { forms.multiplies (shown.value left.value) ≡ true }
     ensures { IfOk result (λ v. shown.value v.value ≡ spec.times (shown.value left.value) op (shown.value right.value)) }
 {
-    let Value::Product(first, mut multipliers) = Box::into_inner(left) else {
-        unreachable!()
-    };
+    let (first, mut multipliers) = Box::into_inner(left).into_product();
     push_multiplier(&mut multipliers, op, right)?;
     boxed(alloc, Value::Product(first, multipliers))
 }

@@ -12,6 +12,7 @@ use Rattle.sql_value.specs.declared.order_key.SqlType.{SqlType}
 use Rattle.sql_value.specs.declared.order_key.SqlType.TheVariants.{Integer, Varchar}
 use Rattle.sql_meaning.specs.ResolvedTrees.{Value, Addends, Multipliers, Values, Arms, Choices, Test, Tests}
 use Rattle.sql_meaning.specs.ResolvedTrees as q
+pub use Rattle.qgm_terms.specs.Split.{split}
 use Rattle.qgm_terms.specs.Terms.{Term, Cond}
 use Rattle.qgm_terms.specs.Terms as t
 use Rattle.qgm_terms.specs.declared.tree.Op.{Op}
@@ -183,14 +184,3 @@ module _ (sources : Sources) (fr : Frame) (m : Map) where
   abbrev pub terms : Slots → Values → List Term
   terms s q.no_value = []
   terms s (q.one_value x xs) = term s x ∷ terms (after (leaves fr x) s) xs
-
--- split at each AND that isn't under OR and NOT; where nothing is asked, no condition stands
-abbrev pub split : Cond → List Cond
-split t.always = []
-split (t.and p q) = split p ++ split q
-split (t.compare sign x y) = t.compare sign x y ∷ []
-split (t.is_null x) = t.is_null x ∷ []
-split (t.or p q) = t.or p q ∷ []
-split (t.not p) = t.not p ∷ []
-split (t.some q p) = t.some q p ∷ []
-split (t.every q p) = t.every q p ∷ []

@@ -8,3 +8,4 @@ pub mod Shifted
 pub mod Substituted
 pub mod Levels
 pub mod Most
+pub mod Splitting

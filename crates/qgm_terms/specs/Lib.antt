@@ -4,6 +4,7 @@ pub mod Named
 pub mod Shown
 pub mod TermCodes
 pub mod Conjuncts
+pub mod Split
 pub mod Wanted
 pub mod Shift
 pub mod Rebuilt

@@ -22,13 +22,13 @@ fn one_link(alloc: Global, op: Op, right: Gx) -> Result<Vec<Link>, OutOfMemory>
 pub fn chained(alloc: Global, total: Gx, op: Op, next: Gx) -> Result<Gx, OutOfMemory>
     ensures { IfOk result (λ x. term x ≡ t.both op (term total) (term next)) }
 {
-    match total {
-        Gx::Chain(first, list) => {
+    match total.into_chain() {
+        Ok((first, list)) => {
             let mut list = list;
             list.push(Link { op, right: next })?;
             Ok(Gx::Chain(first, list))
         }
-        first => {
+        Err(first) => {
             let list = one_link(alloc, op, next)?;
             Ok(Gx::Chain(Box::new(alloc, first)?, list))
         }
@@ -49,13 +49,13 @@ fn one_cond(alloc: Global, p: Gc) -> Result<Vec<Gc>, OutOfMemory>
 pub fn anded(alloc: Global, total: Gc, next: Gc) -> Result<Gc, OutOfMemory>
     ensures { IfOk result (λ p. cond p ≡ t.and (cond total) (cond next)) }
 {
-    match total {
-        Gc::All(first, list) => {
+    match total.into_all() {
+        Ok((first, list)) => {
             let mut list = list;
             list.push(next)?;
             Ok(Gc::All(first, list))
         }
-        first => {
+        Err(first) => {
             let list = one_cond(alloc, next)?;
             Ok(Gc::All(Box::new(alloc, first)?, list))
         }
@@ -67,13 +67,13 @@ pub fn anded(alloc: Global, total: Gc, next: Gc) -> Result<Gc, OutOfMemory>
 pub fn ored(alloc: Global, total: Gc, next: Gc) -> Result<Gc, OutOfMemory>
     ensures { IfOk result (λ p. cond p ≡ t.or (cond total) (cond next)) }
 {
-    match total {
-        Gc::Any(first, list) => {
+    match total.into_any() {
+        Ok((first, list)) => {
             let mut list = list;
             list.push(next)?;
             Ok(Gc::Any(first, list))
         }
-        first => {
+        Err(first) => {
             let list = one_cond(alloc, next)?;
             Ok(Gc::Any(Box::new(alloc, first)?, list))
         }

@@ -1,6 +1,10 @@
 // Expressions and conditions of boxes.
+ghost use Rattle.std.specs.Prelude.{◌≡◌, IfErr, IfOk};
+
 use crate::named::QuantId;
 use shared_types::Text;
+
+mod split;
 
 /// How many levels of brackets and CASE within one another an expression or a condition may have. The
 /// operands of a chain and the arms of a CASE are one level, however many they are.
@@ -18,7 +22,6 @@ pub enum Op {
 
 /// An expression: what a cell is made of. Contracts see it as the `Term` that it holds.
 #[cycle(gx)]
-#[derive(Drop)]
 pub enum Gx {
     Int(i64),
     Text(Text),
@@ -66,7 +69,6 @@ pub struct Arm {
 
 /// A condition. Contracts see it as the `Cond` that it holds.
 #[cycle(gx)]
-#[derive(Drop)]
 pub enum Gc {
     True,
     Eq(Box<Gx>, Box<Gx>),
@@ -88,4 +90,97 @@ pub enum Gc {
     Some(QuantId, Box<Gc>),
     /// For each row of an A quantifier.
     Every(QuantId, Box<Gc>),
+}
+
+impl Drop for Gx {
+    #[cycle(drop_tree)]
+    fn drop(self) {
+        match self {
+            Gx::Int(_)
+            | Gx::Text(_)
+            | Gx::NullInt
+            | Gx::NullText
+            | Gx::Col(_, _)
+            | Gx::Scalar(_)
+            | Gx::Chain(_, _)
+            | Gx::Neg(_)
+            | Gx::Case(_, _)
+            | Gx::CountAll
+            | Gx::Single(_)
+            | Gx::Count(_)
+            | Gx::Sum(_)
+            | Gx::Avg(_)
+            | Gx::Min(_)
+            | Gx::Max(_)
+            | Gx::CountDistinct(_)
+            | Gx::SumDistinct(_)
+            | Gx::AvgDistinct(_)
+            | Gx::MinDistinct(_)
+            | Gx::MaxDistinct(_) => {}
+        }
+    }
+}
+
+impl Drop for Gc {
+    #[cycle(drop_tree)]
+    fn drop(self) {
+        match self {
+            Gc::True
+            | Gc::Eq(_, _)
+            | Gc::Ne(_, _)
+            | Gc::Lt(_, _)
+            | Gc::Le(_, _)
+            | Gc::Gt(_, _)
+            | Gc::Ge(_, _)
+            | Gc::Same(_, _)
+            | Gc::Like(_, _)
+            | Gc::IsNull(_)
+            | Gc::All(_, _)
+            | Gc::Any(_, _)
+            | Gc::Not(_)
+            | Gc::Some(_, _)
+            | Gc::Every(_, _) => {}
+        }
+    }
+}
+
+impl Gx {
+    ghost use Rattle.qgm_terms.specs.declared.tree.Gx.TheVariants as gx;
+
+    // The first operand and the links of a chain, or else the expression as it is.
+    pub(crate) fn into_chain(self) -> Result<(Box<Gx>, Vec<Link>), Gx>
+        ensures chain { IfOk result (λ p. self ≡ gx.Chain p.0 p.1) }
+        ensures other { IfErr result (λ x. self ≡ x) }
+    {
+        match self {
+            Gx::Chain(first, list) => Ok((first, list)),
+            other => Err(other),
+        }
+    }
+}
+
+impl Gc {
+    ghost use Rattle.qgm_terms.specs.declared.tree.Gc.TheVariants as gc;
+
+    // The first condition and the others of an AND, or else the condition as it is.
+    pub(crate) fn into_all(self) -> Result<(Box<Gc>, Vec<Gc>), Gc>
+        ensures all { IfOk result (λ p. self ≡ gc.All p.0 p.1) }
+        ensures other { IfErr result (λ p. self ≡ p) }
+    {
+        match self {
+            Gc::All(first, list) => Ok((first, list)),
+            other => Err(other),
+        }
+    }
+
+    // The first condition and the others of an OR, or else the condition as it is.
+    pub(crate) fn into_any(self) -> Result<(Box<Gc>, Vec<Gc>), Gc>
+        ensures any { IfOk result (λ p. self ≡ gc.Any p.0 p.1) }
+        ensures other { IfErr result (λ p. self ≡ p) }
+    {
+        match self {
+            Gc::Any(first, list) => Ok((first, list)),
+            other => Err(other),
+        }
+    }
 }

@@ -18,7 +18,6 @@ use sqlite_items::Items;
 /// factor = [ "+" | "-" ] prim
 /// ```
 #[cycle(ast)]
-#[derive(Drop)]
 pub enum Expr {
     /// `expr ( "+" | "-" | "||" ) term`
     Add(Box<Expr>, AdditiveOp, Box<Expr>),
@@ -93,7 +92,6 @@ pub enum Otherwise {
 /// neg  = [ NOT ] ( pred | "(" cond ")" )
 /// ```
 #[cycle(ast)]
-#[derive(Drop)]
 pub enum Cond {
     /// `cond OR conj`
     Or(Box<Cond>, Box<Cond>),
@@ -154,7 +152,6 @@ pub enum SelectList {
 ///       | "(" tprim join { join } ")"
 /// ```
 #[cycle(ast)]
-#[derive(Drop)]
 pub enum TableRef {
     /// `tref [ INNER ] JOIN tprim ON cond`: whether `INNER` is written
     Join(Box<TableRef>, bool, Box<TableRef>, Box<Cond>),
@@ -193,7 +190,6 @@ pub struct Block {
 /// qprim = block | sub
 /// ```
 #[cycle(ast)]
-#[derive(Drop)]
 pub enum Query {
     /// `query ( UNION | EXCEPT ) [ ALL ] qterm`
     Combine(Box<Query>, SetOperator, bool, Box<Query>),
@@ -203,4 +199,73 @@ pub enum Query {
     Block(Box<Block>),
     /// `sub`
     Enclosed(Box<Query>),
+}
+
+impl Drop for Expr {
+    #[cycle(drop_tree)]
+    fn drop(self) {
+        match self {
+            Expr::Searched(list, _) => drop(list),
+            Expr::Simple(_, list, _) => drop(list),
+            Expr::Coalesce(_, list) => drop(list),
+            Expr::Add(_, _, _)
+            | Expr::Multiply(_, _, _)
+            | Expr::Signed(_, _)
+            | Expr::Number(_)
+            | Expr::Str(_)
+            | Expr::Column(_)
+            | Expr::Paren(_)
+            | Expr::Scalar(_)
+            | Expr::CountAll
+            | Expr::Aggregate(_, _, _)
+            | Expr::NullIf(_, _)
+            | Expr::CastNull(_) => {}
+        }
+    }
+}
+
+impl Drop for Cond {
+    #[cycle(drop_tree)]
+    fn drop(self) {
+        match self {
+            Cond::InList(_, _, list) => drop(list),
+            Cond::Or(_, _)
+            | Cond::And(_, _)
+            | Cond::Not(_)
+            | Cond::Bracket(_)
+            | Cond::Compare(_, _, _)
+            | Cond::Quantified(_, _, _, _)
+            | Cond::Between(_, _, _, _)
+            | Cond::InQuery(_, _, _)
+            | Cond::Like(_, _, _)
+            | Cond::IsNull(_, _)
+            | Cond::Exists(_) => {}
+        }
+    }
+}
+
+impl Drop for TableRef {
+    #[cycle(drop_tree)]
+    fn drop(self) {
+        match self {
+            TableRef::Join(_, _, _, _)
+            | TableRef::LeftJoin(_, _, _, _)
+            | TableRef::CrossJoin(_, _)
+            | TableRef::Named(_, _)
+            | TableRef::Derived(_, _)
+            | TableRef::Joined(_) => {}
+        }
+    }
+}
+
+impl Drop for Query {
+    #[cycle(drop_tree)]
+    fn drop(self) {
+        match self {
+            Query::Combine(_, _, _, _)
+            | Query::Intersect(_, _, _)
+            | Query::Block(_)
+            | Query::Enclosed(_) => {}
+        }
+    }
 }

@@ -14,3 +14,4 @@ pub mod ResolvedTrees
 pub mod ResolvedMeaning
 pub mod ResolvedViews
 pub mod ResolvedShown
+pub mod Chains

@@ -1,4 +1,7 @@
 // Queries whose names are resolved. They stand without parentheses and noise words.
+ghost use Rattle.std.specs.Prelude.{◌≡◌, true};
+ghost use Rattle.sql_meaning.specs.Chains as chains;
+
 use shared_types::CmpOp;
 use sql_ast::{AdditiveOp, MultiplicativeOp, Quantifier, SetFunction, SetOperator};
 use sql_text::Name;
@@ -7,7 +10,6 @@ use sqlite_items::Items;
 
 /// An expression (SQL-92, 6.11 to 6.14, 6.5 and 6.9).
 #[cycle(checked)]
-#[derive(Drop)]
 pub enum Value {
     Number(i64),
     Text(Text),
@@ -72,7 +74,6 @@ pub struct Choice {
 
 /// A condition (SQL-92, 8.2 to 8.8 and 8.12).
 #[cycle(checked)]
-#[derive(Drop)]
 pub enum Test {
     /// The AND of these, true where there is none.
     All(Items<Test>),
@@ -97,7 +98,6 @@ pub enum Test {
 /// A table of a FROM (SQL-92, 6.3 and 7.5). Its row is the cells of its tables, one after the
 /// other.
 #[cycle(checked)]
-#[derive(Drop)]
 pub enum From {
     /// A table or a view, by its name.
     Named(Name),
@@ -114,7 +114,6 @@ pub enum From {
 /// A query expression (SQL-92, 7.9 and 7.10). A first bool of a block is true where DISTINCT is
 /// written, the bool of an operation where ALL is written.
 #[cycle(checked)]
-#[derive(Drop)]
 pub enum Query {
     /// The output columns, FROM, and WHERE.
     Block(bool, Items<Value>, Items<From>, Box<Test>),
@@ -134,4 +133,104 @@ pub enum Query {
 pub struct View {
     pub name: Name,
     pub body: Query,
+}
+
+impl Drop for Value {
+    #[cycle(drop_resolved)]
+    fn drop(self) {
+        match self {
+            Value::Sum(_, list) => drop(list),
+            Value::Product(_, list) => drop(list),
+            Value::Searched(list, _) => drop(list),
+            Value::Simple(_, list, _) => drop(list),
+            Value::Coalesce(_, list) => drop(list),
+            Value::Number(_)
+            | Value::Text(_)
+            | Value::Null(_)
+            | Value::Column(_, _)
+            | Value::Negative(_)
+            | Value::NullIf(_, _)
+            | Value::Scalar(_)
+            | Value::CountAll
+            | Value::Aggregate(_, _, _) => {}
+        }
+    }
+}
+
+impl Drop for Test {
+    #[cycle(drop_resolved)]
+    fn drop(self) {
+        match self {
+            Test::All(list) => drop(list),
+            Test::Any(list) => drop(list),
+            Test::Among(_, list) => drop(list),
+            Test::Not(_)
+            | Test::Compare(_, _, _)
+            | Test::Quantified(_, _, _, _)
+            | Test::Between(_, _, _)
+            | Test::AmongRows(_, _)
+            | Test::Like(_, _)
+            | Test::IsNull(_)
+            | Test::Exists(_) => {}
+        }
+    }
+}
+
+impl Drop for From {
+    #[cycle(drop_resolved)]
+    fn drop(self) {
+        match self {
+            From::Named(_)
+            | From::Derived(_)
+            | From::Crossed(_, _)
+            | From::Joined(_, _, _)
+            | From::LeftJoined(_, _, _, _) => {}
+        }
+    }
+}
+
+impl Drop for Query {
+    #[cycle(drop_resolved)]
+    fn drop(self) {
+        match self {
+            Query::Block(_, values, tables, _) => {
+                drop(values);
+                drop(tables);
+            }
+            Query::Grouped(_, values, tables, _, _, _, _) => {
+                drop(values);
+                drop(tables);
+            }
+            Query::Combine(_, _, _, _, _) | Query::Intersect(_, _, _, _) => {}
+        }
+    }
+}
+
+impl Value {
+    ghost use Rattle.sql_meaning.specs.ResolvedShown as shown;
+    ghost use Rattle.sql_meaning.specs.ResolvedTrees as tree;
+
+    /// The first operand of a chain of `+`, `-` or `||`, and the operators with their right operands.
+    #[tactic(auto, using(crate::specs::ResolvedShown::lists))]
+    pub fn into_sum(self) -> (Box<Value>, Items<Addend>)
+        requires chain { chains.sums (shown.value self) ≡ true }
+        ensures { shown.value self ≡ tree.sum (shown.value result.0.value) (shown.addend_list result.1) }
+    {
+        let Value::Sum(first, addends) = self else {
+            unreachable!()
+        };
+        (first, addends)
+    }
+
+    /// The first operand of a chain of `*` or `/`, and the operators with their right operands.
+    #[tactic(auto, using(crate::specs::ResolvedShown::lists))]
+    pub fn into_product(self) -> (Box<Value>, Items<Multiplier>)
+        requires chain { chains.multiplies (shown.value self) ≡ true }
+        ensures { shown.value self ≡ tree.product (shown.value result.0.value) (shown.multiplier_list result.1) }
+    {
+        let Value::Product(first, multipliers) = self else {
+            unreachable!()
+        };
+        (first, multipliers)
+    }
 }

@@ -5,8 +5,9 @@ use Rattle.qgm_terms.specs.Shown.{cond}
 use Rattle.qgm_terms.specs.Terms.{anded}
 use Rattle.qgm_terms.proofs.chains.anded.Goals as goal
 
-pub returns-in_ok-push-in-All : goal.returns-in_ok-push-in-All
-returns-in_ok-push-in-All c =
-    ap (anded (cond c.in-All.first.value)) (conds_hidden _)
-    ∙ anded_more _ _ _ _ c.in_ok-push-in-All.ensures.items
-    ∙ (rw (c.in-All.is, conds_hidden c.in-All.list) refl)
+pub returns-in_ok-push-in-Ok : goal.returns-in_ok-push-in-Ok
+returns-in_ok-push-in-Ok c =
+    let e = rw c.in-Ok.is at c.into_all.ensures.all in
+    ap (anded (cond c.in-Ok.first.value)) (conds_hidden _)
+    ∙ anded_more _ _ _ _ c.in_ok-push-in-Ok.ensures.items
+    ∙ (rw (e, conds_hidden c.in-Ok.list) refl)

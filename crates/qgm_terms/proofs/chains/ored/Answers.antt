@@ -5,8 +5,9 @@ use Rattle.qgm_terms.specs.Shown.{cond}
 use Rattle.qgm_terms.specs.Terms.{ored}
 use Rattle.qgm_terms.proofs.chains.ored.Goals as goal
 
-pub returns-in_ok-push-in-Any : goal.returns-in_ok-push-in-Any
-returns-in_ok-push-in-Any c =
-    ap (ored (cond c.in-Any.first.value)) (conds_hidden _)
-    ∙ ored_more _ _ _ _ c.in_ok-push-in-Any.ensures.items
-    ∙ (rw (c.in-Any.is, conds_hidden c.in-Any.list) refl)
+pub returns-in_ok-push-in-Ok : goal.returns-in_ok-push-in-Ok
+returns-in_ok-push-in-Ok c =
+    let e = rw c.in-Ok.is at c.into_any.ensures.any in
+    ap (ored (cond c.in-Ok.first.value)) (conds_hidden _)
+    ∙ ored_more _ _ _ _ c.in_ok-push-in-Ok.ensures.items
+    ∙ (rw (e, conds_hidden c.in-Ok.list) refl)

@@ -3,8 +3,7 @@ use Rattle.std.proofs.Common.{◌≡◌, ◌<◌, length, arith, List, [], ◌�
 use Rattle.qgm_terms.specs.Shown.{cond, conds}
 use Rattle.qgm_terms.specs.Terms.{Cond, and, anded, or, ored}
 use Rattle.qgm_terms.specs.declared.tree.Gc.{Gc}
-use Rattle.qgm_shown.specs.Terms.{split}
-use Rattle.built_terms.specs.Splits.{splits}
+use Rattle.qgm_terms.specs.Split.{split, splits}
 
 pub split_anded : (p : Cond) (qs : List Cond) → split (anded p qs) ≡ split p ++ splits qs
 split_anded p [] = sym (append-nil (split p))
