@@ -1,5 +1,5 @@
 -- The expressions and the conditions of a block as those of a box: abbreviations are written out, and what one writes twice is asked for once.
-use Rattle.std.specs.Prelude.{ℕ, Bool, true, false, List, [], ◌∷◌, ◌++◌, get_or, if◌then◌else◌, Option, Some, None}
+use Rattle.std.specs.Prelude.{ℕ, Bool, true, false, List, [], ◌∷◌, get_or, if◌then◌else◌, Option, Some, None}
 use Rattle.shared_types.specs.declared.compare.CmpOp.{CmpOp}
 use Rattle.shared_types.specs.declared.compare.CmpOp.TheVariants.{Eq, Ne, Lt, Le, Gt, Ge}
 use Rattle.sql_ast.specs.declared.word.AdditiveOp.{AdditiveOp}
