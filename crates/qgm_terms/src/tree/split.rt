@@ -31,7 +31,7 @@ fn add_splits(out: &mut Conds, list: Vec<Gc>) -> Result<(), OutOfMemory>
 
 impl Gc {
     /// Adds the condition, split at each AND that isn't under OR and NOT. It fails where there is no
-    /// memory, or a part has more levels than `ROOM`; what was added before that part stays.
+    /// memory, or a part has more levels than `ROOM`; which parts were added then, no clause says.
     #[cycle(split)]
     pub fn split_into(self, out: &mut Conds) -> Result<(), OutOfMemory>
         ensures items { OnOk result (out.new.items ≡ out.old.items ++ split (cond self)) }
