@@ -34,8 +34,9 @@ fn find<F: Files>(alloc: Global, task: &Task, files: &mut F) -> Result<Found, In
     ensures failed { RoseIfFault result (F.faults files.old) (F.faults files.new) }
 {
     match task {
-        Task::Run { schema, query, dir } => find_question(alloc, schema, query, dir, files),
-        Task::Explain { schema, query, dir } => find_question(alloc, schema, query, dir, files),
+        Task::Run { schema, query, dir } | Task::Explain { schema, query, dir } => {
+            find_question(alloc, schema, query, dir, files)
+        }
         Task::Gen { seed, rows } => Ok(generated(alloc, *seed, *rows)?),
     }
 }

@@ -18,26 +18,14 @@ returns-in_err-generated-in-Gen-clause-comes g c = grind (arith, common_steps)
 pub returns-in-Run-clause-failed : goal.returns-in-Run-clause-failed
 returns-in-Run-clause-failed g c = grind (arith, common_steps)
 
-pub returns-in-Explain-clause-ready : goal.returns-in-Explain-clause-ready
-returns-in-Explain-clause-ready g c = grind (arith, common_steps)
-
 pub returns-in-Run-clause-line : goal.returns-in-Run-clause-line
 returns-in-Run-clause-line g c = grind (arith, common_steps)
-
-pub find_question-requires-in-Explain-text-dir : goal.find_question-requires-in-Explain-text-dir
-find_question-requires-in-Explain-text-dir g c = grind (arith, common_steps)
 
 pub find_question-requires-text-dir : goal.find_question-requires-text-dir
 find_question-requires-text-dir g c = grind (arith, common_steps)
 
-pub find_question-requires-in-Explain-text-schema : goal.find_question-requires-in-Explain-text-schema
-find_question-requires-in-Explain-text-schema g c = grind (arith, common_steps)
-
 pub find_question-requires-text-query : goal.find_question-requires-text-query
 find_question-requires-text-query g c = grind (arith, common_steps)
-
-pub find_question-requires-in-Explain-text-query : goal.find_question-requires-in-Explain-text-query
-find_question-requires-in-Explain-text-query g c = grind (arith, common_steps)
 
 pub find_question-requires-text-schema : goal.find_question-requires-text-schema
 find_question-requires-text-schema g c = grind (arith, common_steps)
@@ -51,26 +39,11 @@ returns-in_ok-generated-in-Gen-clause-line g c = grind (arith, common_steps)
 pub returns-in-Run-clause-ready : goal.returns-in-Run-clause-ready
 returns-in-Run-clause-ready g c = grind (arith, common_steps)
 
-pub returns-in-Explain-clause-later : goal.returns-in-Explain-clause-later
-returns-in-Explain-clause-later g c = grind (arith, common_steps)
-
-pub returns-in-Explain-clause-comes : goal.returns-in-Explain-clause-comes
-returns-in-Explain-clause-comes g c = grind (arith, common_steps)
-
-pub returns-in-Explain-clause-failed : goal.returns-in-Explain-clause-failed
-returns-in-Explain-clause-failed g c = grind (arith, common_steps)
-
 pub returns-in-Run-clause-unread : goal.returns-in-Run-clause-unread
 returns-in-Run-clause-unread g c = grind (arith, common_steps)
 
 pub returns-in_ok-generated-in-Gen-clause-unread : goal.returns-in_ok-generated-in-Gen-clause-unread
 returns-in_ok-generated-in-Gen-clause-unread g c = grind (arith, common_steps)
-
-pub returns-in-Explain-clause-line : goal.returns-in-Explain-clause-line
-returns-in-Explain-clause-line g c = grind (arith, common_steps)
-
-pub returns-in-Explain-clause-unread : goal.returns-in-Explain-clause-unread
-returns-in-Explain-clause-unread g c = grind (arith, common_steps)
 
 pub returns-in-Run-clause-comes : goal.returns-in-Run-clause-comes
 returns-in-Run-clause-comes g c = grind (arith, common_steps)
