@@ -1,7 +1,7 @@
 -- What the calls that settle and tell an answer give, where memory suffices.
-use Rattle.std.specs.Prelude.{IfOk}
+use Rattle.std.specs.Prelude.{IfOk, ◌≢◌}
 use Rattle.std.proofs.Common.{ℕ, ◌≡◌, ◌∙◌, List, Option, Some, None, Result, Ok, Err, arith, ap, inl, inr, refl, subst, sym, encode_utf8_all}
-use Rattle.command_line.specs.Line.{TaskText, explain, gen}
+use Rattle.command_line.specs.Line.{TaskText, explain, gen, run}
 use Rattle.generated_input.specs.Made.{depts}
 use Rattle.io_edge.specs.Outcome.{Outcome}
 use Rattle.io_edge.specs.Outside.{Ask, File, Told, written_after}
@@ -14,7 +14,7 @@ use Rattle.row_bag.specs.Sets.{same_cells}
 use Rattle.row_bag.specs.Verdict.{verdict}
 use Rattle.row_bag.specs.declared.row.Row.{Row}
 use Rattle.shared_types.specs.declared.memory.OutOfMemory.{OutOfMemory}
-use Rattle.sql_meaning.specs.Meaning.{Answer, answer_of}
+use Rattle.sql_meaning.specs.Meaning.{Answer, answer_error, answer_of, answer_rows}
 use Rattle.sql_value.specs.declared.cell.Cell.{Cell}
 use Rattle.sql_value.specs.declared.cell.Kind.{Kind}
 use Rattle.sql_value.specs.declared.order_key.OrderKey.{OrderKey}
@@ -27,7 +27,7 @@ use Rattle.qgm_app.specs.Outcome.{End}
 use Rattle.qgm_app.specs.Held.{held_answer}
 use Rattle.qgm_app.specs.Rewriting.{IsBuilt, IsExplanation, IsRun}
 use Rattle.qgm_app.specs.Runs.{ComesTo, IsSaid, Prepares}
-use Rattle.qgm_app.specs.Telling.{IsErrorReport, IsReported, TellsBy, report_behind, row_number, summary}
+use Rattle.qgm_app.specs.Telling.{IsErrorReport, IsReported, TellsBy, report_behind, report_of, row_number, summary}
 use Rattle.qgm_app.specs.declared.answers.Answered.{Answered}
 use Rattle.qgm_app.proofs.Asked.{is-run}
 
@@ -82,6 +82,36 @@ tells-summary (Ok report) t seed rows plan q answer firings before after task is
     tells-by t (gen seed rows) plan q report task
     (record { firings = firings; before = before; after = after; run = h; reported = is ∙ ap (λ (a : Answer). Rows (summary (depts rows) rows (row_number a) firings)) same })
 tells-summary (Err e) t seed rows plan q answer firings before after task is same h = tt
+
+pub tells-answer : (r : Result Report OutOfMemory) (t : TaskText) (schema query dir : List ℕ) (plan : Plan) (q : Question) (answer : Answer)
+    → t ≡ run schema query dir → IfOk r (λ report. report ≡ report_of answer) → answer ≡ answer_to q → IfOk r (λ report. TellsBy t plan q report)
+tells-answer (Ok report) t schema query dir plan q answer task is same = tells-by t (run schema query dir) plan q report task (is ∙ ap (λ (a : Answer). report_of a) same)
+tells-answer (Err e) t schema query dir plan q answer task is same = tt
+
+-- none of these says that the words are no command
+rows-are-none : (bytes : List ℕ) → Rows bytes ≢ Usage
+rows-are-none bytes = λ e. cc
+
+answer-is-none : (answer : Answer) → report_of answer ≢ Usage
+answer-is-none (answer_rows names rows) = rows-are-none _
+answer-is-none (answer_error kind) = λ e. cc
+
+explained-is-none : (told : List ℕ) (answer : Answer) → report_behind told answer ≢ Usage
+explained-is-none told (answer_rows names rows) = rows-are-none _
+explained-is-none told (answer_error kind) = λ e. cc
+
+isnt-usage : (r : Result Report OutOfMemory) (what : Report) → IfOk r (λ report. report ≡ what) → what ≢ Usage → IfOk r (λ report. report ≢ Usage)
+isnt-usage (Ok report) what is h = λ e. h (sym is ∙ e)
+isnt-usage (Err e) what is h = tt
+
+pub answer-isnt-usage : (r : Result Report OutOfMemory) (answer : Answer) → IfOk r (λ report. report ≡ report_of answer) → IfOk r (λ report. report ≢ Usage)
+answer-isnt-usage r answer is = isnt-usage r (report_of answer) is (answer-is-none answer)
+
+pub explained-isnt-usage : (r : Result Report OutOfMemory) (told : List ℕ) (answer : Answer) → IfOk r (λ report. report ≡ report_behind told answer) → IfOk r (λ report. report ≢ Usage)
+explained-isnt-usage r told answer is = isnt-usage r (report_behind told answer) is (explained-is-none told answer)
+
+pub rows-isnt-usage : (r : Result Report OutOfMemory) (bytes : List ℕ) → IfOk r (λ report. report ≡ Rows bytes) → IfOk r (λ report. report ≢ Usage)
+rows-isnt-usage r bytes is = isnt-usage r (Rows bytes) is (rows-are-none bytes)
 
 -- ---- errors
 

@@ -1,10 +1,10 @@
 use Rattle.std.proofs.lemmas.Grind.{common_steps}
-use Rattle.std.proofs.Common.{ap, arith}
+use Rattle.std.proofs.Common.{ap, arith, encode_utf8_all}
 use Rattle.command_line.specs.Line.{task_text}
 use Rattle.command_line.specs.declared.task.Task.{Task}
 use Rattle.command_input.specs.Questions.{question_of}
 use Rattle.qgm_app.specs.Held.{held_answer}
-use Rattle.qgm_app.proofs.Reported.{of-each, tells-explained, tells-summary}
+use Rattle.qgm_app.proofs.Reported.{answer-isnt-usage, explained-isnt-usage, of-each, rows-isnt-usage, tells-answer, tells-explained, tells-summary}
 use Rattle.qgm_app.proofs.telling.tell.Goals as goal
 
 pub returns-in_ok-answered-in-Run-clause-counts : goal.returns-in_ok-answered-in-Run-clause-counts
@@ -37,3 +37,20 @@ answer-requires-in-Gen g c = grind (arith, common_steps)
 
 pub explain-requires : goal.explain-requires
 explain-requires g c = grind (arith, common_steps)
+
+pub returns-in_ok-answered-in-Run-clause-tells : goal.returns-in_ok-answered-in-Run-clause-tells
+returns-in_ok-answered-in-Run-clause-tells g c =
+    let a = c.in_ok-answered-in-Run in
+    tells-answer c.tell_answer.result (task_text c.args.line.now.task) c.in-Run.schema.now c.in-Run.query.now c.in-Run.dir.now c.args.line.now.plan (question_of c.args.question) (held_answer a.answered)
+    (ap (λ (t : Task). task_text t) c.in-Run.is) c.tell_answer.ensures a.ensures.answer
+
+pub returns-in_ok-answered-in-Run-clause-line : goal.returns-in_ok-answered-in-Run-clause-line
+returns-in_ok-answered-in-Run-clause-line g c = answer-isnt-usage c.tell_answer.result (held_answer c.in_ok-answered-in-Run.answered) c.tell_answer.ensures
+
+pub returns-in_ok-explained-in-Explain-clause-line : goal.returns-in_ok-explained-in-Explain-clause-line
+returns-in_ok-explained-in-Explain-clause-line g c =
+    let e = c.in_ok-explained-in-Explain.explained in
+    explained-isnt-usage c.tell_explained.result (encode_utf8_all e.text) (held_answer e.answered) c.tell_explained.ensures
+
+pub returns-in_ok-answered-in-Gen-clause-line : goal.returns-in_ok-answered-in-Gen-clause-line
+returns-in_ok-answered-in-Gen-clause-line g c = rows-isnt-usage c.tell_summary.result _ c.tell_summary.ensures

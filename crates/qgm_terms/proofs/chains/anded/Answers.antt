@@ -2,7 +2,7 @@ use Rattle.std.proofs.Common.{◌∙◌, ap, refl}
 use Rattle.qgm_terms.proofs.Pushed.{anded_more}
 use Rattle.qgm_terms.proofs.Lists.{conds_hidden}
 use Rattle.qgm_terms.specs.Shown.{cond}
-use Rattle.qgm_terms.specs.Terms.{anded}
+use Rattle.qgm_terms.specs.Terms.{and, anded}
 use Rattle.qgm_terms.proofs.chains.anded.Goals as goal
 
 pub returns-in_ok-push-in-Ok : goal.returns-in_ok-push-in-Ok
@@ -11,3 +11,9 @@ returns-in_ok-push-in-Ok c =
     ap (anded (cond c.in-Ok.first.value)) (conds_hidden _)
     ∙ anded_more _ _ _ _ c.in_ok-push-in-Ok.ensures.items
     ∙ (rw (e, conds_hidden c.in-Ok.list) refl)
+
+pub returns-in_ok-new-in-Err : goal.returns-in_ok-new-in-Err
+returns-in_ok-new-in-Err c =
+    let e = rw c.in-Err.is at c.into_all.ensures.other in
+    ap (anded (cond c.in_ok-new-in-Err.field-0.value)) (conds_hidden c.in_ok-list-in-Err.list)
+    ∙ (rw (c.in_ok-list-in-Err.ensures, e) (ap (λ x. and (cond x) (cond c.args.next)) c.in_ok-new-in-Err.ensures.ok))
