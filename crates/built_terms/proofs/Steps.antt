@@ -1,6 +1,6 @@
 -- A turn of a loop over a list, whose parts take slots in turn.
 use Rattle.std.proofs.Common.{◌≡◌, ◌<◌, ◌+◌, ℕ, List, [], ◌∷◌, ◌++◌, length, drop, get_or, map, Option, Result, Ok, Err, refl, ap, ap₂, sym, ◌∙◌, append_assoc}
-use Rattle.std.specs.Result.{OnOk}
+use Rattle.std.specs.Prelude.{IfOk, IsOkAnd, OnOk}
 use Rattle.std.proofs.lemmas.List.{drop_more}
 use Rattle.sql_meaning.specs.ResolvedTrees.{Value, Arms, Choices, Test}
 use Rattle.sql_meaning.specs.ResolvedTrees as tree
@@ -56,6 +56,21 @@ from_one f {xs} {ws} {x} {ys} {zs} h e g = h ∙ ap (λ z. map f z ++ zs) e ∙ 
 pub on_ok : {T E P : Type 0} (r : Result T E) → P → OnOk r P
 on_ok (Ok x) p = p
 on_ok (Err e) p = tt
+
+-- a part that is there, by two things that hold of it
+pub is_there : {X E : Type 0} (part : Result X E) (P A B : X → Type 0) (T : Type 0) → IsOkAnd part P → IfOk part A → IfOk part B → ((x : X) → P x → A x → B x → T) → T
+is_there (Ok x) P A B T h a b f = f x h a b
+is_there (Err e) P A B T h a b f = absurd h
+
+-- what is left after a part that is there
+pub slots_left : {X Y E Q R T : Type 0} (r : Result Y E) (part : Result X E) (P : Y → X → Type 0) → IfOk r (λ y. IsOkAnd part (P y)) → OnOk part Q → OnOk r R → (Q → R → T) → OnOk r T
+slots_left (Ok y) (Ok x) P h q r f = f q r
+slots_left (Ok y) (Err e) P h q r f = absurd h
+slots_left (Err e) part P h q r f = tt
+
+pub still_there : {X E : Type 0} (part : Result X E) (P Q : X → Type 0) → ((x : X) → P x → Q x) → IsOkAnd part P → IsOkAnd part Q
+still_there (Ok x) P Q f h = f x h
+still_there (Err e) P Q f h = absurd h
 
 -- a condition with its result
 pub arm_read : (sources : Sources) (fr : Frame) (m : Map) (a b c : Slots) (p : Test) (x : Value) (xs : Arms) (q : Cond) (y : Option Term) → q ≡ cond sources fr m a p → b ≡ after (test_leaves fr p) a
