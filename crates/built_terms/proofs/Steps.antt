@@ -46,17 +46,6 @@ pub step_chain : {X T : Type 0} (C : Slots → T → List X → T) (xs : List X)
     → C a old (x ∷ drop (i + 1) xs) ≡ C b new (drop (i + 1) xs) → C a old (drop i xs) ≡ end → C b new (drop (i + 1) xs) ≡ end
 step_chain {X} C xs i x a b old new end low is e so_far = sym e ∙ ap (λ (ys : List X). C a old ys) (sym (next_there xs i x low is)) ∙ so_far
 
--- what is pushed to a list that was empty, or that had one item
-pub from_none : {A B : Type 0} (f : A → B) {xs : List A} {ys zs : List B} → ys ≡ map f xs ++ zs → xs ≡ [] → ys ≡ zs
-from_none f {xs} {ys} {zs} h e = h ∙ ap (λ z. map f z ++ zs) e
-
-pub from_one : {A B : Type 0} (f : A → B) {xs ws : List A} {x : A} {ys zs : List B} → ys ≡ map f xs ++ zs → xs ≡ ws ++ x ∷ [] → ws ≡ [] → ys ≡ f x ∷ zs
-from_one f {xs} {ws} {x} {ys} {zs} h e g = h ∙ ap (λ z. map f z ++ zs) e ∙ ap (λ z. map f (z ++ x ∷ []) ++ zs) g
-
-pub on_ok : {T E P : Type 0} (r : Result T E) → P → OnOk r P
-on_ok (Ok x) p = p
-on_ok (Err e) p = tt
-
 -- a part that is there, by two things that hold of it
 pub is_there : {X E : Type 0} (part : Result X E) (P A B : X → Type 0) (T : Type 0) → IsOkAnd part P → IfOk part A → IfOk part B → ((x : X) → P x → A x → B x → T) → T
 is_there (Ok x) P A B T h a b f = f x h a b

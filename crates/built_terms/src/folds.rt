@@ -95,8 +95,7 @@ fn arm_folds<'a>(list: &'a [Arm], out: &mut Vec<Fold<'a>>) -> Result<(), OutOfMe
     ensures { OnOk result (map leaf_of out.new.items ≡ map leaf_of out.old.items ++ folds_in (l.arm_leaves [] (shown.arm_list list.now))) }
 {
     for x in list {
-        test_folds(&x.when, out)?;
-        value_folds(&x.then, out)?;
+        test_folds(&x.when, out).and(value_folds(&x.then, out))?;
     }
     Ok(())
 }
@@ -107,8 +106,7 @@ fn choice_folds<'a>(list: &'a [Choice], out: &mut Vec<Fold<'a>>) -> Result<(), O
     ensures { OnOk result (map leaf_of out.new.items ≡ map leaf_of out.old.items ++ folds_in (l.choice_leaves [] (shown.choice_list list.now))) }
 {
     for x in list {
-        value_folds(&x.when, out)?;
-        value_folds(&x.then, out)?;
+        value_folds(&x.when, out).and(value_folds(&x.then, out))?;
     }
     Ok(())
 }
