@@ -51,6 +51,21 @@ pub is_there : {X E : Type 0} (part : Result X E) (P A B : X → Type 0) (T : Ty
 is_there (Ok x) P A B T h a b f = f x h a b
 is_there (Err e) P A B T h a b f = absurd h
 
+-- what is made of a part, which leaves these slots
+pub made_of_one : {X Z E A C : Type 0} (r : Result Z E) (part : Result X E) (of : Z → C) (f : X → A) (F : Slots → A → C) (s t : Slots) (a : A)
+    → IfOk r (λ z. IsOkAnd part (λ x. of z ≡ F s (f x))) → IfOk part (λ x. f x ≡ a) → OnOk part (s ≡ t) → IfOk r (λ z. of z ≡ F t a)
+made_of_one (Ok z) (Ok x) of f F s t a h e g = h ∙ ap₂ F g e
+made_of_one (Ok z) (Err d) of f F s t a h e g = absurd h
+made_of_one (Err d) part of f F s t a h e g = tt
+
+-- what is made of two, of which the first leaves these slots to the second
+pub made_of_two : {X Y Z E A B C : Type 0} (r : Result Z E) (left : Result X E) (right : Result Y E) (of : Z → C) (f : X → A) (g : Y → B) (F : A → B → C) (G : Slots → B) (s t : Slots) (a : A)
+    → IfOk r (λ z. IsOkAnd left (λ x. IsOkAnd right (λ y. of z ≡ F (f x) (g y)))) → IfOk left (λ x. f x ≡ a) → OnOk left (s ≡ t) → IfOk right (λ y. g y ≡ G s) → IfOk r (λ z. of z ≡ F a (G t))
+made_of_two (Ok z) (Ok x) (Ok y) of f g F G s t a h e i k = h ∙ ap₂ F e (k ∙ ap G i)
+made_of_two (Ok z) (Ok x) (Err d) of f g F G s t a h e i k = absurd h
+made_of_two (Ok z) (Err d) right of f g F G s t a h e i k = absurd h
+made_of_two (Err d) left right of f g F G s t a h e i k = tt
+
 -- what is left after a part that is there
 pub slots_left : {X Y E Q R T : Type 0} (r : Result Y E) (part : Result X E) (P : Y → X → Type 0) → IfOk r (λ y. IsOkAnd part (P y)) → OnOk part Q → OnOk r R → (Q → R → T) → OnOk r T
 slots_left (Ok y) (Ok x) P h q r f = f q r

@@ -7,4 +7,3 @@ returns-in_ok-frame-in-Crossed-clause-frame t c = grind (arith, common_steps)
 
 pub returns-in_ok-frame-in-Crossed-clause-past : goal.returns-in_ok-frame-in-Crossed-clause-past
 returns-in_ok-frame-in-Crossed-clause-past t c = grind (arith, common_steps)
-

@@ -7,20 +7,23 @@ use Rattle.sql_meaning.specs.declared.resolved.Choice.{Choice}
 use Rattle.sql_meaning.specs.declared.resolved.Multiplier.{Multiplier}
 use Rattle.sql_meaning.specs.declared.resolved.Test.{Test}
 use Rattle.sql_meaning.specs.declared.resolved.Value.{Value}
-use Rattle.qgm_terms.specs.Shown.{cond, term}
+use Rattle.std.specs.Global.{Box, Vec}
+use Rattle.qgm_terms.specs.Shown.{cond, term, terms}
 use Rattle.qgm_terms.specs.Terms as tree
+use Rattle.qgm_terms.specs.declared.tree.Gc.{Gc}
 use Rattle.qgm_terms.specs.declared.tree.Gx.{Gx}
+use Rattle.built_terms.specs.declared.parts.OpenArm.{OpenArm}
 use Rattle.qgm_terms.specs.Terms.{Cond, Term}
 use Rattle.qgm_shown.specs.Leaves as w
 use Rattle.qgm_shown.specs.Leaves.{Slots}
 use Rattle.qgm_shown.specs.Terms as t
-use Rattle.built_terms.specs.Opened.{open_choice}
+use Rattle.built_terms.specs.Opened.{open_choice, open_of, opened}
 use Rattle.built_terms.specs.Parts.{any_of, arms_in, choices_in, chosen, coalesced, conds_in, open_term}
 use Rattle.built_terms.specs.Setting.{frame_in, outer_in, shared_box, sources_in}
 use Rattle.built_terms.specs.Written.{slots_of}
 use Rattle.built_terms.proofs.Afters.{after_append}
 use Rattle.std.proofs.lemmas.Result.{IfOk-weaker}
-use Rattle.built_terms.proofs.Steps.{arm_read, choice_read, is_there, slots_left, step_both, still_there, step_chain, step_items, step_slots}
+use Rattle.built_terms.proofs.Steps.{arm_read, choice_read, is_there, made_of_one, made_of_two, slots_left, step_both, still_there, step_chain, step_items, step_slots}
 use Rattle.built_terms.proofs.Wholes.{coalesced_whole, equals_whole, every_whole, searched_whole, simple_whole, some_whole}
 use Rattle.built_terms.proofs.terms.+terms.Goals as goal
 
@@ -274,20 +277,20 @@ value-returns-in-Searched-clause-slots h c = grind (arith, shown.lists, after_ap
 pub value-returns-in-Searched-clause-term : goal.value-returns-in-Searched-clause-term
 value-returns-in-Searched-clause-term h c =
     rw (c.in-Searched.is, shown.arms_hidden c.in-Searched.list, searched_whole c.args.g.now.known.names.named.now (map shared_box c.args.g.now.known.shared.now) c.args.g.now.rows.now (frame_in c.args.g.now) (outer_in c.args.g.now) (slots_of c.args.s.now) (shown.arm_list c.in-Searched.list) (shown.value c.in-Searched.last.value), ← c.as_slice-in-Searched.ensures, ← c.deref-in-Searched.ensures)
-    (IfOk-weaker c.chosen.result _ _ (λ y h. is_there c.arms-list.result _ _ _ _ h c.arms-list.ensures.arms c.arms-list.ensures.slots (λ v h arms mid. is_there c.outcome-last.result _ _ _ _ h c.outcome-last.ensures.term c.outcome-last.ensures.term (λ z made last _.
-    made ∙ ap₂ (chosen c.args.g.now.rows.now) arms (last ∙ ap (λ (s : Slots). open_term (shown.value c.deref-in-Searched.result.now) (t.term (sources_in c.args.g.now) (frame_in c.args.g.now) (outer_in c.args.g.now) s (shown.value c.deref-in-Searched.result.now))) mid)))) c.chosen.ensures)
+    (made_of_two c.chosen.result c.arms-list.result c.outcome-last.result (λ (y : Box Gx). term y.value) (λ (v : Vec OpenArm). opened v.items) open_of (chosen c.args.g.now.rows.now) (λ (s : Slots). open_term (shown.value c.deref-in-Searched.result.now) (t.term (sources_in c.args.g.now) (frame_in c.args.g.now) (outer_in c.args.g.now) s (shown.value c.deref-in-Searched.result.now))) (slots_of c.arms-list.new.s) _ _ c.chosen.ensures c.arms-list.ensures.arms c.arms-list.ensures.slots c.outcome-last.ensures.term)
 
 pub value-returns-in-Simple-clause-term : goal.value-returns-in-Simple-clause-term
 value-returns-in-Simple-clause-term h c =
     rw (c.in-Simple.is, shown.choices_hidden c.in-Simple.list, simple_whole c.args.g.now.known.names.named.now (map shared_box c.args.g.now.known.shared.now) c.args.g.now.rows.now (frame_in c.args.g.now) (outer_in c.args.g.now) (slots_of c.args.s.now) (shown.value c.in-Simple.a.value) (shown.choice_list c.in-Simple.list) (shown.value c.in-Simple.last.value), ← c.as_slice-in-Simple.ensures, ← c.deref-in-Simple.ensures, ← c.deref-in-Simple-2.ensures)
-    (IfOk-weaker c.chosen-in-Simple.result _ _ (λ y h. is_there c.choices-list.result _ _ _ _ h c.choices-list.ensures.arms c.choices-list.ensures.slots (λ v h arms mid. is_there c.value-a.result _ _ _ _ arms c.value-a.ensures.term c.value-a.ensures.slots (λ a of_a is_a after_a. is_there c.outcome-last-in-Simple.result _ _ _ _ h c.outcome-last-in-Simple.ensures.term c.outcome-last-in-Simple.ensures.term (λ z made last _.
-    made ∙ ap₂ (chosen c.args.g.now.rows.now) (of_a ∙ ap₂ (λ (s : Slots) (x : Term). choices_in (sources_in c.args.g.now) (frame_in c.args.g.now) (outer_in c.args.g.now) s x (shown.choice_list c.as_slice-in-Simple.result.now)) after_a is_a)
-    (last ∙ ap (λ (s : Slots). open_term (shown.value c.deref-in-Simple-2.result.now) (t.term (sources_in c.args.g.now) (frame_in c.args.g.now) (outer_in c.args.g.now) s (shown.value c.deref-in-Simple-2.result.now))) (mid ∙ ap (w.after (w.choice_leaves (frame_in c.args.g.now) (shown.choice_list c.as_slice-in-Simple.result.now))) after_a)))))) c.chosen-in-Simple.ensures)
+    (made_of_two c.chosen-in-Simple.result c.choices-list.result c.outcome-last-in-Simple.result (λ (y : Box Gx). term y.value) (λ (v : Vec OpenArm). opened v.items) open_of (chosen c.args.g.now.rows.now) (λ (s : Slots). open_term (shown.value c.deref-in-Simple-2.result.now) (t.term (sources_in c.args.g.now) (frame_in c.args.g.now) (outer_in c.args.g.now) s (shown.value c.deref-in-Simple-2.result.now))) (slots_of c.choices-list.new.s) _ _ c.chosen-in-Simple.ensures
+    (made_of_one c.choices-list.result c.value-a.result (λ (v : Vec OpenArm). opened v.items) (λ (x : Box Gx). term x.value) (λ (s : Slots) (x : Term). choices_in (sources_in c.args.g.now) (frame_in c.args.g.now) (outer_in c.args.g.now) s x (shown.choice_list c.as_slice-in-Simple.result.now)) (slots_of c.value-a.new.s) _ _ c.choices-list.ensures.arms c.value-a.ensures.term c.value-a.ensures.slots)
+    (slots_left c.choices-list.result c.value-a.result _ c.choices-list.ensures.arms c.value-a.ensures.slots c.choices-list.ensures.slots (λ after_a next. next ∙ ap (w.after (w.choice_leaves (frame_in c.args.g.now) (shown.choice_list c.as_slice-in-Simple.result.now))) after_a))
+    c.outcome-last-in-Simple.ensures.term)
 
 pub value-returns-in-Sum-clause-term : goal.value-returns-in-Sum-clause-term
 value-returns-in-Sum-clause-term h c =
     rw (c.in-Sum.is, shown.addends_hidden c.in-Sum.list, ← c.as_slice.ensures, ← c.deref.ensures)
-    (IfOk-weaker c.sum.result _ _ (λ y h. is_there c.value-first.result _ _ _ _ h c.value-first.ensures.term c.value-first.ensures.slots (λ a made is_a after_a. made ∙ ap₂ (λ (s : Slots) (x : Term). t.summed (sources_in c.args.g.now) (frame_in c.args.g.now) (outer_in c.args.g.now) s x (shown.addend_list c.as_slice.result.now)) after_a is_a)) c.sum.ensures.term)
+    (made_of_one c.sum.result c.value-first.result (λ (y : Box Gx). term y.value) (λ (x : Box Gx). term x.value) (λ (s : Slots) (x : Term). t.summed (sources_in c.args.g.now) (frame_in c.args.g.now) (outer_in c.args.g.now) s x (shown.addend_list c.as_slice.result.now)) (slots_of c.value-first.new.s) _ _ c.sum.ensures.term c.value-first.ensures.term c.value-first.ensures.slots)
 
 pub value-returns-in-Sum-clause-slots : goal.value-returns-in-Sum-clause-slots
 value-returns-in-Sum-clause-slots h c =
@@ -297,7 +300,7 @@ value-returns-in-Sum-clause-slots h c =
 pub value-returns-in-Product-clause-term : goal.value-returns-in-Product-clause-term
 value-returns-in-Product-clause-term h c =
     rw (c.in-Product.is, shown.multipliers_hidden c.in-Product.list, ← c.as_slice-in-Product.ensures, ← c.deref-in-Product.ensures)
-    (IfOk-weaker c.product.result _ _ (λ y h. is_there c.value-first-in-Product.result _ _ _ _ h c.value-first-in-Product.ensures.term c.value-first-in-Product.ensures.slots (λ a made is_a after_a. made ∙ ap₂ (λ (s : Slots) (x : Term). t.multiplied (sources_in c.args.g.now) (frame_in c.args.g.now) (outer_in c.args.g.now) s x (shown.multiplier_list c.as_slice-in-Product.result.now)) after_a is_a)) c.product.ensures.term)
+    (made_of_one c.product.result c.value-first-in-Product.result (λ (y : Box Gx). term y.value) (λ (x : Box Gx). term x.value) (λ (s : Slots) (x : Term). t.multiplied (sources_in c.args.g.now) (frame_in c.args.g.now) (outer_in c.args.g.now) s x (shown.multiplier_list c.as_slice-in-Product.result.now)) (slots_of c.value-first-in-Product.new.s) _ _ c.product.ensures.term c.value-first-in-Product.ensures.term c.value-first-in-Product.ensures.slots)
 
 pub value-returns-in-Product-clause-slots : goal.value-returns-in-Product-clause-slots
 value-returns-in-Product-clause-slots h c =
@@ -307,8 +310,7 @@ value-returns-in-Product-clause-slots h c =
 pub test-returns-in-Among-clause-cond : goal.test-returns-in-Among-clause-cond
 test-returns-in-Among-clause-cond h c =
     rw (c.in-Among.is, shown.values_hidden c.in-Among.list, equals_whole (sources_in c.args.g.now) (frame_in c.args.g.now) (outer_in c.args.g.now) (w.after (w.leaves (frame_in c.args.g.now) (shown.value c.in-Among.a.value)) (slots_of c.args.s.now)) (t.term (sources_in c.args.g.now) (frame_in c.args.g.now) (outer_in c.args.g.now) (slots_of c.args.s.now) (shown.value c.in-Among.a.value)) (shown.value_list c.in-Among.list), ← c.as_slice-in-Among.ensures, ← c.deref-in-Among.ensures)
-    (IfOk-weaker c.equals_one.result _ _ (λ y h. is_there c.value-a-in-Among.result _ _ _ _ h c.value-a-in-Among.ensures.term c.value-a-in-Among.ensures.slots (λ a h is_a after_a. is_there c.listed-list.result _ _ _ _ h c.listed-list.ensures.terms c.listed-list.ensures.terms (λ v made is_list _.
-    made ∙ ap₂ (λ (x : Term) (xs : List Term). any_of (map (tree.compare tree.equal x) xs)) is_a (is_list ∙ ap (λ (s : Slots). t.terms (sources_in c.args.g.now) (frame_in c.args.g.now) (outer_in c.args.g.now) s (shown.value_list c.as_slice-in-Among.result.now)) after_a)))) c.equals_one.ensures)
+    (made_of_two c.equals_one.result c.value-a-in-Among.result c.listed-list.result (λ (y : Box Gc). cond y.value) (λ (x : Box Gx). term x.value) (λ (v : Vec Gx). terms v.items) (λ (x : Term) (xs : List Term). any_of (map (tree.compare tree.equal x) xs)) (λ (s : Slots). t.terms (sources_in c.args.g.now) (frame_in c.args.g.now) (outer_in c.args.g.now) s (shown.value_list c.as_slice-in-Among.result.now)) (slots_of c.value-a-in-Among.new.s) _ _ c.equals_one.ensures c.value-a-in-Among.ensures.term c.value-a-in-Among.ensures.slots c.listed-list.ensures.terms)
 
 pub test-returns-in-Among-clause-slots : goal.test-returns-in-Among-clause-slots
 test-returns-in-Among-clause-slots h c =
@@ -318,8 +320,7 @@ test-returns-in-Among-clause-slots h c =
 pub value-returns-in-Coalesce-clause-term : goal.value-returns-in-Coalesce-clause-term
 value-returns-in-Coalesce-clause-term h c =
     rw (c.in-Coalesce.is, shown.values_hidden c.in-Coalesce.list, coalesced_whole (sources_in c.args.g.now) (frame_in c.args.g.now) (outer_in c.args.g.now) (w.after (w.leaves (frame_in c.args.g.now) (shown.value c.in-Coalesce.a.value)) (slots_of c.args.s.now)) (t.term (sources_in c.args.g.now) (frame_in c.args.g.now) (outer_in c.args.g.now) (slots_of c.args.s.now) (shown.value c.in-Coalesce.a.value)) (shown.value_list c.in-Coalesce.list), ← c.as_slice-in-Coalesce.ensures, ← c.deref-in-Coalesce.ensures)
-    (IfOk-weaker c.coalesced.result _ _ (λ y h. is_there c.value-a-in-Coalesce.result _ _ _ _ h c.value-a-in-Coalesce.ensures.term c.value-a-in-Coalesce.ensures.slots (λ a h is_a after_a. is_there c.listed-others.result _ _ _ _ h c.listed-others.ensures.terms c.listed-others.ensures.terms (λ v made is_list _.
-    made ∙ ap₂ (λ (x : Term) (xs : List Term). coalesced (x ∷ xs)) is_a (is_list ∙ ap (λ (s : Slots). t.terms (sources_in c.args.g.now) (frame_in c.args.g.now) (outer_in c.args.g.now) s (shown.value_list c.as_slice-in-Coalesce.result.now)) after_a)))) c.coalesced.ensures)
+    (made_of_two c.coalesced.result c.value-a-in-Coalesce.result c.listed-others.result (λ (y : Box Gx). term y.value) (λ (x : Box Gx). term x.value) (λ (v : Vec Gx). terms v.items) (λ (x : Term) (xs : List Term). coalesced (x ∷ xs)) (λ (s : Slots). t.terms (sources_in c.args.g.now) (frame_in c.args.g.now) (outer_in c.args.g.now) s (shown.value_list c.as_slice-in-Coalesce.result.now)) (slots_of c.value-a-in-Coalesce.new.s) _ _ c.coalesced.ensures c.value-a-in-Coalesce.ensures.term c.value-a-in-Coalesce.ensures.slots c.listed-others.ensures.terms)
 
 pub value-returns-in-Coalesce-clause-slots : goal.value-returns-in-Coalesce-clause-slots
 value-returns-in-Coalesce-clause-slots h c =
@@ -331,3 +332,9 @@ value-returns-in-Simple-clause-slots h c =
     rw (c.in-Simple.is, shown.choices_hidden c.in-Simple.list, after_append (w.leaves (frame_in c.args.g.now) (shown.value c.in-Simple.a.value)) (w.choice_leaves (frame_in c.args.g.now) (shown.choice_list c.in-Simple.list) ++ w.leaves (frame_in c.args.g.now) (shown.value c.in-Simple.last.value)) (slots_of c.args.s.now), after_append (w.choice_leaves (frame_in c.args.g.now) (shown.choice_list c.in-Simple.list)) (w.leaves (frame_in c.args.g.now) (shown.value c.in-Simple.last.value)) (w.after (w.leaves (frame_in c.args.g.now) (shown.value c.in-Simple.a.value)) (slots_of c.args.s.now)), ← c.as_slice-in-Simple.ensures, ← c.deref-in-Simple.ensures, ← c.deref-in-Simple-2.ensures)
     (IfOk-weaker c.chosen-in-Simple.result _ _ (λ y h. is_there c.choices-list.result _ _ _ _ h c.choices-list.ensures.arms c.choices-list.ensures.slots (λ v h arms mid. is_there c.value-a.result _ _ _ _ arms c.value-a.ensures.slots c.value-a.ensures.slots (λ a _ _ after_a. is_there c.outcome-last-in-Simple.result _ _ _ _ h c.outcome-last-in-Simple.ensures.slots c.outcome-last-in-Simple.ensures.slots (λ z _ _ end.
     end ∙ ap (w.after (w.leaves (frame_in c.args.g.now) (shown.value c.deref-in-Simple-2.result.now))) (mid ∙ ap (w.after (w.choice_leaves (frame_in c.args.g.now) (shown.choice_list c.as_slice-in-Simple.result.now))) after_a))))) c.chosen-in-Simple.ensures)
+
+pub listed-returns-clause-terms : goal.listed-returns-clause-terms
+listed-returns-clause-terms t c = grind (arith, common_steps)
+
+pub listed-returns-clause-slots : goal.listed-returns-clause-slots
+listed-returns-clause-slots t c = grind (arith, common_steps)
