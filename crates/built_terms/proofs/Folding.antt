@@ -40,4 +40,10 @@ on_three (Ok x) (Ok y) (Err e) f p q r = tt
 on_three (Ok x) (Err e) d f p q r = tt
 on_three (Err e) b d f p q r = tt
 
+-- what holds of two results that were both Ok
+pub both_there : {T U E P Q R : Type 0} (a : Result T E) (b : Result U E) (r : Result U E) (y : U) → r ≡ result_and a b → r ≡ Ok y → OnOk a P → OnOk b Q → (P → Q → R) → R
+both_there (Ok x) (Ok z) r y e w p q f = f p q
+both_there (Ok x) (Err d) r y e w p q f = cc
+both_there (Err d) b r y e w p q f = cc
+
 pub ruleset folding = (folds_append, appended)

@@ -1,6 +1,6 @@
 -- A turn of a loop over a list, whose parts take slots in turn.
 use Rattle.std.proofs.Common.{◌≡◌, ◌<◌, ◌+◌, ℕ, List, [], ◌∷◌, ◌++◌, length, drop, get_or, map, Option, Result, Ok, Err, refl, ap, ap₂, sym, ◌∙◌, append_assoc}
-use Rattle.std.specs.Result.{OnOk}
+use Rattle.std.specs.Prelude.{IfOk, IsOkAnd, OnOk}
 use Rattle.std.proofs.lemmas.List.{drop_more}
 use Rattle.sql_meaning.specs.ResolvedTrees.{Value, Arms, Choices, Test}
 use Rattle.sql_meaning.specs.ResolvedTrees as tree
@@ -46,16 +46,35 @@ pub step_chain : {X T : Type 0} (C : Slots → T → List X → T) (xs : List X)
     → C a old (x ∷ drop (i + 1) xs) ≡ C b new (drop (i + 1) xs) → C a old (drop i xs) ≡ end → C b new (drop (i + 1) xs) ≡ end
 step_chain {X} C xs i x a b old new end low is e so_far = sym e ∙ ap (λ (ys : List X). C a old ys) (sym (next_there xs i x low is)) ∙ so_far
 
--- what is pushed to a list that was empty, or that had one item
-pub from_none : {A B : Type 0} (f : A → B) {xs : List A} {ys zs : List B} → ys ≡ map f xs ++ zs → xs ≡ [] → ys ≡ zs
-from_none f {xs} {ys} {zs} h e = h ∙ ap (λ z. map f z ++ zs) e
+-- a part that is there, by two things that hold of it
+pub is_there : {X E : Type 0} (part : Result X E) (P A B : X → Type 0) (T : Type 0) → IsOkAnd part P → IfOk part A → IfOk part B → ((x : X) → P x → A x → B x → T) → T
+is_there (Ok x) P A B T h a b f = f x h a b
+is_there (Err e) P A B T h a b f = absurd h
 
-pub from_one : {A B : Type 0} (f : A → B) {xs ws : List A} {x : A} {ys zs : List B} → ys ≡ map f xs ++ zs → xs ≡ ws ++ x ∷ [] → ws ≡ [] → ys ≡ f x ∷ zs
-from_one f {xs} {ws} {x} {ys} {zs} h e g = h ∙ ap (λ z. map f z ++ zs) e ∙ ap (λ z. map f (z ++ x ∷ []) ++ zs) g
+-- what is made of a part, which leaves these slots
+pub made_of_one : {X Z E A C : Type 0} (r : Result Z E) (part : Result X E) (of : Z → C) (f : X → A) (F : Slots → A → C) (s t : Slots) (a : A)
+    → IfOk r (λ z. IsOkAnd part (λ x. of z ≡ F s (f x))) → IfOk part (λ x. f x ≡ a) → OnOk part (s ≡ t) → IfOk r (λ z. of z ≡ F t a)
+made_of_one (Ok z) (Ok x) of f F s t a h e g = h ∙ ap₂ F g e
+made_of_one (Ok z) (Err d) of f F s t a h e g = absurd h
+made_of_one (Err d) part of f F s t a h e g = tt
 
-pub on_ok : {T E P : Type 0} (r : Result T E) → P → OnOk r P
-on_ok (Ok x) p = p
-on_ok (Err e) p = tt
+-- what is made of two, of which the first leaves these slots to the second
+pub made_of_two : {X Y Z E A B C : Type 0} (r : Result Z E) (left : Result X E) (right : Result Y E) (of : Z → C) (f : X → A) (g : Y → B) (F : A → B → C) (G : Slots → B) (s t : Slots) (a : A)
+    → IfOk r (λ z. IsOkAnd left (λ x. IsOkAnd right (λ y. of z ≡ F (f x) (g y)))) → IfOk left (λ x. f x ≡ a) → OnOk left (s ≡ t) → IfOk right (λ y. g y ≡ G s) → IfOk r (λ z. of z ≡ F a (G t))
+made_of_two (Ok z) (Ok x) (Ok y) of f g F G s t a h e i k = h ∙ ap₂ F e (k ∙ ap G i)
+made_of_two (Ok z) (Ok x) (Err d) of f g F G s t a h e i k = absurd h
+made_of_two (Ok z) (Err d) right of f g F G s t a h e i k = absurd h
+made_of_two (Err d) left right of f g F G s t a h e i k = tt
+
+-- what is left after a part that is there
+pub slots_left : {X Y E Q R T : Type 0} (r : Result Y E) (part : Result X E) (P : Y → X → Type 0) → IfOk r (λ y. IsOkAnd part (P y)) → OnOk part Q → OnOk r R → (Q → R → T) → OnOk r T
+slots_left (Ok y) (Ok x) P h q r f = f q r
+slots_left (Ok y) (Err e) P h q r f = absurd h
+slots_left (Err e) part P h q r f = tt
+
+pub still_there : {X E : Type 0} (part : Result X E) (P Q : X → Type 0) → ((x : X) → P x → Q x) → IsOkAnd part P → IsOkAnd part Q
+still_there (Ok x) P Q f h = f x h
+still_there (Err e) P Q f h = absurd h
 
 -- a condition with its result
 pub arm_read : (sources : Sources) (fr : Frame) (m : Map) (a b c : Slots) (p : Test) (x : Value) (xs : Arms) (q : Cond) (y : Option Term) → q ≡ cond sources fr m a p → b ≡ after (test_leaves fr p) a

@@ -1,6 +1,6 @@
 // Boxes of any parts, and lists that what they hold is added to. Where there is no memory, the part is
 // dropped.
-ghost use Rattle.std.specs.Prelude.{◌≡◌, [], ◌∷◌, ◌++◌, ◌<◌, IfOk, OnOk, length};
+ghost use Rattle.std.specs.Prelude.{◌≡◌, [], ◌∷◌, ◌++◌, ◌<◌, IfOk, IsOkAnd, Ok, OnOk, length};
 
 use shared_types::OutOfMemory;
 use std::alloc::Global;
@@ -10,6 +10,16 @@ pub(crate) fn boxed<T: Drop>(alloc: Global, part: T) -> Result<Box<T>, OutOfMemo
     ensures { IfOk result (λ b. b.value ≡ part) }
 {
     Ok(Box::new(alloc, part)?)
+}
+
+/// The same of a part that was made, where it could be made.
+pub(crate) fn boxed_made<T: Drop>(
+    alloc: Global,
+    part: Result<T, OutOfMemory>,
+) -> Result<Box<T>, OutOfMemory>
+    ensures { IfOk result (λ b. part ≡ Ok b.value) }
+{
+    boxed(alloc, part?)
 }
 
 /// Adds a part at the end.
@@ -25,6 +35,26 @@ pub fn push_boxed<T: Drop>(list: &mut Vec<T>, part: Box<T>) -> Result<(), OutOfM
     ensures { OnOk result (list.new.items ≡ list.old.items ++ part.value ∷ []) }
 {
     push(list, Box::into_inner(part))
+}
+
+/// The same of a box that was made, where it could be made.
+pub(crate) fn push_made<T: Drop>(
+    list: &mut Vec<T>,
+    part: Result<Box<T>, OutOfMemory>,
+) -> Result<(), OutOfMemory>
+    ensures { OnOk result (IsOkAnd part (λ b. list.new.items ≡ list.old.items ++ b.value ∷ [])) }
+{
+    push_boxed(list, part?)
+}
+
+/// Two parts, where both could be made.
+pub(crate) fn paired<A: Drop, B: Drop>(
+    a: Result<A, OutOfMemory>,
+    b: Result<B, OutOfMemory>,
+) -> Result<(A, B), OutOfMemory>
+    ensures { IfOk result (λ p. (a ≡ Ok p.0) × (b ≡ Ok p.1)) }
+{
+    Ok((a?, b?))
 }
 
 /// Takes the first of a list, in a box.

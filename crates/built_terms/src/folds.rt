@@ -5,6 +5,7 @@ ghost use Rattle.qgm_shown.specs.Leaves as l;
 ghost use Rattle.qgm_shown.specs.Folds.{folds_in};
 ghost use Rattle.built_terms.specs.Folds.{leaf_of};
 
+use crate::boxes::push;
 use shared_types::OutOfMemory;
 use sql_ast::SetFunction;
 use sql_meaning::{Addend, Arm, Choice, Multiplier, Test, Value};
@@ -21,8 +22,7 @@ pub enum Fold<'a> {
 fn push_fold<'a>(out: &mut Vec<Fold<'a>>, x: Fold<'a>) -> Result<(), OutOfMemory>
     ensures { OnOk result (map leaf_of out.new.items ≡ map leaf_of out.old.items ++ leaf_of x.entry ∷ []) }
 {
-    out.push(x)?;
-    Ok(())
+    push(out, x)
 }
 
 // Adds the aggregates of an expression.
@@ -95,8 +95,7 @@ fn arm_folds<'a>(list: &'a [Arm], out: &mut Vec<Fold<'a>>) -> Result<(), OutOfMe
     ensures { OnOk result (map leaf_of out.new.items ≡ map leaf_of out.old.items ++ folds_in (l.arm_leaves [] (shown.arm_list list.now))) }
 {
     for x in list {
-        test_folds(&x.when, out)?;
-        value_folds(&x.then, out)?;
+        test_folds(&x.when, out).and(value_folds(&x.then, out))?;
     }
     Ok(())
 }
@@ -107,8 +106,7 @@ fn choice_folds<'a>(list: &'a [Choice], out: &mut Vec<Fold<'a>>) -> Result<(), O
     ensures { OnOk result (map leaf_of out.new.items ≡ map leaf_of out.old.items ++ folds_in (l.choice_leaves [] (shown.choice_list list.now))) }
 {
     for x in list {
-        value_folds(&x.when, out)?;
-        value_folds(&x.then, out)?;
+        value_folds(&x.when, out).and(value_folds(&x.then, out))?;
     }
     Ok(())
 }

@@ -120,15 +120,13 @@ pub fn frame(
     ensures past { OnOk result (os.new.rest.now ≡ w.past (sources_at g.now) (shown.from x.now) os.old.rest.now) }
 {
     match x {
-        From::Named(name) => push_refs(out, next_id(os), columns_named(&g.known, name)),
-        From::Derived(query) => push_refs(out, next_id(os), width(query)),
+        From::Named(_) | From::Derived(_) | From::LeftJoined(_, _, _, _) => {
+            let n = from_width(g, x)?;
+            push_refs(out, next_id(os), n)
+        }
         From::Crossed(a, b) | From::Joined(a, b, _) => {
             frame(g, a, os, out)?;
             frame(g, b, os, out)
-        }
-        From::LeftJoined(_, _, _, _) => {
-            let n = from_width(g, x)?;
-            push_refs(out, next_id(os), n)
         }
     }
 }

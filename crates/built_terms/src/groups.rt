@@ -6,6 +6,7 @@ ghost use Rattle.qgm_shown.specs.Shown as w;
 ghost use Rattle.built_terms.specs.Folds.{leaf_of};
 ghost use Rattle.built_terms.specs.Written.{frame_of, ref_of};
 
+use crate::boxes::push;
 use crate::folds::Fold;
 use crate::seen::{Seen, push_seen};
 use qgm_core::{Gx, QuantId};
@@ -65,8 +66,7 @@ pub fn group_cells(
 fn push_term(out: &mut Vec<Gx>, x: Gx) -> Result<(), OutOfMemory>
     ensures { OnOk result (terms out.new.items ≡ terms out.old.items ++ term x ∷ []) }
 {
-    out.push(x)?;
-    Ok(())
+    push(out, x)
 }
 
 // An aggregate of a column, with DISTINCT where true stands.

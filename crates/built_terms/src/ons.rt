@@ -83,14 +83,10 @@ pub fn on_folds<'a>(x: &'a From, out: &mut Vec<Fold<'a>>) -> Result<(), OutOfMem
 {
     match x {
         From::Named(_) | From::Derived(_) | From::LeftJoined(_, _, _, _) => Ok(()),
-        From::Crossed(a, b) => {
-            on_folds(a, out)?;
-            on_folds(b, out)
-        }
+        From::Crossed(a, b) => on_folds(a, out).and(on_folds(b, out)),
         From::Joined(a, b, p) => {
-            on_folds(a, out)?;
-            on_folds(b, out)?;
-            test_folds(p, out)
+            let read = on_folds(a, out).and(on_folds(b, out));
+            read.and(test_folds(p, out))
         }
     }
 }

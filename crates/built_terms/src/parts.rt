@@ -10,7 +10,7 @@ ghost use Rattle.built_terms.specs.Opened.{open_choice, open_of, opened};
 ghost use Rattle.qgm_shown.specs.Typing.{typed_by};
 ghost use Rattle.built_terms.specs.Written.{ref_of};
 
-use crate::boxes::{boxed, push, push_boxed, take_first};
+use crate::boxes::{boxed, boxed_made, paired, push, push_made, take_first};
 use crate::seen::Seen;
 use crate::types::type_of;
 use qgm_terms::{Arm, Gc, Gx, Op, QuantId, ROOM, anded, chained, copy};
@@ -92,7 +92,17 @@ pub(crate) fn scalar(alloc: Global, q: QuantId) -> Result<Box<Gx>, OutOfMemory>
 fn copied(alloc: Global, x: &Gx) -> Result<Box<Gx>, OutOfMemory>
     ensures { IfOk result (λ y. term y.value ≡ term x.now) }
 {
-    boxed(alloc, copy(alloc, x, ROOM)?)
+    boxed_made(alloc, copy(alloc, x, ROOM))
+}
+
+// A copy of an expression that was made.
+fn again(alloc: Global, x: &Result<Box<Gx>, OutOfMemory>) -> Result<Box<Gx>, OutOfMemory>
+    ensures { IfOk result (λ y. IsOkAnd x.now (λ a. term y.value ≡ term a.value)) }
+{
+    match x {
+        Ok(x) => copied(alloc, x),
+        Err(_) => Err(OutOfMemory),
+    }
 }
 
 /// The operator of a sum.
@@ -119,15 +129,16 @@ pub(crate) fn multiplicative(op: MultiplicativeOp) -> Op
 /// `total op next`.
 pub(crate) fn longer(
     alloc: Global,
-    total: Box<Gx>,
+    total: Result<Box<Gx>, OutOfMemory>,
     op: Op,
-    next: Box<Gx>,
+    next: Result<Box<Gx>, OutOfMemory>,
 ) -> Result<Box<Gx>, OutOfMemory>
-    ensures { IfOk result (λ y. term y.value ≡ t.both op (term total.value) (term next.value)) }
+    ensures { IfOk result (λ y. IsOkAnd total (λ a. IsOkAnd next (λ b. term y.value ≡ t.both op (term a.value) (term b.value)))) }
 {
-    boxed(
+    let (total, next) = paired(total, next)?;
+    boxed_made(
         alloc,
-        chained(alloc, Box::into_inner(total), op, Box::into_inner(next))?,
+        chained(alloc, Box::into_inner(total), op, Box::into_inner(next)),
     )
 }
 
@@ -150,8 +161,7 @@ pub(crate) fn compare(
 ) -> Result<Box<Gc>, OutOfMemory>
     ensures { IfOk result (λ p. IsOkAnd x (λ a. IsOkAnd y (λ b. cond p.value ≡ t.compare (shown.sign op) (term a.value) (term b.value)))) }
 {
-    let x = x?;
-    let y = y?;
+    let (x, y) = paired(x, y)?;
     match op {
         CmpOp::Eq => boxed(alloc, Gc::Eq(x, y)),
         CmpOp::Ne => boxed(alloc, Gc::Ne(x, y)),
@@ -163,10 +173,14 @@ pub(crate) fn compare(
 }
 
 /// `x = y`, of copies of x and of a whole y.
-pub(crate) fn equal_copy(alloc: Global, x: &Gx, y: Box<Gx>) -> Result<Box<Gc>, OutOfMemory>
-    ensures { IfOk result (λ p. cond p.value ≡ t.compare t.equal (term x.now) (term y.value)) }
+pub(crate) fn equal_copy(
+    alloc: Global,
+    x: &Gx,
+    y: Result<Box<Gx>, OutOfMemory>,
+) -> Result<Box<Gc>, OutOfMemory>
+    ensures { IfOk result (λ p. IsOkAnd y (λ b. cond p.value ≡ t.compare t.equal (term x.now) (term b.value))) }
 {
-    compare(alloc, CmpOp::Eq, copied(alloc, x), Ok(y))
+    compare(alloc, CmpOp::Eq, copied(alloc, x), y)
 }
 
 /// `x LIKE y`.
@@ -177,7 +191,8 @@ pub(crate) fn like(
 ) -> Result<Box<Gc>, OutOfMemory>
     ensures { IfOk result (λ p. IsOkAnd x (λ a. IsOkAnd y (λ b. cond p.value ≡ t.compare t.like (term a.value) (term b.value)))) }
 {
-    boxed(alloc, Gc::Like(x?, y?))
+    let (x, y) = paired(x, y)?;
+    boxed(alloc, Gc::Like(x, y))
 }
 
 /// `x IS NULL`.
@@ -205,9 +220,8 @@ fn both_hold(
 ) -> Result<Box<Gc>, OutOfMemory>
     ensures { IfOk result (λ r. IsOkAnd p (λ a. IsOkAnd q (λ b. cond r.value ≡ t.and (cond a.value) (cond b.value)))) }
 {
-    let p = Box::into_inner(p?);
-    let q = Box::into_inner(q?);
-    boxed(alloc, anded(alloc, p, q)?)
+    let (p, q) = paired(p, q)?;
+    boxed_made(alloc, anded(alloc, Box::into_inner(p), Box::into_inner(q)))
 }
 
 /// `x BETWEEN y AND z`.
@@ -219,9 +233,8 @@ pub(crate) fn between(
 ) -> Result<Box<Gc>, OutOfMemory>
     ensures { IfOk result (λ p. IsOkAnd x (λ a. IsOkAnd y (λ b. IsOkAnd z (λ d. cond p.value ≡ t.and (t.compare t.at_least (term a.value) (term b.value)) (t.compare t.at_most (term a.value) (term d.value)))))) }
 {
-    let x = x?;
-    let again = copied(alloc, &x);
-    let low = compare(alloc, CmpOp::Ge, Ok(x), y);
+    let again = again(alloc, &x);
+    let low = compare(alloc, CmpOp::Ge, x, y);
     both_hold(alloc, low, compare(alloc, CmpOp::Le, again, z))
 }
 
@@ -241,10 +254,15 @@ pub(crate) fn quantified(
     }
 }
 
-// Adds a condition of a CASE and its result.
-fn push_arm(list: &mut Vec<Arm>, when: Box<Gc>, then: Box<Gx>) -> Result<(), OutOfMemory>
-    ensures { OnOk result (list.new.items ≡ list.old.items ++ (record { when = when.value; then = then.value }) ∷ []) }
+// Adds a condition of a CASE and its result, where both could be made.
+fn push_arm(
+    list: &mut Vec<Arm>,
+    when: Result<Box<Gc>, OutOfMemory>,
+    then: Result<Box<Gx>, OutOfMemory>,
+) -> Result<(), OutOfMemory>
+    ensures { OnOk result (IsOkAnd when (λ p. IsOkAnd then (λ x. list.new.items ≡ list.old.items ++ (record { when = p.value; then = x.value }) ∷ []))) }
 {
+    let (when, then) = paired(when, then)?;
     let arm = Arm {
         when: Box::into_inner(when),
         then: Box::into_inner(then),
@@ -252,19 +270,52 @@ fn push_arm(list: &mut Vec<Arm>, when: Box<Gc>, then: Box<Gx>) -> Result<(), Out
     push(list, arm)
 }
 
-/// `CASE WHEN p THEN x ELSE y END`.
-#[tactic(auto, using(qgm_terms::proofs::Lists::lists))]
-pub(crate) fn case_of(
+// The one condition of a CASE, and its result.
+fn one_arm(
     alloc: Global,
-    p: Box<Gc>,
-    x: Box<Gx>,
-    y: Box<Gx>,
-) -> Result<Box<Gx>, OutOfMemory>
-    ensures { IfOk result (λ z. term z.value ≡ shown.case (cond p.value) (term x.value) (term y.value)) }
+    when: Result<Box<Gc>, OutOfMemory>,
+    then: Result<Box<Gx>, OutOfMemory>,
+) -> Result<Vec<Arm>, OutOfMemory>
+    ensures { IfOk result (λ v. IsOkAnd when (λ p. IsOkAnd then (λ x. v.items ≡ (record { when = p.value; then = x.value }) ∷ []))) }
 {
     let mut arms = Vec::new(alloc);
-    push_arm(&mut arms, p, x)?;
-    boxed(alloc, Gx::Case(arms, y))
+    push_arm(&mut arms, when, then)?;
+    Ok(arms)
+}
+
+// `CASE WHEN .. THEN .. ELSE last END`.
+#[tactic(auto, using(qgm_terms::proofs::Lists::lists))]
+fn cased(
+    alloc: Global,
+    arms: Result<Vec<Arm>, OutOfMemory>,
+    last: Result<Box<Gx>, OutOfMemory>,
+) -> Result<Box<Gx>, OutOfMemory>
+    ensures { IfOk result (λ z. IsOkAnd arms (λ v. IsOkAnd last (λ y. term z.value ≡ t.choose (t.armed (choices v.items)) (term y.value)))) }
+{
+    let (arms, last) = paired(arms, last)?;
+    boxed(alloc, Gx::Case(arms, last))
+}
+
+// `CASE WHEN p THEN x ELSE y END`.
+fn case_of(
+    alloc: Global,
+    p: Result<Box<Gc>, OutOfMemory>,
+    x: Result<Box<Gx>, OutOfMemory>,
+    y: Result<Box<Gx>, OutOfMemory>,
+) -> Result<Box<Gx>, OutOfMemory>
+    ensures { IfOk result (λ z. IsOkAnd p (λ c. IsOkAnd x (λ a. IsOkAnd y (λ b. term z.value ≡ shown.case (cond c.value) (term a.value) (term b.value))))) }
+{
+    cased(alloc, one_arm(alloc, p, x), y)
+}
+
+// The type of an expression that was made.
+fn type_of_made(rows: &[Items<SqlType>], x: &Result<Box<Gx>, OutOfMemory>) -> SqlType
+    ensures { IfOk x.now (λ a. result ≡ typed_by rows.now (term a.value)) }
+{
+    match x {
+        Ok(x) => type_of(rows, x),
+        Err(_) => SqlType::Integer,
+    }
 }
 
 /// `NULLIF(x, y)`: `CASE WHEN x = y THEN NULL ELSE x END`, whose NULL has the type of x.
@@ -276,18 +327,20 @@ pub(crate) fn null_if(
 ) -> Result<Box<Gx>, OutOfMemory>
     ensures { IfOk result (λ z. IsOkAnd x (λ a. IsOkAnd y (λ b. term z.value ≡ shown.case (t.compare t.equal (term a.value) (term b.value)) (shown.null_as (typed_by rows.now (term a.value))) (term a.value)))) }
 {
-    let x = x?;
-    let p = equal_copy(alloc, &x, y?)?;
-    let null = null_as(alloc, type_of(rows, &x))?;
+    let null = null_as(alloc, type_of_made(rows, &x));
+    let p = compare(alloc, CmpOp::Eq, again(alloc, &x), y);
     case_of(alloc, p, null, x)
 }
 
 // `CASE WHEN x IS NOT NULL THEN x ELSE y END`.
-fn present_or(alloc: Global, x: Box<Gx>, y: Box<Gx>) -> Result<Box<Gx>, OutOfMemory>
-    ensures { IfOk result (λ z. term z.value ≡ shown.case (t.not (t.is_null (term x.value))) (term x.value) (term y.value)) }
+fn present_or(
+    alloc: Global,
+    x: Result<Box<Gx>, OutOfMemory>,
+    y: Result<Box<Gx>, OutOfMemory>,
+) -> Result<Box<Gx>, OutOfMemory>
+    ensures { IfOk result (λ z. IsOkAnd x (λ a. IsOkAnd y (λ b. term z.value ≡ shown.case (t.not (t.is_null (term a.value))) (term a.value) (term b.value)))) }
 {
-    let again = copied(alloc, &x);
-    let p = not(alloc, is_null(alloc, again))?;
+    let p = not(alloc, is_null(alloc, again(alloc, &x)));
     case_of(alloc, p, x, y)
 }
 
@@ -299,13 +352,12 @@ pub(crate) fn all_of(
 ) -> Result<Box<Gc>, OutOfMemory>
     ensures { IfOk result (λ p. IsOkAnd list (λ v. cond p.value ≡ spec.all_of (conds v.items))) }
 {
-    let list = list?;
+    let mut list = list?;
     if list.is_empty() {
         return boxed(alloc, Gc::True);
     }
-    let mut rest = list;
-    let first = take_first(alloc, &mut rest)?;
-    boxed(alloc, Gc::All(first, rest))
+    let first = take_first(alloc, &mut list)?;
+    boxed(alloc, Gc::All(first, list))
 }
 
 // Never.
@@ -323,39 +375,41 @@ pub(crate) fn any_of(
 ) -> Result<Box<Gc>, OutOfMemory>
     ensures { IfOk result (λ p. IsOkAnd list (λ v. cond p.value ≡ spec.any_of (conds v.items))) }
 {
-    let list = list?;
+    let mut list = list?;
     if list.is_empty() {
         return never(alloc);
     }
-    let mut rest = list;
-    let first = take_first(alloc, &mut rest)?;
-    boxed(alloc, Gc::Any(first, rest))
+    let first = take_first(alloc, &mut list)?;
+    boxed(alloc, Gc::Any(first, list))
 }
 
 // Turns the last two of these into one while there are two: `COALESCE`, written out from its end.
 #[tactic(auto, using(crate::proofs::Wholes::coalesced_more))]
-fn coalesced_onto(alloc: Global, list: Vec<Gx>, last: Box<Gx>) -> Result<Box<Gx>, OutOfMemory>
-    ensures { IfOk result (λ y. term y.value ≡ spec.coalesced_onto (terms list.items) (term last.value)) }
+fn coalesced_onto(
+    alloc: Global,
+    list: Vec<Gx>,
+    last: Result<Box<Gx>, OutOfMemory>,
+) -> Result<Box<Gx>, OutOfMemory>
+    ensures { IfOk result (λ y. IsOkAnd last (λ z. term y.value ≡ spec.coalesced_onto (terms list.items) (term z.value))) }
 {
     let mut rest = list;
     let mut total = last;
     while let Some(x) = rest.pop() {
-        let x = boxed(alloc, x)?;
-        total = present_or(alloc, x, total)?;
+        total = present_or(alloc, boxed(alloc, x), total);
     }
-    Ok(total)
+    total
 }
 
 // The first of these that isn't null, the last where each before it is.
 fn coalesced_before(
     alloc: Global,
-    first: Box<Gx>,
+    first: Result<Box<Gx>, OutOfMemory>,
     list: Vec<Gx>,
-    last: Box<Gx>,
+    last: Result<Box<Gx>, OutOfMemory>,
 ) -> Result<Box<Gx>, OutOfMemory>
-    ensures { IfOk result (λ y. term y.value ≡ spec.coalesced_onto (term first.value ∷ terms list.items) (term last.value)) }
+    ensures { IfOk result (λ y. IsOkAnd first (λ x. IsOkAnd last (λ z. term y.value ≡ spec.coalesced_onto (term x.value ∷ terms list.items) (term z.value)))) }
 {
-    let others = coalesced_onto(alloc, list, last)?;
+    let others = coalesced_onto(alloc, list, last);
     present_or(alloc, first, others)
 }
 
@@ -363,18 +417,15 @@ fn coalesced_before(
 #[tactic(auto, using(crate::proofs::Wholes::coalesced_first))]
 pub(crate) fn coalesced(
     alloc: Global,
-    first: Box<Gx>,
-    others: Vec<Gx>,
+    first: Result<Box<Gx>, OutOfMemory>,
+    others: Result<Vec<Gx>, OutOfMemory>,
 ) -> Result<Box<Gx>, OutOfMemory>
-    ensures { IfOk result (λ y. term y.value ≡ spec.coalesced (term first.value ∷ terms others.items)) }
+    ensures { IfOk result (λ y. IsOkAnd first (λ x. IsOkAnd others (λ xs. term y.value ≡ spec.coalesced (term x.value ∷ terms xs.items)))) }
 {
-    let mut rest = others;
+    let mut rest = others?;
     match rest.pop() {
-        Some(last) => {
-            let last = boxed(alloc, last)?;
-            coalesced_before(alloc, first, rest, last)
-        }
-        None => Ok(first),
+        Some(last) => coalesced_before(alloc, first, rest, boxed(alloc, last)),
+        None => first,
     }
 }
 
@@ -402,10 +453,26 @@ fn is_untyped(x: &Value) -> bool
 }
 
 /// What a result of a CASE stands as: none for a NULL without a type of its own.
-pub(crate) fn open(x: &Value, y: Box<Gx>) -> Option<Box<Gx>>
-    ensures { open_of result ≡ spec.open_term (meant.value x.now) (term y.value) }
+pub(crate) fn open(
+    x: &Value,
+    y: Result<Box<Gx>, OutOfMemory>,
+) -> Result<Option<Box<Gx>>, OutOfMemory>
+    ensures { IfOk result (λ z. IsOkAnd y (λ b. open_of z ≡ spec.open_term (meant.value x.now) (term b.value))) }
 {
-    if is_untyped(x) { None } else { Some(y) }
+    let y = y?;
+    Ok(if is_untyped(x) { None } else { Some(y) })
+}
+
+/// Adds a condition of a CASE and its result, where both could be made.
+pub(crate) fn push_open(
+    list: &mut Vec<OpenArm>,
+    when: Result<Box<Gc>, OutOfMemory>,
+    then: Result<Option<Box<Gx>>, OutOfMemory>,
+) -> Result<(), OutOfMemory>
+    ensures { OnOk result (IsOkAnd when (λ c. IsOkAnd then (λ y. list.new.items ≡ list.old.items ++ (record { when = c; then = y }) ∷ []))) }
+{
+    let (when, then) = paired(when, then)?;
+    push(list, OpenArm { when, then })
 }
 
 // The result of a CASE of this type.
@@ -449,8 +516,7 @@ fn push_closed(
 ) -> Result<(), OutOfMemory>
     ensures { OnOk result (choices out.new.items ≡ choices out.old.items ++ spec.closed_choice of (open_choice arm) ∷ []) }
 {
-    let then = closed(alloc, of, arm.then)?;
-    push_arm(out, arm.when, then)
+    push_arm(out, Ok(arm.when), closed(alloc, of, arm.then))
 }
 
 // The conditions of a CASE, whose results have this type.
@@ -465,7 +531,6 @@ fn closed_arms(alloc: Global, of: SqlType, list: Vec<OpenArm>) -> Result<Vec<Arm
 }
 
 // `CASE WHEN .. THEN .. ELSE .. END`, whose results have this type.
-#[tactic(auto, using(qgm_terms::proofs::Lists::lists))]
 fn chosen_as(
     alloc: Global,
     of: SqlType,
@@ -474,20 +539,20 @@ fn chosen_as(
 ) -> Result<Box<Gx>, OutOfMemory>
     ensures { IfOk result (λ y. term y.value ≡ spec.chosen_as of (opened list.items) (open_of last)) }
 {
-    let last = closed(alloc, of, last)?;
-    let arms = closed_arms(alloc, of, list)?;
-    boxed(alloc, Gx::Case(arms, last))
+    let arms = closed_arms(alloc, of, list);
+    cased(alloc, arms, closed(alloc, of, last))
 }
 
 /// `CASE WHEN .. THEN .. ELSE .. END`. A NULL without a type has that of the first result that has one.
 pub(crate) fn chosen(
     alloc: Global,
     rows: &[Items<SqlType>],
-    list: Vec<OpenArm>,
-    last: Option<Box<Gx>>,
+    list: Result<Vec<OpenArm>, OutOfMemory>,
+    last: Result<Option<Box<Gx>>, OutOfMemory>,
 ) -> Result<Box<Gx>, OutOfMemory>
-    ensures { IfOk result (λ y. term y.value ≡ spec.chosen rows.now (opened list.items) (open_of last)) }
+    ensures { IfOk result (λ y. IsOkAnd list (λ v. IsOkAnd last (λ z. term y.value ≡ spec.chosen rows.now (opened v.items) (open_of z)))) }
 {
+    let (list, last) = paired(list, last)?;
     let other = own_type(rows, &last, SqlType::Integer);
     let of = first_type(rows, &list, other);
     chosen_as(alloc, of, list, last)
@@ -497,9 +562,7 @@ pub(crate) fn chosen(
 fn push_equal(alloc: Global, x: &Gx, y: Gx, out: &mut Vec<Gc>) -> Result<(), OutOfMemory>
     ensures { OnOk result (conds out.new.items ≡ conds out.old.items ++ t.compare t.equal (term x.now) (term y) ∷ []) }
 {
-    let y = boxed(alloc, y)?;
-    let p = equal_copy(alloc, x, y)?;
-    push_boxed(out, p)
+    push_made(out, equal_copy(alloc, x, boxed(alloc, y)))
 }
 
 // `x = y` for each y of a list.
@@ -514,9 +577,14 @@ fn equal_each(alloc: Global, x: &Gx, list: Vec<Gx>) -> Result<Vec<Gc>, OutOfMemo
 }
 
 /// `x IN (..)`: `x = y OR ..`.
-pub(crate) fn equals_one(alloc: Global, x: Box<Gx>, list: Vec<Gx>) -> Result<Box<Gc>, OutOfMemory>
-    ensures { IfOk result (λ p. cond p.value ≡ spec.any_of (map (t.compare t.equal (term x.value)) (terms list.items))) }
+pub(crate) fn equals_one(
+    alloc: Global,
+    x: Result<Box<Gx>, OutOfMemory>,
+    list: Result<Vec<Gx>, OutOfMemory>,
+) -> Result<Box<Gc>, OutOfMemory>
+    ensures { IfOk result (λ p. IsOkAnd x (λ a. IsOkAnd list (λ v. cond p.value ≡ spec.any_of (map (t.compare t.equal (term a.value)) (terms v.items))))) }
 {
+    let (x, list) = paired(x, list)?;
     any_of(alloc, equal_each(alloc, &x, list))
 }
 

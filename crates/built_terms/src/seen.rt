@@ -3,6 +3,7 @@ ghost use Rattle.std.specs.Prelude.{◌≡◌, ◌∷◌, ◌++◌, [], OnOk, ge
 ghost use Rattle.qgm_shown.specs.Maps.{nothing};
 ghost use Rattle.built_terms.specs.Written.{frame_of, map_of, ref_of, ref_or};
 
+use crate::boxes::push;
 use qgm_terms::QuantId;
 use shared_types::OutOfMemory;
 
@@ -61,6 +62,5 @@ pub(crate) fn seen_at(m: &Scopes<'_>, scope: usize, place: usize) -> Seen
 pub(crate) fn push_seen(frame: &mut Vec<Seen>, x: Seen) -> Result<(), OutOfMemory>
     ensures { OnOk result (frame_of frame.new.items ≡ frame_of frame.old.items ++ ref_of x ∷ []) }
 {
-    frame.push(x)?;
-    Ok(())
+    push(frame, x)
 }

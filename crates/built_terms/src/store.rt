@@ -54,12 +54,19 @@ pub fn number_named(st: &Store, name: &Text) -> BoxId
     0
 }
 
+// A copy of types.
+fn copied_types(alloc: Global, types: &[SqlType]) -> Result<Items<SqlType>, OutOfMemory>
+    ensures { IfOk result (λ copy. copy ≡ types.now) }
+{
+    Ok(Items::from_slice(alloc, types)?)
+}
+
 /// The types of the columns of a box.
 fn types_of_box(alloc: Global, st: &Store, b: BoxId) -> Result<Items<SqlType>, OutOfMemory>
     ensures { IfOk result (λ types. types ≡ get_or st.now.types.items b []) }
 {
     match st.types.get(b) {
-        Some(types) => Ok(Items::from_slice(alloc, types.as_slice())?),
+        Some(types) => copied_types(alloc, types.as_slice()),
         None => Ok(Items::new(alloc)),
     }
 }
@@ -136,8 +143,8 @@ fn types_of(
     ensures { IfOk result (λ types. types ≡ column_types rows.now kind.now head.now) }
 {
     match kind {
-        BoxKind::Base(table) => Ok(Items::from_slice(alloc, table.types.as_slice())?),
-        BoxKind::SetOp(_, types) => Ok(Items::from_slice(alloc, types.as_slice())?),
+        BoxKind::Base(table) => copied_types(alloc, table.types.as_slice()),
+        BoxKind::SetOp(_, types) => copied_types(alloc, types.as_slice()),
         BoxKind::Select | BoxKind::Group(_) | BoxKind::OuterJoin => head_types(alloc, rows, head),
     }
 }
@@ -172,15 +179,15 @@ pub fn put(
     ensures { IfOk result (λ b. Gives (spec.put kind distinct conds.items head quants (so_far st.old)) b (so_far st.new)) }
 {
     let id = st.made.len();
-    let distinct = distinct_of(distinct);
-    add_types(alloc, &st.rows, &kind, &head, &mut st.left, &mut st.types)?;
+    let typed = add_types(alloc, &st.rows, &kind, &head, &mut st.left, &mut st.types);
     let parts = BoxParts {
         kind,
-        distinct,
+        distinct: distinct_of(distinct),
         role: Role::Plain,
         conds,
         head,
     };
-    push(&mut st.made, NewBox { parts, quants })?;
+    let pushed = push(&mut st.made, NewBox { parts, quants });
+    typed.and(pushed)?;
     Ok(id)
 }

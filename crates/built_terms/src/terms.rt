@@ -1,5 +1,5 @@
 // The expressions and the conditions of a block, as those of a box.
-ghost use Rattle.std.specs.Prelude.{◌≡◌, ◌++◌, ◌∷◌, [], IfOk, OnOk};
+ghost use Rattle.std.specs.Prelude.{◌≡◌, ◌++◌, ◌∷◌, [], IfOk, IsOkAnd, OnOk};
 ghost use Rattle.sql_meaning.specs.ResolvedShown as shown;
 ghost use Rattle.qgm_terms.specs.Shown.{cond, conds, term, terms};
 ghost use Rattle.qgm_shown.specs.Terms as t;
@@ -10,7 +10,7 @@ ghost use Rattle.built_terms.specs.Setting as spec;
 ghost use Rattle.built_terms.specs.Setting.{frame_in, outer_in, sources_in};
 ghost use Rattle.built_terms.specs.Written.{slots_of};
 
-use crate::boxes::push_boxed;
+use crate::boxes::push_made;
 use crate::parts as made;
 use crate::parts::OpenArm;
 use crate::seen::{Scopes, seen_at};
@@ -42,31 +42,29 @@ pub fn value(g: &Setting<'_>, x: &Value, s: &mut Slots<'_>) -> Result<Box<Gx>, O
         Value::Null(of) => made::null_of(alloc, *of),
         Value::Column(scope, place) => column(g, *scope, *place),
         Value::Sum(a, list) => {
-            let first = value(g, a, s)?;
+            let first = value(g, a, s);
             sum(g, list.as_slice(), first, s)
         }
         Value::Product(a, list) => {
-            let first = value(g, a, s)?;
+            let first = value(g, a, s);
             product(g, list.as_slice(), first, s)
         }
         Value::Negative(a) => made::negative(alloc, value(g, a, s)),
         Value::Searched(list, last) => {
-            let list = arms(g, list.as_slice(), s)?;
-            let last = outcome(g, last, s)?;
+            let list = arms(g, list.as_slice(), s);
+            let last = outcome(g, last, s);
             made::chosen(alloc, g.rows, list, last)
         }
         Value::Simple(a, list, last) => {
-            let a = value(g, a, s)?;
-            let x: &Gx = &a;
-            let list = choices(g, list.as_slice(), x, s)?;
-            let last = outcome(g, last, s)?;
+            let a = value(g, a, s);
+            let list = choices(g, list.as_slice(), a, s);
+            let last = outcome(g, last, s);
             made::chosen(alloc, g.rows, list, last)
         }
         Value::Coalesce(a, list) => {
-            let a = value(g, a, s)?;
-            let mut all = Vec::new(alloc);
-            values(g, list.as_slice(), s, &mut all)?;
-            made::coalesced(alloc, a, all)
+            let a = value(g, a, s);
+            let others = listed(g, list.as_slice(), s);
+            made::coalesced(alloc, a, others)
         }
         Value::NullIf(a, b) => {
             let a = value(g, a, s);
@@ -83,18 +81,18 @@ pub fn value(g: &Setting<'_>, x: &Value, s: &mut Slots<'_>) -> Result<Box<Gx>, O
 fn sum(
     g: &Setting<'_>,
     list: &[Addend],
-    first: Box<Gx>,
+    first: Result<Box<Gx>, OutOfMemory>,
     s: &mut Slots<'_>,
 ) -> Result<Box<Gx>, OutOfMemory>
-    ensures term { IfOk result (λ y. term y.value ≡ t.summed (sources_in g.now) (frame_in g.now) (outer_in g.now) (slots_of s.old) (term first.value) (shown.addend_list list.now)) }
+    ensures term { IfOk result (λ y. IsOkAnd first (λ a. term y.value ≡ t.summed (sources_in g.now) (frame_in g.now) (outer_in g.now) (slots_of s.old) (term a.value) (shown.addend_list list.now))) }
     ensures slots { OnOk result (slots_of s.new ≡ l.after (l.addend_leaves (frame_in g.now) (shown.addend_list list.now)) (slots_of s.old)) }
 {
     let mut total = first;
     for x in list {
-        let next = value(g, &x.value, s)?;
-        total = made::longer(g.alloc, total, made::additive(x.op), next)?;
+        let next = value(g, &x.value, s);
+        total = made::longer(g.alloc, total, made::additive(x.op), next);
     }
-    Ok(total)
+    total
 }
 
 // A first operand, and what it is multiplied by.
@@ -102,18 +100,18 @@ fn sum(
 fn product(
     g: &Setting<'_>,
     list: &[Multiplier],
-    first: Box<Gx>,
+    first: Result<Box<Gx>, OutOfMemory>,
     s: &mut Slots<'_>,
 ) -> Result<Box<Gx>, OutOfMemory>
-    ensures term { IfOk result (λ y. term y.value ≡ t.multiplied (sources_in g.now) (frame_in g.now) (outer_in g.now) (slots_of s.old) (term first.value) (shown.multiplier_list list.now)) }
+    ensures term { IfOk result (λ y. IsOkAnd first (λ a. term y.value ≡ t.multiplied (sources_in g.now) (frame_in g.now) (outer_in g.now) (slots_of s.old) (term a.value) (shown.multiplier_list list.now))) }
     ensures slots { OnOk result (slots_of s.new ≡ l.after (l.multiplier_leaves (frame_in g.now) (shown.multiplier_list list.now)) (slots_of s.old)) }
 {
     let mut total = first;
     for x in list {
-        let next = value(g, &x.value, s)?;
-        total = made::longer(g.alloc, total, made::multiplicative(x.op), next)?;
+        let next = value(g, &x.value, s);
+        total = made::longer(g.alloc, total, made::multiplicative(x.op), next);
     }
-    Ok(total)
+    total
 }
 
 /// Adds the expressions of a list of values at the end of others. It fails only for want of memory.
@@ -128,10 +126,20 @@ pub fn values(
     ensures slots { OnOk result (slots_of s.new ≡ l.after (l.list_leaves (frame_in g.now) (shown.value_list list.now)) (slots_of s.old)) }
 {
     for x in list {
-        let y = value(g, x, s)?;
-        push_boxed(out, y)?;
+        push_made(out, value(g, x, s))?;
     }
     Ok(())
+}
+
+// The expressions of a list of values.
+#[cycle(terms)]
+fn listed(g: &Setting<'_>, list: &[Value], s: &mut Slots<'_>) -> Result<Vec<Gx>, OutOfMemory>
+    ensures terms { IfOk result (λ v. terms v.items ≡ t.terms (sources_in g.now) (frame_in g.now) (outer_in g.now) (slots_of s.old) (shown.value_list list.now)) }
+    ensures slots { OnOk result (slots_of s.new ≡ l.after (l.list_leaves (frame_in g.now) (shown.value_list list.now)) (slots_of s.old)) }
+{
+    let mut out = Vec::new(g.alloc);
+    values(g, list, s, &mut out)?;
+    Ok(out)
 }
 
 // A result of a CASE; none for a NULL without a type of its own.
@@ -140,8 +148,7 @@ fn outcome(g: &Setting<'_>, x: &Value, s: &mut Slots<'_>) -> Result<Option<Box<G
     ensures term { IfOk result (λ y. open_of y ≡ spec.outcome_in g.now (slots_of s.old) (shown.value x.now)) }
     ensures slots { OnOk result (slots_of s.new ≡ l.after (l.leaves (frame_in g.now) (shown.value x.now)) (slots_of s.old)) }
 {
-    let y = value(g, x, s)?;
-    Ok(made::open(x, y))
+    made::open(x, value(g, x, s))
 }
 
 // The conditions of a CASE with their results.
@@ -152,30 +159,31 @@ fn arms(g: &Setting<'_>, list: &[Arm], s: &mut Slots<'_>) -> Result<Vec<OpenArm>
 {
     let mut out = Vec::new(g.alloc);
     for arm in list {
-        let when = test(g, &arm.when, s)?;
-        let then = outcome(g, &arm.then, s)?;
-        out.push(OpenArm { when, then })?;
+        let when = test(g, &arm.when, s);
+        let then = outcome(g, &arm.then, s);
+        made::push_open(&mut out, when, then)?;
     }
     Ok(out)
 }
 
-// The values of a CASE, which are compared with x, with their results.
+// The values of a CASE, which are compared with its operand, with their results.
 #[cycle(terms)]
 fn choices(
     g: &Setting<'_>,
     list: &[Choice],
-    x: &Gx,
+    operand: Result<Box<Gx>, OutOfMemory>,
     s: &mut Slots<'_>,
 ) -> Result<Vec<OpenArm>, OutOfMemory>
-    ensures arms { IfOk result (λ v. opened v.items ≡ choices_in (sources_in g.now) (frame_in g.now) (outer_in g.now) (slots_of s.old) (term x.now) (shown.choice_list list.now)) }
+    ensures arms { IfOk result (λ v. IsOkAnd operand (λ a. opened v.items ≡ choices_in (sources_in g.now) (frame_in g.now) (outer_in g.now) (slots_of s.old) (term a.value) (shown.choice_list list.now))) }
     ensures slots { OnOk result (slots_of s.new ≡ l.after (l.choice_leaves (frame_in g.now) (shown.choice_list list.now)) (slots_of s.old)) }
 {
+    let x = operand?;
     let mut out = Vec::new(g.alloc);
     for choice in list {
-        let y = value(g, &choice.when, s)?;
-        let when = made::equal_copy(g.alloc, x, y)?;
-        let then = outcome(g, &choice.then, s)?;
-        out.push(OpenArm { when, then })?;
+        let y = value(g, &choice.when, s);
+        let when = made::equal_copy(g.alloc, &x, y);
+        let then = outcome(g, &choice.then, s);
+        made::push_open(&mut out, when, then)?;
     }
     Ok(out)
 }
@@ -209,10 +217,9 @@ pub fn test(g: &Setting<'_>, p: &Test, s: &mut Slots<'_>) -> Result<Box<Gc>, Out
             made::between(alloc, a, b, c)
         }
         Test::Among(a, list) => {
-            let a = value(g, a, s)?;
-            let mut all = Vec::new(alloc);
-            values(g, list.as_slice(), s, &mut all)?;
-            made::equals_one(alloc, a, all)
+            let a = value(g, a, s);
+            let list = listed(g, list.as_slice(), s);
+            made::equals_one(alloc, a, list)
         }
         Test::AmongRows(a, _) => {
             let a = value(g, a, s);
@@ -238,8 +245,7 @@ fn tests(g: &Setting<'_>, list: &[Test], s: &mut Slots<'_>) -> Result<Vec<Gc>, O
 {
     let mut out = Vec::new(g.alloc);
     for p in list {
-        let c = test(g, p, s)?;
-        push_boxed(&mut out, c)?;
+        push_made(&mut out, test(g, p, s))?;
     }
     Ok(out)
 }

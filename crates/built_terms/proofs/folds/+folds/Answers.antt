@@ -10,7 +10,7 @@ use Rattle.sql_meaning.specs.declared.resolved.Test.{Test}
 use Rattle.sql_meaning.specs.declared.resolved.Value.{Value}
 use Rattle.qgm_shown.specs.Leaves as w
 use Rattle.built_terms.specs.Folds.{leaf_of}
-use Rattle.built_terms.proofs.Folding.{fold_more, fold_sub, fold_three, fold_two, folding, on_both, on_three}
+use Rattle.built_terms.proofs.Folding.{both_there, fold_more, fold_sub, fold_three, fold_two, folding, on_both, on_three}
 use Rattle.built_terms.proofs.folds.+folds.Goals as goal
 
 pub addend_folds-loop-x-preserved : goal.addend_folds-loop-x-preserved
@@ -23,10 +23,10 @@ pub list_folds-loop-x-preserved : goal.list_folds-loop-x-preserved
 list_folds-loop-x-preserved h c = fold_more (λ (xs : List Value). w.list_leaves [] (shown.value_list xs)) c.args.list.now c.loop-x.x-index c.x-item.result (w.leaves [] (shown.value c.x-item.result)) (map leaf_of c.loop-x.out.items) _ _ c.loop-x-test.true c.x-item.is refl c.in_ok-value_folds.ensures c.loop-x.invariant
 
 pub arm_folds-loop-x-preserved : goal.arm_folds-loop-x-preserved
-arm_folds-loop-x-preserved h c = fold_more (λ (xs : List Arm). w.arm_leaves [] (shown.arm_list xs)) c.args.list.now c.loop-x.x-index c.x-item.result ((w.test_leaves [] (shown.test c.x-item.result.when)) ++ (w.leaves [] (shown.value c.x-item.result.then))) (map leaf_of c.loop-x.out.items) _ _ c.loop-x-test.true c.x-item.is (sym (append_assoc (w.test_leaves [] (shown.test c.x-item.result.when)) (w.leaves [] (shown.value c.x-item.result.then)) (w.arm_leaves [] (shown.arm_list (drop (c.loop-x.x-index + 1) c.args.list.now))))) (fold_two (w.test_leaves [] (shown.test c.x-item.result.when)) (w.leaves [] (shown.value c.x-item.result.then)) _ _ _ c.in_ok-test_folds.ensures c.in_ok-value_folds.ensures) c.loop-x.invariant
+arm_folds-loop-x-preserved h c = fold_more (λ (xs : List Arm). w.arm_leaves [] (shown.arm_list xs)) c.args.list.now c.loop-x.x-index c.x-item.result ((w.test_leaves [] (shown.test c.x-item.result.when)) ++ (w.leaves [] (shown.value c.x-item.result.then))) (map leaf_of c.loop-x.out.items) _ _ c.loop-x-test.true c.x-item.is (sym (append_assoc (w.test_leaves [] (shown.test c.x-item.result.when)) (w.leaves [] (shown.value c.x-item.result.then)) (w.arm_leaves [] (shown.arm_list (drop (c.loop-x.x-index + 1) c.args.list.now))))) (both_there c.test_folds.result c.value_folds.result c.and.result _ c.and.ensures c.in_ok-and.was c.test_folds.ensures c.value_folds.ensures (λ d e. fold_two (w.test_leaves [] (shown.test c.x-item.result.when)) (w.leaves [] (shown.value c.x-item.result.then)) _ _ _ d e)) c.loop-x.invariant
 
 pub choice_folds-loop-x-preserved : goal.choice_folds-loop-x-preserved
-choice_folds-loop-x-preserved h c = fold_more (λ (xs : List Choice). w.choice_leaves [] (shown.choice_list xs)) c.args.list.now c.loop-x.x-index c.x-item.result ((w.leaves [] (shown.value c.x-item.result.when)) ++ (w.leaves [] (shown.value c.x-item.result.then))) (map leaf_of c.loop-x.out.items) _ _ c.loop-x-test.true c.x-item.is (sym (append_assoc (w.leaves [] (shown.value c.x-item.result.when)) (w.leaves [] (shown.value c.x-item.result.then)) (w.choice_leaves [] (shown.choice_list (drop (c.loop-x.x-index + 1) c.args.list.now))))) (fold_two (w.leaves [] (shown.value c.x-item.result.when)) (w.leaves [] (shown.value c.x-item.result.then)) _ _ _ c.in_ok-value_folds.ensures c.in_ok-value_folds-2.ensures) c.loop-x.invariant
+choice_folds-loop-x-preserved h c = fold_more (λ (xs : List Choice). w.choice_leaves [] (shown.choice_list xs)) c.args.list.now c.loop-x.x-index c.x-item.result ((w.leaves [] (shown.value c.x-item.result.when)) ++ (w.leaves [] (shown.value c.x-item.result.then))) (map leaf_of c.loop-x.out.items) _ _ c.loop-x-test.true c.x-item.is (sym (append_assoc (w.leaves [] (shown.value c.x-item.result.when)) (w.leaves [] (shown.value c.x-item.result.then)) (w.choice_leaves [] (shown.choice_list (drop (c.loop-x.x-index + 1) c.args.list.now))))) (both_there c.value_folds.result c.value_folds-in-loop-x.result c.and.result _ c.and.ensures c.in_ok-and.was c.value_folds.ensures c.value_folds-in-loop-x.ensures (λ d e. fold_two (w.leaves [] (shown.value c.x-item.result.when)) (w.leaves [] (shown.value c.x-item.result.then)) _ _ _ d e)) c.loop-x.invariant
 
 pub tests_folds-loop-p-preserved : goal.tests_folds-loop-p-preserved
 tests_folds-loop-p-preserved h c = fold_more (λ (xs : List Test). w.tests_leaves [] (shown.test_list xs)) c.args.list.now c.loop-p.p-index c.p-item.result (w.test_leaves [] (shown.test c.p-item.result)) (map leaf_of c.loop-p.out.items) _ _ c.loop-p-test.true c.p-item.is refl c.in_ok-test_folds.ensures c.loop-p.invariant

@@ -1,4 +1,4 @@
-use Rattle.std.proofs.Common.{◌≡◌, ◌++◌, drop}
+use Rattle.std.proofs.Common.{◌≡◌, ◌++◌, IfOk, IsOkAnd, OnOk, drop}
 use Rattle.sql_meaning.specs.ResolvedShown as shown
 use Rattle.qgm_terms.specs.Shown.{conds, term, terms}
 use Rattle.qgm_shown.specs.Leaves as w
@@ -11,14 +11,14 @@ use Rattle.built_terms.proofs.terms.+terms.Given as goal
 
 abbrev pub invariant-sum-loop-x : goal.invariant-sum-loop-x
 invariant-sum-loop-x l = record {
-  term : t.summed (sources_in l.g) (frame_in l.g) (outer_in l.g) (slots_of l.s) (term l.total.value) (shown.addend_list (drop l.x-index l.list)) ≡ t.summed (sources_in l.g) (frame_in l.g) (outer_in l.g) (slots_of l.fn.s) (term l.fn.first.value) (shown.addend_list l.list);
-  slots : w.after (w.addend_leaves (frame_in l.g) (shown.addend_list (drop l.x-index l.list))) (slots_of l.s) ≡ w.after (w.addend_leaves (frame_in l.g) (shown.addend_list l.list)) (slots_of l.fn.s);
+  term : IfOk l.total (λ y. IsOkAnd l.fn.first (λ a. t.summed (sources_in l.g) (frame_in l.g) (outer_in l.g) (slots_of l.s) (term y.value) (shown.addend_list (drop l.x-index l.list)) ≡ t.summed (sources_in l.g) (frame_in l.g) (outer_in l.g) (slots_of l.fn.s) (term a.value) (shown.addend_list l.list)));
+  slots : OnOk l.total (w.after (w.addend_leaves (frame_in l.g) (shown.addend_list (drop l.x-index l.list))) (slots_of l.s) ≡ w.after (w.addend_leaves (frame_in l.g) (shown.addend_list l.list)) (slots_of l.fn.s));
 }
 
 abbrev pub invariant-product-loop-x : goal.invariant-product-loop-x
 invariant-product-loop-x l = record {
-  term : t.multiplied (sources_in l.g) (frame_in l.g) (outer_in l.g) (slots_of l.s) (term l.total.value) (shown.multiplier_list (drop l.x-index l.list)) ≡ t.multiplied (sources_in l.g) (frame_in l.g) (outer_in l.g) (slots_of l.fn.s) (term l.fn.first.value) (shown.multiplier_list l.list);
-  slots : w.after (w.multiplier_leaves (frame_in l.g) (shown.multiplier_list (drop l.x-index l.list))) (slots_of l.s) ≡ w.after (w.multiplier_leaves (frame_in l.g) (shown.multiplier_list l.list)) (slots_of l.fn.s);
+  term : IfOk l.total (λ y. IsOkAnd l.fn.first (λ a. t.multiplied (sources_in l.g) (frame_in l.g) (outer_in l.g) (slots_of l.s) (term y.value) (shown.multiplier_list (drop l.x-index l.list)) ≡ t.multiplied (sources_in l.g) (frame_in l.g) (outer_in l.g) (slots_of l.fn.s) (term a.value) (shown.multiplier_list l.list)));
+  slots : OnOk l.total (w.after (w.multiplier_leaves (frame_in l.g) (shown.multiplier_list (drop l.x-index l.list))) (slots_of l.s) ≡ w.after (w.multiplier_leaves (frame_in l.g) (shown.multiplier_list l.list)) (slots_of l.fn.s));
 }
 
 abbrev pub invariant-values-loop-x : goal.invariant-values-loop-x
@@ -35,7 +35,7 @@ invariant-arms-loop-arm l = record {
 
 abbrev pub invariant-choices-loop-choice : goal.invariant-choices-loop-choice
 invariant-choices-loop-choice l = record {
-  parts : opened l.out.items ++ choices_in (sources_in l.g) (frame_in l.g) (outer_in l.g) (slots_of l.s) (term l.x) (shown.choice_list (drop l.choice-index l.list)) ≡ choices_in (sources_in l.g) (frame_in l.g) (outer_in l.g) (slots_of l.fn.s) (term l.x) (shown.choice_list l.list);
+  parts : opened l.out.items ++ choices_in (sources_in l.g) (frame_in l.g) (outer_in l.g) (slots_of l.s) (term l.x.value) (shown.choice_list (drop l.choice-index l.list)) ≡ choices_in (sources_in l.g) (frame_in l.g) (outer_in l.g) (slots_of l.fn.s) (term l.x.value) (shown.choice_list l.list);
   slots : w.after (w.choice_leaves (frame_in l.g) (shown.choice_list (drop l.choice-index l.list))) (slots_of l.s) ≡ w.after (w.choice_leaves (frame_in l.g) (shown.choice_list l.list)) (slots_of l.fn.s);
 }
 
