@@ -1,11 +1,15 @@
 -- What is found in a graph where one box has changed.
-use Rattle.std.proofs.Common.{ℕ, ◌==◌, ◌≡◌, ◌||◌, cond, Bool, true, false, List, [], ◌∷◌, Some, refl, ap, sym, ◌∙◌, eqb-true, inl, inr, subst}
+use Rattle.std.proofs.Common.{ℕ, ◌==◌, ◌≡◌, ◌||◌, cond, Bool, true, false, List, [], ◌∷◌, Some, Option, map, option_map, refl, ap, sym, ◌∙◌, eqb-true, inl, inr, subst}
 use Rattle.std.proofs.lemmas.Bool.{cases_Bool}
 use Rattle.std.specs.List.{list_any}
 use Rattle.qgm_core.specs.Boxes.{has_box, is_box}
-use Rattle.qgm_core.specs.Edits.{spare_in, without_cond}
+use Rattle.qgm_core.specs.Edits.{put_cells, spare_in, with_terms, without_cond}
 use Rattle.qgm_core.specs.Lists.{change, first, without}
 use Rattle.qgm_core.specs.declared.node.Node.{Node}
+use Rattle.qgm_core.specs.declared.parts.BoxParts.{BoxParts}
+use Rattle.qgm_terms.specs.Conjuncts.{Conjuncts}
+use Rattle.qgm_terms.specs.Substitution.{substituted, substituted_cond}
+use Rattle.qgm_terms.specs.Terms.{Term}
 
 -- which boxes there are
 pub has-change : (p : Node → Bool) (f : Node → Node) (to : ℕ) (ns : List Node) → ((n : Node) → (f n).id ≡ n.id) → has_box (change p f ns) to ≡ has_box ns to
@@ -15,6 +19,26 @@ has-change p f to (n ∷ ns) same =
       | true ↦ ap (λ (b : ℕ). (b == to) || has_box ns to) (same n)
       | false ↦ ap (λ (b : Bool). (n.id == to) || b) (has-change p f to ns same)
     ]
+
+-- two changes that are the same for the one that is found
+pub change-same : {X : Type 0} (p : X → Bool) (f g : X → X) (xs : List X) → ((x : X) → first p xs ≡ Some x → f x ≡ g x) → change p f xs ≡ change p g xs
+change-same p f g [] same = refl
+change-same {X} p f g (x ∷ xs) same =
+    elim (cases_Bool (p x)) [
+      | inl t ↦ rw t (ap (λ (y : X). y ∷ xs) (same x (rw t refl)))
+      | inr t ↦ rw t (ap (λ (ys : List X). x ∷ ys) (change-same p f g xs (λ y e. same y (rw t e))))
+    ]
+
+-- cells put in place of columns in what is copied of the box, and then into it
+pub terms-put : (b q : ℕ) (cells head : List Term) (conds : Conjuncts) (p : BoxParts) (ns : List Node) → Some p ≡ option_map (λ n. n.parts) (first (is_box b) ns) →
+    conds ≡ record p.conds { items = map (substituted_cond q cells) p.conds.items } → head ≡ map (substituted q cells) p.head →
+    change (is_box b) (with_terms conds head) ns ≡ change (is_box b) (put_cells q cells) ns
+terms-put b q cells head conds p ns e f g =
+    change-same (is_box b) (with_terms conds head) (put_cells q cells) ns
+    (λ n at.
+    let h : Some p ≡ Some n.parts = e ∙ ap (λ (o : Option Node). option_map (λ n. n.parts) o) at in
+    let k : p ≡ n.parts = cc in
+    rw (f, g, k) refl)
 
 -- the room of another box, or of the same
 pub spare-without : (b to i : ℕ) (ns : List Node) → spare_in (first (is_box to) (change (is_box b) (without_cond i) ns)) ≡ spare_in (first (is_box to) ns)

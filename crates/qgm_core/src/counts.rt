@@ -11,10 +11,18 @@ use std::alloc::Global;
 use std::marker::Model;
 
 /// Numbers that are counted, each at once. Contracts see it as the list of them.
-#[derive(Drop)]
 pub struct Counts {
     list: Vec<usize>,
     counts: Vec<usize>,
+}
+
+// By hand, so that what lets counts go cites this function.
+impl Drop for Counts {
+    fn drop(self) {
+        let Counts { list, counts } = self;
+        drop(list);
+        drop(counts);
+    }
 }
 
 impl Model for Counts {
@@ -43,10 +51,9 @@ impl Counts {
     pub fn push(&mut self, x: usize) -> Result<(), OutOfMemory>
         ensures { OnOk result (self.new ≡ self.old ++ x ∷ []) }
     {
-        self.list.reserve(1)?;
         make_long(&mut self.counts, x, 0)?;
+        self.list.push(x)?;
         self.counts[x] += 1;
-        let _ = self.list.push(x);
         Ok(())
     }
 

@@ -16,7 +16,7 @@ use std::alloc::Global;
 pub fn is_marked(marks: &[BoxId], b: BoxId) -> bool
     ensures { result ≡ holds b marks.now }
 {
-    marks.iter().any(|m| *m == b)
+    marks.contains(&b)
 }
 
 /// Marks the boxes that these quantifiers range over.
@@ -34,9 +34,10 @@ fn mark(node: &Node, marks: &mut Marks) -> Result<(), OutOfMemory>
     ensures { OnOk result (marks.new ≡ spec.marked marks.old node.now) }
 {
     if marks.has(node.id) {
-        mark_overs(node.quants.as_slice(), marks)?;
+        mark_overs(node.quants.as_slice(), marks)
+    } else {
+        Ok(())
     }
-    Ok(())
 }
 
 /// The boxes that are reached from one.
@@ -68,9 +69,10 @@ fn add_names_of_marked(
     ensures { OnOk result (out.new.items ≡ out.old.items ++ spec.named_where marks.now node.now) }
 {
     if marks.has(node.id) {
-        add_names_of_node(node, out)?;
+        add_names_of_node(node, out)
+    } else {
+        Ok(())
     }
-    Ok(())
 }
 
 // What the marked boxes name.
@@ -89,9 +91,10 @@ fn mark_owned(marks: &Marks, node: &Node, owned: &mut Marks) -> Result<(), OutOf
     ensures { OnOk result (owned.new ≡ owned.old ++ spec.owned_where marks.now node.now) }
 {
     if marks.has(node.id) {
-        mark_ids(node.quants.as_slice(), owned)?;
+        mark_ids(node.quants.as_slice(), owned)
+    } else {
+        Ok(())
     }
-    Ok(())
 }
 
 /// The quantifiers of marked boxes.
@@ -127,8 +130,7 @@ fn put_once(out: &mut Vec<QuantId>, q: QuantId) -> Result<(), OutOfMemory>
     if i < out.len() && out[i] == q {
         return Ok(());
     }
-    out.insert(i, q)?;
-    Ok(())
+    out.insert(i, q).or(Err(OutOfMemory))
 }
 
 // Those that aren't owned, ascending, each once.

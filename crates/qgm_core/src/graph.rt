@@ -95,11 +95,7 @@ impl Graph {
         ensures held { IfOk result (λ g. spec.HasBox g.root g) }
     {
         let mut nodes = Vec::new(alloc);
-        nodes.push(Node {
-            id: 0,
-            parts: root,
-            quants: Owned::new(alloc),
-        })?;
+        nodes.push(bare(alloc, 0, root))?;
         Ok(Graph {
             nodes,
             root: 0,
@@ -314,13 +310,11 @@ impl Graph {
         ensures kept { HasAll self.old self.new }
     {
         let id = self.next_box;
-        if id == usize::MAX {
-            return Err(OutOfMemory);
-        }
+        let node = bare(alloc, id, parts);
+        let next = number_after(id)?;
         let i = new_place(&self.nodes, below);
-        let quants = Owned::new(alloc);
-        self.nodes.insert(i, Node { id, parts, quants })?;
-        self.next_box = id + 1;
+        self.nodes.insert(i, node)?;
+        self.next_box = next;
         Ok(id)
     }
 
@@ -361,7 +355,7 @@ impl Graph {
         ensures root { spec.HasBox self.old.root self.old → spec.HasBox self.new.root self.new }
     {
         let marks = reached(alloc, &self.nodes, self.root)?;
-        keep_marked(&mut self.nodes, &marks);
+        self.keep(&marks);
         Ok(())
     }
 
@@ -390,14 +384,11 @@ impl Graph {
         ensures kept { HasAll self.old self.new }
     {
         let k = box_place(&self.nodes, b);
-        let distinct = self.nodes[k].parts.distinct;
-        self.nodes[k].parts = BoxParts {
-            kind,
-            distinct,
-            role,
-            conds,
-            head,
-        };
+        let parts = &mut self.nodes[k].parts;
+        parts.kind = kind;
+        parts.role = role;
+        parts.conds = conds;
+        parts.head = head;
     }
 
     /// Gives a box other conditions and another head. It takes no memory.
@@ -432,8 +423,7 @@ impl Graph {
         ensures ok { OnOk result (self.new ≡ edits.absorb b (place - 1) c self.old) }
         ensures err { OnErr result (self.new ≡ self.old) }
     {
-        absorb_box(&mut self.nodes, b, place - 1, c)?;
-        Ok(())
+        absorb_box(&mut self.nodes, b, place - 1, c)
     }
 
     /// Sets whether a box gives rows more than once. It takes no memory.
@@ -454,8 +444,7 @@ impl Graph {
         ensures kept { HasAll self.old self.new }
     {
         let k = box_place(&self.nodes, b);
-        make_room(&mut self.nodes[k].parts.conds, n)?;
-        Ok(())
+        make_room(&mut self.nodes[k].parts.conds, n)
     }
 
     /// Drops a quantifier. It takes no memory.
@@ -480,8 +469,7 @@ impl Graph {
         ensures err { OnErr result (self.new ≡ self.old) }
         ensures kept { HasAll self.old self.new }
     {
-        move_quant(&mut self.nodes, q, owner, place - 1)?;
-        Ok(())
+        move_quant(&mut self.nodes, q, owner, place - 1)
     }
 
     /// Sets what a quantifier ranges for. It takes no memory.
@@ -571,13 +559,32 @@ impl Graph {
         ensures err { OnErr result (self.new ≡ self.old) }
         ensures kept { HasAll self.old self.new }
     {
-        let k = box_place(&self.nodes, b);
-        let head = substitute_head(alloc, &self.nodes[k].parts.head, q, cells, ROOM)?;
-        let conds = substituted_conds(alloc, &self.nodes[k].parts.conds, q, cells)?;
-        let parts = &mut self.nodes[k].parts;
-        parts.head = head;
-        parts.conds = conds;
+        let parts = self.parts(b);
+        let head = substitute_head(alloc, &parts.head, q, cells, ROOM)?;
+        let conds = substituted_conds(alloc, &parts.conds, q, cells)?;
+        self.put_terms(b, conds, head);
         Ok(())
+    }
+}
+
+// The number after this one, if there is one.
+fn number_after(id: usize) -> Result<usize, OutOfMemory>
+    ensures { IfOk result (λ next. next ≡ id + 1) }
+{
+    if id == usize::MAX {
+        return Err(OutOfMemory);
+    }
+    Ok(id + 1)
+}
+
+// A box that owns no quantifier.
+fn bare(alloc: Global, id: BoxId, parts: BoxParts) -> Node
+    ensures { result ≡ spec.bare_box id parts }
+{
+    Node {
+        id,
+        parts,
+        quants: Owned::new(alloc),
     }
 }
 

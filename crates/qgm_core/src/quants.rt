@@ -1,5 +1,5 @@
 // The numbers of a box's quantifiers.
-ghost use Rattle.std.specs.Prelude.{◌≡◌, ◌<◌, ◌≤◌, ◌++◌, ◌∷◌, [], ℕ, length, insert, slice_index_or, IfOk, OnOk, OnErr};
+ghost use Rattle.std.specs.Prelude.{◌≡◌, ◌<◌, ◌≤◌, [], ℕ, length, insert, slice_index_or, IfOk, OnOk, OnErr};
 ghost use Rattle.std.specs.List.{remove};
 
 use qgm_terms::QuantId;
@@ -46,23 +46,13 @@ impl Quants {
         &self.ids
     }
 
-    // Adds a quantifier at the end.
-    pub(crate) fn push(&mut self, q: QuantId) -> Result<(), OutOfMemory>
-        ensures ok { OnOk result (self.new ≡ self.old ++ q ∷ []) }
-        ensures err { OnErr result (self.new ≡ self.old) }
-    {
-        self.ids.push(q)?;
-        Ok(())
-    }
-
     // Puts a quantifier at a place, from 0.
     pub(crate) fn insert(&mut self, i: usize, q: QuantId) -> Result<(), OutOfMemory>
         requires { i ≤ length self.old }
         ensures ok { OnOk result (self.new ≡ insert self.old i q) }
         ensures err { OnErr result (self.new ≡ self.old) }
     {
-        self.ids.insert(i, q)?;
-        Ok(())
+        self.ids.insert(i, q).or(Err(OutOfMemory))
     }
 
     // Takes the quantifier at a place, from 0, out.

@@ -1,8 +1,7 @@
-use Rattle.std.proofs.Common.{◌≡◌, ◌+◌, List, refl, sym, subst, insert, ap, map, rules, arith}
-use Rattle.qgm_core.specs.Boxes.{QueryGraph, HasBox, bare_box}
+use Rattle.std.proofs.Common.{◌≡◌, ◌+◌, List, sym, subst, insert, ap, rules, arith}
+use Rattle.qgm_core.specs.Boxes.{QueryGraph, HasBox, bare_box, ids_of}
 use Rattle.qgm_core.specs.Numbered.{Numbered}
 use Rattle.qgm_core.specs.declared.node.Node.{Node}
-use Rattle.qgm_core.specs.declared.owned.OwnedQuant.{OwnedQuant}
 use Rattle.qgm_core.proofs.Fresh.{no_box, numbered-insert}
 use Rattle.qgm_core.specs.Held.{HasAll}
 use Rattle.qgm_core.proofs.Held.{all-more}
@@ -12,10 +11,11 @@ use Rattle.qgm_core.proofs.graph.Graph.add_box.Goals as goal
 pub invariant_of-self-2 : goal.invariant_of-self-2
 invariant_of-self-2 c =
     let xs = c.self.inside.nodes.items in
-    let n : Node = record { id = c.self.inside.next_box; parts = c.args.parts; quants = c.new-quants.result } in
+    let b = c.self.inside.next_box in
+    let n : Node = c.bare-node.result in
     let e : c.insert.new.self.items ≡ insert xs c.new_place-i.result n = c.in_ok-insert.ensures.items in
-    subst (Numbered (c.self.inside.next_box + 1) c.self.inside.next_quant) (sym e)
-    (numbered-insert c.self.inside.next_box c.self.inside.next_quant xs c.new_place-i.result n refl (ap (λ (rs : List OwnedQuant). map (λ r. r.id) rs) c.new-quants.ensures) c.self.invariant)
+    rw c.in_ok-next.ensures (subst (Numbered (b + 1) c.self.inside.next_quant) (sym e)
+    (numbered-insert b c.self.inside.next_quant xs c.new_place-i.result n (ap (λ (m : Node). m.id) c.bare-node.ensures) (ap ids_of c.bare-node.ensures) c.self.invariant))
 
 pub returns-clause-fresh : goal.returns-clause-fresh
 returns-clause-fresh c = λ h.
