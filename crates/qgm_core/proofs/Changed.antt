@@ -9,7 +9,7 @@ use Rattle.qgm_core.specs.declared.node.Node.{Node}
 use Rattle.qgm_core.specs.declared.parts.BoxParts.{BoxParts}
 use Rattle.qgm_terms.specs.Conjuncts.{Conjuncts}
 use Rattle.qgm_terms.specs.Substitution.{substituted, substituted_cond}
-use Rattle.qgm_terms.specs.Terms.{Term}
+use Rattle.qgm_terms.specs.Terms.{Cond, Term}
 
 -- which boxes there are
 pub has-change : (p : Node → Bool) (f : Node → Node) (to : ℕ) (ns : List Node) → ((n : Node) → (f n).id ≡ n.id) → has_box (change p f ns) to ≡ has_box ns to
@@ -28,6 +28,10 @@ change-same {X} p f g (x ∷ xs) same =
       | inl t ↦ rw t (ap (λ (y : X). y ∷ xs) (same x (rw t refl)))
       | inr t ↦ rw t (ap (λ (ys : List X). x ∷ ys) (change-same p f g xs (λ y e. same y (rw t e))))
     ]
+
+-- conditions that are the same, with room for as many
+pub same_conds : (c d : Conjuncts) → c.items ≡ d.items → c.spare ≡ d.spare → c ≡ d
+same_conds c d e f = ap {B = Conjuncts} (λ (is : List Cond). record { items = is; spare = c.spare }) e ∙ ap {B = Conjuncts} (λ (s : ℕ). record { items = d.items; spare = s }) f
 
 -- cells put in place of columns in what is copied of the box, and then into it
 pub terms-put : (b q : ℕ) (cells head : List Term) (conds : Conjuncts) (p : BoxParts) (ns : List Node) → Some p ≡ option_map (λ n. n.parts) (first (is_box b) ns) →

@@ -20,6 +20,9 @@ map_insert f xs i x = simp (map-append, take-map, drop-map)
 pub map_remove : {X Y : Type 0} (f : X → Y) (xs : List X) (i : ℕ) → remove (map f xs) i ≡ map f (remove xs i)
 map_remove f xs i = simp (map-append, take-map, drop-map)
 
+pub never_both : (b : Bool) → b ≡ false → b ≡ true → ⊥
+never_both b e h = let q : ⊥ = cc in q
+
 -- what holds after a call, whether it is refused or not
 pub on_both : {A E X : Type 0} (P : X → Type 0) (r : Result A E) (x y z : X) → OnOk r (x ≡ y) → OnErr r (x ≡ z) → P y → P z → P x
 on_both P (Ok v) x y z e f p q = subst P (sym e) p

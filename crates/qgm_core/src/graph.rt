@@ -311,10 +311,12 @@ impl Graph {
     {
         let id = self.next_box;
         let node = bare(alloc, id, parts);
-        let next = number_after(id)?;
+        if id == usize::MAX {
+            return Err(OutOfMemory);
+        }
         let i = new_place(&self.nodes, below);
         self.nodes.insert(i, node)?;
-        self.next_box = next;
+        self.next_box = id + 1;
         Ok(id)
     }
 
@@ -444,7 +446,7 @@ impl Graph {
         ensures kept { HasAll self.old self.new }
     {
         let k = box_place(&self.nodes, b);
-        make_room(&mut self.nodes[k].parts.conds, n)
+        self.nodes[k].parts.conds.reserve(n)
     }
 
     /// Drops a quantifier. It takes no memory.
@@ -518,7 +520,7 @@ impl Graph {
         ensures graph { self.new ≡ edits.on_box b (edits.without_cond (i - 1)) self.old }
     {
         let k = box_place(&self.nodes, b);
-        take_cond(&mut self.nodes[k].parts.conds, i)
+        self.nodes[k].parts.conds.remove(i)
     }
 
     // Adds a condition to a box, at the end, where there is room for it.
@@ -529,7 +531,7 @@ impl Graph {
         ensures { self.new ≡ edits.on_box b (edits.with_cond (cond c)) self.old }
     {
         let k = box_place(&self.nodes, b);
-        put_cond(&mut self.nodes[k].parts.conds, c);
+        self.nodes[k].parts.conds.push(c);
     }
 
     /// Drops a column of a box's head, by its place from 1. Names of later columns of the quantifiers
@@ -561,20 +563,10 @@ impl Graph {
     {
         let parts = self.parts(b);
         let head = substitute_head(alloc, &parts.head, q, cells, ROOM)?;
-        let conds = substituted_conds(alloc, &parts.conds, q, cells)?;
+        let conds = substitute_conds(alloc, &parts.conds, q, cells, ROOM)?;
         self.put_terms(b, conds, head);
         Ok(())
     }
-}
-
-// The number after this one, if there is one.
-fn number_after(id: usize) -> Result<usize, OutOfMemory>
-    ensures { IfOk result (λ next. next ≡ id + 1) }
-{
-    if id == usize::MAX {
-        return Err(OutOfMemory);
-    }
-    Ok(id + 1)
 }
 
 // A box that owns no quantifier.
@@ -586,44 +578,4 @@ fn bare(alloc: Global, id: BoxId, parts: BoxParts) -> Node
         parts,
         quants: Owned::new(alloc),
     }
-}
-
-// Takes a condition out, by its place from 1.
-fn take_cond(conds: &mut Conds, i: usize) -> Gc
-    requires from_one { 1 ≤ i }
-    requires within { i ≤ length conds.old.items }
-    ensures taken { slice_get conds.old.items (i - 1) ≡ Some (cond result) }
-    ensures depth { depth_cond result ≤ room }
-    ensures left { conds.new ≡ record conds.old { items = remove conds.old.items (i - 1) } }
-{
-    conds.remove(i)
-}
-
-// Adds a condition at the end, where there is room for it.
-fn put_cond(conds: &mut Conds, c: Gc)
-    requires spare { 1 ≤ conds.old.spare }
-    requires depth { depth_cond c ≤ room }
-    ensures { conds.new ≡ record { items = conds.old.items ++ cond c ∷ []; spare = conds.old.spare - 1 } }
-{
-    conds.push(c);
-}
-
-// Conditions with cells in place of a quantifier's columns.
-fn substituted_conds(
-    alloc: Global,
-    conds: &Conds,
-    q: QuantId,
-    cells: &Head,
-) -> Result<Conds, OutOfMemory>
-    ensures { IfOk result (λ a. a ≡ record conds.now { items = map (substituted_cond q cells.now) conds.now.items }) }
-{
-    substitute_conds(alloc, conds, q, cells, ROOM)
-}
-
-// Makes room for n more conditions.
-fn make_room(conds: &mut Conds, n: usize) -> Result<(), OutOfMemory>
-    ensures ok { OnOk result (conds.new ≡ record conds.old { spare = max conds.old.spare n }) }
-    ensures err { OnErr result (conds.new ≡ conds.old) }
-{
-    conds.reserve(n)
 }

@@ -70,10 +70,9 @@ impl Owned {
     pub(crate) fn copy(&self, alloc: Global) -> Result<Owned, OutOfMemory>
         ensures { IfOk result (λ o. o ≡ self.now) }
     {
-        Ok(Owned {
-            ids: self.ids.copy(alloc)?,
-            ranges: Vec::from_slice(alloc, &self.ranges)?,
-        })
+        let mut copy = Owned::new(alloc);
+        copy.append(self.as_slice())?;
+        Ok(copy)
     }
 
     /// The numbers of the quantifiers.
@@ -97,6 +96,16 @@ impl Owned {
     {
         let n = self.ranges.len();
         self.insert(n, r)
+    }
+
+    // Adds quantifiers at the end.
+    pub(crate) fn append(&mut self, ranges: &[OwnedQuant]) -> Result<(), OutOfMemory>
+        ensures { OnOk result (self.new ≡ self.old ++ ranges.now) }
+    {
+        for range in ranges {
+            self.push(*range)?;
+        }
+        Ok(())
     }
 
     // Puts a quantifier at a place, from 0.

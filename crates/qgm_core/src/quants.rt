@@ -1,5 +1,5 @@
 // The numbers of a box's quantifiers.
-ghost use Rattle.std.specs.Prelude.{◌≡◌, ◌<◌, ◌≤◌, [], ℕ, length, insert, slice_index_or, IfOk, OnOk, OnErr};
+ghost use Rattle.std.specs.Prelude.{◌≡◌, ◌<◌, ◌≤◌, [], ℕ, length, insert, slice_index_or, OnOk, OnErr};
 ghost use Rattle.std.specs.List.{remove};
 
 use qgm_terms::QuantId;
@@ -28,15 +28,6 @@ impl Quants {
         Quants {
             ids: Vec::new(alloc),
         }
-    }
-
-    // A copy.
-    pub(crate) fn copy(&self, alloc: Global) -> Result<Quants, OutOfMemory>
-        ensures { IfOk result (λ q. q ≡ self.now) }
-    {
-        Ok(Quants {
-            ids: Vec::from_slice(alloc, &self.ids)?,
-        })
     }
 
     /// The quantifiers.

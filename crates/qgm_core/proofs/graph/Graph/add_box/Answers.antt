@@ -2,7 +2,7 @@ use Rattle.std.proofs.Common.{◌≡◌, ◌+◌, List, sym, subst, insert, ap, 
 use Rattle.qgm_core.specs.Boxes.{QueryGraph, HasBox, bare_box, ids_of}
 use Rattle.qgm_core.specs.Numbered.{Numbered}
 use Rattle.qgm_core.specs.declared.node.Node.{Node}
-use Rattle.qgm_core.proofs.Fresh.{no_box, numbered-insert}
+use Rattle.qgm_core.proofs.Fresh.{never_both, no_box, numbered-insert}
 use Rattle.qgm_core.specs.Held.{HasAll}
 use Rattle.qgm_core.proofs.Held.{all-more}
 use Rattle.std.proofs.lemmas.Grind.{common_steps}
@@ -14,14 +14,14 @@ invariant_of-self-2 c =
     let b = c.self.inside.next_box in
     let n : Node = c.bare-node.result in
     let e : c.insert.new.self.items ≡ insert xs c.new_place-i.result n = c.in_ok-insert.ensures.items in
-    rw c.in_ok-next.ensures (subst (Numbered (b + 1) c.self.inside.next_quant) (sym e)
-    (numbered-insert b c.self.inside.next_quant xs c.new_place-i.result n (ap (λ (m : Node). m.id) c.bare-node.ensures) (ap ids_of c.bare-node.ensures) c.self.invariant))
+    subst (Numbered (b + 1) c.self.inside.next_quant) (sym e)
+    (numbered-insert b c.self.inside.next_quant xs c.new_place-i.result n (ap (λ (m : Node). m.id) c.bare-node.ensures) (ap ids_of c.bare-node.ensures) c.self.invariant)
 
 pub returns-clause-fresh : goal.returns-clause-fresh
 returns-clause-fresh c = λ h.
     let e = no_box c.self.inside.next_box c.self.inside.nodes.items c.self.invariant.0 in
     let k = subst (λ (g : QueryGraph). HasBox c.self.inside.next_box g) (sym c.self.view_is) h in
-    absurd (let q : ⊥ = cc in q)
+    never_both _ e k
 
 pub returns-clause-ok : goal.returns-clause-ok
 returns-clause-ok c = search rules

@@ -4,7 +4,7 @@ use Rattle.qgm_core.specs.Edits.{put_range, range}
 use Rattle.qgm_core.specs.Numbered.{Numbered}
 use Rattle.qgm_core.specs.declared.node.Node.{Node}
 use Rattle.qgm_core.specs.declared.owned.OwnedQuant.{OwnedQuant}
-use Rattle.qgm_core.proofs.Fresh.{no_quant, numbered-quant}
+use Rattle.qgm_core.proofs.Fresh.{never_both, no_quant, numbered-quant}
 use Rattle.qgm_core.specs.Held.{HasAll}
 use Rattle.qgm_core.proofs.Held.{all-range, range-held}
 use Rattle.std.proofs.lemmas.Grind.{common_steps}
@@ -27,7 +27,7 @@ pub returns-clause-fresh : goal.returns-clause-fresh
 returns-clause-fresh c = λ h.
     let e = no_quant c.self.inside.next_quant c.self.inside.nodes.items c.self.invariant.2 in
     let k = subst (λ (g : QueryGraph). HasQuant c.self.inside.next_quant g) (sym c.self.view_is) h in
-    absurd (let q : ⊥ = cc in q)
+    never_both _ e k
 
 pub returns-clause-ok : goal.returns-clause-ok
 returns-clause-ok c = search rules

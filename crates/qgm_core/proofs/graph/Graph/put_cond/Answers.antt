@@ -1,6 +1,8 @@
-use Rattle.std.proofs.Common.{ap, arith}
+use Rattle.std.proofs.Common.{◌≡◌, ◌-◌, ◌++◌, ◌∷◌, [], ap, arith}
 use Rattle.qgm_core.specs.Boxes.{ids_of}
 use Rattle.qgm_core.specs.declared.node.Node.{Node}
+use Rattle.qgm_core.proofs.Changed.{same_conds}
+use Rattle.qgm_terms.specs.Shown.{cond}
 use Rattle.qgm_core.proofs.Fresh.{numbered-set}
 use Rattle.std.proofs.lemmas.Grind.{common_steps}
 use Rattle.qgm_core.proofs.graph.Graph.put_cond.Goals as goal
@@ -12,7 +14,10 @@ invariant_of-self c =
     numbered-set c.self.inside.next_box c.self.inside.next_quant c.self.inside.nodes.items c.box_place-k.result _ c.index_mut.result.now at.0 (ap (λ (n : Node). n.id) e) (ap ids_of e) c.self.invariant
 
 pub returns : goal.returns
-returns c = grind (arith, common_steps)
+returns c =
+    let left = c.index_mut.result.now.parts.conds in
+    let more : c.push.new.self ≡ record { items = left.items ++ cond c.args.c ∷ []; spare = left.spare - 1 } = same_conds c.push.new.self _ c.push.ensures.items (let s = c.push.ensures.spare in omega (arith, s)) in
+    grind (arith, common_steps, more)
 
-pub put_cond-requires-clause-spare : goal.put_cond-requires-clause-spare
-put_cond-requires-clause-spare c = grind (arith, common_steps)
+pub push-requires-clause-spare : goal.push-requires-clause-spare
+push-requires-clause-spare c = grind (arith, common_steps)

@@ -1,6 +1,7 @@
 use Rattle.std.proofs.Common.{ap, refl, rules, arith}
 use Rattle.qgm_core.specs.Boxes.{ids_of, QueryGraph, is_box}
 use Rattle.qgm_core.specs.declared.node.Node.{Node}
+use Rattle.qgm_core.proofs.Changed.{same_conds}
 use Rattle.qgm_core.proofs.Fresh.{numbered-set, on_both}
 use Rattle.qgm_core.specs.Held.{HasAll}
 use Rattle.qgm_core.specs.Edits.{with_room}
@@ -16,12 +17,12 @@ invariant_of-self c =
     numbered-set c.self.inside.next_box c.self.inside.next_quant c.self.inside.nodes.items c.box_place-k.result _ c.index_mut.result.now at.0 (ap (λ (n : Node). n.id) e) (ap ids_of e) c.self.invariant
 
 pub returns-clause-ok : goal.returns-clause-ok
-returns-clause-ok c = on_ok_weaker c.make_room.result (λ e. search rules) c.make_room.ensures.ok
+returns-clause-ok c = on_ok_weaker c.reserve.result (λ e. search rules) (on_ok_weaker c.reserve.result (λ e. same_conds c.reserve.new.self _ c.reserve.ensures.items e) c.reserve.ensures.ok)
 
 pub returns-clause-err : goal.returns-clause-err
-returns-clause-err c = on_err_weaker c.make_room.result (λ e. grind (arith, common_steps, e)) c.make_room.ensures.err
+returns-clause-err c = on_err_weaker c.reserve.result (λ e. grind (arith, common_steps, e)) (on_err_weaker c.reserve.result (λ e. same_conds c.reserve.new.self _ c.reserve.ensures.items e) c.reserve.ensures.err)
 
 pub returns-clause-kept : goal.returns-clause-kept
 returns-clause-kept c =
     let g = c.args.self.now in
-    on_both (λ (h : QueryGraph). HasAll g h) c.make_room.result _ _ g (returns-clause-ok c) (returns-clause-err c) (all-parts (is_box c.args.b) (with_room c.args.n) g.boxes (λ n. refl) (λ n. refl)) (λ b h. h, λ q h. h)
+    on_both (λ (h : QueryGraph). HasAll g h) c.reserve.result _ _ g (returns-clause-ok c) (returns-clause-err c) (all-parts (is_box c.args.b) (with_room c.args.n) g.boxes (λ n. refl) (λ n. refl)) (λ b h. h, λ q h. h)

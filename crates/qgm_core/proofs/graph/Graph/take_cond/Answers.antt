@@ -1,6 +1,7 @@
 use Rattle.std.proofs.Common.{ap, arith}
 use Rattle.qgm_core.specs.Boxes.{ids_of}
 use Rattle.qgm_core.specs.declared.node.Node.{Node}
+use Rattle.qgm_core.proofs.Changed.{same_conds}
 use Rattle.qgm_core.proofs.Fresh.{numbered-set}
 use Rattle.std.proofs.lemmas.Grind.{common_steps}
 use Rattle.qgm_core.proofs.graph.Graph.take_cond.Goals as goal
@@ -12,10 +13,12 @@ invariant_of-self c =
     numbered-set c.self.inside.next_box c.self.inside.next_quant c.self.inside.nodes.items c.box_place-k.result _ c.index_mut.result.now at.0 (ap (λ (n : Node). n.id) e) (ap ids_of e) c.self.invariant
 
 pub returns-clause-graph : goal.returns-clause-graph
-returns-clause-graph c = grind (arith, common_steps)
+returns-clause-graph c =
+    let left = same_conds c.remove.new.self _ c.remove.ensures.items c.remove.ensures.spare in
+    grind (arith, common_steps, left)
 
 pub returns-clause-taken : goal.returns-clause-taken
 returns-clause-taken c = grind (arith, common_steps)
 
-pub take_cond-requires-clause-within : goal.take_cond-requires-clause-within
-take_cond-requires-clause-within c = grind (arith, common_steps)
+pub remove-requires-clause-within : goal.remove-requires-clause-within
+remove-requires-clause-within c = grind (arith, common_steps)
