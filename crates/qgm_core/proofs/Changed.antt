@@ -1,10 +1,11 @@
 -- What is found in a graph where one box has changed.
-use Rattle.std.proofs.Common.{ℕ, ◌==◌, ◌≡◌, ◌||◌, cond, Bool, true, false, List, [], ◌∷◌, Some, Option, map, option_map, refl, ap, sym, ◌∙◌, eqb-true, inl, inr, subst}
+use Rattle.std.proofs.Common.{ℕ, ◌==◌, ◌≡◌, ◌||◌, cond, Bool, true, false, List, [], ◌∷◌, Some, Option, get_or, map, option_map, refl, ap, sym, ◌∙◌, eqb-true, inl, inr, subst}
+use Rattle.std.proofs.Math.ListN.{set}
 use Rattle.std.proofs.lemmas.Bool.{cases_Bool}
 use Rattle.std.specs.List.{list_any}
-use Rattle.qgm_core.specs.Boxes.{has_box, is_box}
-use Rattle.qgm_core.specs.Edits.{put_cells, spare_in, with_terms, without_cond}
-use Rattle.qgm_core.specs.Lists.{change, first, without}
+use Rattle.qgm_core.specs.Boxes.{QueryGraph, has_box, is_box}
+use Rattle.qgm_core.specs.Edits.{on_boxes, put_cells, spare_in, with_terms, without_cond}
+use Rattle.qgm_core.specs.Lists.{IsFirst, change, first, without}
 use Rattle.qgm_core.specs.declared.node.Node.{Node}
 use Rattle.qgm_core.specs.declared.parts.BoxParts.{BoxParts}
 use Rattle.qgm_terms.specs.Conjuncts.{Conjuncts}
@@ -28,6 +29,13 @@ change-same {X} p f g (x ∷ xs) same =
       | inl t ↦ rw t (ap (λ (y : X). y ∷ xs) (same x (rw t refl)))
       | inr t ↦ rw t (ap (λ (ys : List X). x ∷ ys) (change-same p f g xs (λ y e. same y (rw t e))))
     ]
+
+-- a graph whose box at a place is another one
+pub edited : (p : Node → Bool) (f : Node → Node) (ns : List Node) (k : ℕ) (y d : Node) (g h : QueryGraph) → IsFirst p ns k → y ≡ f (get_or ns k d) → g.boxes ≡ ns → g ≡ h →
+    record g { boxes = set ns k y } ≡ on_boxes (change p f) h
+edited p f ns k y d g h at e same v =
+    ap {B = QueryGraph} (λ (ms : List Node). record g { boxes = ms }) (at.3 f y d e ∙ sym (ap (λ (ms : List Node). change p f ms) same))
+    ∙ ap {B = QueryGraph} (λ (m : QueryGraph). on_boxes (change p f) m) v
 
 -- conditions that are the same, with room for as many
 pub same_conds : (c d : Conjuncts) → c.items ≡ d.items → c.spare ≡ d.spare → c ≡ d

@@ -8,8 +8,6 @@ pub fn make_long<T: Copy>(table: &mut Vec<T>, x: usize, none: T) -> Result<(), O
     ensures within { OnOk result (x < length table.new.items) }
     ensures same { (y : ℕ) → slice_index_or table.new.items y none ≡ slice_index_or table.old.items y none }
 {
-    if x < table.len() {
-        return Ok(());
-    }
-    table.resize(x.saturating_add(1), none).or(Err(OutOfMemory))
+    let long = table.len().max(x.saturating_add(1));
+    table.resize(long, none).or(Err(OutOfMemory))
 }

@@ -1,5 +1,6 @@
-use Rattle.std.proofs.Common.{◌≡◌, ◌+◌, List, sym, subst, insert, ap, rules, arith}
-use Rattle.qgm_core.specs.Boxes.{QueryGraph, HasBox, bare_box, ids_of}
+use Rattle.std.proofs.Common.{◌≡◌, ◌+◌, List, sym, subst, insert, ap, ◌∙◌, arith}
+use Rattle.qgm_core.specs.Boxes.{QueryGraph, HasBox, bare_box, ids_of, put_at}
+use Rattle.qgm_core.specs.Edits.{with_box}
 use Rattle.qgm_core.specs.Numbered.{Numbered}
 use Rattle.qgm_core.specs.declared.node.Node.{Node}
 use Rattle.qgm_core.proofs.Fresh.{never_both, no_box, numbered-insert}
@@ -24,7 +25,14 @@ returns-clause-fresh c = λ h.
     never_both _ e k
 
 pub returns-clause-ok : goal.returns-clause-ok
-returns-clause-ok c = search rules
+returns-clause-ok c =
+    let b = c.self.inside.next_box in
+    let xs = c.self.inside.nodes.items in
+    let below = c.args.below in
+    let at = rw c.deref.ensures.value at c.new_place-i.ensures in
+    let e : c.insert.new.self.items ≡ put_at below (bare_box b c.args.parts) xs = c.in_ok-insert.ensures.items ∙ at.1 c.bare-node.result ∙ ap (λ (n : Node). put_at below n xs) c.bare-node.ensures in
+    ap {B = QueryGraph} (λ (ns : List Node). record { boxes = ns; root = c.self.inside.root; names = c.self.inside.names; order = c.self.inside.order }) e
+    ∙ ap {B = QueryGraph} (λ (g : QueryGraph). with_box below (bare_box b c.args.parts) g) c.self.view_is
 
 pub returns-clause-kept : goal.returns-clause-kept
 returns-clause-kept c =

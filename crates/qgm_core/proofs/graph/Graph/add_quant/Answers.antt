@@ -8,6 +8,7 @@ use Rattle.qgm_core.proofs.Fresh.{never_both, no_quant, numbered-quant}
 use Rattle.qgm_core.specs.Held.{HasAll}
 use Rattle.qgm_core.proofs.Held.{all-range, range-held}
 use Rattle.std.proofs.lemmas.Grind.{common_steps}
+use Rattle.qgm_core.proofs.Changed.{edited}
 use Rattle.qgm_core.proofs.graph.Graph.add_quant.Goals as goal
 
 pub invariant_of-self-2 : goal.invariant_of-self-2
@@ -30,7 +31,11 @@ returns-clause-fresh c = λ h.
     never_both _ e k
 
 pub returns-clause-ok : goal.returns-clause-ok
-returns-clause-ok c = search rules
+returns-clause-ok c =
+    let at = rw c.deref.ensures.value at c.box_place-k.ensures.first in
+    let n = c.index_mut.result.now in
+    let f = put_range (c.args.place - 1) (range c.self.inside.next_quant c.args.kind c.args.over) in
+    edited (is_box c.args.owner) f c.self.inside.nodes.items c.box_place-k.result _ n _ _ at (ap {B = Node} (λ (rs : List OwnedQuant). record n { quants = rs }) c.in_ok-insert.ensures.ok ∙ ap f c.index_mut.ensures.value) refl c.self.view_is
 
 pub returns-clause-kept : goal.returns-clause-kept
 returns-clause-kept c =

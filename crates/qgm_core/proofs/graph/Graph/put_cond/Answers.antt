@@ -1,7 +1,9 @@
-use Rattle.std.proofs.Common.{◌≡◌, ◌-◌, ◌++◌, ◌∷◌, [], ap, arith}
-use Rattle.qgm_core.specs.Boxes.{ids_of}
+use Rattle.std.proofs.Common.{◌≡◌, ◌-◌, ◌++◌, ◌∷◌, [], ◌∙◌, ap, refl, arith}
+use Rattle.qgm_core.specs.Boxes.{ids_of, is_box}
+use Rattle.qgm_core.specs.Edits.{with_cond, with_conds}
+use Rattle.qgm_terms.specs.Conjuncts.{Conjuncts}
 use Rattle.qgm_core.specs.declared.node.Node.{Node}
-use Rattle.qgm_core.proofs.Changed.{same_conds}
+use Rattle.qgm_core.proofs.Changed.{edited, same_conds}
 use Rattle.qgm_terms.specs.Shown.{cond}
 use Rattle.qgm_core.proofs.Fresh.{numbered-set}
 use Rattle.std.proofs.lemmas.Grind.{common_steps}
@@ -15,9 +17,12 @@ invariant_of-self c =
 
 pub returns : goal.returns
 returns c =
-    let left = c.index_mut.result.now.parts.conds in
+    let at = rw c.deref.ensures.value at c.box_place-k.ensures.first in
+    let n = c.index_mut.result.now in
+    let f = with_cond (cond c.args.c) in
+    let left = n.parts.conds in
     let more : c.push.new.self ≡ record { items = left.items ++ cond c.args.c ∷ []; spare = left.spare - 1 } = same_conds c.push.new.self _ c.push.ensures.items (let s = c.push.ensures.spare in omega (arith, s)) in
-    grind (arith, common_steps, more)
+    edited (is_box c.args.b) f c.self.inside.nodes.items c.box_place-k.result _ n _ _ at (ap {B = Node} (λ (cs : Conjuncts). with_conds cs n) more ∙ ap f c.index_mut.ensures.value) refl c.self.view_is
 
 pub push-requires-clause-spare : goal.push-requires-clause-spare
 push-requires-clause-spare c = grind (arith, common_steps)

@@ -1,10 +1,11 @@
-use Rattle.std.proofs.Common.{ap, refl, rules, arith}
+use Rattle.std.proofs.Common.{◌∙◌, ap, refl, arith}
 use Rattle.qgm_core.specs.Boxes.{ids_of, QueryGraph, is_box}
 use Rattle.qgm_core.specs.declared.node.Node.{Node}
-use Rattle.qgm_core.proofs.Changed.{same_conds}
+use Rattle.qgm_core.proofs.Changed.{edited, same_conds}
 use Rattle.qgm_core.proofs.Fresh.{numbered-set, on_both}
 use Rattle.qgm_core.specs.Held.{HasAll}
-use Rattle.qgm_core.specs.Edits.{with_room}
+use Rattle.qgm_core.specs.Edits.{with_conds, with_room}
+use Rattle.qgm_terms.specs.Conjuncts.{Conjuncts}
 use Rattle.qgm_core.proofs.Held.{all-parts}
 use Rattle.std.proofs.lemmas.Result.{on_ok_weaker, on_err_weaker}
 use Rattle.std.proofs.lemmas.Grind.{common_steps}
@@ -17,7 +18,11 @@ invariant_of-self c =
     numbered-set c.self.inside.next_box c.self.inside.next_quant c.self.inside.nodes.items c.box_place-k.result _ c.index_mut.result.now at.0 (ap (λ (n : Node). n.id) e) (ap ids_of e) c.self.invariant
 
 pub returns-clause-ok : goal.returns-clause-ok
-returns-clause-ok c = on_ok_weaker c.reserve.result (λ e. search rules) (on_ok_weaker c.reserve.result (λ e. same_conds c.reserve.new.self _ c.reserve.ensures.items e) c.reserve.ensures.ok)
+returns-clause-ok c = on_ok_weaker c.reserve.result (λ e.
+    let at = rw c.deref.ensures.value at c.box_place-k.ensures.first in
+    let n = c.index_mut.result.now in
+    let f = with_room c.args.n in
+    edited (is_box c.args.b) f c.self.inside.nodes.items c.box_place-k.result _ n _ _ at (ap {B = Node} (λ (cs : Conjuncts). with_conds cs n) e ∙ ap f c.index_mut.ensures.value) refl c.self.view_is) (on_ok_weaker c.reserve.result (λ e. same_conds c.reserve.new.self _ c.reserve.ensures.items e) c.reserve.ensures.ok)
 
 pub returns-clause-err : goal.returns-clause-err
 returns-clause-err c = on_err_weaker c.reserve.result (λ e. grind (arith, common_steps, e)) (on_err_weaker c.reserve.result (λ e. same_conds c.reserve.new.self _ c.reserve.ensures.items e) c.reserve.ensures.err)

@@ -1,7 +1,9 @@
-use Rattle.std.proofs.Common.{ap, arith}
-use Rattle.qgm_core.specs.Boxes.{ids_of}
+use Rattle.std.proofs.Common.{◌-◌, ◌∙◌, ap, refl, arith}
+use Rattle.qgm_core.specs.Boxes.{ids_of, is_box}
+use Rattle.qgm_core.specs.Edits.{with_conds, without_cond}
+use Rattle.qgm_terms.specs.Conjuncts.{Conjuncts}
 use Rattle.qgm_core.specs.declared.node.Node.{Node}
-use Rattle.qgm_core.proofs.Changed.{same_conds}
+use Rattle.qgm_core.proofs.Changed.{edited, same_conds}
 use Rattle.qgm_core.proofs.Fresh.{numbered-set}
 use Rattle.std.proofs.lemmas.Grind.{common_steps}
 use Rattle.qgm_core.proofs.graph.Graph.take_cond.Goals as goal
@@ -14,8 +16,11 @@ invariant_of-self c =
 
 pub returns-clause-graph : goal.returns-clause-graph
 returns-clause-graph c =
+    let at = rw c.deref.ensures.value at c.box_place-k.ensures.first in
+    let n = c.index_mut.result.now in
+    let f = without_cond (c.args.i - 1) in
     let left = same_conds c.remove.new.self _ c.remove.ensures.items c.remove.ensures.spare in
-    grind (arith, common_steps, left)
+    edited (is_box c.args.b) f c.self.inside.nodes.items c.box_place-k.result _ n _ _ at (ap {B = Node} (λ (cs : Conjuncts). with_conds cs n) left ∙ ap f c.index_mut.ensures.value) refl c.self.view_is
 
 pub returns-clause-taken : goal.returns-clause-taken
 returns-clause-taken c = grind (arith, common_steps)
