@@ -14,7 +14,6 @@ ghost use Rattle.qgm_terms.specs.Shown.{cond};
 ghost use Rattle.qgm_terms.specs.Substitution.{substituted_cond};
 
 use crate::absorbed::absorb_box;
-use crate::compact::keep_marked;
 use crate::copies::{copy_names, copy_nodes, copy_order};
 use crate::free::{free_in, reached};
 use crate::kinds::{BoxId, BoxKind, Distinct, QuantKind, Role};
@@ -365,7 +364,7 @@ impl Graph {
     pub fn keep(&mut self, marks: &Marks)
         ensures { self.new ≡ edits.keep marks.now self.old }
     {
-        keep_marked(&mut self.nodes, marks);
+        self.nodes.retain(|n| marks.has(n.id));
     }
 
     /// Moves a box just below another one. It takes no memory.

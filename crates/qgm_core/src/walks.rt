@@ -65,22 +65,6 @@ fn add_news(ranges: &[OwnedQuant], seen: &mut Marks) -> Result<(), OutOfMemory>
     Ok(())
 }
 
-// The same of the quantifiers of a box.
-fn add_below(
-    nodes: &[Node],
-    places: &Places,
-    b: BoxId,
-    seen: &mut Marks,
-) -> Result<(), OutOfMemory>
-    requires { places.now ≡ numbers nodes.now }
-    ensures { OnOk result (seen.new ≡ seen.old ++ spec.news seen.old (map (λ r. r.over) (quants_in (first (is_box b) nodes.now)))) }
-{
-    match node_at(nodes, places, b) {
-        Some(node) => add_news(node.quants.as_slice(), seen),
-        None => Ok(()),
-    }
-}
-
 // Appends the level below the one that starts at this place.
 fn add_level(
     nodes: &[Node],
@@ -94,7 +78,9 @@ fn add_level(
 {
     for i in start..seen.as_slice().len() {
         let b = seen.as_slice()[i];
-        add_below(nodes, places, b, seen)?;
+        if let Some(node) = node_at(nodes, places, b) {
+            add_news(node.quants.as_slice(), seen)?;
+        }
     }
     Ok(())
 }
