@@ -12,18 +12,10 @@ use std::marker::Model;
 
 /// The places of boxes, each found at once by the box's number. Contracts see it as the list of the
 /// boxes' numbers.
+#[derive(Drop)]
 pub struct Places {
     list: Vec<BoxId>,
     at: Vec<Option<usize>>,
-}
-
-// By hand, so that what lets places go cites this function.
-impl Drop for Places {
-    fn drop(self) {
-        let Places { list, at } = self;
-        drop(list);
-        drop(at);
-    }
 }
 
 impl Model for Places {
@@ -41,21 +33,14 @@ impl Places {
     pub fn of(alloc: Global, nodes: &[Node]) -> Result<Places, OutOfMemory>
         ensures { IfOk result (λ p. p ≡ numbers nodes.now) }
     {
-        let mut places = Places::new(alloc);
+        let mut places = Places {
+            list: Vec::new(alloc),
+            at: Vec::new(alloc),
+        };
         for node in nodes {
             places.push(node.id)?;
         }
         Ok(places)
-    }
-
-    // No place.
-    fn new(alloc: Global) -> Places
-        ensures { result ≡ [] }
-    {
-        Places {
-            list: Vec::new(alloc),
-            at: Vec::new(alloc),
-        }
     }
 
     // Adds the next place. The first of one number counts.

@@ -11,18 +11,10 @@ use std::alloc::Global;
 use std::marker::Model;
 
 /// Numbers that are counted, each at once. Contracts see it as the list of them.
+#[derive(Drop)]
 pub struct Counts {
     list: Vec<usize>,
     counts: Vec<usize>,
-}
-
-// By hand, so that what lets counts go cites this function.
-impl Drop for Counts {
-    fn drop(self) {
-        let Counts { list, counts } = self;
-        drop(list);
-        drop(counts);
-    }
 }
 
 impl Model for Counts {
@@ -69,23 +61,15 @@ impl Counts {
     }
 }
 
-// Counts the boxes that these quantifiers range over.
-fn count_overs(ranges: &[OwnedQuant], counts: &mut Counts) -> Result<(), OutOfMemory>
-    ensures { OnOk result (counts.new ≡ counts.old ++ map (λ r. r.over) ranges.now) }
-{
-    for range in ranges {
-        counts.push(range.over)?;
-    }
-    Ok(())
-}
-
 /// How many quantifiers of the boxes range over each box.
 pub fn uses_of(alloc: Global, nodes: &[Node]) -> Result<Counts, OutOfMemory>
     ensures { IfOk result (λ c. c ≡ overs_in nodes.now) }
 {
     let mut counts = Counts::new(alloc);
     for node in nodes {
-        count_overs(node.quants.as_slice(), &mut counts)?;
+        for range in node.quants.as_slice() {
+            counts.push(range.over)?;
+        }
     }
     Ok(counts)
 }
