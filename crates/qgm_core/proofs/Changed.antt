@@ -1,10 +1,10 @@
 -- What is found in a graph where one box has changed.
-use Rattle.std.proofs.Common.{ℕ, ◌==◌, ◌≡◌, ◌||◌, cond, Bool, true, false, List, [], ◌∷◌, Some, Option, get_or, map, option_map, refl, ap, sym, ◌∙◌, eqb-true, inl, inr, subst}
+use Rattle.std.proofs.Common.{ℕ, ◌==◌, ◌≡◌, ◌+◌, ◌-◌, ◌++◌, ◌||◌, arith, cond, Bool, true, false, List, [], ◌∷◌, Some, Option, get_or, map, option_map, refl, ap, sym, ◌∙◌, eqb-true, inl, inr, subst}
 use Rattle.std.proofs.Math.ListN.{set}
 use Rattle.std.proofs.lemmas.Bool.{cases_Bool}
-use Rattle.std.specs.List.{list_any}
+use Rattle.std.specs.List.{list_any, remove}
 use Rattle.qgm_core.specs.Boxes.{QueryGraph, has_box, is_box}
-use Rattle.qgm_core.specs.Edits.{on_boxes, put_cells, spare_in, with_terms, without_cond}
+use Rattle.qgm_core.specs.Edits.{on_boxes, put_cells, spare_in, with_cond, with_conds, with_terms, without_cond}
 use Rattle.qgm_core.specs.Lists.{IsFirst, change, first, without}
 use Rattle.qgm_core.specs.declared.node.Node.{Node}
 use Rattle.qgm_core.specs.declared.parts.BoxParts.{BoxParts}
@@ -88,3 +88,16 @@ found {X} p (x ∷ xs) h =
           let k = found p xs (subst (λ (b : Bool). (b || list_any p xs) ≡ true) t h) in
           (k.0, ap (λ (b : Bool). cond b (Some x) (first p xs)) t ∙ k.1))
     ]
+
+-- a condition that is taken out of a box
+pub cond-taken : (b i j : ℕ) (ns : List Node) (n : Node) (cs : Conjuncts) → IsFirst (is_box b) ns j → n ≡ get_or ns j n → cs.items ≡ remove n.parts.conds.items i → cs.spare ≡ n.parts.conds.spare →
+    set ns j (with_conds cs n) ≡ change (is_box b) (without_cond i) ns
+cond-taken b i j ns n cs at e f g =
+    at.3 (without_cond i) (with_conds cs n) n (ap (λ (ds : Conjuncts). with_conds ds n) (same_conds cs _ f g) ∙ ap (without_cond i) e)
+
+-- one that is put into a box
+pub cond-put : (b k : ℕ) (t : Cond) (ns : List Node) (n : Node) (cs : Conjuncts) → IsFirst (is_box b) ns k → n ≡ get_or ns k n → cs.items ≡ n.parts.conds.items ++ t ∷ [] → cs.spare + 1 ≡ n.parts.conds.spare →
+    set ns k (with_conds cs n) ≡ change (is_box b) (with_cond t) ns
+cond-put b k t ns n cs at e f g =
+    let s : cs.spare ≡ n.parts.conds.spare - 1 = omega (arith, g) in
+    at.3 (with_cond t) (with_conds cs n) n (ap (λ (ds : Conjuncts). with_conds ds n) (same_conds cs _ f s) ∙ ap (with_cond t) e)

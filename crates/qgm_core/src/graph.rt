@@ -505,31 +505,9 @@ impl Graph {
         ensures graph { self.new ≡ edits.move_conjunct b (i - 1) to self.old }
         ensures kept { HasAll self.old self.new }
     {
-        let c = self.take_cond(b, i);
-        self.put_cond(to, c);
-    }
-
-    // Takes a condition out of a box, by its place from 1.
-    fn take_cond(&mut self, b: BoxId, i: usize) -> Gc
-        requires held { spec.HasBox b self.old }
-        requires from_one { 1 ≤ i }
-        requires within { i ≤ length (edits.conds_in (spec.box_of b self.old)) }
-        ensures taken { edits.cond_at b (i - 1) self.old.boxes ≡ Some (cond result) }
-        ensures depth { depth_cond result ≤ room }
-        ensures graph { self.new ≡ edits.on_box b (edits.without_cond (i - 1)) self.old }
-    {
-        let k = box_place(&self.nodes, b);
-        self.nodes[k].parts.conds.remove(i)
-    }
-
-    // Adds a condition to a box, at the end, where there is room for it.
-    fn put_cond(&mut self, b: BoxId, c: Gc)
-        requires held { spec.HasBox b self.old }
-        requires room { 1 ≤ edits.spare_in (spec.box_of b self.old) }
-        requires depth { depth_cond c ≤ room }
-        ensures { self.new ≡ edits.on_box b (edits.with_cond (cond c)) self.old }
-    {
-        let k = box_place(&self.nodes, b);
+        let from = box_place(&self.nodes, b);
+        let c = self.nodes[from].parts.conds.remove(i);
+        let k = box_place(&self.nodes, to);
         self.nodes[k].parts.conds.push(c);
     }
 

@@ -20,8 +20,8 @@ loop-i-preserved c =
     let n = c.index_mut.result.now in
     let conds = same_conds c.shift-in-loop-i.new.self _ c.shift-in-loop-i.ensures.items c.shift-in-loop-i.ensures.spare in
     let one : record n { parts = record n.parts { head = c.shift.new.self; conds = c.shift-in-loop-i.new.self } } ≡ f n =
-        ap {B = Node} (λ (cells : List Term). record n { parts = record n.parts { head = cells; conds = c.shift-in-loop-i.new.self } }) c.shift.ensures
-        ∙ ap {B = Node} (λ (cs : Conjuncts). record n { parts = record n.parts { head = map (shifted c.args.q c.args.k) n.parts.head; conds = cs } }) conds in
+    ap {B = Node} (λ (cells : List Term). record n { parts = record n.parts { head = cells; conds = c.shift-in-loop-i.new.self } }) c.shift.ensures
+    ∙ ap {B = Node} (λ (cs : Conjuncts). record n { parts = record n.parts { head = map (shifted c.args.q c.args.k) n.parts.head; conds = cs } }) conds in
     record {
       so_far = ap (λ (n : Node). set ns i n) one ∙ map_over_more f c.args.nodes.now.items ns i c.index_mut.result.now l c.loop-i.invariant.so_far c.index_mut.ensures.value;
       same = simp length-set same;

@@ -5,7 +5,6 @@ use Rattle.qgm_core.specs.declared.node.Node.{Node}
 use Rattle.qgm_core.specs.declared.owned.OwnedQuant.{OwnedQuant}
 use Rattle.qgm_core.proofs.Counted.{at-get}
 use Rattle.qgm_core.proofs.Shifts.{Owned, owned-done, owned-passed, owned-shifted}
-use Rattle.std.proofs.lemmas.Grind.{common_steps}
 use Rattle.qgm_core.proofs.shifted.shift_owned.Goals as goal
 use Rattle.qgm_core.proofs.shifted.shift_owned.Goals.{then-range-b, else-range-b}
 

@@ -1,4 +1,4 @@
-use Rattle.std.proofs.Common.{◌≡◌, ◌<◌, ◌≤◌, ◌+◌, ◌++◌, ℕ, List, [], drop, get_or, length, map, ap, sym, ◌∙◌, Option, Bor, option_map, arith}
+use Rattle.std.proofs.Common.{◌≡◌, ◌<◌, ◌+◌, ◌++◌, ℕ, List, [], drop, get_or, length, map, ap, sym, ◌∙◌, Option, Bor, option_map, arith}
 use Rattle.std.proofs.Math.ListN.{drop_of_length-le, get_or-append}
 use Rattle.std.proofs.lemmas.List.{append-nil, length-append}
 use Rattle.qgm_core.specs.Boxes.{is_box, quants_in}

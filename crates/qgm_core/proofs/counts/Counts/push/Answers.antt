@@ -1,4 +1,3 @@
-use Rattle.std.proofs.lemmas.Grind.{common_steps}
 use Rattle.std.proofs.Common.{◌≡◌, ◌+◌, ◌++◌, ◌∷◌, [], ℕ, List, ap, sym, ◌∙◌, arith}
 use Rattle.qgm_core.specs.Lists.{times}
 use Rattle.qgm_core.proofs.ByNumber.{counted-more, read-within, times-most}

@@ -1,4 +1,4 @@
-use Rattle.std.proofs.Common.{List, ◌-◌, ◌+◌, ap, ◌∙◌, refl, sym, subst, rules, arith}
+use Rattle.std.proofs.Common.{List, ◌-◌, ◌+◌, ap, ◌∙◌, refl, sym, subst, arith}
 use Rattle.qgm_core.specs.Boxes.{QueryGraph, HasQuant, is_box}
 use Rattle.qgm_core.specs.Edits.{put_range, range}
 use Rattle.qgm_core.specs.Numbered.{Numbered}

@@ -1,4 +1,4 @@
-use Rattle.std.proofs.Common.{List, ap, ◌∙◌, sym, subst, rules, refl}
+use Rattle.std.proofs.Common.{List, ap, ◌∙◌, sym, subst, refl}
 use Rattle.qgm_core.specs.Boxes.{owns, QueryGraph, HasBox, HasQuant}
 use Rattle.qgm_core.specs.Edits.{without_quant}
 use Rattle.qgm_core.specs.Numbered.{Numbered}

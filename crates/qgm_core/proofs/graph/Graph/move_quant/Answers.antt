@@ -1,5 +1,5 @@
 use Rattle.std.proofs.lemmas.Grind.{common_steps}
-use Rattle.std.proofs.Common.{◌-◌, subst, sym, rules, arith}
+use Rattle.std.proofs.Common.{◌-◌, subst, sym, arith}
 use Rattle.qgm_core.specs.Boxes.{HasQuant, QueryGraph}
 use Rattle.qgm_core.specs.Numbered.{Numbered}
 use Rattle.qgm_core.proofs.Fresh.{on_both}

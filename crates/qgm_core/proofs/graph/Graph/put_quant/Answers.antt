@@ -1,4 +1,4 @@
-use Rattle.std.proofs.Common.{List, map, ap, ◌∙◌, refl, rules, subst, sym}
+use Rattle.std.proofs.Common.{List, map, ap, ◌∙◌, refl, subst, sym}
 use Rattle.qgm_core.specs.Boxes.{ids_of, QueryGraph, owns}
 use Rattle.qgm_core.specs.declared.node.Node.{Node}
 use Rattle.qgm_core.specs.declared.owned.OwnedQuant.{OwnedQuant}

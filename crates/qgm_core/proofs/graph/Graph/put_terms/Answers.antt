@@ -1,4 +1,4 @@
-use Rattle.std.proofs.Common.{ap, rules, subst, sym, refl}
+use Rattle.std.proofs.Common.{ap, subst, sym, refl}
 use Rattle.qgm_core.specs.Boxes.{ids_of, QueryGraph, is_box}
 use Rattle.qgm_core.specs.declared.node.Node.{Node}
 use Rattle.qgm_core.proofs.Fresh.{numbered-set}
