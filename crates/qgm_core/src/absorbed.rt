@@ -1,5 +1,5 @@
 // A box whose quantifiers stand in another box in the place of one of its own.
-ghost use Rattle.std.specs.Prelude.{◌≡◌, ◌<◌, ◌≤◌, ◌+◌, ◌==◌, ◌++◌, take, drop, length, true, false, IfOk, OnOk, OnErr};
+ghost use Rattle.std.specs.Prelude.{◌≡◌, ◌<◌, ◌==◌, length, true, false, IfOk, OnOk, OnErr};
 ghost use Rattle.qgm_core.specs.Boxes.{has_box, is_box, quants_in};
 ghost use Rattle.qgm_core.specs.Edits.{absorbed, spliced_at};
 ghost use Rattle.qgm_core.specs.Lists.{first};

@@ -1,10 +1,9 @@
 // How often numbers stand in a list.
-ghost use Rattle.std.specs.Prelude.{◌≡◌, ◌++◌, ◌∷◌, [], map, IfOk, OnOk};
+ghost use Rattle.std.specs.Prelude.{◌≡◌, ◌++◌, ◌∷◌, [], IfOk, OnOk};
 ghost use Rattle.qgm_core.specs.Boxes.{overs_in};
 ghost use Rattle.qgm_core.specs.Lists.{times};
 
 use crate::node::Node;
-use crate::owned::OwnedQuant;
 use crate::tables::make_long;
 use shared_types::OutOfMemory;
 use std::alloc::Global;

@@ -1,6 +1,5 @@
 // The graph: its boxes in one list, each with the quantifiers that it owns.
-ghost use Rattle.std.specs.Prelude.{ℕ, ◌≡◌, ◌≤◌, ◌+◌, ◌-◌, ◌++◌, ◌∷◌, [], OnOk, OnErr, IfOk, IfSome, length, map, position, slice_get, Some, option_map, max, true, false, ◌==◌, IsTrue, ◌↔◌};
-ghost use Rattle.std.specs.List.{remove};
+ghost use Rattle.std.specs.Prelude.{ℕ, ◌≡◌, ◌≤◌, ◌+◌, ◌-◌, [], OnOk, OnErr, IfOk, IfSome, length, map, position, slice_get, Some, option_map, false, ◌==◌, IsTrue, ◌↔◌};
 ghost use Rattle.qgm_core.specs.Boxes as spec;
 ghost use Rattle.qgm_core.specs.Edits as edits;
 ghost use Rattle.qgm_core.specs.Free.{free};
@@ -9,9 +8,6 @@ ghost use Rattle.qgm_core.specs.Lists.{EachOnce, times};
 ghost use Rattle.qgm_core.specs.Made.{boxes_of, graph_of};
 ghost use Rattle.qgm_core.specs.Numbered.{Under};
 ghost use Rattle.qgm_core.specs.Walk.{walk};
-ghost use Rattle.qgm_terms.specs.Depth.{depth_cond, room};
-ghost use Rattle.qgm_terms.specs.Shown.{cond};
-ghost use Rattle.qgm_terms.specs.Substitution.{substituted_cond};
 
 use crate::absorbed::absorb_box;
 use crate::copies::{copy_names, copy_nodes, copy_order};
@@ -28,7 +24,7 @@ use crate::quants::Quants;
 use crate::shifted::shift_over;
 use crate::uses::uses_in;
 use crate::walks::{by_levels, depth_first};
-use qgm_terms::{Conds, Gc, Head, QuantId, ROOM, substitute_conds, substitute_head};
+use qgm_terms::{Conds, Head, QuantId, ROOM, substitute_conds, substitute_head};
 use rewrite_plan::Walk;
 use shared_types::OutOfMemory;
 use sql_value::{OrderKeys, OutNames};
