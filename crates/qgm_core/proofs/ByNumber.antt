@@ -2,6 +2,7 @@
 use Rattle.std.proofs.Common.{◌≡◌, ℕ, zero, suc, ◌==◌, ◌<◌, ◌≤◌, ◌+◌, ◌++◌, cond, Bool, true, false, List, [], ◌∷◌, Option, Some, None, length, get_or, refl, sym, ◌∙◌, ap, arith, position, nat_lt, not, eqb-true, inl, inr}
 use Rattle.std.proofs.Math.ListN.{set}
 use Rattle.std.specs.List.{position_or_len}
+use Rattle.std.specs.Option.{option_or}
 use Rattle.std.proofs.lemmas.Bool.{cases_Bool, eqb-false, le-ltb, lt-ltb, ltb-false, ltb-true}
 use Rattle.std.proofs.lemmas.List.{get_or-set_other, get_or-set_same, length-map}
 use Rattle.qgm_core.specs.Boxes.{is_box, numbers}
@@ -70,7 +71,7 @@ counted-more list old long x v h s l e y =
 -- ---- places
 
 -- where b first stands, counted from i
-abbrev pub place_from : ℕ → ℕ → List ℕ → Option ℕ
+abbrev place_from : ℕ → ℕ → List ℕ → Option ℕ
 place_from b i [] = None
 place_from b i (x ∷ xs) = cond (x == b) (Some i) (place_from b (suc i) xs)
 
@@ -93,11 +94,44 @@ place-counted b i (x ∷ list) =
           ∙ sym (ap (λ (t : Bool). cond t (Some (i + (1 + m))) None) (lt-step m (length list)))
     ]
 
-pub place-whole : (b : ℕ) (list : List ℕ) → place_from b 0 list ≡ position (λ x. x == b) list
+place-whole : (b : ℕ) (list : List ℕ) → place_from b 0 list ≡ position (λ x. x == b) list
 place-whole b list =
     let m = position_or_len (λ (x : ℕ). x == b) list in
     let e : 0 + m ≡ m = omega arith in
     place-counted b 0 list ∙ ap (λ (k : ℕ). cond (nat_lt m (length list)) (Some k) None) e
+
+place-last : (b i : ℕ) (xs : List ℕ) (x : ℕ) → place_from b i (xs ++ x ∷ []) ≡ option_or (place_from b i xs) (cond (x == b) (Some (i + length xs)) None)
+place-last b i [] x = let e : i ≡ i + 0 = omega arith in ap (λ (k : ℕ). cond (x == b) (Some k) None) e
+place-last b i (z ∷ xs) x =
+    elim (z == b) as (λ t. cond t (Some i) (place_from b (suc i) (xs ++ x ∷ [])) ≡ option_or (cond t (Some i) (place_from b (suc i) xs)) (cond (x == b) (Some (i + suc (length xs))) None)) [
+      | true ↦ refl
+      | false ↦ place-last b (suc i) xs x ∙ (let e : suc i + length xs ≡ i + suc (length xs) = omega arith in ap (λ (k : ℕ). option_or (place_from b (suc i) xs) (cond (x == b) (Some k) None)) e)
+    ]
+
+position-last : (b : ℕ) (xs : List ℕ) (x : ℕ) → position (λ z. z == b) (xs ++ x ∷ []) ≡ option_or (position (λ z. z == b) xs) (cond (x == b) (Some (length xs)) None)
+position-last b xs x =
+    sym (place-whole b (xs ++ x ∷ [])) ∙ place-last b 0 xs x
+    ∙ (let e : 0 + length xs ≡ length xs = omega arith in ap (λ (k : ℕ). option_or (place_from b 0 xs) (cond (x == b) (Some k) None)) e)
+    ∙ ap (λ (o : Option ℕ). option_or o (cond (x == b) (Some (length xs)) None)) (place-whole b xs)
+
+or-none : (o : Option ℕ) → o ≡ option_or o None
+or-none None = refl
+or-none (Some i) = refl
+
+-- the place of one more
+pub placed-more : (list : List ℕ) (old long : List (Option ℕ)) (x i : ℕ) (v : Option ℕ) → ((y : ℕ) → get_or old y None ≡ position (λ z. z == y) list) → ((y : ℕ) → get_or long y None ≡ get_or old y None) → x < length long →
+    v ≡ option_or (get_or long x None) (Some i) → i ≡ length list → (y : ℕ) → get_or (set long x v) y None ≡ position (λ z. z == y) (list ++ x ∷ [])
+placed-more list old long x i v h s l e f y =
+    read-set long x v None y l
+    ∙ elim (cases_Bool (x == y)) [
+      | inl t ↦ (
+          let same : x ≡ y = eqb-true x y t in
+          ap (λ (b : Bool). cond b v (get_or long y None)) t ∙ e ∙ ap (λ (o : Option ℕ). option_or o (Some i)) (s x ∙ h x)
+          ∙ ap (λ (k : ℕ). option_or (position (λ z. z == k) list) (Some i)) same ∙ ap (λ (k : ℕ). option_or (position (λ z. z == y) list) (Some k)) f
+          ∙ sym (ap (λ (b : Bool). option_or (position (λ z. z == y) list) (cond b (Some (length list)) None)) t))
+      | inr n ↦ ap (λ (b : Bool). cond b v (get_or long y None)) n ∙ s y ∙ h y ∙ or-none (position (λ z. z == y) list) ∙ sym (ap (λ (b : Bool). option_or (position (λ z. z == y) list) (cond b (Some (length list)) None)) n)
+    ]
+    ∙ sym (position-last y list x)
 
 -- ---- boxes by their numbers
 

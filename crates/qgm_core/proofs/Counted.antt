@@ -1,5 +1,6 @@
 -- How often boxes are used.
-use Rattle.std.proofs.Common.{ℕ, zero, suc, ◌==◌, ◌≡◌, ◌<◌, ◌≤◌, ◌+◌, ◌++◌, cond, true, false, List, [], ◌∷◌, Some, length, map, take, filter, slice_get, get_or, refl, ◌∙◌, ap, arith, add-one}
+use Rattle.std.proofs.Common.{ℕ, zero, suc, ◌==◌, ◌≡◌, ◌<◌, ◌≤◌, ◌+◌, ◌++◌, cond, Bool, true, false, List, [], ◌∷◌, Some, length, map, take, slice_get, get_or, refl, ◌∙◌, ap, arith, add-one}
+use Rattle.std.proofs.lemmas.Bool.{eq-eqb, ne_eqb}
 use Rattle.std.proofs.lemmas.List.{length-append}
 use Rattle.qgm_core.specs.Boxes.{ids_in, ids_of, overs_in, overs_of}
 use Rattle.qgm_core.specs.Lists.{times}
@@ -14,15 +15,6 @@ at-get (x ∷ xs) (suc i) d l = at-get xs i d (omega arith)
 times-append : (b : ℕ) (xs ys : List ℕ) → times b (xs ++ ys) ≡ times b xs + times b ys
 times-append b [] ys = omega arith
 times-append b (x ∷ xs) ys = let h = times-append b xs ys in omega (arith, h)
-
-times-filter : (b : ℕ) (rs : List OwnedQuant) → length (filter (λ r. r.over == b) rs) ≡ times b (map (λ r. r.over) rs)
-times-filter b [] = refl
-times-filter b (r ∷ rs) =
-    let h = times-filter b rs in
-    elim (r.over == b) as (λ t. length (cond t (r ∷ filter (λ r. r.over == b) rs) (filter (λ r. r.over == b) rs)) ≡ cond t 1 0 + times b (map (λ r. r.over) rs)) [
-      | true ↦ omega (arith, h)
-      | false ↦ omega (arith, h)
-    ]
 
 times-most : (b : ℕ) (rs : List OwnedQuant) → times b (map (λ r. r.over) rs) ≤ length (map (λ r. r.id) rs)
 times-most b [] = omega arith
@@ -55,10 +47,29 @@ uses-most b (n ∷ ns) (suc i) =
     let l = length-append (ids_of n) (ids_in ns) in
     omega (arith, h, k, m, l)
 
-pub uses-step : (b : ℕ) (ns : List Node) (i : ℕ) (n : Node) (total r : ℕ) → slice_get ns i ≡ Some n → total ≡ times b (overs_in (take i ns)) → r ≡ length (filter (λ r. r.over == b) n.quants) →
-    total + r ≡ times b (overs_in (take (i + 1) ns))
-uses-step b ns i n total r e t f =
-    let h = uses-more b ns i n e in
-    let k = times-filter b n.quants in
-    let l : times b (overs_in (take (i + 1) ns)) ≡ times b (overs_in (take (suc i) ns)) = ap (λ (j : ℕ). times b (overs_in (take j ns))) (add-one i) in
-    omega (arith, h, k, l, t, f)
+range-step : (b : ℕ) (rs : List OwnedQuant) (j : ℕ) (d : OwnedQuant) → j < length rs →
+    times b (map (λ r. r.over) (take (suc j) rs)) ≡ times b (map (λ r. r.over) (take j rs)) + cond ((get_or rs j d).over == b) 1 0
+range-step b [] j d l = absurd (omega arith)
+range-step b (r ∷ rs) zero d l = omega arith
+range-step b (r ∷ rs) (suc j) d l = let h = range-step b rs j d (omega arith) in omega (arith, h)
+
+-- the uses by one more quantifier, over the box or over another one
+module _ (b : ℕ) (rs : List OwnedQuant) (j : ℕ) (d : OwnedQuant) (l : j < length rs) where
+  next : times b (map (λ r. r.over) (take (j + 1) rs)) ≡ times b (map (λ r. r.over) (take j rs)) + cond ((get_or rs j d).over == b) 1 0
+  next = ap (λ (m : ℕ). times b (map (λ r. r.over) (take m rs))) (add-one j) ∙ range-step b rs j d l
+
+  pub range-used : (get_or rs j d).over ≡ b → times b (map (λ r. r.over) (take (j + 1) rs)) ≡ times b (map (λ r. r.over) (take j rs)) + 1
+  range-used e = next ∙ ap (λ (t : Bool). times b (map (λ r. r.over) (take j rs)) + cond t 1 0) (eq-eqb (get_or rs j d).over b e)
+
+  pub range-passed : ((get_or rs j d).over ≡ b → ⊥) → times b (map (λ r. r.over) (take (j + 1) rs)) ≡ times b (map (λ r. r.over) (take j rs)) + 0
+  range-passed n = next ∙ ap (λ (t : Bool). times b (map (λ r. r.over) (take j rs)) + cond t 1 0) (ne_eqb (get_or rs j d).over b n)
+
+pub times-taken : (b : ℕ) (rs : List OwnedQuant) (j : ℕ) → times b (map (λ r. r.over) (take j rs)) ≤ times b (map (λ r. r.over) rs)
+times-taken b [] zero = omega arith
+times-taken b [] (suc j) = omega arith
+times-taken b (r ∷ rs) zero = omega arith
+times-taken b (r ∷ rs) (suc j) = let h = times-taken b rs j in omega (arith, h)
+
+-- the uses by one more box
+pub uses-step : (b : ℕ) (ns : List Node) (i : ℕ) (n : Node) → slice_get ns i ≡ Some n → times b (overs_in (take (i + 1) ns)) ≡ times b (overs_in (take i ns)) + times b (overs_of n)
+uses-step b ns i n e = ap (λ (j : ℕ). times b (overs_in (take j ns))) (add-one i) ∙ uses-more b ns i n e

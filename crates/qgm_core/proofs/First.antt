@@ -1,9 +1,11 @@
 -- The first element that passes.
-use Rattle.std.proofs.Common.{◌≡◌, ℕ, zero, suc, ◌<◌, ◌≤◌, ◌+◌, ◌||◌, Bool, true, false, List, [], ◌∷◌, length, get_or, refl, sym, ap, arith, Some, None, cond, nat_lt, not, position, insert, add-one}
+use Rattle.std.proofs.Common.{◌≡◌, ℕ, zero, suc, ◌<◌, ◌≤◌, ◌+◌, ◌||◌, Bool, true, false, List, [], ◌∷◌, length, get_or, refl, sym, ap, ◌∙◌, arith, Some, None, cond, nat_lt, not, position, insert, add-one}
 use Rattle.std.proofs.Math.ListN.{set}
+use Rattle.std.specs.Prelude.{is_some, IsSome}
 use Rattle.std.specs.List.{list_any, position_or_len, remove}
 use Rattle.std.proofs.lemmas.List.Quantifiers.{position-Some}
 use Rattle.std.proofs.lemmas.Bool.{ltb-false}
+use Rattle.std.proofs.lemmas.Grind.{common_steps}
 use Rattle.qgm_core.specs.Lists.{change, first, put_below, without, IsFirst}
 
 none_by : (m n : ℕ) (b : Bool) → b ≡ nat_lt m n → cond b (Some m) None ≡ None → n ≤ m
@@ -56,9 +58,16 @@ module _ {X : Type 0} (p : X → Bool) where
   pub goes_below : (xs : List X) (i : ℕ) (y : X) → position p xs ≡ Some i → insert xs (i + 1) y ≡ put_below p y xs
   goes_below xs i y e = let at = position-Some p xs i y e in rw (add-one i) (put_below_at xs i y y (within xs i e) at.1 at.2)
 
+  pub any_found : (xs : List X) → is_some (position p xs) ≡ list_any p xs
+  any_found [] = refl
+  any_found (x ∷ xs) = let k = any_found xs in grind (arith, common_steps)
+
   any_within : (xs : List X) → list_any p xs ≡ true → position_or_len p xs < length xs
   any_within [] h = absurd (let q : ⊥ = cc in q)
   any_within (x ∷ xs) h = any_step (p x) (list_any p xs) (position_or_len p xs) (length xs) h (any_within xs)
+
+  pub is_there : (xs : List X) → list_any p xs ≡ true → IsSome (position p xs)
+  is_there xs h = any_found xs ∙ h
 
   pub absent : (xs : List X) → position p xs ≡ None → list_any p xs ≡ true → ⊥
   absent xs e h =

@@ -1,9 +1,10 @@
 -- Numbers that no box and no quantifier has, and numbers under edits.
 use Rattle.std.proofs.Common.{◌≡◌, ℕ, zero, suc, ◌==◌, ◌<◌, ◌≤◌, ◌+◌, ◌++◌, ◌||◌, Bool, true, false, List, [], ◌∷◌, cond, map, arith, insert, length, refl, sym, ◌∙◌, ap, subst, add-zero, get_or}
 use Rattle.std.proofs.Math.ListN.{set}
-use Rattle.std.specs.Prelude.{IsOk, is_ok, Ok, Err, if◌then◌else◌}
+use Rattle.std.specs.Prelude.{IsOk, OnOk, OnErr, is_ok, Ok, Err, if◌then◌else◌}
 use Rattle.std.specs.declared.result.Result.{Result}
 use Rattle.std.specs.List.{list_any, remove, take-map, drop-map}
+use Rattle.std.specs.Result.{result_or}
 use Rattle.std.proofs.lemmas.Bool.{ne_eqb}
 use Rattle.std.proofs.lemmas.List.{map-append, length-append}
 use Rattle.qgm_core.specs.Boxes.{is_box, is_quant, owns, ids_in, ids_of, numbers}
@@ -18,6 +19,19 @@ map_insert f xs i x = simp (map-append, take-map, drop-map)
 
 pub map_remove : {X Y : Type 0} (f : X → Y) (xs : List X) (i : ℕ) → remove (map f xs) i ≡ map f (remove xs i)
 map_remove f xs i = simp (map-append, take-map, drop-map)
+
+pub never_both : (b : Bool) → b ≡ false → b ≡ true → ⊥
+never_both b e h = let q : ⊥ = cc in q
+
+-- what holds after a call, whether it is refused or not
+pub on_both : {A E X : Type 0} (P : X → Type 0) (r : Result A E) (x y z : X) → OnOk r (x ≡ y) → OnErr r (x ≡ z) → P y → P z → P x
+on_both P (Ok v) x y z e f p q = subst P (sym e) p
+on_both P (Err v) x y z e f p q = subst P (sym f) q
+
+-- what a call leaves that may be refused for another reason
+pub or_ok : {A E D X : Type 0} (r : Result A E) (d : D) (x a b y : X) → x ≡ (if is_ok r then a else b) → a ≡ y → OnOk (result_or r (Err d)) (x ≡ y)
+or_ok (Ok v) d x a b y e f = e ∙ f
+or_ok (Err v) d x a b y e f = tt
 
 -- what a call that can't be refused leaves
 pub if_ok : {A E X : Type 0} (r : Result A E) (a b x : X) → IsOk r → x ≡ (if is_ok r then a else b) → x ≡ a

@@ -1,11 +1,11 @@
 -- Boxes that are visited, by the place at which they stand.
 use Rattle.std.proofs.Common.{◌≡◌, ℕ, zero, suc, ◌==◌, ◌<◌, ◌≤◌, ◌+◌, ◌-◌, ◌++◌, Bool, true, false, List, [], ◌∷◌, Some, None, length, drop, get_or, refl, sym, ap, ◌∙◌, arith, cond, position, inl, inr, map, add-one, subst, eqb-true}
-use Rattle.std.proofs.Math.Seq.{drop-append_seam}
-use Rattle.std.proofs.lemmas.List.{append_assoc}
+use Rattle.std.proofs.Math.Seq.{drop-append_seam, drop-cons}
+use Rattle.std.proofs.lemmas.List.{append_assoc, append-nil}
 use Rattle.std.proofs.lemmas.Bool.{cases_Bool}
 use Rattle.std.proofs.lemmas.List.Quantifiers.{position-Some}
 use Rattle.std.specs.List.{list_any}
-use Rattle.qgm_core.specs.Boxes.{is_box, numbers, overs_of}
+use Rattle.qgm_core.specs.Boxes.{is_box, numbers, overs_of, quants_in}
 use Rattle.qgm_core.specs.Lists.{EachOnce, each, first, holds}
 use Rattle.qgm_core.specs.Walk.{levels, news, under, visit}
 use Rattle.qgm_core.specs.declared.node.Node.{Node}
@@ -69,6 +69,28 @@ pub levels_end : (n : ℕ) (boxes : List Node) (now seen : List ℕ) → levels 
 levels_end n boxes now seen =
     let e : n - n ≡ 0 = omega arith in
     ap (λ (m : ℕ). levels m boxes now seen) e
+
+-- the news of some, and then of others
+news-append : (xs ys seen : List ℕ) → news seen (xs ++ ys) ≡ news seen xs ++ news (seen ++ news seen xs) ys
+news-append [] ys seen = ap (λ (s : List ℕ). news s ys) (sym (append-nil seen))
+news-append (b ∷ xs) ys seen =
+    elim (holds b seen) as (λ t. cond t (news seen (xs ++ ys)) (b ∷ news (seen ++ b ∷ []) (xs ++ ys)) ≡ cond t (news seen xs) (b ∷ news (seen ++ b ∷ []) xs) ++ news (seen ++ cond t (news seen xs) (b ∷ news (seen ++ b ∷ []) xs)) ys) [
+      | true ↦ news-append xs ys seen
+      | false ↦ ap (λ (zs : List ℕ). b ∷ zs) (news-append xs ys (seen ++ b ∷ []))
+          ∙ ap (λ (s : List ℕ). b ∷ (news (seen ++ b ∷ []) xs ++ news s ys)) (append_assoc seen (b ∷ []) (news (seen ++ b ∷ []) xs))
+    ]
+
+-- the news below a box come first, and then those below the boxes behind it
+pub level-step : (boxes : List Node) (start seen after : List ℕ) (i b : ℕ) → i < length start → b ≡ get_or start i 0 → after ≡ seen ++ news seen (map (λ r. r.over) (quants_in (first (is_box b) boxes))) →
+    after ++ news after (under boxes (drop (i + 1) start)) ≡ seen ++ news seen (under boxes (drop i start))
+level-step boxes start seen after i b l e f =
+    let rest = under boxes (drop (i + 1) start) in
+    let here = map (λ (r : OwnedQuant). r.over) (quants_in (first (is_box b) boxes)) in
+    let cut : drop i start ≡ b ∷ drop (i + 1) start = drop-cons start i 0 l ∙ ap (λ (x : ℕ). x ∷ drop (suc i) start) (sym e) ∙ ap (λ (j : ℕ). b ∷ drop j start) (sym (add-one i)) in
+    ap (λ (s : List ℕ). s ++ news s rest) f
+    ∙ append_assoc seen (news seen here) (news (seen ++ news seen here) rest)
+    ∙ ap (λ (xs : List ℕ). seen ++ xs) (sym (news-append here rest seen))
+    ∙ ap (λ (bs : List ℕ). seen ++ news seen (under boxes bs)) (sym cut)
 
 -- a box that was seen is no news
 pub news_seen : (b : ℕ) (bs seen : List ℕ) → holds b seen ≡ true → news seen (b ∷ bs) ≡ news seen bs

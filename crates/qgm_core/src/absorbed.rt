@@ -1,5 +1,5 @@
 // A box whose quantifiers stand in another box in the place of one of its own.
-ghost use Rattle.std.specs.Prelude.{◌≡◌, ◌<◌, ◌≤◌, ◌+◌, ◌==◌, ◌++◌, take, drop, length, true, false, IfOk, OnOk, OnErr};
+ghost use Rattle.std.specs.Prelude.{◌≡◌, ◌<◌, ◌==◌, length, true, false, IfOk, OnOk, OnErr};
 ghost use Rattle.qgm_core.specs.Boxes.{has_box, is_box, quants_in};
 ghost use Rattle.qgm_core.specs.Edits.{absorbed, spliced_at};
 ghost use Rattle.qgm_core.specs.Lists.{first};
@@ -10,16 +10,6 @@ use crate::owned::{Owned, OwnedQuant};
 use crate::places::box_place;
 use shared_types::OutOfMemory;
 use std::alloc::Global;
-
-// Adds quantifiers at the end.
-fn add_all(ranges: &[OwnedQuant], out: &mut Owned) -> Result<(), OutOfMemory>
-    ensures { OnOk result (out.new ≡ out.old ++ ranges.now) }
-{
-    for range in ranges {
-        out.push(*range)?;
-    }
-    Ok(())
-}
 
 // Quantifiers with others in the place, from 0, of one of them.
 fn spliced(
@@ -32,9 +22,9 @@ fn spliced(
     ensures { IfOk result (λ o. o ≡ spliced_at i others.now own.now) }
 {
     let mut out = Owned::new(alloc);
-    add_all(&own[..i], &mut out)?;
-    add_all(others, &mut out)?;
-    add_all(&own[i + 1..], &mut out)?;
+    out.append(&own[..i])?;
+    out.append(others)?;
+    out.append(&own[i + 1..])?;
     Ok(out)
 }
 

@@ -1,5 +1,5 @@
 // Where boxes stand, by their numbers.
-ghost use Rattle.std.specs.Prelude.{◌≡◌, ◌==◌, ◌≤◌, ℕ, None, Some, IfOk, OnOk, if◌then◌else◌, length, option_map, position, slice_index_or};
+ghost use Rattle.std.specs.Prelude.{◌≡◌, ◌==◌, ◌++◌, ◌∷◌, [], IfOk, OnOk, option_map, position};
 ghost use Rattle.qgm_core.specs.Boxes.{is_box, numbers};
 ghost use Rattle.qgm_core.specs.Lists.{first};
 
@@ -33,9 +33,25 @@ impl Places {
     pub fn of(alloc: Global, nodes: &[Node]) -> Result<Places, OutOfMemory>
         ensures { IfOk result (λ p. p ≡ numbers nodes.now) }
     {
-        let list = numbers_of(alloc, nodes)?;
-        let at = places_of(alloc, &list)?;
-        Ok(Places { list, at })
+        let mut places = Places {
+            list: Vec::new(alloc),
+            at: Vec::new(alloc),
+        };
+        for node in nodes {
+            places.push(node.id)?;
+        }
+        Ok(places)
+    }
+
+    // Adds the next place. The first of one number counts.
+    fn push(&mut self, b: BoxId) -> Result<(), OutOfMemory>
+        ensures { OnOk result (self.new ≡ self.old ++ b ∷ []) }
+    {
+        make_long(&mut self.at, b, None)?;
+        let i = self.list.len();
+        self.list.push(b)?;
+        self.at[b] = self.at[b].or(Some(i));
+        Ok(())
     }
 
     /// The place of the first box of this number, if there is one.
@@ -44,39 +60,6 @@ impl Places {
     {
         if b < self.at.len() { self.at[b] } else { None }
     }
-}
-
-// The numbers of boxes.
-fn numbers_of(alloc: Global, nodes: &[Node]) -> Result<Vec<BoxId>, OutOfMemory>
-    ensures { IfOk result (λ v. v.items ≡ numbers nodes.now) }
-{
-    let mut list = Vec::new(alloc);
-    for node in nodes {
-        list.push(node.id)?;
-    }
-    Ok(list)
-}
-
-// Puts a number's place into a table.
-fn put_place(at: &mut Vec<Option<usize>>, b: BoxId, i: usize) -> Result<(), OutOfMemory>
-    ensures { OnOk result ((x : ℕ) → slice_index_or at.new.items x None ≡ (if b == x then Some i else slice_index_or at.old.items x None)) }
-{
-    make_long(at, b, None)?;
-    at[b] = Some(i);
-    Ok(())
-}
-
-// The table of the places of numbers. The first of one number counts.
-fn places_of(alloc: Global, list: &[BoxId]) -> Result<Vec<Option<usize>>, OutOfMemory>
-    ensures { IfOk result (λ at. (b : ℕ) → slice_index_or at.items b None ≡ position (λ x. x == b) list.now) }
-{
-    let mut at = Vec::new(alloc);
-    let mut i = list.len();
-    while i > 0 {
-        i -= 1;
-        put_place(&mut at, list[i], i)?;
-    }
-    Ok(at)
 }
 
 /// The first box of this number, if there is one.

@@ -107,5 +107,5 @@ pub fn copy_names(alloc: Global, names: &[Option<Text>]) -> Result<OutNames, Out
 pub fn copy_order(alloc: Global, order: &OrderKeys) -> Result<OrderKeys, OutOfMemory>
     ensures { IfOk result (λ all. all ≡ order.now) }
 {
-    Ok(Items::from_slice(alloc, order.as_slice())?)
+    Items::from_slice(alloc, order.as_slice()).or(Err(OutOfMemory))
 }

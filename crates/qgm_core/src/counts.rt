@@ -1,10 +1,9 @@
 // How often numbers stand in a list.
-ghost use Rattle.std.specs.Prelude.{◌≡◌, ◌++◌, ◌∷◌, [], map, IfOk, OnOk};
+ghost use Rattle.std.specs.Prelude.{◌≡◌, ◌++◌, ◌∷◌, [], IfOk, OnOk};
 ghost use Rattle.qgm_core.specs.Boxes.{overs_in};
 ghost use Rattle.qgm_core.specs.Lists.{times};
 
 use crate::node::Node;
-use crate::owned::OwnedQuant;
 use crate::tables::make_long;
 use shared_types::OutOfMemory;
 use std::alloc::Global;
@@ -43,10 +42,9 @@ impl Counts {
     pub fn push(&mut self, x: usize) -> Result<(), OutOfMemory>
         ensures { OnOk result (self.new ≡ self.old ++ x ∷ []) }
     {
-        self.list.reserve(1)?;
         make_long(&mut self.counts, x, 0)?;
+        self.list.push(x)?;
         self.counts[x] += 1;
-        let _ = self.list.push(x);
         Ok(())
     }
 
@@ -62,23 +60,15 @@ impl Counts {
     }
 }
 
-// Counts the boxes that these quantifiers range over.
-fn count_overs(ranges: &[OwnedQuant], counts: &mut Counts) -> Result<(), OutOfMemory>
-    ensures { OnOk result (counts.new ≡ counts.old ++ map (λ r. r.over) ranges.now) }
-{
-    for range in ranges {
-        counts.push(range.over)?;
-    }
-    Ok(())
-}
-
 /// How many quantifiers of the boxes range over each box.
 pub fn uses_of(alloc: Global, nodes: &[Node]) -> Result<Counts, OutOfMemory>
     ensures { IfOk result (λ c. c ≡ overs_in nodes.now) }
 {
     let mut counts = Counts::new(alloc);
     for node in nodes {
-        count_overs(node.quants.as_slice(), &mut counts)?;
+        for range in node.quants.as_slice() {
+            counts.push(range.over)?;
+        }
     }
     Ok(counts)
 }

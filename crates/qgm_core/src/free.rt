@@ -16,7 +16,7 @@ use std::alloc::Global;
 pub fn is_marked(marks: &[BoxId], b: BoxId) -> bool
     ensures { result ≡ holds b marks.now }
 {
-    marks.iter().any(|m| *m == b)
+    marks.contains(&b)
 }
 
 /// Marks the boxes that these quantifiers range over.
@@ -29,16 +29,6 @@ pub fn mark_each(ranges: &[OwnedQuant], marks: &mut Vec<BoxId>) -> Result<(), Ou
     Ok(())
 }
 
-// Marks what a box that is marked ranges over.
-fn mark(node: &Node, marks: &mut Marks) -> Result<(), OutOfMemory>
-    ensures { OnOk result (marks.new ≡ spec.marked marks.old node.now) }
-{
-    if marks.has(node.id) {
-        mark_overs(node.quants.as_slice(), marks)?;
-    }
-    Ok(())
-}
-
 /// The boxes that are reached from one.
 pub fn reached(alloc: Global, nodes: &[Node], b: BoxId) -> Result<Marks, OutOfMemory>
     ensures { IfOk result (λ marks. marks ≡ spec.reached (b ∷ []) nodes.now) }
@@ -46,7 +36,9 @@ pub fn reached(alloc: Global, nodes: &[Node], b: BoxId) -> Result<Marks, OutOfMe
     let mut marks = Marks::new(alloc);
     marks.push(b)?;
     for node in nodes {
-        mark(node, &mut marks)?;
+        if marks.has(node.id) {
+            mark_overs(node.quants.as_slice(), &mut marks)?;
+        }
     }
     Ok(marks)
 }
@@ -59,39 +51,17 @@ pub fn add_names_of_node(node: &Node, out: &mut Vec<QuantId>) -> Result<(), OutO
     add_names_of_conds(node.parts.conds.as_slice(), out)
 }
 
-// Appends what a box names, where it is marked.
-fn add_names_of_marked(
-    node: &Node,
-    marks: &Marks,
-    out: &mut Vec<QuantId>,
-) -> Result<(), OutOfMemory>
-    ensures { OnOk result (out.new.items ≡ out.old.items ++ spec.named_where marks.now node.now) }
-{
-    if marks.has(node.id) {
-        add_names_of_node(node, out)?;
-    }
-    Ok(())
-}
-
 // What the marked boxes name.
 fn named(alloc: Global, nodes: &[Node], marks: &Marks) -> Result<Vec<QuantId>, OutOfMemory>
     ensures { IfOk result (λ names. names.items ≡ flat_map (spec.named_where marks.now) nodes.now) }
 {
     let mut names = Vec::new(alloc);
     for node in nodes {
-        add_names_of_marked(node, marks, &mut names)?;
+        if marks.has(node.id) {
+            add_names_of_node(node, &mut names)?;
+        }
     }
     Ok(names)
-}
-
-// Marks the quantifiers of a box that is marked.
-fn mark_owned(marks: &Marks, node: &Node, owned: &mut Marks) -> Result<(), OutOfMemory>
-    ensures { OnOk result (owned.new ≡ owned.old ++ spec.owned_where marks.now node.now) }
-{
-    if marks.has(node.id) {
-        mark_ids(node.quants.as_slice(), owned)?;
-    }
-    Ok(())
 }
 
 /// The quantifiers of marked boxes.
@@ -100,7 +70,9 @@ pub fn owned_by(alloc: Global, marks: &Marks, nodes: &[Node]) -> Result<Marks, O
 {
     let mut owned = Marks::new(alloc);
     for node in nodes {
-        mark_owned(marks, node, &mut owned)?;
+        if marks.has(node.id) {
+            mark_ids(node.quants.as_slice(), &mut owned)?;
+        }
     }
     Ok(owned)
 }
@@ -127,8 +99,7 @@ fn put_once(out: &mut Vec<QuantId>, q: QuantId) -> Result<(), OutOfMemory>
     if i < out.len() && out[i] == q {
         return Ok(());
     }
-    out.insert(i, q)?;
-    Ok(())
+    out.insert(i, q).or(Err(OutOfMemory))
 }
 
 // Those that aren't owned, ascending, each once.

@@ -1,6 +1,5 @@
 // The graph: its boxes in one list, each with the quantifiers that it owns.
-ghost use Rattle.std.specs.Prelude.{ℕ, ◌≡◌, ◌≤◌, ◌+◌, ◌-◌, ◌++◌, ◌∷◌, [], OnOk, OnErr, IfOk, IfSome, length, map, position, slice_get, Some, option_map, max, true, false, ◌==◌, IsTrue, ◌↔◌};
-ghost use Rattle.std.specs.List.{remove};
+ghost use Rattle.std.specs.Prelude.{ℕ, ◌≡◌, ◌≤◌, ◌+◌, ◌-◌, [], OnOk, OnErr, IfOk, IfSome, length, map, position, slice_get, Some, option_map, false, ◌==◌, IsTrue, ◌↔◌};
 ghost use Rattle.qgm_core.specs.Boxes as spec;
 ghost use Rattle.qgm_core.specs.Edits as edits;
 ghost use Rattle.qgm_core.specs.Free.{free};
@@ -9,12 +8,8 @@ ghost use Rattle.qgm_core.specs.Lists.{EachOnce, times};
 ghost use Rattle.qgm_core.specs.Made.{boxes_of, graph_of};
 ghost use Rattle.qgm_core.specs.Numbered.{Under};
 ghost use Rattle.qgm_core.specs.Walk.{walk};
-ghost use Rattle.qgm_terms.specs.Depth.{depth_cond, room};
-ghost use Rattle.qgm_terms.specs.Shown.{cond};
-ghost use Rattle.qgm_terms.specs.Substitution.{substituted_cond};
 
 use crate::absorbed::absorb_box;
-use crate::compact::keep_marked;
 use crate::copies::{copy_names, copy_nodes, copy_order};
 use crate::free::{free_in, reached};
 use crate::kinds::{BoxId, BoxKind, Distinct, QuantKind, Role};
@@ -29,7 +24,7 @@ use crate::quants::Quants;
 use crate::shifted::shift_over;
 use crate::uses::uses_in;
 use crate::walks::{by_levels, depth_first};
-use qgm_terms::{Conds, Gc, Head, QuantId, ROOM, substitute_conds, substitute_head};
+use qgm_terms::{Conds, Head, QuantId, ROOM, substitute_conds, substitute_head};
 use rewrite_plan::Walk;
 use shared_types::OutOfMemory;
 use sql_value::{OrderKeys, OutNames};
@@ -95,11 +90,7 @@ impl Graph {
         ensures held { IfOk result (λ g. spec.HasBox g.root g) }
     {
         let mut nodes = Vec::new(alloc);
-        nodes.push(Node {
-            id: 0,
-            parts: root,
-            quants: Owned::new(alloc),
-        })?;
+        nodes.push(bare(alloc, 0, root))?;
         Ok(Graph {
             nodes,
             root: 0,
@@ -314,12 +305,12 @@ impl Graph {
         ensures kept { HasAll self.old self.new }
     {
         let id = self.next_box;
+        let node = bare(alloc, id, parts);
         if id == usize::MAX {
             return Err(OutOfMemory);
         }
         let i = new_place(&self.nodes, below);
-        let quants = Owned::new(alloc);
-        self.nodes.insert(i, Node { id, parts, quants })?;
+        self.nodes.insert(i, node)?;
         self.next_box = id + 1;
         Ok(id)
     }
@@ -361,7 +352,7 @@ impl Graph {
         ensures root { spec.HasBox self.old.root self.old → spec.HasBox self.new.root self.new }
     {
         let marks = reached(alloc, &self.nodes, self.root)?;
-        keep_marked(&mut self.nodes, &marks);
+        self.keep(&marks);
         Ok(())
     }
 
@@ -369,7 +360,7 @@ impl Graph {
     pub fn keep(&mut self, marks: &Marks)
         ensures { self.new ≡ edits.keep marks.now self.old }
     {
-        keep_marked(&mut self.nodes, marks);
+        self.nodes.retain(|n| marks.has(n.id));
     }
 
     /// Moves a box just below another one. It takes no memory.
@@ -390,14 +381,11 @@ impl Graph {
         ensures kept { HasAll self.old self.new }
     {
         let k = box_place(&self.nodes, b);
-        let distinct = self.nodes[k].parts.distinct;
-        self.nodes[k].parts = BoxParts {
-            kind,
-            distinct,
-            role,
-            conds,
-            head,
-        };
+        let parts = &mut self.nodes[k].parts;
+        parts.kind = kind;
+        parts.role = role;
+        parts.conds = conds;
+        parts.head = head;
     }
 
     /// Gives a box other conditions and another head. It takes no memory.
@@ -432,8 +420,7 @@ impl Graph {
         ensures ok { OnOk result (self.new ≡ edits.absorb b (place - 1) c self.old) }
         ensures err { OnErr result (self.new ≡ self.old) }
     {
-        absorb_box(&mut self.nodes, b, place - 1, c)?;
-        Ok(())
+        absorb_box(&mut self.nodes, b, place - 1, c)
     }
 
     /// Sets whether a box gives rows more than once. It takes no memory.
@@ -454,8 +441,7 @@ impl Graph {
         ensures kept { HasAll self.old self.new }
     {
         let k = box_place(&self.nodes, b);
-        make_room(&mut self.nodes[k].parts.conds, n)?;
-        Ok(())
+        self.nodes[k].parts.conds.reserve(n)
     }
 
     /// Drops a quantifier. It takes no memory.
@@ -480,8 +466,7 @@ impl Graph {
         ensures err { OnErr result (self.new ≡ self.old) }
         ensures kept { HasAll self.old self.new }
     {
-        move_quant(&mut self.nodes, q, owner, place - 1)?;
-        Ok(())
+        move_quant(&mut self.nodes, q, owner, place - 1)
     }
 
     /// Sets what a quantifier ranges for. It takes no memory.
@@ -516,32 +501,10 @@ impl Graph {
         ensures graph { self.new ≡ edits.move_conjunct b (i - 1) to self.old }
         ensures kept { HasAll self.old self.new }
     {
-        let c = self.take_cond(b, i);
-        self.put_cond(to, c);
-    }
-
-    // Takes a condition out of a box, by its place from 1.
-    fn take_cond(&mut self, b: BoxId, i: usize) -> Gc
-        requires held { spec.HasBox b self.old }
-        requires from_one { 1 ≤ i }
-        requires within { i ≤ length (edits.conds_in (spec.box_of b self.old)) }
-        ensures taken { edits.cond_at b (i - 1) self.old.boxes ≡ Some (cond result) }
-        ensures depth { depth_cond result ≤ room }
-        ensures graph { self.new ≡ edits.on_box b (edits.without_cond (i - 1)) self.old }
-    {
-        let k = box_place(&self.nodes, b);
-        take_cond(&mut self.nodes[k].parts.conds, i)
-    }
-
-    // Adds a condition to a box, at the end, where there is room for it.
-    fn put_cond(&mut self, b: BoxId, c: Gc)
-        requires held { spec.HasBox b self.old }
-        requires room { 1 ≤ edits.spare_in (spec.box_of b self.old) }
-        requires depth { depth_cond c ≤ room }
-        ensures { self.new ≡ edits.on_box b (edits.with_cond (cond c)) self.old }
-    {
-        let k = box_place(&self.nodes, b);
-        put_cond(&mut self.nodes[k].parts.conds, c);
+        let from = box_place(&self.nodes, b);
+        let c = self.nodes[from].parts.conds.remove(i);
+        let k = box_place(&self.nodes, to);
+        self.nodes[k].parts.conds.push(c);
     }
 
     /// Drops a column of a box's head, by its place from 1. Names of later columns of the quantifiers
@@ -571,52 +534,21 @@ impl Graph {
         ensures err { OnErr result (self.new ≡ self.old) }
         ensures kept { HasAll self.old self.new }
     {
-        let k = box_place(&self.nodes, b);
-        let head = substitute_head(alloc, &self.nodes[k].parts.head, q, cells, ROOM)?;
-        let conds = substituted_conds(alloc, &self.nodes[k].parts.conds, q, cells)?;
-        let parts = &mut self.nodes[k].parts;
-        parts.head = head;
-        parts.conds = conds;
+        let parts = self.parts(b);
+        let head = substitute_head(alloc, &parts.head, q, cells, ROOM)?;
+        let conds = substitute_conds(alloc, &parts.conds, q, cells, ROOM)?;
+        self.put_terms(b, conds, head);
         Ok(())
     }
 }
 
-// Takes a condition out, by its place from 1.
-fn take_cond(conds: &mut Conds, i: usize) -> Gc
-    requires from_one { 1 ≤ i }
-    requires within { i ≤ length conds.old.items }
-    ensures taken { slice_get conds.old.items (i - 1) ≡ Some (cond result) }
-    ensures depth { depth_cond result ≤ room }
-    ensures left { conds.new ≡ record conds.old { items = remove conds.old.items (i - 1) } }
+// A box that owns no quantifier.
+fn bare(alloc: Global, id: BoxId, parts: BoxParts) -> Node
+    ensures { result ≡ spec.bare_box id parts }
 {
-    conds.remove(i)
-}
-
-// Adds a condition at the end, where there is room for it.
-fn put_cond(conds: &mut Conds, c: Gc)
-    requires spare { 1 ≤ conds.old.spare }
-    requires depth { depth_cond c ≤ room }
-    ensures { conds.new ≡ record { items = conds.old.items ++ cond c ∷ []; spare = conds.old.spare - 1 } }
-{
-    conds.push(c);
-}
-
-// Conditions with cells in place of a quantifier's columns.
-fn substituted_conds(
-    alloc: Global,
-    conds: &Conds,
-    q: QuantId,
-    cells: &Head,
-) -> Result<Conds, OutOfMemory>
-    ensures { IfOk result (λ a. a ≡ record conds.now { items = map (substituted_cond q cells.now) conds.now.items }) }
-{
-    substitute_conds(alloc, conds, q, cells, ROOM)
-}
-
-// Makes room for n more conditions.
-fn make_room(conds: &mut Conds, n: usize) -> Result<(), OutOfMemory>
-    ensures ok { OnOk result (conds.new ≡ record conds.old { spare = max conds.old.spare n }) }
-    ensures err { OnErr result (conds.new ≡ conds.old) }
-{
-    conds.reserve(n)
+    Node {
+        id,
+        parts,
+        quants: Owned::new(alloc),
+    }
 }

@@ -30,7 +30,6 @@ pub enum SetOperator {
 }
 
 /// What a box does (Pirahesh, Hellerstein and Hasan 1992, 2.1).
-#[derive(Drop)]
 pub enum BoxKind {
     /// It holds a stored table's rows.
     Base(BaseTable),
@@ -42,6 +41,20 @@ pub enum BoxKind {
     SetOp(SetOperator, Items<SqlType>),
     /// It joins rows, and keeps those of the left box that have no partner.
     OuterJoin,
+}
+
+// By hand, so that what lets a kind go cites this function: a derived one is copied out there, with an
+// arm for each variant.
+impl Drop for BoxKind {
+    fn drop(self) {
+        match self {
+            BoxKind::Base(_)
+            | BoxKind::Select
+            | BoxKind::Group(_)
+            | BoxKind::SetOp(_, _)
+            | BoxKind::OuterJoin => {}
+        }
+    }
 }
 
 /// What a quantifier ranges for (Pirahesh, Hellerstein and Hasan 1992, 2.1).

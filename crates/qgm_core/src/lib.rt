@@ -3,7 +3,6 @@
 
 mod absorbed;
 mod box_places;
-mod compact;
 mod copies;
 mod counts;
 mod free;

@@ -10,10 +10,18 @@ use std::marker::Model;
 
 /// Numbers in the order in which they were marked. Each has a flag at its own place, so that it is
 /// found at once; there are as many flags as the greatest number asks for.
-#[derive(Drop)]
 pub struct Marks {
     list: Vec<usize>,
     flags: Vec<bool>,
+}
+
+// By hand, so that what lets marks go cites this function.
+impl Drop for Marks {
+    fn drop(self) {
+        let Marks { list, flags } = self;
+        drop(list);
+        drop(flags);
+    }
 }
 
 impl Model for Marks {
@@ -42,10 +50,9 @@ impl Marks {
     pub fn push(&mut self, x: usize) -> Result<(), OutOfMemory>
         ensures { OnOk result (self.new ≡ self.old ++ x ∷ []) }
     {
-        self.list.reserve(1)?;
         make_long(&mut self.flags, x, false)?;
+        self.list.push(x)?;
         self.flags[x] = true;
-        let _ = self.list.push(x);
         Ok(())
     }
 
@@ -60,7 +67,9 @@ impl Marks {
     pub(crate) fn into_list(self) -> Vec<usize>
         ensures { result.items ≡ self }
     {
-        self.list
+        let Marks { list, flags } = self;
+        drop(flags);
+        list
     }
 
     /// Whether a number is marked.

@@ -30,10 +30,18 @@ pub struct OwnedQuant {
 }
 
 /// The quantifiers of a box, by place. Contracts see it as the list of them.
-#[derive(Drop)]
 pub struct Owned {
     ids: Quants,
     ranges: Vec<OwnedQuant>,
+}
+
+// By hand, so that what lets quantifiers go cites this function.
+impl Drop for Owned {
+    fn drop(self) {
+        let Owned { ids, ranges } = self;
+        drop(ids);
+        drop(ranges);
+    }
 }
 
 impl Model for Owned {
@@ -62,10 +70,9 @@ impl Owned {
     pub(crate) fn copy(&self, alloc: Global) -> Result<Owned, OutOfMemory>
         ensures { IfOk result (λ o. o ≡ self.now) }
     {
-        Ok(Owned {
-            ids: self.ids.copy(alloc)?,
-            ranges: Vec::from_slice(alloc, &self.ranges)?,
-        })
+        let mut copy = Owned::new(alloc);
+        copy.append(self.as_slice())?;
+        Ok(copy)
     }
 
     /// The numbers of the quantifiers.
@@ -87,9 +94,17 @@ impl Owned {
         ensures ok { OnOk result (self.new ≡ self.old ++ r ∷ []) }
         ensures err { OnErr result (self.new ≡ self.old) }
     {
-        self.ranges.reserve(1)?;
-        self.ids.push(r.id)?;
-        let _ = self.ranges.push(r);
+        let n = self.ranges.len();
+        self.insert(n, r)
+    }
+
+    // Adds quantifiers at the end.
+    pub(crate) fn append(&mut self, ranges: &[OwnedQuant]) -> Result<(), OutOfMemory>
+        ensures { OnOk result (self.new ≡ self.old ++ ranges.now) }
+    {
+        for range in ranges {
+            self.push(*range)?;
+        }
         Ok(())
     }
 
@@ -150,7 +165,7 @@ impl Owned {
 pub fn has_range(ranges: &[OwnedQuant], q: QuantId) -> bool
     ensures { result ≡ list_any (is_quant q) ranges.now }
 {
-    ranges.iter().any(|r| r.id == q)
+    find_range(ranges, q).is_some()
 }
 
 // Where a quantifier stands in its owner, if it does.
@@ -165,10 +180,7 @@ fn range_place(ranges: &[OwnedQuant], q: QuantId) -> usize
     requires { list_any (is_quant q) ranges.now ≡ true }
     ensures { IsFirst (is_quant q) ranges.now result }
 {
-    let Some(i) = find_range(ranges, q) else {
-        unreachable!()
-    };
-    i
+    find_range(ranges, q).unwrap()
 }
 
 // A quantifier in its owner.

@@ -22,10 +22,7 @@ pub fn box_place(nodes: &[Node], b: BoxId) -> usize
     ensures at { Some result ≡ position (is_box b) nodes.now }
     ensures first { IsFirst (is_box b) nodes.now result }
 {
-    let Some(i) = find_box(nodes, b) else {
-        unreachable!()
-    };
-    i
+    find_box(nodes, b).unwrap()
 }
 
 // Where a new box goes: last, or just below the named one.
@@ -51,22 +48,19 @@ pub fn owner_place(nodes: &[Node], q: QuantId) -> usize
     requires { list_any (owns q) nodes.now ≡ true }
     ensures { IsFirst (owns q) nodes.now result }
 {
-    let Some(i) = find_owner(nodes, q) else {
-        unreachable!()
-    };
-    i
+    find_owner(nodes, q).unwrap()
 }
 
 /// Whether one of the boxes has the number.
 pub fn has_box(nodes: &[Node], b: BoxId) -> bool
     ensures { result ≡ has_box nodes.now b }
 {
-    nodes.iter().any(|n| n.id == b)
+    find_box(nodes, b).is_some()
 }
 
 /// Whether one of the boxes owns the quantifier.
 pub fn has_quant(nodes: &[Node], q: QuantId) -> bool
     ensures { result ≡ list_any (owns q) nodes.now }
 {
-    nodes.iter().any(|n| has_range(n.quants.as_slice(), q))
+    find_owner(nodes, q).is_some()
 }

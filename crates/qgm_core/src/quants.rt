@@ -1,5 +1,5 @@
 // The numbers of a box's quantifiers.
-ghost use Rattle.std.specs.Prelude.{◌≡◌, ◌<◌, ◌≤◌, ◌++◌, ◌∷◌, [], ℕ, length, insert, slice_index_or, IfOk, OnOk, OnErr};
+ghost use Rattle.std.specs.Prelude.{◌≡◌, ◌<◌, ◌≤◌, [], ℕ, length, insert, slice_index_or, OnOk, OnErr};
 ghost use Rattle.std.specs.List.{remove};
 
 use qgm_terms::QuantId;
@@ -30,29 +30,11 @@ impl Quants {
         }
     }
 
-    // A copy.
-    pub(crate) fn copy(&self, alloc: Global) -> Result<Quants, OutOfMemory>
-        ensures { IfOk result (λ q. q ≡ self.now) }
-    {
-        Ok(Quants {
-            ids: Vec::from_slice(alloc, &self.ids)?,
-        })
-    }
-
     /// The quantifiers.
     pub fn as_slice(&self) -> &[QuantId]
         ensures { result.now ≡ self.now }
     {
         &self.ids
-    }
-
-    // Adds a quantifier at the end.
-    pub(crate) fn push(&mut self, q: QuantId) -> Result<(), OutOfMemory>
-        ensures ok { OnOk result (self.new ≡ self.old ++ q ∷ []) }
-        ensures err { OnErr result (self.new ≡ self.old) }
-    {
-        self.ids.push(q)?;
-        Ok(())
     }
 
     // Puts a quantifier at a place, from 0.
@@ -61,8 +43,7 @@ impl Quants {
         ensures ok { OnOk result (self.new ≡ insert self.old i q) }
         ensures err { OnErr result (self.new ≡ self.old) }
     {
-        self.ids.insert(i, q)?;
-        Ok(())
+        self.ids.insert(i, q).or(Err(OutOfMemory))
     }
 
     // Takes the quantifier at a place, from 0, out.

@@ -1,27 +1,21 @@
 // Names of columns, where a box loses a column.
 ghost use Rattle.std.specs.Prelude.{◌≡◌, ◌<◌, length, slice_get};
 ghost use Rattle.qgm_core.specs.Boxes.{quants_in};
-ghost use Rattle.qgm_core.specs.Edits.{ids_over, shift_boxes, shift_node, shifted_over};
+ghost use Rattle.qgm_core.specs.Edits.{ids_over, shift_boxes, shifted_over};
 ghost use Rattle.qgm_core.specs.Lists.{each};
 
 use crate::kinds::BoxId;
 use crate::node::Node;
 use qgm_terms::QuantId;
 
-// Shifts names of later columns of a quantifier that loses its column k, in a box.
-fn shift_node(node: &mut Node, q: QuantId, k: usize)
-    ensures { node.new ≡ shift_node k q node.old }
-{
-    node.parts.head.shift(q, k);
-    node.parts.conds.shift(q, k);
-}
-
-// The same in all boxes.
+// Shifts names of later columns of a quantifier that loses its column k, in all boxes.
 fn shift_nodes(nodes: &mut Vec<Node>, q: QuantId, k: usize)
     ensures { nodes.new.items ≡ shift_boxes k q nodes.old.items }
 {
     for i in 0..nodes.len() {
-        shift_node(&mut nodes[i], q, k);
+        let parts = &mut nodes[i].parts;
+        parts.head.shift(q, k);
+        parts.conds.shift(q, k);
     }
 }
 

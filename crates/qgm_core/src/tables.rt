@@ -8,16 +8,6 @@ pub fn make_long<T: Copy>(table: &mut Vec<T>, x: usize, none: T) -> Result<(), O
     ensures within { OnOk result (x < length table.new.items) }
     ensures same { (y : ℕ) → slice_index_or table.new.items y none ≡ slice_index_or table.old.items y none }
 {
-    let long = table.len();
-    if x < long {
-        return Ok(());
-    }
-    if x == usize::MAX {
-        return Err(OutOfMemory);
-    }
-    table.reserve(x + 1 - long)?;
-    for _i in long..x + 1 {
-        table.push(none)?;
-    }
-    Ok(())
+    let long = table.len().max(x.saturating_add(1));
+    table.resize(long, none).or(Err(OutOfMemory))
 }

@@ -1,18 +1,10 @@
 // How often boxes are used.
-ghost use Rattle.std.specs.Prelude.{◌≡◌, ◌==◌, ◌≤◌, filter, length};
+ghost use Rattle.std.specs.Prelude.{◌≡◌, ◌≤◌, length};
 ghost use Rattle.qgm_core.specs.Boxes.{ids_in, overs_in};
 ghost use Rattle.qgm_core.specs.Lists.{times};
 
 use crate::kinds::BoxId;
 use crate::node::Node;
-use crate::owned::OwnedQuant;
-
-// How many of the quantifiers range over a box.
-fn uses_by(ranges: &[OwnedQuant], b: BoxId) -> usize
-    ensures { result ≡ length (filter (λ r. r.over == b) ranges.now) }
-{
-    ranges.iter().filter(|r| r.over == b).count()
-}
 
 // How many quantifiers of the boxes range over a box, where there are so many at most.
 pub fn uses_in(nodes: &[Node], b: BoxId, most: usize) -> usize
@@ -21,7 +13,11 @@ pub fn uses_in(nodes: &[Node], b: BoxId, most: usize) -> usize
 {
     let mut total = 0;
     for node in nodes {
-        total += uses_by(node.quants.as_slice(), b);
+        for range in node.quants.as_slice() {
+            if range.over == b {
+                total += 1;
+            }
+        }
     }
     total
 }

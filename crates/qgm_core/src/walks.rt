@@ -1,14 +1,14 @@
 // The order in which boxes are visited.
 ghost use Rattle.std.specs.Prelude.{◌≡◌, ◌≤◌, ◌++◌, ◌∷◌, [], drop, length, map, OnOk, IfOk};
-ghost use Rattle.qgm_core.specs.Boxes.{is_box, numbers, quants_in};
-ghost use Rattle.qgm_core.specs.Lists.{EachOnce, first};
+ghost use Rattle.qgm_core.specs.Boxes.{numbers};
+ghost use Rattle.qgm_core.specs.Lists.{EachOnce};
 ghost use Rattle.qgm_core.specs.Walk as spec;
 
 use crate::box_places::{Places, node_at};
-use crate::free::mark_each;
 use crate::kinds::BoxId;
 use crate::marks::Marks;
 use crate::node::Node;
+use crate::owned::OwnedQuant;
 use shared_types::OutOfMemory;
 use std::alloc::Global;
 
@@ -52,47 +52,14 @@ pub fn depth_first(alloc: Global, nodes: &[Node], root: BoxId) -> Result<Vec<Box
     Ok(seen.into_list())
 }
 
-// Appends the boxes that a box's quantifiers range over.
-fn add_overs(
-    nodes: &[Node],
-    places: &Places,
-    b: BoxId,
-    out: &mut Vec<BoxId>,
-) -> Result<(), OutOfMemory>
-    requires { places.now ≡ numbers nodes.now }
-    ensures { OnOk result (out.new.items ≡ out.old.items ++ map (λ r. r.over) (quants_in (first (is_box b) nodes.now))) }
-{
-    match node_at(nodes, places, b) {
-        Some(node) => mark_each(node.quants.as_slice(), out),
-        None => Ok(()),
-    }
-}
-
-// The boxes under the quantifiers of these.
-fn under(
-    alloc: Global,
-    nodes: &[Node],
-    places: &Places,
-    bs: &[BoxId],
-) -> Result<Vec<BoxId>, OutOfMemory>
-    requires { places.now ≡ numbers nodes.now }
-    ensures { IfOk result (λ all. all.items ≡ spec.under nodes.now bs.now) }
-{
-    let mut all = Vec::new(alloc);
-    for b in bs {
-        add_overs(nodes, places, *b, &mut all)?;
-    }
-    Ok(all)
-}
-
-// Appends those of these that weren't seen, each once.
+// Appends the boxes that these quantifiers range over and that weren't seen, each once.
 #[tactic(auto, using(crate::proofs::Visited::news_new, crate::proofs::Visited::news_seen))]
-fn add_news(bs: &[BoxId], seen: &mut Marks) -> Result<(), OutOfMemory>
-    ensures { OnOk result (seen.new ≡ seen.old ++ spec.news seen.old bs.now) }
+fn add_news(ranges: &[OwnedQuant], seen: &mut Marks) -> Result<(), OutOfMemory>
+    ensures { OnOk result (seen.new ≡ seen.old ++ spec.news seen.old (map (λ r. r.over) ranges.now)) }
 {
-    for b in bs {
-        if !seen.has(*b) {
-            seen.push(*b)?;
+    for range in ranges {
+        if !seen.has(range.over) {
+            seen.push(range.over)?;
         }
     }
     Ok(())
@@ -100,7 +67,6 @@ fn add_news(bs: &[BoxId], seen: &mut Marks) -> Result<(), OutOfMemory>
 
 // Appends the level below the one that starts at this place.
 fn add_level(
-    alloc: Global,
     nodes: &[Node],
     places: &Places,
     start: usize,
@@ -110,8 +76,13 @@ fn add_level(
     requires within { start ≤ length seen.old }
     ensures { OnOk result (seen.new ≡ seen.old ++ spec.news seen.old (spec.under nodes.now (drop start seen.old))) }
 {
-    let below = under(alloc, nodes, places, &seen.as_slice()[start..])?;
-    add_news(&below, seen)
+    for i in start..seen.as_slice().len() {
+        let b = seen.as_slice()[i];
+        if let Some(node) = node_at(nodes, places, b) {
+            add_news(node.quants.as_slice(), seen)?;
+        }
+    }
+    Ok(())
 }
 
 // The boxes from the root, level by level.
@@ -125,7 +96,7 @@ pub fn by_levels(alloc: Global, nodes: &[Node], root: BoxId) -> Result<Vec<BoxId
     let mut start = 0;
     for _level in 0..nodes.len() {
         let end = seen.as_slice().len();
-        add_level(alloc, nodes, &places, start, &mut seen)?;
+        add_level(nodes, &places, start, &mut seen)?;
         start = end;
     }
     Ok(seen.into_list())

@@ -2,5 +2,5 @@ use Rattle.std.proofs.Common.{arith}
 use Rattle.std.proofs.lemmas.Grind.{common_steps}
 use Rattle.qgm_core.proofs.walks.add_news.Goals as goal
 
-pub loop-b-preserved : goal.loop-b-preserved
-loop-b-preserved c = grind (arith, common_steps)
+pub loop-range-preserved : goal.loop-range-preserved
+loop-range-preserved c = grind (arith, common_steps)

@@ -2,5 +2,8 @@ use Rattle.std.proofs.Common.{arith}
 use Rattle.std.proofs.lemmas.Grind.{common_steps}
 use Rattle.qgm_core.proofs.box_places.Places.of.Goals as goal
 
-pub invariant_of-result : goal.invariant_of-result
-invariant_of-result c = grind (arith, common_steps)
+pub loop-node-preserved : goal.loop-node-preserved
+loop-node-preserved c = grind (arith, common_steps)
+
+pub returns : goal.returns
+returns c = grind (arith, common_steps)

@@ -1,9 +1,6 @@
-use Rattle.std.proofs.lemmas.Grind.{common_steps}
 use Rattle.std.proofs.Common.{◌≡◌, ◌+◌, ◌++◌, ◌∷◌, [], ℕ, List, ap, sym, ◌∙◌, arith}
-use Rattle.std.specs.Prelude.{IsOk}
 use Rattle.qgm_core.specs.Lists.{times}
 use Rattle.qgm_core.proofs.ByNumber.{counted-more, read-within, times-most}
-use Rattle.qgm_core.proofs.Fresh.{if_ok}
 use Rattle.qgm_core.proofs.counts.Counts.push.Goals as goal
 
 pub overflow_add-index_mut : goal.overflow_add-index_mut
@@ -14,9 +11,7 @@ overflow_add-index_mut c =
     let x = c.args.x in
     let e : v ≡ times x list = c.index_mut.ensures.value ∙ read-within long x v 0 c.in_ok-make_long.ensures.within ∙ c.in_ok-make_long.ensures.same x ∙ c.self.invariant x in
     let m = times-most list x in
-    let room = c.in_ok-reserve.ensures.ok in
-    let h = c.reserve.ensures.len in
-    omega (arith, e, m, room, h, c.self.inside.list.ok, c.reserve.new.self.ok)
+    omega (arith, e, m, c.self.inside.list.ok)
 
 pub invariant_of-self-2 : goal.invariant_of-self-2
 invariant_of-self-2 c =
@@ -26,11 +21,5 @@ invariant_of-self-2 c =
     let x = c.args.x in
     let l = c.in_ok-make_long.ensures.within in
     let e : v ≡ times x list = c.index_mut.ensures.value ∙ read-within long x v 0 l ∙ c.in_ok-make_long.ensures.same x ∙ c.self.invariant x in
-    let room = c.in_ok-reserve.ensures.ok in
-    let done : IsOk c.push.result = c.push.ensures.succeeds (omega (arith, room)) in
-    let new : c.push.new.self.items ≡ c.reserve.new.self.items ++ x ∷ [] = if_ok c.push.result _ _ _ done c.push.ensures.items in
-    let all : c.push.new.self.items ≡ list ++ x ∷ [] = new ∙ ap (λ (xs : List ℕ). xs ++ x ∷ []) c.reserve.ensures.items in
+    let all : c.push.new.self.items ≡ list ++ x ∷ [] = c.in_ok-push.ensures.items in
     λ y. counted-more list c.self.inside.counts.items long x (v + 1) c.self.invariant c.in_ok-make_long.ensures.same l (omega (arith, e)) y ∙ ap (λ (xs : List ℕ). times y xs) (sym all)
-
-pub invariant_of-self-in_err-make_long : goal.invariant_of-self-in_err-make_long
-invariant_of-self-in_err-make_long c = grind (arith, common_steps)

@@ -1,13 +1,14 @@
-use Rattle.std.proofs.Common.{List, ◌-◌, ◌+◌, ap, ◌∙◌, refl, sym, subst, rules, arith}
+use Rattle.std.proofs.Common.{List, ◌-◌, ◌+◌, ap, ◌∙◌, refl, sym, subst, arith}
 use Rattle.qgm_core.specs.Boxes.{QueryGraph, HasQuant, is_box}
 use Rattle.qgm_core.specs.Edits.{put_range, range}
 use Rattle.qgm_core.specs.Numbered.{Numbered}
 use Rattle.qgm_core.specs.declared.node.Node.{Node}
 use Rattle.qgm_core.specs.declared.owned.OwnedQuant.{OwnedQuant}
-use Rattle.qgm_core.proofs.Fresh.{no_quant, numbered-quant}
+use Rattle.qgm_core.proofs.Fresh.{never_both, no_quant, numbered-quant}
 use Rattle.qgm_core.specs.Held.{HasAll}
 use Rattle.qgm_core.proofs.Held.{all-range, range-held}
 use Rattle.std.proofs.lemmas.Grind.{common_steps}
+use Rattle.qgm_core.proofs.Changed.{edited}
 use Rattle.qgm_core.proofs.graph.Graph.add_quant.Goals as goal
 
 pub invariant_of-self-2 : goal.invariant_of-self-2
@@ -27,10 +28,14 @@ pub returns-clause-fresh : goal.returns-clause-fresh
 returns-clause-fresh c = λ h.
     let e = no_quant c.self.inside.next_quant c.self.inside.nodes.items c.self.invariant.2 in
     let k = subst (λ (g : QueryGraph). HasQuant c.self.inside.next_quant g) (sym c.self.view_is) h in
-    absurd (let q : ⊥ = cc in q)
+    never_both _ e k
 
 pub returns-clause-ok : goal.returns-clause-ok
-returns-clause-ok c = search rules
+returns-clause-ok c =
+    let at = rw c.deref.ensures.value at c.box_place-k.ensures.first in
+    let n = c.index_mut.result.now in
+    let f = put_range (c.args.place - 1) (range c.self.inside.next_quant c.args.kind c.args.over) in
+    edited (is_box c.args.owner) f c.self.inside.nodes.items c.box_place-k.result _ n _ _ at (ap {B = Node} (λ (rs : List OwnedQuant). record n { quants = rs }) c.in_ok-insert.ensures.ok ∙ ap f c.index_mut.ensures.value) refl c.self.view_is
 
 pub returns-clause-kept : goal.returns-clause-kept
 returns-clause-kept c =

@@ -1,11 +1,13 @@
 use Rattle.std.proofs.lemmas.Grind.{common_steps}
-use Rattle.std.proofs.Common.{List, ap, sym, subst, rules, refl, ◌-◌, arith}
+use Rattle.std.proofs.Common.{List, ap, sym, subst, refl, ◌≡◌, ◌-◌, ◌∙◌, arith}
 use Rattle.qgm_core.specs.Boxes.{ids_of, QueryGraph, is_box}
-use Rattle.qgm_core.specs.Edits.{quants_over, shifted_over, without_cell}
+use Rattle.qgm_core.specs.Edits.{drop_column, quants_over, shifted_over, without_cell}
 use Rattle.qgm_core.specs.Numbered.{Numbered}
 use Rattle.qgm_core.specs.declared.node.Node.{Node}
 use Rattle.qgm_core.proofs.Fresh.{numbered-set}
 use Rattle.qgm_core.proofs.Shifts.{numbered-shifted}
+use Rattle.std.proofs.Math.ListN.{set}
+use Rattle.qgm_terms.specs.Terms.{Term}
 use Rattle.qgm_core.specs.Held.{HasAll}
 use Rattle.qgm_core.specs.Lists.{change}
 use Rattle.qgm_core.proofs.Held.{all-parts, all-shifted, all-then}
@@ -23,7 +25,16 @@ invariant_of-self c =
     (numbered-set a b c.self.inside.nodes.items c.box_place-i.result _ c.index_mut.result.now at.0 (ap (λ (n : Node). n.id) e) (ap ids_of e) c.self.invariant))
 
 pub returns-clause-graph : goal.returns-clause-graph
-returns-clause-graph c = search rules
+returns-clause-graph c =
+    let at = rw c.deref.ensures.value at c.box_place-i.ensures.first in
+    let n = c.index_mut.result.now in
+    let b = c.args.b in
+    let k = c.args.k in
+    let f = without_cell (k - 1) in
+    let xs = c.self.inside.nodes.items in
+    let same : set xs c.box_place-i.result (record n { parts = record n.parts { head = c.remove.new.self } }) ≡ change (is_box b) f xs = at.3 f _ n (ap {B = Node} (λ (cells : List Term). record n { parts = record n.parts { head = cells } }) c.remove.ensures ∙ ap f c.index_mut.ensures.value) in
+    ap {B = QueryGraph} (λ (ns : List Node). record { boxes = ns; root = c.self.inside.root; names = c.self.inside.names; order = c.self.inside.order }) (c.shift_over.ensures ∙ ap (λ (ns : List Node). shifted_over b k ns) same)
+    ∙ ap {B = QueryGraph} (λ (g : QueryGraph). drop_column b k g) c.self.view_is
 
 pub returns-clause-kept : goal.returns-clause-kept
 returns-clause-kept c =

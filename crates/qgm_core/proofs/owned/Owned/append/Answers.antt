@@ -1,6 +1,6 @@
 use Rattle.std.proofs.Common.{arith}
 use Rattle.std.proofs.lemmas.Grind.{common_steps}
-use Rattle.qgm_core.proofs.absorbed.add_all.Goals as goal
+use Rattle.qgm_core.proofs.owned.Owned.append.Goals as goal
 
 pub loop-range-preserved : goal.loop-range-preserved
 loop-range-preserved c = grind (arith, common_steps)

@@ -1,6 +1,6 @@
 use Rattle.std.proofs.Common.{◌≡◌, take}
 use Rattle.qgm_core.specs.Boxes.{numbers}
-use Rattle.qgm_core.proofs.box_places.numbers_of.Given as goal
+use Rattle.qgm_core.proofs.box_places.Places.of.Given as goal
 
 abbrev pub invariant-loop-node : goal.invariant-loop-node
-invariant-loop-node l = l.list.items ≡ numbers (take l.node-index l.nodes)
+invariant-loop-node l = l.places ≡ numbers (take l.node-index l.nodes)
