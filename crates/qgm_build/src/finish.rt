@@ -28,13 +28,11 @@ use shared_types::OutOfMemory;
 use sql_meaning::{From, Value};
 use std::alloc::Global;
 
-/// A block before its select: where the columns of its FROM are seen, the quantifiers of the FROM, and
-/// those of the subqueries.
+/// A FROM before its select: where its columns are seen, and its quantifiers.
 #[derive(Drop)]
 pub(crate) struct Opened {
     pub frame: Vec<Seen>,
     pub fs: Owned,
-    pub subs: Owned,
 }
 
 /// Adds quantifiers.
@@ -83,6 +81,14 @@ pub(crate) fn seen_terms(alloc: Global, frame: &[Seen]) -> Result<Vec<Gx>, OutOf
     Ok(out)
 }
 
+/// What is seen, as a head.
+pub(crate) fn seen_head(alloc: Global, frame: &[Seen]) -> Result<Head, OutOfMemory>
+    ensures { IfOk result (λ h. h ≡ map ref_term (frame_of frame.now)) }
+{
+    let list = seen_terms(alloc, frame)?;
+    head_of(alloc, list)
+}
+
 // Adds what is seen.
 fn push_seen_term(out: &mut Vec<Gx>, x: Seen) -> Result<(), OutOfMemory>
     ensures { OnOk result (terms out.new.items ≡ terms out.old.items ++ ref_term (ref_of x) ∷ []) }
@@ -114,12 +120,13 @@ pub(crate) fn finish_block(
     distinct: bool,
     x: &Block<'_>,
     o: Opened,
+    subs: Owned,
     st: &mut Store,
 ) -> Result<BoxId, OutOfMemory>
     requires seen { frame_of o.frame.items ≡ w.frame_all (told_at g.now) (shown.from_list x.now.from.now) o.fs }
-    ensures { IfOk result (λ b. Gives (spec.block_box g.now distinct (shown.value_list x.now.list.now) (shown.from_list x.now.from.now) (shown.test x.now.by.now) o.fs (after_subs (so_far st.old) o.subs)) b (so_far st.new)) }
+    ensures { IfOk result (λ b. Gives (spec.block_box g.now distinct (shown.value_list x.now.list.now) (shown.from_list x.now.from.now) (shown.test x.now.by.now) o.fs (after_subs (so_far st.old) subs)) b (so_far st.new)) }
 {
-    let Opened { frame, fs, subs } = o;
+    let Opened { frame, fs } = o;
     let parts = block_parts(g, x, &frame, fs.as_slice(), subs.as_slice(), st);
     put_select(g, st, distinct, parts, all_quants(fs, subs))
 }
@@ -268,12 +275,13 @@ pub(crate) fn finish_rows(
     g: &Ground<'_>,
     x: &Rows<'_>,
     o: Opened,
+    subs: Owned,
     st: &mut Store,
 ) -> Result<BoxId, OutOfMemory>
     requires seen { frame_of o.frame.items ≡ w.frame_all (told_at g.now) (shown.from_list x.now.from.now) o.fs }
-    ensures { IfOk result (λ b. Gives (spec.rows_box g.now x.now.places.now (map leaf_of x.now.folds.now) (shown.from_list x.now.from.now) (shown.test x.now.by.now) o.fs (after_subs (so_far st.old) o.subs)) b (so_far st.new)) }
+    ensures { IfOk result (λ b. Gives (spec.rows_box g.now x.now.places.now (map leaf_of x.now.folds.now) (shown.from_list x.now.from.now) (shown.test x.now.by.now) o.fs (after_subs (so_far st.old) subs)) b (so_far st.new)) }
 {
-    let Opened { frame, fs, subs } = o;
+    let Opened { frame, fs } = o;
     let parts = rows_parts(g, x, &frame, fs.as_slice(), subs.as_slice(), st);
     put_select(g, st, false, parts, all_quants(fs, subs))
 }

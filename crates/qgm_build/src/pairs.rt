@@ -1,11 +1,13 @@
 // The boxes over groups and over pairs of boxes.
-ghost use Rattle.std.specs.Prelude.{◌≡◌, ◌++◌, ◌∷◌, [], IfOk, OnOk, map, suc};
+ghost use Rattle.std.specs.Prelude.{◌≡◌, ◌++◌, ◌∷◌, [], false, IfOk, IsOkAnd, OnOk, map, suc};
 ghost use Rattle.sql_meaning.specs.ResolvedShown as shown;
 ghost use Rattle.qgm_terms.specs.Shown.{terms};
 ghost use Rattle.qgm_terms.specs.Terms as t;
+ghost use Rattle.qgm_core.specs.declared.kinds.BoxKind.TheVariants.{OuterJoin};
 ghost use Rattle.qgm_shown.specs.Folds.{folds_in};
 ghost use Rattle.qgm_shown.specs.Lay.{laying, ranging};
 ghost use Rattle.qgm_shown.specs.Lay as l;
+ghost use Rattle.qgm_shown.specs.Maps.{ref_term};
 ghost use Rattle.qgm_shown.specs.Leaves.{after, list_leaves, test_leaves};
 ghost use Rattle.qgm_shown.specs.Shown as w;
 ghost use Rattle.qgm_shown.specs.Sources.{from_width};
@@ -18,8 +20,8 @@ ghost use Rattle.built_terms.specs.Making.{Gives, after_subs};
 ghost use Rattle.built_terms.specs.SoFar.{so_far};
 ghost use Rattle.built_terms.specs.Written.{frame_of};
 
-use crate::finish::{append, seen_terms};
-use crate::select::Selected;
+use crate::finish::{append, seen_head, seen_terms};
+use crate::select::{Selected, select_parts};
 use built_terms::{
     Fold, Ground, Seat, Seen, Slots, Store, add_boxed, after, draw, fold_terms, from_width,
     group_cells, head_of, list_folds, push_refs, put, row_type, setting_of, site_of, test,
@@ -187,14 +189,16 @@ pub(crate) fn finish_pair(
     g: &Ground<'_>,
     form: SetOperator,
     n: usize,
-    a: BoxId,
-    b: BoxId,
+    a: Result<BoxId, OutOfMemory>,
+    b: Result<BoxId, OutOfMemory>,
     st: &mut Store,
 ) -> Result<BoxId, OutOfMemory>
-    ensures { IfOk result (λ r. Gives (spec.two_box g.now form n a b (so_far st.old)) r (so_far st.new)) }
+    ensures { IfOk result (λ r. IsOkAnd a (λ left. IsOkAnd b (λ right. Gives (spec.two_box g.now form n left right (so_far st.old)) r (so_far st.new)))) }
 {
+    let left = a?;
+    let right = b?;
     let q = st.next_quant;
-    let quants = pair(g.alloc, a, b, st)?;
+    let quants = pair(g.alloc, left, right, st)?;
     let types = pair_types(g.alloc, q, n, st)?;
     let kind = BoxKind::SetOp(form, types);
     put(
@@ -241,30 +245,60 @@ fn outer_conds(h: &Seat<'_>, p: &Test, st: &Store) -> Result<Conds, OutOfMemory>
     Ok(conds)
 }
 
+// The head and the conditions of a LEFT JOIN, whose quantifiers have the numbers q and the next.
+fn outer_parts(
+    g: &Ground<'_>,
+    x: &From,
+    n: usize,
+    p: &Test,
+    q: QuantId,
+    st: &Store,
+) -> Result<Selected, OutOfMemory>
+    ensures head { IfOk result (λ made. made.head ≡ map ref_term (w.refs q 1 (from_width (told_at g.now) (shown.from x.now)) ++ w.refs (suc q) 1 n)) }
+    ensures conds { IfOk result (λ made. made.conds.items ≡ meant.split (meant.cond (laying (told_at g.now) (so_far st.now)) (w.refs q 1 (from_width (told_at g.now) (shown.from x.now)) ++ w.refs (suc q) 1 n) (outer_of g.now) w.no_slots (shown.test p.now))) }
+    ensures spare { IfOk result (λ made. made.conds.spare ≡ 0) }
+{
+    let seen = outer_frame(g, x, n, q, st)?;
+    let h = Seat {
+        ground: *g,
+        frame: &seen,
+    };
+    let conds = outer_conds(&h, p, st);
+    let head = seen_head(g.alloc, &seen);
+    select_parts(head, conds)
+}
+
+// A LEFT JOIN of a head, conditions and quantifiers, where all were made.
+fn put_outer(
+    g: &Ground<'_>,
+    st: &mut Store,
+    parts: Result<Selected, OutOfMemory>,
+    quants: Result<Owned, OutOfMemory>,
+) -> Result<BoxId, OutOfMemory>
+    requires spare { IfOk parts (λ made. made.conds.spare ≡ 0) }
+    ensures { IfOk result (λ b. IsOkAnd parts (λ made. IsOkAnd quants (λ qs. Gives (l.put OuterJoin false made.conds.items made.head qs (so_far st.old)) b (so_far st.new)))) }
+{
+    let quants = quants?;
+    let Selected { head, conds } = parts?;
+    put(g.alloc, st, BoxKind::OuterJoin, false, conds, head, quants)
+}
+
 /// A LEFT JOIN over what was laid.
 pub(crate) fn finish_outer(
     g: &Ground<'_>,
     x: &From,
     n: usize,
     p: &Test,
-    a: BoxId,
-    b: BoxId,
+    a: Result<BoxId, OutOfMemory>,
+    b: Result<BoxId, OutOfMemory>,
     st: &mut Store,
 ) -> Result<BoxId, OutOfMemory>
-    ensures { IfOk result (λ r. Gives (spec.outer_box g.now (shown.from x.now) n (shown.test p.now) a b (so_far st.old)) r (so_far st.new)) }
+    ensures { IfOk result (λ r. IsOkAnd a (λ left. IsOkAnd b (λ right. Gives (spec.outer_box g.now (shown.from x.now) n (shown.test p.now) left right (so_far st.old)) r (so_far st.new)))) }
 {
+    let left = a?;
+    let right = b?;
     let q = st.next_quant;
-    let quants = pair(g.alloc, a, b, st)?;
-    let seen = outer_frame(g, x, n, q, st)?;
-    let conds = outer_conds(
-        &Seat {
-            ground: *g,
-            frame: &seen,
-        },
-        p,
-        st,
-    )?;
-    let list = seen_terms(g.alloc, &seen)?;
-    let head = head_of(g.alloc, list)?;
-    put(g.alloc, st, BoxKind::OuterJoin, false, conds, head, quants)
+    let quants = pair(g.alloc, left, right, st);
+    let parts = outer_parts(g, x, n, p, q, st);
+    put_outer(g, st, parts, quants)
 }

@@ -1,5 +1,5 @@
 // The head and the conditions of the select over a block's FROM.
-ghost use Rattle.std.specs.Prelude.{◌≡◌, ◌++◌, [], IfOk, OnOk, map};
+ghost use Rattle.std.specs.Prelude.{◌≡◌, ◌++◌, [], IfOk, IsOkAnd, OnOk, map};
 ghost use Rattle.sql_meaning.specs.ResolvedShown as shown;
 ghost use Rattle.qgm_build.specs.Block.{aggregates_of, aggregates_of_rows, conds_in_block, conds_in_rows, frame_of_block, head_in_block};
 ghost use Rattle.qgm_shown.specs.Shown.{frame_all};
@@ -37,6 +37,19 @@ pub(crate) struct Rows<'a> {
 pub(crate) struct Selected {
     pub head: Head,
     pub conds: Conds,
+}
+
+/// A head and conditions, where both were made.
+pub(crate) fn select_parts(
+    head: Result<Head, OutOfMemory>,
+    conds: Result<Conds, OutOfMemory>,
+) -> Result<Selected, OutOfMemory>
+    ensures head { IfOk result (λ made. IsOkAnd head (λ h. made.head ≡ h)) }
+    ensures conds { IfOk result (λ made. IsOkAnd conds (λ c. made.conds ≡ c)) }
+{
+    let head = head?;
+    let conds = conds?;
+    Ok(Selected { head, conds })
 }
 
 // The aggregates of a block in the order of its list, its ON conditions and WHERE.
