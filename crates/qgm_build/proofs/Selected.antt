@@ -120,3 +120,11 @@ pub part_of : {W V E : Type 0} (r : Result W E) (a : Result V E) (f : W → V) (
 part_of (Ok w) (Ok v) f P e p = subst P (sym e) p
 part_of (Ok w) (Err x) f P e p = absurd e
 part_of (Err x) a f P e p = tt
+
+-- what holds of two parts that were used, the second of which was made after the first
+pub parts_of : {W V U E : Type 0} (r : Result W E) (a : Result V E) (b : Result U E) (f : W → V) (g : W → U) (Z : Type 0) (Q : U → Type 0) (T : W → Type 0)
+    → IfOk r (λ w. IsOkAnd a (λ v. f w ≡ v)) → IfOk r (λ w. IsOkAnd b (λ u. g w ≡ u)) → IfOk a (λ v. Z) → IfOk b Q → ((w : W) → Z → Q (g w) → T w) → IfOk r T
+parts_of (Ok w) (Ok v) (Ok u) f g Z Q T d e z q h = h w z (subst Q (sym e) q)
+parts_of (Ok w) (Ok v) (Err x) f g Z Q T d e z q h = absurd e
+parts_of (Ok w) (Err x) b f g Z Q T d e z q h = absurd d
+parts_of (Err x) a b f g Z Q T d e z q h = tt

@@ -1,14 +1,15 @@
 // The boxes over groups and over pairs of boxes.
-ghost use Rattle.std.specs.Prelude.{◌≡◌, ◌++◌, ◌∷◌, [], false, IfOk, IsOkAnd, OnOk, map, suc};
+ghost use Rattle.std.specs.Prelude.{◌≡◌, ◌++◌, ◌∷◌, [], false, IfOk, IsOkAnd, OnOk, length, map, suc};
 ghost use Rattle.sql_meaning.specs.ResolvedShown as shown;
 ghost use Rattle.qgm_terms.specs.Shown.{terms};
 ghost use Rattle.qgm_terms.specs.Terms as t;
 ghost use Rattle.qgm_core.specs.declared.kinds.BoxKind.TheVariants.{OuterJoin};
+ghost use Rattle.qgm_core.specs.declared.kinds.QuantKind.TheVariants.{F};
 ghost use Rattle.qgm_shown.specs.Folds.{folds_in};
 ghost use Rattle.qgm_shown.specs.Lay.{laying, ranging};
 ghost use Rattle.qgm_shown.specs.Lay as l;
 ghost use Rattle.qgm_shown.specs.Maps.{ref_term};
-ghost use Rattle.qgm_shown.specs.Leaves.{after, list_leaves, test_leaves};
+ghost use Rattle.qgm_shown.specs.Leaves.{list_leaves, test_leaves};
 ghost use Rattle.qgm_shown.specs.Shown as w;
 ghost use Rattle.qgm_shown.specs.Sources.{from_width};
 ghost use Rattle.qgm_shown.specs.Terms as meant;
@@ -20,12 +21,11 @@ ghost use Rattle.built_terms.specs.Making.{Gives, after_subs};
 ghost use Rattle.built_terms.specs.SoFar.{so_far};
 ghost use Rattle.built_terms.specs.Written.{frame_of};
 
-use crate::finish::{append, seen_head, seen_terms};
-use crate::select::{Selected, select_parts};
+use crate::finish::{append, put_select, seen_head, seen_terms};
+use crate::select::{Selected, list_head, select_parts, split_test};
 use built_terms::{
-    Fold, Ground, Seat, Seen, Slots, Store, add_boxed, after, draw, fold_terms, from_width,
-    group_cells, head_of, list_folds, push_refs, put, row_type, setting_of, site_of, test,
-    test_folds, values,
+    Fold, Ground, Seat, Seen, Slots, Store, after, draw, fold_terms, from_width, group_cells,
+    head_of, list_folds, push_refs, put, row_type, setting_of, site_of, test_folds,
 };
 use qgm_core::{
     BoxId, BoxKind, Conds, Gx, Head, Owned, OwnedQuant, QuantId, QuantKind, SetOperator,
@@ -58,8 +58,9 @@ pub(crate) fn upper_folds<'a>(
     ensures { IfOk result (λ v. map leaf_of v.items ≡ folds_in (list_leaves [] (shown.value_list list.now)) ++ folds_in (test_leaves [] (shown.test having.now))) }
 {
     let mut out = Vec::new(alloc);
-    list_folds(list, &mut out)?;
-    test_folds(having, &mut out)?;
+    let listed = list_folds(list, &mut out);
+    let tested = test_folds(having, &mut out);
+    listed.and(tested)?;
     Ok(out)
 }
 
@@ -99,6 +100,14 @@ pub(crate) fn finish_group(
     put(g.alloc, st, kind, false, Conds::new(g.alloc), head, quants)
 }
 
+// Where the aggregates of the select over groups are seen.
+fn upper_cells(alloc: Global, z: &Upper<'_>) -> Result<Vec<Seen>, OutOfMemory>
+    ensures { IfOk result (λ v. frame_of v.items ≡ w.fold_refs z.now.u (suc (length z.now.places.now)) (folds_in (list_leaves [] (shown.value_list z.now.list.now)) ++ folds_in (test_leaves [] (shown.test z.now.having.now)))) }
+{
+    let folds = upper_folds(alloc, z.list, z.having)?;
+    group_cells(alloc, z.u, after(z.places.len())?, &folds)
+}
+
 // The head and the conditions of the select over groups, whose subqueries have these quantifiers.
 fn write_upper(
     h: &Seat<'_>,
@@ -110,21 +119,31 @@ fn write_upper(
     ensures conds { IfOk result (λ x. x.conds.items ≡ spec.upper_conds h.now z.now.u (shown.value_list z.now.list.now) z.now.places.now (shown.test z.now.having.now) subs.now (so_far st.now)) }
     ensures spare { IfOk result (λ x. x.conds.spare ≡ 0) }
 {
-    let alloc = h.ground.alloc;
-    let folds = upper_folds(alloc, z.list, z.having)?;
-    let cells = group_cells(alloc, z.u, after(z.places.len())?, &folds)?;
+    let cells = upper_cells(h.ground.alloc, z)?;
     let mut s = Slots {
         quants: subs,
         cells: &cells,
     };
     let setting = setting_of(h, st);
-    let mut list = Vec::new(alloc);
-    values(&setting, z.list, &mut s, &mut list)?;
-    let p = test(&setting, z.having, &mut s)?;
-    let mut conds = Conds::new(alloc);
-    add_boxed(&mut conds, p)?;
-    let head = head_of(alloc, list)?;
-    Ok(Selected { head, conds })
+    let head = list_head(&setting, z.list, &mut s);
+    let conds = split_test(&setting, z.having, &mut s);
+    select_parts(head, conds)
+}
+
+// The quantifiers of the select over groups: that over the groups, and those of its subqueries.
+fn upper_quants(alloc: Global, z: &Upper<'_>, subs: &[OwnedQuant]) -> Result<Owned, OutOfMemory>
+    ensures { IfOk result (λ quants. quants ≡ record { id = z.now.u; kind = F; over = z.now.groups } ∷ subs.now) }
+{
+    let mut quants = Owned::new(alloc);
+    let over = OwnedQuant {
+        id: z.u,
+        kind: QuantKind::F,
+        over: z.groups,
+    };
+    let first = quants.push(over);
+    let more = append(&mut quants, subs);
+    first.and(more)?;
+    Ok(quants)
 }
 
 /// The select over the groups of a block.
@@ -137,24 +156,9 @@ pub(crate) fn finish_upper(
     requires seen { frame_of h.now.frame.now ≡ w.key_frame z.now.u z.now.places.now 0 z.now.n }
     ensures { IfOk result (λ b. Gives (spec.upper_box h.now.ground z.now.distinct (shown.value_list z.now.list.now) z.now.places.now z.now.n (shown.test z.now.having.now) z.now.u z.now.groups (after_subs (so_far st.old) subs)) b (so_far st.new)) }
 {
-    let alloc = h.ground.alloc;
-    let x = write_upper(h, z, subs.as_slice(), st)?;
-    let mut quants = Owned::new(alloc);
-    quants.push(OwnedQuant {
-        id: z.u,
-        kind: QuantKind::F,
-        over: z.groups,
-    })?;
-    append(&mut quants, subs.as_slice())?;
-    put(
-        alloc,
-        st,
-        BoxKind::Select,
-        z.distinct,
-        x.conds,
-        x.head,
-        quants,
-    )
+    let parts = write_upper(h, z, subs.as_slice(), st);
+    let quants = upper_quants(h.ground.alloc, z, subs.as_slice());
+    put_select(&h.ground, st, z.distinct, parts, quants)
 }
 
 // Two F quantifiers over these.
@@ -239,10 +243,7 @@ fn outer_conds(h: &Seat<'_>, p: &Test, st: &Store) -> Result<Conds, OutOfMemory>
         quants: &[],
         cells: &[],
     };
-    let c = test(&setting, p, &mut s)?;
-    let mut conds = Conds::new(h.ground.alloc);
-    add_boxed(&mut conds, c)?;
-    Ok(conds)
+    split_test(&setting, p, &mut s)
 }
 
 // The head and the conditions of a LEFT JOIN, whose quantifiers have the numbers q and the next.
