@@ -96,6 +96,10 @@ from_conds_read w v m from by fs fr sl next start first conds a b o e st ok h1 h
     one.1 ∙ ap₂ (λ (z : List Cond) (y : Slots). z ++ split (cond v fr m y by)) (one.0 ∙ ap₂ (λ (z : List Cond) (y : Sources). z ++ all_ons y m from fs sl) st e)
     (two.0 ∙ ap (λ (y : Sources). after (all_on_leaves y from fs) sl) e)
 
+-- a condition, where its columns are seen so
+pub cond_at : (w : Sources) (m : Map) (p : Test) (fr seen : Frame) (conds : List Cond) → fr ≡ seen → conds ≡ split (cond w fr m no_slots p) → conds ≡ split (cond w seen m no_slots p)
+cond_at w m p fr seen conds e h = h ∙ ap (λ (z : Frame). split (cond w z m no_slots p)) e
+
 -- ---- the same of sources and scopes that are told otherwise
 
 pub head_at : (w v : Sources) (m l : Map) (x : Block) (fs subs : List OwnedQuant) (head : List Term) → w ≡ v → m ≡ l → head ≡ head_in_block w m x fs subs → head ≡ head_in_block v l x fs subs

@@ -52,6 +52,12 @@ of_both (Ok x) (Ok y) (Err e) P A B T h p q f = absurd h
 of_both (Ok x) (Err e) b P A B T h p q f = absurd h
 of_both (Err e) a b P A B T h p q f = tt
 
+-- what holds of two, by what else holds of them
+pub and_both : {V U E : Type 0} (a : Result V E) (b : Result U E) (P Q T : V → U → Type 0) → IsOkAnd a (λ x. IsOkAnd b (P x)) → IsOkAnd a (λ x. IsOkAnd b (Q x)) → ((x : V) (y : U) → P x y → Q x y → T x y) → IsOkAnd a (λ x. IsOkAnd b (T x))
+and_both (Ok x) (Ok y) P Q T p q f = f x y p q
+and_both (Ok x) (Err e) P Q T p q f = absurd p
+and_both (Err e) b P Q T p q f = absurd p
+
 -- what is done with another
 pub of_one : {V U E : Type 0} (r : Result U E) (a : Result V E) (P A : V → Type 0) (T : Type 0) → OnOk r (IsOkAnd a P) → IfOk a A → ((y : V) → P y → A y → T) → OnOk r T
 of_one (Ok u) (Ok y) P A T h p f = f y h p

@@ -77,8 +77,9 @@ fn column_terms(alloc: Global, q: QuantId, n: usize) -> Result<Vec<Gx>, OutOfMem
 fn group_head(alloc: Global, q: QuantId, n: usize, folds: &[Fold<'_>]) -> Result<Head, OutOfMemory>
     ensures { IfOk result (λ h. h ≡ w.columns_of q 1 n ++ w.fold_terms q (suc n) (map leaf_of folds.now)) }
 {
+    let next = after(n)?;
     let mut list = column_terms(alloc, q, n)?;
-    fold_terms(alloc, q, after(n)?, folds, &mut list)?;
+    fold_terms(alloc, q, next, folds, &mut list)?;
     head_of(alloc, list)
 }
 
@@ -104,8 +105,9 @@ pub(crate) fn finish_group(
 fn upper_cells(alloc: Global, z: &Upper<'_>) -> Result<Vec<Seen>, OutOfMemory>
     ensures { IfOk result (λ v. frame_of v.items ≡ w.fold_refs z.now.u (suc (length z.now.places.now)) (folds_in (list_leaves [] (shown.value_list z.now.list.now)) ++ folds_in (test_leaves [] (shown.test z.now.having.now)))) }
 {
+    let first = after(z.places.len())?;
     let folds = upper_folds(alloc, z.list, z.having)?;
-    group_cells(alloc, z.u, after(z.places.len())?, &folds)
+    group_cells(alloc, z.u, first, &folds)
 }
 
 // The head and the conditions of the select over groups, whose subqueries have these quantifiers.
@@ -161,14 +163,22 @@ pub(crate) fn finish_upper(
     put_select(&h.ground, st, z.distinct, parts, quants)
 }
 
-// Two F quantifiers over these.
-fn pair(alloc: Global, a: BoxId, b: BoxId, st: &mut Store) -> Result<Owned, OutOfMemory>
-    ensures quants { IfOk result (λ os. os ≡ l.pair_of (so_far st.old).quant a b) }
-    ensures store { OnOk result (so_far st.new ≡ ranging b (ranging a (so_far st.old))) }
+// Two F quantifiers over these, where both were made.
+fn pair(
+    alloc: Global,
+    a: Result<BoxId, OutOfMemory>,
+    b: Result<BoxId, OutOfMemory>,
+    st: &mut Store,
+) -> Result<Owned, OutOfMemory>
+    ensures quants { IfOk result (λ os. IsOkAnd a (λ left. IsOkAnd b (λ right. os ≡ l.pair_of (so_far st.old).quant left right))) }
+    ensures store { OnOk result (IsOkAnd a (λ left. IsOkAnd b (λ right. so_far st.new ≡ ranging right (ranging left (so_far st.old))))) }
 {
+    let left = a?;
+    let right = b?;
     let mut quants = Owned::new(alloc);
-    draw(alloc, st, QuantKind::F, a, &mut quants)?;
-    draw(alloc, st, QuantKind::F, b, &mut quants)?;
+    let first = draw(alloc, st, QuantKind::F, left, &mut quants);
+    let second = draw(alloc, st, QuantKind::F, right, &mut quants);
+    first.and(second)?;
     Ok(quants)
 }
 
@@ -199,10 +209,8 @@ pub(crate) fn finish_pair(
 ) -> Result<BoxId, OutOfMemory>
     ensures { IfOk result (λ r. IsOkAnd a (λ left. IsOkAnd b (λ right. Gives (spec.two_box g.now form n left right (so_far st.old)) r (so_far st.new)))) }
 {
-    let left = a?;
-    let right = b?;
     let q = st.next_quant;
-    let quants = pair(g.alloc, left, right, st)?;
+    let quants = pair(g.alloc, a, b, st)?;
     let types = pair_types(g.alloc, q, n, st)?;
     let kind = BoxKind::SetOp(form, types);
     put(
@@ -226,10 +234,12 @@ fn outer_frame(
 ) -> Result<Vec<Seen>, OutOfMemory>
     ensures { IfOk result (λ v. frame_of v.items ≡ w.refs q 1 (from_width (told_at g.now) (shown.from x.now)) ++ w.refs (suc q) 1 n) }
 {
-    let mut seen = Vec::new(g.alloc);
     let width = from_width(&site_of(g, st), x)?;
-    push_refs(&mut seen, q, width)?;
-    push_refs(&mut seen, after(q)?, n)?;
+    let next = after(q)?;
+    let mut seen = Vec::new(g.alloc);
+    let left = push_refs(&mut seen, q, width);
+    let right = push_refs(&mut seen, next, n);
+    left.and(right)?;
     Ok(seen)
 }
 
@@ -296,10 +306,8 @@ pub(crate) fn finish_outer(
 ) -> Result<BoxId, OutOfMemory>
     ensures { IfOk result (λ r. IsOkAnd a (λ left. IsOkAnd b (λ right. Gives (spec.outer_box g.now (shown.from x.now) n (shown.test p.now) left right (so_far st.old)) r (so_far st.new)))) }
 {
-    let left = a?;
-    let right = b?;
     let q = st.next_quant;
-    let quants = pair(g.alloc, left, right, st);
+    let quants = pair(g.alloc, a, b, st);
     let parts = outer_parts(g, x, n, p, q, st);
     put_outer(g, st, parts, quants)
 }

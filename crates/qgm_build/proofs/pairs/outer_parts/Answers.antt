@@ -2,12 +2,13 @@ use Rattle.std.proofs.Common.{◌++◌, ◌∙◌, ap, map, suc}
 use Rattle.std.proofs.lemmas.Result.{IfOk-weaker}
 use Rattle.sql_meaning.specs.ResolvedShown as shown
 use Rattle.qgm_shown.specs.Lay.{laying}
-use Rattle.qgm_shown.specs.Maps.{Frame, ref_term}
-use Rattle.qgm_shown.specs.Shown.{no_slots}
-use Rattle.qgm_shown.specs.Terms.{cond, split}
+use Rattle.qgm_shown.specs.Maps.{ref_term}
+use Rattle.qgm_shown.specs.Shown.{refs}
+use Rattle.qgm_shown.specs.Sources.{from_width}
 use Rattle.qgm_build.specs.Laying.{outer_of, told_at}
 use Rattle.built_terms.specs.SoFar.{so_far}
 use Rattle.built_terms.specs.Written.{frame_of}
+use Rattle.qgm_build.proofs.Finished.{cond_at}
 use Rattle.qgm_build.proofs.Selected.{part_of}
 use Rattle.qgm_build.proofs.pairs.outer_parts.Goals as goal
 
@@ -18,7 +19,7 @@ returns-clause-head c =
 
 pub returns-clause-conds : goal.returns-clause-conds
 returns-clause-conds c =
-    IfOk-weaker c.select_parts.result _ _ (λ made e. e ∙ ap (λ (z : Frame). split (cond (laying (told_at c.args.g.now) (so_far c.args.st.now)) z (outer_of c.args.g.now) no_slots (shown.test c.args.p.now))) (ap frame_of c.deref.ensures.value ∙ c.in_ok-seen.ensures))
+    IfOk-weaker c.select_parts.result _ _ (λ made e. cond_at (laying (told_at c.args.g.now) (so_far c.args.st.now)) (outer_of c.args.g.now) (shown.test c.args.p.now) (frame_of c.deref.result.now) (refs c.args.q 1 (from_width (told_at c.args.g.now) (shown.from c.args.x.now)) ++ refs (suc c.args.q) 1 c.args.n) made.conds.items (ap frame_of c.deref.ensures.value ∙ c.in_ok-seen.ensures) e)
     (part_of c.select_parts.result c.outer_conds-conds.result (λ made. made.conds) _ c.select_parts.ensures.conds c.outer_conds-conds.ensures.conds)
 
 pub returns-clause-spare : goal.returns-clause-spare
