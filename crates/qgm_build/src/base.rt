@@ -1,5 +1,5 @@
 // What a graph knows of a declared table.
-ghost use Rattle.std.specs.Prelude.{◌≡◌, ◌++◌, IfOk, IsOkAnd, OnOk, filter, map, suc};
+ghost use Rattle.std.specs.Prelude.{◌≡◌, ◌++◌, IfOk, OnOk, filter, map, suc};
 ghost use Rattle.query_checks.specs.Columns as columns;
 ghost use Rattle.built_queries.specs.Sources as spec;
 ghost use Rattle.qgm_build.specs.Schema.{base_of};
@@ -8,7 +8,7 @@ use built_terms::after;
 use qgm_core::BaseTable;
 use shared_types::{OutOfMemory, Text};
 use sql_ast::{DataType, TableDecl};
-use sql_catalog::{ColumnDescriptor, KeyDescriptor, describe};
+use sql_catalog::{ColumnDescriptor, KeyDescriptor, TableDescriptor, describe};
 use sql_value::SqlType;
 use sqlite_items::Items;
 use std::alloc::Global;
@@ -103,19 +103,14 @@ fn all_keys(alloc: Global, keys: &[KeyDescriptor]) -> Result<Items<Items<usize>>
     Ok(all)
 }
 
-// A table of its parts, where all were made.
-fn table_of(
-    name: Result<Text, OutOfMemory>,
-    types: Result<Items<SqlType>, OutOfMemory>,
-    keys: Result<Items<Items<usize>>, OutOfMemory>,
-    not_null: Result<Items<usize>, OutOfMemory>,
-) -> Result<BaseTable, OutOfMemory>
-    ensures { IfOk result (λ b. IsOkAnd name (λ n. IsOkAnd types (λ ts. IsOkAnd keys (λ ks. IsOkAnd not_null (λ ps. b ≡ record { name = n; types = ts; keys = ks; not_null = ps }))))) }
+// A table of this name that is described so.
+fn table_of(alloc: Global, name: &Text, found: &TableDescriptor) -> Result<BaseTable, OutOfMemory>
+    ensures { IfOk result (λ b. b ≡ spec.stored_table name.now found.now) }
 {
-    let name = name?;
-    let types = types?;
-    let keys = keys?;
-    let not_null = not_null?;
+    let name = name.copy(alloc)?;
+    let types = column_types(alloc, found.columns.as_slice())?;
+    let keys = all_keys(alloc, found.keys.as_slice())?;
+    let not_null = not_null(alloc, found.columns.as_slice())?;
     Ok(BaseTable {
         name,
         types,
@@ -129,9 +124,5 @@ pub(crate) fn base_table(alloc: Global, table: &TableDecl) -> Result<BaseTable, 
     ensures { IfOk result (λ b. b ≡ base_of table.now) }
 {
     let found = describe(alloc, table)?;
-    let name = table.name.copy(alloc);
-    let types = column_types(alloc, found.columns.as_slice());
-    let keys = all_keys(alloc, found.keys.as_slice());
-    let not_null = not_null(alloc, found.columns.as_slice());
-    table_of(name, types, keys, not_null)
+    table_of(alloc, &table.name, &found)
 }
