@@ -75,13 +75,6 @@ all_two (Ok x) (Ok y) w e p q = (p, q)
 all_two (Ok x) (Err y) w e p q = cc
 all_two (Err x) b w e p q = cc
 
-pub all_value : {T U E P : Type 0} (a : Result T E) (b : Result U E) (w : U) (Q : U → Type 0) → result_and a b ≡ Ok w → OnOk a P → IfOk b Q → P × Q w
-all_value (Ok x) (Ok y) w Q e p q =
-    let same : y ≡ w = cc in
-    (p, subst Q same q)
-all_value (Ok x) (Err y) w Q e p q = cc
-all_value (Err x) b w Q e p q = cc
-
 pub all_three : {T U V E P Q S : Type 0} (a : Result T E) (b : Result U E) (d : Result V E) (w : V) → result_and (result_and a b) d ≡ Ok w → OnOk a P → OnOk b Q → OnOk d S → P × (Q × S)
 all_three (Ok x) (Ok y) (Ok z) w e p q s = (p, (q, s))
 all_three (Ok x) (Ok y) (Err z) w e p q s = cc

@@ -238,9 +238,8 @@ fn lay_whole(
         views: views.schema.views.as_slice(),
     };
     let mut store = empty_store(alloc)?;
-    let read = lay_read(&g, &checked.query, DEEPEST, &schema, &mut store);
-    let laid = lay_within(&g, &checked.query, &mut store);
-    let root = read.and(laid)?;
+    lay_read(&g, &checked.query, DEEPEST, &schema, &mut store)?;
+    let root = lay_within(&g, &checked.query, &mut store)?;
     Ok(Whole { store, root })
 }
 
