@@ -1,5 +1,6 @@
 -- The heads and conditions of boxes over what was laid, from what is written in turn.
-use Rattle.std.proofs.Common.{◌≡◌, ℕ, suc, List, [], ◌++◌, length, map, get_or, pos, ap, ap₂, refl, sym, ◌∙◌}
+use Rattle.std.specs.Result.{OnOk, result_and}
+use Rattle.std.proofs.Common.{◌≡◌, ℕ, suc, Result, Ok, List, [], ◌++◌, length, map, get_or, pos, ap, ap₂, refl, sym, ◌∙◌}
 use Rattle.sql_meaning.specs.ResolvedTrees.{From, Froms, Test, Values}
 use Rattle.sql_meaning.specs.ResolvedTrees as q
 use Rattle.qgm_core.specs.declared.owned.OwnedQuant.{OwnedQuant}
@@ -14,8 +15,11 @@ use Rattle.qgm_shown.specs.Sources.{Sources, from_width}
 use Rattle.qgm_shown.specs.Terms.{cond, split, terms}
 use Rattle.qgm_shown.specs.Typing.{typed_by}
 use Rattle.built_terms.specs.Written.{slots_from}
+use Rattle.qgm_build.specs.Block.{conds_in_block, conds_in_rows, head_in_block}
+use Rattle.qgm_build.specs.declared.select.Block.{Block}
+use Rattle.qgm_build.specs.declared.select.Rows.{Rows}
 use Rattle.qgm_build.proofs.Blocks.{cells_here, conds_read}
-use Rattle.qgm_build.proofs.Paired.{both_folds, upper_cells}
+use Rattle.qgm_build.proofs.Taking.{all_two}
 use Rattle.qgm_build.proofs.Same.{frame_all_same, width_same}
 
 -- the columns of a FROM, by the boxes so far
@@ -37,13 +41,15 @@ flat_conds_read k w m x fs subs none folds ls cells cells2 start out e ns fds ls
     ∙ ap (λ (z : Frame). ons w m x fs (slots_from subs z)) (c2 ∙ cs ∙ ap ungrouped_cells (ls2 ∙ fds ∙ ap (λ (a : List Leaf). a ++ on_folds x) ns))
 
 -- the conditions of the rows of a grouped block
-pub rows_conds_read : (w : Sources) (m : Map) (from : Froms) (by : Test) (fs subs : List OwnedQuant) (fr : Frame) (folds ls : List Leaf) (cells cells2 : Frame) (u : Slots) (p : Cond) (start first conds : List Cond)
-    → fr ≡ frame_all w from fs → folds ≡ all_on_folds from ++ folds_in (test_leaves [] by) → ls ≡ folds → cells ≡ ungrouped_cells ls → cells2 ≡ cells → start ≡ []
-    → first ≡ start ++ all_ons w m from fs (slots_from subs cells2) → u ≡ after (all_on_leaves w from fs) (slots_from subs cells2) → p ≡ cond w fr m u by → conds ≡ first ++ split p
+pub rows_conds_read : (w : Sources) (m : Map) (from : Froms) (by : Test) (fs subs : List OwnedQuant) (fr cells cells2 : Frame) (conds : List Cond)
+    → fr ≡ frame_all w from fs → cells ≡ ungrouped_cells (all_on_folds from ++ folds_in (test_leaves [] by)) → cells2 ≡ cells
+    → conds ≡ all_ons w m from fs (slots_from subs cells2) ++ split (cond w fr m (after (all_on_leaves w from fs) (slots_from subs cells2)) by)
     → conds ≡ conds_of w from by (λ fr. []) m fs (slots_of (all_leaves w from by (λ fr. []) fs) subs)
-rows_conds_read w m from by fs subs fr folds ls cells cells2 u p start first conds frs fds ls2 cs c2 st firsts us ps is =
+rows_conds_read w m from by fs subs fr cells cells2 conds frs cs c2 is =
     let sl : Slots = slots_from subs cells2 in
-    conds_read w m from by q.no_value fs subs fr sl sl u p first conds frs (cells_here w m from by q.no_value fs subs ls cells2 (ls2 ∙ fds) (c2 ∙ cs)) refl (firsts ∙ ap (λ (a : List Cond). a ++ all_ons w m from fs sl) st) us ps is
+    let next : Slots = after (all_on_leaves w from fs) sl in
+    conds_read w m from by q.no_value fs subs fr sl sl next (cond w fr m next by) (all_ons w m from fs sl) conds frs
+    (cells_here w m from by q.no_value fs subs (all_on_folds from ++ folds_in (test_leaves [] by)) cells2 refl (c2 ∙ cs)) refl refl refl refl is
 
 -- the columns of the rows of a grouped block
 pub rows_list_read : (k w : Sources) (places : List ℕ) (ls : List Leaf) (fr fr2 : Frame) (keys list out : List Term)
@@ -51,13 +57,7 @@ pub rows_list_read : (k w : Sources) (places : List ℕ) (ls : List Leaf) (fr fr
 rows_list_read k w places ls fr fr2 keys list out e f ks lis os =
     os ∙ ap (padded (t.int (pos 1))) (lis ∙ ap₂ (λ (a : List Term) (z : Sources). a ++ argument_terms z fr2 ls) ks e ∙ ap (λ (z : Frame). map (λ place. ref_term (get_or fr place nothing)) places ++ argument_terms w z ls) f)
 
--- the cells of the select over groups
-pub upper_cells_read : (u n j : ℕ) (places : List ℕ) (fr : Frame) (list : Values) (having : Test) (folds ls : List Leaf) (cells cells2 : Frame)
-    → n ≡ length places → j ≡ suc n → folds ≡ both_folds list having → ls ≡ folds → cells ≡ fold_refs u j ls → cells2 ≡ cells → cells2 ≡ fold_refs u (suc (length places)) (upper_leaves fr list having)
-upper_cells_read u n j places fr list having folds ls cells cells2 ns js fds ls2 cs c2 =
-    c2 ∙ cs ∙ ap₂ (fold_refs u) (js ∙ ap suc ns) (ls2 ∙ fds) ∙ upper_cells u (suc (length places)) fr list having
-
--- its head
+-- the head of the select over groups
 pub list_read : (k w : Sources) (fr2 fr : Frame) (m2 m : Map) (subs : List OwnedQuant) (cells2 cells : Frame) (list : Values) (start out head : List Term)
     → k ≡ w → fr2 ≡ fr → m2 ≡ m → cells2 ≡ cells → start ≡ [] → out ≡ start ++ terms k fr2 m2 (slots_from subs cells2) list → head ≡ out → head ≡ terms w fr m (slots_from subs cells) list
 list_read k w fr2 fr m2 m subs cells2 cells list start out head e f g c st os hs =
@@ -84,3 +84,29 @@ pub outer_frame_read : (k w : Sources) (s : Boxes) (x : From) (u v n width : ℕ
 outer_frame_read k w s x u v n width start one two e ws st os vs ts =
     let wide : width ≡ from_width k x = ws ∙ ap (λ (z : Sources). from_width z x) e ∙ width_same k (box_named s.shared) (typed_by s.rows) x in
     ts ∙ ap₂ (λ (a : Frame) z. a ++ refs z 1 n) (os ∙ ap₂ (λ (a : Frame) z. a ++ refs u 1 z) st wide) vs
+
+-- the ON conditions of a FROM, and WHERE
+pub from_conds_read : {U E : Type 0} (w v : Sources) (m : Map) (from : Froms) (by : Test) (fs : List OwnedQuant) (fr : Frame) (sl next : Slots) (start first conds : List Cond) (a b : Result U E) (o : U)
+    → w ≡ v → start ≡ [] → result_and a b ≡ Ok o
+    → OnOk a (first ≡ start ++ all_ons w m from fs sl) → OnOk a (next ≡ after (all_on_leaves w from fs) sl) → OnOk b (conds ≡ first ++ split (cond v fr m next by))
+    → conds ≡ all_ons v m from fs sl ++ split (cond v fr m (after (all_on_leaves v from fs) sl) by)
+from_conds_read w v m from by fs fr sl next start first conds a b o e st ok h1 h2 h3 =
+    let one = all_two a b o ok h1 h3 in
+    let two = all_two a b o ok h2 h3 in
+    one.1 ∙ ap₂ (λ (z : List Cond) (y : Slots). z ++ split (cond v fr m y by)) (one.0 ∙ ap₂ (λ (z : List Cond) (y : Sources). z ++ all_ons y m from fs sl) st e)
+    (two.0 ∙ ap (λ (y : Sources). after (all_on_leaves y from fs) sl) e)
+
+-- a condition, where its columns are seen so
+pub cond_at : (w : Sources) (m : Map) (p : Test) (fr seen : Frame) (conds : List Cond) → fr ≡ seen → conds ≡ split (cond w fr m no_slots p) → conds ≡ split (cond w seen m no_slots p)
+cond_at w m p fr seen conds e h = h ∙ ap (λ (z : Frame). split (cond w z m no_slots p)) e
+
+-- ---- the same of sources and scopes that are told otherwise
+
+pub head_at : (w v : Sources) (m l : Map) (x : Block) (fs subs : List OwnedQuant) (head : List Term) → w ≡ v → m ≡ l → head ≡ head_in_block w m x fs subs → head ≡ head_in_block v l x fs subs
+head_at w v m l x fs subs head e f h = h ∙ ap₂ (λ (z : Sources) (y : Map). head_in_block z y x fs subs) e f
+
+pub conds_at : (w v : Sources) (m l : Map) (x : Block) (fs subs : List OwnedQuant) (conds : List Cond) → w ≡ v → m ≡ l → conds ≡ conds_in_block w m x fs subs → conds ≡ conds_in_block v l x fs subs
+conds_at w v m l x fs subs conds e f h = h ∙ ap₂ (λ (z : Sources) (y : Map). conds_in_block z y x fs subs) e f
+
+pub rows_at : (w v : Sources) (m l : Map) (x : Rows) (fs subs : List OwnedQuant) (conds : List Cond) → w ≡ v → m ≡ l → conds ≡ conds_in_rows w m x fs subs → conds ≡ conds_in_rows v l x fs subs
+rows_at w v m l x fs subs conds e f h = h ∙ ap₂ (λ (z : Sources) (y : Map). conds_in_rows z y x fs subs) e f

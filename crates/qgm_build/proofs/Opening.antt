@@ -1,5 +1,5 @@
 -- Blocks, operands and joins from their parts in turn.
-use Rattle.std.proofs.Common.{◌≡◌, ℕ, Bool, false, List, [], ◌++◌, map, length, suc, Option, pos, get_or, ap, ap₂, sym, ◌∙◌}
+use Rattle.std.proofs.Common.{◌≡◌, ℕ, Bool, false, List, [], ◌++◌, map, length, suc, Option, pos, get_or, ap, ap₂, refl, sym, ◌∙◌}
 use Rattle.sql_meaning.specs.ResolvedTrees.{From, Froms, Query, Test, Values}
 use Rattle.sql_meaning.specs.ResolvedTrees as q
 use Rattle.qgm_core.specs.declared.kinds.QuantKind.TheVariants.{F}
@@ -20,7 +20,7 @@ use Rattle.built_terms.specs.Making.{Gives, Takes, after_subs, top_at}
 use Rattle.built_terms.specs.declared.setting.Ground.{Ground}
 use Rattle.qgm_build.proofs.Paired.{arguments_folds, both_folds, fold_terms_folds}
 use Rattle.qgm_build.proofs.Selected.{gives_at, gives_over}
-use Rattle.qgm_build.proofs.Taking.{takes_both, takes_three}
+use Rattle.qgm_build.proofs.Taking.{takes_three}
 
 top_is : {r : Laid} {b : ℕ} {s : Boxes} → Gives r b s → top_at b s ≡ r
 top_is e = ap₂ top_at e.0 e.1
@@ -41,6 +41,11 @@ opens_from g from subs s s1 s2 start fs fs2 fs3 begin ps fr fr2 st d e2 e3 frs e
       subs = u.quants ∙ ap (λ (os : List OwnedQuant). os ++ (subs fr2 fs3 s1).quants) bg ∙ ap (λ (z : Drawn). z.quants) step;
       boxes = u.boxes ∙ ap (λ (z : Drawn). z.boxes) step;
     }
+
+-- the same of quantifiers that are drawn from none
+pub opens_parts : (g : Ground) (from : Froms) (subs : Frame → List OwnedQuant → Step) (s s1 s2 : Boxes) (fs ps : List OwnedQuant) (fr : Frame)
+    → Takes (froms_step g from) s [] s1 fs → fr ≡ frame_all (told_at g) from fs → Takes (subs fr fs) s1 [] s2 ps → Opens g from subs s fr fs ps s2
+opens_parts g from subs s s1 s2 fs ps fr d frs u = opens_from g from subs s s1 s2 [] fs fs fs [] ps fr fr refl d refl refl frs refl refl u
 
 pub opens_seen : (g : Ground) (from : Froms) (subs : Frame → List OwnedQuant → Step) (s s2 : Boxes) (fr : Frame) (fs ps : List OwnedQuant) → Opens g from subs s fr fs ps s2 → fr ≡ frame_all (told_at g) from fs
 opens_seen g from subs s s2 fr fs ps o = o.frame ∙ ap (frame_all (told_at g) from) (sym o.quants)
@@ -82,21 +87,20 @@ grouped_laid g distinct list from by keys places n having s s1 s2 groups b at_ke
     gives_at (ap (upper_laid g distinct list places n having) (top_is below) ∙ ap (λ ks. upper_laid g distinct list ks n having r) at_keys) top
 
 -- the select over groups
-pub upper_is : (g : Ground) (distinct : Bool) (list : Values) (places : List ℕ) (n : ℕ) (having : Test) (groups u b : ℕ) (s s1 s2 s3 s4 : Boxes) (fr fr2 : Frame) (begin p1 p2 : List OwnedQuant)
-    → u ≡ s.quant → s1 ≡ ranging groups s → fr ≡ key_frame u places 0 n → fr2 ≡ fr → begin ≡ []
-    → Takes (l.list_subs (told_at g) (laying (told_at g)) (outer_of g) fr2 list) s1 begin s2 p1 → Takes (l.test_subs (told_at g) (laying (told_at g)) (outer_of g) fr2 having) s2 p1 s3 p2
-    → Gives (upper_box g distinct list places n having u groups (after_subs s3 p2)) b s4
-    → Gives (upper_laid g distinct list places n having (top_at groups s)) b s4
-upper_is g distinct list places n having groups u b s s1 s2 s3 s4 fr fr2 begin p1 p2 us ss frs e bg d1 d2 give =
+pub upper_is : (g : Ground) (distinct : Bool) (list : Values) (places : List ℕ) (n : ℕ) (having : Test) (groups u b : ℕ) (s s1 s2 s3 : Boxes) (fr fr2 : Frame) (p : List OwnedQuant)
+    → u ≡ s.quant → s1 ≡ ranging groups s → fr ≡ key_frame u places 0 n → fr2 ≡ fr
+    → Takes (in_turn (l.list_subs (told_at g) (laying (told_at g)) (outer_of g) fr2 list) (l.test_subs (told_at g) (laying (told_at g)) (outer_of g) fr2 having)) s1 [] s2 p
+    → Gives (upper_box g distinct list places n having u groups (after_subs s2 p)) b s3
+    → Gives (upper_laid g distinct list places n having (top_at groups s)) b s3
+upper_is g distinct list places n having groups u b s s1 s2 s3 fr fr2 p us ss frs e d give =
     let k : Sources = told_at g in
     let step : Frame → Step = λ x. in_turn (l.list_subs k (laying k) (outer_of g) x list) (l.test_subs k (laying k) (outer_of g) x having) in
     let up : Frame = key_frame s.quant places 0 n in
     let seen : fr2 ≡ up = e ∙ frs ∙ ap (λ i. key_frame i places 0 n) us in
-    let both = takes_both (l.list_subs k (laying k) (outer_of g) fr2 list) (l.test_subs k (laying k) (outer_of g) fr2 having) d1 d2 in
     let at : step fr2 s1 ≡ step up (ranging groups s) = ap₂ (λ x (z : Boxes). step x z) seen ss in
-    let subs : p2 ≡ (step up (ranging groups s)).quants = both.quants ∙ ap (λ (os : List OwnedQuant). os ++ (step fr2 s1).quants) bg ∙ ap (λ (z : Drawn). z.quants) at in
-    let boxes : s3 ≡ (step up (ranging groups s)).boxes = both.boxes ∙ ap (λ (z : Drawn). z.boxes) at in
-    gives_at (ap (λ i. upper_box g distinct list places n having i groups (after_subs s3 p2)) us ∙ ap₂ (λ (z : Boxes) (os : List OwnedQuant). upper_box g distinct list places n having s.quant groups (after_subs z os)) boxes subs) give
+    let subs : p ≡ (step up (ranging groups s)).quants = d.quants ∙ ap (λ (z : Drawn). z.quants) at in
+    let boxes : s2 ≡ (step up (ranging groups s)).boxes = d.boxes ∙ ap (λ (z : Drawn). z.boxes) at in
+    gives_at (ap (λ i. upper_box g distinct list places n having i groups (after_subs s2 p)) us ∙ ap₂ (λ (z : Boxes) (os : List OwnedQuant). upper_box g distinct list places n having s.quant groups (after_subs z os)) boxes subs) give
 
 -- ---- operands
 

@@ -75,6 +75,13 @@ upper_read k m distinct list places n having u groups b fr s v subs subs2 subs3 
 
 -- ---- pairs
 
+pub pair_ranging : (a b : ℕ) (s t u : Boxes) (begin ps os : List OwnedQuant) → Takes (draws F a) s begin t ps → Takes (draws F b) t ps u os → u ≡ ranging b (ranging a s)
+pair_ranging a b s t u begin ps os d e = e.boxes ∙ ap (ranging b) d.boxes
+
+pub pair_drawn : (a b : ℕ) (s t u : Boxes) (begin ps os : List OwnedQuant) → begin ≡ [] → Takes (draws F a) s begin t ps → Takes (draws F b) t ps u os → os ≡ pair_of s.quant a b
+pair_drawn a b s t u begin ps os bg d e =
+    e.quants ∙ ap₂ (λ (zs : List OwnedQuant) (z : Boxes). zs ++ (draws F b z).quants) (d.quants ∙ ap (λ (zs : List OwnedQuant). zs ++ (draws F a s).quants) bg) d.boxes
+
 pub two_read : (k : Sources) (form : SetOperator) (n a b r : ℕ) (s s2 v : Boxes) (quants : List OwnedQuant) (types : List SqlType) (conds : List Cond) (head : List Term)
     → quants ≡ pair_of s.quant a b → s2 ≡ ranging b (ranging a s) → types ≡ map (typed_by s2.rows) (columns_of s.quant 1 n) → conds ≡ [] → head ≡ []
     → Gives (put (SetOp form types) false conds head quants s2) r v → Gives (l.two_box k (laying k) form n (top_at b) (top_at a s)) r v

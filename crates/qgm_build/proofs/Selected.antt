@@ -1,6 +1,7 @@
 -- The selects over what was laid, from their heads and conditions.
 use Rattle.std.specs.Prelude.{IfOk, IsOkAnd}
-use Rattle.std.proofs.Common.{◌≡◌, ℕ, Bool, false, Result, Ok, Err, List, [], ◌++◌, append-nil, map, ap, ap₂, sym, ◌∙◌}
+use Rattle.std.specs.Result.{OnOk}
+use Rattle.std.proofs.Common.{◌≡◌, ℕ, Bool, false, Result, Ok, Err, List, [], ◌++◌, append-nil, map, ap, ap₂, subst, sym, ◌∙◌}
 use Rattle.sql_meaning.specs.ResolvedTrees.{From, Froms, Test, Values}
 use Rattle.sql_meaning.specs.ResolvedTrees as q
 use Rattle.qgm_core.specs.declared.kinds.BoxKind.TheVariants.{Select}
@@ -104,3 +105,26 @@ made_of (Ok b) (Ok made) (Ok qs) P A B S T h a c s f = f b made qs h a c s
 made_of (Ok b) (Ok made) (Err e) P A B S T h a c s f = absurd h
 made_of (Ok b) (Err e) quants P A B S T h a c s f = absurd h
 made_of (Err e) parts quants P A B S T h a c s f = tt
+
+-- the same where the boxes too are known of the quantifiers
+pub made_on : {W E : Type 0} (r : Result ℕ E) (parts : Result W E) (quants : Result (List OwnedQuant) E) (P : ℕ → W → List OwnedQuant → Type 0) (A B : W → Type 0) (S : List OwnedQuant → Type 0) (Z : Type 0) (T : ℕ → Type 0)
+    → IfOk r (λ b. IsOkAnd parts (λ made. IsOkAnd quants (λ qs. P b made qs))) → IfOk parts A → IfOk parts B → IfOk quants S → OnOk quants Z
+    → ((b : ℕ) (made : W) (qs : List OwnedQuant) → P b made qs → A made → B made → S qs → Z → T b) → IfOk r T
+made_on (Ok b) (Ok made) (Ok qs) P A B S Z T h a c s z f = f b made qs h a c s z
+made_on (Ok b) (Ok made) (Err e) P A B S Z T h a c s z f = absurd h
+made_on (Ok b) (Err e) quants P A B S Z T h a c s z f = absurd h
+made_on (Err e) parts quants P A B S Z T h a c s z f = tt
+
+-- what holds of a part that was used
+pub part_of : {W V E : Type 0} (r : Result W E) (a : Result V E) (f : W → V) (P : V → Type 0) → IfOk r (λ w. IsOkAnd a (λ v. f w ≡ v)) → IfOk a P → IfOk r (λ w. P (f w))
+part_of (Ok w) (Ok v) f P e p = subst P (sym e) p
+part_of (Ok w) (Err x) f P e p = absurd e
+part_of (Err x) a f P e p = tt
+
+-- what holds of two parts that were used, the second of which was made after the first
+pub parts_of : {W V U E : Type 0} (r : Result W E) (a : Result V E) (b : Result U E) (f : W → V) (g : W → U) (Z : Type 0) (Q : U → Type 0) (T : W → Type 0)
+    → IfOk r (λ w. IsOkAnd a (λ v. f w ≡ v)) → IfOk r (λ w. IsOkAnd b (λ u. g w ≡ u)) → IfOk a (λ v. Z) → IfOk b Q → ((w : W) → Z → Q (g w) → T w) → IfOk r T
+parts_of (Ok w) (Ok v) (Ok u) f g Z Q T d e z q h = h w z (subst Q (sym e) q)
+parts_of (Ok w) (Ok v) (Err x) f g Z Q T d e z q h = absurd e
+parts_of (Ok w) (Err x) b f g Z Q T d e z q h = absurd d
+parts_of (Err x) a b f g Z Q T d e z q h = tt

@@ -1,5 +1,7 @@
 -- Steps one after the other, and what is left of them.
-use Rattle.std.proofs.Common.{◌≡◌, ◌<◌, ◌+◌, ℕ, List, ◌∷◌, ◌++◌, append_assoc, append-nil, length, drop, get_or, ap, ap₂, refl, sym, ◌∙◌}
+use Rattle.std.specs.Prelude.{IfOk, IsOkAnd}
+use Rattle.std.specs.Result.{OnOk, result_and}
+use Rattle.std.proofs.Common.{◌≡◌, ◌<◌, ◌+◌, ℕ, List, ◌∷◌, ◌++◌, Result, Ok, Err, append_assoc, append-nil, length, drop, get_or, ap, ap₂, refl, subst, sym, ◌∙◌}
 use Rattle.qgm_core.specs.declared.kinds.QuantKind.{QuantKind}
 use Rattle.qgm_core.specs.declared.owned.OwnedQuant.{OwnedQuant}
 use Rattle.qgm_shown.specs.Lay.{Boxes, Laid, Step, in_turn, none, over}
@@ -39,5 +41,44 @@ pub leads_two : {X : Type 0} (L : List X → Step) (xs : List X) (i : ℕ) (x : 
     → L (x ∷ drop (i + 1) xs) ≡ in_turn a (in_turn b (L (drop (i + 1) xs))) → Takes a s os t ps → Takes b t ps v qs → Leads (L (drop i xs)) s os u rs → Leads (L (drop (i + 1) xs)) v qs u rs
 leads_two {X} L xs i x a b low is e f g so_far =
     leads_next b (L (drop (i + 1) xs)) g (leads_next a (in_turn b (L (drop (i + 1) xs))) f (leads_at (ap L (next_there xs i x low is) ∙ e) so_far))
+
+-- ---- results
+
+-- what is made of two, by what holds of these
+pub of_both : {E : Type 0} (r a b : Result ℕ E) (P : ℕ → ℕ → ℕ → Type 0) (A B T : ℕ → Type 0) → IfOk r (λ x. IsOkAnd a (λ y. IsOkAnd b (λ z. P x y z))) → IfOk a A → IfOk b B
+    → ((x y z : ℕ) → P x y z → A y → B z → T x) → IfOk r T
+of_both (Ok x) (Ok y) (Ok z) P A B T h p q f = f x y z h p q
+of_both (Ok x) (Ok y) (Err e) P A B T h p q f = absurd h
+of_both (Ok x) (Err e) b P A B T h p q f = absurd h
+of_both (Err e) a b P A B T h p q f = tt
+
+-- what holds of two, by what else holds of them
+pub and_both : {V U E : Type 0} (a : Result V E) (b : Result U E) (P Q T : V → U → Type 0) → IsOkAnd a (λ x. IsOkAnd b (P x)) → IsOkAnd a (λ x. IsOkAnd b (Q x)) → ((x : V) (y : U) → P x y → Q x y → T x y) → IsOkAnd a (λ x. IsOkAnd b (T x))
+and_both (Ok x) (Ok y) P Q T p q f = f x y p q
+and_both (Ok x) (Err e) P Q T p q f = absurd p
+and_both (Err e) b P Q T p q f = absurd p
+
+-- what is done with another
+pub of_one : {V U E : Type 0} (r : Result U E) (a : Result V E) (P A : V → Type 0) (T : Type 0) → OnOk r (IsOkAnd a P) → IfOk a A → ((y : V) → P y → A y → T) → OnOk r T
+of_one (Ok u) (Ok y) P A T h p f = f y h p
+of_one (Ok u) (Err e) P A T h p f = absurd h
+of_one (Err e) a P A T h p f = tt
+
+-- the value of a result, which something is known of
+pub value_of : {V E : Type 0} (a : Result V E) (v : V) (P : V → Type 0) → IsOkAnd a (λ w. v ≡ w) → IfOk a P → P v
+value_of (Ok w) v P e p = subst P (sym e) p
+value_of (Err x) v P e p = absurd e
+
+-- what holds of parts that were all Ok
+pub all_two : {T U E P Q : Type 0} (a : Result T E) (b : Result U E) (w : U) → result_and a b ≡ Ok w → OnOk a P → OnOk b Q → P × Q
+all_two (Ok x) (Ok y) w e p q = (p, q)
+all_two (Ok x) (Err y) w e p q = cc
+all_two (Err x) b w e p q = cc
+
+pub all_three : {T U V E P Q S : Type 0} (a : Result T E) (b : Result U E) (d : Result V E) (w : V) → result_and (result_and a b) d ≡ Ok w → OnOk a P → OnOk b Q → OnOk d S → P × (Q × S)
+all_three (Ok x) (Ok y) (Ok z) w e p q s = (p, (q, s))
+all_three (Ok x) (Ok y) (Err z) w e p q s = cc
+all_three (Ok x) (Err y) d w e p q s = cc
+all_three (Err x) b d w e p q s = cc
 
 pub ruleset taking = (takes_none, takes_both, takes_three)

@@ -1,4 +1,5 @@
 pub mod Laying
 pub mod Block
+pub mod Parts
 pub mod Schema
 pub mod Valid

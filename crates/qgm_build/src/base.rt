@@ -6,9 +6,9 @@ ghost use Rattle.qgm_build.specs.Schema.{base_of};
 
 use built_terms::after;
 use qgm_core::BaseTable;
-use shared_types::OutOfMemory;
+use shared_types::{OutOfMemory, Text};
 use sql_ast::{DataType, TableDecl};
-use sql_catalog::{ColumnDescriptor, KeyDescriptor, describe};
+use sql_catalog::{ColumnDescriptor, KeyDescriptor, TableDescriptor, describe};
 use sql_value::SqlType;
 use sqlite_items::Items;
 use std::alloc::Global;
@@ -92,18 +92,37 @@ fn not_null(alloc: Global, columns: &[ColumnDescriptor]) -> Result<Items<usize>,
     Ok(places)
 }
 
+// The keys of a table, PRIMARY KEY before each UNIQUE.
+fn all_keys(alloc: Global, keys: &[KeyDescriptor]) -> Result<Items<Items<usize>>, OutOfMemory>
+    ensures { IfOk result (λ all. all ≡ map spec.key_places (filter spec.is_primary keys.now) ++ map spec.key_places (filter spec.is_unique keys.now)) }
+{
+    let mut all = Items::new(alloc);
+    let primary = add_primary(alloc, keys, &mut all);
+    let unique = add_unique(alloc, keys, &mut all);
+    primary.and(unique)?;
+    Ok(all)
+}
+
+// A table of this name that is described so.
+fn table_of(alloc: Global, name: &Text, found: &TableDescriptor) -> Result<BaseTable, OutOfMemory>
+    ensures { IfOk result (λ b. b ≡ spec.stored_table name.now found.now) }
+{
+    let name = name.copy(alloc)?;
+    let types = column_types(alloc, found.columns.as_slice())?;
+    let keys = all_keys(alloc, found.keys.as_slice())?;
+    let not_null = not_null(alloc, found.columns.as_slice())?;
+    Ok(BaseTable {
+        name,
+        types,
+        keys,
+        not_null,
+    })
+}
+
 /// A declared table: its columns, its keys, PRIMARY KEY before each UNIQUE, and its not-null columns.
 pub(crate) fn base_table(alloc: Global, table: &TableDecl) -> Result<BaseTable, OutOfMemory>
     ensures { IfOk result (λ b. b ≡ base_of table.now) }
 {
     let found = describe(alloc, table)?;
-    let mut keys = Items::new(alloc);
-    add_primary(alloc, found.keys.as_slice(), &mut keys)?;
-    add_unique(alloc, found.keys.as_slice(), &mut keys)?;
-    Ok(BaseTable {
-        name: table.name.copy(alloc)?,
-        types: column_types(alloc, found.columns.as_slice())?,
-        keys,
-        not_null: not_null(alloc, found.columns.as_slice())?,
-    })
+    table_of(alloc, &table.name, &found)
 }

@@ -18,7 +18,7 @@ ghost use Rattle.built_terms.specs.Setting.{frame_in, outer_in, sources_in};
 ghost use Rattle.built_terms.specs.SoFar.{so_far};
 ghost use Rattle.built_terms.specs.Written.{frame_of, ref_of, slots_from};
 
-use crate::select::{Block, Rows, Selected, write_block, write_conds};
+use crate::select::{Block, Rows, Selected, select_parts, write_block, write_conds};
 use built_terms::{
     Fold, Ground, Ranges, Scopes, Seat, Seen, Setting, Slots, Store, frame, head_of, in_frame,
     on_conds, on_folds, push_boxed, put, seen_term, setting_of, site_of, ungrouped_cells, value,
@@ -28,13 +28,11 @@ use shared_types::OutOfMemory;
 use sql_meaning::{From, Value};
 use std::alloc::Global;
 
-/// A block before its select: where the columns of its FROM are seen, the quantifiers of the FROM, and
-/// those of the subqueries.
+/// A FROM before its select: where its columns are seen, and its quantifiers.
 #[derive(Drop)]
 pub(crate) struct Opened {
     pub frame: Vec<Seen>,
     pub fs: Owned,
-    pub subs: Owned,
 }
 
 /// Adds quantifiers.
@@ -56,8 +54,8 @@ fn all_quants(fs: Owned, subs: Owned) -> Result<Owned, OutOfMemory>
     Ok(quants)
 }
 
-// A select of a head, conditions and quantifiers, where all were made.
-fn put_select(
+/// A select of a head, conditions and quantifiers, where all were made.
+pub(crate) fn put_select(
     g: &Ground<'_>,
     st: &mut Store,
     distinct: bool,
@@ -83,6 +81,14 @@ pub(crate) fn seen_terms(alloc: Global, frame: &[Seen]) -> Result<Vec<Gx>, OutOf
     Ok(out)
 }
 
+/// What is seen, as a head.
+pub(crate) fn seen_head(alloc: Global, frame: &[Seen]) -> Result<Head, OutOfMemory>
+    ensures { IfOk result (λ h. h ≡ map ref_term (frame_of frame.now)) }
+{
+    let list = seen_terms(alloc, frame)?;
+    head_of(alloc, list)
+}
+
 // Adds what is seen.
 fn push_seen_term(out: &mut Vec<Gx>, x: Seen) -> Result<(), OutOfMemory>
     ensures { OnOk result (terms out.new.items ≡ terms out.old.items ++ ref_term (ref_of x) ∷ []) }
@@ -105,7 +111,11 @@ fn block_parts(
     ensures conds { IfOk result (λ w. w.conds.items ≡ conds_in_block (laying (told_at g.now) (so_far st.now)) (outer_of g.now) x.now fs.now subs.now) }
     ensures spare { IfOk result (λ w. w.conds.spare ≡ 0) }
 {
-    write_block(&site_of(g, st), x, g.outer, frame, fs, subs)
+    let h = Seat {
+        ground: *g,
+        frame: &*frame,
+    };
+    write_block(&setting_of(&h, st), x, fs, subs)
 }
 
 /// The select of a block that isn't grouped.
@@ -114,12 +124,13 @@ pub(crate) fn finish_block(
     distinct: bool,
     x: &Block<'_>,
     o: Opened,
+    subs: Owned,
     st: &mut Store,
 ) -> Result<BoxId, OutOfMemory>
     requires seen { frame_of o.frame.items ≡ w.frame_all (told_at g.now) (shown.from_list x.now.from.now) o.fs }
-    ensures { IfOk result (λ b. Gives (spec.block_box g.now distinct (shown.value_list x.now.list.now) (shown.from_list x.now.from.now) (shown.test x.now.by.now) o.fs (after_subs (so_far st.old) o.subs)) b (so_far st.new)) }
+    ensures { IfOk result (λ b. Gives (spec.block_box g.now distinct (shown.value_list x.now.list.now) (shown.from_list x.now.from.now) (shown.test x.now.by.now) o.fs (after_subs (so_far st.old) subs)) b (so_far st.new)) }
 {
-    let Opened { frame, fs, subs } = o;
+    let Opened { frame, fs } = o;
     let parts = block_parts(g, x, &frame, fs.as_slice(), subs.as_slice(), st);
     put_select(g, st, distinct, parts, all_quants(fs, subs))
 }
@@ -241,7 +252,11 @@ fn rows_conds(
     ensures conds { IfOk result (λ c. c.items ≡ conds_in_rows (laying (told_at g.now) (so_far st.now)) (outer_of g.now) x.now fs.now subs.now) }
     ensures spare { IfOk result (λ c. c.spare ≡ 0) }
 {
-    write_conds(&site_of(g, st), x, g.outer, frame, fs, subs)
+    let h = Seat {
+        ground: *g,
+        frame: &*frame,
+    };
+    write_conds(&setting_of(&h, st), x, fs, subs)
 }
 
 // Both.
@@ -258,9 +273,9 @@ fn rows_parts(
     ensures conds { IfOk result (λ made. made.conds.items ≡ conds_in_rows (laying (told_at g.now) (so_far st.now)) (outer_of g.now) x.now fs.now subs.now) }
     ensures spare { IfOk result (λ made. made.conds.spare ≡ 0) }
 {
-    let head = rows_head(g, x, frame, st)?;
-    let conds = rows_conds(g, x, frame, fs, subs, st)?;
-    Ok(Selected { head, conds })
+    let head = rows_head(g, x, frame, st);
+    let conds = rows_conds(g, x, frame, fs, subs, st);
+    select_parts(head, conds)
 }
 
 /// The rows of a grouped block.
@@ -268,12 +283,13 @@ pub(crate) fn finish_rows(
     g: &Ground<'_>,
     x: &Rows<'_>,
     o: Opened,
+    subs: Owned,
     st: &mut Store,
 ) -> Result<BoxId, OutOfMemory>
     requires seen { frame_of o.frame.items ≡ w.frame_all (told_at g.now) (shown.from_list x.now.from.now) o.fs }
-    ensures { IfOk result (λ b. Gives (spec.rows_box g.now x.now.places.now (map leaf_of x.now.folds.now) (shown.from_list x.now.from.now) (shown.test x.now.by.now) o.fs (after_subs (so_far st.old) o.subs)) b (so_far st.new)) }
+    ensures { IfOk result (λ b. Gives (spec.rows_box g.now x.now.places.now (map leaf_of x.now.folds.now) (shown.from_list x.now.from.now) (shown.test x.now.by.now) o.fs (after_subs (so_far st.old) subs)) b (so_far st.new)) }
 {
-    let Opened { frame, fs, subs } = o;
+    let Opened { frame, fs } = o;
     let parts = rows_parts(g, x, &frame, fs.as_slice(), subs.as_slice(), st);
     put_select(g, st, false, parts, all_quants(fs, subs))
 }
@@ -285,8 +301,16 @@ fn flat_head(g: &Ground<'_>, x: &From, fs: &[OwnedQuant], st: &Store) -> Result<
     let mut seen = Vec::new(g.alloc);
     let mut os = Ranges { rest: fs };
     frame(&site_of(g, st), x, &mut os, &mut seen)?;
-    let list = seen_terms(g.alloc, &seen)?;
-    head_of(g.alloc, list)
+    seen_head(g.alloc, &seen)
+}
+
+// Where the aggregates of the ON conditions of an operand are seen.
+fn flat_cells(alloc: Global, x: &From) -> Result<Vec<Seen>, OutOfMemory>
+    ensures { IfOk result (λ v. frame_of v.items ≡ w.ungrouped_cells (on_folds (shown.from x.now))) }
+{
+    let mut folds = Vec::new(alloc);
+    on_folds(x, &mut folds)?;
+    ungrouped_cells(alloc, &folds)
 }
 
 // The ON conditions of an operand.
@@ -300,9 +324,7 @@ fn flat_conds(
     ensures conds { IfOk result (λ c. c.items ≡ w.ons (laying (told_at g.now) (so_far st.now)) (outer_of g.now) (shown.from x.now) fs.now (slots_from subs.now (w.ungrouped_cells (on_folds (shown.from x.now))))) }
     ensures spare { IfOk result (λ c. c.spare ≡ 0) }
 {
-    let mut folds = Vec::new(g.alloc);
-    on_folds(x, &mut folds)?;
-    let cells = ungrouped_cells(g.alloc, &folds)?;
+    let cells = flat_cells(g.alloc, x)?;
     let mut s = Slots {
         quants: subs,
         cells: &cells,
@@ -325,9 +347,9 @@ fn flat_parts(
     ensures conds { IfOk result (λ made. made.conds.items ≡ w.ons (laying (told_at g.now) (so_far st.now)) (outer_of g.now) (shown.from x.now) fs.now (slots_from subs.now (w.ungrouped_cells (on_folds (shown.from x.now))))) }
     ensures spare { IfOk result (λ made. made.conds.spare ≡ 0) }
 {
-    let head = flat_head(g, x, fs, st)?;
-    let conds = flat_conds(g, x, fs, subs, st)?;
-    Ok(Selected { head, conds })
+    let head = flat_head(g, x, fs, st);
+    let conds = flat_conds(g, x, fs, subs, st);
+    select_parts(head, conds)
 }
 
 /// A select over one operand of a FROM, with all its columns.

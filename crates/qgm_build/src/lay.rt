@@ -1,12 +1,14 @@
 // The boxes of a query, made from the lowest up.
-ghost use Rattle.std.specs.Prelude.{◌≡◌, ◌++◌, true, IfOk, OnOk};
+ghost use Rattle.std.specs.Prelude.{◌≡◌, ◌++◌, [], true, IfOk, IsOkAnd, OnOk};
 ghost use Rattle.sql_meaning.specs.ResolvedShown as shown;
+ghost use Rattle.qgm_shown.specs.Lay.{laying};
 ghost use Rattle.qgm_shown.specs.Lay as l;
 ghost use Rattle.qgm_shown.specs.Leaves as leaves;
 ghost use Rattle.qgm_shown.specs.Shown as w;
 ghost use Rattle.qgm_build.specs.Laying as spec;
-ghost use Rattle.qgm_build.specs.Laying.{Opens, told_at};
-ghost use Rattle.built_terms.specs.Making.{Gives, Takes};
+ghost use Rattle.qgm_build.specs.Laying.{outer_of, told_at};
+ghost use Rattle.qgm_build.specs.Parts.{is_single, subs_step, upper_step};
+ghost use Rattle.built_terms.specs.Making.{Gives, Takes, draws};
 ghost use Rattle.built_terms.specs.SoFar.{so_far};
 ghost use Rattle.built_terms.specs.Written.{frame_of};
 
@@ -22,6 +24,7 @@ use shared_types::OutOfMemory;
 use sql_ast::{Quantifier, SetOperator as Combined};
 use sql_meaning::{Addend, Arm, Choice, From, Multiplier, Query, Test, Value};
 use sqlite_items::Items;
+use std::alloc::Global;
 
 // What a comparison with the rows of a subquery asks for.
 fn every_or_some(each: Quantifier) -> QuantKind
@@ -104,6 +107,34 @@ fn both_frame(
     joined_frame(&site_of(g, st), a, b, os)
 }
 
+// What a FROM is before its select, whose quantifiers were drawn.
+fn opened(
+    g: &Ground<'_>,
+    from: &[From],
+    fs: Result<Owned, OutOfMemory>,
+    st: &Store,
+) -> Result<Opened, OutOfMemory>
+    ensures quants { IfOk result (λ o. IsOkAnd fs (λ drawn. o.fs ≡ drawn)) }
+    ensures seen { IfOk result (λ o. frame_of o.frame.items ≡ w.frame_all (told_at g.now) (shown.from_list from.now) o.fs) }
+{
+    let fs = fs?;
+    let frame = from_frame(g, from, fs.as_slice(), st)?;
+    Ok(Opened { frame, fs })
+}
+
+// Adds a quantifier over a box, where it was made.
+fn draw_over(
+    alloc: Global,
+    over: Result<BoxId, OutOfMemory>,
+    kind: QuantKind,
+    st: &mut Store,
+    out: &mut Owned,
+) -> Result<(), OutOfMemory>
+    ensures { OnOk result (IsOkAnd over (λ b. Takes (draws kind b) (so_far st.old) out.old (so_far st.new) out.new)) }
+{
+    draw(alloc, st, kind, over?, out)
+}
+
 /// Makes the boxes of a query, and tells the topmost.
 #[cycle(lay)]
 pub(crate) fn query(g: &Ground<'_>, x: &Query, st: &mut Store) -> Result<BoxId, OutOfMemory>
@@ -113,13 +144,13 @@ pub(crate) fn query(g: &Ground<'_>, x: &Query, st: &mut Store) -> Result<BoxId, 
         Query::Block(_, _, _, _) => block(g, x, st),
         Query::Grouped(_, _, _, _, _, _, _) => grouped(g, x, st),
         Query::Combine(a, op, all, n, b) => {
-            let left = query(g, a, st)?;
-            let right = query(g, b, st)?;
+            let left = query(g, a, st);
+            let right = query(g, b, st);
             finish_pair(g, form_of(*op, *all), *n, left, right, st)
         }
         Query::Intersect(a, all, n, b) => {
-            let left = query(g, a, st)?;
-            let right = query(g, b, st)?;
+            let left = query(g, a, st);
+            let right = query(g, b, st);
             finish_pair(g, common_form(*all), *n, left, right, st)
         }
     }
@@ -134,25 +165,37 @@ fn block(g: &Ground<'_>, x: &Query, st: &mut Store) -> Result<BoxId, OutOfMemory
     let Query::Block(distinct, list, from, by) = x else {
         unreachable!()
     };
-    let list = list.as_slice();
     let from = from.as_slice();
+    let drawn = froms(g, from, st);
+    let o = opened(g, from, drawn, st)?;
+    let subs = block_subs(g, x, &o, st)?;
+    let list = list.as_slice();
     let by: &Test = by;
-    let mut fs = Owned::new(g.alloc);
-    froms(g, from, st, &mut fs)?;
-    let frame = from_frame(g, from, fs.as_slice(), st)?;
+    finish_block(g, *distinct, &Block { list, from, by }, o, subs, st)
+}
+
+// The quantifiers of the subqueries of a block that isn't grouped.
+#[cycle(lay)]
+fn block_subs(g: &Ground<'_>, x: &Query, o: &Opened, st: &mut Store) -> Result<Owned, OutOfMemory>
+    requires form { spec.is_block (shown.query x.now) ≡ true }
+    ensures { IfOk result (λ subs. Takes (subs_step g.now (shown.query x.now) (frame_of o.now.frame.items) o.now.fs) (so_far st.old) [] (so_far st.new) subs) }
+{
+    let Query::Block(_, list, from, by) = x else {
+        unreachable!()
+    };
     let h = Seat {
         ground: *g,
-        frame: &frame,
+        frame: &o.frame,
+    };
+    let mut os = Ranges {
+        rest: o.fs.as_slice(),
     };
     let mut subs = Owned::new(g.alloc);
-    list_subs(&h, list, st, &mut subs)?;
-    let mut os = Ranges {
-        rest: fs.as_slice(),
-    };
-    all_on_subs(g, from, &mut os, st, &mut subs)?;
-    test_subs(&h, by, st, &mut subs)?;
-    let b = Block { list, from, by };
-    finish_block(g, *distinct, &b, Opened { frame, fs, subs }, st)
+    let listed = list_subs(&h, list.as_slice(), st, &mut subs);
+    let passed = all_on_subs(g, from.as_slice(), &mut os, st, &mut subs);
+    let tested = test_subs(&h, by, st, &mut subs);
+    listed.and(passed).and(tested)?;
+    Ok(subs)
 }
 
 // The groups of a grouped block, over its rows.
@@ -164,32 +207,43 @@ fn groups(g: &Ground<'_>, x: &Query, st: &mut Store) -> Result<BoxId, OutOfMemor
     let Query::Grouped(_, list, from, by, places, _, having) = x else {
         unreachable!()
     };
-    let from = from.as_slice();
-    let by: &Test = by;
-    let mut fs = Owned::new(g.alloc);
-    froms(g, from, st, &mut fs)?;
-    let frame = from_frame(g, from, fs.as_slice(), st)?;
-    let h = Seat {
-        ground: *g,
-        frame: &frame,
-    };
-    let mut subs = Owned::new(g.alloc);
-    let mut os = Ranges {
-        rest: fs.as_slice(),
-    };
-    all_on_subs(g, from, &mut os, st, &mut subs)?;
-    test_subs(&h, by, st, &mut subs)?;
     let found = upper_folds(g.alloc, list.as_slice(), having)?;
-    let folds = found.as_slice();
-    let places = places_of(places);
+    let from = from.as_slice();
+    let drawn = froms(g, from, st);
+    let o = opened(g, from, drawn, st)?;
+    let subs = rows_subs(g, x, &o, st)?;
+    let by: &Test = by;
     let r = Rows {
-        places,
-        folds,
+        places: places_of(places),
+        folds: found.as_slice(),
         from,
         by,
     };
-    let rows = finish_rows(g, &r, Opened { frame, fs, subs }, st)?;
-    finish_group(g, places, folds, rows, st)
+    let rows = finish_rows(g, &r, o, subs, st)?;
+    finish_group(g, r.places, r.folds, rows, st)
+}
+
+// The quantifiers of the subqueries of the rows of a grouped block.
+#[cycle(lay)]
+fn rows_subs(g: &Ground<'_>, x: &Query, o: &Opened, st: &mut Store) -> Result<Owned, OutOfMemory>
+    requires form { spec.is_grouped (shown.query x.now) ≡ true }
+    ensures { IfOk result (λ subs. Takes (subs_step g.now (shown.query x.now) (frame_of o.now.frame.items) o.now.fs) (so_far st.old) [] (so_far st.new) subs) }
+{
+    let Query::Grouped(_, _, from, by, _, _, _) = x else {
+        unreachable!()
+    };
+    let h = Seat {
+        ground: *g,
+        frame: &o.frame,
+    };
+    let mut os = Ranges {
+        rest: o.fs.as_slice(),
+    };
+    let mut subs = Owned::new(g.alloc);
+    let passed = all_on_subs(g, from.as_slice(), &mut os, st, &mut subs);
+    let tested = test_subs(&h, by, st, &mut subs);
+    passed.and(tested)?;
+    Ok(subs)
 }
 
 // A grouped block: the select over its groups.
@@ -211,9 +265,7 @@ fn grouped(g: &Ground<'_>, x: &Query, st: &mut Store) -> Result<BoxId, OutOfMemo
         ground: *g,
         frame: &frame,
     };
-    let mut subs = Owned::new(g.alloc);
-    list_subs(&h, list, st, &mut subs)?;
-    test_subs(&h, having, st, &mut subs)?;
+    let subs = upper_subs(&h, x, st)?;
     let z = Upper {
         distinct: *distinct,
         list,
@@ -226,22 +278,49 @@ fn grouped(g: &Ground<'_>, x: &Query, st: &mut Store) -> Result<BoxId, OutOfMemo
     finish_upper(&h, &z, subs, st)
 }
 
+// The quantifiers of the subqueries of the select over groups.
+#[cycle(lay)]
+fn upper_subs(h: &Seat<'_>, x: &Query, st: &mut Store) -> Result<Owned, OutOfMemory>
+    requires form { spec.is_grouped (shown.query x.now) ≡ true }
+    ensures { IfOk result (λ subs. Takes (upper_step h.now (shown.query x.now)) (so_far st.old) [] (so_far st.new) subs) }
+{
+    let Query::Grouped(_, list, _, _, _, _, having) = x else {
+        unreachable!()
+    };
+    let mut subs = Owned::new(h.ground.alloc);
+    let listed = list_subs(h, list.as_slice(), st, &mut subs);
+    let tested = test_subs(h, having, st, &mut subs);
+    listed.and(tested)?;
+    Ok(subs)
+}
+
 // The box of an operand of a LEFT JOIN.
 #[cycle(lay)]
 fn operand(g: &Ground<'_>, x: &From, st: &mut Store) -> Result<BoxId, OutOfMemory>
     ensures { IfOk result (λ b. Gives (spec.operand_laid g.now (shown.from x.now) (so_far st.old)) b (so_far st.new)) }
 {
     match x {
+        From::Named(_) | From::Derived(_) | From::LeftJoined(_, _, _, _) => single(g, x, st),
+        From::Crossed(_, _) | From::Joined(_, _, _) => flat(g, x, st),
+    }
+}
+
+// The same of an operand that has one quantifier.
+#[cycle(lay)]
+fn single(g: &Ground<'_>, x: &From, st: &mut Store) -> Result<BoxId, OutOfMemory>
+    requires form { is_single (shown.from x.now) ≡ true }
+    ensures { IfOk result (λ b. Gives (spec.operand_laid g.now (shown.from x.now) (so_far st.old)) b (so_far st.new)) }
+{
+    match x {
         From::Named(name) => Ok(number_named(st, name)),
         From::Derived(y) => query(g, y, st),
-        From::Crossed(_, _) => flat(g, x, st),
-        From::Joined(_, _, _) => flat(g, x, st),
         From::LeftJoined(a, b, n, p) => {
             let a: &From = a;
-            let left = operand(g, a, st)?;
-            let right = operand(g, b, st)?;
+            let left = operand(g, a, st);
+            let right = operand(g, b, st);
             finish_outer(g, a, *n, p, left, right, st)
         }
+        From::Crossed(_, _) | From::Joined(_, _, _) => unreachable!(),
     }
 }
 
@@ -251,12 +330,13 @@ fn flat(g: &Ground<'_>, x: &From, st: &mut Store) -> Result<BoxId, OutOfMemory>
     ensures { IfOk result (λ b. Gives (spec.flat_laid g.now (shown.from x.now) (so_far st.old)) b (so_far st.new)) }
 {
     let mut fs = Owned::new(g.alloc);
-    from(g, x, st, &mut fs)?;
+    let drawn = from(g, x, st, &mut fs);
     let mut subs = Owned::new(g.alloc);
     let mut os = Ranges {
         rest: fs.as_slice(),
     };
-    on_subs(g, x, &mut os, st, &mut subs)?;
+    let passed = on_subs(g, x, &mut os, st, &mut subs);
+    drawn.and(passed)?;
     finish_flat(g, x, fs, subs, st)
 }
 
@@ -266,37 +346,26 @@ fn from(g: &Ground<'_>, x: &From, st: &mut Store, out: &mut Owned) -> Result<(),
     ensures { OnOk result (Takes (spec.from_step g.now (shown.from x.now)) (so_far st.old) out.old (so_far st.new) out.new) }
 {
     match x {
-        From::Named(name) => {
-            let over = number_named(st, name);
-            draw(g.alloc, st, QuantKind::F, over, out)
-        }
-        From::Derived(y) => {
-            let over = query(g, y, st)?;
-            draw(g.alloc, st, QuantKind::F, over, out)
+        From::Named(_) | From::Derived(_) | From::LeftJoined(_, _, _, _) => {
+            let over = single(g, x, st);
+            draw_over(g.alloc, over, QuantKind::F, st, out)
         }
         From::Crossed(a, b) | From::Joined(a, b, _) => {
-            from(g, a, st, out)?;
-            from(g, b, st, out)
-        }
-        From::LeftJoined(a, b, n, p) => {
-            let a: &From = a;
-            let left = operand(g, a, st)?;
-            let right = operand(g, b, st)?;
-            let over = finish_outer(g, a, *n, p, left, right, st)?;
-            draw(g.alloc, st, QuantKind::F, over, out)
+            from(g, a, st, out).and(from(g, b, st, out))
         }
     }
 }
 
-// The same of a FROM.
+// The quantifiers of a FROM.
 #[cycle(lay)]
-fn froms(g: &Ground<'_>, list: &[From], st: &mut Store, out: &mut Owned) -> Result<(), OutOfMemory>
-    ensures { OnOk result (Takes (spec.froms_step g.now (shown.from_list list.now)) (so_far st.old) out.old (so_far st.new) out.new) }
+fn froms(g: &Ground<'_>, list: &[From], st: &mut Store) -> Result<Owned, OutOfMemory>
+    ensures { IfOk result (λ fs. Takes (spec.froms_step g.now (shown.from_list list.now)) (so_far st.old) [] (so_far st.new) fs) }
 {
+    let mut out = Owned::new(g.alloc);
     for x in list {
-        from(g, x, st, out)?;
+        from(g, x, st, &mut out)?;
     }
-    Ok(())
+    Ok(out)
 }
 
 // Adds the quantifiers of the subqueries of ON conditions that are flattened.
@@ -316,24 +385,35 @@ fn on_subs(
             let _passed = next_id(os);
             Ok(())
         }
-        From::Crossed(a, b) => {
-            on_subs(g, a, os, st, out)?;
-            on_subs(g, b, os, st, out)
-        }
+        From::Crossed(a, b) => on_subs(g, a, os, st, out).and(on_subs(g, b, os, st, out)),
         From::Joined(a, b, p) => {
             let a: &From = a;
             let b: &From = b;
             let before = os.rest;
-            on_subs(g, a, os, st, out)?;
-            on_subs(g, b, os, st, out)?;
-            let frame = both_frame(g, a, b, before, st)?;
-            let h = Seat {
-                ground: *g,
-                frame: &frame,
-            };
-            test_subs(&h, p, st, out)
+            let passed = on_subs(g, a, os, st, out).and(on_subs(g, b, os, st, out));
+            let frame = both_frame(g, a, b, before, st);
+            passed.and(joined_subs(g, p, frame, st, out))
         }
     }
+}
+
+// Adds the quantifiers of the subqueries of an ON condition, where its columns are seen so.
+#[cycle(lay)]
+fn joined_subs(
+    g: &Ground<'_>,
+    p: &Test,
+    frame: Result<Vec<Seen>, OutOfMemory>,
+    st: &mut Store,
+    out: &mut Owned,
+) -> Result<(), OutOfMemory>
+    ensures { OnOk result (IsOkAnd frame (λ v. Takes (l.test_subs (told_at g.now) (laying (told_at g.now)) (outer_of g.now) (frame_of v.items) (shown.test p.now)) (so_far st.old) out.old (so_far st.new) out.new)) }
+{
+    let frame = frame?;
+    let h = Seat {
+        ground: *g,
+        frame: &frame,
+    };
+    test_subs(&h, p, st, out)
 }
 
 // The same of a FROM.
@@ -370,8 +450,8 @@ fn sub(
         names: h.ground.names,
         outer: &outer,
     };
-    let over = query(&inner, x, st)?;
-    draw(h.ground.alloc, st, kind, over, out)
+    let over = query(&inner, x, st);
+    draw_over(h.ground.alloc, over, kind, st, out)
 }
 
 // Adds the quantifiers of the subqueries of an expression.
@@ -387,31 +467,23 @@ fn value_subs(h: &Seat<'_>, x: &Value, st: &mut Store, out: &mut Owned) -> Resul
         | Value::CountAll
         | Value::Aggregate(_, _, _) => Ok(()),
         Value::Sum(a, list) => {
-            value_subs(h, a, st, out)?;
-            addend_subs(h, list.as_slice(), st, out)
+            value_subs(h, a, st, out).and(addend_subs(h, list.as_slice(), st, out))
         }
         Value::Product(a, list) => {
-            value_subs(h, a, st, out)?;
-            multiplier_subs(h, list.as_slice(), st, out)
+            value_subs(h, a, st, out).and(multiplier_subs(h, list.as_slice(), st, out))
         }
         Value::Negative(a) => value_subs(h, a, st, out),
         Value::Searched(list, last) => {
-            arm_subs(h, list.as_slice(), st, out)?;
-            value_subs(h, last, st, out)
+            arm_subs(h, list.as_slice(), st, out).and(value_subs(h, last, st, out))
         }
         Value::Simple(a, list, last) => {
-            value_subs(h, a, st, out)?;
-            choice_subs(h, list.as_slice(), st, out)?;
-            value_subs(h, last, st, out)
+            let read = value_subs(h, a, st, out).and(choice_subs(h, list.as_slice(), st, out));
+            read.and(value_subs(h, last, st, out))
         }
         Value::Coalesce(a, list) => {
-            value_subs(h, a, st, out)?;
-            list_subs(h, list.as_slice(), st, out)
+            value_subs(h, a, st, out).and(list_subs(h, list.as_slice(), st, out))
         }
-        Value::NullIf(a, b) => {
-            value_subs(h, a, st, out)?;
-            value_subs(h, b, st, out)
-        }
+        Value::NullIf(a, b) => { value_subs(h, a, st, out).and(value_subs(h, b, st, out)) }
         Value::Scalar(y) => sub(h, y, QuantKind::S, st, out),
     }
 }
@@ -502,25 +574,18 @@ fn test_subs(h: &Seat<'_>, p: &Test, st: &mut Store, out: &mut Owned) -> Result<
         Test::All(list) | Test::Any(list) => tests_subs(h, list.as_slice(), st, out),
         Test::Not(p) => test_subs(h, p, st, out),
         Test::Compare(a, _, b) | Test::Like(a, b) => {
-            value_subs(h, a, st, out)?;
-            value_subs(h, b, st, out)
+            value_subs(h, a, st, out).and(value_subs(h, b, st, out))
         }
         Test::Quantified(a, _, each, y) => {
-            value_subs(h, a, st, out)?;
-            sub(h, y, every_or_some(*each), st, out)
+            value_subs(h, a, st, out).and(sub(h, y, every_or_some(*each), st, out))
         }
-        Test::AmongRows(a, y) => {
-            value_subs(h, a, st, out)?;
-            sub(h, y, QuantKind::E, st, out)
-        }
+        Test::AmongRows(a, y) => { value_subs(h, a, st, out).and(sub(h, y, QuantKind::E, st, out)) }
         Test::Between(a, b, c) => {
-            value_subs(h, a, st, out)?;
-            value_subs(h, b, st, out)?;
-            value_subs(h, c, st, out)
+            let read = value_subs(h, a, st, out).and(value_subs(h, b, st, out));
+            read.and(value_subs(h, c, st, out))
         }
         Test::Among(a, list) => {
-            value_subs(h, a, st, out)?;
-            list_subs(h, list.as_slice(), st, out)
+            value_subs(h, a, st, out).and(list_subs(h, list.as_slice(), st, out))
         }
         Test::IsNull(a) => value_subs(h, a, st, out),
         Test::Exists(y) => sub(h, y, QuantKind::E, st, out),

@@ -44,10 +44,9 @@ fn add_tables(alloc: Global, tables: &[TableDecl], out: &mut Vec<Named>) -> Resu
     ensures { OnOk result (out.new.items ≡ out.old.items ++ map named_table tables.now) }
 {
     for table in tables {
-        out.push(Named {
-            name: table.name.copy(alloc)?,
-            columns: table_columns(table.elements.as_slice())?,
-        })?;
+        let columns = table_columns(table.elements.as_slice())?;
+        let name = table.name.copy(alloc)?;
+        out.push(Named { name, columns })?;
     }
     Ok(())
 }
@@ -57,10 +56,9 @@ fn add_views(alloc: Global, views: &[ViewHead], out: &mut Vec<Named>) -> Result<
     ensures { OnOk result (out.new.items ≡ out.old.items ++ map named_view views.now) }
 {
     for view in views {
-        out.push(Named {
-            name: view.name.copy(alloc)?,
-            columns: known_columns(view.columns.as_slice())?,
-        })?;
+        let columns = known_columns(view.columns.as_slice())?;
+        let name = view.name.copy(alloc)?;
+        out.push(Named { name, columns })?;
     }
     Ok(())
 }

@@ -1,12 +1,15 @@
 // The boxes over groups and over pairs of boxes.
-ghost use Rattle.std.specs.Prelude.{◌≡◌, ◌++◌, ◌∷◌, [], IfOk, OnOk, map, suc};
+ghost use Rattle.std.specs.Prelude.{◌≡◌, ◌++◌, ◌∷◌, [], false, IfOk, IsOkAnd, OnOk, length, map, suc};
 ghost use Rattle.sql_meaning.specs.ResolvedShown as shown;
 ghost use Rattle.qgm_terms.specs.Shown.{terms};
 ghost use Rattle.qgm_terms.specs.Terms as t;
+ghost use Rattle.qgm_core.specs.declared.kinds.BoxKind.TheVariants.{OuterJoin};
+ghost use Rattle.qgm_core.specs.declared.kinds.QuantKind.TheVariants.{F};
 ghost use Rattle.qgm_shown.specs.Folds.{folds_in};
 ghost use Rattle.qgm_shown.specs.Lay.{laying, ranging};
 ghost use Rattle.qgm_shown.specs.Lay as l;
-ghost use Rattle.qgm_shown.specs.Leaves.{after, list_leaves, test_leaves};
+ghost use Rattle.qgm_shown.specs.Maps.{ref_term};
+ghost use Rattle.qgm_shown.specs.Leaves.{list_leaves, test_leaves};
 ghost use Rattle.qgm_shown.specs.Shown as w;
 ghost use Rattle.qgm_shown.specs.Sources.{from_width};
 ghost use Rattle.qgm_shown.specs.Terms as meant;
@@ -18,12 +21,11 @@ ghost use Rattle.built_terms.specs.Making.{Gives, after_subs};
 ghost use Rattle.built_terms.specs.SoFar.{so_far};
 ghost use Rattle.built_terms.specs.Written.{frame_of};
 
-use crate::finish::{append, seen_terms};
-use crate::select::Selected;
+use crate::finish::{append, put_select, seen_head, seen_terms};
+use crate::select::{Selected, list_head, select_parts, split_test};
 use built_terms::{
-    Fold, Ground, Seat, Seen, Slots, Store, add_boxed, after, draw, fold_terms, from_width,
-    group_cells, head_of, list_folds, push_refs, put, row_type, setting_of, site_of, test,
-    test_folds, values,
+    Fold, Ground, Seat, Seen, Slots, Store, after, draw, fold_terms, from_width, group_cells,
+    head_of, list_folds, push_refs, put, row_type, setting_of, site_of, test_folds,
 };
 use qgm_core::{
     BoxId, BoxKind, Conds, Gx, Head, Owned, OwnedQuant, QuantId, QuantKind, SetOperator,
@@ -56,8 +58,9 @@ pub(crate) fn upper_folds<'a>(
     ensures { IfOk result (λ v. map leaf_of v.items ≡ folds_in (list_leaves [] (shown.value_list list.now)) ++ folds_in (test_leaves [] (shown.test having.now))) }
 {
     let mut out = Vec::new(alloc);
-    list_folds(list, &mut out)?;
-    test_folds(having, &mut out)?;
+    let listed = list_folds(list, &mut out);
+    let tested = test_folds(having, &mut out);
+    listed.and(tested)?;
     Ok(out)
 }
 
@@ -74,8 +77,9 @@ fn column_terms(alloc: Global, q: QuantId, n: usize) -> Result<Vec<Gx>, OutOfMem
 fn group_head(alloc: Global, q: QuantId, n: usize, folds: &[Fold<'_>]) -> Result<Head, OutOfMemory>
     ensures { IfOk result (λ h. h ≡ w.columns_of q 1 n ++ w.fold_terms q (suc n) (map leaf_of folds.now)) }
 {
+    let next = after(n)?;
     let mut list = column_terms(alloc, q, n)?;
-    fold_terms(alloc, q, after(n)?, folds, &mut list)?;
+    fold_terms(alloc, q, next, folds, &mut list)?;
     head_of(alloc, list)
 }
 
@@ -97,6 +101,15 @@ pub(crate) fn finish_group(
     put(g.alloc, st, kind, false, Conds::new(g.alloc), head, quants)
 }
 
+// Where the aggregates of the select over groups are seen.
+fn upper_cells(alloc: Global, z: &Upper<'_>) -> Result<Vec<Seen>, OutOfMemory>
+    ensures { IfOk result (λ v. frame_of v.items ≡ w.fold_refs z.now.u (suc (length z.now.places.now)) (folds_in (list_leaves [] (shown.value_list z.now.list.now)) ++ folds_in (test_leaves [] (shown.test z.now.having.now)))) }
+{
+    let first = after(z.places.len())?;
+    let folds = upper_folds(alloc, z.list, z.having)?;
+    group_cells(alloc, z.u, first, &folds)
+}
+
 // The head and the conditions of the select over groups, whose subqueries have these quantifiers.
 fn write_upper(
     h: &Seat<'_>,
@@ -108,21 +121,31 @@ fn write_upper(
     ensures conds { IfOk result (λ x. x.conds.items ≡ spec.upper_conds h.now z.now.u (shown.value_list z.now.list.now) z.now.places.now (shown.test z.now.having.now) subs.now (so_far st.now)) }
     ensures spare { IfOk result (λ x. x.conds.spare ≡ 0) }
 {
-    let alloc = h.ground.alloc;
-    let folds = upper_folds(alloc, z.list, z.having)?;
-    let cells = group_cells(alloc, z.u, after(z.places.len())?, &folds)?;
+    let cells = upper_cells(h.ground.alloc, z)?;
     let mut s = Slots {
         quants: subs,
         cells: &cells,
     };
     let setting = setting_of(h, st);
-    let mut list = Vec::new(alloc);
-    values(&setting, z.list, &mut s, &mut list)?;
-    let p = test(&setting, z.having, &mut s)?;
-    let mut conds = Conds::new(alloc);
-    add_boxed(&mut conds, p)?;
-    let head = head_of(alloc, list)?;
-    Ok(Selected { head, conds })
+    let head = list_head(&setting, z.list, &mut s);
+    let conds = split_test(&setting, z.having, &mut s);
+    select_parts(head, conds)
+}
+
+// The quantifiers of the select over groups: that over the groups, and those of its subqueries.
+fn upper_quants(alloc: Global, z: &Upper<'_>, subs: &[OwnedQuant]) -> Result<Owned, OutOfMemory>
+    ensures { IfOk result (λ quants. quants ≡ record { id = z.now.u; kind = F; over = z.now.groups } ∷ subs.now) }
+{
+    let mut quants = Owned::new(alloc);
+    let over = OwnedQuant {
+        id: z.u,
+        kind: QuantKind::F,
+        over: z.groups,
+    };
+    let first = quants.push(over);
+    let more = append(&mut quants, subs);
+    first.and(more)?;
+    Ok(quants)
 }
 
 /// The select over the groups of a block.
@@ -135,34 +158,27 @@ pub(crate) fn finish_upper(
     requires seen { frame_of h.now.frame.now ≡ w.key_frame z.now.u z.now.places.now 0 z.now.n }
     ensures { IfOk result (λ b. Gives (spec.upper_box h.now.ground z.now.distinct (shown.value_list z.now.list.now) z.now.places.now z.now.n (shown.test z.now.having.now) z.now.u z.now.groups (after_subs (so_far st.old) subs)) b (so_far st.new)) }
 {
-    let alloc = h.ground.alloc;
-    let x = write_upper(h, z, subs.as_slice(), st)?;
-    let mut quants = Owned::new(alloc);
-    quants.push(OwnedQuant {
-        id: z.u,
-        kind: QuantKind::F,
-        over: z.groups,
-    })?;
-    append(&mut quants, subs.as_slice())?;
-    put(
-        alloc,
-        st,
-        BoxKind::Select,
-        z.distinct,
-        x.conds,
-        x.head,
-        quants,
-    )
+    let parts = write_upper(h, z, subs.as_slice(), st);
+    let quants = upper_quants(h.ground.alloc, z, subs.as_slice());
+    put_select(&h.ground, st, z.distinct, parts, quants)
 }
 
-// Two F quantifiers over these.
-fn pair(alloc: Global, a: BoxId, b: BoxId, st: &mut Store) -> Result<Owned, OutOfMemory>
-    ensures quants { IfOk result (λ os. os ≡ l.pair_of (so_far st.old).quant a b) }
-    ensures store { OnOk result (so_far st.new ≡ ranging b (ranging a (so_far st.old))) }
+// Two F quantifiers over these, where both were made.
+fn pair(
+    alloc: Global,
+    a: Result<BoxId, OutOfMemory>,
+    b: Result<BoxId, OutOfMemory>,
+    st: &mut Store,
+) -> Result<Owned, OutOfMemory>
+    ensures quants { IfOk result (λ os. IsOkAnd a (λ left. IsOkAnd b (λ right. os ≡ l.pair_of (so_far st.old).quant left right))) }
+    ensures store { OnOk result (IsOkAnd a (λ left. IsOkAnd b (λ right. so_far st.new ≡ ranging right (ranging left (so_far st.old))))) }
 {
+    let left = a?;
+    let right = b?;
     let mut quants = Owned::new(alloc);
-    draw(alloc, st, QuantKind::F, a, &mut quants)?;
-    draw(alloc, st, QuantKind::F, b, &mut quants)?;
+    let first = draw(alloc, st, QuantKind::F, left, &mut quants);
+    let second = draw(alloc, st, QuantKind::F, right, &mut quants);
+    first.and(second)?;
     Ok(quants)
 }
 
@@ -187,11 +203,11 @@ pub(crate) fn finish_pair(
     g: &Ground<'_>,
     form: SetOperator,
     n: usize,
-    a: BoxId,
-    b: BoxId,
+    a: Result<BoxId, OutOfMemory>,
+    b: Result<BoxId, OutOfMemory>,
     st: &mut Store,
 ) -> Result<BoxId, OutOfMemory>
-    ensures { IfOk result (λ r. Gives (spec.two_box g.now form n a b (so_far st.old)) r (so_far st.new)) }
+    ensures { IfOk result (λ r. IsOkAnd a (λ left. IsOkAnd b (λ right. Gives (spec.two_box g.now form n left right (so_far st.old)) r (so_far st.new)))) }
 {
     let q = st.next_quant;
     let quants = pair(g.alloc, a, b, st)?;
@@ -218,10 +234,12 @@ fn outer_frame(
 ) -> Result<Vec<Seen>, OutOfMemory>
     ensures { IfOk result (λ v. frame_of v.items ≡ w.refs q 1 (from_width (told_at g.now) (shown.from x.now)) ++ w.refs (suc q) 1 n) }
 {
-    let mut seen = Vec::new(g.alloc);
     let width = from_width(&site_of(g, st), x)?;
-    push_refs(&mut seen, q, width)?;
-    push_refs(&mut seen, after(q)?, n)?;
+    let next = after(q)?;
+    let mut seen = Vec::new(g.alloc);
+    let left = push_refs(&mut seen, q, width);
+    let right = push_refs(&mut seen, next, n);
+    left.and(right)?;
     Ok(seen)
 }
 
@@ -235,10 +253,45 @@ fn outer_conds(h: &Seat<'_>, p: &Test, st: &Store) -> Result<Conds, OutOfMemory>
         quants: &[],
         cells: &[],
     };
-    let c = test(&setting, p, &mut s)?;
-    let mut conds = Conds::new(h.ground.alloc);
-    add_boxed(&mut conds, c)?;
-    Ok(conds)
+    split_test(&setting, p, &mut s)
+}
+
+// The head and the conditions of a LEFT JOIN, whose quantifiers have the numbers q and the next.
+fn outer_parts(
+    g: &Ground<'_>,
+    x: &From,
+    n: usize,
+    p: &Test,
+    q: QuantId,
+    st: &Store,
+) -> Result<Selected, OutOfMemory>
+    ensures head { IfOk result (λ made. made.head ≡ map ref_term (w.refs q 1 (from_width (told_at g.now) (shown.from x.now)) ++ w.refs (suc q) 1 n)) }
+    ensures conds { IfOk result (λ made. made.conds.items ≡ meant.split (meant.cond (laying (told_at g.now) (so_far st.now)) (w.refs q 1 (from_width (told_at g.now) (shown.from x.now)) ++ w.refs (suc q) 1 n) (outer_of g.now) w.no_slots (shown.test p.now))) }
+    ensures spare { IfOk result (λ made. made.conds.spare ≡ 0) }
+{
+    let seen = outer_frame(g, x, n, q, st)?;
+    let h = Seat {
+        ground: *g,
+        frame: &seen,
+    };
+    let conds = outer_conds(&h, p, st);
+    let head = seen_head(g.alloc, &seen);
+    select_parts(head, conds)
+}
+
+// A LEFT JOIN of a head, conditions and quantifiers, where all were made.
+fn put_outer(
+    g: &Ground<'_>,
+    st: &mut Store,
+    parts: Result<Selected, OutOfMemory>,
+    quants: Result<Owned, OutOfMemory>,
+) -> Result<BoxId, OutOfMemory>
+    requires spare { IfOk parts (λ made. made.conds.spare ≡ 0) }
+    ensures { IfOk result (λ b. IsOkAnd parts (λ made. IsOkAnd quants (λ qs. Gives (l.put OuterJoin false made.conds.items made.head qs (so_far st.old)) b (so_far st.new)))) }
+{
+    let quants = quants?;
+    let Selected { head, conds } = parts?;
+    put(g.alloc, st, BoxKind::OuterJoin, false, conds, head, quants)
 }
 
 /// A LEFT JOIN over what was laid.
@@ -247,24 +300,14 @@ pub(crate) fn finish_outer(
     x: &From,
     n: usize,
     p: &Test,
-    a: BoxId,
-    b: BoxId,
+    a: Result<BoxId, OutOfMemory>,
+    b: Result<BoxId, OutOfMemory>,
     st: &mut Store,
 ) -> Result<BoxId, OutOfMemory>
-    ensures { IfOk result (λ r. Gives (spec.outer_box g.now (shown.from x.now) n (shown.test p.now) a b (so_far st.old)) r (so_far st.new)) }
+    ensures { IfOk result (λ r. IsOkAnd a (λ left. IsOkAnd b (λ right. Gives (spec.outer_box g.now (shown.from x.now) n (shown.test p.now) left right (so_far st.old)) r (so_far st.new)))) }
 {
     let q = st.next_quant;
-    let quants = pair(g.alloc, a, b, st)?;
-    let seen = outer_frame(g, x, n, q, st)?;
-    let conds = outer_conds(
-        &Seat {
-            ground: *g,
-            frame: &seen,
-        },
-        p,
-        st,
-    )?;
-    let list = seen_terms(g.alloc, &seen)?;
-    let head = head_of(g.alloc, list)?;
-    put(g.alloc, st, BoxKind::OuterJoin, false, conds, head, quants)
+    let quants = pair(g.alloc, a, b, st);
+    let parts = outer_parts(g, x, n, p, q, st);
+    put_outer(g, st, parts, quants)
 }

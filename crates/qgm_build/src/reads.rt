@@ -1,4 +1,4 @@
-// Which tables and views a query reads.
+// Which tables and views a query reads. Both sides of a choice are read, so that it makes one path.
 ghost use Rattle.std.specs.Prelude.{◌≡◌};
 ghost use Rattle.sql_meaning.specs.ResolvedShown as shown;
 ghost use Rattle.qgm_shown.specs.Reads as spec;
@@ -18,15 +18,15 @@ fn value_reads(x: &Value, name: &Text) -> bool
         | Value::Column(_, _)
         | Value::CountAll
         | Value::Aggregate(_, _, _) => false,
-        Value::Sum(a, list) => value_reads(a, name) || addends_read(list.as_slice(), name),
-        Value::Product(a, list) => value_reads(a, name) || multipliers_read(list.as_slice(), name),
+        Value::Sum(a, list) => value_reads(a, name) | addends_read(list.as_slice(), name),
+        Value::Product(a, list) => value_reads(a, name) | multipliers_read(list.as_slice(), name),
         Value::Negative(a) => value_reads(a, name),
-        Value::Searched(list, last) => arms_read(list.as_slice(), name) || value_reads(last, name),
+        Value::Searched(list, last) => arms_read(list.as_slice(), name) | value_reads(last, name),
         Value::Simple(a, list, last) => {
-            value_reads(a, name) || (choices_read(list.as_slice(), name) || value_reads(last, name))
+            value_reads(a, name) | (choices_read(list.as_slice(), name) | value_reads(last, name))
         }
-        Value::Coalesce(a, list) => value_reads(a, name) || values_read(list.as_slice(), name),
-        Value::NullIf(a, b) => value_reads(a, name) || value_reads(b, name),
+        Value::Coalesce(a, list) => value_reads(a, name) | values_read(list.as_slice(), name),
+        Value::NullIf(a, b) => value_reads(a, name) | value_reads(b, name),
         Value::Scalar(query) => reads(query, name),
     }
 }
@@ -76,7 +76,7 @@ fn arms_read(list: &[Arm], name: &Text) -> bool
     ensures { result ≡ spec.arms_read (shown.arm_list list.now) name.now }
 {
     for arm in list {
-        if test_reads(&arm.when, name) || value_reads(&arm.then, name) {
+        if test_reads(&arm.when, name) | value_reads(&arm.then, name) {
             return true;
         }
     }
@@ -89,7 +89,7 @@ fn choices_read(list: &[Choice], name: &Text) -> bool
     ensures { result ≡ spec.choices_read (shown.choice_list list.now) name.now }
 {
     for choice in list {
-        if value_reads(&choice.when, name) || value_reads(&choice.then, name) {
+        if value_reads(&choice.when, name) | value_reads(&choice.then, name) {
             return true;
         }
     }
@@ -104,14 +104,14 @@ pub(crate) fn test_reads(p: &Test, name: &Text) -> bool
     match p {
         Test::All(list) | Test::Any(list) => tests_read(list.as_slice(), name),
         Test::Not(p) => test_reads(p, name),
-        Test::Compare(a, _, b) | Test::Like(a, b) => value_reads(a, name) || value_reads(b, name),
+        Test::Compare(a, _, b) | Test::Like(a, b) => value_reads(a, name) | value_reads(b, name),
         Test::Quantified(a, _, _, query) | Test::AmongRows(a, query) => {
-            value_reads(a, name) || reads(query, name)
+            value_reads(a, name) | reads(query, name)
         }
         Test::Between(a, b, c) => {
-            value_reads(a, name) || (value_reads(b, name) || value_reads(c, name))
+            value_reads(a, name) | (value_reads(b, name) | value_reads(c, name))
         }
-        Test::Among(a, list) => value_reads(a, name) || values_read(list.as_slice(), name),
+        Test::Among(a, list) => value_reads(a, name) | values_read(list.as_slice(), name),
         Test::IsNull(a) => value_reads(a, name),
         Test::Exists(query) => reads(query, name),
     }
@@ -138,9 +138,9 @@ fn from_reads(x: &From, name: &Text) -> bool
     match x {
         From::Named(own) => *own == *name,
         From::Derived(query) => reads(query, name),
-        From::Crossed(a, b) => from_reads(a, name) || from_reads(b, name),
+        From::Crossed(a, b) => from_reads(a, name) | from_reads(b, name),
         From::Joined(a, b, p) | From::LeftJoined(a, b, _, p) => {
-            from_reads(a, name) || (from_reads(b, name) || test_reads(p, name))
+            from_reads(a, name) | (from_reads(b, name) | test_reads(p, name))
         }
     }
 }
@@ -166,15 +166,15 @@ pub fn reads(query: &Query, name: &Text) -> bool
     match query {
         Query::Block(_, list, tables, p) => {
             values_read(list.as_slice(), name)
-                || (froms_read(tables.as_slice(), name) || test_reads(p, name))
+                | (froms_read(tables.as_slice(), name) | test_reads(p, name))
         }
         Query::Grouped(_, list, tables, p, _, _, having) => {
             values_read(list.as_slice(), name)
-                || (froms_read(tables.as_slice(), name)
-                    || (test_reads(p, name) || test_reads(having, name)))
+                | (froms_read(tables.as_slice(), name)
+                    | (test_reads(p, name) | test_reads(having, name)))
         }
         Query::Combine(a, _, _, _, b) | Query::Intersect(a, _, _, b) => {
-            reads(a, name) || reads(b, name)
+            reads(a, name) | reads(b, name)
         }
     }
 }

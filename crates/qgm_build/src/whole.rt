@@ -165,16 +165,23 @@ fn lay_read(
     Ok(())
 }
 
+// The name of a column, where it has one.
+fn copied_name(alloc: Global, name: &Option<Text>) -> Result<Option<Text>, OutOfMemory>
+    ensures { IfOk result (λ out. out ≡ name.now) }
+{
+    match name {
+        Some(name) => Ok(Some(name.copy(alloc)?)),
+        None => Ok(None),
+    }
+}
+
 // The names of columns.
 fn copied_names(alloc: Global, names: &OutNames) -> Result<OutNames, OutOfMemory>
     ensures { IfOk result (λ out. out ≡ names.now) }
 {
     let mut out = Items::new(alloc);
     for name in names.as_slice() {
-        match name {
-            Some(name) => out.push(Some(name.copy(alloc)?))?,
-            None => out.push(None)?,
-        }
+        out.push(copied_name(alloc, name)?)?;
     }
     Ok(out)
 }

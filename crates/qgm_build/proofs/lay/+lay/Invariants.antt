@@ -31,7 +31,7 @@ invariant-tests_subs-loop-p l =
 
 abbrev pub invariant-froms-loop-x : goal.invariant-froms-loop-x
 invariant-froms-loop-x l =
-    Leads (froms_step l.g (shown.from_list (drop l.x-index l.list))) (so_far l.st) l.out (froms_step l.g (shown.from_list l.list) (so_far l.fn.st)).boxes (l.fn.out ++ (froms_step l.g (shown.from_list l.list) (so_far l.fn.st)).quants)
+    Leads (froms_step l.g (shown.from_list (drop l.x-index l.list))) (so_far l.st) l.out (froms_step l.g (shown.from_list l.list) (so_far l.fn.st)).boxes (froms_step l.g (shown.from_list l.list) (so_far l.fn.st)).quants
 
 abbrev pub invariant-all_on_subs-loop-x : goal.invariant-all_on_subs-loop-x
 invariant-all_on_subs-loop-x l =
