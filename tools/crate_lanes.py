@@ -85,7 +85,7 @@ def lines_in(name, ending):
 
 
 def measured_costs():
-    """Returns the processor seconds that the proof of each crate took when it was last measured."""
+    """Returns about how many seconds of a processor the proof of each crate takes, by runs that were measured."""
     with open(f"{TOP}/tools/proof-seconds", encoding="utf-8") as file:
         lines = [line.partition("#")[0].split() for line in file]
     return {name: int(seconds) for name, seconds in filter(None, lines)}
