@@ -1,36 +1,26 @@
 """What `qgm explain` prints, read: the graphs, the firings, and cells and conditions in words."""
+import os
 import re
 import unicodedata
 
-# What each rule does, and its class.
-RULES = {
-    "M1": ("merge", "A select takes in the select under one of its F quantifiers: the quantifiers and conditions of that box move up, and its cells stand where its columns were named."),
-    "M2": ("merge", "A select that only hands on the rows of one box goes: whoever ranged over it ranges over that box."),
-    "U1": ("subquery", "An E quantifier becomes an F quantifier, so a subquery becomes a join: repeated rows do no harm here, can't come, or are dropped by the box."),
-    "U2": ("subquery", "A scalar subquery that may have no row, or several, is put under a group of exactly one row: its cell is null over no row, and an error over more than one."),
-    "U3": ("subquery", "A scalar subquery that always has exactly one row becomes an F quantifier, and its value is a column of the join."),
-    "U4": ("subquery", "INTERSECT or EXCEPT becomes a select of distinct rows: the rows of the left operand for which there is an equal row in the right one, or none."),
-    "L1": ("distinct", "A DISTINCT goes where a key tells that no row comes twice."),
-    "L2": ("distinct", "Of this box one only asks whether some row, or every row, meets a condition: so it may give a row any number of times."),
-    "L3": ("distinct", "A DISTINCT goes under a UNION, which drops repeated rows itself."),
-    "P1": ("push", "A condition on the columns of one box moves down into that box, a select."),
-    "P2": ("push", "A condition on grouping columns moves down, below the group, so fewer rows are grouped."),
-    "P3": ("push", "A condition on the columns of a set operation moves down into both its operands."),
-    "P4": ("push", "A condition on left columns of an outer join moves down into its left operand."),
-    "J1": ("trans", "Two columns that equal the same third one equal each other: that condition is added."),
-    "J2": ("trans", "A column that equals another, which equals a literal, equals the literal: that condition is added."),
-    "N1": ("prune", "A column that nobody names goes, and with it each subquery that nothing names any more."),
-    "N2": ("prune", "A quantifier over a box of exactly one row goes, since nobody names it."),
-    "G1": ("magic", "FEED: the rows that a subquery depends on get a box of their own; a magic box gathers the values that it needs, each once; a fed box runs the subquery for these, and its rows are joined back by the values."),
-    "G2": ("magic", "A fed select takes the magic box in as its own first quantifier, and its values as its own first columns."),
-    "G3": ("magic", "A fed group takes the values of the magic box as further keys; where it had none, an outer join brings back the values for which it has no row, and counts them as 0."),
-    "G4": ("magic", "A fed set operation is fed through its two operands."),
-    "G5": ("magic", "A fed outer join is fed through its left operand, and through its right one where that needs values too."),
-}
-# What the number i of a place counts, and the number j; None where the rule has none.
-PLACES = {"M1": ("quantifier", None), "U1": ("quantifier", None), "U2": ("quantifier", None), "U3": ("quantifier", None), "N2": ("quantifier", None), "G1": ("quantifier", None)}
-PLACES.update({rule: ("condition", None) for rule in ("P1", "P2", "P3", "P4")})
-PLACES.update({"J1": ("condition", "condition"), "J2": ("condition", "condition"), "N1": ("column", None)})
+# The page whose table has the rules, and what the numbers i and j of a place count by its column of places.
+PAGE = os.path.join(os.path.dirname(os.path.dirname(os.path.realpath(__file__))), "docs", "rules", "README.md")
+COUNTED = {"box": (None, None), "quantifier": ("quantifier", None), "conjunct": ("condition", None), "two conjuncts": ("condition", "condition"), "column": ("column", None)}
+
+
+def rows_of_page(page):
+    """Returns the cells of each row that begins with a link named as a rule is; none where the page can't be read."""
+    try:
+        with open(page, encoding="utf-8") as file:
+            rows = [[cell.strip() for cell in it.strip("| \n").split("|")] for it in file if it.startswith("| [")]
+    except OSError:
+        return []
+    return [[it[0][1:3], *it[1:]] for it in rows if re.match(r"\[[A-Z][0-9]\]\(", it[0]) and len(it) == 7]
+
+
+# Of each rule its class and what it does; and what the numbers of its places count, None where it has none.
+RULES = {rule: (kind, words) for rule, kind, _, _, words, _, _ in rows_of_page(PAGE)}
+PLACES = {rule: COUNTED.get(place, (None, None)) for rule, _, _, place, _, _, _ in rows_of_page(PAGE)}
 
 QUANTIFIERS = {"F": "each row is taken, as in FROM", "E": "some row meets a condition", "A": "every row meets a condition", "S": "the value of a scalar subquery"}
 COMPARISONS = {"eq": "=", "ne": "<>", "lt": "<", "le": "<=", "gt": ">", "ge": ">=", "same": "is same as", "like": "LIKE"}

@@ -1,10 +1,10 @@
 -- Nothing is named beyond the root where what a box touches it owns or looks up.
 use Rattle.std.proofs.Common.{ℕ, ◌≡◌, ◌==◌, ◌&&◌, ◌||◌, ◌++◌, cond, not, Bool, true, false, List, [], ◌∷◌, refl, subst, eqb-true, ◌⊎◌, inl, inr}
 use Rattle.std.specs.List.{flat_map, list_any}
-use Rattle.std.proofs.lemmas.Bool.{cases_Bool, eq-eqb, not-true, or_cases}
+use Rattle.std.proofs.lemmas.Bool.{cases_Bool, eq-eqb, not-true, or_cases, or_left, or_right}
 use Rattle.qgm_core.specs.Boxes.{owns}
 use Rattle.qgm_core.specs.Free.{named_by}
-use Rattle.qgm_core.specs.Lists.{In}
+use Rattle.list_laws.specs.Lists.{In}
 use Rattle.qgm_core.specs.declared.node.Node.{Node}
 use Rattle.qgm_core.specs.declared.owned.OwnedQuant.{OwnedQuant}
 use Rattle.qgm_meaning.specs.Scope.{loose, read_by, under_any}
@@ -16,14 +16,15 @@ use Rattle.qgm_terms.specs.Terms as s
 use Rattle.qgm_terms.specs.Wanted.{reads, reads_cond}
 use Rattle.box_exec.specs.Beyond.{beyond, beyond_of}
 use Rattle.box_exec.specs.Settled.{BoundIfTouched, node_stands}
-use Rattle.box_exec.proofs.Stand.{any-from, clash, in-append, in-filter, in-flat, or-left, or-right}
+use Rattle.list_laws.proofs.Booleans.{clash}
+use Rattle.list_laws.proofs.Membership.{any-from, in-append, in-filter, in-flat}
 
 mix : (a b c d : Bool) → ((a || b) ≡ true) ⊎ ((c || d) ≡ true) → ((a || c) || (b || d)) ≡ true
 mix true b c d h = refl
-mix false b c d (inl h) = or-right c (b || d) (or-left b d h)
+mix false b c d (inl h) = or_right c (b || d) (or_left b d h)
 mix false b c d (inr h) = elim (or_cases c d h) [
-  | inl t ↦ or-left c (b || d) t
-  | inr t ↦ or-right c (b || d) (or-right b d t)
+  | inl t ↦ or_left c (b || d) t
+  | inr t ↦ or_right c (b || d) (or_right b d t)
 ]
 
 under-node : (u a b : Bool) → (u ≡ true) ⊎ ((a || b) ≡ true) → ((not u && a) || (u || b)) ≡ true
@@ -44,7 +45,7 @@ module _ (q : ℕ) where
     split (s.text t) i = elim i [ ]
     split s.null_int i = elim i [ ]
     split s.null_text i = elim i [ ]
-    split (s.col r k) i = elim i [ inl e ↦ or-left (r == q) false (eq-eqb r q e) | inr j ↦ elim j [ ] ]
+    split (s.col r k) i = elim i [ inl e ↦ or_left (r == q) false (eq-eqb r q e) | inr j ↦ elim j [ ] ]
     split (s.scalar r) i = elim i [ inl e ↦ eq-eqb r q e | inr j ↦ elim j [ ] ]
     split (s.both op x y) i = two (names_in x) (names_in y) (reads q x) (names q x) (reads q y) (names q y) i (split x) (split y)
     split (s.minus_of x) i = split x i
@@ -72,8 +73,8 @@ module _ (q : ℕ) where
   any-split f g h k xs i =
       let x = in-flat h q xs i in
       elim (or_cases (f x.0) (g x.0) (k x.0 x.1.1)) [
-        | inl t ↦ or-left (list_any f xs) (list_any g xs) (any-from f x.0 xs x.1.0 t)
-        | inr t ↦ or-right (list_any f xs) (list_any g xs) (any-from g x.0 xs x.1.0 t)
+        | inl t ↦ or_left (list_any f xs) (list_any g xs) (any-from f x.0 xs x.1.0 t)
+        | inr t ↦ or_right (list_any f xs) (list_any g xs) (any-from g x.0 xs x.1.0 t)
       ]
 
   -- what a box names it reads, or a node of it has it
@@ -95,12 +96,12 @@ module _ (q : ℕ) where
           let away : owns q n ≡ false = not-true (owns q n) all.1 in
           subst (λ (z : ℕ). loose bs z q ≡ true) (eqb-true n.id b t) (elim (in-append q (named_by n) (flat_map (λ r. beyond ns r.over) n.quants) all.0) [
             | inl j ↦ elim (or_cases (read_by n q) (node_stands q n) (named-split n j)) [
-              | inl u ↦ loose-at n (sub n (inl refl)) away (or-left (read_by n q) (under_any n.quants (loose bs) q) u)
+              | inl u ↦ loose-at n (sub n (inl refl)) away (or_left (read_by n q) (under_any n.quants (loose bs) q) u)
               | inr u ↦ absurd (clash (owns q n) (nodes n (sub n (inl refl)) u) away)
             ]
             | inr j ↦ (
                 let x = in-flat (λ (r : OwnedQuant). beyond ns r.over) q n.quants j in
-                loose-at n (sub n (inl refl)) away (or-right (read_by n q) (under_any n.quants (loose bs) q) (any-from (λ (r : OwnedQuant). loose bs r.over q) x.0 n.quants x.1.0 (beyond-loose ns (λ m j. sub m (inr j)) x.0.over x.1.1))))
+                loose-at n (sub n (inl refl)) away (or_right (read_by n q) (under_any n.quants (loose bs) q) (any-from (λ (r : OwnedQuant). loose bs r.over q) x.0 n.quants x.1.0 (beyond-loose ns (λ m j. sub m (inr j)) x.0.over x.1.1))))
           ]))
     ]
 

@@ -4,7 +4,7 @@ use Rattle.std.specs.List.{flat_map}
 use Rattle.std.proofs.lemmas.Bool.{and_parts, cases_Bool, not-true}
 use Rattle.qgm_core.specs.Boxes.{Ordered, QueryGraph, ids_of, is_quant, owns}
 use Rattle.qgm_core.specs.Free.{Reaches, itself, through, free_in, is_owned, named_by, named_where, reached}
-use Rattle.qgm_core.specs.Lists.{In, holds, times}
+use Rattle.list_laws.specs.Lists.{In, holds, times}
 use Rattle.qgm_core.specs.declared.node.Node.{Node}
 use Rattle.qgm_core.specs.declared.owned.OwnedQuant.{OwnedQuant}
 use Rattle.qgm_meaning.specs.Ranks.{SameUnder}
@@ -12,9 +12,11 @@ use Rattle.qgm_meaning.proofs.Ranked.{unfold-rank}
 use Rattle.box_exec.specs.Beyond.{beyond, beyond_of}
 use Rattle.box_exec.specs.Closed.{ClosedAlike, NamesBound}
 use Rattle.box_exec.specs.Kept.{is_nil}
-use Rattle.box_exec.proofs.Marks.{reached-reaches}
-use Rattle.box_exec.proofs.Stand.{any-in, any-none, each-in, filter-in, flat-in, in-append, in-each, in-filter, in-flat, in-left, in-right, in-times, times-once}
+use Rattle.qgm_core.proofs.Reaching.{reached-reaches}
 use Rattle.box_exec.proofs.Tails.{first-in, not-back}
+use Rattle.list_laws.proofs.Membership.{any-in, any-none, filter-in, flat-in, in-append, in-filter, in-flat, in-left, in-right}
+use Rattle.qgm_core.proofs.PutOnce.{each-in, in-each}
+use Rattle.list_laws.proofs.Counting.{in-times, times-once}
 
 same-lists : (f g : ℕ → List ℕ) (rs : List OwnedQuant) → SameUnder rs f g → flat_map (λ (r : OwnedQuant). f r.over) rs ≡ flat_map (λ (r : OwnedQuant). g r.over) rs
 same-lists f g [] s = refl

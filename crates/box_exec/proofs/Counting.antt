@@ -5,7 +5,7 @@ use Rattle.sql_value.specs.declared.cell.Cell.{Cell}
 use Rattle.sql_value.specs.declared.level.Level.{Level}
 use Rattle.sql_value.specs.declared.level.Level.TheVariants.{No, Cardinality, Division, Overflow, Yes}
 use Rattle.qgm_core.specs.Kinds.{is_F}
-use Rattle.qgm_core.specs.Lists.{In}
+use Rattle.list_laws.specs.Lists.{In}
 use Rattle.qgm_core.specs.declared.kinds.BoxKind.{BoxKind}
 use Rattle.qgm_core.specs.declared.kinds.BoxKind.TheVariants.{Base, Select, Group, SetOp, OuterJoin}
 use Rattle.qgm_core.specs.declared.node.Node.{Node}

@@ -8,21 +8,22 @@ use Rattle.qgm_core.specs.declared.node.Node.{Node}
 use Rattle.qgm_meaning.specs.Meaning.{bag_in, rows_of}
 use Rattle.qgm_meaning.specs.Scope.{loose, loose_of}
 use Rattle.qgm_meaning.specs.Values.{Bag, Environment}
-use Rattle.qgm_meaning.proofs.Frames.{SameRows, bag-framed, itself}
+use Rattle.qgm_meaning.proofs.Frames.{SameRows, bag-framed}
 use Rattle.box_exec.specs.Beyond.{LooksNowhere, beyond, beyond_of, beyonds}
 use Rattle.box_exec.specs.Ready.{AllFit, Entry, Fit, Ready}
-use Rattle.qgm_core.specs.Lists.{holds}
+use Rattle.list_laws.specs.Lists.{holds}
 use Rattle.qgm_meaning.specs.Plain.{counted_by}
 use Rattle.box_exec.specs.Costs.{Between, Keeps, asked, is_held}
 use Rattle.box_exec.specs.Kept.{KeptAs, is_nil, kept_costs, kept_number}
 use Rattle.box_exec.specs.declared.source.Source.{Source}
 use Rattle.box_exec.proofs.Loops.{from}
 use Rattle.box_exec.proofs.Places.{fit-drop}
+use Rattle.list_laws.proofs.Membership.{eq-itself}
 
 -- a box that looks nothing up gives the same rows everywhere
 nowhere-same : (tables : List Table) (n : Node) (ns : List Node) (env : Environment) → LooksNowhere n ns → rows_of tables n (bag_in tables ns) [] ≡ rows_of tables n (bag_in tables ns) env
 nowhere-same tables n ns env closed =
-    let own : n.id == n.id ≡ true = itself n.id in
+    let own : n.id == n.id ≡ true = eq-itself n.id in
     let here : (e : Environment) → bag_in tables (n ∷ ns) n.id e ≡ rows_of tables n (bag_in tables ns) e = λ e. ap (λ (b : Bool). cond b (rows_of tables n (bag_in tables ns)) (bag_in tables ns n.id) e) own in
     let none : (q : ℕ) → loose (n ∷ ns) n.id q ≡ false = λ q. ap (λ (b : Bool). cond b (loose_of n (loose ns)) (loose ns n.id) q) own ∙ closed q in
     let same : SameRows (loose (n ∷ ns) n.id) [] env = record { rows = λ q h. absurd (let z : true ≡ false = sym h ∙ none q in let y : ⊥ = cc in y) } in

@@ -9,7 +9,7 @@ use Rattle.sql_value.specs.declared.cell.Cell.{Cell}
 use Rattle.sql_value.specs.declared.cell.Cell.TheVariants.{Null}
 use Rattle.sql_value.specs.declared.level.Level.{Level}
 use Rattle.qgm_core.specs.Boxes.{is_box, is_quant}
-use Rattle.qgm_core.specs.Lists.{first}
+use Rattle.list_laws.specs.Lists.{first}
 use Rattle.qgm_core.specs.declared.kinds.BoxKind.{BoxKind}
 use Rattle.qgm_core.specs.declared.node.Node.{Node}
 use Rattle.qgm_core.specs.declared.owned.OwnedQuant.{OwnedQuant}
@@ -17,11 +17,11 @@ use Rattle.qgm_terms.specs.Terms.{Cond, Term, col}
 use Rattle.qgm_meaning.specs.Meaning.{Family, bag_in, given_by, once_if, over_each, quant_rows, rows_by, rows_found, rows_of}
 use Rattle.qgm_meaning.specs.Values.{Bag, Environment, all_true, bound, head_cells, row_of, value}
 use Rattle.row_bag.specs.Order.{cell_of}
-use Rattle.qgm_meaning.proofs.Frames.{itself}
 use Rattle.box_exec.specs.HandedOn.{HandsOn, InOrder, is_wide}
 use Rattle.box_exec.specs.Ready.{Entry, Held, Ready}
 use Rattle.box_exec.specs.declared.source.Source.{Source}
 use Rattle.box_exec.proofs.Places.{kept-under}
+use Rattle.list_laws.proofs.Membership.{eq-itself}
 
 -- ---- the cells of a row
 
@@ -37,7 +37,7 @@ in-order f q k (x ∷ xs) (c ∷ cells) o l h =
 own-cell : (q : ℕ) (cells : List Cell) (env : Environment) (j : ℕ) → cell_of (1 + j) (row_of q (bound q cells env)) ≡ get_or cells j Null
 own-cell q cells env j =
     let e : 1 + j ≡ suc j = omega arith in
-    ap (λ (b : Bool). cell_of (1 + j) (cond b cells (row_of q env))) (itself q) ∙ ap (λ (m : ℕ). get_or (Null ∷ cells) m Null) e
+    ap (λ (b : Bool). cell_of (1 + j) (cond b cells (row_of q env))) (eq-itself q) ∙ ap (λ (m : ℕ). get_or (Null ∷ cells) m Null) e
 
 pub same-cells : (s : ℕ → Bag) (q : ℕ) (head : List Term) (cells : List Cell) (env : Environment) → InOrder q 1 head → length cells ≡ length head → head_cells s head (bound q cells env) ≡ cells
 same-cells s q head cells env o l = in-order (λ x. value s x (bound q cells env)) q 1 head cells o l (own-cell q cells env)
@@ -65,7 +65,7 @@ module _ (tables : List Table) (n : Node) (bag : Family) (r : OwnedQuant) (on : 
   own-rows : quant_rows n bag r.id env ≡ bag r.over env
   own-rows =
       ap (λ (rs : List OwnedQuant). rows_found (first (is_quant r.id) rs) bag env) on.alone
-      ∙ ap (λ (b : Bool). rows_found (cond b (Some r) None) bag env) (itself r.id)
+      ∙ ap (λ (b : Bool). rows_found (cond b (Some r) None) bag env) (eq-itself r.id)
 
   bound-rows : rows_of tables n bag env ≡ bind (bag r.over env) give
   bound-rows =

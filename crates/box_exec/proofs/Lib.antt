@@ -9,8 +9,6 @@ mod Names
 mod Entries
 mod HandedOn
 mod Roots
-mod Stand
-mod Marks
 mod Tails
 mod Closed
 mod Counting
@@ -19,3 +17,6 @@ mod Settled
 mod Bounded
 mod Rejections
 mod Probes
+mod Hashing
+pub mod Orders
+pub mod Quantified

@@ -43,7 +43,7 @@ each-more level rows i r f old sofar new inside at before added =
     let step : keep level (bind (take (i + 1) rows) f) ≡ done ++ more = ap (λ (b : Bag). keep level (bind b f)) (take_more rows i r inside ∙ ap (λ (s : Row (List Cell)). take i rows ++ s ∷ []) (sym at)) ∙ given-more level (take i rows) r f in
     alike-trans added (alike-trans (alike-append before (alike-refl more)) (alike-same (append_assoc old done more ∙ ap (λ (b : Bag). old ++ b) (sym step))))
 
--- the same of rows at their own levels
+-- one more of these rows, each at its own level, has been gone through
 pub bind-more : (rows : Bag) (i : ℕ) (r : Row (List Cell)) (f : List Cell → Bag) (sofar new more : Bag) → i < length rows → r ≡ get_or rows i r
     → Alike sofar (bind (take i rows) f) → Alike more (f r.cells) → Alike new (sofar ++ keep r.level more) → Alike new (bind (take (i + 1) rows) f)
 bind-more rows i r f sofar new more inside at before given added =

@@ -1,19 +1,18 @@
 -- What boxes name beyond themselves, and what they look up.
 use Rattle.std.proofs.Common.{ℕ, suc, zero, ◌≡◌, ◌<◌, ◌+◌, ◌-◌, ◌++◌, ◌&&◌, ◌||◌, ◌==◌, not, Bool, true, false, cond, List, [], ◌∷◌, drop, get_or, length, map, position, take, Some, None, add-one, refl, sym, ◌∙◌, ap, arith, inl, inr, Vec, eqb-true}
-use Rattle.std.proofs.lemmas.Bool.{cases_Bool}
+use Rattle.std.proofs.lemmas.Bool.{cases_Bool, or_left, or_right}
 use Rattle.std.proofs.lemmas.List.{length-map, length_push}
 use Rattle.std.specs.List.{flat_map, list_any}
 use Rattle.qgm_core.specs.Boxes.{is_box, is_quant, owns}
 use Rattle.qgm_core.specs.Free.{named_by}
 use Rattle.qgm_core.specs.Kinds.{is_F}
-use Rattle.qgm_core.specs.Lists.{first, holds}
+use Rattle.list_laws.specs.Lists.{first, holds}
 use Rattle.qgm_core.specs.declared.node.Node.{Node}
 use Rattle.qgm_core.specs.declared.owned.OwnedQuant.{OwnedQuant}
 use Rattle.qgm_core.specs.declared.kinds.BoxKind.{BoxKind}
 use Rattle.qgm_core.specs.declared.kinds.BoxKind.TheVariants.{Base, Select, Group, SetOp, OuterJoin}
 use Rattle.qgm_meaning.specs.Scope.{loose, loose_by, loose_each, loose_of, looks_found, quant_looks, read_beyond, read_by, under_any}
 use Rattle.qgm_meaning.specs.Searches.{reads_arms}
-use Rattle.qgm_meaning.proofs.Frames.{either-left, either-right}
 use Rattle.qgm_terms.specs.Gathered.{listed_arms}
 use Rattle.qgm_terms.specs.Named.{names, names_in, names_in_cond}
 use Rattle.qgm_terms.specs.Terms as s
@@ -21,6 +20,7 @@ use Rattle.qgm_terms.specs.Wanted.{reads, reads_cond}
 use Rattle.box_exec.specs.Beyond.{LooksNowhere, beyond, beyond_of, beyonds, without_own}
 use Rattle.box_exec.specs.Ready.{AllFit, Fit}
 use Rattle.box_exec.proofs.Places.{inside, rank-at, rank-none, not-there}
+use Rattle.list_laws.proofs.Booleans.{and-second}
 
 -- ---- the list of each box
 
@@ -88,20 +88,16 @@ holds-left : (q : ℕ) (xs ys : List ℕ) → holds q xs ≡ true → holds q (x
 holds-left q [] ys h = absurd (let z : ⊥ = cc in z)
 holds-left q (x ∷ xs) ys h = elim (cases_Bool (x == q)) [
   | inl t ↦ ap (λ (b : Bool). b || holds q (xs ++ ys)) t
-  | inr t ↦ either-right (x == q) (holds q (xs ++ ys)) (holds-left q xs ys (sym (ap (λ (b : Bool). b || holds q xs) t) ∙ h))
+  | inr t ↦ or_right (x == q) (holds q (xs ++ ys)) (holds-left q xs ys (sym (ap (λ (b : Bool). b || holds q xs) t) ∙ h))
 ]
 
 holds-right : (q : ℕ) (xs ys : List ℕ) → holds q ys ≡ true → holds q (xs ++ ys) ≡ true
 holds-right q [] ys h = h
-holds-right q (x ∷ xs) ys h = either-right (x == q) (holds q (xs ++ ys)) (holds-right q xs ys h)
+holds-right q (x ∷ xs) ys h = or_right (x == q) (holds q (xs ++ ys)) (holds-right q xs ys h)
 
 either : (q : ℕ) (a b : Bool) (xs ys : List ℕ) → (a || b) ≡ true → (a ≡ true → holds q xs ≡ true) → (b ≡ true → holds q ys ≡ true) → holds q (xs ++ ys) ≡ true
 either q true b xs ys h f g = holds-left q xs ys (f refl)
 either q false b xs ys h f g = holds-right q xs ys (g h)
-
-both-true : (a b : Bool) → (a && b) ≡ true → b ≡ true
-both-true true b h = h
-both-true false b h = absurd (let z : ⊥ = cc in z)
 
 module _ (q : ℕ) where
   mutual
@@ -110,7 +106,7 @@ module _ (q : ℕ) where
     reads-named (s.text t) h = absurd (let z : ⊥ = cc in z)
     reads-named s.null_int h = absurd (let z : ⊥ = cc in z)
     reads-named s.null_text h = absurd (let z : ⊥ = cc in z)
-    reads-named (s.col r k) h = either-left (r == q) false h
+    reads-named (s.col r k) h = or_left (r == q) false h
     reads-named (s.scalar r) h = absurd (let z : ⊥ = cc in z)
     reads-named (s.both op x y) h = either q (reads q x) (reads q y) (names_in x) (names_in y) h (reads-named x) (reads-named y)
     reads-named (s.minus_of x) h = reads-named x h
@@ -131,8 +127,8 @@ module _ (q : ℕ) where
     reads-named-cond (s.and c d) h = either q (reads_cond q c) (reads_cond q d) (names_in_cond c) (names_in_cond d) h (reads-named-cond c) (reads-named-cond d)
     reads-named-cond (s.or c d) h = either q (reads_cond q c) (reads_cond q d) (names_in_cond c) (names_in_cond d) h (reads-named-cond c) (reads-named-cond d)
     reads-named-cond (s.not c) h = reads-named-cond c h
-    reads-named-cond (s.some r c) h = either-right (r == q) (holds q (names_in_cond c)) (reads-named-cond c (both-true (not (r == q)) (reads_cond q c) h))
-    reads-named-cond (s.every r c) h = either-right (r == q) (holds q (names_in_cond c)) (reads-named-cond c (both-true (not (r == q)) (reads_cond q c) h))
+    reads-named-cond (s.some r c) h = or_right (r == q) (holds q (names_in_cond c)) (reads-named-cond c (and-second (not (r == q)) (reads_cond q c) h))
+    reads-named-cond (s.every r c) h = or_right (r == q) (holds q (names_in_cond c)) (reads-named-cond c (and-second (not (r == q)) (reads_cond q c) h))
 
   any-named : {X : Type 0} (f : X → Bool) (g : X → List ℕ) → ((x : X) → f x ≡ true → holds q (g x) ≡ true) → (xs : List X) → list_any f xs ≡ true → holds q (flat_map g xs) ≡ true
   any-named f g h [] e = absurd (let z : ⊥ = cc in z)
@@ -148,13 +144,13 @@ module _ (q : ℕ) where
   found-any x [] look h = absurd (let z : ⊥ = cc in z)
   found-any x (r ∷ rs) look h =
       elim (r.id == x) as (λ b. looks_found (cond b (Some r) (first (is_quant x) rs)) look q ≡ true → (look r.over q || under_any rs look q) ≡ true) [
-        | true ↦ λ k. either-left (look r.over q) (under_any rs look q) k
-        | false ↦ λ k. either-right (look r.over q) (under_any rs look q) (found-any x rs look k)
+        | true ↦ λ k. or_left (look r.over q) (under_any rs look q) k
+        | false ↦ λ k. or_right (look r.over q) (under_any rs look q) (found-any x rs look k)
       ] h
 
   each-split : (n : Node) (look : ℕ → ℕ → Bool) (x : ℕ) (u v a : Bool) → quant_looks n look x q ≡ a → (a || (u && v)) ≡ true → (v ≡ true → (read_by n q || under_any n.quants look q) ≡ true) → (read_by n q || under_any n.quants look q) ≡ true
-  each-split n look x u v true e k rest = either-right (read_by n q) (under_any n.quants look q) (found-any x n.quants look e)
-  each-split n look x u v false e k rest = rest (both-true u v k)
+  each-split n look x u v true e k rest = or_right (read_by n q) (under_any n.quants look q) (found-any x n.quants look e)
+  each-split n look x u v false e k rest = rest (and-second u v k)
 
   each-any : (rs : List OwnedQuant) (n : Node) (look : ℕ → ℕ → Bool) → loose_each rs n look q ≡ true → (read_by n q || under_any n.quants look q) ≡ true
   each-any [] n look h = h
@@ -165,8 +161,8 @@ module _ (q : ℕ) where
       ] h
 
   with-read : (own : List OwnedQuant) (n : Node) (u : Bool) → (u || read_beyond own (read_by n) q) ≡ true → (read_by n q || u) ≡ true
-  with-read own n true h = either-right (read_by n q) true refl
-  with-read own n false h = either-left (read_by n q) false (both-true (not (list_any (is_quant q) own)) (read_by n q) h)
+  with-read own n true h = or_right (read_by n q) true refl
+  with-read own n false h = or_left (read_by n q) false (and-second (not (list_any (is_quant q) own)) (read_by n q) h)
 
   -- what a box looks up it reads, or a box under its quantifiers looks it up
   loose-any : (n : Node) (look : ℕ → ℕ → Bool) → loose_of n look q ≡ true → (read_by n q || under_any n.quants look q) ≡ true
@@ -176,7 +172,7 @@ module _ (q : ℕ) where
       by (Base table) h = absurd (let z : ⊥ = cc in z)
       by Select h = each-any n.quants n look h
       by (Group k) h = with-read (take 1 n.quants) n (under_any n.quants look q) h
-      by (SetOp form types) h = either-right (read_by n q) (under_any n.quants look q) h
+      by (SetOp form types) h = or_right (read_by n q) (under_any n.quants look q) h
       by OuterJoin h = with-read (take 2 n.quants) n (under_any n.quants look q) h
 
   not-own : (rs : List OwnedQuant) (xs : List ℕ) → list_any (is_quant q) rs ≡ false → holds q xs ≡ true → holds q (without_own rs xs) ≡ true
@@ -188,7 +184,7 @@ module _ (q : ℕ) where
         | inr t ↦ let rest = not-own rs xs o (sym (ap (λ (b : Bool). b || holds q xs) t) ∙ h) in
             elim (list_any (is_quant x) rs) as (λ b. holds q (cond (not b) (x ∷ without_own rs xs) (without_own rs xs)) ≡ true) [
               | true ↦ rest
-              | false ↦ either-right (x == q) (holds q (without_own rs xs)) rest
+              | false ↦ or_right (x == q) (holds q (without_own rs xs)) rest
             ]
       ]
 

@@ -1,7 +1,7 @@
 -- Rows that an equality rejects give nothing.
 use Rattle.std.proofs.Common.{ℕ, suc, zero, ◌≡◌, ◌<◌, ◌==◌, ◌&&◌, Bool, true, false, cond, List, [], ◌∷◌, Some, get_or, length, refl, sym, ap, ap₂, subst, ◌∙◌, eqb-true, inl, inr, arith}
 use Rattle.std.specs.List.{list_any}
-use Rattle.std.proofs.lemmas.Bool.{cases_Bool}
+use Rattle.std.proofs.lemmas.Bool.{cases_Bool, or_left, or_right}
 use Rattle.std.proofs.lemmas.Cmp.{int_cmp_total}
 use Rattle.std.specs.Ordering.{int_cmp, is_eq, nat_cmp, ordering_reverse}
 use Rattle.std.specs.Cmp.Lexicographic.{nat_list_cmp_total, slice_cmp}
@@ -18,7 +18,7 @@ use Rattle.sql_value.specs.declared.cell.Kind.TheVariants.{Cardinality, Division
 use Rattle.sql_value.specs.declared.truth.Truth.{Truth}
 use Rattle.row_bag.specs.Order.{cell_of}
 use Rattle.qgm_meaning.specs.Values.{Bag, Environment, bound, row_of, truth, value}
-use Rattle.qgm_meaning.proofs.Frames.{SameRows, itself, value-framed}
+use Rattle.qgm_meaning.proofs.Frames.{SameRows, value-framed}
 use Rattle.qgm_terms.specs.Shown as shown
 use Rattle.qgm_terms.specs.Terms.{Term, col}
 use Rattle.qgm_terms.specs.Wanted.{reads}
@@ -27,7 +27,8 @@ use Rattle.box_exec.specs.Probes.{AreSides, Equates, Rejecting}
 use Rattle.box_exec.specs.Sources.{held_by}
 use Rattle.box_exec.specs.declared.early.Early.{Early}
 use Rattle.box_exec.specs.declared.probe.Sides.{Sides}
-use Rattle.box_exec.proofs.Stand.{clash, or-left, or-right}
+use Rattle.list_laws.proofs.Membership.{eq-itself}
+use Rattle.list_laws.proofs.Booleans.{clash}
 
 -- ---- equality the other way round
 
@@ -36,7 +37,7 @@ eq-back Less = refl
 eq-back Equal = refl
 eq-back Greater = refl
 
-worse-back : (j k : Kind) → worse j k ≡ worse k j
+pub worse-back : (j k : Kind) → worse j k ≡ worse k j
 worse-back Cardinality Cardinality = refl
 worse-back Cardinality Division = refl
 worse-back Cardinality Overflow = refl
@@ -80,7 +81,7 @@ sides-of q r k a b s is own place away other = record {
   column = λ rows cells env.
       ap (λ (x : Term). value rows x (bound q cells env)) is
       ∙ ap₂ (λ (r k : ℕ). cell_of k (row_of r (bound q cells env))) own place
-      ∙ ap (λ (b : Bool). cell_of s.column (cond b cells (row_of q env))) (itself q);
+      ∙ ap (λ (b : Bool). cell_of s.column (cond b cells (row_of q env))) (eq-itself q);
   other = λ rows cells env. value-framed rows b (bound q cells env) env (unread-same q cells env b away) ∙ ap (λ (x : Term). value rows x env) other;
 }
 
@@ -94,10 +95,10 @@ equates-second q a b s rows cells env sides = equal-back (value rows a (bound q 
 
 -- ---- rows that are skipped
 
-any-at : {X : Type 0} (p : X → Bool) (xs : List X) (i : ℕ) (x : X) → i < length xs → x ≡ get_or xs i x → p x ≡ true → list_any p xs ≡ true
+pub any-at : {X : Type 0} (p : X → Bool) (xs : List X) (i : ℕ) (x : X) → i < length xs → x ≡ get_or xs i x → p x ≡ true → list_any p xs ≡ true
 any-at p [] i x l e h = absurd (omega (arith, l))
-any-at p (y ∷ xs) zero x l e h = or-left (p y) (list_any p xs) (ap p (sym e) ∙ h)
-any-at p (y ∷ xs) (suc i) x l e h = or-right (p y) (list_any p xs) (any-at p xs i x (omega (arith, l)) e h)
+any-at p (y ∷ xs) zero x l e h = or_left (p y) (list_any p xs) (ap p (sym e) ∙ h)
+any-at p (y ∷ xs) (suc i) x l e h = or_right (p y) (list_any p xs) (any-at p xs i x (omega (arith, l)) e h)
 
 pub equality-rejects : (es : List Early) (i : ℕ) (e : Early) (place q : ℕ) (env : Environment) (s : Sides) (cell : Cell) → i < length es → e ≡ get_or es i e → (e.place == place) ≡ true
     → Equates q (shown.cond e.cond.now) s → cell ≡ value (held_by []) (shown.term s.other.now) env → Rejecting es place q env (Some (record { column = s.column; cell = cell }))

@@ -4,16 +4,17 @@ use Rattle.std.proofs.Math.ListN.{drop_of_length-le}
 use Rattle.std.proofs.lemmas.List.{length-map, take_more}
 use Rattle.std.proofs.lemmas.List.Elements.{filter-append}
 use Rattle.std.specs.List.{list_any}
+use Rattle.std.proofs.lemmas.Bool.{or_left, or_right}
 use Rattle.row_bag.specs.Bags.{Alike, bind, keep, unit}
 use Rattle.row_bag.specs.declared.tables.Table.{Table}
-use Rattle.row_bag.proofs.Agreement.{alike-append, alike-keep_no, alike-refl, alike-same, alike-sym, alike-trans}
+use Rattle.row_bag.proofs.Agreement.{alike-append, alike-keep_no, alike-refl, alike-same, alike-sym, alike-trans, alike-bind}
 use Rattle.sql_value.specs.declared.cell.Cell.{Cell}
 use Rattle.sql_value.specs.declared.level.Level.{Level}
 use Rattle.sql_value.specs.declared.level.Level.TheVariants.{No}
 use Rattle.sql_value.specs.declared.truth.Truth.{Truth}
 use Rattle.qgm_core.specs.Boxes.{is_quant}
 use Rattle.qgm_core.specs.Kinds.{is_F}
-use Rattle.qgm_core.specs.Lists.{first}
+use Rattle.list_laws.specs.Lists.{first}
 use Rattle.qgm_core.specs.declared.node.Node.{Node}
 use Rattle.qgm_core.specs.declared.owned.OwnedQuant.{OwnedQuant}
 use Rattle.qgm_core.specs.declared.kinds.SetOperator.{SetOperator}
@@ -21,9 +22,7 @@ use Rattle.qgm_meaning.specs.Meaning.{Family, bag_in, combined, given, given_by,
 use Rattle.qgm_meaning.specs.Searches.{names, names_cond}
 use Rattle.qgm_meaning.specs.Values.{Bag, Environment, bound}
 use Rattle.qgm_meaning.proofs.Alikes.{combined-alike, given-alike, grouped_rows-alike}
-use Rattle.qgm_meaning.proofs.Frames.{either-left, either-right}
 use Rattle.qgm_meaning.proofs.Nodes.{all_true-nodes, head-nodes}
-use Rattle.row_bag.proofs.Agreement.{alike-bind}
 use Rattle.row_bag.proofs.FoldLaws.{or_else-alike}
 use Rattle.box_exec.specs.Outer.{joined_rows, null_row, partner_rows}
 use Rattle.box_exec.specs.Plans.{Planned, family, ranges}
@@ -138,8 +137,8 @@ given-free f n below ss env fit subs =
     let same : (q : ℕ) → names_in_box n q ≡ true → free q ≡ quant_rows n f q env = λ q h. ap (λ (o : Option OwnedQuant). rows_found o f env) (first-free n.quants q (fit.nodes q h)) in
     given-alike n (λ q e. held_by ss q) (λ q e. free q) env (λ q. subs-held f env (filter isnt_F n.quants) ss q subs)
     ∙ ap₂ (λ (l : Truth) (cells : List Cell). keep l.t (unit cells))
-    (all_true-nodes free (λ q. quant_rows n f q env) n.parts.conds.items env (λ q h. same q (either-left (list_any (names_cond q) n.parts.conds.items) (list_any (names q) n.parts.head) h)))
-    (head-nodes free (λ q. quant_rows n f q env) n.parts.head env (λ q h. same q (either-right (list_any (names_cond q) n.parts.conds.items) (list_any (names q) n.parts.head) h)))
+    (all_true-nodes free (λ q. quant_rows n f q env) n.parts.conds.items env (λ q h. same q (or_left (list_any (names_cond q) n.parts.conds.items) (list_any (names q) n.parts.head) h)))
+    (head-nodes free (λ q. quant_rows n f q env) n.parts.head env (λ q h. same q (or_right (list_any (names_cond q) n.parts.conds.items) (list_any (names q) n.parts.head) h)))
 
 pub given-at : (at : At) → Planned at → (ss ts : List Sub) (env : Environment) → ts ≡ ss → SubsOf (family at) env (filter isnt_F (ranges at.loops.now)) ss → given (held_by ts) at.node.now env ≡ given_by (quant_rows at.node.now (family at)) at.node.now env
 given-at at plan ss ts env e subs =

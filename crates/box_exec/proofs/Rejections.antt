@@ -10,7 +10,7 @@ use Rattle.sql_value.specs.declared.level.Level.{Level}
 use Rattle.sql_value.specs.declared.level.Level.TheVariants.{No, Cardinality, Division, Overflow, Yes}
 use Rattle.qgm_core.specs.Boxes.{is_quant}
 use Rattle.qgm_core.specs.Kinds.{is_F}
-use Rattle.qgm_core.specs.Lists.{In, first}
+use Rattle.list_laws.specs.Lists.{In, first}
 use Rattle.qgm_core.specs.declared.node.Node.{Node}
 use Rattle.qgm_core.specs.declared.owned.OwnedQuant.{OwnedQuant}
 use Rattle.qgm_meaning.specs.Meaning.{Family, given_by, over_each, quant_rows, rows_found}
@@ -27,7 +27,8 @@ use Rattle.box_exec.specs.Sources.{held_by}
 use Rattle.box_exec.specs.declared.boxes.At.{At}
 use Rattle.box_exec.specs.declared.early.Early.{Early}
 use Rattle.box_exec.specs.declared.under.Loop.{Loop}
-use Rattle.box_exec.proofs.Stand.{any-in, clash}
+use Rattle.list_laws.proofs.Booleans.{clash, neither-left, neither-right}
+use Rattle.list_laws.proofs.Membership.{any-in}
 
 -- ---- lists
 
@@ -38,19 +39,11 @@ all-at P x (y ∷ xs) h i = elim i [
   | inr j ↦ all-at P x xs (λ k d l. h (suc k) d (omega (arith, l))) j
 ]
 
-or-first : (a b : Bool) → (a || b) ≡ false → a ≡ false
-or-first true b h = absurd (let z : ⊥ = cc in z)
-or-first false b h = refl
-
-or-second : (a b : Bool) → (a || b) ≡ false → b ≡ false
-or-second true b h = absurd (let z : ⊥ = cc in z)
-or-second false b h = h
-
 -- a test of the ranges is one of the loops
 any-range : (f : ℕ → Bool) (ls : List Loop) → list_any (λ l. f l.range.id) ls ≡ false → list_any (λ (r : OwnedQuant). f r.id) (ranges ls) ≡ false
 any-range f [] h = refl
 any-range f (l ∷ ls) h =
-    ap₂ (λ (a b : Bool). a || b) (or-first (f l.range.id) (list_any (λ l. f l.range.id) ls) h) (any-range f ls (or-second (f l.range.id) (list_any (λ l. f l.range.id) ls) h))
+    ap₂ (λ (a b : Bool). a || b) (neither-left (f l.range.id) (list_any (λ l. f l.range.id) ls) h) (any-range f ls (neither-right (f l.range.id) (list_any (λ l. f l.range.id) ls) h))
 
 drop-ranges : (k : ℕ) (ls : List Loop) → ranges (drop k ls) ≡ drop k (ranges ls)
 drop-ranges zero ls = refl
@@ -73,7 +66,7 @@ no-least Division = refl
 no-least Overflow = refl
 no-least Yes = refl
 
-none-no : (l : Level) → is_none l ≡ true → l ≡ No
+pub none-no : (l : Level) → is_none l ≡ true → l ≡ No
 none-no No h = refl
 none-no Cardinality h = absurd (let z : ⊥ = cc in z)
 none-no Division h = absurd (let z : ⊥ = cc in z)
@@ -98,9 +91,9 @@ bind-none (r ∷ rows) = bind-none rows
 unnamed-found : (f : Family) (c : Cond) (q : ℕ) (env : Environment) (rs : List OwnedQuant) → list_any (λ (r : OwnedQuant). names_cond r.id c) rs ≡ false → names_cond q c ≡ true → rows_found (first (is_quant q) rs) f env ≡ []
 unnamed-found f c q env [] none named = refl
 unnamed-found f c q env (r ∷ rs) none named = elim (cases_Bool (r.id == q)) [
-  | inl e ↦ absurd (clash (names_cond q c) named (subst (λ (z : ℕ). names_cond z c ≡ false) (eqb-true r.id q e) (or-first (names_cond r.id c) (list_any (λ (r : OwnedQuant). names_cond r.id c) rs) none)))
+  | inl e ↦ absurd (clash (names_cond q c) named (subst (λ (z : ℕ). names_cond z c ≡ false) (eqb-true r.id q e) (neither-left (names_cond r.id c) (list_any (λ (r : OwnedQuant). names_cond r.id c) rs) none)))
   | inr n ↦ ap (λ (b : Bool). rows_found (cond b (Some r) (first (is_quant q) rs)) f env) n
-      ∙ unnamed-found f c q env rs (or-second (names_cond r.id c) (list_any (λ (r : OwnedQuant). names_cond r.id c) rs) none) named
+      ∙ unnamed-found f c q env rs (neither-right (names_cond r.id c) (list_any (λ (r : OwnedQuant). names_cond r.id c) rs) none) named
 ]
 
 module _ (n : Node) (f : Family) (c : Cond) (env : Environment) (stands : In c n.parts.conds.items) (unnamed : list_any (λ (r : OwnedQuant). names_cond r.id c) n.quants ≡ false) (no : (truth (held_by []) c env).t ≡ No) where
@@ -110,8 +103,8 @@ module _ (n : Node) (f : Family) (c : Cond) (env : Environment) (stands : In c n
       let rejects : (truth rows c e).t ≡ No = ap (λ (x : _). x.t) (truth-nodes rows (held_by []) c e (λ q named. unnamed-found f c q e n.quants unnamed named) ∙ truth-framed (held_by []) c e env same) ∙ no in
       alike-trans (alike-same (ap (λ (l : Level). keep l (unit (head_cells rows n.parts.head e))) (all-no rows e c n.parts.conds.items stands rejects))) (alike-keep_no (unit (head_cells rows n.parts.head e)))
   over-none (r ∷ rs) unread e same =
-      let here : reads_cond r.id c ≡ false = or-first (reads_cond r.id c) (list_any (λ (r : OwnedQuant). reads_cond r.id c) rs) unread in
-      let rest = or-second (reads_cond r.id c) (list_any (λ (r : OwnedQuant). reads_cond r.id c) rs) unread in
+      let here : reads_cond r.id c ≡ false = neither-left (reads_cond r.id c) (list_any (λ (r : OwnedQuant). reads_cond r.id c) rs) unread in
+      let rest = neither-right (reads_cond r.id c) (list_any (λ (r : OwnedQuant). reads_cond r.id c) rs) unread in
       elim (is_F r.kind) as (λ k. Alike (cond k (bind (quant_rows n f r.id e) (λ cells. over_each rs (quant_rows n f) (given_by (quant_rows n f) n) (bound r.id cells e))) (over_each rs (quant_rows n f) (given_by (quant_rows n f) n) e)) []) [
         | true ↦ alike-trans
             (alike-bind (alike-refl (quant_rows n f r.id e)) (λ cells. over-none rs rest (bound r.id cells e) (beside r.id cells e here same)))

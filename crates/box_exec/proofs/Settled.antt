@@ -1,19 +1,21 @@
 -- Boxes are fit by facts of a graph.
-use Rattle.std.proofs.Common.{ℕ, suc, zero, ◌≡◌, ◌<◌, ◌≤◌, ◌+◌, ◌==◌, ◌&&◌, ◌||◌, Bool, true, false, cond, All, List, [], ◌∷◌, Some, get_or, length, map, refl, sym, ap, ◌∙◌, inl, inr, arith}
+use Rattle.std.proofs.Common.{ℕ, suc, zero, ◌≡◌, ◌<◌, ◌≤◌, ◌+◌, ◌==◌, ◌&&◌, Bool, true, false, cond, All, List, [], ◌∷◌, Some, get_or, length, map, refl, sym, ap, ◌∙◌, inl, inr, arith}
 use Rattle.std.specs.List.{list_any}
-use Rattle.std.proofs.lemmas.Bool.{cases_Bool, or_cases}
+use Rattle.std.proofs.lemmas.Bool.{cases_Bool, or_cases, or_left, or_right}
 use Rattle.qgm_core.specs.Boxes.{ids_of, is_quant}
 use Rattle.qgm_core.specs.Kinds.{is_F}
-use Rattle.qgm_core.specs.Lists.{In, first, times}
+use Rattle.list_laws.specs.Lists.{In, first, times}
 use Rattle.qgm_core.specs.declared.node.Node.{Node}
 use Rattle.qgm_core.specs.declared.owned.OwnedQuant.{OwnedQuant}
 use Rattle.qgm_meaning.specs.Scope.{loose_of}
 use Rattle.qgm_meaning.specs.Searches.{names, names_cond}
 use Rattle.box_exec.specs.Ready.{AllFit, Fit, binds_F, names_in_box}
 use Rattle.box_exec.specs.Settled.{FitIfSettled, Settled, node_stands}
-use Rattle.box_exec.proofs.Marks.{in-has}
-use Rattle.box_exec.proofs.Stand.{eq-itself, in-times, or-left, or-right, times-in}
+use Rattle.qgm_core.proofs.Reaching.{in-has}
 use Rattle.box_exec.proofs.Tails.{Tail, at-head, behind-one, tail-in, tail-rank, whole}
+use Rattle.list_laws.proofs.Booleans.{neither-left, neither-right}
+use Rattle.list_laws.proofs.Membership.{eq-itself}
+use Rattle.list_laws.proofs.Counting.{in-times, times-in}
 
 in-at : (rs : List OwnedQuant) (i : ℕ) (d : OwnedQuant) → i < length rs → In (get_or rs i d) rs
 in-at [] i d l = absurd (omega (arith, l))
@@ -39,19 +41,11 @@ and-is : (a b : Bool) → b ≡ true → (a && b) ≡ false → a ≡ false
 and-is true b t h = absurd (let z : ⊥ = cc in z)
 and-is false b t h = refl
 
-or-first : (a b : Bool) → (a || b) ≡ false → a ≡ false
-or-first true b h = absurd (let z : ⊥ = cc in z)
-or-first false b h = refl
-
-or-second : (a b : Bool) → (a || b) ≡ false → b ≡ false
-or-second true b h = absurd (let z : ⊥ = cc in z)
-or-second false b h = h
-
 binds-none : (q : ℕ) (rs : List OwnedQuant) → list_any (λ r. is_F r.kind && is_quant q r) rs ≡ false → binds_F (first (is_quant q) rs) ≡ false
 binds-none q [] h = refl
 binds-none q (r ∷ rs) h =
-    let here = or-first (is_F r.kind && is_quant q r) (list_any (λ r. is_F r.kind && is_quant q r) rs) h in
-    let rest = or-second (is_F r.kind && is_quant q r) (list_any (λ r. is_F r.kind && is_quant q r) rs) h in
+    let here = neither-left (is_F r.kind && is_quant q r) (list_any (λ r. is_F r.kind && is_quant q r) rs) h in
+    let rest = neither-right (is_F r.kind && is_quant q r) (list_any (λ r. is_F r.kind && is_quant q r) rs) h in
     elim (cases_Bool (is_quant q r)) [
       | inl t ↦ ap (λ (b : Bool). binds_F (cond b (Some r) (first (is_quant q) rs))) t ∙ and-is (is_F r.kind) (is_quant q r) t here
       | inr f ↦ ap (λ (b : Bool). binds_F (cond b (Some r) (first (is_quant q) rs))) f ∙ binds-none q rs rest
@@ -61,7 +55,7 @@ either-order : (q : ℕ) (n : Node) → names_in_box n q ≡ true → node_stand
 either-order q n h =
     let a = list_any (names q) n.parts.head in
     let b = list_any (names_cond q) n.parts.conds.items in
-    elim (or_cases b a h) [ inl t ↦ or-right a b t | inr t ↦ or-left a b t ]
+    elim (or_cases b a h) [ inl t ↦ or_right a b t | inr t ↦ or_left a b t ]
 
 module _ (bs : List Node) (w : Settled bs) where
   fit-at : (n : Node) (ns : List Node) → Tail bs (n ∷ ns) → Fit n ns

@@ -1,13 +1,15 @@
 -- The boxes behind a box of a graph: what is said of them there is said of them in the whole graph.
 use Rattle.std.proofs.Common.{ℕ, ◌==◌, ◌≡◌, cond, Bool, true, List, [], ◌∷◌, Some, refl, sym, ap, subst, ◌∙◌, eqb-true, ◌⊎◌, inl, inr}
+use Rattle.std.proofs.lemmas.Bool.{or_right}
 use Rattle.qgm_core.specs.Boxes.{Ordered, has_box, is_box}
 use Rattle.qgm_core.specs.Free.{Reaches, itself, through}
-use Rattle.qgm_core.specs.Lists.{In, first}
+use Rattle.list_laws.specs.Lists.{In, first}
 use Rattle.qgm_core.specs.declared.node.Node.{Node}
 use Rattle.qgm_core.specs.declared.owned.OwnedQuant.{OwnedQuant}
 use Rattle.qgm_meaning.specs.Ranks.{by_rank}
-use Rattle.box_exec.proofs.Marks.{in-has, overs-held}
-use Rattle.box_exec.proofs.Stand.{all-in, any-in, clash, eq-itself, or-right, other}
+use Rattle.qgm_core.proofs.Reaching.{in-has, overs-held}
+use Rattle.list_laws.proofs.Booleans.{clash}
+use Rattle.list_laws.proofs.Membership.{all-in, any-in, eq-itself, other}
 
 -- the last boxes of these, from some place on
 abbrev pub Tail : List Node → List Node → Type 0
@@ -50,7 +52,7 @@ pub tail-has : (bs ns : List Node) → Tail bs ns → (b : ℕ) → has_box ns b
 tail-has [] ns t b h = subst (λ (xs : List Node). has_box xs b ≡ true) t h
 tail-has (m ∷ bs) ns t b h = elim t [
   | inl e ↦ subst (λ (xs : List Node). has_box xs b ≡ true) e h
-  | inr u ↦ or-right (m.id == b) (has_box bs b) (tail-has bs ns u b h)
+  | inr u ↦ or_right (m.id == b) (has_box bs b) (tail-has bs ns u b h)
 ]
 
 module _ {X : Type 0} (none : X) (step : Node → (ℕ → X) → X) where

@@ -4,7 +4,7 @@ use Rattle.std.proofs.lemmas.Bool.{cases_Bool}
 use Rattle.row_bag.specs.declared.tables.Table.{Table}
 use Rattle.qgm_core.specs.Boxes.{QueryGraph, has_box}
 use Rattle.qgm_core.specs.Free.{Reaches, itself, free_in, reached}
-use Rattle.qgm_core.specs.Lists.{In, holds}
+use Rattle.list_laws.specs.Lists.{In, holds}
 use Rattle.qgm_core.specs.declared.node.Node.{Node}
 use Rattle.qgm_core.specs.declared.owned.OwnedQuant.{OwnedQuant}
 use Rattle.qgm_meaning.specs.Meaning.{bag, bag_in, rows_of}
@@ -16,17 +16,10 @@ use Rattle.box_exec.specs.Costs.{asked, costs}
 use Rattle.box_exec.specs.Kept.{KeptAs, Took, behind, is_nil, kept_costs, kept_number}
 use Rattle.box_exec.proofs.Closed.{nil-alike}
 use Rattle.box_exec.proofs.Counting.{counted-one, counted-same, none}
-use Rattle.box_exec.proofs.Marks.{closes, in-has, reached-reaches}
-use Rattle.box_exec.proofs.Stand.{holds-in, in-holds}
+use Rattle.qgm_core.proofs.Reaching.{closes, in-has, reached-reaches}
 use Rattle.box_exec.proofs.Tails.{Tail, at-head, behind-one, has-in, not-up, overs-here, tail-has, tail-in, tail-ordered, tail-rank, whole}
-
-and-true : (b : Bool) → (b && true) ≡ b
-and-true true = refl
-and-true false = refl
-
-and-false : (b : Bool) → (b && false) ≡ false
-and-false true = refl
-and-false false = refl
+use Rattle.list_laws.proofs.Booleans.{and-false, and-true}
+use Rattle.list_laws.proofs.Membership.{holds-in, in-holds}
 
 open-if : (xs : List ℕ) (x : ℕ) → cond (is_nil xs) 0 x ≡ if_open xs x
 open-if [] x = refl

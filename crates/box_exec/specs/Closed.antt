@@ -2,7 +2,7 @@
 use Rattle.std.specs.Prelude.{ℕ, ◌≡◌, ◌≤◌, ◌+◌, ◌↔◌, if◌then◌else◌, true, List, [], ◌∷◌}
 use Rattle.qgm_core.specs.Boxes.{Ordered, QueryGraph, has_box, ids_in}
 use Rattle.qgm_core.specs.Free.{Reaches, free_in, reached}
-use Rattle.qgm_core.specs.Lists.{In, holds, times}
+use Rattle.list_laws.specs.Lists.{In, holds, times}
 use Rattle.qgm_core.specs.declared.node.Node.{Node}
 use Rattle.row_bag.specs.declared.tables.Table.{Table}
 use Rattle.qgm_meaning.specs.Plain.{if_closed, plain}

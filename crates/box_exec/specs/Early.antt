@@ -1,7 +1,7 @@
 -- Conditions of a box that are tested before all its quantifiers are bound.
 use Rattle.std.specs.Prelude.{ℕ, ◌≡◌, ◌==◌, ◌&&◌, Bool, true, false, List, [], drop}
 use Rattle.std.specs.List.{list_any}
-use Rattle.qgm_core.specs.Lists.{In}
+use Rattle.list_laws.specs.Lists.{In}
 use Rattle.qgm_core.specs.declared.node.Node.{Node}
 use Rattle.qgm_meaning.specs.Searches.{names_cond}
 use Rattle.qgm_meaning.specs.Values.{Environment, truth}

@@ -16,11 +16,12 @@ use crate::bindings::Bindings;
 use crate::combining::combined;
 use crate::early::{Early, early_conds, rejected};
 use crate::grouping::grouped;
+use crate::hashed::{all_kept, kept_selected};
 use crate::heads::{add_given, once_added};
 use crate::joining::{Join, outer_joined};
 use crate::probe::{probe_of, skips};
 use crate::source::{Source, Sub, made, push_sub};
-use crate::under::{Loop, Run, Under, is_f, loops, table_rows};
+use crate::under::{Loop, Run, Under, loops, table_rows};
 use qgm_core::{BoxKind, Node, SetOperator};
 use row_bag::{Bag, copied_rows};
 use shared_types::OutOfMemory;
@@ -146,6 +147,9 @@ fn selected<L: Ledger>(
     ensures counted { (start : ℕ) → Counted start steps.old count.old → Counted start steps.new count.new }
     ensures took { (kept : ℕ → Bool) → plan.KeepsAt at.now kept → IfOk result (λ bag. Between 0 (plan.cost_left at.now kept 0 (env_of env.now)) steps.old steps.new) }
 {
+    if all_kept(at.loops) {
+        return kept_selected(at, env);
+    }
     let mut out = Bag::new(at.run.alloc);
     let added = each(at, 0, Level::Yes, &*env, &mut out, steps, count);
     once_added(at.node.parts.distinct, added, out)
@@ -177,7 +181,7 @@ fn each<'x, L: Ledger>(
     let Some(l) = at.loops.get(k) else {
         return add_head(at, level, env, out, steps, count);
     };
-    if !is_f(l.range.kind) {
+    if !l.range.kind.is_f() {
         return each(at, k + 1, level, env, out, steps, count);
     }
     let rows = rows_under(at, l, env, steps, count)?;
@@ -228,7 +232,7 @@ fn subs<'a, L: Ledger>(
 {
     let mut subs = Vec::new(at.run.alloc);
     for l in at.loops {
-        if !is_f(l.range.kind) {
+        if !l.range.kind.is_f() {
             let rows = rows_under(at, l, env, steps, count);
             push_sub(&mut subs, l.range.id, rows)?;
         }

@@ -2,18 +2,17 @@
 ghost use Rattle.std.specs.Prelude.{◌≡◌, All, IfOk, drop, false};
 ghost use Rattle.box_exec.specs.Bound.{env_of};
 ghost use Rattle.box_exec.specs.Early.{IsEarly, is_none, is_open, names_any, reads_any, rejects};
-ghost use Rattle.qgm_core.specs.Kinds.{is_select};
 ghost use Rattle.qgm_terms.specs.Shown.{cond};
 
 use crate::bindings::Bindings;
 use crate::evaluation::hold;
 use crate::under::{Loop, Under};
-use qgm_core::{BoxKind, Gc, Node};
+use qgm_core::{Gc, Node};
 use qgm_terms::Sought;
 use shared_types::OutOfMemory;
 use sql_value::Level;
 use std::alloc::Global;
-use term_contents::stands_in_cond;
+use qgm_term_search::stands_in_cond;
 
 /// A condition of a box, and the place of the first quantifier before which it can be tested.
 #[derive(Clone, Copy)]
@@ -22,8 +21,8 @@ pub(crate) struct Early<'a> {
     pub cond: &'a Gc,
 }
 
-// Whether a box is evaluated anew there.
-fn is_open(under: Under<'_>) -> bool
+/// Whether a box is evaluated anew there.
+pub(crate) fn is_open(under: Under<'_>) -> bool
     ensures { result ≡ is_open under.entry }
 {
     match under {
@@ -55,16 +54,6 @@ fn place_from(c: &Gc, loops: &[Loop<'_>]) -> usize
     place
 }
 
-// Whether it is a select.
-fn is_select(kind: &BoxKind) -> bool
-    ensures { result ≡ is_select kind.now }
-{
-    match kind {
-        BoxKind::Select => true,
-        BoxKind::Base(_) | BoxKind::Group(_) | BoxKind::SetOp(_, _) | BoxKind::OuterJoin => false,
-    }
-}
-
 /// The conditions of a select that are tested as soon as the quantifiers that they read are bound: none
 /// where a box under one of these is evaluated anew, so that no evaluation is left out. It fails only for
 /// want of memory.
@@ -77,7 +66,7 @@ pub(crate) fn early_conds<'a>(
     ensures { IfOk result (λ made. All (λ e. IsEarly node.now loops.now e) made.items) }
 {
     let mut made = Vec::new(alloc);
-    if !is_select(&node.parts.kind) || loops.iter().any(|l| is_open(l.under)) {
+    if !node.parts.kind.is_select() || loops.iter().any(|l| is_open(l.under)) {
         return Ok(made);
     }
     for c in node.parts.conds.as_slice() {

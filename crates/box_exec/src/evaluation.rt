@@ -1,6 +1,6 @@
 // What expressions and conditions are.
 ghost use Rattle.std.specs.Prelude.{◌≡◌, IfOk, IsOkAnd, true, false, unwrap_or};
-ghost use Rattle.qgm_terms.specs.Shown.{choices, cond, conds, links, term};
+ghost use Rattle.qgm_terms.specs.Shown.{choices, cond, conds, links, sign, term};
 ghost use Rattle.qgm_terms.specs.Terms.{armed};
 ghost use Rattle.row_bag.specs.Bags.{if_there, total};
 ghost use Rattle.sql_value.specs.Arithmetic as arithmetic;
@@ -9,7 +9,7 @@ ghost use Rattle.sql_value.specs.Truths as truths;
 ghost use Rattle.sql_value.specs.declared.cell.Cell.{Cell};
 ghost use Rattle.box_exec.specs.Bound.{env_of};
 ghost use Rattle.box_exec.specs.Sources.{held_by};
-ghost use Rattle.box_exec.specs.Forms.{cell_held, compared_by};
+ghost use Rattle.box_exec.specs.Forms.{cell_held};
 ghost use Rattle.box_exec.specs.Lists as lists;
 ghost use Rattle.row_bag.specs.Subqueries as u;
 ghost use Rattle.qgm_meaning.specs.Values as meaning;
@@ -17,7 +17,7 @@ ghost use Rattle.qgm_meaning.specs.Values as meaning;
 use crate::bindings::{Bindings, column};
 use crate::operand::{Operand, standing};
 use crate::source::{Sub, rows_of};
-use qgm_terms::{Arm, Gc, Gx, Link, Op, QuantId};
+use qgm_terms::{Arm, Gc, Gx, Link, Op, QuantId, Sign};
 use row_bag::{Row, presence, scalar};
 use shared_types::OutOfMemory;
 use sql_value::{
@@ -50,40 +50,33 @@ fn operate(alloc: Global, op: Op, a: &Cell, b: &Cell) -> Result<Cell, OutOfMemor
 
 // What a comparison makes of the cells of its two operands.
 #[inline(never)]
-fn comparison(p: &Gc, a: &Cell, b: &Cell) -> Truth
-    ensures { result ≡ compared_by p.now a.now b.now }
+fn comparison(s: Sign, a: &Cell, b: &Cell) -> Truth
+    ensures { result ≡ meaning.compared (sign s) a.now b.now }
 {
-    match p {
-        Gc::Eq(_, _) => compare(CmpOp::Eq, a, b),
-        Gc::Ne(_, _) => compare(CmpOp::Ne, a, b),
-        Gc::Lt(_, _) => compare(CmpOp::Lt, a, b),
-        Gc::Le(_, _) => compare(CmpOp::Le, a, b),
-        Gc::Gt(_, _) => compare(CmpOp::Gt, a, b),
-        Gc::Ge(_, _) => compare(CmpOp::Ge, a, b),
-        Gc::Same(_, _) => same(a, b),
-        Gc::Like(_, _) => like(a, b),
-        Gc::True
-        | Gc::IsNull(_)
-        | Gc::All(_, _)
-        | Gc::Any(_, _)
-        | Gc::Not(_)
-        | Gc::Some(_, _)
-        | Gc::Every(_, _) => decided(true),
+    match s {
+        Sign::Eq => compare(CmpOp::Eq, a, b),
+        Sign::Ne => compare(CmpOp::Ne, a, b),
+        Sign::Lt => compare(CmpOp::Lt, a, b),
+        Sign::Le => compare(CmpOp::Le, a, b),
+        Sign::Gt => compare(CmpOp::Gt, a, b),
+        Sign::Ge => compare(CmpOp::Ge, a, b),
+        Sign::Same => same(a, b),
+        Sign::Like => like(a, b),
     }
 }
 
 // What a comparison makes of its two operands.
 #[inline(never)]
 fn compared(
-    p: &Gc,
+    s: Sign,
     a: Result<Operand<'_>, OutOfMemory>,
     b: Result<Operand<'_>, OutOfMemory>,
 ) -> Result<Truth, OutOfMemory>
-    ensures { IfOk result (λ truth. IsOkAnd a.entry (λ x. IsOkAnd b.entry (λ y. truth ≡ compared_by p.now (cell_held x) (cell_held y)))) }
+    ensures { IfOk result (λ truth. IsOkAnd a.entry (λ x. IsOkAnd b.entry (λ y. truth ≡ meaning.compared (sign s) (cell_held x) (cell_held y)))) }
 {
     let a = a?;
     let b = b?;
-    Ok(comparison(p, a.cell(), b.cell()))
+    Ok(comparison(s, a.cell(), b.cell()))
 }
 
 // Whether a cell is null.
@@ -130,20 +123,7 @@ pub fn value(alloc: Global, x: &Gx, subs: &[Sub<'_>], env: &Bindings) -> Result<
             or_last(alloc, found, last, subs, env)
         }
         // An aggregate is a cell of a group alone.
-        Gx::NullInt
-        | Gx::NullText
-        | Gx::CountAll
-        | Gx::Single(_)
-        | Gx::Count(_)
-        | Gx::Sum(_)
-        | Gx::Avg(_)
-        | Gx::Min(_)
-        | Gx::Max(_)
-        | Gx::CountDistinct(_)
-        | Gx::SumDistinct(_)
-        | Gx::AvgDistinct(_)
-        | Gx::MinDistinct(_)
-        | Gx::MaxDistinct(_) => Ok(Cell::Null),
+        Gx::NullInt | Gx::NullText | Gx::CountAll | Gx::Fold(_, _, _) => Ok(Cell::Null),
     }
 }
 
@@ -233,16 +213,9 @@ pub fn hold(alloc: Global, p: &Gc, subs: &[Sub<'_>], env: &Bindings) -> Result<T
 {
     match p {
         Gc::True => Ok(decided(true)),
-        Gc::Eq(a, b)
-        | Gc::Ne(a, b)
-        | Gc::Lt(a, b)
-        | Gc::Le(a, b)
-        | Gc::Gt(a, b)
-        | Gc::Ge(a, b)
-        | Gc::Same(a, b)
-        | Gc::Like(a, b) => {
+        Gc::Compare(s, a, b) => {
             let left = operand(alloc, a, subs, env);
-            compared(p, left, operand(alloc, b, subs, env))
+            compared(*s, left, operand(alloc, b, subs, env))
         }
         Gc::IsNull(a) => null_test(value(alloc, a, subs, env)),
         Gc::All(a, list) => {

@@ -3,9 +3,10 @@ ghost use Rattle.std.specs.Prelude.{◌≡◌, ◌≤◌, ◌∷◌, [], ◌++�
 ghost use Rattle.box_exec.specs.Bound.{env_of};
 ghost use Rattle.box_exec.specs.Groups as spec;
 ghost use Rattle.box_exec.specs.Sources.{held};
+ghost use Rattle.qgm_meaning.specs.Aggregated as a;
 ghost use Rattle.qgm_meaning.specs.Meaning as m;
 ghost use Rattle.qgm_meaning.specs.Values as v;
-ghost use Rattle.qgm_terms.specs.Shown.{term, terms};
+ghost use Rattle.qgm_terms.specs.Shown.{aggregate, taken, term, terms};
 ghost use Rattle.row_bag.specs.Aggregates.{folded};
 ghost use Rattle.row_bag.specs.Bags.{Alike, at_yes, bind, row, unit};
 ghost use Rattle.row_bag.specs.Errors.{error_among, error_in};
@@ -84,23 +85,37 @@ fn folded_over(
     folded(alloc, f, each, arguments)
 }
 
+// An aggregate of an expression, as one of cells.
+fn aggregate_of(f: qgm_terms::Aggregate) -> Aggregate
+    ensures { result ≡ a.aggregate_of (aggregate f) }
+{
+    match f {
+        qgm_terms::Aggregate::Single => Aggregate::Single,
+        qgm_terms::Aggregate::Count => Aggregate::Count,
+        qgm_terms::Aggregate::Sum => Aggregate::Sum,
+        qgm_terms::Aggregate::Avg => Aggregate::Avg,
+        qgm_terms::Aggregate::Min => Aggregate::Min,
+        qgm_terms::Aggregate::Max => Aggregate::Max,
+    }
+}
+
+// Which cells an aggregate takes.
+fn taken_of(each: qgm_terms::Taken) -> Taken
+    ensures { result ≡ a.taken_of (taken each) }
+{
+    match each {
+        qgm_terms::Taken::All => Taken::All,
+        qgm_terms::Taken::Once => Taken::Distinct,
+    }
+}
+
 // A cell of a group that isn't of its key.
 fn fold_cell(alloc: Global, x: &Gx, over: &Members<'_>) -> Result<Cell, OutOfMemory>
     ensures { IfOk result (λ cell. cell ≡ m.fold_cell over.now.quant (env_of over.now.env.now) (spec.without_keys over.now.keys over.now.rows.now) (term x.now)) }
 {
     match x {
         Gx::CountAll => Ok(count_rows(over.rows)),
-        Gx::Single(a) => folded_over(alloc, Aggregate::Single, Taken::All, a, over),
-        Gx::Count(a) => folded_over(alloc, Aggregate::Count, Taken::All, a, over),
-        Gx::Sum(a) => folded_over(alloc, Aggregate::Sum, Taken::All, a, over),
-        Gx::Avg(a) => folded_over(alloc, Aggregate::Avg, Taken::All, a, over),
-        Gx::Min(a) => folded_over(alloc, Aggregate::Min, Taken::All, a, over),
-        Gx::Max(a) => folded_over(alloc, Aggregate::Max, Taken::All, a, over),
-        Gx::CountDistinct(a) => folded_over(alloc, Aggregate::Count, Taken::Distinct, a, over),
-        Gx::SumDistinct(a) => folded_over(alloc, Aggregate::Sum, Taken::Distinct, a, over),
-        Gx::AvgDistinct(a) => folded_over(alloc, Aggregate::Avg, Taken::Distinct, a, over),
-        Gx::MinDistinct(a) => folded_over(alloc, Aggregate::Min, Taken::Distinct, a, over),
-        Gx::MaxDistinct(a) => folded_over(alloc, Aggregate::Max, Taken::Distinct, a, over),
+        Gx::Fold(f, each, a) => folded_over(alloc, aggregate_of(*f), taken_of(*each), a, over),
         Gx::Chain(a, list) => {
             if list.is_empty() {
                 fold_cell(alloc, a, over)
@@ -165,7 +180,7 @@ struct KeyedRows {
     error: Option<Kind>,
 }
 
-// The same of each row, and the greatest error.
+// Each row behind its key, and the greatest error among their levels and keys.
 fn keyed_rows(
     alloc: Global,
     keys: &[Gx],

@@ -18,8 +18,8 @@ ghost use Rattle.row_bag.specs.declared.tables.Table.{Table};
 use crate::bindings::Bindings;
 use crate::boxes::{evaluated, step};
 use crate::source::Source;
-use crate::under::{Place, Run, behind, is_f, kept, place_of};
-use qgm_core::{BoxKind, Distinct, Node, OwnedQuant};
+use crate::under::{Place, Run, behind, kept, place_of};
+use qgm_core::{BoxKind, Node, OwnedQuant};
 use qgm_terms::{Gx, QuantId};
 use row_bag::{Bag, Row, Tables};
 use shared_types::OutOfMemory;
@@ -49,16 +49,6 @@ fn in_order(list: &[Gx], q: QuantId) -> bool
     true
 }
 
-// Whether each row is to come once.
-fn is_enforced(distinct: Distinct) -> bool
-    ensures { result ≡ kinds.is_enforce distinct }
-{
-    match distinct {
-        Distinct::Enforce => true,
-        Distinct::Preserve | Distinct::Permit => false,
-    }
-}
-
 // Whether a box is a select of all rows.
 fn takes_all(node: &Node) -> bool
     ensures kind { result ≡ true → node.now.parts.kind ≡ kind.Select }
@@ -66,7 +56,7 @@ fn takes_all(node: &Node) -> bool
     ensures unfiltered { result ≡ true → node.now.parts.conds.items ≡ [] }
 {
     match &node.parts.kind {
-        BoxKind::Select => !is_enforced(node.parts.distinct) && node.parts.conds.len() == 0,
+        BoxKind::Select => !node.parts.distinct.is_enforce() && node.parts.conds.len() == 0,
         BoxKind::Base(_) | BoxKind::Group(_) | BoxKind::SetOp(_, _) | BoxKind::OuterJoin => false,
     }
 }
@@ -78,7 +68,7 @@ fn handed_on(node: &Node) -> Option<OwnedQuant>
     let [r] = node.quants.as_slice() else {
         return None;
     };
-    if takes_all(node) && is_f(r.kind) && in_order(node.parts.head.as_slice(), r.id) {
+    if takes_all(node) && r.kind.is_f() && in_order(node.parts.head.as_slice(), r.id) {
         Some(*r)
     } else {
         None

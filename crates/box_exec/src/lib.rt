@@ -10,6 +10,7 @@ mod evaluation;
 mod execution;
 mod grouping;
 mod handed_on;
+mod hashed;
 mod heads;
 mod joining;
 mod laws;

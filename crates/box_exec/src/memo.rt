@@ -5,7 +5,7 @@ ghost use Rattle.box_exec.specs.Costs.{Between, Keeps, asked, is_held};
 ghost use Rattle.box_exec.specs.Counted.{Counted};
 ghost use Rattle.box_exec.specs.Kept.{KeptAs, is_nil, kept_costs, kept_number};
 ghost use Rattle.box_exec.specs.Ready.{AllFit, Entry, Fit, Holds, Ready};
-ghost use Rattle.qgm_core.specs.Lists.{holds};
+ghost use Rattle.list_laws.specs.Lists.{holds};
 ghost use Rattle.qgm_meaning.specs.Meaning.{bag_in};
 ghost use Rattle.qgm_meaning.specs.Plain.{counted_by};
 
@@ -67,7 +67,7 @@ fn entry<'t, L: Ledger>(
     }
 }
 
-// The same if the box is to be kept.
+// The rows of a box, if it is to be kept.
 fn entry_if<'t, L: Ledger>(
     keep: bool,
     alloc: Global,

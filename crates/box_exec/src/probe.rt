@@ -8,11 +8,11 @@ use crate::bindings::{Bindings, cell_at};
 use crate::early::{Early, is_none};
 use crate::evaluation::value;
 use qgm_core::{Gc, Gx, QuantId};
-use qgm_terms::Sought;
+use qgm_term_search::stands_in;
+use qgm_terms::{Sign, Sought};
 use shared_types::OutOfMemory;
 use sql_value::{Cell, CmpOp, compare};
 use std::alloc::Global;
-use term_contents::stands_in;
 
 /// A column, and the cell that it is to equal in a row.
 #[derive(Drop)]
@@ -21,15 +21,15 @@ pub(crate) struct Probe {
     pub cell: Cell,
 }
 
-// A column of a quantifier, and an expression that reads no row of it.
+/// A column of a quantifier, and an expression that reads no row of it.
 #[derive(Clone, Copy)]
-struct Sides<'a> {
-    column: usize,
-    other: &'a Gx,
+pub(crate) struct Sides<'a> {
+    pub column: usize,
+    pub other: &'a Gx,
 }
 
-// Two expressions as these, if they are so.
-fn sides_of<'a>(a: &Gx, b: &'a Gx, q: QuantId) -> Option<Sides<'a>>
+/// Two expressions as these, if they are so.
+pub(crate) fn sides_of<'a>(a: &Gx, b: &'a Gx, q: QuantId) -> Option<Sides<'a>>
     ensures { IfSome result (λ s. spec.AreSides q (term a.now) (term b.now) s) }
 {
     let Gx::Col(r, column) = a else {
@@ -44,13 +44,16 @@ fn sides_of<'a>(a: &Gx, b: &'a Gx, q: QuantId) -> Option<Sides<'a>>
     })
 }
 
-// The operands of an equality as these, if one of them is a column of the quantifier.
-fn equated<'a>(c: &'a Gc, q: QuantId) -> Option<Sides<'a>>
+/// The operands of an equality as these, if one of them is a column of the quantifier.
+pub(crate) fn equated<'a>(c: &'a Gc, q: QuantId) -> Option<Sides<'a>>
     ensures { IfSome result (λ s. spec.Equates q (cond c.now) s) }
 {
-    let Gc::Eq(a, b) = c else {
+    let Gc::Compare(s, a, b) = c else {
         return None;
     };
+    if *s != Sign::Eq {
+        return None;
+    }
     match sides_of(a, b, q) {
         Some(found) => Some(found),
         None => sides_of(b, a, q),

@@ -3,12 +3,11 @@ ghost use Rattle.std.specs.Prelude.{◌≡◌, ◌+◌, ◌<◌, All, None, fals
 ghost use Rattle.box_exec.specs.Costs.{is_held};
 ghost use Rattle.box_exec.specs.Ready.{Held, Ready, Stands};
 ghost use Rattle.qgm_core.specs.Boxes.{is_box};
-ghost use Rattle.qgm_core.specs.Kinds.{is_F};
 ghost use Rattle.qgm_meaning.specs.Meaning.{rows_or_none};
 ghost use Rattle.row_bag.specs.Tables.{bag_named};
 
 use crate::source::Source;
-use qgm_core::{BoxId, Node, OwnedQuant, QuantKind};
+use qgm_core::{BoxId, Node, OwnedQuant};
 use row_bag::{Row, Tables};
 use shared_types::{OutOfMemory, Text};
 use std::alloc::Global;
@@ -42,16 +41,6 @@ pub(crate) enum Under<'a> {
 pub(crate) struct Loop<'a> {
     pub range: OwnedQuant,
     pub under: Under<'a>,
-}
-
-/// Whether rows are bound to a quantifier of this kind.
-pub(crate) fn is_f(kind: QuantKind) -> bool
-    ensures { result ≡ is_F kind }
-{
-    match kind {
-        QuantKind::F => true,
-        QuantKind::E | QuantKind::A | QuantKind::S => false,
-    }
 }
 
 /// Where the first box of this number stands.

@@ -4,7 +4,7 @@ use Rattle.generated_input.specs.Made.{made}
 use Rattle.row_bag.specs.declared.tables.Table.{Table}
 use Rattle.sql_ast.specs.Declarations.{Declared}
 use Rattle.sql_ast.specs.Syntax as s
-use Rattle.query_checks.specs.Views.{view_refusal}
+use Rattle.sql_faults.specs.Views.{view_refusal}
 use Rattle.command_input.specs.Generated.{generated, made_catalog, made_query, made_views, query_text, schema_text}
 use Rattle.command_input.specs.Questions.{Found}
 use Rattle.command_input.specs.Texts.{catalog_of, valid_query}

@@ -6,7 +6,7 @@ use Rattle.sql_ast.specs.Declarations.{Declared, views_of}
 use Rattle.sql_ast.specs.Grammatical.{are_elements, are_statements, is_query, some_of}
 use Rattle.sql_ast.specs.Syntax as s
 use Rattle.sql_catalog.specs.Catalog.{all_of, declared, fault, unless}
-use Rattle.built_queries.specs.Buildable.{AreQueries}
+use Rattle.qgm_translation_laws.specs.Buildable.{AreQueries}
 
 abbrev IsOfGrammar : s.ViewDecl → Type 0
 IsOfGrammar view = is_query view.query ≡ true

@@ -5,3 +5,4 @@ pub mod MadeFits
 pub mod Fixed
 pub mod Asking
 pub mod Grammar
+pub mod NeverRefused

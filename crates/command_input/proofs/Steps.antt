@@ -10,7 +10,7 @@ use Rattle.io_edge.proofs.Order.{comes-bind, comes-bind-faulted, comes-bind-star
 use Rattle.row_bag.specs.declared.tables.Table.{Table}
 use Rattle.sql_ast.specs.Syntax as s
 use Rattle.sql_ast.specs.Declarations.{Declared}
-use Rattle.query_checks.specs.Views.{view_refusal}
+use Rattle.sql_faults.specs.Views.{view_refusal}
 use Rattle.command_input.specs.Questions.{Found}
 use Rattle.command_input.specs.Stages.{found_end, from_tables, with_catalog, with_query, with_tables, with_views}
 use Rattle.command_input.specs.Texts.{catalog_of, valid_query}

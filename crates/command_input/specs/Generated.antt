@@ -3,7 +3,7 @@ use Rattle.std.specs.Prelude.{ℕ, List, codes, Option, Some, None, Result, Ok, 
 use Rattle.generated_input.specs.Made.{made}
 use Rattle.sql_ast.specs.Declarations.{Declared}
 use Rattle.sql_ast.specs.Syntax as s
-use Rattle.query_checks.specs.Views.{view_refusal}
+use Rattle.sql_faults.specs.Views.{view_refusal}
 use Rattle.command_input.specs.Questions.{Found}
 use Rattle.command_input.specs.Texts.{catalog_of, valid_query}
 use Rattle.command_input.specs.declared.report.Report.TheVariants.{SchemaRefused, ViewRefused, QueryRefused}

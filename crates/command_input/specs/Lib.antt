@@ -4,3 +4,4 @@ pub mod Texts
 pub mod Questions
 pub mod Generated
 pub mod Stages
+pub mod Unrefused

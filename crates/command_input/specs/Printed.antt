@@ -41,6 +41,6 @@ printed (QueryRefused number) = codes "QUERY Q" ++ (decimal number ++ codes "\n"
 abbrev pub said_of : Report → Said
 said_of report = record { status = status_of report; text = printed report }
 
--- the same of a read that failed: the name that was asked for
+-- status 3, and the name whose read failed
 abbrev pub read_failed : List ℕ → Said
 read_failed name = record { status = 3; text = codes "READ " ++ (name ++ codes "\n") }

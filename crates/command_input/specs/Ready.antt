@@ -13,12 +13,12 @@ use Rattle.sql_check.specs.declared.checked.Checked.{Checked}
 use Rattle.sql_check.specs.declared.checked.Views.{Views}
 use Rattle.sql_meaning.specs.Meaning.{answer, known_of, order_key}
 use Rattle.sql_meaning.specs.ResolvedShown as shown
-use Rattle.query_checks.specs.Columns.{columns}
-use Rattle.query_checks.specs.Laws.{column_names}
-use Rattle.query_checks.specs.Views.{fault as query_fault, heads_of}
-use Rattle.name_resolution.specs.Resolved.{query}
-use Rattle.name_resolution.specs.Schema.{schema_columns}
-use Rattle.built_queries.specs.Buildable.{AreQueries}
+use Rattle.sql_faults.specs.Columns.{columns}
+use Rattle.sql_faults.specs.Laws.{column_names}
+use Rattle.sql_faults.specs.Views.{fault as query_fault, heads_of}
+use Rattle.sql_names.specs.Resolved.{query}
+use Rattle.sql_names.specs.Schema.{schema_columns}
+use Rattle.qgm_translation_laws.specs.Buildable.{AreQueries}
 use Rattle.command_input.specs.declared.question.Found.{Found}
 use Rattle.command_input.specs.declared.question.Found.TheVariants.{Asked, Refused}
 use Rattle.command_input.specs.declared.question.Question.{Question}

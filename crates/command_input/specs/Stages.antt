@@ -10,7 +10,7 @@ use Rattle.io_edge.specs.declared.fetch.Interruption.TheVariants.{ReadFault, Mem
 use Rattle.row_bag.specs.declared.tables.Table.{Table}
 use Rattle.sql_ast.specs.Syntax as s
 use Rattle.sql_ast.specs.Declarations.{Declared}
-use Rattle.query_checks.specs.Views.{view_refusal}
+use Rattle.sql_faults.specs.Views.{view_refusal}
 use Rattle.command_input.specs.Questions.{Found, found_of}
 use Rattle.command_input.specs.Texts.{catalog_of, valid_query}
 use Rattle.command_input.specs.declared.question.Found as held

@@ -3,7 +3,7 @@ use Rattle.std.specs.Prelude.{ℕ, zero, suc, ◌≡◌, ⊤, Bool, true, false,
 use Rattle.sql_ast.specs.Syntax as s
 use Rattle.sql_ast.specs.Declarations.{Declared}
 use Rattle.sql_catalog.specs.Catalog.{declared}
-use Rattle.query_checks.specs.Views.{fault}
+use Rattle.sql_faults.specs.Views.{fault}
 use Rattle.sql_parser.specs.ReadSchema.{schema_tree}
 use Rattle.sql_parser.specs.ReadText.{query_tree}
 use Rattle.sql_text.specs.Depth.{too_deep}

@@ -2,8 +2,8 @@
 ghost use Rattle.std.specs.Prelude.{◌≡◌, ◌≢◌, ◌<◌, ◌^◌, IfOk, None, Ok, Some};
 ghost use Rattle.sql_catalog.specs.Catalog.{fault};
 ghost use Rattle.sql_catalog.specs.Shown as catalogs;
-ghost use Rattle.query_checks.specs.Views.{view_refusal};
-ghost use Rattle.built_queries.specs.Buildable.{AreQueries};
+ghost use Rattle.sql_faults.specs.Views.{view_refusal};
+ghost use Rattle.qgm_translation_laws.specs.Buildable.{AreQueries};
 ghost use Rattle.command_input.specs.declared.question.Found.TheVariants.{Refused};
 ghost use Rattle.command_input.specs.declared.report.Report.TheVariants.{Usage};
 ghost use Rattle.command_input.specs.Ready.{AreReady, IsFoundReady};
@@ -15,7 +15,7 @@ use crate::question::{Found, Question};
 use crate::report::Report;
 use crate::texts::{TextRefusal, read_catalog, read_query};
 use generated_input::made;
-use query_checks::ViewRefusal;
+use sql_faults::ViewRefusal;
 use shared_types::OutOfMemory;
 use sql_catalog::Catalog;
 use sql_check::{Views, check_views};
@@ -64,7 +64,7 @@ fn question(
     }
 }
 
-// The same over the views of a catalog, or the first that isn't valid.
+// The question over the views of a catalog, or the first view that isn't valid.
 fn question_over(
     alloc: Global,
     seed: u64,

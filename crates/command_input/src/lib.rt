@@ -3,12 +3,14 @@
 #![tactic(auto)]
 
 mod generating;
+mod laws;
 mod question;
 mod report;
 mod stages;
 mod texts;
 
 pub use generating::generated;
+pub use laws::generated_laws;
 pub use question::{Found, Question};
 pub use report::{Report, Said, say_fault};
 pub use stages::find_question;

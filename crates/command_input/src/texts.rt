@@ -1,7 +1,7 @@
 // From the two texts to a catalog and a checked query.
 ghost use Rattle.std.specs.Prelude.{◌≡◌, true, IfOk};
-ghost use Rattle.built_queries.specs.Buildable.{AreQueries};
-ghost use Rattle.query_checks.specs.Views.{fault};
+ghost use Rattle.qgm_translation_laws.specs.Buildable.{AreQueries};
+ghost use Rattle.sql_faults.specs.Views.{fault};
 ghost use Rattle.sql_ast.specs.Grammatical.{are_statements, is_query};
 ghost use Rattle.sql_ast.specs.Shown as shown;
 ghost use Rattle.sql_catalog.specs.Shown as catalogs;
@@ -11,7 +11,7 @@ ghost use Rattle.command_input.specs.Ready.{AreReady, IsChecked};
 ghost use Rattle.command_input.specs.Texts.{Gives, catalog_of, query_of, refused_by, schema_of, spans_of, tree_of, valid_query};
 ghost use Rattle.command_input.specs.declared.texts.TextRefusal.TheVariants.{Memory};
 
-use query_checks::QueryRefusal;
+use sql_faults::QueryRefusal;
 use shared_types::OutOfMemory;
 use sql_ast::{QueryText, Schema};
 use sql_catalog::{Catalog, SchemaRefusal, build};

@@ -7,7 +7,7 @@ use Rattle.std.proofs.lemmas.Bool.{ne_eqb}
 use Rattle.std.proofs.lemmas.List.Elements.{All-from_get_or}
 use Rattle.std.proofs.lemmas.List.Splits.{slice_split_first, slice_split_none}
 use Rattle.std.proofs.lemmas.Str.Pattern.{IsSplitOnceResult, split_once_first, split_parts}
-use Rattle.rewrite_plan.specs.declared.classes.Class.{Class}
+use Rattle.rule_plan.specs.declared.classes.Class.{Class}
 use Rattle.command_line.specs.Classes.{classes_with, with_class}
 
 one : (o : Option (List Class)) → option_and_then (λ more. Some more) o ≡ o

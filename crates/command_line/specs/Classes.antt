@@ -3,9 +3,9 @@ use Rattle.std.specs.Prelude.{List, [], ◌∷◌, ◌++◌, Option, Some, None,
 use Rattle.std.specs.List.{slice_split}
 use Rattle.std.specs.Str.{bytes_eq}
 use Rattle.clap.specs.Words.{Text}
-use Rattle.rewrite_plan.specs.Standing.{has_class}
-use Rattle.rewrite_plan.specs.declared.classes.Class.{Class}
-use Rattle.rewrite_plan.specs.declared.classes.Class.TheVariants.{Merge, Subquery, Distinct, Push, Trans, Prune, Magic}
+use Rattle.rule_plan.specs.Standing.{has_class}
+use Rattle.rule_plan.specs.declared.classes.Class.{Class}
+use Rattle.rule_plan.specs.declared.classes.Class.TheVariants.{Merge, Subquery, Distinct, Push, Trans, Prune, Magic}
 use Rattle.command_line.specs.Named.{◌>>=◌, named}
 
 abbrev pub class_named : Text → Option Class

@@ -1,7 +1,7 @@
 -- A command line, without the addresses of its texts.
 use Rattle.std.specs.Prelude.{ℕ, ◌&&◌, nat_le, Bool, true, false}
 use Rattle.clap.specs.Words.{Text}
-use Rattle.rewrite_plan.specs.declared.plan.Plan.{Plan}
+use Rattle.rule_plan.specs.declared.plan.Plan.{Plan}
 use Rattle.command_line.specs.Command.{greatest_rows, greatest_seed}
 use Rattle.command_line.specs.declared.task.Line.{Line}
 use Rattle.command_line.specs.declared.task.Task.{Task}

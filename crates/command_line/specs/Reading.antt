@@ -6,11 +6,11 @@ use Rattle.std.specs.Str.{bytes_eq}
 use Rattle.std.specs.Char.{digit_value}
 use Rattle.std.specs.Str.Parse.{digits_value, without_leading_plus}
 use Rattle.clap.specs.Words.{Kinds, Row, Text, fault_of, first_of, subcommand_of}
-use Rattle.rewrite_plan.specs.declared.plan.Order.{Order}
-use Rattle.rewrite_plan.specs.declared.plan.Order.TheVariants.{Sequence, Priority, Scatter}
-use Rattle.rewrite_plan.specs.declared.plan.Plan.{Plan}
-use Rattle.rewrite_plan.specs.declared.plan.Walk.{Walk}
-use Rattle.rewrite_plan.specs.declared.plan.Walk.TheVariants.{Depth, Breadth}
+use Rattle.rule_plan.specs.declared.plan.Order.{Order}
+use Rattle.rule_plan.specs.declared.plan.Order.TheVariants.{Sequence, Priority, Scatter}
+use Rattle.rule_plan.specs.declared.plan.Plan.{Plan}
+use Rattle.shared_types.specs.declared.walk.Walk.{Walk}
+use Rattle.shared_types.specs.declared.walk.Walk.TheVariants.{Depth, Breadth}
 use Rattle.command_line.specs.Classes.{classes_named}
 use Rattle.command_line.specs.Command.{line_app}
 use Rattle.command_line.specs.Line.{LineText, TaskText, run, explain, gen, is_taken}

@@ -4,7 +4,7 @@ ghost use Rattle.std.specs.List.{slice_split};
 ghost use Rattle.command_line.specs.Classes.{class_named, classes_named, classes_with, with_class};
 
 use crate::refusal::WordsRefusal;
-use rewrite_plan::{Class, Classes};
+use rule_plan::{Class, Classes};
 use std::alloc::Global;
 
 // The class that a text names.

@@ -12,7 +12,8 @@ use crate::refusal::WordsRefusal;
 use crate::task::{Line, Task, is_taken};
 use clap::ArgMatches;
 use clap::error::ErrorKind;
-use rewrite_plan::{Order, Plan, Walk};
+use rule_plan::{Order, Plan};
+use shared_types::Walk;
 use std::alloc::Global;
 
 // The number that a text writes, which `clap` has tested.

@@ -2,7 +2,7 @@
 ghost use Rattle.std.specs.Prelude.{◌≡◌};
 ghost use Rattle.command_line.specs.Line.{is_taken, task_text};
 
-use rewrite_plan::Plan;
+use rule_plan::Plan;
 
 /// A command with its arguments.
 #[derive(Clone, Copy)]

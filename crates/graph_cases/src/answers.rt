@@ -5,7 +5,7 @@ use crate::items::number;
 use crate::known::{need, need_box, need_quant};
 use qgm_check::{IllFormed, check_graph};
 use qgm_core::{BoxId, Graph, Quant, QuantId, QuantKind, Walk};
-use qgm_formed::{Clause, Fault};
+use qgm_wellformed::{Clause, Fault};
 use sql_value::OrderKey;
 use std::alloc::Global;
 use std::str::SplitWhitespace;

@@ -4,7 +4,7 @@ use crate::sketch::Sketch;
 use qgm_core::{BaseTable, BoxKind, Gc, Graph, Gx, Node, OwnedQuant};
 use sqlite_items::Items;
 use std::alloc::Global;
-use term_contents::{same_cond, same_term};
+use qgm_term_search::{same_cond, same_term};
 
 // Whether two lists of expressions are the same.
 fn same_cells(alloc: Global, xs: &[Gx], ys: &[Gx]) -> Result<bool, LineError> {

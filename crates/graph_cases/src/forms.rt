@@ -2,7 +2,7 @@
 use crate::faults::LineError;
 use crate::items::{Item, number};
 use qgm_core::{Arm, Gc, Gx, Op};
-use qgm_terms::{anded, chained, negated, ored};
+use qgm_terms::{Aggregate, Sign, Taken, anded, chained, negated, ored};
 use shared_types::Text;
 use std::alloc::Global;
 use std::vec::IntoIter;
@@ -134,7 +134,7 @@ fn of_one_cond(alloc: Global, word: &str, c: Box<Gc>) -> Result<Item, LineError>
     }
 }
 
-// Both of two conditions.
+// `(and c d)`.
 fn both_conds(alloc: Global, c: Box<Gc>, d: Box<Gc>) -> Result<Item, LineError> {
     cond(alloc, anded(alloc, Box::into_inner(c), Box::into_inner(d))?)
 }
@@ -153,21 +153,31 @@ fn of_conds(alloc: Global, word: &str, c: Box<Gc>, d: Box<Gc>) -> Result<Item, L
     }
 }
 
+// The aggregate that a word names.
+fn aggregate(word: &str) -> Option<(Aggregate, Taken)> {
+    match word {
+        "single" => Some((Aggregate::Single, Taken::All)),
+        "count" => Some((Aggregate::Count, Taken::All)),
+        "sum" => Some((Aggregate::Sum, Taken::All)),
+        "avg" => Some((Aggregate::Avg, Taken::All)),
+        "min" => Some((Aggregate::Min, Taken::All)),
+        "max" => Some((Aggregate::Max, Taken::All)),
+        "count-distinct" => Some((Aggregate::Count, Taken::Once)),
+        "sum-distinct" => Some((Aggregate::Sum, Taken::Once)),
+        "avg-distinct" => Some((Aggregate::Avg, Taken::Once)),
+        "min-distinct" => Some((Aggregate::Min, Taken::Once)),
+        "max-distinct" => Some((Aggregate::Max, Taken::Once)),
+        _ => None,
+    }
+}
+
 // `(neg x)`, the aggregates of a cell, `(isnull x)`.
 fn of_one_cell(alloc: Global, word: &str, x: Box<Gx>) -> Result<Item, LineError> {
+    if let Some((f, each)) = aggregate(word) {
+        return cell(alloc, Gx::Fold(f, each, x));
+    }
     let made = match word {
         "neg" => Gx::Neg(x),
-        "single" => Gx::Single(x),
-        "count" => Gx::Count(x),
-        "sum" => Gx::Sum(x),
-        "avg" => Gx::Avg(x),
-        "min" => Gx::Min(x),
-        "max" => Gx::Max(x),
-        "count-distinct" => Gx::CountDistinct(x),
-        "sum-distinct" => Gx::SumDistinct(x),
-        "avg-distinct" => Gx::AvgDistinct(x),
-        "min-distinct" => Gx::MinDistinct(x),
-        "max-distinct" => Gx::MaxDistinct(x),
         "isnull" => return cond(alloc, Gc::IsNull(x)),
         _ => return Err(no_form()),
     };
@@ -186,6 +196,21 @@ fn operation(word: &str) -> Option<Op> {
     }
 }
 
+// The comparison that a word names.
+fn comparison(word: &str) -> Option<Sign> {
+    match word {
+        "eq" => Some(Sign::Eq),
+        "ne" => Some(Sign::Ne),
+        "lt" => Some(Sign::Lt),
+        "le" => Some(Sign::Le),
+        "gt" => Some(Sign::Gt),
+        "ge" => Some(Sign::Ge),
+        "same" => Some(Sign::Same),
+        "like" => Some(Sign::Like),
+        _ => None,
+    }
+}
+
 // An operation on two values.
 fn operated(alloc: Global, x: Box<Gx>, op: Op, y: Box<Gx>) -> Result<Item, LineError> {
     cell(
@@ -199,18 +224,10 @@ fn of_cells(alloc: Global, word: &str, x: Box<Gx>, y: Box<Gx>) -> Result<Item, L
     if let Some(op) = operation(word) {
         return operated(alloc, x, op, y);
     }
-    let made = match word {
-        "eq" => Gc::Eq(x, y),
-        "ne" => Gc::Ne(x, y),
-        "lt" => Gc::Lt(x, y),
-        "le" => Gc::Le(x, y),
-        "gt" => Gc::Gt(x, y),
-        "ge" => Gc::Ge(x, y),
-        "same" => Gc::Same(x, y),
-        "like" => Gc::Like(x, y),
-        _ => return Err(no_form()),
-    };
-    cond(alloc, made)
+    match comparison(word) {
+        Some(s) => cond(alloc, Gc::Compare(s, x, y)),
+        None => Err(no_form()),
+    }
 }
 
 // `(some q c)`, `(every q c)`.

@@ -1,7 +1,7 @@
 // The graph of what a script writes.
 ghost use Rattle.std.specs.Prelude.{◌≡◌, ◌++◌, [], true, IfOk, OnOk, IsTrue, map};
 ghost use Rattle.qgm_core.specs.Boxes.{ids_in};
-ghost use Rattle.qgm_core.specs.Lists.{EachOnce};
+ghost use Rattle.list_laws.specs.Lists.{EachOnce};
 ghost use Rattle.qgm_core.specs.Made.{boxes_of};
 ghost use Rattle.qgm_core.specs.Numbered.{Under};
 

@@ -1,6 +1,6 @@
 -- Places in a list that grows.
 use Rattle.std.proofs.Common.{◌≡◌, refl, ℕ, suc, ◌+◌, ◌==◌, ◌||◌, cond, Bool, true, false, List, [], ◌∷◌, ◌++◌, Some, None, ap, ◌∙◌, length, arith}
-use Rattle.qgm_core.specs.Lists.{holds}
+use Rattle.list_laws.specs.Lists.{holds}
 use Rattle.graph_print.specs.Places.{found_in, or_else, place_in}
 
 -- what isn't there has the place behind all

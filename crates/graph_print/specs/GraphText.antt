@@ -19,10 +19,10 @@ use Rattle.qgm_core.specs.declared.kinds.SetOperator.{SetOperator}
 use Rattle.qgm_core.specs.declared.kinds.SetOperator.TheVariants.{Union, UnionAll, Intersect, IntersectAll, Except, ExceptAll}
 use Rattle.qgm_core.specs.declared.node.Node.{Node}
 use Rattle.qgm_core.specs.declared.owned.OwnedQuant.{OwnedQuant}
-use Rattle.qgm_formed.specs.Types.{Lookup, lookup_of, term_type}
-use Rattle.qgm_formed.specs.WellFormed.{is_empty}
+use Rattle.qgm_wellformed.specs.Types.{Lookup, lookup_of, term_type}
+use Rattle.qgm_wellformed.specs.WellFormed.{is_empty}
 use Rattle.qgm_terms.specs.Terms.{Cond, Term}
-use Rattle.rewrite_plan.specs.declared.plan.Walk.TheVariants.{Depth}
+use Rattle.shared_types.specs.declared.walk.Walk.TheVariants.{Depth}
 use Rattle.graph_print.specs.Places.{place_in}
 use Rattle.graph_print.specs.TermText.{cond_text, doubled, term_text}
 

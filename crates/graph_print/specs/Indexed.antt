@@ -1,6 +1,6 @@
 -- What the text of a graph looks up.
 use Rattle.std.specs.Prelude.{◌≡◌}
-use Rattle.qgm_formed.specs.Types.{lookup_by, lookup_of}
+use Rattle.qgm_wellformed.specs.Types.{lookup_by, lookup_of}
 use Rattle.qgm_core.specs.Boxes.{QueryGraph}
 use Rattle.graph_print.specs.GraphText.{box_order, quant_order}
 use Rattle.graph_print.specs.declared.index.Index.{Index}

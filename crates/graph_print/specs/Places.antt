@@ -1,6 +1,6 @@
 -- Places in a list of numbers.
 use Rattle.std.specs.Prelude.{ℕ, suc, ◌==◌, if◌then◌else◌, List, [], ◌∷◌, Option, Some, None}
-use Rattle.qgm_core.specs.Lists.{holds}
+use Rattle.list_laws.specs.Lists.{holds}
 
 -- the place of x among these, from 1; one more than there are, if it isn't among them
 abbrev pub place_in : List ℕ → ℕ → ℕ

@@ -4,11 +4,11 @@ ghost use Rattle.std.specs.List.{flat_map};
 ghost use Rattle.graph_print.specs.GraphText as spec;
 ghost use Rattle.graph_print.specs.Indexed.{IsIndex};
 ghost use Rattle.qgm_core.specs.Boxes.{is_box, quants_in};
-ghost use Rattle.qgm_core.specs.Lists.{first};
+ghost use Rattle.list_laws.specs.Lists.{first};
 
 use crate::numbers::Places;
 use qgm_core::{BoxId, Graph, Node};
-use qgm_formed::{KnownTypes, column_types};
+use qgm_wellformed::{KnownTypes, column_types};
 use shared_types::OutOfMemory;
 use std::alloc::Global;
 

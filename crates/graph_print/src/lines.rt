@@ -2,14 +2,14 @@
 ghost use Rattle.std.specs.Prelude.{◌≡◌, ◌++◌, OnOk};
 ghost use Rattle.std.specs.List.{flat_map};
 ghost use Rattle.graph_print.specs.GraphText as spec;
-ghost use Rattle.qgm_formed.specs.Types.{lookup_by};
+ghost use Rattle.qgm_wellformed.specs.Types.{lookup_by};
 ghost use Rattle.qgm_terms.specs.Shown.{cond, conds, term, terms};
 
 use crate::numbers::Places;
 use crate::terms::{put_cond, put_term};
 use crate::writing::{put_doubled, put_number, put_word};
 use qgm_core::{BoxKind, Distinct, Node, OwnedQuant, QuantKind, Role, SetOperator};
-use qgm_formed::{KnownTypes, cell_type};
+use qgm_wellformed::{KnownTypes, cell_type};
 use qgm_terms::{Gc, Gx};
 use shared_types::{OutOfMemory, Text};
 use sql_value::{OrderKey, SqlType};

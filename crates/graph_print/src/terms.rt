@@ -2,12 +2,12 @@
 ghost use Rattle.std.specs.Prelude.{◌≡◌, ◌++◌, codes, decimal, length, OnOk};
 ghost use Rattle.graph_print.specs.Places.{place_in};
 ghost use Rattle.graph_print.specs.TermText as spec;
-ghost use Rattle.qgm_terms.specs.Shown.{choice, choices, cond, conds, links, term};
+ghost use Rattle.qgm_terms.specs.Shown.{aggregate, choice, choices, cond, conds, links, sign, taken, term};
 ghost use Rattle.qgm_terms.specs.Terms as t;
 
 use crate::numbers::Places;
 use crate::writing::{put_doubled, put_integer, put_number, put_word};
-use qgm_terms::{Arm, Gc, Gx, Link, Op, QuantId};
+use qgm_terms::{Aggregate, Arm, Gc, Gx, Link, Op, QuantId, Sign, Taken};
 use shared_types::{OutOfMemory, Text};
 
 fn put_int(n: i64, out: &mut Text) -> Result<(), OutOfMemory>
@@ -64,6 +64,44 @@ fn put_op(op: Op, out: &mut Text) -> Result<(), OutOfMemory>
     }
 }
 
+fn put_sign(s: Sign, out: &mut Text) -> Result<(), OutOfMemory>
+    ensures { OnOk result (out.new ≡ out.old ++ spec.open_sign (sign s)) }
+{
+    match s {
+        Sign::Eq => put_word(b"(eq ", out),
+        Sign::Ne => put_word(b"(ne ", out),
+        Sign::Lt => put_word(b"(lt ", out),
+        Sign::Le => put_word(b"(le ", out),
+        Sign::Gt => put_word(b"(gt ", out),
+        Sign::Ge => put_word(b"(ge ", out),
+        Sign::Same => put_word(b"(same ", out),
+        Sign::Like => put_word(b"(like ", out),
+    }
+}
+
+fn put_aggregate(f: Aggregate, each: Taken, out: &mut Text) -> Result<(), OutOfMemory>
+    ensures { OnOk result (out.new ≡ out.old ++ spec.open_aggregate (aggregate f) (taken each)) }
+{
+    match each {
+        Taken::All => match f {
+            Aggregate::Single => put_word(b"(single ", out),
+            Aggregate::Count => put_word(b"(count ", out),
+            Aggregate::Sum => put_word(b"(sum ", out),
+            Aggregate::Avg => put_word(b"(avg ", out),
+            Aggregate::Min => put_word(b"(min ", out),
+            Aggregate::Max => put_word(b"(max ", out),
+        },
+        Taken::Once => match f {
+            Aggregate::Single => put_word(b"(single-distinct ", out),
+            Aggregate::Count => put_word(b"(count-distinct ", out),
+            Aggregate::Sum => put_word(b"(sum-distinct ", out),
+            Aggregate::Avg => put_word(b"(avg-distinct ", out),
+            Aggregate::Min => put_word(b"(min-distinct ", out),
+            Aggregate::Max => put_word(b"(max-distinct ", out),
+        },
+    }
+}
+
 // What opens the left nest of a chain, from the outermost in.
 fn put_open_links(list: &[Link], out: &mut Text) -> Result<(), OutOfMemory>
     ensures { OnOk result (out.new ≡ out.old ++ spec.open_links (links list.now)) }
@@ -110,17 +148,11 @@ pub fn put_term(at: &Places, x: &Gx, out: &mut Text) -> Result<(), OutOfMemory>
             put_one(b"else ", at, a, out)
         }
         Gx::Neg(a) => put_one(b"(neg ", at, a, out),
-        Gx::Single(a) => put_one(b"(single ", at, a, out),
-        Gx::Count(a) => put_one(b"(count ", at, a, out),
-        Gx::Sum(a) => put_one(b"(sum ", at, a, out),
-        Gx::Avg(a) => put_one(b"(avg ", at, a, out),
-        Gx::Min(a) => put_one(b"(min ", at, a, out),
-        Gx::Max(a) => put_one(b"(max ", at, a, out),
-        Gx::CountDistinct(a) => put_one(b"(count-distinct ", at, a, out),
-        Gx::SumDistinct(a) => put_one(b"(sum-distinct ", at, a, out),
-        Gx::AvgDistinct(a) => put_one(b"(avg-distinct ", at, a, out),
-        Gx::MinDistinct(a) => put_one(b"(min-distinct ", at, a, out),
-        Gx::MaxDistinct(a) => put_one(b"(max-distinct ", at, a, out),
+        Gx::Fold(f, each, a) => {
+            put_aggregate(*f, *each, out)?;
+            put_term(at, a, out)?;
+            put_word(b")", out)
+        }
     }
 }
 
@@ -133,16 +165,6 @@ fn put_one(word: &[u8], at: &Places, x: &Gx, out: &mut Text) -> Result<(), OutOf
     put_word(word, out)?;
     put_term(at, x, out)?;
     put_word(b")", out)
-}
-
-// A word and an expression.
-#[cycle(terms)]
-#[inline(never)]
-fn put_first(word: &[u8], at: &Places, x: &Gx, out: &mut Text) -> Result<(), OutOfMemory>
-    ensures { OnOk result (out.new ≡ out.old ++ (word.now ++ spec.term_text (place_in at.now) (term x.now))) }
-{
-    put_word(word, out)?;
-    put_term(at, x, out)
 }
 
 // The operands behind a first one, each with what closes its operator.
@@ -186,36 +208,9 @@ pub fn put_cond(at: &Places, c: &Gc, out: &mut Text) -> Result<(), OutOfMemory>
 {
     match c {
         Gc::True => put_word(b"(true)", out),
-        Gc::Eq(a, b) => {
-            put_first(b"(eq ", at, a, out)?;
-            put_one(b" ", at, b, out)
-        }
-        Gc::Ne(a, b) => {
-            put_first(b"(ne ", at, a, out)?;
-            put_one(b" ", at, b, out)
-        }
-        Gc::Lt(a, b) => {
-            put_first(b"(lt ", at, a, out)?;
-            put_one(b" ", at, b, out)
-        }
-        Gc::Le(a, b) => {
-            put_first(b"(le ", at, a, out)?;
-            put_one(b" ", at, b, out)
-        }
-        Gc::Gt(a, b) => {
-            put_first(b"(gt ", at, a, out)?;
-            put_one(b" ", at, b, out)
-        }
-        Gc::Ge(a, b) => {
-            put_first(b"(ge ", at, a, out)?;
-            put_one(b" ", at, b, out)
-        }
-        Gc::Same(a, b) => {
-            put_first(b"(same ", at, a, out)?;
-            put_one(b" ", at, b, out)
-        }
-        Gc::Like(a, b) => {
-            put_first(b"(like ", at, a, out)?;
+        Gc::Compare(s, a, b) => {
+            put_sign(*s, out)?;
+            put_term(at, a, out)?;
             put_one(b" ", at, b, out)
         }
         Gc::IsNull(a) => put_one(b"(isnull ", at, a, out),

@@ -7,7 +7,7 @@ ghost use Rattle.graph_print.specs.Indexed.{IsIndex};
 use crate::index::{Index, find_box, index_of};
 use crate::lines::{put_box_line, put_order_line, put_out_line, put_part_lines};
 use qgm_core::{BoxId, Graph, Walk};
-use qgm_formed::is_closed;
+use qgm_wellformed::is_closed;
 use shared_types::{OutOfMemory, Text};
 use std::alloc::Global;
 

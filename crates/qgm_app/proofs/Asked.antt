@@ -7,16 +7,16 @@ use Rattle.sql_catalog.specs.Catalog.{fault}
 use Rattle.sql_catalog.specs.Shown as catalogs
 use Rattle.sql_meaning.specs.Meaning.{order_key}
 use Rattle.sql_value.specs.declared.order_key.OrderKey.{OrderKey}
-use Rattle.query_checks.specs.Laws.{column_names}
+use Rattle.sql_faults.specs.Laws.{column_names}
 use Rattle.qgm_core.specs.Boxes.{QueryGraph}
 use Rattle.qgm_meaning.specs.Satisfies.{Satisfies}
-use Rattle.built_queries.specs.Joined.{AreTablesOf, ValidQuery}
-use Rattle.built_queries.specs.Laid.{IsGraphOf}
-use Rattle.built_queries.specs.Loaded.{LoadedAreTables, LoadedSatisfies}
+use Rattle.qgm_translation_laws.specs.Joined.{AreTablesOf, ValidQuery}
+use Rattle.qgm_translation_laws.specs.Laid.{IsGraphOf}
+use Rattle.qgm_translation_laws.specs.Loaded.{LoadedAreTables, LoadedSatisfies}
 use Rattle.qgm_build.specs.Valid.{IsItsGraph, IsOfText, IsQueryOf}
-use Rattle.query_rewrite.specs.Answers.{IsRewritten}
-use Rattle.query_rewrite.specs.Explained.{IsExplained}
-use Rattle.rewrite_plan.specs.declared.plan.Plan.{Plan}
+use Rattle.qgm_run.specs.Answers.{IsRewritten}
+use Rattle.qgm_run.specs.Explained.{IsTold}
+use Rattle.rule_plan.specs.declared.plan.Plan.{Plan}
 use Rattle.sql_check.specs.Checked.{IsFilled, answer_of}
 use Rattle.command_input.specs.Questions.{answer_to, question_of}
 use Rattle.command_input.specs.Questions as asked
@@ -84,12 +84,12 @@ is-run plan q g n firings before after built same h = record {
 
 -- a text that was empty before
 pub is-explanation : (plan : Plan) (q : asked.Question) (g : QueryGraph) (n evals before after : ℕ) (old text new : List ℕ) → IsBuilt q g → evals ≡ min (after - before) 18446744073709551615
-    → old ≡ [] → new ≡ old ++ text → IsExplained q.tables plan g n evals before after text → IsExplanation plan q before after new
+    → old ≡ [] → new ≡ old ++ text → IsTold q.tables plan g n evals before after text → IsExplanation plan q before after new
 is-explanation plan q g n evals before after old text new built counted empty is told = record {
   graph = g;
   built = built;
   firings = n;
   evals = evals;
   counted = counted;
-  told = subst (λ (x : List ℕ). IsExplained q.tables plan g n evals before after x) (sym (is ∙ ap (λ (x : List ℕ). x ++ text) empty)) told;
+  told = subst (λ (x : List ℕ). IsTold q.tables plan g n evals before after x) (sym (is ∙ ap (λ (x : List ℕ). x ++ text) empty)) told;
 }

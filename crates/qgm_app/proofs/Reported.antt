@@ -6,9 +6,9 @@ use Rattle.generated_input.specs.Made.{depts}
 use Rattle.io_edge.specs.Outcome.{Outcome}
 use Rattle.io_edge.specs.Outside.{Ask, File, Told, written_after}
 use Rattle.qgm_core.specs.Boxes.{QueryGraph}
-use Rattle.query_rewrite.specs.Answers.{IsRewritten}
-use Rattle.query_rewrite.specs.declared.outcome.Answered as rewritten
-use Rattle.rewrite_plan.specs.declared.plan.Plan.{Plan}
+use Rattle.qgm_run.specs.Answers.{IsRewritten}
+use Rattle.qgm_run.specs.declared.outcome.Ran.{Ran}
+use Rattle.rule_plan.specs.declared.plan.Plan.{Plan}
 use Rattle.row_bag.specs.Bags.{Agree}
 use Rattle.row_bag.specs.Sets.{same_cells}
 use Rattle.row_bag.specs.Verdict.{verdict}
@@ -27,7 +27,7 @@ use Rattle.qgm_app.specs.Outcome.{End}
 use Rattle.qgm_app.specs.Held.{held_answer}
 use Rattle.qgm_app.specs.Rewriting.{IsBuilt, IsExplanation, IsRun}
 use Rattle.qgm_app.specs.Runs.{ComesTo, IsSaid, Prepares}
-use Rattle.qgm_app.specs.Telling.{IsErrorReport, IsReported, TellsBy, report_behind, report_of, row_number, summary}
+use Rattle.qgm_app.specs.Telling.{CountsBy, IsErrorReport, IsReported, TellsBy, report_behind, report_of, row_number, summary}
 use Rattle.qgm_app.specs.declared.answers.Answered.{Answered}
 use Rattle.qgm_app.proofs.Asked.{is-run}
 
@@ -39,12 +39,12 @@ of-each (Ok x) P p = p
 of-each (Err e) P p = tt
 
 -- what ran gives the rows that the root has
-pub ran-rows : (r : Result rewritten.Answered OutOfMemory) (root rows : List (Row (List Cell))) → IfOk r (λ ran. Agree same_cells ran.rows root) → root ≡ rows → IfOk r (λ ran. Agree same_cells ran.rows rows)
+pub ran-rows : (r : Result Ran OutOfMemory) (root rows : List (Row (List Cell))) → IfOk r (λ ran. Agree same_cells ran.rows root) → root ≡ rows → IfOk r (λ ran. Agree same_cells ran.rows rows)
 ran-rows (Ok ran) root rows h is = subst (λ (xs : List (Row (List Cell))). Agree same_cells ran.rows xs) is h
 ran-rows (Err e) root rows h is = tt
 
 -- and is a run
-pub ran-run : (r : Result rewritten.Answered OutOfMemory) (plan : Plan) (q : Question) (g : QueryGraph) (before after : ℕ)
+pub ran-run : (r : Result Ran OutOfMemory) (plan : Plan) (q : Question) (g : QueryGraph) (before after : ℕ)
     → IsBuilt q g → IfOk r (λ ran. IsRewritten q.tables plan g ran.firings before after) → IfOk r (λ ran. IsRun plan q ran.firings before after)
 ran-run (Ok ran) plan q g before after built h = is-run plan q g ran.firings ran.firings before after built refl h
 ran-run (Err e) plan q g before after built h = tt
@@ -87,6 +87,30 @@ pub tells-answer : (r : Result Report OutOfMemory) (t : TaskText) (schema query 
     → t ≡ run schema query dir → IfOk r (λ report. report ≡ report_of answer) → answer ≡ answer_to q → IfOk r (λ report. TellsBy t plan q report)
 tells-answer (Ok report) t schema query dir plan q answer task is same = tells-by t (run schema query dir) plan q report task (is ∙ ap (λ (a : Answer). report_of a) same)
 tells-answer (Err e) t schema query dir plan q answer task is same = tt
+
+-- and the steps of what they tell of
+counts-by : (t u : TaskText) (plan : Plan) (q : Question) (report : Report) (before after : ℕ) → t ≡ u → CountsBy u plan q report before after → CountsBy t plan q report before after
+counts-by t u plan q report before after is h = subst (λ (x : TaskText). CountsBy x plan q report before after) (sym is) h
+
+pub counts-explained : (r : Result Report OutOfMemory) (t : TaskText) (schema query dir : List ℕ) (plan : Plan) (q : Question) (text : List ℕ) (answer : Answer) (before after : ℕ)
+    → t ≡ explain schema query dir → IfOk r (λ report. report ≡ report_behind (encode_utf8_all text) answer) → answer ≡ answer_to q → IsExplanation plan q before after text
+    → IfOk r (λ report. CountsBy t plan q report before after)
+counts-explained (Ok report) t schema query dir plan q text answer before after task is same h =
+    counts-by t (explain schema query dir) plan q report before after task (text, h, is ∙ ap (λ (a : Answer). report_behind (encode_utf8_all text) a) same)
+counts-explained (Err e) t schema query dir plan q text answer before after task is same h = tt
+
+pub counts-summary : (r : Result Report OutOfMemory) (t : TaskText) (seed rows : ℕ) (plan : Plan) (q : Question) (answer : Answer) (firings before after : ℕ)
+    → t ≡ gen seed rows → IfOk r (λ report. report ≡ Rows (summary (depts rows) rows (row_number answer) firings)) → answer ≡ answer_to q → IsRun plan q firings before after
+    → IfOk r (λ report. CountsBy t plan q report before after)
+counts-summary (Ok report) t seed rows plan q answer firings before after task is same h =
+    counts-by t (gen seed rows) plan q report before after task (firings, h, is ∙ ap (λ (a : Answer). Rows (summary (depts rows) rows (row_number a) firings)) same)
+counts-summary (Err e) t seed rows plan q answer firings before after task is same h = tt
+
+pub counts-answer : (r : Result Report OutOfMemory) (t : TaskText) (schema query dir : List ℕ) (plan : Plan) (q : Question) (answer : Answer) (firings before after : ℕ)
+    → t ≡ run schema query dir → IfOk r (λ report. report ≡ report_of answer) → answer ≡ answer_to q → IsRun plan q firings before after → IfOk r (λ report. CountsBy t plan q report before after)
+counts-answer (Ok report) t schema query dir plan q answer firings before after task is same h =
+    counts-by t (run schema query dir) plan q report before after task (firings, h, is ∙ ap (λ (a : Answer). report_of a) same)
+counts-answer (Err e) t schema query dir plan q answer firings before after task is same h = tt
 
 -- none of these says that the words are no command
 rows-are-none : (bytes : List ℕ) → Rows bytes ≢ Usage
@@ -142,3 +166,16 @@ error-told (Some t) (Some u) o said bytes old new h text is e =
     let r = error-said (o t.files) h.0 _ said h.2.1 e in
     let k = error-of r.0 (sym (ap (λ (s : Said). s.status) r.2) ∙ e) in
     (r.0, r.1, (k.0, k.1, is ∙ ap (λ (x : List ℕ). written_after x old) (text ∙ ap (λ (s : Said). s.text) r.2)))
+
+-- what is said under another status than that of a failed read is a report
+report-said : (o : Outcome End) (asks : List Ask) (name : Option (List ℕ)) (said : Said) → IsSaid o asks name said → said.status ≢ 3 → (report : Report) × IsReported o report × (said ≡ said_of report)
+report-said o asks None said h e = (h.1, h.2, h.3)
+report-said o asks (Some name) said h e = absurd (e (ap (λ (s : Said). s.status) h))
+
+pub report-told : (t u : Option Told) (o : List File → Outcome End) (said : Said) (bytes : List ℕ) (old new : Option (List ℕ)) → Prepares t u o (Ok said) → bytes ≡ said.text → new ≡ written_after bytes old
+    → said.status ≢ 3 → ComesTo t o (λ report. (said.status ≡ status_of report) × (new ≡ written_after (printed report) old))
+report-told None u o said bytes old new h text is e = tt
+report-told (Some t) None o said bytes old new h text is e = absurd h
+report-told (Some t) (Some u) o said bytes old new h text is e =
+    let r = report-said (o t.files) h.0 _ said h.2.1 e in
+    (r.0, r.1, (ap (λ (s : Said). s.status) r.2, is ∙ ap (λ (x : List ℕ). written_after x old) (text ∙ ap (λ (s : Said). s.text) r.2)))

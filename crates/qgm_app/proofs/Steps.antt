@@ -75,24 +75,24 @@ told-prepares (Some t) (Some u) o report (Err e) h is = (h.1.0, h.1.1, h.1.2)
 -- ---- steps
 
 -- these are the steps of what an outcome comes to
-counts-at : (t u : Option Told) (o : List File → Outcome End) (end : End) (before after : ℕ) → Comes t u o (answered end) → Counts end before after → CountsOf t o before after
-counts-at None u o end before after h k = tt
-counts-at (Some t) None o end before after h k = absurd h
-counts-at (Some t) (Some u) o end before after h k = (end, h.3.2, k)
+counts-at : (t u : Option Told) (o : List File → Outcome End) (end : End) (report : Report) (before after : ℕ) → Comes t u o (answered end) → Counts end report before after → CountsOf t o report before after
+counts-at None u o end report before after h k = tt
+counts-at (Some t) None o end report before after h k = absurd h
+counts-at (Some t) (Some u) o end report before after h k = (end, h.3.2, k)
 
 -- of what was found for a command line
-pub line-counts : (t u : Option Told) (taken : LineText) (found : Found) (before after : ℕ)
-    → Comes t u (λ fs. with_task taken.task fs) (answered found) → Counts (end_of taken found) before after → CountsOf t (λ fs. with_line (Some taken) fs) before after
-line-counts t u taken found before after h k = counts-at t u (λ fs. with_line (Some taken) fs) (end_of taken found) before after (line-found t u taken found h) k
+pub line-counts : (t u : Option Told) (taken : LineText) (found : Found) (report : Report) (before after : ℕ)
+    → Comes t u (λ fs. with_task taken.task fs) (answered found) → Counts (end_of taken found) report before after → CountsOf t (λ fs. with_line (Some taken) fs) report before after
+line-counts t u taken found report before after h k = counts-at t u (λ fs. with_line (Some taken) fs) (end_of taken found) report before after (line-found t u taken found h) k
 
 -- of words that are no command line
-pub no-line-counts : (t : Option Told) (words : List (List ℕ)) (before after : ℕ) → line words ≡ None → after ≡ before → CountsOf t (outcome words) before after
+pub no-line-counts : (t : Option Told) (words : List (List ℕ)) (before after : ℕ) → line words ≡ None → after ≡ before → CountsOf t (outcome words) Usage before after
 unfolding with_line
 no-line-counts t words before after is same =
-    subst (λ (l : Option LineText). CountsOf t (λ fs. with_line l fs) before after) (sym is)
-    (counts-at t t (λ fs. with_line None fs) (refusing Usage) before after (comes-done t (refusing Usage)) same)
+    subst (λ (l : Option LineText). CountsOf t (λ fs. with_line l fs) Usage before after) (sym is)
+    (counts-at t t (λ fs. with_line None fs) (refusing Usage) Usage before after (comes-done t (refusing Usage)) (same, refl))
 
 -- of words that are one
-pub line-taken-counts : (t : Option Told) (words : List (List ℕ)) (taken : LineText) (before after : ℕ) → line words ≡ Some taken
-    → CountsOf t (λ fs. with_line (Some taken) fs) before after → CountsOf t (outcome words) before after
-line-taken-counts t words taken before after is h = subst (λ (l : Option LineText). CountsOf t (λ fs. with_line l fs) before after) (sym is) h
+pub line-taken-counts : (t : Option Told) (words : List (List ℕ)) (taken : LineText) (report : Report) (before after : ℕ) → line words ≡ Some taken
+    → CountsOf t (λ fs. with_line (Some taken) fs) report before after → CountsOf t (outcome words) report before after
+line-taken-counts t words taken report before after is h = subst (λ (l : Option LineText). CountsOf t (λ fs. with_line l fs) report before after) (sym is) h

@@ -1,13 +1,13 @@
 -- The graph of a question's query, how it is rewritten, and how many evaluations of boxes its rows take.
 use Rattle.std.specs.Prelude.{◌≡◌, ◌-◌, ℕ, List, [], Option, map, min}
-use Rattle.built_queries.specs.Laid.{IsGraphOf}
+use Rattle.qgm_translation_laws.specs.Laid.{IsGraphOf}
 use Rattle.qgm_core.specs.Boxes.{QueryGraph}
-use Rattle.query_checks.specs.Columns.{columns}
-use Rattle.query_checks.specs.Laws.{column_names}
-use Rattle.query_checks.specs.Views.{heads_of}
-use Rattle.query_rewrite.specs.Answers.{IsRewritten}
-use Rattle.query_rewrite.specs.Explained.{IsExplained}
-use Rattle.rewrite_plan.specs.declared.plan.Plan.{Plan}
+use Rattle.sql_faults.specs.Columns.{columns}
+use Rattle.sql_faults.specs.Laws.{column_names}
+use Rattle.sql_faults.specs.Views.{heads_of}
+use Rattle.qgm_run.specs.Answers.{IsRewritten}
+use Rattle.qgm_run.specs.Explained.{IsTold}
+use Rattle.rule_plan.specs.declared.plan.Plan.{Plan}
 use Rattle.sql_meaning.specs.Meaning.{order_key}
 use Rattle.sql_value.specs.declared.order_key.OrderKey.{OrderKey}
 use Rattle.command_input.specs.Questions.{Question}
@@ -37,4 +37,4 @@ pub record IsExplanation (plan : Plan) (q : Question) (before after : ℕ) (text
   pub firings : ℕ
   pub evals : ℕ
   pub counted : evals ≡ min (after - before) 18446744073709551615
-  pub told : IsExplained q.tables plan graph firings evals before after text
+  pub told : IsTold q.tables plan graph firings evals before after text

@@ -5,7 +5,7 @@ use Rattle.csv_tables.specs.Printed.{printed_rows}
 use Rattle.generated_input.specs.Made.{depts}
 use Rattle.io_edge.specs.Outcome.{Outcome}
 use Rattle.io_edge.specs.Outside.{File, Told}
-use Rattle.rewrite_plan.specs.declared.plan.Plan.{Plan}
+use Rattle.rule_plan.specs.declared.plan.Plan.{Plan}
 use Rattle.sql_value.specs.declared.cell.Kind.{Kind}
 use Rattle.sql_meaning.specs.Meaning.{Answer, answer_error, answer_rows}
 use Rattle.command_line.specs.Line.{LineText, TaskText, explain, gen, run}
@@ -75,11 +75,19 @@ IsErrorReport kind report = (report ≡ Error kind) ⊎ ((told : List ℕ) × (r
 
 -- ---- steps
 
--- the steps from `before` to `after` are those of what comes of a command line: none of a refusal, and of a question those of the graph that its query's is rewritten to
-abbrev pub Counts : End → ℕ → ℕ → Type 0
-Counts (refusing refusal) before after = after ≡ before
-Counts (answering taken question) before after = (firings : ℕ) × IsRun taken.plan question firings before after
+-- a report of a command, by a plan, on the answer to a question, and the steps of the execution that it tells of
+abbrev pub CountsBy : TaskText → Plan → Question → Report → ℕ → ℕ → Type 0
+CountsBy (run schema query dir) plan question report before after = (firings : ℕ) × IsRun plan question firings before after × (report ≡ report_of (answer_to question))
+CountsBy (explain schema query dir) plan question report before after =
+    (text : List ℕ) × IsExplanation plan question before after text × (report ≡ report_behind (encode_utf8_all text) (answer_to question))
+CountsBy (gen seed rows) plan question report before after =
+    (firings : ℕ) × IsRun plan question firings before after × (report ≡ Rows (summary (depts rows) rows (row_number (answer_to question)) firings))
+
+-- the steps from `before` to `after` are those of what comes of a command line, of which this is a report: none of a refusal, and of a question those of the graph that its query's is rewritten to, of which the report tells
+abbrev pub Counts : End → Report → ℕ → ℕ → Type 0
+Counts (refusing refusal) report before after = (after ≡ before) × (report ≡ refusal)
+Counts (answering taken question) report before after = CountsBy taken.task taken.plan question report before after
 
 -- over files that tell of themselves
-abbrev pub CountsOf : Option Told → (List File → Outcome End) → ℕ → ℕ → Type 0
-CountsOf told o before after = IfSome told (λ t. (end : End) × ((o t.files).end ≡ Some end) × Counts end before after)
+abbrev pub CountsOf : Option Told → (List File → Outcome End) → Report → ℕ → ℕ → Type 0
+CountsOf told o report before after = IfSome told (λ t. (end : End) × ((o t.files).end ≡ Some end) × Counts end report before after)

@@ -1,6 +1,6 @@
 // The answer to a question, by the graph that is built of it.
 ghost use Rattle.std.specs.Prelude.{◌≡◌, IfOk, List};
-ghost use Rattle.qgm_formed.specs.Sentences.{WellFormed};
+ghost use Rattle.qgm_wellformed.specs.Sentences.{WellFormed};
 ghost use Rattle.qgm_meaning.specs.Meaning.{root_bag};
 ghost use Rattle.qgm_meaning.specs.Satisfies.{Satisfies};
 ghost use Rattle.row_bag.specs.Bags.{Agree};
@@ -16,13 +16,13 @@ ghost use Rattle.qgm_app.specs.Alike.{AnswersAlike};
 ghost use Rattle.qgm_app.specs.Held.{answer_as, held_answer};
 ghost use Rattle.qgm_app.specs.Rewriting.{IsBuilt, IsExplanation, IsRun};
 
-use built_queries::loaded_laws;
+use qgm_translation_laws::loaded_laws;
 use command_input::Question;
 use qgm_build::build;
 use qgm_core::Graph;
-use qgm_formed::fault_laws;
-use query_rewrite::{Answered as Ran, answered, explained};
-use rewrite_plan::Plan;
+use qgm_wellformed::fault_laws;
+use qgm_run::{Ran, run_rewritten, tell_rewritten};
+use rule_plan::Plan;
 use row_bag::{Bag, Verdict, bag_laws, sorted, verdict};
 use shared_types::{OutOfMemory, Text};
 use sql_check::Heading;
@@ -118,10 +118,10 @@ fn ran<L: Ledger>(
     ensures run { IfOk result (λ ran. IsRun plan.now (question_of question.now) ran.firings steps.old steps.new) }
 {
     let graph = graph_of(alloc, question)?;
-    answered(alloc, graph, plan, &question.tables, steps)
+    run_rewritten(alloc, graph, plan, &question.tables, steps)
 }
 
-// The same, and the text that tells of it.
+// The rows of a question, and the text that tells of its rewriting and execution.
 fn told<L: Ledger>(
     alloc: Global,
     question: &Question,
@@ -135,7 +135,7 @@ fn told<L: Ledger>(
 {
     let mut text = Text::new(alloc)?;
     let graph = graph_of(alloc, question)?;
-    let ran = explained(alloc, graph, plan, &question.tables, steps, &mut text)?;
+    let ran = tell_rewritten(alloc, graph, plan, &question.tables, steps, &mut text)?;
     Ok((ran, text))
 }
 

@@ -6,13 +6,14 @@ ghost use Rattle.io_edge.specs.Outcome.{Comes, RoseIfFault};
 ghost use Rattle.command_line.specs.Line.{is_taken, line_text, task_text};
 ghost use Rattle.command_line.specs.Reading.{line};
 ghost use Rattle.command_input.specs.declared.question.Found.TheVariants.{Refused};
+ghost use Rattle.command_input.specs.declared.report.Report.{Report};
 ghost use Rattle.command_input.specs.declared.report.Report.TheVariants.{Usage};
 ghost use Rattle.command_input.specs.Ready.{IsFoundReady};
 ghost use Rattle.command_input.specs.Printed.{said_of};
 ghost use Rattle.command_input.specs.Stages.{found_end};
 ghost use Rattle.qgm_app.specs.Outcome.{outcome, with_line, with_task};
 ghost use Rattle.qgm_app.specs.Telling.{CountsOf};
-ghost use Rattle.qgm_app.specs.Runs.{ComesTold, IsMade, IsUsage, Prepares};
+ghost use Rattle.qgm_app.specs.Runs.{ComesTold, IsMade, IsMadeFound, IsMadeReport, IsUsage, Prepares};
 
 use crate::telling::tell;
 use command_input::{Found, Report, Said, find_question, generated, say_fault};
@@ -30,6 +31,7 @@ fn find<F: Files>(alloc: Global, task: &Task, files: &mut F) -> Result<Found, In
     ensures line { IfOk result (λ found. found ≢ Refused Usage) }
     ensures ready { IfOk result (λ found. IsFoundReady found) }
     ensures unread { IsMade (task_text task.now) → files.new ≡ files.old }
+    ensures made { IsMade (task_text task.now) → IsMadeFound result }
     ensures later { F.faults files.old ≤ F.faults files.new }
     ensures failed { RoseIfFault result (F.faults files.old) (F.faults files.new) }
 {
@@ -51,8 +53,9 @@ fn run_line<F: Files, L: Ledger>(
     requires taken { is_taken (task_text line.now.task) ≡ true }
     ensures comes { ComesTold (F.told files.old) (F.told files.new) (λ fs. with_line (Some (line_text line.now)) fs) result }
     ensures line { IfOk result (λ report. report ≢ Usage) }
-    ensures counts { IfOk result (λ report. CountsOf (F.told files.old) (λ fs. with_line (Some (line_text line.now)) fs) steps.old steps.new) }
+    ensures counts { IfOk result (λ report. CountsOf (F.told files.old) (λ fs. with_line (Some (line_text line.now)) fs) report steps.old steps.new) }
     ensures unread { IsMade (task_text line.now.task) → files.new ≡ files.old }
+    ensures made { IsMade (task_text line.now.task) → IsMadeReport result }
     ensures later { F.faults files.old ≤ F.faults files.new }
     ensures failed { RoseIfFault result (F.faults files.old) (F.faults files.new) }
 {
@@ -72,8 +75,9 @@ fn prepare<F: Files, L: Ledger>(
     ensures comes { ComesTold (F.told files.old) (F.told files.new) (outcome (map (λ w. string_bytes w) words.now)) result }
     ensures no_line { line (map (λ w. string_bytes w) words.now) ≡ None → (files.new ≡ files.old) × IsUsage result }
     ensures line { IfOk result (λ report. report ≡ Usage → line (map (λ w. string_bytes w) words.now) ≡ None) }
-    ensures counts { IfOk result (λ report. CountsOf (F.told files.old) (outcome (map (λ w. string_bytes w) words.now)) steps.old steps.new) }
+    ensures counts { IfOk result (λ report. CountsOf (F.told files.old) (outcome (map (λ w. string_bytes w) words.now)) report steps.old steps.new) }
     ensures unread { IfSome (line (map (λ w. string_bytes w) words.now)) (λ l. IsMade l.task → files.new ≡ files.old) }
+    ensures made { IfSome (line (map (λ w. string_bytes w) words.now)) (λ l. IsMade l.task → IsMadeReport result) }
     ensures later { F.faults files.old ≤ F.faults files.new }
     ensures failed { RoseIfFault result (F.faults files.old) (F.faults files.new) }
 {
@@ -94,10 +98,11 @@ pub fn respond<F: Files, L: Ledger>(
     ensures prepares { Prepares (F.told files.old) (F.told files.new) (outcome (map (λ w. string_bytes w) words.now)) result }
     ensures no_line { line (map (λ w. string_bytes w) words.now) ≡ None → (files.new ≡ files.old) × IfOk result (λ said. said ≡ said_of Usage) }
     ensures unread { IfSome (line (map (λ w. string_bytes w) words.now)) (λ l. IsMade l.task → files.new ≡ files.old) }
+    ensures made { IfSome (line (map (λ w. string_bytes w) words.now)) (λ l. IsMade l.task → IfOk result (λ said. said.status ≡ 0)) }
     ensures usage { IfOk result (λ said. said.status ≡ 2 → (line (map (λ w. string_bytes w) words.now) ≡ None) × (said ≡ said_of Usage)) }
     ensures later { F.faults files.old ≤ F.faults files.new }
     ensures failed { IfOk result (λ said. said.status ≡ 3 → Rose (F.faults files.old) (F.faults files.new)) }
-    ensures counts { IfOk result (λ said. said.status < 2 → CountsOf (F.told files.old) (outcome (map (λ w. string_bytes w) words.now)) steps.old steps.new) }
+    ensures counts { IfOk result (λ said. said.status ≢ 3 → (report : Report) × (said ≡ said_of report) × CountsOf (F.told files.old) (outcome (map (λ w. string_bytes w) words.now)) report steps.old steps.new) }
     ensures status { IfOk result (λ said. (said.status ≢ 4) × (said.status < 8)) }
 {
     match prepare(alloc, words, files, steps) {

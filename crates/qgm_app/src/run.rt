@@ -62,6 +62,8 @@ pub fn run_command<F: Files, K: Sink, L: Ledger>(
     ensures no_line { line (map (λ w. string_bytes w) words.now) ≡ None → (files.new ≡ files.old) × ((result ≡ 2) ⊎ (result ≡ 4) ⊎ (result ≡ 8)) }
     // `gen` reads no file.
     ensures unread { IfSome (line (map (λ w. string_bytes w) words.now)) (λ l. IsMade l.task → files.new ≡ files.old) }
+    // Of `gen`: the summary, or a prefix of it, or want of memory.
+    ensures made { IfSome (line (map (λ w. string_bytes w) words.now)) (λ l. IsMade l.task → (result ≡ 0) ⊎ (result ≡ 4) ⊎ (result ≡ 8)) }
     ensures read_fault { result ≡ 3 → Rose (F.faults files.old) (F.faults files.new) }
     ensures read_named { result ≡ 3 → IfSome (F.told files.old) (λ t. IfSome (F.told files.new) (λ u. (asks : List Ask) × (name : List ℕ) × (u.asked ≡ t.asked ++ asks)
         × (failed_name asks ≡ Some name) × (K.written out.new ≡ written_after (codes "READ " ++ (name ++ codes "\n")) (K.written out.old)))) }
@@ -79,7 +81,8 @@ pub fn run_command<F: Files, K: Sink, L: Ledger>(
     ensures asked { IfSome (F.told files.old) (λ t. IfSome (F.told files.new) (λ u. (asks : List Ask) × (u.asked ≡ t.asked ++ asks) × (u.files ≡ t.files)
         × AskedOf (outcome (map (λ w. string_bytes w) words.now) t.files).names asks)) }
     // The steps: where the answer was written, those of the execution of the graph that the query's graph is rewritten to.
-    ensures counts { result < 2 → CountsOf (F.told files.old) (outcome (map (λ w. string_bytes w) words.now)) steps.old steps.new }
+    ensures counts { result ≢ 3 → result ≢ 4 → result ≢ 8 → (report : Report) × (result ≡ status_of report) × (K.written out.new ≡ written_after (printed report) (K.written out.old))
+        × CountsOf (F.told files.old) (outcome (map (λ w. string_bytes w) words.now)) report steps.old steps.new }
     ensures files_later { F.faults files.old ≤ F.faults files.new }
     ensures out_later { K.faults out.old ≤ K.faults out.new }
     ensures status { result ≤ 8 }

@@ -1,6 +1,6 @@
 // What a command tells of the answer to its question.
 ghost use Rattle.std.specs.Prelude.{◌≡◌, ◌≢◌, IfOk, encode_utf8_all};
-ghost use Rattle.command_line.specs.Line.{line_text};
+ghost use Rattle.command_line.specs.Line.{line_text, task_text};
 ghost use Rattle.generated_input.specs.Made.{depts};
 ghost use Rattle.command_input.specs.Ready.{IsReady};
 ghost use Rattle.command_input.specs.Questions.{question_of};
@@ -9,6 +9,8 @@ ghost use Rattle.qgm_app.specs.Held.{held_answer};
 ghost use Rattle.qgm_app.specs.Rewriting.{IsRun};
 ghost use Rattle.qgm_app.specs.Telling.{Counts, IsExplained, IsSummary, Tells, report_behind, report_of, row_number, summary};
 ghost use Rattle.qgm_app.specs.Outcome.{answering};
+ghost use Rattle.qgm_app.specs.Runs.{IsMade};
+ghost use Rattle.command_input.specs.Printed.{status_of};
 
 use crate::answers::{Answered, Explained, answer, explain};
 use command_input::{Question, Report};
@@ -87,8 +89,9 @@ pub fn tell<L: Ledger>(
 ) -> Result<Report, OutOfMemory>
     requires ready { IsReady question }
     ensures tells { IfOk result (λ report. Tells (line_text line.now) (question_of question) report) }
-    ensures counts { IfOk result (λ report. Counts (answering (line_text line.now) (question_of question)) steps.old steps.new) }
+    ensures counts { IfOk result (λ report. Counts (answering (line_text line.now) (question_of question)) report steps.old steps.new) }
     ensures line { IfOk result (λ report. report ≢ Usage) }
+    ensures made { IsMade (task_text line.now.task) → IfOk result (λ report. status_of report ≡ 0) }
 {
     match &line.task {
         Task::Run { .. } => {

@@ -3,15 +3,15 @@ use Rattle.std.proofs.Common.{◌≡◌, List, [], ◌++◌, ap, ap₂, sym, ◌
 use Rattle.sql_meaning.specs.ResolvedTrees.{Froms, Test, Values}
 use Rattle.qgm_core.specs.declared.owned.OwnedQuant.{OwnedQuant}
 use Rattle.qgm_terms.specs.Terms.{Cond, Term}
-use Rattle.qgm_shown.specs.Leaves.{Leaf, Slots, after, list_leaves, test_leaves}
-use Rattle.qgm_shown.specs.Maps.{Frame, Map, Ref}
-use Rattle.qgm_shown.specs.Shown.{all_leaves, all_on_leaves, all_ons, conds_of, frame_all, slots_of, ungrouped_cells}
-use Rattle.qgm_shown.specs.Sources.{Sources}
-use Rattle.qgm_shown.specs.Terms.{cond, split, terms}
-use Rattle.built_terms.specs.Written.{slots_from}
-use Rattle.qgm_shown.specs.Folds.{all_on_folds, folds_in}
-use Rattle.qgm_shown.proofs.FoldsSame.{all_on_same, folds_append, test_same, values_same}
-use Rattle.built_terms.proofs.Grouped.{ungrouped_folds}
+use Rattle.qgm_translation.specs.Leaves.{Leaf, Slots, after, list_leaves, test_leaves}
+use Rattle.qgm_translation.specs.Maps.{Frame, Map, Ref}
+use Rattle.qgm_translation.specs.Shown.{all_leaves, all_on_leaves, all_ons, conds_of, frame_all, slots_of, ungrouped_cells}
+use Rattle.qgm_translation.specs.Sources.{Sources}
+use Rattle.qgm_translation.specs.Terms.{cond, split, terms}
+use Rattle.qgm_build_terms.specs.Written.{slots_from}
+use Rattle.qgm_translation.specs.Folds.{all_on_folds, folds_in}
+use Rattle.qgm_translation.proofs.FoldsSame.{all_on_same, folds_append, test_same, values_same}
+use Rattle.qgm_build_terms.proofs.Grouped.{ungrouped_folds}
 
 module _ (all : Sources) (m : Map) (from : Froms) (by : Test) (list : Values) (fs subs : List OwnedQuant) where
   abbrev pub leaves_here : List Leaf

@@ -10,17 +10,17 @@ use Rattle.sql_meaning.specs.ResolvedTrees as q
 use Rattle.qgm_core.specs.declared.kinds.QuantKind.TheVariants.{F}
 use Rattle.qgm_core.specs.declared.kinds.SetOperator.{SetOperator}
 use Rattle.qgm_core.specs.declared.owned.OwnedQuant.{OwnedQuant}
-use Rattle.qgm_shown.specs.Lay.{Boxes, Step, box_named, in_turn, laying, ranging}
-use Rattle.qgm_shown.specs.Lay as l
-use Rattle.qgm_shown.specs.Leaves.{Leaf}
-use Rattle.qgm_shown.specs.Maps.{Frame}
-use Rattle.qgm_shown.specs.Shown.{common_form, form_of, frame, frame_all, key_frame, key_places, past}
+use Rattle.qgm_translation.specs.Lay.{Boxes, Step, box_named, in_turn, laying, ranging}
+use Rattle.qgm_translation.specs.Lay as l
+use Rattle.qgm_translation.specs.Leaves.{Leaf}
+use Rattle.qgm_translation.specs.Maps.{Frame}
+use Rattle.qgm_translation.specs.Shown.{common_form, form_of, frame, frame_all, key_frame, key_places, past}
 use Rattle.qgm_build.specs.Laying.{Opens, all_on_step, block_box, block_subs, flat_box, flat_laid, from_step, froms_step, group_box, groups_laid, list_step, on_step, operand_laid, outer_box, outer_of, query_laid, rows_box, rows_subs, test_step, told_at, two_box, upper_box}
 use Rattle.qgm_build.specs.Parts.{is_single, subs_step, upper_step}
-use Rattle.built_terms.specs.Making.{Gives, Takes, after_subs, draws}
-use Rattle.built_terms.specs.Written.{frame_of}
-use Rattle.built_terms.specs.declared.setting.Ground.{Ground}
-use Rattle.built_terms.specs.declared.setting.Seat.{Seat}
+use Rattle.qgm_build_terms.specs.Making.{Gives, Takes, after_subs, draws}
+use Rattle.qgm_build_terms.specs.Written.{frame_of}
+use Rattle.qgm_build_terms.specs.declared.setting.Ground.{Ground}
+use Rattle.qgm_build_terms.specs.declared.setting.Seat.{Seat}
 use Rattle.qgm_build.proofs.Opening.{block_laid, flat_made, grouped_laid, groups_made, joined_subs, joined_take, opens_parts, upper_is}
 use Rattle.qgm_build.proofs.Paired.{both_folds, outer_laid, two_laid}
 use Rattle.qgm_build.proofs.Selected.{gives_at}

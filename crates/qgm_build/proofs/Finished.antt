@@ -6,15 +6,15 @@ use Rattle.sql_meaning.specs.ResolvedTrees as q
 use Rattle.qgm_core.specs.declared.owned.OwnedQuant.{OwnedQuant}
 use Rattle.qgm_terms.specs.Terms.{Cond, Term}
 use Rattle.qgm_terms.specs.Terms as t
-use Rattle.qgm_shown.specs.Folds.{all_on_folds, folds_in, on_folds}
-use Rattle.qgm_shown.specs.Lay.{Boxes, box_named, laying}
-use Rattle.qgm_shown.specs.Leaves.{Leaf, Slots, after, list_leaves, test_leaves}
-use Rattle.qgm_shown.specs.Maps.{Frame, Map, nothing, ref_term}
-use Rattle.qgm_shown.specs.Shown.{all_leaves, all_on_leaves, all_ons, argument_terms, conds_of, fold_refs, frame, frame_all, no_slots, ons, padded, refs, rows_list, slots_of, ungrouped_cells, upper_leaves}
-use Rattle.qgm_shown.specs.Sources.{Sources, from_width}
-use Rattle.qgm_shown.specs.Terms.{cond, split, terms}
-use Rattle.qgm_shown.specs.Typing.{typed_by}
-use Rattle.built_terms.specs.Written.{slots_from}
+use Rattle.qgm_translation.specs.Folds.{all_on_folds, folds_in, on_folds}
+use Rattle.qgm_translation.specs.Lay.{Boxes, box_named, laying}
+use Rattle.qgm_translation.specs.Leaves.{Leaf, Slots, after, list_leaves, test_leaves}
+use Rattle.qgm_translation.specs.Maps.{Frame, Map, nothing, ref_term}
+use Rattle.qgm_translation.specs.Shown.{all_leaves, all_on_leaves, all_ons, argument_terms, conds_of, fold_refs, frame, frame_all, no_slots, ons, padded, refs, rows_list, slots_of, ungrouped_cells, upper_leaves}
+use Rattle.qgm_translation.specs.Sources.{Sources, from_width}
+use Rattle.qgm_translation.specs.Terms.{cond, split, terms}
+use Rattle.qgm_translation.specs.Typing.{typed_by}
+use Rattle.qgm_build_terms.specs.Written.{slots_from}
 use Rattle.qgm_build.specs.Block.{conds_in_block, conds_in_rows, head_in_block}
 use Rattle.qgm_build.specs.declared.select.Block.{Block}
 use Rattle.qgm_build.specs.declared.select.Rows.{Rows}

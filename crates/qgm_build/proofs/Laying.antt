@@ -17,22 +17,22 @@ use Rattle.sql_meaning.specs.ResolvedMeaning.{rows}
 use Rattle.sql_meaning.specs.ResolvedViews.{ViewTree, known_of}
 use Rattle.sql_meaning.specs.Scopes.{first_of}
 use Rattle.sql_meaning.specs.declared.resolved.View.{View}
-use Rattle.query_checks.specs.Columns.{columns_or_none}
-use Rattle.query_checks.specs.Views.{typed, typed_columns, view_named}
-use Rattle.query_checks.specs.declared.column.TypedColumn.{TypedColumn}
-use Rattle.query_checks.specs.declared.view.ViewHead.{ViewHead}
+use Rattle.sql_faults.specs.Columns.{columns_or_none}
+use Rattle.sql_faults.specs.Views.{typed, typed_columns, view_named}
+use Rattle.sql_faults.specs.declared.column.TypedColumn.{TypedColumn}
+use Rattle.sql_faults.specs.declared.view.ViewHead.{ViewHead}
 use Rattle.qgm_core.specs.Boxes.{QueryGraph}
-use Rattle.qgm_shown.specs.Lay.{Boxes, Laid, lay_by}
-use Rattle.qgm_shown.specs.Whole.{graph_of, lay_read, lay_whole, nothing_laid}
+use Rattle.qgm_translation.specs.Lay.{Boxes, Laid, lay_by}
+use Rattle.qgm_translation.specs.Whole.{graph_of, lay_read, lay_whole, nothing_laid}
 use Rattle.qgm_meaning.specs.Meaning.{root_bag}
-use Rattle.built_queries.specs.Joined.{AreTablesOf}
-use Rattle.built_queries.specs.Laid.{GraphIsRight, IsGraphOf, IsNumbered, LaidIsGraph, LaidIsNumbered, known_in, laid_for}
-use Rattle.built_queries.specs.Typing.{known_types}
-use Rattle.built_terms.specs.Making.{Gives, top_at}
+use Rattle.qgm_translation_laws.specs.Joined.{AreTablesOf}
+use Rattle.qgm_translation_laws.specs.Laid.{GraphIsRight, IsGraphOf, IsNumbered, LaidIsGraph, LaidIsNumbered, known_in, laid_for}
+use Rattle.qgm_translation_laws.specs.Typing.{known_types}
+use Rattle.qgm_build_terms.specs.Making.{Gives, top_at}
 use Rattle.qgm_build.specs.Schema.{base_of, named_table, named_view, schema_named, schema_told, whole}
-use Rattle.built_terms.specs.Setting.{named_in, told_by}
-use Rattle.built_terms.specs.declared.setting.Named.{Named}
-use Rattle.built_terms.specs.Setting as g
+use Rattle.qgm_build_terms.specs.Setting.{named_in, told_by}
+use Rattle.qgm_build_terms.specs.declared.setting.Named.{Named}
+use Rattle.qgm_build_terms.specs.Setting as g
 use Rattle.qgm_build.specs.Valid.{IsItsGraph, IsItsRight, IsOfText, IsQueryOf}
 
 -- ---- how many columns names have

@@ -7,17 +7,17 @@ use Rattle.qgm_core.specs.declared.owned.OwnedQuant.{OwnedQuant}
 use Rattle.qgm_terms.specs.Terms as t
 use Rattle.qgm_terms.specs.Terms.{Term}
 use Rattle.qgm_core.specs.declared.kinds.BoxKind.TheVariants.{Group, Select}
-use Rattle.qgm_shown.specs.Folds.{folds_in}
-use Rattle.qgm_shown.specs.Lay.{Boxes, Drawn, Laid, Step, drawn, in_turn, laying, put, ranging}
-use Rattle.qgm_shown.specs.Lay as l
-use Rattle.qgm_shown.specs.Leaves.{Leaf, list_leaves, test_leaves}
-use Rattle.qgm_shown.specs.Maps.{Frame, nothing, ref_term}
-use Rattle.qgm_shown.specs.Shown.{all_leaves, columns_of, conds_of, frame, frame_all, key_frame, key_places, padded, past, slots_of, upper_leaves}
-use Rattle.qgm_shown.specs.Sources.{Sources}
-use Rattle.qgm_shown.proofs.FoldsSame.{folds_append}
+use Rattle.qgm_translation.specs.Folds.{folds_in}
+use Rattle.qgm_translation.specs.Lay.{Boxes, Drawn, Laid, Step, drawn, in_turn, laying, put, ranging}
+use Rattle.qgm_translation.specs.Lay as l
+use Rattle.qgm_translation.specs.Leaves.{Leaf, list_leaves, test_leaves}
+use Rattle.qgm_translation.specs.Maps.{Frame, nothing, ref_term}
+use Rattle.qgm_translation.specs.Shown.{all_leaves, columns_of, conds_of, frame, frame_all, key_frame, key_places, padded, past, slots_of, upper_leaves}
+use Rattle.qgm_translation.specs.Sources.{Sources}
+use Rattle.qgm_translation.proofs.FoldsSame.{folds_append}
 use Rattle.qgm_build.specs.Laying.{Opens, block_box, block_groups, block_subs, flat_box, flat_laid, from_step, froms_step, group_box, on_step, outer_of, query_laid, rows_box, rows_subs, told_at, upper_box, upper_laid}
-use Rattle.built_terms.specs.Making.{Gives, Takes, after_subs, top_at}
-use Rattle.built_terms.specs.declared.setting.Ground.{Ground}
+use Rattle.qgm_build_terms.specs.Making.{Gives, Takes, after_subs, top_at}
+use Rattle.qgm_build_terms.specs.declared.setting.Ground.{Ground}
 use Rattle.qgm_build.proofs.Paired.{arguments_folds, both_folds, fold_terms_folds}
 use Rattle.qgm_build.proofs.Selected.{gives_at, gives_over}
 use Rattle.qgm_build.proofs.Taking.{takes_three}
@@ -42,7 +42,7 @@ opens_from g from subs s s1 s2 start fs fs2 fs3 begin ps fr fr2 st d e2 e3 frs e
       boxes = u.boxes ∙ ap (λ (z : Drawn). z.boxes) step;
     }
 
--- the same of quantifiers that are drawn from none
+-- what is laid after a FROM, where its quantifiers and those of its subqueries are drawn from none
 pub opens_parts : (g : Ground) (from : Froms) (subs : Frame → List OwnedQuant → Step) (s s1 s2 : Boxes) (fs ps : List OwnedQuant) (fr : Frame)
     → Takes (froms_step g from) s [] s1 fs → fr ≡ frame_all (told_at g) from fs → Takes (subs fr fs) s1 [] s2 ps → Opens g from subs s fr fs ps s2
 opens_parts g from subs s s1 s2 fs ps fr d frs u = opens_from g from subs s s1 s2 [] fs fs fs [] ps fr fr refl d refl refl frs refl refl u

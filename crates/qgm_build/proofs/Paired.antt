@@ -8,17 +8,17 @@ use Rattle.qgm_core.specs.declared.kinds.SetOperator.{SetOperator}
 use Rattle.qgm_core.specs.declared.owned.OwnedQuant.{OwnedQuant}
 use Rattle.qgm_terms.specs.Terms.{Cond, Term}
 use Rattle.qgm_terms.specs.Terms as t
-use Rattle.qgm_shown.specs.Folds.{folds_in}
-use Rattle.qgm_shown.specs.Lay.{Boxes, Drawn, Laid, Step, drawn, in_turn, laying, pair_of, put, ranging}
-use Rattle.qgm_shown.specs.Lay as l
-use Rattle.qgm_shown.specs.Leaves.{Leaf, after, count, fold, list_leaves, sub, test_leaves}
-use Rattle.qgm_shown.specs.Maps.{Frame, Map, column, ref_term}
-use Rattle.qgm_shown.specs.Shown.{aggregate, argument_terms, columns_of, fold_refs, fold_terms, key_frame, no_slots, refs, taken, upper_leaves, upper_slots}
-use Rattle.qgm_shown.specs.Sources.{Sources, from_width}
-use Rattle.qgm_shown.specs.Terms.{cond, split, term, terms}
-use Rattle.qgm_shown.specs.Typing.{typed_by}
-use Rattle.qgm_shown.proofs.FoldsSame.{folds_append, test_same, values_same}
-use Rattle.built_terms.specs.Making.{Gives, Takes, after_subs, draws, top_at}
+use Rattle.qgm_translation.specs.Folds.{folds_in}
+use Rattle.qgm_translation.specs.Lay.{Boxes, Drawn, Laid, Step, drawn, in_turn, laying, pair_of, put, ranging}
+use Rattle.qgm_translation.specs.Lay as l
+use Rattle.qgm_translation.specs.Leaves.{Leaf, after, count, fold, list_leaves, sub, test_leaves}
+use Rattle.qgm_translation.specs.Maps.{Frame, Map, column, ref_term}
+use Rattle.qgm_translation.specs.Shown.{aggregate, argument_terms, columns_of, fold_refs, fold_terms, key_frame, no_slots, refs, taken, upper_leaves, upper_slots}
+use Rattle.qgm_translation.specs.Sources.{Sources, from_width}
+use Rattle.qgm_translation.specs.Terms.{cond, split, term, terms}
+use Rattle.qgm_translation.specs.Typing.{typed_by}
+use Rattle.qgm_translation.proofs.FoldsSame.{folds_append, test_same, values_same}
+use Rattle.qgm_build_terms.specs.Making.{Gives, Takes, after_subs, draws, top_at}
 use Rattle.qgm_build.proofs.Selected.{gives_at}
 
 -- ---- subqueries among leaves don't count

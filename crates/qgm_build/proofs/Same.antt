@@ -5,10 +5,10 @@ use Rattle.sql_meaning.specs.ResolvedTrees.{From, Froms, Test}
 use Rattle.sql_meaning.specs.ResolvedTrees as q
 use Rattle.qgm_core.specs.declared.owned.OwnedQuant.{OwnedQuant}
 use Rattle.qgm_terms.specs.Terms.{Term}
-use Rattle.qgm_shown.specs.Leaves.{Leaf, test_leaves}
-use Rattle.qgm_shown.specs.Maps.{Frame}
-use Rattle.qgm_shown.specs.Shown.{all_leaves, all_on_leaves, first_id, frame, frame_all, on_leaves, past, refs}
-use Rattle.qgm_shown.specs.Sources.{Sources, from_width}
+use Rattle.qgm_translation.specs.Leaves.{Leaf, test_leaves}
+use Rattle.qgm_translation.specs.Maps.{Frame}
+use Rattle.qgm_translation.specs.Shown.{all_leaves, all_on_leaves, first_id, frame, frame_all, on_leaves, past, refs}
+use Rattle.qgm_translation.specs.Sources.{Sources, from_width}
 
 module _ (k : Sources) (shared : List ℕ → ℕ) (typed : Term → SqlType) where
   abbrev pub also : Sources

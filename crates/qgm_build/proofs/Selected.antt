@@ -7,18 +7,18 @@ use Rattle.sql_meaning.specs.ResolvedTrees as q
 use Rattle.qgm_core.specs.declared.kinds.BoxKind.TheVariants.{Select}
 use Rattle.qgm_core.specs.declared.owned.OwnedQuant.{OwnedQuant}
 use Rattle.qgm_terms.specs.Terms.{Cond, Term}
-use Rattle.qgm_shown.specs.Folds.{on_folds}
-use Rattle.qgm_shown.specs.Lay.{Boxes, Drawn, Laid, box_named, flat_box, laying, put, select_box}
-use Rattle.qgm_shown.specs.Leaves.{Leaf, Slots, list_leaves}
-use Rattle.qgm_shown.specs.Maps.{Frame, Map, ref_term}
-use Rattle.qgm_shown.specs.Shown.{all_leaves, conds_of, frame, frame_all, no_slots, on_leaves, ons, rows_list, slots_of, ungrouped_cells}
-use Rattle.qgm_shown.specs.Sources.{Sources}
-use Rattle.qgm_shown.specs.Terms.{terms}
-use Rattle.qgm_shown.specs.Typing.{typed_by}
-use Rattle.qgm_shown.proofs.FoldsSame.{on_same}
-use Rattle.built_terms.specs.Making.{Gives, after_subs}
-use Rattle.built_terms.specs.Written.{slots_from}
-use Rattle.built_terms.proofs.Grouped.{ungrouped_folds}
+use Rattle.qgm_translation.specs.Folds.{on_folds}
+use Rattle.qgm_translation.specs.Lay.{Boxes, Drawn, Laid, box_named, flat_box, laying, put, select_box}
+use Rattle.qgm_translation.specs.Leaves.{Leaf, Slots, list_leaves}
+use Rattle.qgm_translation.specs.Maps.{Frame, Map, ref_term}
+use Rattle.qgm_translation.specs.Shown.{all_leaves, conds_of, frame, frame_all, no_slots, on_leaves, ons, rows_list, slots_of, ungrouped_cells}
+use Rattle.qgm_translation.specs.Sources.{Sources}
+use Rattle.qgm_translation.specs.Terms.{terms}
+use Rattle.qgm_translation.specs.Typing.{typed_by}
+use Rattle.qgm_translation.proofs.FoldsSame.{on_same}
+use Rattle.qgm_build_terms.specs.Making.{Gives, after_subs}
+use Rattle.qgm_build_terms.specs.Written.{slots_from}
+use Rattle.qgm_build_terms.proofs.Grouped.{ungrouped_folds}
 use Rattle.qgm_build.proofs.Same.{all_leaves_same, frame_all_same, frame_same}
 
 pub gives_at : {r q : Laid} {b : ℕ} {t : Boxes} → r ≡ q → Gives r b t → Gives q b t
@@ -106,7 +106,7 @@ made_of (Ok b) (Ok made) (Err e) P A B S T h a c s f = absurd h
 made_of (Ok b) (Err e) quants P A B S T h a c s f = absurd h
 made_of (Err e) parts quants P A B S T h a c s f = tt
 
--- the same where the boxes too are known of the quantifiers
+-- a box that is made of parts and quantifiers, by what holds of these and of the boxes that the quantifiers leave
 pub made_on : {W E : Type 0} (r : Result ℕ E) (parts : Result W E) (quants : Result (List OwnedQuant) E) (P : ℕ → W → List OwnedQuant → Type 0) (A B : W → Type 0) (S : List OwnedQuant → Type 0) (Z : Type 0) (T : ℕ → Type 0)
     → IfOk r (λ b. IsOkAnd parts (λ made. IsOkAnd quants (λ qs. P b made qs))) → IfOk parts A → IfOk parts B → IfOk quants S → OnOk quants Z
     → ((b : ℕ) (made : W) (qs : List OwnedQuant) → P b made qs → A made → B made → S qs → Z → T b) → IfOk r T

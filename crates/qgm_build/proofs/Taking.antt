@@ -4,9 +4,9 @@ use Rattle.std.specs.Result.{OnOk, result_and}
 use Rattle.std.proofs.Common.{◌≡◌, ◌<◌, ◌+◌, ℕ, List, ◌∷◌, ◌++◌, Result, Ok, Err, append_assoc, append-nil, length, drop, get_or, ap, ap₂, refl, subst, sym, ◌∙◌}
 use Rattle.qgm_core.specs.declared.kinds.QuantKind.{QuantKind}
 use Rattle.qgm_core.specs.declared.owned.OwnedQuant.{OwnedQuant}
-use Rattle.qgm_shown.specs.Lay.{Boxes, Laid, Step, in_turn, none, over}
-use Rattle.built_terms.specs.Making.{Gives, Leads, Takes, draws}
-use Rattle.built_terms.proofs.Steps.{next_there}
+use Rattle.qgm_translation.specs.Lay.{Boxes, Laid, Step, in_turn, none, over}
+use Rattle.qgm_build_terms.specs.Making.{Gives, Leads, Takes, draws}
+use Rattle.qgm_build_terms.proofs.Steps.{next_there}
 
 pub takes_none : (s : Boxes) (os : List OwnedQuant) → Takes none s os s os
 takes_none s os = record { boxes = refl; quants = sym (append-nil os) }

@@ -3,12 +3,12 @@ use Rattle.std.specs.Prelude.{List, [], ◌++◌}
 use Rattle.sql_meaning.specs.ResolvedShown as shown
 use Rattle.qgm_core.specs.declared.owned.OwnedQuant.{OwnedQuant}
 use Rattle.qgm_terms.specs.Terms.{Cond, Term}
-use Rattle.qgm_shown.specs.Leaves.{Leaf, Slots, list_leaves, test_leaves}
-use Rattle.qgm_shown.specs.Maps.{Frame, Map}
-use Rattle.qgm_shown.specs.Shown.{all_leaves, conds_of, frame_all, slots_of}
-use Rattle.qgm_shown.specs.Sources.{Sources}
-use Rattle.qgm_shown.specs.Terms.{terms}
-use Rattle.qgm_shown.specs.Folds.{all_on_folds, folds_in}
+use Rattle.qgm_translation.specs.Leaves.{Leaf, Slots, list_leaves, test_leaves}
+use Rattle.qgm_translation.specs.Maps.{Frame, Map}
+use Rattle.qgm_translation.specs.Shown.{all_leaves, conds_of, frame_all, slots_of}
+use Rattle.qgm_translation.specs.Sources.{Sources}
+use Rattle.qgm_translation.specs.Terms.{terms}
+use Rattle.qgm_translation.specs.Folds.{all_on_folds, folds_in}
 use Rattle.qgm_build.specs.declared.select.Block.{Block}
 use Rattle.qgm_build.specs.declared.select.Rows.{Rows}
 

@@ -5,19 +5,19 @@ use Rattle.sql_meaning.specs.ResolvedTrees.{Value, Addends, Multipliers, Values,
 use Rattle.qgm_core.specs.declared.kinds.QuantKind.TheVariants.{F}
 use Rattle.qgm_core.specs.declared.kinds.SetOperator.{SetOperator}
 use Rattle.qgm_core.specs.declared.owned.OwnedQuant.{OwnedQuant}
-use Rattle.qgm_shown.specs.Lay.{Boxes, Drawn, Laid, Step, drawn, in_turn, laying}
-use Rattle.qgm_shown.specs.Lay as l
-use Rattle.qgm_shown.specs.Leaves.{Leaf, Slots, after, list_leaves}
-use Rattle.qgm_shown.specs.Maps.{Frame, Map}
-use Rattle.qgm_shown.specs.Shown.{frame_all, key_frame, key_places, rows_list, upper_leaves, upper_slots}
-use Rattle.qgm_shown.specs.Sources.{Sources}
-use Rattle.qgm_shown.specs.Terms.{cond, split, terms}
+use Rattle.qgm_translation.specs.Lay.{Boxes, Drawn, Laid, Step, drawn, in_turn, laying}
+use Rattle.qgm_translation.specs.Lay as l
+use Rattle.qgm_translation.specs.Leaves.{Leaf, Slots, after, list_leaves}
+use Rattle.qgm_translation.specs.Maps.{Frame, Map}
+use Rattle.qgm_translation.specs.Shown.{frame_all, key_frame, key_places, rows_list, upper_leaves, upper_slots}
+use Rattle.qgm_translation.specs.Sources.{Sources}
+use Rattle.qgm_translation.specs.Terms.{cond, split, terms}
 use Rattle.qgm_terms.specs.Terms.{Cond, Term}
-use Rattle.built_terms.specs.Making.{top_at}
-use Rattle.built_terms.specs.Setting.{told}
-use Rattle.built_terms.specs.Written.{frame_of, map_of}
-use Rattle.built_terms.specs.declared.setting.Ground.{Ground}
-use Rattle.built_terms.specs.declared.setting.Seat.{Seat}
+use Rattle.qgm_build_terms.specs.Making.{top_at}
+use Rattle.qgm_build_terms.specs.Setting.{told}
+use Rattle.qgm_build_terms.specs.Written.{frame_of, map_of}
+use Rattle.qgm_build_terms.specs.declared.setting.Ground.{Ground}
+use Rattle.qgm_build_terms.specs.declared.setting.Seat.{Seat}
 
 abbrev pub told_at : Ground → Sources
 told_at g = told g.names
@@ -95,7 +95,7 @@ upper_laid g distinct list places n having r =
     l.upper_box (told_at g) (laying (told_at g)) distinct list places n having (outer_of g) r.boxes.quant r.top
     (in_turn (l.list_subs (told_at g) (laying (told_at g)) (outer_of g) up list) (l.test_subs (told_at g) (laying (told_at g)) (outer_of g) up having) (drawn F r).boxes)
 
--- the same, whose quantifier has the number u, and whose subqueries were laid
+-- the select over groups whose quantifier has the number u, and whose subqueries were laid
 abbrev pub upper_box : Ground → Bool → Values → List ℕ → ℕ → Test → ℕ → ℕ → Drawn → Laid
 upper_box g distinct list places n having u b c = l.upper_box (told_at g) (laying (told_at g)) distinct list places n having (outer_of g) u b c
 
@@ -113,7 +113,7 @@ upper_conds h u list places having subs s =
 abbrev pub flat_box : Ground → From → List OwnedQuant → Drawn → Laid
 flat_box g x fs c = l.flat_box (told_at g) (laying (told_at g)) x (outer_of g) fs c
 
--- the same, whose quantifiers are drawn, and then those of the subqueries of its ON conditions
+-- the select of a join that isn't flattened: its quantifiers are drawn, and then those of the subqueries of its ON conditions
 abbrev pub flat_laid : Ground → From → Boxes → Laid
 flat_laid g x s =
     let f = from_step g x s in

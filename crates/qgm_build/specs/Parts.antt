@@ -3,11 +3,11 @@ use Rattle.std.specs.Prelude.{Bool, true, false, List}
 use Rattle.sql_meaning.specs.ResolvedTrees as q
 use Rattle.sql_meaning.specs.ResolvedTrees.{From, Query}
 use Rattle.qgm_core.specs.declared.owned.OwnedQuant.{OwnedQuant}
-use Rattle.qgm_shown.specs.Lay.{Step, in_turn, none}
-use Rattle.qgm_shown.specs.Maps.{Frame}
+use Rattle.qgm_translation.specs.Lay.{Step, in_turn, none}
+use Rattle.qgm_translation.specs.Maps.{Frame}
 use Rattle.qgm_build.specs.Laying.{block_subs, list_step, rows_subs, test_step}
-use Rattle.built_terms.specs.declared.setting.Ground.{Ground}
-use Rattle.built_terms.specs.declared.setting.Seat.{Seat}
+use Rattle.qgm_build_terms.specs.declared.setting.Ground.{Ground}
+use Rattle.qgm_build_terms.specs.declared.setting.Seat.{Seat}
 
 -- the subqueries of a block, or of the rows of a grouped one
 abbrev pub subs_step : Ground → Query → Frame → List OwnedQuant → Step

@@ -7,15 +7,15 @@ use Rattle.sql_catalog.specs.declared.catalog.Catalog.{Catalog}
 use Rattle.sql_check.specs.declared.checked.Checked.{Checked}
 use Rattle.sql_check.specs.declared.checked.Views.{Views}
 use Rattle.sql_meaning.specs.ResolvedShown as shown
-use Rattle.query_checks.specs.declared.view.ViewHead.{ViewHead}
-use Rattle.built_queries.specs.Sources.{stored_table}
-use Rattle.built_queries.specs.Typing.{known_types}
+use Rattle.sql_faults.specs.declared.view.ViewHead.{ViewHead}
+use Rattle.qgm_translation_laws.specs.Sources.{stored_table}
+use Rattle.qgm_translation_laws.specs.Typing.{known_types}
 use Rattle.qgm_core.specs.declared.kinds.BaseTable.{BaseTable}
-use Rattle.qgm_shown.specs.Lay.{Laid}
-use Rattle.qgm_shown.specs.Sources.{Sources}
-use Rattle.qgm_shown.specs.Whole.{lay_whole}
-use Rattle.built_terms.specs.Setting.{told_by}
-use Rattle.built_terms.specs.declared.setting.Named.{Named}
+use Rattle.qgm_translation.specs.Lay.{Laid}
+use Rattle.qgm_translation.specs.Sources.{Sources}
+use Rattle.qgm_translation.specs.Whole.{lay_whole}
+use Rattle.qgm_build_terms.specs.Setting.{told_by}
+use Rattle.qgm_build_terms.specs.declared.setting.Named.{Named}
 
 -- a declared table
 abbrev pub base_of : TableDecl → BaseTable

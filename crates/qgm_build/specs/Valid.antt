@@ -6,11 +6,11 @@ use Rattle.sql_check.specs.Checked.{AreViews}
 use Rattle.sql_check.specs.declared.checked.Checked.{Checked}
 use Rattle.sql_check.specs.declared.checked.Views.{Views}
 use Rattle.sql_meaning.specs.ResolvedShown as shown
-use Rattle.name_resolution.specs.Resolved.{query}
-use Rattle.name_resolution.specs.Schema.{schema_columns}
+use Rattle.sql_names.specs.Resolved.{query}
+use Rattle.sql_names.specs.Schema.{schema_columns}
 use Rattle.qgm_core.specs.Boxes.{QueryGraph}
-use Rattle.built_queries.specs.Joined.{ValidQuery}
-use Rattle.built_queries.specs.Laid.{IsGraphOf, IsRight}
+use Rattle.qgm_translation_laws.specs.Joined.{ValidQuery}
+use Rattle.qgm_translation_laws.specs.Laid.{IsGraphOf, IsRight}
 
 -- a checked query is a valid text with its names resolved
 pub record IsOfText (catalog : Declared) (checked : Checked) (text : s.QueryText) : Type 0 where

@@ -1,10 +1,10 @@
 // What a graph knows of a declared table.
 ghost use Rattle.std.specs.Prelude.{◌≡◌, ◌++◌, IfOk, OnOk, filter, map, suc};
-ghost use Rattle.query_checks.specs.Columns as columns;
-ghost use Rattle.built_queries.specs.Sources as spec;
+ghost use Rattle.sql_faults.specs.Columns as columns;
+ghost use Rattle.qgm_translation_laws.specs.Sources as spec;
 ghost use Rattle.qgm_build.specs.Schema.{base_of};
 
-use built_terms::after;
+use qgm_build_terms::after;
 use qgm_core::BaseTable;
 use shared_types::{OutOfMemory, Text};
 use sql_ast::{DataType, TableDecl};

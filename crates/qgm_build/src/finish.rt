@@ -4,22 +4,22 @@ ghost use Rattle.sql_meaning.specs.ResolvedShown as shown;
 ghost use Rattle.qgm_terms.specs.Shown.{term, terms};
 ghost use Rattle.qgm_terms.specs.Terms as t;
 ghost use Rattle.qgm_core.specs.declared.kinds.BoxKind.TheVariants.{Select};
-ghost use Rattle.qgm_shown.specs.Lay.{laying, put};
-ghost use Rattle.qgm_shown.specs.Maps.{nothing, ref_term};
-ghost use Rattle.qgm_shown.specs.Shown as w;
-ghost use Rattle.qgm_shown.specs.Terms as meant;
-ghost use Rattle.qgm_shown.specs.Folds.{on_folds};
+ghost use Rattle.qgm_translation.specs.Lay.{laying, put};
+ghost use Rattle.qgm_translation.specs.Maps.{nothing, ref_term};
+ghost use Rattle.qgm_translation.specs.Shown as w;
+ghost use Rattle.qgm_translation.specs.Terms as meant;
+ghost use Rattle.qgm_translation.specs.Folds.{on_folds};
 ghost use Rattle.qgm_build.specs.Block.{conds_in_block, conds_in_rows, head_in_block};
-ghost use Rattle.built_terms.specs.Folds.{leaf_of};
+ghost use Rattle.qgm_build_terms.specs.Folds.{leaf_of};
 ghost use Rattle.qgm_build.specs.Laying as spec;
 ghost use Rattle.qgm_build.specs.Laying.{outer_of, told_at};
-ghost use Rattle.built_terms.specs.Making.{Gives, after_subs};
-ghost use Rattle.built_terms.specs.Setting.{frame_in, outer_in, sources_in};
-ghost use Rattle.built_terms.specs.SoFar.{so_far};
-ghost use Rattle.built_terms.specs.Written.{frame_of, ref_of, slots_from};
+ghost use Rattle.qgm_build_terms.specs.Making.{Gives, after_subs};
+ghost use Rattle.qgm_build_terms.specs.Setting.{frame_in, outer_in, sources_in};
+ghost use Rattle.qgm_build_terms.specs.SoFar.{so_far};
+ghost use Rattle.qgm_build_terms.specs.Written.{frame_of, ref_of, slots_from};
 
 use crate::select::{Block, Rows, Selected, select_parts, write_block, write_conds};
-use built_terms::{
+use qgm_build_terms::{
     Fold, Ground, Ranges, Scopes, Seat, Seen, Setting, Slots, Store, frame, head_of, in_frame,
     on_conds, on_folds, push_boxed, put, seen_term, setting_of, site_of, ungrouped_cells, value,
 };
@@ -193,7 +193,7 @@ fn padded(list: Vec<Gx>) -> Result<Vec<Gx>, OutOfMemory>
     Ok(out)
 }
 
-// The same, by the boxes so far.
+// Adds the arguments of aggregates, written by what names and expressions are after the boxes so far.
 fn add_arguments(
     h: &Seat<'_>,
     folds: &[Fold<'_>],
@@ -259,7 +259,7 @@ fn rows_conds(
     write_conds(&setting_of(&h, st), x, fs, subs)
 }
 
-// Both.
+// The head and the conditions of the rows of a grouped block.
 fn rows_parts(
     g: &Ground<'_>,
     x: &Rows<'_>,
@@ -335,7 +335,7 @@ fn flat_conds(
     Ok(conds)
 }
 
-// Both.
+// The head and the ON conditions of an operand.
 fn flat_parts(
     g: &Ground<'_>,
     x: &From,

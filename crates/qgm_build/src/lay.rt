@@ -1,21 +1,21 @@
 // The boxes of a query, made from the lowest up.
 ghost use Rattle.std.specs.Prelude.{◌≡◌, ◌++◌, [], true, IfOk, IsOkAnd, OnOk};
 ghost use Rattle.sql_meaning.specs.ResolvedShown as shown;
-ghost use Rattle.qgm_shown.specs.Lay.{laying};
-ghost use Rattle.qgm_shown.specs.Lay as l;
-ghost use Rattle.qgm_shown.specs.Leaves as leaves;
-ghost use Rattle.qgm_shown.specs.Shown as w;
+ghost use Rattle.qgm_translation.specs.Lay.{laying};
+ghost use Rattle.qgm_translation.specs.Lay as l;
+ghost use Rattle.qgm_translation.specs.Leaves as leaves;
+ghost use Rattle.qgm_translation.specs.Shown as w;
 ghost use Rattle.qgm_build.specs.Laying as spec;
 ghost use Rattle.qgm_build.specs.Laying.{outer_of, told_at};
 ghost use Rattle.qgm_build.specs.Parts.{is_single, subs_step, upper_step};
-ghost use Rattle.built_terms.specs.Making.{Gives, Takes, draws};
-ghost use Rattle.built_terms.specs.SoFar.{so_far};
-ghost use Rattle.built_terms.specs.Written.{frame_of};
+ghost use Rattle.qgm_build_terms.specs.Making.{Gives, Takes, draws};
+ghost use Rattle.qgm_build_terms.specs.SoFar.{so_far};
+ghost use Rattle.qgm_build_terms.specs.Written.{frame_of};
 
 use crate::finish::{Opened, finish_block, finish_flat, finish_rows};
 use crate::pairs::{Upper, finish_group, finish_outer, finish_pair, finish_upper, upper_folds};
 use crate::select::{Block, Rows};
-use built_terms::{
+use qgm_build_terms::{
     Ground, Ranges, Scopes, Seat, Seen, Store, draw, frame_all, joined_frame, key_frame, next_id,
     number, number_named, site_of,
 };
@@ -305,7 +305,7 @@ fn operand(g: &Ground<'_>, x: &From, st: &mut Store) -> Result<BoxId, OutOfMemor
     }
 }
 
-// The same of an operand that has one quantifier.
+// The box of an operand of a LEFT JOIN that has one quantifier.
 #[cycle(lay)]
 fn single(g: &Ground<'_>, x: &From, st: &mut Store) -> Result<BoxId, OutOfMemory>
     requires form { is_single (shown.from x.now) ≡ true }
@@ -416,7 +416,7 @@ fn joined_subs(
     test_subs(&h, p, st, out)
 }
 
-// The same of a FROM.
+// Adds the quantifiers of the subqueries of all ON conditions of a FROM.
 #[cycle(lay)]
 fn all_on_subs(
     g: &Ground<'_>,
@@ -488,7 +488,7 @@ fn value_subs(h: &Seat<'_>, x: &Value, st: &mut Store, out: &mut Owned) -> Resul
     }
 }
 
-// The same of what is added.
+// Adds the quantifiers of the subqueries of the operands of a sum.
 #[cycle(lay)]
 fn addend_subs(
     h: &Seat<'_>,
@@ -504,7 +504,7 @@ fn addend_subs(
     Ok(())
 }
 
-// The same of what is multiplied.
+// Adds the quantifiers of the subqueries of the operands of a product.
 #[cycle(lay)]
 fn multiplier_subs(
     h: &Seat<'_>,
@@ -520,7 +520,7 @@ fn multiplier_subs(
     Ok(())
 }
 
-// The same of a list.
+// Adds the quantifiers of the subqueries of a list of expressions.
 #[cycle(lay)]
 fn list_subs(
     h: &Seat<'_>,
@@ -536,7 +536,7 @@ fn list_subs(
     Ok(())
 }
 
-// The same of conditions with their results.
+// Adds the quantifiers of the subqueries of the arms of a CASE: of their conditions and results.
 #[cycle(lay)]
 fn arm_subs(h: &Seat<'_>, list: &[Arm], st: &mut Store, out: &mut Owned) -> Result<(), OutOfMemory>
     ensures { OnOk result (Takes (spec.arm_step h.now (shown.arm_list list.now)) (so_far st.old) out.old (so_far st.new) out.new) }
@@ -548,7 +548,7 @@ fn arm_subs(h: &Seat<'_>, list: &[Arm], st: &mut Store, out: &mut Owned) -> Resu
     Ok(())
 }
 
-// The same of values with their results.
+// Adds the quantifiers of the subqueries of the arms of a CASE with an operand: of their values and results.
 #[cycle(lay)]
 fn choice_subs(
     h: &Seat<'_>,
@@ -565,7 +565,7 @@ fn choice_subs(
     Ok(())
 }
 
-// The same of a condition.
+// Adds the quantifiers of the subqueries of a condition.
 #[cycle(lay)]
 fn test_subs(h: &Seat<'_>, p: &Test, st: &mut Store, out: &mut Owned) -> Result<(), OutOfMemory>
     ensures { OnOk result (Takes (spec.test_step h.now (shown.test p.now)) (so_far st.old) out.old (so_far st.new) out.new) }
@@ -592,7 +592,7 @@ fn test_subs(h: &Seat<'_>, p: &Test, st: &mut Store, out: &mut Owned) -> Result<
     }
 }
 
-// The same of conditions.
+// Adds the quantifiers of the subqueries of conditions.
 #[cycle(lay)]
 fn tests_subs(
     h: &Seat<'_>,

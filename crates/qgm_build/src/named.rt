@@ -1,11 +1,11 @@
 // How many columns the tables and the views of a schema have.
 ghost use Rattle.std.specs.Prelude.{◌≡◌, ◌++◌, IfOk, OnOk, length, map};
 ghost use Rattle.sql_ast.specs.Declarations.{columns_of};
-ghost use Rattle.built_queries.specs.Typing.{known_types};
+ghost use Rattle.qgm_translation_laws.specs.Typing.{known_types};
 ghost use Rattle.qgm_build.specs.Schema.{named_table, named_view, schema_named};
 
-use built_terms::{Named, after};
-use query_checks::{TypedColumn, ViewHead};
+use qgm_build_terms::{Named, after};
+use sql_faults::{TypedColumn, ViewHead};
 use shared_types::OutOfMemory;
 use sql_ast::{Element, TableDecl};
 use sql_catalog::Catalog;

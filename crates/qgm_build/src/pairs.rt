@@ -5,25 +5,25 @@ ghost use Rattle.qgm_terms.specs.Shown.{terms};
 ghost use Rattle.qgm_terms.specs.Terms as t;
 ghost use Rattle.qgm_core.specs.declared.kinds.BoxKind.TheVariants.{OuterJoin};
 ghost use Rattle.qgm_core.specs.declared.kinds.QuantKind.TheVariants.{F};
-ghost use Rattle.qgm_shown.specs.Folds.{folds_in};
-ghost use Rattle.qgm_shown.specs.Lay.{laying, ranging};
-ghost use Rattle.qgm_shown.specs.Lay as l;
-ghost use Rattle.qgm_shown.specs.Maps.{ref_term};
-ghost use Rattle.qgm_shown.specs.Leaves.{list_leaves, test_leaves};
-ghost use Rattle.qgm_shown.specs.Shown as w;
-ghost use Rattle.qgm_shown.specs.Sources.{from_width};
-ghost use Rattle.qgm_shown.specs.Terms as meant;
-ghost use Rattle.qgm_shown.specs.Typing.{typed_by};
-ghost use Rattle.built_terms.specs.Folds.{leaf_of};
+ghost use Rattle.qgm_translation.specs.Folds.{folds_in};
+ghost use Rattle.qgm_translation.specs.Lay.{laying, ranging};
+ghost use Rattle.qgm_translation.specs.Lay as l;
+ghost use Rattle.qgm_translation.specs.Maps.{ref_term};
+ghost use Rattle.qgm_translation.specs.Leaves.{list_leaves, test_leaves};
+ghost use Rattle.qgm_translation.specs.Shown as w;
+ghost use Rattle.qgm_translation.specs.Sources.{from_width};
+ghost use Rattle.qgm_translation.specs.Terms as meant;
+ghost use Rattle.qgm_translation.specs.Typing.{typed_by};
+ghost use Rattle.qgm_build_terms.specs.Folds.{leaf_of};
 ghost use Rattle.qgm_build.specs.Laying as spec;
 ghost use Rattle.qgm_build.specs.Laying.{outer_of, told_at};
-ghost use Rattle.built_terms.specs.Making.{Gives, after_subs};
-ghost use Rattle.built_terms.specs.SoFar.{so_far};
-ghost use Rattle.built_terms.specs.Written.{frame_of};
+ghost use Rattle.qgm_build_terms.specs.Making.{Gives, after_subs};
+ghost use Rattle.qgm_build_terms.specs.SoFar.{so_far};
+ghost use Rattle.qgm_build_terms.specs.Written.{frame_of};
 
 use crate::finish::{append, put_select, seen_head, seen_terms};
 use crate::select::{Selected, list_head, select_parts, split_test};
-use built_terms::{
+use qgm_build_terms::{
     Fold, Ground, Seat, Seen, Slots, Store, after, draw, fold_terms, from_width, group_cells,
     head_of, list_folds, push_refs, put, row_type, setting_of, site_of, test_folds,
 };

@@ -1,7 +1,7 @@
 // Which tables and views a query reads. Both sides of a choice are read, so that it makes one path.
 ghost use Rattle.std.specs.Prelude.{◌≡◌};
 ghost use Rattle.sql_meaning.specs.ResolvedShown as shown;
-ghost use Rattle.qgm_shown.specs.Reads as spec;
+ghost use Rattle.qgm_translation.specs.Reads as spec;
 
 use shared_types::Text;
 use sql_meaning::{Addend, Arm, Choice, From, Multiplier, Query, Test, Value};
@@ -31,7 +31,7 @@ fn value_reads(x: &Value, name: &Text) -> bool
     }
 }
 
-// The same of what is added.
+// Whether a subquery of the operands of a sum reads this table.
 #[cycle(reads)]
 fn addends_read(list: &[Addend], name: &Text) -> bool
     ensures { result ≡ spec.addends_read (shown.addend_list list.now) name.now }
@@ -44,7 +44,7 @@ fn addends_read(list: &[Addend], name: &Text) -> bool
     false
 }
 
-// The same of what is multiplied.
+// Whether a subquery of the operands of a product reads this table.
 #[cycle(reads)]
 fn multipliers_read(list: &[Multiplier], name: &Text) -> bool
     ensures { result ≡ spec.multipliers_read (shown.multiplier_list list.now) name.now }
@@ -57,7 +57,7 @@ fn multipliers_read(list: &[Multiplier], name: &Text) -> bool
     false
 }
 
-// The same of a list.
+// Whether a subquery of a list of expressions reads this table.
 #[cycle(reads)]
 pub(crate) fn values_read(list: &[Value], name: &Text) -> bool
     ensures { result ≡ spec.values_read (shown.value_list list.now) name.now }
@@ -70,7 +70,7 @@ pub(crate) fn values_read(list: &[Value], name: &Text) -> bool
     false
 }
 
-// The same of conditions with their results.
+// Whether a subquery of the arms of a CASE, of their conditions and results, reads this table.
 #[cycle(reads)]
 fn arms_read(list: &[Arm], name: &Text) -> bool
     ensures { result ≡ spec.arms_read (shown.arm_list list.now) name.now }
@@ -83,7 +83,7 @@ fn arms_read(list: &[Arm], name: &Text) -> bool
     false
 }
 
-// The same of values with their results.
+// Whether a subquery of the arms of a CASE with an operand, of their values and results, reads this table.
 #[cycle(reads)]
 fn choices_read(list: &[Choice], name: &Text) -> bool
     ensures { result ≡ spec.choices_read (shown.choice_list list.now) name.now }
@@ -96,7 +96,7 @@ fn choices_read(list: &[Choice], name: &Text) -> bool
     false
 }
 
-// The same of a condition.
+// Whether a subquery of a condition reads this table.
 #[cycle(reads)]
 pub(crate) fn test_reads(p: &Test, name: &Text) -> bool
     ensures { result ≡ spec.test_reads (shown.test p.now) name.now }
@@ -117,7 +117,7 @@ pub(crate) fn test_reads(p: &Test, name: &Text) -> bool
     }
 }
 
-// The same of a list of conditions.
+// Whether a subquery of a list of conditions reads this table.
 #[cycle(reads)]
 fn tests_read(list: &[Test], name: &Text) -> bool
     ensures { result ≡ spec.tests_read (shown.test_list list.now) name.now }
@@ -130,7 +130,7 @@ fn tests_read(list: &[Test], name: &Text) -> bool
     false
 }
 
-// The same of a table of a FROM, which may be this table.
+// Whether a table of a FROM is this table or reads it.
 #[cycle(reads)]
 fn from_reads(x: &From, name: &Text) -> bool
     ensures { result ≡ spec.from_reads (shown.from x.now) name.now }
@@ -145,7 +145,7 @@ fn from_reads(x: &From, name: &Text) -> bool
     }
 }
 
-// The same of a FROM.
+// Whether a table of this FROM is this table or reads it.
 #[cycle(reads)]
 fn froms_read(list: &[From], name: &Text) -> bool
     ensures { result ≡ spec.froms_read (shown.from_list list.now) name.now }

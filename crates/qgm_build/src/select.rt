@@ -2,15 +2,15 @@
 ghost use Rattle.std.specs.Prelude.{◌≡◌, ◌++◌, [], IfOk, IsOkAnd, OnOk, map};
 ghost use Rattle.sql_meaning.specs.ResolvedShown as shown;
 ghost use Rattle.qgm_build.specs.Block.{aggregates_of, aggregates_of_rows, conds_in_block, conds_in_rows, frame_of_block, head_in_block};
-ghost use Rattle.qgm_shown.specs.Leaves.{after, list_leaves};
-ghost use Rattle.qgm_shown.specs.Shown.{all_on_leaves, all_ons, frame_all, ungrouped_cells};
-ghost use Rattle.qgm_shown.specs.Terms as meant;
-ghost use Rattle.built_terms.specs.Folds.{leaf_of};
-ghost use Rattle.built_terms.specs.Site.{sources_at};
-ghost use Rattle.built_terms.specs.Setting.{frame_in, outer_in, sources_in};
-ghost use Rattle.built_terms.specs.Written.{frame_of, slots_of};
+ghost use Rattle.qgm_translation.specs.Leaves.{after, list_leaves};
+ghost use Rattle.qgm_translation.specs.Shown.{all_on_leaves, all_ons, frame_all, ungrouped_cells};
+ghost use Rattle.qgm_translation.specs.Terms as meant;
+ghost use Rattle.qgm_build_terms.specs.Folds.{leaf_of};
+ghost use Rattle.qgm_build_terms.specs.Site.{sources_at};
+ghost use Rattle.qgm_build_terms.specs.Setting.{frame_in, outer_in, sources_in};
+ghost use Rattle.qgm_build_terms.specs.Written.{frame_of, slots_of};
 
-use built_terms::{
+use qgm_build_terms::{
     Fold, Ranges, Seen, Setting, Site, Slots, add_boxed, all_on_conds, all_on_folds, head_of,
     list_folds, test, test_folds, ungrouped_cells, values,
 };

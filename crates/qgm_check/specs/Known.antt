@@ -2,7 +2,7 @@
 use Rattle.std.specs.Prelude.{◌≡◌, List}
 use Rattle.qgm_core.specs.Boxes.{ids_in, overs_in}
 use Rattle.qgm_core.specs.declared.node.Node.{Node}
-use Rattle.qgm_formed.specs.Types.{Knows}
+use Rattle.qgm_wellformed.specs.Types.{Knows}
 use Rattle.qgm_check.specs.declared.check.Known.{Known}
 
 -- the types of all columns, the quantifiers that the boxes own, and the boxes that these range over

@@ -3,19 +3,18 @@ ghost use Rattle.std.specs.Prelude.{◌≡◌, ◌++◌, [], Some, None, false, 
 ghost use Rattle.std.specs.List.{list_any, list_all};
 ghost use Rattle.qgm_core.specs.Boxes.{all_over, ids_in, ids_of, overs_in, owns};
 ghost use Rattle.qgm_core.specs.Free.{named_by};
-ghost use Rattle.qgm_formed.specs.View.{in_view};
-ghost use Rattle.qgm_formed.specs.Sentences.{IsFault, WellFormed};
+ghost use Rattle.qgm_wellformed.specs.View.{in_view};
+ghost use Rattle.qgm_wellformed.specs.Sentences.{IsFault, WellFormed};
 ghost use Rattle.qgm_check.specs.Known.{IsKnown};
-ghost use Rattle.qgm_formed.specs.WellFormed as spec;
-ghost use Rattle.qgm_formed.specs.declared.clause.Fault.{Fault};
+ghost use Rattle.qgm_wellformed.specs.WellFormed as spec;
+ghost use Rattle.qgm_wellformed.specs.declared.clause.Fault.{Fault};
 ghost use Rattle.qgm_check.specs.declared.check.IllFormed.TheVariants.{Fails, Memory};
 
 use crate::columns_fit::columns_fit;
-use crate::kinds::{is_f_or_s, is_permit};
 use crate::shapes::shape_fits;
 use crate::view::in_view;
 use qgm_core::{BoxId, Graph, Node, OwnedQuant, QuantId, has_box, has_quant, is_marked, mark_each};
-use qgm_formed::{Clause, Fault, KnownTypes, is_closed, known_of, names_of, types_agree};
+use qgm_wellformed::{Clause, Fault, KnownTypes, is_closed, known_of, names_of, types_agree};
 use shared_types::OutOfMemory;
 use std::alloc::Global;
 use thiserror::Error;
@@ -140,13 +139,13 @@ fn is_counted(nodes: &[Node], b: BoxId) -> bool
 fn is_counted_in(ranges: &[OwnedQuant], b: BoxId) -> bool
     ensures { result ≡ spec.is_counted_in ranges.now b }
 {
-    ranges.iter().any(|r| r.over == b && is_f_or_s(r.kind))
+    ranges.iter().any(|r| r.over == b && r.kind.is_f_or_s())
 }
 
 fn permit_unseen(root: BoxId, nodes: &[Node], node: &Node) -> bool
     ensures { result ≡ spec.permit_unseen root nodes.now node.now }
 {
-    !is_permit(node.parts.distinct) || !(node.id == root || is_counted(nodes, node.id))
+    !node.parts.distinct.is_permit() || !(node.id == root || is_counted(nodes, node.id))
 }
 
 fn all_in_view(
@@ -182,7 +181,7 @@ fn names_in_view(
     Ok(seen && closed)
 }
 
-#[tactic(auto, using(qgm_formed::proofs::Stand::or_true, qgm_formed::proofs::Stand::or_none))]
+#[tactic(auto, using(crate::proofs::Disjunctions::or_true, crate::proofs::Disjunctions::or_none))]
 fn opened_once(
     alloc: Global,
     root: BoxId,

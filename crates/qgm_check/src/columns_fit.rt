@@ -2,14 +2,14 @@
 ghost use Rattle.std.specs.Prelude.{◌≡◌, ◌++◌, option_map, OnOk, IfOk};
 ghost use Rattle.std.specs.List.{list_all};
 ghost use Rattle.qgm_core.specs.Boxes.{is_box, is_quant, owns, width};
-ghost use Rattle.qgm_core.specs.Lists.{first};
-ghost use Rattle.qgm_formed.specs.Columns as spec;
+ghost use Rattle.list_laws.specs.Lists.{first};
+ghost use Rattle.qgm_wellformed.specs.Columns as spec;
 
 use qgm_core::{BoxId, BoxKind, Column, Node, OwnedQuant, QuantId, has_range};
 use shared_types::OutOfMemory;
 use sqlite_items::Items;
 use std::alloc::Global;
-use term_contents::{add_columns_of_cells, add_columns_of_conds};
+use qgm_term_search::{add_columns_of_cells, add_columns_of_conds};
 
 // The columns that a box names.
 fn columns_of(alloc: Global, node: &Node) -> Result<Vec<Column>, OutOfMemory>

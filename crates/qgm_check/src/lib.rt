@@ -3,7 +3,6 @@
 
 mod check;
 mod columns_fit;
-mod kinds;
 mod shapes;
 mod view;
 

@@ -3,25 +3,24 @@ ghost use Rattle.std.specs.Prelude.{◌≡◌, ◌++◌, ◌&&◌, not, take, dr
 ghost use Rattle.std.specs.List.{flat_map, list_all, list_any};
 ghost use Rattle.qgm_core.specs.Boxes.{is_box, owns};
 ghost use Rattle.qgm_core.specs.Kinds.{is_A, is_E, is_S};
-ghost use Rattle.qgm_core.specs.Lists.{first};
+ghost use Rattle.list_laws.specs.Lists.{first};
 ghost use Rattle.qgm_terms.specs.Named.{names_in};
 ghost use Rattle.qgm_terms.specs.Wanted.{has_aggregate};
 ghost use Rattle.qgm_terms.specs.Shown.{links, term, terms};
-ghost use Rattle.qgm_formed.specs.Shapes as spec;
+ghost use Rattle.qgm_wellformed.specs.Shapes as spec;
 
 use crate::columns_fit::{box_at, width};
-use crate::kinds::{is_a, is_e, is_enforce, is_f, is_magic, is_plain, is_preserve, is_s};
 use qgm_core::{
     BoxId, BoxKind, Column, Gx, Link, Node, OwnedQuant, QuantId, QuantNode, Role, has_range,
 };
-use qgm_formed::is_free_alone;
-use qgm_terms::{Sought, add_names_of_cells, both};
-use shared_types::OutOfMemory;
-use std::alloc::Global;
-use term_contents::{
+use qgm_term_search::{
     add_columns_of_cells, add_nodes_of_cells, add_nodes_of_conds, has_aggregate, stands_in_cells,
     stands_in_conds,
 };
+use qgm_terms::{Sought, add_names_of_cells, both};
+use qgm_wellformed::is_free_alone;
+use shared_types::OutOfMemory;
+use std::alloc::Global;
 
 // Whether no operand stands behind the first one.
 fn is_alone(list: &[Link]) -> bool
@@ -48,17 +47,7 @@ fn is_column(x: &Gx) -> bool
         | Gx::Neg(_)
         | Gx::Case(_, _)
         | Gx::CountAll
-        | Gx::Single(_)
-        | Gx::Count(_)
-        | Gx::Sum(_)
-        | Gx::Avg(_)
-        | Gx::Min(_)
-        | Gx::Max(_)
-        | Gx::CountDistinct(_)
-        | Gx::SumDistinct(_)
-        | Gx::AvgDistinct(_)
-        | Gx::MinDistinct(_)
-        | Gx::MaxDistinct(_) => false,
+        | Gx::Fold(_, _, _) => false,
     }
 }
 
@@ -68,17 +57,7 @@ fn is_aggregate(x: &Gx) -> bool
 {
     match x {
         Gx::CountAll => true,
-        Gx::Single(a)
-        | Gx::Count(a)
-        | Gx::Sum(a)
-        | Gx::Avg(a)
-        | Gx::Min(a)
-        | Gx::Max(a)
-        | Gx::CountDistinct(a)
-        | Gx::SumDistinct(a)
-        | Gx::AvgDistinct(a)
-        | Gx::MinDistinct(a)
-        | Gx::MaxDistinct(a) => !has_aggregate(a),
+        Gx::Fold(_, _, a) => !has_aggregate(a),
         Gx::Chain(a, list) => both(is_alone(list), is_aggregate(a)),
         Gx::Int(_)
         | Gx::Text(_)
@@ -118,7 +97,7 @@ fn all_aggregates(list: &[Gx]) -> bool
 fn all_f(ranges: &[OwnedQuant]) -> bool
     ensures { result ≡ spec.all_F ranges.now }
 {
-    ranges.iter().all(|r| is_f(r.kind))
+    ranges.iter().all(|r| r.kind.is_f())
 }
 
 // Whether these are so many F quantifiers.
@@ -132,21 +111,21 @@ fn are_f(count: usize, ranges: &[OwnedQuant]) -> bool
 fn has_s(q: QuantId, ranges: &[OwnedQuant]) -> bool
     ensures { result ≡ spec.is_among is_S q ranges.now }
 {
-    ranges.iter().any(|r| r.id == q && is_s(r.kind))
+    ranges.iter().any(|r| r.id == q && r.kind.is_s())
 }
 
 // Whether q is an E quantifier of these.
 fn has_e(q: QuantId, ranges: &[OwnedQuant]) -> bool
     ensures { result ≡ spec.is_among is_E q ranges.now }
 {
-    ranges.iter().any(|r| r.id == q && is_e(r.kind))
+    ranges.iter().any(|r| r.id == q && r.kind.is_e())
 }
 
 // Whether q is an A quantifier of these.
 fn has_a(q: QuantId, ranges: &[OwnedQuant]) -> bool
     ensures { result ≡ spec.is_among is_A q ranges.now }
 {
-    ranges.iter().any(|r| r.id == q && is_a(r.kind))
+    ranges.iter().any(|r| r.id == q && r.kind.is_a())
 }
 
 // Whether a node is of an own quantifier of its kind.
@@ -185,7 +164,7 @@ fn columns_placed(node: &Node) -> bool
     node.quants
         .as_slice()
         .iter()
-        .all(|r| is_f(r.kind) || !looks_up(r.id, node))
+        .all(|r| r.kind.is_f() || !looks_up(r.id, node))
 }
 
 // Whether a head names own quantifiers alone.
@@ -208,7 +187,7 @@ fn is_unfolded(node: &Node) -> bool
 fn is_scalar_in(ranges: &[OwnedQuant], b: BoxId) -> bool
     ensures { result ≡ spec.is_scalar_in ranges.now b }
 {
-    ranges.iter().any(|r| r.over == b && is_s(r.kind))
+    ranges.iter().any(|r| r.over == b && r.kind.is_s())
 }
 
 // Whether an S quantifier ranges over the box.
@@ -222,7 +201,7 @@ fn magic_found(nodes: &[Node], b: BoxId) -> bool
     ensures { result ≡ spec.magic_found (first (is_box b) nodes.now) }
 {
     match box_at(nodes, b) {
-        Some(node) => is_magic(node.parts.role),
+        Some(node) => node.parts.role.is_magic(),
         None => false,
     }
 }
@@ -292,7 +271,7 @@ fn fed_by_two(
 {
     let fed = is_free_alone(alloc, nodes, second.over, first.id)?;
     let heads = heads_are(alloc, nodes, list, first, second)?;
-    Ok(is_f(first.kind) && is_f(second.kind) && magic_found(nodes, first.over) && fed && heads)
+    Ok(first.kind.is_f() && second.kind.is_f() && magic_found(nodes, first.over) && fed && heads)
 }
 
 fn fed_by(
@@ -318,7 +297,7 @@ fn is_fed(alloc: Global, root: BoxId, nodes: &[Node], node: &Node) -> Result<boo
         node.parts.head.as_slice(),
         node.quants.as_slice(),
     )?;
-    Ok(node.id != root && is_preserve(node.parts.distinct) && node.parts.conds.len() == 0 && fed)
+    Ok(node.id != root && node.parts.distinct.is_preserve() && node.parts.conds.len() == 0 && fed)
 }
 
 fn role_fits(alloc: Global, root: BoxId, nodes: &[Node], node: &Node) -> Result<bool, OutOfMemory>
@@ -326,7 +305,7 @@ fn role_fits(alloc: Global, root: BoxId, nodes: &[Node], node: &Node) -> Result<
 {
     match node.parts.role {
         Role::Plain => Ok(true),
-        Role::Magic => Ok(is_enforce(node.parts.distinct) && all_f(node.quants.as_slice())),
+        Role::Magic => Ok(node.parts.distinct.is_enforce() && all_f(node.quants.as_slice())),
         Role::Fed => is_fed(alloc, root, nodes, node),
     }
 }
@@ -337,7 +316,7 @@ fn is_base(node: &Node) -> bool
     node.quants.as_slice().is_empty()
         && node.parts.conds.len() == 0
         && node.parts.head.len() == 0
-        && is_plain(node.parts.role)
+        && node.parts.role.is_plain()
 }
 
 // The first cells.
@@ -386,7 +365,7 @@ fn is_group(alloc: Global, keys: usize, node: &Node) -> Result<bool, OutOfMemory
     Ok(
         are_f(1, node.quants.as_slice())
             && node.parts.conds.len() == 0
-            && is_plain(node.parts.role)
+            && node.parts.role.is_plain()
             && head_folds(keys, node.parts.head.as_slice())
             && own,
     )
@@ -407,7 +386,7 @@ fn is_set_op(nodes: &[Node], node: &Node) -> bool
         && 0 < width(node)
         && node.parts.conds.len() == 0
         && node.parts.head.len() == 0
-        && is_plain(node.parts.role)
+        && node.parts.role.is_plain()
 }
 
 fn is_outer_join(alloc: Global, node: &Node) -> Result<bool, OutOfMemory>
@@ -419,7 +398,7 @@ fn is_outer_join(alloc: Global, node: &Node) -> Result<bool, OutOfMemory>
             && all_columns(node.parts.head.as_slice())
             && own
             && is_unfolded(node)
-            && is_plain(node.parts.role),
+            && node.parts.role.is_plain(),
     )
 }
 

@@ -1,8 +1,7 @@
 // Which quantifiers are in view in a box.
 ghost use Rattle.std.specs.Prelude.{◌≡◌, ◌++◌, [], false, OnOk, IfOk};
-ghost use Rattle.qgm_formed.specs.View as spec;
+ghost use Rattle.qgm_wellformed.specs.View as spec;
 
-use crate::kinds::{is_f, is_select};
 use qgm_core::{Marks, Node, OwnedQuant, QuantId, has_range, mark_overs};
 use shared_types::OutOfMemory;
 use std::alloc::Global;
@@ -11,7 +10,7 @@ use std::alloc::Global;
 fn is_row(q: QuantId, ranges: &[OwnedQuant]) -> bool
     ensures { result ≡ spec.is_row q ranges.now }
 {
-    ranges.iter().any(|r| r.id == q && is_f(r.kind))
+    ranges.iter().any(|r| r.id == q && r.kind.is_f())
 }
 
 // Appends the boxes that see q by the quantifiers of one box.
@@ -25,11 +24,11 @@ fn add_scoped(
 {
     let mut met = false;
     for range in ranges {
-        let sees = if is_f(range.kind) { met } else { own };
+        let sees = if range.kind.is_f() { met } else { own };
         if sees {
             marks.push(range.over)?;
         }
-        met = met || (range.id == q && is_f(range.kind));
+        met = met || (range.id == q && range.kind.is_f());
     }
     Ok(())
 }
@@ -41,7 +40,7 @@ fn add_shown(q: QuantId, node: &Node, marks: &mut Marks) -> Result<(), OutOfMemo
     if marks.has(node.id) {
         return mark_overs(node.quants.as_slice(), marks);
     }
-    if is_select(&node.parts.kind) {
+    if node.parts.kind.is_select() {
         let own = is_row(q, node.quants.as_slice());
         return add_scoped(q, own, node.quants.as_slice(), marks);
     }

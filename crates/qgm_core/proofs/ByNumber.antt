@@ -6,7 +6,7 @@ use Rattle.std.specs.Option.{option_or}
 use Rattle.std.proofs.lemmas.Bool.{cases_Bool, eqb-false, le-ltb, lt-ltb, ltb-false, ltb-true}
 use Rattle.std.proofs.lemmas.List.{get_or-set_other, get_or-set_same, length-map}
 use Rattle.qgm_core.specs.Boxes.{is_box, numbers}
-use Rattle.qgm_core.specs.Lists.{times}
+use Rattle.list_laws.specs.Lists.{times}
 use Rattle.qgm_core.specs.declared.node.Node.{Node}
 
 module _ {X : Type 0} where

@@ -5,7 +5,7 @@ use Rattle.std.proofs.lemmas.Bool.{cases_Bool}
 use Rattle.std.specs.List.{list_any, remove}
 use Rattle.qgm_core.specs.Boxes.{QueryGraph, has_box, is_box}
 use Rattle.qgm_core.specs.Edits.{on_boxes, put_cells, spare_in, with_cond, with_conds, with_terms, without_cond}
-use Rattle.qgm_core.specs.Lists.{IsFirst, change, first, without}
+use Rattle.list_laws.specs.Lists.{IsFirst, change, first, without}
 use Rattle.qgm_core.specs.declared.node.Node.{Node}
 use Rattle.qgm_core.specs.declared.parts.BoxParts.{BoxParts}
 use Rattle.qgm_terms.specs.Conjuncts.{Conjuncts}

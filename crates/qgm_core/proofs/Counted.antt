@@ -1,20 +1,17 @@
 -- How often boxes are used.
-use Rattle.std.proofs.Common.{ℕ, zero, suc, ◌==◌, ◌≡◌, ◌<◌, ◌≤◌, ◌+◌, ◌++◌, cond, Bool, true, false, List, [], ◌∷◌, Some, length, map, take, slice_get, get_or, refl, ◌∙◌, ap, arith, add-one}
+use Rattle.std.proofs.Common.{ℕ, zero, suc, ◌==◌, ◌≡◌, ◌<◌, ◌≤◌, ◌+◌, cond, Bool, true, false, List, [], ◌∷◌, Some, length, map, take, slice_get, get_or, refl, ◌∙◌, ap, arith, add-one}
 use Rattle.std.proofs.lemmas.Bool.{eq-eqb, ne_eqb}
 use Rattle.std.proofs.lemmas.List.{length-append}
 use Rattle.qgm_core.specs.Boxes.{ids_in, ids_of, overs_in, overs_of}
-use Rattle.qgm_core.specs.Lists.{times}
+use Rattle.list_laws.specs.Lists.{times}
 use Rattle.qgm_core.specs.declared.node.Node.{Node}
 use Rattle.qgm_core.specs.declared.owned.OwnedQuant.{OwnedQuant}
+use Rattle.list_laws.proofs.Counting.{times-append}
 
 pub at-get : {X : Type 0} (xs : List X) (i : ℕ) (d : X) → i < length xs → slice_get xs i ≡ Some (get_or xs i d)
 at-get [] i d l = absurd (omega arith)
 at-get (x ∷ xs) zero d l = refl
 at-get (x ∷ xs) (suc i) d l = at-get xs i d (omega arith)
-
-times-append : (b : ℕ) (xs ys : List ℕ) → times b (xs ++ ys) ≡ times b xs + times b ys
-times-append b [] ys = omega arith
-times-append b (x ∷ xs) ys = let h = times-append b xs ys in omega (arith, h)
 
 times-most : (b : ℕ) (rs : List OwnedQuant) → times b (map (λ r. r.over) rs) ≤ length (map (λ r. r.id) rs)
 times-most b [] = omega arith

@@ -6,7 +6,7 @@ use Rattle.std.specs.List.{list_any, position_or_len, remove}
 use Rattle.std.proofs.lemmas.List.Quantifiers.{position-Some}
 use Rattle.std.proofs.lemmas.Bool.{ltb-false}
 use Rattle.std.proofs.lemmas.Grind.{common_steps}
-use Rattle.qgm_core.specs.Lists.{change, first, put_below, without, IsFirst}
+use Rattle.list_laws.specs.Lists.{change, first, put_below, without, IsFirst}
 
 none_by : (m n : ℕ) (b : Bool) → b ≡ nat_lt m n → cond b (Some m) None ≡ None → n ≤ m
 none_by m n true h e = absurd (let q : ⊥ = cc in q)

@@ -1,15 +1,15 @@
 -- Numbers that no box and no quantifier has, and numbers under edits.
-use Rattle.std.proofs.Common.{◌≡◌, ℕ, zero, suc, ◌==◌, ◌<◌, ◌≤◌, ◌+◌, ◌++◌, ◌||◌, Bool, true, false, List, [], ◌∷◌, cond, map, arith, insert, length, refl, sym, ◌∙◌, ap, subst, add-zero, get_or}
+use Rattle.std.proofs.Common.{◌≡◌, ℕ, zero, suc, ◌==◌, ◌<◌, ◌≤◌, ◌+◌, ◌++◌, Bool, true, false, List, [], ◌∷◌, cond, map, arith, insert, length, refl, sym, ◌∙◌, ap, subst, add-zero, get_or}
 use Rattle.std.proofs.Math.ListN.{set}
 use Rattle.std.specs.Prelude.{IsOk, OnOk, OnErr, is_ok, Ok, Err, if◌then◌else◌}
 use Rattle.std.specs.declared.result.Result.{Result}
 use Rattle.std.specs.List.{list_any, remove, take-map, drop-map}
 use Rattle.std.specs.Result.{result_or}
-use Rattle.std.proofs.lemmas.Bool.{ne_eqb}
+use Rattle.std.proofs.lemmas.Bool.{ne_eqb, or_from, or_parts}
 use Rattle.std.proofs.lemmas.List.{map-append, length-append}
 use Rattle.qgm_core.specs.Boxes.{is_box, is_quant, owns, ids_in, ids_of, numbers}
 use Rattle.qgm_core.specs.Edits.{on_quant, put_range, without_quant}
-use Rattle.qgm_core.specs.Lists.{EachOnce, change, holds, without}
+use Rattle.list_laws.specs.Lists.{EachOnce, change, holds, without}
 use Rattle.qgm_core.specs.Numbered.{Numbered, Under}
 use Rattle.qgm_core.specs.declared.node.Node.{Node}
 use Rattle.qgm_core.specs.declared.owned.OwnedQuant.{OwnedQuant}
@@ -37,14 +37,6 @@ or_ok (Err v) d x a b y e f = tt
 pub if_ok : {A E X : Type 0} (r : Result A E) (a b x : X) → IsOk r → x ≡ (if is_ok r then a else b) → x ≡ a
 if_ok (Ok v) a b x h e = e
 if_ok (Err v) a b x h e = absurd (let q : ⊥ = cc in q)
-
-pub or_false : (a b : Bool) → (a || b) ≡ false → (a ≡ false) × (b ≡ false)
-or_false true b h = absurd (let q : ⊥ = cc in q)
-or_false false b h = (refl, h)
-
-pub or_from : (a b : Bool) → a ≡ false → b ≡ false → (a || b) ≡ false
-or_from true b h k = h
-or_from false b h k = k
 
 -- ---- below a number
 
@@ -80,7 +72,7 @@ holds-insert : (x : ℕ) (xs : List ℕ) (i y : ℕ) → (y == x) ≡ false → 
 holds-insert x [] zero y n h = or_from (y == x) false n refl
 holds-insert x [] (suc i) y n h = or_from (y == x) false n refl
 holds-insert x (z ∷ xs) zero y n h = or_from (y == x) (holds x (z ∷ xs)) n h
-holds-insert x (z ∷ xs) (suc i) y n h = let p = or_false (z == x) (holds x xs) h in or_from (z == x) (holds x (insert xs i y)) p.0 (holds-insert x xs i y n p.1)
+holds-insert x (z ∷ xs) (suc i) y n h = let p = or_parts (z == x) (holds x xs) h in or_from (z == x) (holds x (insert xs i y)) p.0 (holds-insert x xs i y n p.1)
 
 pub once-insert : (m : ℕ) (xs : List ℕ) (i : ℕ) → Under m xs → EachOnce xs → EachOnce (insert xs i m)
 once-insert m [] zero u o = (refl, tt)

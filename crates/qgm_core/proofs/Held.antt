@@ -1,11 +1,11 @@
 -- Boxes and quantifiers that an edit leaves in the graph.
 use Rattle.std.proofs.Common.{◌≡◌, ℕ, zero, suc, ◌==◌, ◌++◌, ◌||◌, cond, Bool, true, false, List, [], ◌∷◌, Option, Some, None, insert, map, filter, refl, sym, ◌∙◌, ap, subst, inl, inr, eqb-true}
 use Rattle.std.specs.List.{list_any}
-use Rattle.std.proofs.lemmas.Bool.{cases_Bool, eq-eqb, false_from_ne_true, ne_eqb}
+use Rattle.std.proofs.lemmas.Bool.{cases_Bool, eq-eqb, false_from_ne_true, ne_eqb, or_left, or_right}
 use Rattle.qgm_core.specs.Boxes.{has_box, is_box, is_quant, overs_of, owns, put_at, range_in}
 use Rattle.qgm_core.specs.Edits.{moved_below, on_quant, put_found, put_range, put_range_found, quant_moved, shift_boxes, shift_node, without_quant}
 use Rattle.qgm_core.specs.Free.{reached}
-use Rattle.qgm_core.specs.Lists.{change, each, first, holds, put_below, without}
+use Rattle.list_laws.specs.Lists.{change, each, first, holds, put_below, without}
 use Rattle.qgm_core.specs.declared.node.Node.{Node}
 use Rattle.qgm_core.specs.declared.owned.OwnedQuant.{OwnedQuant}
 use Rattle.qgm_core.proofs.Changed.{found}
@@ -15,14 +15,6 @@ abbrev pub HasAllIn : List Node → List Node → Type 0
 HasAllIn xs ys = ((b : ℕ) → has_box xs b ≡ true → has_box ys b ≡ true) × ((q : ℕ) → list_any (owns q) xs ≡ true → list_any (owns q) ys ≡ true)
 
 -- ---- one that passes
-
-or_right : (a b : Bool) → b ≡ true → (a || b) ≡ true
-or_right true b h = refl
-or_right false b h = h
-
-or_left : (a b : Bool) → a ≡ true → (a || b) ≡ true
-or_left true b h = refl
-or_left false b h = absurd (let z : ⊥ = cc in z)
 
 -- either of two
 or_else : (a b c d : Bool) → (a ≡ true → c ≡ true) → (b ≡ true → d ≡ true) → (a || b) ≡ true → (c || d) ≡ true

@@ -1,11 +1,12 @@
 -- Numbers of boxes and quantifiers, where only boxes that pass are kept.
 use Rattle.std.proofs.Common.{ℕ, ◌==◌, ◌≡◌, ◌≤◌, cond, Bool, true, false, List, [], ◌∷◌, length, filter, refl, arith}
 use Rattle.std.proofs.lemmas.List.{length-append}
+use Rattle.std.proofs.lemmas.Bool.{or_from, or_parts}
 use Rattle.qgm_core.specs.Boxes.{ids_in, ids_of, numbers}
-use Rattle.qgm_core.specs.Lists.{EachOnce, holds}
+use Rattle.list_laws.specs.Lists.{EachOnce, holds}
 use Rattle.qgm_core.specs.Numbered.{Numbered, Under}
 use Rattle.qgm_core.specs.declared.node.Node.{Node}
-use Rattle.qgm_core.proofs.Fresh.{or_false, or_from, under-append, under-left, under-right}
+use Rattle.qgm_core.proofs.Fresh.{under-append, under-left, under-right}
 
 module _ (p : Node → Bool) where
   under-numbers : (a : ℕ) (ns : List Node) → Under a (numbers ns) → Under a (numbers (filter p ns))
@@ -19,7 +20,7 @@ module _ (p : Node → Bool) where
   unheld : (x : ℕ) (ns : List Node) → holds x (numbers ns) ≡ false → holds x (numbers (filter p ns)) ≡ false
   unheld x [] h = refl
   unheld x (n ∷ ns) h =
-      let s = or_false (n.id == x) (holds x (numbers ns)) h in
+      let s = or_parts (n.id == x) (holds x (numbers ns)) h in
       elim (p n) as (λ t. holds x (numbers (cond t (n ∷ filter p ns) (filter p ns))) ≡ false) [
         | true ↦ or_from (n.id == x) (holds x (numbers (filter p ns))) s.0 (unheld x ns s.1)
         | false ↦ unheld x ns s.1

@@ -13,3 +13,6 @@ pub mod Held
 pub mod ByNumber
 pub mod Spliced
 pub mod Owning
+pub mod KindTests
+pub mod PutOnce
+pub mod Reaching

@@ -1,12 +1,13 @@
 -- Numbers of boxes, one of which goes to another place.
 use Rattle.std.proofs.Common.{ℕ, ◌==◌, ◌≡◌, ◌<◌, ◌+◌, cond, Bool, true, false, List, [], ◌∷◌, Option, Some, length, refl, sym, subst, arith}
 use Rattle.std.proofs.lemmas.List.{length-append}
-use Rattle.std.proofs.lemmas.Bool.{ne_eqb, eq-eqb}
+use Rattle.std.proofs.lemmas.Bool.{or_from, or_parts}
 use Rattle.qgm_core.specs.Boxes.{ids_in, ids_of, numbers}
-use Rattle.qgm_core.specs.Lists.{EachOnce, first, holds, put_below, without}
+use Rattle.list_laws.specs.Lists.{EachOnce, first, holds, put_below, without}
 use Rattle.qgm_core.specs.Numbered.{Numbered, Under}
 use Rattle.qgm_core.specs.declared.node.Node.{Node}
-use Rattle.qgm_core.proofs.Fresh.{or_false, or_from, under-append, under-left, under-right}
+use Rattle.qgm_core.proofs.Fresh.{under-append, under-left, under-right}
+use Rattle.list_laws.proofs.Membership.{eq-false-sym}
 
 -- a box, and others without it
 pub record Apart (a b : ℕ) (n : Node) (ns : List Node) : Type 0 where
@@ -17,14 +18,11 @@ pub record Apart (a b : ℕ) (n : Node) (ns : List Node) : Type 0 where
   pub own : Under b (ids_of n)
   pub others : Under b (ids_in ns)
 
-symmetric : (x y : ℕ) → (x == y) ≡ false → (y == x) ≡ false
-symmetric x y e = ne_eqb y x (λ f. let g = eq-eqb x y (sym f) in absurd (let q : ⊥ = cc in q))
-
 module _ (p : Node → Bool) where
   unheld : (x : ℕ) (ns : List Node) → holds x (numbers ns) ≡ false → holds x (numbers (without p ns)) ≡ false
   unheld x [] h = refl
   unheld x (m ∷ ns) h =
-      let s = or_false (m.id == x) (holds x (numbers ns)) h in
+      let s = or_parts (m.id == x) (holds x (numbers ns)) h in
       elim (p m) as (λ t. holds x (numbers (cond t ns (m ∷ without p ns))) ≡ false) [
         | true ↦ s.1
         | false ↦ or_from (m.id == x) (holds x (numbers (without p ns))) s.0 (unheld x ns s.1)
@@ -33,7 +31,7 @@ module _ (p : Node → Bool) where
   other : (x : ℕ) (ns : List Node) (n : Node) → holds x (numbers ns) ≡ false → first p ns ≡ Some n → (n.id == x) ≡ false
   other x [] n h e = absurd (let q : ⊥ = cc in q)
   other x (m ∷ ns) n h e =
-      let s = or_false (m.id == x) (holds x (numbers ns)) h in
+      let s = or_parts (m.id == x) (holds x (numbers ns)) h in
       elim (p m) as (λ t. ◌≡◌ {A = Option Node} (cond t (Some m) (first p ns)) (Some n) → (n.id == x) ≡ false) [
         | true ↦ λ e. (let same : m ≡ n = cc in subst (λ (n : Node). (n.id == x) ≡ false) same s.0)
         | false ↦ λ e. other x ns n s.1 e
@@ -62,7 +60,7 @@ module _ (p : Node → Bool) where
             record {
               low = k.low;
               lows = (u.0, k.lows);
-              new = or_from (x.id == n.id) (holds n.id (numbers (without p ns))) (symmetric n.id x.id (other x.id ns n o.0 e)) k.new;
+              new = or_from (x.id == n.id) (holds n.id (numbers (without p ns))) (eq-false-sym n.id x.id (other x.id ns n o.0 e)) k.new;
               once = (unheld x.id ns o.0, k.once);
               own = k.own;
               others = under-append b (ids_of x) (ids_in (without p ns)) l k.others;
@@ -74,7 +72,7 @@ module _ (q : Node → Bool) (n : Node) where
   unput : (x : ℕ) (ns : List Node) → (n.id == x) ≡ false → holds x (numbers ns) ≡ false → holds x (numbers (put_below q n ns)) ≡ false
   unput x [] d h = or_from (n.id == x) false d refl
   unput x (m ∷ ns) d h =
-      let s = or_false (m.id == x) (holds x (numbers ns)) h in
+      let s = or_parts (m.id == x) (holds x (numbers ns)) h in
       elim (q m) as (λ t. holds x (numbers (cond t (m ∷ (n ∷ ns)) (m ∷ put_below q n ns))) ≡ false) [
         | true ↦ or_from (m.id == x) (holds x (numbers (n ∷ ns))) s.0 (or_from (n.id == x) (holds x (numbers ns)) d s.1)
         | false ↦ or_from (m.id == x) (holds x (numbers (put_below q n ns))) s.0 (unput x ns d s.1)
@@ -92,19 +90,19 @@ module _ (q : Node → Bool) (n : Node) where
   below : (a b : ℕ) (ns : List Node) → Apart a b n ns → Under a (numbers (put_below q n ns)) × EachOnce (numbers (put_below q n ns)) × Under b (ids_in (put_below q n ns))
   below a b [] k = ((k.low, tt), (refl, tt), under-append b (ids_of n) [] k.own tt)
   below a b (m ∷ ns) k =
-      let d = or_false (m.id == n.id) (holds n.id (numbers ns)) k.new in
+      let d = or_parts (m.id == n.id) (holds n.id (numbers ns)) k.new in
       let l = under-left b (ids_of m) (ids_in ns) k.others in
       let r = under-right b (ids_of m) (ids_in ns) k.others in
       let rest = below a b ns (record { low = k.low; lows = k.lows.1; new = d.1; once = k.once.1; own = k.own; others = r }) in
       elim (q m) as (λ t. Under a (numbers (cond t (m ∷ (n ∷ ns)) (m ∷ put_below q n ns))) × EachOnce (numbers (cond t (m ∷ (n ∷ ns)) (m ∷ put_below q n ns))) × Under b (ids_in (cond t (m ∷ (n ∷ ns)) (m ∷ put_below q n ns)))) [
         | true ↦ (
           (k.lows.0, (k.low, k.lows.1)),
-          (or_from (n.id == m.id) (holds m.id (numbers ns)) (symmetric m.id n.id d.0) k.once.0, (d.1, k.once.1)),
+          (or_from (n.id == m.id) (holds m.id (numbers ns)) (eq-false-sym m.id n.id d.0) k.once.0, (d.1, k.once.1)),
           under-append b (ids_of m) (ids_in (n ∷ ns)) l (under-append b (ids_of n) (ids_in ns) k.own r),
         )
         | false ↦ (
           (k.lows.0, rest.0),
-          (unput m.id ns (symmetric m.id n.id d.0) k.once.0, rest.1),
+          (unput m.id ns (eq-false-sym m.id n.id d.0) k.once.0, rest.1),
           under-append b (ids_of m) (ids_in (put_below q n ns)) l rest.2,
         )
       ]

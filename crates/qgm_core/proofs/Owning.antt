@@ -3,7 +3,7 @@ use Rattle.std.proofs.Common.{◌≡◌, ℕ, ◌==◌, ◌++◌, ◌||◌, ◌&
 use Rattle.std.specs.List.{flat_map, list_any}
 use Rattle.qgm_core.specs.Boxes.{ids_of, is_quant, owns}
 use Rattle.qgm_core.specs.Free.{free_in, is_owned, named_where, owned_where, put_each, reached}
-use Rattle.qgm_core.specs.Lists.{holds}
+use Rattle.list_laws.specs.Lists.{holds}
 use Rattle.qgm_core.specs.declared.node.Node.{Node}
 use Rattle.qgm_core.specs.declared.owned.OwnedQuant.{OwnedQuant}
 

@@ -7,7 +7,7 @@ use Rattle.std.proofs.lemmas.List.{get_or-set_same, get_or-set_other, length-app
 use Rattle.std.proofs.lemmas.List.Folds.{position_or_len-set}
 use Rattle.qgm_core.specs.Boxes.{ids_in, ids_of, is_box, is_quant, owns, quants_in, range_in}
 use Rattle.qgm_core.specs.Edits.{put_range, put_range_found, quant_moved, with_quants, without_quant}
-use Rattle.qgm_core.specs.Lists.{EachOnce, IsFirst, change, first, insert_found, moved_to, without}
+use Rattle.list_laws.specs.Lists.{EachOnce, IsFirst, change, first, insert_found, moved_to, without}
 use Rattle.qgm_core.specs.Numbered.{Numbered, Under}
 use Rattle.qgm_core.specs.declared.node.Node.{Node}
 use Rattle.qgm_core.specs.declared.owned.OwnedQuant.{OwnedQuant}

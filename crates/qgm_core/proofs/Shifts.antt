@@ -3,7 +3,7 @@ use Rattle.std.proofs.Common.{◌≡◌, ℕ, zero, suc, ◌==◌, ◌<◌, ◌�
 use Rattle.std.proofs.lemmas.Bool.{eq-eqb, ne_eqb}
 use Rattle.qgm_core.specs.Boxes.{ids_in, ids_of, numbers, quants_in}
 use Rattle.qgm_core.specs.Edits.{ids_over, quants_over, shift_boxes, shifted_over}
-use Rattle.qgm_core.specs.Lists.{EachOnce, each}
+use Rattle.list_laws.specs.Lists.{EachOnce, each}
 use Rattle.qgm_core.specs.Numbered.{Numbered, Under}
 use Rattle.qgm_core.specs.declared.node.Node.{Node}
 use Rattle.qgm_core.specs.declared.owned.OwnedQuant.{OwnedQuant}

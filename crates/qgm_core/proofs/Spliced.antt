@@ -5,7 +5,7 @@ use Rattle.std.specs.List.{remove}
 use Rattle.std.proofs.lemmas.Bool.{cases_Bool}
 use Rattle.qgm_core.specs.Boxes.{ids_of, is_box, quants_in}
 use Rattle.qgm_core.specs.Edits.{absorbed, spliced_at, with_quants}
-use Rattle.qgm_core.specs.Lists.{EachOnce, IsFirst, change, first, without}
+use Rattle.list_laws.specs.Lists.{EachOnce, IsFirst, change, first, without}
 use Rattle.qgm_core.specs.Numbered.{Numbered, Under}
 use Rattle.qgm_core.specs.declared.node.Node.{Node}
 use Rattle.qgm_core.specs.declared.owned.OwnedQuant.{OwnedQuant}

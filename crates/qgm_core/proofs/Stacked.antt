@@ -1,14 +1,14 @@
 -- Boxes that are made in turn, and their numbers.
 use Rattle.std.proofs.Common.{◌≡◌, ℕ, zero, suc, ◌==◌, ◌≤◌, ◌+◌, ◌++◌, cond, Bool, true, false, List, [], ◌∷◌, arith, length, refl, sym, ◌∙◌, ap, subst, inl, inr, eqb-true}
-use Rattle.std.proofs.lemmas.Bool.{cases_Bool, eqb-false}
+use Rattle.std.proofs.lemmas.Bool.{cases_Bool, eqb-false, or_from, or_parts}
 use Rattle.std.proofs.lemmas.List.{append_assoc}
 use Rattle.qgm_core.specs.Boxes.{ids_in, numbers}
-use Rattle.qgm_core.specs.Lists.{EachOnce, holds, without}
+use Rattle.list_laws.specs.Lists.{EachOnce, holds, without}
 use Rattle.qgm_core.specs.Made.{boxes_of, made_box, on_top}
 use Rattle.qgm_core.specs.Numbered.{Numbered, Under}
 use Rattle.qgm_core.specs.declared.made.NewBox.{NewBox}
 use Rattle.qgm_core.specs.declared.node.Node.{Node}
-use Rattle.qgm_core.proofs.Fresh.{or_false, or_from, under-absent, under-weaker}
+use Rattle.qgm_core.proofs.Fresh.{under-absent, under-weaker}
 
 -- ---- one box more
 
@@ -40,7 +40,7 @@ stacked b (n ∷ made) below u o =
 under-tight : (m : ℕ) (xs : List ℕ) → Under (suc m) xs → holds m xs ≡ false → Under m xs
 under-tight m [] u h = tt
 under-tight m (x ∷ xs) u h =
-    let s = or_false (x == m) (holds m xs) h in
+    let s = or_parts (x == m) (holds m xs) h in
     elim (cases_Bool (x == m)) [
       | inl t ↦ absurd (let d = s.0 in let q : ⊥ = cc in q)
       | inr f ↦ ((let d = eqb-false x m f in let l = u.0 in omega (arith, l, d)), under-tight m xs u.1 s.1)
@@ -49,7 +49,7 @@ under-tight m (x ∷ xs) u h =
 holds-without : (p : ℕ → Bool) (x : ℕ) (xs : List ℕ) → holds x xs ≡ false → holds x (without p xs) ≡ false
 holds-without p x [] h = refl
 holds-without p x (y ∷ xs) h =
-    let s = or_false (y == x) (holds x xs) h in
+    let s = or_parts (y == x) (holds x xs) h in
     elim (p y) as (λ t. holds x (cond t xs (y ∷ without p xs)) ≡ false) [
       | true ↦ s.1
       | false ↦ or_from (y == x) (holds x (without p xs)) s.0 (holds-without p x xs s.1)

@@ -2,16 +2,15 @@
 use Rattle.std.proofs.Common.{◌≡◌, ℕ, zero, suc, ◌==◌, ◌<◌, ◌≤◌, ◌+◌, ◌-◌, ◌++◌, Bool, true, false, List, [], ◌∷◌, Some, None, length, drop, get_or, refl, sym, ap, ◌∙◌, arith, cond, position, inl, inr, map, add-one, subst, eqb-true}
 use Rattle.std.proofs.Math.Seq.{drop-append_seam, drop-cons}
 use Rattle.std.proofs.lemmas.List.{append_assoc, append-nil}
-use Rattle.std.proofs.lemmas.Bool.{cases_Bool}
+use Rattle.std.proofs.lemmas.Bool.{cases_Bool, or_from, or_parts}
 use Rattle.std.proofs.lemmas.List.Quantifiers.{position-Some}
 use Rattle.std.specs.List.{list_any}
 use Rattle.qgm_core.specs.Boxes.{is_box, numbers, overs_of, quants_in}
-use Rattle.qgm_core.specs.Lists.{EachOnce, each, first, holds}
+use Rattle.list_laws.specs.Lists.{EachOnce, each, first, holds}
 use Rattle.qgm_core.specs.Walk.{levels, news, under, visit}
 use Rattle.qgm_core.specs.declared.node.Node.{Node}
 use Rattle.qgm_core.specs.declared.owned.OwnedQuant.{OwnedQuant}
 use Rattle.qgm_core.proofs.First.{absent, is_first}
-use Rattle.qgm_core.proofs.Fresh.{or_false, or_from}
 
 none_passes : (b : ℕ) (ns : List Node) → position (is_box b) ns ≡ None → list_any (is_box b) ns ≡ false
 none_passes b ns e =
@@ -22,7 +21,7 @@ none_passes b ns e =
 
 first_from : (b : ℕ) (ns : List Node) → list_any (is_box b) ns ≡ false → first (is_box b) ns ≡ None
 first_from b [] h = refl
-first_from b (n ∷ ns) h = let s = or_false (n.id == b) (list_any (is_box b) ns) h in rw s.0 (first_from b ns s.1)
+first_from b (n ∷ ns) h = let s = or_parts (n.id == b) (list_any (is_box b) ns) h in rw s.0 (first_from b ns s.1)
 
 -- a box that doesn't stand here
 pub first_none : (b : ℕ) (ns : List Node) → position (is_box b) ns ≡ None → first (is_box b) ns ≡ None
@@ -34,7 +33,7 @@ first_some b ns i d e = (is_first (is_box b) ns i e).1 d
 
 visit_from : (b : ℕ) (ns : List Node) (seen : List ℕ) → list_any (is_box b) ns ≡ false → visit ns b seen ≡ seen
 visit_from b [] seen h = refl
-visit_from b (n ∷ ns) seen h = let s = or_false (n.id == b) (list_any (is_box b) ns) h in rw s.0 (visit_from b ns seen s.1)
+visit_from b (n ∷ ns) seen h = let s = or_parts (n.id == b) (list_any (is_box b) ns) h in rw s.0 (visit_from b ns seen s.1)
 
 visit_at : (b : ℕ) (ns : List Node) (i : ℕ) (d : Node) (seen : List ℕ) → i < length ns → is_box b (get_or ns i d) ≡ true → ((k : ℕ) → k < i → is_box b (get_or ns k d) ≡ false) →
     visit ns b seen ≡ cond (holds b seen) seen (each (visit (drop (suc i) ns)) (overs_of (get_or ns i d)) (seen ++ b ∷ []))
@@ -105,8 +104,8 @@ news_new b bs seen h = rw h (sym (append_assoc seen (b ∷ []) (news (seen ++ b 
 unheld-behind : (x from : ℕ) (ns : List Node) → holds x (numbers ns) ≡ false → list_any (is_box x) (drop from ns) ≡ false
 unheld-behind x zero [] h = refl
 unheld-behind x (suc from) [] h = refl
-unheld-behind x zero (n ∷ ns) h = let s = or_false (n.id == x) (holds x (numbers ns)) h in or_from (n.id == x) (list_any (is_box x) ns) s.0 (unheld-behind x zero ns s.1)
-unheld-behind x (suc from) (n ∷ ns) h = let s = or_false (n.id == x) (holds x (numbers ns)) h in unheld-behind x from ns s.1
+unheld-behind x zero (n ∷ ns) h = let s = or_parts (n.id == x) (holds x (numbers ns)) h in or_from (n.id == x) (list_any (is_box x) ns) s.0 (unheld-behind x zero ns s.1)
+unheld-behind x (suc from) (n ∷ ns) h = let s = or_parts (n.id == x) (holds x (numbers ns)) h in unheld-behind x from ns s.1
 
 once-behind : (b : ℕ) (ns : List Node) (i from : ℕ) (d : Node) → EachOnce (numbers ns) → i < length ns → is_box b (get_or ns i d) ≡ true → i < from → list_any (is_box b) (drop from ns) ≡ false
 once-behind b [] i from d o l t m = absurd (omega (arith, l))
@@ -117,7 +116,7 @@ once-behind b (n ∷ ns) (suc i) (suc from) d o l t m = once-behind b ns i from 
 none-behind : (b from : ℕ) (ns : List Node) → list_any (is_box b) ns ≡ false → list_any (is_box b) (drop from ns) ≡ false
 none-behind b zero ns h = h
 none-behind b (suc from) [] h = refl
-none-behind b (suc from) (n ∷ ns) h = none-behind b from ns (or_false (n.id == b) (list_any (is_box b) ns) h).1
+none-behind b (suc from) (n ∷ ns) h = none-behind b from ns (or_parts (n.id == b) (list_any (is_box b) ns) h).1
 
 visit-skipped : (b from : ℕ) (ns : List Node) (d : Node) (seen : List ℕ) → ((k : ℕ) → k < from → is_box b (get_or ns k d) ≡ false) → visit (drop from ns) b seen ≡ visit ns b seen
 visit-skipped b zero ns d seen h = refl

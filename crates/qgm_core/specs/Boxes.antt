@@ -4,7 +4,7 @@ use Rattle.std.specs.List.{list_any, list_all, flat_map}
 use Rattle.sql_value.specs.declared.order_key.OrderKey.{OrderKey}
 use Rattle.qgm_core.specs.Kinds.{width_by}
 pub use Rattle.qgm_core.specs.Kinds.{is_F, is_base, is_enforce}
-pub use Rattle.qgm_core.specs.Lists.{change, first, put_below}
+pub use Rattle.list_laws.specs.Lists.{change, first, put_below}
 use Rattle.qgm_core.specs.declared.node.Node.{Node}
 use Rattle.qgm_core.specs.declared.owned.Quant.{Quant}
 use Rattle.qgm_core.specs.declared.owned.OwnedQuant.{OwnedQuant}

@@ -3,7 +3,7 @@ use Rattle.std.specs.Prelude.{ℕ, suc, ◌==◌, ◌-◌, ◌++◌, max, List, 
 use Rattle.std.specs.List.{remove, flat_map}
 use Rattle.qgm_core.specs.Boxes.{QueryGraph, is_box, is_quant, owns, put_at, quants_in, range_in}
 use Rattle.qgm_core.specs.Free.{reached}
-use Rattle.qgm_core.specs.Lists.{first, change, without, put_below, each, holds}
+use Rattle.list_laws.specs.Lists.{first, change, without, put_below, each, holds}
 use Rattle.qgm_core.specs.declared.kinds.BoxKind.{BoxKind}
 use Rattle.qgm_core.specs.declared.kinds.Distinct.{Distinct}
 use Rattle.qgm_core.specs.declared.kinds.QuantKind.{QuantKind}

@@ -2,7 +2,7 @@
 use Rattle.std.specs.Prelude.{ℕ, ◌≡◌, ◌++◌, ◌&&◌, ◌==◌, nat_lt, not, if◌then◌else◌, Bool, true, false, List, [], ◌∷◌, filter}
 use Rattle.std.specs.List.{list_any, flat_map}
 use Rattle.qgm_core.specs.Boxes.{QueryGraph, ids_of, owns, overs_of}
-use Rattle.qgm_core.specs.Lists.{In, holds}
+use Rattle.list_laws.specs.Lists.{In, holds}
 use Rattle.qgm_core.specs.declared.node.Node.{Node}
 use Rattle.qgm_core.specs.declared.owned.OwnedQuant.{OwnedQuant}
 use Rattle.qgm_terms.specs.Named.{names_in, names_in_cond}

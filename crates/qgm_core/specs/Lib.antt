@@ -1,4 +1,3 @@
-pub mod Lists
 pub mod Kinds
 pub mod Boxes
 pub mod Numbered

@@ -1,7 +1,7 @@
 -- Numbers of boxes and quantifiers.
 use Rattle.std.specs.Prelude.{ℕ, ◌<◌, ◌≤◌, List, [], ◌∷◌, length, ⊤}
 use Rattle.qgm_core.specs.Boxes.{ids_in, numbers}
-use Rattle.qgm_core.specs.Lists.{EachOnce}
+use Rattle.list_laws.specs.Lists.{EachOnce}
 use Rattle.qgm_core.specs.declared.node.Node.{Node}
 
 -- all of these are below a number

@@ -2,10 +2,10 @@
 use Rattle.std.specs.Prelude.{ℕ, zero, suc, ◌==◌, ◌++◌, if◌then◌else◌, List, [], ◌∷◌, map, length}
 use Rattle.std.specs.List.{flat_map}
 use Rattle.qgm_core.specs.Boxes.{QueryGraph, is_box, overs_of, quants_in}
-use Rattle.qgm_core.specs.Lists.{each, first, holds}
+use Rattle.list_laws.specs.Lists.{each, first, holds}
 use Rattle.qgm_core.specs.declared.node.Node.{Node}
-use Rattle.rewrite_plan.specs.declared.plan.Walk.{Walk}
-use Rattle.rewrite_plan.specs.declared.plan.Walk.TheVariants.{Depth, Breadth}
+use Rattle.shared_types.specs.declared.walk.Walk.{Walk}
+use Rattle.shared_types.specs.declared.walk.Walk.TheVariants.{Depth, Breadth}
 
 -- depth first: a box that wasn't seen, and then those under its quantifiers, in their order; a box ranges over boxes behind it
 abbrev pub visit : List Node → ℕ → List ℕ → List ℕ

@@ -2,7 +2,7 @@
 ghost use Rattle.std.specs.Prelude.{◌≡◌, ◌<◌, ◌==◌, length, true, false, IfOk, OnOk, OnErr};
 ghost use Rattle.qgm_core.specs.Boxes.{has_box, is_box, quants_in};
 ghost use Rattle.qgm_core.specs.Edits.{absorbed, spliced_at};
-ghost use Rattle.qgm_core.specs.Lists.{first};
+ghost use Rattle.list_laws.specs.Lists.{first};
 
 use crate::kinds::BoxId;
 use crate::node::Node;

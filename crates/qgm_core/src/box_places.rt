@@ -1,7 +1,7 @@
 // Where boxes stand, by their numbers.
 ghost use Rattle.std.specs.Prelude.{◌≡◌, ◌==◌, ◌++◌, ◌∷◌, [], IfOk, OnOk, option_map, position};
 ghost use Rattle.qgm_core.specs.Boxes.{is_box, numbers};
-ghost use Rattle.qgm_core.specs.Lists.{first};
+ghost use Rattle.list_laws.specs.Lists.{first};
 
 use crate::kinds::BoxId;
 use crate::node::Node;

@@ -1,7 +1,7 @@
 // How often numbers stand in a list.
 ghost use Rattle.std.specs.Prelude.{◌≡◌, ◌++◌, ◌∷◌, [], IfOk, OnOk};
 ghost use Rattle.qgm_core.specs.Boxes.{overs_in};
-ghost use Rattle.qgm_core.specs.Lists.{times};
+ghost use Rattle.list_laws.specs.Lists.{times};
 
 use crate::node::Node;
 use crate::tables::make_long;
@@ -18,7 +18,7 @@ pub struct Counts {
 
 impl Model for Counts {
     ghost use Rattle.std.specs.Prelude.{ℕ, List, ◌≡◌, slice_index_or};
-    ghost use Rattle.qgm_core.specs.Lists.{times};
+    ghost use Rattle.list_laws.specs.Lists.{times};
 
     ghost Value = { List ℕ };
 

@@ -2,7 +2,7 @@
 ghost use Rattle.std.specs.Prelude.{◌≡◌, ◌++◌, ◌∷◌, [], ◌<◌, ◌≤◌, ℕ, length, slice_index_or, filter, map, not, OnOk, IfOk};
 ghost use Rattle.std.specs.List.{flat_map};
 ghost use Rattle.qgm_core.specs.Free as spec;
-ghost use Rattle.qgm_core.specs.Lists.{holds};
+ghost use Rattle.list_laws.specs.Lists.{holds};
 
 use crate::kinds::BoxId;
 use crate::marks::{Marks, mark_ids, mark_overs};

@@ -1,4 +1,7 @@
 // What boxes and quantifiers are of.
+ghost use Rattle.std.specs.Prelude.{◌≡◌};
+ghost use Rattle.qgm_core.specs.Kinds as spec;
+
 use shared_types::Text;
 use sql_value::SqlType;
 use sqlite_items::Items;
@@ -57,6 +60,28 @@ impl Drop for BoxKind {
     }
 }
 
+impl BoxKind {
+    /// Whether it holds a stored table's rows.
+    pub fn is_base(&self) -> bool
+        ensures { result ≡ spec.is_base self.now }
+    {
+        match self {
+            BoxKind::Base(_) => true,
+            BoxKind::Select | BoxKind::Group(_) | BoxKind::SetOp(_, _) | BoxKind::OuterJoin => false,
+        }
+    }
+
+    /// Whether it selects, projects and joins.
+    pub fn is_select(&self) -> bool
+        ensures { result ≡ spec.is_select self.now }
+    {
+        match self {
+            BoxKind::Select => true,
+            BoxKind::Base(_) | BoxKind::Group(_) | BoxKind::SetOp(_, _) | BoxKind::OuterJoin => false,
+        }
+    }
+}
+
 /// What a quantifier ranges for (Pirahesh, Hellerstein and Hasan 1992, 2.1).
 #[derive(Clone, Copy, PartialEq, Eq)]
 pub enum QuantKind {
@@ -70,6 +95,58 @@ pub enum QuantKind {
     S,
 }
 
+impl QuantKind {
+    /// Whether each row takes part.
+    pub fn is_f(self) -> bool
+        ensures { result ≡ spec.is_F self }
+    {
+        match self {
+            QuantKind::F => true,
+            QuantKind::E | QuantKind::A | QuantKind::S => false,
+        }
+    }
+
+    /// Whether it asks for one row.
+    pub fn is_e(self) -> bool
+        ensures { result ≡ spec.is_E self }
+    {
+        match self {
+            QuantKind::E => true,
+            QuantKind::F | QuantKind::A | QuantKind::S => false,
+        }
+    }
+
+    /// Whether it asks of all rows.
+    pub fn is_a(self) -> bool
+        ensures { result ≡ spec.is_A self }
+    {
+        match self {
+            QuantKind::A => true,
+            QuantKind::F | QuantKind::E | QuantKind::S => false,
+        }
+    }
+
+    /// Whether it is the value of the one row.
+    pub fn is_s(self) -> bool
+        ensures { result ≡ spec.is_S self }
+    {
+        match self {
+            QuantKind::S => true,
+            QuantKind::F | QuantKind::E | QuantKind::A => false,
+        }
+    }
+
+    /// Whether the rows themselves count, and not only which there are.
+    pub fn is_f_or_s(self) -> bool
+        ensures { result ≡ spec.is_F_or_S self }
+    {
+        match self {
+            QuantKind::F | QuantKind::S => true,
+            QuantKind::E | QuantKind::A => false,
+        }
+    }
+}
+
 /// Whether a box gives rows more than once (Pirahesh, Hellerstein and Hasan 1992, 2.1).
 #[derive(Clone, Copy, PartialEq, Eq)]
 pub enum Distinct {
@@ -81,6 +158,38 @@ pub enum Distinct {
     Permit,
 }
 
+impl Distinct {
+    /// Whether each row is given once.
+    pub fn is_enforce(self) -> bool
+        ensures { result ≡ spec.is_enforce self }
+    {
+        match self {
+            Distinct::Enforce => true,
+            Distinct::Preserve | Distinct::Permit => false,
+        }
+    }
+
+    /// Whether each row is given as often as it comes.
+    pub fn is_preserve(self) -> bool
+        ensures { result ≡ spec.is_preserve self }
+    {
+        match self {
+            Distinct::Preserve => true,
+            Distinct::Enforce | Distinct::Permit => false,
+        }
+    }
+
+    /// Whether a row may be given more or less often.
+    pub fn is_permit(self) -> bool
+        ensures { result ≡ spec.is_permit self }
+    {
+        match self {
+            Distinct::Permit => true,
+            Distinct::Enforce | Distinct::Preserve => false,
+        }
+    }
+}
+
 /// What a box is for, where a query is decorrelated (Seshadri, Pirahesh and Leung 1996, 4).
 #[derive(Clone, Copy, PartialEq, Eq)]
 pub enum Role {
@@ -89,4 +198,36 @@ pub enum Role {
     Magic,
     /// It joins the bindings with a correlated box.
     Fed,
+}
+
+impl Role {
+    /// Whether it is of no other use than its rows.
+    pub fn is_plain(self) -> bool
+        ensures { result ≡ spec.is_plain self }
+    {
+        match self {
+            Role::Plain => true,
+            Role::Magic | Role::Fed => false,
+        }
+    }
+
+    /// Whether it holds the bindings of a correlated box.
+    pub fn is_magic(self) -> bool
+        ensures { result ≡ spec.is_magic self }
+    {
+        match self {
+            Role::Magic => true,
+            Role::Plain | Role::Fed => false,
+        }
+    }
+
+    /// Whether it joins the bindings with a correlated box.
+    pub fn is_fed(self) -> bool
+        ensures { result ≡ spec.is_fed self }
+    {
+        match self {
+            Role::Fed => true,
+            Role::Plain | Role::Magic => false,
+        }
+    }
 }

@@ -34,4 +34,4 @@ pub use parts::BoxParts;
 pub use places::{has_box, has_quant};
 pub use qgm_terms::{Arm, Column, Conds, Gc, Gx, Head, Link, Op, QuantId, QuantNode};
 pub use quants::Quants;
-pub use rewrite_plan::Walk;
+pub use shared_types::Walk;

@@ -1,6 +1,6 @@
 // Numbers that are marked.
 ghost use Rattle.std.specs.Prelude.{◌≡◌, ◌++◌, ◌∷◌, [], map, OnOk};
-ghost use Rattle.qgm_core.specs.Lists.{holds};
+ghost use Rattle.list_laws.specs.Lists.{holds};
 
 use crate::owned::OwnedQuant;
 use crate::tables::make_long;
@@ -26,7 +26,7 @@ impl Drop for Marks {
 
 impl Model for Marks {
     ghost use Rattle.std.specs.Prelude.{ℕ, List, ◌≡◌, false, slice_index_or};
-    ghost use Rattle.qgm_core.specs.Lists.{holds};
+    ghost use Rattle.list_laws.specs.Lists.{holds};
 
     ghost Value = { List ℕ };
 

@@ -3,7 +3,7 @@ ghost use Rattle.std.specs.Prelude.{◌≡◌, ◌≤◌, ◌+◌, ◌==◌, OnO
 ghost use Rattle.std.specs.List.{list_any};
 ghost use Rattle.qgm_core.specs.Boxes.{has_box, is_box, owns, quants_in};
 ghost use Rattle.qgm_core.specs.Edits.{moved_below, quant_moved, without_quant};
-ghost use Rattle.qgm_core.specs.Lists.{change, first};
+ghost use Rattle.list_laws.specs.Lists.{change, first};
 
 use crate::kinds::BoxId;
 use crate::node::Node;

@@ -2,7 +2,7 @@
 ghost use Rattle.std.specs.Prelude.{◌≡◌, ◌<◌, ◌≤◌, ◌++◌, ◌∷◌, [], Some, true, length, map, insert, position, IfOk, OnOk, OnErr};
 ghost use Rattle.std.specs.List.{list_any};
 ghost use Rattle.qgm_core.specs.Boxes.{is_quant};
-ghost use Rattle.qgm_core.specs.Lists.{IsFirst, change, first, moved_to, without};
+ghost use Rattle.list_laws.specs.Lists.{IsFirst, change, first, moved_to, without};
 
 use crate::kinds::{BoxId, QuantKind};
 use crate::quants::Quants;

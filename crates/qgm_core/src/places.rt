@@ -2,7 +2,7 @@
 ghost use Rattle.std.specs.Prelude.{◌≡◌, ◌<◌, Some, IfSome, position, true};
 ghost use Rattle.std.specs.List.{list_any};
 ghost use Rattle.qgm_core.specs.Boxes.{IsNewPlace, has_box, is_box, owns};
-ghost use Rattle.qgm_core.specs.Lists.{IsFirst};
+ghost use Rattle.list_laws.specs.Lists.{IsFirst};
 
 use crate::kinds::BoxId;
 use crate::node::Node;

@@ -2,7 +2,7 @@
 ghost use Rattle.std.specs.Prelude.{◌≡◌, ◌<◌, length, slice_get};
 ghost use Rattle.qgm_core.specs.Boxes.{quants_in};
 ghost use Rattle.qgm_core.specs.Edits.{ids_over, shift_boxes, shifted_over};
-ghost use Rattle.qgm_core.specs.Lists.{each};
+ghost use Rattle.list_laws.specs.Lists.{each};
 
 use crate::kinds::BoxId;
 use crate::node::Node;

@@ -1,7 +1,7 @@
 // How often boxes are used.
 ghost use Rattle.std.specs.Prelude.{◌≡◌, ◌≤◌, length};
 ghost use Rattle.qgm_core.specs.Boxes.{ids_in, overs_in};
-ghost use Rattle.qgm_core.specs.Lists.{times};
+ghost use Rattle.list_laws.specs.Lists.{times};
 
 use crate::kinds::BoxId;
 use crate::node::Node;

@@ -1,7 +1,7 @@
 // The order in which boxes are visited.
 ghost use Rattle.std.specs.Prelude.{◌≡◌, ◌≤◌, ◌++◌, ◌∷◌, [], drop, length, map, OnOk, IfOk};
 ghost use Rattle.qgm_core.specs.Boxes.{numbers};
-ghost use Rattle.qgm_core.specs.Lists.{EachOnce};
+ghost use Rattle.list_laws.specs.Lists.{EachOnce};
 ghost use Rattle.qgm_core.specs.Walk as spec;
 
 use crate::box_places::{Places, node_at};

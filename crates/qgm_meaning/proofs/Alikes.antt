@@ -26,7 +26,7 @@ use Rattle.qgm_core.specs.declared.kinds.BoxKind.TheVariants.{Base, Select, Grou
 use Rattle.qgm_core.specs.declared.kinds.SetOperator.{SetOperator}
 use Rattle.qgm_core.specs.declared.kinds.SetOperator.TheVariants.{UnionAll, Union, IntersectAll, Intersect, ExceptAll, Except}
 use Rattle.qgm_core.specs.Boxes.{Ordered, all_over, has_box, is_quant}
-use Rattle.qgm_core.specs.Lists.{first}
+use Rattle.list_laws.specs.Lists.{first}
 use Rattle.qgm_core.specs.Kinds.{is_F, is_enforce}
 use Rattle.row_bag.specs.Subqueries.{presence}
 use Rattle.row_bag.specs.Aggregates.{count_cell}
@@ -37,6 +37,7 @@ use Rattle.qgm_terms.specs.Terms.{Term, int, text, null_int, null_text, col, bot
 use Rattle.qgm_meaning.specs.Values.{Bag, Environment, all_true, bound, chosen_at, compared, first_true, head_cells, operate, truth, value}
 use Rattle.row_bag.proofs.FoldLaws.{every-alike, folded-alike, many-alike, or_else-alike, scalar-alike, some-alike}
 use Rattle.qgm_meaning.proofs.Ranked.{lower}
+use Rattle.list_laws.proofs.Booleans.{or-true}
 
 -- ---- cells and conditions
 
@@ -91,10 +92,6 @@ AlikeAt passes f g = (q : ℕ) (env : Environment) → passes env ≡ true → A
 pub once_if-alike : (once : Bool) {xs ys : Bag} → Alike xs ys → Alike (once_if once xs) (once_if once ys)
 once_if-alike true h = distinct-alike same_cells same_cells-decides h
 once_if-alike false h = h
-
-or-true : (b : Bool) → (b || true) ≡ true
-or-true true = refl
-or-true false = refl
 
 -- what one row gives matters only if the row is there
 one-within : (f g : List Cell → Bag) (cells : List Cell) (level : Level) → (is_there (row cells level) ≡ true → Alike (f cells) (g cells)) → Alike (keep level (f cells)) (keep level (g cells))

@@ -2,7 +2,7 @@
 use Rattle.std.specs.Prelude.{⊤}
 use Rattle.std.proofs.Common.{ℕ, ◌==◌, ◌≡◌, ◌&&◌, ◌||◌, cond, Bool, true, false, List, [], ◌∷◌, Some, refl, sym, ap, ap₂, subst, ◌∙◌, eqb-true, inl, inr}
 use Rattle.std.specs.List.{list_any}
-use Rattle.std.proofs.lemmas.Bool.{and_parts, cases_Bool, eq-eqb}
+use Rattle.std.proofs.lemmas.Bool.{and_parts, cases_Bool, eq-eqb, or_left, or_right}
 use mathlib.Core.Path.{fun_ext}
 use Rattle.row_bag.specs.AsSets.{AgreeAsSets}
 use Rattle.row_bag.proofs.Setting.{sets-from_alike, sets-trans}
@@ -23,7 +23,7 @@ use Rattle.sql_value.specs.declared.cell.Cell.{Cell}
 use Rattle.sql_value.specs.declared.truth.Truth.{Truth}
 use Rattle.qgm_core.specs.Boxes.{QueryGraph, Ordered, all_over, box_of, has_box, is_box, is_quant}
 use Rattle.qgm_core.specs.Kinds.{is_F, is_enforce}
-use Rattle.qgm_core.specs.Lists.{change, first}
+use Rattle.list_laws.specs.Lists.{change, first}
 use Rattle.qgm_core.specs.declared.kinds.BoxKind.{BoxKind}
 use Rattle.qgm_core.specs.declared.kinds.BoxKind.TheVariants.{Base, Select, Group, SetOp, OuterJoin}
 use Rattle.qgm_core.specs.declared.node.Node.{Node}
@@ -35,11 +35,10 @@ use Rattle.qgm_meaning.specs.Replace.{replace}
 use Rattle.qgm_meaning.specs.Values.{Bag, Environment, all_true, bound, chosen_at, compared, first_true, head_cells, operate, truth, value}
 use Rattle.qgm_terms.specs.Terms.{Term, int, text, null_int, null_text, col, both, minus_of, choose, count_all, fold, scalar, Arms, no_arm, arm, Cond, always, compare, is_null, and, or, not, some, every}
 use Rattle.qgm_meaning.proofs.Alikes.{AlikeAt, bind-within, once_if-alike, rows_by-alike}
-use Rattle.qgm_meaning.proofs.Frames.{either-left, either-right}
-use Rattle.qgm_meaning.proofs.Puts.{neither-left, neither-right}
 use Rattle.qgm_meaning.proofs.Ranked.{GivenBack, lower, self-back}
 use Rattle.qgm_meaning.proofs.Replacing.{held-change, ordered-change}
 use Rattle.qgm_meaning.proofs.Unfold.{rows-local, unfold-bag}
+use Rattle.list_laws.proofs.Booleans.{neither-left, neither-right}
 
 -- as sets where it is enough
 abbrev AlikeAs : Bool → Bag → Bag → Type 0
@@ -128,7 +127,7 @@ module _ (passes : Environment → Bool) (sets : ℕ → Bool) (n : Node) (heads
       (cond t (bind (s r.id env) (λ cells. over_each rs s (given_by s n) (bound r.id cells env))) (over_each rs s (given_by s n) env))
       (cond t (bind (s' r.id env) (λ cells. over_each rs s' (given_by s' n) (bound r.id cells env))) (over_each rs s' (given_by s' n) env))) [
         | true ↦ λ t. alike-trans
-            (alike-bind (subst (λ (b : Bool). AlikeAs b (s r.id env) (s' r.id env)) (bags r.id (either-left (is_F r.kind && (r.id == r.id)) (list_any (λ x. is_F x.kind && is_quant r.id x) rs) (ap₂ (λ (x y : Bool). x && y) t (eq-eqb r.id r.id refl)))) (h r.id env p))
+            (alike-bind (subst (λ (b : Bool). AlikeAs b (s r.id env) (s' r.id env)) (bags r.id (or_left (is_F r.kind && (r.id == r.id)) (list_any (λ x. is_F x.kind && is_quant r.id x) rs) (ap₂ (λ (x y : Bool). x && y) t (eq-eqb r.id r.id refl)))) (h r.id env p))
             (λ cells. alike-refl (over_each rs s (given_by s n) (bound r.id cells env))))
             (bind-within (s' r.id env) (λ cells. over_each rs s (given_by s n) (bound r.id cells env)) (λ cells. over_each rs s' (given_by s' n) (bound r.id cells env))
             (λ cells there. over_each-sets rs s s' later y.1 h (bound r.id cells env) (y.0 env cells t p there)))
@@ -136,7 +135,7 @@ module _ (passes : Environment → Bool) (sets : ℕ → Bool) (n : Node) (heads
       ] refl
     where
       later : (q : ℕ) → list_any (λ r. is_F r.kind && is_quant q r) rs ≡ true → sets q ≡ false
-      later q e = bags q (either-right (is_F r.kind && (r.id == q)) (list_any (λ x. is_F x.kind && is_quant q x) rs) e)
+      later q e = bags q (or_right (is_F r.kind && (r.id == q)) (list_any (λ x. is_F x.kind && is_quant q x) rs) e)
 
 rows_by-sets : (passes : Environment → Bool) (sets : ℕ → Bool) (kind : BoxKind) (tables : List Table) (n : Node) (s s' : Family) → ReadsSetsBy kind sets n → Stays passes s' n.quants → AlikeAsAt passes (is_set sets n) s s' → (env : Environment) → passes env ≡ true
     → Alike (rows_by kind tables n s env) (rows_by kind tables n s' env)

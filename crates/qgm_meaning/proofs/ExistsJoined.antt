@@ -1,5 +1,4 @@
 -- U1 on a graph.
-use Rattle.std.specs.Prelude.{⊤}
 use Rattle.std.specs.Prelude as p
 use Rattle.std.proofs.Common.{ℕ, ◌==◌, ◌≡◌, ◌&&◌, ◌||◌, cond, Bool, true, false, List, [], ◌∷◌, ◌++◌, Option, Some, None, refl, sym, ap, ap₂, subst, ◌∙◌, eqb-true, inl, inr}
 use Rattle.std.specs.List.{list_any}
@@ -17,7 +16,7 @@ use Rattle.qgm_core.specs.declared.parts.BoxParts.{BoxParts}
 use Rattle.qgm_core.specs.declared.node.Node.{Node}
 use Rattle.qgm_core.specs.declared.owned.OwnedQuant.{OwnedQuant}
 use Rattle.qgm_core.specs.Boxes.{QueryGraph, Ordered, all_over, box_of, has_box, is_quant}
-use Rattle.qgm_core.specs.Lists.{first}
+use Rattle.list_laws.specs.Lists.{first}
 use Rattle.qgm_core.specs.Kinds.{is_F}
 use Rattle.qgm_meaning.specs.Replace.{replace}
 use Rattle.qgm_meaning.specs.Laws.{AllStay, Stays}
@@ -29,9 +28,9 @@ use Rattle.qgm_terms.specs.Wanted.{reads, reads_cond}
 use Rattle.qgm_meaning.specs.Values.{Bag, Environment, bound}
 use Rattle.qgm_meaning.proofs.Frames.{any-framed, bag-framed}
 use Rattle.qgm_meaning.proofs.Joined.{joined, unread}
-use Rattle.qgm_meaning.proofs.Puts.{neither-left, neither-right}
 use Rattle.qgm_meaning.proofs.Replacing.{replaced}
 use Rattle.qgm_meaning.proofs.Within.{loose-unfold}
+use Rattle.list_laws.proofs.Booleans.{neither-left, neither-right}
 
 -- ---- all environments pass
 

@@ -12,7 +12,7 @@ use Rattle.row_bag.specs.declared.tables.Table.{Table}
 use Rattle.row_bag.proofs.Agreement.{alike-sym}
 use Rattle.row_bag.proofs.Counts.{agree-from_alike}
 use Rattle.qgm_core.specs.Boxes.{QueryGraph, Ordered, box_of, has_box, is_quant, owns}
-use Rattle.qgm_core.specs.Lists.{first}
+use Rattle.list_laws.specs.Lists.{first}
 use Rattle.qgm_core.specs.declared.kinds.BoxKind.TheVariants.{Select}
 use Rattle.qgm_core.specs.declared.kinds.Distinct.{Distinct}
 use Rattle.qgm_core.specs.declared.kinds.QuantKind.TheVariants.{E}
@@ -36,10 +36,10 @@ use Rattle.qgm_meaning.proofs.ExistsJoined.{any-before, inner, moved, overs-move
 use Rattle.qgm_meaning.proofs.Fitting.{hereditary}
 use Rattle.qgm_meaning.proofs.Frames.{any-framed, bag-framed}
 use Rattle.qgm_meaning.proofs.Joined.{unread}
-use Rattle.qgm_meaning.proofs.Puts.{neither-left, neither-right}
 use Rattle.qgm_meaning.proofs.Replacing.{replaced}
 use Rattle.qgm_meaning.proofs.ScalarJoined.{first-any, owned-there, stays-of, with-last, without}
 use Rattle.qgm_meaning.proofs.Within.{loose-unfold}
+use Rattle.list_laws.proofs.Booleans.{neither-left, neither-right}
 
 module _ (tables : List Table) (g : QueryGraph) (b : ℕ) (p : BoxParts) (d : Distinct) (us : List OwnedQuant) (i over : ℕ) (vs : List OwnedQuant) (xs : List Cond) (c : Cond) (ys : List Cond) (head : List Term)
     (o : Ordered g.boxes) (held : box_of b g ≡ Some (some_box b p d us i over vs xs c ys head)) (hu : list_any (is_quant i) us ≡ false) (hv : list_any (is_quant i) vs ≡ false) (away : loose g.boxes b i ≡ false) where

@@ -1,6 +1,6 @@
 -- Conditions before what a box does and after it.
 use Rattle.std.proofs.Common.{ℕ, suc, ◌≡◌, ◌≤◌, ◌&&◌, ◌||◌, nat_eq, cond, Bool, true, false, List, [], ◌∷◌, ◌++◌, take, length, Option, None, refl, sym, ap, ap₂, subst, ◌∙◌, ◌⊎◌, inl, inr}
-use Rattle.std.proofs.lemmas.Bool.{and_from, and_parts, cases_Bool}
+use Rattle.std.proofs.lemmas.Bool.{and_from, and_parts, cases_Bool, or_left, or_right}
 use mathlib.Core.Path.{fun_ext}
 use Rattle.row_bag.specs.AsSets.{is_decided, stands}
 use Rattle.row_bag.specs.Filters.{Decides, passing}
@@ -30,7 +30,6 @@ use Rattle.qgm_meaning.specs.Meaning.{fold_cells, groups, grouped_rows, key_cell
 use Rattle.qgm_meaning.specs.Values.{Bag, Environment, all_true, bound, head_cells}
 use Rattle.qgm_terms.specs.Terms.{Term}
 use Rattle.qgm_meaning.proofs.Alikes.{grouped_rows-alike}
-use Rattle.qgm_meaning.proofs.Frames.{either-left, either-right}
 use Rattle.qgm_meaning.proofs.Passed.{key-first, no-worst, passes}
 
 itself : (cells : List Cell) → same_cells cells cells ≡ true
@@ -43,8 +42,8 @@ no-error : (held : List Cell → Option Kind) (level : List Cell → Level) (row
 no-error held level [] d h = refl
 no-error held level (r ∷ rows) d h =
     let parts = no-worst (if_there None (λ cells l. worst_of (error_at l) (held cells)) r.cells r.level) (error_among held rows) h in
-    ap₂ worst_of (at r.cells r.level (λ t. decided-either (level r.cells) (d r.cells (either-left (same_cells r.cells r.cells && is_there r) (stands same_cells r.cells rows) (and_from (same_cells r.cells r.cells) (is_there r) (itself r.cells) t)))) parts.0)
-    (no-error held level rows (λ c t. d c (either-right (same_cells r.cells c && is_there r) (stands same_cells c rows) t)) parts.1)
+    ap₂ worst_of (at r.cells r.level (λ t. decided-either (level r.cells) (d r.cells (or_left (same_cells r.cells r.cells && is_there r) (stands same_cells r.cells rows) (and_from (same_cells r.cells r.cells) (is_there r) (itself r.cells) t)))) parts.0)
+    (no-error held level rows (λ c t. d c (or_right (same_cells r.cells c && is_there r) (stands same_cells c rows) t)) parts.1)
   where
     kept : (c : List Cell) (l : Level) → ((level c ≡ No) ⊎ (level c ≡ Yes)) → if_there None (λ cells l. worst_of (error_at l) (held cells)) c l ≡ None
         → if_there None (λ cells l. worst_of (error_at l) (held cells)) c (least l (least (level c) Yes)) ≡ None
@@ -64,8 +63,8 @@ no-error held level (r ∷ rows) d h =
 stands-append : (c : List Cell) (xs ys : Bag) → stands same_cells c xs ≡ true → stands same_cells c (xs ++ ys) ≡ true
 stands-append c [] ys h = cc h
 stands-append c (x ∷ xs) ys h = elim (cases_Bool (same_cells x.cells c && is_there x)) [
-  | inl t ↦ either-left (same_cells x.cells c && is_there x) (stands same_cells c (xs ++ ys)) t
-  | inr t ↦ either-right (same_cells x.cells c && is_there x) (stands same_cells c (xs ++ ys)) (stands-append c xs ys (sym (ap (λ (b : Bool). b || stands same_cells c xs) t) ∙ h))
+  | inl t ↦ or_left (same_cells x.cells c && is_there x) (stands same_cells c (xs ++ ys)) t
+  | inr t ↦ or_right (same_cells x.cells c && is_there x) (stands same_cells c (xs ++ ys)) (stands-append c xs ys (sym (ap (λ (b : Bool). b || stands same_cells c xs) t) ∙ h))
 ]
 
 -- where neither operand holds an error
@@ -136,8 +135,8 @@ stands-keys key test (r ∷ rows) h k s = elim (cases_Bool (same_cells (key r.ce
       let p = and_parts (same_cells (key r.cells) k) (is_there (row (key r.cells) (least r.level Yes))) t in
       let there : is_there r ≡ true = sym (there-yes (key r.cells) r.cells r.level) ∙ p.1 in
       subst (λ (c : List Cell). test c ≡ true) ((same_cells-decides (key r.cells) k).0 p.0)
-      (h r.cells (either-left (same_cells r.cells r.cells && is_there r) (stands same_cells r.cells rows) (and_from (same_cells r.cells r.cells) (is_there r) (itself r.cells) there)))
-  | inr t ↦ stands-keys key test rows (λ c u. h c (either-right (same_cells r.cells c && is_there r) (stands same_cells c rows) u)) k
+      (h r.cells (or_left (same_cells r.cells r.cells && is_there r) (stands same_cells r.cells rows) (and_from (same_cells r.cells r.cells) (is_there r) (itself r.cells) there)))
+  | inr t ↦ stands-keys key test rows (λ c u. h c (or_right (same_cells r.cells c && is_there r) (stands same_cells c rows) u)) k
       (sym (ap (λ (b : Bool). b || stands same_cells k (bind rows (λ c. unit (key c)))) t) ∙ s)
 ]
 

@@ -2,7 +2,7 @@
 use Rattle.std.proofs.Common.{ℕ, zero, suc, ◌==◌, ◌≡◌, ◌&&◌, ◌||◌, cond, Bool, true, false, List, [], ◌∷◌, ◌++◌, map, take, drop, length, Option, Some, None, refl, ap, ap₂, ◌∙◌, ◌⊎◌, inl, inr}
 use Rattle.std.specs.List.{list_any}
 use Rattle.std.specs.Prelude as p
-use Rattle.std.proofs.lemmas.Bool.{eq-eqb, cases_Bool}
+use Rattle.std.proofs.lemmas.Bool.{cases_Bool, or_left, or_right}
 use mathlib.Core.Path.{fun_ext}
 use Rattle.row_bag.specs.Bags.{bind, keep, total, unit}
 use Rattle.row_bag.specs.Errors.{error_in}
@@ -18,7 +18,7 @@ use Rattle.qgm_core.specs.declared.node.Node.{Node}
 use Rattle.qgm_core.specs.declared.owned.OwnedQuant.{OwnedQuant}
 use Rattle.qgm_core.specs.declared.kinds.BoxKind.{BoxKind}
 use Rattle.qgm_core.specs.declared.kinds.BoxKind.TheVariants.{Base, Select, Group, SetOp, OuterJoin}
-use Rattle.qgm_core.specs.Lists.{first}
+use Rattle.list_laws.specs.Lists.{first}
 use Rattle.qgm_core.specs.Kinds.{is_F, is_enforce}
 use Rattle.qgm_core.specs.Boxes.{is_quant}
 use Rattle.row_bag.specs.Aggregates.{folded}
@@ -31,23 +31,17 @@ use Rattle.qgm_terms.specs.Terms.{Term, int, text, null_int, null_text, col, bot
 use Rattle.qgm_terms.specs.Wanted.{reads, reads_cond}
 use Rattle.qgm_meaning.specs.Searches.{reads_arms}
 use Rattle.qgm_meaning.specs.Values.{Bag, Environment, all_true, bound, chosen_at, compared, first_true, head_cells, operate, row_of, truth, value}
+use Rattle.list_laws.proofs.Membership.{eq-itself}
 
 -- d and e have the same rows for the quantifiers that are looked up
 pub record SameRows (looks : ℕ → Bool) (d e : Environment) : Type 0 where
   pub rows : (q : ℕ) → looks q ≡ true → row_of q d ≡ row_of q e
 
-pub either-left : (a b : Bool) → a ≡ true → (a || b) ≡ true
-either-left a b h = ap (λ (x : Bool). x || b) h
-
-pub either-right : (a b : Bool) → b ≡ true → (a || b) ≡ true
-either-right true b h = refl
-either-right false b h = h
-
 pub from-left : (f g : ℕ → Bool) {d e : Environment} → SameRows (λ q. f q || g q) d e → SameRows f d e
-from-left f g h = record { rows = λ q t. h.rows q (either-left (f q) (g q) t) }
+from-left f g h = record { rows = λ q t. h.rows q (or_left (f q) (g q) t) }
 
 pub from-right : (f g : ℕ → Bool) {d e : Environment} → SameRows (λ q. f q || g q) d e → SameRows g d e
-from-right f g h = record { rows = λ q t. h.rows q (either-right (f q) (g q) t) }
+from-right f g h = record { rows = λ q t. h.rows q (or_right (f q) (g q) t) }
 
 -- what is looked up beside a quantifier that is bound
 pub bound-same : (f : ℕ → Bool) (r : ℕ) (cells : List Cell) {d e : Environment} → SameRows (λ q. p.not (r == q) && f q) d e → SameRows f (bound r cells d) (bound r cells e)
@@ -57,9 +51,6 @@ bound-same f r cells {d = d} {e = e} h = record { rows = λ q t. step q t (cases
     step q t (inl u) = rw u refl
     step q t (inr u) = rw u (h.rows q (ap₂ (λ (x y : Bool). p.not x && y) u t))
 
-pub itself : (q : ℕ) → (q == q) ≡ true
-itself q = eq-eqb q q refl
-
 module _ (rows : ℕ → Bag) where
   mutual
     pub value-framed : (x : Term) (d e : Environment) → SameRows (λ q. reads q x) d e → value rows x d ≡ value rows x e
@@ -67,7 +58,7 @@ module _ (rows : ℕ → Bag) where
     value-framed (text w) d e h = refl
     value-framed null_int d e h = refl
     value-framed null_text d e h = refl
-    value-framed (col q k) d e h = ap (cell_of k) (h.rows q (itself q))
+    value-framed (col q k) d e h = ap (cell_of k) (h.rows q (eq-itself q))
     value-framed (both o x y) d e h = ap₂ (operate o) (value-framed x d e (from-left (λ q. reads q x) (λ q. reads q y) h)) (value-framed y d e (from-right (λ q. reads q x) (λ q. reads q y) h))
     value-framed (minus_of x) d e h = ap a.neg (value-framed x d e h)
     value-framed (choose w x) d e h = first_true-framed w _ _ d e (from-left (λ q. reads_arms q w) (λ q. reads q x) h) (value-framed x d e (from-right (λ q. reads_arms q w) (λ q. reads q x) h))
@@ -123,8 +114,8 @@ any-found [] look x q t = t
 any-found (r ∷ rs) look x q t = step (r.id == x) (any-found rs look x q) t
   where
     step : (b : Bool) → (looks_found (first (is_quant x) rs) look q ≡ true → under_any rs look q ≡ true) → looks_found (cond b (Some r) (first (is_quant x) rs)) look q ≡ true → (look r.over q || under_any rs look q) ≡ true
-    step true k t = either-left (look r.over q) (under_any rs look q) t
-    step false k t = either-right (look r.over q) (under_any rs look q) (k t)
+    step true k t = or_left (look r.over q) (under_any rs look q) t
+    step false k t = or_right (look r.over q) (under_any rs look q) (k t)
 
 -- over boxes that keep the law
 module _ (n : Node) (below : Family) (look : ℕ → ℕ → Bool) (f : (b : ℕ) (d e : Environment) → SameRows (look b) d e → below b d ≡ below b e) where
@@ -180,7 +171,7 @@ any-take f (suc k) (x ∷ xs) t = step (f x) (list_any f xs) (list_any f (take k
 pub any-drop : (f : Term → Bool) (k : ℕ) (xs : List Term) → list_any f (drop k xs) ≡ true → list_any f xs ≡ true
 any-drop f zero xs t = t
 any-drop f (suc k) [] t = cc t
-any-drop f (suc k) (x ∷ xs) t = either-right (f x) (list_any f xs) (any-drop f k xs t)
+any-drop f (suc k) (x ∷ xs) t = or_right (f x) (list_any f xs) (any-drop f k xs t)
 
 fold_cell-framed : (q : ℕ) (rows : Bag) (x : Term) (d e : Environment) → ((cells : List Cell) → SameRows (λ r. reads r x) (bound q cells d) (bound q cells e)) → fold_cell q d rows x ≡ fold_cell q e rows x
 fold_cell-framed q rows (int n) d e h = refl

@@ -14,7 +14,7 @@ use Rattle.sql_value.specs.declared.cell.Cell.{Cell}
 use Rattle.sql_value.specs.declared.truth.Truth.{Truth}
 use Rattle.qgm_core.specs.Boxes.{QueryGraph, Ordered, all_over, box_of, has_box, is_quant}
 use Rattle.qgm_core.specs.Kinds.{is_F, is_enforce}
-use Rattle.qgm_core.specs.Lists.{first}
+use Rattle.list_laws.specs.Lists.{first}
 use Rattle.qgm_core.specs.declared.kinds.Distinct.{Distinct}
 use Rattle.qgm_core.specs.declared.node.Node.{Node}
 use Rattle.qgm_core.specs.declared.owned.OwnedQuant.{OwnedQuant}
@@ -36,9 +36,9 @@ use Rattle.qgm_meaning.proofs.Frames.{any-found, bag-framed, over_each-framed}
 use Rattle.qgm_meaning.proofs.Joined.{over_each-append, unread}
 use Rattle.qgm_meaning.proofs.Merged.{one-row, over_each-within}
 use Rattle.qgm_meaning.proofs.Nodes.{all_true-nodes, head-nodes}
-use Rattle.qgm_meaning.proofs.Puts.{neither-left, neither-right}
 use Rattle.qgm_meaning.proofs.Replacing.{replaced}
 use Rattle.qgm_meaning.proofs.ScalarJoined.{stays-of, without}
+use Rattle.list_laws.proofs.Booleans.{neither-left, neither-right}
 
 -- ---- without a quantifier of another number
 

@@ -1,7 +1,7 @@
 -- A select in a select is one select: what is given where all F quantifiers are bound.
 use Rattle.std.proofs.Common.{ℕ, ◌==◌, ◌≡◌, ◌||◌, cond, true, false, List, ◌++◌, map, sym, ap, ap₂, ◌∙◌, eqb-true, ◌⊎◌, inl, inr}
 use Rattle.std.specs.List.{list_any}
-use Rattle.std.proofs.lemmas.Bool.{cases_Bool, eq-eqb}
+use Rattle.std.proofs.lemmas.Bool.{cases_Bool, eq-eqb, or_left, or_right}
 use Rattle.row_bag.specs.Bags.{keep, unit}
 use Rattle.row_bag.proofs.Binds.{keep-keep}
 use Rattle.row_bag.proofs.Levels.{least-commutative}
@@ -18,7 +18,7 @@ use Rattle.qgm_meaning.specs.Searches.{binds, binds_cond, names, names_cond}
 use Rattle.qgm_terms.specs.Substitution.{substituted, substituted_cond}
 use Rattle.qgm_terms.specs.Wanted.{reads, reads_cond}
 use Rattle.qgm_meaning.specs.Values.{Bag, Environment, all_true, bound, head_cells, row_of}
-use Rattle.qgm_meaning.proofs.Frames.{SameRows, all_true-framed, either-left, either-right, from-left, from-right, head-framed}
+use Rattle.qgm_meaning.proofs.Frames.{SameRows, all_true-framed, from-left, from-right, head-framed}
 use Rattle.qgm_meaning.proofs.Joined.{all_true-append}
 use Rattle.qgm_meaning.proofs.Nodes.{all_true-nodes, head-nodes}
 use Rattle.qgm_meaning.proofs.Puts.{Unread, all_true-put, head-put, inlined-first}
@@ -66,10 +66,10 @@ module _ (ms : List OwnedQuant) (q : ℕ) (s t : Family) (conds inner_conds : Li
         conds-same =
             all_true-put (λ x. t x e) q inner_head conds e (bound q (cells e) e) (inlined-first (λ x. t x e) q inner_head e) free_conds
             ∙ all_true-framed (λ x. t x e) conds (bound q (cells e) e) d (from-right (λ x. list_any (reads x) head) (λ x. list_any (reads_cond x) conds) (same-rows d e m))
-            ∙ all_true-nodes (λ x. t x e) (λ x. s x d) conds d (λ x u. same x (either-right (list_any (names x) head) (list_any (names_cond x) conds) u))
+            ∙ all_true-nodes (λ x. t x e) (λ x. s x d) conds d (λ x u. same x (or_right (list_any (names x) head) (list_any (names_cond x) conds) u))
 
         head-same : head_cells (λ x. t x e) (map (substituted q inner_head) head) e ≡ head_cells (λ x. s x d) head d
         head-same =
             head-put (λ x. t x e) q inner_head head e (bound q (cells e) e) (inlined-first (λ x. t x e) q inner_head e) free_head
             ∙ head-framed (λ x. t x e) head (bound q (cells e) e) d (from-left (λ x. list_any (reads x) head) (λ x. list_any (reads_cond x) conds) (same-rows d e m))
-            ∙ head-nodes (λ x. t x e) (λ x. s x d) head d (λ x u. same x (either-left (list_any (names x) head) (list_any (names_cond x) conds) u))
+            ∙ head-nodes (λ x. t x e) (λ x. s x d) head d (λ x u. same x (or_left (list_any (names x) head) (list_any (names_cond x) conds) u))

@@ -1,7 +1,7 @@
 -- What a quantifier gives matters only where a node names it.
 use Rattle.std.proofs.Common.{ℕ, ◌==◌, ◌≡◌, ◌||◌, Bool, true, false, List, [], ◌∷◌, refl, ap, ap₂, ◌∙◌}
 use Rattle.std.specs.List.{list_any}
-use Rattle.std.proofs.lemmas.Bool.{eq-eqb}
+use Rattle.std.proofs.lemmas.Bool.{eq-eqb, or_left, or_right}
 use mathlib.Core.Path.{fun_ext}
 use Rattle.row_bag.specs.Bags.{total}
 use Rattle.sql_value.specs.Arithmetic as a
@@ -14,7 +14,6 @@ use Rattle.row_bag.specs.Subqueries as subquery
 use Rattle.qgm_terms.specs.Terms.{Term, int, text, null_int, null_text, col, both, minus_of, choose, count_all, fold, scalar, Arms, no_arm, arm, Cond, always, compare, is_null, and, or, not, some, every}
 use Rattle.qgm_meaning.specs.Searches.{names, names_arms, names_cond}
 use Rattle.qgm_meaning.specs.Values.{Bag, Environment, all_true, bound, chosen_at, compared, first_true, head_cells, operate, truth, value}
-use Rattle.qgm_meaning.proofs.Frames.{either-left, either-right}
 
 module _ (r s : ℕ → Bag) where
   -- both give the same for these
@@ -22,10 +21,10 @@ module _ (r s : ℕ → Bag) where
   Both looks = (q : ℕ) → looks q ≡ true → r q ≡ s q
 
   left : (f g : ℕ → Bool) → Both (λ q. f q || g q) → Both f
-  left f g h q t = h q (either-left (f q) (g q) t)
+  left f g h q t = h q (or_left (f q) (g q) t)
 
   right : (f g : ℕ → Bool) → Both (λ q. f q || g q) → Both g
-  right f g h q t = h q (either-right (f q) (g q) t)
+  right f g h q t = h q (or_right (f q) (g q) t)
 
   mutual
     pub value-nodes : (x : Term) (d : Environment) → Both (λ q. names q x) → value r x d ≡ value s x d
@@ -56,10 +55,10 @@ module _ (r s : ℕ → Bag) where
     truth-nodes (or b c) d h = ap₂ t.or (truth-nodes b d (left (λ q. names_cond q b) (λ q. names_cond q c) h)) (truth-nodes c d (right (λ q. names_cond q b) (λ q. names_cond q c) h))
     truth-nodes (not c) d h = ap t.negated (truth-nodes c d h)
     truth-nodes (some q c) d h =
-        ap₂ (λ (rows : Bag) (f : List Cell → Truth). total t.or (t.truth_of false) (λ cells level. t.and (presence level) (f cells)) rows) (h q (either-left (q == q) (names_cond q c) (eq-eqb q q refl)))
+        ap₂ (λ (rows : Bag) (f : List Cell → Truth). total t.or (t.truth_of false) (λ cells level. t.and (presence level) (f cells)) rows) (h q (or_left (q == q) (names_cond q c) (eq-eqb q q refl)))
         (fun_ext (λ cells. truth-nodes c (bound q cells d) (right (λ x. q == x) (λ x. names_cond x c) h)))
     truth-nodes (every q c) d h =
-        ap₂ (λ (rows : Bag) (f : List Cell → Truth). total t.and (t.truth_of true) (λ cells level. t.or (t.negated (presence level)) (f cells)) rows) (h q (either-left (q == q) (names_cond q c) (eq-eqb q q refl)))
+        ap₂ (λ (rows : Bag) (f : List Cell → Truth). total t.and (t.truth_of true) (λ cells level. t.or (t.negated (presence level)) (f cells)) rows) (h q (or_left (q == q) (names_cond q c) (eq-eqb q q refl)))
         (fun_ext (λ cells. truth-nodes c (bound q cells d) (right (λ x. q == x) (λ x. names_cond x c) h)))
 
   pub all_true-nodes : (ps : List Cond) (d : Environment) → Both (λ q. list_any (names_cond q) ps) → all_true r ps d ≡ all_true s ps d

@@ -8,7 +8,7 @@ use Rattle.row_bag.proofs.Agreement.{alike-refl}
 use Rattle.row_bag.proofs.TupleBags.{same_cells-decides}
 use Rattle.qgm_core.specs.Boxes.{QueryGraph, Ordered, box_of, has_box, is_box}
 use Rattle.qgm_core.specs.Kinds.{is_enforce}
-use Rattle.qgm_core.specs.Lists.{first}
+use Rattle.list_laws.specs.Lists.{first}
 use Rattle.qgm_core.specs.declared.kinds.Distinct.{Distinct}
 use Rattle.qgm_core.specs.declared.kinds.Distinct.TheVariants.{Permit}
 use Rattle.qgm_core.specs.declared.node.Node.{Node}

@@ -2,7 +2,7 @@
 use Rattle.std.proofs.Common.{ℕ, zero, suc, ◌==◌, ◌≡◌, ◌&&◌, ◌||◌, cond, Bool, true, false, List, [], ◌∷◌, ◌++◌, map, take, drop, get_or, length, Option, Some, None, refl, sym, ap, ap₂, subst, ◌∙◌, eqb-true, ◌⊎◌, inl, inr}
 use Rattle.std.specs.List.{list_any, list_all}
 use Rattle.std.proofs.lemmas.List.{drop-map, length-map, take-map}
-use Rattle.std.proofs.lemmas.Bool.{eq-eqb, and_parts, cases_Bool}
+use Rattle.std.proofs.lemmas.Bool.{and_parts, cases_Bool, eq-eqb, or_left, or_right}
 use mathlib.Core.Path.{fun_ext}
 use Rattle.row_bag.specs.Bags.{bind, keep, total, unit}
 use Rattle.row_bag.specs.Errors.{error_in}
@@ -19,7 +19,7 @@ use Rattle.qgm_core.specs.declared.node.Node.{Node}
 use Rattle.qgm_core.specs.declared.owned.OwnedQuant.{OwnedQuant}
 use Rattle.qgm_core.specs.declared.kinds.BoxKind.{BoxKind}
 use Rattle.qgm_core.specs.declared.kinds.BoxKind.TheVariants.{Base, Select, Group, SetOp, OuterJoin}
-use Rattle.qgm_core.specs.Lists.{first}
+use Rattle.list_laws.specs.Lists.{first}
 use Rattle.qgm_core.specs.Kinds.{is_F, is_enforce}
 use Rattle.qgm_core.specs.Boxes.{is_quant, owns}
 use Rattle.row_bag.specs.Aggregates.{folded}
@@ -33,7 +33,9 @@ use Rattle.qgm_terms.specs.Wanted.{reads, reads_cond}
 use Rattle.qgm_meaning.specs.Searches.{binds, binds_arms, binds_cond, bare, bare_arms, bare_cond}
 use Rattle.qgm_terms.specs.Substitution.{substituted, substituted_arms, substituted_cond, cell_at}
 use Rattle.qgm_meaning.specs.Values.{Bag, Environment, all_true, bound, chosen_at, compared, first_true, head_cells, operate, row_of, truth, value}
-use Rattle.qgm_meaning.proofs.Frames.{any-drop, any-take, SameRows, either-left, either-right, head-framed, truth-framed}
+use Rattle.qgm_meaning.proofs.Frames.{any-drop, any-take, SameRows, head-framed, truth-framed}
+use Rattle.list_laws.proofs.Membership.{eq-false-sym}
+use Rattle.list_laws.proofs.Booleans.{neither-left, neither-right}
 
 -- none of these is read
 abbrev pub Unread : (ℕ → Bool) → List Term → Type 0
@@ -43,12 +45,6 @@ Unread names cells = (r : ℕ) → names r ≡ true → list_any (reads r) cells
 pub record Inlined (rows : ℕ → Bag) (q : ℕ) (cells : List Term) (d e : Environment) : Type 0 where
   pub others : (x : ℕ) → (x == q) ≡ false → row_of x d ≡ row_of x e
   pub own : row_of q e ≡ head_cells rows cells d
-
-turned : (x q : ℕ) → (x == q) ≡ false → (q == x) ≡ false
-turned x q h = elim (cases_Bool (q == x)) [
-  | inl u ↦ absurd (let e : q ≡ x = eqb-true q x u in let v : (x == q) ≡ true = eq-eqb x q (sym e) in let w : ⊥ = cc in w)
-  | inr u ↦ u
-]
 
 pub inlined-bound : {rows : ℕ → Bag} {q : ℕ} {cells : List Term} {d e : Environment} → Inlined rows q cells d e → (r : ℕ) (cs : List Cell) → (r == q) ≡ false → list_any (reads r) cells ≡ false
     → Inlined rows q cells (bound r cs d) (bound r cs e)
@@ -63,7 +59,7 @@ inlined-bound {rows = rows} {q = q} {cells = cells} {d = d} {e = e} h r cs apart
 
 pub inlined-first : (rows : ℕ → Bag) (q : ℕ) (cells : List Term) (d : Environment) → Inlined rows q cells d (bound q (head_cells rows cells d) d)
 inlined-first rows q cells d = record {
-  others = λ x n. sym (ap (λ (b : Bool). cond b (head_cells rows cells d) (row_of x d)) (turned x q n));
+  others = λ x n. sym (ap (λ (b : Bool). cond b (head_cells rows cells d) (row_of x d)) (eq-false-sym x q n));
   own = ap (λ (b : Bool). cond b (head_cells rows cells d) (row_of q d)) (eq-eqb q q refl);
 }
 
@@ -73,7 +69,7 @@ same-again {q = q} {d = d} {e = e} h r cs same looks = record { rows = λ x t. s
   where
     step : (x : ℕ) → ((r == x) ≡ true) ⊎ ((r == x) ≡ false) → cond (r == x) cs (row_of x d) ≡ cond (r == x) cs (row_of x e)
     step x (inl u) = rw u refl
-    step x (inr u) = rw u (h.others x (turned q x (subst (λ (y : ℕ). (y == x) ≡ false) (eqb-true r q same) u)))
+    step x (inr u) = rw u (h.others x (eq-false-sym q x (subst (λ (y : ℕ). (y == x) ≡ false) (eqb-true r q same) u)))
 
 get-mapped : (f : Term → Cell) (xs : List Term) (k : ℕ) (x : Term) → f (get_or xs k x) ≡ get_or (map f xs) k (f x)
 get-mapped f [] k x = refl
@@ -86,7 +82,7 @@ module _ (rows : ℕ → Bag) (q : ℕ) (cells : List Term) where
       → truth rows (cond (r == q) c (substituted_cond q cells c)) (bound r cs d) ≡ truth rows c (bound r cs e)
   within-put r c d e cs h u (inl s) ih = rw s (truth-framed rows c (bound r cs d) (bound r cs e) (same-again h r cs s (λ x. reads_cond x c)))
   within-put r c d e cs h u (inr s) ih =
-      rw s (ih (bound r cs d) (bound r cs e) (inlined-bound h r cs s (u r (either-left (r == r) (binds_cond r c) (eq-eqb r r refl)))) (λ x t. u x (either-right (r == x) (binds_cond x c) t)))
+      rw s (ih (bound r cs d) (bound r cs e) (inlined-bound h r cs s (u r (or_left (r == r) (binds_cond r c) (eq-eqb r r refl)))) (λ x t. u x (or_right (r == x) (binds_cond x c) t)))
 
   mutual
     pub value-put : (x : Term) (d e : Environment) → Inlined rows q cells d e → Unread (λ r. binds r x) cells → value rows (substituted q cells x) d ≡ value rows x e
@@ -100,10 +96,10 @@ module _ (rows : ℕ → Bag) (q : ℕ) (cells : List Term) where
           | inr s ↦ rw s (ap (cell_of k) (h.others r s))
         ]
     value-put (both o x y) d e h u =
-        ap₂ (operate o) (value-put x d e h (λ r t. u r (either-left (binds r x) (binds r y) t))) (value-put y d e h (λ r t. u r (either-right (binds r x) (binds r y) t)))
+        ap₂ (operate o) (value-put x d e h (λ r t. u r (or_left (binds r x) (binds r y) t))) (value-put y d e h (λ r t. u r (or_right (binds r x) (binds r y) t)))
     value-put (minus_of x) d e h u = ap a.neg (value-put x d e h u)
     value-put (choose w x) d e h u =
-        first_true-put w _ _ d e h (λ r t. u r (either-left (binds_arms r w) (binds r x) t)) (value-put x d e h (λ r t. u r (either-right (binds_arms r w) (binds r x) t)))
+        first_true-put w _ _ d e h (λ r t. u r (or_left (binds_arms r w) (binds r x) t)) (value-put x d e h (λ r t. u r (or_right (binds_arms r w) (binds r x) t)))
     value-put count_all d e h u = refl
     value-put (fold f t x) d e h u = refl
     value-put (scalar r) d e h u = refl
@@ -112,20 +108,20 @@ module _ (rows : ℕ → Bag) (q : ℕ) (cells : List Term) where
     first_true-put no_arm x y d e h u k = k
     first_true-put (arm c z w) x y d e h u k =
         ap (λ (l : Truth). chosen_at l.t (value rows (substituted q cells z) d) (first_true rows (substituted_arms q cells w) x d))
-        (truth-put c d e h (λ r t. u r (either-left (binds_cond r c) (binds r z || binds_arms r w) t)))
+        (truth-put c d e h (λ r t. u r (or_left (binds_cond r c) (binds r z || binds_arms r w) t)))
         ∙ ap₂ (chosen_at (truth rows c e).t)
-        (value-put z d e h (λ r t. u r (either-right (binds_cond r c) (binds r z || binds_arms r w) (either-left (binds r z) (binds_arms r w) t))))
-        (first_true-put w x y d e h (λ r t. u r (either-right (binds_cond r c) (binds r z || binds_arms r w) (either-right (binds r z) (binds_arms r w) t))) k)
+        (value-put z d e h (λ r t. u r (or_right (binds_cond r c) (binds r z || binds_arms r w) (or_left (binds r z) (binds_arms r w) t))))
+        (first_true-put w x y d e h (λ r t. u r (or_right (binds_cond r c) (binds r z || binds_arms r w) (or_right (binds r z) (binds_arms r w) t))) k)
 
     pub truth-put : (c : Cond) (d e : Environment) → Inlined rows q cells d e → Unread (λ r. binds_cond r c) cells → truth rows (substituted_cond q cells c) d ≡ truth rows c e
     truth-put always d e h u = refl
     truth-put (compare sign x y) d e h u =
-        ap₂ (compared sign) (value-put x d e h (λ r t. u r (either-left (binds r x) (binds r y) t))) (value-put y d e h (λ r t. u r (either-right (binds r x) (binds r y) t)))
+        ap₂ (compared sign) (value-put x d e h (λ r t. u r (or_left (binds r x) (binds r y) t))) (value-put y d e h (λ r t. u r (or_right (binds r x) (binds r y) t)))
     truth-put (is_null x) d e h u = ap c.is_null (value-put x d e h u)
     truth-put (and b c) d e h u =
-        ap₂ t.and (truth-put b d e h (λ r t. u r (either-left (binds_cond r b) (binds_cond r c) t))) (truth-put c d e h (λ r t. u r (either-right (binds_cond r b) (binds_cond r c) t)))
+        ap₂ t.and (truth-put b d e h (λ r t. u r (or_left (binds_cond r b) (binds_cond r c) t))) (truth-put c d e h (λ r t. u r (or_right (binds_cond r b) (binds_cond r c) t)))
     truth-put (or b c) d e h u =
-        ap₂ t.or (truth-put b d e h (λ r t. u r (either-left (binds_cond r b) (binds_cond r c) t))) (truth-put c d e h (λ r t. u r (either-right (binds_cond r b) (binds_cond r c) t)))
+        ap₂ t.or (truth-put b d e h (λ r t. u r (or_left (binds_cond r b) (binds_cond r c) t))) (truth-put c d e h (λ r t. u r (or_right (binds_cond r b) (binds_cond r c) t)))
     truth-put (not c) d e h u = ap t.negated (truth-put c d e h u)
     truth-put (some r c) d e h u =
         ap (λ (f : List Cell → Truth). total t.or (t.truth_of false) (λ cs level. t.and (presence level) (f cs)) (rows r)) (fun_ext (λ cs. within-put r c d e cs h u (cases_Bool (r == q)) (λ d e h u. truth-put c d e h u)))
@@ -135,18 +131,18 @@ module _ (rows : ℕ → Bag) (q : ℕ) (cells : List Term) where
   pub all_true-put : (ps : List Cond) (d e : Environment) → Inlined rows q cells d e → Unread (λ r. list_any (binds_cond r) ps) cells → all_true rows (map (substituted_cond q cells) ps) d ≡ all_true rows ps e
   all_true-put [] d e h u = refl
   all_true-put (c ∷ ps) d e h u =
-      ap₂ t.and (truth-put c d e h (λ r t. u r (either-left (binds_cond r c) (list_any (binds_cond r) ps) t))) (all_true-put ps d e h (λ r t. u r (either-right (binds_cond r c) (list_any (binds_cond r) ps) t)))
+      ap₂ t.and (truth-put c d e h (λ r t. u r (or_left (binds_cond r c) (list_any (binds_cond r) ps) t))) (all_true-put ps d e h (λ r t. u r (or_right (binds_cond r c) (list_any (binds_cond r) ps) t)))
 
   pub head-put : (xs : List Term) (d e : Environment) → Inlined rows q cells d e → Unread (λ r. list_any (binds r) xs) cells → head_cells rows (map (substituted q cells) xs) d ≡ head_cells rows xs e
   head-put [] d e h u = refl
   head-put (x ∷ xs) d e h u =
-      ap₂ (λ (c : Cell) (cs : List Cell). c ∷ cs) (value-put x d e h (λ r t. u r (either-left (binds r x) (list_any (binds r) xs) t))) (head-put xs d e h (λ r t. u r (either-right (binds r x) (list_any (binds r) xs) t)))
+      ap₂ (λ (c : Cell) (cs : List Cell). c ∷ cs) (value-put x d e h (λ r t. u r (or_left (binds r x) (list_any (binds r) xs) t))) (head-put xs d e h (λ r t. u r (or_right (binds r x) (list_any (binds r) xs) t)))
 
   pub given-put : (n : Node) (d e : Environment) → Inlined rows q cells d e → Unread (introduces n) cells → given rows (put_node q cells n) d ≡ given rows n e
   given-put n d e h u =
       ap₂ (λ (l : Truth) (cs : List Cell). keep l.t (unit cs))
-      (all_true-put n.parts.conds.items d e h (λ r t. u r (either-right (owns r n) _ (either-right (list_any (binds r) n.parts.head) (list_any (binds_cond r) n.parts.conds.items) t))))
-      (head-put n.parts.head d e h (λ r t. u r (either-right (owns r n) _ (either-left (list_any (binds r) n.parts.head) (list_any (binds_cond r) n.parts.conds.items) t))))
+      (all_true-put n.parts.conds.items d e h (λ r t. u r (or_right (owns r n) _ (or_right (list_any (binds r) n.parts.head) (list_any (binds_cond r) n.parts.conds.items) t))))
+      (head-put n.parts.head d e h (λ r t. u r (or_right (owns r n) _ (or_left (list_any (binds r) n.parts.head) (list_any (binds_cond r) n.parts.conds.items) t))))
 
 -- ---- boxes
 
@@ -207,14 +203,6 @@ bare-at [] k b = refl
 bare-at (x ∷ xs) zero b = (and_parts (bare x) (list_all bare xs) b).0
 bare-at (x ∷ xs) (suc k) b = bare-at xs k (and_parts (bare x) (list_all bare xs) b).1
 
-pub neither-left : (a b : Bool) → (a || b) ≡ false → a ≡ false
-neither-left true b h = cc h
-neither-left false b h = refl
-
-pub neither-right : (a b : Bool) → (a || b) ≡ false → b ≡ false
-neither-right true b h = cc h
-neither-right false b h = h
-
 module _ (q : ℕ) (cells : List Term) (naked : list_all bare cells ≡ true) where
   as-rows : (rows : ℕ → Bag) {d e : Environment} → Inlined nothing q cells d e → Inlined rows q cells d e
   as-rows rows {d = d} h = record { others = h.others; own = h.own ∙ sym (bare-head rows cells d naked) }
@@ -229,13 +217,13 @@ module _ (q : ℕ) (cells : List Term) (naked : list_all bare cells ≡ true) wh
       ap (λ (rows : ℕ → Bag). given rows (put_node q cells n) d) (fun_ext (λ x. same x d e h)) ∙ given-put (λ x. s' x e) q cells n d e (as-rows (λ x. s' x e) h) u
   over_each-put n (r ∷ rs) s s' same apart unread u d e h =
       let apart' = neither-right (r.id == q) (list_any (is_quant q) rs) apart in
-      let unread' : Unread (λ x. list_any (is_quant x) rs) cells = λ x t. unread x (either-right (r.id == x) (list_any (is_quant x) rs) t) in
+      let unread' : Unread (λ x. list_any (is_quant x) rs) cells = λ x t. unread x (or_right (r.id == x) (list_any (is_quant x) rs) t) in
       elim (is_F r.kind) as (λ t. ◌≡◌ {A = Bag}
       (cond t (bind (s r.id d) (λ cs. over_each rs s (given_by s (put_node q cells n)) (bound r.id cs d))) (over_each rs s (given_by s (put_node q cells n)) d))
       (cond t (bind (s' r.id e) (λ cs. over_each rs s' (given_by s' n) (bound r.id cs e))) (over_each rs s' (given_by s' n) e))) [
         | true ↦ ap₂ (λ (rows : Bag) (g : List Cell → Bag). bind rows g) (same r.id d e h) (fun_ext (λ cs.
             over_each-put n rs s s' same apart' unread' u (bound r.id cs d) (bound r.id cs e)
-            (inlined-bound h r.id cs (neither-left (r.id == q) (list_any (is_quant q) rs) apart) (unread r.id (either-left (r.id == r.id) (list_any (is_quant r.id) rs) (eq-eqb r.id r.id refl))))))
+            (inlined-bound h r.id cs (neither-left (r.id == q) (list_any (is_quant q) rs) apart) (unread r.id (or_left (r.id == r.id) (list_any (is_quant r.id) rs) (eq-eqb r.id r.id refl))))))
         | false ↦ over_each-put n rs s s' same apart' unread' u d e h
       ]
 
@@ -258,7 +246,7 @@ module _ (q : ℕ) (cells : List Term) (naked : list_all bare cells ≡ true) wh
       → map (fold_cell r d rows) (map (substituted q cells) xs) ≡ map (fold_cell r e rows) xs
   folds-put [] r rows d e h u = refl
   folds-put (x ∷ xs) r rows d e h u =
-      ap₂ (λ (c : Cell) (cs : List Cell). c ∷ cs) (fold_cell-put x r rows d e h (λ y t. u y (either-left (binds y x) (list_any (binds y) xs) t))) (folds-put xs r rows d e h (λ y t. u y (either-right (binds y x) (list_any (binds y) xs) t)))
+      ap₂ (λ (c : Cell) (cs : List Cell). c ∷ cs) (fold_cell-put x r rows d e h (λ y t. u y (or_left (binds y x) (list_any (binds y) xs) t))) (folds-put xs r rows d e h (λ y t. u y (or_right (binds y x) (list_any (binds y) xs) t)))
 
   module _ (head : List Term) (r : ℕ) (d e : Environment) (h : (cs : List Cell) → Inlined nothing q cells (bound r cs d) (bound r cs e)) (u : Unread (λ y. list_any (binds y) head) cells) where
     keys-put : (k : ℕ) → key_cells k (map (substituted q cells) head) r d ≡ key_cells k head r e
@@ -288,8 +276,8 @@ module _ (q : ℕ) (cells : List Term) (naked : list_all bare cells ≡ true) wh
   group-put k n (r ∷ rs) s s' same apart unread u d e h =
       ap (grouped_rows k (map (substituted q cells) n.parts.head) r.id d) (same r.id d e h)
       ∙ grouped-put n.parts.head r.id d e
-      (λ cs. inlined-bound h r.id cs (neither-left (r.id == q) (list_any (is_quant q) rs) apart) (unread r.id (either-left (r.id == r.id) (list_any (is_quant r.id) rs) (eq-eqb r.id r.id refl))))
-      (λ y t. u y (either-right (owns y n) _ (either-left (list_any (binds y) n.parts.head) (list_any (binds_cond y) n.parts.conds.items) t))) k (s' r.id e)
+      (λ cs. inlined-bound h r.id cs (neither-left (r.id == q) (list_any (is_quant q) rs) apart) (unread r.id (or_left (r.id == r.id) (list_any (is_quant r.id) rs) (eq-eqb r.id r.id refl))))
+      (λ y t. u y (or_right (owns y n) _ (or_left (list_any (binds y) n.parts.head) (list_any (binds_cond y) n.parts.conds.items) t))) k (s' r.id e)
 
   outer-put : (n : Node) (rs : List OwnedQuant) (s s' : Family) → ((x : ℕ) → Gives (s x) (s' x)) → list_any (is_quant q) rs ≡ false → Unread (λ r. list_any (is_quant r) rs) cells → Unread (introduces n) cells
       → Gives (λ d. of_two rs (outer_rows (put_node q cells n) s d)) (λ e. of_two rs (outer_rows n s' e))
@@ -298,23 +286,23 @@ module _ (q : ℕ) (cells : List Term) (naked : list_all bare cells ≡ true) wh
   outer-put n (l ∷ (r ∷ rs)) s s' same apart unread u d e h =
       let apart' = neither-right (l.id == q) (list_any (is_quant q) (r ∷ rs)) apart in
       let both : (a b : List Cell) → Inlined nothing q cells (bound r.id b (bound l.id a d)) (bound r.id b (bound l.id a e)) = λ a b.
-      inlined-bound (inlined-bound h l.id a (neither-left (l.id == q) (list_any (is_quant q) (r ∷ rs)) apart) (unread l.id (either-left (l.id == l.id) (list_any (is_quant l.id) (r ∷ rs)) (eq-eqb l.id l.id refl))))
-      r.id b (neither-left (r.id == q) (list_any (is_quant q) rs) apart') (unread r.id (either-right (l.id == r.id) (list_any (is_quant r.id) (r ∷ rs)) (either-left (r.id == r.id) (list_any (is_quant r.id) rs) (eq-eqb r.id r.id refl)))) in
+      inlined-bound (inlined-bound h l.id a (neither-left (l.id == q) (list_any (is_quant q) (r ∷ rs)) apart) (unread l.id (or_left (l.id == l.id) (list_any (is_quant l.id) (r ∷ rs)) (eq-eqb l.id l.id refl))))
+      r.id b (neither-left (r.id == q) (list_any (is_quant q) rs) apart') (unread r.id (or_right (l.id == r.id) (list_any (is_quant r.id) (r ∷ rs)) (or_left (r.id == r.id) (list_any (is_quant r.id) rs) (eq-eqb r.id r.id refl)))) in
       ap₂ (λ (xs : Bag) (g : List Cell → Bag). bind xs g) (same l.id d e h) (fun_ext (λ a.
       ap₂ (λ (xs ys : Bag). or_else xs ys)
       (ap₂ (λ (xs : Bag) (g : List Cell → Bag). bind xs g) (same r.id d e h) (fun_ext (λ b. given-put nothing q cells n (bound r.id b (bound l.id a d)) (bound r.id b (bound l.id a e)) (both a b) u)))
       (ap (λ (cs : List Cell). unit cs) (head-put nothing q cells n.parts.head (bound r.id [] (bound l.id a d)) (bound r.id [] (bound l.id a e)) (both a [])
-      (λ y t. u y (either-right (owns y n) _ (either-left (list_any (binds y) n.parts.head) (list_any (binds_cond y) n.parts.conds.items) t)))))))
+      (λ y t. u y (or_right (owns y n) _ (or_left (list_any (binds y) n.parts.head) (list_any (binds_cond y) n.parts.conds.items) t)))))))
 
   module _ (tables : List Table) where
     pub rows-put : (kind : BoxKind) (n : Node) (s s' : Family) → ((x : ℕ) → Gives (s x) (s' x)) → owns q n ≡ false → Unread (introduces n) cells → Gives (rows_by kind tables (put_node q cells n) s) (rows_by kind tables n s')
     rows-put (Base name) n s s' same apart u d e h = refl
     rows-put Select n s s' same apart u d e h =
-        ap (once_if (is_enforce n.parts.distinct)) (over_each-put n n.quants s s' same apart (λ r t. u r (either-left (owns r n) _ t)) u d e h)
-    rows-put (Group k) n s s' same apart u d e h = group-put k n n.quants s s' same apart (λ r t. u r (either-left (owns r n) _ t)) u d e h
+        ap (once_if (is_enforce n.parts.distinct)) (over_each-put n n.quants s s' same apart (λ r t. u r (or_left (owns r n) _ t)) u d e h)
+    rows-put (Group k) n s s' same apart u d e h = group-put k n n.quants s s' same apart (λ r t. u r (or_left (owns r n) _ t)) u d e h
     rows-put (SetOp form types) n s s' same apart u d e h =
         ap (λ (g : ℕ → Bag). of_two n.quants (λ p q. combined form (length types) (g p) (g q))) (fun_ext (λ x. same x d e h))
-    rows-put OuterJoin n s s' same apart u d e h = outer-put n n.quants s s' same apart (λ r t. u r (either-left (owns r n) _ t)) u d e h
+    rows-put OuterJoin n s s' same apart u d e h = outer-put n n.quants s s' same apart (λ r t. u r (or_left (owns r n) _ t)) u d e h
 
     pub found-put : (o : Option OwnedQuant) (f g : Family) → ((b : ℕ) → Gives (f b) (g b)) → Gives (rows_found o f) (rows_found o g)
     found-put None f g same d e h = refl

@@ -12,7 +12,7 @@ use Rattle.row_bag.proofs.TupleBags.{same_cells-decides}
 use Rattle.sql_value.specs.declared.cell.Cell.{Cell}
 use Rattle.qgm_core.specs.Boxes.{QueryGraph, Ordered, all_over, box_of, has_box, is_quant}
 use Rattle.qgm_core.specs.Kinds.{is_F, is_enforce}
-use Rattle.qgm_core.specs.Lists.{first}
+use Rattle.list_laws.specs.Lists.{first}
 use Rattle.qgm_core.specs.declared.kinds.BoxKind.TheVariants.{Select}
 use Rattle.qgm_core.specs.declared.kinds.Distinct.{Distinct}
 use Rattle.qgm_core.specs.declared.node.Node.{Node}
@@ -30,8 +30,8 @@ use Rattle.qgm_meaning.proofs.ExistsJoined.{all-stay, over-append, stays-all}
 use Rattle.qgm_meaning.proofs.Frames.{bag-framed, given-framed, quant-framed}
 use Rattle.qgm_meaning.proofs.Joined.{over_each-append, unread}
 use Rattle.qgm_meaning.proofs.Merged.{one-row, over_each-bind, over_each-keep}
-use Rattle.qgm_meaning.proofs.Puts.{neither-left, neither-right}
 use Rattle.qgm_meaning.proofs.Replacing.{replaced}
+use Rattle.list_laws.proofs.Booleans.{neither-left, neither-right}
 
 -- ---- combinations
 

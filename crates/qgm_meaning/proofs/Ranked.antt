@@ -1,8 +1,8 @@
 -- What is said of a box is a step of what is said of all boxes, and nothing else is so.
 use Rattle.std.specs.Prelude.{⊤}
 use Rattle.std.proofs.Common.{ℕ, ◌==◌, ◌≡◌, ◌||◌, cond, Bool, true, false, List, [], ◌∷◌, Option, Some, refl, sym, ◌∙◌, ap, subst, eqb-true, inl, inr}
-use Rattle.std.proofs.lemmas.Bool.{eq-eqb, and_parts, and_from, cases_Bool}
-use Rattle.qgm_core.specs.Lists.{first}
+use Rattle.std.proofs.lemmas.Bool.{and_from, and_parts, cases_Bool, eq-eqb, or_left, or_right}
+use Rattle.list_laws.specs.Lists.{first}
 use Rattle.qgm_core.specs.Boxes.{is_box, all_over, has_box, Ordered}
 use Rattle.qgm_core.specs.declared.node.Node.{Node}
 use Rattle.qgm_core.specs.declared.owned.OwnedQuant.{OwnedQuant}
@@ -40,13 +40,6 @@ under ns f g [] all h = tt
 under ns f g (r ∷ rs) all h =
     let parts = and_parts (has_box ns r.over) (all_over ns rs) all in
     (h r.over parts.0, under ns f g rs parts.1 h)
-
-or-left : (a b : Bool) → a ≡ true → (a || b) ≡ true
-or-left a b h = ap (λ (x : Bool). x || b) h
-
-or-right : (a b : Bool) → b ≡ true → (a || b) ≡ true
-or-right true b h = refl
-or-right false b h = h
 
 module _ {X : Type 0} (none : X) (step : Node → (ℕ → X) → X) where
   abbrev said : List Node → ℕ → X
@@ -94,11 +87,11 @@ module _ {X : Type 0} (none : X) (step : Node → (ℕ → X) → X) where
 
     among-more : (m : Node) (ns ks : List Node) → Among ns ks → Among (m ∷ ns) ks
     among-more m ns [] a = tt
-    among-more m ns (k ∷ ks) a = (or-right (m.id == k.id) (has_box ns k.id) a.0, more-over m ns k.quants a.1, among-more m ns ks a.2)
+    among-more m ns (k ∷ ks) a = (or_right (m.id == k.id) (has_box ns k.id) a.0, more-over m ns k.quants a.1, among-more m ns ks a.2)
 
     among-all : (ns : List Node) → Ordered ns → Among ns ns
     among-all [] o = tt
-    among-all (m ∷ ns) o = (or-left (m.id == m.id) (has_box ns m.id) (eq-eqb m.id m.id refl), more-over m ns m.quants o.1, among-more m ns ns (among-all ns o.2))
+    among-all (m ∷ ns) o = (or_left (m.id == m.id) (has_box ns m.id) (eq-eqb m.id m.id refl), more-over m ns m.quants o.1, among-more m ns ns (among-all ns o.2))
 
     raised : (m : Node) (ns ks : List Node) → has_box ns m.id ≡ false → Among ns ks → GivenBack (said ns) ks → GivenBack (said (m ∷ ns)) ks
     raised m ns [] absent a s = tt

@@ -9,7 +9,7 @@ use Rattle.row_bag.proofs.Counts.{agree-from_alike}
 use Rattle.qgm_core.specs.declared.node.Node.{Node}
 use Rattle.qgm_core.specs.declared.owned.OwnedQuant.{OwnedQuant}
 use Rattle.qgm_core.specs.Boxes.{QueryGraph, Ordered, all_over, box_of, has_box, is_box}
-use Rattle.qgm_core.specs.Lists.{change, first}
+use Rattle.list_laws.specs.Lists.{change, first}
 use Rattle.qgm_meaning.specs.Replace.{replace}
 use Rattle.qgm_meaning.specs.Laws.{AgreesBack, AllStay, Stays}
 use Rattle.qgm_meaning.specs.Meaning.{Family, bag, quant_rows, rows_of}

@@ -1,7 +1,7 @@
 -- U3 on a graph.
 use Rattle.std.proofs.Common.{ℕ, ◌==◌, ◌≡◌, ◌&&◌, ◌||◌, cond, Bool, true, false, List, [], ◌∷◌, ◌++◌, map, Option, Some, refl, sym, ap, ap₂, subst, ◌∙◌, eqb-true, inl, inr}
 use Rattle.std.specs.List.{list_any}
-use Rattle.std.proofs.lemmas.Bool.{and_from, cases_Bool, eq-eqb}
+use Rattle.std.proofs.lemmas.Bool.{and_from, cases_Bool, eq-eqb, or_left, or_right}
 use mathlib.Core.Path.{fun_ext}
 use Rattle.row_bag.specs.Bags.{Agree, Alike, bind, keep, total, unit}
 use Rattle.row_bag.specs.Order.{cell_of}
@@ -21,7 +21,7 @@ use Rattle.qgm_core.specs.declared.parts.BoxParts.{BoxParts}
 use Rattle.qgm_core.specs.declared.node.Node.{Node}
 use Rattle.qgm_core.specs.declared.owned.OwnedQuant.{OwnedQuant}
 use Rattle.qgm_core.specs.Boxes.{QueryGraph, Ordered, box_of, has_box, is_box, is_quant, owns}
-use Rattle.qgm_core.specs.Lists.{first}
+use Rattle.list_laws.specs.Lists.{first}
 use Rattle.qgm_core.specs.Kinds.{is_enforce}
 use Rattle.qgm_meaning.specs.Replace.{replace}
 use Rattle.qgm_meaning.specs.Fits.{fits, has_row}
@@ -38,12 +38,12 @@ use Rattle.qgm_meaning.proofs.Alikes.{once_if-alike}
 use Rattle.qgm_meaning.proofs.ExistsJoined.{inner, moved, overs-moved, own-append}
 use Rattle.qgm_meaning.proofs.Fitting.{hereditary}
 use Rattle.row_bag.proofs.FoldLaws.{scalar-alike}
-use Rattle.qgm_meaning.proofs.Frames.{any-framed, bag-framed, either-left, either-right, given-framed}
+use Rattle.qgm_meaning.proofs.Frames.{any-framed, bag-framed, given-framed}
 use Rattle.qgm_meaning.proofs.Joined.{over_each-append, unread}
 use Rattle.qgm_meaning.proofs.Merged.{one-row, over_each-within}
-use Rattle.qgm_meaning.proofs.Puts.{neither-left, neither-right}
 use Rattle.qgm_meaning.proofs.Replacing.{replaced}
 use Rattle.qgm_meaning.proofs.Within.{loose-unfold}
+use Rattle.list_laws.proofs.Booleans.{neither-left, neither-right}
 
 -- ---- the column is the scalar
 
@@ -119,13 +119,13 @@ pub first-any : (p : Node → Bool) (ns : List Node) (b : ℕ) (n : Node) → fi
 first-any p [] b n h k = absurd (let z : ⊥ = cc in z)
 first-any p (m ∷ ns) b n h k =
     elim (m.id == b) as (λ t. ◌≡◌ {A = Option Node} (cond t (Some m) (first (is_box b) ns)) (Some n) → list_any p (m ∷ ns) ≡ true) [
-      | true ↦ λ h. (let same : m ≡ n = cc in either-left (p m) (list_any p ns) (subst (λ (z : Node). p z ≡ true) (sym same) k))
-      | false ↦ λ h. either-right (p m) (list_any p ns) (first-any p ns b n h k)
+      | true ↦ λ h. (let same : m ≡ n = cc in or_left (p m) (list_any p ns) (subst (λ (z : Node). p z ≡ true) (sym same) k))
+      | false ↦ λ h. or_right (p m) (list_any p ns) (first-any p ns b n h k)
     ] h
 
 pub owned-there : (us : List OwnedQuant) (r : OwnedQuant) (vs : List OwnedQuant) → list_any (is_quant r.id) (us ++ r ∷ vs) ≡ true
-owned-there [] r vs = either-left (r.id == r.id) (list_any (is_quant r.id) vs) (eq-eqb r.id r.id refl)
-owned-there (u ∷ us) r vs = either-right (u.id == r.id) (list_any (is_quant r.id) (us ++ r ∷ vs)) (owned-there us r vs)
+owned-there [] r vs = or_left (r.id == r.id) (list_any (is_quant r.id) vs) (eq-eqb r.id r.id refl)
+owned-there (u ∷ us) r vs = or_right (u.id == r.id) (list_any (is_quant r.id) (us ++ r ∷ vs)) (owned-there us r vs)
 
 first-column : (cells : List Cell) → cell_of 1 cells ≡ subquery.scalar (unit cells)
 first-column [] = refl

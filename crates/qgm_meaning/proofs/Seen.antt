@@ -1,12 +1,11 @@
 -- What a box sees as a set it reads by some and every.
-use Rattle.std.specs.Prelude.{⊤}
 use Rattle.std.specs.Prelude as p
 use Rattle.std.proofs.Common.{ℕ, ◌==◌, ◌≡◌, ◌&&◌, ◌||◌, cond, Bool, true, false, List, [], ◌∷◌, Option, Some, None, refl, sym, ap, ap₂, ◌∙◌, eqb-true, inl, inr}
 use Rattle.std.specs.List.{list_any}
 use Rattle.std.proofs.lemmas.Bool.{and_parts, cases_Bool}
 use Rattle.qgm_core.specs.Boxes.{is_quant}
 use Rattle.qgm_core.specs.Kinds.{is_F, is_F_or_S, is_S, is_select}
-use Rattle.qgm_core.specs.Lists.{In, first}
+use Rattle.list_laws.specs.Lists.{In, first}
 use Rattle.qgm_core.specs.declared.kinds.BoxKind.{BoxKind}
 use Rattle.qgm_core.specs.declared.kinds.BoxKind.TheVariants.{Base, Select, Group, SetOp, OuterJoin}
 use Rattle.qgm_core.specs.declared.kinds.QuantKind.{QuantKind}
@@ -15,7 +14,7 @@ use Rattle.qgm_core.specs.declared.node.Node.{Node}
 use Rattle.qgm_core.specs.declared.owned.OwnedQuant.{OwnedQuant}
 use Rattle.qgm_meaning.specs.AsSets.{ReadsSetsBy, ReadsWhatItSees, SeesNoSet, is_S_found, is_set, over_found, scalar_in, scalar_in_arms, scalar_in_cond}
 use Rattle.qgm_terms.specs.Terms.{Term, int, text, null_int, null_text, col, both, minus_of, choose, count_all, fold, scalar, Arms, no_arm, arm, Cond, always, compare, is_null, and, or, not, some, every}
-use Rattle.qgm_meaning.proofs.Puts.{neither-left, neither-right}
+use Rattle.list_laws.proofs.Booleans.{neither-left, neither-right}
 
 -- a scalar of one of fewer stands within only where one of more does
 module _ (few many : ℕ → Bool) (within : (q : ℕ) → many q ≡ false → few q ≡ false) where

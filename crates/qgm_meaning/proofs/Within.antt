@@ -7,7 +7,7 @@ use Rattle.qgm_core.specs.declared.owned.OwnedQuant.{OwnedQuant}
 use Rattle.qgm_core.specs.declared.kinds.BoxKind.{BoxKind}
 use Rattle.qgm_core.specs.declared.kinds.BoxKind.TheVariants.{Base, Select, Group, SetOp, OuterJoin}
 use Rattle.qgm_core.specs.Boxes.{Ordered, is_box, is_quant}
-use Rattle.qgm_core.specs.Lists.{first}
+use Rattle.list_laws.specs.Lists.{first}
 use Rattle.qgm_core.specs.Kinds.{is_F}
 use Rattle.qgm_meaning.specs.Ranks.{LooksUnder, SameUnder}
 use Rattle.qgm_meaning.specs.Scope.{loose, loose_by, loose_each, loose_of, looks_found, read_beyond, read_by, under_any}

@@ -7,7 +7,7 @@ use Rattle.row_bag.specs.Sets.{same_cells}
 use Rattle.row_bag.specs.declared.tables.Table.{Table}
 use Rattle.qgm_core.specs.Boxes.{QueryGraph, Ordered, all_over, box_of, has_box, is_quant}
 use Rattle.qgm_core.specs.Kinds.{is_F, is_F_or_S, is_S, is_select}
-use Rattle.qgm_core.specs.Lists.{In, first}
+use Rattle.list_laws.specs.Lists.{In, first}
 use Rattle.qgm_core.specs.declared.kinds.BoxKind.{BoxKind}
 use Rattle.qgm_core.specs.declared.kinds.BoxKind.TheVariants.{Base, Select, Group, SetOp, OuterJoin}
 use Rattle.qgm_core.specs.declared.node.Node.{Node}

@@ -8,7 +8,7 @@ use Rattle.row_bag.specs.declared.tables.Table.{Table}
 use Rattle.sql_value.specs.declared.cell.Cell.{Cell}
 use Rattle.qgm_core.specs.Boxes.{QueryGraph, Ordered, all_over, box_of, has_box, is_box}
 use Rattle.qgm_meaning.specs.Replace.{replace}
-use Rattle.qgm_core.specs.Lists.{first}
+use Rattle.list_laws.specs.Lists.{first}
 use Rattle.qgm_core.specs.Kinds.{is_F}
 use Rattle.qgm_core.specs.declared.node.Node.{Node}
 use Rattle.qgm_core.specs.declared.owned.OwnedQuant.{OwnedQuant}

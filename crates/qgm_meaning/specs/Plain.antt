@@ -5,7 +5,7 @@ use Rattle.row_bag.specs.declared.tables.Table.{Table}
 use Rattle.qgm_core.specs.Boxes.{QueryGraph}
 use Rattle.qgm_core.specs.Free.{free_in, reached}
 use Rattle.qgm_core.specs.Kinds.{is_F}
-use Rattle.qgm_core.specs.Lists.{holds}
+use Rattle.list_laws.specs.Lists.{holds}
 use Rattle.qgm_core.specs.declared.kinds.BoxKind.{BoxKind}
 use Rattle.qgm_core.specs.declared.kinds.BoxKind.TheVariants.{Base, Select, Group, SetOp, OuterJoin}
 use Rattle.qgm_core.specs.declared.node.Node.{Node}

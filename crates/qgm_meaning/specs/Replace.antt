@@ -1,7 +1,7 @@
 -- A box in the place of another.
 use Rattle.std.specs.Prelude.{ℕ}
 use Rattle.qgm_core.specs.Boxes.{QueryGraph, is_box}
-use Rattle.qgm_core.specs.Lists.{change}
+use Rattle.list_laws.specs.Lists.{change}
 use Rattle.qgm_core.specs.declared.node.Node.{Node}
 
 -- a box in the place of box b

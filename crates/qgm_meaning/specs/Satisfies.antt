@@ -15,7 +15,7 @@ use Rattle.sql_value.specs.declared.level.Level.{Level}
 use Rattle.sql_value.specs.declared.level.Level.TheVariants.{No, Cardinality, Division, Overflow, Yes}
 use Rattle.sql_value.specs.declared.order_key.SqlType.{SqlType}
 use Rattle.sql_value.specs.declared.order_key.SqlType.TheVariants.{Integer, Varchar}
-use Rattle.qgm_core.specs.Lists.{In}
+use Rattle.list_laws.specs.Lists.{In}
 use Rattle.qgm_core.specs.declared.kinds.BaseTable.{BaseTable}
 use Rattle.qgm_core.specs.declared.kinds.BoxKind.{BoxKind}
 use Rattle.qgm_core.specs.declared.kinds.BoxKind.TheVariants.{Base, Select, Group, SetOp, OuterJoin}

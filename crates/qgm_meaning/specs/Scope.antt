@@ -7,7 +7,7 @@ use Rattle.qgm_core.specs.declared.kinds.BoxKind.{BoxKind}
 use Rattle.qgm_core.specs.declared.kinds.BoxKind.TheVariants.{Base, Select, Group, SetOp, OuterJoin}
 use Rattle.qgm_core.specs.Kinds.{is_F}
 use Rattle.qgm_core.specs.Boxes.{is_quant, owns}
-use Rattle.qgm_core.specs.Lists.{first}
+use Rattle.list_laws.specs.Lists.{first}
 use Rattle.qgm_meaning.specs.Ranks.{by_rank}
 use Rattle.qgm_terms.specs.Terms.{Term}
 use Rattle.qgm_terms.specs.Wanted.{reads, reads_cond}

@@ -1,6 +1,6 @@
 -- How many rows are there, through the operations on bags.
 use Rattle.std.proofs.Common.{ℕ, ◌≡◌, ◌+◌, ◌≤◌, ◌&&◌, nat_eq, cond, ◌||◌, Bool, true, false, List, [], ◌∷◌, ◌++◌, refl, sym, ap, ◌∙◌, arith, inl, inr}
-use Rattle.std.proofs.lemmas.Bool.{and_parts, or_cases, cases_Bool}
+use Rattle.std.proofs.lemmas.Bool.{and_parts, cases_Bool, or_cases, or_left, or_right}
 use Rattle.row_bag.specs.Bags.{bind, if_there, keep, row, unit}
 use Rattle.row_bag.specs.Joins.{how_many}
 use Rattle.row_bag.specs.Sets.{distinct, level_in, multiplicity, once, same_cells}
@@ -10,7 +10,6 @@ use Rattle.sql_value.specs.Level.{greatest, least}
 use Rattle.sql_value.specs.declared.cell.Cell.{Cell}
 use Rattle.sql_value.specs.declared.level.Level.{Level}
 use Rattle.sql_value.specs.declared.level.Level.TheVariants.{No, Cardinality, Division, Overflow, Yes}
-use Rattle.qgm_meaning.proofs.Frames.{either-left, either-right}
 use Rattle.qgm_meaning.specs.Laws.{occurs}
 use Rattle.qgm_meaning.specs.Meaning.{once_if}
 use Rattle.qgm_meaning.specs.Values.{Bag}
@@ -199,8 +198,8 @@ greatest-there Yes Yes = refl
 pub level-there : (c : List Cell) (xs : Bag) → occurs c xs ≡ true → there_at (level_in same_cells c xs) ≡ true
 level-there c [] o = absurd (let z : ⊥ = cc in z)
 level-there c (x ∷ xs) o = greatest-there (if_there No (λ k l. cond (same_cells k c) l No) x.cells x.level) (level_in same_cells c xs) ∙ (elim (or_cases (same_cells x.cells c && is_there x) (occurs c xs) o) [
-  | inl t ↦ either-left (there_at (if_there No (λ k l. cond (same_cells k c) l No) x.cells x.level)) (there_at (level_in same_cells c xs)) (let p = and_parts (same_cells x.cells c) (is_there x) t in at x.level (sym (there-is x.cells x.level) ∙ p.1) p.0)
-  | inr t ↦ either-right (there_at (if_there No (λ k l. cond (same_cells k c) l No) x.cells x.level)) (there_at (level_in same_cells c xs)) (level-there c xs t)
+  | inl t ↦ or_left (there_at (if_there No (λ k l. cond (same_cells k c) l No) x.cells x.level)) (there_at (level_in same_cells c xs)) (let p = and_parts (same_cells x.cells c) (is_there x) t in at x.level (sym (there-is x.cells x.level) ∙ p.1) p.0)
+  | inr t ↦ or_right (there_at (if_there No (λ k l. cond (same_cells k c) l No) x.cells x.level)) (there_at (level_in same_cells c xs)) (level-there c xs t)
 ])
   where
     one : (b : Bool) (l : Level) → there_at l ≡ true → b ≡ true → there_at (cond b l No) ≡ true

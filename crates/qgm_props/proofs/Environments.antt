@@ -1,16 +1,15 @@
 -- In an environment that fits, what is known of columns holds of the rows that are bound.
 use Rattle.std.proofs.Common.{ℕ, ◌≡◌, ◌≢◌, ◌==◌, ◌||◌, cond, Bool, true, false, List, [], ◌∷◌, map, Option, Some, None, eqb-true, refl, sym, ap, subst, ◌∙◌, arith, inl, inr}
-use Rattle.std.proofs.lemmas.Bool.{eq-eqb}
+use Rattle.std.proofs.lemmas.Bool.{eq-eqb, or_left, or_right}
 use Rattle.row_bag.specs.Order.{cell_of}
 use Rattle.row_bag.specs.declared.tables.Table.{Table}
 use Rattle.sql_value.specs.declared.cell.Cell.TheVariants.{Null}
 use Rattle.qgm_core.specs.Boxes.{is_quant, owns, range_in}
-use Rattle.qgm_core.specs.Lists.{EachOnce, In, first, holds}
+use Rattle.list_laws.specs.Lists.{EachOnce, In, first, holds}
 use Rattle.qgm_core.specs.declared.node.Node.{Node}
 use Rattle.qgm_core.specs.declared.owned.OwnedQuant.{OwnedQuant}
 use Rattle.qgm_meaning.specs.Meaning.{Family, bag_in, quant_rows, rows_found}
 use Rattle.qgm_meaning.specs.Values.{Bag, Environment, row_of}
-use Rattle.qgm_meaning.proofs.Frames.{either-left, either-right}
 use Rattle.qgm_props.specs.Facts.{HasAtMostOne, IsClean, IsErrorFree, is_sound}
 use Rattle.qgm_props.proofs.EachClean.{clean-each}
 use Rattle.qgm_props.specs.Holding.{is_bound}
@@ -40,8 +39,8 @@ found-first (t ∷ rs) r d i = elim i [
     held : (rs : List OwnedQuant) (r : OwnedQuant) → In r rs → holds r.id (map (λ r. r.id) rs) ≡ true
     held [] r i = elim i [ ]
     held (u ∷ rs) r i = elim i [
-      | inl e ↦ either-left (u.id == r.id) (holds r.id (map (λ r. r.id) rs)) (eq-eqb u.id r.id (ap (λ (v : OwnedQuant). v.id) e))
-      | inr j ↦ either-right (u.id == r.id) (holds r.id (map (λ r. r.id) rs)) (held rs r j)
+      | inl e ↦ or_left (u.id == r.id) (holds r.id (map (λ r. r.id) rs)) (eq-eqb u.id r.id (ap (λ (v : OwnedQuant). v.id) e))
+      | inr j ↦ or_right (u.id == r.id) (holds r.id (map (λ r. r.id) rs)) (held rs r j)
     ]
 
     one : (b : Bool) → (t.id == r.id) ≡ b → first (is_quant r.id) rs ≡ Some r → In r rs → cond b (Some t) (first (is_quant r.id) rs) ≡ Some r

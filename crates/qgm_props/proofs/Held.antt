@@ -1,7 +1,7 @@
 -- What is inferred of a box of each kind holds.
 use Rattle.std.proofs.Common.{ℕ, zero, suc, ◌≡◌, ◌≢◌, ◌≤◌, nat_le, ◌==◌, ◌&&◌, ◌||◌, cond, Bool, true, false, List, [], ◌∷◌, ◌++◌, map, take, length, Option, Some, None, eqb-true, refl, sym, ap, subst, ◌∙◌, arith, inl, inr}
 use Rattle.std.proofs.Common as p
-use Rattle.std.proofs.lemmas.Bool.{and_parts, and_from, eq-eqb, leb-true, leb-false}
+use Rattle.std.proofs.lemmas.Bool.{and_from, and_parts, eq-eqb, leb-false, leb-true, or_left, or_right}
 use Rattle.std.specs.List.{list_any, list_all}
 use Rattle.row_bag.specs.Aggregates.{count_cell, values}
 use Rattle.sql_value.specs.Arithmetic.{error_or}
@@ -20,7 +20,7 @@ use Rattle.sql_value.specs.declared.cell.Kind.{Kind}
 use Rattle.sql_value.specs.declared.cell.Kind.TheVariants as kind
 use Rattle.sql_value.specs.declared.order_key.SqlType.{SqlType}
 use Rattle.qgm_core.specs.Boxes.{is_quant}
-use Rattle.qgm_core.specs.Lists.{EachOnce, In}
+use Rattle.list_laws.specs.Lists.{EachOnce, In}
 use Rattle.qgm_core.specs.declared.kinds.BoxKind.{BoxKind}
 use Rattle.qgm_core.specs.declared.kinds.BoxKind.TheVariants.{Select, Group, SetOp, OuterJoin}
 use Rattle.qgm_core.specs.declared.kinds.SetOperator.{SetOperator}
@@ -32,7 +32,6 @@ use Rattle.qgm_meaning.specs.Meaning.{Family, bag_in, combined, fold_cell, fold_
 use Rattle.qgm_meaning.specs.Scope.{loose, loose_by, read_beyond, read_by, under_any}
 use Rattle.qgm_meaning.specs.Values.{Bag, Environment, bound, head_cells, row_of, value}
 use Rattle.qgm_meaning.specs.Widths.{Wide}
-use Rattle.qgm_meaning.proofs.Frames.{either-left, either-right}
 use Rattle.qgm_terms.specs.Wanted.{reads, reads_cond}
 use Rattle.qgm_terms.specs.Terms.{Term, int, text, null_int, null_text, col, scalar, both, minus_of, choose, count_all, fold}
 use Rattle.qgm_props.specs.Facts.{EachThere, HasAtMostOne, HasExactlyOne, IsClean, IsErrorFree, IsNotNull, is_sound}
@@ -50,13 +49,7 @@ use Rattle.qgm_props.proofs.Rows.{clean-bind, clean-once, occurs-each}
 use Rattle.qgm_props.proofs.Selects.{Ready, head-cell, value-filled}
 use Rattle.qgm_props.proofs.Wide.{arm-rows}
 use Rattle.qgm_props.proofs.Terms.{SoundColumns, SoundRows, sound-bound, value-sound}
-
-any-from : {X : Type 0} (p : X → Bool) (x : X) (xs : List X) → In x xs → p x ≡ true → list_any p xs ≡ true
-any-from p x [] i h = elim i [ ]
-any-from {X} p x (y ∷ xs) i h = elim i [
-  | inl e ↦ either-left (p y) (list_any p xs) (subst (λ (z : X). p z ≡ true) (sym e) h)
-  | inr j ↦ either-right (p y) (list_any p xs) (any-from p x xs j h)
-]
+use Rattle.list_laws.proofs.Membership.{any-from}
 
 module _ (partial : Bool) (tables : List Table) (ns : List Node) (known : Facts) (given : Premises tables ns) (all : (fact : Fact) → says known fact ≡ true → HoldsIn partial tables ns fact) where
   module _ (n : Node) (here : In n ns) (env : Environment) (fit : FittingIn partial (bag_in tables ns) ns env) where
@@ -77,8 +70,8 @@ module _ (partial : Bool) (tables : List Table) (ns : List Node) (known : Facts)
     any-under : (rs : List OwnedQuant) (r : OwnedQuant) (q : ℕ) → In r rs → loose ns r.over q ≡ true → under_any rs (loose ns) q ≡ true
     any-under [] r q i h = elim i [ ]
     any-under (t ∷ rs) r q i h = elim i [
-      | inl e ↦ either-left (loose ns t.over q) (under_any rs (loose ns) q) (ap (λ (u : OwnedQuant). loose ns u.over q) e ∙ h)
-      | inr j ↦ either-right (loose ns t.over q) (under_any rs (loose ns) q) (any-under rs r q j h)
+      | inl e ↦ or_left (loose ns t.over q) (under_any rs (loose ns) q) (ap (λ (u : OwnedQuant). loose ns u.over q) e ∙ h)
+      | inr j ↦ or_right (loose ns t.over q) (under_any rs (loose ns) q) (any-under rs r q j h)
     ]
 
     -- the boxes under the quantifiers have what they look up
@@ -127,15 +120,15 @@ module _ (partial : Bool) (tables : List Table) (ns : List Node) (known : Facts)
 
     -- what is looked up below a box that shows none of its own
     group-under : (k : ℕ) → Looked (Group k) → (q : ℕ) → under_any n.quants (loose ns) q ≡ true → is_bound_in partial q env ≡ true
-    group-under k look q h = look q (either-left (under_any n.quants (loose ns) q) (read_beyond (take 1 n.quants) (read_by n) q) h)
+    group-under k look q h = look q (or_left (under_any n.quants (loose ns) q) (read_beyond (take 1 n.quants) (read_by n) q) h)
 
     outer-under : Looked OuterJoin → (q : ℕ) → under_any n.quants (loose ns) q ≡ true → is_bound_in partial q env ≡ true
-    outer-under look q h = look q (either-left (under_any n.quants (loose ns) q) (read_beyond (take 2 n.quants) (read_by n) q) h)
+    outer-under look q h = look q (or_left (under_any n.quants (loose ns) q) (read_beyond (take 2 n.quants) (read_by n) q) h)
 
     -- ---- set operations
 
     -- an operation over clean arms without errors reads no error
-    no-error-read : (form : SetOperator) (types : List SqlType) → n.parts.kind ≡ SetOp form types → (unders : (q : ℕ) → under_any n.quants (loose ns) q ≡ true → is_bound_in partial q env ≡ true)
+    pub no-error-read : (form : SetOperator) (types : List SqlType) → n.parts.kind ≡ SetOp form types → (unders : (q : ℕ) → under_any n.quants (loose ns) q ≡ true → is_bound_in partial q env ≡ true)
         → (p q : OwnedQuant) → In p n.quants → In q n.quants → known.clean p.over ≡ true → known.clean q.over ≡ true
         → ((k : ℕ) → 1 ≤ k → k ≤ length types → (known.error_free p.over k ≡ true) × (known.error_free q.over k ≡ true)) → error_among error_in (s p.id env ++ s q.id env) ≡ None
     no-error-read form types e unders p q i j c d f =
@@ -235,10 +228,10 @@ module _ (partial : Bool) (tables : List Table) (ns : List Node) (known : Facts)
     group-reads k r more e look cells q h = one (r.id == q) refl
       where
         one : (b : Bool) → (r.id == q) ≡ b → (partial || (b || is_bound q env)) ≡ true
-        one true w = either-right partial true refl
-        one false w = look q (either-right (under_any n.quants (loose ns) q) (read_beyond (take 1 n.quants) (read_by n) q)
+        one true w = or_right partial true refl
+        one false w = look q (or_right (under_any n.quants (loose ns) q) (read_beyond (take 1 n.quants) (read_by n) q)
             (subst (λ (rs : List OwnedQuant). read_beyond (take 1 rs) (read_by n) q ≡ true) (sym e)
-            (and_from (p.not (list_any (is_quant q) (take 1 (r ∷ more)))) (read_by n q) (ap p.not (or-none w)) (either-left (list_any (reads q) n.parts.head) (list_any (reads_cond q) n.parts.conds.items) h))))
+            (and_from (p.not (list_any (is_quant q) (take 1 (r ∷ more)))) (read_by n q) (ap p.not (or-none w)) (or_left (list_any (reads q) n.parts.head) (list_any (reads_cond q) n.parts.conds.items) h))))
           where
             or-none : (r.id == q) ≡ false → list_any (is_quant q) (take 1 (r ∷ more)) ≡ false
             or-none w = ap (λ b. b || false) w
@@ -458,7 +451,7 @@ module _ (partial : Bool) (tables : List Table) (ns : List Node) (known : Facts)
         second true w = absurd (
             let d : EachOnce (p.id ∷ q.id ∷ map (λ r. r.id) more) = subst (λ (rs : List OwnedQuant). EachOnce (map (λ r. r.id) rs)) e (given.apart n here) in
             let u : (q.id == p.id) ≡ true = eq-eqb q.id p.id (eqb-true q.id r w ∙ sym (eqb-true p.id r is-first)) in
-            let v : true ≡ false = sym (either-left (q.id == p.id) (list_any (λ m. m == p.id) (map (λ r. r.id) more)) u) ∙ d.0 in let z : ⊥ = cc in z
+            let v : true ≡ false = sym (or_left (q.id == p.id) (list_any (λ m. m == p.id) (map (λ r. r.id) more)) u) ∙ d.0 in let z : ⊥ = cc in z
             )
         second false w = first (p.id == r) refl
     left-filled whole p q more e look (int m) h a b o = λ x. let z : ⊥ = cc in z

@@ -14,7 +14,7 @@ use Rattle.sql_value.specs.Level.{least}
 use Rattle.sql_value.specs.declared.level.Level.{Level}
 use Rattle.sql_value.specs.declared.level.Level.TheVariants.{No, Cardinality, Division, Overflow, Yes}
 use Rattle.row_bag.proofs.Levels.{least-yes}
-use Rattle.qgm_core.specs.Lists.{In}
+use Rattle.list_laws.specs.Lists.{In}
 use Rattle.qgm_core.specs.declared.node.Node.{Node}
 use Rattle.qgm_meaning.specs.Aggregated.{taken_of}
 use Rattle.qgm_meaning.specs.Laws.{occurs}

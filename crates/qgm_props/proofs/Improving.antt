@@ -1,11 +1,10 @@
 -- Tables of facts that improve.
 use Rattle.std.proofs.Common.{ℕ, zero, suc, ◌≡◌, ◌≤◌, ◌<◌, ◌+◌, ◌-◌, nat_lt, nat_le, ◌==◌, ◌&&◌, ◌||◌, cond, Bool, true, false, List, [], ◌∷◌, ◌++◌, map, length, Option, Some, None, slice_get, slice_set, eqb-true, refl, sym, ap, subst, ◌∙◌, arith, inl, inr, ◌⊎◌}
-use Rattle.std.proofs.lemmas.Bool.{and_parts, and_from, cases_Bool, le-leb, lt-ltb, ltb-false, ltb-true, leb-true, or_cases}
+use Rattle.std.proofs.lemmas.Bool.{and_from, and_parts, cases_Bool, le-leb, leb-true, lt-ltb, ltb-false, ltb-true, or_cases, or_right}
 use Rattle.std.proofs.lemmas.List.{length-append}
 use Rattle.qgm_core.specs.Boxes.{is_box, width}
-use Rattle.qgm_core.specs.Lists.{first}
+use Rattle.list_laws.specs.Lists.{first}
 use Rattle.qgm_core.specs.declared.node.Node.{Node}
-use Rattle.qgm_meaning.proofs.Frames.{either-right}
 use Rattle.qgm_props.specs.Inferred.{Closed, Fact, Facts, at_most_one, at_most_one_by, clean, clean_by, error_free, exactly_one, exactly_one_by, free_by, inferred_once, not_null, not_null_by, of_box, says}
 use Rattle.qgm_props.specs.Table.{Improves, Stable, begun, either_flags, facts_of, flag_at, flags, found, gone, improved, is_of, joined, nothing_of, unknown_flags, unknown_in, unknown_of}
 use Rattle.qgm_props.specs.declared.facts.BoxFacts.{BoxFacts}
@@ -317,13 +316,13 @@ all-said boxes P step _ (gone table i n f before e d) fact h = turn (all-said bo
 
 module _ (boxes : List Node) (table : List BoxFacts) (before : Improves boxes table) (stable : Stable boxes table) where
   old-said : (a b : Bool) → (a || b) ≡ a → b ≡ true → a ≡ true
-  old-said a b e h = sym e ∙ either-right a b h
+  old-said a b e h = sym e ∙ or_right a b h
 
   column-old : (w k : ℕ) (a : List Bool) (t : ℕ → Bool) → length a ≡ w → either_flags a (flags w t) ≡ a → ((nat_lt 0 k && nat_le k w) && t k) ≡ true → flag_at k a ≡ true
   column-old w zero a t l e h = absurd (let p = and_parts (nat_lt 0 0 && nat_le 0 w) (t 0) h in let q = and_parts (nat_lt 0 0) (nat_le 0 w) p.0 in let m = ltb-true 0 0 q.0 in let z : ⊥ = omega (arith, m) in z)
   column-old w (suc k) a t l e h =
       let p = and_parts (nat_lt 0 (suc k) && nat_le (suc k) w) (t (suc k)) h in let q = and_parts (nat_lt 0 (suc k)) (nat_le (suc k) w) p.0 in let m = leb-true (suc k) w q.1 in
-      is-flag k a (ap (λ xs. joined (slice_get xs k)) (sym e) ∙ either-get a (flags w t) k (t (suc k)) (l ∙ sym (flags-long w t)) (flags-get w t k (omega (arith, m))) ∙ either-right (joined (slice_get a k)) (t (suc k)) p.1)
+      is-flag k a (ap (λ xs. joined (slice_get xs k)) (sym e) ∙ either-get a (flags w t) k (t (suc k)) (l ∙ sym (flags-long w t)) (flags-get w t k (omega (arith, m))) ∙ or_right (joined (slice_get a k)) (t (suc k)) p.1)
 
   -- a statement on a box that is found is in its entry
   said-of : (b : ℕ) (said : BoxFacts → Bool) (more : Node → Bool) → ((n : Node) (f : BoxFacts) → IsEntry n f → improved boxes (facts_of table) n f ≡ f → n.id ≡ b → more n ≡ true → said f ≡ true)

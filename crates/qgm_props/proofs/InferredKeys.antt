@@ -1,17 +1,15 @@
 -- Columns hold a key exactly where an inferred key is among them.
 use Rattle.std.proofs.Common.{ℕ, zero, suc, ◌≡◌, ◌==◌, ◌&&◌, ◌++◌, ◌↔◌, cond, Bool, true, false, List, [], ◌∷◌, length, filter, Some, eqb-true, refl, sym, ap, subst, ◌∙◌, inl, inr}
-use Rattle.std.specs.List.{list_any}
-use Rattle.std.proofs.lemmas.Bool.{and_from, and_parts, eq-eqb, or_cases}
+use Rattle.std.proofs.lemmas.Bool.{and_from, and_parts, eq-eqb, or_cases, or_left, or_right}
 use Rattle.qgm_core.specs.Boxes.{Ordered}
 use Rattle.qgm_core.specs.Kinds.{is_F, is_enforce}
-use Rattle.qgm_core.specs.Lists.{In, holds}
+use Rattle.list_laws.specs.Lists.{In, holds}
 use Rattle.qgm_core.specs.declared.kinds.BoxKind.{BoxKind}
 use Rattle.qgm_core.specs.declared.kinds.BoxKind.TheVariants.{Base, Select, Group, SetOp, OuterJoin}
 use Rattle.qgm_core.specs.declared.kinds.SetOperator.{SetOperator}
 use Rattle.qgm_core.specs.declared.kinds.SetOperator.TheVariants.{UnionAll, Union, IntersectAll, Intersect, ExceptAll, Except}
 use Rattle.qgm_core.specs.declared.node.Node.{Node}
 use Rattle.qgm_core.specs.declared.owned.OwnedQuant.{OwnedQuant}
-use Rattle.qgm_meaning.proofs.Frames.{either-left, either-right}
 use Rattle.qgm_meaning.proofs.Ranked.{unfold-rank}
 use Rattle.qgm_terms.specs.Terms.{Term, col}
 use mathlib.Core.Path.{fun_ext}
@@ -20,6 +18,8 @@ use Rattle.qgm_props.specs.Laws.{Tells, TellsKey}
 use Rattle.qgm_props.specs.InferredKeys.{AreKeys, IsKey, KeyAmong, StandAt, combined, declared, enforced, grouped, joined, none, one_more, one_row, places_to, selected, without_all}
 use Rattle.qgm_props.specs.Keys.{all_within, among, cell_at, column_of, columns_at, holds_key, keyed, keyed_by, keyed_op, keyed_under, keyed_under_F, keyed_under_two}
 use Rattle.qgm_props.proofs.KeyRanks.{column-place, in-first, keyed-local}
+use Rattle.list_laws.proofs.Membership.{any-from, any-in}
+use Rattle.list_laws.proofs.Booleans.{same-truth}
 
 -- ---- sets of places
 
@@ -42,20 +42,20 @@ among-parts (x ∷ xs) ys ks a =
 holds-left : (k : ℕ) (xs ys : List ℕ) → holds k xs ≡ true → holds k (xs ++ ys) ≡ true
 holds-left k [] ys h = absurd (let z : ⊥ = cc in z)
 holds-left k (x ∷ xs) ys h = elim (or_cases (x == k) (holds k xs) h) [
-  | inl t ↦ either-left (x == k) (holds k (xs ++ ys)) t
-  | inr t ↦ either-right (x == k) (holds k (xs ++ ys)) (holds-left k xs ys t)
+  | inl t ↦ or_left (x == k) (holds k (xs ++ ys)) t
+  | inr t ↦ or_right (x == k) (holds k (xs ++ ys)) (holds-left k xs ys t)
 ]
 
 holds-right : (k : ℕ) (xs ys : List ℕ) → holds k ys ≡ true → holds k (xs ++ ys) ≡ true
 holds-right k [] ys h = h
-holds-right k (x ∷ xs) ys h = either-right (x == k) (holds k (xs ++ ys)) (holds-right k xs ys h)
+holds-right k (x ∷ xs) ys h = or_right (x == k) (holds k (xs ++ ys)) (holds-right k xs ys h)
 
 -- the column that stands at one of these places
 place-column : (q : ℕ) (head : List Term) (ks : List ℕ) (p k : ℕ) → holds p ks ≡ true → cell_at head p ≡ Some (col q k) → holds k (columns_at q head ks) ≡ true
 place-column q head [] p k h e = absurd (let z : ⊥ = cc in z)
 place-column q head (j ∷ ks) p k h e = elim (or_cases (j == p) (holds p ks) h) [
   | inl t ↦ holds-left k (column_of q (cell_at head j)) (columns_at q head ks)
-      (ap (λ o. holds k (column_of q o)) (ap (cell_at head) (eqb-true j p t) ∙ e) ∙ ap (λ b. holds k (cond b (k ∷ []) [])) (eq-eqb q q refl) ∙ either-left (k == k) false (eq-eqb k k refl))
+      (ap (λ o. holds k (column_of q o)) (ap (cell_at head) (eqb-true j p t) ∙ e) ∙ ap (λ b. holds k (cond b (k ∷ []) [])) (eq-eqb q q refl) ∙ or_left (k == k) false (eq-eqb k k refl))
   | inr t ↦ holds-right k (column_of q (cell_at head j)) (columns_at q head ks) (place-column q head ks p k t e)
 ]
 
@@ -86,20 +86,6 @@ op-all Intersect w ks = refl
 op-all ExceptAll w ks = refl
 op-all Except w ks = refl
 
-any-of : {X : Type 0} (p : X → Bool) (x : X) (xs : List X) → In x xs → p x ≡ true → list_any p xs ≡ true
-any-of p x [] i h = elim i [ ]
-any-of {X} p x (y ∷ xs) i h = elim i [
-  | inl e ↦ either-left (p y) (list_any p xs) (subst (λ (z : X). p z ≡ true) (sym e) h)
-  | inr j ↦ either-right (p y) (list_any p xs) (any-of p x xs j h)
-]
-
-some-of : {X : Type 0} (p : X → Bool) (xs : List X) → list_any p xs ≡ true → (x : X) × (In x xs × (p x ≡ true))
-some-of p [] h = absurd (let z : ⊥ = cc in z)
-some-of p (x ∷ xs) h = elim (or_cases (p x) (list_any p xs) h) [
-  | inl t ↦ (x, (inl refl, t))
-  | inr t ↦ (let s = some-of p xs t in (s.0, (inr s.1.0, s.1.1)))
-]
-
 -- under each of these quantifiers
 abbrev keyed_each : List Term → (ℕ → List ℕ → Bool) → List ℕ → List OwnedQuant → Bool
 keyed_each head below ks [] = true
@@ -122,24 +108,24 @@ module _ (single : ℕ → Bool) (boxes : List Node) where
     by-kind : (n : Node) (kind : BoxKind) (ks : List ℕ) → In n boxes → n.parts.kind ≡ kind → keyed_by kind n (holds_key single boxes) ks ≡ true → holds_key single boxes n.id ks ≡ true
     by-kind n kind ks i e h =
         ap (λ (f : List ℕ → Bool). f ks) (unfold-rank (λ ks. false) (keyed single) (keyed-local single) boxes n.id n ordered (in-first boxes n ordered i))
-        ∙ either-right (single n.id) (keyed_by n.parts.kind n (holds_key single boxes) ks) (ap (λ kind. keyed_by kind n (holds_key single boxes) ks) e ∙ h)
+        ∙ or_right (single n.id) (keyed_by n.parts.kind n (holds_key single boxes) ks) (ap (λ kind. keyed_by kind n (holds_key single boxes) ks) e ∙ h)
 
     by-one : (n : Node) (ks : List ℕ) → In n boxes → single n.id ≡ true → holds_key single boxes n.id ks ≡ true
     by-one n ks i h =
         ap (λ (f : List ℕ → Bool). f ks) (unfold-rank (λ ks. false) (keyed single) (keyed-local single) boxes n.id n ordered (in-first boxes n ordered i))
-        ∙ either-left (single n.id) (keyed_by n.parts.kind n (holds_key single boxes) ks) h
+        ∙ or_left (single n.id) (keyed_by n.parts.kind n (holds_key single boxes) ks) h
 
     mutual
       found : (b : ℕ) (key ks : List ℕ) → IsKey single boxes b key → among key ks ≡ true → holds_key single boxes b ks ≡ true
       found b key ks (declared n table k i e j f) a =
-          by-kind n (Base table) ks i e (any-of (λ key. among key table.not_null && among key ks) k table.keys j (and_from (among k table.not_null) (among k ks) f a))
+          by-kind n (Base table) ks i e (any-from (λ key. among key table.not_null && among key ks) k table.keys j (and_from (among k table.not_null) (among k ks) f a))
       found b key ks (enforced n i e f) a =
-          by-kind n Select ks i e (either-left (is_enforce n.parts.distinct && all_within (length n.parts.head) ks) (keyed_under_F n.parts.head (holds_key single boxes) ks n.quants) (and_from (is_enforce n.parts.distinct) (all_within (length n.parts.head) ks) f (among-all (length n.parts.head) ks ∙ a)))
+          by-kind n Select ks i e (or_left (is_enforce n.parts.distinct && all_within (length n.parts.head) ks) (keyed_under_F n.parts.head (holds_key single boxes) ks n.quants) (and_from (is_enforce n.parts.distinct) (all_within (length n.parts.head) ks) f (among-all (length n.parts.head) ks ∙ a)))
       found b key ks (combined n form types i e f) a =
           by-kind n (SetOp form types) ks i e (op-all form (length types) ks ∙ and_from (without_all form) (all_within (length types) ks) f (among-all (length types) ks ∙ a))
       found b key ks (grouped n k i e) a = by-kind n (Group k) ks i e (among-all k ks ∙ a)
       found b key ks (selected n places i e c) a =
-          by-kind n Select ks i e (either-right (is_enforce n.parts.distinct && all_within (length n.parts.head) ks) (keyed_under_F n.parts.head (holds_key single boxes) ks n.quants) (each-F n.parts.head (holds_key single boxes) ks n.quants ∙ found-each n.parts.head (filter (λ r. is_F r.kind) n.quants) key ks c a))
+          by-kind n Select ks i e (or_right (is_enforce n.parts.distinct && all_within (length n.parts.head) ks) (keyed_under_F n.parts.head (holds_key single boxes) ks n.quants) (each-F n.parts.head (holds_key single boxes) ks n.quants ∙ found-each n.parts.head (filter (λ r. is_F r.kind) n.quants) key ks c a))
       found b key ks (joined n left right more places i e q c) a = by-kind n OuterJoin ks i e (ap (keyed_under_two n.parts.head (holds_key single boxes) ks) q ∙ two (keyed_under n.parts.head (holds_key single boxes) ks left) (keyed_under n.parts.head (holds_key single boxes) ks right) (found-each n.parts.head (left ∷ right ∷ []) key ks c a))
         where
           two : (x y : Bool) → (x && (y && true)) ≡ true → (x && y) ≡ true
@@ -169,7 +155,7 @@ module _ (single : ℕ → Bool) (boxes : List Node) where
 
     of-kind : (kind : BoxKind) → n.parts.kind ≡ kind → (ks : List ℕ) → keyed_by kind n below ks ≡ true → KeyAmong single boxes n.id ks
     of-kind (Base table) e ks h =
-        let s = some-of (λ key. among key table.not_null && among key ks) table.keys h in
+        let s = any-in (λ key. among key table.not_null && among key ks) table.keys h in
         let p = and_parts (among s.0 table.not_null) (among s.0 ks) s.1.1 in
         (s.0, (declared n table s.0 here e s.1.0 p.0, p.1))
     of-kind Select e ks h = elim (or_cases (is_enforce n.parts.distinct && all_within (length n.parts.head) ks) (keyed_under_F n.parts.head below ks n.quants) h) [
@@ -214,15 +200,10 @@ keys-exact single boxes ordered b ks = (λ h. inferred single boxes boxes (λ n 
 
 -- ---- over the facts that are inferred
 
-same-bool : (a b : Bool) → (a ≡ true → b ≡ true) → (b ≡ true → a ≡ true) → a ≡ b
-same-bool true b f g = sym (f refl)
-same-bool false true f g = g refl
-same-bool false false f g = refl
-
 -- which boxes are known to have at most one row
 same-single : (known those : Facts) (ns : List Node) → Tells known ns → Tells those ns → known.at_most_one ≡ those.at_most_one
 same-single known those ns t u =
-    fun_ext (λ b. same-bool (known.at_most_one b) (those.at_most_one b) (λ h. (u (at_most_one b)).1 ((t (at_most_one b)).0 h)) (λ h. (t (at_most_one b)).1 ((u (at_most_one b)).0 h)))
+    fun_ext (λ b. same-truth (known.at_most_one b) (those.at_most_one b) (λ h. (u (at_most_one b)).1 ((t (at_most_one b)).0 h)) (λ h. (t (at_most_one b)).1 ((u (at_most_one b)).0 h)))
 
 pub tells-key : (known : Facts) (ns : List Node) (b : ℕ) (ks : List ℕ) (answer : Bool) → answer ≡ holds_key known.at_most_one ns b ks → TellsKey answer known ns b ks
 tells-key known ns b ks answer e tells ordered = (

@@ -1,6 +1,6 @@
 -- A key as a test that no two rows pass.
 use Rattle.std.proofs.Common.{ℕ, zero, suc, ◌≡◌, ◌≤◌, ◌+◌, ◌==◌, ◌&&◌, cond, Bool, true, false, List, [], ◌∷◌, length, nat_lt, eqb-true, refl, sym, ap, ap₂, subst, ◌∙◌, arith, inl, inr}
-use Rattle.std.proofs.lemmas.Bool.{and_parts, cases_Bool, eq-eqb, eqb-false, ltb-false, ltb-true, or_cases}
+use Rattle.std.proofs.lemmas.Bool.{and_parts, cases_Bool, eq-eqb, eqb-false, ltb-false, ltb-true, or_cases, or_left, or_right}
 use Rattle.row_bag.specs.Keys.{HasKey, cells_at}
 use Rattle.row_bag.proofs.Images.{multiplicity-image}
 use Rattle.row_bag.specs.Bags.{bind, if_there, total, unit}
@@ -11,10 +11,9 @@ use Rattle.row_bag.proofs.TupleBags.{same_cells-decides}
 use Rattle.sql_value.specs.declared.cell.Cell.{Cell}
 use Rattle.sql_value.specs.declared.level.Level.{Level}
 use Rattle.sql_value.specs.declared.level.Level.TheVariants.{No, Cardinality, Division, Overflow, Yes}
-use Rattle.qgm_core.specs.Lists.{holds}
+use Rattle.list_laws.specs.Lists.{holds}
 use Rattle.qgm_meaning.specs.Laws.{occurs}
 use Rattle.qgm_meaning.specs.Values.{Bag}
-use Rattle.qgm_meaning.proofs.Frames.{either-left, either-right}
 use Rattle.qgm_props.specs.Keys.{all_within}
 use Rattle.qgm_props.proofs.NoTwo.{NoTwo, Test, apart-from, passes-none}
 use Rattle.qgm_props.proofs.Rows.{occurs-here, occurs-more, there-is, there_at}
@@ -145,7 +144,7 @@ agree-from ks a b h = (same_cells-decides (cells_at ks a) (cells_at ks b)).1 (ea
   where
     each : (js : List ℕ) → ((k : ℕ) → holds k js ≡ true → cell_of k a ≡ cell_of k b) → cells_at js a ≡ cells_at js b
     each [] f = refl
-    each (j ∷ js) f = ap₂ (λ (x : Cell) (xs : List Cell). x ∷ xs) (f j (either-left (j == j) (holds j js) (eq-eqb j j refl))) (each js (λ k i. f k (either-right (j == k) (holds k js) i)))
+    each (j ∷ js) f = ap₂ (λ (x : Cell) (xs : List Cell). x ∷ xs) (f j (or_left (j == j) (holds j js) (eq-eqb j j refl))) (each js (λ k i. f k (or_right (j == k) (holds k js) i)))
 
 -- tuples of as many cells, place by place the same
 pub cells-same : (a b : List Cell) → length a ≡ length b → ((k : ℕ) → 1 ≤ k → k ≤ length a → cell_of k a ≡ cell_of k b) → a ≡ b

@@ -1,6 +1,6 @@
 -- What is inferred of keys holds.
 use Rattle.std.proofs.Common.{ℕ, zero, suc, ◌≡◌, ◌≤◌, ◌-◌, min, nat_lt, nat_eq, ◌==◌, ◌&&◌, ◌||◌, cond, Bool, true, false, List, [], ◌∷◌, ◌++◌, map, take, length, Option, Some, None, eqb-true, refl, sym, ap, subst, ◌∙◌, arith, inl, inr}
-use Rattle.std.proofs.lemmas.Bool.{and_parts, cases_Bool, eq-eqb, eqb-false, ltb-false, ltb-true, or_cases}
+use Rattle.std.proofs.lemmas.Bool.{and_parts, cases_Bool, eq-eqb, eqb-false, ltb-false, ltb-true, or_cases, or_left, or_right}
 use Rattle.std.proofs.lemmas.List.{length-map}
 use Rattle.std.specs.List.{list_any}
 use Rattle.row_bag.specs.Keys.{HasKey}
@@ -20,7 +20,7 @@ use Rattle.sql_value.specs.declared.level.Level.{Level}
 use Rattle.sql_value.specs.declared.level.Level.TheVariants.{No, Cardinality, Division, Overflow, Yes}
 use Rattle.qgm_core.specs.Boxes.{Ordered, all_over, has_box, is_box}
 use Rattle.qgm_core.specs.Kinds.{is_F, is_enforce}
-use Rattle.qgm_core.specs.Lists.{EachOnce, In, first, holds}
+use Rattle.list_laws.specs.Lists.{EachOnce, In, first, holds}
 use Rattle.qgm_core.specs.declared.kinds.BaseTable.{BaseTable}
 use Rattle.qgm_core.specs.declared.kinds.BoxKind.{BoxKind}
 use Rattle.qgm_core.specs.declared.kinds.BoxKind.TheVariants.{Base, Select, Group, SetOp, OuterJoin}
@@ -33,7 +33,6 @@ use Rattle.qgm_meaning.specs.Meaning.{Family, bag_in, combined, fold_cells, give
 use Rattle.qgm_meaning.specs.Satisfies.{FoundSatisfies, SatisfiesBy}
 use Rattle.qgm_meaning.specs.Values.{Bag, Environment, all_true, bound, head_cells, row_of, value}
 use Rattle.qgm_meaning.specs.Widths.{Wide}
-use Rattle.qgm_meaning.proofs.Frames.{either-left, either-right}
 use Rattle.qgm_meaning.proofs.Ranked.{unfold-rank}
 use Rattle.qgm_meaning.proofs.Satisfying.{of-satisfying}
 use Rattle.qgm_terms.specs.Terms.{Term, col}
@@ -335,8 +334,8 @@ module _ (partial : Bool) (tables : List Table) (ns : List Node) (known : Facts)
           any-looks : (rs : List OwnedQuant) (r : OwnedQuant) → In r rs → (q : ℕ) → loose ns r.over q ≡ true → under_any rs (loose ns) q ≡ true
           any-looks [] r i q h = elim i [ ]
           any-looks (u ∷ rs) r i q h = elim i [
-            | inl e ↦ either-left (loose ns u.over q) (under_any rs (loose ns) q) (ap (λ (v : OwnedQuant). loose ns v.over q) e ∙ h)
-            | inr j ↦ either-right (loose ns u.over q) (under_any rs (loose ns) q) (any-looks rs r j q h)
+            | inl e ↦ or_left (loose ns u.over q) (under_any rs (loose ns) q) (ap (λ (v : OwnedQuant). loose ns v.over q) e ∙ h)
+            | inr j ↦ or_right (loose ns u.over q) (under_any rs (loose ns) q) (any-looks rs r j q h)
           ]
 
       base-keyed : (table : BaseTable) (o : Option Bag) → FoundSatisfies table o → (ks : List ℕ) (keys : List (List ℕ)) → ((key : List ℕ) → In key keys → In key table.keys)
@@ -378,7 +377,7 @@ module _ (partial : Bool) (tables : List Table) (ns : List Node) (known : Facts)
           two [] sub = tt
           two (p ∷ []) sub = tt
           two (p ∷ q ∷ more) sub = set-keyed form (length types) ks (t p.id env) (t q.id env) (wide p (sub p (inl refl))) (wide q (sub q (inr (inl refl)))) h
-      kind-keyed OuterJoin e b look ks h = outer-keyed ks env fit (unders OuterJoin (λ q u. either-left (under_any n.quants (loose ns) q) (read_beyond (take 2 n.quants) (read_by n) q) u) look) n.quants refl h
+      kind-keyed OuterJoin e b look ks h = outer-keyed ks env fit (unders OuterJoin (λ q u. or_left (under_any n.quants (loose ns) q) (read_beyond (take 2 n.quants) (read_by n) q) u) look) n.quants refl h
 
   -- ---- all boxes
 

@@ -1,29 +1,36 @@
-mod EachClean
-mod Rows
-mod Counted
-mod Cells
-mod Terms
-mod Partial
-mod Environments
-mod Fitted
-mod Selects
-mod HeldBases
-mod Folds
-mod HeldGroups
-mod HeldSets
-mod HeldOuters
-mod Wide
-mod Held
-mod FreeLaws
-mod Places
-mod TableLaws
-mod Improving
-mod Steps
-mod Step
+pub mod EachClean
+pub mod Rows
+pub mod Counted
+pub mod Cells
+pub mod Terms
+pub mod Partial
+pub mod Environments
+pub mod Fitted
+pub mod Selects
+pub mod HeldBases
+pub mod Folds
+pub mod HeldGroups
+pub mod HeldSets
+pub mod HeldOuters
+pub mod Wide
+pub mod Held
+pub mod FreeLaws
+pub mod Places
+pub mod TableLaws
+pub mod Improving
+pub mod Steps
+pub mod Step
 pub mod Settled
-mod Monotone
-mod NoTwo
-mod KeyTests
-mod KeyRanks
-mod KeyedBoxes
-mod InferredKeys
+pub mod Monotone
+pub mod NoTwo
+pub mod KeyTests
+pub mod KeyRanks
+pub mod KeyedBoxes
+pub mod FactsFit
+pub mod FactsIn
+pub mod InferredKeys
+pub mod FedShapes
+pub mod Many
+pub mod Lowering
+pub mod NeverNegative
+pub mod MeasureLaws

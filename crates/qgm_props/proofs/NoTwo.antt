@@ -1,6 +1,6 @@
 -- That no two rows pass a test, through the operations on bags.
 use Rattle.std.proofs.Common.{ℕ, zero, suc, ◌≡◌, ◌≤◌, ◌+◌, nat_eq, ◌&&◌, ◌||◌, cond, Bool, true, false, List, [], ◌∷◌, ◌++◌, eqb-true, refl, sym, ap, subst, ◌∙◌, arith, inl, inr}
-use Rattle.std.proofs.lemmas.Bool.{and_parts, and_from, cases_Bool, or_cases}
+use Rattle.std.proofs.lemmas.Bool.{and_from, and_parts, cases_Bool, or_cases, or_left, or_right}
 use Rattle.std.specs.List.{list_any}
 use Rattle.row_bag.specs.Bags.{bind, if_there, keep, row, unit}
 use Rattle.row_bag.specs.Joins.{how_many}
@@ -14,7 +14,6 @@ use Rattle.sql_value.specs.declared.level.Level.{Level}
 use Rattle.sql_value.specs.declared.level.Level.TheVariants.{No, Cardinality, Division, Overflow, Yes}
 use Rattle.qgm_meaning.specs.Laws.{occurs}
 use Rattle.qgm_meaning.specs.Values.{Bag}
-use Rattle.qgm_meaning.proofs.Frames.{either-left, either-right}
 use Rattle.qgm_props.proofs.Counted.{counted, flag, occurs-once}
 use Rattle.qgm_props.proofs.Rows.{occurs-here, occurs-more, there-is, there-kept, there_at}
 
@@ -95,10 +94,10 @@ no-two-weaker P t u (r ∷ rows) p f h = (
 occurs-append : (c : List Cell) (xs ys : Bag) → occurs c (xs ++ ys) ≡ true → (occurs c xs || occurs c ys) ≡ true
 occurs-append c [] ys h = h
 occurs-append c (x ∷ xs) ys h = elim (or_cases (same_cells x.cells c && is_there x) (occurs c (xs ++ ys)) h) [
-  | inl w ↦ either-left (occurs c (x ∷ xs)) (occurs c ys) (either-left (same_cells x.cells c && is_there x) (occurs c xs) w)
+  | inl w ↦ or_left (occurs c (x ∷ xs)) (occurs c ys) (or_left (same_cells x.cells c && is_there x) (occurs c xs) w)
   | inr w ↦ elim (or_cases (occurs c xs) (occurs c ys) (occurs-append c xs ys w)) [
-    | inl v ↦ either-left (occurs c (x ∷ xs)) (occurs c ys) (occurs-more c x xs v)
-    | inr v ↦ either-right (occurs c (x ∷ xs)) (occurs c ys) v
+    | inl v ↦ or_left (occurs c (x ∷ xs)) (occurs c ys) (occurs-more c x xs v)
+    | inr v ↦ or_right (occurs c (x ∷ xs)) (occurs c ys) v
   ]
 ]
 
@@ -117,7 +116,7 @@ occurs-kept l c [] o = absurd (let z : ⊥ = cc in z)
 occurs-kept l c (r ∷ rows) o = elim (or_cases (same_cells r.cells c && is_there (row r.cells (least l r.level))) (occurs c (keep l rows)) o) [
   | inl w ↦ (
       let p = and_parts (same_cells r.cells c) (is_there (row r.cells (least l r.level))) w in let k = there-kept l r p.1 in
-      (k.0, either-left (same_cells r.cells c && is_there r) (occurs c rows) (and_from (same_cells r.cells c) (is_there r) p.0 k.1))
+      (k.0, or_left (same_cells r.cells c && is_there r) (occurs c rows) (and_from (same_cells r.cells c) (is_there r) p.0 k.1))
       )
   | inr w ↦ (let i = occurs-kept l c rows w in (i.0, occurs-more c r rows i.1))
 ]

@@ -1,6 +1,6 @@
 -- Rows that are there, clean rows and their number, through the operations on bags.
 use Rattle.std.proofs.Common.{ℕ, zero, suc, ◌≡◌, ◌&&◌, nat_eq, cond, Bool, true, false, List, [], ◌∷◌, ◌++◌, None, refl, sym, ap, subst, ◌∙◌, inl, inr}
-use Rattle.std.proofs.lemmas.Bool.{and_parts, and_from, or_cases}
+use Rattle.std.proofs.lemmas.Bool.{and_from, and_parts, or_cases, or_left, or_right}
 use Rattle.row_bag.specs.Bags.{bind, if_there, keep, row, unit}
 use Rattle.row_bag.specs.Errors.{error_at}
 use Rattle.row_bag.specs.Sets.{copies, distinct, level_in, multiplicity, once, same_cells}
@@ -14,7 +14,6 @@ use Rattle.sql_value.specs.declared.level.Level.TheVariants.{No, Cardinality, Di
 use Rattle.qgm_meaning.specs.Laws.{occurs}
 use Rattle.qgm_meaning.specs.Meaning.{once_if}
 use Rattle.qgm_meaning.specs.Values.{Bag}
-use Rattle.qgm_meaning.proofs.Frames.{either-left, either-right}
 use Rattle.qgm_props.specs.Facts.{Each, EachThere}
 use Rattle.row_bag.specs.AsSets.{is_decided}
 use Rattle.qgm_props.proofs.EachClean.{EachClean, clean-decided, decided-clean}
@@ -69,10 +68,10 @@ each-append P (x ∷ xs) ys h k = (h.0, each-append P xs ys h.1 k)
 
 -- a row that is there stands in a bag that it is put before
 pub occurs-here : (r : Row (List Cell)) (rows : Bag) → is_there r ≡ true → occurs r.cells (r ∷ rows) ≡ true
-occurs-here r rows t = either-left (same_cells r.cells r.cells && is_there r) (occurs r.cells rows) (and_from (same_cells r.cells r.cells) (is_there r) ((same_cells-decides r.cells r.cells).1 refl) t)
+occurs-here r rows t = or_left (same_cells r.cells r.cells && is_there r) (occurs r.cells rows) (and_from (same_cells r.cells r.cells) (is_there r) ((same_cells-decides r.cells r.cells).1 refl) t)
 
 pub occurs-more : (c : List Cell) (r : Row (List Cell)) (rows : Bag) → occurs c rows ≡ true → occurs c (r ∷ rows) ≡ true
-occurs-more c r rows t = either-right (same_cells r.cells c && is_there r) (occurs c rows) t
+occurs-more c r rows t = or_right (same_cells r.cells c && is_there r) (occurs c rows) t
 
 -- what holds of each tuple that occurs holds of each row that is there
 pub each-occurs : (P : List Cell → Type 0) (rows : Bag) → ((c : List Cell) → occurs c rows ≡ true → P c) → EachThere P rows

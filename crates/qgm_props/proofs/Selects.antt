@@ -1,7 +1,7 @@
 -- What is inferred of a select holds.
 use Rattle.std.proofs.Common.{ℕ, zero, suc, ◌≡◌, ◌≢◌, ◌≤◌, ◌==◌, ◌&&◌, ◌||◌, cond, Bool, true, false, List, [], ◌∷◌, refl, sym, ap, subst, ◌∙◌, arith, inl, inr}
 use Rattle.std.proofs.Common as p
-use Rattle.std.proofs.lemmas.Bool.{and_parts, and_from, eq-eqb}
+use Rattle.std.proofs.lemmas.Bool.{and_from, and_parts, eq-eqb, or_left, or_right}
 use Rattle.std.specs.List.{list_any, list_all}
 use Rattle.row_bag.specs.Bags.{bind, keep, unit}
 use Rattle.row_bag.specs.Joins.{how_many}
@@ -12,17 +12,15 @@ use Rattle.sql_value.specs.declared.cell.Cell.TheVariants.{Null}
 use Rattle.sql_value.specs.declared.level.Level.{Level}
 use Rattle.sql_value.specs.declared.level.Level.TheVariants.{No, Cardinality, Division, Overflow, Yes}
 use Rattle.qgm_core.specs.Kinds.{is_F}
-use Rattle.qgm_core.specs.Lists.{In}
+use Rattle.list_laws.specs.Lists.{In}
 use Rattle.qgm_core.specs.declared.node.Node.{Node}
 use Rattle.qgm_core.specs.declared.owned.OwnedQuant.{OwnedQuant}
 use Rattle.qgm_meaning.specs.Laws.{occurs}
 use Rattle.qgm_meaning.specs.Meaning.{Family, bag_in, given_by, over_each}
 use Rattle.qgm_meaning.specs.Scope.{loose, loose_each, looks_found, quant_looks, read_by, under_any}
 use Rattle.qgm_meaning.specs.Values.{Bag, Environment, all_true, bound, head_cells, value}
-use Rattle.qgm_meaning.proofs.Frames.{either-left, either-right}
 use Rattle.qgm_terms.specs.Wanted.{reads, reads_cond}
 use Rattle.qgm_terms.specs.Terms.{Term, int, text, null_int, null_text, col, scalar, both, minus_of, choose, count_all, fold, Cond}
-use Rattle.row_bag.specs.declared.tables.Table.{Table}
 use Rattle.qgm_props.specs.Facts.{EachThere, HasAtMostOne, HasExactlyOne, IsClean, is_sound}
 use Rattle.qgm_props.proofs.EachClean.{EachClean, clean-each}
 use Rattle.qgm_props.specs.Holding.{is_bound}
@@ -59,7 +57,7 @@ module _ (partial : Bool) (tables : List Table) (ns : List Node) (known : Facts)
       looks q h = ready.bound-all q (subst (λ b. cond b (quant_looks n (loose ns) r.id q || (p.not (r.id == q) && loose_each rs n (loose ns) q)) (loose_each rs n (loose ns) q) ≡ true) (sym f) h)
 
       pub under-bound : AllBoundIn partial ns r.over env
-      under-bound q h = looks q (either-left (quant_looks n (loose ns) r.id q) (p.not (r.id == q) && loose_each rs n (loose ns) q) (ap (λ o. looks_found o (loose ns) q) (found-first n.quants r (given'.apart n here) (ready.own r (inl refl))) ∙ h))
+      under-bound q h = looks q (or_left (quant_looks n (loose ns) r.id q) (p.not (r.id == q) && loose_each rs n (loose ns) q) (ap (λ o. looks_found o (loose ns) q) (found-first n.quants r (given'.apart n here) (ready.own r (inl refl))) ∙ h))
 
       pub next-ready : (cells : List Cell) → occurs cells (s r.id env) ≡ true → Ready rs (bound r.id cells env)
       next-ready cells o = record {
@@ -77,8 +75,8 @@ module _ (partial : Bool) (tables : List Table) (ns : List Node) (known : Facts)
       }
         where
           one : (q : ℕ) → loose_each rs n (loose ns) q ≡ true → (b : Bool) → (r.id == q) ≡ b → (partial || (b || is_bound q env)) ≡ true
-          one q h true w = either-right partial true refl
-          one q h false w = looks q (either-right (quant_looks n (loose ns) r.id q) (p.not (r.id == q) && loose_each rs n (loose ns) q) (and_from (p.not (r.id == q)) (loose_each rs n (loose ns) q) (ap p.not w) h))
+          one q h true w = or_right partial true refl
+          one q h false w = looks q (or_right (quant_looks n (loose ns) r.id q) (p.not (r.id == q) && loose_each rs n (loose ns) q) (and_from (p.not (r.id == q)) (loose_each rs n (loose ns) q) (ap p.not w) h))
 
     -- another quantifier comes first
     pub skip-ready : (r : OwnedQuant) (rs : List OwnedQuant) (env : Environment) → is_F r.kind ≡ false → Ready (r ∷ rs) env → Ready rs env
@@ -92,12 +90,12 @@ module _ (partial : Bool) (tables : List Table) (ns : List Node) (known : Facts)
     under-any : (rs : List OwnedQuant) (r : OwnedQuant) (q : ℕ) → In r rs → loose ns r.over q ≡ true → under_any rs (loose ns) q ≡ true
     under-any [] r q i h = elim i [ ]
     under-any (t ∷ rs) r q i h = elim i [
-      | inl e ↦ either-left (loose ns t.over q) (under_any rs (loose ns) q) (ap (λ (u : OwnedQuant). loose ns u.over q) e ∙ h)
-      | inr j ↦ either-right (loose ns t.over q) (under_any rs (loose ns) q) (under-any rs r q j h)
+      | inl e ↦ or_left (loose ns t.over q) (under_any rs (loose ns) q) (ap (λ (u : OwnedQuant). loose ns u.over q) e ∙ h)
+      | inr j ↦ or_right (loose ns t.over q) (under_any rs (loose ns) q) (under-any rs r q j h)
     ]
 
     pub all-rows : (env : Environment) → Ready [] env → SoundRows ns known (λ q. s q env)
-    all-rows env ready = rows-sound partial tables ns known given' all n here env ready.fit (λ r i q h. ready.bound-all q (either-right (read_by n q) (under_any n.quants (loose ns) q) (under-any n.quants r q i h)))
+    all-rows env ready = rows-sound partial tables ns known given' all n here env ready.fit (λ r i q h. ready.bound-all q (or_right (read_by n q) (under_any n.quants (loose ns) q) (under-any n.quants r q i h)))
 
     pub all-columns : (env : Environment) (rs : List OwnedQuant) → Ready rs env → SoundColumns ns known env
     all-columns env rs ready = columns-sound partial tables ns known given' all env ready.fit
@@ -160,13 +158,13 @@ module _ (partial : Bool) (tables : List Table) (ns : List Node) (known : Facts)
         → at_place (holds_value ns known) head k ≡ true → cell_of k (head_cells rows head env) ≢ Null
     place-filled whole rows head env zero f b h = absurd (let w : ⊥ = cc in w)
     place-filled whole rows [] env (suc k) f b h = absurd (let w : ⊥ = cc in w)
-    place-filled whole rows (x ∷ xs) env (suc zero) f b h = value-filled whole rows x env f (λ q r. b q (either-left (reads q x) (list_any (reads q) xs) r)) h
-    place-filled whole rows (x ∷ xs) env (suc (suc k)) f b h = place-filled whole rows xs env (suc k) f (λ q r. b q (either-right (reads q x) (list_any (reads q) xs) r)) h
+    place-filled whole rows (x ∷ xs) env (suc zero) f b h = value-filled whole rows x env f (λ q r. b q (or_left (reads q x) (list_any (reads q) xs) r)) h
+    place-filled whole rows (x ∷ xs) env (suc (suc k)) f b h = place-filled whole rows xs env (suc k) f (λ q r. b q (or_right (reads q x) (list_any (reads q) xs) r)) h
 
     pub cell-filled : partial ≡ false → (k : ℕ) → at_place (holds_value ns known) n.parts.head k ≡ true → (env : Environment) → Ready [] env → cell_of k (head_cells (λ q. s q env) n.parts.head env) ≢ Null
     cell-filled whole k h env ready =
         place-filled whole (λ q. s q env) n.parts.head env k ready.fit
-        (λ q r. ready.bound-all q (either-left (read_by n q) (under_any n.quants (loose ns) q) (either-left (list_any (reads q) n.parts.head) (list_any (reads_cond q) n.parts.conds.items) r))) h
+        (λ q r. ready.bound-all q (or_left (read_by n q) (under_any n.quants (loose ns) q) (or_left (list_any (reads q) n.parts.head) (list_any (reads_cond q) n.parts.conds.items) r))) h
 
     -- ---- rows
 

@@ -4,7 +4,7 @@ use Rattle.std.proofs.lemmas.Bool.{cases_Bool, eq-eqb}
 use Rattle.row_bag.specs.declared.tables.Table.{Table}
 use Rattle.qgm_core.specs.Boxes.{Ordered}
 use Rattle.qgm_core.specs.Edits.{with_distinct}
-use Rattle.qgm_core.specs.Lists.{In}
+use Rattle.list_laws.specs.Lists.{In}
 use Rattle.qgm_core.specs.declared.kinds.Distinct.{Distinct}
 use Rattle.qgm_core.specs.declared.node.Node.{Node}
 use Rattle.qgm_props.specs.Holding.{Holds}
@@ -92,7 +92,7 @@ all-told ns =
 pub founded : (ns : List Node) (known : Facts) → Tells known ns → (fact : Fact) → Inferred ns fact → says (inferred_once ns known) fact ≡ true
 founded ns known tells fact h = h (inferred_once ns known) (once-below ns (inferred_once ns known) known (λ f s. (tells f).1 (least ns known (λ g k. (tells g).0 k) f s)))
 
-inferred-in : (partial : Bool) (tables : List Table) (ns : List Node) → Premises tables ns → (fact : Fact) → Inferred ns fact → HoldsIn partial tables ns fact
+pub inferred-in : (partial : Bool) (tables : List Table) (ns : List Node) → Premises tables ns → (fact : Fact) → Inferred ns fact → HoldsIn partial tables ns fact
 inferred-in partial tables ns given fact h =
     let x = settled ns (unknown_in (map nothing_of ns)) (map nothing_of ns) begun (omega arith) in
     all-said ns (HoldsIn partial tables ns) (λ known all fact k. step partial tables ns known given all fact k) x.0 x.1.0 fact (h (facts_of x.0) (closed ns x.0 x.1.0 x.1.1))
@@ -101,7 +101,7 @@ pub inferred-holds : (tables : List Table) (ns : List Node) → Premises tables 
 inferred-holds tables ns given fact h = in-holds tables ns fact (inferred-in false tables ns given fact h)
 
 -- the sentence by which a box is clean
-clean-said : (ns : List Node) (known : Facts) → Tells known ns → Ordered ns → (n : Node) → In n ns → Inferred ns (clean n.id) → clean_by ns known n.parts.kind n ≡ true
+pub clean-said : (ns : List Node) (known : Facts) → Tells known ns → Ordered ns → (n : Node) → In n ns → Inferred ns (clean n.id) → clean_by ns known n.parts.kind n ≡ true
 clean-said ns known tells o n i h =
     sym (ap (of_box false (λ n. clean_by ns known n.parts.kind n)) (in-first ns n o i)) ∙ founded ns known tells (clean n.id) h
 

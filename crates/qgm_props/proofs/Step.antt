@@ -9,7 +9,7 @@ use Rattle.sql_value.specs.declared.cell.Cell.TheVariants.{Null}
 use Rattle.qgm_core.specs.Boxes.{is_box, width}
 use Rattle.qgm_core.specs.Edits.{with_distinct}
 use Rattle.qgm_core.specs.Kinds.{is_enforce}
-use Rattle.qgm_core.specs.Lists.{In, first}
+use Rattle.list_laws.specs.Lists.{In, first}
 use Rattle.qgm_core.specs.declared.kinds.BoxKind.{BoxKind}
 use Rattle.qgm_core.specs.declared.kinds.BoxKind.TheVariants.{Base, Select, Group, SetOp, OuterJoin}
 use Rattle.qgm_core.specs.declared.kinds.Distinct.{Distinct}

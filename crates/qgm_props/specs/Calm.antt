@@ -7,8 +7,8 @@ use Rattle.qgm_core.specs.Kinds.{is_S, is_magic}
 use Rattle.qgm_core.specs.declared.node.Node.{Node}
 use Rattle.qgm_core.specs.declared.owned.OwnedQuant.{OwnedQuant}
 use Rattle.qgm_terms.specs.declared.named.Column.{Column}
-use Rattle.qgm_formed.specs.Columns.{columns_of}
-use Rattle.qgm_formed.specs.WellFormed.{is_empty}
+use Rattle.qgm_wellformed.specs.Columns.{columns_of}
+use Rattle.qgm_wellformed.specs.WellFormed.{is_empty}
 use Rattle.qgm_props.specs.Inferred.{Facts, all_places, all_under, error_free_under}
 
 -- nothing is free in box b

@@ -3,7 +3,7 @@ use Rattle.std.specs.Prelude.{ℕ, zero, suc, pos, negsuc, ◌≡◌, ◌==◌, 
 use Rattle.std.specs.List.{list_any, list_all}
 use Rattle.sql_value.specs.Arithmetic.{fits_i64}
 use Rattle.qgm_core.specs.Boxes.{is_box, is_quant, width}
-use Rattle.qgm_core.specs.Lists.{first, holds}
+use Rattle.list_laws.specs.Lists.{first, holds}
 use Rattle.qgm_core.specs.declared.kinds.BoxKind.{BoxKind}
 use Rattle.qgm_core.specs.declared.kinds.BoxKind.TheVariants.{Base, Select, Group, SetOp, OuterJoin}
 use Rattle.qgm_core.specs.declared.kinds.SetOperator.{SetOperator}

@@ -2,7 +2,7 @@
 use Rattle.std.specs.Prelude.{ℕ, zero, suc, ◌≡◌, ◌++◌, Bool, true, false, List, [], ◌∷◌, length, filter, Some, ⊤}
 use Rattle.sql_value.specs.declared.order_key.SqlType.{SqlType}
 use Rattle.qgm_core.specs.Kinds.{is_F, is_enforce}
-use Rattle.qgm_core.specs.Lists.{In}
+use Rattle.list_laws.specs.Lists.{In}
 use Rattle.qgm_core.specs.declared.kinds.BaseTable.{BaseTable}
 use Rattle.qgm_core.specs.declared.kinds.BoxKind.TheVariants.{Base, Select, Group, SetOp, OuterJoin}
 use Rattle.qgm_core.specs.declared.kinds.SetOperator.{SetOperator}

@@ -9,3 +9,5 @@ pub mod Table
 pub mod Holding
 pub mod Laws
 pub mod Examples
+pub mod Measure
+pub mod Lowering

@@ -1,7 +1,7 @@
 -- The facts of boxes as a table.
 use Rattle.std.specs.Prelude.{ℕ, zero, suc, ◌≡◌, ◌||◌, ◌==◌, ◌-◌, ◌+◌, slice_set, if◌then◌else◌, Bool, false, List, [], ◌∷◌, ◌++◌, Option, Some, None, slice_get, map}
 use Rattle.qgm_core.specs.Boxes.{width}
-use Rattle.qgm_core.specs.Lists.{first}
+use Rattle.list_laws.specs.Lists.{first}
 use Rattle.qgm_core.specs.declared.node.Node.{Node}
 use Rattle.qgm_props.specs.Inferred.{Facts, at_most_one_by, clean_by, exactly_one_by, free_by, not_null_by}
 use Rattle.qgm_props.specs.declared.facts.BoxFacts.{BoxFacts}

@@ -2,7 +2,6 @@
 ghost use Rattle.std.specs.Prelude.{◌≡◌, ◌||◌, ◌&&◌, ◌++◌, false, IfOk, OnOk, IsTrue, take};
 ghost use Rattle.std.specs.List.{list_all};
 ghost use Rattle.qgm_core.specs.Boxes.{width};
-ghost use Rattle.qgm_core.specs.Kinds.{is_F};
 ghost use Rattle.qgm_terms.specs.Shown.{conds, terms};
 ghost use Rattle.qgm_props.specs.Inferred as spec;
 ghost use Rattle.qgm_props.specs.Table.{either_flags, facts_of, flags, improved, nothing_of};
@@ -10,27 +9,18 @@ ghost use Rattle.qgm_props.specs.Table.{either_flags, facts_of, flags, improved,
 use crate::columns::{is_column_filled, is_column_free, is_free_in_arms};
 use crate::expressions::{are_conds_free, is_free};
 use crate::facts::{BoxFacts, has_at_most_one, has_exactly_one, is_clean};
-use qgm_core::{BoxKind, Gx, Node, OwnedQuant, QuantKind, SetOperator};
+use qgm_core::{BoxKind, Gx, Node, OwnedQuant, SetOperator};
 use qgm_terms::{both, either};
 use shared_types::OutOfMemory;
 use sqlite_items::Items;
 use std::alloc::Global;
-
-pub fn is_f(kind: QuantKind) -> bool
-    ensures { result ≡ is_F kind }
-{
-    match kind {
-        QuantKind::F => true,
-        QuantKind::E | QuantKind::A | QuantKind::S => false,
-    }
-}
 
 // Whether the boxes under the F quantifiers are known to be clean.
 fn are_clean_under(table: &[BoxFacts], ranges: &[OwnedQuant]) -> bool
     ensures { result ≡ spec.all_under_F (facts_of table.now).clean ranges.now }
 {
     for range in ranges {
-        if is_f(range.kind) && !is_clean(table, range.over) {
+        if range.kind.is_f() && !is_clean(table, range.over) {
             return false;
         }
     }
@@ -42,7 +32,7 @@ fn are_single_under(table: &[BoxFacts], ranges: &[OwnedQuant]) -> bool
     ensures { result ≡ spec.all_under_F (facts_of table.now).at_most_one ranges.now }
 {
     for range in ranges {
-        if is_f(range.kind) && !has_at_most_one(table, range.over) {
+        if range.kind.is_f() && !has_at_most_one(table, range.over) {
             return false;
         }
     }
@@ -54,7 +44,7 @@ fn are_exact_under(table: &[BoxFacts], ranges: &[OwnedQuant]) -> bool
     ensures { result ≡ spec.all_under_F (facts_of table.now).exactly_one ranges.now }
 {
     for range in ranges {
-        if is_f(range.kind) && !has_exactly_one(table, range.over) {
+        if range.kind.is_f() && !has_exactly_one(table, range.over) {
             return false;
         }
     }

@@ -1,8 +1,8 @@
 // Whether a graph is calm.
 ghost use Rattle.std.specs.Prelude.{◌≡◌, ◌||◌, not, IfOk};
 ghost use Rattle.std.specs.List.{list_all};
-ghost use Rattle.qgm_formed.specs.Columns.{columns_of};
-ghost use Rattle.qgm_core.specs.Kinds.{is_S, is_magic};
+ghost use Rattle.qgm_wellformed.specs.Columns.{columns_of};
+ghost use Rattle.qgm_core.specs.Kinds.{is_magic};
 ghost use Rattle.qgm_props.specs.Calm as spec;
 ghost use Rattle.qgm_props.specs.Inferred.{all_places, all_under};
 ghost use Rattle.qgm_props.specs.Table.{facts_of};
@@ -11,29 +11,11 @@ use crate::answers::Props;
 use crate::boxes::width_of;
 use crate::facts::{BoxFacts, has_at_most_one, is_clean, is_error_free};
 use crate::ranges::is_error_free_under;
-use qgm_core::{BoxId, Column, Graph, Node, OwnedQuant, QuantKind, Role, free_in, has_range};
+use qgm_core::{BoxId, Column, Graph, Node, OwnedQuant, free_in, has_range};
 use qgm_terms::{both, either};
 use shared_types::OutOfMemory;
 use std::alloc::Global;
-use term_contents::{add_columns_of_cells, add_columns_of_conds};
-
-fn is_s(kind: QuantKind) -> bool
-    ensures { result ≡ is_S kind }
-{
-    match kind {
-        QuantKind::S => true,
-        QuantKind::F | QuantKind::E | QuantKind::A => false,
-    }
-}
-
-fn is_magic_role(role: Role) -> bool
-    ensures { result ≡ is_magic role }
-{
-    match role {
-        Role::Magic => true,
-        Role::Plain | Role::Fed => false,
-    }
-}
+use qgm_term_search::{add_columns_of_cells, add_columns_of_conds};
 
 // Whether nothing is free in a box.
 fn is_closed(alloc: Global, boxes: &[Node], b: BoxId) -> Result<bool, OutOfMemory>
@@ -97,7 +79,7 @@ fn is_scalar_calm(
 ) -> Result<bool, OutOfMemory>
     ensures { IfOk result (λ k. k ≡ spec.calm_scalar boxes.now (facts_of table.now) range) }
 {
-    if !is_s(range.kind) {
+    if !range.kind.is_s() {
         return Ok(true);
     }
     let known = either(
@@ -162,7 +144,7 @@ fn is_role_calm(
 ) -> Result<bool, OutOfMemory>
     ensures { IfOk result (λ k. k ≡ (not (is_magic node.now.parts.role) || spec.calm_magic boxes.now (facts_of table.now) node.now)) }
 {
-    if !is_magic_role(node.parts.role) {
+    if !node.parts.role.is_magic() {
         return Ok(true);
     }
     is_magic_calm(alloc, boxes, table, node)

@@ -2,8 +2,8 @@
 ghost use Rattle.std.specs.Prelude.{◌≡◌, ◌≤◌, ◌&&◌, option_map, take};
 ghost use Rattle.std.specs.List.{list_any};
 ghost use Rattle.qgm_core.specs.Boxes.{is_quant};
-ghost use Rattle.qgm_core.specs.Lists.{holds};
-ghost use Rattle.qgm_terms.specs.Shown.{links, term, terms};
+ghost use Rattle.list_laws.specs.Lists.{holds};
+ghost use Rattle.qgm_terms.specs.Shown.{aggregate, links, term, terms};
 ghost use Rattle.qgm_props.specs.Inferred as spec;
 ghost use Rattle.qgm_props.specs.Table.{element, facts_of};
 
@@ -11,7 +11,7 @@ use crate::expressions::{is_alone, is_free};
 use crate::facts::{BoxFacts, has_at_most_one, is_clean, is_error_free};
 use crate::ranges::is_not_null_under;
 use qgm_core::{BoxKind, Gx, Node, OwnedQuant, QuantId, SetOperator, is_marked};
-use qgm_terms::both;
+use qgm_terms::{Aggregate, both};
 
 // Whether a column of the boxes under the first two quantifiers is known to hold no error.
 pub fn is_free_in_arms(table: &[BoxFacts], ranges: &[OwnedQuant], k: usize) -> bool
@@ -111,17 +111,18 @@ fn has_value(nodes: &[Node], table: &[BoxFacts], x: &Gx) -> bool
         | Gx::Scalar(_)
         | Gx::Case(_, _)
         | Gx::Neg(_)
-        | Gx::Single(_)
-        | Gx::Count(_)
-        | Gx::Sum(_)
-        | Gx::Avg(_)
-        | Gx::Min(_)
-        | Gx::Max(_)
-        | Gx::CountDistinct(_)
-        | Gx::SumDistinct(_)
-        | Gx::AvgDistinct(_)
-        | Gx::MinDistinct(_)
-        | Gx::MaxDistinct(_) => false,
+        | Gx::Fold(_, _, _) => false,
+    }
+}
+
+// Whether an aggregate counts.
+fn counts(f: Aggregate) -> bool
+    ensures { result ≡ spec.counts (aggregate f) }
+{
+    match f {
+        Aggregate::Count => true,
+        Aggregate::Single | Aggregate::Sum | Aggregate::Avg | Aggregate::Min | Aggregate::Max =>
+            false,
     }
 }
 
@@ -130,7 +131,8 @@ fn is_count(x: &Gx) -> bool
     ensures { result ≡ spec.is_count (term x.now) }
 {
     match x {
-        Gx::CountAll | Gx::Count(_) | Gx::CountDistinct(_) => true,
+        Gx::CountAll => true,
+        Gx::Fold(f, _, _) => counts(*f),
         Gx::Chain(a, list) => both(is_alone(list), is_count(a)),
         Gx::Int(_)
         | Gx::Text(_)
@@ -139,16 +141,7 @@ fn is_count(x: &Gx) -> bool
         | Gx::Col(_, _)
         | Gx::Scalar(_)
         | Gx::Case(_, _)
-        | Gx::Neg(_)
-        | Gx::Single(_)
-        | Gx::Sum(_)
-        | Gx::Avg(_)
-        | Gx::Min(_)
-        | Gx::Max(_)
-        | Gx::SumDistinct(_)
-        | Gx::AvgDistinct(_)
-        | Gx::MinDistinct(_)
-        | Gx::MaxDistinct(_) => false,
+        | Gx::Neg(_) => false,
     }
 }
 
@@ -179,17 +172,7 @@ fn has_left_value(nodes: &[Node], table: &[BoxFacts], ranges: &[OwnedQuant], x: 
         | Gx::Scalar(_)
         | Gx::Case(_, _)
         | Gx::Neg(_)
-        | Gx::Single(_)
-        | Gx::Count(_)
-        | Gx::Sum(_)
-        | Gx::Avg(_)
-        | Gx::Min(_)
-        | Gx::Max(_)
-        | Gx::CountDistinct(_)
-        | Gx::SumDistinct(_)
-        | Gx::AvgDistinct(_)
-        | Gx::MinDistinct(_)
-        | Gx::MaxDistinct(_) => false,
+        | Gx::Fold(_, _, _) => false,
     }
 }
 

@@ -2,7 +2,7 @@
 ghost use Rattle.std.specs.Prelude.{◌≡◌, ◌&&◌};
 ghost use Rattle.std.specs.List.{list_all};
 ghost use Rattle.sql_value.specs.Arithmetic.{fits_i64};
-ghost use Rattle.qgm_terms.specs.Shown.{choices, cond, conds, links, term, terms};
+ghost use Rattle.qgm_terms.specs.Shown.{aggregate, choices, cond, conds, links, term, terms};
 ghost use Rattle.qgm_props.specs.Inferred as spec;
 ghost use Rattle.qgm_props.specs.Lists.{arms_free_in, chain_free, is_none};
 ghost use Rattle.qgm_props.specs.Table.{facts_of};
@@ -10,7 +10,7 @@ ghost use Rattle.qgm_props.specs.Table.{facts_of};
 use crate::facts::BoxFacts;
 use crate::ranges::{is_clean_under, is_error_free_under, is_not_null_under, is_single_under};
 use qgm_core::{Node, OwnedQuant, QuantId};
-use qgm_terms::{Arm, Gc, Gx, Link, Op, both};
+use qgm_terms::{Aggregate, Arm, Gc, Gx, Link, Op, both};
 
 // A number has 64 bits.
 fn fits(n: i64) -> bool
@@ -44,17 +44,7 @@ fn divides(x: &Gx) -> bool
         | Gx::Scalar(_)
         | Gx::Case(_, _)
         | Gx::Neg(_)
-        | Gx::Single(_)
-        | Gx::Count(_)
-        | Gx::Sum(_)
-        | Gx::Avg(_)
-        | Gx::Min(_)
-        | Gx::Max(_)
-        | Gx::CountDistinct(_)
-        | Gx::SumDistinct(_)
-        | Gx::AvgDistinct(_)
-        | Gx::MinDistinct(_)
-        | Gx::MaxDistinct(_) => false,
+        | Gx::Fold(_, _, _) => false,
         Gx::Chain(a, list) => both(is_alone(list), divides(a)),
     }
 }
@@ -67,6 +57,17 @@ fn keeps_free(op: Op, right: &Gx) -> bool
         Op::Add | Op::Sub | Op::Mul => false,
         Op::Div => divides(right),
         Op::Cat => true,
+    }
+}
+
+// Whether an aggregate of error-free values is error-free, where it is one of at most one row or not.
+fn is_fold_free(one: bool, f: Aggregate) -> bool
+    ensures { result ≡ spec.fold_free one (aggregate f) }
+{
+    match f {
+        Aggregate::Single => one,
+        Aggregate::Sum => false,
+        Aggregate::Count | Aggregate::Avg | Aggregate::Min | Aggregate::Max => true,
     }
 }
 
@@ -88,16 +89,8 @@ pub fn is_free(nodes: &[Node], table: &[BoxFacts], one: bool, x: &Gx) -> bool
             let last = is_free(nodes, table, one, a);
             both(are_arms_free(nodes, table, one, list), last)
         }
-        Gx::Neg(_) | Gx::Sum(_) | Gx::SumDistinct(_) => false,
-        Gx::Single(a) => both(one, is_free(nodes, table, one, a)),
-        Gx::Count(a)
-        | Gx::Avg(a)
-        | Gx::Min(a)
-        | Gx::Max(a)
-        | Gx::CountDistinct(a)
-        | Gx::AvgDistinct(a)
-        | Gx::MinDistinct(a)
-        | Gx::MaxDistinct(a) => is_free(nodes, table, one, a),
+        Gx::Neg(_) => false,
+        Gx::Fold(f, _, a) => both(is_fold_free(one, *f), is_free(nodes, table, one, a)),
     }
 }
 
@@ -147,14 +140,7 @@ pub fn is_cond_free(nodes: &[Node], table: &[BoxFacts], one: bool, c: &Gc) -> bo
 {
     match c {
         Gc::True => true,
-        Gc::Eq(a, b)
-        | Gc::Ne(a, b)
-        | Gc::Lt(a, b)
-        | Gc::Le(a, b)
-        | Gc::Gt(a, b)
-        | Gc::Ge(a, b)
-        | Gc::Same(a, b)
-        | Gc::Like(a, b) => {
+        Gc::Compare(_, a, b) => {
             let left = is_free(nodes, table, one, a);
             let right = is_free(nodes, table, one, b);
             both(left, right)

@@ -1,6 +1,6 @@
 // What is known of boxes.
 ghost use Rattle.std.specs.Prelude.{◌≡◌, option_map};
-ghost use Rattle.qgm_core.specs.Lists.{first};
+ghost use Rattle.list_laws.specs.Lists.{first};
 ghost use Rattle.qgm_props.specs.Table as spec;
 
 use qgm_core::BoxId;

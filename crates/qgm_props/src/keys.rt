@@ -1,18 +1,16 @@
 // Which columns hold a key.
 ghost use Rattle.std.specs.Prelude.{◌≡◌, ◌&&◌, ◌++◌, option_map, OnOk, IfOk, Some, drop};
 ghost use Rattle.std.specs.List.{list_all, list_any};
-ghost use Rattle.qgm_core.specs.Kinds.{is_enforce};
 ghost use Rattle.qgm_terms.specs.Shown.{term, terms};
 ghost use Rattle.qgm_props.specs.Inferred as inferred;
 ghost use Rattle.qgm_props.specs.Keys as spec;
 ghost use Rattle.qgm_props.specs.Table.{facts_of};
 
-use crate::boxes::is_f;
 use crate::columns::cell_at;
 use crate::expressions::is_alone;
 use crate::facts::{BoxFacts, has_at_most_one};
 use qgm_core::{
-    BaseTable, BoxId, BoxKind, Distinct, Gx, Node, OwnedQuant, QuantId, SetOperator, is_marked,
+    BaseTable, BoxId, BoxKind, Gx, Node, OwnedQuant, QuantId, SetOperator, is_marked,
 };
 use qgm_terms::both;
 use shared_types::OutOfMemory;
@@ -80,17 +78,7 @@ fn add_column_of(q: QuantId, x: &Gx, out: &mut Vec<usize>) -> Result<(), OutOfMe
         | Gx::Scalar(_)
         | Gx::Case(_, _)
         | Gx::Neg(_)
-        | Gx::Single(_)
-        | Gx::Count(_)
-        | Gx::Sum(_)
-        | Gx::Avg(_)
-        | Gx::Min(_)
-        | Gx::Max(_)
-        | Gx::CountDistinct(_)
-        | Gx::SumDistinct(_)
-        | Gx::AvgDistinct(_)
-        | Gx::MinDistinct(_)
-        | Gx::MaxDistinct(_) => Ok(()),
+        | Gx::Fold(_, _, _) => Ok(()),
     }
 }
 
@@ -129,15 +117,6 @@ fn has_op_key(operator: SetOperator, width: usize, columns: &[usize]) -> bool
         SetOperator::Union | SetOperator::Intersect | SetOperator::Except => are_all_within(
             width, columns,
         ),
-    }
-}
-
-fn is_enforced(distinct: Distinct) -> bool
-    ensures { result ≡ is_enforce distinct }
-{
-    match distinct {
-        Distinct::Enforce => true,
-        Distinct::Preserve | Distinct::Permit => false,
     }
 }
 
@@ -180,7 +159,7 @@ fn has_key_of(
         BoxKind::Base(base) => Ok(has_base_key(base, base.keys.as_slice(), columns)),
         BoxKind::Select => {
             if both(
-                is_enforced(node.parts.distinct),
+                node.parts.distinct.is_enforce(),
                 are_all_within(head.len(), columns),
             ) {
                 return Ok(true);
@@ -205,7 +184,7 @@ fn have_keys(
     ensures { IfOk result (λ k. k ≡ spec.keyed_under_F node.now.parts.head (spec.holds_key (facts_of table.now).at_most_one below.now) columns.now node.now.quants) }
 {
     for range in node.quants.as_slice() {
-        if is_f(range.kind) && !has_key_under(alloc, node, below, table, columns, *range)? {
+        if range.kind.is_f() && !has_key_under(alloc, node, below, table, columns, *range)? {
             return Ok(false);
         }
     }

@@ -16,4 +16,4 @@ pub use answers::Props;
 pub use calm::is_calm;
 pub use facts::BoxFacts;
 pub use infer::props;
-pub use laws::{examples, fact_laws};
+pub use laws::{examples, fact_laws, measure_laws};

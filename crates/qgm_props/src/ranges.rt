@@ -1,7 +1,7 @@
 // What is known of the boxes that quantifiers range over.
 ghost use Rattle.std.specs.Prelude.{◌≡◌, option_map};
 ghost use Rattle.qgm_core.specs.Boxes.{is_quant, owns, range_in};
-ghost use Rattle.qgm_core.specs.Lists.{first};
+ghost use Rattle.list_laws.specs.Lists.{first};
 ghost use Rattle.qgm_props.specs.Inferred as spec;
 ghost use Rattle.qgm_props.specs.Table.{facts_of};
 

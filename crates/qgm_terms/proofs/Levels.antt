@@ -3,11 +3,10 @@ use Rattle.std.proofs.Common.{◌≡◌, refl, ℕ, ◌≤◌, List, ◌∷◌, 
 use Rattle.qgm_terms.specs.Depth.{arm_depths, cond_depths, depth, depth_cond, link_depths, row_arm_depths, row_cond_depths, row_link_depths}
 use Rattle.qgm_terms.specs.declared.tree.Arm.{Arm}
 use Rattle.qgm_terms.specs.declared.tree.Link.{Link}
-use Rattle.qgm_terms.specs.declared.tree.Gc.{Gc, True, Eq', Ne', Lt', Le', Gt', Ge', Same', Like', IsNull', All', Any', Not', Some', Every'}
+use Rattle.qgm_terms.specs.declared.tree.Gc.{Gc, True, Compare', IsNull', All', Any', Not', Some', Every'}
 use Rattle.qgm_terms.specs.declared.tree.Gc.{Row_of-Gc, end_of-Gc, more_of-Gc, items-the_row-Gc, items_hidden-the_row-Gc-0}
 use Rattle.qgm_terms.specs.declared.tree.Gc.TheBlock.{hidden-the_row-Gc-0, hidden-the_row-Link-1, hidden-the_row-Arm-2}
-use Rattle.qgm_terms.specs.declared.tree.Gx.{Gx, Int, Text, NullInt, NullText, Col, Scalar, Chain', Neg', Case', CountAll, Single', Count', Sum', Avg', Min', Max'}
-use Rattle.qgm_terms.specs.declared.tree.Gx.{CountDistinct', SumDistinct', AvgDistinct', MinDistinct', MaxDistinct'}
+use Rattle.qgm_terms.specs.declared.tree.Gx.{Gx, Int, Text, NullInt, NullText, Col, Scalar, Chain', Neg', Case', CountAll, Fold'}
 use Rattle.qgm_terms.specs.declared.tree.Gx.{Row_of-Link, end_of-Link, more_of-Link, Row_of-Arm, end_of-Arm, more_of-Arm}
 use Rattle.qgm_terms.specs.declared.tree.Gx.{items-the_row-Link, items-the_row-Arm, items_hidden-the_row-Link-1, items_hidden-the_row-Arm-2}
 
@@ -44,28 +43,11 @@ depth_positive (Chain' _ a _ ls) = omega arith
 depth_positive (Neg' _ a) = omega arith
 depth_positive (Case' _ s _ a) = omega arith
 depth_positive CountAll = omega arith
-depth_positive (Single' _ a) = omega arith
-depth_positive (Count' _ a) = omega arith
-depth_positive (Sum' _ a) = omega arith
-depth_positive (Avg' _ a) = omega arith
-depth_positive (Min' _ a) = omega arith
-depth_positive (Max' _ a) = omega arith
-depth_positive (CountDistinct' _ a) = omega arith
-depth_positive (SumDistinct' _ a) = omega arith
-depth_positive (AvgDistinct' _ a) = omega arith
-depth_positive (MinDistinct' _ a) = omega arith
-depth_positive (MaxDistinct' _ a) = omega arith
+depth_positive (Fold' f e _ a) = omega arith
 
 pub depth_cond_positive : (c : Gc) → 1 ≤ depth_cond c
 depth_cond_positive True = omega arith
-depth_cond_positive (Eq' _ a _ b) = omega arith
-depth_cond_positive (Ne' _ a _ b) = omega arith
-depth_cond_positive (Lt' _ a _ b) = omega arith
-depth_cond_positive (Le' _ a _ b) = omega arith
-depth_cond_positive (Gt' _ a _ b) = omega arith
-depth_cond_positive (Ge' _ a _ b) = omega arith
-depth_cond_positive (Same' _ a _ b) = omega arith
-depth_cond_positive (Like' _ a _ b) = omega arith
+depth_cond_positive (Compare' s _ a _ b) = omega arith
 depth_cond_positive (IsNull' _ a) = omega arith
 depth_cond_positive (All' _ a _ ps) = omega arith
 depth_cond_positive (Any' _ a _ ps) = omega arith

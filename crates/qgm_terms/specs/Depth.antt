@@ -2,10 +2,9 @@
 use Rattle.std.specs.Prelude.{ℕ, ◌+◌, List, [], ◌∷◌, map, max}
 use Rattle.qgm_terms.specs.declared.tree.Arm.{Arm}
 use Rattle.qgm_terms.specs.declared.tree.Link.{Link}
-use Rattle.qgm_terms.specs.declared.tree.Gc.{Gc, True, Eq', Ne', Lt', Le', Gt', Ge', Same', Like', IsNull', All', Any', Not', Some', Every'}
+use Rattle.qgm_terms.specs.declared.tree.Gc.{Gc, True, Compare', IsNull', All', Any', Not', Some', Every'}
 use Rattle.qgm_terms.specs.declared.tree.Gc.{Row_of-Gc, end_of-Gc, more_of-Gc}
-use Rattle.qgm_terms.specs.declared.tree.Gx.{Gx, Int, Text, NullInt, NullText, Col, Scalar, Chain', Neg', Case', CountAll, Single', Count', Sum', Avg', Min', Max'}
-use Rattle.qgm_terms.specs.declared.tree.Gx.{CountDistinct', SumDistinct', AvgDistinct', MinDistinct', MaxDistinct'}
+use Rattle.qgm_terms.specs.declared.tree.Gx.{Gx, Int, Text, NullInt, NullText, Col, Scalar, Chain', Neg', Case', CountAll, Fold'}
 use Rattle.qgm_terms.specs.declared.tree.Gx.{Row_of-Link, end_of-Link, more_of-Link, Row_of-Arm, end_of-Arm, more_of-Arm}
 
 abbrev pub most : List ℕ → ℕ
@@ -24,17 +23,7 @@ abbrev mutual
   depth (Neg' _ a) = 1 + depth a
   depth (Case' _ s _ a) = 1 + max (most (row_arm_depths s)) (depth a)
   depth CountAll = 1
-  depth (Single' _ a) = 1 + depth a
-  depth (Count' _ a) = 1 + depth a
-  depth (Sum' _ a) = 1 + depth a
-  depth (Avg' _ a) = 1 + depth a
-  depth (Min' _ a) = 1 + depth a
-  depth (Max' _ a) = 1 + depth a
-  depth (CountDistinct' _ a) = 1 + depth a
-  depth (SumDistinct' _ a) = 1 + depth a
-  depth (AvgDistinct' _ a) = 1 + depth a
-  depth (MinDistinct' _ a) = 1 + depth a
-  depth (MaxDistinct' _ a) = 1 + depth a
+  depth (Fold' f e _ a) = 1 + depth a
 
   pub row_link_depths : {n : _} → Row_of-Link n → List ℕ
   row_link_depths end_of-Link = []
@@ -46,14 +35,7 @@ abbrev mutual
 
   pub depth_cond : Gc → ℕ
   depth_cond True = 1
-  depth_cond (Eq' _ a _ b) = 1 + max (depth a) (depth b)
-  depth_cond (Ne' _ a _ b) = 1 + max (depth a) (depth b)
-  depth_cond (Lt' _ a _ b) = 1 + max (depth a) (depth b)
-  depth_cond (Le' _ a _ b) = 1 + max (depth a) (depth b)
-  depth_cond (Gt' _ a _ b) = 1 + max (depth a) (depth b)
-  depth_cond (Ge' _ a _ b) = 1 + max (depth a) (depth b)
-  depth_cond (Same' _ a _ b) = 1 + max (depth a) (depth b)
-  depth_cond (Like' _ a _ b) = 1 + max (depth a) (depth b)
+  depth_cond (Compare' s _ a _ b) = 1 + max (depth a) (depth b)
   depth_cond (IsNull' _ a) = 1 + depth a
   depth_cond (All' _ a _ ps) = 1 + max (depth_cond a) (most (row_cond_depths ps))
   depth_cond (Any' _ a _ ps) = 1 + max (depth_cond a) (most (row_cond_depths ps))

@@ -7,6 +7,5 @@ pub mod Conjuncts
 pub mod Split
 pub mod Wanted
 pub mod Shift
-pub mod Rebuilt
 pub mod Substitution
 pub mod Depth

@@ -2,12 +2,39 @@
 use Rattle.std.specs.Prelude.{List, [], ◌∷◌, map}
 use Rattle.qgm_terms.specs.declared.tree.Arm.{Arm}
 use Rattle.qgm_terms.specs.declared.tree.Link.{Link}
-use Rattle.qgm_terms.specs.declared.tree.Gc.{Gc, True, Eq', Ne', Lt', Le', Gt', Ge', Same', Like', IsNull', All', Any', Not', Some', Every'}
+use Rattle.qgm_terms.specs.declared.tree.Gc.{Gc, True, Compare', IsNull', All', Any', Not', Some', Every'}
 use Rattle.qgm_terms.specs.declared.tree.Gc.{Row_of-Gc, end_of-Gc, more_of-Gc}
-use Rattle.qgm_terms.specs.declared.tree.Gx.{Gx, Int, Text, NullInt, NullText, Col, Scalar, Chain', Neg', Case', CountAll, Single', Count', Sum', Avg', Min', Max'}
-use Rattle.qgm_terms.specs.declared.tree.Gx.{CountDistinct', SumDistinct', AvgDistinct', MinDistinct', MaxDistinct'}
+use Rattle.qgm_terms.specs.declared.tree.Gx.{Gx, Int, Text, NullInt, NullText, Col, Scalar, Chain', Neg', Case', CountAll, Fold'}
 use Rattle.qgm_terms.specs.declared.tree.Gx.{Row_of-Link, end_of-Link, more_of-Link, Row_of-Arm, end_of-Arm, more_of-Arm}
+use Rattle.qgm_terms.specs.declared.tree.Aggregate.{Aggregate}
+use Rattle.qgm_terms.specs.declared.tree.Aggregate.TheVariants as f
+use Rattle.qgm_terms.specs.declared.tree.Taken.{Taken}
+use Rattle.qgm_terms.specs.declared.tree.Taken.TheVariants as e
+use Rattle.qgm_terms.specs.declared.tree.Sign.{Sign}
+use Rattle.qgm_terms.specs.declared.tree.Sign.TheVariants as s
 use Rattle.qgm_terms.specs.Terms as t
+
+abbrev pub aggregate : Aggregate → t.Aggregate
+aggregate f.Single = t.single
+aggregate f.Count = t.count
+aggregate f.Sum = t.sum
+aggregate f.Avg = t.avg
+aggregate f.Min = t.least
+aggregate f.Max = t.greatest
+
+abbrev pub taken : Taken → t.Taken
+taken e.All = t.all_of
+taken e.Once = t.each_once
+
+abbrev pub sign : Sign → t.Sign
+sign s.Eq = t.equal
+sign s.Ne = t.unequal
+sign s.Lt = t.below
+sign s.Le = t.at_most
+sign s.Gt = t.above
+sign s.Ge = t.at_least
+sign s.Same = t.same
+sign s.Like = t.like
 
 abbrev mutual
   pub term : Gx → t.Term
@@ -21,17 +48,7 @@ abbrev mutual
   term (Neg' _ a) = t.minus_of (term a)
   term (Case' _ s _ a) = t.choose (t.armed (row_choices s)) (term a)
   term CountAll = t.count_all
-  term (Single' _ a) = t.fold t.single t.all_of (term a)
-  term (Count' _ a) = t.fold t.count t.all_of (term a)
-  term (Sum' _ a) = t.fold t.sum t.all_of (term a)
-  term (Avg' _ a) = t.fold t.avg t.all_of (term a)
-  term (Min' _ a) = t.fold t.least t.all_of (term a)
-  term (Max' _ a) = t.fold t.greatest t.all_of (term a)
-  term (CountDistinct' _ a) = t.fold t.count t.each_once (term a)
-  term (SumDistinct' _ a) = t.fold t.sum t.each_once (term a)
-  term (AvgDistinct' _ a) = t.fold t.avg t.each_once (term a)
-  term (MinDistinct' _ a) = t.fold t.least t.each_once (term a)
-  term (MaxDistinct' _ a) = t.fold t.greatest t.each_once (term a)
+  term (Fold' g h _ a) = t.fold (aggregate g) (taken h) (term a)
 
   pub row_links : {n : _} → Row_of-Link n → List t.Link
   row_links end_of-Link = []
@@ -43,14 +60,7 @@ abbrev mutual
 
   pub cond : Gc → t.Cond
   cond True = t.always
-  cond (Eq' _ a _ b) = t.compare t.equal (term a) (term b)
-  cond (Ne' _ a _ b) = t.compare t.unequal (term a) (term b)
-  cond (Lt' _ a _ b) = t.compare t.below (term a) (term b)
-  cond (Le' _ a _ b) = t.compare t.at_most (term a) (term b)
-  cond (Gt' _ a _ b) = t.compare t.above (term a) (term b)
-  cond (Ge' _ a _ b) = t.compare t.at_least (term a) (term b)
-  cond (Same' _ a _ b) = t.compare t.same (term a) (term b)
-  cond (Like' _ a _ b) = t.compare t.like (term a) (term b)
+  cond (Compare' g _ a _ b) = t.compare (sign g) (term a) (term b)
   cond (IsNull' _ a) = t.is_null (term a)
   cond (All' _ a _ ps) = t.anded (cond a) (row_conds ps)
   cond (Any' _ a _ ps) = t.ored (cond a) (row_conds ps)

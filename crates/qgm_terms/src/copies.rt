@@ -6,8 +6,8 @@ ghost use Rattle.qgm_terms.specs.Terms as t;
 
 use crate::parts::{Conds, Head};
 use crate::rebuilt::{
-    anded_of, case_of, chained_of, every_of, is_null_of, not_of, of_operand, of_operands, ored_of,
-    push_arm, some_of,
+    anded_of, case_of, chained_of, compare_of, every_of, fold_of, is_null_of, neg_of, not_of,
+    ored_of, push_arm, some_of,
 };
 use crate::tree::{Arm, Gc, Gx, Link};
 use shared_types::{OutOfMemory, Text};
@@ -43,18 +43,8 @@ pub fn copy(alloc: Global, x: &Gx, room: usize) -> Result<Gx, OutOfMemory>
             let arms = copy_arms(alloc, list, room - 1);
             case_of(alloc, arms, copy(alloc, a, room - 1))
         }
-        Gx::Neg(a)
-        | Gx::Single(a)
-        | Gx::Count(a)
-        | Gx::Sum(a)
-        | Gx::Avg(a)
-        | Gx::Min(a)
-        | Gx::Max(a)
-        | Gx::CountDistinct(a)
-        | Gx::SumDistinct(a)
-        | Gx::AvgDistinct(a)
-        | Gx::MinDistinct(a)
-        | Gx::MaxDistinct(a) => of_operand(alloc, x, copy(alloc, a, room - 1)),
+        Gx::Neg(a) => neg_of(alloc, copy(alloc, a, room - 1)),
+        Gx::Fold(f, each, a) => fold_of(alloc, *f, *each, copy(alloc, a, room - 1)),
     }
 }
 
@@ -96,16 +86,9 @@ pub fn copy_cond(alloc: Global, c: &Gc, room: usize) -> Result<Gc, OutOfMemory>
     }
     match c {
         Gc::True => Ok(Gc::True),
-        Gc::Eq(a, b)
-        | Gc::Ne(a, b)
-        | Gc::Lt(a, b)
-        | Gc::Le(a, b)
-        | Gc::Gt(a, b)
-        | Gc::Ge(a, b)
-        | Gc::Same(a, b)
-        | Gc::Like(a, b) => {
+        Gc::Compare(s, a, b) => {
             let left = copy(alloc, a, room - 1);
-            of_operands(alloc, c, left, copy(alloc, b, room - 1))
+            compare_of(alloc, *s, left, copy(alloc, b, room - 1))
         }
         Gc::IsNull(a) => is_null_of(alloc, copy(alloc, a, room - 1)),
         Gc::All(a, list) => copy_all(alloc, a, list, room - 1),

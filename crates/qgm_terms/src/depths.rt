@@ -23,18 +23,7 @@ pub fn fits(x: &Gx, room: usize) -> bool
         | Gx::CountAll => true,
         Gx::Chain(a, list) => both(fits(a, room - 1), fits_links(list, room - 1)),
         Gx::Case(list, a) => both(fits_arms(list, room - 1), fits(a, room - 1)),
-        Gx::Neg(a)
-        | Gx::Single(a)
-        | Gx::Count(a)
-        | Gx::Sum(a)
-        | Gx::Avg(a)
-        | Gx::Min(a)
-        | Gx::Max(a)
-        | Gx::CountDistinct(a)
-        | Gx::SumDistinct(a)
-        | Gx::AvgDistinct(a)
-        | Gx::MinDistinct(a)
-        | Gx::MaxDistinct(a) => fits(a, room - 1),
+        Gx::Neg(a) | Gx::Fold(_, _, a) => fits(a, room - 1),
     }
 }
 
@@ -74,14 +63,7 @@ pub fn fits_cond(c: &Gc, room: usize) -> bool
     }
     match c {
         Gc::True => true,
-        Gc::Eq(a, b)
-        | Gc::Ne(a, b)
-        | Gc::Lt(a, b)
-        | Gc::Le(a, b)
-        | Gc::Gt(a, b)
-        | Gc::Ge(a, b)
-        | Gc::Same(a, b)
-        | Gc::Like(a, b) => both(fits(a, room - 1), fits(b, room - 1)),
+        Gc::Compare(_, a, b) => both(fits(a, room - 1), fits(b, room - 1)),
         Gc::IsNull(a) => fits(a, room - 1),
         Gc::All(a, list) => both(fits_cond(a, room - 1), fits_conds(list, room - 1)),
         Gc::Any(a, list) => both(fits_cond(a, room - 1), fits_conds(list, room - 1)),

@@ -25,4 +25,4 @@ pub use parts::{Conds, Head};
 pub use shifts::{shift, shift_cells, shift_cond, shift_conds};
 pub use sought::Sought;
 pub use substitution::{substitute, substitute_cond, substitute_conds, substitute_head};
-pub use tree::{Arm, Gc, Gx, Link, Op, ROOM};
+pub use tree::{Aggregate, Arm, Gc, Gx, Link, Op, ROOM, Sign, Taken};

@@ -27,18 +27,7 @@ pub fn add_names(x: &Gx, out: &mut Vec<QuantId>) -> Result<(), OutOfMemory>
             add_names_of_arms(list, out)?;
             add_names(a, out)
         }
-        Gx::Neg(a)
-        | Gx::Single(a)
-        | Gx::Count(a)
-        | Gx::Sum(a)
-        | Gx::Avg(a)
-        | Gx::Min(a)
-        | Gx::Max(a)
-        | Gx::CountDistinct(a)
-        | Gx::SumDistinct(a)
-        | Gx::AvgDistinct(a)
-        | Gx::MinDistinct(a)
-        | Gx::MaxDistinct(a) => add_names(a, out),
+        Gx::Neg(a) | Gx::Fold(_, _, a) => add_names(a, out),
     }
 }
 
@@ -73,14 +62,7 @@ pub fn add_names_of_cond(c: &Gc, out: &mut Vec<QuantId>) -> Result<(), OutOfMemo
 {
     match c {
         Gc::True => Ok(()),
-        Gc::Eq(a, b)
-        | Gc::Ne(a, b)
-        | Gc::Lt(a, b)
-        | Gc::Le(a, b)
-        | Gc::Gt(a, b)
-        | Gc::Ge(a, b)
-        | Gc::Same(a, b)
-        | Gc::Like(a, b) => {
+        Gc::Compare(_, a, b) => {
             add_names(a, out)?;
             add_names(b, out)
         }

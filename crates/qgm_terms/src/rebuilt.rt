@@ -1,12 +1,11 @@
 // Expressions and conditions put together of the results of their parts. They fail where a part does.
 ghost use Rattle.std.specs.Prelude.{◌≡◌, ◌++◌, ◌∷◌, [], IfOk, IsOkAnd, OnOk};
-ghost use Rattle.qgm_terms.specs.Rebuilt.{with_operand, with_operands};
-ghost use Rattle.qgm_terms.specs.Shown.{choices, cond, term};
+ghost use Rattle.qgm_terms.specs.Shown.{aggregate, choices, cond, sign, taken, term};
 ghost use Rattle.qgm_terms.specs.Terms as t;
 
 use crate::chains::{anded, chained, ored};
 use crate::named::QuantId;
-use crate::tree::{Arm, Gc, Gx, Op};
+use crate::tree::{Aggregate, Arm, Gc, Gx, Op, Sign, Taken};
 use shared_types::OutOfMemory;
 use std::alloc::Global;
 
@@ -24,29 +23,37 @@ fn boxed_cond(alloc: Global, c: Result<Gc, OutOfMemory>) -> Result<Box<Gc>, OutO
     Ok(Box::new(alloc, c?)?)
 }
 
-// An expression of one operand, of another one.
-pub(crate) fn of_operand(
-    alloc: Global,
-    like: &Gx,
-    a: Result<Gx, OutOfMemory>,
-) -> Result<Gx, OutOfMemory>
-    ensures { IfOk result (λ y. IsOkAnd a (λ x. term y ≡ with_operand like.now (term x))) }
+// `- a`
+pub(crate) fn neg_of(alloc: Global, a: Result<Gx, OutOfMemory>) -> Result<Gx, OutOfMemory>
+    ensures { IfOk result (λ y. IsOkAnd a (λ x. term y ≡ t.minus_of (term x))) }
 {
-    Ok(with_operand(like, boxed(alloc, a)?))
+    Ok(Gx::Neg(boxed(alloc, a)?))
 }
 
-// A comparison of two operands, of two others.
-pub(crate) fn of_operands(
+// An aggregate of the values of `a`.
+pub(crate) fn fold_of(
     alloc: Global,
-    like: &Gc,
+    f: Aggregate,
+    each: Taken,
+    a: Result<Gx, OutOfMemory>,
+) -> Result<Gx, OutOfMemory>
+    ensures { IfOk result (λ y. IsOkAnd a (λ x. term y ≡ t.fold (aggregate f) (taken each) (term x))) }
+{
+    Ok(Gx::Fold(f, each, boxed(alloc, a)?))
+}
+
+// A comparison of two operands.
+pub(crate) fn compare_of(
+    alloc: Global,
+    s: Sign,
     a: Result<Gx, OutOfMemory>,
     b: Result<Gx, OutOfMemory>,
 ) -> Result<Gc, OutOfMemory>
-    ensures { IfOk result (λ p. IsOkAnd a (λ x. IsOkAnd b (λ y. cond p ≡ with_operands like.now (term x) (term y)))) }
+    ensures { IfOk result (λ p. IsOkAnd a (λ x. IsOkAnd b (λ y. cond p ≡ t.compare (sign s) (term x) (term y)))) }
 {
     let left = boxed(alloc, a);
     let right = boxed(alloc, b);
-    Ok(with_operands(like, left?, right?))
+    Ok(Gc::Compare(s, left?, right?))
 }
 
 // `a IS NULL`
@@ -145,58 +152,4 @@ pub(crate) fn push_arm(
         then: then?,
     })?;
     Ok(())
-}
-
-// An expression of one operand, of another one.
-#[inline(never)]
-fn with_operand(like: &Gx, a: Box<Gx>) -> Gx
-    ensures { term result ≡ with_operand like.now (term a.value) }
-{
-    match like {
-        Gx::Neg(_) => Gx::Neg(a),
-        Gx::Single(_) => Gx::Single(a),
-        Gx::Count(_) => Gx::Count(a),
-        Gx::Sum(_) => Gx::Sum(a),
-        Gx::Avg(_) => Gx::Avg(a),
-        Gx::Min(_) => Gx::Min(a),
-        Gx::Max(_) => Gx::Max(a),
-        Gx::CountDistinct(_) => Gx::CountDistinct(a),
-        Gx::SumDistinct(_) => Gx::SumDistinct(a),
-        Gx::AvgDistinct(_) => Gx::AvgDistinct(a),
-        Gx::MinDistinct(_) => Gx::MinDistinct(a),
-        Gx::MaxDistinct(_) => Gx::MaxDistinct(a),
-        Gx::Int(_)
-        | Gx::Text(_)
-        | Gx::NullInt
-        | Gx::NullText
-        | Gx::Col(_, _)
-        | Gx::Scalar(_)
-        | Gx::Chain(_, _)
-        | Gx::Case(_, _)
-        | Gx::CountAll => Gx::Neg(a),
-    }
-}
-
-// A comparison of two operands, of two others.
-#[inline(never)]
-fn with_operands(like: &Gc, a: Box<Gx>, b: Box<Gx>) -> Gc
-    ensures { cond result ≡ with_operands like.now (term a.value) (term b.value) }
-{
-    match like {
-        Gc::Eq(_, _) => Gc::Eq(a, b),
-        Gc::Ne(_, _) => Gc::Ne(a, b),
-        Gc::Lt(_, _) => Gc::Lt(a, b),
-        Gc::Le(_, _) => Gc::Le(a, b),
-        Gc::Gt(_, _) => Gc::Gt(a, b),
-        Gc::Ge(_, _) => Gc::Ge(a, b),
-        Gc::Same(_, _) => Gc::Same(a, b),
-        Gc::Like(_, _) => Gc::Like(a, b),
-        Gc::True
-        | Gc::IsNull(_)
-        | Gc::All(_, _)
-        | Gc::Any(_, _)
-        | Gc::Not(_)
-        | Gc::Some(_, _)
-        | Gc::Every(_, _) => Gc::Eq(a, b),
-    }
 }

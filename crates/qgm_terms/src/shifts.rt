@@ -29,17 +29,7 @@ pub fn shift(x: &mut Gx, q: QuantId, k: usize)
             shift(a, q, k);
         }
         Gx::Neg(a) => shift(a, q, k),
-        Gx::Single(a) => shift(a, q, k),
-        Gx::Count(a) => shift(a, q, k),
-        Gx::Sum(a) => shift(a, q, k),
-        Gx::Avg(a) => shift(a, q, k),
-        Gx::Min(a) => shift(a, q, k),
-        Gx::Max(a) => shift(a, q, k),
-        Gx::CountDistinct(a) => shift(a, q, k),
-        Gx::SumDistinct(a) => shift(a, q, k),
-        Gx::AvgDistinct(a) => shift(a, q, k),
-        Gx::MinDistinct(a) => shift(a, q, k),
-        Gx::MaxDistinct(a) => shift(a, q, k),
+        Gx::Fold(_, _, a) => shift(a, q, k),
     }
 }
 
@@ -74,35 +64,7 @@ pub fn shift_cond(c: &mut Gc, q: QuantId, k: usize)
 {
     match c {
         Gc::True => {}
-        Gc::Eq(a, b) => {
-            shift(a, q, k);
-            shift(b, q, k);
-        }
-        Gc::Ne(a, b) => {
-            shift(a, q, k);
-            shift(b, q, k);
-        }
-        Gc::Lt(a, b) => {
-            shift(a, q, k);
-            shift(b, q, k);
-        }
-        Gc::Le(a, b) => {
-            shift(a, q, k);
-            shift(b, q, k);
-        }
-        Gc::Gt(a, b) => {
-            shift(a, q, k);
-            shift(b, q, k);
-        }
-        Gc::Ge(a, b) => {
-            shift(a, q, k);
-            shift(b, q, k);
-        }
-        Gc::Same(a, b) => {
-            shift(a, q, k);
-            shift(b, q, k);
-        }
-        Gc::Like(a, b) => {
+        Gc::Compare(_, a, b) => {
             shift(a, q, k);
             shift(b, q, k);
         }

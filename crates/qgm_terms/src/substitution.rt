@@ -8,8 +8,8 @@ use crate::copies::{copy, copy_cond, text};
 use crate::named::QuantId;
 use crate::parts::{Conds, Head};
 use crate::rebuilt::{
-    anded_of, case_of, chained_of, every_of, is_null_of, not_of, of_operand, of_operands, ored_of,
-    push_arm, some_of,
+    anded_of, case_of, chained_of, compare_of, every_of, fold_of, is_null_of, neg_of, not_of,
+    ored_of, push_arm, some_of,
 };
 use crate::tree::{Arm, Gc, Gx, Link};
 use shared_types::OutOfMemory;
@@ -66,18 +66,8 @@ pub fn substitute(
             let arms = substitute_arms(alloc, list, q, cells, room - 1);
             case_of(alloc, arms, substitute(alloc, a, q, cells, room - 1))
         }
-        Gx::Neg(a)
-        | Gx::Single(a)
-        | Gx::Count(a)
-        | Gx::Sum(a)
-        | Gx::Avg(a)
-        | Gx::Min(a)
-        | Gx::Max(a)
-        | Gx::CountDistinct(a)
-        | Gx::SumDistinct(a)
-        | Gx::AvgDistinct(a)
-        | Gx::MinDistinct(a)
-        | Gx::MaxDistinct(a) => of_operand(alloc, x, substitute(alloc, a, q, cells, room - 1)),
+        Gx::Neg(a) => neg_of(alloc, substitute(alloc, a, q, cells, room - 1)),
+        Gx::Fold(f, each, a) => fold_of(alloc, *f, *each, substitute(alloc, a, q, cells, room - 1)),
     }
 }
 
@@ -139,17 +129,10 @@ pub fn substitute_cond(
     }
     match c {
         Gc::True => Ok(Gc::True),
-        Gc::Eq(a, b)
-        | Gc::Ne(a, b)
-        | Gc::Lt(a, b)
-        | Gc::Le(a, b)
-        | Gc::Gt(a, b)
-        | Gc::Ge(a, b)
-        | Gc::Same(a, b)
-        | Gc::Like(a, b) => {
+        Gc::Compare(s, a, b) => {
             let left = substitute(alloc, a, q, cells, room - 1);
             let right = substitute(alloc, b, q, cells, room - 1);
-            of_operands(alloc, c, left, right)
+            compare_of(alloc, *s, left, right)
         }
         Gc::IsNull(a) => is_null_of(alloc, substitute(alloc, a, q, cells, room - 1)),
         Gc::All(a, list) => substitute_all(alloc, a, list, q, cells, room - 1),

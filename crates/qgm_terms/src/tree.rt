@@ -20,6 +20,37 @@ pub enum Op {
     Cat,
 }
 
+/// An aggregate of the cells of a group; `Single` is the cell of at most one row.
+#[derive(Clone, Copy, PartialEq, Eq)]
+pub enum Aggregate {
+    Single,
+    Count,
+    Sum,
+    Avg,
+    Min,
+    Max,
+}
+
+/// Whether an aggregate takes equal cells once.
+#[derive(Clone, Copy, PartialEq, Eq)]
+pub enum Taken {
+    All,
+    Once,
+}
+
+/// A comparison; `Same` is null-safe equality.
+#[derive(Clone, Copy, PartialEq, Eq)]
+pub enum Sign {
+    Eq,
+    Ne,
+    Lt,
+    Le,
+    Gt,
+    Ge,
+    Same,
+    Like,
+}
+
 /// An expression: what a cell is made of. Contracts see it as the `Term` that it holds.
 #[cycle(gx)]
 pub enum Gx {
@@ -37,18 +68,8 @@ pub enum Gx {
     /// The result of the first condition that is true, or the last value.
     Case(Vec<Arm>, Box<Gx>),
     CountAll,
-    /// The one value of a group of at most one row.
-    Single(Box<Gx>),
-    Count(Box<Gx>),
-    Sum(Box<Gx>),
-    Avg(Box<Gx>),
-    Min(Box<Gx>),
-    Max(Box<Gx>),
-    CountDistinct(Box<Gx>),
-    SumDistinct(Box<Gx>),
-    AvgDistinct(Box<Gx>),
-    MinDistinct(Box<Gx>),
-    MaxDistinct(Box<Gx>),
+    /// An aggregate of a group's cells.
+    Fold(Aggregate, Taken, Box<Gx>),
 }
 
 /// An operator and its right operand.
@@ -71,15 +92,7 @@ pub struct Arm {
 #[cycle(gx)]
 pub enum Gc {
     True,
-    Eq(Box<Gx>, Box<Gx>),
-    Ne(Box<Gx>, Box<Gx>),
-    Lt(Box<Gx>, Box<Gx>),
-    Le(Box<Gx>, Box<Gx>),
-    Gt(Box<Gx>, Box<Gx>),
-    Ge(Box<Gx>, Box<Gx>),
-    /// Null-safe equality.
-    Same(Box<Gx>, Box<Gx>),
-    Like(Box<Gx>, Box<Gx>),
+    Compare(Sign, Box<Gx>, Box<Gx>),
     IsNull(Box<Gx>),
     /// The AND of the first and the others, from the left.
     All(Box<Gc>, Vec<Gc>),
@@ -106,17 +119,7 @@ impl Drop for Gx {
             | Gx::Neg(_)
             | Gx::Case(_, _)
             | Gx::CountAll
-            | Gx::Single(_)
-            | Gx::Count(_)
-            | Gx::Sum(_)
-            | Gx::Avg(_)
-            | Gx::Min(_)
-            | Gx::Max(_)
-            | Gx::CountDistinct(_)
-            | Gx::SumDistinct(_)
-            | Gx::AvgDistinct(_)
-            | Gx::MinDistinct(_)
-            | Gx::MaxDistinct(_) => {}
+            | Gx::Fold(_, _, _) => {}
         }
     }
 }
@@ -126,14 +129,7 @@ impl Drop for Gc {
     fn drop(self) {
         match self {
             Gc::True
-            | Gc::Eq(_, _)
-            | Gc::Ne(_, _)
-            | Gc::Lt(_, _)
-            | Gc::Le(_, _)
-            | Gc::Gt(_, _)
-            | Gc::Ge(_, _)
-            | Gc::Same(_, _)
-            | Gc::Like(_, _)
+            | Gc::Compare(_, _, _)
             | Gc::IsNull(_)
             | Gc::All(_, _)
             | Gc::Any(_, _)

@@ -176,7 +176,7 @@ const LEFT: Rows = &[
 
 const RIGHT: Rows = &[(&[I(4)], Yes), (&[I(1)], Yes), (&[N], Yes), (&[I(2)], No)];
 
-// The same without a row at an error.
+// The rows of LEFT but for the one at an error.
 const SOUND: Rows = &[
     (&[I(1)], Yes),
     (&[N], Yes),

@@ -1,7 +1,7 @@
 -- No step preserves all, and so do two steps that each do.
 use Rattle.std.proofs.Common.{refl, ◌∙◌}
 use Rattle.qgm_core.specs.Boxes.{QueryGraph}
-use Rattle.qgm_formed.specs.Sentences.{WellFormed}
+use Rattle.qgm_wellformed.specs.Sentences.{WellFormed}
 use Rattle.rule_api.specs.Rules.{Preserves}
 
 pub preserves-itself : (g : QueryGraph) → WellFormed g → Preserves g g

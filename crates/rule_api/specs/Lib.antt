@@ -1,3 +1,4 @@
 pub mod Rules
 pub mod Picks
 pub mod PickLaws
+pub mod RuleIds

@@ -1,8 +1,8 @@
 -- The lists of places hold exactly those that pass, in order.
 use Rattle.std.proofs.Common.{ℕ, ◌+◌, ◌≡◌, ◌<◌, ◌≤◌, Bool, true, false, List, [], ◌∷◌, ◌++◌, ◌⊎◌, inl, inr, refl, sym, ◌∙◌, ap, arith}
 use Rattle.std.specs.Prelude.{◌↔◌}
-use Rattle.qgm_core.specs.Lists.{In}
-use Rattle.rule_api.specs.Picks.{Passes, PassesBoth, grid, picked, picks, row}
+use Rattle.list_laws.specs.Lists.{In}
+use Rattle.rule_api.specs.Picks.{Passes, PassesBoth, PassesTwo, cross, grid, picked, picks, row}
 use Rattle.rule_api.specs.Rules.{Ascending, Before, BeforeAll, Pair}
 
 same-pair : (p q : Pair) → p.0 ≡ q.0 → p.1 ≡ q.1 → q ≡ p
@@ -144,6 +144,33 @@ module _ {X : Type 0} where
       ascending-append (row (t y) first (first + 1) ys) (grid t (first + 1) ys) (row-ascending (t y) first (first + 1) ys) (grid_ascending t (first + 1) ys)
       (λ x z i k. (let a = (row-to (t y) first (first + 1) ys x i).0 in let b = both-from t (first + 1) ys z.0 z.1 (grid-to t (first + 1) ys z k) in inl (omega arith)))
 
+  -- ---- ordered pairs
+
+  module _ (t : X → X → Bool) (all : List X) where
+    cross-to : (first : ℕ) (xs : List X) (x : Pair) → In x (cross t all first xs) → PassesTwo t all first xs x.0 x.1
+    cross-to first [] x h = elim h [ ]
+    cross-to first (y ∷ ys) x h = elim (in-append x (row (t y) first 1 all) (cross t all (first + 1) ys) h) [ inl k ↦ inl (row-to (t y) first 1 all x k) | inr k ↦ inr (cross-to (first + 1) ys x k) ]
+
+    cross-from : (first : ℕ) (xs : List X) (x : Pair) → PassesTwo t all first xs x.0 x.1 → In x (cross t all first xs)
+    cross-from first [] x h = elim h [ ]
+    cross-from first (y ∷ ys) x h = elim h [
+      | inl k ↦ in-left x (row (t y) first 1 all) (cross t all (first + 1) ys) (row-from (t y) first 1 all x k.0 k.1)
+      | inr k ↦ in-right x (row (t y) first 1 all) (cross t all (first + 1) ys) (cross-from (first + 1) ys x k)
+    ]
+
+    pub cross_exact : (first : ℕ) (xs : List X) (i j : ℕ) → In (i, j) (cross t all first xs) ↔ PassesTwo t all first xs i j
+    cross_exact first xs i j = (cross-to first xs (i, j), cross-from first xs (i, j))
+
+    two-from : (first : ℕ) (xs : List X) (i j : ℕ) → PassesTwo t all first xs i j → first ≤ i
+    two-from first [] i j h = elim h [ ]
+    two-from first (y ∷ ys) i j h = elim h [ inl k ↦ (let e = k.0 in omega arith) | inr k ↦ (let r = two-from (first + 1) ys i j k in omega arith) ]
+
+    pub cross_ascending : (first : ℕ) (xs : List X) → Ascending (cross t all first xs)
+    cross_ascending first [] = tt
+    cross_ascending first (y ∷ ys) =
+        ascending-append (row (t y) first 1 all) (cross t all (first + 1) ys) (row-ascending (t y) first 1 all) (cross_ascending (first + 1) ys)
+        (λ x z i k. (let a = (row-to (t y) first 1 all x i).0 in let b = two-from (first + 1) ys z.0 z.1 (cross-to (first + 1) ys z k) in inl (omega arith)))
+
 -- ---- what holds of the lists
 
 pub record OnceIsExact : Type 0 where
@@ -158,3 +185,7 @@ pub record PicksAreExact : Type 0 where
 pub record GridIsExact : Type 0 where
   pub exact : (t : ℕ → ℕ → Bool) (first : ℕ) (xs : List ℕ) (i j : ℕ) → In (i, j) (grid t first xs) ↔ PassesBoth t first xs i j
   pub ascends : (t : ℕ → ℕ → Bool) (first : ℕ) (xs : List ℕ) → Ascending (grid t first xs)
+
+pub record CrossIsExact : Type 0 where
+  pub exact : (t : ℕ → ℕ → Bool) (all : List ℕ) (first : ℕ) (xs : List ℕ) (i j : ℕ) → In (i, j) (cross t all first xs) ↔ PassesTwo t all first xs i j
+  pub ascends : (t : ℕ → ℕ → Bool) (all : List ℕ) (first : ℕ) (xs : List ℕ) → Ascending (cross t all first xs)

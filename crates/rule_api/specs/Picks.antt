@@ -30,3 +30,13 @@ grid t first (x ∷ xs) = row (t x) first (first + 1) xs ++ grid t (first + 1) x
 abbrev pub PassesBoth : {X : Type 0} → (X → X → Bool) → ℕ → List X → ℕ → ℕ → Type 0
 PassesBoth t first [] i j = ⊥
 PassesBoth t first (x ∷ xs) i j = ((i ≡ first) × Passes (t x) (first + 1) xs j) ⊎ PassesBoth t (first + 1) xs i j
+
+-- each of these, numbered from first on, with each of all, numbered from 1 on, that pass together
+abbrev pub cross : {X : Type 0} → (X → X → Bool) → List X → ℕ → List X → List Pair
+cross t all first [] = []
+cross t all first (x ∷ xs) = row (t x) first 1 all ++ cross t all (first + 1) xs
+
+-- i and j are the numbers of such two, i among these and j among all
+abbrev pub PassesTwo : {X : Type 0} → (X → X → Bool) → List X → ℕ → List X → ℕ → ℕ → Type 0
+PassesTwo t all first [] i j = ⊥
+PassesTwo t all first (x ∷ xs) i j = ((i ≡ first) × Passes (t x) 1 all j) ⊎ PassesTwo t all (first + 1) xs i j

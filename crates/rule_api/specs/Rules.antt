@@ -4,7 +4,7 @@ use Rattle.row_bag.specs.Bags.{Agree}
 use Rattle.row_bag.specs.Sets.{same_cells}
 use Rattle.row_bag.specs.declared.tables.Table.{Table}
 use Rattle.qgm_core.specs.Boxes.{QueryGraph}
-use Rattle.qgm_formed.specs.Sentences.{WellFormed}
+use Rattle.qgm_wellformed.specs.Sentences.{WellFormed}
 use Rattle.qgm_meaning.specs.Meaning.{root_bag}
 use Rattle.qgm_meaning.specs.Satisfies.{Satisfies}
 use Rattle.rule_api.specs.declared.place.Place.{Place}

@@ -1,13 +1,14 @@
 // What a rule is.
 ghost use Rattle.std.specs.Prelude.{ℕ, ◌≡◌, ◌↔◌, IfOk, List, OnErr, OnOk, map};
-ghost use Rattle.qgm_core.specs.Boxes.{HasBox, QueryGraph};
-ghost use Rattle.qgm_core.specs.Lists.{In};
-ghost use Rattle.qgm_formed.specs.Sentences.{WellFormed};
+ghost use Rattle.qgm_core.specs.Boxes.{HasBox, QueryGraph, numbers};
+ghost use Rattle.list_laws.specs.Lists.{EachOnce, In};
+ghost use Rattle.qgm_wellformed.specs.Sentences.{WellFormed};
 ghost use Rattle.rule_api.specs.Rules.{Ascending, Pair, Preserves, place_at};
 ghost use Rattle.rule_api.specs.declared.place.Place.{Place};
-ghost use Rattle.rule_api.specs.declared.place.RuleId.{RuleId};
+ghost use Rattle.rule_api.specs.declared.rule_id.RuleId.{RuleId};
 
-use crate::place::{Place, RuleId};
+use crate::place::Place;
+use crate::rule_id::RuleId;
 use qgm_core::{BoxId, Graph};
 use shared_types::OutOfMemory;
 use std::alloc::Global;
@@ -48,6 +49,7 @@ pub trait Rule {
         ensures preserves { OnOk result (Preserves graph.old graph.new) }
         ensures err { OnErr result (graph.new ≡ graph.old) };
 
-    /// Its places are exactly those where its condition holds.
-    ghost exact: { (s : Self) (g : QueryGraph) (b i j : ℕ) → WellFormed g → In (i, j) (pairs s g b) ↔ may s (record { at = b; i = i; j = j }) g };
+    /// In a graph that has each number once, as every graph has, its places are exactly those where its
+    /// condition holds.
+    ghost exact: { (s : Self) (g : QueryGraph) (b i j : ℕ) → EachOnce (numbers g.boxes) → WellFormed g → In (i, j) (pairs s g b) ↔ may s (record { at = b; i = i; j = j }) g };
 }

@@ -1,7 +1,7 @@
 -- Chains of firings.
 use Rattle.std.proofs.Common.{◌≡◌, ℕ, ◌+◌, List, [], ◌∷◌, ◌++◌, length, refl, sym, arith, subst}
 use Rattle.qgm_core.specs.Boxes.{QueryGraph}
-use Rattle.rewrite_plan.specs.declared.plan.Plan.{Plan}
+use Rattle.rule_plan.specs.declared.plan.Plan.{Plan}
 use Rattle.rule_api.specs.declared.place.Firing.{Firing}
 use Rattle.rule_engine.specs.Control.{Pairs}
 use Rattle.rule_engine.specs.Trace.{Act, Fires, Leads, May}

@@ -1,35 +1,22 @@
 -- The candidates are the places of enabled rules at the boxes of the walk; what is next is one of them, unless there is none.
-use Rattle.std.proofs.Common.{ℕ, zero, suc, ◌≡◌, ◌<◌, ◌%◌, Bool, true, false, cond, List, [], ◌∷◌, ◌++◌, length, map, refl, sym, ◌∙◌, ap, arith, Option, Some, None, ◌⊎◌, inl, inr, subst}
+use Rattle.std.proofs.Common.{ℕ, zero, suc, ◌≡◌, ◌<◌, ◌%◌, Bool, true, false, cond, List, [], ◌∷◌, length, map, refl, sym, ◌∙◌, ap, arith, Option, Some, None, ◌⊎◌, inl, inr, subst}
 use Rattle.std.proofs.Math.Nat.{mod-lt}
 use Rattle.std.specs.List.{flat_map}
 use Rattle.std.specs.Prelude.{slice_get, ◌↔◌}
 use Rattle.qgm_core.specs.Boxes.{QueryGraph}
-use Rattle.qgm_core.specs.Lists.{In, first}
+use Rattle.list_laws.specs.Lists.{In, first}
 use Rattle.qgm_core.specs.Walk.{walk}
-use Rattle.rewrite_plan.specs.declared.plan.Order.TheVariants.{Sequence, Priority, Scatter}
-use Rattle.rewrite_plan.specs.declared.plan.Plan.{Plan}
+use Rattle.rule_plan.specs.declared.plan.Order.TheVariants.{Sequence, Priority, Scatter}
+use Rattle.rule_plan.specs.declared.plan.Plan.{Plan}
 use Rattle.rule_api.specs.Rules.{place_at}
 use Rattle.rule_api.specs.declared.place.Firing.{Firing}
-use Rattle.rule_api.specs.declared.place.RuleId.{RuleId}
+use Rattle.rule_api.specs.declared.rule_id.RuleId.{RuleId}
 use Rattle.rule_engine.specs.Control.{Pairs, at_box, candidates, draw, earliest, enabled, firing, is_least, next}
 use Rattle.rule_engine.specs.Laws.{IsCandidate}
 use Rattle.rule_engine.proofs.Earliest.{earliest-some}
+use Rattle.list_laws.proofs.Membership.{in-append, in-left, in-right}
 
 -- ---- lists
-
-pub in-append : {X : Type 0} (x : X) (a b : List X) → In x (a ++ b) → In x a ⊎ In x b
-in-append x [] b h = inr h
-in-append x (y ∷ a) b (inl e) = inl (inl e)
-in-append x (y ∷ a) b (inr h) = elim (in-append x a b h) [ inl i ↦ inl (inr i) | inr i ↦ inr i ]
-
-pub in-left : {X : Type 0} (x : X) (a b : List X) → In x a → In x (a ++ b)
-in-left x [] b h = elim h [ ]
-in-left x (y ∷ a) b (inl e) = inl e
-in-left x (y ∷ a) b (inr h) = inr (in-left x a b h)
-
-pub in-right : {X : Type 0} (x : X) (a b : List X) → In x b → In x (a ++ b)
-in-right x [] b h = h
-in-right x (y ∷ a) b h = inr (in-right x a b h)
 
 -- what stands in a list of lists stands in one of them
 pub in-flat_map : {X Y : Type 0} (f : X → List Y) (xs : List X) (y : Y) → In y (flat_map f xs) → (x : X) × (In x xs × In y (f x))

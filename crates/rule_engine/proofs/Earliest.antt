@@ -2,9 +2,10 @@
 use Rattle.std.proofs.Common.{ℕ, ◌≡◌, ◌<◌, ◌≤◌, ◌&&◌, Bool, true, false, cond, List, [], ◌∷◌, refl, sym, ◌∙◌, ap, arith, Option, Some, None, nat_lt, nat_le}
 use Rattle.std.proofs.Math.Bool.{and-false}
 use Rattle.std.proofs.lemmas.Bool.{le-leb, leb-false, leb-true, lt-leb, ltb-false, ltb-true}
-use Rattle.qgm_core.specs.Lists.{first}
+use Rattle.list_laws.specs.Lists.{first}
 use Rattle.rule_api.specs.declared.place.Firing.{Firing}
-use Rattle.rule_engine.specs.Control.{earliest, is_least, rank_of}
+use Rattle.rule_engine.specs.Control.{earliest, is_least}
+use Rattle.rule_api.specs.RuleIds.{rank_of}
 
 -- ---- the pass
 

@@ -2,19 +2,19 @@
 use Rattle.std.proofs.Common.{◌≡◌, ◌||◌, true, false, cond, List, [], ◌∷◌, ◌++◌, refl, sym, ◌∙◌, ap, Some, ◌⊎◌, inl, inr, subst, eqb-true}
 use Rattle.std.specs.List.{flat_map, list_any}
 use Rattle.std.specs.Prelude.{◌↔◌, slice_get}
-use Rattle.qgm_core.specs.Lists.{In}
-use Rattle.rewrite_plan.specs.declared.classes.Class.{Class}
-use Rattle.rule_api.specs.declared.place.RuleId.{RuleId}
-use Rattle.rule_api.specs.declared.place.RuleId.TheVariants.{M1, M2, U1, U2, U3, U4, L1, L2, L3, P1, P2, P3, P4, J1, J2, N1, N2, G1, G2, G3, G4, G5}
-use Rattle.rule_engine.specs.Control.{all_new, enabled, is_rule, rank_of, rules_of, with_new}
-use Rattle.rule_engine.proofs.Chosen.{in-append, in-flat_map, in-left, in-right, to-flat_map}
+use Rattle.list_laws.specs.Lists.{In}
+use Rattle.rule_plan.specs.declared.classes.Class.{Class}
+use Rattle.rule_api.specs.declared.rule_id.RuleId.{RuleId}
+use Rattle.rule_api.specs.declared.rule_id.RuleId.TheVariants.{M1, M2, U1, U2, U3, U4, L1, L2, L3, P1, P2, P3, P4, J1, J2, N1, N2, G1, G2, G3, G4, G5}
+use Rattle.rule_engine.specs.Control.{all_new, enabled, with_new}
+use Rattle.rule_api.specs.RuleIds.{all_rules, is_rule, rank_of}
+use Rattle.rule_engine.specs.Control.{rules_of}
+use Rattle.rule_engine.proofs.Chosen.{in-flat_map, to-flat_map}
+use Rattle.list_laws.proofs.Membership.{in-append, in-left, in-right}
 
 -- ---- no two rules have one rank
 
-abbrev every : List RuleId
-every = M1 ∷ M2 ∷ U1 ∷ U2 ∷ U3 ∷ U4 ∷ L1 ∷ L2 ∷ L3 ∷ P1 ∷ P2 ∷ P3 ∷ P4 ∷ J1 ∷ J2 ∷ N1 ∷ N2 ∷ G1 ∷ G2 ∷ G3 ∷ G4 ∷ G5 ∷ []
-
-at-rank : (r : RuleId) → slice_get every (rank_of r) ≡ Some r
+at-rank : (r : RuleId) → slice_get all_rules (rank_of r) ≡ Some r
 at-rank M1 = refl
 at-rank M2 = refl
 at-rank U1 = refl
@@ -40,7 +40,7 @@ at-rank G5 = refl
 
 same-rule : (r s : RuleId) → is_rule r s ≡ true → s ≡ r
 same-rule r s e =
-    let k : Some s ≡ Some r = sym (at-rank s) ∙ ap (slice_get every) (eqb-true (rank_of s) (rank_of r) e) ∙ at-rank r in
+    let k : Some s ≡ Some r = sym (at-rank s) ∙ ap (slice_get all_rules) (eqb-true (rank_of s) (rank_of r) e) ∙ at-rank r in
     let q : s ≡ r = cc in q
 
 any-in : (r : RuleId) (out : List RuleId) → list_any (is_rule r) out ≡ true → In r out

@@ -4,12 +4,13 @@ use Rattle.std.proofs.lemmas.Bool.{leb-true, ltb-true}
 use Rattle.std.specs.List.{flat_map, list_all}
 use Rattle.std.specs.Prelude.{slice_get, slice_index_or}
 use Rattle.qgm_core.specs.Boxes.{QueryGraph}
-use Rattle.qgm_core.specs.Lists.{In}
+use Rattle.list_laws.specs.Lists.{In}
 use Rattle.qgm_core.specs.Walk.{walk}
-use Rattle.rewrite_plan.specs.declared.plan.Plan.{Plan}
+use Rattle.rule_plan.specs.declared.plan.Plan.{Plan}
 use Rattle.rule_api.specs.declared.place.Firing.{Firing}
-use Rattle.rule_api.specs.declared.place.RuleId.{RuleId}
-use Rattle.rule_engine.specs.Control.{Pairs, at_box, candidates, earliest, enabled, is_foremost, rank_of, ranks_first}
+use Rattle.rule_api.specs.declared.rule_id.RuleId.{RuleId}
+use Rattle.rule_engine.specs.Control.{Pairs, at_box, candidates, earliest, enabled, is_foremost, ranks_first}
+use Rattle.rule_api.specs.RuleIds.{rank_of}
 use Rattle.rule_engine.proofs.Chosen.{at-to, in-flat_map}
 use Rattle.rule_engine.proofs.Earliest.{best, best-earliest, better}
 

@@ -1,26 +1,20 @@
 -- A well-formed graph has each box of a walk.
-use Rattle.std.proofs.Common.{ℕ, zero, suc, ◌≡◌, ◌<◌, arith, ◌==◌, ◌||◌, ◌++◌, Bool, true, false, cond, List, [], ◌∷◌, length, map, refl, Option, Some, None, ◌⊎◌, inl, inr, subst}
+use Rattle.std.proofs.Common.{ℕ, zero, suc, ◌≡◌, ◌<◌, arith, ◌==◌, ◌++◌, true, false, cond, List, [], ◌∷◌, length, map, refl, Option, Some, None, ◌⊎◌, inl, inr, subst}
 use Rattle.std.specs.Prelude.{slice_index_or}
+use Rattle.std.proofs.lemmas.Bool.{or_left, or_right}
 use Rattle.qgm_core.specs.Boxes.{HasBox, QueryGraph, has_box, is_box, overs_of, quants_in}
-use Rattle.qgm_core.specs.Lists.{In, each, first, holds}
+use Rattle.list_laws.specs.Lists.{In, each, first, holds}
 use Rattle.qgm_core.specs.Walk.{levels, news, under, visit, walk}
 use Rattle.qgm_core.specs.declared.node.Node.{Node}
 use Rattle.qgm_core.specs.declared.owned.OwnedQuant.{OwnedQuant}
-use Rattle.qgm_formed.specs.Sentences.{WellFormed}
-use Rattle.qgm_formed.specs.declared.clause.Clause.TheVariants.{I1}
-use Rattle.rewrite_plan.specs.declared.plan.Walk.{Walk}
-use Rattle.rewrite_plan.specs.declared.plan.Walk.TheVariants.{Depth, Breadth}
-use Rattle.rule_engine.proofs.Chosen.{in-append, in-flat_map}
+use Rattle.qgm_wellformed.specs.Sentences.{WellFormed}
+use Rattle.qgm_wellformed.specs.declared.clause.Clause.TheVariants.{I1}
+use Rattle.shared_types.specs.declared.walk.Walk.{Walk}
+use Rattle.shared_types.specs.declared.walk.Walk.TheVariants.{Depth, Breadth}
+use Rattle.rule_engine.proofs.Chosen.{in-flat_map}
+use Rattle.list_laws.proofs.Membership.{in-append}
 
 -- ---- depth first
-
-any-later : (b : Bool) (c : Bool) → c ≡ true → (b || c) ≡ true
-any-later true c e = refl
-any-later false c e = e
-
-any-first : (b : Bool) (c : Bool) → b ≡ true → (b || c) ≡ true
-any-first true c e = refl
-any-first false c e = absurd (let q : ⊥ = cc in q)
 
 each-held : (f : ℕ → List ℕ → List ℕ) (x : ℕ) (P : Type 0) → ((b : ℕ) (seen : List ℕ) → In x (f b seen) → In x seen ⊎ P) → (bs seen : List ℕ) → In x (each f bs seen) → In x seen ⊎ P
 each-held f x P h [] seen i = inl i
@@ -31,7 +25,7 @@ here : (x : ℕ) (n : Node) (ns : List Node) (b : ℕ) (seen : List ℕ) → (n.
 here x n ns b seen e i =
     elim (in-append x seen (b ∷ []) i) [
       | inl j ↦ inl j
-      | inr j ↦ elim j [ inl k ↦ inr (any-first (n.id == x) (has_box ns x) (subst (λ z. (n.id == z) ≡ true) k e)) | inr k ↦ elim k [ ] ]
+      | inr j ↦ elim j [ inl k ↦ inr (or_left (n.id == x) (has_box ns x) (subst (λ z. (n.id == z) ≡ true) k e)) | inr k ↦ elim k [ ] ]
     ]
 
 visit-held : (ns : List Node) (b : ℕ) (seen : List ℕ) (x : ℕ) → In x (visit ns b seen) → In x seen ⊎ (has_box ns x ≡ true)
@@ -42,10 +36,10 @@ visit-held (n ∷ ns) b seen x =
         | true ↦ λ i. inl i
         | false ↦ λ i. elim (each-held (visit ns) x (has_box ns x ≡ true) (λ b seen i. visit-held ns b seen x i) (overs_of n) (seen ++ b ∷ []) i) [
           | inl j ↦ here x n ns b seen e j
-          | inr h ↦ inr (any-later (n.id == x) (has_box ns x) h)
+          | inr h ↦ inr (or_right (n.id == x) (has_box ns x) h)
         ]
       ]
-      | false ↦ λ e i. elim (visit-held ns b seen x i) [ inl j ↦ inl j | inr h ↦ inr (any-later (n.id == x) (has_box ns x) h) ]
+      | false ↦ λ e i. elim (visit-held ns b seen x i) [ inl j ↦ inl j | inr h ↦ inr (or_right (n.id == x) (has_box ns x) h) ]
     ] refl
 
 -- ---- level by level

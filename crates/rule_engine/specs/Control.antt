@@ -1,58 +1,23 @@
 -- The candidates in order, and which of them is next.
-use Rattle.std.specs.Prelude.{ℕ, zero, suc, ◌+◌, ◌*◌, ◌/◌, ◌%◌, ◌==◌, ◌++◌, nat_le, if◌then◌else◌, Bool, false, List, [], ◌∷◌, map, length, Option, Some, None, slice_get}
+use Rattle.std.specs.Prelude.{ℕ, zero, suc, ◌+◌, ◌*◌, ◌/◌, ◌%◌, ◌==◌, ◌++◌, nat_le, if◌then◌else◌, Bool, false, List, [], ◌∷◌, map, length, Option, Some, None, slice_get, filter}
 use Rattle.std.specs.List.{flat_map, list_all, list_any}
 use Rattle.qgm_core.specs.Boxes.{QueryGraph}
-use Rattle.qgm_core.specs.Lists.{first}
+use Rattle.list_laws.specs.Lists.{first}
 use Rattle.qgm_core.specs.Walk.{walk}
-use Rattle.rewrite_plan.specs.declared.classes.Class.{Class}
-use Rattle.rewrite_plan.specs.declared.classes.Class.TheVariants.{Merge, Subquery, Distinct, Push, Trans, Prune, Magic}
-use Rattle.rewrite_plan.specs.declared.plan.Order.TheVariants.{Sequence, Priority, Scatter}
-use Rattle.rewrite_plan.specs.declared.plan.Plan.{Plan}
+use Rattle.rule_plan.specs.declared.classes.Class.{Class}
+use Rattle.rule_plan.specs.declared.plan.Order.TheVariants.{Sequence, Priority, Scatter}
+use Rattle.rule_plan.specs.declared.plan.Plan.{Plan}
 use Rattle.rule_api.specs.Rules.{Pair, place_at}
 use Rattle.rule_api.specs.declared.place.Firing.{Firing}
 use Rattle.rule_api.specs.declared.place.Place.{Place}
-use Rattle.rule_api.specs.declared.place.RuleId.{RuleId}
-use Rattle.rule_api.specs.declared.place.RuleId.TheVariants.{M1, M2, U1, U2, U3, U4, L1, L2, L3, P1, P2, P3, P4, J1, J2, N1, N2, G1, G2, G3, G4, G5}
+use Rattle.rule_api.specs.declared.rule_id.RuleId.{RuleId}
+use Rattle.rule_api.specs.RuleIds.{all_rules, is_of, is_rule, rank_of}
 
 -- ---- rules
 
 -- the rules of a class, in order
-abbrev pub rules_of : Class → List RuleId
-rules_of Merge = M1 ∷ M2 ∷ []
-rules_of Subquery = U1 ∷ U2 ∷ U3 ∷ U4 ∷ []
-rules_of Distinct = L1 ∷ L2 ∷ L3 ∷ []
-rules_of Push = P1 ∷ P2 ∷ P3 ∷ P4 ∷ []
-rules_of Trans = J1 ∷ J2 ∷ []
-rules_of Prune = N1 ∷ N2 ∷ []
-rules_of Magic = U2 ∷ G1 ∷ G2 ∷ G3 ∷ G4 ∷ G5 ∷ []
-
--- the place of a rule among all
-abbrev pub rank_of : RuleId → ℕ
-rank_of M1 = 0
-rank_of M2 = 1
-rank_of U1 = 2
-rank_of U2 = 3
-rank_of U3 = 4
-rank_of U4 = 5
-rank_of L1 = 6
-rank_of L2 = 7
-rank_of L3 = 8
-rank_of P1 = 9
-rank_of P2 = 10
-rank_of P3 = 11
-rank_of P4 = 12
-rank_of J1 = 13
-rank_of J2 = 14
-rank_of N1 = 15
-rank_of N2 = 16
-rank_of G1 = 17
-rank_of G2 = 18
-rank_of G3 = 19
-rank_of G4 = 20
-rank_of G5 = 21
-
-abbrev pub is_rule : RuleId → RuleId → Bool
-is_rule r s = rank_of s == rank_of r
+unfoldable pub rules_of : Class → List RuleId
+rules_of class = filter (is_of class) all_rules
 
 -- r at the end, if it isn't there
 abbrev pub with_new : List RuleId → RuleId → List RuleId

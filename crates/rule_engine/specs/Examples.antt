@@ -1,8 +1,8 @@
 -- The words of control, by example.
 use Rattle.std.specs.Prelude.{◌≡◌, [], ◌∷◌, Some}
-use Rattle.rewrite_plan.specs.declared.classes.Class.TheVariants.{Magic, Subquery}
+use Rattle.rule_plan.specs.declared.classes.Class.TheVariants.{Magic, Subquery}
 use Rattle.rule_api.specs.Rules.{place_at}
-use Rattle.rule_api.specs.declared.place.RuleId.TheVariants.{G1, G2, G3, G4, G5, M1, M2, U1, U2, U3, U4}
+use Rattle.rule_api.specs.declared.rule_id.RuleId.TheVariants.{G1, G2, G3, G4, G5, M1, M2, U1, U2, U3, U4}
 use Rattle.rule_engine.specs.Control.{draw, earliest, enabled, firing}
 
 -- the first two draws of the seed 7

@@ -1,15 +1,16 @@
 -- What holds of the candidates and of the choice among them.
 use Rattle.std.specs.Prelude.{ℕ, ◌≡◌, ◌↔◌, List, [], Some, None}
 use Rattle.qgm_core.specs.Boxes.{HasBox, QueryGraph}
-use Rattle.qgm_core.specs.Lists.{In}
+use Rattle.list_laws.specs.Lists.{In}
 use Rattle.qgm_core.specs.Walk.{walk}
-use Rattle.qgm_formed.specs.Sentences.{WellFormed}
-use Rattle.rewrite_plan.specs.declared.classes.Class.{Class}
-use Rattle.rewrite_plan.specs.declared.plan.Plan.{Plan}
-use Rattle.rewrite_plan.specs.declared.plan.Walk.{Walk}
+use Rattle.qgm_wellformed.specs.Sentences.{WellFormed}
+use Rattle.rule_plan.specs.declared.classes.Class.{Class}
+use Rattle.rule_plan.specs.declared.plan.Plan.{Plan}
+use Rattle.shared_types.specs.declared.walk.Walk.{Walk}
 use Rattle.rule_api.specs.declared.place.Firing.{Firing}
-use Rattle.rule_api.specs.declared.place.RuleId.{RuleId}
-use Rattle.rule_engine.specs.Control.{Pairs, candidates, enabled, next, rules_of}
+use Rattle.rule_api.specs.declared.rule_id.RuleId.{RuleId}
+use Rattle.rule_engine.specs.Control.{Pairs, candidates, enabled, next}
+use Rattle.rule_engine.specs.Control.{rules_of}
 
 -- a rule is enabled exactly where it is of an enabled class
 abbrev pub EnabledAreExact : Type 0

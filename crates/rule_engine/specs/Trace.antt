@@ -1,12 +1,12 @@
 -- What a step and a whole rewriting do.
 use Rattle.std.specs.Prelude.{ℕ, ◌≡◌, ◌+◌, ◌<◌, ◌≤◌, List, [], ◌∷◌, length, Option, Some, None}
 use Rattle.qgm_core.specs.Boxes.{QueryGraph}
-use Rattle.qgm_formed.specs.Sentences.{WellFormed}
-use Rattle.rewrite_plan.specs.declared.plan.Plan.{Plan}
+use Rattle.qgm_wellformed.specs.Sentences.{WellFormed}
+use Rattle.rule_plan.specs.declared.plan.Plan.{Plan}
 use Rattle.rule_api.specs.Rules.{Preserves}
 use Rattle.rule_api.specs.declared.place.Firing.{Firing}
 use Rattle.rule_api.specs.declared.place.Place.{Place}
-use Rattle.rule_api.specs.declared.place.RuleId.{RuleId}
+use Rattle.rule_api.specs.declared.rule_id.RuleId.{RuleId}
 use Rattle.rule_engine.specs.Control.{Pairs, candidates, next}
 
 -- the conditions of rules
@@ -30,9 +30,9 @@ Leads pairs may act plan k g [] h = g ≡ h
 Leads pairs may act plan k g (f ∷ fs) h = (m : QueryGraph) × (Fires pairs may act plan k g f m × Leads pairs may act plan (k + 1) m fs h)
 
 -- a step: a firing, or none where there is no candidate
-abbrev pub Steps : Pairs → May → Act → Plan → ℕ → QueryGraph → Option Firing → QueryGraph → Type 0
-Steps pairs may act plan k g None h = (h ≡ g) × (candidates pairs plan g ≡ [])
-Steps pairs may act plan k g (Some f) h = Fires pairs may act plan k g f h × Preserves g h
+abbrev pub Stepped : Pairs → May → Act → Plan → ℕ → QueryGraph → Option Firing → QueryGraph → Type 0
+Stepped pairs may act plan k g None h = (h ≡ g) × (candidates pairs plan g ≡ [])
+Stepped pairs may act plan k g (Some f) h = Fires pairs may act plan k g f h × Preserves g h
 
 -- a whole rewriting of g to h: the firings lead there; they are at most the budget; where they are fewer, there is no candidate left; and h preserves what g gives
 pub record Traces (pairs : Pairs) (may : May) (act : Act) (plan : Plan) (g : QueryGraph) (fs : List Firing) (h : QueryGraph) : Type 0 where

@@ -2,8 +2,7 @@
 ghost use Rattle.std.specs.Prelude.{ℕ, ◌≡◌, ◌<◌, None};
 ghost use Rattle.rule_engine.specs.Control as spec;
 
-use crate::control::rank;
-use rewrite_plan::{Order, Plan};
+use rule_plan::{Order, Plan};
 use rule_api::Firing;
 
 // The first of those whose rule ranks first.
@@ -13,7 +12,7 @@ pub fn earliest(list: &[Firing]) -> Option<Firing>
     let mut found: Option<Firing> = None;
     for f in list {
         found = Some(match found {
-            Some(e) if rank(e.rule) <= rank(f.rule) => e,
+            Some(e) if e.rule.rank() <= f.rule.rank() => e,
             _ => *f,
         });
     }

@@ -1,52 +1,24 @@
 // The candidates, in order.
-ghost use Rattle.std.specs.Prelude.{◌≡◌, ◌++◌, IfOk, OnOk, map};
+ghost use Rattle.std.specs.Prelude.{◌≡◌, ◌++◌, IfOk, OnOk, filter, map};
 ghost use Rattle.std.specs.List.{list_any};
 ghost use Rattle.qgm_core.specs.Boxes.{HasBox};
-ghost use Rattle.qgm_formed.specs.Sentences.{WellFormed};
+ghost use Rattle.qgm_wellformed.specs.Sentences.{WellFormed};
 ghost use Rattle.rule_api.specs.Rules.{place_at};
+ghost use Rattle.rule_api.specs.RuleIds.{is_of, is_rule};
+ghost use Rattle.rule_engine.specs.Control.{rules_of};
 ghost use Rattle.rule_engine.specs.Control as spec;
 
 use crate::rules::Rules;
 use qgm_core::{BoxId, Graph};
-use rewrite_plan::{Class, Plan};
+use rule_plan::{Class, Plan};
 use rule_api::{Firing, RuleId};
 use shared_types::OutOfMemory;
 use std::alloc::Global;
 
-/// The place of a rule among all.
-pub fn rank(rule: RuleId) -> u8
-    ensures { result ≡ spec.rank_of rule }
-{
-    match rule {
-        RuleId::M1 => 0,
-        RuleId::M2 => 1,
-        RuleId::U1 => 2,
-        RuleId::U2 => 3,
-        RuleId::U3 => 4,
-        RuleId::U4 => 5,
-        RuleId::L1 => 6,
-        RuleId::L2 => 7,
-        RuleId::L3 => 8,
-        RuleId::P1 => 9,
-        RuleId::P2 => 10,
-        RuleId::P3 => 11,
-        RuleId::P4 => 12,
-        RuleId::J1 => 13,
-        RuleId::J2 => 14,
-        RuleId::N1 => 15,
-        RuleId::N2 => 16,
-        RuleId::G1 => 17,
-        RuleId::G2 => 18,
-        RuleId::G3 => 19,
-        RuleId::G4 => 20,
-        RuleId::G5 => 21,
-    }
-}
-
 fn has_rule(out: &[RuleId], rule: RuleId) -> bool
-    ensures { result ≡ list_any (spec.is_rule rule) out.now }
+    ensures { result ≡ list_any (is_rule rule) out.now }
 {
-    out.iter().any(|r| rank(*r) == rank(rule))
+    out.iter().any(|r| r.rank() == rule.rank())
 }
 
 // Adds a rule at the end, if it isn't there.
@@ -59,38 +31,23 @@ fn add_new(out: &mut Vec<RuleId>, rule: RuleId) -> Result<(), OutOfMemory>
     Ok(())
 }
 
-// Adds those of these that aren't there.
-fn add_all(out: &mut Vec<RuleId>, rules: &[RuleId]) -> Result<(), OutOfMemory>
-    ensures { OnOk result (out.new.items ≡ spec.all_new out.old.items rules.now) }
+// Adds those of these that are of a class and aren't there.
+fn add_of(out: &mut Vec<RuleId>, rules: &[RuleId], class: Class) -> Result<(), OutOfMemory>
+    ensures { OnOk result (out.new.items ≡ spec.all_new out.old.items (filter (is_of class) rules.now)) }
 {
     for rule in rules {
-        add_new(out, *rule)?;
+        if rule.is_of(class) {
+            add_new(out, *rule)?;
+        }
     }
     Ok(())
 }
 
+#[tactic(auto, unfolding(crate::specs::Control::rules_of))]
 fn add_class(out: &mut Vec<RuleId>, class: Class) -> Result<(), OutOfMemory>
-    ensures { OnOk result (out.new.items ≡ spec.all_new out.old.items (spec.rules_of class)) }
+    ensures { OnOk result (out.new.items ≡ spec.all_new out.old.items (rules_of class)) }
 {
-    match class {
-        Class::Merge => add_all(out, &[RuleId::M1, RuleId::M2]),
-        Class::Subquery => add_all(out, &[RuleId::U1, RuleId::U2, RuleId::U3, RuleId::U4]),
-        Class::Distinct => add_all(out, &[RuleId::L1, RuleId::L2, RuleId::L3]),
-        Class::Push => add_all(out, &[RuleId::P1, RuleId::P2, RuleId::P3, RuleId::P4]),
-        Class::Trans => add_all(out, &[RuleId::J1, RuleId::J2]),
-        Class::Prune => add_all(out, &[RuleId::N1, RuleId::N2]),
-        Class::Magic => add_all(
-            out,
-            &[
-                RuleId::U2,
-                RuleId::G1,
-                RuleId::G2,
-                RuleId::G3,
-                RuleId::G4,
-                RuleId::G5,
-            ],
-        ),
-    }
+    add_of(out, &RuleId::all(), class)
 }
 
 // The rules of these classes.

@@ -10,7 +10,7 @@ mod steps;
 mod trace;
 
 pub use choice::{draw, next};
-pub use control::{candidates, rank};
+pub use control::candidates;
 pub use laws::{control_examples, control_laws};
 pub use rules::Rules;
 pub use steps::{rewrite, step};

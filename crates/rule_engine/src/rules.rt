@@ -1,11 +1,11 @@
 // Rules by their names.
 ghost use Rattle.std.specs.Prelude.{ℕ, ◌≡◌, ◌↔◌, IfOk, List, OnErr, OnOk, map};
-ghost use Rattle.qgm_core.specs.Boxes.{HasBox, QueryGraph};
-ghost use Rattle.qgm_core.specs.Lists.{In};
-ghost use Rattle.qgm_formed.specs.Sentences.{WellFormed};
+ghost use Rattle.qgm_core.specs.Boxes.{HasBox, QueryGraph, numbers};
+ghost use Rattle.list_laws.specs.Lists.{EachOnce, In};
+ghost use Rattle.qgm_wellformed.specs.Sentences.{WellFormed};
 ghost use Rattle.rule_api.specs.Rules.{Pair, Preserves, place_at};
 ghost use Rattle.rule_api.specs.declared.place.Place.{Place};
-ghost use Rattle.rule_api.specs.declared.place.RuleId.{RuleId};
+ghost use Rattle.rule_api.specs.declared.rule_id.RuleId.{RuleId};
 
 use qgm_core::{BoxId, Graph};
 use rule_api::{Place, RuleId};
@@ -51,6 +51,7 @@ pub trait Rules {
         ensures preserves { OnOk result (Preserves graph.old graph.new) }
         ensures err { OnErr result (graph.new ≡ graph.old) };
 
-    /// The places of a rule are exactly those where its condition holds.
-    ghost exact: { (s : Self) (r : RuleId) (g : QueryGraph) (b i j : ℕ) → WellFormed g → In (i, j) (pairs s r g b) ↔ may s r (record { at = b; i = i; j = j }) g };
+    /// In a graph that has each number once, as every graph has, the places of a rule are exactly those
+    /// where its condition holds.
+    ghost exact: { (s : Self) (r : RuleId) (g : QueryGraph) (b i j : ℕ) → EachOnce (numbers g.boxes) → WellFormed g → In (i, j) (pairs s r g b) ↔ may s r (record { at = b; i = i; j = j }) g };
 }

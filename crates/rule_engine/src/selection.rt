@@ -1,15 +1,15 @@
 // The candidate that fires, found without those behind it where the order lets it.
 ghost use Rattle.std.specs.Prelude.{◌≡◌, IfOk, map, slice_get};
 ghost use Rattle.qgm_core.specs.Boxes.{HasBox};
-ghost use Rattle.qgm_formed.specs.Sentences.{WellFormed};
+ghost use Rattle.qgm_wellformed.specs.Sentences.{WellFormed};
 ghost use Rattle.rule_api.specs.Rules.{place_at};
 ghost use Rattle.rule_engine.specs.Control as spec;
 
 use crate::choice::{earliest, next};
-use crate::control::{add_box, candidates, enabled_rules, rank};
+use crate::control::{add_box, candidates, enabled_rules};
 use crate::rules::Rules;
 use qgm_core::{BoxId, Graph};
-use rewrite_plan::{Order, Plan};
+use rule_plan::{Order, Plan};
 use rule_api::{Firing, RuleId};
 use shared_types::OutOfMemory;
 use std::alloc::Global;
@@ -83,7 +83,7 @@ fn first_candidate<T: Rules>(
 fn is_foremost(rules: &[RuleId], f: Firing) -> bool
     ensures { result ≡ spec.is_foremost rules.now f }
 {
-    rules.iter().all(|r| rank(f.rule) <= rank(*r))
+    rules.iter().all(|r| f.rule.rank() <= r.rank())
 }
 
 // Whether one is found, and no rule of these ranks before its own.

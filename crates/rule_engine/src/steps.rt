@@ -1,13 +1,13 @@
 // A step, and a whole rewriting.
 ghost use Rattle.std.specs.Prelude.{◌≡◌, IfOk, OnErr};
-ghost use Rattle.qgm_formed.specs.Sentences.{WellFormed};
-ghost use Rattle.rule_engine.specs.Trace.{Steps, Traces};
+ghost use Rattle.qgm_wellformed.specs.Sentences.{WellFormed};
+ghost use Rattle.rule_engine.specs.Trace.{Stepped, Traces};
 
 use crate::rules::Rules;
 use crate::selection::chosen;
 use crate::trace::Trace;
 use qgm_core::Graph;
-use rewrite_plan::Plan;
+use rule_plan::Plan;
 use rule_api::Firing;
 use shared_types::OutOfMemory;
 use std::alloc::Global;
@@ -22,9 +22,10 @@ pub fn step<T: Rules>(
     count: u64,
 ) -> Result<Option<Firing>, OutOfMemory>
     requires { WellFormed graph.old }
-    ensures ok { IfOk result (λ f. Steps (T.pairs table.now) (T.may table.now) (T.act table.now) plan.now count graph.old f graph.new) }
+    ensures ok { IfOk result (λ f. Stepped (T.pairs table.now) (T.may table.now) (T.act table.now) plan.now count graph.old f graph.new) }
     ensures err { OnErr result (graph.new ≡ graph.old) }
 {
+    graph.each_number_once();
     let Some(f) = chosen(alloc, table, graph, plan, count)? else {
         return Ok(None);
     };

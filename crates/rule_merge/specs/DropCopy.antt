@@ -1,33 +1,23 @@
--- M2, a box that gives what the box under it gives goes: its condition, its places and its action.
-use Rattle.std.proofs.Common.{ℕ, suc, zero, ◌==◌, ◌&&◌, ◌≡◌, not, true, false, List, [], ◌∷◌, length, map, Option, Some, None, refl, ap, ap₂, ◌∙◌, eqb-true, inl, inr}
-use Rattle.std.specs.Prelude.{◌↔◌}
+-- M2, a box that gives what the box under it gives goes: its condition, the test of it, its places and its action.
+use Rattle.std.proofs.Common.{ℕ, suc, ◌==◌, ◌&&◌, ◌≡◌, not, true, false, List, [], ◌∷◌, length, map, Option, Some, None}
 use Rattle.std.specs.List.{list_any}
-use Rattle.std.proofs.lemmas.Bool.{and_from, and_parts, cases_Bool, eq-eqb, not-true}
 use Rattle.qgm_core.specs.Boxes.{QueryGraph, box_of, is_box, width}
 use Rattle.qgm_core.specs.Edits.{compact, on_boxes}
 use Rattle.qgm_core.specs.Kinds.{is_F, is_fed, is_plain, is_preserve, is_select}
-use Rattle.qgm_core.specs.Lists.{In, first}
-use Rattle.qgm_core.specs.declared.kinds.BoxKind.{BoxKind}
-use Rattle.qgm_core.specs.declared.kinds.BoxKind.TheVariants.{Base, Select, Group, SetOp, OuterJoin}
-use Rattle.qgm_core.specs.declared.kinds.Distinct.{Distinct}
-use Rattle.qgm_core.specs.declared.kinds.Distinct.TheVariants.{Enforce, Preserve, Permit}
-use Rattle.qgm_core.specs.declared.kinds.QuantKind.{QuantKind}
-use Rattle.qgm_core.specs.declared.kinds.QuantKind.TheVariants.{F, E, A, S}
-use Rattle.qgm_core.specs.declared.kinds.Role.{Role}
-use Rattle.qgm_core.specs.declared.kinds.Role.TheVariants.{Plain, Magic, Fed}
+use Rattle.list_laws.specs.Lists.{In, first}
+use Rattle.qgm_core.specs.declared.kinds.BoxKind.TheVariants.{Select}
+use Rattle.qgm_core.specs.declared.kinds.Distinct.TheVariants.{Preserve}
+use Rattle.qgm_core.specs.declared.kinds.QuantKind.TheVariants.{F}
+use Rattle.qgm_core.specs.declared.kinds.Role.TheVariants.{Plain}
 use Rattle.qgm_core.specs.declared.node.Node.{Node}
 use Rattle.qgm_core.specs.declared.owned.OwnedQuant.{OwnedQuant}
 use Rattle.qgm_terms.specs.Terms as t
 use Rattle.qgm_terms.specs.Terms.{Cond, Term}
-use Rattle.qgm_formed.specs.Sentences.{WellFormed}
-use Rattle.qgm_laws.specs.Drop.{columns_from, moved}
-use Rattle.qgm_laws.proofs.Lists.{any-from, any-in, any-not, clash, eq-itself}
-use Rattle.rule_api.specs.PickLaws.{once_exact}
+use Rattle.qgm_edit_laws.specs.Ranges.{columns_from, moved}
 use Rattle.rule_api.specs.Picks.{picked}
-use Rattle.rule_api.specs.Rules.{Ascending, Pair}
-use Rattle.rule_api.specs.PickLaws.{once_ascending}
+use Rattle.rule_api.specs.Rules.{Pair}
 use Rattle.rule_api.specs.declared.place.Place.{Place}
-use Rattle.rule_merge.specs.Copies.{are_columns, copies, copies_by, copy_found, feeds, gives_all, is_col, is_copy, is_plain_copy, may_go, no_cond, ranges_over}
+use Rattle.std.specs.Prelude.{Bool}
 
 -- b is a plain PRESERVE select with one F quantifier and no other, and no conjunct; its head is all columns of c, the box under it, in order; no fed box owns a quantifier over b
 pub record IsCopy (g : QueryGraph) (b c : Node) (r : OwnedQuant) : Type 0 where
@@ -45,6 +35,74 @@ pub record IsCopy (g : QueryGraph) (b c : Node) (r : OwnedQuant) : Type 0 where
 unfoldable pub MayDropCopy : Place → QueryGraph → Type 0
 MayDropCopy p g = (p.i ≡ 0) × (p.j ≡ 0) × ((p.at == g.root) ≡ false) × ((b : Node) × ((c : Node) × ((r : OwnedQuant) × ((box_of p.at g ≡ Some b) × IsCopy g b c r))))
 
+-- ---- the test
+
+-- column k of q
+abbrev pub is_col : ℕ → ℕ → Term → Bool
+is_col q k (t.int n) = false
+is_col q k (t.text s) = false
+is_col q k t.null_int = false
+is_col q k t.null_text = false
+is_col q k (t.col p j) = (p == q) && (j == k)
+is_col q k (t.scalar p) = false
+is_col q k (t.both op a b) = false
+is_col q k (t.minus_of a) = false
+is_col q k (t.choose s a) = false
+is_col q k t.count_all = false
+is_col q k (t.fold f e a) = false
+
+-- the columns of q, from k on
+abbrev pub are_columns : ℕ → ℕ → List Term → Bool
+are_columns q k [] = true
+are_columns q k (x ∷ xs) = is_col q k x && are_columns q (suc k) xs
+
+-- all columns of q, which ranges over this box
+abbrev pub gives_all : Option Node → ℕ → List Term → Bool
+gives_all None q head = false
+gives_all (Some c) q head = (length head == width c) && are_columns q 1 head
+
+-- an F quantifier, of whose box the head is all columns
+abbrev pub copies_one : List Node → List Term → OwnedQuant → Bool
+copies_one boxes head r = is_F r.kind && gives_all (first (is_box r.over) boxes) r.id head
+
+-- one F quantifier, of whose box the head is all columns
+abbrev pub copies_by : List Node → List Term → List OwnedQuant → Bool
+copies_by boxes head [] = false
+copies_by boxes head (r ∷ []) = copies_one boxes head r
+copies_by boxes head (r ∷ (s ∷ rs)) = false
+
+abbrev pub no_cond : List Cond → Bool
+no_cond [] = true
+no_cond (c ∷ cs) = false
+
+-- these range over b
+abbrev pub ranges_over : ℕ → List OwnedQuant → Bool
+ranges_over b rs = list_any (λ r. r.over == b) rs
+
+-- a fed box owns a quantifier over b
+abbrev pub feeds : ℕ → Node → Bool
+feeds b d = is_fed d.parts.role && ranges_over b d.quants
+
+abbrev pub is_plain_copy : Node → Bool
+is_plain_copy n = is_select n.parts.kind && is_plain n.parts.role && is_preserve n.parts.distinct && no_cond n.parts.conds.items
+
+abbrev pub is_copy : QueryGraph → Node → Bool
+is_copy g n = is_plain_copy n && copies_by g.boxes n.parts.head n.quants && not (list_any (feeds n.id) g.boxes)
+
+abbrev pub copy_found : QueryGraph → Option Node → Bool
+copy_found g None = false
+copy_found g (Some n) = is_copy g n
+
+-- the box of this number is so
+abbrev pub copies : QueryGraph → ℕ → Bool
+copies g b = copy_found g (box_of b g)
+
+-- M2 has a place at b
+abbrev pub may_go : QueryGraph → ℕ → Bool
+may_go g b = not (b == g.root) && copies g b
+
+-- ---- places and action
+
 -- the places of M2 at b
 unfoldable pub drop_copy_pairs : QueryGraph → ℕ → List Pair
 drop_copy_pairs g b = picked (may_go g b) 0 0
@@ -57,166 +115,3 @@ pub record DropsBox (p : Place) (g h : QueryGraph) (b : Node) (r : OwnedQuant) :
 
 unfoldable pub DropsCopy : Place → QueryGraph → QueryGraph → Type 0
 DropsCopy p g h = (b : Node) × ((r : OwnedQuant) × DropsBox p g h b r)
-
--- ---- the test says so
-
-pub select-is : (k : BoxKind) → is_select k ≡ true → k ≡ Select
-select-is (Base table) h = absurd (let q : ⊥ = cc in q)
-select-is Select h = refl
-select-is (Group keys) h = absurd (let q : ⊥ = cc in q)
-select-is (SetOp operator types) h = absurd (let q : ⊥ = cc in q)
-select-is OuterJoin h = absurd (let q : ⊥ = cc in q)
-
-pub plain-is : (r : Role) → is_plain r ≡ true → r ≡ Plain
-plain-is Plain h = refl
-plain-is Magic h = absurd (let q : ⊥ = cc in q)
-plain-is Fed h = absurd (let q : ⊥ = cc in q)
-
-pub preserve-is : (d : Distinct) → is_preserve d ≡ true → d ≡ Preserve
-preserve-is Enforce h = absurd (let q : ⊥ = cc in q)
-preserve-is Preserve h = refl
-preserve-is Permit h = absurd (let q : ⊥ = cc in q)
-
-pub f-is : (k : QuantKind) → is_F k ≡ true → k ≡ F
-f-is F h = refl
-f-is E h = absurd (let q : ⊥ = cc in q)
-f-is A h = absurd (let q : ⊥ = cc in q)
-f-is S h = absurd (let q : ⊥ = cc in q)
-
-none-is : (cs : List Cond) → no_cond cs ≡ true → cs ≡ []
-none-is [] h = refl
-none-is (c ∷ cs) h = absurd (let q : ⊥ = cc in q)
-
-pub col-is : (q k : ℕ) (x : Term) → is_col q k x ≡ true → x ≡ t.col q k
-col-is q k (t.int n) h = absurd (let q : ⊥ = cc in q)
-col-is q k (t.text s) h = absurd (let q : ⊥ = cc in q)
-col-is q k t.null_int h = absurd (let q : ⊥ = cc in q)
-col-is q k t.null_text h = absurd (let q : ⊥ = cc in q)
-col-is q k (t.col p j) h = let a = and_parts (p == q) (j == k) h in ap₂ (λ u v. t.col u v) (eqb-true p q a.0) (eqb-true j k a.1)
-col-is q k (t.scalar p) h = absurd (let q : ⊥ = cc in q)
-col-is q k (t.both op a b) h = absurd (let q : ⊥ = cc in q)
-col-is q k (t.minus_of a) h = absurd (let q : ⊥ = cc in q)
-col-is q k (t.choose s a) h = absurd (let q : ⊥ = cc in q)
-col-is q k t.count_all h = absurd (let q : ⊥ = cc in q)
-col-is q k (t.fold f e a) h = absurd (let q : ⊥ = cc in q)
-
-pub is-col : (q k : ℕ) → is_col q k (t.col q k) ≡ true
-is-col q k = and_from (q == q) (k == k) (eq-itself q) (eq-itself k)
-
-columns-are : (q k : ℕ) (xs : List Term) → are_columns q k xs ≡ true → xs ≡ columns_from q k (length xs)
-columns-are q k [] h = refl
-columns-are q k (x ∷ xs) h = let a = and_parts (is_col q k x) (are_columns q (suc k) xs) h in ap₂ (λ u v. u ∷ v) (col-is q k x a.0) (columns-are q (suc k) xs a.1)
-
-are-columns : (q k w : ℕ) → are_columns q k (columns_from q k w) ≡ true
-are-columns q k zero = refl
-are-columns q k (suc w) = and_from (is_col q k (t.col q k)) (are_columns q (suc k) (columns_from q (suc k) w)) (is-col q k) (are-columns q (suc k) w)
-
-as-many : (q k w : ℕ) → length (columns_from q k w) ≡ w
-as-many q k zero = refl
-as-many q k (suc w) = ap suc (as-many q (suc k) w)
-
--- what is asked of the quantifiers and the head
-pub record Copying (boxes : List Node) (head : List Term) (quants : List OwnedQuant) (c : Node) (r : OwnedQuant) : Type 0 where
-  pub alone : quants ≡ r ∷ []
-  pub is_f : r.kind ≡ F
-  pub under : first (is_box r.over) boxes ≡ Some c
-  pub all_columns : head ≡ columns_from r.id 1 (width c)
-
-all-from : (found : Option Node) (q : ℕ) (head : List Term) → gives_all found q head ≡ true → (c : Node) × ((found ≡ Some c) × (head ≡ columns_from q 1 (width c)))
-all-from None q head h = absurd (let z : ⊥ = cc in z)
-all-from (Some c) q head h =
-    let a = and_parts (length head == width c) (are_columns q 1 head) h in
-    (c, (refl, columns-are q 1 head a.1 ∙ ap (columns_from q 1) (eqb-true (length head) (width c) a.0)))
-
-copying-from : (boxes : List Node) (head : List Term) (quants : List OwnedQuant) → copies_by boxes head quants ≡ true → (c : Node) × ((r : OwnedQuant) × Copying boxes head quants c r)
-copying-from boxes head [] h = absurd (let z : ⊥ = cc in z)
-copying-from boxes head (r ∷ []) h =
-    let a = and_parts (is_F r.kind) (gives_all (first (is_box r.over) boxes) r.id head) h in
-    let b = all-from (first (is_box r.over) boxes) r.id head a.1 in
-    (b.0, (r, record { alone = refl; is_f = f-is r.kind a.0; under = b.1.0; all_columns = b.1.1 }))
-copying-from boxes head (r ∷ (s ∷ rs)) h = absurd (let z : ⊥ = cc in z)
-
-copying-to : (boxes : List Node) (head : List Term) (quants : List OwnedQuant) (c : Node) (r : OwnedQuant) → Copying boxes head quants c r → copies_by boxes head quants ≡ true
-copying-to boxes head quants c r m =
-    ap (copies_by boxes head) m.alone
-    ∙ and_from (is_F r.kind) (gives_all (first (is_box r.over) boxes) r.id head) (ap is_F m.is_f)
-    (ap (λ z. gives_all z r.id head) m.under
-    ∙ and_from (length head == width c) (are_columns r.id 1 head) (eq-eqb (length head) (width c) (ap length m.all_columns ∙ as-many r.id 1 (width c))) (ap (are_columns r.id 1) m.all_columns ∙ are-columns r.id 1 (width c)))
-
-unfed-from : (b : ℕ) (boxes : List Node) → list_any (feeds b) boxes ≡ false → (d : Node) (s : OwnedQuant) → In d boxes → In s d.quants → s.over ≡ b → is_fed d.parts.role ≡ false
-unfed-from b boxes h d s i j e = elim (cases_Bool (is_fed d.parts.role)) [
-  | inr f ↦ f
-  | inl y ↦ absurd (clash (list_any (feeds b) boxes) (any-from (feeds b) d boxes i (and_from (is_fed d.parts.role) (ranges_over b d.quants) y (any-from (λ (r : OwnedQuant). r.over == b) s d.quants j (eq-eqb s.over b e)))) h)
-]
-
-unfed-to : (b : ℕ) (boxes : List Node) → ((d : Node) (s : OwnedQuant) → In d boxes → In s d.quants → s.over ≡ b → is_fed d.parts.role ≡ false) → list_any (feeds b) boxes ≡ false
-unfed-to b boxes h = any-not (feeds b) boxes (λ d i. elim (cases_Bool (feeds b d)) [
-  | inr f ↦ f
-  | inl y ↦ (
-      let a = and_parts (is_fed d.parts.role) (ranges_over b d.quants) y in
-      let r = any-in (λ (r : OwnedQuant). r.over == b) d.quants a.1 in
-      absurd (clash (is_fed d.parts.role) a.0 (h d r.0 i r.1.0 (eqb-true r.0.over b r.1.1))))
-])
-
-pub copy-from : (g : QueryGraph) (b : Node) → is_copy g b ≡ true → (c : Node) × ((r : OwnedQuant) × IsCopy g b c r)
-copy-from g b h =
-    let a1 = and_parts (is_plain_copy b && copies_by g.boxes b.parts.head b.quants) (not (list_any (feeds b.id) g.boxes)) h in
-    let a2 = and_parts (is_plain_copy b) (copies_by g.boxes b.parts.head b.quants) a1.0 in
-    let p1 = and_parts (is_select b.parts.kind && is_plain b.parts.role && is_preserve b.parts.distinct) (no_cond b.parts.conds.items) a2.0 in
-    let p2 = and_parts (is_select b.parts.kind && is_plain b.parts.role) (is_preserve b.parts.distinct) p1.0 in
-    let p3 = and_parts (is_select b.parts.kind) (is_plain b.parts.role) p2.0 in
-    let m = copying-from g.boxes b.parts.head b.quants a2.1 in (
-      m.0,
-      (
-        m.1.0,
-        record {
-          a_select = select-is b.parts.kind p3.0;
-          plain = plain-is b.parts.role p3.1;
-          preserves = preserve-is b.parts.distinct p2.1;
-          alone = m.1.1.alone;
-          is_f = m.1.1.is_f;
-          under = m.1.1.under;
-          no_conjunct = none-is b.parts.conds.items p1.1;
-          all_columns = m.1.1.all_columns;
-          unfed = unfed-from b.id g.boxes (not-true (list_any (feeds b.id) g.boxes) a1.1);
-        },
-      ),
-    )
-
-copy-to : (g : QueryGraph) (b c : Node) (r : OwnedQuant) → IsCopy g b c r → is_copy g b ≡ true
-copy-to g b c r m =
-    and_from (is_plain_copy b && copies_by g.boxes b.parts.head b.quants) (not (list_any (feeds b.id) g.boxes))
-    (and_from (is_plain_copy b) (copies_by g.boxes b.parts.head b.quants)
-    (and_from (is_select b.parts.kind && is_plain b.parts.role && is_preserve b.parts.distinct) (no_cond b.parts.conds.items)
-    (and_from (is_select b.parts.kind && is_plain b.parts.role) (is_preserve b.parts.distinct)
-    (and_from (is_select b.parts.kind) (is_plain b.parts.role) (ap is_select m.a_select) (ap is_plain m.plain)) (ap is_preserve m.preserves)) (ap no_cond m.no_conjunct))
-    (copying-to g.boxes b.parts.head b.quants c r (record { alone = m.alone; is_f = m.is_f; under = m.under; all_columns = m.all_columns })))
-    (ap not (unfed-to b.id g.boxes m.unfed))
-
-pub found-from : (g : QueryGraph) (found : Option Node) → copy_found g found ≡ true → (b : Node) × ((c : Node) × ((r : OwnedQuant) × ((found ≡ Some b) × IsCopy g b c r)))
-found-from g None h = absurd (let z : ⊥ = cc in z)
-found-from g (Some b) h = let m = copy-from g b h in (b, (m.0, (m.1.0, (refl, m.1.1))))
-
-may-from : (g : QueryGraph) (b : ℕ) → may_go g b ≡ true → ((b == g.root) ≡ false) × ((n : Node) × ((c : Node) × ((r : OwnedQuant) × ((box_of b g ≡ Some n) × IsCopy g n c r))))
-may-from g b h = let a = and_parts (not (b == g.root)) (copies g b) h in (not-true (b == g.root) a.0, found-from g (box_of b g) a.1)
-
-may-to : (g : QueryGraph) (b : ℕ) (n c : Node) (r : OwnedQuant) → (b == g.root) ≡ false → box_of b g ≡ Some n → IsCopy g n c r → may_go g b ≡ true
-may-to g b n c r f e m = and_from (not (b == g.root)) (copies g b) (ap not f) (ap (copy_found g) e ∙ copy-to g n c r m)
-
--- M2 has exactly the places where it may fire
-pub drop_copy_exact : (g : QueryGraph) (b i j : ℕ) → WellFormed g → In (i, j) (drop_copy_pairs g b) ↔ MayDropCopy (record { at = b; i = i; j = j }) g
-unfolding drop_copy_pairs MayDropCopy
-drop_copy_exact g b i j w = (
-  λ h. (let a = (once_exact (may_go g b) i j).0 h in let m = may-from g b a.1.1 in (a.1.0, a.0, m.0, m.1)),
-  λ h. (once_exact (may_go g b) i j).1 (h.1, (h.0, (let m = h.3 in may-to g b m.0 m.1.0 m.1.1.0 h.2 m.1.1.1.0 m.1.1.1.1))),
-)
-
--- in order
-pub drop_copy_ascending : (g : QueryGraph) (b : ℕ) → Ascending (drop_copy_pairs g b)
-unfolding drop_copy_pairs
-drop_copy_ascending g b = once_ascending (may_go g b)
-
--- a place of M2 passes the test
-pub drop_copy_given : (g : QueryGraph) (b i j : ℕ) → In (i, j) (drop_copy_pairs g b) → may_go g b ≡ true
-unfolding drop_copy_pairs
-drop_copy_given g b i j h = ((once_exact (may_go g b) i j).0 h).1.1

@@ -1,13 +1,17 @@
 // M2.
 ghost use Rattle.std.specs.Prelude.{◌≡◌, OnErr, OnOk, true};
-ghost use Rattle.qgm_formed.specs.Sentences.{WellFormed};
+ghost use Rattle.qgm_wellformed.specs.Sentences.{WellFormed};
 ghost use Rattle.rule_api.specs.Rules.{Preserves};
-ghost use Rattle.rule_api.specs.declared.place.RuleId.TheVariants.{M2};
-ghost use Rattle.rule_merge.specs.Copies as spec;
-ghost use Rattle.rule_merge.specs.DropCopy.{DropsCopy, MayDropCopy, drop_copy_exact, drop_copy_pairs};
+ghost use Rattle.rule_api.specs.declared.rule_id.RuleId.TheVariants.{M2};
+ghost use Rattle.rule_merge.specs.DropCopy as spec;
+ghost use Rattle.rule_merge.specs.DropCopy.{DropsCopy, MayDropCopy, drop_copy_pairs};
+ghost use Rattle.rule_merge.specs.DropCopyExact.{drop_copy_exact};
 
-use crate::copies::may_go;
-use crate::moves::moved;
+mod action;
+mod condition;
+
+use crate::drop_copy::condition::may_go;
+use crate::drop_copy::action::moved;
 use qgm_core::{BoxId, Graph};
 use rule_api::{Place, Rule, RuleId, add_if};
 use shared_types::OutOfMemory;

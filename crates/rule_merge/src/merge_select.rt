@@ -1,13 +1,19 @@
 // M1.
 ghost use Rattle.std.specs.Prelude.{◌≡◌, IfOk};
-ghost use Rattle.qgm_formed.specs.Sentences.{WellFormed};
-ghost use Rattle.rule_api.specs.declared.place.RuleId.TheVariants.{M1};
-ghost use Rattle.rule_merge.specs.MergeSelect.{MayMergeSelect, MergesSelect, PassesMerge, PlansAt, merge_select_exact, merge_select_pairs};
+ghost use Rattle.qgm_wellformed.specs.Sentences.{WellFormed};
+ghost use Rattle.rule_api.specs.declared.rule_id.RuleId.TheVariants.{M1};
+ghost use Rattle.rule_merge.specs.MergeSelect.{MayMergeSelect, MergesSelect, merge_select_pairs};
+ghost use Rattle.rule_merge.specs.MergeSelectExact.{PassesMerge, PlansAt, merge_select_exact};
 
-use crate::copies::box_at;
-use crate::known::tables_of;
-use crate::merging::{may_at, may_fit, may_have};
-use crate::splices::{MergePlan, merge, plan};
+mod action;
+mod condition;
+mod foreign;
+mod lookups;
+
+use rule_facts::box_at;
+use crate::merge_select::lookups::lookups_of;
+use crate::merge_select::condition::{may_at, may_fit, may_have};
+use crate::merge_select::action::{MergePlan, merge, plan};
 use qgm_core::{BoxId, Graph};
 use rule_api::{Place, Rule, RuleId, add_if};
 use shared_types::OutOfMemory;
@@ -52,7 +58,7 @@ impl Rule for MergeSelect {
         RuleId::M1
     }
 
-    #[tactic(auto, using(crate::proofs::Bases::none_found, crate::proofs::Bases::none_under), unfolding(crate::specs::MergeSelect::merge_select_pairs))]
+    #[tactic(auto, using(crate::proofs::MergeSelectBases::none_found, crate::proofs::MergeSelectBases::none_under), unfolding(crate::specs::MergeSelect::merge_select_pairs))]
     fn places(&self, alloc: Global, graph: &Graph, b: BoxId) -> Result<Vec<Place>, OutOfMemory> {
         let mut out = Vec::new(alloc);
         graph.each_number_once();
@@ -63,9 +69,9 @@ impl Rule for MergeSelect {
         if !may_have(node) || !may_fit(graph.nodes(), list) {
             return Ok(out);
         }
-        let tables = tables_of(alloc, graph, list)?;
+        let lookups = lookups_of(alloc, graph, list)?;
         for k in 0..list.len() {
-            let passes = may_at(alloc, &tables, node, k + 1, list[k])?;
+            let passes = may_at(alloc, &lookups, node, k + 1, list[k])?;
             add_if(&mut out, passes, b, k + 1, 0)?;
         }
         Ok(out)

@@ -19,15 +19,15 @@ use Rattle.sql_meaning.specs.ResolvedShown as shown
 use Rattle.sql_meaning.specs.ResolvedTrees.{Query}
 use Rattle.sql_meaning.specs.ResolvedViews.{ViewTree}
 use Rattle.sql_meaning.specs.ResolvedViews as views
-use Rattle.query_checks.specs.Columns.{columns}
-use Rattle.query_checks.specs.Faults.{query_fault}
-use Rattle.query_checks.specs.Laws.{AreTyped, NestsShallow, SameColumns, SameNames, SameTables, TypedTables, ValidIsEven, ValidIsTyped, ValidViews, column_names}
-use Rattle.query_checks.specs.Views.{heads_of, view_refusal}
-use Rattle.name_resolution.specs.Agreed as places
-use Rattle.name_resolution.specs.Even.{EvenQuery}
-use Rattle.name_resolution.specs.Resolved.{bare, query, without_rows}
-use Rattle.name_resolution.specs.Schema.{Sound, columns_at, schema_columns, view_trees}
-use Rattle.name_resolution.specs.Schema as schema
+use Rattle.sql_faults.specs.Columns.{columns}
+use Rattle.sql_faults.specs.Faults.{query_fault}
+use Rattle.sql_faults.specs.Laws.{AreTyped, NestsShallow, SameColumns, SameNames, SameTables, TypedTables, ValidIsEven, ValidIsTyped, ValidViews, column_names}
+use Rattle.sql_faults.specs.Views.{heads_of, view_refusal}
+use Rattle.sql_names.specs.Agreed as places
+use Rattle.sql_names.specs.Even.{EvenQuery}
+use Rattle.sql_names.specs.Resolved.{bare, query, without_rows}
+use Rattle.sql_names.specs.Schema.{Sound, columns_at, schema_columns, view_trees}
+use Rattle.sql_names.specs.Schema as schema
 use Rattle.sql_check.specs.Checked.{AreViews, IsFilled, answer_of, rows_of}
 use Rattle.sql_check.specs.declared.checked.Checked.{Checked}
 use Rattle.sql_check.specs.declared.checked.Views.{Views}

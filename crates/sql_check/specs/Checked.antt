@@ -12,10 +12,10 @@ use Rattle.sql_value.specs.declared.cell.Cell.{Cell}
 use Rattle.sql_meaning.specs.ResolvedMeaning as places
 use Rattle.sql_meaning.specs.ResolvedShown as shown
 use Rattle.sql_meaning.specs.ResolvedViews.{known_of}
-use Rattle.query_checks.specs.Views.{view_heads, view_refusal}
-use Rattle.name_resolution.specs.Agreed.{IsWide}
-use Rattle.name_resolution.specs.Schema.{schema_columns, view_trees}
-use Rattle.name_resolution.specs.Shapes.{columns_among}
+use Rattle.sql_faults.specs.Views.{view_heads, view_refusal}
+use Rattle.sql_names.specs.Agreed.{IsWide}
+use Rattle.sql_names.specs.Schema.{schema_columns, view_trees}
+use Rattle.sql_names.specs.Shapes.{columns_among}
 use Rattle.sql_check.specs.declared.checked.Checked.{Checked}
 use Rattle.sql_check.specs.declared.checked.Views.{Views}
 

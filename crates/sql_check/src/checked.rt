@@ -1,8 +1,8 @@
 // Valid queries and views, with their names resolved.
 ghost use Rattle.std.specs.Prelude.{◌≡◌};
 
-use name_resolution::ResolvedSchema;
-use query_checks::{Columns, ViewHeads};
+use sql_names::ResolvedSchema;
+use sql_faults::{Columns, ViewHeads};
 use sql_meaning::Query;
 use sql_value::{OrderKeys, OutNames};
 

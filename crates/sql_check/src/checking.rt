@@ -7,19 +7,19 @@ ghost use Rattle.sql_catalog.specs.Shown as declared;
 ghost use Rattle.sql_meaning.specs.Meaning.{answer, known_of, order_key, rows};
 ghost use Rattle.sql_meaning.specs.Names.{names};
 ghost use Rattle.sql_meaning.specs.ResolvedShown as shown;
-ghost use Rattle.query_checks.specs.Columns.{columns};
-ghost use Rattle.query_checks.specs.Laws.{AreTyped, column_names};
-ghost use Rattle.query_checks.specs.Shown.{least_fault};
-ghost use Rattle.query_checks.specs.Views.{heads_of, view_refusal};
-ghost use Rattle.query_checks.specs.declared.refusal.QueryRefusal.TheVariants as QueryRefusal;
-ghost use Rattle.query_checks.specs.declared.refusal.ViewRefusal.TheVariants as ViewRefusal;
-ghost use Rattle.name_resolution.specs.Resolved.{bare, query};
-ghost use Rattle.name_resolution.specs.Schema.{schema_columns};
+ghost use Rattle.sql_faults.specs.Columns.{columns};
+ghost use Rattle.sql_faults.specs.Laws.{AreTyped, column_names};
+ghost use Rattle.sql_faults.specs.Shown.{least_fault};
+ghost use Rattle.sql_faults.specs.Views.{heads_of, view_refusal};
+ghost use Rattle.sql_faults.specs.declared.refusal.QueryRefusal.TheVariants as QueryRefusal;
+ghost use Rattle.sql_faults.specs.declared.refusal.ViewRefusal.TheVariants as ViewRefusal;
+ghost use Rattle.sql_names.specs.Resolved.{bare, query};
+ghost use Rattle.sql_names.specs.Schema.{schema_columns};
 ghost use Rattle.sql_check.specs.Checked.{AreViews, IsFilled, answer_of, rows_of};
 
 use crate::checked::{Checked, Views};
-use name_resolution::{ResolvedText, place_laws, resolve_schema, resolve_text};
-use query_checks::{Columns, QueryRefusal, ViewRefusal, check_laws, check_query};
+use sql_names::{ResolvedText, place_laws, resolve_schema, resolve_text};
+use sql_faults::{Columns, QueryRefusal, ViewRefusal, check_laws, check_query};
 use shared_types::OutOfMemory;
 use sql_ast::QueryText;
 use sql_catalog::Catalog;
@@ -33,7 +33,7 @@ pub fn check_views(alloc: Global, catalog: &Catalog) -> Result<Views, ViewRefusa
     ensures valid { IfOk result (λ _. view_refusal (declared.catalog catalog.now) ≡ None) }
     ensures refused { IfErr result (λ e. (name : List ℕ) → (n : ℕ) → e ≡ ViewRefusal.Refused name n → view_refusal (declared.catalog catalog.now) ≡ Some (name, n)) }
 {
-    let heads = query_checks::check_views(alloc, catalog)?;
+    let heads = sql_faults::check_views(alloc, catalog)?;
     let schema = resolve_schema(alloc, catalog)?;
     Ok(Views { heads, schema })
 }

@@ -50,14 +50,7 @@ impl Gc {
                     add_any(out, first, list)
                 }
             }
-            Gc::Eq(a, b) => out.add(Gc::Eq(a, b)),
-            Gc::Ne(a, b) => out.add(Gc::Ne(a, b)),
-            Gc::Lt(a, b) => out.add(Gc::Lt(a, b)),
-            Gc::Le(a, b) => out.add(Gc::Le(a, b)),
-            Gc::Gt(a, b) => out.add(Gc::Gt(a, b)),
-            Gc::Ge(a, b) => out.add(Gc::Ge(a, b)),
-            Gc::Same(a, b) => out.add(Gc::Same(a, b)),
-            Gc::Like(a, b) => out.add(Gc::Like(a, b)),
+            Gc::Compare(s, a, b) => out.add(Gc::Compare(s, a, b)),
             Gc::IsNull(a) => out.add(Gc::IsNull(a)),
             Gc::Not(a) => out.add(Gc::Not(a)),
             Gc::Some(q, a) => out.add(Gc::Some(q, a)),

@@ -490,3 +490,7 @@ each-returns-in_err-rejected-clause-counted g t c = grind (arith, common_steps)
 
 pub groups-rows_under-rows-requires : goal.groups-rows_under-rows-requires
 groups-rows_under-rows-requires g t c = grind (arith, common_steps)
+
+pub selected-returns-then-all_kept-clause-took : goal.selected-returns-then-all_kept-clause-took
+selected-returns-then-all_kept-clause-took g t c = λ kept keeps.
+    IfOk-weaker c.kept_selected.result _ _ (λ bag h. (omega arith, omega arith)) c.kept_selected.ensures

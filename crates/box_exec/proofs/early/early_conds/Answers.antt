@@ -1,5 +1,5 @@
 use Rattle.std.proofs.Common.{◌≡◌, List, All, false, rules, subst, arith}
-use Rattle.qgm_core.specs.Lists.{In}
+use Rattle.list_laws.specs.Lists.{In}
 use Rattle.qgm_terms.specs.Terms.{Cond}
 use Rattle.qgm_terms.specs.Shown.{cond}
 use Rattle.box_exec.specs.Early.{IsEarly, names_any}

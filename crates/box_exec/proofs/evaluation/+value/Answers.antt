@@ -57,8 +57,8 @@ first_true-loop-arm-preserved t c = grind (arith, common_steps)
 pub first_true-returns-in-Yes : goal.first_true-returns-in-Yes
 first_true-returns-in-Yes t c = grind (arith, common_steps)
 
-pub hold-returns-in-Eq : goal.hold-returns-in-Eq
-hold-returns-in-Eq t c = grind (arith, common_steps)
+pub hold-returns-in-Compare : goal.hold-returns-in-Compare
+hold-returns-in-Compare t c = grind (arith, common_steps)
 
 pub first_true-returns-in-Cardinality : goal.first_true-returns-in-Cardinality
 first_true-returns-in-Cardinality t c = grind (arith, common_steps)

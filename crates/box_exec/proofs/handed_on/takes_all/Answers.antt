@@ -11,11 +11,11 @@ returns-in-Base-clause-unfiltered c = grind (arith, common_steps)
 pub returns-in-Base-2-clause-unfiltered : goal.returns-in-Base-2-clause-unfiltered
 returns-in-Base-2-clause-unfiltered c = grind (arith, common_steps)
 
-pub returns-else-not-is_enforced-clause-unfiltered : goal.returns-else-not-is_enforced-clause-unfiltered
-returns-else-not-is_enforced-clause-unfiltered c = grind (arith, common_steps)
+pub returns-else-not-is_enforce-clause-unfiltered : goal.returns-else-not-is_enforce-clause-unfiltered
+returns-else-not-is_enforce-clause-unfiltered c = grind (arith, common_steps)
 
 pub returns-in-Base-4-clause-unfiltered : goal.returns-in-Base-4-clause-unfiltered
 returns-in-Base-4-clause-unfiltered c = grind (arith, common_steps)
 
-pub returns-then-not-is_enforced-clause-unfiltered : goal.returns-then-not-is_enforced-clause-unfiltered
-returns-then-not-is_enforced-clause-unfiltered c = grind (arith, common_steps)
+pub returns-then-not-is_enforce-clause-unfiltered : goal.returns-then-not-is_enforce-clause-unfiltered
+returns-then-not-is_enforce-clause-unfiltered c = grind (arith, common_steps)

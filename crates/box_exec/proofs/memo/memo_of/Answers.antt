@@ -2,7 +2,7 @@ use Rattle.std.proofs.Common.{ℕ, Bool, cond, ◌&&◌, ◌≡◌, ◌<◌, ◌
 use Rattle.qgm_core.specs.declared.node.Node.{Node}
 use Rattle.box_exec.specs.Beyond.{LooksNowhere, beyond, beyond_of, beyonds}
 use Rattle.box_exec.specs.Ready.{Entry, Fit, Ready}
-use Rattle.qgm_core.specs.Lists.{holds}
+use Rattle.list_laws.specs.Lists.{holds}
 use Rattle.qgm_meaning.specs.Meaning.{bag_in}
 use Rattle.qgm_meaning.specs.Plain.{counted_by}
 use Rattle.box_exec.specs.Costs.{Between, Keeps, asked}

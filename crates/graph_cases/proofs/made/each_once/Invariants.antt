@@ -1,5 +1,5 @@
 use Rattle.std.proofs.Common.{drop}
-use Rattle.qgm_core.specs.Lists.{EachOnce}
+use Rattle.list_laws.specs.Lists.{EachOnce}
 use Rattle.graph_cases.proofs.made.each_once.Given as goal
 
 -- what is left decides

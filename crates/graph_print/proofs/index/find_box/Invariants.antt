@@ -1,6 +1,6 @@
 use Rattle.std.proofs.Common.{◌≡◌, drop}
 use Rattle.qgm_core.specs.Boxes.{is_box}
-use Rattle.qgm_core.specs.Lists.{first}
+use Rattle.list_laws.specs.Lists.{first}
 use Rattle.graph_print.proofs.index.find_box.Given as goal
 
 -- what is left decides

@@ -1,7 +1,7 @@
 use Rattle.std.proofs.Common.{◌≡◌, map, take}
 use Rattle.std.specs.List.{flat_map}
 use Rattle.qgm_core.specs.Boxes.{is_box, quants_in}
-use Rattle.qgm_core.specs.Lists.{first}
+use Rattle.list_laws.specs.Lists.{first}
 use Rattle.graph_print.proofs.index.quants_by.Given as goal
 
 abbrev pub invariant-loop-b : goal.invariant-loop-b

@@ -1,7 +1,7 @@
 use Rattle.std.proofs.Common.{◌≡◌, ◌++◌, take}
 use Rattle.std.specs.List.{flat_map}
 use Rattle.graph_print.specs.GraphText as spec
-use Rattle.qgm_formed.specs.Types.{lookup_by}
+use Rattle.qgm_wellformed.specs.Types.{lookup_by}
 use Rattle.qgm_terms.specs.Shown.{terms}
 use Rattle.graph_print.proofs.lines.put_cell_lines.Given as goal
 

@@ -36,20 +36,8 @@ pub put_conds-loop-c-preserved : goal.put_conds-loop-c-preserved
 put_conds-loop-c-preserved t c =
     step (next_text (place_in c.args.at.now)) shown.cond c.args.list.now c.loop-c.c-index c.c-item.result c.args.out.now c.loop-c.out c.put_next.new.out c.loop-c-test.true c.c-item.is c.loop-c.invariant c.in_ok-put_next.ensures
 
-pub put_term-returns-in-SumDistinct : goal.put_term-returns-in-SumDistinct
-put_term-returns-in-SumDistinct t c = rw c.in-SumDistinct.is (rw c.deref-in-SumDistinct.ensures at c.put_one-in-SumDistinct.ensures)
-
-pub put_term-returns-in-AvgDistinct : goal.put_term-returns-in-AvgDistinct
-put_term-returns-in-AvgDistinct t c = rw c.in-AvgDistinct.is (rw c.deref-in-AvgDistinct.ensures at c.put_one-in-AvgDistinct.ensures)
-
-pub put_term-returns-in-MaxDistinct : goal.put_term-returns-in-MaxDistinct
-put_term-returns-in-MaxDistinct t c = rw c.in-MaxDistinct.is (rw c.deref-in-MaxDistinct.ensures at c.put_one-in-MaxDistinct.ensures)
-
 pub put_cond-returns-in_ok-put_node-in-Some : goal.put_cond-returns-in_ok-put_node-in-Some
 put_cond-returns-in_ok-put_node-in-Some t c = grind (arith, common_steps)
-
-pub put_cond-returns-in_ok-put_first-in-Le : goal.put_cond-returns-in_ok-put_first-in-Le
-put_cond-returns-in_ok-put_first-in-Le t c = grind (arith, common_steps)
 
 pub put_term-returns-in-Neg : goal.put_term-returns-in-Neg
 put_term-returns-in-Neg t c = grind (arith, common_steps)
@@ -60,17 +48,8 @@ put_term-returns-in-Int t c = grind (arith, common_steps)
 pub put_arm-returns : goal.put_arm-returns
 put_arm-returns t c = grind (arith, common_steps)
 
-pub put_term-returns-in-Max : goal.put_term-returns-in-Max
-put_term-returns-in-Max t c = grind (arith, common_steps)
-
-pub put_cond-returns-in_ok-put_first-in-Lt : goal.put_cond-returns-in_ok-put_first-in-Lt
-put_cond-returns-in_ok-put_first-in-Lt t c = grind (arith, common_steps)
-
 pub put_term-returns-in-Col : goal.put_term-returns-in-Col
 put_term-returns-in-Col t c = grind (arith, common_steps)
-
-pub put_cond-returns-in_ok-put_first-in-Ge : goal.put_cond-returns-in_ok-put_first-in-Ge
-put_cond-returns-in_ok-put_first-in-Ge t c = grind (arith, common_steps)
 
 pub put_cond-returns-in-Not : goal.put_cond-returns-in-Not
 put_cond-returns-in-Not t c = grind (arith, common_steps)
@@ -81,47 +60,8 @@ put_next-returns t c = grind (arith, common_steps)
 pub put_one-returns : goal.put_one-returns
 put_one-returns t c = grind (arith, common_steps)
 
-pub put_term-returns-in-CountDistinct : goal.put_term-returns-in-CountDistinct
-put_term-returns-in-CountDistinct t c = grind (arith, common_steps)
-
-pub put_term-returns-in-Avg : goal.put_term-returns-in-Avg
-put_term-returns-in-Avg t c = grind (arith, common_steps)
-
-pub put_term-returns-in-Count : goal.put_term-returns-in-Count
-put_term-returns-in-Count t c = grind (arith, common_steps)
-
-pub put_cond-returns-in_ok-put_first-in-Eq : goal.put_cond-returns-in_ok-put_first-in-Eq
-put_cond-returns-in_ok-put_first-in-Eq t c = grind (arith, common_steps)
-
 pub put_cond-returns-in_ok-put_node-in-Every : goal.put_cond-returns-in_ok-put_node-in-Every
 put_cond-returns-in_ok-put_node-in-Every t c = grind (arith, common_steps)
 
-pub put_cond-returns-in_ok-put_first-in-Same : goal.put_cond-returns-in_ok-put_first-in-Same
-put_cond-returns-in_ok-put_first-in-Same t c = grind (arith, common_steps)
-
-pub put_term-returns-in-Single : goal.put_term-returns-in-Single
-put_term-returns-in-Single t c = grind (arith, common_steps)
-
-pub put_term-returns-in-Sum : goal.put_term-returns-in-Sum
-put_term-returns-in-Sum t c = grind (arith, common_steps)
-
 pub put_cond-returns-in-IsNull : goal.put_cond-returns-in-IsNull
 put_cond-returns-in-IsNull t c = grind (arith, common_steps)
-
-pub put_first-returns : goal.put_first-returns
-put_first-returns t c = grind (arith, common_steps)
-
-pub put_cond-returns-in_ok-put_first-in-Ne : goal.put_cond-returns-in_ok-put_first-in-Ne
-put_cond-returns-in_ok-put_first-in-Ne t c = grind (arith, common_steps)
-
-pub put_cond-returns-in_ok-put_first-in-Gt : goal.put_cond-returns-in_ok-put_first-in-Gt
-put_cond-returns-in_ok-put_first-in-Gt t c = grind (arith, common_steps)
-
-pub put_cond-returns-in_ok-put_first-in-Like : goal.put_cond-returns-in_ok-put_first-in-Like
-put_cond-returns-in_ok-put_first-in-Like t c = grind (arith, common_steps)
-
-pub put_term-returns-in-MinDistinct : goal.put_term-returns-in-MinDistinct
-put_term-returns-in-MinDistinct t c = grind (arith, common_steps)
-
-pub put_term-returns-in-Min : goal.put_term-returns-in-Min
-put_term-returns-in-Min t c = grind (arith, common_steps)

@@ -7,8 +7,8 @@ use Rattle.qgm_app.proofs.answers.ran.Goals as goal
 pub returns-clause-rows : goal.returns-clause-rows
 returns-clause-rows g c =
     let q = c.args.question.now in
-    ran-rows c.answered.result (root_bag q.tables c.in_ok-graph.graph) (rows_of q.views q.valid.checked q.tables) c.answered.ensures.rows c.in_ok-graph.ensures.rows
+    ran-rows c.run_rewritten.result (root_bag q.tables c.in_ok-graph.graph) (rows_of q.views q.valid.checked q.tables) c.run_rewritten.ensures.rows c.in_ok-graph.ensures.rows
 
 pub returns-clause-run : goal.returns-clause-run
 returns-clause-run g c =
-    ran-run c.answered.result c.args.plan.now (question_of c.args.question.now) c.in_ok-graph.graph _ _ c.in_ok-graph.ensures.built c.answered.ensures.rewritten
+    ran-run c.run_rewritten.result c.args.plan.now (question_of c.args.question.now) c.in_ok-graph.graph _ _ c.in_ok-graph.ensures.built c.run_rewritten.ensures.rewritten

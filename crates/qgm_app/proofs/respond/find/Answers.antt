@@ -1,6 +1,7 @@
 use Rattle.std.proofs.Common.{arith}
 use Rattle.std.proofs.lemmas.Grind.{common_steps}
 use Rattle.qgm_app.proofs.InRange.{rows-in, seed-in}
+use Rattle.qgm_app.proofs.Made.{made-asked}
 use Rattle.qgm_app.proofs.Steps.{found-done}
 use Rattle.qgm_app.proofs.respond.find.Goals as goal
 
@@ -53,3 +54,6 @@ returns-in_ok-generated-in-Gen-clause-failed g c = grind (arith, common_steps)
 
 pub returns-in-Run-clause-later : goal.returns-in-Run-clause-later
 returns-in-Run-clause-later g c = grind (arith, common_steps)
+
+pub returns-in_ok-generated-in-Gen-clause-made : goal.returns-in_ok-generated-in-Gen-clause-made
+returns-in_ok-generated-in-Gen-clause-made g c = λ is. made-asked _ _ _ c.in_ok-generated-in-Gen.ensures.found

@@ -15,7 +15,7 @@ returns-in-Err-Usage-clause-comes g c = no-line _ (map (λ w. string_bytes w) c.
 
 pub returns-in-Ok-clause-counts : goal.returns-in-Ok-clause-counts
 returns-in-Ok-clause-counts g c = IfOk-weaker c.run_line.result _ _
-    (λ report h. line-taken-counts _ (map (λ w. string_bytes w) c.args.words.now) (line_text c.in-Ok.line) _ _ c.in-Ok.ensures.ok h) c.run_line.ensures.counts
+    (λ report h. line-taken-counts _ (map (λ w. string_bytes w) c.args.words.now) (line_text c.in-Ok.line) report _ _ c.in-Ok.ensures.ok h) c.run_line.ensures.counts
 
 pub returns-in-Err-Usage-clause-counts : goal.returns-in-Err-Usage-clause-counts
 returns-in-Err-Usage-clause-counts g c =

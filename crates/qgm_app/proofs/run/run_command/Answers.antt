@@ -2,7 +2,7 @@ use Rattle.std.proofs.lemmas.Grind.{common_steps}
 use Rattle.std.proofs.Common.{map, arith}
 use Rattle.std.specs.String.{string_bytes}
 use Rattle.qgm_app.specs.Outcome.{outcome}
-use Rattle.qgm_app.proofs.Reported.{error-told}
+use Rattle.qgm_app.proofs.Reported.{error-told, report-told}
 use Rattle.qgm_app.proofs.run.run_command.Goals as goal
 
 pub returns-in-Ok-write_all-clause-error : goal.returns-in-Ok-write_all-clause-error
@@ -83,3 +83,11 @@ returns-clause-no_memory g c = grind (arith, common_steps)
 
 pub returns-in-Ok-write_all-clause-asked : goal.returns-in-Ok-write_all-clause-asked
 returns-in-Ok-write_all-clause-asked g c = grind (arith, common_steps)
+
+pub returns-in-Ok-write_all-clause-headline : goal.returns-in-Ok-write_all-clause-headline
+returns-in-Ok-write_all-clause-headline g c = λ read wrote memory.
+    report-told _ _ (outcome (map (λ w. string_bytes w) c.args.words.now)) c.in-Ok.said c.as_slice.result.now _ _ c.in-Ok.ensures.prepares c.as_slice.ensures c.in-Ok-write_all.ensures.all read
+
+pub returns-in-Ok-write_all-clause-completeness : goal.returns-in-Ok-write_all-clause-completeness
+returns-in-Ok-write_all-clause-completeness g c = λ read wrote memory.
+    report-told _ _ (outcome (map (λ w. string_bytes w) c.args.words.now)) c.in-Ok.said c.as_slice.result.now _ _ c.in-Ok.ensures.prepares c.as_slice.ensures c.in-Ok-write_all.ensures.all (λ e. read (c.in-Ok.ensures.failed e))

@@ -4,11 +4,14 @@ use Rattle.command_line.specs.Line.{task_text}
 use Rattle.command_line.specs.declared.task.Task.{Task}
 use Rattle.command_input.specs.Questions.{question_of}
 use Rattle.qgm_app.specs.Held.{held_answer}
-use Rattle.qgm_app.proofs.Reported.{answer-isnt-usage, explained-isnt-usage, of-each, rows-isnt-usage, tells-answer, tells-explained, tells-summary}
+use Rattle.qgm_app.proofs.Reported.{answer-isnt-usage, explained-isnt-usage, of-each, rows-isnt-usage, tells-answer, tells-explained, tells-summary, counts-answer, counts-explained, counts-summary}
 use Rattle.qgm_app.proofs.telling.tell.Goals as goal
 
 pub returns-in_ok-answered-in-Run-clause-counts : goal.returns-in_ok-answered-in-Run-clause-counts
-returns-in_ok-answered-in-Run-clause-counts g c = of-each c.tell_answer.result _ (c.in_ok-answered-in-Run.answered.firings, c.in_ok-answered-in-Run.ensures.run)
+returns-in_ok-answered-in-Run-clause-counts g c =
+    let a = c.in_ok-answered-in-Run in
+    counts-answer c.tell_answer.result (task_text c.args.line.now.task) c.in-Run.schema.now c.in-Run.query.now c.in-Run.dir.now c.args.line.now.plan (question_of c.args.question) (held_answer a.answered) a.answered.firings _ _
+    (ap (λ (t : Task). task_text t) c.in-Run.is) c.tell_answer.ensures a.ensures.answer a.ensures.run
 
 pub returns-in_ok-explained-in-Explain-clause-tells : goal.returns-in_ok-explained-in-Explain-clause-tells
 returns-in_ok-explained-in-Explain-clause-tells g c =
@@ -18,7 +21,9 @@ returns-in_ok-explained-in-Explain-clause-tells g c =
 
 pub returns-in_ok-explained-in-Explain-clause-counts : goal.returns-in_ok-explained-in-Explain-clause-counts
 returns-in_ok-explained-in-Explain-clause-counts g c =
-    of-each c.tell_explained.result _ (c.in_ok-explained-in-Explain.explained.answered.firings, c.in_ok-explained-in-Explain.ensures.run)
+    let e = c.in_ok-explained-in-Explain in
+    counts-explained c.tell_explained.result (task_text c.args.line.now.task) c.in-Explain.schema.now c.in-Explain.query.now c.in-Explain.dir.now c.args.line.now.plan (question_of c.args.question)
+    e.explained.text (held_answer e.explained.answered) _ _ (ap (λ (t : Task). task_text t) c.in-Explain.is) c.tell_explained.ensures e.ensures.answer e.ensures.text
 
 pub returns-in_ok-answered-in-Gen-clause-tells : goal.returns-in_ok-answered-in-Gen-clause-tells
 returns-in_ok-answered-in-Gen-clause-tells g c =
@@ -27,7 +32,10 @@ returns-in_ok-answered-in-Gen-clause-tells g c =
     (ap (λ (t : Task). task_text t) c.in-Gen.is) c.tell_summary.ensures a.ensures.answer a.ensures.run
 
 pub returns-in_ok-answered-in-Gen-clause-counts : goal.returns-in_ok-answered-in-Gen-clause-counts
-returns-in_ok-answered-in-Gen-clause-counts g c = of-each c.tell_summary.result _ (c.in_ok-answered-in-Gen.answered.firings, c.in_ok-answered-in-Gen.ensures.run)
+returns-in_ok-answered-in-Gen-clause-counts g c =
+    let a = c.in_ok-answered-in-Gen in
+    counts-summary c.tell_summary.result (task_text c.args.line.now.task) c.in-Gen.seed c.in-Gen.rows c.args.line.now.plan (question_of c.args.question) (held_answer a.answered) a.answered.firings _ _
+    (ap (λ (t : Task). task_text t) c.in-Gen.is) c.tell_summary.ensures a.ensures.answer a.ensures.run
 
 pub answer-requires : goal.answer-requires
 answer-requires g c = grind (arith, common_steps)

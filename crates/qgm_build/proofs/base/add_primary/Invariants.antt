@@ -1,5 +1,5 @@
 use Rattle.std.proofs.Common.{◌≡◌, ◌++◌, drop, filter, map}
-use Rattle.built_queries.specs.Sources as spec
+use Rattle.qgm_translation_laws.specs.Sources as spec
 use Rattle.qgm_build.proofs.base.add_primary.Given as goal
 
 abbrev pub invariant-loop-key : goal.invariant-loop-key

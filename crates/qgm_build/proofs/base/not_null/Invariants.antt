@@ -1,5 +1,5 @@
 use Rattle.std.proofs.Common.{◌≡◌, ◌++◌, drop}
-use Rattle.built_queries.specs.Sources as spec
+use Rattle.qgm_translation_laws.specs.Sources as spec
 use Rattle.qgm_build.proofs.base.not_null.Given as goal
 
 abbrev pub invariant-loop-column : goal.invariant-loop-column

@@ -2,10 +2,10 @@ use Rattle.std.proofs.lemmas.Grind.{common_steps}
 use Rattle.std.proofs.Common.{◌++◌, ◌∙◌, map, ap₂, arith}
 use Rattle.std.proofs.lemmas.Result.{on_ok_weaker}
 use Rattle.qgm_terms.specs.Shown.{terms}
-use Rattle.qgm_shown.specs.Maps.{Frame}
-use Rattle.qgm_shown.specs.Shown.{argument_terms}
-use Rattle.qgm_shown.specs.Sources.{Sources}
-use Rattle.built_terms.specs.Folds.{leaf_of}
+use Rattle.qgm_translation.specs.Maps.{Frame}
+use Rattle.qgm_translation.specs.Shown.{argument_terms}
+use Rattle.qgm_translation.specs.Sources.{Sources}
+use Rattle.qgm_build_terms.specs.Folds.{leaf_of}
 use Rattle.qgm_build.proofs.finish.add_arguments.Goals as goal
 
 pub returns : goal.returns

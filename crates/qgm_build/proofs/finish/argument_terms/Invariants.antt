@@ -1,8 +1,8 @@
 use Rattle.std.proofs.Common.{◌≡◌, ◌++◌, map, drop}
 use Rattle.qgm_terms.specs.Shown.{terms}
-use Rattle.qgm_shown.specs.Shown as w
-use Rattle.built_terms.specs.Folds.{leaf_of}
-use Rattle.built_terms.specs.Setting.{frame_in, sources_in}
+use Rattle.qgm_translation.specs.Shown as w
+use Rattle.qgm_build_terms.specs.Folds.{leaf_of}
+use Rattle.qgm_build_terms.specs.Setting.{frame_in, sources_in}
 use Rattle.qgm_build.proofs.finish.argument_terms.Given as goal
 
 abbrev pub invariant-loop-x : goal.invariant-loop-x

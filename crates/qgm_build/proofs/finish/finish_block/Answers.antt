@@ -1,7 +1,7 @@
 use Rattle.std.proofs.Common.{refl}
 use Rattle.sql_meaning.specs.ResolvedShown as shown
 use Rattle.qgm_build.specs.Laying.{outer_of, told_at}
-use Rattle.built_terms.specs.SoFar.{so_far}
+use Rattle.qgm_build_terms.specs.SoFar.{so_far}
 use Rattle.qgm_build.proofs.Selected.{block_read, made_of}
 use Rattle.qgm_build.proofs.finish.finish_block.Goals as goal
 

@@ -1,9 +1,9 @@
 use Rattle.std.proofs.Common.{◌∙◌, ap, map, refl}
 use Rattle.sql_meaning.specs.ResolvedShown as shown
-use Rattle.built_terms.specs.Folds.{leaf_of}
+use Rattle.qgm_build_terms.specs.Folds.{leaf_of}
 use Rattle.qgm_build.specs.Laying.{outer_of, told_at}
-use Rattle.built_terms.specs.SoFar.{so_far}
-use Rattle.built_terms.specs.Written.{frame_of}
+use Rattle.qgm_build_terms.specs.SoFar.{so_far}
+use Rattle.qgm_build_terms.specs.Written.{frame_of}
 use Rattle.qgm_build.proofs.Selected.{rows_read, made_of}
 use Rattle.qgm_build.proofs.finish.finish_rows.Goals as goal
 

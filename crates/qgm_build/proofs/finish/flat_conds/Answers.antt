@@ -1,12 +1,12 @@
 use Rattle.std.proofs.lemmas.Grind.{common_steps}
 use Rattle.std.proofs.Common.{[], ap, arith, refl}
 use Rattle.sql_meaning.specs.ResolvedShown as shown
-use Rattle.qgm_shown.specs.Lay.{laying}
-use Rattle.qgm_shown.specs.Folds.{on_folds}
+use Rattle.qgm_translation.specs.Lay.{laying}
+use Rattle.qgm_translation.specs.Folds.{on_folds}
 use Rattle.qgm_build.specs.Laying.{outer_of, told_at}
-use Rattle.built_terms.specs.Site.{sources_at}
-use Rattle.built_terms.specs.SoFar.{so_far}
-use Rattle.built_terms.specs.Written.{frame_of}
+use Rattle.qgm_build_terms.specs.Site.{sources_at}
+use Rattle.qgm_build_terms.specs.SoFar.{so_far}
+use Rattle.qgm_build_terms.specs.Written.{frame_of}
 use Rattle.qgm_build.proofs.Finished.{flat_conds_read}
 use Rattle.qgm_build.proofs.finish.flat_conds.Goals as goal
 

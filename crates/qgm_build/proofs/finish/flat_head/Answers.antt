@@ -1,11 +1,11 @@
 use Rattle.std.proofs.Common.{ap, refl}
 use Rattle.std.proofs.lemmas.Result.{IfOk-weaker}
 use Rattle.sql_meaning.specs.ResolvedShown as shown
-use Rattle.qgm_shown.specs.Lay.{laying}
+use Rattle.qgm_translation.specs.Lay.{laying}
 use Rattle.qgm_build.specs.Laying.{told_at}
-use Rattle.built_terms.specs.Site.{sources_at}
-use Rattle.built_terms.specs.SoFar.{so_far}
-use Rattle.built_terms.specs.Written.{frame_of}
+use Rattle.qgm_build_terms.specs.Site.{sources_at}
+use Rattle.qgm_build_terms.specs.SoFar.{so_far}
+use Rattle.qgm_build_terms.specs.Written.{frame_of}
 use Rattle.qgm_build.proofs.Finished.{flat_head_read}
 use Rattle.qgm_build.proofs.finish.flat_head.Goals as goal
 

@@ -1,7 +1,7 @@
 use Rattle.std.proofs.Common.{◌≡◌, ◌++◌, map, drop, get_or}
 use Rattle.qgm_terms.specs.Shown.{terms}
-use Rattle.qgm_shown.specs.Maps.{nothing, ref_term}
-use Rattle.built_terms.specs.Written.{frame_of}
+use Rattle.qgm_translation.specs.Maps.{nothing, ref_term}
+use Rattle.qgm_build_terms.specs.Written.{frame_of}
 use Rattle.qgm_build.proofs.finish.key_terms.Given as goal
 
 abbrev pub invariant-loop-place : goal.invariant-loop-place

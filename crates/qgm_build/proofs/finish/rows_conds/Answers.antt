@@ -1,11 +1,11 @@
 use Rattle.std.proofs.Common.{◌∙◌}
 use Rattle.std.proofs.lemmas.Result.{IfOk-weaker}
 use Rattle.sql_meaning.specs.ResolvedShown as shown
-use Rattle.qgm_shown.specs.Lay.{laying}
+use Rattle.qgm_translation.specs.Lay.{laying}
 use Rattle.qgm_build.specs.Laying.{outer_of, told_at}
-use Rattle.built_terms.specs.Setting.{outer_in, sources_in}
-use Rattle.built_terms.specs.SoFar.{so_far}
-use Rattle.built_terms.specs.Written.{frame_of}
+use Rattle.qgm_build_terms.specs.Setting.{outer_in, sources_in}
+use Rattle.qgm_build_terms.specs.SoFar.{so_far}
+use Rattle.qgm_build_terms.specs.Written.{frame_of}
 use Rattle.qgm_build.proofs.Finished.{frame_at, rows_at}
 use Rattle.qgm_build.proofs.finish.rows_conds.Goals as goal
 

@@ -1,11 +1,11 @@
 use Rattle.std.proofs.Common.{map, refl}
 use Rattle.std.proofs.lemmas.Result.{IfOk-weaker}
 use Rattle.qgm_terms.specs.Shown.{terms}
-use Rattle.qgm_shown.specs.Lay.{laying}
-use Rattle.built_terms.specs.Folds.{leaf_of}
+use Rattle.qgm_translation.specs.Lay.{laying}
+use Rattle.qgm_build_terms.specs.Folds.{leaf_of}
 use Rattle.qgm_build.specs.Laying.{told_at}
-use Rattle.built_terms.specs.SoFar.{so_far}
-use Rattle.built_terms.specs.Written.{frame_of}
+use Rattle.qgm_build_terms.specs.SoFar.{so_far}
+use Rattle.qgm_build_terms.specs.Written.{frame_of}
 use Rattle.qgm_build.proofs.Finished.{rows_list_read}
 use Rattle.qgm_build.proofs.finish.rows_terms.Goals as goal
 

@@ -1,7 +1,7 @@
 use Rattle.std.proofs.Common.{◌≡◌, ◌++◌, map, drop}
 use Rattle.qgm_terms.specs.Shown.{terms}
-use Rattle.qgm_shown.specs.Maps.{ref_term}
-use Rattle.built_terms.specs.Written.{frame_of}
+use Rattle.qgm_translation.specs.Maps.{ref_term}
+use Rattle.qgm_build_terms.specs.Written.{frame_of}
 use Rattle.qgm_build.proofs.finish.seen_terms.Given as goal
 
 abbrev pub invariant-loop-x : goal.invariant-loop-x

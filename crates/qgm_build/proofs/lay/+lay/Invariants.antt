@@ -1,8 +1,8 @@
 use Rattle.std.proofs.Common.{◌++◌, drop}
 use Rattle.sql_meaning.specs.ResolvedShown as shown
 use Rattle.qgm_build.specs.Laying.{addend_step, all_on_step, arm_step, choice_step, froms_step, list_step, multiplier_step, tests_step}
-use Rattle.built_terms.specs.Making.{Leads}
-use Rattle.built_terms.specs.SoFar.{so_far}
+use Rattle.qgm_build_terms.specs.Making.{Leads}
+use Rattle.qgm_build_terms.specs.SoFar.{so_far}
 use Rattle.qgm_build.proofs.lay.+lay.Given as goal
 
 abbrev pub invariant-addend_subs-loop-x : goal.invariant-addend_subs-loop-x

@@ -1,13 +1,13 @@
 use Rattle.std.proofs.Common.{◌++◌, ◌∙◌, ap}
 use Rattle.sql_meaning.specs.ResolvedShown as shown
-use Rattle.qgm_shown.specs.Lay.{box_named}
-use Rattle.qgm_shown.specs.Shown.{frame_all}
-use Rattle.qgm_shown.specs.Sources.{Sources}
-use Rattle.qgm_shown.specs.Typing.{typed_by}
+use Rattle.qgm_translation.specs.Lay.{box_named}
+use Rattle.qgm_translation.specs.Shown.{frame_all}
+use Rattle.qgm_translation.specs.Sources.{Sources}
+use Rattle.qgm_translation.specs.Typing.{typed_by}
 use Rattle.qgm_build.specs.Laying.{told_at}
-use Rattle.built_terms.specs.Site.{sources_at}
-use Rattle.built_terms.specs.SoFar.{so_far}
-use Rattle.built_terms.specs.Written.{frame_of}
+use Rattle.qgm_build_terms.specs.Site.{sources_at}
+use Rattle.qgm_build_terms.specs.SoFar.{so_far}
+use Rattle.qgm_build_terms.specs.Written.{frame_of}
 use Rattle.qgm_build.proofs.Same.{frame_all_same}
 use Rattle.qgm_build.proofs.lay.from_frame.Goals as goal
 

@@ -1,5 +1,5 @@
 use Rattle.std.proofs.Common.{◌≡◌, ◌+◌, drop, length}
-use Rattle.built_queries.specs.Typing.{known_types}
+use Rattle.qgm_translation_laws.specs.Typing.{known_types}
 use Rattle.qgm_build.proofs.named.known_columns.Given as goal
 
 abbrev pub invariant-loop-column : goal.invariant-loop-column

@@ -1,9 +1,9 @@
 use Rattle.std.proofs.lemmas.Grind.{common_steps}
 use Rattle.std.proofs.Common.{refl, arith}
 use Rattle.std.proofs.lemmas.Result.{IfOk-weaker}
-use Rattle.built_terms.specs.Folds.{leaf_of}
+use Rattle.qgm_build_terms.specs.Folds.{leaf_of}
 use Rattle.qgm_build.specs.Laying.{told_at}
-use Rattle.built_terms.specs.SoFar.{so_far}
+use Rattle.qgm_build_terms.specs.SoFar.{so_far}
 use Rattle.std.proofs.Common.{length, map}
 use Rattle.qgm_build.proofs.Paired.{group_read}
 use Rattle.qgm_build.proofs.pairs.finish_group.Goals as goal

@@ -1,9 +1,9 @@
 use Rattle.std.proofs.Common.{◌++◌, refl, suc}
 use Rattle.sql_meaning.specs.ResolvedShown as shown
-use Rattle.qgm_shown.specs.Shown.{refs}
-use Rattle.qgm_shown.specs.Sources.{from_width}
+use Rattle.qgm_translation.specs.Shown.{refs}
+use Rattle.qgm_translation.specs.Sources.{from_width}
 use Rattle.qgm_build.specs.Laying.{outer_of, told_at}
-use Rattle.built_terms.specs.SoFar.{so_far}
+use Rattle.qgm_build_terms.specs.SoFar.{so_far}
 use Rattle.qgm_build.proofs.Paired.{outer_read}
 use Rattle.qgm_build.proofs.Selected.{made_on}
 use Rattle.qgm_build.proofs.Taking.{and_both}

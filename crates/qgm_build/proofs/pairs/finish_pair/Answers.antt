@@ -1,6 +1,6 @@
 use Rattle.std.proofs.lemmas.Result.{IfOk-weaker}
 use Rattle.qgm_build.specs.Laying.{told_at}
-use Rattle.built_terms.specs.SoFar.{so_far}
+use Rattle.qgm_build_terms.specs.SoFar.{so_far}
 use Rattle.qgm_build.proofs.Paired.{two_read}
 use Rattle.qgm_build.proofs.Taking.{and_both}
 use Rattle.qgm_build.proofs.pairs.finish_pair.Goals as goal

@@ -2,8 +2,8 @@ use Rattle.std.proofs.Common.{◌∷◌, [], refl}
 use Rattle.sql_meaning.specs.ResolvedShown as shown
 use Rattle.qgm_core.specs.declared.kinds.QuantKind.TheVariants.{F}
 use Rattle.qgm_build.specs.Laying.{outer_of, told_at}
-use Rattle.built_terms.specs.SoFar.{so_far}
-use Rattle.built_terms.specs.Written.{frame_of}
+use Rattle.qgm_build_terms.specs.SoFar.{so_far}
+use Rattle.qgm_build_terms.specs.Written.{frame_of}
 use Rattle.qgm_build.proofs.Paired.{upper_read}
 use Rattle.qgm_build.proofs.Selected.{made_of}
 use Rattle.qgm_build.proofs.pairs.finish_upper.Goals as goal

@@ -1,9 +1,9 @@
 use Rattle.std.proofs.Common.{◌∙◌, ap, sym}
 use Rattle.sql_meaning.specs.ResolvedShown as shown
 use Rattle.qgm_build.specs.Laying.{told_at}
-use Rattle.built_terms.specs.Site.{sources_at}
-use Rattle.built_terms.specs.SoFar.{so_far}
-use Rattle.built_terms.specs.Written.{frame_of}
+use Rattle.qgm_build_terms.specs.Site.{sources_at}
+use Rattle.qgm_build_terms.specs.SoFar.{so_far}
+use Rattle.qgm_build_terms.specs.Written.{frame_of}
 use Rattle.qgm_build.proofs.Finished.{outer_frame_read}
 use Rattle.qgm_build.proofs.Taking.{all_two}
 use Rattle.qgm_build.proofs.pairs.outer_frame.Goals as goal

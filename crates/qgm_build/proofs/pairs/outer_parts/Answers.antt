@@ -1,13 +1,13 @@
 use Rattle.std.proofs.Common.{◌++◌, ◌∙◌, ap, map, suc}
 use Rattle.std.proofs.lemmas.Result.{IfOk-weaker}
 use Rattle.sql_meaning.specs.ResolvedShown as shown
-use Rattle.qgm_shown.specs.Lay.{laying}
-use Rattle.qgm_shown.specs.Maps.{ref_term}
-use Rattle.qgm_shown.specs.Shown.{refs}
-use Rattle.qgm_shown.specs.Sources.{from_width}
+use Rattle.qgm_translation.specs.Lay.{laying}
+use Rattle.qgm_translation.specs.Maps.{ref_term}
+use Rattle.qgm_translation.specs.Shown.{refs}
+use Rattle.qgm_translation.specs.Sources.{from_width}
 use Rattle.qgm_build.specs.Laying.{outer_of, told_at}
-use Rattle.built_terms.specs.SoFar.{so_far}
-use Rattle.built_terms.specs.Written.{frame_of}
+use Rattle.qgm_build_terms.specs.SoFar.{so_far}
+use Rattle.qgm_build_terms.specs.Written.{frame_of}
 use Rattle.qgm_build.proofs.Finished.{cond_at}
 use Rattle.qgm_build.proofs.Selected.{part_of}
 use Rattle.qgm_build.proofs.pairs.outer_parts.Goals as goal

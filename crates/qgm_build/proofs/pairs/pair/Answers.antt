@@ -1,5 +1,5 @@
 use Rattle.std.proofs.Common.{◌∙◌, sym}
-use Rattle.built_terms.specs.SoFar.{so_far}
+use Rattle.qgm_build_terms.specs.SoFar.{so_far}
 use Rattle.qgm_build.proofs.Paired.{pair_drawn, pair_ranging}
 use Rattle.qgm_build.proofs.Taking.{all_two}
 use Rattle.qgm_build.proofs.pairs.pair.Goals as goal

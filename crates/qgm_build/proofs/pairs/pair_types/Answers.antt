@@ -1,8 +1,8 @@
 use Rattle.std.proofs.Common.{◌++◌, ◌∷◌, [], ◌+◌, ◌-◌, ◌∙◌, List, ap, map}
 use Rattle.sql_value.specs.declared.order_key.SqlType.{SqlType}
-use Rattle.qgm_shown.specs.Shown.{columns_of}
-use Rattle.qgm_shown.specs.Typing.{typed_by}
-use Rattle.built_terms.proofs.Lists.{types_more}
+use Rattle.qgm_translation.specs.Shown.{columns_of}
+use Rattle.qgm_translation.specs.Typing.{typed_by}
+use Rattle.qgm_build_terms.proofs.Lists.{types_more}
 use Rattle.qgm_build.proofs.pairs.pair_types.Goals as goal
 
 pub loop-i-preserved : goal.loop-i-preserved

@@ -1,6 +1,6 @@
 use Rattle.std.proofs.Common.{◌≡◌, ◌++◌, ◌+◌, ◌-◌, map}
-use Rattle.qgm_shown.specs.Shown as w
-use Rattle.qgm_shown.specs.Typing.{typed_by}
+use Rattle.qgm_translation.specs.Shown as w
+use Rattle.qgm_translation.specs.Typing.{typed_by}
 use Rattle.qgm_build.proofs.pairs.pair_types.Given as goal
 
 abbrev pub invariant-loop-i : goal.invariant-loop-i

@@ -1,12 +1,12 @@
 use Rattle.std.proofs.Common.{◌∙◌, [], suc, length, ap, refl}
 use Rattle.std.proofs.lemmas.Result.{IfOk-weaker}
 use Rattle.sql_meaning.specs.ResolvedShown as shown
-use Rattle.qgm_shown.specs.Lay.{laying}
-use Rattle.qgm_shown.specs.Shown.{fold_refs, upper_leaves}
+use Rattle.qgm_translation.specs.Lay.{laying}
+use Rattle.qgm_translation.specs.Shown.{fold_refs, upper_leaves}
 use Rattle.qgm_build.specs.Laying.{outer_of, told_at}
-use Rattle.built_terms.specs.Setting.{frame_in, outer_in, sources_in}
-use Rattle.built_terms.specs.SoFar.{so_far}
-use Rattle.built_terms.specs.Written.{frame_of, slots_of}
+use Rattle.qgm_build_terms.specs.Setting.{frame_in, outer_in, sources_in}
+use Rattle.qgm_build_terms.specs.SoFar.{so_far}
+use Rattle.qgm_build_terms.specs.Written.{frame_of, slots_of}
 use Rattle.qgm_build.proofs.Finished.{having_read, list_read}
 use Rattle.qgm_build.proofs.Paired.{upper_cells}
 use Rattle.qgm_build.proofs.Selected.{part_of, parts_of}

@@ -1,6 +1,6 @@
 use Rattle.std.proofs.Common.{◌≡◌, drop}
 use Rattle.sql_meaning.specs.ResolvedShown as shown
-use Rattle.qgm_shown.specs.Reads as spec
+use Rattle.qgm_translation.specs.Reads as spec
 use Rattle.qgm_build.proofs.reads.+reads.Given as goal
 
 abbrev pub invariant-addends_read-loop-x : goal.invariant-addends_read-loop-x

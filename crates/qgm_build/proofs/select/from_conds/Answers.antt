@@ -1,8 +1,8 @@
 use Rattle.std.proofs.Common.{◌∙◌, sym}
 use Rattle.sql_meaning.specs.ResolvedShown as shown
-use Rattle.built_terms.specs.Setting.{frame_in, outer_in, sources_in}
-use Rattle.built_terms.specs.Site.{sources_at}
-use Rattle.built_terms.specs.Written.{slots_of}
+use Rattle.qgm_build_terms.specs.Setting.{frame_in, outer_in, sources_in}
+use Rattle.qgm_build_terms.specs.Site.{sources_at}
+use Rattle.qgm_build_terms.specs.Written.{slots_of}
 use Rattle.qgm_build.proofs.Finished.{from_conds_read}
 use Rattle.qgm_build.proofs.Taking.{all_two}
 use Rattle.qgm_build.proofs.select.from_conds.Goals as goal

@@ -1,8 +1,8 @@
 use Rattle.std.proofs.Common.{◌∙◌, ap, refl}
 use Rattle.std.proofs.lemmas.Result.{IfOk-weaker}
 use Rattle.sql_meaning.specs.ResolvedShown as shown
-use Rattle.built_terms.specs.Setting.{frame_in, outer_in, sources_in}
-use Rattle.built_terms.specs.Written.{frame_of, slots_from, slots_of}
+use Rattle.qgm_build_terms.specs.Setting.{frame_in, outer_in, sources_in}
+use Rattle.qgm_build_terms.specs.Written.{frame_of, slots_from, slots_of}
 use Rattle.qgm_build.proofs.Blocks.{cells_here, conds_read, head_read}
 use Rattle.qgm_build.proofs.Selected.{part_of, parts_of}
 use Rattle.qgm_build.proofs.select.write_block.Goals as goal

@@ -1,8 +1,8 @@
 use Rattle.std.proofs.Common.{ap}
 use Rattle.std.proofs.lemmas.Result.{IfOk-weaker}
 use Rattle.sql_meaning.specs.ResolvedShown as shown
-use Rattle.built_terms.specs.Setting.{frame_in, outer_in, sources_in}
-use Rattle.built_terms.specs.Written.{frame_of}
+use Rattle.qgm_build_terms.specs.Setting.{frame_in, outer_in, sources_in}
+use Rattle.qgm_build_terms.specs.Written.{frame_of}
 use Rattle.qgm_build.proofs.Finished.{rows_conds_read}
 use Rattle.qgm_build.proofs.select.write_conds.Goals as goal
 

@@ -1,9 +1,9 @@
 use Rattle.std.proofs.Common.{◌≡◌, ◌-◌, drop, map}
 use Rattle.sql_meaning.specs.ResolvedShown as shown
-use Rattle.qgm_shown.specs.Whole as spec
+use Rattle.qgm_translation.specs.Whole as spec
 use Rattle.qgm_build.specs.Laying.{told_at}
 use Rattle.qgm_build.specs.Schema.{base_of}
-use Rattle.built_terms.specs.SoFar.{so_far}
+use Rattle.qgm_build_terms.specs.SoFar.{so_far}
 use Rattle.qgm_build.proofs.whole.+lay_read.Given as goal
 
 abbrev pub invariant-loop-view : goal.invariant-loop-view

@@ -1,5 +1,5 @@
 use Rattle.std.proofs.lemmas.Result.{IfOk-weaker}
-use Rattle.built_terms.specs.SoFar.{so_far}
+use Rattle.qgm_build_terms.specs.SoFar.{so_far}
 use Rattle.qgm_build.proofs.Laying.{built_is, graph_is, numbered_is, right_is, rows_is}
 use Rattle.qgm_build.proofs.whole.build.Goals as goal
 

@@ -1,6 +1,6 @@
 use Rattle.std.proofs.Common.{◌≡◌, drop, map}
-use Rattle.qgm_shown.specs.Whole.{is_laid}
-use Rattle.built_terms.specs.Setting.{shared_box}
+use Rattle.qgm_translation.specs.Whole.{is_laid}
+use Rattle.qgm_build_terms.specs.Setting.{shared_box}
 use Rattle.qgm_build.proofs.whole.is_laid.Given as goal
 
 abbrev pub invariant-loop-x : goal.invariant-loop-x

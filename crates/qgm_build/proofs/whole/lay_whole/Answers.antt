@@ -1,5 +1,5 @@
 use Rattle.std.proofs.Common.{◌∙◌}
-use Rattle.built_terms.specs.SoFar.{so_far}
+use Rattle.qgm_build_terms.specs.SoFar.{so_far}
 use Rattle.qgm_build.proofs.Laying.{whole_steps}
 use Rattle.qgm_build.proofs.whole.lay_whole.Goals as goal
 

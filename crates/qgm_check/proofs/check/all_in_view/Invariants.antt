@@ -1,6 +1,6 @@
 use Rattle.std.proofs.Common.{◌≡◌, drop}
 use Rattle.std.specs.List.{list_all}
-use Rattle.qgm_formed.specs.View as spec
+use Rattle.qgm_wellformed.specs.View as spec
 use Rattle.qgm_check.proofs.check.all_in_view.Given as goal
 
 -- what is left decides

@@ -1,7 +1,7 @@
 use Rattle.std.proofs.Common.{◌≡◌, arith, Some, None}
 use Rattle.std.proofs.lemmas.Grind.{common_steps}
-use Rattle.qgm_formed.specs.WellFormed.{fault}
-use Rattle.qgm_formed.proofs.Faults.{finds-fault, finds-none}
+use Rattle.qgm_wellformed.specs.WellFormed.{fault}
+use Rattle.qgm_wellformed.proofs.Faults.{finds-fault, finds-none}
 use Rattle.qgm_check.proofs.check.check_graph.Goals as goal
 
 pub returns-in-Some-clause-fails : goal.returns-in-Some-clause-fails

@@ -1,6 +1,6 @@
 use Rattle.std.proofs.Common.{◌≡◌, ℕ, List, ◌∙◌, ap}
 use Rattle.std.proofs.lemmas.Result.{IfOk-weaker}
-use Rattle.qgm_formed.specs.WellFormed.{first_fault, clauses}
+use Rattle.qgm_wellformed.specs.WellFormed.{first_fault, clauses}
 use Rattle.qgm_core.specs.declared.node.Node.{Node}
 use Rattle.qgm_check.proofs.check.find_fault.Goals as goal
 

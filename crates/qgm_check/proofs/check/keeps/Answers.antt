@@ -1,5 +1,5 @@
 use Rattle.std.proofs.Common.{◌∙◌}
-use Rattle.qgm_formed.proofs.Tables.{agree-is}
+use Rattle.qgm_wellformed.proofs.Tables.{agree-is}
 use Rattle.qgm_check.proofs.check.keeps.Goals as goal
 
 pub returns-in-I5 : goal.returns-in-I5

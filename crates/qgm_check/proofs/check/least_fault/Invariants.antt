@@ -1,5 +1,5 @@
 use Rattle.std.proofs.Common.{◌≡◌, ◌≤◌, length, drop}
-use Rattle.qgm_formed.specs.WellFormed as spec
+use Rattle.qgm_wellformed.specs.WellFormed as spec
 use Rattle.qgm_check.proofs.check.least_fault.Given as goal
 
 abbrev pub invariant-loop-i : goal.invariant-loop-i

@@ -1,5 +1,5 @@
 use Rattle.std.proofs.Common.{◌≡◌, drop}
-use Rattle.qgm_formed.specs.WellFormed as spec
+use Rattle.qgm_wellformed.specs.WellFormed as spec
 use Rattle.qgm_check.proofs.check.once.Given as goal
 
 -- what is left decides

@@ -1,6 +1,6 @@
 use Rattle.std.proofs.Common.{◌≡◌, drop}
 use Rattle.qgm_core.specs.Boxes.{is_box}
-use Rattle.qgm_core.specs.Lists.{first}
+use Rattle.list_laws.specs.Lists.{first}
 use Rattle.qgm_check.proofs.columns_fit.box_at.Given as goal
 
 -- what is left decides

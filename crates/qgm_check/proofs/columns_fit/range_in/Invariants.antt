@@ -1,6 +1,6 @@
 use Rattle.std.proofs.Common.{◌≡◌, drop}
 use Rattle.qgm_core.specs.Boxes.{is_quant}
-use Rattle.qgm_core.specs.Lists.{first}
+use Rattle.list_laws.specs.Lists.{first}
 use Rattle.qgm_check.proofs.columns_fit.range_in.Given as goal
 
 -- what is left decides

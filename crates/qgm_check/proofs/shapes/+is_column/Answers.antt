@@ -2,7 +2,7 @@ use Rattle.std.proofs.Common.{arith}
 use Rattle.std.proofs.lemmas.Grind.{common_steps}
 use Rattle.qgm_terms.proofs.Lists as lists
 use Rattle.qgm_terms.specs.Shown as shown
-use Rattle.qgm_formed.proofs.HeadLaws.{column_linked}
+use Rattle.qgm_wellformed.proofs.HeadLaws.{column_linked}
 use Rattle.qgm_check.proofs.shapes.+is_column.Goals as goal
 
 pub returns-in-Chain : goal.returns-in-Chain

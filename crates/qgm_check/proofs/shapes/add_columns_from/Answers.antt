@@ -1,5 +1,5 @@
 use Rattle.std.proofs.Common.{◌<◌, ◌∙◌, arith}
-use Rattle.qgm_formed.proofs.HeadLaws.{columns_more}
+use Rattle.qgm_wellformed.proofs.HeadLaws.{columns_more}
 use Rattle.qgm_check.proofs.shapes.add_columns_from.Goals as goal
 
 pub loop-k-preserved : goal.loop-k-preserved

@@ -1,5 +1,5 @@
 use Rattle.std.proofs.Common.{◌≡◌, ◌+◌, ◌-◌, ◌++◌}
-use Rattle.qgm_formed.specs.Shapes as spec
+use Rattle.qgm_wellformed.specs.Shapes as spec
 use Rattle.qgm_check.proofs.shapes.add_columns_from.Given as goal
 
 -- what is left adds the rest

@@ -1,7 +1,7 @@
 use Rattle.std.proofs.Common.{◌≡◌, drop}
 use Rattle.std.specs.List.{list_all}
 use Rattle.qgm_terms.specs.Shown.{terms}
-use Rattle.qgm_formed.specs.Shapes as spec
+use Rattle.qgm_wellformed.specs.Shapes as spec
 use Rattle.qgm_check.proofs.shapes.all_columns.Given as goal
 
 -- what is left decides

@@ -1,5 +1,5 @@
 use Rattle.std.proofs.Common.{◌≡◌, ◌++◌, false, drop}
-use Rattle.qgm_formed.specs.View as spec
+use Rattle.qgm_wellformed.specs.View as spec
 use Rattle.qgm_check.proofs.view.add_scoped.Given as goal
 
 -- what is left adds the rest

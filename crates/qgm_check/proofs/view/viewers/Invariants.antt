@@ -1,5 +1,5 @@
 use Rattle.std.proofs.Common.{◌≡◌, [], drop}
-use Rattle.qgm_formed.specs.View as spec
+use Rattle.qgm_wellformed.specs.View as spec
 use Rattle.qgm_check.proofs.view.viewers.Given as goal
 
 -- what is left marks the rest

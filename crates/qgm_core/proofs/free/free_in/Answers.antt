@@ -1,7 +1,7 @@
 use Rattle.std.proofs.Common.{List, ℕ, [], not, filter, ap, ◌∙◌}
 use Rattle.std.proofs.lemmas.Result.{IfOk-weaker}
 use Rattle.qgm_core.specs.Free.{put_each}
-use Rattle.qgm_core.specs.Lists.{holds}
+use Rattle.list_laws.specs.Lists.{holds}
 use Rattle.qgm_core.proofs.Owning.{free-owned}
 use Rattle.qgm_core.proofs.free.free_in.Goals as goal
 

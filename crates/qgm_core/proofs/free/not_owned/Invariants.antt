@@ -1,6 +1,6 @@
 use Rattle.std.proofs.Common.{◌≡◌, not, [], drop, filter}
 use Rattle.qgm_core.specs.Free as spec
-use Rattle.qgm_core.specs.Lists.{holds}
+use Rattle.list_laws.specs.Lists.{holds}
 use Rattle.qgm_core.proofs.free.not_owned.Given as goal
 
 -- what is left puts the rest

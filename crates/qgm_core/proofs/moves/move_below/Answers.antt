@@ -2,7 +2,7 @@ use Rattle.std.proofs.Common.{◌≡◌, ◌+◌, List, Option, Some, insert, ap
 use Rattle.std.specs.Prelude.{IsOk}
 use Rattle.qgm_core.specs.Boxes.{has_box, is_box}
 use Rattle.qgm_core.specs.Edits.{put_found}
-use Rattle.qgm_core.specs.Lists.{put_below, without}
+use Rattle.list_laws.specs.Lists.{put_below, without}
 use Rattle.qgm_core.specs.declared.node.Node.{Node}
 use Rattle.qgm_core.proofs.Changed.{has-without}
 use Rattle.qgm_core.proofs.First.{goes_below}

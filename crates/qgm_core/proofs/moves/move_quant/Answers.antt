@@ -1,7 +1,7 @@
 use Rattle.std.proofs.Common.{◌≡◌, ◌<◌, ◌≤◌, List, Some, length, ap, sym, ◌∙◌, subst, arith}
 use Rattle.qgm_core.specs.Boxes.{is_quant}
 use Rattle.qgm_core.specs.Edits.{put_range, without_quant}
-use Rattle.qgm_core.specs.Lists.{first, moved_to}
+use Rattle.list_laws.specs.Lists.{first, moved_to}
 use Rattle.qgm_core.specs.declared.node.Node.{Node}
 use Rattle.qgm_core.specs.declared.owned.OwnedQuant.{OwnedQuant}
 use Rattle.qgm_core.proofs.Changed.{found}

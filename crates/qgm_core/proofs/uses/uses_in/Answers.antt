@@ -2,7 +2,7 @@ use Rattle.std.proofs.lemmas.Grind.{common_steps}
 use Rattle.std.proofs.Common.{◌≡◌, ◌+◌, Some, slice_get, map, take, List, ap, sym, ◌∙◌, arith}
 use Rattle.std.proofs.lemmas.List.{take_all}
 use Rattle.qgm_core.specs.Boxes.{overs_in, overs_of}
-use Rattle.qgm_core.specs.Lists.{times}
+use Rattle.list_laws.specs.Lists.{times}
 use Rattle.qgm_core.specs.declared.kinds.QuantKind.TheVariants.{F}
 use Rattle.qgm_core.specs.declared.node.Node.{Node}
 use Rattle.qgm_core.specs.declared.owned.OwnedQuant.{OwnedQuant}

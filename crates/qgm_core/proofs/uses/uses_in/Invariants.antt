@@ -1,6 +1,6 @@
 use Rattle.std.proofs.Common.{◌≡◌, ◌+◌, map, take}
 use Rattle.qgm_core.specs.Boxes.{overs_in}
-use Rattle.qgm_core.specs.Lists.{times}
+use Rattle.list_laws.specs.Lists.{times}
 use Rattle.qgm_core.proofs.uses.uses_in.Given as goal
 
 abbrev pub invariant-loop-node : goal.invariant-loop-node

@@ -1,6 +1,6 @@
 use Rattle.std.proofs.Common.{◌≡◌, ℕ, ◌==◌, List, Some, None, true, false, position, sym, ap, ◌∙◌, arith}
 use Rattle.qgm_core.specs.Boxes.{is_box}
-use Rattle.qgm_core.specs.Lists.{holds}
+use Rattle.list_laws.specs.Lists.{holds}
 use Rattle.qgm_core.proofs.ByNumber.{position-numbers}
 use Rattle.qgm_core.proofs.Visited.{behind-before, behind-none, behind-seen, behind-start}
 use Rattle.std.proofs.lemmas.Grind.{common_steps}

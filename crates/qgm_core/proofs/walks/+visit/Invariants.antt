@@ -1,5 +1,5 @@
 use Rattle.std.proofs.Common.{◌≡◌, ◌+◌, ◌-◌, drop, length, map}
-use Rattle.qgm_core.specs.Lists.{each}
+use Rattle.list_laws.specs.Lists.{each}
 use Rattle.qgm_core.specs.Walk as spec
 use Rattle.qgm_core.proofs.walks.+visit.Given as goal
 

@@ -1,5 +1,5 @@
 use Rattle.std.proofs.Common.{◌≡◌, drop}
-use Rattle.qgm_core.specs.Lists.{first}
+use Rattle.list_laws.specs.Lists.{first}
 use Rattle.qgm_props.specs.Table.{is_of}
 use Rattle.qgm_props.proofs.facts.facts_at.Given as goal
 

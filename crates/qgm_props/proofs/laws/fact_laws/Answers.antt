@@ -3,6 +3,7 @@ use Rattle.qgm_props.proofs.KeyedBoxes.{keys-hold}
 use Rattle.qgm_props.proofs.Monotone.{least}
 use Rattle.qgm_props.proofs.Settled.{all-told, clean-fits, founded, inferred-holds}
 use Rattle.qgm_props.proofs.Step.{step-holds}
+use Rattle.qgm_props.proofs.FactsFit.{arms-fit, facts-fit, joined-fits}
 use Rattle.qgm_props.proofs.laws.fact_laws.Goals as goal
 
 pub returns-clause-least : goal.returns-clause-least
@@ -28,3 +29,12 @@ returns-clause-keys c tables ns given known all b ks h = keys-hold tables ns kno
 
 pub returns-clause-exact : goal.returns-clause-exact
 returns-clause-exact c = keys-exact
+
+pub returns-clause-fit : goal.returns-clause-fit
+returns-clause-fit c = λ tables ns given env fit. facts-fit tables ns given env fit
+
+pub returns-clause-arms : goal.returns-clause-arms
+returns-clause-arms c = λ tables ns given n form types p q i e j k cp cq f env fit. arms-fit tables ns given n form types p q i e j k cp cq f env fit
+
+pub returns-clause-joined : goal.returns-clause-joined
+returns-clause-joined c = λ tables ns given b p d us i over vs xs x ys head here sure unread after env fit. joined-fits tables ns given b p d us i over vs xs x ys head here sure unread after env fit

@@ -1,6 +1,6 @@
 use Rattle.std.proofs.Common.{◌≡◌, drop}
 use Rattle.qgm_core.specs.Boxes.{is_quant}
-use Rattle.qgm_core.specs.Lists.{first}
+use Rattle.list_laws.specs.Lists.{first}
 use Rattle.qgm_props.proofs.ranges.range_at.Given as goal
 
 -- what is left decides

@@ -57,8 +57,8 @@ copy_arms-loop-arm-init t c = grind (arith, common_steps)
 pub copy_cond-returns-in-Not : goal.copy_cond-returns-in-Not
 copy_cond-returns-in-Not t c = grind (arith, common_steps)
 
-pub copy_cond-returns-in-Eq : goal.copy_cond-returns-in-Eq
-copy_cond-returns-in-Eq t c = grind (arith, common_steps)
+pub copy_cond-returns-in-Compare : goal.copy_cond-returns-in-Compare
+copy_cond-returns-in-Compare t c = grind (arith, common_steps)
 
 pub copy_any-returns : goal.copy_any-returns
 copy_any-returns t c = grind (arith, common_steps)

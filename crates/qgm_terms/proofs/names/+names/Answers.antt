@@ -34,8 +34,8 @@ add_names_of_arms-returns t c = grind (arith, common_steps)
 pub add_names-returns-in_ok-push-in-Col : goal.add_names-returns-in_ok-push-in-Col
 add_names-returns-in_ok-push-in-Col t c = grind (arith, common_steps)
 
-pub add_names_of_cond-returns-in_ok-add_names-in-Eq : goal.add_names_of_cond-returns-in_ok-add_names-in-Eq
-add_names_of_cond-returns-in_ok-add_names-in-Eq t c = grind (arith, common_steps)
+pub add_names_of_cond-returns-in_ok-add_names-in-Compare : goal.add_names_of_cond-returns-in_ok-add_names-in-Compare
+add_names_of_cond-returns-in_ok-add_names-in-Compare t c = grind (arith, common_steps)
 
 pub add_names_of_links-loop-link-preserved : goal.add_names_of_links-loop-link-preserved
 add_names_of_links-loop-link-preserved t c = grind (arith, common_steps)

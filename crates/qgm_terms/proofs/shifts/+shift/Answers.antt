@@ -93,63 +93,6 @@ shift_links-loop-i-preserved t c =
 pub shift-returns-in-Neg : goal.shift-returns-in-Neg
 shift-returns-in-Neg t c = record { tree = grind (arith, common_steps); depth = grind (arith, common_steps) }
 
-pub shift-returns-in-Single : goal.shift-returns-in-Single
-shift-returns-in-Single t c = record { tree = grind (arith, common_steps); depth = grind (arith, common_steps) }
-
-pub shift-returns-in-Count : goal.shift-returns-in-Count
-shift-returns-in-Count t c = record { tree = grind (arith, common_steps); depth = grind (arith, common_steps) }
-
-pub shift-returns-in-Sum : goal.shift-returns-in-Sum
-shift-returns-in-Sum t c = record { tree = grind (arith, common_steps); depth = grind (arith, common_steps) }
-
-pub shift-returns-in-Avg : goal.shift-returns-in-Avg
-shift-returns-in-Avg t c = record { tree = grind (arith, common_steps); depth = grind (arith, common_steps) }
-
-pub shift-returns-in-Min : goal.shift-returns-in-Min
-shift-returns-in-Min t c = record { tree = grind (arith, common_steps); depth = grind (arith, common_steps) }
-
-pub shift-returns-in-Max : goal.shift-returns-in-Max
-shift-returns-in-Max t c = record { tree = grind (arith, common_steps); depth = grind (arith, common_steps) }
-
-pub shift-returns-in-CountDistinct : goal.shift-returns-in-CountDistinct
-shift-returns-in-CountDistinct t c = record { tree = grind (arith, common_steps); depth = grind (arith, common_steps) }
-
-pub shift-returns-in-SumDistinct : goal.shift-returns-in-SumDistinct
-shift-returns-in-SumDistinct t c = record { tree = grind (arith, common_steps); depth = grind (arith, common_steps) }
-
-pub shift-returns-in-AvgDistinct : goal.shift-returns-in-AvgDistinct
-shift-returns-in-AvgDistinct t c = record { tree = grind (arith, common_steps); depth = grind (arith, common_steps) }
-
-pub shift-returns-in-MinDistinct : goal.shift-returns-in-MinDistinct
-shift-returns-in-MinDistinct t c = record { tree = grind (arith, common_steps); depth = grind (arith, common_steps) }
-
-pub shift-returns-in-MaxDistinct : goal.shift-returns-in-MaxDistinct
-shift-returns-in-MaxDistinct t c = record { tree = grind (arith, common_steps); depth = grind (arith, common_steps) }
-
-pub shift_cond-returns-in-Eq : goal.shift_cond-returns-in-Eq
-shift_cond-returns-in-Eq t c = record { tree = grind (arith, common_steps); depth = grind (arith, common_steps) }
-
-pub shift_cond-returns-in-Ne : goal.shift_cond-returns-in-Ne
-shift_cond-returns-in-Ne t c = record { tree = grind (arith, common_steps); depth = grind (arith, common_steps) }
-
-pub shift_cond-returns-in-Lt : goal.shift_cond-returns-in-Lt
-shift_cond-returns-in-Lt t c = record { tree = grind (arith, common_steps); depth = grind (arith, common_steps) }
-
-pub shift_cond-returns-in-Le : goal.shift_cond-returns-in-Le
-shift_cond-returns-in-Le t c = record { tree = grind (arith, common_steps); depth = grind (arith, common_steps) }
-
-pub shift_cond-returns-in-Gt : goal.shift_cond-returns-in-Gt
-shift_cond-returns-in-Gt t c = record { tree = grind (arith, common_steps); depth = grind (arith, common_steps) }
-
-pub shift_cond-returns-in-Ge : goal.shift_cond-returns-in-Ge
-shift_cond-returns-in-Ge t c = record { tree = grind (arith, common_steps); depth = grind (arith, common_steps) }
-
-pub shift_cond-returns-in-Same : goal.shift_cond-returns-in-Same
-shift_cond-returns-in-Same t c = record { tree = grind (arith, common_steps); depth = grind (arith, common_steps) }
-
-pub shift_cond-returns-in-Like : goal.shift_cond-returns-in-Like
-shift_cond-returns-in-Like t c = record { tree = grind (arith, common_steps); depth = grind (arith, common_steps) }
-
 pub shift_cond-returns-in-IsNull : goal.shift_cond-returns-in-IsNull
 shift_cond-returns-in-IsNull t c = record { tree = grind (arith, common_steps); depth = grind (arith, common_steps) }
 

@@ -32,8 +32,8 @@ substitute_cond-returns-in-IsNull t c = grind (arith, common_steps)
 pub substitute_chain-loop-link-init : goal.substitute_chain-loop-link-init
 substitute_chain-loop-link-init t c = grind (arith, common_steps)
 
-pub substitute_cond-returns-in-Eq : goal.substitute_cond-returns-in-Eq
-substitute_cond-returns-in-Eq t c = grind (arith, common_steps)
+pub substitute_cond-returns-in-Compare : goal.substitute_cond-returns-in-Compare
+substitute_cond-returns-in-Compare t c = grind (arith, common_steps)
 
 pub substitute_cond-returns-in-Some : goal.substitute_cond-returns-in-Some
 substitute_cond-returns-in-Some t c = grind (arith, common_steps)

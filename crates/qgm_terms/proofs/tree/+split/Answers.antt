@@ -26,17 +26,8 @@ Gc::split_into-returns-then-is_empty-clause-items h c =
 pub Gc::split_into-returns-else-is_empty-clause-items : goal.Gc::split_into-returns-else-is_empty-clause-items
 Gc::split_into-returns-else-is_empty-clause-items h c = grind (arith, common_steps, lists)
 
-pub Gc::split_into-returns-in-Like-clause-items : goal.Gc::split_into-returns-in-Like-clause-items
-Gc::split_into-returns-in-Like-clause-items t c = grind (arith, common_steps)
-
-pub Gc::split_into-returns-in-Same-clause-items : goal.Gc::split_into-returns-in-Same-clause-items
-Gc::split_into-returns-in-Same-clause-items t c = grind (arith, common_steps)
-
 pub Gc::split_into-returns-in-True-clause-items : goal.Gc::split_into-returns-in-True-clause-items
 Gc::split_into-returns-in-True-clause-items t c = grind (arith, common_steps)
-
-pub Gc::split_into-returns-in-Ge-clause-items : goal.Gc::split_into-returns-in-Ge-clause-items
-Gc::split_into-returns-in-Ge-clause-items t c = grind (arith, common_steps)
 
 pub Gc::split_into-returns-in-Every-clause-items : goal.Gc::split_into-returns-in-Every-clause-items
 Gc::split_into-returns-in-Every-clause-items t c = grind (arith, common_steps)
@@ -59,20 +50,8 @@ split::add_splits-loop-p-init t c = grind (arith, common_steps)
 pub Gc::split_into-returns-in_ok-split_into-in-All-clause-spare : goal.Gc::split_into-returns-in_ok-split_into-in-All-clause-spare
 Gc::split_into-returns-in_ok-split_into-in-All-clause-spare t c = grind (arith, common_steps)
 
-pub Gc::split_into-returns-in-Gt-clause-items : goal.Gc::split_into-returns-in-Gt-clause-items
-Gc::split_into-returns-in-Gt-clause-items t c = grind (arith, common_steps)
-
-pub Gc::split_into-returns-in-Eq-clause-items : goal.Gc::split_into-returns-in-Eq-clause-items
-Gc::split_into-returns-in-Eq-clause-items t c = grind (arith, common_steps)
-
-pub Gc::split_into-returns-in-Le-clause-items : goal.Gc::split_into-returns-in-Le-clause-items
-Gc::split_into-returns-in-Le-clause-items t c = grind (arith, common_steps)
-
-pub Gc::split_into-returns-in-Ne-clause-items : goal.Gc::split_into-returns-in-Ne-clause-items
-Gc::split_into-returns-in-Ne-clause-items t c = grind (arith, common_steps)
+pub Gc::split_into-returns-in-Compare-clause-items : goal.Gc::split_into-returns-in-Compare-clause-items
+Gc::split_into-returns-in-Compare-clause-items t c = grind (arith, common_steps)
 
 pub Gc::split_into-returns-then-is_empty-clause-spare : goal.Gc::split_into-returns-then-is_empty-clause-spare
 Gc::split_into-returns-then-is_empty-clause-spare t c = grind (arith, common_steps)
-
-pub Gc::split_into-returns-in-Lt-clause-items : goal.Gc::split_into-returns-in-Lt-clause-items
-Gc::split_into-returns-in-Lt-clause-items t c = grind (arith, common_steps)

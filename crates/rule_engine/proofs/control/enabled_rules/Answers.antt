@@ -1,9 +1,10 @@
 use Rattle.std.proofs.Common.{arith}
 use Rattle.std.proofs.lemmas.Grind.{common_steps}
+use Rattle.rule_engine.proofs.Enabled.{all-new-append}
 use Rattle.rule_engine.proofs.control.enabled_rules.Goals as goal
 
 pub returns : goal.returns
 returns c = grind (arith, common_steps)
 
 pub loop-class-preserved : goal.loop-class-preserved
-loop-class-preserved c = grind (arith, common_steps)
+loop-class-preserved c = grind (arith, common_steps, all-new-append)

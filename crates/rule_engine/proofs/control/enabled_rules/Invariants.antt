@@ -1,6 +1,7 @@
 use Rattle.std.proofs.Common.{◌≡◌, drop}
 use Rattle.std.specs.List.{flat_map}
-use Rattle.rule_engine.specs.Control.{all_new, enabled, rules_of}
+use Rattle.rule_engine.specs.Control.{all_new, enabled}
+use Rattle.rule_engine.specs.Control.{rules_of}
 use Rattle.rule_engine.proofs.control.enabled_rules.Given as goal
 
 abbrev pub invariant-loop-class : goal.invariant-loop-class

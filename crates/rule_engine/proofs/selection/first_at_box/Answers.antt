@@ -2,8 +2,8 @@ use Rattle.std.proofs.Common.{◌≡◌, ◌<◌, List, true, false, length, map
 use Rattle.std.specs.Prelude.{slice_get}
 use Rattle.rule_api.specs.Rules.{place_at}
 use Rattle.rule_api.specs.declared.place.Firing.{Firing}
-use Rattle.rule_api.specs.declared.place.RuleId.{RuleId}
-use Rattle.rule_api.specs.declared.place.RuleId.TheVariants.{M1}
+use Rattle.rule_api.specs.declared.rule_id.RuleId.{RuleId}
+use Rattle.rule_api.specs.declared.rule_id.RuleId.TheVariants.{M1}
 use Rattle.rule_engine.specs.Control.{at_box, firing}
 use Rattle.rule_engine.proofs.First.{found-behind, found-here}
 use Rattle.rule_engine.proofs.selection.first_at_box.Goals as goal

@@ -1,5 +1,5 @@
 use Rattle.std.proofs.Common.{◌≡◌, length}
-use Rattle.qgm_formed.specs.Sentences.{WellFormed}
+use Rattle.qgm_wellformed.specs.Sentences.{WellFormed}
 use Rattle.rule_api.specs.Rules.{Preserves}
 use Rattle.rule_engine.specs.Trace.{Leads}
 use Rattle.rule_engine.proofs.steps.rewrite.Given as goal

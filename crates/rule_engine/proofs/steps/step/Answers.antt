@@ -22,7 +22,7 @@ returns-clause-ok g c =
     let f = c.in-Some.f in (
       record {
         is_next = sym is;
-        allowed = (g.met.T.Rules.exact c.args.table.now f.rule c.args.graph.now f.place.at f.place.i f.place.j c.requires).0 (next-given (g.T.Rules.pairs c.args.table.now) c.args.plan.now c.args.graph.now c.args.count f (sym is));
+        allowed = (g.met.T.Rules.exact c.args.table.now f.rule c.args.graph.now f.place.at f.place.i f.place.j c.each_number_once.ensures c.requires).0 (next-given (g.T.Rules.pairs c.args.table.now) c.args.plan.now c.args.graph.now c.args.count f (sym is));
         acts = search rules;
         formed = preserves.formed;
       },

@@ -1,6 +1,6 @@
 use Rattle.std.proofs.Common.{arith}
 use Rattle.std.proofs.lemmas.Grind.{common_steps}
-use Rattle.rule_merge.proofs.Dropped.{preserves_of, held_of, one_of, over_held, acts_of}
+use Rattle.rule_merge.proofs.DropCopyActs.{preserves_of, held_of, one_of, over_held, acts_of}
 use Rattle.rule_merge.proofs.drop_copy.dropped.Goals as goal
 
 pub returns-clause-preserves : goal.returns-clause-preserves

@@ -1,9 +1,9 @@
 use Rattle.std.proofs.lemmas.Grind.{common_steps}
 use Rattle.std.proofs.Common.{◌-◌, ◌∙◌, sym, ap, slice_index_or, arith}
 use Rattle.qgm_core.specs.Boxes.{is_box}
-use Rattle.qgm_core.specs.Lists.{first}
+use Rattle.list_laws.specs.Lists.{first}
 use Rattle.qgm_core.specs.declared.kinds.QuantKind.TheVariants.{F}
-use Rattle.rule_merge.proofs.Placed.{get-at}
+use Rattle.rule_merge.proofs.MergeSelectPlaced.{get-at}
 use Rattle.rule_merge.proofs.merge_select.plan_at.Goals as goal
 
 pub returns : goal.returns

@@ -1,8 +1,8 @@
 use Rattle.std.proofs.Common.{◌∙◌, List, ap, subst, sym}
 use Rattle.sql_ast.specs.Shown as written
 use Rattle.sql_catalog.specs.Shown as declared
-use Rattle.query_checks.specs.Laws.{AreTyped, column_names}
-use Rattle.query_checks.specs.declared.column.TypedColumn.{TypedColumn}
+use Rattle.sql_faults.specs.Laws.{AreTyped, column_names}
+use Rattle.sql_faults.specs.declared.column.TypedColumn.{TypedColumn}
 use Rattle.sql_check.proofs.ByPlaces.{checked-answer, checked-names, checked-rows, checked-types}
 use Rattle.sql_check.proofs.checking.checked.Goals as goal
 

@@ -4,8 +4,8 @@ use Rattle.sql_ast.specs.Shown as written
 use Rattle.sql_meaning.specs.Meaning.{order_key}
 use Rattle.sql_meaning.specs.Names.{names}
 use Rattle.sql_meaning.specs.ResolvedShown as shown
-use Rattle.name_resolution.specs.Resolved.{Columns, bare, query}
-use Rattle.name_resolution.specs.Shapes.{columns_among}
+use Rattle.sql_names.specs.Resolved.{Columns, bare, query}
+use Rattle.sql_names.specs.Shapes.{columns_among}
 use Rattle.sql_check.proofs.checking.resolved.Goals as goal
 
 pub returns-clause-names : goal.returns-clause-names

@@ -1,5 +1,5 @@
 use Rattle.std.proofs.Common.{◌≡◌, ◌+◌, ◌++◌, ◌∷◌, [], ℕ, List, ap, sym, ◌∙◌, arith}
-use Rattle.qgm_core.specs.Lists.{times}
+use Rattle.list_laws.specs.Lists.{times}
 use Rattle.qgm_core.proofs.ByNumber.{counted-more, read-within, times-most}
 use Rattle.qgm_core.proofs.counts.Counts.push.Goals as goal
 

@@ -9,7 +9,7 @@ use Rattle.qgm_core.proofs.Shifts.{numbered-shifted}
 use Rattle.std.proofs.Math.ListN.{set}
 use Rattle.qgm_terms.specs.Terms.{Term}
 use Rattle.qgm_core.specs.Held.{HasAll}
-use Rattle.qgm_core.specs.Lists.{change}
+use Rattle.list_laws.specs.Lists.{change}
 use Rattle.qgm_core.proofs.Held.{all-parts, all-shifted, all-then}
 use Rattle.qgm_core.proofs.graph.Graph.drop_column.Goals as goal
 

@@ -1,7 +1,7 @@
 use Rattle.std.proofs.Common.{Option, ap, sym, ◌∙◌, subst, rules}
 use Rattle.qgm_core.specs.Boxes.{HasBox, QueryGraph, is_box}
 use Rattle.qgm_core.specs.Edits.{put_found}
-use Rattle.qgm_core.specs.Lists.{without}
+use Rattle.list_laws.specs.Lists.{without}
 use Rattle.qgm_core.specs.Numbered.{Numbered}
 use Rattle.qgm_core.specs.declared.node.Node.{Node}
 use Rattle.qgm_core.proofs.Changed.{found}

@@ -1,7 +1,7 @@
 use Rattle.std.proofs.Common.{◌≡◌, ◌-◌, ◌≤◌, ℕ, List, Option, Some, ◌∙◌, ap, sym, refl, subst, slice_get, arith}
 use Rattle.qgm_core.specs.Boxes.{QueryGraph, has_box, is_box}
 use Rattle.qgm_core.specs.Edits.{cond_at, conds_in, move_conjunct, put_cond_found, spare_in, with_cond, without_cond}
-use Rattle.qgm_core.specs.Lists.{first, change}
+use Rattle.list_laws.specs.Lists.{first, change}
 use Rattle.qgm_core.specs.Numbered.{Numbered}
 use Rattle.qgm_core.specs.declared.node.Node.{Node}
 use Rattle.qgm_terms.specs.Terms.{Cond}

@@ -1,7 +1,7 @@
 use Rattle.std.proofs.Common.{arith}
 use Rattle.std.proofs.lemmas.Grind.{common_steps}
-use Rattle.rule_merge.specs.MergeSelect.{merge_select_given}
-use Rattle.rule_merge.proofs.Placed.{acts-then, may-step-then, preserves-then}
+use Rattle.rule_merge.specs.MergeSelectExact.{merge_select_given}
+use Rattle.rule_merge.proofs.MergeSelectPlaced.{acts-then, may-step-then, preserves-then}
 use Rattle.rule_merge.proofs.merge_select.MergeSelectRule.apply.Goals as goal
 
 pub merge-requires : goal.merge-requires

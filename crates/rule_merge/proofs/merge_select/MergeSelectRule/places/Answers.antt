@@ -1,18 +1,18 @@
 use Rattle.std.proofs.lemmas.Grind.{common_steps}
-use Rattle.rule_merge.specs.MergeSelect.{merge_select_ascending}
+use Rattle.rule_merge.specs.MergeSelectExact.{merge_select_ascending}
 use Rattle.std.proofs.Common.{◌≡◌, ◌+◌, ◌-◌, ◌∙◌, Some, sym, ap, subst, slice_index_or, arith}
 use Rattle.std.specs.Prelude.{slice_get}
 use Rattle.qgm_core.specs.Boxes.{QueryGraph, box_of, is_box}
-use Rattle.qgm_core.specs.Lists.{first}
+use Rattle.list_laws.specs.Lists.{first}
 use Rattle.qgm_core.specs.declared.kinds.QuantKind.TheVariants.{F}
 use Rattle.qgm_core.specs.declared.owned.OwnedQuant.{OwnedQuant}
-use Rattle.rule_merge.proofs.Placed.{found-itself}
-use Rattle.rule_merge.proofs.Lists.{index-get}
+use Rattle.rule_merge.proofs.MergeSelectPlaced.{found-itself}
 use Rattle.rule_merge.proofs.merge_select.MergeSelectRule.places.Goals as goal
+use Rattle.list_laws.proofs.Indexed.{index-get}
 
 pub may_at-requires-clause-at : goal.may_at-requires-clause-at
 may_at-requires-clause-at c =
-    subst (λ (g : QueryGraph). box_of c.in-Some.node.now.id g ≡ Some c.in-Some.node.now) (sym c.in_ok-tables.ensures.graph)
+    subst (λ (g : QueryGraph). box_of c.in-Some.node.now.id g ≡ Some c.in-Some.node.now) (sym c.in_ok-lookups.ensures.graph)
     (found-itself c.args.graph.now c.args.b c.in-Some.node.now (sym (c.in-Some.ensures ∙ ap (first (is_box c.args.b)) c.nodes.ensures)))
 
 pub may_at-requires-clause-nth : goal.may_at-requires-clause-nth
@@ -27,8 +27,8 @@ may_at-requires-clause-nth c =
 pub returns-then-not-may_have-clause-order : goal.returns-then-not-may_have-clause-order
 returns-then-not-may_have-clause-order c = grind (arith, common_steps, merge_select_ascending)
 
-pub returns-in_err-tables-clause-order : goal.returns-in_err-tables-clause-order
-returns-in_err-tables-clause-order c = grind (arith, common_steps, merge_select_ascending)
+pub returns-in_err-lookups-clause-order : goal.returns-in_err-lookups-clause-order
+returns-in_err-lookups-clause-order c = grind (arith, common_steps, merge_select_ascending)
 
 pub returns-in_err-passes-clause-order : goal.returns-in_err-passes-clause-order
 returns-in_err-passes-clause-order c = grind (arith, common_steps, merge_select_ascending)
@@ -42,8 +42,8 @@ returns-clause-order c = grind (arith, common_steps, merge_select_ascending)
 pub may_at-requires-clause-formed : goal.may_at-requires-clause-formed
 may_at-requires-clause-formed c = grind (arith, common_steps)
 
-pub may_at-requires-clause-tables : goal.may_at-requires-clause-tables
-may_at-requires-clause-tables c = grind (arith, common_steps)
+pub may_at-requires-clause-lookups : goal.may_at-requires-clause-lookups
+may_at-requires-clause-lookups c = grind (arith, common_steps)
 
 pub loop-k-preserved : goal.loop-k-preserved
 loop-k-preserved c = grind (arith, common_steps)

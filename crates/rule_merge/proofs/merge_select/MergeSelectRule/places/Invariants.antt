@@ -1,7 +1,7 @@
 use Rattle.std.proofs.Common.{◌≡◌, ◌+◌, ◌++◌, drop, map}
 use Rattle.rule_api.specs.Picks.{picks}
 use Rattle.rule_api.specs.Rules.{place_at}
-use Rattle.rule_merge.specs.Merging.{may_at}
+use Rattle.rule_merge.specs.MergeSelect.{may_at}
 use Rattle.rule_merge.proofs.merge_select.MergeSelectRule.places.Given as goal
 
 -- what is left adds the rest

@@ -1,0 +1,25 @@
+use Rattle.std.proofs.Common.{◌≡◌, All, rules, subst}
+use Rattle.box_exec.specs.Hashed.{RejectsBy}
+use Rattle.box_exec.specs.declared.hashed.Key.{Key}
+use Rattle.box_exec.proofs.Hashing.{key-rejects}
+use Rattle.box_exec.proofs.Rejections.{all-more}
+use Rattle.box_exec.proofs.hashed.keys_of.Goals.{then-e-place+in-Some+in_ok-push, then-e-place+in_default, else-e-place}
+use Rattle.box_exec.proofs.hashed.keys_of.Goals as goal
+
+pub loop-e-preserved : goal.loop-e-preserved
+loop-e-preserved c =
+    let P = λ (k : Key). RejectsBy c.args.early.now c.args.place c.args.q k in
+    elim c.if-e-place.branch [
+      | then-e-place+in-Some+in_ok-push w ↦
+          let here : c.e-item.result.place ≡ c.args.place = search rules in
+          let put : w.push.new.self.items ≡ c.if-e-place.made.items = search rules in
+          subst (All P) put
+          (all-more P c.loop-e.made.items w.push.new.self.items w.in_ok-push.ensures.items c.loop-e.invariant
+          (key-rejects c.args.early.now c.loop-e.e-index c.e-item.result c.args.place c.args.q w.in-Some.key c.loop-e-test.true c.e-item.is here w.in-Some.ensures))
+      | then-e-place+in_default w ↦
+          let same : c.loop-e.made.items ≡ c.if-e-place.made.items = search rules in
+          subst (All P) same c.loop-e.invariant
+      | else-e-place w ↦
+          let same : c.loop-e.made.items ≡ c.if-e-place.made.items = search rules in
+          subst (All P) same c.loop-e.invariant
+    ]

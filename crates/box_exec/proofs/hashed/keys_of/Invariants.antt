@@ -1,0 +1,6 @@
+use Rattle.std.proofs.Common.{All}
+use Rattle.box_exec.specs.Hashed.{RejectsBy}
+use Rattle.box_exec.proofs.hashed.keys_of.Given as goal
+
+abbrev pub invariant-loop-e : goal.invariant-loop-e
+invariant-loop-e l = All (λ k. RejectsBy l.early l.place l.q k) l.made.items

@@ -1,7 +1,0 @@
-use Rattle.std.proofs.Common.{◌≡◌, ◌++◌, ◌+◌, ◌-◌}
-use Rattle.qgm_shown.specs.Shown.{refs}
-use Rattle.built_terms.specs.Written.{frame_of}
-use Rattle.built_terms.proofs.frames.push_refs.Given as goal
-
-abbrev pub invariant-loop-k : goal.invariant-loop-k
-invariant-loop-k l = frame_of l.frame.items ++ refs l.q (l.k + 1) (l.n - l.k) ≡ frame_of l.fn.frame.items ++ refs l.q 1 l.n

@@ -1,7 +1,0 @@
-use Rattle.std.proofs.Common.{◌≡◌, ◌++◌, map, drop}
-use Rattle.qgm_terms.specs.Shown.{terms}
-use Rattle.qgm_shown.specs.Typing.{typed_by}
-use Rattle.built_terms.proofs.store.head_types.Given as goal
-
-abbrev pub invariant-loop-x : goal.invariant-loop-x
-invariant-loop-x l = l.types ++ map (typed_by l.rows) (terms (drop l.x-index l.x-items)) ≡ map (typed_by l.rows) (terms l.x-items)

@@ -1,6 +1,0 @@
-use Rattle.std.proofs.Common.{arith}
-use Rattle.std.proofs.lemmas.Grind.{common_steps}
-use Rattle.built_terms.proofs.store.number.Goals as goal
-
-pub returns-clause-store : goal.returns-clause-store
-returns-clause-store c = grind (arith, common_steps)

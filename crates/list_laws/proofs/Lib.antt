@@ -1,0 +1,4 @@
+pub mod Booleans
+pub mod Membership
+pub mod Counting
+pub mod Indexed

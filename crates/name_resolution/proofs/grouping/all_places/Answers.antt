@@ -1,6 +1,0 @@
-use Rattle.std.proofs.Common.{arith}
-use Rattle.std.proofs.lemmas.Grind.{common_steps}
-use Rattle.name_resolution.proofs.grouping.all_places.Goals as goal
-
-pub loop-d-preserved : goal.loop-d-preserved
-loop-d-preserved c = grind (arith, common_steps)

@@ -1,5 +1,0 @@
-use Rattle.std.proofs.Common.{length}
-use Rattle.name_resolution.proofs.names.+columns_named.Given as goal
-
-abbrev pub decreases-columns_named : goal.decreases-columns_named
-decreases-columns_named l = length l.known.now

@@ -1,6 +1,0 @@
-use Rattle.std.proofs.Common.{arith}
-use Rattle.std.proofs.lemmas.Grind.{common_steps}
-use Rattle.name_resolution.proofs.names.push_all_names.Goals as goal
-
-pub loop-range-preserved : goal.loop-range-preserved
-loop-range-preserved c = grind (arith, common_steps)

@@ -1,9 +1,0 @@
-use Rattle.std.proofs.Common.{arith}
-use Rattle.std.proofs.lemmas.Grind.{common_steps}
-use Rattle.name_resolution.proofs.queries.resolved.Goals as goal
-
-pub returns-clause-columns : goal.returns-clause-columns
-returns-clause-columns c = grind (arith, common_steps)
-
-pub returns-clause-query : goal.returns-clause-query
-returns-clause-query c = grind (arith, common_steps)

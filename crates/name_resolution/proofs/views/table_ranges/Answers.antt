@@ -1,9 +1,0 @@
-use Rattle.std.proofs.Common.{arith}
-use Rattle.std.proofs.lemmas.Grind.{common_steps}
-use Rattle.name_resolution.proofs.views.table_ranges.Goals as goal
-
-pub loop-table-preserved : goal.loop-table-preserved
-loop-table-preserved c = grind (arith, common_steps)
-
-pub returns : goal.returns
-returns c = grind (arith, common_steps)

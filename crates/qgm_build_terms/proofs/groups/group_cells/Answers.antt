@@ -1,0 +1,10 @@
+use Rattle.std.proofs.Common.{arith}
+use Rattle.std.proofs.lemmas.Grind.{common_steps}
+use Rattle.qgm_build_terms.proofs.Grouped.{refs_more}
+use Rattle.qgm_build_terms.proofs.groups.group_cells.Goals as goal
+
+pub loop-x-preserved : goal.loop-x-preserved
+loop-x-preserved c = grind (arith, common_steps, refs_more)
+
+pub returns : goal.returns
+returns c = grind (arith, common_steps)

@@ -1,5 +1,0 @@
-use Rattle.qgm_formed.proofs.Tables.{lookup-is}
-use Rattle.qgm_formed.proofs.types.column_types.Goals as goal
-
-pub returns : goal.returns
-returns c = lookup-is c.args.nodes.now c.in_ok-known.known.places c.in_ok-known.ensures.1 c.in_ok-known.known.table.items c.in_ok-known.ensures.0

@@ -1,6 +1,0 @@
-use Rattle.std.proofs.Common.{◌≡◌, take}
-use Rattle.qgm_formed.specs.Types as spec
-use Rattle.qgm_formed.proofs.types.known.Given as goal
-
-abbrev pub invariant-loop-column : goal.invariant-loop-column
-invariant-loop-column l = l.all ≡ spec.known (take l.column-index l.types)

@@ -1,8 +1,0 @@
-use Rattle.std.proofs.Common.{◌≡◌, drop}
-use Rattle.qgm_core.specs.Lists.{first}
-use Rattle.qgm_formed.specs.Types.{is_typed}
-use Rattle.qgm_formed.proofs.types.typed_at.Given as goal
-
--- what is left decides
-abbrev pub invariant-loop-typed : goal.invariant-loop-typed
-invariant-loop-typed l = first (is_typed l.b) l.table ≡ first (is_typed l.b) (drop l.typed-index l.table)

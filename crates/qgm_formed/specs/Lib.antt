@@ -1,9 +1,0 @@
-pub mod Columns
-pub mod Places
-pub mod Types
-pub mod View
-pub mod Shapes
-pub mod Closed
-pub mod WellFormed
-pub mod Sentences
-pub mod Laws

@@ -1,0 +1,13 @@
+pub mod TypeLaws
+pub mod HeadLaws
+pub mod Below
+pub mod Seen
+pub mod Kept
+pub mod Faults
+pub mod Tables
+pub mod Upward
+pub mod ClosedLaws
+pub mod Rounds
+pub mod DepthWalk
+pub mod BreadthWalk
+pub mod Walks

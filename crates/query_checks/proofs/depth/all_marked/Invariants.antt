@@ -1,6 +1,0 @@
-use Rattle.std.proofs.Common.{◌≡◌, ◌++◌, drop}
-use Rattle.query_checks.specs.Depths.{over}
-use Rattle.query_checks.proofs.depth.all_marked.Given as goal
-
-abbrev pub invariant-loop-view : goal.invariant-loop-view
-invariant-loop-view l = l.marks ++ over (drop l._view-index l.views) 0 ≡ over l.views 0

@@ -1,6 +1,0 @@
-use Rattle.std.proofs.Common.{◌≡◌, drop}
-use Rattle.query_checks.specs.Rules.{places_differ}
-use Rattle.query_checks.proofs.operands.places_differ.Given as goal
-
-abbrev pub invariant-loop-x : goal.invariant-loop-x
-invariant-loop-x l = places_differ (drop l.x-index l.a) l.rest ≡ places_differ l.a l.b

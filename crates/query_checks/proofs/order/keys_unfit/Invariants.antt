@@ -1,7 +1,0 @@
-use Rattle.std.proofs.Common.{◌≡◌, drop}
-use Rattle.query_checks.specs.Numbers.{number}
-use Rattle.query_checks.specs.Rules.{keys_unfit, lesser}
-use Rattle.query_checks.proofs.order.keys_unfit.Given as goal
-
-abbrev pub invariant-loop-sort : goal.invariant-loop-sort
-invariant-loop-sort l = lesser (number l.fault) (keys_unfit l.columns (drop l.sort-index l.sorts)) ≡ keys_unfit l.columns l.sorts

@@ -1,9 +1,0 @@
-use Rattle.std.proofs.Common.{arith}
-use Rattle.std.proofs.lemmas.Grind.{common_steps}
-use Rattle.query_checks.proofs.sources.ranged.Goals as goal
-
-pub returns-clause-fault : goal.returns-clause-fault
-returns-clause-fault c = grind (arith, common_steps)
-
-pub returns-clause-tables : goal.returns-clause-tables
-returns-clause-tables c = grind (arith, common_steps)

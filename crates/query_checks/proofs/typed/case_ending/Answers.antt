@@ -1,9 +1,0 @@
-use Rattle.std.proofs.Common.{arith}
-use Rattle.std.proofs.lemmas.Grind.{common_steps}
-use Rattle.query_checks.proofs.typed.case_ending.Goals as goal
-
-pub returns-clause-sort : goal.returns-clause-sort
-returns-clause-sort c = grind (arith, common_steps)
-
-pub returns-clause-fault : goal.returns-clause-fault
-returns-clause-fault c = grind (arith, common_steps)

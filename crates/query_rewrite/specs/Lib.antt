@@ -1,4 +1,0 @@
-pub mod Built
-pub mod Answers
-pub mod Explained
-pub mod Examples

@@ -1,7 +1,0 @@
-// What the definition of the text comes to.
-ghost use Rattle.query_rewrite.specs.Examples.{OfMerge};
-
-/// A rewriting has this text. It does nothing.
-pub fn examples()
-    ensures { OfMerge }
-{}

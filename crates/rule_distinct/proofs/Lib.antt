@@ -1,0 +1,8 @@
+pub mod OtherDistinct
+pub mod DropKeyDistinctMeans
+pub mod DropKeyDistinctKeeps
+pub mod PermitDistinctMeans
+pub mod PermitDistinctKeeps
+pub mod PermitDistinctEdits
+pub mod DropUnionDistinctMeans
+pub mod DropUnionDistinctKeeps

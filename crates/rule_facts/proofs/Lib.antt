@@ -1,0 +1,12 @@
+pub mod Lists
+pub mod Premises
+pub mod Meets
+pub mod Numbered
+pub mod Reach
+pub mod Unreached
+pub mod Preserved
+pub mod Compacted
+pub mod FactsThere
+pub mod FactsWithoutDistinct
+pub mod MarksBefore
+pub mod Actions

@@ -1,0 +1,8 @@
+use Rattle.std.proofs.Common.{◌≡◌, drop}
+use Rattle.qgm_core.specs.Boxes.{is_box}
+use Rattle.list_laws.specs.Lists.{first}
+use Rattle.rule_facts.proofs.boxes.box_among.Given as goal
+
+-- what is left decides
+abbrev pub invariant-loop-node : goal.invariant-loop-node
+invariant-loop-node l = first (is_box l.b) l.nodes ≡ first (is_box l.b) (drop l.node-index l.nodes)

@@ -1,0 +1,58 @@
+-- What all absorbing rules keep: tables that satisfy the bases, closed boxes, and scalar quantifiers.
+use Rattle.std.proofs.Common.{ℕ, ◌≡◌, ◌&&◌, not, true, false, List, [], ◌∷◌, ◌++◌, None, sym, ap, ◌∙◌, inl, inr}
+use Rattle.std.proofs.lemmas.Bool.{cases_Bool}
+use Rattle.row_bag.specs.Bags.{Agree}
+use Rattle.row_bag.specs.Sets.{same_cells}
+use Rattle.row_bag.specs.declared.tables.Table.{Table}
+use Rattle.qgm_core.specs.Boxes.{QueryGraph, is_box, numbers}
+use Rattle.qgm_core.specs.Edits.{compact}
+use Rattle.qgm_core.specs.Kinds.{is_S}
+use Rattle.list_laws.specs.Lists.{EachOnce, first}
+use Rattle.qgm_core.specs.declared.node.Node.{Node}
+use Rattle.qgm_core.specs.declared.owned.OwnedQuant.{OwnedQuant}
+use Rattle.qgm_wellformed.specs.WellFormed.{fault}
+use Rattle.qgm_edit_laws.specs.Graph.{Sound}
+use Rattle.qgm_edit_laws.proofs.Formed.{sound-checked}
+use Rattle.qgm_edit_laws.proofs.FreeLoose.{looks-free, open-looks}
+use Rattle.qgm_meaning.specs.Meaning.{root_bag}
+use Rattle.qgm_meaning.specs.Satisfies.{Satisfies}
+use Rattle.qgm_meaning.specs.Scope.{loose}
+use Rattle.qgm_props.specs.Calm.{is_closed}
+use Rattle.rule_api.specs.Rules.{Preserves}
+use Rattle.qgm_props.specs.Measure.{is_loose_scalar, keyless_found}
+use Rattle.rule_facts.proofs.Compacted.{compact-preserves}
+use Rattle.rule_magic.proofs.CalmFires.{closed-is}
+use Rattle.list_laws.proofs.Booleans.{clash}
+
+-- ---- tables
+
+pub satisfies-left : (tables : List Table) (xs ys : List Node) → Satisfies tables (xs ++ ys) → Satisfies tables xs
+satisfies-left tables [] ys h = tt
+satisfies-left tables (x ∷ xs) ys h = (h.0, satisfies-left tables xs ys h.1)
+
+pub satisfies-right : (tables : List Table) (xs ys : List Node) → Satisfies tables (xs ++ ys) → Satisfies tables ys
+satisfies-right tables [] ys h = h
+satisfies-right tables (x ∷ xs) ys h = satisfies-right tables xs ys h.1
+
+pub satisfies-both : (tables : List Table) (xs ys : List Node) → Satisfies tables xs → Satisfies tables ys → Satisfies tables (xs ++ ys)
+satisfies-both tables [] ys h k = k
+satisfies-both tables (x ∷ xs) ys h k = (h.0, satisfies-both tables xs ys h.1 k)
+
+-- a graph in which the check finds nothing, of which the root has the bags, preserves without what the root doesn't reach
+pub then-compact : (g h : QueryGraph) → fault h ≡ None → EachOnce (numbers h.boxes) → ((tables : List Table) → Satisfies tables g.boxes → Agree same_cells (root_bag tables h) (root_bag tables g))
+    → ((tables : List Table) → Satisfies tables g.boxes → Satisfies tables h.boxes) → h.names ≡ g.names → h.order ≡ g.order → Preserves g (compact h)
+then-compact g h f u bags bases names order = compact-preserves g h ((sound-checked h u).0 f).0 u f names order bags bases
+
+-- ---- boxes
+
+-- closed boxes look nothing up
+module _ (bs : List Node) (root : ℕ) (w : Sound bs root) where
+  pub closed-looks : (b : ℕ) → is_closed bs b ≡ true → (q : ℕ) → loose bs b q ≡ false
+  closed-looks b h q = elim (cases_Bool (loose bs b q)) [ inr f ↦ f | inl t ↦ absurd (closed-is bs w.ordered b h q (looks-free bs root w b q t)) ]
+
+  pub looks-closed : (b : ℕ) → ((q : ℕ) → loose bs b q ≡ false) → is_closed bs b ≡ true
+  looks-closed b h = elim (cases_Bool (is_closed bs b)) [ inl t ↦ t | inr f ↦ absurd (let x = open-looks bs root w b f in clash (loose bs b x.0) x.1 (h x.0)) ]
+
+-- under a quantifier whose box is as it was, a group without keys is found as before
+pub loose-scalar : (bs hs : List Node) (r : OwnedQuant) → keyless_found (first (is_box r.over) hs) ≡ keyless_found (first (is_box r.over) bs) → is_loose_scalar hs r ≡ true → is_loose_scalar bs r ≡ true
+loose-scalar bs hs r e h = sym (ap (λ b. is_S r.kind && not b) e) ∙ h

@@ -1,0 +1,37 @@
+use Rattle.rule_magic.proofs.AbsorbSetFacts.{sets-given}
+use Rattle.rule_magic.proofs.AbsorbArmBags.{absorbs-arms, absorbs-left, absorbs-sets}
+use Rattle.rule_magic.proofs.AbsorbBags.{absorbs-group, absorbs-keyless, absorbs-select}
+use Rattle.rule_magic.proofs.AbsorbGroupKeeps.{group-preserves}
+use Rattle.rule_magic.proofs.AbsorbKeylessKeeps.{keyless-preserves}
+use Rattle.rule_magic.proofs.AbsorbSelectKeeps.{select-preserves}
+use Rattle.rule_magic.proofs.laws.absorbing_laws.Goals as goal
+
+pub returns-clause-select : goal.returns-clause-select
+returns-clause-select c = absorbs-select
+
+pub returns-clause-select_preserves : goal.returns-clause-select_preserves
+returns-clause-select_preserves c = select-preserves
+
+pub returns-clause-group : goal.returns-clause-group
+returns-clause-group c = absorbs-group
+
+pub returns-clause-group_preserves : goal.returns-clause-group_preserves
+returns-clause-group_preserves c = group-preserves
+
+pub returns-clause-keyless : goal.returns-clause-keyless
+returns-clause-keyless c = absorbs-keyless
+
+pub returns-clause-keyless_preserves : goal.returns-clause-keyless_preserves
+returns-clause-keyless_preserves c = keyless-preserves
+
+pub returns-clause-sets : goal.returns-clause-sets
+returns-clause-sets c = absorbs-sets
+
+pub returns-clause-outer_left : goal.returns-clause-outer_left
+returns-clause-outer_left c = absorbs-left
+
+pub returns-clause-outer_arms : goal.returns-clause-outer_arms
+returns-clause-outer_arms c = absorbs-arms
+
+pub returns-clause-sets_given : goal.returns-clause-sets_given
+returns-clause-sets_given c = sets-given

@@ -1,0 +1,50 @@
+-- G4, a set operation under a fed box is one of tagged arms: its bag.
+use Rattle.std.specs.Prelude.{ℕ, ◌≡◌, ◌==◌, ◌&&◌, ◌⊎◌, Bool, true, false, List, [], ◌∷◌}
+use Rattle.sql_value.specs.declared.cell.Cell.{Cell}
+use Rattle.sql_value.specs.declared.order_key.SqlType.{SqlType}
+use Rattle.row_bag.specs.AsSets.{stands}
+use Rattle.row_bag.specs.Bags.{Agree}
+use Rattle.row_bag.specs.Sets.{same_cells}
+use Rattle.row_bag.specs.declared.tables.Table.{Table}
+use Rattle.qgm_core.specs.Boxes.{Ordered, QueryGraph, has_box, width, numbers}
+use Rattle.qgm_core.specs.Edits.{range}
+use Rattle.list_laws.specs.Lists.{In, EachOnce}
+use Rattle.qgm_core.specs.declared.kinds.BoxKind.TheVariants.{SetOp}
+use Rattle.qgm_core.specs.declared.kinds.Distinct.TheVariants.{Preserve}
+use Rattle.qgm_core.specs.declared.kinds.QuantKind.TheVariants.{F}
+use Rattle.qgm_core.specs.declared.kinds.Role.{Role}
+use Rattle.qgm_core.specs.declared.kinds.Role.TheVariants.{Plain}
+use Rattle.qgm_core.specs.declared.kinds.SetOperator.{SetOperator}
+use Rattle.qgm_core.specs.declared.node.Node.{Node}
+use Rattle.qgm_core.specs.declared.owned.OwnedQuant.{OwnedQuant}
+use Rattle.qgm_meaning.specs.Meaning.{bag}
+use Rattle.qgm_meaning.specs.Scope.{loose}
+use Rattle.qgm_meaning.specs.Values.{Environment, bound}
+use Rattle.qgm_wellformed.specs.Sentences.{WellFormed}
+use Rattle.qgm_props.specs.Inferred.{Facts}
+use Rattle.qgm_props.specs.Laws.{Tells}
+use Rattle.qgm_meaning.specs.Satisfies.{Satisfies}
+use Rattle.rule_magic.specs.Places.{MayAbsorb}
+use Rattle.rule_magic.specs.Boxes.{box_as, pair_box}
+use Rattle.rule_magic.specs.FedBox.{IsFedAt}
+use Rattle.rule_magic.specs.UnderTags.{NoneAmong}
+use Rattle.rule_magic.specs.AbsorbArms.{Renames, IsStill, IsRenamed, HasArms}
+
+-- G4: in the place of d stands the set operation, over selects, which have the numbers of c and a new one
+abbrev pub AbsorbsSets : Type 0
+AbsorbsSets =
+    (tables : List Table) (g h : QueryGraph) (d m c x y : Node) (a r l1 r1 : OwnedQuant) (p q1 q2 u1 u2 s : ℕ) (marked : ℕ → Bool) (form : SetOperator) (types mt : List SqlType) (left right : Role)
+    → IsFedAt tables g d m c a r → HasArms g d m c x y a l1 r1 marked → Renames g a.id p marked → c.parts.kind ≡ SetOp form types → Ordered h.boxes
+    → (q1 == a.id) ≡ false → (q2 == p) ≡ false → (u1 == u2) ≡ false → has_box g.boxes s ≡ false → marked s ≡ false
+    → ((e : Environment) (u : List Cell) → stands same_cells u (bag tables g m.id e) ≡ true → NoneAmong form (bag tables g x.id (bound a.id u e)) (bag tables g y.id (bound a.id u e)))
+    → ((n : Node) → In n h.boxes → IsStill g d c a.id marked n ⊎ (IsRenamed g a.id p (width m) marked n
+    ⊎ ((n ≡ box_as d.id (SetOp form mt) Preserve Plain [] [] (range u1 F c.id ∷ (range u2 F s ∷ [])))
+    ⊎ ((n ≡ pair_box c.id left a.id m.id (width m) q1 x.id (width x)) ⊎ (n ≡ pair_box s right p m.id (width m) q2 y.id (width y))))))
+    → (b : ℕ) → has_box g.boxes b ≡ true → has_box h.boxes b ≡ true → (b == c.id) ≡ false → (marked b && loose g.boxes b a.id) ≡ false → (e : Environment) → Agree same_cells (bag tables h b e) (bag tables g b e)
+
+-- the conditions of G4 give what this asks of errors: no arm has one under a tag, where the operation would collapse for it
+abbrev pub SetsGiven : Type 0
+SetsGiven =
+    (g : QueryGraph) → EachOnce (numbers g.boxes) → WellFormed g → (known : Facts) → Tells known g.boxes → (d : Node) (may : MayAbsorb g.boxes known d) (tables : List Table) → Satisfies tables g.boxes
+    → (form : SetOperator) (types : List SqlType) (l r : OwnedQuant) → may.c.parts.kind ≡ SetOp form types → may.c.quants ≡ l ∷ (r ∷ []) → (l.id == r.id) ≡ false → (x y : Node) → l.over ≡ x.id → r.over ≡ y.id
+    → (e : Environment) (u : List Cell) → stands same_cells u (bag tables g may.m.id e) ≡ true → NoneAmong form (bag tables g x.id (bound may.a.id u e)) (bag tables g y.id (bound may.a.id u e))

@@ -1,8 +1,0 @@
-use Rattle.std.proofs.Common.{◌≡◌, drop}
-use Rattle.qgm_core.specs.Boxes.{is_box}
-use Rattle.qgm_core.specs.Lists.{first}
-use Rattle.rule_merge.proofs.copies.box_among.Given as goal
-
--- what is left decides
-abbrev pub invariant-loop-node : goal.invariant-loop-node
-invariant-loop-node l = first (is_box l.b) l.nodes ≡ first (is_box l.b) (drop l.node-index l.nodes)

@@ -1,0 +1,6 @@
+use Rattle.std.proofs.Common.{arith}
+use Rattle.std.proofs.lemmas.Grind.{common_steps}
+use Rattle.rule_merge.proofs.drop_copy.condition.no_cond.Goals as goal
+
+pub returns-in-empty : goal.returns-in-empty
+returns-in-empty c = grind (arith, common_steps)

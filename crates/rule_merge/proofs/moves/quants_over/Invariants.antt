@@ -1,7 +1,0 @@
-use Rattle.std.proofs.Common.{◌≡◌, ◌++◌, drop}
-use Rattle.qgm_core.specs.Edits.{quants_over}
-use Rattle.rule_merge.proofs.moves.quants_over.Given as goal
-
--- what is left adds the rest
-abbrev pub invariant-loop-node : goal.invariant-loop-node
-invariant-loop-node l = l.out.items ++ quants_over l.b (drop l.node-index l.nodes) ≡ quants_over l.b l.nodes

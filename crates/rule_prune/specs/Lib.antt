@@ -1,0 +1,5 @@
+pub mod DropColumn
+pub mod DropQuantifier
+pub mod Laws
+pub mod Unnamed
+pub mod Pruned

@@ -1,0 +1,10 @@
+pub mod Pushable
+pub mod PushPlaces
+pub mod PushExact
+pub mod Moves
+pub mod PushIntoSelect
+pub mod PushIntoSelectExact
+pub mod PushThroughGroup
+pub mod PushIntoArms
+pub mod PushIntoLeft
+pub mod Laws

@@ -1,0 +1,80 @@
+// P1.
+ghost use Rattle.std.specs.Prelude.{IfOk};
+ghost use Rattle.list_laws.specs.Lists.{In};
+ghost use Rattle.qgm_wellformed.specs.Sentences.{WellFormed};
+ghost use Rattle.rule_api.specs.declared.rule_id.RuleId.TheVariants.{P1};
+ghost use Rattle.rule_push.specs.PushIntoSelect.{ActsPushIntoSelect, MayPushIntoSelect, PlansAt, push_into_select_pairs};
+ghost use Rattle.rule_push.specs.PushIntoSelectExact.{push_into_select_exact};
+
+use crate::moves::{PushPlan, plan_push, push};
+use crate::push_places::{may_leave, read_quant};
+use qgm_core::{BoxId, Graph};
+use qgm_terms::{ROOM, substitute_cond};
+use rule_api::{Place, Rule, RuleId, add_if};
+use rule_facts::box_at;
+use shared_types::OutOfMemory;
+use std::alloc::Global;
+
+/// P1: a conjunct on the columns of one quantifier goes into the plain select under it.
+#[derive(Clone, Copy)]
+pub struct PushIntoSelect;
+
+// What P1 does at a place.
+fn plan_at(alloc: Global, graph: &Graph, place: Place) -> Result<PushPlan, OutOfMemory>
+    requires formed { WellFormed graph.now }
+    requires given { In (place.i, place.j) (push_into_select_pairs graph.now place.at) }
+    ensures { IfOk result (λ m. PlansAt place graph.now m) }
+{
+    graph.each_number_once();
+    let Some(b) = box_at(graph.nodes(), place.at) else {
+        unreachable!()
+    };
+    let p = b.parts.conds.at(place.i);
+    let Some(r) = read_quant(b.quants.as_slice(), p) else {
+        unreachable!()
+    };
+    let Some(c) = box_at(graph.nodes(), r.over) else {
+        unreachable!()
+    };
+    let q = substitute_cond(alloc, p, r.id, &c.parts.head, ROOM)?;
+    let m = plan_push(alloc, b, place.i, c, q)?;
+    Ok(m)
+}
+
+impl Rule for PushIntoSelect {
+    ghost pairs = { λ _. push_into_select_pairs };
+
+    ghost may = { λ _. MayPushIntoSelect };
+
+    ghost act = { λ _. ActsPushIntoSelect };
+
+    ghost name = { λ _. P1 };
+
+    ghost exact = { λ _. push_into_select_exact };
+
+    fn id(&self) -> RuleId {
+        RuleId::P1
+    }
+
+    #[tactic(auto, unfolding(crate::specs::PushIntoSelect::push_into_select_pairs))]
+    fn places(&self, alloc: Global, graph: &Graph, b: BoxId) -> Result<Vec<Place>, OutOfMemory> {
+        let mut out = Vec::new(alloc);
+        graph.each_number_once();
+        let Some(node) = box_at(graph.nodes(), b) else {
+            return Ok(out);
+        };
+        let list = node.parts.conds.as_slice();
+        for k in 0..list.len() {
+            let passes = may_leave(alloc, graph, node, &list[k])?;
+            add_if(&mut out, passes, b, k + 1, 0)?;
+        }
+        Ok(out)
+    }
+
+    fn apply(&self, alloc: Global, graph: &mut Graph, place: Place) -> Result<(), OutOfMemory> {
+        graph.each_number_once();
+        let m = plan_at(alloc, graph, place)?;
+        push(alloc, graph, m)?;
+        Ok(())
+    }
+}

@@ -1,0 +1,65 @@
+-- The rules that are built, by their names. A name whose rule isn't built has no place.
+use Rattle.std.specs.Prelude.{ℕ, ◌↔◌, List, []}
+use Rattle.qgm_core.specs.Boxes.{QueryGraph, numbers}
+use Rattle.list_laws.specs.Lists.{EachOnce, In}
+use Rattle.qgm_wellformed.specs.Sentences.{WellFormed}
+use Rattle.rule_api.specs.Rules.{Pair}
+use Rattle.rule_api.specs.declared.place.Place.{Place}
+use Rattle.rule_api.specs.declared.rule_id.RuleId.{RuleId}
+use Rattle.rule_api.specs.declared.rule_id.RuleId.TheVariants.{M1, M2, U1, U2, U3, U4, L1, L2, L3, P1, P2, P3, P4, J1, J2, N1, N2, G1, G2, G3, G4, G5}
+use Rattle.rule_merge.specs.DropCopy.{DropsCopy, MayDropCopy, drop_copy_pairs}
+use Rattle.rule_merge.specs.DropCopyExact.{drop_copy_exact}
+use Rattle.rule_merge.specs.MergeSelect.{MayMergeSelect, MergesSelect, merge_select_pairs}
+use Rattle.rule_merge.specs.MergeSelectExact.{merge_select_exact}
+
+-- a rule: its places at a box, its condition, its action, and that it has exactly the places where its condition holds
+pub record BuiltRule : Type 1 where
+  pub pairs : QueryGraph → ℕ → List Pair
+  pub may : Place → QueryGraph → Type 0
+  pub act : Place → QueryGraph → QueryGraph → Type 0
+  pub exact : (g : QueryGraph) (b i j : ℕ) → EachOnce (numbers g.boxes) → WellFormed g → In (i, j) (pairs g b) ↔ may (record { at = b; i = i; j = j }) g
+
+abbrev pub merge_select : BuiltRule
+merge_select = record { pairs = merge_select_pairs; may = MayMergeSelect; act = MergesSelect; exact = merge_select_exact }
+
+abbrev pub drop_copy : BuiltRule
+drop_copy = record { pairs = drop_copy_pairs; may = MayDropCopy; act = DropsCopy; exact = drop_copy_exact }
+
+abbrev pub not_built : BuiltRule
+not_built = record { pairs = λ g b. []; may = λ p g. ⊥; act = λ p g h. ⊥; exact = λ g b i j once w. ((λ h. h), λ h. h) }
+
+abbrev pub built : RuleId → BuiltRule
+built M1 = merge_select
+built M2 = drop_copy
+built U1 = not_built
+built U2 = not_built
+built U3 = not_built
+built U4 = not_built
+built L1 = not_built
+built L2 = not_built
+built L3 = not_built
+built P1 = not_built
+built P2 = not_built
+built P3 = not_built
+built P4 = not_built
+built J1 = not_built
+built J2 = not_built
+built N1 = not_built
+built N2 = not_built
+built G1 = not_built
+built G2 = not_built
+built G3 = not_built
+built G4 = not_built
+built G5 = not_built
+
+abbrev pub built_pairs : RuleId → QueryGraph → ℕ → List Pair
+built_pairs r = (built r).pairs
+
+abbrev pub built_may : RuleId → Place → QueryGraph → Type 0
+built_may r = (built r).may
+
+abbrev pub built_act : RuleId → Place → QueryGraph → QueryGraph → Type 0
+built_act r = (built r).act
+
+pub built_exact : (r : RuleId) (g : QueryGraph) (b i j : ℕ) → EachOnce (numbers g.boxes) → WellFormed g → In (i, j) (built_pairs r g b) ↔ built_may r (record { at = b; i = i; j = j }) g
+built_exact r = (built r).exact

@@ -1,0 +1,106 @@
+// The rules that are built, as the engine takes them.
+ghost use Rattle.std.specs.Prelude.{IfOk};
+ghost use Rattle.qgm_wellformed.specs.Sentences.{WellFormed};
+ghost use Rattle.rule_set.specs.Rewriting.{Rewrites};
+ghost use Rattle.rule_set.specs.Built.{built_act, built_exact, built_may, built_pairs};
+
+use qgm_core::{BoxId, Graph};
+use rule_plan::Plan;
+use rule_api::{Place, Rule, RuleId};
+use rule_engine::{Rules, Trace, rewrite};
+use rule_merge::{DropCopy, MergeSelect};
+use shared_types::OutOfMemory;
+use std::alloc::Global;
+
+/// The rules that are built: M1 and M2.
+#[derive(Clone, Copy)]
+pub struct BuiltRules;
+
+impl Rules for BuiltRules {
+    ghost pairs = { λ _. built_pairs };
+
+    ghost may = { λ _. built_may };
+
+    ghost act = { λ _. built_act };
+
+    ghost exact = { λ _. built_exact };
+
+    fn places(
+        &self,
+        alloc: Global,
+        rule: RuleId,
+        graph: &Graph,
+        b: BoxId,
+    ) -> Result<Vec<Place>, OutOfMemory> {
+        match rule {
+            RuleId::M1 => MergeSelect.places(alloc, graph, b),
+            RuleId::M2 => DropCopy.places(alloc, graph, b),
+            RuleId::U1
+            | RuleId::U2
+            | RuleId::U3
+            | RuleId::U4
+            | RuleId::L1
+            | RuleId::L2
+            | RuleId::L3
+            | RuleId::P1
+            | RuleId::P2
+            | RuleId::P3
+            | RuleId::P4
+            | RuleId::J1
+            | RuleId::J2
+            | RuleId::N1
+            | RuleId::N2
+            | RuleId::G1
+            | RuleId::G2
+            | RuleId::G3
+            | RuleId::G4
+            | RuleId::G5 => Ok(Vec::new(alloc)),
+        }
+    }
+
+    fn apply(
+        &self,
+        alloc: Global,
+        rule: RuleId,
+        graph: &mut Graph,
+        place: Place,
+    ) -> Result<(), OutOfMemory> {
+        match rule {
+            RuleId::M1 => MergeSelect.apply(alloc, graph, place),
+            RuleId::M2 => DropCopy.apply(alloc, graph, place),
+            RuleId::U1
+            | RuleId::U2
+            | RuleId::U3
+            | RuleId::U4
+            | RuleId::L1
+            | RuleId::L2
+            | RuleId::L3
+            | RuleId::P1
+            | RuleId::P2
+            | RuleId::P3
+            | RuleId::P4
+            | RuleId::J1
+            | RuleId::J2
+            | RuleId::N1
+            | RuleId::N2
+            | RuleId::G1
+            | RuleId::G2
+            | RuleId::G3
+            | RuleId::G4
+            | RuleId::G5 => Ok(()),
+        }
+    }
+}
+
+/// Rewrites a graph by the rules that are built, and says what fired. It fails where there is no
+/// memory.
+pub fn rewrite_built(
+    alloc: Global,
+    graph: Graph,
+    plan: &Plan,
+) -> Result<(Graph, Trace), OutOfMemory>
+    requires { WellFormed graph }
+    ensures { IfOk result (λ r. Rewrites plan.now graph r.1 r.0) }
+{
+    rewrite(alloc, &BuiltRules, graph, plan)
+}

@@ -1,0 +1,6 @@
+//! The rules that are built, as the engine takes them, and the rewriting of a graph by them.
+#![tactic(auto)]
+
+mod built;
+
+pub use built::{BuiltRules, rewrite_built};

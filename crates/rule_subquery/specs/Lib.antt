@@ -1,0 +1,10 @@
+pub mod ExistsToJoin
+pub mod ExistsToJoinExact
+pub mod ScalarToGroup
+pub mod ScalarToGroupExact
+pub mod ScalarToJoin
+pub mod ScalarToJoinExact
+pub mod SetToExists
+pub mod SetToExistsExact
+pub mod ScalarToGroupExample
+pub mod ScalarToGroupLaws

@@ -1,0 +1,2 @@
+pub mod FollowsKeeps
+pub mod Preserving

@@ -1,0 +1,4 @@
+pub mod Follows
+pub mod EqualColumns
+pub mod EqualLiteral
+pub mod Laws

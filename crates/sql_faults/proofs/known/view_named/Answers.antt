@@ -1,0 +1,9 @@
+use Rattle.std.proofs.Common.{arith}
+use Rattle.std.proofs.lemmas.Grind.{common_steps}
+use Rattle.sql_faults.proofs.known.view_named.Goals as goal
+
+pub returns-then-eq : goal.returns-then-eq
+returns-then-eq c = grind (arith, common_steps)
+
+pub loop-view-preserved : goal.loop-view-preserved
+loop-view-preserved c = grind (arith, common_steps)

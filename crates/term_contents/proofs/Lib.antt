@@ -1,2 +1,0 @@
-pub mod PostfixLaws
-pub mod PostfixRead
