@@ -8,11 +8,11 @@ use crate::bindings::Bindings;
 use crate::evaluation::hold;
 use crate::under::{Loop, Under};
 use qgm_core::{Gc, Node};
+use qgm_term_search::stands_in_cond;
 use qgm_terms::Sought;
 use shared_types::OutOfMemory;
 use sql_value::Level;
 use std::alloc::Global;
-use qgm_term_search::stands_in_cond;
 
 /// A condition of a box, and the place of the first quantifier before which it can be tested.
 #[derive(Clone, Copy)]

@@ -20,7 +20,7 @@ is_ok (Ok q) = true
 is_ok (Err n) = false
 
 ok-of : (r : Result s.QueryText ℕ) → is_ok r ≡ true → (q : s.QueryText) × (r ≡ Ok q)
-ok-of (Ok q) e = (q , refl)
+ok-of (Ok q) e = (q, refl)
 ok-of (Err n) e = absurd (let no : ⊥ = cc in no)
 
 passes : is_ok (valid_query fixed (Some query_text)) ≡ true
@@ -44,4 +44,4 @@ pub none-refused : NoneRefused
 unfolding generated
 none-refused seed rows =
     let (q, e) = ok-of (valid_query fixed (Some query_text)) passes in
-    (record { catalog = fixed; query = q; tables = made seed rows } , with-catalog seed rows (catalog_of (Some schema_text)) fixed catalog-is ∙ (with-views seed rows fixed (view_refusal fixed) no-view ∙ with-query seed rows fixed (valid_query fixed (Some query_text)) q e))
+    (record { catalog = fixed; query = q; tables = made seed rows }, with-catalog seed rows (catalog_of (Some schema_text)) fixed catalog-is ∙ (with-views seed rows fixed (view_refusal fixed) no-view ∙ with-query seed rows fixed (valid_query fixed (Some query_text)) q e))

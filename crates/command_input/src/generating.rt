@@ -15,10 +15,10 @@ use crate::question::{Found, Question};
 use crate::report::Report;
 use crate::texts::{TextRefusal, read_catalog, read_query};
 use generated_input::made;
-use sql_faults::ViewRefusal;
 use shared_types::OutOfMemory;
 use sql_catalog::Catalog;
 use sql_check::{Views, check_views};
+use sql_faults::ViewRefusal;
 use sqlite_items::Items;
 use std::alloc::Global;
 

@@ -16,9 +16,9 @@ use crate::report::Report;
 use crate::texts::{TextRefusal, Valid, read_catalog, read_query};
 use csv_tables::{DataRefusal, load};
 use io_edge::{Files, Interruption, fetch_file};
-use sql_faults::ViewRefusal;
 use sql_catalog::Catalog;
 use sql_check::{Views, check_views};
+use sql_faults::ViewRefusal;
 use std::alloc::Global;
 
 /// The greatest number of bytes of a text.

@@ -11,11 +11,11 @@ ghost use Rattle.command_input.specs.Ready.{AreReady, IsChecked};
 ghost use Rattle.command_input.specs.Texts.{Gives, catalog_of, query_of, refused_by, schema_of, spans_of, tree_of, valid_query};
 ghost use Rattle.command_input.specs.declared.texts.TextRefusal.TheVariants.{Memory};
 
-use sql_faults::QueryRefusal;
 use shared_types::OutOfMemory;
 use sql_ast::{QueryText, Schema};
 use sql_catalog::{Catalog, SchemaRefusal, build};
 use sql_check::{Checked, Views, check};
+use sql_faults::QueryRefusal;
 use sql_parser::{ParseRefusal, parse_query, parse_schema};
 use sql_text::{LexRefusal, Spanned, lex};
 use sqlite_items::Items;

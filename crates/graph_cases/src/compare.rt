@@ -2,9 +2,9 @@
 use crate::faults::LineError;
 use crate::sketch::Sketch;
 use qgm_core::{BaseTable, BoxKind, Gc, Graph, Gx, Node, OwnedQuant};
+use qgm_term_search::{same_cond, same_term};
 use sqlite_items::Items;
 use std::alloc::Global;
-use qgm_term_search::{same_cond, same_term};
 
 // Whether two lists of expressions are the same.
 fn same_cells(alloc: Global, xs: &[Gx], ys: &[Gx]) -> Result<bool, LineError> {

@@ -9,8 +9,8 @@ use crate::numbers::Places;
 use crate::terms::{put_cond, put_term};
 use crate::writing::{put_doubled, put_number, put_word};
 use qgm_core::{BoxKind, Distinct, Node, OwnedQuant, QuantKind, Role, SetOperator};
-use qgm_wellformed::{KnownTypes, cell_type};
 use qgm_terms::{Gc, Gx};
+use qgm_wellformed::{KnownTypes, cell_type};
 use shared_types::{OutOfMemory, Text};
 use sql_value::{OrderKey, SqlType};
 

@@ -16,14 +16,14 @@ ghost use Rattle.qgm_app.specs.Alike.{AnswersAlike};
 ghost use Rattle.qgm_app.specs.Held.{answer_as, held_answer};
 ghost use Rattle.qgm_app.specs.Rewriting.{IsBuilt, IsExplanation, IsRun};
 
-use qgm_translation_laws::loaded_laws;
 use command_input::Question;
 use qgm_build::build;
 use qgm_core::Graph;
-use qgm_wellformed::fault_laws;
 use qgm_run::{Ran, run_rewritten, tell_rewritten};
-use rule_plan::Plan;
+use qgm_translation_laws::loaded_laws;
+use qgm_wellformed::fault_laws;
 use row_bag::{Bag, Verdict, bag_laws, sorted, verdict};
+use rule_plan::Plan;
 use shared_types::{OutOfMemory, Text};
 use sql_check::Heading;
 use sql_value::OutNames;

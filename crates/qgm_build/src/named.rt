@@ -5,11 +5,11 @@ ghost use Rattle.qgm_translation_laws.specs.Typing.{known_types};
 ghost use Rattle.qgm_build.specs.Schema.{named_table, named_view, schema_named};
 
 use qgm_build_terms::{Named, after};
-use sql_faults::{TypedColumn, ViewHead};
 use shared_types::OutOfMemory;
 use sql_ast::{Element, TableDecl};
 use sql_catalog::Catalog;
 use sql_check::Views;
+use sql_faults::{TypedColumn, ViewHead};
 use std::alloc::Global;
 
 // How many columns a table has.

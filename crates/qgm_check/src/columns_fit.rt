@@ -6,10 +6,10 @@ ghost use Rattle.list_laws.specs.Lists.{first};
 ghost use Rattle.qgm_wellformed.specs.Columns as spec;
 
 use qgm_core::{BoxId, BoxKind, Column, Node, OwnedQuant, QuantId, has_range};
+use qgm_term_search::{add_columns_of_cells, add_columns_of_conds};
 use shared_types::OutOfMemory;
 use sqlite_items::Items;
 use std::alloc::Global;
-use qgm_term_search::{add_columns_of_cells, add_columns_of_conds};
 
 // The columns that a box names.
 fn columns_of(alloc: Global, node: &Node) -> Result<Vec<Column>, OutOfMemory>

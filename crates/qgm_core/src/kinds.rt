@@ -67,7 +67,8 @@ impl BoxKind {
     {
         match self {
             BoxKind::Base(_) => true,
-            BoxKind::Select | BoxKind::Group(_) | BoxKind::SetOp(_, _) | BoxKind::OuterJoin => false,
+            BoxKind::Select | BoxKind::Group(_) | BoxKind::SetOp(_, _) | BoxKind::OuterJoin =>
+                false,
         }
     }
 
@@ -77,7 +78,8 @@ impl BoxKind {
     {
         match self {
             BoxKind::Select => true,
-            BoxKind::Base(_) | BoxKind::Group(_) | BoxKind::SetOp(_, _) | BoxKind::OuterJoin => false,
+            BoxKind::Base(_) | BoxKind::Group(_) | BoxKind::SetOp(_, _) | BoxKind::OuterJoin =>
+                false,
         }
     }
 }

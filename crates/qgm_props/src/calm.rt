@@ -12,10 +12,10 @@ use crate::boxes::width_of;
 use crate::facts::{BoxFacts, has_at_most_one, is_clean, is_error_free};
 use crate::ranges::is_error_free_under;
 use qgm_core::{BoxId, Column, Graph, Node, OwnedQuant, free_in, has_range};
+use qgm_term_search::{add_columns_of_cells, add_columns_of_conds};
 use qgm_terms::{both, either};
 use shared_types::OutOfMemory;
 use std::alloc::Global;
-use qgm_term_search::{add_columns_of_cells, add_columns_of_conds};
 
 // Whether nothing is free in a box.
 fn is_closed(alloc: Global, boxes: &[Node], b: BoxId) -> Result<bool, OutOfMemory>

@@ -9,9 +9,7 @@ ghost use Rattle.qgm_props.specs.Table.{facts_of};
 use crate::columns::cell_at;
 use crate::expressions::is_alone;
 use crate::facts::{BoxFacts, has_at_most_one};
-use qgm_core::{
-    BaseTable, BoxId, BoxKind, Gx, Node, OwnedQuant, QuantId, SetOperator, is_marked,
-};
+use qgm_core::{BaseTable, BoxId, BoxKind, Gx, Node, OwnedQuant, QuantId, SetOperator, is_marked};
 use qgm_terms::both;
 use shared_types::OutOfMemory;
 use sqlite_items::Items;

@@ -7,9 +7,9 @@ ghost use Rattle.rule_engine.specs.Trace.{Stepped};
 
 use crate::lines::{put_fire, put_graph};
 use qgm_core::{Graph, Walk};
-use rule_plan::Plan;
 use rule_api::Firing;
 use rule_engine::step;
+use rule_plan::Plan;
 use rule_set::BuiltRules;
 use shared_types::{OutOfMemory, Text};
 use std::alloc::Global;

@@ -159,8 +159,8 @@ module _ (bs : List Node) where
   breadth-reached o b h x = (
     λ i. levels-from b (length bs) (b ∷ []) (b ∷ []) (λ y j. subst (λ z. Reaches bs b z) (one b y j) (itself b)) (λ y j. subst (λ z. Reaches bs b z) (one b y j) (itself b)) x i,
     λ t. follow bs (levels (length bs) bs (b ∷ []) (b ∷ []))
-      (levels-full o bs o (λ c t. refl) (b ∷ []) (b ∷ []) (λ y j. subst (λ z. has_box bs z ≡ true) (one b y j) h) (λ m r i j k. inl k)) b x t
-      (levels-grow (length bs) (b ∷ []) (b ∷ []) b (inl refl)),
+        (levels-full o bs o (λ c t. refl) (b ∷ []) (b ∷ []) (λ y j. subst (λ z. has_box bs z ≡ true) (one b y j) h) (λ m r i j k. inl k)) b x t
+        (levels-grow (length bs) (b ∷ []) (b ∷ []) b (inl refl)),
   )
 
 pub levels-once : (m : ℕ) (bs : List Node) (now seen : List ℕ) → EachOnce seen → EachOnce (levels m bs now seen)

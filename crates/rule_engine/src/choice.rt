@@ -2,8 +2,8 @@
 ghost use Rattle.std.specs.Prelude.{ℕ, ◌≡◌, ◌<◌, None};
 ghost use Rattle.rule_engine.specs.Control as spec;
 
-use rule_plan::{Order, Plan};
 use rule_api::Firing;
+use rule_plan::{Order, Plan};
 
 // The first of those whose rule ranks first.
 pub fn earliest(list: &[Firing]) -> Option<Firing>

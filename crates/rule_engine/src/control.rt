@@ -10,8 +10,8 @@ ghost use Rattle.rule_engine.specs.Control as spec;
 
 use crate::rules::Rules;
 use qgm_core::{BoxId, Graph};
-use rule_plan::{Class, Plan};
 use rule_api::{Firing, RuleId};
+use rule_plan::{Class, Plan};
 use shared_types::OutOfMemory;
 use std::alloc::Global;
 

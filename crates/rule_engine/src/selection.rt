@@ -9,8 +9,8 @@ use crate::choice::{earliest, next};
 use crate::control::{add_box, candidates, enabled_rules};
 use crate::rules::Rules;
 use qgm_core::{BoxId, Graph};
-use rule_plan::{Order, Plan};
 use rule_api::{Firing, RuleId};
+use rule_plan::{Order, Plan};
 use shared_types::OutOfMemory;
 use std::alloc::Global;
 

@@ -7,8 +7,8 @@ use crate::rules::Rules;
 use crate::selection::chosen;
 use crate::trace::Trace;
 use qgm_core::Graph;
-use rule_plan::Plan;
 use rule_api::Firing;
+use rule_plan::Plan;
 use shared_types::OutOfMemory;
 use std::alloc::Global;
 

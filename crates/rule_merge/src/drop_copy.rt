@@ -10,8 +10,8 @@ ghost use Rattle.rule_merge.specs.DropCopyExact.{drop_copy_exact};
 mod action;
 mod condition;
 
-use crate::drop_copy::condition::may_go;
 use crate::drop_copy::action::moved;
+use crate::drop_copy::condition::may_go;
 use qgm_core::{BoxId, Graph};
 use rule_api::{Place, Rule, RuleId, add_if};
 use shared_types::OutOfMemory;

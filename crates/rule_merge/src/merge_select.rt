@@ -10,12 +10,12 @@ mod condition;
 mod foreign;
 mod lookups;
 
-use rule_facts::box_at;
-use crate::merge_select::lookups::lookups_of;
-use crate::merge_select::condition::{may_at, may_fit, may_have};
 use crate::merge_select::action::{MergePlan, merge, plan};
+use crate::merge_select::condition::{may_at, may_fit, may_have};
+use crate::merge_select::lookups::lookups_of;
 use qgm_core::{BoxId, Graph};
 use rule_api::{Place, Rule, RuleId, add_if};
+use rule_facts::box_at;
 use shared_types::OutOfMemory;
 use std::alloc::Global;
 

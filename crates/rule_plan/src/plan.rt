@@ -1,6 +1,5 @@
 // What a run of the rewrite rules is given.
 use crate::classes::Classes;
-
 use shared_types::Walk;
 
 /// How the next firing is picked among the candidates.

@@ -5,10 +5,10 @@ ghost use Rattle.rule_set.specs.Rewriting.{Rewrites};
 ghost use Rattle.rule_set.specs.Built.{built_act, built_exact, built_may, built_pairs};
 
 use qgm_core::{BoxId, Graph};
-use rule_plan::Plan;
 use rule_api::{Place, Rule, RuleId};
 use rule_engine::{Rules, Trace, rewrite};
 use rule_merge::{DropCopy, MergeSelect};
+use rule_plan::Plan;
 use shared_types::OutOfMemory;
 use std::alloc::Global;
 

@@ -1,9 +1,9 @@
 // Valid queries and views, with their names resolved.
 ghost use Rattle.std.specs.Prelude.{◌≡◌};
 
-use sql_names::ResolvedSchema;
 use sql_faults::{Columns, ViewHeads};
 use sql_meaning::Query;
+use sql_names::ResolvedSchema;
 use sql_value::{OrderKeys, OutNames};
 
 /// A valid query with its names resolved.

@@ -18,11 +18,11 @@ ghost use Rattle.sql_names.specs.Schema.{schema_columns};
 ghost use Rattle.sql_check.specs.Checked.{AreViews, IsFilled, answer_of, rows_of};
 
 use crate::checked::{Checked, Views};
-use sql_names::{ResolvedText, place_laws, resolve_schema, resolve_text};
-use sql_faults::{Columns, QueryRefusal, ViewRefusal, check_laws, check_query};
 use shared_types::OutOfMemory;
 use sql_ast::QueryText;
 use sql_catalog::Catalog;
+use sql_faults::{Columns, QueryRefusal, ViewRefusal, check_laws, check_query};
+use sql_names::{ResolvedText, place_laws, resolve_schema, resolve_text};
 use std::alloc::Global;
 
 /// The views of a catalog, their names resolved. Else it is the first view, by nesting depth and then

@@ -7,13 +7,11 @@ ghost use Rattle.qgm_terms.specs.Shown.{conds, term};
 ghost use Rattle.qgm_terms.specs.Terms.{col};
 ghost use Rattle.rule_merge.specs.DropCopy as spec;
 
-use qgm_core::{
-    BoxId, BoxKind, Gc, Graph, Gx, Head, Node, OwnedQuant, QuantId,
-};
+use qgm_core::{BoxId, BoxKind, Gc, Graph, Gx, Head, Node, OwnedQuant, QuantId};
+use qgm_term_search::same_term;
 use rule_facts::box_at;
 use shared_types::OutOfMemory;
 use std::alloc::Global;
-use qgm_term_search::same_term;
 
 // How many columns a box has.
 fn width(node: &Node) -> usize

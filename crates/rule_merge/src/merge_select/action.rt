@@ -10,10 +10,10 @@ ghost use Rattle.rule_merge.specs.MergeSelectSteps as spec;
 ghost use Rattle.rule_merge.specs.declared.merge_select.action.NewTerms.{NewTerms};
 
 use qgm_core::{BoxId, BoxParts, Conds, Gc, Graph, Head, Node, OwnedQuant, QuantId, reached};
+use qgm_term_search::{stands_in_cells, stands_in_conds};
 use qgm_terms::{ROOM, Sought, copy_cond, substitute_conds, substitute_head};
 use shared_types::OutOfMemory;
 use std::alloc::Global;
-use qgm_term_search::{stands_in_cells, stands_in_conds};
 
 /// The conditions and the head that a box gets.
 #[derive(Drop)]

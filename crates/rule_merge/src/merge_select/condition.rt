@@ -13,18 +13,18 @@ ghost use Rattle.qgm_edit_laws.specs.Graph.{reads_in};
 ghost use Rattle.rule_merge.specs.MergeSelectLookups.{AreOfGraph};
 ghost use Rattle.rule_merge.specs.MergeSelect as spec;
 
-use rule_facts::box_at;
+use crate::merge_select::action::merged;
 use crate::merge_select::foreign::any_named;
 use crate::merge_select::lookups::{FEW, Lookups};
-use crate::merge_select::action::merged;
 use qgm_core::{
     BoxId, Distinct, Graph, Head, Node, OwnedQuant, QuantId, free_in, has_range, node_at,
 };
 use qgm_props::props;
+use qgm_term_search::{is_node_free, stands_in_cells, stands_in_conds};
 use qgm_terms::Sought;
+use rule_facts::box_at;
 use shared_types::OutOfMemory;
 use std::alloc::Global;
-use qgm_term_search::{is_node_free, stands_in_cells, stands_in_conds};
 
 fn are_f(ranges: &[OwnedQuant]) -> bool
     ensures { result ≡ all_F ranges.now }
