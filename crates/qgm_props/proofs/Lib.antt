@@ -1,3 +1,4 @@
+pub mod ByNumber
 pub mod EachClean
 pub mod Rows
 pub mod Counted

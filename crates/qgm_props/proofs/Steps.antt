@@ -37,3 +37,12 @@ module _ (nodes : List Node) (table seen : List BoxFacts) (i : ℕ) (n : Node) (
   step-less differs =
       let l = improved-less nodes (facts_of table) n f (entry-at nodes table i n f (beside nodes table before) node-at fact-at) (λ w. differs (made-is ∙ w ∙ sym same-old)) in
       let s = unknown-set table i f g fact-at in let m : unknown_of g ≡ unknown_of (improved nodes (facts_of table) n f) = ap unknown_of made-is in omega (arith, l, s, m)
+
+  -- it is of the same box
+  pub step-id : (get_or table i g).id ≡ g.id
+  step-id = ap (λ (x : BoxFacts). x.id) (read table i f g inside old) ∙ sym (ap (λ (x : BoxFacts). x.id) made-is)
+    where
+      read : (xs : List BoxFacts) (i : ℕ) (x d : BoxFacts) → i < length xs → x ≡ get_or xs i x → get_or xs i d ≡ x
+      read [] i x d h e = absurd (let z : ⊥ = omega (arith, h) in z)
+      read (y ∷ ys) zero x d h e = sym e
+      read (y ∷ ys) (suc i) x d h e = read ys i x d (let p : length (y ∷ ys) ≡ suc (length ys) = refl in omega (arith, p, h)) e

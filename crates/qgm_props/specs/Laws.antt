@@ -7,7 +7,7 @@ use Rattle.qgm_core.specs.declared.kinds.SetOperator.{SetOperator}
 use Rattle.qgm_core.specs.declared.parts.BoxParts.{BoxParts}
 use Rattle.qgm_meaning.specs.Exists.{each_box, some_box}
 use Rattle.qgm_terms.specs.Terms.{Cond, Term}
-use Rattle.std.specs.Prelude.{ℕ, ◌≡◌, ◌≤◌, ◌++◌, ◌↔◌, Bool, true, List, [], ◌∷◌, length, None, Some}
+use Rattle.std.specs.Prelude.{ℕ, ◌≡◌, ◌≤◌, ◌++◌, ◌↔◌, Bool, true, List, [], ◌∷◌, length, IfSome, None, Option, Some}
 use Rattle.row_bag.specs.Keys.{HasKey}
 use Rattle.row_bag.specs.declared.tables.Table.{Table}
 use Rattle.qgm_core.specs.Boxes.{Ordered, ids_of, owns, range_in}
@@ -26,6 +26,8 @@ use Rattle.qgm_props.specs.Holding.{Holds, OfRows}
 use Rattle.qgm_props.specs.Inferred.{Fact, Facts, Inferred, at_most_one, clean, error_free, exactly_one, inferred_once, says}
 use Rattle.qgm_props.specs.InferredKeys.{KeyAmong}
 use Rattle.qgm_props.specs.Keys.{holds_key}
+use Rattle.qgm_props.specs.Table.{facts_of}
+use Rattle.qgm_props.specs.declared.facts.BoxFacts.{BoxFacts}
 
 -- over tables that satisfy the bases, in boxes by rank
 pub record Premises (tables : List Table) (ns : List Node) : Type 0 where
@@ -67,6 +69,10 @@ KeysExact = (single : ℕ → Bool) (boxes : List Node) → Ordered boxes → (b
 -- facts are those that are inferred of the boxes, all and no others
 abbrev pub Tells : Facts → List Node → Type 0
 Tells known ns = (fact : Fact) → (says known fact ≡ true) ↔ Inferred ns fact
+
+-- what is kept, if anything, is what is inferred of these boxes
+abbrev pub KeptOf : Option (List BoxFacts) → List Node → Type 0
+KeptOf kept ns = IfSome kept (λ table. Tells (facts_of table) ns)
 
 -- there are such facts
 abbrev pub AllTold : Type 0

@@ -4,9 +4,8 @@ ghost use Rattle.qgm_props.specs.Keys as keys;
 ghost use Rattle.qgm_props.specs.Laws.{KeyHolds, Tells, TellsKey};
 ghost use Rattle.qgm_props.specs.Table.{facts_of};
 
-use crate::facts::{
-    BoxFacts, has_at_most_one, has_exactly_one, is_clean, is_error_free, is_not_null,
-};
+use crate::fact_table::FactTable;
+use crate::facts::{has_at_most_one, has_exactly_one, is_clean, is_error_free, is_not_null};
 use crate::keys::has_key;
 use qgm_core::{BoxId, Graph};
 use shared_types::OutOfMemory;
@@ -16,7 +15,7 @@ use std::marker::Model;
 /// What is inferred of the boxes of a graph.
 #[derive(Drop)]
 pub struct Props {
-    boxes: Vec<BoxFacts>,
+    boxes: FactTable,
 }
 
 impl Model for Props {
@@ -25,19 +24,19 @@ impl Model for Props {
 
     ghost Value = { List BoxFacts };
 
-    ghost view = { λ p. p.boxes.items };
+    ghost view = { λ p. p.boxes };
 }
 
 impl Props {
     // That of a table.
-    pub(crate) fn of(boxes: Vec<BoxFacts>) -> Props
-        ensures { result ≡ boxes.items }
+    pub(crate) fn of(boxes: FactTable) -> Props
+        ensures { result ≡ boxes }
     {
         Props { boxes }
     }
 
     // The table.
-    pub(crate) fn table(&self) -> &[BoxFacts]
+    pub(crate) fn table(&self) -> &FactTable
         ensures { result.now ≡ self.now }
     {
         &self.boxes

@@ -8,7 +8,9 @@ ghost use Rattle.qgm_props.specs.Table.{either_flags, facts_of, flags, improved,
 
 use crate::columns::{is_column_filled, is_column_free, is_free_in_arms};
 use crate::expressions::{are_conds_free, is_free};
+use crate::fact_table::FactTable;
 use crate::facts::{BoxFacts, has_at_most_one, has_exactly_one, is_clean};
+use crate::range_table::RangeTable;
 use qgm_core::{BoxKind, Gx, Node, OwnedQuant, SetOperator};
 use qgm_terms::{both, either};
 use shared_types::OutOfMemory;
@@ -16,7 +18,7 @@ use sqlite_items::Items;
 use std::alloc::Global;
 
 // Whether the boxes under the F quantifiers are known to be clean.
-fn are_clean_under(table: &[BoxFacts], ranges: &[OwnedQuant]) -> bool
+fn are_clean_under(table: &FactTable, ranges: &[OwnedQuant]) -> bool
     ensures { result ≡ spec.all_under_F (facts_of table.now).clean ranges.now }
 {
     for range in ranges {
@@ -28,7 +30,7 @@ fn are_clean_under(table: &[BoxFacts], ranges: &[OwnedQuant]) -> bool
 }
 
 // Whether they are known to have at most one row each.
-fn are_single_under(table: &[BoxFacts], ranges: &[OwnedQuant]) -> bool
+fn are_single_under(table: &FactTable, ranges: &[OwnedQuant]) -> bool
     ensures { result ≡ spec.all_under_F (facts_of table.now).at_most_one ranges.now }
 {
     for range in ranges {
@@ -40,7 +42,7 @@ fn are_single_under(table: &[BoxFacts], ranges: &[OwnedQuant]) -> bool
 }
 
 // Whether they are known to have exactly one row each.
-fn are_exact_under(table: &[BoxFacts], ranges: &[OwnedQuant]) -> bool
+fn are_exact_under(table: &FactTable, ranges: &[OwnedQuant]) -> bool
     ensures { result ≡ spec.all_under_F (facts_of table.now).exactly_one ranges.now }
 {
     for range in ranges {
@@ -52,7 +54,7 @@ fn are_exact_under(table: &[BoxFacts], ranges: &[OwnedQuant]) -> bool
 }
 
 // Whether the boxes under the first two quantifiers are known to be clean.
-fn are_two_clean(table: &[BoxFacts], ranges: &[OwnedQuant]) -> bool
+fn are_two_clean(table: &FactTable, ranges: &[OwnedQuant]) -> bool
     ensures { result ≡ spec.under_two (facts_of table.now).clean ranges.now }
 {
     match ranges {
@@ -63,7 +65,7 @@ fn are_two_clean(table: &[BoxFacts], ranges: &[OwnedQuant]) -> bool
 }
 
 // Whether the box under the first quantifier is known to be clean.
-fn is_first_clean(table: &[BoxFacts], ranges: &[OwnedQuant]) -> bool
+fn is_first_clean(table: &FactTable, ranges: &[OwnedQuant]) -> bool
     ensures { result ≡ spec.under_first (facts_of table.now).clean ranges.now }
 {
     match ranges {
@@ -73,7 +75,7 @@ fn is_first_clean(table: &[BoxFacts], ranges: &[OwnedQuant]) -> bool
 }
 
 // Whether each column of the boxes under the first two quantifiers holds no error.
-fn are_arms_free(nodes: &[Node], table: &[BoxFacts], width: usize, ranges: &[OwnedQuant]) -> bool
+fn are_arms_free(nodes: &RangeTable<'_>, table: &FactTable, width: usize, ranges: &[OwnedQuant]) -> bool
     ensures { result ≡ spec.arms_error_free nodes.now (facts_of table.now) width ranges.now }
 {
     let _boxes = nodes;
@@ -89,8 +91,8 @@ fn are_arms_free(nodes: &[Node], table: &[BoxFacts], width: usize, ranges: &[Own
 
 // Whether a set operation is clean.
 fn is_op_clean(
-    nodes: &[Node],
-    table: &[BoxFacts],
+    nodes: &RangeTable<'_>,
+    table: &FactTable,
     operator: SetOperator,
     width: usize,
     ranges: &[OwnedQuant],
@@ -108,7 +110,7 @@ fn is_op_clean(
 }
 
 // Whether cells are without errors.
-fn are_cells_free(nodes: &[Node], table: &[BoxFacts], list: &[Gx]) -> bool
+fn are_cells_free(nodes: &RangeTable<'_>, table: &FactTable, list: &[Gx]) -> bool
     ensures { result ≡ list_all (spec.is_free nodes.now (facts_of table.now) false) (terms list.now) }
 {
     for x in list {
@@ -120,14 +122,14 @@ fn are_cells_free(nodes: &[Node], table: &[BoxFacts], list: &[Gx]) -> bool
 }
 
 // Whether the first k cells are without errors.
-fn are_keys_free(nodes: &[Node], table: &[BoxFacts], k: usize, head: &[Gx]) -> bool
+fn are_keys_free(nodes: &RangeTable<'_>, table: &FactTable, k: usize, head: &[Gx]) -> bool
     ensures { result ≡ list_all (spec.is_free nodes.now (facts_of table.now) false) (take k (terms head.now)) }
 {
     are_cells_free(nodes, table, &head[..k.min(head.len())])
 }
 
 // Whether a box is clean.
-fn is_box_clean(nodes: &[Node], table: &[BoxFacts], node: &Node) -> bool
+fn is_box_clean(nodes: &RangeTable<'_>, table: &FactTable, node: &Node) -> bool
     ensures { result ≡ spec.clean_by nodes.now (facts_of table.now) node.now.parts.kind node.now }
 {
     let ranges = node.quants.as_slice();
@@ -160,7 +162,7 @@ fn is_box_clean(nodes: &[Node], table: &[BoxFacts], node: &Node) -> bool
 }
 
 // Whether a box has exactly one row.
-fn is_box_exact(nodes: &[Node], table: &[BoxFacts], node: &Node) -> bool
+fn is_box_exact(nodes: &RangeTable<'_>, table: &FactTable, node: &Node) -> bool
     ensures { result ≡ spec.exactly_one_by nodes.now (facts_of table.now) node.now.parts.kind node.now }
 {
     let _boxes = nodes;
@@ -184,7 +186,7 @@ fn is_box_exact(nodes: &[Node], table: &[BoxFacts], node: &Node) -> bool
 }
 
 // Whether a box has at most one row.
-fn is_box_single(nodes: &[Node], table: &[BoxFacts], node: &Node) -> bool
+fn is_box_single(nodes: &RangeTable<'_>, table: &FactTable, node: &Node) -> bool
     ensures { result ≡ spec.at_most_one_by nodes.now (facts_of table.now) node.now.parts.kind node.now }
 {
     let _boxes = nodes;
@@ -217,8 +219,8 @@ pub fn width_of(node: &Node) -> usize
 // Which columns of a box hold no error.
 fn free_flags(
     alloc: Global,
-    nodes: &[Node],
-    table: &[BoxFacts],
+    nodes: &RangeTable<'_>,
+    table: &FactTable,
     node: &Node,
 ) -> Result<Items<bool>, OutOfMemory>
     ensures { IfOk result (λ all. all ≡ flags (width node.now) (spec.free_by nodes.now (facts_of table.now) node.now.parts.kind node.now)) }
@@ -233,8 +235,8 @@ fn free_flags(
 // Which columns of a box hold no null.
 fn filled_flags(
     alloc: Global,
-    nodes: &[Node],
-    table: &[BoxFacts],
+    nodes: &RangeTable<'_>,
+    table: &FactTable,
     node: &Node,
 ) -> Result<Items<bool>, OutOfMemory>
     ensures { IfOk result (λ all. all ≡ flags (width node.now) (spec.not_null_by nodes.now (facts_of table.now) node.now.parts.kind node.now)) }
@@ -287,8 +289,8 @@ pub fn nothing_known(alloc: Global, node: &Node) -> Result<BoxFacts, OutOfMemory
 /// What was known of a box and what is inferred of it.
 pub fn improved_facts(
     alloc: Global,
-    nodes: &[Node],
-    table: &[BoxFacts],
+    nodes: &RangeTable<'_>,
+    table: &FactTable,
     node: &Node,
     old: &BoxFacts,
 ) -> Result<BoxFacts, OutOfMemory>

@@ -9,7 +9,9 @@ ghost use Rattle.qgm_props.specs.Table.{facts_of};
 
 use crate::answers::Props;
 use crate::boxes::width_of;
-use crate::facts::{BoxFacts, has_at_most_one, is_clean, is_error_free};
+use crate::fact_table::FactTable;
+use crate::facts::{has_at_most_one, is_clean, is_error_free};
+use crate::range_table::RangeTable;
 use crate::ranges::is_error_free_under;
 use qgm_core::{BoxId, Column, Graph, Node, OwnedQuant, free_in, has_range};
 use qgm_term_search::{add_columns_of_cells, add_columns_of_conds};
@@ -18,17 +20,17 @@ use shared_types::OutOfMemory;
 use std::alloc::Global;
 
 // Whether nothing is free in a box.
-fn is_closed(alloc: Global, boxes: &[Node], b: BoxId) -> Result<bool, OutOfMemory>
+fn is_closed(alloc: Global, boxes: &RangeTable<'_>, b: BoxId) -> Result<bool, OutOfMemory>
     ensures { IfOk result (λ k. k ≡ spec.is_closed boxes.now b) }
 {
-    let free = free_in(alloc, boxes, b)?;
+    let free = free_in(alloc, boxes.nodes(), b)?;
     Ok(free.is_empty())
 }
 
 // Whether the boxes under all of these quantifiers are closed.
 fn are_closed_under(
     alloc: Global,
-    boxes: &[Node],
+    boxes: &RangeTable<'_>,
     ranges: &[OwnedQuant],
 ) -> Result<bool, OutOfMemory>
     ensures { IfOk result (λ k. k ≡ all_under (spec.is_closed boxes.now) ranges.now) }
@@ -52,7 +54,7 @@ fn named_columns(alloc: Global, node: &Node) -> Result<Vec<Column>, OutOfMemory>
 }
 
 // Whether a column that a box names is one of its own quantifiers, or known to hold no error.
-fn is_column_calm(boxes: &[Node], table: &[BoxFacts], node: &Node, column: Column) -> bool
+fn is_column_calm(boxes: &RangeTable<'_>, table: &FactTable, node: &Node, column: Column) -> bool
     ensures { result ≡ spec.calm_column boxes.now (facts_of table.now) node.now column }
 {
     either(
@@ -62,7 +64,7 @@ fn is_column_calm(boxes: &[Node], table: &[BoxFacts], node: &Node, column: Colum
 }
 
 // Whether all of them are.
-fn are_columns_calm(boxes: &[Node], table: &[BoxFacts], node: &Node, columns: &[Column]) -> bool
+fn are_columns_calm(boxes: &RangeTable<'_>, table: &FactTable, node: &Node, columns: &[Column]) -> bool
     ensures { result ≡ list_all (spec.calm_column boxes.now (facts_of table.now) node.now) columns.now }
 {
     columns
@@ -73,8 +75,8 @@ fn are_columns_calm(boxes: &[Node], table: &[BoxFacts], node: &Node, columns: &[
 // Whether a quantifier is calm as an S quantifier, or is none.
 fn is_scalar_calm(
     alloc: Global,
-    boxes: &[Node],
-    table: &[BoxFacts],
+    boxes: &RangeTable<'_>,
+    table: &FactTable,
     range: OwnedQuant,
 ) -> Result<bool, OutOfMemory>
     ensures { IfOk result (λ k. k ≡ spec.calm_scalar boxes.now (facts_of table.now) range) }
@@ -92,8 +94,8 @@ fn is_scalar_calm(
 // Whether all of these are.
 fn are_scalars_calm(
     alloc: Global,
-    boxes: &[Node],
-    table: &[BoxFacts],
+    boxes: &RangeTable<'_>,
+    table: &FactTable,
     ranges: &[OwnedQuant],
 ) -> Result<bool, OutOfMemory>
     ensures { IfOk result (λ k. k ≡ list_all (spec.calm_scalar boxes.now (facts_of table.now)) ranges.now) }
@@ -107,7 +109,7 @@ fn are_scalars_calm(
 }
 
 // Whether each of so many columns of a box is known to hold no error.
-fn are_all_free(table: &[BoxFacts], b: BoxId, width: usize) -> bool
+fn are_all_free(table: &FactTable, b: BoxId, width: usize) -> bool
     ensures { result ≡ all_places width ((facts_of table.now).error_free b) }
 {
     let mut k = width;
@@ -123,8 +125,8 @@ fn are_all_free(table: &[BoxFacts], b: BoxId, width: usize) -> bool
 // Whether a magic box is calm.
 fn is_magic_calm(
     alloc: Global,
-    boxes: &[Node],
-    table: &[BoxFacts],
+    boxes: &RangeTable<'_>,
+    table: &FactTable,
     node: &Node,
 ) -> Result<bool, OutOfMemory>
     ensures { IfOk result (λ k. k ≡ spec.calm_magic boxes.now (facts_of table.now) node.now) }
@@ -138,8 +140,8 @@ fn is_magic_calm(
 // Whether a box is calm as a magic box, or is none.
 fn is_role_calm(
     alloc: Global,
-    boxes: &[Node],
-    table: &[BoxFacts],
+    boxes: &RangeTable<'_>,
+    table: &FactTable,
     node: &Node,
 ) -> Result<bool, OutOfMemory>
     ensures { IfOk result (λ k. k ≡ (not (is_magic node.now.parts.role) || spec.calm_magic boxes.now (facts_of table.now) node.now)) }
@@ -153,9 +155,9 @@ fn is_role_calm(
 // Whether a box is calm.
 fn is_box_calm(
     alloc: Global,
-    boxes: &[Node],
+    boxes: &RangeTable<'_>,
     root: BoxId,
-    table: &[BoxFacts],
+    table: &FactTable,
     node: &Node,
 ) -> Result<bool, OutOfMemory>
     ensures { IfOk result (λ k. k ≡ spec.calm_box boxes.now (facts_of table.now) root node.now) }
@@ -174,9 +176,9 @@ fn is_box_calm(
 pub fn is_calm(alloc: Global, graph: &Graph, props: &Props) -> Result<bool, OutOfMemory>
     ensures { IfOk result (λ k. k ≡ spec.calm graph.now.boxes (facts_of props.now) graph.now.root) }
 {
-    let boxes = graph.nodes();
-    for node in boxes {
-        if !is_box_calm(alloc, boxes, graph.root(), props.table(), node)? {
+    let boxes = RangeTable::of(alloc, graph.nodes())?;
+    for node in boxes.nodes() {
+        if !is_box_calm(alloc, &boxes, graph.root(), props.table(), node)? {
             return Ok(false);
         }
     }

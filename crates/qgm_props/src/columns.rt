@@ -8,13 +8,15 @@ ghost use Rattle.qgm_props.specs.Inferred as spec;
 ghost use Rattle.qgm_props.specs.Table.{element, facts_of};
 
 use crate::expressions::{is_alone, is_free};
-use crate::facts::{BoxFacts, has_at_most_one, is_clean, is_error_free};
+use crate::fact_table::FactTable;
+use crate::facts::{has_at_most_one, is_clean, is_error_free};
+use crate::range_table::RangeTable;
 use crate::ranges::is_not_null_under;
 use qgm_core::{BoxKind, Gx, Node, OwnedQuant, QuantId, SetOperator, is_marked};
 use qgm_terms::{Aggregate, both};
 
 // Whether a column of the boxes under the first two quantifiers is known to hold no error.
-pub fn is_free_in_arms(table: &[BoxFacts], ranges: &[OwnedQuant], k: usize) -> bool
+pub fn is_free_in_arms(table: &FactTable, ranges: &[OwnedQuant], k: usize) -> bool
     ensures { result ≡ spec.under_two (λ b. (facts_of table.now).error_free b k) ranges.now }
 {
     match ranges {
@@ -28,7 +30,7 @@ pub fn is_free_in_arms(table: &[BoxFacts], ranges: &[OwnedQuant], k: usize) -> b
 }
 
 // Whether the box under the first quantifier is known to have at most one row.
-fn is_single_first(table: &[BoxFacts], ranges: &[OwnedQuant]) -> bool
+fn is_single_first(table: &FactTable, ranges: &[OwnedQuant]) -> bool
     ensures { result ≡ spec.under_first (facts_of table.now).at_most_one ranges.now }
 {
     match ranges {
@@ -48,7 +50,7 @@ pub fn cell_at(head: &[Gx], k: usize) -> Option<&Gx>
 }
 
 // Whether the cell at a place is without errors.
-fn is_free_at(nodes: &[Node], table: &[BoxFacts], one: bool, head: &[Gx], k: usize) -> bool
+fn is_free_at(nodes: &RangeTable<'_>, table: &FactTable, one: bool, head: &[Gx], k: usize) -> bool
     ensures { result ≡ spec.at_place (spec.is_free nodes.now (facts_of table.now) one) (terms head.now) k }
 {
     match cell_at(head, k) {
@@ -59,8 +61,8 @@ fn is_free_at(nodes: &[Node], table: &[BoxFacts], one: bool, head: &[Gx], k: usi
 
 // Whether a column of a set operation holds no error.
 fn is_op_free(
-    nodes: &[Node],
-    table: &[BoxFacts],
+    nodes: &RangeTable<'_>,
+    table: &FactTable,
     operator: SetOperator,
     node: &Node,
     k: usize,
@@ -79,7 +81,7 @@ fn is_op_free(
 }
 
 // Whether a column holds no error.
-pub fn is_column_free(nodes: &[Node], table: &[BoxFacts], node: &Node, k: usize) -> bool
+pub fn is_column_free(nodes: &RangeTable<'_>, table: &FactTable, node: &Node, k: usize) -> bool
     ensures { result ≡ spec.free_by nodes.now (facts_of table.now) node.now.parts.kind node.now k }
 {
     let head = node.parts.head.as_slice();
@@ -98,7 +100,7 @@ pub fn is_column_free(nodes: &[Node], table: &[BoxFacts], node: &Node, k: usize)
 }
 
 // Whether a cell holds a value: a literal, or a column that does.
-fn has_value(nodes: &[Node], table: &[BoxFacts], x: &Gx) -> bool
+fn has_value(nodes: &RangeTable<'_>, table: &FactTable, x: &Gx) -> bool
     ensures { result ≡ spec.holds_value nodes.now (facts_of table.now) (term x.now) }
 {
     match x {
@@ -156,7 +158,7 @@ fn is_first(ranges: &[OwnedQuant], q: QuantId) -> bool
 }
 
 // Whether a cell of an outer join holds a value: a literal, or a left column that does.
-fn has_left_value(nodes: &[Node], table: &[BoxFacts], ranges: &[OwnedQuant], x: &Gx) -> bool
+fn has_left_value(nodes: &RangeTable<'_>, table: &FactTable, ranges: &[OwnedQuant], x: &Gx) -> bool
     ensures { result ≡ spec.holds_left nodes.now (facts_of table.now) ranges.now (term x.now) }
 {
     match x {
@@ -177,7 +179,7 @@ fn has_left_value(nodes: &[Node], table: &[BoxFacts], ranges: &[OwnedQuant], x: 
 }
 
 // Whether a column holds no null.
-pub fn is_column_filled(nodes: &[Node], table: &[BoxFacts], node: &Node, k: usize) -> bool
+pub fn is_column_filled(nodes: &RangeTable<'_>, table: &FactTable, node: &Node, k: usize) -> bool
     ensures { result ≡ spec.not_null_by nodes.now (facts_of table.now) node.now.parts.kind node.now k }
 {
     let head = node.parts.head.as_slice();
@@ -197,7 +199,7 @@ pub fn is_column_filled(nodes: &[Node], table: &[BoxFacts], node: &Node, k: usiz
 }
 
 // The same of the cell at a place.
-fn has_value_at(nodes: &[Node], table: &[BoxFacts], head: &[Gx], k: usize) -> bool
+fn has_value_at(nodes: &RangeTable<'_>, table: &FactTable, head: &[Gx], k: usize) -> bool
     ensures { result ≡ spec.at_place (spec.holds_value nodes.now (facts_of table.now)) (terms head.now) k }
 {
     match cell_at(head, k) {
@@ -216,8 +218,8 @@ fn is_count_at(head: &[Gx], k: usize) -> bool
 }
 
 fn has_left_value_at(
-    nodes: &[Node],
-    table: &[BoxFacts],
+    nodes: &RangeTable<'_>,
+    table: &FactTable,
     ranges: &[OwnedQuant],
     head: &[Gx],
     k: usize,

@@ -7,9 +7,10 @@ ghost use Rattle.qgm_props.specs.Inferred as spec;
 ghost use Rattle.qgm_props.specs.Lists.{arms_free_in, chain_free, is_none};
 ghost use Rattle.qgm_props.specs.Table.{facts_of};
 
-use crate::facts::BoxFacts;
+use crate::fact_table::FactTable;
+use crate::range_table::RangeTable;
 use crate::ranges::{is_clean_under, is_error_free_under, is_not_null_under, is_single_under};
-use qgm_core::{Node, OwnedQuant, QuantId};
+use qgm_core::{OwnedQuant, QuantId};
 use qgm_terms::{Aggregate, Arm, Gc, Gx, Link, Op, both};
 
 // A number has 64 bits.
@@ -73,7 +74,7 @@ fn is_fold_free(one: bool, f: Aggregate) -> bool
 
 // Whether an expression is without errors, where an aggregate is one of at most one row or not.
 #[cycle(expressions)]
-pub fn is_free(nodes: &[Node], table: &[BoxFacts], one: bool, x: &Gx) -> bool
+pub fn is_free(nodes: &RangeTable<'_>, table: &FactTable, one: bool, x: &Gx) -> bool
     ensures { result ≡ spec.is_free nodes.now (facts_of table.now) one (term x.now) }
 {
     match x {
@@ -95,7 +96,7 @@ pub fn is_free(nodes: &[Node], table: &[BoxFacts], one: bool, x: &Gx) -> bool
 }
 
 // Whether the one cell of the box under a quantifier is without errors.
-fn is_scalar_free(nodes: &[Node], table: &[BoxFacts], q: QuantId) -> bool
+fn is_scalar_free(nodes: &RangeTable<'_>, table: &FactTable, q: QuantId) -> bool
     ensures { result ≡ (spec.clean_under nodes.now (facts_of table.now) q && (spec.single_under nodes.now (facts_of table.now) q && spec.error_free_under nodes.now (facts_of table.now) q 1)) }
 {
     is_clean_under(nodes, table, q)
@@ -107,7 +108,7 @@ fn is_scalar_free(nodes: &[Node], table: &[BoxFacts], q: QuantId) -> bool
 
 // Whether a chain is without errors, whose first operand is or not.
 #[cycle(expressions)]
-fn is_chain_free(nodes: &[Node], table: &[BoxFacts], one: bool, first: bool, list: &[Link]) -> bool
+fn is_chain_free(nodes: &RangeTable<'_>, table: &FactTable, one: bool, first: bool, list: &[Link]) -> bool
     ensures { result ≡ chain_free nodes.now (facts_of table.now) one first (links list.now) }
 {
     let mut total = first;
@@ -120,7 +121,7 @@ fn is_chain_free(nodes: &[Node], table: &[BoxFacts], one: bool, first: bool, lis
 
 // Whether the conditions and results of a CASE are without errors.
 #[cycle(expressions)]
-fn are_arms_free(nodes: &[Node], table: &[BoxFacts], one: bool, list: &[Arm]) -> bool
+fn are_arms_free(nodes: &RangeTable<'_>, table: &FactTable, one: bool, list: &[Arm]) -> bool
     ensures { result ≡ arms_free_in nodes.now (facts_of table.now) one (choices list.now) }
 {
     for arm in list {
@@ -135,7 +136,7 @@ fn are_arms_free(nodes: &[Node], table: &[BoxFacts], one: bool, list: &[Arm]) ->
 
 // Whether a condition is without errors.
 #[cycle(expressions)]
-pub fn is_cond_free(nodes: &[Node], table: &[BoxFacts], one: bool, c: &Gc) -> bool
+pub fn is_cond_free(nodes: &RangeTable<'_>, table: &FactTable, one: bool, c: &Gc) -> bool
     ensures { result ≡ spec.cond_free nodes.now (facts_of table.now) one (cond c.now) }
 {
     match c {
@@ -170,7 +171,7 @@ pub fn is_cond_free(nodes: &[Node], table: &[BoxFacts], one: bool, c: &Gc) -> bo
 
 // Whether conditions are without errors.
 #[cycle(expressions)]
-pub fn are_conds_free(nodes: &[Node], table: &[BoxFacts], one: bool, list: &[Gc]) -> bool
+pub fn are_conds_free(nodes: &RangeTable<'_>, table: &FactTable, one: bool, list: &[Gc]) -> bool
     ensures { result ≡ list_all (spec.cond_free nodes.now (facts_of table.now) one) (conds list.now) }
 {
     for c in list {

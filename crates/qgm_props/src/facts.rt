@@ -1,8 +1,8 @@
 // What is known of boxes.
-ghost use Rattle.std.specs.Prelude.{◌≡◌, option_map};
-ghost use Rattle.list_laws.specs.Lists.{first};
+ghost use Rattle.std.specs.Prelude.{◌≡◌};
 ghost use Rattle.qgm_props.specs.Table as spec;
 
+use crate::fact_table::FactTable;
 use qgm_core::BoxId;
 use sqlite_items::Items;
 
@@ -16,18 +16,6 @@ pub struct BoxFacts {
     pub exactly_one: bool,
     pub error_free: Items<bool>,
     pub not_null: Items<bool>,
-}
-
-// What is known of the box of a number.
-fn facts_at(table: &[BoxFacts], b: BoxId) -> Option<&BoxFacts>
-    ensures { option_map (λ f. f.now) result ≡ first (spec.is_of b) table.now }
-{
-    for facts in table {
-        if facts.id == b {
-            return Some(facts);
-        }
-    }
-    None
 }
 
 // The flag of a column, from 1.
@@ -44,50 +32,50 @@ fn flag_at(flags: &[bool], k: usize) -> bool
 }
 
 // Whether a box is known to be clean.
-pub fn is_clean(table: &[BoxFacts], b: BoxId) -> bool
+pub fn is_clean(table: &FactTable, b: BoxId) -> bool
     ensures { result ≡ (spec.facts_of table.now).clean b }
 {
-    match facts_at(table, b) {
+    match table.find(b) {
         Some(facts) => facts.clean,
         None => false,
     }
 }
 
 // Whether a column is known to hold no error.
-pub fn is_error_free(table: &[BoxFacts], b: BoxId, k: usize) -> bool
+pub fn is_error_free(table: &FactTable, b: BoxId, k: usize) -> bool
     ensures { result ≡ (spec.facts_of table.now).error_free b k }
 {
-    match facts_at(table, b) {
+    match table.find(b) {
         Some(facts) => flag_at(facts.error_free.as_slice(), k),
         None => false,
     }
 }
 
 // Whether a column is known to hold no null.
-pub fn is_not_null(table: &[BoxFacts], b: BoxId, k: usize) -> bool
+pub fn is_not_null(table: &FactTable, b: BoxId, k: usize) -> bool
     ensures { result ≡ (spec.facts_of table.now).not_null b k }
 {
-    match facts_at(table, b) {
+    match table.find(b) {
         Some(facts) => flag_at(facts.not_null.as_slice(), k),
         None => false,
     }
 }
 
 // Whether a box is known to have at most one row.
-pub fn has_at_most_one(table: &[BoxFacts], b: BoxId) -> bool
+pub fn has_at_most_one(table: &FactTable, b: BoxId) -> bool
     ensures { result ≡ (spec.facts_of table.now).at_most_one b }
 {
-    match facts_at(table, b) {
+    match table.find(b) {
         Some(facts) => facts.at_most_one,
         None => false,
     }
 }
 
 // Whether a box is known to have exactly one row.
-pub fn has_exactly_one(table: &[BoxFacts], b: BoxId) -> bool
+pub fn has_exactly_one(table: &FactTable, b: BoxId) -> bool
     ensures { result ≡ (spec.facts_of table.now).exactly_one b }
 {
-    match facts_at(table, b) {
+    match table.find(b) {
         Some(facts) => facts.exactly_one,
         None => false,
     }

@@ -1,15 +1,17 @@
 // What is inferred of a graph.
-ghost use Rattle.std.specs.Prelude.{◌≡◌, ◌↔◌, ◌<◌, length, map, true, false, List, IfOk, OnOk, IsTrue};
+ghost use Rattle.std.specs.Prelude.{◌≡◌, ◌↔◌, ◌<◌, length, true, false, List, IfOk, OnOk, IsTrue};
 ghost use Rattle.row_bag.specs.declared.tables.Table.{Table};
 ghost use Rattle.qgm_props.specs.Holding.{Holds};
 ghost use Rattle.qgm_props.specs.Inferred.{Fact, says};
 ghost use Rattle.qgm_props.specs.Laws.{Premises, Tells};
-ghost use Rattle.qgm_props.specs.Table.{Improves, Stable, StableAt, facts_of, nothing_of, unknown_in};
+ghost use Rattle.qgm_props.specs.Table.{Improves, Stable, StableAt, facts_of, unknown_in};
 
 use crate::answers::Props;
-use crate::boxes::{improved_facts, nothing_known};
+use crate::boxes::improved_facts;
+use crate::fact_table::FactTable;
 use crate::facts::BoxFacts;
-use qgm_core::{Graph, Node};
+use crate::range_table::RangeTable;
+use qgm_core::Graph;
 use qgm_terms::either;
 use shared_types::OutOfMemory;
 use std::alloc::Global;
@@ -41,35 +43,24 @@ fn is_same(a: &BoxFacts, b: &BoxFacts) -> bool
         && are_same(a.not_null.as_slice(), b.not_null.as_slice())
 }
 
-// Nothing is known of any box.
-fn none_known(alloc: Global, nodes: &[Node]) -> Result<Vec<BoxFacts>, OutOfMemory>
-    ensures { IfOk result (λ t. t.items ≡ map nothing_of nodes.now) }
-{
-    let mut table = Vec::new(alloc);
-    for node in nodes {
-        table.push(nothing_known(alloc, node)?)?;
-    }
-    Ok(table)
-}
-
 // Improves what is known of the box at a rank, and tells whether it improved.
 fn improve_at(
     alloc: Global,
-    nodes: &[Node],
-    table: &mut Vec<BoxFacts>,
+    nodes: &RangeTable<'_>,
+    table: &mut FactTable,
     i: usize,
 ) -> Result<bool, OutOfMemory>
     requires within { i < length nodes.now }
-    requires improves { Improves nodes.now table.old.items }
-    ensures improves { OnOk result (Improves nodes.now table.new.items) }
-    ensures same { IfOk result (λ better. better ≡ false → (table.new.items ≡ table.old.items) × StableAt nodes.now table.new.items i) }
-    ensures less { IfOk result (λ better. better ≡ true → unknown_in table.new.items < unknown_in table.old.items) }
+    requires improves { Improves nodes.now table.old }
+    ensures improves { OnOk result (Improves nodes.now table.new) }
+    ensures same { IfOk result (λ better. better ≡ false → (table.new ≡ table.old) × StableAt nodes.now table.new i) }
+    ensures less { IfOk result (λ better. better ≡ true → unknown_in table.new < unknown_in table.old) }
 {
-    let next = improved_facts(alloc, nodes, &*table, &nodes[i], &table[i])?;
-    if is_same(&next, &table[i]) {
+    let next = improved_facts(alloc, nodes, &*table, &nodes.nodes()[i], table.at(i))?;
+    if is_same(&next, table.at(i)) {
         return Ok(false);
     }
-    table[i] = next;
+    table.put(i, next);
     Ok(true)
 }
 
@@ -77,15 +68,15 @@ fn improve_at(
 // errors then, and a box of exactly one row has at most one.
 fn improve_twice(
     alloc: Global,
-    nodes: &[Node],
-    table: &mut Vec<BoxFacts>,
+    nodes: &RangeTable<'_>,
+    table: &mut FactTable,
     i: usize,
 ) -> Result<bool, OutOfMemory>
     requires within { i < length nodes.now }
-    requires improves { Improves nodes.now table.old.items }
-    ensures improves { OnOk result (Improves nodes.now table.new.items) }
-    ensures same { IfOk result (λ better. better ≡ false → (table.new.items ≡ table.old.items) × StableAt nodes.now table.new.items i) }
-    ensures less { IfOk result (λ better. better ≡ true → unknown_in table.new.items < unknown_in table.old.items) }
+    requires improves { Improves nodes.now table.old }
+    ensures improves { OnOk result (Improves nodes.now table.new) }
+    ensures same { IfOk result (λ better. better ≡ false → (table.new ≡ table.old) × StableAt nodes.now table.new i) }
+    ensures less { IfOk result (λ better. better ≡ true → unknown_in table.new < unknown_in table.old) }
 {
     if !improve_at(alloc, nodes, table, i)? {
         return Ok(false);
@@ -97,16 +88,16 @@ fn improve_twice(
 // Improves what is known of each box, from the last one to the first, and tells whether one improved.
 fn improve_each(
     alloc: Global,
-    nodes: &[Node],
-    table: &mut Vec<BoxFacts>,
+    nodes: &RangeTable<'_>,
+    table: &mut FactTable,
 ) -> Result<bool, OutOfMemory>
-    requires { Improves nodes.now table.old.items }
-    ensures improves { OnOk result (Improves nodes.now table.new.items) }
-    ensures stable { IfOk result (λ better. better ≡ false → Stable nodes.now table.new.items) }
-    ensures less { IfOk result (λ better. better ≡ true → unknown_in table.new.items < unknown_in table.old.items) }
+    requires { Improves nodes.now table.old }
+    ensures improves { OnOk result (Improves nodes.now table.new) }
+    ensures stable { IfOk result (λ better. better ≡ false → Stable nodes.now table.new) }
+    ensures less { IfOk result (λ better. better ≡ true → unknown_in table.new < unknown_in table.old) }
 {
     let mut better = false;
-    let mut i = nodes.len();
+    let mut i = nodes.nodes().len();
     while i > 0 {
         i -= 1;
         if improve_twice(alloc, nodes, table, i)? {
@@ -117,11 +108,11 @@ fn improve_each(
 }
 
 // All that is inferred.
-fn improved_table(alloc: Global, nodes: &[Node]) -> Result<Vec<BoxFacts>, OutOfMemory>
-    ensures improves { IfOk result (λ t. Improves nodes.now t.items) }
-    ensures stable { IfOk result (λ t. Stable nodes.now t.items) }
+fn improved_table(alloc: Global, nodes: &RangeTable<'_>) -> Result<FactTable, OutOfMemory>
+    ensures improves { IfOk result (λ t. Improves nodes.now t) }
+    ensures stable { IfOk result (λ t. Stable nodes.now t) }
 {
-    let mut table = none_known(alloc, nodes)?;
+    let mut table = FactTable::none(alloc, nodes.nodes())?;
     loop {
         if !improve_each(alloc, nodes, &mut table)? {
             return Ok(table);
@@ -135,6 +126,7 @@ pub fn props(alloc: Global, graph: &Graph) -> Result<Props, OutOfMemory>
     ensures exact { IfOk result (λ p. Tells (facts_of p) graph.now.boxes) }
     ensures holds { IfOk result (λ p. (tables : List Table) → Premises tables graph.now.boxes → (fact : Fact) → says (facts_of p) fact ≡ true → Holds tables graph.now.boxes fact) }
 {
-    let boxes = improved_table(alloc, graph.nodes())?;
+    let nodes = RangeTable::of(alloc, graph.nodes())?;
+    let boxes = improved_table(alloc, &nodes)?;
     Ok(Props::of(boxes))
 }

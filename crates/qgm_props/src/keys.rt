@@ -8,7 +8,8 @@ ghost use Rattle.qgm_props.specs.Table.{facts_of};
 
 use crate::columns::cell_at;
 use crate::expressions::is_alone;
-use crate::facts::{BoxFacts, has_at_most_one};
+use crate::fact_table::FactTable;
+use crate::facts::has_at_most_one;
 use qgm_core::{BaseTable, BoxId, BoxKind, Gx, Node, OwnedQuant, QuantId, SetOperator, is_marked};
 use qgm_terms::both;
 use shared_types::OutOfMemory;
@@ -124,7 +125,7 @@ fn has_op_key(operator: SetOperator, width: usize, columns: &[usize]) -> bool
 pub fn has_key(
     alloc: Global,
     boxes: &[Node],
-    table: &[BoxFacts],
+    table: &FactTable,
     b: BoxId,
     columns: &[usize],
 ) -> Result<bool, OutOfMemory>
@@ -144,7 +145,7 @@ fn has_key_of(
     alloc: Global,
     node: &Node,
     below: &[Node],
-    table: &[BoxFacts],
+    table: &FactTable,
     columns: &[usize],
 ) -> Result<bool, OutOfMemory>
     ensures { IfOk result (λ k. k ≡ spec.keyed (facts_of table.now).at_most_one node.now (spec.holds_key (facts_of table.now).at_most_one below.now) columns.now) }
@@ -176,7 +177,7 @@ fn have_keys(
     alloc: Global,
     node: &Node,
     below: &[Node],
-    table: &[BoxFacts],
+    table: &FactTable,
     columns: &[usize],
 ) -> Result<bool, OutOfMemory>
     ensures { IfOk result (λ k. k ≡ spec.keyed_under_F node.now.parts.head (spec.holds_key (facts_of table.now).at_most_one below.now) columns.now node.now.quants) }
@@ -195,7 +196,7 @@ fn have_two_keys(
     alloc: Global,
     node: &Node,
     below: &[Node],
-    table: &[BoxFacts],
+    table: &FactTable,
     columns: &[usize],
 ) -> Result<bool, OutOfMemory>
     ensures { IfOk result (λ k. k ≡ spec.keyed_under_two node.now.parts.head (spec.holds_key (facts_of table.now).at_most_one below.now) columns.now node.now.quants) }
@@ -217,7 +218,7 @@ fn has_key_under(
     alloc: Global,
     node: &Node,
     below: &[Node],
-    table: &[BoxFacts],
+    table: &FactTable,
     columns: &[usize],
     range: OwnedQuant,
 ) -> Result<bool, OutOfMemory>

@@ -3,6 +3,7 @@ ghost use Rattle.std.specs.Prelude.{ℕ, ◌≡◌, ◌↔◌, IfOk, List, OnErr
 ghost use Rattle.qgm_core.specs.Boxes.{HasBox, QueryGraph, numbers};
 ghost use Rattle.list_laws.specs.Lists.{EachOnce, In};
 ghost use Rattle.qgm_wellformed.specs.Sentences.{WellFormed};
+ghost use Rattle.qgm_props.specs.Laws.{KeptOf};
 ghost use Rattle.rule_api.specs.Rules.{Ascending, Pair, Preserves, place_at};
 ghost use Rattle.rule_api.specs.declared.place.Place.{Place};
 ghost use Rattle.rule_api.specs.declared.rule_id.RuleId.{RuleId};
@@ -10,6 +11,7 @@ ghost use Rattle.rule_api.specs.declared.rule_id.RuleId.{RuleId};
 use crate::place::Place;
 use crate::rule_id::RuleId;
 use qgm_core::{BoxId, Graph};
+use qgm_props::Inference;
 use shared_types::OutOfMemory;
 use std::alloc::Global;
 
@@ -32,13 +34,21 @@ pub trait Rule {
     fn id(&self) -> RuleId
         ensures { result ≡ name self.now };
 
-    /// Its places at a box, by their first and then their second number. It fails where there is no
-    /// memory.
-    fn places(&self, alloc: Global, graph: &Graph, b: BoxId) -> Result<Vec<Place>, OutOfMemory>
+    /// Its places at a box, by their first and then their second number. What it asks to be inferred of
+    /// the graph is kept in `known`. It fails where there is no memory.
+    fn places(
+        &self,
+        alloc: Global,
+        graph: &Graph,
+        known: &mut Inference,
+        b: BoxId,
+    ) -> Result<Vec<Place>, OutOfMemory>
         requires formed { WellFormed graph.now }
         requires held { HasBox b graph.now }
+        requires known { KeptOf known.old graph.now.boxes }
         ensures list { IfOk result (λ v. v.items ≡ map (place_at b) (pairs self.now graph.now b)) }
-        ensures order { Ascending (pairs self.now graph.now b) };
+        ensures order { Ascending (pairs self.now graph.now b) }
+        ensures known { KeptOf known.new graph.now.boxes };
 
     /// Does its action at one of its places. Where there is no memory it fails, and the graph is as
     /// before.

@@ -3,6 +3,7 @@ ghost use Rattle.std.specs.Prelude.{◌≡◌, ◌++◌, IfOk, OnOk, filter, map
 ghost use Rattle.std.specs.List.{list_any};
 ghost use Rattle.qgm_core.specs.Boxes.{HasBox};
 ghost use Rattle.qgm_wellformed.specs.Sentences.{WellFormed};
+ghost use Rattle.qgm_props.specs.Laws.{KeptOf};
 ghost use Rattle.rule_api.specs.Rules.{place_at};
 ghost use Rattle.rule_api.specs.RuleIds.{is_of, is_rule};
 ghost use Rattle.rule_engine.specs.Control.{rules_of};
@@ -10,6 +11,7 @@ ghost use Rattle.rule_engine.specs.Control as spec;
 
 use crate::rules::Rules;
 use qgm_core::{BoxId, Graph};
+use qgm_props::Inference;
 use rule_api::{Firing, RuleId};
 use rule_plan::{Class, Plan};
 use shared_types::OutOfMemory;
@@ -66,15 +68,18 @@ fn add_rule<T: Rules>(
     alloc: Global,
     table: &T,
     graph: &Graph,
+    known: &mut Inference,
     rule: RuleId,
     b: BoxId,
     out: &mut Vec<Firing>,
 ) -> Result<(), OutOfMemory>
     requires formed { WellFormed graph.now }
     requires held { HasBox b graph.now }
-    ensures { OnOk result (out.new.items ≡ out.old.items ++ map (spec.firing rule) (map (place_at b) (T.pairs table.now rule graph.now b))) }
+    requires known { KeptOf known.old graph.now.boxes }
+    ensures found { OnOk result (out.new.items ≡ out.old.items ++ map (spec.firing rule) (map (place_at b) (T.pairs table.now rule graph.now b))) }
+    ensures known { KeptOf known.new graph.now.boxes }
 {
-    let places = table.places(alloc, rule, graph, b)?;
+    let places = table.places(alloc, rule, graph, known, b)?;
     for place in &places {
         out.push(Firing {
             rule,
@@ -89,16 +94,19 @@ pub fn add_box<T: Rules>(
     alloc: Global,
     table: &T,
     graph: &Graph,
+    known: &mut Inference,
     rules: &[RuleId],
     b: BoxId,
     out: &mut Vec<Firing>,
 ) -> Result<(), OutOfMemory>
     requires formed { WellFormed graph.now }
     requires held { HasBox b graph.now }
-    ensures { OnOk result (out.new.items ≡ out.old.items ++ spec.at_box (T.pairs table.now) rules.now graph.now b) }
+    requires known { KeptOf known.old graph.now.boxes }
+    ensures found { OnOk result (out.new.items ≡ out.old.items ++ spec.at_box (T.pairs table.now) rules.now graph.now b) }
+    ensures known { KeptOf known.new graph.now.boxes }
 {
     for rule in rules {
-        add_rule(alloc, table, graph, *rule, b, out)?;
+        add_rule(alloc, table, graph, known, *rule, b, out)?;
     }
     Ok(())
 }
@@ -117,9 +125,10 @@ pub fn candidates<T: Rules>(
 {
     let rules = enabled_rules(alloc, plan.classes.as_slice())?;
     let boxes = graph.walk(alloc, plan.walk)?;
+    let mut known = Inference::new();
     let mut out = Vec::new(alloc);
     for b in &boxes {
-        add_box(alloc, table, graph, &rules, *b, &mut out)?;
+        add_box(alloc, table, graph, &mut known, &rules, *b, &mut out)?;
     }
     Ok(out)
 }

@@ -3,11 +3,13 @@ ghost use Rattle.std.specs.Prelude.{ℕ, ◌≡◌, ◌↔◌, IfOk, List, OnErr
 ghost use Rattle.qgm_core.specs.Boxes.{HasBox, QueryGraph, numbers};
 ghost use Rattle.list_laws.specs.Lists.{EachOnce, In};
 ghost use Rattle.qgm_wellformed.specs.Sentences.{WellFormed};
+ghost use Rattle.qgm_props.specs.Laws.{KeptOf};
 ghost use Rattle.rule_api.specs.Rules.{Pair, Preserves, place_at};
 ghost use Rattle.rule_api.specs.declared.place.Place.{Place};
 ghost use Rattle.rule_api.specs.declared.rule_id.RuleId.{RuleId};
 
 use qgm_core::{BoxId, Graph};
+use qgm_props::Inference;
 use rule_api::{Place, RuleId};
 use shared_types::OutOfMemory;
 use std::alloc::Global;
@@ -24,17 +26,21 @@ pub trait Rules {
     /// The action of a rule, from the graph before to the graph after.
     ghost act: { Self → RuleId → Place → QueryGraph → QueryGraph → Type 0 };
 
-    /// The places of a rule at a box, in order. It fails where there is no memory.
+    /// The places of a rule at a box, in order. What it asks to be inferred of the graph is kept in
+    /// `known`. It fails where there is no memory.
     fn places(
         &self,
         alloc: Global,
         rule: RuleId,
         graph: &Graph,
+        known: &mut Inference,
         b: BoxId,
     ) -> Result<Vec<Place>, OutOfMemory>
         requires formed { WellFormed graph.now }
         requires held { HasBox b graph.now }
-        ensures { IfOk result (λ v. v.items ≡ map (place_at b) (pairs self.now rule graph.now b)) };
+        requires known { KeptOf known.old graph.now.boxes }
+        ensures list { IfOk result (λ v. v.items ≡ map (place_at b) (pairs self.now rule graph.now b)) }
+        ensures known { KeptOf known.new graph.now.boxes };
 
     /// Does the action of a rule at one of its places. Where there is no memory it fails, and the graph
     /// is as before.

@@ -2,6 +2,7 @@
 ghost use Rattle.std.specs.Prelude.{◌≡◌, IfOk, map, slice_get};
 ghost use Rattle.qgm_core.specs.Boxes.{HasBox};
 ghost use Rattle.qgm_wellformed.specs.Sentences.{WellFormed};
+ghost use Rattle.qgm_props.specs.Laws.{KeptOf};
 ghost use Rattle.rule_api.specs.Rules.{place_at};
 ghost use Rattle.rule_engine.specs.Control as spec;
 
@@ -9,6 +10,7 @@ use crate::choice::{earliest, next};
 use crate::control::{add_box, candidates, enabled_rules};
 use crate::rules::Rules;
 use qgm_core::{BoxId, Graph};
+use qgm_props::Inference;
 use rule_api::{Firing, RuleId};
 use rule_plan::{Order, Plan};
 use shared_types::OutOfMemory;
@@ -19,14 +21,17 @@ fn first_of_rule<T: Rules>(
     alloc: Global,
     table: &T,
     graph: &Graph,
+    known: &mut Inference,
     rule: RuleId,
     b: BoxId,
 ) -> Result<Option<Firing>, OutOfMemory>
     requires formed { WellFormed graph.now }
     requires held { HasBox b graph.now }
-    ensures { IfOk result (λ f. f ≡ slice_get (map (spec.firing rule) (map (place_at b) (T.pairs table.now rule graph.now b))) 0) }
+    requires known { KeptOf known.old graph.now.boxes }
+    ensures found { IfOk result (λ f. f ≡ slice_get (map (spec.firing rule) (map (place_at b) (T.pairs table.now rule graph.now b))) 0) }
+    ensures known { KeptOf known.new graph.now.boxes }
 {
-    let places = table.places(alloc, rule, graph, b)?;
+    let places = table.places(alloc, rule, graph, known, b)?;
     let Some(place) = places.first() else {
         return Ok(None);
     };
@@ -41,15 +46,18 @@ fn first_at_box<T: Rules>(
     alloc: Global,
     table: &T,
     graph: &Graph,
+    known: &mut Inference,
     rules: &[RuleId],
     b: BoxId,
 ) -> Result<Option<Firing>, OutOfMemory>
     requires formed { WellFormed graph.now }
     requires held { HasBox b graph.now }
-    ensures { IfOk result (λ f. f ≡ slice_get (spec.at_box (T.pairs table.now) rules.now graph.now b) 0) }
+    requires known { KeptOf known.old graph.now.boxes }
+    ensures found { IfOk result (λ f. f ≡ slice_get (spec.at_box (T.pairs table.now) rules.now graph.now b) 0) }
+    ensures known { KeptOf known.new graph.now.boxes }
 {
     for rule in rules {
-        let found = first_of_rule(alloc, table, graph, *rule, b)?;
+        let found = first_of_rule(alloc, table, graph, known, *rule, b)?;
         if found.is_some() {
             return Ok(found);
         }
@@ -70,8 +78,9 @@ fn first_candidate<T: Rules>(
 {
     let rules = enabled_rules(alloc, plan.classes.as_slice())?;
     let boxes = graph.walk(alloc, plan.walk)?;
+    let mut known = Inference::new();
     for b in &boxes {
-        let found = first_at_box(alloc, table, graph, &rules, *b)?;
+        let found = first_at_box(alloc, table, graph, &mut known, &rules, *b)?;
         if found.is_some() {
             return Ok(found);
         }
@@ -109,9 +118,10 @@ fn earliest_candidate<T: Rules>(
 {
     let rules = enabled_rules(alloc, plan.classes.as_slice())?;
     let boxes = graph.walk(alloc, plan.walk)?;
+    let mut known = Inference::new();
     let mut out = Vec::new(alloc);
     for b in &boxes {
-        add_box(alloc, table, graph, &rules, *b, &mut out)?;
+        add_box(alloc, table, graph, &mut known, &rules, *b, &mut out)?;
         let found = earliest(&out);
         if ranks_first(&rules, found) {
             return Ok(found);

@@ -1,9 +1,11 @@
-//! What the proofs of all rules stand on: a well-formed graph meets what inference asks, and which
-//! parts of an edited graph its rule need not look at.
+//! What all rules stand on: what is inferred, as a condition asks it; that a well-formed graph meets what
+//! inference asks; and which parts of an edited graph its rule need not look at.
 #![tactic(auto)]
 
 mod boxes;
 mod laws;
+mod told;
 
 pub use boxes::box_at;
 pub use laws::premise_laws;
+pub use told::{infers_at_most_one, infers_clean, infers_error_free, infers_exactly_one, infers_key};

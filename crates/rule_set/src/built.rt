@@ -5,6 +5,7 @@ ghost use Rattle.rule_set.specs.Rewriting.{Rewrites};
 ghost use Rattle.rule_set.specs.Built.{built_act, built_exact, built_may, built_pairs};
 
 use qgm_core::{BoxId, Graph};
+use qgm_props::Inference;
 use rule_api::{Place, Rule, RuleId};
 use rule_engine::{Rules, Trace, rewrite};
 use rule_merge::{DropCopy, MergeSelect};
@@ -30,11 +31,12 @@ impl Rules for BuiltRules {
         alloc: Global,
         rule: RuleId,
         graph: &Graph,
+        known: &mut Inference,
         b: BoxId,
     ) -> Result<Vec<Place>, OutOfMemory> {
         match rule {
-            RuleId::M1 => MergeSelect.places(alloc, graph, b),
-            RuleId::M2 => DropCopy.places(alloc, graph, b),
+            RuleId::M1 => MergeSelect.places(alloc, graph, known, b),
+            RuleId::M2 => DropCopy.places(alloc, graph, known, b),
             RuleId::U1
             | RuleId::U2
             | RuleId::U3

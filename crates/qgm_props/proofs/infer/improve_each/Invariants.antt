@@ -6,9 +6,9 @@ use Rattle.qgm_props.proofs.infer.improve_each.Given as goal
 abbrev pub invariant-loop-i : goal.invariant-loop-i
 invariant-loop-i l = record {
   within : l.i ≤ length l.nodes;
-  improves : Improves l.nodes l.table.items;
-  stable : l.better ≡ false → (l.table.items ≡ l.initial.table.items) × ((j : ℕ) → l.i ≤ j → StableAt l.nodes l.table.items j);
-  less : l.better ≡ true → unknown_in l.table.items < unknown_in l.initial.table.items;
+  improves : Improves l.nodes l.table;
+  stable : l.better ≡ false → (l.table ≡ l.initial.table) × ((j : ℕ) → l.i ≤ j → StableAt l.nodes l.table j);
+  less : l.better ≡ true → unknown_in l.table < unknown_in l.initial.table;
 }
 
 abbrev pub decreases-loop-i : goal.decreases-loop-i

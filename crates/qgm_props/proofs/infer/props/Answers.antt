@@ -1,4 +1,4 @@
-use Rattle.std.proofs.Common.{◌≡◌, sym, subst, List, true}
+use Rattle.std.proofs.Common.{◌≡◌, ◌∙◌, sym, subst, List, true}
 use Rattle.row_bag.specs.declared.tables.Table.{Table}
 use Rattle.qgm_core.specs.declared.node.Node.{Node}
 use Rattle.qgm_props.specs.Holding.{Holds}
@@ -12,14 +12,14 @@ use Rattle.qgm_props.proofs.Step.{step-holds}
 use Rattle.qgm_props.proofs.infer.props.Goals as goal
 
 pub returns-clause-exact : goal.returns-clause-exact
-returns-clause-exact c = subst (λ (t : List BoxFacts). (fact : Fact) → ((says (facts_of t) fact ≡ true → Inferred c.args.graph.now.boxes fact) × (Inferred c.args.graph.now.boxes fact → says (facts_of t) fact ≡ true))) (sym c.of.ensures)
-    (subst (λ (ns : List Node). (fact : Fact) → ((says (facts_of c.in_ok-boxes.boxes.items) fact ≡ true → Inferred ns fact) × (Inferred ns fact → says (facts_of c.in_ok-boxes.boxes.items) fact ≡ true))) c.nodes.ensures
+returns-clause-exact c = subst (λ (t : List BoxFacts). (fact : Fact) → ((says (facts_of t) fact ≡ true → Inferred c.args.graph.now.boxes fact) × (Inferred c.args.graph.now.boxes fact → says (facts_of t) fact ≡ true))) (sym c.of-2.ensures)
+    (subst (λ (ns : List Node). (fact : Fact) → ((says (facts_of c.in_ok-boxes.boxes) fact ≡ true → Inferred ns fact) × (Inferred ns fact → says (facts_of c.in_ok-boxes.boxes) fact ≡ true))) (c.in_ok-nodes.ensures ∙ c.nodes.ensures)
     (λ fact. (
-      (λ h. all-said c.nodes.result.now (Inferred c.nodes.result.now) (least c.nodes.result.now) c.in_ok-boxes.boxes.items c.in_ok-boxes.ensures.improves fact h),
-      (λ h. h (facts_of c.in_ok-boxes.boxes.items) (closed c.nodes.result.now c.in_ok-boxes.boxes.items c.in_ok-boxes.ensures.improves c.in_ok-boxes.ensures.stable)),
+      (λ h. all-said c.in_ok-nodes.nodes (Inferred c.in_ok-nodes.nodes) (least c.in_ok-nodes.nodes) c.in_ok-boxes.boxes c.in_ok-boxes.ensures.improves fact h),
+      (λ h. h (facts_of c.in_ok-boxes.boxes) (closed c.in_ok-nodes.nodes c.in_ok-boxes.boxes c.in_ok-boxes.ensures.improves c.in_ok-boxes.ensures.stable)),
     )))
 
 pub returns-clause-holds : goal.returns-clause-holds
-returns-clause-holds c = subst (λ (t : List BoxFacts). (tables : List Table) → Premises tables c.args.graph.now.boxes → (fact : Fact) → says (facts_of t) fact ≡ true → Holds tables c.args.graph.now.boxes fact) (sym c.of.ensures)
-    (subst (λ (ns : List Node). (tables : List Table) → Premises tables ns → (fact : Fact) → says (facts_of c.in_ok-boxes.boxes.items) fact ≡ true → Holds tables ns fact) c.nodes.ensures
-    (λ tables given fact h. all-said c.nodes.result.now (Holds tables c.nodes.result.now) (λ known all fact k. step-holds tables c.nodes.result.now known given all fact k) c.in_ok-boxes.boxes.items c.in_ok-boxes.ensures.improves fact h))
+returns-clause-holds c = subst (λ (t : List BoxFacts). (tables : List Table) → Premises tables c.args.graph.now.boxes → (fact : Fact) → says (facts_of t) fact ≡ true → Holds tables c.args.graph.now.boxes fact) (sym c.of-2.ensures)
+    (subst (λ (ns : List Node). (tables : List Table) → Premises tables ns → (fact : Fact) → says (facts_of c.in_ok-boxes.boxes) fact ≡ true → Holds tables ns fact) (c.in_ok-nodes.ensures ∙ c.nodes.ensures)
+    (λ tables given fact h. all-said c.in_ok-nodes.nodes (Holds tables c.in_ok-nodes.nodes) (λ known all fact k. step-holds tables c.in_ok-nodes.nodes known given all fact k) c.in_ok-boxes.boxes c.in_ok-boxes.ensures.improves fact h))

@@ -24,7 +24,7 @@ returns-then-ranks_first g c =
     let first : ranks_first c.in_ok-rules.rules.items c.earliest-found.result ≡ true = search rules in
     c.earliest-found.ensures
     ∙ stop-at (g.T.Rules.pairs c.args.table.now) c.in_ok-rules.rules.items c.args.graph.now c.loop-b.b-index c.deref-b-items.result.now c.loop-b.out.items c.deref-in-loop-b.result.now
-    within c.loop-b.invariant added (ap (ranks_first c.in_ok-rules.rules.items) (sym c.earliest-found.ensures) ∙ first)
+    within c.loop-b.invariant.found added (ap (ranks_first c.in_ok-rules.rules.items) (sym c.earliest-found.ensures) ∙ first)
     ∙ ap earliest (candidates-of (g.T.Rules.pairs c.args.table.now) c.args.plan.now c.args.graph.now c.in_ok-rules.rules.items c.deref-b-items.result.now own boxes)
 
 pub loop-b-preserved : goal.loop-b-preserved

@@ -14,12 +14,12 @@ returns-then-is_some g c =
     let within : c.loop-rule.rule-index < length c.args.rules.now = search rules in
     let found : is_some c.in_ok-found.found ≡ true = search rules in
     found-here f c.loop-rule.rule-index c.args.rules.now M1 c.in_ok-found.found (slice_get (at_box (g.T.Rules.pairs c.args.table.now) c.args.rules.now c.args.graph.now c.args.b) 0)
-    within c.in_ok-found.ensures found c.loop-rule.invariant
+    within c.in_ok-found.ensures.found found c.loop-rule.invariant.found
 
 pub loop-rule-preserved : goal.loop-rule-preserved
 loop-rule-preserved g c =
     let f : RuleId → List Firing = λ r. map (firing r) (map (place_at c.args.b) (g.T.Rules.pairs c.args.table.now r c.args.graph.now c.args.b)) in
     let within : c.loop-rule.rule-index < length c.args.rules.now = search rules in
     let none : is_some c.in_ok-found.found ≡ false = search rules in
-    found-behind f c.loop-rule.rule-index c.args.rules.now M1 c.in_ok-found.found (slice_get (at_box (g.T.Rules.pairs c.args.table.now) c.args.rules.now c.args.graph.now c.args.b) 0)
-    within c.in_ok-found.ensures none c.loop-rule.invariant
+    record { found = found-behind f c.loop-rule.rule-index c.args.rules.now M1 c.in_ok-found.found (slice_get (at_box (g.T.Rules.pairs c.args.table.now) c.args.rules.now c.args.graph.now c.args.b) 0)
+      within c.in_ok-found.ensures.found none c.loop-rule.invariant.found; known = c.in_ok-found.ensures.known }

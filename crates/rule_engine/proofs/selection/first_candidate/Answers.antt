@@ -22,7 +22,7 @@ returns-then-is_some g c =
     let f : ℕ → List Firing = at_box (g.T.Rules.pairs c.args.table.now) c.in_ok-rules.rules.items c.args.graph.now in
     let is : c.in_ok-found.found ≡ slice_get (f (slice_index_or c.deref-b-items.result.now c.loop-b.b-index 0)) 0 = search rules in
     let found : is_some c.in_ok-found.found ≡ true = search rules in
-    found-here f c.loop-b.b-index c.deref-b-items.result.now 0 c.in_ok-found.found (slice_get (flat_map f c.deref-b-items.result.now) 0) within is found c.loop-b.invariant
+    found-here f c.loop-b.b-index c.deref-b-items.result.now 0 c.in_ok-found.found (slice_get (flat_map f c.deref-b-items.result.now) 0) within is found c.loop-b.invariant.found
     ∙ ap (λ xs. slice_get xs 0) (candidates-of (g.T.Rules.pairs c.args.table.now) c.args.plan.now c.args.graph.now c.in_ok-rules.rules.items c.deref-b-items.result.now own boxes)
 
 pub loop-b-preserved : goal.loop-b-preserved
@@ -31,4 +31,4 @@ loop-b-preserved g c =
     let f : ℕ → List Firing = at_box (g.T.Rules.pairs c.args.table.now) c.in_ok-rules.rules.items c.args.graph.now in
     let is : c.in_ok-found.found ≡ slice_get (f (slice_index_or c.deref-b-items.result.now c.loop-b.b-index 0)) 0 = search rules in
     let none : is_some c.in_ok-found.found ≡ false = search rules in
-    found-behind f c.loop-b.b-index c.deref-b-items.result.now 0 c.in_ok-found.found (slice_get (flat_map f c.deref-b-items.result.now) 0) within is none c.loop-b.invariant
+    record { found = found-behind f c.loop-b.b-index c.deref-b-items.result.now 0 c.in_ok-found.found (slice_get (flat_map f c.deref-b-items.result.now) 0) within is none c.loop-b.invariant.found; known = c.in_ok-found.ensures.known }

@@ -15,8 +15,8 @@ returns-clause-holds c =
   where
     exact : IfOk c.has_key.result (λ k. k ≡ keys.holds_key (facts_of c.args.self.now).at_most_one c.args.graph.now.boxes c.args.b c.args.columns.now)
     exact =
-        subst (λ (t : List BoxFacts). IfOk c.has_key.result (λ k. k ≡ keys.holds_key (facts_of t).at_most_one c.args.graph.now.boxes c.args.b c.args.columns.now)) (c.deref.ensures.value ∙ c.self.view_is)
-        (subst (λ (ns : List Node). IfOk c.has_key.result (λ k. k ≡ keys.holds_key (facts_of c.deref.result.now).at_most_one ns c.args.b c.args.columns.now)) c.nodes.ensures c.has_key.ensures)
+        subst (λ (t : List BoxFacts). IfOk c.has_key.result (λ k. k ≡ keys.holds_key (facts_of t).at_most_one c.args.graph.now.boxes c.args.b c.args.columns.now)) c.self.view_is
+        (subst (λ (ns : List Node). IfOk c.has_key.result (λ k. k ≡ keys.holds_key (facts_of c.self.inside.boxes).at_most_one ns c.args.b c.args.columns.now)) c.nodes.ensures c.has_key.ensures)
 
 pub returns-clause-inferred : goal.returns-clause-inferred
 returns-clause-inferred c =
@@ -24,5 +24,5 @@ returns-clause-inferred c =
   where
     exact : IfOk c.has_key.result (λ k. k ≡ keys.holds_key (facts_of c.args.self.now).at_most_one c.args.graph.now.boxes c.args.b c.args.columns.now)
     exact =
-        subst (λ (t : List BoxFacts). IfOk c.has_key.result (λ k. k ≡ keys.holds_key (facts_of t).at_most_one c.args.graph.now.boxes c.args.b c.args.columns.now)) (c.deref.ensures.value ∙ c.self.view_is)
-        (subst (λ (ns : List Node). IfOk c.has_key.result (λ k. k ≡ keys.holds_key (facts_of c.deref.result.now).at_most_one ns c.args.b c.args.columns.now)) c.nodes.ensures c.has_key.ensures)
+        subst (λ (t : List BoxFacts). IfOk c.has_key.result (λ k. k ≡ keys.holds_key (facts_of t).at_most_one c.args.graph.now.boxes c.args.b c.args.columns.now)) c.self.view_is
+        (subst (λ (ns : List Node). IfOk c.has_key.result (λ k. k ≡ keys.holds_key (facts_of c.self.inside.boxes).at_most_one ns c.args.b c.args.columns.now)) c.nodes.ensures c.has_key.ensures)

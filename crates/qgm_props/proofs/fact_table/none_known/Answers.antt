@@ -1,6 +1,6 @@
 use Rattle.std.proofs.Common.{arith}
 use Rattle.std.proofs.lemmas.Grind.{common_steps}
-use Rattle.qgm_props.proofs.infer.none_known.Goals as goal
+use Rattle.qgm_props.proofs.fact_table.none_known.Goals as goal
 
 pub loop-node-preserved : goal.loop-node-preserved
 loop-node-preserved c = grind (arith, common_steps)
