@@ -6,3 +6,5 @@ pub mod PermitDistinctKeeps
 pub mod PermitDistinctEdits
 pub mod DropUnionDistinctMeans
 pub mod DropUnionDistinctKeeps
+mod DropsDistinctEdits
+mod ToldKeys

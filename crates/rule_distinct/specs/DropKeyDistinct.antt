@@ -26,8 +26,12 @@ MayDropKeyDistinct p g = (b : Node) × MayDropKeyDistinctAt p g b
 
 -- ---- the places
 
+-- in the graph in which it is PRESERVE it has an inferred key
+abbrev pub is_keyed_preserve : QueryGraph → Node → Bool
+is_keyed_preserve g n = infers_key (set_distinct n.id Preserve g).boxes n.id (places_to (width n))
+
 abbrev pub may_drop_key_distinct : QueryGraph → Node → Bool
-may_drop_key_distinct g n = is_plain_select n && (is_enforce n.parts.distinct && infers_key (set_distinct n.id Preserve g).boxes n.id (places_to (width n)))
+may_drop_key_distinct g n = is_plain_select n && (is_enforce n.parts.distinct && is_keyed_preserve g n)
 
 -- the places of L1 at b
 unfoldable pub drop_key_distinct_pairs : QueryGraph → ℕ → List Pair

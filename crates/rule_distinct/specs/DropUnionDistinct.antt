@@ -48,8 +48,12 @@ is_union Except = false
 abbrev pub unites : ℕ → Node → Bool
 unites b y = of_set (λ form types. is_union form) y.parts.kind && list_any (λ (r : OwnedQuant). r.over == b) y.quants
 
+-- one quantifier ranges over it, and that is one of a union
+abbrev pub is_under_union : QueryGraph → Node → Bool
+is_under_union g n = (times n.id (overs_in g.boxes) == 1) && list_any (unites n.id) g.boxes
+
 abbrev pub may_drop_union_distinct : QueryGraph → Node → Bool
-may_drop_union_distinct g n = is_plain_select n && (is_enforce n.parts.distinct && ((times n.id (overs_in g.boxes) == 1) && list_any (unites n.id) g.boxes))
+may_drop_union_distinct g n = is_plain_select n && (is_enforce n.parts.distinct && is_under_union g n)
 
 -- the places of L3 at b
 unfoldable pub drop_union_distinct_pairs : QueryGraph → ℕ → List Pair

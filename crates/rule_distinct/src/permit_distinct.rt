@@ -3,6 +3,7 @@ ghost use Rattle.std.specs.Prelude.{◌≡◌, IfOk, OnErr, OnOk, true};
 ghost use Rattle.std.specs.List.{list_any};
 ghost use Rattle.qgm_wellformed.specs.Sentences.{WellFormed};
 ghost use Rattle.qgm_core.specs.Boxes.{box_of};
+ghost use Rattle.qgm_props.specs.Laws.{KeptOf};
 ghost use Rattle.rule_api.specs.Rules.{Preserves};
 ghost use Rattle.rule_api.specs.declared.rule_id.RuleId.TheVariants.{L2};
 ghost use Rattle.rule_distinct.specs.PermitDistinct as spec;
@@ -10,10 +11,11 @@ ghost use Rattle.rule_distinct.specs.PermitDistinct.{MayPermitDistinct, PermitsD
 ghost use Rattle.rule_distinct.specs.PermitDistinctExact.{permit_distinct_exact};
 ghost use Rattle.rule_facts.specs.Places.{in_box};
 
-use crate::parts::{infers_clean, is_plain_select, put_distinct};
+use crate::parts::{is_plain_select, put_distinct};
 use qgm_core::{BoxId, Distinct, Graph, Node};
+use qgm_props::Inference;
 use rule_api::{Place, Rule, RuleId, add_if};
-use rule_facts::box_at;
+use rule_facts::{box_at, infers_clean};
 use shared_types::OutOfMemory;
 use std::alloc::Global;
 
@@ -50,22 +52,36 @@ fn is_read_as_set(graph: &Graph, node: &Node) -> bool
 }
 
 // Whether L2 may fire at a box.
-fn may_permit_distinct(alloc: Global, graph: &Graph, node: &Node) -> Result<bool, OutOfMemory>
-    ensures { IfOk result (λ passes. passes ≡ spec.may_permit_distinct graph.now node.now) }
+fn may_permit_distinct(
+    alloc: Global,
+    graph: &Graph,
+    known: &mut Inference,
+    node: &Node,
+) -> Result<bool, OutOfMemory>
+    requires { KeptOf known.old graph.now.boxes }
+    ensures test { IfOk result (λ passes. passes ≡ spec.may_permit_distinct graph.now node.now) }
+    ensures known { KeptOf known.new graph.now.boxes }
 {
     if !is_read_as_set(graph, node) {
         return Ok(false);
     }
-    infers_clean(alloc, graph, node.id)
+    infers_clean(alloc, graph, known, node.id)
 }
 
 // Whether it may fire at the box of a number.
-fn may_at(alloc: Global, graph: &Graph, b: BoxId) -> Result<bool, OutOfMemory>
-    ensures { IfOk result (λ passes. passes ≡ in_box (spec.may_permit_distinct graph.now) (box_of b graph.now)) }
+fn may_at(
+    alloc: Global,
+    graph: &Graph,
+    known: &mut Inference,
+    b: BoxId,
+) -> Result<bool, OutOfMemory>
+    requires { KeptOf known.old graph.now.boxes }
+    ensures test { IfOk result (λ passes. passes ≡ in_box (spec.may_permit_distinct graph.now) (box_of b graph.now)) }
+    ensures known { KeptOf known.new graph.now.boxes }
 {
     graph.each_number_once();
     match box_at(graph.nodes(), b) {
-        Some(node) => may_permit_distinct(alloc, graph, node),
+        Some(node) => may_permit_distinct(alloc, graph, known, node),
         None => Ok(false),
     }
 }
@@ -98,9 +114,15 @@ impl Rule for PermitDistinct {
     }
 
     #[tactic(auto, unfolding(crate::specs::PermitDistinct::permit_distinct_pairs))]
-    fn places(&self, alloc: Global, graph: &Graph, b: BoxId) -> Result<Vec<Place>, OutOfMemory> {
+    fn places(
+        &self,
+        alloc: Global,
+        graph: &Graph,
+        known: &mut Inference,
+        b: BoxId,
+    ) -> Result<Vec<Place>, OutOfMemory> {
         let mut out = Vec::new(alloc);
-        let passes = may_at(alloc, graph, b)?;
+        let passes = may_at(alloc, graph, known, b)?;
         add_if(&mut out, passes, b, 0, 0)?;
         Ok(out)
     }

@@ -7,6 +7,13 @@ use Rattle.rule_api.specs.Rules.{Pair}
 use Rattle.rule_api.specs.declared.place.Place.{Place}
 use Rattle.rule_api.specs.declared.rule_id.RuleId.{RuleId}
 use Rattle.rule_api.specs.declared.rule_id.RuleId.TheVariants.{M1, M2, U1, U2, U3, U4, L1, L2, L3, P1, P2, P3, P4, J1, J2, N1, N2, G1, G2, G3, G4, G5}
+use Rattle.rule_distinct.specs.DropKeyDistinct.{MayDropKeyDistinct, drop_key_distinct_pairs}
+use Rattle.rule_distinct.specs.DropKeyDistinctExact.{drop_key_distinct_exact}
+use Rattle.rule_distinct.specs.DropUnionDistinct.{MayDropUnionDistinct, drop_union_distinct_pairs}
+use Rattle.rule_distinct.specs.DropUnionDistinctExact.{drop_union_distinct_exact}
+use Rattle.rule_distinct.specs.PermitDistinct.{MayPermitDistinct, PermitsDistinct, permit_distinct_pairs}
+use Rattle.rule_distinct.specs.PermitDistinctExact.{permit_distinct_exact}
+use Rattle.rule_distinct.specs.PlainAt.{DropsDistinct}
 use Rattle.rule_merge.specs.DropCopy.{DropsCopy, MayDropCopy, drop_copy_pairs}
 use Rattle.rule_merge.specs.DropCopyExact.{drop_copy_exact}
 use Rattle.rule_merge.specs.MergeSelect.{MayMergeSelect, MergesSelect, merge_select_pairs}
@@ -25,6 +32,15 @@ merge_select = record { pairs = merge_select_pairs; may = MayMergeSelect; act = 
 abbrev pub drop_copy : BuiltRule
 drop_copy = record { pairs = drop_copy_pairs; may = MayDropCopy; act = DropsCopy; exact = drop_copy_exact }
 
+abbrev pub drop_key_distinct : BuiltRule
+drop_key_distinct = record { pairs = drop_key_distinct_pairs; may = MayDropKeyDistinct; act = DropsDistinct; exact = drop_key_distinct_exact }
+
+abbrev pub permit_distinct : BuiltRule
+permit_distinct = record { pairs = permit_distinct_pairs; may = MayPermitDistinct; act = PermitsDistinct; exact = permit_distinct_exact }
+
+abbrev pub drop_union_distinct : BuiltRule
+drop_union_distinct = record { pairs = drop_union_distinct_pairs; may = MayDropUnionDistinct; act = DropsDistinct; exact = drop_union_distinct_exact }
+
 abbrev pub not_built : BuiltRule
 not_built = record { pairs = λ g b. []; may = λ p g. ⊥; act = λ p g h. ⊥; exact = λ g b i j once w. ((λ h. h), λ h. h) }
 
@@ -35,9 +51,9 @@ built U1 = not_built
 built U2 = not_built
 built U3 = not_built
 built U4 = not_built
-built L1 = not_built
-built L2 = not_built
-built L3 = not_built
+built L1 = drop_key_distinct
+built L2 = permit_distinct
+built L3 = drop_union_distinct
 built P1 = not_built
 built P2 = not_built
 built P3 = not_built

@@ -7,13 +7,14 @@ ghost use Rattle.rule_set.specs.Built.{built_act, built_exact, built_may, built_
 use qgm_core::{BoxId, Graph};
 use qgm_props::Inference;
 use rule_api::{Place, Rule, RuleId};
+use rule_distinct::{DropKeyDistinct, DropUnionDistinct, PermitDistinct};
 use rule_engine::{Rules, Trace, rewrite};
 use rule_merge::{DropCopy, MergeSelect};
 use rule_plan::Plan;
 use shared_types::OutOfMemory;
 use std::alloc::Global;
 
-/// The rules that are built: M1 and M2.
+/// The rules that are built: M1, M2 and L1 to L3.
 #[derive(Clone, Copy)]
 pub struct BuiltRules;
 
@@ -37,13 +38,13 @@ impl Rules for BuiltRules {
         match rule {
             RuleId::M1 => MergeSelect.places(alloc, graph, known, b),
             RuleId::M2 => DropCopy.places(alloc, graph, known, b),
+            RuleId::L1 => DropKeyDistinct.places(alloc, graph, known, b),
+            RuleId::L2 => PermitDistinct.places(alloc, graph, known, b),
+            RuleId::L3 => DropUnionDistinct.places(alloc, graph, known, b),
             RuleId::U1
             | RuleId::U2
             | RuleId::U3
             | RuleId::U4
-            | RuleId::L1
-            | RuleId::L2
-            | RuleId::L3
             | RuleId::P1
             | RuleId::P2
             | RuleId::P3
@@ -70,13 +71,13 @@ impl Rules for BuiltRules {
         match rule {
             RuleId::M1 => MergeSelect.apply(alloc, graph, place),
             RuleId::M2 => DropCopy.apply(alloc, graph, place),
+            RuleId::L1 => DropKeyDistinct.apply(alloc, graph, place),
+            RuleId::L2 => PermitDistinct.apply(alloc, graph, place),
+            RuleId::L3 => DropUnionDistinct.apply(alloc, graph, place),
             RuleId::U1
             | RuleId::U2
             | RuleId::U3
             | RuleId::U4
-            | RuleId::L1
-            | RuleId::L2
-            | RuleId::L3
             | RuleId::P1
             | RuleId::P2
             | RuleId::P3
