@@ -1,24 +1,27 @@
 -- Keys that the code is told of are those that are inferred.
-use Rattle.std.proofs.Common.{ℕ, zero, suc, ◌≡◌, ◌∷◌, ◌-◌, ◌<◌, Bool, true, false, List, refl, ap, arith}
+use Rattle.std.proofs.Common.{ℕ, zero, suc, ◌≡◌, ◌∷◌, ◌-◌, ◌<◌, ◌∙◌, Bool, true, false, List, refl, sym, ap, arith}
 use mathlib.Core.Path.{fun_ext}
+use Rattle.list_laws.specs.Lists.{change}
+use Rattle.qgm_core.specs.Boxes.{is_box}
+use Rattle.qgm_core.specs.Edits.{with_distinct}
 use Rattle.qgm_core.specs.Kinds.{is_select, width_by}
 use Rattle.qgm_core.specs.declared.kinds.BoxKind.{BoxKind}
 use Rattle.qgm_core.specs.declared.kinds.BoxKind.TheVariants.{Base, Select, Group, SetOp, OuterJoin}
+use Rattle.qgm_core.specs.declared.kinds.Distinct.{Distinct}
 use Rattle.qgm_core.specs.declared.node.Node.{Node}
 use Rattle.qgm_props.specs.Inferred.{Facts, at_most_one}
 use Rattle.qgm_props.specs.InferredKeys.{places_to}
 use Rattle.qgm_props.specs.Keys.{holds_key}
 use Rattle.qgm_props.specs.Laws.{Tells}
-use Rattle.qgm_props.proofs.Settled.{all-told}
 use Rattle.rule_facts.specs.Told.{infers, infers_key, told-is}
+use Rattle.rule_facts.proofs.FactsWithoutDistinct.{infers-same}
 
-told_single : (bs : List Node) (known : Facts) → Tells known bs → known.at_most_one ≡ (all-told bs).0.at_most_one
-unfolding infers
-told_single bs known tells = fun_ext (λ b. told-is bs known tells (at_most_one b))
-
-pub told_key : (bs : List Node) (known : Facts) → Tells known bs → (b : ℕ) (ks : List ℕ) → holds_key known.at_most_one bs b ks ≡ infers_key bs b ks
-unfolding infers_key
-told_key bs known tells b ks = ap (λ (single : ℕ → Bool). holds_key single bs b ks) (told_single bs known tells)
+-- a key in the graph in which a box has another distinctness, by what is inferred of the graph as it is
+pub told_key : (bs : List Node) (b : ℕ) (d : Distinct) (known : Facts) → Tells known bs → (c : ℕ) (ks : List ℕ)
+    → holds_key known.at_most_one (change (is_box b) (with_distinct d) bs) c ks ≡ infers_key (change (is_box b) (with_distinct d) bs) c ks
+unfolding infers infers_key
+told_key bs b d known tells c ks =
+    ap (λ (single : ℕ → Bool). holds_key single (change (is_box b) (with_distinct d) bs) c ks) (fun_ext (λ x. told-is bs known tells (at_most_one x) ∙ sym (infers-same bs b d (at_most_one x))))
 
 -- the places from one that isn't 0
 pub places_down : (k : ℕ) → 0 < k → places_to k ≡ k ∷ places_to (k - 1)
