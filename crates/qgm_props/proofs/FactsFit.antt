@@ -1,11 +1,10 @@
 -- What is inferred holds in each environment that fits.
-use Rattle.std.proofs.Common.{ℕ, ◌≡◌, ◌≤◌, ◌&&◌, cond, Bool, true, false, List, [], ◌∷◌, ◌++◌, length, None, refl, sym, ap, ap₂, subst, ◌∙◌, inl, inr}
+use Rattle.std.proofs.Common.{ℕ, ◌≡◌, ◌≤◌, ◌&&◌, cond, Bool, true, false, List, [], ◌∷◌, ◌++◌, length, None, refl, sym, ap, subst, ◌∙◌, inl}
 use Rattle.std.specs.List.{list_all}
 use Rattle.std.proofs.lemmas.Bool.{and_from, and_parts}
 use mathlib.Core.Path.{fun_ext}
-use Rattle.row_bag.specs.Bags.{bind, keep, unit}
+use Rattle.row_bag.specs.Bags.{bind, unit}
 use Rattle.row_bag.specs.Errors.{error_among, error_in}
-use Rattle.row_bag.specs.Keys.{HasKey}
 use Rattle.row_bag.specs.declared.tables.Table.{Table}
 use Rattle.sql_value.specs.declared.cell.Cell.{Cell}
 use Rattle.sql_value.specs.declared.order_key.SqlType.{SqlType}
@@ -19,16 +18,14 @@ use Rattle.qgm_core.specs.declared.owned.OwnedQuant.{OwnedQuant}
 use Rattle.qgm_core.specs.declared.parts.BoxParts.{BoxParts}
 use Rattle.qgm_meaning.specs.Exists.{each_box, some_box}
 use Rattle.qgm_meaning.specs.Fits.{fits}
-use Rattle.qgm_meaning.specs.Laws.{occurs}
 use Rattle.qgm_meaning.specs.Meaning.{Family, bag_in, given_by, over_each, quant_rows, rows_by}
 use Rattle.qgm_meaning.specs.Rules.{as_E, as_F}
 use Rattle.qgm_meaning.specs.Values.{Bag, Environment, all_true, bound, head_cells}
 use Rattle.qgm_meaning.proofs.Joined.{over_each-append}
 use Rattle.qgm_terms.specs.Terms.{Cond, Term, some}
-use Rattle.qgm_props.specs.Facts.{IsClean, IsErrorFree}
+use Rattle.qgm_props.specs.Facts.{IsClean}
 use Rattle.qgm_props.specs.Inferred.{Fact, Facts, Inferred, all_under_F, at_most_one, clean, clean_under, cond_free, error_free, exactly_one, says}
-use Rattle.qgm_props.specs.Keys.{holds_key}
-use Rattle.qgm_props.specs.Laws.{FactsThere, KeyInferred, Premises, Tells}
+use Rattle.qgm_props.specs.Laws.{FactsThere, Premises, Tells}
 use Rattle.qgm_props.proofs.EachClean.{EachClean, clean-each, each-is-clean}
 use Rattle.qgm_props.proofs.Environments.{rows-are}
 use Rattle.qgm_props.proofs.Fitted.{fits-in}
@@ -36,7 +33,7 @@ use Rattle.qgm_props.proofs.Held.{no-error-read, ready}
 use Rattle.qgm_props.proofs.InferredKeys.{keys-exact}
 use Rattle.qgm_props.proofs.KeyTests.{two-key}
 use Rattle.qgm_props.proofs.KeyedBoxes.{all-keyed}
-use Rattle.qgm_props.proofs.Partial.{FittingIn, HoldsIn}
+use Rattle.qgm_props.proofs.Partial.{HoldsIn}
 use Rattle.qgm_props.proofs.Rows.{clean-bind, clean-if, clean-keep}
 use Rattle.qgm_props.proofs.Selects.{Ready, all-columns, all-rows, next-ready, skip-ready, under-bound}
 use Rattle.qgm_props.proofs.Settled.{all-told, clean-said, inferred-in}

@@ -7,7 +7,7 @@ use Rattle.qgm_core.specs.declared.kinds.SetOperator.{SetOperator}
 use Rattle.qgm_core.specs.declared.parts.BoxParts.{BoxParts}
 use Rattle.qgm_meaning.specs.Exists.{each_box, some_box}
 use Rattle.qgm_terms.specs.Terms.{Cond, Term}
-use Rattle.std.specs.Prelude.{ℕ, ◌≡◌, ◌≤◌, ◌++◌, ◌↔◌, Bool, true, List, [], ◌∷◌, length, IfSome, None, Option, Some}
+use Rattle.std.specs.Prelude.{ℕ, ◌≡◌, ◌≤◌, ◌++◌, ◌↔◌, Bool, true, List, length, IfSome, None, Option, Some}
 use Rattle.row_bag.specs.Keys.{HasKey}
 use Rattle.row_bag.specs.declared.tables.Table.{Table}
 use Rattle.qgm_core.specs.Boxes.{Ordered, ids_of, owns, range_in}

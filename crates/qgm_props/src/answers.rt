@@ -1,13 +1,17 @@
 // What is inferred of a graph, as it is asked.
-ghost use Rattle.std.specs.Prelude.{◌≡◌, true, IfOk};
+ghost use Rattle.std.specs.Prelude.{◌≡◌, false, true, IfOk};
+ghost use Rattle.qgm_terms.specs.Shown.{cond};
+ghost use Rattle.qgm_props.specs.Inferred.{cond_free};
 ghost use Rattle.qgm_props.specs.Keys as keys;
 ghost use Rattle.qgm_props.specs.Laws.{KeyHolds, Tells, TellsKey};
 ghost use Rattle.qgm_props.specs.Table.{facts_of};
 
+use crate::expressions::is_cond_free;
 use crate::fact_table::FactTable;
 use crate::facts::{has_at_most_one, has_exactly_one, is_clean, is_error_free, is_not_null};
 use crate::keys::has_key;
-use qgm_core::{BoxId, Graph};
+use crate::range_table::RangeTable;
+use qgm_core::{BoxId, Gc, Graph};
 use shared_types::OutOfMemory;
 use std::alloc::Global;
 use std::marker::Model;
@@ -75,6 +79,15 @@ impl Props {
         ensures { result ≡ (facts_of self.now).exactly_one b }
     {
         has_exactly_one(&self.boxes, b)
+    }
+
+    /// Whether a condition is without errors, for the graph that these facts were inferred of. It fails
+    /// only for want of memory.
+    pub fn cond_error_free(&self, alloc: Global, graph: &Graph, c: &Gc) -> Result<bool, OutOfMemory>
+        ensures { IfOk result (λ free. free ≡ cond_free graph.now.boxes (facts_of self.now) false (cond c.now)) }
+    {
+        let nodes = RangeTable::of(alloc, graph.nodes())?;
+        Ok(is_cond_free(&nodes, &self.boxes, false, c))
     }
 
     /// Whether the set of columns holds a key of the box, for the graph that these facts were

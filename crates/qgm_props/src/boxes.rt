@@ -75,7 +75,12 @@ fn is_first_clean(table: &FactTable, ranges: &[OwnedQuant]) -> bool
 }
 
 // Whether each column of the boxes under the first two quantifiers holds no error.
-fn are_arms_free(nodes: &RangeTable<'_>, table: &FactTable, width: usize, ranges: &[OwnedQuant]) -> bool
+fn are_arms_free(
+    nodes: &RangeTable<'_>,
+    table: &FactTable,
+    width: usize,
+    ranges: &[OwnedQuant],
+) -> bool
     ensures { result ≡ spec.arms_error_free nodes.now (facts_of table.now) width ranges.now }
 {
     let _boxes = nodes;

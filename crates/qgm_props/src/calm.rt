@@ -64,7 +64,12 @@ fn is_column_calm(boxes: &RangeTable<'_>, table: &FactTable, node: &Node, column
 }
 
 // Whether all of them are.
-fn are_columns_calm(boxes: &RangeTable<'_>, table: &FactTable, node: &Node, columns: &[Column]) -> bool
+fn are_columns_calm(
+    boxes: &RangeTable<'_>,
+    table: &FactTable,
+    node: &Node,
+    columns: &[Column],
+) -> bool
     ensures { result ≡ list_all (spec.calm_column boxes.now (facts_of table.now) node.now) columns.now }
 {
     columns

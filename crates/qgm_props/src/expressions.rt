@@ -108,7 +108,13 @@ fn is_scalar_free(nodes: &RangeTable<'_>, table: &FactTable, q: QuantId) -> bool
 
 // Whether a chain is without errors, whose first operand is or not.
 #[cycle(expressions)]
-fn is_chain_free(nodes: &RangeTable<'_>, table: &FactTable, one: bool, first: bool, list: &[Link]) -> bool
+fn is_chain_free(
+    nodes: &RangeTable<'_>,
+    table: &FactTable,
+    one: bool,
+    first: bool,
+    list: &[Link],
+) -> bool
     ensures { result ≡ chain_free nodes.now (facts_of table.now) one first (links list.now) }
 {
     let mut total = first;
