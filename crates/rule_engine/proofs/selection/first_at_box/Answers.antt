@@ -8,8 +8,8 @@ use Rattle.rule_engine.specs.Control.{at_box, firing}
 use Rattle.rule_engine.proofs.First.{found-behind, found-here}
 use Rattle.rule_engine.proofs.selection.first_at_box.Goals as goal
 
-pub returns-then-is_some : goal.returns-then-is_some
-returns-then-is_some g c =
+pub returns-then-is_some-clause-found : goal.returns-then-is_some-clause-found
+returns-then-is_some-clause-found g c =
     let f : RuleId → List Firing = λ r. map (firing r) (map (place_at c.args.b) (g.T.Rules.pairs c.args.table.now r c.args.graph.now c.args.b)) in
     let within : c.loop-rule.rule-index < length c.args.rules.now = search rules in
     let found : is_some c.in_ok-found.found ≡ true = search rules in

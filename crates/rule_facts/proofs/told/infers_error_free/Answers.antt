@@ -5,4 +5,4 @@ use Rattle.rule_facts.specs.Told.{told-is}
 use Rattle.rule_facts.proofs.told.infers_error_free.Goals as goal
 
 pub returns-clause-told : goal.returns-clause-told
-returns-clause-told c = c.error_free.ensures ∙ told-is c.args.graph.now.boxes (facts_of c.in_ok-facts.facts) c.in_ok-facts.ensures.told (spec.error_free c.args.b c.args.column)
+returns-clause-told c = c.error_free-told.ensures ∙ told-is c.args.graph.now.boxes (facts_of c.in_ok-facts.facts) c.in_ok-facts.ensures.told (spec.error_free c.args.b c.args.column)
