@@ -1,4 +1,6 @@
 pub mod LastAsF
+pub mod KeptOne
+pub mod SameColumnsSteps
 pub mod ExistsToJoinSound
 pub mod ExistsToJoinRows
 pub mod ExistsToJoinMeans
@@ -14,6 +16,7 @@ pub mod SetToExistsRows
 pub mod SetToExistsMeans
 pub mod SetToExistsKeeps
 pub mod SetToExistsEdits
+pub mod SetToExistsActs
 pub mod ScalarToGroupExample
 pub mod ScalarToGroupFormed
 pub mod ScalarToGroupMeans

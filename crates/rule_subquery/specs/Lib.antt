@@ -6,5 +6,7 @@ pub mod ScalarToJoin
 pub mod ScalarToJoinExact
 pub mod SetToExists
 pub mod SetToExistsExact
+pub mod SetToExistsSteps
+pub mod Knowing
 pub mod ScalarToGroupExample
 pub mod ScalarToGroupLaws
