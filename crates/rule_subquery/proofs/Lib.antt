@@ -1,4 +1,5 @@
 pub mod LastAsF
+pub mod QuantPlaces
 pub mod KeptOne
 pub mod SameColumnsSteps
 pub mod ExistsToJoinSound
@@ -8,6 +9,7 @@ pub mod ExistsToJoinKeeps
 pub mod ExistsToJoinEdits
 pub mod ScalarToGroupKeeps
 pub mod ScalarToGroupEdits
+pub mod ScalarToGroupActs
 pub mod ScalarToJoinSound
 pub mod ScalarToJoinMeans
 pub mod ScalarToJoinKeeps

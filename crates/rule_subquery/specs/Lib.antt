@@ -2,6 +2,7 @@ pub mod ExistsToJoin
 pub mod ExistsToJoinExact
 pub mod ScalarToGroup
 pub mod ScalarToGroupExact
+pub mod ScalarToGroupSteps
 pub mod ScalarToJoin
 pub mod ScalarToJoinExact
 pub mod SetToExists

@@ -5,7 +5,9 @@
 mod laws;
 mod parts;
 mod same_columns;
+mod scalar_to_group;
 mod set_to_exists;
 
 pub use laws::subquery_laws;
+pub use scalar_to_group::ScalarToGroup;
 pub use set_to_exists::SetToExists;
