@@ -1,5 +1,8 @@
 pub mod LastAsF
+pub mod FirstColumnSteps
+pub mod ConjunctSteps
 pub mod QuantPlaces
+pub mod KnownKeys
 pub mod KeptOne
 pub mod SameColumnsSteps
 pub mod ExistsToJoinSound
@@ -7,6 +10,8 @@ pub mod ExistsToJoinRows
 pub mod ExistsToJoinMeans
 pub mod ExistsToJoinKeeps
 pub mod ExistsToJoinEdits
+pub mod ExistsToJoinTerms
+pub mod ExistsToJoinActs
 pub mod ScalarToGroupKeeps
 pub mod ScalarToGroupEdits
 pub mod ScalarToGroupActs
@@ -14,6 +19,7 @@ pub mod ScalarToJoinSound
 pub mod ScalarToJoinMeans
 pub mod ScalarToJoinKeeps
 pub mod ScalarToJoinEdits
+pub mod ScalarToJoinActs
 pub mod SetToExistsRows
 pub mod SetToExistsMeans
 pub mod SetToExistsKeeps

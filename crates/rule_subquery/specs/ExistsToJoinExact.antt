@@ -193,7 +193,7 @@ exists-to-join-exact g u w b i j = (
     o : Ordered g.boxes
     o = (sound g u ((finds-none g u).1 w)).ordered
 
-exists-to-join-ascend : (g : QueryGraph) (b : ℕ) → Ascending (exists_to_join_pairs g b)
+pub exists-to-join-ascend : (g : QueryGraph) (b : ℕ) → Ascending (exists_to_join_pairs g b)
 unfolding exists_to_join_pairs
 exists-to-join-ascend g b = quants-ascend (may_exists_to_join g.boxes) g b
 

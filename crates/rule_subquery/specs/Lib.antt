@@ -1,10 +1,13 @@
 pub mod ExistsToJoin
 pub mod ExistsToJoinExact
+pub mod ExistsToJoinSteps
 pub mod ScalarToGroup
 pub mod ScalarToGroupExact
 pub mod ScalarToGroupSteps
 pub mod ScalarToJoin
 pub mod ScalarToJoinExact
+pub mod ScalarToJoinSteps
+pub mod FirstColumn
 pub mod SetToExists
 pub mod SetToExistsExact
 pub mod SetToExistsSteps

@@ -5,6 +5,7 @@ ghost use Rattle.qgm_props.specs.Inferred.{at_most_one, clean, error_free, exact
 ghost use Rattle.rule_facts.specs.Places as places;
 ghost use Rattle.rule_facts.specs.Told.{infers};
 ghost use Rattle.rule_subquery.specs.Knowing.{IsKnown};
+ghost use Rattle.rule_subquery.specs.ScalarToGroup.{any_scalar};
 
 use qgm_core::{BoxId, BoxKind, Graph, Node, OwnedQuant};
 use qgm_props::{Props, props};
@@ -17,6 +18,13 @@ pub fn is_plain_select(node: &Node) -> bool
     ensures { result ≡ places.is_plain_select node.now }
 {
     node.parts.kind.is_select() && node.parts.role.is_plain()
+}
+
+/// Whether one of these is an S quantifier.
+pub fn any_scalar(ranges: &[OwnedQuant]) -> bool
+    ensures { result ≡ any_scalar ranges.now }
+{
+    ranges.iter().any(|r| r.kind.is_s())
 }
 
 /// How many columns a box has.

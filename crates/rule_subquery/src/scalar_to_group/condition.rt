@@ -3,7 +3,7 @@ ghost use Rattle.std.specs.Prelude.{◌≡◌};
 ghost use Rattle.rule_subquery.specs.Knowing.{IsKnown};
 ghost use Rattle.rule_subquery.specs.ScalarToGroup as spec;
 
-use crate::parts::{Known, has_at_most_one, has_exactly_one, is_error_free, is_plain_select};
+use crate::parts::{Known, any_scalar, has_at_most_one, has_exactly_one, is_error_free, is_plain_select};
 use qgm_core::{BoxId, Graph, Node, OwnedQuant};
 
 /// At how many boxes the rule has places no more: each firing adds one.
@@ -14,13 +14,6 @@ fn is_small(graph: &Graph) -> bool
     ensures { result ≡ spec.are_few graph.now.boxes }
 {
     graph.len() <= MOST_BOXES
-}
-
-// Whether one of these is an S quantifier.
-fn any_scalar(ranges: &[OwnedQuant]) -> bool
-    ensures { result ≡ spec.any_scalar ranges.now }
-{
-    ranges.iter().any(|r| r.kind.is_s())
 }
 
 /// Whether a box is a plain select with an S quantifier, in a graph of few boxes. Else U2 has no place
