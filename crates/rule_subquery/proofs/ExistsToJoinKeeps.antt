@@ -47,28 +47,28 @@ use Rattle.list_laws.proofs.Membership.{in-right}
 
 module _ (g : QueryGraph) (u : EachOnce (numbers g.boxes)) (f : fault g ≡ None) (b : Node) (us : List OwnedQuant) (r : OwnedQuant) (vs : List OwnedQuant) (xs : List Cond) (c : Cond) (ys : List Cond)
     (here : In b g.boxes) (m : HasExists b us r vs xs c ys) where
-  abbrev g1 : QueryGraph
+  abbrev pub g1 : QueryGraph
   g1 = permit_to_preserve r.over g
 
   w0 : Sound g.boxes g.root
   w0 = sound g u f
 
-  k : PermitToPreserveKeeps r.over g
+  pub k : PermitToPreserveKeeps r.over g
   k = permit-to-preserve g u f r.over
 
-  f1 : fault g1 ≡ None
+  pub f1 : fault g1 ≡ None
   f1 = k.formed
 
   in-r : In r b.quants
   in-r = subst (λ z. In r z) (sym m.split) (in-right r us (r ∷ vs) (inl refl))
 
-  apart : (b.id == r.over) ≡ false
+  pub apart : (b.id == r.over) ≡ false
   apart = elim (cases_Bool (b.id == r.over)) [
     | inr n ↦ n
     | inl t ↦ absurd (let less = place-under g.boxes b r w0.ordered here in-r in let same : place g.boxes b.id ≡ place g.boxes r.over = ap (place g.boxes) (eqb-true b.id r.over t) in omega arith)
   ]
 
-  here1 : In b g1.boxes
+  pub here1 : In b g1.boxes
   here1 = k.others b here apart
 
   w1 : Sound g1.boxes g1.root

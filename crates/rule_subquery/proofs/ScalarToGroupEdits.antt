@@ -3,13 +3,14 @@ use Rattle.std.proofs.Common.{ℕ, ◌==◌, ◌≡◌, ◌||◌, cond, Bool, tr
 use Rattle.std.specs.List.{list_any}
 use Rattle.std.proofs.lemmas.Bool.{cases_Bool, eq-eqb, or_parts}
 use Rattle.qgm_core.specs.Boxes.{Ordered, QueryGraph, bare_box, box_of, has_box, ids_of, is_box, is_quant, owns}
-use Rattle.qgm_core.specs.Edits.{drop_box, on_quant, put_range, range, redirect, with_box, with_quant}
+use Rattle.qgm_core.specs.Edits.{drop_box, on_quant, put_range, range, redirect, with_terms}
 use Rattle.list_laws.specs.Lists.{In, change, first, put_below, without}
 use Rattle.qgm_core.specs.declared.kinds.QuantKind.TheVariants.{F}
 use Rattle.qgm_core.specs.declared.node.Node.{Node}
 use Rattle.qgm_core.specs.declared.owned.OwnedQuant.{OwnedQuant}
 use Rattle.qgm_edit_laws.specs.Graph.{Sound}
-use Rattle.rule_subquery.specs.ScalarToGroupLaws.{single_box, singled}
+use Rattle.rule_subquery.specs.ScalarToGroupLaws.{single_box, single_head, singled}
+use Rattle.rule_subquery.specs.ScalarToGroupSteps.{empty_group, filled, no_conds, with_group}
 use Rattle.qgm_edit_laws.proofs.Edits.{OnceEach, once-each}
 use Rattle.qgm_edit_laws.proofs.Levels.{some-in}
 use Rattle.qgm_edit_laws.proofs.OneBox.{owner-at}
@@ -97,54 +98,18 @@ module _ (g : QueryGraph) (w : Sound g.boxes g.root) (b : Node) (in-b : In b g.b
   pub stands : Behind b c g.boxes
   stands = part g.boxes w.ordered in-b under
 
-  module _ (group quant : ℕ) (new_box : has_box g.boxes group ≡ false) (new_quant : list_any (owns quant) g.boxes ≡ false) where
-    abbrev xs : List Node
+  module _ (group : ℕ) (new_box : has_box g.boxes group ≡ false) where
+    abbrev pub xs : List Node
     xs = stands.xs
 
-    abbrev ys : List Node
+    abbrev pub ys : List Node
     ys = stands.ys
 
-    abbrev s : Node
-    s = single_box group quant c.id
-
     abbrev added : QueryGraph
-    added = with_box (Some b.id) (bare_box group s.parts) g
-
-    abbrev ranged : QueryGraph
-    ranged = with_quant group 0 (range quant F c.id) added
+    added = with_group b.id group g
 
     new-in : has_box (xs ++ ys) group ≡ false
     new-in = subst (λ z. has_box z group ≡ false) stands.parted new_box
-
-    ranged-is : ranged ≡ record g { boxes = xs ++ s ∷ ys }
-    ranged-is = ap (λ (z : List Node). record g { boxes = z }) (
-        ap (change (is_box group) (put_range 0 (range quant F c.id))) (stands.put (bare_box group s.parts))
-        ∙ change-mid (is_box group) (put_range 0 (range quant F c.id)) xs (bare_box group s.parts) ys (any-begin (is_box group) xs ys new-in) (eq-itself group))
-
-    own : owns r.id b ≡ true
-    own = any-from (is_quant r.id) r b.quants in-r (eq-itself r.id)
-
-    apart : (quant == r.id) ≡ false
-    apart = elim (cases_Bool (quant == r.id)) [
-      | inr f ↦ f
-      | inl t ↦ absurd (clash (owns quant b) (subst (λ z. owns z b ≡ true) (sym (eqb-true quant r.id t)) own) (any-none (owns quant) b g.boxes new_quant in-b))
-    ]
-
-    -- U2's edits
-    pub group-steps : redirect r.id group ranged ≡ singled xs ys group quant b c r g
-    group-steps = ap (redirect r.id group) ranged-is ∙ ap (λ (z : List Node). record g { boxes = z })
-        (owner-at r.id b (on_quant r.id (λ r. record r { over = group })) (xs ++ s ∷ ys)
-        (once-mid xs s ys (subst OnceEach stands.parted (once-each g.boxes w.ordered)) new-in)
-        (placed b xs stands.before) own
-        (λ y i t. elim (in-mid y xs s ys i) [
-          | inl e ↦ absurd (clash (owns r.id s) (subst (λ (z : Node). owns r.id z ≡ true) e t) (ap (λ a. a || false) apart))
-          | inr j ↦ one-owner g.boxes g.root w r.id y b (subst (λ z. In y z) (sym stands.parted) j) in-b t own
-        ]))
-      where
-        placed : (x : Node) (zs : List Node) → In x zs → In x (zs ++ s ∷ ys)
-        placed x zs i = in-left x zs (s ∷ ys) i
-
-    -- ---- and back
 
     without-mid : (ks : List Node) (y : Node) (zs : List Node) → y.id ≡ group → has_box ks group ≡ false → without (is_box group) (ks ++ y ∷ zs) ≡ ks ++ zs
     without-mid [] y zs e h = ap (λ t. cond t zs (y ∷ without (is_box group) zs)) (eq-eqb y.id group e)
@@ -152,65 +117,99 @@ module _ (g : QueryGraph) (w : Sound g.boxes g.root) (b : Node) (in-b : In b g.b
         let k = or_parts (x.id == group) (has_box ks group) h in
         ap (λ t. cond t (ks ++ y ∷ zs) (x ∷ without (is_box group) (ks ++ y ∷ zs))) k.0 ∙ ap (λ ws. x ∷ ws) (without-mid ks y zs e k.1)
 
+    -- the group goes again
     pub added-undone : drop_box group added ≡ g
-    added-undone = ap (λ (z : List Node). record g { boxes = z }) (ap (without (is_box group)) (stands.put (bare_box group s.parts)) ∙ without-mid xs (bare_box group s.parts) ys refl (any-begin (is_box group) xs ys new-in) ∙ sym stands.parted)
+    added-undone = ap (λ (z : List Node). record g { boxes = z }) (ap (without (is_box group)) (stands.put (bare_box group empty_group)) ∙ without-mid xs (bare_box group empty_group) ys refl (any-begin (is_box group) xs ys new-in) ∙ sym stands.parted)
 
-    pub ranged-undone : drop_box group ranged ≡ g
-    ranged-undone = ap (drop_box group) ranged-is ∙ ap (λ (z : List Node). record g { boxes = z }) (without-mid xs s ys refl (any-begin (is_box group) xs ys new-in) ∙ sym stands.parted)
+    module _ (quant : ℕ) (new_quant : list_any (owns quant) g.boxes ≡ false) where
+      abbrev s : Node
+      s = single_box group quant c.id
 
-    -- r ranges over its box again
-    again : (rs : List OwnedQuant) → first (is_quant r.id) rs ≡ Some r → change (is_quant r.id) (λ x. record x { over = r.over }) (change (is_quant r.id) (λ x. record x { over = group }) rs) ≡ rs
-    again [] h = refl
-    again (x ∷ rs) h = elim (cases_Bool (x.id == r.id)) [
-      | inl t ↦ (
-          let e : Some x ≡ Some r = sym (ap (λ (b : Bool). cond b (Some x) (first (is_quant r.id) rs)) t) ∙ h in
-          let is : r ≡ x = cc in
-          ap (λ (b : Bool). change (is_quant r.id) (λ x. record x { over = r.over }) (cond b ((record x { over = group }) ∷ rs) (x ∷ change (is_quant r.id) (λ x. record x { over = group }) rs))) t
-          ∙ ap (λ (b : Bool). cond b ((record x { over = r.over }) ∷ rs) ((record x { over = group }) ∷ change (is_quant r.id) (λ x. record x { over = r.over }) rs)) t
-          ∙ ap (λ (z : OwnedQuant). (record x { over = z.over }) ∷ rs) is)
-      | inr f ↦
-          ap (λ (b : Bool). change (is_quant r.id) (λ x. record x { over = r.over }) (cond b ((record x { over = group }) ∷ rs) (x ∷ change (is_quant r.id) (λ x. record x { over = group }) rs))) f
-          ∙ ap (λ (b : Bool). cond b ((record x { over = r.over }) ∷ change (is_quant r.id) (λ x. record x { over = group }) rs) (x ∷ change (is_quant r.id) (λ x. record x { over = r.over }) (change (is_quant r.id) (λ x. record x { over = group }) rs))) f
-          ∙ ap (λ zs. x ∷ zs) (again rs (sym (ap (λ (b : Bool). cond b (Some x) (first (is_quant r.id) rs)) f) ∙ h))
-    ]
+      abbrev ranged : QueryGraph
+      ranged = filled group quant c.id added
 
-    new-once : OnceEach (xs ++ s ∷ ys)
-    new-once = once-mid xs s ys (subst OnceEach stands.parted (once-each g.boxes w.ordered)) new-in
+      ranged-is : ranged ≡ record g { boxes = xs ++ s ∷ ys }
+      ranged-is = ap (λ (z : List Node). record g { boxes = z }) (
+          ap (λ z. change (is_box group) (with_terms no_conds (single_head quant)) (change (is_box group) (put_range 0 (range quant F c.id)) z)) (stands.put (bare_box group empty_group))
+          ∙ ap (change (is_box group) (with_terms no_conds (single_head quant))) (change-mid (is_box group) (put_range 0 (range quant F c.id)) xs (bare_box group empty_group) ys (any-begin (is_box group) xs ys new-in) (eq-itself group))
+          ∙ change-mid (is_box group) (with_terms no_conds (single_head quant)) xs (put_range 0 (range quant F c.id) (bare_box group empty_group)) ys (any-begin (is_box group) xs ys new-in) (eq-itself group))
 
-    mine : (y : Node) → In y (xs ++ s ∷ ys) → owns r.id y ≡ true → y ≡ b
-    mine y i t = elim (in-mid y xs s ys i) [
-      | inl e ↦ absurd (clash (owns r.id s) (subst (λ (z : Node). owns r.id z ≡ true) e t) (ap (λ a. a || false) apart))
-      | inr j ↦ one-owner g.boxes g.root w r.id y b (subst (λ z. In y z) (sym stands.parted) j) in-b t own
-    ]
+      own : owns r.id b ≡ true
+      own = any-from (is_quant r.id) r b.quants in-r (eq-itself r.id)
 
-    sole : Sole b r.id (xs ++ s ∷ ys)
-    sole = record {
-      once = new-once;
-      number = λ y i t. elim (in-mid y xs s ys i) [
-        | inl e ↦ absurd (clash (has_box (xs ++ ys) group) (any-from (is_box group) b (xs ++ ys) (subst (λ z. In b z) stands.parted in-b) (eq-eqb b.id group (sym (eqb-true group b.id (subst (λ (z : Node). (z.id == b.id) ≡ true) e t))))) new-in)
-        | inr j ↦ (let k : In y g.boxes = subst (λ z. In y z) (sym stands.parted) j in let a : Some y ≡ Some b = sym (in-first y g.boxes w.ordered k) ∙ ap (λ z. first (is_box z) g.boxes) (eqb-true y.id b.id t) ∙ in-first b g.boxes w.ordered in-b in cc)
-      ];
-      owner = mine;
-    }
+      apart : (quant == r.id) ≡ false
+      apart = elim (cases_Bool (quant == r.id)) [
+        | inr f ↦ f
+        | inl t ↦ absurd (clash (owns quant b) (subst (λ z. owns z b ≡ true) (sym (eqb-true quant r.id t)) own) (any-none (owns quant) b g.boxes new_quant in-b))
+      ]
 
-    pub redirect-undone : redirect r.id r.over (redirect r.id group ranged) ≡ ranged
-    redirect-undone =
-        ap (redirect r.id r.over) group-steps
-        ∙ ap (λ (z : List Node). record g { boxes = z })
-        (by-owner b r.id (on_quant r.id (λ x. record x { over = r.over })) (on_quant r.id (λ x. record x { over = group })) owned-then (xs ++ s ∷ ys) sole
-        ∙ at-one b r.id (λ y. on_quant r.id (λ x. record x { over = r.over }) (on_quant r.id (λ x. record x { over = group }) y)) (λ y. y) (ap (λ rs. record b { quants = rs }) (again b.quants found)) (xs ++ s ∷ ys) sole
-        ∙ as-is b r.id (xs ++ s ∷ ys))
-        ∙ sym ranged-is
-      where
-        found : first (is_quant r.id) b.quants ≡ Some r
-        found = first-own r b.quants (let a = times-in ids_of r.id b g.boxes in-b in let c = w.once r.id in omega arith) in-r
+      -- U2's edits
+      pub group-steps : redirect r.id group ranged ≡ singled xs ys group quant b c r g
+      group-steps = ap (redirect r.id group) ranged-is ∙ ap (λ (z : List Node). record g { boxes = z })
+          (owner-at r.id b (on_quant r.id (λ r. record r { over = group })) (xs ++ s ∷ ys)
+          (once-mid xs s ys (subst OnceEach stands.parted (once-each g.boxes w.ordered)) new-in)
+          (placed b xs stands.before) own
+          (λ y i t. elim (in-mid y xs s ys i) [
+            | inl e ↦ absurd (clash (owns r.id s) (subst (λ (z : Node). owns r.id z ≡ true) e t) (ap (λ a. a || false) apart))
+            | inr j ↦ one-owner g.boxes g.root w r.id y b (subst (λ z. In y z) (sym stands.parted) j) in-b t own
+          ]))
+        where
+          placed : (x : Node) (zs : List Node) → In x zs → In x (zs ++ s ∷ ys)
+          placed x zs i = in-left x zs (s ∷ ys) i
 
-        still : (rs : List OwnedQuant) → list_any (is_quant r.id) (change (is_quant r.id) (λ x. record x { over = group }) rs) ≡ list_any (is_quant r.id) rs
-        still [] = refl
-        still (x ∷ rs) = elim (cases_Bool (x.id == r.id)) [
-          | inl t ↦ ap (λ (b : Bool). list_any (is_quant r.id) (cond b ((record x { over = group }) ∷ rs) (x ∷ change (is_quant r.id) (λ x. record x { over = group }) rs))) t
-          | inr f ↦ ap (λ (b : Bool). list_any (is_quant r.id) (cond b ((record x { over = group }) ∷ rs) (x ∷ change (is_quant r.id) (λ x. record x { over = group }) rs))) f ∙ ap (λ t. (x.id == r.id) || t) (still rs)
-        ]
+      -- r ranges over its box again
+      again : (rs : List OwnedQuant) → first (is_quant r.id) rs ≡ Some r → change (is_quant r.id) (λ x. record x { over = r.over }) (change (is_quant r.id) (λ x. record x { over = group }) rs) ≡ rs
+      again [] h = refl
+      again (x ∷ rs) h = elim (cases_Bool (x.id == r.id)) [
+        | inl t ↦ (
+            let e : Some x ≡ Some r = sym (ap (λ (b : Bool). cond b (Some x) (first (is_quant r.id) rs)) t) ∙ h in
+            let is : r ≡ x = cc in
+            ap (λ (b : Bool). change (is_quant r.id) (λ x. record x { over = r.over }) (cond b ((record x { over = group }) ∷ rs) (x ∷ change (is_quant r.id) (λ x. record x { over = group }) rs))) t
+            ∙ ap (λ (b : Bool). cond b ((record x { over = r.over }) ∷ rs) ((record x { over = group }) ∷ change (is_quant r.id) (λ x. record x { over = r.over }) rs)) t
+            ∙ ap (λ (z : OwnedQuant). (record x { over = z.over }) ∷ rs) is)
+        | inr f ↦
+            ap (λ (b : Bool). change (is_quant r.id) (λ x. record x { over = r.over }) (cond b ((record x { over = group }) ∷ rs) (x ∷ change (is_quant r.id) (λ x. record x { over = group }) rs))) f
+            ∙ ap (λ (b : Bool). cond b ((record x { over = r.over }) ∷ change (is_quant r.id) (λ x. record x { over = group }) rs) (x ∷ change (is_quant r.id) (λ x. record x { over = r.over }) (change (is_quant r.id) (λ x. record x { over = group }) rs))) f
+            ∙ ap (λ zs. x ∷ zs) (again rs (sym (ap (λ (b : Bool). cond b (Some x) (first (is_quant r.id) rs)) f) ∙ h))
+      ]
 
-        owned-then : owns r.id (on_quant r.id (λ x. record x { over = group }) b) ≡ true
-        owned-then = still b.quants ∙ own
+      new-once : OnceEach (xs ++ s ∷ ys)
+      new-once = once-mid xs s ys (subst OnceEach stands.parted (once-each g.boxes w.ordered)) new-in
+
+      mine : (y : Node) → In y (xs ++ s ∷ ys) → owns r.id y ≡ true → y ≡ b
+      mine y i t = elim (in-mid y xs s ys i) [
+        | inl e ↦ absurd (clash (owns r.id s) (subst (λ (z : Node). owns r.id z ≡ true) e t) (ap (λ a. a || false) apart))
+        | inr j ↦ one-owner g.boxes g.root w r.id y b (subst (λ z. In y z) (sym stands.parted) j) in-b t own
+      ]
+
+      sole : Sole b r.id (xs ++ s ∷ ys)
+      sole = record {
+        once = new-once;
+        number = λ y i t. elim (in-mid y xs s ys i) [
+          | inl e ↦ absurd (clash (has_box (xs ++ ys) group) (any-from (is_box group) b (xs ++ ys) (subst (λ z. In b z) stands.parted in-b) (eq-eqb b.id group (sym (eqb-true group b.id (subst (λ (z : Node). (z.id == b.id) ≡ true) e t))))) new-in)
+          | inr j ↦ (let k : In y g.boxes = subst (λ z. In y z) (sym stands.parted) j in let a : Some y ≡ Some b = sym (in-first y g.boxes w.ordered k) ∙ ap (λ z. first (is_box z) g.boxes) (eqb-true y.id b.id t) ∙ in-first b g.boxes w.ordered in-b in cc)
+        ];
+        owner = mine;
+      }
+
+      pub redirect-undone : redirect r.id r.over (redirect r.id group ranged) ≡ ranged
+      redirect-undone =
+          ap (redirect r.id r.over) group-steps
+          ∙ ap (λ (z : List Node). record g { boxes = z })
+          (by-owner b r.id (on_quant r.id (λ x. record x { over = r.over })) (on_quant r.id (λ x. record x { over = group })) owned-then (xs ++ s ∷ ys) sole
+          ∙ at-one b r.id (λ y. on_quant r.id (λ x. record x { over = r.over }) (on_quant r.id (λ x. record x { over = group }) y)) (λ y. y) (ap (λ rs. record b { quants = rs }) (again b.quants found)) (xs ++ s ∷ ys) sole
+          ∙ as-is b r.id (xs ++ s ∷ ys))
+          ∙ sym ranged-is
+        where
+          found : first (is_quant r.id) b.quants ≡ Some r
+          found = first-own r b.quants (let a = times-in ids_of r.id b g.boxes in-b in let c = w.once r.id in omega arith) in-r
+
+          still : (rs : List OwnedQuant) → list_any (is_quant r.id) (change (is_quant r.id) (λ x. record x { over = group }) rs) ≡ list_any (is_quant r.id) rs
+          still [] = refl
+          still (x ∷ rs) = elim (cases_Bool (x.id == r.id)) [
+            | inl t ↦ ap (λ (b : Bool). list_any (is_quant r.id) (cond b ((record x { over = group }) ∷ rs) (x ∷ change (is_quant r.id) (λ x. record x { over = group }) rs))) t
+            | inr f ↦ ap (λ (b : Bool). list_any (is_quant r.id) (cond b ((record x { over = group }) ∷ rs) (x ∷ change (is_quant r.id) (λ x. record x { over = group }) rs))) f ∙ ap (λ t. (x.id == r.id) || t) (still rs)
+          ]
+
+          owned-then : owns r.id (on_quant r.id (λ x. record x { over = group }) b) ≡ true
+          owned-then = still b.quants ∙ own

@@ -1,5 +1,5 @@
 -- U1, EXISTS becomes a join: its condition, its places and its action.
-use Rattle.std.specs.Prelude.{ℕ, suc, ◌≡◌, ◌++◌, false, List, [], ◌∷◌, length, Some, ◌==◌, ◌&&◌, ◌||◌, not, Bool}
+use Rattle.std.specs.Prelude.{ℕ, suc, ◌≡◌, ◌++◌, false, List, [], ◌∷◌, length, Some, ◌==◌, ◌&&◌, ◌||◌, not, Bool, if◌then◌else◌}
 use Rattle.std.specs.List.{list_any}
 use Rattle.qgm_terms.specs.Terms.{Cond, some}
 use Rattle.qgm_terms.specs.Terms as terms
@@ -76,11 +76,27 @@ abbrev pub one_whole : ℕ → List Cond → Bool
 one_whole q [] = false
 one_whole q (x ∷ xs) = (is_whole q x && not (list_any (names_cond q) xs)) || (not (names_cond q x) && one_whole q xs)
 
+-- each row is given once, or rows may be given more often
+abbrev pub is_set : List Node → Node → Bool
+is_set bs n = is_enforce n.parts.distinct || (is_permit n.parts.distinct && infers bs (clean n.id))
+
 abbrev pub exists_fits : List Node → Node → OwnedQuant → Bool
-exists_fits bs n r = (is_enforce n.parts.distinct || (is_permit n.parts.distinct && infers bs (clean n.id))) || (infers bs (at_most_one r.over) || infers_key bs n.id (places_to (width n)))
+exists_fits bs n r = is_set bs n || (infers bs (at_most_one r.over) || infers_key bs n.id (places_to (width n)))
+
+-- what its distinctness is then: that of the box, and ENFORCE where only a key lets it fire
+abbrev pub distinct_after : List Node → Node → OwnedQuant → Distinct
+distinct_after bs n r = if is_set bs n || infers bs (at_most_one r.over) then n.parts.distinct else Enforce
+
+-- of a plain select, r is an E, and its one node is a whole conjunct
+abbrev pub is_joinable : Node → OwnedQuant → Bool
+is_joinable n r = is_plain_select n && (is_E r.kind && (not (list_any (names r.id) n.parts.head) && one_whole r.id n.parts.conds.items))
 
 abbrev pub may_exists_to_join : List Node → Node → OwnedQuant → Bool
-may_exists_to_join bs n r = is_plain_select n && (is_E r.kind && ((not (list_any (names r.id) n.parts.head) && one_whole r.id n.parts.conds.items) && exists_fits bs n r))
+may_exists_to_join bs n r = is_joinable n r && exists_fits bs n r
+
+-- one of its quantifiers is so
+abbrev pub any_joinable : Node → Bool
+any_joinable n = list_any (is_joinable n) n.quants
 
 -- the places of U1 at b
 unfoldable pub exists_to_join_pairs : QueryGraph → ℕ → List Pair

@@ -1,6 +1,6 @@
 -- The places of U1 are exactly those where it may fire.
 use Rattle.std.proofs.Common.{ℕ, ◌==◌, ◌≡◌, ◌&&◌, ◌||◌, ◌++◌, not, Bool, true, false, List, [], ◌∷◌, refl, sym, ap, ap₂, ◌∙◌, eqb-true, inl, inr}
-use Rattle.std.specs.Prelude.{◌↔◌}
+use Rattle.std.specs.Prelude.{◌↔◌, if◌then◌else◌}
 use Rattle.std.specs.List.{list_any}
 use Rattle.std.proofs.lemmas.Bool.{and_from, and_parts, cases_Bool, not-true, or_cases, or_left, or_parts, or_right}
 use Rattle.qgm_terms.specs.Terms.{Cond, some}
@@ -22,7 +22,7 @@ use Rattle.rule_api.specs.Rules.{Ascending}
 use Rattle.rule_api.specs.declared.place.Place.{Place}
 use Rattle.rule_facts.specs.Told.{infers, infers_key, told, told-key, untold}
 use Rattle.rule_facts.specs.Places.{is_plain_select, plain-from, plain-to, quant-from, quant-to, ArePlaces, quants-ascend}
-use Rattle.rule_subquery.specs.ExistsToJoin.{ExistsFits, enforced, permitted, of_one, keyed, MayExistsToJoin, may_exists_to_join, exists_to_join_pairs, exists_fits, one_whole, is_whole}
+use Rattle.rule_subquery.specs.ExistsToJoin.{ExistsFits, enforced, permitted, of_one, keyed, MayExistsToJoin, may_exists_to_join, exists_to_join_pairs, exists_fits, is_joinable, one_whole, is_whole, distinct_after}
 use Rattle.list_laws.proofs.Booleans.{clash}
 use Rattle.list_laws.proofs.Membership.{eq-itself}
 use Rattle.qgm_core.proofs.KindTests.{e-is, enforce-is, permit-is}
@@ -91,22 +91,29 @@ module _ (g : QueryGraph) (o : Ordered g.boxes) (n : Node) (r : OwnedQuant) wher
   not-free : is_free ≡ false → n.parts.distinct ≡ Permit → Inferred bs (clean n.id) → ⊥
   not-free h e i = clash is_free (and_from (is_permit n.parts.distinct) (infers bs (clean n.id)) (ap is_permit e) ((told bs (clean n.id)).1 i)) h
 
-  fits-from : exists_fits bs n r ≡ true → (d : Distinct) × ExistsFits g n r d
+  -- with the distinctness that it gets
+  pub fits-from : exists_fits bs n r ≡ true → ExistsFits g n r (distinct_after bs n r)
   fits-from h = elim (cases_Bool (is_enforce n.parts.distinct)) [
-    | inl e ↦ (Enforce, enforced (enforce-is n.parts.distinct e) refl)
+    | inl e ↦ enforced (enforce-is n.parts.distinct e) (stays (or_left (is_enforce n.parts.distinct || is_free) one (or_left (is_enforce n.parts.distinct) is_free e)) ∙ enforce-is n.parts.distinct e)
     | inr e ↦ elim (cases_Bool is_free) [
-      | inl p ↦ (let a = and_parts (is_permit n.parts.distinct) (infers bs (clean n.id)) p in (Permit, permitted (permit-is n.parts.distinct a.0) ((told bs (clean n.id)).0 a.1) refl))
+      | inl p ↦ (
+          let a = and_parts (is_permit n.parts.distinct) (infers bs (clean n.id)) p in
+          permitted (permit-is n.parts.distinct a.0) ((told bs (clean n.id)).0 a.1) (stays (or_left (is_enforce n.parts.distinct || is_free) one (or_right (is_enforce n.parts.distinct) is_free p)) ∙ permit-is n.parts.distinct a.0))
       | inr p ↦ elim (cases_Bool one) [
-        | inl t ↦ (n.parts.distinct, of_one ((told bs (at_most_one r.over)).0 t) refl)
-        | inr t ↦ (Enforce, keyed (not-enforce e) (not-free p) (untold bs (at_most_one r.over) t) ((told-key bs o n.id (places_to (width n))).0 (key-left e p t)) refl)
+        | inl t ↦ of_one ((told bs (at_most_one r.over)).0 t) (stays (or_right (is_enforce n.parts.distinct || is_free) one t))
+        | inr t ↦ keyed (not-enforce e) (not-free p) (untold bs (at_most_one r.over) t) ((told-key bs o n.id (places_to (width n))).0 (key-left e p t))
+            (ap (λ (b : Bool). if b then n.parts.distinct else Enforce) (ap₂ (λ a b. a || b) (ap₂ (λ a b. a || b) e p) t))
       ]
     ]
   ]
     where
+      stays : ((is_enforce n.parts.distinct || is_free) || one) ≡ true → distinct_after bs n r ≡ n.parts.distinct
+      stays t = ap (λ (b : Bool). if b then n.parts.distinct else Enforce) t
+
       key-left : is_enforce n.parts.distinct ≡ false → is_free ≡ false → one ≡ false → key ≡ true
       key-left e p t = sym (ap₂ (λ a b. a || b) (ap₂ (λ a b. a || b) e p) (ap (λ a. a || key) t)) ∙ h
 
-  fits-to : (d : Distinct) → ExistsFits g n r d → exists_fits bs n r ≡ true
+  pub fits-to : (d : Distinct) → ExistsFits g n r d → exists_fits bs n r ≡ true
   fits-to d (enforced e i) = or_left (is_enforce n.parts.distinct || is_free) (one || key) (or_left (is_enforce n.parts.distinct) is_free (ap is_enforce e))
   fits-to d (permitted e c i) = or_left (is_enforce n.parts.distinct || is_free) (one || key) (or_right (is_enforce n.parts.distinct) is_free (and_from (is_permit n.parts.distinct) (infers bs (clean n.id)) (ap is_permit e) ((told bs (clean n.id)).1 c)))
   fits-to d (of_one t i) = or_right (is_enforce n.parts.distinct || is_free) (one || key) (or_left one key ((told bs (at_most_one r.over)).1 t))
@@ -121,10 +128,10 @@ exists-to-join-exact g u w b i j = (
       let q = x.r.id in
       let head : Bool = list_any (names q) n.parts.head in
       let whole : Bool = one_whole q n.parts.conds.items in
-      let a = and_parts (is_plain_select n) (is_E x.r.kind && ((not head && whole) && exists_fits g.boxes n x.r)) x.passes in
-      let c = and_parts (is_E x.r.kind) ((not head && whole) && exists_fits g.boxes n x.r) a.1 in
-      let d = and_parts (not head && whole) (exists_fits g.boxes n x.r) c.1 in
-      let e = and_parts (not head) whole d.0 in
+      let d = and_parts (is_joinable n x.r) (exists_fits g.boxes n x.r) x.passes in
+      let a = and_parts (is_plain_select n) (is_E x.r.kind && (not head && whole)) d.0 in
+      let c = and_parts (is_E x.r.kind) (not head && whole) a.1 in
+      let e = and_parts (not head) whole c.1 in
       let m = one-from q n.parts.conds.items e.1 in
       let k = fits-from g o n x.r d.1 in (
         n,
@@ -141,7 +148,7 @@ exists-to-join-exact g u w b i j = (
                   (
                     m.ys,
                     (
-                      k.0,
+                      distinct_after g.boxes n x.r,
                       record {
                         no_second = x.second;
                         at = x.found;
@@ -157,7 +164,7 @@ exists-to-join-exact g u w b i j = (
                           in_cond = m.in_cond;
                           in_behind = m.in_behind;
                         };
-                        fits = k.1;
+                        fits = k;
                       },
                     ),
                   ),
@@ -176,17 +183,17 @@ exists-to-join-exact g u w b i j = (
       let head : Bool = list_any (names r.id) n.parts.head in
       let whole : Bool = one_whole r.id n.parts.conds.items in
       quant-to (may_exists_to_join g.boxes) g b i j n h.1.0 r h.1.1.1.0 m.no_second m.at y.split m.nth
-      (and_from (is_plain_select n) (is_E r.kind && ((not head && whole) && exists_fits g.boxes n r)) (plain-to n y.select y.plain)
-      (and_from (is_E r.kind) ((not head && whole) && exists_fits g.boxes n r) (ap is_E y.is_e)
-      (and_from (not head && whole) (exists_fits g.boxes n r)
-      (and_from (not head) whole (ap not y.in_head) (ap (one_whole r.id) y.conds ∙ one-to r.id h.1.1.1.1.0 h.1.1.1.1.1.0 h.1.1.1.1.1.1.0 y.in_before y.in_cond y.in_behind))
-      (fits-to g o n r d m.fits)))),
+      (and_from (is_joinable n r) (exists_fits g.boxes n r)
+      (and_from (is_plain_select n) (is_E r.kind && (not head && whole)) (plain-to n y.select y.plain)
+      (and_from (is_E r.kind) (not head && whole) (ap is_E y.is_e)
+      (and_from (not head) whole (ap not y.in_head) (ap (one_whole r.id) y.conds ∙ one-to r.id h.1.1.1.1.0 h.1.1.1.1.1.0 h.1.1.1.1.1.1.0 y.in_before y.in_cond y.in_behind))))
+      (fits-to g o n r d m.fits)),
 )
   where
     o : Ordered g.boxes
     o = (sound g u ((finds-none g u).1 w)).ordered
 
-exists-to-join-ascend : (g : QueryGraph) (b : ℕ) → Ascending (exists_to_join_pairs g b)
+pub exists-to-join-ascend : (g : QueryGraph) (b : ℕ) → Ascending (exists_to_join_pairs g b)
 unfolding exists_to_join_pairs
 exists-to-join-ascend g b = quants-ascend (may_exists_to_join g.boxes) g b
 

@@ -1,10 +1,16 @@
 pub mod ExistsToJoin
 pub mod ExistsToJoinExact
+pub mod ExistsToJoinSteps
 pub mod ScalarToGroup
 pub mod ScalarToGroupExact
+pub mod ScalarToGroupSteps
 pub mod ScalarToJoin
 pub mod ScalarToJoinExact
+pub mod ScalarToJoinSteps
+pub mod FirstColumn
 pub mod SetToExists
 pub mod SetToExistsExact
+pub mod SetToExistsSteps
+pub mod Knowing
 pub mod ScalarToGroupExample
 pub mod ScalarToGroupLaws

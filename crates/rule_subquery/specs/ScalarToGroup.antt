@@ -37,8 +37,22 @@ MayScalarToGroup p g = (b : Node) × ((us : List OwnedQuant) × ((r : OwnedQuant
 
 -- ---- the places
 
+abbrev pub are_few : List Node → Bool
+are_few bs = nat_le (length bs) 65530
+
+abbrev pub is_safe : List Node → ℕ → Bool
+is_safe bs b = infers bs (error_free b 1) || infers bs (at_most_one b)
+
 abbrev pub may_scalar_to_group : List Node → Node → OwnedQuant → Bool
-may_scalar_to_group bs n r = is_plain_select n && (is_S r.kind && (not (infers bs (exactly_one r.over)) && ((infers bs (error_free r.over 1) || infers bs (at_most_one r.over)) && nat_le (length bs) 65530)))
+may_scalar_to_group bs n r = is_plain_select n && (is_S r.kind && (not (infers bs (exactly_one r.over)) && (is_safe bs r.over && are_few bs)))
+
+-- one of these is an S quantifier
+abbrev pub any_scalar : List OwnedQuant → Bool
+any_scalar rs = list_any (λ r. is_S r.kind) rs
+
+-- a plain select with an S quantifier, among few boxes
+abbrev pub may_have : List Node → Node → Bool
+may_have bs n = is_plain_select n && (any_scalar n.quants && are_few bs)
 
 -- the places of U2 at b
 unfoldable pub scalar_to_group_pairs : QueryGraph → ℕ → List Pair

@@ -72,7 +72,7 @@ scalar-to-group-exact g b i j = (
       (le-leb (length g.boxes) 65530 m.few))))),
 )
 
-scalar-to-group-ascend : (g : QueryGraph) (b : ℕ) → Ascending (scalar_to_group_pairs g b)
+pub scalar-to-group-ascend : (g : QueryGraph) (b : ℕ) → Ascending (scalar_to_group_pairs g b)
 unfolding scalar_to_group_pairs
 scalar-to-group-ascend g b = quants-ascend (may_scalar_to_group g.boxes) g b
 

@@ -15,6 +15,7 @@ use Rattle.rule_api.specs.declared.place.Place.{Place}
 use Rattle.rule_api.specs.Rules.{Pair}
 use Rattle.rule_facts.specs.Told.{infers}
 use Rattle.rule_facts.specs.Places.{quant_pairs, is_plain_select}
+use Rattle.rule_subquery.specs.ScalarToGroup.{any_scalar}
 
 -- ---- the condition
 
@@ -37,6 +38,10 @@ MayScalarToJoin p g = (b : Node) × ((us : List OwnedQuant) × ((r : OwnedQuant)
 
 abbrev pub may_scalar_to_join : List Node → Node → OwnedQuant → Bool
 may_scalar_to_join bs n r = is_plain_select n && (is_S r.kind && (infers bs (clean r.over) && infers bs (exactly_one r.over)))
+
+-- a plain select with an S quantifier
+abbrev pub may_have : Node → Bool
+may_have n = is_plain_select n && any_scalar n.quants
 
 -- the places of U3 at b
 unfoldable pub scalar_to_join_pairs : QueryGraph → ℕ → List Pair

@@ -57,7 +57,7 @@ scalar-to-join-exact g b i j = (
       (and_from (infers g.boxes (clean r.over)) (infers g.boxes (exactly_one r.over)) ((told g.boxes (clean r.over)).1 m.clean) ((told g.boxes (exactly_one r.over)).1 m.one)))),
 )
 
-scalar-to-join-ascend : (g : QueryGraph) (b : ℕ) → Ascending (scalar_to_join_pairs g b)
+pub scalar-to-join-ascend : (g : QueryGraph) (b : ℕ) → Ascending (scalar_to_join_pairs g b)
 unfolding scalar_to_join_pairs
 scalar-to-join-ascend g b = quants-ascend (may_scalar_to_join g.boxes) g b
 

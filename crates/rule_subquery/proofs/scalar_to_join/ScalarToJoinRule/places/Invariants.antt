@@ -1,0 +1,9 @@
+use Rattle.std.proofs.Common.{◌≡◌, ◌+◌, ◌++◌, drop, map}
+use Rattle.rule_api.specs.Picks.{picks}
+use Rattle.rule_api.specs.Rules.{place_at}
+use Rattle.rule_subquery.specs.ScalarToJoin.{may_scalar_to_join}
+use Rattle.rule_subquery.proofs.scalar_to_join.ScalarToJoinRule.places.Given as goal
+
+-- what is left adds the rest
+abbrev pub invariant-loop-k : goal.invariant-loop-k
+invariant-loop-k l = l.out.items ++ map (place_at l.b) (picks (may_scalar_to_join l.graph.boxes l.node) (l.k + 1) (drop l.k l.list)) ≡ map (place_at l.b) (picks (may_scalar_to_join l.graph.boxes l.node) 1 l.list)
