@@ -4,4 +4,4 @@ use Rattle.qgm_props.specs.Table.{facts_of}
 use Rattle.rule_subquery.specs.declared.parts.Known.{Known}
 
 abbrev pub IsKnown : Known → Type 0
-IsKnown k = Tells (facts_of k.props) k.graph.now.boxes
+IsKnown k = Tells (facts_of k.props.now) k.graph.now.boxes

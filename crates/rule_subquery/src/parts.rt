@@ -1,5 +1,5 @@
 // What kind of box it is, and what is inferred of a graph.
-ghost use Rattle.std.specs.Prelude.{◌≡◌, ◌≤◌, ◌-◌, length, slice_get, IfOk, Some};
+ghost use Rattle.std.specs.Prelude.{◌≡◌, ◌≤◌, ◌-◌, length, slice_get, Some};
 ghost use Rattle.qgm_core.specs.Boxes.{HasBox, quants_of, width};
 ghost use Rattle.qgm_props.specs.Inferred.{at_most_one, clean, error_free, exactly_one};
 ghost use Rattle.rule_facts.specs.Places as places;
@@ -8,10 +8,8 @@ ghost use Rattle.rule_subquery.specs.Knowing.{IsKnown};
 ghost use Rattle.rule_subquery.specs.ScalarToGroup.{any_scalar};
 
 use qgm_core::{BoxId, BoxKind, Graph, Node, OwnedQuant};
-use qgm_props::{Props, props};
+use qgm_props::Props;
 use rule_facts::box_at;
-use shared_types::OutOfMemory;
-use std::alloc::Global;
 
 /// Whether a box is a plain select.
 pub fn is_plain_select(node: &Node) -> bool
@@ -42,16 +40,7 @@ pub fn width(node: &Node) -> usize
 #[derive(Drop)]
 pub struct Known<'a> {
     pub graph: &'a Graph,
-    pub props: Props,
-}
-
-/// What is inferred of a graph.
-pub fn facts_of<'a>(alloc: Global, graph: &'a Graph) -> Result<Known<'a>, OutOfMemory>
-    ensures graph { IfOk result (λ k. k.graph.now ≡ graph.now) }
-    ensures known { IfOk result (λ k. IsKnown k) }
-{
-    let props = props(alloc, graph)?;
-    Ok(Known { graph, props })
+    pub props: &'a Props,
 }
 
 /// Whether it is inferred that no row of a box is at an error level.

@@ -9,10 +9,11 @@ ghost use Rattle.rule_subquery.specs.ScalarToGroupExact.{scalar_to_group_exact};
 mod action;
 mod condition;
 
-use crate::parts::{facts_of, quant_at};
+use crate::parts::{Known, quant_at};
 use crate::scalar_to_group::action::group;
 use crate::scalar_to_group::condition::{may_group, may_have};
 use qgm_core::{BoxId, Graph};
+use qgm_props::Inference;
 use rule_api::{Place, Rule, RuleId, add_if};
 use rule_facts::box_at;
 use shared_types::OutOfMemory;
@@ -52,7 +53,13 @@ impl Rule for ScalarToGroup {
     }
 
     #[tactic(auto, using(crate::proofs::ScalarToGroupActs::none_found), unfolding(crate::specs::ScalarToGroup::scalar_to_group_pairs))]
-    fn places(&self, alloc: Global, graph: &Graph, b: BoxId) -> Result<Vec<Place>, OutOfMemory> {
+    fn places(
+        &self,
+        alloc: Global,
+        graph: &Graph,
+        known: &mut Inference,
+        b: BoxId,
+    ) -> Result<Vec<Place>, OutOfMemory> {
         let mut out = Vec::new(alloc);
         graph.each_number_once();
         let Some(node) = box_at(graph.nodes(), b) else {
@@ -61,12 +68,17 @@ impl Rule for ScalarToGroup {
         if !may_have(graph, node) {
             return Ok(out);
         }
-        let facts = facts_of(alloc, graph)?;
+        let facts = known.take(alloc, graph)?;
+        let told = Known {
+            graph,
+            props: &facts,
+        };
         let list = node.quants.as_slice();
         for k in 0..list.len() {
-            let passes = may_group(&facts, node, list[k]);
+            let passes = may_group(&told, node, list[k]);
             add_if(&mut out, passes, b, k + 1, 0)?;
         }
+        known.put(facts);
         Ok(out)
     }
 

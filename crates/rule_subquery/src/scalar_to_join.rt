@@ -8,10 +8,11 @@ ghost use Rattle.rule_subquery.specs.ScalarToJoinSteps.{ScalarPlansAt};
 mod action;
 mod condition;
 
+use crate::parts::{Known, quant_at};
 use crate::scalar_to_join::action::{ScalarPlan, join, plan};
 use crate::scalar_to_join::condition::{may_have, may_join};
-use crate::parts::{facts_of, quant_at};
 use qgm_core::{BoxId, Graph};
+use qgm_props::Inference;
 use rule_api::{Place, Rule, RuleId, add_if};
 use rule_facts::box_at;
 use shared_types::OutOfMemory;
@@ -51,7 +52,13 @@ impl Rule for ScalarToJoin {
     }
 
     #[tactic(auto, using(crate::proofs::ScalarToJoinActs::none_found), unfolding(crate::specs::ScalarToJoin::scalar_to_join_pairs))]
-    fn places(&self, alloc: Global, graph: &Graph, b: BoxId) -> Result<Vec<Place>, OutOfMemory> {
+    fn places(
+        &self,
+        alloc: Global,
+        graph: &Graph,
+        known: &mut Inference,
+        b: BoxId,
+    ) -> Result<Vec<Place>, OutOfMemory> {
         let mut out = Vec::new(alloc);
         graph.each_number_once();
         let Some(node) = box_at(graph.nodes(), b) else {
@@ -60,12 +67,17 @@ impl Rule for ScalarToJoin {
         if !may_have(node) {
             return Ok(out);
         }
-        let facts = facts_of(alloc, graph)?;
+        let facts = known.take(alloc, graph)?;
+        let told = Known {
+            graph,
+            props: &facts,
+        };
         let list = node.quants.as_slice();
         for k in 0..list.len() {
-            let passes = may_join(&facts, node, list[k]);
+            let passes = may_join(&told, node, list[k]);
             add_if(&mut out, passes, b, k + 1, 0)?;
         }
+        known.put(facts);
         Ok(out)
     }
 

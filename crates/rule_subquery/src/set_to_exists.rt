@@ -11,6 +11,7 @@ mod condition;
 use crate::set_to_exists::action::{SetPlan, plan, select};
 use crate::set_to_exists::condition::may_at;
 use qgm_core::{BoxId, BoxKind, Graph};
+use qgm_props::Inference;
 use rule_api::{Place, Rule, RuleId, add_if};
 use rule_facts::box_at;
 use shared_types::OutOfMemory;
@@ -55,9 +56,15 @@ impl Rule for SetToExists {
     }
 
     #[tactic(auto, unfolding(crate::specs::SetToExists::set_to_exists_pairs))]
-    fn places(&self, alloc: Global, graph: &Graph, b: BoxId) -> Result<Vec<Place>, OutOfMemory> {
+    fn places(
+        &self,
+        alloc: Global,
+        graph: &Graph,
+        known: &mut Inference,
+        b: BoxId,
+    ) -> Result<Vec<Place>, OutOfMemory> {
         let mut out = Vec::new(alloc);
-        let passes = may_at(alloc, graph, b)?;
+        let passes = may_at(alloc, graph, known, b)?;
         add_if(&mut out, passes, b, 0, 0)?;
         Ok(out)
     }

@@ -7,8 +7,9 @@ ghost use Rattle.rule_subquery.specs.ExistsToJoin as spec;
 ghost use Rattle.rule_subquery.specs.Knowing.{IsKnown};
 
 use crate::exists_to_join::conjunct::one_whole;
-use crate::parts::{Known, facts_of, has_at_most_one, is_clean, is_plain_select, width};
+use crate::parts::{Known, has_at_most_one, is_clean, is_plain_select, width};
 use qgm_core::{Distinct, Graph, Node, OwnedQuant};
+use qgm_props::props;
 use qgm_term_search::stands_in_cells;
 use qgm_terms::Sought;
 use shared_types::OutOfMemory;
@@ -50,10 +51,7 @@ fn is_joinable(node: &Node, r: OwnedQuant) -> bool
 pub fn any_joinable(node: &Node) -> bool
     ensures { result ≡ spec.any_joinable node.now }
 {
-    node.quants
-        .as_slice()
-        .iter()
-        .any(|r| is_joinable(node, *r))
+    node.quants.as_slice().iter().any(|r| is_joinable(node, *r))
 }
 
 // Whether rows don't count, since each is given once or may be given more often.
@@ -61,17 +59,11 @@ fn is_set(k: &Known, node: &Node) -> bool
     requires { IsKnown k.now }
     ensures { result ≡ spec.is_set k.now.graph.now.boxes node.now }
 {
-    node.parts.distinct.is_enforce()
-        || (node.parts.distinct.is_permit() && is_clean(k, node.id))
+    node.parts.distinct.is_enforce() || (node.parts.distinct.is_permit() && is_clean(k, node.id))
 }
 
 // Whether repeated rows do no harm at the box, can't come, or are told by a key.
-fn exists_fits(
-    alloc: Global,
-    k: &Known,
-    node: &Node,
-    r: OwnedQuant,
-) -> Result<bool, OutOfMemory>
+fn exists_fits(alloc: Global, k: &Known, node: &Node, r: OwnedQuant) -> Result<bool, OutOfMemory>
     requires { IsKnown k.now }
     ensures { IfOk result (λ fits. fits ≡ spec.exists_fits k.now.graph.now.boxes node.now r) }
 {
@@ -82,12 +74,7 @@ fn exists_fits(
 }
 
 /// Whether U1 may fire at a quantifier of a box.
-pub fn may_join(
-    alloc: Global,
-    k: &Known,
-    node: &Node,
-    r: OwnedQuant,
-) -> Result<bool, OutOfMemory>
+pub fn may_join(alloc: Global, k: &Known, node: &Node, r: OwnedQuant) -> Result<bool, OutOfMemory>
     requires { IsKnown k.now }
     ensures { IfOk result (λ passes. passes ≡ spec.may_exists_to_join k.now.graph.now.boxes node.now r) }
 {
@@ -106,7 +93,11 @@ pub fn distinct_after(
 ) -> Result<Distinct, OutOfMemory>
     ensures { IfOk result (λ d. d ≡ spec.distinct_after graph.now.boxes node.now r) }
 {
-    let k = facts_of(alloc, graph)?;
+    let props = props(alloc, graph)?;
+    let k = Known {
+        graph,
+        props: &props,
+    };
     if is_set(&k, node) || has_at_most_one(&k, r.over) {
         return Ok(node.parts.distinct);
     }

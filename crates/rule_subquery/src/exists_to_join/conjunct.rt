@@ -85,4 +85,3 @@ pub fn joined_conds(alloc: Global, conds: &Conds, q: QuantId) -> Result<Conds, O
     all.reserve(conds.spare())?;
     Ok(all)
 }
-

@@ -5,4 +5,4 @@ use Rattle.rule_facts.specs.Told.{told-is}
 use Rattle.rule_subquery.proofs.parts.is_clean.Goals as goal
 
 pub returns : goal.returns
-returns c = c.clean.ensures ∙ told-is c.args.k.now.graph.now.boxes (facts_of c.args.k.now.props) c.requires (clean c.args.b)
+returns c = c.clean.ensures ∙ told-is c.args.k.now.graph.now.boxes (facts_of c.args.k.now.props.now) c.requires (clean c.args.b)

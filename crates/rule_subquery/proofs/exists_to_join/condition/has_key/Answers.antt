@@ -13,4 +13,4 @@ returns c =
     let bs = c.args.k.now.graph.now.boxes in
     let b = c.args.node.now.id in
     let all : c.deref.result.now ≡ places_to (width c.args.node.now) = grind (arith, common_steps) in
-    IfOk-weaker c.holds_key.result _ _ (λ held e. e ∙ key-is bs (facts_of c.args.k.now.props) c.requires b c.deref.result.now ∙ ap (infers_key bs b) all) c.holds_key.ensures.exact
+    IfOk-weaker c.holds_key.result _ _ (λ held e. e ∙ key-is bs (facts_of c.args.k.now.props.now) c.requires b c.deref.result.now ∙ ap (infers_key bs b) all) c.holds_key.ensures.exact
