@@ -5,4 +5,9 @@ pub mod PushIntoArmsKeeps
 pub mod PushIntoLeftKeeps
 pub mod Preserving
 pub mod MoveSteps
+pub mod LeavingSteps
 pub mod PushIntoSelectSteps
+pub mod PushIntoLeftColumns
+pub mod PushIntoLeftSteps
+pub mod PushThroughGroupSteps
+pub mod PushIntoArmsSteps

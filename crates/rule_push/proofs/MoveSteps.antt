@@ -14,9 +14,9 @@ use Rattle.qgm_edit_laws.proofs.Edits.{once-each}
 use Rattle.qgm_edit_laws.proofs.OneBox.{at, change-at, ordered-map, ranked}
 use Rattle.qgm_edit_laws.proofs.PartForms.{at-all}
 use Rattle.qgm_edit_laws.proofs.Ranks.{same-box}
-use Rattle.rule_push.specs.Moves.{push_plan, push_steps}
+use Rattle.rule_push.specs.Moves.{arms_plan, arms_steps, push_plan, push_steps}
 use Rattle.qgm_edit_laws.specs.ConjunctEdits.{put_conjunct, with_conjuncts, more}
-use Rattle.list_laws.proofs.Membership.{map-in}
+use Rattle.list_laws.proofs.Membership.{eq-false-sym, map-in}
 
 reached-same : (f : Node → Node) → ((y : Node) → (f y).id ≡ y.id) → ((y : Node) → (f y).quants ≡ y.quants) → (ns : List Node) (marks : List ℕ) → reached marks (map f ns) ≡ reached marks ns
 reached-same f id quants [] marks = refl
@@ -72,3 +72,58 @@ module _ (g : QueryGraph) (ordered : Ordered g.boxes) (ordered' : (n : Node) (p 
 -- the order stays
 pub ordered-put : (g : QueryGraph) → Ordered g.boxes → (n : Node) (p : Cond) → Ordered (put_conjunct n p g).boxes
 ordered-put g o n p = ordered-map (at n.id (more p)) (λ y. at-all n.id (more p) (λ z. z.id) (λ z. refl) y) g.boxes o (λ y r i j. ranked g.boxes o y r i (subst (λ (rs : List OwnedQuant). In r rs) (at-all n.id (more p) (λ z. z.quants) (λ z. refl) y) j))
+
+-- two boxes get one each
+module _ (g : QueryGraph) (ordered : Ordered g.boxes) (b n m : Node) (in-b : In b g.boxes) (in-n : In n g.boxes) (in-m : In m g.boxes) (b-not-n : (b.id == n.id) ≡ false) (b-not-m : (b.id == m.id) ≡ false) (n-not-m : (n.id == m.id) ≡ false)
+    (ps : List Cond) (p : Cond) (qs : List Cond) (conds : b.parts.conds.items ≡ ps ++ p ∷ qs) (p1 p2 : Cond) where
+  abbrev n-more : Node → Node
+  n-more = at n.id (more p1)
+
+  abbrev m-more : Node → Node
+  m-more = at m.id (more p2)
+
+  abbrev less : Node → Node
+  less = at b.id (conditioned (ps ++ qs))
+
+  abbrev bs1 : List Node
+  bs1 = map n-more g.boxes
+
+  abbrev bs2 : List Node
+  bs2 = map m-more bs1
+
+  ordered-1 : Ordered bs1
+  ordered-1 = ordered-put g ordered n p1
+
+  ordered-2 : Ordered bs2
+  ordered-2 = ordered-put (put_conjunct n p1 g) ordered-1 m p2
+
+  n-got : change (is_box n.id) (with_terms (record n.parts.conds { items = n.parts.conds.items ++ p1 ∷ [] }) n.parts.head) g.boxes ≡ bs1
+  n-got = changed g.boxes ordered n in-n (with_terms (record n.parts.conds { items = n.parts.conds.items ++ p1 ∷ [] }) n.parts.head) (more p1) refl
+
+  in-m1 : In m bs1
+  in-m1 = subst (λ z. In z bs1) (ap (λ (t : Bool). cond t (more p1 m) m) (eq-false-sym n.id m.id n-not-m)) (map-in n-more m g.boxes in-m)
+
+  m-got : change (is_box m.id) (with_terms (record m.parts.conds { items = m.parts.conds.items ++ p2 ∷ [] }) m.parts.head) bs1 ≡ bs2
+  m-got = changed bs1 ordered-1 m in-m1 (with_terms (record m.parts.conds { items = m.parts.conds.items ++ p2 ∷ [] }) m.parts.head) (more p2) refl
+
+  in-b1 : In b bs1
+  in-b1 = subst (λ z. In z bs1) (ap (λ (t : Bool). cond t (more p1 b) b) b-not-n) (map-in n-more b g.boxes in-b)
+
+  in-b2 : In b bs2
+  in-b2 = subst (λ z. In z bs2) (ap (λ (t : Bool). cond t (more p2 b) b) b-not-m) (map-in m-more b bs1 in-b1)
+
+  b-lost : change (is_box b.id) (with_terms (record b.parts.conds { items = remove b.parts.conds.items (length ps) }) b.parts.head) bs2 ≡ map less bs2
+  b-lost = changed bs2 ordered-2 b in-b2 (with_terms (record b.parts.conds { items = remove b.parts.conds.items (length ps) }) b.parts.head) (conditioned (ps ++ qs))
+      (ap (λ (items : List Cond). conditioned items b) (ap (λ (items : List Cond). remove items (length ps)) conds ∙ remove-mid ps p qs))
+
+  reached-after : reached (g.root ∷ []) g.boxes ≡ reached (g.root ∷ []) (map less bs2)
+  reached-after =
+      sym (reached-same less (λ y. at-all b.id (conditioned (ps ++ qs)) (λ z. z.id) (λ z. refl) y) (λ y. at-all b.id (conditioned (ps ++ qs)) (λ z. z.quants) (λ z. refl) y) bs2 (g.root ∷ [])
+      ∙ reached-same m-more (λ y. at-all m.id (more p2) (λ z. z.id) (λ z. refl) y) (λ y. at-all m.id (more p2) (λ z. z.quants) (λ z. refl) y) bs1 (g.root ∷ [])
+      ∙ reached-same n-more (λ y. at-all n.id (more p1) (λ z. z.id) (λ z. refl) y) (λ y. at-all n.id (more p1) (λ z. z.quants) (λ z. refl) y) g.boxes (g.root ∷ []))
+
+  pub steps-both : arms_steps (arms_plan b (length ps) n p1 m p2) g ≡ compact (with_conjuncts b (ps ++ qs) (put_conjunct m p2 (put_conjunct n p1 g)))
+  steps-both = ap₂ (λ (marks : List ℕ) (boxes : List Node). record g { boxes = filter (λ (y : Node). holds y.id marks) boxes }) reached-after
+      (ap (λ z. change (is_box b.id) (with_terms (record b.parts.conds { items = remove b.parts.conds.items (length ps) }) b.parts.head) (change (is_box m.id) (with_terms (record m.parts.conds { items = m.parts.conds.items ++ p2 ∷ [] }) m.parts.head) z)) n-got
+      ∙ ap (change (is_box b.id) (with_terms (record b.parts.conds { items = remove b.parts.conds.items (length ps) }) b.parts.head)) m-got
+      ∙ b-lost)

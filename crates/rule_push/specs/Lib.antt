@@ -1,10 +1,16 @@
 pub mod Pushable
 pub mod PushPlaces
 pub mod PushExact
+pub mod PushTests
+pub mod Decided
 pub mod Moves
+pub mod Leaving
 pub mod PushIntoSelect
 pub mod PushIntoSelectExact
 pub mod PushThroughGroup
+pub mod PushThroughGroupExact
 pub mod PushIntoArms
+pub mod PushIntoArmsExact
 pub mod PushIntoLeft
+pub mod PushIntoLeftExact
 pub mod Laws

@@ -23,7 +23,8 @@ use Rattle.qgm_edit_laws.proofs.Naming.{cond-any}
 use Rattle.qgm_edit_laws.proofs.Turns.{split-in}
 use Rattle.rule_api.specs.PickLaws.{picks_exact}
 use Rattle.rule_api.specs.Picks.{Passes}
-use Rattle.rule_push.specs.PushPlaces.{MayPush, into_box, is_alone, is_read, leaves, may_leave, push_pairs, reads_other, through}
+use Rattle.rule_push.specs.PushPlaces.{Anywhere, MayPush, alone_of, goes, into_box, is_alone, is_read, leaves, may_leave, push_pairs, reads_only, reads_other, way_out}
+use Rattle.rule_api.specs.declared.place.Place.{Place}
 use Rattle.rule_push.specs.Pushable.{Pushable}
 use Rattle.list_laws.proofs.Counting.{times-in}
 use Rattle.list_laws.proofs.Membership.{any-from, any-not, holds-in}
@@ -51,6 +52,21 @@ read-named q p h =
     let m = conds-more (λ r j. r == q) (λ r j. r == q) (λ r. false) (λ r. r == q) (λ r. false) (λ r. r == q) (λ r. not (r == q)) (λ r. true) (λ r j h. h) (λ r h. absurd (let z : ⊥ = cc in z)) (λ r h. absurd (let z : ⊥ = cc in z)) (λ r h. refl) (p ∷ []) l in
     holds-in q (names_in_cond p) (cond-any q p ∙ (sym (or-false (any_in_cond (looking (λ r j. r == q) (λ r. r == q) (λ r. r == q) (λ r. true)) p)) ∙ m))
 
+-- ---- tests that give a quantifier
+
+if-some : {X : Type 0} (t : Bool) (o : Option X) (x : X) → cond t o None ≡ Some x → (t ≡ true) × (o ≡ Some x)
+if-some true o x h = (refl, h)
+if-some false o x h = absurd (let z : ⊥ = cc in z)
+
+if-true : {X : Type 0} (t : Bool) (o : Option X) → t ≡ true → cond t o None ≡ o
+if-true t o h = ap (λ (b : Bool). cond b o None) h
+
+alone-some : (g : QueryGraph) (p : Cond) (o : Option OwnedQuant) (r : OwnedQuant) → alone_of g p o ≡ Some r → (o ≡ Some r) × (is_alone g p r ≡ true)
+alone-some g p None r h = absurd (let z : ⊥ = cc in z)
+alone-some g p (Some x) r h =
+    let a = if-some (is_alone g p x) (Some x) r h in
+    (a.1, subst (λ z. is_alone g p z ≡ true) (let e : Some x ≡ Some r = a.1 in let d : x ≡ r = cc in d) a.0)
+
 -- the first that is read, where no other is
 pub first-read : (p : Cond) (us : List OwnedQuant) (r : OwnedQuant) (vs : List OwnedQuant) → is_F r.kind ≡ true → reads_cond r.id p ≡ true → ((q : ℕ) → reads_cond q p ≡ true → q ≡ r.id)
     → ((x : OwnedQuant) → In x us → (x.id == r.id) ≡ false) → first (is_read p) (us ++ r ∷ vs) ≡ Some r
@@ -61,7 +77,20 @@ first-read p (u ∷ us) r vs f t own apart =
     not-read : is_read p u ≡ false
     not-read = elim (cases_Bool (is_read p u)) [ inr n ↦ n | inl y ↦ absurd (clash (u.id == r.id) (eq-eqb u.id r.id (own u.id (and_parts (is_F u.kind) (reads_cond u.id p) y).1)) (apart u (inl refl))) ]
 
-module _ (g : QueryGraph) (w : WellFormed g) (passes : Cond → OwnedQuant → Node → Bool) (P : Cond → OwnedQuant → Node → Type 0) (says : (p : Cond) (r : OwnedQuant) (c : Node) → (passes p r c ≡ true) ↔ P p r c) where
+module _ (g : QueryGraph) (w : WellFormed g) where
+  -- quantifiers before r in its box have other numbers
+  pub apart : (b : Node) → In b g.boxes → (us : List OwnedQuant) (r : OwnedQuant) (vs : List OwnedQuant) → b.quants ≡ us ++ r ∷ vs → (x : OwnedQuant) → In x us → (x.id == r.id) ≡ false
+  apart b i us r vs e x j =
+      let once : times r.id (ids_in g.boxes) ≡ 1 = w.kept I2 b i r (subst (λ z. In r z) (sym e) (mid us)) in
+      let few = times-in ids_of r.id b g.boxes i in
+      let own : times r.id (map (λ (x : OwnedQuant). x.id) (us ++ r ∷ vs)) ≤ 1 = subst (λ z. times r.id (map (λ (x : OwnedQuant). x.id) z) ≤ 1) e (omega (arith, once, few)) in
+      split-once (λ (x : OwnedQuant). x.id) us r vs own x (inl j)
+    where
+      mid : (xs : List OwnedQuant) → In r (xs ++ r ∷ vs)
+      mid [] = inl refl
+      mid (x ∷ xs) = inr (mid xs)
+
+module _ (g : QueryGraph) (w : WellFormed g) (passes : Cond → OwnedQuant → Node → Bool) (P : Cond → OwnedQuant → Node → Type 0) (says : (p : Cond) (r : OwnedQuant) (c : Node) → box_of r.over g ≡ Some c → (passes p r c ≡ true) ↔ P p r c) where
   abbrev Leaves : Node → List Cond → Cond → List Cond → Type 0
   Leaves b ps p qs = (c : Node) × ((us : List OwnedQuant) × ((r : OwnedQuant) × ((vs : List OwnedQuant) × (Pushable g b c ps p qs us r vs × P p r c))))
 
@@ -69,9 +98,9 @@ module _ (g : QueryGraph) (w : WellFormed g) (passes : Cond → OwnedQuant → N
   in-box b None p h = absurd (let z : ⊥ = cc in z)
   in-box b (Some n) p h = (n, (refl, h))
 
-  in-quant : (found : Option OwnedQuant) (p : Cond) → through passes g p found ≡ true → (r : OwnedQuant) × ((found ≡ Some r) × ((is_alone g p r && into_box passes p r (box_of r.over g)) ≡ true))
-  in-quant None p h = absurd (let z : ⊥ = cc in z)
-  in-quant (Some r) p h = (r, (refl, h))
+  in-way : (found : Option OwnedQuant) (p : Cond) → goes passes g p found ≡ true → (r : OwnedQuant) × ((found ≡ Some r) × (into_box passes p r (box_of r.over g) ≡ true))
+  in-way None p h = absurd (let z : ⊥ = cc in z)
+  in-way (Some r) p h = (r, (refl, h))
 
   in-under : (found : Option Node) (p : Cond) (r : OwnedQuant) → into_box passes p r found ≡ true → (c : Node) × ((found ≡ Some c) × (passes p r c ≡ true))
   in-under None p r h = absurd (let z : ⊥ = cc in z)
@@ -79,15 +108,15 @@ module _ (g : QueryGraph) (w : WellFormed g) (passes : Cond → OwnedQuant → N
 
   leaves-from : (b : Node) → In b g.boxes → (ps : List Cond) (p : Cond) (qs : List Cond) → b.parts.conds.items ≡ ps ++ p ∷ qs → may_leave passes g b p ≡ true → Leaves b ps p qs
   leaves-from b i ps p qs e h =
-      let a = and_parts (is_select b.parts.kind && is_plain b.parts.role) (through passes g p (first (is_read p) b.quants)) h in
-      let d = and_parts (is_select b.parts.kind) (is_plain b.parts.role) a.0 in
-      let x = in-quant (first (is_read p) b.quants) p a.1 in
+      let x = in-way (way_out g b p) p h in
       let r : OwnedQuant = x.0 in
-      let k = some-in (is_read p) b.quants r x.1.0 in
+      let t = if-some (is_select b.parts.kind && is_plain b.parts.role) (alone_of g p (first (is_read p) b.quants)) r x.1.0 in
+      let d = and_parts (is_select b.parts.kind) (is_plain b.parts.role) t.0 in
+      let a = alone-some g p (first (is_read p) b.quants) r t.1 in
+      let k = some-in (is_read p) b.quants r a.0 in
       let read = and_parts (is_F r.kind) (reads_cond r.id p) k.1 in
-      let f = and_parts (is_alone g p r) (into_box passes p r (box_of r.over g)) x.1.1 in
-      let c = in-under (box_of r.over g) p r f.1 in
-      let l = and_parts (not (any_in_cond (wanted sought.Node) p) && not (reads_other r.id p (names_in_cond p))) (times r.over (overs_in g.boxes) == 1) f.0 in
+      let c = in-under (box_of r.over g) p r x.1.1 in
+      let l = and_parts (not (any_in_cond (wanted sought.Node) p) && not (reads_other r.id p (names_in_cond p))) (times r.over (overs_in g.boxes) == 1) a.1 in
       let m = and_parts (not (any_in_cond (wanted sought.Node) p)) (not (reads_other r.id p (names_in_cond p))) l.0 in
       let s = split-in r b.quants k.0 in (
         c.0,
@@ -116,31 +145,20 @@ module _ (g : QueryGraph) (w : WellFormed g) (passes : Cond → OwnedQuant → N
                   some = read.1;
                   under = c.1.0;
                 },
-                (says p r c.0).0 c.1.1,
+                (says p r c.0 c.1.0).0 c.1.1,
               ),
             ),
           ),
         ),
       )
 
-  pub apart : (b : Node) → In b g.boxes → (us : List OwnedQuant) (r : OwnedQuant) (vs : List OwnedQuant) → b.quants ≡ us ++ r ∷ vs → (x : OwnedQuant) → In x us → (x.id == r.id) ≡ false
-  apart b i us r vs e x j =
-      let once : times r.id (ids_in g.boxes) ≡ 1 = w.kept I2 b i r (subst (λ z. In r z) (sym e) (mid us)) in
-      let few = times-in ids_of r.id b g.boxes i in
-      let own : times r.id (map (λ (x : OwnedQuant). x.id) (us ++ r ∷ vs)) ≤ 1 = subst (λ z. times r.id (map (λ (x : OwnedQuant). x.id) z) ≤ 1) e (omega (arith, once, few)) in
-      split-once (λ (x : OwnedQuant). x.id) us r vs own x (inl j)
-    where
-      mid : (xs : List OwnedQuant) → In r (xs ++ r ∷ vs)
-      mid [] = inl refl
-      mid (x ∷ xs) = inr (mid xs)
-
   leaves-to : (b : Node) (ps : List Cond) (p : Cond) (qs : List Cond) (c : Node) (us : List OwnedQuant) (r : OwnedQuant) (vs : List OwnedQuant) → Pushable g b c ps p qs us r vs → P p r c → may_leave passes g b p ≡ true
   leaves-to b ps p qs c us r vs m fits =
-      and_from (is_select b.parts.kind && is_plain b.parts.role) (through passes g p (first (is_read p) b.quants))
-      (and_from (is_select b.parts.kind) (is_plain b.parts.role) (ap is_select m.from.select_b) (ap is_plain m.plain))
-      (ap (λ z. through passes g p (first (is_read p) z)) m.from.split
-      ∙ ap (through passes g p) (first-read p us r vs m.from.is_f m.some m.from.own (apart b m.from.in_b us r vs m.from.split))
-      ∙ and_from (is_alone g p r) (into_box passes p r (box_of r.over g)) alone (ap (into_box passes p r) m.under ∙ (says p r c).1 fits))
+      ap (goes passes g p) (if-true (is_select b.parts.kind && is_plain b.parts.role) (alone_of g p (first (is_read p) b.quants)) (and_from (is_select b.parts.kind) (is_plain b.parts.role) (ap is_select m.from.select_b) (ap is_plain m.plain))
+      ∙ ap (λ z. alone_of g p (first (is_read p) z)) m.from.split
+      ∙ ap (alone_of g p) (first-read p us r vs m.from.is_f m.some m.from.own (apart g w b m.from.in_b us r vs m.from.split))
+      ∙ if-true (is_alone g p r) (Some r) alone)
+      ∙ ap (into_box passes p r) m.under ∙ (says p r c m.under).1 fits
     where
       none-other : reads_other r.id p (names_in_cond p) ≡ false
       none-other = any-not (λ x. not (x == r.id) && reads_cond x p) (names_in_cond p) (λ x i. elim (cases_Bool (not (x == r.id) && reads_cond x p)) [
@@ -186,3 +204,11 @@ module _ (g : QueryGraph) (w : WellFormed g) (passes : Cond → OwnedQuant → N
 
   pub push-exact : (b i j : ℕ) → In (i, j) (push_pairs passes g b) ↔ MayPush P (record { at = b; i = i; j = j }) g
   push-exact b i j = (exact-to b i j, exact-from b i j)
+
+-- ---- what a rule's condition is not asked for
+
+abbrev pub weaker : {P Q : Cond → OwnedQuant → Node → Type 0} (at : Place) (g : QueryGraph) → ((p : Cond) (r : OwnedQuant) (c : Node) → P p r c → Q p r c) → MayPush P at g → MayPush Q at g
+weaker at g f m = record { no_second = m.no_second; b = m.b; c = m.c; ps = m.ps; p = m.p; qs = m.qs; us = m.us; r = m.r; vs = m.vs; found = m.found; nth = m.nth; pushable = m.pushable; fits = f m.p m.r m.c m.fits }
+
+abbrev pub anywhere : {P : Cond → OwnedQuant → Node → Type 0} (at : Place) (g : QueryGraph) → MayPush P at g → MayPush Anywhere at g
+anywhere at g m = weaker at g (λ p r c x. tt) m

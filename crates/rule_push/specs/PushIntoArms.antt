@@ -1,5 +1,5 @@
 -- P3: a conjunct goes through a set operation into both of its arms, which are plain selects.
-use Rattle.std.specs.Prelude.{ℕ, ◌≡◌, ◌≤◌, ◌++◌, ⊤, true, false, List, ◌∷◌, length, []}
+use Rattle.std.specs.Prelude.{ℕ, ◌≡◌, ◌≤◌, ◌&&◌, ◌||◌, ◌++◌, ⊤, Bool, true, false, List, ◌∷◌, length, []}
 use Rattle.sql_value.specs.declared.order_key.SqlType.{SqlType}
 use Rattle.qgm_core.specs.Boxes.{QueryGraph}
 use Rattle.qgm_core.specs.Edits.{compact}
@@ -13,9 +13,14 @@ use Rattle.qgm_props.specs.Inferred.{Facts, Inferred, clean, cond_free, error_fr
 use Rattle.qgm_props.specs.Laws.{Tells}
 use Rattle.qgm_terms.specs.Substitution.{substituted_cond}
 use Rattle.qgm_terms.specs.Terms.{Cond}
+use Rattle.rule_api.specs.Rules.{Pair}
 use Rattle.rule_api.specs.declared.place.Place.{Place}
-use Rattle.rule_push.specs.PushPlaces.{MayPush}
+use Rattle.rule_facts.specs.Places.{of_set}
+use Rattle.rule_push.specs.Decided.{decided, facts_in}
+use Rattle.rule_push.specs.Moves.{arms_plan}
+use Rattle.rule_push.specs.PushPlaces.{MayPush, is_input, push_pairs}
 use Rattle.rule_push.specs.Pushable.{Input}
+use Rattle.rule_push.specs.declared.moves.ArmsPlan.{ArmsPlan}
 
 -- what INTERSECT and EXCEPT need: a conjunct that is inferred error-free, arms that are inferred clean, and their columns, wide many, error-free
 pub record ArmsDecided (g : QueryGraph) (known : Facts) (p : Cond) (wide : ℕ) (n m : Node) : Type 0 where
@@ -47,15 +52,51 @@ pub record IsSetOpUnder (g : QueryGraph) (known : Facts) (p : Cond) (r : OwnedQu
   pub second : Input g t m
   pub decided : DecidedBy form g known p (length types) n m
 
+-- ---- the test
+
+abbrev pub is_union : SetOperator → Bool
+is_union UnionAll = true
+is_union Union = true
+is_union IntersectAll = false
+is_union Intersect = false
+is_union ExceptAll = false
+is_union Except = false
+
+-- two arms, each a plain select of 1 use
+abbrev pub two_inputs : QueryGraph → List OwnedQuant → Bool
+two_inputs g [] = false
+two_inputs g (s ∷ []) = false
+two_inputs g (s ∷ (t ∷ [])) = is_input g s && is_input g t
+two_inputs g (s ∷ (t ∷ (v ∷ vs))) = false
+
+abbrev pub arms_passes : QueryGraph → Cond → OwnedQuant → Node → Bool
+arms_passes g p r c = of_set (λ form types. two_inputs g c.quants && (is_union form || decided g p c)) c.parts.kind
+
 -- P3 may fire, where known is what is inferred of g
-pub record MayPushIntoArms (at : Place) (g : QueryGraph) : Type 0 where
+pub record MayIntoArms (at : Place) (g : QueryGraph) : Type 0 where
   pub known : Facts
   pub tells : Tells known g.boxes
   pub may : MayPush (IsSetOpUnder g known) at g
 
+unfoldable pub MayPushIntoArms : Place → QueryGraph → Type 0
+MayPushIntoArms at g = MayIntoArms at g
+
+-- the places of P3 at b
+unfoldable pub push_into_arms_pairs : QueryGraph → ℕ → List Pair
+push_into_arms_pairs g b = push_pairs (arms_passes g) g b
+
 -- the conjunct goes to the end of the conjuncts of both arms, with each arm's cells for the columns, and boxes that the root doesn't reach are gone; all else is as in g
 pub record PushesIntoArms (at : Place) (g h : QueryGraph) : Type 0 where
-  pub given : MayPushIntoArms at g
+  pub given : MayIntoArms at g
   pub after : h ≡ compact (with_conjuncts given.may.b (given.may.ps ++ given.may.qs)
       (put_conjunct given.may.fits.m (substituted_cond given.may.r.id given.may.fits.m.parts.head given.may.p)
       (put_conjunct given.may.fits.n (substituted_cond given.may.r.id given.may.fits.n.parts.head given.may.p) g)))
+
+unfoldable pub ActsPushIntoArms : Place → QueryGraph → QueryGraph → Type 0
+ActsPushIntoArms at g h = PushesIntoArms at g h
+
+-- what is planned is to do so
+abbrev pub PlansIntoArms : Place → QueryGraph → ArmsPlan → Type 0
+PlansIntoArms at g x =
+    (m : MayPush (IsSetOpUnder g (facts_in g.boxes)) at g)
+    → x ≡ arms_plan m.b (length m.ps) m.fits.n (substituted_cond m.r.id m.fits.n.parts.head m.p) m.fits.m (substituted_cond m.r.id m.fits.m.parts.head m.p)

@@ -1,8 +1,7 @@
 -- P1: a conjunct goes into the plain select under the one quantifier that it reads.
-use Rattle.std.specs.Prelude.{ℕ, ◌≡◌, ◌&&◌, ◌++◌, Bool, List, length}
+use Rattle.std.specs.Prelude.{ℕ, ◌≡◌, ◌++◌, Bool, List, length}
 use Rattle.qgm_core.specs.Boxes.{QueryGraph}
 use Rattle.qgm_core.specs.Edits.{compact}
-use Rattle.qgm_core.specs.Kinds.{is_plain, is_select}
 use Rattle.qgm_core.specs.declared.kinds.BoxKind.TheVariants.{Select}
 use Rattle.qgm_core.specs.declared.kinds.Role.TheVariants.{Plain}
 use Rattle.qgm_core.specs.declared.node.Node.{Node}
@@ -12,6 +11,7 @@ use Rattle.qgm_terms.specs.Substitution.{substituted_cond}
 use Rattle.qgm_terms.specs.Terms.{Cond}
 use Rattle.rule_api.specs.Rules.{Pair}
 use Rattle.rule_api.specs.declared.place.Place.{Place}
+use Rattle.rule_facts.specs.Places.{is_plain_select}
 use Rattle.rule_push.specs.Moves.{push_plan}
 use Rattle.rule_push.specs.PushPlaces.{MayPush, push_pairs}
 use Rattle.rule_push.specs.declared.moves.PushPlan.{PushPlan}
@@ -22,7 +22,7 @@ pub record IsSelectUnder (p : Cond) (r : OwnedQuant) (c : Node) : Type 0 where
   pub plain : c.parts.role ≡ Plain
 
 abbrev pub select_passes : Cond → OwnedQuant → Node → Bool
-select_passes p r c = is_select c.parts.kind && is_plain c.parts.role
+select_passes p r c = is_plain_select c
 
 -- where P1 may fire
 unfoldable pub MayPushIntoSelect : Place → QueryGraph → Type 0

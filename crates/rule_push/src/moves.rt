@@ -21,6 +21,15 @@ pub struct PushPlan {
     pub n_head: Head,
 }
 
+/// The same, and the conditions that box m gets, with a copy of its head.
+#[derive(Drop)]
+pub struct ArmsPlan {
+    pub first: PushPlan,
+    pub m: BoxId,
+    pub m_conds: Conds,
+    pub m_head: Head,
+}
+
 // The conditions of a box, with one more at the end.
 fn with_more(alloc: Global, node: &Node, p: Gc) -> Result<Conds, OutOfMemory>
     ensures { IfOk result (λ a. a ≡ record node.now.parts.conds { items = node.now.parts.conds.items ++ cond p ∷ [] }) }
@@ -77,6 +86,53 @@ pub fn push(alloc: Global, graph: &mut Graph, m: PushPlan) -> Result<(), OutOfMe
     let marks = reached(alloc, graph.nodes(), graph.root())?;
     graph.put_terms(m.n, m.n_conds, m.n_head);
     graph.put_terms(m.b, m.b_conds, m.b_head);
+    graph.keep(&marks);
+    Ok(())
+}
+
+/// Of b the condition at place i, from 1, goes, p comes to n, and q to m.
+pub fn plan_push_both(
+    alloc: Global,
+    b: &Node,
+    i: usize,
+    n: &Node,
+    p: Gc,
+    m: &Node,
+    q: Gc,
+) -> Result<ArmsPlan, OutOfMemory>
+    requires from_one { 1 ≤ i }
+    requires within { i ≤ length b.now.parts.conds.items }
+    ensures { IfOk result (λ x. x ≡ spec.arms_plan b.now (i - 1) n.now (cond p) m.now (cond q)) }
+{
+    let first = plan_push(alloc, b, i, n, p)?;
+    let m_conds = with_more(alloc, m, q)?;
+    let m_head = copy_head(alloc, &m.parts.head, ROOM)?;
+    Ok(ArmsPlan {
+        first,
+        m: m.id,
+        m_conds,
+        m_head,
+    })
+}
+
+/// Does it. Where there is no memory it fails, and the graph is as before.
+pub fn push_both(alloc: Global, graph: &mut Graph, x: ArmsPlan) -> Result<(), OutOfMemory>
+    requires from { HasBox x.first.b graph.old }
+    requires to_first { HasBox x.first.n graph.old }
+    requires to_second { HasBox x.m graph.old }
+    ensures ok { OnOk result (graph.new ≡ spec.arms_steps x graph.old) }
+    ensures err { OnErr result (graph.new ≡ graph.old) }
+{
+    let marks = reached(alloc, graph.nodes(), graph.root())?;
+    let ArmsPlan {
+        first,
+        m,
+        m_conds,
+        m_head,
+    } = x;
+    graph.put_terms(first.n, first.n_conds, first.n_head);
+    graph.put_terms(m, m_conds, m_head);
+    graph.put_terms(first.b, first.b_conds, first.b_head);
     graph.keep(&marks);
     Ok(())
 }

@@ -1,14 +1,18 @@
 // P1.
-ghost use Rattle.std.specs.Prelude.{IfOk};
+ghost use Rattle.std.specs.Prelude.{◌≡◌, IfOk};
 ghost use Rattle.list_laws.specs.Lists.{In};
 ghost use Rattle.qgm_wellformed.specs.Sentences.{WellFormed};
+ghost use Rattle.qgm_terms.specs.Shown.{cond};
 ghost use Rattle.rule_api.specs.declared.rule_id.RuleId.TheVariants.{P1};
-ghost use Rattle.rule_push.specs.PushIntoSelect.{ActsPushIntoSelect, MayPushIntoSelect, PlansAt, push_into_select_pairs};
+ghost use Rattle.rule_push.specs.PushIntoSelect.{ActsPushIntoSelect, MayPushIntoSelect, PlansAt, push_into_select_pairs, select_passes};
+ghost use Rattle.rule_facts.specs.Places.{is_plain_select};
+ghost use Rattle.rule_push.specs.PushPlaces as spec;
 ghost use Rattle.rule_push.specs.PushIntoSelectExact.{push_into_select_exact};
 
+use crate::leaving::leaving_at;
 use crate::moves::{PushPlan, plan_push, push};
-use crate::push_places::{may_leave, read_quant};
-use qgm_core::{BoxId, Graph};
+use crate::push_places::way_out;
+use qgm_core::{BoxId, Gc, Graph, Node};
 use qgm_terms::{ROOM, substitute_cond};
 use rule_api::{Place, Rule, RuleId, add_if};
 use rule_facts::box_at;
@@ -19,25 +23,36 @@ use std::alloc::Global;
 #[derive(Clone, Copy)]
 pub struct PushIntoSelect;
 
+// Whether a conjunct may go into c: it is a plain select.
+fn passes(c: &Node) -> bool
+    ensures { result ≡ is_plain_select c.now }
+{
+    c.parts.kind.is_select() && c.parts.role.is_plain()
+}
+
+// Whether p, a conjunct of b, may go down to a plain select.
+fn may_leave(alloc: Global, graph: &Graph, b: &Node, p: &Gc) -> Result<bool, OutOfMemory>
+    ensures { IfOk result (λ v. v ≡ spec.may_leave select_passes graph.now b.now (cond p.now)) }
+{
+    graph.each_number_once();
+    let Some(r) = way_out(alloc, graph, b, p)? else {
+        return Ok(false);
+    };
+    let Some(c) = box_at(graph.nodes(), r.over) else {
+        return Ok(false);
+    };
+    Ok(passes(c))
+}
+
 // What P1 does at a place.
 fn plan_at(alloc: Global, graph: &Graph, place: Place) -> Result<PushPlan, OutOfMemory>
     requires formed { WellFormed graph.now }
     requires given { In (place.i, place.j) (push_into_select_pairs graph.now place.at) }
     ensures { IfOk result (λ m. PlansAt place graph.now m) }
 {
-    graph.each_number_once();
-    let Some(b) = box_at(graph.nodes(), place.at) else {
-        unreachable!()
-    };
-    let p = b.parts.conds.at(place.i);
-    let Some(r) = read_quant(b.quants.as_slice(), p) else {
-        unreachable!()
-    };
-    let Some(c) = box_at(graph.nodes(), r.over) else {
-        unreachable!()
-    };
-    let q = substitute_cond(alloc, p, r.id, &c.parts.head, ROOM)?;
-    let m = plan_push(alloc, b, place.i, c, q)?;
+    let x = leaving_at(graph, place);
+    let q = substitute_cond(alloc, x.p, x.r.id, &x.c.parts.head, ROOM)?;
+    let m = plan_push(alloc, x.b, place.i, x.c, q)?;
     Ok(m)
 }
 

@@ -1,10 +1,8 @@
 // Which conjuncts of a box may go down.
 ghost use Rattle.std.specs.Prelude.{◌≡◌, IfOk, option_map};
-ghost use Rattle.qgm_core.specs.Boxes.{box_of};
 ghost use Rattle.list_laws.specs.Lists.{first};
 ghost use Rattle.qgm_terms.specs.Shown.{cond};
 ghost use Rattle.rule_push.specs.PushPlaces as spec;
-ghost use Rattle.rule_push.specs.PushIntoSelect.{select_passes};
 
 use qgm_core::{Gc, Graph, Node, OwnedQuant, QuantId};
 use qgm_term_search::stands_in_cond;
@@ -46,29 +44,37 @@ fn is_alone(alloc: Global, graph: &Graph, p: &Gc, r: OwnedQuant) -> Result<bool,
     Ok(!stands_in_cond(p, Sought::Node) && !reads_other(r.id, p, &names) && graph.uses(r.over) == 1)
 }
 
-// The box under r into which p may go: it is a plain select.
-fn into_select(graph: &Graph, p: &Gc, r: OwnedQuant) -> bool
-    ensures { result ≡ spec.into_box select_passes (cond p.now) r (box_of r.over graph.now) }
-{
-    graph.each_number_once();
-    match box_at(graph.nodes(), r.over) {
-        Some(c) => c.parts.kind.is_select() && c.parts.role.is_plain(),
-        None => false,
-    }
-}
-
-/// Whether p, a conjunct of b, may go down to a plain select.
-pub fn may_leave(alloc: Global, graph: &Graph, b: &Node, p: &Gc) -> Result<bool, OutOfMemory>
-    ensures { IfOk result (λ v. v ≡ spec.may_leave select_passes graph.now b.now (cond p.now)) }
+/// The quantifier through which p, a conjunct of b, may go down: b is a plain select, and p is alone in
+/// reading that quantifier.
+pub fn way_out(
+    alloc: Global,
+    graph: &Graph,
+    b: &Node,
+    p: &Gc,
+) -> Result<Option<OwnedQuant>, OutOfMemory>
+    ensures { IfOk result (λ r. r ≡ spec.way_out graph.now b.now (cond p.now)) }
 {
     if !b.parts.kind.is_select() || !b.parts.role.is_plain() {
-        return Ok(false);
+        return Ok(None);
     }
     let Some(r) = read_quant(b.quants.as_slice(), p) else {
-        return Ok(false);
+        return Ok(None);
     };
     if !is_alone(alloc, graph, p, r)? {
-        return Ok(false);
+        return Ok(None);
     }
-    Ok(into_select(graph, p, r))
+    Ok(Some(r))
+}
+
+/// Whether a quantifier ranges over a plain select, and no other quantifier does.
+pub fn is_input(graph: &Graph, s: OwnedQuant) -> bool
+    ensures { result ≡ spec.is_input graph.now s }
+{
+    graph.each_number_once();
+    match box_at(graph.nodes(), s.over) {
+        Some(n) => {
+            n.parts.kind.is_select() && n.parts.role.is_plain() && graph.uses(s.over) == 1
+        }
+        None => false,
+    }
 }

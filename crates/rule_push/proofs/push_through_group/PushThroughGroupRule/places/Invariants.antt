@@ -1,0 +1,11 @@
+use Rattle.std.proofs.Common.{◌≡◌, ◌+◌, ◌++◌, drop, map}
+use Rattle.qgm_terms.specs.Shown.{conds}
+use Rattle.rule_api.specs.Picks.{picks}
+use Rattle.rule_api.specs.Rules.{place_at}
+use Rattle.rule_push.specs.PushPlaces.{may_leave}
+use Rattle.rule_push.specs.PushThroughGroup.{group_passes}
+use Rattle.rule_push.proofs.push_through_group.PushThroughGroupRule.places.Given as goal
+
+-- what is left adds the rest
+abbrev pub invariant-loop-k : goal.invariant-loop-k
+invariant-loop-k l = l.out.items ++ map (place_at l.b) (picks (may_leave (group_passes l.graph) l.graph l.node) (l.k + 1) (conds (drop l.k l.list))) ≡ map (place_at l.b) (picks (may_leave (group_passes l.graph) l.graph l.node) 1 (conds l.list))

@@ -1,0 +1,56 @@
+-- What P2 and P3 ask of inference: that a box is clean, and a conjunct error-free.
+use Rattle.std.proofs.Common.{ℕ, ◌≡◌, ◌&&◌, Bool, true, false, List, Some, sym, ap, ap₂, ◌∙◌, inl, inr}
+use Rattle.std.specs.Prelude.{◌↔◌}
+use Rattle.std.proofs.lemmas.Bool.{cases_Bool}
+use mathlib.Core.Path.{fun_ext}
+use Rattle.qgm_core.specs.Boxes.{QueryGraph, box_of}
+use Rattle.qgm_core.specs.declared.node.Node.{Node}
+use Rattle.qgm_props.specs.Inferred.{Fact, Facts, Inferred, at_most_one, clean, clean_by, cond_free, error_free, exactly_one, not_null, of_box, says}
+use Rattle.qgm_props.specs.Laws.{Tells}
+use Rattle.qgm_props.proofs.Monotone.{least}
+use Rattle.qgm_props.proofs.Settled.{all-told, founded}
+use Rattle.qgm_terms.specs.Terms.{Cond}
+use Rattle.list_laws.proofs.Booleans.{clash}
+
+-- what is inferred of boxes
+unfoldable pub facts_in : List Node → Facts
+facts_in bs = (all-told bs).0
+
+pub tells-in : (bs : List Node) → Tells (facts_in bs) bs
+unfolding facts_in
+tells-in bs = (all-told bs).1
+
+-- it is inferred that c is clean and p error-free
+abbrev pub decided : QueryGraph → Cond → Node → Bool
+decided g p c = (facts_in g.boxes).clean c.id && cond_free g.boxes (facts_in g.boxes) false p
+
+-- ---- facts that are told are these
+
+same-said : (bs : List Node) (known : Facts) → Tells known bs → (f : Fact) → says known f ≡ says (facts_in bs) f
+same-said bs known tells f = elim (cases_Bool (says (facts_in bs) f)) [
+  | inl t ↦ (tells f).1 ((tells-in bs f).0 t) ∙ sym t
+  | inr n ↦ elim (cases_Bool (says known f)) [
+    | inr k ↦ k ∙ sym n
+    | inl t ↦ absurd (clash (says (facts_in bs) f) ((tells-in bs f).1 ((tells f).0 t)) n)
+  ]
+]
+
+pub facts-are : (bs : List Node) (known : Facts) → Tells known bs → known ≡ facts_in bs
+facts-are bs known tells =
+    let k : Facts = facts_in bs in
+    let c : known.clean ≡ k.clean = fun_ext (λ b. same-said bs known tells (clean b)) in
+    let e : known.error_free ≡ k.error_free = fun_ext (λ b. fun_ext (λ j. same-said bs known tells (error_free b j))) in
+    let n : known.not_null ≡ k.not_null = fun_ext (λ b. fun_ext (λ j. same-said bs known tells (not_null b j))) in
+    let o : known.at_most_one ≡ k.at_most_one = fun_ext (λ b. same-said bs known tells (at_most_one b)) in
+    let x : known.exactly_one ≡ k.exactly_one = fun_ext (λ b. same-said bs known tells (exactly_one b)) in
+    ap₂ (λ (c : ℕ → Bool) (e : ℕ → ℕ → Bool). record known { clean = c; error_free = e }) c e
+    ∙ ap₂ (λ (n : ℕ → ℕ → Bool) (o : ℕ → Bool). record known { clean = k.clean; error_free = k.error_free; not_null = n; at_most_one = o }) n o
+    ∙ ap (λ (x : ℕ → Bool). record k { exactly_one = x }) x
+
+-- ---- the sentence by which a box is clean
+
+pub clean-is : (g : QueryGraph) (known : Facts) → Tells known g.boxes → (c : Node) → box_of c.id g ≡ Some c → (known.clean c.id ≡ true) ↔ (clean_by g.boxes known c.parts.kind c ≡ true)
+clean-is g known tells c found = (
+  λ h. sym (ap (of_box false (λ (n : Node). clean_by g.boxes known n.parts.kind n)) found) ∙ founded g.boxes known tells (clean c.id) ((tells (clean c.id)).0 h),
+  λ h. (tells (clean c.id)).1 (least g.boxes known (λ f s. (tells f).0 s) (clean c.id) (ap (of_box false (λ (n : Node). clean_by g.boxes known n.parts.kind n)) found ∙ h)),
+)

@@ -1,0 +1,155 @@
+// P2.
+ghost use Rattle.std.specs.Prelude.{◌≡◌, nat_le, IfOk};
+ghost use Rattle.list_laws.specs.Lists.{In};
+ghost use Rattle.qgm_terms.specs.Shown.{cond};
+ghost use Rattle.qgm_wellformed.specs.Sentences.{WellFormed};
+ghost use Rattle.rule_api.specs.declared.rule_id.RuleId.TheVariants.{P2};
+ghost use Rattle.rule_push.specs.PushPlaces as spec;
+ghost use Rattle.rule_push.specs.PushThroughGroup.{ActsPushThroughGroup, MayPushThroughGroup, PlansThroughGroup, group_passes, of_group, over_keys, push_through_group_pairs};
+ghost use Rattle.rule_push.specs.PushThroughGroupExact.{push_through_group_exact};
+
+use crate::decided::is_decided;
+use crate::moves::{PushPlan, push};
+use crate::push_places::{is_input, way_out};
+use crate::through::plan_through;
+use qgm_core::{BoxId, BoxKind, Gc, Graph, Node, OwnedQuant, QuantId};
+use qgm_term_search::{add_columns_of_cond, stands_in_cond};
+use qgm_terms::Sought;
+use rule_api::{Place, Rule, RuleId, add_if};
+use rule_facts::box_at;
+use shared_types::OutOfMemory;
+use std::alloc::Global;
+
+/// P2: a conjunct on the keys of a group goes into the select that it groups.
+#[derive(Clone, Copy)]
+pub struct PushThroughGroup;
+
+// Whether each column of r that p reads is one of the first ones, so many.
+fn reads_keys(alloc: Global, p: &Gc, r: QuantId, keys: usize) -> Result<bool, OutOfMemory>
+    ensures { IfOk result (λ v. v ≡ spec.reads_only (λ j. nat_le j keys) r (cond p.now)) }
+{
+    let mut columns = Vec::new(alloc);
+    add_columns_of_cond(p, &mut columns)?;
+    for x in &columns {
+        if x.place > keys && stands_in_cond(p, Sought::Cell(r, x.place)) {
+            return Ok(false);
+        }
+    }
+    Ok(true)
+}
+
+// Whether p, which reads r, may go through a group of so many keys over these quantifiers.
+fn through_keys(
+    alloc: Global,
+    graph: &Graph,
+    p: &Gc,
+    r: OwnedQuant,
+    ranges: &[OwnedQuant],
+    keys: usize,
+) -> Result<bool, OutOfMemory>
+    ensures { IfOk result (λ v. v ≡ over_keys graph.now (cond p.now) r ranges.now keys) }
+{
+    match ranges {
+        [] | [_, _, ..] => Ok(false),
+        [s] => {
+            if !is_input(graph, *s) || keys == 0 {
+                return Ok(false);
+            }
+            reads_keys(alloc, p, r.id, keys)
+        }
+    }
+}
+
+// Whether it may go through c, the box under r, but for what is inferred.
+fn through_group(
+    alloc: Global,
+    graph: &Graph,
+    p: &Gc,
+    r: OwnedQuant,
+    c: &Node,
+) -> Result<bool, OutOfMemory>
+    ensures { IfOk result (λ v. v ≡ of_group (over_keys graph.now (cond p.now) r c.now.quants) c.now.parts.kind) }
+{
+    match &c.parts.kind {
+        BoxKind::Group(keys) => through_keys(alloc, graph, p, r, c.quants.as_slice(), *keys),
+        BoxKind::Base(_) | BoxKind::Select | BoxKind::SetOp(_, _) | BoxKind::OuterJoin => Ok(false),
+    }
+}
+
+// Whether it may go through c.
+fn passes(
+    alloc: Global,
+    graph: &Graph,
+    p: &Gc,
+    r: OwnedQuant,
+    c: &Node,
+) -> Result<bool, OutOfMemory>
+    ensures { IfOk result (λ v. v ≡ group_passes graph.now (cond p.now) r c.now) }
+{
+    if !through_group(alloc, graph, p, r, c)? {
+        return Ok(false);
+    }
+    is_decided(alloc, graph, p, c)
+}
+
+// Whether p, a conjunct of b, may go down below a group.
+fn may_leave(alloc: Global, graph: &Graph, b: &Node, p: &Gc) -> Result<bool, OutOfMemory>
+    ensures { IfOk result (λ v. v ≡ spec.may_leave (group_passes graph.now) graph.now b.now (cond p.now)) }
+{
+    graph.each_number_once();
+    let Some(r) = way_out(alloc, graph, b, p)? else {
+        return Ok(false);
+    };
+    let Some(c) = box_at(graph.nodes(), r.over) else {
+        return Ok(false);
+    };
+    passes(alloc, graph, p, r, c)
+}
+
+// What P2 does at a place.
+fn plan_at(alloc: Global, graph: &Graph, place: Place) -> Result<PushPlan, OutOfMemory>
+    requires formed { WellFormed graph.now }
+    requires given { In (place.i, place.j) (push_through_group_pairs graph.now place.at) }
+    ensures { IfOk result (λ m. PlansThroughGroup place graph.now m) }
+{
+    let m = plan_through(alloc, graph, place)?;
+    Ok(m)
+}
+
+impl Rule for PushThroughGroup {
+    ghost pairs = { λ _. push_through_group_pairs };
+
+    ghost may = { λ _. MayPushThroughGroup };
+
+    ghost act = { λ _. ActsPushThroughGroup };
+
+    ghost name = { λ _. P2 };
+
+    ghost exact = { λ _. push_through_group_exact };
+
+    fn id(&self) -> RuleId {
+        RuleId::P2
+    }
+
+    #[tactic(auto, unfolding(crate::specs::PushThroughGroup::push_through_group_pairs))]
+    fn places(&self, alloc: Global, graph: &Graph, b: BoxId) -> Result<Vec<Place>, OutOfMemory> {
+        let mut out = Vec::new(alloc);
+        graph.each_number_once();
+        let Some(node) = box_at(graph.nodes(), b) else {
+            return Ok(out);
+        };
+        let list = node.parts.conds.as_slice();
+        for k in 0..list.len() {
+            let passes = may_leave(alloc, graph, node, &list[k])?;
+            add_if(&mut out, passes, b, k + 1, 0)?;
+        }
+        Ok(out)
+    }
+
+    fn apply(&self, alloc: Global, graph: &mut Graph, place: Place) -> Result<(), OutOfMemory> {
+        graph.each_number_once();
+        let m = plan_at(alloc, graph, place)?;
+        push(alloc, graph, m)?;
+        Ok(())
+    }
+}
