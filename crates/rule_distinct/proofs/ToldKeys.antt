@@ -1,5 +1,5 @@
 -- Keys that the code is told of are those that are inferred.
-use Rattle.std.proofs.Common.{ℕ, zero, suc, ◌≡◌, ◌∷◌, ◌-◌, ◌<◌, Bool, true, false, List, refl, ap, arith}
+use Rattle.std.proofs.Common.{ℕ, zero, suc, ◌≡◌, ◌∷◌, ◌-◌, ◌<◌, Bool, true, List, refl, ap, arith}
 use mathlib.Core.Path.{fun_ext}
 use Rattle.qgm_core.specs.Kinds.{is_select, width_by}
 use Rattle.qgm_core.specs.declared.kinds.BoxKind.{BoxKind}
