@@ -1,5 +1,5 @@
 // L2.
-ghost use Rattle.std.specs.Prelude.{◌≡◌, IfOk, OnErr, OnOk, true};
+ghost use Rattle.std.specs.Prelude.{◌≡◌, IfOk, OnErr, OnOk};
 ghost use Rattle.std.specs.List.{list_any};
 ghost use Rattle.qgm_wellformed.specs.Sentences.{WellFormed};
 ghost use Rattle.qgm_core.specs.Boxes.{box_of};

@@ -1,2 +1,6 @@
 pub mod FollowsKeeps
 pub mod Preserving
+mod AddSteps
+mod Alone
+mod Rows
+mod EqualColumnsPlans

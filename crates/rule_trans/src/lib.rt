@@ -1,6 +1,12 @@
-//! The rules that add equalities that follow.
+//! The rules that add an equality which follows from two others (Pirahesh, Hellerstein and Hasan 1992,
+//! 3). J1 has code, which `rule_set` doesn't name yet; J2 is a law.
 #![tactic(auto)]
 
+mod adding;
+mod equal_columns;
+mod equalities;
+mod known;
 mod laws;
 
+pub use equal_columns::EqualColumns;
 pub use laws::trans_laws;

@@ -1,0 +1,53 @@
+// Whether a column is inferred to hold no error.
+ghost use Rattle.std.specs.Prelude.{◌≡◌, option_map};
+ghost use Rattle.qgm_core.specs.Boxes.{is_quant, owns, range_in};
+ghost use Rattle.list_laws.specs.Lists.{first};
+ghost use Rattle.qgm_props.specs.Laws.{Tells};
+ghost use Rattle.qgm_props.specs.Table.{facts_of};
+ghost use Rattle.rule_trans.specs.EqualColumnsPlaces as spec;
+
+use qgm_core::{Column, Graph, Node, OwnedQuant, QuantId, has_range};
+use qgm_props::Props;
+
+// The owner of a quantifier.
+fn owner_of(nodes: &[Node], q: QuantId) -> Option<&Node>
+    ensures { option_map (λ n. n.now) result ≡ first (owns q) nodes.now }
+{
+    for node in nodes {
+        if has_range(node.quants.as_slice(), q) {
+            return Some(node);
+        }
+    }
+    None
+}
+
+// A quantifier in its owner.
+fn range_at(ranges: &[OwnedQuant], q: QuantId) -> Option<OwnedQuant>
+    ensures { result ≡ first (is_quant q) ranges.now }
+{
+    for range in ranges {
+        if range.id == q {
+            return Some(*range);
+        }
+    }
+    None
+}
+
+// A quantifier among those of all boxes.
+fn range_of(nodes: &[Node], q: QuantId) -> Option<OwnedQuant>
+    ensures { result ≡ range_in q (first (owns q) nodes.now) }
+{
+    let owner = owner_of(nodes, q)?;
+    range_at(owner.quants.as_slice(), q)
+}
+
+/// Whether it is inferred that a column holds no error, by what is inferred of the graph.
+pub fn infers_free(graph: &Graph, known: &Props, b: Column) -> bool
+    requires { Tells (facts_of known.now) graph.now.boxes }
+    ensures { result ≡ spec.infers_free graph.now b }
+{
+    match range_of(graph.nodes(), b.quant) {
+        Some(range) => known.error_free(range.over, b.place),
+        None => false,
+    }
+}
