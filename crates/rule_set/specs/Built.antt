@@ -11,6 +11,14 @@ use Rattle.rule_merge.specs.DropCopy.{DropsCopy, MayDropCopy, drop_copy_pairs}
 use Rattle.rule_merge.specs.DropCopyExact.{drop_copy_exact}
 use Rattle.rule_merge.specs.MergeSelect.{MayMergeSelect, MergesSelect, merge_select_pairs}
 use Rattle.rule_merge.specs.MergeSelectExact.{merge_select_exact}
+use Rattle.rule_subquery.specs.ExistsToJoin.{JoinsExists, MayExistsToJoin, exists_to_join_pairs}
+use Rattle.rule_subquery.specs.ExistsToJoinExact.{exists_to_join_exact}
+use Rattle.rule_subquery.specs.ScalarToGroup.{GroupsScalar, MayScalarToGroup, scalar_to_group_pairs}
+use Rattle.rule_subquery.specs.ScalarToGroupExact.{scalar_to_group_exact}
+use Rattle.rule_subquery.specs.ScalarToJoin.{JoinsScalar, MayScalarToJoin, scalar_to_join_pairs}
+use Rattle.rule_subquery.specs.ScalarToJoinExact.{scalar_to_join_exact}
+use Rattle.rule_subquery.specs.SetToExists.{MaySetToExists, SelectsSet, set_to_exists_pairs}
+use Rattle.rule_subquery.specs.SetToExistsExact.{set_to_exists_exact}
 
 -- a rule: its places at a box, its condition, its action, and that it has exactly the places where its condition holds
 pub record BuiltRule : Type 1 where
@@ -25,16 +33,28 @@ merge_select = record { pairs = merge_select_pairs; may = MayMergeSelect; act = 
 abbrev pub drop_copy : BuiltRule
 drop_copy = record { pairs = drop_copy_pairs; may = MayDropCopy; act = DropsCopy; exact = drop_copy_exact }
 
+abbrev pub exists_to_join : BuiltRule
+exists_to_join = record { pairs = exists_to_join_pairs; may = MayExistsToJoin; act = JoinsExists; exact = exists_to_join_exact }
+
+abbrev pub scalar_to_group : BuiltRule
+scalar_to_group = record { pairs = scalar_to_group_pairs; may = MayScalarToGroup; act = GroupsScalar; exact = scalar_to_group_exact }
+
+abbrev pub scalar_to_join : BuiltRule
+scalar_to_join = record { pairs = scalar_to_join_pairs; may = MayScalarToJoin; act = JoinsScalar; exact = scalar_to_join_exact }
+
+abbrev pub set_to_exists : BuiltRule
+set_to_exists = record { pairs = set_to_exists_pairs; may = MaySetToExists; act = SelectsSet; exact = set_to_exists_exact }
+
 abbrev pub not_built : BuiltRule
 not_built = record { pairs = λ g b. []; may = λ p g. ⊥; act = λ p g h. ⊥; exact = λ g b i j once w. ((λ h. h), λ h. h) }
 
 abbrev pub built : RuleId → BuiltRule
 built M1 = merge_select
 built M2 = drop_copy
-built U1 = not_built
-built U2 = not_built
-built U3 = not_built
-built U4 = not_built
+built U1 = exists_to_join
+built U2 = scalar_to_group
+built U3 = scalar_to_join
+built U4 = set_to_exists
 built L1 = not_built
 built L2 = not_built
 built L3 = not_built

@@ -9,10 +9,11 @@ use rule_api::{Place, Rule, RuleId};
 use rule_engine::{Rules, Trace, rewrite};
 use rule_merge::{DropCopy, MergeSelect};
 use rule_plan::Plan;
+use rule_subquery::{ExistsToJoin, ScalarToGroup, ScalarToJoin, SetToExists};
 use shared_types::OutOfMemory;
 use std::alloc::Global;
 
-/// The rules that are built: M1 and M2.
+/// The rules that are built: M1, M2, and U1 to U4.
 #[derive(Clone, Copy)]
 pub struct BuiltRules;
 
@@ -35,11 +36,11 @@ impl Rules for BuiltRules {
         match rule {
             RuleId::M1 => MergeSelect.places(alloc, graph, b),
             RuleId::M2 => DropCopy.places(alloc, graph, b),
-            RuleId::U1
-            | RuleId::U2
-            | RuleId::U3
-            | RuleId::U4
-            | RuleId::L1
+            RuleId::U1 => ExistsToJoin.places(alloc, graph, b),
+            RuleId::U2 => ScalarToGroup.places(alloc, graph, b),
+            RuleId::U3 => ScalarToJoin.places(alloc, graph, b),
+            RuleId::U4 => SetToExists.places(alloc, graph, b),
+            RuleId::L1
             | RuleId::L2
             | RuleId::L3
             | RuleId::P1
@@ -68,11 +69,11 @@ impl Rules for BuiltRules {
         match rule {
             RuleId::M1 => MergeSelect.apply(alloc, graph, place),
             RuleId::M2 => DropCopy.apply(alloc, graph, place),
-            RuleId::U1
-            | RuleId::U2
-            | RuleId::U3
-            | RuleId::U4
-            | RuleId::L1
+            RuleId::U1 => ExistsToJoin.apply(alloc, graph, place),
+            RuleId::U2 => ScalarToGroup.apply(alloc, graph, place),
+            RuleId::U3 => ScalarToJoin.apply(alloc, graph, place),
+            RuleId::U4 => SetToExists.apply(alloc, graph, place),
+            RuleId::L1
             | RuleId::L2
             | RuleId::L3
             | RuleId::P1
