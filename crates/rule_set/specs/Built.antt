@@ -18,6 +18,22 @@ use Rattle.rule_merge.specs.DropCopy.{DropsCopy, MayDropCopy, drop_copy_pairs}
 use Rattle.rule_merge.specs.DropCopyExact.{drop_copy_exact}
 use Rattle.rule_merge.specs.MergeSelect.{MayMergeSelect, MergesSelect, merge_select_pairs}
 use Rattle.rule_merge.specs.MergeSelectExact.{merge_select_exact}
+use Rattle.rule_push.specs.PushIntoArms.{ActsPushIntoArms, MayPushIntoArms, push_into_arms_pairs}
+use Rattle.rule_push.specs.PushIntoArmsExact.{push_into_arms_exact}
+use Rattle.rule_push.specs.PushIntoLeft.{ActsPushIntoLeft, MayPushIntoLeft, push_into_left_pairs}
+use Rattle.rule_push.specs.PushIntoLeftExact.{push_into_left_exact}
+use Rattle.rule_push.specs.PushIntoSelect.{ActsPushIntoSelect, MayPushIntoSelect, push_into_select_pairs}
+use Rattle.rule_push.specs.PushIntoSelectExact.{push_into_select_exact}
+use Rattle.rule_push.specs.PushThroughGroup.{ActsPushThroughGroup, MayPushThroughGroup, push_through_group_pairs}
+use Rattle.rule_push.specs.PushThroughGroupExact.{push_through_group_exact}
+use Rattle.rule_subquery.specs.ExistsToJoin.{JoinsExists, MayExistsToJoin, exists_to_join_pairs}
+use Rattle.rule_subquery.specs.ExistsToJoinExact.{exists_to_join_exact}
+use Rattle.rule_subquery.specs.ScalarToGroup.{GroupsScalar, MayScalarToGroup, scalar_to_group_pairs}
+use Rattle.rule_subquery.specs.ScalarToGroupExact.{scalar_to_group_exact}
+use Rattle.rule_subquery.specs.ScalarToJoin.{JoinsScalar, MayScalarToJoin, scalar_to_join_pairs}
+use Rattle.rule_subquery.specs.ScalarToJoinExact.{scalar_to_join_exact}
+use Rattle.rule_subquery.specs.SetToExists.{MaySetToExists, SelectsSet, set_to_exists_pairs}
+use Rattle.rule_subquery.specs.SetToExistsExact.{set_to_exists_exact}
 
 -- a rule: its places at a box, its condition, its action, and that it has exactly the places where its condition holds
 pub record BuiltRule : Type 1 where
@@ -32,6 +48,18 @@ merge_select = record { pairs = merge_select_pairs; may = MayMergeSelect; act = 
 abbrev pub drop_copy : BuiltRule
 drop_copy = record { pairs = drop_copy_pairs; may = MayDropCopy; act = DropsCopy; exact = drop_copy_exact }
 
+abbrev pub exists_to_join : BuiltRule
+exists_to_join = record { pairs = exists_to_join_pairs; may = MayExistsToJoin; act = JoinsExists; exact = exists_to_join_exact }
+
+abbrev pub scalar_to_group : BuiltRule
+scalar_to_group = record { pairs = scalar_to_group_pairs; may = MayScalarToGroup; act = GroupsScalar; exact = scalar_to_group_exact }
+
+abbrev pub scalar_to_join : BuiltRule
+scalar_to_join = record { pairs = scalar_to_join_pairs; may = MayScalarToJoin; act = JoinsScalar; exact = scalar_to_join_exact }
+
+abbrev pub set_to_exists : BuiltRule
+set_to_exists = record { pairs = set_to_exists_pairs; may = MaySetToExists; act = SelectsSet; exact = set_to_exists_exact }
+
 abbrev pub drop_key_distinct : BuiltRule
 drop_key_distinct = record { pairs = drop_key_distinct_pairs; may = MayDropKeyDistinct; act = DropsDistinct; exact = drop_key_distinct_exact }
 
@@ -41,23 +69,35 @@ permit_distinct = record { pairs = permit_distinct_pairs; may = MayPermitDistinc
 abbrev pub drop_union_distinct : BuiltRule
 drop_union_distinct = record { pairs = drop_union_distinct_pairs; may = MayDropUnionDistinct; act = DropsDistinct; exact = drop_union_distinct_exact }
 
+abbrev pub push_into_select : BuiltRule
+push_into_select = record { pairs = push_into_select_pairs; may = MayPushIntoSelect; act = ActsPushIntoSelect; exact = push_into_select_exact }
+
+abbrev pub push_through_group : BuiltRule
+push_through_group = record { pairs = push_through_group_pairs; may = MayPushThroughGroup; act = ActsPushThroughGroup; exact = push_through_group_exact }
+
+abbrev pub push_into_arms : BuiltRule
+push_into_arms = record { pairs = push_into_arms_pairs; may = MayPushIntoArms; act = ActsPushIntoArms; exact = push_into_arms_exact }
+
+abbrev pub push_into_left : BuiltRule
+push_into_left = record { pairs = push_into_left_pairs; may = MayPushIntoLeft; act = ActsPushIntoLeft; exact = push_into_left_exact }
+
 abbrev pub not_built : BuiltRule
 not_built = record { pairs = λ g b. []; may = λ p g. ⊥; act = λ p g h. ⊥; exact = λ g b i j once w. ((λ h. h), λ h. h) }
 
 abbrev pub built : RuleId → BuiltRule
 built M1 = merge_select
 built M2 = drop_copy
-built U1 = not_built
-built U2 = not_built
-built U3 = not_built
-built U4 = not_built
+built U1 = exists_to_join
+built U2 = scalar_to_group
+built U3 = scalar_to_join
+built U4 = set_to_exists
 built L1 = drop_key_distinct
 built L2 = permit_distinct
 built L3 = drop_union_distinct
-built P1 = not_built
-built P2 = not_built
-built P3 = not_built
-built P4 = not_built
+built P1 = push_into_select
+built P2 = push_through_group
+built P3 = push_into_arms
+built P4 = push_into_left
 built J1 = not_built
 built J2 = not_built
 built N1 = not_built

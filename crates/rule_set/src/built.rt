@@ -11,10 +11,12 @@ use rule_distinct::{DropKeyDistinct, DropUnionDistinct, PermitDistinct};
 use rule_engine::{Rules, Trace, rewrite};
 use rule_merge::{DropCopy, MergeSelect};
 use rule_plan::Plan;
+use rule_push::{PushIntoArms, PushIntoLeft, PushIntoSelect, PushThroughGroup};
+use rule_subquery::{ExistsToJoin, ScalarToGroup, ScalarToJoin, SetToExists};
 use shared_types::OutOfMemory;
 use std::alloc::Global;
 
-/// The rules that are built: M1, M2 and L1 to L3.
+/// The rules that are built: M1, M2, U1 to U4, L1 to L3 and P1 to P4.
 #[derive(Clone, Copy)]
 pub struct BuiltRules;
 
@@ -38,18 +40,18 @@ impl Rules for BuiltRules {
         match rule {
             RuleId::M1 => MergeSelect.places(alloc, graph, known, b),
             RuleId::M2 => DropCopy.places(alloc, graph, known, b),
+            RuleId::U1 => ExistsToJoin.places(alloc, graph, known, b),
+            RuleId::U2 => ScalarToGroup.places(alloc, graph, known, b),
+            RuleId::U3 => ScalarToJoin.places(alloc, graph, known, b),
+            RuleId::U4 => SetToExists.places(alloc, graph, known, b),
             RuleId::L1 => DropKeyDistinct.places(alloc, graph, known, b),
             RuleId::L2 => PermitDistinct.places(alloc, graph, known, b),
             RuleId::L3 => DropUnionDistinct.places(alloc, graph, known, b),
-            RuleId::U1
-            | RuleId::U2
-            | RuleId::U3
-            | RuleId::U4
-            | RuleId::P1
-            | RuleId::P2
-            | RuleId::P3
-            | RuleId::P4
-            | RuleId::J1
+            RuleId::P1 => PushIntoSelect.places(alloc, graph, known, b),
+            RuleId::P2 => PushThroughGroup.places(alloc, graph, known, b),
+            RuleId::P3 => PushIntoArms.places(alloc, graph, known, b),
+            RuleId::P4 => PushIntoLeft.places(alloc, graph, known, b),
+            RuleId::J1
             | RuleId::J2
             | RuleId::N1
             | RuleId::N2
@@ -71,18 +73,18 @@ impl Rules for BuiltRules {
         match rule {
             RuleId::M1 => MergeSelect.apply(alloc, graph, place),
             RuleId::M2 => DropCopy.apply(alloc, graph, place),
+            RuleId::U1 => ExistsToJoin.apply(alloc, graph, place),
+            RuleId::U2 => ScalarToGroup.apply(alloc, graph, place),
+            RuleId::U3 => ScalarToJoin.apply(alloc, graph, place),
+            RuleId::U4 => SetToExists.apply(alloc, graph, place),
             RuleId::L1 => DropKeyDistinct.apply(alloc, graph, place),
             RuleId::L2 => PermitDistinct.apply(alloc, graph, place),
             RuleId::L3 => DropUnionDistinct.apply(alloc, graph, place),
-            RuleId::U1
-            | RuleId::U2
-            | RuleId::U3
-            | RuleId::U4
-            | RuleId::P1
-            | RuleId::P2
-            | RuleId::P3
-            | RuleId::P4
-            | RuleId::J1
+            RuleId::P1 => PushIntoSelect.apply(alloc, graph, place),
+            RuleId::P2 => PushThroughGroup.apply(alloc, graph, place),
+            RuleId::P3 => PushIntoArms.apply(alloc, graph, place),
+            RuleId::P4 => PushIntoLeft.apply(alloc, graph, place),
+            RuleId::J1
             | RuleId::J2
             | RuleId::N1
             | RuleId::N2
