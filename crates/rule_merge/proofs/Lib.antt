@@ -3,6 +3,8 @@ pub mod DropCopyActs
 pub mod DropCopyTurned
 pub mod MergeSelectAlone
 pub mod MergeSelectBases
+pub mod MergeSelectFew
+pub mod MergeSelectNames
 pub mod MergeSelectActs
 pub mod MergeSelectKept
 pub mod MergeSelectNodeFree

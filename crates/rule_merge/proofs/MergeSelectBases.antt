@@ -21,7 +21,7 @@ use Rattle.qgm_edit_laws.proofs.Levels.{some-in}
 use Rattle.qgm_edit_laws.proofs.Ranks.{same-box}
 use Rattle.qgm_terms.specs.Named.{names_in, names_in_cond}
 use Rattle.rule_api.specs.Picks.{picked, picks}
-use Rattle.rule_merge.specs.MergeSelect.{any_fed_closed, any_under, base_found, cells_free, cells_stand, distinct_fits, has_lateral, is_lateral, is_plain_select, may_at, may_have, may_in, may_merge, may_over, may_stand, merged_with, over_base, parts_fit}
+use Rattle.rule_merge.specs.MergeSelect.{any_fed_closed, any_under, base_found, cells_free, cells_stand, copies_little, distinct_fits, has_lateral, is_lateral, is_plain_select, may_at, may_go_in, may_have, may_in, may_merge, may_over, may_stand, merged_with, over_base, parts_fit}
 use Rattle.list_laws.proofs.Membership.{any-from}
 use Rattle.list_laws.proofs.Booleans.{clash}
 
@@ -100,7 +100,8 @@ lies c = is_select c.parts.kind && is_plain c.parts.role
 over-then : (g : QueryGraph) (b : Node) (r : OwnedQuant) (found : Option Node) → may_over g b r found ≡ true → (c : Node) × ((found ≡ Some c) × (lies c ≡ true))
 over-then g b r None h = absurd (let z : ⊥ = cc in z)
 over-then g b r (Some c) h =
-    let a1 = and_parts (may_stand g b r c && distinct_fits g b c) (not (any_fed_closed (merged_with g b c r.id))) h in
+    let a0 = and_parts (may_go_in g b r c) (copies_little g r c) h in
+    let a1 = and_parts (may_stand g b r c && distinct_fits g b c) (not (any_fed_closed (merged_with g b c r.id))) a0.0 in
     let a2 = and_parts (may_stand g b r c) (distinct_fits g b c) a1.0 in
     let a3 = and_parts (cells_stand g b r c) (not (has_lateral g c)) a2.0 in
     let a4 = and_parts (parts_fit b c && (times c.id (overs_in g.boxes) == 1)) (cells_free b.id r.id g.boxes 1 c.parts.head) a3.0 in

@@ -1,4 +1,5 @@
 pub mod MergeSelect
+pub mod MergeSelectCopies
 pub mod MergeSelectExact
 pub mod MergeSelectLookups
 pub mod MergeSelectSteps

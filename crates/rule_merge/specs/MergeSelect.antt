@@ -1,6 +1,6 @@
 -- M1, a select is merged into the select above it: its condition, the test of it, its places and its action.
-use Rattle.std.proofs.Common.{ℕ, suc, ◌==◌, ◌&&◌, ◌||◌, ◌≡◌, ◌+◌, ◌++◌, not, Bool, true, false, List, [], ◌∷◌, length, Option, Some, None}
-use Rattle.std.specs.Prelude.{◌-◌, if◌then◌else◌}
+use Rattle.std.proofs.Common.{ℕ, suc, ◌==◌, ◌&&◌, ◌||◌, ◌≡◌, ◌+◌, ◌≤◌, ◌++◌, not, Bool, true, false, List, [], ◌∷◌, length, Option, Some, None}
+use Rattle.std.specs.Prelude.{◌-◌, if◌then◌else◌, nat_le}
 use Rattle.std.specs.List.{list_any}
 use Rattle.qgm_wellformed.specs.Shapes.{all_F}
 use Rattle.qgm_wellformed.specs.WellFormed.{is_empty}
@@ -16,10 +16,12 @@ use Rattle.qgm_core.specs.declared.kinds.Role.TheVariants.{Plain, Magic}
 use Rattle.qgm_core.specs.declared.node.Node.{Node}
 use Rattle.qgm_core.specs.declared.owned.OwnedQuant.{OwnedQuant}
 use Rattle.qgm_edit_laws.specs.Graph.{reads_in}
+use Rattle.rule_merge.specs.MergeSelectCopies.{copies_of, levels_under, most_copied}
 use Rattle.rule_merge.specs.Merged.{merge, merged_in}
 use Rattle.qgm_edit_laws.specs.FedOpen.{FedOpen}
 use Rattle.qgm_props.specs.Inferred.{Inferred, clean}
 use Rattle.qgm_props.proofs.Settled.{all-told}
+use Rattle.qgm_terms.specs.Depth.{room}
 use Rattle.qgm_terms.specs.Substitution.{cell_at}
 use Rattle.qgm_terms.specs.Terms.{Term}
 use Rattle.qgm_terms.specs.Wanted.{node_free}
@@ -35,6 +37,7 @@ pub data DistinctFits (g : QueryGraph) (b c : Node) : Type 0 where
 
 -- b is a plain or magic select with the quantifiers us, r, vs; r is an F over c, a plain select that no other quantifier ranges over and that has no lateral quantifier: what is free in the box under an F of it is no other quantifier of c
 -- c has no DISTINCT, or one that may go; if b is magic, c has F quantifiers alone; the cells of c whose columns another box reads, one below b, are node-free; merged, no fed box is left over a closed box
+-- at most 1,024 nodes are copied; what names a column of r and the deepest cell of c have together no more levels than a cell may have
 pub record IsMergeable (g : QueryGraph) (b c : Node) (us : List OwnedQuant) (r : OwnedQuant) (vs : List OwnedQuant) : Type 0 where
   pub select_b : b.parts.kind ≡ Select
   pub not_fed : is_fed b.parts.role ≡ false
@@ -49,6 +52,8 @@ pub record IsMergeable (g : QueryGraph) (b c : Node) (us : List OwnedQuant) (r :
   pub rows_alone : b.parts.role ≡ Magic → all_F c.quants ≡ true
   pub cells : (y : Node) → In y g.boxes → (y.id == b.id) ≡ false → (k : ℕ) → reads_in r.id k y ≡ true → node_free (cell_at k c.parts.head) ≡ true
   pub fed_open : FedOpen (merged_in b c us r vs g).boxes
+  pub few_copies : copies_of g r c ≤ most_copied
+  pub levels_fit : levels_under g r c ≤ room
 
 -- M1 may fire at quantifier i of such a box
 unfoldable pub MayMergeSelect : Place → QueryGraph → Type 0
@@ -136,8 +141,16 @@ abbrev pub may_stand : QueryGraph → Node → OwnedQuant → Node → Bool
 may_stand g b r c = cells_stand g b r c && not (has_lateral g c)
 
 -- and no DISTINCT, or one that may go, and no fed box is left over a closed box
+abbrev pub may_go_in : QueryGraph → Node → OwnedQuant → Node → Bool
+may_go_in g b r c = (may_stand g b r c && distinct_fits g b c) && not (any_fed_closed (merged_with g b c r.id))
+
+-- little is copied
+abbrev pub copies_little : QueryGraph → OwnedQuant → Node → Bool
+copies_little g r c = nat_le (copies_of g r c) most_copied && nat_le (levels_under g r c) room
+
+-- and little is copied
 abbrev pub may_with : QueryGraph → Node → OwnedQuant → Node → Bool
-may_with g b r c = (may_stand g b r c && distinct_fits g b c) && not (any_fed_closed (merged_with g b c r.id))
+may_with g b r c = may_go_in g b r c && copies_little g r c
 
 abbrev pub may_over : QueryGraph → Node → OwnedQuant → Option Node → Bool
 may_over g b r None = false

@@ -1,8 +1,8 @@
 -- The places of M1 are exactly those where it may fire.
 use Rattle.std.proofs.Common.{ℕ, suc, zero, ◌==◌, ◌&&◌, ◌||◌, ◌≡◌, ◌+◌, ◌≤◌, ◌++◌, not, cond, Bool, true, false, List, [], ◌∷◌, length, map, Option, Some, None, refl, sym, ap, subst, ◌∙◌, eqb-true, inl, inr, arith}
-use Rattle.std.specs.Prelude.{◌↔◌, ◌-◌, slice_get}
+use Rattle.std.specs.Prelude.{◌↔◌, ◌-◌, nat_le, slice_get}
 use Rattle.std.specs.List.{list_any}
-use Rattle.std.proofs.lemmas.Bool.{and_from, and_parts, cases_Bool, eq-eqb, not-true, or_cases, or_left, or_parts, or_right}
+use Rattle.std.proofs.lemmas.Bool.{and_from, and_parts, cases_Bool, eq-eqb, le-leb, leb-true, not-true, or_cases, or_left, or_parts, or_right}
 use Rattle.qgm_wellformed.specs.Sentences.{WellFormed}
 use Rattle.qgm_wellformed.specs.Shapes.{all_F}
 use Rattle.qgm_wellformed.specs.WellFormed.{is_empty}
@@ -26,6 +26,7 @@ use Rattle.qgm_edit_laws.proofs.Levels.{some-in}
 use Rattle.qgm_props.specs.Inferred.{Facts, Inferred, clean}
 use Rattle.qgm_props.specs.Laws.{Tells}
 use Rattle.qgm_props.proofs.Settled.{all-told}
+use Rattle.qgm_terms.specs.Depth.{room}
 use Rattle.qgm_terms.specs.Substitution.{cell_at}
 use Rattle.qgm_terms.specs.Terms.{Term}
 use Rattle.qgm_terms.specs.Wanted.{node_free}
@@ -33,10 +34,11 @@ use Rattle.rule_api.specs.PickLaws.{picks_ascending, picks_exact}
 use Rattle.rule_api.specs.Picks.{Passes, picks}
 use Rattle.rule_api.specs.Rules.{Ascending}
 use Rattle.rule_api.specs.declared.place.Place.{Place}
+use Rattle.rule_merge.specs.MergeSelectCopies.{copies_of, levels_under, most_copied}
 use Rattle.rule_merge.specs.MergeSelectSteps.{Plans}
 use Rattle.rule_merge.specs.declared.merge_select.action.MergePlan.{MergePlan}
 use Rattle.qgm_core.proofs.KindTests.{f-is, enforce-is, preserve-is, permit-is, plain-is, magic-is, select-is}
-use Rattle.rule_merge.specs.MergeSelect.{DistinctFits, IsMergeable, MayMergeSelect, spliced, merged_with, parts_fit, infers_clean, are_clean, distinct_fits, is_lateral, has_lateral, read_elsewhere, cells_free, second_closed, fed_closed, any_fed_closed, cells_stand, may_stand, may_with, may_over, may_at, may_in, may_merge, merge_select_pairs, preserved, enforced, permitted}
+use Rattle.rule_merge.specs.MergeSelect.{DistinctFits, IsMergeable, MayMergeSelect, spliced, merged_with, parts_fit, infers_clean, are_clean, distinct_fits, is_lateral, has_lateral, read_elsewhere, cells_free, second_closed, fed_closed, any_fed_closed, cells_stand, copies_little, may_go_in, may_stand, may_with, may_over, may_at, may_in, may_merge, merge_select_pairs, preserved, enforced, permitted}
 use Rattle.list_laws.proofs.Counting.{times-in}
 use Rattle.list_laws.proofs.Membership.{any-from, any-in, any-none, any-not, eq-itself, in-right}
 use Rattle.list_laws.proofs.Booleans.{clash}
@@ -204,7 +206,9 @@ module _ (g : QueryGraph) (w : WellFormed g) (b : Node) (us : List OwnedQuant) (
       let a3 = and_parts (is_select b.parts.kind) (not (is_fed b.parts.role)) a2.0 in
       let x = over-from g b r (box_of r.over g) a1.1 in
       let c : Node = x.0 in
-      let b1 = and_parts (may_stand g b r c && distinct_fits g b c) (not (any_fed_closed (merged_with g b c r.id))) x.1.1 in
+      let b0 = and_parts (may_go_in g b r c) (copies_little g r c) x.1.1 in
+      let b1 = and_parts (may_stand g b r c && distinct_fits g b c) (not (any_fed_closed (merged_with g b c r.id))) b0.0 in
+      let l1 = and_parts (nat_le (copies_of g r c) most_copied) (nat_le (levels_under g r c) room) b0.1 in
       let d1 = and_parts (may_stand g b r c) (distinct_fits g b c) b1.0 in
       let b2 = and_parts (cells_stand g b r c) (not (has_lateral g c)) d1.0 in
       let b3 = and_parts (parts_fit b c && (times c.id (overs_in g.boxes) == 1)) (cells_free b.id r.id g.boxes 1 c.parts.head) b2.0 in
@@ -226,6 +230,8 @@ module _ (g : QueryGraph) (w : WellFormed g) (b : Node) (us : List OwnedQuant) (
           rows_alone = rows-from b.parts.role (all_F c.quants) p1.1;
           cells = cells-from b.id r.id g.boxes c.parts.head b3.1;
           fed_open = subst (λ (z : QueryGraph). FedOpen z.boxes) (merged-same g w b c us r vs in-b split) (fed-from (merged_with g b c r.id) (not-true (any_fed_closed (merged_with g b c r.id)) b1.1));
+          few_copies = leb-true (copies_of g r c) most_copied l1.0;
+          levels_fit = leb-true (levels_under g r c) room l1.1;
         },
       )
 
@@ -235,7 +241,8 @@ module _ (g : QueryGraph) (w : WellFormed g) (b : Node) (us : List OwnedQuant) (
       (and_from (is_select b.parts.kind && not (is_fed b.parts.role)) (is_F r.kind)
       (and_from (is_select b.parts.kind) (not (is_fed b.parts.role)) (ap is_select m.select_b) (ap not m.not_fed)) (ap is_F m.is_f))
       (ap (may_over g b r) m.under
-      ∙ and_from (may_stand g b r c && distinct_fits g b c) (not (any_fed_closed (merged_with g b c r.id)))
+      ∙ and_from (may_go_in g b r c) (copies_little g r c)
+      (and_from (may_stand g b r c && distinct_fits g b c) (not (any_fed_closed (merged_with g b c r.id)))
       (and_from (may_stand g b r c) (distinct_fits g b c)
       (and_from (cells_stand g b r c) (not (has_lateral g c))
       (and_from (parts_fit b c && (times c.id (overs_in g.boxes) == 1)) (cells_free b.id r.id g.boxes 1 c.parts.head)
@@ -244,6 +251,7 @@ module _ (g : QueryGraph) (w : WellFormed g) (b : Node) (us : List OwnedQuant) (
       (ap not (lateral-not g c m.no_lateral)))
       (distinct-to g b c m.distinct))
       (ap not (fed-to (merged_with g b c r.id) (subst (λ (z : QueryGraph). FedOpen z.boxes) (sym (merged-same g w b c us r vs in-b split)) m.fed_open))))
+      (and_from (nat_le (copies_of g r c) most_copied) (nat_le (levels_under g r c) room) (le-leb (copies_of g r c) most_copied m.few_copies) (le-leb (levels_under g r c) room m.levels_fit)))
     where
       fit : parts_fit b c ≡ true
       fit =

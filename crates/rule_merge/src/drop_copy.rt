@@ -13,6 +13,7 @@ mod condition;
 use crate::drop_copy::action::moved;
 use crate::drop_copy::condition::may_go;
 use qgm_core::{BoxId, Graph};
+use qgm_props::Inference;
 use rule_api::{Place, Rule, RuleId, add_if};
 use shared_types::OutOfMemory;
 use std::alloc::Global;
@@ -52,8 +53,15 @@ impl Rule for DropCopy {
     }
 
     #[tactic(auto, unfolding(crate::specs::DropCopy::drop_copy_pairs))]
-    fn places(&self, alloc: Global, graph: &Graph, b: BoxId) -> Result<Vec<Place>, OutOfMemory> {
+    fn places(
+        &self,
+        alloc: Global,
+        graph: &Graph,
+        known: &mut Inference,
+        b: BoxId,
+    ) -> Result<Vec<Place>, OutOfMemory> {
         let mut out = Vec::new(alloc);
+        let _facts = known;
         let passes = may_go(alloc, graph, b)?;
         add_if(&mut out, passes, b, 0, 0)?;
         Ok(out)

@@ -7,8 +7,10 @@ ghost use Rattle.rule_merge.specs.MergeSelectExact.{PassesMerge, PlansAt, merge_
 
 mod action;
 mod condition;
+mod copies;
 mod foreign;
 mod lookups;
+mod names;
 
 use crate::merge_select::action::{MergePlan, merge, plan};
 use crate::merge_select::condition::{may_at, may_fit, may_have};
@@ -70,8 +72,9 @@ impl Rule for MergeSelect {
             return Ok(out);
         }
         let lookups = lookups_of(alloc, graph, list)?;
+        let mut names = None;
         for k in 0..list.len() {
-            let passes = may_at(alloc, &lookups, node, k + 1, list[k])?;
+            let passes = may_at(alloc, &lookups, &mut names, node, k + 1, list[k])?;
             add_if(&mut out, passes, b, k + 1, 0)?;
         }
         Ok(out)

@@ -1,5 +1,5 @@
 // Whether a select may be merged into the select above it.
-ghost use Rattle.std.specs.Prelude.{◌≡◌, ◌≤◌, ◌-◌, IfOk, Some, slice_get};
+ghost use Rattle.std.specs.Prelude.{◌≡◌, ◌≤◌, ◌+◌, ◌-◌, IfOk, IfSome, Some, nat_le, slice_get};
 ghost use Rattle.std.specs.List.{list_any};
 ghost use Rattle.std.specs.Prelude.{◌&&◌, ◌==◌, not, false, true};
 ghost use Rattle.qgm_wellformed.specs.Sentences.{WellFormed};
@@ -10,12 +10,17 @@ ghost use Rattle.qgm_core.specs.Kinds as kinds;
 ghost use Rattle.list_laws.specs.Lists.{EachOnce, first};
 ghost use Rattle.qgm_core.specs.declared.kinds.Distinct.TheVariants.{Preserve};
 ghost use Rattle.qgm_edit_laws.specs.Graph.{reads_in};
+ghost use Rattle.qgm_term_size.specs.Levels.{deepest};
+ghost use Rattle.qgm_terms.specs.Depth.{room};
+ghost use Rattle.rule_merge.specs.MergeSelectCopies.{copied, levels_of, most_copied, names_in, places_of};
 ghost use Rattle.rule_merge.specs.MergeSelectLookups.{AreOfGraph};
 ghost use Rattle.rule_merge.specs.MergeSelect as spec;
 
 use crate::merge_select::action::merged;
+use crate::merge_select::copies::{few_copied, levels_fit};
 use crate::merge_select::foreign::any_named;
 use crate::merge_select::lookups::{FEW, Lookups};
+use crate::merge_select::names::{Names, names_in};
 use qgm_core::{
     BoxId, Distinct, Graph, Head, Node, OwnedQuant, QuantId, free_in, has_range, node_at,
 };
@@ -244,9 +249,9 @@ fn may_stand(
     Ok(!lateral)
 }
 
-// Whether c may be merged into b under r. Where no box is fed, none will be, so that the graph after
-// it isn't made.
-fn may_with(
+// Whether c may be merged into b under r, but for what is copied. Where no box is fed, none will be, so
+// that the graph after it isn't made.
+fn may_go_in(
     alloc: Global,
     lookups: &Lookups<'_>,
     b: &Node,
@@ -261,7 +266,7 @@ fn may_with(
     requires from_one { 1 ≤ place }
     requires nth { slice_get b.now.quants (place - 1) ≡ Some r }
     requires under { box_of r.over lookups.now.graph.now ≡ Some c.now }
-    ensures { IfOk result (λ may. may ≡ spec.may_with lookups.now.graph.now b.now r c.now) }
+    ensures { IfOk result (λ may. may ≡ spec.may_go_in lookups.now.graph.now b.now r c.now) }
 {
     let graph = lookups.graph;
     if !may_stand(alloc, lookups, b, r, c)? || !distinct_fits(alloc, graph, b, c)? {
@@ -275,47 +280,109 @@ fn may_with(
     Ok(!closed)
 }
 
+// Whether little is copied where these are the names.
+fn is_little(names: &Names, r: OwnedQuant, c: &Node) -> bool
+    ensures { result ≡ (nat_le (copied (places_of r.id names.now) 1 c.now.parts.head) most_copied && nat_le (levels_of r.id names.now + deepest c.now.parts.head) room) }
+{
+    few_copied(names, r.id, &c.parts.head) && levels_fit(names, r.id, &c.parts.head)
+}
+
+// Whether little is copied where c's cells stand for the columns of r. The names of the graph are
+// listed where they aren't yet.
+fn copies_little(
+    alloc: Global,
+    graph: &Graph,
+    names: &mut Option<Names>,
+    r: OwnedQuant,
+    c: &Node,
+) -> Result<bool, OutOfMemory>
+    requires names { IfSome names.old (λ t. t ≡ names_in graph.now.boxes) }
+    ensures little { IfOk result (λ little. little ≡ spec.copies_little graph.now r c.now) }
+    ensures names { IfSome names.new (λ t. t ≡ names_in graph.now.boxes) }
+{
+    let known = match names.take() {
+        Some(known) => known,
+        None => names_in(alloc, graph.nodes())?,
+    };
+    let little = is_little(&known, r, c);
+    *names = Some(known);
+    Ok(little)
+}
+
+// Whether c may be merged into b under r.
+fn may_with(
+    alloc: Global,
+    lookups: &Lookups<'_>,
+    names: &mut Option<Names>,
+    b: &Node,
+    place: usize,
+    r: OwnedQuant,
+    c: &Node,
+) -> Result<bool, OutOfMemory>
+    requires formed { WellFormed lookups.now.graph.now }
+    requires lookups { AreOfGraph lookups.now }
+    requires names { IfSome names.old (λ t. t ≡ names_in lookups.now.graph.now.boxes) }
+    requires at { box_of b.now.id lookups.now.graph.now ≡ Some b.now }
+    requires select { kinds.is_select b.now.parts.kind ≡ true }
+    requires from_one { 1 ≤ place }
+    requires nth { slice_get b.now.quants (place - 1) ≡ Some r }
+    requires under { box_of r.over lookups.now.graph.now ≡ Some c.now }
+    ensures may { IfOk result (λ may. may ≡ spec.may_with lookups.now.graph.now b.now r c.now) }
+    ensures names { IfSome names.new (λ t. t ≡ names_in lookups.now.graph.now.boxes) }
+{
+    if !may_go_in(alloc, lookups, b, place, r, c)? {
+        return Ok(false);
+    }
+    copies_little(alloc, lookups.graph, names, r, c)
+}
+
 // Whether the box under r may be merged into b.
 fn may_over(
     alloc: Global,
     lookups: &Lookups<'_>,
+    names: &mut Option<Names>,
     b: &Node,
     place: usize,
     r: OwnedQuant,
 ) -> Result<bool, OutOfMemory>
     requires formed { WellFormed lookups.now.graph.now }
     requires lookups { AreOfGraph lookups.now }
+    requires names { IfSome names.old (λ t. t ≡ names_in lookups.now.graph.now.boxes) }
     requires at { box_of b.now.id lookups.now.graph.now ≡ Some b.now }
     requires select { kinds.is_select b.now.parts.kind ≡ true }
     requires from_one { 1 ≤ place }
     requires nth { slice_get b.now.quants (place - 1) ≡ Some r }
-    ensures { IfOk result (λ may. may ≡ spec.may_over lookups.now.graph.now b.now r (box_of r.over lookups.now.graph.now)) }
+    ensures may { IfOk result (λ may. may ≡ spec.may_over lookups.now.graph.now b.now r (box_of r.over lookups.now.graph.now)) }
+    ensures names { IfSome names.new (λ t. t ≡ names_in lookups.now.graph.now.boxes) }
 {
     let Some(c) = node_at(lookups.graph.nodes(), &lookups.places, r.over) else {
         return Ok(false);
     };
-    may_with(alloc, lookups, b, place, r, c)
+    may_with(alloc, lookups, names, b, place, r, c)
 }
 
 /// Whether M1 has a place at quantifier r of b, which stands at this place from 1.
 pub fn may_at(
     alloc: Global,
     lookups: &Lookups<'_>,
+    names: &mut Option<Names>,
     b: &Node,
     place: usize,
     r: OwnedQuant,
 ) -> Result<bool, OutOfMemory>
     requires formed { WellFormed lookups.now.graph.now }
     requires lookups { AreOfGraph lookups.now }
+    requires names { IfSome names.old (λ t. t ≡ names_in lookups.now.graph.now.boxes) }
     requires at { box_of b.now.id lookups.now.graph.now ≡ Some b.now }
     requires from_one { 1 ≤ place }
     requires nth { slice_get b.now.quants (place - 1) ≡ Some r }
-    ensures { IfOk result (λ may. may ≡ spec.may_at lookups.now.graph.now b.now r) }
+    ensures may { IfOk result (λ may. may ≡ spec.may_at lookups.now.graph.now b.now r) }
+    ensures names { IfSome names.new (λ t. t ≡ names_in lookups.now.graph.now.boxes) }
 {
     if !b.parts.kind.is_select() || b.parts.role.is_fed() || !r.kind.is_f() {
         return Ok(false);
     }
-    may_over(alloc, lookups, b, place, r)
+    may_over(alloc, lookups, names, b, place, r)
 }
 
 /// Whether b is a select that isn't fed and has an F. Else M1 has no place there.

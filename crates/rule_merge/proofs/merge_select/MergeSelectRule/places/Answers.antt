@@ -50,3 +50,6 @@ loop-k-preserved c = grind (arith, common_steps)
 
 pub overflow_add-k-in-loop-k : goal.overflow_add-k-in-loop-k
 overflow_add-k-in-loop-k c = grind (arith, common_steps)
+
+pub may_at-requires-clause-names : goal.may_at-requires-clause-names
+may_at-requires-clause-names c = c.loop-k.invariant.names

@@ -2,7 +2,7 @@ use Rattle.std.proofs.Common.{arith}
 use Rattle.std.proofs.lemmas.Grind.{common_steps}
 use Rattle.rule_merge.proofs.MergeSelectUnfed.{merged_unfed}
 use Rattle.rule_merge.proofs.MergeSelectPlaced.{found_has}
-use Rattle.rule_merge.proofs.merge_select.condition.may_with.Goals as goal
+use Rattle.rule_merge.proofs.merge_select.condition.may_go_in.Goals as goal
 
 pub distinct_fits-requires : goal.distinct_fits-requires
 distinct_fits-requires c = grind (arith, common_steps, found_has, merged_unfed)
