@@ -16,6 +16,7 @@ use crate::merge_select::action::{MergePlan, merge, plan};
 use crate::merge_select::condition::{may_at, may_fit, may_have};
 use crate::merge_select::lookups::lookups_of;
 use qgm_core::{BoxId, Graph};
+use qgm_props::Inference;
 use rule_api::{Place, Rule, RuleId, add_if};
 use rule_facts::box_at;
 use shared_types::OutOfMemory;
@@ -61,8 +62,15 @@ impl Rule for MergeSelect {
     }
 
     #[tactic(auto, using(crate::proofs::MergeSelectBases::none_found, crate::proofs::MergeSelectBases::none_under), unfolding(crate::specs::MergeSelect::merge_select_pairs))]
-    fn places(&self, alloc: Global, graph: &Graph, b: BoxId) -> Result<Vec<Place>, OutOfMemory> {
+    fn places(
+        &self,
+        alloc: Global,
+        graph: &Graph,
+        known: &mut Inference,
+        b: BoxId,
+    ) -> Result<Vec<Place>, OutOfMemory> {
         let mut out = Vec::new(alloc);
+        let _facts = known;
         graph.each_number_once();
         let Some(node) = box_at(graph.nodes(), b) else {
             return Ok(out);
