@@ -1,0 +1,4 @@
+pub mod Sizes
+pub mod Chains
+pub mod PutSizes
+pub mod PutLevels
