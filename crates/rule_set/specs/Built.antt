@@ -11,6 +11,14 @@ use Rattle.rule_merge.specs.DropCopy.{DropsCopy, MayDropCopy, drop_copy_pairs}
 use Rattle.rule_merge.specs.DropCopyExact.{drop_copy_exact}
 use Rattle.rule_merge.specs.MergeSelect.{MayMergeSelect, MergesSelect, merge_select_pairs}
 use Rattle.rule_merge.specs.MergeSelectExact.{merge_select_exact}
+use Rattle.rule_push.specs.PushIntoSelect.{ActsPushIntoSelect, MayPushIntoSelect, push_into_select_pairs}
+use Rattle.rule_push.specs.PushIntoSelectExact.{push_into_select_exact}
+use Rattle.rule_push.specs.PushThroughGroup.{ActsPushThroughGroup, MayPushThroughGroup, push_through_group_pairs}
+use Rattle.rule_push.specs.PushThroughGroupExact.{push_through_group_exact}
+use Rattle.rule_push.specs.PushIntoArms.{ActsPushIntoArms, MayPushIntoArms, push_into_arms_pairs}
+use Rattle.rule_push.specs.PushIntoArmsExact.{push_into_arms_exact}
+use Rattle.rule_push.specs.PushIntoLeft.{ActsPushIntoLeft, MayPushIntoLeft, push_into_left_pairs}
+use Rattle.rule_push.specs.PushIntoLeftExact.{push_into_left_exact}
 
 -- a rule: its places at a box, its condition, its action, and that it has exactly the places where its condition holds
 pub record BuiltRule : Type 1 where
@@ -25,6 +33,18 @@ merge_select = record { pairs = merge_select_pairs; may = MayMergeSelect; act = 
 abbrev pub drop_copy : BuiltRule
 drop_copy = record { pairs = drop_copy_pairs; may = MayDropCopy; act = DropsCopy; exact = drop_copy_exact }
 
+abbrev pub push_into_select : BuiltRule
+push_into_select = record { pairs = push_into_select_pairs; may = MayPushIntoSelect; act = ActsPushIntoSelect; exact = push_into_select_exact }
+
+abbrev pub push_through_group : BuiltRule
+push_through_group = record { pairs = push_through_group_pairs; may = MayPushThroughGroup; act = ActsPushThroughGroup; exact = push_through_group_exact }
+
+abbrev pub push_into_arms : BuiltRule
+push_into_arms = record { pairs = push_into_arms_pairs; may = MayPushIntoArms; act = ActsPushIntoArms; exact = push_into_arms_exact }
+
+abbrev pub push_into_left : BuiltRule
+push_into_left = record { pairs = push_into_left_pairs; may = MayPushIntoLeft; act = ActsPushIntoLeft; exact = push_into_left_exact }
+
 abbrev pub not_built : BuiltRule
 not_built = record { pairs = λ g b. []; may = λ p g. ⊥; act = λ p g h. ⊥; exact = λ g b i j once w. ((λ h. h), λ h. h) }
 
@@ -38,10 +58,10 @@ built U4 = not_built
 built L1 = not_built
 built L2 = not_built
 built L3 = not_built
-built P1 = not_built
-built P2 = not_built
-built P3 = not_built
-built P4 = not_built
+built P1 = push_into_select
+built P2 = push_through_group
+built P3 = push_into_arms
+built P4 = push_into_left
 built J1 = not_built
 built J2 = not_built
 built N1 = not_built

@@ -9,10 +9,11 @@ use rule_api::{Place, Rule, RuleId};
 use rule_engine::{Rules, Trace, rewrite};
 use rule_merge::{DropCopy, MergeSelect};
 use rule_plan::Plan;
+use rule_push::{PushIntoArms, PushIntoLeft, PushIntoSelect, PushThroughGroup};
 use shared_types::OutOfMemory;
 use std::alloc::Global;
 
-/// The rules that are built: M1 and M2.
+/// The rules that are built: M1, M2 and P1 to P4.
 #[derive(Clone, Copy)]
 pub struct BuiltRules;
 
@@ -35,6 +36,10 @@ impl Rules for BuiltRules {
         match rule {
             RuleId::M1 => MergeSelect.places(alloc, graph, b),
             RuleId::M2 => DropCopy.places(alloc, graph, b),
+            RuleId::P1 => PushIntoSelect.places(alloc, graph, b),
+            RuleId::P2 => PushThroughGroup.places(alloc, graph, b),
+            RuleId::P3 => PushIntoArms.places(alloc, graph, b),
+            RuleId::P4 => PushIntoLeft.places(alloc, graph, b),
             RuleId::U1
             | RuleId::U2
             | RuleId::U3
@@ -42,10 +47,6 @@ impl Rules for BuiltRules {
             | RuleId::L1
             | RuleId::L2
             | RuleId::L3
-            | RuleId::P1
-            | RuleId::P2
-            | RuleId::P3
-            | RuleId::P4
             | RuleId::J1
             | RuleId::J2
             | RuleId::N1
@@ -68,6 +69,10 @@ impl Rules for BuiltRules {
         match rule {
             RuleId::M1 => MergeSelect.apply(alloc, graph, place),
             RuleId::M2 => DropCopy.apply(alloc, graph, place),
+            RuleId::P1 => PushIntoSelect.apply(alloc, graph, place),
+            RuleId::P2 => PushThroughGroup.apply(alloc, graph, place),
+            RuleId::P3 => PushIntoArms.apply(alloc, graph, place),
+            RuleId::P4 => PushIntoLeft.apply(alloc, graph, place),
             RuleId::U1
             | RuleId::U2
             | RuleId::U3
@@ -75,10 +80,6 @@ impl Rules for BuiltRules {
             | RuleId::L1
             | RuleId::L2
             | RuleId::L3
-            | RuleId::P1
-            | RuleId::P2
-            | RuleId::P3
-            | RuleId::P4
             | RuleId::J1
             | RuleId::J2
             | RuleId::N1
