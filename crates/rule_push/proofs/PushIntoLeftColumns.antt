@@ -1,8 +1,7 @@
 -- P4: cells that are columns.
-use Rattle.std.proofs.Common.{ℕ, zero, suc, ◌≡◌, ◌-◌, ◌≤◌, ◌<◌, ◌&&◌, List, ◌∷◌, length, Some, slice_get, refl, ◌∙◌, arith, []}
+use Rattle.std.proofs.Common.{ℕ, ◌≡◌, ◌&&◌, List, ◌∷◌, refl, ◌∙◌, []}
 use Rattle.qgm_props.specs.Lists.{is_none}
-use Rattle.qgm_terms.specs.Substitution.{cell_at}
-use Rattle.qgm_terms.specs.Terms.{Link, Term, both, linked, null_int}
+use Rattle.qgm_terms.specs.Terms.{Link, Term, both, linked}
 use Rattle.rule_push.specs.PushIntoLeft.{is_column_of}
 use Rattle.list_laws.proofs.Booleans.{and-false}
 

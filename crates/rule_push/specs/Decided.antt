@@ -5,7 +5,7 @@ use Rattle.std.proofs.lemmas.Bool.{cases_Bool}
 use mathlib.Core.Path.{fun_ext}
 use Rattle.qgm_core.specs.Boxes.{QueryGraph, box_of}
 use Rattle.qgm_core.specs.declared.node.Node.{Node}
-use Rattle.qgm_props.specs.Inferred.{Fact, Facts, Inferred, at_most_one, clean, clean_by, cond_free, error_free, exactly_one, not_null, of_box, says}
+use Rattle.qgm_props.specs.Inferred.{Fact, Facts, at_most_one, clean, clean_by, cond_free, error_free, exactly_one, not_null, of_box, says}
 use Rattle.qgm_props.specs.Laws.{Tells}
 use Rattle.qgm_props.proofs.Monotone.{least}
 use Rattle.qgm_props.proofs.Settled.{all-told, founded}

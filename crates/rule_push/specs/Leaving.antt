@@ -1,5 +1,5 @@
 -- What leaves a box at a place of P1 to P4, and where it goes.
-use Rattle.std.specs.Prelude.{ℕ, ◌≡◌, ◌≤◌, List, ◌∷◌, length, Option, Some, None, []}
+use Rattle.std.specs.Prelude.{◌≡◌, ◌≤◌, List, ◌∷◌, length, Option, Some, None, []}
 use Rattle.qgm_core.specs.Boxes.{QueryGraph, box_of}
 use Rattle.qgm_core.specs.declared.node.Node.{Node}
 use Rattle.qgm_core.specs.declared.owned.OwnedQuant.{OwnedQuant}

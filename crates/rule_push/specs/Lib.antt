@@ -1,5 +1,6 @@
 pub mod Pushable
 pub mod PushPlaces
+pub mod Small
 pub mod PushExact
 pub mod PushTests
 pub mod Decided

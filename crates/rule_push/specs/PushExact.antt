@@ -23,7 +23,7 @@ use Rattle.qgm_edit_laws.proofs.Naming.{cond-any}
 use Rattle.qgm_edit_laws.proofs.Turns.{split-in}
 use Rattle.rule_api.specs.PickLaws.{picks_exact}
 use Rattle.rule_api.specs.Picks.{Passes}
-use Rattle.rule_push.specs.PushPlaces.{Anywhere, MayPush, alone_of, goes, into_box, is_alone, is_read, leaves, may_leave, push_pairs, reads_only, reads_other, way_out}
+use Rattle.rule_push.specs.PushPlaces.{Anywhere, MayPush, alone_of, goes, into_box, is_alone, is_read, leaves, may_leave, push_pairs, reads_other, way_out}
 use Rattle.rule_api.specs.declared.place.Place.{Place}
 use Rattle.rule_push.specs.Pushable.{Pushable}
 use Rattle.list_laws.proofs.Counting.{times-in}

@@ -20,6 +20,7 @@ use Rattle.rule_push.specs.Decided.{decided, facts_in}
 use Rattle.rule_push.specs.Moves.{arms_plan}
 use Rattle.rule_push.specs.PushPlaces.{MayPush, is_input, push_pairs}
 use Rattle.rule_push.specs.Pushable.{Input}
+use Rattle.rule_push.specs.Small.{is_small, is_small_into}
 use Rattle.rule_push.specs.declared.moves.ArmsPlan.{ArmsPlan}
 
 -- what INTERSECT and EXCEPT need: a conjunct that is inferred error-free, arms that are inferred clean, and their columns, wide many, error-free
@@ -38,7 +39,7 @@ DecidedBy Intersect g known p wide n m = ArmsDecided g known p wide n m
 DecidedBy ExceptAll g known p wide n m = ArmsDecided g known p wide n m
 DecidedBy Except g known p wide n m = ArmsDecided g known p wide n m
 
--- c, the box under r, is a set operation of s and t, whose boxes n and m are plain selects of 1 use each
+-- c, the box under r, is a set operation of s and t, whose boxes n and m are plain selects of 1 use each, whose cells let p grow little
 pub record IsSetOpUnder (g : QueryGraph) (known : Facts) (p : Cond) (r : OwnedQuant) (c : Node) : Type 0 where
   pub form : SetOperator
   pub types : List SqlType
@@ -50,6 +51,8 @@ pub record IsSetOpUnder (g : QueryGraph) (known : Facts) (p : Cond) (r : OwnedQu
   pub two : c.quants ≡ s ∷ (t ∷ [])
   pub first : Input g s n
   pub second : Input g t m
+  pub small_first : is_small r.id n.parts.head p ≡ true
+  pub small_second : is_small r.id m.parts.head p ≡ true
   pub decided : DecidedBy form g known p (length types) n m
 
 -- ---- the test
@@ -62,15 +65,15 @@ is_union Intersect = false
 is_union ExceptAll = false
 is_union Except = false
 
--- two arms, each a plain select of 1 use
-abbrev pub two_inputs : QueryGraph → List OwnedQuant → Bool
-two_inputs g [] = false
-two_inputs g (s ∷ []) = false
-two_inputs g (s ∷ (t ∷ [])) = is_input g s && is_input g t
-two_inputs g (s ∷ (t ∷ (v ∷ vs))) = false
+-- two arms, each a plain select of 1 use, whose cells let p grow little
+abbrev pub two_inputs : QueryGraph → Cond → OwnedQuant → List OwnedQuant → Bool
+two_inputs g p r [] = false
+two_inputs g p r (s ∷ []) = false
+two_inputs g p r (s ∷ (t ∷ [])) = (is_input g s && is_input g t) && (is_small_into g p r.id s && is_small_into g p r.id t)
+two_inputs g p r (s ∷ (t ∷ (v ∷ vs))) = false
 
 abbrev pub arms_passes : QueryGraph → Cond → OwnedQuant → Node → Bool
-arms_passes g p r c = of_set (λ form types. two_inputs g c.quants && (is_union form || decided g p c)) c.parts.kind
+arms_passes g p r c = of_set (λ form types. two_inputs g p r c.quants && (is_union form || decided g p c)) c.parts.kind
 
 -- P3 may fire, where known is what is inferred of g
 pub record MayIntoArms (at : Place) (g : QueryGraph) : Type 0 where

@@ -12,20 +12,21 @@ use Rattle.qgm_core.specs.declared.kinds.SetOperator.{SetOperator}
 use Rattle.qgm_core.specs.declared.kinds.SetOperator.TheVariants.{UnionAll, Union, IntersectAll, Intersect, ExceptAll, Except}
 use Rattle.qgm_core.specs.declared.node.Node.{Node}
 use Rattle.qgm_core.specs.declared.owned.OwnedQuant.{OwnedQuant}
-use Rattle.qgm_props.specs.Inferred.{Facts, Inferred, all_places, clean, clean_by, cond_free, error_free}
+use Rattle.qgm_props.specs.Inferred.{Facts, all_places, clean, clean_by, cond_free, error_free}
 use Rattle.qgm_terms.specs.Terms.{Cond}
 use Rattle.qgm_wellformed.specs.Sentences.{WellFormed}
 use Rattle.qgm_edit_laws.proofs.Levels.{number-of}
 use Rattle.rule_api.specs.PickLaws.{picks_ascending}
 use Rattle.rule_api.specs.Rules.{Ascending}
 use Rattle.rule_api.specs.declared.place.Place.{Place}
-use Rattle.rule_facts.specs.Places.{of_set, set-from}
+use Rattle.rule_facts.specs.Places.{in_box, of_set, set-from}
 use Rattle.rule_push.specs.Decided.{clean-is, decided, facts-are, facts_in, tells-in}
 use Rattle.rule_push.specs.PushExact.{push-exact}
-use Rattle.rule_push.specs.PushIntoArms.{ArmsDecided, DecidedBy, IsSetOpUnder, MayIntoArms, MayPushIntoArms, arms_passes, is_union, push_into_arms_pairs, two_inputs}
+use Rattle.rule_push.specs.PushIntoArms.{ArmsDecided, DecidedBy, IsSetOpUnder, MayPushIntoArms, arms_passes, is_union, push_into_arms_pairs, two_inputs}
 use Rattle.rule_push.specs.PushPlaces.{MayPush, is_input, leaves}
 use Rattle.rule_push.specs.PushTests.{input-from, input-to}
 use Rattle.rule_push.specs.Pushable.{Input}
+use Rattle.rule_push.specs.Small.{is_small, is_small_into}
 
 -- ---- the places from 1 to w
 
@@ -112,11 +113,13 @@ module _ (g : QueryGraph) (p : Cond) (r : OwnedQuant) (c : Node) (found : box_of
     decided-to ExceptAll kind d = and_from (known.clean c.id) (cond_free g.boxes known false p) ((said-is ExceptAll types s t kind two).1 (arms-to s t n m i j (length types) d)) d.p_free
     decided-to Except kind d = and_from (known.clean c.id) (cond_free g.boxes known false p) ((said-is Except types s t kind two).1 (arms-to s t n m i j (length types) d)) d.p_free
 
-  from-arms : (form : SetOperator) (types : List SqlType) (rs : List OwnedQuant) → c.parts.kind ≡ SetOp form types → c.quants ≡ rs → two_inputs g rs ≡ true → (is_union form || decided g p c) ≡ true → IsSetOpUnder g known p r c
+  from-arms : (form : SetOperator) (types : List SqlType) (rs : List OwnedQuant) → c.parts.kind ≡ SetOp form types → c.quants ≡ rs → two_inputs g p r rs ≡ true → (is_union form || decided g p c) ≡ true → IsSetOpUnder g known p r c
   from-arms form types [] kind e h d = absurd (let z : ⊥ = cc in z)
   from-arms form types (s ∷ []) kind e h d = absurd (let z : ⊥ = cc in z)
   from-arms form types (s ∷ (t ∷ [])) kind e h d =
-      let a = and_parts (is_input g s) (is_input g t) h in
+      let f = and_parts (is_input g s && is_input g t) (is_small_into g p r.id s && is_small_into g p r.id t) h in
+      let a = and_parts (is_input g s) (is_input g t) f.0 in
+      let x = and_parts (is_small_into g p r.id s) (is_small_into g p r.id t) f.1 in
       let i = input-from g s a.0 in
       let j = input-from g t a.1 in
       record {
@@ -130,21 +133,29 @@ module _ (g : QueryGraph) (p : Cond) (r : OwnedQuant) (c : Node) (found : box_of
         two = e;
         first = i.1;
         second = j.1;
+        small_first = sym (ap (in_box (λ (n : Node). is_small r.id n.parts.head p)) i.1.under) ∙ x.0;
+        small_second = sym (ap (in_box (λ (n : Node). is_small r.id n.parts.head p)) j.1.under) ∙ x.1;
         decided = decided-from types s t i.0 j.0 i.1 j.1 e form kind d;
       }
   from-arms form types (s ∷ (t ∷ (v ∷ vs))) kind e h d = absurd (let z : ⊥ = cc in z)
 
   abbrev test : SetOperator → List SqlType → Bool
-  test form types = two_inputs g c.quants && (is_union form || decided g p c)
+  test form types = two_inputs g p r c.quants && (is_union form || decided g p c)
 
   pub is-so : (arms_passes g p r c ≡ true) ↔ IsSetOpUnder g known p r c
   is-so = (
     λ h. (
         let b = set-from test c.parts.kind h in
-        let a = and_parts (two_inputs g c.quants) (is_union b.0 || decided g p c) b.1.1.1 in
+        let a = and_parts (two_inputs g p r c.quants) (is_union b.0 || decided g p c) b.1.1.1 in
         from-arms b.0 b.1.0 c.quants b.1.1.0 refl a.0 a.1),
     λ m. ap (of_set test) m.kind
-        ∙ and_from (two_inputs g c.quants) (is_union m.form || decided g p c) (ap (two_inputs g) m.two ∙ and_from (is_input g m.s) (is_input g m.t) (input-to g m.s m.n m.first) (input-to g m.t m.m m.second))
+        ∙ and_from (two_inputs g p r c.quants) (is_union m.form || decided g p c)
+        (ap (two_inputs g p r) m.two
+        ∙ and_from (is_input g m.s && is_input g m.t) (is_small_into g p r.id m.s && is_small_into g p r.id m.t)
+        (and_from (is_input g m.s) (is_input g m.t) (input-to g m.s m.n m.first) (input-to g m.t m.m m.second))
+        (and_from (is_small_into g p r.id m.s) (is_small_into g p r.id m.t)
+        (ap (in_box (λ (n : Node). is_small r.id n.parts.head p)) m.first.under ∙ m.small_first)
+        (ap (in_box (λ (n : Node). is_small r.id n.parts.head p)) m.second.under ∙ m.small_second)))
         (decided-to m.types m.s m.t m.n m.m m.first m.second m.two m.form m.kind m.decided),
   )
 

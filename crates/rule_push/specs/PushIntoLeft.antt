@@ -15,9 +15,10 @@ use Rattle.rule_api.specs.declared.place.Place.{Place}
 use Rattle.rule_push.specs.Moves.{push_plan}
 use Rattle.rule_push.specs.PushPlaces.{MayPush, is_input, push_pairs, reads_only}
 use Rattle.rule_push.specs.Pushable.{Input}
+use Rattle.rule_push.specs.Small.{is_small_below, is_small_through}
 use Rattle.rule_push.specs.declared.moves.PushPlan.{PushPlan}
 
--- c, the box under r, is an outer join of s and t; s's box n is a plain select of 1 use; each column of r that p reads is a column of s
+-- c, the box under r, is an outer join of s and t; s's box n is a plain select of 1 use; each column of r that p reads is a column of s; p grows little by the cells
 pub record IsOuterJoinUnder (g : QueryGraph) (p : Cond) (r : OwnedQuant) (c : Node) : Type 0 where
   pub s : OwnedQuant
   pub t : OwnedQuant
@@ -25,6 +26,7 @@ pub record IsOuterJoinUnder (g : QueryGraph) (p : Cond) (r : OwnedQuant) (c : No
   pub kind : c.parts.kind ≡ OuterJoin
   pub two : c.quants ≡ s ∷ (t ∷ [])
   pub input : Input g s n
+  pub small : is_small_through r.id c.parts.head s.id n.parts.head p ≡ true
   pub lefts : (j : ℕ) → reads_at_cond r.id j p ≡ true → (i : ℕ) × (cell_at j c.parts.head ≡ col s.id i)
 
 -- ---- the test
@@ -50,11 +52,11 @@ is_column_of q (choose s x) = false
 is_column_of q count_all = false
 is_column_of q (fold f d x) = false
 
--- of two arms the first is a plain select of 1 use, and each column of r that p reads is one of it in this head
+-- of two arms the first is a plain select of 1 use, each column of r that p reads is one of it in this head, and p grows little
 abbrev pub left_arm : QueryGraph → Cond → OwnedQuant → List Term → List OwnedQuant → Bool
 left_arm g p r head [] = false
 left_arm g p r head (s ∷ []) = false
-left_arm g p r head (s ∷ (t ∷ [])) = is_input g s && reads_only (λ k. is_column_of s.id (cell_at k head)) r.id p
+left_arm g p r head (s ∷ (t ∷ [])) = is_input g s && (reads_only (λ k. is_column_of s.id (cell_at k head)) r.id p && is_small_below g p r.id head s)
 left_arm g p r head (s ∷ (t ∷ (v ∷ vs))) = false
 
 abbrev pub left_passes : QueryGraph → Cond → OwnedQuant → Node → Bool

@@ -1,5 +1,5 @@
 -- P1: a conjunct goes into the plain select under the one quantifier that it reads.
-use Rattle.std.specs.Prelude.{ℕ, ◌≡◌, ◌++◌, Bool, List, length}
+use Rattle.std.specs.Prelude.{ℕ, ◌≡◌, ◌&&◌, ◌++◌, Bool, true, List, length}
 use Rattle.qgm_core.specs.Boxes.{QueryGraph}
 use Rattle.qgm_core.specs.Edits.{compact}
 use Rattle.qgm_core.specs.declared.kinds.BoxKind.TheVariants.{Select}
@@ -14,15 +14,17 @@ use Rattle.rule_api.specs.declared.place.Place.{Place}
 use Rattle.rule_facts.specs.Places.{is_plain_select}
 use Rattle.rule_push.specs.Moves.{push_plan}
 use Rattle.rule_push.specs.PushPlaces.{MayPush, push_pairs}
+use Rattle.rule_push.specs.Small.{is_small}
 use Rattle.rule_push.specs.declared.moves.PushPlan.{PushPlan}
 
--- c, the box under r, is a plain select
+-- c, the box under r, is a plain select, whose cells let p grow little
 pub record IsSelectUnder (p : Cond) (r : OwnedQuant) (c : Node) : Type 0 where
   pub select : c.parts.kind ≡ Select
   pub plain : c.parts.role ≡ Plain
+  pub small : is_small r.id c.parts.head p ≡ true
 
 abbrev pub select_passes : Cond → OwnedQuant → Node → Bool
-select_passes p r c = is_plain_select c
+select_passes p r c = is_plain_select c && is_small r.id c.parts.head p
 
 -- where P1 may fire
 unfoldable pub MayPushIntoSelect : Place → QueryGraph → Type 0

@@ -1,5 +1,5 @@
 -- What the tests of P2 to P4 say: of columns that a conjunct reads, and of the select that takes it.
-use Rattle.std.proofs.Common.{ℕ, ◌==◌, ◌≡◌, ◌&&◌, ◌||◌, not, Bool, true, false, List, ◌∷◌, ◌++◌, Option, Some, None, refl, sym, ap, subst, ◌∙◌, eqb-true, inl, inr, []}
+use Rattle.std.proofs.Common.{ℕ, ◌==◌, ◌≡◌, ◌||◌, not, Bool, true, false, List, ◌∷◌, ◌++◌, Option, Some, None, refl, sym, ap, subst, ◌∙◌, eqb-true, inl, inr, []}
 use Rattle.std.specs.Prelude.{◌↔◌}
 use Rattle.std.specs.List.{list_all, list_any}
 use Rattle.std.proofs.lemmas.Bool.{and_from, and_parts, cases_Bool, eq-eqb, not-true, or_cases, or_left, or_right}
@@ -16,7 +16,7 @@ use Rattle.qgm_edit_laws.proofs.Read.{columns-listed, is_at}
 use Rattle.rule_facts.specs.Places.{in_box, is_plain_select, plain-from, plain-to}
 use Rattle.rule_push.specs.PushPlaces.{is_input, reads_only}
 use Rattle.rule_push.specs.Pushable.{Input}
-use Rattle.list_laws.proofs.Booleans.{clash, or-false}
+use Rattle.list_laws.proofs.Booleans.{clash}
 
 -- ---- columns that are read
 

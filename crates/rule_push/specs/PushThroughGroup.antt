@@ -11,7 +11,7 @@ use Rattle.qgm_edit_laws.specs.ConjunctEdits.{put_conjunct, with_conjuncts}
 use Rattle.qgm_props.specs.Inferred.{Facts, Inferred, clean, cond_free, is_free}
 use Rattle.qgm_props.specs.Laws.{Tells}
 use Rattle.qgm_terms.specs.Substitution.{substituted_cond}
-use Rattle.qgm_terms.specs.Terms.{Cond}
+use Rattle.qgm_terms.specs.Terms.{Cond, Term}
 use Rattle.qgm_terms.specs.Wanted.{reads_at_cond}
 use Rattle.rule_api.specs.Rules.{Pair}
 use Rattle.rule_api.specs.declared.place.Place.{Place}
@@ -19,9 +19,10 @@ use Rattle.rule_push.specs.Decided.{decided, facts_in}
 use Rattle.rule_push.specs.Moves.{push_plan}
 use Rattle.rule_push.specs.PushPlaces.{MayPush, is_input, push_pairs, reads_only}
 use Rattle.rule_push.specs.Pushable.{Input}
+use Rattle.rule_push.specs.Small.{is_small_below, is_small_through}
 use Rattle.rule_push.specs.declared.moves.PushPlan.{PushPlan}
 
--- c, the box under r, is a group of k and one more keys over s, whose box n is a plain select of 1 use, inferred clean; p reads keys alone; p and the keys are inferred error-free
+-- c, the box under r, is a group of k and one more keys over s, whose box n is a plain select of 1 use, inferred clean; p reads keys alone, and grows little by the cells; p and the keys are inferred error-free
 pub record IsGroupUnder (g : QueryGraph) (known : Facts) (p : Cond) (r : OwnedQuant) (c : Node) : Type 0 where
   pub k : ℕ
   pub s : OwnedQuant
@@ -29,6 +30,7 @@ pub record IsGroupUnder (g : QueryGraph) (known : Facts) (p : Cond) (r : OwnedQu
   pub kind : c.parts.kind ≡ Group (suc k)
   pub alone : c.quants ≡ s ∷ []
   pub input : Input g s n
+  pub small : is_small_through r.id c.parts.head s.id n.parts.head p ≡ true
   pub keys : (j : ℕ) → reads_at_cond r.id j p ≡ true → j ≤ suc k
   pub keys_free : list_all (is_free g.boxes known false) (take (suc k) c.parts.head) ≡ true
   pub p_free : cond_free g.boxes known false p ≡ true
@@ -43,14 +45,14 @@ of_group t (Group keys) = t keys
 of_group t (SetOp operator types) = false
 of_group t OuterJoin = false
 
--- there are keys, each column of r that p reads is one, and the one quantifier ranges over a plain select of 1 use
-abbrev pub over_keys : QueryGraph → Cond → OwnedQuant → List OwnedQuant → ℕ → Bool
-over_keys g p r [] keys = false
-over_keys g p r (s ∷ []) keys = is_input g s && (nat_lt 0 keys && reads_only (λ j. nat_le j keys) r.id p)
-over_keys g p r (s ∷ (t ∷ ts)) keys = false
+-- there are keys, each column of r that p reads is one, the one quantifier ranges over a plain select of 1 use, and p grows little by the cells of this head and of that select
+abbrev pub over_keys : QueryGraph → Cond → OwnedQuant → List Term → List OwnedQuant → ℕ → Bool
+over_keys g p r head [] keys = false
+over_keys g p r head (s ∷ []) keys = is_input g s && (nat_lt 0 keys && (reads_only (λ j. nat_le j keys) r.id p && is_small_below g p r.id head s))
+over_keys g p r head (s ∷ (t ∷ ts)) keys = false
 
 abbrev pub group_passes : QueryGraph → Cond → OwnedQuant → Node → Bool
-group_passes g p r c = of_group (over_keys g p r c.quants) c.parts.kind && decided g p c
+group_passes g p r c = of_group (over_keys g p r c.parts.head c.quants) c.parts.kind && decided g p c
 
 -- P2 may fire, where known is what is inferred of g
 pub record MayThroughGroup (at : Place) (g : QueryGraph) : Type 0 where

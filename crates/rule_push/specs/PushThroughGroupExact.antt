@@ -10,18 +10,20 @@ use Rattle.qgm_core.specs.declared.kinds.BoxKind.{BoxKind}
 use Rattle.qgm_core.specs.declared.kinds.BoxKind.TheVariants.{Base, Select, Group, SetOp, OuterJoin}
 use Rattle.qgm_core.specs.declared.node.Node.{Node}
 use Rattle.qgm_core.specs.declared.owned.OwnedQuant.{OwnedQuant}
-use Rattle.qgm_props.specs.Inferred.{Facts, Inferred, clean, clean_by, cond_free, is_free}
+use Rattle.qgm_props.specs.Inferred.{Facts, clean, clean_by, cond_free, is_free}
 use Rattle.qgm_terms.specs.Terms.{Cond}
 use Rattle.qgm_wellformed.specs.Sentences.{WellFormed}
 use Rattle.qgm_edit_laws.proofs.Levels.{number-of}
 use Rattle.rule_api.specs.PickLaws.{picks_ascending}
 use Rattle.rule_api.specs.Rules.{Ascending}
 use Rattle.rule_api.specs.declared.place.Place.{Place}
+use Rattle.rule_facts.specs.Places.{in_box}
 use Rattle.rule_push.specs.Decided.{clean-is, decided, facts-are, facts_in, tells-in}
 use Rattle.rule_push.specs.PushExact.{push-exact}
-use Rattle.rule_push.specs.PushThroughGroup.{IsGroupUnder, MayPushThroughGroup, MayThroughGroup, group_passes, of_group, over_keys, push_through_group_pairs}
+use Rattle.rule_push.specs.PushThroughGroup.{IsGroupUnder, MayPushThroughGroup, group_passes, of_group, over_keys, push_through_group_pairs}
 use Rattle.rule_push.specs.PushPlaces.{MayPush, is_input, leaves, reads_only}
 use Rattle.rule_push.specs.PushTests.{input-from, input-to, reads-only-is}
+use Rattle.rule_push.specs.Small.{is_small_below, is_small_through}
 
 group-is : (t : ℕ → Bool) (k : BoxKind) → of_group t k ≡ true → (keys : ℕ) × ((k ≡ Group keys) × (t keys ≡ true))
 group-is t (Base table) h = absurd (let z : ⊥ = cc in z)
@@ -37,12 +39,13 @@ module _ (g : QueryGraph) (p : Cond) (r : OwnedQuant) (c : Node) (found : box_of
   found-c : box_of c.id g ≡ Some c
   found-c = subst (λ z. box_of z g ≡ Some c) (sym (number-of g.boxes r.over c found)) found
 
-  from-keys : (keys : ℕ) (rs : List OwnedQuant) → c.parts.kind ≡ Group keys → c.quants ≡ rs → over_keys g p r rs keys ≡ true → decided g p c ≡ true → IsGroupUnder g known p r c
+  from-keys : (keys : ℕ) (rs : List OwnedQuant) → c.parts.kind ≡ Group keys → c.quants ≡ rs → over_keys g p r c.parts.head rs keys ≡ true → decided g p c ≡ true → IsGroupUnder g known p r c
   from-keys keys [] kind e h d = absurd (let z : ⊥ = cc in z)
   from-keys zero (s ∷ []) kind e h d = absurd (let a = and_parts (is_input g s) false h in let z : ⊥ = cc in z)
   from-keys (suc k) (s ∷ []) kind e h d =
-      let a = and_parts (is_input g s) (nat_lt 0 (suc k) && reads_only (λ j. nat_le j (suc k)) r.id p) h in
-      let l = and_parts (nat_lt 0 (suc k)) (reads_only (λ j. nat_le j (suc k)) r.id p) a.1 in
+      let a = and_parts (is_input g s) (nat_lt 0 (suc k) && (reads_only (λ j. nat_le j (suc k)) r.id p && is_small_below g p r.id c.parts.head s)) h in
+      let l = and_parts (nat_lt 0 (suc k)) (reads_only (λ j. nat_le j (suc k)) r.id p && is_small_below g p r.id c.parts.head s) a.1 in
+      let few = and_parts (reads_only (λ j. nat_le j (suc k)) r.id p) (is_small_below g p r.id c.parts.head s) l.1 in
       let i = input-from g s a.0 in
       let both = and_parts (known.clean c.id) (cond_free g.boxes known false p) d in
       let said : clean_by g.boxes known (Group (suc k)) (record c { quants = s ∷ [] }) ≡ true =
@@ -55,7 +58,8 @@ module _ (g : QueryGraph) (p : Cond) (r : OwnedQuant) (c : Node) (found : box_of
         kind = kind;
         alone = e;
         input = i.1;
-        keys = λ j t. leb-true j (suc k) ((reads-only-is c (λ j. nat_le j (suc k)) r.id p).0 l.1 j t);
+        small = sym (ap (in_box (λ (n : Node). is_small_through r.id c.parts.head s.id n.parts.head p)) i.1.under) ∙ few.1;
+        keys = λ j t. leb-true j (suc k) ((reads-only-is c (λ j. nat_le j (suc k)) r.id p).0 few.0 j t);
         keys_free = parts.1;
         p_free = both.1;
         clean = (tells-in g.boxes (clean i.0.id)).0 (subst (λ z. known.clean z ≡ true) (sym (number-of g.boxes s.over i.0 i.1.under)) parts.0);
@@ -65,12 +69,14 @@ module _ (g : QueryGraph) (p : Cond) (r : OwnedQuant) (c : Node) (found : box_of
   pub is-so : (group_passes g p r c ≡ true) ↔ IsGroupUnder g known p r c
   is-so = (
     λ h. (
-        let a = and_parts (of_group (over_keys g p r c.quants) c.parts.kind) (decided g p c) h in
-        let b = group-is (over_keys g p r c.quants) c.parts.kind a.0 in
+        let a = and_parts (of_group (over_keys g p r c.parts.head c.quants) c.parts.kind) (decided g p c) h in
+        let b = group-is (over_keys g p r c.parts.head c.quants) c.parts.kind a.0 in
         from-keys b.0 c.quants b.1.0 refl b.1.1 a.1),
-    λ m. and_from (of_group (over_keys g p r c.quants) c.parts.kind) (decided g p c)
-        (ap₂ (λ (x : List OwnedQuant) (y : BoxKind). of_group (over_keys g p r x) y) m.alone m.kind
-        ∙ and_from (is_input g m.s) (nat_lt 0 (suc m.k) && reads_only (λ j. nat_le j (suc m.k)) r.id p) (input-to g m.s m.n m.input) (and_from (nat_lt 0 (suc m.k)) (reads_only (λ j. nat_le j (suc m.k)) r.id p) (lt-ltb 0 (suc m.k) (omega arith)) ((reads-only-is c (λ j. nat_le j (suc m.k)) r.id p).1 (λ j l. le-leb j (suc m.k) (m.keys j l)))))
+    λ m. and_from (of_group (over_keys g p r c.parts.head c.quants) c.parts.kind) (decided g p c)
+        (ap₂ (λ (x : List OwnedQuant) (y : BoxKind). of_group (over_keys g p r c.parts.head x) y) m.alone m.kind
+        ∙ and_from (is_input g m.s) (nat_lt 0 (suc m.k) && (reads_only (λ j. nat_le j (suc m.k)) r.id p && is_small_below g p r.id c.parts.head m.s)) (input-to g m.s m.n m.input) (and_from (nat_lt 0 (suc m.k)) (reads_only (λ j. nat_le j (suc m.k)) r.id p && is_small_below g p r.id c.parts.head m.s) (lt-ltb 0 (suc m.k) (omega arith))
+        (and_from (reads_only (λ j. nat_le j (suc m.k)) r.id p) (is_small_below g p r.id c.parts.head m.s) ((reads-only-is c (λ j. nat_le j (suc m.k)) r.id p).1 (λ j l. le-leb j (suc m.k) (m.keys j l)))
+        (ap (in_box (λ (n : Node). is_small_through r.id c.parts.head m.s.id n.parts.head p)) m.input.under ∙ m.small))))
         (and_from (known.clean c.id) (cond_free g.boxes known false p)
         ((clean-is g known (tells-in g.boxes) c found-c).1
         (ap₂ (λ (x : BoxKind) (y : List OwnedQuant). clean_by g.boxes known x (record c { quants = y })) m.kind m.alone

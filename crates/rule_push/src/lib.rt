@@ -11,6 +11,7 @@ mod push_into_left;
 mod push_into_select;
 mod push_places;
 mod push_through_group;
+mod small;
 mod through;
 
 pub use laws::push_laws;

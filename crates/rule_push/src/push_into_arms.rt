@@ -13,6 +13,7 @@ use crate::decided::is_decided;
 use crate::leaving::{first_range, leaving_at, second_range};
 use crate::moves::{ArmsPlan, plan_push_both, push_both};
 use crate::push_places::{is_input, way_out};
+use crate::small::is_small_into;
 use qgm_core::{BoxId, BoxKind, Gc, Graph, Node, OwnedQuant, SetOperator};
 use qgm_terms::{ROOM, substitute_cond};
 use rule_api::{Place, Rule, RuleId, add_if};
@@ -36,13 +37,28 @@ fn is_union(form: SetOperator) -> bool
     }
 }
 
-// Whether these are two quantifiers over plain selects over which no other ranges.
-fn two_inputs(graph: &Graph, ranges: &[OwnedQuant]) -> bool
-    ensures { result ≡ two_inputs graph.now ranges.now }
+// Whether these are two quantifiers over plain selects over which no other ranges, and p, which reads
+// r, grows little by the cells of both.
+fn two_inputs(
+    alloc: Global,
+    graph: &Graph,
+    p: &Gc,
+    r: OwnedQuant,
+    ranges: &[OwnedQuant],
+) -> Result<bool, OutOfMemory>
+    ensures { IfOk result (λ v. v ≡ two_inputs graph.now (cond p.now) r ranges.now) }
 {
     match ranges {
-        [] | [_] | [_, _, _, ..] => false,
-        [s, t] => is_input(graph, *s) && is_input(graph, *t),
+        [] | [_] | [_, _, _, ..] => Ok(false),
+        [s, t] => {
+            if !is_input(graph, *s) || !is_input(graph, *t) {
+                return Ok(false);
+            }
+            if !is_small_into(alloc, graph, p, r.id, *s)? {
+                return Ok(false);
+            }
+            is_small_into(alloc, graph, p, r.id, *t)
+        }
     }
 }
 
@@ -51,12 +67,13 @@ fn into_arms(
     alloc: Global,
     graph: &Graph,
     p: &Gc,
+    r: OwnedQuant,
     form: SetOperator,
     c: &Node,
 ) -> Result<bool, OutOfMemory>
-    ensures { IfOk result (λ v. v ≡ (two_inputs graph.now c.now.quants && (is_union form || decided graph.now (cond p.now) c.now))) }
+    ensures { IfOk result (λ v. v ≡ (two_inputs graph.now (cond p.now) r c.now.quants && (is_union form || decided graph.now (cond p.now) c.now))) }
 {
-    if !two_inputs(graph, c.quants.as_slice()) {
+    if !two_inputs(alloc, graph, p, r, c.quants.as_slice())? {
         return Ok(false);
     }
     if is_union(form) {
@@ -76,7 +93,7 @@ fn passes(
     ensures { IfOk result (λ v. v ≡ arms_passes graph.now (cond p.now) r c.now) }
 {
     match &c.parts.kind {
-        BoxKind::SetOp(form, _) => into_arms(alloc, graph, p, *form, c),
+        BoxKind::SetOp(form, _) => into_arms(alloc, graph, p, r, *form, c),
         BoxKind::Base(_) | BoxKind::Select | BoxKind::Group(_) | BoxKind::OuterJoin => Ok(false),
     }
 }

@@ -12,6 +12,7 @@ ghost use Rattle.rule_push.specs.PushPlaces as spec;
 use crate::error_free::is_alone;
 use crate::moves::{PushPlan, push};
 use crate::push_places::{is_input, way_out};
+use crate::small::is_small_below;
 use crate::through::plan_through;
 use qgm_core::{BoxId, BoxKind, Gc, Graph, Gx, Head, Node, OwnedQuant, QuantId};
 use qgm_term_search::{add_columns_of_cond, stands_in_cond};
@@ -97,10 +98,10 @@ fn into_left(
     match arms {
         [] | [_] | [_, _, _, ..] => Ok(false),
         [s, _] => {
-            if !is_input(graph, *s) {
+            if !is_input(graph, *s) || !reads_left(alloc, p, r.id, head, s.id)? {
                 return Ok(false);
             }
-            reads_left(alloc, p, r.id, head, s.id)
+            is_small_below(alloc, graph, p, r.id, head, *s)
         }
     }
 }

@@ -5,14 +5,14 @@ ghost use Rattle.qgm_wellformed.specs.Sentences.{WellFormed};
 ghost use Rattle.qgm_terms.specs.Shown.{cond};
 ghost use Rattle.rule_api.specs.declared.rule_id.RuleId.TheVariants.{P1};
 ghost use Rattle.rule_push.specs.PushIntoSelect.{ActsPushIntoSelect, MayPushIntoSelect, PlansAt, push_into_select_pairs, select_passes};
-ghost use Rattle.rule_facts.specs.Places.{is_plain_select};
 ghost use Rattle.rule_push.specs.PushPlaces as spec;
 ghost use Rattle.rule_push.specs.PushIntoSelectExact.{push_into_select_exact};
 
 use crate::leaving::leaving_at;
 use crate::moves::{PushPlan, plan_push, push};
 use crate::push_places::way_out;
-use qgm_core::{BoxId, Gc, Graph, Node};
+use crate::small::is_small;
+use qgm_core::{BoxId, Gc, Graph, Node, OwnedQuant};
 use qgm_terms::{ROOM, substitute_cond};
 use rule_api::{Place, Rule, RuleId, add_if};
 use rule_facts::box_at;
@@ -23,11 +23,14 @@ use std::alloc::Global;
 #[derive(Clone, Copy)]
 pub struct PushIntoSelect;
 
-// Whether a conjunct may go into c: it is a plain select.
-fn passes(c: &Node) -> bool
-    ensures { result ≡ is_plain_select c.now }
+// Whether p, which reads r, may go into c, the box under r.
+fn passes(alloc: Global, p: &Gc, r: OwnedQuant, c: &Node) -> Result<bool, OutOfMemory>
+    ensures { IfOk result (λ v. v ≡ select_passes (cond p.now) r c.now) }
 {
-    c.parts.kind.is_select() && c.parts.role.is_plain()
+    if !c.parts.kind.is_select() || !c.parts.role.is_plain() {
+        return Ok(false);
+    }
+    is_small(alloc, p, r.id, &c.parts.head)
 }
 
 // Whether p, a conjunct of b, may go down to a plain select.
@@ -41,7 +44,7 @@ fn may_leave(alloc: Global, graph: &Graph, b: &Node, p: &Gc) -> Result<bool, Out
     let Some(c) = box_at(graph.nodes(), r.over) else {
         return Ok(false);
     };
-    Ok(passes(c))
+    passes(alloc, p, r, c)
 }
 
 // What P1 does at a place.

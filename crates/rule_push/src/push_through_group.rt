@@ -11,6 +11,7 @@ ghost use Rattle.rule_push.specs.PushThroughGroupExact.{push_through_group_exact
 use crate::decided::is_decided;
 use crate::moves::{PushPlan, push};
 use crate::push_places::{is_input, way_out};
+use crate::small::is_small_below;
 use crate::through::plan_through;
 use qgm_core::{BoxId, BoxKind, Gc, Graph, Node, OwnedQuant, QuantId};
 use qgm_term_search::{add_columns_of_cond, stands_in_cond};
@@ -38,24 +39,24 @@ fn reads_keys(alloc: Global, p: &Gc, r: QuantId, keys: usize) -> Result<bool, Ou
     Ok(true)
 }
 
-// Whether p, which reads r, may go through a group of so many keys over these quantifiers.
+// Whether p, which reads r, may go through c, a group of so many keys.
 fn through_keys(
     alloc: Global,
     graph: &Graph,
     p: &Gc,
     r: OwnedQuant,
-    ranges: &[OwnedQuant],
+    c: &Node,
     keys: usize,
 ) -> Result<bool, OutOfMemory>
-    ensures { IfOk result (λ v. v ≡ over_keys graph.now (cond p.now) r ranges.now keys) }
+    ensures { IfOk result (λ v. v ≡ over_keys graph.now (cond p.now) r c.now.parts.head c.now.quants keys) }
 {
-    match ranges {
+    match c.quants.as_slice() {
         [] | [_, _, ..] => Ok(false),
         [s] => {
-            if !is_input(graph, *s) || keys == 0 {
+            if !is_input(graph, *s) || keys == 0 || !reads_keys(alloc, p, r.id, keys)? {
                 return Ok(false);
             }
-            reads_keys(alloc, p, r.id, keys)
+            is_small_below(alloc, graph, p, r.id, &c.parts.head, *s)
         }
     }
 }
@@ -68,10 +69,10 @@ fn through_group(
     r: OwnedQuant,
     c: &Node,
 ) -> Result<bool, OutOfMemory>
-    ensures { IfOk result (λ v. v ≡ of_group (over_keys graph.now (cond p.now) r c.now.quants) c.now.parts.kind) }
+    ensures { IfOk result (λ v. v ≡ of_group (over_keys graph.now (cond p.now) r c.now.parts.head c.now.quants) c.now.parts.kind) }
 {
     match &c.parts.kind {
-        BoxKind::Group(keys) => through_keys(alloc, graph, p, r, c.quants.as_slice(), *keys),
+        BoxKind::Group(keys) => through_keys(alloc, graph, p, r, c, *keys),
         BoxKind::Base(_) | BoxKind::Select | BoxKind::SetOp(_, _) | BoxKind::OuterJoin => Ok(false),
     }
 }

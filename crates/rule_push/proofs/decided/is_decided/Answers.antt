@@ -1,4 +1,4 @@
-use Rattle.std.proofs.Common.{◌≡◌, ◌&&◌, false, ap, ◌∙◌}
+use Rattle.std.proofs.Common.{◌&&◌, false, ap, ◌∙◌}
 use Rattle.qgm_props.specs.Inferred.{Facts, cond_free}
 use Rattle.qgm_props.specs.Table.{facts_of}
 use Rattle.qgm_terms.specs.Shown.{cond}

@@ -1,4 +1,4 @@
-use Rattle.std.proofs.Common.{◌≡◌, ◌∙◌, Some, sym, ap}
+use Rattle.std.proofs.Common.{◌∙◌, sym, ap}
 use Rattle.qgm_core.specs.Boxes.{is_box}
 use Rattle.list_laws.specs.Lists.{first}
 use Rattle.qgm_terms.specs.Shown.{cond}

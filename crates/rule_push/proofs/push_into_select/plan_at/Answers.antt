@@ -1,4 +1,4 @@
-use Rattle.std.proofs.Common.{◌≡◌, ◌-◌, ◌∙◌, length}
+use Rattle.std.proofs.Common.{◌-◌, ◌∙◌, length}
 use Rattle.qgm_terms.specs.Shown.{cond}
 use Rattle.qgm_terms.specs.Substitution.{substituted_cond}
 use Rattle.rule_push.specs.PushExact.{anywhere}

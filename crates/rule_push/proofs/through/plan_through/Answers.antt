@@ -1,4 +1,4 @@
-use Rattle.std.proofs.Common.{◌≡◌, ◌-◌, ◌∙◌, length, ap}
+use Rattle.std.proofs.Common.{◌-◌, ◌∙◌, length, ap}
 use Rattle.qgm_core.specs.Boxes.{is_box}
 use Rattle.list_laws.specs.Lists.{first}
 use Rattle.qgm_core.specs.declared.node.Node.{Node}
