@@ -2,7 +2,6 @@
 #![tactic(auto)]
 
 mod decided;
-mod error_free;
 mod laws;
 mod leaving;
 mod moves;

@@ -1,6 +1,7 @@
 // P3.
 ghost use Rattle.std.specs.Prelude.{◌≡◌, ◌&&◌, ◌||◌, IfOk};
 ghost use Rattle.list_laws.specs.Lists.{In};
+ghost use Rattle.qgm_props.specs.Laws.{KeptOf};
 ghost use Rattle.qgm_terms.specs.Shown.{cond};
 ghost use Rattle.qgm_wellformed.specs.Sentences.{WellFormed};
 ghost use Rattle.rule_api.specs.declared.rule_id.RuleId.TheVariants.{P3};
@@ -15,6 +16,7 @@ use crate::moves::{ArmsPlan, plan_push_both, push_both};
 use crate::push_places::{is_input, way_out};
 use crate::small::is_small_into;
 use qgm_core::{BoxId, BoxKind, Gc, Graph, Node, OwnedQuant, SetOperator};
+use qgm_props::Inference;
 use qgm_terms::{ROOM, substitute_cond};
 use rule_api::{Place, Rule, RuleId, add_if};
 use rule_facts::box_at;
@@ -66,12 +68,15 @@ fn two_inputs(
 fn into_arms(
     alloc: Global,
     graph: &Graph,
+    known: &mut Inference,
     p: &Gc,
     r: OwnedQuant,
     form: SetOperator,
     c: &Node,
 ) -> Result<bool, OutOfMemory>
-    ensures { IfOk result (λ v. v ≡ (two_inputs graph.now (cond p.now) r c.now.quants && (is_union form || decided graph.now (cond p.now) c.now))) }
+    requires { KeptOf known.old graph.now.boxes }
+    ensures known { KeptOf known.new graph.now.boxes }
+    ensures test { IfOk result (λ v. v ≡ (two_inputs graph.now (cond p.now) r c.now.quants && (is_union form || decided graph.now (cond p.now) c.now))) }
 {
     if !two_inputs(alloc, graph, p, r, c.quants.as_slice())? {
         return Ok(false);
@@ -79,28 +84,39 @@ fn into_arms(
     if is_union(form) {
         return Ok(true);
     }
-    is_decided(alloc, graph, p, c)
+    is_decided(alloc, graph, known, p, c)
 }
 
 // Whether p, which reads r, may go through c, the box under r.
 fn passes(
     alloc: Global,
     graph: &Graph,
+    known: &mut Inference,
     p: &Gc,
     r: OwnedQuant,
     c: &Node,
 ) -> Result<bool, OutOfMemory>
-    ensures { IfOk result (λ v. v ≡ arms_passes graph.now (cond p.now) r c.now) }
+    requires { KeptOf known.old graph.now.boxes }
+    ensures known { KeptOf known.new graph.now.boxes }
+    ensures test { IfOk result (λ v. v ≡ arms_passes graph.now (cond p.now) r c.now) }
 {
     match &c.parts.kind {
-        BoxKind::SetOp(form, _) => into_arms(alloc, graph, p, r, *form, c),
+        BoxKind::SetOp(form, _) => into_arms(alloc, graph, known, p, r, *form, c),
         BoxKind::Base(_) | BoxKind::Select | BoxKind::Group(_) | BoxKind::OuterJoin => Ok(false),
     }
 }
 
 // Whether p, a conjunct of b, may go down to the arms of a set operation.
-fn may_leave(alloc: Global, graph: &Graph, b: &Node, p: &Gc) -> Result<bool, OutOfMemory>
-    ensures { IfOk result (λ v. v ≡ spec.may_leave (arms_passes graph.now) graph.now b.now (cond p.now)) }
+fn may_leave(
+    alloc: Global,
+    graph: &Graph,
+    known: &mut Inference,
+    b: &Node,
+    p: &Gc,
+) -> Result<bool, OutOfMemory>
+    requires { KeptOf known.old graph.now.boxes }
+    ensures known { KeptOf known.new graph.now.boxes }
+    ensures test { IfOk result (λ v. v ≡ spec.may_leave (arms_passes graph.now) graph.now b.now (cond p.now)) }
 {
     graph.each_number_once();
     let Some(r) = way_out(alloc, graph, b, p)? else {
@@ -109,7 +125,7 @@ fn may_leave(alloc: Global, graph: &Graph, b: &Node, p: &Gc) -> Result<bool, Out
     let Some(c) = box_at(graph.nodes(), r.over) else {
         return Ok(false);
     };
-    passes(alloc, graph, p, r, c)
+    passes(alloc, graph, known, p, r, c)
 }
 
 // What P3 does at a place.
@@ -154,7 +170,13 @@ impl Rule for PushIntoArms {
     }
 
     #[tactic(auto, unfolding(crate::specs::PushIntoArms::push_into_arms_pairs))]
-    fn places(&self, alloc: Global, graph: &Graph, b: BoxId) -> Result<Vec<Place>, OutOfMemory> {
+    fn places(
+        &self,
+        alloc: Global,
+        graph: &Graph,
+        known: &mut Inference,
+        b: BoxId,
+    ) -> Result<Vec<Place>, OutOfMemory> {
         let mut out = Vec::new(alloc);
         graph.each_number_once();
         let Some(node) = box_at(graph.nodes(), b) else {
@@ -162,7 +184,7 @@ impl Rule for PushIntoArms {
         };
         let list = node.parts.conds.as_slice();
         for k in 0..list.len() {
-            let passes = may_leave(alloc, graph, node, &list[k])?;
+            let passes = may_leave(alloc, graph, known, node, &list[k])?;
             add_if(&mut out, passes, b, k + 1, 0)?;
         }
         Ok(out)

@@ -1,7 +1,8 @@
 // P4.
 ghost use Rattle.std.specs.Prelude.{◌≡◌, IfOk};
 ghost use Rattle.list_laws.specs.Lists.{In};
-ghost use Rattle.qgm_terms.specs.Shown.{cond, term};
+ghost use Rattle.qgm_props.specs.Lists.{is_none};
+ghost use Rattle.qgm_terms.specs.Shown.{cond, links, term};
 ghost use Rattle.qgm_terms.specs.Substitution.{cell_at};
 ghost use Rattle.qgm_wellformed.specs.Sentences.{WellFormed};
 ghost use Rattle.rule_api.specs.declared.rule_id.RuleId.TheVariants.{P4};
@@ -9,12 +10,12 @@ ghost use Rattle.rule_push.specs.PushIntoLeft.{ActsPushIntoLeft, MayPushIntoLeft
 ghost use Rattle.rule_push.specs.PushIntoLeftExact.{push_into_left_exact};
 ghost use Rattle.rule_push.specs.PushPlaces as spec;
 
-use crate::error_free::is_alone;
 use crate::moves::{PushPlan, push};
 use crate::push_places::{is_input, way_out};
 use crate::small::is_small_below;
 use crate::through::plan_through;
-use qgm_core::{BoxId, BoxKind, Gc, Graph, Gx, Head, Node, OwnedQuant, QuantId};
+use qgm_core::{BoxId, BoxKind, Gc, Graph, Gx, Head, Link, Node, OwnedQuant, QuantId};
+use qgm_props::Inference;
 use qgm_term_search::{add_columns_of_cond, stands_in_cond};
 use qgm_terms::{Sought, both};
 use rule_api::{Place, Rule, RuleId, add_if};
@@ -35,13 +36,23 @@ fn is_outer_join(kind: &BoxKind) -> bool
     }
 }
 
+// Whether no operand stands behind the first one.
+fn is_lone(list: &[Link]) -> bool
+    ensures { result ≡ is_none (links list.now) }
+{
+    match list {
+        [] => true,
+        [_, ..] => false,
+    }
+}
+
 // Whether an expression is a column of s.
 fn is_column_of(s: QuantId, x: &Gx) -> bool
     ensures { result ≡ is_column_of s (term x.now) }
 {
     match x {
         Gx::Col(q, _) => *q == s,
-        Gx::Chain(a, list) => both(is_alone(list), is_column_of(s, a)),
+        Gx::Chain(a, list) => both(is_lone(list), is_column_of(s, a)),
         Gx::Int(_)
         | Gx::Text(_)
         | Gx::NullInt
@@ -162,8 +173,15 @@ impl Rule for PushIntoLeft {
     }
 
     #[tactic(auto, unfolding(crate::specs::PushIntoLeft::push_into_left_pairs))]
-    fn places(&self, alloc: Global, graph: &Graph, b: BoxId) -> Result<Vec<Place>, OutOfMemory> {
+    fn places(
+        &self,
+        alloc: Global,
+        graph: &Graph,
+        known: &mut Inference,
+        b: BoxId,
+    ) -> Result<Vec<Place>, OutOfMemory> {
         let mut out = Vec::new(alloc);
+        let _facts = known;
         graph.each_number_once();
         let Some(node) = box_at(graph.nodes(), b) else {
             return Ok(out);

@@ -13,6 +13,7 @@ use crate::moves::{PushPlan, plan_push, push};
 use crate::push_places::way_out;
 use crate::small::is_small;
 use qgm_core::{BoxId, Gc, Graph, Node, OwnedQuant};
+use qgm_props::Inference;
 use qgm_terms::{ROOM, substitute_cond};
 use rule_api::{Place, Rule, RuleId, add_if};
 use rule_facts::box_at;
@@ -75,8 +76,15 @@ impl Rule for PushIntoSelect {
     }
 
     #[tactic(auto, unfolding(crate::specs::PushIntoSelect::push_into_select_pairs))]
-    fn places(&self, alloc: Global, graph: &Graph, b: BoxId) -> Result<Vec<Place>, OutOfMemory> {
+    fn places(
+        &self,
+        alloc: Global,
+        graph: &Graph,
+        known: &mut Inference,
+        b: BoxId,
+    ) -> Result<Vec<Place>, OutOfMemory> {
         let mut out = Vec::new(alloc);
+        let _facts = known;
         graph.each_number_once();
         let Some(node) = box_at(graph.nodes(), b) else {
             return Ok(out);

@@ -1,6 +1,7 @@
 // P2.
 ghost use Rattle.std.specs.Prelude.{◌≡◌, nat_le, IfOk};
 ghost use Rattle.list_laws.specs.Lists.{In};
+ghost use Rattle.qgm_props.specs.Laws.{KeptOf};
 ghost use Rattle.qgm_terms.specs.Shown.{cond};
 ghost use Rattle.qgm_wellformed.specs.Sentences.{WellFormed};
 ghost use Rattle.rule_api.specs.declared.rule_id.RuleId.TheVariants.{P2};
@@ -14,6 +15,7 @@ use crate::push_places::{is_input, way_out};
 use crate::small::is_small_below;
 use crate::through::plan_through;
 use qgm_core::{BoxId, BoxKind, Gc, Graph, Node, OwnedQuant, QuantId};
+use qgm_props::Inference;
 use qgm_term_search::{add_columns_of_cond, stands_in_cond};
 use qgm_terms::Sought;
 use rule_api::{Place, Rule, RuleId, add_if};
@@ -81,21 +83,32 @@ fn through_group(
 fn passes(
     alloc: Global,
     graph: &Graph,
+    known: &mut Inference,
     p: &Gc,
     r: OwnedQuant,
     c: &Node,
 ) -> Result<bool, OutOfMemory>
-    ensures { IfOk result (λ v. v ≡ group_passes graph.now (cond p.now) r c.now) }
+    requires { KeptOf known.old graph.now.boxes }
+    ensures known { KeptOf known.new graph.now.boxes }
+    ensures test { IfOk result (λ v. v ≡ group_passes graph.now (cond p.now) r c.now) }
 {
     if !through_group(alloc, graph, p, r, c)? {
         return Ok(false);
     }
-    is_decided(alloc, graph, p, c)
+    is_decided(alloc, graph, known, p, c)
 }
 
 // Whether p, a conjunct of b, may go down below a group.
-fn may_leave(alloc: Global, graph: &Graph, b: &Node, p: &Gc) -> Result<bool, OutOfMemory>
-    ensures { IfOk result (λ v. v ≡ spec.may_leave (group_passes graph.now) graph.now b.now (cond p.now)) }
+fn may_leave(
+    alloc: Global,
+    graph: &Graph,
+    known: &mut Inference,
+    b: &Node,
+    p: &Gc,
+) -> Result<bool, OutOfMemory>
+    requires { KeptOf known.old graph.now.boxes }
+    ensures known { KeptOf known.new graph.now.boxes }
+    ensures test { IfOk result (λ v. v ≡ spec.may_leave (group_passes graph.now) graph.now b.now (cond p.now)) }
 {
     graph.each_number_once();
     let Some(r) = way_out(alloc, graph, b, p)? else {
@@ -104,7 +117,7 @@ fn may_leave(alloc: Global, graph: &Graph, b: &Node, p: &Gc) -> Result<bool, Out
     let Some(c) = box_at(graph.nodes(), r.over) else {
         return Ok(false);
     };
-    passes(alloc, graph, p, r, c)
+    passes(alloc, graph, known, p, r, c)
 }
 
 // What P2 does at a place.
@@ -133,7 +146,13 @@ impl Rule for PushThroughGroup {
     }
 
     #[tactic(auto, unfolding(crate::specs::PushThroughGroup::push_through_group_pairs))]
-    fn places(&self, alloc: Global, graph: &Graph, b: BoxId) -> Result<Vec<Place>, OutOfMemory> {
+    fn places(
+        &self,
+        alloc: Global,
+        graph: &Graph,
+        known: &mut Inference,
+        b: BoxId,
+    ) -> Result<Vec<Place>, OutOfMemory> {
         let mut out = Vec::new(alloc);
         graph.each_number_once();
         let Some(node) = box_at(graph.nodes(), b) else {
@@ -141,7 +160,7 @@ impl Rule for PushThroughGroup {
         };
         let list = node.parts.conds.as_slice();
         for k in 0..list.len() {
-            let passes = may_leave(alloc, graph, node, &list[k])?;
+            let passes = may_leave(alloc, graph, known, node, &list[k])?;
             add_if(&mut out, passes, b, k + 1, 0)?;
         }
         Ok(out)

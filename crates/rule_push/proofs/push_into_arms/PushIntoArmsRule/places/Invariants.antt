@@ -1,4 +1,5 @@
 use Rattle.std.proofs.Common.{◌≡◌, ◌+◌, ◌++◌, drop, map}
+use Rattle.qgm_props.specs.Laws.{KeptOf}
 use Rattle.qgm_terms.specs.Shown.{conds}
 use Rattle.rule_api.specs.Picks.{picks}
 use Rattle.rule_api.specs.Rules.{place_at}
@@ -8,4 +9,7 @@ use Rattle.rule_push.proofs.push_into_arms.PushIntoArmsRule.places.Given as goal
 
 -- what is left adds the rest
 abbrev pub invariant-loop-k : goal.invariant-loop-k
-invariant-loop-k l = l.out.items ++ map (place_at l.b) (picks (may_leave (arms_passes l.graph) l.graph l.node) (l.k + 1) (conds (drop l.k l.list))) ≡ map (place_at l.b) (picks (may_leave (arms_passes l.graph) l.graph l.node) 1 (conds l.list))
+invariant-loop-k l = record {
+  places : l.out.items ++ map (place_at l.b) (picks (may_leave (arms_passes l.graph) l.graph l.node) (l.k + 1) (conds (drop l.k l.list))) ≡ map (place_at l.b) (picks (may_leave (arms_passes l.graph) l.graph l.node) 1 (conds l.list));
+  known : KeptOf l.known l.graph.boxes;
+}
