@@ -17,6 +17,8 @@ mod Settled
 mod Bounded
 mod Rejections
 mod Probes
+mod Lookups
 mod Hashing
+mod Partners
 pub mod Orders
 pub mod Quantified

@@ -98,3 +98,28 @@ or-done p = ap₂ (λ (a b : Level). record { t = a; f = b }) (most p.t) (least-
     least-no Division = refl
     least-no Overflow = refl
     least-no Yes = refl
+
+-- and once an AND is false
+pub and-done : (p : Truth) → t.and (truth_of false) p ≡ truth_of false
+and-done p = ap₂ (λ (a b : Level). record { t = a; f = b }) (least-no p.t) (most p.f)
+  where
+    most : (l : Level) → greatest Yes l ≡ Yes
+    most No = refl
+    most Cardinality = refl
+    most Division = refl
+    most Overflow = refl
+    most Yes = refl
+
+    least-no : (l : Level) → least No l ≡ No
+    least-no No = refl
+    least-no Cardinality = refl
+    least-no Division = refl
+    least-no Overflow = refl
+    least-no Yes = refl
+
+-- what is still to come counts for nothing
+pub some-done : (x rest whole : Truth) → x ≡ truth_of true → t.or x rest ≡ whole → x ≡ whole
+some-done x rest whole e h = e ∙ sym (or-done rest) ∙ ap (λ (y : Truth). t.or y rest) (sym e) ∙ h
+
+pub every-done : (x rest whole : Truth) → x ≡ truth_of false → t.and x rest ≡ whole → x ≡ whole
+every-done x rest whole e h = e ∙ sym (and-done rest) ∙ ap (λ (y : Truth). t.and y rest) (sym e) ∙ h

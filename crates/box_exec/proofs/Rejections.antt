@@ -74,7 +74,7 @@ none-no Overflow h = absurd (let z : ⊥ = cc in z)
 none-no Yes h = absurd (let z : ⊥ = cc in z)
 
 module _ (s : ℕ → Bag) (env : Environment) where
-  all-no : (c : Cond) (ps : List Cond) → In c ps → (truth s c env).t ≡ No → (all_true s ps env).t ≡ No
+  pub all-no : (c : Cond) (ps : List Cond) → In c ps → (truth s c env).t ≡ No → (all_true s ps env).t ≡ No
   all-no c [] i h = elim i [ ]
   all-no c (p ∷ ps) i h = elim i [
     | inl e ↦ ap (λ (l : Level). least l (all_true s ps env).t) (ap (λ (p : Cond). (truth s p env).t) e ∙ h) ∙ no-least (all_true s ps env).t

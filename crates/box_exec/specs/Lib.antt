@@ -8,6 +8,7 @@ pub mod Counted
 pub mod Costs
 pub mod Ready
 pub mod Early
+pub mod Lookup
 pub mod Hashed
 pub mod HandedOn
 pub mod Probes

@@ -103,6 +103,13 @@ fn negated(p: Result<Truth, OutOfMemory>) -> Result<Truth, OutOfMemory>
     Ok(not(p?))
 }
 
+// Whether a truth is wholly so.
+fn is_wholly(truth: Truth, holds: bool) -> bool
+    ensures { result ≡ true → truth ≡ truths.truth_of holds }
+{
+    truth == decided(holds)
+}
+
 /// The cell that an expression is.
 #[cycle(value)]
 pub fn value(alloc: Global, x: &Gx, subs: &[Sub<'_>], env: &Bindings) -> Result<Cell, OutOfMemory>
@@ -270,7 +277,7 @@ fn any_of(
     Ok(total)
 }
 
-// For a row of the quantifier.
+// For a row of the quantifier: an OR that ends where it is true.
 #[cycle(value)]
 #[inline(never)]
 fn some(
@@ -285,6 +292,9 @@ fn some(
 {
     let mut truth = decided(false);
     for row in rows {
+        if is_wholly(truth, true) {
+            return Ok(truth);
+        }
         truth = or(truth, some_row(alloc, q, p, row, subs, env)?);
     }
     Ok(truth)
@@ -317,7 +327,7 @@ fn some_row(
     }
 }
 
-// For each row of the quantifier.
+// For each row of the quantifier: an AND that ends where it is false.
 #[cycle(value)]
 #[inline(never)]
 fn every(
@@ -332,6 +342,9 @@ fn every(
 {
     let mut truth = decided(true);
     for row in rows {
+        if is_wholly(truth, false) {
+            return Ok(truth);
+        }
         truth = and(truth, every_row(alloc, q, p, row, subs, env)?);
     }
     Ok(truth)

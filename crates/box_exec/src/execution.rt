@@ -10,7 +10,7 @@ ghost use Rattle.row_bag.specs.Sets.{same_cells};
 
 use crate::handed_on::root_rows;
 use crate::memo::memo_of;
-use crate::under::{Place, behind, place_of};
+use crate::under::{BoxOver, behind, place_of};
 use qgm_core::{Graph, reached};
 use row_bag::{Bag, Tables};
 use shared_types::OutOfMemory;
@@ -46,7 +46,7 @@ pub fn execute<L: Ledger>(
     let below = behind(nodes, i);
     let marks = reached(alloc, nodes, root)?;
     let memo = memo_of(alloc, below, tables, &marks, steps, &mut count)?;
-    let place = Place {
+    let place = BoxOver {
         node: &nodes[i],
         below,
     };

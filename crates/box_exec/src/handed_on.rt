@@ -18,7 +18,7 @@ ghost use Rattle.row_bag.specs.declared.tables.Table.{Table};
 use crate::bindings::Bindings;
 use crate::boxes::{evaluated, step};
 use crate::source::Source;
-use crate::under::{Place, Run, behind, kept, place_of};
+use crate::under::{BoxOver, Run, behind, kept, place_of};
 use qgm_core::{BoxKind, Node, OwnedQuant};
 use qgm_terms::{Gx, QuantId};
 use row_bag::{Bag, Row, Tables};
@@ -83,7 +83,7 @@ fn is_wide(rows: &[Row], width: usize) -> bool
 }
 
 // Where the rows that a box hands on are kept.
-fn handed_place(memo: &[Option<Source<'_>>], place: &Place<'_>) -> Option<usize>
+fn handed_place(memo: &[Option<Source<'_>>], place: &BoxOver<'_>) -> Option<usize>
     ensures held { IfSome result (λ k. is_held (slice_get memo.now k) ≡ true) }
     ensures entry { (tables : List Table) → Ready tables memo.now place.now.below.now → IfSome result (λ k. Entry tables place.now.node.now place.now.below.now (slice_get memo.now k)) }
 {
@@ -115,7 +115,7 @@ fn borrowed<'t>(memo: &[Option<Source<'t>>], k: usize) -> Option<&'t [Row]>
 }
 
 /// The rows that a box hands on, if they are kept and stand elsewhere.
-pub(crate) fn lent<'t>(memo: &[Option<Source<'t>>], place: &Place<'_>) -> Option<&'t [Row]>
+pub(crate) fn lent<'t>(memo: &[Option<Source<'t>>], place: &BoxOver<'_>) -> Option<&'t [Row]>
     ensures { (tables : List Table) → Ready tables memo.now place.now.below.now → IfSome result (λ rows. (env : Environment) → Alike rows.now (rows_of tables place.now.node.now (bag_in tables place.now.below.now) env)) }
 {
     let Some(k) = handed_place(memo, place) else {
@@ -141,7 +141,7 @@ pub(crate) fn root_rows<L: Ledger>(
     alloc: Global,
     tables: &Tables,
     memo: Vec<Option<Source<'_>>>,
-    root: &Place<'_>,
+    root: &BoxOver<'_>,
     steps: &mut Steps<L>,
     count: &mut u64,
 ) -> Result<Bag, OutOfMemory>

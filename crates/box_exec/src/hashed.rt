@@ -1,82 +1,28 @@
-// Rows of kept boxes, found by the hashes of the cells that equalities ask for.
-ghost use Rattle.std.specs.Prelude.{◌≡◌, ◌<◌, ◌+◌, ◌++◌, [], All, IfOk, IfSome, OnOk, List, ℕ, Some, get_or, length, map, filter, slice_get, true};
+// Rows of selects over kept boxes, found by the hashes of the cells that equalities ask for.
+ghost use Rattle.std.specs.Prelude.{◌≡◌, ◌<◌, ◌++◌, [], All, IfOk, IfSome, OnOk, Some, get_or, length, filter, slice_get, true};
 ghost use Rattle.box_exec.specs.Bound.{env_of};
+ghost use Rattle.box_exec.specs.Early.{rejects};
 ghost use Rattle.box_exec.specs.Hashed as spec;
+ghost use Rattle.box_exec.specs.Lookup as lookup;
 ghost use Rattle.box_exec.specs.Plans as plan;
 ghost use Rattle.box_exec.specs.Ready.{SubsOf, isnt_F};
-ghost use Rattle.box_exec.specs.Forms.{cell_held};
-ghost use Rattle.box_exec.specs.declared.early.Early.{Early};
 ghost use Rattle.qgm_core.specs.declared.kinds.BoxKind.TheVariants as kind;
 ghost use Rattle.qgm_meaning.specs.Meaning as m;
 ghost use Rattle.qgm_meaning.specs.Values.{Environment};
-ghost use Rattle.qgm_terms.specs.Shown.{cond, term};
 ghost use Rattle.row_bag.specs.Bags.{Alike, keep};
-ghost use Rattle.row_bag.specs.declared.row.Row.{Row};
-ghost use Rattle.sql_value.specs.declared.cell.Cell.{Cell};
 
 use crate::bindings::Bindings;
 use crate::boxes::At;
 use crate::early::{Early, is_none, is_open, rejected};
-use crate::evaluation::value;
 use crate::heads::{add_given, once_added};
-use crate::operand::{Operand, standing};
-use crate::probe::{Sides, equated, sides_of};
+use crate::lookup::{Hashed, Key, Way, first_of, hashed_by, key_in, next_of, way_through};
 use crate::source::{Source, Sub};
 use crate::under::{Loop, Under};
-use qgm_core::{Gc, Gx, QuantId};
-use qgm_terms::Sign;
+use qgm_core::QuantId;
 use row_bag::{Bag, Row};
-use row_index::{KeyIndex, feed, index_of, is_error};
 use shared_types::OutOfMemory;
-use sql_value::{Cell, Level, least};
+use sql_value::{Level, least};
 use std::alloc::Global;
-use std::hash::{FoldHasher, Hasher};
-
-/// A column of a quantifier, and an expression that reads no row of it, which the column's cell is to
-/// equal: by `=`, or so that null equals null.
-#[derive(Clone, Copy)]
-pub(crate) struct Key<'a> {
-    pub column: usize,
-    pub other: &'a Gx,
-    pub safe: bool,
-}
-
-// The operands of a null-safe equality, if one of them is a column of the quantifier.
-fn samed<'a>(c: &'a Gc, q: QuantId) -> Option<Sides<'a>>
-    ensures { IfSome result (λ s. spec.Sames q (cond c.now) s) }
-{
-    let Gc::Compare(s, a, b) = c else {
-        return None;
-    };
-    if *s != Sign::Same {
-        return None;
-    }
-    match sides_of(a, b, q) {
-        Some(found) => Some(found),
-        None => sides_of(b, a, q),
-    }
-}
-
-// What an equality asks of a column of the quantifier, if it is so.
-fn key_in<'a>(c: &'a Gc, q: QuantId) -> Option<Key<'a>>
-    ensures { IfSome result (λ k. spec.IsKey q (cond c.now) k) }
-{
-    if let Some(s) = equated(c, q) {
-        return Some(Key {
-            column: s.column,
-            other: s.other,
-            safe: false,
-        });
-    }
-    match samed(c, q) {
-        Some(s) => Some(Key {
-            column: s.column,
-            other: s.other,
-            safe: true,
-        }),
-        None => None,
-    }
-}
 
 // What the equalities among the conditions that are tested at a place ask of columns of the last
 // quantifier that is bound there.
@@ -86,7 +32,7 @@ fn keys_of<'a>(
     place: usize,
     q: QuantId,
 ) -> Result<Vec<Key<'a>>, OutOfMemory>
-    ensures { IfOk result (λ made. All (λ k. spec.RejectsBy early.now place q k) made.items) }
+    ensures { IfOk result (λ made. All (λ k. lookup.RejectsBy (rejects early.now place) q k) made.items) }
 {
     let mut made = Vec::new(alloc);
     for e in early {
@@ -97,45 +43,6 @@ fn keys_of<'a>(
         }
     }
     Ok(made)
-}
-
-/// Keys of a quantifier, and the hashes of their columns in its rows.
-#[derive(Drop)]
-pub(crate) struct Hashed<'a> {
-    pub keys: Vec<Key<'a>>,
-    pub index: KeyIndex,
-}
-
-// The columns of keys.
-fn columns_of(alloc: Global, keys: &[Key<'_>]) -> Result<Vec<usize>, OutOfMemory>
-    ensures { IfOk result (λ made. made.items ≡ map (λ k. k.column) keys.now) }
-{
-    let mut made = Vec::with_capacity(alloc, keys.len())?;
-    for key in keys {
-        made.push(key.column)?;
-    }
-    Ok(made)
-}
-
-// The hashes of rows by the keys of their quantifier: none where it has no key, or a row an error in one.
-fn hashed_by<'a>(
-    alloc: Global,
-    early: &[Early<'a>],
-    place: usize,
-    q: QuantId,
-    rows: &[Row],
-) -> Result<Option<Hashed<'a>>, OutOfMemory>
-    ensures { IfOk result (λ o. IfSome o (λ h. spec.Hashes early.now place q rows.now h)) }
-{
-    let keys = keys_of(alloc, early, place, q)?;
-    if keys.is_empty() {
-        return Ok(None);
-    }
-    let columns = columns_of(alloc, &keys)?;
-    match index_of(alloc, &columns, rows)? {
-        Some(index) => Ok(Some(Hashed { keys, index })),
-        None => Ok(None),
-    }
 }
 
 // The rows that are kept under a quantifier; none of a box that is evaluated anew.
@@ -170,12 +77,13 @@ fn hashed_if<'a>(
     i: usize,
     l: &Loop<'a>,
 ) -> Result<Option<Hashed<'a>>, OutOfMemory>
-    ensures { IfOk result (λ o. IfSome o (λ h. spec.Hashes at.now.early.now (i + 1) l.now.range.id (spec.rows_kept l.now.under) h)) }
+    ensures { IfOk result (λ o. IfSome o (λ h. spec.HashesAt at.now i l.now h)) }
 {
     if !wanted || i == usize::MAX {
         return Ok(None);
     }
-    hashed_by(at.run.alloc, at.early, i + 1, l.range.id, kept_rows(l))
+    let keys = keys_of(at.run.alloc, at.early, i + 1, l.range.id)?;
+    hashed_by(at.run.alloc, keys, kept_rows(l))
 }
 
 /// A select whose quantifiers all stand on kept rows: their hashes, and the rows of those that bind none.
@@ -186,85 +94,6 @@ pub(crate) struct Whole<'a> {
     pub subs: &'a [Sub<'a>],
 }
 
-/// What keys come to where other quantifiers are bound: the hash of the rows that can be equal; or an
-/// error, which tells nothing; or an equality with null, which no row passes.
-pub(crate) enum Aim {
-    Hash(u64),
-    Anywhere,
-    Nowhere,
-}
-
-// The cell of the other side of a key.
-fn other_cell<'a>(alloc: Global, x: &Gx, env: &Bindings<'a>) -> Result<Operand<'a>, OutOfMemory>
-    ensures { IfOk result (λ o. cell_held o ≡ spec.other_of (term x.now) (env_of env.now)) }
-{
-    match standing(x, env) {
-        Some(cell) => Ok(Operand::Borrowed(cell)),
-        None => Ok(Operand::Made(value(alloc, x, &[], env)?)),
-    }
-}
-
-// Whether a key asks for more than a cell of null.
-fn is_null(cell: &Cell) -> bool
-    ensures { result ≡ true → cell.now ≡ Cell.Null }
-{
-    match cell {
-        Cell::Null => true,
-        Cell::Int(_) | Cell::Text(_) | Cell::Err(_) => false,
-    }
-}
-
-// What keys come to.
-#[tactic(auto, unfolding(row_bag::specs::Hashes::hash_of))]
-fn aim_of(alloc: Global, keys: &[Key<'_>], env: &Bindings) -> Result<Aim, OutOfMemory>
-    ensures { IfOk result (λ aim. spec.Aims keys.now (env_of env.now) aim) }
-{
-    let mut hasher = FoldHasher::default();
-    for key in keys {
-        let other = other_cell(alloc, key.other, env)?;
-        let cell = other.cell();
-        if is_error(cell) {
-            return Ok(Aim::Anywhere);
-        }
-        if !key.safe && is_null(cell) {
-            return Ok(Aim::Nowhere);
-        }
-        feed(cell, &mut hasher);
-    }
-    Ok(Aim::Hash(hasher.finish()))
-}
-
-/// A way through rows, in their order, past such as an equality rejects: up to an end, and where there
-/// is an index only to the rows of this hash.
-#[derive(Clone, Copy)]
-pub(crate) struct Way<'a> {
-    pub end: usize,
-    pub index: Option<&'a KeyIndex>,
-    pub hash: u64,
-}
-
-// The first place of a way.
-fn first_of(way: &Way<'_>) -> usize
-    ensures { spec.Steps way.now.hash (spec.index_of way.now) 0 result }
-{
-    match way.index {
-        Some(index) => index.first(way.hash),
-        None => 0,
-    }
-}
-
-// The place of a way after one.
-fn next_of(way: &Way<'_>, i: usize) -> usize
-    requires within { i < way.now.end }
-    requires here { spec.IsHere way.now.hash (spec.index_of way.now) i }
-    ensures { spec.Steps way.now.hash (spec.index_of way.now) (i + 1) result }
-{
-    match way.index {
-        Some(index) => index.next(way.hash, i),
-        None => i + 1,
-    }
-}
-
 // The hashes of the quantifier at a place, if there are any.
 fn hashed_at<'a>(hashed: &'a [Option<Hashed<'a>>], i: usize) -> Option<&'a Hashed<'a>>
     ensures { IfSome result (λ h. slice_get hashed.now i ≡ Some (Some h.now)) }
@@ -272,34 +101,6 @@ fn hashed_at<'a>(hashed: &'a [Option<Hashed<'a>>], i: usize) -> Option<&'a Hashe
     match hashed.get(i) {
         Some(Some(h)) => Some(h),
         Some(None) | None => None,
-    }
-}
-
-// The way through so many rows by these hashes.
-fn way_by<'a>(
-    alloc: Global,
-    h: &'a Hashed<'a>,
-    end: usize,
-    env: &Bindings,
-) -> Result<Way<'a>, OutOfMemory>
-    ensures { IfOk result (λ way. (es : List Early) (place : ℕ) (q : ℕ) (rows : List (Row (List Cell))) → end ≡ length rows → spec.Hashes es place q rows h.now → spec.Leads es place q rows (env_of env.now) way) }
-{
-    match aim_of(alloc, &h.keys, env)? {
-        Aim::Hash(hash) => Ok(Way {
-            end,
-            index: Some(&h.index),
-            hash,
-        }),
-        Aim::Anywhere => Ok(Way {
-            end,
-            index: None,
-            hash: 0,
-        }),
-        Aim::Nowhere => Ok(Way {
-            end: 0,
-            index: None,
-            hash: 0,
-        }),
     }
 }
 
@@ -313,17 +114,10 @@ fn way_of<'a>(
     requires planned { spec.KeptPlan whole.now }
     requires within { i < length whole.now.at.now.loops.now }
     requires at { l.now ≡ get_or whole.now.at.now.loops.now i l.now }
-    ensures { IfOk result (λ way. spec.Leads whole.now.at.now.early.now (i + 1) l.now.range.id (spec.rows_kept l.now.under) (env_of env.now) way) }
+    ensures { IfOk result (λ way. spec.LeadsAt whole.now.at.now i l.now (env_of env.now) way) }
 {
     let end = kept_rows(l).len();
-    match hashed_at(whole.hashed, i) {
-        Some(h) => way_by(whole.at.run.alloc, h, end, env),
-        None => Ok(Way {
-            end,
-            index: None,
-            hash: 0,
-        }),
-    }
+    way_through(whole.at.run.alloc, hashed_at(whole.hashed, i), end, env)
 }
 
 // Adds what a select gives for each combination of rows of its F quantifiers from a place on, each

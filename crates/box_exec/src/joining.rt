@@ -1,13 +1,16 @@
-// The rows of an outer join (SQL-92, 7.5).
-ghost use Rattle.std.specs.Prelude.{◌≡◌, [], IfOk, IsOkAnd, OnOk};
+// The rows of an outer join (SQL-92, 7.5). Right rows are found by the hashes of the cells that equalities
+// among its conditions ask for.
+ghost use Rattle.std.specs.Prelude.{◌≡◌, [], All, IfOk, IfSome, IsOkAnd, OnOk};
 ghost use Rattle.box_exec.specs.Bound.{env_of};
-ghost use Rattle.box_exec.specs.Outer.{joined_rows, null_row, partner_rows};
+ghost use Rattle.box_exec.specs.Lookup.{Hashes, Leads, RejectsBy};
+ghost use Rattle.box_exec.specs.Outer.{Found, joined_rows, null_row, partner_rows, rejects_on};
 ghost use Rattle.box_exec.specs.Sources.{held};
 ghost use Rattle.row_bag.specs.Bags.{Alike};
 ghost use Rattle.row_bag.specs.Joins.{or_else};
 
 use crate::bindings::Bindings;
 use crate::heads::{add_given, head_cells};
+use crate::lookup::{Hashed, Key, Way, first_of, hashed_by, key_in, next_of, way_through};
 use crate::source::Source;
 use qgm_core::{Node, QuantId};
 use row_bag::{Bag, Row, any_there, append_kept};
@@ -24,21 +27,76 @@ pub(crate) struct Join<'a> {
     pub right: QuantId,
 }
 
-// What the box gives of a left row beside each right row.
+/// Right rows, and their hashes if there are any.
+#[derive(Clone, Copy)]
+pub(crate) struct Right<'r, 'k> {
+    pub rows: &'r [Row],
+    pub hashed: &'r Option<Hashed<'k>>,
+}
+
+// What the equalities among the conditions of an outer join ask of columns of its right quantifier.
+fn keys_on<'a>(alloc: Global, node: &'a Node, right: QuantId) -> Result<Vec<Key<'a>>, OutOfMemory>
+    ensures { IfOk result (λ made. All (λ k. RejectsBy (rejects_on node.now) right k) made.items) }
+{
+    let mut made = Vec::new(alloc);
+    for c in node.parts.conds.as_slice() {
+        if let Some(key) = key_in(c, right) {
+            made.push(key)?;
+        }
+    }
+    Ok(made)
+}
+
+// The hashes of the right rows, where several left rows look for theirs.
+fn hashed_on<'a>(
+    alloc: Global,
+    join: &Join<'a>,
+    xs: &[Row],
+    ys: &[Row],
+) -> Result<Option<Hashed<'a>>, OutOfMemory>
+    ensures { IfOk result (λ o. IfSome o (λ h. Hashes (rejects_on join.now.node.now) join.now.right ys.now h)) }
+{
+    if xs.len() < 2 {
+        return Ok(None);
+    }
+    let keys = keys_on(alloc, join.node, join.right)?;
+    hashed_by(alloc, keys, ys)
+}
+
+// The way through the right rows, where the left quantifier is bound.
+fn way_of<'r>(
+    alloc: Global,
+    join: &Join<'_>,
+    right: &Right<'r, '_>,
+    outer: &Bindings,
+) -> Result<Way<'r>, OutOfMemory>
+    requires { Found join.now right.now }
+    ensures { IfOk result (λ way. Leads (rejects_on join.now.node.now) join.now.right right.now.rows.now (env_of outer.now) way) }
+{
+    way_through(alloc, right.hashed.as_ref(), right.rows.len(), outer)
+}
+
+// What the box gives of a left row beside the right rows.
 fn partners(
     alloc: Global,
     join: &Join<'_>,
     left: &[Cell],
-    ys: &[Row],
+    right: &Right<'_, '_>,
     env: &Bindings,
 ) -> Result<Bag, OutOfMemory>
-    ensures { IfOk result (λ made. Alike made (partner_rows join.now.node.now join.now.left join.now.right left.now ys.now (env_of env.now))) }
+    requires { Found join.now right.now }
+    ensures { IfOk result (λ made. Alike made (partner_rows join.now.node.now join.now.left join.now.right left.now right.now.rows.now (env_of env.now))) }
 {
     let mut made = Bag::new(alloc);
     let outer = Bindings::Row(join.left, left, &*env);
-    for y in ys {
+    let rows = right.rows;
+    let way = way_of(alloc, join, right, &outer)?;
+    let mut i = first_of(&way);
+    while i < way.end {
+        let y = &rows[i];
         let inner = Bindings::Row(join.right, y.cells.as_slice(), &outer);
         add_given(alloc, join.node, &[], y.level, &inner, &mut made)?;
+        i = next_of(&way, i);
     }
     Ok(made)
 }
@@ -68,20 +126,40 @@ fn joined(
     alloc: Global,
     join: &Join<'_>,
     left: &[Cell],
-    ys: &[Row],
+    right: &Right<'_, '_>,
     env: &Bindings,
 ) -> Result<Bag, OutOfMemory>
-    ensures { IfOk result (λ made. Alike made (or_else (partner_rows join.now.node.now join.now.left join.now.right left.now ys.now (env_of env.now)) (null_row join.now.node.now join.now.left join.now.right left.now (env_of env.now)))) }
+    requires { Found join.now right.now }
+    ensures { IfOk result (λ made. Alike made (or_else (partner_rows join.now.node.now join.now.left join.now.right left.now right.now.rows.now (env_of env.now)) (null_row join.now.node.now join.now.left join.now.right left.now (env_of env.now)))) }
 {
-    let made = partners(alloc, join, left, ys, env)?;
+    let made = partners(alloc, join, left, right, env)?;
     if any_there(made.rows()) {
         return Ok(made);
     }
     with_nulls(alloc, join, left, env)
 }
 
-// What the box gives: each left row beside its partners, and where it has none beside nulls.
+// What the box gives of these left rows: each beside its partners, and where it has none beside nulls.
 fn each_joined(
+    alloc: Global,
+    join: &Join<'_>,
+    xs: &[Row],
+    right: &Right<'_, '_>,
+    env: &Bindings,
+) -> Result<Bag, OutOfMemory>
+    requires { Found join.now right.now }
+    ensures { IfOk result (λ made. Alike made (joined_rows join.now.node.now join.now.left join.now.right xs.now right.now.rows.now (env_of env.now))) }
+{
+    let mut made = Bag::new(alloc);
+    for x in xs {
+        let rows = joined(alloc, join, x.cells.as_slice(), right, env)?;
+        append_kept(&mut made, x.level, rows)?;
+    }
+    Ok(made)
+}
+
+// What the box gives of left and right rows.
+fn all_joined(
     alloc: Global,
     join: &Join<'_>,
     xs: &[Row],
@@ -90,12 +168,12 @@ fn each_joined(
 ) -> Result<Bag, OutOfMemory>
     ensures { IfOk result (λ made. Alike made (joined_rows join.now.node.now join.now.left join.now.right xs.now ys.now (env_of env.now))) }
 {
-    let mut made = Bag::new(alloc);
-    for x in xs {
-        let rows = joined(alloc, join, x.cells.as_slice(), ys, env)?;
-        append_kept(&mut made, x.level, rows)?;
-    }
-    Ok(made)
+    let hashed = hashed_on(alloc, join, xs, ys)?;
+    let right = Right {
+        rows: &*ys,
+        hashed: &hashed,
+    };
+    each_joined(alloc, join, xs, &right, env)
 }
 
 /// What the box gives: each left row beside its partners, and where it has none beside nulls. It fails
@@ -111,5 +189,5 @@ pub(crate) fn outer_joined(
 {
     let xs = xs?;
     let ys = ys?;
-    each_joined(alloc, join, xs.rows(), ys.rows(), env)
+    all_joined(alloc, join, xs.rows(), ys.rows(), env)
 }

@@ -14,6 +14,7 @@ mod hashed;
 mod heads;
 mod joining;
 mod laws;
+mod lookup;
 mod memo;
 mod operand;
 mod probe;

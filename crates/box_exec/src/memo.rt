@@ -14,7 +14,7 @@ use crate::bindings::Bindings;
 use crate::boxes::{evaluated, step};
 use crate::handed_on::lent;
 use crate::source::Source;
-use crate::under::{Place, Run, behind, table_rows};
+use crate::under::{BoxOver, Run, behind, table_rows};
 use qgm_core::{BoxId, BoxKind, Marks, Node, QuantId};
 use row_bag::Tables;
 use shared_types::OutOfMemory;
@@ -28,7 +28,7 @@ fn entry<'t, L: Ledger>(
     alloc: Global,
     tables: &'t Tables,
     memo: &[Option<Source<'t>>],
-    place: &Place<'_>,
+    place: &BoxOver<'_>,
     steps: &mut Steps<L>,
     count: &mut u64,
 ) -> Result<Source<'t>, OutOfMemory>
@@ -73,7 +73,7 @@ fn entry_if<'t, L: Ledger>(
     alloc: Global,
     tables: &'t Tables,
     memo: &[Option<Source<'t>>],
-    place: &Place<'_>,
+    place: &BoxOver<'_>,
     steps: &mut Steps<L>,
     count: &mut u64,
 ) -> Result<Option<Source<'t>>, OutOfMemory>
@@ -126,7 +126,7 @@ pub(crate) fn memo_of<'t, L: Ledger>(
     'boxes: while i > 0 {
         i -= 1;
         let below = behind(nodes, i);
-        let place = Place {
+        let place = BoxOver {
             node: &nodes[i],
             below,
         };

@@ -22,7 +22,7 @@ pub(crate) struct Run<'a> {
 
 /// A box, and those behind it.
 #[derive(Clone, Copy)]
-pub(crate) struct Place<'a> {
+pub(crate) struct BoxOver<'a> {
     pub node: &'a Node,
     pub below: &'a [Node],
 }

@@ -7,6 +7,7 @@ use Rattle.sql_value.specs.Truths as t
 use Rattle.row_bag.specs.Subqueries as u
 use Rattle.qgm_meaning.specs.Values as m
 use Rattle.box_exec.proofs.Steps.{all_more, any_more, chain_more, every_more, some_more, truth_anded, truth_ored, value_linked}
+use Rattle.box_exec.proofs.Quantified.{every-done, some-done}
 use Rattle.qgm_terms.proofs.Lists as listed
 use Rattle.box_exec.proofs.evaluation.+value.Goals as goal
 
@@ -29,6 +30,12 @@ every-loop-row-preserved below c =
 pub some-loop-row-preserved : goal.some-loop-row-preserved
 some-loop-row-preserved below c =
     some_more (λ cells level. t.and (u.presence level) (m.truth (held_by c.args.subs.now) (cond c.args.p.now) (m.bound c.args.q cells (env_of c.args.env.now)))) c.args.rows.now c.loop-row.row-index c.row-item.result c.loop-row.truth c.in_ok-some_row.field-0 c.or-truth.result _ c.loop-row-test.true (cc (c.row-item.is)) c.in_ok-some_row.ensures c.or-truth.ensures c.loop-row.invariant
+
+pub some-returns-then-is_wholly : goal.some-returns-then-is_wholly
+some-returns-then-is_wholly below c = some-done c.loop-row.truth _ _ (c.is_wholly.ensures c.if-is_wholly.true) c.loop-row.invariant
+
+pub every-returns-then-is_wholly : goal.every-returns-then-is_wholly
+every-returns-then-is_wholly below c = every-done c.loop-row.truth _ _ (c.is_wholly.ensures c.if-is_wholly.true) c.loop-row.invariant
 
 pub hold-returns-in_ok-first-in-All : goal.hold-returns-in_ok-first-in-All
 hold-returns-in_ok-first-in-All t c =

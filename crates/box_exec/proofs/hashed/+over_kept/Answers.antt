@@ -1,18 +1,18 @@
-use Rattle.std.proofs.Common.{ℕ, ◌≡◌, ◌≤◌, ◌<◌, ◌+◌, ◌-◌, ◌++◌, ◌∙◌, List, append-nil, ap, arith, false, get_or, length, rules, subst, sym, take, true}
+use Rattle.std.proofs.Common.{◌≡◌, ◌≤◌, ◌<◌, ◌+◌, ◌-◌, ◌++◌, ◌∙◌, List, append-nil, arith, false, length, rules, subst, sym, true}
 use Rattle.std.specs.Result.{OnOk}
-use Rattle.row_bag.specs.Bags.{Alike, bind, keep}
-use Rattle.row_bag.specs.declared.row.Row.{Row}
+use Rattle.row_bag.specs.Bags.{Alike, keep}
 use Rattle.row_bag.proofs.Agreement.{alike-same}
-use Rattle.sql_value.specs.Level.{least}
 use Rattle.sql_value.specs.declared.cell.Cell.{Cell}
 use Rattle.sql_value.specs.declared.level.Level.{Level}
 use Rattle.qgm_core.specs.Kinds.{is_F}
 use Rattle.qgm_meaning.specs.Values.{Bag, bound}
 use Rattle.box_exec.specs.Bound.{env_of}
-use Rattle.box_exec.specs.Hashed.{Leads, index_of, rows_kept}
+use Rattle.box_exec.specs.Early.{rejects}
+use Rattle.box_exec.specs.Lookup.{index_of}
 use Rattle.box_exec.specs.Plans.{family, left_at, tables_of}
-use Rattle.box_exec.proofs.Hashing.{jumped, jumped-to, kept-at, last-given, skip-none, steps-low, steps-stand}
-use Rattle.box_exec.proofs.Loops.{each-all, each-more}
+use Rattle.box_exec.proofs.Hashing.{kept-at, last-given, led}
+use Rattle.box_exec.proofs.Lookups.{ended, stepped, steps-stand}
+use Rattle.box_exec.proofs.Loops.{bind-added, each-more}
 use Rattle.box_exec.proofs.Quantifiers.{left-bound, left-over, level-none, placed}
 use Rattle.box_exec.proofs.Rejections.{none-no, nothing-added, rejects-all}
 use Rattle.box_exec.proofs.hashed.+over_kept.Goals as goal
@@ -49,13 +49,10 @@ loop-i-init t c =
     let env = env_of c.args.env.now in
     let rows = c.kept_rows-rows.result.now in
     let way = c.in_ok-way.way in
-    let f = λ (cells : List Cell). left_at at (c.args.place + 1) (bound l.range.id cells env) in
-    let leads : Leads at.early.now (c.args.place + 1) l.range.id rows env way =
-    subst (λ (rs : List (Row (List Cell))). Leads at.early.now (c.args.place + 1) l.range.id rs env way) (sym c.kept_rows-rows.ensures) c.in_ok-way.ensures in
+    let leads = led at c.args.place l rows env way c.kept_rows-rows.ensures c.in_ok-way.ensures in
     record {
-      rows = jumped-to c.args.level rows f c.args.out.now c.args.out.now 0 c.first_of-i.result (steps-low way.hash (index_of way) 0 c.first_of-i.result c.first_of-i.ensures)
-          (skip-none at c.requires.planned c.args.place l.range.id rows env way leads 0 c.first_of-i.result c.first_of-i.ensures)
-          (alike-same (sym (append-nil c.args.out.now)));
+      rows = stepped (rejects at.early.now (c.args.place + 1)) l.range.id rows env way leads (λ cells. left_at at (c.args.place + 1) (bound l.range.id cells env)) (λ cells h. rejects-all at c.requires.planned (c.args.place + 1) (bound l.range.id cells env) h)
+          c.args.level c.args.out.now c.args.out.now 0 c.first_of-i.result c.first_of-i.ensures (alike-same (sym (append-nil c.args.out.now)));
       stands = steps-stand way.hash (index_of way) 0 c.first_of-i.result c.first_of-i.ensures;
     }
 
@@ -70,8 +67,7 @@ loop-i-preserved t c =
     let r = c.index-rows-i.result in
     let new = c.over_kept-in-loop-i.new.out in
     let f = λ (cells : List Cell). left_at at (c.args.place + 1) (bound l.range.id cells env) in
-    let leads : Leads at.early.now (c.args.place + 1) l.range.id rows env way =
-    subst (λ (rs : List (Row (List Cell))). Leads at.early.now (c.args.place + 1) l.range.id rs env way) (sym c.kept_rows-rows.ensures) c.in_ok-way.ensures in
+    let leads = led at c.args.place l rows env way c.kept_rows-rows.ensures c.in_ok-way.ensures in
     let end = leads.end in
     let test = c.loop-i-test.true in
     let inside : i < length rows = omega (arith, end, test) in
@@ -80,8 +76,8 @@ loop-i-preserved t c =
     let done = each-more c.args.level rows i r f c.args.out.now c.loop-i.out new inside c.index-rows-i.is c.loop-i.invariant.rows
     (subst (λ (x : Level). Alike new (c.loop-i.out ++ keep x (f r.cells))) c.least-level.ensures added) in
     record {
-      rows = jumped-to c.args.level rows f c.args.out.now new (i + 1) c.next_of-i.result (steps-low way.hash (index_of way) (i + 1) c.next_of-i.result c.next_of-i.ensures)
-          (skip-none at c.requires.planned c.args.place l.range.id rows env way leads (i + 1) c.next_of-i.result c.next_of-i.ensures) done;
+      rows = stepped (rejects at.early.now (c.args.place + 1)) l.range.id rows env way leads f (λ cells h. rejects-all at c.requires.planned (c.args.place + 1) (bound l.range.id cells env) h)
+          c.args.level c.args.out.now new (i + 1) c.next_of-i.result c.next_of-i.ensures done;
       stands = steps-stand way.hash (index_of way) (i + 1) c.next_of-i.result c.next_of-i.ensures;
     }
 
@@ -93,15 +89,13 @@ returns t c =
     let place = c.args.place in
     let rows = c.kept_rows-rows.result.now in
     let way = c.in_ok-way.way in
-    let i = c.loop-i.i in
     let f = λ (cells : List Cell). left_at at (place + 1) (bound l.range.id cells env) in
-    let leads : Leads at.early.now (place + 1) l.range.id rows env way =
-    subst (λ (rs : List (Row (List Cell))). Leads at.early.now (place + 1) l.range.id rs env way) (sym c.kept_rows-rows.ensures) c.in_ok-way.ensures in
-    let over = c.loop-i-test.false in
-    let d = length rows - i in
+    let leads = led at place l rows env way c.kept_rows-rows.ensures c.in_ok-way.ensures in
+    let over : way.end ≤ c.loop-i.i = search rules in
     let bound_to : is_F l.range.kind ≡ true = search rules in
     let here = placed at c.requires.planned place l c.in-Some.ensures.lookup.3.0 c.in-Some.ensures.lookup.1 in
-    each-all c.args.level rows (family at l.range.over env) (i + d) f c.args.out.now c.loop-i.out (left_at at place env) (omega arith)
-    (subst (λ (b : Bag). Alike b (family at l.range.over env)) (sym c.kept_rows-rows.ensures) (kept-at at c.requires.planned c.requires.kept place l c.in-Some.ensures.lookup.3.0 c.in-Some.ensures.lookup.1 env))
-    (left-bound (tables_of at) at.node.now at.below.now place l.range env here.0 bound_to here.1)
-    (jumped c.args.level rows f c.args.out.now c.loop-i.out i d (λ k r low up within is. rejects-all at c.requires.planned (place + 1) (bound l.range.id r.cells env) (leads.past k (omega (arith, over, low)) r within is)) c.loop-i.invariant.rows)
+    let all = ended (rejects at.early.now (place + 1)) l.range.id rows env way leads f (λ cells h. rejects-all at c.requires.planned (place + 1) (bound l.range.id cells env) h)
+    c.args.level c.args.out.now c.loop-i.out c.loop-i.i over c.loop-i.invariant.rows in
+    subst (λ (b : Bag). Alike c.loop-i.out (c.args.out.now ++ keep c.args.level b)) (sym (left-bound (tables_of at) at.node.now at.below.now place l.range env here.0 bound_to here.1))
+    (bind-added c.args.level f rows (family at l.range.over env) c.args.out.now c.loop-i.out
+    (subst (λ (b : Bag). Alike b (family at l.range.over env)) (sym c.kept_rows-rows.ensures) (kept-at at c.requires.planned c.requires.kept place l c.in-Some.ensures.lookup.3.0 c.in-Some.ensures.lookup.1 env)) all)

@@ -2,7 +2,7 @@ use Rattle.std.proofs.Common.{◌+◌, ◌-◌, ◌++◌, take, length}
 use Rattle.row_bag.specs.Bags.{Alike, bind, keep}
 use Rattle.qgm_meaning.specs.Values.{bound}
 use Rattle.box_exec.specs.Bound.{env_of}
-use Rattle.box_exec.specs.Hashed.{Stands, index_of}
+use Rattle.box_exec.specs.Lookup.{Stands, index_of}
 use Rattle.box_exec.specs.Plans.{left_at}
 use Rattle.box_exec.proofs.hashed.+over_kept.Given as goal
 

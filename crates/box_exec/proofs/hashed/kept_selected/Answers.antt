@@ -4,7 +4,7 @@ use Rattle.box_exec.specs.Bound.{env_of}
 use Rattle.box_exec.specs.Hashed.{AllHashed}
 use Rattle.box_exec.specs.Plans.{family, left_at, ranges}
 use Rattle.box_exec.specs.Ready.{SubsOf, isnt_F}
-use Rattle.box_exec.specs.declared.hashed.Hashed.{Hashed}
+use Rattle.box_exec.specs.declared.lookup.Hashed.{Hashed}
 use Rattle.box_exec.specs.declared.source.Sub.{Sub}
 use Rattle.box_exec.proofs.Loops.{rows-once}
 use Rattle.box_exec.proofs.Parts.{of_part}

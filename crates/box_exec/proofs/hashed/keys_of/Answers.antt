@@ -1,6 +1,7 @@
 use Rattle.std.proofs.Common.{◌≡◌, All, rules, subst}
-use Rattle.box_exec.specs.Hashed.{RejectsBy}
-use Rattle.box_exec.specs.declared.hashed.Key.{Key}
+use Rattle.box_exec.specs.Early.{rejects}
+use Rattle.box_exec.specs.Lookup.{RejectsBy}
+use Rattle.box_exec.specs.declared.lookup.Key.{Key}
 use Rattle.box_exec.proofs.Hashing.{key-rejects}
 use Rattle.box_exec.proofs.Rejections.{all-more}
 use Rattle.box_exec.proofs.hashed.keys_of.Goals.{then-e-place+in-Some+in_ok-push, then-e-place+in_default, else-e-place}
@@ -8,7 +9,7 @@ use Rattle.box_exec.proofs.hashed.keys_of.Goals as goal
 
 pub loop-e-preserved : goal.loop-e-preserved
 loop-e-preserved c =
-    let P = λ (k : Key). RejectsBy c.args.early.now c.args.place c.args.q k in
+    let P = λ (k : Key). RejectsBy (rejects c.args.early.now c.args.place) c.args.q k in
     elim c.if-e-place.branch [
       | then-e-place+in-Some+in_ok-push w ↦
           let here : c.e-item.result.place ≡ c.args.place = search rules in

@@ -1,6 +1,6 @@
 use Rattle.std.proofs.Common.{◌≡◌, ◌∙◌, sym, false, rules}
-use Rattle.box_exec.proofs.Hashing.{in-at}
-use Rattle.box_exec.proofs.hashed.aim_of.Goals as goal
+use Rattle.box_exec.proofs.Lookups.{in-at}
+use Rattle.box_exec.proofs.lookup.aim_of.Goals as goal
 
 pub returns-then-is_null : goal.returns-then-is_null
 returns-then-is_null c =

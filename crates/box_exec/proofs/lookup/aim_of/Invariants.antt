@@ -4,8 +4,8 @@ use Rattle.std.specs.List.{list_any}
 use Rattle.row_bag.specs.Hashes.{fed_with}
 use Rattle.row_index.specs.Keys.{is_error}
 use Rattle.box_exec.specs.Bound.{env_of}
-use Rattle.box_exec.specs.Hashed.{others}
-use Rattle.box_exec.proofs.hashed.aim_of.Given as goal
+use Rattle.box_exec.specs.Lookup.{others}
+use Rattle.box_exec.proofs.lookup.aim_of.Given as goal
 
 abbrev pub invariant-loop-key : goal.invariant-loop-key
 invariant-loop-key l = record {

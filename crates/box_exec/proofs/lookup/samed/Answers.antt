@@ -5,8 +5,8 @@ use Rattle.qgm_terms.specs.Shown.{term}
 use Rattle.qgm_terms.specs.declared.tree.Gx.{Gx}
 use Rattle.qgm_terms.specs.declared.tree.Sign.TheVariants.{Same}
 use Rattle.box_exec.specs.Probes.{AreSides}
-use Rattle.box_exec.proofs.Hashing.{sames-first, sames-second}
-use Rattle.box_exec.proofs.hashed.samed.Goals as goal
+use Rattle.box_exec.proofs.Lookups.{sames-first, sames-second}
+use Rattle.box_exec.proofs.lookup.samed.Goals as goal
 
 pub returns-in-None : goal.returns-in-None
 returns-in-None c =

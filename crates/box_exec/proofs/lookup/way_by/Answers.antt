@@ -1,22 +1,22 @@
-use Rattle.std.proofs.Common.{◌≡◌, List, refl, subst}
+use Rattle.std.proofs.Common.{List, refl, subst}
 use Rattle.box_exec.specs.Bound.{env_of}
-use Rattle.box_exec.specs.Hashed.{Aims}
-use Rattle.box_exec.specs.declared.hashed.Aim.{Aim}
-use Rattle.box_exec.specs.declared.hashed.Aim.TheVariants.{Hash, Nowhere}
-use Rattle.box_exec.specs.declared.hashed.Key.{Key}
-use Rattle.box_exec.proofs.Hashing.{leads-hash, leads-none}
-use Rattle.box_exec.proofs.hashed.way_by.Goals as goal
+use Rattle.box_exec.specs.Lookup.{Aims}
+use Rattle.box_exec.specs.declared.lookup.Aim.{Aim}
+use Rattle.box_exec.specs.declared.lookup.Aim.TheVariants.{Hash, Nowhere}
+use Rattle.box_exec.specs.declared.lookup.Key.{Key}
+use Rattle.box_exec.proofs.Lookups.{leads-hash, leads-none}
+use Rattle.box_exec.proofs.lookup.way_by.Goals as goal
 
 pub returns-in-Hash : goal.returns-in-Hash
-returns-in-Hash c = λ es place q rows e is.
+returns-in-Hash c = λ test q rows e is.
     let env = env_of c.args.env.now in
     let aims : Aims c.args.h.now.keys.items env (Hash c.in-Hash.hash) =
     subst (λ (ks : List Key). Aims ks env (Hash c.in-Hash.hash)) c.deref.ensures.value (subst (λ (a : Aim). Aims c.deref.result.now env a) c.in-Hash.is c.in_ok-hash.ensures) in
-    leads-hash es place q rows env c.args.h.now is _ e refl aims
+    leads-hash test q rows env c.args.h.now is _ e refl aims
 
 pub returns-in-Nowhere : goal.returns-in-Nowhere
-returns-in-Nowhere c = λ es place q rows e is.
+returns-in-Nowhere c = λ test q rows e is.
     let env = env_of c.args.env.now in
     let aims : Aims c.args.h.now.keys.items env Nowhere =
     subst (λ (ks : List Key). Aims ks env Nowhere) c.deref.ensures.value (subst (λ (a : Aim). Aims c.deref.result.now env a) c.in-Nowhere.is c.in_ok-hash.ensures) in
-    leads-none es place q rows env c.args.h.now is _ refl refl aims
+    leads-none test q rows env c.args.h.now is _ refl refl aims

@@ -1,0 +1,10 @@
+use Rattle.std.proofs.lemmas.Result.{IfOk-weaker}
+use Rattle.box_exec.specs.Lookup.{Hashes}
+use Rattle.box_exec.proofs.Lookups.{some-is}
+use Rattle.box_exec.proofs.lookup.way_through.Goals as goal
+
+pub returns-in-Some : goal.returns-in-Some
+returns-in-Some c =
+    IfOk-weaker c.way_by.result _ _
+    (λ way f. λ test q rows e is. f test q rows e (some-is (λ h. Hashes test q rows h.now) c.args.hashed c.in-Some.h c.in-Some.is is))
+    c.way_by.ensures
