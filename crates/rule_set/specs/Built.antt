@@ -18,6 +18,9 @@ use Rattle.rule_merge.specs.DropCopy.{DropsCopy, MayDropCopy, drop_copy_pairs}
 use Rattle.rule_merge.specs.DropCopyExact.{drop_copy_exact}
 use Rattle.rule_merge.specs.MergeSelect.{MayMergeSelect, MergesSelect, merge_select_pairs}
 use Rattle.rule_merge.specs.MergeSelectExact.{merge_select_exact}
+use Rattle.rule_trans.specs.EqualColumns.{AddsEqualColumns, MayEqualColumns}
+use Rattle.rule_trans.specs.EqualColumnsExact.{equal_columns_exact}
+use Rattle.rule_trans.specs.EqualColumnsPlaces.{equal_columns_pairs}
 
 -- a rule: its places at a box, its condition, its action, and that it has exactly the places where its condition holds
 pub record BuiltRule : Type 1 where
@@ -41,6 +44,9 @@ permit_distinct = record { pairs = permit_distinct_pairs; may = MayPermitDistinc
 abbrev pub drop_union_distinct : BuiltRule
 drop_union_distinct = record { pairs = drop_union_distinct_pairs; may = MayDropUnionDistinct; act = DropsDistinct; exact = drop_union_distinct_exact }
 
+abbrev pub equal_columns : BuiltRule
+equal_columns = record { pairs = equal_columns_pairs; may = MayEqualColumns; act = AddsEqualColumns; exact = equal_columns_exact }
+
 abbrev pub not_built : BuiltRule
 not_built = record { pairs = λ g b. []; may = λ p g. ⊥; act = λ p g h. ⊥; exact = λ g b i j once w. ((λ h. h), λ h. h) }
 
@@ -58,7 +64,7 @@ built P1 = not_built
 built P2 = not_built
 built P3 = not_built
 built P4 = not_built
-built J1 = not_built
+built J1 = equal_columns
 built J2 = not_built
 built N1 = not_built
 built N2 = not_built

@@ -10,10 +10,11 @@ use rule_distinct::{DropKeyDistinct, DropUnionDistinct, PermitDistinct};
 use rule_engine::{Rules, Trace, rewrite};
 use rule_merge::{DropCopy, MergeSelect};
 use rule_plan::Plan;
+use rule_trans::EqualColumns;
 use shared_types::OutOfMemory;
 use std::alloc::Global;
 
-/// The rules that are built: M1, M2 and L1 to L3.
+/// The rules that are built: M1, M2, L1 to L3 and J1.
 #[derive(Clone, Copy)]
 pub struct BuiltRules;
 
@@ -39,6 +40,7 @@ impl Rules for BuiltRules {
             RuleId::L1 => DropKeyDistinct.places(alloc, graph, b),
             RuleId::L2 => PermitDistinct.places(alloc, graph, b),
             RuleId::L3 => DropUnionDistinct.places(alloc, graph, b),
+            RuleId::J1 => EqualColumns.places(alloc, graph, b),
             RuleId::U1
             | RuleId::U2
             | RuleId::U3
@@ -47,7 +49,6 @@ impl Rules for BuiltRules {
             | RuleId::P2
             | RuleId::P3
             | RuleId::P4
-            | RuleId::J1
             | RuleId::J2
             | RuleId::N1
             | RuleId::N2
@@ -72,6 +73,7 @@ impl Rules for BuiltRules {
             RuleId::L1 => DropKeyDistinct.apply(alloc, graph, place),
             RuleId::L2 => PermitDistinct.apply(alloc, graph, place),
             RuleId::L3 => DropUnionDistinct.apply(alloc, graph, place),
+            RuleId::J1 => EqualColumns.apply(alloc, graph, place),
             RuleId::U1
             | RuleId::U2
             | RuleId::U3
@@ -80,7 +82,6 @@ impl Rules for BuiltRules {
             | RuleId::P2
             | RuleId::P3
             | RuleId::P4
-            | RuleId::J1
             | RuleId::J2
             | RuleId::N1
             | RuleId::N2
