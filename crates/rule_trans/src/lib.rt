@@ -1,5 +1,5 @@
 //! The rules that add an equality which follows from two others (Pirahesh, Hellerstein and Hasan 1992,
-//! 3). J1 has code, which `rule_set` doesn't name yet; J2 is a law.
+//! 3). J1 has code; J2 is a law.
 #![tactic(auto)]
 
 mod adding;
