@@ -34,6 +34,9 @@ use Rattle.rule_subquery.specs.ScalarToJoin.{JoinsScalar, MayScalarToJoin, scala
 use Rattle.rule_subquery.specs.ScalarToJoinExact.{scalar_to_join_exact}
 use Rattle.rule_subquery.specs.SetToExists.{MaySetToExists, SelectsSet, set_to_exists_pairs}
 use Rattle.rule_subquery.specs.SetToExistsExact.{set_to_exists_exact}
+use Rattle.rule_trans.specs.EqualColumns.{AddsEqualColumns, MayEqualColumns}
+use Rattle.rule_trans.specs.EqualColumnsExact.{equal_columns_exact}
+use Rattle.rule_trans.specs.EqualColumnsPlaces.{equal_columns_pairs}
 
 -- a rule: its places at a box, its condition, its action, and that it has exactly the places where its condition holds
 pub record BuiltRule : Type 1 where
@@ -81,6 +84,9 @@ push_into_arms = record { pairs = push_into_arms_pairs; may = MayPushIntoArms; a
 abbrev pub push_into_left : BuiltRule
 push_into_left = record { pairs = push_into_left_pairs; may = MayPushIntoLeft; act = ActsPushIntoLeft; exact = push_into_left_exact }
 
+abbrev pub equal_columns : BuiltRule
+equal_columns = record { pairs = equal_columns_pairs; may = MayEqualColumns; act = AddsEqualColumns; exact = equal_columns_exact }
+
 abbrev pub not_built : BuiltRule
 not_built = record { pairs = λ g b. []; may = λ p g. ⊥; act = λ p g h. ⊥; exact = λ g b i j once w. ((λ h. h), λ h. h) }
 
@@ -98,7 +104,7 @@ built P1 = push_into_select
 built P2 = push_through_group
 built P3 = push_into_arms
 built P4 = push_into_left
-built J1 = not_built
+built J1 = equal_columns
 built J2 = not_built
 built N1 = not_built
 built N2 = not_built

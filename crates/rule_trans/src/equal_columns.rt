@@ -18,7 +18,7 @@ use crate::adding::{AddPlan, add, plan_add};
 use crate::equalities::{Equality, equated, has_two, is_same, is_there};
 use crate::known::infers_free;
 use qgm_core::{BoxId, BoxKind, Column, Gc, Graph, Gx, Node, OwnedQuant, QuantId};
-use qgm_props::{Props, props};
+use qgm_props::{Inference, Props, props};
 use qgm_terms::Sign;
 use rule_api::{Place, Rule, RuleId, add_if};
 use rule_facts::box_at;
@@ -233,7 +233,13 @@ impl Rule for EqualColumns {
     }
 
     #[tactic(auto, unfolding(crate::specs::EqualColumnsPlaces::equal_columns_pairs))]
-    fn places(&self, alloc: Global, graph: &Graph, b: BoxId) -> Result<Vec<Place>, OutOfMemory> {
+    fn places(
+        &self,
+        alloc: Global,
+        graph: &Graph,
+        known: &mut Inference,
+        b: BoxId,
+    ) -> Result<Vec<Place>, OutOfMemory> {
         let mut out = Vec::new(alloc);
         graph.each_number_once();
         let Some(node) = box_at(graph.nodes(), b) else {
@@ -242,8 +248,9 @@ impl Rule for EqualColumns {
         if !may_have(node) {
             return Ok(out);
         }
-        let known = props(alloc, graph)?;
-        add_grid(graph, &known, node, b, &mut out)?;
+        let facts = known.take(alloc, graph)?;
+        add_grid(graph, &facts, node, b, &mut out)?;
+        known.put(facts);
         Ok(out)
     }
 
