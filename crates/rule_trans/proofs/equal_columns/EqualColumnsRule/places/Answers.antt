@@ -10,8 +10,8 @@ returns-then-not-may_have-clause-list c = grind (arith, common_steps, none_found
 pub returns-then-not-may_have-clause-order : goal.returns-then-not-may_have-clause-order
 returns-then-not-may_have-clause-order c = equal_columns_ascending c.args.graph.now c.args.b
 
-pub returns-in_err-known-clause-order : goal.returns-in_err-known-clause-order
-returns-in_err-known-clause-order c = equal_columns_ascending c.args.graph.now c.args.b
+pub returns-in_err-facts-clause-order : goal.returns-in_err-facts-clause-order
+returns-in_err-facts-clause-order c = equal_columns_ascending c.args.graph.now c.args.b
 
 pub returns-in_err-add_grid-clause-order : goal.returns-in_err-add_grid-clause-order
 returns-in_err-add_grid-clause-order c = equal_columns_ascending c.args.graph.now c.args.b
