@@ -19,4 +19,3 @@ column_ored q p (r ∷ ps) = column_ored q (or p r) ps
 pub column_armed : (q : ℕ) (cs : List Choice) → as_column_arms q (armed cs) ≡ armed (column_choices q cs)
 column_armed q [] = refl
 column_armed q (c ∷ cs) = ap (arm (as_column_cond q c.when) (as_column q c.then)) (column_armed q cs)
-

@@ -8,9 +8,9 @@ ghost use Rattle.rule_subquery.specs.ScalarToJoinSteps.{ScalarPlansAt};
 mod action;
 mod condition;
 
+use crate::parts::{facts_of, quant_at};
 use crate::scalar_to_join::action::{ScalarPlan, join, plan};
 use crate::scalar_to_join::condition::{may_have, may_join};
-use crate::parts::{facts_of, quant_at};
 use qgm_core::{BoxId, Graph};
 use rule_api::{Place, Rule, RuleId, add_if};
 use rule_facts::box_at;

@@ -50,10 +50,7 @@ fn is_joinable(node: &Node, r: OwnedQuant) -> bool
 pub fn any_joinable(node: &Node) -> bool
     ensures { result ≡ spec.any_joinable node.now }
 {
-    node.quants
-        .as_slice()
-        .iter()
-        .any(|r| is_joinable(node, *r))
+    node.quants.as_slice().iter().any(|r| is_joinable(node, *r))
 }
 
 // Whether rows don't count, since each is given once or may be given more often.
@@ -61,17 +58,11 @@ fn is_set(k: &Known, node: &Node) -> bool
     requires { IsKnown k.now }
     ensures { result ≡ spec.is_set k.now.graph.now.boxes node.now }
 {
-    node.parts.distinct.is_enforce()
-        || (node.parts.distinct.is_permit() && is_clean(k, node.id))
+    node.parts.distinct.is_enforce() || (node.parts.distinct.is_permit() && is_clean(k, node.id))
 }
 
 // Whether repeated rows do no harm at the box, can't come, or are told by a key.
-fn exists_fits(
-    alloc: Global,
-    k: &Known,
-    node: &Node,
-    r: OwnedQuant,
-) -> Result<bool, OutOfMemory>
+fn exists_fits(alloc: Global, k: &Known, node: &Node, r: OwnedQuant) -> Result<bool, OutOfMemory>
     requires { IsKnown k.now }
     ensures { IfOk result (λ fits. fits ≡ spec.exists_fits k.now.graph.now.boxes node.now r) }
 {
@@ -82,12 +73,7 @@ fn exists_fits(
 }
 
 /// Whether U1 may fire at a quantifier of a box.
-pub fn may_join(
-    alloc: Global,
-    k: &Known,
-    node: &Node,
-    r: OwnedQuant,
-) -> Result<bool, OutOfMemory>
+pub fn may_join(alloc: Global, k: &Known, node: &Node, r: OwnedQuant) -> Result<bool, OutOfMemory>
     requires { IsKnown k.now }
     ensures { IfOk result (λ passes. passes ≡ spec.may_exists_to_join k.now.graph.now.boxes node.now r) }
 {

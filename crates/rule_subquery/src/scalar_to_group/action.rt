@@ -6,7 +6,8 @@ ghost use Rattle.rule_subquery.specs.ScalarToGroupLaws.{single_head};
 ghost use Rattle.rule_subquery.specs.ScalarToGroupSteps as spec;
 
 use qgm_core::{
-    BoxId, BoxKind, BoxParts, Conds, Distinct, Graph, Gx, Head, OwnedQuant, QuantId, QuantKind, Role,
+    BoxId, BoxKind, BoxParts, Conds, Distinct, Graph, Gx, Head, OwnedQuant, QuantId, QuantKind,
+    Role,
 };
 use qgm_terms::{Aggregate, Taken};
 use shared_types::OutOfMemory;
@@ -37,12 +38,7 @@ fn single(alloc: Global, q: QuantId) -> Result<Head, OutOfMemory>
 
 // The group ranges over the box of r and gets its cell, and r ranges over it. Where there is no memory it
 // fails, and but for the group the graph is as before.
-fn fill(
-    alloc: Global,
-    graph: &mut Graph,
-    group: BoxId,
-    r: OwnedQuant,
-) -> Result<(), OutOfMemory>
+fn fill(alloc: Global, graph: &mut Graph, group: BoxId, r: OwnedQuant) -> Result<(), OutOfMemory>
     requires { spec.CanFill graph.old group r }
     ensures ok { OnOk result (spec.Fills graph.old graph.new group r) }
     ensures err { OnErr result (drop_box group graph.new ≡ drop_box group graph.old) }
@@ -60,12 +56,7 @@ fn fill(
 }
 
 /// Does U2 at quantifier r of box b. Where there is no memory it fails, and the graph is as before.
-pub fn group(
-    alloc: Global,
-    graph: &mut Graph,
-    b: BoxId,
-    r: OwnedQuant,
-) -> Result<(), OutOfMemory>
+pub fn group(alloc: Global, graph: &mut Graph, b: BoxId, r: OwnedQuant) -> Result<(), OutOfMemory>
     requires { spec.CanGroup graph.old b r }
     ensures ok { OnOk result (spec.Groups graph.old graph.new b r) }
     ensures err { OnErr result (graph.new ≡ graph.old) }

@@ -3,7 +3,9 @@ ghost use Rattle.std.specs.Prelude.{◌≡◌};
 ghost use Rattle.rule_subquery.specs.Knowing.{IsKnown};
 ghost use Rattle.rule_subquery.specs.ScalarToGroup as spec;
 
-use crate::parts::{Known, any_scalar, has_at_most_one, has_exactly_one, is_error_free, is_plain_select};
+use crate::parts::{
+    Known, any_scalar, has_at_most_one, has_exactly_one, is_error_free, is_plain_select,
+};
 use qgm_core::{BoxId, Graph, Node, OwnedQuant};
 
 /// At how many boxes the rule has places no more: each firing adds one.

@@ -21,4 +21,4 @@ pub returns : goal.returns
 returns c =
     let found : first (is_box c.args.place.at) c.args.graph.now.boxes ≡ Some c.in-Some.b.now = sym (c.in-Some.ensures ∙ ap (first (is_box c.args.place.at)) c.nodes.ensures) in
     IfOk-weaker c.plan.result _ _ (λ x e. λ b us r vs xs d ys t may.
-        e ∙ planned c.args.place c.args.graph.now c.in-Some.b.now found c.quant_at-r.result c.quant_at-r.ensures b us r vs xs d ys t may) c.plan.ensures
+    e ∙ planned c.args.place c.args.graph.now c.in-Some.b.now found c.quant_at-r.result c.quant_at-r.ensures b us r vs xs d ys t may) c.plan.ensures

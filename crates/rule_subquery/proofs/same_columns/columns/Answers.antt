@@ -7,6 +7,6 @@ pub loop-k-preserved : goal.loop-k-preserved
 loop-k-preserved c = (
   omega (arith, c.loop-k-test.true),
   ap (λ z. z ++ columns_from c.args.q (c.loop-k.k + 1 + 1) (c.args.w - (c.loop-k.k + 1))) c.in_ok-push.ensures.ok
-  ∙ columns-step c.loop-k.head c.args.q c.loop-k.k c.args.w c.loop-k-test.true
-  ∙ c.loop-k.invariant.1,
+      ∙ columns-step c.loop-k.head c.args.q c.loop-k.k c.args.w c.loop-k-test.true
+      ∙ c.loop-k.invariant.1,
 )

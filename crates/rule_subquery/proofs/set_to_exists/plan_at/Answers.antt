@@ -1,4 +1,4 @@
-use Rattle.std.proofs.Common.{◌≡◌, ◌∷◌, [], ◌∙◌, List, Some, length, slice_index_or, sym, ap, arith}
+use Rattle.std.proofs.Common.{◌≡◌, ◌∙◌, List, Some, length, slice_index_or, sym, ap, arith}
 use Rattle.std.proofs.lemmas.Grind.{common_steps}
 use Rattle.std.proofs.lemmas.Result.{IfOk-weaker}
 use Rattle.qgm_core.specs.Boxes.{is_box}
@@ -35,6 +35,6 @@ returns c =
     let xs : List OwnedQuant = c.as_slice.result.now in
     let found : first (is_box c.args.place.at) c.args.graph.now.boxes ≡ Some c.in-Some.b.now = sym (c.in-Some.ensures ∙ ap (first (is_box c.args.place.at)) c.nodes.ensures) in
     IfOk-weaker c.plan.result _ _ (λ m e. λ b form types l r may.
-        e ∙ ap (λ w. set_plan c.in-Some.b.now c.in-SetOp.form w (slice_index_or xs 0 none) (slice_index_or xs 1 none)) c.len.ensures
-        ∙ planned c.args.place c.args.graph.now b form types l r may c.in-Some.b.now found c.in-SetOp.form c.in-SetOp.types c.in-SetOp.is (slice_index_or xs 0 none) (slice_index_or xs 1 none)
-        (sym c.as_slice.ensures ∙ two-are xs none none c.in-len2.len_at_least c.in-len2.len_below)) c.plan.ensures
+    e ∙ ap (λ w. set_plan c.in-Some.b.now c.in-SetOp.form w (slice_index_or xs 0 none) (slice_index_or xs 1 none)) c.len.ensures
+    ∙ planned c.args.place c.args.graph.now b form types l r may c.in-Some.b.now found c.in-SetOp.form c.in-SetOp.types c.in-SetOp.is (slice_index_or xs 0 none) (slice_index_or xs 1 none)
+    (sym c.as_slice.ensures ∙ two-are xs none none c.in-len2.len_at_least c.in-len2.len_below)) c.plan.ensures

@@ -13,7 +13,7 @@ pub returns-then-is_err-clause-err : goal.returns-then-is_err-clause-err
 returns-then-is_err-clause-err c =
     let n : c.new.result ≡ no_conds = ap₂ (λ items spare. record { items = items; spare = spare }) c.new.ensures.items c.new.ensures.spare in
     let f : c.put_terms.new.self ≡ filled c.args.group c.in_ok-q.q c.args.r.over c.args.graph.now =
-        c.put_terms.ensures.graph ∙ ap₂ (λ k h. put_terms c.args.group k h c.add_quant.new.self) n c.in_ok-head.ensures ∙ ap (put_terms c.args.group no_conds (single_head c.in_ok-q.q)) c.in_ok-q.ensures.ok in
+    c.put_terms.ensures.graph ∙ ap₂ (λ k h. put_terms c.args.group k h c.add_quant.new.self) n c.in_ok-head.ensures ∙ ap (put_terms c.args.group no_conds (single_head c.in_ok-q.q)) c.in_ok-q.ensures.ok in
     let same : c.compact.new.self ≡ c.redirect.new.self = grind (arith, common_steps) in
     ap (drop_box c.args.group) (
     c.redirect-then-is_err.ensures.graph ∙ ap (redirect c.args.r.id c.args.r.over) (same ∙ c.redirect.ensures.graph ∙ ap (redirect c.args.r.id c.args.group) f) ∙ c.requires.undone c.in_ok-q.q c.in_ok-q.ensures.fresh)
