@@ -1,6 +1,5 @@
 -- U1: what is found at a place, and what its steps do.
-use Rattle.std.proofs.Common.{ℕ, ◌==◌, ◌≡◌, ◌≤◌, ◌-◌, ◌&&◌, not, cond, Bool, true, false, List, [], ◌∷◌, ◌++◌, length, None, Some, slice_get, refl, sym, ap, ap₂, subst, ◌∙◌, eqb-true, inl, inr}
-use Rattle.std.specs.List.{list_any}
+use Rattle.std.proofs.Common.{ℕ, ◌==◌, ◌≡◌, ◌≤◌, ◌-◌, cond, Bool, true, false, List, [], ◌∷◌, ◌++◌, length, None, Some, slice_get, refl, sym, ap, ap₂, subst, ◌∙◌, eqb-true, inl, inr}
 use Rattle.std.proofs.lemmas.Bool.{and_parts, cases_Bool}
 use Rattle.qgm_terms.specs.Conjuncts.{Conjuncts}
 use Rattle.qgm_terms.specs.Terms.{Cond}

@@ -5,7 +5,6 @@ use Rattle.qgm_core.specs.Boxes.{HasBox, HasQuant, QueryGraph, is_box, is_quant,
 use Rattle.list_laws.specs.Lists.{EachOnce, In, first, holds}
 use Rattle.qgm_core.specs.Edits.{keep}
 use Rattle.qgm_core.specs.Free.{reached}
-use Rattle.qgm_core.specs.declared.kinds.BoxKind.{BoxKind}
 use Rattle.qgm_core.specs.declared.kinds.BoxKind.TheVariants.{Select, SetOp}
 use Rattle.qgm_core.specs.declared.kinds.Distinct.TheVariants.{Enforce}
 use Rattle.qgm_core.specs.declared.kinds.SetOperator.{SetOperator}

@@ -1,5 +1,5 @@
 -- The steps of U2's action.
-use Rattle.std.specs.Prelude.{ℕ, ◌≡◌, [], ◌∷◌, List, Some}
+use Rattle.std.specs.Prelude.{ℕ, ◌≡◌, [], Some}
 use Rattle.qgm_terms.specs.Conjuncts.{Conjuncts}
 use Rattle.qgm_core.specs.Boxes.{HasBox, HasQuant, QueryGraph, bare_box, box_of}
 use Rattle.qgm_core.specs.Edits.{compact, put_terms, range, redirect, with_box, with_quant}

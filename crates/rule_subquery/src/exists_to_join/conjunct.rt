@@ -35,6 +35,7 @@ pub fn inner_of(x: &Gc, q: QuantId) -> Option<&Gc>
     }
 }
 
+// c, where it is wanted.
 fn inner_if(wanted: bool, c: &Gc) -> Option<&Gc>
     ensures { option_map (λ c. cond c.now) result ≡ spec.some_if wanted (cond c.now) }
 {

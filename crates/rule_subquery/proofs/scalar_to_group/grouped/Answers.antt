@@ -1,5 +1,3 @@
-use Rattle.std.proofs.Common.{sym, arith}
-use Rattle.std.proofs.lemmas.Grind.{common_steps}
 use Rattle.std.proofs.lemmas.Result.{on_ok_weaker}
 use Rattle.rule_subquery.proofs.ScalarToGroupActs.{acts, box-there, can-there, first-there, preserves, within-there}
 use Rattle.rule_subquery.proofs.scalar_to_group.grouped.Goals as goal
