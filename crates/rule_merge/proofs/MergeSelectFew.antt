@@ -1,5 +1,5 @@
 -- How many nodes are copied, cell by cell.
-use Rattle.std.proofs.Common.{◌≡◌, ℕ, zero, suc, ◌<◌, ◌≤◌, ◌+◌, ◌-◌, ◌*◌, Some, List, [], ◌∷◌, drop, sym, ◌∙◌, ap, subst, arith}
+use Rattle.std.proofs.Common.{◌≡◌, ℕ, zero, suc, ◌<◌, ◌≤◌, ◌+◌, ◌-◌, ◌*◌, Some, List, [], ◌∷◌, drop, ◌∙◌, ap, arith}
 use Rattle.std.specs.Prelude.{◌↔◌, slice_get}
 use Rattle.list_laws.specs.Lists.{times}
 use Rattle.qgm_term_size.specs.Size.{cell_size}

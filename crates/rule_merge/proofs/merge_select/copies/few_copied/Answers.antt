@@ -33,6 +33,7 @@ returns-in-None c =
     let z : k + 1 - 1 ≡ k = omega arith in
     let e : slice_get xs k ≡ Some x = subst (λ j. slice_get xs j ≡ Some x) z c.at.ensures in
     let n : c.saturating_sub-copies.result ≡ times (k + 1) ks - 1 = grind (arith, c.saturating_sub-copies.ensures, c.times.ensures) in
-    let s : c.loop-k.left < cell_size x * (times (k + 1) ks - 1) = subst (λ j. c.loop-k.left < cell_size x * j) n c.in-None.ensures.none in
-    (λ h. absurd (let q : ⊥ = cc in q),
-     λ h. absurd (none-decides (cell_size x * (times (k + 1) ks - 1)) (copied ks (k + 1) (drop k xs)) (copied ks (k + 1 + 1) (drop (k + 1) xs)) c.loop-k.left (copied-more ks (k + 1) k xs x e) s c.loop-k.invariant.decides h))
+    let s : c.loop-k.left < cell_size x * (times (k + 1) ks - 1) = subst (λ j. c.loop-k.left < cell_size x * j) n c.in-None.ensures.none in (
+      λ h. absurd (let q : ⊥ = cc in q),
+      λ h. absurd (none-decides (cell_size x * (times (k + 1) ks - 1)) (copied ks (k + 1) (drop k xs)) (copied ks (k + 1 + 1) (drop (k + 1) xs)) c.loop-k.left (copied-more ks (k + 1) k xs x e) s c.loop-k.invariant.decides h),
+    )

@@ -1,4 +1,4 @@
-use Rattle.std.proofs.Common.{ℕ, arith}
+use Rattle.std.proofs.Common.{arith}
 use Rattle.std.proofs.lemmas.Grind.{common_steps}
 use Rattle.rule_merge.proofs.MergeSelectNames.{pushed-same}
 use Rattle.rule_merge.proofs.merge_select.names.reach_places.Goals as goal
