@@ -1,6 +1,12 @@
-use Rattle.std.proofs.Common.{arith}
+use Rattle.std.proofs.Common.{arith, subst, sym}
 use Rattle.std.proofs.lemmas.Grind.{common_steps}
+use Rattle.std.specs.Result.{OnOk}
+use Rattle.rule_api.specs.declared.rule_id.RuleId.{RuleId}
+use Rattle.rule_set.specs.Built.{built}
 use Rattle.rule_set.proofs.built.BuiltRulesRules.apply.Goals as goal
+
+pub returns-in-J1-clause-acts : goal.returns-in-J1-clause-acts
+returns-in-J1-clause-acts c = subst (λ (r : RuleId). OnOk c.apply-in-J1.result ((built r).act c.args.place c.args.graph.now c.apply-in-J1.new.graph)) (sym c.in-J1.is) c.apply-in-J1.ensures.acts
 
 pub returns-in-J2 : goal.returns-in-J2
 returns-in-J2 c = grind (arith, common_steps)
