@@ -21,5 +21,8 @@ loop-rule-preserved g c =
     let f : RuleId → List Firing = λ r. map (firing r) (map (place_at c.args.b) (g.T.Rules.pairs c.args.table.now r c.args.graph.now c.args.b)) in
     let within : c.loop-rule.rule-index < length c.args.rules.now = search rules in
     let none : is_some c.in_ok-found.found ≡ false = search rules in
-    record { found = found-behind f c.loop-rule.rule-index c.args.rules.now M1 c.in_ok-found.found (slice_get (at_box (g.T.Rules.pairs c.args.table.now) c.args.rules.now c.args.graph.now c.args.b) 0)
-      within c.in_ok-found.ensures.found none c.loop-rule.invariant.found; known = c.in_ok-found.ensures.known }
+    record {
+      found = found-behind f c.loop-rule.rule-index c.args.rules.now M1 c.in_ok-found.found (slice_get (at_box (g.T.Rules.pairs c.args.table.now) c.args.rules.now c.args.graph.now c.args.b) 0)
+          within c.in_ok-found.ensures.found none c.loop-rule.invariant.found;
+      known = c.in_ok-found.ensures.known;
+    }
