@@ -1,5 +1,7 @@
 // What is inferred of a graph, as it is asked.
 ghost use Rattle.std.specs.Prelude.{◌≡◌, false, true, IfOk};
+ghost use Rattle.qgm_core.specs.Edits.{set_distinct};
+ghost use Rattle.qgm_core.specs.declared.kinds.Distinct.TheVariants.{Preserve};
 ghost use Rattle.qgm_terms.specs.Shown.{cond};
 ghost use Rattle.qgm_props.specs.Inferred.{cond_free};
 ghost use Rattle.qgm_props.specs.Keys as keys;
@@ -9,7 +11,7 @@ ghost use Rattle.qgm_props.specs.Table.{facts_of};
 use crate::expressions::is_cond_free;
 use crate::fact_table::FactTable;
 use crate::facts::{has_at_most_one, has_exactly_one, is_clean, is_error_free, is_not_null};
-use crate::keys::has_key;
+use crate::keys::{has_key, has_key_preserved};
 use crate::range_table::RangeTable;
 use qgm_core::{BoxId, Gc, Graph};
 use shared_types::OutOfMemory;
@@ -105,5 +107,19 @@ impl Props {
         ensures inferred { IfOk result (λ k. TellsKey k (facts_of self.now) graph.now.boxes b columns.now) }
     {
         has_key(alloc, graph.nodes(), &self.boxes, b, columns)
+    }
+
+    /// Whether the set of columns would hold a key of the box if it were PRESERVE: no fact but a key
+    /// hangs on DISTINCT. It fails only for want of memory.
+    pub fn holds_key_preserved(
+        &self,
+        alloc: Global,
+        graph: &Graph,
+        b: BoxId,
+        columns: &[usize],
+    ) -> Result<bool, OutOfMemory>
+        ensures { IfOk result (λ k. k ≡ keys.holds_key (facts_of self.now).at_most_one (set_distinct b Preserve graph.now).boxes b columns.now) }
+    {
+        has_key_preserved(alloc, graph.nodes(), &self.boxes, b, columns)
     }
 }

@@ -1,6 +1,10 @@
 // Which columns hold a key.
 ghost use Rattle.std.specs.Prelude.{◌≡◌, ◌&&◌, ◌++◌, option_map, OnOk, IfOk, Some, drop};
 ghost use Rattle.std.specs.List.{list_all, list_any};
+ghost use Rattle.list_laws.specs.Lists.{change};
+ghost use Rattle.qgm_core.specs.Boxes.{is_box};
+ghost use Rattle.qgm_core.specs.Edits.{with_distinct};
+ghost use Rattle.qgm_core.specs.declared.kinds.Distinct.TheVariants.{Preserve};
 ghost use Rattle.qgm_terms.specs.Shown.{term, terms};
 ghost use Rattle.qgm_props.specs.Inferred as inferred;
 ghost use Rattle.qgm_props.specs.Keys as spec;
@@ -169,6 +173,48 @@ fn has_key_of(
         BoxKind::SetOp(operator, types) => Ok(has_op_key(*operator, types.len(), columns)),
         BoxKind::OuterJoin => have_two_keys(alloc, node, below, table, columns),
     }
+}
+
+// Whether they would hold a key of this box if it were PRESERVE, over those behind it.
+fn has_key_without_distinct(
+    alloc: Global,
+    node: &Node,
+    below: &[Node],
+    table: &FactTable,
+    columns: &[usize],
+) -> Result<bool, OutOfMemory>
+    ensures { IfOk result (λ k. k ≡ spec.keyed (facts_of table.now).at_most_one (with_distinct Preserve node.now) (spec.holds_key (facts_of table.now).at_most_one below.now) columns.now) }
+{
+    match &node.parts.kind {
+        BoxKind::Select => {
+            if has_at_most_one(table, node.id) {
+                return Ok(true);
+            }
+            have_keys(alloc, node, below, table, columns)
+        }
+        BoxKind::Base(_) | BoxKind::Group(_) | BoxKind::SetOp(_, _) | BoxKind::OuterJoin => has_key_of(
+            alloc, node, below, table, columns,
+        ),
+    }
+}
+
+/// Whether the columns at these places would hold a key of a box among these if it were PRESERVE. It
+/// fails only for want of memory.
+pub fn has_key_preserved(
+    alloc: Global,
+    boxes: &[Node],
+    table: &FactTable,
+    b: BoxId,
+    columns: &[usize],
+) -> Result<bool, OutOfMemory>
+    ensures { IfOk result (λ k. k ≡ spec.holds_key (facts_of table.now).at_most_one (change (is_box b) (with_distinct Preserve) boxes.now) b columns.now) }
+{
+    for i in 0..boxes.len() {
+        if boxes[i].id == b {
+            return has_key_without_distinct(alloc, &boxes[i], &boxes[i + 1..], table, columns);
+        }
+    }
+    Ok(false)
 }
 
 // Whether they hold a key of the box under each F quantifier.

@@ -1,7 +1,7 @@
 // L1.
 ghost use Rattle.std.specs.Prelude.{◌≡◌, IfOk, OnErr, OnOk, true};
 ghost use Rattle.qgm_wellformed.specs.Sentences.{WellFormed};
-ghost use Rattle.qgm_core.specs.Boxes.{HasBox, box_of};
+ghost use Rattle.qgm_core.specs.Boxes.{box_of};
 ghost use Rattle.qgm_core.specs.Kinds.{is_select};
 ghost use Rattle.qgm_props.specs.InferredKeys.{places_to};
 ghost use Rattle.qgm_props.specs.Laws.{KeptOf};
@@ -23,8 +23,7 @@ use std::alloc::Global;
 
 /// L1: an ENFORCE plain select that as PRESERVE has an inferred key becomes PRESERVE, since no row of
 /// it comes twice (Pirahesh, Hellerstein and Hasan 1992, 3). In the graph as it is all its columns are
-/// a key, because it is ENFORCE. So the key is asked for in a copy in which it is PRESERVE, which is
-/// made at an ENFORCE plain select alone.
+/// a key, because it is ENFORCE. So the key is asked for as if it were PRESERVE.
 #[derive(Clone, Copy)]
 pub struct DropKeyDistinct;
 
@@ -41,25 +40,22 @@ fn all_places(alloc: Global, width: usize) -> Result<Vec<usize>, OutOfMemory>
     Ok(out)
 }
 
-// Whether all columns of a select hold a key in the graph in which it is PRESERVE. No fact but a key
-// hangs on DISTINCT, so the facts are those of the graph as it is.
+// Whether all columns of a select would hold a key if it were PRESERVE. No fact but a key hangs on
+// DISTINCT, so the facts are those of the graph as it is.
 fn is_keyed_preserve(
     alloc: Global,
     graph: &Graph,
     known: &mut Inference,
     node: &Node,
 ) -> Result<bool, OutOfMemory>
-    requires held { HasBox node.now.id graph.now }
     requires select { is_select node.now.parts.kind ≡ true }
     requires known { KeptOf known.old graph.now.boxes }
     ensures test { IfOk result (λ key. key ≡ spec.is_keyed_preserve graph.now node.now) }
     ensures known { KeptOf known.new graph.now.boxes }
 {
     let columns = all_places(alloc, node.parts.head.len())?;
-    let mut after = graph.copy(alloc)?;
-    after.set_distinct(node.id, Distinct::Preserve);
     let facts = known.take(alloc, graph)?;
-    let keyed = facts.holds_key(alloc, &after, node.id, &columns)?;
+    let keyed = facts.holds_key_preserved(alloc, graph, node.id, &columns)?;
     known.put(facts);
     Ok(keyed)
 }
@@ -71,8 +67,7 @@ fn may_drop_key_distinct(
     known: &mut Inference,
     node: &Node,
 ) -> Result<bool, OutOfMemory>
-    requires held { HasBox node.now.id graph.now }
-    requires known { KeptOf known.old graph.now.boxes }
+    requires { KeptOf known.old graph.now.boxes }
     ensures known { KeptOf known.new graph.now.boxes }
     ensures test { IfOk result (λ passes. passes ≡ spec.may_drop_key_distinct graph.now node.now) }
 {

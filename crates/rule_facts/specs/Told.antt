@@ -1,11 +1,10 @@
 -- Facts as the code is told them, as booleans.
-use Rattle.std.proofs.Common.{ℕ, ◌≡◌, Bool, true, false, List, refl, sym, ap, ◌∙◌, inl, inr}
+use Rattle.std.proofs.Common.{ℕ, ◌≡◌, Bool, true, false, List, refl, sym, ◌∙◌, inl, inr}
 use Rattle.std.specs.Prelude.{◌↔◌}
-use mathlib.Core.Path.{fun_ext}
 use Rattle.std.proofs.lemmas.Bool.{cases_Bool}
 use Rattle.qgm_core.specs.Boxes.{Ordered}
 use Rattle.qgm_core.specs.declared.node.Node.{Node}
-use Rattle.qgm_props.specs.Inferred.{Fact, Facts, Inferred, at_most_one, says}
+use Rattle.qgm_props.specs.Inferred.{Fact, Facts, Inferred, says}
 use Rattle.qgm_props.specs.Laws.{KeyInferred, Tells}
 use Rattle.qgm_props.proofs.InferredKeys.{tells-key}
 use Rattle.qgm_props.proofs.Settled.{all-told}
@@ -44,7 +43,3 @@ told-is bs known tells f = elim (cases_Bool (infers bs f)) [
     | inl t ↦ absurd (clash (infers bs f) ((told bs f).1 ((tells f).0 t)) n)
   ]
 ]
-
-pub key-told-is : (bs : List Node) (known : Facts) → Tells known bs → (b : ℕ) (ks : List ℕ) → holds_key known.at_most_one bs b ks ≡ infers_key bs b ks
-unfolding infers infers_key
-key-told-is bs known tells b ks = ap (λ (single : ℕ → Bool). holds_key single bs b ks) (fun_ext (λ c. told-is bs known tells (at_most_one c)))

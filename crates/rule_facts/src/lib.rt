@@ -8,6 +8,4 @@ mod told;
 
 pub use boxes::box_at;
 pub use laws::premise_laws;
-pub use told::{
-    infers_at_most_one, infers_clean, infers_error_free, infers_exactly_one, infers_key,
-};
+pub use told::infers_clean;

@@ -73,15 +73,15 @@ fn exists_fits(alloc: Global, k: &Known, node: &Node, r: OwnedQuant) -> Result<b
     has_key(alloc, k, node)
 }
 
-/// Whether U1 may fire at a quantifier of a box.
+/// Whether U1 may fire at a quantifier of a box. Its one node is sought last: that takes all conjuncts.
 pub fn may_join(alloc: Global, k: &Known, node: &Node, r: OwnedQuant) -> Result<bool, OutOfMemory>
     requires { IsKnown k.now }
     ensures { IfOk result (λ passes. passes ≡ spec.may_exists_to_join k.now.graph.now.boxes node.now r) }
 {
-    if !is_joinable(node, r) {
+    if !r.kind.is_e() || !exists_fits(alloc, k, node, r)? {
         return Ok(false);
     }
-    exists_fits(alloc, k, node, r)
+    Ok(is_joinable(node, r))
 }
 
 /// What the distinctness of the box is then: its own, and ENFORCE where only a key lets U1 fire.

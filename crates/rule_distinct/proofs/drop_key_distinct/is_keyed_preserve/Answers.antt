@@ -1,5 +1,5 @@
 use Rattle.std.proofs.Common.{◌≡◌, ◌∙◌, ℕ, List, ap, length, sym}
-use Rattle.qgm_core.specs.Boxes.{QueryGraph, width}
+use Rattle.qgm_core.specs.Boxes.{width}
 use Rattle.qgm_core.specs.Edits.{set_distinct}
 use Rattle.qgm_core.specs.declared.kinds.Distinct.TheVariants.{Preserve}
 use Rattle.qgm_props.specs.InferredKeys.{places_to}
@@ -13,8 +13,7 @@ returns-clause-test c =
     let g = c.args.graph.now in
     let n = c.args.node.now in
     let one = (facts_of c.in_ok-facts.facts).at_most_one in
-    let after : c.set_distinct.new.self ≡ set_distinct n.id Preserve g = c.set_distinct.ensures.graph ∙ ap (set_distinct n.id Preserve) c.in_ok-after.ensures in
     let wide : c.len.result ≡ width n = c.len.ensures ∙ sym (select_width n.parts.kind (length n.parts.head) c.requires.select) in
     let columns : c.deref.result.now ≡ places_to (width n) = c.deref.ensures.value ∙ c.in_ok-columns.ensures ∙ ap places_to wide in
-    c.in_ok-keyed.ensures.exact ∙ ap (λ (h : QueryGraph). holds_key one h.boxes n.id c.deref.result.now) after
-    ∙ ap (λ (ks : List ℕ). holds_key one (set_distinct n.id Preserve g).boxes n.id ks) columns ∙ told_key g.boxes n.id Preserve (facts_of c.in_ok-facts.facts) c.in_ok-facts.ensures.told n.id (places_to (width n))
+    c.in_ok-keyed.ensures ∙ ap (λ (ks : List ℕ). holds_key one (set_distinct n.id Preserve g).boxes n.id ks) columns
+    ∙ told_key g.boxes n.id Preserve (facts_of c.in_ok-facts.facts) c.in_ok-facts.ensures.told n.id (places_to (width n))
