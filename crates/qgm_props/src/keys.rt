@@ -192,9 +192,8 @@ fn has_key_without_distinct(
             }
             have_keys(alloc, node, below, table, columns)
         }
-        BoxKind::Base(_) | BoxKind::Group(_) | BoxKind::SetOp(_, _) | BoxKind::OuterJoin => has_key_of(
-            alloc, node, below, table, columns,
-        ),
+        BoxKind::Base(_) | BoxKind::Group(_) | BoxKind::SetOp(_, _) | BoxKind::OuterJoin =>
+            has_key_of(alloc, node, below, table, columns),
     }
 }
 
