@@ -37,6 +37,8 @@ use Rattle.rule_api.specs.declared.place.Place.{Place}
 use Rattle.rule_merge.specs.MergeSelectCopies.{copies_of, levels_under, most_copied}
 use Rattle.rule_merge.specs.MergeSelectSteps.{Plans}
 use Rattle.rule_merge.specs.declared.merge_select.action.MergePlan.{MergePlan}
+use Rattle.rule_facts.proofs.FactsWithoutDistinct.{infers-same}
+use Rattle.rule_facts.specs.Told.{infers}
 use Rattle.qgm_core.proofs.KindTests.{f-is, enforce-is, preserve-is, permit-is, plain-is, magic-is, select-is}
 use Rattle.rule_merge.specs.MergeSelect.{DistinctFits, IsMergeable, MayMergeSelect, spliced, merged_with, parts_fit, infers_clean, are_clean, distinct_fits, is_lateral, has_lateral, read_elsewhere, cells_free, second_closed, fed_closed, any_fed_closed, cells_stand, copies_little, may_go_in, may_stand, may_with, may_over, may_at, may_in, may_merge, merge_select_pairs, preserved, enforced, permitted}
 use Rattle.list_laws.proofs.Counting.{times-in}
@@ -70,6 +72,11 @@ told-clean g known b tells = elim (cases_Bool (infers_clean g b)) [
     | inl t ↦ absurd (clash (infers_clean g b) (clean-to g b ((tells (clean b)).0 t)) f)
   ]
 ]
+
+-- whatever the distinctness of the box
+pub clean-same : (g : QueryGraph) (c : ℕ) → infers_clean (set_distinct c Preserve g) c ≡ infers_clean g c
+unfolding infers infers_clean
+clean-same g c = infers-same g.boxes c Preserve (clean c)
 
 distinct-from : (g : QueryGraph) (b c : Node) → distinct_fits g b c ≡ true → DistinctFits g b c
 distinct-from g b c h = elim (or_cases (is_preserve c.parts.distinct || is_enforce b.parts.distinct) (is_permit b.parts.distinct && are_clean g b c) h) [

@@ -4,11 +4,9 @@ ghost use Rattle.std.specs.List.{list_any};
 ghost use Rattle.std.specs.Prelude.{◌&&◌, ◌==◌, not, false, true};
 ghost use Rattle.qgm_wellformed.specs.Sentences.{WellFormed};
 ghost use Rattle.qgm_wellformed.specs.Shapes.{all_F};
-ghost use Rattle.qgm_core.specs.Boxes.{HasBox, box_of, is_box, numbers, owns};
-ghost use Rattle.qgm_core.specs.Edits.{set_distinct};
+ghost use Rattle.qgm_core.specs.Boxes.{box_of, is_box, numbers, owns};
 ghost use Rattle.qgm_core.specs.Kinds as kinds;
 ghost use Rattle.list_laws.specs.Lists.{EachOnce, first};
-ghost use Rattle.qgm_core.specs.declared.kinds.Distinct.TheVariants.{Preserve};
 ghost use Rattle.qgm_edit_laws.specs.Graph.{reads_in};
 ghost use Rattle.qgm_term_size.specs.Levels.{deepest};
 ghost use Rattle.qgm_terms.specs.Depth.{room};
@@ -22,11 +20,11 @@ use crate::merge_select::foreign::any_named;
 use crate::merge_select::lookups::{FEW, Lookups};
 use crate::merge_select::names::{Names, names_in};
 use qgm_core::{
-    BoxId, Distinct, Graph, Head, Node, OwnedQuant, QuantId, free_in, has_range, node_at,
+    BoxId, Graph, Head, Node, OwnedQuant, QuantId, free_in, has_range, node_at,
 };
 use qgm_props::props;
 use qgm_term_search::{is_node_free, stands_in_cells, stands_in_conds};
-use qgm_terms::Sought;
+use qgm_terms::{Sought, both};
 use rule_facts::box_at;
 use shared_types::OutOfMemory;
 use std::alloc::Global;
@@ -198,36 +196,26 @@ fn cells_stand(lookups: &Lookups<'_>, b: &Node, r: OwnedQuant, c: &Node) -> bool
         && cells_free(lookups.graph.nodes(), b.id, r.id, &c.parts.head)
 }
 
-// Whether it is inferred that no row of a box is at an error level.
-fn infers_clean(alloc: Global, graph: &Graph, b: BoxId) -> Result<bool, OutOfMemory>
-    ensures { IfOk result (λ clean. clean ≡ spec.infers_clean graph.now b) }
+// Whether it is inferred that no row of b or of c is at an error level. No fact but a key hangs on
+// DISTINCT, so c is clean as PRESERVE where it is clean as it is.
+fn are_clean(alloc: Global, graph: &Graph, b: &Node, c: &Node) -> Result<bool, OutOfMemory>
+    ensures { IfOk result (λ clean. clean ≡ spec.are_clean graph.now b.now c.now) }
 {
     let known = props(alloc, graph)?;
-    Ok(known.clean(b))
-}
-
-// Whether it is in the graph in which the box is PRESERVE.
-fn infers_clean_preserve(alloc: Global, graph: &Graph, b: BoxId) -> Result<bool, OutOfMemory>
-    requires { HasBox b graph.now }
-    ensures { IfOk result (λ clean. clean ≡ spec.infers_clean (set_distinct b Preserve graph.now) b) }
-{
-    let mut after = graph.copy(alloc)?;
-    after.set_distinct(b, Distinct::Preserve);
-    infers_clean(alloc, &after, b)
+    Ok(both(known.clean(b.id), known.clean(c.id)))
 }
 
 // Whether c, under b, has no DISTINCT, or one that may go.
 fn distinct_fits(alloc: Global, graph: &Graph, b: &Node, c: &Node) -> Result<bool, OutOfMemory>
-    requires { HasBox c.now.id graph.now }
     ensures { IfOk result (λ fits. fits ≡ spec.distinct_fits graph.now b.now c.now) }
 {
     if c.parts.distinct.is_preserve() || b.parts.distinct.is_enforce() {
         return Ok(true);
     }
-    if !b.parts.distinct.is_permit() || !infers_clean(alloc, graph, b.id)? {
+    if !b.parts.distinct.is_permit() {
         return Ok(false);
     }
-    infers_clean_preserve(alloc, graph, c.id)
+    are_clean(alloc, graph, b, c)
 }
 
 // Whether c may be merged into b under r, but for its DISTINCT and for what that leaves of fed boxes.

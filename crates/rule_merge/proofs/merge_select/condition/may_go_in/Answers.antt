@@ -4,9 +4,6 @@ use Rattle.rule_merge.proofs.MergeSelectUnfed.{merged_unfed}
 use Rattle.rule_merge.proofs.MergeSelectPlaced.{found_has}
 use Rattle.rule_merge.proofs.merge_select.condition.may_go_in.Goals as goal
 
-pub distinct_fits-requires : goal.distinct_fits-requires
-distinct_fits-requires c = grind (arith, common_steps, found_has, merged_unfed)
-
 pub returns-then-not-lookups : goal.returns-then-not-lookups
 returns-then-not-lookups c = grind (arith, common_steps, found_has, merged_unfed)
 
