@@ -37,7 +37,7 @@ use Rattle.qgm_terms.specs.Wanted.{has_aggregate, reads, reads_at}
 use Rattle.qgm_terms.specs.declared.named.Column.{Column}
 use Rattle.qgm_edit_laws.specs.Rebuilds.{HasForm, IsOwned, MadeIn}
 use Rattle.qgm_edit_laws.proofs.ShapedPut.{all-joined}
-use Rattle.rule_magic.proofs.FeedShapes.{same-itself}
+use Rattle.rule_feed.proofs.FeedShapes.{same-itself}
 use Rattle.rule_magic.specs.Boxes.{pair_box}
 use Rattle.rule_magic.proofs.AbsorbFacts.{read-append, read-columns}
 use Rattle.qgm_edit_laws.proofs.Rebuilt.{one-quant}

@@ -4,11 +4,6 @@ pub mod UnderTags
 pub mod FedBox
 pub mod Places
 pub mod CalmFires
-pub mod Split
-pub mod Feed
-pub mod FeedLaws
-pub mod FeedMeasure
-pub mod FeedSample
 pub mod AbsorbSelect
 pub mod AbsorbGroup
 pub mod AbsorbArms

@@ -4,25 +4,7 @@ ghost use Rattle.rule_magic.specs.AbsorbOuterJoin.{AbsorbsArms, AbsorbsLeft};
 ghost use Rattle.rule_magic.specs.AbsorbSelect.{AbsorbsSelect, SelectLowers, SelectPreserves};
 ghost use Rattle.rule_magic.specs.AbsorbSetOperation.{AbsorbsSets, SetsGiven};
 ghost use Rattle.rule_magic.specs.CalmFires.{CalmFires};
-ghost use Rattle.rule_magic.specs.FeedLaws.{FeedBags, FeedShaped, FeedSound, FeedTyped};
-ghost use Rattle.rule_magic.specs.FeedMeasure.{FeedMeasured, FeedingLowers, SplitMeasured};
-ghost use Rattle.rule_magic.specs.FeedSample.{Fed};
-ghost use Rattle.rule_magic.specs.Split.{SplitBags, SplitRows, SplitShaped, SplitSound, SplitTyped};
 ghost use Rattle.rule_magic.specs.UnderTags.{BothArmsUnderTags, DistinctUnderTags, KeyedGroupsUnderTags, LeftArmUnderTags, SelectsUnderTags, SetsUnderTags, SingleGroupsUnderTags};
-
-/// G1: quantifiers and conjuncts of a select may go into a select of their own, and a box that looks columns of one quantifier up may be fed with them. Both keep the root's bag, soundness, types and shapes; the last clause has small graphs for F, E and A. It does nothing.
-pub fn feeding_laws()
-    ensures split { SplitBags }
-    ensures split_rows { SplitRows }
-    ensures split_sound { SplitSound }
-    ensures split_typed { SplitTyped }
-    ensures split_shaped { SplitShaped }
-    ensures fed { FeedBags }
-    ensures fed_sound { FeedSound }
-    ensures fed_typed { FeedTyped }
-    ensures fed_shaped { FeedShaped }
-    ensures sample { Fed }
-{}
 
 /// Bags over the rows of a magic box: DISTINCT, set operations, groups, selects and outer joins of rows that begin with a tag are, under each tag, those of its rows. It does nothing.
 pub fn row_laws()
@@ -49,11 +31,8 @@ pub fn absorbing_laws()
     ensures outer_arms { AbsorbsArms }
 {}
 
-/// Splitting leaves the parts of the measure as they are; feeding adds one fed box and changes nothing else of them, so it lowers it, and so do G2 and G3. It does nothing.
+/// G2 and G3 lower the measure. It does nothing.
 pub fn measure_laws()
-    ensures split { SplitMeasured }
-    ensures fed { FeedMeasured }
-    ensures fed_lowers { FeedingLowers }
     ensures select { SelectLowers }
     ensures group { GroupLowers }
     ensures keyless { KeylessLowers }

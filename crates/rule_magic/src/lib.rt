@@ -3,4 +3,4 @@
 
 mod laws;
 
-pub use laws::{absorbing_laws, calm_laws, feeding_laws, measure_laws, row_laws};
+pub use laws::{absorbing_laws, calm_laws, measure_laws, row_laws};

@@ -1,0 +1,5 @@
+pub mod Split
+pub mod Feed
+pub mod FeedLaws
+pub mod FeedMeasure
+pub mod FeedSample

@@ -1,0 +1,22 @@
+// The laws, as theorems.
+ghost use Rattle.rule_feed.specs.FeedLaws.{FeedBags, FeedShaped, FeedSound, FeedTyped};
+ghost use Rattle.rule_feed.specs.FeedMeasure.{FeedMeasured, FeedingLowers, SplitMeasured};
+ghost use Rattle.rule_feed.specs.FeedSample.{Fed};
+ghost use Rattle.rule_feed.specs.Split.{SplitBags, SplitRows, SplitShaped, SplitSound, SplitTyped};
+
+/// G1: quantifiers and conjuncts of a select may go into a select of their own, and a box that looks columns of one quantifier up may be fed with them. Both keep the root's bag, soundness, types and shapes. Splitting leaves the parts of the measure as they are, and feeding lowers it. The clause `sample` has small graphs for F, E and A. It does nothing.
+pub fn feeding_laws()
+    ensures split { SplitBags }
+    ensures split_rows { SplitRows }
+    ensures split_sound { SplitSound }
+    ensures split_typed { SplitTyped }
+    ensures split_shaped { SplitShaped }
+    ensures split_measured { SplitMeasured }
+    ensures fed { FeedBags }
+    ensures fed_sound { FeedSound }
+    ensures fed_typed { FeedTyped }
+    ensures fed_shaped { FeedShaped }
+    ensures fed_measured { FeedMeasured }
+    ensures fed_lowers { FeedingLowers }
+    ensures sample { Fed }
+{}

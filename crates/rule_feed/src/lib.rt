@@ -1,0 +1,6 @@
+//! G1, FEED: a box that looks up columns of its reader's rows is fed with the distinct bindings that occur.
+#![tactic(auto)]
+
+mod laws;
+
+pub use laws::feeding_laws;
