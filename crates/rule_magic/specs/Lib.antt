@@ -9,8 +9,15 @@ pub mod Feed
 pub mod FeedLaws
 pub mod FeedMeasure
 pub mod FeedSample
+pub mod Feeding
 pub mod AbsorbSelect
+pub mod AbsorbSelectSteps
+pub mod AbsorbExact
+pub mod AbsorbSelectExact
 pub mod AbsorbGroup
+pub mod AbsorbGroupSteps
+pub mod AbsorbGroupExact
+pub mod AbsorbMeasure
 pub mod AbsorbArms
 pub mod AbsorbSetOperation
 pub mod AbsorbOuterJoin
