@@ -40,8 +40,8 @@ use Rattle.qgm_core.specs.declared.kinds.Role.TheVariants.{Fed}
 use Rattle.qgm_edit_laws.specs.Graph.{nodes_in}
 use Rattle.row_bag.specs.Order.{cell_of}
 use Rattle.sql_value.specs.declared.truth.Truth.{Truth}
-use Rattle.rule_magic.specs.AbsorbGroup.{AbsorbsGroup, AbsorbsKeyless, AreNew, IsGroupOver}
-use Rattle.rule_magic.specs.AbsorbSelect.{AbsorbsSelect}
+use Rattle.rule_magic.specs.AbsorbGroup.{GroupBags, KeylessBags, AreNew, IsGroupOver}
+use Rattle.rule_magic.specs.AbsorbSelect.{SelectBags}
 use Rattle.rule_magic.specs.Boxes.{absorbed_box, counted_box, joined_box, keyed_box, of_both, pair_box}
 use Rattle.rule_magic.specs.FedBox.{IsFedAt, IsOld}
 use Rattle.rule_magic.specs.UnderTags.{AreTags}
@@ -359,11 +359,11 @@ module _ (tables : List Table) (g : QueryGraph) (d m c : Node) (a r : OwnedQuant
         changed : (y : Node) → ((e : Environment) → Alike (rows_of tables y whole e) (whole y.id e)) → Given tables g.boxes is_special whole y
         changed y h = record { same = false; old = λ t. absurd (let z : ⊥ = cc in z); new = λ t e. h e }
 
-pub absorbs-select : AbsorbsSelect
+pub absorbs-select : SelectBags
 absorbs-select = λ tables g h d m c a r at oh select apart free boxes b k e. agree-from_alike same_cells (select-absorbed tables g d m c a r at h oh select apart free boxes b k e)
 
-pub absorbs-group : AbsorbsGroup
+pub absorbs-group : GroupBags
 absorbs-group = λ tables g h d m c x a r q k at over oh boxes b i n e. agree-from_alike same_cells (group-absorbed tables g d m c a r at h oh x q k over boxes b i n e)
 
-pub absorbs-keyless : AbsorbsKeyless
+pub absorbs-keyless : KeylessBags
 absorbs-keyless = λ tables g h d m c x a r q w o n om oc p wm at over oh fresh two boxes b known i l e. agree-from_alike same_cells (whole-absorbed tables g d m c a r at h oh x q over w o n om oc p wm fresh two boxes b known i l e)

@@ -74,10 +74,10 @@ module _ (g : QueryGraph) (known : Facts) (d : Node) (may : MayAbsorb g.boxes kn
   v : Sound hs g.root
   v = made.sound-after g at.once at.formed known at.tells d may up l1 l2 at.before (suc k) at.a_group q at.alone x at.in_x at.over_x
 
-  ordered : Ordered hs
+  pub ordered : Ordered hs
   ordered = made.ordered g at.once at.formed known at.tells d may up l1 l2 at.before (suc k) at.a_group q at.alone x at.in_x at.over_x
 
-  faultless : fault h ≡ None
+  pub faultless : fault h ≡ None
   faultless = made.group-formed g at.once at.formed known at.tells d may up l1 l2 at.before (suc k) at.a_group q at.alone x at.in_x at.over_x h refl refl
 
   each-in : (n : Node) → In n hs → (n ≡ d') ⊎ ((n ≡ c') ⊎ (In n g.boxes × (((n.id == d.id) ≡ false) × ((n.id == c.id) ≡ false))))

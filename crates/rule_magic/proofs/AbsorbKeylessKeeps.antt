@@ -228,6 +228,12 @@ module _ (g : QueryGraph) (known : Facts) (d : Node) (may : MayAbsorb g.boxes kn
     scalars = (omega arith);
   })
 
+  pub ordered-after : Ordered (absorbed_keyless g known d may q x o n om oc p up l1 l2).boxes
+  ordered-after = subst (λ k. Ordered (with_keys k)) same-width ordered
+
+  pub faultless-after : fault (absorbed_keyless g known d may q x o n om oc p up l1 l2) ≡ None
+  faultless-after = subst (λ k. fault (record g { boxes = with_keys k }) ≡ None) same-width faultless
+
   pub lowers : Lowers g.boxes (absorbed_keyless g known d may q x o n om oc p up l1 l2).boxes
   lowers = subst (λ k. Lowers g.boxes (with_keys k)) same-width lowers-as
 

@@ -57,13 +57,13 @@ module _ (g : QueryGraph) (known : Facts) (d : Node) (may : MayAbsorb g.boxes kn
   w : Sound g.boxes g.root
   w = made.w g at.once at.formed known at.tells d may
 
-  faultless : fault h ≡ None
+  pub faultless : fault h ≡ None
   faultless = made.select-formed g at.once at.formed known at.tells d may up l1 l2 at.before at.a_select at.plain h refl refl
 
   abbrev each-in : (n : Node) → In n hs → (n ≡ d') ⊎ (In n g.boxes × (((n.id == d.id) ≡ false) × ((n.id == c.id) ≡ false)))
   each-in = made.each-in g at.once at.formed known at.tells d may up l1 l2 at.before at.a_select at.plain
 
-  ordered : Ordered hs
+  pub ordered : Ordered hs
   ordered = made.ordered g at.once at.formed known at.tells d may up l1 l2 at.before at.a_select at.plain
 
   elsewhere : (n : Node) (s : OwnedQuant) → In n g.boxes → (n.id == d.id) ≡ false → In s n.quants → (s.over == c.id) ≡ false

@@ -13,6 +13,10 @@ pub mod AbsorbSetFacts
 pub mod AbsorbShared
 pub mod AbsorbSelectFormed
 pub mod AbsorbSelectKeeps
+pub mod FedCondition
+pub mod HeadSteps
+pub mod Amid
+pub mod AbsorbSelectActs
 pub mod PairFormed
 pub mod BehindColumns
 pub mod AbsorbGroupFormed
@@ -23,3 +27,7 @@ pub mod JoinedFormed
 pub mod AbsorbKeylessFormed
 pub mod MagicWidth
 pub mod AbsorbKeylessKeeps
+pub mod AbsorbGroupBelow
+pub mod AbsorbGroupActs
+pub mod CompactMeasure
+pub mod FiringMeasure

@@ -4,8 +4,15 @@ pub mod UnderTags
 pub mod FedBox
 pub mod Places
 pub mod CalmFires
+pub mod Feeding
 pub mod AbsorbSelect
+pub mod AbsorbSelectSteps
+pub mod AbsorbExact
+pub mod AbsorbSelectExact
 pub mod AbsorbGroup
+pub mod AbsorbGroupSteps
+pub mod AbsorbGroupExact
+pub mod AbsorbMeasure
 pub mod AbsorbArms
 pub mod AbsorbSetOperation
 pub mod AbsorbOuterJoin

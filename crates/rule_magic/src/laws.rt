@@ -1,7 +1,8 @@
 // The laws, as theorems.
-ghost use Rattle.rule_magic.specs.AbsorbGroup.{AbsorbsGroup, AbsorbsKeyless, GroupLowers, GroupPreserves, KeylessLowers, KeylessPreserves};
+ghost use Rattle.rule_magic.specs.AbsorbGroup.{GroupBags, KeylessBags, GroupLowers, GroupPreserves, KeylessLowers, KeylessPreserves};
+ghost use Rattle.rule_magic.specs.AbsorbMeasure.{CompactLowers, GroupFiringLowers, SelectFiringLowers};
 ghost use Rattle.rule_magic.specs.AbsorbOuterJoin.{AbsorbsArms, AbsorbsLeft};
-ghost use Rattle.rule_magic.specs.AbsorbSelect.{AbsorbsSelect, SelectLowers, SelectPreserves};
+ghost use Rattle.rule_magic.specs.AbsorbSelect.{SelectBags, SelectLowers, SelectPreserves};
 ghost use Rattle.rule_magic.specs.AbsorbSetOperation.{AbsorbsSets, SetsGiven};
 ghost use Rattle.rule_magic.specs.CalmFires.{CalmFires};
 ghost use Rattle.rule_magic.specs.UnderTags.{BothArmsUnderTags, DistinctUnderTags, KeyedGroupsUnderTags, LeftArmUnderTags, SelectsUnderTags, SetsUnderTags, SingleGroupsUnderTags};
@@ -19,11 +20,11 @@ pub fn row_laws()
 
 /// G2 to G5: the box that stands in the place of a fed box has its bag, in every environment. G2, and G3 with keys and without, preserve the graph; the conditions of G4 give what its bag needs. It does nothing.
 pub fn absorbing_laws()
-    ensures select { AbsorbsSelect }
+    ensures select { SelectBags }
     ensures select_preserves { SelectPreserves }
-    ensures group { AbsorbsGroup }
+    ensures group { GroupBags }
     ensures group_preserves { GroupPreserves }
-    ensures keyless { AbsorbsKeyless }
+    ensures keyless { KeylessBags }
     ensures keyless_preserves { KeylessPreserves }
     ensures sets { AbsorbsSets }
     ensures sets_given { SetsGiven }
@@ -36,6 +37,9 @@ pub fn measure_laws()
     ensures select { SelectLowers }
     ensures group { GroupLowers }
     ensures keyless { KeylessLowers }
+    ensures compacted { CompactLowers }
+    ensures select_fires { SelectFiringLowers }
+    ensures group_fires { GroupFiringLowers }
 {}
 
 /// In a calm graph with an open box one of the rules of class magic has a place. It does nothing.

@@ -1,6 +1,8 @@
 use Rattle.rule_magic.proofs.AbsorbGroupKeeps.{group-lowers}
 use Rattle.rule_magic.proofs.AbsorbKeylessKeeps.{keyless-lowers}
 use Rattle.rule_magic.proofs.AbsorbSelectKeeps.{select-lowers}
+use Rattle.rule_magic.proofs.CompactMeasure.{compact-lowers}
+use Rattle.rule_magic.proofs.FiringMeasure.{group-firing-lowers, select-firing-lowers}
 use Rattle.rule_magic.proofs.laws.measure_laws.Goals as goal
 
 pub returns-clause-select : goal.returns-clause-select
@@ -11,3 +13,12 @@ returns-clause-group c = group-lowers
 
 pub returns-clause-keyless : goal.returns-clause-keyless
 returns-clause-keyless c = keyless-lowers
+
+pub returns-clause-compacted : goal.returns-clause-compacted
+returns-clause-compacted c = compact-lowers
+
+pub returns-clause-select_fires : goal.returns-clause-select_fires
+returns-clause-select_fires c = select-firing-lowers
+
+pub returns-clause-group_fires : goal.returns-clause-group_fires
+returns-clause-group_fires c = group-firing-lowers

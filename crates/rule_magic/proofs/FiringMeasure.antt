@@ -1,0 +1,90 @@
+-- A firing of G2 or G3 lowers the measure.
+use Rattle.std.proofs.Common.{◌≡◌, ◌<◌, None, ap, sym, subst, ◌∙◌, inl, inr}
+use Rattle.qgm_core.specs.Boxes.{QueryGraph, numbers}
+use Rattle.qgm_core.specs.Edits.{compact}
+use Rattle.list_laws.specs.Lists.{EachOnce}
+use Rattle.qgm_core.specs.declared.kinds.BoxKind.{BoxKind}
+use Rattle.qgm_core.specs.declared.kinds.BoxKind.TheVariants.{Group}
+use Rattle.qgm_wellformed.specs.WellFormed.{fault}
+use Rattle.qgm_wellformed.proofs.Faults.{finds-none}
+use Rattle.qgm_edit_laws.proofs.Compact.{compact-sound}
+use Rattle.qgm_edit_laws.proofs.Formed.{sound-checked}
+use Rattle.qgm_edit_laws.proofs.WellFormedKept.{compact-formed, numbers-once}
+use Rattle.qgm_props.specs.Measure.{Lowers, measure}
+use Rattle.qgm_props.proofs.MeasureLaws.{measure-falls}
+use Rattle.rule_magic.specs.AbsorbExact.{inferred-told}
+use Rattle.rule_magic.specs.AbsorbGroup.{AbsorbsGroup, GroupAt, KeylessAt, absorbed_group, absorbed_keyless}
+use Rattle.rule_magic.specs.AbsorbMeasure.{GroupFiringLowers, SelectFiringLowers}
+use Rattle.rule_magic.specs.AbsorbSelect.{AbsorbsSelect, SelectAt, absorbed_select}
+use Rattle.rule_magic.specs.Feeding.{inferred_facts}
+use Rattle.rule_magic.specs.Places.{AbsorbsBy}
+use Rattle.rule_magic.proofs.AbsorbGroupKeeps as keyed
+use Rattle.rule_magic.proofs.AbsorbKeylessKeeps as keyless
+use Rattle.rule_magic.proofs.AbsorbSelectKeeps as select
+use Rattle.rule_magic.proofs.CompactMeasure.{compact-lowers}
+
+-- a graph that is lower and in which the check finds nothing is lower without the boxes that the root doesn't reach
+falls : (g h : QueryGraph) → EachOnce (numbers h.boxes) → fault h ≡ None → Lowers g.boxes h.boxes → measure (compact h) < measure g
+falls g h u f l =
+    let sound = compact-sound h.boxes h.root ((sound-checked h u).0 f).0 in
+    let once = numbers-once (compact h).boxes sound.ordered in
+    measure-falls g (compact h) once ((finds-none (compact h) once).0 (compact-formed h u f)) (compact-lowers g h u ((finds-none h u).0 f) l)
+
+pub select-firing-lowers : SelectFiringLowers
+unfolding AbsorbsSelect
+select-firing-lowers = λ p g h once wf acts. (
+    let d = acts.0 in
+    let x = acts.1 in
+    let known = inferred_facts g.boxes in
+    let may = x.may.ready in
+    let at : SelectAt g known d may x.up x.l1 x.l2 = record {
+      once = once;
+      formed = wf;
+      tells = inferred-told g.boxes;
+      a_select = x.may.a_select;
+      plain = subst (λ (k : BoxKind). AbsorbsBy g.boxes (inferred_facts g.boxes) k may.c) x.may.a_select may.absorbs;
+      before = x.before;
+    } in
+    let after = absorbed_select g known d may x.up x.l1 x.l2 in
+    subst (λ (z : QueryGraph). measure z < measure g) (sym x.after)
+    (falls g after (numbers-once after.boxes (select.ordered g known d may x.up x.l1 x.l2 at)) (select.faultless g known d may x.up x.l1 x.l2 at) (select.lowers g known d may x.up x.l1 x.l2 at)))
+
+pub group-firing-lowers : GroupFiringLowers
+unfolding AbsorbsGroup
+group-firing-lowers = λ p g h once wf acts. (
+    let d = acts.0 in
+    let known = inferred_facts g.boxes in
+    elim acts.1 [
+      | inl x ↦ (
+          let may = x.may.ready in
+          let at : GroupAt g known d may x.k x.q x.x x.up x.l1 x.l2 = record {
+            once = once;
+            formed = wf;
+            tells = inferred-told g.boxes;
+            a_group = x.may.a_group ∙ ap Group x.keyed;
+            alone = x.alone;
+            in_x = x.in_x;
+            over_x = x.over_x;
+            before = x.before;
+          } in
+          let after = absorbed_group g known d may x.k x.q x.x x.up x.l1 x.l2 in
+          subst (λ (z : QueryGraph). measure z < measure g) (sym x.after)
+          (falls g after (numbers-once after.boxes (keyed.ordered g known d may x.k x.q x.x x.up x.l1 x.l2 at)) (keyed.faultless g known d may x.k x.q x.x x.up x.l1 x.l2 at) (keyed.lowers g known d may x.k x.q x.x x.up x.l1 x.l2 at)))
+      | inr x ↦ (
+          let may = x.may.ready in
+          let at : KeylessAt g known d may x.q x.x x.o x.n x.om x.oc x.t x.up x.l1 x.l2 = record {
+            once = once;
+            formed = wf;
+            tells = inferred-told g.boxes;
+            a_group = x.may.a_group ∙ ap Group x.keyless;
+            alone = x.alone;
+            in_x = x.in_x;
+            over_x = x.over_x;
+            fresh = x.fresh;
+            before = x.before;
+          } in
+          let after = absorbed_keyless g known d may x.q x.x x.o x.n x.om x.oc x.t x.up x.l1 x.l2 in
+          subst (λ (z : QueryGraph). measure z < measure g) (sym x.after)
+          (falls g after (numbers-once after.boxes (keyless.ordered-after g known d may x.q x.x x.o x.n x.om x.oc x.t x.up x.l1 x.l2 at)) (keyless.faultless-after g known d may x.q x.x x.o x.n x.om x.oc x.t x.up x.l1 x.l2 at)
+          (keyless.lowers g known d may x.q x.x x.o x.n x.om x.oc x.t x.up x.l1 x.l2 at)))
+    ])

@@ -1,0 +1,21 @@
+-- Each firing of G2 and G3 lowers the measure, though boxes go that the root no longer reaches.
+use Rattle.std.specs.Prelude.{◌<◌}
+use Rattle.qgm_core.specs.Boxes.{QueryGraph, numbers}
+use Rattle.qgm_core.specs.Edits.{compact}
+use Rattle.list_laws.specs.Lists.{EachOnce}
+use Rattle.qgm_wellformed.specs.Sentences.{WellFormed}
+use Rattle.qgm_props.specs.Measure.{Lowers, measure}
+use Rattle.rule_api.specs.declared.place.Place.{Place}
+use Rattle.rule_magic.specs.AbsorbGroup.{AbsorbsGroup}
+use Rattle.rule_magic.specs.AbsorbSelect.{AbsorbsSelect}
+
+-- of the boxes that go, no more are fed than open
+abbrev pub CompactLowers : Type 0
+CompactLowers = (g h : QueryGraph) → EachOnce (numbers h.boxes) → WellFormed h → Lowers g.boxes h.boxes → Lowers g.boxes (compact h).boxes
+
+-- a firing of G2, and one of G3
+abbrev pub SelectFiringLowers : Type 0
+SelectFiringLowers = (p : Place) (g h : QueryGraph) → EachOnce (numbers g.boxes) → WellFormed g → AbsorbsSelect p g h → measure h < measure g
+
+abbrev pub GroupFiringLowers : Type 0
+GroupFiringLowers = (p : Place) (g h : QueryGraph) → EachOnce (numbers g.boxes) → WellFormed g → AbsorbsGroup p g h → measure h < measure g
