@@ -12,7 +12,7 @@ use Rattle.rule_trans.specs.EqualColumnsPlaces.{equal_columns_pairs, equality, i
 use Rattle.rule_trans.specs.declared.adding.AddPlan.{AddPlan}
 use Rattle.rule_trans.specs.declared.equalities.Equality.{Equality}
 
-get-below : (xs : List Cond) (k : ℕ) (x : Cond) → slice_get xs k ≡ Some x → k < length xs
+pub get-below : (xs : List Cond) (k : ℕ) (x : Cond) → slice_get xs k ≡ Some x → k < length xs
 get-below [] k x h = absurd (let z : ⊥ = cc in z)
 get-below (y ∷ xs) zero x h = let e : length (y ∷ xs) ≡ suc (length xs) = refl in omega (arith, e)
 get-below (y ∷ xs) (suc k) x h = let r = get-below xs k x h in let e : length (y ∷ xs) ≡ suc (length xs) = refl in omega (arith, e, r)

@@ -4,3 +4,6 @@ mod AddSteps
 mod Alone
 mod Rows
 mod EqualColumnsPlans
+mod EqualLiteralPlans
+mod EqualLiteralSteps
+mod LiteralRows

@@ -23,7 +23,7 @@ use Rattle.rule_trans.specs.Equalities.{equated, has_two, is_equality, is_some}
 use Rattle.rule_trans.specs.declared.equalities.Equality.{Equality}
 use Rattle.rule_trans.specs.EqualColumnsPlaces.{equal_columns_pairs, implied_of, infers_free, may_have, pairs_in, passes, row_from, takes}
 
-map-two : (f : Pair → Place) (xs ys : List Pair) → map f (xs ++ ys) ≡ map f xs ++ map f ys
+pub map-two : (f : Pair → Place) (xs ys : List Pair) → map f (xs ++ ys) ≡ map f xs ++ map f ys
 map-two f [] ys = refl
 map-two f (x ∷ xs) ys = ap (λ zs. f x ∷ zs) (map-two f xs ys)
 
@@ -40,7 +40,7 @@ pub grid_more : (g : QueryGraph) (n : Node) (b : ℕ) (first : ℕ) (xs : List G
 grid_more g n b first xs i h = ap (map (place_at b)) (grid-next g n first xs i h) ∙ map-two (place_at b) (row_from g n first (conds (drop i xs))) (grid (passes g n) (first + 1) (conds (drop (i + 1) xs)))
 
 -- where there aren't two equalities, none follows
-row-none : (p : Cond → Bool) (i first : ℕ) (cs : List Cond) → ((d : Cond) → In d cs → p d ≡ false) → row p i first cs ≡ []
+pub row-none : (p : Cond → Bool) (i first : ℕ) (cs : List Cond) → ((d : Cond) → In d cs → p d ≡ false) → row p i first cs ≡ []
 row-none p i first [] h = refl
 row-none p i first (d ∷ cs) h = ap (λ (t : Bool). picked t i first ++ row p i (first + 1) cs) (h d (inl refl)) ∙ row-none p i (first + 1) cs (λ e k. h e (inr k))
 

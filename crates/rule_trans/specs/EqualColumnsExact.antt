@@ -22,15 +22,16 @@ use Rattle.qgm_terms.specs.Terms as t
 use Rattle.qgm_terms.specs.declared.named.Column.{Column}
 use Rattle.qgm_wellformed.specs.Sentences.{WellFormed}
 use Rattle.rule_api.specs.PickLaws.{grid_ascending, grid_exact}
-use Rattle.rule_api.specs.Picks.{Passes, PassesBoth, grid}
+use Rattle.rule_api.specs.Picks.{PassesBoth, grid}
 use Rattle.rule_api.specs.Rules.{Ascending}
 use Rattle.rule_api.specs.declared.place.Place.{Place}
 use Rattle.rule_facts.specs.Told.{infers, told-is}
 use Rattle.rule_trans.specs.Adding.{add_plan}
 use Rattle.rule_trans.specs.EqualColumns.{MayEqualColumns}
 use Rattle.rule_trans.specs.EqualColumnsPlaces.{are_three, equal_columns_pairs, equality, implied, implied_by, implied_of, infers_free, is_outer_join, joins, pair_if, pairs_in, passes, takes}
-use Rattle.rule_trans.specs.Equalities.{both_of, column_of, equated, equates, is_of, is_same, is_some, is_there}
+use Rattle.rule_trans.specs.Equalities.{both_of, column_of, equated, equated_of, equates, is_of, is_same, is_some, is_there, sides}
 use Rattle.rule_trans.specs.Follows.{IsConjunct}
+use Rattle.rule_trans.specs.Numbered.{nth-from, nth-to}
 use Rattle.rule_trans.specs.declared.adding.AddPlan.{AddPlan}
 use Rattle.rule_trans.specs.declared.equalities.Equality.{Equality}
 
@@ -39,7 +40,7 @@ use Rattle.rule_trans.specs.declared.equalities.Equality.{Equality}
 abbrev pub col_of : Column → Term
 col_of a = col a.quant a.place
 
-column-from : (x : Term) (a : Column) → column_of x ≡ Some a → x ≡ col_of a
+pub column-from : (x : Term) (a : Column) → column_of x ≡ Some a → x ≡ col_of a
 column-from (int n) a h = absurd (let z : ⊥ = cc in z)
 column-from (text s) a h = absurd (let z : ⊥ = cc in z)
 column-from null_int a h = absurd (let z : ⊥ = cc in z)
@@ -58,43 +59,51 @@ both-from (Some x) None e h = absurd (let z : ⊥ = cc in z)
 both-from (Some x) (Some y) e h =
     let d : record { left = x; right = y } ≡ e = cc in (ap (λ (z : Equality). Some z.left) d, ap (λ (z : Equality). Some z.right) d)
 
+-- a condition whose two sides these are
+pub sides-from : (c : Cond) (p : Term × Term) → sides c ≡ Some p → c ≡ compare equal p.0 p.1
+sides-from always p h = absurd (let z : ⊥ = cc in z)
+sides-from (compare equal x y) p h = let d : (x, y) ≡ p = cc in ap (λ (q : Term × Term). compare equal q.0 q.1) d
+sides-from (compare unequal x y) p h = absurd (let z : ⊥ = cc in z)
+sides-from (compare below x y) p h = absurd (let z : ⊥ = cc in z)
+sides-from (compare at_most x y) p h = absurd (let z : ⊥ = cc in z)
+sides-from (compare above x y) p h = absurd (let z : ⊥ = cc in z)
+sides-from (compare at_least x y) p h = absurd (let z : ⊥ = cc in z)
+sides-from (compare same x y) p h = absurd (let z : ⊥ = cc in z)
+sides-from (compare like x y) p h = absurd (let z : ⊥ = cc in z)
+sides-from (is_null x) p h = absurd (let z : ⊥ = cc in z)
+sides-from (and a b) p h = absurd (let z : ⊥ = cc in z)
+sides-from (or a b) p h = absurd (let z : ⊥ = cc in z)
+sides-from (t.not a) p h = absurd (let z : ⊥ = cc in z)
+sides-from (some q a) p h = absurd (let z : ⊥ = cc in z)
+sides-from (every q a) p h = absurd (let z : ⊥ = cc in z)
+
+columns-from : (c : Cond) (o : Option (Term × Term)) → sides c ≡ o → (e : Equality) → equated_of o ≡ Some e → c ≡ equality e
+columns-from c None s e h = absurd (let z : ⊥ = cc in z)
+columns-from c (Some p) s e h = let b = both-from (column_of p.0) (column_of p.1) e h in sides-from c p s ∙ ap₂ (compare equal) (column-from p.0 e.left b.0) (column-from p.1 e.right b.1)
+
 -- a condition whose two columns these are
 pub equated-from : (c : Cond) (e : Equality) → equated c ≡ Some e → c ≡ equality e
-equated-from always e h = absurd (let z : ⊥ = cc in z)
-equated-from (compare equal x y) e h = let b = both-from (column_of x) (column_of y) e h in ap₂ (compare equal) (column-from x e.left b.0) (column-from y e.right b.1)
-equated-from (compare unequal x y) e h = absurd (let z : ⊥ = cc in z)
-equated-from (compare below x y) e h = absurd (let z : ⊥ = cc in z)
-equated-from (compare at_most x y) e h = absurd (let z : ⊥ = cc in z)
-equated-from (compare above x y) e h = absurd (let z : ⊥ = cc in z)
-equated-from (compare at_least x y) e h = absurd (let z : ⊥ = cc in z)
-equated-from (compare same x y) e h = absurd (let z : ⊥ = cc in z)
-equated-from (compare like x y) e h = absurd (let z : ⊥ = cc in z)
-equated-from (is_null x) e h = absurd (let z : ⊥ = cc in z)
-equated-from (and a b) e h = absurd (let z : ⊥ = cc in z)
-equated-from (or a b) e h = absurd (let z : ⊥ = cc in z)
-equated-from (t.not a) e h = absurd (let z : ⊥ = cc in z)
-equated-from (some q a) e h = absurd (let z : ⊥ = cc in z)
-equated-from (every q a) e h = absurd (let z : ⊥ = cc in z)
+equated-from c e h = columns-from c (sides c) refl e h
 
-same-from : (a b : Column) → is_same a b ≡ true → a ≡ b
+pub same-from : (a b : Column) → is_same a b ≡ true → a ≡ b
 same-from a b h =
     let p = and_parts (a.quant == b.quant) (a.place == b.place) h in
     ap₂ (λ (q k : ℕ). record { quant = q; place = k }) (eqb-true a.quant b.quant p.0) (eqb-true a.place b.place p.1)
 
-same-to : (a b : Column) → a ≡ b → is_same a b ≡ true
+pub same-to : (a b : Column) → a ≡ b → is_same a b ≡ true
 same-to a b e = and_from (a.quant == b.quant) (a.place == b.place) (eq-eqb a.quant b.quant (ap (λ (c : Column). c.quant) e)) (eq-eqb a.place b.place (ap (λ (c : Column). c.place) e))
 
 -- an equality of a and c, in either order
-abbrev Sides : Column → Column → Equality → Type 0
+abbrev pub Sides : Column → Column → Equality → Type 0
 Sides a c e = ((a ≡ e.left) × (c ≡ e.right)) ⊎ ((a ≡ e.right) × (c ≡ e.left))
 
-sides-equate : (a c : Column) (e : Equality) (d : Cond) → equated d ≡ Some e → Sides a c e → Equates (col_of a) (col_of c) d
+pub sides-equate : (a c : Column) (e : Equality) (d : Cond) → equated d ≡ Some e → Sides a c e → Equates (col_of a) (col_of c) d
 sides-equate a c e d h s = elim s [
   | inl p ↦ inl (equated-from d e h ∙ ap₂ (λ (x y : Column). compare equal (col_of x) (col_of y)) (sym p.0) (sym p.1))
   | inr p ↦ inr (equated-from d e h ∙ ap₂ (λ (x y : Column). compare equal (col_of x) (col_of y)) (sym p.1) (sym p.0))
 ]
 
-equate-sides : (a c : Column) (d : Cond) → Equates (col_of a) (col_of c) d → (e : Equality) × ((equated d ≡ Some e) × Sides a c e)
+pub equate-sides : (a c : Column) (d : Cond) → Equates (col_of a) (col_of c) d → (e : Equality) × ((equated d ≡ Some e) × Sides a c e)
 equate-sides a c d h = elim h [
   | inl e ↦ (record { left = a; right = c }, (ap equated e, inl (refl, refl)))
   | inr e ↦ (record { left = c; right = a }, (ap equated e, inr (refl, refl)))
@@ -268,36 +277,17 @@ outer-is (Group keys) h = absurd (let z : ⊥ = cc in z)
 outer-is (SetOp form types) h = absurd (let z : ⊥ = cc in z)
 outer-is OuterJoin h = refl
 
-kind-from : (n : Node) → takes n ≡ true → ((n.parts.kind ≡ Select) ⊎ (n.parts.kind ≡ OuterJoin)) × (is_fed n.parts.role ≡ false)
+pub kind-from : (n : Node) → takes n ≡ true → ((n.parts.kind ≡ Select) ⊎ (n.parts.kind ≡ OuterJoin)) × (is_fed n.parts.role ≡ false)
 kind-from n h =
     let p = and_parts (is_select n.parts.kind || is_outer_join n.parts.kind) (not (is_fed n.parts.role)) h in
     (elim (or_cases (is_select n.parts.kind) (is_outer_join n.parts.kind) p.0) [ inl t ↦ inl (select-is n.parts.kind t) | inr t ↦ inr (outer-is n.parts.kind t) ], not-true (is_fed n.parts.role) p.1)
 
-kind-to : (n : Node) → (n.parts.kind ≡ Select) ⊎ (n.parts.kind ≡ OuterJoin) → is_fed n.parts.role ≡ false → takes n ≡ true
+pub kind-to : (n : Node) → (n.parts.kind ≡ Select) ⊎ (n.parts.kind ≡ OuterJoin) → is_fed n.parts.role ≡ false → takes n ≡ true
 kind-to n k f =
     and_from (is_select n.parts.kind || is_outer_join n.parts.kind) (not (is_fed n.parts.role))
     (elim k [ inl e ↦ or_left (is_select n.parts.kind) (is_outer_join n.parts.kind) (ap is_select e) | inr e ↦ or_right (is_select n.parts.kind) (is_outer_join n.parts.kind) (ap is_outer_join e) ]) (ap not f)
 
 -- ---- the numbers of conjuncts
-
-record Nth (p : Cond → Bool) (first : ℕ) (cs : List Cond) (j : ℕ) : Type 0 where
-  k : ℕ
-  c : Cond
-  number : j ≡ k + first
-  nth : slice_get cs k ≡ Some c
-  passes : p c ≡ true
-
-nth-from : (p : Cond → Bool) (first : ℕ) (cs : List Cond) (j : ℕ) → Passes p first cs j → Nth p first cs j
-nth-from p first [] j h = elim h [ ]
-nth-from p first (c ∷ cs) j h = elim h [
-  | inl e ↦ record { k = 0; c = c; number = (let d = e.0 in omega arith); nth = refl; passes = e.1 }
-  | inr r ↦ (let x = nth-from p (first + 1) cs j r in record { k = suc x.k; c = x.c; number = (let d = x.number in omega arith); nth = x.nth; passes = x.passes })
-]
-
-nth-to : (p : Cond → Bool) (first : ℕ) (cs : List Cond) (k : ℕ) (c : Cond) (j : ℕ) → slice_get cs k ≡ Some c → p c ≡ true → j ≡ k + first → Passes p first cs j
-nth-to p first [] k c j h t e = absurd (let z : ⊥ = cc in z)
-nth-to p first (x ∷ cs) zero c j h t e = inl ((omega arith), (let d : x ≡ c = cc in ap p d ∙ t))
-nth-to p first (x ∷ cs) (suc k) c j h t e = inr (nth-to p (first + 1) cs k c j h t (omega arith))
 
 record Both (t : Cond → Cond → Bool) (first : ℕ) (cs : List Cond) (i j : ℕ) : Type 0 where
   k : ℕ

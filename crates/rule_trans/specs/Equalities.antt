@@ -1,4 +1,4 @@
--- The two columns that a condition equates.
+-- What a condition equates: two expressions, two columns.
 use Rattle.std.specs.Prelude.{◌==◌, ◌&&◌, ◌||◌, if◌then◌else◌, Bool, true, false, List, [], ◌∷◌, Option, Some, None}
 use Rattle.std.specs.List.{list_any}
 use Rattle.qgm_terms.specs.Terms.{Cond, Sign, Term, always, and, both, choose, col, compare, count_all, every, fold, int, is_null, minus_of, null_int, null_text, or, scalar, some, text, equal, unequal, below, at_most, above, at_least, same, like}
@@ -25,26 +25,34 @@ both_of None y = None
 both_of (Some x) None = None
 both_of (Some x) (Some y) = Some (record { left = x; right = y })
 
-abbrev pub equated_by : Sign → Option Column → Option Column → Option Equality
-equated_by equal x y = both_of x y
-equated_by unequal x y = None
-equated_by below x y = None
-equated_by at_most x y = None
-equated_by above x y = None
-equated_by at_least x y = None
-equated_by same x y = None
-equated_by like x y = None
+-- the two expressions that a condition equates
+abbrev pub sides_by : Sign → Term → Term → Option (Term × Term)
+sides_by equal x y = Some (x, y)
+sides_by unequal x y = None
+sides_by below x y = None
+sides_by at_most x y = None
+sides_by above x y = None
+sides_by at_least x y = None
+sides_by same x y = None
+sides_by like x y = None
+
+abbrev pub sides : Cond → Option (Term × Term)
+sides always = None
+sides (compare s x y) = sides_by s x y
+sides (is_null x) = None
+sides (and a b) = None
+sides (or a b) = None
+sides (t.not a) = None
+sides (some q a) = None
+sides (every q a) = None
+
+abbrev pub equated_of : Option (Term × Term) → Option Equality
+equated_of None = None
+equated_of (Some p) = both_of (column_of p.0) (column_of p.1)
 
 -- the columns of an equality of two
 abbrev pub equated : Cond → Option Equality
-equated always = None
-equated (compare s x y) = equated_by s (column_of x) (column_of y)
-equated (is_null x) = None
-equated (and a b) = None
-equated (or a b) = None
-equated (t.not a) = None
-equated (some q a) = None
-equated (every q a) = None
+equated c = equated_of (sides c)
 
 abbrev pub is_some : Option Equality → Bool
 is_some None = false

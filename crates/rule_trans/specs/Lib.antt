@@ -6,3 +6,7 @@ pub mod Equalities
 pub mod EqualColumnsPlaces
 pub mod EqualColumnsExact
 pub mod Adding
+pub mod Literals
+pub mod Numbered
+pub mod EqualLiteralPlaces
+pub mod EqualLiteralExact

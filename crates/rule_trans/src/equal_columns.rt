@@ -40,8 +40,8 @@ fn is_outer_join(kind: &BoxKind) -> bool
     }
 }
 
-// Whether a box is a select or an outer join that isn't fed.
-fn takes(node: &Node) -> bool
+/// Whether a box is a select or an outer join that isn't fed.
+pub fn takes(node: &Node) -> bool
     ensures { result ≡ spec.takes node.now }
 {
     (node.parts.kind.is_select() || is_outer_join(&node.parts.kind)) && !node.parts.role.is_fed()

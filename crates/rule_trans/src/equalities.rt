@@ -1,5 +1,5 @@
-// The two columns that a condition equates.
-ghost use Rattle.std.specs.Prelude.{◌≡◌};
+// What a condition equates: two expressions, two columns.
+ghost use Rattle.std.specs.Prelude.{◌≡◌, option_map};
 ghost use Rattle.qgm_terms.specs.Shown.{cond, conds, links, term};
 ghost use Rattle.qgm_props.specs.Lists.{is_none};
 ghost use Rattle.rule_trans.specs.Equalities as spec;
@@ -14,8 +14,8 @@ pub struct Equality {
     pub right: Column,
 }
 
-// Whether no operand stands behind the first one.
-fn is_alone(list: &[Link]) -> bool
+/// Whether no operand stands behind the first one.
+pub fn is_alone(list: &[Link]) -> bool
     ensures { result ≡ is_none (links list.now) }
 {
     match list {
@@ -24,8 +24,8 @@ fn is_alone(list: &[Link]) -> bool
     }
 }
 
-// The column that an expression is.
-fn column_of(x: &Gx) -> Option<Column>
+/// The column that an expression is.
+pub fn column_of(x: &Gx) -> Option<Column>
     ensures { result ≡ spec.column_of (term x.now) }
 {
     match x {
@@ -55,21 +55,29 @@ fn both_of(x: &Gx, y: &Gx) -> Option<Equality>
     Some(Equality { left, right })
 }
 
-/// The columns of an equality of two.
-pub fn equated(c: &Gc) -> Option<Equality>
-    ensures { result ≡ spec.equated (cond c.now) }
+/// The two expressions that a condition equates.
+pub fn sides(c: &Gc) -> Option<(&Gx, &Gx)>
+    ensures { option_map (λ p. (term p.0.now, term p.1.now)) result ≡ spec.sides (cond c.now) }
 {
     match c {
-        Gc::Compare(Sign::Eq, x, y) => both_of(x, y),
+        Gc::Compare(Sign::Eq, x, y) => Some((&**x, &**y)),
         Gc::Compare(
             Sign::Ne | Sign::Lt | Sign::Le | Sign::Gt | Sign::Ge | Sign::Same | Sign::Like,
             _,
             _,
         ) => None,
-        Gc::All(a, list) => { if is_single(list) { equated(a) } else { None } }
-        Gc::Any(a, list) => { if is_single(list) { equated(a) } else { None } }
+        Gc::All(a, list) => { if is_single(list) { sides(a) } else { None } }
+        Gc::Any(a, list) => { if is_single(list) { sides(a) } else { None } }
         Gc::True | Gc::IsNull(_) | Gc::Not(_) | Gc::Some(_, _) | Gc::Every(_, _) => None,
     }
+}
+
+/// The columns of an equality of two.
+pub fn equated(c: &Gc) -> Option<Equality>
+    ensures { result ≡ spec.equated (cond c.now) }
+{
+    let (x, y) = sides(c)?;
+    both_of(x, y)
 }
 
 // Whether no condition stands behind the first one.
@@ -82,8 +90,8 @@ fn is_single(list: &[Gc]) -> bool
     }
 }
 
-// Whether a condition is an equality of two columns.
-fn is_equality(c: &Gc) -> bool
+/// Whether a condition is an equality of two columns.
+pub fn is_equality(c: &Gc) -> bool
     ensures { result ≡ spec.is_equality (cond c.now) }
 {
     equated(c).is_some()

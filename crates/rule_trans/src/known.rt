@@ -1,13 +1,15 @@
-// Whether a column is inferred to hold no error.
+// What is known of a column: over which box it is, and whether it is inferred to hold no error.
 ghost use Rattle.std.specs.Prelude.{◌≡◌, option_map};
 ghost use Rattle.qgm_core.specs.Boxes.{is_quant, owns, range_in};
 ghost use Rattle.list_laws.specs.Lists.{first};
 ghost use Rattle.qgm_props.specs.Laws.{Tells};
 ghost use Rattle.qgm_props.specs.Table.{facts_of};
 ghost use Rattle.rule_trans.specs.EqualColumnsPlaces as spec;
+ghost use Rattle.rule_trans.specs.EqualLiteralPlaces as bases;
 
 use qgm_core::{Column, Graph, Node, OwnedQuant, QuantId, has_range};
 use qgm_props::Props;
+use rule_facts::box_at;
 
 // The owner of a quantifier.
 fn owner_of(nodes: &[Node], q: QuantId) -> Option<&Node>
@@ -48,6 +50,31 @@ pub fn infers_free(graph: &Graph, known: &Props, b: Column) -> bool
 {
     match range_of(graph.nodes(), b.quant) {
         Some(range) => known.error_free(range.over, b.place),
+        None => false,
+    }
+}
+
+// Whether a quantifier is an F over a base.
+fn is_over_base(graph: &Graph, range: OwnedQuant) -> bool
+    ensures { result ≡ bases.is_over_base graph.now range }
+{
+    graph.each_number_once();
+    if !range.kind.is_f() {
+        return false;
+    }
+    match box_at(graph.nodes(), range.over) {
+        Some(node) => node.parts.kind.is_base(),
+        None => false,
+    }
+}
+
+/// Whether a quantifier, of whichever box, is an F over a base.
+#[tactic(auto, unfolding(crate::specs::EqualLiteralPlaces::ranges_over_base))]
+pub fn ranges_over_base(graph: &Graph, q: QuantId) -> bool
+    ensures { result ≡ bases.ranges_over_base graph.now q }
+{
+    match range_of(graph.nodes(), q) {
+        Some(range) => is_over_base(graph, range),
         None => false,
     }
 }
