@@ -10,3 +10,5 @@ pub mod FactsThere
 pub mod FactsWithoutDistinct
 pub mod MarksBefore
 pub mod Actions
+pub mod FedClosed
+pub mod Picked

@@ -1,5 +1,5 @@
 -- A sound graph meets what inference asks, and what is inferred to be clean in it is, with DISTINCT and without.
-use Rattle.std.proofs.Common.{ℕ, ◌≡◌, ◌&&◌, ◌+◌, cond, Bool, true, false, List, [], ◌∷◌, ◌++◌, length, refl, sym, ap, subst, ◌∙◌, inl, inr, arith}
+use Rattle.std.proofs.Common.{ℕ, ◌≡◌, ◌&&◌, cond, Bool, true, false, List, [], ◌∷◌, ◌++◌, length, refl, sym, ap, subst, ◌∙◌, inl, inr, arith}
 use Rattle.std.proofs.lemmas.Bool.{and_parts}
 use Rattle.std.specs.List.{list_all}
 use Rattle.row_bag.specs.AsSets.{is_clean}

@@ -3,9 +3,11 @@
 #![tactic(auto)]
 
 mod boxes;
+mod fed;
 mod laws;
 mod told;
 
 pub use boxes::box_at;
+pub use fed::{any_fed, any_fed_closed};
 pub use laws::premise_laws;
 pub use told::infers_clean;

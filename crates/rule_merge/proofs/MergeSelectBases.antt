@@ -1,5 +1,5 @@
 -- In a base nothing is free, and M1 has places only at a select that isn't fed and has an F.
-use Rattle.std.proofs.Common.{ℕ, ◌+◌, ◌==◌, ◌&&◌, ◌||◌, ◌≡◌, not, cond, Bool, true, false, List, [], ◌∷◌, ◌++◌, filter, Option, Some, None, refl, ap, subst, ◌∙◌, eqb-true, inl, inr}
+use Rattle.std.proofs.Common.{ℕ, ◌==◌, ◌&&◌, ◌||◌, ◌≡◌, not, cond, Bool, true, false, List, [], ◌∷◌, ◌++◌, filter, Option, Some, None, refl, ap, subst, ◌∙◌, eqb-true, inl, inr}
 use Rattle.std.specs.List.{flat_map, list_any}
 use Rattle.std.proofs.Math.Bool.{and-false}
 use Rattle.std.proofs.lemmas.Bool.{and_from, and_parts, cases_Bool}
@@ -20,8 +20,10 @@ use Rattle.qgm_edit_laws.proofs.Formed.{sound-checked}
 use Rattle.qgm_edit_laws.proofs.Levels.{some-in}
 use Rattle.qgm_edit_laws.proofs.Ranks.{same-box}
 use Rattle.qgm_terms.specs.Named.{names_in, names_in_cond}
-use Rattle.rule_api.specs.Picks.{picked, picks}
-use Rattle.rule_merge.specs.MergeSelect.{any_fed_closed, any_under, base_found, cells_free, cells_stand, copies_little, distinct_fits, has_lateral, is_lateral, is_plain_select, may_at, may_go_in, may_have, may_in, may_merge, may_over, may_stand, merged_with, over_base, parts_fit}
+use Rattle.rule_api.specs.Picks.{picks}
+use Rattle.rule_facts.proofs.Picked.{none-picked}
+use Rattle.rule_facts.specs.FedClosed.{any_fed_closed}
+use Rattle.rule_merge.specs.MergeSelect.{any_under, base_found, cells_free, cells_stand, copies_little, distinct_fits, has_lateral, is_lateral, is_plain_select, may_at, may_go_in, may_have, may_in, may_merge, may_over, may_stand, merged_with, over_base, parts_fit}
 use Rattle.list_laws.proofs.Membership.{any-from}
 use Rattle.list_laws.proofs.Booleans.{clash}
 
@@ -73,10 +75,6 @@ base_apart g u w c s h =
     ap (λ z. is_F s.kind && list_any (λ q. owns q c && not (q == s.id)) z) f ∙ and-false (is_F s.kind)
 
 -- ---- places
-
-none-picked : {X : Type 0} (p : X → Bool) (first : ℕ) (xs : List X) → ((x : X) → In x xs → p x ≡ false) → picks p first xs ≡ []
-none-picked p first [] h = refl
-none-picked p first (x ∷ xs) h = ap (λ z. picked z first 0 ++ picks p (first + 1) xs) (h x (inl refl)) ∙ none-picked p (first + 1) xs (λ y i. h y (inr i))
 
 not-at : (g : QueryGraph) (b : Node) → may_have b ≡ false → (r : OwnedQuant) → In r b.quants → may_at g b r ≡ false
 not-at g b h r i = elim (cases_Bool (may_at g b r)) [

@@ -1,5 +1,5 @@
 -- Where no box is fed, none is after M1.
-use Rattle.std.proofs.Common.{ℕ, ◌==◌, ◌≡◌, ◌&&◌, cond, true, false, List, [], ◌∷◌, map, refl, sym, ap, ◌∙◌}
+use Rattle.std.proofs.Common.{ℕ, ◌==◌, ◌≡◌, cond, true, false, List, [], ◌∷◌, map, refl, sym, ap, ◌∙◌}
 use Rattle.qgm_core.specs.Boxes.{QueryGraph, is_box}
 use Rattle.qgm_core.specs.Free.{reached}
 use Rattle.qgm_core.specs.Kinds.{is_fed}
@@ -10,8 +10,10 @@ use Rattle.rule_merge.specs.Merged.{merge_node, merged}
 use Rattle.qgm_edit_laws.proofs.Compact.{in-kept}
 use Rattle.qgm_edit_laws.proofs.PlacedOne.{in-less}
 use Rattle.qgm_meaning.specs.Scope.{put_node}
-use Rattle.rule_merge.specs.MergeSelect.{any_fed, any_fed_closed, fed_closed, merged_with, second_closed, spliced}
-use Rattle.list_laws.proofs.Membership.{any-none, any-not, in-map}
+use Rattle.rule_facts.proofs.FedClosed.{unfed-open}
+use Rattle.rule_facts.specs.FedClosed.{any_fed, any_fed_closed}
+use Rattle.rule_merge.specs.MergeSelect.{merged_with, spliced}
+use Rattle.list_laws.proofs.Membership.{any-none, in-map}
 
 -- M1 keeps the role of a box
 role-kept : (b q : ℕ) (c : Node) (rs : List OwnedQuant) (n : Node) → (merge_node b q c rs n).parts.role ≡ n.parts.role
@@ -32,4 +34,4 @@ module _ (g : QueryGraph) (b c : Node) (q : ℕ) (none : any_fed g.boxes ≡ fal
       ∙ any-none (λ (z : Node). is_fed z.parts.role) x.0 g.boxes none (in-less (is_box c.id) g.boxes x.0 x.1.0)
 
   pub merged_unfed : any_fed_closed (merged_with g b c q) ≡ false
-  merged_unfed = any-not (fed_closed (merged_with g b c q).boxes) (merged_with g b c q).boxes (λ n i. ap (λ z. z && second_closed (merged_with g b c q).boxes n.quants) (unfed n i))
+  merged_unfed = unfed-open (merged_with g b c q) unfed

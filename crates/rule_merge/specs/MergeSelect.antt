@@ -1,12 +1,11 @@
 -- M1, a select is merged into the select above it: its condition, the test of it, its places and its action.
-use Rattle.std.proofs.Common.{ℕ, suc, ◌==◌, ◌&&◌, ◌||◌, ◌≡◌, ◌+◌, ◌≤◌, ◌++◌, not, Bool, true, false, List, [], ◌∷◌, length, Option, Some, None}
-use Rattle.std.specs.Prelude.{◌-◌, if◌then◌else◌, nat_le}
+use Rattle.std.proofs.Common.{ℕ, suc, ◌==◌, ◌&&◌, ◌||◌, ◌≡◌, ◌≤◌, ◌++◌, not, Bool, true, false, List, [], ◌∷◌, length, Option, Some, None}
+use Rattle.std.specs.Prelude.{if◌then◌else◌, nat_le}
 use Rattle.std.specs.List.{list_any}
 use Rattle.qgm_wellformed.specs.Shapes.{all_F}
-use Rattle.qgm_wellformed.specs.WellFormed.{is_empty}
 use Rattle.qgm_core.specs.Boxes.{QueryGraph, box_of, is_box, overs_in, owns, quants_of}
 use Rattle.qgm_core.specs.Edits.{compact, on_boxes, set_distinct}
-use Rattle.qgm_core.specs.Free.{free, free_in}
+use Rattle.qgm_core.specs.Free.{free}
 use Rattle.qgm_core.specs.Kinds.{is_F, is_enforce, is_fed, is_magic, is_permit, is_plain, is_preserve, is_select, is_base}
 use Rattle.list_laws.specs.Lists.{In, times, first}
 use Rattle.qgm_core.specs.declared.kinds.BoxKind.TheVariants.{Select}
@@ -28,6 +27,7 @@ use Rattle.qgm_terms.specs.Wanted.{node_free}
 use Rattle.rule_api.specs.Picks.{picks}
 use Rattle.rule_api.specs.Rules.{Pair}
 use Rattle.rule_api.specs.declared.place.Place.{Place}
+use Rattle.rule_facts.specs.FedClosed.{any_fed_closed}
 
 -- c is PRESERVE, or its DISTINCT may go: b is ENFORCE, or b is PERMIT and two facts are inferred, that b is clean, and that c is clean in the graph in which c is PRESERVE
 pub data DistinctFits (g : QueryGraph) (b c : Node) : Type 0 where
@@ -113,24 +113,6 @@ read_elsewhere b q k boxes = list_any (λ y. not (y.id == b) && reads_in q k y) 
 abbrev pub cells_free : ℕ → ℕ → List Node → ℕ → List Term → Bool
 cells_free b q boxes k [] = true
 cells_free b q boxes k (x ∷ xs) = (node_free x || not (read_elsewhere b q k boxes)) && cells_free b q boxes (suc k) xs
-
--- the second of two quantifiers ranges over a closed box
-abbrev pub second_closed : List Node → List OwnedQuant → Bool
-second_closed boxes [] = false
-second_closed boxes (a ∷ []) = false
-second_closed boxes (a ∷ (d ∷ [])) = is_empty (free_in boxes d.over)
-second_closed boxes (a ∷ (d ∷ (e ∷ rs))) = false
-
--- a fed box over a closed box
-abbrev pub fed_closed : List Node → Node → Bool
-fed_closed boxes n = is_fed n.parts.role && second_closed boxes n.quants
-
-abbrev pub any_fed_closed : QueryGraph → Bool
-any_fed_closed g = list_any (fed_closed g.boxes) g.boxes
-
--- a box of these is fed
-abbrev pub any_fed : List Node → Bool
-any_fed boxes = list_any (λ n. is_fed n.parts.role) boxes
 
 -- c has one use, and cells that may stand in other boxes than b
 abbrev pub cells_stand : QueryGraph → Node → OwnedQuant → Node → Bool

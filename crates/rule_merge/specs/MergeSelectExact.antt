@@ -5,11 +5,10 @@ use Rattle.std.specs.List.{list_any}
 use Rattle.std.proofs.lemmas.Bool.{and_from, and_parts, cases_Bool, eq-eqb, le-leb, leb-true, not-true, or_cases, or_left, or_parts, or_right}
 use Rattle.qgm_wellformed.specs.Sentences.{WellFormed}
 use Rattle.qgm_wellformed.specs.Shapes.{all_F}
-use Rattle.qgm_wellformed.specs.WellFormed.{is_empty}
 use Rattle.qgm_wellformed.specs.declared.clause.Clause.TheVariants.{I2}
 use Rattle.qgm_core.specs.Boxes.{QueryGraph, box_of, ids_in, ids_of, is_box, is_quant, overs_in, owns, quants_in, quants_of, numbers}
 use Rattle.qgm_core.specs.Edits.{compact, on_boxes, set_distinct}
-use Rattle.qgm_core.specs.Free.{free, free_in}
+use Rattle.qgm_core.specs.Free.{free}
 use Rattle.qgm_core.specs.Kinds.{is_F, is_enforce, is_fed, is_magic, is_permit, is_plain, is_preserve, is_select}
 use Rattle.list_laws.specs.Lists.{In, times, first, EachOnce}
 use Rattle.qgm_core.specs.declared.kinds.Distinct.TheVariants.{Preserve}
@@ -39,8 +38,10 @@ use Rattle.rule_merge.specs.MergeSelectSteps.{Plans}
 use Rattle.rule_merge.specs.declared.merge_select.action.MergePlan.{MergePlan}
 use Rattle.rule_facts.proofs.FactsWithoutDistinct.{infers-same}
 use Rattle.rule_facts.specs.Told.{infers}
+use Rattle.rule_facts.specs.FedClosed.{any_fed_closed}
+use Rattle.rule_facts.proofs.FedClosed.{fed-from, fed-to}
 use Rattle.qgm_core.proofs.KindTests.{f-is, enforce-is, preserve-is, permit-is, plain-is, magic-is, select-is}
-use Rattle.rule_merge.specs.MergeSelect.{DistinctFits, IsMergeable, MayMergeSelect, spliced, merged_with, parts_fit, infers_clean, are_clean, distinct_fits, is_lateral, has_lateral, read_elsewhere, cells_free, second_closed, fed_closed, any_fed_closed, cells_stand, copies_little, may_go_in, may_stand, may_with, may_over, may_at, may_in, may_merge, merge_select_pairs, preserved, enforced, permitted}
+use Rattle.rule_merge.specs.MergeSelect.{DistinctFits, IsMergeable, MayMergeSelect, spliced, merged_with, parts_fit, infers_clean, are_clean, distinct_fits, is_lateral, has_lateral, read_elsewhere, cells_free, cells_stand, copies_little, may_go_in, may_stand, may_with, may_over, may_at, may_in, may_merge, merge_select_pairs, preserved, enforced, permitted}
 use Rattle.list_laws.proofs.Counting.{times-in}
 use Rattle.list_laws.proofs.Membership.{any-from, any-in, any-none, any-not, eq-itself, in-right}
 use Rattle.list_laws.proofs.Booleans.{clash}
@@ -154,27 +155,6 @@ cells-from b q bs xs h y i f (suc m) r = free-from b q bs 1 xs h y i f m (suc m)
 
 cells-to : (b q : ℕ) (bs : List Node) (xs : List Term) → ((y : Node) → In y bs → (y.id == b) ≡ false → (k : ℕ) → reads_in q k y ≡ true → node_free (cell_at k xs) ≡ true) → cells_free b q bs 1 xs ≡ true
 cells-to b q bs xs h = free-to b q bs 1 xs (λ y i f m j e r. h y i f (suc m) (let d : j ≡ suc m = omega arith in subst (λ z. reads_in q z y ≡ true) d r))
-
--- ---- fed boxes
-
-second-is : (bs : List Node) (rs : List OwnedQuant) → second_closed bs rs ≡ true → (a : OwnedQuant) × ((d : OwnedQuant) × ((rs ≡ a ∷ (d ∷ [])) × (is_empty (free_in bs d.over) ≡ true)))
-second-is bs [] h = absurd (let z : ⊥ = cc in z)
-second-is bs (a ∷ []) h = absurd (let z : ⊥ = cc in z)
-second-is bs (a ∷ (d ∷ [])) h = (a, (d, (refl, h)))
-second-is bs (a ∷ (d ∷ (e ∷ rs))) h = absurd (let z : ⊥ = cc in z)
-
-fed-from : (h : QueryGraph) → any_fed_closed h ≡ false → FedOpen h.boxes
-fed-from h f n i fed a d e =
-    ap (second_closed h.boxes) (sym e) ∙ and-rest (is_fed n.parts.role) (second_closed h.boxes n.quants) fed (any-none (fed_closed h.boxes) n h.boxes f i)
-
-fed-to : (h : QueryGraph) → FedOpen h.boxes → any_fed_closed h ≡ false
-fed-to h f = any-not (fed_closed h.boxes) h.boxes (λ n i. elim (cases_Bool (fed_closed h.boxes n)) [
-  | inr k ↦ k
-  | inl t ↦ absurd (
-      let a = and_parts (is_fed n.parts.role) (second_closed h.boxes n.quants) t in
-      let s = second-is h.boxes n.quants a.1 in
-      clash (is_empty (free_in h.boxes s.1.0.over)) s.1.1.1 (f n i a.0 s.0 s.1.0 s.1.1.0))
-])
 
 -- ---- the quantifiers of c in the place of r
 

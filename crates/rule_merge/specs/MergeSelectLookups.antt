@@ -6,7 +6,7 @@ use Rattle.qgm_core.specs.Free.{named_by}
 use Rattle.list_laws.specs.Lists.{holds}
 use Rattle.qgm_core.specs.declared.node.Node.{Node}
 use Rattle.qgm_core.specs.declared.owned.OwnedQuant.{OwnedQuant}
-use Rattle.rule_merge.specs.MergeSelect.{any_fed}
+use Rattle.rule_facts.specs.FedClosed.{any_fed}
 use Rattle.rule_merge.specs.declared.merge_select.lookups.Lookups.{Lookups}
 
 -- what a box names that it doesn't own

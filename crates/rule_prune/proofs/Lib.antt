@@ -5,3 +5,6 @@ pub mod Preserving
 pub mod Dropping
 pub mod UnnamedGo
 pub mod DropColumnSteps
+pub mod DropQuantifierActs
+pub mod DropColumnActs
+pub mod NamedAbove

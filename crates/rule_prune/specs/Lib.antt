@@ -1,5 +1,9 @@
+pub mod NamedColumns
+pub mod NamedColumnsLaws
 pub mod DropColumn
+pub mod DropColumnExact
 pub mod DropQuantifier
+pub mod DropQuantifierExact
 pub mod Laws
 pub mod Unnamed
 pub mod Pruned

@@ -1,8 +1,10 @@
 //! The rules that drop what nothing names.
 #![tactic(auto)]
 
+mod drop_column;
+mod drop_quantifier;
 mod laws;
-mod prune;
 
+pub use drop_column::DropColumn;
+pub use drop_quantifier::DropQuantifier;
 pub use laws::prune_laws;
-pub use prune::{prune_quant, pruned_column, without_quant};

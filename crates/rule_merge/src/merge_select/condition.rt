@@ -23,7 +23,7 @@ use qgm_core::{BoxId, Graph, Head, Node, OwnedQuant, QuantId, free_in, has_range
 use qgm_props::props;
 use qgm_term_search::{is_node_free, stands_in_cells, stands_in_conds};
 use qgm_terms::{Sought, both};
-use rule_facts::box_at;
+use rule_facts::{any_fed_closed, box_at};
 use shared_types::OutOfMemory;
 use std::alloc::Global;
 
@@ -148,40 +148,6 @@ fn cells_free(nodes: &[Node], b: BoxId, q: QuantId, head: &Head) -> bool
         }
     }
     true
-}
-
-// Whether the second of two quantifiers ranges over a closed box.
-fn second_closed(alloc: Global, nodes: &[Node], ranges: &[OwnedQuant]) -> Result<bool, OutOfMemory>
-    ensures { IfOk result (λ closed. closed ≡ spec.second_closed nodes.now ranges.now) }
-{
-    match ranges {
-        [] | [_] | [_, _, _, ..] => Ok(false),
-        [_, d] => {
-            let free = free_in(alloc, nodes, d.over)?;
-            Ok(free.is_empty())
-        }
-    }
-}
-
-// Whether a box is fed, and that over a closed box.
-fn fed_closed(alloc: Global, nodes: &[Node], node: &Node) -> Result<bool, OutOfMemory>
-    ensures { IfOk result (λ closed. closed ≡ spec.fed_closed nodes.now node.now) }
-{
-    if !node.parts.role.is_fed() {
-        return Ok(false);
-    }
-    second_closed(alloc, nodes, node.quants.as_slice())
-}
-
-fn any_fed_closed(alloc: Global, graph: &Graph) -> Result<bool, OutOfMemory>
-    ensures { IfOk result (λ closed. closed ≡ spec.any_fed_closed graph.now) }
-{
-    for node in graph.nodes() {
-        if fed_closed(alloc, graph.nodes(), node)? {
-            return Ok(true);
-        }
-    }
-    Ok(false)
 }
 
 // Whether c has one use, and cells that may stand in other boxes than b.

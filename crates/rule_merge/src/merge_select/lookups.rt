@@ -2,10 +2,10 @@
 ghost use Rattle.std.specs.Prelude.{◌≡◌, IfOk};
 ghost use Rattle.qgm_core.specs.Boxes.{numbers};
 ghost use Rattle.rule_merge.specs.MergeSelectLookups.{AreOfGraph};
-ghost use Rattle.rule_merge.specs.MergeSelect.{any_fed};
 
 use crate::merge_select::foreign::foreign_if;
 use qgm_core::{Counts, Graph, Marks, Node, OwnedQuant, Places, node_at, uses_of};
+use rule_facts::any_fed;
 use shared_types::OutOfMemory;
 use std::alloc::Global;
 
@@ -22,13 +22,6 @@ pub struct Lookups<'a> {
     pub counts: Counts,
     pub is_any_fed: bool,
     pub foreign: Option<Marks>,
-}
-
-// Whether a box of these is fed.
-fn any_fed(nodes: &[Node]) -> bool
-    ensures { result ≡ any_fed nodes.now }
-{
-    nodes.iter().any(|n| n.parts.role.is_fed())
 }
 
 // Whether a quantifier ranges over a box with two or more.

@@ -1,5 +1,5 @@
-// Quantifiers and columns go on a copy of the graph, which then stands in its place.
-ghost use Rattle.std.specs.Prelude.{ℕ, ◌≡◌, ◌≤◌, ◌-◌, length, IfOk, OnErr, OnOk};
+// A column goes on a copy of the graph, and the quantifiers that nothing names then.
+ghost use Rattle.std.specs.Prelude.{ℕ, ◌≡◌, ◌≤◌, length, IfOk};
 ghost use Rattle.qgm_core.specs.Boxes.{HasBox, HasQuant, box_of};
 ghost use Rattle.qgm_core.specs.Edits as edits;
 ghost use Rattle.list_laws.specs.Lists.{EachOnce, In};
@@ -14,29 +14,6 @@ use qgm_terms::Sought;
 use rule_facts::box_at;
 use shared_types::OutOfMemory;
 use std::alloc::Global;
-
-/// The graph without quantifier q and what the root then doesn't reach.
-pub fn without_quant(alloc: Global, graph: &Graph, q: QuantId) -> Result<Graph, OutOfMemory>
-    requires { HasQuant q graph.now }
-    ensures { IfOk result (λ h. h ≡ edits.compact (edits.drop_quant q graph.now)) }
-{
-    let mut after = graph.copy(alloc)?;
-    after.drop_quant(q);
-    after.compact(alloc)?;
-    Ok(after)
-}
-
-/// Drops quantifier q, and what the root then doesn't reach. Where there is no memory it fails, and
-/// the graph is as before.
-pub fn prune_quant(alloc: Global, graph: &mut Graph, q: QuantId) -> Result<(), OutOfMemory>
-    requires { HasQuant q graph.old }
-    ensures ok { OnOk result (graph.new ≡ edits.compact (edits.drop_quant q graph.old)) }
-    ensures err { OnErr result (graph.new ≡ graph.old) }
-{
-    let after = without_quant(alloc, graph, q)?;
-    *graph = after;
-    Ok(())
-}
 
 /// The graph where column k of b has gone.
 pub fn without_column(

@@ -1,7 +1,7 @@
 use Rattle.std.proofs.Common.{◌≡◌, drop}
 use Rattle.std.specs.List.{list_any}
-use Rattle.rule_merge.specs.MergeSelect.{fed_closed}
-use Rattle.rule_merge.proofs.merge_select.condition.any_fed_closed.Given as goal
+use Rattle.rule_facts.specs.FedClosed.{fed_closed}
+use Rattle.rule_facts.proofs.fed.any_fed_closed.Given as goal
 
 -- what is left decides
 abbrev pub invariant-loop-node : goal.invariant-loop-node

@@ -2,7 +2,7 @@ use Rattle.std.proofs.Common.{ℕ, ◌≡◌, drop}
 use Rattle.qgm_core.specs.Boxes.{HasQuant}
 use Rattle.list_laws.specs.Lists.{EachOnce, In}
 use Rattle.rule_prune.specs.Unnamed.{dropped_all}
-use Rattle.rule_prune.proofs.prune.drop_all.Given as goal
+use Rattle.rule_prune.proofs.drop_column.action.drop_all.Given as goal
 
 -- what is left stands yet, and does the rest
 abbrev pub invariant-loop-q : goal.invariant-loop-q

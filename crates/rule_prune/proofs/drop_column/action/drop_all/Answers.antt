@@ -2,7 +2,7 @@ use Rattle.std.proofs.Common.{ℕ, ◌+◌, ◌∷◌, ◌∙◌, List, drop, sl
 use Rattle.list_laws.specs.Lists.{EachOnce, In}
 use Rattle.rule_prune.specs.Unnamed.{dropped_all}
 use Rattle.rule_prune.proofs.Dropping.{drop-at, other-once}
-use Rattle.rule_prune.proofs.prune.drop_all.Goals as goal
+use Rattle.rule_prune.proofs.drop_column.action.drop_all.Goals as goal
 
 pub loop-q-preserved : goal.loop-q-preserved
 loop-q-preserved c =

@@ -1,9 +1,8 @@
 use Rattle.std.proofs.Common.{ℕ, ◌∙◌, List, sym, ap, subst}
 use Rattle.qgm_core.specs.Boxes.{is_box}
 use Rattle.list_laws.specs.Lists.{EachOnce, In, first}
-use Rattle.rule_prune.specs.Unnamed.{unnamed}
 use Rattle.rule_prune.proofs.DropColumnSteps.{all-held, all-once, box-found}
-use Rattle.rule_prune.proofs.prune.pruned_column.Goals as goal
+use Rattle.rule_prune.proofs.drop_column.action.pruned_column.Goals as goal
 
 pub unreachable-requires : goal.unreachable-requires
 unreachable-requires c = box-found c.in_ok-after.after c.args.b c.in_ok-after.ensures.held (sym (c.in_default.ensures ∙ ap (first (is_box c.args.b)) c.nodes.ensures))

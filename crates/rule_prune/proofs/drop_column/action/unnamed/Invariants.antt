@@ -1,6 +1,6 @@
 use Rattle.std.proofs.Common.{◌≡◌, ◌++◌, drop}
 use Rattle.rule_prune.specs.Unnamed.{unnamed}
-use Rattle.rule_prune.proofs.prune.unnamed.Given as goal
+use Rattle.rule_prune.proofs.drop_column.action.unnamed.Given as goal
 
 -- what is left adds the rest
 abbrev pub invariant-loop-r : goal.invariant-loop-r
