@@ -1,10 +1,9 @@
 -- Selects of kept rows, some of which are found by hashes.
-use Rattle.std.proofs.Common.{ℕ, suc, zero, ◌≡◌, ◌<◌, ◌≤◌, ◌+◌, ◌-◌, ◌++◌, ◌∷◌, ◌&&◌, ◌==◌, Bool, true, false, All, List, [], Option, Some, None, get_or, length, slice_get, refl, sym, ap, ap₂, subst, ◌∙◌, ◌⊎◌, inl, inr, arith}
+use Rattle.std.proofs.Common.{ℕ, suc, zero, ◌≡◌, ◌<◌, ◌≤◌, ◌+◌, ◌++◌, ◌∷◌, ◌&&◌, ◌==◌, Bool, true, false, All, List, [], Option, Some, get_or, length, slice_get, refl, sym, ap, ap₂, subst, ◌∙◌, ◌⊎◌, inl, inr, arith}
 use Rattle.std.specs.List.{list_any}
 use Rattle.std.proofs.lemmas.Bool.{eq-eqb}
 use Rattle.std.specs.Prelude.{IfSome}
 use Rattle.std.proofs.lemmas.List.{get_or_default, length_push}
-use Rattle.sql_value.specs.Comparison.{same}
 use Rattle.sql_value.specs.declared.truth.Truth.{Truth}
 use Rattle.row_bag.specs.Bags.{Alike}
 use Rattle.row_bag.specs.declared.tables.Table.{Table}
@@ -16,22 +15,24 @@ use Rattle.qgm_meaning.specs.Values.{Bag, Environment, bound, truth}
 use Rattle.qgm_terms.specs.Shown as shown
 use Rattle.box_exec.specs.Early.{is_none, is_open, rejects}
 use Rattle.box_exec.specs.Hashed.{AllHashed, AllKept, HashesAt, KeptPlan, LeadsAt, rows_kept}
-use Rattle.box_exec.specs.Lookup.{IsKey, Leads, RejectsBy}
+use Rattle.box_exec.specs.Equalities.{IsKey, other_of, own_of}
+use Rattle.box_exec.specs.Lookup.{Leads, RejectsBy}
 use Rattle.box_exec.specs.Plans.{Planned, family, left_at, tables_of}
 use Rattle.box_exec.specs.Ready.{Stands as Under_stands}
 use Rattle.box_exec.specs.Sources.{held_by}
 use Rattle.box_exec.specs.declared.boxes.At.{At}
 use Rattle.box_exec.specs.declared.early.Early.{Early}
 use Rattle.box_exec.specs.declared.lookup.Hashed.{Hashed}
-use Rattle.box_exec.specs.declared.lookup.Key.{Key}
-use Rattle.box_exec.specs.declared.lookup.Way.{Way}
+use Rattle.box_exec.specs.declared.key.Key.{Key}
+use Rattle.row_index.specs.declared.ways.Way.{Way}
 use Rattle.box_exec.specs.declared.hashed.Whole.{Whole}
 use Rattle.box_exec.specs.declared.source.Source.{Source}
 use Rattle.box_exec.specs.declared.under.Loop.{Loop}
 use Rattle.box_exec.specs.declared.under.Under.{Under}
 use Rattle.box_exec.specs.declared.under.Under.TheVariants.{Kept, Open, Nothing}
 use Rattle.box_exec.proofs.Lookups.{some-is}
-use Rattle.box_exec.proofs.Probes.{any-at}
+use Rattle.box_exec.proofs.Equalities.{apart-none}
+use Rattle.box_exec.proofs.Rejections.{any-at}
 use Rattle.box_exec.proofs.Quantifiers.{given-at, past-all}
 use Rattle.list_laws.proofs.Booleans.{neither-left, neither-right}
 
@@ -70,8 +71,9 @@ led at place l rows env way is leads = subst (λ (rs : Bag). Leads (rejects at.e
 
 -- a condition of the place is the key's
 pub key-rejects : (es : List Early) (i : ℕ) (e : Early) (place q : ℕ) (key : Key) → i < length es → e ≡ get_or es i e → e.place ≡ place → IsKey q (shown.cond e.cond.now) key → RejectsBy (rejects es place) q key
-key-rejects es i e place q key l at here is cells env skip =
-    let no : is_none (truth (held_by []) (shown.cond e.cond.now) (bound q cells env)).t ≡ true = ap (λ (x : Truth). is_none x.t) (is (held_by []) cells env) ∙ skip in
+key-rejects es i e place q key l at here is cells env own other apart =
+    let no : is_none (truth (held_by []) (shown.cond e.cond.now) (bound q cells env)).t ≡ true =
+    ap (λ (x : Truth). is_none x.t) (is (held_by []) cells env) ∙ apart-none key.by (own_of q (shown.term key.own.now) cells) (other_of (shown.term key.other.now) env) own other apart in
     any-at (λ (e : Early). (e.place == place) && is_none (truth (held_by []) (shown.cond e.cond.now) (bound q cells env)).t) es i e l at (ap₂ (λ (x y : Bool). x && y) (eq-eqb e.place place here) no)
 
 pushed : (hs : List (Option Hashed)) (o : Option Hashed) (j : ℕ) (h : Hashed) → slice_get (hs ++ o ∷ []) j ≡ Some (Some h) → (slice_get hs j ≡ Some (Some h)) ⊎ ((j ≡ length hs) × (o ≡ Some h))

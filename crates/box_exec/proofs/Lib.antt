@@ -16,7 +16,8 @@ mod Totals
 mod Settled
 mod Bounded
 mod Rejections
-mod Probes
+mod Alone
+mod Equalities
 mod Lookups
 mod Hashing
 mod Partners

@@ -1,6 +1,6 @@
 -- Rows that don't count for some and every: those of which the condition is false, or true, wholly.
 use Rattle.std.proofs.Common.{◌≡◌, Bool, true, false, cond, List, [], ◌∷◌, filter, refl, sym, ap, ap₂, ◌∙◌}
-use Rattle.row_bag.specs.Bags.{if_there, total}
+use Rattle.row_bag.specs.Bags.{if_there}
 use Rattle.row_bag.specs.Subqueries.{every, presence, some}
 use Rattle.row_bag.specs.declared.row.Row.{Row}
 use Rattle.sql_value.specs.Level.{greatest, least}

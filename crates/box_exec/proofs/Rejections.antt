@@ -1,7 +1,7 @@
 -- Nothing is given where a condition rejects before all quantifiers are bound.
 use Rattle.std.proofs.Common.{ℕ, suc, zero, ◌≡◌, ◌<◌, ◌==◌, ◌&&◌, ◌||◌, ◌++◌, Bool, true, false, cond, All, List, [], ◌∷◌, Some, append-nil, drop, get_or, length, map, refl, sym, ap, ap₂, subst, ◌∙◌, eqb-true, inl, inr, arith}
 use Rattle.std.specs.List.{list_any}
-use Rattle.std.proofs.lemmas.Bool.{and_parts, cases_Bool}
+use Rattle.std.proofs.lemmas.Bool.{and_parts, cases_Bool, or_left, or_right}
 use Rattle.row_bag.specs.Bags.{Alike, bind, keep, unit}
 use Rattle.row_bag.proofs.Agreement.{alike-append, alike-bind, alike-keep, alike-keep_no, alike-refl, alike-same, alike-sym, alike-trans}
 use Rattle.sql_value.specs.Level.{least}
@@ -153,3 +153,8 @@ all-push P (y ∷ xs) x h p (suc k) d l = all-push P xs x (λ i e m. h (suc i) e
 
 pub all-more : {X : Type 0} (P : X → Type 0) (xs ys : List X) {x : X} → ys ≡ xs ++ x ∷ [] → All P xs → P x → All P ys
 all-more P xs ys {x = x} e h p = subst (All P) (sym e) (all-push P xs x h p)
+
+pub any-at : {X : Type 0} (p : X → Bool) (xs : List X) (i : ℕ) (x : X) → i < length xs → x ≡ get_or xs i x → p x ≡ true → list_any p xs ≡ true
+any-at p [] i x l e h = absurd (omega (arith, l))
+any-at p (y ∷ xs) zero x l e h = or_left (p y) (list_any p xs) (ap p (sym e) ∙ h)
+any-at p (y ∷ xs) (suc i) x l e h = or_right (p y) (list_any p xs) (any-at p xs i x (omega (arith, l)) e h)

@@ -8,7 +8,7 @@ use Rattle.box_exec.specs.Ready.{SubsOf, isnt_F}
 use Rattle.box_exec.specs.declared.boxes.At.{At}
 use Rattle.box_exec.specs.declared.hashed.Whole.{Whole}
 use Rattle.box_exec.specs.declared.lookup.Hashed.{Hashed}
-use Rattle.box_exec.specs.declared.lookup.Way.{Way}
+use Rattle.row_index.specs.declared.ways.Way.{Way}
 use Rattle.box_exec.specs.declared.under.Loop.{Loop}
 use Rattle.box_exec.specs.declared.under.Under.{Under}
 use Rattle.box_exec.specs.declared.under.Under.TheVariants.{Kept, Open, Nothing}

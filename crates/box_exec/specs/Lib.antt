@@ -11,7 +11,7 @@ pub mod Early
 pub mod Lookup
 pub mod Hashed
 pub mod HandedOn
-pub mod Probes
+pub mod Equalities
 pub mod Plans
 pub mod Beyond
 pub mod Kept

@@ -19,7 +19,6 @@ use crate::grouping::grouped;
 use crate::hashed::{all_kept, kept_selected};
 use crate::heads::{add_given, once_added};
 use crate::joining::{Join, outer_joined};
-use crate::probe::{probe_of, skips};
 use crate::source::{Source, Sub, made, push_sub};
 use crate::under::{Loop, Run, Under, loops, table_rows};
 use qgm_core::{BoxKind, Node, SetOperator};
@@ -156,7 +155,7 @@ fn selected<L: Ledger>(
 }
 
 // Adds what a select gives for each combination of rows of its F quantifiers from a place on, each
-// row at the lower one of its level and this one. A row that an equality rejects is passed over.
+// row at the lower one of its level and this one.
 #[cycle(rows)]
 fn each<'x, L: Ledger>(
     at: &At<'_>,
@@ -185,14 +184,10 @@ fn each<'x, L: Ledger>(
         return each(at, k + 1, level, env, out, steps, count);
     }
     let rows = rows_under(at, l, env, steps, count)?;
-    let probe = probe_of(at.run.alloc, at.early, k + 1, l.range.id, &*env)?;
     for row in rows.rows() {
-        let cells = row.cells.as_slice();
-        if !skips(&probe, cells) {
-            let level = least(level, row.level);
-            let inside = Bindings::Row(l.range.id, cells, &*env);
-            each(at, k + 1, level, &inside, out, steps, count)?;
-        }
+        let level = least(level, row.level);
+        let inside = Bindings::Row(l.range.id, row.cells.as_slice(), &*env);
+        each(at, k + 1, level, &inside, out, steps, count)?;
     }
     Ok(())
 }

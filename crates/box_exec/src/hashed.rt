@@ -15,17 +15,19 @@ use crate::bindings::Bindings;
 use crate::boxes::At;
 use crate::early::{Early, is_none, is_open, rejected};
 use crate::heads::{add_given, once_added};
-use crate::lookup::{Hashed, Key, Way, first_of, hashed_by, key_in, next_of, way_through};
+use crate::key::{Key, key_in};
+use crate::lookup::{Hashed, hashed_by, way_through};
 use crate::source::{Source, Sub};
 use crate::under::{Loop, Under};
 use qgm_core::QuantId;
 use row_bag::{Bag, Row};
+use row_index::{Way, first_of, next_of};
 use shared_types::OutOfMemory;
 use sql_value::{Level, least};
 use std::alloc::Global;
 
-// What the equalities among the conditions that are tested at a place ask of columns of the last
-// quantifier that is bound there.
+// What the equalities among the conditions that are tested at a place ask of rows of the last quantifier
+// that is bound there.
 fn keys_of<'a>(
     alloc: Global,
     early: &[Early<'a>],
@@ -37,7 +39,7 @@ fn keys_of<'a>(
     let mut made = Vec::new(alloc);
     for e in early {
         if e.place == place {
-            if let Some(key) = key_in(e.cond, q) {
+            if let Some(key) = key_in(alloc, e.cond, q)? {
                 made.push(key)?;
             }
         }
@@ -55,7 +57,7 @@ fn kept_rows<'a>(l: &Loop<'a>) -> &'a [Row]
     }
 }
 
-// The hashes of the rows of each quantifier of a box that stands behind several rows of others.
+// The index of the rows of each quantifier of a box that stands behind several rows of others.
 fn all_hashed<'a>(at: &At<'a>) -> Result<Vec<Option<Hashed<'a>>>, OutOfMemory>
     ensures { IfOk result (λ made. spec.AllHashed at.now made.items) }
 {
@@ -70,7 +72,7 @@ fn all_hashed<'a>(at: &At<'a>) -> Result<Vec<Option<Hashed<'a>>>, OutOfMemory>
     Ok(made)
 }
 
-// The hashes of the rows of the quantifier at a place, if they are asked for.
+// The index of the rows of the quantifier at a place, if it is asked for.
 fn hashed_if<'a>(
     wanted: bool,
     at: &At<'a>,
@@ -83,10 +85,10 @@ fn hashed_if<'a>(
         return Ok(None);
     }
     let keys = keys_of(at.run.alloc, at.early, i + 1, l.range.id)?;
-    hashed_by(at.run.alloc, keys, kept_rows(l))
+    hashed_by(at.run.alloc, keys, l.range.id, kept_rows(l))
 }
 
-/// A select whose quantifiers all stand on kept rows: their hashes, and the rows of those that bind none.
+/// A select whose quantifiers all stand on kept rows: indexes of these, and the rows of those that bind none.
 #[derive(Clone, Copy)]
 pub(crate) struct Whole<'a> {
     pub at: &'a At<'a>,
@@ -94,7 +96,7 @@ pub(crate) struct Whole<'a> {
     pub subs: &'a [Sub<'a>],
 }
 
-// The hashes of the quantifier at a place, if there are any.
+// The index of the quantifier at a place, if there is one.
 fn hashed_at<'a>(hashed: &'a [Option<Hashed<'a>>], i: usize) -> Option<&'a Hashed<'a>>
     ensures { IfSome result (λ h. slice_get hashed.now i ≡ Some (Some h.now)) }
 {
@@ -147,13 +149,15 @@ fn over_kept<'x>(
     }
     let rows = kept_rows(l);
     let way = way_of(whole, place, l, env)?;
-    let mut i = first_of(&way);
+    let mut c = first_of(&way);
+    let mut i = c.place();
     while i < way.end {
         let row = &rows[i];
         let level = least(level, row.level);
         let inside = Bindings::Row(l.range.id, row.cells.as_slice(), &*env);
         over_kept(whole, place + 1, level, &inside, out)?;
-        i = next_of(&way, i);
+        c = next_of(&way, c);
+        i = c.place();
     }
     Ok(())
 }

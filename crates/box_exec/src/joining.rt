@@ -10,10 +10,12 @@ ghost use Rattle.row_bag.specs.Joins.{or_else};
 
 use crate::bindings::Bindings;
 use crate::heads::{add_given, head_cells};
-use crate::lookup::{Hashed, Key, Way, first_of, hashed_by, key_in, next_of, way_through};
+use crate::key::{Key, key_in};
+use crate::lookup::{Hashed, hashed_by, way_through};
 use crate::source::Source;
 use qgm_core::{Node, QuantId};
 use row_bag::{Bag, Row, any_there, append_kept};
+use row_index::{Way, first_of, next_of};
 use shared_types::OutOfMemory;
 use sql_value::{Cell, Level};
 use sqlite_items::Items;
@@ -27,27 +29,27 @@ pub(crate) struct Join<'a> {
     pub right: QuantId,
 }
 
-/// Right rows, and their hashes if there are any.
+/// Right rows, and their index if there is one.
 #[derive(Clone, Copy)]
 pub(crate) struct Right<'r, 'k> {
     pub rows: &'r [Row],
     pub hashed: &'r Option<Hashed<'k>>,
 }
 
-// What the equalities among the conditions of an outer join ask of columns of its right quantifier.
+// What the equalities among the conditions of an outer join ask of rows of its right quantifier.
 fn keys_on<'a>(alloc: Global, node: &'a Node, right: QuantId) -> Result<Vec<Key<'a>>, OutOfMemory>
     ensures { IfOk result (λ made. All (λ k. RejectsBy (rejects_on node.now) right k) made.items) }
 {
     let mut made = Vec::new(alloc);
     for c in node.parts.conds.as_slice() {
-        if let Some(key) = key_in(c, right) {
+        if let Some(key) = key_in(alloc, c, right)? {
             made.push(key)?;
         }
     }
     Ok(made)
 }
 
-// The hashes of the right rows, where several left rows look for theirs.
+// The index of the right rows, where several left rows look for theirs.
 fn hashed_on<'a>(
     alloc: Global,
     join: &Join<'a>,
@@ -60,7 +62,7 @@ fn hashed_on<'a>(
         return Ok(None);
     }
     let keys = keys_on(alloc, join.node, join.right)?;
-    hashed_by(alloc, keys, ys)
+    hashed_by(alloc, keys, join.right, ys)
 }
 
 // The way through the right rows, where the left quantifier is bound.
@@ -91,12 +93,14 @@ fn partners(
     let outer = Bindings::Row(join.left, left, &*env);
     let rows = right.rows;
     let way = way_of(alloc, join, right, &outer)?;
-    let mut i = first_of(&way);
+    let mut c = first_of(&way);
+    let mut i = c.place();
     while i < way.end {
         let y = &rows[i];
         let inner = Bindings::Row(join.right, y.cells.as_slice(), &outer);
         add_given(alloc, join.node, &[], y.level, &inner, &mut made)?;
-        i = next_of(&way, i);
+        c = next_of(&way, c);
+        i = c.place();
     }
     Ok(made)
 }

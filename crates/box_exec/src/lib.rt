@@ -13,11 +13,11 @@ mod handed_on;
 mod hashed;
 mod heads;
 mod joining;
+mod key;
 mod laws;
 mod lookup;
 mod memo;
 mod operand;
-mod probe;
 mod source;
 mod under;
 

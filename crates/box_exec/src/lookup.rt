@@ -1,120 +1,36 @@
 // Rows of a quantifier, found by the hashes of the cells that equalities ask for.
-ghost use Rattle.std.specs.Prelude.{◌≡◌, ◌<◌, ◌+◌, All, Bool, IfOk, IfSome, List, ℕ, length, map, true};
+ghost use Rattle.std.specs.Prelude.{◌≡◌, All, Bool, IfOk, IfSome, List, ℕ, length, true};
 ghost use Rattle.box_exec.specs.Bound.{env_of};
 ghost use Rattle.box_exec.specs.Forms.{cell_held};
+ghost use Rattle.box_exec.specs.Equalities.{other_of};
 ghost use Rattle.box_exec.specs.Lookup as spec;
 ghost use Rattle.qgm_meaning.specs.Values.{Environment};
-ghost use Rattle.qgm_terms.specs.Shown.{cond, term};
+ghost use Rattle.qgm_terms.specs.Shown.{term};
 ghost use Rattle.row_bag.specs.declared.row.Row.{Row};
 ghost use Rattle.sql_value.specs.declared.cell.Cell.{Cell};
 
 use crate::bindings::Bindings;
 use crate::evaluation::value;
+use crate::key::{Key, is_nowhere, is_plain};
 use crate::operand::{Operand, standing};
-use crate::probe::{Sides, equated, sides_of};
-use qgm_core::{Gc, Gx, QuantId};
-use qgm_terms::Sign;
+use qgm_core::{Gx, QuantId};
 use row_bag::Row;
-use row_index::{KeyIndex, feed, index_of, is_error};
+use row_index::{RowIndex, Way, feed, index_of};
 use shared_types::OutOfMemory;
 use sql_value::Cell;
 use std::alloc::Global;
 use std::hash::{FoldHasher, Hasher};
 
-/// A column of a quantifier, and an expression that reads no row of it, which the column's cell is to
-/// equal: by `=`, or so that null equals null.
-#[derive(Clone, Copy)]
-pub(crate) struct Key<'a> {
-    pub column: usize,
-    pub other: &'a Gx,
-    pub safe: bool,
-}
-
-// The operands of a null-safe equality, if one of them is a column of the quantifier.
-fn samed<'a>(c: &'a Gc, q: QuantId) -> Option<Sides<'a>>
-    ensures { IfSome result (λ s. spec.Sames q (cond c.now) s) }
-{
-    let Gc::Compare(s, a, b) = c else {
-        return None;
-    };
-    if *s != Sign::Same {
-        return None;
-    }
-    match sides_of(a, b, q) {
-        Some(found) => Some(found),
-        None => sides_of(b, a, q),
-    }
-}
-
-/// What an equality asks of a column of the quantifier, if it is so.
-pub(crate) fn key_in<'a>(c: &'a Gc, q: QuantId) -> Option<Key<'a>>
-    ensures { IfSome result (λ k. spec.IsKey q (cond c.now) k) }
-{
-    if let Some(s) = equated(c, q) {
-        return Some(Key {
-            column: s.column,
-            other: s.other,
-            safe: false,
-        });
-    }
-    match samed(c, q) {
-        Some(s) => Some(Key {
-            column: s.column,
-            other: s.other,
-            safe: true,
-        }),
-        None => None,
-    }
-}
-
-/// Keys of a quantifier, and the hashes of their columns in its rows.
+/// Keys of a quantifier, and an index of its rows by them.
 #[derive(Drop)]
 pub(crate) struct Hashed<'a> {
     pub keys: Vec<Key<'a>>,
-    pub index: KeyIndex,
+    pub index: RowIndex,
 }
 
-// The columns of keys.
-fn columns_of(alloc: Global, keys: &[Key<'_>]) -> Result<Vec<usize>, OutOfMemory>
-    ensures { IfOk result (λ made. made.items ≡ map (λ k. k.column) keys.now) }
-{
-    let mut made = Vec::with_capacity(alloc, keys.len())?;
-    for key in keys {
-        made.push(key.column)?;
-    }
-    Ok(made)
-}
-
-/// The hashes of rows by the keys of their quantifier: none where it has no key, or a row an error in
-/// one. It fails only for want of memory.
-pub(crate) fn hashed_by<'a>(
-    alloc: Global,
-    keys: Vec<Key<'a>>,
-    rows: &[Row],
-) -> Result<Option<Hashed<'a>>, OutOfMemory>
-    ensures { (test : Environment → Bool) (q : ℕ) → All (λ k. spec.RejectsBy test q k) keys.entry.items → IfOk result (λ o. IfSome o (λ h. spec.Hashes test q rows.now h)) }
-{
-    if keys.is_empty() {
-        return Ok(None);
-    }
-    let columns = columns_of(alloc, &keys)?;
-    match index_of(alloc, &columns, rows)? {
-        Some(index) => Ok(Some(Hashed { keys, index })),
-        None => Ok(None),
-    }
-}
-
-/// What keys come to where other quantifiers are bound: the hash of the rows that can be equal; or an
-/// error, which tells nothing; or an equality with null, which no row passes.
-pub(crate) enum Aim {
-    Hash(u64),
-    Anywhere,
-    Nowhere,
-}
-
-// The cell of the other side of a key.
-fn other_cell<'a>(alloc: Global, x: &Gx, env: &Bindings<'a>) -> Result<Operand<'a>, OutOfMemory>
-    ensures { IfOk result (λ o. cell_held o ≡ spec.other_of (term x.now) (env_of env.now)) }
+// The cell of an expression that names no E, A or S quantifier.
+fn cell_of<'a>(alloc: Global, x: &Gx, env: &Bindings<'a>) -> Result<Operand<'a>, OutOfMemory>
+    ensures { IfOk result (λ o. cell_held o ≡ other_of (term x.now) (env_of env.now)) }
 {
     match standing(x, env) {
         Some(cell) => Ok(Operand::Borrowed(cell)),
@@ -122,71 +38,96 @@ fn other_cell<'a>(alloc: Global, x: &Gx, env: &Bindings<'a>) -> Result<Operand<'
     }
 }
 
-// Whether a key asks for more than a cell of null.
-fn is_null(cell: &Cell) -> bool
-    ensures { result ≡ true → cell.now ≡ Cell.Null }
+// The hash of a row by keys; none where one of its cells is not plain.
+#[tactic(auto, unfolding(row_bag::specs::Hashes::hash_of))]
+fn row_hash(
+    alloc: Global,
+    keys: &[Key<'_>],
+    q: QuantId,
+    cells: &[Cell],
+) -> Result<Option<u64>, OutOfMemory>
+    ensures { IfOk result (λ o. o ≡ spec.row_hash q keys.now cells.now) }
 {
-    match cell {
-        Cell::Null => true,
-        Cell::Int(_) | Cell::Text(_) | Cell::Err(_) => false,
+    let alone = Bindings::Empty;
+    let env = Bindings::Row(q, cells, &alone);
+    let mut hasher = FoldHasher::default();
+    for key in keys {
+        let own = cell_of(alloc, key.own, &env)?;
+        let cell = own.cell();
+        if !is_plain(key.by, cell) {
+            return Ok(None);
+        }
+        feed(cell, &mut hasher);
     }
+    Ok(Some(hasher.finish()))
 }
 
-// What keys come to.
+// The hashes of rows by keys.
+fn row_hashes(
+    alloc: Global,
+    keys: &[Key<'_>],
+    q: QuantId,
+    rows: &[Row],
+) -> Result<Vec<Option<u64>>, OutOfMemory>
+    ensures { IfOk result (λ made. made.items ≡ spec.row_hashes q keys.now rows.now) }
+{
+    let mut made = Vec::with_capacity(alloc, rows.len())?;
+    for row in rows {
+        made.push(row_hash(alloc, keys, q, row.cells.as_slice())?)?;
+    }
+    Ok(made)
+}
+
+/// The index of rows by the keys of their quantifier: none where it has no key. It fails only for want
+/// of memory.
+pub(crate) fn hashed_by<'a>(
+    alloc: Global,
+    keys: Vec<Key<'a>>,
+    q: QuantId,
+    rows: &[Row],
+) -> Result<Option<Hashed<'a>>, OutOfMemory>
+    ensures { (test : Environment → Bool) → All (λ k. spec.RejectsBy test q k) keys.entry.items → IfOk result (λ o. IfSome o (λ h. spec.Hashes test q rows.now h)) }
+{
+    if keys.is_empty() {
+        return Ok(None);
+    }
+    let hashes = row_hashes(alloc, &keys, q, rows)?;
+    let index = index_of(alloc, &hashes)?;
+    Ok(Some(Hashed { keys, index }))
+}
+
+/// What the other sides of keys come to where quantifiers are bound: the hash of the rows that can be
+/// equal; a cell that tells nothing, as an error does; or one that no row's cell equals, as null by `=`.
+pub(crate) enum Aim {
+    Hash(u64),
+    Anywhere,
+    Nowhere,
+}
+
+// What the other sides of keys come to.
 #[tactic(auto, unfolding(row_bag::specs::Hashes::hash_of))]
 fn aim_of(alloc: Global, keys: &[Key<'_>], env: &Bindings) -> Result<Aim, OutOfMemory>
     ensures { IfOk result (λ aim. spec.Aims keys.now (env_of env.now) aim) }
 {
     let mut hasher = FoldHasher::default();
     for key in keys {
-        let other = other_cell(alloc, key.other, env)?;
+        let other = cell_of(alloc, key.other, env)?;
         let cell = other.cell();
-        if is_error(cell) {
-            return Ok(Aim::Anywhere);
-        }
-        if !key.safe && is_null(cell) {
+        if is_nowhere(key.by, cell) {
             return Ok(Aim::Nowhere);
+        }
+        if !is_plain(key.by, cell) {
+            return Ok(Aim::Anywhere);
         }
         feed(cell, &mut hasher);
     }
     Ok(Aim::Hash(hasher.finish()))
 }
 
-/// A way through rows, in their order, past such as an equality rejects: up to an end, and where there
-/// is an index only to the rows of this hash.
-#[derive(Clone, Copy)]
-pub(crate) struct Way<'a> {
-    pub end: usize,
-    pub index: Option<&'a KeyIndex>,
-    pub hash: u64,
-}
-
-/// The first place of a way.
-pub(crate) fn first_of(way: &Way<'_>) -> usize
-    ensures { spec.Steps way.now.hash (spec.index_of way.now) 0 result }
-{
-    match way.index {
-        Some(index) => index.first(way.hash),
-        None => 0,
-    }
-}
-
-/// The place of a way after one.
-pub(crate) fn next_of(way: &Way<'_>, i: usize) -> usize
-    requires within { i < way.now.end }
-    requires here { spec.IsHere way.now.hash (spec.index_of way.now) i }
-    ensures { spec.Steps way.now.hash (spec.index_of way.now) (i + 1) result }
-{
-    match way.index {
-        Some(index) => index.next(way.hash, i),
-        None => i + 1,
-    }
-}
-
-// The way through so many rows by these hashes.
+// The way through so many rows by their index.
 fn way_by<'a>(
     alloc: Global,
-    h: &'a Hashed<'a>,
+    h: &'a Hashed<'_>,
     end: usize,
     env: &Bindings,
 ) -> Result<Way<'a>, OutOfMemory>
@@ -196,25 +137,25 @@ fn way_by<'a>(
         Aim::Hash(hash) => Ok(Way {
             end,
             index: Some(&h.index),
-            hash,
+            hash: Some(hash),
         }),
         Aim::Anywhere => Ok(Way {
             end,
             index: None,
-            hash: 0,
+            hash: None,
         }),
         Aim::Nowhere => Ok(Way {
-            end: 0,
-            index: None,
-            hash: 0,
+            end,
+            index: Some(&h.index),
+            hash: None,
         }),
     }
 }
 
-/// The way through so many rows by their hashes, if there are any. It fails only for want of memory.
+/// The way through so many rows by their index, if there is one. It fails only for want of memory.
 pub(crate) fn way_through<'a>(
     alloc: Global,
-    hashed: Option<&'a Hashed<'a>>,
+    hashed: Option<&'a Hashed<'_>>,
     end: usize,
     env: &Bindings,
 ) -> Result<Way<'a>, OutOfMemory>
@@ -225,7 +166,7 @@ pub(crate) fn way_through<'a>(
         None => Ok(Way {
             end,
             index: None,
-            hash: 0,
+            hash: None,
         }),
     }
 }

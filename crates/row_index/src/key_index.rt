@@ -1,11 +1,8 @@
-// Rows found by the hashes of their keys.
-ghost use Rattle.std.specs.Prelude.{◌≡◌, ◌<◌, ◌+◌, IfOk, IfSome, None, get_or, length, true};
+// Places found by hashes.
+ghost use Rattle.std.specs.Prelude.{◌≡◌, ◌<◌, ◌+◌, IfOk, get_or, length};
 ghost use Rattle.row_index.specs.Chains as spec;
-ghost use Rattle.row_index.specs.Keys.{Indexes, has_error};
 
 use crate::chains::{chain_of, link, seek};
-use crate::keys::key_hash;
-use row_bag::Row;
 use shared_types::OutOfMemory;
 use std::alloc::Global;
 use std::marker::Model;
@@ -46,6 +43,13 @@ impl KeyIndex {
         })
     }
 
+    /// How many there are.
+    pub fn len(&self) -> usize
+        ensures { result ≡ length self.now }
+    {
+        self.hashes.len()
+    }
+
     /// The first place of a hash; the number of all where there is none.
     pub fn first(&self, hash: u64) -> usize
         ensures { spec.IsNextOf self.now hash 0 result }
@@ -63,23 +67,4 @@ impl KeyIndex {
         let place = self.nexts[at];
         seek(&self.heads, &self.nexts, &self.hashes, hash, place)
     }
-}
-
-/// The hashes of the cells of these columns in rows; none where one of these cells is an error.
-pub fn index_of(
-    alloc: Global,
-    columns: &[usize],
-    rows: &[Row],
-) -> Result<Option<KeyIndex>, OutOfMemory>
-    ensures some { IfOk result (λ o. IfSome o (λ index. Indexes columns.now rows.now index)) }
-    ensures none { IfOk result (λ o. o ≡ None → has_error columns.now rows.now ≡ true) }
-{
-    let mut hashes = Vec::with_capacity(alloc, rows.len())?;
-    for row in rows {
-        let Some(hash) = key_hash(columns, row.cells.as_slice()) else {
-            return Ok(None);
-        };
-        hashes.push(hash)?;
-    }
-    Ok(Some(KeyIndex::of_hashes(alloc, hashes)?))
 }

@@ -1,14 +1,13 @@
-use Rattle.std.proofs.Common.{ℕ, Bool, cond, ◌≡◌, ◌≤◌, ◌+◌, ◌++◌, ◌∷◌, true, false, List, length, drop, filter, take, [], refl, sym, ap, ◌∙◌, subst, arith, rules}
+use Rattle.std.proofs.Common.{ℕ, Bool, cond, ◌≡◌, ◌≤◌, ◌+◌, ◌++◌, true, false, List, length, drop, filter, take, sym, ap, ◌∙◌, subst, arith, rules}
 use Rattle.std.proofs.lemmas.Result.{IfOk-weaker, on_ok_weaker}
 use Rattle.std.specs.Result.{OnOk}
-use Rattle.row_bag.specs.Bags.{Alike, bind, keep}
+use Rattle.row_bag.specs.Bags.{Alike, keep}
 use Rattle.qgm_core.specs.Kinds.{is_F, is_enforce}
 use Rattle.qgm_core.specs.declared.owned.OwnedQuant.{OwnedQuant}
 use Rattle.qgm_meaning.specs.Meaning.{grouped_rows}
 use Rattle.qgm_terms.specs.Terms.{Term}
 use Rattle.qgm_meaning.specs.Values.{Bag, bound}
 use Rattle.sql_value.specs.declared.cell.Cell.{Cell}
-use Rattle.sql_value.specs.Level.{least}
 use Rattle.sql_value.specs.declared.level.Level.{Level}
 use Rattle.box_exec.specs.Bound.{env_of}
 use Rattle.box_exec.specs.Plans.{asked_at, cost_at, cost_left, family, left_at, ranges, tables_of}
@@ -23,7 +22,7 @@ use Rattle.box_exec.proofs.Parts.{is_there, of_part, of_parts, subs_pushed}
 use Rattle.box_exec.specs.Sources.{held}
 use Rattle.box_exec.proofs.Loops.{each-all, each-more, rows-once}
 use Rattle.box_exec.proofs.Quantifiers.{combined-rows, free-more, free-same, given-at, group-rows, left-bound, left-over, level-none, outer-rows, past-all, placed, range-at, range-past, range-within, two-at}
-use Rattle.box_exec.proofs.boxes.+rows.Goals.{each-then-not-skips+in_ok-each, each-else-not-skips, subs-then-not-is_f+in_ok-push_sub, subs-else-not-is_f}
+use Rattle.box_exec.proofs.boxes.+rows.Goals.{subs-then-not-is_f+in_ok-push_sub, subs-else-not-is_f}
 use Rattle.box_exec.proofs.Rejections.{nothing-added, rejects-all}
 use Rattle.std.proofs.lemmas.Grind.{common_steps}
 use Rattle.box_exec.proofs.boxes.+rows.Goals as goal
@@ -54,44 +53,19 @@ each-loop-row-preserved g t c =
     let env = env_of c.args.env.now in
     let rows = c.rows-row-items.result.now in
     let i = c.loop-row.row-index in
-    let cells = c.as_slice-cells.result.now in
     let over = λ (cells : List Cell). left_at at (c.args.k + 1) (bound l.range.id cells env) in
     let cost = λ (kept : ℕ → Bool) (cells : List Cell). cost_left at kept (c.args.k + 1) (bound l.range.id cells env) in
-    elim c.if-not-skips.branch [
-      | each-then-not-skips+in_ok-each w ↦
-          let new = w.each-then-not-skips.new.out in
-          let added : Alike new (c.loop-row.out ++ keep w.least-level.result (over r.cells)) =
-          subst (λ (cells : List Cell). Alike new (c.loop-row.out ++ keep w.least-level.result (over cells))) c.as_slice-cells.ensures w.in_ok-each.ensures.rows in
-          let out : new ≡ c.if-not-skips.out = search rules in
-          let steps : w.each-then-not-skips.new.steps ≡ c.if-not-skips.steps = search rules in
-          record {
-            rows = subst (λ (b : Bag). Alike b (c.args.out.now ++ keep c.args.level (bind (take (i + 1) rows) over))) out
-                (each-more c.args.level rows i r over c.args.out.now c.loop-row.out new c.loop-row-test.true c.row-item.is c.loop-row.invariant.rows
-                (subst (λ (x : Level). Alike new (c.loop-row.out ++ keep x (over r.cells))) w.least-level.ensures added));
-            took = λ kept keeps.
-                let took = rows-took (cost kept) rows i r c.args.level (cost kept cells) c.rows_under.new.steps c.loop-row.steps w.each-then-not-skips.new.steps c.loop-row-test.true c.row-item.is (ap (cost kept) c.as_slice-cells.ensures) (c.loop-row.invariant.took kept keeps)
-                (subst (λ (x : Level). Between 0 (at_level x (cost kept cells)) c.loop-row.steps w.each-then-not-skips.new.steps) w.least-level.ensures (w.in_ok-each.ensures.took kept keeps)) in
-                (omega (arith, took.0, steps), omega (arith, took.1, steps));
-            counted = λ start h. search (rules, w.in_ok-each.ensures.counted start (c.loop-row.invariant.counted start h));
-            probe = c.loop-row.invariant.probe;
-          }
-      | each-else-not-skips w ↦
-          let skipped : c.skips.result ≡ true = search rules in
-          let none : Alike (over r.cells) [] =
-          subst (λ (cells : List Cell). Alike (over cells) []) c.as_slice-cells.ensures (rejects-all at c.requires.planned (c.args.k + 1) (bound l.range.id cells env) (c.loop-row.invariant.probe cells (sym c.skips.ensures ∙ skipped))) in
-          let out : c.loop-row.out ≡ c.if-not-skips.out = search rules in
-          let steps : c.loop-row.steps ≡ c.if-not-skips.steps = search rules in
-          record {
-            rows = subst (λ (b : Bag). Alike b (c.args.out.now ++ keep c.args.level (bind (take (i + 1) rows) over))) out
-                (each-more c.args.level rows i r over c.args.out.now c.loop-row.out c.loop-row.out c.loop-row-test.true c.row-item.is c.loop-row.invariant.rows
-                (nothing-added (least c.args.level r.level) c.loop-row.out (over r.cells) none));
-            took = λ kept keeps.
-                let took = rows-took (cost kept) rows i r c.args.level (cost kept r.cells) c.rows_under.new.steps c.loop-row.steps c.loop-row.steps c.loop-row-test.true c.row-item.is refl (c.loop-row.invariant.took kept keeps) (omega arith, omega arith) in
-                (omega (arith, took.0, steps), omega (arith, took.1, steps));
-            counted = λ start h. search (rules, c.loop-row.invariant.counted start h);
-            probe = c.loop-row.invariant.probe;
-          }
-    ]
+    let new = c.each-in-loop-row.new.out in
+    let added : Alike new (c.loop-row.out ++ keep c.least-level.result (over r.cells)) =
+    subst (λ (cells : List Cell). Alike new (c.loop-row.out ++ keep c.least-level.result (over cells))) c.as_slice.ensures c.in_ok-each.ensures.rows in
+    record {
+      rows = each-more c.args.level rows i r over c.args.out.now c.loop-row.out new c.loop-row-test.true c.row-item.is c.loop-row.invariant.rows
+          (subst (λ (x : Level). Alike new (c.loop-row.out ++ keep x (over r.cells))) c.least-level.ensures added);
+      took = λ kept keeps.
+          rows-took (cost kept) rows i r c.args.level (cost kept c.as_slice.result.now) c.rows_under.new.steps c.loop-row.steps c.each-in-loop-row.new.steps c.loop-row-test.true c.row-item.is (ap (cost kept) c.as_slice.ensures) (c.loop-row.invariant.took kept keeps)
+          (subst (λ (x : Level). Between 0 (at_level x (cost kept c.as_slice.result.now)) c.loop-row.steps c.each-in-loop-row.new.steps) c.least-level.ensures (c.in_ok-each.ensures.took kept keeps));
+      counted = λ start h. c.in_ok-each.ensures.counted start (c.loop-row.invariant.counted start h);
+    }
 
 pub each-returns-clause-rows : goal.each-returns-clause-rows
 each-returns-clause-rows g t c =
@@ -389,14 +363,8 @@ put_together-bounds-p-0 g t c = grind (arith, common_steps)
 pub evaluated-returns-clause-counted : goal.evaluated-returns-clause-counted
 evaluated-returns-clause-counted g t c = grind (arith, common_steps)
 
-pub each-each-requires-then-not-skips : goal.each-each-requires-then-not-skips
-each-each-requires-then-not-skips g t c = grind (arith, common_steps)
-
 pub rows_under-returns-in-Kept-clause-took : goal.rows_under-returns-in-Kept-clause-took
 rows_under-returns-in-Kept-clause-took g t c = grind (arith, common_steps)
-
-pub each-overflow_add-k-2 : goal.each-overflow_add-k-2
-each-overflow_add-k-2 g t c = grind (arith, common_steps)
 
 pub each-overflow_add-k : goal.each-overflow_add-k
 each-overflow_add-k g t c = grind (arith, common_steps)
@@ -409,9 +377,6 @@ rows_under-returns-in-Kept-clause-rows g t c = grind (arith, common_steps)
 
 pub each-returns-then-branch-clause-took : goal.each-returns-then-branch-clause-took
 each-returns-then-branch-clause-took g t c = grind (arith, common_steps)
-
-pub each-returns-in_err-probe-clause-counted : goal.each-returns-in_err-probe-clause-counted
-each-returns-in_err-probe-clause-counted g t c = grind (arith, common_steps)
 
 pub put_together-returns-clause-counted : goal.put_together-returns-clause-counted
 put_together-returns-clause-counted g t c = grind (arith, common_steps)
@@ -463,9 +428,6 @@ joined-bounds-q-1 g t c = grind (arith, common_steps)
 
 pub groups-returns-in_default-clause-took : goal.groups-returns-in_default-clause-took
 groups-returns-in_default-clause-took g t c = grind (arith, common_steps)
-
-pub each-overflow_add-k-then-not-skips : goal.each-overflow_add-k-then-not-skips
-each-overflow_add-k-then-not-skips g t c = grind (arith, common_steps)
 
 pub each-returns-in_default-clause-counted : goal.each-returns-in_default-clause-counted
 each-returns-in_default-clause-counted g t c = grind (arith, common_steps)

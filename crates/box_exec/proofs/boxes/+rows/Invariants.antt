@@ -6,7 +6,6 @@ use Rattle.box_exec.specs.Bound.{env_of}
 use Rattle.box_exec.specs.Counted.{Counted}
 use Rattle.box_exec.specs.Plans.{KeepsAt, asked_at, cost_left, family, left_at, ranges}
 use Rattle.box_exec.specs.Costs.{Between}
-use Rattle.box_exec.specs.Probes.{Rejecting}
 use Rattle.qgm_meaning.specs.Plain.{under_others}
 use Rattle.box_exec.proofs.Evaluations.{each_row}
 use Rattle.box_exec.specs.Ready.{SubsOf, isnt_F, weight, weight_under}
@@ -47,7 +46,6 @@ invariant-each-loop-row g l = record {
   rows : Alike l.out (l.initial.out ++ keep l.level (bind (take l.row-index l.row-items) (λ (cells : List Cell). left_at l.at (l.k + 1) (bound l.l.range.id cells (env_of l.env)))));
   took : (kept : ℕ → Bool) → KeepsAt l.at kept → Between 0 (each_row (λ (cells : List Cell). cost_left l.at kept (l.k + 1) (bound l.l.range.id cells (env_of l.env))) (take l.row-index l.row-items)) l.initial.steps l.steps;
   counted : (start : ℕ) → Counted start l.initial.steps l.initial.count → Counted start l.steps l.count;
-  probe : Rejecting l.at.early.now (l.k + 1) l.l.range.id (env_of l.env) l.probe;
 }
 
 abbrev pub invariant-subs-loop-l : goal.invariant-subs-loop-l

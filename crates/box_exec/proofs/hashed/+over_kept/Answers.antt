@@ -1,6 +1,6 @@
-use Rattle.std.proofs.Common.{◌≡◌, ◌≤◌, ◌<◌, ◌+◌, ◌-◌, ◌++◌, ◌∙◌, List, append-nil, arith, false, length, rules, subst, sym, true}
+use Rattle.std.proofs.Common.{ℕ, ◌≡◌, ◌≤◌, ◌<◌, ◌+◌, ◌++◌, ◌∙◌, List, append-nil, arith, false, length, rules, subst, sym, take, true}
 use Rattle.std.specs.Result.{OnOk}
-use Rattle.row_bag.specs.Bags.{Alike, keep}
+use Rattle.row_bag.specs.Bags.{Alike, bind, keep}
 use Rattle.row_bag.proofs.Agreement.{alike-same}
 use Rattle.sql_value.specs.declared.cell.Cell.{Cell}
 use Rattle.sql_value.specs.declared.level.Level.{Level}
@@ -8,10 +8,11 @@ use Rattle.qgm_core.specs.Kinds.{is_F}
 use Rattle.qgm_meaning.specs.Values.{Bag, bound}
 use Rattle.box_exec.specs.Bound.{env_of}
 use Rattle.box_exec.specs.Early.{rejects}
-use Rattle.box_exec.specs.Lookup.{index_of}
+use Rattle.row_index.specs.Ways.{StandsFrom}
+use Rattle.row_index.proofs.Passed.{seen-again}
 use Rattle.box_exec.specs.Plans.{family, left_at, tables_of}
 use Rattle.box_exec.proofs.Hashing.{kept-at, last-given, led}
-use Rattle.box_exec.proofs.Lookups.{ended, stepped, steps-stand}
+use Rattle.box_exec.proofs.Lookups.{ended, stepped}
 use Rattle.box_exec.proofs.Loops.{bind-added, each-more}
 use Rattle.box_exec.proofs.Quantifiers.{left-bound, left-over, level-none, placed}
 use Rattle.box_exec.proofs.Rejections.{none-no, nothing-added, rejects-all}
@@ -49,11 +50,15 @@ loop-i-init t c =
     let env = env_of c.args.env.now in
     let rows = c.kept_rows-rows.result.now in
     let way = c.in_ok-way.way in
+    let cursor = c.first_of-c.result in
+    let f = λ (cells : List Cell). left_at at (c.args.place + 1) (bound l.range.id cells env) in
     let leads = led at c.args.place l rows env way c.kept_rows-rows.ensures c.in_ok-way.ensures in
     record {
-      rows = stepped (rejects at.early.now (c.args.place + 1)) l.range.id rows env way leads (λ cells. left_at at (c.args.place + 1) (bound l.range.id cells env)) (λ cells h. rejects-all at c.requires.planned (c.args.place + 1) (bound l.range.id cells env) h)
-          c.args.level c.args.out.now c.args.out.now 0 c.first_of-i.result c.first_of-i.ensures (alike-same (sym (append-nil c.args.out.now)));
-      stands = steps-stand way.hash (index_of way) 0 c.first_of-i.result c.first_of-i.ensures;
+      rows = subst (λ (n : ℕ). Alike c.args.out.now (c.args.out.now ++ keep c.args.level (bind (take n rows) f))) (sym c.place-i.ensures)
+          (stepped (rejects at.early.now (c.args.place + 1)) l.range.id rows env way leads f (λ cells h. rejects-all at c.requires.planned (c.args.place + 1) (bound l.range.id cells env) h)
+          c.args.level c.args.out.now c.args.out.now 0 cursor (omega arith) c.first_of-c.ensures (alike-same (sym (append-nil c.args.out.now))));
+      stands = seen-again way 0 cursor leads.spans (omega arith) c.first_of-c.ensures;
+      at = c.place-i.ensures;
     }
 
 pub loop-i-preserved : goal.loop-i-preserved
@@ -66,19 +71,34 @@ loop-i-preserved t c =
     let i = c.loop-i.i in
     let r = c.index-rows-i.result in
     let new = c.over_kept-in-loop-i.new.out in
+    let cursor = c.next_of-c.result in
     let f = λ (cells : List Cell). left_at at (c.args.place + 1) (bound l.range.id cells env) in
     let leads = led at c.args.place l rows env way c.kept_rows-rows.ensures c.in_ok-way.ensures in
     let end = leads.end in
     let test = c.loop-i-test.true in
     let inside : i < length rows = omega (arith, end, test) in
+    let next : i + 1 ≤ way.end = omega (arith, test) in
+    let stands : StandsFrom way (i + 1) cursor = subst (λ (n : ℕ). StandsFrom way (n + 1) cursor) (sym c.loop-i.invariant.at) c.next_of-c.ensures in
     let added : Alike new (c.loop-i.out ++ keep c.least-level.result (f r.cells)) =
     subst (λ (cells : List Cell). Alike new (c.loop-i.out ++ keep c.least-level.result (f cells))) c.as_slice.ensures c.in_ok-over_kept.ensures in
     let done = each-more c.args.level rows i r f c.args.out.now c.loop-i.out new inside c.index-rows-i.is c.loop-i.invariant.rows
     (subst (λ (x : Level). Alike new (c.loop-i.out ++ keep x (f r.cells))) c.least-level.ensures added) in
     record {
-      rows = stepped (rejects at.early.now (c.args.place + 1)) l.range.id rows env way leads f (λ cells h. rejects-all at c.requires.planned (c.args.place + 1) (bound l.range.id cells env) h)
-          c.args.level c.args.out.now new (i + 1) c.next_of-i.result c.next_of-i.ensures done;
-      stands = steps-stand way.hash (index_of way) (i + 1) c.next_of-i.result c.next_of-i.ensures;
+      rows = subst (λ (n : ℕ). Alike new (c.args.out.now ++ keep c.args.level (bind (take n rows) f))) (sym c.place-i-in-loop-i.ensures)
+          (stepped (rejects at.early.now (c.args.place + 1)) l.range.id rows env way leads f (λ cells h. rejects-all at c.requires.planned (c.args.place + 1) (bound l.range.id cells env) h)
+          c.args.level c.args.out.now new (i + 1) cursor next stands done);
+      stands = seen-again way (i + 1) cursor leads.spans next stands;
+      at = c.place-i-in-loop-i.ensures;
+    }
+
+pub next_of-c-requires : goal.next_of-c-requires
+next_of-c-requires t c =
+    let at = c.loop-i.invariant.at in
+    let test = c.loop-i-test.true in
+    record {
+      spans = c.in_ok-way.ensures.spans;
+      stands = c.loop-i.invariant.stands;
+      within = omega (arith, at, test);
     }
 
 pub returns : goal.returns

@@ -9,4 +9,4 @@ pub returns : goal.returns
 returns c =
     let test = rejects c.args.at.now.early.now (c.args.i + 1) in
     let q = c.args.l.now.range.id in
-    subst (λ (rows : Bag). IfOk c.hashed_by.result (λ o. IfSome o (λ h. Hashes test q rows h))) c.kept_rows.ensures (c.hashed_by.ensures test q c.in_ok-keys.ensures)
+    subst (λ (rows : Bag). IfOk c.hashed_by.result (λ o. IfSome o (λ h. Hashes test q rows h))) c.kept_rows.ensures (c.hashed_by.ensures test c.in_ok-keys.ensures)
