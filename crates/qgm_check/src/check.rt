@@ -5,7 +5,7 @@ ghost use Rattle.qgm_core.specs.Boxes.{all_over, ids_in, ids_of, overs_in, owns}
 ghost use Rattle.qgm_core.specs.Free.{named_by};
 ghost use Rattle.qgm_wellformed.specs.View.{in_view};
 ghost use Rattle.qgm_wellformed.specs.Sentences.{IsFault, WellFormed};
-ghost use Rattle.qgm_check.specs.Known.{IsKnown};
+ghost use Rattle.qgm_check.specs.Survey.{IsSurvey};
 ghost use Rattle.qgm_wellformed.specs.WellFormed as spec;
 ghost use Rattle.qgm_wellformed.specs.declared.clause.Fault.{Fault};
 ghost use Rattle.qgm_check.specs.declared.check.IllFormed.TheVariants.{Fails, Memory};
@@ -113,16 +113,16 @@ fn owned_once(ids: &[QuantId], node: &Node) -> bool
 // What is looked up once for all boxes: types, the quantifiers that boxes own, and the boxes that
 // these range over.
 #[derive(Drop)]
-struct Known {
+struct Survey {
     types: KnownTypes,
     ids: Vec<QuantId>,
     overs: Vec<BoxId>,
 }
 
-fn known_of_all(alloc: Global, nodes: &[Node]) -> Result<Known, OutOfMemory>
-    ensures { IfOk result (λ known. IsKnown nodes.now known) }
+fn survey_of(alloc: Global, nodes: &[Node]) -> Result<Survey, OutOfMemory>
+    ensures { IfOk result (λ survey. IsSurvey nodes.now survey) }
 {
-    Ok(Known {
+    Ok(Survey {
         types: known_of(alloc, nodes)?,
         ids: ids_in(alloc, nodes)?,
         overs: overs_in(alloc, nodes)?,
@@ -207,21 +207,21 @@ fn keeps(
     clause: Clause,
     root: BoxId,
     nodes: &[Node],
-    known: &Known,
+    survey: &Survey,
     below: &[Node],
     node: &Node,
 ) -> Result<bool, OutOfMemory>
-    requires { IsKnown nodes.now known.now }
+    requires { IsSurvey nodes.now survey.now }
     ensures { IfOk result (λ k. k ≡ spec.keeps clause root nodes.now below.now node.now) }
 {
     match clause {
         Clause::I1 => ids_known(alloc, nodes, node),
-        Clause::I2 => Ok(owned_once(&known.ids, node)),
+        Clause::I2 => Ok(owned_once(&survey.ids, node)),
         Clause::I3 => Ok(all_over(below, node.quants.as_slice())),
         Clause::I4 => columns_fit(alloc, nodes, node),
-        Clause::I5 => Ok(types_agree(&known.types, node)),
+        Clause::I5 => Ok(types_agree(&survey.types, node)),
         Clause::I6 => names_in_view(alloc, root, nodes, node),
-        Clause::I7 => opened_once(alloc, root, nodes, &known.overs, node),
+        Clause::I7 => opened_once(alloc, root, nodes, &survey.overs, node),
         Clause::I8 => Ok(permit_unseen(root, nodes, node)),
         Clause::I9 => shape_fits(alloc, root, nodes, node),
     }
@@ -266,9 +266,9 @@ fn least_fault(
     clause: Clause,
     root: BoxId,
     nodes: &[Node],
-    known: &Known,
+    survey: &Survey,
 ) -> Result<Option<BoxId>, OutOfMemory>
-    requires { IsKnown nodes.now known.now }
+    requires { IsSurvey nodes.now survey.now }
     ensures { IfOk result (λ b. b ≡ spec.least (spec.faults clause root nodes.now nodes.now)) }
 {
     let mut best = at_no_box(clause, root, nodes);
@@ -276,7 +276,7 @@ fn least_fault(
     while i > 0 {
         let below = &nodes[i..];
         i -= 1;
-        if !keeps(alloc, clause, root, nodes, known, below, &nodes[i])? {
+        if !keeps(alloc, clause, root, nodes, survey, below, &nodes[i])? {
             best = Some(least_with(nodes[i].id, best));
         }
     }
@@ -289,13 +289,13 @@ fn first_fault(
     clauses: &[Clause],
     root: BoxId,
     nodes: &[Node],
-    known: &Known,
+    survey: &Survey,
 ) -> Result<Option<Fault>, OutOfMemory>
-    requires { IsKnown nodes.now known.now }
+    requires { IsSurvey nodes.now survey.now }
     ensures { IfOk result (λ f. f ≡ spec.first_fault clauses.now root nodes.now) }
 {
     for clause in clauses {
-        if let Some(at) = least_fault(alloc, *clause, root, nodes, known)? {
+        if let Some(at) = least_fault(alloc, *clause, root, nodes, survey)? {
             return Ok(Some(Fault {
                 clause: *clause,
                 at,
@@ -321,8 +321,8 @@ fn find_fault(alloc: Global, graph: &Graph) -> Result<Option<Fault>, OutOfMemory
         Clause::I9,
     ];
     let nodes = graph.nodes();
-    let known = known_of_all(alloc, nodes)?;
-    first_fault(alloc, &clauses, graph.root(), nodes, &known)
+    let survey = survey_of(alloc, nodes)?;
+    first_fault(alloc, &clauses, graph.root(), nodes, &survey)
 }
 
 /// Whether a graph is well-formed: the least clause that fails, with the least box at which it

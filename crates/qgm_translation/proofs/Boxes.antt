@@ -42,7 +42,7 @@ use Rattle.qgm_translation.proofs.TermLaws.{Mean, all-split, cond-means, get_or-
 use Rattle.qgm_core.specs.declared.kinds.Distinct.{Distinct}
 use Rattle.qgm_core.specs.declared.kinds.SetOperator as forms
 use Rattle.qgm_translation.proofs.Things.{filtered, lower_rows}
-use Rattle.qgm_translation.proofs.Froms.{Gives, frame-fresh, fresh-refs, gives, kept-bind, map-fresh, refs-seen, seen-append}
+use Rattle.qgm_translation.proofs.Froms.{HaveBags, frame-fresh, fresh-refs, gives, kept-bind, map-fresh, refs-seen, seen-append}
 use Rattle.qgm_translation.proofs.Groups.{group-free}
 use Rattle.qgm_translation.proofs.Keys.{picked}
 use Rattle.qgm_translation.proofs.Selects.{Always, Fresh, Plain, refs-head, select-rows}
@@ -119,7 +119,7 @@ module _ (tables : List Table) (known : List ℕ → Bag) (sources : Sources)
     pair-box form n x y m b h env =
         ap (λ kind. rows_by kind tables b (rows_in b.quants bag) env) h.kind
         ∙ ap (λ w. of_two b.quants (λ p r. boxes.combined form w (rows_in b.quants bag p env) (rows_in b.quants bag r env))) (types-length sources.typed (w.first_id b.quants) 1 n)
-        ∙ two-rows (λ p r. Below p.over (of_query x) m × Below r.over (of_query y) m) (Gives (rows_in b.quants bag) bag) (boxes.combined form n (k.rows known x (seen env m)) (k.rows known y (seen env m)))
+        ∙ two-rows (λ p r. Below p.over (of_query x) m × Below r.over (of_query y) m) (HaveBags (rows_in b.quants bag) bag) (boxes.combined form n (k.rows known x (seen env m)) (k.rows known y (seen env m)))
         (λ p r. boxes.combined form n (rows_in b.quants bag p env) (rows_in b.quants bag r env)) b.quants h.quants (gives bag b.quants h.plain.numbered.0)
         (λ p r e g. ap₂ (boxes.combined form n) (g.0 env ∙ bags p.over (of_query x) m e.0 env) (g.1.0 env ∙ bags r.over (of_query y) m e.1 env))
 
@@ -166,7 +166,7 @@ module _ (tables : List Table) (known : List ℕ → Bag) (sources : Sources)
     operand-box (q.joined x y p) m b h env = operand-select (q.joined x y p) m b h env
     operand-box (q.left_joined x y n on) m b h env =
         ap (λ kind. rows_by kind tables b (rows_in b.quants bag) env) h.kind
-        ∙ two-rows (λ l r. w.ShowsSides sources Below x y n on m b l r) (λ os. w.Numbered m os × Gives (rows_in b.quants bag) bag os) (k.from_rows known (q.left_joined x y n on) (seen env m))
+        ∙ two-rows (λ l r. w.ShowsSides sources Below x y n on m b l r) (λ os. w.Numbered m os × HaveBags (rows_in b.quants bag) bag os) (k.from_rows known (q.left_joined x y n on) (seen env m))
         (boxes.outer_rows b (rows_in b.quants bag) env) b.quants h.quants (h.plain.numbered, gives bag b.quants h.plain.numbered.0)
         (λ p r e here.
         let numbered = here.0 in
@@ -223,7 +223,7 @@ module _ (tables : List Table) (known : List ℕ → Bag) (sources : Sources)
         ∙ sym (kept-bind (k.frames known from (seen env m)) (λ row. k.truth known by (row ∷ seen env m) no_group) (λ row. unit (lower row)))
     thing-box (of_groups from by places ls) m b h env =
         ap (λ kind. rows_by kind tables b (rows_in b.quants bag) env) h.kind
-        ∙ one-row (λ p. Below p.over (of_rows from by places ls) m × (b.parts.head ≡ w.groups_list places ls p.id)) (Gives (rows_in b.quants bag) bag) (thing_rows known (of_groups from by places ls) (seen env m))
+        ∙ one-row (λ p. Below p.over (of_rows from by places ls) m × (b.parts.head ≡ w.groups_list places ls p.id)) (HaveBags (rows_in b.quants bag) bag) (thing_rows known (of_groups from by places ls) (seen env m))
         (λ p. grouped_rows (length places) b.parts.head p env (rows_in b.quants bag p env)) b.quants h.quants (gives bag b.quants h.plain.numbered.0)
         (λ p e g. ap₂ (λ hs rows. grouped_rows (length places) hs p.id env rows) e.1 (g.0 env ∙ bags p.over (of_rows from by places ls) m e.0 env) ∙ group-free known places ls p.id env (lower_rows known from by places ls (seen env m)))
 

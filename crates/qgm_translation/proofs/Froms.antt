@@ -86,17 +86,17 @@ refs-seen q n r env h = ap (λ j. seen_in (bound q r env) (refs q 1 j)) (sym h) 
 -- ---- the quantifiers of a box give the bags of the boxes under them
 
 module _ (s bag : Family) where
-  abbrev pub Gives : List OwnedQuant → Type 0
-  Gives [] = Unit {0}
-  Gives (o ∷ os) = ((env : Environment) → s o.id env ≡ bag o.over env) × Gives os
+  abbrev pub HaveBags : List OwnedQuant → Type 0
+  HaveBags [] = Unit {0}
+  HaveBags (o ∷ os) = ((env : Environment) → s o.id env ≡ bag o.over env) × HaveBags os
 
-gives-more : (bag : Family) (o : OwnedQuant) (ps os : List OwnedQuant) → list_all (λ p. not (o.id == p.id)) os ≡ true → Gives (rows_in ps bag) bag os → Gives (rows_in (o ∷ ps) bag) bag os
+gives-more : (bag : Family) (o : OwnedQuant) (ps os : List OwnedQuant) → list_all (λ p. not (o.id == p.id)) os ≡ true → HaveBags (rows_in ps bag) bag os → HaveBags (rows_in (o ∷ ps) bag) bag os
 gives-more bag o ps [] h k = tt
 gives-more bag o ps (p ∷ os) h k =
     let u = and_parts (not (o.id == p.id)) (list_all (λ p. not (o.id == p.id)) os) h in
     ((λ env. ap (λ b. rows_found (cond b (Some o) (first (is_quant p.id) ps)) bag env) (not-true (o.id == p.id) u.0) ∙ k.0 env), gives-more bag o ps os u.1 k.1)
 
-pub gives : (bag : Family) (os : List OwnedQuant) → distinct_ids os ≡ true → Gives (rows_in os bag) bag os
+pub gives : (bag : Family) (os : List OwnedQuant) → distinct_ids os ≡ true → HaveBags (rows_in os bag) bag os
 gives bag [] h = tt
 gives bag (o ∷ os) h =
     let u = and_parts (list_all (λ p. not (o.id == p.id)) os) (distinct_ids os) h in
@@ -130,7 +130,7 @@ module _ (s bag : Family) where
   pub record Ready (fr : Frame) (m : Map) (os : List OwnedQuant) : Type 0 where
     pub distinct : distinct_ids os ≡ true
     pub unseen : Unseen fr m os
-    pub gives : Gives s bag os
+    pub gives : HaveBags s bag os
 
   pub ready-rest : (fr : Frame) (m : Map) (w : ℕ) (os : List OwnedQuant) → Ready fr m os → Ready (fr ++ refs (first_id os) 1 w) m (rest_of os)
   ready-rest fr m w [] r = record { distinct = refl; unseen = tt; gives = tt }

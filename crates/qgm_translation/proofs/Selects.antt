@@ -30,7 +30,7 @@ use Rattle.qgm_translation.specs.Shown as w
 use Rattle.qgm_translation.specs.Sources.{Sources, from_width}
 use Rattle.qgm_translation.proofs.Things.{thing_rows}
 use Rattle.qgm_translation.proofs.TermLaws.{Mean, all-append, all-split, cond-means, mean-append, ref-means}
-use Rattle.qgm_translation.proofs.Froms.{Gives, Ready, all_on_truth, gives, map-fresh, on_truth, ready-all, tail-same, through-all, unseen-first}
+use Rattle.qgm_translation.proofs.Froms.{HaveBags, Ready, all_on_truth, gives, map-fresh, on_truth, ready-all, tail-same, through-all, unseen-first}
 use Rattle.qgm_translation.proofs.Wide.{Wide}
 
 ungrouped-reads : (f : SetFunction) (distinct : Bool) (argument : List Cell → Cell) (env : Environment) → ref_cell env (ungrouped f) ≡ aggregated f distinct argument no_group
@@ -85,7 +85,7 @@ module _ (known : List ℕ → Bag) (sources : Sources) (bag : Family)
     FoldsMean (fold f distinct x ∷ ls) cells = Reads (first_cell cells) (aggregated f distinct (λ row. k.value known x (row ∷ []) no_group) group) × FoldsMean ls (rest_of cells)
     FoldsMean (count ∷ ls) cells = Reads (first_cell cells) (count_all group) × FoldsMean ls (rest_of cells)
 
-    pub subs-mean : (ls : List Leaf) (os : List OwnedQuant) (cells : List Ref) → Subs m ls os → Gives s bag os → FitAll os → FoldsMean ls cells → MeanHere ls (record { quants = map (λ o. o.id) os; cells = cells })
+    pub subs-mean : (ls : List Leaf) (os : List OwnedQuant) (cells : List Ref) → Subs m ls os → HaveBags s bag os → FitAll os → FoldsMean ls cells → MeanHere ls (record { quants = map (λ o. o.id) os; cells = cells })
     subs-mean [] os cells h g fit f = tt
     subs-mean (sub fr kind x ∷ ls) [] cells h g fit f = absurd h
     subs-mean (sub fr kind x ∷ ls) (o ∷ os) cells h g fit f = (g.0 e ∙ bags o.over (of_query x) (fr ∷ m) h.3 e, fit.0 fr h.2, subs-mean ls os cells h.4 g.1 fit.1 f)

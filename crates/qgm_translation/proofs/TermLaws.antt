@@ -12,12 +12,11 @@ use Rattle.sql_ast.specs.declared.word.Quantifier.{Quantifier}
 use Rattle.sql_ast.specs.declared.word.Quantifier.TheVariants as quantifier
 use Rattle.row_bag.specs.Bags.{total}
 use Rattle.row_bag.specs.Order.{cell_of}
-use Rattle.row_bag.proofs.Levels.{least-yes}
+use Rattle.row_bag.proofs.Chains.{and_true, or_false}
 use Rattle.sql_meaning.specs.Groups.{Group, aggregated, count_all, no_group}
 use Rattle.sql_meaning.specs.Subqueries as u
 use Rattle.sql_meaning.specs.Values as named
 use Rattle.sql_value.specs.Comparison as c
-use Rattle.sql_value.specs.Level.{greatest}
 use Rattle.sql_value.specs.Truths as t
 use Rattle.sql_value.specs.declared.cell.Cell.{Cell}
 use Rattle.sql_value.specs.declared.cell.Cell.TheVariants.{Null}
@@ -72,24 +71,8 @@ chooses Yes x y = refl
 cases : {p p' : Truth} {x x' y y' : Cell} → p ≡ p' → x ≡ x' → y ≡ y' → m.chosen_at p.t x y ≡ named.case_of p' x' y'
 cases {p} {p'} {x} {x'} {y} {y'} e f g = ap (λ (d : Truth). m.chosen_at d.t x y) e ∙ ap₂ (m.chosen_at p'.t) f g ∙ chooses p'.t x' y'
 
-same_truth : {p q : Truth} → p.t ≡ q.t → p.f ≡ q.f → p ≡ q
-same_truth {p} {q} t f = λ i. record { t = t i; f = f i }
-
-greatest-no : (a : Level) → greatest a No ≡ a
-greatest-no No = refl
-greatest-no Cardinality = refl
-greatest-no Division = refl
-greatest-no Overflow = refl
-greatest-no Yes = refl
-
-pub and-true : (p : Truth) → t.and p (t.truth_of true) ≡ p
-and-true p = same_truth (least-yes p.t) (greatest-no p.f)
-
 pub true-and : (p : Truth) → t.and (t.truth_of true) p ≡ p
-true-and p = and-commutative (t.truth_of true) p ∙ and-true p
-
-or-false : (p : Truth) → t.or p (t.truth_of false) ≡ p
-or-false p = same_truth (greatest-no p.t) (least-yes p.f)
+true-and p = and-commutative (t.truth_of true) p ∙ and_true p
 
 pub row-same : (n : ℕ) (cells : List Cell) (env : Environment) → row_of n (bound n cells env) ≡ cells
 row-same n cells env = rw (eq-eqb n n refl) refl
@@ -124,12 +107,12 @@ all-append s (x ∷ xs) ys env =
 pub all-split : (s : ℕ → Bag) (p : tree.Cond) (env : Environment) → m.all_true s (split p) env ≡ m.truth s p env
 all-split s tree.always env = refl
 all-split s (tree.and p r) env = all-append s (split p) (split r) env ∙ ap₂ t.and (all-split s p env) (all-split s r env)
-all-split s (tree.compare g x y) env = and-true _
-all-split s (tree.is_null x) env = and-true _
-all-split s (tree.or p r) env = and-true _
-all-split s (tree.not p) env = and-true _
-all-split s (tree.some n p) env = and-true _
-all-split s (tree.every n p) env = and-true _
+all-split s (tree.compare g x y) env = and_true _
+all-split s (tree.is_null x) env = and_true _
+all-split s (tree.or p r) env = and_true _
+all-split s (tree.not p) env = and_true _
+all-split s (tree.some n p) env = and_true _
+all-split s (tree.every n p) env = and_true _
 
 -- ---- terms
 
@@ -280,7 +263,7 @@ module _ (known : List ℕ → Bag) (s : ℕ → Bag) (own : Frame → k.Scopes)
           ap₂ (m.compared tree.like) (term-means sl x a.0 env g) (term-means (after (lv x) sl) y a.1 env g)
       cond-means sl (q.is_null x) h env g = ap c.is_null (term-means sl x h env g)
       cond-means sl (q.exists query) h env g =
-          ap₂ (total t.or (t.truth_of false)) (fun_ext (λ cells. fun_ext (λ level. and-true (presence level)))) h.0
+          ap₂ (total t.or (t.truth_of false)) (fun_ext (λ cells. fun_ext (λ level. and_true (presence level)))) h.0
 
       every-means : (sl : Slots) (ps : Tests) → Mean (w.tests_leaves fr ps) sl → (env : Environment) → Good env → m.truth s (l.every sources fr outer sl ps) env ≡ k.every known ps scopes group
       every-means sl q.no_test h env g = refl
@@ -289,7 +272,7 @@ module _ (known : List ℕ → Bag) (s : ℕ → Bag) (own : Frame → k.Scopes)
           and_every-means (after (w.test_leaves fr p) sl) (cond sources fr outer sl p) ps a.1 env g ∙ ap (λ z. t.and z (k.every known ps scopes group)) (cond-means sl p a.0 env g)
 
       and_every-means : (sl : Slots) (d : tree.Cond) (ps : Tests) → Mean (w.tests_leaves fr ps) sl → (env : Environment) → Good env → m.truth s (l.and_every sources fr outer sl d ps) env ≡ t.and (m.truth s d env) (k.every known ps scopes group)
-      and_every-means sl d q.no_test h env g = sym (and-true (m.truth s d env))
+      and_every-means sl d q.no_test h env g = sym (and_true (m.truth s d env))
       and_every-means sl d (q.one_test p ps) h env g =
           let a = mean-append (w.test_leaves fr p) (w.tests_leaves fr ps) sl h in
           and_every-means (after (w.test_leaves fr p) sl) (tree.and d (cond sources fr outer sl p)) ps a.1 env g
@@ -303,7 +286,7 @@ module _ (known : List ℕ → Bag) (s : ℕ → Bag) (own : Frame → k.Scopes)
           or_some-means (after (w.test_leaves fr p) sl) (cond sources fr outer sl p) ps a.1 env g ∙ ap (λ z. t.or z (k.some known ps scopes group)) (cond-means sl p a.0 env g)
 
       or_some-means : (sl : Slots) (d : tree.Cond) (ps : Tests) → Mean (w.tests_leaves fr ps) sl → (env : Environment) → Good env → m.truth s (l.or_some sources fr outer sl d ps) env ≡ t.or (m.truth s d env) (k.some known ps scopes group)
-      or_some-means sl d q.no_test h env g = sym (or-false (m.truth s d env))
+      or_some-means sl d q.no_test h env g = sym (or_false (m.truth s d env))
       or_some-means sl d (q.one_test p ps) h env g =
           let a = mean-append (w.test_leaves fr p) (w.tests_leaves fr ps) sl h in
           or_some-means (after (w.test_leaves fr p) sl) (tree.or d (cond sources fr outer sl p)) ps a.1 env g
@@ -318,7 +301,7 @@ module _ (known : List ℕ → Bag) (s : ℕ → Bag) (own : Frame → k.Scopes)
           ∙ ap (λ z. t.or (c.compare Eq (m.value s x env) z) (k.equals_one known (m.value s x env) ys scopes group)) (term-means sl y a.0 env g)
 
       or_equals-mean : (sl : Slots) (x : tree.Term) (d : tree.Cond) (xs : Values) → Mean (w.list_leaves fr xs) sl → (env : Environment) → Good env → m.truth s (l.or_equals sources fr outer sl x d xs) env ≡ t.or (m.truth s d env) (k.equals_one known (m.value s x env) xs scopes group)
-      or_equals-mean sl x d q.no_value h env g = sym (or-false (m.truth s d env))
+      or_equals-mean sl x d q.no_value h env g = sym (or_false (m.truth s d env))
       or_equals-mean sl x d (q.one_value y ys) h env g =
           let a = mean-append (lv y) (w.list_leaves fr ys) sl h in
           or_equals-mean (after (lv y) sl) x (tree.or d (tree.compare tree.equal x (term sources fr outer sl y))) ys a.1 env g

@@ -28,7 +28,7 @@ use Rattle.qgm_translation.specs.Shown as w
 use Rattle.qgm_translation.specs.Sources.{Sources, from_width}
 use Rattle.qgm_translation.proofs.Things.{thing_rows}
 use Rattle.qgm_translation.proofs.TermLaws.{Mean, all-split, cond-means, mean-append, row-same, terms-mean}
-use Rattle.qgm_translation.proofs.Froms.{Gives, gives, map-fresh, row-other}
+use Rattle.qgm_translation.proofs.Froms.{HaveBags, gives, map-fresh, row-other}
 use Rattle.qgm_translation.proofs.Groups.{groups-bind, totals}
 use Rattle.qgm_translation.proofs.Keys.{cell-prefix, follows-all, follows-one, mask-seen, picked, push-length}
 use Rattle.qgm_translation.proofs.Selects.{FitAll, FoldsMean, skip, subs-mean}
@@ -82,7 +82,7 @@ module _ (known : List ℕ → Bag) (sources : Sources) (bag : Family)
 
   -- one row of the groups
   upper-row : (places : List ℕ) (n : ℕ) (list : Values) (having : Test) (m : Map) (b : Node) (u : OwnedQuant) (os : List OwnedQuant) (s : Family) (env : Environment) (key row : List Cell) (group : Group (List Cell)) (c : ℕ → Cell)
-      → distinct_ids (u ∷ os) ≡ true → fresh u.id m ≡ true → Gives s bag os
+      → distinct_ids (u ∷ os) ≡ true → fresh u.id m ≡ true → HaveBags s bag os
       → w.ShowsSubs sources Below m (w.upper_leaves (key_frame u.id places 0 n) list having) os
       → b.parts.conds.items ≡ split (l.cond sources (key_frame u.id places 0 n) m (after (list_leaves (key_frame u.id places 0 n) list) (w.upper_slots u.id (suc (length places)) (w.upper_leaves (key_frame u.id places 0 n) list having) os)) having)
       → b.parts.head ≡ terms sources (key_frame u.id places 0 n) m (w.upper_slots u.id (suc (length places)) (w.upper_leaves (key_frame u.id places 0 n) list having) os) list
@@ -108,7 +108,7 @@ module _ (known : List ℕ → Bag) (sources : Sources) (bag : Family)
       (up-list s m u.id e row group here fr sl list a.0 ∙ ap (λ z. k.cells known list z group) scopes))
 
   pub upper-rows : (list : Values) (from : Froms) (by : Test) (places : Option (List ℕ)) (n : ℕ) (having : Test) (m : Map) (b : Node) (qs : List OwnedQuant) (s : Family)
-      → HasKey places → w.Numbered m qs → Gives s bag qs → ((c : ℕ) (ls : List Leaf) → Below c (of_groups from by (key_places places) ls) m → (scopes : k.Scopes) → Wide n (filtered known from by scopes))
+      → HasKey places → w.Numbered m qs → HaveBags s bag qs → ((c : ℕ) (ls : List Leaf) → Below c (of_groups from by (key_places places) ls) m → (scopes : k.Scopes) → Wide n (filtered known from by scopes))
       → w.Upper sources Below list from by (key_places places) n having m b qs → (env : Environment)
       → over_each qs s (given_of b.parts.conds.items b.parts.head s) env
       ≡ selected (λ one. k.truth known having (one.key ∷ seen env m) one.group) (λ one. k.cells known list (one.key ∷ seen env m) one.group) (k.groups places n (filtered known from by (seen env m)))

@@ -6,17 +6,10 @@ use Rattle.sql_ast.specs.declared.schema.TableDecl.{TableDecl}
 use Rattle.sql_ast.specs.Declarations.{Declared, columns_of, known_names}
 use Rattle.sql_catalog.specs.Catalog.{has_bad_key, has_duplicate, is_over_limits, passes_limits, reads_unknown, fault as refusal}
 use Rattle.sql_catalog.specs.Nesting.{is_recursive, nests_over, readers_of}
-use Rattle.sql_faults.proofs.Members.{Each, each_more}
+use Rattle.sql_catalog.proofs.EachLaws.{Each, each_more}
+use Rattle.sql_catalog.proofs.FaultLaws.{but_none, not_given}
 use Rattle.sql_faults.specs.Scopes.{is_empty}
 use Rattle.list_laws.proofs.Booleans.{neither-left, neither-right}
-
-not_given : (b : Bool) (n : ℕ) (o : Option ℕ) → cond b (Some n) o ≡ None → b ≡ false
-not_given true n o h = absurd (cc)
-not_given false n o h = refl
-
-but_none : (b : Bool) (n : ℕ) (o : Option ℕ) → cond b (Some n) o ≡ None → o ≡ None
-but_none true n o h = absurd (cc)
-but_none false n o h = h
 
 pub each_not : {A : Type 0} (p : A → Bool) (xs : List A) → list_any p xs ≡ false → Each (λ x. p x ≡ false) xs
 each_not p [] h = tt

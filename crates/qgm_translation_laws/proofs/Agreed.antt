@@ -112,23 +112,23 @@ module _ (kinds : List ℕ → List SqlType) (sources : Sources) (query : Query)
     | inr f ↦ viewers-own q [] bs n i f.2 f.1 o j f.0
   ]
 
-  abbrev pub Known : Node → List Node → Type 0
-  Known = reached.Known bs b.ordered b.once kinds sources b.typed.counted b.typed.named b.told Seen seen-none seen-child
+  abbrev pub ShownBox : Node → List Node → Type 0
+  ShownBox = reached.ShownBox bs b.ordered b.once kinds sources b.typed.counted b.typed.named b.told Seen seen-none seen-child
 
-  pub all-boxes : reached.EachKnown bs b.ordered b.once kinds sources b.typed.counted b.typed.named b.told Seen seen-none seen-child (reached_by (g.root ∷ []) bs) bs
+  pub all-boxes : reached.EachShown bs b.ordered b.once kinds sources b.typed.counted b.typed.named b.told Seen seen-none seen-child (reached_by (g.root ∷ []) bs) bs
   all-boxes =
       reached.from-here bs b.ordered b.once kinds sources b.typed.counted b.typed.named b.told Seen seen-none seen-child g.root
       (of_query query, ([], ([], (types, (0, (b.built.shows, map-none (levels.Column bs b.ordered b.once kinds sources b.typed.counted 0), b.gives, λ q k. absurd (cc k)))))))
 
-  find : (ns : List Node) → ((n : Node) → In n ns → In n bs) → reached.EachKnown bs b.ordered b.once kinds sources b.typed.counted b.typed.named b.told Seen seen-none seen-child (reached_by (g.root ∷ []) bs) ns → (n : Node) → In n ns
-      → (rest : List Node) × (Known n rest × ((k : Node) → In k rest → In k bs))
+  find : (ns : List Node) → ((n : Node) → In n ns → In n bs) → reached.EachShown bs b.ordered b.once kinds sources b.typed.counted b.typed.named b.told Seen seen-none seen-child (reached_by (g.root ∷ []) bs) ns → (n : Node) → In n ns
+      → (rest : List Node) × (ShownBox n rest × ((k : Node) → In k rest → In k bs))
   find [] sub h n i = absurd i
   find (c ∷ cs) sub h n (inl e) =
       let k = h.0 (all-reached bs g.root b.ordered b.built.used c (sub c (inl refl))) in
-      subst (λ (z : Node). (rest : List Node) × (Known z rest × ((k : Node) → In k rest → In k bs))) e (cs, (k, λ z j. sub z (inr j)))
+      subst (λ (z : Node). (rest : List Node) × (ShownBox z rest × ((k : Node) → In k rest → In k bs))) e (cs, (k, λ z j. sub z (inr j)))
   find (c ∷ cs) sub h n (inr j) = find cs (λ z i. sub z (inr i)) h.1 n j
 
-  pub known-box : (n : Node) → In n bs → (rest : List Node) × (Known n rest × ((k : Node) → In k rest → In k bs))
+  pub known-box : (n : Node) → In n bs → (rest : List Node) × (ShownBox n rest × ((k : Node) → In k rest → In k bs))
   known-box n i = find bs (λ z j. j) all-boxes n i
 
   pub types-kept : (n : Node) → In n bs → types_agree bs n ≡ true

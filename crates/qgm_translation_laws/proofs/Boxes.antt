@@ -29,7 +29,7 @@ use Rattle.qgm_translation.specs.Shown.{Thing, of_groups, of_operand, of_query, 
 use Rattle.qgm_translation.specs.Sources.{Sources, from_width, froms_width, width}
 use Rattle.qgm_translation.specs.Terms as l
 use Rattle.qgm_translation_laws.specs.Typed as typed
-use Rattle.qgm_translation_laws.specs.Typed.{FoldsTo, Found, FromIs, FromsAre, Gives, IsOf, IsTyped, Scope, keyed, open_scope}
+use Rattle.qgm_translation_laws.specs.Typed.{ArePlaces, FoldsTo, FromIs, FromsAre, IsOf, IsOfTypes, IsTyped, Scope, keyed, open_scope}
 pub use Rattle.qgm_translation.specs.There.{map_of}
 use Rattle.qgm_translation_laws.proofs.Parts.{Cells, Fit, FitAll, Heads, Is, cells-append, fit-append, heads-append, node_of}
 use Rattle.qgm_translation_laws.proofs.TermsAre.{Asked, Held, MapIs, RefIs, cond-is, held-append, ref-is, same-some, term-is, terms-are}
@@ -78,17 +78,17 @@ module _ (kinds : List ℕ → List SqlType) (sources : Sources) (counted : (nam
   abbrev pub RowsAre : List Scope → Froms → Test → List ℕ → List Leaf → List SqlType → Type 0
   RowsAre scopes from by places ls types =
       (row : List SqlType) × (FromsAre kinds scopes from row × IsTyped kinds None (open_scope row ∷ scopes) by
-      × ((found : Found (open_scope row) places) × ((folds : Folded kinds (open_scope row) ls)
+      × ((found : ArePlaces (open_scope row) places) × ((folds : Folded kinds (open_scope row) ls)
       × (types ≡ v.padded Integer (key_types (open_scope row) places found ++ arg_types kinds (open_scope row) ls folds)))))
 
   abbrev pub GroupsAre : List Scope → Froms → Test → List ℕ → List Leaf → List SqlType → Type 0
   GroupsAre scopes from by places ls types =
       (row : List SqlType) × (FromsAre kinds scopes from row × IsTyped kinds None (open_scope row ∷ scopes) by
-      × ((found : Found (open_scope row) places) × ((folds : Folded kinds (open_scope row) ls)
+      × ((found : ArePlaces (open_scope row) places) × ((folds : Folded kinds (open_scope row) ls)
       × (types ≡ key_types (open_scope row) places found ++ agg_types kinds (open_scope row) ls folds))))
 
   abbrev pub ThingIs : List Scope → Thing → List SqlType → Type 0
-  ThingIs scopes (of_query x) types = Gives kinds scopes x types
+  ThingIs scopes (of_query x) types = IsOfTypes kinds scopes x types
   ThingIs scopes (of_operand x) types = FromIs kinds scopes x types
   ThingIs scopes (of_rows from by places ls) types = RowsAre scopes from by places ls types
   ThingIs scopes (of_groups from by places ls) types = GroupsAre scopes from by places ls types
@@ -96,7 +96,7 @@ module _ (kinds : List ℕ → List SqlType) (sources : Sources) (counted : (nam
   -- the body of a view has the columns of its name
   abbrev pub SourceIs : List ℕ → Option Query → Type 0
   SourceIs name None = (sources.stored name).types ≡ kinds name
-  SourceIs name (Some body) = Gives kinds [] body (kinds name)
+  SourceIs name (Some body) = IsOfTypes kinds [] body (kinds name)
 
   -- ---- columns
 
@@ -336,7 +336,7 @@ module _ (kinds : List ℕ → List SqlType) (sources : Sources) (counted : (nam
       known : (o : OwnedQuant) (kind : QuantKind) (f : Frame) (x : Query) (rows : Option Scope) → In o b.quants → Below o.over (of_query x) (f ∷ m) → SubIs kinds View rows kind f x → (c : ℕ) × (Ranges o.id c × ((types : List SqlType) × Over E c types))
       known o kind f x rows i below sub = (o.over, (ranges o i, (sub.1.1.0, are o.over (of_query x) (f ∷ m) sub.0 sub.1.1.0 D below (weak (f ∷ m) sub.0 sub.1.0.0) sub.1.1.1.0)))
 
-      one-of : (o : OwnedQuant) (f : Frame) (x : Query) → In o b.quants → Below o.over (of_query x) (f ∷ m) → (s : List Scope) → MapIs K0 (f ∷ m) s → (a : SqlType) → Gives kinds s x (a ∷ []) → J o.id a
+      one-of : (o : OwnedQuant) (f : Frame) (x : Query) → In o b.quants → Below o.over (of_query x) (f ∷ m) → (s : List Scope) → MapIs K0 (f ∷ m) s → (a : SqlType) → IsOfTypes kinds s x (a ∷ []) → J o.id a
       one-of o f x i below s see a g = (o.over, (ranges o i, (a ∷ [], (are o.over (of_query x) (f ∷ m) s (a ∷ []) D below (weak (f ∷ m) s see) g, (zero, (refl, refl))))))
 
       asked : (o : OwnedQuant) (kind : QuantKind) (f : Frame) (x : Query) (rows : Option Scope) → In o b.quants → o.kind ≡ kind → Below o.over (of_query x) (f ∷ m) → SubIs kinds View rows kind f x → Asked kinds K0 K lift N J m rows kind o.id f x
@@ -412,7 +412,7 @@ module _ (kinds : List ℕ → List SqlType) (sources : Sources) (counted : (nam
             froms-kids from os row h.froms f (subs-kids h.kind None ls rest h.subs leaves),
           )
 
-      block-is : (distinct : Bool) (list : Values) (from : Froms) (by : Test) (types : List SqlType) → v.ShowsQuery sources Below (q.block distinct list from by) m b → Gives kinds scopes (q.block distinct list from by) types → BoxIs types
+      block-is : (distinct : Bool) (list : Values) (from : Froms) (by : Test) (types : List SqlType) → v.ShowsQuery sources Below (q.block distinct list from by) m b → IsOfTypes kinds scopes (q.block distinct list from by) types → BoxIs types
       block-is distinct list from by types h g =
           select-is (v.distinct_of distinct) from by (λ fr. list_leaves fr list) (λ fr s. l.terms sources fr m s list) g.0 types h g.1.0 g.1.1
           (λ fr cols. (values-leaves kinds View None fr (open_scope g.0 ∷ scopes) (view fr g.0 cols) list types g.1.2).are)
@@ -439,7 +439,7 @@ module _ (kinds : List ℕ → List SqlType) (sources : Sources) (counted : (nam
       )
       arguments-are fr row cols (w.count ∷ ls) h folds = arguments-are fr row cols ls h folds
 
-      places-are : (fr : Frame) (row : List SqlType) → Cols K0 fr row → (places : List ℕ) (found : Found (open_scope row) places) → Heads K N J (map (λ place. ref_term (get_or fr place nothing)) places) (key_types (open_scope row) places found)
+      places-are : (fr : Frame) (row : List SqlType) → Cols K0 fr row → (places : List ℕ) (found : ArePlaces (open_scope row) places) → Heads K N J (map (λ place. ref_term (get_or fr place nothing)) places) (key_types (open_scope row) places found)
       places-are fr row cols [] found = refl
       places-are fr row cols (p ∷ places) found = (ref-is kinds K0 K lift N J (get_or fr p nothing) found.0 (cols-seen K0 fr row p found.0 cols found.1.0), places-are fr row cols places found.1.1)
 
@@ -478,7 +478,7 @@ module _ (kinds : List ℕ → List SqlType) (sources : Sources) (counted : (nam
       fold-cells p row j (w.count ∷ ls) folds get = (refl, fold-cells p row j ls folds get)
 
       groups-of : (from : Froms) (by : Test) (places : List ℕ) (ls : List Leaf) (os : List OwnedQuant) → Ins os b.quants → v.One os (λ p. Below p.over (of_rows from by places ls) m × (b.parts.head ≡ v.groups_list places ls p.id))
-          → (row : List SqlType) → FromsAre kinds scopes from row → IsTyped kinds None (open_scope row ∷ scopes) by → (found : Found (open_scope row) places) (folds : Folded kinds (open_scope row) ls)
+          → (row : List SqlType) → FromsAre kinds scopes from row → IsTyped kinds None (open_scope row ∷ scopes) by → (found : ArePlaces (open_scope row) places) (folds : Folded kinds (open_scope row) ls)
           → Cells K N J b.parts.head (key_types (open_scope row) places found ++ agg_types kinds (open_scope row) ls folds) × Kids os
       groups-of from by places ls [] i h row f g found folds = absurd h
       groups-of from by places ls (p ∷ r ∷ os) i h row f g found folds = absurd h
@@ -517,7 +517,7 @@ module _ (kinds : List ℕ → List SqlType) (sources : Sources) (counted : (nam
         fold-held u row (suc j) ls folds (λ others i a at. let g : j + suc i ≡ suc j + i = omega arith in subst (λ z. K0 u z a) g (get others (suc i) a at)),
       )
 
-      key-is : (u j : ℕ) (row : Scope) (places : List ℕ) (found : Found row places) (i : ℕ) (a : SqlType) → typed.is_among i places ≡ true → get_or row i None ≡ Some a
+      key-is : (u j : ℕ) (row : Scope) (places : List ℕ) (found : ArePlaces row places) (i : ℕ) (a : SqlType) → typed.is_among i places ≡ true → get_or row i None ≡ Some a
           → ((k : ℕ) (c : SqlType) → At (key_types row places found) k c → K0 u (suc (k + j)) c) → RefIs K0 (v.key_ref u (suc j) places i) a
       key-is u j row [] found i a h g get = absurd (cc h)
       key-is u j row (p ∷ places) found i a h g get =
@@ -554,7 +554,7 @@ module _ (kinds : List ℕ → List SqlType) (sources : Sources) (counted : (nam
       in-range (x ∷ row) (suc p) a h = let r = in-range row p a h in omega arith
 
       upper-of : b.parts.kind ≡ Select → (list : Values) (from : Froms) (by : Test) (places : List ℕ) (n : ℕ) (having : Test) (types : List SqlType) (os : List OwnedQuant) → Ins os b.quants → v.Upper sources Below list from by places n having m b os → froms_width sources from ≡ n
-          → (row : List SqlType) → FromsAre kinds scopes from row → IsTyped kinds None (open_scope row ∷ scopes) by → (found : Found (open_scope row) places)
+          → (row : List SqlType) → FromsAre kinds scopes from row → IsTyped kinds None (open_scope row ∷ scopes) by → (found : ArePlaces (open_scope row) places)
           → typed.AreOf kinds (Some (open_scope row)) (keyed places 0 row ∷ scopes) list types → IsTyped kinds (Some (open_scope row)) (keyed places 0 row ∷ scopes) having
           → Heads K N J b.parts.head types × FitAll K N J b.parts.conds.items × Kids os
       upper-of sel list from by places n having types [] i h c row f g found are_list is_having = absurd h
@@ -596,7 +596,7 @@ module _ (kinds : List ℕ → List SqlType) (sources : Sources) (counted : (nam
 
       -- ---- set operations and outer joins
 
-      pair-of : (x y : Query) (types : List SqlType) (os : List OwnedQuant) → Ins os b.quants → v.Two os (λ p r. Below p.over (of_query x) m × Below r.over (of_query y) m) → Gives kinds scopes x types → Gives kinds scopes y types
+      pair-of : (x y : Query) (types : List SqlType) (os : List OwnedQuant) → Ins os b.quants → v.Two os (λ p r. Below p.over (of_query x) m × Below r.over (of_query y) m) → IsOfTypes kinds scopes x types → IsOfTypes kinds scopes y types
           → (map sources.typed (v.columns_of (v.first_id os) 1 (length types)) ≡ types) × Arms E os types × Kids os
       pair-of x y types [] i h f g = absurd h
       pair-of x y types (p ∷ []) i h f g = absurd h
@@ -609,12 +609,12 @@ module _ (kinds : List ℕ → List SqlType) (sources : Sources) (counted : (nam
             (kid p (of_query x) types h.0 h.2.0 f, (kid r (of_query y) types h.1 h.2.1 g, tt)),
           )
 
-      pair-is : (form : forms.SetOperator) (n : ℕ) (x y : Query) (types : List SqlType) → v.ShowsPair sources Below form n x y m b → Gives kinds scopes x types → Gives kinds scopes y types → length types ≡ n → BoxIs types
+      pair-is : (form : forms.SetOperator) (n : ℕ) (x y : Query) (types : List SqlType) → v.ShowsPair sources Below form n x y m b → IsOfTypes kinds scopes x types → IsOfTypes kinds scopes y types → length types ≡ n → BoxIs types
       pair-is form n x y types h f g len =
           let p = pair-of x y types b.quants (ins-all b.quants) h.quants f g in
           (subst (LocalBy E m b types) (sym h.kind) (ap (λ z. map sources.typed (v.columns_of (v.first_id b.quants) 1 z)) (sym len) ∙ p.0, h.bare, p.1), p.2)
 
-      query-is : (x : Query) (types : List SqlType) → v.ShowsQuery sources Below x m b → Gives kinds scopes x types → BoxIs types
+      query-is : (x : Query) (types : List SqlType) → v.ShowsQuery sources Below x m b → IsOfTypes kinds scopes x types → BoxIs types
       query-is (q.block distinct list from by) types h g = block-is distinct list from by types h g
       query-is (q.grouped distinct list from by places n having) types h g =
           let r = upper-of h.kind list from by (v.key_places places) n having types b.quants (ins-all b.quants) h.upper h.columns g.0 g.1.0 g.1.1 g.1.2 g.1.3 g.1.4 in

@@ -9,7 +9,7 @@ use Rattle.sql_value.specs.declared.order_key.SqlType.{SqlType}
 use Rattle.sql_names.specs.Places.{columns_in, grouping_places, means, place_of, place_outward, places_meant}
 use Rattle.sql_names.specs.Resolved.{column_at}
 use Rattle.sql_faults.proofs.Lookups.{SoundGrouping, column_once, visible_of}
-use Rattle.sql_faults.proofs.Members.{Each}
+use Rattle.sql_catalog.proofs.EachLaws.{Each}
 use Rattle.sql_faults.specs.Columns.{all_columns}
 use Rattle.sql_faults.specs.FoundNames.{IsOne, MayBeNamed, StandsOnce, bearers, stands}
 use Rattle.sql_faults.specs.Laws.{range_shapes, shapes}
@@ -18,6 +18,7 @@ use Rattle.sql_faults.specs.Scopes.{Scope, Scopes, columns_of_scope, first_type,
 use Rattle.sql_faults.specs.Scopes as checked
 use Rattle.sql_faults.specs.declared.column.TypedColumn.{TypedColumn}
 use Rattle.sql_faults.specs.declared.column.TypedRange.{TypedRange}
+use Rattle.qgm_translation_laws.proofs.Tests.{any_left, any_right}
 use Rattle.qgm_translation_laws.specs.Typed.{IsOf, is_among, keyed, open_scope}
 use Rattle.qgm_translation_laws.specs.Typed as t
 use Rattle.qgm_translation.specs.Shown.{key_places}
@@ -50,18 +51,6 @@ AllSee (s ∷ scopes) [] = ⊥
 AllSee (s ∷ scopes) (cell ∷ cells) = Sees s cell × AllSee scopes cells
 
 -- ---- places of GROUP BY
-
-any_left : {A : Type 0} (p : A → Bool) (xs ys : List A) → list_any p xs ≡ true → list_any p (xs ++ ys) ≡ true
-any_left p [] ys h = absurd (cc)
-any_left p (x ∷ xs) ys h =
-    elim (p x) as (λ b. (b || list_any p xs) ≡ true → (b || list_any p (xs ++ ys)) ≡ true) [
-      | true ↦ (λ k. refl)
-      | false ↦ (λ k. any_left p xs ys k)
-    ] h
-
-any_right : {A : Type 0} (p : A → Bool) (xs ys : List A) → list_any p ys ≡ true → list_any p (xs ++ ys) ≡ true
-any_right p [] ys h = h
-any_right p (x ∷ xs) ys h = or_right (p x) (list_any p (xs ++ ys)) (any_right p xs ys h)
 
 -- a place among others is one of them, and the other way round
 among_more : (place : ℕ) (places : List ℕ) → is_among place places ≡ true → is_among (suc place) (map suc places) ≡ true

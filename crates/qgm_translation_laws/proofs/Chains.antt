@@ -18,7 +18,7 @@ use Rattle.sql_value.specs.declared.order_key.SqlType.{SqlType}
 use Rattle.sql_value.specs.declared.order_key.SqlType.TheVariants.{Integer, Varchar}
 use Rattle.sql_names.specs.Resolved.{append, both, either, more_addends, more_multipliers, more_tests, perhaps_not, plus, signed, times}
 use Rattle.sql_names.specs.Resolved as resolved
-use Rattle.sql_faults.proofs.Members.{Each, each_left, each_right}
+use Rattle.sql_catalog.proofs.EachLaws.{Each, each_left, each_right}
 use Rattle.sql_faults.specs.Columns.{first_known, operand_type, type_of_aggregate, type_of_declared}
 use Rattle.sql_faults.specs.Rules.{differ, is_other, list_differs, parts_differ, results_differ, some_differ, wants_argument}
 use Rattle.sql_faults.specs.Scopes.{is_empty}

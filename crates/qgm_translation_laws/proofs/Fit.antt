@@ -26,7 +26,7 @@ use Rattle.qgm_translation.specs.Buildable.{Buildable, FitArms, FitChoices, FitF
 use Rattle.qgm_translation.specs.Sources.{Sources}
 use Rattle.qgm_translation_laws.proofs.Keys.{has_key}
 use Rattle.qgm_translation_laws.proofs.Operators.{append_fits, block_fits, both_fit, columns_fit, either_fits, not_fits, plus_fits, signed_fits, span_fits, times_fits}
-use Rattle.qgm_translation_laws.proofs.Plain.{Place, plain_argument, plain_on}
+use Rattle.qgm_translation_laws.proofs.Plain.{Site, plain_argument, plain_on}
 use Rattle.qgm_translation_laws.proofs.Tests.{is_so, last_so}
 use Rattle.qgm_translation_laws.proofs.Widths.{query_width, table_width, tables_width}
 use Rattle.qgm_translation_laws.specs.Buildable.{Counts, Knows}
@@ -36,7 +36,7 @@ module _ (heads : Heads) (columns : Columns) (sources : Sources) (has : List ℕ
   moved body scopes any w h = subst (λ (z : List Shape). Buildable sources has (resolved.query columns z body)) (sym w) h
 
   mutual
-    fit_expr : (x : s.Expr) (place : Place) (scopes : Scopes) (any : List Shape) → any ≡ shapes scopes → is_expr x ≡ true → expr_fault heads place x scopes ≡ 0 → FitValue sources has (resolved.value columns any x)
+    fit_expr : (x : s.Expr) (place : Site) (scopes : Scopes) (any : List Shape) → any ≡ shapes scopes → is_expr x ≡ true → expr_fault heads place x scopes ≡ 0 → FitValue sources has (resolved.value columns any x)
     fit_expr (s.add x op y) place scopes any w g h =
         plus_fits sources has (resolved.value columns any x) op (resolved.value columns any y) (fit_expr x place scopes any w (and_parts _ _ g).0 (both_none _ _ (both_none _ _ h).0).0)
         (fit_expr y place scopes any w (and_parts _ _ (and_parts _ _ g).1).1 (both_none _ _ (both_none _ _ h).0).1)
@@ -70,15 +70,15 @@ module _ (heads : Heads) (columns : Columns) (sources : Sources) (has : List ℕ
     )
     fit_expr (s.cast_null d) place scopes any w g h = tt
 
-    fit_exprs : (xs : s.Exprs) (place : Place) (scopes : Scopes) (any : List Shape) → any ≡ shapes scopes → are_exprs xs ≡ true → exprs_fault heads place xs scopes ≡ 0 → FitValues sources has (resolved.values columns any xs)
+    fit_exprs : (xs : s.Exprs) (place : Site) (scopes : Scopes) (any : List Shape) → any ≡ shapes scopes → are_exprs xs ≡ true → exprs_fault heads place xs scopes ≡ 0 → FitValues sources has (resolved.values columns any xs)
     fit_exprs s.no_expr place scopes any w g h = tt
     fit_exprs (s.one_expr x xs) place scopes any w g h = (fit_expr x place scopes any w (and_parts _ _ g).0 (both_none _ _ h).0, fit_exprs xs place scopes any w (and_parts _ _ g).1 (both_none _ _ h).1)
 
-    fit_res : (r : s.Res) (place : Place) (scopes : Scopes) (any : List Shape) → any ≡ shapes scopes → is_res r ≡ true → res_fault heads place r scopes ≡ 0 → FitValue sources has (resolved.result columns any r)
+    fit_res : (r : s.Res) (place : Site) (scopes : Scopes) (any : List Shape) → any ≡ shapes scopes → is_res r ≡ true → res_fault heads place r scopes ≡ 0 → FitValue sources has (resolved.result columns any r)
     fit_res (s.given x) place scopes any w g h = fit_expr x place scopes any w g h
     fit_res s.null place scopes any w g h = tt
 
-    fit_arms : (xs : s.Arms) (place : Place) (scopes : Scopes) (any : List Shape) → any ≡ shapes scopes → are_arms xs ≡ true → arms_fault heads place xs scopes ≡ 0 → FitArms sources has (resolved.arms columns any xs)
+    fit_arms : (xs : s.Arms) (place : Site) (scopes : Scopes) (any : List Shape) → any ≡ shapes scopes → are_arms xs ≡ true → arms_fault heads place xs scopes ≡ 0 → FitArms sources has (resolved.arms columns any xs)
     fit_arms s.no_arm place scopes any w g h = tt
     fit_arms (s.one_arm p r xs) place scopes any w g h = (
       fit_cond p place scopes any w (and_parts _ _ g).0 (both_none _ _ (both_none _ _ h).0).0,
@@ -86,7 +86,7 @@ module _ (heads : Heads) (columns : Columns) (sources : Sources) (has : List ℕ
       fit_arms xs place scopes any w (and_parts _ _ (and_parts _ _ g).1).1 (both_none _ _ h).1,
     )
 
-    fit_choices : (xs : s.Choices) (place : Place) (t : Option SqlType) (scopes : Scopes) (any : List Shape) → any ≡ shapes scopes → are_choices xs ≡ true → choices_fault heads place t xs scopes ≡ 0 → FitChoices sources has (resolved.choices columns any xs)
+    fit_choices : (xs : s.Choices) (place : Site) (t : Option SqlType) (scopes : Scopes) (any : List Shape) → any ≡ shapes scopes → are_choices xs ≡ true → choices_fault heads place t xs scopes ≡ 0 → FitChoices sources has (resolved.choices columns any xs)
     fit_choices s.no_choice place t scopes any w g h = tt
     fit_choices (s.one_choice x r xs) place t scopes any w g h = (
       fit_expr x place scopes any w (and_parts _ _ g).0 (both_none _ _ (both_none _ _ (both_none _ _ h).0).0).0,
@@ -94,13 +94,13 @@ module _ (heads : Heads) (columns : Columns) (sources : Sources) (has : List ℕ
       fit_choices xs place t scopes any w (and_parts _ _ (and_parts _ _ g).1).1 (both_none _ _ h).1,
     )
 
-    fit_otherwise : (o : s.Otherwise) (place : Place) (scopes : Scopes) (any : List Shape) → any ≡ shapes scopes → is_otherwise o ≡ true → else_fault heads place o scopes ≡ 0 → FitValue sources has (resolved.otherwise columns any o)
+    fit_otherwise : (o : s.Otherwise) (place : Site) (scopes : Scopes) (any : List Shape) → any ≡ shapes scopes → is_otherwise o ≡ true → else_fault heads place o scopes ≡ 0 → FitValue sources has (resolved.otherwise columns any o)
     fit_otherwise s.no_else place scopes any w g h = tt
     fit_otherwise (s.or_else r) place scopes any w g h = fit_res r place scopes any w g h
 
     -- ---- conditions
 
-    fit_cond : (p : s.Cond) (place : Place) (scopes : Scopes) (any : List Shape) → any ≡ shapes scopes → is_cond p ≡ true → cond_fault heads place p scopes ≡ 0 → FitTest sources has (resolved.test columns any p)
+    fit_cond : (p : s.Cond) (place : Site) (scopes : Scopes) (any : List Shape) → any ≡ shapes scopes → is_cond p ≡ true → cond_fault heads place p scopes ≡ 0 → FitTest sources has (resolved.test columns any p)
     fit_cond (s.either p r) place scopes any w g h =
         either_fits sources has (resolved.test columns any p) (resolved.test columns any r) (fit_cond p place scopes any w (and_parts _ _ g).0 (both_none _ _ h).0)
         (fit_cond r place scopes any w (and_parts _ _ (and_parts _ _ g).1).1 (both_none _ _ h).1)
@@ -141,7 +141,7 @@ module _ (heads : Heads) (columns : Columns) (sources : Sources) (has : List ℕ
     fit_cond (s.is_null x negative) place scopes any w g h = not_fits sources has negative (q.is_null (resolved.value columns any x)) (fit_expr x place scopes any w g h)
     fit_cond (s.exists body) place scopes any w g h = moved body scopes any w (fit_query body scopes g (both_none _ _ h).0)
 
-    fit_filter : (by : s.Filter) (place : Place) (scopes : Scopes) (any : List Shape) → any ≡ shapes scopes → is_filter by ≡ true → filter_fault heads place by scopes ≡ 0 → FitTest sources has (resolved.filter columns any by)
+    fit_filter : (by : s.Filter) (place : Site) (scopes : Scopes) (any : List Shape) → any ≡ shapes scopes → is_filter by ≡ true → filter_fault heads place by scopes ≡ 0 → FitTest sources has (resolved.filter columns any by)
     fit_filter s.no_filter place scopes any w g h = tt
     fit_filter (s.only_where p) place scopes any w g h = fit_cond p place scopes any w g h
 

@@ -86,7 +86,7 @@ module _ (kinds : List ℕ → List SqlType) (sources : Sources) (query : Query)
         (reached-under (s ∷ []) bs b.ordered n i o j w.0, λ q k. elim (vis q k) [ inl f ↦ w.1 q f | inr f ↦ owned-here n i w.0 q (row-owned q n.quants f.1) ])
 
     abbrev EachOwned : List Node → Type 0
-    EachOwned ns = reached.EachKnown bs b.ordered b.once kinds sources b.typed.counted b.typed.named b.told Owned owned-none owned-child R ns
+    EachOwned ns = reached.EachShown bs b.ordered b.once kinds sources b.typed.counted b.typed.named b.told Owned owned-none owned-child R ns
 
     each-owned : (ns : List Node) → ((n : Node) → In n ns → In n bs) → EachOwned ns → (n : Node) → In n ns → holds n.id R ≡ true → list_all (is_owned R bs) (named_by n) ≡ true
     each-owned [] sub h n i r = absurd i

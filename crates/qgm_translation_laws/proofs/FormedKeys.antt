@@ -17,7 +17,7 @@ use Rattle.qgm_translation.specs.Leaves.{Leaf}
 use Rattle.qgm_wellformed.specs.View.{is_row}
 use Rattle.qgm_translation.specs.Maps.{Frame, column, fresh_in, is_apart, none_counted, nothing}
 use Rattle.qgm_translation.specs.Shown as v
-use Rattle.qgm_translation_laws.specs.Typed.{FoldsTo, Found, IsOf, Scope}
+use Rattle.qgm_translation_laws.specs.Typed.{ArePlaces, FoldsTo, IsOf, Scope}
 use Rattle.qgm_translation_laws.proofs.Parts.{Folds}
 use Rattle.qgm_translation_laws.proofs.Frames.{At, LeavesAre}
 
@@ -90,11 +90,11 @@ Refs (column n k ∷ fr) = Refs fr
 
 -- ---- keys and aggregates
 
-abbrev pub key_types : (row : Scope) (places : List ℕ) → Found row places → List SqlType
+abbrev pub key_types : (row : Scope) (places : List ℕ) → ArePlaces row places → List SqlType
 key_types row [] h = []
 key_types row (place ∷ places) h = h.0 ∷ key_types row places h.1.1
 
-pub keys-length : (row : Scope) (places : List ℕ) (h : Found row places) → length (key_types row places h) ≡ length places
+pub keys-length : (row : Scope) (places : List ℕ) (h : ArePlaces row places) → length (key_types row places h) ≡ length places
 keys-length row [] h = refl
 keys-length row (place ∷ places) h = ap suc (keys-length row places h.1.1)
 

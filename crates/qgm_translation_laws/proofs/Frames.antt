@@ -16,7 +16,7 @@ use Rattle.qgm_translation.specs.Shown.{Either, refs}
 use Rattle.qgm_translation.specs.Sources.{Sources, from_width, froms_width, how_many_values, width}
 use Rattle.qgm_translation.specs.Terms.{is_untyped}
 use Rattle.qgm_translation_laws.specs.Typed as typed
-use Rattle.qgm_translation_laws.specs.Typed.{FoldsTo, FromIs, FromsAre, Gives, IsOf, Scope, open_scope}
+use Rattle.qgm_translation_laws.specs.Typed.{FoldsTo, FromIs, FromsAre, IsOf, IsOfTypes, Scope, open_scope}
 use Rattle.qgm_translation_laws.proofs.TermsAre.{MapIs, RefIs, same-some}
 
 -- the type at a place, from 0
@@ -71,7 +71,7 @@ values-length kinds rows scopes (q.one_value x xs) [] h = absurd h
 values-length kinds rows scopes (q.one_value x xs) (a ∷ types) h = ap suc (values-length kinds rows scopes xs types h.1)
 
 module _ (kinds : List ℕ → List SqlType) (sources : Sources) (counted : (name : List ℕ) → length (kinds name) ≡ sources.columns name) where
-  pub query-length : (scopes : List Scope) (x : Query) (types : List SqlType) → Gives kinds scopes x types → length types ≡ width x
+  pub query-length : (scopes : List Scope) (x : Query) (types : List SqlType) → IsOfTypes kinds scopes x types → length types ≡ width x
   query-length scopes (q.block distinct list from by) types h = values-length kinds _ _ list types h.1.2
   query-length scopes (q.grouped distinct list from by places n having) types h = values-length kinds _ _ list types h.1.3
   query-length scopes (q.combine x op all n y) types h = h.3
@@ -94,7 +94,7 @@ module _ (kinds : List ℕ → List SqlType) (sources : Sources) (counted : (nam
 module _ (kinds : List ℕ → List SqlType) (V : Frame → List Scope → Type 0) (rows : Option Scope) where
   -- a subquery gives columns of types, in scopes that are seen; one that is asked for its value gives some
   abbrev pub SubIs : QuantKind → Frame → Query → Type 0
-  SubIs kind f query = (scopes : List Scope) × (V f scopes × ((types : List SqlType) × (Gives kinds scopes query types × (is_S kind ≡ true → typed.NotNone types))))
+  SubIs kind f query = (scopes : List Scope) × (V f scopes × ((types : List SqlType) × (IsOfTypes kinds scopes query types × (is_S kind ≡ true → typed.NotNone types))))
 
   abbrev pub FoldIs : SetFunction → Value → Type 0
   FoldIs f x = (row : Scope) × ((rows ≡ Some row) × ((u : SqlType) × ((a : SqlType) × (IsOf kinds None (row ∷ []) x u × FoldsTo f u a))))
@@ -122,7 +122,7 @@ module _ (kinds : List ℕ → List SqlType) (V : Frame → List Scope → Type 
   none = record { are = tt }
 
   module _ (fr : Frame) (scopes : List Scope) (seen : V fr scopes) where
-    asked : (kind : QuantKind) (query : Query) (types : List SqlType) → Gives kinds scopes query types → (is_S kind ≡ true → typed.NotNone types) → All (w.sub fr kind query ∷ [])
+    asked : (kind : QuantKind) (query : Query) (types : List SqlType) → IsOfTypes kinds scopes query types → (is_S kind ≡ true → typed.NotNone types) → All (w.sub fr kind query ∷ [])
     asked kind query types h f = record { are = ((scopes, (seen, (types, (h, f)))), tt) }
 
     -- a NULL without a type has no leaves

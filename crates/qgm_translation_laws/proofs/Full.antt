@@ -8,7 +8,7 @@ use Rattle.sql_ast.specs.Syntax as s
 use Rattle.sql_catalog.specs.TableNames as t
 use Rattle.sql_meaning.specs.Grouping.{is_grouped}
 use Rattle.sql_meaning.specs.Names.{column_list}
-use Rattle.sql_faults.proofs.Members.{Each, each_all, each_append, each_left, each_right}
+use Rattle.sql_catalog.proofs.EachLaws.{Each, each_all, each_append, each_left, each_right}
 use Rattle.sql_faults.proofs.Orders.{both_none}
 use Rattle.sql_faults.specs.Columns.{all_columns, columns, columns_or_none, item_columns, items_columns, list_columns, list_scope, range_columns, ranges, renamed, table_ranges}
 use Rattle.sql_faults.specs.Faults.{from_fault, item_fault, items_fault, list_fault, query_fault, select_fault, table_fault}

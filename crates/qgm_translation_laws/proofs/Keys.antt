@@ -2,7 +2,7 @@
 use Rattle.std.proofs.Common.{◌≡◌, ◌∙◌, ◌&&◌, ◌||◌, ◌⊎◌, ℕ, suc, Bool, true, false, cond, List, [], ◌∷◌, ◌++◌, map, Option, Some, None, refl, sym, ap, subst, inl, inr}
 use Rattle.std.specs.Cmp.Lexicographic.{nat_list_eq_equiv}
 use Rattle.std.specs.List.{flat_map, list_any}
-use Rattle.std.proofs.lemmas.Bool.{or_left, or_right}
+use Rattle.std.proofs.lemmas.Bool.{or_left}
 use Rattle.sql_ast.specs.declared.name.Column.{Column}
 use Rattle.sql_ast.specs.Names.{same_name}
 use Rattle.sql_meaning.specs.Groups.{range_means}
@@ -16,25 +16,13 @@ use Rattle.sql_faults.specs.Scopes.{Scopes, columns_by, columns_named, columns_o
 use Rattle.sql_faults.specs.declared.column.TypedColumn.{TypedColumn}
 use Rattle.sql_faults.specs.declared.column.TypedRange.{TypedRange}
 use Rattle.qgm_translation.specs.Shown.{HasKey}
-use Rattle.qgm_translation_laws.proofs.Tests.{is_so}
+use Rattle.qgm_translation_laws.proofs.Tests.{any_left, any_right, is_so}
 
 -- ---- lists that aren't empty
 
 empty_both : {A : Type 0} (xs ys : List A) → is_empty (xs ++ ys) ≡ false → (is_empty xs ≡ false) ⊎ (is_empty ys ≡ false)
 empty_both [] ys h = inr h
 empty_both (x ∷ xs) ys h = inl refl
-
-any_first : {A : Type 0} (p : A → Bool) (xs ys : List A) → list_any p xs ≡ true → list_any p (xs ++ ys) ≡ true
-any_first p [] ys h = absurd (cc)
-any_first p (x ∷ xs) ys h =
-    elim (p x) as (λ b. (b || list_any p xs) ≡ true → (b || list_any p (xs ++ ys)) ≡ true) [
-      | true ↦ (λ k. refl)
-      | false ↦ (λ k. any_first p xs ys k)
-    ] h
-
-any_second : {A : Type 0} (p : A → Bool) (xs ys : List A) → list_any p ys ≡ true → list_any p (xs ++ ys) ≡ true
-any_second p [] ys h = h
-any_second p (x ∷ xs) ys h = or_right (p x) (list_any p (xs ++ ys)) (any_second p xs ys h)
 
 one_there : (cs : List TypedColumn) → one_of cs ≡ 0 → is_empty cs ≡ false
 one_there [] h = absurd (cc)
@@ -81,8 +69,8 @@ in_columns c range (x ∷ cs) e h =
 any_range : (c : Column) → c.range ≡ None → (rs : List TypedRange) → is_empty (named_in c.name rs) ≡ false → list_any (means c) (all_listed rs) ≡ true
 any_range c e [] h = absurd (cc)
 any_range c e (r ∷ rs) h = elim (empty_both (columns_named c.name r.columns) (named_in c.name rs) h) [
-  | inl k ↦ any_first (means c) (listed r) (all_listed rs) (in_columns c r.name r.columns (ap (λ (o : Option (List ℕ)). range_means o r.name) e) k)
-  | inr k ↦ any_second (means c) (listed r) (all_listed rs) (any_range c e rs k)
+  | inl k ↦ any_left (means c) (listed r) (all_listed rs) (in_columns c r.name r.columns (ap (λ (o : Option (List ℕ)). range_means o r.name) e) k)
+  | inr k ↦ any_right (means c) (listed r) (all_listed rs) (any_range c e rs k)
 ]
 
 -- `q.c`
@@ -90,8 +78,8 @@ own_range : (c : Column) (q : List ℕ) → c.range ≡ Some q → (rs : List Ty
 own_range c q e [] h = absurd (cc)
 own_range c q e (r ∷ rs) h =
     elim (same_name r.name q) as (λ b. same_name r.name q ≡ b → is_empty (in_range c.name (cond b (Some r) (range_in q rs))) ≡ false → list_any (means c) (all_listed (r ∷ rs)) ≡ true) [
-      | true ↦ (λ k there. any_first (means c) (listed r) (all_listed rs) (in_columns c r.name r.columns (ap (λ (o : Option (List ℕ)). range_means o r.name) e ∙ (nat_list_eq_equiv.symm q r.name ∙ k)) there))
-      | false ↦ (λ k there. any_second (means c) (listed r) (all_listed rs) (own_range c q e rs there))
+      | true ↦ (λ k there. any_left (means c) (listed r) (all_listed rs) (in_columns c r.name r.columns (ap (λ (o : Option (List ℕ)). range_means o r.name) e ∙ (nat_list_eq_equiv.symm q r.name ∙ k)) there))
+      | false ↦ (λ k there. any_right (means c) (listed r) (all_listed rs) (own_range c q e rs there))
     ] refl h
 
 some_meant : (c : Column) (rs : List TypedRange) (o : Option (List ℕ)) → c.range ≡ o → is_empty (columns_by o c.name rs) ≡ false → list_any (means c) (all_listed rs) ≡ true

@@ -3,6 +3,7 @@ use Rattle.std.proofs.Common.{◌≡◌, ◌≤◌, ◌<◌, ◌||◌, ◌∙◌
 use Rattle.std.specs.List.{list_any}
 use Rattle.std.specs.Cmp.Lexicographic.{nat_list_eq_equiv, same_text}
 use Rattle.std.proofs.lemmas.Bool.{cases_Bool, or_parts}
+use Rattle.std.proofs.lemmas.List.Folds.{list_any-append}
 use Rattle.sql_ast.specs.declared.schema.TableDecl.{TableDecl}
 use Rattle.sql_ast.specs.Declarations.{Declared, known_names, table_named, table_names, view_named, view_names}
 use Rattle.sql_ast.specs.Names.{contains, has_twins, same_name}
@@ -14,10 +15,13 @@ use Rattle.sql_value.specs.declared.order_key.SqlType.{SqlType}
 use Rattle.sql_meaning.specs.Scopes.{first_of}
 use Rattle.sql_names.proofs.Valid.{apart, shallow}
 use Rattle.sql_names.specs.Resolved.{query}
-use Rattle.sql_names.specs.Schema.{schema_columns, view_tree, view_trees}
-use Rattle.sql_faults.proofs.Members.{Each, each_more, each_of_all}
+use Rattle.sql_names.specs.Schema.{schema_columns, view_body, view_tree, view_trees}
+use Rattle.sql_catalog.proofs.EachLaws.{Each, each_more, each_of_all}
+use Rattle.sql_catalog.proofs.DepthLaws.{Shallow, ShallowName, all_shallow, nested}
+use Rattle.sql_catalog.proofs.FaultLaws.{but_none, not_given}
 use Rattle.sql_faults.specs.Scopes.{is_some}
 use Rattle.sql_faults.specs.Views.{heads_of, typed_columns}
+use Rattle.sql_faults.proofs.Catalogs.{head_more, head_of, heads_at}
 use Rattle.qgm_core.specs.declared.kinds.BaseTable.{BaseTable}
 use Rattle.qgm_terms.specs.Terms.{Term}
 use Rattle.qgm_translation.specs.Buildable.{Buildable}
@@ -26,13 +30,12 @@ use Rattle.qgm_translation.specs.Sources.{Sources}
 use Rattle.qgm_translation.specs.WholeLaw.{EachTableSaid, EachViewSaid, IsOver, TableSaid, ViewSaid, in_tables, in_views, is_declared}
 use Rattle.qgm_translation.proofs.Reading.{query-each}
 use Rattle.qgm_translation_laws.proofs.Joined.{valid_buildable}
-use Rattle.qgm_translation_laws.proofs.Nesting.{Shallow, ShallowName, all_shallow, head_more, head_of, heads_at, nested}
 use Rattle.qgm_translation_laws.proofs.Resolving.{each_query}
 use Rattle.qgm_translation_laws.proofs.SchemaSources.{schema_sources}
 use Rattle.qgm_translation_laws.specs.Buildable.{Knows}
 use Rattle.qgm_translation_laws.specs.Joined.{ValidQuery}
 use Rattle.qgm_translation_laws.specs.Laid.{graph_table, graph_tables}
-use Rattle.qgm_translation_laws.specs.Sources.{body_in, sources_of, stored_in, view_body}
+use Rattle.qgm_translation_laws.specs.Sources.{body_in, sources_of, stored_in}
 
 -- ---- how deep views nest
 
@@ -96,14 +99,6 @@ view_reads catalog view h name reads =
 
 -- ---- each name means one thing
 
-not_given : (b : Bool) (n : ℕ) (o : Option ℕ) → cond b (Some n) o ≡ None → b ≡ false
-not_given true n o h = absurd (cc)
-not_given false n o h = refl
-
-but_none : (b : Bool) (n : ℕ) (o : Option ℕ) → cond b (Some n) o ≡ None → o ≡ None
-but_none true n o h = absurd (cc)
-but_none false n o h = h
-
 no_twins : (catalog : Declared) → refusal catalog ≡ None → has_twins (known_names catalog) ≡ false
 no_twins catalog valid =
     let last : Option ℕ = cond (list_any has_bad_key catalog.tables) (Some 9) (cond (passes_limits catalog.tables (readers_of catalog.views)) (Some 10) None) in
@@ -112,15 +107,11 @@ no_twins catalog valid =
     (not_given (has_duplicate catalog) 8 last
     (but_none (is_recursive (readers_of catalog.views)) 7 later (but_none (reads_unknown (known_names catalog) (readers_of catalog.views)) 6 (cond (is_recursive (readers_of catalog.views)) (Some 7) later) valid)))).0
 
-any_append : (p : List ℕ → Bool) (xs ys : List (List ℕ)) → list_any p (xs ++ ys) ≡ (list_any p xs || list_any p ys)
-any_append p [] ys = refl
-any_append p (x ∷ xs) ys = elim (p x) as (λ b. (b || list_any p (xs ++ ys)) ≡ ((b || list_any p xs) || list_any p ys)) [ true ↦ refl | false ↦ any_append p xs ys ]
-
 twins_left : (xs ys : List (List ℕ)) → has_twins (xs ++ ys) ≡ false → has_twins xs ≡ false
 twins_left [] ys h = refl
 twins_left (x ∷ xs) ys h =
     let p = or_parts (contains (xs ++ ys) x) (has_twins (xs ++ ys)) h in
-    ap₂ (λ a b. a || b) (or_parts (contains xs x) (contains ys x) (sym (any_append (λ n. same_name n x) xs ys) ∙ p.0)).0 (twins_left xs ys p.1)
+    ap₂ (λ a b. a || b) (or_parts (contains xs x) (contains ys x) (sym (list_any-append (λ n. same_name n x) xs ys) ∙ p.0)).0 (twins_left xs ys p.1)
 
 twins_right : (xs ys : List (List ℕ)) → has_twins (xs ++ ys) ≡ false → has_twins ys ≡ false
 twins_right [] ys h = h
@@ -214,7 +205,7 @@ module _ (catalog : Declared) (shared : List ℕ → ℕ) (typed : Term → SqlT
 
   view_said : (view : s.ViewDecl) → view_named catalog.views view.name ≡ Some view → Buildable sources has (query (schema_columns catalog) [] view.query) → ViewSaid sources has deep (view_tree catalog view)
   view_said view e fit =
-      let low : nests catalog view 16 ≡ false = subst (Shallow catalog 16) e (all_shallow catalog (shallow catalog valid.schema.accepted) view.name) in
+      let low : nests catalog view 16 ≡ false = subst (Shallow catalog 16) e (all_shallow catalog 16 (shallow catalog valid.schema.accepted) view.name) in
       record {
         body = ap (λ (o : Option TableDecl). body_in catalog o (view_named catalog.views view.name)) (no_table view e) ∙ ap (view_body catalog) e;
         fit = fit;
@@ -236,5 +227,5 @@ module _ (catalog : Declared) (shared : List ℕ → ℕ) (typed : Term → SqlT
         views_said = views_said catalog.views (found_self (λ (view : s.ViewDecl). view.name) catalog.views (twins_right (table_names catalog.tables) (view_names catalog.views) twins))
             (each_of_all (λ (view : s.ViewDecl). Buildable sources has (query (schema_columns catalog) [] view.query)) catalog.views fit.views);
         fit = fit.body;
-        shallow = λ name. deep-low catalog 16 (view_named catalog.views name) (all_shallow catalog (shallow catalog valid.schema.accepted) name);
+        shallow = λ name. deep-low catalog 16 (view_named catalog.views name) (all_shallow catalog 16 (shallow catalog valid.schema.accepted) name);
       }

@@ -23,7 +23,6 @@ pub mod LikeKids
 pub mod LikeParts
 pub mod LikeTerms
 mod Lookups
-mod Nesting
 mod Numbers
 pub mod OneToOne
 mod Operators

@@ -22,17 +22,17 @@ use Rattle.qgm_translation_laws.proofs.LikeKids.{thing-kids}
 use Rattle.qgm_translation_laws.proofs.LikeParts as parts
 use Rattle.qgm_translation_laws.proofs.LikeParts.{LikeThing, Pairs, same_query, types-same}
 use Rattle.qgm_translation_laws.proofs.LikeTerms.{LikeMap, Parted}
-use Rattle.sql_faults.proofs.Members.{Each}
+use Rattle.sql_catalog.proofs.EachLaws.{Each}
 use Rattle.qgm_translation_laws.proofs.Passes.{root-reaches}
 
 -- the box that shows a thing, over those behind it
-abbrev pub Found : Sources → List Node → ℕ → Thing → Map → Type 0
-Found sources bs b thing m = (n : Node) × ((rest : List Node) × (In n bs × (n.id ≡ b) × ShowsBox sources (Shows sources rest) thing m n × ((k : Node) → In k rest → In k bs)))
+abbrev pub BoxShows : Sources → List Node → ℕ → Thing → Map → Type 0
+BoxShows sources bs b thing m = (n : Node) × ((rest : List Node) × (In n bs × (n.id ≡ b) × ShowsBox sources (Shows sources rest) thing m n × ((k : Node) → In k rest → In k bs)))
 
-pub found : (sources : Sources) (bs ns : List Node) → ((n : Node) → In n ns → In n bs) → (b : ℕ) (thing : Thing) (m : Map) → Shows sources ns b thing m → Found sources bs b thing m
+pub found : (sources : Sources) (bs ns : List Node) → ((n : Node) → In n ns → In n bs) → (b : ℕ) (thing : Thing) (m : Map) → Shows sources ns b thing m → BoxShows sources bs b thing m
 found sources bs [] sub b thing m h = absurd h
 found sources bs (n ∷ ns) sub b thing m h =
-    elim (n.id == b) as (λ own. (n.id == b) ≡ own → v.Either own (ShowsBox sources (Shows sources ns) thing m n) (Shows sources ns b thing m) → Found sources bs b thing m) [
+    elim (n.id == b) as (λ own. (n.id == b) ≡ own → v.Either own (ShowsBox sources (Shows sources ns) thing m n) (Shows sources ns b thing m) → BoxShows sources bs b thing m) [
       | true ↦ (λ e h. (n, (ns, (sub n (inl refl), eqb-true n.id b e, h, λ k i. sub k (inr i)))))
       | false ↦ (λ e h. found sources bs ns (λ k i. sub k (inr i)) b thing m h)
     ] refl h
@@ -51,8 +51,8 @@ module _ (s : Sources) (shared : List ℕ → ℕ) (typed : Term → SqlType) (q
 
   module _ (first : IsBuiltOf s query names order g) (second : IsBuiltOf (record s { shared = shared; typed = typed }) query names order h) (one : Ordered g.boxes) (two : Ordered h.boxes) where
     -- what two boxes at one place show
-    abbrev pub Place : ℕ → ℕ → Type 0
-    Place b c = (thing : Thing) × ((other : Thing) × ((x : Map) × ((y : Map) × (LikeThing R thing other × LikeMap R x y × Found s g.boxes b thing x × Found z h.boxes c other y))))
+    abbrev pub StandAlike : ℕ → ℕ → Type 0
+    StandAlike b c = (thing : Thing) × ((other : Thing) × ((x : Map) × ((y : Map) × (LikeThing R thing other × LikeMap R x y × BoxShows s g.boxes b thing x × BoxShows z h.boxes c other y))))
 
     abbrev Kids : List Node → List Node → List OwnedQuant → List OwnedQuant → Type 0
     Kids ns ks = parts.Kids R s shared typed (Shows s ns) (Shows z ks)
@@ -74,7 +74,7 @@ module _ (s : Sources) (shared : List ℕ → ℕ) (typed : Term → SqlType) (q
       pub sub : (j : Node) → In j ns → In j g.boxes
       pub tub : (j : Node) → In j ks → In j h.boxes
 
-    both : (n k : Node) → In n g.boxes → In k h.boxes → Meets g h n.id k.id → Place n.id k.id → Pair n k
+    both : (n k : Node) → In n g.boxes → In k h.boxes → Meets g h n.id k.id → StandAlike n.id k.id → Pair n k
     both n k i j meets p =
         let f = p.1.1.1.1.2 in
         let d = p.1.1.1.1.3 in
@@ -100,16 +100,16 @@ module _ (s : Sources) (shared : List ℕ → ℕ) (typed : Term → SqlType) (q
           tub = d.1.1.3;
         }
 
-    kid-at : (ns ks : List Node) → ((j : Node) → In j ns → In j g.boxes) → ((j : Node) → In j ks → In j h.boxes) → (os ps : List OwnedQuant) → Kids ns ks os ps → (i : ℕ) (o p : OwnedQuant) → OwnedAt i o os → OwnedAt i p ps → Place o.over p.over
+    kid-at : (ns ks : List Node) → ((j : Node) → In j ns → In j g.boxes) → ((j : Node) → In j ks → In j h.boxes) → (os ps : List OwnedQuant) → Kids ns ks os ps → (i : ℕ) (o p : OwnedQuant) → OwnedAt i o os → OwnedAt i p ps → StandAlike o.over p.over
     kid-at ns ks sub tub [] ps r i o p at to = absurd at
     kid-at ns ks sub tub (x ∷ os) [] r i o p at to = absurd to
     kid-at ns ks sub tub (x ∷ os) (y ∷ ps) r zero o p at to =
-        subst (λ (e : OwnedQuant). Place e.over p.over) at
-        (subst (λ (e : OwnedQuant). Place x.over e.over) to
+        subst (λ (e : OwnedQuant). StandAlike e.over p.over) at
+        (subst (λ (e : OwnedQuant). StandAlike x.over e.over) to
         (r.2.0, (r.2.1.0, (r.2.1.1.0, (r.2.1.1.1.0, (r.2.1.1.1.1.2, r.2.1.1.1.1.3, found s g.boxes ns sub x.over r.2.0 r.2.1.1.0 r.2.1.1.1.1.0, found z h.boxes ks tub y.over r.2.1.0 r.2.1.1.1.0 r.2.1.1.1.1.1))))))
     kid-at ns ks sub tub (x ∷ os) (y ∷ ps) r (suc i) o p at to = kid-at ns ks sub tub os ps r.3 i o p at to
 
-    pub meet : (b c : ℕ) → Meets g h b c → Place b c
+    pub meet : (b c : ℕ) → Meets g h b c → StandAlike b c
     meet b c roots =
         (of_query query, (of_query query, ([], ([], (same_query query, tt, found s g.boxes g.boxes (λ n i. i) g.root (of_query query) [] first.shows, found z h.boxes h.boxes (λ n i. i) h.root (of_query query) [] second.shows)))))
     meet b c (under n k i o p m in_n in_k at to) =

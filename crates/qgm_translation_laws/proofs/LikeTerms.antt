@@ -12,7 +12,7 @@ use Rattle.qgm_core.specs.declared.kinds.QuantKind.TheVariants as binding
 use Rattle.qgm_terms.specs.Terms as tree
 use Rattle.qgm_terms.specs.Terms.{Term, Cond}
 use Rattle.qgm_terms.specs.declared.tree.Op.{Op}
-use Rattle.sql_faults.proofs.Members.{Each, each_left, each_right}
+use Rattle.sql_catalog.proofs.EachLaws.{Each, each_left, each_right}
 use Rattle.qgm_translation.specs.Leaves as w
 use Rattle.qgm_translation.specs.Leaves.{Leaf, Slots, after, first_cell, first_quant, rest_of}
 use Rattle.qgm_translation.specs.Maps.{Frame, Map, Ref, column, none_counted, nothing, ref_term}

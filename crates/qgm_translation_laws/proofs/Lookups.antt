@@ -4,6 +4,7 @@ use Rattle.std.specs.List.{flat_map}
 use Rattle.std.specs.Cmp.Lexicographic.{same_text}
 use Rattle.std.proofs.lemmas.List.{length-map}
 use Rattle.std.proofs.lemmas.Bool.{not-false}
+use Rattle.std.proofs.lemmas.Option.{same_Some}
 use Rattle.sql_ast.specs.Names.{same_name}
 use Rattle.sql_meaning.specs.Scopes.{Shape, columns_of_range, first_of, is_named}
 use Rattle.sql_names.proofs.Positions.{place_first}
@@ -178,16 +179,13 @@ InRow rs r first = Run (stated (all_columns rs)) first (stated r.columns) × Run
 abbrev pub Spanned : List ℕ → List TypedRange → TypedRange → Type 0
 Spanned name rs r = (first : ℕ) × ((span_in name (range_shapes rs) ≡ Some (span_from first r.columns)) × InRow rs r first × (r.name ≡ name))
 
-same_some : {A : Type 0} (x y : A) → Some x ≡ Some y → x ≡ y
-same_some x y h = cc
-
 pub find_span : (name : List ℕ) (rs : List TypedRange) (r : TypedRange) → range_in name rs ≡ Some r → Spanned name rs r
 find_span name [] r h = absurd (cc)
 find_span name (q ∷ rs) r h = at (same_name q.name name) refl h (find_span name rs r)
   where
     at : (b : Bool) → same_name q.name name ≡ b → cond b (Some q) (range_in name rs) ≡ Some r → (range_in name rs ≡ Some r → Spanned name rs r) → Spanned name (q ∷ rs) r
     at true e k later =
-        subst (Spanned name (q ∷ rs)) (same_some q r k) (
+        subst (Spanned name (q ∷ rs)) (same_Some q r k) (
           0,
           (
             ap (λ (b : Bool). cond b (Some (span_from 0 q.columns)) (onward (length (column_names q.columns)) (span_in name (range_shapes rs)))) e,

@@ -185,28 +185,28 @@ module _ (s : Sources) (shared : List ℕ → ℕ) (typed : Term → SqlType) (q
   Above = IsFor second.there.what second.there.seen
 
   -- what two boxes at one place are there for
-  abbrev Place : ℕ → ℕ → Type 0
-  Place b c = (thing : Thing) × ((other : Thing) × ((x : Map) × ((y : Map) × (LikeThing R thing other × LikeMap R x y × Below b thing x × Above c other y))))
+  abbrev StandAlike : ℕ → ℕ → Type 0
+  StandAlike b c = (thing : Thing) × ((other : Thing) × ((x : Map) × ((y : Map) × (LikeThing R thing other × LikeMap R x y × Below b thing x × Above c other y))))
 
   abbrev Kids : List OwnedQuant → List OwnedQuant → Type 0
   Kids os ps = parts.Kids R s shared typed Below Above os ps
 
-  kids-of : (n k : Node) → In n g.boxes → In k h.boxes → Meets g h n.id k.id → Place n.id k.id → Kids n.quants k.quants
+  kids-of : (n k : Node) → In n g.boxes → In k h.boxes → Meets g h n.id k.id → StandAlike n.id k.id → Kids n.quants k.quants
   kids-of n k i j meets p =
       let pairs : Pairs R n.quants k.quants = λ a o q at to. stands n k a o q meets i j at to in
       thing-kids R s shared typed Below Above n k pairs p.0 p.1.0 p.1.1.0 p.1.1.1.0 p.1.1.1.1.0 p.1.1.1.1.1
       (shows-it s query names order g first n i p.0 p.1.1.0 p.1.1.1.1.2) (shows-it z query names order h second k j p.1.0 p.1.1.1.0 p.1.1.1.1.3)
 
-  kid-at : (os ps : List OwnedQuant) → Kids os ps → (i : ℕ) (o p : OwnedQuant) → OwnedAt i o os → OwnedAt i p ps → Place o.over p.over
+  kid-at : (os ps : List OwnedQuant) → Kids os ps → (i : ℕ) (o p : OwnedQuant) → OwnedAt i o os → OwnedAt i p ps → StandAlike o.over p.over
   kid-at [] ps r i o p at to = absurd at
   kid-at (x ∷ os) [] r i o p at to = absurd to
   kid-at (x ∷ os) (y ∷ ps) r zero o p at to =
-      subst (λ (e : OwnedQuant). Place e.over p.over) at
-      (subst (λ (e : OwnedQuant). Place x.over e.over) to
+      subst (λ (e : OwnedQuant). StandAlike e.over p.over) at
+      (subst (λ (e : OwnedQuant). StandAlike x.over e.over) to
       (r.2.0, (r.2.1.0, (r.2.1.1.0, (r.2.1.1.1.0, (r.2.1.1.1.1.2, r.2.1.1.1.1.3, r.2.1.1.1.1.0, r.2.1.1.1.1.1))))))
   kid-at (x ∷ os) (y ∷ ps) r (suc i) o p at to = kid-at os ps r.3 i o p at to
 
-  meet : (b c : ℕ) → Meets g h b c → Place b c
+  meet : (b c : ℕ) → Meets g h b c → StandAlike b c
   meet b c roots = (of_query query, (of_query query, ([], ([], (same_query query, tt, first.there.root, second.there.root)))))
   meet b c (under n k i o p m in_n in_k at to) = kid-at n.quants k.quants (kids-of n k in_n in_k m (meet n.id k.id m)) i o p at to
 

@@ -13,16 +13,7 @@ use Rattle.qgm_terms.specs.declared.named.Column.{Column}
 use Rattle.qgm_terms.specs.declared.named.QuantNode.{QuantNode}
 use Rattle.qgm_terms.specs.declared.named.QuantNode.TheVariants as node
 use Rattle.qgm_terms.specs.declared.sought.Sought.TheVariants as sought
-use Rattle.qgm_terms.specs.declared.tree.Op.{Op}
-use Rattle.qgm_terms.specs.declared.tree.Op.TheVariants.{Add, Sub, Mul, Div, Cat}
-
--- the operands of an operator have this type, and its result
-abbrev pub op_of : Op → SqlType
-op_of Add = Integer
-op_of Sub = Integer
-op_of Mul = Integer
-op_of Div = Integer
-op_of Cat = Varchar
+use Rattle.qgm_translation.specs.Typing.{op_type as op_of}
 
 -- what is compared by a sign has a type
 abbrev pub Signed : Sign → SqlType → Type 0

@@ -14,11 +14,10 @@ use Rattle.sql_catalog.specs.Keys.{keys_of}
 use Rattle.sql_catalog.specs.declared.descriptor.ColumnDescriptor.{ColumnDescriptor}
 use Rattle.sql_catalog.specs.declared.descriptor.KeyDescriptor.{KeyDescriptor}
 use Rattle.sql_catalog.specs.declared.key.Key.{Key}
-use Rattle.sql_faults.proofs.Members.{Each}
+use Rattle.sql_catalog.proofs.EachLaws.{Each, found_each}
 use Rattle.qgm_wellformed.specs.Columns.{places_fit, within}
 use Rattle.qgm_core.specs.declared.kinds.BoxKind.TheVariants.{Base}
 use Rattle.qgm_translation_laws.proofs.Accepted.{each_not, good_keys}
-use Rattle.qgm_translation_laws.proofs.Nesting.{found_each}
 use Rattle.qgm_translation_laws.specs.Sources.{column_type, is_primary, is_unique, key_places, not_null_from, places_of_keys, stored_in}
 use Rattle.list_laws.proofs.Booleans.{neither-left, neither-right}
 

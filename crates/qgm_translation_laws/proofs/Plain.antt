@@ -126,29 +126,29 @@ abbrev pub domain_of : {A B : Type 0} → (A → B) → Type 0
 domain_of {A} rule = A
 
 -- where an expression stands: in a list, in a filter, or in an argument
-abbrev pub Place : Type 0
-Place = domain_of aggregate_misplaced
+abbrev pub Site : Type 0
+Site = domain_of aggregate_misplaced
 
 -- a subquery may not stand at a place, or none is there
-abbrev pub Subless : Place → Bool → Type 0
+abbrev pub Subless : Site → Bool → Type 0
 Subless place b = (sub_misplaced place ≡ 13) ⊎ (b ≡ true)
 
-split : (place : Place) (a b : Bool) → Subless place (a && b) → Subless place a × Subless place b
+split : (place : Site) (a b : Bool) → Subless place (a && b) → Subless place a × Subless place b
 split place a b (inl e) = (inl e, inl e)
 split place a b (inr h) = (inr (and_parts a b h).0, inr (and_parts a b h).1)
 
 no_fault : (n : ℕ) → n ≡ 13 → n ≡ 0 → ⊥
 no_fault n e h = omega (arith, e, h)
 
-no_sub : (place : Place) → Subless place false → sub_misplaced place ≡ 0 → ⊥
+no_sub : (place : Site) → Subless place false → sub_misplaced place ≡ 0 → ⊥
 no_sub place (inl e) h = no_fault (sub_misplaced place) e h
 no_sub place (inr k) h = cc
 
-compared_place : (place : Place) (t : Option SqlType) (cs : List TypedColumn) → compared_fault place t cs ≡ 0 → sub_misplaced place ≡ 0
+compared_place : (place : Site) (t : Option SqlType) (cs : List TypedColumn) → compared_fault place t cs ≡ 0 → sub_misplaced place ≡ 0
 compared_place place t cs h = (both_none (not_one cs) (sub_misplaced place) (both_none (pair_differs t (first_type cs)) (scalar_fault place cs) h).1).1
 
 -- whatever scopes the names are resolved in
-module _ (heads : Heads) (known : Columns) (fr : Frame) (place : Place) (scopes : Scopes) (any : List Shape) (barred : aggregate_misplaced place ≡ 13) where
+module _ (heads : Heads) (known : Columns) (fr : Frame) (place : Site) (scopes : Scopes) (any : List Shape) (barred : aggregate_misplaced place ≡ 13) where
   abbrev value : s.Expr → Value
   value x = resolved.value known any x
 
@@ -249,11 +249,11 @@ module _ (heads : Heads) (known : Columns) (fr : Frame) (place : Place) (scopes 
     plain_cond (s.exists body) w h = absurd (no_sub place w (both_none _ _ h).1)
 
 -- an aggregate's argument
-pub plain_argument : (heads : Heads) (known : Columns) (fr : Frame) (place : Place) (scopes : Scopes) (any : List Shape) (x : s.Expr)
+pub plain_argument : (heads : Heads) (known : Columns) (fr : Frame) (place : Site) (scopes : Scopes) (any : List Shape) (x : s.Expr)
     → expr_fault heads place x scopes ≡ 0 → aggregate_misplaced place ≡ 13 → sub_misplaced place ≡ 13 → leaves fr (resolved.value known any x) ≡ []
 plain_argument heads known fr place scopes any x h barred e = plain_expr heads known fr place scopes any barred x (inl e) h
 
 -- an ON without subqueries
-pub plain_on : (heads : Heads) (known : Columns) (fr : Frame) (place : Place) (scopes : Scopes) (any : List Shape) (p : s.Cond)
+pub plain_on : (heads : Heads) (known : Columns) (fr : Frame) (place : Site) (scopes : Scopes) (any : List Shape) (p : s.Cond)
     → cond_fault heads place p scopes ≡ 0 → aggregate_misplaced place ≡ 13 → cond_without_sub p ≡ true → test_leaves fr (resolved.test known any p) ≡ []
 plain_on heads known fr place scopes any p h barred w = plain_cond heads known fr place scopes any barred p (inr w) h

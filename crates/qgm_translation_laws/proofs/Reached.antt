@@ -166,17 +166,17 @@ module _ (bs : List Node) (ordered : Ordered bs) (once : (q : ℕ) → times q (
       Some_thing ns b =
           (thing : Thing) × ((m : Map) × ((scopes : List Scope) × ((types : List SqlType) × ((e : ℕ) × (Shows sources ns b thing m × MapIs (Column e) m scopes × ThingIs scopes thing types × V b m)))))
 
-      -- a box is known: what it shows, its types, and what its quantifiers range over
-      abbrev pub Known : Node → List Node → Type 0
-      Known n ns =
+      -- what a box shows, its types, and what its quantifiers range over
+      abbrev pub ShownBox : Node → List Node → Type 0
+      ShownBox n ns =
           (thing : Thing) × ((m : Map) × ((e : ℕ) × ((types : List SqlType)
           × (ShowsBox sources (Shows sources ns) thing m n × LocalIs e (boxes.map_of thing m) n types × Each (Shows sources ns) n (boxes.map_of thing m) n.quants
           × ((scopes : List Scope) × ThingIs scopes thing types) × V n.id (boxes.map_of thing m)))))
 
-      -- so are those that are marked
-      abbrev pub EachKnown : List ℕ → List Node → Type 0
-      EachKnown marks [] = Unit {0}
-      EachKnown marks (n ∷ ns) = (holds n.id marks ≡ true → Known n ns) × EachKnown marks ns
+      -- each that is marked does so
+      abbrev pub EachShown : List ℕ → List Node → Type 0
+      EachShown marks [] = Unit {0}
+      EachShown marks (n ∷ ns) = (holds n.id marks ≡ true → ShownBox n ns) × EachShown marks ns
 
       seen-through : (b : ℕ) (thing : Thing) (m : Map) → V b m → V b (boxes.map_of thing m)
       seen-through b (v.of_query x) m h = h
@@ -188,7 +188,7 @@ module _ (bs : List Node) (ordered : Ordered bs) (once : (q : ℕ) → times q (
       seen-through b (v.of_rows from by places ls) m h = h
       seen-through b (v.of_groups from by places ls) m h = h
 
-      known-of : (ns : List Node) (n : Node) → ((k : Node) → In k (n ∷ ns) → In k bs) → Some_thing (n ∷ ns) n.id → Known n ns
+      known-of : (ns : List Node) (n : Node) → ((k : Node) → In k (n ∷ ns) → In k bs) → Some_thing (n ∷ ns) n.id → ShownBox n ns
       known-of ns n sub p =
           let h : ShowsBox sources (Shows sources ns) p.0 p.1.0 n = subst (λ own. v.Either own (ShowsBox sources (Shows sources ns) p.0 p.1.0 n) (Shows sources ns n.id p.0 p.1.0)) (eq-itself n.id) p.1.1.1.1.1.0 in
           let e = p.1.1.1.1.0 in
@@ -240,10 +240,10 @@ module _ (bs : List Node) (ordered : Ordered bs) (once : (q : ℕ) → times q (
           behind n ns b f (inv b h (ap (λ z. z || has_box ns b) f ∙ i))
 
       -- what is marked so far shows something
-      walk : (ns : List Node) → ((n : Node) → In n ns → In n bs) → Ordered ns → (marks : List ℕ) → ((b : ℕ) → holds b marks ≡ true → has_box ns b ≡ true → Some_thing ns b) → EachKnown (reached marks ns) ns
+      walk : (ns : List Node) → ((n : Node) → In n ns → In n bs) → Ordered ns → (marks : List ℕ) → ((b : ℕ) → holds b marks ≡ true → has_box ns b ≡ true → Some_thing ns b) → EachShown (reached marks ns) ns
       walk [] sub o marks inv = tt
       walk (n ∷ ns) sub o marks inv =
-          elim (holds n.id marks) as (λ c. holds n.id marks ≡ c → (holds n.id (reached (cond c (marks ++ overs_of n) marks) ns) ≡ true → Known n ns) × EachKnown (reached (cond c (marks ++ overs_of n) marks) ns) ns) [
+          elim (holds n.id marks) as (λ c. holds n.id marks ≡ c → (holds n.id (reached (cond c (marks ++ overs_of n) marks) ns) ≡ true → ShownBox n ns) × EachShown (reached (cond c (marks ++ overs_of n) marks) ns) ns) [
             | true ↦ (λ e.
                 let k = known-of ns n sub (inv n.id e (ap (λ z. z || has_box ns n.id) (eq-itself n.id))) in
                 let kid = child-thing ns n (sub n (inl refl)) (boxes.map_of k.0 k.1.0) k.1.1.1.1.4 n.quants (λ o i. i) k.1.1.1.1.2 in
@@ -259,5 +259,5 @@ module _ (bs : List Node) (ordered : Ordered bs) (once : (q : ℕ) → times q (
           next n ns o marks inv kid b (inl h) i = still n ns o marks inv b h i
           next n ns o marks inv kid b (inr h) i = let r = held-over b n.quants h in subst (λ z. Some_thing ns z) r.1.1 (kid r.0 r.1.0)
 
-      pub from-here : (s : ℕ) → Some_thing bs s → EachKnown (reached (s ∷ []) bs) bs
+      pub from-here : (s : ℕ) → Some_thing bs s → EachShown (reached (s ∷ []) bs) bs
       from-here s p = walk bs (λ n i. i) ordered (s ∷ []) (λ b h i. subst (λ z. Some_thing bs z) (only-one s b h) p)

@@ -13,7 +13,7 @@ use Rattle.sql_meaning.specs.ResolvedTrees as q
 use Rattle.sql_names.specs.Places.{Span, place_of, span_of, width}
 use Rattle.sql_names.specs.Resolved.{Columns, append, bare, column_at, columns_from, columns_of, either, both, more_addends, more_multipliers, more_tests, perhaps_not, plus, signed, times}
 use Rattle.sql_names.specs.Resolved as r
-use Rattle.sql_faults.proofs.Members.{Each, each_left, each_right}
+use Rattle.sql_catalog.proofs.EachLaws.{Each, each_left, each_right}
 use Rattle.qgm_translation.specs.Views.{EachAddends, EachArms, EachChoices, EachFrom, EachFroms, EachIn, EachMultipliers, EachTest, EachTests, EachValue, EachValues}
 
 module _ (P : List ℕ → Type 0) where

@@ -15,7 +15,7 @@ use Rattle.sql_names.specs.Resolved.{bare, query}
 use Rattle.sql_names.specs.Schema.{Sound, schema_columns, view_trees}
 use Rattle.sql_faults.proofs.Catalogs.{valid_text, valid_views}
 use Rattle.sql_faults.proofs.Evens.{even_query}
-use Rattle.sql_faults.proofs.Members.{all_of_each, each_more, each_of_all}
+use Rattle.sql_catalog.proofs.EachLaws.{all_of_each, each_more, each_of_all}
 use Rattle.sql_faults.specs.Faults.{query_fault}
 use Rattle.sql_faults.specs.Views.{heads_of}
 use Rattle.qgm_core.specs.Boxes.{QueryGraph}

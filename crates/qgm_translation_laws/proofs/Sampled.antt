@@ -2,7 +2,7 @@
 use Rattle.std.proofs.Common.{◌≡◌, true, refl}
 use Rattle.sql_ast.specs.Grammatical.{is_query}
 use Rattle.sql_ast.specs.Syntax as s
-use Rattle.sql_faults.proofs.Members.{all_of_each}
+use Rattle.sql_catalog.proofs.EachLaws.{all_of_each}
 use Rattle.qgm_translation_laws.proofs.TypingSchemas.{text_has_types}
 use Rattle.qgm_translation_laws.specs.Sample.{Sampled, catalog, text}
 use Rattle.qgm_translation_laws.specs.Typing.{ValidSchema}

@@ -44,12 +44,13 @@ use Rattle.sql_meaning.specs.ResolvedTrees.{Query}
 use Rattle.sql_meaning.specs.Scopes.{first_of}
 use Rattle.sql_names.specs.Resolved.{query}
 use Rattle.sql_names.specs.Schema.{schema_columns}
-use Rattle.sql_faults.proofs.Members.{Each, each_append, each_more, each_of_all}
+use Rattle.sql_catalog.proofs.EachLaws.{Each, each_append, each_more, each_of_all, found_each}
 use Rattle.sql_faults.specs.Scopes.{is_some}
 use Rattle.sql_faults.specs.Views.{heads_of, typed_columns}
 use Rattle.sql_faults.specs.declared.column.TypedColumn.{TypedColumn}
 use Rattle.sql_names.specs.Agreed.{IsWide}
 use Rattle.sql_faults.specs.Columns.{type_of_declared}
+use Rattle.sql_faults.proofs.Catalogs.{head_more, head_of, heads_at}
 use Rattle.qgm_core.specs.Boxes.{QueryGraph}
 use Rattle.list_laws.specs.Lists.{In}
 use Rattle.qgm_core.specs.declared.kinds.BaseTable.{BaseTable}
@@ -65,7 +66,6 @@ use Rattle.qgm_translation_laws.specs.Laid.{IsGraphOf}
 use Rattle.qgm_translation_laws.specs.Sources.{body_in, column_type, is_primary, is_unique, key_places, not_null_from, places_of_keys, sources_of, stored_in, stored_table}
 use Rattle.qgm_translation_laws.proofs.Joined.{valid_buildable}
 use Rattle.qgm_translation_laws.proofs.Known.{IsTable, base-is-table}
-use Rattle.qgm_translation_laws.proofs.Nesting.{found_each, head_more, head_of, heads_at}
 use Rattle.qgm_translation_laws.proofs.Passes.{root-reaches}
 use Rattle.qgm_translation_laws.proofs.SchemaSources.{schema_sources}
 

@@ -10,18 +10,18 @@ use Rattle.sql_catalog.specs.declared.key.Key.{Key}
 use Rattle.sql_meaning.specs.Scopes.{first_of}
 use Rattle.sql_value.specs.declared.order_key.SqlType.{SqlType}
 use Rattle.std.proofs.lemmas.List.{length-map}
+use Rattle.std.proofs.lemmas.Option.{same_Some}
 use Rattle.sql_meaning.specs.ResolvedTrees.{Query}
 use Rattle.sql_names.proofs.Valid.{shallow}
 use Rattle.sql_names.specs.Resolved.{query}
 use Rattle.sql_names.specs.Schema.{schema_columns}
-use Rattle.sql_faults.proofs.Catalogs.{typed_tables}
+use Rattle.sql_faults.proofs.Catalogs.{head_more, head_of, heads_at, typed_tables}
 use Rattle.sql_faults.specs.Columns.{columns_or_none}
 use Rattle.sql_faults.specs.Columns.{type_of_declared}
 use Rattle.sql_faults.specs.Views.{heads_of, typed, typed_columns}
 use Rattle.sql_faults.specs.declared.column.TypedColumn.{TypedColumn}
 use Rattle.qgm_terms.specs.Terms.{Term}
 use Rattle.qgm_translation_laws.specs.Formed.{HasColumns, SourcesTyped}
-use Rattle.qgm_translation_laws.proofs.Nesting.{head_more, head_of, heads_at}
 use Rattle.qgm_translation_laws.proofs.Schemas.{schema_same}
 use Rattle.qgm_translation_laws.proofs.Stated.{are_kinds, have_length}
 use Rattle.qgm_translation_laws.proofs.TypingSchemas.{views_have_types}
@@ -52,9 +52,6 @@ schema_sources_typed catalog shared tells valid = record {
     at name (Some table) p e f =
         ap (λ (o : Option TableDecl). (stored_in name o).types) e ∙ table_types (keys_of table.elements) (columns_of table.elements) ∙ sym (kinds_at catalog name (Some table) p e f)
 
-some_same : (x y : Query) → Some x ≡ Some y → x ≡ y
-some_same x y h = cc
-
 none_some : {A : Type 0} (x : Query) → None ≡ Some x → A
 none_some x h = absurd (cc)
 
@@ -70,5 +67,5 @@ schema_sources catalog shared tells valid = record {
   where
     at : (name : List ℕ) (body : Query) (o : Option TableDecl) (p : Option s.ViewDecl) → table_named catalog.tables name ≡ o → view_named catalog.views name ≡ p → body_in catalog o p ≡ Some body → IsBodyOf catalog name body
     at name body None None e f h = none_some body h
-    at name body None (Some view) e f h = (view, (e, f, sym (some_same (query (schema_columns catalog) [] view.query) body h)))
+    at name body None (Some view) e f h = (view, (e, f, sym (same_Some (query (schema_columns catalog) [] view.query) body h)))
     at name body (Some table) p e f h = none_some body h

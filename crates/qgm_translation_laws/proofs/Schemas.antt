@@ -11,7 +11,7 @@ use Rattle.sql_names.specs.Agreed.{names_of}
 use Rattle.sql_names.specs.Resolved.{bare, query, without_rows}
 use Rattle.sql_names.specs.Schema.{schema_columns}
 use Rattle.sql_faults.proofs.Catalogs.{same_columns, valid_text, valid_views}
-use Rattle.sql_faults.proofs.Members.{Each, all_of_each, each_of_all}
+use Rattle.sql_catalog.proofs.EachLaws.{Each, all_of_each, each_of_all}
 use Rattle.sql_faults.specs.Faults.{query_fault}
 use Rattle.sql_faults.specs.Laws.{NestsShallow, SameColumns}
 use Rattle.sql_faults.specs.Views.{fault, heads_of, view_refusal}

@@ -29,7 +29,7 @@ use Rattle.qgm_translation.specs.Maps.{Map, fresh, ref_term}
 use Rattle.qgm_translation.specs.Shown as v
 use Rattle.qgm_translation.specs.Shown.{Thing, of_groups, of_operand, of_query, of_rows, refs}
 use Rattle.qgm_translation.specs.Sources.{Sources, from_width}
-use Rattle.qgm_translation_laws.specs.Typed.{Gives, NotNone, Scope}
+use Rattle.qgm_translation_laws.specs.Typed.{IsOfTypes, NotNone, Scope}
 use Rattle.qgm_translation_laws.proofs.Boxes as boxes
 use Rattle.qgm_translation_laws.proofs.Clauses.{wide}
 use Rattle.qgm_edit_laws.proofs.Levels as laws
@@ -239,7 +239,7 @@ module _ (bs : List Node) (ordered : Ordered bs) (few : (q : ℕ) → times q (i
       ∙ ap₂ (λ a b. true && true && a && is_none b && is_none n.parts.head && is_plain n.parts.role) (lt-some types (width n) some long) h.bare.0
       ∙ ap₂ (λ a b. true && true && true && true && is_none a && is_plain b) h.bare.1 h.plain.role
 
-  query-shape : (Below : ℕ → Thing → Map → Type 0) (x : Query) (e : ℕ) (m c : Map) (scopes : List Scope) (n : Node) (types : List SqlType) → v.ShowsQuery sources Below x c n → Gives kinds scopes x types → LocalBy e m n types n.parts.kind → Fits n
+  query-shape : (Below : ℕ → Thing → Map → Type 0) (x : Query) (e : ℕ) (m c : Map) (scopes : List Scope) (n : Node) (types : List SqlType) → v.ShowsQuery sources Below x c n → IsOfTypes kinds scopes x types → LocalBy e m n types n.parts.kind → Fits n
   query-shape Below (q.block distinct list from by) e m c scopes n types h g l = select-shape e m n types h.kind h.plain.role l
   query-shape Below (q.grouped distinct list from by places w having) e m c scopes n types h g l = select-shape e m n types h.kind h.plain.role l
   query-shape Below (q.combine x op all w y) e m c scopes n types h g l = pair-shape Below (v.form_of op all) w x y e m c n types h g.2 l

@@ -8,7 +8,7 @@ use Rattle.sql_meaning.specs.Scopes.{Shape}
 use Rattle.sql_value.specs.declared.order_key.SqlType.{SqlType}
 use Rattle.sql_names.specs.Places.{grouping_places}
 use Rattle.sql_faults.proofs.Lookups.{own_once}
-use Rattle.sql_faults.proofs.Members.{Each}
+use Rattle.sql_catalog.proofs.EachLaws.{Each}
 use Rattle.sql_faults.proofs.Named.{scope_ranges}
 use Rattle.sql_faults.proofs.Orders.{both_none}
 use Rattle.sql_faults.specs.Columns.{all_columns, list_scope}
@@ -23,16 +23,16 @@ use Rattle.qgm_translation_laws.specs.Typed as t
 use Rattle.qgm_translation.specs.Shown.{key_places}
 use Rattle.qgm_translation_laws.proofs.Cells.{AllSee, HasColumn, NameIs, Sees, name_is}
 use Rattle.qgm_translation_laws.proofs.Full.{FullScope}
-use Rattle.qgm_translation_laws.proofs.Plain.{Place}
+use Rattle.qgm_translation_laws.proofs.Plain.{Site}
 use Rattle.qgm_translation_laws.proofs.Spans.{argument_name}
 use Rattle.qgm_translation_laws.proofs.Stated.{HaveTypes, no_fault_in}
 use Rattle.qgm_translation_laws.proofs.Tests.{is_so}
 
-pub record Sight (kinds : List ℕ → List SqlType) (place : Place) (scopes : Scopes) (any : List Shape) (rows : Option t.Scope) (cells : List t.Scope) : Type 0 where
+pub record Sight (kinds : List ℕ → List SqlType) (place : Site) (scopes : Scopes) (any : List Shape) (rows : Option t.Scope) (cells : List t.Scope) : Type 0 where
   pub names : (c : Column) → column_fault place c scopes ≡ 0 → NameIs kinds rows c scopes any cells
   pub nested : sub_misplaced place ≡ 0 → (any ≡ shapes scopes) × AllSee scopes cells
 
-pub sight : (kinds : List ℕ → List SqlType) (place : Place) (scopes : Scopes) (any : List Shape) (rows : Option t.Scope) (cells : List t.Scope) → any ≡ shapes scopes → AllSee scopes cells → Sight kinds place scopes any rows cells
+pub sight : (kinds : List ℕ → List SqlType) (place : Site) (scopes : Scopes) (any : List Shape) (rows : Option t.Scope) (cells : List t.Scope) → any ≡ shapes scopes → AllSee scopes cells → Sight kinds place scopes any rows cells
 sight kinds place scopes any rows cells e sees = record {
   names = λ c h.
       let parts = both_none _ _ h in
@@ -50,17 +50,17 @@ abbrev pub Grouped : (List ℕ → List SqlType) → Scopes → List Shape → O
 Grouped kinds scopes any rows = (row : t.Scope) × ((rows ≡ Some row) × OwnNames kinds scopes any row)
 
 -- where an aggregate may stand there are groups
-abbrev pub Groups : (List ℕ → List SqlType) → Place → Scopes → List Shape → Option t.Scope → Type 0
+abbrev pub Groups : (List ℕ → List SqlType) → Site → Scopes → List Shape → Option t.Scope → Type 0
 Groups kinds place scopes any rows = aggregate_misplaced place ≡ 0 → Grouped kinds scopes any rows
 
 -- the place is in an aggregate's argument
-abbrev pub Argued : Place → Type 0
+abbrev pub Argued : Site → Type 0
 Argued place = ((c : Column) (scopes : Scopes) → column_misplaced place c scopes ≡ 0 → is_own c scopes ≡ true) × (sub_misplaced place ≡ 13) × (aggregate_misplaced place ≡ 13)
 
 pub no_fault : {A : Type 0} (n : ℕ) → n ≡ 13 → n ≡ 0 → A
 no_fault n e h = absurd (omega (arith, e, h))
 
-pub argument_sight : (kinds : List ℕ → List SqlType) (place : Place) (scopes : Scopes) (any : List Shape) (row : t.Scope) → Argued place → OwnNames kinds scopes any row → Sight kinds place (released scopes) (innermost any ∷ []) None (row ∷ [])
+pub argument_sight : (kinds : List ℕ → List SqlType) (place : Site) (scopes : Scopes) (any : List Shape) (row : t.Scope) → Argued place → OwnNames kinds scopes any row → Sight kinds place (released scopes) (innermost any ∷ []) None (row ∷ [])
 argument_sight kinds place scopes any row argued own = record {
   names = λ c h. let parts = both_none _ _ h in own c parts.0 (argued.0 c (released scopes) (both_none _ _ parts.1).1);
   nested = λ h. no_fault (sub_misplaced place) argued.1 h;

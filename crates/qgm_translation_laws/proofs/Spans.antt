@@ -10,7 +10,7 @@ use Rattle.sql_names.specs.Places.{Span, columns_in, grouping_places, means, nam
 use Rattle.sql_names.specs.Resolved.{columns_from}
 use Rattle.sql_names.specs.Resolved as resolved
 use Rattle.sql_faults.proofs.Lookups.{range_once, range_stands, star_once, visible_of}
-use Rattle.sql_faults.proofs.Members.{Each, each_append, each_of_all}
+use Rattle.sql_catalog.proofs.EachLaws.{Each, each_append, each_of_all}
 use Rattle.sql_faults.proofs.Named.{in_shape, names_of_range, names_or}
 use Rattle.sql_faults.specs.Columns.{all_columns, range_columns}
 use Rattle.sql_faults.specs.FoundNames.{AllMayBeNamed, MayBeNamed, StandsRange}
@@ -19,7 +19,7 @@ use Rattle.sql_faults.specs.Rules.{one_of}
 use Rattle.sql_faults.specs.Scopes.{Scope, Scopes, columns_of_scope, first_type, is_found_barred, is_own, is_range_barred, is_some, is_star_barred, meant, plain, range_in, range_of, range_of_scope, released, scope_of, scope_with}
 use Rattle.sql_faults.specs.declared.column.TypedColumn.{TypedColumn}
 use Rattle.sql_faults.specs.declared.column.TypedRange.{TypedRange}
-use Rattle.qgm_translation_laws.specs.Typed.{AreOf, Found, open_scope}
+use Rattle.qgm_translation_laws.specs.Typed.{AreOf, ArePlaces, open_scope}
 use Rattle.qgm_translation_laws.specs.Typed as t
 use Rattle.qgm_translation.specs.Shown.{key_places}
 use Rattle.qgm_translation_laws.proofs.Cells.{AllSee, NameIs, Sees, Slice, known_at, own_is, shown, slice_at}
@@ -181,13 +181,13 @@ type_at [] place h = absurd (omega (arith, h))
 type_at (u ∷ row) zero h = (u, refl)
 type_at (u ∷ row) (suc place) h = type_at row place (omega (arith, h))
 
-found_all : (row : List SqlType) (places : List ℕ) → Each (λ (place : ℕ). place < length row) places → Found (open_scope row) places
+found_all : (row : List SqlType) (places : List ℕ) → Each (λ (place : ℕ). place < length row) places → ArePlaces (open_scope row) places
 found_all row [] h = tt
 found_all row (place ∷ places) h =
     let one = type_at row place h.0 in
     (one.0, (one.1, found_all row places h.1))
 
-pub keys_found : (by : List Column) (rs : List TypedRange) (row : List SqlType) → HaveTypes (all_columns rs) row → Found (open_scope row) (key_places (grouping_places by (range_shapes rs)))
+pub keys_found : (by : List Column) (rs : List TypedRange) (row : List SqlType) → HaveTypes (all_columns rs) row → ArePlaces (open_scope row) (key_places (grouping_places by (range_shapes rs)))
 keys_found [] rs row h = tt
 keys_found (c ∷ by) rs row h =
     found_all row (flat_map (λ (d : Column). places_meant d (columns_in (range_shapes rs))) (c ∷ by))

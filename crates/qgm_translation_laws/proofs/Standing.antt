@@ -1,5 +1,5 @@
 -- Over tables that fit a schema, its names stand for their rows, those of views for the rows of their bodies.
-use Rattle.std.proofs.Common.{◌≡◌, ◌∙◌, ◌≤◌, ℕ, zero, suc, true, false, cond, map, List, [], ◌∷◌, length, Option, Some, None, refl, sym, ap, subst, arith}
+use Rattle.std.proofs.Common.{◌≡◌, ◌∙◌, ◌≤◌, ℕ, zero, suc, List, [], ◌∷◌, length, Option, Some, None, refl, sym, ap, subst, arith}
 use Rattle.std.specs.Prelude.{All}
 use Rattle.std.proofs.lemmas.List.{length-map}
 use Rattle.std.proofs.lemmas.List.Elements.{All-head, All-tail}
@@ -8,28 +8,25 @@ use Rattle.row_bag.specs.declared.row.Row.{Row}
 use Rattle.row_bag.specs.declared.tables.Table.{Table}
 use Rattle.sql_ast.specs.declared.schema.TableDecl.{TableDecl}
 use Rattle.sql_ast.specs.Declarations.{Declared, table_named, view_named}
-use Rattle.sql_ast.specs.Names.{same_name}
 use Rattle.sql_ast.specs.Syntax as s
 use Rattle.sql_catalog.specs.TableNames as t
+use Rattle.sql_catalog.proofs.DepthLaws.{Shallow, ShallowName, all_shallow, nested}
+use Rattle.sql_catalog.proofs.EachLaws.{each_more}
 use Rattle.sql_value.specs.declared.cell.Cell.{Cell}
 use Rattle.sql_value.specs.declared.order_key.SqlType.{SqlType}
-use Rattle.sql_meaning.specs.Meaning.{relation_with, rows_or_none, viewed}
+use Rattle.sql_meaning.specs.Meaning.{rows_or_none}
 use Rattle.sql_meaning.specs.Meaning as n
-use Rattle.sql_meaning.specs.Names.{Known, Relation, names, renamed}
+use Rattle.sql_meaning.specs.Names.{Known, Relation, names}
 use Rattle.sql_meaning.specs.Names.{columns_of as columns_in}
-use Rattle.sql_meaning.specs.Scopes.{first_of}
 use Rattle.sql_meaning.specs.ResolvedMeaning as c
-use Rattle.sql_meaning.specs.ResolvedTrees.{Query}
-use Rattle.sql_meaning.specs.ResolvedViews.{body_of}
 use Rattle.sql_meaning.specs.ResolvedViews as trees
 use Rattle.sql_names.specs.Agreed.{IsWide, rows_of}
 use Rattle.sql_names.specs.Even.{EvenQuery}
-use Rattle.sql_names.specs.Resolved.{Columns, bare, query}
-use Rattle.sql_names.specs.Schema.{Sound, schema_columns, view_tree, view_trees}
-use Rattle.sql_names.proofs.ByPlaces.{IsKnown, query_law, rows_law}
-use Rattle.sql_names.proofs.Depths.{Shallow, ShallowName, all_shallow, columns_known, found_all, nested, stable}
+use Rattle.sql_names.specs.Resolved.{Columns, query}
+use Rattle.sql_names.specs.Schema.{Sound, schema_columns, view_body, view_trees}
+use Rattle.sql_names.proofs.ByPlaces.{IsKnown, rows_law}
 use Rattle.sql_names.proofs.Frames.{fits_none}
-use Rattle.sql_names.proofs.Named.{Agrees, Each, all_wide, each_more, names_bare, renamed_length}
+use Rattle.sql_names.proofs.Whole.{Holds, body_found, even_body, holds, known_here}
 use Rattle.sql_faults.proofs.Catalogs.{same_columns, typed_tables}
 use Rattle.sql_faults.specs.Columns.{columns_or_none}
 use Rattle.sql_faults.specs.Views.{heads_of}
@@ -38,21 +35,8 @@ use Rattle.qgm_meaning.specs.Widths.{Wide}
 use Rattle.qgm_translation.specs.Law.{StandFor}
 use Rattle.qgm_terms.specs.Terms.{Term}
 use Rattle.qgm_translation_laws.proofs.Stated.{are_kinds, have_length}
-use Rattle.qgm_translation_laws.specs.Sources.{body_in, sources_of, view_body}
+use Rattle.qgm_translation_laws.specs.Sources.{body_in, sources_of}
 use Rattle.qgm_translation_laws.specs.Typing.{ValidSchema, kinds_of}
-
-body_found : (catalog : Declared) (name : List ℕ) (views : List s.ViewDecl) → body_of (map (view_tree catalog) views) name ≡ view_body catalog (view_named views name)
-body_found catalog name [] = refl
-body_found catalog name (view ∷ views) =
-    elim (same_name view.name name) as (λ b. cond b (Some (query (schema_columns catalog) [] view.query)) (body_of (map (view_tree catalog) views) name) ≡ view_body catalog (cond b (Some view) (view_named views name))) [
-      | true ↦ refl
-      | false ↦ body_found catalog name views
-    ]
-
--- what a name stands for holds these rows
-record Holds (o : Option Relation) (rows : List (Row (List Cell))) : Type 0 where
-  held : rows ≡ rows_of o
-  wide : IsWide o
 
 each_wide : (w : ℕ) (r : Relation) (rows : List (Row (List Cell))) → w ≡ length r.columns → All (λ row. length row.cells ≡ length r.columns) rows → Wide w rows
 each_wide w r [] e h = tt
@@ -62,9 +46,6 @@ each_wide w r (x ∷ rows) e h =
 wide_rows : (w : ℕ) (o : Option Relation) → w ≡ length (columns_in o) → IsWide o → Wide w (rows_of o)
 wide_rows w None e h = tt
 wide_rows w (Some r) e h = each_wide w r r.rows e h
-
-no_such : {A : Type 0} (view : s.ViewDecl) → Some view ≡ None → A
-no_such view h = absurd (cc)
 
 module _ (catalog : Declared) (tables : List Table) (sound : Sound catalog tables) where
   abbrev columns : Columns
@@ -76,50 +57,11 @@ module _ (catalog : Declared) (tables : List Table) (sound : Sound catalog table
   abbrev bags : ℕ → List ℕ → List (Row (List Cell))
   bags depth = trees.known_at (view_trees catalog) tables depth
 
-  even_body : (name : List ℕ) (view : s.ViewDecl) → view_named catalog.views name ≡ Some view → EvenQuery columns [] view.query
-  even_body name view e = found_all (λ (v : s.ViewDecl). EvenQuery columns [] v.query) (λ (v : s.ViewDecl). same_name v.name name) catalog.views view sound.even e
-
-  table_holds : (name : List ℕ) (o : Option TableDecl) → (o ≡ None → bag_named tables name ≡ None) → IsWide (relation_with o (bag_named tables name)) → Holds (relation_with o (bag_named tables name)) (rows_or_none (bag_named tables name))
-  table_holds name None none wide = record { held = ap rows_or_none (none refl); wide = tt }
-  table_holds name (Some table) none wide = record { held = refl; wide = wide }
-
-  view_holds : (depth : ℕ) (view : s.ViewDecl) → EvenQuery columns [] view.query → Each (IsKnown (known depth) columns (bags depth)) (t.in_query view.query)
-      → Holds (viewed (known depth) (Some view)) (c.rows (bags depth) (query columns [] view.query) [])
-  view_holds depth view even each = record {
-    held = sym (rows_law (known depth) columns (bags depth) view.query [] [] [] fits_none each even);
-    wide = all_wide (length (names (bare columns) view.query [])) (renamed view.columns (names (known depth) view.query []))
-        (renamed_length view.columns (names (known depth) view.query []) ∙ ap length (names_bare (known depth) columns view.query [] (each_more (IsKnown (known depth) columns (bags depth)) (Agrees (known depth) columns) (λ name is. is.named) (t.in_query view.query) each)))
-        (n.rows (known depth) view.query []) (c.rows (bags depth) (query columns [] view.query) [])
-        (query_law (known depth) columns (bags depth) view.query [] [] [] fits_none each even);
-  }
-
-  -- one more level of views
-  step : (depth : ℕ) (name : List ℕ) (o : Option TableDecl) (p : Option s.ViewDecl)
-      → ((table : TableDecl) → o ≡ Some table → p ≡ None) → (o ≡ None → bag_named tables name ≡ None) → IsWide (relation_with o (bag_named tables name))
-      → ((view : s.ViewDecl) → p ≡ Some view → Holds (viewed (known depth) (Some view)) (c.rows (bags depth) (query columns [] view.query) []))
-      → Holds (first_of (relation_with o (bag_named tables name)) (viewed (known depth) p)) (trees.viewed (bags depth) tables name (view_body catalog p))
-  step depth name None None apart none wide below = record { held = ap rows_or_none (none refl); wide = tt }
-  step depth name None (Some view) apart none wide below = below view refl
-  step depth name (Some table) None apart none wide below = record { held = refl; wide = wide }
-  step depth name (Some table) (Some view) apart none wide below = no_such view (apart table refl)
-
-  known_here : (depth : ℕ) → depth ≤ 16 → (name : List ℕ) → ShallowName catalog depth name → Holds (known depth name) (bags depth name) → IsKnown (known depth) columns (bags depth) name
-  known_here depth low name h it = record { named = stable catalog depth 16 low name h ∙ columns_known catalog tables depth name; held = it.held; wide = it.wide }
-
-  holds : (depth : ℕ) → depth ≤ 16 → (name : List ℕ) → ShallowName catalog depth name → Holds (known depth name) (bags depth name)
-  holds zero low name h = table_holds name (table_named catalog.tables name) (sound.loaded name) (sound.wide name)
-  holds (suc depth) low name h =
-      subst (λ (o : Option Query). Holds (known (suc depth) name) (trees.viewed (bags depth) tables name o)) (sym (body_found catalog name catalog.views))
-      (step depth name (table_named catalog.tables name) (view_named catalog.views name) (λ table e. sound.apart name table e) (sound.loaded name) (sound.wide name)
-      (λ view e. view_holds depth view (even_body name view e)
-      (each_more (ShallowName catalog depth) (IsKnown (known depth) columns (bags depth)) (λ other k. known_here depth (omega arith) other k (holds depth (omega arith) other k)) (t.in_query view.query)
-      (nested catalog depth view (subst (Shallow catalog (suc depth)) e h)))))
-
   -- a view's body has the same rows over the names that nest deeper, where those that it reads have
   body_same : (d e : ℕ) → d ≤ 16 → (view : s.ViewDecl) → EvenQuery columns [] view.query → Shallow catalog (suc d) (Some view)
       → ((other : List ℕ) → ShallowName catalog d other → bags e other ≡ bags d other) → c.rows (bags e) (query columns [] view.query) [] ≡ c.rows (bags d) (query columns [] view.query) []
   body_same d e low view even k same =
-      let here : (other : List ℕ) → ShallowName catalog d other → IsKnown (known d) columns (bags d) other = λ other m. known_here d low other m (holds d low other m) in
+      let here : (other : List ℕ) → ShallowName catalog d other → IsKnown (known d) columns (bags d) other = λ other m. known_here catalog tables sound d low other m (holds catalog tables sound d low other m) in
       sym (rows_law (known d) columns (bags e) view.query [] [] [] fits_none
       (each_more (ShallowName catalog d) (IsKnown (known d) columns (bags e))
       (λ other m. let it : IsKnown (known d) columns (bags d) other = here other m in record { named = it.named; held = same other m ∙ it.held; wide = it.wide }) (t.in_query view.query) (nested catalog d view k)) even)
@@ -142,14 +84,14 @@ module _ (catalog : Declared) (tables : List Table) (sound : Sound catalog table
       at : ((other : List ℕ) → ShallowName catalog d other → bags e other ≡ bags d other) → (p : Option s.ViewDecl) → view_named catalog.views name ≡ p → Shallow catalog (suc d) p
           → trees.viewed (bags e) tables name (view_body catalog p) ≡ trees.viewed (bags d) tables name (view_body catalog p)
       at below None f k = refl
-      at below (Some view) f k = body_same d e (omega arith) view (even_body name view f) k below
+      at below (Some view) f k = body_same d e (omega arith) view (even_body catalog tables sound name view f) k below
 
   stands : (name : List ℕ) → bags 16 name ≡ trees.viewed (bags 16) tables name (view_body catalog (view_named catalog.views name))
   stands name = level 15 name ∙ sym (at (view_named catalog.views name) refl (all_shallow catalog 16 sound.shallow name))
     where
       at : (p : Option s.ViewDecl) → view_named catalog.views name ≡ p → Shallow catalog 16 p → trees.viewed (bags 16) tables name (view_body catalog p) ≡ trees.viewed (bags 15) tables name (view_body catalog p)
       at None f k = refl
-      at (Some view) f k = body_same 15 16 (omega arith) view (even_body name view f) k (λ other m. bags_stable 15 16 (omega arith) (omega arith) other m)
+      at (Some view) f k = body_same 15 16 (omega arith) view (even_body catalog tables sound name view f) k (λ other m. bags_stable 15 16 (omega arith) (omega arith) other m)
 
   body_apart : (o : Option TableDecl) (p : Option s.ViewDecl) → ((table : TableDecl) → o ≡ Some table → p ≡ None) → view_body catalog p ≡ body_in catalog o p
   body_apart None p h = refl
@@ -165,7 +107,7 @@ module _ (catalog : Declared) (tables : List Table) (sound : Sound catalog table
     pub schema_stands : (shared : List ℕ → ℕ) (typed : Term → SqlType) → StandFor tables (sources_of catalog shared typed) (trees.known_of (view_trees catalog) tables)
     schema_stands shared typed = record {
       wide = λ name.
-          let it : Holds (known 16 name) (bags 16 name) = holds 16 (omega arith) name (all_shallow catalog 16 sound.shallow name) in
+          let it : Holds (known 16 name) (bags 16 name) = holds catalog tables sound 16 (omega arith) name (all_shallow catalog 16 sound.shallow name) in
           subst (Wide (length (kinds_of (heads_of catalog) name))) (sym it.held) (wide_rows (length (kinds_of (heads_of catalog) name)) (known 16 name) (counted name) it.wide);
       views = λ name.
           stands name

@@ -4,7 +4,7 @@ use Rattle.std.proofs.lemmas.Bool.{eqb-true, not-false, or_parts}
 use Rattle.std.proofs.lemmas.List.{length-map, map-append}
 use Rattle.sql_value.specs.declared.order_key.SqlType.{SqlType}
 use Rattle.sql_value.specs.declared.order_key.SqlType.TheVariants.{Integer, Varchar}
-use Rattle.sql_faults.proofs.Members.{Each, each_of_all}
+use Rattle.sql_catalog.proofs.EachLaws.{Each, each_of_all}
 use Rattle.sql_faults.specs.Laws.{AreTypedHeads}
 use Rattle.sql_faults.specs.Columns.{columns_or_none, listed, renamed}
 use Rattle.sql_faults.specs.Rules.{differ, fault_if, is_other, not_one, operands_differ, operands_unequal, pair_differs, places_differ, wants}
@@ -103,9 +103,6 @@ same_pair t u a b e f h =
     is_this t u (fault_free (is_other t (Some u)) 9 (subst (λ (z : Option SqlType). pair_differs (Some t) z ≡ 0) f (subst (λ (z : Option SqlType). pair_differs z b ≡ 0) e h)))
 
 -- ---- columns of one query
-
-some_same : (a b : SqlType) → Some a ≡ Some b → a ≡ b
-some_same a b h = cc
 
 -- a subquery of one column
 pub lone_type : (cs : List TypedColumn) (types : List SqlType) → HaveTypes cs types → not_one cs ≡ 0 → (t : SqlType) × ((first_type cs ≡ Some t) × (types ≡ t ∷ []))

@@ -25,8 +25,9 @@ use Rattle.qgm_translation.specs.Shown.{Either}
 use Rattle.qgm_translation.specs.Sources.{Sources}
 use Rattle.qgm_translation.specs.Terms as l
 use Rattle.qgm_translation_laws.specs.Typed as typed
-use Rattle.qgm_translation_laws.specs.Typed.{FoldsTo, Gives, IsOf, Scope, added, arms_typed, choices_typed}
-use Rattle.qgm_translation_laws.proofs.Parts.{ArmsAre, Fit, Heads, Is, Signed, op_of}
+use Rattle.qgm_translation_laws.specs.Typed.{FoldsTo, IsOf, IsOfTypes, Scope, added, arms_typed, choices_typed}
+use Rattle.qgm_translation.specs.Typing.{op_type as op_of}
+use Rattle.qgm_translation_laws.proofs.Parts.{ArmsAre, Fit, Heads, Is, Signed}
 
 abbrev of_some : SqlType → Option SqlType → SqlType
 of_some a None = a
@@ -88,7 +89,7 @@ module _ (kinds : List ℕ → List SqlType) (K0 K : ℕ → ℕ → SqlType →
   -- what stands for leaves has their types, over groups of such rows; m: what is seen round the block
   module _ (m : Map) (rows : Option Scope) where
     abbrev pub OneOf : ℕ → Frame → Query → Type 0
-    OneOf n f query = (scopes : List Scope) → MapIs K0 (f ∷ m) scopes → (a : SqlType) → Gives kinds scopes query (a ∷ []) → J n a
+    OneOf n f query = (scopes : List Scope) → MapIs K0 (f ∷ m) scopes → (a : SqlType) → IsOfTypes kinds scopes query (a ∷ []) → J n a
 
     abbrev pub Asked : QuantKind → ℕ → Frame → Query → Type 0
     Asked binding.F n f query = Unit {0}
@@ -144,7 +145,7 @@ module _ (kinds : List ℕ → List SqlType) (K0 K : ℕ → ℕ → SqlType →
     compared-is : (op : CmpOp) (x y : Term) (a : SqlType) → I x a → I y a → Fit K N J (tree.compare (l.sign op) x y)
     compared-is op x y a h k = (a, (h, k, plain-sign op a))
 
-    quantified-is : (each : Quantifier) (n : ℕ) (op : CmpOp) (x : Term) (a : SqlType) (query : Query) → I x a → Asked m rows (w.every_or_some each) n fr query → Gives kinds scopes query (a ∷ [])
+    quantified-is : (each : Quantifier) (n : ℕ) (op : CmpOp) (x : Term) (a : SqlType) (query : Query) → I x a → Asked m rows (w.every_or_some each) n fr query → IsOfTypes kinds scopes query (a ∷ [])
         → Fit K N J (l.quantified each n (tree.compare (l.sign op) x (tree.col n 1)))
     quantified-is quantifier.Any n op x a query h g k = (g.0, (a, (h, refl, g.1 scopes seen a k, plain-sign op a)))
     quantified-is quantifier.Some n op x a query h g k = (g.0, (a, (h, refl, g.1 scopes seen a k, plain-sign op a)))

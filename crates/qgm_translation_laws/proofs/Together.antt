@@ -3,11 +3,12 @@ use Rattle.std.proofs.Common.{inl, inr, ◌≡◌, ◌≤◌, ℕ, zero, suc, �
 use Rattle.std.specs.Prelude.{slice_get}
 use Rattle.std.proofs.lemmas.Bool.{eqb-true}
 use Rattle.std.proofs.lemmas.List.{length-map}
+use Rattle.std.proofs.lemmas.Option.{same_Some}
 use Rattle.sql_value.specs.declared.order_key.OrderKey.{OrderKey}
 use Rattle.sql_value.specs.declared.order_key.SqlType.{SqlType}
 use Rattle.sql_value.specs.declared.order_key.SqlType.TheVariants.{Integer}
 use Rattle.sql_meaning.specs.ResolvedTrees.{Query}
-use Rattle.sql_faults.proofs.Members.{Each}
+use Rattle.sql_catalog.proofs.EachLaws.{Each}
 use Rattle.qgm_core.specs.Boxes.{Ordered, QueryGraph, ids_in, is_box, is_quant, owns, range_in}
 use Rattle.list_laws.specs.Lists.{In, first, times}
 use Rattle.qgm_core.specs.declared.kinds.BoxKind.{BoxKind}
@@ -29,7 +30,7 @@ use Rattle.qgm_edit_laws.proofs.Ranks.{has-in, same-box}
 use Rattle.qgm_edit_laws.proofs.Scope.{in-first}
 use Rattle.qgm_translation_laws.specs.Alike.{Like, LikeBox, Meets, OwnedAt, SameButNumbers, Stands, roots, stands, under}
 use Rattle.qgm_translation_laws.specs.Formed.{SourcesTyped, Told}
-use Rattle.qgm_translation_laws.specs.Typed.{Gives, Scope}
+use Rattle.qgm_translation_laws.specs.Typed.{IsOfTypes, Scope}
 use Rattle.qgm_translation_laws.proofs.Boxes as boxes
 use Rattle.qgm_translation_laws.proofs.Frames.{At, map-none, refs-cols}
 use Rattle.qgm_translation_laws.proofs.Levels as levels
@@ -89,9 +90,6 @@ module _ (K : ℕ → ℕ → SqlType → Type 0) (N : QuantNode → Type 0) (J 
 abbrev pub FoundAt : List Node → ℕ → ℕ → List SqlType → Type 0
 FoundAt bs j b types = types_found (first (is_typed b) (types_after j bs)) ≡ known types
 
-some-same : {A : Type 0} (x y : A) → Some x ≡ Some y → x ≡ y
-some-same x y h = cc
-
 refs-length : (q k u : ℕ) → length (refs q k u) ≡ u
 refs-length q k zero = refl
 refs-length q k (suc u) = ap suc (refs-length q (suc k) u)
@@ -124,7 +122,7 @@ module _ (bs : List Node) (ordered : Ordered bs) (once : (q : ℕ) → times q (
 
 module _ (kinds : List ℕ → List SqlType) (s : Sources) (shared : List ℕ → ℕ) (typed : Term → SqlType) (query : Query) (types : List SqlType) (names : List (Option (List ℕ))) (order : List OrderKey) (g h : QueryGraph)
     (built : IsBuiltOf s query names order g) (other : IsBuiltOf (record s { shared = shared; typed = typed }) query names order h) (one : Ordered g.boxes) (two : Ordered h.boxes) (once : (q : ℕ) → times q (ids_in g.boxes) ≤ 1)
-    (twice : (q : ℕ) → times q (ids_in h.boxes) ≤ 1) (sorts : SourcesTyped kinds s) (told : Told s g.boxes) (tells : Told (record s { shared = shared; typed = typed }) h.boxes) (gives : Gives kinds [] query types) where
+    (twice : (q : ℕ) → times q (ids_in h.boxes) ≤ 1) (sorts : SourcesTyped kinds s) (told : Told s g.boxes) (tells : Told (record s { shared = shared; typed = typed }) h.boxes) (gives : IsOfTypes kinds [] query types) where
   abbrev z : Sources
   z = record s { shared = shared; typed = typed }
 
@@ -172,7 +170,7 @@ module _ (kinds : List ℕ → List SqlType) (s : Sources) (shared : List ℕ �
   column-there : (e q r k : ℕ) (a : SqlType) → R q r → Column e q k a → (j : ℕ) → e ≤ j → column_type h.boxes (types_after j h.boxes) r k ≡ Some a
   column-there e q r k a (stands n m i o p meets in_n in_m at to) c j u =
       let w = c.1.0.0 in
-      let same : w ≡ o = some-same w o (sym c.1.0.1.0 ∙ owner-of g.boxes once n o in_n (at-in i o n.quants at)) in
+      let same : w ≡ o = same_Some w o (sym c.1.0.1.0 ∙ owner-of g.boxes once n o in_n (at-in i o n.quants at)) in
       let over : c.0 ≡ o.over = sym c.1.0.1.1 ∙ ap (λ (x : OwnedQuant). x.over) same in
       let ts = c.1.1.0 in
       let found : FoundAt h.boxes j p.over ts = c.1.1.1.0.1 p.over (subst (λ b. Meets g h b p.over) (sym over) (under n m i o p meets in_n in_m at to)) j u in

@@ -16,7 +16,8 @@ use Rattle.qgm_translation.specs.Maps.{Map}
 use Rattle.qgm_translation.specs.Sources.{Sources}
 use Rattle.qgm_translation_laws.proofs.Boxes as boxes
 use Rattle.qgm_translation_laws.proofs.Parts as p
-use Rattle.qgm_translation_laws.proofs.Parts.{Signed, op_of}
+use Rattle.qgm_translation.specs.Typing.{op_type as op_of}
+use Rattle.qgm_translation_laws.proofs.Parts.{Signed}
 
 pub operated : (op : Op) (a : SqlType) (x y : Option SqlType) → a ≡ op_of op → x ≡ Some a → y ≡ Some a → op_type op x y ≡ Some a
 operated Add a x y e h k = rw (h, k, e) refl

@@ -16,7 +16,7 @@ use Rattle.sql_names.specs.Places.{grouping_places, span_of}
 use Rattle.sql_names.specs.Places as places
 use Rattle.sql_names.specs.Resolved.{Columns, bare}
 use Rattle.sql_names.specs.Resolved as resolved
-use Rattle.sql_faults.proofs.Members.{Each, each_append, each_left, each_right}
+use Rattle.sql_catalog.proofs.EachLaws.{Each, each_append, each_left, each_right}
 use Rattle.sql_faults.proofs.Named.{both_same, names_same, ranges_same, scope_same, table_same}
 use Rattle.sql_faults.proofs.Orders.{both_none}
 use Rattle.sql_faults.specs.Columns.{all_columns, arm_types, choice_types, columns, columns_or_none, else_types, item_columns, items_columns, list_columns, list_scope, operand_type, ranges, renamed, res_types, table_ranges, type_of, type_of_declared, types_of}
@@ -28,14 +28,14 @@ use Rattle.sql_faults.specs.declared.column.TypedColumn.{TypedColumn}
 use Rattle.sql_faults.specs.declared.column.TypedRange.{TypedRange}
 use Rattle.std.specs.List.{list_any}
 use Rattle.std.proofs.lemmas.Bool.{and_parts, or_left, or_right}
-use Rattle.qgm_translation_laws.specs.Typed.{AllAre, AreOf, ArmsAre, ChoicesAre, Found, FromIs, FromsAre, Gives, IsOf, IsTyped, arms_typed, choices_typed, keyed, open_scope}
+use Rattle.qgm_translation_laws.specs.Typed.{AllAre, AreOf, ArePlaces, ArmsAre, ChoicesAre, FromIs, FromsAre, IsOf, IsOfTypes, IsTyped, arms_typed, choices_typed, keyed, open_scope}
 use Rattle.qgm_translation_laws.specs.Typed as t
 use Rattle.qgm_translation.specs.Shown.{key_places}
 use Rattle.qgm_translation.specs.Terms.{is_untyped}
 use Rattle.qgm_translation_laws.proofs.Cells.{AllSee, HasColumn, Sees}
 use Rattle.qgm_translation_laws.proofs.Chains.{Agree, IsKnown, Outcome, aggregate_is, agrees, append_are, both_typed, declared_is, either_typed, first_is, last_typed, list_agrees, not_typed, one_type, operand_is, outcome_is, outcome_known, outcome_typed, parts_agree, plus_is, signed_is, times_is, typed_more}
 use Rattle.qgm_translation_laws.proofs.Full.{full_query, full_table, full_tables}
-use Rattle.qgm_translation_laws.proofs.Plain.{Place}
+use Rattle.qgm_translation_laws.proofs.Plain.{Site}
 use Rattle.qgm_translation_laws.proofs.Sights.{Grouped, Groups, Sight, all_full, argument_sight, block_groups, block_sees, from_sees, grouped_having, grouped_list, is_written, no_fault, sight, sound_grouping}
 use Rattle.qgm_translation_laws.proofs.Spans.{keys_found, range_is, row_width, star_is}
 use Rattle.qgm_translation_laws.proofs.Stated.{AreKinds, HaveTypes, have_append, have_length, lone_type, no_fault_in, renamed_stated, same_pair, same_types, some_types, stated, wanted}
@@ -55,10 +55,10 @@ lone_range list cs types h = ap stated (append-nil (renamed list cs)) ∙ rename
 
 -- a block, grouped or not
 block_gives : (kinds : List ℕ → List SqlType) (cells : List t.Scope) (b distinct : Bool) (list : Values) (from : Froms) (by : Test) (keys : Option (List ℕ)) (n : ℕ) (having : Test) (row types : List SqlType)
-    → FromsAre kinds cells from row → IsTyped kinds None (open_scope row ∷ cells) by → Found (open_scope row) (key_places keys)
+    → FromsAre kinds cells from row → IsTyped kinds None (open_scope row ∷ cells) by → ArePlaces (open_scope row) (key_places keys)
     → AreOf kinds (cond b (Some (open_scope row)) None) (cond b (keyed (key_places keys) 0 row) (open_scope row) ∷ cells) list types
     → IsTyped kinds (cond b (Some (open_scope row)) None) (cond b (keyed (key_places keys) 0 row) (open_scope row) ∷ cells) having
-    → Gives kinds cells (cond b (q.grouped distinct list from by keys n having) (q.block distinct list from by)) types
+    → IsOfTypes kinds cells (cond b (q.grouped distinct list from by keys n having) (q.block distinct list from by)) types
 block_gives kinds cells true distinct list from by keys n having row types f w p l v = (row, (f, w, p, l, v))
 block_gives kinds cells false distinct list from by keys n having row types f w p l v = (row, (f, w, l))
 
@@ -68,7 +68,7 @@ module _ (heads : Heads) (known : Columns) (kinds : List ℕ → List SqlType) (
   ExprIs x scopes any rows cells = (u : SqlType) × ((type_of heads x scopes ≡ Some u) × IsOf kinds rows cells (resolved.value known any x) u)
 
   abbrev QueryIs : s.Query → Scopes → List Shape → List t.Scope → Type 0
-  QueryIs body scopes any cells = (types : List SqlType) × (HaveTypes (columns heads body scopes) types × Gives kinds cells (resolved.query known any body) types)
+  QueryIs body scopes any cells = (types : List SqlType) × (HaveTypes (columns heads body scopes) types × IsOfTypes kinds cells (resolved.query known any body) types)
 
   moved : (body : s.Query) (scopes : Scopes) (any : List Shape) (cells : List t.Scope) → any ≡ shapes scopes → QueryIs body scopes (shapes scopes) cells → QueryIs body scopes any cells
   moved body scopes any cells e h = subst (λ (z : List Shape). QueryIs body scopes z cells) (sym e) h
@@ -77,14 +77,14 @@ module _ (heads : Heads) (known : Columns) (kinds : List ℕ → List SqlType) (
   of_type scopes any rows cells x u h e = subst (IsOf kinds rows cells (resolved.value known any x)) e h.1.1
 
   -- a subquery that an operand of this type is compared with
-  compared : (place : Place) (body : s.Query) (scopes : Scopes) (any : List Shape) (cells : List t.Scope) (u : SqlType) (o : Option SqlType) → o ≡ Some u → compared_fault place o (columns heads body scopes) ≡ 0 → QueryIs body scopes any cells
-      → Gives kinds cells (resolved.query known any body) (u ∷ [])
+  compared : (place : Site) (body : s.Query) (scopes : Scopes) (any : List Shape) (cells : List t.Scope) (u : SqlType) (o : Option SqlType) → o ≡ Some u → compared_fault place o (columns heads body scopes) ≡ 0 → QueryIs body scopes any cells
+      → IsOfTypes kinds cells (resolved.query known any body) (u ∷ [])
   compared place body scopes any cells u o e h k =
       let parts = both_none (pair_differs o (first_type (columns heads body scopes))) (scalar_fault place (columns heads body scopes)) h in
       let one = lone_type (columns heads body scopes) k.0 k.1.0 (both_none (not_one (columns heads body scopes)) (sub_misplaced place) parts.1).0 in
-      subst (Gives kinds cells (resolved.query known any body)) (one.1.1 ∙ ap (λ (z : SqlType). z ∷ []) (same_pair u one.0 o (first_type (columns heads body scopes)) e one.1.0 parts.0)) k.1.1
+      subst (IsOfTypes kinds cells (resolved.query known any body)) (one.1.1 ∙ ap (λ (z : SqlType). z ∷ []) (same_pair u one.0 o (first_type (columns heads body scopes)) e one.1.0 parts.0)) k.1.1
 
-  compared_place : (place : Place) (o : Option SqlType) (cs : List TypedColumn) → compared_fault place o cs ≡ 0 → sub_misplaced place ≡ 0
+  compared_place : (place : Site) (o : Option SqlType) (cs : List TypedColumn) → compared_fault place o cs ≡ 0 → sub_misplaced place ≡ 0
   compared_place place o cs h = (both_none (not_one cs) (sub_misplaced place) (both_none (pair_differs o (first_type cs)) (scalar_fault place cs) h).1).1
 
   -- as many columns as names
@@ -93,7 +93,7 @@ module _ (heads : Heads) (known : Columns) (kinds : List ℕ → List SqlType) (
       have_length (columns heads x scopes) types h ∙ sym (ap length (names_same heads (bare known) same x scopes) ∙ length-map (columns heads x scopes) (λ (c : TypedColumn). c.name))
 
   mutual
-    of_expr : {place : Place} {scopes : Scopes} {any : List Shape} {rows : Option t.Scope} {cells : List t.Scope} (x : s.Expr) → expr_fault heads place x scopes ≡ 0 → is_expr x ≡ true → Sight kinds place scopes any rows cells
+    of_expr : {place : Site} {scopes : Scopes} {any : List Shape} {rows : Option t.Scope} {cells : List t.Scope} (x : s.Expr) → expr_fault heads place x scopes ≡ 0 → is_expr x ≡ true → Sight kinds place scopes any rows cells
         → (in_expr x ≡ true → Groups kinds place scopes any rows) → ExprIs x scopes any rows cells
     of_expr {place} {scopes} {any} {rows} {cells} (s.add x op y) h g w k =
         let a = of_expr x (both_none _ _ (both_none _ _ h).0).0 (and_parts _ _ g).0 w (λ e. k (or_left _ _ e)) in
@@ -128,7 +128,7 @@ module _ (heads : Heads) (known : Columns) (kinds : List ℕ → List SqlType) (
         let inner = w.nested (both_none _ _ (both_none _ _ h).1).1 in
         let r = moved body scopes any cells inner.0 (of_query body scopes cells (both_none _ _ h).0 g inner.1) in
         let one = lone_type (columns heads body scopes) r.0 r.1.0 (both_none _ _ (both_none _ _ h).1).0 in
-        (one.0, (one.1.0, subst (Gives kinds cells (resolved.query known any body)) one.1.1 r.1.1))
+        (one.0, (one.1.0, subst (IsOfTypes kinds cells (resolved.query known any body)) one.1.1 r.1.1))
     of_expr s.count_all h g w k = let groups = k refl h in (Integer, (refl, ((groups.0, groups.1.0), refl)))
     of_expr {place} {scopes} {any} {rows} {cells} (s.aggregate f each x) h g w k =
         let groups = k refl (both_none _ _ (both_none _ _ h).1).1 in
@@ -181,24 +181,24 @@ module _ (heads : Heads) (known : Columns) (kinds : List ℕ → List SqlType) (
         )
     of_expr (s.cast_null d) h g w k = (type_of_declared d, (refl, ap (λ (z : SqlType). Some z) (declared_is d)))
 
-    of_exprs : {place : Place} {scopes : Scopes} {any : List Shape} {rows : Option t.Scope} {cells : List t.Scope} (xs : s.Exprs) → exprs_fault heads place xs scopes ≡ 0 → are_exprs xs ≡ true → Sight kinds place scopes any rows cells
+    of_exprs : {place : Site} {scopes : Scopes} {any : List Shape} {rows : Option t.Scope} {cells : List t.Scope} (xs : s.Exprs) → exprs_fault heads place xs scopes ≡ 0 → are_exprs xs ≡ true → Sight kinds place scopes any rows cells
         → (in_exprs xs ≡ true → Groups kinds place scopes any rows) → (u : SqlType) → Agree u (types_of heads xs scopes) → AllAre kinds rows cells (resolved.values known any xs) u
     of_exprs s.no_expr h g w k u m = tt
     of_exprs {place} {scopes} {any} {rows} {cells} (s.one_expr x xs) h g w k u m =
         let a = of_expr x (both_none _ _ h).0 (and_parts _ _ g).0 w (λ e. k (or_left _ _ e)) in
         (of_type scopes any rows cells x u a (agrees u a.0 (type_of heads x scopes) a.1.0 m.0), of_exprs xs (both_none _ _ h).1 (and_parts _ _ g).1 w (λ e. k (or_right _ _ e)) u m.1)
 
-    of_res : {place : Place} {scopes : Scopes} {any : List Shape} {rows : Option t.Scope} {cells : List t.Scope} (r : s.Res) → res_fault heads place r scopes ≡ 0 → is_res r ≡ true → Sight kinds place scopes any rows cells
+    of_res : {place : Site} {scopes : Scopes} {any : List Shape} {rows : Option t.Scope} {cells : List t.Scope} (r : s.Res) → res_fault heads place r scopes ≡ 0 → is_res r ≡ true → Sight kinds place scopes any rows cells
         → (in_res r ≡ true → Groups kinds place scopes any rows) → Outcome kinds rows cells (res_types heads r scopes) (resolved.result known any r)
     of_res (s.given x) h g w k = let a = of_expr x h g w k in inr (a.0, (ap (λ (o : Option SqlType). o ∷ []) a.1.0, a.1.1))
     of_res s.null h g w k = inl (refl, refl)
 
-    of_otherwise : {place : Place} {scopes : Scopes} {any : List Shape} {rows : Option t.Scope} {cells : List t.Scope} (o : s.Otherwise) → else_fault heads place o scopes ≡ 0 → is_otherwise o ≡ true → Sight kinds place scopes any rows cells
+    of_otherwise : {place : Site} {scopes : Scopes} {any : List Shape} {rows : Option t.Scope} {cells : List t.Scope} (o : s.Otherwise) → else_fault heads place o scopes ≡ 0 → is_otherwise o ≡ true → Sight kinds place scopes any rows cells
         → (in_else o ≡ true → Groups kinds place scopes any rows) → Outcome kinds rows cells (else_types heads o scopes) (resolved.otherwise known any o)
     of_otherwise s.no_else h g w k = inl (refl, refl)
     of_otherwise (s.or_else r) h g w k = of_res r h g w k
 
-    of_arms : {place : Place} {scopes : Scopes} {any : List Shape} {rows : Option t.Scope} {cells : List t.Scope} (xs : s.Arms) → arms_fault heads place xs scopes ≡ 0 → are_arms xs ≡ true → Sight kinds place scopes any rows cells
+    of_arms : {place : Site} {scopes : Scopes} {any : List Shape} {rows : Option t.Scope} {cells : List t.Scope} (xs : s.Arms) → arms_fault heads place xs scopes ≡ 0 → are_arms xs ≡ true → Sight kinds place scopes any rows cells
         → (in_arms xs ≡ true → Groups kinds place scopes any rows)
         → Each IsKnown (arm_types heads xs scopes) × ((u : SqlType) → Agree u (arm_types heads xs scopes) → ArmsAre kinds rows cells (resolved.arms known any xs) u) × (arms_typed (resolved.arms known any xs) ≡ not (is_empty (arm_types heads xs scopes)))
     of_arms s.no_arm h g w k = (tt, (λ u m. tt), refl)
@@ -217,7 +217,7 @@ module _ (heads : Heads) (known : Columns) (kinds : List ℕ → List SqlType) (
         )
 
     -- with the type of the operand
-    of_choices : {place : Place} {scopes : Scopes} {any : List Shape} {rows : Option t.Scope} {cells : List t.Scope} (xs : s.Choices) (operand : Option SqlType) (v : SqlType) → operand ≡ Some v → choices_fault heads place operand xs scopes ≡ 0 → are_choices xs ≡ true
+    of_choices : {place : Site} {scopes : Scopes} {any : List Shape} {rows : Option t.Scope} {cells : List t.Scope} (xs : s.Choices) (operand : Option SqlType) (v : SqlType) → operand ≡ Some v → choices_fault heads place operand xs scopes ≡ 0 → are_choices xs ≡ true
         → Sight kinds place scopes any rows cells → (in_choices xs ≡ true → Groups kinds place scopes any rows)
         → Each IsKnown (choice_types heads xs scopes) × ((u : SqlType) → Agree u (choice_types heads xs scopes) → ChoicesAre kinds rows cells v (resolved.choices known any xs) u)
         × (choices_typed (resolved.choices known any xs) ≡ not (is_empty (choice_types heads xs scopes)))
@@ -238,7 +238,7 @@ module _ (heads : Heads) (known : Columns) (kinds : List ℕ → List SqlType) (
 
     -- ---- conditions
 
-    of_cond : {place : Place} {scopes : Scopes} {any : List Shape} {rows : Option t.Scope} {cells : List t.Scope} (p : s.Cond) → cond_fault heads place p scopes ≡ 0 → is_cond p ≡ true → Sight kinds place scopes any rows cells
+    of_cond : {place : Site} {scopes : Scopes} {any : List Shape} {rows : Option t.Scope} {cells : List t.Scope} (p : s.Cond) → cond_fault heads place p scopes ≡ 0 → is_cond p ≡ true → Sight kinds place scopes any rows cells
         → (in_cond p ≡ true → Groups kinds place scopes any rows) → IsTyped kinds rows cells (resolved.test known any p)
     of_cond {place} {scopes} {any} {rows} {cells} (s.either p r) h g w k =
         either_typed kinds rows cells (resolved.test known any p) (resolved.test known any r) (of_cond p (both_none _ _ h).0 (and_parts _ _ g).0 w (λ e. k (or_left _ _ e)))
@@ -293,7 +293,7 @@ module _ (heads : Heads) (known : Columns) (kinds : List ℕ → List SqlType) (
         let r = moved body scopes any cells inner.0 (of_query body scopes cells (both_none _ _ h).0 g inner.1) in
         (r.0, r.1.1)
 
-    of_filter : {place : Place} {scopes : Scopes} {any : List Shape} {rows : Option t.Scope} {cells : List t.Scope} (by : s.Filter) → filter_fault heads place by scopes ≡ 0 → is_filter by ≡ true → Sight kinds place scopes any rows cells
+    of_filter : {place : Site} {scopes : Scopes} {any : List Shape} {rows : Option t.Scope} {cells : List t.Scope} (by : s.Filter) → filter_fault heads place by scopes ≡ 0 → is_filter by ≡ true → Sight kinds place scopes any rows cells
         → (is_written by ≡ true → Groups kinds place scopes any rows) → IsTyped kinds rows cells (resolved.filter known any by)
     of_filter s.no_filter h g w k = tt
     of_filter (s.only_where p) h g w k = of_cond p h g w (λ e. k refl)
@@ -406,7 +406,7 @@ module _ (heads : Heads) (known : Columns) (kinds : List ℕ → List SqlType) (
             block_gives kinds cells (is_grouped list group having) (is_distinct each) (resolved.list known (shape (bare known) from (shapes scopes) ∷ shapes scopes) list) (resolved.froms known (shapes scopes) from)
                 (resolved.filter known (shape (bare known) from (shapes scopes) ∷ shapes scopes) by) (grouping_places group (shape (bare known) from (shapes scopes))) (places.width (shape (bare known) from (shapes scopes)))
                 (resolved.filter known (shape (bare known) from (shapes scopes) ∷ shapes scopes) having) f.0 l.0 f.1.1 w
-                (subst (λ (z : Shape). Found (open_scope f.0) (key_places (grouping_places group z))) (sym ranges_are) (keys_found group (ranges heads from scopes) f.0 f.1.0)) l.1.1 v,
+                (subst (λ (z : Shape). ArePlaces (open_scope f.0) (key_places (grouping_places group z))) (sym ranges_are) (keys_found group (ranges heads from scopes) f.0 f.1.0)) l.1.1 v,
           ),
         )
     of_query (s.enclosed x) scopes cells h g sees = of_query x scopes cells h g sees
@@ -418,7 +418,7 @@ module _ (heads : Heads) (known : Columns) (kinds : List ℕ → List SqlType) (
             a.1.0,
             (
               a.1.1,
-              subst (Gives kinds cells (resolved.query known (shapes scopes) y)) (same_types (columns heads x scopes) (columns heads y scopes) a.0 b.0 a.1.0 b.1.0 (both_none _ _ (both_none _ _ h).1).0 (both_none _ _ (both_none _ _ h).1).1) b.1.1,
+              subst (IsOfTypes kinds cells (resolved.query known (shapes scopes) y)) (same_types (columns heads x scopes) (columns heads y scopes) a.0 b.0 a.1.0 b.1.0 (both_none _ _ (both_none _ _ h).1).0 (both_none _ _ (both_none _ _ h).1).1) b.1.1,
               some_types (columns heads x scopes) a.0 a.1.0 (full_query heads full x scopes (all_full scopes cells sees) (and_parts _ _ g).0 (both_none _ _ (both_none _ _ h).0).0),
               width_is x scopes a.0 a.1.0,
             ),
@@ -432,7 +432,7 @@ module _ (heads : Heads) (known : Columns) (kinds : List ℕ → List SqlType) (
             a.1.0,
             (
               a.1.1,
-              subst (Gives kinds cells (resolved.query known (shapes scopes) y)) (same_types (columns heads x scopes) (columns heads y scopes) a.0 b.0 a.1.0 b.1.0 (both_none _ _ (both_none _ _ h).1).0 (both_none _ _ (both_none _ _ h).1).1) b.1.1,
+              subst (IsOfTypes kinds cells (resolved.query known (shapes scopes) y)) (same_types (columns heads x scopes) (columns heads y scopes) a.0 b.0 a.1.0 b.1.0 (both_none _ _ (both_none _ _ h).1).0 (both_none _ _ (both_none _ _ h).1).1) b.1.1,
               some_types (columns heads x scopes) a.0 a.1.0 (full_query heads full x scopes (all_full scopes cells sees) (and_parts _ _ (and_parts _ _ g).0).1 (both_none _ _ (both_none _ _ h).0).0),
               width_is x scopes a.0 a.1.0,
             ),

@@ -14,8 +14,9 @@ use Rattle.sql_meaning.specs.Scopes.{first_of}
 use Rattle.sql_value.specs.declared.order_key.SqlType.{SqlType}
 use Rattle.sql_names.specs.Resolved.{Columns, bare, query}
 use Rattle.sql_names.specs.Schema.{schema_columns}
-use Rattle.sql_faults.proofs.Catalogs.{typed_tables, valid_text, valid_views}
-use Rattle.sql_faults.proofs.Members.{each_more, each_of_all}
+use Rattle.sql_faults.proofs.Catalogs.{head_more, head_of, heads_at, stable, typed_tables, valid_text, valid_views}
+use Rattle.sql_catalog.proofs.EachLaws.{each_more, each_of_all, found_each}
+use Rattle.sql_catalog.proofs.DepthLaws.{Shallow, ShallowName, all_shallow, nested}
 use Rattle.sql_faults.proofs.Stable.{Equal, equal_columns}
 use Rattle.sql_faults.specs.Columns.{columns, columns_or_none, renamed}
 use Rattle.sql_faults.specs.Faults.{query_fault}
@@ -24,22 +25,21 @@ use Rattle.sql_faults.specs.Scopes.{Heads, is_empty}
 use Rattle.sql_faults.specs.Views.{fault, heads_of, table_heads, typed, typed_columns}
 use Rattle.sql_faults.specs.declared.column.TypedColumn.{TypedColumn}
 use Rattle.qgm_translation_laws.specs.Formed.{HasColumns, SourcesTyped}
-use Rattle.qgm_translation_laws.specs.Typed.{Gives}
+use Rattle.qgm_translation_laws.specs.Typed.{IsOfTypes}
 use Rattle.qgm_translation.specs.Sources.{Sources}
 use Rattle.sql_names.proofs.Valid.{shallow}
 use Rattle.qgm_translation_laws.proofs.Accepted.{tables_full}
 use Rattle.qgm_translation_laws.proofs.Full.{IsFullHead, filled_query, full_listed}
-use Rattle.qgm_translation_laws.proofs.Nesting.{Shallow, ShallowName, all_shallow, found_each, head_more, head_of, heads_at, nested, stable}
 use Rattle.qgm_translation_laws.proofs.Schemas.{schema_same}
 use Rattle.qgm_translation_laws.proofs.Stated.{are_kinds, have_length, known_are, renamed_stated, stated}
 use Rattle.qgm_translation_laws.proofs.Typing.{of_query}
 use Rattle.qgm_translation_laws.specs.Typing.{HaveColumns, SourcesOf, ValidSchema, kinds_of, known_types, with_type}
 
 pub query_has_types : (heads : Heads) (known : Columns) → SameColumns heads (bare known) → AreTypedHeads heads → HaveColumns heads
-    → (body : s.Query) → is_query body ≡ true → query_fault heads body [] ≡ 0 → Gives (kinds_of heads) [] (query known [] body) (known_types (columns heads body []))
+    → (body : s.Query) → is_query body ≡ true → query_fault heads body [] ≡ 0 → IsOfTypes (kinds_of heads) [] (query known [] body) (known_types (columns heads body []))
 query_has_types heads known same typed full body g h =
     let r = of_query heads known (kinds_of heads) same (are_kinds heads typed) full body [] [] h g tt in
-    subst (Gives (kinds_of heads) [] (query known [] body)) (known_are (columns heads body []) r.0 r.1.0) r.1.1
+    subst (IsOfTypes (kinds_of heads) [] (query known [] body)) (known_are (columns heads body []) r.0 r.1.0) r.1.1
 
 -- columns of the same types
 same_known : (xs ys : List TypedColumn) → stated xs ≡ stated ys → known_types xs ≡ known_types ys
@@ -115,9 +115,9 @@ module _ (catalog : Declared) (valid : ValidSchema catalog) where
           (filled_query (heads_of catalog) view.query [] tt (each_more (ShallowName catalog depth) (IsFullHead (heads_of catalog)) below (tables.in_query view.query) (nested catalog depth view k)) (found_query name view e) (found_valid name view e)))
 
   have_columns : HaveColumns (heads_of catalog)
-  have_columns name = full_head 16 (omega arith) name (all_shallow catalog (shallow catalog valid.accepted) name)
+  have_columns name = full_head 16 (omega arith) name (all_shallow catalog 16 (shallow catalog valid.accepted) name)
 
-  body_has_types : (body : s.Query) → is_query body ≡ true → query_fault (heads_of catalog) body [] ≡ 0 → Gives (kinds_of (heads_of catalog)) [] (query (schema_columns catalog) [] body) (known_types (columns (heads_of catalog) body []))
+  body_has_types : (body : s.Query) → is_query body ≡ true → query_fault (heads_of catalog) body [] ≡ 0 → IsOfTypes (kinds_of (heads_of catalog)) [] (query (schema_columns catalog) [] body) (known_types (columns (heads_of catalog) body []))
   body_has_types body g h = query_has_types (heads_of catalog) (schema_columns catalog) (schema_same catalog) (typed_tables catalog (shallow catalog valid.accepted) valid.views) have_columns body g h
 
   -- ---- views
@@ -128,16 +128,16 @@ module _ (catalog : Declared) (valid : ValidSchema catalog) where
       ap (λ (o : Option (List TypedColumn)). known_types (columns_or_none o))
       (head_more catalog 15 name ∙ ap (λ (o : Option TableDecl). first_of (typed_columns o) (head_of (heads_at catalog 15) (view_named catalog.views name))) n ∙ ap (head_of (heads_at catalog 15)) e)
       ∙ same_known (renamed view.columns (columns (heads_at catalog 15) view.query [])) (columns (heads_at catalog 15) view.query []) (renamed_stated view.columns (columns (heads_at catalog 15) view.query []))
-      ∙ ap known_types (same_body view (subst (Shallow catalog 16) e (all_shallow catalog (shallow catalog valid.accepted) name)))
+      ∙ ap known_types (same_body view (subst (Shallow catalog 16) e (all_shallow catalog 16 (shallow catalog valid.accepted) name)))
 
 pub text_has_types : (catalog : Declared) → ValidSchema catalog → (text : s.QueryText) → is_query text.query ≡ true → fault catalog text ≡ 0
-    → Gives (kinds_of (heads_of catalog)) [] (query (schema_columns catalog) [] text.query) (known_types (columns (heads_of catalog) text.query []))
+    → IsOfTypes (kinds_of (heads_of catalog)) [] (query (schema_columns catalog) [] text.query) (known_types (columns (heads_of catalog) text.query []))
 text_has_types catalog valid text g h = body_has_types catalog valid text.query g (valid_text catalog text h)
 
 pub views_have_types : (catalog : Declared) → ValidSchema catalog → (name : List ℕ) (view : s.ViewDecl) → table_named catalog.tables name ≡ None → view_named catalog.views name ≡ Some view
-    → Gives (kinds_of (heads_of catalog)) [] (query (schema_columns catalog) [] view.query) (kinds_of (heads_of catalog) name)
+    → IsOfTypes (kinds_of (heads_of catalog)) [] (query (schema_columns catalog) [] view.query) (kinds_of (heads_of catalog) name)
 views_have_types catalog valid name view n e =
-    subst (Gives (kinds_of (heads_of catalog)) [] (query (schema_columns catalog) [] view.query)) (sym (view_kinds catalog valid name view n e))
+    subst (IsOfTypes (kinds_of (heads_of catalog)) [] (query (schema_columns catalog) [] view.query)) (sym (view_kinds catalog valid name view n e))
     (body_has_types catalog valid view.query (found_query catalog valid name view e) (found_valid catalog valid name view e))
 
 pub sources_typed : (catalog : Declared) (sources : Sources) → ValidSchema catalog → SourcesOf catalog sources → SourcesTyped (kinds_of (heads_of catalog)) sources
@@ -154,4 +154,4 @@ sources_typed catalog sources valid h = record {
     at name None e = h.tables name e
     at name (Some body) e =
         let view = h.views name body e in
-        subst (λ (z : q.Query). Gives (kinds_of (heads_of catalog)) [] z (kinds_of (heads_of catalog) name)) (sym view.1.2) (views_have_types catalog valid name view.0 view.1.0 view.1.1)
+        subst (λ (z : q.Query). IsOfTypes (kinds_of (heads_of catalog)) [] z (kinds_of (heads_of catalog) name)) (sym view.1.2) (views_have_types catalog valid name view.0 view.1.0 view.1.1)

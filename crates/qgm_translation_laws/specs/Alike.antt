@@ -11,9 +11,9 @@ use Rattle.qgm_core.specs.declared.owned.OwnedQuant.{OwnedQuant}
 use Rattle.qgm_terms.specs.Terms as t
 use Rattle.qgm_terms.specs.Terms.{Aggregate, Arms, Cond, Sign, Taken, Term}
 use Rattle.qgm_terms.specs.declared.tree.Op.{Op}
-use Rattle.qgm_terms.specs.declared.tree.Op.TheVariants.{Add, Sub, Mul, Div, Cat}
 use Rattle.qgm_translation.specs.Law.{IsBuiltOf}
 use Rattle.qgm_translation.specs.Sources.{Sources}
+use Rattle.qgm_translation.specs.Typing.{aggregate_type, op_type}
 
 -- R: numbers that stand for one another
 mutual
@@ -103,22 +103,6 @@ BuiltAlike =
     → ((x y : Term) → Like (Stands g h) x y → sources.typed x ≡ typed y) → SameButNumbers g h
 
 -- ---- sources that tell one type of expressions that differ in numbers alone
-
-abbrev pub op_type : Op → SqlType
-op_type Add = Integer
-op_type Sub = Integer
-op_type Mul = Integer
-op_type Div = Integer
-op_type Cat = Varchar
-
--- of an argument of this type
-abbrev pub aggregate_type : Aggregate → SqlType → SqlType
-aggregate_type t.single type = type
-aggregate_type t.count type = Integer
-aggregate_type t.sum type = Integer
-aggregate_type t.avg type = Integer
-aggregate_type t.least type = type
-aggregate_type t.greatest type = type
 
 -- the type of an expression, by those of the columns of quantifiers; that of a CASE is that of its last result
 abbrev pub type_by : (ℕ → ℕ → SqlType) → Term → SqlType

@@ -17,12 +17,12 @@ use Rattle.qgm_wellformed.specs.WellFormed.{fault}
 use Rattle.qgm_translation.specs.Law.{IsBuiltOf}
 use Rattle.qgm_translation.specs.Shown.{Shows, of_operand, uses}
 use Rattle.qgm_translation.specs.Sources.{Sources}
-use Rattle.qgm_translation_laws.specs.Typed.{Gives}
+use Rattle.qgm_translation_laws.specs.Typed.{IsOfTypes}
 
 -- a table has the columns of its name, and so has the body of a view
 abbrev pub HasColumns : (List ℕ → List SqlType) → Sources → List ℕ → Option Query → Type 0
 HasColumns kinds sources name None = (sources.stored name).types ≡ kinds name
-HasColumns kinds sources name (Some body) = Gives kinds [] body (kinds name)
+HasColumns kinds sources name (Some body) = IsOfTypes kinds [] body (kinds name)
 
 -- the columns of tables and views have these types
 pub record SourcesTyped (kinds : List ℕ → List SqlType) (sources : Sources) : Type 0 where
@@ -40,7 +40,7 @@ pub record BuiltTyped (kinds : List ℕ → List SqlType) (sources : Sources) (q
   pub once : (q : ℕ) → times q (ids_in g.boxes) ≤ 1
   pub typed : SourcesTyped kinds sources
   pub told : Told sources g.boxes
-  pub gives : Gives kinds [] query types
+  pub gives : IsOfTypes kinds [] query types
 
 -- I5: each head cell has a type, each condition compares equal types, and the boxes under a set operation have its types; the root's columns have the types of the query's
 pub record TypesFound (types : List SqlType) (g : QueryGraph) : Type 0 where

@@ -10,7 +10,7 @@ use Rattle.qgm_translation.specs.Refused.{texts_boxes}
 use Rattle.qgm_translation.specs.Samples.{graph, query, sources}
 use Rattle.qgm_translation_laws.specs.Formed.{SourcesTyped}
 use Rattle.qgm_translation.specs.There.{EachForOne}
-use Rattle.qgm_translation_laws.specs.Typed.{Gives}
+use Rattle.qgm_translation_laws.specs.Typed.{IsOfTypes}
 
 -- each table and view has two INTEGER columns
 abbrev pub kinds : List ℕ → List SqlType
@@ -22,7 +22,7 @@ over_texts last = record { boxes = texts_boxes last; root = 1; names = None ∷ 
 
 pub record Sampled : Type 0 where
   pub typed : SourcesTyped kinds sources
-  pub gives : Gives kinds [] query (Integer ∷ Integer ∷ Integer ∷ [])
+  pub gives : IsOfTypes kinds [] query (Integer ∷ Integer ∷ Integer ∷ [])
   pub formed : fault graph ≡ None
   -- U is named twice, by the query and by V
   pub there : EachForOne sources query graph

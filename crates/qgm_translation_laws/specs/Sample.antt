@@ -13,7 +13,7 @@ use Rattle.sql_names.specs.Schema.{schema_columns}
 use Rattle.sql_faults.specs.Columns.{columns}
 use Rattle.sql_faults.specs.Views.{fault, heads_of}
 use Rattle.qgm_core.specs.declared.kinds.BaseTable.{BaseTable}
-use Rattle.qgm_translation_laws.specs.Typed.{Gives}
+use Rattle.qgm_translation_laws.specs.Typed.{IsOfTypes}
 use Rattle.qgm_translation_laws.specs.Sources.{stored_in}
 use Rattle.qgm_translation_laws.specs.Typing.{ValidSchema, kinds_of, known_types}
 
@@ -70,5 +70,5 @@ pub record Sampled : Type 0 where
   pub valid : fault catalog text ≡ 0
   pub view : kinds_of (heads_of catalog) (codes "V") ≡ Integer ∷ []
   pub types : known_types (columns (heads_of catalog) text.query []) ≡ Varchar ∷ Integer ∷ []
-  pub gives : Gives (kinds_of (heads_of catalog)) [] (query (schema_columns catalog) [] text.query) (Varchar ∷ Integer ∷ [])
+  pub gives : IsOfTypes (kinds_of (heads_of catalog)) [] (query (schema_columns catalog) [] text.query) (Varchar ∷ Integer ∷ [])
   pub stored : stored_in (codes "K") (Some keyed) ≡ stored

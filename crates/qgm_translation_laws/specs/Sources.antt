@@ -10,7 +10,7 @@ use Rattle.sql_catalog.specs.declared.descriptor.TableDescriptor.{TableDescripto
 use Rattle.sql_meaning.specs.ResolvedTrees.{Query}
 use Rattle.sql_value.specs.declared.order_key.SqlType.{SqlType}
 use Rattle.sql_names.specs.Resolved.{query}
-use Rattle.sql_names.specs.Schema.{schema_columns}
+use Rattle.sql_names.specs.Schema.{view_body}
 use Rattle.sql_faults.specs.Columns.{type_of_declared}
 use Rattle.sql_faults.specs.Views.{heads_of}
 use Rattle.qgm_core.specs.declared.kinds.BaseTable.{BaseTable}
@@ -52,10 +52,6 @@ stored_in name None = record { name = name; types = []; keys = []; not_null = []
 stored_in name (Some table) = stored_table name (describe table.elements)
 
 -- ---- views
-
-abbrev pub view_body : Declared → Option s.ViewDecl → Option Query
-view_body catalog None = None
-view_body catalog (Some view) = Some (query (schema_columns catalog) [] view.query)
 
 -- the body of the view of a name, with its names resolved, if no table has the name
 abbrev pub body_in : Declared → Option TableDecl → Option s.ViewDecl → Option Query

@@ -52,9 +52,9 @@ choices_typed q.no_choice = false
 choices_typed (q.one_choice x y xs) = not (is_untyped y) || choices_typed xs
 
 -- places of columns
-abbrev pub Found : Scope → List ℕ → Type 0
-Found row [] = ⊤
-Found row (place ∷ places) = (t : SqlType) × ((get_or row place None ≡ Some t) × Found row places)
+abbrev pub ArePlaces : Scope → List ℕ → Type 0
+ArePlaces row [] = ⊤
+ArePlaces row (place ∷ places) = (t : SqlType) × ((get_or row place None ≡ Some t) × ArePlaces row places)
 
 -- one type or more
 abbrev pub NotNone : List SqlType → Type 0
@@ -79,7 +79,7 @@ module _ (kinds : List ℕ → List SqlType) where
         ((u : SqlType) × (IsOf rows scopes x u × ChoicesAre rows scopes u xs t)) × Either (is_untyped last) ⊤ (IsOf rows scopes last t) × ((choices_typed xs || not (is_untyped last)) ≡ true)
     IsOf rows scopes (q.coalesce x xs) t = IsOf rows scopes x t × AllAre rows scopes xs t
     IsOf rows scopes (q.null_if x y) t = IsOf rows scopes x t × IsOf rows scopes y t
-    IsOf rows scopes (q.scalar query) t = Gives scopes query (t ∷ [])
+    IsOf rows scopes (q.scalar query) t = IsOfTypes scopes query (t ∷ [])
     IsOf rows scopes q.count_all t = ((row : Scope) × (rows ≡ Some row)) × (t ≡ Integer)
     -- the argument sees the row of its group alone
     IsOf rows scopes (q.aggregate f distinct x) t = (row : Scope) × ((rows ≡ Some row) × ((u : SqlType) × (IsOf None (row ∷ []) x u × FoldsTo f u t)))
@@ -112,13 +112,13 @@ module _ (kinds : List ℕ → List SqlType) where
     IsTyped rows scopes (q.any ps) = AreTyped rows scopes ps
     IsTyped rows scopes (q.negated p) = IsTyped rows scopes p
     IsTyped rows scopes (q.compare x op y) = (t : SqlType) × (IsOf rows scopes x t × IsOf rows scopes y t)
-    IsTyped rows scopes (q.quantified x op each query) = (t : SqlType) × (IsOf rows scopes x t × Gives scopes query (t ∷ []))
+    IsTyped rows scopes (q.quantified x op each query) = (t : SqlType) × (IsOf rows scopes x t × IsOfTypes scopes query (t ∷ []))
     IsTyped rows scopes (q.between x y z) = (t : SqlType) × (IsOf rows scopes x t × IsOf rows scopes y t × IsOf rows scopes z t)
     IsTyped rows scopes (q.among x xs) = (t : SqlType) × (IsOf rows scopes x t × AllAre rows scopes xs t)
-    IsTyped rows scopes (q.among_rows x query) = (t : SqlType) × (IsOf rows scopes x t × Gives scopes query (t ∷ []))
+    IsTyped rows scopes (q.among_rows x query) = (t : SqlType) × (IsOf rows scopes x t × IsOfTypes scopes query (t ∷ []))
     IsTyped rows scopes (q.like x y) = IsOf rows scopes x Varchar × IsOf rows scopes y Varchar
     IsTyped rows scopes (q.is_null x) = (t : SqlType) × IsOf rows scopes x t
-    IsTyped rows scopes (q.exists query) = (types : List SqlType) × Gives scopes query types
+    IsTyped rows scopes (q.exists query) = (types : List SqlType) × IsOfTypes scopes query types
 
     pub AreTyped : Option Scope → List Scope → Tests → Type 0
     AreTyped rows scopes q.no_test = ⊤
@@ -133,7 +133,7 @@ module _ (kinds : List ℕ → List SqlType) where
     -- the columns of an operand of a FROM have these types
     pub FromIs : List Scope → From → List SqlType → Type 0
     FromIs scopes (q.named name) types = types ≡ kinds name
-    FromIs scopes (q.derived query) types = Gives scopes query types
+    FromIs scopes (q.derived query) types = IsOfTypes scopes query types
     FromIs scopes (q.crossed x y) types = (a : List SqlType) × ((b : List SqlType) × (FromIs scopes x a × FromIs scopes y b × (types ≡ a ++ b)))
     FromIs scopes (q.joined x y p) types = (a : List SqlType) × ((b : List SqlType) × (FromIs scopes x a × FromIs scopes y b × (types ≡ a ++ b) × IsTyped None (open_scope (a ++ b) ∷ scopes) p))
     FromIs scopes (q.left_joined x y n p) types = (a : List SqlType) × ((b : List SqlType) × (FromIs scopes x a × FromIs scopes y b × (types ≡ a ++ b) × IsTyped None (open_scope (a ++ b) ∷ scopes) p × (length b ≡ n)))
@@ -143,11 +143,11 @@ module _ (kinds : List ℕ → List SqlType) where
     FromsAre scopes (q.one_from x xs) types = (a : List SqlType) × ((b : List SqlType) × (FromIs scopes x a × FromsAre scopes xs b × (types ≡ a ++ b)))
 
     -- the columns of a query have these types; the operands of a set operation have the same, as many as it says
-    pub Gives : List Scope → Query → List SqlType → Type 0
-    Gives scopes (q.block distinct list from by) types =
+    pub IsOfTypes : List Scope → Query → List SqlType → Type 0
+    IsOfTypes scopes (q.block distinct list from by) types =
         (row : List SqlType) × (FromsAre scopes from row × IsTyped None (open_scope row ∷ scopes) by × AreOf None (open_scope row ∷ scopes) list types)
-    Gives scopes (q.grouped distinct list from by places n having) types =
-        (row : List SqlType) × (FromsAre scopes from row × IsTyped None (open_scope row ∷ scopes) by × Found (open_scope row) (key_places places)
+    IsOfTypes scopes (q.grouped distinct list from by places n having) types =
+        (row : List SqlType) × (FromsAre scopes from row × IsTyped None (open_scope row ∷ scopes) by × ArePlaces (open_scope row) (key_places places)
         × AreOf (Some (open_scope row)) (keyed (key_places places) 0 row ∷ scopes) list types × IsTyped (Some (open_scope row)) (keyed (key_places places) 0 row ∷ scopes) having)
-    Gives scopes (q.combine x op all n y) types = Gives scopes x types × Gives scopes y types × NotNone types × (length types ≡ n)
-    Gives scopes (q.intersect x all n y) types = Gives scopes x types × Gives scopes y types × NotNone types × (length types ≡ n)
+    IsOfTypes scopes (q.combine x op all n y) types = IsOfTypes scopes x types × IsOfTypes scopes y types × NotNone types × (length types ≡ n)
+    IsOfTypes scopes (q.intersect x all n y) types = IsOfTypes scopes x types × IsOfTypes scopes y types × NotNone types × (length types ≡ n)

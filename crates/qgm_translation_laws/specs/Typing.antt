@@ -15,7 +15,7 @@ use Rattle.sql_faults.specs.Scopes.{Heads, is_empty}
 use Rattle.sql_faults.specs.Views.{fault, heads_of, view_refusal}
 use Rattle.sql_faults.specs.declared.column.TypedColumn.{TypedColumn}
 use Rattle.qgm_translation_laws.specs.Formed.{SourcesTyped}
-use Rattle.qgm_translation_laws.specs.Typed.{Gives}
+use Rattle.qgm_translation_laws.specs.Typed.{IsOfTypes}
 use Rattle.qgm_translation.specs.Sources.{Sources}
 use Rattle.qgm_translation_laws.specs.Buildable.{AreQueries, Counts}
 
@@ -44,7 +44,7 @@ HaveColumns heads = (name : List ℕ) (found : List TypedColumn) → heads name 
 abbrev pub ValidHasTypes : Type 0
 ValidHasTypes =
     (heads : Heads) (known : Columns) → SameColumns heads (bare known) → AreTypedHeads heads → HaveColumns heads
-    → (body : s.Query) → is_query body ≡ true → query_fault heads body [] ≡ 0 → Gives (kinds_of heads) [] (query known [] body) (known_types (columns heads body []))
+    → (body : s.Query) → is_query body ≡ true → query_fault heads body [] ≡ 0 → IsOfTypes (kinds_of heads) [] (query known [] body) (known_types (columns heads body []))
 
 -- ---- over a schema
 
@@ -57,13 +57,13 @@ pub record ValidSchema (catalog : Declared) : Type 0 where
 abbrev pub ValidTextHasTypes : Type 0
 ValidTextHasTypes =
     (catalog : Declared) → ValidSchema catalog → (text : s.QueryText) → is_query text.query ≡ true → fault catalog text ≡ 0
-    → Gives (kinds_of (heads_of catalog)) [] (query (schema_columns catalog) [] text.query) (known_types (columns (heads_of catalog) text.query []))
+    → IsOfTypes (kinds_of (heads_of catalog)) [] (query (schema_columns catalog) [] text.query) (known_types (columns (heads_of catalog) text.query []))
 
 -- the body of each view has the types that the view has as a source
 abbrev pub ValidViewsHaveTypes : Type 0
 ValidViewsHaveTypes =
     (catalog : Declared) → ValidSchema catalog → (name : List ℕ) (view : s.ViewDecl) → table_named catalog.tables name ≡ None → view_named catalog.views name ≡ Some view
-    → Gives (kinds_of (heads_of catalog)) [] (query (schema_columns catalog) [] view.query) (kinds_of (heads_of catalog) name)
+    → IsOfTypes (kinds_of (heads_of catalog)) [] (query (schema_columns catalog) [] view.query) (kinds_of (heads_of catalog) name)
 
 -- ---- what names stand for where boxes are made
 

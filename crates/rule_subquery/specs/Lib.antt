@@ -11,6 +11,6 @@ pub mod FirstColumn
 pub mod SetToExists
 pub mod SetToExistsExact
 pub mod SetToExistsSteps
-pub mod Knowing
+pub mod GraphFacts
 pub mod ScalarToGroupExample
 pub mod ScalarToGroupLaws

@@ -11,7 +11,7 @@ mod conjunct;
 
 use crate::exists_to_join::action::{ExistsPlan, join, plan};
 use crate::exists_to_join::condition::{any_joinable, may_join};
-use crate::parts::{Known, quant_at};
+use crate::parts::{GraphFacts, quant_at};
 use qgm_core::{BoxId, Graph};
 use qgm_props::Inference;
 use rule_api::{Place, Rule, RuleId, add_if};
@@ -69,7 +69,7 @@ impl Rule for ExistsToJoin {
             return Ok(out);
         }
         let facts = known.take(alloc, graph)?;
-        let told = Known {
+        let told = GraphFacts {
             graph,
             props: &facts,
         };

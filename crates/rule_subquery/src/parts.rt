@@ -4,7 +4,7 @@ ghost use Rattle.qgm_core.specs.Boxes.{HasBox, quants_of, width};
 ghost use Rattle.qgm_props.specs.Inferred.{at_most_one, clean, error_free, exactly_one};
 ghost use Rattle.rule_facts.specs.Places as places;
 ghost use Rattle.rule_facts.specs.Told.{infers};
-ghost use Rattle.rule_subquery.specs.Knowing.{IsKnown};
+ghost use Rattle.rule_subquery.specs.GraphFacts.{AreFacts};
 ghost use Rattle.rule_subquery.specs.ScalarToGroup.{any_scalar};
 
 use qgm_core::{BoxId, BoxKind, Graph, Node, OwnedQuant};
@@ -38,38 +38,38 @@ pub fn width(node: &Node) -> usize
 
 /// A graph, and what is inferred of it.
 #[derive(Drop)]
-pub struct Known<'a> {
+pub struct GraphFacts<'a> {
     pub graph: &'a Graph,
     pub props: &'a Props,
 }
 
 /// Whether it is inferred that no row of a box is at an error level.
-pub fn is_clean(k: &Known, b: BoxId) -> bool
-    requires { IsKnown k.now }
+pub fn is_clean(k: &GraphFacts, b: BoxId) -> bool
+    requires { AreFacts k.now }
     ensures { result ≡ infers k.now.graph.now.boxes (clean b) }
 {
     k.props.clean(b)
 }
 
 /// Whether it is inferred that no row of a box holds an error in a column, from 1.
-pub fn is_error_free(k: &Known, b: BoxId, column: usize) -> bool
-    requires { IsKnown k.now }
+pub fn is_error_free(k: &GraphFacts, b: BoxId, column: usize) -> bool
+    requires { AreFacts k.now }
     ensures { result ≡ infers k.now.graph.now.boxes (error_free b column) }
 {
     k.props.error_free(b, column)
 }
 
 /// Whether it is inferred that at most one row of a box is there.
-pub fn has_at_most_one(k: &Known, b: BoxId) -> bool
-    requires { IsKnown k.now }
+pub fn has_at_most_one(k: &GraphFacts, b: BoxId) -> bool
+    requires { AreFacts k.now }
     ensures { result ≡ infers k.now.graph.now.boxes (at_most_one b) }
 {
     k.props.at_most_one(b)
 }
 
 /// Whether it is inferred that exactly one row of a box is there.
-pub fn has_exactly_one(k: &Known, b: BoxId) -> bool
-    requires { IsKnown k.now }
+pub fn has_exactly_one(k: &GraphFacts, b: BoxId) -> bool
+    requires { AreFacts k.now }
     ensures { result ≡ infers k.now.graph.now.boxes (exactly_one b) }
 {
     k.props.exactly_one(b)

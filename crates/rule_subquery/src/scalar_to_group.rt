@@ -9,7 +9,7 @@ ghost use Rattle.rule_subquery.specs.ScalarToGroupExact.{scalar_to_group_exact};
 mod action;
 mod condition;
 
-use crate::parts::{Known, quant_at};
+use crate::parts::{GraphFacts, quant_at};
 use crate::scalar_to_group::action::group;
 use crate::scalar_to_group::condition::{may_group, may_have};
 use qgm_core::{BoxId, Graph};
@@ -69,7 +69,7 @@ impl Rule for ScalarToGroup {
             return Ok(out);
         }
         let facts = known.take(alloc, graph)?;
-        let told = Known {
+        let told = GraphFacts {
             graph,
             props: &facts,
         };

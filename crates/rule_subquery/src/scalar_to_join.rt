@@ -8,7 +8,7 @@ ghost use Rattle.rule_subquery.specs.ScalarToJoinSteps.{ScalarPlansAt};
 mod action;
 mod condition;
 
-use crate::parts::{Known, quant_at};
+use crate::parts::{GraphFacts, quant_at};
 use crate::scalar_to_join::action::{ScalarPlan, join, plan};
 use crate::scalar_to_join::condition::{may_have, may_join};
 use qgm_core::{BoxId, Graph};
@@ -68,7 +68,7 @@ impl Rule for ScalarToJoin {
             return Ok(out);
         }
         let facts = known.take(alloc, graph)?;
-        let told = Known {
+        let told = GraphFacts {
             graph,
             props: &facts,
         };

@@ -1,5 +1,5 @@
 -- Laws of what refuses a schema.
-use Rattle.std.proofs.Common.{◌≡◌, refl, sym, ap, subst, ◌∙◌, ℕ, Bool, true, false, not, ◌||◌, List, [], ◌∷◌, ◌++◌, map}
+use Rattle.std.proofs.Common.{◌≡◌, refl, sym, ap, subst, ◌∙◌, ℕ, Bool, true, false, cond, not, ◌||◌, List, [], ◌∷◌, ◌++◌, map}
 use Rattle.std.specs.List.{list_any}
 use Rattle.sql_catalog.specs.declared.key.Key.{Key}
 use Rattle.sql_ast.specs.Names.{contains, has_twins}
@@ -25,3 +25,13 @@ declared_ok x d same none = subst (λ (y : Declared). unless y (fault y) ≡ Ok 
 
 pub declared_err : (x : s.Schema) (d : Declared) (n : ℕ) → d ≡ all_of x → fault d ≡ Some n → declared x ≡ Err n
 declared_err x d n same some = subst (λ (y : Declared). unless y (fault y) ≡ Err n) same (ap (unless d) some)
+
+-- ---- a test that gives no number, before others
+
+pub not_given : (b : Bool) (n : ℕ) (o : Option ℕ) → cond b (Some n) o ≡ None → b ≡ false
+not_given true n o h = absurd (cc)
+not_given false n o h = refl
+
+pub but_none : (b : Bool) (n : ℕ) (o : Option ℕ) → cond b (Some n) o ≡ None → o ≡ None
+but_none true n o h = absurd (cc)
+but_none false n o h = h

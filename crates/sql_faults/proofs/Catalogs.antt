@@ -1,8 +1,8 @@
 -- The tables and views of a catalog: the names of their columns, and their types where all views are valid.
-use Rattle.std.proofs.Common.{◌≡◌, ◌∙◌, ◌≤◌, ◌&&◌, ◌||◌, not, ℕ, zero, suc, Bool, true, false, cond, List, [], ◌∷◌, filter, find, map, Option, Some, None, refl, sym, ap, ap₂, subst, arith}
-use Rattle.std.specs.Prelude.{⊤, All}
+use Rattle.std.proofs.Common.{◌≡◌, ◌∙◌, ◌≤◌, ◌&&◌, ◌||◌, not, ℕ, zero, suc, Bool, true, false, cond, List, [], ◌∷◌, filter, map, Option, Some, None, refl, sym, ap, ap₂, subst, arith}
+use Rattle.std.specs.Prelude.{All}
 use Rattle.std.specs.List.{list_any}
-use Rattle.std.specs.Cmp.Lexicographic.{nat_list_eq_equiv, same_text}
+use Rattle.std.proofs.lemmas.Bool.{or_parts}
 use Rattle.row_bag.specs.Tables.{bag_named}
 use Rattle.row_bag.specs.declared.row.Row.{Row}
 use Rattle.row_bag.specs.declared.tables.Table.{Table}
@@ -11,7 +11,7 @@ use Rattle.sql_ast.specs.declared.schema.TableDecl.{TableDecl}
 use Rattle.sql_ast.specs.Syntax as s
 use Rattle.sql_ast.specs.Declarations.{Declared, table_named, view_named}
 use Rattle.sql_ast.specs.Declarations.{columns_of, names_of}
-use Rattle.sql_ast.specs.Names.{contains, same_name}
+use Rattle.sql_ast.specs.Names.{same_name}
 use Rattle.sql_catalog.specs.Nesting.{nests_at, nests_over, read_by, reader_of, readers_of}
 use Rattle.sql_catalog.specs.TableNames as t
 use Rattle.sql_catalog.specs.declared.reader.Reader.{Reader}
@@ -20,7 +20,8 @@ use Rattle.sql_meaning.specs.Names.{Relation, all_named, names}
 use Rattle.sql_meaning.specs.Names as n
 use Rattle.sql_meaning.specs.Scopes.{first_of}
 use Rattle.sql_value.specs.declared.cell.Cell.{Cell}
-use Rattle.sql_faults.proofs.Members.{Each, all_of_each, each_more}
+use Rattle.sql_catalog.proofs.DepthLaws.{Shallow, ShallowName, all_shallow, nested}
+use Rattle.sql_catalog.proofs.EachLaws.{Each, all_of_each, each_more, found_each, none_each}
 use Rattle.sql_faults.proofs.Named.{names_same, renamed_names}
 use Rattle.sql_faults.proofs.Orders.{both_none}
 use Rattle.sql_faults.proofs.Stable.{Equal, equal_columns}
@@ -35,75 +36,13 @@ use Rattle.sql_faults.specs.Views as v
 use Rattle.sql_faults.specs.declared.view.ViewHead.{ViewHead}
 use Rattle.sql_faults.specs.declared.column.TypedColumn.{TypedColumn}
 
--- ---- tests of lists
-
-or_left : (a b : Bool) → (a || b) ≡ false → a ≡ false
-or_left true b h = absurd (cc)
-or_left false b h = refl
-
-or_right : (a b : Bool) → (a || b) ≡ false → b ≡ false
-or_right true b h = absurd (cc)
-or_right false b h = h
-
-or_true : (a b : Bool) → a ≡ true → (a || b) ≡ true
-or_true a b h = ap (λ (z : Bool). z || b) h
-
-or_later : (a b : Bool) → b ≡ true → (a || b) ≡ true
-or_later true b h = refl
-or_later false b h = h
-
-and_passed : (a b : Bool) → (a && b) ≡ false → a ≡ true → b ≡ false
-and_passed true b h e = h
-and_passed false b h e = absurd (cc)
-
-some_same : {A : Type 0} (a b : A) → Some a ≡ Some b → a ≡ b
-some_same a b h = cc
-
 first_none : {A : Type 0} (a b : Option A) → first_of a b ≡ None → (a ≡ None) × (b ≡ None)
 first_none None b h = (refl, h)
 first_none (Some x) b h = absurd (cc)
 
--- what is found passes the test, and is in the list
-pub found_passes : {A : Type 0} (p : A → Bool) (xs : List A) (x : A) → find p xs ≡ Some x → p x ≡ true
-found_passes p [] x h = absurd (cc)
-found_passes p (y ∷ ys) x h =
-    elim (p y) as (λ b. p y ≡ b → cond b (Some y) (find p ys) ≡ Some x → p x ≡ true) [
-      | true ↦ (λ e k. ap p (sym (some_same y x k)) ∙ e)
-      | false ↦ (λ e k. found_passes p ys x k)
-    ] refl h
-
-found_each : {A : Type 0} (P : A → Type 0) (p : A → Bool) (xs : List A) (x : A) → Each P xs → find p xs ≡ Some x → P x
-found_each P p [] x each h = absurd (cc)
-found_each P p (y ∷ ys) x each h =
-    elim (p y) as (λ b. cond b (Some y) (find p ys) ≡ Some x → P x) [
-      | true ↦ (λ k. subst P (some_same y x k) each.0)
-      | false ↦ (λ k. found_each P p ys x each.1 k)
-    ] h
-
-none_each : {A B : Type 0} (q : B → Bool) (f : A → B) (xs : List A) → list_any q (map f xs) ≡ false → Each (λ x. q (f x) ≡ false) xs
-none_each q f [] h = tt
-none_each q f (x ∷ xs) h = (or_left (q (f x)) (list_any q (map f xs)) h, none_each q f xs (or_right (q (f x)) (list_any q (map f xs)) h))
-
--- none of those that pass one test passes another
-filter_none : {A : Type 0} (t p : A → Bool) (xs : List A) → list_any p (filter t xs) ≡ false → list_any (λ x. t x && p x) xs ≡ false
-filter_none t p [] h = refl
-filter_none t p (x ∷ xs) h =
-    elim (t x) as (λ b. list_any p (cond b (x ∷ filter t xs) (filter t xs)) ≡ false → ((b && p x) || list_any (λ y. t y && p y) xs) ≡ false) [
-      | true ↦ (λ k. or_both (p x) (list_any (λ y. t y && p y) xs) (or_left (p x) (list_any p (filter t xs)) k) (filter_none t p xs (or_right (p x) (list_any p (filter t xs)) k)))
-      | false ↦ (λ k. filter_none t p xs k)
-    ] h
-  where
-    or_both : (a b : Bool) → a ≡ false → b ≡ false → (a || b) ≡ false
-    or_both a b h k = ap (λ (z : Bool). z || b) h ∙ k
-
--- P of each name that stands in a list
-each_in : (P : List ℕ → Type 0) (xs : List (List ℕ)) → ((name : List ℕ) → contains xs name ≡ true → P name) → Each P xs
-each_in P [] h = tt
-each_in P (x ∷ xs) h = (h x (or_true (same_name x x) (contains xs x) (nat_list_eq_equiv.refl x)), each_in P xs (λ name e. h name (or_later (same_name x name) (contains xs name) e)))
-
 -- ---- the columns of views at a level
 
-abbrev head_of : Heads → Option s.ViewDecl → Option (List TypedColumn)
+abbrev pub head_of : Heads → Option s.ViewDecl → Option (List TypedColumn)
 head_of heads None = None
 head_of heads (Some view) = Some (view_columns heads view)
 
@@ -129,72 +68,41 @@ first_typed None b h k = k
 first_typed (Some cs) b h k = h
 
 module _ (catalog : Declared) where
-  abbrev heads_at : ℕ → Heads
+  abbrev pub heads_at : ℕ → Heads
   heads_at depth = heads_with catalog (views_at catalog depth)
 
-  head_more : (depth : ℕ) (name : List ℕ) → heads_at (suc depth) name ≡ first_of (table_heads catalog name) (head_of (heads_at depth) (view_named catalog.views name))
+  pub head_more : (depth : ℕ) (name : List ℕ) → heads_at (suc depth) name ≡ first_of (table_heads catalog name) (head_of (heads_at depth) (view_named catalog.views name))
   head_more depth name = ap (first_of (table_heads catalog name)) (found_head (heads_at depth) catalog.views name)
-
-  -- the view of a name nests no deeper than this; there may be none
-  abbrev Shallow : ℕ → Option s.ViewDecl → Type 0
-  Shallow depth None = ⊤
-  Shallow depth (Some view) = nests_over (readers_of catalog.views) depth (reader_of view) ≡ false
-
-  abbrev ShallowName : ℕ → List ℕ → Type 0
-  ShallowName depth name = Shallow depth (view_named catalog.views name)
-
-  all_shallow : NestsShallow catalog → (name : List ℕ) → ShallowName 16 name
-  all_shallow h name = at (view_named catalog.views name) refl
-    where
-      at : (o : Option s.ViewDecl) → view_named catalog.views name ≡ o → Shallow 16 o
-      at None e = tt
-      at (Some view) e =
-          found_each (λ (w : s.ViewDecl). nests_over (readers_of catalog.views) 16 (reader_of w) ≡ false) (λ (w : s.ViewDecl). same_name w.name name) catalog.views view
-          (none_each (nests_over (readers_of catalog.views) 16) reader_of catalog.views h) e
 
   -- no view nests deeper than this
   abbrev NestsTo : ℕ → Type 0
   NestsTo depth = list_any (nests_over (readers_of catalog.views) depth) (readers_of catalog.views) ≡ false
 
-  -- the views that a view reads nest one less
-  nested : (depth : ℕ) (view : s.ViewDecl) → Shallow (suc depth) (Some view) → Each (ShallowName depth) (t.in_query view.query)
-  nested depth view none = each_in (ShallowName depth) (t.in_query view.query) (λ name there. at name there (view_named catalog.views name) refl)
-    where
-      at : (name : List ℕ) → contains (t.in_query view.query) name ≡ true → (o : Option s.ViewDecl) → view_named catalog.views name ≡ o → Shallow depth o
-      at name there None e = tt
-      at name there (Some w) e =
-          let called : w.name ≡ name = same_text w.name name (sym (found_passes (λ (x : s.ViewDecl). same_name x.name name) catalog.views w e)) in
-          and_passed (contains (t.in_query view.query) w.name) (nests_over (readers_of catalog.views) depth (reader_of w))
-          (found_each (λ (x : s.ViewDecl). (contains (t.in_query view.query) x.name && nests_over (readers_of catalog.views) depth (reader_of x)) ≡ false) (λ (x : s.ViewDecl). same_name x.name name) catalog.views w
-          (none_each (λ (x : Reader). contains (t.in_query view.query) x.name && nests_over (readers_of catalog.views) depth x) reader_of catalog.views
-          (filter_none (λ (x : Reader). contains (t.in_query view.query) x.name) (nests_over (readers_of catalog.views) depth) (readers_of catalog.views) none)) e)
-          (ap (contains (t.in_query view.query)) called ∙ there)
-
   -- above the depth to which a view nests its columns stay the same
-  stable : (d e : ℕ) → d ≤ e → (name : List ℕ) → ShallowName d name → heads_at e name ≡ heads_at d name
+  pub stable : (d e : ℕ) → d ≤ e → (name : List ℕ) → ShallowName catalog d name → heads_at e name ≡ heads_at d name
   stable zero zero low name h = refl
   stable (suc d) zero low name h = absurd (omega arith)
   stable zero (suc e) low name h = head_more e name ∙ ap (first_of (table_heads catalog name)) (at (view_named catalog.views name) h)
     where
-      at : (o : Option s.ViewDecl) → Shallow 0 o → head_of (heads_at e) o ≡ None
+      at : (o : Option s.ViewDecl) → Shallow catalog 0 o → head_of (heads_at e) o ≡ None
       at None k = refl
       at (Some view) k = absurd (cc)
   stable (suc d) (suc e) low name h =
       head_more e name ∙ ap (first_of (table_heads catalog name)) (at (λ other k. stable d e (omega arith) other k) (view_named catalog.views name) h) ∙ sym (head_more d name)
     where
-      at : ((other : List ℕ) → ShallowName d other → heads_at e other ≡ heads_at d other) → (o : Option s.ViewDecl) → Shallow (suc d) o → head_of (heads_at e) o ≡ head_of (heads_at d) o
+      at : ((other : List ℕ) → ShallowName catalog d other → heads_at e other ≡ heads_at d other) → (o : Option s.ViewDecl) → Shallow catalog (suc d) o → head_of (heads_at e) o ≡ head_of (heads_at d) o
       at below None k = refl
       at below (Some view) k =
           ap (λ (cs : List TypedColumn). Some (renamed view.columns cs))
-          (equal_columns (heads_at e) (heads_at d) view.query [] (each_more (ShallowName d) (Equal (heads_at e) (heads_at d)) below (t.in_query view.query) (nested d view k)))
+          (equal_columns (heads_at e) (heads_at d) view.query [] (each_more (ShallowName catalog d) (Equal (heads_at e) (heads_at d)) below (t.in_query view.query) (nested catalog d view k)))
 
   -- ---- where no view nests over a depth, greater depths change nothing
 
-  head_settled : (depth : ℕ) → depth ≤ 15 → (view : s.ViewDecl) → Shallow (suc depth) (Some view) → view_head (heads_at depth) view ≡ view_head (heads_at 15) view
+  head_settled : (depth : ℕ) → depth ≤ 15 → (view : s.ViewDecl) → Shallow catalog (suc depth) (Some view) → view_head (heads_at depth) view ≡ view_head (heads_at 15) view
   head_settled depth low view h =
       ap (λ (cs : List TypedColumn). make view.name (renamed view.columns cs))
       (sym (equal_columns (heads_at 15) (heads_at depth) view.query []
-      (each_more (ShallowName depth) (Equal (heads_at 15) (heads_at depth)) (λ name k. stable depth 15 low name k) (t.in_query view.query) (nested depth view h))))
+      (each_more (ShallowName catalog depth) (Equal (heads_at 15) (heads_at depth)) (λ name k. stable depth 15 low name k) (t.in_query view.query) (nested catalog depth view h))))
     where
       make : List ℕ → List TypedColumn → ViewHead
       make name columns = record { name = name; columns = columns }
@@ -266,8 +174,8 @@ module _ (catalog : Declared) where
           → list_any (nests_over (readers_of catalog.views) d) views ≡ false → list_any (nests_over (readers_of catalog.views) e) views ≡ false
       any below [] k = refl
       any below (w ∷ views) k =
-          ap (λ (b : Bool). b || list_any (nests_over (readers_of catalog.views) e) views) (below w (or_left (nests_over (readers_of catalog.views) d w) (list_any (nests_over (readers_of catalog.views) d) views) k))
-          ∙ any below views (or_right (nests_over (readers_of catalog.views) d w) (list_any (nests_over (readers_of catalog.views) d) views) k)
+          ap (λ (b : Bool). b || list_any (nests_over (readers_of catalog.views) e) views) (below w (or_parts (nests_over (readers_of catalog.views) d w) (list_any (nests_over (readers_of catalog.views) d) views) k).0)
+          ∙ any below views (or_parts (nests_over (readers_of catalog.views) d w) (list_any (nests_over (readers_of catalog.views) d) views) k).1
 
   found_valid : refused_to catalog 16 ≡ None → (name : List ℕ) (view : s.ViewDecl) → view_named catalog.views name ≡ Some view → nests_over (readers_of catalog.views) 16 (reader_of view) ≡ false → view_fault (heads_of catalog) view ≡ 0
   found_valid none name view e = found_each (IsValidTo 16) (λ (w : s.ViewDecl). same_name w.name name) catalog.views view (valid_to 16 none) e
@@ -277,27 +185,27 @@ module _ (catalog : Declared) where
       subst (λ (o : Option (List TypedColumn)). Each IsTyped (columns_or_none o)) (sym (head_more 15 name))
       (first_typed (table_heads catalog name) (head_of (heads_at 15) (view_named catalog.views name)) (typed_table (table_named catalog.tables name)) h)
 
-  typed_head : (depth : ℕ) → depth ≤ 16 → refused_to catalog 16 ≡ None → (name : List ℕ) → ShallowName depth name → IsTypedHead (heads_of catalog) name
+  typed_head : (depth : ℕ) → depth ≤ 16 → refused_to catalog 16 ≡ None → (name : List ℕ) → ShallowName catalog depth name → IsTypedHead (heads_of catalog) name
   typed_head zero low none name h = typed_above name (at (view_named catalog.views name) h)
     where
-      at : (o : Option s.ViewDecl) → Shallow 0 o → Each IsTyped (columns_or_none (head_of (heads_at 15) o))
+      at : (o : Option s.ViewDecl) → Shallow catalog 0 o → Each IsTyped (columns_or_none (head_of (heads_at 15) o))
       at None k = tt
       at (Some view) k = absurd (cc)
   typed_head (suc depth) low none name h = typed_above name (at (λ other k. typed_head depth (omega arith) none other k) (view_named catalog.views name) refl h)
     where
-      at : ((other : List ℕ) → ShallowName depth other → IsTypedHead (heads_of catalog) other) → (o : Option s.ViewDecl) → view_named catalog.views name ≡ o → Shallow (suc depth) o
+      at : ((other : List ℕ) → ShallowName catalog depth other → IsTypedHead (heads_of catalog) other) → (o : Option s.ViewDecl) → view_named catalog.views name ≡ o → Shallow catalog (suc depth) o
           → Each IsTyped (columns_or_none (head_of (heads_at 15) o))
       at below None e k = tt
       at below (Some view) e k =
           typed_renamed view.columns (columns (heads_at 15) view.query [])
           (subst (Each IsTyped)
           (sym (equal_columns (heads_at 15) (heads_of catalog) view.query []
-          (each_more (ShallowName depth) (Equal (heads_at 15) (heads_of catalog)) (λ other m. stable depth 15 (omega arith) other m ∙ sym (stable depth 16 (omega arith) other m)) (t.in_query view.query) (nested depth view k))))
-          (typed_query (heads_of catalog) view.query [] tt (each_more (ShallowName depth) (IsTypedHead (heads_of catalog)) below (t.in_query view.query) (nested depth view k))
+          (each_more (ShallowName catalog depth) (Equal (heads_at 15) (heads_of catalog)) (λ other m. stable depth 15 (omega arith) other m ∙ sym (stable depth 16 (omega arith) other m)) (t.in_query view.query) (nested catalog depth view k))))
+          (typed_query (heads_of catalog) view.query [] tt (each_more (ShallowName catalog depth) (IsTypedHead (heads_of catalog)) below (t.in_query view.query) (nested catalog depth view k))
           (both_none _ _ (found_valid none name view e (deeper (suc depth) 16 low (reader_of view) k))).0))
 
   pub heads_typed : NestsShallow catalog → view_refusal catalog ≡ None → (name : List ℕ) → IsTypedHead (heads_of catalog) name
-  heads_typed shallow none name = typed_head 16 (omega arith) none name (all_shallow shallow name)
+  heads_typed shallow none name = typed_head 16 (omega arith) none name (all_shallow catalog 16 shallow name)
 
   pub views_valid : NestsShallow catalog → view_refusal catalog ≡ None → Each (λ (view : s.ViewDecl). view_fault (heads_of catalog) view ≡ 0) catalog.views
   views_valid shallow none = both catalog.views (valid_to 16 none) (none_each (nests_over (readers_of catalog.views) 16) reader_of catalog.views shallow)

@@ -6,7 +6,7 @@ use Rattle.sql_ast.specs.declared.name.Column.{Column}
 use Rattle.sql_ast.specs.Names.{same_name}
 use Rattle.sql_meaning.specs.Scopes.{Frame, Range, Scopes, Shape, cell_in, cell_named, cell_of_range, columns_in, columns_of_range, first_of, found, is_named, range_in, range_of, shape_of, shapes_of, unqualified}
 use Rattle.sql_value.specs.declared.cell.Cell.{Cell}
-use Rattle.sql_faults.proofs.Members.{Each, each_more, each_of_all}
+use Rattle.sql_catalog.proofs.EachLaws.{Each, each_more, each_of_all}
 use Rattle.sql_faults.proofs.Named.{names_or}
 use Rattle.sql_faults.specs.FoundNames.{FoundOnce, IsFull, IsOne, StandsOnce, Visible, bearing, has_column, has_range, ranges_of, stands}
 use Rattle.sql_faults.specs.Scopes.{is_some}

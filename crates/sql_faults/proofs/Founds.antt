@@ -1,8 +1,8 @@
 -- In a query without faults each name stands for one column.
-use Rattle.std.proofs.Common.{◌≡◌, ◌∙◌, ◌≤◌, ◌&&◌, ℕ, suc, Bool, true, false, cond, not, filter, List, [], ◌∷◌, ◌++◌, map, length, Option, Some, None, refl, sym, ap, subst, ℤ, pos, negsuc, nat_eq, nat_le, arith}
+use Rattle.std.proofs.Common.{◌≡◌, ◌∙◌, ◌≤◌, ℕ, suc, Bool, true, false, cond, not, filter, List, [], ◌∷◌, ◌++◌, map, length, Option, Some, None, refl, sym, ap, subst, ℤ, pos, negsuc, nat_eq, nat_le, arith}
 use Rattle.std.specs.Prelude.{All}
 use Rattle.std.specs.List.{list_any}
-use Rattle.std.proofs.lemmas.Bool.{eqb-true, leb-true}
+use Rattle.std.proofs.lemmas.Bool.{and_parts, eqb-true, leb-true}
 use Rattle.std.proofs.lemmas.List.{length-map}
 use Rattle.row_bag.specs.declared.tables.Table.{Table}
 use Rattle.sql_ast.specs.declared.name.Column.{Column}
@@ -19,7 +19,7 @@ use Rattle.sql_meaning.specs.Scopes.{Shape, is_named}
 use Rattle.sql_value.specs.declared.order_key.SqlType.{SqlType}
 use Rattle.sql_faults.proofs.Catalogs.{same_columns}
 use Rattle.sql_faults.proofs.Lookups.{Sound, SoundGrouping, column_once, named_count, own_column, range_once, star_once, visible, visible_of, visible_ranges}
-use Rattle.sql_faults.proofs.Members.{Each, all_of_each}
+use Rattle.sql_catalog.proofs.EachLaws.{Each, all_of_each}
 use Rattle.sql_faults.proofs.Named.{both_same, names_same, ranges_same}
 use Rattle.sql_faults.proofs.Orders.{both_none}
 use Rattle.sql_faults.specs.Columns.{columns, list_columns, list_scope, ranges, table_ranges, type_of}
@@ -273,13 +273,9 @@ module _ (heads : Heads) (known : Known) (same : SameColumns heads known) where
 one_named : (name : List ℕ) (cs : List TypedColumn) → key_unfit cs (sort_key.Name name) ≡ 0 → length (filter (is_named name) (column_names cs)) ≡ 1
 one_named name cs h = named_count name cs ∙ eqb-true (how_many name cs) 1 (is_so (nat_eq (how_many name cs) 1) 13 h)
 
-both_so : (a b : Bool) → (a && b) ≡ true → (a ≡ true) × (b ≡ true)
-both_so true b h = (refl, h)
-both_so false b h = absurd (cc)
-
 number_stands : (n : ℤ) (cs : List TypedColumn) → is_place (length cs) n ≡ true → (1 ≤ number_of n) × (number_of n ≤ length (column_names cs))
 number_stands (pos n) cs h =
-    let parts = both_so (nat_le 1 n) (nat_le n (length cs)) h in
+    let parts = and_parts (nat_le 1 n) (nat_le n (length cs)) h in
     (leb-true 1 n parts.0, subst (λ (width : ℕ). n ≤ width) (sym (length-map cs (λ (c : TypedColumn). c.name))) (leb-true n (length cs) parts.1))
 number_stands (negsuc n) cs h = absurd (cc)
 

@@ -11,7 +11,7 @@ use Rattle.sql_catalog.specs.TableNames as t
 use Rattle.sql_meaning.specs.Grouping.{is_grouped}
 use Rattle.sql_meaning.specs.Names.{column_list}
 use Rattle.sql_value.specs.declared.order_key.SqlType.{SqlType}
-use Rattle.sql_faults.proofs.Members.{Each, all_of_each, each_all, each_append, each_left, each_more, each_of_all, each_right}
+use Rattle.sql_catalog.proofs.EachLaws.{Each, all_of_each, each_all, each_append, each_left, each_more, each_of_all, each_right}
 use Rattle.sql_faults.proofs.Orders.{both_none}
 use Rattle.sql_faults.specs.Columns.{all_columns, arm_types, choice_types, columns, columns_or_none, else_types, first_known, item_columns, items_columns, list_columns, list_scope, listed, range_columns, ranges, renamed, res_types, table_ranges, type_of, type_of_aggregate}
 use Rattle.sql_faults.specs.Faults.{arms_fault, choices_fault, else_fault, expr_fault, from_fault, item_fault, items_fault, query_fault, res_fault, select_fault, table_fault}

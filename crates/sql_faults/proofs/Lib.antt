@@ -3,7 +3,6 @@ pub mod Finds
 pub mod Notes
 pub mod Targets
 pub mod Nested
-pub mod Members
 pub mod Named
 pub mod Evens
 pub mod KnownTypes

@@ -3,19 +3,18 @@ use Rattle.std.proofs.Common.{◌≡◌, ◌∙◌, ◌&&◌, ◌||◌, ◌+◌,
 use Rattle.std.specs.Prelude.{⊤}
 use Rattle.std.specs.List.{flat_map, list_any}
 use Rattle.std.specs.Cmp.Lexicographic.{nat_list_eq_equiv, same_text}
-use Rattle.std.proofs.lemmas.Bool.{cases_Bool}
+use Rattle.std.proofs.lemmas.Bool.{and_parts, cases_Bool, or_parts}
 use Rattle.std.proofs.lemmas.List.{length-append, length-map}
 use Rattle.sql_ast.specs.declared.name.Column.{Column}
 use Rattle.sql_ast.specs.Names.{same_name}
 use Rattle.sql_meaning.specs.Groups.{is_grouping, range_means}
 use Rattle.sql_meaning.specs.Scopes.{Shape, columns_in, columns_of_range, is_named}
-use Rattle.sql_faults.proofs.Catalogs.{found_passes}
-use Rattle.sql_faults.proofs.Members.{Each, all_of_each, each_all}
+use Rattle.sql_catalog.proofs.EachLaws.{Each, all_of_each, each_all, found_passes}
 use Rattle.sql_faults.proofs.Named.{in_shape, names_of_range, names_or}
 use Rattle.sql_faults.specs.FoundNames.{AllMayBeNamed, FoundOnce, FoundRange, FoundStar, IsOne, MayBeNamed, StandsOnce, StandsRange, Visible, bearers, bearing, has_column, has_range, own, ranges_of, stands, ungrouped}
 use Rattle.sql_faults.specs.Laws.{column_names, range_shapes, shapes}
 use Rattle.sql_faults.specs.Rules.{one_of}
-use Rattle.sql_faults.specs.Scopes.{Scope, Scopes, agree, columns_by, columns_named, columns_of_scope, in_range, is_barred, is_column_barred, is_empty, is_found_barred, is_meant, is_meant_by, is_name_barred, is_own, is_range_barred, is_same, is_some, is_star_barred, meant, named_in, plain, range_in, scope_of, scope_with}
+use Rattle.sql_faults.specs.Scopes.{Scope, Scopes, agree, columns_by, columns_named, columns_of_scope, in_range, is_barred, is_column_barred, is_empty, is_found_barred, is_meant, is_meant_by, is_name_barred, is_own, is_range_barred, is_same, is_some, is_star_barred, meant, named_in, range_in, scope_of, scope_with}
 use Rattle.sql_faults.specs.Scopes as checked
 use Rattle.sql_faults.specs.declared.column.TypedColumn.{TypedColumn}
 use Rattle.sql_faults.specs.declared.column.TypedRange.{TypedRange}
@@ -43,16 +42,8 @@ is_so : (b : Bool) → not b ≡ false → b ≡ true
 is_so true h = refl
 is_so false h = absurd (cc)
 
-both_so : (a b : Bool) → (a && b) ≡ true → (a ≡ true) × (b ≡ true)
-both_so true b h = (refl, h)
-both_so false b h = absurd (cc)
-
 and_so : (a b : Bool) → a ≡ true → b ≡ true → (a && b) ≡ true
 and_so a b h k = ap (λ (z : Bool). z && b) h ∙ k
-
-neither : (a b : Bool) → (a || b) ≡ false → (a ≡ false) × (b ≡ false)
-neither true b h = absurd (cc)
-neither false b h = (refl, h)
 
 -- where each that passes one test passes another
 any_more : {A : Type 0} (P : A → Type 0) (p q : A → Bool) → ((x : A) → P x → p x ≡ true → q x ≡ true) → (xs : List A) → Each P xs → list_any p xs ≡ true → list_any q xs ≡ true
@@ -222,7 +213,7 @@ grouping_found c by one ranges sound e h =
   where
     meets : (d : Column) → FoundOnce (ungrouped ranges ∷ []) d → is_same c d ≡ true → (is_named d.name (Some c.name) && range_means d.range one) ≡ true
     meets d once same =
-        let parts = both_so (same_name c.name d.name) (agree c.range d.range) same in
+        let parts = and_parts (same_name c.name d.name) (agree c.range d.range) same in
         and_so (same_name c.name d.name) (range_means d.range one) parts.0 (means c.range d.range c.name d.name one ranges parts.0 parts.1 (once_own d ranges once) e)
 
 may_be_named : (c : Column) (by : Option (List Column)) (one : List ℕ) (ranges : Shape) → SoundGrouping by ranges → bearers c.range c.name ranges ≡ one ∷ [] → is_barred by c ≡ false → MayBeNamed by one (Some c.name)
@@ -269,13 +260,13 @@ column_may (Some by) range (Some name) h =
   where
     meets : (d : Column) → ⊤ → is_same (record { range = Some range; name = name }) d ≡ true → (is_named d.name (Some name) && range_means d.range range) ≡ true
     meets d any same =
-        let parts = both_so (same_name name d.name) (agree (Some range) d.range) same in
+        let parts = and_parts (same_name name d.name) (agree (Some range) d.range) same in
         and_so (same_name name d.name) (range_means d.range range) parts.0 (agree_means range d.range parts.1)
 
 columns_may : (by : Option (List Column)) (range : List ℕ) (cs : List TypedColumn) → list_any (λ (c : TypedColumn). is_column_barred by range c.name) cs ≡ false → Each (MayBeNamed by range) (column_names cs)
 columns_may by range [] h = tt
 columns_may by range (c ∷ cs) h =
-    let parts = neither (is_column_barred by range c.name) (list_any (λ (d : TypedColumn). is_column_barred by range d.name) cs) h in
+    let parts = or_parts (is_column_barred by range c.name) (list_any (λ (d : TypedColumn). is_column_barred by range d.name) cs) h in
     (column_may by range c.name parts.0, columns_may by range cs parts.1)
 
 range_may : (by : Option (List Column)) (r : TypedRange) → is_range_barred by r ≡ false → AllMayBeNamed by (r.name, column_names r.columns)
@@ -283,7 +274,7 @@ range_may by r h = all_of_each (MayBeNamed by r.name) (column_names r.columns) (
 
 ranges_may : (by : Option (List Column)) (rs : List TypedRange) → list_any (is_range_barred by) rs ≡ false → Each (AllMayBeNamed by) (range_shapes rs)
 ranges_may by [] h = tt
-ranges_may by (r ∷ rs) h = let parts = neither (is_range_barred by r) (list_any (is_range_barred by) rs) h in (range_may by r parts.0, ranges_may by rs parts.1)
+ranges_may by (r ∷ rs) h = let parts = or_parts (is_range_barred by r) (list_any (is_range_barred by) rs) h in (range_may by r parts.0, ranges_may by rs parts.1)
 
 pub star_once : (s : Scope) (scopes : Scopes) → list_any (is_range_barred s.grouping) s.ranges ≡ false → FoundStar (visible (s ∷ scopes))
 star_once s scopes h = all_of_each (AllMayBeNamed s.grouping) (range_shapes s.ranges) (ranges_may s.grouping s.ranges h)

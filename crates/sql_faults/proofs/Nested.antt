@@ -1,7 +1,8 @@
 -- Views by their nesting depth.
-use Rattle.std.proofs.Common.{◌≡◌, ◌+◌, ℕ, suc, Bool, true, false, not, ◌&&◌, ◌||◌, List, [], ◌∷◌, map, filter, Option, refl, ap, inl, inr}
+use Rattle.std.proofs.Common.{◌≡◌, ◌+◌, ℕ, suc, Bool, not, ◌&&◌, ◌||◌, List, [], ◌∷◌, map, filter, Option, refl, ap, inl, inr}
 use Rattle.std.proofs.Math.Numerals.{add-one}
 use Rattle.std.specs.List.{list_any}
+use Rattle.std.proofs.Math.Bool.{and-false, and-true}
 use Rattle.std.proofs.lemmas.Bool.{cases_Bool}
 use Rattle.sql_ast.specs.Syntax as s
 use Rattle.sql_ast.specs.Declarations.{Declared}
@@ -13,14 +14,6 @@ use Rattle.sql_faults.specs.Depths.{over, reads_marked, refused_marked}
 use Rattle.sql_faults.specs.Scopes.{Heads}
 use Rattle.sql_faults.specs.Views.{heads_of, heads_with, refused_among, refused_to, refusal_of, view_head, view_heads, views_at}
 use Rattle.sql_faults.specs.declared.view.ViewHead.{ViewHead}
-
-and-true : (b : Bool) → b && true ≡ b
-and-true true = refl
-and-true false = refl
-
-and-false : (b : Bool) → b && false ≡ false
-and-false true = refl
-and-false false = refl
 
 marked-read : (reads : List (List ℕ)) (views : List Reader) (p : Reader → Bool) → reads_marked reads views (map p views) ≡ list_any p (filter (λ (w : Reader). contains reads w.name) views)
 marked-read reads [] p = refl

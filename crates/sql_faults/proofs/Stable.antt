@@ -4,7 +4,7 @@ use Rattle.sql_ast.specs.Syntax as s
 use Rattle.sql_catalog.specs.TableNames as t
 use Rattle.sql_meaning.specs.Names.{column_list, item_name, range_name}
 use Rattle.sql_value.specs.declared.order_key.SqlType.{SqlType}
-use Rattle.sql_faults.proofs.Members.{Each, each_left, each_right}
+use Rattle.sql_catalog.proofs.EachLaws.{Each, each_left, each_right}
 use Rattle.sql_faults.specs.Columns.{arm_types, choice_types, column, columns, columns_or_none, else_types, first_known, item_columns, items_columns, list_columns, list_scope, range, ranges, renamed, res_types, table_ranges, type_of, type_of_aggregate, types_of}
 use Rattle.sql_faults.specs.Scopes.{Heads, Scopes, first_type, released}
 use Rattle.sql_faults.specs.declared.column.TypedColumn.{TypedColumn}

@@ -8,7 +8,7 @@ ghost use Rattle.sql_faults.specs.Scopes as scope;
 
 use crate::column::{TypedColumn, TypedRange};
 use crate::fault::Fault;
-use crate::tables::Tables;
+use crate::from_ranges::FromRanges;
 use sql_ast::Column;
 use sql_text::Name;
 use sql_value::SqlType;
@@ -75,7 +75,7 @@ fn qualified(ranges: &[TypedRange], range: &Name, name: &Name) -> Option<Found>
 }
 
 // What `c` finds in a FROM; none where it has no such column.
-fn unqualified(tables: &Tables, name: &Name) -> Option<Found>
+fn unqualified(tables: &FromRanges, name: &Name) -> Option<Found>
     ensures { result ≡ spec.found_any (spec.found (scope.named_in name.now tables.now)) }
 {
     match tables.find(name) {
@@ -86,7 +86,7 @@ fn unqualified(tables: &Tables, name: &Name) -> Option<Found>
 }
 
 // What a column's name finds in a FROM; none where it doesn't mean that FROM.
-pub(crate) fn found_in(tables: &Tables, column: &Column) -> Option<Found>
+pub(crate) fn found_in(tables: &FromRanges, column: &Column) -> Option<Found>
     ensures { result ≡ spec.found_in column.now tables.now }
 {
     match &column.range {

@@ -11,8 +11,8 @@ ghost use Rattle.sql_faults.specs.Shown.{scopes};
 
 use crate::column::{Columns, TypedColumn, TypedRange, push_copies};
 use crate::fault::{Fault, fault_if, lesser};
+use crate::from_ranges::FromRanges;
 use crate::scope::{Scopes, Star, is_star_barred, star_of};
-use crate::tables::Tables;
 use crate::typed::{Output, Typed};
 use shared_types::OutOfMemory;
 use sql_ast::{Alias, Block, Expr};
@@ -118,7 +118,7 @@ pub(crate) fn push_value(
 // The scope that the list and HAVING of a block see first.
 pub(crate) fn list_scope<'a>(
     block: &'a Block,
-    tables: &'a Tables,
+    tables: &'a FromRanges,
     outer: &'a Scopes<'a>,
 ) -> Scopes<'a>
     ensures { scopes result ≡ types.list_scope (written.select_list block.now.list) block.now.grouping (written.filter block.now.having) tables.now ∷ scopes outer.now }

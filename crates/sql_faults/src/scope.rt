@@ -12,8 +12,8 @@ ghost use Rattle.sql_faults.specs.Shown.{scopes};
 use crate::column::{TypedColumn, TypedRange};
 use crate::fault::{Fault, fault_if, lesser};
 use crate::found::{Found, found_fault, found_in, found_type, range_in};
+use crate::from_ranges::FromRanges;
 use crate::site::Site;
-use crate::tables::Tables;
 use crate::typed::Typed;
 use sql_ast::Column;
 use sql_text::Name;
@@ -23,9 +23,9 @@ use sql_text::Name;
 pub(crate) enum Scopes<'a> {
     Outermost,
     /// The tables of a FROM.
-    Plain(&'a Tables, &'a Scopes<'a>),
+    Plain(&'a FromRanges, &'a Scopes<'a>),
     /// The tables of a grouped block with its GROUP BY: what its list and HAVING see.
-    Grouped(&'a Tables, &'a [Column], &'a Scopes<'a>),
+    Grouped(&'a FromRanges, &'a [Column], &'a Scopes<'a>),
     /// The same scopes within an aggregate's argument, where every column may be named.
     Released(&'a Scopes<'a>),
 }

@@ -10,9 +10,9 @@ ghost use Rattle.sql_faults.specs.Shown.{heads};
 
 use crate::column::{Columns, TypedRange, renamed};
 use crate::fault::{Fault, fault_if, lesser};
+use crate::from_ranges::FromRanges;
 use crate::known::{Known, columns_of};
 use crate::operands::list_fault;
-use crate::tables::Tables;
 use crate::typed::Output;
 use shared_types::OutOfMemory;
 use sql_ast::Correlation;
@@ -20,10 +20,10 @@ use sql_text::Name;
 use sqlite_items::Items;
 use std::alloc::Global;
 
-/// Tables of a FROM, and the least of their faults.
+/// FromRanges of a FROM, and the least of their faults.
 #[derive(Drop)]
 pub(crate) struct Source {
-    pub tables: Tables,
+    pub tables: FromRanges,
     pub fault: Option<Fault>,
 }
 
@@ -40,7 +40,7 @@ pub(crate) fn both(
     let right = right?;
     let fault = lesser(left.fault, right.fault);
     Ok(Source {
-        tables: Tables::join(alloc, left.tables, right.tables)?,
+        tables: FromRanges::join(alloc, left.tables, right.tables)?,
         fault,
     })
 }
@@ -57,7 +57,7 @@ fn one(
 {
     let name = name.copy(alloc)?;
     Ok(Source {
-        tables: Tables::one(alloc, TypedRange { name, columns })?,
+        tables: FromRanges::one(alloc, TypedRange { name, columns })?,
         fault,
     })
 }
@@ -174,7 +174,7 @@ pub(crate) fn no_source(alloc: Global) -> Source
     ensures fault { number result.fault ≡ 0 }
 {
     Source {
-        tables: Tables::none(alloc),
+        tables: FromRanges::none(alloc),
         fault: None,
     }
 }

@@ -50,7 +50,7 @@ first_more Nowhere = refl
 first_more (Once p) = refl
 first_more (Several p) = refl
 
-position_more : {X : Type 0} (p : X → Bool) (x : X) (xs : List X) → position p (x ∷ xs) ≡ cond (p x) (Some 0) (option_map suc (position p xs))
+pub position_more : {X : Type 0} (p : X → Bool) (x : X) (xs : List X) → position p (x ∷ xs) ≡ cond (p x) (Some 0) (option_map suc (position p xs))
 position_more p x xs = elim (cases_Bool (p x)) [
   | inl e ↦ rw e (rw (lt-ltb 0 (length (x ∷ xs)) (omega arith)) refl)
   | inr e ↦ rw e (elim (cases_Bool (nat_lt (position_or_len p xs) (length xs))) [

@@ -113,8 +113,8 @@ tables = loaded (codes "D") ((int 1 ∷ int 10 ∷ []) ∷ (int 2 ∷ int 20 ∷
     ∷ loaded (codes "NONE") [] ∷ []
 
 -- what a query comes to: these tuples, in the order of the loops, or this error
-abbrev pub Gives : s.Query → List (List Cell) → Type 0
-Gives q tuples = verdict (rows (known_of catalog tables) q []) ≡ Rows (map (λ cells. row cells Yes) tuples)
+abbrev pub HasRows : s.Query → List (List Cell) → Type 0
+HasRows q tuples = verdict (rows (known_of catalog tables) q []) ≡ Rows (map (λ cells. row cells Yes) tuples)
 
 abbrev pub Fails : s.Query → Kind → Type 0
 Fails q k = verdict (rows (known_of catalog tables) q []) ≡ Error k

@@ -7,6 +7,7 @@ use Rattle.row_bag.specs.declared.row.Row.{Row}
 use Rattle.sql_ast.specs.declared.name.Column.{Column}
 use Rattle.sql_ast.specs.Syntax as s
 use Rattle.sql_catalog.specs.TableNames as t
+use Rattle.sql_catalog.proofs.EachLaws.{Each, each_all, each_left, each_more, each_right}
 use Rattle.sql_value.specs.Comparison as v
 use Rattle.sql_value.specs.Like as l
 use Rattle.sql_value.specs.Truths as w
@@ -14,7 +15,7 @@ use Rattle.sql_value.specs.declared.cell.Cell.{Cell}
 use Rattle.sql_value.specs.declared.cell.Cell.TheVariants.{Null}
 use Rattle.sql_value.specs.declared.truth.Truth.{Truth}
 use Rattle.sql_meaning.specs.Grouping.{is_grouped}
-use Rattle.sql_meaning.specs.Groups.{Group, Grouped, is_distinct, no_group}
+use Rattle.sql_meaning.specs.Groups.{Group, is_distinct, no_group}
 use Rattle.sql_meaning.specs.Groups as g
 use Rattle.sql_meaning.specs.Joins.{distinct_if, kept, product, selected}
 use Rattle.sql_meaning.specs.Meaning as n
@@ -36,7 +37,7 @@ use Rattle.sql_names.specs.Resolved as r
 use Rattle.sql_names.proofs.Columns.{cells_from, cells_of_range, column_value_at, found_cell, from_all, from_place, range_stands, wide_length}
 use Rattle.sql_names.proofs.Frames.{FrameIs, Fits, beside, fits_more, fits_none, in_all, no_range}
 use Rattle.sql_names.proofs.Grouped.{GroupIs, OneIs, aggregated_same, count_same, groups_related}
-use Rattle.sql_names.proofs.Named.{Agrees, Each, Same, all_wide, each_all, each_left, each_more, each_right, named_related, names_bare, range_length, ranged_related, renamed_length, shape_bare, table_bare}
+use Rattle.sql_names.proofs.Named.{Agrees, Same, all_wide, named_related, names_bare, range_length, ranged_related, renamed_length, shape_bare, table_bare}
 use Rattle.sql_names.proofs.Operators.{both_truth, cells_append, either_truth, perhaps_not_truth, plus_value, signed_value, times_value}
 use Rattle.sql_names.proofs.Related.{Related, related_kept, related_left_join, related_product, related_selected, related_unit}
 use Rattle.sql_names.proofs.Results.{combined_related, distinct_related, intersected_related, same_rows}

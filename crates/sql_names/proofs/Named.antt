@@ -1,6 +1,6 @@
 -- The names of columns don't depend on rows, and a query's rows are as wide as its names.
 use Rattle.std.proofs.Common.{◌≡◌, ℕ, suc, true, false, cond, List, [], ◌∷◌, ◌++◌, length, get_or, Option, Some, None, refl, ap, ap₂, sym, ◌∙◌, subst}
-use Rattle.std.specs.Prelude.{⊤, All}
+use Rattle.std.specs.Prelude.{All}
 use Rattle.std.proofs.lemmas.List.Elements.{All-cons, All-head, All-nil, All-tail}
 use Rattle.row_bag.specs.Bags.{bind, unit}
 use Rattle.row_bag.specs.declared.row.Row.{Row}
@@ -8,10 +8,11 @@ use Rattle.row_bag.proofs.Levels.{least-yes}
 use Rattle.sql_ast.specs.Syntax as s
 use Rattle.sql_ast.specs.Names.{same_name}
 use Rattle.sql_catalog.specs.TableNames as t
+use Rattle.sql_catalog.proofs.EachLaws.{Each, each_left, each_right}
 use Rattle.sql_value.specs.declared.cell.Cell.{Cell}
 use Rattle.sql_meaning.specs.Joins.{ranged}
 use Rattle.sql_meaning.specs.Meaning.{cells_of}
-use Rattle.sql_meaning.specs.Names.{Known, Relation, column_list, listed, list_names, names, relation, renamed, shape, table_shape, under}
+use Rattle.sql_meaning.specs.Names.{Known, Relation, column_list, listed, list_names, names, renamed, shape, table_shape, under}
 use Rattle.sql_meaning.specs.Names as n
 use Rattle.sql_meaning.specs.Scopes.{Frame, Range, Scopes, Shape, columns_of_range, first_of, range_in, range_of, shape_of, shapes_of}
 use Rattle.sql_meaning.specs.Scopes as named
@@ -21,27 +22,6 @@ use Rattle.sql_names.specs.Resolved.{Columns, bare, without_rows}
 use Rattle.sql_names.proofs.Columns.{Stands, length_from, range_stands}
 use Rattle.sql_names.proofs.Frames.{FrameIs, one_range}
 use Rattle.sql_names.proofs.Related.{Related}
-
--- P of each
-abbrev pub Each : {A : Type 0} → (A → Type 0) → List A → Type 0
-Each P [] = ⊤
-Each P (x ∷ xs) = P x × Each P xs
-
-pub each_left : {A : Type 0} (P : A → Type 0) (xs ys : List A) → Each P (xs ++ ys) → Each P xs
-each_left P [] ys h = tt
-each_left P (x ∷ xs) ys h = (h.0, each_left P xs ys h.1)
-
-pub each_right : {A : Type 0} (P : A → Type 0) (xs ys : List A) → Each P (xs ++ ys) → Each P ys
-each_right P [] ys h = h
-each_right P (x ∷ xs) ys h = each_right P xs ys h.1
-
-pub each_all : {A : Type 0} (P : A → Type 0) → ((x : A) → P x) → (xs : List A) → Each P xs
-each_all P h [] = tt
-each_all P h (x ∷ xs) = (h x, each_all P h xs)
-
-pub each_more : {A : Type 0} (P Q : A → Type 0) → ((x : A) → P x → Q x) → (xs : List A) → Each P xs → Each Q xs
-each_more P Q f [] h = tt
-each_more P Q f (x ∷ xs) h = (f x h.0, each_more P Q f xs h.1)
 
 -- ---- names
 

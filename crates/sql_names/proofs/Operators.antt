@@ -1,7 +1,7 @@
 -- What operators over resolved parts mean.
 use Rattle.std.proofs.Common.{◌≡◌, ℕ, Bool, true, false, List, ◌∷◌, ◌++◌, refl, ap, sym, ◌∙◌}
 use Rattle.row_bag.specs.declared.row.Row.{Row}
-use Rattle.row_bag.proofs.Levels.{greatest-no, least-yes}
+use Rattle.row_bag.proofs.Chains.{and_true, or_false}
 use Rattle.sql_ast.specs.declared.word.AdditiveOp.{AdditiveOp}
 use Rattle.sql_ast.specs.declared.word.MultiplicativeOp.{MultiplicativeOp}
 use Rattle.sql_ast.specs.declared.word.Sign.{Sign}
@@ -17,16 +17,6 @@ use Rattle.sql_meaning.specs.ResolvedMeaning as c
 use Rattle.sql_meaning.specs.ResolvedTrees.{Value, Addends, Multipliers, Values, Test, Tests}
 use Rattle.sql_meaning.specs.ResolvedTrees as q
 use Rattle.sql_names.specs.Resolved.{append, both, either, more_addends, more_multipliers, more_tests, perhaps_not, plus, signed, times}
-
-same_truth : {p q : Truth} → p.t ≡ q.t → p.f ≡ q.f → p ≡ q
-same_truth {p} {q} t f = λ i. record { t = t i; f = f i }
-
--- true is nothing to AND, and false nothing to OR
-and_true : (p : Truth) → and p (truth_of true) ≡ p
-and_true p = same_truth (least-yes p.t) (greatest-no p.f)
-
-or_false : (p : Truth) → or p (truth_of false) ≡ p
-or_false p = same_truth (greatest-no p.t) (least-yes p.f)
 
 module _ (known : List ℕ → List (Row (List Cell))) (scopes : List (List Cell)) (group : Group (List Cell)) where
   abbrev value : Value → Cell

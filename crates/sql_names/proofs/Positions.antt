@@ -1,21 +1,12 @@
 -- The place of the first column of a name.
-use Rattle.std.proofs.Common.{◌≡◌, ℕ, suc, ◌+◌, ◌<◌, Bool, true, false, cond, List, [], ◌∷◌, ◌++◌, Option, Some, None, length, position, nat_lt, option_map, refl, ap, sym, ◌∙◌, inl, inr, arith}
+use Rattle.std.proofs.Common.{◌≡◌, ℕ, suc, ◌+◌, ◌<◌, Bool, true, false, cond, List, [], ◌∷◌, ◌++◌, Option, Some, None, length, nat_lt, option_map, refl, ap, sym, ◌∙◌, arith}
 use Rattle.std.specs.List.{position_or_len}
-use Rattle.std.proofs.lemmas.Bool.{cases_Bool, le-ltb, lt-ltb, ltb-false, ltb-true}
+use Rattle.std.proofs.lemmas.Bool.{ltb-true}
 use Rattle.sql_meaning.specs.Scopes.{Shape, first_of, is_named}
 use Rattle.sql_meaning.specs.Occurrences.{Indexes, first_place, told_of}
 use Rattle.sql_meaning.specs.declared.column_index.Occurrence.{Occurrence}
-use Rattle.sql_meaning.proofs.Occurrences.{place_of_first}
+use Rattle.sql_meaning.proofs.Occurrences.{place_of_first, position_more}
 use Rattle.sql_names.specs.Places.{further, names_in, place_in, place_named}
-
-position_more : {X : Type 0} (p : X → Bool) (x : X) (xs : List X) → position p (x ∷ xs) ≡ cond (p x) (Some 0) (option_map suc (position p xs))
-position_more p x xs = elim (cases_Bool (p x)) [
-  | inl e ↦ rw e (rw (lt-ltb 0 (length (x ∷ xs)) (omega arith)) refl)
-  | inr e ↦ rw e (elim (cases_Bool (nat_lt (position_or_len p xs) (length xs))) [
-    | inl h ↦ rw (h, lt-ltb (1 + position_or_len p xs) (length (x ∷ xs)) (let q = ltb-true _ _ h in omega arith)) (ap Some (omega arith))
-    | inr h ↦ rw (h, le-ltb (1 + position_or_len p xs) (length (x ∷ xs)) (let q = ltb-false _ _ h in omega arith)) refl
-  ])
-]
 
 one_further : (o : Option ℕ) → option_map suc o ≡ further 1 o
 one_further None = refl

@@ -3,6 +3,8 @@ use Rattle.std.proofs.Common.{◌≡◌, ℕ, Bool, true, false, cond, ◌||◌,
 use Rattle.std.specs.Prelude.{All}
 use Rattle.std.specs.List.{list_any}
 use Rattle.std.specs.Cmp.Lexicographic.{same_text}
+use Rattle.std.proofs.lemmas.Bool.{or_parts}
+use Rattle.std.proofs.lemmas.List.Folds.{list_any-append}
 use Rattle.row_bag.specs.Tables.{bag_named}
 use Rattle.row_bag.specs.declared.tables.Table.{Table}
 use Rattle.sql_ast.specs.declared.schema.TableDecl.{TableDecl}
@@ -11,36 +13,25 @@ use Rattle.sql_ast.specs.Declarations.{Declared, known_names, table_named, table
 use Rattle.sql_catalog.specs.Catalog.{fault, has_bad_key, has_duplicate, has_twin_columns, has_twin_list, is_over_limits, passes_limits, reads_unknown}
 use Rattle.sql_ast.specs.Names.{contains, has_twins, same_name}
 use Rattle.sql_catalog.specs.Nesting.{is_recursive, nests_over, readers_of}
+use Rattle.sql_catalog.proofs.EachLaws.{found_any, found_passes}
+use Rattle.sql_catalog.proofs.FaultLaws.{but_none, not_given}
 use Rattle.sql_meaning.specs.Meaning.{relation_of}
 use Rattle.sql_names.specs.Agreed.{IsWide}
 use Rattle.sql_names.specs.Even.{EvenQuery}
 use Rattle.sql_names.specs.Schema.{Sound, schema_columns}
-use Rattle.sql_names.proofs.Depths.{found_any, found_passes, or_left, or_right}
-
-not_given : (b : Bool) (n : ℕ) (o : Option ℕ) → cond b (Some n) o ≡ None → b ≡ false
-not_given true n o h = absurd (cc)
-not_given false n o h = refl
-
-but_none : (b : Bool) (n : ℕ) (o : Option ℕ) → cond b (Some n) o ≡ None → o ≡ None
-but_none true n o h = absurd (cc)
-but_none false n o h = h
-
-any_append : (p : List ℕ → Bool) (xs ys : List (List ℕ)) → list_any p (xs ++ ys) ≡ (list_any p xs || list_any p ys)
-any_append p [] ys = refl
-any_append p (x ∷ xs) ys = elim (p x) as (λ b. (b || list_any p (xs ++ ys)) ≡ ((b || list_any p xs) || list_any p ys)) [ true ↦ refl | false ↦ any_append p xs ys ]
 
 -- of two lists without twins no name stands in both
 apart_step : (x : List ℕ) (xs ys : List (List ℕ)) → has_twins ((x ∷ xs) ++ ys) ≡ false → (name : List ℕ) → contains (x ∷ xs) name ≡ true → (contains xs name ≡ true → contains ys name ≡ false)
     → (b : Bool) → same_name x name ≡ b → contains ys name ≡ false
 apart_step x xs ys none name h later true e =
     let called : x ≡ name = same_text x name (sym e) in
-    ap (contains ys) (sym called) ∙ or_right (contains xs x) (contains ys x) (sym (any_append (λ n. same_name n x) xs ys) ∙ or_left (contains (xs ++ ys) x) (has_twins (xs ++ ys)) none)
+    ap (contains ys) (sym called) ∙ (or_parts (contains xs x) (contains ys x) (sym (list_any-append (λ n. same_name n x) xs ys) ∙ (or_parts (contains (xs ++ ys) x) (has_twins (xs ++ ys)) none).0)).1
 apart_step x xs ys none name h later false e = later (ap (λ (b : Bool). b || contains xs name) (sym e) ∙ h)
 
 twins_apart : (xs ys : List (List ℕ)) → has_twins (xs ++ ys) ≡ false → (name : List ℕ) → contains xs name ≡ true → contains ys name ≡ false
 twins_apart [] ys none name h = absurd (cc)
 twins_apart (x ∷ xs) ys none name h =
-    apart_step x xs ys none name h (λ k. twins_apart xs ys (or_right (contains (xs ++ ys) x) (has_twins (xs ++ ys)) none) name k) (same_name x name) refl
+    apart_step x xs ys none name h (λ k. twins_apart xs ys (or_parts (contains (xs ++ ys) x) (has_twins (xs ++ ys)) none).1 name k) (same_name x name) refl
 
 true_or_false : {A : Type 0} (b : Bool) → b ≡ true → b ≡ false → A
 true_or_false b h k = absurd (cc)
@@ -65,10 +56,10 @@ module _ (catalog : Declared) (valid : fault catalog ≡ None) where
       (but_none (has_duplicate catalog) 8 (cond (list_any has_bad_key catalog.tables) (Some 9) (cond (passes_limits catalog.tables (readers_of catalog.views)) (Some 10) None)) none_left))
 
   no_twins : has_twins (table_names catalog.tables ++ view_names catalog.views) ≡ false
-  no_twins = or_left (has_twins (known_names catalog)) (list_any has_twin_columns catalog.tables || has_twin_list catalog.views) no_duplicate
+  no_twins = (or_parts (has_twins (known_names catalog)) (list_any has_twin_columns catalog.tables || has_twin_list catalog.views) no_duplicate).0
 
   pub shallow : list_any (nests_over (readers_of catalog.views) 16) (readers_of catalog.views) ≡ false
-  shallow = or_right (list_any is_over_limits catalog.tables) (list_any (nests_over (readers_of catalog.views) 16) (readers_of catalog.views)) (or_right _ _ within_limits)
+  shallow = (or_parts (list_any is_over_limits catalog.tables) (list_any (nests_over (readers_of catalog.views) 16) (readers_of catalog.views)) (or_parts _ _ within_limits).1).1
 
   table_there : (name : List ℕ) (table : TableDecl) → table_named catalog.tables name ≡ Some table → (b : Bool) → contains (table_names catalog.tables) name ≡ b → b ≡ true
   table_there name table h true e = refl

@@ -14,6 +14,7 @@ use Rattle.sql_meaning.specs.Meaning.{Answer, answer_of, order_key, relation_of}
 use Rattle.sql_meaning.specs.Names.{all_named, names, renamed}
 use Rattle.sql_meaning.specs.Scopes.{first_of}
 use Rattle.sql_meaning.specs.ResolvedMeaning as places
+use Rattle.sql_meaning.specs.ResolvedTrees.{Query}
 use Rattle.sql_meaning.specs.ResolvedViews.{ViewTree}
 use Rattle.sql_meaning.specs.ResolvedViews as trees
 use Rattle.sql_names.specs.Agreed.{IsWide}
@@ -45,6 +46,11 @@ schema_columns catalog = columns_at catalog 16
 
 abbrev pub view_tree : Declared → s.ViewDecl → ViewTree
 view_tree catalog view = record { name = view.name; body = query (schema_columns catalog) [] view.query }
+
+-- the body of a view, resolved; there may be none
+abbrev pub view_body : Declared → Option s.ViewDecl → Option Query
+view_body catalog None = None
+view_body catalog (Some view) = Some (query (schema_columns catalog) [] view.query)
 
 -- the views, each with its body resolved
 abbrev pub view_trees : Declared → List ViewTree

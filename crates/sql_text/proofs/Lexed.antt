@@ -15,7 +15,7 @@ use Rattle.sql_text.specs.declared.token.Token.TheVariants as t
 use Rattle.sql_text.specs.declared.token.Spanned.{Spanned}
 use Rattle.sql_text.specs.declared.refusal.LexRefusal.{LexRefusal}
 use Rattle.sql_text.specs.Keys.{key_words}
-use Rattle.sql_text.specs.Tokens.{Found, is_blank, is_letter, is_digit, in_word, word, folded, entry_of, key_in, key_word, key_or_name, word_token, word_length, starts_comment, comment_length, digits, digits_length, value, starts_like_letter, number, quoted, string, name_of_some, delimited_name, long_sign, short_sign, found_short, found_long, sign, first, width, widths, before, before_rest, and_then, tokens_at, tokens, Ascends, IsTextOf, StandsIn, GivesSeen}
+use Rattle.sql_text.specs.Tokens.{Scanned, is_blank, is_letter, is_digit, in_word, word, folded, entry_of, key_in, key_word, key_or_name, word_token, word_length, starts_comment, comment_length, digits, digits_length, value, starts_like_letter, number, quoted, string, name_of_some, delimited_name, long_sign, short_sign, found_short, found_long, sign, first, width, widths, before, before_rest, and_then, tokens_at, tokens, Ascends, IsTextOf, StandsIn, GivesSeen}
 use Rattle.sql_text.proofs.Numbers.{digits_again}
 use Rattle.sql_text.proofs.InQuotes.{either, IsQuoted, quoted_is}
 
@@ -88,7 +88,7 @@ IsTextOfFound (Some token) cs = IsTextOf token cs
 abbrev pub IsFirst : List ℕ → Option Token × ℕ → Type 0
 IsFirst cs found = (1 ≤ found.1) × (found.1 ≤ length cs) × IsTextOfFound found.0 (take found.1 cs)
 
-is_found : (cs : List ℕ) (known found : Option Token × ℕ) → IsFirst cs known → ◌≡◌ {A = Found} (Ok known) (Ok found) → IsFirst cs found
+is_found : (cs : List ℕ) (known found : Option Token × ℕ) → IsFirst cs known → ◌≡◌ {A = Scanned} (Ok known) (Ok found) → IsFirst cs found
 is_found cs known found fact h = let e : known ≡ found = cc in subst (IsFirst cs) e fact
 
 pair_is : (entry : List ℕ × Key) (letters : List ℕ) (key : Key) → entry.0 ≡ letters → entry.1 ≡ key → entry ≡ (letters, key)
@@ -223,7 +223,7 @@ rest_ok : (place : ℕ) (found : Option Token) (bytes : ℕ) (told : Result (Lis
 rest_ok place found bytes (Ok others) spans h = (others, refl, cc)
 rest_ok place found bytes (Err fault) spans h = absurd (cc)
 
-and_then_ok : (place : ℕ) (cs : List ℕ) (told : Found) (following : ℕ → Result (List Spanned) ℕ) (spans : List Spanned) → and_then place cs told following ≡ Ok spans → (found : Option Token × ℕ) × (others : List Spanned) × (told ≡ Ok found) × (following found.1 ≡ Ok others) × (spans ≡ before place found.0 (widths (take found.1 cs)) others)
+and_then_ok : (place : ℕ) (cs : List ℕ) (told : Scanned) (following : ℕ → Result (List Spanned) ℕ) (spans : List Spanned) → and_then place cs told following ≡ Ok spans → (found : Option Token × ℕ) × (others : List Spanned) × (told ≡ Ok found) × (following found.1 ≡ Ok others) × (spans ≡ before place found.0 (widths (take found.1 cs)) others)
 and_then_ok place cs (Ok found) following spans h = let others = rest_ok place found.0 (widths (take found.1 cs)) (following found.1) spans h in (found, others.0, refl, others.1, others.2)
 and_then_ok place cs (Err fault) following spans h = absurd (cc)
 

@@ -14,8 +14,8 @@ use Rattle.sql_text.specs.declared.refusal.LexRefusal.{LexRefusal}
 use Rattle.sql_text.specs.declared.refusal.LexRefusal.TheVariants as r
 
 -- What stands first in a text: a token, or none where a blank or a comment stands; and how many characters it has. Or the number of a fault.
-abbrev pub Found : Type 0
-Found = Result (Option Token × ℕ) ℕ
+abbrev pub Scanned : Type 0
+Scanned = Result (Option Token × ℕ) ℕ
 
 -- space, tab, line feed, carriage return
 abbrev pub is_blank : ℕ → Bool
@@ -95,7 +95,7 @@ starts_like_letter [] = false
 starts_like_letter (c ∷ rest) = is_letter_like c
 
 -- Digits are a number. Fault 1 where a letter or `_` follows them, else fault 3 where the number is too large.
-abbrev pub number : List ℕ → Found
+abbrev pub number : List ℕ → Scanned
 number cs =
     if starts_like_letter (drop (digits_length cs) cs) then Err 1
     else (if nat_le (value (digits cs)) 9223372036854775807 then Ok (Some (t.Number (pos (value (digits cs)))), digits_length cs)
@@ -115,16 +115,16 @@ quoted quote (c ∷ d ∷ rest) =
     else with_character c 1 (quoted quote (d ∷ rest))
 
 -- a string is any characters between single quotes
-abbrev pub string : Result (List ℕ × ℕ) ℕ → Found
+abbrev pub string : Result (List ℕ × ℕ) ℕ → Scanned
 string (Ok quoted) = Ok (Some (t.Str quoted.0), suc quoted.1)
 string (Err fault) = Err fault
 
-abbrev pub name_of_some : List ℕ → ℕ → Found
+abbrev pub name_of_some : List ℕ → ℕ → Scanned
 name_of_some [] size = Err 1
 name_of_some (c ∷ cs) size = Ok (Some (t.Name (c ∷ cs)), size)
 
 -- a delimited name is one or more characters between double quotes, as they stand; fault 1 where it has none
-abbrev pub delimited_name : Result (List ℕ × ℕ) ℕ → Found
+abbrev pub delimited_name : Result (List ℕ × ℕ) ℕ → Scanned
 delimited_name (Ok quoted) = name_of_some quoted.0 (suc quoted.1)
 delimited_name (Err fault) = Err fault
 
@@ -154,22 +154,22 @@ short_sign c =
     else (if c == 59 then Some t.Semicolon
     else None)))))))))))
 
-abbrev pub found_short : Option Token → Found
+abbrev pub found_short : Option Token → Scanned
 found_short None = Err 1
 found_short (Some token) = Ok (Some token, 1)
 
-abbrev pub found_long : Option Token → ℕ → Found
+abbrev pub found_long : Option Token → ℕ → Scanned
 found_long None c = found_short (short_sign c)
 found_long (Some token) c = Ok (Some token, 2)
 
 -- the longer sign of those that stand first; fault 1 where none does
-abbrev pub sign : List ℕ → Found
+abbrev pub sign : List ℕ → Scanned
 sign [] = Err 1
 sign (c ∷ []) = found_short (short_sign c)
 sign (c ∷ d ∷ rest) = found_long (long_sign c d) c
 
 -- What stands first. 39 is `'` and 34 is `"`.
-abbrev pub first : List ℕ → Found
+abbrev pub first : List ℕ → Scanned
 first [] = Err 1
 first (c ∷ rest) =
     if is_blank c then Ok (None, 1)
@@ -197,7 +197,7 @@ before_rest place found bytes (Ok others) = Ok (before place found bytes others)
 before_rest place found bytes (Err fault) = Err fault
 
 -- what was found first in a text at `place`, and then the tokens of what follows it
-abbrev pub and_then : ℕ → List ℕ → Found → (ℕ → Result (List Spanned) ℕ) → Result (List Spanned) ℕ
+abbrev pub and_then : ℕ → List ℕ → Scanned → (ℕ → Result (List Spanned) ℕ) → Result (List Spanned) ℕ
 and_then place cs (Ok found) following = before_rest place found.0 (widths (take found.1 cs)) (following found.1)
 and_then place cs (Err fault) following = Err fault
 

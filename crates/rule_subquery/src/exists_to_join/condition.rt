@@ -4,10 +4,10 @@ ghost use Rattle.qgm_core.specs.Boxes.{width};
 ghost use Rattle.qgm_props.specs.InferredKeys.{places_to};
 ghost use Rattle.rule_facts.specs.Told.{infers_key};
 ghost use Rattle.rule_subquery.specs.ExistsToJoin as spec;
-ghost use Rattle.rule_subquery.specs.Knowing.{IsKnown};
+ghost use Rattle.rule_subquery.specs.GraphFacts.{AreFacts};
 
 use crate::exists_to_join::conjunct::one_whole;
-use crate::parts::{Known, has_at_most_one, is_clean, is_plain_select, width};
+use crate::parts::{GraphFacts, has_at_most_one, is_clean, is_plain_select, width};
 use qgm_core::{Distinct, Graph, Node, OwnedQuant};
 use qgm_props::props;
 use qgm_term_search::stands_in_cells;
@@ -29,8 +29,8 @@ fn places_to(alloc: Global, w: usize) -> Result<Vec<usize>, OutOfMemory>
 }
 
 // Whether it is inferred that all columns of a box hold a key.
-fn has_key(alloc: Global, k: &Known, node: &Node) -> Result<bool, OutOfMemory>
-    requires { IsKnown k.now }
+fn has_key(alloc: Global, k: &GraphFacts, node: &Node) -> Result<bool, OutOfMemory>
+    requires { AreFacts k.now }
     ensures { IfOk result (λ held. held ≡ infers_key k.now.graph.now.boxes node.now.id (places_to (width node.now))) }
 {
     let columns = places_to(alloc, width(node))?;
@@ -55,16 +55,21 @@ pub fn any_joinable(node: &Node) -> bool
 }
 
 // Whether rows don't count, since each is given once or may be given more often.
-fn is_set(k: &Known, node: &Node) -> bool
-    requires { IsKnown k.now }
+fn is_set(k: &GraphFacts, node: &Node) -> bool
+    requires { AreFacts k.now }
     ensures { result ≡ spec.is_set k.now.graph.now.boxes node.now }
 {
     node.parts.distinct.is_enforce() || (node.parts.distinct.is_permit() && is_clean(k, node.id))
 }
 
 // Whether repeated rows do no harm at the box, can't come, or are told by a key.
-fn exists_fits(alloc: Global, k: &Known, node: &Node, r: OwnedQuant) -> Result<bool, OutOfMemory>
-    requires { IsKnown k.now }
+fn exists_fits(
+    alloc: Global,
+    k: &GraphFacts,
+    node: &Node,
+    r: OwnedQuant,
+) -> Result<bool, OutOfMemory>
+    requires { AreFacts k.now }
     ensures { IfOk result (λ fits. fits ≡ spec.exists_fits k.now.graph.now.boxes node.now r) }
 {
     if is_set(k, node) || has_at_most_one(k, r.over) {
@@ -74,8 +79,13 @@ fn exists_fits(alloc: Global, k: &Known, node: &Node, r: OwnedQuant) -> Result<b
 }
 
 /// Whether U1 may fire at a quantifier of a box. Its one node is sought last: that takes all conjuncts.
-pub fn may_join(alloc: Global, k: &Known, node: &Node, r: OwnedQuant) -> Result<bool, OutOfMemory>
-    requires { IsKnown k.now }
+pub fn may_join(
+    alloc: Global,
+    k: &GraphFacts,
+    node: &Node,
+    r: OwnedQuant,
+) -> Result<bool, OutOfMemory>
+    requires { AreFacts k.now }
     ensures { IfOk result (λ passes. passes ≡ spec.may_exists_to_join k.now.graph.now.boxes node.now r) }
 {
     if !r.kind.is_e() || !exists_fits(alloc, k, node, r)? {
@@ -94,7 +104,7 @@ pub fn distinct_after(
     ensures { IfOk result (λ d. d ≡ spec.distinct_after graph.now.boxes node.now r) }
 {
     let props = props(alloc, graph)?;
-    let k = Known {
+    let k = GraphFacts {
         graph,
         props: &props,
     };

@@ -1,10 +1,10 @@
 // Where U2 may fire.
 ghost use Rattle.std.specs.Prelude.{◌≡◌};
-ghost use Rattle.rule_subquery.specs.Knowing.{IsKnown};
+ghost use Rattle.rule_subquery.specs.GraphFacts.{AreFacts};
 ghost use Rattle.rule_subquery.specs.ScalarToGroup as spec;
 
 use crate::parts::{
-    Known, any_scalar, has_at_most_one, has_exactly_one, is_error_free, is_plain_select,
+    GraphFacts, any_scalar, has_at_most_one, has_exactly_one, is_error_free, is_plain_select,
 };
 use qgm_core::{BoxId, Graph, Node, OwnedQuant};
 
@@ -27,16 +27,16 @@ pub fn may_have(graph: &Graph, node: &Node) -> bool
 }
 
 // Whether column 1 of a box is inferred error-free, or the box to have at most one row.
-fn is_safe(k: &Known, b: BoxId) -> bool
-    requires { IsKnown k.now }
+fn is_safe(k: &GraphFacts, b: BoxId) -> bool
+    requires { AreFacts k.now }
     ensures { result ≡ spec.is_safe k.now.graph.now.boxes b }
 {
     is_error_free(k, b, 1) || has_at_most_one(k, b)
 }
 
 /// Whether U2 may fire at a quantifier of a box.
-pub fn may_group(k: &Known, node: &Node, r: OwnedQuant) -> bool
-    requires { IsKnown k.now }
+pub fn may_group(k: &GraphFacts, node: &Node, r: OwnedQuant) -> bool
+    requires { AreFacts k.now }
     ensures { result ≡ spec.may_scalar_to_group k.now.graph.now.boxes node.now r }
 {
     is_plain_select(node)

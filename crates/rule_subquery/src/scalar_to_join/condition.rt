@@ -1,9 +1,9 @@
 // Where U3 may fire.
 ghost use Rattle.std.specs.Prelude.{◌≡◌};
-ghost use Rattle.rule_subquery.specs.Knowing.{IsKnown};
+ghost use Rattle.rule_subquery.specs.GraphFacts.{AreFacts};
 ghost use Rattle.rule_subquery.specs.ScalarToJoin as spec;
 
-use crate::parts::{Known, any_scalar, has_exactly_one, is_clean, is_plain_select};
+use crate::parts::{GraphFacts, any_scalar, has_exactly_one, is_clean, is_plain_select};
 use qgm_core::{Node, OwnedQuant};
 
 /// Whether a box is a plain select with an S quantifier. Else U3 has no place there.
@@ -14,8 +14,8 @@ pub fn may_have(node: &Node) -> bool
 }
 
 /// Whether U3 may fire at a quantifier of a box.
-pub fn may_join(k: &Known, node: &Node, r: OwnedQuant) -> bool
-    requires { IsKnown k.now }
+pub fn may_join(k: &GraphFacts, node: &Node, r: OwnedQuant) -> bool
+    requires { AreFacts k.now }
     ensures { result ≡ spec.may_scalar_to_join k.now.graph.now.boxes node.now r }
 {
     is_plain_select(node) && r.kind.is_s() && is_clean(k, r.over) && has_exactly_one(k, r.over)

@@ -3,10 +3,10 @@ ghost use Rattle.std.specs.Prelude.{◌≡◌, IfOk};
 ghost use Rattle.qgm_core.specs.Boxes.{box_of};
 ghost use Rattle.qgm_props.specs.Laws.{KeptOf};
 ghost use Rattle.rule_facts.specs.Places.{in_box};
-ghost use Rattle.rule_subquery.specs.Knowing.{IsKnown};
+ghost use Rattle.rule_subquery.specs.GraphFacts.{AreFacts};
 ghost use Rattle.rule_subquery.specs.SetToExists as spec;
 
-use crate::parts::{Known, is_clean, is_error_free};
+use crate::parts::{GraphFacts, is_clean, is_error_free};
 use qgm_core::{BoxId, BoxKind, Graph, Node, OwnedQuant, SetOperator};
 use qgm_props::Inference;
 use rule_facts::box_at;
@@ -27,8 +27,8 @@ fn is_intersect_or_except(form: SetOperator) -> bool
 }
 
 // Whether columns 1 to w of both boxes are inferred error-free.
-fn all_free(k: &Known, l: OwnedQuant, r: OwnedQuant, w: usize) -> bool
-    requires { IsKnown k.now }
+fn all_free(k: &GraphFacts, l: OwnedQuant, r: OwnedQuant, w: usize) -> bool
+    requires { AreFacts k.now }
     ensures { result ≡ spec.all_free k.now.graph.now.boxes l r w }
 {
     let mut left = w;
@@ -55,7 +55,7 @@ fn arms_fit(
     ensures test { IfOk result (λ fit. fit ≡ spec.arms_fit graph.now.boxes w l r) }
 {
     let facts = known.take(alloc, graph)?;
-    let k = Known {
+    let k = GraphFacts {
         graph,
         props: &facts,
     };

@@ -2,7 +2,7 @@ use Rattle.std.proofs.Common.{◌≡◌, ℕ, List, drop}
 use Rattle.sql_faults.specs.Columns.{all_columns}
 use Rattle.sql_faults.specs.Found.{found, joined, told_of}
 use Rattle.sql_faults.specs.Scopes.{columns_named}
-use Rattle.sql_faults.proofs.tables.note_ranges.Given as goal
+use Rattle.sql_faults.proofs.from_ranges.note_ranges.Given as goal
 
 abbrev pub invariant-loop-range : goal.invariant-loop-range
 invariant-loop-range l =

@@ -5,7 +5,7 @@ use Rattle.sql_faults.specs.Found.{found}
 use Rattle.sql_faults.specs.Scopes.{columns_named}
 use Rattle.sql_faults.specs.declared.column.TypedRange.{TypedRange}
 use Rattle.sql_faults.proofs.Notes.{tells_more}
-use Rattle.sql_faults.proofs.tables.Tables.join.Goals as goal
+use Rattle.sql_faults.proofs.from_ranges.FromRanges.join.Goals as goal
 
 pub invariant_of-result : goal.invariant_of-result
 invariant_of-result c = λ name.

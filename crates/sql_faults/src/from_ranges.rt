@@ -1,4 +1,4 @@
-// The tables of a FROM, with what each name finds among their columns.
+// The ranges of a FROM, with what each name finds among their columns.
 ghost use Rattle.std.specs.Prelude.{◌≡◌, ◌++◌, ◌∷◌, [], IfOk, OnOk};
 ghost use Rattle.sql_faults.specs.Columns.{all_columns};
 ghost use Rattle.sql_faults.specs.Found as spec;
@@ -20,12 +20,12 @@ type Finds = IndexMap<Name, Found>;
 /// The ranges of a FROM, in order. What each name finds among all their columns is noted once, so
 /// that no name is sought column by column in each scope round it. Contracts see the ranges.
 #[derive(Drop)]
-pub(crate) struct Tables {
+pub(crate) struct FromRanges {
     ranges: Items<TypedRange>,
     finds: Finds,
 }
 
-impl Model for Tables {
+impl Model for FromRanges {
     ghost use Rattle.std.specs.Prelude.{List};
     ghost use Rattle.sql_faults.specs.Found.{Tells};
     ghost use Rattle.sql_faults.specs.declared.column.TypedRange.{TypedRange};
@@ -103,41 +103,45 @@ fn note_ranges(alloc: Global, finds: &mut Finds, ranges: &[TypedRange]) -> Resul
     Ok(())
 }
 
-impl Tables {
-    /// No table.
-    pub(crate) fn none(alloc: Global) -> Tables
+impl FromRanges {
+    /// No range.
+    pub(crate) fn none(alloc: Global) -> FromRanges
         ensures { result ≡ [] }
     {
-        Tables {
+        FromRanges {
             ranges: Items::new(alloc),
             finds: IndexMap::new(alloc),
         }
     }
 
-    /// One table.
-    pub(crate) fn one(alloc: Global, range: TypedRange) -> Result<Tables, OutOfMemory>
-        ensures { IfOk result (λ tables. tables ≡ range ∷ []) }
+    /// One range.
+    pub(crate) fn one(alloc: Global, range: TypedRange) -> Result<FromRanges, OutOfMemory>
+        ensures { IfOk result (λ ranges. ranges ≡ range ∷ []) }
     {
         let mut finds = IndexMap::new(alloc);
         note_columns(alloc, &mut finds, range.columns.as_slice())?;
         let mut ranges = Items::new(alloc);
         ranges.push(range)?;
-        Ok(Tables { ranges, finds })
+        Ok(FromRanges { ranges, finds })
     }
 
-    /// The tables of both. Only the columns of the right ones are noted anew, so that a chain of joins
+    /// The ranges of both. Only the columns of the right ones are noted anew, so that a chain of joins
     /// notes each column twice at most.
-    pub(crate) fn join(alloc: Global, left: Tables, right: Tables) -> Result<Tables, OutOfMemory>
-        ensures { IfOk result (λ tables. tables ≡ left ++ right) }
+    pub(crate) fn join(
+        alloc: Global,
+        left: FromRanges,
+        right: FromRanges,
+    ) -> Result<FromRanges, OutOfMemory>
+        ensures { IfOk result (λ ranges. ranges ≡ left ++ right) }
     {
-        let Tables {
+        let FromRanges {
             mut ranges,
             mut finds,
         } = left;
         note_ranges(alloc, &mut finds, right.ranges.as_slice())?;
-        let Tables { ranges: more, .. } = right;
+        let FromRanges { ranges: more, .. } = right;
         ranges.append(more)?;
-        Ok(Tables { ranges, finds })
+        Ok(FromRanges { ranges, finds })
     }
 
     /// The ranges.
