@@ -1,6 +1,6 @@
 -- M1, a select is merged into the select above it: its condition, the test of it, its places and its action.
-use Rattle.std.proofs.Common.{ℕ, suc, ◌==◌, ◌&&◌, ◌||◌, ◌≡◌, ◌+◌, ◌≤◌, ◌++◌, not, Bool, true, false, List, [], ◌∷◌, length, Option, Some, None}
-use Rattle.std.specs.Prelude.{◌-◌, if◌then◌else◌, nat_le}
+use Rattle.std.proofs.Common.{ℕ, suc, ◌==◌, ◌&&◌, ◌||◌, ◌≡◌, ◌≤◌, ◌++◌, not, Bool, true, false, List, [], ◌∷◌, length, Option, Some, None}
+use Rattle.std.specs.Prelude.{if◌then◌else◌, nat_le}
 use Rattle.std.specs.List.{list_any}
 use Rattle.qgm_wellformed.specs.Shapes.{all_F}
 use Rattle.qgm_wellformed.specs.WellFormed.{is_empty}
