@@ -8,7 +8,7 @@ use Rattle.qgm_terms.specs.Terms.{Term, int, text, null_int, null_text, col, sca
 use Rattle.qgm_terms.specs.Terms.{Arms, no_arm, arm, Cond, always, compare, is_null, and, or, not, some, every}
 use Rattle.qgm_terms.specs.declared.named.Column.{Column}
 
-put-append : (q : ℕ) (cells : List Term) (cs ds : List Column) → put_size q cells (cs ++ ds) ≡ put_size q cells cs + put_size q cells ds
+pub put-append : (q : ℕ) (cells : List Term) (cs ds : List Column) → put_size q cells (cs ++ ds) ≡ put_size q cells cs + put_size q cells ds
 put-append q cells [] ds = omega arith
 put-append q cells (c ∷ cs) ds = let h : put_size q cells (cs ++ ds) ≡ put_size q cells cs + put_size q cells ds = put-append q cells cs ds in omega (arith, h)
 

@@ -1,5 +1,5 @@
 -- M2 keeps that types agree.
-use Rattle.std.proofs.Common.{ℕ, suc, zero, ◌-◌, ◌==◌, ◌≡◌, ◌<◌, arith, cond, Bool, true, false, List, [], length, map, Some, refl, sym, ap, ap₂, subst, ◌∙◌, eqb-true, ◌⊎◌, inl, inr}
+use Rattle.std.proofs.Common.{ℕ, suc, zero, ◌==◌, ◌≡◌, ◌<◌, arith, cond, Bool, true, false, List, [], length, map, Some, refl, sym, ap, ap₂, subst, ◌∙◌, eqb-true, ◌⊎◌, inl, inr}
 use Rattle.std.specs.List.{flat_map, list_all}
 use Rattle.std.proofs.lemmas.Bool.{and_parts, cases_Bool}
 use Rattle.qgm_core.specs.Boxes.{QueryGraph, width}
@@ -11,7 +11,6 @@ use Rattle.qgm_core.specs.declared.owned.OwnedQuant.{OwnedQuant}
 use Rattle.qgm_terms.specs.Named.{names_in}
 use Rattle.qgm_wellformed.specs.Columns.{box_under}
 use Rattle.qgm_wellformed.specs.Types.{is_typed, lookup_of, term_type, type_found, types_agree, types_by, types_of}
-use Rattle.qgm_wellformed.specs.declared.types.Typed.{Typed}
 use Rattle.rule_merge.specs.Dropped.{MayDrop, dropped}
 use Rattle.qgm_edit_laws.specs.Ranges.{columns_from, moved, moved_range}
 use Rattle.qgm_edit_laws.specs.Graph.{Sound}

@@ -3,6 +3,7 @@ pub mod DropCopyActs
 pub mod DropCopyTurned
 pub mod MergeSelectAlone
 pub mod MergeSelectBases
+pub mod MergeSelectBounds
 pub mod MergeSelectFew
 pub mod MergeSelectNames
 pub mod MergeSelectActs

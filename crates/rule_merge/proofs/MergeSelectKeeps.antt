@@ -9,7 +9,6 @@ use Rattle.qgm_meaning.specs.Widths.{Filled}
 use Rattle.qgm_edit_laws.proofs.Edits.{boxes_without, without-one}
 use Rattle.qgm_edit_laws.specs.Graph.{Sound}
 use Rattle.rule_merge.specs.Merged.{merge_node, merged, Merges, merged_in}
-use Rattle.row_bag.specs.Bags.{keep}
 use Rattle.qgm_core.specs.Boxes.{QueryGraph}
 use Rattle.list_laws.specs.Lists.{holds}
 use Rattle.qgm_edit_laws.specs.Keeps.{Keeps}

@@ -14,14 +14,13 @@ use Rattle.qgm_core.specs.declared.node.Node.{Node}
 use Rattle.qgm_core.specs.declared.owned.OwnedQuant.{OwnedQuant}
 use Rattle.qgm_terms.specs.Named.{names_in, names_in_cond}
 use Rattle.qgm_terms.specs.Substitution.{cell_at, substituted, substituted_cond}
-use Rattle.qgm_terms.specs.Terms as t
 use Rattle.qgm_terms.specs.Terms.{Cond, Term}
 use Rattle.qgm_terms.specs.Wanted.{reads_at, reads_at_cond}
 use Rattle.qgm_meaning.specs.Scope.{put_node, read_by, under_any}
 use Rattle.qgm_meaning.specs.Scope as scope
 use Rattle.qgm_meaning.specs.Searches.{names, names_cond}
 use Rattle.qgm_wellformed.specs.Columns.{box_under, over_box}
-use Rattle.qgm_wellformed.specs.Types.{Lookup, agree, all_agree, arm_agrees, arms_agree, cond_fits, is_known, is_typed, joined_column, known, lookup_of, term_type, type_found, types_agree, types_by, types_of}
+use Rattle.qgm_wellformed.specs.Types.{Lookup, all_agree, arm_agrees, arms_agree, cond_fits, is_known, is_typed, joined_column, known, lookup_of, term_type, type_found, types_agree, types_by, types_of}
 use Rattle.qgm_edit_laws.specs.Graph.{Sound, nodes_in, reads_in}
 use Rattle.rule_merge.specs.Merged.{Merges, merge_node, merged, merged_in}
 use Rattle.qgm_edit_laws.specs.Shaped as shaped

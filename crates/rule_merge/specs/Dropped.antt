@@ -1,5 +1,5 @@
 -- M2 on graphs: a box that gives what the box under it gives is dropped.
-use Rattle.std.specs.Prelude.{ℕ, ◌≡◌, ◌==◌, if◌then◌else◌, true, false, List, [], ◌∷◌, map}
+use Rattle.std.specs.Prelude.{ℕ, ◌≡◌, ◌==◌, true, false, List, [], ◌∷◌, map}
 use Rattle.qgm_core.specs.Boxes.{QueryGraph, is_box, width}
 use Rattle.qgm_core.specs.Edits.{compact, on_boxes}
 use Rattle.qgm_core.specs.Kinds.{is_F, is_enforce}

@@ -1,4 +1,5 @@
 pub mod MergeSelect
+pub mod MergeSelectBounds
 pub mod MergeSelectCopies
 pub mod MergeSelectExact
 pub mod MergeSelectLookups

@@ -2,11 +2,12 @@
 ghost use Rattle.rule_merge.specs.DropLaws.{DropKeeps, DropShaped, DropTyped, DropWellFormed};
 ghost use Rattle.rule_merge.specs.Examples.{Dropped, Same};
 ghost use Rattle.rule_merge.specs.MergeLaws.{MergeDistinctTyped, MergeKeeps, MergeTyped};
+ghost use Rattle.rule_merge.specs.MergeSelectBounds.{MergeFew, MergeLevels};
 ghost use Rattle.rule_merge.specs.MergeShapes.{MergeDistinctShaped, MergeDistinctWellFormed, MergeShaped, MergeWellFormed};
 ghost use Rattle.rule_merge.specs.MergesDistinct.{MergeDistinctKeeps};
 ghost use Rattle.rule_merge.specs.MergesPermit.{ClosedMerges, MergeAny, MergePermitKeeps};
 
-/// M1 keeps all: the root's bag, soundness, shapes and types, and the check finds nothing more; at an ENFORCE box over an ENFORCE box too, and at a PERMIT box where rows are clean; of a small graph the rows stay. It does nothing.
+/// M1 keeps all: the root's bag, soundness, shapes and types, and the check finds nothing more; at an ENFORCE box over an ENFORCE box too, and at a PERMIT box where rows are clean; it adds few nodes, and no level that is too deep; of a small graph the rows stay. It does nothing.
 pub fn merge_laws()
     ensures keeps { MergeKeeps }
     ensures distinct { MergeDistinctKeeps }
@@ -19,6 +20,8 @@ pub fn merge_laws()
     ensures distinct_typed { MergeDistinctTyped }
     ensures distinct_formed { MergeDistinctWellFormed }
     ensures any { MergeAny }
+    ensures few { MergeFew }
+    ensures levels { MergeLevels }
     ensures same { Same }
 {}
 

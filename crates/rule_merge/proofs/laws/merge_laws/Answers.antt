@@ -7,6 +7,7 @@ use Rattle.rule_merge.proofs.MergeSelectShaped.{merge-shaped}
 use Rattle.rule_merge.proofs.MergeSelectTypedAny.{merge-distinct-typed}
 use Rattle.rule_merge.proofs.MergeSelectTyped.{merge-typed}
 use Rattle.rule_merge.proofs.MergeSelectFormed.{merge-any, merge-distinct-formed, merge-formed}
+use Rattle.rule_merge.proofs.MergeSelectBounds.{place-few, place-fits}
 use Rattle.rule_merge.proofs.laws.merge_laws.Goals as goal
 
 pub returns-clause-keeps : goal.returns-clause-keeps
@@ -44,3 +45,9 @@ returns-clause-any c = merge-any
 
 pub returns-clause-same : goal.returns-clause-same
 returns-clause-same c = refl
+
+pub returns-clause-few : goal.returns-clause-few
+returns-clause-few c = λ p g h u may act. place-few p g h u may act
+
+pub returns-clause-levels : goal.returns-clause-levels
+returns-clause-levels c = λ p g h may act. place-fits p g h may act

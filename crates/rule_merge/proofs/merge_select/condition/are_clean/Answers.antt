@@ -1,6 +1,5 @@
-use Rattle.std.proofs.Common.{◌≡◌, ◌&&◌, ◌∙◌, ap₂, sym}
+use Rattle.std.proofs.Common.{◌&&◌, ◌∙◌, ap₂, sym}
 use Rattle.qgm_props.specs.Table.{facts_of}
-use Rattle.rule_merge.specs.MergeSelect.{infers_clean}
 use Rattle.rule_merge.specs.MergeSelectExact.{clean-same, told-clean}
 use Rattle.rule_merge.proofs.merge_select.condition.are_clean.Goals as goal
 
