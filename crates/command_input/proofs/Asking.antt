@@ -6,17 +6,17 @@ use Rattle.sql_ast.specs.Declarations.{Declared}
 use Rattle.sql_ast.specs.Syntax as s
 use Rattle.sql_faults.specs.Views.{view_refusal}
 use Rattle.command_input.specs.Generated.{generated, made_catalog, made_query, made_views, query_text, schema_text}
-use Rattle.command_input.specs.Questions.{Found}
+use Rattle.command_input.specs.Questions.{Request}
 use Rattle.command_input.specs.Texts.{catalog_of, valid_query}
 use Rattle.command_input.specs.declared.report.Report.TheVariants.{SchemaRefused, QueryRefused}
 
-abbrev asked : Declared → s.QueryText → List Table → Found
+abbrev asked : Declared → s.QueryText → List Table → Request
 asked catalog query tables = Ok (record { catalog = catalog; query = query; tables = tables })
 
-abbrev refused : ℕ → Found
+abbrev refused : ℕ → Request
 refused number = Err (QueryRefused number)
 
-abbrev schema_refused : ℕ → Found
+abbrev schema_refused : ℕ → Request
 schema_refused number = Err (SchemaRefused number)
 
 -- the query is valid

@@ -3,7 +3,7 @@ use Rattle.std.proofs.Common.{ℕ, ◌≡◌, ◌∙◌, refl, sym, subst, List,
 use Rattle.std.specs.Str.{chars, is_utf8}
 use Rattle.command_input.proofs.Fixed.{fixed, catalog-is}
 use Rattle.command_input.specs.Generated.{generated, made_catalog, made_views, made_query, schema_text, query_text}
-use Rattle.command_input.specs.Questions.{Found, Question}
+use Rattle.command_input.specs.Questions.{Question, Request}
 use Rattle.command_input.specs.Texts.{catalog_of, query_of, spans_of, valid_query, refused_by, ◌>>=◌}
 use Rattle.sql_faults.specs.Views.{view_refusal, fault}
 use Rattle.generated_input.specs.Made.{made}

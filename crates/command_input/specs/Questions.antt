@@ -6,8 +6,8 @@ use Rattle.sql_ast.specs.Shown as shown
 use Rattle.sql_ast.specs.Syntax as s
 use Rattle.sql_catalog.specs.Shown as catalogs
 use Rattle.sql_meaning.specs.Meaning.{Answer, answer, known_of}
-use Rattle.command_input.specs.declared.question.Found.TheVariants.{Asked, Refused}
-use Rattle.command_input.specs.declared.question.Found as held_found
+use Rattle.command_input.specs.declared.question.Request.TheVariants.{Asked, Refused}
+use Rattle.command_input.specs.declared.question.Request as held_request
 use Rattle.command_input.specs.declared.question.Question as held
 use Rattle.command_input.specs.declared.report.Report.{Report}
 
@@ -26,10 +26,10 @@ abbrev pub question_of : held.Question → Question
 question_of q = record { catalog = catalogs.catalog q.catalog; query = shown.query_text q.valid.query; tables = q.tables }
 
 -- a question, or the report that refuses it
-abbrev pub Found : Type 0
-Found = Result Question Report
+abbrev pub Request : Type 0
+Request = Result Question Report
 
--- what the program found
-abbrev pub found_of : held_found.Found → Found
-found_of (Asked q) = Ok (question_of q)
-found_of (Refused report) = Err report
+-- what the program is asked
+abbrev pub request_of : held_request.Request → Request
+request_of (Asked q) = Ok (question_of q)
+request_of (Refused report) = Err report

@@ -19,8 +19,8 @@ use Rattle.sql_faults.specs.Views.{fault as query_fault, heads_of}
 use Rattle.sql_names.specs.Resolved.{query}
 use Rattle.sql_names.specs.Schema.{schema_columns}
 use Rattle.qgm_translation_laws.specs.Buildable.{AreQueries}
-use Rattle.command_input.specs.declared.question.Found.{Found}
-use Rattle.command_input.specs.declared.question.Found.TheVariants.{Asked, Refused}
+use Rattle.command_input.specs.declared.question.Request.{Request}
+use Rattle.command_input.specs.declared.question.Request.TheVariants.{Asked, Refused}
 use Rattle.command_input.specs.declared.question.Question.{Question}
 
 -- the views of a schema that isn't refused, and is of the grammar
@@ -46,6 +46,6 @@ pub record IsReady (q : Question) : Type 0 where
   pub tables : FitsSchema (catalogs.catalog q.catalog).tables q.tables
 
 -- a question that was found may be
-abbrev pub IsFoundReady : Found → Type 0
-IsFoundReady (Asked q) = IsReady q
-IsFoundReady (Refused report) = ⊤
+abbrev pub IsRequestReady : Request → Type 0
+IsRequestReady (Asked q) = IsReady q
+IsRequestReady (Refused report) = ⊤

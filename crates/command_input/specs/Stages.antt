@@ -11,45 +11,45 @@ use Rattle.row_bag.specs.declared.tables.Table.{Table}
 use Rattle.sql_ast.specs.Syntax as s
 use Rattle.sql_ast.specs.Declarations.{Declared}
 use Rattle.sql_faults.specs.Views.{view_refusal}
-use Rattle.command_input.specs.Questions.{Found, found_of}
+use Rattle.command_input.specs.Questions.{Request, request_of}
 use Rattle.command_input.specs.Texts.{catalog_of, valid_query}
-use Rattle.command_input.specs.declared.question.Found as held
+use Rattle.command_input.specs.declared.question.Request as held
 use Rattle.command_input.specs.declared.report.Report.TheVariants.{SchemaRefused, ViewRefused, DataRefused, QueryRefused}
 
 -- the question, once the tables are read, or the report that refuses them
-abbrev pub with_tables : Declared → s.QueryText → Result (List Table) Refusal → Found
+abbrev pub with_tables : Declared → s.QueryText → Result (List Table) Refusal → Request
 with_tables catalog query (Ok tables) = Ok (record { catalog = catalog; query = query; tables = tables })
 with_tables catalog query (Err why) = Err (DataRefused why.number why.table why.row)
 
 -- the tables' files are read
-abbrev pub from_tables : List ℕ → Declared → s.QueryText → List File → Outcome Found
+abbrev pub from_tables : List ℕ → Declared → s.QueryText → List File → Outcome Request
 from_tables dir catalog query files = tables_of catalog.tables dir files >>= (λ tables. done (with_tables catalog query tables))
 
 -- the query, or the number that refuses it; and then the tables
-unfoldable pub with_query : List ℕ → Declared → List File → Result s.QueryText ℕ → Outcome Found
+unfoldable pub with_query : List ℕ → Declared → List File → Result s.QueryText ℕ → Outcome Request
 with_query dir catalog files (Err number) = done (Err (QueryRefused number))
 with_query dir catalog files (Ok query) = from_tables dir catalog query files
 
 -- the query's file is read, and then the tables' files
-abbrev pub from_query : List ℕ → List ℕ → Declared → List File → Outcome Found
+abbrev pub from_query : List ℕ → List ℕ → Declared → List File → Outcome Request
 from_query query dir catalog files = read files query 65536 >>= (λ text. with_query dir catalog files (valid_query catalog text))
 
 -- the first view that isn't valid, or none; and then the query
-unfoldable pub with_views : List ℕ → List ℕ → Declared → List File → Option (List ℕ × ℕ) → Outcome Found
+unfoldable pub with_views : List ℕ → List ℕ → Declared → List File → Option (List ℕ × ℕ) → Outcome Request
 with_views query dir catalog files (Some (view, number)) = done (Err (ViewRefused view number))
 with_views query dir catalog files None = from_query query dir catalog files
 
 -- the catalog, or the number that refuses the schema; and then its views
-unfoldable pub with_catalog : List ℕ → List ℕ → List File → Result Declared ℕ → Outcome Found
+unfoldable pub with_catalog : List ℕ → List ℕ → List File → Result Declared ℕ → Outcome Request
 with_catalog query dir files (Err number) = done (Err (SchemaRefused number))
 with_catalog query dir files (Ok catalog) = with_views query dir catalog files (view_refusal catalog)
 
 -- the schema's file is read, and then the query's
-abbrev pub from_schema : List ℕ → List ℕ → List ℕ → List File → Outcome Found
+abbrev pub from_schema : List ℕ → List ℕ → List ℕ → List File → Outcome Request
 from_schema schema query dir files = read files schema 65536 >>= (λ text. with_catalog query dir files (catalog_of text))
 
 -- how the search for a question ended
-abbrev pub found_end : Result held.Found Interruption → Ended Found
-found_end (Ok found) = answered (found_of found)
-found_end (Err (ReadFault name)) = faulted (encode_utf8_all name)
-found_end (Err Memory) = starved
+abbrev pub request_end : Result held.Request Interruption → Ended Request
+request_end (Ok found) = answered (request_of found)
+request_end (Err (ReadFault name)) = faulted (encode_utf8_all name)
+request_end (Err Memory) = starved

@@ -4,14 +4,14 @@ ghost use Rattle.sql_catalog.specs.Catalog.{fault};
 ghost use Rattle.sql_catalog.specs.Shown as catalogs;
 ghost use Rattle.sql_faults.specs.Views.{view_refusal};
 ghost use Rattle.qgm_translation_laws.specs.Buildable.{AreQueries};
-ghost use Rattle.command_input.specs.declared.question.Found.TheVariants.{Refused};
+ghost use Rattle.command_input.specs.declared.question.Request.TheVariants.{Refused};
 ghost use Rattle.command_input.specs.declared.report.Report.TheVariants.{Usage};
-ghost use Rattle.command_input.specs.Ready.{AreReady, IsFoundReady};
+ghost use Rattle.command_input.specs.Ready.{AreReady, IsRequestReady};
 ghost use Rattle.command_input.specs.Generated.{generated, made_query, made_views, query_text, schema_text};
-ghost use Rattle.command_input.specs.Questions.{found_of};
+ghost use Rattle.command_input.specs.Questions.{request_of};
 ghost use Rattle.command_input.specs.Texts.{catalog_of, valid_query};
 
-use crate::question::{Found, Question};
+use crate::question::{Question, Request};
 use crate::report::Report;
 use crate::texts::{TextRefusal, read_catalog, read_query};
 use generated_input::made;
@@ -42,24 +42,24 @@ fn question(
     rows: u64,
     catalog: Catalog,
     views: Views,
-) -> Result<Found, OutOfMemory>
+) -> Result<Request, OutOfMemory>
     requires seed { seed < 2147483648 }
     requires rows { rows < 2 ^ 60 }
     requires ready { AreReady (catalogs.catalog catalog) views }
     requires fixed { catalog_of (Some schema_text) ≡ Ok (catalogs.catalog catalog) }
-    ensures found { IfOk result (λ found. found_of found ≡ made_query seed rows (catalogs.catalog catalog) (valid_query (catalogs.catalog catalog) (Some query_text))) }
+    ensures found { IfOk result (λ found. request_of found ≡ made_query seed rows (catalogs.catalog catalog) (valid_query (catalogs.catalog catalog) (Some query_text))) }
     ensures line { IfOk result (λ found. found ≢ Refused Usage) }
-    ensures ready { IfOk result (λ found. IsFoundReady found) }
+    ensures ready { IfOk result (λ found. IsRequestReady found) }
 {
     let text = bytes(alloc, QUERY)?;
     match read_query(alloc, &catalog, &views, &text) {
-        Ok(valid) => Ok(Found::Asked(Question {
+        Ok(valid) => Ok(Request::Asked(Question {
             catalog,
             views,
             valid,
             tables: made(alloc, seed, rows)?,
         })),
-        Err(TextRefusal::Number(number)) => Ok(Found::Refused(Report::QueryRefused(number))),
+        Err(TextRefusal::Number(number)) => Ok(Request::Refused(Report::QueryRefused(number))),
         Err(TextRefusal::Memory) => Err(OutOfMemory),
     }
 }
@@ -70,20 +70,20 @@ fn question_over(
     seed: u64,
     rows: u64,
     catalog: Catalog,
-) -> Result<Found, OutOfMemory>
+) -> Result<Request, OutOfMemory>
     requires seed { seed < 2147483648 }
     requires rows { rows < 2 ^ 60 }
     requires valid { fault (catalogs.catalog catalog) ≡ None }
     requires queries { AreQueries (catalogs.catalog catalog).views }
     requires fixed { catalog_of (Some schema_text) ≡ Ok (catalogs.catalog catalog) }
-    ensures found { IfOk result (λ found. found_of found ≡ made_views seed rows (catalogs.catalog catalog) (view_refusal (catalogs.catalog catalog))) }
+    ensures found { IfOk result (λ found. request_of found ≡ made_views seed rows (catalogs.catalog catalog) (view_refusal (catalogs.catalog catalog))) }
     ensures line { IfOk result (λ found. found ≢ Refused Usage) }
-    ensures ready { IfOk result (λ found. IsFoundReady found) }
+    ensures ready { IfOk result (λ found. IsRequestReady found) }
 {
     match check_views(alloc, &catalog) {
         Ok(views) => question(alloc, seed, rows, catalog, views),
         Err(ViewRefusal::Refused { view, number }) => {
-            Ok(Found::Refused(Report::ViewRefused { view, number }))
+            Ok(Request::Refused(Report::ViewRefused { view, number }))
         }
         Err(ViewRefusal::Memory) => Err(OutOfMemory),
     }
@@ -92,17 +92,17 @@ fn question_over(
 /// The question of a seed and a number of rows: the fixed query over the fixed schema, and the tables
 /// that are made. It reads no file, and fails only for want of memory.
 #[tactic(auto, unfolding(crate::specs::Generated::generated))]
-pub fn generated(alloc: Global, seed: u64, rows: u64) -> Result<Found, OutOfMemory>
+pub fn generated(alloc: Global, seed: u64, rows: u64) -> Result<Request, OutOfMemory>
     requires seed { seed < 2147483648 }
     requires rows { rows < 2 ^ 60 }
-    ensures found { IfOk result (λ found. found_of found ≡ generated seed rows) }
+    ensures found { IfOk result (λ found. request_of found ≡ generated seed rows) }
     ensures line { IfOk result (λ found. found ≢ Refused Usage) }
-    ensures ready { IfOk result (λ found. IsFoundReady found) }
+    ensures ready { IfOk result (λ found. IsRequestReady found) }
 {
     let text = bytes(alloc, SCHEMA)?;
     match read_catalog(alloc, &text) {
         Ok(catalog) => question_over(alloc, seed, rows, catalog),
-        Err(TextRefusal::Number(number)) => Ok(Found::Refused(Report::SchemaRefused(number))),
+        Err(TextRefusal::Number(number)) => Ok(Request::Refused(Report::SchemaRefused(number))),
         Err(TextRefusal::Memory) => Err(OutOfMemory),
     }
 }

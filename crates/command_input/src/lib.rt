@@ -11,7 +11,7 @@ mod texts;
 
 pub use generating::generated;
 pub use laws::generated_laws;
-pub use question::{Found, Question};
+pub use question::{Question, Request};
 pub use report::{Report, Said, say_fault};
 pub use stages::find_question;
 pub use texts::Valid;

@@ -16,7 +16,7 @@ pub struct Question {
 
 /// What comes of texts and tables: a question, or the report that refuses them.
 #[derive(Drop)]
-pub enum Found {
+pub enum Request {
     /// They are valid.
     Asked(Question),
     /// The first refusal.

@@ -6,12 +6,12 @@ ghost use Rattle.sql_catalog.specs.Catalog.{fault};
 ghost use Rattle.sql_catalog.specs.Shown as catalogs;
 ghost use Rattle.sql_faults.specs.Views.{view_refusal};
 ghost use Rattle.qgm_translation_laws.specs.Buildable.{AreQueries};
-ghost use Rattle.command_input.specs.declared.question.Found.TheVariants.{Refused};
+ghost use Rattle.command_input.specs.declared.question.Request.TheVariants.{Refused};
 ghost use Rattle.command_input.specs.declared.report.Report.TheVariants.{Usage};
-ghost use Rattle.command_input.specs.Ready.{AreReady, IsChecked, IsFoundReady};
-ghost use Rattle.command_input.specs.Stages.{found_end, from_query, from_schema, from_tables, with_views};
+ghost use Rattle.command_input.specs.Ready.{AreReady, IsChecked, IsRequestReady};
+ghost use Rattle.command_input.specs.Stages.{from_query, from_schema, from_tables, request_end, with_views};
 
-use crate::question::{Found, Question};
+use crate::question::{Question, Request};
 use crate::report::Report;
 use crate::texts::{TextRefusal, Valid, read_catalog, read_query};
 use csv_tables::{DataRefusal, load};
@@ -32,24 +32,24 @@ fn find_tables<F: Files>(
     views: Views,
     valid: Valid,
     files: &mut F,
-) -> Result<Found, Interruption>
+) -> Result<Request, Interruption>
     requires ready { AreReady (catalogs.catalog catalog) views }
     requires checked { IsChecked (catalogs.catalog catalog) views (shown.query_text valid.query) valid.checked }
-    ensures comes { Comes (F.told files.old) (F.told files.new) (λ fs. from_tables dir.now (catalogs.catalog catalog) (shown.query_text valid.query) fs) (found_end result) }
+    ensures comes { Comes (F.told files.old) (F.told files.new) (λ fs. from_tables dir.now (catalogs.catalog catalog) (shown.query_text valid.query) fs) (request_end result) }
     ensures later { F.faults files.old ≤ F.faults files.new }
     ensures failed { RoseIfFault result (F.faults files.old) (F.faults files.new) }
     ensures line { IfOk result (λ found. found ≢ Refused Usage) }
-    ensures ready { IfOk result (λ found. IsFoundReady found) }
+    ensures ready { IfOk result (λ found. IsRequestReady found) }
 {
     match load(alloc, &catalog, dir, files) {
-        Ok(tables) => Ok(Found::Asked(Question {
+        Ok(tables) => Ok(Request::Asked(Question {
             catalog,
             views,
             valid,
             tables,
         })),
         Err(DataRefusal::Refused { number, table, row }) => {
-            Ok(Found::Refused(Report::DataRefused { number, table, row }))
+            Ok(Request::Refused(Report::DataRefused { number, table, row }))
         }
         Err(DataRefusal::ReadFault { name }) => Err(Interruption::ReadFault { name }),
         Err(DataRefusal::Memory) => Err(Interruption::Memory),
@@ -64,18 +64,18 @@ fn find_query<F: Files>(
     catalog: Catalog,
     views: Views,
     files: &mut F,
-) -> Result<Found, Interruption>
+) -> Result<Request, Interruption>
     requires ready { AreReady (catalogs.catalog catalog) views }
-    ensures comes { Comes (F.told files.old) (F.told files.new) (λ fs. from_query query.now dir.now (catalogs.catalog catalog) fs) (found_end result) }
+    ensures comes { Comes (F.told files.old) (F.told files.new) (λ fs. from_query query.now dir.now (catalogs.catalog catalog) fs) (request_end result) }
     ensures later { F.faults files.old ≤ F.faults files.new }
     ensures failed { RoseIfFault result (F.faults files.old) (F.faults files.new) }
     ensures line { IfOk result (λ found. found ≢ Refused Usage) }
-    ensures ready { IfOk result (λ found. IsFoundReady found) }
+    ensures ready { IfOk result (λ found. IsRequestReady found) }
 {
     let text = fetch_file(alloc, files, query, MAX_TEXT)?;
     match read_query(alloc, &catalog, &views, &text) {
         Ok(valid) => find_tables(alloc, dir, catalog, views, valid, files),
-        Err(TextRefusal::Number(number)) => Ok(Found::Refused(Report::QueryRefused(number))),
+        Err(TextRefusal::Number(number)) => Ok(Request::Refused(Report::QueryRefused(number))),
         Err(TextRefusal::Memory) => Err(Interruption::Memory),
     }
 }
@@ -87,19 +87,19 @@ fn find_views<F: Files>(
     dir: &str,
     catalog: Catalog,
     files: &mut F,
-) -> Result<Found, Interruption>
+) -> Result<Request, Interruption>
     requires valid { fault (catalogs.catalog catalog) ≡ None }
     requires queries { AreQueries (catalogs.catalog catalog).views }
-    ensures comes { Comes (F.told files.old) (F.told files.new) (λ fs. with_views query.now dir.now (catalogs.catalog catalog) fs (view_refusal (catalogs.catalog catalog))) (found_end result) }
+    ensures comes { Comes (F.told files.old) (F.told files.new) (λ fs. with_views query.now dir.now (catalogs.catalog catalog) fs (view_refusal (catalogs.catalog catalog))) (request_end result) }
     ensures later { F.faults files.old ≤ F.faults files.new }
     ensures failed { RoseIfFault result (F.faults files.old) (F.faults files.new) }
     ensures line { IfOk result (λ found. found ≢ Refused Usage) }
-    ensures ready { IfOk result (λ found. IsFoundReady found) }
+    ensures ready { IfOk result (λ found. IsRequestReady found) }
 {
     match check_views(alloc, &catalog) {
         Ok(views) => find_query(alloc, query, dir, catalog, views, files),
         Err(ViewRefusal::Refused { view, number }) => {
-            Ok(Found::Refused(Report::ViewRefused { view, number }))
+            Ok(Request::Refused(Report::ViewRefused { view, number }))
         }
         Err(ViewRefusal::Memory) => Err(Interruption::Memory),
     }
@@ -114,17 +114,17 @@ pub fn find_question<F: Files>(
     query: &str,
     dir: &str,
     files: &mut F,
-) -> Result<Found, Interruption>
-    ensures comes { Comes (F.told files.old) (F.told files.new) (λ fs. from_schema schema.now query.now dir.now fs) (found_end result) }
+) -> Result<Request, Interruption>
+    ensures comes { Comes (F.told files.old) (F.told files.new) (λ fs. from_schema schema.now query.now dir.now fs) (request_end result) }
     ensures later { F.faults files.old ≤ F.faults files.new }
     ensures failed { RoseIfFault result (F.faults files.old) (F.faults files.new) }
     ensures line { IfOk result (λ found. found ≢ Refused Usage) }
-    ensures ready { IfOk result (λ found. IsFoundReady found) }
+    ensures ready { IfOk result (λ found. IsRequestReady found) }
 {
     let text = fetch_file(alloc, files, schema, MAX_TEXT)?;
     match read_catalog(alloc, &text) {
         Ok(catalog) => find_views(alloc, query, dir, catalog, files),
-        Err(TextRefusal::Number(number)) => Ok(Found::Refused(Report::SchemaRefused(number))),
+        Err(TextRefusal::Number(number)) => Ok(Request::Refused(Report::SchemaRefused(number))),
         Err(TextRefusal::Memory) => Err(Interruption::Memory),
     }
 }

@@ -19,7 +19,7 @@ pub enum Token {
 
 // Where a reader of tokens stands.
 #[derive(Clone, Copy)]
-enum Place {
+enum Position {
     /// In no quotes.
     Outside,
     /// Behind this sign.
@@ -32,7 +32,7 @@ enum Place {
 #[derive(Drop)]
 struct Reader {
     tokens: Vec<Token>,
-    place: Place,
+    position: Position,
     word: String,
     quoted: Text,
 }
@@ -41,7 +41,7 @@ impl Reader {
     fn new(alloc: Global) -> Result<Reader, LineError> {
         Ok(Reader {
             tokens: Vec::new(alloc),
-            place: Place::Outside,
+            position: Position::Outside,
             word: String::new(alloc),
             quoted: Text::new(alloc)?,
         })
@@ -49,18 +49,18 @@ impl Reader {
 
     // The next character.
     fn add(&mut self, alloc: Global, c: char) -> Result<(), LineError> {
-        match self.place {
-            Place::Outside => self.add_outside(alloc, c),
-            Place::Within(sign) if c == sign => {
-                self.place = Place::Behind(sign);
+        match self.position {
+            Position::Outside => self.add_outside(alloc, c),
+            Position::Within(sign) if c == sign => {
+                self.position = Position::Behind(sign);
                 Ok(())
             }
-            Place::Within(_) => Ok(self.quoted.push(c)?),
-            Place::Behind(sign) if c == sign => {
-                self.place = Place::Within(sign);
+            Position::Within(_) => Ok(self.quoted.push(c)?),
+            Position::Behind(sign) if c == sign => {
+                self.position = Position::Within(sign);
                 Ok(self.quoted.push(c)?)
             }
-            Place::Behind(_) => {
+            Position::Behind(_) => {
                 self.end_quoted(alloc)?;
                 self.add_outside(alloc, c)
             }
@@ -81,7 +81,7 @@ impl Reader {
             }
             '\'' | '"' => {
                 self.end_word(alloc)?;
-                self.place = Place::Within(c);
+                self.position = Position::Within(c);
                 Ok(())
             }
             _ => Ok(self.word.push(c)?),
@@ -101,16 +101,16 @@ impl Reader {
     fn end_quoted(&mut self, alloc: Global) -> Result<(), LineError> {
         let next = Text::new(alloc)?;
         let quoted = mem::replace(&mut self.quoted, next);
-        self.place = Place::Outside;
+        self.position = Position::Outside;
         Ok(self.tokens.push(Token::Quoted(quoted))?)
     }
 
     // The line ends here.
     fn end(&mut self, alloc: Global) -> Result<(), LineError> {
-        match self.place {
-            Place::Outside => self.end_word(alloc),
-            Place::Within(_) => Err(LineError::Faulty("a quote has no end")),
-            Place::Behind(_) => self.end_quoted(alloc),
+        match self.position {
+            Position::Outside => self.end_word(alloc),
+            Position::Within(_) => Err(LineError::Faulty("a quote has no end")),
+            Position::Behind(_) => self.end_quoted(alloc),
         }
     }
 }

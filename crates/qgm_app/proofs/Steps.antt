@@ -10,8 +10,8 @@ use Rattle.shared_types.specs.declared.memory.OutOfMemory.{OutOfMemory}
 use Rattle.command_line.specs.Line.{LineText}
 use Rattle.command_line.specs.Reading.{line}
 use Rattle.command_input.specs.Printed.{said_of}
-use Rattle.command_input.specs.Questions.{Found}
-use Rattle.command_input.specs.Stages.{found_end}
+use Rattle.command_input.specs.Questions.{Request}
+use Rattle.command_input.specs.Stages.{request_end}
 use Rattle.command_input.specs.declared.report.Report.{Report}
 use Rattle.command_input.specs.declared.report.Report.TheVariants.{Usage}
 use Rattle.command_input.specs.declared.report.Said.{Said}
@@ -22,31 +22,31 @@ use Rattle.qgm_app.specs.Telling.{Counts, CountsOf, Reports}
 -- ---- what is found
 
 -- nothing is read
-pub found-done : (t : Option Told) (found made : Found) → found ≡ made → Comes t t (λ fs. done made) (answered found)
-found-done t found made is = subst (λ (f : Found). Comes t t (λ fs. done made) (answered f)) (sym is) (comes-done t made)
+pub found-done : (t : Option Told) (found made : Request) → found ≡ made → Comes t t (λ fs. done made) (answered found)
+found-done t found made is = subst (λ (f : Request). Comes t t (λ fs. done made) (answered f)) (sym is) (comes-done t made)
 
 -- ---- what is told
 
 -- what was found for a command line
-pub line-found : (t u : Option Told) (taken : LineText) (found : Found)
+pub line-found : (t u : Option Told) (taken : LineText) (found : Request)
     → Comes t u (λ fs. with_task taken.task fs) (answered found) → Comes t u (λ fs. with_line (Some taken) fs) (answered (end_of taken found))
 unfolding with_line
 line-found t u taken found h = comes-mapped t u (λ fs. with_task taken.task fs) (end_of taken) found h
 
 -- a report of it
-pub line-told : (t u : Option Told) (taken : LineText) (found : Found) (report : Report)
+pub line-told : (t u : Option Told) (taken : LineText) (found : Request) (report : Report)
     → Comes t u (λ fs. with_task taken.task fs) (answered found) → Reports (end_of taken found) report → ComesTold t u (λ fs. with_line (Some taken) fs) (Ok report)
 line-told t u taken found report h r = (end_of taken found, line-found t u taken found h, r)
 
 -- an interruption
 pub line-interrupted : (t u : Option Told) (taken : LineText) (e : Interruption)
-    → Comes t u (λ fs. with_task taken.task fs) (found_end (Err e)) → ComesTold t u (λ fs. with_line (Some taken) fs) (Err e)
+    → Comes t u (λ fs. with_task taken.task fs) (request_end (Err e)) → ComesTold t u (λ fs. with_line (Some taken) fs) (Err e)
 unfolding with_line
 line-interrupted t u taken (ReadFault name) h = comes-bind-faulted t u (λ fs. with_task taken.task fs) (λ found fs. done (end_of taken found)) _ h
 line-interrupted t u taken Memory h = comes-bind-starved t u (λ fs. with_task taken.task fs) (λ found fs. done (end_of taken found)) h
 
 -- memory ran out after it
-pub line-starved : (t u : Option Told) (taken : LineText) (found : Found)
+pub line-starved : (t u : Option Told) (taken : LineText) (found : Request)
     → Comes t u (λ fs. with_task taken.task fs) (answered found) → Comes t u (λ fs. with_line (Some taken) fs) starved
 unfolding with_line
 line-starved t u taken found h = comes-bind t u u (λ fs. with_task taken.task fs) (λ f fs. done (end_of taken f)) found starved h (comes-starved u (λ fs. done (end_of taken found)))
@@ -81,7 +81,7 @@ counts-at (Some t) None o end report before after h k = absurd h
 counts-at (Some t) (Some u) o end report before after h k = (end, h.3.2, k)
 
 -- of what was found for a command line
-pub line-counts : (t u : Option Told) (taken : LineText) (found : Found) (report : Report) (before after : ℕ)
+pub line-counts : (t u : Option Told) (taken : LineText) (found : Request) (report : Report) (before after : ℕ)
     → Comes t u (λ fs. with_task taken.task fs) (answered found) → Counts (end_of taken found) report before after → CountsOf t (λ fs. with_line (Some taken) fs) report before after
 line-counts t u taken found report before after h k = counts-at t u (λ fs. with_line (Some taken) fs) (end_of taken found) report before after (line-found t u taken found h) k
 

@@ -6,13 +6,13 @@ use Rattle.io_edge.specs.Outside.{File}
 use Rattle.command_line.specs.Line.{LineText, TaskText, explain, gen, run}
 use Rattle.command_line.specs.Reading.{line}
 use Rattle.command_input.specs.Generated.{generated}
-use Rattle.command_input.specs.Questions.{Found, Question}
+use Rattle.command_input.specs.Questions.{Question, Request}
 use Rattle.command_input.specs.Stages.{from_schema}
 use Rattle.command_input.specs.declared.report.Report.{Report}
 use Rattle.command_input.specs.declared.report.Report.TheVariants.{Usage}
 
 -- the question of a command
-abbrev pub with_task : TaskText → List File → Outcome Found
+abbrev pub with_task : TaskText → List File → Outcome Request
 with_task (run schema query dir) files = from_schema schema query dir files
 with_task (explain schema query dir) files = from_schema schema query dir files
 with_task (gen seed rows) files = done (generated seed rows)
@@ -22,7 +22,7 @@ pub data End : Type 0 where
   refusing : Report → End
   answering : LineText → Question → End
 
-abbrev pub end_of : LineText → Found → End
+abbrev pub end_of : LineText → Request → End
 end_of taken (Ok question) = answering taken question
 end_of taken (Err report) = refusing report
 

@@ -7,8 +7,8 @@ use Rattle.io_edge.specs.declared.fetch.Interruption.TheVariants.{ReadFault, Mem
 use Rattle.shared_types.specs.declared.memory.OutOfMemory.{OutOfMemory}
 use Rattle.command_line.specs.Line.{TaskText, explain, gen, run}
 use Rattle.command_input.specs.Printed.{read_failed, said_of, status_of}
-use Rattle.command_input.specs.declared.question.Found.{Found}
-use Rattle.command_input.specs.declared.question.Found.TheVariants.{Asked, Refused}
+use Rattle.command_input.specs.declared.question.Request.{Request}
+use Rattle.command_input.specs.declared.question.Request.TheVariants.{Asked, Refused}
 use Rattle.command_input.specs.declared.report.Report.{Report}
 use Rattle.command_input.specs.declared.report.Report.TheVariants.{Usage}
 use Rattle.command_input.specs.declared.report.Said.{Said}
@@ -57,15 +57,15 @@ IsMade (explain schema query dir) = ⊥
 IsMade (gen seed rows) = ⊤
 
 -- a question was found
-abbrev pub IsAsked : Found → Type 0
+abbrev pub IsAsked : Request → Type 0
 IsAsked (Asked question) = ⊤
 IsAsked (Refused report) = ⊥
 
 -- what is found, and what is told, by a command that reads nothing: a question and its answer, or want of memory
-abbrev pub IsMadeFound : Result Found Interruption → Type 0
-IsMadeFound (Ok found) = IsAsked found
-IsMadeFound (Err (ReadFault name)) = ⊥
-IsMadeFound (Err Memory) = ⊤
+abbrev pub IsMadeRequest : Result Request Interruption → Type 0
+IsMadeRequest (Ok found) = IsAsked found
+IsMadeRequest (Err (ReadFault name)) = ⊥
+IsMadeRequest (Err Memory) = ⊤
 
 abbrev pub IsMadeReport : Result Report Interruption → Type 0
 IsMadeReport (Ok report) = status_of report ≡ 0

@@ -5,18 +5,18 @@ ghost use Rattle.io_edge.specs.Causes.{Rose};
 ghost use Rattle.io_edge.specs.Outcome.{Comes, RoseIfFault};
 ghost use Rattle.command_line.specs.Line.{is_taken, line_text, task_text};
 ghost use Rattle.command_line.specs.Reading.{line};
-ghost use Rattle.command_input.specs.declared.question.Found.TheVariants.{Refused};
+ghost use Rattle.command_input.specs.declared.question.Request.TheVariants.{Refused};
 ghost use Rattle.command_input.specs.declared.report.Report.{Report};
 ghost use Rattle.command_input.specs.declared.report.Report.TheVariants.{Usage};
-ghost use Rattle.command_input.specs.Ready.{IsFoundReady};
+ghost use Rattle.command_input.specs.Ready.{IsRequestReady};
 ghost use Rattle.command_input.specs.Printed.{said_of};
-ghost use Rattle.command_input.specs.Stages.{found_end};
+ghost use Rattle.command_input.specs.Stages.{request_end};
 ghost use Rattle.qgm_app.specs.Outcome.{outcome, with_line, with_task};
 ghost use Rattle.qgm_app.specs.Telling.{CountsOf};
-ghost use Rattle.qgm_app.specs.Runs.{ComesTold, IsMade, IsMadeFound, IsMadeReport, IsUsage, Prepares};
+ghost use Rattle.qgm_app.specs.Runs.{ComesTold, IsMade, IsMadeReport, IsMadeRequest, IsUsage, Prepares};
 
 use crate::telling::tell;
-use command_input::{Found, Report, Said, find_question, generated, say_fault};
+use command_input::{Report, Request, Said, find_question, generated, say_fault};
 use command_line::{Line, Task, WordsRefusal, read_line};
 use io_edge::{Files, Interruption};
 use shared_types::OutOfMemory;
@@ -25,13 +25,13 @@ use std::sync::ledger::Ledger;
 use step_count::Steps;
 
 // The question of a command, or the report that refuses it.
-fn find<F: Files>(alloc: Global, task: &Task, files: &mut F) -> Result<Found, Interruption>
+fn find<F: Files>(alloc: Global, task: &Task, files: &mut F) -> Result<Request, Interruption>
     requires taken { is_taken (task_text task.now) ≡ true }
-    ensures comes { Comes (F.told files.old) (F.told files.new) (λ fs. with_task (task_text task.now) fs) (found_end result) }
+    ensures comes { Comes (F.told files.old) (F.told files.new) (λ fs. with_task (task_text task.now) fs) (request_end result) }
     ensures line { IfOk result (λ found. found ≢ Refused Usage) }
-    ensures ready { IfOk result (λ found. IsFoundReady found) }
+    ensures ready { IfOk result (λ found. IsRequestReady found) }
     ensures unread { IsMade (task_text task.now) → files.new ≡ files.old }
-    ensures made { IsMade (task_text task.now) → IsMadeFound result }
+    ensures made { IsMade (task_text task.now) → IsMadeRequest result }
     ensures later { F.faults files.old ≤ F.faults files.new }
     ensures failed { RoseIfFault result (F.faults files.old) (F.faults files.new) }
 {
@@ -60,8 +60,8 @@ fn run_line<F: Files, L: Ledger>(
     ensures failed { RoseIfFault result (F.faults files.old) (F.faults files.new) }
 {
     match find(alloc, &line.task, files)? {
-        Found::Asked(question) => Ok(tell(alloc, line, question, steps)?),
-        Found::Refused(report) => Ok(report),
+        Request::Asked(question) => Ok(tell(alloc, line, question, steps)?),
+        Request::Refused(report) => Ok(report),
     }
 }
 

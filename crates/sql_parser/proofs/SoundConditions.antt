@@ -11,7 +11,7 @@ use Rattle.sql_ast.specs.Spelling as sp
 use Rattle.sql_ast.specs.Syntax as s
 use Rattle.sql_parser.specs.Ahead.{at_query, opens_cond}
 use Rattle.sql_parser.specs.Read as read
-use Rattle.sql_parser.specs.Words.{Found, Parser, ◌>>=◌, closed, quantifier_at, not_at}
+use Rattle.sql_parser.specs.Words.{Parsed, Parser, ◌>>=◌, closed, quantifier_at, not_at}
 use Rattle.sql_parser.proofs.Steps.{none_some, bind_ok, and_true, and_ok}
 use Rattle.sql_parser.proofs.SoundSteps.{Takes, Sound, inside, found}
 use Rattle.sql_parser.proofs.SoundWords as word
@@ -106,8 +106,8 @@ module _ (e : Parser s.Expr) (c : Parser s.Cond) (q : Parser s.Query) (j : Parse
   null_sound a negative (t.Key k.Null ∷ ts) x g h = found ok_test sp.cond _ (s.is_null a negative, ts) x (record { grammatical = g; tokens = refl }) h
   null_sound a negative _ x g h = absurd (none_some x h)
 
-  compared_at : (o : Found Quantifier) (a : s.Expr) (op : CmpOp) (ts : List Token) (x : s.Cond × List Token) → is_expr a ≡ true → quantifier_at ts ≡ o
-      → elim o as (λ _. Found s.Cond) [ None ↦ read.sum e c q j ts >>= (λ y. λ us. Some (s.compare a op y, us)) | Some r ↦ read.sub e c q j (s.quantified a op r.0) r.1 ] ≡ Some x
+  compared_at : (o : Parsed Quantifier) (a : s.Expr) (op : CmpOp) (ts : List Token) (x : s.Cond × List Token) → is_expr a ≡ true → quantifier_at ts ≡ o
+      → elim o as (λ _. Parsed s.Cond) [ None ↦ read.sum e c q j ts >>= (λ y. λ us. Some (s.compare a op y, us)) | Some r ↦ read.sub e c q j (s.quantified a op r.0) r.1 ] ≡ Some x
       → Takes ok_test sp.cond (sp.expr a (t.Compare op ∷ ts)) x
   compared_at None a op ts x g look h =
       let b = bind_ok (read.sum e c q j ts) (λ y. λ us. Some (s.compare a op y, us)) x h in

@@ -16,7 +16,7 @@ use Rattle.sql_ast.specs.Syntax as s
 use Rattle.sql_parser.specs.Ahead.{at_query}
 use Rattle.sql_parser.specs.Read as read
 use Rattle.sql_parser.specs.Read.{end_case, starts_when}
-use Rattle.sql_parser.specs.Words.{Found, Parser, ◌>>=◌, closed, additive_at, multiplicative_at, set_quantifier_at, column_after, data_type}
+use Rattle.sql_parser.specs.Words.{Parsed, Parser, ◌>>=◌, closed, additive_at, multiplicative_at, set_quantifier_at, column_after, data_type}
 use Rattle.sql_parser.proofs.Lookahead as look
 use Rattle.sql_parser.proofs.Steps.{some_inj, none_some, bind_ok, closed_ok, and_true, and_ok}
 use Rattle.sql_parser.proofs.SoundSteps.{Takes, Sound, Made, inside, ending, found}
@@ -346,10 +346,10 @@ module _ (e : Parser s.Expr) (c : Parser s.Cond) (q : Parser s.Query) (j : Parse
       found ok_factor sp.expr _ (s.signed sign.Minus b.0.0, b.0.1) x (record { grammatical = p.grammatical; tokens = ap (λ u. t.Minus ∷ u) p.tokens }) b.2
   factor_sound ts x h = let p = prim_sound ts x h in record { grammatical = prim_factor x.0 p.grammatical; tokens = p.tokens }
 
-  factor_turn : (o : Found MultiplicativeOp) (n : ℕ) (left : s.Expr) (ts : List Token) (x : s.Expr × List Token)
+  factor_turn : (o : Parsed MultiplicativeOp) (n : ℕ) (left : s.Expr) (ts : List Token) (x : s.Expr × List Token)
       → ((l : s.Expr) (us : List Token) → ok_term l ≡ true → read.more_factors e c q j n l us ≡ Some x → Takes ok_term sp.expr (sp.expr l us) x)
       → ok_term left ≡ true → multiplicative_at ts ≡ o
-      → elim o as (λ _. Found s.Expr) [ None ↦ Some (left, ts) | Some r ↦ read.factor e c q j r.1 >>= (λ right. read.more_factors e c q j n (s.multiply left r.0 right)) ] ≡ Some x
+      → elim o as (λ _. Parsed s.Expr) [ None ↦ Some (left, ts) | Some r ↦ read.factor e c q j r.1 >>= (λ right. read.more_factors e c q j n (s.multiply left r.0 right)) ] ≡ Some x
       → Takes ok_term sp.expr (sp.expr left ts) x
   factor_turn None n left ts x more g a h = found ok_term sp.expr _ (left, ts) x (record { grammatical = g; tokens = refl }) h
   factor_turn (Some op) n left ts x more g a h =
@@ -373,10 +373,10 @@ module _ (e : Parser s.Expr) (c : Parser s.Cond) (q : Parser s.Query) (j : Parse
       let m = factors_sound (length ts) b.0.0 b.0.1 x (factor_term b.0.0 p.grammatical) b.2 in
       record { grammatical = m.grammatical; tokens = p.tokens ∙ m.tokens }
 
-  term_turn : (o : Found AdditiveOp) (n : ℕ) (left : s.Expr) (ts : List Token) (x : s.Expr × List Token)
+  term_turn : (o : Parsed AdditiveOp) (n : ℕ) (left : s.Expr) (ts : List Token) (x : s.Expr × List Token)
       → ((l : s.Expr) (us : List Token) → is_expr l ≡ true → read.more_terms e c q j n l us ≡ Some x → Takes is_expr sp.expr (sp.expr l us) x)
       → is_expr left ≡ true → additive_at ts ≡ o
-      → elim o as (λ _. Found s.Expr) [ None ↦ Some (left, ts) | Some r ↦ read.term e c q j r.1 >>= (λ right. read.more_terms e c q j n (s.add left r.0 right)) ] ≡ Some x
+      → elim o as (λ _. Parsed s.Expr) [ None ↦ Some (left, ts) | Some r ↦ read.term e c q j r.1 >>= (λ right. read.more_terms e c q j n (s.add left r.0 right)) ] ≡ Some x
       → Takes is_expr sp.expr (sp.expr left ts) x
   term_turn None n left ts x more g a h = found is_expr sp.expr _ (left, ts) x (record { grammatical = g; tokens = refl }) h
   term_turn (Some op) n left ts x more g a h =

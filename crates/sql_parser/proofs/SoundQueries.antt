@@ -10,7 +10,7 @@ use Rattle.sql_ast.specs.Grammatical.{is_qterm, is_qprim, some_item, is_expr, is
 use Rattle.sql_ast.specs.Spelling as sp
 use Rattle.sql_ast.specs.Syntax as s
 use Rattle.sql_parser.specs.Read as read
-use Rattle.sql_parser.specs.Words.{Found, Parser, ◌>>=◌, set_operator_at, set_quantifier_at, all_at, group_by, alias_at, all_of_at}
+use Rattle.sql_parser.specs.Words.{Parsed, Parser, ◌>>=◌, set_operator_at, set_quantifier_at, all_at, group_by, alias_at, all_of_at}
 use Rattle.sql_parser.proofs.Steps.{bind_ok, and_true, and_ok}
 use Rattle.sql_parser.proofs.SoundSteps.{Takes, Sound, found}
 use Rattle.sql_parser.proofs.SoundWords as word
@@ -38,8 +38,8 @@ qprim_qterm _ h = h
 module _ (e : Parser s.Expr) (c : Parser s.Cond) (q : Parser s.Query) (j : Parser s.TableRef) (se : Sound is_expr sp.expr e) (sc : Sound is_cond sp.cond c) (sq : Sound is_query sp.query q) (sj : Sound is_table sp.table j) where
   -- ---- what SELECT asks for
 
-  item_at : (o : Found (List ℕ)) (ts : List Token) (x : s.Item × List Token) → all_of_at ts ≡ o
-      → elim o as (λ _. Found s.Item) [ None ↦ read.sum e c q j ts >>= (λ a. λ us. Some (s.item a (alias_at us).0, (alias_at us).1)) | Some r ↦ Some (s.all_of r.0, r.1) ] ≡ Some x
+  item_at : (o : Parsed (List ℕ)) (ts : List Token) (x : s.Item × List Token) → all_of_at ts ≡ o
+      → elim o as (λ _. Parsed s.Item) [ None ↦ read.sum e c q j ts >>= (λ a. λ us. Some (s.item a (alias_at us).0, (alias_at us).1)) | Some r ↦ Some (s.all_of r.0, r.1) ] ≡ Some x
       → Takes is_item sp.item ts x
   item_at None ts x look h =
       let b = bind_ok (read.sum e c q j ts) (λ a. λ us. Some (s.item a (alias_at us).0, (alias_at us).1)) x h in
@@ -160,10 +160,10 @@ module _ (e : Parser s.Expr) (c : Parser s.Cond) (q : Parser s.Query) (j : Parse
       let m = qprims_sound (length ts) b.0.0 b.0.1 x (qprim_qterm b.0.0 p.grammatical) b.2 in
       record { grammatical = m.grammatical; tokens = p.tokens ∙ m.tokens }
 
-  qterm_turn : (o : Found SetOperator) (n : ℕ) (left : s.Query) (ts : List Token) (x : s.Query × List Token)
+  qterm_turn : (o : Parsed SetOperator) (n : ℕ) (left : s.Query) (ts : List Token) (x : s.Query × List Token)
       → ((l : s.Query) (us : List Token) → is_query l ≡ true → read.more_qterms e c q j n l us ≡ Some x → Takes is_query sp.query (sp.query l us) x)
       → is_query left ≡ true → set_operator_at ts ≡ o
-      → elim o as (λ _. Found s.Query) [ None ↦ Some (left, ts) | Some r ↦ read.qterm e c q j (all_at r.1).1 >>= (λ right. read.more_qterms e c q j n (s.combine left r.0 (all_at r.1).0 right)) ] ≡ Some x
+      → elim o as (λ _. Parsed s.Query) [ None ↦ Some (left, ts) | Some r ↦ read.qterm e c q j (all_at r.1).1 >>= (λ right. read.more_qterms e c q j n (s.combine left r.0 (all_at r.1).0 right)) ] ≡ Some x
       → Takes is_query sp.query (sp.query left ts) x
   qterm_turn None n left ts x more g a h = found is_query sp.query _ (left, ts) x (record { grammatical = g; tokens = refl }) h
   qterm_turn (Some op) n left ts x more g a h =

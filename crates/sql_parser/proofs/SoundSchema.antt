@@ -13,7 +13,7 @@ use Rattle.sql_ast.specs.Syntax as s
 use Rattle.sql_parser.specs.ReadSchema as r
 use Rattle.sql_parser.specs.ReadSchema.{schema_tree}
 use Rattle.sql_parser.specs.Words as w
-use Rattle.sql_parser.specs.Words.{Found, ◌>>=◌, closed}
+use Rattle.sql_parser.specs.Words.{Parsed, ◌>>=◌, closed}
 use Rattle.sql_parser.proofs.Steps.{some_inj, none_some, bind_ok, closed_ok, and_true}
 use Rattle.sql_parser.proofs.SoundSteps.{Takes, Made, in_bracket, inside, found}
 use Rattle.sql_parser.proofs.SoundWords.{names_sound, column_list_sound, data_type_sound}
@@ -103,7 +103,7 @@ semicolon_sound : (x : s.Statement) (ts : List Token) (y : s.Statement × List T
 semicolon_sound x (t.Semicolon ∷ ts) y h = (cc, cc)
 semicolon_sound x _ y h = absurd (none_some y h)
 
-turn_ok : (n : ℕ) (m : Found s.Statement) (xs : List s.Statement) → option_and_then (λ x. option_map (λ xs. x.0 ∷ xs) (r.statements n x.1)) m ≡ Some xs
+turn_ok : (n : ℕ) (m : Parsed s.Statement) (xs : List s.Statement) → option_and_then (λ x. option_map (λ xs. x.0 ∷ xs) (r.statements n x.1)) m ≡ Some xs
     → (y : s.Statement × List Token) × (ys : List s.Statement) × (m ≡ Some y) × (r.statements n y.1 ≡ Some ys) × (xs ≡ y.0 ∷ ys)
 turn_ok n None xs h = absurd (none_some xs h)
 turn_ok n (Some y) xs h = let ys = map_ok (λ ys. y.0 ∷ ys) (r.statements n y.1) xs h in (y, ys.0, refl, ys.1, ys.2)

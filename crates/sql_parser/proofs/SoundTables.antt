@@ -12,7 +12,7 @@ use Rattle.sql_parser.specs.Read as read
 use Rattle.sql_parser.specs.Read.{close_join, name_derived}
 use Rattle.sql_parser.specs.declared.word.JoinKind.{JoinKind}
 use Rattle.sql_parser.specs.declared.word.JoinKind.TheVariants as join_of
-use Rattle.sql_parser.specs.Words.{Found, Parser, ◌>>=◌, correlation, optional_correlation, join_at}
+use Rattle.sql_parser.specs.Words.{Parsed, Parser, ◌>>=◌, correlation, optional_correlation, join_at}
 use Rattle.sql_parser.proofs.Steps.{none_some, bind_ok, and_true, and_ok}
 use Rattle.sql_parser.proofs.SoundSteps.{Takes, Sound, found}
 use Rattle.sql_parser.proofs.SoundWords as word
@@ -129,10 +129,10 @@ module _ (e : Parser s.Expr) (c : Parser s.Cond) (q : Parser s.Query) (j : Parse
       found is_table sp.table _ (s.cross_join left b.0.0, b.0.1) x
       (record { grammatical = and_true _ _ g p.grammatical; tokens = ap (λ u. sp.table left (join_words join_of.Cross u)) p.tokens }) b.2
 
-  join_turn : (o : Found JoinKind) (n : ℕ) (left : s.TableRef) (ts : List Token) (x : s.TableRef × List Token)
+  join_turn : (o : Parsed JoinKind) (n : ℕ) (left : s.TableRef) (ts : List Token) (x : s.TableRef × List Token)
       → ((l : s.TableRef) (us : List Token) → is_table l ≡ true → read.more_joins e c q j n l us ≡ Some x → Takes is_table sp.table (sp.table l us) x)
       → is_table left ≡ true → join_at ts ≡ o
-      → elim o as (λ _. Found s.TableRef) [ None ↦ Some (left, ts) | Some r ↦ read.join_after e c q j left r.0 r.1 >>= read.more_joins e c q j n ] ≡ Some x
+      → elim o as (λ _. Parsed s.TableRef) [ None ↦ Some (left, ts) | Some r ↦ read.join_after e c q j left r.0 r.1 >>= read.more_joins e c q j n ] ≡ Some x
       → Takes is_table sp.table (sp.table left ts) x
   join_turn None n left ts x more g a h = found is_table sp.table _ (left, ts) x (record { grammatical = g; tokens = refl }) h
   join_turn (Some kind) n left ts x more g a h =

@@ -12,7 +12,7 @@ use Rattle.sql_ast.specs.Syntax as s
 use Rattle.sql_parser.specs.Read.{query}
 use Rattle.sql_parser.specs.ReadText as read
 use Rattle.sql_parser.specs.ReadText.{direction_at, last_semicolon, ended, ordered, query_end, query_tree}
-use Rattle.sql_parser.specs.Words.{Found, ◌>>=◌}
+use Rattle.sql_parser.specs.Words.{Parsed, ◌>>=◌}
 use Rattle.sql_parser.proofs.Steps.{some_inj, none_some, bind_ok}
 use Rattle.sql_parser.proofs.Sound.{query_reads}
 use Rattle.sql_parser.proofs.SoundWords.{told, sign}
@@ -70,7 +70,7 @@ ended_ok q order None x h = absurd (none_some x h)
 ended_ok q order (Some b) x h =
     subst (λ y. (y.query ≡ q) × (y.order ≡ order) × (Some b ≡ Some y.semicolon)) (some_inj (record { query = q; order = order; semicolon = b }) x h) (refl, refl, refl)
 
-ordered_sound : (q : s.Query) (f : Found (List Sort)) (ts : List Token) (x : s.QueryText) → read.order_by ts ≡ f → ordered q f ≡ Some x
+ordered_sound : (q : s.Query) (f : Parsed (List Sort)) (ts : List Token) (x : s.QueryText) → read.order_by ts ≡ f → ordered q f ≡ Some x
     → (x.query ≡ q) × (ts ≡ sp.order_by x.order (sp.semicolon x.semicolon))
 ordered_sound q None ts x look h = absurd (none_some x h)
 ordered_sound q (Some r) ts x look h =
@@ -78,7 +78,7 @@ ordered_sound q (Some r) ts x look h =
     let p = order_by_sound ts r look ∙ ap (sp.order_by r.0) (semicolon_sound r.1 x.semicolon b.2) in
     (b.0, rw b.1 p)
 
-query_end_sound : (f : Found s.Query) (ts : List Token) (x : s.QueryText) → query 65 ts ≡ f → query_end f ≡ Some x → SpellsQuery x ts
+query_end_sound : (f : Parsed s.Query) (ts : List Token) (x : s.QueryText) → query 65 ts ≡ f → query_end f ≡ Some x → SpellsQuery x ts
 query_end_sound None ts x look h = absurd (none_some x h)
 query_end_sound (Some r) ts x look h =
     let m = ordered_sound r.0 (read.order_by r.1) r.1 x refl h in

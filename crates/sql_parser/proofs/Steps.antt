@@ -3,7 +3,7 @@ use Rattle.std.proofs.Common.{◌≡◌, Bool, true, false, List, ◌∷◌, Som
 use Rattle.std.specs.Prelude.{◌&&◌, not}
 use Rattle.sql_text.specs.declared.token.Token.{Token}
 use Rattle.sql_text.specs.declared.token.Token.TheVariants as t
-use Rattle.sql_parser.specs.Words.{Found, Parser, ◌>>=◌, closing, closed, mapped}
+use Rattle.sql_parser.specs.Words.{Parsed, Parser, ◌>>=◌, closing, closed, mapped}
 
 pub some_inj : {A : Type 0} (x y : A) → Some x ≡ Some y → x ≡ y
 some_inj x y h = cc
@@ -11,12 +11,12 @@ some_inj x y h = cc
 pub none_some : {A : Type 0} (y : A) → None ≡ Some y → ⊥
 none_some y h = cc
 
-pub bind_ok : {A B : Type 0} (m : Found A) (f : A → Parser B) (y : B × List Token) → (m >>= f) ≡ Some y
+pub bind_ok : {A B : Type 0} (m : Parsed A) (f : A → Parser B) (y : B × List Token) → (m >>= f) ≡ Some y
     → (x : A × List Token) × (m ≡ Some x) × (f x.0 x.1 ≡ Some y)
 bind_ok None f y h = absurd (none_some y h)
 bind_ok (Some x) f y h = (x, refl, h)
 
-pub mapped_ok : {A B : Type 0} (f : A → B) (m : Found A) (y : B × List Token) → mapped f m ≡ Some y
+pub mapped_ok : {A B : Type 0} (f : A → B) (m : Parsed A) (y : B × List Token) → mapped f m ≡ Some y
     → (x : A × List Token) × (m ≡ Some x) × (y ≡ (f x.0, x.1))
 mapped_ok f None y h = absurd (none_some y h)
 mapped_ok f (Some x) y h = (x, refl, cc)

@@ -20,7 +20,7 @@ use Rattle.sql_ast.specs.Shown as shown
 use Rattle.sql_ast.specs.Syntax as s
 use Rattle.sql_parser.specs.declared.refusal.ParseRefusal.{ParseRefusal}
 use Rattle.sql_parser.specs.declared.refusal.ParseRefusal.TheVariants.{OverLimit, Syntax, Memory}
-use Rattle.sql_parser.specs.Words.{Gives, Found, Parser, ◌>>=◌, mapped, additive_at, multiplicative_at}
+use Rattle.sql_parser.specs.Words.{Gives, Parsed, Parser, ◌>>=◌, mapped, additive_at, multiplicative_at}
 use Rattle.sql_parser.specs.Read.{more_exprs, more_arms, more_choices, more_factors, more_terms, more_negs, more_conjs, multiplied, added, joined_and, joined_or, aggregate, count, factor, term, sum, pred, pred_after, test, neg, conj, disj, starts_comma, starts_open_star, starts_when, starts_not, starts_exists, starts_and, starts_or}
 
 -- ---- turns
@@ -36,7 +36,7 @@ pub no_more : {X : Type 0} {x : X} (f : ℕ → X) (n at : ℕ) → n ≤ at →
 no_more f n at done e = let none : n - at ≡ 0 = omega arith in e ∙ ap f none
 
 -- a reading that changes what it found, and goes on
-pub found_then : {A B C : Type 0} (m : Found A) (f : A → B) (k : B → Parser C) → (m >>= (λ x. k (f x))) ≡ ((m >>= (λ x. λ us. Some (f x, us))) >>= k)
+pub found_then : {A B C : Type 0} (m : Parsed A) (f : A → B) (k : B → Parser C) → (m >>= (λ x. k (f x))) ≡ ((m >>= (λ x. λ us. Some (f x, us))) >>= k)
 found_then None f k = refl
 found_then (Some r) f k = refl
 
@@ -133,13 +133,13 @@ append_choices s.no_choice ys = ys
 append_choices (s.one_choice a r xs) ys = s.one_choice a r (append_choices xs ys)
 
 -- the items so far, before those that are read
-abbrev pub exprs_then : List Expr → Found s.Exprs → Found s.Exprs
+abbrev pub exprs_then : List Expr → Parsed s.Exprs → Parsed s.Exprs
 exprs_then out = mapped (append_exprs (shown.expr_list out))
 
-abbrev pub arms_then : List Arm → Found s.Arms → Found s.Arms
+abbrev pub arms_then : List Arm → Parsed s.Arms → Parsed s.Arms
 arms_then out = mapped (append_arms (shown.arm_list out))
 
-abbrev pub choices_then : List Choice → Found s.Choices → Found s.Choices
+abbrev pub choices_then : List Choice → Parsed s.Choices → Parsed s.Choices
 choices_then out = mapped (append_choices (shown.choice_list out))
 
 append_no_expr : (xs : s.Exprs) → append_exprs xs s.no_expr ≡ xs
@@ -178,30 +178,30 @@ pub choices_whole : (out : List Choice) (ts : List Token) → choices_then out (
 choices_whole out ts = ap (λ xs. Some (xs, ts)) (append_no_choice (shown.choice_list out))
 
 -- one item more
-pub exprs_more : (out : List Expr) (x : Expr) (m : Found s.Exprs) → exprs_then out (m >>= (λ xs. λ vs. Some (s.one_expr (shown.expr x) xs, vs))) ≡ exprs_then (out ++ x ∷ []) m
+pub exprs_more : (out : List Expr) (x : Expr) (m : Parsed s.Exprs) → exprs_then out (m >>= (λ xs. λ vs. Some (s.one_expr (shown.expr x) xs, vs))) ≡ exprs_then (out ++ x ∷ []) m
 exprs_more out x None = refl
 exprs_more out x (Some r) = ap (λ xs. Some (xs, r.1)) (append_one_expr out x r.0)
 
-pub arms_more : (out : List Arm) (x : Arm) (m : Found s.Arms)
+pub arms_more : (out : List Arm) (x : Arm) (m : Parsed s.Arms)
     → arms_then out (m >>= (λ xs. λ vs. Some (s.one_arm (shown.cond x.when) (shown.res x.then) xs, vs))) ≡ arms_then (out ++ x ∷ []) m
 arms_more out x None = refl
 arms_more out x (Some r) = ap (λ xs. Some (xs, r.1)) (append_one_arm out x r.0)
 
-pub choices_more : (out : List Choice) (x : Choice) (m : Found s.Choices)
+pub choices_more : (out : List Choice) (x : Choice) (m : Parsed s.Choices)
     → choices_then out (m >>= (λ xs. λ vs. Some (s.one_choice (shown.expr x.when) (shown.res x.then) xs, vs))) ≡ choices_then (out ++ x ∷ []) m
 choices_more out x None = refl
 choices_more out x (Some r) = ap (λ xs. Some (xs, r.1)) (append_one_choice out x r.0)
 
 -- the first item
-pub exprs_first : (x : Expr) (m : Found s.Exprs) → (m >>= (λ xs. λ vs. Some (s.one_expr (shown.expr x) xs, vs))) ≡ exprs_then (x ∷ []) m
+pub exprs_first : (x : Expr) (m : Parsed s.Exprs) → (m >>= (λ xs. λ vs. Some (s.one_expr (shown.expr x) xs, vs))) ≡ exprs_then (x ∷ []) m
 exprs_first x None = refl
 exprs_first x (Some r) = refl
 
-pub arms_first : (x : Arm) (m : Found s.Arms) → (m >>= (λ xs. λ vs. Some (s.one_arm (shown.cond x.when) (shown.res x.then) xs, vs))) ≡ arms_then (x ∷ []) m
+pub arms_first : (x : Arm) (m : Parsed s.Arms) → (m >>= (λ xs. λ vs. Some (s.one_arm (shown.cond x.when) (shown.res x.then) xs, vs))) ≡ arms_then (x ∷ []) m
 arms_first x None = refl
 arms_first x (Some r) = refl
 
-pub choices_first : (x : Choice) (m : Found s.Choices) → (m >>= (λ xs. λ vs. Some (s.one_choice (shown.expr x.when) (shown.res x.then) xs, vs))) ≡ choices_then (x ∷ []) m
+pub choices_first : (x : Choice) (m : Parsed s.Choices) → (m >>= (λ xs. λ vs. Some (s.one_choice (shown.expr x.when) (shown.res x.then) xs, vs))) ≡ choices_then (x ∷ []) m
 choices_first x None = refl
 choices_first x (Some r) = refl
 

@@ -20,15 +20,15 @@ use Rattle.sql_ast.specs.Syntax as s
 use Rattle.sql_parser.specs.Read.{starts_comma, starts_intersect, starts_star, listed, select_list, join_after, more_joins, tref, tables, more_tables, item, items, more_items, qprim, intersected, more_qprims, qterm, united, more_qterms, combined}
 use Rattle.sql_parser.specs.ReadText.{more_sorts}
 use Rattle.sql_parser.proofs.Turns.{found_then, no_turn}
-use Rattle.sql_parser.specs.Words.{Found, Parser, ◌>>=◌, mapped, join_at, all_at, set_operator_at, more_columns}
+use Rattle.sql_parser.specs.Words.{Parsed, Parser, ◌>>=◌, mapped, join_at, all_at, set_operator_at, more_columns}
 
 -- ---- lists that are plain
 
-pub first_item : {A : Type 0} (x : A) (m : Found (List A)) → (m >>= (λ xs. λ vs. Some (x ∷ xs, vs))) ≡ mapped (λ xs. (x ∷ []) ++ xs) m
+pub first_item : {A : Type 0} (x : A) (m : Parsed (List A)) → (m >>= (λ xs. λ vs. Some (x ∷ xs, vs))) ≡ mapped (λ xs. (x ∷ []) ++ xs) m
 first_item x None = refl
 first_item x (Some r) = refl
 
-pub next_item : {A : Type 0} (out : List A) (x : A) (m : Found (List A)) → mapped (λ xs. out ++ xs) (m >>= (λ xs. λ vs. Some (x ∷ xs, vs))) ≡ mapped (λ xs. (out ++ x ∷ []) ++ xs) m
+pub next_item : {A : Type 0} (out : List A) (x : A) (m : Parsed (List A)) → mapped (λ xs. out ++ xs) (m >>= (λ xs. λ vs. Some (x ∷ xs, vs))) ≡ mapped (λ xs. (out ++ x ∷ []) ++ xs) m
 next_item out x None = refl
 next_item out x (Some r) = ap (λ xs. Some (xs, r.1)) (sym (append_assoc out (x ∷ []) r.0))
 
@@ -50,10 +50,10 @@ sorts_stop (suc n) ts h = refl
 module _ (e : Parser s.Expr) (c : Parser s.Cond) (q : Parser s.Query) (j : Parser s.TableRef) where
   pub joins_stop : (n : ℕ) (left : s.TableRef) (ts : List Token) → join_at ts ≡ None → more_joins e c q j n left ts ≡ Some (left, ts)
   joins_stop zero left ts h = refl
-  joins_stop (suc n) left ts h = ap (λ o. elim o as (λ _. Found s.TableRef) [ None ↦ Some (left, ts) | Some r ↦ join_after e c q j left r.0 r.1 >>= more_joins e c q j n ]) h
+  joins_stop (suc n) left ts h = ap (λ o. elim o as (λ _. Parsed s.TableRef) [ None ↦ Some (left, ts) | Some r ↦ join_after e c q j left r.0 r.1 >>= more_joins e c q j n ]) h
 
   pub joins_next : (n : ℕ) (left : s.TableRef) (ts : List Token) (r : JoinKind × List Token) → Some r ≡ join_at ts → more_joins e c q j (suc n) left ts ≡ (join_after e c q j left r.0 r.1 >>= more_joins e c q j n)
-  joins_next n left ts r h = ap (λ o. elim o as (λ _. Found s.TableRef) [ None ↦ Some (left, ts) | Some r ↦ join_after e c q j left r.0 r.1 >>= more_joins e c q j n ]) (sym h)
+  joins_next n left ts r h = ap (λ o. elim o as (λ _. Parsed s.TableRef) [ None ↦ Some (left, ts) | Some r ↦ join_after e c q j left r.0 r.1 >>= more_joins e c q j n ]) (sym h)
 
   pub tables_stop : (n : ℕ) (ts : List Token) → starts_comma ts ≡ false → more_tables e c q j n ts ≡ Some (s.no_table, ts)
   tables_stop zero ts h = refl
@@ -80,11 +80,11 @@ module _ (e : Parser s.Expr) (c : Parser s.Cond) (q : Parser s.Query) (j : Parse
 
   pub qterms_stop : (n : ℕ) (left : s.Query) (ts : List Token) → set_operator_at ts ≡ None → more_qterms e c q j n left ts ≡ Some (left, ts)
   qterms_stop zero left ts h = refl
-  qterms_stop (suc n) left ts h = ap (λ o. elim o as (λ _. Found s.Query) [ None ↦ Some (left, ts) | Some r ↦ qterm e c q j (all_at r.1).1 >>= (λ right. more_qterms e c q j n (s.combine left r.0 (all_at r.1).0 right)) ]) h
+  qterms_stop (suc n) left ts h = ap (λ o. elim o as (λ _. Parsed s.Query) [ None ↦ Some (left, ts) | Some r ↦ qterm e c q j (all_at r.1).1 >>= (λ right. more_qterms e c q j n (s.combine left r.0 (all_at r.1).0 right)) ]) h
 
   pub qterms_next : (n : ℕ) (left : s.Query) (ts : List Token) (r : SetOperator × List Token) → Some r ≡ set_operator_at ts → more_qterms e c q j (suc n) left ts ≡ (united e c q j left r.0 r.1 >>= more_qterms e c q j n)
   qterms_next n left ts r h =
-      ap (λ o. elim o as (λ _. Found s.Query) [ None ↦ Some (left, ts) | Some r ↦ qterm e c q j (all_at r.1).1 >>= (λ right. more_qterms e c q j n (s.combine left r.0 (all_at r.1).0 right)) ]) (sym h)
+      ap (λ o. elim o as (λ _. Parsed s.Query) [ None ↦ Some (left, ts) | Some r ↦ qterm e c q j (all_at r.1).1 >>= (λ right. more_qterms e c q j n (s.combine left r.0 (all_at r.1).0 right)) ]) (sym h)
       ∙ found_then (qterm e c q j (all_at r.1).1) (s.combine left r.0 (all_at r.1).0) (more_qterms e c q j n)
 
 -- ---- how a call's answer is seen
@@ -131,11 +131,11 @@ pub table_one : (xs : List TableRef) (x : TableRef) → shown.table_list (xs ++ 
 table_one [] x = refl
 table_one (y ∷ xs) x = ap (s.one_table (shown.table y)) (table_one xs x)
 
-first_table : (x : s.TableRef) (m : Found s.TableRefs) → (m >>= (λ xs. λ vs. Some (s.one_table x xs, vs))) ≡ mapped (append_tables (s.one_table x s.no_table)) m
+first_table : (x : s.TableRef) (m : Parsed s.TableRefs) → (m >>= (λ xs. λ vs. Some (s.one_table x xs, vs))) ≡ mapped (append_tables (s.one_table x s.no_table)) m
 first_table x None = refl
 first_table x (Some r) = refl
 
-pub next_table : (out : s.TableRefs) (x : s.TableRef) (m : Found s.TableRefs)
+pub next_table : (out : s.TableRefs) (x : s.TableRef) (m : Parsed s.TableRefs)
     → mapped (append_tables out) (m >>= (λ xs. λ vs. Some (s.one_table x xs, vs))) ≡ mapped (append_tables (append_tables out (s.one_table x s.no_table))) m
 next_table out x None = refl
 next_table out x (Some r) = ap (λ xs. Some (xs, r.1)) (append_one_table out r.0 x)
@@ -161,11 +161,11 @@ pub item_one : (xs : List Item) (x : Item) → shown.item_list (xs ++ x ∷ []) 
 item_one [] x = refl
 item_one (y ∷ xs) x = ap (s.one_item (shown.item y)) (item_one xs x)
 
-first_item_of : (x : s.Item) (m : Found s.Items) → (m >>= (λ xs. λ vs. Some (s.one_item x xs, vs))) ≡ mapped (append_items (s.one_item x s.no_item)) m
+first_item_of : (x : s.Item) (m : Parsed s.Items) → (m >>= (λ xs. λ vs. Some (s.one_item x xs, vs))) ≡ mapped (append_items (s.one_item x s.no_item)) m
 first_item_of x None = refl
 first_item_of x (Some r) = refl
 
-pub next_item_of : (out : s.Items) (x : s.Item) (m : Found s.Items)
+pub next_item_of : (out : s.Items) (x : s.Item) (m : Parsed s.Items)
     → mapped (append_items out) (m >>= (λ xs. λ vs. Some (s.one_item x xs, vs))) ≡ mapped (append_items (append_items out (s.one_item x s.no_item))) m
 next_item_of out x None = refl
 next_item_of out x (Some r) = ap (λ xs. Some (xs, r.1)) (append_one_item out r.0 x)

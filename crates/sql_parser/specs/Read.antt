@@ -18,7 +18,7 @@ use Rattle.sql_ast.specs.Syntax as s
 use Rattle.sql_parser.specs.declared.word.JoinKind.{JoinKind}
 use Rattle.sql_parser.specs.declared.word.JoinKind.TheVariants as join_of
 use Rattle.sql_parser.specs.Ahead.{at_query, opens_cond}
-use Rattle.sql_parser.specs.Words.{Found, Parser, ◌>>=◌, closed, additive_at, multiplicative_at, quantifier_at, set_operator_at, set_quantifier_at, all_at, not_at, join_at, column_after, group_by, alias_at, correlation, optional_correlation, all_of_at, data_type}
+use Rattle.sql_parser.specs.Words.{Parsed, Parser, ◌>>=◌, closed, additive_at, multiplicative_at, quantifier_at, set_operator_at, set_quantifier_at, all_at, not_at, join_at, column_after, group_by, alias_at, correlation, optional_correlation, all_of_at, data_type}
 
 -- [ "." name ], after a name: the column that they are
 abbrev pub column_expr : List ℕ → Parser s.Expr
@@ -252,7 +252,7 @@ module _ (e : Parser s.Expr) (c : Parser s.Cond) (q : Parser s.Query) (j : Parse
   -- { ( "*" | "/" ) factor }
   abbrev pub more_factors : ℕ → s.Expr → Parser s.Expr
   more_factors zero left ts = Some (left, ts)
-  more_factors (suc n) left ts = elim (multiplicative_at ts) as (λ _. Found s.Expr) [
+  more_factors (suc n) left ts = elim (multiplicative_at ts) as (λ _. Parsed s.Expr) [
     | None ↦ Some (left, ts)
     | Some r ↦ factor r.1 >>= (λ right. more_factors n (s.multiply left r.0 right))
   ]
@@ -268,7 +268,7 @@ module _ (e : Parser s.Expr) (c : Parser s.Cond) (q : Parser s.Query) (j : Parse
   -- { ( "+" | "-" | "||" ) term }
   abbrev pub more_terms : ℕ → s.Expr → Parser s.Expr
   more_terms zero left ts = Some (left, ts)
-  more_terms (suc n) left ts = elim (additive_at ts) as (λ _. Found s.Expr) [
+  more_terms (suc n) left ts = elim (additive_at ts) as (λ _. Parsed s.Expr) [
     | None ↦ Some (left, ts)
     | Some r ↦ term r.1 >>= (λ right. more_terms n (s.add left r.0 right))
   ]
@@ -307,7 +307,7 @@ module _ (e : Parser s.Expr) (c : Parser s.Cond) (q : Parser s.Query) (j : Parse
 
   -- expr | ( ANY | SOME | ALL ) sub, after a comparison sign
   abbrev pub compared : s.Expr → CmpOp → Parser s.Cond
-  compared x op ts = elim (quantifier_at ts) as (λ _. Found s.Cond) [
+  compared x op ts = elim (quantifier_at ts) as (λ _. Parsed s.Cond) [
     | None ↦ sum ts >>= (λ a. λ us. Some (s.compare x op a, us))
     | Some r ↦ sub (s.quantified x op r.0) r.1
   ]
@@ -399,7 +399,7 @@ module _ (e : Parser s.Expr) (c : Parser s.Cond) (q : Parser s.Query) (j : Parse
   -- { join }
   abbrev pub more_joins : ℕ → s.TableRef → Parser s.TableRef
   more_joins zero left ts = Some (left, ts)
-  more_joins (suc n) left ts = elim (join_at ts) as (λ _. Found s.TableRef) [
+  more_joins (suc n) left ts = elim (join_at ts) as (λ _. Parsed s.TableRef) [
     | None ↦ Some (left, ts)
     | Some r ↦ join_after left r.0 r.1 >>= more_joins n
   ]
@@ -427,7 +427,7 @@ module _ (e : Parser s.Expr) (c : Parser s.Cond) (q : Parser s.Query) (j : Parse
 
   -- item = expr [ [ AS ] name ] | name "." "*"
   abbrev pub item : Parser s.Item
-  item ts = elim (all_of_at ts) as (λ _. Found s.Item) [
+  item ts = elim (all_of_at ts) as (λ _. Parsed s.Item) [
     | None ↦ sum ts >>= (λ a. λ us. Some (s.item a (alias_at us).0, (alias_at us).1))
     | Some r ↦ Some (s.all_of r.0, r.1)
   ]
@@ -485,7 +485,7 @@ module _ (e : Parser s.Expr) (c : Parser s.Cond) (q : Parser s.Query) (j : Parse
   -- { ( UNION | EXCEPT ) [ ALL ] qterm }
   abbrev pub more_qterms : ℕ → s.Query → Parser s.Query
   more_qterms zero left ts = Some (left, ts)
-  more_qterms (suc n) left ts = elim (set_operator_at ts) as (λ _. Found s.Query) [
+  more_qterms (suc n) left ts = elim (set_operator_at ts) as (λ _. Parsed s.Query) [
     | None ↦ Some (left, ts)
     | Some r ↦ qterm (all_at r.1).1 >>= (λ right. more_qterms n (s.combine left r.0 (all_at r.1).0 right))
   ]

@@ -10,7 +10,7 @@ use Rattle.sql_ast.specs.declared.word.Direction.{Direction}
 use Rattle.sql_ast.specs.declared.word.Direction.TheVariants as way
 use Rattle.sql_ast.specs.Syntax as s
 use Rattle.sql_parser.specs.Read.{query}
-use Rattle.sql_parser.specs.Words.{Found, Parser, ◌>>=◌}
+use Rattle.sql_parser.specs.Words.{Parsed, Parser, ◌>>=◌}
 
 -- [ ASC | DESC ]
 abbrev pub direction_at : List Token → Option Direction × List Token
@@ -53,11 +53,11 @@ abbrev pub ended : s.Query → List Sort → Option Bool → Option s.QueryText
 ended x order None = None
 ended x order (Some semicolon) = Some (record { query = x; order = order; semicolon = semicolon })
 
-abbrev pub ordered : s.Query → Found (List Sort) → Option s.QueryText
+abbrev pub ordered : s.Query → Parsed (List Sort) → Option s.QueryText
 ordered x None = None
 ordered x (Some r) = ended x r.0 (last_semicolon r.1)
 
-abbrev pub query_end : Found s.Query → Option s.QueryText
+abbrev pub query_end : Parsed s.Query → Option s.QueryText
 query_end None = None
 query_end (Some r) = ordered r.0 (order_by r.1)
 

@@ -24,19 +24,19 @@ use Rattle.sql_parser.specs.declared.word.JoinKind.{JoinKind}
 use Rattle.sql_parser.specs.declared.word.JoinKind.TheVariants as join_of
 
 -- a value, and the tokens after it
-abbrev pub Found : Type 0 → Type 0
-Found A = Option (A × List Token)
+abbrev pub Parsed : Type 0 → Type 0
+Parsed A = Option (A × List Token)
 
 abbrev pub Parser : Type 0 → Type 0
-Parser A = List Token → Found A
+Parser A = List Token → Parsed A
 
 infixl 10 ◌>>=◌
-abbrev pub ◌>>=◌ : {A B : Type 0} → Found A → (A → Parser B) → Found B
+abbrev pub ◌>>=◌ : {A B : Type 0} → Parsed A → (A → Parser B) → Parsed B
 None >>= f = None
 (Some r) >>= f = f r.0 r.1
 
 -- a reading that changes what it found
-abbrev pub mapped : {A B : Type 0} → (A → B) → Found A → Found B
+abbrev pub mapped : {A B : Type 0} → (A → B) → Parsed A → Parsed B
 mapped f None = None
 mapped f (Some r) = Some (f r.0, r.1)
 

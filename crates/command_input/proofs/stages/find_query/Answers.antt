@@ -5,7 +5,7 @@ use Rattle.io_edge.specs.Outcome.{answered, read, starved}
 use Rattle.io_edge.proofs.Order.{comes-starved}
 use Rattle.sql_ast.specs.Shown as shown
 use Rattle.sql_catalog.specs.Shown as catalogs
-use Rattle.command_input.specs.Stages.{found_end, with_query}
+use Rattle.command_input.specs.Stages.{request_end, with_query}
 use Rattle.command_input.specs.Texts.{valid_query}
 use Rattle.command_input.specs.declared.report.Report.TheVariants.{QueryRefused}
 use Rattle.command_input.proofs.Steps.{find-interrupted, query-refused, query-taken, text-of-query}
@@ -19,8 +19,8 @@ returns-in_err-text-clause-comes g c =
 
 pub returns-in-Ok-clause-comes : goal.returns-in-Ok-clause-comes
 returns-in-Ok-clause-comes g c =
-    text-of-query _ _ _ c.args.query.now c.args.dir.now (catalogs.catalog c.args.catalog) c.in_ok-text.text (found_end c.find_tables.result) c.in_ok-text.ensures.comes
-    (query-taken _ _ c.args.dir.now (catalogs.catalog c.args.catalog) c.in_ok-text.text (shown.query_text c.in-Ok.valid.query) (found_end c.find_tables.result) c.in-Ok.ensures.gives c.find_tables.ensures.comes)
+    text-of-query _ _ _ c.args.query.now c.args.dir.now (catalogs.catalog c.args.catalog) c.in_ok-text.text (request_end c.find_tables.result) c.in_ok-text.ensures.comes
+    (query-taken _ _ c.args.dir.now (catalogs.catalog c.args.catalog) c.in_ok-text.text (shown.query_text c.in-Ok.valid.query) (request_end c.find_tables.result) c.in-Ok.ensures.gives c.find_tables.ensures.comes)
 
 pub returns-in-Err-Number-clause-comes : goal.returns-in-Err-Number-clause-comes
 returns-in-Err-Number-clause-comes g c =

@@ -4,7 +4,7 @@ use Rattle.std.proofs.lemmas.Result.{err_from_is_err_and}
 use Rattle.io_edge.specs.Outcome.{answered, read, starved}
 use Rattle.io_edge.proofs.Order.{comes-starved}
 use Rattle.sql_catalog.specs.Shown as catalogs
-use Rattle.command_input.specs.Stages.{found_end, with_catalog}
+use Rattle.command_input.specs.Stages.{request_end, with_catalog}
 use Rattle.command_input.specs.Texts.{catalog_of}
 use Rattle.command_input.specs.declared.report.Report.TheVariants.{SchemaRefused}
 use Rattle.command_input.proofs.Steps.{find-interrupted, schema-refused, schema-taken, text-of-schema}
@@ -19,8 +19,8 @@ returns-in_err-text-clause-comes g c =
 
 pub returns-in-Ok-clause-comes : goal.returns-in-Ok-clause-comes
 returns-in-Ok-clause-comes g c =
-    text-of-schema _ _ _ c.args.schema.now c.args.query.now c.args.dir.now c.in_ok-text.text (found_end c.find_views.result) c.in_ok-text.ensures.comes
-    (schema-taken _ _ c.args.query.now c.args.dir.now c.in_ok-text.text (catalogs.catalog c.in-Ok.catalog) (found_end c.find_views.result) c.in-Ok.ensures.gives c.find_views.ensures.comes)
+    text-of-schema _ _ _ c.args.schema.now c.args.query.now c.args.dir.now c.in_ok-text.text (request_end c.find_views.result) c.in_ok-text.ensures.comes
+    (schema-taken _ _ c.args.query.now c.args.dir.now c.in_ok-text.text (catalogs.catalog c.in-Ok.catalog) (request_end c.find_views.result) c.in-Ok.ensures.gives c.find_views.ensures.comes)
 
 pub returns-in-Err-Number-clause-comes : goal.returns-in-Err-Number-clause-comes
 returns-in-Err-Number-clause-comes g c =

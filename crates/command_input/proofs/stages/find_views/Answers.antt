@@ -1,13 +1,13 @@
 use Rattle.std.proofs.Common.{arith}
 use Rattle.std.proofs.lemmas.Grind.{common_steps}
 use Rattle.sql_catalog.specs.Shown as catalogs
-use Rattle.command_input.specs.Stages.{found_end}
+use Rattle.command_input.specs.Stages.{request_end}
 use Rattle.command_input.proofs.Steps.{view-refused, views-taken}
 use Rattle.command_input.proofs.stages.find_views.Goals as goal
 
 pub returns-in-Ok-clause-comes : goal.returns-in-Ok-clause-comes
 returns-in-Ok-clause-comes g c =
-    views-taken _ _ c.args.query.now c.args.dir.now (catalogs.catalog c.args.catalog) (found_end c.find_query.result) c.in-Ok.ensures.valid c.find_query.ensures.comes
+    views-taken _ _ c.args.query.now c.args.dir.now (catalogs.catalog c.args.catalog) (request_end c.find_query.result) c.in-Ok.ensures.valid c.find_query.ensures.comes
 
 pub returns-in-Err-Refused-clause-comes : goal.returns-in-Err-Refused-clause-comes
 returns-in-Err-Refused-clause-comes g c =

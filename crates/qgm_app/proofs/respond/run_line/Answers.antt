@@ -2,7 +2,7 @@ use Rattle.std.proofs.lemmas.Grind.{common_steps}
 use Rattle.std.proofs.Common.{refl, arith}
 use Rattle.std.proofs.lemmas.Result.{err_from_is_err_and}
 use Rattle.command_line.specs.Line.{line_text}
-use Rattle.command_input.specs.Questions.{found_of}
+use Rattle.command_input.specs.Questions.{request_of}
 use Rattle.qgm_app.proofs.Made.{interrupted, not-refused}
 use Rattle.qgm_app.proofs.Steps.{line-counts, line-interrupted, line-starved, line-told}
 use Rattle.qgm_app.proofs.respond.run_line.Goals as goal
@@ -15,25 +15,25 @@ returns-in_err-question-clause-comes g c =
 pub returns-in_err-tell-in-Asked-clause-comes : goal.returns-in_err-tell-in-Asked-clause-comes
 returns-in_err-tell-in-Asked-clause-comes g c =
     let p = err_from_is_err_and c.from_residual-in_err-tell-in-Asked.result c.from_residual-in_err-tell-in-Asked.ensures.1 in
-    rw (p.1, p.2) (line-starved _ _ (line_text c.args.line.now) (found_of c.in_ok-question.field-0) c.in_ok-question.ensures.comes)
+    rw (p.1, p.2) (line-starved _ _ (line_text c.args.line.now) (request_of c.in_ok-question.field-0) c.in_ok-question.ensures.comes)
 
 pub returns-in_ok-tell-in-Asked-clause-comes : goal.returns-in_ok-tell-in-Asked-clause-comes
 returns-in_ok-tell-in-Asked-clause-comes g c =
-    line-told _ _ (line_text c.args.line.now) (found_of c.in_ok-question.field-0) c.in_ok-tell-in-Asked.field-0 c.in_ok-question.ensures.comes
+    line-told _ _ (line_text c.args.line.now) (request_of c.in_ok-question.field-0) c.in_ok-tell-in-Asked.field-0 c.in_ok-question.ensures.comes
     (rw c.in-Asked.is c.in_ok-tell-in-Asked.ensures.tells)
 
 pub returns-in_ok-tell-in-Asked-clause-counts : goal.returns-in_ok-tell-in-Asked-clause-counts
 returns-in_ok-tell-in-Asked-clause-counts g c =
-    line-counts _ _ (line_text c.args.line.now) (found_of c.in_ok-question.field-0) c.in_ok-tell-in-Asked.field-0 _ _ c.in_ok-question.ensures.comes
+    line-counts _ _ (line_text c.args.line.now) (request_of c.in_ok-question.field-0) c.in_ok-tell-in-Asked.field-0 _ _ c.in_ok-question.ensures.comes
     (rw c.in-Asked.is c.in_ok-tell-in-Asked.ensures.counts)
 
 pub returns-in-Refused-clause-comes : goal.returns-in-Refused-clause-comes
 returns-in-Refused-clause-comes g c =
-    line-told _ _ (line_text c.args.line.now) (found_of c.in_ok-question.field-0) c.in-Refused.report c.in_ok-question.ensures.comes (rw c.in-Refused.is refl)
+    line-told _ _ (line_text c.args.line.now) (request_of c.in_ok-question.field-0) c.in-Refused.report c.in_ok-question.ensures.comes (rw c.in-Refused.is refl)
 
 pub returns-in-Refused-clause-counts : goal.returns-in-Refused-clause-counts
 returns-in-Refused-clause-counts g c =
-    line-counts _ _ (line_text c.args.line.now) (found_of c.in_ok-question.field-0) c.in-Refused.report _ _ c.in_ok-question.ensures.comes (rw c.in-Refused.is (refl, refl))
+    line-counts _ _ (line_text c.args.line.now) (request_of c.in_ok-question.field-0) c.in-Refused.report _ _ c.in_ok-question.ensures.comes (rw c.in-Refused.is (refl, refl))
 
 pub returns-in-Refused-clause-failed : goal.returns-in-Refused-clause-failed
 returns-in-Refused-clause-failed g c = grind (arith, common_steps)
