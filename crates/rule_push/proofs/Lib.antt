@@ -11,3 +11,4 @@ pub mod PushIntoLeftColumns
 pub mod PushIntoLeftSteps
 pub mod PushThroughGroupSteps
 pub mod PushIntoArmsSteps
+pub mod OneRead

@@ -15,3 +15,4 @@ pub mod PushIntoArmsExact
 pub mod PushIntoLeft
 pub mod PushIntoLeftExact
 pub mod Laws
+pub mod OneRead

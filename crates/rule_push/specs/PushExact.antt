@@ -46,7 +46,7 @@ passes-to p first (u ∷ us) r vs i e h = inr (passes-to p (first + 1) us r vs i
 
 -- ---- what is read is named
 
-read-named : (q : ℕ) (p : Cond) → reads_cond q p ≡ true → In q (names_in_cond p)
+pub read-named : (q : ℕ) (p : Cond) → reads_cond q p ≡ true → In q (names_in_cond p)
 read-named q p h =
     let l : list_any (any_in_cond (wanted (sought.Row q))) (p ∷ []) ≡ true = or-false (any_in_cond (wanted (sought.Row q)) p) ∙ h in
     let m = conds-more (λ r j. r == q) (λ r j. r == q) (λ r. false) (λ r. r == q) (λ r. false) (λ r. r == q) (λ r. not (r == q)) (λ r. true) (λ r j h. h) (λ r h. absurd (let z : ⊥ = cc in z)) (λ r h. absurd (let z : ⊥ = cc in z)) (λ r h. refl) (p ∷ []) l in

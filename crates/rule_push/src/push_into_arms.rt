@@ -1,6 +1,7 @@
 // P3.
-ghost use Rattle.std.specs.Prelude.{◌≡◌, ◌&&◌, ◌||◌, IfOk};
+ghost use Rattle.std.specs.Prelude.{◌≡◌, ◌&&◌, ◌||◌, IfOk, IfSome};
 ghost use Rattle.list_laws.specs.Lists.{In};
+ghost use Rattle.qgm_core.specs.Boxes.{overs_in};
 ghost use Rattle.qgm_props.specs.Laws.{KeptOf};
 ghost use Rattle.qgm_terms.specs.Shown.{cond};
 ghost use Rattle.qgm_wellformed.specs.Sentences.{WellFormed};
@@ -13,9 +14,9 @@ ghost use Rattle.rule_push.specs.PushPlaces as spec;
 use crate::decided::is_decided;
 use crate::leaving::{first_range, leaving_at, second_range};
 use crate::moves::{ArmsPlan, plan_push_both, push_both};
-use crate::push_places::{is_input, way_out};
+use crate::push_places::{is_input, is_used_once, one_read};
 use crate::small::is_small_into;
-use qgm_core::{BoxId, BoxKind, Gc, Graph, Node, OwnedQuant, SetOperator};
+use qgm_core::{BoxId, BoxKind, Counts, Gc, Graph, Node, OwnedQuant, SetOperator};
 use qgm_props::Inference;
 use qgm_terms::{ROOM, substitute_cond};
 use rule_api::{Place, Rule, RuleId, add_if};
@@ -107,25 +108,32 @@ fn passes(
 }
 
 // Whether p, a conjunct of b, may go down to the arms of a set operation.
+#[tactic(auto, using(crate::proofs::OneRead::leaves_by_one))]
 fn may_leave(
     alloc: Global,
     graph: &Graph,
     known: &mut Inference,
+    uses: &mut Option<Counts>,
     b: &Node,
     p: &Gc,
 ) -> Result<bool, OutOfMemory>
-    requires { KeptOf known.old graph.now.boxes }
+    requires known { KeptOf known.old graph.now.boxes }
+    requires uses { IfSome uses.old (λ c. c ≡ overs_in graph.now.boxes) }
+    ensures uses { IfSome uses.new (λ c. c ≡ overs_in graph.now.boxes) }
     ensures known { KeptOf known.new graph.now.boxes }
     ensures test { IfOk result (λ v. v ≡ spec.may_leave (arms_passes graph.now) graph.now b.now (cond p.now)) }
 {
     graph.each_number_once();
-    let Some(r) = way_out(alloc, graph, b, p)? else {
+    let Some(r) = one_read(alloc, b, p)? else {
         return Ok(false);
     };
     let Some(c) = box_at(graph.nodes(), r.over) else {
         return Ok(false);
     };
-    passes(alloc, graph, known, p, r, c)
+    if !passes(alloc, graph, known, p, r, c)? {
+        return Ok(false);
+    }
+    is_used_once(alloc, graph, uses, r.over)
 }
 
 // What P3 does at a place.
@@ -183,8 +191,9 @@ impl Rule for PushIntoArms {
             return Ok(out);
         };
         let list = node.parts.conds.as_slice();
+        let mut uses = None;
         for k in 0..list.len() {
-            let passes = may_leave(alloc, graph, known, node, &list[k])?;
+            let passes = may_leave(alloc, graph, known, &mut uses, node, &list[k])?;
             add_if(&mut out, passes, b, k + 1, 0)?;
         }
         Ok(out)

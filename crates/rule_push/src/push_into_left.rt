@@ -1,6 +1,7 @@
 // P4.
-ghost use Rattle.std.specs.Prelude.{◌≡◌, IfOk};
+ghost use Rattle.std.specs.Prelude.{◌≡◌, IfOk, IfSome};
 ghost use Rattle.list_laws.specs.Lists.{In};
+ghost use Rattle.qgm_core.specs.Boxes.{overs_in};
 ghost use Rattle.qgm_props.specs.Lists.{is_none};
 ghost use Rattle.qgm_terms.specs.Shown.{cond, links, term};
 ghost use Rattle.qgm_terms.specs.Substitution.{cell_at};
@@ -11,10 +12,10 @@ ghost use Rattle.rule_push.specs.PushIntoLeftExact.{push_into_left_exact};
 ghost use Rattle.rule_push.specs.PushPlaces as spec;
 
 use crate::moves::{PushPlan, push};
-use crate::push_places::{is_input, way_out};
+use crate::push_places::{is_input, is_used_once, one_read};
 use crate::small::is_small_below;
 use crate::through::plan_through;
-use qgm_core::{BoxId, BoxKind, Gc, Graph, Gx, Head, Link, Node, OwnedQuant, QuantId};
+use qgm_core::{BoxId, BoxKind, Counts, Gc, Graph, Gx, Head, Link, Node, OwnedQuant, QuantId};
 use qgm_props::Inference;
 use qgm_term_search::{add_columns_of_cond, stands_in_cond};
 use qgm_terms::{Sought, both};
@@ -134,17 +135,29 @@ fn passes(
 }
 
 // Whether p, a conjunct of b, may go down to the left arm of an outer join.
-fn may_leave(alloc: Global, graph: &Graph, b: &Node, p: &Gc) -> Result<bool, OutOfMemory>
-    ensures { IfOk result (λ v. v ≡ spec.may_leave (left_passes graph.now) graph.now b.now (cond p.now)) }
+#[tactic(auto, using(crate::proofs::OneRead::leaves_by_one))]
+fn may_leave(
+    alloc: Global,
+    graph: &Graph,
+    uses: &mut Option<Counts>,
+    b: &Node,
+    p: &Gc,
+) -> Result<bool, OutOfMemory>
+    requires { IfSome uses.old (λ c. c ≡ overs_in graph.now.boxes) }
+    ensures uses { IfSome uses.new (λ c. c ≡ overs_in graph.now.boxes) }
+    ensures test { IfOk result (λ v. v ≡ spec.may_leave (left_passes graph.now) graph.now b.now (cond p.now)) }
 {
     graph.each_number_once();
-    let Some(r) = way_out(alloc, graph, b, p)? else {
+    let Some(r) = one_read(alloc, b, p)? else {
         return Ok(false);
     };
     let Some(c) = box_at(graph.nodes(), r.over) else {
         return Ok(false);
     };
-    passes(alloc, graph, p, r, c)
+    if !passes(alloc, graph, p, r, c)? {
+        return Ok(false);
+    }
+    is_used_once(alloc, graph, uses, r.over)
 }
 
 // What P4 does at a place.
@@ -187,8 +200,9 @@ impl Rule for PushIntoLeft {
             return Ok(out);
         };
         let list = node.parts.conds.as_slice();
+        let mut uses = None;
         for k in 0..list.len() {
-            let passes = may_leave(alloc, graph, node, &list[k])?;
+            let passes = may_leave(alloc, graph, &mut uses, node, &list[k])?;
             add_if(&mut out, passes, b, k + 1, 0)?;
         }
         Ok(out)

@@ -1,6 +1,7 @@
 // P1.
-ghost use Rattle.std.specs.Prelude.{◌≡◌, IfOk};
+ghost use Rattle.std.specs.Prelude.{◌≡◌, IfOk, IfSome};
 ghost use Rattle.list_laws.specs.Lists.{In};
+ghost use Rattle.qgm_core.specs.Boxes.{overs_in};
 ghost use Rattle.qgm_wellformed.specs.Sentences.{WellFormed};
 ghost use Rattle.qgm_terms.specs.Shown.{cond};
 ghost use Rattle.rule_api.specs.declared.rule_id.RuleId.TheVariants.{P1};
@@ -10,9 +11,9 @@ ghost use Rattle.rule_push.specs.PushIntoSelectExact.{push_into_select_exact};
 
 use crate::leaving::leaving_at;
 use crate::moves::{PushPlan, plan_push, push};
-use crate::push_places::way_out;
+use crate::push_places::{is_used_once, one_read};
 use crate::small::is_small;
-use qgm_core::{BoxId, Gc, Graph, Node, OwnedQuant};
+use qgm_core::{BoxId, Counts, Gc, Graph, Node, OwnedQuant};
 use qgm_props::Inference;
 use qgm_terms::{ROOM, substitute_cond};
 use rule_api::{Place, Rule, RuleId, add_if};
@@ -35,17 +36,29 @@ fn passes(alloc: Global, p: &Gc, r: OwnedQuant, c: &Node) -> Result<bool, OutOfM
 }
 
 // Whether p, a conjunct of b, may go down to a plain select.
-fn may_leave(alloc: Global, graph: &Graph, b: &Node, p: &Gc) -> Result<bool, OutOfMemory>
-    ensures { IfOk result (λ v. v ≡ spec.may_leave select_passes graph.now b.now (cond p.now)) }
+#[tactic(auto, using(crate::proofs::OneRead::leaves_by_one))]
+fn may_leave(
+    alloc: Global,
+    graph: &Graph,
+    uses: &mut Option<Counts>,
+    b: &Node,
+    p: &Gc,
+) -> Result<bool, OutOfMemory>
+    requires { IfSome uses.old (λ c. c ≡ overs_in graph.now.boxes) }
+    ensures uses { IfSome uses.new (λ c. c ≡ overs_in graph.now.boxes) }
+    ensures test { IfOk result (λ v. v ≡ spec.may_leave select_passes graph.now b.now (cond p.now)) }
 {
     graph.each_number_once();
-    let Some(r) = way_out(alloc, graph, b, p)? else {
+    let Some(r) = one_read(alloc, b, p)? else {
         return Ok(false);
     };
     let Some(c) = box_at(graph.nodes(), r.over) else {
         return Ok(false);
     };
-    passes(alloc, p, r, c)
+    if !passes(alloc, p, r, c)? {
+        return Ok(false);
+    }
+    is_used_once(alloc, graph, uses, r.over)
 }
 
 // What P1 does at a place.
@@ -90,8 +103,9 @@ impl Rule for PushIntoSelect {
             return Ok(out);
         };
         let list = node.parts.conds.as_slice();
+        let mut uses = None;
         for k in 0..list.len() {
-            let passes = may_leave(alloc, graph, node, &list[k])?;
+            let passes = may_leave(alloc, graph, &mut uses, node, &list[k])?;
             add_if(&mut out, passes, b, k + 1, 0)?;
         }
         Ok(out)

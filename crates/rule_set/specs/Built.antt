@@ -37,6 +37,9 @@ use Rattle.rule_subquery.specs.SetToExistsExact.{set_to_exists_exact}
 use Rattle.rule_trans.specs.EqualColumns.{AddsEqualColumns, MayEqualColumns}
 use Rattle.rule_trans.specs.EqualColumnsExact.{equal_columns_exact}
 use Rattle.rule_trans.specs.EqualColumnsPlaces.{equal_columns_pairs}
+use Rattle.rule_trans.specs.EqualLiteral.{AddsEqualLiteral, MayEqualLiteral}
+use Rattle.rule_trans.specs.EqualLiteralExact.{equal_literal_exact}
+use Rattle.rule_trans.specs.EqualLiteralPlaces.{equal_literal_pairs}
 
 -- a rule: its places at a box, its condition, its action, and that it has exactly the places where its condition holds
 pub record BuiltRule : Type 1 where
@@ -87,6 +90,9 @@ push_into_left = record { pairs = push_into_left_pairs; may = MayPushIntoLeft; a
 abbrev pub equal_columns : BuiltRule
 equal_columns = record { pairs = equal_columns_pairs; may = MayEqualColumns; act = AddsEqualColumns; exact = equal_columns_exact }
 
+abbrev pub equal_literal : BuiltRule
+equal_literal = record { pairs = equal_literal_pairs; may = MayEqualLiteral; act = AddsEqualLiteral; exact = equal_literal_exact }
+
 abbrev pub not_built : BuiltRule
 not_built = record { pairs = λ g b. []; may = λ p g. ⊥; act = λ p g h. ⊥; exact = λ g b i j once w. ((λ h. h), λ h. h) }
 
@@ -105,7 +111,7 @@ built P2 = push_through_group
 built P3 = push_into_arms
 built P4 = push_into_left
 built J1 = equal_columns
-built J2 = not_built
+built J2 = equal_literal
 built N1 = not_built
 built N2 = not_built
 built G1 = not_built

@@ -13,11 +13,11 @@ use rule_merge::{DropCopy, MergeSelect};
 use rule_plan::Plan;
 use rule_push::{PushIntoArms, PushIntoLeft, PushIntoSelect, PushThroughGroup};
 use rule_subquery::{ExistsToJoin, ScalarToGroup, ScalarToJoin, SetToExists};
-use rule_trans::EqualColumns;
+use rule_trans::{EqualColumns, EqualLiteral};
 use shared_types::OutOfMemory;
 use std::alloc::Global;
 
-/// The rules that are built: M1, M2, U1 to U4, L1 to L3, P1 to P4 and J1.
+/// The rules that are built: M1, M2, U1 to U4, L1 to L3, P1 to P4, J1 and J2.
 #[derive(Clone, Copy)]
 pub struct BuiltRules;
 
@@ -53,8 +53,8 @@ impl Rules for BuiltRules {
             RuleId::P3 => PushIntoArms.places(alloc, graph, known, b),
             RuleId::P4 => PushIntoLeft.places(alloc, graph, known, b),
             RuleId::J1 => EqualColumns.places(alloc, graph, known, b),
-            RuleId::J2
-            | RuleId::N1
+            RuleId::J2 => EqualLiteral.places(alloc, graph, known, b),
+            RuleId::N1
             | RuleId::N2
             | RuleId::G1
             | RuleId::G2
@@ -86,8 +86,8 @@ impl Rules for BuiltRules {
             RuleId::P3 => PushIntoArms.apply(alloc, graph, place),
             RuleId::P4 => PushIntoLeft.apply(alloc, graph, place),
             RuleId::J1 => EqualColumns.apply(alloc, graph, place),
-            RuleId::J2
-            | RuleId::N1
+            RuleId::J2 => EqualLiteral.apply(alloc, graph, place),
+            RuleId::N1
             | RuleId::N2
             | RuleId::G1
             | RuleId::G2

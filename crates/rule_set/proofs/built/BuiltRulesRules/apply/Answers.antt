@@ -8,5 +8,8 @@ use Rattle.rule_set.proofs.built.BuiltRulesRules.apply.Goals as goal
 pub returns-in-J1-clause-acts : goal.returns-in-J1-clause-acts
 returns-in-J1-clause-acts c = subst (λ (r : RuleId). OnOk c.apply-in-J1.result ((built r).act c.args.place c.args.graph.now c.apply-in-J1.new.graph)) (sym c.in-J1.is) c.apply-in-J1.ensures.acts
 
-pub returns-in-J2 : goal.returns-in-J2
-returns-in-J2 c = grind (arith, common_steps)
+pub returns-in-J2-clause-acts : goal.returns-in-J2-clause-acts
+returns-in-J2-clause-acts c = subst (λ (r : RuleId). OnOk c.apply-in-J2.result ((built r).act c.args.place c.args.graph.now c.apply-in-J2.new.graph)) (sym c.in-J2.is) c.apply-in-J2.ensures.acts
+
+pub returns-in-N1 : goal.returns-in-N1
+returns-in-N1 c = grind (arith, common_steps)
