@@ -10,3 +10,9 @@ returns-in-J1-clause-acts c = subst (λ (r : RuleId). OnOk c.apply-in-J1.result 
 
 pub returns-in-J2 : goal.returns-in-J2
 returns-in-J2 c = grind (arith, common_steps)
+
+pub returns-in-N1-clause-acts : goal.returns-in-N1-clause-acts
+returns-in-N1-clause-acts c = subst (λ (r : RuleId). OnOk c.apply-in-N1.result ((built r).act c.args.place c.args.graph.now c.apply-in-N1.new.graph)) (sym c.in-N1.is) c.apply-in-N1.ensures.acts
+
+pub returns-in-N2-clause-acts : goal.returns-in-N2-clause-acts
+returns-in-N2-clause-acts c = subst (λ (r : RuleId). OnOk c.apply-in-N2.result ((built r).act c.args.place c.args.graph.now c.apply-in-N2.new.graph)) (sym c.in-N2.is) c.apply-in-N2.ensures.acts
