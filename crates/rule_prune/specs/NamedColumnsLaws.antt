@@ -157,7 +157,7 @@ in-firsts qs k (n ∷ ns) i = elim (is_scalar_of qs n) as (λ b. is_scalar_of qs
 ] refl i
 
 -- a box asks for the type of a column exactly where the column is listed
-box-lists : (qs : List ℕ) (q k : ℕ) (n : Node) → holds q qs ≡ true → types_asked q k n ≡ true → In k (named_in_box qs n)
+pub box-lists : (qs : List ℕ) (q k : ℕ) (n : Node) → holds q qs ≡ true → types_asked q k n ≡ true → In k (named_in_box qs n)
 box-lists qs q k n h t = elim (or_cases (list_any (is_at q k) (columns_of n)) ((1 == k) && list_any (is_scalar q) (nodes_of n)) (sym (asked-listed q k n) ∙ t)) [
   | inl a ↦ in-left k (places_of qs (columns_of n)) (firsts_of qs (nodes_of n)) (places-in qs q k (columns_of n) h a)
   | inr a ↦ (
@@ -165,7 +165,7 @@ box-lists qs q k n h t = elim (or_cases (list_any (is_at q k) (columns_of n)) ((
       in-right k (places_of qs (columns_of n)) (firsts_of qs (nodes_of n)) (subst (λ z. In z (firsts_of qs (nodes_of n))) (eqb-true 1 k e.0) (firsts-in qs q (nodes_of n) h e.1)))
 ]
 
-lists-box : (qs : List ℕ) (k : ℕ) (n : Node) → In k (named_in_box qs n) → (q : ℕ) × ((holds q qs ≡ true) × (types_asked q k n ≡ true))
+pub lists-box : (qs : List ℕ) (k : ℕ) (n : Node) → In k (named_in_box qs n) → (q : ℕ) × ((holds q qs ≡ true) × (types_asked q k n ≡ true))
 lists-box qs k n i = elim (in-append k (places_of qs (columns_of n)) (firsts_of qs (nodes_of n)) i) [
   | inl j ↦ (
       let r = in-places qs k (columns_of n) j in

@@ -18,6 +18,10 @@ use Rattle.rule_merge.specs.DropCopy.{DropsCopy, MayDropCopy, drop_copy_pairs}
 use Rattle.rule_merge.specs.DropCopyExact.{drop_copy_exact}
 use Rattle.rule_merge.specs.MergeSelect.{MayMergeSelect, MergesSelect, merge_select_pairs}
 use Rattle.rule_merge.specs.MergeSelectExact.{merge_select_exact}
+use Rattle.rule_prune.specs.DropColumn.{DropsColumn, MayDropColumn, drop_column_pairs}
+use Rattle.rule_prune.specs.DropColumnExact.{drop_column_exact}
+use Rattle.rule_prune.specs.DropQuantifier.{DropsQuantifier, MayDropQuantifier, drop_quantifier_pairs}
+use Rattle.rule_prune.specs.DropQuantifierExact.{drop_quantifier_exact}
 use Rattle.rule_push.specs.PushIntoArms.{ActsPushIntoArms, MayPushIntoArms, push_into_arms_pairs}
 use Rattle.rule_push.specs.PushIntoArmsExact.{push_into_arms_exact}
 use Rattle.rule_push.specs.PushIntoLeft.{ActsPushIntoLeft, MayPushIntoLeft, push_into_left_pairs}
@@ -93,6 +97,12 @@ equal_columns = record { pairs = equal_columns_pairs; may = MayEqualColumns; act
 abbrev pub equal_literal : BuiltRule
 equal_literal = record { pairs = equal_literal_pairs; may = MayEqualLiteral; act = AddsEqualLiteral; exact = equal_literal_exact }
 
+abbrev pub drop_column : BuiltRule
+drop_column = record { pairs = drop_column_pairs; may = MayDropColumn; act = DropsColumn; exact = drop_column_exact }
+
+abbrev pub drop_quantifier : BuiltRule
+drop_quantifier = record { pairs = drop_quantifier_pairs; may = MayDropQuantifier; act = DropsQuantifier; exact = drop_quantifier_exact }
+
 abbrev pub not_built : BuiltRule
 not_built = record { pairs = λ g b. []; may = λ p g. ⊥; act = λ p g h. ⊥; exact = λ g b i j once w. ((λ h. h), λ h. h) }
 
@@ -112,8 +122,8 @@ built P3 = push_into_arms
 built P4 = push_into_left
 built J1 = equal_columns
 built J2 = equal_literal
-built N1 = not_built
-built N2 = not_built
+built N1 = drop_column
+built N2 = drop_quantifier
 built G1 = not_built
 built G2 = not_built
 built G3 = not_built

@@ -11,13 +11,14 @@ use rule_distinct::{DropKeyDistinct, DropUnionDistinct, PermitDistinct};
 use rule_engine::{Rules, Trace, rewrite};
 use rule_merge::{DropCopy, MergeSelect};
 use rule_plan::Plan;
+use rule_prune::{DropColumn, DropQuantifier};
 use rule_push::{PushIntoArms, PushIntoLeft, PushIntoSelect, PushThroughGroup};
 use rule_subquery::{ExistsToJoin, ScalarToGroup, ScalarToJoin, SetToExists};
 use rule_trans::{EqualColumns, EqualLiteral};
 use shared_types::OutOfMemory;
 use std::alloc::Global;
 
-/// The rules that are built: M1, M2, U1 to U4, L1 to L3, P1 to P4, J1 and J2.
+/// The rules that are built: M1, M2, U1 to U4, L1 to L3, P1 to P4, J1, J2, N1 and N2.
 #[derive(Clone, Copy)]
 pub struct BuiltRules;
 
@@ -54,13 +55,9 @@ impl Rules for BuiltRules {
             RuleId::P4 => PushIntoLeft.places(alloc, graph, known, b),
             RuleId::J1 => EqualColumns.places(alloc, graph, known, b),
             RuleId::J2 => EqualLiteral.places(alloc, graph, known, b),
-            RuleId::N1
-            | RuleId::N2
-            | RuleId::G1
-            | RuleId::G2
-            | RuleId::G3
-            | RuleId::G4
-            | RuleId::G5 => Ok(Vec::new(alloc)),
+            RuleId::N1 => DropColumn.places(alloc, graph, known, b),
+            RuleId::N2 => DropQuantifier.places(alloc, graph, known, b),
+            RuleId::G1 | RuleId::G2 | RuleId::G3 | RuleId::G4 | RuleId::G5 => Ok(Vec::new(alloc)),
         }
     }
 
@@ -87,13 +84,9 @@ impl Rules for BuiltRules {
             RuleId::P4 => PushIntoLeft.apply(alloc, graph, place),
             RuleId::J1 => EqualColumns.apply(alloc, graph, place),
             RuleId::J2 => EqualLiteral.apply(alloc, graph, place),
-            RuleId::N1
-            | RuleId::N2
-            | RuleId::G1
-            | RuleId::G2
-            | RuleId::G3
-            | RuleId::G4
-            | RuleId::G5 => Ok(()),
+            RuleId::N1 => DropColumn.apply(alloc, graph, place),
+            RuleId::N2 => DropQuantifier.apply(alloc, graph, place),
+            RuleId::G1 | RuleId::G2 | RuleId::G3 | RuleId::G4 | RuleId::G5 => Ok(()),
         }
     }
 }

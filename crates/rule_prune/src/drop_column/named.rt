@@ -1,5 +1,5 @@
 // Which columns of a box are named, and whether a set operation ranges over it.
-ghost use Rattle.std.specs.Prelude.{ℕ, ◌≡◌, ◌≤◌, ◌++◌, true, filter, length, IfOk, IfSome, IsTrue, None, OnOk};
+ghost use Rattle.std.specs.Prelude.{ℕ, ◌≡◌, ◌≤◌, ◌++◌, [], true, length, IfOk, IfSome, IsTrue, None, OnOk};
 ghost use Rattle.list_laws.specs.Lists.{holds};
 ghost use Rattle.qgm_core.specs.Edits as edits;
 ghost use Rattle.qgm_edit_laws.specs.Changes as changes;
@@ -49,17 +49,6 @@ fn mark_over(ranges: &[OwnedQuant], b: BoxId, marks: &mut Marks) -> Result<(), O
         }
     }
     Ok(())
-}
-
-// The quantifiers over b.
-fn quants_over(alloc: Global, nodes: &[Node], b: BoxId) -> Result<Marks, OutOfMemory>
-    ensures { IfOk result (λ m. m ≡ edits.quants_over b nodes.now) }
-{
-    let mut marks = Marks::new(alloc);
-    for node in nodes {
-        mark_over(node.quants.as_slice(), b, &mut marks)?;
-    }
-    Ok(marks)
 }
 
 // Marks the places of those of these columns that are of such quantifiers.
@@ -129,24 +118,27 @@ fn named_in(alloc: Global, nodes: &[Node], quants: &Marks) -> Result<Marks, OutO
     Ok(named)
 }
 
-// Those that the boxes name which have a quantifier over b: mostly all that are named.
-fn named_above(
+// The quantifiers over b. It marks columns of b that their owners name: mostly all that are named.
+fn quants_over(
     alloc: Global,
     nodes: &[Node],
     b: BoxId,
-    quants: &Marks,
+    named: &mut Marks,
 ) -> Result<Marks, OutOfMemory>
-    ensures { IfOk result (λ m. m ≡ spec.named_in quants.now (filter (spec.has_over b) nodes.now)) }
+    requires { named.old ≡ [] }
+    ensures quants { IfOk result (λ m. m ≡ edits.quants_over b nodes.now) }
+    ensures named { OnOk result ((k : ℕ) → holds k named.new ≡ true → holds k (spec.named_of b nodes.now) ≡ true) }
 {
-    let mut named = Marks::new(alloc);
+    let mut quants = Marks::new(alloc);
     let mut columns = Vec::new(alloc);
     let mut found = Vec::new(alloc);
     for node in nodes {
         if has_over(node, b) {
-            mark_box(node, quants, &mut columns, &mut found, &mut named)?;
+            mark_over(node.quants.as_slice(), b, &mut quants)?;
+            mark_box(node, &quants, &mut columns, &mut found, named)?;
         }
     }
-    Ok(named)
+    Ok(quants)
 }
 
 // Whether all columns that may go are among these.
@@ -171,8 +163,8 @@ pub fn named_unless_all(
     ensures mask { IfOk result (λ o. IfSome o (λ m. m ≡ spec.named_of node.now.id nodes.now)) }
     ensures all { IfOk result (λ o. o ≡ None → AllNamed nodes.now node.now) }
 {
-    let quants = quants_over(alloc, nodes, node.id)?;
-    let above = named_above(alloc, nodes, node.id, &quants)?;
+    let mut above = Marks::new(alloc);
+    let quants = quants_over(alloc, nodes, node.id, &mut above)?;
     if all_among(node, &above) {
         return Ok(None);
     }

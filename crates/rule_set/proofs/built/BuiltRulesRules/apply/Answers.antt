@@ -11,5 +11,11 @@ returns-in-J1-clause-acts c = subst (λ (r : RuleId). OnOk c.apply-in-J1.result 
 pub returns-in-J2-clause-acts : goal.returns-in-J2-clause-acts
 returns-in-J2-clause-acts c = subst (λ (r : RuleId). OnOk c.apply-in-J2.result ((built r).act c.args.place c.args.graph.now c.apply-in-J2.new.graph)) (sym c.in-J2.is) c.apply-in-J2.ensures.acts
 
-pub returns-in-N1 : goal.returns-in-N1
-returns-in-N1 c = grind (arith, common_steps)
+pub returns-in-N1-clause-acts : goal.returns-in-N1-clause-acts
+returns-in-N1-clause-acts c = subst (λ (r : RuleId). OnOk c.apply-in-N1.result ((built r).act c.args.place c.args.graph.now c.apply-in-N1.new.graph)) (sym c.in-N1.is) c.apply-in-N1.ensures.acts
+
+pub returns-in-N2-clause-acts : goal.returns-in-N2-clause-acts
+returns-in-N2-clause-acts c = subst (λ (r : RuleId). OnOk c.apply-in-N2.result ((built r).act c.args.place c.args.graph.now c.apply-in-N2.new.graph)) (sym c.in-N2.is) c.apply-in-N2.ensures.acts
+
+pub returns-in-G1 : goal.returns-in-G1
+returns-in-G1 c = grind (arith, common_steps)
