@@ -1,0 +1,5 @@
+pub mod OneText
+mod Along
+mod Back
+mod LikeText
+mod Meeting
