@@ -4,11 +4,8 @@ use Rattle.std.proofs.lemmas.Bool.{cases_Bool}
 use Rattle.list_laws.specs.Lists.{holds}
 use Rattle.list_laws.proofs.Membership.{eq-itself}
 use Rattle.graph_print.specs.Places.{place_in}
+pub use Rattle.graph_alike.specs.OneToOne.{Along, more, none}
 use Rattle.graph_alike.specs.OneToOne.{IsOneToOne}
-
-pub data Along (R : ℕ → ℕ → Type 0) : List ℕ → List ℕ → Type 0 where
-  none : Along R [] []
-  more : (x y : ℕ) (xs ys : List ℕ) → R x y → Along R xs ys → Along R (x ∷ xs) (y ∷ ys)
 
 pub along-append : (R : ℕ → ℕ → Type 0) (xs ys us vs : List ℕ) → Along R xs ys → Along R us vs → Along R (xs ++ us) (ys ++ vs)
 along-append R [] [] us vs none b = b

@@ -3,3 +3,4 @@ mod Along
 mod Back
 mod LikeText
 mod Meeting
+mod Walks

@@ -117,7 +117,7 @@ module _ (g h : QueryGraph) (w : Both g h) where
   overs-meet (o ∷ os) [] l f = absurd l
   overs-meet (o ∷ os) (p ∷ ps) l f = more o.over p.over (map (λ r. r.over) os) (map (λ r. r.over) ps) (f zero o p refl refl) (overs-meet os ps l.2 (λ i u v x y. f (suc i) u v x y))
 
-  overs-along : (n m : Node) → In n g.boxes → In m h.boxes → M n.id m.id → Along M (overs_of n) (overs_of m)
+  pub overs-along : (n m : Node) → In n g.boxes → In m h.boxes → M n.id m.id → Along M (overs_of n) (overs_of m)
   overs-along n m i j c = overs-meet n.quants m.quants (w.same.alike n m i j c).quants (λ e o p x y. k.under n m e o p c i j x y)
 
   ids-along : (os ps : List OwnedQuant) → LikeQuants S os ps → Along S (map (λ r. r.id) os) (map (λ r. r.id) ps)
@@ -148,7 +148,7 @@ module _ (g h : QueryGraph) (w : Both g h) where
   as-along : (xs us ys vs : List ℕ) → xs ≡ us → ys ≡ vs → Along M us vs → Along M xs ys
   as-along xs us ys vs e f l = subst (λ z. Along M z ys) (sym e) (subst (λ z. Along M us z) (sym f) l)
 
-  abbrev Below : List Node → QueryGraph → Type 0
+  abbrev pub Below : List Node → QueryGraph → Type 0
   Below ns j = (n : Node) → In n ns → In n j.boxes
 
   behind : (n : Node) (ns : List Node) (a : ℕ) → has_box (n ∷ ns) a ≡ true → (n.id == a) ≡ false → has_box ns a ≡ true
@@ -220,11 +220,11 @@ module _ (g h : QueryGraph) (w : Both g h) where
 
   -- ---- types
 
-  abbrev froms : (ms : List Node) → Below ms h → List ℕ
+  abbrev pub froms : (ms : List Node) → Below ms h → List ℕ
   froms [] sub = []
   froms (m ∷ ms) sub = (w.one.second m (sub m (inl refl))).0.id ∷ froms ms (λ z i. sub z (inr i))
 
-  froms-along : (ms : List Node) (sub : Below ms h) → Along M (froms ms sub) (numbers ms)
+  pub froms-along : (ms : List Node) (sub : Below ms h) → Along M (froms ms sub) (numbers ms)
   froms-along [] sub = none
   froms-along (m ∷ ms) sub = more (w.one.second m (sub m (inl refl))).0.id m.id (froms ms (λ z i. sub z (inr i))) (numbers ms) (w.one.second m (sub m (inl refl))).1.1 (froms-along ms (λ z i. sub z (inr i)))
 
