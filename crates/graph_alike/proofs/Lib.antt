@@ -3,4 +3,4 @@ mod Along
 mod Back
 mod LikeText
 mod Meeting
-mod Walks
+pub mod Walks
