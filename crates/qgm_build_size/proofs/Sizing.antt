@@ -48,6 +48,12 @@ coalesced_turn xs i x last next old new end low is e f so_far =
     ap₂ (λ (z y : Size). plus z (coalesced_size y rest)) e f ∙ plus_turn old part (coalesced_size (value_size (shown.value x)) rest)
     ∙ ap (λ (ys : List Value). plus old (coalesced_size last (shown.value_list ys))) (sym (next_there xs i x low is)) ∙ so_far
 
+-- what was so far, with one more part
+pub turn_more : {X : Type 0} (next : Size → List X → Size) (rest : List X → Size) (xs : List X) (i : ℕ) (x : X) (new new_end end : Size) → i < length xs → x ≡ get_or xs i x
+    → rest (x ∷ drop (i + 1) xs) ≡ next new_end (drop (i + 1) xs) → new ≡ new_end → rest (drop i xs) ≡ end → next new (drop (i + 1) xs) ≡ end
+turn_more {X} next rest xs i x new new_end end low is e f so_far =
+    ap (λ (s : Size). next s (drop (i + 1) xs)) f ∙ sym e ∙ ap rest (sym (next_there xs i x low is)) ∙ so_far
+
 pub ruleset sizing = (plus_first, plus_last, plus_turn)
 
 -- what is made of three parts, each of which is there
@@ -58,3 +64,20 @@ of_three (Ok s) (Err e) b c F x y z h i j k = absurd h
 of_three (Ok s) (Ok u) (Err e) c F x y z h i j k = absurd h
 of_three (Ok s) (Ok u) (Ok v) (Err e) F x y z h i j k = absurd h
 of_three (Ok s) (Ok u) (Ok v) (Ok w) F x y z h i j k = h ∙ ap (λ m. F m v w) i ∙ ap (λ m. F x m w) j ∙ ap (F x y) k
+
+-- of a first part, of what is made of it and others, and of a last part
+pub of_compared : {S X Y Z E : Type 0} (r : Result S E) (a : Result X E) (b : Result Y E) (c : Result Z E) (F : X → Y → Z → S) (G : X → Y) (x : X) (z : Z)
+    → IfOk r (λ s. IsOkAnd a (λ u. IsOkAnd b (λ v. IsOkAnd c (λ w. s ≡ F u v w)))) → IfOk a (λ u. u ≡ x) → IfOk b (λ v. IsOkAnd a (λ u. v ≡ G u)) → IfOk c (λ w. w ≡ z) → IfOk r (λ s. s ≡ F x (G x) z)
+of_compared (Err e) a b c F G x z h i j k = tt
+of_compared (Ok s) (Err e) b c F G x z h i j k = absurd h
+of_compared (Ok s) (Ok u) (Err e) c F G x z h i j k = absurd h
+of_compared (Ok s) (Ok u) (Ok v) (Err e) F G x z h i j k = absurd h
+of_compared (Ok s) (Ok u) (Ok v) (Ok w) F G x z h i j k = h ∙ ap (λ m. F u m w) j ∙ ap (λ m. F m (G m) w) i ∙ ap (F x (G x)) k
+
+-- the same without a last part
+pub of_among : {S X Y E : Type 0} (r : Result S E) (a : Result X E) (b : Result Y E) (F : X → Y → S) (G : X → Y) (x : X)
+    → IfOk r (λ s. IsOkAnd a (λ u. IsOkAnd b (λ v. s ≡ F u v))) → IfOk a (λ u. u ≡ x) → IfOk b (λ v. IsOkAnd a (λ u. v ≡ G u)) → IfOk r (λ s. s ≡ F x (G x))
+of_among (Err e) a b F G x h i j = tt
+of_among (Ok s) (Err e) b F G x h i j = absurd h
+of_among (Ok s) (Ok u) (Err e) F G x h i j = absurd h
+of_among (Ok s) (Ok u) (Ok v) F G x h i j = h ∙ ap (F u) j ∙ ap (λ m. F m (G m)) i

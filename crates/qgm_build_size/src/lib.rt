@@ -1,4 +1,4 @@
-//! How many terms and conditions a query is written with, abbreviations written out.
+//! How many nodes the cells and conditions have that a query is written with, abbreviations written out.
 #![tactic(auto)]
 
 mod sizes;

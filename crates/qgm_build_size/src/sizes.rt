@@ -1,18 +1,18 @@
-// How many terms and conditions a query is written with, abbreviations written out. A copy doubles what
-// it is made of, so nested abbreviations can ask for more of them than there is memory.
-ghost use Rattle.std.specs.Prelude.{◌≡◌, ◌+◌, suc, IfOk, IsOkAnd};
+// How many nodes the cells and conditions have that a query is written with, abbreviations written out.
+// A copy doubles what it is made of, so nested abbreviations can ask for more than there is memory.
+ghost use Rattle.std.specs.Prelude.{◌≡◌, ◌+◌, suc, true, IfOk, IsOkAnd};
 ghost use Rattle.sql_meaning.specs.ResolvedShown as shown;
 ghost use Rattle.qgm_build_size.specs.Sizes as spec;
 
 use shared_types::OutOfMemory;
 use sql_meaning::{Addend, Arm, Choice, From, Multiplier, Query, Test, Value};
 
-/// How many terms, conditions and columns the boxes of a graph may be written with. Past them the answer
-/// is want of memory.
+/// How many nodes and columns the boxes of a graph may be written with. Past them the answer is want of
+/// memory.
 pub const MOST: usize = 4_194_304;
 
-/// How many terms and conditions a part of a query is written with: its own, where a subquery or an
-/// aggregate is one, and those of the boxes below it, which are made once however often it is written.
+/// How many nodes a part of a query is written with: its own, where a subquery or an aggregate is one,
+/// and those of the boxes below it, which are made once however often it is written.
 #[derive(Clone, Copy)]
 pub struct Size {
     pub own: usize,
@@ -61,6 +61,26 @@ fn again(a: Size) -> Size
         own: a.own,
         below: 0,
     }
+}
+
+// The boxes below alone.
+fn below_it(a: Size) -> Size
+    ensures { result ≡ spec.below_it a }
+{
+    Size {
+        own: 0,
+        below: a.below,
+    }
+}
+
+// The first of some conditions, or one more of them.
+fn joined(first: bool, so_far: Size, a: Size) -> Result<Size, OutOfMemory>
+    ensures { IfOk result (λ s. s ≡ spec.joined first so_far a) }
+{
+    if first {
+        return Ok(a);
+    }
+    plus(so_far, more(1, a)?)
 }
 
 // Boxes of this many.
@@ -126,9 +146,19 @@ fn simple(
     list: Result<Size, OutOfMemory>,
     last: Result<Size, OutOfMemory>,
 ) -> Result<Size, OutOfMemory>
-    ensures { IfOk result (λ s. IsOkAnd a (λ x. IsOkAnd list (λ y. IsOkAnd last (λ z. s ≡ spec.more 1 (spec.plus x (spec.plus y z)))))) }
+    ensures { IfOk result (λ s. IsOkAnd a (λ x. IsOkAnd list (λ y. IsOkAnd last (λ z. s ≡ spec.more 1 (spec.plus (spec.below_it x) (spec.plus y z)))))) }
 {
-    one(1, three(a, list, last))
+    more(1, plus(below_it(a?), plus(list?, last?)?)?)
+}
+
+// Copies of an operand, each in a comparison.
+fn compared_with(
+    a: Result<Size, OutOfMemory>,
+    list: Result<Size, OutOfMemory>,
+) -> Result<Size, OutOfMemory>
+    ensures { IfOk result (λ s. IsOkAnd a (λ x. IsOkAnd list (λ y. s ≡ spec.plus (spec.below_it x) y))) }
+{
+    plus(below_it(a?), list?)
 }
 
 // An abbreviation that writes its first part twice.
@@ -226,8 +256,8 @@ fn value(x: &Value) -> Result<Size, OutOfMemory>
 {
     match x {
         Value::Number(_) | Value::Text(_) | Value::Null(_) | Value::Column(_, _) => Ok(over(0)),
-        Value::Sum(a, list) => both(1, value(a), addends(list.as_slice())),
-        Value::Product(a, list) => both(1, value(a), multipliers(list.as_slice())),
+        Value::Sum(a, list) => beside(value(a), addends(list.as_slice())),
+        Value::Product(a, list) => beside(value(a), multipliers(list.as_slice())),
         Value::Negative(a) => one(1, value(a)),
         Value::Searched(list, last) => both(1, arms(list.as_slice()), value(last)),
         Value::Simple(a, list, last) => {
@@ -249,7 +279,8 @@ fn addends(list: &[Addend]) -> Result<Size, OutOfMemory>
 {
     let mut total = nothing();
     for x in list {
-        total = plus(total, value(&x.value)?)?;
+        let next = more(1, value(&x.value)?)?;
+        total = plus(total, next)?;
     }
     Ok(total)
 }
@@ -261,20 +292,20 @@ fn multipliers(list: &[Multiplier]) -> Result<Size, OutOfMemory>
 {
     let mut total = nothing();
     for x in list {
-        total = plus(total, value(&x.value)?)?;
+        let next = more(1, value(&x.value)?)?;
+        total = plus(total, next)?;
     }
     Ok(total)
 }
 
-// A list, with n more for each.
+// A list.
 #[cycle(sizes)]
-fn values(n: usize, list: &[Value]) -> Result<Size, OutOfMemory>
-    ensures { IfOk result (λ s. s ≡ spec.values_size n (shown.value_list list.now)) }
+fn values(list: &[Value]) -> Result<Size, OutOfMemory>
+    ensures { IfOk result (λ s. s ≡ spec.values_size (shown.value_list list.now)) }
 {
     let mut total = nothing();
     for x in list {
-        let next = more(n, value(x)?)?;
-        total = plus(total, next)?;
+        total = plus(total, value(x)?)?;
     }
     Ok(total)
 }
@@ -315,12 +346,28 @@ fn compared(operand: Result<Size, OutOfMemory>, list: &[Choice]) -> Result<Size,
     choices(operand?.own, list)
 }
 
-// Values that are each compared with a copy of this operand.
+// Values that are each compared with a copy of n.
+#[cycle(sizes)]
+fn equals(n: usize, list: &[Value]) -> Result<Size, OutOfMemory>
+    ensures { IfOk result (λ s. s ≡ spec.among_size n true (spec.more 2 spec.nothing) (shown.value_list list.now)) }
+{
+    let each = after(n)?;
+    let mut total = more(2, nothing())?;
+    let mut first = true;
+    for x in list {
+        let next = more(each, value(x)?)?;
+        total = joined(first, total, next)?;
+        first = false;
+    }
+    Ok(total)
+}
+
+// The same, each compared with a copy of this operand.
 #[cycle(sizes)]
 fn among(operand: Result<Size, OutOfMemory>, list: &[Value]) -> Result<Size, OutOfMemory>
-    ensures { IfOk result (λ s. IsOkAnd operand (λ x. s ≡ spec.values_size (suc x.own) (shown.value_list list.now))) }
+    ensures { IfOk result (λ s. IsOkAnd operand (λ x. s ≡ spec.among_size x.own true (spec.more 2 spec.nothing) (shown.value_list list.now))) }
 {
-    values(after(operand?.own)?, list)
+    equals(operand?.own, list)
 }
 
 // A first part of COALESCE, and the others.
@@ -351,8 +398,8 @@ fn test(p: &Test) -> Result<Size, OutOfMemory>
     ensures { IfOk result (λ s. s ≡ spec.test_size (shown.test p.now)) }
 {
     match p {
-        Test::All(list) => one(1, tests(list.as_slice())),
-        Test::Any(list) => one(2, tests(list.as_slice())),
+        Test::All(list) => tests(1, list.as_slice()),
+        Test::Any(list) => tests(2, list.as_slice()),
         Test::Not(p) => one(1, test(p)),
         Test::Compare(a, _, b) | Test::Like(a, b) => both(1, value(a), value(b)),
         Test::Quantified(a, _, _, y) | Test::AmongRows(a, y) => {
@@ -361,21 +408,24 @@ fn test(p: &Test) -> Result<Size, OutOfMemory>
         Test::Between(a, b, c) => between(value(a), value(b), value(c)),
         Test::Among(a, list) => {
             let a = value(a);
-            both(2, a, among(a, list.as_slice()))
+            compared_with(a, among(a, list.as_slice()))
         }
         Test::IsNull(a) => one(1, value(a)),
         Test::Exists(y) => one(1, scalar(query(y))),
     }
 }
 
-// Conditions.
+// Conditions that are joined; n where there is none.
 #[cycle(sizes)]
-fn tests(list: &[Test]) -> Result<Size, OutOfMemory>
-    ensures { IfOk result (λ s. s ≡ spec.tests_size (shown.test_list list.now)) }
+fn tests(n: usize, list: &[Test]) -> Result<Size, OutOfMemory>
+    ensures { IfOk result (λ s. s ≡ spec.tests_size true (spec.more n spec.nothing) (shown.test_list list.now)) }
 {
-    let mut total = nothing();
+    let mut total = more(n, nothing())?;
+    let mut first = true;
     for p in list {
-        total = plus(total, test(p)?)?;
+        let next = test(p)?;
+        total = joined(first, total, next)?;
+        first = false;
     }
     Ok(total)
 }
@@ -412,12 +462,12 @@ fn query(x: &Query) -> Result<usize, OutOfMemory>
 {
     match x {
         Query::Block(_, list, tables, by) => block_of(
-            values(0, list.as_slice()),
+            values(list.as_slice()),
             froms(tables.as_slice()),
             test(by),
         ),
         Query::Grouped(_, list, tables, by, _, _, having) => grouped_of(
-            values(0, list.as_slice()),
+            values(list.as_slice()),
             froms(tables.as_slice()),
             test(by),
             test(having),
@@ -428,8 +478,8 @@ fn query(x: &Query) -> Result<usize, OutOfMemory>
     }
 }
 
-/// What is left of this many terms and conditions after those that a query is written with. It fails
-/// where they are more.
+/// What is left of so many nodes after those that a query is written with. It fails where they are
+/// more.
 pub fn left_after(x: &Query, left: usize) -> Result<usize, OutOfMemory>
     ensures { IfOk result (λ n. n + spec.query_size (shown.query x.now) ≡ left) }
 {

@@ -1,0 +1,6 @@
+pub mod OneText
+mod Along
+mod Back
+mod LikeText
+mod Meeting
+pub mod Walks
