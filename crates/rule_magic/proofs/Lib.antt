@@ -15,6 +15,7 @@ pub mod AbsorbSelectFormed
 pub mod AbsorbSelectKeeps
 pub mod FedCondition
 pub mod HeadSteps
+pub mod SetFormed
 pub mod Amid
 pub mod AbsorbSelectActs
 pub mod PairFormed
@@ -27,6 +28,8 @@ pub mod JoinedFormed
 pub mod AbsorbKeylessFormed
 pub mod MagicWidth
 pub mod AbsorbKeylessKeeps
+pub mod AbsorbSetFormed
+pub mod AbsorbSetKeeps
 pub mod AbsorbGroupBelow
 pub mod AbsorbGroupActs
 pub mod CompactMeasure

@@ -3,7 +3,7 @@ ghost use Rattle.rule_magic.specs.AbsorbGroup.{GroupBags, KeylessBags, GroupLowe
 ghost use Rattle.rule_magic.specs.AbsorbMeasure.{CompactLowers, GroupFiringLowers, SelectFiringLowers};
 ghost use Rattle.rule_magic.specs.AbsorbOuterJoin.{AbsorbsArms, AbsorbsLeft};
 ghost use Rattle.rule_magic.specs.AbsorbSelect.{SelectBags, SelectLowers, SelectPreserves};
-ghost use Rattle.rule_magic.specs.AbsorbSetOperation.{AbsorbsSets, SetsGiven};
+ghost use Rattle.rule_magic.specs.AbsorbSetOperation.{AbsorbsSets, SetLowers, SetPreserves, SetsGiven};
 ghost use Rattle.rule_magic.specs.CalmFires.{CalmFires};
 ghost use Rattle.rule_magic.specs.FeedLaws.{FeedBags, FeedShaped, FeedSound, FeedTyped};
 ghost use Rattle.rule_magic.specs.FeedMeasure.{FeedMeasured, FeedingLowers, SplitMeasured};
@@ -46,6 +46,7 @@ pub fn absorbing_laws()
     ensures keyless_preserves { KeylessPreserves }
     ensures sets { AbsorbsSets }
     ensures sets_given { SetsGiven }
+    ensures set_preserves { SetPreserves }
     ensures outer_left { AbsorbsLeft }
     ensures outer_arms { AbsorbsArms }
 {}
@@ -58,6 +59,7 @@ pub fn measure_laws()
     ensures select { SelectLowers }
     ensures group { GroupLowers }
     ensures keyless { KeylessLowers }
+    ensures set { SetLowers }
     ensures compacted { CompactLowers }
     ensures select_fires { SelectFiringLowers }
     ensures group_fires { GroupFiringLowers }
