@@ -15,6 +15,8 @@ pub mod AbsorbSelectFormed
 pub mod AbsorbSelectKeeps
 pub mod FedCondition
 pub mod HeadSteps
+pub mod RenamedMade
+pub mod RenamedTyped
 pub mod SetFormed
 pub mod Amid
 pub mod AbsorbSelectActs

@@ -8,6 +8,7 @@ ghost use Rattle.rule_magic.specs.CalmFires.{CalmFires};
 ghost use Rattle.rule_magic.specs.FeedLaws.{FeedBags, FeedShaped, FeedSound, FeedTyped};
 ghost use Rattle.rule_magic.specs.FeedMeasure.{FeedMeasured, FeedingLowers, SplitMeasured};
 ghost use Rattle.rule_magic.specs.FeedSample.{Fed};
+ghost use Rattle.rule_magic.specs.Renamed.{RenamedIsMade, RenamedIsTyped};
 ghost use Rattle.rule_magic.specs.Split.{SplitBags, SplitRows, SplitShaped, SplitSound, SplitTyped};
 ghost use Rattle.rule_magic.specs.UnderTags.{BothArmsUnderTags, DistinctUnderTags, KeyedGroupsUnderTags, LeftArmUnderTags, SelectsUnderTags, SetsUnderTags, SingleGroupsUnderTags};
 
@@ -36,7 +37,7 @@ pub fn row_laws()
     ensures both_arms { BothArmsUnderTags }
 {}
 
-/// G2 to G5: the box that stands in the place of a fed box has its bag, in every environment. G2, and G3 with keys and without, preserve the graph; the conditions of G4 give what its bag needs. It does nothing.
+/// G2 to G5: the box that stands in the place of a fed box has its bag, in every environment. G2, and G3 with keys and without, preserve the graph, and so does G4 where its right operand is closed; the conditions of G4 give what its bag needs. It does nothing.
 pub fn absorbing_laws()
     ensures select { SelectBags }
     ensures select_preserves { SelectPreserves }
@@ -47,11 +48,13 @@ pub fn absorbing_laws()
     ensures sets { AbsorbsSets }
     ensures sets_given { SetsGiven }
     ensures set_preserves { SetPreserves }
+    ensures renamed { RenamedIsMade }
+    ensures renamed_types { RenamedIsTyped }
     ensures outer_left { AbsorbsLeft }
     ensures outer_arms { AbsorbsArms }
 {}
 
-/// Splitting leaves the parts of the measure as they are; feeding adds one fed box and changes nothing else of them, so it lowers it, and so do G2 and G3. It does nothing.
+/// Splitting leaves the parts of the measure as they are; feeding adds one fed box and changes nothing else of them, so it lowers it. So do G2, G3, and G4 where its right operand is closed; a graph that is lower stays lower without the boxes that its root doesn't reach, so each firing of G2 and G3 lowers the measure. It does nothing.
 pub fn measure_laws()
     ensures split { SplitMeasured }
     ensures fed { FeedMeasured }

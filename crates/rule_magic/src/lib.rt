@@ -1,4 +1,4 @@
-//! Magic decorrelation: laws of the rules that feed a correlated box with the bindings that its reader asks for, and that let the box under a fed one absorb them.
+//! Magic decorrelation: a correlated box is fed with the bindings that its reader asks for, and the box under a fed one absorbs them. G2 and G3 are rules; of the others there are laws.
 #![tactic(auto)]
 
 mod absorb_group;
