@@ -53,7 +53,7 @@ use Rattle.list_laws.proofs.Counting.{in-times, times-append, times-in}
 use Rattle.list_laws.proofs.Membership.{all-from, all-in, any-in, eq-false-sym, eq-itself, in-append, in-holds, in-left, in-right}
 use Rattle.list_laws.proofs.Booleans.{clash}
 
-replaced : (up ys zs : List Node) (gone : ℕ) → Ordered (up ++ ys) → Ordered zs → ((n : Node) → In n up → has_box ys n.id ≡ false → has_box zs n.id ≡ false)
+pub replaced : (up ys zs : List Node) (gone : ℕ) → Ordered (up ++ ys) → Ordered zs → ((n : Node) → In n up → has_box ys n.id ≡ false → has_box zs n.id ≡ false)
     → ((b : ℕ) → (b == gone) ≡ false → has_box ys b ≡ true → has_box zs b ≡ true)
     → ((n : Node) (s : OwnedQuant) → In n up → In s n.quants → (s.over == gone) ≡ false) → Ordered (up ++ zs)
 replaced [] ys zs gone o z less keep apart = z
@@ -72,7 +72,7 @@ replaced (n ∷ up) ys zs gone o z less keep apart = (none, all, replaced up ys 
           | inr e ↦ or_right (has_box up s.over) (has_box zs s.over) (keep s.over (apart n s (inl refl) j) e)
         ]))
 
-one-of : (b : Bool) → cond b 1 0 ≤ 1
+pub one-of : (b : Bool) → cond b 1 0 ≤ 1
 one-of true = omega arith
 one-of false = omega arith
 

@@ -15,6 +15,9 @@ pub mod AbsorbSelectFormed
 pub mod AbsorbSelectKeeps
 pub mod FedCondition
 pub mod HeadSteps
+pub mod RenamedMade
+pub mod RenamedTyped
+pub mod SetFormed
 pub mod Amid
 pub mod AbsorbSelectActs
 pub mod PairFormed
@@ -27,6 +30,8 @@ pub mod JoinedFormed
 pub mod AbsorbKeylessFormed
 pub mod MagicWidth
 pub mod AbsorbKeylessKeeps
+pub mod AbsorbSetFormed
+pub mod AbsorbSetKeeps
 pub mod AbsorbGroupBelow
 pub mod AbsorbGroupActs
 pub mod CompactMeasure

@@ -1,19 +1,20 @@
--- G4, a set operation under a fed box is one of tagged arms: its bag.
-use Rattle.std.specs.Prelude.{ℕ, ◌≡◌, ◌==◌, ◌&&◌, ◌⊎◌, Bool, true, false, List, [], ◌∷◌}
+-- G4, a set operation under a fed box is one of tagged arms: its bag, and what it keeps where the right one is closed.
+use Rattle.std.specs.Prelude.{ℕ, ◌≡◌, ◌==◌, ◌&&◌, ◌++◌, ◌⊎◌, Bool, true, false, List, [], ◌∷◌}
 use Rattle.sql_value.specs.declared.cell.Cell.{Cell}
 use Rattle.sql_value.specs.declared.order_key.SqlType.{SqlType}
 use Rattle.row_bag.specs.AsSets.{stands}
 use Rattle.row_bag.specs.Bags.{Agree}
 use Rattle.row_bag.specs.Sets.{same_cells}
 use Rattle.row_bag.specs.declared.tables.Table.{Table}
-use Rattle.qgm_core.specs.Boxes.{Ordered, QueryGraph, has_box, width, numbers}
-use Rattle.qgm_core.specs.Edits.{range}
-use Rattle.list_laws.specs.Lists.{In, EachOnce}
+use Rattle.qgm_core.specs.Boxes.{Ordered, QueryGraph, has_box, ids_in, width, numbers}
+use Rattle.qgm_core.specs.Edits.{compact, on_boxes, range}
+use Rattle.qgm_core.specs.Free.{IsFree}
+use Rattle.list_laws.specs.Lists.{In, EachOnce, times}
 use Rattle.qgm_core.specs.declared.kinds.BoxKind.TheVariants.{SetOp}
 use Rattle.qgm_core.specs.declared.kinds.Distinct.TheVariants.{Preserve}
 use Rattle.qgm_core.specs.declared.kinds.QuantKind.TheVariants.{F}
 use Rattle.qgm_core.specs.declared.kinds.Role.{Role}
-use Rattle.qgm_core.specs.declared.kinds.Role.TheVariants.{Plain}
+use Rattle.qgm_core.specs.declared.kinds.Role.TheVariants.{Fed, Plain}
 use Rattle.qgm_core.specs.declared.kinds.SetOperator.{SetOperator}
 use Rattle.qgm_core.specs.declared.node.Node.{Node}
 use Rattle.qgm_core.specs.declared.owned.OwnedQuant.{OwnedQuant}
@@ -23,9 +24,13 @@ use Rattle.qgm_meaning.specs.Values.{Environment, bound}
 use Rattle.qgm_wellformed.specs.Sentences.{WellFormed}
 use Rattle.qgm_props.specs.Inferred.{Facts}
 use Rattle.qgm_props.specs.Laws.{Tells}
+use Rattle.qgm_props.specs.Measure.{Lowers}
+use Rattle.qgm_wellformed.specs.Types.{known as all_known}
+use Rattle.qgm_edit_laws.specs.Reforms.{types_at}
+use Rattle.rule_api.specs.Rules.{Preserves}
 use Rattle.qgm_meaning.specs.Satisfies.{Satisfies}
 use Rattle.rule_magic.specs.Places.{MayAbsorb}
-use Rattle.rule_magic.specs.Boxes.{box_as, pair_box}
+use Rattle.rule_magic.specs.Boxes.{box_as, pair_box, set_box}
 use Rattle.rule_magic.specs.FedBox.{IsFedAt}
 use Rattle.rule_magic.specs.UnderTags.{NoneAmong}
 use Rattle.rule_magic.specs.AbsorbArms.{Renames, IsStill, IsRenamed, HasArms}
@@ -48,3 +53,38 @@ SetsGiven =
     (g : QueryGraph) → EachOnce (numbers g.boxes) → WellFormed g → (known : Facts) → Tells known g.boxes → (d : Node) (may : MayAbsorb g.boxes known d) (tables : List Table) → Satisfies tables g.boxes
     → (form : SetOperator) (types : List SqlType) (l r : OwnedQuant) → may.c.parts.kind ≡ SetOp form types → may.c.quants ≡ l ∷ (r ∷ []) → (l.id == r.id) ≡ false → (x y : Node) → l.over ≡ x.id → r.over ≡ y.id
     → (e : Environment) (u : List Cell) → stands same_cells u (bag tables g may.m.id e) ≡ true → NoneAmong form (bag tables g x.id (bound may.a.id u e)) (bag tables g y.id (bound may.a.id u e))
+
+-- the fed box d stands in the graph, and below it a set operation of x and of y, which is closed; mt are the types of the magic box before those of the set operation; the numbers of a box and of two quantifiers are new
+pub record SetAt (g : QueryGraph) (known : Facts) (d : Node) (may : MayAbsorb g.boxes known d) (form : SetOperator) (types mt : List SqlType) (l r : OwnedQuant) (x y : Node) (s u p : ℕ) (up l1 l2 : List Node) : Type 0 where
+  pub once : EachOnce (numbers g.boxes)
+  pub formed : WellFormed g
+  pub tells : Tells known g.boxes
+  pub a_set : may.c.parts.kind ≡ SetOp form types
+  pub two : may.c.quants ≡ l ∷ (r ∷ [])
+  pub in_x : In x g.boxes
+  pub over_x : l.over ≡ x.id
+  pub in_y : In y g.boxes
+  pub over_y : r.over ≡ y.id
+  pub closed : (q : ℕ) → IsFree g.boxes y.id q → ⊥
+  pub typed : all_known mt ≡ types_at g.boxes may.m.id ++ all_known types
+  pub s_new : has_box g.boxes s ≡ false
+  pub u_new : times u (ids_in g.boxes) ≡ 0
+  pub p_new : times p (ids_in g.boxes) ≡ 0
+  pub apart : (u == p) ≡ false
+  pub before : g.boxes ≡ up ++ d ∷ (l1 ++ may.c ∷ l2)
+
+-- in the place of d stands the set operation of the fed box, which has c's number, and of a select of the magic box and y
+abbrev pub absorbed_set : (g : QueryGraph) (known : Facts) (d : Node) (may : MayAbsorb g.boxes known d) (form : SetOperator) (mt : List SqlType) (l r : OwnedQuant) (x y : Node) (s u p : ℕ) (up l1 l2 : List Node) → QueryGraph
+absorbed_set g known d may form mt l r x y s u p up l1 l2 =
+    on_boxes (λ boxes. up ++ (set_box d.id form mt may.r.id may.c.id u s ∷ (pair_box s Plain p may.m.id (width may.m) r.id y.id (width y) ∷ (pair_box may.c.id Fed may.a.id may.m.id (width may.m) l.id x.id (width x) ∷ (l1 ++ l2))))) g
+
+-- G4 where the right operand is closed
+abbrev pub SetPreserves : Type 0
+SetPreserves =
+    (g : QueryGraph) (known : Facts) (d : Node) (may : MayAbsorb g.boxes known d) (form : SetOperator) (types mt : List SqlType) (l r : OwnedQuant) (x y : Node) (s u p : ℕ) (up l1 l2 : List Node) → SetAt g known d may form types mt l r x y s u p up l1 l2
+    → Preserves g (compact (absorbed_set g known d may form mt l r x y s u p up l1 l2))
+
+abbrev pub SetLowers : Type 0
+SetLowers =
+    (g : QueryGraph) (known : Facts) (d : Node) (may : MayAbsorb g.boxes known d) (form : SetOperator) (types mt : List SqlType) (l r : OwnedQuant) (x y : Node) (s u p : ℕ) (up l1 l2 : List Node) → SetAt g known d may form types mt l r x y s u p up l1 l2
+    → Lowers g.boxes (absorbed_set g known d may form mt l r x y s u p up l1 l2).boxes

@@ -1,15 +1,17 @@
 -- The boxes that absorbing makes.
 use Rattle.std.specs.Prelude.{ℕ, suc, ◌++◌, pos, zero, Bool, true, false, List, [], ◌∷◌, map}
+use Rattle.sql_value.specs.declared.order_key.SqlType.{SqlType}
 use Rattle.qgm_terms.specs.Substitution.{substituted, substituted_cond}
 use Rattle.qgm_terms.specs.Terms.{Cond, Term, arm, choose, col, compare, int, is_null, no_arm, same}
 use Rattle.qgm_core.specs.Edits.{range}
 use Rattle.qgm_core.specs.declared.kinds.BoxKind.{BoxKind}
-use Rattle.qgm_core.specs.declared.kinds.BoxKind.TheVariants.{Group, OuterJoin, Select}
+use Rattle.qgm_core.specs.declared.kinds.BoxKind.TheVariants.{Group, OuterJoin, Select, SetOp}
 use Rattle.qgm_core.specs.declared.kinds.Distinct.{Distinct}
 use Rattle.qgm_core.specs.declared.kinds.Distinct.TheVariants.{Preserve}
 use Rattle.qgm_core.specs.declared.kinds.QuantKind.TheVariants.{F}
 use Rattle.qgm_core.specs.declared.kinds.Role.{Role}
 use Rattle.qgm_core.specs.declared.kinds.Role.TheVariants.{Plain}
+use Rattle.qgm_core.specs.declared.kinds.SetOperator.{SetOperator}
 use Rattle.qgm_core.specs.declared.node.Node.{Node}
 use Rattle.qgm_core.specs.declared.owned.OwnedQuant.{OwnedQuant}
 use Rattle.qgm_meaning.specs.Tags.{columns_from}
@@ -80,6 +82,12 @@ counted_box b p w head x = box_as b Select Preserve Plain [] (columns_from p 1 w
 -- c, whose first quantifier is now a, over the magic box: its w columns are c's first heads
 abbrev pub absorbed_box : ℕ → OwnedQuant → ℕ → Node → Node
 absorbed_box b a w c = record c { id = b; parts = record c.parts { head = columns_from a.id 1 w ++ c.parts.head }; quants = a ∷ c.quants }
+
+-- ---- G4
+
+-- box b, a set operation of x and y
+abbrev pub set_box : ℕ → SetOperator → List SqlType → ℕ → ℕ → ℕ → ℕ → Node
+set_box b form types l x r y = box_as b (SetOp form types) Preserve Plain [] [] (range l F x ∷ (range r F y ∷ []))
 
 -- ---- G5
 

@@ -15,4 +15,5 @@ pub mod AbsorbGroupExact
 pub mod AbsorbMeasure
 pub mod AbsorbArms
 pub mod AbsorbSetOperation
+pub mod Renamed
 pub mod AbsorbOuterJoin

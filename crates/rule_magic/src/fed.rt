@@ -1,6 +1,6 @@
 // A fed box with the boxes under it, and whether these may be absorbed.
 ghost use Rattle.std.specs.Prelude.{◌≡◌, IfOk, option_map};
-ghost use Rattle.qgm_core.specs.Boxes.{box_of, is_box, width};
+ghost use Rattle.qgm_core.specs.Boxes.{is_box, width};
 ghost use Rattle.list_laws.specs.Lists.{first};
 ghost use Rattle.qgm_props.specs.Inferred.{all_places};
 ghost use Rattle.qgm_props.specs.Laws.{KeptOf};

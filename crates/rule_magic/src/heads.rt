@@ -1,8 +1,6 @@
 // Heads of the boxes that absorbing makes.
-ghost use Rattle.std.specs.Prelude.{◌≡◌, ◌+◌, ◌-◌, ◌++◌, IfOk, OnOk, map, suc};
+ghost use Rattle.std.specs.Prelude.{◌≡◌, ◌+◌, ◌-◌, ◌++◌, IfOk, OnOk};
 ghost use Rattle.qgm_meaning.specs.Tags.{columns_from};
-ghost use Rattle.qgm_terms.specs.Shown.{term};
-ghost use Rattle.qgm_terms.specs.Substitution.{substituted};
 ghost use Rattle.rule_magic.specs.Boxes as spec;
 
 use qgm_terms::{Gx, Head, QuantId, ROOM, copy, substitute};

@@ -3,8 +3,9 @@ ghost use Rattle.rule_magic.specs.AbsorbGroup.{GroupBags, KeylessBags, GroupLowe
 ghost use Rattle.rule_magic.specs.AbsorbMeasure.{CompactLowers, GroupFiringLowers, SelectFiringLowers};
 ghost use Rattle.rule_magic.specs.AbsorbOuterJoin.{AbsorbsArms, AbsorbsLeft};
 ghost use Rattle.rule_magic.specs.AbsorbSelect.{SelectBags, SelectLowers, SelectPreserves};
-ghost use Rattle.rule_magic.specs.AbsorbSetOperation.{AbsorbsSets, SetsGiven};
+ghost use Rattle.rule_magic.specs.AbsorbSetOperation.{AbsorbsSets, SetLowers, SetPreserves, SetsGiven};
 ghost use Rattle.rule_magic.specs.CalmFires.{CalmFires};
+ghost use Rattle.rule_magic.specs.Renamed.{RenamedIsMade, RenamedIsTyped};
 ghost use Rattle.rule_magic.specs.UnderTags.{BothArmsUnderTags, DistinctUnderTags, KeyedGroupsUnderTags, LeftArmUnderTags, SelectsUnderTags, SetsUnderTags, SingleGroupsUnderTags};
 
 /// Bags over the rows of a magic box: DISTINCT, set operations, groups, selects and outer joins of rows that begin with a tag are, under each tag, those of its rows. It does nothing.
@@ -18,7 +19,7 @@ pub fn row_laws()
     ensures both_arms { BothArmsUnderTags }
 {}
 
-/// G2 to G5: the box that stands in the place of a fed box has its bag, in every environment. G2, and G3 with keys and without, preserve the graph; the conditions of G4 give what its bag needs. It does nothing.
+/// G2 to G5: the box that stands in the place of a fed box has its bag, in every environment. G2, and G3 with keys and without, preserve the graph, and so does G4 where its right operand is closed; the conditions of G4 give what its bag needs. It does nothing.
 pub fn absorbing_laws()
     ensures select { SelectBags }
     ensures select_preserves { SelectPreserves }
@@ -28,15 +29,19 @@ pub fn absorbing_laws()
     ensures keyless_preserves { KeylessPreserves }
     ensures sets { AbsorbsSets }
     ensures sets_given { SetsGiven }
+    ensures set_preserves { SetPreserves }
+    ensures renamed { RenamedIsMade }
+    ensures renamed_types { RenamedIsTyped }
     ensures outer_left { AbsorbsLeft }
     ensures outer_arms { AbsorbsArms }
 {}
 
-/// G2 and G3 lower the measure. It does nothing.
+/// G2 and G3 lower the measure, and so does G4 where its right operand is closed; a graph that is lower stays lower without the boxes that its root doesn't reach, so each firing of G2 and G3 lowers the measure. It does nothing.
 pub fn measure_laws()
     ensures select { SelectLowers }
     ensures group { GroupLowers }
     ensures keyless { KeylessLowers }
+    ensures set { SetLowers }
     ensures compacted { CompactLowers }
     ensures select_fires { SelectFiringLowers }
     ensures group_fires { GroupFiringLowers }

@@ -3,7 +3,7 @@ ghost use Rattle.std.specs.Prelude.{◌≡◌, ◌++◌, ◌∷◌, [], IfOk, po
 ghost use Rattle.qgm_meaning.specs.Tags.{columns_from};
 ghost use Rattle.qgm_props.specs.Inferred as facts;
 ghost use Rattle.qgm_props.specs.Lists.{is_none};
-ghost use Rattle.qgm_terms.specs.Shown.{aggregate, choices, cond, links, term};
+ghost use Rattle.qgm_terms.specs.Shown.{aggregate, choices, links, term};
 ghost use Rattle.qgm_terms.specs.Terms as t;
 ghost use Rattle.rule_magic.specs.Boxes as spec;
 

@@ -4,6 +4,9 @@ use Rattle.rule_magic.proofs.AbsorbBags.{absorbs-group, absorbs-keyless, absorbs
 use Rattle.rule_magic.proofs.AbsorbGroupKeeps.{group-preserves}
 use Rattle.rule_magic.proofs.AbsorbKeylessKeeps.{keyless-preserves}
 use Rattle.rule_magic.proofs.AbsorbSelectKeeps.{select-preserves}
+use Rattle.rule_magic.proofs.AbsorbSetKeeps.{set-preserves}
+use Rattle.rule_magic.proofs.RenamedMade.{renamed-is-made}
+use Rattle.rule_magic.proofs.RenamedTyped.{renamed-is-typed}
 use Rattle.rule_magic.proofs.laws.absorbing_laws.Goals as goal
 
 pub returns-clause-select : goal.returns-clause-select
@@ -35,3 +38,12 @@ returns-clause-outer_arms c = absorbs-arms
 
 pub returns-clause-sets_given : goal.returns-clause-sets_given
 returns-clause-sets_given c = sets-given
+
+pub returns-clause-set_preserves : goal.returns-clause-set_preserves
+returns-clause-set_preserves c = set-preserves
+
+pub returns-clause-renamed : goal.returns-clause-renamed
+returns-clause-renamed c = renamed-is-made
+
+pub returns-clause-renamed_types : goal.returns-clause-renamed_types
+returns-clause-renamed_types c = renamed-is-typed

@@ -1,6 +1,7 @@
 use Rattle.rule_magic.proofs.AbsorbGroupKeeps.{group-lowers}
 use Rattle.rule_magic.proofs.AbsorbKeylessKeeps.{keyless-lowers}
 use Rattle.rule_magic.proofs.AbsorbSelectKeeps.{select-lowers}
+use Rattle.rule_magic.proofs.AbsorbSetKeeps.{set-lowers}
 use Rattle.rule_magic.proofs.CompactMeasure.{compact-lowers}
 use Rattle.rule_magic.proofs.FiringMeasure.{group-firing-lowers, select-firing-lowers}
 use Rattle.rule_magic.proofs.laws.measure_laws.Goals as goal
@@ -22,3 +23,6 @@ returns-clause-select_fires c = select-firing-lowers
 
 pub returns-clause-group_fires : goal.returns-clause-group_fires
 returns-clause-group_fires c = group-firing-lowers
+
+pub returns-clause-set : goal.returns-clause-set
+returns-clause-set c = set-lowers
