@@ -25,3 +25,14 @@ pub mod FeedLooks
 pub mod FeedShaped
 pub mod FeedMeasure
 pub mod FeedSample
+pub mod TurnLists
+pub mod TurnRows
+pub mod TurnPuts
+pub mod TurnKeeps
+pub mod FeedConds
+pub mod NodesListed
+pub mod FeedFacts
+pub mod FeedPremises
+pub mod FeedSettled
+pub mod FeedPlaced
+pub mod FeedKeeps

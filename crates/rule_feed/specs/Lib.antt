@@ -3,3 +3,9 @@ pub mod Feed
 pub mod FeedLaws
 pub mod FeedMeasure
 pub mod FeedSample
+pub mod Turn
+pub mod Knowing
+pub mod FeedMay
+pub mod FeedMayExact
+pub mod FeedActs
+pub mod FeedPreserves

@@ -3,4 +3,4 @@
 
 mod laws;
 
-pub use laws::feeding_laws;
+pub use laws::{feed_laws, feeding_laws};

@@ -22,8 +22,8 @@ use Rattle.qgm_edit_laws.proofs.ReadKept.{put-hit}
 use Rattle.qgm_edit_laws.proofs.Scoped.{scoped-of}
 use Rattle.qgm_edit_laws.proofs.ShapedPut.{conds-same, heads-same}
 use Rattle.rule_magic.specs.Renamed.{MayRename, RenamedIsMade}
-use Rattle.rule_magic.proofs.FeedReads.{columns-cell}
-use Rattle.rule_magic.proofs.FeedScope.{bare-kept, none-true, put-found, put-node_of, put-read_at, seen-same, shows-owned}
+use Rattle.rule_feed.proofs.FeedReads.{columns-cell}
+use Rattle.rule_feed.proofs.FeedScope.{bare-kept, none-true, put-found, put-node_of, put-read_at, seen-same, shows-owned}
 use Rattle.rule_magic.proofs.MagicWidth.{read-place}
 use Rattle.list_laws.proofs.Booleans.{clash}
 use Rattle.list_laws.proofs.Membership.{eq-false-sym, eq-itself, in-right}

@@ -33,8 +33,8 @@ use Rattle.qgm_edit_laws.proofs.TypesBy.{agrees-as}
 use Rattle.qgm_meaning.specs.Searches.{names, names_cond}
 use Rattle.rule_magic.specs.Renamed.{IsRetyped, MayRename, MayRetype, RenamedIsTyped}
 use Rattle.rule_magic.proofs.AbsorbSelectFormed.{none-aggregate}
-use Rattle.rule_magic.proofs.FeedReads.{columns-cell}
-use Rattle.rule_magic.proofs.FeedScope.{none-true, put-found}
+use Rattle.rule_feed.proofs.FeedReads.{columns-cell}
+use Rattle.rule_feed.proofs.FeedScope.{none-true, put-found}
 use Rattle.rule_magic.proofs.PairFormed.{le-from, lt-from}
 use Rattle.rule_magic.proofs.RenamedMade.{bare-columns, columns-hit}
 use Rattle.list_laws.proofs.Booleans.{clash}

@@ -1,0 +1,13 @@
+use Rattle.rule_feed.specs.FeedMayExact.{feed-places}
+use Rattle.rule_feed.proofs.FeedKeeps.{feed-preserves}
+use Rattle.rule_feed.proofs.TurnKeeps.{turn-preserves}
+use Rattle.rule_feed.proofs.laws.feed_laws.Goals as goal
+
+pub returns-clause-places : goal.returns-clause-places
+returns-clause-places c = feed-places
+
+pub returns-clause-turned : goal.returns-clause-turned
+returns-clause-turned c = turn-preserves
+
+pub returns-clause-preserves : goal.returns-clause-preserves
+returns-clause-preserves c = feed-preserves
