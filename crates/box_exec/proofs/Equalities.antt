@@ -1,5 +1,5 @@
 -- Equalities of cells: the other way round, and of cells that are apart.
-use Rattle.std.proofs.Common.{ℕ, ◌≡◌, ◌||◌, not, Bool, true, false, refl, sym, ap, ap₂, subst, ◌∙◌, inl, inr}
+use Rattle.std.proofs.Common.{ℕ, ◌≡◌, ◌||◌, not, Bool, true, false, List, refl, sym, ap, subst, ◌∙◌, inl, inr}
 use Rattle.std.proofs.lemmas.Bool.{cases_Bool}
 use Rattle.std.proofs.lemmas.Cmp.{int_cmp_total}
 use Rattle.std.specs.Ordering.{int_cmp, is_eq, nat_cmp, ordering_reverse}
@@ -16,12 +16,12 @@ use Rattle.sql_value.specs.declared.cell.Kind.{Kind}
 use Rattle.sql_value.specs.declared.cell.Kind.TheVariants.{Cardinality, Division, Overflow}
 use Rattle.sql_value.proofs.Total.{cell-ties}
 use Rattle.row_bag.proofs.Order.{level}
-use Rattle.qgm_meaning.specs.Values.{bound, compared, value}
+use Rattle.qgm_meaning.specs.Values.{Bag, Environment, bound, compared, value}
 use Rattle.qgm_terms.specs.Shown as shown
 use Rattle.qgm_terms.specs.Terms.{Cond, Sign, Term}
 use Rattle.qgm_terms.specs.Terms as terms
 use Rattle.box_exec.specs.Early.{is_none}
-use Rattle.box_exec.specs.Equalities.{AreSides, IsKey, are_apart, equated, is_nowhere, is_plain, other_of, own_of}
+use Rattle.box_exec.specs.Equalities.{AreEither, AreSides, IsKey, are_apart, equated, is_nowhere, is_plain, other_of, own_of}
 use Rattle.box_exec.specs.declared.key.Equality.{Equality}
 use Rattle.box_exec.specs.declared.key.Equality.TheVariants.{Same, Equal, Numbers, Texts}
 use Rattle.box_exec.specs.declared.key.Key.{Key}
@@ -67,7 +67,7 @@ eq-turned x y h =
     let e : x ≡ y = cell-ties x y (level (cell_compare x y) h) in
     subst (λ (z : Cell). is_eq (cell_compare z x) ≡ true) e (subst (λ (z : Cell). is_eq (cell_compare x z) ≡ true) (sym e) h)
 
-eq-either : (x y : Cell) → is_eq (cell_compare x y) ≡ is_eq (cell_compare y x)
+pub eq-either : (x y : Cell) → is_eq (cell_compare x y) ≡ is_eq (cell_compare y x)
 eq-either x y = elim (cases_Bool (is_eq (cell_compare x y))) [
   | inl t ↦ t ∙ sym (eq-turned x y t)
   | inr f ↦ elim (cases_Bool (is_eq (cell_compare y x))) [
@@ -170,15 +170,27 @@ apart-none by x y h k d = elim (cases_Bool (is_nowhere by y)) [
 
 -- ---- the two sides of a comparison
 
-pub key-first : (q : ℕ) (sign : Sign) (x y : Term) (by : Equality) (key : Key) → ((a b : Cell) → compared sign a b ≡ equated by a b) → AreSides q x y by key → IsKey q (terms.compare sign x y) key
-key-first q sign x y by key is sides rows cells env =
-    is (value rows x (bound q cells env)) (value rows y (bound q cells env))
-    ∙ ap₂ (equated by) (sides.own rows cells env ∙ sym (ap (λ (z : Term). own_of q z cells) sides.own_is)) (sides.other rows cells env ∙ sym (ap (λ (z : Term). other_of z env) sides.other_is))
-    ∙ sym (ap (λ (z : Equality). equated z (own_of q (shown.term key.own.now) cells) (other_of (shown.term key.other.now) env)) sides.by_is)
+own-side : (q : ℕ) (x y : Term) (key : Key) (rows : ℕ → Bag) (cells : List Cell) (env : Environment) → AreSides q x y key → value rows x (bound q cells env) ≡ own_of q (shown.term key.own.now) cells
+own-side q x y key rows cells env sides = sides.own rows cells env ∙ sym (ap (λ (z : Term). own_of q z cells) sides.own_is)
 
-pub key-second : (q : ℕ) (sign : Sign) (x y : Term) (by : Equality) (key : Key) → ((a b : Cell) → compared sign a b ≡ equated by a b) → AreSides q y x by key → IsKey q (terms.compare sign x y) key
-key-second q sign x y by key is sides rows cells env =
-    is (value rows x (bound q cells env)) (value rows y (bound q cells env))
-    ∙ equated-back by (value rows x (bound q cells env)) (value rows y (bound q cells env))
-    ∙ ap₂ (equated by) (sides.own rows cells env ∙ sym (ap (λ (z : Term). own_of q z cells) sides.own_is)) (sides.other rows cells env ∙ sym (ap (λ (z : Term). other_of z env) sides.other_is))
-    ∙ sym (ap (λ (z : Equality). equated z (own_of q (shown.term key.own.now) cells) (other_of (shown.term key.other.now) env)) sides.by_is)
+other-side : (q : ℕ) (x y : Term) (key : Key) (rows : ℕ → Bag) (cells : List Cell) (env : Environment) → AreSides q x y key → value rows y (bound q cells env) ≡ other_of (shown.term key.other.now) env
+other-side q x y key rows cells env sides = sides.other rows cells env ∙ sym (ap (λ (z : Term). other_of z env) sides.other_is)
+
+-- what is said of both orders is said of a comparison
+pub in-order : (P : Cell → Cell → Type 0) (q : ℕ) (x y : Term) (key : Key) (rows : ℕ → Bag) (cells : List Cell) (env : Environment) → AreEither q x y key
+    → P (own_of q (shown.term key.own.now) cells) (other_of (shown.term key.other.now) env) → P (other_of (shown.term key.other.now) env) (own_of q (shown.term key.own.now) cells)
+    → P (value rows x (bound q cells env)) (value rows y (bound q cells env))
+in-order P q x y key rows cells env (inl sides) first second =
+    subst (λ (c : Cell). P c (value rows y (bound q cells env))) (sym (own-side q x y key rows cells env sides))
+    (subst (λ (c : Cell). P (own_of q (shown.term key.own.now) cells) c) (sym (other-side q x y key rows cells env sides)) first)
+in-order P q x y key rows cells env (inr sides) first second =
+    subst (λ (c : Cell). P c (value rows y (bound q cells env))) (sym (other-side q y x key rows cells env sides))
+    (subst (λ (c : Cell). P (other_of (shown.term key.other.now) env) c) (sym (own-side q y x key rows cells env sides)) second)
+
+pub key-either : (q : ℕ) (sign : Sign) (x y : Term) (by : Equality) (key : Key) → ((a b : Cell) → compared sign a b ≡ equated by a b) → key.by ≡ by → AreEither q x y key → IsKey q (terms.compare sign x y) key
+key-either q sign x y by key is same sides rows cells env =
+    let own = own_of q (shown.term key.own.now) cells in
+    let other = other_of (shown.term key.other.now) env in
+    in-order (λ a b. compared sign a b ≡ equated key.by own other) q x y key rows cells env sides
+    (is own other ∙ ap (λ (e : Equality). equated e own other) (sym same))
+    (is other own ∙ equated-back by other own ∙ ap (λ (e : Equality). equated e own other) (sym same))

@@ -14,7 +14,7 @@ use Rattle.qgm_meaning.specs.Meaning.{bag_in, given, given_by, over_each, quant_
 use Rattle.qgm_meaning.specs.Values.{Bag, Environment, bound, truth}
 use Rattle.qgm_terms.specs.Shown as shown
 use Rattle.box_exec.specs.Early.{is_none, is_open, rejects}
-use Rattle.box_exec.specs.Hashed.{AllHashed, AllKept, HashesAt, KeptPlan, LeadsAt, rows_kept}
+use Rattle.box_exec.specs.Hashed.{AllFound, AllHashed, AllKept, HashesAt, KeptPlan, LeadsAt, rows_kept}
 use Rattle.box_exec.specs.Equalities.{IsKey, other_of, own_of}
 use Rattle.box_exec.specs.Lookup.{Leads, RejectsBy}
 use Rattle.box_exec.specs.Plans.{Planned, family, left_at, tables_of}
@@ -76,24 +76,35 @@ key-rejects es i e place q key l at here is cells env own other apart =
     ap (λ (x : Truth). is_none x.t) (is (held_by []) cells env) ∙ apart-none key.by (own_of q (shown.term key.own.now) cells) (other_of (shown.term key.other.now) env) own other apart in
     any-at (λ (e : Early). (e.place == place) && is_none (truth (held_by []) (shown.cond e.cond.now) (bound q cells env)).t) es i e l at (ap₂ (λ (x y : Bool). x && y) (eq-eqb e.place place here) no)
 
-pushed : (hs : List (Option Hashed)) (o : Option Hashed) (j : ℕ) (h : Hashed) → slice_get (hs ++ o ∷ []) j ≡ Some (Some h) → (slice_get hs j ≡ Some (Some h)) ⊎ ((j ≡ length hs) × (o ≡ Some h))
+pushed : {X : Type 0} (hs : List (Option X)) (o : Option X) (j : ℕ) (h : X) → slice_get (hs ++ o ∷ []) j ≡ Some (Some h) → (slice_get hs j ≡ Some (Some h)) ⊎ ((j ≡ length hs) × (o ≡ Some h))
 pushed [] o zero h e = let it : o ≡ Some h = cc in inr (refl, it)
 pushed [] o (suc j) h e = absurd (let z : ⊥ = cc in z)
 pushed (x ∷ hs) o zero h e = inl e
 pushed (x ∷ hs) o (suc j) h e = elim (pushed hs o j h e) [ inl a ↦ inl a | inr b ↦ inr (ap (λ n. suc n) b.0, b.1) ]
 
-pub hashed-more : (at : At) (hs new : List (Option Hashed)) (o : Option Hashed) (i : ℕ) (l : Loop) → length hs ≡ i → i < length at.loops.now → l ≡ get_or at.loops.now i l → new ≡ hs ++ o ∷ []
-    → IfSome o (λ h. HashesAt at i l h) → AllHashed at hs → AllHashed at new
-hashed-more at hs new o i l long inside is en made all j m h within it found =
-    elim (pushed hs o j h (subst (λ (xs : List (Option Hashed)). slice_get xs j ≡ Some (Some h)) en found)) [
+-- what is said of those that are made for the quantifiers is said of one more
+pub made-more : {X : Type 0} (P : ℕ → Loop → X → Type 0) (ls : List Loop) (hs new : List (Option X)) (o : Option X) (i : ℕ) (l : Loop) → length hs ≡ i → i < length ls → l ≡ get_or ls i l → new ≡ hs ++ o ∷ [] → IfSome o (λ h. P i l h)
+    → ((j : ℕ) (m : Loop) (h : X) → j < length ls → m ≡ get_or ls j m → slice_get hs j ≡ Some (Some h) → P j m h)
+    → (j : ℕ) (m : Loop) (h : X) → j < length ls → m ≡ get_or ls j m → slice_get new j ≡ Some (Some h) → P j m h
+made-more {X = X} P ls hs new o i l long inside is en made all j m h within it found =
+    elim (pushed hs o j h (subst (λ (xs : List (Option X)). slice_get xs j ≡ Some (Some h)) en found)) [
       | inl before ↦ all j m h within it before
       | inr last ↦
           (let same : j ≡ i = last.0 ∙ long in
-          let loop : l ≡ m = is ∙ get_or_default at.loops.now i l m inside ∙ ap (λ (n : ℕ). get_or at.loops.now n m) (sym same) ∙ sym it in
-          subst (λ (n : ℕ). HashesAt at n m h) (sym same)
-          (subst (λ (x : Loop). HashesAt at i x h) loop
-          (some-is (λ h. HashesAt at i l h) o h last.1 made)))
+          let loop : l ≡ m = is ∙ get_or_default ls i l m inside ∙ ap (λ (n : ℕ). get_or ls n m) (sym same) ∙ sym it in
+          subst (λ (n : ℕ). P n m h) (sym same)
+          (subst (λ (x : Loop). P i x h) loop
+          (some-is (λ h. P i l h) o h last.1 made)))
     ]
 
-pub one-longer : (hs new : List (Option Hashed)) (o : Option Hashed) (i : ℕ) → length hs ≡ i → new ≡ hs ++ o ∷ [] → length new ≡ i + 1
-one-longer hs new o i long en = ap (λ (xs : List (Option Hashed)). length xs) en ∙ length_push hs o ∙ ap (λ n. n + 1) long
+pub hashed-more : (at : At) (hs new : List (Option Hashed)) (o : Option Hashed) (i : ℕ) (l : Loop) → length hs ≡ i → i < length at.loops.now → l ≡ get_or at.loops.now i l → new ≡ hs ++ o ∷ []
+    → IfSome o (λ h. HashesAt at i l h) → AllHashed at hs → AllHashed at new
+hashed-more at hs new o i l long inside is en made all = made-more (λ i l h. HashesAt at i l h) at.loops.now hs new o i l long inside is en made all
+
+pub found-more : (ls : List Loop) (fs new : List (Option Bag)) (o : Option Bag) (i : ℕ) (l : Loop) → length fs ≡ i → i < length ls → l ≡ get_or ls i l → new ≡ fs ++ o ∷ []
+    → IfSome o (λ f. f ≡ rows_kept l.under) → AllFound ls fs → AllFound ls new
+found-more ls fs new o i l long inside is en made all j m within it h found =
+    made-more (λ i l f. f ≡ rows_kept l.under) ls fs new o i l long inside is en made (λ k x f u v g. all k x u v f g) j m h within it found
+
+pub one-longer : {X : Type 0} (hs new : List (Option X)) (o : Option X) (i : ℕ) → length hs ≡ i → new ≡ hs ++ o ∷ [] → length new ≡ i + 1
+one-longer {X = X} hs new o i long en = ap (λ (xs : List (Option X)). length xs) en ∙ length_push hs o ∙ ap (λ n. n + 1) long

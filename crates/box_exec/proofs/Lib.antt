@@ -18,8 +18,10 @@ mod Bounded
 mod Rejections
 mod Alone
 mod Equalities
+mod Counts
 mod Lookups
 mod Hashing
 mod Partners
 pub mod Orders
-pub mod Quantified
+mod Quantified
+mod Units

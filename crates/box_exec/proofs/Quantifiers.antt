@@ -27,7 +27,7 @@ use Rattle.row_bag.proofs.FoldLaws.{or_else-alike}
 use Rattle.box_exec.specs.Outer.{joined_rows, null_row, partner_rows}
 use Rattle.box_exec.specs.Plans.{Planned, family, ranges}
 use Rattle.box_exec.specs.Ready.{Fit, SubsOf, binds_F, isnt_F, names_in_box, over_left}
-use Rattle.box_exec.specs.Sources.{held, held_by}
+use Rattle.box_exec.specs.Sources.{held_by, rows_held}
 use Rattle.box_exec.specs.declared.boxes.At.{At}
 use Rattle.box_exec.specs.declared.source.Sub.{Sub}
 use Rattle.box_exec.specs.declared.under.Loop.{Loop}
@@ -96,7 +96,7 @@ left-bound tables n below k r env e h own =
 -- ---- what binds no rows
 
 -- one more quantifier has been gone through
-pub subs-more : (f : Family) (env : Environment) (rs : List OwnedQuant) (ss : List Sub) (r : OwnedQuant) (s : Sub) → s.quant ≡ r.id → Alike (held s.rows) (f r.over env) → SubsOf f env rs ss → SubsOf f env (rs ++ r ∷ []) (ss ++ s ∷ [])
+pub subs-more : (f : Family) (env : Environment) (rs : List OwnedQuant) (ss : List Sub) (r : OwnedQuant) (s : Sub) → s.quant ≡ r.id → Alike (rows_held s.rows) (f r.over env) → SubsOf f env rs ss → SubsOf f env (rs ++ r ∷ []) (ss ++ s ∷ [])
 subs-more f env [] [] r s e h k = (e, h, tt)
 subs-more f env [] (t ∷ ss) r s e h k = absurd k
 subs-more f env (x ∷ rs) [] r s e h k = absurd k
@@ -108,8 +108,8 @@ subs-held f env [] [] q k = alike-refl []
 subs-held f env [] (t ∷ ss) q k = absurd k
 subs-held f env (x ∷ rs) [] q k = absurd k
 subs-held f env (x ∷ rs) (t ∷ ss) q k =
-    subst (λ (n : ℕ). Alike (cond (n == q) (held t.rows) (held_by ss q)) (rows_found (cond (x.id == q) (Some x) (first (is_quant q) rs)) f env)) (sym k.0)
-    (elim (x.id == q) as (λ b. Alike (cond b (held t.rows) (held_by ss q)) (rows_found (cond b (Some x) (first (is_quant q) rs)) f env)) [
+    subst (λ (n : ℕ). Alike (cond (n == q) (rows_held t.rows) (held_by ss q)) (rows_found (cond (x.id == q) (Some x) (first (is_quant q) rs)) f env)) (sym k.0)
+    (elim (x.id == q) as (λ b. Alike (cond b (rows_held t.rows) (held_by ss q)) (rows_found (cond b (Some x) (first (is_quant q) rs)) f env)) [
       | true ↦ k.1
       | false ↦ subs-held f env rs ss q k.2
     ])

@@ -8,8 +8,7 @@ use Rattle.qgm_meaning.specs.Values.{Environment, truth}
 use Rattle.qgm_terms.specs.Shown.{cond}
 use Rattle.qgm_terms.specs.Terms.{Cond}
 use Rattle.qgm_terms.specs.Wanted.{reads_cond}
-use Rattle.sql_value.specs.declared.level.Level.{Level}
-use Rattle.sql_value.specs.declared.level.Level.TheVariants.{No, Cardinality, Division, Overflow, Yes}
+pub use Rattle.box_exec.specs.Levels.{is_none}
 use Rattle.box_exec.specs.Sources.{held_by}
 use Rattle.box_exec.specs.declared.early.Early.{Early}
 use Rattle.box_exec.specs.declared.under.Loop.{Loop}
@@ -35,13 +34,6 @@ pub record IsEarly (n : Node) (ls : List Loop) (e : Early) : Type 0 where
   pub stands : In (cond e.cond.now) n.parts.conds.items
   pub unnamed : names_any (cond e.cond.now) ls ≡ false
   pub unread : reads_any (cond e.cond.now) (drop e.place ls) ≡ false
-
-abbrev pub is_none : Level → Bool
-is_none No = true
-is_none Cardinality = false
-is_none Division = false
-is_none Overflow = false
-is_none Yes = false
 
 -- one of these whose place this is rejects wholly
 abbrev pub rejects : List Early → ℕ → Environment → Bool

@@ -1,6 +1,7 @@
 -- Equalities by which rows of a quantifier are found.
-use Rattle.std.specs.Prelude.{ℕ, ◌≡◌, ◌||◌, Bool, true, false, not, List, [], map}
+use Rattle.std.specs.Prelude.{ℕ, ◌≡◌, ◌||◌, ◌⊎◌, Bool, true, false, not, List, [], map}
 use Rattle.std.specs.Ordering.{is_eq}
+use Rattle.qgm_meaning.specs.Meaning.{nothing}
 use Rattle.qgm_meaning.specs.Values.{Bag, Environment, bound, truth, value}
 use Rattle.qgm_terms.specs.Shown.{term}
 use Rattle.qgm_terms.specs.Terms.{Cond, Term}
@@ -10,7 +11,6 @@ use Rattle.sql_value.specs.Comparison.{compare, same}
 use Rattle.sql_value.specs.declared.cell.Cell.{Cell}
 use Rattle.sql_value.specs.declared.cell.Cell.TheVariants.{Int, Text, Null, Err}
 use Rattle.sql_value.specs.declared.truth.Truth.{Truth}
-use Rattle.box_exec.specs.Sources.{held_by}
 use Rattle.box_exec.specs.declared.key.Equality.{Equality}
 use Rattle.box_exec.specs.declared.key.Equality.TheVariants.{Same, Equal, Numbers, Texts}
 use Rattle.box_exec.specs.declared.key.Key.{Key}
@@ -61,11 +61,11 @@ are_apart by x y = is_nowhere by y || not (is_eq (cell_compare x y))
 
 -- the cell of an expression where nothing but a row of q is bound
 abbrev pub own_of : ℕ → Term → List Cell → Cell
-own_of q x cells = value (held_by []) x (bound q cells [])
+own_of q x cells = value nothing x (bound q cells [])
 
 -- the cell of an expression that names no E, A or S quantifier
 abbrev pub other_of : Term → Environment → Cell
-other_of x env = value (held_by []) x env
+other_of x env = value nothing x env
 
 -- it goes by the row of q alone
 abbrev pub IsOwn : ℕ → Term → Type 0
@@ -75,13 +75,16 @@ IsOwn q x = (rows : ℕ → Bag) (cells : List Cell) (env : Environment) → val
 abbrev pub IsOther : ℕ → Term → Type 0
 IsOther q x = (rows : ℕ → Bag) (cells : List Cell) (env : Environment) → value rows x (bound q cells env) ≡ other_of x env
 
--- these are the expressions of a key, and this its equality
-pub record AreSides (q : ℕ) (a b : Term) (by : Equality) (key : Key) : Type 0 where
+-- these are the expressions of a key
+pub record AreSides (q : ℕ) (a b : Term) (key : Key) : Type 0 where
   pub own_is : term key.own.now ≡ a
   pub other_is : term key.other.now ≡ b
-  pub by_is : key.by ≡ by
   pub own : IsOwn q a
   pub other : IsOther q b
+
+-- in this order or the other one
+abbrev pub AreEither : ℕ → Term → Term → Key → Type 0
+AreEither q a b key = AreSides q a b key ⊎ AreSides q b a key
 
 -- where q is bound to a row, a condition is the equality of a key
 abbrev pub IsKey : ℕ → Cond → Key → Type 0

@@ -29,6 +29,13 @@ HashesAt at i l h = Hashes (rejects at.early.now (i + 1)) l.range.id (rows_kept 
 abbrev pub AllHashed : At → List (Option Hashed) → Type 0
 AllHashed at hs = (i : ℕ) (l : Loop) (h : Hashed) → i < length at.loops.now → l ≡ get_or at.loops.now i l → slice_get hs i ≡ Some (Some h) → HashesAt at i l h
 
+-- rows that are found, if they are, are those that are kept
+abbrev pub FoundAt : List (Option Bag) → ℕ → Under → Type 0
+FoundAt fs i under = (f : Bag) → slice_get fs i ≡ Some (Some f) → f ≡ rows_kept under
+
+abbrev pub AllFound : List Loop → List (Option Bag) → Type 0
+AllFound ls fs = (i : ℕ) (l : Loop) → i < length ls → l ≡ get_or ls i l → FoundAt fs i l.under
+
 -- a way through its rows passes over such alone as one of these conditions rejects
 abbrev pub LeadsAt : At → ℕ → Loop → Environment → Way → Type 0
 LeadsAt at i l env way = Leads (rejects at.early.now (i + 1)) l.range.id (rows_kept l.under) env way

@@ -7,10 +7,12 @@ pub mod Groups
 pub mod Counted
 pub mod Costs
 pub mod Ready
+pub mod Levels
 pub mod Early
 pub mod Lookup
 pub mod Hashed
 pub mod HandedOn
+pub mod Idle
 pub mod Equalities
 pub mod Plans
 pub mod Beyond

@@ -14,7 +14,7 @@ use Rattle.row_bag.specs.Bags.{Alike}
 use Rattle.row_bag.specs.declared.tables.Table.{Table}
 use Rattle.box_exec.specs.Costs.{Keeps, asked}
 use Rattle.qgm_meaning.specs.Plain.{counted_by}
-use Rattle.box_exec.specs.Sources.{held}
+use Rattle.box_exec.specs.Sources.{held, rows_held}
 use Rattle.box_exec.specs.declared.source.Source.{Source}
 use Rattle.box_exec.specs.declared.source.Sub.{Sub}
 use Rattle.box_exec.specs.declared.under.Under.{Under}
@@ -95,7 +95,7 @@ abbrev pub SubsOf : Family → Environment → List OwnedQuant → List Sub → 
 SubsOf f env [] [] = ⊤
 SubsOf f env [] (s ∷ ss) = ⊥
 SubsOf f env (r ∷ rs) [] = ⊥
-SubsOf f env (r ∷ rs) (s ∷ ss) = (s.quant ≡ r.id) × Alike (held s.rows) (f r.over env) × SubsOf f env rs ss
+SubsOf f env (r ∷ rs) (s ∷ ss) = (s.quant ≡ r.id) × Alike (rows_held s.rows) (f r.over env) × SubsOf f env rs ss
 
 -- what is given for each combination of rows of the quantifiers of a box from a place on
 abbrev pub over_left : List Table → Node → List Node → ℕ → Environment → Bag

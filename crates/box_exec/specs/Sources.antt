@@ -4,12 +4,19 @@ use Rattle.qgm_meaning.specs.Values.{Bag}
 use Rattle.box_exec.specs.declared.source.Source.{Source}
 use Rattle.box_exec.specs.declared.source.Source.TheVariants.{Borrowed, Made}
 use Rattle.box_exec.specs.declared.source.Sub.{Sub}
+use Rattle.box_exec.specs.declared.source.SubRows.{SubRows}
+use Rattle.box_exec.specs.declared.source.SubRows.TheVariants.{Plain, Found}
 
 abbrev pub held : Source → Bag
 held (Borrowed rows) = rows.now
 held (Made bag) = bag
 
+-- of an E, A or S quantifier
+abbrev pub rows_held : SubRows → Bag
+rows_held (Plain source) = held source
+rows_held (Found rows) = rows.now
+
 -- the rows of the first of this number
 abbrev pub held_by : List Sub → ℕ → Bag
 held_by [] q = []
-held_by (s ∷ subs) q = if s.quant == q then held s.rows else held_by subs q
+held_by (s ∷ subs) q = if s.quant == q then rows_held s.rows else held_by subs q

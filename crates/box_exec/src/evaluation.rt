@@ -2,7 +2,6 @@
 ghost use Rattle.std.specs.Prelude.{◌≡◌, IfOk, IsOkAnd, true, false, unwrap_or};
 ghost use Rattle.qgm_terms.specs.Shown.{choices, cond, conds, links, sign, term};
 ghost use Rattle.qgm_terms.specs.Terms.{armed};
-ghost use Rattle.row_bag.specs.Bags.{if_there, total};
 ghost use Rattle.sql_value.specs.Arithmetic as arithmetic;
 ghost use Rattle.sql_value.specs.Comparison as comparisons;
 ghost use Rattle.sql_value.specs.Truths as truths;
@@ -10,15 +9,16 @@ ghost use Rattle.sql_value.specs.declared.cell.Cell.{Cell};
 ghost use Rattle.box_exec.specs.Bound.{env_of};
 ghost use Rattle.box_exec.specs.Sources.{held_by};
 ghost use Rattle.box_exec.specs.Forms.{cell_held};
+ghost use Rattle.box_exec.specs.Idle as idle;
 ghost use Rattle.box_exec.specs.Lists as lists;
-ghost use Rattle.row_bag.specs.Subqueries as u;
 ghost use Rattle.qgm_meaning.specs.Values as meaning;
 
 use crate::bindings::{Bindings, column};
 use crate::operand::{Operand, standing};
-use crate::source::{Sub, rows_of};
+use crate::source::{Sub, rows_of, way_of};
 use qgm_terms::{Arm, Gc, Gx, Link, Op, QuantId, Sign};
 use row_bag::{Row, presence, scalar};
+use row_index::{first_of, next_of};
 use shared_types::OutOfMemory;
 use sql_value::{
     Cell, CmpOp, Kind, Level, Text, Truth, add, and, compare, concat, decided, div, is_null, like,
@@ -108,6 +108,29 @@ fn is_wholly(truth: Truth, holds: bool) -> bool
     ensures { result ≡ true → truth ≡ truths.truth_of holds }
 {
     truth == decided(holds)
+}
+
+// The AND of two, or else the OR.
+fn joined(holds: bool, a: Truth, b: Truth) -> Truth
+    ensures { result ≡ idle.joined holds a b }
+{
+    if holds { and(a, b) } else { or(a, b) }
+}
+
+// NOT presence of a row OR a condition on it; or else presence AND the condition.
+fn counted(
+    holds: bool,
+    level: Level,
+    held: Result<Truth, OutOfMemory>,
+) -> Result<Truth, OutOfMemory>
+    ensures { IfOk result (λ truth. IsOkAnd held (λ p. truth ≡ idle.counted holds level p)) }
+{
+    let held = held?;
+    if holds {
+        Ok(or(not(presence(level)), held))
+    } else {
+        Ok(and(presence(level), held))
+    }
 }
 
 /// The cell that an expression is.
@@ -234,8 +257,8 @@ pub fn hold(alloc: Global, p: &Gc, subs: &[Sub<'_>], env: &Bindings) -> Result<T
             any_of(alloc, first, list, subs, env)
         }
         Gc::Not(a) => negated(hold(alloc, a, subs, env)),
-        Gc::Some(q, a) => some(alloc, *q, a, rows_of(subs, *q), subs, env),
-        Gc::Every(q, a) => every(alloc, *q, a, rows_of(subs, *q), subs, env),
+        Gc::Some(q, a) => quantified(alloc, false, *q, a, subs, env),
+        Gc::Every(q, a) => quantified(alloc, true, *q, a, subs, env),
     }
 }
 
@@ -277,102 +300,56 @@ fn any_of(
     Ok(total)
 }
 
-// For a row of the quantifier: an OR that ends where it is true.
+// For a row of the quantifier: an OR that ends where it is true. Or for each: an AND that ends where it is
+// false. Rows that an index tells to count for nothing are passed over.
 #[cycle(value)]
 #[inline(never)]
-fn some(
+fn quantified(
     alloc: Global,
+    holds: bool,
     q: QuantId,
     p: &Gc,
-    rows: &[Row],
     subs: &[Sub<'_>],
     env: &Bindings,
 ) -> Result<Truth, OutOfMemory>
-    ensures { IfOk result (λ truth. truth ≡ total truths.or (truths.truth_of false) (λ cells level. truths.and (u.presence level) (meaning.truth (held_by subs.now) (cond p.now) (meaning.bound q cells (env_of env.now)))) rows.now) }
+    ensures { IfOk result (λ truth. truth ≡ idle.quantified holds (λ cells. meaning.truth (held_by subs.now) (cond p.now) (meaning.bound q cells (env_of env.now))) (held_by subs.now q)) }
 {
-    let mut truth = decided(false);
-    for row in rows {
-        if is_wholly(truth, true) {
+    let rows = rows_of(subs, q);
+    let way = way_of(alloc, subs, holds, q, p, env)?;
+    let mut truth = decided(holds);
+    let mut c = first_of(&way);
+    let mut i = c.place();
+    while i < rows.len() {
+        if is_wholly(truth, !holds) {
             return Ok(truth);
         }
-        truth = or(truth, some_row(alloc, q, p, row, subs, env)?);
+        let counted = row_truth(alloc, holds, q, p, &rows[i], subs, env)?;
+        truth = joined(holds, truth, counted);
+        c = next_of(&way, c);
+        i = c.place();
     }
     Ok(truth)
 }
 
-// Presence of a row AND a condition on it, false of a row that isn't there.
+// What a row counts in it.
 #[cycle(value)]
 #[inline(never)]
-fn some_row(
+fn row_truth(
     alloc: Global,
+    holds: bool,
     q: QuantId,
     p: &Gc,
     row: &Row,
     subs: &[Sub<'_>],
     env: &Bindings,
 ) -> Result<Truth, OutOfMemory>
-    ensures { IfOk result (λ truth. truth ≡ if_there (truths.truth_of false) (λ cells level. truths.and (u.presence level) (meaning.truth (held_by subs.now) (cond p.now) (meaning.bound q cells (env_of env.now)))) row.now.cells row.now.level) }
+    ensures { IfOk result (λ truth. truth ≡ idle.row_truth holds (λ cells. meaning.truth (held_by subs.now) (cond p.now) (meaning.bound q cells (env_of env.now))) row.now) }
 {
     match row.level {
-        Level::No => Ok(decided(false)),
+        Level::No => Ok(decided(holds)),
         Level::Cardinality | Level::Division | Level::Overflow | Level::Yes => {
-            let held = hold(
-                alloc,
-                p,
-                subs,
-                &Bindings::Row(q, row.cells.as_slice(), &*env),
-            )?;
-            Ok(and(presence(row.level), held))
-        }
-    }
-}
-
-// For each row of the quantifier: an AND that ends where it is false.
-#[cycle(value)]
-#[inline(never)]
-fn every(
-    alloc: Global,
-    q: QuantId,
-    p: &Gc,
-    rows: &[Row],
-    subs: &[Sub<'_>],
-    env: &Bindings,
-) -> Result<Truth, OutOfMemory>
-    ensures { IfOk result (λ truth. truth ≡ total truths.and (truths.truth_of true) (λ cells level. truths.or (truths.negated (u.presence level)) (meaning.truth (held_by subs.now) (cond p.now) (meaning.bound q cells (env_of env.now)))) rows.now) }
-{
-    let mut truth = decided(true);
-    for row in rows {
-        if is_wholly(truth, false) {
-            return Ok(truth);
-        }
-        truth = and(truth, every_row(alloc, q, p, row, subs, env)?);
-    }
-    Ok(truth)
-}
-
-// NOT presence of a row OR a condition on it, true of a row that isn't there.
-#[cycle(value)]
-#[inline(never)]
-fn every_row(
-    alloc: Global,
-    q: QuantId,
-    p: &Gc,
-    row: &Row,
-    subs: &[Sub<'_>],
-    env: &Bindings,
-) -> Result<Truth, OutOfMemory>
-    ensures { IfOk result (λ truth. truth ≡ if_there (truths.truth_of true) (λ cells level. truths.or (truths.negated (u.presence level)) (meaning.truth (held_by subs.now) (cond p.now) (meaning.bound q cells (env_of env.now)))) row.now.cells row.now.level) }
-{
-    match row.level {
-        Level::No => Ok(decided(true)),
-        Level::Cardinality | Level::Division | Level::Overflow | Level::Yes => {
-            let held = hold(
-                alloc,
-                p,
-                subs,
-                &Bindings::Row(q, row.cells.as_slice(), &*env),
-            )?;
-            Ok(or(not(presence(row.level)), held))
+            let inside = Bindings::Row(q, row.cells.as_slice(), &*env);
+            counted(holds, row.level, hold(alloc, p, subs, &inside))
         }
     }
 }

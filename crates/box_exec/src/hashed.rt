@@ -6,6 +6,7 @@ ghost use Rattle.box_exec.specs.Hashed as spec;
 ghost use Rattle.box_exec.specs.Lookup as lookup;
 ghost use Rattle.box_exec.specs.Plans as plan;
 ghost use Rattle.box_exec.specs.Ready.{SubsOf, isnt_F};
+ghost use Rattle.box_exec.specs.Sources.{rows_held};
 ghost use Rattle.qgm_core.specs.declared.kinds.BoxKind.TheVariants as kind;
 ghost use Rattle.qgm_meaning.specs.Meaning as m;
 ghost use Rattle.qgm_meaning.specs.Values.{Environment};
@@ -14,10 +15,11 @@ ghost use Rattle.row_bag.specs.Bags.{Alike, keep};
 use crate::bindings::Bindings;
 use crate::boxes::At;
 use crate::early::{Early, is_none, is_open, rejected};
+use crate::found::{Found, found_in};
 use crate::heads::{add_given, once_added};
 use crate::key::{Key, key_in};
 use crate::lookup::{Hashed, hashed_by, way_through};
-use crate::source::{Source, Sub};
+use crate::source::{Source, Sub, SubRows};
 use crate::under::{Loop, Under};
 use qgm_core::QuantId;
 use row_bag::{Bag, Row};
@@ -162,16 +164,69 @@ fn over_kept<'x>(
     Ok(())
 }
 
-// The rows of the quantifiers that bind none.
-fn kept_subs<'a>(at: &At<'a>) -> Result<Vec<Sub<'a>>, OutOfMemory>
-    requires planned { plan.Planned at.now }
-    requires kept { spec.AllKept at.now.loops.now }
-    ensures { IfOk result (λ subs. (env : Environment) → SubsOf (plan.family at.now) env (filter isnt_F (plan.ranges at.now.loops.now)) subs.items) }
+// The rows of an E or A quantifier, found by hashes if this is asked for and they can be.
+fn found_if<'a>(wanted: bool, at: &At<'a>, l: &Loop<'a>) -> Result<Option<Found<'a>>, OutOfMemory>
+    ensures { IfOk result (λ o. IfSome o (λ f. f ≡ spec.rows_kept l.now.under)) }
 {
+    if !wanted {
+        return Ok(None);
+    }
+    let list = at.node.parts.conds.as_slice();
+    found_in(at.run.alloc, list, l.range.id, kept_rows(l))
+}
+
+// Whether a quantifier binds several rows.
+fn has_several(l: &Loop<'_>) -> bool {
+    l.range.kind.is_f() && kept_rows(l).len() > 1
+}
+
+// The rows of the quantifiers of a box that bind none, where they are found by hashes: for several
+// combinations of rows of the others.
+fn all_found<'a>(at: &At<'a>) -> Result<Vec<Option<Found<'a>>>, OutOfMemory>
+    ensures { IfOk result (λ made. spec.AllFound at.now.loops.now made.items) }
+{
+    let mut made = Vec::with_capacity(at.run.alloc, at.loops.len())?;
+    let several = at.loops.iter().any(|l| has_several(l));
+    for i in 0..at.loops.len() {
+        let l = &at.loops[i];
+        let found = found_if(several && !l.range.kind.is_f(), at, l)?;
+        made.push(found)?;
+    }
+    Ok(made)
+}
+
+// The rows of the quantifier at a place.
+fn sub_rows<'a>(found: &'a [Option<Found<'a>>], i: usize, l: &Loop<'a>) -> SubRows<'a>
+    requires { spec.FoundAt found.now i l.now.under }
+    ensures { rows_held result ≡ spec.rows_kept l.now.under }
+{
+    match found.get(i) {
+        Some(Some(rows)) => SubRows::Found(rows),
+        Some(None) | None => SubRows::Plain(Source::Borrowed(kept_rows(l))),
+    }
+}
+
+/// A select whose quantifiers all stand on kept rows, and the rows of those that bind none, where they are
+/// found by hashes.
+#[derive(Clone, Copy)]
+pub(crate) struct Finding<'a> {
+    pub at: &'a At<'a>,
+    pub found: &'a [Option<Found<'a>>],
+}
+
+// The rows of the quantifiers that bind none.
+fn kept_subs<'a>(finding: &Finding<'a>) -> Result<Vec<Sub<'a>>, OutOfMemory>
+    requires planned { plan.Planned finding.now.at.now }
+    requires kept { spec.AllKept finding.now.at.now.loops.now }
+    requires found { spec.AllFound finding.now.at.now.loops.now finding.now.found.now }
+    ensures { IfOk result (λ subs. (env : Environment) → SubsOf (plan.family finding.now.at.now) env (filter isnt_F (plan.ranges finding.now.at.now.loops.now)) subs.items) }
+{
+    let at = finding.at;
     let mut subs = Vec::new(at.run.alloc);
-    for l in at.loops {
+    for i in 0..at.loops.len() {
+        let l = &at.loops[i];
         if !l.range.kind.is_f() {
-            let rows = Source::Borrowed(kept_rows(l));
+            let rows = sub_rows(finding.found, i, l);
             subs.push(Sub {
                 quant: l.range.id,
                 rows,
@@ -196,7 +251,12 @@ pub(crate) fn kept_selected(at: &At<'_>, env: &Bindings) -> Result<Bag, OutOfMem
     ensures { IfOk result (λ bag. Alike bag (m.rows_by kind.Select (plan.tables_of at.now) at.now.node.now (m.quant_rows at.now.node.now (plan.family at.now)) (env_of env.now))) }
 {
     let hashed = all_hashed(at)?;
-    let subs = kept_subs(at)?;
+    let found = all_found(at)?;
+    let finding = Finding {
+        at: &*at,
+        found: &found,
+    };
+    let subs = kept_subs(&finding)?;
     let whole = Whole {
         at: &*at,
         hashed: &hashed,

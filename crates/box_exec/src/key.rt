@@ -88,12 +88,29 @@ fn key_of<'a>(
     q: QuantId,
     by: Equality,
 ) -> Result<Option<Key<'a>>, OutOfMemory>
-    ensures { IfOk result (λ o. IfSome o (λ k. spec.AreSides q (term own.now) (term other.now) by k)) }
+    ensures { IfOk result (λ o. IfSome o (λ k. (k.by ≡ by) × spec.AreSides q (term own.now) (term other.now) k)) }
 {
     if is_other(other, q) && is_own(alloc, own, q)? {
         return Ok(Some(Key { own, other, by }));
     }
     Ok(None)
+}
+
+/// Two expressions as a key, if they are so in this order or the other one. It fails only for want of
+/// memory.
+pub(crate) fn sided<'a>(
+    alloc: Global,
+    a: &'a Gx,
+    b: &'a Gx,
+    q: QuantId,
+    by: Equality,
+) -> Result<Option<Key<'a>>, OutOfMemory>
+    ensures { IfOk result (λ o. IfSome o (λ k. (k.by ≡ by) × spec.AreEither q (term a.now) (term b.now) k)) }
+{
+    match key_of(alloc, a, b, q, by)? {
+        Some(key) => Ok(Some(key)),
+        None => key_of(alloc, b, a, q, by),
+    }
 }
 
 // The equality of a comparison, if it is one.
@@ -122,8 +139,5 @@ pub(crate) fn key_in<'a>(
     let Some(by) = equating(*s) else {
         return Ok(None);
     };
-    match key_of(alloc, a, b, q, by)? {
-        Some(key) => Ok(Some(key)),
-        None => key_of(alloc, b, a, q, by),
-    }
+    sided(alloc, a, b, q, by)
 }

@@ -1,5 +1,5 @@
 // Rows of a quantifier, found by the hashes of the cells that equalities ask for.
-ghost use Rattle.std.specs.Prelude.{◌≡◌, All, Bool, IfOk, IfSome, List, ℕ, length, true};
+ghost use Rattle.std.specs.Prelude.{◌≡◌, All, Bool, IfOk, IfSome, List, None, ℕ, length, true};
 ghost use Rattle.box_exec.specs.Bound.{env_of};
 ghost use Rattle.box_exec.specs.Forms.{cell_held};
 ghost use Rattle.box_exec.specs.Equalities.{other_of};
@@ -124,6 +124,18 @@ fn aim_of(alloc: Global, keys: &[Key<'_>], env: &Bindings) -> Result<Aim, OutOfM
     Ok(Aim::Hash(hasher.finish()))
 }
 
+/// The way through so many rows, past none.
+pub(crate) fn all_rows<'a>(end: usize) -> Way<'a>
+    ensures end { result.end ≡ end }
+    ensures all { result.index ≡ None }
+{
+    Way {
+        end,
+        index: None,
+        hash: None,
+    }
+}
+
 // The way through so many rows by their index.
 fn way_by<'a>(
     alloc: Global,
@@ -139,11 +151,7 @@ fn way_by<'a>(
             index: Some(&h.index),
             hash: Some(hash),
         }),
-        Aim::Anywhere => Ok(Way {
-            end,
-            index: None,
-            hash: None,
-        }),
+        Aim::Anywhere => Ok(all_rows(end)),
         Aim::Nowhere => Ok(Way {
             end,
             index: Some(&h.index),
@@ -163,10 +171,6 @@ pub(crate) fn way_through<'a>(
 {
     match hashed {
         Some(h) => way_by(alloc, h, end, env),
-        None => Ok(Way {
-            end,
-            index: None,
-            hash: None,
-        }),
+        None => Ok(all_rows(end)),
     }
 }

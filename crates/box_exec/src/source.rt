@@ -1,9 +1,17 @@
 // Rows that are borrowed or made.
 ghost use Rattle.std.specs.Prelude.{◌≡◌, ◌++◌, ◌∷◌, [], IfOk, IsOkAnd, OnOk};
-ghost use Rattle.box_exec.specs.Sources.{held, held_by};
+ghost use Rattle.box_exec.specs.Bound.{env_of};
+ghost use Rattle.box_exec.specs.Idle.{LeadsIdle};
+ghost use Rattle.box_exec.specs.Sources.{held, held_by, rows_held};
+ghost use Rattle.box_exec.specs.declared.source.SubRows.TheVariants as kind;
+ghost use Rattle.qgm_terms.specs.Shown.{cond};
 
-use qgm_terms::QuantId;
+use crate::bindings::Bindings;
+use crate::found::Found;
+use crate::lookup::all_rows;
+use qgm_terms::{Gc, QuantId};
 use row_bag::{Bag, Row, copied_rows};
+use row_index::Way;
 use shared_types::OutOfMemory;
 use std::alloc::Global;
 
@@ -53,11 +61,47 @@ pub(crate) fn bag_of(
     rows?.into_bag(alloc)
 }
 
+/// Rows of an E, A or S quantifier, some of which have an index.
+#[derive(Drop)]
+pub enum SubRows<'a> {
+    Plain(Source<'a>),
+    Found(&'a Found<'a>),
+}
+
+impl<'a> SubRows<'a> {
+    // The rows.
+    fn rows(&self) -> &[Row]
+        ensures { result.now ≡ rows_held self.now }
+    {
+        match self {
+            SubRows::Plain(source) => source.rows(),
+            SubRows::Found(found) => found.rows(),
+        }
+    }
+
+    // The way through the rows for a condition of some, or else of every.
+    fn way(
+        &self,
+        alloc: Global,
+        holds: bool,
+        q: QuantId,
+        c: &Gc,
+        env: &Bindings,
+    ) -> Result<Way<'_>, OutOfMemory>
+        ensures { IfOk result (λ w. LeadsIdle holds q (cond c.now) (rows_held self.now) (env_of env.now) w) }
+    {
+        match self {
+            SubRows::Plain(source) => Ok(all_rows(source.rows().len())),
+            SubRows::Found(found) => found.way(alloc, holds, q, c, env),
+        }
+    }
+}
+
 /// The rows of an E, A or S quantifier.
 #[derive(Drop)]
 pub struct Sub<'a> {
     pub quant: QuantId,
-    pub rows: Source<'a>,
+    pub rows: SubRows<'a>,
 }
 
 /// The rows of the first of this number, none of one that isn't among them.
@@ -72,15 +116,38 @@ pub fn rows_of<'a>(subs: &'a [Sub], q: QuantId) -> &'a [Row]
     &[]
 }
 
+/// The way through them for a condition of some, or else of every: past such as count for nothing. It
+/// fails only for want of memory.
+pub(crate) fn way_of<'a>(
+    alloc: Global,
+    subs: &'a [Sub],
+    holds: bool,
+    q: QuantId,
+    c: &Gc,
+    env: &Bindings,
+) -> Result<Way<'a>, OutOfMemory>
+    ensures { IfOk result (λ w. LeadsIdle holds q (cond c.now) (held_by subs.now q) (env_of env.now) w) }
+{
+    for sub in subs {
+        if sub.quant == q {
+            return sub.rows.way(alloc, holds, q, c, env);
+        }
+    }
+    Ok(all_rows(0))
+}
+
 /// Adds the rows of a quantifier. It fails where these do, or for want of memory.
 pub(crate) fn push_sub<'a>(
     subs: &mut Vec<Sub<'a>>,
     quant: QuantId,
     rows: Result<Source<'a>, OutOfMemory>,
 ) -> Result<(), OutOfMemory>
-    ensures { OnOk result (IsOkAnd rows.entry (λ s. subs.new.items ≡ subs.old.items ++ record { quant = quant; rows = s } ∷ [])) }
+    ensures { OnOk result (IsOkAnd rows.entry (λ s. subs.new.items ≡ subs.old.items ++ record { quant = quant; rows = kind.Plain s } ∷ [])) }
 {
     let rows = rows?;
-    subs.push(Sub { quant, rows })?;
+    subs.push(Sub {
+        quant,
+        rows: SubRows::Plain(rows),
+    })?;
     Ok(())
 }

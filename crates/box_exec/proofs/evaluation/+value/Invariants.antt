@@ -1,13 +1,12 @@
-use Rattle.std.proofs.Common.{◌≡◌, true, false, drop}
+use Rattle.std.proofs.Common.{◌≡◌, ◌-◌, drop, length}
 use Rattle.qgm_terms.specs.Shown.{choices, cond, conds, links}
 use Rattle.qgm_terms.specs.Terms.{armed}
-use Rattle.row_bag.specs.Bags.{total}
-use Rattle.sql_value.specs.Truths as t
+use Rattle.row_index.specs.Ways.{StandsFrom, place}
 use Rattle.sql_value.specs.declared.cell.Cell.{Cell}
 use Rattle.box_exec.specs.Bound.{env_of}
 use Rattle.box_exec.specs.Sources.{held_by}
 use Rattle.box_exec.specs.Lists as lists
-use Rattle.row_bag.specs.Subqueries as u
+use Rattle.box_exec.specs.Idle.{joined, quantified}
 use Rattle.qgm_meaning.specs.Values as m
 use Rattle.box_exec.proofs.evaluation.+value.Given as goal
 
@@ -31,12 +30,13 @@ invariant-any_of-loop-p l =
     lists.any_of (held_by l.subs) l.total (conds (drop l.p-index l.list)) (env_of l.env)
     ≡ lists.any_of (held_by l.subs) l.fn.first (conds l.list) (env_of l.env)
 
-abbrev pub invariant-some-loop-row : goal.invariant-some-loop-row
-invariant-some-loop-row l =
-    t.or l.truth (total t.or (t.truth_of false) (λ cells level. t.and (u.presence level) (m.truth (held_by l.subs) (cond l.p) (m.bound l.q cells (env_of l.env)))) (drop l.row-index l.rows))
-    ≡ total t.or (t.truth_of false) (λ cells level. t.and (u.presence level) (m.truth (held_by l.subs) (cond l.p) (m.bound l.q cells (env_of l.env)))) l.rows
+abbrev pub invariant-quantified-loop-i : goal.invariant-quantified-loop-i
+invariant-quantified-loop-i l = record {
+  whole : joined l.holds l.truth (quantified l.holds (λ cells. m.truth (held_by l.subs) (cond l.p) (m.bound l.q cells (env_of l.env))) (drop l.i l.rows))
+      ≡ quantified l.holds (λ cells. m.truth (held_by l.subs) (cond l.p) (m.bound l.q cells (env_of l.env))) l.rows;
+  stands : StandsFrom l.way (place l.c) l.c;
+  at : l.i ≡ place l.c;
+}
 
-abbrev pub invariant-every-loop-row : goal.invariant-every-loop-row
-invariant-every-loop-row l =
-    t.and l.truth (total t.and (t.truth_of true) (λ cells level. t.or (t.negated (u.presence level)) (m.truth (held_by l.subs) (cond l.p) (m.bound l.q cells (env_of l.env)))) (drop l.row-index l.rows))
-    ≡ total t.and (t.truth_of true) (λ cells level. t.or (t.negated (u.presence level)) (m.truth (held_by l.subs) (cond l.p) (m.bound l.q cells (env_of l.env)))) l.rows
+abbrev pub decreases-quantified-loop-i : goal.decreases-quantified-loop-i
+decreases-quantified-loop-i l = length l.rows - l.i

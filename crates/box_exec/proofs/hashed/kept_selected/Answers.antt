@@ -16,8 +16,8 @@ over_kept-added-requires c =
     record {
       planned = c.requires.planned;
       kept = c.requires.kept;
-      hashed = subst (λ (hs : List (Option Hashed)). AllHashed at hs) (sym c.deref.ensures.value) c.in_ok-hashed.ensures;
-      subs = λ env. subst (λ (ss : List Sub). SubsOf (family at) env (filter isnt_F (ranges at.loops.now)) ss) (sym c.deref-2.ensures.value) (c.in_ok-subs.ensures env);
+      hashed = subst (λ (hs : List (Option Hashed)). AllHashed at hs) (sym c.deref-2.ensures.value) c.in_ok-hashed.ensures;
+      subs = λ env. subst (λ (ss : List Sub). SubsOf (family at) env (filter isnt_F (ranges at.loops.now)) ss) (sym c.deref-3.ensures.value) (c.in_ok-subs.ensures env);
     }
 
 pub returns : goal.returns

@@ -1,4 +1,4 @@
-use Rattle.std.proofs.Common.{List, refl, subst}
+use Rattle.std.proofs.Common.{◌∙◌, List, refl, subst}
 use Rattle.box_exec.specs.Bound.{env_of}
 use Rattle.box_exec.specs.Lookup.{Aims}
 use Rattle.box_exec.specs.declared.key.Key.{Key}
@@ -15,7 +15,7 @@ returns-in-Hash c = λ test q rows e is.
     leads-hash test q rows env c.args.h.now is _ c.in-Hash.hash e refl refl aims
 
 pub returns-in-Anywhere : goal.returns-in-Anywhere
-returns-in-Anywhere c = λ test q rows e is. leads-all test q rows (env_of c.args.env.now) _ e refl
+returns-in-Anywhere c = λ test q rows e is. leads-all test q rows (env_of c.args.env.now) c.all_rows.result (c.all_rows.ensures.end ∙ e) c.all_rows.ensures.all
 
 pub returns-in-Nowhere : goal.returns-in-Nowhere
 returns-in-Nowhere c = λ test q rows e is.

@@ -1,4 +1,4 @@
-use Rattle.std.proofs.Common.{refl}
+use Rattle.std.proofs.Common.{◌∙◌}
 use Rattle.std.proofs.lemmas.Result.{IfOk-weaker}
 use Rattle.box_exec.specs.Bound.{env_of}
 use Rattle.box_exec.specs.Lookup.{Hashes}
@@ -12,4 +12,4 @@ returns-in-Some c =
     c.way_by.ensures
 
 pub returns-in-None : goal.returns-in-None
-returns-in-None c = λ test q rows e is. leads-all test q rows (env_of c.args.env.now) _ e refl
+returns-in-None c = λ test q rows e is. leads-all test q rows (env_of c.args.env.now) c.all_rows.result (c.all_rows.ensures.end ∙ e) c.all_rows.ensures.all
