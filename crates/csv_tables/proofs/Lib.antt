@@ -11,3 +11,4 @@ mod Rows
 mod SeenSteps
 mod Texts
 mod Walks
+mod KeysOnce

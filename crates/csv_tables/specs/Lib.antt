@@ -3,6 +3,7 @@ pub mod Records
 pub mod Cells
 pub mod Contents
 pub mod KeyCells
+pub mod KeysOnce
 pub mod Ties
 pub mod Seen
 pub mod Tables

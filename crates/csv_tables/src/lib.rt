@@ -5,6 +5,7 @@ mod content;
 mod differ;
 mod header;
 mod key_cells;
+mod keys_once;
 mod loading;
 mod records;
 mod refusal;

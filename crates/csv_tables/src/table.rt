@@ -14,6 +14,7 @@ ghost use Rattle.csv_tables.specs.Tables as spec;
 use crate::content::{Content, content_of};
 use crate::differ::keys_differ;
 use crate::header::fits_header;
+use crate::keys_once::keyed_once;
 use crate::records::Records;
 use crate::refusal::TableRefusal;
 use crate::rule::Rule;
@@ -293,7 +294,7 @@ fn takes_header(
     fits_header(alloc, table.columns.as_slice(), &header)
 }
 
-// The rows of the records behind the header.
+// The rows of the records behind the header. A key that is declared again is checked once.
 fn read_rows(
     alloc: Global,
     table: TableDescriptor,
@@ -307,6 +308,7 @@ fn read_rows(
             record_number: 0,
         });
     }
+    let table = keyed_once(alloc, table)?;
     rows(alloc, table, records)
 }
 
