@@ -302,6 +302,7 @@ fn joined<L: Ledger>(
         node: at.node,
         left: p.range.id,
         right: q.range.id,
+        indexed: at.run.indexed,
     };
     outer_joined(at.run.alloc, &join, xs, ys, env)
 }

@@ -18,14 +18,12 @@ use std::alloc::Global;
 use std::sync::ledger::Ledger;
 use step_count::Steps;
 
-/// The rows of a graph over tables, and how many evaluations of boxes they took, which are added to
-/// `steps`; where these are more than the greatest 64-bit number, that number. A box below the root
-/// that looks no quantifier up is evaluated once; any other anew wherever it is asked. It fails only
-/// for want of memory.
-pub fn execute<L: Ledger>(
+// The rows of a graph over tables, looked up in indexes or not, and how many evaluations they took.
+fn executed<L: Ledger>(
     alloc: Global,
     graph: &Graph,
     tables: &Tables,
+    indexed: bool,
     steps: &mut Steps<L>,
 ) -> Result<(Bag, u64), OutOfMemory>
     requires fit { AllFit graph.now.boxes }
@@ -45,11 +43,54 @@ pub fn execute<L: Ledger>(
     };
     let below = behind(nodes, i);
     let marks = reached(alloc, nodes, root)?;
-    let memo = memo_of(alloc, below, tables, &marks, steps, &mut count)?;
+    let memo = memo_of(alloc, below, tables, &marks, indexed, steps, &mut count)?;
     let place = BoxOver {
         node: &nodes[i],
         below,
+        indexed,
     };
     let rows = root_rows(alloc, tables, memo, &place, steps, &mut count)?;
     Ok((rows, count))
+}
+
+/// The rows of a graph over tables, and how many evaluations of boxes they took, which are added to
+/// `steps`; where these are more than the greatest 64-bit number, that number. A box below the root
+/// that looks no quantifier up is evaluated once; any other anew wherever it is asked. It fails only
+/// for want of memory.
+pub fn execute<L: Ledger>(
+    alloc: Global,
+    graph: &Graph,
+    tables: &Tables,
+    steps: &mut Steps<L>,
+) -> Result<(Bag, u64), OutOfMemory>
+    requires fit { AllFit graph.now.boxes }
+    ensures rows { IfOk result (λ r. Agree same_cells r.0 (root_bag tables.now graph.now)) }
+    ensures counted { IfOk result (λ r. r.1 ≡ min (steps.new - steps.old) 18446744073709551615) }
+    ensures never_less { steps.old ≤ steps.new }
+    ensures took { IfOk result (λ r. Took tables.now graph.now steps.old steps.new) }
+    ensures exact { IfOk result (λ r. NamesBound graph.now → AllClosed graph.now → steps.new ≡ steps.old + reached_number graph.now) }
+    ensures at_least_closed { IfOk result (λ r. NamesBound graph.now → steps.old + closed_number graph.now ≤ steps.new) }
+    ensures at_most_plain { IfOk result (λ r. NamesBound graph.now → steps.new ≤ steps.old + plain tables.now graph.now) }
+{
+    executed(alloc, graph, tables, true, steps)
+}
+
+/// As `execute`, with rows that are gone through and not looked up in indexes: by this the rows and counts
+/// of `execute` can be compared.
+pub fn execute_plain<L: Ledger>(
+    alloc: Global,
+    graph: &Graph,
+    tables: &Tables,
+    steps: &mut Steps<L>,
+) -> Result<(Bag, u64), OutOfMemory>
+    requires fit { AllFit graph.now.boxes }
+    ensures rows { IfOk result (λ r. Agree same_cells r.0 (root_bag tables.now graph.now)) }
+    ensures counted { IfOk result (λ r. r.1 ≡ min (steps.new - steps.old) 18446744073709551615) }
+    ensures never_less { steps.old ≤ steps.new }
+    ensures took { IfOk result (λ r. Took tables.now graph.now steps.old steps.new) }
+    ensures exact { IfOk result (λ r. NamesBound graph.now → AllClosed graph.now → steps.new ≡ steps.old + reached_number graph.now) }
+    ensures at_least_closed { IfOk result (λ r. NamesBound graph.now → steps.old + closed_number graph.now ≤ steps.new) }
+    ensures at_most_plain { IfOk result (λ r. NamesBound graph.now → steps.new ≤ steps.old + plain tables.now graph.now) }
+{
+    executed(alloc, graph, tables, false, steps)
 }

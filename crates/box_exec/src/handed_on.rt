@@ -156,6 +156,7 @@ pub(crate) fn root_rows<L: Ledger>(
             alloc,
             tables,
             memo: &memo,
+            indexed: root.indexed,
         };
         return evaluated(&run, root.node, root.below, &Bindings::Empty, steps, count);
     };

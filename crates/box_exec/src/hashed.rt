@@ -83,7 +83,7 @@ fn hashed_if<'a>(
 ) -> Result<Option<Hashed<'a>>, OutOfMemory>
     ensures { IfOk result (λ o. IfSome o (λ h. spec.HashesAt at.now i l.now h)) }
 {
-    if !wanted || i == usize::MAX {
+    if !wanted || !at.run.indexed || i == usize::MAX {
         return Ok(None);
     }
     let keys = keys_of(at.run.alloc, at.early, i + 1, l.range.id)?;
@@ -168,7 +168,7 @@ fn over_kept<'x>(
 fn found_if<'a>(wanted: bool, at: &At<'a>, l: &Loop<'a>) -> Result<Option<Found<'a>>, OutOfMemory>
     ensures { IfOk result (λ o. IfSome o (λ f. f ≡ spec.rows_kept l.now.under)) }
 {
-    if !wanted {
+    if !wanted || !at.run.indexed {
         return Ok(None);
     }
     let list = at.node.parts.conds.as_slice();

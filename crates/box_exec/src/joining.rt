@@ -21,12 +21,13 @@ use sql_value::{Cell, Level};
 use sqlite_items::Items;
 use std::alloc::Global;
 
-/// An outer join: its box, and its left and its right quantifier.
+/// An outer join: its box, its left and its right quantifier, and whether rows are looked up in an index.
 #[derive(Clone, Copy)]
 pub(crate) struct Join<'a> {
     pub node: &'a Node,
     pub left: QuantId,
     pub right: QuantId,
+    pub indexed: bool,
 }
 
 /// Right rows, and their index if there is one.
@@ -58,7 +59,7 @@ fn hashed_on<'a>(
 ) -> Result<Option<Hashed<'a>>, OutOfMemory>
     ensures { IfOk result (λ o. IfSome o (λ h. Hashes (rejects_on join.now.node.now) join.now.right ys.now h)) }
 {
-    if xs.len() < 2 {
+    if !join.indexed || xs.len() < 2 {
         return Ok(None);
     }
     let keys = keys_on(alloc, join.node, join.right)?;

@@ -25,7 +25,7 @@ mod under;
 
 pub use bindings::Bindings;
 pub use evaluation::{hold, value};
-pub use execution::execute;
+pub use execution::{execute, execute_plain};
 pub use found::Found;
 pub use laws::execution_laws;
 pub use source::{Source, Sub, SubRows};

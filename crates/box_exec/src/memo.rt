@@ -53,6 +53,7 @@ fn entry<'t, L: Ledger>(
                 alloc,
                 tables,
                 memo,
+                indexed: place.indexed,
             };
             let rows = evaluated(
                 &run,
@@ -111,6 +112,7 @@ pub(crate) fn memo_of<'t, L: Ledger>(
     nodes: &[Node],
     tables: &'t Tables,
     marks: &Marks,
+    indexed: bool,
     steps: &mut Steps<L>,
     count: &mut u64,
 ) -> Result<Vec<Option<Source<'t>>>, OutOfMemory>
@@ -129,6 +131,7 @@ pub(crate) fn memo_of<'t, L: Ledger>(
         let place = BoxOver {
             node: &nodes[i],
             below,
+            indexed,
         };
         let names = beyond(alloc, place.node, below, &named)?;
         let keep = is_kept(&names, marks, place.node.id);

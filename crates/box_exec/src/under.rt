@@ -12,19 +12,22 @@ use row_bag::{Row, Tables};
 use shared_types::{OutOfMemory, Text};
 use std::alloc::Global;
 
-/// What all evaluations read. The entry at i of the memo is of the box with i boxes behind it.
+/// What all evaluations read. The entry at i of the memo is of the box with i boxes behind it. Rows are
+/// looked up in indexes or not.
 #[derive(Clone, Copy)]
 pub(crate) struct Run<'a> {
     pub alloc: Global,
     pub tables: &'a Tables,
     pub memo: &'a [Option<Source<'a>>],
+    pub indexed: bool,
 }
 
-/// A box, and those behind it.
+/// A box, those behind it, and whether rows are looked up in indexes.
 #[derive(Clone, Copy)]
 pub(crate) struct BoxOver<'a> {
     pub node: &'a Node,
     pub below: &'a [Node],
+    pub indexed: bool,
 }
 
 /// What stands under a quantifier: rows that are kept, a box with those behind it, which is evaluated

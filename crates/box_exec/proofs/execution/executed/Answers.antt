@@ -2,7 +2,7 @@ use Rattle.std.proofs.Common.{sym, ◌∙◌, arith}
 use Rattle.box_exec.proofs.Roots.{root-behind, root-fit, root-none, root-rows, root-there, root-took}
 use Rattle.box_exec.proofs.Totals.{took-exactly, took-within}
 use Rattle.std.proofs.lemmas.Grind.{common_steps}
-use Rattle.box_exec.proofs.execution.execute.Goals as goal
+use Rattle.box_exec.proofs.execution.executed.Goals as goal
 
 pub returns-in_default-clause-rows : goal.returns-in_default-clause-rows
 returns-in_default-clause-rows g c =
