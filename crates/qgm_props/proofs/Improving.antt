@@ -12,11 +12,11 @@ use Rattle.qgm_props.proofs.Environments.{first-in}
 
 -- ---- flags
 
-flags-long : (w : ℕ) (t : ℕ → Bool) → length (flags w t) ≡ w
+pub flags-long : (w : ℕ) (t : ℕ → Bool) → length (flags w t) ≡ w
 flags-long zero t = refl
 flags-long (suc w) t = length-append (flags w t) (t (suc w) ∷ []) ∙ (let h = flags-long w t in omega (arith, h))
 
-flags-get : (w : ℕ) (t : ℕ → Bool) (j : ℕ) → j < w → slice_get (flags w t) j ≡ Some (t (suc j))
+pub flags-get : (w : ℕ) (t : ℕ → Bool) (j : ℕ) → j < w → slice_get (flags w t) j ≡ Some (t (suc j))
 flags-get zero t j h = absurd (let z : ⊥ = omega (arith, h) in z)
 flags-get (suc w) t j h = elim (cases_Bool (nat_lt j w)) [
   | inl u ↦ (let l = ltb-true j w u in get-front (flags w t) (t (suc w) ∷ []) j (let e = flags-long w t in omega (arith, l, e)) ∙ flags-get w t j l)

@@ -35,3 +35,4 @@ pub mod Many
 pub mod Lowering
 pub mod NeverNegative
 pub mod MeasureLaws
+pub mod SettledFacts

@@ -11,3 +11,4 @@ pub mod Laws
 pub mod Examples
 pub mod Measure
 pub mod Lowering
+pub mod SettledFacts

@@ -134,7 +134,7 @@ fn are_keys_free(nodes: &RangeTable<'_>, table: &FactTable, k: usize, head: &[Gx
 }
 
 // Whether a box is clean.
-fn is_box_clean(nodes: &RangeTable<'_>, table: &FactTable, node: &Node) -> bool
+pub fn is_box_clean(nodes: &RangeTable<'_>, table: &FactTable, node: &Node) -> bool
     ensures { result ≡ spec.clean_by nodes.now (facts_of table.now) node.now.parts.kind node.now }
 {
     let ranges = node.quants.as_slice();
@@ -167,7 +167,7 @@ fn is_box_clean(nodes: &RangeTable<'_>, table: &FactTable, node: &Node) -> bool
 }
 
 // Whether a box has exactly one row.
-fn is_box_exact(nodes: &RangeTable<'_>, table: &FactTable, node: &Node) -> bool
+pub fn is_box_exact(nodes: &RangeTable<'_>, table: &FactTable, node: &Node) -> bool
     ensures { result ≡ spec.exactly_one_by nodes.now (facts_of table.now) node.now.parts.kind node.now }
 {
     let _boxes = nodes;
@@ -191,7 +191,7 @@ fn is_box_exact(nodes: &RangeTable<'_>, table: &FactTable, node: &Node) -> bool
 }
 
 // Whether a box has at most one row.
-fn is_box_single(nodes: &RangeTable<'_>, table: &FactTable, node: &Node) -> bool
+pub fn is_box_single(nodes: &RangeTable<'_>, table: &FactTable, node: &Node) -> bool
     ensures { result ≡ spec.at_most_one_by nodes.now (facts_of table.now) node.now.parts.kind node.now }
 {
     let _boxes = nodes;

@@ -1,5 +1,5 @@
 // What is inferred of a graph.
-ghost use Rattle.std.specs.Prelude.{◌≡◌, ◌↔◌, ◌<◌, length, true, false, List, IfOk, OnOk, IsTrue};
+ghost use Rattle.std.specs.Prelude.{◌≡◌, ◌<◌, length, true, false, List, IfOk, OnOk};
 ghost use Rattle.row_bag.specs.declared.tables.Table.{Table};
 ghost use Rattle.qgm_props.specs.Holding.{Holds};
 ghost use Rattle.qgm_props.specs.Inferred.{Fact, says};
@@ -9,41 +9,15 @@ ghost use Rattle.qgm_props.specs.Table.{Improves, Stable, StableAt, facts_of, un
 use crate::answers::Props;
 use crate::boxes::improved_facts;
 use crate::fact_table::FactTable;
-use crate::facts::BoxFacts;
 use crate::range_table::RangeTable;
+use crate::settling::is_settled;
 use qgm_core::Graph;
 use qgm_terms::either;
 use shared_types::OutOfMemory;
 use std::alloc::Global;
 
-// Whether two lists of flags are the same.
-fn are_same(a: &[bool], b: &[bool]) -> bool
-    ensures { IsTrue result ↔ (a.now ≡ b.now) }
-{
-    if a.len() != b.len() {
-        return false;
-    }
-    for i in 0..a.len() {
-        if a[i] != b[i] {
-            return false;
-        }
-    }
-    true
-}
-
-// Whether the same is known of a box.
-fn is_same(a: &BoxFacts, b: &BoxFacts) -> bool
-    ensures { IsTrue result ↔ (a.now ≡ b.now) }
-{
-    a.id == b.id
-        && a.clean == b.clean
-        && a.at_most_one == b.at_most_one
-        && a.exactly_one == b.exactly_one
-        && are_same(a.error_free.as_slice(), b.error_free.as_slice())
-        && are_same(a.not_null.as_slice(), b.not_null.as_slice())
-}
-
-// Improves what is known of the box at a rank, and tells whether it improved.
+// Improves what is known of the box at a rank, and tells whether it improved. It takes memory only where
+// it does.
 fn improve_at(
     alloc: Global,
     nodes: &RangeTable<'_>,
@@ -56,10 +30,12 @@ fn improve_at(
     ensures same { IfOk result (λ better. better ≡ false → (table.new ≡ table.old) × StableAt nodes.now table.new i) }
     ensures less { IfOk result (λ better. better ≡ true → unknown_in table.new < unknown_in table.old) }
 {
-    let next = improved_facts(alloc, nodes, &*table, &nodes.nodes()[i], table.at(i))?;
-    if is_same(&next, table.at(i)) {
+    let node = &nodes.nodes()[i];
+    let old = table.at(i);
+    if is_settled(nodes, &*table, node, old) {
         return Ok(false);
     }
+    let next = improved_facts(alloc, nodes, &*table, node, old)?;
     table.put(i, next);
     Ok(true)
 }

@@ -14,6 +14,7 @@ mod keys;
 mod laws;
 mod range_table;
 mod ranges;
+mod settling;
 
 pub use answers::Props;
 pub use calm::is_calm;

@@ -8,3 +8,4 @@ pub mod DropUnionDistinctMeans
 pub mod DropUnionDistinctKeeps
 mod DropsDistinctEdits
 mod ToldKeys
+pub mod FirstReader

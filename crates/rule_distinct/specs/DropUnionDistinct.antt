@@ -1,5 +1,5 @@
 -- L3, DISTINCT under UNION goes: its condition and its places. Its action is DropsDistinct.
-use Rattle.std.specs.Prelude.{ℕ, ◌≡◌, true, false, List, ◌==◌, ◌&&◌, Bool}
+use Rattle.std.specs.Prelude.{ℕ, ◌≡◌, true, false, List, ◌==◌, ◌&&◌, Bool, Option, Some, None}
 use Rattle.std.specs.List.{list_any}
 use Rattle.sql_value.specs.declared.order_key.SqlType.{SqlType}
 use Rattle.qgm_core.specs.Boxes.{QueryGraph, overs_in}
@@ -44,9 +44,18 @@ is_union Intersect = false
 is_union ExceptAll = false
 is_union Except = false
 
+-- it ranges over b
+abbrev pub ranges_over : ℕ → Node → Bool
+ranges_over b y = list_any (λ (r : OwnedQuant). r.over == b) y.quants
+
 -- it is a union over b
 abbrev pub unites : ℕ → Node → Bool
-unites b y = of_set (λ form types. is_union form) y.parts.kind && list_any (λ (r : OwnedQuant). r.over == b) y.quants
+unites b y = of_set (λ form types. is_union form) y.parts.kind && ranges_over b y
+
+-- a box that is found is a union
+abbrev pub is_union_found : Option Node → Bool
+is_union_found None = false
+is_union_found (Some y) = of_set (λ form types. is_union form) y.parts.kind
 
 -- one quantifier ranges over it, and that is one of a union
 abbrev pub is_under_union : QueryGraph → Node → Bool

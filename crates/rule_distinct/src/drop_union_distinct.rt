@@ -1,6 +1,6 @@
 // L3.
-ghost use Rattle.std.specs.Prelude.{◌≡◌, ◌==◌, OnErr, OnOk};
-ghost use Rattle.std.specs.List.{list_any};
+ghost use Rattle.std.specs.Prelude.{◌≡◌, OnErr, OnOk, option_map};
+ghost use Rattle.list_laws.specs.Lists.{first};
 ghost use Rattle.qgm_wellformed.specs.Sentences.{WellFormed};
 ghost use Rattle.qgm_core.specs.Boxes.{box_of};
 ghost use Rattle.rule_api.specs.Rules.{Preserves};
@@ -12,7 +12,7 @@ ghost use Rattle.rule_distinct.specs.PlainAt.{DropsDistinct};
 ghost use Rattle.rule_facts.specs.Places.{in_box, of_set};
 
 use crate::parts::{is_plain_select, put_distinct};
-use qgm_core::{BoxId, BoxKind, Distinct, Graph, Node, OwnedQuant, SetOperator};
+use qgm_core::{BoxId, BoxKind, Distinct, Graph, Node, SetOperator};
 use qgm_props::Inference;
 use rule_api::{Place, Rule, RuleId, add_if};
 use rule_facts::box_at;
@@ -48,32 +48,42 @@ fn is_union_kind(kind: &BoxKind) -> bool
     }
 }
 
-// Whether one of these quantifiers ranges over b.
-fn ranges_over(b: BoxId, ranges: &[OwnedQuant]) -> bool
-    ensures { result ≡ list_any (λ r. r.over == b) ranges.now }
+// Whether a box ranges over b.
+fn ranges_over(b: BoxId, node: &Node) -> bool
+    ensures { result ≡ spec.ranges_over b node.now }
 {
-    ranges.iter().any(|r| r.over == b)
+    node.quants.as_slice().iter().any(|r| r.over == b)
 }
 
-// Whether a box is a union over b.
-fn unites(b: BoxId, node: &Node) -> bool
-    ensures { result ≡ spec.unites b node.now }
+// The first box that ranges over b.
+fn first_reader(b: BoxId, nodes: &[Node]) -> Option<&Node>
+    ensures { option_map (λ n. n.now) result ≡ first (spec.ranges_over b) nodes.now }
 {
-    is_union_kind(&node.parts.kind) && ranges_over(b, node.quants.as_slice())
+    for node in nodes {
+        if ranges_over(b, node) {
+            return Some(node);
+        }
+    }
+    None
 }
 
-// Whether a union ranges over b.
-fn any_unites(b: BoxId, nodes: &[Node]) -> bool
-    ensures { result ≡ list_any (spec.unites b) nodes.now }
+// Whether the first box that ranges over b is a union.
+fn is_read_by_union(b: BoxId, nodes: &[Node]) -> bool
+    ensures { result ≡ spec.is_union_found (first (spec.ranges_over b) nodes.now) }
 {
-    nodes.iter().any(|y| unites(b, y))
+    match first_reader(b, nodes) {
+        Some(node) => is_union_kind(&node.parts.kind),
+        None => false,
+    }
 }
 
-// Whether one quantifier ranges over a box, and that of a union.
+// Whether one quantifier ranges over a box, and that of a union. All boxes are looked at only where the
+// first that ranges over it is one.
+#[tactic(auto, using(crate::proofs::FirstReader::under_union_is))]
 fn is_under_union(graph: &Graph, node: &Node) -> bool
     ensures { result ≡ spec.is_under_union graph.now node.now }
 {
-    graph.uses(node.id) == 1 && any_unites(node.id, graph.nodes())
+    is_read_by_union(node.id, graph.nodes()) && graph.uses(node.id) == 1
 }
 
 // Whether L3 may fire at a box.
