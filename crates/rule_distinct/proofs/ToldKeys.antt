@@ -1,5 +1,5 @@
 -- Keys that the code is told of are those that are inferred.
-use Rattle.std.proofs.Common.{ℕ, zero, suc, ◌≡◌, ◌∷◌, ◌-◌, ◌<◌, ◌∙◌, Bool, true, false, List, refl, sym, ap, arith}
+use Rattle.std.proofs.Common.{ℕ, zero, suc, ◌≡◌, ◌∷◌, ◌-◌, ◌<◌, ◌∙◌, Bool, true, List, refl, sym, ap, arith}
 use mathlib.Core.Path.{fun_ext}
 use Rattle.list_laws.specs.Lists.{change}
 use Rattle.qgm_core.specs.Boxes.{is_box}

@@ -80,6 +80,10 @@ one_whole q (x ∷ xs) = (is_whole q x && not (list_any (names_cond q) xs)) || (
 abbrev pub is_set : List Node → Node → Bool
 is_set bs n = is_enforce n.parts.distinct || (is_permit n.parts.distinct && infers bs (clean n.id))
 
+-- each E fits, whatever rows it has
+abbrev pub each_fits : List Node → Node → Bool
+each_fits bs n = is_set bs n || infers_key bs n.id (places_to (width n))
+
 abbrev pub exists_fits : List Node → Node → OwnedQuant → Bool
 exists_fits bs n r = is_set bs n || (infers bs (at_most_one r.over) || infers_key bs n.id (places_to (width n)))
 

@@ -10,7 +10,7 @@ mod condition;
 mod conjunct;
 
 use crate::exists_to_join::action::{ExistsPlan, join, plan};
-use crate::exists_to_join::condition::{any_joinable, may_join};
+use crate::exists_to_join::condition::{any_joinable, each_fits, may_join};
 use crate::parts::{GraphFacts, quant_at};
 use qgm_core::{BoxId, Graph};
 use qgm_props::Inference;
@@ -73,9 +73,10 @@ impl Rule for ExistsToJoin {
             graph,
             props: &facts,
         };
+        let each = each_fits(alloc, &told, node)?;
         let list = node.quants.as_slice();
         for k in 0..list.len() {
-            let passes = may_join(alloc, &told, node, list[k])?;
+            let passes = may_join(&told, node, each, list[k]);
             add_if(&mut out, passes, b, k + 1, 0)?;
         }
         known.put(facts);

@@ -62,36 +62,25 @@ fn is_set(k: &GraphFacts, node: &Node) -> bool
     node.parts.distinct.is_enforce() || (node.parts.distinct.is_permit() && is_clean(k, node.id))
 }
 
-// Whether repeated rows do no harm at the box, can't come, or are told by a key.
-fn exists_fits(
-    alloc: Global,
-    k: &GraphFacts,
-    node: &Node,
-    r: OwnedQuant,
-) -> Result<bool, OutOfMemory>
+/// Whether repeated rows do no harm at a box, or are told by a key: then each of its E fits.
+pub fn each_fits(alloc: Global, k: &GraphFacts, node: &Node) -> Result<bool, OutOfMemory>
     requires { AreFacts k.now }
-    ensures { IfOk result (λ fits. fits ≡ spec.exists_fits k.now.graph.now.boxes node.now r) }
+    ensures { IfOk result (λ each. each ≡ spec.each_fits k.now.graph.now.boxes node.now) }
 {
-    if is_set(k, node) || has_at_most_one(k, r.over) {
+    if is_set(k, node) {
         return Ok(true);
     }
     has_key(alloc, k, node)
 }
 
-/// Whether U1 may fire at a quantifier of a box. Its one node is sought last: that takes all conjuncts.
-pub fn may_join(
-    alloc: Global,
-    k: &GraphFacts,
-    node: &Node,
-    r: OwnedQuant,
-) -> Result<bool, OutOfMemory>
-    requires { AreFacts k.now }
-    ensures { IfOk result (λ passes. passes ≡ spec.may_exists_to_join k.now.graph.now.boxes node.now r) }
+/// Whether U1 may fire at a quantifier of a box, each or not each of whose E fits: where its box has at
+/// most one row, it does. Its one node is sought last: that takes all conjuncts.
+pub fn may_join(k: &GraphFacts, node: &Node, each: bool, r: OwnedQuant) -> bool
+    requires known { AreFacts k.now }
+    requires each { each ≡ spec.each_fits k.now.graph.now.boxes node.now }
+    ensures { result ≡ spec.may_exists_to_join k.now.graph.now.boxes node.now r }
 {
-    if !r.kind.is_e() || !exists_fits(alloc, k, node, r)? {
-        return Ok(false);
-    }
-    Ok(is_joinable(node, r))
+    r.kind.is_e() && (each || has_at_most_one(k, r.over)) && is_joinable(node, r)
 }
 
 /// What the distinctness of the box is then: its own, and ENFORCE where only a key lets U1 fire.
