@@ -1,12 +1,12 @@
 // The laws, as theorems.
-ghost use Rattle.rule_feed.specs.FeedLaws.{FeedBags, FeedShaped, FeedSound, FeedTyped};
+ghost use Rattle.rule_feed.specs.FeedLaws.{FeedBags, FeedShaped, FeedSound, FeedTags, FeedTyped};
 ghost use Rattle.rule_feed.specs.FeedMeasure.{FeedMeasured, FeedingLowers, SplitMeasured};
 ghost use Rattle.rule_feed.specs.FeedPreserves.{FeedPlaces, FeedPreserves};
 ghost use Rattle.rule_feed.specs.FeedSample.{Fed};
 ghost use Rattle.rule_feed.specs.Split.{SplitBags, SplitRows, SplitShaped, SplitSound, SplitTyped};
 ghost use Rattle.rule_feed.specs.Turn.{TurnPreserves};
 
-/// G1: quantifiers and conjuncts of a select may go into a select of their own, and a box that looks columns of one quantifier up may be fed with them. Both keep the root's bag, soundness, types and shapes. Splitting leaves the parts of the measure as they are, and feeding lowers it. The clause `sample` has small graphs for F, E and A. It does nothing.
+/// G1: quantifiers and conjuncts of a select may go into a select of their own, and a box that looks columns of one quantifier up may be fed with them. Both keep the root's bag, soundness, types and shapes. Splitting leaves the parts of the measure as they are, and feeding lowers it. The magic box gives each tuple of the named columns that occurs once and at yes (`fed_tags`). The clause `sample` has small graphs for F, E and A. It does nothing.
 pub fn feeding_laws()
     ensures split { SplitBags }
     ensures split_rows { SplitRows }
@@ -18,6 +18,7 @@ pub fn feeding_laws()
     ensures fed_sound { FeedSound }
     ensures fed_typed { FeedTyped }
     ensures fed_shaped { FeedShaped }
+    ensures fed_tags { FeedTags }
     ensures fed_measured { FeedMeasured }
     ensures fed_lowers { FeedingLowers }
     ensures sample { Fed }
