@@ -26,7 +26,7 @@ module _ (q : ℕ) (cells : List Term) where
   pub has-put : (ids : List ℕ) (b : ℕ) (g : QueryGraph) → HasBox b g → HasBox b (put_in_all ids q cells g)
   has-put ids b g h = has-map (put_in ids q cells) (put-id ids) g.boxes b ∙ h
 
-  holds-one : (x : ℕ) (ids : List ℕ) (b : ℕ) → holds x (ids ++ b ∷ []) ≡ (holds x ids || (b == x))
+  pub holds-one : (x : ℕ) (ids : List ℕ) (b : ℕ) → holds x (ids ++ b ∷ []) ≡ (holds x ids || (b == x))
   holds-one x [] b = or-none (b == x)
     where
       or-none : (t : Bool) → (t || false) ≡ t

@@ -26,7 +26,9 @@ pub mod FeedTyped
 pub mod FeedTypes
 pub mod NodesListed
 pub mod SplitBag
+pub mod SplitEdits
 pub mod SplitLooks
+pub mod SplitMade
 pub mod SplitMeasure
 pub mod SplitNames
 pub mod SplitReads
@@ -34,6 +36,7 @@ pub mod SplitRows
 pub mod SplitShaped
 pub mod SplitShapes
 pub mod SplitSound
+pub mod SplitSteps
 pub mod SplitTyped
 pub mod TurnKeeps
 pub mod TurnLists

@@ -1,16 +1,19 @@
 -- What the code of G1 asks, step by step.
-use Rattle.std.proofs.Common.{ℕ, ◌≡◌, ◌&&◌, ◌||◌, not, Bool, true, false, List, [], ◌∷◌, filter, refl}
+use Rattle.std.proofs.Common.{ℕ, ◌≡◌, ◌&&◌, ◌||◌, not, Bool, true, false, List, [], ◌∷◌, ◌++◌, filter, None, refl}
 use Rattle.std.specs.List.{list_any}
 use Rattle.qgm_terms.specs.Terms.{Cond}
+use Rattle.qgm_core.specs.Boxes.{QueryGraph, has_box, numbers, owns}
 use Rattle.qgm_core.specs.Free.{free_in}
 use Rattle.qgm_core.specs.Kinds.{is_F}
-use Rattle.list_laws.specs.Lists.{holds}
+use Rattle.list_laws.specs.Lists.{EachOnce, holds}
 use Rattle.qgm_core.specs.declared.node.Node.{Node}
 use Rattle.qgm_core.specs.declared.owned.OwnedQuant.{OwnedQuant}
 use Rattle.qgm_edit_laws.specs.Graph.{reads_in}
 use Rattle.qgm_props.specs.Inferred.{Facts}
-use Rattle.qgm_wellformed.specs.WellFormed.{is_empty}
-use Rattle.rule_feed.specs.FeedActs.{takes}
+use Rattle.qgm_wellformed.specs.WellFormed.{fault, is_empty}
+use Rattle.rule_api.specs.declared.place.Place.{Place}
+use Rattle.rule_feed.specs.FeedActs as act
+use Rattle.rule_feed.specs.FeedActs.{settled_node, takes}
 use Rattle.rule_feed.specs.FeedMay as may
 use Rattle.rule_feed.specs.FeedMay.{is_ready}
 use Rattle.rule_feed.specs.FeedSteps as steps
@@ -62,3 +65,11 @@ stays_by ns known ps c = not (takes ns known ps c)
 pub stays-is : (ns : List Node) (known : Facts) (ps : List OwnedQuant) (cs : List Cond) → filter (stays_by ns known ps) cs ≡ failing (takes ns known ps) cs
 unfolding stays_by
 stays-is ns known ps cs = refl
+
+-- where G1 may fire, with its S settled, the edits of the split come to its action
+abbrev pub SplitComes : Type 0
+SplitComes =
+    (g : QueryGraph) → EachOnce (numbers g.boxes) → fault g ≡ None → (p : Place) (b : Node) (us : List OwnedQuant) (r : OwnedQuant) (vs : List OwnedQuant) → may.MayFeedAt p g b us r vs
+    → (above below : List Node) → g.boxes ≡ above ++ b ∷ below → (q s : ℕ) → has_box g.boxes s ≡ false → list_any (owns q) g.boxes ≡ false
+    → steps.split_edits (numbers g.boxes) g.boxes (settled_node us r vs b).id (steps.parted g.boxes (settled_node us r vs b) r.over) s q (record g { boxes = above ++ settled_node us r vs b ∷ below })
+    ≡ record g { boxes = act.split_up g.boxes (settled_node us r vs b) r.over q s above below }
