@@ -40,5 +40,6 @@ pub mod SplitSteps
 pub mod SplitTyped
 pub mod TurnKeeps
 pub mod TurnLists
+pub mod TurnMeasure
 pub mod TurnPuts
 pub mod TurnRows
