@@ -52,11 +52,11 @@ use Rattle.qgm_edit_laws.proofs.Scoped.{scoped-of}
 use Rattle.qgm_edit_laws.proofs.Turns.{first-own, split-in}
 use Rattle.qgm_edit_laws.proofs.Widths.{wide}
 use Rattle.qgm_edit_laws.proofs.ShapePut.{bare-cell}
-use Rattle.rule_feed.specs.Feed.{Numbers, all_of, fed_below, fed_box, fed_boxes, fed_cond, fed_node, fed_owner, fed_term, how_many, inside, joins, magic_box, mask_cells, named_below, new_fed, new_magic, picked, put_cells, unpermitted}
+use Rattle.rule_feed.specs.Feed.{Numbers, all_of, fed_below, fed_box, fed_boxes, fed_cond, fed_node, fed_owner, fed_term, how_many, inside, joins, magic_box, mask_cells, named_below, new_fed, new_magic, picked, picks, put_cells, unpermitted}
 use Rattle.rule_feed.specs.FeedLaws.{FeedsOne}
 use Rattle.rule_feed.proofs.FeedCells.{Beside}
 use Rattle.rule_feed.proofs.FeedRows.{Tail}
-use Rattle.rule_feed.proofs.FeedPicks.{Frees, head-mask, head-picked, head-put, length-picks, masked, picks, spread, spread-again}
+use Rattle.rule_feed.proofs.FeedPicks.{Frees, head-mask, head-picked, head-put, length-picks, masked, spread, spread-again}
 use Rattle.qgm_edit_laws.proofs.Unchanged.{same-node}
 use Rattle.rule_feed.proofs.FeedLists.{bare-columns, bare-mask, bare-put, distinct-rows, frees-picks, get-mapped, mask-cell, still-enforced, wide-distinct, wide-from, wide-image}
 use Rattle.rule_feed.proofs.FeedRegion as region
@@ -702,6 +702,12 @@ module _ (xs ys : List Node) (root : ℕ) (w : Sound (xs ++ ys) root) (b s c : N
                 omega arith)
           ])
     ]
+
+    -- the magic box gives each tuple of the named columns that occurs in s, once and at yes
+    pub magic-bag : Ordered hs → has_box hs x.m ≡ true → (e : Environment) → Alike (bag_in tables hs x.m e) (once same_cells tags)
+    magic-bag ord held e =
+        alike-trans (only-alike tables G (λ e. true) hs ord (agrees hs (λ z j. j)) x.m held e refl)
+        (alike-trans (alike-same (G-m e)) (alike-from_agree same_cells same_cells-decides ((set-agreement same_cells same_cells-decides).at_yes tags (clean-bind rows_s (λ row. unit (picks named row 1 wd)) (m.clean tables sat) (λ row. refl)))))
 
     pub feed-bag : Ordered hs → has_box hs root ≡ true → (e : Environment) → Alike (bag_in tables hs root e) (f root e)
     feed-bag ord held e =

@@ -1,5 +1,5 @@
 -- G1 preserves where it may fire.
-use Rattle.std.proofs.Common.{ℕ, suc, ◌==◌, ◌≡◌, ◌&&◌, cond, Bool, true, false, List, [], ◌∷◌, ◌++◌, map, None, Some, refl, sym, ap, subst, ◌∙◌, eqb-true, inr}
+use Rattle.std.proofs.Common.{ℕ, suc, ◌==◌, ◌≡◌, ◌≤◌, ◌&&◌, cond, Bool, true, false, List, [], ◌∷◌, ◌++◌, map, None, Some, refl, sym, ap, subst, ◌∙◌, eqb-true, inr, arith}
 use Rattle.std.specs.List.{list_any}
 use Rattle.std.proofs.lemmas.Bool.{and_parts, eq-eqb}
 use Rattle.row_bag.specs.declared.tables.Table.{Table}
@@ -22,7 +22,9 @@ use Rattle.qgm_wellformed.specs.WellFormed.{fault}
 use Rattle.qgm_wellformed.proofs.Faults.{finds-none}
 use Rattle.qgm_props.specs.Facts.{IsClean, IsErrorFree}
 use Rattle.qgm_props.specs.Inferred.{clean, error_free}
+use Rattle.qgm_props.specs.Measure.{Lowers, fed_in, loose_scalars_in, open_in}
 use Rattle.qgm_props.specs.Under.{of_over}
+use Rattle.qgm_props.proofs.Lowering.{feed-lowers}
 use Rattle.qgm_edit_laws.specs.Adds.{at}
 use Rattle.qgm_edit_laws.specs.Graph.{Sound}
 use Rattle.qgm_edit_laws.specs.Shaped.{Shaped, Typed}
@@ -45,10 +47,12 @@ use Rattle.rule_feed.specs.Feed.{fed_below, fed_boxes, fed_node, fed_owner, how_
 use Rattle.rule_feed.specs.FeedActs as act
 use Rattle.rule_feed.specs.FeedActs.{Feeds, FeedsAt}
 use Rattle.rule_feed.specs.FeedLaws.{FeedsOne}
+use Rattle.rule_feed.specs.FeedPreserves.{FiringLowers}
 use Rattle.rule_feed.specs.FeedMay.{MayFeed, MayFeedAt, feeders}
 use Rattle.rule_feed.specs.Knowing.{facts_in, tells-in}
 use Rattle.rule_feed.specs.Split.{MaySplitSound, into, renamed_node, sizes_of, split_boxes, split_owner}
 use Rattle.rule_feed.specs.Turn.{failing, from_first}
+use Rattle.rule_feed.proofs.FeedMeasure.{feed-measured}
 use Rattle.rule_feed.proofs.FeedOrder.{feed-bags}
 use Rattle.rule_feed.proofs.FeedPlaced as placed
 use Rattle.rule_feed.proofs.FeedPlaced.{behind-first, in-others}
@@ -58,10 +62,12 @@ use Rattle.rule_feed.proofs.FeedSettled.{bag-below}
 use Rattle.rule_feed.proofs.FeedShaped.{feed-shaped}
 use Rattle.rule_feed.proofs.FeedSound.{feed-sound}
 use Rattle.rule_feed.proofs.FeedTyped.{feed-typed}
+use Rattle.rule_feed.proofs.SplitMeasure.{split-measured}
 use Rattle.rule_feed.proofs.SplitRows.{split-rows}
 use Rattle.rule_feed.proofs.SplitShaped.{split-shaped}
 use Rattle.rule_feed.proofs.SplitSound.{split-sound}
 use Rattle.rule_feed.proofs.SplitTyped.{split-typed}
+use Rattle.rule_feed.proofs.TurnMeasure.{turned-measured}
 use Rattle.list_laws.proofs.Membership.{any-from, any-in, append-one, eq-itself, in-filter, in-left}
 
 -- ---- tables that satisfy bases
@@ -369,6 +375,31 @@ module _ (g : QueryGraph) (u : EachOnce (numbers g.boxes)) (f : fault g ≡ None
 
   pub preserves : Preserves g h
   preserves = subst (λ (z : QueryGraph). Preserves g z) (sym (a.after ∙ ap (λ (z : List Node). compact (record g { boxes = z })) same-fed)) (then-compact g g4 (numbers-once fs sound4.ordered) preserves-fed)
+
+  -- ---- the measure
+
+  lower : Lowers g.boxes fs
+  lower =
+      let x = turned-measured g u f p b us r vs m a.above a.below a.stands q s in
+      let y = split-measured xs ys g.root b2 wide q s before ps behind staying taken w2 ms in
+      let z = feed-measured (map k xs) (s' ∷ map k ys) g.root sound3 b3 s' (k a.c) (range q F s) i a.x feeds in
+      let o0 : open_in bs2 ≡ open_in g.boxes = x.0 in
+      let f0 : fed_in bs2 ≡ fed_in g.boxes = x.1.0 in
+      let l0 : loose_scalars_in bs2 ≤ loose_scalars_in g.boxes = x.1.1 in
+      let o1 : open_in hs ≡ open_in bs2 = y.0 in
+      let f1 : fed_in hs ≡ fed_in bs2 = y.1.0 in
+      let l1 : loose_scalars_in hs ≡ loose_scalars_in bs2 = y.1.1 in
+      let o2 : open_in fs ≡ open_in hs = z.0 in
+      let f2 : fed_in fs ≡ suc (fed_in hs) = z.1.0 in
+      let l2 : loose_scalars_in fs ≡ loose_scalars_in hs = z.1.1 in
+      feed-lowers g.boxes fs (record { opened = omega (arith, o0, o1, o2); scalars = omega (arith, l0, l1, l2); fed = omega (arith, f0, f1, f2) })
+
+  pub lowers : (k : QueryGraph) × ((h ≡ compact k) × (EachOnce (numbers k.boxes) × (WellFormed k × Lowers g.boxes k.boxes)))
+  lowers = (g4, (a.after ∙ ap (λ (z : List Node). compact (record g { boxes = z })) same-fed, (numbers-once fs sound4.ordered, (preserves-fed.formed, lower))))
+
+pub firing-lowers : FiringLowers
+unfolding Feeds
+firing-lowers p g h u w e = lowers g u ((finds-none g u).1 w) p h e.0 e.1.0 e.1.1.0 e.1.1.1.0 e.1.1.1.1
 
 pub feed-preserves : ActionPreserves MayFeed Feeds
 unfolding Feeds

@@ -29,8 +29,8 @@ use Rattle.qgm_terms.specs.Substitution.{cell_at}
 use Rattle.qgm_terms.specs.Terms.{Term, col, null_int}
 use Rattle.qgm_edit_laws.specs.Placed.{place}
 use Rattle.qgm_edit_laws.proofs.Ranks.{place-under}
-use Rattle.rule_feed.specs.Feed.{mask_cells, put_cells, unpermitted}
-use Rattle.rule_feed.proofs.FeedPicks.{Frees, picks}
+use Rattle.rule_feed.specs.Feed.{mask_cells, picks, put_cells, unpermitted}
+use Rattle.rule_feed.proofs.FeedPicks.{Frees}
 
 -- ---- lists of cells
 

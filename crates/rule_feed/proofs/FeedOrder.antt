@@ -7,11 +7,12 @@ use Rattle.qgm_core.specs.Boxes.{Ordered, has_box, is_box}
 use Rattle.list_laws.specs.Lists.{In}
 use Rattle.qgm_core.specs.declared.node.Node.{Node}
 use Rattle.qgm_core.specs.declared.owned.OwnedQuant.{OwnedQuant}
+use Rattle.qgm_meaning.proofs.Satisfying as satisfying
 use Rattle.qgm_edit_laws.specs.Graph.{Sound}
 use Rattle.qgm_edit_laws.proofs.Interposed.{turned-in}
 use Rattle.qgm_edit_laws.proofs.Ranks.{has-in, same-box}
 use Rattle.rule_feed.specs.Feed.{Numbers, fed_boxes, fed_node, new_fed, new_magic}
-use Rattle.rule_feed.specs.FeedLaws.{FeedBags, FeedsOne}
+use Rattle.rule_feed.specs.FeedLaws.{FeedBags, FeedTags, FeedsOne}
 use Rattle.rule_feed.proofs.FeedBag as bag
 use Rattle.rule_feed.proofs.FeedRegion as region
 use Rattle.qgm_core.proofs.Reaching.{in-has}
@@ -153,4 +154,9 @@ module _ (xs ys : List Node) (root : ℕ) (w : Sound (xs ++ ys) root) (b s c : N
 
 pub feed-bags : FeedBags
 feed-bags = λ xs ys root w b s c p i x m tables sat. agree-from_alike same_cells
-    (bag.feed-bag xs ys root w b s c p i x m tables sat (Rattle.qgm_meaning.proofs.Satisfying.of-satisfying.filled tables (xs ++ ys) sat) (ordered-after xs ys root w b s c p i x m) (rooted-after xs ys root w b s c p i x m) [])
+    (bag.feed-bag xs ys root w b s c p i x m tables sat (satisfying.of-satisfying.filled tables (xs ++ ys) sat) (ordered-after xs ys root w b s c p i x m) (rooted-after xs ys root w b s c p i x m) [])
+
+pub feed-tags : FeedTags
+feed-tags = λ xs ys root w b s c p i x m tables sat e. agree-from_alike same_cells
+    (bag.magic-bag xs ys root w b s c p i x m tables sat (satisfying.of-satisfying.filled tables (xs ++ ys) sat) (ordered-after xs ys root w b s c p i x m)
+    (in-has (new_magic (xs ++ ys) b s c p i x) (fed_boxes xs ys b s c p i x) (in-right (new_magic (xs ++ ys) b s c p i x) (map (fed_node (xs ++ ys) b s c p i x) xs) (new_fed (xs ++ ys) b s c p i x ∷ (new_magic (xs ++ ys) b s c p i x ∷ map (fed_node (xs ++ ys) b s c p i x) ys)) (inr (inl refl)))) e)

@@ -16,13 +16,8 @@ use Rattle.row_bag.specs.Order.{cell_of}
 use Rattle.row_bag.specs.Sets.{same_cells}
 use Rattle.qgm_terms.specs.Terms.{Cond, and, col, compare, null_int, same}
 use Rattle.qgm_meaning.specs.Values.{Bag, Environment, all_true, head_cells, row_of, truth}
-use Rattle.rule_feed.specs.Feed.{all_of, conj, how_many, joins, mask_cells, picked, put_cells, up}
+use Rattle.rule_feed.specs.Feed.{all_of, conj, how_many, joins, mask_cells, picked, picks, put_cells, up}
 use Rattle.qgm_meaning.proofs.TagJoins.{and-true-right}
-
--- the cells of a row at the columns that are named
-abbrev pub picks : (ℕ → Bool) → List Cell → ℕ → ℕ → List Cell
-picks named row k zero = []
-picks named row k (suc w) = cond (named k) (cell_of k row ∷ picks named row (suc k) w) (picks named row (suc k) w)
 
 -- a row of w columns whose named ones are those of a row from place j on, null elsewhere
 abbrev pub spread : (ℕ → Bool) → List Cell → ℕ → ℕ → ℕ → List Cell

@@ -32,9 +32,9 @@ use Rattle.qgm_meaning.proofs.Joined.{all_true-append, over_each-append}
 use Rattle.qgm_meaning.proofs.Merged.{over_each-keep}
 use Rattle.qgm_edit_laws.proofs.Loops.{over_each-related}
 use Rattle.row_bag.specs.Order.{cell_of}
-use Rattle.rule_feed.specs.Feed.{all_of, fed_cond, fed_term, how_many, joins, nodes_of, nodes_of_cond, up}
+use Rattle.rule_feed.specs.Feed.{all_of, fed_cond, fed_term, how_many, joins, nodes_of, nodes_of_cond, picks, up}
 use Rattle.rule_feed.proofs.FeedCells.{Behind, Beside, all-fed, head-fed}
-use Rattle.rule_feed.proofs.FeedPicks.{Frees, all_of-true, joins-framed, cell-up, joins-true, length-picks, picks}
+use Rattle.rule_feed.proofs.FeedPicks.{Frees, all_of-true, joins-framed, cell-up, joins-true, length-picks}
 use Rattle.qgm_meaning.proofs.TagJoins.{joined-bind, joined-every, joined-some, stands-bind}
 use Rattle.list_laws.proofs.Membership.{eq-false-sym, in-left, in-right}
 use Rattle.list_laws.proofs.Booleans.{clash}

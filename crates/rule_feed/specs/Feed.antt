@@ -1,6 +1,8 @@
 -- G1, a box under quantifier i of a select b looks up columns of one F quantifier of b, p, alone: it is fed with them.
 use Rattle.std.specs.Prelude.{ℕ, zero, suc, ◌==◌, ◌+◌, ◌++◌, ◌&&◌, if◌then◌else◌, Bool, true, false, List, [], ◌∷◌, map}
 use Rattle.std.specs.List.{list_any}
+use Rattle.sql_value.specs.declared.cell.Cell.{Cell}
+use Rattle.row_bag.specs.Order.{cell_of}
 use Rattle.qgm_terms.specs.Terms.{Term, int, text, null_int, null_text, col, both, minus_of, choose, count_all, fold, scalar, Arms, no_arm, arm, Cond, always, compare, is_null, and, or, not, some, every, same}
 use Rattle.qgm_terms.specs.Wanted.{any_in, any_in_arms, any_in_cond}
 use Rattle.qgm_core.specs.Boxes.{width}
@@ -33,6 +35,11 @@ picked named q k (suc w) = if named k then col q k ∷ picked named q (suc k) w 
 abbrev pub how_many : (ℕ → Bool) → ℕ → ℕ → ℕ
 how_many named k zero = 0
 how_many named k (suc w) = if named k then suc (how_many named (suc k) w) else how_many named (suc k) w
+
+-- the same of the cells of a row
+abbrev pub picks : (ℕ → Bool) → List Cell → ℕ → ℕ → List Cell
+picks named row k zero = []
+picks named row k (suc w) = if named k then cell_of k row ∷ picks named row (suc k) w else picks named row (suc k) w
 
 -- cells for w columns from place k on: those that are named are columns of q, from place j on
 abbrev pub put_cells : (ℕ → Bool) → ℕ → ℕ → ℕ → ℕ → List Term

@@ -4,11 +4,11 @@ use Rattle.std.specs.List.{list_any}
 use Rattle.sql_value.specs.Cells.{error_of}
 use Rattle.sql_value.specs.declared.cell.Cell.{Cell}
 use Rattle.row_bag.specs.AsSets.{is_clean, stands}
-use Rattle.row_bag.specs.Bags.{Agree}
+use Rattle.row_bag.specs.Bags.{Agree, bind, unit}
 use Rattle.row_bag.specs.Order.{cell_of}
-use Rattle.row_bag.specs.Sets.{same_cells}
+use Rattle.row_bag.specs.Sets.{once, same_cells}
 use Rattle.row_bag.specs.declared.tables.Table.{Table}
-use Rattle.qgm_core.specs.Boxes.{has_box, owns}
+use Rattle.qgm_core.specs.Boxes.{has_box, owns, width}
 use Rattle.qgm_core.specs.Kinds.{is_F, is_S}
 use Rattle.list_laws.specs.Lists.{In}
 use Rattle.qgm_core.specs.declared.kinds.BoxKind.TheVariants.{Select}
@@ -18,9 +18,10 @@ use Rattle.qgm_core.specs.declared.owned.OwnedQuant.{OwnedQuant}
 use Rattle.qgm_meaning.specs.Meaning.{bag_in}
 use Rattle.qgm_meaning.specs.Satisfies.{Satisfies}
 use Rattle.qgm_meaning.specs.Scope.{loose}
+use Rattle.qgm_meaning.specs.Values.{Environment}
 use Rattle.qgm_edit_laws.specs.Graph.{Sound}
 use Rattle.qgm_edit_laws.specs.Shaped.{Shaped, Typed}
-use Rattle.rule_feed.specs.Feed.{Numbers, fed_boxes, named_below, nodes_of, nodes_of_cond}
+use Rattle.rule_feed.specs.Feed.{Numbers, fed_boxes, named_below, nodes_of, nodes_of_cond, picks}
 
 -- a select b has the F quantifier p over s, which looks nothing up, and i, no S quantifier, over c, which looks up p alone; where i is an F quantifier p stands before it
 -- no scalar is of i, and no some or every of p
@@ -76,3 +77,10 @@ abbrev pub FeedShaped : Type 0
 FeedShaped =
     (xs ys : List Node) (root : ℕ) → Sound (xs ++ ys) root → Typed (xs ++ ys) → Shaped (xs ++ ys) root → (b s c : Node) (p i : OwnedQuant) (x : Numbers) → FeedsOne xs ys root b s c p i x → b.parts.role ≡ Plain
     → Shaped (fed_boxes xs ys b s c p i x) root
+
+-- readers of the magic box get, in every environment, each tuple of the named columns that occurs among the rows of s exactly once and at yes
+abbrev pub FeedTags : Type 0
+FeedTags =
+    (xs ys : List Node) (root : ℕ) → Sound (xs ++ ys) root → (b s c : Node) (p i : OwnedQuant) (x : Numbers) → FeedsOne xs ys root b s c p i x
+    → (tables : List Table) → Satisfies tables (xs ++ ys) → (e : Environment)
+    → Agree same_cells (bag_in tables (fed_boxes xs ys b s c p i x) x.m e) (once same_cells (bind (bag_in tables (xs ++ ys) s.id []) (λ row. unit (picks (named_below (xs ++ ys) c.id p.id) row 1 (width s)))))

@@ -1,5 +1,6 @@
 use Rattle.rule_feed.specs.FeedMayExact.{feed-places}
-use Rattle.rule_feed.proofs.FeedKeeps.{feed-preserves}
+use Rattle.rule_feed.proofs.FeedKeeps.{feed-preserves, firing-lowers}
+use Rattle.rule_feed.proofs.SplitMade.{split-comes}
 use Rattle.rule_feed.proofs.TurnKeeps.{turn-preserves}
 use Rattle.rule_feed.proofs.laws.feed_laws.Goals as goal
 
@@ -11,3 +12,9 @@ returns-clause-turned c = turn-preserves
 
 pub returns-clause-preserves : goal.returns-clause-preserves
 returns-clause-preserves c = feed-preserves
+
+pub returns-clause-split : goal.returns-clause-split
+returns-clause-split c = split-comes
+
+pub returns-clause-lowers : goal.returns-clause-lowers
+returns-clause-lowers c = firing-lowers

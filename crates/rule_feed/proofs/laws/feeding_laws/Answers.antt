@@ -1,5 +1,5 @@
 use Rattle.rule_feed.proofs.FeedMeasure.{feed-measured, feeding-lowers}
-use Rattle.rule_feed.proofs.FeedOrder.{feed-bags}
+use Rattle.rule_feed.proofs.FeedOrder.{feed-bags, feed-tags}
 use Rattle.rule_feed.proofs.FeedSample.{sampled}
 use Rattle.rule_feed.proofs.FeedShaped.{feed-shaped}
 use Rattle.rule_feed.proofs.FeedSound.{feed-sound}
@@ -50,3 +50,6 @@ returns-clause-fed_measured c = feed-measured
 
 pub returns-clause-fed_lowers : goal.returns-clause-fed_lowers
 returns-clause-fed_lowers c = feeding-lowers
+
+pub returns-clause-fed_tags : goal.returns-clause-fed_tags
+returns-clause-fed_tags c = feed-tags
