@@ -15,6 +15,7 @@ pub mod AbsorbSelectFormed
 pub mod AbsorbSelectKeeps
 pub mod FedCondition
 pub mod HeadSteps
+pub mod Region
 pub mod RenamedMade
 pub mod RenamedTyped
 pub mod SetFormed

@@ -8,6 +8,7 @@ ghost use Rattle.rule_magic.specs.CalmFires.{CalmFires};
 ghost use Rattle.rule_magic.specs.FeedLaws.{FeedBags, FeedShaped, FeedSound, FeedTyped};
 ghost use Rattle.rule_magic.specs.FeedMeasure.{FeedMeasured, FeedingLowers, SplitMeasured};
 ghost use Rattle.rule_magic.specs.FeedSample.{Fed};
+ghost use Rattle.rule_magic.specs.Region.{ArmHasRegion, RegionRenames, RegionStays};
 ghost use Rattle.rule_magic.specs.Renamed.{RenamedIsMade, RenamedIsTyped};
 ghost use Rattle.rule_magic.specs.Split.{SplitBags, SplitRows, SplitShaped, SplitSound, SplitTyped};
 ghost use Rattle.rule_magic.specs.UnderTags.{BothArmsUnderTags, DistinctUnderTags, KeyedGroupsUnderTags, LeftArmUnderTags, SelectsUnderTags, SetsUnderTags, SingleGroupsUnderTags};
@@ -48,6 +49,9 @@ pub fn absorbing_laws()
     ensures sets { AbsorbsSets }
     ensures sets_given { SetsGiven }
     ensures set_preserves { SetPreserves }
+    ensures region { ArmHasRegion }
+    ensures region_renames { RegionRenames }
+    ensures region_stays { RegionStays }
     ensures renamed { RenamedIsMade }
     ensures renamed_types { RenamedIsTyped }
     ensures outer_left { AbsorbsLeft }
