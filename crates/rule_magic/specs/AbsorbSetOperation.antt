@@ -54,7 +54,7 @@ SetsGiven =
     → (form : SetOperator) (types : List SqlType) (l r : OwnedQuant) → may.c.parts.kind ≡ SetOp form types → may.c.quants ≡ l ∷ (r ∷ []) → (l.id == r.id) ≡ false → (x y : Node) → l.over ≡ x.id → r.over ≡ y.id
     → (e : Environment) (u : List Cell) → stands same_cells u (bag tables g may.m.id e) ≡ true → NoneAmong form (bag tables g x.id (bound may.a.id u e)) (bag tables g y.id (bound may.a.id u e))
 
--- the fed box d stands in the graph, and below it a set operation of x and of y, which is closed; mt are the types of the magic box before those of the set operation; the numbers of a box and of two quantifiers are new
+-- the fed box d stands in the graph, and below it a set operation of x and y; mt are the types of the magic box before those of the set operation; the numbers of a box and of two quantifiers are new
 pub record SetAt (g : QueryGraph) (known : Facts) (d : Node) (may : MayAbsorb g.boxes known d) (form : SetOperator) (types mt : List SqlType) (l r : OwnedQuant) (x y : Node) (s u p : ℕ) (up l1 l2 : List Node) : Type 0 where
   pub once : EachOnce (numbers g.boxes)
   pub formed : WellFormed g
@@ -65,7 +65,6 @@ pub record SetAt (g : QueryGraph) (known : Facts) (d : Node) (may : MayAbsorb g.
   pub over_x : l.over ≡ x.id
   pub in_y : In y g.boxes
   pub over_y : r.over ≡ y.id
-  pub closed : (q : ℕ) → IsFree g.boxes y.id q → ⊥
   pub typed : all_known mt ≡ types_at g.boxes may.m.id ++ all_known types
   pub s_new : has_box g.boxes s ≡ false
   pub u_new : times u (ids_in g.boxes) ≡ 0
@@ -73,18 +72,18 @@ pub record SetAt (g : QueryGraph) (known : Facts) (d : Node) (may : MayAbsorb g.
   pub apart : (u == p) ≡ false
   pub before : g.boxes ≡ up ++ d ∷ (l1 ++ may.c ∷ l2)
 
--- in the place of d stands the set operation of the fed box, which has c's number, and of a select of the magic box and y
-abbrev pub absorbed_set : (g : QueryGraph) (known : Facts) (d : Node) (may : MayAbsorb g.boxes known d) (form : SetOperator) (mt : List SqlType) (l r : OwnedQuant) (x y : Node) (s u p : ℕ) (up l1 l2 : List Node) → QueryGraph
-absorbed_set g known d may form mt l r x y s u p up l1 l2 =
-    on_boxes (λ boxes. up ++ (set_box d.id form mt may.r.id may.c.id u s ∷ (pair_box s Plain p may.m.id (width may.m) r.id y.id (width y) ∷ (pair_box may.c.id Fed may.a.id may.m.id (width may.m) l.id x.id (width x) ∷ (l1 ++ l2))))) g
+-- in the place of d stands the set operation of two selects of the magic box, one and x, which has c's number, and one and y: each is fed, or plain
+abbrev pub absorbed_set : (g : QueryGraph) (known : Facts) (d : Node) (may : MayAbsorb g.boxes known d) (form : SetOperator) (mt : List SqlType) (l r : OwnedQuant) (x y : Node) (s u p : ℕ) (left right : Role) (up l1 l2 : List Node) → QueryGraph
+absorbed_set g known d may form mt l r x y s u p left right up l1 l2 =
+    on_boxes (λ boxes. up ++ (set_box d.id form mt may.r.id may.c.id u s ∷ (pair_box s right p may.m.id (width may.m) r.id y.id (width y) ∷ (pair_box may.c.id left may.a.id may.m.id (width may.m) l.id x.id (width x) ∷ (l1 ++ l2))))) g
 
 -- G4 where the right operand is closed
 abbrev pub SetPreserves : Type 0
 SetPreserves =
     (g : QueryGraph) (known : Facts) (d : Node) (may : MayAbsorb g.boxes known d) (form : SetOperator) (types mt : List SqlType) (l r : OwnedQuant) (x y : Node) (s u p : ℕ) (up l1 l2 : List Node) → SetAt g known d may form types mt l r x y s u p up l1 l2
-    → Preserves g (compact (absorbed_set g known d may form mt l r x y s u p up l1 l2))
+    → ((q : ℕ) → IsFree g.boxes y.id q → ⊥) → Preserves g (compact (absorbed_set g known d may form mt l r x y s u p Fed Plain up l1 l2))
 
 abbrev pub SetLowers : Type 0
 SetLowers =
     (g : QueryGraph) (known : Facts) (d : Node) (may : MayAbsorb g.boxes known d) (form : SetOperator) (types mt : List SqlType) (l r : OwnedQuant) (x y : Node) (s u p : ℕ) (up l1 l2 : List Node) → SetAt g known d may form types mt l r x y s u p up l1 l2
-    → Lowers g.boxes (absorbed_set g known d may form mt l r x y s u p up l1 l2).boxes
+    → ((q : ℕ) → IsFree g.boxes y.id q → ⊥) → Lowers g.boxes (absorbed_set g known d may form mt l r x y s u p Fed Plain up l1 l2).boxes
