@@ -128,19 +128,19 @@ module _ (g : QueryGraph) (known : Facts) (d : Node) (may : MayAbsorb g.boxes kn
   sh : Shaped g.boxes g.root
   sh = made.sh g at.once at.formed known at.tells d may
 
-  in-a : In a d.quants
+  pub in-a : In a d.quants
   in-a = made.in-a g at.once at.formed known at.tells d may
 
   pub in-r : In r d.quants
   in-r = made.in-r g at.once at.formed known at.tells d may
 
-  in-l : In l c.quants
+  pub in-l : In l c.quants
   in-l = subst (λ (z : List OwnedQuant). In l z) (sym at.two) (inl refl)
 
   pub in-r1 : In r1 c.quants
   in-r1 = subst (λ (z : List OwnedQuant). In r1 z) (sym at.two) (inr (inl refl))
 
-  of-c : (P : OwnedQuant → Type 0) → P l → P r1 → (z : OwnedQuant) → In z c.quants → P z
+  pub of-c : (P : OwnedQuant → Type 0) → P l → P r1 → (z : OwnedQuant) → In z c.quants → P z
   of-c P a b z j = elim (subst (λ (k : List OwnedQuant). In z k) at.two j) [ inl e ↦ subst P e a | inr k ↦ elim k [ inl e ↦ subst P e b | inr n ↦ elim n [ ] ] ]
 
   pub d-not-c : (d.id == c.id) ≡ false
@@ -161,13 +161,13 @@ module _ (g : QueryGraph) (known : Facts) (d : Node) (may : MayAbsorb g.boxes kn
   pub m-not-c : (m.id == c.id) ≡ false
   m-not-c = subst (λ i. (i == c.id) ≡ false) (sym may.over_m) (made.a-elsewhere g at.once at.formed known at.tells d may up l1 l2 at.before)
 
-  not-d : (n : Node) → place g.boxes d.id < place g.boxes n.id → (n.id == d.id) ≡ false
+  pub not-d : (n : Node) → place g.boxes d.id < place g.boxes n.id → (n.id == d.id) ≡ false
   not-d n k = elim (cases_Bool (n.id == d.id)) [ inr f ↦ f | inl e ↦ absurd (let z : place g.boxes n.id ≡ place g.boxes d.id = ap (place g.boxes) (eqb-true n.id d.id e) in omega (arith, k, z)) ]
 
-  m-not-d : (m.id == d.id) ≡ false
+  pub m-not-d : (m.id == d.id) ≡ false
   m-not-d = not-d m (subst (λ i. place g.boxes d.id < place g.boxes i) (sym may.over_m) (place-under g.boxes d a w.ordered may.in_d in-a))
 
-  arm-not-d : (z : OwnedQuant) (n : Node) → In z c.quants → z.over ≡ n.id → (n.id == d.id) ≡ false
+  pub arm-not-d : (z : OwnedQuant) (n : Node) → In z c.quants → z.over ≡ n.id → (n.id == d.id) ≡ false
   arm-not-d z n j e = not-d n (
       let one : place g.boxes d.id < place g.boxes c.id = subst (λ i. place g.boxes d.id < place g.boxes i) (sym may.over_c) (place-under g.boxes d r w.ordered may.in_d in-r) in
       let two : place g.boxes c.id < place g.boxes n.id = subst (λ i. place g.boxes c.id < place g.boxes i) e (place-under g.boxes c z w.ordered may.in_c j) in
@@ -217,7 +217,7 @@ module _ (g : QueryGraph) (known : Facts) (d : Node) (may : MayAbsorb g.boxes kn
   pub open-c : (loose g.boxes c.id a.id ≡ true) × ((i : ℕ) → loose g.boxes c.id i ≡ true → i ≡ a.id)
   open-c = made.open-c g at.once at.formed known at.tells d may
 
-  arm-alone : (z : OwnedQuant) (n : Node) → In z c.quants → z.over ≡ n.id → (i : ℕ) → loose g.boxes n.id i ≡ true → i ≡ a.id
+  pub arm-alone : (z : OwnedQuant) (n : Node) → In z c.quants → z.over ≡ n.id → (i : ℕ) → loose g.boxes n.id i ≡ true → i ≡ a.id
   arm-alone z n j e i h = elim (climb g.boxes g.root w c z i may.in_c j (subst (λ k. loose g.boxes k i ≡ true) (sym e) h)) [
     | inl k ↦ absurd (let q : SetOp form ts ≡ Select = sym at.a_set ∙ k.0 in let v : ⊥ = cc q in v)
     | inr k ↦ open-c.1 i k
@@ -301,13 +301,13 @@ module _ (g : QueryGraph) (known : Facts) (d : Node) (may : MayAbsorb g.boxes kn
     ]
   ]
 
-  in-m : In m hs
+  pub in-m : In m hs
   in-m = to-hs m may.in_m m-not-d m-not-c
 
-  in-x : In x hs
+  pub in-x : In x hs
   in-x = to-hs x at.in_x (arm-not-d l x in-l at.over_x) x-not-c
 
-  in-y : In y hs
+  pub in-y : In y hs
   in-y = to-hs y at.in_y (arm-not-d r1 y in-r1 at.over_y) y-not-c
 
   od : Ordered (d ∷ (l1 ++ c ∷ l2))
@@ -371,7 +371,7 @@ module _ (g : QueryGraph) (known : Facts) (d : Node) (may : MayAbsorb g.boxes kn
 
   -- ---- counts
 
-  nothing : (b : Bool) → b ≡ false → cond b 1 0 ≤ 0
+  pub nothing : (b : Bool) → b ≡ false → cond b 1 0 ≤ 0
   nothing true f = absurd (let z : ⊥ = cc f in z)
   nothing false f = omega arith
 
@@ -396,7 +396,7 @@ module _ (g : QueryGraph) (known : Facts) (d : Node) (may : MayAbsorb g.boxes kn
       let k7 : times i (G c) ≡ cond (f l == i) 1 0 + (cond (f r1 == i) 1 0 + 0) = ap (λ (z : List OwnedQuant). times i (map f z)) at.two in
       omega (arith, e1, e2, e3, e4, e5, f1, f2, f3, k1, k2, k3, k4, k5, k6, k7)
 
-  once-after : (i : ℕ) → times i (ids_in hs) ≤ 1
+  pub once-after : (i : ℕ) → times i (ids_in hs) ≤ 1
   once-after i =
       let t = counts (λ (z : OwnedQuant). z.id) i r.id u p refl refl refl refl refl refl in
       let z = w.once i in
@@ -416,13 +416,99 @@ module _ (g : QueryGraph) (known : Facts) (d : Node) (may : MayAbsorb g.boxes kn
       ]
 
   -- a box that is neither new nor the magic box has the uses that it had
-  overs-after : (b : ℕ) → (s == b) ≡ false → (m.id == b) ≡ false → times b (overs_in hs) ≡ times b (overs_in g.boxes)
+  pub overs-after : (b : ℕ) → (s == b) ≡ false → (m.id == b) ≡ false → times b (overs_in hs) ≡ times b (overs_in g.boxes)
   overs-after b fs fm =
       let t = counts (λ (z : OwnedQuant). z.over) b c.id s m.id refl refl refl (sym at.over_y) may.over_m (sym at.over_x) in
       let k1 = nothing (s == b) fs in let k2 = nothing (m.id == b) fm in
       let v : cond (r.over == b) 1 0 ≤ cond (c.id == b) 1 0 = subst (λ j. cond (j == b) 1 0 ≤ cond (c.id == b) 1 0) may.over_c (omega arith) in
       let z : cond (c.id == b) 1 0 ≤ cond (r.over == b) 1 0 = subst (λ j. cond (c.id == b) 1 0 ≤ cond (j == b) 1 0) may.over_c (omega arith) in
       omega (arith, t, k1, k2, v, z)
+
+  -- ---- types
+
+  abbrev L : Lookup
+  L = lookup_of g.boxes
+
+  abbrev M : List (Option SqlType)
+  M = types_at g.boxes m.id
+
+  abbrev X : List (Option SqlType)
+  X = types_at g.boxes x.id
+
+  abbrev Y : List (Option SqlType)
+  Y = types_at g.boxes y.id
+
+  abbrev C : List (Option SqlType)
+  C = types.known ts
+
+  types-c : types_at g.boxes c.id ≡ C
+  types-c = settled-types g.boxes g.root w c may.in_c ∙ ap (λ z. types_by L z c.parts.head) at.a_set
+
+  long-m : length M ≡ width m
+  long-m = wide-types g.boxes g.root w m may.in_m
+
+  long-x : length X ≡ width x
+  long-x = wide-types g.boxes g.root w x at.in_x
+
+  long-y : length Y ≡ width y
+  long-y = wide-types g.boxes g.root w y at.in_y
+
+  pub long-mt : length mt ≡ width m + length ts
+  long-mt = sym (length-map (λ (t : SqlType). Some t) mt) ∙ ap length at.typed ∙ length-append M C ∙ ap₂ ◌+◌ long-m (length-map (λ (t : SqlType). Some t) ts)
+
+  -- the operands have the columns of the set operation, and their types
+  pub wide-arm : (z : OwnedQuant) (n : Node) → In z c.quants → z.over ≡ n.id → In n g.boxes → width n ≡ length ts
+  wide-arm z n j e i = subst (λ k. ArmsBy k (width n) (width c)) at.a_set (w.arms c n z may.in_c j i (sym e)) ∙ width-c
+
+  agree-arm : (z : OwnedQuant) (n : Node) → In z c.quants → z.over ≡ n.id → all_agree (types_at g.boxes n.id) C ≡ true
+  agree-arm z n j e =
+      let h = sym (agrees-as g.boxes c) ∙ ty c may.in_c in
+      let b = and_parts (list_all (cond_fits L) c.parts.conds.items) (arms_by (types_at g.boxes) c.parts.kind c.quants) (and_parts (list_all (λ t. is_known (term_type L t)) c.parts.head) (list_all (cond_fits L) c.parts.conds.items && arms_by (types_at g.boxes) c.parts.kind c.quants) h).1 in
+      subst (λ i. all_agree (types_at g.boxes i) C ≡ true) e
+      (all-in (λ (z : OwnedQuant). all_agree (types_at g.boxes z.over) C) z c.quants (subst (λ k. arms_by (types_at g.boxes) k c.quants ≡ true) at.a_set b.1) j)
+
+  -- ---- widths
+
+  pub width-d : width d' ≡ width d
+  width-d =
+      long-mt ∙ ap₂ ◌+◌ (sym (columns-long a.id 1 (width m))) (sym width-c ∙ sym (columns-long r.id 1 (width c)))
+      ∙ sym (length-append (columns_from a.id 1 (width m)) (columns_from r.id 1 (width c)))
+      ∙ ap length (sym (fed.head-is g at.once at.formed known at.tells d may)) ∙ sym (ap (λ z. width_by z (length d.parts.head)) (fed.kind_d g at.once at.formed known at.tells d may))
+
+  -- what a kept box had, the box of its number has
+  pub kept-alike : {A : Type 0} (f : Node → A) → f d' ≡ f d → (v n : Node) → In v g.boxes → In n hs → kept v.id ≡ true → v.id ≡ n.id → f n ≡ f v
+  kept-alike f same v n i j k e = elim (each-in n j) [
+    | inl z ↦ ap f z ∙ same ∙ ap f (sym (same-box g.boxes v d w.ordered i may.in_d (e ∙ ap (λ (z : Node). z.id) z)))
+    | inr z ↦ elim z [
+      | inl z ↦ absurd (clash (s == v.id) (eq-eqb s v.id (sym (e ∙ ap (λ (z : Node). z.id) z))) (s-not v i))
+      | inr z ↦ elim z [
+        | inl z ↦ absurd (clash (v.id == c.id) (eq-eqb v.id c.id (e ∙ ap (λ (z : Node). z.id) z)) (not-true (v.id == c.id) k))
+        | inr z ↦ ap f (same-box g.boxes n v w.ordered z.0 i (sym e))
+      ]
+    ]
+  ]
+
+  pub held : (v : Node) → In v g.boxes → has_box hs v.id ≡ true
+  held v i = elim (cases_Bool (v.id == d.id)) [
+    | inl e ↦ subst (λ b. has_box hs b ≡ true) (sym (eqb-true v.id d.id e)) (in-has d' hs in-d')
+    | inr f ↦ elim (cases_Bool (v.id == c.id)) [
+      | inl e ↦ subst (λ b. has_box hs b ≡ true) (sym (eqb-true v.id c.id e)) (in-has c' hs in-c')
+      | inr k ↦ in-has v hs (to-hs v i f k)
+    ]
+  ]
+
+  pub open-not-m : (b i : ℕ) → loose g.boxes b i ≡ true → (m.id == b) ≡ false
+  open-not-m b i k = elim (cases_Bool (m.id == b)) [ inr f ↦ f | inl e ↦ absurd (clash (loose g.boxes m.id i) (subst (λ z. loose g.boxes z i ≡ true) (sym (eqb-true m.id b e)) k) (fed.closed-m g at.once at.formed known at.tells d may i)) ]
+
+  pub root-not-m : (m.id == g.root) ≡ false
+  root-not-m = elim (cases_Bool (m.id == g.root)) [
+    | inr f ↦ f
+    | inl e ↦ absurd (
+        let b = times-in overs_of g.root d g.boxes may.in_d in
+        let z = w.top in
+        let v : 1 ≤ times g.root (overs_of d) = subst (λ b. 1 ≤ times b (overs_of d)) (sym may.over_m ∙ eqb-true m.id g.root e) (in-times (λ (z : OwnedQuant). z.over) a d.quants in-a) in
+        omega (arith, b, z, v))
+  ]
 
   -- where the right operand is closed
   module _ (is-fed : lr ≡ Fed) (is-plain : rr ≡ Plain) (shut : (i : ℕ) → IsFree g.boxes y.id i → ⊥) where
@@ -511,49 +597,6 @@ module _ (g : QueryGraph) (known : Facts) (d : Node) (may : MayAbsorb g.boxes kn
       nothing = looks-s;
     }
 
-    -- ---- types
-
-    abbrev L : Lookup
-    L = lookup_of g.boxes
-
-    abbrev M : List (Option SqlType)
-    M = types_at g.boxes m.id
-
-    abbrev X : List (Option SqlType)
-    X = types_at g.boxes x.id
-
-    abbrev Y : List (Option SqlType)
-    Y = types_at g.boxes y.id
-
-    abbrev C : List (Option SqlType)
-    C = types.known ts
-
-    types-c : types_at g.boxes c.id ≡ C
-    types-c = settled-types g.boxes g.root w c may.in_c ∙ ap (λ z. types_by L z c.parts.head) at.a_set
-
-    long-m : length M ≡ width m
-    long-m = wide-types g.boxes g.root w m may.in_m
-
-    long-x : length X ≡ width x
-    long-x = wide-types g.boxes g.root w x at.in_x
-
-    long-y : length Y ≡ width y
-    long-y = wide-types g.boxes g.root w y at.in_y
-
-    long-mt : length mt ≡ width m + length ts
-    long-mt = sym (length-map (λ (t : SqlType). Some t) mt) ∙ ap length at.typed ∙ length-append M C ∙ ap₂ ◌+◌ long-m (length-map (λ (t : SqlType). Some t) ts)
-
-    -- the operands have the columns of the set operation, and their types
-    wide-arm : (z : OwnedQuant) (n : Node) → In z c.quants → z.over ≡ n.id → In n g.boxes → width n ≡ length ts
-    wide-arm z n j e i = subst (λ k. ArmsBy k (width n) (width c)) at.a_set (w.arms c n z may.in_c j i (sym e)) ∙ width-c
-
-    agree-arm : (z : OwnedQuant) (n : Node) → In z c.quants → z.over ≡ n.id → all_agree (types_at g.boxes n.id) C ≡ true
-    agree-arm z n j e =
-        let h = sym (agrees-as g.boxes c) ∙ ty c may.in_c in
-        let b = and_parts (list_all (cond_fits L) c.parts.conds.items) (arms_by (types_at g.boxes) c.parts.kind c.quants) (and_parts (list_all (λ t. is_known (term_type L t)) c.parts.head) (list_all (cond_fits L) c.parts.conds.items && arms_by (types_at g.boxes) c.parts.kind c.quants) h).1 in
-        subst (λ i. all_agree (types_at g.boxes i) C ≡ true) e
-        (all-in (λ (z : OwnedQuant). all_agree (types_at g.boxes z.over) C) z c.quants (subst (λ k. arms_by (types_at g.boxes) k c.quants ≡ true) at.a_set b.1) j)
-
     set_is : IsSet hs look d' c' s' mt
     set_is = record {
       ordered = ordered;
@@ -566,27 +609,6 @@ module _ (g : QueryGraph) (known : Facts) (d : Node) (may : MayAbsorb g.boxes kn
       wide_left = width-pair hs look c.id a.id l.id lr m x left ∙ ap (λ z. width m + z) (wide-arm l x in-l at.over_x at.in_x) ∙ sym long-mt;
       wide_right = width-pair hs look s p r1.id rr m y right ∙ ap (λ z. width m + z) (wide-arm r1 y in-r1 at.over_y at.in_y) ∙ sym long-mt;
     }
-
-    -- ---- widths
-
-    width-d : width d' ≡ width d
-    width-d =
-        long-mt ∙ ap₂ ◌+◌ (sym (columns-long a.id 1 (width m))) (sym width-c ∙ sym (columns-long r.id 1 (width c)))
-        ∙ sym (length-append (columns_from a.id 1 (width m)) (columns_from r.id 1 (width c)))
-        ∙ ap length (sym (fed.head-is g at.once at.formed known at.tells d may)) ∙ sym (ap (λ z. width_by z (length d.parts.head)) (fed.kind_d g at.once at.formed known at.tells d may))
-
-    -- what a kept box had, the box of its number has
-    kept-alike : {A : Type 0} (f : Node → A) → f d' ≡ f d → (v n : Node) → In v g.boxes → In n hs → kept v.id ≡ true → v.id ≡ n.id → f n ≡ f v
-    kept-alike f same v n i j k e = elim (each-in n j) [
-      | inl z ↦ ap f z ∙ same ∙ ap f (sym (same-box g.boxes v d w.ordered i may.in_d (e ∙ ap (λ (z : Node). z.id) z)))
-      | inr z ↦ elim z [
-        | inl z ↦ absurd (clash (s == v.id) (eq-eqb s v.id (sym (e ∙ ap (λ (z : Node). z.id) z))) (s-not v i))
-        | inr z ↦ elim z [
-          | inl z ↦ absurd (clash (v.id == c.id) (eq-eqb v.id c.id (e ∙ ap (λ (z : Node). z.id) z)) (not-true (v.id == c.id) k))
-          | inr z ↦ ap f (same-box g.boxes n v w.ordered z.0 i (sym e))
-        ]
-      ]
-    ]
 
     -- ---- rebuilt
 
@@ -642,28 +664,6 @@ module _ (g : QueryGraph) (known : Facts) (d : Node) (may : MayAbsorb g.boxes kn
         ]
       ];
     }
-      where
-        held : (v : Node) → In v g.boxes → has_box hs v.id ≡ true
-        held v i = elim (cases_Bool (v.id == d.id)) [
-          | inl e ↦ subst (λ b. has_box hs b ≡ true) (sym (eqb-true v.id d.id e)) (in-has d' hs in-d')
-          | inr f ↦ elim (cases_Bool (v.id == c.id)) [
-            | inl e ↦ subst (λ b. has_box hs b ≡ true) (sym (eqb-true v.id c.id e)) (in-has c' hs in-c')
-            | inr k ↦ in-has v hs (to-hs v i f k)
-          ]
-        ]
-
-        open-not-m : (b i : ℕ) → loose g.boxes b i ≡ true → (m.id == b) ≡ false
-        open-not-m b i k = elim (cases_Bool (m.id == b)) [ inr f ↦ f | inl e ↦ absurd (clash (loose g.boxes m.id i) (subst (λ z. loose g.boxes z i ≡ true) (sym (eqb-true m.id b e)) k) (fed.closed-m g at.once at.formed known at.tells d may i)) ]
-
-        root-not-m : (m.id == g.root) ≡ false
-        root-not-m = elim (cases_Bool (m.id == g.root)) [
-          | inr f ↦ f
-          | inl e ↦ absurd (
-              let b = times-in overs_of g.root d g.boxes may.in_d in
-              let z = w.top in
-              let v : 1 ≤ times g.root (overs_of d) = subst (λ b. 1 ≤ times b (overs_of d)) (sym may.over_m ∙ eqb-true m.id g.root e) (in-times (λ (z : OwnedQuant). z.over) a d.quants in-a) in
-              omega (arith, b, z, v))
-        ]
 
     pub sound-after : Sound hs g.root
     sound-after = rebuilt g.boxes hs g.root kept look fresh w rebuilds

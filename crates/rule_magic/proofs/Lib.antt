@@ -16,6 +16,7 @@ pub mod AbsorbSelectKeeps
 pub mod FedCondition
 pub mod HeadSteps
 pub mod Region
+pub mod AbsorbOpenSet
 pub mod RenamedMade
 pub mod RenamedTyped
 pub mod SetFormed

@@ -1,5 +1,5 @@
 -- G4, a set operation under a fed box is one of tagged arms: its bag, and what it keeps where the right one is closed.
-use Rattle.std.specs.Prelude.{ℕ, ◌≡◌, ◌==◌, ◌&&◌, ◌++◌, ◌⊎◌, Bool, true, false, List, [], ◌∷◌}
+use Rattle.std.specs.Prelude.{ℕ, ◌≡◌, ◌==◌, ◌&&◌, ◌++◌, ◌⊎◌, if◌then◌else◌, map, Bool, true, false, List, [], ◌∷◌}
 use Rattle.sql_value.specs.declared.cell.Cell.{Cell}
 use Rattle.sql_value.specs.declared.order_key.SqlType.{SqlType}
 use Rattle.row_bag.specs.AsSets.{stands}
@@ -19,7 +19,9 @@ use Rattle.qgm_core.specs.declared.kinds.SetOperator.{SetOperator}
 use Rattle.qgm_core.specs.declared.node.Node.{Node}
 use Rattle.qgm_core.specs.declared.owned.OwnedQuant.{OwnedQuant}
 use Rattle.qgm_meaning.specs.Meaning.{bag}
-use Rattle.qgm_meaning.specs.Scope.{loose}
+use Rattle.qgm_meaning.specs.Scope.{loose, put_node}
+use Rattle.qgm_meaning.specs.Tags.{columns_from}
+use Rattle.qgm_edit_laws.specs.Graph.{Sound}
 use Rattle.qgm_meaning.specs.Values.{Environment, bound}
 use Rattle.qgm_wellformed.specs.Sentences.{WellFormed}
 use Rattle.qgm_props.specs.Inferred.{Facts}
@@ -32,6 +34,7 @@ use Rattle.qgm_meaning.specs.Satisfies.{Satisfies}
 use Rattle.rule_magic.specs.Places.{MayAbsorb}
 use Rattle.rule_magic.specs.Boxes.{box_as, pair_box, set_box}
 use Rattle.rule_magic.specs.FedBox.{IsFedAt}
+use Rattle.rule_magic.specs.Region.{is_below}
 use Rattle.rule_magic.specs.UnderTags.{NoneAmong}
 use Rattle.rule_magic.specs.AbsorbArms.{Renames, IsStill, IsRenamed, HasArms}
 
@@ -87,3 +90,14 @@ abbrev pub SetLowers : Type 0
 SetLowers =
     (g : QueryGraph) (known : Facts) (d : Node) (may : MayAbsorb g.boxes known d) (form : SetOperator) (types mt : List SqlType) (l r : OwnedQuant) (x y : Node) (s u p : ℕ) (up l1 l2 : List Node) → SetAt g known d may form types mt l r x y s u p up l1 l2
     → ((q : ℕ) → IsFree g.boxes y.id q → ⊥) → Lowers g.boxes (absorbed_set g known d may form mt l r x y s u p Fed Plain up l1 l2).boxes
+
+-- and where the right operand is open, below it names of the magic box's quantifier become those of the new one
+abbrev pub renamed_set : (g : QueryGraph) (known : Facts) (d : Node) (may : MayAbsorb g.boxes known d) (form : SetOperator) (mt : List SqlType) (l r : OwnedQuant) (x y : Node) (s u p : ℕ) (left right : Role) (up l1 l2 : List Node) → QueryGraph
+renamed_set g known d may form mt l r x y s u p left right up l1 l2 =
+    on_boxes (λ boxes. map (λ (n : Node). if is_below g.boxes r.over n.id then put_node may.a.id (columns_from p 1 (width may.m)) n else n) (absorbed_set g known d may form mt l r x y s u p left right up l1 l2).boxes) g
+
+-- so the graph is sound
+abbrev pub SetOpenSound : Type 0
+SetOpenSound =
+    (g : QueryGraph) (known : Facts) (d : Node) (may : MayAbsorb g.boxes known d) (form : SetOperator) (types mt : List SqlType) (l r : OwnedQuant) (x y : Node) (s u p : ℕ) (left right : Role) (up l1 l2 : List Node) → SetAt g known d may form types mt l r x y s u p up l1 l2
+    → IsFree g.boxes y.id may.a.id → Sound (renamed_set g known d may form mt l r x y s u p left right up l1 l2).boxes g.root
