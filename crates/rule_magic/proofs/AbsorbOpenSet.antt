@@ -55,7 +55,7 @@ same-flat : (G : Node → List ℕ) (f : Node → Node) → ((n : Node) → G (f
 same-flat G f h [] = refl
 same-flat G f h (n ∷ ns) = ap₂ (λ (a b : List ℕ). a ++ b) (h n) (same-flat G f h ns)
 
-and-none : (v : Bool) → (v && false) ≡ false
+pub and-none : (v : Bool) → (v && false) ≡ false
 and-none true = refl
 and-none false = refl
 
@@ -138,7 +138,7 @@ module _ (g : QueryGraph) (known : Facts) (d : Node) (may : MayAbsorb g.boxes kn
     owns_a = any-from (is_quant a.id) a d.quants in-a (eq-itself a.id);
   }
 
-  region : IsRegion g.boxes r1 a.id
+  pub region : IsRegion g.boxes r1 a.id
   region = arm-has-region g.boxes g.root c r1 a.id w arm
 
   -- ---- what is below
@@ -160,7 +160,7 @@ module _ (g : QueryGraph) (known : Facts) (d : Node) (may : MayAbsorb g.boxes kn
   below-d : (n : Node) → is_below g.boxes r1.over n.id ≡ true → (n.id == d.id) ≡ false
   below-d n t = elim (cases_Bool (n.id == d.id)) [ inr f ↦ f | inl e ↦ absurd (clash (below n.id) t (subst (λ b. below b ≡ false) (sym (eqb-true n.id d.id e)) not-below-d)) ]
 
-  not-below-s : is_below g.boxes r1.over s ≡ false
+  pub not-below-s : is_below g.boxes r1.over s ≡ false
   not-below-s = elim (cases_Bool (below s)) [ inr f ↦ f | inl t ↦ absurd (clash (has_box g.boxes s) (region.there s t) at.s_new) ]
 
   -- ---- renamed boxes
@@ -279,7 +279,7 @@ module _ (g : QueryGraph) (known : Facts) (d : Node) (may : MayAbsorb g.boxes kn
   ren-still : (n : Node) → In n g.boxes → (is_below g.boxes r1.over n.id ≡ true → loose g.boxes n.id a.id ≡ false) → ren n ≡ n
   ren-still n i f = elim (cases_Bool (below n.id)) [ inl t ↦ ren-below n t ∙ (below-stays n i t (f t)).0 | inr t ↦ ren-beside n t ]
 
-  x-closed-below : is_below g.boxes r1.over x.id ≡ true → (q : ℕ) → loose g.boxes x.id q ≡ false
+  pub x-closed-below : is_below g.boxes r1.over x.id ≡ true → (q : ℕ) → loose g.boxes x.id q ≡ false
   x-closed-below t q = elim (region.beside c l may.in_c not-below-c in-l (subst (λ b. below b ≡ true) (sym at.over_x) t)) [
     | inl e ↦ absurd (clash (l.id == r1.id) (eq-eqb l.id r1.id (ap (λ (z : OwnedQuant). z.id) e)) (made.l-not-r1 g known d may form ts mt l r1 x y s u p lr rr up l1 l2 at))
     | inr f ↦ subst (λ b. loose g.boxes b q ≡ false) at.over_x (f q)
@@ -291,10 +291,16 @@ module _ (g : QueryGraph) (known : Facts) (d : Node) (may : MayAbsorb g.boxes kn
   in-x : In x hs
   in-x = subst (λ (z : Node). In z hs) (ren-still x at.in_x (λ t. x-closed-below t a.id)) (in-ren x (made.in-x g known d may form ts mt l r1 x y s u p lr rr up l1 l2 at))
 
-  below-y : is_below g.boxes r1.over y.id ≡ true
+  pub below-y : is_below g.boxes r1.over y.id ≡ true
   below-y = subst (λ b. is_below g.boxes r1.over b ≡ true) at.over_y region.top
 
   -- ---- boxes that stay
+
+  pub beside-closed : (n : Node) (z : OwnedQuant) → In n g.boxes → (n.id == c.id) ≡ false → is_below g.boxes r1.over n.id ≡ false → In z n.quants → is_below g.boxes r1.over z.over ≡ true → (q : ℕ) → loose g.boxes z.over q ≡ false
+  beside-closed n z i nc out j t = elim (region.beside n z i out j t) [
+    | inr k ↦ k
+    | inl e ↦ absurd (clash (n.id == c.id) (eq-eqb n.id c.id (ap (λ (z : Node). z.id) (one-owner g.boxes g.root w r1.id n c i may.in_c (any-from (is_quant r1.id) z n.quants j (eq-eqb z.id r1.id (ap (λ (q : OwnedQuant). q.id) e))) (any-from (is_quant r1.id) r1 c.quants in-r1 (eq-itself r1.id))))) nc)
+  ]
 
   beside-stays : (n : Node) → In n g.boxes → (n.id == d.id) ≡ false → (n.id == c.id) ≡ false → is_below g.boxes r1.over n.id ≡ false → StaysIn g.boxes hs kept look n
   beside-stays n i nd nc out = record {
@@ -303,13 +309,7 @@ module _ (g : QueryGraph) (known : Facts) (d : Node) (may : MayAbsorb g.boxes kn
     same = λ q. look-beside n.id q nc out;
     over = λ z j. (
       let f = made.elsewhere g known d may form ts mt l r1 x y s u p lr rr up l1 l2 at n z i nd j in
-      (ap not f, λ q. elim (cases_Bool (below z.over)) [
-        | inr t ↦ look-beside z.over q f t
-        | inl t ↦ elim (region.beside n z i out j t) [
-          | inl e ↦ absurd (clash (n.id == c.id) (eq-eqb n.id c.id (ap (λ (z : Node). z.id) (one-owner g.boxes g.root w r1.id n c i may.in_c (any-from (is_quant r1.id) z n.quants j (eq-eqb z.id r1.id (ap (λ (q : OwnedQuant). q.id) e))) (any-from (is_quant r1.id) r1 c.quants in-r1 (eq-itself r1.id))))) nc)
-          | inr k ↦ look-closed z.over k q ∙ sym (k q)
-        ]
-      ]));
+      (ap not f, λ q. elim (cases_Bool (below z.over)) [ inr t ↦ look-beside z.over q f t | inl t ↦ (let k = beside-closed n z i nc out j t in look-closed z.over k q ∙ sym (k q)) ]));
     named = λ z h v. elim (cases_Bool (v.0.id == d.id)) [
       | inl e ↦ (
           let same : v.0 ≡ d = same-box g.boxes v.0 d w.ordered v.1.0 may.in_d (eqb-true v.0.id d.id e) in

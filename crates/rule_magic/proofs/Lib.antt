@@ -17,6 +17,7 @@ pub mod FedCondition
 pub mod HeadSteps
 pub mod Region
 pub mod AbsorbOpenSet
+pub mod AbsorbOpenKeeps
 pub mod RenamedMade
 pub mod RenamedTyped
 pub mod SetFormed

@@ -1,5 +1,5 @@
 -- G4, a set operation under a fed box is one of tagged arms: its bag, and what it keeps where the right one is closed.
-use Rattle.std.specs.Prelude.{ℕ, ◌≡◌, ◌==◌, ◌&&◌, ◌++◌, ◌⊎◌, if◌then◌else◌, map, Bool, true, false, List, [], ◌∷◌}
+use Rattle.std.specs.Prelude.{ℕ, ◌≡◌, ◌==◌, ◌&&◌, ◌++◌, ◌⊎◌, if◌then◌else◌, map, Bool, true, false, List, [], ◌∷◌, None}
 use Rattle.sql_value.specs.declared.cell.Cell.{Cell}
 use Rattle.sql_value.specs.declared.order_key.SqlType.{SqlType}
 use Rattle.row_bag.specs.AsSets.{stands}
@@ -24,6 +24,7 @@ use Rattle.qgm_meaning.specs.Tags.{columns_from}
 use Rattle.qgm_edit_laws.specs.Graph.{Sound}
 use Rattle.qgm_meaning.specs.Values.{Environment, bound}
 use Rattle.qgm_wellformed.specs.Sentences.{WellFormed}
+use Rattle.qgm_wellformed.specs.WellFormed.{fault}
 use Rattle.qgm_props.specs.Inferred.{Facts}
 use Rattle.qgm_props.specs.Laws.{Tells}
 use Rattle.qgm_props.specs.Measure.{Lowers}
@@ -101,3 +102,9 @@ abbrev pub SetOpenSound : Type 0
 SetOpenSound =
     (g : QueryGraph) (known : Facts) (d : Node) (may : MayAbsorb g.boxes known d) (form : SetOperator) (types mt : List SqlType) (l r : OwnedQuant) (x y : Node) (s u p : ℕ) (left right : Role) (up l1 l2 : List Node) → SetAt g known d may form types mt l r x y s u p up l1 l2
     → IsFree g.boxes y.id may.a.id → Sound (renamed_set g known d may form mt l r x y s u p left right up l1 l2).boxes g.root
+
+-- and it preserves, where the check finds nothing after it
+abbrev pub SetOpenPreserves : Type 0
+SetOpenPreserves =
+    (g : QueryGraph) (known : Facts) (d : Node) (may : MayAbsorb g.boxes known d) (form : SetOperator) (types mt : List SqlType) (l r : OwnedQuant) (x y : Node) (s u p : ℕ) (left right : Role) (up l1 l2 : List Node) → SetAt g known d may form types mt l r x y s u p up l1 l2
+    → IsFree g.boxes y.id may.a.id → fault (renamed_set g known d may form mt l r x y s u p left right up l1 l2) ≡ None → Preserves g (compact (renamed_set g known d may form mt l r x y s u p left right up l1 l2))

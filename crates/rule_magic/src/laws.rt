@@ -3,7 +3,7 @@ ghost use Rattle.rule_magic.specs.AbsorbGroup.{GroupBags, KeylessBags, GroupLowe
 ghost use Rattle.rule_magic.specs.AbsorbMeasure.{CompactLowers, GroupFiringLowers, SelectFiringLowers};
 ghost use Rattle.rule_magic.specs.AbsorbOuterJoin.{AbsorbsArms, AbsorbsLeft};
 ghost use Rattle.rule_magic.specs.AbsorbSelect.{SelectBags, SelectLowers, SelectPreserves};
-ghost use Rattle.rule_magic.specs.AbsorbSetOperation.{AbsorbsSets, SetLowers, SetOpenSound, SetPreserves, SetsGiven};
+ghost use Rattle.rule_magic.specs.AbsorbSetOperation.{AbsorbsSets, SetLowers, SetOpenPreserves, SetOpenSound, SetPreserves, SetsGiven};
 ghost use Rattle.rule_magic.specs.CalmFires.{CalmFires};
 ghost use Rattle.rule_magic.specs.FeedLaws.{FeedBags, FeedShaped, FeedSound, FeedTyped};
 ghost use Rattle.rule_magic.specs.FeedMeasure.{FeedMeasured, FeedingLowers, SplitMeasured};
@@ -50,6 +50,7 @@ pub fn absorbing_laws()
     ensures sets_given { SetsGiven }
     ensures set_preserves { SetPreserves }
     ensures set_open_sound { SetOpenSound }
+    ensures set_open_preserves { SetOpenPreserves }
     ensures region { ArmHasRegion }
     ensures region_renames { RegionRenames }
     ensures region_stays { RegionStays }
