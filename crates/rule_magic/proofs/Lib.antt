@@ -15,6 +15,9 @@ pub mod AbsorbSelectFormed
 pub mod AbsorbSelectKeeps
 pub mod FedCondition
 pub mod HeadSteps
+pub mod Region
+pub mod AbsorbOpenSet
+pub mod AbsorbOpenKeeps
 pub mod RenamedMade
 pub mod RenamedTyped
 pub mod SetFormed

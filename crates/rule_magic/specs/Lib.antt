@@ -15,5 +15,6 @@ pub mod AbsorbGroupExact
 pub mod AbsorbMeasure
 pub mod AbsorbArms
 pub mod AbsorbSetOperation
+pub mod Region
 pub mod Renamed
 pub mod AbsorbOuterJoin

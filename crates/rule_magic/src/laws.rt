@@ -3,8 +3,9 @@ ghost use Rattle.rule_magic.specs.AbsorbGroup.{GroupBags, KeylessBags, GroupLowe
 ghost use Rattle.rule_magic.specs.AbsorbMeasure.{CompactLowers, GroupFiringLowers, SelectFiringLowers};
 ghost use Rattle.rule_magic.specs.AbsorbOuterJoin.{AbsorbsArms, AbsorbsLeft};
 ghost use Rattle.rule_magic.specs.AbsorbSelect.{SelectBags, SelectLowers, SelectPreserves};
-ghost use Rattle.rule_magic.specs.AbsorbSetOperation.{AbsorbsSets, SetLowers, SetPreserves, SetsGiven};
+ghost use Rattle.rule_magic.specs.AbsorbSetOperation.{AbsorbsSets, SetLowers, SetOpenPreserves, SetOpenSound, SetPreserves, SetsGiven};
 ghost use Rattle.rule_magic.specs.CalmFires.{CalmFires};
+ghost use Rattle.rule_magic.specs.Region.{ArmHasRegion, RegionRenames, RegionStays};
 ghost use Rattle.rule_magic.specs.Renamed.{RenamedIsMade, RenamedIsTyped};
 ghost use Rattle.rule_magic.specs.UnderTags.{BothArmsUnderTags, DistinctUnderTags, KeyedGroupsUnderTags, LeftArmUnderTags, SelectsUnderTags, SetsUnderTags, SingleGroupsUnderTags};
 
@@ -30,6 +31,11 @@ pub fn absorbing_laws()
     ensures sets { AbsorbsSets }
     ensures sets_given { SetsGiven }
     ensures set_preserves { SetPreserves }
+    ensures set_open_sound { SetOpenSound }
+    ensures set_open_preserves { SetOpenPreserves }
+    ensures region { ArmHasRegion }
+    ensures region_renames { RegionRenames }
+    ensures region_stays { RegionStays }
     ensures renamed { RenamedIsMade }
     ensures renamed_types { RenamedIsTyped }
     ensures outer_left { AbsorbsLeft }

@@ -4,7 +4,10 @@ use Rattle.rule_magic.proofs.AbsorbBags.{absorbs-group, absorbs-keyless, absorbs
 use Rattle.rule_magic.proofs.AbsorbGroupKeeps.{group-preserves}
 use Rattle.rule_magic.proofs.AbsorbKeylessKeeps.{keyless-preserves}
 use Rattle.rule_magic.proofs.AbsorbSelectKeeps.{select-preserves}
+use Rattle.rule_magic.proofs.AbsorbOpenKeeps.{set-open-preserves}
+use Rattle.rule_magic.proofs.AbsorbOpenSet.{set-open-sound}
 use Rattle.rule_magic.proofs.AbsorbSetKeeps.{set-preserves}
+use Rattle.rule_magic.proofs.Region.{arm-has-region, region-renames, region-stays}
 use Rattle.rule_magic.proofs.RenamedMade.{renamed-is-made}
 use Rattle.rule_magic.proofs.RenamedTyped.{renamed-is-typed}
 use Rattle.rule_magic.proofs.laws.absorbing_laws.Goals as goal
@@ -41,6 +44,21 @@ returns-clause-sets_given c = sets-given
 
 pub returns-clause-set_preserves : goal.returns-clause-set_preserves
 returns-clause-set_preserves c = set-preserves
+
+pub returns-clause-set_open_sound : goal.returns-clause-set_open_sound
+returns-clause-set_open_sound c = set-open-sound
+
+pub returns-clause-set_open_preserves : goal.returns-clause-set_open_preserves
+returns-clause-set_open_preserves c = set-open-preserves
+
+pub returns-clause-region : goal.returns-clause-region
+returns-clause-region c = arm-has-region
+
+pub returns-clause-region_renames : goal.returns-clause-region_renames
+returns-clause-region_renames c = region-renames
+
+pub returns-clause-region_stays : goal.returns-clause-region_stays
+returns-clause-region_stays c = region-stays
 
 pub returns-clause-renamed : goal.returns-clause-renamed
 returns-clause-renamed c = renamed-is-made
