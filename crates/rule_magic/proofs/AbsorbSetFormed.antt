@@ -6,7 +6,7 @@ use Rattle.sql_value.specs.declared.order_key.SqlType.{SqlType}
 use Rattle.sql_value.specs.declared.order_key.SqlType.TheVariants.{Integer, Varchar}
 use Rattle.qgm_core.specs.Boxes.{Ordered, QueryGraph, has_box, ids_in, is_box, is_quant, overs_in, overs_of, width}
 use Rattle.qgm_core.specs.Edits.{range}
-use Rattle.qgm_core.specs.Free.{named_by}
+use Rattle.qgm_core.specs.Free.{IsFree, named_by}
 use Rattle.qgm_core.specs.Kinds.{is_F, is_S, is_fed, is_magic, is_permit, is_plain, width_by}
 use Rattle.list_laws.specs.Lists.{In, holds, times}
 use Rattle.qgm_core.specs.declared.kinds.BoxKind.TheVariants.{Select, SetOp}
@@ -82,7 +82,7 @@ two-quants rs l r e h =
     let b = and_parts (is_F l.kind) (is_F r.kind && true) a.1 in
     (b.0, (and_parts (is_F r.kind) true b.1).0)
 
-module _ (g : QueryGraph) (known : Facts) (d : Node) (may : MayAbsorb g.boxes known d) (form : SetOperator) (ts mt : List SqlType) (l r1 : OwnedQuant) (x y : Node) (s u p : ℕ) (up l1 l2 : List Node) (at : SetAt g known d may form ts mt l r1 x y s u p up l1 l2) where
+module _ (g : QueryGraph) (known : Facts) (d : Node) (may : MayAbsorb g.boxes known d) (form : SetOperator) (ts mt : List SqlType) (l r1 : OwnedQuant) (x y : Node) (s u p : ℕ) (lr rr : Role) (up l1 l2 : List Node) (at : SetAt g known d may form ts mt l r1 x y s u p up l1 l2) where
   abbrev m : Node
   m = may.m
 
@@ -99,19 +99,19 @@ module _ (g : QueryGraph) (known : Facts) (d : Node) (may : MayAbsorb g.boxes kn
   d' = set_box d.id form mt may.r.id may.c.id u s
 
   abbrev s' : Node
-  s' = pair_box s Plain p may.m.id (width may.m) r1.id y.id (width y)
+  s' = pair_box s rr p may.m.id (width may.m) r1.id y.id (width y)
 
   abbrev c' : Node
-  c' = pair_box may.c.id Fed may.a.id may.m.id (width may.m) l.id x.id (width x)
+  c' = pair_box may.c.id lr may.a.id may.m.id (width may.m) l.id x.id (width x)
 
   abbrev low : List Node
   low = l1 ++ l2
 
   abbrev news : List Node
-  news = set_box d.id form mt may.r.id may.c.id u s ∷ (pair_box s Plain p may.m.id (width may.m) r1.id y.id (width y) ∷ (pair_box may.c.id Fed may.a.id may.m.id (width may.m) l.id x.id (width x) ∷ (l1 ++ l2)))
+  news = set_box d.id form mt may.r.id may.c.id u s ∷ (pair_box s rr p may.m.id (width may.m) r1.id y.id (width y) ∷ (pair_box may.c.id lr may.a.id may.m.id (width may.m) l.id x.id (width x) ∷ (l1 ++ l2)))
 
   abbrev hs : List Node
-  hs = (absorbed_set g known d may form mt l r1 x y s u p up l1 l2).boxes
+  hs = (absorbed_set g known d may form mt l r1 x y s u p lr rr up l1 l2).boxes
 
   abbrev kept : ℕ → Bool
   kept b = not (b == c.id)
@@ -128,19 +128,19 @@ module _ (g : QueryGraph) (known : Facts) (d : Node) (may : MayAbsorb g.boxes kn
   sh : Shaped g.boxes g.root
   sh = made.sh g at.once at.formed known at.tells d may
 
-  in-a : In a d.quants
+  pub in-a : In a d.quants
   in-a = made.in-a g at.once at.formed known at.tells d may
 
   pub in-r : In r d.quants
   in-r = made.in-r g at.once at.formed known at.tells d may
 
-  in-l : In l c.quants
+  pub in-l : In l c.quants
   in-l = subst (λ (z : List OwnedQuant). In l z) (sym at.two) (inl refl)
 
   pub in-r1 : In r1 c.quants
   in-r1 = subst (λ (z : List OwnedQuant). In r1 z) (sym at.two) (inr (inl refl))
 
-  of-c : (P : OwnedQuant → Type 0) → P l → P r1 → (z : OwnedQuant) → In z c.quants → P z
+  pub of-c : (P : OwnedQuant → Type 0) → P l → P r1 → (z : OwnedQuant) → In z c.quants → P z
   of-c P a b z j = elim (subst (λ (k : List OwnedQuant). In z k) at.two j) [ inl e ↦ subst P e a | inr k ↦ elim k [ inl e ↦ subst P e b | inr n ↦ elim n [ ] ] ]
 
   pub d-not-c : (d.id == c.id) ≡ false
@@ -161,13 +161,13 @@ module _ (g : QueryGraph) (known : Facts) (d : Node) (may : MayAbsorb g.boxes kn
   pub m-not-c : (m.id == c.id) ≡ false
   m-not-c = subst (λ i. (i == c.id) ≡ false) (sym may.over_m) (made.a-elsewhere g at.once at.formed known at.tells d may up l1 l2 at.before)
 
-  not-d : (n : Node) → place g.boxes d.id < place g.boxes n.id → (n.id == d.id) ≡ false
+  pub not-d : (n : Node) → place g.boxes d.id < place g.boxes n.id → (n.id == d.id) ≡ false
   not-d n k = elim (cases_Bool (n.id == d.id)) [ inr f ↦ f | inl e ↦ absurd (let z : place g.boxes n.id ≡ place g.boxes d.id = ap (place g.boxes) (eqb-true n.id d.id e) in omega (arith, k, z)) ]
 
-  m-not-d : (m.id == d.id) ≡ false
+  pub m-not-d : (m.id == d.id) ≡ false
   m-not-d = not-d m (subst (λ i. place g.boxes d.id < place g.boxes i) (sym may.over_m) (place-under g.boxes d a w.ordered may.in_d in-a))
 
-  arm-not-d : (z : OwnedQuant) (n : Node) → In z c.quants → z.over ≡ n.id → (n.id == d.id) ≡ false
+  pub arm-not-d : (z : OwnedQuant) (n : Node) → In z c.quants → z.over ≡ n.id → (n.id == d.id) ≡ false
   arm-not-d z n j e = not-d n (
       let one : place g.boxes d.id < place g.boxes c.id = subst (λ i. place g.boxes d.id < place g.boxes i) (sym may.over_c) (place-under g.boxes d r w.ordered may.in_d in-r) in
       let two : place g.boxes c.id < place g.boxes n.id = subst (λ i. place g.boxes c.id < place g.boxes i) e (place-under g.boxes c z w.ordered may.in_c j) in
@@ -217,7 +217,7 @@ module _ (g : QueryGraph) (known : Facts) (d : Node) (may : MayAbsorb g.boxes kn
   pub open-c : (loose g.boxes c.id a.id ≡ true) × ((i : ℕ) → loose g.boxes c.id i ≡ true → i ≡ a.id)
   open-c = made.open-c g at.once at.formed known at.tells d may
 
-  arm-alone : (z : OwnedQuant) (n : Node) → In z c.quants → z.over ≡ n.id → (i : ℕ) → loose g.boxes n.id i ≡ true → i ≡ a.id
+  pub arm-alone : (z : OwnedQuant) (n : Node) → In z c.quants → z.over ≡ n.id → (i : ℕ) → loose g.boxes n.id i ≡ true → i ≡ a.id
   arm-alone z n j e i h = elim (climb g.boxes g.root w c z i may.in_c j (subst (λ k. loose g.boxes k i ≡ true) (sym e) h)) [
     | inl k ↦ absurd (let q : SetOp form ts ≡ Select = sym at.a_set ∙ k.0 in let v : ⊥ = cc q in v)
     | inr k ↦ open-c.1 i k
@@ -225,16 +225,6 @@ module _ (g : QueryGraph) (known : Facts) (d : Node) (may : MayAbsorb g.boxes kn
 
   pub x-alone : (i : ℕ) → loose g.boxes x.id i ≡ true → i ≡ a.id
   x-alone = arm-alone l x in-l at.over_x
-
-  pub y-closed : (i : ℕ) → loose g.boxes y.id i ≡ false
-  y-closed i = elim (cases_Bool (loose g.boxes y.id i)) [ inr f ↦ f | inl e ↦ absurd (at.closed i (looks-free g.boxes g.root w y.id i e)) ]
-
-  pub x-open : loose g.boxes x.id a.id ≡ true
-  x-open = elim (looks-asked g.boxes g.root w c may.in_c a.id open-c.0).1 [
-    | inl h ↦ absurd (read-none a.id h)
-    | inr h ↦ of-c (λ (z : OwnedQuant). loose g.boxes z.over a.id ≡ true → loose g.boxes x.id a.id ≡ true) (λ k. subst (λ i. loose g.boxes i a.id ≡ true) at.over_x k)
-        (λ k. absurd (clash (loose g.boxes y.id a.id) (subst (λ i. loose g.boxes i a.id ≡ true) at.over_y k) (y-closed a.id))) h.0 h.1.0 h.1.1
-  ]
 
   not-a : (z : OwnedQuant) → In z c.quants → (z.id == a.id) ≡ false
   not-a z j = elim (cases_Bool (z.id == a.id)) [
@@ -311,13 +301,13 @@ module _ (g : QueryGraph) (known : Facts) (d : Node) (may : MayAbsorb g.boxes kn
     ]
   ]
 
-  in-m : In m hs
+  pub in-m : In m hs
   in-m = to-hs m may.in_m m-not-d m-not-c
 
-  in-x : In x hs
+  pub in-x : In x hs
   in-x = to-hs x at.in_x (arm-not-d l x in-l at.over_x) x-not-c
 
-  in-y : In y hs
+  pub in-y : In y hs
   in-y = to-hs y at.in_y (arm-not-d r1 y in-r1 at.over_y) y-not-c
 
   od : Ordered (d ∷ (l1 ++ c ∷ l2))
@@ -381,7 +371,7 @@ module _ (g : QueryGraph) (known : Facts) (d : Node) (may : MayAbsorb g.boxes kn
 
   -- ---- counts
 
-  nothing : (b : Bool) → b ≡ false → cond b 1 0 ≤ 0
+  pub nothing : (b : Bool) → b ≡ false → cond b 1 0 ≤ 0
   nothing true f = absurd (let z : ⊥ = cc f in z)
   nothing false f = omega arith
 
@@ -406,7 +396,7 @@ module _ (g : QueryGraph) (known : Facts) (d : Node) (may : MayAbsorb g.boxes kn
       let k7 : times i (G c) ≡ cond (f l == i) 1 0 + (cond (f r1 == i) 1 0 + 0) = ap (λ (z : List OwnedQuant). times i (map f z)) at.two in
       omega (arith, e1, e2, e3, e4, e5, f1, f2, f3, k1, k2, k3, k4, k5, k6, k7)
 
-  once-after : (i : ℕ) → times i (ids_in hs) ≤ 1
+  pub once-after : (i : ℕ) → times i (ids_in hs) ≤ 1
   once-after i =
       let t = counts (λ (z : OwnedQuant). z.id) i r.id u p refl refl refl refl refl refl in
       let z = w.once i in
@@ -426,88 +416,13 @@ module _ (g : QueryGraph) (known : Facts) (d : Node) (may : MayAbsorb g.boxes kn
       ]
 
   -- a box that is neither new nor the magic box has the uses that it had
-  overs-after : (b : ℕ) → (s == b) ≡ false → (m.id == b) ≡ false → times b (overs_in hs) ≡ times b (overs_in g.boxes)
+  pub overs-after : (b : ℕ) → (s == b) ≡ false → (m.id == b) ≡ false → times b (overs_in hs) ≡ times b (overs_in g.boxes)
   overs-after b fs fm =
       let t = counts (λ (z : OwnedQuant). z.over) b c.id s m.id refl refl refl (sym at.over_y) may.over_m (sym at.over_x) in
       let k1 = nothing (s == b) fs in let k2 = nothing (m.id == b) fm in
       let v : cond (r.over == b) 1 0 ≤ cond (c.id == b) 1 0 = subst (λ j. cond (j == b) 1 0 ≤ cond (c.id == b) 1 0) may.over_c (omega arith) in
       let z : cond (c.id == b) 1 0 ≤ cond (r.over == b) 1 0 = subst (λ j. cond (c.id == b) 1 0 ≤ cond (j == b) 1 0) may.over_c (omega arith) in
       omega (arith, t, k1, k2, v, z)
-
-  -- ---- boxes that stay
-
-  stays : (n : Node) → In n g.boxes → (n.id == d.id) ≡ false → (n.id == c.id) ≡ false → StaysIn g.boxes hs kept look n
-  stays n i nd nc = record {
-    within = i;
-    number = ap not nc;
-    same = λ i. ap (λ b. not b && loose g.boxes n.id i) nc;
-    over = λ z j. (let f = elsewhere n z i nd j in (ap not f, λ i. ap (λ b. not b && loose g.boxes z.over i) f));
-    named = λ z h v. elim (cases_Bool (v.0.id == d.id)) [
-      | inl e ↦ (
-          let same : v.0 ≡ d = same-box g.boxes v.0 d w.ordered v.1.0 may.in_d (eqb-true v.0.id d.id e) in
-          elim (made.of-d g at.once at.formed known at.tells d may z (subst (λ (k : Node). In z k.quants) same v.1.1)) [
-            | inl k ↦ (ap not (ap (λ (k : OwnedQuant). k.over == c.id) k ∙ made.a-elsewhere g at.once at.formed known at.tells d may up l1 l2 at.before), (range a.id F m.id, ((c', (in-c', inl refl)), (ap (λ (k : OwnedQuant). k.id) (sym k), may.over_m ∙ ap (λ (k : OwnedQuant). k.over) (sym k)))))
-            | inr k ↦ absurd (made.r-unnamed g at.once at.formed known at.tells d may n i nd (subst (λ (k : OwnedQuant). holds k.id (named_by n) ≡ true) k h))
-          ])
-      | inr f ↦ elim (cases_Bool (v.0.id == c.id)) [
-        | inl e ↦ (
-            let same : v.0 ≡ c = same-box g.boxes v.0 c w.ordered v.1.0 may.in_c (eqb-true v.0.id c.id e) in
-            let still : kept z.over ≡ true = ap not (elsewhere v.0 z v.1.0 f v.1.1) in
-            of-c (λ (k : OwnedQuant). k ≡ z → (kept z.over ≡ true) × ((t : OwnedQuant) × (IsOwned hs t × ((t.id ≡ z.id) × (t.over ≡ z.over)))))
-            (λ k. (still, (range l.id F x.id, ((c', (in-c', inr (inl refl))), (ap (λ (k : OwnedQuant). k.id) k, sym at.over_x ∙ ap (λ (k : OwnedQuant). k.over) k)))))
-            (λ k. (still, (range r1.id F y.id, ((s', (in-s', inr (inl refl))), (ap (λ (k : OwnedQuant). k.id) k, sym at.over_y ∙ ap (λ (k : OwnedQuant). k.over) k)))))
-            z (subst (λ (k : Node). In z k.quants) same v.1.1) refl)
-        | inr k ↦ (ap not (elsewhere v.0 z v.1.0 f v.1.1), (z, ((v.0, (to-hs v.0 v.1.0 f k, v.1.1)), (refl, refl))))
-      ]
-    ];
-  }
-
-  -- ---- boxes that are made
-
-  and-none : (b : Bool) → (b && false) ≡ false
-  and-none true = refl
-  and-none false = refl
-
-  looks-m : (i : ℕ) → look m.id i ≡ false
-  looks-m i = ap (λ b. not (m.id == c.id) && b) (fed.closed-m g at.once at.formed known at.tells d may i) ∙ and-none (not (m.id == c.id))
-
-  looks-y : (i : ℕ) → look y.id i ≡ false
-  looks-y i = ap (λ b. not (y.id == c.id) && b) (y-closed i) ∙ and-none (not (y.id == c.id))
-
-  pub looks-c : (i : ℕ) → look c.id i ≡ false
-  looks-c i = ap (λ b. not b && loose g.boxes c.id i) (eq-itself c.id)
-
-  pub looks-d : (i : ℕ) → look d.id i ≡ false
-  looks-d i = ap (λ b. not b && loose g.boxes d.id i) d-not-c ∙ made.closed-d g at.once at.formed known at.tells d may i
-
-  pub looks-s : (i : ℕ) → look s i ≡ false
-  looks-s i = elim (cases_Bool (look s i)) [ inr z ↦ z | inl e ↦ absurd (clash (has_box g.boxes s) (loose-held g.boxes s i (and_parts (not (s == c.id)) (loose g.boxes s i) e).1) at.s_new) ]
-
-  left : IsPair hs look c' m x a.id l.id
-  left = record {
-    ordered = ordered;
-    once = once-after;
-    in_n = in-c';
-    in_m = in-m;
-    in_x = in-x;
-    apart = eq-false-sym l.id a.id l-not-a;
-    closed = looks-m;
-    alone = λ i h. x-alone i (and_parts (not (x.id == c.id)) (loose g.boxes x.id i) h).1;
-    nothing = looks-c;
-  }
-
-  right : IsPair hs look s' m y p r1.id
-  right = record {
-    ordered = ordered;
-    once = once-after;
-    in_n = in-s';
-    in_m = in-m;
-    in_x = in-y;
-    apart = eq-false-sym r1.id p (new-id p at.p_new r1 c may.in_c in-r1);
-    closed = looks-m;
-    alone = λ i h. absurd (clash (look y.id i) h (looks-y i));
-    nothing = looks-s;
-  }
 
   -- ---- types
 
@@ -538,11 +453,11 @@ module _ (g : QueryGraph) (known : Facts) (d : Node) (may : MayAbsorb g.boxes kn
   long-y : length Y ≡ width y
   long-y = wide-types g.boxes g.root w y at.in_y
 
-  long-mt : length mt ≡ width m + length ts
+  pub long-mt : length mt ≡ width m + length ts
   long-mt = sym (length-map (λ (t : SqlType). Some t) mt) ∙ ap length at.typed ∙ length-append M C ∙ ap₂ ◌+◌ long-m (length-map (λ (t : SqlType). Some t) ts)
 
   -- the operands have the columns of the set operation, and their types
-  wide-arm : (z : OwnedQuant) (n : Node) → In z c.quants → z.over ≡ n.id → In n g.boxes → width n ≡ length ts
+  pub wide-arm : (z : OwnedQuant) (n : Node) → In z c.quants → z.over ≡ n.id → In n g.boxes → width n ≡ length ts
   wide-arm z n j e i = subst (λ k. ArmsBy k (width n) (width c)) at.a_set (w.arms c n z may.in_c j i (sym e)) ∙ width-c
 
   agree-arm : (z : OwnedQuant) (n : Node) → In z c.quants → z.over ≡ n.id → all_agree (types_at g.boxes n.id) C ≡ true
@@ -552,29 +467,16 @@ module _ (g : QueryGraph) (known : Facts) (d : Node) (may : MayAbsorb g.boxes kn
       subst (λ i. all_agree (types_at g.boxes i) C ≡ true) e
       (all-in (λ (z : OwnedQuant). all_agree (types_at g.boxes z.over) C) z c.quants (subst (λ k. arms_by (types_at g.boxes) k c.quants ≡ true) at.a_set b.1) j)
 
-  set_is : IsSet hs look d' c' s' mt
-  set_is = record {
-    ordered = ordered;
-    in_n = in-d';
-    in_left = in-c';
-    in_right = in-s';
-    closed_left = looks-c;
-    closed_right = looks-s;
-    nothing = looks-d;
-    wide_left = width-pair hs look c.id a.id l.id Fed m x left ∙ ap (λ z. width m + z) (wide-arm l x in-l at.over_x at.in_x) ∙ sym long-mt;
-    wide_right = width-pair hs look s p r1.id Plain m y right ∙ ap (λ z. width m + z) (wide-arm r1 y in-r1 at.over_y at.in_y) ∙ sym long-mt;
-  }
-
   -- ---- widths
 
-  width-d : width d' ≡ width d
+  pub width-d : width d' ≡ width d
   width-d =
       long-mt ∙ ap₂ ◌+◌ (sym (columns-long a.id 1 (width m))) (sym width-c ∙ sym (columns-long r.id 1 (width c)))
       ∙ sym (length-append (columns_from a.id 1 (width m)) (columns_from r.id 1 (width c)))
       ∙ ap length (sym (fed.head-is g at.once at.formed known at.tells d may)) ∙ sym (ap (λ z. width_by z (length d.parts.head)) (fed.kind_d g at.once at.formed known at.tells d may))
 
   -- what a kept box had, the box of its number has
-  kept-alike : {A : Type 0} (f : Node → A) → f d' ≡ f d → (v n : Node) → In v g.boxes → In n hs → kept v.id ≡ true → v.id ≡ n.id → f n ≡ f v
+  pub kept-alike : {A : Type 0} (f : Node → A) → f d' ≡ f d → (v n : Node) → In v g.boxes → In n hs → kept v.id ≡ true → v.id ≡ n.id → f n ≡ f v
   kept-alike f same v n i j k e = elim (each-in n j) [
     | inl z ↦ ap f z ∙ same ∙ ap f (sym (same-box g.boxes v d w.ordered i may.in_d (e ∙ ap (λ (z : Node). z.id) z)))
     | inr z ↦ elim z [
@@ -586,209 +488,309 @@ module _ (g : QueryGraph) (known : Facts) (d : Node) (may : MayAbsorb g.boxes kn
     ]
   ]
 
-  -- ---- rebuilt
-
-  abbrev fresh : ℕ → Bool
-  fresh b = (b == d.id) || ((b == s) || (b == c.id))
-
-  new-box : (n : Node) → In n hs → fresh n.id ≡ true → (n ≡ d') ⊎ ((n ≡ s') ⊎ (n ≡ c'))
-  new-box n i h = elim (each-in n i) [
-    | inl z ↦ inl z
-    | inr z ↦ elim z [
-      | inl z ↦ inr (inl z)
-      | inr z ↦ elim z [
-        | inl z ↦ inr (inr z)
-        | inr z ↦ absurd (elim (or_cases (n.id == d.id) ((n.id == s) || (n.id == c.id)) h) [
-          | inl e ↦ clash (n.id == d.id) e z.1.0
-          | inr h ↦ elim (or_cases (n.id == s) (n.id == c.id) h) [ inl e ↦ clash (n.id == s) e (eq-false-sym s n.id (s-not n z.0)) | inr e ↦ clash (n.id == c.id) e z.1.1 ]
-        ])
-      ]
+  pub held : (v : Node) → In v g.boxes → has_box hs v.id ≡ true
+  held v i = elim (cases_Bool (v.id == d.id)) [
+    | inl e ↦ subst (λ b. has_box hs b ≡ true) (sym (eqb-true v.id d.id e)) (in-has d' hs in-d')
+    | inr f ↦ elim (cases_Bool (v.id == c.id)) [
+      | inl e ↦ subst (λ b. has_box hs b ≡ true) (sym (eqb-true v.id c.id e)) (in-has c' hs in-c')
+      | inr k ↦ in-has v hs (to-hs v i f k)
     ]
   ]
 
-  number : (n z : Node) → n ≡ z → (n.id == z.id) ≡ true
-  number n z e = eq-eqb n.id z.id (ap (λ (z : Node). z.id) e)
+  pub open-not-m : (b i : ℕ) → loose g.boxes b i ≡ true → (m.id == b) ≡ false
+  open-not-m b i k = elim (cases_Bool (m.id == b)) [ inr f ↦ f | inl e ↦ absurd (clash (loose g.boxes m.id i) (subst (λ z. loose g.boxes z i ≡ true) (sym (eqb-true m.id b e)) k) (fed.closed-m g at.once at.formed known at.tells d may i)) ]
 
-  pub rebuilds : Rebuilds g.boxes hs g.root kept look fresh
-  rebuilds = record {
-    ordered = ordered;
-    rooted = (let n = has-in g.root g.boxes w.rooted in subst (λ b. has_box hs b ≡ true) n.1.1 (held n.0 n.1.0));
-    top = (let n = has-in g.root g.boxes w.rooted in overs-after g.root (subst (λ b. (s == b) ≡ false) n.1.1 (s-not n.0 n.1.0)) root-not-m ∙ w.top);
-    once = once-after;
-    wide = λ v n i j k e. kept-alike width width-d v n i j k e;
-    magic = λ v n i j k e. kept-alike (λ (z : Node). is_magic z.parts.role) (sym (ap is_magic may.is_fed)) v n i j k e;
-    held = λ v i k. held v i;
-    used = λ b i h. (
-        let k = (and_parts (not (b == c.id)) (loose g.boxes b i) h).1 in
-        let n = has-in b g.boxes (loose-held g.boxes b i k) in
-        overs-after b (subst (λ z. (s == z) ≡ false) n.1.1 (s-not n.0 n.1.0)) (open-not-m b i k) ∙ w.used b i k);
-    each = λ n i. elim (each-in n i) [
-      | inl z ↦ inr (or_left (n.id == d.id) ((n.id == s) || (n.id == c.id)) (number n d' z))
+  pub root-not-m : (m.id == g.root) ≡ false
+  root-not-m = elim (cases_Bool (m.id == g.root)) [
+    | inr f ↦ f
+    | inl e ↦ absurd (
+        let b = times-in overs_of g.root d g.boxes may.in_d in
+        let z = w.top in
+        let v : 1 ≤ times g.root (overs_of d) = subst (λ b. 1 ≤ times b (overs_of d)) (sym may.over_m ∙ eqb-true m.id g.root e) (in-times (λ (z : OwnedQuant). z.over) a d.quants in-a) in
+        omega (arith, b, z, v))
+  ]
+
+  -- where the right operand is closed
+  module _ (is-fed : lr ≡ Fed) (is-plain : rr ≡ Plain) (shut : (i : ℕ) → IsFree g.boxes y.id i → ⊥) where
+    pub y-closed : (i : ℕ) → loose g.boxes y.id i ≡ false
+    y-closed i = elim (cases_Bool (loose g.boxes y.id i)) [ inr f ↦ f | inl e ↦ absurd (shut i (looks-free g.boxes g.root w y.id i e)) ]
+
+    pub x-open : loose g.boxes x.id a.id ≡ true
+    x-open = elim (looks-asked g.boxes g.root w c may.in_c a.id open-c.0).1 [
+      | inl h ↦ absurd (read-none a.id h)
+      | inr h ↦ of-c (λ (z : OwnedQuant). loose g.boxes z.over a.id ≡ true → loose g.boxes x.id a.id ≡ true) (λ k. subst (λ i. loose g.boxes i a.id ≡ true) at.over_x k)
+          (λ k. absurd (clash (loose g.boxes y.id a.id) (subst (λ i. loose g.boxes i a.id ≡ true) at.over_y k) (y-closed a.id))) h.0 h.1.0 h.1.1
+    ]
+
+    -- ---- boxes that stay
+
+    stays : (n : Node) → In n g.boxes → (n.id == d.id) ≡ false → (n.id == c.id) ≡ false → StaysIn g.boxes hs kept look n
+    stays n i nd nc = record {
+      within = i;
+      number = ap not nc;
+      same = λ i. ap (λ b. not b && loose g.boxes n.id i) nc;
+      over = λ z j. (let f = elsewhere n z i nd j in (ap not f, λ i. ap (λ b. not b && loose g.boxes z.over i) f));
+      named = λ z h v. elim (cases_Bool (v.0.id == d.id)) [
+        | inl e ↦ (
+            let same : v.0 ≡ d = same-box g.boxes v.0 d w.ordered v.1.0 may.in_d (eqb-true v.0.id d.id e) in
+            elim (made.of-d g at.once at.formed known at.tells d may z (subst (λ (k : Node). In z k.quants) same v.1.1)) [
+              | inl k ↦ (ap not (ap (λ (k : OwnedQuant). k.over == c.id) k ∙ made.a-elsewhere g at.once at.formed known at.tells d may up l1 l2 at.before), (range a.id F m.id, ((c', (in-c', inl refl)), (ap (λ (k : OwnedQuant). k.id) (sym k), may.over_m ∙ ap (λ (k : OwnedQuant). k.over) (sym k)))))
+              | inr k ↦ absurd (made.r-unnamed g at.once at.formed known at.tells d may n i nd (subst (λ (k : OwnedQuant). holds k.id (named_by n) ≡ true) k h))
+            ])
+        | inr f ↦ elim (cases_Bool (v.0.id == c.id)) [
+          | inl e ↦ (
+              let same : v.0 ≡ c = same-box g.boxes v.0 c w.ordered v.1.0 may.in_c (eqb-true v.0.id c.id e) in
+              let still : kept z.over ≡ true = ap not (elsewhere v.0 z v.1.0 f v.1.1) in
+              of-c (λ (k : OwnedQuant). k ≡ z → (kept z.over ≡ true) × ((t : OwnedQuant) × (IsOwned hs t × ((t.id ≡ z.id) × (t.over ≡ z.over)))))
+              (λ k. (still, (range l.id F x.id, ((c', (in-c', inr (inl refl))), (ap (λ (k : OwnedQuant). k.id) k, sym at.over_x ∙ ap (λ (k : OwnedQuant). k.over) k)))))
+              (λ k. (still, (range r1.id F y.id, ((s', (in-s', inr (inl refl))), (ap (λ (k : OwnedQuant). k.id) k, sym at.over_y ∙ ap (λ (k : OwnedQuant). k.over) k)))))
+              z (subst (λ (k : Node). In z k.quants) same v.1.1) refl)
+          | inr k ↦ (ap not (elsewhere v.0 z v.1.0 f v.1.1), (z, ((v.0, (to-hs v.0 v.1.0 f k, v.1.1)), (refl, refl))))
+        ]
+      ];
+    }
+
+    -- ---- boxes that are made
+
+    and-none : (b : Bool) → (b && false) ≡ false
+    and-none true = refl
+    and-none false = refl
+
+    looks-m : (i : ℕ) → look m.id i ≡ false
+    looks-m i = ap (λ b. not (m.id == c.id) && b) (fed.closed-m g at.once at.formed known at.tells d may i) ∙ and-none (not (m.id == c.id))
+
+    looks-y : (i : ℕ) → look y.id i ≡ false
+    looks-y i = ap (λ b. not (y.id == c.id) && b) (y-closed i) ∙ and-none (not (y.id == c.id))
+
+    pub looks-c : (i : ℕ) → look c.id i ≡ false
+    looks-c i = ap (λ b. not b && loose g.boxes c.id i) (eq-itself c.id)
+
+    pub looks-d : (i : ℕ) → look d.id i ≡ false
+    looks-d i = ap (λ b. not b && loose g.boxes d.id i) d-not-c ∙ made.closed-d g at.once at.formed known at.tells d may i
+
+    pub looks-s : (i : ℕ) → look s i ≡ false
+    looks-s i = elim (cases_Bool (look s i)) [ inr z ↦ z | inl e ↦ absurd (clash (has_box g.boxes s) (loose-held g.boxes s i (and_parts (not (s == c.id)) (loose g.boxes s i) e).1) at.s_new) ]
+
+    left : IsPair hs look c' m x a.id l.id
+    left = record {
+      ordered = ordered;
+      once = once-after;
+      in_n = in-c';
+      in_m = in-m;
+      in_x = in-x;
+      apart = eq-false-sym l.id a.id l-not-a;
+      closed = looks-m;
+      alone = λ i h. x-alone i (and_parts (not (x.id == c.id)) (loose g.boxes x.id i) h).1;
+      nothing = looks-c;
+    }
+
+    right : IsPair hs look s' m y p r1.id
+    right = record {
+      ordered = ordered;
+      once = once-after;
+      in_n = in-s';
+      in_m = in-m;
+      in_x = in-y;
+      apart = eq-false-sym r1.id p (new-id p at.p_new r1 c may.in_c in-r1);
+      closed = looks-m;
+      alone = λ i h. absurd (clash (look y.id i) h (looks-y i));
+      nothing = looks-s;
+    }
+
+    set_is : IsSet hs look d' c' s' mt
+    set_is = record {
+      ordered = ordered;
+      in_n = in-d';
+      in_left = in-c';
+      in_right = in-s';
+      closed_left = looks-c;
+      closed_right = looks-s;
+      nothing = looks-d;
+      wide_left = width-pair hs look c.id a.id l.id lr m x left ∙ ap (λ z. width m + z) (wide-arm l x in-l at.over_x at.in_x) ∙ sym long-mt;
+      wide_right = width-pair hs look s p r1.id rr m y right ∙ ap (λ z. width m + z) (wide-arm r1 y in-r1 at.over_y at.in_y) ∙ sym long-mt;
+    }
+
+    -- ---- rebuilt
+
+    abbrev fresh : ℕ → Bool
+    fresh b = (b == d.id) || ((b == s) || (b == c.id))
+
+    new-box : (n : Node) → In n hs → fresh n.id ≡ true → (n ≡ d') ⊎ ((n ≡ s') ⊎ (n ≡ c'))
+    new-box n i h = elim (each-in n i) [
+      | inl z ↦ inl z
       | inr z ↦ elim z [
-        | inl z ↦ inr (or_right (n.id == d.id) ((n.id == s) || (n.id == c.id)) (or_left (n.id == s) (n.id == c.id) (number n s' z)))
+        | inl z ↦ inr (inl z)
         | inr z ↦ elim z [
-          | inl z ↦ inr (or_right (n.id == d.id) ((n.id == s) || (n.id == c.id)) (or_right (n.id == s) (n.id == c.id) (number n c' z)))
-          | inr z ↦ inl (stays n z.0 z.1.0 z.1.1)
+          | inl z ↦ inr (inr z)
+          | inr z ↦ absurd (elim (or_cases (n.id == d.id) ((n.id == s) || (n.id == c.id)) h) [
+            | inl e ↦ clash (n.id == d.id) e z.1.0
+            | inr h ↦ elim (or_cases (n.id == s) (n.id == c.id) h) [ inl e ↦ clash (n.id == s) e (eq-false-sym s n.id (s-not n z.0)) | inr e ↦ clash (n.id == c.id) e z.1.1 ]
+          ])
         ]
       ]
-    ];
-    made = λ n i h. elim (new-box n i h) [
-      | inl z ↦ subst (MadeIn hs look) (sym z) (set-made hs look d.id r.id u form mt c' s' set_is)
-      | inr z ↦ elim z [
-        | inl z ↦ subst (MadeIn hs look) (sym z) (pair-made hs look s p r1.id Plain m y right)
-        | inr z ↦ subst (MadeIn hs look) (sym z) (pair-made hs look c.id a.id l.id Fed m x left)
-      ]
-    ];
-  }
-    where
-      held : (v : Node) → In v g.boxes → has_box hs v.id ≡ true
-      held v i = elim (cases_Bool (v.id == d.id)) [
-        | inl e ↦ subst (λ b. has_box hs b ≡ true) (sym (eqb-true v.id d.id e)) (in-has d' hs in-d')
-        | inr f ↦ elim (cases_Bool (v.id == c.id)) [
-          | inl e ↦ subst (λ b. has_box hs b ≡ true) (sym (eqb-true v.id c.id e)) (in-has c' hs in-c')
-          | inr k ↦ in-has v hs (to-hs v i f k)
-        ]
-      ]
+    ]
 
-      open-not-m : (b i : ℕ) → loose g.boxes b i ≡ true → (m.id == b) ≡ false
-      open-not-m b i k = elim (cases_Bool (m.id == b)) [ inr f ↦ f | inl e ↦ absurd (clash (loose g.boxes m.id i) (subst (λ z. loose g.boxes z i ≡ true) (sym (eqb-true m.id b e)) k) (fed.closed-m g at.once at.formed known at.tells d may i)) ]
+    number : (n z : Node) → n ≡ z → (n.id == z.id) ≡ true
+    number n z e = eq-eqb n.id z.id (ap (λ (z : Node). z.id) e)
 
-      root-not-m : (m.id == g.root) ≡ false
-      root-not-m = elim (cases_Bool (m.id == g.root)) [
-        | inr f ↦ f
-        | inl e ↦ absurd (
-            let b = times-in overs_of g.root d g.boxes may.in_d in
-            let z = w.top in
-            let v : 1 ≤ times g.root (overs_of d) = subst (λ b. 1 ≤ times b (overs_of d)) (sym may.over_m ∙ eqb-true m.id g.root e) (in-times (λ (z : OwnedQuant). z.over) a d.quants in-a) in
-            omega (arith, b, z, v))
-      ]
-
-  pub sound-after : Sound hs g.root
-  sound-after = rebuilt g.boxes hs g.root kept look fresh w rebuilds
-
-  pub looks-after : (b i : ℕ) → has_box hs b ≡ true → loose hs b i ≡ look b i
-  looks-after = looks-exact g.boxes hs g.root kept look fresh w rebuilds
-
-  abbrev T : ℕ → List (Option SqlType)
-  T b = cond (b == c.id) (types_at g.boxes m.id ++ types_at g.boxes x.id) (cond (b == s) (types_at g.boxes m.id ++ types_at g.boxes y.id) (types_at g.boxes b))
-
-  T-c : T c.id ≡ M ++ X
-  T-c = ap (λ z. cond z (M ++ X) (cond (c.id == s) (M ++ Y) (types_at g.boxes c.id))) (eq-itself c.id)
-
-  T-s : T s ≡ M ++ Y
-  T-s = ap₂ (λ v z. cond v (M ++ X) (cond z (M ++ Y) (types_at g.boxes s))) (s-not c may.in_c) (eq-itself s)
-
-  T-old : (n : Node) → In n g.boxes → (n.id == c.id) ≡ false → T n.id ≡ types_at g.boxes n.id
-  T-old n i f = ap₂ (λ v z. cond v (M ++ X) (cond z (M ++ Y) (types_at g.boxes n.id))) f (eq-false-sym s n.id (s-not n i))
-
-  L-m : map (term_type L) (columns_from a.id 1 (width m)) ≡ M
-  L-m = ap (λ z. map (term_type L) (columns_from a.id 1 z)) (sym long-m)
-      ∙ columns-types L a.id [] M (λ j. looked g.boxes a.id (suc j) ∙ ap (found_by (types_at g.boxes) (suc j)) (found-under g.boxes g.root w a.id (record { owner = d; quant = a; box = m; owner_in = may.in_d; quant_in = in-a; is_q = refl; box_in = may.in_m; is_over = may.over_m })) ∙ found-suc (types_at g.boxes) j m)
-
-  L-c : map (term_type L) (columns_from r.id 1 (width c)) ≡ types_at g.boxes c.id
-  L-c = ap (λ z. map (term_type L) (columns_from r.id 1 z)) (sym (wide-types g.boxes g.root w c may.in_c))
-      ∙ columns-types L r.id [] (types_at g.boxes c.id) (λ j. looked g.boxes r.id (suc j) ∙ ap (found_by (types_at g.boxes) (suc j)) (found-under g.boxes g.root w r.id (record { owner = d; quant = r; box = c; owner_in = may.in_d; quant_in = in-r; is_q = refl; box_in = may.in_c; is_over = may.over_c })) ∙ found-suc (types_at g.boxes) j c)
-
-  T-d : T d.id ≡ types.known mt
-  T-d =
-      T-old d may.in_d d-not-c ∙ settled-types g.boxes g.root w d may.in_d
-      ∙ ap (λ z. types_by L z d.parts.head) (fed.kind_d g at.once at.formed known at.tells d may)
-      ∙ ap (map (term_type L)) (fed.head-is g at.once at.formed known at.tells d may)
-      ∙ map-append (term_type L) (columns_from a.id 1 (width m)) (columns_from r.id 1 (width c))
-      ∙ ap₂ (λ (v z : List (Option SqlType)). v ++ z) L-m (L-c ∙ types-c)
-      ∙ sym at.typed
-
-  known-each : (ts : List SqlType) → list_all is_known (types.known ts) ≡ true
-  known-each [] = refl
-  known-each (t ∷ ts) = known-each ts
-
-  known-m : list_all is_known M ≡ true
-  known-m = first-all M C (ap (list_all is_known) (sym at.typed) ∙ known-each mt)
-    where
-      first-all : (os bs : List (Option SqlType)) → list_all is_known (os ++ bs) ≡ true → list_all is_known os ≡ true
-      first-all [] bs h = refl
-      first-all (t ∷ os) bs h = let z = and_parts (is_known t) (list_all is_known (os ++ bs)) h in and_from (is_known t) (list_all is_known os) z.0 (first-all os bs z.1)
-
-  known-of : (os bs : List (Option SqlType)) → all_agree os bs ≡ true → list_all is_known os ≡ true
-  known-of [] bs h = refl
-  known-of (t ∷ os) [] h = absurd (let z : ⊥ = cc in z)
-  known-of (t ∷ os) (b ∷ bs) h = let z = and_parts (agree t b) (all_agree os bs) h in and_from (is_known t) (list_all is_known os) (known-by t b z.0) (known-of os bs z.1)
-    where
-      known-by : (t b : Option SqlType) → agree t b ≡ true → is_known t ≡ true
-      known-by None b h = absurd (let z : ⊥ = cc in z)
-      known-by (Some v) b h = refl
-
-  seen-m : is_permit m.parts.distinct ≡ false
-  seen-m = counted-seen g.boxes g.root ty sh d m a may.in_d in-a (f-counts a.kind (made.f-a g at.once at.formed known at.tells d may)) may.in_m may.over_m
-
-  seen-arm : (z : OwnedQuant) (n : Node) → In z c.quants → is_F z.kind ≡ true → z.over ≡ n.id → In n g.boxes → is_permit n.parts.distinct ≡ false
-  seen-arm z n j k e i = counted-seen g.boxes g.root ty sh c n z may.in_c j (f-counts z.kind k) i (sym e)
-
-  -- the owner of an S quantifier stood before
-  scalar-old : (b : ℕ) → is_scalar hs b ≡ true → (n : Node) × ((z : OwnedQuant) × (In n g.boxes × (((n.id == d.id) ≡ false) × (In z n.quants × (z.over ≡ b)))))
-  scalar-old b h =
-      let n = any-in (λ (n : Node). is_scalar_in n.quants b) hs h in
-      let z = any-in (λ (z : OwnedQuant). (z.over == b) && is_S z.kind) n.0.quants n.1.1 in
-      let k = and_parts (z.0.over == b) (is_S z.0.kind) z.1.1 in
-      elim (each-in n.0 n.1.0) [
-        | inl e ↦ absurd (not-two z.0 r.id c.id u s (subst (λ (n : Node). In z.0 n.quants) e z.1.0) k.1)
-        | inr e ↦ elim e [
-          | inl e ↦ absurd (not-two z.0 p m.id r1.id y.id (subst (λ (n : Node). In z.0 n.quants) e z.1.0) k.1)
-          | inr e ↦ elim e [
-            | inl e ↦ absurd (not-two z.0 a.id m.id l.id x.id (subst (λ (n : Node). In z.0 n.quants) e z.1.0) k.1)
-            | inr e ↦ (n.0, (z.0, (e.0, (e.1.0, (z.1.0, eqb-true z.0.over b k.0)))))
+    pub rebuilds : Rebuilds g.boxes hs g.root kept look fresh
+    rebuilds = record {
+      ordered = ordered;
+      rooted = (let n = has-in g.root g.boxes w.rooted in subst (λ b. has_box hs b ≡ true) n.1.1 (held n.0 n.1.0));
+      top = (let n = has-in g.root g.boxes w.rooted in overs-after g.root (subst (λ b. (s == b) ≡ false) n.1.1 (s-not n.0 n.1.0)) root-not-m ∙ w.top);
+      once = once-after;
+      wide = λ v n i j k e. kept-alike width width-d v n i j k e;
+      magic = λ v n i j k e. kept-alike (λ (z : Node). is_magic z.parts.role) (sym (ap is_magic may.is_fed)) v n i j k e;
+      held = λ v i k. held v i;
+      used = λ b i h. (
+          let k = (and_parts (not (b == c.id)) (loose g.boxes b i) h).1 in
+          let n = has-in b g.boxes (loose-held g.boxes b i k) in
+          overs-after b (subst (λ z. (s == z) ≡ false) n.1.1 (s-not n.0 n.1.0)) (open-not-m b i k) ∙ w.used b i k);
+      each = λ n i. elim (each-in n i) [
+        | inl z ↦ inr (or_left (n.id == d.id) ((n.id == s) || (n.id == c.id)) (number n d' z))
+        | inr z ↦ elim z [
+          | inl z ↦ inr (or_right (n.id == d.id) ((n.id == s) || (n.id == c.id)) (or_left (n.id == s) (n.id == c.id) (number n s' z)))
+          | inr z ↦ elim z [
+            | inl z ↦ inr (or_right (n.id == d.id) ((n.id == s) || (n.id == c.id)) (or_right (n.id == s) (n.id == c.id) (number n c' z)))
+            | inr z ↦ inl (stays n z.0 z.1.0 z.1.1)
           ]
         ]
-      ]
-    where
-      not-two : (z : OwnedQuant) (i b j k : ℕ) → In z (range i F b ∷ (range j F k ∷ [])) → is_S z.kind ≡ true → ⊥
-      not-two z i b j k v h = elim v [
-        | inl e ↦ (let t : is_S F ≡ true = subst (λ (z : OwnedQuant). is_S z.kind ≡ true) (sym e) h in let o : ⊥ = cc in o)
-        | inr v ↦ elim v [ inl e ↦ (let t : is_S F ≡ true = subst (λ (z : OwnedQuant). is_S z.kind ≡ true) (sym e) h in let o : ⊥ = cc in o) | inr v ↦ elim v [ ] ]
-      ]
+      ];
+      made = λ n i h. elim (new-box n i h) [
+        | inl z ↦ subst (MadeIn hs look) (sym z) (set-made hs look d.id r.id u form mt c' s' set_is)
+        | inr z ↦ elim z [
+          | inl z ↦ subst (MadeIn hs look) (sym z) (pair-made hs look s p r1.id rr m y right)
+          | inr z ↦ subst (MadeIn hs look) (sym z) (pair-made hs look c.id a.id l.id lr m x left)
+        ]
+      ];
+    }
 
-  scalar-s : is_scalar hs s ≡ true → ⊥
-  scalar-s h = let n = scalar-old s h in clash (has_box g.boxes s) (subst (λ z. has_box g.boxes z ≡ true) n.1.1.1.1.1 (overs-held g.boxes n.0 n.1.0 w.ordered n.1.1.0 n.1.1.1.1.0)) at.s_new
+    pub sound-after : Sound hs g.root
+    sound-after = rebuilt g.boxes hs g.root kept look fresh w rebuilds
 
-  scalar-c : is_scalar hs c.id ≡ true → ⊥
-  scalar-c h = let n = scalar-old c.id h in clash (n.1.0.over == c.id) (eq-eqb n.1.0.over c.id n.1.1.1.1.1) (elsewhere n.0 n.1.0 n.1.1.0 n.1.1.1.0 n.1.1.1.1.0)
+    pub looks-after : (b i : ℕ) → has_box hs b ≡ true → loose hs b i ≡ look b i
+    looks-after = looks-exact g.boxes hs g.root kept look fresh w rebuilds
 
-  some-mt : nat_lt 0 (length mt) ≡ true
-  some-mt = lt-from 0 (length mt) (let a = ltb-true 0 (width c) some-c in let b = width-c in let k = long-mt in omega (arith, a, b, k))
+    abbrev T : ℕ → List (Option SqlType)
+    T b = cond (b == c.id) (types_at g.boxes m.id ++ types_at g.boxes x.id) (cond (b == s) (types_at g.boxes m.id ++ types_at g.boxes y.id) (types_at g.boxes b))
 
-  module _ (v : Sound hs g.root) where
-    T-m : T m.id ≡ M
-    T-m = T-old m may.in_m m-not-c
+    T-c : T c.id ≡ M ++ X
+    T-c = ap (λ z. cond z (M ++ X) (cond (c.id == s) (M ++ Y) (types_at g.boxes c.id))) (eq-itself c.id)
 
-    T-x : T x.id ≡ X
-    T-x = T-old x at.in_x x-not-c
+    T-s : T s ≡ M ++ Y
+    T-s = ap₂ (λ v z. cond v (M ++ X) (cond z (M ++ Y) (types_at g.boxes s))) (s-not c may.in_c) (eq-itself s)
 
-    T-y : T y.id ≡ Y
-    T-y = T-old y at.in_y y-not-c
+    T-old : (n : Node) → In n g.boxes → (n.id == c.id) ≡ false → T n.id ≡ types_at g.boxes n.id
+    T-old n i f = ap₂ (λ v z. cond v (M ++ X) (cond z (M ++ Y) (types_at g.boxes n.id))) f (eq-false-sym s n.id (s-not n i))
 
-    left-form : HasForm hs g.root T c'
-    left-form = pair-form hs look c.id a.id l.id Fed m x left g.root v T (T-c ∙ ap₂ (λ (v z : List (Option SqlType)). v ++ z) (sym T-m) (sym T-x)) (ap length T-m ∙ long-m) (ap length T-x ∙ long-x)
-        (ap (list_all is_known) T-m ∙ known-m) (ap (list_all is_known) T-x ∙ known-of X C (agree-arm l x in-l at.over_x)) seen-m (seen-arm l x in-l rows-c.0 at.over_x at.in_x) (λ h. absurd (scalar-c h))
-        (inr (refl, eq-false-sym g.root c.id root-not-c, (fed.magic-m g at.once at.formed known at.tells d may, (looks-x a.id ∙ x-open, λ i h. x-alone i (sym (looks-x i) ∙ h)))))
+    L-m : map (term_type L) (columns_from a.id 1 (width m)) ≡ M
+    L-m = ap (λ z. map (term_type L) (columns_from a.id 1 z)) (sym long-m)
+        ∙ columns-types L a.id [] M (λ j. looked g.boxes a.id (suc j) ∙ ap (found_by (types_at g.boxes) (suc j)) (found-under g.boxes g.root w a.id (record { owner = d; quant = a; box = m; owner_in = may.in_d; quant_in = in-a; is_q = refl; box_in = may.in_m; is_over = may.over_m })) ∙ found-suc (types_at g.boxes) j m)
+
+    L-c : map (term_type L) (columns_from r.id 1 (width c)) ≡ types_at g.boxes c.id
+    L-c = ap (λ z. map (term_type L) (columns_from r.id 1 z)) (sym (wide-types g.boxes g.root w c may.in_c))
+        ∙ columns-types L r.id [] (types_at g.boxes c.id) (λ j. looked g.boxes r.id (suc j) ∙ ap (found_by (types_at g.boxes) (suc j)) (found-under g.boxes g.root w r.id (record { owner = d; quant = r; box = c; owner_in = may.in_d; quant_in = in-r; is_q = refl; box_in = may.in_c; is_over = may.over_c })) ∙ found-suc (types_at g.boxes) j c)
+
+    T-d : T d.id ≡ types.known mt
+    T-d =
+        T-old d may.in_d d-not-c ∙ settled-types g.boxes g.root w d may.in_d
+        ∙ ap (λ z. types_by L z d.parts.head) (fed.kind_d g at.once at.formed known at.tells d may)
+        ∙ ap (map (term_type L)) (fed.head-is g at.once at.formed known at.tells d may)
+        ∙ map-append (term_type L) (columns_from a.id 1 (width m)) (columns_from r.id 1 (width c))
+        ∙ ap₂ (λ (v z : List (Option SqlType)). v ++ z) L-m (L-c ∙ types-c)
+        ∙ sym at.typed
+
+    known-each : (ts : List SqlType) → list_all is_known (types.known ts) ≡ true
+    known-each [] = refl
+    known-each (t ∷ ts) = known-each ts
+
+    known-m : list_all is_known M ≡ true
+    known-m = first-all M C (ap (list_all is_known) (sym at.typed) ∙ known-each mt)
       where
-        looks-x : (i : ℕ) → loose hs x.id i ≡ loose g.boxes x.id i
-        looks-x i = looks-after x.id i (in-has x hs in-x) ∙ ap (λ b. not b && loose g.boxes x.id i) x-not-c
+        first-all : (os bs : List (Option SqlType)) → list_all is_known (os ++ bs) ≡ true → list_all is_known os ≡ true
+        first-all [] bs h = refl
+        first-all (t ∷ os) bs h = let z = and_parts (is_known t) (list_all is_known (os ++ bs)) h in and_from (is_known t) (list_all is_known os) z.0 (first-all os bs z.1)
 
-    right-form : HasForm hs g.root T s'
-    right-form = pair-form hs look s p r1.id Plain m y right g.root v T (T-s ∙ ap₂ (λ (v z : List (Option SqlType)). v ++ z) (sym T-m) (sym T-y)) (ap length T-m ∙ long-m) (ap length T-y ∙ long-y)
-        (ap (list_all is_known) T-m ∙ known-m) (ap (list_all is_known) T-y ∙ known-of Y C (agree-arm r1 y in-r1 at.over_y)) seen-m (seen-arm r1 y in-r1 rows-c.1 at.over_y at.in_y) (λ h. absurd (scalar-s h)) (inl refl)
-
-    set-form-d : HasForm hs g.root T d'
-    set-form-d = set-form hs look d.id r.id u form mt c' s' set_is g.root v T T-d (agrees (T c.id) X T-c (agree-arm l x in-l at.over_x)) (agrees (T s) Y T-s (agree-arm r1 y in-r1 at.over_y)) some-mt refl refl
+    known-of : (os bs : List (Option SqlType)) → all_agree os bs ≡ true → list_all is_known os ≡ true
+    known-of [] bs h = refl
+    known-of (t ∷ os) [] h = absurd (let z : ⊥ = cc in z)
+    known-of (t ∷ os) (b ∷ bs) h = let z = and_parts (agree t b) (all_agree os bs) h in and_from (is_known t) (list_all is_known os) (known-by t b z.0) (known-of os bs z.1)
       where
-        agrees : (own os : List (Option SqlType)) → own ≡ M ++ os → all_agree os C ≡ true → all_agree own (types.known mt) ≡ true
-        agrees own os e h = ap₂ all_agree e at.typed ∙ all-agree-behind M os C known-m h
+        known-by : (t b : Option SqlType) → agree t b ≡ true → is_known t ≡ true
+        known-by None b h = absurd (let z : ⊥ = cc in z)
+        known-by (Some v) b h = refl
 
-  -- the check finds nothing after it
-  pub set-formed : fault (absorbed_set g known d may form mt l r1 x y s u p up l1 l2) ≡ None
-  set-formed = rebuilt-formed g (absorbed_set g known d may form mt l r1 x y s u p up l1 l2) kept look fresh T at.once ((finds-none g at.once).1 at.formed) refl rebuilds
-      (λ v i k. T-old v i (not-true (v.id == c.id) k))
-      (λ n i v f. elim (new-box n i f) [
-        | inl z ↦ subst (λ (z : Node). HasForm hs g.root T z) (sym z) (set-form-d v)
-        | inr z ↦ elim z [ inl z ↦ subst (λ (z : Node). HasForm hs g.root T z) (sym z) (right-form v) | inr z ↦ subst (λ (z : Node). HasForm hs g.root T z) (sym z) (left-form v) ]
-      ])
+    seen-m : is_permit m.parts.distinct ≡ false
+    seen-m = counted-seen g.boxes g.root ty sh d m a may.in_d in-a (f-counts a.kind (made.f-a g at.once at.formed known at.tells d may)) may.in_m may.over_m
+
+    seen-arm : (z : OwnedQuant) (n : Node) → In z c.quants → is_F z.kind ≡ true → z.over ≡ n.id → In n g.boxes → is_permit n.parts.distinct ≡ false
+    seen-arm z n j k e i = counted-seen g.boxes g.root ty sh c n z may.in_c j (f-counts z.kind k) i (sym e)
+
+    -- the owner of an S quantifier stood before
+    scalar-old : (b : ℕ) → is_scalar hs b ≡ true → (n : Node) × ((z : OwnedQuant) × (In n g.boxes × (((n.id == d.id) ≡ false) × (In z n.quants × (z.over ≡ b)))))
+    scalar-old b h =
+        let n = any-in (λ (n : Node). is_scalar_in n.quants b) hs h in
+        let z = any-in (λ (z : OwnedQuant). (z.over == b) && is_S z.kind) n.0.quants n.1.1 in
+        let k = and_parts (z.0.over == b) (is_S z.0.kind) z.1.1 in
+        elim (each-in n.0 n.1.0) [
+          | inl e ↦ absurd (not-two z.0 r.id c.id u s (subst (λ (n : Node). In z.0 n.quants) e z.1.0) k.1)
+          | inr e ↦ elim e [
+            | inl e ↦ absurd (not-two z.0 p m.id r1.id y.id (subst (λ (n : Node). In z.0 n.quants) e z.1.0) k.1)
+            | inr e ↦ elim e [
+              | inl e ↦ absurd (not-two z.0 a.id m.id l.id x.id (subst (λ (n : Node). In z.0 n.quants) e z.1.0) k.1)
+              | inr e ↦ (n.0, (z.0, (e.0, (e.1.0, (z.1.0, eqb-true z.0.over b k.0)))))
+            ]
+          ]
+        ]
+      where
+        not-two : (z : OwnedQuant) (i b j k : ℕ) → In z (range i F b ∷ (range j F k ∷ [])) → is_S z.kind ≡ true → ⊥
+        not-two z i b j k v h = elim v [
+          | inl e ↦ (let t : is_S F ≡ true = subst (λ (z : OwnedQuant). is_S z.kind ≡ true) (sym e) h in let o : ⊥ = cc in o)
+          | inr v ↦ elim v [ inl e ↦ (let t : is_S F ≡ true = subst (λ (z : OwnedQuant). is_S z.kind ≡ true) (sym e) h in let o : ⊥ = cc in o) | inr v ↦ elim v [ ] ]
+        ]
+
+    scalar-s : is_scalar hs s ≡ true → ⊥
+    scalar-s h = let n = scalar-old s h in clash (has_box g.boxes s) (subst (λ z. has_box g.boxes z ≡ true) n.1.1.1.1.1 (overs-held g.boxes n.0 n.1.0 w.ordered n.1.1.0 n.1.1.1.1.0)) at.s_new
+
+    scalar-c : is_scalar hs c.id ≡ true → ⊥
+    scalar-c h = let n = scalar-old c.id h in clash (n.1.0.over == c.id) (eq-eqb n.1.0.over c.id n.1.1.1.1.1) (elsewhere n.0 n.1.0 n.1.1.0 n.1.1.1.0 n.1.1.1.1.0)
+
+    some-mt : nat_lt 0 (length mt) ≡ true
+    some-mt = lt-from 0 (length mt) (let a = ltb-true 0 (width c) some-c in let b = width-c in let k = long-mt in omega (arith, a, b, k))
+
+    module _ (v : Sound hs g.root) where
+      T-m : T m.id ≡ M
+      T-m = T-old m may.in_m m-not-c
+
+      T-x : T x.id ≡ X
+      T-x = T-old x at.in_x x-not-c
+
+      T-y : T y.id ≡ Y
+      T-y = T-old y at.in_y y-not-c
+
+      left-form : HasForm hs g.root T c'
+      left-form = pair-form hs look c.id a.id l.id lr m x left g.root v T (T-c ∙ ap₂ (λ (v z : List (Option SqlType)). v ++ z) (sym T-m) (sym T-x)) (ap length T-m ∙ long-m) (ap length T-x ∙ long-x)
+          (ap (list_all is_known) T-m ∙ known-m) (ap (list_all is_known) T-x ∙ known-of X C (agree-arm l x in-l at.over_x)) seen-m (seen-arm l x in-l rows-c.0 at.over_x at.in_x) (λ h. absurd (scalar-c h))
+          (inr (is-fed, eq-false-sym g.root c.id root-not-c, (fed.magic-m g at.once at.formed known at.tells d may, (looks-x a.id ∙ x-open, λ i h. x-alone i (sym (looks-x i) ∙ h)))))
+        where
+          looks-x : (i : ℕ) → loose hs x.id i ≡ loose g.boxes x.id i
+          looks-x i = looks-after x.id i (in-has x hs in-x) ∙ ap (λ b. not b && loose g.boxes x.id i) x-not-c
+
+      right-form : HasForm hs g.root T s'
+      right-form = pair-form hs look s p r1.id rr m y right g.root v T (T-s ∙ ap₂ (λ (v z : List (Option SqlType)). v ++ z) (sym T-m) (sym T-y)) (ap length T-m ∙ long-m) (ap length T-y ∙ long-y)
+          (ap (list_all is_known) T-m ∙ known-m) (ap (list_all is_known) T-y ∙ known-of Y C (agree-arm r1 y in-r1 at.over_y)) seen-m (seen-arm r1 y in-r1 rows-c.1 at.over_y at.in_y) (λ h. absurd (scalar-s h)) (inl is-plain)
+
+      set-form-d : HasForm hs g.root T d'
+      set-form-d = set-form hs look d.id r.id u form mt c' s' set_is g.root v T T-d (agrees (T c.id) X T-c (agree-arm l x in-l at.over_x)) (agrees (T s) Y T-s (agree-arm r1 y in-r1 at.over_y)) some-mt refl refl
+        where
+          agrees : (own os : List (Option SqlType)) → own ≡ M ++ os → all_agree os C ≡ true → all_agree own (types.known mt) ≡ true
+          agrees own os e h = ap₂ all_agree e at.typed ∙ all-agree-behind M os C known-m h
+
+    -- the check finds nothing after it
+    pub set-formed : fault (absorbed_set g known d may form mt l r1 x y s u p lr rr up l1 l2) ≡ None
+    set-formed = rebuilt-formed g (absorbed_set g known d may form mt l r1 x y s u p lr rr up l1 l2) kept look fresh T at.once ((finds-none g at.once).1 at.formed) refl rebuilds
+        (λ v i k. T-old v i (not-true (v.id == c.id) k))
+        (λ n i v f. elim (new-box n i f) [
+          | inl z ↦ subst (λ (z : Node). HasForm hs g.root T z) (sym z) (set-form-d v)
+          | inr z ↦ elim z [ inl z ↦ subst (λ (z : Node). HasForm hs g.root T z) (sym z) (right-form v) | inr z ↦ subst (λ (z : Node). HasForm hs g.root T z) (sym z) (left-form v) ]
+        ])

@@ -5,6 +5,7 @@ use Rattle.row_bag.specs.Bags.{Agree}
 use Rattle.row_bag.specs.Sets.{same_cells}
 use Rattle.row_bag.specs.declared.tables.Table.{Table}
 use Rattle.sql_value.specs.declared.order_key.SqlType.{SqlType}
+use Rattle.qgm_core.specs.Free.{IsFree}
 use Rattle.qgm_core.specs.Boxes.{Ordered, QueryGraph, is_box, width}
 use Rattle.qgm_core.specs.Edits.{compact}
 use Rattle.qgm_core.specs.Kinds.{is_fed}
@@ -42,7 +43,7 @@ use Rattle.qgm_core.proofs.Reaching.{in-has, overs-held}
 use Rattle.list_laws.proofs.Booleans.{clash}
 use Rattle.list_laws.proofs.Membership.{in-left, in-right}
 
-module _ (g : QueryGraph) (known : Facts) (d : Node) (may : MayAbsorb g.boxes known d) (form : SetOperator) (ts mt : List SqlType) (l r1 : OwnedQuant) (x y : Node) (s u p : ℕ) (up l1 l2 : List Node) (at : SetAt g known d may form ts mt l r1 x y s u p up l1 l2) where
+module _ (g : QueryGraph) (known : Facts) (d : Node) (may : MayAbsorb g.boxes known d) (form : SetOperator) (ts mt : List SqlType) (l r1 : OwnedQuant) (x y : Node) (s u p : ℕ) (up l1 l2 : List Node) (at : SetAt g known d may form ts mt l r1 x y s u p up l1 l2) (shut : (q : ℕ) → IsFree g.boxes y.id q → ⊥) where
   abbrev m : Node
   m = may.m
 
@@ -56,10 +57,10 @@ module _ (g : QueryGraph) (known : Facts) (d : Node) (may : MayAbsorb g.boxes kn
   r = may.r
 
   abbrev h : QueryGraph
-  h = absorbed_set g known d may form mt l r1 x y s u p up l1 l2
+  h = absorbed_set g known d may form mt l r1 x y s u p Fed Plain up l1 l2
 
   abbrev hs : List Node
-  hs = (absorbed_set g known d may form mt l r1 x y s u p up l1 l2).boxes
+  hs = (absorbed_set g known d may form mt l r1 x y s u p Fed Plain up l1 l2).boxes
 
   abbrev d' : Node
   d' = set_box d.id form mt may.r.id may.c.id u s
@@ -71,22 +72,22 @@ module _ (g : QueryGraph) (known : Facts) (d : Node) (may : MayAbsorb g.boxes kn
   c' = pair_box may.c.id Fed may.a.id may.m.id (width may.m) l.id x.id (width x)
 
   w : Sound g.boxes g.root
-  w = made.w g known d may form ts mt l r1 x y s u p up l1 l2 at
+  w = made.w g known d may form ts mt l r1 x y s u p Fed Plain up l1 l2 at
 
   v : Sound hs g.root
-  v = made.sound-after g known d may form ts mt l r1 x y s u p up l1 l2 at
+  v = made.sound-after g known d may form ts mt l r1 x y s u p Fed Plain up l1 l2 at refl refl shut
 
   pub ordered : Ordered hs
-  ordered = made.ordered g known d may form ts mt l r1 x y s u p up l1 l2 at
+  ordered = made.ordered g known d may form ts mt l r1 x y s u p Fed Plain up l1 l2 at
 
   pub faultless : fault h ≡ None
-  faultless = made.set-formed g known d may form ts mt l r1 x y s u p up l1 l2 at
+  faultless = made.set-formed g known d may form ts mt l r1 x y s u p Fed Plain up l1 l2 at refl refl shut
 
   elsewhere : (n : Node) (z : OwnedQuant) → In n g.boxes → (n.id == d.id) ≡ false → In z n.quants → (z.over == c.id) ≡ false
-  elsewhere = made.elsewhere g known d may form ts mt l r1 x y s u p up l1 l2 at
+  elsewhere = made.elsewhere g known d may form ts mt l r1 x y s u p Fed Plain up l1 l2 at
 
   new-p : (z : OwnedQuant) (n : Node) → In n g.boxes → In z n.quants → (z.id == p) ≡ false
-  new-p = made.new-id g known d may form ts mt l r1 x y s u p up l1 l2 at p at.p_new
+  new-p = made.new-id g known d may form ts mt l r1 x y s u p Fed Plain up l1 l2 at p at.p_new
 
   arms : HasArms g d m c x y a l r1 (λ n. false)
   arms = record {
@@ -95,17 +96,17 @@ module _ (g : QueryGraph) (known : Facts) (d : Node) (may : MayAbsorb g.boxes kn
     two = at.two;
     over_x = at.over_x;
     over_y = at.over_y;
-    apart = made.l-not-r1 g known d may form ts mt l r1 x y s u p up l1 l2 at;
-    m_not_c = made.m-not-c g known d may form ts mt l r1 x y s u p up l1 l2 at;
-    d_not_c = made.d-not-c g known d may form ts mt l r1 x y s u p up l1 l2 at;
-    x_not_c = made.x-not-c g known d may form ts mt l r1 x y s u p up l1 l2 at;
-    y_not_c = made.y-not-c g known d may form ts mt l r1 x y s u p up l1 l2 at;
+    apart = made.l-not-r1 g known d may form ts mt l r1 x y s u p Fed Plain up l1 l2 at;
+    m_not_c = made.m-not-c g known d may form ts mt l r1 x y s u p Fed Plain up l1 l2 at;
+    d_not_c = made.d-not-c g known d may form ts mt l r1 x y s u p Fed Plain up l1 l2 at;
+    x_not_c = made.x-not-c g known d may form ts mt l r1 x y s u p Fed Plain up l1 l2 at;
+    y_not_c = made.y-not-c g known d may form ts mt l r1 x y s u p Fed Plain up l1 l2 at;
     m_still = refl;
     d_still = refl;
     c_unmarked = refl;
     x_still = refl;
-    y_marked = inr (made.y-closed g known d may form ts mt l r1 x y s u p up l1 l2 at);
-    y_alone = λ q k. absurd (clash (loose g.boxes y.id q) k (made.y-closed g known d may form ts mt l r1 x y s u p up l1 l2 at q));
+    y_marked = inr (made.y-closed g known d may form ts mt l r1 x y s u p Fed Plain up l1 l2 at refl refl shut);
+    y_alone = λ q k. absurd (clash (loose g.boxes y.id q) k (made.y-closed g known d may form ts mt l r1 x y s u p Fed Plain up l1 l2 at refl refl shut q));
   }
 
   renames : Renames g a.id p (λ n. false)
@@ -113,10 +114,10 @@ module _ (g : QueryGraph) (known : Facts) (d : Node) (may : MayAbsorb g.boxes kn
 
   bags : (tables : List Table) → Satisfies tables g.boxes → Agree same_cells (root_bag tables h) (root_bag tables g)
   bags tables t = absorbs-sets tables g h d m c x y a r l r1 p l.id r1.id r.id u s (λ n. false) form ts mt Fed Plain (fed.is-fed-at g at.once at.formed known at.tells d may tables t) arms renames at.a_set ordered
-      (made.l-not-a g known d may form ts mt l r1 x y s u p up l1 l2 at) (new-p r1 c may.in_c (made.in-r1 g known d may form ts mt l r1 x y s u p up l1 l2 at))
-      (made.new-id g known d may form ts mt l r1 x y s u p up l1 l2 at u at.u_new r d may.in_d (made.in-r g known d may form ts mt l r1 x y s u p up l1 l2 at)) at.s_new refl
-      (sets-given g at.once at.formed known at.tells d may tables t form ts l r1 at.a_set at.two (made.l-not-r1 g known d may form ts mt l r1 x y s u p up l1 l2 at) x y at.over_x at.over_y)
-      (λ n i. elim (made.each-in g known d may form ts mt l r1 x y s u p up l1 l2 at n i) [
+      (made.l-not-a g known d may form ts mt l r1 x y s u p Fed Plain up l1 l2 at) (new-p r1 c may.in_c (made.in-r1 g known d may form ts mt l r1 x y s u p Fed Plain up l1 l2 at))
+      (made.new-id g known d may form ts mt l r1 x y s u p Fed Plain up l1 l2 at u at.u_new r d may.in_d (made.in-r g known d may form ts mt l r1 x y s u p Fed Plain up l1 l2 at)) at.s_new refl
+      (sets-given g at.once at.formed known at.tells d may tables t form ts l r1 at.a_set at.two (made.l-not-r1 g known d may form ts mt l r1 x y s u p Fed Plain up l1 l2 at) x y at.over_x at.over_y)
+      (λ n i. elim (made.each-in g known d may form ts mt l r1 x y s u p Fed Plain up l1 l2 at n i) [
         | inl z ↦ inr (inr (inl z))
         | inr z ↦ elim z [
           | inl z ↦ inr (inr (inr (inr z)))
@@ -129,7 +130,7 @@ module _ (g : QueryGraph) (known : Facts) (d : Node) (may : MayAbsorb g.boxes kn
       g.root w.rooted v.rooted root-not-c refl []
     where
       root-not-c : (g.root == c.id) ≡ false
-      root-not-c = made.root-not-c g known d may form ts mt l r1 x y s u p up l1 l2 at
+      root-not-c = made.root-not-c g known d may form ts mt l r1 x y s u p Fed Plain up l1 l2 at
 
   bases : (tables : List Table) → Satisfies tables g.boxes → Satisfies tables hs
   bases tables t =
@@ -144,17 +145,17 @@ module _ (g : QueryGraph) (known : Facts) (d : Node) (may : MayAbsorb g.boxes kn
   -- ---- the measure
 
   looks-as : (n : Node) → In n hs → (n.id == c.id) ≡ false → (q : ℕ) → loose hs n.id q ≡ loose g.boxes n.id q
-  looks-as n i f q = made.looks-after g known d may form ts mt l r1 x y s u p up l1 l2 at n.id q (in-has n hs i) ∙ ap (λ b. not b && loose g.boxes n.id q) f
+  looks-as n i f q = made.looks-after g known d may form ts mt l r1 x y s u p Fed Plain up l1 l2 at refl refl shut n.id q (in-has n hs i) ∙ ap (λ b. not b && loose g.boxes n.id q) f
 
   -- the box under a quantifier that isn't over c
   whole-same : (z : OwnedQuant) (n : Node) → In n g.boxes → n.id ≡ z.over → (z.over == c.id) ≡ false → keyless_found (first (is_box z.over) hs) ≡ keyless_found (first (is_box z.over) g.boxes)
   whole-same z n i e f = elim (cases_Bool (n.id == d.id)) [
     | inl t ↦ (
         let over : d.id ≡ z.over = sym (eqb-true n.id d.id t) ∙ e in
-        ap keyless_found (subst (λ b. first (is_box b) hs ≡ Some d') over (in-first d' hs ordered (made.in-d' g known d may form ts mt l r1 x y s u p up l1 l2 at)))
+        ap keyless_found (subst (λ b. first (is_box b) hs ≡ Some d') over (in-first d' hs ordered (made.in-d' g known d may form ts mt l r1 x y s u p Fed Plain up l1 l2 at)))
         ∙ sym (ap keyless_found (subst (λ b. first (is_box b) g.boxes ≡ Some d) over (in-first d g.boxes w.ordered may.in_d)) ∙ ap is_keyless (fed.kind_d g at.once at.formed known at.tells d may)))
     | inr k ↦ (
-        let j = made.to-hs g known d may form ts mt l r1 x y s u p up l1 l2 at n i k (subst (λ b. (b == c.id) ≡ false) (sym e) f) in
+        let j = made.to-hs g known d may form ts mt l r1 x y s u p Fed Plain up l1 l2 at n i k (subst (λ b. (b == c.id) ≡ false) (sym e) f) in
         ap keyless_found (subst (λ b. first (is_box b) hs ≡ Some n) e (in-first n hs ordered j)) ∙ sym (ap keyless_found (subst (λ b. first (is_box b) g.boxes ≡ Some n) e (in-first n g.boxes w.ordered i))))
   ]
 
@@ -168,7 +169,7 @@ module _ (g : QueryGraph) (known : Facts) (d : Node) (may : MayAbsorb g.boxes kn
   }
 
   closed-by : (n : Node) → In n hs → ((q : ℕ) → (not (n.id == c.id) && loose g.boxes n.id q) ≡ false) → is_closed hs n.id ≡ true
-  closed-by n j f = looks-closed hs g.root v n.id (λ q. made.looks-after g known d may form ts mt l r1 x y s u p up l1 l2 at n.id q (in-has n hs j) ∙ f q)
+  closed-by n j f = looks-closed hs g.root v n.id (λ q. made.looks-after g known d may form ts mt l r1 x y s u p Fed Plain up l1 l2 at refl refl shut n.id q (in-has n hs j) ∙ f q)
 
   pub lowers : Lowers g.boxes hs
   lowers = absorb-lowers up l1 l2 (d' ∷ (s' ∷ (c' ∷ []))) d c g.boxes hs (record {
@@ -176,13 +177,13 @@ module _ (g : QueryGraph) (known : Facts) (d : Node) (may : MayAbsorb g.boxes kn
     after = refl;
     fed = ap is_fed may.is_fed;
     opened = elim (cases_Bool (is_closed g.boxes c.id)) [ inr f ↦ f | inl t ↦ absurd (let k = may.opened in closed-is g.boxes w.ordered c.id t k.0 k.1) ];
-    not_fed = made.c-not-fed g known d may form ts mt l r1 x y s u p up l1 l2 at;
+    not_fed = made.c-not-fed g known d may form ts mt l r1 x y s u p Fed Plain up l1 l2 at;
     closed = λ n i. elim i [
-      | inl e ↦ subst (λ (z : Node). is_closed hs z.id ≡ true) e (closed-by d' (made.in-d' g known d may form ts mt l r1 x y s u p up l1 l2 at) (made.looks-d g known d may form ts mt l r1 x y s u p up l1 l2 at))
+      | inl e ↦ subst (λ (z : Node). is_closed hs z.id ≡ true) e (closed-by d' (made.in-d' g known d may form ts mt l r1 x y s u p Fed Plain up l1 l2 at) (made.looks-d g known d may form ts mt l r1 x y s u p Fed Plain up l1 l2 at refl refl shut))
       | inr i ↦ elim i [
-        | inl e ↦ subst (λ (z : Node). is_closed hs z.id ≡ true) e (closed-by s' (made.in-s' g known d may form ts mt l r1 x y s u p up l1 l2 at) (made.looks-s g known d may form ts mt l r1 x y s u p up l1 l2 at))
+        | inl e ↦ subst (λ (z : Node). is_closed hs z.id ≡ true) e (closed-by s' (made.in-s' g known d may form ts mt l r1 x y s u p Fed Plain up l1 l2 at) (made.looks-s g known d may form ts mt l r1 x y s u p Fed Plain up l1 l2 at refl refl shut))
         | inr i ↦ elim i [
-          | inl e ↦ subst (λ (z : Node). is_closed hs z.id ≡ true) e (closed-by c' (made.in-c' g known d may form ts mt l r1 x y s u p up l1 l2 at) (made.looks-c g known d may form ts mt l r1 x y s u p up l1 l2 at))
+          | inl e ↦ subst (λ (z : Node). is_closed hs z.id ≡ true) e (closed-by c' (made.in-c' g known d may form ts mt l r1 x y s u p Fed Plain up l1 l2 at) (made.looks-c g known d may form ts mt l r1 x y s u p Fed Plain up l1 l2 at refl refl shut))
           | inr z ↦ elim z [ ]
         ]
       ]
@@ -194,7 +195,7 @@ module _ (g : QueryGraph) (known : Facts) (d : Node) (may : MayAbsorb g.boxes kn
   })
 
 pub set-preserves : SetPreserves
-set-preserves = λ g known d may form ts mt l r1 x y s u p up l1 l2 at. preserves g known d may form ts mt l r1 x y s u p up l1 l2 at
+set-preserves = λ g known d may form ts mt l r1 x y s u p up l1 l2 at shut. preserves g known d may form ts mt l r1 x y s u p up l1 l2 at shut
 
 pub set-lowers : SetLowers
-set-lowers = λ g known d may form ts mt l r1 x y s u p up l1 l2 at. lowers g known d may form ts mt l r1 x y s u p up l1 l2 at
+set-lowers = λ g known d may form ts mt l r1 x y s u p up l1 l2 at shut. lowers g known d may form ts mt l r1 x y s u p up l1 l2 at shut

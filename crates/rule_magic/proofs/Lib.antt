@@ -16,6 +16,9 @@ pub mod AbsorbSelectKeeps
 pub mod FedCondition
 pub mod HeadSteps
 pub mod Region
+pub mod AbsorbOpenSet
+pub mod AbsorbOpenKeeps
+pub mod AbsorbOpenLowers
 pub mod RenamedMade
 pub mod RenamedTyped
 pub mod SetFormed

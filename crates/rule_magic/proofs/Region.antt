@@ -2,7 +2,7 @@
 use Rattle.std.proofs.Common.{ℕ, zero, suc, ◌==◌, ◌≡◌, ◌≤◌, ◌<◌, ◌&&◌, ◌||◌, not, Bool, true, false, List, ◌∷◌, ◌++◌, map, refl, sym, ap, subst, ◌∙◌, eqb-true, ◌⊎◌, inl, inr, arith}
 use Rattle.std.specs.List.{list_any}
 use Rattle.std.proofs.lemmas.Bool.{and_from, and_parts, cases_Bool, eq-eqb, not-true, or_cases, or_left, or_right}
-use Rattle.qgm_core.specs.Boxes.{Ordered, is_quant, overs_in, owns, width}
+use Rattle.qgm_core.specs.Boxes.{Ordered, has_box, is_quant, overs_in, owns, width}
 use Rattle.qgm_core.specs.Free.{Reaches, itself, named_by, through}
 use Rattle.qgm_core.specs.Kinds.{width_by}
 use Rattle.list_laws.specs.Lists.{In, holds, times}
@@ -98,8 +98,14 @@ module _ (bs : List Node) (root : ℕ) (o : Node) (r : OwnedQuant) (a : ℕ) (w 
     ])
   ]
 
+  there : (b : ℕ) → is_below bs r.over b ≡ true → has_box bs b ≡ true
+  there b t = elim (drops.under b t) [
+    | inl e ↦ subst (λ z. has_box bs z ≡ true) (sym e) (overs-held bs o r w.ordered arm.within arm.owned)
+    | inr u ↦ subst (λ z. has_box bs z ≡ true) u.1.1.1.1.1 (overs-held bs u.0 u.1.1.1.0 w.ordered u.1.0 u.1.1.1.1.0)
+  ]
+
   region : IsRegion bs r a
-  region = record { top = drops.root_kept; under = λ n s i t j. drops.closed n s i t j; above = above; apart = apart; looks = looks; beside = beside }
+  region = record { top = drops.root_kept; there = there; under = λ n s i t j. drops.closed n s i t j; above = above; apart = apart; looks = looks; beside = beside }
 
   module _ (hs : List Node) (p w' : ℕ) (kept : ℕ → Bool) (look : ℕ → ℕ → Bool) (g : RenamesBelow bs hs kept look r.over a p w') where
     abbrev put : Node → Node

@@ -1,5 +1,5 @@
 -- G4, a set operation under a fed box is one of tagged arms: its bag, and what it keeps where the right one is closed.
-use Rattle.std.specs.Prelude.{ℕ, ◌≡◌, ◌==◌, ◌&&◌, ◌++◌, ◌⊎◌, Bool, true, false, List, [], ◌∷◌}
+use Rattle.std.specs.Prelude.{ℕ, ◌≡◌, ◌==◌, ◌&&◌, ◌++◌, ◌⊎◌, if◌then◌else◌, map, Bool, true, false, List, [], ◌∷◌, None}
 use Rattle.sql_value.specs.declared.cell.Cell.{Cell}
 use Rattle.sql_value.specs.declared.order_key.SqlType.{SqlType}
 use Rattle.row_bag.specs.AsSets.{stands}
@@ -19,9 +19,12 @@ use Rattle.qgm_core.specs.declared.kinds.SetOperator.{SetOperator}
 use Rattle.qgm_core.specs.declared.node.Node.{Node}
 use Rattle.qgm_core.specs.declared.owned.OwnedQuant.{OwnedQuant}
 use Rattle.qgm_meaning.specs.Meaning.{bag}
-use Rattle.qgm_meaning.specs.Scope.{loose}
+use Rattle.qgm_meaning.specs.Scope.{loose, put_node}
+use Rattle.qgm_meaning.specs.Tags.{columns_from}
+use Rattle.qgm_edit_laws.specs.Graph.{Sound}
 use Rattle.qgm_meaning.specs.Values.{Environment, bound}
 use Rattle.qgm_wellformed.specs.Sentences.{WellFormed}
+use Rattle.qgm_wellformed.specs.WellFormed.{fault}
 use Rattle.qgm_props.specs.Inferred.{Facts}
 use Rattle.qgm_props.specs.Laws.{Tells}
 use Rattle.qgm_props.specs.Measure.{Lowers}
@@ -32,6 +35,7 @@ use Rattle.qgm_meaning.specs.Satisfies.{Satisfies}
 use Rattle.rule_magic.specs.Places.{MayAbsorb}
 use Rattle.rule_magic.specs.Boxes.{box_as, pair_box, set_box}
 use Rattle.rule_magic.specs.FedBox.{IsFedAt}
+use Rattle.rule_magic.specs.Region.{is_below}
 use Rattle.rule_magic.specs.UnderTags.{NoneAmong}
 use Rattle.rule_magic.specs.AbsorbArms.{Renames, IsStill, IsRenamed, HasArms}
 
@@ -54,7 +58,7 @@ SetsGiven =
     → (form : SetOperator) (types : List SqlType) (l r : OwnedQuant) → may.c.parts.kind ≡ SetOp form types → may.c.quants ≡ l ∷ (r ∷ []) → (l.id == r.id) ≡ false → (x y : Node) → l.over ≡ x.id → r.over ≡ y.id
     → (e : Environment) (u : List Cell) → stands same_cells u (bag tables g may.m.id e) ≡ true → NoneAmong form (bag tables g x.id (bound may.a.id u e)) (bag tables g y.id (bound may.a.id u e))
 
--- the fed box d stands in the graph, and below it a set operation of x and of y, which is closed; mt are the types of the magic box before those of the set operation; the numbers of a box and of two quantifiers are new
+-- the fed box d stands in the graph, and below it a set operation of x and y; mt are the types of the magic box before those of the set operation; the numbers of a box and of two quantifiers are new
 pub record SetAt (g : QueryGraph) (known : Facts) (d : Node) (may : MayAbsorb g.boxes known d) (form : SetOperator) (types mt : List SqlType) (l r : OwnedQuant) (x y : Node) (s u p : ℕ) (up l1 l2 : List Node) : Type 0 where
   pub once : EachOnce (numbers g.boxes)
   pub formed : WellFormed g
@@ -65,7 +69,6 @@ pub record SetAt (g : QueryGraph) (known : Facts) (d : Node) (may : MayAbsorb g.
   pub over_x : l.over ≡ x.id
   pub in_y : In y g.boxes
   pub over_y : r.over ≡ y.id
-  pub closed : (q : ℕ) → IsFree g.boxes y.id q → ⊥
   pub typed : all_known mt ≡ types_at g.boxes may.m.id ++ all_known types
   pub s_new : has_box g.boxes s ≡ false
   pub u_new : times u (ids_in g.boxes) ≡ 0
@@ -73,18 +76,40 @@ pub record SetAt (g : QueryGraph) (known : Facts) (d : Node) (may : MayAbsorb g.
   pub apart : (u == p) ≡ false
   pub before : g.boxes ≡ up ++ d ∷ (l1 ++ may.c ∷ l2)
 
--- in the place of d stands the set operation of the fed box, which has c's number, and of a select of the magic box and y
-abbrev pub absorbed_set : (g : QueryGraph) (known : Facts) (d : Node) (may : MayAbsorb g.boxes known d) (form : SetOperator) (mt : List SqlType) (l r : OwnedQuant) (x y : Node) (s u p : ℕ) (up l1 l2 : List Node) → QueryGraph
-absorbed_set g known d may form mt l r x y s u p up l1 l2 =
-    on_boxes (λ boxes. up ++ (set_box d.id form mt may.r.id may.c.id u s ∷ (pair_box s Plain p may.m.id (width may.m) r.id y.id (width y) ∷ (pair_box may.c.id Fed may.a.id may.m.id (width may.m) l.id x.id (width x) ∷ (l1 ++ l2))))) g
+-- in the place of d stands the set operation of two selects of the magic box, one and x, which has c's number, and one and y: each is fed, or plain
+abbrev pub absorbed_set : (g : QueryGraph) (known : Facts) (d : Node) (may : MayAbsorb g.boxes known d) (form : SetOperator) (mt : List SqlType) (l r : OwnedQuant) (x y : Node) (s u p : ℕ) (left right : Role) (up l1 l2 : List Node) → QueryGraph
+absorbed_set g known d may form mt l r x y s u p left right up l1 l2 =
+    on_boxes (λ boxes. up ++ (set_box d.id form mt may.r.id may.c.id u s ∷ (pair_box s right p may.m.id (width may.m) r.id y.id (width y) ∷ (pair_box may.c.id left may.a.id may.m.id (width may.m) l.id x.id (width x) ∷ (l1 ++ l2))))) g
 
 -- G4 where the right operand is closed
 abbrev pub SetPreserves : Type 0
 SetPreserves =
     (g : QueryGraph) (known : Facts) (d : Node) (may : MayAbsorb g.boxes known d) (form : SetOperator) (types mt : List SqlType) (l r : OwnedQuant) (x y : Node) (s u p : ℕ) (up l1 l2 : List Node) → SetAt g known d may form types mt l r x y s u p up l1 l2
-    → Preserves g (compact (absorbed_set g known d may form mt l r x y s u p up l1 l2))
+    → ((q : ℕ) → IsFree g.boxes y.id q → ⊥) → Preserves g (compact (absorbed_set g known d may form mt l r x y s u p Fed Plain up l1 l2))
 
 abbrev pub SetLowers : Type 0
 SetLowers =
     (g : QueryGraph) (known : Facts) (d : Node) (may : MayAbsorb g.boxes known d) (form : SetOperator) (types mt : List SqlType) (l r : OwnedQuant) (x y : Node) (s u p : ℕ) (up l1 l2 : List Node) → SetAt g known d may form types mt l r x y s u p up l1 l2
-    → Lowers g.boxes (absorbed_set g known d may form mt l r x y s u p up l1 l2).boxes
+    → ((q : ℕ) → IsFree g.boxes y.id q → ⊥) → Lowers g.boxes (absorbed_set g known d may form mt l r x y s u p Fed Plain up l1 l2).boxes
+
+-- and where the right operand is open, below it names of the magic box's quantifier become those of the new one
+abbrev pub renamed_set : (g : QueryGraph) (known : Facts) (d : Node) (may : MayAbsorb g.boxes known d) (form : SetOperator) (mt : List SqlType) (l r : OwnedQuant) (x y : Node) (s u p : ℕ) (left right : Role) (up l1 l2 : List Node) → QueryGraph
+renamed_set g known d may form mt l r x y s u p left right up l1 l2 =
+    on_boxes (λ boxes. map (λ (n : Node). if is_below g.boxes r.over n.id then put_node may.a.id (columns_from p 1 (width may.m)) n else n) (absorbed_set g known d may form mt l r x y s u p left right up l1 l2).boxes) g
+
+-- so the graph is sound
+abbrev pub SetOpenSound : Type 0
+SetOpenSound =
+    (g : QueryGraph) (known : Facts) (d : Node) (may : MayAbsorb g.boxes known d) (form : SetOperator) (types mt : List SqlType) (l r : OwnedQuant) (x y : Node) (s u p : ℕ) (left right : Role) (up l1 l2 : List Node) → SetAt g known d may form types mt l r x y s u p up l1 l2
+    → IsFree g.boxes y.id may.a.id → Sound (renamed_set g known d may form mt l r x y s u p left right up l1 l2).boxes g.root
+
+-- and it preserves, where the check finds nothing after it
+abbrev pub SetOpenPreserves : Type 0
+SetOpenPreserves =
+    (g : QueryGraph) (known : Facts) (d : Node) (may : MayAbsorb g.boxes known d) (form : SetOperator) (types mt : List SqlType) (l r : OwnedQuant) (x y : Node) (s u p : ℕ) (left right : Role) (up l1 l2 : List Node) → SetAt g known d may form types mt l r x y s u p up l1 l2
+    → IsFree g.boxes y.id may.a.id → fault (renamed_set g known d may form mt l r x y s u p left right up l1 l2) ≡ None → Preserves g (compact (renamed_set g known d may form mt l r x y s u p left right up l1 l2))
+
+abbrev pub SetOpenLowers : Type 0
+SetOpenLowers =
+    (g : QueryGraph) (known : Facts) (d : Node) (may : MayAbsorb g.boxes known d) (form : SetOperator) (types mt : List SqlType) (l r : OwnedQuant) (x y : Node) (s u p : ℕ) (left right : Role) (up l1 l2 : List Node) → SetAt g known d may form types mt l r x y s u p up l1 l2
+    → IsFree g.boxes y.id may.a.id → Lowers g.boxes (renamed_set g known d may form mt l r x y s u p left right up l1 l2).boxes

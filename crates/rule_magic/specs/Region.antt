@@ -1,7 +1,7 @@
 -- The boxes that an open operand reaches, in which names of the magic box's quantifier become those of a new one.
 use Rattle.std.specs.Prelude.{ℕ, ◌≡◌, ◌≤◌, ◌<◌, ◌==◌, ◌&&◌, ◌||◌, ◌⊎◌, not, Bool, true, false, List, [], ◌∷◌}
 use Rattle.std.specs.List.{list_any}
-use Rattle.qgm_core.specs.Boxes.{Ordered, ids_in, owns}
+use Rattle.qgm_core.specs.Boxes.{Ordered, has_box, ids_in, owns}
 use Rattle.qgm_core.specs.Free.{reached}
 use Rattle.list_laws.specs.Lists.{In, holds, times}
 use Rattle.qgm_core.specs.declared.node.Node.{Node}
@@ -30,6 +30,7 @@ pub record IsArm (bs : List Node) (o : Node) (r : OwnedQuant) (a : ℕ) : Type 0
 -- what a box names that the arm reaches another such box owns, or it is a; what stands above isn't reached; nor is, but by r, what isn't closed
 pub record IsRegion (bs : List Node) (r : OwnedQuant) (a : ℕ) : Type 0 where
   pub top : is_below bs r.over r.over ≡ true
+  pub there : (b : ℕ) → is_below bs r.over b ≡ true → has_box bs b ≡ true
   pub under : (n : Node) (s : OwnedQuant) → In n bs → is_below bs r.over n.id ≡ true → In s n.quants → is_below bs r.over s.over ≡ true
   pub above : (b : ℕ) → place bs b < place bs r.over → is_below bs r.over b ≡ false
   pub apart : (n : Node) → In n bs → is_below bs r.over n.id ≡ true → owns a n ≡ false

@@ -4,6 +4,8 @@ use Rattle.rule_magic.proofs.AbsorbBags.{absorbs-group, absorbs-keyless, absorbs
 use Rattle.rule_magic.proofs.AbsorbGroupKeeps.{group-preserves}
 use Rattle.rule_magic.proofs.AbsorbKeylessKeeps.{keyless-preserves}
 use Rattle.rule_magic.proofs.AbsorbSelectKeeps.{select-preserves}
+use Rattle.rule_magic.proofs.AbsorbOpenKeeps.{set-open-preserves}
+use Rattle.rule_magic.proofs.AbsorbOpenSet.{set-open-sound}
 use Rattle.rule_magic.proofs.AbsorbSetKeeps.{set-preserves}
 use Rattle.rule_magic.proofs.Region.{arm-has-region, region-renames, region-stays}
 use Rattle.rule_magic.proofs.RenamedMade.{renamed-is-made}
@@ -42,6 +44,12 @@ returns-clause-sets_given c = sets-given
 
 pub returns-clause-set_preserves : goal.returns-clause-set_preserves
 returns-clause-set_preserves c = set-preserves
+
+pub returns-clause-set_open_sound : goal.returns-clause-set_open_sound
+returns-clause-set_open_sound c = set-open-sound
+
+pub returns-clause-set_open_preserves : goal.returns-clause-set_open_preserves
+returns-clause-set_open_preserves c = set-open-preserves
 
 pub returns-clause-region : goal.returns-clause-region
 returns-clause-region c = arm-has-region
