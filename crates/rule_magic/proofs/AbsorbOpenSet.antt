@@ -1,17 +1,15 @@
 -- G4 with an open right operand: names of the magic box's quantifier become those of a new one below it; the graph after it is sound, and what its boxes look up is told.
-use Rattle.std.proofs.Common.{ℕ, zero, suc, ◌==◌, ◌≡◌, ◌≤◌, ◌<◌, ◌+◌, ◌&&◌, ◌||◌, cond, not, Bool, true, false, List, [], ◌∷◌, ◌++◌, map, refl, sym, ap, ap₂, subst, ◌∙◌, eqb-true, ◌⊎◌, inl, inr, arith}
+use Rattle.std.proofs.Common.{ℕ, ◌==◌, ◌≡◌, ◌≤◌, ◌<◌, ◌+◌, ◌&&◌, ◌||◌, cond, not, Bool, true, false, List, [], ◌∷◌, ◌++◌, map, refl, sym, ap, ap₂, subst, ◌∙◌, eqb-true, ◌⊎◌, inl, inr, arith}
 use Rattle.std.specs.List.{flat_map, list_any}
-use Rattle.std.proofs.lemmas.Bool.{and_from, and_parts, cases_Bool, eq-eqb, not-true, or_cases, or_from, or_left, or_right}
+use Rattle.std.proofs.lemmas.Bool.{and_from, and_parts, cases_Bool, eq-eqb, not-true, or_cases, or_left, or_right}
 use Rattle.sql_value.specs.declared.order_key.SqlType.{SqlType}
-use Rattle.qgm_core.specs.Boxes.{Ordered, QueryGraph, has_box, ids_in, is_box, is_quant, overs_in, overs_of, ids_of, owns, width}
+use Rattle.qgm_core.specs.Boxes.{Ordered, QueryGraph, has_box, ids_in, is_quant, overs_in, overs_of, ids_of, owns, width}
 use Rattle.qgm_core.specs.Edits.{range}
 use Rattle.qgm_core.specs.Free.{named_by}
 use Rattle.qgm_core.specs.Kinds.{is_magic, width_by}
 use Rattle.list_laws.specs.Lists.{In, holds, times}
-use Rattle.qgm_core.specs.declared.kinds.BoxKind.TheVariants.{Select, SetOp}
 use Rattle.qgm_core.specs.declared.kinds.QuantKind.TheVariants.{F}
 use Rattle.qgm_core.specs.declared.kinds.Role.{Role}
-use Rattle.qgm_core.specs.declared.kinds.Role.TheVariants.{Fed, Plain}
 use Rattle.qgm_core.specs.declared.kinds.SetOperator.{SetOperator}
 use Rattle.qgm_core.specs.declared.node.Node.{Node}
 use Rattle.qgm_core.specs.declared.owned.OwnedQuant.{OwnedQuant}
@@ -19,7 +17,7 @@ use Rattle.qgm_meaning.specs.Scope.{loose, put_node}
 use Rattle.qgm_meaning.specs.Tags.{columns_from}
 use Rattle.qgm_props.specs.Inferred.{Facts}
 use Rattle.qgm_terms.specs.Substitution.{substituted}
-use Rattle.qgm_edit_laws.specs.Graph.{Fits, Sound}
+use Rattle.qgm_edit_laws.specs.Graph.{Sound}
 use Rattle.qgm_edit_laws.specs.Placed.{place}
 use Rattle.qgm_edit_laws.specs.Rebuilds.{IsOwned, MadeIn, Rebuilds, StaysIn}
 use Rattle.qgm_edit_laws.proofs.Edits.{length-map}
@@ -39,7 +37,7 @@ use Rattle.rule_magic.proofs.PairFormed.{IsPair, pair-made, width-pair}
 use Rattle.rule_magic.proofs.Region.{arm-has-region, region-renames, region-stays}
 use Rattle.rule_magic.proofs.RenamedMade.{renamed-is-made}
 use Rattle.rule_magic.proofs.SetFormed.{IsSet, set-made}
-use Rattle.qgm_core.proofs.Reaching.{in-has, overs-held}
+use Rattle.qgm_core.proofs.Reaching.{in-has}
 use Rattle.list_laws.proofs.Booleans.{clash}
 use Rattle.list_laws.proofs.Membership.{any-from, any-in, eq-false-sym, eq-itself}
 
@@ -168,16 +166,16 @@ module _ (g : QueryGraph) (known : Facts) (d : Node) (may : MayAbsorb g.boxes kn
   ren-below : (n : Node) → is_below g.boxes r1.over n.id ≡ true → ren n ≡ put n
   ren-below n t = ap (λ v. cond v (put n) n) t
 
-  ren-beside : (n : Node) → is_below g.boxes r1.over n.id ≡ false → ren n ≡ n
+  pub ren-beside : (n : Node) → is_below g.boxes r1.over n.id ≡ false → ren n ≡ n
   ren-beside n f = ap (λ v. cond v (put n) n) f
 
-  ren-by : {X : Type 0} (f : Node → X) → ((n : Node) → f (put_node may.a.id (columns_from p 1 (width may.m)) n) ≡ f n) → (n : Node) → f (cond (is_below g.boxes r1.over n.id) (put_node may.a.id (columns_from p 1 (width may.m)) n) n) ≡ f n
+  pub ren-by : {X : Type 0} (f : Node → X) → ((n : Node) → f (put_node may.a.id (columns_from p 1 (width may.m)) n) ≡ f n) → (n : Node) → f (cond (is_below g.boxes r1.over n.id) (put_node may.a.id (columns_from p 1 (width may.m)) n) n) ≡ f n
   ren-by f h n = elim (cases_Bool (below n.id)) [ inl t ↦ ap f (ren-below n t) ∙ h n | inr t ↦ ap f (ren-beside n t) ]
 
-  ren-id : (n : Node) → (ren n).id ≡ n.id
+  pub ren-id : (n : Node) → (ren n).id ≡ n.id
   ren-id = ren-by (λ (n : Node). n.id) (λ n. refl)
 
-  ren-quants : (n : Node) → (ren n).quants ≡ n.quants
+  pub ren-quants : (n : Node) → (ren n).quants ≡ n.quants
   ren-quants = ren-by (λ (n : Node). n.quants) (λ n. refl)
 
   wide-put : (n : Node) → width (put_node may.a.id (columns_from p 1 (width may.m)) n) ≡ width n
@@ -186,19 +184,19 @@ module _ (g : QueryGraph) (known : Facts) (d : Node) (may : MayAbsorb g.boxes kn
   ren-width : (n : Node) → width (ren n) ≡ width n
   ren-width = ren-by width wide-put
 
-  in-ren : (n : Node) → In n base → In (ren n) hs
+  pub in-ren : (n : Node) → In n base → In (ren n) hs
   in-ren n i = in-map ren n base i
 
   beside-in : (n : Node) → is_below g.boxes r1.over n.id ≡ false → In n base → In n hs
   beside-in n f i = subst (λ (z : Node). In z hs) (ren-beside n f) (in-ren n i)
 
-  in-d' : In d' hs
+  pub in-d' : In d' hs
   in-d' = beside-in d' not-below-d (made.in-d' g known d may form ts mt l r1 x y s u p lr rr up l1 l2 at)
 
-  in-s' : In s' hs
+  pub in-s' : In s' hs
   in-s' = beside-in s' not-below-s (made.in-s' g known d may form ts mt l r1 x y s u p lr rr up l1 l2 at)
 
-  in-c' : In c' hs
+  pub in-c' : In c' hs
   in-c' = beside-in c' not-below-c (made.in-c' g known d may form ts mt l r1 x y s u p lr rr up l1 l2 at)
 
   pub ordered : Ordered hs
@@ -224,22 +222,22 @@ module _ (g : QueryGraph) (known : Facts) (d : Node) (may : MayAbsorb g.boxes kn
       not-c : (b == c.id) ≡ false
       not-c = elim (cases_Bool (b == c.id)) [ inr f ↦ f | inl e ↦ absurd (clash (below b) t (subst (λ i. below i ≡ false) (sym (eqb-true b c.id e)) not-below-c)) ]
 
-  look-closed : (b : ℕ) → ((q : ℕ) → loose g.boxes b q ≡ false) → (q : ℕ) → look b q ≡ false
+  pub look-closed : (b : ℕ) → ((q : ℕ) → loose g.boxes b q ≡ false) → (q : ℕ) → look b q ≡ false
   look-closed b f q =
       ap₂ (λ v z. not (b == c.id) && cond (below b) (((q == p) && v) || (not (q == a.id) && z)) z) (f a.id) (f q)
       ∙ ap₂ (λ v z. not (b == c.id) && cond (below b) (v || z) false) (and-none (q == p)) (and-none (not (q == a.id)))
       ∙ elim (cases_Bool (below b)) [ inl t ↦ ap (λ v. not (b == c.id) && cond v false false) t ∙ and-none (not (b == c.id)) | inr t ↦ ap (λ v. not (b == c.id) && cond v false false) t ∙ and-none (not (b == c.id)) ]
 
-  looks-c : (q : ℕ) → look c.id q ≡ false
+  pub looks-c : (q : ℕ) → look c.id q ≡ false
   looks-c q = ap (λ v. not v && cond (below c.id) (((q == p) && loose g.boxes c.id a.id) || (not (q == a.id) && loose g.boxes c.id q)) (loose g.boxes c.id q)) (eq-itself c.id)
 
-  looks-d : (q : ℕ) → look d.id q ≡ false
+  pub looks-d : (q : ℕ) → look d.id q ≡ false
   looks-d = look-closed d.id (one.closed-d g at.once at.formed known at.tells d may)
 
   looks-m : (q : ℕ) → look m.id q ≡ false
   looks-m = look-closed m.id (fed.closed-m g at.once at.formed known at.tells d may)
 
-  looks-s : (q : ℕ) → look s q ≡ false
+  pub looks-s : (q : ℕ) → look s q ≡ false
   looks-s = look-closed s (λ q. elim (cases_Bool (loose g.boxes s q)) [ inr f ↦ f | inl h ↦ absurd (clash (has_box g.boxes s) (loose-held g.boxes s q h) at.s_new) ])
 
   -- ---- boxes below
@@ -266,8 +264,8 @@ module _ (g : QueryGraph) (known : Facts) (d : Node) (may : MayAbsorb g.boxes kn
     keeps = λ b t. elim (cases_Bool (b == c.id)) [ inr f ↦ ap not f | inl e ↦ absurd (clash (below b) t (subst (λ i. below i ≡ false) (sym (eqb-true b c.id e)) not-below-c)) ];
     places = λ n k i h. w.fits n i a.id k h d a m may.in_d in-a refl may.in_m may.over_m;
     fits_p = λ k lo hi n z v i j e iv ev. (
-      let same : z ≡ range p F m.id = one-quant hs once-after z (range p F m.id) (n, (i, j)) (s', (in-s', inl refl)) e in
-      (lo, subst (λ b. k ≤ b) (sym (one-box v iv (ev ∙ ap (λ (q : OwnedQuant). q.over) same))) hi));
+        let same : z ≡ range p F m.id = one-quant hs once-after z (range p F m.id) (n, (i, j)) (s', (in-s', inl refl)) e in
+        (lo, subst (λ b. k ≤ b) (sym (one-box v iv (ev ∙ ap (λ (q : OwnedQuant). q.over) same))) hi));
   }
 
   below-stays : (n : Node) → In n g.boxes → is_below g.boxes r1.over n.id ≡ true → loose g.boxes n.id a.id ≡ false → (put n ≡ n) × StaysIn g.boxes hs kept look n
@@ -308,8 +306,8 @@ module _ (g : QueryGraph) (known : Facts) (d : Node) (may : MayAbsorb g.boxes kn
     number = ap not nc;
     same = λ q. look-beside n.id q nc out;
     over = λ z j. (
-      let f = made.elsewhere g known d may form ts mt l r1 x y s u p lr rr up l1 l2 at n z i nd j in
-      (ap not f, λ q. elim (cases_Bool (below z.over)) [ inr t ↦ look-beside z.over q f t | inl t ↦ (let k = beside-closed n z i nc out j t in look-closed z.over k q ∙ sym (k q)) ]));
+        let f = made.elsewhere g known d may form ts mt l r1 x y s u p lr rr up l1 l2 at n z i nd j in
+        (ap not f, λ q. elim (cases_Bool (below z.over)) [ inr t ↦ look-beside z.over q f t | inl t ↦ (let k = beside-closed n z i nc out j t in look-closed z.over k q ∙ sym (k q)) ]));
     named = λ z h v. elim (cases_Bool (v.0.id == d.id)) [
       | inl e ↦ (
           let same : v.0 ≡ d = same-box g.boxes v.0 d w.ordered v.1.0 may.in_d (eqb-true v.0.id d.id e) in
@@ -416,9 +414,9 @@ module _ (g : QueryGraph) (known : Facts) (d : Node) (may : MayAbsorb g.boxes kn
     magic = λ v n i j k e. alike (λ (z : Node). is_magic z.parts.role) (ren-by (λ (z : Node). is_magic z.parts.role) (λ z. refl)) (sym (ap is_magic may.is_fed)) v n i j k e;
     held = λ v i k. held v i;
     used = λ b i h. (
-      let k = was b i h in
-      let n = has-in b g.boxes (loose-held g.boxes b k.0 k.1) in
-      overs-after b (subst (λ z. (s == z) ≡ false) n.1.1 (made.s-not g known d may form ts mt l r1 x y s u p lr rr up l1 l2 at n.0 n.1.0)) (made.open-not-m g known d may form ts mt l r1 x y s u p lr rr up l1 l2 at b k.0 k.1) ∙ w.used b k.0 k.1);
+        let k = was b i h in
+        let n = has-in b g.boxes (loose-held g.boxes b k.0 k.1) in
+        overs-after b (subst (λ z. (s == z) ≡ false) n.1.1 (made.s-not g known d may form ts mt l r1 x y s u p lr rr up l1 l2 at n.0 n.1.0)) (made.open-not-m g known d may form ts mt l r1 x y s u p lr rr up l1 l2 at b k.0 k.1) ∙ w.used b k.0 k.1);
     each = λ n i. elim (each-in n i) [
       | inl z ↦ inr (subst (λ b. fresh b ≡ true) (ap (λ (z : Node). z.id) (sym z)) fresh-d)
       | inr z ↦ elim z [

@@ -18,6 +18,7 @@ pub mod HeadSteps
 pub mod Region
 pub mod AbsorbOpenSet
 pub mod AbsorbOpenKeeps
+pub mod AbsorbOpenLowers
 pub mod RenamedMade
 pub mod RenamedTyped
 pub mod SetFormed

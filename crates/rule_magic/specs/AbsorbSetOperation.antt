@@ -108,3 +108,8 @@ abbrev pub SetOpenPreserves : Type 0
 SetOpenPreserves =
     (g : QueryGraph) (known : Facts) (d : Node) (may : MayAbsorb g.boxes known d) (form : SetOperator) (types mt : List SqlType) (l r : OwnedQuant) (x y : Node) (s u p : ℕ) (left right : Role) (up l1 l2 : List Node) → SetAt g known d may form types mt l r x y s u p up l1 l2
     → IsFree g.boxes y.id may.a.id → fault (renamed_set g known d may form mt l r x y s u p left right up l1 l2) ≡ None → Preserves g (compact (renamed_set g known d may form mt l r x y s u p left right up l1 l2))
+
+abbrev pub SetOpenLowers : Type 0
+SetOpenLowers =
+    (g : QueryGraph) (known : Facts) (d : Node) (may : MayAbsorb g.boxes known d) (form : SetOperator) (types mt : List SqlType) (l r : OwnedQuant) (x y : Node) (s u p : ℕ) (left right : Role) (up l1 l2 : List Node) → SetAt g known d may form types mt l r x y s u p up l1 l2
+    → IsFree g.boxes y.id may.a.id → Lowers g.boxes (renamed_set g known d may form mt l r x y s u p left right up l1 l2).boxes

@@ -3,7 +3,7 @@ ghost use Rattle.rule_magic.specs.AbsorbGroup.{GroupBags, KeylessBags, GroupLowe
 ghost use Rattle.rule_magic.specs.AbsorbMeasure.{CompactLowers, GroupFiringLowers, SelectFiringLowers};
 ghost use Rattle.rule_magic.specs.AbsorbOuterJoin.{AbsorbsArms, AbsorbsLeft};
 ghost use Rattle.rule_magic.specs.AbsorbSelect.{SelectBags, SelectLowers, SelectPreserves};
-ghost use Rattle.rule_magic.specs.AbsorbSetOperation.{AbsorbsSets, SetLowers, SetOpenPreserves, SetOpenSound, SetPreserves, SetsGiven};
+ghost use Rattle.rule_magic.specs.AbsorbSetOperation.{AbsorbsSets, SetLowers, SetOpenLowers, SetOpenPreserves, SetOpenSound, SetPreserves, SetsGiven};
 ghost use Rattle.rule_magic.specs.CalmFires.{CalmFires};
 ghost use Rattle.rule_magic.specs.Region.{ArmHasRegion, RegionRenames, RegionStays};
 ghost use Rattle.rule_magic.specs.Renamed.{RenamedIsMade, RenamedIsTyped};
@@ -20,7 +20,7 @@ pub fn row_laws()
     ensures both_arms { BothArmsUnderTags }
 {}
 
-/// G2 to G5: the box that stands in the place of a fed box has its bag, in every environment. G2, and G3 with keys and without, preserve the graph, and so does G4 where its right operand is closed; the conditions of G4 give what its bag needs. It does nothing.
+/// G2 to G5: the box that stands in the place of a fed box has its bag, in every environment. G2, and G3 with keys and without, preserve the graph, and so does G4 where its right operand is closed, and where the check finds nothing after it; the conditions of G4 give what its bag needs. Boxes below an open operand may be renamed, and keep their types. It does nothing.
 pub fn absorbing_laws()
     ensures select { SelectBags }
     ensures select_preserves { SelectPreserves }
@@ -42,12 +42,13 @@ pub fn absorbing_laws()
     ensures outer_arms { AbsorbsArms }
 {}
 
-/// G2 and G3 lower the measure, and so does G4 where its right operand is closed; a graph that is lower stays lower without the boxes that its root doesn't reach, so each firing of G2 and G3 lowers the measure. It does nothing.
+/// G2 to G4 lower the measure; a graph that is lower stays lower without the boxes that its root doesn't reach, so each firing of G2 and G3 lowers it. It does nothing.
 pub fn measure_laws()
     ensures select { SelectLowers }
     ensures group { GroupLowers }
     ensures keyless { KeylessLowers }
     ensures set { SetLowers }
+    ensures set_open { SetOpenLowers }
     ensures compacted { CompactLowers }
     ensures select_fires { SelectFiringLowers }
     ensures group_fires { GroupFiringLowers }

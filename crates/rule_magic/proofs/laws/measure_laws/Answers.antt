@@ -1,6 +1,7 @@
 use Rattle.rule_magic.proofs.AbsorbGroupKeeps.{group-lowers}
 use Rattle.rule_magic.proofs.AbsorbKeylessKeeps.{keyless-lowers}
 use Rattle.rule_magic.proofs.AbsorbSelectKeeps.{select-lowers}
+use Rattle.rule_magic.proofs.AbsorbOpenLowers.{set-open-lowers}
 use Rattle.rule_magic.proofs.AbsorbSetKeeps.{set-lowers}
 use Rattle.rule_magic.proofs.CompactMeasure.{compact-lowers}
 use Rattle.rule_magic.proofs.FiringMeasure.{group-firing-lowers, select-firing-lowers}
@@ -26,3 +27,6 @@ returns-clause-group_fires c = group-firing-lowers
 
 pub returns-clause-set : goal.returns-clause-set
 returns-clause-set c = set-lowers
+
+pub returns-clause-set_open : goal.returns-clause-set_open
+returns-clause-set_open c = set-open-lowers
