@@ -1,6 +1,5 @@
 -- Edits of several boxes, one more at a time.
 use Rattle.std.proofs.Common.{ℕ, suc, ◌==◌, ◌≡◌, ◌<◌, ◌+◌, ◌-◌, ◌||◌, cond, Bool, true, false, List, [], ◌∷◌, ◌++◌, map, Some, refl, sym, ap, ap₂, subst, ◌∙◌, eqb-true, inl, inr, arith}
-use Rattle.std.specs.List.{list_any}
 use Rattle.std.proofs.lemmas.Bool.{cases_Bool, eq-eqb, or_parts}
 use Rattle.qgm_terms.specs.Terms.{Term, col}
 use Rattle.qgm_core.specs.Boxes.{HasBox, QueryGraph, has_box, is_box, numbers, put_below, quants_in, quants_of}
@@ -10,7 +9,6 @@ use Rattle.qgm_core.specs.declared.node.Node.{Node}
 use Rattle.qgm_meaning.specs.Tags.{columns_from}
 use Rattle.qgm_edit_laws.proofs.OneBox.{has-map}
 use Rattle.rule_feed.specs.FeedSteps.{put_in, put_in_all}
-use Rattle.list_laws.proofs.Booleans.{clash}
 use Rattle.list_laws.proofs.Membership.{append-one, eq-false-sym}
 
 pub columns-next : (head : List Term) (q k end : ℕ) → k < end → (head ++ col q (k + 1) ∷ []) ++ columns_from q (suc (k + 1)) (end - (k + 1)) ≡ head ++ columns_from q (suc k) (end - k)

@@ -25,6 +25,7 @@ pub mod FeedTermsSteps
 pub mod FeedTyped
 pub mod FeedTypes
 pub mod NodesListed
+pub mod SettleMade
 pub mod SplitBag
 pub mod SplitEdits
 pub mod SplitLooks

@@ -1,5 +1,5 @@
 -- Edits of a graph whose boxes stand above and below one.
-use Rattle.std.proofs.Common.{ℕ, zero, suc, ◌==◌, ◌≡◌, ◌≤◌, ◌+◌, ◌||◌, cond, not, Bool, true, false, List, [], ◌∷◌, ◌++◌, map, filter, insert, length, Option, Some, refl, sym, ap, ap₂, subst, ◌∙◌, eqb-true, inl, inr, arith}
+use Rattle.std.proofs.Common.{ℕ, suc, ◌==◌, ◌≡◌, ◌≤◌, ◌+◌, ◌||◌, cond, not, Bool, true, false, List, [], ◌∷◌, ◌++◌, map, filter, insert, length, Option, Some, refl, sym, ap, ap₂, subst, ◌∙◌, eqb-true, inl, inr, arith}
 use Rattle.std.specs.Prelude.{⊤}
 use Rattle.std.specs.List.{list_any}
 use Rattle.std.proofs.lemmas.Bool.{cases_Bool, eq-eqb, or_parts}

@@ -1,8 +1,8 @@
 -- The edits of a split come to G1's action.
-use Rattle.std.proofs.Common.{ℕ, ◌==◌, ◌≡◌, ◌≤◌, ◌+◌, ◌||◌, cond, Bool, true, false, List, [], ◌∷◌, ◌++◌, map, filter, length, None, refl, sym, ap, ap₂, subst, ◌∙◌, eqb-true, inl, inr, arith}
+use Rattle.std.proofs.Common.{ℕ, ◌==◌, ◌≡◌, ◌≤◌, ◌||◌, cond, Bool, true, false, List, [], ◌∷◌, ◌++◌, map, filter, None, refl, sym, ap, ap₂, subst, ◌∙◌, eqb-true, inl, inr, arith}
 use Rattle.std.specs.List.{list_any}
 use Rattle.std.proofs.lemmas.Bool.{cases_Bool, eq-eqb, or_parts}
-use Rattle.qgm_terms.specs.Terms.{Cond, Term}
+use Rattle.qgm_terms.specs.Terms.{Cond}
 use Rattle.qgm_terms.specs.Wanted.{any_in, any_in_cond}
 use Rattle.qgm_core.specs.Boxes.{Ordered, QueryGraph, bare_box, has_box, ids_of, is_box, is_quant, numbers, owns}
 use Rattle.qgm_core.specs.Edits.{put_range, range, with_terms}
@@ -28,7 +28,7 @@ use Rattle.rule_feed.specs.FeedCode.{SplitComes}
 use Rattle.rule_feed.specs.FeedMay.{MayFeedAt, feeds, width_of}
 use Rattle.rule_feed.specs.FeedSteps.{Parted, moved_all, parted, renamed_all, select_parts, split_edits}
 use Rattle.rule_feed.specs.Split.{MaySplitSound, heads, into, renamed_node, sizes_of, split_box, split_boxes, split_owner, strays}
-use Rattle.rule_feed.specs.Turn.{before_first, from_first}
+use Rattle.rule_feed.specs.Turn.{from_first}
 use Rattle.rule_feed.proofs.FeedPlaced as placed
 use Rattle.rule_feed.proofs.FeedSettled.{once-above}
 use Rattle.rule_feed.proofs.SplitEdits.{There, change-here, insert-before, less, less-is, moves, put-here, renamed-is, renamed_in, times-both}

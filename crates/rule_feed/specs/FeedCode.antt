@@ -66,6 +66,12 @@ pub stays-is : (ns : List Node) (known : Facts) (ps : List OwnedQuant) (cs : Lis
 unfolding stays_by
 stays-is ns known ps cs = refl
 
+-- where G1 may fire, the edits that settle an S come to its action
+abbrev pub SettleComes : Type 0
+SettleComes =
+    (g : QueryGraph) → EachOnce (numbers g.boxes) → fault g ≡ None → (p : Place) (b : Node) (us : List OwnedQuant) (r : OwnedQuant) (vs : List OwnedQuant) → may.MayFeedAt p g b us r vs
+    → (above below : List Node) → g.boxes ≡ above ++ b ∷ below → steps.settle_edits b r g ≡ record g { boxes = above ++ settled_node us r vs b ∷ below }
+
 -- where G1 may fire, with its S settled, the edits of the split come to its action
 abbrev pub SplitComes : Type 0
 SplitComes =

@@ -1,20 +1,21 @@
 -- The edits of G1's action.
-use Rattle.std.specs.Prelude.{ℕ, suc, ◌≡◌, ◌==◌, ◌+◌, ◌++◌, ◌-◌, if◌then◌else◌, Bool, true, false, List, [], ◌∷◌, Option, Some, length, map, filter}
-use Rattle.std.specs.List.{list_any}
+use Rattle.std.specs.Prelude.{ℕ, suc, ◌+◌, if◌then◌else◌, List, [], ◌∷◌, Some, length, map, filter}
 use Rattle.qgm_terms.specs.Conjuncts.{Conjuncts}
-use Rattle.qgm_terms.specs.Terms.{Cond, Term, col, compare, null_int, same}
+use Rattle.qgm_terms.specs.Terms.{Cond, Term}
 use Rattle.qgm_core.specs.Boxes.{QueryGraph, bare_box, quants_of}
-use Rattle.qgm_core.specs.Edits.{drop_quant, move_quant, on_boxes, put_cells, put_terms, range, redirect, set_distinct, substitute, with_box, with_quant}
+use Rattle.qgm_core.specs.Edits.{drop_quant, move_quant, on_boxes, put_cells, put_quant, put_terms, range, substitute, with_box, with_quant}
+use Rattle.qgm_core.specs.Kinds.{is_S}
 use Rattle.list_laws.specs.Lists.{holds}
 use Rattle.qgm_core.specs.declared.kinds.BoxKind.TheVariants.{Select}
 use Rattle.qgm_core.specs.declared.kinds.Distinct.{Distinct}
-use Rattle.qgm_core.specs.declared.kinds.Distinct.TheVariants.{Enforce, Preserve}
+use Rattle.qgm_core.specs.declared.kinds.Distinct.TheVariants.{Preserve}
 use Rattle.qgm_core.specs.declared.kinds.QuantKind.TheVariants.{F}
 use Rattle.qgm_core.specs.declared.kinds.Role.{Role}
-use Rattle.qgm_core.specs.declared.kinds.Role.TheVariants.{Fed, Magic, Plain}
+use Rattle.qgm_core.specs.declared.kinds.Role.TheVariants.{Plain}
 use Rattle.qgm_core.specs.declared.node.Node.{Node}
 use Rattle.qgm_core.specs.declared.owned.OwnedQuant.{OwnedQuant}
 use Rattle.qgm_core.specs.declared.parts.BoxParts.{BoxParts}
+use Rattle.qgm_meaning.specs.Searches.{as_column, as_column_cond}
 use Rattle.qgm_meaning.specs.Tags.{columns_from}
 use Rattle.rule_feed.specs.FeedActs.{takes}
 use Rattle.rule_feed.specs.FeedMay.{feeders, feeds, width_of}
@@ -51,6 +52,15 @@ renamed_all ids q start (w ∷ ws) g = renamed_all ids q (start + w.1) ws (put_e
 -- these quantifiers with the widths of their boxes
 abbrev pub sizes_in : List Node → List OwnedQuant → List (ℕ × ℕ)
 sizes_in ns rs = sizes_of (λ r. width_of ns r.over) rs
+
+-- ---- an S that is settled
+
+-- an S of b goes behind the others and is an F, and its scalars are its first column
+abbrev pub settle_edits : Node → OwnedQuant → QueryGraph → QueryGraph
+settle_edits b r g =
+    if is_S r.kind
+    then put_terms b.id (record b.parts.conds { items = map (as_column_cond r.id) b.parts.conds.items }) (map (as_column r.id) b.parts.head) (put_quant r.id F (move_quant r.id b.id (length (quants_of b.id (drop_quant r.id g))) g))
+    else g
 
 -- ---- the split
 

@@ -1,5 +1,5 @@
 // The laws, as theorems.
-ghost use Rattle.rule_feed.specs.FeedCode.{SplitComes};
+ghost use Rattle.rule_feed.specs.FeedCode.{SettleComes, SplitComes};
 ghost use Rattle.rule_feed.specs.FeedLaws.{FeedBags, FeedShaped, FeedSound, FeedTags, FeedTyped};
 ghost use Rattle.rule_feed.specs.FeedMeasure.{FeedMeasured, FeedingLowers, SplitMeasured};
 ghost use Rattle.rule_feed.specs.FeedPreserves.{FeedPlaces, FeedPreserves, FiringLowers};
@@ -25,10 +25,11 @@ pub fn feeding_laws()
     ensures sample { Fed }
 {}
 
-/// G1 whole: its places are exactly those where its condition holds (`places`), and where it holds the action preserves the graph (`preserves`), and the graph that it compacts has a lower measure (`lowers`). A step of it: quantifiers over closed boxes come to stand side by side (`turned`). The edits by which code makes the split come to the action's (`split`). It does nothing.
+/// G1 whole: its places are exactly those where its condition holds (`places`), and where it holds the action preserves the graph (`preserves`), and the graph that it compacts has a lower measure (`lowers`). A step of it: quantifiers over closed boxes come to stand side by side (`turned`). The edits that settle an S and those of the split come to the action's (`settled`, `split`). It does nothing.
 pub fn feed_laws()
     ensures places { FeedPlaces }
     ensures turned { TurnPreserves }
+    ensures settled { SettleComes }
     ensures split { SplitComes }
     ensures preserves { FeedPreserves }
     ensures lowers { FiringLowers }

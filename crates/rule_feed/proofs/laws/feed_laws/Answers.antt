@@ -1,5 +1,6 @@
 use Rattle.rule_feed.specs.FeedMayExact.{feed-places}
 use Rattle.rule_feed.proofs.FeedKeeps.{feed-preserves, firing-lowers}
+use Rattle.rule_feed.proofs.SettleMade.{settle-comes}
 use Rattle.rule_feed.proofs.SplitMade.{split-comes}
 use Rattle.rule_feed.proofs.TurnKeeps.{turn-preserves}
 use Rattle.rule_feed.proofs.laws.feed_laws.Goals as goal
@@ -18,3 +19,6 @@ returns-clause-split c = split-comes
 
 pub returns-clause-lowers : goal.returns-clause-lowers
 returns-clause-lowers c = firing-lowers
+
+pub returns-clause-settled : goal.returns-clause-settled
+returns-clause-settled c = settle-comes

@@ -1,6 +1,5 @@
-use Rattle.std.proofs.Common.{arith, ap, ◌∙◌, ◌++◌}
+use Rattle.std.proofs.Common.{arith}
 use Rattle.std.proofs.lemmas.Grind.{common_steps}
-use Rattle.qgm_meaning.specs.Tags.{columns_from}
 use Rattle.rule_feed.proofs.FeedEditSteps.{columns-next}
 use Rattle.rule_feed.proofs.feed.edits.columns.Goals as goal
 

@@ -1,4 +1,4 @@
-use Rattle.std.proofs.Common.{suc, ◌≡◌, ◌++◌, ◌-◌, ◌+◌, ◌≤◌}
+use Rattle.std.proofs.Common.{suc, ◌≡◌, ◌++◌, ◌-◌, ◌+◌}
 use Rattle.qgm_meaning.specs.Tags.{columns_from}
 use Rattle.rule_feed.proofs.feed.edits.columns.Given as goal
 

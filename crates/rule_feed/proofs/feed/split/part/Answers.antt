@@ -1,5 +1,4 @@
 use Rattle.std.proofs.Common.{ℕ, ◌≡◌, List, ap, ap₂, filter, length, ◌∙◌}
-use Rattle.qgm_terms.specs.Conjuncts.{Conjuncts}
 use Rattle.qgm_terms.specs.Terms.{Cond}
 use Rattle.qgm_core.specs.Free.{free_in}
 use Rattle.qgm_core.specs.declared.node.Node.{Node}
