@@ -251,7 +251,7 @@ module _ (bs hs : List Node) (root : ℕ) (kept : ℕ → Bool) (look : ℕ → 
             (x.was.box, (x.box, (found-under bs root w q x.was, (found-under hs root rebuilt q (after-found q x), m.wide x.was.box x.box x.was.box_in x.box_in (kept-box q x) (same-number q x))))))) (sh.columns n s.within)
       ];
       unseen = λ n i p. elim (m.each n i) [
-        | inr x ↦ absurd (clash (is_permit n.parts.distinct) p (form n i x).not_permit)
+        | inr x ↦ (form n i x).hidden p
         | inl s ↦ (
           (sh.unseen n s.within p).0,
           λ o r io jr e. elim (m.each o io) [

@@ -61,13 +61,17 @@ RebuiltSound = (bs hs : List Node) (root : ℕ) (kept : ℕ → Bool) (look : �
 abbrev pub RebuiltLooks : Type 0
 RebuiltLooks = (bs hs : List Node) (root : ℕ) (kept : ℕ → Bool) (look : ℕ → ℕ → Bool) (fresh : ℕ → Bool) → Sound bs root → Rebuilds bs hs root kept look fresh → (b q : ℕ) → has_box hs b ≡ true → loose hs b q ≡ look b q
 
--- of a made box, where boxes have these types: its columns have them, what it compares agrees, and it has columns and its shape; no F or S quantifier of it ranges over a PERMIT box
+-- it isn't the root, and no F or S quantifier ranges over it
+abbrev pub IsUnseen : List Node → ℕ → Node → Type 0
+IsUnseen hs root n = (n.id ≡ root → ⊥) × ((m : Node) (r : OwnedQuant) → In m hs → In r m.quants → r.over ≡ n.id → is_F_or_S r.kind ≡ false)
+
+-- of a made box, where boxes have these types: its columns have them, what it compares agrees, and it has columns and its shape; a PERMIT box is unseen, and no F or S quantifier of it ranges over one
 pub record HasForm (hs : List Node) (root : ℕ) (types : Types) (n : Node) : Type 0 where
   pub columns_typed : types n.id ≡ types_by (via types hs) n.parts.kind n.parts.head
   pub agrees : agrees_by (via types hs) types n ≡ true
   pub columns : columns_fit hs n ≡ true
   pub shape : shape_fits root hs n ≡ true
-  pub not_permit : is_permit n.parts.distinct ≡ false
+  pub hidden : is_permit n.parts.distinct ≡ true → IsUnseen hs root n
   pub unseen : (r : OwnedQuant) (m : Node) → In r n.quants → is_F_or_S r.kind ≡ true → In m hs → m.id ≡ r.over → is_permit m.parts.distinct ≡ false
   pub scalars : (r : OwnedQuant) (m : Node) → In r n.quants → is_S r.kind ≡ true → In m hs → m.id ≡ r.over → nat_lt 0 (width m) ≡ true
 

@@ -729,7 +729,7 @@ module _ (g : QueryGraph) (once : EachOnce (numbers g.boxes)) (wf : WellFormed g
       agrees = agrees-new;
       columns = columns-new;
       shape = shape-new;
-      not_permit = refl;
+      hidden = λ p. absurd (clash false p refl);
       unseen = λ s n j l i e. elim j [
         | inl y ↦ subst (λ (z : Node). is_permit z.parts.distinct ≡ false) (same-box hs c' n ordered in-c' i (ap (λ (z : OwnedQuant). z.over) y ∙ sym e)) refl
         | inr y ↦ elim y [ ]

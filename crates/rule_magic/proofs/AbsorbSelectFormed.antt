@@ -769,7 +769,7 @@ module _ (g : QueryGraph) (once : EachOnce (numbers g.boxes)) (wf : WellFormed g
           agrees = agrees-new;
           columns = columns-new;
           shape = shape-new;
-          not_permit = seen-c;
+          hidden = λ p. absurd (clash (is_permit c.parts.distinct) p seen-c);
           unseen = λ s n j k i e. (
               let x = own-back d' s new-in j in
               elim (each-in n i) [

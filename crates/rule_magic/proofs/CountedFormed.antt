@@ -228,7 +228,7 @@ module _ (hs : List Node) (look : ℕ → ℕ → Bool) (b r wm : ℕ) (xs : Lis
         placed = rows-placed n refl;
         scalar = scalar;
       });
-      not_permit = refl;
+      hidden = λ p. absurd (clash false p refl);
       unseen = λ s u j l i e. elim j [
         | inl y ↦ subst (λ (z : Node). is_permit z.parts.distinct ≡ false) (same-box hs below u is.ordered is.in_below i (ap (λ (z : OwnedQuant). z.over) y ∙ sym e)) plain
         | inr y ↦ elim y [ ]

@@ -254,7 +254,7 @@ module _ (hs : List Node) (look : ℕ → ℕ → Bool) (b om oc len : ℕ) (m g
         placed = rows-placed j refl;
         scalar = scalar;
       });
-      not_permit = refl;
+      hidden = λ p. absurd (clash false p refl);
       unseen = λ s u k l i e. elim k [
         | inl y ↦ subst (λ (z : Node). is_permit z.parts.distinct ≡ false) (same-box hs m u is.ordered is.in_m i (ap (λ (z : OwnedQuant). z.over) y ∙ sym e)) plain_m
         | inr y ↦ elim y [

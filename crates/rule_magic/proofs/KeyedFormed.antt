@@ -210,7 +210,7 @@ module _ (hs : List Node) (look : ℕ → ℕ → Bool) (b keys q r wm v : ℕ) 
       agrees = and_from (list_all (λ y. is_known (term_type V y)) (cols ++ late)) true (known-map V (cols ++ late) ∙ ap (list_all is_known) (sym typed-new) ∙ known) refl;
       columns = columns-new;
       shape = shape-new;
-      not_permit = refl;
+      hidden = λ p. absurd (clash false p refl);
       unseen = λ s u j l i e. elim j [
         | inl y ↦ subst (λ (z : Node). is_permit z.parts.distinct ≡ false) (same-box hs below u is.ordered is.in_below i (ap (λ (z : OwnedQuant). z.over) y ∙ sym e)) plain
         | inr y ↦ elim y [ ]

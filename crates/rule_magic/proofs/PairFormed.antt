@@ -212,7 +212,7 @@ module _ (hs : List Node) (look : ℕ → ℕ → Bool) (b a q : ℕ) (role : Ro
         placed = rows-placed n refl;
         scalar = λ h. lt-from 0 (width n) (let e = width-pair in let l = some h in omega (arith, e, l));
       });
-      not_permit = refl;
+      hidden = λ p. absurd (clash false p refl);
       unseen = λ s u j k i e. elim j [
         | inl y ↦ subst (λ (z : Node). is_permit z.parts.distinct ≡ false) (same-box hs m u is.ordered is.in_m i (ap (λ (z : OwnedQuant). z.over) y ∙ sym e)) seen_m
         | inr y ↦ elim y [

@@ -85,7 +85,7 @@ module _ (hs : List Node) (look : ℕ → ℕ → Bool) (b l r : ℕ) (form : Se
       agrees = and_from (all_agree (T left.id) (known types)) (all_agree (T right.id) (known types) && true) agree_left (and_from (all_agree (T right.id) (known types)) true agree_right refl);
       columns = refl;
       shape = shape-from root hs n (record { kind = kind-fits; nodes = refl; placed = rows-placed n refl; scalar = λ h. some });
-      not_permit = refl;
+      hidden = λ p. absurd (clash false p refl);
       unseen = λ s u j k i e. under-two (λ (z : Node). is_permit z.parts.distinct ≡ false) seen_left seen_right u s j i e;
       scalars = λ s u j k i e. absurd (of-two (λ (s : OwnedQuant). is_S s.kind ≡ true → ⊥) (λ h. (let z : ⊥ = cc in z)) (λ h. (let z : ⊥ = cc in z)) s j k);
     }

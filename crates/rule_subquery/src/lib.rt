@@ -13,6 +13,7 @@ mod scalar_to_join;
 mod set_to_exists;
 
 pub use exists_to_join::ExistsToJoin;
+pub use first_column::{column_conds, column_head};
 pub use laws::subquery_laws;
 pub use scalar_to_group::ScalarToGroup;
 pub use scalar_to_join::ScalarToJoin;
