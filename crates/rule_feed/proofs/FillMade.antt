@@ -27,7 +27,7 @@ module _ (g : QueryGraph) (u : EachOnce (numbers g.boxes)) (f : fault g ≡ None
   abbrev h : QueryGraph
   h = compact (on_boxes (λ bs. act.fed_up g.boxes (settled_node us r vs b) r.over q s above below c (settled_quant r) x) g)
 
-  a : FeedsAt p g h b us r vs
+  abbrev a : FeedsAt p g h b us r vs
   a = record {
     may = m;
     above = above;
