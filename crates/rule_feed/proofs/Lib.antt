@@ -24,6 +24,10 @@ pub mod FeedSound
 pub mod FeedTermsSteps
 pub mod FeedTyped
 pub mod FeedTypes
+pub mod FillEdits
+pub mod FillFound
+pub mod FillMade
+pub mod NamedSteps
 pub mod NodesListed
 pub mod SettleMade
 pub mod SplitBag
