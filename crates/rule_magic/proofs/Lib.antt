@@ -39,4 +39,5 @@ pub mod AbsorbSetKeeps
 pub mod AbsorbGroupBelow
 pub mod AbsorbGroupActs
 pub mod CompactMeasure
+pub mod ScalarToGroupMeasure
 pub mod FiringMeasure

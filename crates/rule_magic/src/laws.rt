@@ -1,6 +1,6 @@
 // The laws, as theorems.
 ghost use Rattle.rule_magic.specs.AbsorbGroup.{GroupBags, KeylessBags, GroupLowers, GroupPreserves, KeylessLowers, KeylessPreserves};
-ghost use Rattle.rule_magic.specs.AbsorbMeasure.{CompactLowers, GroupFiringLowers, SelectFiringLowers};
+ghost use Rattle.rule_magic.specs.AbsorbMeasure.{CompactLowers, FeedFiringLowers, GroupFiringLowers, ScalarFiringLowers, SelectFiringLowers};
 ghost use Rattle.rule_magic.specs.AbsorbOuterJoin.{AbsorbsArms, AbsorbsLeft};
 ghost use Rattle.rule_magic.specs.AbsorbSelect.{SelectBags, SelectLowers, SelectPreserves};
 ghost use Rattle.rule_magic.specs.AbsorbSetOperation.{AbsorbsSets, SetLowers, SetOpenLowers, SetOpenPreserves, SetOpenSound, SetPreserves, SetsGiven};
@@ -42,7 +42,7 @@ pub fn absorbing_laws()
     ensures outer_arms { AbsorbsArms }
 {}
 
-/// G2 to G4 lower the measure; a graph that is lower stays lower without the boxes that its root doesn't reach, so each firing of G2 and G3 lowers it. It does nothing.
+/// G2 to G4 lower the measure; a graph that is lower stays lower without the boxes that its root doesn't reach, so each firing of U2, G1, G2 and G3 lowers it. It does nothing.
 pub fn measure_laws()
     ensures select { SelectLowers }
     ensures group { GroupLowers }
@@ -50,6 +50,8 @@ pub fn measure_laws()
     ensures set { SetLowers }
     ensures set_open { SetOpenLowers }
     ensures compacted { CompactLowers }
+    ensures scalar_fires { ScalarFiringLowers }
+    ensures feed_fires { FeedFiringLowers }
     ensures select_fires { SelectFiringLowers }
     ensures group_fires { GroupFiringLowers }
 {}
