@@ -7,7 +7,7 @@ use Rattle.qgm_terms.specs.Terms.{Cond}
 use Rattle.qgm_meaning.specs.Tags.{columns_from}
 use Rattle.rule_feed.specs.Feed.{Numbers, inside}
 use Rattle.rule_feed.specs.FeedSteps.{put_each}
-use Rattle.rule_feed.specs.FillSteps.{as_numbers, deep, fed_cells, fed_conjuncts, is_beside, joined, many, named, wide, with_fed, with_magic}
+use Rattle.rule_feed.specs.FillSteps.{as_numbers, fed_cells, fed_conjuncts, is_beside, joined, many, named, wide, with_fed, with_magic}
 use Rattle.rule_feed.specs.NamedColumns.{cells_by, count, flags, joins_by, picked_by}
 use Rattle.rule_feed.proofs.FillFound.{conds-is, head-is, held-filtered, made-same}
 use Rattle.rule_feed.proofs.NamedSteps.{cells-is, count-is, joins-is, picked-is}
