@@ -24,8 +24,8 @@ use shared_types::OutOfMemory;
 use std::alloc::Global;
 
 /// G1: the open box under a quantifier of a closed select is fed with the distinct bindings that occur:
-/// they stand in a magic box, and the box is joined with it in a fed box (Mumick and Pirahesh 1994;
-/// Seshadri, Pirahesh and Leung 1996, 4).
+/// they stand in a magic box, and the box is joined with it in a fed box (Seshadri, Pirahesh and Leung
+/// 1996, 4).
 #[derive(Clone, Copy)]
 pub struct Feed;
 

@@ -11,12 +11,7 @@ use std::alloc::Global;
 
 /// Where r, a quantifier of the box, is an S, it goes behind the others as an F, and its scalars become
 /// its first column. It fails only for want of memory.
-pub fn settle(
-    alloc: Global,
-    graph: &mut Graph,
-    b: &Node,
-    r: OwnedQuant,
-) -> Result<(), OutOfMemory>
+pub fn settle(alloc: Global, graph: &mut Graph, b: &Node, r: OwnedQuant) -> Result<(), OutOfMemory>
     requires held { HasBox b.now.id graph.old }
     requires owned { HasQuant r.id graph.old }
     ensures ok { OnOk result (graph.new ≡ spec.settle_edits b.now r graph.old) }
