@@ -17,6 +17,8 @@ pub mod FedCondition
 pub mod HeadSteps
 pub mod Region
 pub mod AbsorbOpenSet
+pub mod RenamedFormed
+pub mod AbsorbOpenFormed
 pub mod AbsorbOpenKeeps
 pub mod AbsorbOpenLowers
 pub mod RenamedMade
@@ -40,3 +42,8 @@ pub mod AbsorbGroupBelow
 pub mod AbsorbGroupActs
 pub mod CompactMeasure
 pub mod FiringMeasure
+pub mod FedTypes
+pub mod RenameSteps
+pub mod AbsorbSetActs
+pub mod AbsorbSetTagged
+pub mod AbsorbSetPlaces

@@ -8,6 +8,7 @@ use Rattle.rule_magic.proofs.AbsorbOpenKeeps.{set-open-preserves}
 use Rattle.rule_magic.proofs.AbsorbOpenSet.{set-open-sound}
 use Rattle.rule_magic.proofs.AbsorbSetKeeps.{set-preserves}
 use Rattle.rule_magic.proofs.Region.{arm-has-region, region-renames, region-stays}
+use Rattle.rule_magic.proofs.RenamedFormed.{region-forms}
 use Rattle.rule_magic.proofs.RenamedMade.{renamed-is-made}
 use Rattle.rule_magic.proofs.RenamedTyped.{renamed-is-typed}
 use Rattle.rule_magic.proofs.laws.absorbing_laws.Goals as goal
@@ -59,6 +60,9 @@ returns-clause-region_renames c = region-renames
 
 pub returns-clause-region_stays : goal.returns-clause-region_stays
 returns-clause-region_stays c = region-stays
+
+pub returns-clause-region_forms : goal.returns-clause-region_forms
+returns-clause-region_forms c = region-forms
 
 pub returns-clause-renamed : goal.returns-clause-renamed
 returns-clause-renamed c = renamed-is-made

@@ -4,7 +4,7 @@ use Rattle.rule_magic.proofs.AbsorbSelectKeeps.{select-lowers}
 use Rattle.rule_magic.proofs.AbsorbOpenLowers.{set-open-lowers}
 use Rattle.rule_magic.proofs.AbsorbSetKeeps.{set-lowers}
 use Rattle.rule_magic.proofs.CompactMeasure.{compact-lowers}
-use Rattle.rule_magic.proofs.FiringMeasure.{group-firing-lowers, select-firing-lowers}
+use Rattle.rule_magic.proofs.FiringMeasure.{group-firing-lowers, select-firing-lowers, set-firing-lowers}
 use Rattle.rule_magic.proofs.laws.measure_laws.Goals as goal
 
 pub returns-clause-select : goal.returns-clause-select
@@ -30,3 +30,6 @@ returns-clause-set c = set-lowers
 
 pub returns-clause-set_open : goal.returns-clause-set_open
 returns-clause-set_open c = set-open-lowers
+
+pub returns-clause-set_fires : goal.returns-clause-set_fires
+returns-clause-set_fires c = set-firing-lowers
