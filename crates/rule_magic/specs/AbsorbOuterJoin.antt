@@ -1,11 +1,12 @@
--- G5, an outer join under a fed box is one of a tagged left arm, and of a tagged right one where that is open: its bag.
-use Rattle.std.specs.Prelude.{ℕ, ◌≡◌, ◌==◌, ◌&&◌, ◌⊎◌, Bool, true, false, List, [], ◌∷◌}
+-- G5, an outer join under a fed box is one of a tagged left arm, and of a tagged right one where that is open: its bag, and what it keeps where the right arm is closed.
+use Rattle.std.specs.Prelude.{ℕ, ◌≡◌, ◌==◌, ◌&&◌, ◌++◌, ◌⊎◌, Bool, true, false, List, [], ◌∷◌}
 use Rattle.row_bag.specs.Bags.{Agree}
 use Rattle.row_bag.specs.Sets.{same_cells}
 use Rattle.row_bag.specs.declared.tables.Table.{Table}
-use Rattle.qgm_core.specs.Boxes.{Ordered, QueryGraph, has_box, width}
-use Rattle.qgm_core.specs.Edits.{range}
-use Rattle.list_laws.specs.Lists.{In}
+use Rattle.qgm_core.specs.Boxes.{Ordered, QueryGraph, has_box, numbers, width}
+use Rattle.qgm_core.specs.Edits.{compact, on_boxes, range}
+use Rattle.qgm_core.specs.Free.{IsFree}
+use Rattle.list_laws.specs.Lists.{EachOnce, In}
 use Rattle.qgm_core.specs.declared.kinds.BoxKind.TheVariants.{OuterJoin}
 use Rattle.qgm_core.specs.declared.kinds.QuantKind.TheVariants.{F}
 use Rattle.qgm_core.specs.declared.kinds.Role.{Role}
@@ -14,10 +15,16 @@ use Rattle.qgm_core.specs.declared.owned.OwnedQuant.{OwnedQuant}
 use Rattle.qgm_meaning.specs.Meaning.{bag}
 use Rattle.qgm_meaning.specs.Scope.{loose}
 use Rattle.qgm_meaning.specs.Values.{Environment}
+use Rattle.qgm_wellformed.specs.Sentences.{WellFormed}
+use Rattle.qgm_props.specs.Inferred.{Facts}
+use Rattle.qgm_props.specs.Laws.{Tells}
+use Rattle.qgm_props.specs.Measure.{Lowers}
+use Rattle.rule_api.specs.Rules.{Preserves}
 use Rattle.rule_magic.specs.Boxes.{arms_box, left_box, pair_box}
 use Rattle.rule_magic.specs.FedBox.{IsFedAt}
+use Rattle.rule_magic.specs.Places.{MayAbsorb}
 use Rattle.rule_magic.specs.UnderTags.{IsOuter}
-use Rattle.rule_magic.specs.AbsorbArms.{Renames, IsStill, IsRenamed, HasArms}
+use Rattle.rule_magic.specs.AbsorbArms.{Renames, IsStill, IsRenamed, HasArms, role_over}
 
 -- G5 with an open right arm
 abbrev pub AbsorbsArms : Type 0
@@ -39,3 +46,32 @@ AbsorbsLeft =
     → ((n : Node) → In n h.boxes → IsStill g d c a.id (λ n. false) n
     ⊎ ((n ≡ left_box d.id a.id l1.id (width m) (width x) c (range l1.id F c.id ∷ (range r1.id F y.id ∷ []))) ⊎ (n ≡ pair_box c.id left a.id m.id (width m) q1 x.id (width x))))
     → (b : ℕ) → has_box g.boxes b ≡ true → has_box h.boxes b ≡ true → (b == c.id) ≡ false → (e : Environment) → Agree same_cells (bag tables h b e) (bag tables g b e)
+
+-- the fed box d stands in the graph, and below it an outer join of x and y
+pub record OuterAt (g : QueryGraph) (known : Facts) (d : Node) (may : MayAbsorb g.boxes known d) (l r : OwnedQuant) (x y : Node) (up l1 l2 : List Node) : Type 0 where
+  pub once : EachOnce (numbers g.boxes)
+  pub formed : WellFormed g
+  pub tells : Tells known g.boxes
+  pub an_outer : may.c.parts.kind ≡ OuterJoin
+  pub two : may.c.quants ≡ l ∷ (r ∷ [])
+  pub in_x : In x g.boxes
+  pub over_x : l.over ≡ x.id
+  pub in_y : In y g.boxes
+  pub over_y : r.over ≡ y.id
+  pub before : g.boxes ≡ up ++ d ∷ (l1 ++ may.c ∷ l2)
+
+-- in the place of d stands the outer join of the select of the magic box and x, which has c's number, and of y; the select is fed, or plain
+abbrev pub absorbed_left : (g : QueryGraph) (known : Facts) (d : Node) (may : MayAbsorb g.boxes known d) (l r : OwnedQuant) (x y : Node) (left : Role) (up l1 l2 : List Node) → QueryGraph
+absorbed_left g known d may l r x y left up l1 l2 =
+    on_boxes (λ boxes. up ++ left_box d.id may.a.id l.id (width may.m) (width x) may.c (range l.id F may.c.id ∷ (range r.id F y.id ∷ [])) ∷ (pair_box may.c.id left may.a.id may.m.id (width may.m) may.r.id x.id (width x) ∷ (l1 ++ l2))) g
+
+-- G5 where the right operand is closed
+abbrev pub OuterLeftPreserves : Type 0
+OuterLeftPreserves =
+    (g : QueryGraph) (known : Facts) (d : Node) (may : MayAbsorb g.boxes known d) (l r : OwnedQuant) (x y : Node) (up l1 l2 : List Node) → OuterAt g known d may l r x y up l1 l2
+    → ((q : ℕ) → IsFree g.boxes y.id q → ⊥) → Preserves g (compact (absorbed_left g known d may l r x y (role_over g.boxes x.id) up l1 l2))
+
+abbrev pub OuterLeftLowers : Type 0
+OuterLeftLowers =
+    (g : QueryGraph) (known : Facts) (d : Node) (may : MayAbsorb g.boxes known d) (l r : OwnedQuant) (x y : Node) (up l1 l2 : List Node) → OuterAt g known d may l r x y up l1 l2
+    → ((q : ℕ) → IsFree g.boxes y.id q → ⊥) → Lowers g.boxes (absorbed_left g known d may l r x y (role_over g.boxes x.id) up l1 l2).boxes

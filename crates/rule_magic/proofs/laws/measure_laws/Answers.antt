@@ -1,4 +1,5 @@
 use Rattle.rule_magic.proofs.AbsorbGroupKeeps.{group-lowers}
+use Rattle.rule_magic.proofs.AbsorbLeftKeeps.{outer-left-lowers}
 use Rattle.rule_magic.proofs.AbsorbKeylessKeeps.{keyless-lowers}
 use Rattle.rule_magic.proofs.AbsorbSelectKeeps.{select-lowers}
 use Rattle.rule_magic.proofs.AbsorbOpenLowers.{set-open-lowers}
@@ -30,3 +31,6 @@ returns-clause-set c = set-lowers
 
 pub returns-clause-set_open : goal.returns-clause-set_open
 returns-clause-set_open c = set-open-lowers
+
+pub returns-clause-outer_left : goal.returns-clause-outer_left
+returns-clause-outer_left c = outer-left-lowers
