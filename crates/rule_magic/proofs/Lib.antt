@@ -37,6 +37,10 @@ pub mod LedColumns
 pub mod AbsorbOuterFacts
 pub mod AbsorbLeftFormed
 pub mod AbsorbLeftKeeps
+pub mod RenamedFormed
+pub mod AbsorbArmsPlaced
+pub mod AbsorbArmsFormed
+pub mod AbsorbArmsKeeps
 pub mod JoinedFormed
 pub mod AbsorbKeylessFormed
 pub mod MagicWidth

@@ -1,5 +1,5 @@
--- G5, an outer join under a fed box is one of a tagged left arm, and of a tagged right one where that is open: its bag, and what it keeps where the right arm is closed.
-use Rattle.std.specs.Prelude.{ℕ, ◌≡◌, ◌==◌, ◌&&◌, ◌++◌, ◌⊎◌, Bool, true, false, List, [], ◌∷◌}
+-- G5, an outer join under a fed box is one of a tagged left arm, and of a tagged right one where that is open: its bag, and what it keeps.
+use Rattle.std.specs.Prelude.{ℕ, ◌≡◌, ◌==◌, ◌&&◌, ◌++◌, ◌⊎◌, if◌then◌else◌, map, Bool, true, false, List, [], ◌∷◌}
 use Rattle.row_bag.specs.Bags.{Agree}
 use Rattle.row_bag.specs.Sets.{same_cells}
 use Rattle.row_bag.specs.declared.tables.Table.{Table}
@@ -13,7 +13,8 @@ use Rattle.qgm_core.specs.declared.kinds.Role.{Role}
 use Rattle.qgm_core.specs.declared.node.Node.{Node}
 use Rattle.qgm_core.specs.declared.owned.OwnedQuant.{OwnedQuant}
 use Rattle.qgm_meaning.specs.Meaning.{bag}
-use Rattle.qgm_meaning.specs.Scope.{loose}
+use Rattle.qgm_meaning.specs.Scope.{loose, put_node}
+use Rattle.qgm_meaning.specs.Tags.{columns_from}
 use Rattle.qgm_meaning.specs.Values.{Environment}
 use Rattle.qgm_wellformed.specs.Sentences.{WellFormed}
 use Rattle.qgm_props.specs.Inferred.{Facts}
@@ -23,8 +24,9 @@ use Rattle.rule_api.specs.Rules.{Preserves}
 use Rattle.rule_magic.specs.Boxes.{arms_box, left_box, pair_box}
 use Rattle.rule_magic.specs.FedBox.{IsFedAt}
 use Rattle.rule_magic.specs.Places.{MayAbsorb}
+use Rattle.rule_magic.specs.Region.{is_below}
 use Rattle.rule_magic.specs.UnderTags.{IsOuter}
-use Rattle.rule_magic.specs.AbsorbArms.{Renames, IsStill, IsRenamed, HasArms, role_over}
+use Rattle.rule_magic.specs.AbsorbArms.{Renames, IsFreshSelect, IsStill, IsRenamed, HasArms, role_over}
 
 -- G5 with an open right arm
 abbrev pub AbsorbsArms : Type 0
@@ -75,3 +77,24 @@ abbrev pub OuterLeftLowers : Type 0
 OuterLeftLowers =
     (g : QueryGraph) (known : Facts) (d : Node) (may : MayAbsorb g.boxes known d) (l r : OwnedQuant) (x y : Node) (up l1 l2 : List Node) → OuterAt g known d may l r x y up l1 l2
     → ((q : ℕ) → IsFree g.boxes y.id q → ⊥) → Lowers g.boxes (absorbed_left g known d may l r x y (role_over g.boxes x.id) up l1 l2).boxes
+
+-- where the right operand is open: the outer join of this select and of one of the magic box and y; box s, and its quantifiers p and u, are new
+abbrev pub absorbed_arms : (g : QueryGraph) (known : Facts) (d : Node) (may : MayAbsorb g.boxes known d) (l r : OwnedQuant) (x y : Node) (s u p : ℕ) (left right : Role) (up l1 l2 : List Node) → QueryGraph
+absorbed_arms g known d may l r x y s u p left right up l1 l2 =
+    on_boxes (λ boxes. up ++ (arms_box d.id may.a.id l.id (width may.m) (width x) r.id (width y) may.c (range l.id F may.c.id ∷ (range r.id F s ∷ []))
+    ∷ (pair_box s right p may.m.id (width may.m) u y.id (width y) ∷ (pair_box may.c.id left may.a.id may.m.id (width may.m) may.r.id x.id (width x) ∷ (l1 ++ l2))))) g
+
+-- and below y names of the magic box's quantifier become those of the new one
+abbrev pub renamed_arms : (g : QueryGraph) (known : Facts) (d : Node) (may : MayAbsorb g.boxes known d) (l r : OwnedQuant) (x y : Node) (s u p : ℕ) (left right : Role) (up l1 l2 : List Node) → QueryGraph
+renamed_arms g known d may l r x y s u p left right up l1 l2 =
+    on_boxes (λ boxes. map (λ (n : Node). if is_below g.boxes r.over n.id then put_node may.a.id (columns_from p 1 (width may.m)) n else n) (absorbed_arms g known d may l r x y s u p left right up l1 l2).boxes) g
+
+abbrev pub OuterArmsPreserves : Type 0
+OuterArmsPreserves =
+    (g : QueryGraph) (known : Facts) (d : Node) (may : MayAbsorb g.boxes known d) (l r : OwnedQuant) (x y : Node) (s u p : ℕ) (up l1 l2 : List Node) → OuterAt g known d may l r x y up l1 l2 → IsFreshSelect g s u p
+    → IsFree g.boxes y.id may.a.id → Preserves g (compact (renamed_arms g known d may l r x y s u p (role_over g.boxes x.id) (role_over g.boxes y.id) up l1 l2))
+
+abbrev pub OuterArmsLowers : Type 0
+OuterArmsLowers =
+    (g : QueryGraph) (known : Facts) (d : Node) (may : MayAbsorb g.boxes known d) (l r : OwnedQuant) (x y : Node) (s u p : ℕ) (up l1 l2 : List Node) → OuterAt g known d may l r x y up l1 l2 → IsFreshSelect g s u p
+    → IsFree g.boxes y.id may.a.id → Lowers g.boxes (renamed_arms g known d may l r x y s u p (role_over g.boxes x.id) (role_over g.boxes y.id) up l1 l2).boxes

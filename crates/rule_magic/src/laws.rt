@@ -1,11 +1,11 @@
 // The laws, as theorems.
 ghost use Rattle.rule_magic.specs.AbsorbGroup.{GroupBags, KeylessBags, GroupLowers, GroupPreserves, KeylessLowers, KeylessPreserves};
 ghost use Rattle.rule_magic.specs.AbsorbMeasure.{CompactLowers, GroupFiringLowers, SelectFiringLowers};
-ghost use Rattle.rule_magic.specs.AbsorbOuterJoin.{AbsorbsArms, AbsorbsLeft, OuterLeftLowers, OuterLeftPreserves};
+ghost use Rattle.rule_magic.specs.AbsorbOuterJoin.{AbsorbsArms, AbsorbsLeft, OuterArmsLowers, OuterArmsPreserves, OuterLeftLowers, OuterLeftPreserves};
 ghost use Rattle.rule_magic.specs.AbsorbSelect.{SelectBags, SelectLowers, SelectPreserves};
 ghost use Rattle.rule_magic.specs.AbsorbSetOperation.{AbsorbsSets, SetLowers, SetOpenLowers, SetOpenPreserves, SetOpenSound, SetPreserves, SetsGiven};
 ghost use Rattle.rule_magic.specs.CalmFires.{CalmFires};
-ghost use Rattle.rule_magic.specs.Region.{ArmHasRegion, RegionRenames, RegionStays};
+ghost use Rattle.rule_magic.specs.Region.{ArmHasRegion, RegionForms, RegionRenames, RegionStays};
 ghost use Rattle.rule_magic.specs.Renamed.{RenamedIsMade, RenamedIsTyped};
 ghost use Rattle.rule_magic.specs.UnderTags.{BothArmsUnderTags, DistinctUnderTags, KeyedGroupsUnderTags, LeftArmUnderTags, SelectsUnderTags, SetsUnderTags, SingleGroupsUnderTags};
 
@@ -20,7 +20,7 @@ pub fn row_laws()
     ensures both_arms { BothArmsUnderTags }
 {}
 
-/// G2 to G5: the box that stands in the place of a fed box has its bag, in every environment. G2, and G3 with keys and without, preserve the graph, and so do G4 and G5 where the right operand is closed, and G4 where the check finds nothing after it; the conditions of G4 give what its bag needs. Boxes below an open operand may be renamed, and keep their types. It does nothing.
+/// G2 to G5: the box that stands in the place of a fed box has its bag, in every environment. G2, and G3 with keys and without, preserve the graph, and so does G5, and G4 where its right operand is closed, and where the check finds nothing after it; the conditions of G4 give what its bag needs. Boxes below an open operand may be renamed, and keep their types. It does nothing.
 pub fn absorbing_laws()
     ensures select { SelectBags }
     ensures select_preserves { SelectPreserves }
@@ -36,14 +36,16 @@ pub fn absorbing_laws()
     ensures region { ArmHasRegion }
     ensures region_renames { RegionRenames }
     ensures region_stays { RegionStays }
+    ensures region_forms { RegionForms }
     ensures renamed { RenamedIsMade }
     ensures renamed_types { RenamedIsTyped }
     ensures outer_left { AbsorbsLeft }
     ensures outer_left_preserves { OuterLeftPreserves }
     ensures outer_arms { AbsorbsArms }
+    ensures outer_arms_preserves { OuterArmsPreserves }
 {}
 
-/// G2 to G4, and G5 where its right operand is closed, lower the measure; a graph that is lower stays lower without the boxes that its root doesn't reach, so each firing of G2 and G3 lowers it. It does nothing.
+/// G2 to G5 lower the measure; a graph that is lower stays lower without the boxes that its root doesn't reach, so each firing of G2 and G3 lowers it. It does nothing.
 pub fn measure_laws()
     ensures select { SelectLowers }
     ensures group { GroupLowers }
@@ -51,6 +53,7 @@ pub fn measure_laws()
     ensures set { SetLowers }
     ensures set_open { SetOpenLowers }
     ensures outer_left { OuterLeftLowers }
+    ensures outer_arms { OuterArmsLowers }
     ensures compacted { CompactLowers }
     ensures select_fires { SelectFiringLowers }
     ensures group_fires { GroupFiringLowers }
