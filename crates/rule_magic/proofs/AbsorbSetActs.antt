@@ -27,8 +27,9 @@ use Rattle.qgm_wellformed.specs.Shapes as shape
 use Rattle.qgm_wellformed.specs.Shapes.{arm_fits, is_none, kind_fits}
 use Rattle.qgm_wellformed.proofs.Faults.{well-ordered}
 use Rattle.rule_api.specs.declared.place.Place.{Place}
+use Rattle.rule_magic.specs.AbsorbArms.{IsFreshSelect}
 use Rattle.rule_magic.specs.AbsorbExact.{feeding_by, inferred-told}
-use Rattle.rule_magic.specs.AbsorbSetOperation.{IsFreshSelect, MayAbsorbSetAt, absorbed_set}
+use Rattle.rule_magic.specs.AbsorbSetOperation.{MayAbsorbSetAt, absorbed_set}
 use Rattle.rule_magic.specs.AbsorbSetSteps.{CanAbsorbSet, IsSelectNew, put_selects, with_select, with_set}
 use Rattle.rule_magic.specs.Boxes.{new_parts, no_conds, of_both, pair_box, set_box}
 use Rattle.rule_magic.specs.Feeding.{Feeding, inferred_facts}

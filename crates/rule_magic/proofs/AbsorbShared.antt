@@ -1,13 +1,15 @@
 -- What all absorbing rules keep: tables that satisfy the bases, closed boxes, and scalar quantifiers.
-use Rattle.std.proofs.Common.{ℕ, ◌+◌, ◌==◌, ◌≡◌, ◌≤◌, ◌&&◌, cond, map, not, true, false, List, [], ◌∷◌, ◌++◌, None, subst, sym, ap, ◌∙◌, inl, inr, arith}
+use Rattle.std.proofs.Common.{ℕ, ◌+◌, ◌==◌, ◌≡◌, ◌≤◌, ◌&&◌, ◌⊎◌, cond, map, not, true, false, List, [], ◌∷◌, ◌++◌, None, refl, subst, sym, ap, ◌∙◌, inl, inr, arith}
 use Rattle.std.proofs.lemmas.Bool.{cases_Bool}
 use Rattle.row_bag.specs.Bags.{Agree}
 use Rattle.row_bag.specs.Sets.{same_cells}
 use Rattle.row_bag.specs.declared.tables.Table.{Table}
 use Rattle.qgm_core.specs.Boxes.{QueryGraph, ids_in, is_box, numbers}
 use Rattle.qgm_core.specs.Edits.{compact}
-use Rattle.qgm_core.specs.Kinds.{is_S}
+use Rattle.qgm_core.specs.Kinds.{is_S, is_magic, is_plain}
 use Rattle.list_laws.specs.Lists.{EachOnce, In, first, times}
+use Rattle.qgm_core.specs.declared.kinds.Role.{Role}
+use Rattle.qgm_core.specs.declared.kinds.Role.TheVariants.{Fed, Magic, Plain}
 use Rattle.qgm_core.specs.declared.node.Node.{Node}
 use Rattle.qgm_core.specs.declared.owned.OwnedQuant.{OwnedQuant}
 use Rattle.qgm_wellformed.specs.WellFormed.{fault}
@@ -22,6 +24,7 @@ use Rattle.qgm_props.specs.Calm.{is_closed}
 use Rattle.rule_api.specs.Rules.{Preserves}
 use Rattle.qgm_props.specs.Measure.{is_loose_scalar, keyless_found}
 use Rattle.rule_facts.proofs.Compacted.{compact-preserves}
+use Rattle.rule_magic.specs.AbsorbArms.{role_over}
 use Rattle.rule_magic.proofs.CalmFires.{closed-is}
 use Rattle.list_laws.proofs.Booleans.{clash}
 use Rattle.list_laws.proofs.Membership.{eq-itself}
@@ -54,6 +57,19 @@ module _ (bs : List Node) (root : ℕ) (w : Sound bs root) where
 
   pub looks-closed : (b : ℕ) → ((q : ℕ) → loose bs b q ≡ false) → is_closed bs b ≡ true
   looks-closed b h = elim (cases_Bool (is_closed bs b)) [ inl t ↦ t | inr f ↦ absurd (let x = open-looks bs root w b f in clash (loose bs b x.0) x.1 (h x.0)) ]
+
+-- a select over box b is plain, or fed where b is open
+abbrev pub IsRoleOver : List Node → ℕ → Role → Type 0
+IsRoleOver bs b role = (role ≡ Plain) ⊎ ((role ≡ Fed) × ((q : ℕ) × (loose bs b q ≡ true)))
+
+pub role-over-is : (bs : List Node) (root : ℕ) → Sound bs root → (b : ℕ) → IsRoleOver bs b (role_over bs b)
+role-over-is bs root w b = elim (cases_Bool (is_closed bs b)) [ inl t ↦ inl (ap (λ c. cond c Plain Fed) t) | inr f ↦ inr (ap (λ c. cond c Plain Fed) f, open-looks bs root w b f) ]
+
+-- a plain box isn't magic
+pub plain-not-magic : (k : Role) → is_plain k ≡ true → is_magic k ≡ false
+plain-not-magic Plain h = refl
+plain-not-magic Magic h = absurd (let z : ⊥ = cc in z)
+plain-not-magic Fed h = refl
 
 -- under a quantifier whose box is as it was, a group without keys is found as before
 pub loose-scalar : (bs hs : List Node) (r : OwnedQuant) → keyless_found (first (is_box r.over) hs) ≡ keyless_found (first (is_box r.over) bs) → is_loose_scalar hs r ≡ true → is_loose_scalar bs r ≡ true

@@ -32,6 +32,16 @@ pub mod AbsorbGroupFormed
 pub mod AbsorbGroupKeeps
 pub mod KeyedFormed
 pub mod CountedFormed
+pub mod FrontColumns
+pub mod OuterFormed
+pub mod PutColumns
+pub mod LedColumns
+pub mod AbsorbOuterFacts
+pub mod AbsorbLeftFormed
+pub mod AbsorbLeftKeeps
+pub mod AbsorbArmsPlaced
+pub mod AbsorbArmsFormed
+pub mod AbsorbArmsKeeps
 pub mod JoinedFormed
 pub mod AbsorbKeylessFormed
 pub mod MagicWidth

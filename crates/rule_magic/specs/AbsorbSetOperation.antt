@@ -42,7 +42,7 @@ use Rattle.rule_magic.specs.Boxes.{box_as, pair_box, set_box}
 use Rattle.rule_magic.specs.FedBox.{IsFedAt}
 use Rattle.rule_magic.specs.Region.{is_below}
 use Rattle.rule_magic.specs.UnderTags.{NoneAmong}
-use Rattle.rule_magic.specs.AbsorbArms.{Renames, IsStill, IsRenamed, HasArms, role_over}
+use Rattle.rule_magic.specs.AbsorbArms.{Renames, IsFreshSelect, IsStill, IsRenamed, HasArms, role_over}
 
 -- ---- the condition
 
@@ -107,13 +107,6 @@ tagged_set g known d may form mt l r x y s u p up l1 l2 =
     if is_closed g.boxes y.id
     then absorbed_set g known d may form mt l r x y s u p (role_over g.boxes x.id) (role_over g.boxes y.id) up l1 l2
     else renamed_set g known d may form mt l r x y s u p (role_over g.boxes x.id) (role_over g.boxes y.id) up l1 l2
-
--- numbers of a box and of two quantifiers that the graph doesn't have
-pub record IsFreshSelect (g : QueryGraph) (s u p : ℕ) : Type 0 where
-  pub s_new : has_box g.boxes s ≡ false
-  pub u_new : times u (ids_in g.boxes) ≡ 0
-  pub p_new : times p (ids_in g.boxes) ≡ 0
-  pub apart : (u == p) ≡ false
 
 -- c is a set operation of x and y, by l and r: so it is in h, without the boxes that the root doesn't reach; mt are the types of the magic box before those of c
 pub record AbsorbsSetAt (p : Place) (g h : QueryGraph) (d : Node) : Type 0 where

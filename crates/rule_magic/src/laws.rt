@@ -1,7 +1,7 @@
 // The laws, as theorems.
 ghost use Rattle.rule_magic.specs.AbsorbGroup.{GroupBags, KeylessBags, GroupLowers, GroupPreserves, KeylessLowers, KeylessPreserves};
 ghost use Rattle.rule_magic.specs.AbsorbMeasure.{CompactLowers, GroupFiringLowers, SelectFiringLowers, SetFiringLowers};
-ghost use Rattle.rule_magic.specs.AbsorbOuterJoin.{AbsorbsArms, AbsorbsLeft};
+ghost use Rattle.rule_magic.specs.AbsorbOuterJoin.{AbsorbsArms, AbsorbsLeft, OuterArmsLowers, OuterArmsPreserves, OuterLeftLowers, OuterLeftPreserves};
 ghost use Rattle.rule_magic.specs.AbsorbSelect.{SelectBags, SelectLowers, SelectPreserves};
 ghost use Rattle.rule_magic.specs.AbsorbSetOperation.{SetBags, SetLowers, SetOpenLowers, SetOpenPreserves, SetOpenSound, SetPreserves, SetsGiven};
 ghost use Rattle.rule_magic.specs.CalmFires.{CalmFires};
@@ -20,7 +20,7 @@ pub fn row_laws()
     ensures both_arms { BothArmsUnderTags }
 {}
 
-/// G2 to G5: the box that stands in the place of a fed box has its bag, in every environment. G2, and G3 with keys and without, preserve the graph, and so does G4 where its right operand is closed, and where it is open; the conditions of G4 give what its bag needs. Boxes below an open operand may be renamed, and keep their types and forms. It does nothing.
+/// G2 to G5: the box that stands in the place of a fed box has its bag, in every environment. G2, and G3 with keys and without, preserve the graph, and so do G4 and G5, where their right operand is closed, and where it is open; the conditions of G4 give what its bag needs. Boxes below an open operand may be renamed, and keep their types and forms. It does nothing.
 pub fn absorbing_laws()
     ensures select { SelectBags }
     ensures select_preserves { SelectPreserves }
@@ -40,16 +40,20 @@ pub fn absorbing_laws()
     ensures renamed { RenamedIsMade }
     ensures renamed_types { RenamedIsTyped }
     ensures outer_left { AbsorbsLeft }
+    ensures outer_left_preserves { OuterLeftPreserves }
     ensures outer_arms { AbsorbsArms }
+    ensures outer_arms_preserves { OuterArmsPreserves }
 {}
 
-/// G2 to G4 lower the measure; a graph that is lower stays lower without the boxes that its root doesn't reach, so each firing of them lowers it. It does nothing.
+/// G2 to G5 lower the measure; a graph that is lower stays lower without the boxes that its root doesn't reach, so each firing of G2, G3 and G4 lowers it. It does nothing.
 pub fn measure_laws()
     ensures select { SelectLowers }
     ensures group { GroupLowers }
     ensures keyless { KeylessLowers }
     ensures set { SetLowers }
     ensures set_open { SetOpenLowers }
+    ensures outer_left { OuterLeftLowers }
+    ensures outer_arms { OuterArmsLowers }
     ensures compacted { CompactLowers }
     ensures select_fires { SelectFiringLowers }
     ensures group_fires { GroupFiringLowers }

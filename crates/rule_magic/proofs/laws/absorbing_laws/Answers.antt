@@ -2,6 +2,8 @@ use Rattle.rule_magic.proofs.AbsorbSetFacts.{sets-given}
 use Rattle.rule_magic.proofs.AbsorbArmBags.{absorbs-arms, absorbs-left, absorbs-sets}
 use Rattle.rule_magic.proofs.AbsorbBags.{absorbs-group, absorbs-keyless, absorbs-select}
 use Rattle.rule_magic.proofs.AbsorbGroupKeeps.{group-preserves}
+use Rattle.rule_magic.proofs.AbsorbArmsKeeps.{outer-arms-preserves}
+use Rattle.rule_magic.proofs.AbsorbLeftKeeps.{outer-left-preserves}
 use Rattle.rule_magic.proofs.AbsorbKeylessKeeps.{keyless-preserves}
 use Rattle.rule_magic.proofs.AbsorbSelectKeeps.{select-preserves}
 use Rattle.rule_magic.proofs.AbsorbOpenKeeps.{set-open-preserves}
@@ -69,3 +71,9 @@ returns-clause-renamed c = renamed-is-made
 
 pub returns-clause-renamed_types : goal.returns-clause-renamed_types
 returns-clause-renamed_types c = renamed-is-typed
+
+pub returns-clause-outer_left_preserves : goal.returns-clause-outer_left_preserves
+returns-clause-outer_left_preserves c = outer-left-preserves
+
+pub returns-clause-outer_arms_preserves : goal.returns-clause-outer_arms_preserves
+returns-clause-outer_arms_preserves c = outer-arms-preserves

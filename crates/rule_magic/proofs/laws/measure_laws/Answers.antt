@@ -1,4 +1,6 @@
 use Rattle.rule_magic.proofs.AbsorbGroupKeeps.{group-lowers}
+use Rattle.rule_magic.proofs.AbsorbArmsKeeps.{outer-arms-lowers}
+use Rattle.rule_magic.proofs.AbsorbLeftKeeps.{outer-left-lowers}
 use Rattle.rule_magic.proofs.AbsorbKeylessKeeps.{keyless-lowers}
 use Rattle.rule_magic.proofs.AbsorbSelectKeeps.{select-lowers}
 use Rattle.rule_magic.proofs.AbsorbOpenLowers.{set-open-lowers}
@@ -33,3 +35,9 @@ returns-clause-set_open c = set-open-lowers
 
 pub returns-clause-set_fires : goal.returns-clause-set_fires
 returns-clause-set_fires c = set-firing-lowers
+
+pub returns-clause-outer_left : goal.returns-clause-outer_left
+returns-clause-outer_left c = outer-left-lowers
+
+pub returns-clause-outer_arms : goal.returns-clause-outer_arms
+returns-clause-outer_arms c = outer-arms-lowers
