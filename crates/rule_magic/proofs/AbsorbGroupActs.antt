@@ -24,8 +24,8 @@ use Rattle.rule_api.specs.Rules.{Preserves}
 use Rattle.rule_api.specs.declared.place.Place.{Place}
 use Rattle.rule_magic.specs.AbsorbExact.{feeding_by, inferred-told, is-feeding, may-found}
 use Rattle.rule_magic.specs.AbsorbGroup.{AbsorbsGroup, AbsorbsKeyedAt, AbsorbsKeylessAt, AreFresh, MayAbsorbGroup, MayAbsorbGroupAt, absorbed_group, absorbed_keyless}
-use Rattle.rule_magic.specs.AbsorbGroupSteps.{AreNumbersNew, CanAbsorbGroup, Grouping, StepsKeyless, fed_below, grouping, grouping_by, keyed_steps, keyless_steps, new_parts, no_conds, over_found, over_one, with_boxes, with_cells, with_join}
-use Rattle.rule_magic.specs.Boxes.{counted, counted_box, joined_box, keyed, keyed_box, later, pair_box, same_each}
+use Rattle.rule_magic.specs.AbsorbGroupSteps.{AreNumbersNew, CanAbsorbGroup, Grouping, StepsKeyless, fed_below, grouping, grouping_by, keyed_steps, keyless_steps, over_found, over_one, with_boxes, with_cells, with_join}
+use Rattle.rule_magic.specs.Boxes.{counted, counted_box, joined_box, keyed, keyed_box, later, new_parts, no_conds, pair_box, same_each}
 use Rattle.rule_magic.specs.Feeding.{Feeding, feeding, inferred_facts}
 use Rattle.rule_magic.specs.declared.absorb_group.keyless.NewNumbers.{NewNumbers}
 use Rattle.rule_magic.proofs.AbsorbGroupBelow as below

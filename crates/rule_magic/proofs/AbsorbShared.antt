@@ -1,13 +1,13 @@
 -- What all absorbing rules keep: tables that satisfy the bases, closed boxes, and scalar quantifiers.
-use Rattle.std.proofs.Common.{ℕ, ◌≡◌, ◌&&◌, ◌⊎◌, cond, not, true, false, List, [], ◌∷◌, ◌++◌, None, refl, sym, ap, ◌∙◌, inl, inr}
+use Rattle.std.proofs.Common.{ℕ, ◌+◌, ◌==◌, ◌≡◌, ◌≤◌, ◌&&◌, ◌⊎◌, cond, map, not, true, false, List, [], ◌∷◌, ◌++◌, None, refl, subst, sym, ap, ◌∙◌, inl, inr, arith}
 use Rattle.std.proofs.lemmas.Bool.{cases_Bool}
 use Rattle.row_bag.specs.Bags.{Agree}
 use Rattle.row_bag.specs.Sets.{same_cells}
 use Rattle.row_bag.specs.declared.tables.Table.{Table}
-use Rattle.qgm_core.specs.Boxes.{QueryGraph, is_box, numbers}
+use Rattle.qgm_core.specs.Boxes.{QueryGraph, ids_in, is_box, numbers}
 use Rattle.qgm_core.specs.Edits.{compact}
 use Rattle.qgm_core.specs.Kinds.{is_S, is_magic, is_plain}
-use Rattle.list_laws.specs.Lists.{EachOnce, first}
+use Rattle.list_laws.specs.Lists.{EachOnce, In, first, times}
 use Rattle.qgm_core.specs.declared.kinds.Role.{Role}
 use Rattle.qgm_core.specs.declared.kinds.Role.TheVariants.{Fed, Magic, Plain}
 use Rattle.qgm_core.specs.declared.node.Node.{Node}
@@ -16,6 +16,7 @@ use Rattle.qgm_wellformed.specs.WellFormed.{fault}
 use Rattle.qgm_edit_laws.specs.Graph.{Sound}
 use Rattle.qgm_edit_laws.proofs.Formed.{sound-checked}
 use Rattle.qgm_edit_laws.proofs.FreeLoose.{looks-free, open-looks}
+use Rattle.qgm_edit_laws.proofs.Scoped.{few-ids}
 use Rattle.qgm_meaning.specs.Meaning.{root_bag}
 use Rattle.qgm_meaning.specs.Satisfies.{Satisfies}
 use Rattle.qgm_meaning.specs.Scope.{loose}
@@ -26,6 +27,7 @@ use Rattle.rule_facts.proofs.Compacted.{compact-preserves}
 use Rattle.rule_magic.specs.AbsorbArms.{role_over}
 use Rattle.rule_magic.proofs.CalmFires.{closed-is}
 use Rattle.list_laws.proofs.Booleans.{clash}
+use Rattle.list_laws.proofs.Membership.{eq-itself}
 
 -- ---- tables
 
@@ -72,3 +74,14 @@ plain-not-magic Fed h = refl
 -- under a quantifier whose box is as it was, a group without keys is found as before
 pub loose-scalar : (bs hs : List Node) (r : OwnedQuant) → keyless_found (first (is_box r.over) hs) ≡ keyless_found (first (is_box r.over) bs) → is_loose_scalar hs r ≡ true → is_loose_scalar bs r ≡ true
 loose-scalar bs hs r e h = sym (ap (λ b. is_S r.kind && not b) e) ∙ h
+
+-- two quantifiers of a box have two numbers
+pub apart-two : (bs : List Node) (n : Node) (l r : OwnedQuant) → times r.id (ids_in bs) ≤ 1 → In n bs → n.quants ≡ l ∷ (r ∷ []) → (l.id == r.id) ≡ false
+apart-two bs n l r once i two = elim (cases_Bool (l.id == r.id)) [
+  | inr f ↦ f
+  | inl e ↦ absurd (
+      let few = few-ids bs n r.id once i in
+      let z : times r.id (l.id ∷ (r.id ∷ [])) ≤ 1 = subst (λ (k : List OwnedQuant). times r.id (map (λ (q : OwnedQuant). q.id) k) ≤ 1) two few in
+      let n : 1 + (1 + 0) ≤ 1 = subst (λ b. cond b 1 0 + (1 + 0) ≤ 1) e (subst (λ b. cond (l.id == r.id) 1 0 + (cond b 1 0 + 0) ≤ 1) (eq-itself r.id) z) in
+      omega (arith, n))
+]

@@ -1,4 +1,4 @@
--- A firing of G2 or G3 lowers the measure.
+-- A firing of G2, G3 or G4 lowers the measure.
 use Rattle.std.proofs.Common.{◌≡◌, ◌<◌, None, ap, sym, subst, ◌∙◌, inl, inr}
 use Rattle.qgm_core.specs.Boxes.{QueryGraph, numbers}
 use Rattle.qgm_core.specs.Edits.{compact}
@@ -14,13 +14,16 @@ use Rattle.qgm_props.specs.Measure.{Lowers, measure}
 use Rattle.qgm_props.proofs.MeasureLaws.{measure-falls}
 use Rattle.rule_magic.specs.AbsorbExact.{inferred-told}
 use Rattle.rule_magic.specs.AbsorbGroup.{AbsorbsGroup, GroupAt, KeylessAt, absorbed_group, absorbed_keyless}
-use Rattle.rule_magic.specs.AbsorbMeasure.{GroupFiringLowers, SelectFiringLowers}
+use Rattle.rule_magic.specs.AbsorbMeasure.{GroupFiringLowers, SelectFiringLowers, SetFiringLowers}
 use Rattle.rule_magic.specs.AbsorbSelect.{AbsorbsSelect, SelectAt, absorbed_select}
+use Rattle.rule_magic.specs.AbsorbSetOperation.{AbsorbsSet, tagged_set}
 use Rattle.rule_magic.specs.Feeding.{inferred_facts}
 use Rattle.rule_magic.specs.Places.{AbsorbsBy}
 use Rattle.rule_magic.proofs.AbsorbGroupKeeps as keyed
 use Rattle.rule_magic.proofs.AbsorbKeylessKeeps as keyless
 use Rattle.rule_magic.proofs.AbsorbSelectKeeps as select
+use Rattle.rule_magic.proofs.AbsorbSetPlaces.{action-at}
+use Rattle.rule_magic.proofs.AbsorbSetTagged.{set-absorbed}
 use Rattle.rule_magic.proofs.CompactMeasure.{compact-lowers}
 
 -- a graph that is lower and in which the check finds nothing is lower without the boxes that the root doesn't reach
@@ -88,3 +91,13 @@ group-firing-lowers = λ p g h once wf acts. (
           (falls g after (numbers-once after.boxes (keyless.ordered-after g known d may x.q x.x x.o x.n x.om x.oc x.t x.up x.l1 x.l2 at)) (keyless.faultless-after g known d may x.q x.x x.o x.n x.om x.oc x.t x.up x.l1 x.l2 at)
           (keyless.lowers g known d may x.q x.x x.o x.n x.om x.oc x.t x.up x.l1 x.l2 at)))
     ])
+
+pub set-firing-lowers : SetFiringLowers
+unfolding AbsorbsSet
+set-firing-lowers = λ p g h once wf acts. (
+    let d = acts.0 in
+    let x = acts.1 in
+    let known = inferred_facts g.boxes in
+    let after = tagged_set g known d x.may.ready x.may.form x.mt x.l x.r x.x x.y x.s x.u x.t x.up x.l1 x.l2 in
+    let k = set-absorbed g known d x.may.ready x.may.form x.may.types x.mt x.l x.r x.x x.y x.s x.u x.t x.up x.l1 x.l2 (action-at g h once wf p d x) in
+    subst (λ (z : QueryGraph). measure z < measure g) (sym x.after) (falls g after k.once k.faultless k.lowers))

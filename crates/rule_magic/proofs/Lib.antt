@@ -17,6 +17,8 @@ pub mod FedCondition
 pub mod HeadSteps
 pub mod Region
 pub mod AbsorbOpenSet
+pub mod RenamedFormed
+pub mod AbsorbOpenFormed
 pub mod AbsorbOpenKeeps
 pub mod AbsorbOpenLowers
 pub mod RenamedMade
@@ -37,7 +39,6 @@ pub mod LedColumns
 pub mod AbsorbOuterFacts
 pub mod AbsorbLeftFormed
 pub mod AbsorbLeftKeeps
-pub mod RenamedFormed
 pub mod AbsorbArmsPlaced
 pub mod AbsorbArmsFormed
 pub mod AbsorbArmsKeeps
@@ -51,3 +52,8 @@ pub mod AbsorbGroupBelow
 pub mod AbsorbGroupActs
 pub mod CompactMeasure
 pub mod FiringMeasure
+pub mod FedTypes
+pub mod RenameSteps
+pub mod AbsorbSetActs
+pub mod AbsorbSetTagged
+pub mod AbsorbSetPlaces

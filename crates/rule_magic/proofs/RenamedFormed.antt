@@ -1,11 +1,11 @@
 -- A renamed box below an open operand has its form in the graph after it.
-use Rattle.std.proofs.Common.{ℕ, ◌-◌, ◌==◌, ◌≡◌, ◌&&◌, ◌||◌, nat_lt, cond, not, Bool, true, false, List, [], ◌∷◌, Option, Some, None, refl, sym, ap, subst, ◌∙◌, eqb-true, inl, inr}
+use Rattle.std.proofs.Common.{ℕ, ◌-◌, ◌==◌, ◌≡◌, ◌&&◌, nat_lt, cond, not, Bool, true, false, List, [], ◌∷◌, Option, Some, None, refl, sym, ap, subst, ◌∙◌, eqb-true, inl, inr}
 use Rattle.std.specs.Prelude.{slice_get}
 use Rattle.std.proofs.lemmas.Bool.{and_from, and_parts, cases_Bool, eq-eqb, or_cases, or_left, or_right}
 use Rattle.sql_value.specs.declared.order_key.SqlType.{SqlType}
 use Rattle.qgm_core.specs.Boxes.{is_box, is_quant, owns, width}
 use Rattle.qgm_core.specs.Free.{free_in, named_by}
-use Rattle.qgm_core.specs.Kinds.{is_F_or_S, is_S, is_fed, is_magic, is_permit, width_by}
+use Rattle.qgm_core.specs.Kinds.{is_F_or_S, is_S, is_fed, is_permit, width_by}
 use Rattle.list_laws.specs.Lists.{In, first, holds}
 use Rattle.qgm_core.specs.declared.node.Node.{Node}
 use Rattle.qgm_core.specs.declared.owned.OwnedQuant.{OwnedQuant}
