@@ -20,7 +20,7 @@ pub fn row_laws()
     ensures both_arms { BothArmsUnderTags }
 {}
 
-/// G2 to G5: the box that stands in the place of a fed box has its bag, in every environment. G2, and G3 with keys and without, preserve the graph, and so do G4 and G5, where their right operand is closed, and where it is open; the conditions of G4 give what its bag needs. Boxes below an open operand may be renamed, and keep their types and forms. It does nothing.
+/// G2 to G5: the box that stands in the place of a fed box has its bag, in every environment, and the graph is preserved: by G3 with keys and without, by G4 and G5 with a closed right operand and with an open one; the conditions of G4 give what its bag needs. Boxes below an open operand may be renamed, and keep their types and forms. It does nothing.
 pub fn absorbing_laws()
     ensures select { SelectBags }
     ensures select_preserves { SelectPreserves }
@@ -45,7 +45,7 @@ pub fn absorbing_laws()
     ensures outer_arms_preserves { OuterArmsPreserves }
 {}
 
-/// G2 to G5 lower the measure; a graph that is lower stays lower without the boxes that its root doesn't reach, so each firing of G2, G3 and G4 lowers it. It does nothing.
+/// G2 to G5 lower the measure; a graph that is lower stays lower without the boxes that its root doesn't reach, so each firing of G2 to G4 lowers it. It does nothing.
 pub fn measure_laws()
     ensures select { SelectLowers }
     ensures group { GroupLowers }

@@ -33,11 +33,11 @@ returns-clause-set c = set-lowers
 pub returns-clause-set_open : goal.returns-clause-set_open
 returns-clause-set_open c = set-open-lowers
 
-pub returns-clause-set_fires : goal.returns-clause-set_fires
-returns-clause-set_fires c = set-firing-lowers
-
 pub returns-clause-outer_left : goal.returns-clause-outer_left
 returns-clause-outer_left c = outer-left-lowers
 
 pub returns-clause-outer_arms : goal.returns-clause-outer_arms
 returns-clause-outer_arms c = outer-arms-lowers
+
+pub returns-clause-set_fires : goal.returns-clause-set_fires
+returns-clause-set_fires c = set-firing-lowers
