@@ -37,7 +37,7 @@ use Rattle.qgm_meaning.proofs.Unfold.{rows-local, unfold-bag}
 use Rattle.qgm_terms.specs.Wanted.{reads}
 use Rattle.rule_magic.specs.AbsorbArms.{HasArms, IsRenamed, IsStill, Renames}
 use Rattle.rule_magic.specs.AbsorbOuterJoin.{AbsorbsArms, AbsorbsLeft}
-use Rattle.rule_magic.specs.AbsorbSetOperation.{AbsorbsSets}
+use Rattle.rule_magic.specs.AbsorbSetOperation.{SetBags}
 use Rattle.rule_magic.specs.Boxes.{arms_box, box_as, left_box, pair_box}
 use Rattle.rule_magic.specs.FedBox.{IsFedAt}
 use Rattle.rule_magic.specs.UnderTags.{IsOuter, NoneAmong}
@@ -332,7 +332,7 @@ module _ (tables : List Table) (g h : QueryGraph) (d m c x y : Node) (a r l1 r1 
   left-absorbed boxes b known i n e = all-absorbed tables g h d m c x y a r l1 r1 (suc a.id) q1 a.id s (λ n. false) left Plain at arms nothing_renamed oh aq1 (before-suc a.id) s_new refl lefts refl lefts-rows
       (λ z j. elim (boxes z j) [ inl o ↦ inl o | inr o ↦ inr (inr (elim o [ inl k ↦ inl k | inr k ↦ inr (inl k) ])) ]) b known i n refl e
 
-pub absorbs-sets : AbsorbsSets
+pub absorbs-sets : SetBags
 absorbs-sets = λ tables g h d m c x y a r l1 r1 p q1 q2 u1 u2 s marked form types mt left right at arms renames kind oh aq pq two fresh free clean boxes b known i n l e.
     agree-from_alike same_cells (sets-absorbed tables g h d m c x y a r l1 r1 p q1 q2 s marked left right at arms renames oh aq pq fresh free form types mt kind u1 u2 two clean boxes b known i n l e)
 

@@ -18,8 +18,8 @@ use Rattle.qgm_wellformed.proofs.Faults.{well-ordered}
 use Rattle.qgm_edit_laws.specs.Graph.{Sound}
 use Rattle.qgm_edit_laws.proofs.Scope.{one-owner}
 use Rattle.rule_magic.specs.AbsorbExact.{feeding_by, inferred-told}
-use Rattle.rule_magic.specs.AbsorbGroupSteps.{CanAbsorbGroup, fed_below, no_conds}
-use Rattle.rule_magic.specs.Boxes.{of_both, pair_box}
+use Rattle.rule_magic.specs.AbsorbGroupSteps.{CanAbsorbGroup, fed_below}
+use Rattle.rule_magic.specs.Boxes.{no_conds, of_both, pair_box}
 use Rattle.rule_magic.specs.Feeding.{Feeding, inferred_facts}
 use Rattle.rule_magic.specs.Places.{MayAbsorb}
 use Rattle.rule_magic.proofs.AbsorbFacts as fed

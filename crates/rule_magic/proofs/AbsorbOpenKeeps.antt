@@ -1,5 +1,5 @@
--- G4 with an open right operand: where the check finds nothing after it, it preserves.
-use Rattle.std.proofs.Common.{ℕ, ◌==◌, ◌≡◌, ◌&&◌, ◌||◌, cond, true, false, List, [], ◌∷◌, ◌++◌, map, None, refl, sym, ap, subst, ◌∙◌, inl, inr}
+-- G4 with an open right operand preserves.
+use Rattle.std.proofs.Common.{ℕ, ◌==◌, ◌≡◌, ◌&&◌, ◌||◌, cond, true, false, List, [], ◌∷◌, ◌++◌, map, refl, sym, ap, subst, ◌∙◌, inl, inr}
 use Rattle.std.specs.List.{list_any}
 use Rattle.std.proofs.lemmas.Bool.{cases_Bool, or_cases, or_left, or_right}
 use Rattle.row_bag.specs.Bags.{Agree}
@@ -13,7 +13,6 @@ use Rattle.qgm_core.specs.declared.kinds.Role.{Role}
 use Rattle.qgm_core.specs.declared.kinds.SetOperator.{SetOperator}
 use Rattle.qgm_core.specs.declared.node.Node.{Node}
 use Rattle.qgm_core.specs.declared.owned.OwnedQuant.{OwnedQuant}
-use Rattle.qgm_wellformed.specs.WellFormed.{fault}
 use Rattle.qgm_edit_laws.specs.Graph.{Sound}
 use Rattle.qgm_edit_laws.proofs.AnyPut.{conds-names, heads-names}
 use Rattle.qgm_edit_laws.proofs.FreeLoose.{free-looks}
@@ -26,19 +25,20 @@ use Rattle.qgm_meaning.specs.Searches.{binds, binds_cond, names, names_cond}
 use Rattle.qgm_meaning.specs.Tags.{columns_from}
 use Rattle.qgm_props.specs.Inferred.{Facts}
 use Rattle.rule_api.specs.Rules.{Preserves}
-use Rattle.rule_magic.specs.AbsorbArms.{HasArms, IsStill, Renames}
+use Rattle.rule_magic.specs.AbsorbArms.{HasArms, IsStill, Renames, role_over}
 use Rattle.rule_magic.specs.AbsorbSetOperation.{SetAt, SetOpenPreserves, renamed_set}
 use Rattle.rule_magic.specs.Boxes.{pair_box, set_box}
 use Rattle.rule_magic.specs.Places.{MayAbsorb}
 use Rattle.rule_magic.specs.Region.{IsRegion, is_below}
 use Rattle.rule_magic.proofs.AbsorbArmBags.{absorbs-sets}
 use Rattle.rule_magic.proofs.AbsorbFacts as fed
+use Rattle.rule_magic.proofs.AbsorbOpenFormed.{open-formed}
 use Rattle.rule_magic.proofs.AbsorbOpenSet as after
 use Rattle.rule_magic.proofs.AbsorbOpenSet.{and-none}
 use Rattle.rule_magic.proofs.AbsorbSelectFormed as one
 use Rattle.rule_magic.proofs.AbsorbSetFacts.{sets-given}
 use Rattle.rule_magic.proofs.AbsorbSetFormed as made
-use Rattle.rule_magic.proofs.AbsorbShared.{satisfies-both, satisfies-left, satisfies-right, then-compact}
+use Rattle.rule_magic.proofs.AbsorbShared.{IsRoleOver, role-over-is, satisfies-both, satisfies-left, satisfies-right, then-compact}
 use Rattle.list_laws.proofs.Booleans.{clash}
 use Rattle.list_laws.proofs.Membership.{any-in}
 
@@ -154,8 +154,13 @@ module _ (g : QueryGraph) (known : Facts) (d : Node) (may : MayAbsorb g.boxes kn
       (satisfies-left tables up (d ∷ (l1 ++ c ∷ l2)) all)
       (tt, (tt, (tt, satisfies-both tables l1 l2 (satisfies-left tables l1 (c ∷ l2) low) (satisfies-right tables l1 (c ∷ l2) low).1))))
 
-  pub preserves : fault h ≡ None → Preserves g (compact h)
-  preserves faultless = then-compact g h faultless (numbers-once h.boxes (after.ordered g known d may form ts mt l r1 x y s u p lr rr up l1 l2 at opened)) bags bases refl refl
+  -- where the roles of both selects fit, the check finds nothing after it
+  pub preserves : IsRoleOver g.boxes x.id lr → IsRoleOver g.boxes y.id rr → Preserves g (compact h)
+  preserves left right = then-compact g h (open-formed g known d may form ts mt l r1 x y s u p lr rr up l1 l2 at opened left right) (numbers-once h.boxes (after.ordered g known d may form ts mt l r1 x y s u p lr rr up l1 l2 at opened)) bags bases refl refl
 
 pub set-open-preserves : SetOpenPreserves
-set-open-preserves = λ g known d may form ts mt l r1 x y s u p lr rr up l1 l2 at h. preserves g known d may form ts mt l r1 x y s u p lr rr up l1 l2 at (free-looks g.boxes g.root (made.w g known d may form ts mt l r1 x y s u p lr rr up l1 l2 at) y.id may.a.id h)
+set-open-preserves = λ g known d may form ts mt l r1 x y s u p up l1 l2 at h. (
+    let lr = role_over g.boxes x.id in
+    let rr = role_over g.boxes y.id in
+    let w = made.w g known d may form ts mt l r1 x y s u p lr rr up l1 l2 at in
+    preserves g known d may form ts mt l r1 x y s u p lr rr up l1 l2 at (free-looks g.boxes g.root w y.id may.a.id h) (role-over-is g.boxes g.root w x.id) (role-over-is g.boxes g.root w y.id))

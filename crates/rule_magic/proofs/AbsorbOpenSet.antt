@@ -107,16 +107,16 @@ module _ (g : QueryGraph) (known : Facts) (d : Node) (may : MayAbsorb g.boxes kn
   abbrev look : ℕ → ℕ → Bool
   look b q = looks_of g.boxes may.c.id r1.over may.a.id p b q
 
-  w : Sound g.boxes g.root
+  pub w : Sound g.boxes g.root
   w = made.w g known d may form ts mt l r1 x y s u p lr rr up l1 l2 at
 
-  in-r1 : In r1 c.quants
+  pub in-r1 : In r1 c.quants
   in-r1 = made.in-r1 g known d may form ts mt l r1 x y s u p lr rr up l1 l2 at
 
-  in-l : In l c.quants
+  pub in-l : In l c.quants
   in-l = made.in-l g known d may form ts mt l r1 x y s u p lr rr up l1 l2 at
 
-  in-a : In a d.quants
+  pub in-a : In a d.quants
   in-a = made.in-a g known d may form ts mt l r1 x y s u p lr rr up l1 l2 at
 
   alone-y : (q : ℕ) → loose g.boxes y.id q ≡ true → q ≡ a.id
@@ -125,7 +125,7 @@ module _ (g : QueryGraph) (known : Facts) (d : Node) (may : MayAbsorb g.boxes kn
   alone-x : (q : ℕ) → loose g.boxes x.id q ≡ true → q ≡ a.id
   alone-x = made.x-alone g known d may form ts mt l r1 x y s u p lr rr up l1 l2 at
 
-  arm : IsArm g.boxes c r1 a.id
+  pub arm : IsArm g.boxes c r1 a.id
   arm = record {
     within = may.in_c;
     owned = in-r1;
@@ -152,7 +152,7 @@ module _ (g : QueryGraph) (known : Facts) (d : Node) (may : MayAbsorb g.boxes kn
       let k : place g.boxes d.id < place g.boxes c.id = subst (λ i. place g.boxes d.id < place g.boxes i) (sym may.over_c) (place-under g.boxes d r w.ordered may.in_d (made.in-r g known d may form ts mt l r1 x y s u p lr rr up l1 l2 at)) in
       let h = c-higher in omega (arith, k, h))
 
-  below-c : (n : Node) → is_below g.boxes r1.over n.id ≡ true → (n.id == c.id) ≡ false
+  pub below-c : (n : Node) → is_below g.boxes r1.over n.id ≡ true → (n.id == c.id) ≡ false
   below-c n t = elim (cases_Bool (n.id == c.id)) [ inr f ↦ f | inl e ↦ absurd (clash (below n.id) t (subst (λ b. below b ≡ false) (sym (eqb-true n.id c.id e)) not-below-c)) ]
 
   below-d : (n : Node) → is_below g.boxes r1.over n.id ≡ true → (n.id == d.id) ≡ false
@@ -163,7 +163,7 @@ module _ (g : QueryGraph) (known : Facts) (d : Node) (may : MayAbsorb g.boxes kn
 
   -- ---- renamed boxes
 
-  ren-below : (n : Node) → is_below g.boxes r1.over n.id ≡ true → ren n ≡ put n
+  pub ren-below : (n : Node) → is_below g.boxes r1.over n.id ≡ true → ren n ≡ put n
   ren-below n t = ap (λ v. cond v (put n) n) t
 
   pub ren-beside : (n : Node) → is_below g.boxes r1.over n.id ≡ false → ren n ≡ n
@@ -178,7 +178,7 @@ module _ (g : QueryGraph) (known : Facts) (d : Node) (may : MayAbsorb g.boxes kn
   pub ren-quants : (n : Node) → (ren n).quants ≡ n.quants
   ren-quants = ren-by (λ (n : Node). n.quants) (λ n. refl)
 
-  wide-put : (n : Node) → width (put_node may.a.id (columns_from p 1 (width may.m)) n) ≡ width n
+  pub wide-put : (n : Node) → width (put_node may.a.id (columns_from p 1 (width may.m)) n) ≡ width n
   wide-put n = ap (width_by n.parts.kind) (length-map (substituted may.a.id (columns_from p 1 (width may.m))) n.parts.head)
 
   ren-width : (n : Node) → width (ren n) ≡ width n
@@ -213,10 +213,10 @@ module _ (g : QueryGraph) (known : Facts) (d : Node) (may : MayAbsorb g.boxes kn
 
   -- ---- what is looked up
 
-  look-beside : (b q : ℕ) → (b == c.id) ≡ false → is_below g.boxes r1.over b ≡ false → look b q ≡ loose g.boxes b q
+  pub look-beside : (b q : ℕ) → (b == c.id) ≡ false → is_below g.boxes r1.over b ≡ false → look b q ≡ loose g.boxes b q
   look-beside b q f e = ap₂ (λ v z. not v && cond z (((q == p) && loose g.boxes b a.id) || (not (q == a.id) && loose g.boxes b q)) (loose g.boxes b q)) f e
 
-  look-below : (b q : ℕ) → is_below g.boxes r1.over b ≡ true → look b q ≡ (((q == p) && loose g.boxes b a.id) || (not (q == a.id) && loose g.boxes b q))
+  pub look-below : (b q : ℕ) → is_below g.boxes r1.over b ≡ true → look b q ≡ (((q == p) && loose g.boxes b a.id) || (not (q == a.id) && loose g.boxes b q))
   look-below b q t = ap₂ (λ v z. not v && cond z (((q == p) && loose g.boxes b a.id) || (not (q == a.id) && loose g.boxes b q)) (loose g.boxes b q)) not-c t
     where
       not-c : (b == c.id) ≡ false
@@ -251,7 +251,7 @@ module _ (g : QueryGraph) (known : Facts) (d : Node) (may : MayAbsorb g.boxes kn
       let k : v.0.id ≡ m.id = sym (ren-id v.0) ∙ ap (λ (z : Node). z.id) (sym v.1.1) ∙ e in
       ap width v.1.1 ∙ ren-width v.0 ∙ ap width (same-box base v.0 m (made.ordered g known d may form ts mt l r1 x y s u p lr rr up l1 l2 at) v.1.0 (made.in-m g known d may form ts mt l r1 x y s u p lr rr up l1 l2 at) k)
 
-  below-renamed : RenamesBelow g.boxes hs kept look r1.over a.id p (width m)
+  pub below-renamed : RenamesBelow g.boxes hs kept look r1.over a.id p (width m)
   below-renamed = record {
     ordered = ordered;
     once = once-after;
@@ -283,10 +283,10 @@ module _ (g : QueryGraph) (known : Facts) (d : Node) (may : MayAbsorb g.boxes kn
     | inr f ↦ subst (λ b. loose g.boxes b q ≡ false) at.over_x (f q)
   ]
 
-  in-m : In m hs
+  pub in-m : In m hs
   in-m = subst (λ (z : Node). In z hs) (ren-still m may.in_m (λ t. fed.closed-m g at.once at.formed known at.tells d may a.id)) (in-ren m (made.in-m g known d may form ts mt l r1 x y s u p lr rr up l1 l2 at))
 
-  in-x : In x hs
+  pub in-x : In x hs
   in-x = subst (λ (z : Node). In z hs) (ren-still x at.in_x (λ t. x-closed-below t a.id)) (in-ren x (made.in-x g known d may form ts mt l r1 x y s u p lr rr up l1 l2 at))
 
   pub below-y : is_below g.boxes r1.over y.id ≡ true
@@ -330,7 +330,7 @@ module _ (g : QueryGraph) (known : Facts) (d : Node) (may : MayAbsorb g.boxes kn
 
   -- ---- boxes that are made
 
-  left : IsPair hs look c' m x a.id l.id
+  pub left : IsPair hs look c' m x a.id l.id
   left = record {
     ordered = ordered;
     once = once-after;
@@ -349,13 +349,13 @@ module _ (g : QueryGraph) (known : Facts) (d : Node) (may : MayAbsorb g.boxes kn
   abbrev s'' : Node
   s'' = pair_box s rr p may.m.id (width may.m) r1.id y.id (width (put_node may.a.id (columns_from p 1 (width may.m)) y))
 
-  same-s : s'' ≡ s'
+  pub same-s : s'' ≡ s'
   same-s = ap (λ k. pair_box s rr p may.m.id (width may.m) r1.id y.id k) (wide-put y)
 
-  in-y : In (put y) hs
+  pub in-y : In (put y) hs
   in-y = below-renamed.stand y at.in_y below-y
 
-  right : IsPair hs look s'' m (put y) p r1.id
+  pub right : IsPair hs look s'' m (put y) p r1.id
   right = record {
     ordered = ordered;
     once = once-after;
@@ -371,7 +371,7 @@ module _ (g : QueryGraph) (known : Facts) (d : Node) (may : MayAbsorb g.boxes kn
     nothing = looks-s;
   }
 
-  set_is : IsSet hs look d' c' s' mt
+  pub set_is : IsSet hs look d' c' s' mt
   set_is = record {
     ordered = ordered;
     in_n = in-d';
@@ -401,7 +401,7 @@ module _ (g : QueryGraph) (known : Facts) (d : Node) (may : MayAbsorb g.boxes kn
         ]
       ]
 
-  old-fresh : (v : Node) → In v g.boxes → (v.id == d.id) ≡ false → (v.id == c.id) ≡ false → fresh v.id ≡ (is_below g.boxes r1.over v.id && loose g.boxes v.id a.id)
+  pub old-fresh : (v : Node) → In v g.boxes → (v.id == d.id) ≡ false → (v.id == c.id) ≡ false → fresh v.id ≡ (is_below g.boxes r1.over v.id && loose g.boxes v.id a.id)
   old-fresh v i nd nc = ap₂ (λ j k. j || (k || ((v.id == c.id) || (is_below g.boxes r1.over v.id && loose g.boxes v.id a.id)))) nd (eq-false-sym s v.id (made.s-not g known d may form ts mt l r1 x y s u p lr rr up l1 l2 at v i)) ∙ ap (λ k. k || (is_below g.boxes r1.over v.id && loose g.boxes v.id a.id)) nc
 
   pub rebuilds : Rebuilds g.boxes hs g.root kept look fresh

@@ -1,5 +1,5 @@
 -- G4 with a closed right operand: the graph with the set operation over the fed box and the select beside it is well-formed.
-use Rattle.std.proofs.Common.{ℕ, suc, ◌==◌, ◌≡◌, ◌≤◌, ◌<◌, ◌+◌, ◌&&◌, ◌||◌, nat_lt, cond, not, Bool, true, false, List, [], ◌∷◌, ◌++◌, map, length, Option, None, Some, refl, sym, ap, ap₂, subst, ◌∙◌, eqb-true, ◌⊎◌, inl, inr, arith}
+use Rattle.std.proofs.Common.{ℕ, ◌==◌, ◌≡◌, ◌≤◌, ◌<◌, ◌+◌, ◌&&◌, ◌||◌, nat_lt, cond, not, Bool, true, false, List, [], ◌∷◌, ◌++◌, map, length, Option, None, Some, refl, sym, ap, ap₂, subst, ◌∙◌, eqb-true, ◌⊎◌, inl, inr, arith}
 use Rattle.std.specs.List.{flat_map, list_all, list_any}
 use Rattle.std.proofs.lemmas.Bool.{and_from, and_parts, cases_Bool, eq-eqb, ltb-true, not-true, or_cases, or_from, or_left, or_parts, or_right}
 use Rattle.sql_value.specs.declared.order_key.SqlType.{SqlType}
@@ -35,9 +35,7 @@ use Rattle.qgm_edit_laws.proofs.Read.{any-both}
 use Rattle.qgm_edit_laws.proofs.Rebuilt.{looks-exact, rebuilt, rebuilt-formed}
 use Rattle.qgm_edit_laws.proofs.Reformed.{wide-types}
 use Rattle.qgm_edit_laws.proofs.Scope.{climb, loose-held, one-owner}
-use Rattle.qgm_edit_laws.proofs.Scoped.{few-ids}
-use Rattle.qgm_edit_laws.proofs.TypedKept.{found-under}
-use Rattle.qgm_edit_laws.proofs.TypesBy.{agrees-as, arms_by, found_by, looked}
+use Rattle.qgm_edit_laws.proofs.TypesBy.{agrees-as, arms_by}
 use Rattle.qgm_edit_laws.proofs.Edits.{length-map}
 use Rattle.qgm_meaning.specs.Scope.{loose, read_by}
 use Rattle.qgm_meaning.specs.Tags.{columns_from}
@@ -50,9 +48,11 @@ use Rattle.rule_magic.specs.Places.{MayAbsorb}
 use Rattle.rule_magic.proofs.AbsorbFacts as fed
 use Rattle.rule_magic.proofs.AbsorbKeylessFormed.{one-of, replaced}
 use Rattle.rule_magic.proofs.AbsorbSelectFormed as made
-use Rattle.rule_magic.proofs.AbsorbSelectFormed.{columns-long, columns-types, f-counts, found-suc, length-append, map-append, times-flat}
+use Rattle.rule_magic.proofs.AbsorbSelectFormed.{columns-long, f-counts, length-append, times-flat}
+use Rattle.rule_magic.proofs.AbsorbShared.{apart-two}
 use Rattle.rule_magic.proofs.BehindColumns.{none-list}
 use Rattle.rule_magic.proofs.CalmFires.{shape-kind}
+use Rattle.rule_magic.proofs.FedTypes.{types-d}
 use Rattle.rule_magic.proofs.PairFormed.{IsPair, lt-from, pair-form, pair-made, width-pair}
 use Rattle.rule_magic.proofs.SetFormed.{IsSet, set-form, set-made}
 use Rattle.qgm_core.proofs.Reaching.{in-has, overs-held}
@@ -71,7 +71,7 @@ all-agree-itself : (ts : List (Option SqlType)) → list_all is_known ts ≡ tru
 all-agree-itself [] h = refl
 all-agree-itself (t ∷ ts) h = let a = and_parts (is_known t) (list_all is_known ts) h in and_from (agree t t) (all_agree ts ts) (known-agree t a.0) (all-agree-itself ts a.1)
 
-all-agree-behind : (ks os bs : List (Option SqlType)) → list_all is_known ks ≡ true → all_agree os bs ≡ true → all_agree (ks ++ os) (ks ++ bs) ≡ true
+pub all-agree-behind : (ks os bs : List (Option SqlType)) → list_all is_known ks ≡ true → all_agree os bs ≡ true → all_agree (ks ++ os) (ks ++ bs) ≡ true
 all-agree-behind [] os bs h e = e
 all-agree-behind (k ∷ ks) os bs h e = let a = and_parts (is_known k) (list_all is_known ks) h in and_from (agree k k) (all_agree (ks ++ os) (ks ++ bs)) (known-agree k a.0) (all-agree-behind ks os bs a.1 e)
 
@@ -122,10 +122,10 @@ module _ (g : QueryGraph) (known : Facts) (d : Node) (may : MayAbsorb g.boxes kn
   pub w : Sound g.boxes g.root
   w = made.w g at.once at.formed known at.tells d may
 
-  ty : Typed g.boxes
+  pub ty : Typed g.boxes
   ty = made.ty g at.once at.formed known at.tells d may
 
-  sh : Shaped g.boxes g.root
+  pub sh : Shaped g.boxes g.root
   sh = made.sh g at.once at.formed known at.tells d may
 
   pub in-a : In a d.quants
@@ -175,7 +175,7 @@ module _ (g : QueryGraph) (known : Facts) (d : Node) (may : MayAbsorb g.boxes kn
 
   -- ---- the shape of c
 
-  set-c : shape.is_set_op g.boxes c ≡ true
+  pub set-c : shape.is_set_op g.boxes c ≡ true
   set-c = subst (λ z. kind_fits g.root g.boxes c z ≡ true) at.a_set (shape-kind g at.once at.formed c may.in_c)
 
   abbrev arms-c : Bool
@@ -193,7 +193,7 @@ module _ (g : QueryGraph) (known : Facts) (d : Node) (may : MayAbsorb g.boxes kn
   some-c : nat_lt 0 (width c) ≡ true
   some-c = (and_parts (shape.are_F 2 c.quants && arms-c) (nat_lt 0 (width c)) three.0).1
 
-  rows-c : (is_F l.kind ≡ true) × (is_F r1.kind ≡ true)
+  pub rows-c : (is_F l.kind ≡ true) × (is_F r1.kind ≡ true)
   rows-c = two-quants c.quants l r1 at.two (and_parts (shape.are_F 2 c.quants) arms-c (and_parts (shape.are_F 2 c.quants && arms-c) (nat_lt 0 (width c)) three.0).0).0
 
   pub c-not-fed : is_fed c.parts.role ≡ false
@@ -236,14 +236,7 @@ module _ (g : QueryGraph) (known : Facts) (d : Node) (may : MayAbsorb g.boxes kn
   l-not-a = not-a l in-l
 
   pub l-not-r1 : (l.id == r1.id) ≡ false
-  l-not-r1 = elim (cases_Bool (l.id == r1.id)) [
-    | inr f ↦ f
-    | inl e ↦ absurd (
-        let few = few-ids g.boxes c r1.id (w.once r1.id) may.in_c in
-        let z : times r1.id (l.id ∷ (r1.id ∷ [])) ≤ 1 = subst (λ (k : List OwnedQuant). times r1.id (map (λ (q : OwnedQuant). q.id) k) ≤ 1) at.two few in
-        let n : 1 + (1 + 0) ≤ 1 = subst (λ b. cond b 1 0 + (1 + 0) ≤ 1) e (subst (λ b. cond (l.id == r1.id) 1 0 + (cond b 1 0 + 0) ≤ 1) (eq-itself r1.id) z) in
-        omega (arith, n))
-  ]
+  l-not-r1 = apart-two g.boxes c l r1 (w.once r1.id) may.in_c at.two
 
   pub new-id : (i : ℕ) → times i (ids_in g.boxes) ≡ 0 → (z : OwnedQuant) (n : Node) → In n g.boxes → In z n.quants → (z.id == i) ≡ false
   new-id i e z n j k = elim (cases_Bool (z.id == i)) [
@@ -441,16 +434,16 @@ module _ (g : QueryGraph) (known : Facts) (d : Node) (may : MayAbsorb g.boxes kn
   abbrev C : List (Option SqlType)
   C = types.known ts
 
-  types-c : types_at g.boxes c.id ≡ C
+  pub types-c : types_at g.boxes c.id ≡ C
   types-c = settled-types g.boxes g.root w c may.in_c ∙ ap (λ z. types_by L z c.parts.head) at.a_set
 
-  long-m : length M ≡ width m
+  pub long-m : length M ≡ width m
   long-m = wide-types g.boxes g.root w m may.in_m
 
-  long-x : length X ≡ width x
+  pub long-x : length X ≡ width x
   long-x = wide-types g.boxes g.root w x at.in_x
 
-  long-y : length Y ≡ width y
+  pub long-y : length Y ≡ width y
   long-y = wide-types g.boxes g.root w y at.in_y
 
   pub long-mt : length mt ≡ width m + length ts
@@ -460,7 +453,7 @@ module _ (g : QueryGraph) (known : Facts) (d : Node) (may : MayAbsorb g.boxes kn
   pub wide-arm : (z : OwnedQuant) (n : Node) → In z c.quants → z.over ≡ n.id → In n g.boxes → width n ≡ length ts
   wide-arm z n j e i = subst (λ k. ArmsBy k (width n) (width c)) at.a_set (w.arms c n z may.in_c j i (sym e)) ∙ width-c
 
-  agree-arm : (z : OwnedQuant) (n : Node) → In z c.quants → z.over ≡ n.id → all_agree (types_at g.boxes n.id) C ≡ true
+  pub agree-arm : (z : OwnedQuant) (n : Node) → In z c.quants → z.over ≡ n.id → all_agree (types_at g.boxes n.id) C ≡ true
   agree-arm z n j e =
       let h = sym (agrees-as g.boxes c) ∙ ty c may.in_c in
       let b = and_parts (list_all (cond_fits L) c.parts.conds.items) (arms_by (types_at g.boxes) c.parts.kind c.quants) (and_parts (list_all (λ t. is_known (term_type L t)) c.parts.head) (list_all (cond_fits L) c.parts.conds.items && arms_by (types_at g.boxes) c.parts.kind c.quants) h).1 in
@@ -509,6 +502,84 @@ module _ (g : QueryGraph) (known : Facts) (d : Node) (may : MayAbsorb g.boxes kn
         let v : 1 ≤ times g.root (overs_of d) = subst (λ b. 1 ≤ times b (overs_of d)) (sym may.over_m ∙ eqb-true m.id g.root e) (in-times (λ (z : OwnedQuant). z.over) a d.quants in-a) in
         omega (arith, b, z, v))
   ]
+
+  -- types of the boxes after it
+  abbrev pub T : ℕ → List (Option SqlType)
+  T b = cond (b == c.id) (types_at g.boxes m.id ++ types_at g.boxes x.id) (cond (b == s) (types_at g.boxes m.id ++ types_at g.boxes y.id) (types_at g.boxes b))
+
+  pub T-c : T c.id ≡ M ++ X
+  T-c = ap (λ z. cond z (M ++ X) (cond (c.id == s) (M ++ Y) (types_at g.boxes c.id))) (eq-itself c.id)
+
+  pub T-s : T s ≡ M ++ Y
+  T-s = ap₂ (λ v z. cond v (M ++ X) (cond z (M ++ Y) (types_at g.boxes s))) (s-not c may.in_c) (eq-itself s)
+
+  pub T-old : (n : Node) → In n g.boxes → (n.id == c.id) ≡ false → T n.id ≡ types_at g.boxes n.id
+  T-old n i f = ap₂ (λ v z. cond v (M ++ X) (cond z (M ++ Y) (types_at g.boxes n.id))) f (eq-false-sym s n.id (s-not n i))
+
+  pub T-d : T d.id ≡ types.known mt
+  T-d =
+      T-old d may.in_d d-not-c ∙ settled-types g.boxes g.root w d may.in_d
+      ∙ ap (λ z. types_by L z d.parts.head) (fed.kind_d g at.once at.formed known at.tells d may)
+      ∙ types-d g at.once at.formed known at.tells d may ∙ ap (λ (z : List (Option SqlType)). M ++ z) types-c
+      ∙ sym at.typed
+
+  known-each : (ts : List SqlType) → list_all is_known (types.known ts) ≡ true
+  known-each [] = refl
+  known-each (t ∷ ts) = known-each ts
+
+  pub known-m : list_all is_known M ≡ true
+  known-m = first-all M C (ap (list_all is_known) (sym at.typed) ∙ known-each mt)
+    where
+      first-all : (os bs : List (Option SqlType)) → list_all is_known (os ++ bs) ≡ true → list_all is_known os ≡ true
+      first-all [] bs h = refl
+      first-all (t ∷ os) bs h = let z = and_parts (is_known t) (list_all is_known (os ++ bs)) h in and_from (is_known t) (list_all is_known os) z.0 (first-all os bs z.1)
+
+  pub known-of : (os bs : List (Option SqlType)) → all_agree os bs ≡ true → list_all is_known os ≡ true
+  known-of [] bs h = refl
+  known-of (t ∷ os) [] h = absurd (let z : ⊥ = cc in z)
+  known-of (t ∷ os) (b ∷ bs) h = let z = and_parts (agree t b) (all_agree os bs) h in and_from (is_known t) (list_all is_known os) (known-by t b z.0) (known-of os bs z.1)
+    where
+      known-by : (t b : Option SqlType) → agree t b ≡ true → is_known t ≡ true
+      known-by None b h = absurd (let z : ⊥ = cc in z)
+      known-by (Some v) b h = refl
+
+  pub seen-m : is_permit m.parts.distinct ≡ false
+  seen-m = counted-seen g.boxes g.root ty sh d m a may.in_d in-a (f-counts a.kind (made.f-a g at.once at.formed known at.tells d may)) may.in_m may.over_m
+
+  pub seen-arm : (z : OwnedQuant) (n : Node) → In z c.quants → is_F z.kind ≡ true → z.over ≡ n.id → In n g.boxes → is_permit n.parts.distinct ≡ false
+  seen-arm z n j k e i = counted-seen g.boxes g.root ty sh c n z may.in_c j (f-counts z.kind k) i (sym e)
+
+  -- the owner of an S quantifier stood before
+  pub scalar-old : (b : ℕ) → is_scalar hs b ≡ true → (n : Node) × ((z : OwnedQuant) × (In n g.boxes × (((n.id == d.id) ≡ false) × (In z n.quants × (z.over ≡ b)))))
+  scalar-old b h =
+      let n = any-in (λ (n : Node). is_scalar_in n.quants b) hs h in
+      let z = any-in (λ (z : OwnedQuant). (z.over == b) && is_S z.kind) n.0.quants n.1.1 in
+      let k = and_parts (z.0.over == b) (is_S z.0.kind) z.1.1 in
+      elim (each-in n.0 n.1.0) [
+        | inl e ↦ absurd (not-two z.0 r.id c.id u s (subst (λ (n : Node). In z.0 n.quants) e z.1.0) k.1)
+        | inr e ↦ elim e [
+          | inl e ↦ absurd (not-two z.0 p m.id r1.id y.id (subst (λ (n : Node). In z.0 n.quants) e z.1.0) k.1)
+          | inr e ↦ elim e [
+            | inl e ↦ absurd (not-two z.0 a.id m.id l.id x.id (subst (λ (n : Node). In z.0 n.quants) e z.1.0) k.1)
+            | inr e ↦ (n.0, (z.0, (e.0, (e.1.0, (z.1.0, eqb-true z.0.over b k.0)))))
+          ]
+        ]
+      ]
+    where
+      not-two : (z : OwnedQuant) (i b j k : ℕ) → In z (range i F b ∷ (range j F k ∷ [])) → is_S z.kind ≡ true → ⊥
+      not-two z i b j k v h = elim v [
+        | inl e ↦ (let t : is_S F ≡ true = subst (λ (z : OwnedQuant). is_S z.kind ≡ true) (sym e) h in let o : ⊥ = cc in o)
+        | inr v ↦ elim v [ inl e ↦ (let t : is_S F ≡ true = subst (λ (z : OwnedQuant). is_S z.kind ≡ true) (sym e) h in let o : ⊥ = cc in o) | inr v ↦ elim v [ ] ]
+      ]
+
+  pub scalar-s : is_scalar hs s ≡ true → ⊥
+  scalar-s h = let n = scalar-old s h in clash (has_box g.boxes s) (subst (λ z. has_box g.boxes z ≡ true) n.1.1.1.1.1 (overs-held g.boxes n.0 n.1.0 w.ordered n.1.1.0 n.1.1.1.1.0)) at.s_new
+
+  pub scalar-c : is_scalar hs c.id ≡ true → ⊥
+  scalar-c h = let n = scalar-old c.id h in clash (n.1.0.over == c.id) (eq-eqb n.1.0.over c.id n.1.1.1.1.1) (elsewhere n.0 n.1.0 n.1.1.0 n.1.1.1.0 n.1.1.1.1.0)
+
+  pub some-mt : nat_lt 0 (length mt) ≡ true
+  some-mt = lt-from 0 (length mt) (let a = ltb-true 0 (width c) some-c in let b = width-c in let k = long-mt in omega (arith, a, b, k))
 
   -- where the right operand is closed
   module _ (is-fed : lr ≡ Fed) (is-plain : rr ≡ Plain) (shut : (i : ℕ) → IsFree g.boxes y.id i → ⊥) where
@@ -670,93 +741,6 @@ module _ (g : QueryGraph) (known : Facts) (d : Node) (may : MayAbsorb g.boxes kn
 
     pub looks-after : (b i : ℕ) → has_box hs b ≡ true → loose hs b i ≡ look b i
     looks-after = looks-exact g.boxes hs g.root kept look fresh w rebuilds
-
-    abbrev T : ℕ → List (Option SqlType)
-    T b = cond (b == c.id) (types_at g.boxes m.id ++ types_at g.boxes x.id) (cond (b == s) (types_at g.boxes m.id ++ types_at g.boxes y.id) (types_at g.boxes b))
-
-    T-c : T c.id ≡ M ++ X
-    T-c = ap (λ z. cond z (M ++ X) (cond (c.id == s) (M ++ Y) (types_at g.boxes c.id))) (eq-itself c.id)
-
-    T-s : T s ≡ M ++ Y
-    T-s = ap₂ (λ v z. cond v (M ++ X) (cond z (M ++ Y) (types_at g.boxes s))) (s-not c may.in_c) (eq-itself s)
-
-    T-old : (n : Node) → In n g.boxes → (n.id == c.id) ≡ false → T n.id ≡ types_at g.boxes n.id
-    T-old n i f = ap₂ (λ v z. cond v (M ++ X) (cond z (M ++ Y) (types_at g.boxes n.id))) f (eq-false-sym s n.id (s-not n i))
-
-    L-m : map (term_type L) (columns_from a.id 1 (width m)) ≡ M
-    L-m = ap (λ z. map (term_type L) (columns_from a.id 1 z)) (sym long-m)
-        ∙ columns-types L a.id [] M (λ j. looked g.boxes a.id (suc j) ∙ ap (found_by (types_at g.boxes) (suc j)) (found-under g.boxes g.root w a.id (record { owner = d; quant = a; box = m; owner_in = may.in_d; quant_in = in-a; is_q = refl; box_in = may.in_m; is_over = may.over_m })) ∙ found-suc (types_at g.boxes) j m)
-
-    L-c : map (term_type L) (columns_from r.id 1 (width c)) ≡ types_at g.boxes c.id
-    L-c = ap (λ z. map (term_type L) (columns_from r.id 1 z)) (sym (wide-types g.boxes g.root w c may.in_c))
-        ∙ columns-types L r.id [] (types_at g.boxes c.id) (λ j. looked g.boxes r.id (suc j) ∙ ap (found_by (types_at g.boxes) (suc j)) (found-under g.boxes g.root w r.id (record { owner = d; quant = r; box = c; owner_in = may.in_d; quant_in = in-r; is_q = refl; box_in = may.in_c; is_over = may.over_c })) ∙ found-suc (types_at g.boxes) j c)
-
-    T-d : T d.id ≡ types.known mt
-    T-d =
-        T-old d may.in_d d-not-c ∙ settled-types g.boxes g.root w d may.in_d
-        ∙ ap (λ z. types_by L z d.parts.head) (fed.kind_d g at.once at.formed known at.tells d may)
-        ∙ ap (map (term_type L)) (fed.head-is g at.once at.formed known at.tells d may)
-        ∙ map-append (term_type L) (columns_from a.id 1 (width m)) (columns_from r.id 1 (width c))
-        ∙ ap₂ (λ (v z : List (Option SqlType)). v ++ z) L-m (L-c ∙ types-c)
-        ∙ sym at.typed
-
-    known-each : (ts : List SqlType) → list_all is_known (types.known ts) ≡ true
-    known-each [] = refl
-    known-each (t ∷ ts) = known-each ts
-
-    known-m : list_all is_known M ≡ true
-    known-m = first-all M C (ap (list_all is_known) (sym at.typed) ∙ known-each mt)
-      where
-        first-all : (os bs : List (Option SqlType)) → list_all is_known (os ++ bs) ≡ true → list_all is_known os ≡ true
-        first-all [] bs h = refl
-        first-all (t ∷ os) bs h = let z = and_parts (is_known t) (list_all is_known (os ++ bs)) h in and_from (is_known t) (list_all is_known os) z.0 (first-all os bs z.1)
-
-    known-of : (os bs : List (Option SqlType)) → all_agree os bs ≡ true → list_all is_known os ≡ true
-    known-of [] bs h = refl
-    known-of (t ∷ os) [] h = absurd (let z : ⊥ = cc in z)
-    known-of (t ∷ os) (b ∷ bs) h = let z = and_parts (agree t b) (all_agree os bs) h in and_from (is_known t) (list_all is_known os) (known-by t b z.0) (known-of os bs z.1)
-      where
-        known-by : (t b : Option SqlType) → agree t b ≡ true → is_known t ≡ true
-        known-by None b h = absurd (let z : ⊥ = cc in z)
-        known-by (Some v) b h = refl
-
-    seen-m : is_permit m.parts.distinct ≡ false
-    seen-m = counted-seen g.boxes g.root ty sh d m a may.in_d in-a (f-counts a.kind (made.f-a g at.once at.formed known at.tells d may)) may.in_m may.over_m
-
-    seen-arm : (z : OwnedQuant) (n : Node) → In z c.quants → is_F z.kind ≡ true → z.over ≡ n.id → In n g.boxes → is_permit n.parts.distinct ≡ false
-    seen-arm z n j k e i = counted-seen g.boxes g.root ty sh c n z may.in_c j (f-counts z.kind k) i (sym e)
-
-    -- the owner of an S quantifier stood before
-    scalar-old : (b : ℕ) → is_scalar hs b ≡ true → (n : Node) × ((z : OwnedQuant) × (In n g.boxes × (((n.id == d.id) ≡ false) × (In z n.quants × (z.over ≡ b)))))
-    scalar-old b h =
-        let n = any-in (λ (n : Node). is_scalar_in n.quants b) hs h in
-        let z = any-in (λ (z : OwnedQuant). (z.over == b) && is_S z.kind) n.0.quants n.1.1 in
-        let k = and_parts (z.0.over == b) (is_S z.0.kind) z.1.1 in
-        elim (each-in n.0 n.1.0) [
-          | inl e ↦ absurd (not-two z.0 r.id c.id u s (subst (λ (n : Node). In z.0 n.quants) e z.1.0) k.1)
-          | inr e ↦ elim e [
-            | inl e ↦ absurd (not-two z.0 p m.id r1.id y.id (subst (λ (n : Node). In z.0 n.quants) e z.1.0) k.1)
-            | inr e ↦ elim e [
-              | inl e ↦ absurd (not-two z.0 a.id m.id l.id x.id (subst (λ (n : Node). In z.0 n.quants) e z.1.0) k.1)
-              | inr e ↦ (n.0, (z.0, (e.0, (e.1.0, (z.1.0, eqb-true z.0.over b k.0)))))
-            ]
-          ]
-        ]
-      where
-        not-two : (z : OwnedQuant) (i b j k : ℕ) → In z (range i F b ∷ (range j F k ∷ [])) → is_S z.kind ≡ true → ⊥
-        not-two z i b j k v h = elim v [
-          | inl e ↦ (let t : is_S F ≡ true = subst (λ (z : OwnedQuant). is_S z.kind ≡ true) (sym e) h in let o : ⊥ = cc in o)
-          | inr v ↦ elim v [ inl e ↦ (let t : is_S F ≡ true = subst (λ (z : OwnedQuant). is_S z.kind ≡ true) (sym e) h in let o : ⊥ = cc in o) | inr v ↦ elim v [ ] ]
-        ]
-
-    scalar-s : is_scalar hs s ≡ true → ⊥
-    scalar-s h = let n = scalar-old s h in clash (has_box g.boxes s) (subst (λ z. has_box g.boxes z ≡ true) n.1.1.1.1.1 (overs-held g.boxes n.0 n.1.0 w.ordered n.1.1.0 n.1.1.1.1.0)) at.s_new
-
-    scalar-c : is_scalar hs c.id ≡ true → ⊥
-    scalar-c h = let n = scalar-old c.id h in clash (n.1.0.over == c.id) (eq-eqb n.1.0.over c.id n.1.1.1.1.1) (elsewhere n.0 n.1.0 n.1.1.0 n.1.1.1.0 n.1.1.1.1.0)
-
-    some-mt : nat_lt 0 (length mt) ≡ true
-    some-mt = lt-from 0 (length mt) (let a = ltb-true 0 (width c) some-c in let b = width-c in let k = long-mt in omega (arith, a, b, k))
 
     module _ (v : Sound hs g.root) where
       T-m : T m.id ≡ M

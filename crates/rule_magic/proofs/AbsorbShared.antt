@@ -1,19 +1,22 @@
 -- What all absorbing rules keep: tables that satisfy the bases, closed boxes, and scalar quantifiers.
-use Rattle.std.proofs.Common.{ℕ, ◌≡◌, ◌&&◌, not, true, false, List, [], ◌∷◌, ◌++◌, None, sym, ap, ◌∙◌, inl, inr}
+use Rattle.std.proofs.Common.{ℕ, zero, suc, ◌+◌, ◌==◌, ◌≡◌, ◌≤◌, ◌&&◌, ◌⊎◌, cond, map, not, true, false, List, [], ◌∷◌, ◌++◌, None, refl, subst, sym, ap, ◌∙◌, inl, inr, arith}
 use Rattle.std.proofs.lemmas.Bool.{cases_Bool}
 use Rattle.row_bag.specs.Bags.{Agree}
 use Rattle.row_bag.specs.Sets.{same_cells}
 use Rattle.row_bag.specs.declared.tables.Table.{Table}
-use Rattle.qgm_core.specs.Boxes.{QueryGraph, is_box, numbers}
+use Rattle.qgm_core.specs.Boxes.{HasBox, HasQuant, QueryGraph, has_box, ids_in, ids_of, is_box, is_quant, numbers, owns}
 use Rattle.qgm_core.specs.Edits.{compact}
-use Rattle.qgm_core.specs.Kinds.{is_S}
-use Rattle.list_laws.specs.Lists.{EachOnce, first}
+use Rattle.qgm_core.specs.Kinds.{is_S, is_magic, is_plain}
+use Rattle.list_laws.specs.Lists.{EachOnce, In, first, times}
+use Rattle.qgm_core.specs.declared.kinds.Role.{Role}
+use Rattle.qgm_core.specs.declared.kinds.Role.TheVariants.{Fed, Magic, Plain}
 use Rattle.qgm_core.specs.declared.node.Node.{Node}
 use Rattle.qgm_core.specs.declared.owned.OwnedQuant.{OwnedQuant}
 use Rattle.qgm_wellformed.specs.WellFormed.{fault}
 use Rattle.qgm_edit_laws.specs.Graph.{Sound}
 use Rattle.qgm_edit_laws.proofs.Formed.{sound-checked}
 use Rattle.qgm_edit_laws.proofs.FreeLoose.{looks-free, open-looks}
+use Rattle.qgm_edit_laws.proofs.Scoped.{few-ids}
 use Rattle.qgm_meaning.specs.Meaning.{root_bag}
 use Rattle.qgm_meaning.specs.Satisfies.{Satisfies}
 use Rattle.qgm_meaning.specs.Scope.{loose}
@@ -21,8 +24,11 @@ use Rattle.qgm_props.specs.Calm.{is_closed}
 use Rattle.rule_api.specs.Rules.{Preserves}
 use Rattle.qgm_props.specs.Measure.{is_loose_scalar, keyless_found}
 use Rattle.rule_facts.proofs.Compacted.{compact-preserves}
+use Rattle.rule_magic.specs.AbsorbArms.{role_over}
 use Rattle.rule_magic.proofs.CalmFires.{closed-is}
 use Rattle.list_laws.proofs.Booleans.{clash}
+use Rattle.list_laws.proofs.Counting.{times-map, times-some}
+use Rattle.list_laws.proofs.Membership.{any-from, eq-itself}
 
 -- ---- tables
 
@@ -53,6 +59,45 @@ module _ (bs : List Node) (root : ℕ) (w : Sound bs root) where
   pub looks-closed : (b : ℕ) → ((q : ℕ) → loose bs b q ≡ false) → is_closed bs b ≡ true
   looks-closed b h = elim (cases_Bool (is_closed bs b)) [ inl t ↦ t | inr f ↦ absurd (let x = open-looks bs root w b f in clash (loose bs b x.0) x.1 (h x.0)) ]
 
+-- a select over box b is plain, or fed where b is open
+abbrev pub IsRoleOver : List Node → ℕ → Role → Type 0
+IsRoleOver bs b role = (role ≡ Plain) ⊎ ((role ≡ Fed) × ((q : ℕ) × (loose bs b q ≡ true)))
+
+pub role-over-is : (bs : List Node) (root : ℕ) → Sound bs root → (b : ℕ) → IsRoleOver bs b (role_over bs b)
+role-over-is bs root w b = elim (cases_Bool (is_closed bs b)) [ inl t ↦ inl (ap (λ c. cond c Plain Fed) t) | inr f ↦ inr (ap (λ c. cond c Plain Fed) f, open-looks bs root w b f) ]
+
+-- a plain box isn't magic
+pub plain-not-magic : (k : Role) → is_plain k ≡ true → is_magic k ≡ false
+plain-not-magic Plain h = refl
+plain-not-magic Magic h = absurd (let z : ⊥ = cc in z)
+plain-not-magic Fed h = refl
+
 -- under a quantifier whose box is as it was, a group without keys is found as before
 pub loose-scalar : (bs hs : List Node) (r : OwnedQuant) → keyless_found (first (is_box r.over) hs) ≡ keyless_found (first (is_box r.over) bs) → is_loose_scalar hs r ≡ true → is_loose_scalar bs r ≡ true
 loose-scalar bs hs r e h = sym (ap (λ b. is_S r.kind && not b) e) ∙ h
+
+-- two quantifiers of a box have two numbers
+pub apart-two : (bs : List Node) (n : Node) (l r : OwnedQuant) → times r.id (ids_in bs) ≤ 1 → In n bs → n.quants ≡ l ∷ (r ∷ []) → (l.id == r.id) ≡ false
+apart-two bs n l r once i two = elim (cases_Bool (l.id == r.id)) [
+  | inr f ↦ f
+  | inl e ↦ absurd (
+      let few = few-ids bs n r.id once i in
+      let z : times r.id (l.id ∷ (r.id ∷ [])) ≤ 1 = subst (λ (k : List OwnedQuant). times r.id (map (λ (q : OwnedQuant). q.id) k) ≤ 1) two few in
+      let n : 1 + (1 + 0) ≤ 1 = subst (λ b. cond b 1 0 + (1 + 0) ≤ 1) e (subst (λ b. cond (l.id == r.id) 1 0 + (cond b 1 0 + 0) ≤ 1) (eq-itself r.id) z) in
+      omega (arith, n))
+]
+
+-- ---- numbers that a graph doesn't have
+
+pub no-box : (g : QueryGraph) (b : ℕ) → (HasBox b g → ⊥) → has_box g.boxes b ≡ false
+no-box g b n = elim (cases_Bool (has_box g.boxes b)) [ inr e ↦ e | inl t ↦ absurd (n t) ]
+
+pub no-quant : (g : QueryGraph) (i : ℕ) → (HasQuant i g → ⊥) → times i (ids_in g.boxes) ≡ 0
+no-quant g i n = none (times i (ids_in g.boxes)) (λ h. (
+    let y = times-some ids_of i g.boxes h in
+    let s = times-map (λ (z : OwnedQuant). z.id) i y.0.quants y.1.1 in
+    n (any-from (owns i) y.0 g.boxes y.1.0 (any-from (is_quant i) s.0 y.0.quants s.1.0 (subst (λ z. (s.0.id == z) ≡ true) s.1.1 (eq-itself s.0.id))))))
+  where
+    none : (t : ℕ) → (1 ≤ t → ⊥) → t ≡ 0
+    none zero h = refl
+    none (suc t) h = absurd (h (omega arith))

@@ -1,5 +1,5 @@
 -- Edits of lists at what stands amid them.
-use Rattle.std.proofs.Common.{◌≡◌, ◌||◌, Bool, true, false, List, [], ◌∷◌, ◌++◌, Some, cond, sym, ap, subst, ◌∙◌, inl, inr}
+use Rattle.std.proofs.Common.{◌≡◌, ◌||◌, Bool, true, false, List, [], ◌∷◌, ◌++◌, Some, append_assoc, cond, sym, ap, subst, ◌∙◌, inl, inr}
 use Rattle.std.specs.List.{list_any}
 use Rattle.qgm_core.specs.Boxes.{Ordered, has_box, is_box}
 use Rattle.list_laws.specs.Lists.{In, change, first, put_below, without}
@@ -52,6 +52,23 @@ module _ {X : Type 0} (p : X → Bool) where
 
   pub put-third : (z : X) (us : List X) (w x y : X) (vs : List X) → list_any p us ≡ false → p w ≡ false → p x ≡ false → p y ≡ true → put_below p z (us ++ w ∷ (x ∷ (y ∷ vs))) ≡ us ++ w ∷ (x ∷ (y ∷ (z ∷ vs)))
   put-third z us w x y vs n h k t = ap (put_below p z) (sym (append-one us w (x ∷ (y ∷ vs)))) ∙ put-second z (us ++ w ∷ []) x y vs (none-two us w n h) k t ∙ append-one us w (x ∷ (y ∷ (z ∷ vs)))
+
+  -- one behind these, two more, and others
+  module _ (us : List X) (w x : X) (vs : List X) (y : X) (ys : List X) where
+    far : (us ++ w ∷ (x ∷ vs)) ++ y ∷ ys ≡ us ++ w ∷ (x ∷ (vs ++ y ∷ ys))
+    far = append_assoc us (w ∷ (x ∷ vs)) (y ∷ ys)
+
+    none-far : list_any p us ≡ false → p w ≡ false → p x ≡ false → list_any p vs ≡ false → list_any p (us ++ w ∷ (x ∷ vs)) ≡ false
+    none-far n h k m = none-append us (w ∷ (x ∷ vs)) n (ap (λ b. b || (p x || list_any p vs)) h ∙ ap (λ b. b || list_any p vs) k ∙ m)
+
+    pub first-far : list_any p us ≡ false → p w ≡ false → p x ≡ false → list_any p vs ≡ false → p y ≡ true → first p (us ++ w ∷ (x ∷ (vs ++ y ∷ ys))) ≡ Some y
+    first-far n h k m t = ap (first p) (sym far) ∙ first-amid (us ++ w ∷ (x ∷ vs)) y ys (none-far n h k m) t
+
+    pub change-far : (f : X → X) → list_any p us ≡ false → p w ≡ false → p x ≡ false → list_any p vs ≡ false → p y ≡ true → change p f (us ++ w ∷ (x ∷ (vs ++ y ∷ ys))) ≡ us ++ w ∷ (x ∷ (vs ++ f y ∷ ys))
+    change-far f n h k m t = ap (change p f) (sym far) ∙ change-amid f (us ++ w ∷ (x ∷ vs)) y ys (none-far n h k m) t ∙ append_assoc us (w ∷ (x ∷ vs)) (f y ∷ ys)
+
+    pub without-far : list_any p us ≡ false → p w ≡ false → p x ≡ false → list_any p vs ≡ false → p y ≡ true → without p (us ++ w ∷ (x ∷ (vs ++ y ∷ ys))) ≡ us ++ w ∷ (x ∷ (vs ++ ys))
+    without-far n h k m t = ap (without p) (sym far) ∙ without-amid (us ++ w ∷ (x ∷ vs)) y ys (none-far n h k m) t ∙ append_assoc us (w ∷ (x ∷ vs)) ys
 
 -- ---- a box amid the boxes
 

@@ -1,4 +1,4 @@
--- A firing of U2, G1, G2 or G3 lowers the measure.
+-- A firing of a rule of class magic lowers the measure.
 use Rattle.std.proofs.Common.{◌≡◌, ◌<◌, None, ap, sym, subst, ◌∙◌, inl, inr}
 use Rattle.qgm_core.specs.Boxes.{QueryGraph, numbers}
 use Rattle.qgm_core.specs.Edits.{compact}
@@ -14,8 +14,9 @@ use Rattle.qgm_props.specs.Measure.{Lowers}
 use Rattle.qgm_props.proofs.MeasureLaws.{measure-falls}
 use Rattle.rule_magic.specs.AbsorbExact.{inferred-told}
 use Rattle.rule_magic.specs.AbsorbGroup.{AbsorbsGroup, GroupAt, KeylessAt, absorbed_group, absorbed_keyless}
-use Rattle.rule_magic.specs.AbsorbMeasure.{FeedFiringLowers, GroupFiringLowers, IsLower, ScalarFiringLowers, SelectFiringLowers}
+use Rattle.rule_magic.specs.AbsorbMeasure.{FeedFiringLowers, GroupFiringLowers, IsLower, ScalarFiringLowers, SelectFiringLowers, SetFiringLowers}
 use Rattle.rule_magic.specs.AbsorbSelect.{AbsorbsSelect, SelectAt, absorbed_select}
+use Rattle.rule_magic.specs.AbsorbSetOperation.{AbsorbsSet, tagged_set}
 use Rattle.rule_magic.specs.Feeding.{inferred_facts}
 use Rattle.rule_magic.specs.Places.{AbsorbsBy}
 use Rattle.rule_feed.proofs.FeedKeeps.{firing-lowers}
@@ -25,6 +26,8 @@ use Rattle.rule_subquery.proofs.ScalarToGroupKeeps.{group-preserves}
 use Rattle.rule_magic.proofs.AbsorbGroupKeeps as keyed
 use Rattle.rule_magic.proofs.AbsorbKeylessKeeps as keyless
 use Rattle.rule_magic.proofs.AbsorbSelectKeeps as select
+use Rattle.rule_magic.proofs.AbsorbSetPlaces.{action-at}
+use Rattle.rule_magic.proofs.AbsorbSetTagged.{set-absorbed}
 use Rattle.rule_magic.proofs.CompactMeasure.{compact-lowers}
 use Rattle.rule_magic.proofs.ScalarToGroupMeasure.{scalar-lowers, scalar-ordered}
 
@@ -108,3 +111,13 @@ group-firing-lowers = λ p g h once wf acts. (
           (falls g after (numbers-once after.boxes (keyless.ordered-after g known d may x.q x.x x.o x.n x.om x.oc x.t x.up x.l1 x.l2 at)) (keyless.faultless-after g known d may x.q x.x x.o x.n x.om x.oc x.t x.up x.l1 x.l2 at)
           (keyless.lowers g known d may x.q x.x x.o x.n x.om x.oc x.t x.up x.l1 x.l2 at)))
     ])
+
+pub set-firing-lowers : SetFiringLowers
+unfolding AbsorbsSet
+set-firing-lowers = λ p g h once wf acts. (
+    let d = acts.0 in
+    let x = acts.1 in
+    let known = inferred_facts g.boxes in
+    let after = tagged_set g known d x.may.ready x.may.form x.mt x.l x.r x.x x.y x.s x.u x.t x.up x.l1 x.l2 in
+    let k = set-absorbed g known d x.may.ready x.may.form x.may.types x.mt x.l x.r x.x x.y x.s x.u x.t x.up x.l1 x.l2 (action-at g h once wf p d x) in
+    subst (IsLower g) (sym x.after) (falls g after k.once k.faultless k.lowers))

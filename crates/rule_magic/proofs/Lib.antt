@@ -17,6 +17,8 @@ pub mod FedCondition
 pub mod HeadSteps
 pub mod Region
 pub mod AbsorbOpenSet
+pub mod RenamedFormed
+pub mod AbsorbOpenFormed
 pub mod AbsorbOpenKeeps
 pub mod AbsorbOpenLowers
 pub mod RenamedMade
@@ -30,6 +32,16 @@ pub mod AbsorbGroupFormed
 pub mod AbsorbGroupKeeps
 pub mod KeyedFormed
 pub mod CountedFormed
+pub mod FrontColumns
+pub mod OuterFormed
+pub mod PutColumns
+pub mod LedColumns
+pub mod AbsorbOuterFacts
+pub mod AbsorbLeftFormed
+pub mod AbsorbLeftKeeps
+pub mod AbsorbArmsPlaced
+pub mod AbsorbArmsFormed
+pub mod AbsorbArmsKeeps
 pub mod JoinedFormed
 pub mod AbsorbKeylessFormed
 pub mod MagicWidth
@@ -41,3 +53,8 @@ pub mod AbsorbGroupActs
 pub mod CompactMeasure
 pub mod ScalarToGroupMeasure
 pub mod FiringMeasure
+pub mod FedTypes
+pub mod RenameSteps
+pub mod AbsorbSetActs
+pub mod AbsorbSetTagged
+pub mod AbsorbSetPlaces

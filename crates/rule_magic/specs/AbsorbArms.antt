@@ -1,11 +1,25 @@
 -- Two arms of a box under a fed one, which become selects over the magic box and them.
-use Rattle.std.specs.Prelude.{ℕ, ◌≡◌, ◌==◌, ◌&&◌, ◌⊎◌, Bool, true, false, [], ◌∷◌}
-use Rattle.qgm_core.specs.Boxes.{QueryGraph, owns}
-use Rattle.list_laws.specs.Lists.{In}
+use Rattle.std.specs.Prelude.{ℕ, ◌≡◌, ◌==◌, ◌&&◌, ◌⊎◌, if◌then◌else◌, Bool, true, false, List, [], ◌∷◌}
+use Rattle.qgm_core.specs.Boxes.{QueryGraph, has_box, ids_in, owns}
+use Rattle.list_laws.specs.Lists.{In, times}
+use Rattle.qgm_core.specs.declared.kinds.Role.{Role}
+use Rattle.qgm_core.specs.declared.kinds.Role.TheVariants.{Fed, Plain}
 use Rattle.qgm_core.specs.declared.node.Node.{Node}
 use Rattle.qgm_core.specs.declared.owned.OwnedQuant.{OwnedQuant}
 use Rattle.qgm_meaning.specs.Scope.{introduces, loose, put_node}
 use Rattle.qgm_meaning.specs.Tags.{columns_from}
+use Rattle.qgm_props.specs.Calm.{is_closed}
+
+-- the select over the magic box and box b is fed where b is open
+abbrev pub role_over : List Node → ℕ → Role
+role_over bs b = if is_closed bs b then Plain else Fed
+
+-- numbers of a box and of two quantifiers that the graph doesn't have
+pub record IsFreshSelect (g : QueryGraph) (s u p : ℕ) : Type 0 where
+  pub s_new : has_box g.boxes s ≡ false
+  pub u_new : times u (ids_in g.boxes) ≡ 0
+  pub p_new : times p (ids_in g.boxes) ≡ 0
+  pub apart : (u == p) ≡ false
 
 -- the boxes below an open right arm, in which names of a become those of p, which ranges over the magic box too
 pub record Renames (g : QueryGraph) (a p : ℕ) (marked : ℕ → Bool) : Type 0 where

@@ -31,11 +31,11 @@ group-is OuterJoin h = absurd (let z : ⊥ = cc in z)
 
 module _ (g : QueryGraph) (o : Ordered g.boxes) (b : ℕ) where
   -- a group is inferred clean exactly where its sentence says so
-  said-clean : (n : Node) → In n g.boxes → clean_by g.boxes (inferred_facts g.boxes) n.parts.kind n ≡ true → Inferred g.boxes (clean n.id)
+  pub said-clean : (n : Node) → In n g.boxes → clean_by g.boxes (inferred_facts g.boxes) n.parts.kind n ≡ true → Inferred g.boxes (clean n.id)
   said-clean n i h =
       least g.boxes (inferred_facts g.boxes) (λ fact k. (inferred-told g.boxes fact).0 k) (clean n.id) (ap (of_box false (λ (z : Node). clean_by g.boxes (inferred_facts g.boxes) z.parts.kind z)) (in-first n g.boxes o i) ∙ h)
 
-  clean-sentence : (n : Node) → In n g.boxes → infers g.boxes (clean n.id) ≡ true → clean_by g.boxes (inferred_facts g.boxes) n.parts.kind n ≡ true
+  pub clean-sentence : (n : Node) → In n g.boxes → infers g.boxes (clean n.id) ≡ true → clean_by g.boxes (inferred_facts g.boxes) n.parts.kind n ≡ true
   clean-sentence n i h = clean-said g.boxes (inferred_facts g.boxes) (inferred-told g.boxes) o n i ((told g.boxes (clean n.id)).0 h)
 
   group-from : (f : Feeding) → IsFeeding g b f → may_absorb_group g f ≡ true → MayAbsorbGroupAt (record { at = b; i = 0; j = 0 }) g f.d

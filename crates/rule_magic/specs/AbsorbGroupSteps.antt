@@ -10,10 +10,8 @@ use Rattle.qgm_core.specs.declared.kinds.QuantKind.TheVariants.{F}
 use Rattle.qgm_core.specs.declared.kinds.Role.TheVariants.{Fed, Plain}
 use Rattle.qgm_core.specs.declared.node.Node.{Node}
 use Rattle.qgm_core.specs.declared.owned.OwnedQuant.{OwnedQuant}
-use Rattle.qgm_core.specs.declared.parts.BoxParts.{BoxParts}
 use Rattle.qgm_meaning.specs.Tags.{columns_from}
-use Rattle.qgm_terms.specs.Conjuncts.{Conjuncts}
-use Rattle.rule_magic.specs.Boxes.{counted, keyed, later, of_both, same_each}
+use Rattle.rule_magic.specs.Boxes.{counted, keyed, later, new_parts, no_conds, of_both, same_each}
 use Rattle.rule_magic.specs.Feeding.{Feeding}
 use Rattle.rule_magic.specs.declared.absorb_group.grouped.Grouped.{Grouped}
 use Rattle.rule_magic.specs.declared.absorb_group.keyless.NewNumbers.{NewNumbers}
@@ -52,13 +50,6 @@ abbrev pub grouping : List Node → Node → Option Grouping
 grouping bs c = grouping_by bs c.quants c.parts.kind
 
 -- ---- the edits
-
-abbrev pub no_conds : Conjuncts
-no_conds = record { items = []; spare = 0 }
-
--- a new box without a cell
-abbrev pub new_parts : BoxKind → BoxParts
-new_parts kind = record { kind = kind; distinct = Preserve; role = Plain; conds = no_conds; head = [] }
 
 -- c is the fed box, over the magic box by a and over x by q
 abbrev pub fed_below : Feeding → OwnedQuant → Node → QueryGraph → QueryGraph

@@ -1,6 +1,7 @@
 -- The boxes that absorbing makes.
 use Rattle.std.specs.Prelude.{ℕ, suc, ◌++◌, pos, zero, Bool, true, false, List, [], ◌∷◌, map}
 use Rattle.sql_value.specs.declared.order_key.SqlType.{SqlType}
+use Rattle.qgm_terms.specs.Conjuncts.{Conjuncts}
 use Rattle.qgm_terms.specs.Substitution.{substituted, substituted_cond}
 use Rattle.qgm_terms.specs.Terms.{Cond, Term, arm, choose, col, compare, int, is_null, no_arm, same}
 use Rattle.qgm_core.specs.Edits.{range}
@@ -14,8 +15,16 @@ use Rattle.qgm_core.specs.declared.kinds.Role.TheVariants.{Plain}
 use Rattle.qgm_core.specs.declared.kinds.SetOperator.{SetOperator}
 use Rattle.qgm_core.specs.declared.node.Node.{Node}
 use Rattle.qgm_core.specs.declared.owned.OwnedQuant.{OwnedQuant}
+use Rattle.qgm_core.specs.declared.parts.BoxParts.{BoxParts}
 use Rattle.qgm_meaning.specs.Tags.{columns_from}
 use Rattle.qgm_props.specs.Inferred.{is_count}
+
+abbrev pub no_conds : Conjuncts
+no_conds = record { items = []; spare = 0 }
+
+-- a new box without a cell
+abbrev pub new_parts : BoxKind → BoxParts
+new_parts kind = record { kind = kind; distinct = Preserve; role = Plain; conds = no_conds; head = [] }
 
 abbrev pub box_as : ℕ → BoxKind → Distinct → Role → List Cond → List Term → List OwnedQuant → Node
 box_as b kind distinct role conds head quants = record {

@@ -17,4 +17,8 @@ pub mod AbsorbArms
 pub mod AbsorbSetOperation
 pub mod Region
 pub mod Renamed
+pub mod Operands
+pub mod RenameSteps
+pub mod AbsorbSetSteps
+pub mod AbsorbSetOperationExact
 pub mod AbsorbOuterJoin

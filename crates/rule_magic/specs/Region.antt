@@ -1,7 +1,7 @@
 -- The boxes that an open operand reaches, in which names of the magic box's quantifier become those of a new one.
-use Rattle.std.specs.Prelude.{ℕ, ◌≡◌, ◌≤◌, ◌<◌, ◌==◌, ◌&&◌, ◌||◌, ◌⊎◌, not, Bool, true, false, List, [], ◌∷◌}
+use Rattle.std.specs.Prelude.{ℕ, ◌≡◌, ◌≤◌, ◌<◌, ◌==◌, ◌&&◌, ◌||◌, ◌⊎◌, not, Bool, true, false, List, [], ◌∷◌, Some}
 use Rattle.std.specs.List.{list_any}
-use Rattle.qgm_core.specs.Boxes.{Ordered, has_box, ids_in, owns}
+use Rattle.qgm_core.specs.Boxes.{Ordered, has_box, ids_in, owns, width}
 use Rattle.qgm_core.specs.Free.{reached}
 use Rattle.list_laws.specs.Lists.{In, holds, times}
 use Rattle.qgm_core.specs.declared.node.Node.{Node}
@@ -10,7 +10,11 @@ use Rattle.qgm_meaning.specs.Scope.{loose, put_node}
 use Rattle.qgm_meaning.specs.Tags.{columns_from}
 use Rattle.qgm_edit_laws.specs.Graph.{Fits, Sound, reads_in}
 use Rattle.qgm_edit_laws.specs.Placed.{place}
-use Rattle.qgm_edit_laws.specs.Rebuilds.{StaysIn}
+use Rattle.qgm_edit_laws.specs.Rebuilds.{HasForm, StaysIn}
+use Rattle.qgm_edit_laws.specs.Reforms.{types_at}
+use Rattle.qgm_edit_laws.specs.Shaped.{Shaped, Typed}
+use Rattle.qgm_edit_laws.specs.TypesBy.{Types}
+use Rattle.qgm_wellformed.specs.Columns.{box_under}
 use Rattle.rule_magic.specs.Renamed.{MayRename}
 
 -- the boxes that box y reaches
@@ -62,3 +66,20 @@ abbrev pub RegionStays : Type 0
 RegionStays =
     (bs hs : List Node) (root : ℕ) (o : Node) (r : OwnedQuant) (a p w : ℕ) (kept : ℕ → Bool) (look : ℕ → ℕ → Bool) → Sound bs root → IsArm bs o r a → RenamesBelow bs hs kept look r.over a p w
     → (n : Node) → In n bs → is_below bs r.over n.id ≡ true → loose bs n.id a ≡ false → (put_node a (columns_from p 1 w) n ≡ n) × StaysIn bs hs kept look n
+
+-- in the graph after it, which is sound, these boxes have their types, and who ranges over a renamed one did before; a ranged over m, which has w columns, and so does p
+pub record RetypesBelow (bs hs : List Node) (root : ℕ) (T : Types) (m : Node) (y a p w : ℕ) : Type 0 where
+  pub sound : Sound hs root
+  pub looks : (b q : ℕ) → is_below bs y b ≡ true → loose hs b q ≡ (((q == p) && loose bs b a) || (not (q == a) && loose bs b q))
+  pub users : (n : Node) (s : OwnedQuant) → In n hs → In s n.quants → is_below bs y s.over ≡ true → loose bs s.over a ≡ true → (v : Node) × ((t : OwnedQuant) × (In v bs × (In t v.quants × ((t.over ≡ s.over) × (t.kind ≡ s.kind)))))
+  pub types : (b : ℕ) → is_below bs y b ≡ true → T b ≡ types_at bs b
+  pub under_a : box_under bs a ≡ Some m
+  pub under_p : box_under hs p ≡ Some m
+  pub types_m : T m.id ≡ types_at bs m.id
+  pub wide : width m ≡ w
+
+-- so each renamed box has its form
+abbrev pub RegionForms : Type 0
+RegionForms =
+    (bs hs : List Node) (root : ℕ) (o : Node) (r : OwnedQuant) (a p w : ℕ) (kept : ℕ → Bool) (look : ℕ → ℕ → Bool) (T : Types) (m : Node) → Sound bs root → Typed bs → Shaped bs root → IsArm bs o r a → RenamesBelow bs hs kept look r.over a p w
+    → RetypesBelow bs hs root T m r.over a p w → (n : Node) → In n bs → is_below bs r.over n.id ≡ true → loose bs n.id a ≡ true → HasForm hs root T (put_node a (columns_from p 1 w) n)

@@ -1,11 +1,11 @@
 // The laws, as theorems.
 ghost use Rattle.rule_magic.specs.AbsorbGroup.{GroupBags, KeylessBags, GroupLowers, GroupPreserves, KeylessLowers, KeylessPreserves};
-ghost use Rattle.rule_magic.specs.AbsorbMeasure.{CompactLowers, FeedFiringLowers, GroupFiringLowers, ScalarFiringLowers, SelectFiringLowers};
-ghost use Rattle.rule_magic.specs.AbsorbOuterJoin.{AbsorbsArms, AbsorbsLeft};
+ghost use Rattle.rule_magic.specs.AbsorbMeasure.{CompactLowers, FeedFiringLowers, GroupFiringLowers, ScalarFiringLowers, SelectFiringLowers, SetFiringLowers};
+ghost use Rattle.rule_magic.specs.AbsorbOuterJoin.{AbsorbsArms, AbsorbsLeft, OuterArmsLowers, OuterArmsPreserves, OuterLeftLowers, OuterLeftPreserves};
 ghost use Rattle.rule_magic.specs.AbsorbSelect.{SelectBags, SelectLowers, SelectPreserves};
-ghost use Rattle.rule_magic.specs.AbsorbSetOperation.{AbsorbsSets, SetLowers, SetOpenLowers, SetOpenPreserves, SetOpenSound, SetPreserves, SetsGiven};
+ghost use Rattle.rule_magic.specs.AbsorbSetOperation.{SetBags, SetLowers, SetOpenLowers, SetOpenPreserves, SetOpenSound, SetPreserves, SetsGiven};
 ghost use Rattle.rule_magic.specs.CalmFires.{CalmFires};
-ghost use Rattle.rule_magic.specs.Region.{ArmHasRegion, RegionRenames, RegionStays};
+ghost use Rattle.rule_magic.specs.Region.{ArmHasRegion, RegionForms, RegionRenames, RegionStays};
 ghost use Rattle.rule_magic.specs.Renamed.{RenamedIsMade, RenamedIsTyped};
 ghost use Rattle.rule_magic.specs.UnderTags.{BothArmsUnderTags, DistinctUnderTags, KeyedGroupsUnderTags, LeftArmUnderTags, SelectsUnderTags, SetsUnderTags, SingleGroupsUnderTags};
 
@@ -20,7 +20,7 @@ pub fn row_laws()
     ensures both_arms { BothArmsUnderTags }
 {}
 
-/// G2 to G5: the box that stands in the place of a fed box has its bag, in every environment. G2, and G3 with keys and without, preserve the graph, and so does G4 where its right operand is closed, and where the check finds nothing after it; the conditions of G4 give what its bag needs. Boxes below an open operand may be renamed, and keep their types. It does nothing.
+/// G2 to G5: the box that stands in the place of a fed box has its bag, in every environment, and the graph is preserved: by G3 with keys and without, by G4 and G5 with a closed right operand and with an open one; the conditions of G4 give what its bag needs. Boxes below an open operand may be renamed, and keep their types and forms. It does nothing.
 pub fn absorbing_laws()
     ensures select { SelectBags }
     ensures select_preserves { SelectPreserves }
@@ -28,7 +28,7 @@ pub fn absorbing_laws()
     ensures group_preserves { GroupPreserves }
     ensures keyless { KeylessBags }
     ensures keyless_preserves { KeylessPreserves }
-    ensures sets { AbsorbsSets }
+    ensures sets { SetBags }
     ensures sets_given { SetsGiven }
     ensures set_preserves { SetPreserves }
     ensures set_open_sound { SetOpenSound }
@@ -36,24 +36,30 @@ pub fn absorbing_laws()
     ensures region { ArmHasRegion }
     ensures region_renames { RegionRenames }
     ensures region_stays { RegionStays }
+    ensures region_forms { RegionForms }
     ensures renamed { RenamedIsMade }
     ensures renamed_types { RenamedIsTyped }
     ensures outer_left { AbsorbsLeft }
+    ensures outer_left_preserves { OuterLeftPreserves }
     ensures outer_arms { AbsorbsArms }
+    ensures outer_arms_preserves { OuterArmsPreserves }
 {}
 
-/// G2 to G4 lower the measure; a graph that is lower stays lower without the boxes that its root doesn't reach, so each firing of U2, G1, G2 and G3 lowers it. It does nothing.
+/// G2 to G5 lower the measure; a graph that is lower stays lower without the boxes that its root doesn't reach, so each firing of U2 and of G1 to G4 lowers it. It does nothing.
 pub fn measure_laws()
     ensures select { SelectLowers }
     ensures group { GroupLowers }
     ensures keyless { KeylessLowers }
     ensures set { SetLowers }
     ensures set_open { SetOpenLowers }
+    ensures outer_left { OuterLeftLowers }
+    ensures outer_arms { OuterArmsLowers }
     ensures compacted { CompactLowers }
     ensures scalar_fires { ScalarFiringLowers }
     ensures feed_fires { FeedFiringLowers }
     ensures select_fires { SelectFiringLowers }
     ensures group_fires { GroupFiringLowers }
+    ensures set_fires { SetFiringLowers }
 {}
 
 /// In a calm graph with an open box one of the rules of class magic has a place. It does nothing.

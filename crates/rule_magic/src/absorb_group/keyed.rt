@@ -7,16 +7,10 @@ ghost use Rattle.rule_magic.specs.Feeding.{as_feeding};
 use crate::absorb_group::grouped::Grouped;
 use crate::fed::{Fed, width};
 use crate::heads::{keyed, of_both};
-use qgm_core::{BoxKind, Conds, Distinct, Graph, Node, OwnedQuant, Role};
+use crate::parts::no_conds;
+use qgm_core::{BoxKind, Distinct, Graph, Node, OwnedQuant, Role};
 use shared_types::OutOfMemory;
 use std::alloc::Global;
-
-/// No condition.
-pub fn no_conds(alloc: Global) -> Conds
-    ensures { result ≡ spec.no_conds }
-{
-    Conds::new(alloc)
-}
 
 /// The graph where c is the fed box, over the magic box, and over x by q.
 pub fn fed_below(

@@ -8,10 +8,11 @@ ghost use Rattle.rule_magic.specs.Feeding.{as_feeding};
 use crate::absorb_group::counts::counted;
 use crate::absorb_group::grouped::Grouped;
 use crate::absorb_group::joined::{joined_head, same_each};
-use crate::absorb_group::keyed::{fed_below, no_conds};
+use crate::absorb_group::keyed::fed_below;
 use crate::fed::{Fed, width};
 use crate::heads::keyed;
-use qgm_core::{BoxId, BoxKind, BoxParts, Distinct, Graph, Head, QuantId, QuantKind, Role};
+use crate::parts::{new_parts, no_conds};
+use qgm_core::{BoxId, BoxKind, Graph, QuantId, QuantKind, Role};
 use shared_types::OutOfMemory;
 use std::alloc::Global;
 
@@ -24,19 +25,6 @@ pub struct NewNumbers {
     pub om: QuantId,
     pub oc: QuantId,
     pub p: QuantId,
-}
-
-// The parts of a new box, without a cell.
-fn new_parts(alloc: Global, kind: BoxKind) -> BoxParts
-    ensures { result ≡ spec.new_parts kind }
-{
-    BoxParts {
-        kind,
-        distinct: Distinct::Preserve,
-        role: Role::Plain,
-        conds: no_conds(alloc),
-        head: Head::new(alloc),
-    }
 }
 
 // Below d come an outer join and a group, with their quantifiers.

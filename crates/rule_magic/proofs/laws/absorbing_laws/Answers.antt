@@ -2,12 +2,15 @@ use Rattle.rule_magic.proofs.AbsorbSetFacts.{sets-given}
 use Rattle.rule_magic.proofs.AbsorbArmBags.{absorbs-arms, absorbs-left, absorbs-sets}
 use Rattle.rule_magic.proofs.AbsorbBags.{absorbs-group, absorbs-keyless, absorbs-select}
 use Rattle.rule_magic.proofs.AbsorbGroupKeeps.{group-preserves}
+use Rattle.rule_magic.proofs.AbsorbArmsKeeps.{outer-arms-preserves}
+use Rattle.rule_magic.proofs.AbsorbLeftKeeps.{outer-left-preserves}
 use Rattle.rule_magic.proofs.AbsorbKeylessKeeps.{keyless-preserves}
 use Rattle.rule_magic.proofs.AbsorbSelectKeeps.{select-preserves}
 use Rattle.rule_magic.proofs.AbsorbOpenKeeps.{set-open-preserves}
 use Rattle.rule_magic.proofs.AbsorbOpenSet.{set-open-sound}
 use Rattle.rule_magic.proofs.AbsorbSetKeeps.{set-preserves}
 use Rattle.rule_magic.proofs.Region.{arm-has-region, region-renames, region-stays}
+use Rattle.rule_magic.proofs.RenamedFormed.{region-forms}
 use Rattle.rule_magic.proofs.RenamedMade.{renamed-is-made}
 use Rattle.rule_magic.proofs.RenamedTyped.{renamed-is-typed}
 use Rattle.rule_magic.proofs.laws.absorbing_laws.Goals as goal
@@ -60,8 +63,17 @@ returns-clause-region_renames c = region-renames
 pub returns-clause-region_stays : goal.returns-clause-region_stays
 returns-clause-region_stays c = region-stays
 
+pub returns-clause-region_forms : goal.returns-clause-region_forms
+returns-clause-region_forms c = region-forms
+
 pub returns-clause-renamed : goal.returns-clause-renamed
 returns-clause-renamed c = renamed-is-made
 
 pub returns-clause-renamed_types : goal.returns-clause-renamed_types
 returns-clause-renamed_types c = renamed-is-typed
+
+pub returns-clause-outer_left_preserves : goal.returns-clause-outer_left_preserves
+returns-clause-outer_left_preserves c = outer-left-preserves
+
+pub returns-clause-outer_arms_preserves : goal.returns-clause-outer_arms_preserves
+returns-clause-outer_arms_preserves c = outer-arms-preserves

@@ -1,10 +1,12 @@
 use Rattle.rule_magic.proofs.AbsorbGroupKeeps.{group-lowers}
+use Rattle.rule_magic.proofs.AbsorbArmsKeeps.{outer-arms-lowers}
+use Rattle.rule_magic.proofs.AbsorbLeftKeeps.{outer-left-lowers}
 use Rattle.rule_magic.proofs.AbsorbKeylessKeeps.{keyless-lowers}
 use Rattle.rule_magic.proofs.AbsorbSelectKeeps.{select-lowers}
 use Rattle.rule_magic.proofs.AbsorbOpenLowers.{set-open-lowers}
 use Rattle.rule_magic.proofs.AbsorbSetKeeps.{set-lowers}
 use Rattle.rule_magic.proofs.CompactMeasure.{compact-lowers}
-use Rattle.rule_magic.proofs.FiringMeasure.{feed-firing-lowers, group-firing-lowers, scalar-firing-lowers, select-firing-lowers}
+use Rattle.rule_magic.proofs.FiringMeasure.{feed-firing-lowers, group-firing-lowers, scalar-firing-lowers, select-firing-lowers, set-firing-lowers}
 use Rattle.rule_magic.proofs.laws.measure_laws.Goals as goal
 
 pub returns-clause-select : goal.returns-clause-select
@@ -36,3 +38,12 @@ returns-clause-set c = set-lowers
 
 pub returns-clause-set_open : goal.returns-clause-set_open
 returns-clause-set_open c = set-open-lowers
+
+pub returns-clause-outer_left : goal.returns-clause-outer_left
+returns-clause-outer_left c = outer-left-lowers
+
+pub returns-clause-outer_arms : goal.returns-clause-outer_arms
+returns-clause-outer_arms c = outer-arms-lowers
+
+pub returns-clause-set_fires : goal.returns-clause-set_fires
+returns-clause-set_fires c = set-firing-lowers

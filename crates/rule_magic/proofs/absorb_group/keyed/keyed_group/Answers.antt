@@ -6,8 +6,7 @@ use Rattle.qgm_core.specs.declared.kinds.BoxKind.TheVariants.{Group}
 use Rattle.qgm_core.specs.declared.kinds.Role.TheVariants.{Plain}
 use Rattle.qgm_terms.specs.Conjuncts.{Conjuncts}
 use Rattle.qgm_terms.specs.Terms.{Term}
-use Rattle.rule_magic.specs.AbsorbGroupSteps.{no_conds}
-use Rattle.rule_magic.specs.Boxes.{keyed}
+use Rattle.rule_magic.specs.Boxes.{keyed, no_conds}
 use Rattle.rule_magic.specs.Feeding.{as_feeding}
 use Rattle.rule_magic.proofs.absorb_group.keyed.keyed_group.Goals as goal
 
