@@ -54,9 +54,8 @@ fn place_from(c: &Gc, loops: &[Loop<'_>]) -> usize
     place
 }
 
-/// The conditions of a select that are tested as soon as the quantifiers that they read are bound: none
-/// where a box under one of these is evaluated anew, so that no evaluation is left out. It fails only for
-/// want of memory.
+/// The conditions of a select that are tested as soon as the quantifiers that they read are bound. It fails
+/// only for want of memory.
 #[inline(never)]
 pub(crate) fn early_conds<'a>(
     alloc: Global,
@@ -66,7 +65,7 @@ pub(crate) fn early_conds<'a>(
     ensures { IfOk result (λ made. All (λ e. IsEarly node.now loops.now e) made.items) }
 {
     let mut made = Vec::new(alloc);
-    if !node.parts.kind.is_select() || loops.iter().any(|l| is_open(l.under)) {
+    if !node.parts.kind.is_select() {
         return Ok(made);
     }
     for c in node.parts.conds.as_slice() {
