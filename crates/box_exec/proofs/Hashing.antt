@@ -14,7 +14,8 @@ use Rattle.qgm_meaning.specs.Meaning.{bag_in, given, given_by, over_each, quant_
 use Rattle.qgm_meaning.specs.Values.{Bag, Environment, bound, truth}
 use Rattle.qgm_terms.specs.Shown as shown
 use Rattle.box_exec.specs.Early.{is_none, is_open, rejects}
-use Rattle.box_exec.specs.Hashed.{AllFound, AllHashed, AllKept, HashesAt, KeptPlan, LeadsAt, rows_kept}
+use Rattle.box_exec.specs.Hashed.{AllFound, AllKept, KeptPlan, LeadsAt, rows_kept}
+use Rattle.box_exec.specs.Lasting.{AllHashed, HashesAt}
 use Rattle.box_exec.specs.Equalities.{IsKey, other_of, own_of}
 use Rattle.box_exec.specs.Lookup.{Leads, RejectsBy}
 use Rattle.box_exec.specs.Plans.{Planned, family, left_at, tables_of}
@@ -97,9 +98,9 @@ made-more {X = X} P ls hs new o i l long inside is en made all j m h within it f
           (some-is (λ h. P i l h) o h last.1 made)))
     ]
 
-pub hashed-more : (at : At) (hs new : List (Option Hashed)) (o : Option Hashed) (i : ℕ) (l : Loop) → length hs ≡ i → i < length at.loops.now → l ≡ get_or at.loops.now i l → new ≡ hs ++ o ∷ []
-    → IfSome o (λ h. HashesAt at i l h) → AllHashed at hs → AllHashed at new
-hashed-more at hs new o i l long inside is en made all = made-more (λ i l h. HashesAt at i l h) at.loops.now hs new o i l long inside is en made all
+pub hashed-more : (es : List Early) (ls : List Loop) (hs new : List (Option Hashed)) (o : Option Hashed) (i : ℕ) (l : Loop) → length hs ≡ i → i < length ls → l ≡ get_or ls i l → new ≡ hs ++ o ∷ []
+    → IfSome o (λ h. HashesAt es i l h) → AllHashed es ls hs → AllHashed es ls new
+hashed-more es ls hs new o i l long inside is en made all = made-more (λ i l h. HashesAt es i l h) ls hs new o i l long inside is en made all
 
 pub found-more : (ls : List Loop) (fs new : List (Option Bag)) (o : Option Bag) (i : ℕ) (l : Loop) → length fs ≡ i → i < length ls → l ≡ get_or ls i l → new ≡ fs ++ o ∷ []
     → IfSome o (λ f. f ≡ rows_kept l.under) → AllFound ls fs → AllFound ls new

@@ -7,6 +7,7 @@ mod Quantifiers
 mod Parts
 mod Names
 mod Entries
+mod Lasting
 mod HandedOn
 mod Roots
 mod Tails

@@ -6,7 +6,7 @@ use Rattle.qgm_core.specs.declared.owned.OwnedQuant.{OwnedQuant}
 use Rattle.qgm_meaning.specs.Meaning.{Family, bag_in, rows_of}
 use Rattle.qgm_meaning.specs.Values.{Bag, Environment}
 use Rattle.row_bag.specs.declared.tables.Table.{Table}
-use Rattle.box_exec.specs.Early.{IsEarly}
+use Rattle.box_exec.specs.Lasting.{AllPlanned, IsPlan, rows_kept, rows_stored}
 use Rattle.box_exec.specs.Ready.{Fit, Stands, over_left}
 use Rattle.box_exec.specs.declared.boxes.At.{At}
 use Rattle.box_exec.specs.declared.under.Loop.{Loop}
@@ -21,12 +21,18 @@ family at = bag_in (tables_of at) at.below.now
 abbrev pub ranges : List Loop → List OwnedQuant
 ranges ls = map (λ l. l.range) ls
 
--- its quantifiers with what stands under each
+-- the rows that are kept of the boxes below it
+abbrev pub stored : At → ℕ → Bag
+stored at = rows_stored at.run.now.memo.now at.below.now
+
+-- its quantifiers with what stands under each, and what is made once of it
 pub record Planned (at : At) : Type 0 where
   pub ranged : ranges at.loops.now ≡ at.node.now.quants
   pub stand : All (λ l. Stands (tables_of at) at.run.now.memo.now at.below.now l.range.over l.under) at.loops.now
   pub fit : Fit at.node.now at.below.now
-  pub early : All (λ e. IsEarly at.node.now at.loops.now e) at.early.now
+  pub rows : All (λ l. rows_kept l.under ≡ stored at l.range.over) at.loops.now
+  pub plan : IsPlan at.node.now (stored at) at.early.now at.hashed.now
+  pub plans : AllPlanned at.run.now.memo.now at.run.now.plans.now at.below.now
 
 -- what stands under a quantifier of it
 abbrev pub StandsAt : At → Loop → Type 0

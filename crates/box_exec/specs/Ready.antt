@@ -13,8 +13,10 @@ use Rattle.qgm_meaning.specs.Values.{Bag, Environment}
 use Rattle.row_bag.specs.Bags.{Alike}
 use Rattle.row_bag.specs.declared.tables.Table.{Table}
 use Rattle.box_exec.specs.Costs.{Keeps, asked}
+use Rattle.box_exec.specs.Lasting.{AllPlanned}
 use Rattle.qgm_meaning.specs.Plain.{counted_by}
 use Rattle.box_exec.specs.Sources.{held, rows_held}
+use Rattle.box_exec.specs.declared.plan.Plan.{Plan}
 use Rattle.box_exec.specs.declared.source.Source.{Source}
 use Rattle.box_exec.specs.declared.source.Sub.{Sub}
 use Rattle.box_exec.specs.declared.under.Under.{Under}
@@ -80,6 +82,7 @@ pub record IsOpen (tables : List Table) (memo : List (Option Source)) (below : L
   pub fit : Fit n behind
   pub ready : Ready tables memo behind
   pub less : length n.quants + 7 + weight behind ≤ weight below
+  pub plans : (ps : List (Option Plan)) → AllPlanned memo ps below → AllPlanned memo ps (n ∷ behind)
   pub keeps : (kept : ℕ → Bool) → Keeps memo kept below → Keeps memo kept behind × ((env : Environment) → asked tables kept below b env ≡ counted_by n.parts.kind n (bag_in tables behind) (asked tables kept behind) env)
 
 -- what stands under a quantifier over box b

@@ -20,6 +20,7 @@ mod laws;
 mod lookup;
 mod memo;
 mod operand;
+mod plan;
 mod source;
 mod under;
 

@@ -1,10 +1,8 @@
-use Rattle.std.proofs.Common.{List, filter, subst, sym, Option}
+use Rattle.std.proofs.Common.{List, filter, subst, sym}
 use Rattle.qgm_core.specs.Kinds.{is_enforce}
 use Rattle.box_exec.specs.Bound.{env_of}
-use Rattle.box_exec.specs.Hashed.{AllHashed}
 use Rattle.box_exec.specs.Plans.{family, left_at, ranges}
 use Rattle.box_exec.specs.Ready.{SubsOf, isnt_F}
-use Rattle.box_exec.specs.declared.lookup.Hashed.{Hashed}
 use Rattle.box_exec.specs.declared.source.Sub.{Sub}
 use Rattle.box_exec.proofs.Loops.{rows-once}
 use Rattle.box_exec.proofs.Parts.{of_part}
@@ -16,8 +14,7 @@ over_kept-added-requires c =
     record {
       planned = c.requires.planned;
       kept = c.requires.kept;
-      hashed = subst (λ (hs : List (Option Hashed)). AllHashed at hs) (sym c.deref-2.ensures.value) c.in_ok-hashed.ensures;
-      subs = λ env. subst (λ (ss : List Sub). SubsOf (family at) env (filter isnt_F (ranges at.loops.now)) ss) (sym c.deref-3.ensures.value) (c.in_ok-subs.ensures env);
+      subs = λ env. subst (λ (ss : List Sub). SubsOf (family at) env (filter isnt_F (ranges at.loops.now)) ss) (sym c.deref-2.ensures.value) (c.in_ok-subs.ensures env);
     }
 
 pub returns : goal.returns
