@@ -111,7 +111,6 @@ planned-by at ls es hs el ee eh ranged stand rows fit plan plans = record {
   plans = plans;
 }
 
-
 plan-longer : (memo : List (Option Source)) (o : Option Source) (n : Node) (ns : List Node) (p : Option (Option Plan)) → length ns ≤ length memo → PlanFits memo n ns p → PlanFits (memo ++ o ∷ []) n ns p
 plan-longer memo o n ns None l h = tt
 plan-longer memo o n ns (Some None) l h = tt

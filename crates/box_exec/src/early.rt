@@ -57,10 +57,7 @@ fn place_from(c: &Gc, ranges: &[OwnedQuant]) -> usize
 /// The conditions of a select that are tested as soon as the quantifiers that they read are bound. It fails
 /// only for want of memory.
 #[inline(never)]
-pub(crate) fn early_conds<'a>(
-    alloc: Global,
-    node: &'a Node,
-) -> Result<Vec<Early<'a>>, OutOfMemory>
+pub(crate) fn early_conds<'a>(alloc: Global, node: &'a Node) -> Result<Vec<Early<'a>>, OutOfMemory>
     ensures { IfOk result (λ made. All (λ e. IsEarly node.now node.now.quants e) made.items) }
 {
     let mut made = Vec::new(alloc);

@@ -43,12 +43,7 @@ fn hashed_at<'a>(hashed: &'a [Option<Hashed<'a>>], i: usize) -> Option<&'a Hashe
 }
 
 // The way through the rows that are kept under the quantifier at a place.
-fn way_of<'a>(
-    at: &At<'a>,
-    i: usize,
-    l: &Loop<'_>,
-    env: &Bindings,
-) -> Result<Way<'a>, OutOfMemory>
+fn way_of<'a>(at: &At<'a>, i: usize, l: &Loop<'_>, env: &Bindings) -> Result<Way<'a>, OutOfMemory>
     requires planned { plan.Planned at.now }
     requires within { i < length at.now.loops.now }
     requires at { l.now ≡ get_or at.now.loops.now i l.now }
