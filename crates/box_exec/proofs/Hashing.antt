@@ -18,7 +18,7 @@ use Rattle.box_exec.specs.Hashed.{AllFound, AllKept, KeptPlan, LeadsAt, rows_kep
 use Rattle.box_exec.specs.Lasting.{AllHashed, HashesAt}
 use Rattle.box_exec.specs.Equalities.{IsKey, other_of, own_of}
 use Rattle.box_exec.specs.Lookup.{Leads, RejectsBy}
-use Rattle.box_exec.specs.Plans.{Planned, family, left_at, tables_of}
+use Rattle.box_exec.specs.Plans.{Bound, family, left_at, tables_of}
 use Rattle.box_exec.specs.Ready.{Stands as Under_stands}
 use Rattle.box_exec.specs.Sources.{held_by}
 use Rattle.box_exec.specs.declared.boxes.At.{At}
@@ -34,7 +34,7 @@ use Rattle.box_exec.specs.declared.under.Under.TheVariants.{Kept, Open, Nothing}
 use Rattle.box_exec.proofs.Lookups.{some-is}
 use Rattle.box_exec.proofs.Equalities.{apart-none}
 use Rattle.box_exec.proofs.Rejections.{any-at}
-use Rattle.box_exec.proofs.Quantifiers.{given-at, past-all}
+use Rattle.box_exec.proofs.Quantifiers.{given-free, past-ranges}
 use Rattle.list_laws.proofs.Booleans.{neither-left, neither-right}
 
 -- ---- what stands under quantifiers
@@ -56,10 +56,10 @@ pub last-given : (w : Whole) → KeptPlan w → (place : ℕ) → length w.at.no
 last-given w plan place h env =
     let at = w.at.now in
     let s = quant_rows at.node.now (family at) in
-    given-at at plan.planned w.subs.now w.subs.now env refl (plan.subs env) ∙ sym (ap (λ (rs : List OwnedQuant). over_each rs s (given_by s at.node.now) env) (past-all at plan.planned place h))
+    given-free (family at) at.node.now at.below.now w.subs.now env plan.fit (plan.subs env) ∙ sym (ap (λ (rs : List OwnedQuant). over_each rs s (given_by s at.node.now) env) (past-ranges at.loops.now place h))
 
 -- the rows at a place
-pub kept-at : (at : At) → Planned at → AllKept at.loops.now → (place : ℕ) (l : Loop) → place < length at.loops.now → l ≡ get_or at.loops.now place l → (env : Environment) → Alike (rows_kept l.under) (family at l.range.over env)
+pub kept-at : (at : At) → Bound at → AllKept at.loops.now → (place : ℕ) (l : Loop) → place < length at.loops.now → l ≡ get_or at.loops.now place l → (env : Environment) → Alike (rows_kept l.under) (family at l.range.over env)
 kept-at at plan kept place l inside is env =
     kept-alike (tables_of at) at.run.now.memo.now at.below.now l.range.over l.under (subst (λ (x : Loop). Under_stands (tables_of at) at.run.now.memo.now at.below.now x.range.over x.under) (sym is) (plan.stand place l inside))
     (subst (λ (x : Loop). is_open x.under ≡ false) (sym is) (kept place l inside)) env

@@ -2,19 +2,21 @@
 use Rattle.std.proofs.Common.{ℕ, suc, zero, ◌≡◌, ◌<◌, ◌≤◌, ◌+◌, ◌++◌, ◌==◌, ◌||◌, All, Bool, true, false, cond, List, [], ◌∷◌, drop, get_or, length, map, position, slice_get, Option, Some, None, add-one, refl, sym, ◌∙◌, ap, ap₂, subst, arith, inl, inr}
 use Rattle.std.proofs.lemmas.Bool.{cases_Bool}
 use Rattle.std.proofs.lemmas.List.Quantifiers.{position-Some}
-use Rattle.qgm_core.specs.Boxes.{has_box, is_box}
+use Rattle.qgm_core.specs.Boxes.{has_box, is_box, is_quant}
 use Rattle.qgm_core.specs.declared.node.Node.{Node}
 use Rattle.qgm_core.specs.declared.owned.OwnedQuant.{OwnedQuant}
 use Rattle.qgm_meaning.specs.Values.{Bag}
 use Rattle.box_exec.specs.Costs.{is_held}
-use Rattle.box_exec.specs.Early.{rejects}
-use Rattle.box_exec.specs.Lasting.{AllHashed, AllIndexed, AllPlanned, HashesAt, IsPlan, PlanFits, rows_in, rows_kept, rows_stored}
+use Rattle.box_exec.specs.Early.{IsEarly, rejects}
+use Rattle.box_exec.specs.Lasting.{AllHashed, AllIndexed, AllPlanned, FitsPlan, HashesAt, IsOrder, IsPlan, PlanFits, rows_in, rows_kept, rows_stored}
 use Rattle.box_exec.specs.Lookup.{Hashes}
-use Rattle.box_exec.specs.Plans.{Planned, StandsAt, ranges, stored}
-use Rattle.box_exec.specs.Ready.{Fit, Held}
+use Rattle.box_exec.specs.Plans.{Bound, Planned, StandsAt, ranges, stored, tables_of}
+use Rattle.box_exec.specs.Ready.{Fit, Held, Ready}
 use Rattle.box_exec.specs.declared.boxes.At.{At}
 use Rattle.box_exec.specs.declared.early.Early.{Early}
 use Rattle.box_exec.specs.declared.lookup.Hashed.{Hashed}
+use Rattle.list_laws.specs.Lists.{first}
+use Rattle.box_exec.specs.declared.order.Order.{Order}
 use Rattle.box_exec.specs.declared.plan.Plan.{Plan}
 use Rattle.box_exec.specs.declared.source.Source.{Source}
 use Rattle.box_exec.specs.declared.under.Loop.{Loop}
@@ -84,40 +86,77 @@ all-indexed rows ls es hs kept hashed i r h l at is =
     subst (λ (q : OwnedQuant). Hashes (rejects es (i + 1)) q.id (rows q.over) h) x.1.2
     (subst (λ (b : Bag). Hashes (rejects es (i + 1)) m.range.id b h) same (hashed i m h x.1.0 x.1.1 is))
 
-pub indexed-of : (n : Node) (rows : ℕ → Bag) (ls : List Loop) (es : List Early) (hs : List (Option Hashed)) → ranges ls ≡ n.quants → All (λ l. rows_kept l.under ≡ rows l.range.over) ls → AllHashed es ls hs → AllIndexed es n.quants rows hs
-indexed-of n rows ls es hs e kept hashed = subst (λ (rs : List OwnedQuant). AllIndexed es rs rows hs) e (all-indexed rows ls es hs kept hashed)
+pub indexed-of : (rs : List OwnedQuant) (rows : ℕ → Bag) (ls : List Loop) (es : List Early) (hs : List (Option Hashed)) → ranges ls ≡ rs → All (λ l. rows_kept l.under ≡ rows l.range.over) ls → AllHashed es ls hs → AllIndexed es rs rows hs
+indexed-of rs rows ls es hs e kept hashed = subst (λ (xs : List OwnedQuant). AllIndexed es xs rows hs) e (all-indexed rows ls es hs kept hashed)
 
 -- the index of a quantifier of a box
-pub hashed-at : (at : At) → Planned at → (i : ℕ) (l : Loop) → i < length at.loops.now → l ≡ get_or at.loops.now i l → (h : Hashed) → slice_get at.hashed.now i ≡ Some (Some h) → HashesAt at.early.now i l h
-hashed-at at plan i l inside is h found =
+pub hashed-at : (at : At) → Bound at → (i : ℕ) (l : Loop) → i < length at.loops.now → l ≡ get_or at.loops.now i l → (h : Hashed) → slice_get at.hashed.now i ≡ Some (Some h) → HashesAt at.early.now i l h
+hashed-at at b i l inside is h found =
     let ls = at.loops.now in
-    let within : i < length at.node.now.quants = subst (λ (rs : List OwnedQuant). i < length rs) plan.ranged (range-within ls i inside) in
-    let here : l.range ≡ get_or at.node.now.quants i l.range = subst (λ (rs : List OwnedQuant). l.range ≡ get_or rs i l.range) plan.ranged (range-at ls i l inside is) in
-    let same : rows_kept l.under ≡ stored at l.range.over = subst (λ (y : Loop). rows_kept y.under ≡ stored at y.range.over) (sym is) (plan.rows i l inside) in
-    subst (λ (b : Bag). Hashes (rejects at.early.now (i + 1)) l.range.id b h) (sym same) (plan.plan.indexed i l.range h within here found)
+    let same : rows_kept l.under ≡ stored at l.range.over = subst (λ (y : Loop). rows_kept y.under ≡ stored at y.range.over) (sym is) (b.rows i l inside) in
+    subst (λ (rs : Bag). Hashes (rejects at.early.now (i + 1)) l.range.id rs h) (sym same) (b.plan.indexed i l.range h (range-within ls i inside) (range-at ls i l inside is) found)
 
 -- ---- plans
 
--- a box that is evaluated by a plan
-pub planned-by : (at : At) (ls : List Loop) (es : List Early) (hs : List (Option Hashed)) → at.loops.now ≡ ls → at.early.now ≡ es → at.hashed.now ≡ hs → ranges ls ≡ at.node.now.quants
-    → All (λ l. StandsAt at l) ls → All (λ l. rows_kept l.under ≡ stored at l.range.over) ls → Fit at.node.now at.below.now → IsPlan at.node.now (stored at) es hs
-    → AllPlanned at.run.now.memo.now at.run.now.plans.now at.below.now → Planned at
-planned-by at ls es hs el ee eh ranged stand rows fit plan plans = record {
-  ranged = ap ranges el ∙ ranged;
+nothing-at : (i : ℕ) (h : Hashed) → slice_get [] i ≡ Some (Some h) → ⊥
+nothing-at i h e = let z : ⊥ = cc in z
+
+-- one of nothing
+pub none-planned : (n : Node) (rs : List OwnedQuant) (rows : ℕ → Bag) (es : List Early) (hs : List (Option Hashed)) → es ≡ [] → hs ≡ [] → IsPlan n rs rows es hs
+none-planned n rs rows es hs ee eh = record {
+  early = subst (All (λ e. IsEarly n rs e)) (sym ee) (λ k d l. absurd (omega (arith, l)));
+  indexed = λ i r h l at is. absurd (nothing-at i h (subst (λ (xs : List (Option Hashed)). slice_get xs i ≡ Some (Some h)) eh is));
+}
+
+-- a box whose quantifiers are bound in this order
+pub bound-by : (at : At) (ls : List Loop) (o : Order) → at.loops.now ≡ ls → at.early.now ≡ o.early.items → at.hashed.now ≡ o.hashed.items → ranges ls ≡ o.ranges.items
+    → All (λ l. first (is_quant l.range.id) at.node.now.quants ≡ Some l.range) ls → All (λ l. StandsAt at l) ls → All (λ l. rows_kept l.under ≡ stored at l.range.over) ls
+    → IsPlan at.node.now o.ranges.items (stored at) o.early.items o.hashed.items → Bound at
+bound-by at ls o el ee eh ranged own stand rows plan = record {
+  own = subst (All (λ l. first (is_quant l.range.id) at.node.now.quants ≡ Some l.range)) (sym el) own;
   stand = subst (All (λ l. StandsAt at l)) (sym el) stand;
   rows = subst (All (λ l. rows_kept l.under ≡ stored at l.range.over)) (sym el) rows;
-  fit = fit;
-  plan = subst (λ (xs : List Early). IsPlan at.node.now (stored at) xs at.hashed.now) (sym ee) (subst (IsPlan at.node.now (stored at) es) (sym eh) plan);
-  plans = plans;
+  plan = subst (λ (rs : List OwnedQuant). IsPlan at.node.now rs (stored at) at.early.now at.hashed.now) (sym (ap ranges el ∙ ranged))
+      (subst (λ (xs : List Early). IsPlan at.node.now o.ranges.items (stored at) xs at.hashed.now) (sym ee) (subst (IsPlan at.node.now o.ranges.items (stored at) o.early.items) (sym eh) plan));
+}
+
+-- a box that is evaluated by a plan
+pub planned-by : (at : At) (ls : List Loop) (p : Plan) → at.loops.now ≡ ls → at.early.now ≡ p.early.items → at.hashed.now ≡ p.hashed.items → at.orders.now ≡ p.orders.items → ranges ls ≡ at.node.now.quants
+    → All (λ l. StandsAt at l) ls → All (λ l. rows_kept l.under ≡ stored at l.range.over) ls → Fit at.node.now at.below.now → FitsPlan at.node.now (stored at) p
+    → AllPlanned at.run.now.memo.now at.run.now.plans.now at.below.now → Ready (tables_of at) at.run.now.memo.now at.below.now → Planned at
+planned-by at ls p el ee eh eo ranged stand rows fit plan plans ready =
+    let text : ranges at.loops.now ≡ at.node.now.quants = ap ranges el ∙ ranged in
+    record {
+      ranged = text;
+      stand = subst (All (λ l. StandsAt at l)) (sym el) stand;
+      rows = subst (All (λ l. rows_kept l.under ≡ stored at l.range.over)) (sym el) rows;
+      fit = fit;
+      plan = subst (λ (rs : List OwnedQuant). IsPlan at.node.now rs (stored at) at.early.now at.hashed.now) (sym text)
+          (subst (λ (xs : List Early). IsPlan at.node.now at.node.now.quants (stored at) xs at.hashed.now) (sym ee) (subst (IsPlan at.node.now at.node.now.quants (stored at) p.early.items) (sym eh) plan.text));
+      orders = subst (All (λ o. IsOrder at.node.now (stored at) o)) (sym eo) plan.orders;
+      ready = ready;
+      plans = plans;
+    }
+
+-- a plan of rows is one of others that are the same
+plan-same : (n : Node) (rs : List OwnedQuant) (rows others : ℕ → Bag) (es : List Early) (hs : List (Option Hashed)) → ((b : ℕ) → rows b ≡ others b) → IsPlan n rs rows es hs → IsPlan n rs others es hs
+plan-same n rs rows others es hs same h = record {
+  early = h.early;
+  indexed = λ i r x inside at is. subst (λ (b : Bag). Hashes (rejects es (i + 1)) r.id b x) (same r.over) (h.indexed i r x inside at is);
 }
 
 plan-longer : (memo : List (Option Source)) (o : Option Source) (n : Node) (ns : List Node) (p : Option (Option Plan)) → length ns ≤ length memo → PlanFits memo n ns p → PlanFits (memo ++ o ∷ []) n ns p
 plan-longer memo o n ns None l h = tt
 plan-longer memo o n ns (Some None) l h = tt
-plan-longer memo o n ns (Some (Some p)) l h = record {
-  early = h.early;
-  indexed = λ i r x inside at is. subst (λ (b : Bag). Hashes (rejects p.early.items (i + 1)) r.id b x) (stored-longer memo o ns r.over l) (h.indexed i r x inside at is);
-}
+plan-longer memo o n ns (Some (Some p)) l h =
+    let same = λ (b : ℕ). stored-longer memo o ns b l in
+    record {
+      text = plan-same n n.quants (rows_stored memo ns) (rows_stored (memo ++ o ∷ []) ns) p.early.items p.hashed.items same h.text;
+      orders = λ k d inside.
+          let x = get_or p.orders.items k d in
+          let it = h.orders k d inside in
+          record { reordered = it.reordered; plan = plan-same n x.ranges.items (rows_stored memo ns) (rows_stored (memo ++ o ∷ []) ns) x.early.items x.hashed.items same it.plan };
+    }
 
 plans-longer : (memo : List (Option Source)) (o : Option Source) (plans : List (Option Plan)) (p : Option Plan) (ns : List Node) → length ns ≤ length memo → length ns ≤ length plans → AllPlanned memo plans ns → AllPlanned (memo ++ o ∷ []) (plans ++ p ∷ []) ns
 plans-longer memo o plans p [] l k h = tt

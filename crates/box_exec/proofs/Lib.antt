@@ -23,6 +23,7 @@ mod Counts
 mod Lookups
 mod Hashing
 mod Partners
-pub mod Orders
+mod Orders
+mod Reordered
 mod Quantified
 mod Units

@@ -22,7 +22,7 @@ use Rattle.qgm_terms.specs.Terms.{Cond}
 use Rattle.qgm_terms.specs.Wanted.{reads_cond}
 use Rattle.qgm_terms.specs.Shown as shown
 use Rattle.box_exec.specs.Early.{IsEarly, is_none, rejects}
-use Rattle.box_exec.specs.Plans.{Planned, family, left_at}
+use Rattle.box_exec.specs.Plans.{Bound, family, left_at, ranges}
 use Rattle.box_exec.specs.Sources.{held_by}
 use Rattle.box_exec.specs.declared.boxes.At.{At}
 use Rattle.box_exec.specs.declared.early.Early.{Early}
@@ -108,16 +108,16 @@ module _ (n : Node) (f : Family) (c : Cond) (env : Environment) (stands : In c n
         ];
       }
 
-pub rejects-all : (at : At) → Planned at → (k : ℕ) (env : Environment) → rejects at.early.now k env ≡ true → Alike (left_at at k env) []
+pub rejects-all : (at : At) → Bound at → (k : ℕ) (env : Environment) → rejects at.early.now k env ≡ true → Alike (left_at at k env) []
 rejects-all at plan k env h =
     let x = any-in (λ (e : Early). (e.place == k) && is_none (truth (held_by []) (shown.cond e.cond.now) env).t) at.early.now h in
     let e = x.0 in
     let both = and_parts (e.place == k) (is_none (truth (held_by []) (shown.cond e.cond.now) env).t) x.1.1 in
-    let is = all-at (λ (e : Early). IsEarly at.node.now at.node.now.quants e) e at.early.now plan.plan.early x.1.0 in
+    let is = all-at (λ (e : Early). IsEarly at.node.now (ranges at.loops.now) e) e at.early.now plan.plan.early x.1.0 in
     over-none at.node.now (family at) (shown.cond e.cond.now) env is.stands is.unnamed
     (none-no (truth (held_by []) (shown.cond e.cond.now) env).t both.1)
-    (drop k at.node.now.quants)
-    (subst (λ (z : ℕ). list_any (λ (r : OwnedQuant). reads_cond r.id (shown.cond e.cond.now)) (drop z at.node.now.quants) ≡ false) (eqb-true e.place k both.0) is.unread)
+    (drop k (ranges at.loops.now))
+    (subst (λ (z : ℕ). list_any (λ (r : OwnedQuant). reads_cond r.id (shown.cond e.cond.now)) (drop z (ranges at.loops.now)) ≡ false) (eqb-true e.place k both.0) is.unread)
     env (record { rows = λ q h. refl })
 
 pub nothing-added : (level : Level) (out rows : Bag) → Alike rows [] → Alike out (out ++ keep level rows)

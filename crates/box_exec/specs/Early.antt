@@ -29,10 +29,10 @@ names_any c rs = list_any (λ r. names_cond r.id c) rs
 abbrev pub reads_any : Cond → List OwnedQuant → Bool
 reads_any c rs = list_any (λ r. reads_cond r.id c) rs
 
--- a condition of the box names no quantifier of it in a node, and reads none from the place on
+-- a condition of the box names no quantifier of it in a node, and reads none from the place on, in the order in which they are bound
 pub record IsEarly (n : Node) (rs : List OwnedQuant) (e : Early) : Type 0 where
   pub stands : In (cond e.cond.now) n.parts.conds.items
-  pub unnamed : names_any (cond e.cond.now) rs ≡ false
+  pub unnamed : names_any (cond e.cond.now) n.quants ≡ false
   pub unread : reads_any (cond e.cond.now) (drop e.place rs) ≡ false
 
 -- one of these whose place this is rejects wholly

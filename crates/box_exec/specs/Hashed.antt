@@ -4,8 +4,8 @@ use Rattle.qgm_meaning.specs.Values.{Bag, Environment}
 use Rattle.box_exec.specs.Early.{is_open, rejects}
 pub use Rattle.box_exec.specs.Lasting.{rows_kept}
 use Rattle.box_exec.specs.Lookup.{Leads}
-use Rattle.box_exec.specs.Plans.{Planned, family, ranges}
-use Rattle.box_exec.specs.Ready.{SubsOf, isnt_F}
+use Rattle.box_exec.specs.Plans.{Bound, family}
+use Rattle.box_exec.specs.Ready.{Fit, SubsOf, isnt_F}
 use Rattle.box_exec.specs.declared.boxes.At.{At}
 use Rattle.box_exec.specs.declared.hashed.Whole.{Whole}
 use Rattle.row_index.specs.declared.ways.Way.{Way}
@@ -31,6 +31,7 @@ abbrev pub AllKept : List Loop → Type 0
 AllKept ls = All (λ l. is_open l.under ≡ false) ls
 
 pub record KeptPlan (w : Whole) : Type 0 where
-  pub planned : Planned w.at.now
+  pub bound : Bound w.at.now
+  pub fit : Fit w.at.now.node.now w.at.now.below.now
   pub kept : AllKept w.at.now.loops.now
-  pub subs : (env : Environment) → SubsOf (family w.at.now) env (filter isnt_F (ranges w.at.now.loops.now)) w.subs.now
+  pub subs : (env : Environment) → SubsOf (family w.at.now) env (filter isnt_F w.at.now.node.now.quants) w.subs.now

@@ -1,5 +1,5 @@
 -- What is made once of a box, and is true in each evaluation of it.
-use Rattle.std.specs.Prelude.{ℕ, ◌≡◌, ◌<◌, ◌+◌, ◌==◌, All, if◌then◌else◌, List, [], ◌∷◌, get_or, length, slice_get, Option, Some, None, ⊤}
+use Rattle.std.specs.Prelude.{ℕ, ◌≡◌, ◌<◌, ◌+◌, ◌++◌, ◌==◌, All, if◌then◌else◌, List, [], ◌∷◌, get_or, length, slice_get, Option, Some, None, ⊤}
 use Rattle.qgm_core.specs.declared.node.Node.{Node}
 use Rattle.qgm_core.specs.declared.owned.OwnedQuant.{OwnedQuant}
 use Rattle.qgm_meaning.specs.Values.{Bag}
@@ -8,6 +8,7 @@ use Rattle.box_exec.specs.Lookup.{Hashes}
 use Rattle.box_exec.specs.Sources.{held}
 use Rattle.box_exec.specs.declared.early.Early.{Early}
 use Rattle.box_exec.specs.declared.lookup.Hashed.{Hashed}
+use Rattle.box_exec.specs.declared.order.Order.{Order}
 use Rattle.box_exec.specs.declared.plan.Plan.{Plan}
 use Rattle.box_exec.specs.declared.source.Source.{Source}
 use Rattle.box_exec.specs.declared.under.Loop.{Loop}
@@ -48,16 +49,31 @@ AllIndexed es rs rows hs = (i : ℕ) (r : OwnedQuant) (h : Hashed) → i < lengt
 
 -- ---- plans
 
--- early conditions of a box, and indexes of the rows of the boxes that it ranges over
-pub record IsPlan (n : Node) (rows : ℕ → Bag) (es : List Early) (hs : List (Option Hashed)) : Type 0 where
-  pub early : All (λ e. IsEarly n n.quants e) es
-  pub indexed : AllIndexed es n.quants rows hs
+-- early conditions of a box, and indexes of the rows of the boxes that it ranges over, where its quantifiers are bound in this order
+pub record IsPlan (n : Node) (rs : List OwnedQuant) (rows : ℕ → Bag) (es : List Early) (hs : List (Option Hashed)) : Type 0 where
+  pub early : All (λ e. IsEarly n rs e) es
+  pub indexed : AllIndexed es rs rows hs
+
+-- these are the quantifiers that are left, each taken from among them
+abbrev pub Reorders : List OwnedQuant → List OwnedQuant → Type 0
+Reorders left [] = left ≡ []
+Reorders left (r ∷ rs) = (us : List OwnedQuant) × ((vs : List OwnedQuant) × ((left ≡ us ++ r ∷ vs) × Reorders (us ++ vs) rs))
+
+-- the quantifiers of a box in another order, and a plan for that
+pub record IsOrder (n : Node) (rows : ℕ → Bag) (o : Order) : Type 0 where
+  pub reordered : Reorders n.quants o.ranges.items
+  pub plan : IsPlan n o.ranges.items rows o.early.items o.hashed.items
+
+-- the plan of a box: for the order of its quantifiers, and for others, if there are any
+pub record FitsPlan (n : Node) (rows : ℕ → Bag) (p : Plan) : Type 0 where
+  pub text : IsPlan n n.quants rows p.early.items p.hashed.items
+  pub orders : All (λ o. IsOrder n rows o) p.orders.items
 
 -- the plan of a box, if there is one, is of the rows that are kept
 abbrev pub PlanFits : List (Option Source) → Node → List Node → Option (Option Plan) → Type 0
 PlanFits memo n ns None = ⊤
 PlanFits memo n ns (Some None) = ⊤
-PlanFits memo n ns (Some (Some p)) = IsPlan n (rows_stored memo ns) p.early.items p.hashed.items
+PlanFits memo n ns (Some (Some p)) = FitsPlan n (rows_stored memo ns) p
 
 -- the plan at i is of the box with i boxes behind it
 abbrev pub AllPlanned : List (Option Source) → List (Option Plan) → List Node → Type 0

@@ -1,5 +1,5 @@
 -- What is made so far, and what a graph owes to its execution.
-use Rattle.std.specs.Prelude.{ℕ, ◌≡◌, ◌≤◌, ◌+◌, ◌||◌, Bool, true, false, not, All, List, [], ◌∷◌, drop, length, slice_get, Option, Some, None, ⊤}
+use Rattle.std.specs.Prelude.{ℕ, ◌≡◌, ◌≤◌, ◌+◌, ◌||◌, Bool, true, false, not, All, List, [], ◌∷◌, length, slice_get, Option, Some, None, ⊤}
 use Rattle.std.specs.List.{list_any}
 use Rattle.qgm_core.specs.Boxes.{is_quant, owns}
 use Rattle.qgm_core.specs.Kinds.{is_F}
@@ -100,9 +100,9 @@ SubsOf f env [] (s ∷ ss) = ⊥
 SubsOf f env (r ∷ rs) [] = ⊥
 SubsOf f env (r ∷ rs) (s ∷ ss) = (s.quant ≡ r.id) × Alike (rows_held s.rows) (f r.over env) × SubsOf f env rs ss
 
--- what is given for each combination of rows of the quantifiers of a box from a place on
-abbrev pub over_left : List Table → Node → List Node → ℕ → Environment → Bag
-over_left tables n below k env = over_each (drop k n.quants) (quant_rows n (bag_in tables below)) (given_by (quant_rows n (bag_in tables below)) n) env
+-- what is given for each combination of rows of these quantifiers of a box
+abbrev pub over_left : List Table → Node → List Node → List OwnedQuant → Environment → Bag
+over_left tables n below rs env = over_each rs (quant_rows n (bag_in tables below)) (given_by (quant_rows n (bag_in tables below)) n) env
 
 -- rows that are those of a box in every environment
 abbrev pub Holds : List Table → Node → List Node → Source → Type 0

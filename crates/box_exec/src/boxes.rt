@@ -22,6 +22,7 @@ use crate::hashed::{all_kept, kept_selected, way_under};
 use crate::heads::{add_given, once_added};
 use crate::joining::{Join, outer_joined};
 use crate::lookup::Hashed;
+use crate::order::Order;
 use crate::plan::{Plan, plan_of};
 use crate::source::{Source, Sub, made, push_sub};
 use crate::under::{Loop, Run, Under, loops, table_rows};
@@ -34,7 +35,7 @@ use std::sync::ledger::Ledger;
 use step_count::Steps;
 
 /// A box that is evaluated: itself, those behind it, its quantifiers, its conditions that are tested before
-/// all of these are bound, and the indexes of their rows.
+/// all of these are bound, the indexes of their rows, and better orders of these if there are any.
 #[derive(Clone, Copy)]
 pub(crate) struct At<'a> {
     pub run: &'a Run<'a>,
@@ -43,6 +44,7 @@ pub(crate) struct At<'a> {
     pub loops: &'a [Loop<'a>],
     pub early: &'a [Early<'a>],
     pub hashed: &'a [Option<Hashed<'a>>],
+    pub orders: &'a [Order<'a>],
 }
 
 /// One evaluation of a box more.
@@ -91,10 +93,11 @@ pub(crate) fn evaluated<'a, L: Ledger>(
             loops: &loops,
             early: &plan.early,
             hashed: &plan.hashed,
+            orders: &plan.orders,
         };
         return of_kind(&at, env, steps, count);
     }
-    let plan = plan_of(run.alloc, node, &loops, run.indexed, false)?;
+    let plan = plan_of(run, node, below, &loops, false)?;
     let at = At {
         run: &*run,
         node: &*node,
@@ -102,6 +105,7 @@ pub(crate) fn evaluated<'a, L: Ledger>(
         loops: &loops,
         early: &plan.early,
         hashed: &plan.hashed,
+        orders: &plan.orders,
     };
     of_kind(&at, env, steps, count)
 }

@@ -54,19 +54,22 @@ fn place_from(c: &Gc, ranges: &[OwnedQuant]) -> usize
     place
 }
 
-/// The conditions of a select that are tested as soon as the quantifiers that they read are bound. It fails
-/// only for want of memory.
+/// The conditions of a select that are tested as soon as the quantifiers that they read are bound, in this
+/// order. It fails only for want of memory.
 #[inline(never)]
-pub(crate) fn early_conds<'a>(alloc: Global, node: &'a Node) -> Result<Vec<Early<'a>>, OutOfMemory>
-    ensures { IfOk result (λ made. All (λ e. IsEarly node.now node.now.quants e) made.items) }
+pub(crate) fn early_conds<'a>(
+    alloc: Global,
+    node: &'a Node,
+    ranges: &[OwnedQuant],
+) -> Result<Vec<Early<'a>>, OutOfMemory>
+    ensures { IfOk result (λ made. All (λ e. IsEarly node.now ranges.now e) made.items) }
 {
     let mut made = Vec::new(alloc);
     if !node.parts.kind.is_select() {
         return Ok(made);
     }
-    let ranges = node.quants.as_slice();
     for c in node.parts.conds.as_slice() {
-        if !names_any(c, ranges) {
+        if !names_any(c, node.quants.as_slice()) {
             let place = place_from(c, ranges);
             made.push(Early { place, cond: c })?;
         }

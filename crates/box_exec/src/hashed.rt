@@ -3,10 +3,12 @@ ghost use Rattle.std.specs.Prelude.{◌≡◌, ◌<◌, ◌+◌, ◌++◌, IfOk,
 ghost use Rattle.box_exec.specs.Bound.{env_of};
 ghost use Rattle.box_exec.specs.Early.{is_open, rejects};
 ghost use Rattle.box_exec.specs.Hashed as spec;
+ghost use Rattle.box_exec.specs.Lasting.{IsOrder};
 ghost use Rattle.box_exec.specs.Lookup as lookup;
 ghost use Rattle.box_exec.specs.Plans as plan;
-ghost use Rattle.box_exec.specs.Ready.{SubsOf, isnt_F};
+ghost use Rattle.box_exec.specs.Ready.{Fit, SubsOf, isnt_F};
 ghost use Rattle.box_exec.specs.Sources.{rows_held};
+ghost use Rattle.qgm_core.specs.Kinds.{is_enforce};
 ghost use Rattle.qgm_core.specs.declared.kinds.BoxKind.TheVariants as kind;
 ghost use Rattle.qgm_meaning.specs.Meaning as m;
 ghost use Rattle.qgm_meaning.specs.Values.{Environment};
@@ -18,8 +20,9 @@ use crate::early::{is_none, is_open, rejected};
 use crate::found::{Found, found_in};
 use crate::heads::{add_given, once_added};
 use crate::lookup::{Hashed, all_rows, way_through};
+use crate::order::Order;
 use crate::source::{Source, Sub, SubRows};
-use crate::under::{Loop, kept_rows};
+use crate::under::{Loop, kept_rows, loops};
 use row_bag::{Bag, Row};
 use row_index::{Way, first_of, next_of};
 use shared_types::OutOfMemory;
@@ -44,7 +47,7 @@ fn hashed_at<'a>(hashed: &'a [Option<Hashed<'a>>], i: usize) -> Option<&'a Hashe
 
 // The way through the rows that are kept under the quantifier at a place.
 fn way_of<'a>(at: &At<'a>, i: usize, l: &Loop<'_>, env: &Bindings) -> Result<Way<'a>, OutOfMemory>
-    requires planned { plan.Planned at.now }
+    requires bound { plan.Bound at.now }
     requires within { i < length at.now.loops.now }
     requires at { l.now ≡ get_or at.now.loops.now i l.now }
     ensures { IfOk result (λ way. spec.LeadsAt at.now i l.now (env_of env.now) way) }
@@ -193,6 +196,52 @@ pub(crate) fn all_kept(loops: &[Loop<'_>]) -> bool
     !loops.iter().any(|l| is_open(l.under))
 }
 
+// The rows of a select whose quantifiers are bound in this order, over the rows of those that bind none.
+fn bound_in_order(at: &At<'_>, subs: &[Sub<'_>], env: &Bindings) -> Result<Bag, OutOfMemory>
+    requires bound { plan.Bound at.now }
+    requires fit { Fit at.now.node.now at.now.below.now }
+    requires kept { spec.AllKept at.now.loops.now }
+    requires subs { (e : Environment) → SubsOf (plan.family at.now) e (filter isnt_F at.now.node.now.quants) subs.now }
+    ensures { IfOk result (λ bag. Alike bag (m.once_if (is_enforce at.now.node.now.parts.distinct) (plan.left_at at.now 0 (env_of env.now)))) }
+{
+    let whole = Whole {
+        at: &*at,
+        subs: &*subs,
+    };
+    let mut out = Bag::new(at.run.alloc);
+    let added = over_kept(&whole, 0, Level::Yes, &*env, &mut out);
+    once_added(at.node.parts.distinct, added, out)
+}
+
+// The rows of a select whose quantifiers are bound in another order.
+fn reordered_selected(
+    at: &At<'_>,
+    order: &Order<'_>,
+    subs: &[Sub<'_>],
+    env: &Bindings,
+) -> Result<Bag, OutOfMemory>
+    requires planned { plan.Planned at.now }
+    requires kept { spec.AllKept at.now.loops.now }
+    requires order { IsOrder at.now.node.now (plan.stored at.now) order.now }
+    requires subs { (e : Environment) → SubsOf (plan.family at.now) e (filter isnt_F at.now.node.now.quants) subs.now }
+    ensures { IfOk result (λ bag. Alike bag (m.once_if (is_enforce at.now.node.now.parts.distinct) (plan.left_at at.now 0 (env_of env.now)))) }
+{
+    let loops = loops(at.run, &order.ranges, at.below)?;
+    if !all_kept(&loops) {
+        return bound_in_order(at, subs, env);
+    }
+    let other = At {
+        run: &*at.run,
+        node: &*at.node,
+        below: &*at.below,
+        loops: &loops,
+        early: &order.early,
+        hashed: &order.hashed,
+        orders: &[],
+    };
+    bound_in_order(&other, subs, env)
+}
+
 /// The rows of a select whose quantifiers all stand on kept rows. It fails only for want of memory.
 #[inline(never)]
 pub(crate) fn kept_selected(at: &At<'_>, env: &Bindings) -> Result<Bag, OutOfMemory>
@@ -206,11 +255,8 @@ pub(crate) fn kept_selected(at: &At<'_>, env: &Bindings) -> Result<Bag, OutOfMem
         found: &found,
     };
     let subs = kept_subs(&finding)?;
-    let whole = Whole {
-        at: &*at,
-        subs: &subs,
-    };
-    let mut out = Bag::new(at.run.alloc);
-    let added = over_kept(&whole, 0, Level::Yes, &*env, &mut out);
-    once_added(at.node.parts.distinct, added, out)
+    match at.orders {
+        [order, ..] => reordered_selected(at, order, &subs, env),
+        [] => bound_in_order(at, &subs, env),
+    }
 }

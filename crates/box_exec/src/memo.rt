@@ -125,7 +125,7 @@ fn plan_if<'n>(
         return Ok(None);
     }
     let loops = loops(run, node.quants.as_slice(), below)?;
-    let plan = plan_of(run.alloc, node, &loops, run.indexed, true)?;
+    let plan = plan_of(run, node, below, &loops, true)?;
     Ok(Some(plan))
 }
 

@@ -1,24 +1,27 @@
 // What is made once of a box: the conditions that are tested early, and the indexes of rows that are kept.
-ghost use Rattle.std.specs.Prelude.{◌≡◌, All, Bool, IfOk, IfSome, List, ℕ, map};
+ghost use Rattle.std.specs.Prelude.{◌≡◌, All, IfOk, IfSome, map};
 ghost use Rattle.box_exec.specs.Early.{rejects};
 ghost use Rattle.box_exec.specs.Lasting as spec;
 ghost use Rattle.box_exec.specs.Lookup.{RejectsBy};
-ghost use Rattle.qgm_meaning.specs.Values.{Bag};
+ghost use Rattle.box_exec.specs.Ready.{Ready};
 
 use crate::early::{Early, early_conds, is_open};
+use crate::hashed::all_kept;
 use crate::key::{Key, key_in};
 use crate::lookup::{Hashed, hashed_by};
-use crate::under::{Loop, kept_rows};
+use crate::order::{Order, is_in_order, places_of, reordered};
+use crate::under::{Loop, Run, kept_rows, loops};
 use qgm_core::{Node, QuantId};
 use shared_types::OutOfMemory;
 use std::alloc::Global;
 
 /// The conditions of a box that are tested before all its quantifiers are bound, and the indexes of rows
-/// of its quantifiers.
+/// of its quantifiers; or a better order of these.
 #[derive(Drop)]
 pub(crate) struct Plan<'a> {
     pub early: Vec<Early<'a>>,
     pub hashed: Vec<Option<Hashed<'a>>>,
+    pub orders: Vec<Order<'a>>,
 }
 
 // What the equalities among the conditions that are tested at a place ask of rows of the last quantifier
@@ -90,18 +93,64 @@ fn all_hashed<'a>(
     Ok(made)
 }
 
+// A better order of the quantifiers of a select over kept boxes than that of its text, if there is one.
+fn orders_of<'a>(
+    run: &Run<'_>,
+    node: &'a Node,
+    below: &[Node],
+    over: &[Loop<'_>],
+    again: bool,
+) -> Result<Vec<Order<'a>>, OutOfMemory>
+    requires { Ready run.now.tables.now run.now.memo.now below.now }
+    ensures { IfOk result (λ made. All (λ o. spec.IsOrder node.now (spec.rows_stored run.now.memo.now below.now) o) made.items) }
+{
+    let mut made = Vec::new(run.alloc);
+    if !run.indexed || !node.parts.kind.is_select() || !all_kept(over) {
+        return Ok(made);
+    }
+    let places = places_of(run.alloc, node)?;
+    if is_in_order(&places) {
+        return Ok(made);
+    }
+    let ranges = reordered(run.alloc, node.quants.as_slice(), &places)?;
+    let loops = loops(run, &ranges, below)?;
+    let early = early_conds(run.alloc, node, &ranges)?;
+    let hashed = all_hashed(run.alloc, &early, &loops, run.indexed, again)?;
+    made.push(Order {
+        ranges,
+        early,
+        hashed,
+    })?;
+    Ok(made)
+}
+
 /// The plan of a box whose quantifiers stand so, which is evaluated once, or again and again. It fails only
 /// for want of memory.
 pub(crate) fn plan_of<'a>(
-    alloc: Global,
+    run: &Run<'_>,
     node: &'a Node,
-    loops: &[Loop<'_>],
-    indexed: bool,
+    below: &[Node],
+    over: &[Loop<'_>],
     again: bool,
 ) -> Result<Plan<'a>, OutOfMemory>
-    ensures { (rows : ℕ → Bag) → map (λ l. l.range) loops.now ≡ node.now.quants → All (λ l. spec.rows_kept l.under ≡ rows l.range.over) loops.now → IfOk result (λ p. spec.IsPlan node.now rows p.early.items p.hashed.items) }
+    requires ready { Ready run.now.tables.now run.now.memo.now below.now }
+    requires ranged { map (λ l. l.range) over.now ≡ node.now.quants }
+    requires kept { All (λ l. spec.rows_kept l.under ≡ spec.rows_stored run.now.memo.now below.now l.range.over) over.now }
+    ensures { IfOk result (λ p. spec.FitsPlan node.now (spec.rows_stored run.now.memo.now below.now) p) }
 {
-    let early = early_conds(alloc, node)?;
-    let hashed = all_hashed(alloc, &early, loops, indexed, again)?;
-    Ok(Plan { early, hashed })
+    let orders = orders_of(run, node, below, over, again)?;
+    if !orders.is_empty() {
+        return Ok(Plan {
+            early: Vec::new(run.alloc),
+            hashed: Vec::new(run.alloc),
+            orders,
+        });
+    }
+    let early = early_conds(run.alloc, node, node.quants.as_slice())?;
+    let hashed = all_hashed(run.alloc, &early, over, run.indexed, again)?;
+    Ok(Plan {
+        early,
+        hashed,
+        orders,
+    })
 }

@@ -4,7 +4,7 @@ use Rattle.std.specs.Result.{OnOk}
 use Rattle.row_bag.specs.Bags.{Alike, keep}
 use Rattle.qgm_core.specs.Kinds.{is_F, is_enforce}
 use Rattle.qgm_core.specs.declared.owned.OwnedQuant.{OwnedQuant}
-use Rattle.qgm_meaning.specs.Meaning.{grouped_rows}
+use Rattle.qgm_meaning.specs.Meaning.{grouped_rows, once_if}
 use Rattle.qgm_terms.specs.Terms.{Term}
 use Rattle.qgm_meaning.specs.Values.{Bag, bound}
 use Rattle.sql_value.specs.declared.cell.Cell.{Cell}
@@ -15,7 +15,7 @@ use Rattle.box_exec.specs.Costs.{Between, at_level}
 use Rattle.qgm_core.specs.declared.kinds.BoxKind.{BoxKind}
 use Rattle.qgm_meaning.specs.Plain.{counted_by, under_each, under_others, under_rows}
 use Rattle.box_exec.proofs.Evaluations.{all-took, each_row, one-under, others-more, rows-bound, rows-over, rows-past, rows-took}
-use Rattle.box_exec.specs.Ready.{IsOpen, Stands, SubsOf, isnt_F}
+use Rattle.box_exec.specs.Ready.{IsOpen, Stands, SubsOf, isnt_F, over_left}
 use Rattle.box_exec.specs.declared.under.Under.{Under}
 use Rattle.std.proofs.lemmas.List.{take_all}
 use Rattle.box_exec.proofs.Parts.{is_there, of_part, of_parts, subs_pushed}
@@ -32,7 +32,7 @@ use Rattle.row_bag.specs.Bags.{bind}
 use Rattle.row_bag.proofs.Agreement.{alike-same}
 use Rattle.row_index.specs.Ways.{StandsFrom, place}
 use Rattle.row_index.proofs.Passed.{seen-again, seen-low}
-use Rattle.box_exec.proofs.Quantifiers.{combined-rows, free-more, free-same, given-at, group-rows, left-bound, left-over, level-none, outer-rows, past-all, placed, range-at, range-past, range-within, two-at}
+use Rattle.box_exec.proofs.Quantifiers.{bound-of, combined-rows, free-more, free-same, given-at, group-rows, left-bound, left-over, level-none, outer-rows, past-all, past-ranges, placed, range-at, range-past, range-within, stood, two-at}
 use Rattle.box_exec.proofs.boxes.+rows.Goals.{subs-then-not-is_f+in_ok-push_sub, subs-else-not-is_f}
 use Rattle.box_exec.proofs.Rejections.{nothing-added, rejects-all}
 use Rattle.std.proofs.lemmas.Grind.{common_steps}
@@ -51,9 +51,9 @@ each-returns-then-not-is_f-clause-rows g t c =
     let l = c.in-Some.l.now in
     let env = env_of c.args.env.now in
     let passed : is_F l.range.kind ≡ false = search rules in
-    let here = placed at c.requires.planned c.args.k l c.in-Some.ensures.lookup.3.0 c.in-Some.ensures.lookup.1 in
+    let here = stood at (bound-of at c.requires.planned) c.args.k l c.in-Some.ensures.lookup.3.0 c.in-Some.ensures.lookup.1 in
     subst (λ (b : Bag). OnOk c.each.result (Alike c.each.new.out (c.args.out.now ++ keep c.args.level b)))
-    (sym (left-over (tables_of at) at.node.now at.below.now c.args.k l.range env here.0 passed))
+    (sym (left-over (tables_of at) at.node.now at.below.now (ranges at.loops.now) c.args.k l.range env here.0 passed))
     c.each.ensures.rows
 
 pub each-loop-i-init : goal.each-loop-i-init
@@ -68,7 +68,7 @@ each-loop-i-init g t c =
     let f = λ (cells : List Cell). left_at at (k + 1) (bound l.range.id cells env) in
     record {
       rows = subst (λ (n : ℕ). Alike c.args.out.now (c.args.out.now ++ keep c.args.level (bind (take n rows) f))) (sym c.place-i.ensures)
-          (stepped (rejects at.early.now (k + 1)) l.range.id rows env way c.in_ok-way.ensures f (λ cells h. rejects-all at c.requires.planned (k + 1) (bound l.range.id cells env) h)
+          (stepped (rejects at.early.now (k + 1)) l.range.id rows env way c.in_ok-way.ensures f (λ cells h. rejects-all at (bound-of at c.requires.planned) (k + 1) (bound l.range.id cells env) h)
           c.args.level c.args.out.now c.args.out.now 0 cursor (omega arith) c.first_of-c.ensures (alike-same (sym (append-nil c.args.out.now))));
       took = λ kept keeps. (omega arith, omega arith);
       stands = seen-again way 0 cursor c.in_ok-way.ensures.spans (omega arith) c.first_of-c.ensures;
@@ -103,7 +103,7 @@ each-loop-i-preserved g t c =
     (subst (λ (x : Level). Alike new (c.loop-i.out ++ keep x (f r.cells))) c.least-level.ensures added) in
     record {
       rows = subst (λ (n : ℕ). Alike new (c.args.out.now ++ keep c.args.level (bind (take n rows) f))) (sym c.place-i-in-loop-i.ensures)
-          (stepped (rejects at.early.now (k + 1)) l.range.id rows env way leads f (λ cells h. rejects-all at c.requires.planned (k + 1) (bound l.range.id cells env) h)
+          (stepped (rejects at.early.now (k + 1)) l.range.id rows env way leads f (λ cells h. rejects-all at (bound-of at c.requires.planned) (k + 1) (bound l.range.id cells env) h)
           c.args.level c.args.out.now new (i + 1) cursor next stands done);
       took = λ kept keeps.
           subst (λ (n : ℕ). Between 0 (each_row (cost kept) (take n rows)) c.rows_under.new.steps c.each-in-loop-i.new.steps) (sym c.place-i-in-loop-i.ensures)
@@ -132,13 +132,13 @@ each-returns-clause-rows g t c =
     let k = c.args.k in
     let env = env_of c.args.env.now in
     let bound_to : is_F l.range.kind ≡ true = search rules in
-    let here = placed at c.requires.planned k l c.in-Some.ensures.lookup.3.0 c.in-Some.ensures.lookup.1 in
+    let here = stood at (bound-of at c.requires.planned) k l c.in-Some.ensures.lookup.3.0 c.in-Some.ensures.lookup.1 in
     let end = c.in_ok-way.ensures.end in
     let over : c.in_ok-way.way.end ≤ c.loop-i.i = search rules in
     each-all c.args.level c.rows-rows.result.now (family at l.range.over env) c.loop-i.i
     (λ (cells : List Cell). left_at at (k + 1) (bound l.range.id cells env)) c.args.out.now c.loop-i.out (left_at at k env) (omega (arith, end, over))
     (subst (λ (b : Bag). Alike b (family at l.range.over env)) (sym c.rows-rows.ensures) c.in_ok-source.ensures.rows)
-    (left-bound (tables_of at) at.node.now at.below.now k l.range env here.0 bound_to here.1)
+    (left-bound (tables_of at) at.node.now at.below.now (ranges at.loops.now) k l.range env here.0 bound_to here.1)
     c.loop-i.invariant.rows
 
 pub groups-returns-clause-rows : goal.groups-returns-clause-rows
@@ -172,7 +172,8 @@ pub selected-returns-clause-rows : goal.selected-returns-clause-rows
 selected-returns-clause-rows g t c =
     let at = c.args.at.now in
     of_part c.once_added.result c.each-added.result _ _ _ c.once_added.ensures c.each-added.ensures.rows
-    (λ bag _ h added. rows-once (is_enforce at.node.now.parts.distinct) c.new-out.result c.each-added.new.out (left_at at 0 (env_of c.args.env.now)) bag c.new-out.ensures added h)
+    (λ bag _ h added. subst (λ (rs : List OwnedQuant). Alike bag (once_if (is_enforce at.node.now.parts.distinct) (over_left (tables_of at) at.node.now at.below.now rs (env_of c.args.env.now)))) c.requires.planned.ranged
+    (rows-once (is_enforce at.node.now.parts.distinct) c.new-out.result c.each-added.new.out (left_at at 0 (env_of c.args.env.now)) bag c.new-out.ensures added h))
 
 pub subs-loop-l-preserved : goal.subs-loop-l-preserved
 subs-loop-l-preserved g t c =
@@ -373,7 +374,7 @@ pub each-returns-then-branch-clause-rows : goal.each-returns-then-branch-clause-
 each-returns-then-branch-clause-rows g t c =
     let at = c.args.at.now in
     let env = env_of c.args.env.now in
-    nothing-added c.args.level c.args.out.now (left_at at c.args.k env) (rejects-all at c.requires.planned c.args.k env (sym c.in_ok-rejected.ensures ∙ c.if-branch.true))
+    nothing-added c.args.level c.args.out.now (left_at at c.args.k env) (rejects-all at (bound-of at c.requires.planned) c.args.k env (sym c.in_ok-rejected.ensures ∙ c.if-branch.true))
 
 pub evaluated-of_kind-requires : goal.evaluated-of_kind-requires
 evaluated-of_kind-requires g t c κs l =
@@ -382,120 +383,26 @@ evaluated-of_kind-requires g t c κs l =
     let below = c.args.below.now in
     let plan = c.in-Some.plan.now in
     let found : slice_get run.plans.now (length below) ≡ Some (Some plan) = some-is (λ (p : Bor Plan). slice_get run.plans.now (length below) ≡ Some (Some p.now)) c.plan_at.result c.in-Some.plan c.in-Some.is c.plan_at.ensures in
-    let planned = planned-by _ c.in_ok-loops.loops.items plan.early.items plan.hashed.items c.deref.ensures.value c.deref-in-Some.ensures.value c.deref-in-Some-2.ensures.value
+    let planned = planned-by _ c.in_ok-loops.loops.items plan c.deref.ensures.value c.deref-in-Some.ensures.value c.deref-in-Some-2.ensures.value c.deref-in-Some-3.ensures.value
     (c.in_ok-loops.ensures.ranges ∙ c.as_slice.ensures) c.in_ok-loops.ensures.stand c.in_ok-loops.ensures.kept c.requires.fit
-    (subst (PlanFits run.memo.now n below) found c.requires.plans.0) c.requires.plans.1 in
+    (subst (PlanFits run.memo.now n below) found c.requires.plans.0) c.requires.plans.1 c.requires.ready in
     (grind (arith, common_steps), (grind (arith, common_steps), planned))
 
-pub groups-returns-clause-counted : goal.groups-returns-clause-counted
-groups-returns-clause-counted t c = grind (arith, common_steps)
-
-pub groups-returns-in_default-clause-rows : goal.groups-returns-in_default-clause-rows
-groups-returns-in_default-clause-rows t c = grind (arith, common_steps)
-
-pub joined-returns-in_default-clause-rows : goal.joined-returns-in_default-clause-rows
-joined-returns-in_default-clause-rows t c = grind (arith, common_steps)
-
-pub joined-rows_under-xs-requires : goal.joined-rows_under-xs-requires
-joined-rows_under-xs-requires t c = grind (arith, common_steps)
-
-pub joined-rows_under-ys-requires : goal.joined-rows_under-ys-requires
-joined-rows_under-ys-requires t c = grind (arith, common_steps)
-
-pub put_together-returns-in_default-clause-rows : goal.put_together-returns-in_default-clause-rows
-put_together-returns-in_default-clause-rows t c = grind (arith, common_steps)
-
-pub put_together-rows_under-xs-requires : goal.put_together-rows_under-xs-requires
-put_together-rows_under-xs-requires t c = grind (arith, common_steps)
-
-pub put_together-rows_under-ys-requires : goal.put_together-rows_under-ys-requires
-put_together-rows_under-ys-requires t c = grind (arith, common_steps)
-
-pub subs-rows_under-rows-requires : goal.subs-rows_under-rows-requires
-subs-rows_under-rows-requires t c = grind (arith, common_steps)
-
-pub subs-loop-l-init : goal.subs-loop-l-init
-subs-loop-l-init g t c = grind (arith, common_steps)
-
-pub joined-bounds-p-0 : goal.joined-bounds-p-0
-joined-bounds-p-0 g t c = grind (arith, common_steps)
-
-pub evaluated-returns-clause-rows : goal.evaluated-returns-clause-rows
-evaluated-returns-clause-rows g t c = grind (arith, common_steps)
-
-pub add_head-returns-clause-counted : goal.add_head-returns-clause-counted
-add_head-returns-clause-counted g t c = grind (arith, common_steps)
-
-pub each-add_head-requires : goal.each-add_head-requires
-each-add_head-requires g t c = grind (arith, common_steps)
-
-pub each-returns-then-is_no-clause-took : goal.each-returns-then-is_no-clause-took
-each-returns-then-is_no-clause-took g t c = grind (arith, common_steps)
-
-pub put_together-bounds-p-0 : goal.put_together-bounds-p-0
-put_together-bounds-p-0 g t c = grind (arith, common_steps)
-
-pub evaluated-returns-clause-counted : goal.evaluated-returns-clause-counted
-evaluated-returns-clause-counted g t c = grind (arith, common_steps)
-
-pub rows_under-returns-in-Kept-clause-took : goal.rows_under-returns-in-Kept-clause-took
-rows_under-returns-in-Kept-clause-took g t c = grind (arith, common_steps)
-
-pub each-overflow_add-k : goal.each-overflow_add-k
-each-overflow_add-k g t c = grind (arith, common_steps)
-
-pub of_kind-put_together-requires : goal.of_kind-put_together-requires
-of_kind-put_together-requires g t c = grind (arith, common_steps)
-
-pub rows_under-returns-in-Kept-clause-rows : goal.rows_under-returns-in-Kept-clause-rows
-rows_under-returns-in-Kept-clause-rows g t c = grind (arith, common_steps)
-
-pub each-returns-then-branch-clause-took : goal.each-returns-then-branch-clause-took
-each-returns-then-branch-clause-took g t c = grind (arith, common_steps)
-
-pub put_together-returns-clause-counted : goal.put_together-returns-clause-counted
-put_together-returns-clause-counted g t c = grind (arith, common_steps)
-
-pub rows_under-returns-in-Nothing-clause-rows : goal.rows_under-returns-in-Nothing-clause-rows
-rows_under-returns-in-Nothing-clause-rows g t c = grind (arith, common_steps)
-
-pub each-rows_under-requires : goal.each-rows_under-requires
-each-rows_under-requires g t c = grind (arith, common_steps)
-
-pub subs-returns-clause-counted : goal.subs-returns-clause-counted
-subs-returns-clause-counted g t c = grind (arith, common_steps)
-
-pub each-each-requires : goal.each-each-requires
-each-each-requires g t c = grind (arith, common_steps)
-
-pub subs-returns-clause-rows : goal.subs-returns-clause-rows
-subs-returns-clause-rows g t c = grind (arith, common_steps)
-
-pub joined-returns-clause-counted : goal.joined-returns-clause-counted
-joined-returns-clause-counted g t c = grind (arith, common_steps)
-
-pub put_together-bounds-q-1 : goal.put_together-bounds-q-1
-put_together-bounds-q-1 g t c = grind (arith, common_steps)
-
-pub each-returns-clause-counted : goal.each-returns-clause-counted
-each-returns-clause-counted g t c = grind (arith, common_steps)
-
-pub each-returns-in_default-clause-rows : goal.each-returns-in_default-clause-rows
-each-returns-in_default-clause-rows g t c = grind (arith, common_steps)
+pub evaluated-plan_of-requires : goal.evaluated-plan_of-requires
+evaluated-plan_of-requires g t c =
+    let run = c.args.run.now in
+    let below = c.args.below.now in
+    record {
+      ready = c.requires.ready;
+      ranged = ap ranges c.deref-2.ensures.value ∙ c.in_ok-loops.ensures.ranges ∙ c.as_slice.ensures;
+      kept = subst (All (λ (l : Loop). rows_kept l.under ≡ rows_stored run.memo.now below l.range.over)) (sym c.deref-2.ensures.value) c.in_ok-loops.ensures.kept;
+    }
 
 pub evaluated-of_kind-requires-2 : goal.evaluated-of_kind-requires-2
 evaluated-of_kind-requires-2 g t c κs l =
-    let run = c.args.run.now in
-    let n = c.args.node.now in
-    let below = c.args.below.now in
-    let loops = c.in_ok-loops.loops.items in
-    let plan = c.in_ok-plan.plan in
-    let ranged : ranges loops ≡ n.quants = c.in_ok-loops.ensures.ranges ∙ c.as_slice.ensures in
-    let planned = planned-by _ loops plan.early.items plan.hashed.items c.deref-3.ensures.value c.deref-4.ensures.value c.deref-5.ensures.value
-    ranged c.in_ok-loops.ensures.stand c.in_ok-loops.ensures.kept c.requires.fit
-    (c.in_ok-plan.ensures (rows_stored run.memo.now below) (ap ranges c.deref-2.ensures.value ∙ ranged)
-    (subst (All (λ (l : Loop). rows_kept l.under ≡ rows_stored run.memo.now below l.range.over)) (sym c.deref-2.ensures.value) c.in_ok-loops.ensures.kept))
-    c.requires.plans.1 in
+    let planned = planned-by _ c.in_ok-loops.loops.items c.in_ok-plan.plan c.deref-3.ensures.value c.deref-4.ensures.value c.deref-5.ensures.value c.deref-6.ensures.value
+    (c.in_ok-loops.ensures.ranges ∙ c.as_slice.ensures) c.in_ok-loops.ensures.stand c.in_ok-loops.ensures.kept c.requires.fit
+    c.in_ok-plan.ensures c.requires.plans.1 c.requires.ready in
     (grind (arith, common_steps), (grind (arith, common_steps), planned))
 
 pub rows_under-evaluated-requires : goal.rows_under-evaluated-requires

@@ -13,5 +13,5 @@ returns c =
     let l = c.args.l.now in
     IfOk-weaker c.way_through.result _ _
     (λ way f. f (rejects at.early.now (c.args.i + 1)) l.range.id (rows_kept l.under) (ap (λ (rs : Bag). length rs) c.kept_rows-end.ensures)
-    (IfSome_then c.hashed_at.result c.hashed_at.ensures (λ h is. hashed-at at c.requires.planned c.args.i l c.requires.within c.requires.at h.now is)))
+    (IfSome_then c.hashed_at.result c.hashed_at.ensures (λ h is. hashed-at at c.requires.bound c.args.i l c.requires.within c.requires.at h.now is)))
     c.way_through.ensures

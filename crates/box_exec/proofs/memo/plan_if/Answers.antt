@@ -4,9 +4,12 @@ use Rattle.box_exec.specs.Plans.{ranges}
 use Rattle.box_exec.specs.declared.under.Loop.{Loop}
 use Rattle.box_exec.proofs.memo.plan_if.Goals as goal
 
-pub returns : goal.returns
-returns c =
+pub plan_of-requires : goal.plan_of-requires
+plan_of-requires c =
     let memo = c.args.run.now.memo.now in
     let below = c.args.below.now in
-    c.in_ok-plan.ensures (rows_stored memo below) (ap ranges c.deref.ensures.value ∙ c.in_ok-loops.ensures.ranges ∙ c.as_slice.ensures)
-    (subst (All (λ (l : Loop). rows_kept l.under ≡ rows_stored memo below l.range.over)) (sym c.deref.ensures.value) c.in_ok-loops.ensures.kept)
+    record {
+      ready = c.requires;
+      ranged = ap ranges c.deref.ensures.value ∙ c.in_ok-loops.ensures.ranges ∙ c.as_slice.ensures;
+      kept = subst (All (λ (l : Loop). rows_kept l.under ≡ rows_stored memo below l.range.over)) (sym c.deref.ensures.value) c.in_ok-loops.ensures.kept;
+    }
