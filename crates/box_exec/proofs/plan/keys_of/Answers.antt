@@ -7,8 +7,8 @@ use Rattle.box_exec.proofs.Lookups.{some-is}
 use Rattle.box_exec.specs.declared.key.Key.{Key}
 use Rattle.box_exec.proofs.Hashing.{key-rejects}
 use Rattle.box_exec.proofs.Rejections.{all-more}
-use Rattle.box_exec.proofs.hashed.keys_of.Goals.{then-e-place+in_ok-key+in-Some+in_ok-push, then-e-place+in_ok-key+in_default, else-e-place}
-use Rattle.box_exec.proofs.hashed.keys_of.Goals as goal
+use Rattle.box_exec.proofs.plan.keys_of.Goals.{then-e-place+in_ok-key+in-Some+in_ok-push, then-e-place+in_ok-key+in_default, else-e-place}
+use Rattle.box_exec.proofs.plan.keys_of.Goals as goal
 
 pub loop-e-preserved : goal.loop-e-preserved
 loop-e-preserved c =
