@@ -21,6 +21,8 @@ use Rattle.rule_magic.specs.AbsorbGroup.{AbsorbsGroup, MayAbsorbGroup, absorb_gr
 use Rattle.rule_magic.specs.AbsorbGroupExact.{absorb_group_exact}
 use Rattle.rule_magic.specs.AbsorbSelect.{AbsorbsSelect, MayAbsorbSelect, absorb_select_pairs}
 use Rattle.rule_magic.specs.AbsorbSelectExact.{absorb_select_exact}
+use Rattle.rule_magic.specs.AbsorbSetOperation.{AbsorbsSet, MayAbsorbSet, absorb_set_pairs}
+use Rattle.rule_magic.specs.AbsorbSetOperationExact.{absorb_set_exact}
 use Rattle.rule_merge.specs.DropCopy.{DropsCopy, MayDropCopy, drop_copy_pairs}
 use Rattle.rule_merge.specs.DropCopyExact.{drop_copy_exact}
 use Rattle.rule_merge.specs.MergeSelect.{MayMergeSelect, MergesSelect, merge_select_pairs}
@@ -119,6 +121,9 @@ absorb_select = record { pairs = absorb_select_pairs; may = MayAbsorbSelect; act
 abbrev pub absorb_group : BuiltRule
 absorb_group = record { pairs = absorb_group_pairs; may = MayAbsorbGroup; act = AbsorbsGroup; exact = absorb_group_exact }
 
+abbrev pub absorb_set : BuiltRule
+absorb_set = record { pairs = absorb_set_pairs; may = MayAbsorbSet; act = AbsorbsSet; exact = absorb_set_exact }
+
 abbrev pub not_built : BuiltRule
 not_built = record { pairs = λ g b. []; may = λ p g. ⊥; act = λ p g h. ⊥; exact = λ g b i j once w. ((λ h. h), λ h. h) }
 
@@ -143,7 +148,7 @@ built N2 = drop_quantifier
 built G1 = feed
 built G2 = absorb_select
 built G3 = absorb_group
-built G4 = not_built
+built G4 = absorb_set
 built G5 = not_built
 
 abbrev pub built_pairs : RuleId → QueryGraph → ℕ → List Pair
