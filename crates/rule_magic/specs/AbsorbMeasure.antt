@@ -7,6 +7,7 @@ use Rattle.qgm_wellformed.specs.Sentences.{WellFormed}
 use Rattle.qgm_props.specs.Measure.{Lowers, measure}
 use Rattle.rule_api.specs.declared.place.Place.{Place}
 use Rattle.rule_magic.specs.AbsorbGroup.{AbsorbsGroup}
+use Rattle.rule_magic.specs.AbsorbOuterJoin.{AbsorbsOuter}
 use Rattle.rule_magic.specs.AbsorbSelect.{AbsorbsSelect}
 use Rattle.rule_magic.specs.AbsorbSetOperation.{AbsorbsSet}
 
@@ -14,7 +15,7 @@ use Rattle.rule_magic.specs.AbsorbSetOperation.{AbsorbsSet}
 abbrev pub CompactLowers : Type 0
 CompactLowers = (g h : QueryGraph) → EachOnce (numbers h.boxes) → WellFormed h → Lowers g.boxes h.boxes → Lowers g.boxes (compact h).boxes
 
--- a firing of G2, one of G3, and one of G4
+-- a firing of each of G2 to G5
 abbrev pub SelectFiringLowers : Type 0
 SelectFiringLowers = (p : Place) (g h : QueryGraph) → EachOnce (numbers g.boxes) → WellFormed g → AbsorbsSelect p g h → measure h < measure g
 
@@ -23,3 +24,6 @@ GroupFiringLowers = (p : Place) (g h : QueryGraph) → EachOnce (numbers g.boxes
 
 abbrev pub SetFiringLowers : Type 0
 SetFiringLowers = (p : Place) (g h : QueryGraph) → EachOnce (numbers g.boxes) → WellFormed g → AbsorbsSet p g h → measure h < measure g
+
+abbrev pub OuterFiringLowers : Type 0
+OuterFiringLowers = (p : Place) (g h : QueryGraph) → EachOnce (numbers g.boxes) → WellFormed g → AbsorbsOuter p g h → measure h < measure g
