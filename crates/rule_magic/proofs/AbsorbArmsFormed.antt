@@ -670,8 +670,14 @@ module _ (g : QueryGraph) (known : Facts) (d : Node) (may : MayAbsorb g.boxes kn
         (outer.seen-m g known d may l r1 x y up l1 l2 at) (outer.seen-y g known d may l r1 x y up l1 l2 at) (λ h. absurd (scalar-s h))
         (elim fits_right [
           | inl z ↦ inl z
-          | inr z ↦ inr (z.0, (let n = has-in g.root g.boxes w.rooted in subst (λ b. (s == b) ≡ false) n.1.1 (s-not n.0 n.1.0)), (fed.magic-m g at.once at.formed known at.tells d may,
-              (looks-y p ∙ look-below y.id p below-y ∙ or_left ((p == p) && loose g.boxes y.id a.id) (not (p == a.id) && loose g.boxes y.id p) (and_from (p == p) (loose g.boxes y.id a.id) (eq-itself p) opened), λ q h. right.alone q (sym (looks-y q) ∙ h))))
+          | inr z ↦ inr (
+            z.0,
+            (let n = has-in g.root g.boxes w.rooted in subst (λ b. (s == b) ≡ false) n.1.1 (s-not n.0 n.1.0)),
+            (
+              fed.magic-m g at.once at.formed known at.tells d may,
+              (looks-y p ∙ look-below y.id p below-y ∙ or_left ((p == p) && loose g.boxes y.id a.id) (not (p == a.id) && loose g.boxes y.id p) (and_from (p == p) (loose g.boxes y.id a.id) (eq-itself p) opened), λ q h. right.alone q (sym (looks-y q) ∙ h)),
+            ),
+          )
         ]))
       where
         looks-y : (q : ℕ) → loose hs y.id q ≡ look y.id q

@@ -1,11 +1,11 @@
 -- The steps of G3 come to its action, which preserves.
-use Rattle.std.proofs.Common.{ℕ, zero, suc, ◌==◌, ◌≡◌, ◌≤◌, ◌+◌, ◌&&◌, ◌||◌, true, false, List, [], ◌∷◌, ◌++◌, Option, Some, None, cond, length, append_assoc, refl, sym, ap, ap₂, subst, ◌∙◌, eqb-true, inl, inr, arith}
+use Rattle.std.proofs.Common.{ℕ, zero, suc, ◌==◌, ◌≡◌, ◌+◌, ◌&&◌, ◌||◌, true, false, List, [], ◌∷◌, ◌++◌, Option, Some, None, cond, length, append_assoc, refl, sym, ap, ap₂, subst, ◌∙◌, eqb-true, inl, inr, arith}
 use Rattle.std.specs.List.{list_any}
-use Rattle.std.proofs.lemmas.Bool.{and_parts, cases_Bool}
-use Rattle.qgm_core.specs.Boxes.{HasBox, HasQuant, QueryGraph, bare_box, has_box, ids_in, ids_of, is_box, is_quant, numbers, owns, width}
+use Rattle.std.proofs.lemmas.Bool.{and_parts}
+use Rattle.qgm_core.specs.Boxes.{QueryGraph, bare_box, has_box, is_box, is_quant, numbers, owns, width}
 use Rattle.qgm_core.specs.Edits.{compact, moved_below, on_boxes, on_quant, parted, put_found, put_range, range, with_terms}
 use Rattle.qgm_core.specs.Kinds.{is_F, is_plain}
-use Rattle.list_laws.specs.Lists.{EachOnce, In, change, first, put_below, times, without}
+use Rattle.list_laws.specs.Lists.{EachOnce, In, change, first, put_below, without}
 use Rattle.qgm_core.specs.declared.kinds.BoxKind.{BoxKind}
 use Rattle.qgm_core.specs.declared.kinds.BoxKind.TheVariants.{Group, OuterJoin, Select}
 use Rattle.qgm_core.specs.declared.kinds.Distinct.{Distinct}
@@ -32,12 +32,12 @@ use Rattle.rule_magic.proofs.AbsorbGroupBelow as below
 use Rattle.rule_magic.proofs.AbsorbGroupBelow.{as-range}
 use Rattle.rule_magic.proofs.AbsorbGroupKeeps.{group-preserves}
 use Rattle.rule_magic.proofs.AbsorbKeylessKeeps.{keyless-preserves}
+use Rattle.rule_magic.proofs.AbsorbShared.{no-box, no-quant}
 use Rattle.rule_magic.proofs.Amid.{change-amid, change-second, change-third, first-amid, none-append, put-amid, put-second, without-amid}
 use Rattle.rule_magic.proofs.CalmFires.{shape-kind}
 use Rattle.qgm_edit_laws.proofs.PlacedLists.{first-in}
 use Rattle.qgm_core.proofs.Reaching.{overs-held}
-use Rattle.list_laws.proofs.Counting.{times-map, times-some}
-use Rattle.list_laws.proofs.Membership.{any-from, any-none, any-not, eq-false-sym, eq-itself}
+use Rattle.list_laws.proofs.Membership.{any-none, any-not, eq-false-sym, eq-itself}
 
 -- ---- a group has one F quantifier, over a box
 
@@ -170,28 +170,15 @@ module _ (g : QueryGraph) (once : EachOnce (numbers g.boxes)) (wf : WellFormed g
 
   -- ---- without keys
 
-  not-has : (b : ℕ) → (HasBox b g → ⊥) → has_box g.boxes b ≡ false
-  not-has b n = elim (cases_Bool (has_box g.boxes b)) [ inr e ↦ e | inl t ↦ absurd (n t) ]
-
-  not-times : (i : ℕ) → (HasQuant i g → ⊥) → times i (ids_in g.boxes) ≡ 0
-  not-times i n = none (times i (ids_in g.boxes)) (λ h. (
-      let y = times-some ids_of i g.boxes h in
-      let s = times-map (λ (z : OwnedQuant). z.id) i y.0.quants y.1.1 in
-      n (any-from (owns i) y.0 g.boxes y.1.0 (any-from (is_quant i) s.0 y.0.quants s.1.0 (subst (λ z. (s.0.id == z) ≡ true) s.1.1 (eq-itself s.0.id))))))
-    where
-      none : (t : ℕ) → (1 ≤ t → ⊥) → t ≡ 0
-      none zero h = refl
-      none (suc t) h = absurd (h (omega arith))
-
   module _ (z : NewNumbers) (fresh : AreNumbersNew g z) (less : may.keys ≡ 0) where
     pub are-fresh : AreFresh g z.o z.n z.om z.oc z.p
     are-fresh = record {
-      o_new = not-has z.o fresh.o;
-      n_new = not-has z.n fresh.n;
+      o_new = no-box g z.o fresh.o;
+      n_new = no-box g z.n fresh.n;
       two = fresh.two;
-      om_new = not-times z.om fresh.om;
-      oc_new = not-times z.oc fresh.oc;
-      p_new = not-times z.p fresh.p;
+      om_new = no-quant g z.om fresh.om;
+      oc_new = no-quant g z.oc fresh.oc;
+      p_new = no-quant g z.p fresh.p;
       om_oc = fresh.om_oc;
       om_p = fresh.om_p;
       oc_p = fresh.oc_p;

@@ -1,5 +1,5 @@
 -- G4 with an open right operand: the check finds nothing in the graph after it.
-use Rattle.std.proofs.Common.{ℕ, ◌==◌, ◌≡◌, ◌&&◌, ◌||◌, cond, not, Bool, true, false, List, [], ◌∷◌, ◌++◌, map, length, Option, None, refl, sym, ap, ap₂, subst, ◌∙◌, ◌⊎◌, inl, inr}
+use Rattle.std.proofs.Common.{ℕ, ◌==◌, ◌≡◌, ◌&&◌, ◌||◌, cond, not, Bool, true, false, List, [], ◌∷◌, ◌++◌, map, length, Option, None, refl, sym, ap, ap₂, subst, ◌∙◌, inl, inr}
 use Rattle.std.specs.List.{list_all, list_any}
 use Rattle.std.proofs.lemmas.Bool.{and_from, and_parts, cases_Bool, not-true, or_left}
 use Rattle.sql_value.specs.declared.order_key.SqlType.{SqlType}
@@ -9,7 +9,6 @@ use Rattle.qgm_core.specs.Kinds.{is_F, is_magic, is_permit}
 use Rattle.list_laws.specs.Lists.{In}
 use Rattle.qgm_core.specs.declared.kinds.QuantKind.TheVariants.{F}
 use Rattle.qgm_core.specs.declared.kinds.Role.{Role}
-use Rattle.qgm_core.specs.declared.kinds.Role.TheVariants.{Fed, Plain}
 use Rattle.qgm_core.specs.declared.kinds.SetOperator.{SetOperator}
 use Rattle.qgm_core.specs.declared.node.Node.{Node}
 use Rattle.qgm_core.specs.declared.owned.OwnedQuant.{OwnedQuant}
@@ -37,6 +36,7 @@ use Rattle.rule_magic.proofs.AbsorbFacts as fed
 use Rattle.rule_magic.proofs.AbsorbOpenSet as after
 use Rattle.rule_magic.proofs.AbsorbSetFormed as made
 use Rattle.rule_magic.proofs.AbsorbSetFormed.{all-agree-behind}
+use Rattle.rule_magic.proofs.AbsorbShared.{IsRoleOver}
 use Rattle.rule_magic.proofs.PairFormed.{pair-form}
 use Rattle.rule_magic.proofs.RenamedFormed.{region-forms}
 use Rattle.rule_magic.proofs.SetFormed.{set-form}
@@ -48,7 +48,7 @@ any-map f t h [] = refl
 any-map f t h (n ∷ ns) = ap₂ (λ a b. a || b) (h n) (any-map f t h ns)
 
 module _ (g : QueryGraph) (known : Facts) (d : Node) (may : MayAbsorb g.boxes known d) (form : SetOperator) (ts mt : List SqlType) (l r1 : OwnedQuant) (x y : Node) (s u p : ℕ) (lr rr : Role) (up l1 l2 : List Node) (at : SetAt g known d may form ts mt l r1 x y s u p up l1 l2) (opened : loose g.boxes y.id may.a.id ≡ true)
-    (left_role : (lr ≡ Plain) ⊎ ((lr ≡ Fed) × (loose g.boxes x.id may.a.id ≡ true))) (right_role : (rr ≡ Plain) ⊎ (rr ≡ Fed)) where
+    (fits_left : IsRoleOver g.boxes x.id lr) (fits_right : IsRoleOver g.boxes y.id rr) where
   abbrev m : Node
   m = may.m
 
@@ -207,7 +207,12 @@ module _ (g : QueryGraph) (known : Facts) (d : Node) (may : MayAbsorb g.boxes kn
   left-form : HasForm hs g.root T c'
   left-form = pair-form hs look c.id a.id l.id lr m x (after.left g known d may form ts mt l r1 x y s u p lr rr up l1 l2 at opened) g.root v T (T-c ∙ ap₂ (λ (v z : List (Option SqlType)). v ++ z) (sym T-m) (sym T-x)) long-m (ap length T-x ∙ made.long-x g known d may form ts mt l r1 x y s u p lr rr up l1 l2 at)
       known-m (ap (list_all is_known) T-x ∙ known-arm l x in-l at.over_x) seen-m (seen-arm l x in-l rows.0 at.over_x at.in_x) (λ h. absurd (made.scalar-c g known d may form ts mt l r1 x y s u p lr rr up l1 l2 at (sym (scalar-same c.id) ∙ h)))
-      (elim left_role [ inl e ↦ inl e | inr e ↦ inr (e.0, eq-false-sym g.root c.id (made.root-not-c g known d may form ts mt l r1 x y s u p lr rr up l1 l2 at), (magic-m, (same e.1 a.id ∙ e.1, λ q h. made.x-alone g known d may form ts mt l r1 x y s u p lr rr up l1 l2 at q (sym (same e.1 q) ∙ h)))) ])
+      (elim fits_left [
+        | inl e ↦ inl e
+        | inr e ↦ (
+            let o : loose g.boxes x.id a.id ≡ true = subst (λ q. loose g.boxes x.id q ≡ true) (made.x-alone g known d may form ts mt l r1 x y s u p lr rr up l1 l2 at e.1.0 e.1.1) e.1.1 in
+            inr (e.0, eq-false-sym g.root c.id (made.root-not-c g known d may form ts mt l r1 x y s u p lr rr up l1 l2 at), (magic-m, (same o a.id ∙ o, λ q h. made.x-alone g known d may form ts mt l r1 x y s u p lr rr up l1 l2 at q (sym (same o q) ∙ h)))))
+      ])
     where
       beside : loose g.boxes x.id a.id ≡ true → is_below g.boxes r1.over x.id ≡ false
       beside h = elim (cases_Bool (is_below g.boxes r1.over x.id)) [ inr f ↦ f | inl t ↦ absurd (clash (loose g.boxes x.id a.id) h (after.x-closed-below g known d may form ts mt l r1 x y s u p lr rr up l1 l2 at opened t a.id)) ]
@@ -220,7 +225,7 @@ module _ (g : QueryGraph) (known : Facts) (d : Node) (may : MayAbsorb g.boxes kn
       (pair-form hs look s p r1.id rr m (put y) (after.right g known d may form ts mt l r1 x y s u p lr rr up l1 l2 at opened) g.root v T (T-s ∙ ap₂ (λ (v z : List (Option SqlType)). v ++ z) (sym T-m) (sym T-y)) long-m
       (ap length T-y ∙ made.long-y g known d may form ts mt l r1 x y s u p lr rr up l1 l2 at ∙ sym (after.wide-put g known d may form ts mt l r1 x y s u p lr rr up l1 l2 at opened y))
       known-m (ap (list_all is_known) T-y ∙ known-arm r1 y in-r1 at.over_y) seen-m (seen-arm r1 y in-r1 rows.1 at.over_y at.in_y) (λ h. absurd (made.scalar-s g known d may form ts mt l r1 x y s u p lr rr up l1 l2 at (sym (scalar-same s) ∙ h)))
-      (elim right_role [ inl e ↦ inl e | inr e ↦ inr (e, s-not-root, (magic-m, (same p ∙ is-p, λ q h. (after.right g known d may form ts mt l r1 x y s u p lr rr up l1 l2 at opened).alone q (sym (same q) ∙ h)))) ]))
+      (elim fits_right [ inl e ↦ inl e | inr e ↦ inr (e.0, s-not-root, (magic-m, (same p ∙ is-p, λ q h. (after.right g known d may form ts mt l r1 x y s u p lr rr up l1 l2 at opened).alone q (sym (same q) ∙ h)))) ]))
     where
       s-not-root : (s == g.root) ≡ false
       s-not-root = let n = has-in g.root g.boxes w.rooted in subst (λ b. (s == b) ≡ false) n.1.1 (made.s-not g known d may form ts mt l r1 x y s u p lr rr up l1 l2 at n.0 n.1.0)

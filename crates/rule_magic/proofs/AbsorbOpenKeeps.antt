@@ -1,5 +1,5 @@
 -- G4 with an open right operand preserves.
-use Rattle.std.proofs.Common.{ℕ, ◌==◌, ◌≡◌, ◌&&◌, ◌||◌, cond, true, false, List, [], ◌∷◌, ◌++◌, map, refl, sym, ap, subst, ◌∙◌, ◌⊎◌, inl, inr}
+use Rattle.std.proofs.Common.{ℕ, ◌==◌, ◌≡◌, ◌&&◌, ◌||◌, cond, true, false, List, [], ◌∷◌, ◌++◌, map, refl, sym, ap, subst, ◌∙◌, inl, inr}
 use Rattle.std.specs.List.{list_any}
 use Rattle.std.proofs.lemmas.Bool.{cases_Bool, or_cases, or_left, or_right}
 use Rattle.row_bag.specs.Bags.{Agree}
@@ -10,13 +10,12 @@ use Rattle.qgm_core.specs.Boxes.{QueryGraph, is_quant, owns, width}
 use Rattle.qgm_core.specs.Edits.{compact}
 use Rattle.list_laws.specs.Lists.{In}
 use Rattle.qgm_core.specs.declared.kinds.Role.{Role}
-use Rattle.qgm_core.specs.declared.kinds.Role.TheVariants.{Fed, Plain}
 use Rattle.qgm_core.specs.declared.kinds.SetOperator.{SetOperator}
 use Rattle.qgm_core.specs.declared.node.Node.{Node}
 use Rattle.qgm_core.specs.declared.owned.OwnedQuant.{OwnedQuant}
 use Rattle.qgm_edit_laws.specs.Graph.{Sound}
 use Rattle.qgm_edit_laws.proofs.AnyPut.{conds-names, heads-names}
-use Rattle.qgm_edit_laws.proofs.FreeLoose.{free-looks, open-looks}
+use Rattle.qgm_edit_laws.proofs.FreeLoose.{free-looks}
 use Rattle.qgm_edit_laws.proofs.Scope.{closed-root}
 use Rattle.qgm_edit_laws.proofs.WellFormedKept.{numbers-once}
 use Rattle.qgm_meaning.specs.Meaning.{root_bag}
@@ -24,7 +23,6 @@ use Rattle.qgm_meaning.specs.Satisfies.{Satisfies, SatisfiesBy}
 use Rattle.qgm_meaning.specs.Scope.{introduces, loose, put_node}
 use Rattle.qgm_meaning.specs.Searches.{binds, binds_cond, names, names_cond}
 use Rattle.qgm_meaning.specs.Tags.{columns_from}
-use Rattle.qgm_props.specs.Calm.{is_closed}
 use Rattle.qgm_props.specs.Inferred.{Facts}
 use Rattle.rule_api.specs.Rules.{Preserves}
 use Rattle.rule_magic.specs.AbsorbArms.{HasArms, IsStill, Renames, role_over}
@@ -40,7 +38,7 @@ use Rattle.rule_magic.proofs.AbsorbOpenSet.{and-none}
 use Rattle.rule_magic.proofs.AbsorbSelectFormed as one
 use Rattle.rule_magic.proofs.AbsorbSetFacts.{sets-given}
 use Rattle.rule_magic.proofs.AbsorbSetFormed as made
-use Rattle.rule_magic.proofs.AbsorbShared.{satisfies-both, satisfies-left, satisfies-right, then-compact}
+use Rattle.rule_magic.proofs.AbsorbShared.{IsRoleOver, role-over-is, satisfies-both, satisfies-left, satisfies-right, then-compact}
 use Rattle.list_laws.proofs.Booleans.{clash}
 use Rattle.list_laws.proofs.Membership.{any-in}
 
@@ -157,25 +155,12 @@ module _ (g : QueryGraph) (known : Facts) (d : Node) (may : MayAbsorb g.boxes kn
       (tt, (tt, (tt, satisfies-both tables l1 l2 (satisfies-left tables l1 (c ∷ l2) low) (satisfies-right tables l1 (c ∷ l2) low).1))))
 
   -- where the roles of both selects fit, the check finds nothing after it
-  pub preserves : (lr ≡ Plain) ⊎ ((lr ≡ Fed) × (loose g.boxes x.id may.a.id ≡ true)) → (rr ≡ Plain) ⊎ (rr ≡ Fed) → Preserves g (compact h)
+  pub preserves : IsRoleOver g.boxes x.id lr → IsRoleOver g.boxes y.id rr → Preserves g (compact h)
   preserves left right = then-compact g h (open-formed g known d may form ts mt l r1 x y s u p lr rr up l1 l2 at opened left right) (numbers-once h.boxes (after.ordered g known d may form ts mt l r1 x y s u p lr rr up l1 l2 at opened)) bags bases refl refl
-
--- the selects over the operands have such roles
-module _ (g : QueryGraph) (known : Facts) (d : Node) (may : MayAbsorb g.boxes known d) (form : SetOperator) (ts mt : List SqlType) (l r1 : OwnedQuant) (x y : Node) (s u p : ℕ) (up l1 l2 : List Node) (at : SetAt g known d may form ts mt l r1 x y s u p up l1 l2) where
-  pub left-role : (role_over g.boxes x.id ≡ Plain) ⊎ ((role_over g.boxes x.id ≡ Fed) × (loose g.boxes x.id may.a.id ≡ true))
-  left-role = elim (cases_Bool (is_closed g.boxes x.id)) [
-    | inl t ↦ inl (ap (λ b. cond b Plain Fed) t)
-    | inr f ↦ (
-        let k = open-looks g.boxes g.root (made.w g known d may form ts mt l r1 x y s u p Fed Fed up l1 l2 at) x.id f in
-        inr (ap (λ b. cond b Plain Fed) f, subst (λ q. loose g.boxes x.id q ≡ true) (made.x-alone g known d may form ts mt l r1 x y s u p Fed Fed up l1 l2 at k.0 k.1) k.1))
-  ]
-
-  pub right-role : (role_over g.boxes y.id ≡ Plain) ⊎ (role_over g.boxes y.id ≡ Fed)
-  right-role = elim (cases_Bool (is_closed g.boxes y.id)) [ inl t ↦ inl (ap (λ b. cond b Plain Fed) t) | inr f ↦ inr (ap (λ b. cond b Plain Fed) f) ]
 
 pub set-open-preserves : SetOpenPreserves
 set-open-preserves = λ g known d may form ts mt l r1 x y s u p up l1 l2 at h. (
     let lr = role_over g.boxes x.id in
     let rr = role_over g.boxes y.id in
-    preserves g known d may form ts mt l r1 x y s u p lr rr up l1 l2 at (free-looks g.boxes g.root (made.w g known d may form ts mt l r1 x y s u p lr rr up l1 l2 at) y.id may.a.id h)
-    (left-role g known d may form ts mt l r1 x y s u p up l1 l2 at) (right-role g known d may form ts mt l r1 x y s u p up l1 l2 at))
+    let w = made.w g known d may form ts mt l r1 x y s u p lr rr up l1 l2 at in
+    preserves g known d may form ts mt l r1 x y s u p lr rr up l1 l2 at (free-looks g.boxes g.root w y.id may.a.id h) (role-over-is g.boxes g.root w x.id) (role-over-is g.boxes g.root w y.id))

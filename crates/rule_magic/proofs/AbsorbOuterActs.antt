@@ -1,12 +1,12 @@
 -- The steps of G5 come to its action, which preserves.
-use Rattle.std.proofs.Common.{ℕ, zero, suc, ◌==◌, ◌≡◌, ◌≤◌, ◌&&◌, ◌||◌, true, false, List, [], ◌∷◌, ◌++◌, Option, Some, None, cond, map, refl, sym, ap, ap₂, subst, ◌∙◌, eqb-true, inl, inr, arith}
+use Rattle.std.proofs.Common.{ℕ, ◌==◌, ◌≡◌, ◌&&◌, ◌||◌, true, false, List, [], ◌∷◌, ◌++◌, Option, Some, None, cond, map, refl, sym, ap, ap₂, subst, ◌∙◌, eqb-true, inl, inr}
 use Rattle.std.specs.List.{list_any}
 use Rattle.std.proofs.lemmas.Bool.{cases_Bool, or_left, or_right}
-use Rattle.qgm_core.specs.Boxes.{HasBox, HasQuant, QueryGraph, bare_box, has_box, ids_in, ids_of, is_box, is_quant, numbers, owns, width}
+use Rattle.qgm_core.specs.Boxes.{QueryGraph, bare_box, is_box, is_quant, numbers, owns, width}
 use Rattle.qgm_core.specs.Edits.{compact, on_quant, parted, put_range, range, with_distinct}
 use Rattle.qgm_core.specs.Free.{IsFree}
 use Rattle.qgm_core.specs.Kinds.{is_plain}
-use Rattle.list_laws.specs.Lists.{EachOnce, In, change, put_below, times}
+use Rattle.list_laws.specs.Lists.{EachOnce, change, put_below}
 use Rattle.qgm_core.specs.declared.kinds.BoxKind.{BoxKind}
 use Rattle.qgm_core.specs.declared.kinds.BoxKind.TheVariants.{OuterJoin, Select}
 use Rattle.qgm_core.specs.declared.kinds.Distinct.TheVariants.{Preserve}
@@ -48,11 +48,11 @@ use Rattle.rule_magic.proofs.AbsorbGroupBelow.{as-range}
 use Rattle.rule_magic.proofs.AbsorbLeftKeeps.{outer-left-preserves}
 use Rattle.rule_magic.proofs.AbsorbOuterFacts as outer
 use Rattle.rule_magic.proofs.AbsorbOuterSwap as steps
+use Rattle.rule_magic.proofs.AbsorbShared.{no-box, no-quant}
 use Rattle.rule_magic.proofs.Adjacent.{change-here, change-there}
 use Rattle.rule_magic.proofs.Amid.{change-amid, change-second, change-third, put-amid}
 use Rattle.rule_magic.proofs.CalmFires.{closed-is}
 use Rattle.rule_magic.proofs.RenameSteps.{rename-below-is}
-use Rattle.list_laws.proofs.Counting.{times-map, times-some}
 use Rattle.list_laws.proofs.Membership.{any-from, any-none, any-not, eq-false-sym, eq-itself}
 
 plain-is : (k : Role) → is_plain k ≡ true → k ≡ Plain
@@ -191,19 +191,9 @@ module _ (g : QueryGraph) (once : EachOnce (numbers g.boxes)) (wf : WellFormed g
 
   -- ---- where it is open
 
-  not-times : (i : ℕ) → (HasQuant i g → ⊥) → times i (ids_in g.boxes) ≡ 0
-  not-times i n = none (times i (ids_in g.boxes)) (λ h. (
-      let v = times-some ids_of i g.boxes h in
-      let s = times-map (λ (z : OwnedQuant). z.id) i v.0.quants v.1.1 in
-      n (any-from (owns i) v.0 g.boxes v.1.0 (any-from (is_quant i) s.0 v.0.quants s.1.0 (subst (λ z. (s.0.id == z) ≡ true) s.1.1 (eq-itself s.0.id))))))
-    where
-      none : (t : ℕ) → (1 ≤ t → ⊥) → t ≡ 0
-      none zero h = refl
-      none (suc t) h = absurd (h (omega arith))
-
   module _ (z : NewSelect) (new : IsSelectNew g z) where
     pub is-fresh : IsFreshSelect g z.s z.u z.p
-    is-fresh = record { s_new = elim (cases_Bool (has_box g.boxes z.s)) [ inr e ↦ e | inl t ↦ absurd (new.s t) ]; u_new = not-times z.u new.u; p_new = not-times z.p new.p; apart = new.apart }
+    is-fresh = record { s_new = no-box g z.s new.s; u_new = no-quant g z.u new.u; p_new = no-quant g z.p new.p; apart = new.apart }
 
     up-no-s : list_any (is_box z.s) up ≡ false
     up-no-s = any-not (is_box z.s) up (λ n i. any-none (is_box z.s) n g.boxes is-fresh.s_new (below.in-up g once wf d may.ready n i))

@@ -32,7 +32,6 @@ use Rattle.qgm_edit_laws.proofs.Ranks.{place-under}
 use Rattle.qgm_edit_laws.proofs.Read.{named-split}
 use Rattle.qgm_edit_laws.proofs.Reformed.{wide-types}
 use Rattle.qgm_edit_laws.proofs.Scope.{bound-above, bound-owned, climb, one-owner, touched}
-use Rattle.qgm_edit_laws.proofs.Scoped.{few-ids}
 use Rattle.qgm_edit_laws.proofs.TypedKept.{found-under}
 use Rattle.qgm_edit_laws.proofs.TypesBy.{agrees-as, looked}
 use Rattle.qgm_meaning.specs.Scope.{loose, read_by}
@@ -46,6 +45,7 @@ use Rattle.rule_magic.specs.UnderTags.{IsOuter}
 use Rattle.rule_magic.proofs.AbsorbFacts as fed
 use Rattle.rule_magic.proofs.AbsorbSelectFormed as made
 use Rattle.rule_magic.proofs.AbsorbSelectFormed.{columns-long, columns-types, f-counts, found-suc, length-append, map-append}
+use Rattle.rule_magic.proofs.AbsorbShared.{apart-two}
 use Rattle.rule_magic.proofs.CalmFires.{shape-kind}
 use Rattle.rule_magic.proofs.LedColumns.{MayLead}
 use Rattle.rule_magic.proofs.PairFormed.{known-map}
@@ -220,14 +220,7 @@ module _ (g : QueryGraph) (known : Facts) (d : Node) (may : MayAbsorb g.boxes kn
   ]
 
   pub l-not-r1 : (l.id == r1.id) ≡ false
-  l-not-r1 = elim (cases_Bool (l.id == r1.id)) [
-    | inr f ↦ f
-    | inl e ↦ absurd (
-        let few = few-ids g.boxes c r1.id (w.once r1.id) may.in_c in
-        let z : times r1.id (l.id ∷ (r1.id ∷ [])) ≤ 1 = subst (λ (k : List OwnedQuant). times r1.id (map (λ (q : OwnedQuant). q.id) k) ≤ 1) at.two few in
-        let n : 1 + (1 + 0) ≤ 1 = subst (λ b. cond b 1 0 + (1 + 0) ≤ 1) e (subst (λ b. cond (l.id == r1.id) 1 0 + (cond b 1 0 + 0) ≤ 1) (eq-itself r1.id) z) in
-        omega (arith, n))
-  ]
+  l-not-r1 = apart-two g.boxes c l r1 (w.once r1.id) may.in_c at.two
 
   pub open-not-m : (b i : ℕ) → loose g.boxes b i ≡ true → (m.id == b) ≡ false
   open-not-m b i k = elim (cases_Bool (m.id == b)) [ inr f ↦ f | inl e ↦ absurd (clash (loose g.boxes m.id i) (subst (λ z. loose g.boxes z i ≡ true) (sym (eqb-true m.id b e)) k) (fed.closed-m g at.once at.formed known at.tells d may i)) ]

@@ -1,12 +1,12 @@
 -- The steps of G4 come to its action.
-use Rattle.std.proofs.Common.{ℕ, zero, suc, ◌==◌, ◌≡◌, ◌≤◌, ◌&&◌, ◌||◌, nat_lt, Bool, true, false, List, [], ◌∷◌, ◌++◌, Option, Some, cond, insert, length, refl, sym, ap, subst, ◌∙◌, eqb-true, inl, inr, arith}
+use Rattle.std.proofs.Common.{suc, ◌==◌, ◌≡◌, ◌≤◌, ◌&&◌, ◌||◌, nat_lt, Bool, true, false, List, [], ◌∷◌, ◌++◌, Option, Some, cond, insert, length, refl, sym, ap, subst, ◌∙◌, eqb-true, inl, inr, arith}
 use Rattle.std.specs.List.{list_all, list_any}
 use Rattle.std.proofs.lemmas.Bool.{and_parts, cases_Bool, eq-eqb}
 use Rattle.sql_value.specs.declared.order_key.SqlType.{SqlType}
-use Rattle.qgm_core.specs.Boxes.{HasQuant, QueryGraph, bare_box, has_box, ids_in, ids_of, is_box, is_quant, numbers, owns, quants_in, range_in, width}
+use Rattle.qgm_core.specs.Boxes.{QueryGraph, bare_box, has_box, is_box, is_quant, numbers, owns, quants_in, range_in, width}
 use Rattle.qgm_core.specs.Edits.{moved_below, parted, put_found, put_range, put_range_found, quant_moved, range, with_distinct, without_quant}
 use Rattle.qgm_core.specs.Kinds.{is_F, is_plain}
-use Rattle.list_laws.specs.Lists.{EachOnce, In, change, first, put_below, times, without}
+use Rattle.list_laws.specs.Lists.{EachOnce, In, change, first, put_below, without}
 use Rattle.qgm_core.specs.declared.kinds.BoxKind.{BoxKind}
 use Rattle.qgm_core.specs.declared.kinds.BoxKind.TheVariants.{Select, SetOp}
 use Rattle.qgm_core.specs.declared.kinds.Distinct.{Distinct}
@@ -39,11 +39,10 @@ use Rattle.rule_magic.proofs.AbsorbFacts as fed
 use Rattle.rule_magic.proofs.AbsorbGroupBelow as below
 use Rattle.rule_magic.proofs.AbsorbGroupBelow.{as-range}
 use Rattle.rule_magic.proofs.AbsorbSelectFormed as placed
-use Rattle.rule_magic.proofs.AbsorbShared.{apart-two}
+use Rattle.rule_magic.proofs.AbsorbShared.{apart-two, no-box, no-quant}
 use Rattle.rule_magic.proofs.Amid.{change-amid, change-far, change-second, first-amid, first-far, put-amid, put-second, without-far}
 use Rattle.rule_magic.proofs.CalmFires.{shape-kind}
 use Rattle.list_laws.proofs.Booleans.{clash}
-use Rattle.list_laws.proofs.Counting.{times-map, times-some}
 use Rattle.list_laws.proofs.Membership.{any-from, any-none, any-not, eq-false-sym, eq-itself}
 
 -- ---- a set operation has two F quantifiers, over boxes
@@ -226,20 +225,10 @@ module _ (g : QueryGraph) (once : EachOnce (numbers g.boxes)) (wf : WellFormed g
 
   module _ (z : NewSelect) (new : IsSelectNew g z) where
     not-has : has_box g.boxes z.s ≡ false
-    not-has = elim (cases_Bool (has_box g.boxes z.s)) [ inr e ↦ e | inl t ↦ absurd (new.s t) ]
-
-    not-times : (i : ℕ) → (HasQuant i g → ⊥) → times i (ids_in g.boxes) ≡ 0
-    not-times i n = none (times i (ids_in g.boxes)) (λ h. (
-        let y = times-some ids_of i g.boxes h in
-        let s = times-map (λ (z : OwnedQuant). z.id) i y.0.quants y.1.1 in
-        n (any-from (owns i) y.0 g.boxes y.1.0 (any-from (is_quant i) s.0 y.0.quants s.1.0 (subst (λ z. (s.0.id == z) ≡ true) s.1.1 (eq-itself s.0.id))))))
-      where
-        none : (t : ℕ) → (1 ≤ t → ⊥) → t ≡ 0
-        none zero h = refl
-        none (suc t) h = absurd (h (omega arith))
+    not-has = no-box g z.s new.s
 
     pub is-fresh : IsFreshSelect g z.s z.u z.p
-    is-fresh = record { s_new = not-has; u_new = not-times z.u new.u; p_new = not-times z.p new.p; apart = new.apart }
+    is-fresh = record { s_new = not-has; u_new = no-quant g z.u new.u; p_new = no-quant g z.p new.p; apart = new.apart }
 
     up-no-s : list_any (is_box z.s) up ≡ false
     up-no-s = any-not (is_box z.s) up (λ n i. any-none (is_box z.s) n g.boxes not-has (below.in-up g once wf d may.ready n i))

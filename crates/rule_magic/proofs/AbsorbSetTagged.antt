@@ -24,13 +24,13 @@ use Rattle.rule_magic.specs.AbsorbArms.{role_over}
 use Rattle.rule_magic.specs.AbsorbSetOperation.{SetAt, absorbed_set, renamed_set, tagged_set}
 use Rattle.rule_magic.specs.Places.{MayAbsorb}
 use Rattle.rule_magic.proofs.AbsorbOpenFormed.{open-formed}
-use Rattle.rule_magic.proofs.AbsorbOpenKeeps.{left-role, right-role, set-open-preserves}
+use Rattle.rule_magic.proofs.AbsorbOpenKeeps.{set-open-preserves}
 use Rattle.rule_magic.proofs.AbsorbOpenLowers.{set-open-lowers}
 use Rattle.rule_magic.proofs.AbsorbOpenSet as after
 use Rattle.rule_magic.proofs.AbsorbSetFormed as made
 use Rattle.rule_magic.proofs.AbsorbSetKeeps as closed
 use Rattle.rule_magic.proofs.AbsorbSetKeeps.{set-lowers, set-preserves}
-use Rattle.rule_magic.proofs.AbsorbShared.{closed-looks}
+use Rattle.rule_magic.proofs.AbsorbShared.{closed-looks, role-over-is}
 use Rattle.rule_magic.proofs.CalmFires.{closed-is}
 use Rattle.list_laws.proofs.Booleans.{clash}
 
@@ -97,7 +97,7 @@ module _ (g : QueryGraph) (known : Facts) (d : Node) (may : MayAbsorb g.boxes kn
     open-absorbed : IsAbsorbed g (renamed_by left right)
     open-absorbed = record {
       once = numbers-once (renamed_by left right).boxes (after.ordered g known d may form ts mt l r1 x y s u p left right up l1 l2 at (is-open f));
-      faultless = open-formed g known d may form ts mt l r1 x y s u p left right up l1 l2 at (is-open f) (left-role g known d may form ts mt l r1 x y s u p up l1 l2 at) (right-role g known d may form ts mt l r1 x y s u p up l1 l2 at);
+      faultless = open-formed g known d may form ts mt l r1 x y s u p left right up l1 l2 at (is-open f) (role-over-is g.boxes g.root w x.id) (role-over-is g.boxes g.root w y.id);
       lowers = set-open-lowers g known d may form ts mt l r1 x y s u p left right up l1 l2 at free;
       preserves = set-open-preserves g known d may form ts mt l r1 x y s u p up l1 l2 at free;
     }

@@ -1,10 +1,10 @@
 -- What all absorbing rules keep: tables that satisfy the bases, closed boxes, and scalar quantifiers.
-use Rattle.std.proofs.Common.{ℕ, ◌+◌, ◌==◌, ◌≡◌, ◌≤◌, ◌&&◌, ◌⊎◌, cond, map, not, true, false, List, [], ◌∷◌, ◌++◌, None, refl, subst, sym, ap, ◌∙◌, inl, inr, arith}
+use Rattle.std.proofs.Common.{ℕ, zero, suc, ◌+◌, ◌==◌, ◌≡◌, ◌≤◌, ◌&&◌, ◌⊎◌, cond, map, not, true, false, List, [], ◌∷◌, ◌++◌, None, refl, subst, sym, ap, ◌∙◌, inl, inr, arith}
 use Rattle.std.proofs.lemmas.Bool.{cases_Bool}
 use Rattle.row_bag.specs.Bags.{Agree}
 use Rattle.row_bag.specs.Sets.{same_cells}
 use Rattle.row_bag.specs.declared.tables.Table.{Table}
-use Rattle.qgm_core.specs.Boxes.{QueryGraph, ids_in, is_box, numbers}
+use Rattle.qgm_core.specs.Boxes.{HasBox, HasQuant, QueryGraph, has_box, ids_in, ids_of, is_box, is_quant, numbers, owns}
 use Rattle.qgm_core.specs.Edits.{compact}
 use Rattle.qgm_core.specs.Kinds.{is_S, is_magic, is_plain}
 use Rattle.list_laws.specs.Lists.{EachOnce, In, first, times}
@@ -27,7 +27,8 @@ use Rattle.rule_facts.proofs.Compacted.{compact-preserves}
 use Rattle.rule_magic.specs.AbsorbArms.{role_over}
 use Rattle.rule_magic.proofs.CalmFires.{closed-is}
 use Rattle.list_laws.proofs.Booleans.{clash}
-use Rattle.list_laws.proofs.Membership.{eq-itself}
+use Rattle.list_laws.proofs.Counting.{times-map, times-some}
+use Rattle.list_laws.proofs.Membership.{any-from, eq-itself}
 
 -- ---- tables
 
@@ -85,3 +86,18 @@ apart-two bs n l r once i two = elim (cases_Bool (l.id == r.id)) [
       let n : 1 + (1 + 0) ≤ 1 = subst (λ b. cond b 1 0 + (1 + 0) ≤ 1) e (subst (λ b. cond (l.id == r.id) 1 0 + (cond b 1 0 + 0) ≤ 1) (eq-itself r.id) z) in
       omega (arith, n))
 ]
+
+-- ---- numbers that a graph doesn't have
+
+pub no-box : (g : QueryGraph) (b : ℕ) → (HasBox b g → ⊥) → has_box g.boxes b ≡ false
+no-box g b n = elim (cases_Bool (has_box g.boxes b)) [ inr e ↦ e | inl t ↦ absurd (n t) ]
+
+pub no-quant : (g : QueryGraph) (i : ℕ) → (HasQuant i g → ⊥) → times i (ids_in g.boxes) ≡ 0
+no-quant g i n = none (times i (ids_in g.boxes)) (λ h. (
+    let y = times-some ids_of i g.boxes h in
+    let s = times-map (λ (z : OwnedQuant). z.id) i y.0.quants y.1.1 in
+    n (any-from (owns i) y.0 g.boxes y.1.0 (any-from (is_quant i) s.0 y.0.quants s.1.0 (subst (λ z. (s.0.id == z) ≡ true) s.1.1 (eq-itself s.0.id))))))
+  where
+    none : (t : ℕ) → (1 ≤ t → ⊥) → t ≡ 0
+    none zero h = refl
+    none (suc t) h = absurd (h (omega arith))

@@ -101,7 +101,7 @@ abbrev pub renamed_set : (g : QueryGraph) (known : Facts) (d : Node) (may : MayA
 renamed_set g known d may form mt l r x y s u p left right up l1 l2 =
     on_boxes (λ boxes. map (λ (n : Node). if is_below g.boxes r.over n.id then put_node may.a.id (columns_from p 1 (width may.m)) n else n) (absorbed_set g known d may form mt l r x y s u p left right up l1 l2).boxes) g
 
--- a select is fed where its operand is open
+-- a select is fed where its operand is open; names change where the right one is
 abbrev pub tagged_set : (g : QueryGraph) (known : Facts) (d : Node) (may : MayAbsorb g.boxes known d) (form : SetOperator) (mt : List SqlType) (l r : OwnedQuant) (x y : Node) (s u p : ℕ) (up l1 l2 : List Node) → QueryGraph
 tagged_set g known d may form mt l r x y s u p up l1 l2 =
     if is_closed g.boxes y.id
