@@ -62,13 +62,7 @@ fn put_select(
     ensures ok { OnOk result (graph.new ≡ spec.with_left (as_feeding fed.now) (as_pair operands.now) left graph.old) }
     ensures kept { HasAll graph.old graph.new }
 {
-    let head = of_both(
-        alloc,
-        fed.a.id,
-        width(fed.m),
-        fed.r.id,
-        width(operands.x),
-    )?;
+    let head = of_both(alloc, fed.a.id, width(fed.m), fed.r.id, width(operands.x))?;
     graph.put_box(fed.c.id, BoxKind::Select, left, no_conds(alloc), head);
     graph.set_distinct(fed.c.id, Distinct::Preserve);
     Ok(())

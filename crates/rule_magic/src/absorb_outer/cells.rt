@@ -14,11 +14,7 @@ use shared_types::OutOfMemory;
 use std::alloc::Global;
 
 // Its cells, where the left operand begins with them.
-fn left_cells(
-    alloc: Global,
-    fed: &Fed<'_>,
-    operands: &Operands<'_>,
-) -> Result<Head, OutOfMemory>
+fn left_cells(alloc: Global, fed: &Fed<'_>, operands: &Operands<'_>) -> Result<Head, OutOfMemory>
     ensures { IfOk result (λ h. h ≡ spec.left_cells (as_feeding fed.now) (as_pair operands.now)) }
 {
     let w = width(fed.m);
@@ -30,11 +26,7 @@ fn left_cells(
 }
 
 // Its cells, where both operands do.
-fn both_cells(
-    alloc: Global,
-    fed: &Fed<'_>,
-    operands: &Operands<'_>,
-) -> Result<Head, OutOfMemory>
+fn both_cells(alloc: Global, fed: &Fed<'_>, operands: &Operands<'_>) -> Result<Head, OutOfMemory>
     ensures { IfOk result (λ h. h ≡ spec.both_cells (as_feeding fed.now) (as_pair operands.now)) }
 {
     let r = operands.r.id;
@@ -45,11 +37,7 @@ fn both_cells(
 
 /// The head of the outer join over a tagged left operand. It fails, too, where there are too many columns
 /// to count.
-pub fn left_head(
-    alloc: Global,
-    fed: &Fed<'_>,
-    operands: &Operands<'_>,
-) -> Result<Head, OutOfMemory>
+pub fn left_head(alloc: Global, fed: &Fed<'_>, operands: &Operands<'_>) -> Result<Head, OutOfMemory>
     ensures { IfOk result (λ h. h ≡ spec.left_head (as_feeding fed.now) (as_pair operands.now)) }
 {
     let cells = left_cells(alloc, fed, operands)?;
@@ -57,11 +45,7 @@ pub fn left_head(
 }
 
 /// The same over two tagged operands.
-pub fn both_head(
-    alloc: Global,
-    fed: &Fed<'_>,
-    operands: &Operands<'_>,
-) -> Result<Head, OutOfMemory>
+pub fn both_head(alloc: Global, fed: &Fed<'_>, operands: &Operands<'_>) -> Result<Head, OutOfMemory>
     ensures { IfOk result (λ h. h ≡ spec.both_head (as_feeding fed.now) (as_pair operands.now)) }
 {
     let cells = both_cells(alloc, fed, operands)?;
@@ -70,11 +54,7 @@ pub fn both_head(
 
 /// The conditions of the outer join over a tagged left operand. It fails, too, where there are too many
 /// columns to count.
-pub fn left_on(
-    alloc: Global,
-    fed: &Fed<'_>,
-    operands: &Operands<'_>,
-) -> Result<Conds, OutOfMemory>
+pub fn left_on(alloc: Global, fed: &Fed<'_>, operands: &Operands<'_>) -> Result<Conds, OutOfMemory>
     ensures { IfOk result (λ h. h ≡ spec.left_on (as_feeding fed.now) (as_pair operands.now)) }
 {
     let w = width(fed.m);
@@ -86,11 +66,7 @@ pub fn left_on(
 }
 
 /// The same over two tagged operands, with the tags of both the same.
-pub fn both_on(
-    alloc: Global,
-    fed: &Fed<'_>,
-    operands: &Operands<'_>,
-) -> Result<Conds, OutOfMemory>
+pub fn both_on(alloc: Global, fed: &Fed<'_>, operands: &Operands<'_>) -> Result<Conds, OutOfMemory>
     ensures { IfOk result (λ h. h ≡ spec.both_on (as_feeding fed.now) (as_pair operands.now)) }
 {
     let w = width(fed.m);
