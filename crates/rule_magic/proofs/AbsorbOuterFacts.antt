@@ -27,16 +27,17 @@ use Rattle.qgm_edit_laws.proofs.Adds.{reads-at-read}
 use Rattle.qgm_edit_laws.proofs.AnyPut.{conds-names}
 use Rattle.qgm_edit_laws.proofs.BoxForms.{counted-seen}
 use Rattle.qgm_edit_laws.proofs.Follow.{settled-types}
+use Rattle.qgm_edit_laws.proofs.FreeLoose.{open-looks}
 use Rattle.qgm_edit_laws.proofs.Ranks.{place-under}
 use Rattle.qgm_edit_laws.proofs.Read.{named-split}
 use Rattle.qgm_edit_laws.proofs.Reformed.{wide-types}
 use Rattle.qgm_edit_laws.proofs.Scope.{bound-above, bound-owned, climb, one-owner, touched}
-use Rattle.qgm_edit_laws.proofs.Scoped.{few-ids}
 use Rattle.qgm_edit_laws.proofs.TypedKept.{found-under}
 use Rattle.qgm_edit_laws.proofs.TypesBy.{agrees-as, looked}
 use Rattle.qgm_meaning.specs.Scope.{loose, read_by}
 use Rattle.qgm_meaning.specs.Searches.{binds_cond, names, names_cond}
 use Rattle.qgm_meaning.specs.Tags.{columns_from}
+use Rattle.qgm_props.specs.Calm.{is_closed}
 use Rattle.qgm_props.specs.Inferred.{Facts}
 use Rattle.rule_magic.specs.AbsorbOuterJoin.{OuterAt}
 use Rattle.rule_magic.specs.Places.{MayAbsorb}
@@ -44,6 +45,7 @@ use Rattle.rule_magic.specs.UnderTags.{IsOuter}
 use Rattle.rule_magic.proofs.AbsorbFacts as fed
 use Rattle.rule_magic.proofs.AbsorbSelectFormed as made
 use Rattle.rule_magic.proofs.AbsorbSelectFormed.{columns-long, columns-types, f-counts, found-suc, length-append, map-append}
+use Rattle.rule_magic.proofs.AbsorbShared.{apart-two}
 use Rattle.rule_magic.proofs.CalmFires.{shape-kind}
 use Rattle.rule_magic.proofs.LedColumns.{MayLead}
 use Rattle.rule_magic.proofs.PairFormed.{known-map}
@@ -175,7 +177,11 @@ module _ (g : QueryGraph) (known : Facts) (d : Node) (may : MayAbsorb g.boxes kn
     | inr k ↦ open-c.1 i k
   ]
 
-  same-owner : (z : OwnedQuant) (n : Node) → In z c.quants → In n g.boxes → owns z.id n ≡ true → n ≡ c
+  -- a right operand that isn't closed looks the magic box's quantifier up
+  pub open-arm : is_closed g.boxes y.id ≡ false → loose g.boxes y.id a.id ≡ true
+  open-arm t = let q = open-looks g.boxes g.root w y.id t in subst (λ i. loose g.boxes y.id i ≡ true) (arm-alone r1 y in-r1 at.over_y q.0 q.1) q.1
+
+  pub same-owner : (z : OwnedQuant) (n : Node) → In z c.quants → In n g.boxes → owns z.id n ≡ true → n ≡ c
   same-owner z n j i o = one-owner g.boxes g.root w z.id n c i may.in_c o (any-from (is_quant z.id) z c.quants j (eq-itself z.id))
 
   -- no other box than c names its quantifiers
@@ -194,7 +200,7 @@ module _ (g : QueryGraph) (known : Facts) (d : Node) (may : MayAbsorb g.boxes kn
         ]
       ]
 
-  not-a : (z : OwnedQuant) → In z c.quants → (z.id == a.id) ≡ false
+  pub not-a : (z : OwnedQuant) → In z c.quants → (z.id == a.id) ≡ false
   not-a z j = elim (cases_Bool (z.id == a.id)) [
     | inr f ↦ f
     | inl e ↦ absurd (clash (d.id == c.id) (eq-eqb d.id c.id (ap (λ (z : Node). z.id) (same-owner z d j may.in_d (any-from (is_quant z.id) a d.quants in-a (eq-eqb a.id z.id (sym (eqb-true z.id a.id e))))))) d-not-c)
@@ -206,15 +212,15 @@ module _ (g : QueryGraph) (known : Facts) (d : Node) (may : MayAbsorb g.boxes kn
   pub a-not-r1 : (a.id == r1.id) ≡ false
   a-not-r1 = eq-false-sym r1.id a.id (not-a r1 in-r1)
 
-  pub l-not-r1 : (l.id == r1.id) ≡ false
-  l-not-r1 = elim (cases_Bool (l.id == r1.id)) [
+  -- d's second quantifier isn't one of them
+  pub not-r : (z : OwnedQuant) → In z c.quants → (z.id == r.id) ≡ false
+  not-r z j = elim (cases_Bool (z.id == r.id)) [
     | inr f ↦ f
-    | inl e ↦ absurd (
-        let few = few-ids g.boxes c r1.id (w.once r1.id) may.in_c in
-        let z : times r1.id (l.id ∷ (r1.id ∷ [])) ≤ 1 = subst (λ (k : List OwnedQuant). times r1.id (map (λ (q : OwnedQuant). q.id) k) ≤ 1) at.two few in
-        let n : 1 + (1 + 0) ≤ 1 = subst (λ b. cond b 1 0 + (1 + 0) ≤ 1) e (subst (λ b. cond (l.id == r1.id) 1 0 + (cond b 1 0 + 0) ≤ 1) (eq-itself r1.id) z) in
-        omega (arith, n))
+    | inl e ↦ absurd (clash (d.id == c.id) (eq-eqb d.id c.id (ap (λ (z : Node). z.id) (same-owner z d j may.in_d (any-from (is_quant z.id) r d.quants in-r (eq-eqb r.id z.id (sym (eqb-true z.id r.id e))))))) d-not-c)
   ]
+
+  pub l-not-r1 : (l.id == r1.id) ≡ false
+  l-not-r1 = apart-two g.boxes c l r1 (w.once r1.id) may.in_c at.two
 
   pub open-not-m : (b i : ℕ) → loose g.boxes b i ≡ true → (m.id == b) ≡ false
   open-not-m b i k = elim (cases_Bool (m.id == b)) [ inr f ↦ f | inl e ↦ absurd (clash (loose g.boxes m.id i) (subst (λ z. loose g.boxes z i ≡ true) (sym (eqb-true m.id b e)) k) (fed.closed-m g at.once at.formed known at.tells d may i)) ]

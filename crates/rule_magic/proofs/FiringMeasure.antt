@@ -14,7 +14,9 @@ use Rattle.qgm_props.specs.Measure.{Lowers}
 use Rattle.qgm_props.proofs.MeasureLaws.{measure-falls}
 use Rattle.rule_magic.specs.AbsorbExact.{inferred-told}
 use Rattle.rule_magic.specs.AbsorbGroup.{AbsorbsGroup, GroupAt, KeylessAt, absorbed_group, absorbed_keyless}
-use Rattle.rule_magic.specs.AbsorbMeasure.{FeedFiringLowers, GroupFiringLowers, IsLower, ScalarFiringLowers, SelectFiringLowers, SetFiringLowers}
+use Rattle.rule_magic.specs.AbsorbMeasure.{FeedFiringLowers, GroupFiringLowers, IsLower, OuterFiringLowers, ScalarFiringLowers, SelectFiringLowers, SetFiringLowers}
+use Rattle.rule_magic.specs.AbsorbArms.{role_over}
+use Rattle.rule_magic.specs.AbsorbOuterJoin.{AbsorbsOuter, absorbed_left, renamed_arms}
 use Rattle.rule_magic.specs.AbsorbSelect.{AbsorbsSelect, SelectAt, absorbed_select}
 use Rattle.rule_magic.specs.AbsorbSetOperation.{AbsorbsSet, tagged_set}
 use Rattle.rule_magic.specs.Feeding.{inferred_facts}
@@ -23,11 +25,17 @@ use Rattle.rule_feed.proofs.FeedKeeps.{firing-lowers}
 use Rattle.rule_subquery.specs.ScalarToGroup.{GroupsScalar}
 use Rattle.rule_subquery.specs.ScalarToGroupLaws.{singled}
 use Rattle.rule_subquery.proofs.ScalarToGroupKeeps.{group-preserves}
+use Rattle.rule_magic.proofs.AbsorbArmsFormed as opened
+use Rattle.rule_magic.proofs.AbsorbArmsKeeps as arms
 use Rattle.rule_magic.proofs.AbsorbGroupKeeps as keyed
 use Rattle.rule_magic.proofs.AbsorbKeylessKeeps as keyless
+use Rattle.rule_magic.proofs.AbsorbLeftKeeps as left
+use Rattle.rule_magic.proofs.AbsorbOuterActs.{arms-at, arms-open, left-at, left-shut}
+use Rattle.rule_magic.proofs.AbsorbOuterFacts as outer
 use Rattle.rule_magic.proofs.AbsorbSelectKeeps as select
 use Rattle.rule_magic.proofs.AbsorbSetPlaces.{action-at}
 use Rattle.rule_magic.proofs.AbsorbSetTagged.{set-absorbed}
+use Rattle.rule_magic.proofs.AbsorbShared.{role-over-is}
 use Rattle.rule_magic.proofs.CompactMeasure.{compact-lowers}
 use Rattle.rule_magic.proofs.ScalarToGroupMeasure.{scalar-lowers, scalar-ordered}
 
@@ -121,3 +129,33 @@ set-firing-lowers = λ p g h once wf acts. (
     let after = tagged_set g known d x.may.ready x.may.form x.mt x.l x.r x.x x.y x.s x.u x.t x.up x.l1 x.l2 in
     let k = set-absorbed g known d x.may.ready x.may.form x.may.types x.mt x.l x.r x.x x.y x.s x.u x.t x.up x.l1 x.l2 (action-at g h once wf p d x) in
     subst (IsLower g) (sym x.after) (falls g after k.once k.faultless k.lowers))
+
+pub outer-firing-lowers : OuterFiringLowers
+unfolding AbsorbsOuter
+outer-firing-lowers = λ p g h once wf acts. (
+    let d = acts.0 in
+    let known = inferred_facts g.boxes in
+    elim acts.1 [
+      | inl x ↦ (
+          let may = x.may.ready in
+          let role = role_over g.boxes x.x.id in
+          let at = left-at g h once wf p d x in
+          let fits = role-over-is g.boxes g.root (outer.w g known d may x.l x.r x.x x.y x.up x.l1 x.l2 at) x.x.id in
+          let shut = left-shut g h once wf p d x in
+          let after = absorbed_left g known d may x.l x.r x.x x.y role x.up x.l1 x.l2 in
+          subst (IsLower g) (sym x.after)
+          (falls g after (numbers-once after.boxes (left.ordered g known d may x.l x.r x.x x.y role x.up x.l1 x.l2 at fits shut)) (left.faultless g known d may x.l x.r x.x x.y role x.up x.l1 x.l2 at fits shut)
+          (left.lowers g known d may x.l x.r x.x x.y role x.up x.l1 x.l2 at fits shut)))
+      | inr x ↦ (
+          let may = x.may.ready in
+          let lr = role_over g.boxes x.x.id in
+          let rr = role_over g.boxes x.y.id in
+          let at = arms-at g h once wf p d x in
+          let w = outer.w g known d may x.l x.r x.x x.y x.up x.l1 x.l2 at in
+          let o = arms-open g h once wf p d x in
+          let after = renamed_arms g known d may x.l x.r x.x x.y x.s x.u x.t lr rr x.up x.l1 x.l2 in
+          subst (IsLower g) (sym x.after)
+          (falls g after (numbers-once after.boxes (opened.ordered g known d may x.l x.r x.x x.y x.s x.u x.t lr rr x.up x.l1 x.l2 at x.fresh o))
+          (opened.arms-formed g known d may x.l x.r x.x x.y x.s x.u x.t lr rr x.up x.l1 x.l2 at x.fresh o (role-over-is g.boxes g.root w x.x.id) (role-over-is g.boxes g.root w x.y.id))
+          (arms.lowers g known d may x.l x.r x.x x.y x.s x.u x.t lr rr x.up x.l1 x.l2 at x.fresh o)))
+    ])

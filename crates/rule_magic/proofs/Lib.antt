@@ -42,6 +42,9 @@ pub mod AbsorbLeftKeeps
 pub mod AbsorbArmsPlaced
 pub mod AbsorbArmsFormed
 pub mod AbsorbArmsKeeps
+pub mod Adjacent
+pub mod AbsorbOuterSwap
+pub mod AbsorbOuterActs
 pub mod JoinedFormed
 pub mod AbsorbKeylessFormed
 pub mod MagicWidth

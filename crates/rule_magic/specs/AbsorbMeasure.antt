@@ -1,4 +1,4 @@
--- Each firing of U2 and of G1 to G4 lowers the measure, though boxes go that the root no longer reaches.
+-- Each firing of U2 and of G1 to G5 lowers the measure, though boxes go that the root no longer reaches.
 use Rattle.std.specs.Prelude.{◌<◌}
 use Rattle.qgm_core.specs.Boxes.{QueryGraph, numbers}
 use Rattle.qgm_core.specs.Edits.{compact}
@@ -8,6 +8,7 @@ use Rattle.qgm_props.specs.Measure.{Lowers, measure}
 use Rattle.rule_api.specs.declared.place.Place.{Place}
 use Rattle.rule_feed.specs.FeedActs.{Feeds}
 use Rattle.rule_magic.specs.AbsorbGroup.{AbsorbsGroup}
+use Rattle.rule_magic.specs.AbsorbOuterJoin.{AbsorbsOuter}
 use Rattle.rule_magic.specs.AbsorbSelect.{AbsorbsSelect}
 use Rattle.rule_magic.specs.AbsorbSetOperation.{AbsorbsSet}
 use Rattle.rule_subquery.specs.ScalarToGroup.{GroupsScalar}
@@ -21,7 +22,7 @@ pub record IsLower (g h : QueryGraph) : Type 0 where
   pub once : EachOnce (numbers h.boxes)
   pub lower : measure h < measure g
 
--- a firing of U2, of G1, of G2, of G3, and of G4
+-- a firing of U2, and of each of G1 to G5
 abbrev pub ScalarFiringLowers : Type 0
 ScalarFiringLowers = (p : Place) (g h : QueryGraph) → EachOnce (numbers g.boxes) → WellFormed g → GroupsScalar p g h → IsLower g h
 
@@ -36,3 +37,6 @@ GroupFiringLowers = (p : Place) (g h : QueryGraph) → EachOnce (numbers g.boxes
 
 abbrev pub SetFiringLowers : Type 0
 SetFiringLowers = (p : Place) (g h : QueryGraph) → EachOnce (numbers g.boxes) → WellFormed g → AbsorbsSet p g h → IsLower g h
+
+abbrev pub OuterFiringLowers : Type 0
+OuterFiringLowers = (p : Place) (g h : QueryGraph) → EachOnce (numbers g.boxes) → WellFormed g → AbsorbsOuter p g h → IsLower g h

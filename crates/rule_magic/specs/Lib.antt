@@ -22,3 +22,5 @@ pub mod RenameSteps
 pub mod AbsorbSetSteps
 pub mod AbsorbSetOperationExact
 pub mod AbsorbOuterJoin
+pub mod AbsorbOuterSteps
+pub mod AbsorbOuterExact

@@ -8,7 +8,7 @@ ghost use Rattle.rule_magic.specs.AbsorbSetOperation.{AbsorbsSet, MayAbsorbSet, 
 ghost use Rattle.rule_magic.specs.AbsorbSetOperationExact.{absorb_set_exact};
 ghost use Rattle.rule_magic.specs.Feeding.{feeding, of_feeding};
 
-mod action;
+pub mod action;
 mod types;
 
 use crate::absorb_set::action::absorbed;

@@ -1,6 +1,6 @@
 // The laws, as theorems.
 ghost use Rattle.rule_magic.specs.AbsorbGroup.{GroupBags, KeylessBags, GroupLowers, GroupPreserves, KeylessLowers, KeylessPreserves};
-ghost use Rattle.rule_magic.specs.AbsorbMeasure.{CompactLowers, FeedFiringLowers, GroupFiringLowers, ScalarFiringLowers, SelectFiringLowers, SetFiringLowers};
+ghost use Rattle.rule_magic.specs.AbsorbMeasure.{CompactLowers, FeedFiringLowers, GroupFiringLowers, OuterFiringLowers, ScalarFiringLowers, SelectFiringLowers, SetFiringLowers};
 ghost use Rattle.rule_magic.specs.AbsorbOuterJoin.{AbsorbsArms, AbsorbsLeft, OuterArmsLowers, OuterArmsPreserves, OuterLeftLowers, OuterLeftPreserves};
 ghost use Rattle.rule_magic.specs.AbsorbSelect.{SelectBags, SelectLowers, SelectPreserves};
 ghost use Rattle.rule_magic.specs.AbsorbSetOperation.{SetBags, SetLowers, SetOpenLowers, SetOpenPreserves, SetOpenSound, SetPreserves, SetsGiven};
@@ -45,7 +45,7 @@ pub fn absorbing_laws()
     ensures outer_arms_preserves { OuterArmsPreserves }
 {}
 
-/// G2 to G5 lower the measure; a graph that is lower stays lower without the boxes that its root doesn't reach, so each firing of U2 and of G1 to G4 lowers it. It does nothing.
+/// G2 to G5 lower the measure; a graph that is lower stays lower without the boxes that its root doesn't reach, so each firing of U2 and of G1 to G5 lowers it. It does nothing.
 pub fn measure_laws()
     ensures select { SelectLowers }
     ensures group { GroupLowers }
@@ -60,6 +60,7 @@ pub fn measure_laws()
     ensures select_fires { SelectFiringLowers }
     ensures group_fires { GroupFiringLowers }
     ensures set_fires { SetFiringLowers }
+    ensures outer_fires { OuterFiringLowers }
 {}
 
 /// In a calm graph with an open box one of the rules of class magic has a place. It does nothing.

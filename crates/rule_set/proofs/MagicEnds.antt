@@ -17,7 +17,7 @@ use Rattle.rule_engine.specs.Trace.{Leads}
 use Rattle.rule_engine.proofs.Chosen.{candidates-exact, next-in}
 use Rattle.rule_engine.proofs.Enabled.{enabled-exact}
 use Rattle.rule_magic.specs.AbsorbMeasure.{IsLower}
-use Rattle.rule_magic.proofs.FiringMeasure.{feed-firing-lowers, group-firing-lowers, scalar-firing-lowers, select-firing-lowers, set-firing-lowers}
+use Rattle.rule_magic.proofs.FiringMeasure.{feed-firing-lowers, group-firing-lowers, outer-firing-lowers, scalar-firing-lowers, select-firing-lowers, set-firing-lowers}
 use Rattle.rule_set.specs.Built.{built_act, built_may, built_pairs}
 use Rattle.rule_set.specs.MagicEnds.{MagicEnds, MagicLowers}
 
@@ -37,7 +37,7 @@ magic-lowers r i p g h once wf acts = elim (of-magic r i) [
         | inr j ↦ elim j [
           | inl e ↦ set-firing-lowers p g h once wf (subst (λ (z : RuleId). built_act z p g h) (sym e) acts)
           | inr j ↦ elim j [
-            | inl e ↦ absurd (subst (λ (z : RuleId). built_act z p g h) (sym e) acts)
+            | inl e ↦ outer-firing-lowers p g h once wf (subst (λ (z : RuleId). built_act z p g h) (sym e) acts)
             | inr n ↦ elim n [ ]
           ]
         ]

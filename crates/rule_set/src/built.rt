@@ -10,7 +10,7 @@ use rule_api::{Place, Rule, RuleId};
 use rule_distinct::{DropKeyDistinct, DropUnionDistinct, PermitDistinct};
 use rule_engine::{Rules, Trace, rewrite};
 use rule_feed::Feed;
-use rule_magic::{AbsorbGroup, AbsorbSelect, AbsorbSetOperation};
+use rule_magic::{AbsorbGroup, AbsorbOuterJoin, AbsorbSelect, AbsorbSetOperation};
 use rule_merge::{DropCopy, MergeSelect};
 use rule_plan::Plan;
 use rule_prune::{DropColumn, DropQuantifier};
@@ -20,7 +20,7 @@ use rule_trans::{EqualColumns, EqualLiteral};
 use shared_types::OutOfMemory;
 use std::alloc::Global;
 
-/// The rules that are built: M1, M2, U1 to U4, L1 to L3, P1 to P4, J1, J2, N1, N2 and G1 to G4.
+/// All 22 rules: M1, M2, U1 to U4, L1 to L3, P1 to P4, J1, J2, N1, N2 and G1 to G5.
 #[derive(Clone, Copy)]
 pub struct BuiltRules;
 
@@ -63,7 +63,7 @@ impl Rules for BuiltRules {
             RuleId::G2 => AbsorbSelect.places(alloc, graph, known, b),
             RuleId::G3 => AbsorbGroup.places(alloc, graph, known, b),
             RuleId::G4 => AbsorbSetOperation.places(alloc, graph, known, b),
-            RuleId::G5 => Ok(Vec::new(alloc)),
+            RuleId::G5 => AbsorbOuterJoin.places(alloc, graph, known, b),
         }
     }
 
@@ -96,7 +96,7 @@ impl Rules for BuiltRules {
             RuleId::G2 => AbsorbSelect.apply(alloc, graph, place),
             RuleId::G3 => AbsorbGroup.apply(alloc, graph, place),
             RuleId::G4 => AbsorbSetOperation.apply(alloc, graph, place),
-            RuleId::G5 => Ok(()),
+            RuleId::G5 => AbsorbOuterJoin.apply(alloc, graph, place),
         }
     }
 }

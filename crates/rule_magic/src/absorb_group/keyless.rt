@@ -7,11 +7,12 @@ ghost use Rattle.rule_magic.specs.Feeding.{as_feeding};
 
 use crate::absorb_group::counts::counted;
 use crate::absorb_group::grouped::Grouped;
-use crate::absorb_group::joined::{joined_head, same_each};
+use crate::absorb_group::joined::joined_head;
 use crate::absorb_group::keyed::fed_below;
 use crate::fed::{Fed, width};
 use crate::heads::keyed;
 use crate::parts::{new_parts, no_conds};
+use crate::tags::same_each;
 use qgm_core::{BoxId, BoxKind, Graph, QuantId, QuantKind, Role};
 use shared_types::OutOfMemory;
 use std::alloc::Global;

@@ -6,7 +6,7 @@ use Rattle.rule_magic.proofs.AbsorbSelectKeeps.{select-lowers}
 use Rattle.rule_magic.proofs.AbsorbOpenLowers.{set-open-lowers}
 use Rattle.rule_magic.proofs.AbsorbSetKeeps.{set-lowers}
 use Rattle.rule_magic.proofs.CompactMeasure.{compact-lowers}
-use Rattle.rule_magic.proofs.FiringMeasure.{feed-firing-lowers, group-firing-lowers, scalar-firing-lowers, select-firing-lowers, set-firing-lowers}
+use Rattle.rule_magic.proofs.FiringMeasure.{feed-firing-lowers, group-firing-lowers, outer-firing-lowers, scalar-firing-lowers, select-firing-lowers, set-firing-lowers}
 use Rattle.rule_magic.proofs.laws.measure_laws.Goals as goal
 
 pub returns-clause-select : goal.returns-clause-select
@@ -47,3 +47,6 @@ returns-clause-outer_arms c = outer-arms-lowers
 
 pub returns-clause-set_fires : goal.returns-clause-set_fires
 returns-clause-set_fires c = set-firing-lowers
+
+pub returns-clause-outer_fires : goal.returns-clause-outer_fires
+returns-clause-outer_fires c = outer-firing-lowers

@@ -29,5 +29,5 @@ returns-in-G3-clause-acts c = subst (λ (r : RuleId). OnOk c.apply-in-G3.result 
 pub returns-in-G4-clause-acts : goal.returns-in-G4-clause-acts
 returns-in-G4-clause-acts c = subst (λ (r : RuleId). OnOk c.apply-in-G4.result ((built r).act c.args.place c.args.graph.now c.apply-in-G4.new.graph)) (sym c.in-G4.is) c.apply-in-G4.ensures.acts
 
-pub returns-in-G5 : goal.returns-in-G5
-returns-in-G5 c = grind (arith, common_steps)
+pub returns-in-G5-clause-acts : goal.returns-in-G5-clause-acts
+returns-in-G5-clause-acts c = subst (λ (r : RuleId). OnOk c.apply-in-G5.result ((built r).act c.args.place c.args.graph.now c.apply-in-G5.new.graph)) (sym c.in-G5.is) c.apply-in-G5.ensures.acts

@@ -1,7 +1,7 @@
 use Rattle.std.proofs.Common.{◌+◌, ◌-◌, ◌++◌, ◌∷◌, [], ◌∙◌, ap}
 use Rattle.rule_magic.specs.Boxes.{same_each}
 use Rattle.rule_magic.proofs.HeadSteps.{sames-step}
-use Rattle.rule_magic.proofs.absorb_group.joined.same_each.Goals as goal
+use Rattle.rule_magic.proofs.tags.add_same.Goals as goal
 
 pub loop-k-preserved : goal.loop-k-preserved
 loop-k-preserved c = record {
