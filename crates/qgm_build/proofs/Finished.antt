@@ -1,6 +1,6 @@
 -- The heads and conditions of boxes over what was laid, from what is written in turn.
 use Rattle.std.specs.Result.{OnOk, result_and}
-use Rattle.std.proofs.Common.{◌≡◌, ℕ, suc, Result, Ok, List, [], ◌++◌, length, map, get_or, pos, ap, ap₂, refl, sym, ◌∙◌}
+use Rattle.std.proofs.Common.{◌≡◌, ℕ, suc, Result, Ok, List, [], ◌++◌, map, get_or, pos, ap, ap₂, refl, sym, ◌∙◌}
 use Rattle.sql_meaning.specs.ResolvedTrees.{From, Froms, Test, Values}
 use Rattle.sql_meaning.specs.ResolvedTrees as q
 use Rattle.qgm_core.specs.declared.owned.OwnedQuant.{OwnedQuant}
@@ -10,7 +10,7 @@ use Rattle.qgm_translation.specs.Folds.{all_on_folds, folds_in, on_folds}
 use Rattle.qgm_translation.specs.Lay.{Boxes, box_named, laying}
 use Rattle.qgm_translation.specs.Leaves.{Leaf, Slots, after, list_leaves, test_leaves}
 use Rattle.qgm_translation.specs.Maps.{Frame, Map, nothing, ref_term}
-use Rattle.qgm_translation.specs.Shown.{all_leaves, all_on_leaves, all_ons, argument_terms, conds_of, fold_refs, frame, frame_all, no_slots, ons, padded, refs, rows_list, slots_of, ungrouped_cells, upper_leaves}
+use Rattle.qgm_translation.specs.Shown.{all_leaves, all_on_leaves, all_ons, argument_terms, conds_of, frame, frame_all, no_slots, ons, padded, refs, rows_list, slots_of, ungrouped_cells}
 use Rattle.qgm_translation.specs.Sources.{Sources, from_width}
 use Rattle.qgm_translation.specs.Terms.{cond, split, terms}
 use Rattle.qgm_translation.specs.Typing.{typed_by}

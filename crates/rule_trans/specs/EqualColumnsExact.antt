@@ -323,7 +323,7 @@ two-to t first (x ∷ cs) (suc k) (suc l) c d i j h v p b e f = inr (two-to t (f
 -- ---- from a test to the condition
 
 -- what the code finds at a place
-pub record Found (at : Place) (g : QueryGraph) (n : Node) (c d : Cond) (x : Equality) : Type 0 where
+pub record Tested (at : Place) (g : QueryGraph) (n : Node) (c d : Cond) (x : Equality) : Type 0 where
   pub found : box_of at.at g ≡ Some n
   pub taken : takes n ≡ true
   pub before : at.i < at.j
@@ -332,7 +332,7 @@ pub record Found (at : Place) (g : QueryGraph) (n : Node) (c d : Cond) (x : Equa
   pub implied : implied g n c d ≡ Some x
 
 -- it may fire there, and adds the equality that is found
-pub found-may : (at : Place) (g : QueryGraph) (n : Node) (c d : Cond) (x : Equality) → Found at g n c d x → (m : MayEqualColumns at g) × (add_plan n (equality x) ≡ add_plan m.n (compare equal (col m.p m.j) (col m.s m.l)))
+pub found-may : (at : Place) (g : QueryGraph) (n : Node) (c d : Cond) (x : Equality) → Tested at g n c d x → (m : MayEqualColumns at g) × (add_plan n (equality x) ≡ add_plan m.n (compare equal (col m.p m.j) (col m.s m.l)))
 found-may at g n c d x h =
     let o = of-from g n (equated c) (equated d) x h.implied in
     let y = chosen-from g n o.e o.f x o.by in
@@ -399,7 +399,7 @@ pub record FoundPlace (at : Place) (g : QueryGraph) : Type 0 where
   pub c : Cond
   pub d : Cond
   pub x : Equality
-  pub found : Found at g n c d x
+  pub found : Tested at g n c d x
 
 place-from : (g : QueryGraph) (b i j : ℕ) (o : Option Node) → box_of b g ≡ o → In (i, j) (pairs_in g o) → FoundPlace (record { at = b; i = i; j = j }) g
 place-from g b i j None e h = elim h [ ]

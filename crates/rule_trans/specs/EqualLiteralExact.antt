@@ -225,7 +225,7 @@ some-from (Some x) h = (x, refl)
 -- ---- from a test to the condition
 
 -- what the code finds at a place
-pub record Found (at : Place) (g : QueryGraph) (n : Node) (c d : Cond) (x : FixedPair) : Type 0 where
+pub record Tested (at : Place) (g : QueryGraph) (n : Node) (c d : Cond) (x : FixedPair) : Type 0 where
   pub found : box_of at.at g ≡ Some n
   pub taken : takes n ≡ true
   pub first : IsConjunct at.i n c
@@ -233,7 +233,7 @@ pub record Found (at : Place) (g : QueryGraph) (n : Node) (c d : Cond) (x : Fixe
   pub implied : implied g n c d ≡ Some x
 
 -- it may fire there, and adds the equality that is found
-pub found-may : (at : Place) (g : QueryGraph) (n : Node) (c d : Cond) (x : FixedPair) → Found at g n c d x → (m : MayEqualLiteral at g) × (add_plan n (equality x) ≡ add_plan m.n (compare equal (col m.p m.j) m.z))
+pub found-may : (at : Place) (g : QueryGraph) (n : Node) (c d : Cond) (x : FixedPair) → Tested at g n c d x → (m : MayEqualLiteral at g) × (add_plan n (equality x) ≡ add_plan m.n (compare equal (col m.p m.j) m.z))
 found-may at g n c d x h =
     let o = implied-from g n (equated c) (fixed d) x h.implied in
     let y = chosen-from g n o.e o.f x o.by in
@@ -318,7 +318,7 @@ pub record FoundPlace (at : Place) (g : QueryGraph) : Type 0 where
   pub c : Cond
   pub d : Cond
   pub x : FixedPair
-  pub found : Found at g n c d x
+  pub found : Tested at g n c d x
 
 place-from : (g : QueryGraph) (b i j : ℕ) (o : Option Node) → box_of b g ≡ o → In (i, j) (pairs_in g o) → FoundPlace (record { at = b; i = i; j = j }) g
 place-from g b i j None e h = elim h [ ]

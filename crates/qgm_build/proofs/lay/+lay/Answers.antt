@@ -1,7 +1,6 @@
 use Rattle.std.proofs.lemmas.Grind.{common_steps}
 use Rattle.std.proofs.Common.{◌∙◌, ◌+◌, List, drop, map, ap, refl, sym, arith}
 use Rattle.std.specs.Result.{result_and}
-use Rattle.std.proofs.lemmas.Result.{on_ok_weaker}
 use Rattle.sql_meaning.specs.ResolvedShown as shown
 use Rattle.sql_meaning.specs.declared.resolved.Addend.{Addend}
 use Rattle.sql_meaning.specs.declared.resolved.Arm.{Arm}
@@ -12,13 +11,12 @@ use Rattle.sql_meaning.specs.declared.resolved.Test.{Test}
 use Rattle.sql_meaning.specs.declared.resolved.Value.{Value}
 use Rattle.qgm_core.specs.declared.kinds.QuantKind.TheVariants.{E}
 use Rattle.qgm_translation.specs.Lay.{over}
-use Rattle.qgm_translation.specs.Shown.{frame_all, past}
-use Rattle.qgm_build.specs.Laying.{addend_step, all_on_step, arm_step, block_subs, choice_step, from_step, froms_step, inner_laid, list_step, multiplier_step, on_step, rows_subs, test_step, tests_step, told_at, value_step}
+use Rattle.qgm_translation.specs.Shown.{past}
+use Rattle.qgm_build.specs.Laying.{addend_step, all_on_step, arm_step, choice_step, from_step, froms_step, inner_laid, list_step, multiplier_step, on_step, test_step, tests_step, told_at, value_step}
 use Rattle.qgm_build_terms.specs.SoFar.{so_far}
 use Rattle.qgm_build_terms.specs.Written.{frame_of}
 use Rattle.qgm_build_terms.specs.Folds.{leaf_of}
 use Rattle.qgm_build.proofs.Cycle.{block_made, block_subs_made, combine_ok, crossed_ok, flat_is, flat_ok, grouped_ok, groups_ok, intersect_ok, joined_ok, left_ok, past_crossed, past_joined, rows_opened, rows_subs_made, single_ok, upper_subs_made}
-use Rattle.qgm_build.proofs.Opening.{opens_from}
 use Rattle.qgm_build_terms.proofs.Folding.{on_both, on_three}
 use Rattle.qgm_build_terms.proofs.Steps.{next_there}
 use Rattle.qgm_build.proofs.Taking.{all_two, leads_at, leads_more, leads_next, leads_two, of_one, takes_both, takes_over, takes_three, taking}
