@@ -25,7 +25,7 @@ use Rattle.qgm_wellformed.specs.WellFormed.{fault}
 use Rattle.qgm_wellformed.proofs.Faults.{finds-none}
 use Rattle.qgm_edit_laws.specs.Graph.{Sound}
 use Rattle.qgm_edit_laws.specs.Placed.{place}
-use Rattle.qgm_edit_laws.specs.Rebuilds.{HasForm, IsOwned, MadeIn, Rebuilds, StaysIn}
+use Rattle.qgm_edit_laws.specs.Rebuilds.{HasForm, MadeIn, Rebuilds, StaysIn}
 use Rattle.qgm_edit_laws.specs.Reforms.{types_at}
 use Rattle.qgm_edit_laws.proofs.BoxForms.{scalar-column}
 use Rattle.qgm_edit_laws.proofs.Edits.{length-map}

@@ -1,6 +1,6 @@
 -- G5 with an open right operand: where the boxes stand, before names change below it.
 use Rattle.std.proofs.Common.{ℕ, ◌==◌, ◌≡◌, ◌≤◌, ◌+◌, ◌&&◌, ◌||◌, cond, not, Bool, true, false, List, [], ◌∷◌, ◌++◌, map, length, refl, sym, ap, ap₂, subst, ◌∙◌, eqb-true, ◌⊎◌, inl, inr, arith}
-use Rattle.std.specs.List.{flat_map, list_all}
+use Rattle.std.specs.List.{flat_map}
 use Rattle.std.proofs.lemmas.Bool.{and_from, cases_Bool, eq-eqb, not-true, or_cases, or_from, or_left, or_parts, or_right}
 use Rattle.qgm_core.specs.Boxes.{Ordered, QueryGraph, has_box, ids_in, is_box, overs_in, width}
 use Rattle.qgm_core.specs.Edits.{range}
@@ -18,7 +18,7 @@ use Rattle.qgm_meaning.specs.Tags.{columns_from}
 use Rattle.qgm_props.specs.Inferred.{Facts}
 use Rattle.rule_magic.specs.AbsorbArms.{IsFreshSelect}
 use Rattle.rule_magic.specs.AbsorbOuterJoin.{OuterAt, absorbed_arms}
-use Rattle.rule_magic.specs.Boxes.{arms_box, both_term, pair_box, same_each}
+use Rattle.rule_magic.specs.Boxes.{arms_box, both_term, pair_box}
 use Rattle.rule_magic.specs.Places.{MayAbsorb}
 use Rattle.rule_magic.proofs.AbsorbKeylessFormed.{one-of, replaced}
 use Rattle.rule_magic.proofs.AbsorbOuterFacts as outer

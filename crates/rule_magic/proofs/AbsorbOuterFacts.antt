@@ -1,8 +1,8 @@
 -- G5: what stands of an outer join under a fed box.
-use Rattle.std.proofs.Common.{ℕ, suc, ◌==◌, ◌≡◌, ◌≤◌, ◌<◌, ◌+◌, ◌&&◌, ◌||◌, ◌-◌, cond, not, Bool, true, false, List, [], ◌∷◌, ◌++◌, map, length, Option, None, Some, refl, sym, ap, ap₂, subst, ◌∙◌, eqb-true, ◌⊎◌, inl, inr, arith}
+use Rattle.std.proofs.Common.{ℕ, suc, ◌==◌, ◌≡◌, ◌≤◌, ◌<◌, ◌+◌, ◌&&◌, ◌||◌, ◌-◌, cond, true, false, List, [], ◌∷◌, ◌++◌, map, length, Option, None, refl, sym, ap, ap₂, subst, ◌∙◌, eqb-true, inl, inr, arith}
 use Rattle.std.specs.Prelude.{slice_get}
 use Rattle.std.specs.List.{list_all, list_any}
-use Rattle.std.proofs.lemmas.Bool.{and_from, and_parts, cases_Bool, eq-eqb, or_cases, or_left, or_right}
+use Rattle.std.proofs.lemmas.Bool.{and_parts, cases_Bool, eq-eqb, or_cases, or_left, or_right}
 use Rattle.sql_value.specs.declared.order_key.SqlType.{SqlType}
 use Rattle.qgm_core.specs.Boxes.{QueryGraph, is_quant, overs_in, overs_of, owns, width}
 use Rattle.qgm_core.specs.Free.{named_by}
@@ -18,7 +18,7 @@ use Rattle.qgm_wellformed.specs.Shapes as shape
 use Rattle.qgm_wellformed.specs.Shapes.{head_is_own, is_column, is_outer_join, is_unfolded, kind_fits}
 use Rattle.qgm_wellformed.specs.Types as types
 use Rattle.qgm_wellformed.specs.Types.{Lookup, cond_fits, is_known, joined_column, lookup_of, term_type, types_by}
-use Rattle.qgm_edit_laws.specs.Graph.{Sound, binds_row, nodes_in, reads_in}
+use Rattle.qgm_edit_laws.specs.Graph.{Sound, binds_row, nodes_in}
 use Rattle.qgm_edit_laws.specs.Placed.{place}
 use Rattle.qgm_edit_laws.specs.Reforms.{types_at}
 use Rattle.qgm_edit_laws.specs.Shaped.{Shaped, Typed}
