@@ -5,16 +5,16 @@ use Rattle.std.proofs.lemmas.Bool.{or_left, or_right}
 use Rattle.qgm_core.specs.Boxes.{QueryGraph, bare_box, is_box, numbers, owns, width}
 use Rattle.qgm_core.specs.Edits.{compact, on_quant, parted, put_range, range, with_distinct}
 use Rattle.qgm_core.specs.Free.{IsFree}
-use Rattle.qgm_core.specs.Kinds.{is_plain}
 use Rattle.list_laws.specs.Lists.{EachOnce, change, put_below}
 use Rattle.qgm_core.specs.declared.kinds.BoxKind.{BoxKind}
 use Rattle.qgm_core.specs.declared.kinds.BoxKind.TheVariants.{OuterJoin, Select}
 use Rattle.qgm_core.specs.declared.kinds.Distinct.TheVariants.{Preserve}
 use Rattle.qgm_core.specs.declared.kinds.QuantKind.TheVariants.{F}
 use Rattle.qgm_core.specs.declared.kinds.Role.{Role}
-use Rattle.qgm_core.specs.declared.kinds.Role.TheVariants.{Fed, Magic, Plain}
+use Rattle.qgm_core.specs.declared.kinds.Role.TheVariants.{Plain}
 use Rattle.qgm_core.specs.declared.node.Node.{Node}
 use Rattle.qgm_core.specs.declared.owned.OwnedQuant.{OwnedQuant}
+use Rattle.qgm_core.proofs.KindTests.{plain-is}
 use Rattle.qgm_edit_laws.specs.Graph.{Sound}
 use Rattle.qgm_edit_laws.proofs.FreeLoose.{looks-free}
 use Rattle.qgm_edit_laws.proofs.OneUse.{map-map}
@@ -52,11 +52,6 @@ use Rattle.rule_magic.proofs.Amid.{change-amid, change-second, change-third, put
 use Rattle.rule_magic.proofs.CalmFires.{closed-is}
 use Rattle.rule_magic.proofs.RenameSteps.{rename-below-is}
 use Rattle.list_laws.proofs.Membership.{any-none, any-not, eq-false-sym, eq-itself}
-
-plain-is : (k : Role) → is_plain k ≡ true → k ≡ Plain
-plain-is Plain h = refl
-plain-is Magic h = absurd (let z : ⊥ = cc in z)
-plain-is Fed h = absurd (let z : ⊥ = cc in z)
 
 module _ (g : QueryGraph) (once : EachOnce (numbers g.boxes)) (wf : WellFormed g) (p : Place) (d : Node) (may : MayAbsorbOuterAt p g d) where
   abbrev c : Node
