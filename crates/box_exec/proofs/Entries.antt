@@ -34,12 +34,12 @@ kept-everywhere tables n ns rows closed h env = alike-trans h (alike-same (nowhe
 
 -- ---- one more entry
 
-get-before : {X : Type 0} (xs : List X) (y : X) (i : ℕ) → i < length xs → slice_get (xs ++ y ∷ []) i ≡ slice_get xs i
+pub get-before : {X : Type 0} (xs : List X) (y : X) (i : ℕ) → i < length xs → slice_get (xs ++ y ∷ []) i ≡ slice_get xs i
 get-before [] y i l = absurd (omega (arith, l))
 get-before (x ∷ xs) y zero l = refl
 get-before (x ∷ xs) y (suc i) l = get-before xs y i (omega (arith, l))
 
-get-end : {X : Type 0} (xs : List X) (y : X) (i : ℕ) → i ≡ length xs → slice_get (xs ++ y ∷ []) i ≡ Some y
+pub get-end : {X : Type 0} (xs : List X) (y : X) (i : ℕ) → i ≡ length xs → slice_get (xs ++ y ∷ []) i ≡ Some y
 get-end [] y i e = ap (slice_get (y ∷ [])) e
 get-end (x ∷ xs) y zero e = absurd (omega (arith, e))
 get-end (x ∷ xs) y (suc i) e = get-end xs y i (omega (arith, e))
@@ -50,7 +50,7 @@ ready-longer tables memo o (n ∷ ns) l h =
     (h.0, subst (Entry tables n ns) (sym (get-before memo o (length ns) (omega (arith, l)))) h.1, ready-longer tables memo o ns (omega (arith, l)) h.2)
 
 -- the boxes from a place on, with one more
-here : (ns : List Node) (i j : ℕ) (n : Node) → j ≡ i + 1 → i < length ns → n ≡ get_or ns i n → drop i ns ≡ n ∷ drop j ns
+pub here : (ns : List Node) (i j : ℕ) (n : Node) → j ≡ i + 1 → i < length ns → n ≡ get_or ns i n → drop i ns ≡ n ∷ drop j ns
 here ns i j n e l at = from ns i n l ∙ ap (λ (m : Node). m ∷ drop (i + 1) ns) (sym at) ∙ ap (λ (k : ℕ). n ∷ drop k ns) (sym e)
 
 pub fit-here : (ns : List Node) (i j : ℕ) (n : Node) → j ≡ i + 1 → i < length ns → n ≡ get_or ns i n → AllFit ns → Fit n (drop j ns) × AllFit (drop j ns)

@@ -96,6 +96,19 @@ rows-took f rows i r level u old s new l at is before more =
     let less : at_level (least level r.level) u ≤ if_there 0 (λ cells k. f cells) r.cells r.level = subst (λ (n : ℕ). at_level (least level r.level) n ≤ if_there 0 (λ cells k. f cells) r.cells r.level) (sym is) (at-there f level r.level r.cells) in
     (omega (arith, before.0, more.0), omega (arith, before.1, more.1, step, less))
 
+row-least : (f : List Cell → ℕ) (rows : Bag) (i j : ℕ) → i ≤ j → each_row f (take i rows) ≤ each_row f (take j rows)
+row-least f rows zero j h = omega arith
+row-least f [] (suc i) zero h = absurd (omega (arith, h))
+row-least f [] (suc i) (suc j) h = omega arith
+row-least f (x ∷ rows) (suc i) zero h = absurd (omega (arith, h))
+row-least f (x ∷ rows) (suc i) (suc j) h = let k = row-least f rows i j (omega (arith, h)) in omega (arith, k)
+
+-- rows have been passed over
+pub rows-past : (f : List Cell → ℕ) (rows : Bag) (i j old new : ℕ) → i ≤ j → Between 0 (each_row f (take i rows)) old new → Between 0 (each_row f (take j rows)) old new
+rows-past f rows i j old new le h =
+    let more = row-least f rows i j le in
+    (h.0, omega (arith, h.1, more))
+
 -- all rows have, of a bag that agrees with these
 pub all-took : (f : List Cell → ℕ) (rows others : Bag) (i : ℕ) (n whole old s new : ℕ) → length rows ≤ i → Alike rows others → whole ≡ n + each_row f others
     → Between 0 n old s → Between 0 (each_row f (take i rows)) s new → Between 0 whole old new

@@ -14,10 +14,11 @@ use Rattle.qgm_meaning.specs.Meaning.{bag_in, given, given_by, over_each, quant_
 use Rattle.qgm_meaning.specs.Values.{Bag, Environment, bound, truth}
 use Rattle.qgm_terms.specs.Shown as shown
 use Rattle.box_exec.specs.Early.{is_none, is_open, rejects}
-use Rattle.box_exec.specs.Hashed.{AllFound, AllHashed, AllKept, HashesAt, KeptPlan, LeadsAt, rows_kept}
+use Rattle.box_exec.specs.Hashed.{AllFound, AllKept, KeptPlan, LeadsAt, rows_kept}
+use Rattle.box_exec.specs.Lasting.{AllHashed, HashesAt}
 use Rattle.box_exec.specs.Equalities.{IsKey, other_of, own_of}
 use Rattle.box_exec.specs.Lookup.{Leads, RejectsBy}
-use Rattle.box_exec.specs.Plans.{Planned, family, left_at, tables_of}
+use Rattle.box_exec.specs.Plans.{Bound, family, left_at, tables_of}
 use Rattle.box_exec.specs.Ready.{Stands as Under_stands}
 use Rattle.box_exec.specs.Sources.{held_by}
 use Rattle.box_exec.specs.declared.boxes.At.{At}
@@ -33,7 +34,7 @@ use Rattle.box_exec.specs.declared.under.Under.TheVariants.{Kept, Open, Nothing}
 use Rattle.box_exec.proofs.Lookups.{some-is}
 use Rattle.box_exec.proofs.Equalities.{apart-none}
 use Rattle.box_exec.proofs.Rejections.{any-at}
-use Rattle.box_exec.proofs.Quantifiers.{given-at, past-all}
+use Rattle.box_exec.proofs.Quantifiers.{given-free, past-ranges}
 use Rattle.list_laws.proofs.Booleans.{neither-left, neither-right}
 
 -- ---- what stands under quantifiers
@@ -55,10 +56,10 @@ pub last-given : (w : Whole) → KeptPlan w → (place : ℕ) → length w.at.no
 last-given w plan place h env =
     let at = w.at.now in
     let s = quant_rows at.node.now (family at) in
-    given-at at plan.planned w.subs.now w.subs.now env refl (plan.subs env) ∙ sym (ap (λ (rs : List OwnedQuant). over_each rs s (given_by s at.node.now) env) (past-all at plan.planned place h))
+    given-free (family at) at.node.now at.below.now w.subs.now env plan.fit (plan.subs env) ∙ sym (ap (λ (rs : List OwnedQuant). over_each rs s (given_by s at.node.now) env) (past-ranges at.loops.now place h))
 
 -- the rows at a place
-pub kept-at : (at : At) → Planned at → AllKept at.loops.now → (place : ℕ) (l : Loop) → place < length at.loops.now → l ≡ get_or at.loops.now place l → (env : Environment) → Alike (rows_kept l.under) (family at l.range.over env)
+pub kept-at : (at : At) → Bound at → AllKept at.loops.now → (place : ℕ) (l : Loop) → place < length at.loops.now → l ≡ get_or at.loops.now place l → (env : Environment) → Alike (rows_kept l.under) (family at l.range.over env)
 kept-at at plan kept place l inside is env =
     kept-alike (tables_of at) at.run.now.memo.now at.below.now l.range.over l.under (subst (λ (x : Loop). Under_stands (tables_of at) at.run.now.memo.now at.below.now x.range.over x.under) (sym is) (plan.stand place l inside))
     (subst (λ (x : Loop). is_open x.under ≡ false) (sym is) (kept place l inside)) env
@@ -97,9 +98,9 @@ made-more {X = X} P ls hs new o i l long inside is en made all j m h within it f
           (some-is (λ h. P i l h) o h last.1 made)))
     ]
 
-pub hashed-more : (at : At) (hs new : List (Option Hashed)) (o : Option Hashed) (i : ℕ) (l : Loop) → length hs ≡ i → i < length at.loops.now → l ≡ get_or at.loops.now i l → new ≡ hs ++ o ∷ []
-    → IfSome o (λ h. HashesAt at i l h) → AllHashed at hs → AllHashed at new
-hashed-more at hs new o i l long inside is en made all = made-more (λ i l h. HashesAt at i l h) at.loops.now hs new o i l long inside is en made all
+pub hashed-more : (es : List Early) (ls : List Loop) (hs new : List (Option Hashed)) (o : Option Hashed) (i : ℕ) (l : Loop) → length hs ≡ i → i < length ls → l ≡ get_or ls i l → new ≡ hs ++ o ∷ []
+    → IfSome o (λ h. HashesAt es i l h) → AllHashed es ls hs → AllHashed es ls new
+hashed-more es ls hs new o i l long inside is en made all = made-more (λ i l h. HashesAt es i l h) ls hs new o i l long inside is en made all
 
 pub found-more : (ls : List Loop) (fs new : List (Option Bag)) (o : Option Bag) (i : ℕ) (l : Loop) → length fs ≡ i → i < length ls → l ≡ get_or ls i l → new ≡ fs ++ o ∷ []
     → IfSome o (λ f. f ≡ rows_kept l.under) → AllFound ls fs → AllFound ls new

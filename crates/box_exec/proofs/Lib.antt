@@ -7,6 +7,7 @@ mod Quantifiers
 mod Parts
 mod Names
 mod Entries
+mod Lasting
 mod HandedOn
 mod Roots
 mod Tails
@@ -22,6 +23,7 @@ mod Counts
 mod Lookups
 mod Hashing
 mod Partners
-pub mod Orders
+mod Orders
+mod Reordered
 mod Quantified
 mod Units

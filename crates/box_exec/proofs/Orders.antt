@@ -1,6 +1,8 @@
 -- The F quantifiers of a select over kept rows, bound in another order.
-use Rattle.std.proofs.Common.{ℕ, ◌==◌, ◌≡◌, cond, Bool, true, false, List, [], ◌∷◌, ◌++◌, refl, sym, ap, ◌∙◌, eqb-true, ◌⊎◌, inl, inr}
+use Rattle.std.proofs.Common.{ℕ, suc, ◌==◌, ◌≡◌, ◌<◌, cond, drop, drop-cons, get_or, length, take, Bool, true, false, List, [], ◌∷◌, ◌++◌, refl, sym, ap, subst, ◌∙◌, eqb-true, ◌⊎◌, inl, inr}
 use Rattle.std.proofs.lemmas.Bool.{cases_Bool, eq-eqb}
+use Rattle.std.proofs.lemmas.List.{take-append-drop}
+use Rattle.std.specs.List.{remove}
 use Rattle.row_bag.specs.Bags.{Alike, bind}
 use Rattle.row_bag.proofs.Agreement.{alike-bind, alike-refl, alike-same, alike-swap, alike-trans}
 use Rattle.sql_value.specs.declared.cell.Cell.{Cell}
@@ -9,7 +11,8 @@ use Rattle.list_laws.specs.Lists.{In}
 use Rattle.qgm_core.specs.declared.owned.OwnedQuant.{OwnedQuant}
 use Rattle.qgm_meaning.specs.Meaning.{Family, over_each}
 use Rattle.qgm_meaning.specs.Values.{Bag, Environment, bound, row_of}
-use Rattle.qgm_meaning.proofs.Joined.{over_each-append}
+use Rattle.list_laws.proofs.Membership.{in-append, in-left, in-right}
+use Rattle.box_exec.specs.Lasting.{Reorders}
 
 abbrev SameBound : Environment → Environment → Type 0
 SameBound d e = (x : ℕ) → row_of x d ≡ row_of x e
@@ -29,6 +32,12 @@ turned r t a c env n x = step (cases_Bool (t == x)) (cases_Bool (r == x))
     step (inl u) (inl v) = absurd (let e : t ≡ r = eqb-true t x u ∙ sym (eqb-true r x v) in let y : (t == r) ≡ true = eq-eqb t r e in let z : ⊥ = cc in z)
     step (inl u) (inr v) = rw (u, v) refl
     step (inr u) v = rw u refl
+
+beside : (t : OwnedQuant) (us : List OwnedQuant) (r : OwnedQuant) (vs : List OwnedQuant) → In t (us ++ vs) → In t (us ++ r ∷ vs)
+beside t us r vs i = elim (in-append t us vs i) [
+  | inl j ↦ in-left t us (r ∷ vs) j
+  | inr j ↦ in-right t us (r ∷ vs) (inr j)
+]
 
 module _ (s : Family) (looks : (q : ℕ) → Goes (s q)) where
   -- a quantifier has the same rows in every environment, as one over a kept box has
@@ -86,30 +95,58 @@ module _ (s : Family) (looks : (q : ℕ) → Goes (s q)) where
             (alike-same (sym (first-bound r rs give (bound t.id c env) u)))))
             (alike-same (sym (first-bound t (r ∷ rs) give env v))))))
 
-    -- what is given in the end may change
-    each-alike : (rs : List OwnedQuant) (f k : Environment → Bag) → ((env : Environment) → Alike (f env) (k env)) → (env : Environment) → Alike (over_each rs s f env) (over_each rs s k env)
-    each-alike [] f k h env = h env
-    each-alike (r ∷ rs) f k h env =
+    -- what comes behind a quantifier may change
+    behind : (r : OwnedQuant) (xs ys : List OwnedQuant) → ((env : Environment) → Alike (over_each xs s give env) (over_each ys s give env)) → (env : Environment) → Alike (over_each (r ∷ xs) s give env) (over_each (r ∷ ys) s give env)
+    behind r xs ys h env =
         elim (is_F r.kind) as (λ t. Alike
-        (cond t (bind (s r.id env) (λ cells. over_each rs s f (bound r.id cells env))) (over_each rs s f env))
-        (cond t (bind (s r.id env) (λ cells. over_each rs s k (bound r.id cells env))) (over_each rs s k env))) [
-          | true ↦ alike-bind (alike-refl (s r.id env)) (λ cells. each-alike rs f k h (bound r.id cells env))
-          | false ↦ each-alike rs f k h env
+        (cond t (bind (s r.id env) (λ cells. over_each xs s give (bound r.id cells env))) (over_each xs s give env))
+        (cond t (bind (s r.id env) (λ cells. over_each ys s give (bound r.id cells env))) (over_each ys s give env))) [
+          | true ↦ alike-bind (alike-refl (s r.id env)) (λ cells. h (bound r.id cells env))
+          | false ↦ h env
         ]
 
+    -- two quantifiers, or the same one twice
+    either : (t r : OwnedQuant) (rs : List OwnedQuant) → (((r.id == t.id) ≡ false) ⊎ (r ≡ t)) → Steady t → Steady r → (env : Environment) → Alike (over_each (t ∷ r ∷ rs) s give env) (over_each (r ∷ t ∷ rs) s give env)
+    either t r rs (inl n) st sr env = swapped t r rs n st sr env
+    either t r rs (inr e) st sr env = subst (λ (x : OwnedQuant). Alike (over_each (t ∷ x ∷ rs) s give env) (over_each (x ∷ t ∷ rs) s give env)) (sym e) (alike-refl (over_each (t ∷ t ∷ rs) s give env))
+
     -- a quantifier before those that it stood behind
-    front : (us : List OwnedQuant) (r : OwnedQuant) (vs : List OwnedQuant) → ((t : OwnedQuant) → In t us → ((r.id == t.id) ≡ false) × Steady t) → Steady r → (env : Environment) → Alike (over_each (us ++ r ∷ vs) s give env) (over_each (r ∷ (us ++ vs)) s give env)
+    front : (us : List OwnedQuant) (r : OwnedQuant) (vs : List OwnedQuant) → ((t : OwnedQuant) → In t us → (((r.id == t.id) ≡ false) ⊎ (r ≡ t)) × Steady t) → Steady r → (env : Environment) → Alike (over_each (us ++ r ∷ vs) s give env) (over_each (r ∷ (us ++ vs)) s give env)
     front [] r vs apart sr env = alike-refl (over_each (r ∷ vs) s give env)
     front (t ∷ us) r vs apart sr env =
-        alike-trans (alike-same (ap (λ (k : Environment → Bag). k env) (over_each-append (t ∷ []) (us ++ r ∷ vs) s give)))
-        (alike-trans (each-alike (t ∷ []) (over_each (us ++ r ∷ vs) s give) (over_each (r ∷ (us ++ vs)) s give) (λ env. front us r vs (λ q i. apart q (inr i)) sr env) env)
-        (alike-trans (alike-same (sym (ap (λ (k : Environment → Bag). k env) (over_each-append (t ∷ []) (r ∷ (us ++ vs)) s give))))
-        (swapped t r (us ++ vs) (apart t (inl refl)).0 (apart t (inl refl)).1 sr env)))
+        alike-trans (behind t (us ++ r ∷ vs) (r ∷ (us ++ vs)) (λ e. front us r vs (λ q i. apart q (inr i)) sr e) env)
+        (either t r (us ++ vs) (apart t (inl refl)).0 (apart t (inl refl)).1 sr env)
 
-    -- one step of an order: of those that are left one comes next
-    pub fronted : (done us : List OwnedQuant) (r : OwnedQuant) (vs : List OwnedQuant) → ((t : OwnedQuant) → In t us → ((r.id == t.id) ≡ false) × Steady t) → Steady r → (env : Environment)
-        → Alike (over_each (done ++ (us ++ r ∷ vs)) s give env) (over_each (done ++ r ∷ (us ++ vs)) s give env)
-    fronted done us r vs apart sr env =
-        alike-trans (alike-same (ap (λ (k : Environment → Bag). k env) (over_each-append done (us ++ r ∷ vs) s give)))
-        (alike-trans (each-alike done (over_each (us ++ r ∷ vs) s give) (over_each (r ∷ (us ++ vs)) s give) (λ env. front us r vs apart sr env) env)
-        (alike-same (sym (ap (λ (k : Environment → Bag). k env) (over_each-append done (r ∷ (us ++ vs)) s give)))))
+    -- all of them in another order
+    pub in-order : (left rs : List OwnedQuant) → Reorders left rs → ((r t : OwnedQuant) → In r left → In t left → ((r.id == t.id) ≡ false) ⊎ (r ≡ t)) → ((t : OwnedQuant) → In t left → Steady t) → (env : Environment)
+        → Alike (over_each left s give env) (over_each rs s give env)
+    in-order left [] h apart steady env = alike-same (ap (λ (xs : List OwnedQuant). over_each xs s give env) h)
+    in-order left (r ∷ rs) h apart steady env =
+        let us = h.0 in
+        let vs = h.1.0 in
+        let e : left ≡ us ++ r ∷ vs = h.1.1.0 in
+        let within : (t : OwnedQuant) → In t (us ++ r ∷ vs) → In t left = λ t. subst (In t) (sym e) in
+        let first : In r left = within r (in-right r us (r ∷ vs) (inl refl)) in
+        let others : (t : OwnedQuant) → In t (us ++ vs) → In t left = λ t i. within t (beside t us r vs i) in
+        subst (λ (xs : List OwnedQuant). Alike (over_each xs s give env) (over_each (r ∷ rs) s give env)) (sym e)
+        (alike-trans
+        (front us r vs (λ t i. (apart r t first (within t (in-left t us (r ∷ vs) i)), steady t (within t (in-left t us (r ∷ vs) i)))) (steady r first) env)
+        (behind r (us ++ vs) rs (λ d. in-order (us ++ vs) rs h.1.1.1 (λ x t i j. apart x t (others x i) (others t j)) (λ t i. steady t (others t i)) d) env))
+
+-- quantifiers in another order are the same
+pub reordered-in : (left rs : List OwnedQuant) → Reorders left rs → (t : OwnedQuant) → In t rs → In t left
+reordered-in left [] h t i = elim i [ ]
+reordered-in left (r ∷ rs) h t i = subst (In t) (sym h.1.1.0) (elim i [
+  | inl e ↦ in-right t h.0 (r ∷ h.1.0) (inl e)
+  | inr j ↦ beside t h.0 r h.1.0 (reordered-in (h.0 ++ h.1.0) rs h.1.1.1 t j)
+])
+
+-- each in its turn
+pub reorders-itself : (rs : List OwnedQuant) → Reorders rs rs
+reorders-itself [] = refl
+reorders-itself (r ∷ rs) = ([], (rs, (refl, reorders-itself rs)))
+
+-- one is taken from among those that are left
+pub taken : (left : List OwnedQuant) (i : ℕ) (r : OwnedQuant) → i < length left → r ≡ get_or left i r → (rest : List OwnedQuant) → Reorders (remove left i) rest → Reorders left (r ∷ rest)
+taken left i r l at rest h =
+    (take i left, (drop (suc i) left, (sym (take-append-drop i left) ∙ ap (λ (ys : List OwnedQuant). take i left ++ ys) (drop-cons left i r l ∙ ap (λ (x : OwnedQuant). x ∷ drop (suc i) left) (sym at)), h)))

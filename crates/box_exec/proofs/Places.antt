@@ -10,7 +10,9 @@ use Rattle.qgm_meaning.specs.Meaning.{bag_in, rows_of}
 use Rattle.qgm_meaning.specs.Ranks.{by_rank}
 use Rattle.qgm_meaning.specs.Values.{Bag, Environment}
 use Rattle.row_bag.specs.Bags.{Alike}
+use Rattle.box_exec.specs.Lasting.{AllPlanned}
 use Rattle.box_exec.specs.Ready.{AllFit, Entry, Fit, Held, IsOpen, Ready, weight}
+use Rattle.box_exec.specs.declared.plan.Plan.{Plan}
 use Rattle.box_exec.specs.declared.source.Source.{Source}
 use Rattle.box_exec.specs.Costs.{is_held}
 use Rattle.box_exec.proofs.Evaluations.{keeps-under}
@@ -64,6 +66,15 @@ pub ready-at : (tables : List Table) (memo : List (Option Source)) (ns : List No
 ready-at tables memo ns i n l at h =
     subst (Ready tables memo) (from ns i n l ∙ ap (λ (m : Node). m ∷ drop (i + 1) ns) (sym at)) (ready-drop tables memo ns i h)
 
+plans-drop : (memo : List (Option Source)) (plans : List (Option Plan)) (ns : List Node) (i : ℕ) → AllPlanned memo plans ns → AllPlanned memo plans (drop i ns)
+plans-drop memo plans ns zero h = h
+plans-drop memo plans [] (suc i) h = h
+plans-drop memo plans (n ∷ ns) (suc i) h = plans-drop memo plans ns i h.1
+
+plans-at : (memo : List (Option Source)) (plans : List (Option Plan)) (ns : List Node) (i : ℕ) (n : Node) → i < length ns → n ≡ get_or ns i n → AllPlanned memo plans ns → AllPlanned memo plans (n ∷ drop (i + 1) ns)
+plans-at memo plans ns i n l at h =
+    subst (AllPlanned memo plans) (from ns i n l ∙ ap (λ (m : Node). m ∷ drop (i + 1) ns) (sym at)) (plans-drop memo plans ns i h)
+
 weight-drop : (ns : List Node) (i : ℕ) → weight (drop i ns) ≤ weight ns
 weight-drop ns zero = omega arith
 weight-drop [] (suc i) = omega arith
@@ -89,7 +100,7 @@ open-under tables memo ns behind b i n e at is unheld ready =
     let free : is_held (slice_get memo (length (drop (i + 1) ns))) ≡ false = subst (λ (ms : List Node). is_held (slice_get memo (length ms)) ≡ false) is unheld in
     let l = inside ns b i n e in
     let h = ready-at tables memo ns i n l at ready in
-    subst (IsOpen tables memo ns b n) (sym is) (record { bag = bag-at tables ns b i n e at; fit = h.0; ready = h.2; less = weight-at ns i n l at; keeps = keeps-under tables memo ns b i n e at free })
+    subst (IsOpen tables memo ns b n) (sym is) (record { bag = bag-at tables ns b i n e at; fit = h.0; ready = h.2; less = weight-at ns i n l at; plans = λ ps. plans-at memo ps ns i n l at; keeps = keeps-under tables memo ns b i n e at free })
 
 pub entry-holds : (tables : List Table) (n : Node) (ns : List Node) (o : Option (Option Source)) (rows : Bag) (env : Environment) → Entry tables n ns o → Held o rows → Alike rows (rows_of tables n (bag_in tables ns) env)
 entry-holds tables n ns None rows env h e = absurd e

@@ -1,7 +1,7 @@
 -- What boxes give over what stands under their quantifiers.
 use Rattle.std.proofs.Common.{ℕ, suc, zero, ◌≡◌, ◌<◌, ◌≤◌, ◌+◌, ◌++◌, ◌==◌, not, Bool, true, false, cond, List, [], ◌∷◌, Option, Some, All, drop, filter, get_or, length, take, append-nil, refl, sym, ◌∙◌, ap, ap₂, subst, arith}
 use Rattle.std.proofs.Math.ListN.{drop_of_length-le}
-use Rattle.std.proofs.lemmas.List.{length-map, take_more}
+use Rattle.std.proofs.lemmas.List.{get_or_default, length-map, take_more}
 use Rattle.std.proofs.lemmas.List.Elements.{filter-append}
 use Rattle.std.specs.List.{list_any}
 use Rattle.std.proofs.lemmas.Bool.{or_left, or_right}
@@ -25,7 +25,7 @@ use Rattle.qgm_meaning.proofs.Alikes.{combined-alike, given-alike, grouped_rows-
 use Rattle.qgm_meaning.proofs.Nodes.{all_true-nodes, head-nodes}
 use Rattle.row_bag.proofs.FoldLaws.{or_else-alike}
 use Rattle.box_exec.specs.Outer.{joined_rows, null_row, partner_rows}
-use Rattle.box_exec.specs.Plans.{Planned, family, ranges}
+use Rattle.box_exec.specs.Plans.{Bound, Planned, family, ranges}
 use Rattle.box_exec.specs.Ready.{Fit, SubsOf, binds_F, isnt_F, names_in_box, over_left}
 use Rattle.box_exec.specs.Sources.{held_by, rows_held}
 use Rattle.box_exec.specs.declared.boxes.At.{At}
@@ -75,22 +75,42 @@ past-all at plan k h = subst (λ (rs : List OwnedQuant). drop k rs ≡ []) plan.
 pub quant-at : (at : At) → Planned at → (k : ℕ) (l : Loop) → k < length at.loops.now → l ≡ get_or at.loops.now k l → (env : Environment) → quant_rows at.node.now (family at) l.range.id env ≡ family at l.range.over env
 quant-at at plan k l h e env = ap (λ (o : Option OwnedQuant). rows_found o (family at) env) (placed at plan k l h e).1
 
+-- the order of its text is one in which its quantifiers are bound
+pub bound-of : (at : At) → Planned at → Bound at
+bound-of at plan = record {
+  own = λ k d inside. (placed at plan k (get_or at.loops.now k d) inside (get_or_default at.loops.now k d (get_or at.loops.now k d) inside)).1;
+  stand = plan.stand;
+  rows = plan.rows;
+  plan = plan.plan;
+}
+
+-- a quantifier at its place in that order
+pub stood : (at : At) → Bound at → (k : ℕ) (l : Loop) → k < length at.loops.now → l ≡ get_or at.loops.now k l
+    → (drop k (ranges at.loops.now) ≡ l.range ∷ drop (k + 1) (ranges at.loops.now)) × (first (is_quant l.range.id) at.node.now.quants ≡ Some l.range)
+stood at b k l h e = (
+  from (ranges at.loops.now) k l.range (range-within at.loops.now k h) ∙ ap (λ (x : OwnedQuant). x ∷ drop (k + 1) (ranges at.loops.now)) (sym (range-at at.loops.now k l h e)),
+  subst (λ (x : Loop). first (is_quant x.range.id) at.node.now.quants ≡ Some x.range) (sym e) (b.own k l h),
+)
+
+pub past-ranges : (ls : List Loop) (k : ℕ) → length ls ≤ k → drop k (ranges ls) ≡ []
+past-ranges ls k h = drop_of_length-le (ranges ls) (range-past ls k h)
+
 -- a quantifier that binds no rows is passed over
-pub left-over : (tables : List Table) (n : Node) (below : List Node) (k : ℕ) (r : OwnedQuant) (env : Environment) → drop k n.quants ≡ r ∷ drop (k + 1) n.quants → is_F r.kind ≡ false
-    → over_left tables n below k env ≡ over_left tables n below (k + 1) env
-left-over tables n below k r env e h =
+pub left-over : (tables : List Table) (n : Node) (below : List Node) (rs : List OwnedQuant) (k : ℕ) (r : OwnedQuant) (env : Environment) → drop k rs ≡ r ∷ drop (k + 1) rs → is_F r.kind ≡ false
+    → over_left tables n below (drop k rs) env ≡ over_left tables n below (drop (k + 1) rs) env
+left-over tables n below rs k r env e h =
     let s = quant_rows n (bag_in tables below) in
-    ap (λ (rs : List OwnedQuant). over_each rs s (given_by s n) env) e
-    ∙ ap (λ (t : Bool). cond t (bind (s r.id env) (λ cells. over_each (drop (k + 1) n.quants) s (given_by s n) (bound r.id cells env))) (over_each (drop (k + 1) n.quants) s (given_by s n) env)) h
+    ap (λ (xs : List OwnedQuant). over_each xs s (given_by s n) env) e
+    ∙ ap (λ (t : Bool). cond t (bind (s r.id env) (λ cells. over_each (drop (k + 1) rs) s (given_by s n) (bound r.id cells env))) (over_each (drop (k + 1) rs) s (given_by s n) env)) h
 
 -- one that binds rows is gone through
-pub left-bound : (tables : List Table) (n : Node) (below : List Node) (k : ℕ) (r : OwnedQuant) (env : Environment) → drop k n.quants ≡ r ∷ drop (k + 1) n.quants → is_F r.kind ≡ true → first (is_quant r.id) n.quants ≡ Some r
-    → over_left tables n below k env ≡ bind (bag_in tables below r.over env) (λ cells. over_left tables n below (k + 1) (bound r.id cells env))
-left-bound tables n below k r env e h own =
+pub left-bound : (tables : List Table) (n : Node) (below : List Node) (rs : List OwnedQuant) (k : ℕ) (r : OwnedQuant) (env : Environment) → drop k rs ≡ r ∷ drop (k + 1) rs → is_F r.kind ≡ true → first (is_quant r.id) n.quants ≡ Some r
+    → over_left tables n below (drop k rs) env ≡ bind (bag_in tables below r.over env) (λ cells. over_left tables n below (drop (k + 1) rs) (bound r.id cells env))
+left-bound tables n below rs k r env e h own =
     let s = quant_rows n (bag_in tables below) in
-    let give = λ (cells : List Cell). over_each (drop (k + 1) n.quants) s (given_by s n) (bound r.id cells env) in
-    ap (λ (rs : List OwnedQuant). over_each rs s (given_by s n) env) e
-    ∙ ap (λ (t : Bool). cond t (bind (s r.id env) give) (over_each (drop (k + 1) n.quants) s (given_by s n) env)) h
+    let give = λ (cells : List Cell). over_each (drop (k + 1) rs) s (given_by s n) (bound r.id cells env) in
+    ap (λ (xs : List OwnedQuant). over_each xs s (given_by s n) env) e
+    ∙ ap (λ (t : Bool). cond t (bind (s r.id env) give) (over_each (drop (k + 1) rs) s (given_by s n) env)) h
     ∙ ap (λ (o : Option OwnedQuant). bind (rows_found o (bag_in tables below) env) give) own
 
 -- ---- what binds no rows
@@ -131,7 +151,7 @@ first-free (r ∷ rs) q h =
     ] h refl
 
 -- conditions and head are the same over rows of the quantifiers that bind none
-given-free : (f : Family) (n : Node) (below : List Node) (ss : List Sub) (env : Environment) → Fit n below → SubsOf f env (filter isnt_F n.quants) ss → given (held_by ss) n env ≡ given_by (quant_rows n f) n env
+pub given-free : (f : Family) (n : Node) (below : List Node) (ss : List Sub) (env : Environment) → Fit n below → SubsOf f env (filter isnt_F n.quants) ss → given (held_by ss) n env ≡ given_by (quant_rows n f) n env
 given-free f n below ss env fit subs =
     let free = λ (q : ℕ). rows_found (first (is_quant q) (filter isnt_F n.quants)) f env in
     let same : (q : ℕ) → names_in_box n q ≡ true → free q ≡ quant_rows n f q env = λ q h. ap (λ (o : Option OwnedQuant). rows_found o f env) (first-free n.quants q (fit.nodes q h)) in

@@ -22,11 +22,10 @@ use Rattle.qgm_terms.specs.Terms.{Cond}
 use Rattle.qgm_terms.specs.Wanted.{reads_cond}
 use Rattle.qgm_terms.specs.Shown as shown
 use Rattle.box_exec.specs.Early.{IsEarly, is_none, rejects}
-use Rattle.box_exec.specs.Plans.{Planned, family, left_at, ranges}
+use Rattle.box_exec.specs.Plans.{Bound, family, left_at, ranges}
 use Rattle.box_exec.specs.Sources.{held_by}
 use Rattle.box_exec.specs.declared.boxes.At.{At}
 use Rattle.box_exec.specs.declared.early.Early.{Early}
-use Rattle.box_exec.specs.declared.under.Loop.{Loop}
 use Rattle.list_laws.proofs.Booleans.{clash, neither-left, neither-right}
 use Rattle.list_laws.proofs.Membership.{any-in}
 
@@ -38,17 +37,6 @@ all-at P x (y ∷ xs) h i = elim i [
   | inl e ↦ subst P e (h zero y (omega arith))
   | inr j ↦ all-at P x xs (λ k d l. h (suc k) d (omega (arith, l))) j
 ]
-
--- a test of the ranges is one of the loops
-any-range : (f : ℕ → Bool) (ls : List Loop) → list_any (λ l. f l.range.id) ls ≡ false → list_any (λ (r : OwnedQuant). f r.id) (ranges ls) ≡ false
-any-range f [] h = refl
-any-range f (l ∷ ls) h =
-    ap₂ (λ (a b : Bool). a || b) (neither-left (f l.range.id) (list_any (λ l. f l.range.id) ls) h) (any-range f ls (neither-right (f l.range.id) (list_any (λ l. f l.range.id) ls) h))
-
-drop-ranges : (k : ℕ) (ls : List Loop) → ranges (drop k ls) ≡ drop k (ranges ls)
-drop-ranges zero ls = refl
-drop-ranges (suc k) [] = refl
-drop-ranges (suc k) (l ∷ ls) = drop-ranges k ls
 
 -- ---- one condition that rejects
 
@@ -120,19 +108,16 @@ module _ (n : Node) (f : Family) (c : Cond) (env : Environment) (stands : In c n
         ];
       }
 
-pub rejects-all : (at : At) → Planned at → (k : ℕ) (env : Environment) → rejects at.early.now k env ≡ true → Alike (left_at at k env) []
+pub rejects-all : (at : At) → Bound at → (k : ℕ) (env : Environment) → rejects at.early.now k env ≡ true → Alike (left_at at k env) []
 rejects-all at plan k env h =
     let x = any-in (λ (e : Early). (e.place == k) && is_none (truth (held_by []) (shown.cond e.cond.now) env).t) at.early.now h in
     let e = x.0 in
     let both = and_parts (e.place == k) (is_none (truth (held_by []) (shown.cond e.cond.now) env).t) x.1.1 in
-    let is = all-at (λ (e : Early). IsEarly at.node.now at.loops.now e) e at.early.now plan.early x.1.0 in
-    over-none at.node.now (family at) (shown.cond e.cond.now) env is.stands
-    (subst (λ (rs : List OwnedQuant). list_any (λ (r : OwnedQuant). names_cond r.id (shown.cond e.cond.now)) rs ≡ false) plan.ranged (any-range (λ q. names_cond q (shown.cond e.cond.now)) at.loops.now is.unnamed))
+    let is = all-at (λ (e : Early). IsEarly at.node.now (ranges at.loops.now) e) e at.early.now plan.plan.early x.1.0 in
+    over-none at.node.now (family at) (shown.cond e.cond.now) env is.stands is.unnamed
     (none-no (truth (held_by []) (shown.cond e.cond.now) env).t both.1)
-    (drop k at.node.now.quants)
-    (subst (λ (rs : List OwnedQuant). list_any (λ (r : OwnedQuant). reads_cond r.id (shown.cond e.cond.now)) (drop k rs) ≡ false) plan.ranged
-    (subst (λ (rs : List OwnedQuant). list_any (λ (r : OwnedQuant). reads_cond r.id (shown.cond e.cond.now)) rs ≡ false) (drop-ranges k at.loops.now)
-    (any-range (λ q. reads_cond q (shown.cond e.cond.now)) (drop k at.loops.now) (subst (λ (z : ℕ). list_any (λ l. reads_cond l.range.id (shown.cond e.cond.now)) (drop z at.loops.now) ≡ false) (eqb-true e.place k both.0) is.unread))))
+    (drop k (ranges at.loops.now))
+    (subst (λ (z : ℕ). list_any (λ (r : OwnedQuant). reads_cond r.id (shown.cond e.cond.now)) (drop z (ranges at.loops.now)) ≡ false) (eqb-true e.place k both.0) is.unread)
     env (record { rows = λ q h. refl })
 
 pub nothing-added : (level : Level) (out rows : Bag) → Alike rows [] → Alike out (out ++ keep level rows)

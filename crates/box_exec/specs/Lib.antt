@@ -10,6 +10,7 @@ pub mod Ready
 pub mod Levels
 pub mod Early
 pub mod Lookup
+pub mod Lasting
 pub mod Hashed
 pub mod HandedOn
 pub mod Idle

@@ -1,13 +1,15 @@
 -- A box that is evaluated, and what its quantifiers give.
-use Rattle.std.specs.Prelude.{ℕ, ◌≡◌, All, Bool, List, drop, map}
+use Rattle.std.specs.Prelude.{ℕ, ◌≡◌, All, Bool, List, Some, drop, map}
 use Rattle.qgm_meaning.specs.Plain.{Counts, counted_by, under_rows}
 use Rattle.box_exec.specs.Costs.{Keeps, asked}
+use Rattle.list_laws.specs.Lists.{first}
+use Rattle.qgm_core.specs.Boxes.{is_quant}
 use Rattle.qgm_core.specs.declared.owned.OwnedQuant.{OwnedQuant}
 use Rattle.qgm_meaning.specs.Meaning.{Family, bag_in, rows_of}
 use Rattle.qgm_meaning.specs.Values.{Bag, Environment}
 use Rattle.row_bag.specs.declared.tables.Table.{Table}
-use Rattle.box_exec.specs.Early.{IsEarly}
-use Rattle.box_exec.specs.Ready.{Fit, Stands, over_left}
+use Rattle.box_exec.specs.Lasting.{AllPlanned, IsOrder, IsPlan, rows_kept, rows_stored}
+use Rattle.box_exec.specs.Ready.{Fit, Ready, Stands, over_left}
 use Rattle.box_exec.specs.declared.boxes.At.{At}
 use Rattle.box_exec.specs.declared.under.Loop.{Loop}
 
@@ -21,12 +23,27 @@ family at = bag_in (tables_of at) at.below.now
 abbrev pub ranges : List Loop → List OwnedQuant
 ranges ls = map (λ l. l.range) ls
 
--- its quantifiers with what stands under each
+-- the rows that are kept of the boxes below it
+abbrev pub stored : At → ℕ → Bag
+stored at = rows_stored at.run.now.memo.now at.below.now
+
+-- its quantifiers with what stands under each, and what is made once of it
 pub record Planned (at : At) : Type 0 where
   pub ranged : ranges at.loops.now ≡ at.node.now.quants
   pub stand : All (λ l. Stands (tables_of at) at.run.now.memo.now at.below.now l.range.over l.under) at.loops.now
   pub fit : Fit at.node.now at.below.now
-  pub early : All (λ e. IsEarly at.node.now at.loops.now e) at.early.now
+  pub rows : All (λ l. rows_kept l.under ≡ stored at l.range.over) at.loops.now
+  pub plan : IsPlan at.node.now (ranges at.loops.now) (stored at) at.early.now at.hashed.now
+  pub orders : All (λ o. IsOrder at.node.now (stored at) o) at.orders.now
+  pub ready : Ready (tables_of at) at.run.now.memo.now at.below.now
+  pub plans : AllPlanned at.run.now.memo.now at.run.now.plans.now at.below.now
+
+-- its quantifiers in the order in which they are bound, with what stands under each
+pub record Bound (at : At) : Type 0 where
+  pub own : All (λ l. first (is_quant l.range.id) at.node.now.quants ≡ Some l.range) at.loops.now
+  pub stand : All (λ l. Stands (tables_of at) at.run.now.memo.now at.below.now l.range.over l.under) at.loops.now
+  pub rows : All (λ l. rows_kept l.under ≡ stored at l.range.over) at.loops.now
+  pub plan : IsPlan at.node.now (ranges at.loops.now) (stored at) at.early.now at.hashed.now
 
 -- what stands under a quantifier of it
 abbrev pub StandsAt : At → Loop → Type 0
@@ -38,7 +55,7 @@ rows_at at env = rows_of (tables_of at) at.node.now (family at) env
 
 -- what it gives for each combination of rows of its quantifiers from a place on
 abbrev pub left_at : At → ℕ → Environment → Bag
-left_at at k env = over_left (tables_of at) at.node.now at.below.now k env
+left_at at k env = over_left (tables_of at) at.node.now at.below.now (drop k (ranges at.loops.now)) env
 
 -- there are rows for the boxes below it that are kept
 abbrev pub KeepsAt : At → (ℕ → Bool) → Type 0

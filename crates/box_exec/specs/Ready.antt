@@ -1,5 +1,5 @@
 -- What is made so far, and what a graph owes to its execution.
-use Rattle.std.specs.Prelude.{ℕ, ◌≡◌, ◌≤◌, ◌+◌, ◌||◌, Bool, true, false, not, All, List, [], ◌∷◌, drop, length, slice_get, Option, Some, None, ⊤}
+use Rattle.std.specs.Prelude.{ℕ, ◌≡◌, ◌≤◌, ◌+◌, ◌||◌, Bool, true, false, not, All, List, [], ◌∷◌, length, slice_get, Option, Some, None, ⊤}
 use Rattle.std.specs.List.{list_any}
 use Rattle.qgm_core.specs.Boxes.{is_quant, owns}
 use Rattle.qgm_core.specs.Kinds.{is_F}
@@ -13,8 +13,10 @@ use Rattle.qgm_meaning.specs.Values.{Bag, Environment}
 use Rattle.row_bag.specs.Bags.{Alike}
 use Rattle.row_bag.specs.declared.tables.Table.{Table}
 use Rattle.box_exec.specs.Costs.{Keeps, asked}
+use Rattle.box_exec.specs.Lasting.{AllPlanned}
 use Rattle.qgm_meaning.specs.Plain.{counted_by}
 use Rattle.box_exec.specs.Sources.{held, rows_held}
+use Rattle.box_exec.specs.declared.plan.Plan.{Plan}
 use Rattle.box_exec.specs.declared.source.Source.{Source}
 use Rattle.box_exec.specs.declared.source.Sub.{Sub}
 use Rattle.box_exec.specs.declared.under.Under.{Under}
@@ -80,6 +82,7 @@ pub record IsOpen (tables : List Table) (memo : List (Option Source)) (below : L
   pub fit : Fit n behind
   pub ready : Ready tables memo behind
   pub less : length n.quants + 7 + weight behind ≤ weight below
+  pub plans : (ps : List (Option Plan)) → AllPlanned memo ps below → AllPlanned memo ps (n ∷ behind)
   pub keeps : (kept : ℕ → Bool) → Keeps memo kept below → Keeps memo kept behind × ((env : Environment) → asked tables kept below b env ≡ counted_by n.parts.kind n (bag_in tables behind) (asked tables kept behind) env)
 
 -- what stands under a quantifier over box b
@@ -97,9 +100,9 @@ SubsOf f env [] (s ∷ ss) = ⊥
 SubsOf f env (r ∷ rs) [] = ⊥
 SubsOf f env (r ∷ rs) (s ∷ ss) = (s.quant ≡ r.id) × Alike (rows_held s.rows) (f r.over env) × SubsOf f env rs ss
 
--- what is given for each combination of rows of the quantifiers of a box from a place on
-abbrev pub over_left : List Table → Node → List Node → ℕ → Environment → Bag
-over_left tables n below k env = over_each (drop k n.quants) (quant_rows n (bag_in tables below)) (given_by (quant_rows n (bag_in tables below)) n) env
+-- what is given for each combination of rows of these quantifiers of a box
+abbrev pub over_left : List Table → Node → List Node → List OwnedQuant → Environment → Bag
+over_left tables n below rs env = over_each rs (quant_rows n (bag_in tables below)) (given_by (quant_rows n (bag_in tables below)) n) env
 
 -- rows that are those of a box in every environment
 abbrev pub Holds : List Table → Node → List Node → Source → Type 0

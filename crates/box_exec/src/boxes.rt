@@ -1,8 +1,10 @@
 // The rows of boxes.
-ghost use Rattle.std.specs.Prelude.{◌≡◌, ◌+◌, ◌++◌, ℕ, Bool, IfOk, OnOk, filter, if◌then◌else◌, true};
+ghost use Rattle.std.specs.Prelude.{◌≡◌, ◌+◌, ◌++◌, ◌∷◌, ℕ, Bool, IfOk, IfSome, OnOk, Some, false, filter, if◌then◌else◌, slice_get, true};
 ghost use Rattle.box_exec.specs.Bound.{env_of};
 ghost use Rattle.box_exec.specs.Costs.{Between, Keeps, asked, at_level};
 ghost use Rattle.box_exec.specs.Counted.{Counted};
+ghost use Rattle.box_exec.specs.Early.{is_open};
+ghost use Rattle.box_exec.specs.Lasting.{AllPlanned, rows_kept};
 ghost use Rattle.box_exec.specs.Plans as plan;
 ghost use Rattle.box_exec.specs.Ready.{Fit, Ready, SubsOf, isnt_F};
 ghost use Rattle.box_exec.specs.Sources.{held};
@@ -14,22 +16,26 @@ ghost use Rattle.sql_value.specs.declared.level.Level.TheVariants as Level;
 
 use crate::bindings::Bindings;
 use crate::combining::combined;
-use crate::early::{Early, early_conds, rejected};
+use crate::early::{Early, rejected};
 use crate::grouping::grouped;
-use crate::hashed::{all_kept, kept_selected};
+use crate::hashed::{all_kept, kept_selected, way_under};
 use crate::heads::{add_given, once_added};
 use crate::joining::{Join, outer_joined};
+use crate::lookup::Hashed;
+use crate::order::Order;
+use crate::plan::{Plan, plan_of};
 use crate::source::{Source, Sub, made, push_sub};
 use crate::under::{Loop, Run, Under, loops, table_rows};
 use qgm_core::{BoxKind, Node, SetOperator};
 use row_bag::{Bag, copied_rows};
+use row_index::{first_of, next_of};
 use shared_types::OutOfMemory;
 use sql_value::{Level, least};
 use std::sync::ledger::Ledger;
 use step_count::Steps;
 
-/// A box that is evaluated: itself, those behind it, its quantifiers, and its conditions that are
-/// tested before all of these are bound.
+/// A box that is evaluated: itself, those behind it, its quantifiers, its conditions that are tested before
+/// all of these are bound, the indexes of their rows, and better orders of these if there are any.
 #[derive(Clone, Copy)]
 pub(crate) struct At<'a> {
     pub run: &'a Run<'a>,
@@ -37,6 +43,8 @@ pub(crate) struct At<'a> {
     pub below: &'a [Node],
     pub loops: &'a [Loop<'a>],
     pub early: &'a [Early<'a>],
+    pub hashed: &'a [Option<Hashed<'a>>],
+    pub orders: &'a [Order<'a>],
 }
 
 /// One evaluation of a box more.
@@ -46,6 +54,16 @@ pub(crate) fn step<L: Ledger>(steps: &mut Steps<L>, count: &mut u64)
 {
     steps.tick();
     *count = count.saturating_add(1);
+}
+
+// The plan of the box with so many boxes behind it, if there is one.
+fn plan_at<'a>(plans: &'a [Option<Plan<'a>>], i: usize) -> Option<&'a Plan<'a>>
+    ensures { IfSome result (λ p. slice_get plans.now i ≡ Some (Some p.now)) }
+{
+    match plans.get(i) {
+        Some(Some(plan)) => Some(plan),
+        Some(None) | None => None,
+    }
 }
 
 /// The rows of a box over those behind it, one evaluation more. It fails only for want of memory.
@@ -60,19 +78,34 @@ pub(crate) fn evaluated<'a, L: Ledger>(
 ) -> Result<Bag, OutOfMemory>
     requires ready { Ready run.now.tables.now run.now.memo.now below.now }
     requires fit { Fit node.now below.now }
+    requires plans { AllPlanned run.now.memo.now run.now.plans.now (node.now ∷ below.now) }
     ensures rows { IfOk result (λ bag. Alike bag (m.rows_of run.now.tables.now node.now (m.bag_in run.now.tables.now below.now) (env_of env.now))) }
     ensures counted { (start : ℕ) → Counted start steps.old count.old → Counted start steps.new count.new }
     ensures took { (kept : ℕ → Bool) → Keeps run.now.memo.now kept below.now → IfOk result (λ bag. Between 1 (counted_by node.now.parts.kind node.now (m.bag_in run.now.tables.now below.now) (asked run.now.tables.now kept below.now) (env_of env.now)) steps.old steps.new) }
 {
     step(steps, count);
     let loops = loops(run, node.quants.as_slice(), below)?;
-    let early = early_conds(run.alloc, node, &loops)?;
+    if let Some(plan) = plan_at(run.plans, below.len()) {
+        let at = At {
+            run: &*run,
+            node: &*node,
+            below: &*below,
+            loops: &loops,
+            early: &plan.early,
+            hashed: &plan.hashed,
+            orders: &plan.orders,
+        };
+        return of_kind(&at, env, steps, count);
+    }
+    let plan = plan_of(run, node, below, &loops, false)?;
     let at = At {
         run: &*run,
         node: &*node,
         below: &*below,
         loops: &loops,
-        early: &early,
+        early: &plan.early,
+        hashed: &plan.hashed,
+        orders: &plan.orders,
     };
     of_kind(&at, env, steps, count)
 }
@@ -122,7 +155,9 @@ fn rows_under<'a, L: Ledger>(
     count: &mut u64,
 ) -> Result<Source<'a>, OutOfMemory>
     requires stands { plan.StandsAt at.now l.now }
+    requires plans { AllPlanned at.now.run.now.memo.now at.now.run.now.plans.now at.now.below.now }
     ensures rows { IfOk result (λ s. Alike (held s) (plan.family at.now l.now.range.over (env_of env.now))) }
+    ensures kept { is_open l.now.under ≡ false → IfOk result (λ s. held s ≡ rows_kept l.now.under) }
     ensures counted { (start : ℕ) → Counted start steps.old count.old → Counted start steps.new count.new }
     ensures took { (kept : ℕ → Bool) → plan.KeepsAt at.now kept → IfOk result (λ s. Between 0 (plan.asked_at at.now kept l.now.range.over (env_of env.now)) steps.old steps.new) }
 {
@@ -183,11 +218,18 @@ fn each<'x, L: Ledger>(
     if !l.range.kind.is_f() {
         return each(at, k + 1, level, env, out, steps, count);
     }
-    let rows = rows_under(at, l, env, steps, count)?;
-    for row in rows.rows() {
+    let source = rows_under(at, l, env, steps, count)?;
+    let rows = source.rows();
+    let way = way_under(at, k, l, rows, env)?;
+    let mut c = first_of(&way);
+    let mut i = c.place();
+    while i < way.end {
+        let row = &rows[i];
         let level = least(level, row.level);
         let inside = Bindings::Row(l.range.id, row.cells.as_slice(), &*env);
         each(at, k + 1, level, &inside, out, steps, count)?;
+        c = next_of(&way, c);
+        i = c.place();
     }
     Ok(())
 }

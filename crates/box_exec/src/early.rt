@@ -6,8 +6,8 @@ ghost use Rattle.qgm_terms.specs.Shown.{cond};
 
 use crate::bindings::Bindings;
 use crate::evaluation::hold;
-use crate::under::{Loop, Under};
-use qgm_core::{Gc, Node};
+use crate::under::Under;
+use qgm_core::{Gc, Node, OwnedQuant};
 use qgm_term_search::stands_in_cond;
 use qgm_terms::Sought;
 use shared_types::OutOfMemory;
@@ -32,21 +32,21 @@ pub(crate) fn is_open(under: Under<'_>) -> bool
 }
 
 // Whether a scalar, some or every of one of these stands in a condition.
-fn names_any(c: &Gc, loops: &[Loop<'_>]) -> bool
-    ensures { result ≡ names_any (cond c.now) loops.now }
+fn names_any(c: &Gc, ranges: &[OwnedQuant]) -> bool
+    ensures { result ≡ names_any (cond c.now) ranges.now }
 {
-    loops
+    ranges
         .iter()
-        .any(|l| stands_in_cond(c, Sought::NodeOf(l.range.id)))
+        .any(|r| stands_in_cond(c, Sought::NodeOf(r.id)))
 }
 
 // The first place from which on a condition reads no quantifier.
-fn place_from(c: &Gc, loops: &[Loop<'_>]) -> usize
-    ensures { reads_any (cond c.now) (drop result loops.now) ≡ false }
+fn place_from(c: &Gc, ranges: &[OwnedQuant]) -> usize
+    ensures { reads_any (cond c.now) (drop result ranges.now) ≡ false }
 {
-    let mut place = loops.len();
+    let mut place = ranges.len();
     while place > 0 {
-        if stands_in_cond(c, Sought::Row(loops[place - 1].range.id)) {
+        if stands_in_cond(c, Sought::Row(ranges[place - 1].id)) {
             return place;
         }
         place -= 1;
@@ -54,24 +54,23 @@ fn place_from(c: &Gc, loops: &[Loop<'_>]) -> usize
     place
 }
 
-/// The conditions of a select that are tested as soon as the quantifiers that they read are bound: none
-/// where a box under one of these is evaluated anew, so that no evaluation is left out. It fails only for
-/// want of memory.
+/// The conditions of a select that are tested as soon as the quantifiers that they read are bound, in this
+/// order. It fails only for want of memory.
 #[inline(never)]
 pub(crate) fn early_conds<'a>(
     alloc: Global,
     node: &'a Node,
-    loops: &[Loop<'_>],
+    ranges: &[OwnedQuant],
 ) -> Result<Vec<Early<'a>>, OutOfMemory>
-    ensures { IfOk result (λ made. All (λ e. IsEarly node.now loops.now e) made.items) }
+    ensures { IfOk result (λ made. All (λ e. IsEarly node.now ranges.now e) made.items) }
 {
     let mut made = Vec::new(alloc);
-    if !node.parts.kind.is_select() || loops.iter().any(|l| is_open(l.under)) {
+    if !node.parts.kind.is_select() {
         return Ok(made);
     }
     for c in node.parts.conds.as_slice() {
-        if !names_any(c, loops) {
-            let place = place_from(c, loops);
+        if !names_any(c, node.quants.as_slice()) {
+            let place = place_from(c, ranges);
             made.push(Early { place, cond: c })?;
         }
     }

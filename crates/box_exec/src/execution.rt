@@ -43,10 +43,11 @@ fn executed<L: Ledger>(
     };
     let below = behind(nodes, i);
     let marks = reached(alloc, nodes, root)?;
-    let memo = memo_of(alloc, below, tables, &marks, indexed, steps, &mut count)?;
+    let (memo, plans) = memo_of(alloc, below, tables, &marks, indexed, steps, &mut count)?;
     let place = BoxOver {
         node: &nodes[i],
         below,
+        plans: &plans,
         indexed,
     };
     let rows = root_rows(alloc, tables, memo, &place, steps, &mut count)?;

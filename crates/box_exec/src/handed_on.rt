@@ -1,8 +1,9 @@
 // Selects that give the rows of a box as they are.
-ghost use Rattle.std.specs.Prelude.{◌≡◌, [], ℕ, Bool, List, IfOk, IfSome, slice_get, true, false};
+ghost use Rattle.std.specs.Prelude.{◌≡◌, ◌∷◌, [], ℕ, Bool, List, IfOk, IfSome, slice_get, true, false};
 ghost use Rattle.box_exec.specs.Costs.{Between, Keeps, asked, is_held};
 ghost use Rattle.box_exec.specs.Counted.{Counted};
 ghost use Rattle.box_exec.specs.HandedOn.{HandsOn, InOrder, is_wide};
+ghost use Rattle.box_exec.specs.Lasting.{AllPlanned};
 ghost use Rattle.box_exec.specs.Ready.{Entry, Fit, Held, Ready};
 ghost use Rattle.box_exec.specs.Sources.{held};
 ghost use Rattle.qgm_core.specs.Kinds as kinds;
@@ -147,6 +148,7 @@ pub(crate) fn root_rows<L: Ledger>(
 ) -> Result<Bag, OutOfMemory>
     requires ready { Ready tables.now memo.items root.now.below.now }
     requires fit { Fit root.now.node.now root.now.below.now }
+    requires plans { AllPlanned memo.items root.now.plans.now (root.now.node.now ∷ root.now.below.now) }
     ensures rows { IfOk result (λ bag. Alike bag (rows_of tables.now root.now.node.now (bag_in tables.now root.now.below.now) [])) }
     ensures counted { (start : ℕ) → Counted start steps.old count.old → Counted start steps.new count.new }
     ensures took { (kept : ℕ → Bool) → Keeps memo.entry.items kept root.now.below.now → IfOk result (λ bag. Between 1 (counted_by root.now.node.now.parts.kind root.now.node.now (bag_in tables.now root.now.below.now) (asked tables.now kept root.now.below.now) []) steps.old steps.new) }
@@ -156,6 +158,7 @@ pub(crate) fn root_rows<L: Ledger>(
             alloc,
             tables,
             memo: &memo,
+            plans: root.plans,
             indexed: root.indexed,
         };
         return evaluated(&run, root.node, root.below, &Bindings::Empty, steps, count);

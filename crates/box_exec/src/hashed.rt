@@ -1,12 +1,14 @@
 // Rows of selects over kept boxes, found by the hashes of the cells that equalities ask for.
-ghost use Rattle.std.specs.Prelude.{◌≡◌, ◌<◌, ◌++◌, [], All, IfOk, IfSome, OnOk, Some, get_or, length, filter, slice_get, true};
+ghost use Rattle.std.specs.Prelude.{◌≡◌, ◌<◌, ◌+◌, ◌++◌, IfOk, IfSome, OnOk, Some, false, get_or, length, filter, slice_get, true};
 ghost use Rattle.box_exec.specs.Bound.{env_of};
-ghost use Rattle.box_exec.specs.Early.{rejects};
+ghost use Rattle.box_exec.specs.Early.{is_open, rejects};
 ghost use Rattle.box_exec.specs.Hashed as spec;
+ghost use Rattle.box_exec.specs.Lasting.{IsOrder};
 ghost use Rattle.box_exec.specs.Lookup as lookup;
 ghost use Rattle.box_exec.specs.Plans as plan;
-ghost use Rattle.box_exec.specs.Ready.{SubsOf, isnt_F};
+ghost use Rattle.box_exec.specs.Ready.{Fit, SubsOf, isnt_F};
 ghost use Rattle.box_exec.specs.Sources.{rows_held};
+ghost use Rattle.qgm_core.specs.Kinds.{is_enforce};
 ghost use Rattle.qgm_core.specs.declared.kinds.BoxKind.TheVariants as kind;
 ghost use Rattle.qgm_meaning.specs.Meaning as m;
 ghost use Rattle.qgm_meaning.specs.Values.{Environment};
@@ -14,87 +16,22 @@ ghost use Rattle.row_bag.specs.Bags.{Alike, keep};
 
 use crate::bindings::Bindings;
 use crate::boxes::At;
-use crate::early::{Early, is_none, is_open, rejected};
+use crate::early::{is_none, is_open, rejected};
 use crate::found::{Found, found_in};
 use crate::heads::{add_given, once_added};
-use crate::key::{Key, key_in};
-use crate::lookup::{Hashed, hashed_by, way_through};
+use crate::lookup::{Hashed, all_rows, way_through};
+use crate::order::Order;
 use crate::source::{Source, Sub, SubRows};
-use crate::under::{Loop, Under};
-use qgm_core::QuantId;
+use crate::under::{Loop, kept_rows, loops};
 use row_bag::{Bag, Row};
 use row_index::{Way, first_of, next_of};
 use shared_types::OutOfMemory;
 use sql_value::{Level, least};
-use std::alloc::Global;
 
-// What the equalities among the conditions that are tested at a place ask of rows of the last quantifier
-// that is bound there.
-fn keys_of<'a>(
-    alloc: Global,
-    early: &[Early<'a>],
-    place: usize,
-    q: QuantId,
-) -> Result<Vec<Key<'a>>, OutOfMemory>
-    ensures { IfOk result (λ made. All (λ k. lookup.RejectsBy (rejects early.now place) q k) made.items) }
-{
-    let mut made = Vec::new(alloc);
-    for e in early {
-        if e.place == place {
-            if let Some(key) = key_in(alloc, e.cond, q)? {
-                made.push(key)?;
-            }
-        }
-    }
-    Ok(made)
-}
-
-// The rows that are kept under a quantifier; none of a box that is evaluated anew.
-fn kept_rows<'a>(l: &Loop<'a>) -> &'a [Row]
-    ensures { result.now ≡ spec.rows_kept l.now.under }
-{
-    match l.under {
-        Under::Kept(rows) => rows,
-        Under::Open(_, _) | Under::Nothing => &[],
-    }
-}
-
-// The index of the rows of each quantifier of a box that stands behind several rows of others.
-fn all_hashed<'a>(at: &At<'a>) -> Result<Vec<Option<Hashed<'a>>>, OutOfMemory>
-    ensures { IfOk result (λ made. spec.AllHashed at.now made.items) }
-{
-    let mut made = Vec::with_capacity(at.run.alloc, at.loops.len())?;
-    let mut several = false;
-    for i in 0..at.loops.len() {
-        let l = &at.loops[i];
-        let hashed = hashed_if(several && l.range.kind.is_f(), at, i, l)?;
-        made.push(hashed)?;
-        several = several || (l.range.kind.is_f() && kept_rows(l).len() > 1);
-    }
-    Ok(made)
-}
-
-// The index of the rows of the quantifier at a place, if it is asked for.
-fn hashed_if<'a>(
-    wanted: bool,
-    at: &At<'a>,
-    i: usize,
-    l: &Loop<'a>,
-) -> Result<Option<Hashed<'a>>, OutOfMemory>
-    ensures { IfOk result (λ o. IfSome o (λ h. spec.HashesAt at.now i l.now h)) }
-{
-    if !wanted || !at.run.indexed || i == usize::MAX {
-        return Ok(None);
-    }
-    let keys = keys_of(at.run.alloc, at.early, i + 1, l.range.id)?;
-    hashed_by(at.run.alloc, keys, l.range.id, kept_rows(l))
-}
-
-/// A select whose quantifiers all stand on kept rows: indexes of these, and the rows of those that bind none.
+/// A select whose quantifiers all stand on kept rows, and the rows of those that bind none.
 #[derive(Clone, Copy)]
 pub(crate) struct Whole<'a> {
     pub at: &'a At<'a>,
-    pub hashed: &'a [Option<Hashed<'a>>],
     pub subs: &'a [Sub<'a>],
 }
 
@@ -108,20 +45,36 @@ fn hashed_at<'a>(hashed: &'a [Option<Hashed<'a>>], i: usize) -> Option<&'a Hashe
     }
 }
 
-// The way through the rows of the quantifier at a place.
-fn way_of<'a>(
-    whole: &Whole<'a>,
-    i: usize,
-    l: &Loop<'a>,
-    env: &Bindings,
-) -> Result<Way<'a>, OutOfMemory>
-    requires planned { spec.KeptPlan whole.now }
-    requires within { i < length whole.now.at.now.loops.now }
-    requires at { l.now ≡ get_or whole.now.at.now.loops.now i l.now }
-    ensures { IfOk result (λ way. spec.LeadsAt whole.now.at.now i l.now (env_of env.now) way) }
+// The way through the rows that are kept under the quantifier at a place.
+fn way_of<'a>(at: &At<'a>, i: usize, l: &Loop<'_>, env: &Bindings) -> Result<Way<'a>, OutOfMemory>
+    requires bound { plan.Bound at.now }
+    requires within { i < length at.now.loops.now }
+    requires at { l.now ≡ get_or at.now.loops.now i l.now }
+    ensures { IfOk result (λ way. spec.LeadsAt at.now i l.now (env_of env.now) way) }
 {
     let end = kept_rows(l).len();
-    way_through(whole.at.run.alloc, hashed_at(whole.hashed, i), end, env)
+    way_through(at.run.alloc, hashed_at(at.hashed, i), end, env)
+}
+
+/// The way through the rows under the quantifier at a place: past none where its box is evaluated anew. It
+/// fails only for want of memory.
+pub(crate) fn way_under<'a>(
+    at: &At<'a>,
+    i: usize,
+    l: &Loop<'_>,
+    rows: &[Row],
+    env: &Bindings,
+) -> Result<Way<'a>, OutOfMemory>
+    requires planned { plan.Planned at.now }
+    requires within { i < length at.now.loops.now }
+    requires at { l.now ≡ get_or at.now.loops.now i l.now }
+    requires kept { is_open l.now.under ≡ false → rows.now ≡ spec.rows_kept l.now.under }
+    ensures { IfOk result (λ way. lookup.Leads (rejects at.now.early.now (i + 1)) l.now.range.id rows.now (env_of env.now) way) }
+{
+    if is_open(l.under) {
+        return Ok(all_rows(rows.len()));
+    }
+    way_of(at, i, l, env)
 }
 
 // Adds what a select gives for each combination of rows of its F quantifiers from a place on, each
@@ -150,7 +103,7 @@ fn over_kept<'x>(
         return over_kept(whole, place + 1, level, env, out);
     }
     let rows = kept_rows(l);
-    let way = way_of(whole, place, l, env)?;
+    let way = way_of(at, place, l, env)?;
     let mut c = first_of(&way);
     let mut i = c.place();
     while i < way.end {
@@ -243,6 +196,52 @@ pub(crate) fn all_kept(loops: &[Loop<'_>]) -> bool
     !loops.iter().any(|l| is_open(l.under))
 }
 
+// The rows of a select whose quantifiers are bound in this order, over the rows of those that bind none.
+fn bound_in_order(at: &At<'_>, subs: &[Sub<'_>], env: &Bindings) -> Result<Bag, OutOfMemory>
+    requires bound { plan.Bound at.now }
+    requires fit { Fit at.now.node.now at.now.below.now }
+    requires kept { spec.AllKept at.now.loops.now }
+    requires subs { (e : Environment) → SubsOf (plan.family at.now) e (filter isnt_F at.now.node.now.quants) subs.now }
+    ensures { IfOk result (λ bag. Alike bag (m.once_if (is_enforce at.now.node.now.parts.distinct) (plan.left_at at.now 0 (env_of env.now)))) }
+{
+    let whole = Whole {
+        at: &*at,
+        subs: &*subs,
+    };
+    let mut out = Bag::new(at.run.alloc);
+    let added = over_kept(&whole, 0, Level::Yes, &*env, &mut out);
+    once_added(at.node.parts.distinct, added, out)
+}
+
+// The rows of a select whose quantifiers are bound in another order.
+fn reordered_selected(
+    at: &At<'_>,
+    order: &Order<'_>,
+    subs: &[Sub<'_>],
+    env: &Bindings,
+) -> Result<Bag, OutOfMemory>
+    requires planned { plan.Planned at.now }
+    requires kept { spec.AllKept at.now.loops.now }
+    requires order { IsOrder at.now.node.now (plan.stored at.now) order.now }
+    requires subs { (e : Environment) → SubsOf (plan.family at.now) e (filter isnt_F at.now.node.now.quants) subs.now }
+    ensures { IfOk result (λ bag. Alike bag (m.once_if (is_enforce at.now.node.now.parts.distinct) (plan.left_at at.now 0 (env_of env.now)))) }
+{
+    let loops = loops(at.run, &order.ranges, at.below)?;
+    if !all_kept(&loops) {
+        return bound_in_order(at, subs, env);
+    }
+    let other = At {
+        run: &*at.run,
+        node: &*at.node,
+        below: &*at.below,
+        loops: &loops,
+        early: &order.early,
+        hashed: &order.hashed,
+        orders: &[],
+    };
+    bound_in_order(&other, subs, env)
+}
+
 /// The rows of a select whose quantifiers all stand on kept rows. It fails only for want of memory.
 #[inline(never)]
 pub(crate) fn kept_selected(at: &At<'_>, env: &Bindings) -> Result<Bag, OutOfMemory>
@@ -250,19 +249,14 @@ pub(crate) fn kept_selected(at: &At<'_>, env: &Bindings) -> Result<Bag, OutOfMem
     requires kept { spec.AllKept at.now.loops.now }
     ensures { IfOk result (λ bag. Alike bag (m.rows_by kind.Select (plan.tables_of at.now) at.now.node.now (m.quant_rows at.now.node.now (plan.family at.now)) (env_of env.now))) }
 {
-    let hashed = all_hashed(at)?;
     let found = all_found(at)?;
     let finding = Finding {
         at: &*at,
         found: &found,
     };
     let subs = kept_subs(&finding)?;
-    let whole = Whole {
-        at: &*at,
-        hashed: &hashed,
-        subs: &subs,
-    };
-    let mut out = Bag::new(at.run.alloc);
-    let added = over_kept(&whole, 0, Level::Yes, &*env, &mut out);
-    once_added(at.node.parts.distinct, added, out)
+    match at.orders {
+        [order, ..] => reordered_selected(at, order, &subs, env),
+        [] => bound_in_order(at, &subs, env),
+    }
 }

@@ -20,6 +20,8 @@ mod laws;
 mod lookup;
 mod memo;
 mod operand;
+mod order;
+mod plan;
 mod source;
 mod under;
 

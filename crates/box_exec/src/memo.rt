@@ -1,10 +1,12 @@
 // The rows of closed boxes, each evaluated once.
-ghost use Rattle.std.specs.Prelude.{◌≡◌, ◌&&◌, [], ℕ, Bool, IfOk, Some, if◌then◌else◌, true};
+ghost use Rattle.std.specs.Prelude.{◌≡◌, ◌&&◌, ◌∷◌, [], ℕ, Bool, IfOk, Some, if◌then◌else◌, true};
 ghost use Rattle.box_exec.specs.Beyond.{LooksNowhere};
 ghost use Rattle.box_exec.specs.Costs.{Between, Keeps, asked, is_held};
 ghost use Rattle.box_exec.specs.Counted.{Counted};
 ghost use Rattle.box_exec.specs.Kept.{KeptAs, is_nil, kept_costs, kept_number};
+ghost use Rattle.box_exec.specs.Lasting.{AllPlanned, PlanFits};
 ghost use Rattle.box_exec.specs.Ready.{AllFit, Entry, Fit, Holds, Ready};
+ghost use Rattle.qgm_core.specs.declared.node.Node.{Node};
 ghost use Rattle.list_laws.specs.Lists.{holds};
 ghost use Rattle.qgm_meaning.specs.Meaning.{bag_in};
 ghost use Rattle.qgm_meaning.specs.Plain.{counted_by};
@@ -13,8 +15,9 @@ use crate::beyond::beyond;
 use crate::bindings::Bindings;
 use crate::boxes::{evaluated, step};
 use crate::handed_on::lent;
+use crate::plan::{Plan, plan_of};
 use crate::source::Source;
-use crate::under::{BoxOver, Run, behind, table_rows};
+use crate::under::{BoxOver, Run, behind, loops, table_rows};
 use qgm_core::{BoxId, BoxKind, Marks, Node, QuantId};
 use row_bag::Tables;
 use shared_types::OutOfMemory;
@@ -35,6 +38,7 @@ fn entry<'t, L: Ledger>(
     requires ready { Ready tables.now memo.now place.now.below.now }
     requires fit { Fit place.now.node.now place.now.below.now }
     requires closed { LooksNowhere place.now.node.now place.now.below.now }
+    requires plans { AllPlanned memo.now place.now.plans.now (place.now.node.now ∷ place.now.below.now) }
     ensures rows { IfOk result (λ s. Holds tables.now place.now.node.now place.now.below.now s) }
     ensures counted { (start : ℕ) → Counted start steps.old count.old → Counted start steps.new count.new }
     ensures took { (kept : ℕ → Bool) → Keeps memo.now kept place.now.below.now → IfOk result (λ s. Between 1 (counted_by place.now.node.now.parts.kind place.now.node.now (bag_in tables.now place.now.below.now) (asked tables.now kept place.now.below.now) []) steps.old steps.new) }
@@ -53,6 +57,7 @@ fn entry<'t, L: Ledger>(
                 alloc,
                 tables,
                 memo,
+                plans: place.plans,
                 indexed: place.indexed,
             };
             let rows = evaluated(
@@ -81,6 +86,7 @@ fn entry_if<'t, L: Ledger>(
     requires ready { Ready tables.now memo.now place.now.below.now }
     requires fit { Fit place.now.node.now place.now.below.now }
     requires closed { keep ≡ true → LooksNowhere place.now.node.now place.now.below.now }
+    requires plans { AllPlanned memo.now place.now.plans.now (place.now.node.now ∷ place.now.below.now) }
     ensures rows { IfOk result (λ o. Entry tables.now place.now.node.now place.now.below.now (Some o)) }
     ensures counted { (start : ℕ) → Counted start steps.old count.old → Counted start steps.new count.new }
     ensures held { IfOk result (λ o. is_held (Some o) ≡ keep) }
@@ -105,39 +111,71 @@ fn is_kept(names: &[QuantId], marks: &Marks, b: BoxId) -> bool
     }
 }
 
+// The plan of a box, if it is to be evaluated again and again.
+fn plan_if<'n>(
+    again: bool,
+    run: &Run<'_>,
+    node: &'n Node,
+    below: &[Node],
+) -> Result<Option<Plan<'n>>, OutOfMemory>
+    requires { Ready run.now.tables.now run.now.memo.now below.now }
+    ensures { IfOk result (λ o. PlanFits run.now.memo.now node.now below.now (Some o)) }
+{
+    if !again {
+        return Ok(None);
+    }
+    let loops = loops(run, node.quants.as_slice(), below)?;
+    let plan = plan_of(run, node, below, &loops, true)?;
+    Ok(Some(plan))
+}
+
 /// The rows of those of these boxes that are marked and name nothing beyond themselves, each evaluated
-/// once, from the last. It fails only for want of memory.
-pub(crate) fn memo_of<'t, L: Ledger>(
+/// once, from the last; and the plans of the other marked boxes. It fails only for want of memory.
+pub(crate) fn memo_of<'t, 'n, L: Ledger>(
     alloc: Global,
-    nodes: &[Node],
+    nodes: &'n [Node],
     tables: &'t Tables,
     marks: &Marks,
     indexed: bool,
     steps: &mut Steps<L>,
     count: &mut u64,
-) -> Result<Vec<Option<Source<'t>>>, OutOfMemory>
+) -> Result<(Vec<Option<Source<'t>>>, Vec<Option<Plan<'n>>>), OutOfMemory>
     requires { AllFit nodes.now }
-    ensures ready { IfOk result (λ memo. Ready tables.now memo.items nodes.now) }
+    ensures ready { IfOk result (λ made. Ready tables.now made.0.items nodes.now) }
+    ensures plans { (n : Node) → IfOk result (λ made. AllPlanned made.0.items made.1.items (n ∷ nodes.now)) }
     ensures counted { (start : ℕ) → Counted start steps.old count.old → Counted start steps.new count.new }
-    ensures keeps { (kept : ℕ → Bool) → KeptAs kept marks.now nodes.now → IfOk result (λ memo. Keeps memo.items kept nodes.now) }
-    ensures took { (kept : ℕ → Bool) → KeptAs kept marks.now nodes.now → IfOk result (λ memo. Between (kept_number kept nodes.now) (kept_costs tables.now kept nodes.now) steps.old steps.new) }
+    ensures keeps { (kept : ℕ → Bool) → KeptAs kept marks.now nodes.now → IfOk result (λ made. Keeps made.0.items kept nodes.now) }
+    ensures took { (kept : ℕ → Bool) → KeptAs kept marks.now nodes.now → IfOk result (λ made. Between (kept_number kept nodes.now) (kept_costs tables.now kept nodes.now) steps.old steps.new) }
 {
     let mut named: Vec<Vec<QuantId>> = Vec::new(alloc);
     let mut memo = Vec::new(alloc);
+    let mut plans = Vec::new(alloc);
     let mut i = nodes.len();
     'boxes: while i > 0 {
         i -= 1;
+        let node = &nodes[i];
         let below = behind(nodes, i);
         let place = BoxOver {
-            node: &nodes[i],
+            node,
             below,
+            plans: &plans,
             indexed,
         };
-        let names = beyond(alloc, place.node, below, &named)?;
-        let keep = is_kept(&names, marks, place.node.id);
+        let names = beyond(alloc, node, below, &named)?;
+        let keep = is_kept(&names, marks, node.id);
         let rows = entry_if(keep, alloc, tables, &memo, &place, steps, count)?;
+        let run = Run {
+            alloc,
+            tables,
+            memo: &memo,
+            plans: &plans,
+            indexed,
+        };
+        let again = !keep && marks.has(node.id);
+        let plan = plan_if(again, &run, node, below)?;
         named.push(names)?;
         memo.push(rows)?;
+        plans.push(plan)?;
     }
-    Ok(memo)
+    Ok((memo, plans))
 }

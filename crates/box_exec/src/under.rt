@@ -1,32 +1,36 @@
 // What stands under the quantifiers of a box.
 ghost use Rattle.std.specs.Prelude.{◌≡◌, ◌+◌, ◌<◌, All, None, false, IfOk, IfSome, drop, length, map, position, slice_get};
 ghost use Rattle.box_exec.specs.Costs.{is_held};
+ghost use Rattle.box_exec.specs.Lasting.{rows_kept, rows_stored};
 ghost use Rattle.box_exec.specs.Ready.{Held, Ready, Stands};
 ghost use Rattle.qgm_core.specs.Boxes.{is_box};
 ghost use Rattle.qgm_meaning.specs.Meaning.{rows_or_none};
 ghost use Rattle.row_bag.specs.Tables.{bag_named};
 
+use crate::plan::Plan;
 use crate::source::Source;
 use qgm_core::{BoxId, Node, OwnedQuant};
 use row_bag::{Row, Tables};
 use shared_types::{OutOfMemory, Text};
 use std::alloc::Global;
 
-/// What all evaluations read. The entry at i of the memo is of the box with i boxes behind it. Rows are
-/// looked up in indexes or not.
+/// What all evaluations read. The entry at i of the memo is of the box with i boxes behind it, and so is the
+/// plan at i. Rows are looked up in indexes or not.
 #[derive(Clone, Copy)]
 pub(crate) struct Run<'a> {
     pub alloc: Global,
     pub tables: &'a Tables,
     pub memo: &'a [Option<Source<'a>>],
+    pub plans: &'a [Option<Plan<'a>>],
     pub indexed: bool,
 }
 
-/// A box, those behind it, and whether rows are looked up in indexes.
+/// A box, those behind it, the plans of these, and whether rows are looked up in indexes.
 #[derive(Clone, Copy)]
 pub(crate) struct BoxOver<'a> {
     pub node: &'a Node,
     pub below: &'a [Node],
+    pub plans: &'a [Option<Plan<'a>>],
     pub indexed: bool,
 }
 
@@ -85,7 +89,8 @@ pub(crate) fn kept<'a>(memo: &'a [Option<Source<'_>>], i: usize) -> Option<&'a [
 // What stands under a quantifier that ranges over this box.
 fn find_under<'a>(run: &'a Run<'a>, below: &'a [Node], b: BoxId) -> Under<'a>
     requires { Ready run.now.tables.now run.now.memo.now below.now }
-    ensures { Stands run.now.tables.now run.now.memo.now below.now b result }
+    ensures stands { Stands run.now.tables.now run.now.memo.now below.now b result }
+    ensures kept { rows_kept result ≡ rows_stored run.now.memo.now below.now b }
 {
     let Some(i) = place_of(below, b) else {
         return Under::Nothing;
@@ -106,6 +111,7 @@ pub(crate) fn loops<'a>(
     requires { Ready run.now.tables.now run.now.memo.now below.now }
     ensures ranges { IfOk result (λ made. map (λ l. l.range) made.items ≡ ranges.now) }
     ensures stand { IfOk result (λ made. All (λ l. Stands run.now.tables.now run.now.memo.now below.now l.range.over l.under) made.items) }
+    ensures kept { IfOk result (λ made. All (λ l. rows_kept l.under ≡ rows_stored run.now.memo.now below.now l.range.over) made.items) }
 {
     let mut made = Vec::with_capacity(run.alloc, ranges.len())?;
     for range in ranges {
@@ -115,4 +121,14 @@ pub(crate) fn loops<'a>(
         })?;
     }
     Ok(made)
+}
+
+/// The rows that are kept under a quantifier; none of a box that is evaluated anew.
+pub(crate) fn kept_rows<'a>(l: &Loop<'a>) -> &'a [Row]
+    ensures { result.now ≡ rows_kept l.now.under }
+{
+    match l.under {
+        Under::Kept(rows) => rows,
+        Under::Open(_, _) | Under::Nothing => &[],
+    }
 }

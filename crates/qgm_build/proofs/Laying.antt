@@ -1,5 +1,5 @@
 -- What is laid for a checked query is what is laid for its text.
-use Rattle.std.proofs.Common.{◌≡◌, ◌++◌, ℕ, true, false, cond, List, [], ◌∷◌, map, length, Option, Some, refl, ap, ap₂, sym, ◌∙◌, subst, suc}
+use Rattle.std.proofs.Common.{◌≡◌, ◌++◌, ℕ, true, false, cond, List, [], ◌∷◌, map, length, Option, Some, refl, ap, ap₂, sym, ◌∙◌, subst, suc, ◌+◌, ◌≤◌, arith}
 use Rattle.row_bag.specs.declared.tables.Table.{Table}
 use Rattle.sql_ast.specs.Declarations.{columns_of, table_named}
 use Rattle.sql_ast.specs.Names.{same_name}
@@ -21,7 +21,10 @@ use Rattle.sql_faults.specs.Columns.{columns_or_none}
 use Rattle.sql_faults.specs.Views.{typed, typed_columns, view_named}
 use Rattle.sql_faults.specs.declared.column.TypedColumn.{TypedColumn}
 use Rattle.sql_faults.specs.declared.view.ViewHead.{ViewHead}
+use Rattle.qgm_box_size.specs.Nodes.{boxes_size}
+use Rattle.qgm_build_terms.specs.Most.{most_nodes}
 use Rattle.qgm_core.specs.Boxes.{QueryGraph}
+use Rattle.qgm_core.specs.declared.node.Node.{Node}
 use Rattle.qgm_translation.specs.Lay.{Boxes, Laid, lay_by}
 use Rattle.qgm_translation.specs.Whole.{graph_of, lay_read, lay_whole, nothing_laid}
 use Rattle.qgm_meaning.specs.Meaning.{root_bag}
@@ -113,3 +116,7 @@ module _ (catalog : Catalog) (views : Views) (checked : Checked) (of : IsQueryOf
   rows_is law right x e tables fit =
       ((right_is law right x e of.text of.is).rows tables fit).places
       ∙ sym (ap₂ (λ (vs : List ViewTree) (y : Query). rows (known_of vs tables) y []) of.views.bodies of.is.query)
+
+-- its boxes are those that were made, beside which so much is left
+pub few_is : (g : QueryGraph) (made : List Node) (left : ℕ) → g.boxes ≡ made → boxes_size made + left ≤ most_nodes → boxes_size g.boxes ≤ most_nodes
+few_is g made left e h = let k = ap boxes_size e in omega (arith, h, k)

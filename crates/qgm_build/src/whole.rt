@@ -1,9 +1,12 @@
 // The graph of a valid query.
-ghost use Rattle.std.specs.Prelude.{◌≡◌, ℕ, List, [], ◌∷◌, None, IfOk, OnOk, map};
+ghost use Rattle.std.specs.Prelude.{◌≡◌, ◌≤◌, ℕ, List, [], ◌∷◌, None, IfOk, OnOk, map};
 ghost use Rattle.row_bag.specs.declared.tables.Table.{Table};
 ghost use Rattle.sql_catalog.specs.Shown as declared;
 ghost use Rattle.sql_check.specs.Checked.{rows_of};
 ghost use Rattle.sql_meaning.specs.ResolvedShown as shown;
+ghost use Rattle.qgm_box_size.specs.Nodes.{boxes_size};
+ghost use Rattle.qgm_build_size.specs.Sizes.{query_size};
+ghost use Rattle.qgm_build_terms.specs.Most.{most_nodes};
 ghost use Rattle.qgm_core.specs.Free.{Reaches};
 ghost use Rattle.list_laws.specs.Lists.{In};
 ghost use Rattle.qgm_core.specs.declared.node.Node.{Node};
@@ -24,8 +27,8 @@ use crate::base::base_table;
 use crate::lay::query;
 use crate::named::named_of;
 use crate::reads::reads;
-use qgm_build_size::{MOST, left_after};
-use qgm_build_terms::{Ground, Names, Scopes, Shared, Store, put};
+use qgm_build_size::fits;
+use qgm_build_terms::{Ground, Names, Scopes, Shared, Store, most_nodes, put};
 use qgm_core::{BoxId, BoxKind, Conds, Graph, Head, Owned};
 use qgm_translation_laws::laid_graph_laws;
 use shared_types::{OutOfMemory, Text};
@@ -117,11 +120,12 @@ fn lay_tables(
     Ok(())
 }
 
-// Lays a query, where the terms and conditions that it is written with may still be.
+// Lays a query, where as many nodes as it is written with may still be made.
 fn lay_within(g: &Ground<'_>, x: &Query, st: &mut Store) -> Result<BoxId, OutOfMemory>
-    ensures { IfOk result (λ b. Gives (query_laid g.now (shown.query x.now) (so_far st.old)) b (so_far st.new)) }
+    ensures laid { IfOk result (λ b. Gives (query_laid g.now (shown.query x.now) (so_far st.old)) b (so_far st.new)) }
+    ensures written { OnOk result (query_size (shown.query x.now) ≤ st.old.left) }
 {
-    st.left = left_after(x, st.left)?;
+    fits(x, st.left)?;
     query(g, x, st)
 }
 
@@ -205,7 +209,7 @@ fn empty_store(alloc: Global) -> Result<Store, OutOfMemory>
         types: Vec::new(alloc),
         rows,
         shared: Vec::new(alloc),
-        left: MOST,
+        left: most_nodes(),
     })
 }
 
@@ -223,7 +227,8 @@ fn lay_whole(
     catalog: &Catalog,
     views: &Views,
 ) -> Result<Whole, OutOfMemory>
-    ensures { IfOk result (λ w. Gives (whole catalog.now views.now checked.now) w.root (so_far w.store)) }
+    ensures laid { IfOk result (λ w. Gives (whole catalog.now views.now checked.now) w.root (so_far w.store)) }
+    ensures written { OnOk result (query_size (shown.query checked.now.query) ≤ most_nodes) }
 {
     let named = named_of(alloc, catalog, views)?;
     let names = Names { named: &named };
@@ -255,8 +260,9 @@ fn graph_laid(alloc: Global, checked: &Checked, w: Whole) -> Result<Graph, OutOf
 }
 
 /// The graph of a valid query: the boxes of the tables and the views that it reads, each once, and of
-/// the query itself. It is built of the query, well-formed and reached from its root, and its root's
-/// bag is the query's rows. It fails only for want of memory.
+/// the query itself. It is built of the query, well-formed and reached from its root, its root's bag is
+/// the query's rows, and its cells and conditions have no more than `most_nodes` nodes. It fails only for
+/// want of memory, which more nodes are taken to be.
 pub fn build(
     alloc: Global,
     checked: &Checked,
@@ -270,6 +276,8 @@ pub fn build(
     ensures formed { IfOk result (λ g. fault g ≡ None) }
     ensures reaches { IfOk result (λ g. (n : Node) → In n g.boxes → Reaches g.boxes g.root n.id) }
     ensures rows { IfOk result (λ g. (tables : List Table) → AreTablesOf (declared.catalog catalog.now) tables → root_bag tables g ≡ rows_of views.now checked.now tables) }
+    ensures few { IfOk result (λ g. boxes_size g.boxes ≤ most_nodes) }
+    ensures written { OnOk result (query_size (shown.query checked.now.query) ≤ most_nodes) }
 {
     laid_graph_laws();
     let w = lay_whole(alloc, checked, catalog, views)?;

@@ -3,4 +3,4 @@
 
 mod sizes;
 
-pub use sizes::{MOST, left_after};
+pub use sizes::fits;

@@ -1,15 +1,11 @@
 // How many nodes the cells and conditions have that a query is written with, abbreviations written out.
 // A copy doubles what it is made of, so nested abbreviations can ask for more than there is memory.
-ghost use Rattle.std.specs.Prelude.{◌≡◌, ◌+◌, suc, true, IfOk, IsOkAnd};
+ghost use Rattle.std.specs.Prelude.{◌≡◌, ◌≤◌, ◌+◌, suc, true, IfOk, OnOk, IsOkAnd};
 ghost use Rattle.sql_meaning.specs.ResolvedShown as shown;
 ghost use Rattle.qgm_build_size.specs.Sizes as spec;
 
 use shared_types::OutOfMemory;
 use sql_meaning::{Addend, Arm, Choice, From, Multiplier, Query, Test, Value};
-
-/// How many nodes and columns the boxes of a graph may be written with. Past them the answer is want of
-/// memory.
-pub const MOST: usize = 4_194_304;
 
 /// How many nodes a part of a query is written with: its own, where a subquery or an aggregate is one,
 /// and those of the boxes below it, which are made once however often it is written.
@@ -478,10 +474,13 @@ fn query(x: &Query) -> Result<usize, OutOfMemory>
     }
 }
 
-/// What is left of so many nodes after those that a query is written with. It fails where they are
-/// more.
-pub fn left_after(x: &Query, left: usize) -> Result<usize, OutOfMemory>
-    ensures { IfOk result (λ n. n + spec.query_size (shown.query x.now) ≡ left) }
+/// That a query is written with no more than so many nodes. It fails where they are more.
+pub fn fits(x: &Query, most: usize) -> Result<(), OutOfMemory>
+    ensures { OnOk result (spec.query_size (shown.query x.now) ≤ most) }
 {
-    left.checked_sub(query(x)?).ok_or(OutOfMemory)
+    if query(x)? <= most {
+        Ok(())
+    } else {
+        Err(OutOfMemory)
+    }
 }

@@ -1,5 +1,6 @@
 -- A box that is made last stands on top.
-use Rattle.std.proofs.Common.{◌≡◌, ◌+◌, ℕ, suc, List, [], ◌∷◌, ◌++◌, length, Bool, refl, ap, ap₂, arith, ◌∙◌}
+use Rattle.std.proofs.Common.{◌≡◌, ◌+◌, ◌≤◌, ℕ, suc, List, [], ◌∷◌, ◌++◌, length, Bool, refl, ap, ap₂, arith, ◌∙◌}
+use Rattle.qgm_box_size.specs.Nodes.{boxes_size, cells_size, conjuncts_size}
 use Rattle.qgm_core.specs.Made.{boxes_of, made_box, on_top}
 use Rattle.qgm_core.specs.declared.made.NewBox.{NewBox}
 use Rattle.qgm_core.specs.declared.node.Node.{Node}
@@ -13,6 +14,7 @@ use Rattle.qgm_translation.specs.Shown.{distinct_of}
 use Rattle.sql_value.specs.declared.order_key.SqlType.{SqlType}
 use Rattle.qgm_translation.specs.Lay.{Boxes, SharedBox, column_types}
 use Rattle.qgm_translation.specs.Lay as y
+use Rattle.qgm_build_terms.specs.Most.{most_nodes}
 
 on_top_more : (b : ℕ) (xs : List NewBox) (n : NewBox) (below : List Node) → on_top b (xs ++ n ∷ []) below ≡ made_box (length xs + b) n ∷ on_top b xs below
 on_top_more b [] n below =
@@ -26,6 +28,13 @@ pub stacked : (xs : List NewBox) (n : NewBox) → boxes_of (xs ++ n ∷ []) ≡ 
 stacked xs n =
     let e : length xs + 0 ≡ length xs = omega arith in
     on_top_more 0 xs n [] ∙ ap (λ k. made_box k n ∷ boxes_of xs) e
+
+-- it takes its nodes off what is left
+pub counted_more : (xs new : List NewBox) (n : NewBox) (left rest : ℕ) → new ≡ xs ++ n ∷ [] → rest + (cells_size n.parts.head + conjuncts_size n.parts.conds.items) ≡ left → boxes_size (boxes_of xs) + left ≤ most_nodes
+    → boxes_size (boxes_of new) + rest ≤ most_nodes
+counted_more xs new n left rest is e h =
+    let same : boxes_size (boxes_of new) ≡ (cells_size n.parts.head + conjuncts_size n.parts.conds.items) + boxes_size (boxes_of xs) = ap (λ (zs : List NewBox). boxes_size (boxes_of zs)) is ∙ ap boxes_size (stacked xs n) in
+    omega (arith, same, e, h)
 
 one_more : (xs : List NewBox) (n : NewBox) → length (xs ++ n ∷ []) ≡ suc (length xs)
 one_more [] n = refl

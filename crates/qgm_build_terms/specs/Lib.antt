@@ -6,3 +6,4 @@ pub mod SoFar
 pub mod Making
 pub mod Site
 pub mod Folds
+pub mod Most

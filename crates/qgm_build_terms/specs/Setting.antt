@@ -16,7 +16,7 @@ use Rattle.qgm_build_terms.specs.Written.{frame_of, map_of}
 use Rattle.qgm_build_terms.specs.declared.setting.Named.{Named}
 use Rattle.qgm_build_terms.specs.declared.setting.Known.{Known}
 use Rattle.qgm_build_terms.specs.declared.setting.Names.{Names}
-use Rattle.qgm_build_terms.specs.declared.store.Shared.{Shared}
+use Rattle.qgm_build_terms.specs.declared.made.Shared.{Shared}
 use Rattle.qgm_build_terms.specs.declared.setting.Setting.{Setting}
 
 -- the first of a name

@@ -6,8 +6,8 @@ ghost use Rattle.qgm_build_terms.specs.Site.{sources_at};
 ghost use Rattle.qgm_build_terms.specs.SoFar.{so_far};
 ghost use Rattle.qgm_build_terms.specs.Written.{frame_of, map_of};
 
+use crate::made::{Shared, Store};
 use crate::seen::{Scopes, Seen};
-use crate::store::{Shared, Store};
 use shared_types::Text;
 use sql_value::SqlType;
 use sqlite_items::Items;

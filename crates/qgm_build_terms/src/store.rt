@@ -1,4 +1,4 @@
-// The boxes that were made so far.
+// Boxes and quantifiers that are added to those that were made so far.
 ghost use Rattle.std.specs.Prelude.{◌≡◌, ◌++◌, ◌∷◌, [], IfOk, OnOk, get_or, map};
 ghost use Rattle.qgm_terms.specs.Shown.{terms};
 ghost use Rattle.qgm_terms.specs.Terms.{col};
@@ -11,6 +11,8 @@ ghost use Rattle.qgm_build_terms.specs.Making.{Gives, Takes, draws};
 ghost use Rattle.qgm_build_terms.specs.SoFar.{so_far};
 
 use crate::boxes::push;
+use crate::left::left_after_box;
+use crate::made::Store;
 use crate::types::type_of;
 use qgm_core::{
     BoxId, BoxKind, BoxParts, Conds, Distinct, Gx, Head, NewBox, Owned, OwnedQuant, QuantId,
@@ -20,27 +22,6 @@ use shared_types::{OutOfMemory, Text};
 use sql_value::SqlType;
 use sqlite_items::Items;
 use std::alloc::Global;
-
-/// The box that all share who name a table or a view.
-#[derive(Drop)]
-pub struct Shared {
-    pub name: Text,
-    pub number: BoxId,
-}
-
-/// The boxes so far, each with a number that is its place, and the next number of a quantifier; the
-/// types of the columns of boxes and of quantifiers, by their numbers, and the boxes of tables and views;
-/// and how many terms, conditions and columns of boxes may still be written. Contracts see it as the
-/// `Boxes` that it is.
-#[derive(Drop)]
-pub struct Store {
-    pub made: Vec<NewBox>,
-    pub next_quant: QuantId,
-    pub types: Vec<Items<SqlType>>,
-    pub rows: Vec<Items<SqlType>>,
-    pub shared: Vec<Shared>,
-    pub left: usize,
-}
 
 /// The number of the box that all share who name a table or a view; 0 where there is none.
 pub fn number_named(st: &Store, name: &Text) -> BoxId
@@ -149,23 +130,21 @@ fn types_of(
     }
 }
 
-// Adds the types of the columns of a box, if as many as it has may still be written.
+// Adds the types of the columns of a box.
 fn add_types(
     alloc: Global,
     rows: &[Items<SqlType>],
     kind: &BoxKind,
     head: &Head,
-    left: &mut usize,
     out: &mut Vec<Items<SqlType>>,
 ) -> Result<(), OutOfMemory>
     ensures { OnOk result (out.new.items ≡ out.old.items ++ column_types rows.now kind.now head.now ∷ []) }
 {
     let types = types_of(alloc, rows, kind, head)?;
-    *left = left.checked_sub(types.len()).ok_or(OutOfMemory)?;
     push(out, types)
 }
 
-/// Makes a plain box on top of all, if as many columns as it has may still be written.
+/// Makes a plain box on top of all, if as many nodes as it has may still be made.
 pub fn put(
     alloc: Global,
     st: &mut Store,
@@ -179,7 +158,8 @@ pub fn put(
     ensures { IfOk result (λ b. Gives (spec.put kind distinct conds.items head quants (so_far st.old)) b (so_far st.new)) }
 {
     let id = st.made.len();
-    let typed = add_types(alloc, &st.rows, &kind, &head, &mut st.left, &mut st.types);
+    let left = left_after_box(&head, &conds, st.left)?;
+    add_types(alloc, &st.rows, &kind, &head, &mut st.types)?;
     let parts = BoxParts {
         kind,
         distinct: distinct_of(distinct),
@@ -187,7 +167,7 @@ pub fn put(
         conds,
         head,
     };
-    let pushed = push(&mut st.made, NewBox { parts, quants });
-    typed.and(pushed)?;
+    st.made.push(NewBox { parts, quants })?;
+    st.left = left;
     Ok(id)
 }

@@ -247,7 +247,8 @@ module _ (xs ys : List Node) (root : ℕ) (w : Sound (xs ++ ys) root) (t : Typed
   as-c : (q : ℕ) → look s.id q ≡ loose bs c.id q
   as-c = ip.as-c xs ys root w s o c r m.interposes
 
-  less : (u : Node) → In u bs → (q : ℕ) → loose hs u.id q ≡ true → loose bs u.id q ≡ true
+  -- a box that was there looks up no more than it did
+  pub less : (u : Node) → In u bs → (q : ℕ) → loose hs u.id q ≡ true → loose bs u.id q ≡ true
   less u i q h = sym (as-was u.id q (apart u i)) ∙ bounded look hs v.once (λ n j. (let y = in-map g n all j in subst (λ z. Scoped look z) y.1.1 (ip.scoped-all xs ys root w s o c r m.interposes y.0 y.1.0))) u.id q h
 
   asks-s : (q : ℕ) → look s.id q ≡ true → (owns q s ≡ false) × ((read_by s q ≡ true) ⊎ ((p : OwnedQuant) × (In p s.quants × (look p.over q ≡ true))))

@@ -6,7 +6,12 @@ use Rattle.sql_value.specs.declared.order_key.OrderKey.{OrderKey}
 use Rattle.sql_value.specs.declared.order_key.SqlType.{SqlType}
 use Rattle.sql_names.specs.Resolved.{query}
 use Rattle.sql_names.specs.Schema.{schema_columns, view_trees}
+use Rattle.graph_alike.specs.Alike.{SameButNumbers}
+use Rattle.graph_alike.specs.OneToOne.{AreOneToOne}
+use Rattle.graph_alike.proofs.OneText.{checked-text}
+use Rattle.graph_print.specs.GraphText.{text_of}
 use Rattle.qgm_core.specs.Boxes.{QueryGraph}
+use Rattle.qgm_edit_laws.proofs.WellFormedKept.{numbers-once}
 use Rattle.qgm_terms.specs.Terms.{Term}
 use Rattle.qgm_translation.specs.Lay.{Laid, box_named}
 use Rattle.qgm_translation.specs.Sources.{Sources}
@@ -16,7 +21,6 @@ use Rattle.qgm_translation.specs.WholeLaw.{IsLaidFor}
 use Rattle.qgm_translation.proofs.Graphs.{is-laid-for}
 use Rattle.qgm_translation_laws.specs.Joined.{IsFormed, ValidQuery, stated_types}
 use Rattle.qgm_translation_laws.specs.Laid.{IsGraphOf, IsRight, graph_tables, known_in, laid_for}
-use Rattle.qgm_translation_laws.specs.OneToOne.{AreOneToOne}
 use Rattle.qgm_translation_laws.specs.Sources.{sources_of}
 use Rattle.qgm_translation_laws.proofs.Joined.{valid_formed}
 use Rattle.qgm_translation_laws.proofs.LaidOver.{deep_in, valid_over}
@@ -27,7 +31,6 @@ use Rattle.qgm_translation_laws.proofs.Roots.{valid_rows}
 use Rattle.qgm_translation_laws.proofs.SchemaSources.{schema_sources_typed}
 use Rattle.qgm_translation_laws.proofs.Together.{same-graphs}
 use Rattle.qgm_translation_laws.proofs.TypingSchemas.{text_has_types}
-use Rattle.qgm_translation_laws.specs.Alike.{SameButNumbers}
 use Rattle.qgm_translation_laws.specs.Typing.{kinds_of}
 use Rattle.sql_faults.specs.Views.{heads_of}
 
@@ -76,3 +79,9 @@ pub graphs_alike : (catalog : Declared) (text : s.QueryText) (names : List (Opti
 graphs_alike catalog text names order g h valid first second =
     same-graphs (kinds_of (heads_of catalog)) (sources_of catalog first.shared first.typed) second.shared second.typed (query (schema_columns catalog) [] text.query) (stated_types catalog text) names order g h first.built second.built
     first.stands.ordered second.stands.ordered first.stands.once second.stands.once (schema_sources_typed catalog first.shared first.typed valid.schema) first.stands.told second.stands.told (text_has_types catalog valid.schema text valid.grammar valid.valid)
+
+pub graphs_print_alike : (catalog : Declared) (text : s.QueryText) (names : List (Option (List ℕ))) (order : List OrderKey) (g h : QueryGraph) → ValidQuery catalog text → IsGraphOf catalog text names order g → IsGraphOf catalog text names order h
+    → text_of g ≡ text_of h
+graphs_print_alike catalog text names order g h valid first second =
+    checked-text g h (numbers-once g.boxes first.stands.ordered) (numbers-once h.boxes second.stands.ordered) (graph_right catalog text names order g valid first).formed
+    (graph_right catalog text names order h valid second).formed (graphs_alike catalog text names order g h valid first second) (graphs_one_to_one catalog text names order g h first second)

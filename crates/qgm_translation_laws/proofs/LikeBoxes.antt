@@ -17,7 +17,7 @@ use Rattle.qgm_translation.specs.Shown as v
 use Rattle.qgm_translation.specs.Shown.{Thing, of_groups, of_operand, of_query, of_rows, refs}
 use Rattle.qgm_translation.specs.Sources.{Sources, from_width}
 use Rattle.qgm_translation.specs.Terms as l
-use Rattle.qgm_translation_laws.specs.Alike.{Like, LikeBox, LikeConds, LikeHeads, like_int}
+use Rattle.graph_alike.specs.Alike.{Like, LikeBox, LikeConds, LikeHeads, like_int}
 use Rattle.sql_catalog.proofs.EachLaws.{Each, each_left, each_right}
 use Rattle.qgm_translation_laws.proofs.LikeParts as parts
 use Rattle.qgm_translation_laws.proofs.LikeParts.{LikeThing, Pairs, all-on-like, all-ons-like, fold-cells, fold-terms, frame-both, frame-heads, froms-like, heads-both, keys-like, like-conds, like-heads, like-quants, like_groups, like_rows, on-like, past-all-pairs, plain-cells, refs-like, rest-pairs, same_operand, same_query, subs-served, width-same}

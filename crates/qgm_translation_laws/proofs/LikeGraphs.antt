@@ -16,7 +16,7 @@ use Rattle.qgm_translation.specs.Shown as v
 use Rattle.qgm_translation.specs.Shown.{Shows, ShowsBox, Thing, of_query}
 use Rattle.qgm_translation.specs.Sources.{Sources}
 use Rattle.qgm_edit_laws.proofs.Ranks.{same-box}
-use Rattle.qgm_translation_laws.specs.Alike.{Like, LikeBox, Meets, OwnedAt, SameButNumbers, Stands, roots, stands, under}
+use Rattle.graph_alike.specs.Alike.{Like, LikeBox, Meets, OwnedAt, SameButNumbers, Stands, roots, stands, under}
 use Rattle.qgm_translation_laws.proofs.LikeBoxes.{thing-like}
 use Rattle.qgm_translation_laws.proofs.LikeKids.{thing-kids}
 use Rattle.qgm_translation_laws.proofs.LikeParts as parts

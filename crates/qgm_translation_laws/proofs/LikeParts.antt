@@ -15,7 +15,7 @@ use Rattle.qgm_translation.specs.Shown as v
 use Rattle.qgm_translation.specs.Shown.{Thing, of_groups, of_operand, of_query, of_rows, refs}
 use Rattle.qgm_translation.specs.Sources.{Sources, from_width, width}
 use Rattle.qgm_translation.specs.Terms as l
-use Rattle.qgm_translation_laws.specs.Alike.{Like, LikeConds, LikeHeads, LikeQuants, OwnedAt, like_col, like_count, like_fold}
+use Rattle.graph_alike.specs.Alike.{Like, LikeConds, LikeHeads, LikeQuants, OwnedAt, like_col, like_count, like_fold}
 use Rattle.sql_catalog.proofs.EachLaws.{Each, each_left, each_right}
 use Rattle.qgm_translation_laws.proofs.LikeTerms.{LikeFrame, LikeLeaves, LikeMap, LikeRef, Parted, Served, cond-like, conds-both, leaves-both, like_aggregate, like_counted, like_sub, no_leaf, ref-like, served-both, split-like, test-like, unsplit}
 

@@ -18,7 +18,7 @@ use Rattle.qgm_translation.specs.Leaves.{Leaf, Slots, after, first_cell, first_q
 use Rattle.qgm_translation.specs.Maps.{Frame, Map, Ref, column, none_counted, nothing, ref_term}
 use Rattle.qgm_translation.specs.Sources.{Sources}
 use Rattle.qgm_translation.specs.Terms as l
-use Rattle.qgm_translation_laws.specs.Alike.{Like, LikeArms, LikeCond, LikeConds, LikeHeads, like_always, like_and, like_arm, like_both, like_choose, like_col, like_compare, like_every, like_int, like_is_null, like_minus, like_no_arm, like_not, like_null_int, like_null_text, like_or, like_scalar, like_some, like_text}
+use Rattle.graph_alike.specs.Alike.{Like, LikeArms, LikeCond, LikeConds, LikeHeads, like_always, like_and, like_arm, like_both, like_choose, like_col, like_compare, like_every, like_int, like_is_null, like_minus, like_no_arm, like_not, like_null_int, like_null_text, like_or, like_scalar, like_some, like_text}
 
 -- a property of expressions, of the arms of a CASE and of conditions, which their parts have too
 pub record Parted (T : Term → Type 0) (S : tree.Arms → Type 0) (C : Cond → Type 0) : Type 0 where

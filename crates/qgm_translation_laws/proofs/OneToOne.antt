@@ -16,9 +16,10 @@ use Rattle.qgm_translation.specs.Maps.{Map}
 use Rattle.qgm_translation.specs.Shown.{ShowsBox, Thing, of_groups, of_operand, of_query, of_rows, uses}
 use Rattle.qgm_translation.specs.Sources.{Sources}
 use Rattle.qgm_edit_laws.proofs.Ranks.{has-in, place, place-under, same-box}
-use Rattle.qgm_translation_laws.specs.Alike.{Meets, OwnedAt, Stands, roots, stands, under}
+use Rattle.graph_alike.specs.Alike.{Meets, OwnedAt, Stands, roots, stands, under}
 use Rattle.qgm_translation.specs.There.{IsFor, map_of}
-use Rattle.qgm_translation_laws.specs.OneToOne.{AreOneToOne, BuiltApart}
+use Rattle.graph_alike.specs.OneToOne.{AreOneToOne}
+use Rattle.qgm_translation_laws.specs.OneToOne.{BuiltApart}
 use Rattle.qgm_translation_laws.proofs.LikeParts as parts
 use Rattle.qgm_translation_laws.proofs.LikeParts.{LikeThing, Pairs, like_groups, like_rows, same_operand, same_query}
 use Rattle.qgm_translation_laws.proofs.LikeGraphs.{found, place-of}

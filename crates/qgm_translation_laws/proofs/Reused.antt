@@ -6,7 +6,7 @@ use Rattle.qgm_core.specs.declared.node.Node.{Node}
 use Rattle.sql_meaning.specs.ResolvedTrees as q
 use Rattle.qgm_translation.specs.Samples.{base, sources}
 use Rattle.qgm_translation.specs.Shown.{Shows, ShowsBase, ShowsBox, ShowsQuery, of_operand, of_query, uses}
-use Rattle.qgm_translation_laws.specs.Alike.{roots, under}
+use Rattle.graph_alike.specs.Alike.{roots, under}
 use Rattle.qgm_translation.specs.There.{EachForOne, IsFor}
 use Rattle.qgm_translation_laws.specs.Reused.{Reused, apart, body, over_u, reusing, top, twice}
 

@@ -1,5 +1,5 @@
 -- What a box has of columns from some step on it has after as many steps as there are boxes.
-use Rattle.std.proofs.Common.{◌≡◌, ◌≤◌, ℕ, ◌+◌, List, length, sym, ◌∙◌, arith}
+use Rattle.std.proofs.Common.{◌≤◌, ℕ, ◌+◌, List, length, sym, ◌∙◌, arith}
 use Rattle.sql_value.specs.declared.order_key.SqlType.{SqlType}
 use Rattle.qgm_core.specs.Boxes.{Ordered, ids_in}
 use Rattle.list_laws.specs.Lists.{times}

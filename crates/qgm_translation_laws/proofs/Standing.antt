@@ -16,7 +16,7 @@ use Rattle.sql_value.specs.declared.cell.Cell.{Cell}
 use Rattle.sql_value.specs.declared.order_key.SqlType.{SqlType}
 use Rattle.sql_meaning.specs.Meaning.{rows_or_none}
 use Rattle.sql_meaning.specs.Meaning as n
-use Rattle.sql_meaning.specs.Names.{Known, Relation, names}
+use Rattle.sql_meaning.specs.Names.{Known, Relation}
 use Rattle.sql_meaning.specs.Names.{columns_of as columns_in}
 use Rattle.sql_meaning.specs.ResolvedMeaning as c
 use Rattle.sql_meaning.specs.ResolvedViews as trees

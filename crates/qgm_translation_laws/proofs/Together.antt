@@ -28,7 +28,7 @@ use Rattle.qgm_translation.specs.Shown.{Shows, ShowsBox, Thing, of_query, refs}
 use Rattle.qgm_translation.specs.Sources.{Sources}
 use Rattle.qgm_edit_laws.proofs.Ranks.{has-in, same-box}
 use Rattle.qgm_edit_laws.proofs.Scope.{in-first}
-use Rattle.qgm_translation_laws.specs.Alike.{Like, LikeBox, Meets, OwnedAt, SameButNumbers, Stands, roots, stands, under}
+use Rattle.graph_alike.specs.Alike.{Like, LikeBox, Meets, OwnedAt, SameButNumbers, Stands, roots, stands, under}
 use Rattle.qgm_translation_laws.specs.Formed.{SourcesTyped, Told}
 use Rattle.qgm_translation_laws.specs.Typed.{IsOfTypes, Scope}
 use Rattle.qgm_translation_laws.proofs.Boxes as boxes

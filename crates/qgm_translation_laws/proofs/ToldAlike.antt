@@ -3,7 +3,8 @@ use Rattle.std.proofs.Common.{◌≡◌, ℕ, refl, ap}
 use Rattle.sql_value.specs.declared.order_key.SqlType.{SqlType}
 use Rattle.qgm_terms.specs.Terms.{Term}
 use Rattle.qgm_translation.specs.Typing.{aggregate_type}
-use Rattle.qgm_translation_laws.specs.Alike.{Like, like_both, like_choose, like_col, like_count, like_fold, like_int, like_minus, like_null_int, like_null_text, like_scalar, like_text, type_by}
+use Rattle.graph_alike.specs.Alike.{Like, like_both, like_choose, like_col, like_count, like_fold, like_int, like_minus, like_null_int, like_null_text, like_scalar, like_text}
+use Rattle.qgm_translation_laws.specs.Alike.{type_by}
 
 module _ (R : ℕ → ℕ → Type 0) (at to : ℕ → ℕ → SqlType) (same : (q p k : ℕ) → R q p → at q k ≡ to p k) where
   pub type-alike : (x y : Term) → Like R x y → type_by at x ≡ type_by to y

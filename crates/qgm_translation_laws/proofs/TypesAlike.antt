@@ -12,7 +12,7 @@ use Rattle.qgm_terms.specs.declared.named.QuantNode.{QuantNode}
 use Rattle.qgm_wellformed.specs.Types.{Lookup, agree, aggregate_type, arms_fit, cond_fits, integer_if, is_integer, is_known, known, term_type, type_if, types_by}
 use Rattle.qgm_translation.specs.Maps.{Map}
 use Rattle.qgm_translation.specs.Sources.{Sources}
-use Rattle.qgm_translation_laws.specs.Alike.{Like, LikeArms, LikeCond, LikeHeads, like_always, like_and, like_arm, like_both, like_choose, like_col, like_compare, like_count, like_every, like_fold, like_int, like_is_null, like_minus, like_no_arm, like_not, like_null_int, like_null_text, like_or, like_scalar, like_some, like_text}
+use Rattle.graph_alike.specs.Alike.{Like, LikeArms, LikeCond, LikeHeads, like_always, like_and, like_arm, like_both, like_choose, like_col, like_compare, like_count, like_every, like_fold, like_int, like_is_null, like_minus, like_no_arm, like_not, like_null_int, like_null_text, like_or, like_scalar, like_some, like_text}
 use Rattle.qgm_translation_laws.proofs.Boxes as boxes
 use Rattle.qgm_translation_laws.proofs.Parts as parts
 use Rattle.qgm_translation_laws.proofs.TypesFollow.{agreeing, folded-typed, operated, signs}

@@ -10,6 +10,9 @@ use Rattle.sql_value.specs.declared.order_key.SqlType.{SqlType}
 use Rattle.sql_value.specs.declared.order_key.SqlType.TheVariants.{Integer}
 use Rattle.sql_names.specs.Resolved.{query}
 use Rattle.sql_names.specs.Schema.{schema_columns, view_trees}
+use Rattle.graph_alike.specs.Alike.{SameButNumbers}
+use Rattle.graph_alike.specs.OneToOne.{AreOneToOne}
+use Rattle.graph_print.specs.GraphText.{text_of}
 use Rattle.qgm_core.specs.Boxes.{QueryGraph, ids_in}
 use Rattle.qgm_core.specs.Free.{Reaches}
 use Rattle.list_laws.specs.Lists.{EachOnce, In}
@@ -22,10 +25,8 @@ use Rattle.qgm_translation.specs.Lay.{Boxes, Laid}
 use Rattle.qgm_translation.specs.Sources.{Sources}
 use Rattle.qgm_translation.specs.There.{EachForOne}
 use Rattle.qgm_translation.specs.Whole.{graph_of, lay_whole}
-use Rattle.qgm_translation_laws.specs.Alike.{SameButNumbers}
 use Rattle.qgm_translation_laws.specs.Formed.{TypesFound}
 use Rattle.qgm_translation_laws.specs.Joined.{AreTablesOf, HasRows, IsBuiltOver, IsLaidOut, ValidQuery, stated_types}
-use Rattle.qgm_translation_laws.specs.OneToOne.{AreOneToOne}
 use Rattle.qgm_translation_laws.specs.Sources.{sources_of, stored_table}
 
 -- a graph is the one that is built of a query over a schema: it is built of it over boxes that tables and views share, and stands in order; there is one shared box for each table and each view, and one box for each other thing of the query
@@ -55,6 +56,12 @@ abbrev pub GraphsAlike : Type 0
 GraphsAlike =
     (catalog : Declared) (text : s.QueryText) (names : List (Option (List ℕ))) (order : List OrderKey) (g h : QueryGraph)
     → ValidQuery catalog text → IsGraphOf catalog text names order g → IsGraphOf catalog text names order h → SameButNumbers g h
+
+-- and print one text
+abbrev pub GraphsPrintAlike : Type 0
+GraphsPrintAlike =
+    (catalog : Declared) (text : s.QueryText) (names : List (Option (List ℕ))) (order : List OrderKey) (g h : QueryGraph)
+    → ValidQuery catalog text → IsGraphOf catalog text names order g → IsGraphOf catalog text names order h → text_of g ≡ text_of h
 
 -- ---- what is laid
 

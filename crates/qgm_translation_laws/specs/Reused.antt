@@ -12,7 +12,7 @@ use Rattle.qgm_core.specs.declared.owned.OwnedQuant.{OwnedQuant}
 use Rattle.qgm_terms.specs.Terms as t
 use Rattle.qgm_translation.specs.Law.{IsBuiltOf}
 use Rattle.qgm_translation.specs.Samples.{base, box, sources}
-use Rattle.qgm_translation_laws.specs.Alike.{Meets}
+use Rattle.graph_alike.specs.Alike.{Meets}
 use Rattle.qgm_translation.specs.There.{EachForOne}
 
 -- the body of V: SELECT U.C, U.D FROM U WHERE U.D >= 8

@@ -9,7 +9,6 @@ use Rattle.sql_catalog.specs.declared.descriptor.KeyDescriptor.{KeyDescriptor}
 use Rattle.sql_catalog.specs.declared.descriptor.TableDescriptor.{TableDescriptor}
 use Rattle.sql_meaning.specs.ResolvedTrees.{Query}
 use Rattle.sql_value.specs.declared.order_key.SqlType.{SqlType}
-use Rattle.sql_names.specs.Resolved.{query}
 use Rattle.sql_names.specs.Schema.{view_body}
 use Rattle.sql_faults.specs.Columns.{type_of_declared}
 use Rattle.sql_faults.specs.Views.{heads_of}

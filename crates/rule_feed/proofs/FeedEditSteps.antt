@@ -17,6 +17,10 @@ columns-next head q k end l =
     ∙ ap (λ z. head ++ col q z ∷ columns_from q (suc z) (end - (k + 1))) (let e : k + 1 ≡ suc k = omega arith in e)
     ∙ ap (λ z. head ++ columns_from q (suc k) z) (let e : suc (end - (k + 1)) ≡ end - k = omega arith in e)
 
+pub held-same : (b : ℕ) (ns : List Node) → holds b (numbers ns) ≡ has_box ns b
+held-same b [] = refl
+held-same b (n ∷ ns) = ap (λ t. (n.id == b) || t) (held-same b ns)
+
 module _ (q : ℕ) (cells : List Term) where
   pub put-id : (ids : List ℕ) (y : Node) → (put_in ids q cells y).id ≡ y.id
   put-id ids y = elim (holds y.id ids) as (λ t. (λ (z : Node). z.id) (cond t (put_cells q cells y) y) ≡ y.id) [ true ↦ refl | false ↦ refl ]

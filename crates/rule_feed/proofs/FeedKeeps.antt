@@ -194,7 +194,7 @@ module _ (g : QueryGraph) (u : EachOnce (numbers g.boxes)) (f : fault g ≡ None
   kind-k : (y : Node) → (k y).parts.kind ≡ y.parts.kind
   kind-k y = elim (y.id == b1.id) as (λ c. (λ (z : Node). z.parts.kind) (cond c (split_owner (sizes_of wide ps) q before (range q F s ∷ behind) staying y) (renamed_node (into (sizes_of wide ps) q) y)) ≡ y.parts.kind) [ true ↦ refl | false ↦ refl ]
 
-  sound3 : Sound hs g.root
+  pub sound3 : Sound hs g.root
   sound3 = (split-sound xs ys g.root b2 wide q s before ps behind staying taken w2 ms).0
 
   typed3 : Typed hs
@@ -280,13 +280,13 @@ module _ (g : QueryGraph) (u : EachOnce (numbers g.boxes)) (f : fault g ≡ None
   k-b1 : k b1 ≡ split_owner (sizes_of wide ps) q before (range q F s ∷ behind) staying b2
   k-b1 = ap (λ c. cond c (split_owner (sizes_of wide ps) q before (range q F s ∷ behind) staying b1) (renamed_node (into (sizes_of wide ps) q) b1)) (eq-itself b1.id)
 
-  k-b2 : k b2 ≡ split_owner (sizes_of wide ps) q before (range q F s ∷ behind) staying b2
+  pub k-b2 : k b2 ≡ split_owner (sizes_of wide ps) q before (range q F s ∷ behind) staying b2
   k-b2 = ap (λ c. cond c (split_owner (sizes_of wide ps) q before (range q F s ∷ behind) staying b2) (renamed_node (into (sizes_of wide ps) q) b2)) (eq-itself b1.id)
 
   same-up : map k (a.above ++ b1 ∷ []) ≡ map k xs
   same-up = map-append k a.above (b1 ∷ []) ∙ ap (λ (z : Node). map k a.above ++ z ∷ []) (k-b1 ∙ sym k-b2) ∙ sym (map-append k a.above (b2 ∷ []))
 
-  same-hs : act.split_up g.boxes b1 r.over q s a.above a.below ≡ hs
+  pub same-hs : act.split_up g.boxes b1 r.over q s a.above a.below ≡ hs
   same-hs = ap (λ (z : List Node). z ++ s' ∷ map k ys) same-up
 
   feeding : premises.Feeding xs ys g.root b2 wide q s before ps behind staying taken w2 (typed g2 once2 f2) (shaped g2 once2 f2) ms plain2 i a.c g.boxes (facts_in g.boxes) a.x
@@ -323,7 +323,7 @@ module _ (g : QueryGraph) (u : EachOnce (numbers g.boxes)) (f : fault g ≡ None
 
   -- ---- the graph after feeding
 
-  abbrev b3 : Node
+  abbrev pub b3 : Node
   b3 = split_owner (sizes_of wide ps) q before (range q F s ∷ behind) staying b2
 
   pub feeds : FeedsOne (map k xs) (s' ∷ map k ys) g.root b3 s' (k a.c) (range q F s) i a.x
@@ -365,7 +365,7 @@ module _ (g : QueryGraph) (u : EachOnce (numbers g.boxes)) (f : fault g ≡ None
 
   -- ---- the whole
 
-  same-fed : act.fed_up g.boxes b1 r.over q s a.above a.below a.c i a.x ≡ fs
+  pub same-fed : act.fed_up g.boxes b1 r.over q s a.above a.below a.c i a.x ≡ fs
   same-fed =
       ap (λ (z : List Node). fed_boxes z (s' ∷ map k ys) (k b1) s' (k a.c) (range q F s) i a.x) same-up
       ∙ ap (λ (z : Node). fed_boxes (map k xs) (s' ∷ map k ys) z s' (k a.c) (range q F s) i a.x) k-b1

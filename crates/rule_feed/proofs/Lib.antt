@@ -4,6 +4,7 @@ pub mod FeedConditionSteps
 pub mod FeedConds
 pub mod FeedEditSteps
 pub mod FeedFacts
+pub mod FeedFires
 pub mod FeedKeeps
 pub mod FeedLists
 pub mod FeedLooks
@@ -11,6 +12,7 @@ pub mod FeedMeasure
 pub mod FeedOrder
 pub mod FeedPicks
 pub mod FeedPlaced
+pub mod FeedPlaces
 pub mod FeedPremises
 pub mod FeedReads
 pub mod FeedRegion
@@ -24,6 +26,10 @@ pub mod FeedSound
 pub mod FeedTermsSteps
 pub mod FeedTyped
 pub mod FeedTypes
+pub mod FillEdits
+pub mod FillFound
+pub mod FillMade
+pub mod NamedSteps
 pub mod NodesListed
 pub mod SettleMade
 pub mod SplitBag
@@ -32,6 +38,7 @@ pub mod SplitLooks
 pub mod SplitMade
 pub mod SplitMeasure
 pub mod SplitNames
+pub mod SplitParts
 pub mod SplitReads
 pub mod SplitRows
 pub mod SplitShaped

@@ -1,5 +1,5 @@
 -- The edits of a split come to G1's action.
-use Rattle.std.proofs.Common.{ℕ, ◌==◌, ◌≡◌, ◌≤◌, ◌||◌, cond, Bool, true, false, List, [], ◌∷◌, ◌++◌, map, filter, None, refl, sym, ap, ap₂, subst, ◌∙◌, eqb-true, inl, inr, arith}
+use Rattle.std.proofs.Common.{ℕ, ◌==◌, ◌≡◌, ◌≤◌, cond, Bool, true, false, List, [], ◌∷◌, ◌++◌, map, filter, None, refl, sym, ap, ap₂, subst, ◌∙◌, eqb-true, inl, inr, arith}
 use Rattle.std.specs.List.{list_any}
 use Rattle.std.proofs.lemmas.Bool.{cases_Bool, eq-eqb, or_parts}
 use Rattle.qgm_terms.specs.Terms.{Cond}
@@ -29,6 +29,7 @@ use Rattle.rule_feed.specs.FeedMay.{MayFeedAt, feeds, width_of}
 use Rattle.rule_feed.specs.FeedSteps.{Parted, moved_all, parted, renamed_all, select_parts, split_edits}
 use Rattle.rule_feed.specs.Split.{MaySplitSound, heads, into, renamed_node, sizes_of, split_box, split_boxes, split_owner, strays}
 use Rattle.rule_feed.specs.Turn.{from_first}
+use Rattle.rule_feed.proofs.FeedEditSteps.{held-same}
 use Rattle.rule_feed.proofs.FeedPlaced as placed
 use Rattle.rule_feed.proofs.FeedSettled.{once-above}
 use Rattle.rule_feed.proofs.SplitEdits.{There, change-here, insert-before, less, less-is, moves, put-here, renamed-is, renamed_in, times-both}
@@ -40,18 +41,14 @@ use Rattle.rule_feed.proofs.TurnLists.{passing-from, together, turned-in}
 use Rattle.list_laws.proofs.Booleans.{clash, neither-left}
 use Rattle.list_laws.proofs.Membership.{any-from, any-none, any-not, append-one, eq-itself, in-left, in-right}
 
-held-same : (b : ℕ) (ns : List Node) → holds b (numbers ns) ≡ has_box ns b
-held-same b [] = refl
-held-same b (n ∷ ns) = ap (λ t. (n.id == b) || t) (held-same b ns)
-
-spread : {X Y : Type 0} (h : X → Y) (xs : List X) (x : X) (zs : List Y) → map h (xs ++ x ∷ []) ++ zs ≡ map h xs ++ h x ∷ zs
+pub spread : {X Y : Type 0} (h : X → Y) (xs : List X) (x : X) (zs : List Y) → map h (xs ++ x ∷ []) ++ zs ≡ map h xs ++ h x ∷ zs
 spread h xs x zs = ap (λ l. l ++ zs) (map-append h xs (x ∷ [])) ∙ append-one (map h xs) (h x) zs
 
-keep : (h : Node → Node) → ((y : Node) → (h y).id ≡ y.id) → (ys : List Node) → numbers (map h ys) ≡ numbers ys
+pub keep : (h : Node → Node) → ((y : Node) → (h y).id ≡ y.id) → (ys : List Node) → numbers (map h ys) ≡ numbers ys
 keep h e [] = refl
 keep h e (y ∷ ys) = ap₂ (λ (x : ℕ) (xs : List ℕ). x ∷ xs) (e y) (keep h e ys)
 
-lead : (h : Node → Node) → ((y : Node) → (h y).id ≡ y.id) → (xs ys zs : List Node) → numbers ys ≡ numbers zs → numbers (map h xs ++ ys) ≡ numbers (xs ++ zs)
+pub lead : (h : Node → Node) → ((y : Node) → (h y).id ≡ y.id) → (xs ys zs : List Node) → numbers ys ≡ numbers zs → numbers (map h xs ++ ys) ≡ numbers (xs ++ zs)
 lead h e [] ys zs k = k
 lead h e (x ∷ xs) ys zs k = ap₂ (λ (v : ℕ) (vs : List ℕ). v ∷ vs) (e x) (lead h e xs ys zs k)
 

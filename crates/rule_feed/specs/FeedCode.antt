@@ -66,6 +66,10 @@ pub stays-is : (ns : List Node) (known : Facts) (ps : List OwnedQuant) (cs : Lis
 unfolding stays_by
 stays-is ns known ps cs = refl
 
+-- b and its quantifier r are those of a place where G1 may fire
+abbrev pub IsPlace : Place → QueryGraph → Node → OwnedQuant → Type 0
+IsPlace p g b r = (us : List OwnedQuant) × ((vs : List OwnedQuant) × may.MayFeedAt p g b us r vs)
+
 -- where G1 may fire, the edits that settle an S come to its action
 abbrev pub SettleComes : Type 0
 SettleComes =

@@ -9,6 +9,9 @@ pub mod FeedPreserves
 pub mod FeedSample
 pub mod FeedSteps
 pub mod FeedTerms
+pub mod FillCode
+pub mod FillSteps
 pub mod Knowing
+pub mod NamedColumns
 pub mod Split
 pub mod Turn

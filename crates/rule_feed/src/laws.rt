@@ -4,6 +4,7 @@ ghost use Rattle.rule_feed.specs.FeedLaws.{FeedBags, FeedShaped, FeedSound, Feed
 ghost use Rattle.rule_feed.specs.FeedMeasure.{FeedMeasured, FeedingLowers, SplitMeasured};
 ghost use Rattle.rule_feed.specs.FeedPreserves.{FeedPlaces, FeedPreserves, FiringLowers};
 ghost use Rattle.rule_feed.specs.FeedSample.{Fed};
+ghost use Rattle.rule_feed.specs.FillSteps.{FillComes};
 ghost use Rattle.rule_feed.specs.Split.{SplitBags, SplitRows, SplitShaped, SplitSound, SplitTyped};
 ghost use Rattle.rule_feed.specs.Turn.{TurnPreserves};
 
@@ -25,12 +26,13 @@ pub fn feeding_laws()
     ensures sample { Fed }
 {}
 
-/// G1 whole: its places are exactly those where its condition holds (`places`), and where it holds the action preserves the graph (`preserves`), and the graph that it compacts has a lower measure (`lowers`). A step of it: quantifiers over closed boxes come to stand side by side (`turned`). The edits that settle an S and those of the split come to the action's (`settled`, `split`). It does nothing.
+/// G1 whole: its places are exactly those where its condition holds (`places`), and where it holds the action preserves the graph (`preserves`), and the graph that it compacts has a lower measure (`lowers`). A step of it: quantifiers over closed boxes come to stand side by side (`turned`). The edits that settle an S, those of the split and those that feed come to the action's (`settled`, `split`, `filled`). It does nothing.
 pub fn feed_laws()
     ensures places { FeedPlaces }
     ensures turned { TurnPreserves }
     ensures settled { SettleComes }
     ensures split { SplitComes }
+    ensures filled { FillComes }
     ensures preserves { FeedPreserves }
     ensures lowers { FiringLowers }
 {}

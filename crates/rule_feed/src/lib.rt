@@ -4,7 +4,5 @@
 mod feed;
 mod laws;
 
-pub use feed::condition::{may_feed, may_own};
-pub use feed::split::{Parts, Split, make_split, part};
-pub use feed::terms::{fed_conds, fed_head};
+pub use feed::Feed;
 pub use laws::{feed_laws, feeding_laws};

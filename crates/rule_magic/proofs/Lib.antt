@@ -55,6 +55,7 @@ pub mod AbsorbSetKeeps
 pub mod AbsorbGroupBelow
 pub mod AbsorbGroupActs
 pub mod CompactMeasure
+pub mod ScalarToGroupMeasure
 pub mod FiringMeasure
 pub mod FedTypes
 pub mod RenameSteps

@@ -1,6 +1,6 @@
 // The laws, as theorems.
 ghost use Rattle.rule_magic.specs.AbsorbGroup.{GroupBags, KeylessBags, GroupLowers, GroupPreserves, KeylessLowers, KeylessPreserves};
-ghost use Rattle.rule_magic.specs.AbsorbMeasure.{CompactLowers, GroupFiringLowers, OuterFiringLowers, SelectFiringLowers, SetFiringLowers};
+ghost use Rattle.rule_magic.specs.AbsorbMeasure.{CompactLowers, FeedFiringLowers, GroupFiringLowers, OuterFiringLowers, ScalarFiringLowers, SelectFiringLowers, SetFiringLowers};
 ghost use Rattle.rule_magic.specs.AbsorbOuterJoin.{AbsorbsArms, AbsorbsLeft, OuterArmsLowers, OuterArmsPreserves, OuterLeftLowers, OuterLeftPreserves};
 ghost use Rattle.rule_magic.specs.AbsorbSelect.{SelectBags, SelectLowers, SelectPreserves};
 ghost use Rattle.rule_magic.specs.AbsorbSetOperation.{SetBags, SetLowers, SetOpenLowers, SetOpenPreserves, SetOpenSound, SetPreserves, SetsGiven};
@@ -45,7 +45,7 @@ pub fn absorbing_laws()
     ensures outer_arms_preserves { OuterArmsPreserves }
 {}
 
-/// G2 to G5 lower the measure; a graph that is lower stays lower without the boxes that its root doesn't reach, so each firing of them lowers it. It does nothing.
+/// G2 to G5 lower the measure; a graph that is lower stays lower without the boxes that its root doesn't reach, so each firing of U2 and of G1 to G5 lowers it. It does nothing.
 pub fn measure_laws()
     ensures select { SelectLowers }
     ensures group { GroupLowers }
@@ -55,6 +55,8 @@ pub fn measure_laws()
     ensures outer_left { OuterLeftLowers }
     ensures outer_arms { OuterArmsLowers }
     ensures compacted { CompactLowers }
+    ensures scalar_fires { ScalarFiringLowers }
+    ensures feed_fires { FeedFiringLowers }
     ensures select_fires { SelectFiringLowers }
     ensures group_fires { GroupFiringLowers }
     ensures set_fires { SetFiringLowers }

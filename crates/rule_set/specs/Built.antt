@@ -1,5 +1,5 @@
--- The rules that are built, by their names. A name whose rule isn't built has no place.
-use Rattle.std.specs.Prelude.{ℕ, ◌↔◌, List, []}
+-- The rules by their names.
+use Rattle.std.specs.Prelude.{ℕ, ◌↔◌, List}
 use Rattle.qgm_core.specs.Boxes.{QueryGraph, numbers}
 use Rattle.list_laws.specs.Lists.{EachOnce, In}
 use Rattle.qgm_wellformed.specs.Sentences.{WellFormed}
@@ -14,6 +14,17 @@ use Rattle.rule_distinct.specs.DropUnionDistinctExact.{drop_union_distinct_exact
 use Rattle.rule_distinct.specs.PermitDistinct.{MayPermitDistinct, PermitsDistinct, permit_distinct_pairs}
 use Rattle.rule_distinct.specs.PermitDistinctExact.{permit_distinct_exact}
 use Rattle.rule_distinct.specs.PlainAt.{DropsDistinct}
+use Rattle.rule_feed.specs.FeedActs.{Feeds}
+use Rattle.rule_feed.specs.FeedMay.{MayFeed, feed_pairs}
+use Rattle.rule_feed.specs.FeedMayExact.{feed_exact}
+use Rattle.rule_magic.specs.AbsorbGroup.{AbsorbsGroup, MayAbsorbGroup, absorb_group_pairs}
+use Rattle.rule_magic.specs.AbsorbGroupExact.{absorb_group_exact}
+use Rattle.rule_magic.specs.AbsorbOuterExact.{absorb_outer_exact}
+use Rattle.rule_magic.specs.AbsorbOuterJoin.{AbsorbsOuter, MayAbsorbOuter, absorb_outer_pairs}
+use Rattle.rule_magic.specs.AbsorbSelect.{AbsorbsSelect, MayAbsorbSelect, absorb_select_pairs}
+use Rattle.rule_magic.specs.AbsorbSelectExact.{absorb_select_exact}
+use Rattle.rule_magic.specs.AbsorbSetOperation.{AbsorbsSet, MayAbsorbSet, absorb_set_pairs}
+use Rattle.rule_magic.specs.AbsorbSetOperationExact.{absorb_set_exact}
 use Rattle.rule_merge.specs.DropCopy.{DropsCopy, MayDropCopy, drop_copy_pairs}
 use Rattle.rule_merge.specs.DropCopyExact.{drop_copy_exact}
 use Rattle.rule_merge.specs.MergeSelect.{MayMergeSelect, MergesSelect, merge_select_pairs}
@@ -103,8 +114,20 @@ drop_column = record { pairs = drop_column_pairs; may = MayDropColumn; act = Dro
 abbrev pub drop_quantifier : BuiltRule
 drop_quantifier = record { pairs = drop_quantifier_pairs; may = MayDropQuantifier; act = DropsQuantifier; exact = drop_quantifier_exact }
 
-abbrev pub not_built : BuiltRule
-not_built = record { pairs = λ g b. []; may = λ p g. ⊥; act = λ p g h. ⊥; exact = λ g b i j once w. ((λ h. h), λ h. h) }
+abbrev pub feed : BuiltRule
+feed = record { pairs = feed_pairs; may = MayFeed; act = Feeds; exact = feed_exact }
+
+abbrev pub absorb_select : BuiltRule
+absorb_select = record { pairs = absorb_select_pairs; may = MayAbsorbSelect; act = AbsorbsSelect; exact = absorb_select_exact }
+
+abbrev pub absorb_group : BuiltRule
+absorb_group = record { pairs = absorb_group_pairs; may = MayAbsorbGroup; act = AbsorbsGroup; exact = absorb_group_exact }
+
+abbrev pub absorb_set : BuiltRule
+absorb_set = record { pairs = absorb_set_pairs; may = MayAbsorbSet; act = AbsorbsSet; exact = absorb_set_exact }
+
+abbrev pub absorb_outer : BuiltRule
+absorb_outer = record { pairs = absorb_outer_pairs; may = MayAbsorbOuter; act = AbsorbsOuter; exact = absorb_outer_exact }
 
 abbrev pub built : RuleId → BuiltRule
 built M1 = merge_select
@@ -124,11 +147,11 @@ built J1 = equal_columns
 built J2 = equal_literal
 built N1 = drop_column
 built N2 = drop_quantifier
-built G1 = not_built
-built G2 = not_built
-built G3 = not_built
-built G4 = not_built
-built G5 = not_built
+built G1 = feed
+built G2 = absorb_select
+built G3 = absorb_group
+built G4 = absorb_set
+built G5 = absorb_outer
 
 abbrev pub built_pairs : RuleId → QueryGraph → ℕ → List Pair
 built_pairs r = (built r).pairs

@@ -9,6 +9,8 @@ use qgm_props::Inference;
 use rule_api::{Place, Rule, RuleId};
 use rule_distinct::{DropKeyDistinct, DropUnionDistinct, PermitDistinct};
 use rule_engine::{Rules, Trace, rewrite};
+use rule_feed::Feed;
+use rule_magic::{AbsorbGroup, AbsorbOuterJoin, AbsorbSelect, AbsorbSetOperation};
 use rule_merge::{DropCopy, MergeSelect};
 use rule_plan::Plan;
 use rule_prune::{DropColumn, DropQuantifier};
@@ -18,7 +20,7 @@ use rule_trans::{EqualColumns, EqualLiteral};
 use shared_types::OutOfMemory;
 use std::alloc::Global;
 
-/// The rules that are built: M1, M2, U1 to U4, L1 to L3, P1 to P4, J1, J2, N1 and N2.
+/// All 22 rules: M1, M2, U1 to U4, L1 to L3, P1 to P4, J1, J2, N1, N2 and G1 to G5.
 #[derive(Clone, Copy)]
 pub struct BuiltRules;
 
@@ -57,7 +59,11 @@ impl Rules for BuiltRules {
             RuleId::J2 => EqualLiteral.places(alloc, graph, known, b),
             RuleId::N1 => DropColumn.places(alloc, graph, known, b),
             RuleId::N2 => DropQuantifier.places(alloc, graph, known, b),
-            RuleId::G1 | RuleId::G2 | RuleId::G3 | RuleId::G4 | RuleId::G5 => Ok(Vec::new(alloc)),
+            RuleId::G1 => Feed.places(alloc, graph, known, b),
+            RuleId::G2 => AbsorbSelect.places(alloc, graph, known, b),
+            RuleId::G3 => AbsorbGroup.places(alloc, graph, known, b),
+            RuleId::G4 => AbsorbSetOperation.places(alloc, graph, known, b),
+            RuleId::G5 => AbsorbOuterJoin.places(alloc, graph, known, b),
         }
     }
 
@@ -86,7 +92,11 @@ impl Rules for BuiltRules {
             RuleId::J2 => EqualLiteral.apply(alloc, graph, place),
             RuleId::N1 => DropColumn.apply(alloc, graph, place),
             RuleId::N2 => DropQuantifier.apply(alloc, graph, place),
-            RuleId::G1 | RuleId::G2 | RuleId::G3 | RuleId::G4 | RuleId::G5 => Ok(()),
+            RuleId::G1 => Feed.apply(alloc, graph, place),
+            RuleId::G2 => AbsorbSelect.apply(alloc, graph, place),
+            RuleId::G3 => AbsorbGroup.apply(alloc, graph, place),
+            RuleId::G4 => AbsorbSetOperation.apply(alloc, graph, place),
+            RuleId::G5 => AbsorbOuterJoin.apply(alloc, graph, place),
         }
     }
 }

@@ -2,5 +2,7 @@
 #![tactic(auto)]
 
 mod built;
+mod laws;
 
 pub use built::{BuiltRules, rewrite_built};
+pub use laws::magic_laws;

@@ -64,16 +64,16 @@ inserted tables s h [] ys k = (h, k)
 inserted tables s h (x ∷ xs) ys k = (k.0, inserted tables s h xs ys k.1)
 
 module _ (g : QueryGraph) (u : EachOnce (numbers g.boxes)) (f : fault g ≡ None) (p : Place) (b : Node) (us : List OwnedQuant) (r : OwnedQuant) (vs : List OwnedQuant) (m : MayScalarToGroupAt p g b us r vs) (h : QueryGraph) (a : GroupsBox g h b r) where
-  in-b : In b g.boxes
+  pub in-b : In b g.boxes
   in-b = here-at g u f b p.at m.at
 
   in-c : In a.c g.boxes
   in-c = here-at g u f a.c r.over a.under
 
-  c-is : a.c.id ≡ r.over
+  pub c-is : a.c.id ≡ r.over
   c-is = eqb-true a.c.id r.over (some-in (is_box r.over) g.boxes a.c a.under).1
 
-  in-r : In r b.quants
+  pub in-r : In r b.quants
   in-r = subst (λ z. In r z) (sym m.split) (in-right r us (r ∷ vs) (inl refl))
 
   w : Sound g.boxes g.root
@@ -93,7 +93,7 @@ module _ (g : QueryGraph) (u : EachOnce (numbers g.boxes)) (f : fault g ≡ None
         let z : times r.over (overs_in g.boxes) ≡ 0 = ap (λ z. times z (overs_in g.boxes)) s ∙ w.top in omega arith)
   ]
 
-  single : MaySingle a.xs a.ys g.root a.group a.quant b a.c r
+  pub single : MaySingle a.xs a.ys g.root a.group a.quant b a.c r
   single = record {
     in_o = a.before;
     in_c = a.behind;

@@ -92,7 +92,8 @@ pub fn rename_all(
 ) -> Result<(), OutOfMemory>
     requires once { EachOnce (numbers nodes.now) }
     requires held { (b : ℕ) → In b ids.now → HasBox b graph.old }
-    ensures { OnOk result (graph.new ≡ spec.renamed_all ids.now q 0 (spec.sizes_in nodes.now list.now) graph.old) }
+    ensures ok { OnOk result (graph.new ≡ spec.renamed_all ids.now q 0 (spec.sizes_in nodes.now list.now) graph.old) }
+    ensures kept { HasAll graph.old graph.new }
 {
     let mut start: usize = 0;
     for r in list {

@@ -3,6 +3,7 @@ ghost use Rattle.std.specs.Prelude.{ℕ, ◌≡◌, ◌≤◌, IfOk, filter, len
 ghost use Rattle.std.specs.List.{list_all, list_any};
 ghost use Rattle.list_laws.specs.Lists.{EachOnce, In};
 ghost use Rattle.qgm_core.specs.Boxes.{HasBox, HasQuant, is_quant, numbers, quants_of};
+ghost use Rattle.qgm_core.specs.Held.{HasAll};
 ghost use Rattle.qgm_core.specs.declared.owned.OwnedQuant.{OwnedQuant};
 ghost use Rattle.qgm_props.specs.Laws.{Tells};
 ghost use Rattle.qgm_props.specs.Table.{facts_of};
@@ -202,6 +203,8 @@ pub fn make_split(
     requires all { (y : ℕ) → In y ids.now → HasBox y graph.old }
     requires owned { (r : OwnedQuant) → In r x.feeders.items → HasQuant r.id graph.old }
     requires within { x.place ≤ length (quants_of b graph.old) }
+    ensures kept { HasAll graph.old graph.new }
+    ensures held { IfOk result (λ y. HasBox y.s graph.new) }
     ensures new_s { IfOk result (λ y. HasBox y.s graph.old → ⊥) }
     ensures new_q { IfOk result (λ y. HasQuant y.q graph.old → ⊥) }
     ensures graph { IfOk result (λ y. graph.new ≡ spec.split_edits ids.now nodes.now b (code.as_parted x) y.s y.q graph.old) }

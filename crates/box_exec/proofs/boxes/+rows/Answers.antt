@@ -1,10 +1,10 @@
-use Rattle.std.proofs.Common.{ℕ, Bool, cond, ◌≡◌, ◌≤◌, ◌+◌, ◌++◌, true, false, List, length, drop, filter, take, sym, ap, ◌∙◌, subst, arith, rules}
+use Rattle.std.proofs.Common.{ℕ, All, Bool, Some, cond, slice_get, append-nil, ◌≡◌, ◌≤◌, ◌<◌, ◌+◌, ◌++◌, true, false, List, length, drop, filter, take, sym, ap, ◌∙◌, subst, arith, rules}
 use Rattle.std.proofs.lemmas.Result.{IfOk-weaker, on_ok_weaker}
 use Rattle.std.specs.Result.{OnOk}
 use Rattle.row_bag.specs.Bags.{Alike, keep}
 use Rattle.qgm_core.specs.Kinds.{is_F, is_enforce}
 use Rattle.qgm_core.specs.declared.owned.OwnedQuant.{OwnedQuant}
-use Rattle.qgm_meaning.specs.Meaning.{grouped_rows}
+use Rattle.qgm_meaning.specs.Meaning.{grouped_rows, once_if}
 use Rattle.qgm_terms.specs.Terms.{Term}
 use Rattle.qgm_meaning.specs.Values.{Bag, bound}
 use Rattle.sql_value.specs.declared.cell.Cell.{Cell}
@@ -14,14 +14,25 @@ use Rattle.box_exec.specs.Plans.{asked_at, cost_at, cost_left, family, left_at, 
 use Rattle.box_exec.specs.Costs.{Between, at_level}
 use Rattle.qgm_core.specs.declared.kinds.BoxKind.{BoxKind}
 use Rattle.qgm_meaning.specs.Plain.{counted_by, under_each, under_others, under_rows}
-use Rattle.box_exec.proofs.Evaluations.{all-took, one-under, others-more, rows-bound, rows-over, rows-took}
-use Rattle.box_exec.specs.Ready.{IsOpen, Stands, SubsOf, isnt_F}
+use Rattle.box_exec.proofs.Evaluations.{all-took, each_row, one-under, others-more, rows-bound, rows-over, rows-past, rows-took}
+use Rattle.box_exec.specs.Ready.{IsOpen, Stands, SubsOf, isnt_F, over_left}
 use Rattle.box_exec.specs.declared.under.Under.{Under}
 use Rattle.std.proofs.lemmas.List.{take_all}
 use Rattle.box_exec.proofs.Parts.{is_there, of_part, of_parts, subs_pushed}
 use Rattle.box_exec.specs.Sources.{held}
 use Rattle.box_exec.proofs.Loops.{each-all, each-more, rows-once}
-use Rattle.box_exec.proofs.Quantifiers.{combined-rows, free-more, free-same, given-at, group-rows, left-bound, left-over, level-none, outer-rows, past-all, placed, range-at, range-past, range-within, two-at}
+use Rattle.box_exec.proofs.Lookups.{some-is, stepped}
+use Rattle.box_exec.proofs.Lasting.{planned-by}
+use Rattle.box_exec.specs.Lasting.{PlanFits, rows_kept, rows_stored}
+use Rattle.box_exec.specs.declared.plan.Plan.{Plan}
+use Rattle.box_exec.specs.declared.under.Loop.{Loop}
+use Rattle.std.specs.Borrow.{Bor}
+use Rattle.box_exec.specs.Early.{rejects}
+use Rattle.row_bag.specs.Bags.{bind}
+use Rattle.row_bag.proofs.Agreement.{alike-same}
+use Rattle.row_index.specs.Ways.{StandsFrom, place}
+use Rattle.row_index.proofs.Passed.{seen-again, seen-low}
+use Rattle.box_exec.proofs.Quantifiers.{bound-of, combined-rows, free-more, free-same, given-at, group-rows, left-bound, left-over, level-none, outer-rows, past-all, past-ranges, placed, range-at, range-past, range-within, stood, two-at}
 use Rattle.box_exec.proofs.boxes.+rows.Goals.{subs-then-not-is_f+in_ok-push_sub, subs-else-not-is_f}
 use Rattle.box_exec.proofs.Rejections.{nothing-added, rejects-all}
 use Rattle.std.proofs.lemmas.Grind.{common_steps}
@@ -40,31 +51,78 @@ each-returns-then-not-is_f-clause-rows g t c =
     let l = c.in-Some.l.now in
     let env = env_of c.args.env.now in
     let passed : is_F l.range.kind ≡ false = search rules in
-    let here = placed at c.requires.planned c.args.k l c.in-Some.ensures.lookup.3.0 c.in-Some.ensures.lookup.1 in
+    let here = stood at (bound-of at c.requires.planned) c.args.k l c.in-Some.ensures.lookup.3.0 c.in-Some.ensures.lookup.1 in
     subst (λ (b : Bag). OnOk c.each.result (Alike c.each.new.out (c.args.out.now ++ keep c.args.level b)))
-    (sym (left-over (tables_of at) at.node.now at.below.now c.args.k l.range env here.0 passed))
+    (sym (left-over (tables_of at) at.node.now at.below.now (ranges at.loops.now) c.args.k l.range env here.0 passed))
     c.each.ensures.rows
 
-pub each-loop-row-preserved : goal.each-loop-row-preserved
-each-loop-row-preserved g t c =
+pub each-loop-i-init : goal.each-loop-i-init
+each-loop-i-init g t c =
     let at = c.args.at.now in
-    let r = c.row-item.result in
     let l = c.in-Some.l.now in
     let env = env_of c.args.env.now in
-    let rows = c.rows-row-items.result.now in
-    let i = c.loop-row.row-index in
-    let over = λ (cells : List Cell). left_at at (c.args.k + 1) (bound l.range.id cells env) in
-    let cost = λ (kept : ℕ → Bool) (cells : List Cell). cost_left at kept (c.args.k + 1) (bound l.range.id cells env) in
-    let new = c.each-in-loop-row.new.out in
-    let added : Alike new (c.loop-row.out ++ keep c.least-level.result (over r.cells)) =
-    subst (λ (cells : List Cell). Alike new (c.loop-row.out ++ keep c.least-level.result (over cells))) c.as_slice.ensures c.in_ok-each.ensures.rows in
+    let k = c.args.k in
+    let rows = c.rows-rows.result.now in
+    let way = c.in_ok-way.way in
+    let cursor = c.first_of-c.result in
+    let f = λ (cells : List Cell). left_at at (k + 1) (bound l.range.id cells env) in
     record {
-      rows = each-more c.args.level rows i r over c.args.out.now c.loop-row.out new c.loop-row-test.true c.row-item.is c.loop-row.invariant.rows
-          (subst (λ (x : Level). Alike new (c.loop-row.out ++ keep x (over r.cells))) c.least-level.ensures added);
+      rows = subst (λ (n : ℕ). Alike c.args.out.now (c.args.out.now ++ keep c.args.level (bind (take n rows) f))) (sym c.place-i.ensures)
+          (stepped (rejects at.early.now (k + 1)) l.range.id rows env way c.in_ok-way.ensures f (λ cells h. rejects-all at (bound-of at c.requires.planned) (k + 1) (bound l.range.id cells env) h)
+          c.args.level c.args.out.now c.args.out.now 0 cursor (omega arith) c.first_of-c.ensures (alike-same (sym (append-nil c.args.out.now))));
+      took = λ kept keeps. (omega arith, omega arith);
+      stands = seen-again way 0 cursor c.in_ok-way.ensures.spans (omega arith) c.first_of-c.ensures;
+      at = c.place-i.ensures;
+      counted = λ start h. h;
+    }
+
+pub each-loop-i-preserved : goal.each-loop-i-preserved
+each-loop-i-preserved g t c =
+    let at = c.args.at.now in
+    let l = c.in-Some.l.now in
+    let env = env_of c.args.env.now in
+    let k = c.args.k in
+    let rows = c.rows-rows.result.now in
+    let way = c.in_ok-way.way in
+    let leads = c.in_ok-way.ensures in
+    let i = c.loop-i.i in
+    let r = c.index-rows-i.result in
+    let new = c.each-in-loop-i.new.out in
+    let cursor = c.next_of-c.result in
+    let f = λ (cells : List Cell). left_at at (k + 1) (bound l.range.id cells env) in
+    let cost = λ (kept : ℕ → Bool) (cells : List Cell). cost_left at kept (k + 1) (bound l.range.id cells env) in
+    let end = leads.end in
+    let test = c.loop-i-test.true in
+    let inside : i < length rows = omega (arith, end, test) in
+    let next : i + 1 ≤ way.end = omega (arith, test) in
+    let stands : StandsFrom way (i + 1) cursor = subst (λ (n : ℕ). StandsFrom way (n + 1) cursor) (sym c.loop-i.invariant.at) c.next_of-c.ensures in
+    let low : i + 1 ≤ place cursor = seen-low way (i + 1) cursor leads.spans next stands in
+    let added : Alike new (c.loop-i.out ++ keep c.least-level.result (f r.cells)) =
+    subst (λ (cells : List Cell). Alike new (c.loop-i.out ++ keep c.least-level.result (f cells))) c.as_slice.ensures c.in_ok-each.ensures.rows in
+    let done = each-more c.args.level rows i r f c.args.out.now c.loop-i.out new inside c.index-rows-i.is c.loop-i.invariant.rows
+    (subst (λ (x : Level). Alike new (c.loop-i.out ++ keep x (f r.cells))) c.least-level.ensures added) in
+    record {
+      rows = subst (λ (n : ℕ). Alike new (c.args.out.now ++ keep c.args.level (bind (take n rows) f))) (sym c.place-i-in-loop-i.ensures)
+          (stepped (rejects at.early.now (k + 1)) l.range.id rows env way leads f (λ cells h. rejects-all at (bound-of at c.requires.planned) (k + 1) (bound l.range.id cells env) h)
+          c.args.level c.args.out.now new (i + 1) cursor next stands done);
       took = λ kept keeps.
-          rows-took (cost kept) rows i r c.args.level (cost kept c.as_slice.result.now) c.rows_under.new.steps c.loop-row.steps c.each-in-loop-row.new.steps c.loop-row-test.true c.row-item.is (ap (cost kept) c.as_slice.ensures) (c.loop-row.invariant.took kept keeps)
-          (subst (λ (x : Level). Between 0 (at_level x (cost kept c.as_slice.result.now)) c.loop-row.steps c.each-in-loop-row.new.steps) c.least-level.ensures (c.in_ok-each.ensures.took kept keeps));
-      counted = λ start h. c.in_ok-each.ensures.counted start (c.loop-row.invariant.counted start h);
+          subst (λ (n : ℕ). Between 0 (each_row (cost kept) (take n rows)) c.rows_under.new.steps c.each-in-loop-i.new.steps) (sym c.place-i-in-loop-i.ensures)
+          (rows-past (cost kept) rows (i + 1) (place cursor) c.rows_under.new.steps c.each-in-loop-i.new.steps low
+          (rows-took (cost kept) rows i r c.args.level (cost kept c.as_slice.result.now) c.rows_under.new.steps c.loop-i.steps c.each-in-loop-i.new.steps inside c.index-rows-i.is (ap (cost kept) c.as_slice.ensures) (c.loop-i.invariant.took kept keeps)
+          (subst (λ (x : Level). Between 0 (at_level x (cost kept c.as_slice.result.now)) c.loop-i.steps c.each-in-loop-i.new.steps) c.least-level.ensures (c.in_ok-each.ensures.took kept keeps))));
+      stands = seen-again way (i + 1) cursor leads.spans next stands;
+      at = c.place-i-in-loop-i.ensures;
+      counted = λ start h. c.in_ok-each.ensures.counted start (c.loop-i.invariant.counted start h);
+    }
+
+pub each-next_of-c-requires : goal.each-next_of-c-requires
+each-next_of-c-requires g t c =
+    let at = c.loop-i.invariant.at in
+    let test = c.loop-i-test.true in
+    record {
+      spans = c.in_ok-way.ensures.spans;
+      stands = c.loop-i.invariant.stands;
+      within = omega (arith, at, test);
     }
 
 pub each-returns-clause-rows : goal.each-returns-clause-rows
@@ -74,12 +132,14 @@ each-returns-clause-rows g t c =
     let k = c.args.k in
     let env = env_of c.args.env.now in
     let bound_to : is_F l.range.kind ≡ true = search rules in
-    let here = placed at c.requires.planned k l c.in-Some.ensures.lookup.3.0 c.in-Some.ensures.lookup.1 in
-    each-all c.args.level c.rows-row-items.result.now (family at l.range.over env) c.loop-row.row-index
-    (λ (cells : List Cell). left_at at (k + 1) (bound l.range.id cells env)) c.args.out.now c.loop-row.out (left_at at k env) c.loop-row-test.false
-    (subst (λ (b : Bag). Alike b (family at l.range.over env)) (sym c.rows-row-items.ensures) c.in_ok-rows.ensures.rows)
-    (left-bound (tables_of at) at.node.now at.below.now k l.range env here.0 bound_to here.1)
-    c.loop-row.invariant.rows
+    let here = stood at (bound-of at c.requires.planned) k l c.in-Some.ensures.lookup.3.0 c.in-Some.ensures.lookup.1 in
+    let end = c.in_ok-way.ensures.end in
+    let over : c.in_ok-way.way.end ≤ c.loop-i.i = search rules in
+    each-all c.args.level c.rows-rows.result.now (family at l.range.over env) c.loop-i.i
+    (λ (cells : List Cell). left_at at (k + 1) (bound l.range.id cells env)) c.args.out.now c.loop-i.out (left_at at k env) (omega (arith, end, over))
+    (subst (λ (b : Bag). Alike b (family at l.range.over env)) (sym c.rows-rows.ensures) c.in_ok-source.ensures.rows)
+    (left-bound (tables_of at) at.node.now at.below.now (ranges at.loops.now) k l.range env here.0 bound_to here.1)
+    c.loop-i.invariant.rows
 
 pub groups-returns-clause-rows : goal.groups-returns-clause-rows
 groups-returns-clause-rows g t c =
@@ -112,7 +172,8 @@ pub selected-returns-clause-rows : goal.selected-returns-clause-rows
 selected-returns-clause-rows g t c =
     let at = c.args.at.now in
     of_part c.once_added.result c.each-added.result _ _ _ c.once_added.ensures c.each-added.ensures.rows
-    (λ bag _ h added. rows-once (is_enforce at.node.now.parts.distinct) c.new-out.result c.each-added.new.out (left_at at 0 (env_of c.args.env.now)) bag c.new-out.ensures added h)
+    (λ bag _ h added. subst (λ (rs : List OwnedQuant). Alike bag (once_if (is_enforce at.node.now.parts.distinct) (over_left (tables_of at) at.node.now at.below.now rs (env_of c.args.env.now)))) c.requires.planned.ranged
+    (rows-once (is_enforce at.node.now.parts.distinct) c.new-out.result c.each-added.new.out (left_at at 0 (env_of c.args.env.now)) bag c.new-out.ensures added h))
 
 pub subs-loop-l-preserved : goal.subs-loop-l-preserved
 subs-loop-l-preserved g t c =
@@ -165,9 +226,13 @@ each-returns-then-is_no-clause-rows g t c =
 
 -- ---- how many evaluations
 
+pub evaluated-returns-in-Some-clause-took : goal.evaluated-returns-in-Some-clause-took
+evaluated-returns-in-Some-clause-took g t c = λ kept keeps.
+    IfOk-weaker c.of_kind.result _ _ (λ bag h. (omega (arith, h.0, c.step.ensures.ticked), omega (arith, h.1, c.step.ensures.ticked))) (c.of_kind.ensures.took kept keeps)
+
 pub evaluated-returns-clause-took : goal.evaluated-returns-clause-took
 evaluated-returns-clause-took g t c = λ kept keeps.
-    IfOk-weaker c.of_kind.result _ _ (λ bag h. (omega (arith, h.0, c.step.ensures.ticked), omega (arith, h.1, c.step.ensures.ticked))) (c.of_kind.ensures.took kept keeps)
+    IfOk-weaker c.of_kind-2.result _ _ (λ bag h. (omega (arith, h.0, c.step.ensures.ticked), omega (arith, h.1, c.step.ensures.ticked))) (c.of_kind-2.ensures.took kept keeps)
 
 pub of_kind-returns-in-Base-clause-took : goal.of_kind-returns-in-Base-clause-took
 of_kind-returns-in-Base-clause-took g t c = λ kept keeps.
@@ -252,13 +317,15 @@ each-returns-clause-took g t c = λ kept keeps.
     let whole : ℕ = cost_left at kept k env in
     let bound_to : is_F l.range.kind ≡ true = search rules in
     let here = placed at c.requires.planned k l c.in-Some.ensures.lookup.3.0 c.in-Some.ensures.lookup.1 in
+    let end = c.in_ok-way.ensures.end in
+    let over : c.in_ok-way.way.end ≤ c.loop-i.i = search rules in
     let there : at_level c.args.level whole ≡ whole = c.is_no.ensures.there whole ∙ ap (λ (b : Bool). cond b 0 whole) c.if-is_no.false in
-    subst (λ (n : ℕ). Between 0 n c.args.steps.now c.loop-row.steps) (sym there)
-    (all-took (λ (cells : List Cell). cost_left at kept (k + 1) (bound l.range.id cells env)) c.rows-row-items.result.now (family at l.range.over env) c.loop-row.row-index (asked_at at kept l.range.over env) whole
-    c.args.steps.now c.rows_under.new.steps c.loop-row.steps c.loop-row-test.false
-    (subst (λ (b : Bag). Alike b (family at l.range.over env)) (sym c.rows-row-items.ensures) c.in_ok-rows.ensures.rows)
+    subst (λ (n : ℕ). Between 0 n c.args.steps.now c.loop-i.steps) (sym there)
+    (all-took (λ (cells : List Cell). cost_left at kept (k + 1) (bound l.range.id cells env)) c.rows-rows.result.now (family at l.range.over env) c.loop-i.i (asked_at at kept l.range.over env) whole
+    c.args.steps.now c.rows_under.new.steps c.loop-i.steps (omega (arith, end, over))
+    (subst (λ (b : Bag). Alike b (family at l.range.over env)) (sym c.rows-rows.ensures) c.in_ok-source.ensures.rows)
     (rows-bound at.node.now.quants at.node.now.quants (family at) (asked_at at kept) env k l.range here.0 bound_to)
-    (c.in_ok-rows.ensures.took kept keeps) (c.loop-row.invariant.took kept keeps))
+    (c.in_ok-source.ensures.took kept keeps) (c.loop-i.invariant.took kept keeps))
 
 pub each-returns-in_default-clause-took : goal.each-returns-in_default-clause-took
 each-returns-in_default-clause-took g t c = λ kept keeps.
@@ -307,115 +374,43 @@ pub each-returns-then-branch-clause-rows : goal.each-returns-then-branch-clause-
 each-returns-then-branch-clause-rows g t c =
     let at = c.args.at.now in
     let env = env_of c.args.env.now in
-    nothing-added c.args.level c.args.out.now (left_at at c.args.k env) (rejects-all at c.requires.planned c.args.k env (sym c.in_ok-rejected.ensures ∙ c.if-branch.true))
+    nothing-added c.args.level c.args.out.now (left_at at c.args.k env) (rejects-all at (bound-of at c.requires.planned) c.args.k env (sym c.in_ok-rejected.ensures ∙ c.if-branch.true))
 
 pub evaluated-of_kind-requires : goal.evaluated-of_kind-requires
-evaluated-of_kind-requires t c = grind (arith, common_steps)
+evaluated-of_kind-requires g t c κs l =
+    let run = c.args.run.now in
+    let n = c.args.node.now in
+    let below = c.args.below.now in
+    let plan = c.in-Some.plan.now in
+    let found : slice_get run.plans.now (length below) ≡ Some (Some plan) = some-is (λ (p : Bor Plan). slice_get run.plans.now (length below) ≡ Some (Some p.now)) c.plan_at.result c.in-Some.plan c.in-Some.is c.plan_at.ensures in
+    let planned = planned-by _ c.in_ok-loops.loops.items plan c.deref.ensures.value c.deref-in-Some.ensures.value c.deref-in-Some-2.ensures.value c.deref-in-Some-3.ensures.value
+    (c.in_ok-loops.ensures.ranges ∙ c.as_slice.ensures) c.in_ok-loops.ensures.stand c.in_ok-loops.ensures.kept c.requires.fit
+    (subst (PlanFits run.memo.now n below) found c.requires.plans.0) c.requires.plans.1 c.requires.ready in
+    (grind (arith, common_steps), (grind (arith, common_steps), planned))
 
-pub groups-returns-clause-counted : goal.groups-returns-clause-counted
-groups-returns-clause-counted t c = grind (arith, common_steps)
+pub evaluated-plan_of-requires : goal.evaluated-plan_of-requires
+evaluated-plan_of-requires g t c =
+    let run = c.args.run.now in
+    let below = c.args.below.now in
+    record {
+      ready = c.requires.ready;
+      ranged = ap ranges c.deref-2.ensures.value ∙ c.in_ok-loops.ensures.ranges ∙ c.as_slice.ensures;
+      kept = subst (All (λ (l : Loop). rows_kept l.under ≡ rows_stored run.memo.now below l.range.over)) (sym c.deref-2.ensures.value) c.in_ok-loops.ensures.kept;
+    }
 
-pub groups-returns-in_default-clause-rows : goal.groups-returns-in_default-clause-rows
-groups-returns-in_default-clause-rows t c = grind (arith, common_steps)
-
-pub joined-returns-in_default-clause-rows : goal.joined-returns-in_default-clause-rows
-joined-returns-in_default-clause-rows t c = grind (arith, common_steps)
-
-pub joined-rows_under-xs-requires : goal.joined-rows_under-xs-requires
-joined-rows_under-xs-requires t c = grind (arith, common_steps)
-
-pub joined-rows_under-ys-requires : goal.joined-rows_under-ys-requires
-joined-rows_under-ys-requires t c = grind (arith, common_steps)
-
-pub put_together-returns-in_default-clause-rows : goal.put_together-returns-in_default-clause-rows
-put_together-returns-in_default-clause-rows t c = grind (arith, common_steps)
-
-pub put_together-rows_under-xs-requires : goal.put_together-rows_under-xs-requires
-put_together-rows_under-xs-requires t c = grind (arith, common_steps)
-
-pub put_together-rows_under-ys-requires : goal.put_together-rows_under-ys-requires
-put_together-rows_under-ys-requires t c = grind (arith, common_steps)
-
-pub subs-rows_under-rows-requires : goal.subs-rows_under-rows-requires
-subs-rows_under-rows-requires t c = grind (arith, common_steps)
-
-pub subs-loop-l-init : goal.subs-loop-l-init
-subs-loop-l-init g t c = grind (arith, common_steps)
-
-pub joined-bounds-p-0 : goal.joined-bounds-p-0
-joined-bounds-p-0 g t c = grind (arith, common_steps)
-
-pub evaluated-returns-clause-rows : goal.evaluated-returns-clause-rows
-evaluated-returns-clause-rows g t c = grind (arith, common_steps)
-
-pub add_head-returns-clause-counted : goal.add_head-returns-clause-counted
-add_head-returns-clause-counted g t c = grind (arith, common_steps)
-
-pub each-add_head-requires : goal.each-add_head-requires
-each-add_head-requires g t c = grind (arith, common_steps)
-
-pub each-returns-then-is_no-clause-took : goal.each-returns-then-is_no-clause-took
-each-returns-then-is_no-clause-took g t c = grind (arith, common_steps)
-
-pub put_together-bounds-p-0 : goal.put_together-bounds-p-0
-put_together-bounds-p-0 g t c = grind (arith, common_steps)
-
-pub evaluated-returns-clause-counted : goal.evaluated-returns-clause-counted
-evaluated-returns-clause-counted g t c = grind (arith, common_steps)
-
-pub rows_under-returns-in-Kept-clause-took : goal.rows_under-returns-in-Kept-clause-took
-rows_under-returns-in-Kept-clause-took g t c = grind (arith, common_steps)
-
-pub each-overflow_add-k : goal.each-overflow_add-k
-each-overflow_add-k g t c = grind (arith, common_steps)
-
-pub of_kind-put_together-requires : goal.of_kind-put_together-requires
-of_kind-put_together-requires g t c = grind (arith, common_steps)
-
-pub rows_under-returns-in-Kept-clause-rows : goal.rows_under-returns-in-Kept-clause-rows
-rows_under-returns-in-Kept-clause-rows g t c = grind (arith, common_steps)
-
-pub each-returns-then-branch-clause-took : goal.each-returns-then-branch-clause-took
-each-returns-then-branch-clause-took g t c = grind (arith, common_steps)
-
-pub put_together-returns-clause-counted : goal.put_together-returns-clause-counted
-put_together-returns-clause-counted g t c = grind (arith, common_steps)
-
-pub each-loop-row-smaller : goal.each-loop-row-smaller
-each-loop-row-smaller g t c = grind (arith, common_steps)
-
-pub rows_under-returns-in-Nothing-clause-rows : goal.rows_under-returns-in-Nothing-clause-rows
-rows_under-returns-in-Nothing-clause-rows g t c = grind (arith, common_steps)
-
-pub each-offset_bounds-row-items-row-index : goal.each-offset_bounds-row-items-row-index
-each-offset_bounds-row-items-row-index g t c = grind (arith, common_steps)
-
-pub each-rows_under-requires : goal.each-rows_under-requires
-each-rows_under-requires g t c = grind (arith, common_steps)
-
-pub subs-returns-clause-counted : goal.subs-returns-clause-counted
-subs-returns-clause-counted g t c = grind (arith, common_steps)
-
-pub each-each-requires : goal.each-each-requires
-each-each-requires g t c = grind (arith, common_steps)
-
-pub subs-returns-clause-rows : goal.subs-returns-clause-rows
-subs-returns-clause-rows g t c = grind (arith, common_steps)
-
-pub joined-returns-clause-counted : goal.joined-returns-clause-counted
-joined-returns-clause-counted g t c = grind (arith, common_steps)
-
-pub put_together-bounds-q-1 : goal.put_together-bounds-q-1
-put_together-bounds-q-1 g t c = grind (arith, common_steps)
-
-pub each-returns-clause-counted : goal.each-returns-clause-counted
-each-returns-clause-counted g t c = grind (arith, common_steps)
-
-pub each-returns-in_default-clause-rows : goal.each-returns-in_default-clause-rows
-each-returns-in_default-clause-rows g t c = grind (arith, common_steps)
+pub evaluated-of_kind-requires-2 : goal.evaluated-of_kind-requires-2
+evaluated-of_kind-requires-2 g t c κs l =
+    let planned = planned-by _ c.in_ok-loops.loops.items c.in_ok-plan.plan c.deref-3.ensures.value c.deref-4.ensures.value c.deref-5.ensures.value c.deref-6.ensures.value
+    (c.in_ok-loops.ensures.ranges ∙ c.as_slice.ensures) c.in_ok-loops.ensures.stand c.in_ok-loops.ensures.kept c.requires.fit
+    c.in_ok-plan.ensures c.requires.plans.1 c.requires.ready in
+    (grind (arith, common_steps), (grind (arith, common_steps), planned))
 
 pub rows_under-evaluated-requires : goal.rows_under-evaluated-requires
-rows_under-evaluated-requires g t c = grind (arith, common_steps)
+rows_under-evaluated-requires g t c κs lives =
+    let at = c.args.at.now in
+    let anew : IsOpen (tables_of at) at.run.now.memo.now at.below.now c.args.l.now.range.over c.in-Open.node.now c.in-Open.behind.now =
+    subst (λ (u : Under). Stands (tables_of at) at.run.now.memo.now at.below.now c.args.l.now.range.over u) c.in-Open.is c.requires.stands in
+    (grind (arith, common_steps), (grind (arith, common_steps), (anew.ready, (anew.fit, anew.plans at.run.now.plans.now c.requires.plans))))
 
 pub evaluated-returns-in_err-loops-clause-counted : goal.evaluated-returns-in_err-loops-clause-counted
 evaluated-returns-in_err-loops-clause-counted g t c = grind (arith, common_steps)
@@ -438,14 +433,11 @@ rows_under-returns-in-Nothing-clause-took g t c = grind (arith, common_steps)
 pub of_kind-selected-requires : goal.of_kind-selected-requires
 of_kind-selected-requires g t c = grind (arith, common_steps)
 
-pub evaluated-returns-in_err-early-clause-counted : goal.evaluated-returns-in_err-early-clause-counted
-evaluated-returns-in_err-early-clause-counted g t c = grind (arith, common_steps)
+pub evaluated-returns-in_err-plan-clause-counted : goal.evaluated-returns-in_err-plan-clause-counted
+evaluated-returns-in_err-plan-clause-counted g t c = grind (arith, common_steps)
 
 pub rows_under-returns-in-Open-clause-counted : goal.rows_under-returns-in-Open-clause-counted
 rows_under-returns-in-Open-clause-counted g t c = grind (arith, common_steps)
-
-pub each-returns-in_err-rows-clause-counted : goal.each-returns-in_err-rows-clause-counted
-each-returns-in_err-rows-clause-counted g t c = grind (arith, common_steps)
 
 pub each-returns-in_err-rejected-clause-counted : goal.each-returns-in_err-rejected-clause-counted
 each-returns-in_err-rejected-clause-counted g t c = grind (arith, common_steps)

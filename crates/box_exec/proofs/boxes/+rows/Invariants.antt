@@ -1,4 +1,4 @@
-use Rattle.std.proofs.Common.{ℕ, ◌+◌, ◌-◌, ◌++◌, Bool, List, filter, take, length}
+use Rattle.std.proofs.Common.{ℕ, ◌≡◌, ◌+◌, ◌-◌, ◌++◌, Bool, List, filter, take, length}
 use Rattle.row_bag.specs.Bags.{Alike, bind, keep}
 use Rattle.qgm_meaning.specs.Values.{bound}
 use Rattle.sql_value.specs.declared.cell.Cell.{Cell}
@@ -8,6 +8,7 @@ use Rattle.box_exec.specs.Plans.{KeepsAt, asked_at, cost_left, family, left_at, 
 use Rattle.box_exec.specs.Costs.{Between}
 use Rattle.qgm_meaning.specs.Plain.{under_others}
 use Rattle.box_exec.proofs.Evaluations.{each_row}
+use Rattle.row_index.specs.Ways.{StandsFrom, place}
 use Rattle.box_exec.specs.Ready.{SubsOf, isnt_F, weight, weight_under}
 use Rattle.box_exec.proofs.boxes.+rows.Given as goal
 
@@ -41,10 +42,15 @@ decreases-subs g l = weight l.at.now.below.now + 1
 abbrev pub decreases-rows_under : goal.decreases-rows_under
 decreases-rows_under g l = weight_under l.l.now.under
 
-abbrev pub invariant-each-loop-row : goal.invariant-each-loop-row
-invariant-each-loop-row g l = record {
-  rows : Alike l.out (l.initial.out ++ keep l.level (bind (take l.row-index l.row-items) (λ (cells : List Cell). left_at l.at (l.k + 1) (bound l.l.range.id cells (env_of l.env)))));
-  took : (kept : ℕ → Bool) → KeepsAt l.at kept → Between 0 (each_row (λ (cells : List Cell). cost_left l.at kept (l.k + 1) (bound l.l.range.id cells (env_of l.env))) (take l.row-index l.row-items)) l.initial.steps l.steps;
+abbrev pub decreases-each-loop-i : goal.decreases-each-loop-i
+decreases-each-loop-i g l = l.way.end - l.i
+
+abbrev pub invariant-each-loop-i : goal.invariant-each-loop-i
+invariant-each-loop-i g l = record {
+  rows : Alike l.out (l.initial.out ++ keep l.level (bind (take l.i l.rows) (λ (cells : List Cell). left_at l.at (l.k + 1) (bound l.l.range.id cells (env_of l.env)))));
+  took : (kept : ℕ → Bool) → KeepsAt l.at kept → Between 0 (each_row (λ (cells : List Cell). cost_left l.at kept (l.k + 1) (bound l.l.range.id cells (env_of l.env))) (take l.i l.rows)) l.initial.steps l.steps;
+  stands : StandsFrom l.way (place l.c) l.c;
+  at : l.i ≡ place l.c;
   counted : (start : ℕ) → Counted start l.initial.steps l.initial.count → Counted start l.steps l.count;
 }
 

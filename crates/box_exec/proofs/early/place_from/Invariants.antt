@@ -5,8 +5,8 @@ use Rattle.box_exec.proofs.early.place_from.Given as goal
 
 abbrev pub invariant-loop-place : goal.invariant-loop-place
 invariant-loop-place l = record {
-  within : l.place ≤ length l.loops;
-  none : reads_any (cond l.c) (drop l.place l.loops) ≡ false;
+  within : l.place ≤ length l.ranges;
+  none : reads_any (cond l.c) (drop l.place l.ranges) ≡ false;
 }
 
 abbrev pub decreases-loop-place : goal.decreases-loop-place

@@ -1,4 +1,5 @@
-use Rattle.std.proofs.Common.{sym, ◌∙◌, arith}
+use Rattle.std.proofs.Common.{sym, ◌∙◌, ◌∷◌, arith, subst}
+use Rattle.box_exec.specs.Lasting.{AllPlanned}
 use Rattle.box_exec.proofs.Roots.{root-behind, root-fit, root-none, root-rows, root-there, root-took}
 use Rattle.box_exec.proofs.Totals.{took-exactly, took-within}
 use Rattle.std.proofs.lemmas.Grind.{common_steps}
@@ -75,6 +76,12 @@ returns-in_err-rows-clause-took g c = grind (arith, common_steps)
 
 pub returns-in_err-rows-clause-at_least_closed : goal.returns-in_err-rows-clause-at_least_closed
 returns-in_err-rows-clause-at_least_closed g c = grind (arith, common_steps)
+
+pub root_rows-requires-clause-plans : goal.root_rows-requires-clause-plans
+root_rows-requires-clause-plans g c =
+    let n = c.index-nodes-i.result in
+    let below = c.behind-below.result.now in
+    subst (λ (ps : _). AllPlanned c.in_ok-memo.memo.items ps (n ∷ below)) (sym c.deref.ensures.value) (c.in_ok-memo.ensures.plans n)
 
 pub root_rows-requires-clause-ready : goal.root_rows-requires-clause-ready
 root_rows-requires-clause-ready g c = grind (arith, common_steps)

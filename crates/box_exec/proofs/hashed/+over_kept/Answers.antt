@@ -10,11 +10,11 @@ use Rattle.box_exec.specs.Bound.{env_of}
 use Rattle.box_exec.specs.Early.{rejects}
 use Rattle.row_index.specs.Ways.{StandsFrom}
 use Rattle.row_index.proofs.Passed.{seen-again}
-use Rattle.box_exec.specs.Plans.{family, left_at, tables_of}
+use Rattle.box_exec.specs.Plans.{family, left_at, ranges, tables_of}
 use Rattle.box_exec.proofs.Hashing.{kept-at, last-given, led}
 use Rattle.box_exec.proofs.Lookups.{ended, stepped}
 use Rattle.box_exec.proofs.Loops.{bind-added, each-more}
-use Rattle.box_exec.proofs.Quantifiers.{left-bound, left-over, level-none, placed}
+use Rattle.box_exec.proofs.Quantifiers.{left-bound, left-over, level-none, stood}
 use Rattle.box_exec.proofs.Rejections.{none-no, nothing-added, rejects-all}
 use Rattle.box_exec.proofs.hashed.+over_kept.Goals as goal
 
@@ -25,7 +25,7 @@ pub returns-then-branch : goal.returns-then-branch
 returns-then-branch t c =
     let at = c.args.whole.now.at.now in
     let env = env_of c.args.env.now in
-    nothing-added c.args.level c.args.out.now (left_at at c.args.place env) (rejects-all at c.requires.planned c.args.place env (sym c.in_ok-rejected.ensures ∙ c.if-branch.true))
+    nothing-added c.args.level c.args.out.now (left_at at c.args.place env) (rejects-all at c.requires.bound c.args.place env (sym c.in_ok-rejected.ensures ∙ c.if-branch.true))
 
 pub returns-in_default : goal.returns-in_default
 returns-in_default t c =
@@ -39,9 +39,9 @@ returns-then-not-is_f t c =
     let l = c.in-Some.l.now in
     let env = env_of c.args.env.now in
     let passed : is_F l.range.kind ≡ false = search rules in
-    let here = placed at c.requires.planned c.args.place l c.in-Some.ensures.lookup.3.0 c.in-Some.ensures.lookup.1 in
+    let here = stood at c.requires.bound c.args.place l c.in-Some.ensures.lookup.3.0 c.in-Some.ensures.lookup.1 in
     subst (λ (b : Bag). OnOk c.over_kept.result (Alike c.over_kept.new.out (c.args.out.now ++ keep c.args.level b)))
-    (sym (left-over (tables_of at) at.node.now at.below.now c.args.place l.range env here.0 passed)) c.over_kept.ensures
+    (sym (left-over (tables_of at) at.node.now at.below.now (ranges at.loops.now) c.args.place l.range env here.0 passed)) c.over_kept.ensures
 
 pub loop-i-init : goal.loop-i-init
 loop-i-init t c =
@@ -55,7 +55,7 @@ loop-i-init t c =
     let leads = led at c.args.place l rows env way c.kept_rows-rows.ensures c.in_ok-way.ensures in
     record {
       rows = subst (λ (n : ℕ). Alike c.args.out.now (c.args.out.now ++ keep c.args.level (bind (take n rows) f))) (sym c.place-i.ensures)
-          (stepped (rejects at.early.now (c.args.place + 1)) l.range.id rows env way leads f (λ cells h. rejects-all at c.requires.planned (c.args.place + 1) (bound l.range.id cells env) h)
+          (stepped (rejects at.early.now (c.args.place + 1)) l.range.id rows env way leads f (λ cells h. rejects-all at c.requires.bound (c.args.place + 1) (bound l.range.id cells env) h)
           c.args.level c.args.out.now c.args.out.now 0 cursor (omega arith) c.first_of-c.ensures (alike-same (sym (append-nil c.args.out.now))));
       stands = seen-again way 0 cursor leads.spans (omega arith) c.first_of-c.ensures;
       at = c.place-i.ensures;
@@ -85,7 +85,7 @@ loop-i-preserved t c =
     (subst (λ (x : Level). Alike new (c.loop-i.out ++ keep x (f r.cells))) c.least-level.ensures added) in
     record {
       rows = subst (λ (n : ℕ). Alike new (c.args.out.now ++ keep c.args.level (bind (take n rows) f))) (sym c.place-i-in-loop-i.ensures)
-          (stepped (rejects at.early.now (c.args.place + 1)) l.range.id rows env way leads f (λ cells h. rejects-all at c.requires.planned (c.args.place + 1) (bound l.range.id cells env) h)
+          (stepped (rejects at.early.now (c.args.place + 1)) l.range.id rows env way leads f (λ cells h. rejects-all at c.requires.bound (c.args.place + 1) (bound l.range.id cells env) h)
           c.args.level c.args.out.now new (i + 1) cursor next stands done);
       stands = seen-again way (i + 1) cursor leads.spans next stands;
       at = c.place-i-in-loop-i.ensures;
@@ -113,9 +113,9 @@ returns t c =
     let leads = led at place l rows env way c.kept_rows-rows.ensures c.in_ok-way.ensures in
     let over : way.end ≤ c.loop-i.i = search rules in
     let bound_to : is_F l.range.kind ≡ true = search rules in
-    let here = placed at c.requires.planned place l c.in-Some.ensures.lookup.3.0 c.in-Some.ensures.lookup.1 in
-    let all = ended (rejects at.early.now (place + 1)) l.range.id rows env way leads f (λ cells h. rejects-all at c.requires.planned (place + 1) (bound l.range.id cells env) h)
+    let here = stood at c.requires.bound place l c.in-Some.ensures.lookup.3.0 c.in-Some.ensures.lookup.1 in
+    let all = ended (rejects at.early.now (place + 1)) l.range.id rows env way leads f (λ cells h. rejects-all at c.requires.bound (place + 1) (bound l.range.id cells env) h)
     c.args.level c.args.out.now c.loop-i.out c.loop-i.i over c.loop-i.invariant.rows in
-    subst (λ (b : Bag). Alike c.loop-i.out (c.args.out.now ++ keep c.args.level b)) (sym (left-bound (tables_of at) at.node.now at.below.now place l.range env here.0 bound_to here.1))
+    subst (λ (b : Bag). Alike c.loop-i.out (c.args.out.now ++ keep c.args.level b)) (sym (left-bound (tables_of at) at.node.now at.below.now (ranges at.loops.now) place l.range env here.0 bound_to here.1))
     (bind-added c.args.level f rows (family at l.range.over env) c.args.out.now c.loop-i.out
-    (subst (λ (b : Bag). Alike b (family at l.range.over env)) (sym c.kept_rows-rows.ensures) (kept-at at c.requires.planned c.requires.kept place l c.in-Some.ensures.lookup.3.0 c.in-Some.ensures.lookup.1 env)) all)
+    (subst (λ (b : Bag). Alike b (family at l.range.over env)) (sym c.kept_rows-rows.ensures) (kept-at at c.requires.bound c.requires.kept place l c.in-Some.ensures.lookup.3.0 c.in-Some.ensures.lookup.1 env)) all)

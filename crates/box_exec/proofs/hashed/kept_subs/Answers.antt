@@ -11,7 +11,7 @@ use Rattle.box_exec.specs.Ready.{SubsOf, isnt_F}
 use Rattle.box_exec.specs.Sources.{rows_held}
 use Rattle.box_exec.specs.declared.source.Sub.{Sub}
 use Rattle.box_exec.proofs.Hashing.{kept-at}
-use Rattle.box_exec.proofs.Quantifiers.{free-more, free-same, range-at, range-past, range-within, subs-more}
+use Rattle.box_exec.proofs.Quantifiers.{bound-of, free-more, free-same, range-at, range-past, range-within, subs-more}
 use Rattle.box_exec.proofs.hashed.kept_subs.Goals.{then-not-is_f+in_ok-push, else-not-is_f}
 use Rattle.box_exec.proofs.hashed.kept_subs.Goals as goal
 
@@ -28,7 +28,7 @@ loop-i-preserved c = λ env.
     elim c.if-not-is_f.branch [
       | then-not-is_f+in_ok-push w ↦
           let free : is_F r.kind ≡ false = search rules in
-          let rows : Alike (rows_held w.sub_rows-rows.result) (f r.over env) = subst (λ (b : Bag). Alike b (f r.over env)) (sym (w.sub_rows-rows.ensures ∙ sym (ap (λ (x : Loop). rows_kept x.under) c.index-at-i.is))) (kept-at at c.requires.planned c.requires.kept i l c.loop-i-test.true c.index-at-i.is env) in
+          let rows : Alike (rows_held w.sub_rows-rows.result) (f r.over env) = subst (λ (b : Bag). Alike b (f r.over env)) (sym (w.sub_rows-rows.ensures ∙ sym (ap (λ (x : Loop). rows_kept x.under) c.index-at-i.is))) (kept-at at (bound-of at c.requires.planned) c.requires.kept i l c.loop-i-test.true c.index-at-i.is env) in
           let more : SubsOf f env (filter isnt_F (take (i + 1) rs)) w.push.new.self.items =
           subst (λ (xs : List OwnedQuant). SubsOf f env xs w.push.new.self.items) (sym (free-more rs i r inside here free))
           (subst (λ (ss : List Sub). SubsOf f env (filter isnt_F (take i rs) ++ r ∷ []) ss) (sym w.in_ok-push.ensures.items)

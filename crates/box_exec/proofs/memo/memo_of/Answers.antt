@@ -8,6 +8,8 @@ use Rattle.qgm_meaning.specs.Plain.{counted_by}
 use Rattle.box_exec.specs.Costs.{Between, Keeps, asked}
 use Rattle.box_exec.specs.Kept.{KeptAs, is_nil}
 use Rattle.box_exec.proofs.Entries.{beyonds-more, fit-here, keeps-more, kept-here, kept-took, long-more, map-push, ready-more}
+use Rattle.box_exec.proofs.Lasting.{plans-first, plans-more}
+use Rattle.box_exec.specs.Lasting.{AllPlanned, PlanFits}
 use Rattle.box_exec.proofs.Names.{looks-nowhere}
 use Rattle.std.proofs.lemmas.Grind.{common_steps}
 use Rattle.box_exec.proofs.memo.memo_of.Goals as goal
@@ -17,7 +19,7 @@ beyond-requires g c =
     let ns = c.args.nodes.now in
     let e : c.boxes.i ≡ c.boxes.i - 1 + 1 = omega (arith, c.boxes-test.true) in
     let below : c.behind-below.result.now ≡ drop c.boxes.i ns = c.behind-below.ensures ∙ ap (λ (k : ℕ). drop k ns) (sym e) in
-    ap (map (λ v. v.items)) c.deref.ensures.value ∙ c.boxes.invariant.names ∙ sym (ap beyonds below)
+    ap (map (λ v. v.items)) c.deref-in-boxes.ensures.value ∙ c.boxes.invariant.names ∙ sym (ap beyonds below)
 
 pub entry_if-requires : goal.entry_if-requires
 entry_if-requires g c =
@@ -30,11 +32,21 @@ entry_if-requires g c =
     let below : c.behind-below.result.now ≡ drop j ns = c.behind-below.ensures ∙ ap (λ (k : ℕ). drop k ns) (sym e) in
     let fit = fit-here ns i j n e l c.index-nodes-i.is c.requires in
     record {
-      ready = subst (λ (m : _). Ready c.args.tables.now m c.behind-below.result.now) (sym c.deref-in-boxes-2.ensures.value) (subst (Ready c.args.tables.now c.boxes.memo.items) (sym below) c.boxes.invariant.ready);
+      ready = subst (λ (m : _). Ready c.args.tables.now m c.behind-below.result.now) (sym c.deref-in-boxes-3.ensures.value) (subst (Ready c.args.tables.now c.boxes.memo.items) (sym below) c.boxes.invariant.ready);
       fit = subst (Fit n) (sym below) fit.0;
+      plans = subst (λ (m : _). AllPlanned m c.deref.result.now (n ∷ c.behind-below.result.now)) (sym c.deref-in-boxes-3.ensures.value)
+          (subst (λ (ps : _). AllPlanned c.boxes.memo.items ps (n ∷ c.behind-below.result.now)) (sym c.deref.ensures.value)
+          (subst (λ (ms : List Node). AllPlanned c.boxes.memo.items c.boxes.plans.items (n ∷ ms)) (sym below) (plans-first c.boxes.memo.items c.boxes.plans.items n (drop j ns) c.boxes.invariant.many c.boxes.invariant.plans)));
       closed = λ k. subst (LooksNowhere n) (sym below)
-          (looks-nowhere n (drop j ns) fit.0 fit.1 (sym (c.deref-in-boxes.ensures.value ∙ c.in_ok-names.ensures ∙ ap (λ (ms : List Node). beyond_of n (beyond ms)) below) ∙ c.is_kept-keep.ensures.nothing k));
+          (looks-nowhere n (drop j ns) fit.0 fit.1 (sym (c.deref-in-boxes-2.ensures.value ∙ c.in_ok-names.ensures ∙ ap (λ (ms : List Node). beyond_of n (beyond ms)) below) ∙ c.is_kept-keep.ensures.nothing k));
     }
+
+pub plan_if-requires : goal.plan_if-requires
+plan_if-requires g c =
+    let ns = c.args.nodes.now in
+    let e : c.boxes.i ≡ c.boxes.i - 1 + 1 = omega (arith, c.boxes-test.true) in
+    let below : c.behind-below.result.now ≡ drop c.boxes.i ns = c.behind-below.ensures ∙ ap (λ (k : ℕ). drop k ns) (sym e) in
+    subst (λ (m : _). Ready c.args.tables.now m c.behind-below.result.now) (sym c.deref-in-boxes-4.ensures.value) (subst (Ready c.args.tables.now c.boxes.memo.items) (sym below) c.boxes.invariant.ready)
 
 pub boxes-preserved : goal.boxes-preserved
 boxes-preserved g c =
@@ -48,15 +60,23 @@ boxes-preserved g c =
     let entry : Entry c.args.tables.now n (drop j ns) (Some c.in_ok-rows.rows) = subst (λ (ms : List Node). Entry c.args.tables.now n ms (Some c.in_ok-rows.rows)) below c.in_ok-rows.ensures.rows in
     let put : c.boxes.memo.items ++ c.in_ok-rows.rows ∷ [] ≡ c.push-in-boxes.new.self.items = search rules in
     let flag : (kept : ℕ → Bool) → KeptAs kept c.args.marks.now ns → c.is_kept-keep.result ≡ kept n.id = λ kept how.
-    c.is_kept-keep.ensures.kept ∙ ap (λ (xs : List ℕ). is_nil xs && holds n.id c.args.marks.now) (c.deref-in-boxes.ensures.value ∙ c.in_ok-names.ensures ∙ ap (λ (ms : List Node). beyond_of n (beyond ms)) below)
+    c.is_kept-keep.ensures.kept ∙ ap (λ (xs : List ℕ). is_nil xs && holds n.id c.args.marks.now) (c.deref-in-boxes-2.ensures.value ∙ c.in_ok-names.ensures ∙ ap (λ (ms : List Node). beyond_of n (beyond ms)) below)
     ∙ sym (kept-here kept c.args.marks.now ns i j n e l c.index-nodes-i.is how) in
-    let memo-keeps : (kept : ℕ → Bool) → KeptAs kept c.args.marks.now ns → Keeps c.deref-in-boxes-2.result.now kept c.behind-below.result.now = λ kept how.
-    subst (λ (m : _). Keeps m kept c.behind-below.result.now) (sym c.deref-in-boxes-2.ensures.value) (subst (Keeps c.boxes.memo.items kept) (sym below) (c.boxes.invariant.keeps kept how)) in
+    let memo-keeps : (kept : ℕ → Bool) → KeptAs kept c.args.marks.now ns → Keeps c.deref-in-boxes-3.result.now kept c.behind-below.result.now = λ kept how.
+    subst (λ (m : _). Keeps m kept c.behind-below.result.now) (sym c.deref-in-boxes-3.ensures.value) (subst (Keeps c.boxes.memo.items kept) (sym below) (c.boxes.invariant.keeps kept how)) in
+    let fits : PlanFits c.boxes.memo.items n (drop j ns) (Some c.in_ok-plan.plan) =
+    subst (λ (m : _). PlanFits m n (drop j ns) (Some c.in_ok-plan.plan)) c.deref-in-boxes-4.ensures.value
+    (subst (λ (ms : List Node). PlanFits c.deref-in-boxes-4.result.now n ms (Some c.in_ok-plan.plan)) below c.in_ok-plan.ensures) in
+    let put-plan : c.boxes.plans.items ++ c.in_ok-plan.plan ∷ [] ≡ c.push-in-boxes-2.new.self.items = search rules in
     let named : c.boxes.named.items ++ c.in_ok-names.names ∷ [] ≡ c.push.new.self.items = search rules in
     record {
       within = omega (arith, c.boxes.invariant.within);
       ready = subst (λ (m : _). Ready c.args.tables.now m (drop i ns)) put (ready-more c.args.tables.now c.boxes.memo.items c.in_ok-rows.rows ns i j n e l c.index-nodes-i.is c.requires c.boxes.invariant.long entry c.boxes.invariant.ready);
       long = subst (λ (m : _). length m ≡ length (drop i ns)) put (long-more c.boxes.memo.items c.in_ok-rows.rows ns i j n e l c.index-nodes-i.is c.boxes.invariant.long);
+      plans = subst (λ (m : _). AllPlanned m c.push-in-boxes-2.new.self.items (drop i ns)) put
+          (subst (λ (ps : _). AllPlanned (c.boxes.memo.items ++ c.in_ok-rows.rows ∷ []) ps (drop i ns)) put-plan
+          (plans-more c.boxes.memo.items c.in_ok-rows.rows c.boxes.plans.items c.in_ok-plan.plan ns i j n e l c.index-nodes-i.is c.boxes.invariant.long c.boxes.invariant.many fits c.boxes.invariant.plans));
+      many = subst (λ (ps : _). length ps ≡ length (drop i ns)) put-plan (long-more c.boxes.plans.items c.in_ok-plan.plan ns i j n e l c.index-nodes-i.is c.boxes.invariant.many);
       names = ap (map (λ v. v.items)) (sym named) ∙ map-push (λ v. v.items) c.boxes.named.items c.in_ok-names.names
           ∙ beyonds-more ns i j n (map (λ v. v.items) c.boxes.named.items) c.in_ok-names.names.items e l c.index-nodes-i.is c.boxes.invariant.names (c.in_ok-names.ensures ∙ ap (λ (ms : List Node). beyond_of n (beyond ms)) below);
       keeps = λ kept how. subst (λ (m : _). Keeps m kept (drop i ns)) put
@@ -71,6 +91,12 @@ pub returns-clause-keeps : goal.returns-clause-keeps
 returns-clause-keeps g c = λ kept how.
     let done : c.boxes.i ≡ 0 = omega (arith, c.boxes-test.false) in
     subst (λ (k : ℕ). Keeps c.boxes.memo.items kept (drop k c.args.nodes.now)) done (c.boxes.invariant.keeps kept how)
+
+pub returns-clause-plans : goal.returns-clause-plans
+returns-clause-plans g c = λ n.
+    let done : c.boxes.i ≡ 0 = omega (arith, c.boxes-test.false) in
+    plans-first c.boxes.memo.items c.boxes.plans.items n c.args.nodes.now (subst (λ (k : ℕ). length c.boxes.plans.items ≡ length (drop k c.args.nodes.now)) done c.boxes.invariant.many)
+    (subst (λ (k : ℕ). AllPlanned c.boxes.memo.items c.boxes.plans.items (drop k c.args.nodes.now)) done c.boxes.invariant.plans)
 
 pub boxes-init : goal.boxes-init
 boxes-init c = grind (arith, common_steps)

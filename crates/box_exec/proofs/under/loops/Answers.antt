@@ -13,3 +13,6 @@ loop-range-init c = grind (arith, common_steps)
 
 pub returns-clause-stand : goal.returns-clause-stand
 returns-clause-stand c = grind (arith, common_steps)
+
+pub returns-clause-kept : goal.returns-clause-kept
+returns-clause-kept c = grind (arith, common_steps)

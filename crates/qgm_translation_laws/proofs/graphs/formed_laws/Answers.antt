@@ -8,7 +8,7 @@ use Rattle.qgm_translation_laws.proofs.Reused.{reused}
 use Rattle.qgm_translation_laws.proofs.FormedSampled.{sampled}
 use Rattle.qgm_translation_laws.proofs.Telling.{told-by}
 use Rattle.qgm_translation_laws.proofs.ToldAlike.{type-alike}
-use Rattle.qgm_translation_laws.specs.Alike.{Stands}
+use Rattle.graph_alike.specs.Alike.{Stands}
 
 pub returns-clause-types : goal.returns-clause-types
 returns-clause-types c = λ kinds sources query types names order g b. types-found kinds sources query types names order g b

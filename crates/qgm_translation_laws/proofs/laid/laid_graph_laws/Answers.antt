@@ -1,4 +1,4 @@
-use Rattle.qgm_translation_laws.proofs.LaidGraphs.{graph_right, graphs_alike, graphs_one_to_one, laid_graph}
+use Rattle.qgm_translation_laws.proofs.LaidGraphs.{graph_right, graphs_alike, graphs_one_to_one, graphs_print_alike, laid_graph}
 use Rattle.qgm_translation_laws.proofs.Numbers.{laid_numbered}
 use Rattle.qgm_translation_laws.proofs.laid.laid_graph_laws.Goals as goal
 
@@ -16,3 +16,6 @@ returns-clause-one_to_one c = graphs_one_to_one
 
 pub returns-clause-alike : goal.returns-clause-alike
 returns-clause-alike c = graphs_alike
+
+pub returns-clause-text : goal.returns-clause-text
+returns-clause-text c = graphs_print_alike

@@ -1,5 +1,6 @@
 use Rattle.rule_feed.specs.FeedMayExact.{feed-places}
 use Rattle.rule_feed.proofs.FeedKeeps.{feed-preserves, firing-lowers}
+use Rattle.rule_feed.proofs.FillMade.{fill-comes}
 use Rattle.rule_feed.proofs.SettleMade.{settle-comes}
 use Rattle.rule_feed.proofs.SplitMade.{split-comes}
 use Rattle.rule_feed.proofs.TurnKeeps.{turn-preserves}
@@ -16,6 +17,9 @@ returns-clause-preserves c = feed-preserves
 
 pub returns-clause-split : goal.returns-clause-split
 returns-clause-split c = split-comes
+
+pub returns-clause-filled : goal.returns-clause-filled
+returns-clause-filled c = fill-comes
 
 pub returns-clause-lowers : goal.returns-clause-lowers
 returns-clause-lowers c = firing-lowers

@@ -6,7 +6,7 @@ use Rattle.rule_magic.proofs.AbsorbSelectKeeps.{select-lowers}
 use Rattle.rule_magic.proofs.AbsorbOpenLowers.{set-open-lowers}
 use Rattle.rule_magic.proofs.AbsorbSetKeeps.{set-lowers}
 use Rattle.rule_magic.proofs.CompactMeasure.{compact-lowers}
-use Rattle.rule_magic.proofs.FiringMeasure.{group-firing-lowers, outer-firing-lowers, select-firing-lowers, set-firing-lowers}
+use Rattle.rule_magic.proofs.FiringMeasure.{feed-firing-lowers, group-firing-lowers, outer-firing-lowers, scalar-firing-lowers, select-firing-lowers, set-firing-lowers}
 use Rattle.rule_magic.proofs.laws.measure_laws.Goals as goal
 
 pub returns-clause-select : goal.returns-clause-select
@@ -20,6 +20,12 @@ returns-clause-keyless c = keyless-lowers
 
 pub returns-clause-compacted : goal.returns-clause-compacted
 returns-clause-compacted c = compact-lowers
+
+pub returns-clause-scalar_fires : goal.returns-clause-scalar_fires
+returns-clause-scalar_fires c = scalar-firing-lowers
+
+pub returns-clause-feed_fires : goal.returns-clause-feed_fires
+returns-clause-feed_fires c = feed-firing-lowers
 
 pub returns-clause-select_fires : goal.returns-clause-select_fires
 returns-clause-select_fires c = select-firing-lowers

@@ -1,0 +1,156 @@
+// What is made once of a box: the conditions that are tested early, and the indexes of rows that are kept.
+ghost use Rattle.std.specs.Prelude.{◌≡◌, All, IfOk, IfSome, map};
+ghost use Rattle.box_exec.specs.Early.{rejects};
+ghost use Rattle.box_exec.specs.Lasting as spec;
+ghost use Rattle.box_exec.specs.Lookup.{RejectsBy};
+ghost use Rattle.box_exec.specs.Ready.{Ready};
+
+use crate::early::{Early, early_conds, is_open};
+use crate::hashed::all_kept;
+use crate::key::{Key, key_in};
+use crate::lookup::{Hashed, hashed_by};
+use crate::order::{Order, is_in_order, places_of, reordered};
+use crate::under::{Loop, Run, kept_rows, loops};
+use qgm_core::{Node, QuantId};
+use shared_types::OutOfMemory;
+use std::alloc::Global;
+
+/// The conditions of a box that are tested before all its quantifiers are bound, and the indexes of rows
+/// of its quantifiers; or a better order of these.
+#[derive(Drop)]
+pub(crate) struct Plan<'a> {
+    pub early: Vec<Early<'a>>,
+    pub hashed: Vec<Option<Hashed<'a>>>,
+    pub orders: Vec<Order<'a>>,
+}
+
+// What the equalities among the conditions that are tested at a place ask of rows of the last quantifier
+// that is bound there.
+fn keys_of<'a>(
+    alloc: Global,
+    early: &[Early<'a>],
+    place: usize,
+    q: QuantId,
+) -> Result<Vec<Key<'a>>, OutOfMemory>
+    ensures { IfOk result (λ made. All (λ k. RejectsBy (rejects early.now place) q k) made.items) }
+{
+    let mut made = Vec::new(alloc);
+    for e in early {
+        if e.place == place {
+            if let Some(key) = key_in(alloc, e.cond, q)? {
+                made.push(key)?;
+            }
+        }
+    }
+    Ok(made)
+}
+
+// The index of the rows of the quantifier at a place, if it is asked for.
+fn hashed_if<'a>(
+    wanted: bool,
+    alloc: Global,
+    early: &[Early<'a>],
+    i: usize,
+    l: &Loop<'_>,
+) -> Result<Option<Hashed<'a>>, OutOfMemory>
+    ensures { IfOk result (λ o. IfSome o (λ h. spec.HashesAt early.now i l.now h)) }
+{
+    if !wanted || i == usize::MAX {
+        return Ok(None);
+    }
+    let keys = keys_of(alloc, early, i + 1, l.range.id)?;
+    hashed_by(alloc, keys, l.range.id, kept_rows(l))
+}
+
+// Whether a quantifier may bind several rows.
+fn may_bind_several(l: &Loop<'_>) -> bool {
+    l.range.kind.is_f() && (is_open(l.under) || kept_rows(l).len() > 1)
+}
+
+// The index of the rows of each quantifier of a box that stands behind several rows of others; of a box
+// that is evaluated again and again, of each.
+fn all_hashed<'a>(
+    alloc: Global,
+    early: &[Early<'a>],
+    loops: &[Loop<'_>],
+    indexed: bool,
+    again: bool,
+) -> Result<Vec<Option<Hashed<'a>>>, OutOfMemory>
+    ensures { IfOk result (λ made. spec.AllHashed early.now loops.now made.items) }
+{
+    if !indexed {
+        return Ok(Vec::new(alloc));
+    }
+    let mut made = Vec::with_capacity(alloc, loops.len())?;
+    let mut several = again;
+    for i in 0..loops.len() {
+        let l = &loops[i];
+        let wanted = several && l.range.kind.is_f();
+        let hashed = hashed_if(wanted, alloc, early, i, l)?;
+        made.push(hashed)?;
+        several = several || may_bind_several(l);
+    }
+    Ok(made)
+}
+
+// A better order of the quantifiers of a select over kept boxes than that of its text, if there is one.
+fn orders_of<'a>(
+    run: &Run<'_>,
+    node: &'a Node,
+    below: &[Node],
+    over: &[Loop<'_>],
+    again: bool,
+) -> Result<Vec<Order<'a>>, OutOfMemory>
+    requires { Ready run.now.tables.now run.now.memo.now below.now }
+    ensures { IfOk result (λ made. All (λ o. spec.IsOrder node.now (spec.rows_stored run.now.memo.now below.now) o) made.items) }
+{
+    let mut made = Vec::new(run.alloc);
+    if !run.indexed || !node.parts.kind.is_select() || !all_kept(over) {
+        return Ok(made);
+    }
+    let places = places_of(run.alloc, node)?;
+    if is_in_order(&places) {
+        return Ok(made);
+    }
+    let ranges = reordered(run.alloc, node.quants.as_slice(), &places)?;
+    let loops = loops(run, &ranges, below)?;
+    let early = early_conds(run.alloc, node, &ranges)?;
+    let hashed = all_hashed(run.alloc, &early, &loops, run.indexed, again)?;
+    made.push(Order {
+        ranges,
+        early,
+        hashed,
+    })?;
+    Ok(made)
+}
+
+/// The plan of a box whose quantifiers stand so, which is evaluated once, or again and again. It fails only
+/// for want of memory.
+pub(crate) fn plan_of<'a>(
+    run: &Run<'_>,
+    node: &'a Node,
+    below: &[Node],
+    over: &[Loop<'_>],
+    again: bool,
+) -> Result<Plan<'a>, OutOfMemory>
+    requires ready { Ready run.now.tables.now run.now.memo.now below.now }
+    requires ranged { map (λ l. l.range) over.now ≡ node.now.quants }
+    requires kept { All (λ l. spec.rows_kept l.under ≡ spec.rows_stored run.now.memo.now below.now l.range.over) over.now }
+    ensures { IfOk result (λ p. spec.FitsPlan node.now (spec.rows_stored run.now.memo.now below.now) p) }
+{
+    let orders = orders_of(run, node, below, over, again)?;
+    if !orders.is_empty() {
+        return Ok(Plan {
+            early: Vec::new(run.alloc),
+            hashed: Vec::new(run.alloc),
+            orders,
+        });
+    }
+    let early = early_conds(run.alloc, node, node.quants.as_slice())?;
+    let hashed = all_hashed(run.alloc, &early, over, run.indexed, again)?;
+    Ok(Plan {
+        early,
+        hashed,
+        orders,
+    })
+}
