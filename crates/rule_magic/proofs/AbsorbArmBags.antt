@@ -36,7 +36,7 @@ use Rattle.qgm_meaning.proofs.Puts.{Inlined, found-put, inlined-first, rows-put}
 use Rattle.qgm_meaning.proofs.Unfold.{rows-local, unfold-bag}
 use Rattle.qgm_terms.specs.Wanted.{reads}
 use Rattle.rule_magic.specs.AbsorbArms.{HasArms, IsRenamed, IsStill, Renames}
-use Rattle.rule_magic.specs.AbsorbOuterJoin.{AbsorbsArms, AbsorbsLeft}
+use Rattle.rule_magic.specs.AbsorbOuterJoin.{OuterArmsBags, OuterLeftBags}
 use Rattle.rule_magic.specs.AbsorbSetOperation.{SetBags}
 use Rattle.rule_magic.specs.Boxes.{arms_box, box_as, left_box, pair_box}
 use Rattle.rule_magic.specs.FedBox.{IsFedAt}
@@ -336,10 +336,10 @@ pub absorbs-sets : SetBags
 absorbs-sets = λ tables g h d m c x y a r l1 r1 p q1 q2 u1 u2 s marked form types mt left right at arms renames kind oh aq pq two fresh free clean boxes b known i n l e.
     agree-from_alike same_cells (sets-absorbed tables g h d m c x y a r l1 r1 p q1 q2 s marked left right at arms renames oh aq pq fresh free form types mt kind u1 u2 two clean boxes b known i n l e)
 
-pub absorbs-arms : AbsorbsArms
+pub absorbs-arms : OuterArmsBags
 absorbs-arms = λ tables g h d m c x y a r l1 r1 p q1 q2 s marked left right at arms renames kind outer oh aq pq fresh free boxes b known i n l e.
     agree-from_alike same_cells (arms-absorbed tables g h d m c x y a r l1 r1 p q1 q2 s marked left right at arms renames oh aq pq fresh free kind outer boxes b known i n l e)
 
-pub absorbs-left : AbsorbsLeft
+pub absorbs-left : OuterLeftBags
 absorbs-left = λ tables g h d m c x y a r l1 r1 q1 s left at arms kind outer closed oh aq fresh boxes b known i n e.
     agree-from_alike same_cells (left-absorbed tables g h d m c x y a r l1 r1 q1 s left at arms oh aq fresh kind outer closed boxes b known i n e)

@@ -1,16 +1,15 @@
 -- G5 with an open right operand: names of the magic box's quantifier become those of a new one below it; the graph after it is well-formed, and what its boxes look up is told.
 use Rattle.std.proofs.Common.{ℕ, suc, ◌==◌, ◌≡◌, ◌≤◌, ◌<◌, ◌+◌, ◌&&◌, ◌||◌, nat_lt, cond, not, Bool, true, false, List, [], ◌∷◌, ◌++◌, map, length, Option, None, refl, sym, ap, ap₂, subst, ◌∙◌, eqb-true, ◌⊎◌, inl, inr, arith}
 use Rattle.std.specs.Prelude.{slice_get}
-use Rattle.std.specs.List.{flat_map, list_all, list_any}
+use Rattle.std.specs.List.{list_all, list_any}
 use Rattle.std.proofs.lemmas.Bool.{and_from, and_parts, cases_Bool, eq-eqb, not-true, or_cases, or_left, or_right}
 use Rattle.sql_value.specs.declared.order_key.SqlType.{SqlType}
 use Rattle.qgm_core.specs.Boxes.{Ordered, QueryGraph, has_box, ids_in, ids_of, is_quant, overs_in, overs_of, owns, width}
 use Rattle.qgm_core.specs.Edits.{range}
 use Rattle.qgm_core.specs.Free.{named_by}
-use Rattle.qgm_core.specs.Kinds.{is_F, is_S, is_magic, width_by}
+use Rattle.qgm_core.specs.Kinds.{is_S, is_magic, width_by}
 use Rattle.list_laws.specs.Lists.{In, holds, times}
-use Rattle.qgm_core.specs.declared.kinds.QuantKind.{QuantKind}
-use Rattle.qgm_core.specs.declared.kinds.QuantKind.TheVariants.{A, E, F, S}
+use Rattle.qgm_core.specs.declared.kinds.QuantKind.TheVariants.{F}
 use Rattle.qgm_core.specs.declared.kinds.Role.{Role}
 use Rattle.qgm_core.specs.declared.node.Node.{Node}
 use Rattle.qgm_core.specs.declared.owned.OwnedQuant.{OwnedQuant}
@@ -25,7 +24,7 @@ use Rattle.qgm_wellformed.specs.WellFormed.{fault}
 use Rattle.qgm_wellformed.proofs.Faults.{finds-none}
 use Rattle.qgm_edit_laws.specs.Graph.{Sound}
 use Rattle.qgm_edit_laws.specs.Placed.{place}
-use Rattle.qgm_edit_laws.specs.Rebuilds.{HasForm, IsOwned, MadeIn, Rebuilds, StaysIn}
+use Rattle.qgm_edit_laws.specs.Rebuilds.{HasForm, MadeIn, Rebuilds, StaysIn}
 use Rattle.qgm_edit_laws.specs.Reforms.{types_at}
 use Rattle.qgm_edit_laws.proofs.BoxForms.{scalar-column}
 use Rattle.qgm_edit_laws.proofs.Edits.{length-map}
@@ -45,7 +44,7 @@ use Rattle.rule_magic.specs.Places.{MayAbsorb}
 use Rattle.rule_magic.specs.Region.{IsArm, IsRegion, RenamesBelow, RetypesBelow, is_below}
 use Rattle.rule_magic.proofs.AbsorbArmsPlaced as base
 use Rattle.rule_magic.proofs.AbsorbFacts as fed
-use Rattle.rule_magic.proofs.AbsorbOpenSet.{and-none, looks_of}
+use Rattle.rule_magic.proofs.AbsorbOpenSet.{and-none, looks_of, same-flat}
 use Rattle.rule_magic.proofs.AbsorbOuterFacts as outer
 use Rattle.rule_magic.proofs.AbsorbSelectFormed as one
 use Rattle.rule_magic.proofs.AbsorbSelectFormed.{found-suc, map-append}
@@ -59,20 +58,10 @@ use Rattle.rule_magic.proofs.PairFormed.{IsPair, pair-form, pair-made, width-pai
 use Rattle.rule_magic.proofs.Region.{arm-has-region, region-renames, region-stays}
 use Rattle.rule_magic.proofs.RenamedFormed.{region-forms}
 use Rattle.rule_magic.proofs.RenamedMade.{renamed-is-made}
+use Rattle.qgm_core.proofs.KindTests.{f-is}
 use Rattle.qgm_core.proofs.Reaching.{in-has, overs-held}
 use Rattle.list_laws.proofs.Booleans.{clash}
 use Rattle.list_laws.proofs.Membership.{any-from, any-in, eq-false-sym, eq-itself, in-map, map-in}
-
--- boxes that become others with the same numbers in them
-flat-same : (G : Node → List ℕ) (f : Node → Node) → ((n : Node) → G (f n) ≡ G n) → (ns : List Node) → flat_map G (map f ns) ≡ flat_map G ns
-flat-same G f h [] = refl
-flat-same G f h (n ∷ ns) = ap₂ (λ (a b : List ℕ). a ++ b) (h n) (flat-same G f h ns)
-
-is-f : (k : QuantKind) → is_F k ≡ true → k ≡ F
-is-f F h = refl
-is-f E h = absurd (let z : ⊥ = cc in z)
-is-f A h = absurd (let z : ⊥ = cc in z)
-is-f S h = absurd (let z : ⊥ = cc in z)
 
 module _ (g : QueryGraph) (known : Facts) (d : Node) (may : MayAbsorb g.boxes known d) (l r1 : OwnedQuant) (x y : Node) (s u p : ℕ) (lr rr : Role) (up l1 l2 : List Node) (at : OuterAt g known d may l r1 x y up l1 l2) (new : IsFreshSelect g s u p) (opened : loose g.boxes y.id may.a.id ≡ true) where
   abbrev bs : List Node
@@ -231,10 +220,10 @@ module _ (g : QueryGraph) (known : Facts) (d : Node) (may : MayAbsorb g.boxes kn
   ordered = ordered-map ren ren-id before before-ordered (λ n z i j. ranked before before-ordered n z i (subst (λ (k : List OwnedQuant). In z k) (ren-quants n) j))
 
   once-after : (i : ℕ) → times i (ids_in hs) ≤ 1
-  once-after i = subst (λ z. times i z ≤ 1) (sym (flat-same ids_of ren (λ n. ap (map (λ (q : OwnedQuant). q.id)) (ren-quants n)) before)) (base.once-after g known d may l r1 x y s u p lr rr up l1 l2 at new i)
+  once-after i = subst (λ z. times i z ≤ 1) (sym (same-flat ids_of ren (λ n. ap (map (λ (q : OwnedQuant). q.id)) (ren-quants n)) before)) (base.once-after g known d may l r1 x y s u p lr rr up l1 l2 at new i)
 
   overs-after : (b : ℕ) → (s == b) ≡ false → (m.id == b) ≡ false → times b (overs_in hs) ≡ times b (overs_in g.boxes)
-  overs-after b f e = ap (times b) (flat-same overs_of ren (λ n. ap (map (λ (q : OwnedQuant). q.over)) (ren-quants n)) before) ∙ base.overs-after g known d may l r1 x y s u p lr rr up l1 l2 at new b f e
+  overs-after b f e = ap (times b) (same-flat overs_of ren (λ n. ap (map (λ (q : OwnedQuant). q.over)) (ren-quants n)) before) ∙ base.overs-after g known d may l r1 x y s u p lr rr up l1 l2 at new b f e
 
   -- ---- what is looked up
 
@@ -627,7 +616,7 @@ module _ (g : QueryGraph) (known : Facts) (d : Node) (may : MayAbsorb g.boxes kn
       | inl e ↦ elim (subst (λ (n : Node). In z n.quants) e j) [
         | inl k ↦ absurd (clash (loose g.boxes m.id a.id) (subst (λ (z : OwnedQuant). loose g.boxes z.over a.id ≡ true) (sym k) h) (closed-m a.id))
         | inr k ↦ elim k [
-          | inl k ↦ (c, (r1, (may.in_c, (in-r1, (at.over_y ∙ ap (λ (z : OwnedQuant). z.over) k, is-f r1.kind (outer.rows-c g known d may l r1 x y up l1 l2 at).1 ∙ ap (λ (z : OwnedQuant). z.kind) k)))))
+          | inl k ↦ (c, (r1, (may.in_c, (in-r1, (at.over_y ∙ ap (λ (z : OwnedQuant). z.over) k, f-is r1.kind (outer.rows-c g known d may l r1 x y up l1 l2 at).1 ∙ ap (λ (z : OwnedQuant). z.kind) k)))))
           | inr k ↦ elim k [ ]
         ]
       ]

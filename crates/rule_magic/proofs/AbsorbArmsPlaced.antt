@@ -1,6 +1,6 @@
 -- G5 with an open right operand: where the boxes stand, before names change below it.
 use Rattle.std.proofs.Common.{ℕ, ◌==◌, ◌≡◌, ◌≤◌, ◌+◌, ◌&&◌, ◌||◌, cond, not, Bool, true, false, List, [], ◌∷◌, ◌++◌, map, length, refl, sym, ap, ap₂, subst, ◌∙◌, eqb-true, ◌⊎◌, inl, inr, arith}
-use Rattle.std.specs.List.{flat_map, list_all}
+use Rattle.std.specs.List.{flat_map}
 use Rattle.std.proofs.lemmas.Bool.{and_from, cases_Bool, eq-eqb, not-true, or_cases, or_from, or_left, or_parts, or_right}
 use Rattle.qgm_core.specs.Boxes.{Ordered, QueryGraph, has_box, ids_in, is_box, overs_in, width}
 use Rattle.qgm_core.specs.Edits.{range}
@@ -18,15 +18,15 @@ use Rattle.qgm_meaning.specs.Tags.{columns_from}
 use Rattle.qgm_props.specs.Inferred.{Facts}
 use Rattle.rule_magic.specs.AbsorbArms.{IsFreshSelect}
 use Rattle.rule_magic.specs.AbsorbOuterJoin.{OuterAt, absorbed_arms}
-use Rattle.rule_magic.specs.Boxes.{arms_box, both_term, pair_box, same_each}
+use Rattle.rule_magic.specs.Boxes.{arms_box, both_term, pair_box}
 use Rattle.rule_magic.specs.Places.{MayAbsorb}
 use Rattle.rule_magic.proofs.AbsorbKeylessFormed.{one-of, replaced}
 use Rattle.rule_magic.proofs.AbsorbOuterFacts as outer
 use Rattle.rule_magic.proofs.AbsorbSelectFormed as made
+use Rattle.rule_magic.proofs.AbsorbShared.{apart-box, apart-quant}
 use Rattle.rule_magic.proofs.AbsorbSelectFormed.{columns-long, length-append, times-flat}
-use Rattle.qgm_core.proofs.Reaching.{in-has}
 use Rattle.list_laws.proofs.Booleans.{clash}
-use Rattle.list_laws.proofs.Counting.{in-times, times-append, times-in}
+use Rattle.list_laws.proofs.Counting.{times-append}
 use Rattle.list_laws.proofs.Membership.{all-in, eq-false-sym, eq-itself, in-append, in-left, in-right}
 
 module _ (g : QueryGraph) (known : Facts) (d : Node) (may : MayAbsorb g.boxes known d) (l r1 : OwnedQuant) (x y : Node) (s u p : ℕ) (lr rr : Role) (up l1 l2 : List Node) (at : OuterAt g known d may l r1 x y up l1 l2) (new : IsFreshSelect g s u p) where
@@ -83,16 +83,10 @@ module _ (g : QueryGraph) (known : Facts) (d : Node) (may : MayAbsorb g.boxes kn
   in-r1 = outer.in-r1 g known d may l r1 x y up l1 l2 at
 
   pub new-id : (i : ℕ) → times i (ids_in g.boxes) ≡ 0 → (z : OwnedQuant) (n : Node) → In n g.boxes → In z n.quants → (z.id == i) ≡ false
-  new-id i e z n j k = elim (cases_Bool (z.id == i)) [
-    | inr f ↦ f
-    | inl t ↦ absurd (
-        let b = times-in (λ (n : Node). map (λ (q : OwnedQuant). q.id) n.quants) i n g.boxes j in
-        let f : 1 ≤ times i (map (λ (q : OwnedQuant). q.id) n.quants) = subst (λ q. 1 ≤ times q (map (λ (q : OwnedQuant). q.id) n.quants)) (eqb-true z.id i t) (in-times (λ (q : OwnedQuant). q.id) z n.quants k) in
-        omega (arith, b, f, e))
-  ]
+  new-id = apart-quant g.boxes
 
   pub s-not : (n : Node) → In n g.boxes → (s == n.id) ≡ false
-  s-not n i = elim (cases_Bool (s == n.id)) [ inr z ↦ z | inl e ↦ absurd (clash (has_box g.boxes s) (subst (λ z. has_box g.boxes z ≡ true) (sym (eqb-true s n.id e)) (in-has n g.boxes i)) new.s_new) ]
+  s-not = apart-box g.boxes s new.s_new
 
   -- ---- where the boxes stand
 

@@ -9,8 +9,7 @@ use Rattle.qgm_core.specs.Edits.{range}
 use Rattle.qgm_core.specs.Free.{named_by}
 use Rattle.qgm_core.specs.Kinds.{is_F, is_S, is_fed, is_magic, is_permit, is_plain, width_by}
 use Rattle.list_laws.specs.Lists.{EachOnce, In, holds, times}
-use Rattle.qgm_core.specs.declared.kinds.BoxKind.{BoxKind}
-use Rattle.qgm_core.specs.declared.kinds.BoxKind.TheVariants.{Base, Group, OuterJoin, Select, SetOp}
+use Rattle.qgm_core.specs.declared.kinds.BoxKind.TheVariants.{Group, Select}
 use Rattle.qgm_core.specs.declared.kinds.QuantKind.TheVariants.{F}
 use Rattle.qgm_core.specs.declared.kinds.Role.{Role}
 use Rattle.qgm_core.specs.declared.kinds.Role.TheVariants.{Fed, Magic, Plain}
@@ -43,7 +42,7 @@ use Rattle.qgm_edit_laws.proofs.OwnShapes.{rows-placed}
 use Rattle.qgm_edit_laws.proofs.ShapeParts.{shape-from}
 use Rattle.qgm_edit_laws.proofs.TypedKept.{found-under}
 use Rattle.qgm_edit_laws.proofs.PutTypes.{all-put, mixed, term-mixed, types-put}
-use Rattle.qgm_edit_laws.proofs.TypesBy.{agrees-as, agrees_by, found_by, looked, via}
+use Rattle.qgm_edit_laws.proofs.TypesBy.{agrees_by, found_by, via}
 use Rattle.qgm_meaning.specs.Scope.{loose, read_by}
 use Rattle.qgm_meaning.specs.Searches.{binds, names, names_cond}
 use Rattle.qgm_meaning.specs.Tags.{columns_from}
@@ -67,8 +66,9 @@ use Rattle.rule_magic.proofs.AbsorbFacts.{read-append, read-columns}
 use Rattle.rule_magic.proofs.PairFormed.{IsPair, known-map, le-from, lt-from, pair-form, pair-made, read-at-columns, width-pair}
 use Rattle.qgm_edit_laws.proofs.Rebuilt.{looks-exact, one-quant, rebuilt, rebuilt-formed}
 use Rattle.rule_magic.proofs.AbsorbSelectFormed as made
-use Rattle.rule_magic.proofs.AbsorbSelectFormed.{columns-long, columns-types, f-counts, found-suc, length-append, map-append, none-aggregate, none-names, swapped, times-flat}
+use Rattle.rule_magic.proofs.AbsorbSelectFormed.{columns-long, f-counts, found-suc, length-append, map-append, none-aggregate, none-names, swapped, times-flat}
 use Rattle.rule_magic.proofs.TaggedWidths.{drop-plus, take-plus}
+use Rattle.rule_magic.proofs.TypesUnder.{types-known, types-under}
 use Rattle.rule_magic.proofs.BehindColumns.{aggregates-behind, columns-typed, drop-map, folds-behind, names-behind, none-list, pointwise, take-map, reads-at-behind, reads-behind}
 use Rattle.qgm_core.proofs.Reaching.{in-has}
 use Rattle.list_laws.proofs.Counting.{times-append}
@@ -537,33 +537,16 @@ module _ (g : QueryGraph) (once : EachOnce (numbers g.boxes)) (wf : WellFormed g
   long-x = wide-types g.boxes g.root w x in_x
 
   pub L-m : map (term_type L) (columns_from a.id 1 (width m)) ≡ M
-  L-m = ap (λ z. map (term_type L) (columns_from a.id 1 z)) (sym long-m)
-      ∙ columns-types L a.id [] M (λ j. looked g.boxes a.id (suc j) ∙ ap (found_by (types_at g.boxes) (suc j)) (found-under g.boxes g.root w a.id (record { owner = d; quant = a; box = m; owner_in = may.in_d; quant_in = in-a; is_q = refl; box_in = may.in_m; is_over = may.over_m })) ∙ found-suc (types_at g.boxes) j m)
+  L-m = types-under g.boxes g.root w d m a may.in_d in-a may.in_m may.over_m
 
   pub L-x : map (term_type L) (columns_from q.id 1 (width x)) ≡ X
-  L-x = ap (λ z. map (term_type L) (columns_from q.id 1 z)) (sym long-x)
-      ∙ columns-types L q.id [] X (λ j. looked g.boxes q.id (suc j) ∙ ap (found_by (types_at g.boxes) (suc j)) (found-under g.boxes g.root w q.id (record { owner = c; quant = q; box = x; owner_in = may.in_c; quant_in = in-q; is_q = refl; box_in = in_x; is_over = sym over_x })) ∙ found-suc (types_at g.boxes) j x)
+  L-x = types-under g.boxes g.root w c x q may.in_c in-q in_x (sym over_x)
 
   pub L-c : map (term_type L) (columns_from r.id 1 (width c)) ≡ types_at g.boxes c.id
-  L-c = ap (λ z. map (term_type L) (columns_from r.id 1 z)) (sym (wide-types g.boxes g.root w c may.in_c))
-      ∙ columns-types L r.id [] (types_at g.boxes c.id) (λ j. looked g.boxes r.id (suc j) ∙ ap (found_by (types_at g.boxes) (suc j)) (found-under g.boxes g.root w r.id (record { owner = d; quant = r; box = c; owner_in = may.in_d; quant_in = in-r; is_q = refl; box_in = may.in_c; is_over = may.over_c })) ∙ found-suc (types_at g.boxes) j c)
+  L-c = types-under g.boxes g.root w d c r may.in_d in-r may.in_c may.over_c
 
   pub all-known : (n : Node) → In n g.boxes → list_all is_known (types_at g.boxes n.id) ≡ true
-  all-known n i = ap (list_all is_known) (settled-types g.boxes g.root w n i) ∙ by n.parts.kind
-    where
-      known-each : (ts : List SqlType) → list_all is_known (types.known ts) ≡ true
-      known-each [] = refl
-      known-each (y ∷ ts) = known-each ts
-
-      heads : list_all is_known (map (term_type L) n.parts.head) ≡ true
-      heads = sym (known-map L n.parts.head) ∙ (and_parts (list_all (λ y. is_known (term_type L y)) n.parts.head) _ (sym (agrees-as g.boxes n) ∙ ty n i)).0
-
-      by : (k : BoxKind) → list_all is_known (types_by L k n.parts.head) ≡ true
-      by (Base table) = known-each table.types
-      by Select = heads
-      by (Group keys) = heads
-      by (SetOp form types) = known-each types
-      by OuterJoin = heads
+  all-known = types-known g.boxes g.root w ty
 
   pub seen-m : is_permit m.parts.distinct ≡ false
   seen-m = counted-seen g.boxes g.root ty sh d m a may.in_d in-a (f-counts a.kind (made.f-a g once wf known tells d may)) may.in_m may.over_m

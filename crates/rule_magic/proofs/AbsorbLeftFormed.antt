@@ -18,7 +18,7 @@ use Rattle.qgm_wellformed.specs.Types.{Lookup, cond_fits, is_known, joined_colum
 use Rattle.qgm_wellformed.specs.WellFormed.{fault}
 use Rattle.qgm_wellformed.proofs.Faults.{finds-none}
 use Rattle.qgm_edit_laws.specs.Graph.{Sound}
-use Rattle.qgm_edit_laws.specs.Rebuilds.{HasForm, IsOwned, MadeIn, Rebuilds, StaysIn}
+use Rattle.qgm_edit_laws.specs.Rebuilds.{HasForm, MadeIn, Rebuilds, StaysIn}
 use Rattle.qgm_edit_laws.specs.Reforms.{types_at}
 use Rattle.qgm_edit_laws.proofs.BoxForms.{scalar-column}
 use Rattle.qgm_edit_laws.proofs.Edits.{length-map}
@@ -33,7 +33,7 @@ use Rattle.qgm_meaning.specs.Scope.{loose}
 use Rattle.qgm_meaning.specs.Tags.{columns_from}
 use Rattle.qgm_props.specs.Inferred.{Facts}
 use Rattle.qgm_terms.specs.Substitution.{substituted, substituted_cond}
-use Rattle.qgm_terms.specs.Terms.{Cond, Term}
+use Rattle.qgm_terms.specs.Terms.{Term}
 use Rattle.rule_magic.specs.AbsorbOuterJoin.{OuterAt, absorbed_left}
 use Rattle.rule_magic.specs.Boxes.{later, led_cond, led_term, left_box, pair_box}
 use Rattle.rule_magic.specs.Places.{MayAbsorb}

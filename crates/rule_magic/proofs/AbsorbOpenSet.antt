@@ -49,7 +49,7 @@ from-map : (f : Node → Node) (n : Node) (ns : List Node) → In n (map f ns) �
 from-map f n [] i = elim i [ ]
 from-map f n (m ∷ ns) i = elim i [ inl e ↦ (m, (inl refl, sym e)) | inr j ↦ (let v = from-map f n ns j in (v.0, (inr v.1.0, v.1.1))) ]
 
-same-flat : (G : Node → List ℕ) (f : Node → Node) → ((n : Node) → G (f n) ≡ G n) → (ns : List Node) → flat_map G (map f ns) ≡ flat_map G ns
+pub same-flat : (G : Node → List ℕ) (f : Node → Node) → ((n : Node) → G (f n) ≡ G n) → (ns : List Node) → flat_map G (map f ns) ≡ flat_map G ns
 same-flat G f h [] = refl
 same-flat G f h (n ∷ ns) = ap₂ (λ (a b : List ℕ). a ++ b) (h n) (same-flat G f h ns)
 

@@ -1,20 +1,20 @@
 -- The steps of G5 come to its action, which preserves.
-use Rattle.std.proofs.Common.{ℕ, ◌==◌, ◌≡◌, ◌&&◌, ◌||◌, true, false, List, [], ◌∷◌, ◌++◌, Option, Some, None, cond, map, refl, sym, ap, ap₂, subst, ◌∙◌, eqb-true, inl, inr}
+use Rattle.std.proofs.Common.{ℕ, ◌==◌, ◌≡◌, ◌||◌, true, false, List, [], ◌∷◌, ◌++◌, Some, None, map, refl, sym, ap, ap₂, subst, ◌∙◌, inl, inr}
 use Rattle.std.specs.List.{list_any}
-use Rattle.std.proofs.lemmas.Bool.{cases_Bool, or_left, or_right}
-use Rattle.qgm_core.specs.Boxes.{QueryGraph, bare_box, is_box, is_quant, numbers, owns, width}
+use Rattle.std.proofs.lemmas.Bool.{or_left, or_right}
+use Rattle.qgm_core.specs.Boxes.{QueryGraph, bare_box, is_box, numbers, owns, width}
 use Rattle.qgm_core.specs.Edits.{compact, on_quant, parted, put_range, range, with_distinct}
 use Rattle.qgm_core.specs.Free.{IsFree}
-use Rattle.qgm_core.specs.Kinds.{is_plain}
 use Rattle.list_laws.specs.Lists.{EachOnce, change, put_below}
 use Rattle.qgm_core.specs.declared.kinds.BoxKind.{BoxKind}
 use Rattle.qgm_core.specs.declared.kinds.BoxKind.TheVariants.{OuterJoin, Select}
 use Rattle.qgm_core.specs.declared.kinds.Distinct.TheVariants.{Preserve}
 use Rattle.qgm_core.specs.declared.kinds.QuantKind.TheVariants.{F}
 use Rattle.qgm_core.specs.declared.kinds.Role.{Role}
-use Rattle.qgm_core.specs.declared.kinds.Role.TheVariants.{Fed, Magic, Plain}
+use Rattle.qgm_core.specs.declared.kinds.Role.TheVariants.{Plain}
 use Rattle.qgm_core.specs.declared.node.Node.{Node}
 use Rattle.qgm_core.specs.declared.owned.OwnedQuant.{OwnedQuant}
+use Rattle.qgm_core.proofs.KindTests.{plain-is}
 use Rattle.qgm_edit_laws.specs.Graph.{Sound}
 use Rattle.qgm_edit_laws.proofs.FreeLoose.{looks-free}
 use Rattle.qgm_edit_laws.proofs.OneUse.{map-map}
@@ -22,7 +22,6 @@ use Rattle.qgm_edit_laws.proofs.WellFormedKept.{numbers-once}
 use Rattle.qgm_meaning.specs.Scope.{loose}
 use Rattle.qgm_meaning.specs.Tags.{columns_from}
 use Rattle.qgm_props.specs.Calm.{is_closed}
-use Rattle.qgm_terms.specs.Conjuncts.{Conjuncts}
 use Rattle.qgm_terms.specs.Substitution.{substituted, substituted_cond}
 use Rattle.qgm_terms.specs.Terms.{Cond, Term}
 use Rattle.qgm_wellformed.specs.Sentences.{WellFormed}
@@ -37,7 +36,6 @@ use Rattle.rule_magic.specs.AbsorbSetSteps.{IsSelectNew}
 use Rattle.rule_magic.specs.Boxes.{arms_box, both_cond, both_term, later, led_cond, led_term, left_box, new_parts, no_conds, of_both, pair_box, same_each}
 use Rattle.rule_magic.specs.Feeding.{Feeding, feeding, inferred_facts}
 use Rattle.rule_magic.specs.Operands.{OperandPair, pair_under}
-use Rattle.rule_magic.specs.Places.{MayAbsorb}
 use Rattle.rule_magic.specs.RenameSteps.{rename_below}
 use Rattle.rule_magic.specs.declared.absorb_set.action.NewSelect.{NewSelect}
 use Rattle.rule_magic.proofs.AbsorbArmsFormed as opened
@@ -53,12 +51,7 @@ use Rattle.rule_magic.proofs.Adjacent.{change-here, change-there}
 use Rattle.rule_magic.proofs.Amid.{change-amid, change-second, change-third, put-amid}
 use Rattle.rule_magic.proofs.CalmFires.{closed-is}
 use Rattle.rule_magic.proofs.RenameSteps.{rename-below-is}
-use Rattle.list_laws.proofs.Membership.{any-from, any-none, any-not, eq-false-sym, eq-itself}
-
-plain-is : (k : Role) → is_plain k ≡ true → k ≡ Plain
-plain-is Plain h = refl
-plain-is Magic h = absurd (let z : ⊥ = cc in z)
-plain-is Fed h = absurd (let z : ⊥ = cc in z)
+use Rattle.list_laws.proofs.Membership.{any-none, any-not, eq-false-sym, eq-itself}
 
 module _ (g : QueryGraph) (once : EachOnce (numbers g.boxes)) (wf : WellFormed g) (p : Place) (d : Node) (may : MayAbsorbOuterAt p g d) where
   abbrev c : Node

@@ -1,15 +1,14 @@
 -- G5: what stands of an outer join under a fed box.
-use Rattle.std.proofs.Common.{ℕ, suc, ◌==◌, ◌≡◌, ◌≤◌, ◌<◌, ◌+◌, ◌&&◌, ◌||◌, ◌-◌, cond, not, Bool, true, false, List, [], ◌∷◌, ◌++◌, map, length, Option, None, Some, refl, sym, ap, ap₂, subst, ◌∙◌, eqb-true, ◌⊎◌, inl, inr, arith}
+use Rattle.std.proofs.Common.{ℕ, ◌==◌, ◌≡◌, ◌≤◌, ◌<◌, ◌+◌, ◌&&◌, ◌||◌, ◌-◌, cond, true, false, List, [], ◌∷◌, ◌++◌, map, length, Option, None, refl, sym, ap, ap₂, subst, ◌∙◌, eqb-true, inl, inr, arith}
 use Rattle.std.specs.Prelude.{slice_get}
 use Rattle.std.specs.List.{list_all, list_any}
-use Rattle.std.proofs.lemmas.Bool.{and_from, and_parts, cases_Bool, eq-eqb, or_cases, or_left, or_right}
+use Rattle.std.proofs.lemmas.Bool.{and_parts, cases_Bool, eq-eqb, or_cases, or_left, or_right}
 use Rattle.sql_value.specs.declared.order_key.SqlType.{SqlType}
 use Rattle.qgm_core.specs.Boxes.{QueryGraph, is_quant, overs_in, overs_of, owns, width}
 use Rattle.qgm_core.specs.Free.{named_by}
 use Rattle.qgm_core.specs.Kinds.{is_F, is_fed, is_permit, is_plain, width_by}
 use Rattle.list_laws.specs.Lists.{In, holds, times}
-use Rattle.qgm_core.specs.declared.kinds.BoxKind.{BoxKind}
-use Rattle.qgm_core.specs.declared.kinds.BoxKind.TheVariants.{Base, Group, OuterJoin, Select, SetOp}
+use Rattle.qgm_core.specs.declared.kinds.BoxKind.TheVariants.{OuterJoin, Select}
 use Rattle.qgm_core.specs.declared.kinds.Role.{Role}
 use Rattle.qgm_core.specs.declared.kinds.Role.TheVariants.{Fed, Magic, Plain}
 use Rattle.qgm_core.specs.declared.node.Node.{Node}
@@ -18,7 +17,7 @@ use Rattle.qgm_wellformed.specs.Shapes as shape
 use Rattle.qgm_wellformed.specs.Shapes.{head_is_own, is_column, is_outer_join, is_unfolded, kind_fits}
 use Rattle.qgm_wellformed.specs.Types as types
 use Rattle.qgm_wellformed.specs.Types.{Lookup, cond_fits, is_known, joined_column, lookup_of, term_type, types_by}
-use Rattle.qgm_edit_laws.specs.Graph.{Sound, binds_row, nodes_in, reads_in}
+use Rattle.qgm_edit_laws.specs.Graph.{Sound, binds_row, nodes_in}
 use Rattle.qgm_edit_laws.specs.Placed.{place}
 use Rattle.qgm_edit_laws.specs.Reforms.{types_at}
 use Rattle.qgm_edit_laws.specs.Shaped.{Shaped, Typed}
@@ -44,11 +43,12 @@ use Rattle.rule_magic.specs.Places.{MayAbsorb}
 use Rattle.rule_magic.specs.UnderTags.{IsOuter}
 use Rattle.rule_magic.proofs.AbsorbFacts as fed
 use Rattle.rule_magic.proofs.AbsorbSelectFormed as made
-use Rattle.rule_magic.proofs.AbsorbSelectFormed.{columns-long, columns-types, f-counts, found-suc, length-append, map-append}
+use Rattle.rule_magic.proofs.AbsorbSelectFormed.{columns-long, f-counts, length-append}
 use Rattle.rule_magic.proofs.AbsorbShared.{apart-two}
 use Rattle.rule_magic.proofs.CalmFires.{shape-kind}
+use Rattle.rule_magic.proofs.FedTypes.{types-d as head-types}
 use Rattle.rule_magic.proofs.LedColumns.{MayLead}
-use Rattle.rule_magic.proofs.PairFormed.{known-map}
+use Rattle.rule_magic.proofs.TypesUnder.{types-known, types-under}
 use Rattle.list_laws.proofs.Booleans.{clash}
 use Rattle.list_laws.proofs.Counting.{in-times, times-in}
 use Rattle.list_laws.proofs.Membership.{any-from, eq-false-sym, eq-itself}
@@ -293,19 +293,14 @@ module _ (g : QueryGraph) (known : Facts) (d : Node) (may : MayAbsorb g.boxes kn
   pub long : (n : Node) → In n g.boxes → length (types_at g.boxes n.id) ≡ width n
   long = wide-types g.boxes g.root w
 
-  -- all columns of a quantifier have the types of the box under it
-  typed-under : (o n : Node) (q : OwnedQuant) → In o g.boxes → In q o.quants → In n g.boxes → n.id ≡ q.over → map (term_type (lookup_of g.boxes)) (columns_from q.id 1 (width n)) ≡ types_at g.boxes n.id
-  typed-under o n q io iq i e = ap (λ z. map (term_type L) (columns_from q.id 1 z)) (sym (long n i))
-      ∙ columns-types L q.id [] (types_at g.boxes n.id) (λ j. looked g.boxes q.id (suc j) ∙ ap (found_by (types_at g.boxes) (suc j)) (found-under g.boxes g.root w q.id (record { owner = o; quant = q; box = n; owner_in = io; quant_in = iq; is_q = refl; box_in = i; is_over = e })) ∙ found-suc (types_at g.boxes) j n)
-
   pub L-m : map (term_type L) (columns_from a.id 1 (width m)) ≡ M
-  L-m = typed-under d m a may.in_d in-a may.in_m may.over_m
+  L-m = types-under g.boxes g.root w d m a may.in_d in-a may.in_m may.over_m
 
   pub L-x : map (term_type L) (columns_from l.id 1 (width x)) ≡ X
-  L-x = typed-under c x l may.in_c in-l at.in_x (sym at.over_x)
+  L-x = types-under g.boxes g.root w c x l may.in_c in-l at.in_x (sym at.over_x)
 
   pub L-y : map (term_type L) (columns_from r1.id 1 (width y)) ≡ Y
-  L-y = typed-under c y r1 may.in_c in-r1 at.in_y (sym at.over_y)
+  L-y = types-under g.boxes g.root w c y r1 may.in_c in-r1 at.in_y (sym at.over_y)
 
   -- and so each of them
   pub of-y : (k : ℕ) → lookup_of g.boxes r1.id k ≡ cond (k == 0) None (joined_column (slice_get (types_at g.boxes y.id) (k - 1)))
@@ -314,11 +309,8 @@ module _ (g : QueryGraph) (known : Facts) (d : Node) (may : MayAbsorb g.boxes kn
   -- the head of d: the columns of the magic box, and those of c
   pub types-d : types_at g.boxes d.id ≡ M ++ map (term_type (lookup_of g.boxes)) c.parts.head
   types-d =
-      settled-types g.boxes g.root w d may.in_d
-      ∙ ap (λ z. types_by L z d.parts.head) (fed.kind_d g at.once at.formed known at.tells d may)
-      ∙ ap (map (term_type L)) (fed.head-is g at.once at.formed known at.tells d may)
-      ∙ map-append (term_type L) (columns_from a.id 1 (width m)) (columns_from r.id 1 (width c))
-      ∙ ap₂ (λ (v z : List (Option SqlType)). v ++ z) L-m (typed-under d c r may.in_d in-r may.in_c may.over_c ∙ settled-types g.boxes g.root w c may.in_c ∙ ap (λ z. types_by L z c.parts.head) at.an_outer)
+      settled-types g.boxes g.root w d may.in_d ∙ ap (λ z. types_by L z d.parts.head) (fed.kind_d g at.once at.formed known at.tells d may) ∙ head-types g at.once at.formed known at.tells d may
+      ∙ ap (λ (z : List (Option SqlType)). M ++ z) (settled-types g.boxes g.root w c may.in_c ∙ ap (λ z. types_by L z c.parts.head) at.an_outer)
 
   pub wide-d : width d ≡ width m + length c.parts.head
   wide-d =
@@ -332,21 +324,7 @@ module _ (g : QueryGraph) (known : Facts) (d : Node) (may : MayAbsorb g.boxes kn
   on-c = (and_parts (list_all (cond_fits L) c.parts.conds.items) (arms_by (types_at g.boxes) c.parts.kind c.quants) (agreed c may.in_c).1).0
 
   pub all-known : (n : Node) → In n g.boxes → list_all is_known (types_at g.boxes n.id) ≡ true
-  all-known n i = ap (list_all is_known) (settled-types g.boxes g.root w n i) ∙ by n.parts.kind
-    where
-      known-each : (ts : List SqlType) → list_all is_known (types.known ts) ≡ true
-      known-each [] = refl
-      known-each (y ∷ ts) = known-each ts
-
-      heads : list_all is_known (map (term_type L) n.parts.head) ≡ true
-      heads = sym (known-map L n.parts.head) ∙ (agreed n i).0
-
-      by : (k : BoxKind) → list_all is_known (types_by L k n.parts.head) ≡ true
-      by (Base table) = known-each table.types
-      by Select = heads
-      by (Group keys) = heads
-      by (SetOp form types) = known-each types
-      by OuterJoin = heads
+  all-known = types-known g.boxes g.root w ty
 
   -- ---- no box below is PERMIT
 

@@ -1,16 +1,15 @@
 -- G5 at a place: the operands of the outer join, and the boxes after the fed box and it have changed their quantifiers.
-use Rattle.std.proofs.Common.{ℕ, ◌==◌, ◌≡◌, ◌&&◌, ◌||◌, true, false, List, [], ◌∷◌, ◌++◌, Option, Some, append_assoc, cond, refl, sym, ap, ap₂, subst, ◌∙◌, eqb-true, inl, inr}
+use Rattle.std.proofs.Common.{◌==◌, ◌≡◌, ◌&&◌, ◌||◌, true, false, List, [], ◌∷◌, ◌++◌, Option, Some, append_assoc, refl, sym, ap, ap₂, subst, ◌∙◌, eqb-true, inl, inr}
 use Rattle.std.specs.List.{list_all, list_any}
 use Rattle.std.proofs.lemmas.Bool.{and_parts, cases_Bool, eq-eqb, or_from, or_left, or_right}
 use Rattle.qgm_core.specs.Boxes.{QueryGraph, is_box, is_quant, numbers, owns}
 use Rattle.qgm_core.specs.Edits.{moved_below, on_quant, put_found, quant_moved}
-use Rattle.qgm_core.specs.Kinds.{is_F, is_plain}
+use Rattle.qgm_core.specs.Kinds.{is_plain}
 use Rattle.list_laws.specs.Lists.{EachOnce, In, change, first, put_below, without}
 use Rattle.qgm_core.specs.declared.kinds.BoxKind.{BoxKind}
 use Rattle.qgm_core.specs.declared.node.Node.{Node}
 use Rattle.qgm_core.specs.declared.owned.OwnedQuant.{OwnedQuant}
 use Rattle.qgm_core.proofs.Reaching.{overs-held}
-use Rattle.qgm_edit_laws.specs.Graph.{Sound}
 use Rattle.qgm_edit_laws.proofs.PlacedLists.{first-in}
 use Rattle.qgm_wellformed.specs.Sentences.{WellFormed}
 use Rattle.qgm_wellformed.specs.Shapes as shape
@@ -25,7 +24,7 @@ use Rattle.rule_magic.specs.Operands.{OperandPair, both_under, pair_under}
 use Rattle.rule_magic.proofs.AbsorbGroupBelow as below
 use Rattle.rule_magic.proofs.AbsorbOuterFacts as outer
 use Rattle.rule_magic.proofs.AbsorbSelectFormed as placed
-use Rattle.rule_magic.proofs.AbsorbSetActs.{AreTwo, are-two}
+use Rattle.rule_magic.proofs.AbsorbSetActs.{are-two}
 use Rattle.rule_magic.proofs.AbsorbFacts as fed
 use Rattle.rule_magic.proofs.Adjacent.{change-first, change-here, change-next, change-there, first-here, first-there, to-first, to-second, without-here, without-there}
 use Rattle.rule_magic.proofs.Amid.{first-amid, none-append, put-amid, without-amid}

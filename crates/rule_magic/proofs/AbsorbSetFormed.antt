@@ -50,6 +50,7 @@ use Rattle.rule_magic.proofs.AbsorbKeylessFormed.{one-of, replaced}
 use Rattle.rule_magic.proofs.AbsorbSelectFormed as made
 use Rattle.rule_magic.proofs.AbsorbSelectFormed.{columns-long, f-counts, length-append, times-flat}
 use Rattle.rule_magic.proofs.AbsorbShared.{apart-two}
+use Rattle.rule_magic.proofs.AbsorbShared.{apart-box, apart-quant}
 use Rattle.rule_magic.proofs.BehindColumns.{none-list}
 use Rattle.rule_magic.proofs.CalmFires.{shape-kind}
 use Rattle.rule_magic.proofs.FedTypes.{types-d}
@@ -239,13 +240,7 @@ module _ (g : QueryGraph) (known : Facts) (d : Node) (may : MayAbsorb g.boxes kn
   l-not-r1 = apart-two g.boxes c l r1 (w.once r1.id) may.in_c at.two
 
   pub new-id : (i : ℕ) → times i (ids_in g.boxes) ≡ 0 → (z : OwnedQuant) (n : Node) → In n g.boxes → In z n.quants → (z.id == i) ≡ false
-  new-id i e z n j k = elim (cases_Bool (z.id == i)) [
-    | inr f ↦ f
-    | inl t ↦ absurd (
-        let b = times-in (λ (n : Node). map (λ (q : OwnedQuant). q.id) n.quants) i n g.boxes j in
-        let f : 1 ≤ times i (map (λ (q : OwnedQuant). q.id) n.quants) = subst (λ q. 1 ≤ times q (map (λ (q : OwnedQuant). q.id) n.quants)) (eqb-true z.id i t) (in-times (λ (q : OwnedQuant). q.id) z n.quants k) in
-        omega (arith, b, f, e))
-  ]
+  new-id = apart-quant g.boxes
 
   pub root-not-c : (g.root == c.id) ≡ false
   root-not-c = elim (cases_Bool (g.root == c.id)) [
@@ -254,7 +249,7 @@ module _ (g : QueryGraph) (known : Facts) (d : Node) (may : MayAbsorb g.boxes kn
   ]
 
   pub s-not : (n : Node) → In n g.boxes → (s == n.id) ≡ false
-  s-not n i = elim (cases_Bool (s == n.id)) [ inr z ↦ z | inl e ↦ absurd (clash (has_box g.boxes s) (subst (λ z. has_box g.boxes z ≡ true) (sym (eqb-true s n.id e)) (in-has n g.boxes i)) at.s_new) ]
+  s-not = apart-box g.boxes s at.s_new
 
   -- ---- where the boxes stand
 

@@ -1,5 +1,5 @@
 -- What all absorbing rules keep: tables that satisfy the bases, closed boxes, and scalar quantifiers.
-use Rattle.std.proofs.Common.{ℕ, zero, suc, ◌+◌, ◌==◌, ◌≡◌, ◌≤◌, ◌&&◌, ◌⊎◌, cond, map, not, true, false, List, [], ◌∷◌, ◌++◌, None, refl, subst, sym, ap, ◌∙◌, inl, inr, arith}
+use Rattle.std.proofs.Common.{ℕ, zero, suc, ◌+◌, ◌==◌, ◌≡◌, ◌≤◌, ◌&&◌, ◌⊎◌, cond, map, not, true, false, List, [], ◌∷◌, ◌++◌, None, refl, subst, sym, ap, ◌∙◌, eqb-true, inl, inr, arith}
 use Rattle.std.proofs.lemmas.Bool.{cases_Bool}
 use Rattle.row_bag.specs.Bags.{Agree}
 use Rattle.row_bag.specs.Sets.{same_cells}
@@ -9,7 +9,7 @@ use Rattle.qgm_core.specs.Edits.{compact}
 use Rattle.qgm_core.specs.Kinds.{is_S, is_magic, is_plain}
 use Rattle.list_laws.specs.Lists.{EachOnce, In, first, times}
 use Rattle.qgm_core.specs.declared.kinds.Role.{Role}
-use Rattle.qgm_core.specs.declared.kinds.Role.TheVariants.{Fed, Magic, Plain}
+use Rattle.qgm_core.specs.declared.kinds.Role.TheVariants.{Fed, Plain}
 use Rattle.qgm_core.specs.declared.node.Node.{Node}
 use Rattle.qgm_core.specs.declared.owned.OwnedQuant.{OwnedQuant}
 use Rattle.qgm_wellformed.specs.WellFormed.{fault}
@@ -26,8 +26,10 @@ use Rattle.qgm_props.specs.Measure.{is_loose_scalar, keyless_found}
 use Rattle.rule_facts.proofs.Compacted.{compact-preserves}
 use Rattle.rule_magic.specs.AbsorbArms.{role_over}
 use Rattle.rule_magic.proofs.CalmFires.{closed-is}
+use Rattle.qgm_core.proofs.KindTests.{plain-is}
+use Rattle.qgm_core.proofs.Reaching.{in-has}
 use Rattle.list_laws.proofs.Booleans.{clash}
-use Rattle.list_laws.proofs.Counting.{times-map, times-some}
+use Rattle.list_laws.proofs.Counting.{in-times, times-in, times-map, times-some}
 use Rattle.list_laws.proofs.Membership.{any-from, eq-itself}
 
 -- ---- tables
@@ -68,9 +70,7 @@ role-over-is bs root w b = elim (cases_Bool (is_closed bs b)) [ inl t ↦ inl (a
 
 -- a plain box isn't magic
 pub plain-not-magic : (k : Role) → is_plain k ≡ true → is_magic k ≡ false
-plain-not-magic Plain h = refl
-plain-not-magic Magic h = absurd (let z : ⊥ = cc in z)
-plain-not-magic Fed h = refl
+plain-not-magic k h = ap is_magic (plain-is k h)
 
 -- under a quantifier whose box is as it was, a group without keys is found as before
 pub loose-scalar : (bs hs : List Node) (r : OwnedQuant) → keyless_found (first (is_box r.over) hs) ≡ keyless_found (first (is_box r.over) bs) → is_loose_scalar hs r ≡ true → is_loose_scalar bs r ≡ true
@@ -101,3 +101,15 @@ no-quant g i n = none (times i (ids_in g.boxes)) (λ h. (
     none : (t : ℕ) → (1 ≤ t → ⊥) → t ≡ 0
     none zero h = refl
     none (suc t) h = absurd (h (omega arith))
+
+pub apart-box : (bs : List Node) (s : ℕ) → has_box bs s ≡ false → (n : Node) → In n bs → (s == n.id) ≡ false
+apart-box bs s e n i = elim (cases_Bool (s == n.id)) [ inr z ↦ z | inl t ↦ absurd (clash (has_box bs s) (subst (λ z. has_box bs z ≡ true) (sym (eqb-true s n.id t)) (in-has n bs i)) e) ]
+
+pub apart-quant : (bs : List Node) (i : ℕ) → times i (ids_in bs) ≡ 0 → (z : OwnedQuant) (n : Node) → In n bs → In z n.quants → (z.id == i) ≡ false
+apart-quant bs i e z n j k = elim (cases_Bool (z.id == i)) [
+  | inr f ↦ f
+  | inl t ↦ absurd (
+      let b = times-in (λ (n : Node). map (λ (q : OwnedQuant). q.id) n.quants) i n bs j in
+      let f : 1 ≤ times i (map (λ (q : OwnedQuant). q.id) n.quants) = subst (λ q. 1 ≤ times q (map (λ (q : OwnedQuant). q.id) n.quants)) (eqb-true z.id i t) (in-times (λ (q : OwnedQuant). q.id) z n.quants k) in
+      omega (arith, b, f, e))
+]

@@ -1,21 +1,18 @@
 -- The types of a fed box are those of the boxes under it.
-use Rattle.std.proofs.Common.{suc, ◌≡◌, ◌&&◌, ◌++◌, true, List, [], ◌∷◌, map, Option, None, Some, refl, sym, ap, ap₂, ◌∙◌}
+use Rattle.std.proofs.Common.{◌≡◌, ◌&&◌, ◌++◌, true, List, [], ◌∷◌, map, Option, None, Some, refl, sym, ap, ap₂, ◌∙◌}
 use Rattle.std.specs.List.{list_all}
 use Rattle.std.proofs.lemmas.Bool.{and_parts}
 use Rattle.sql_value.specs.declared.order_key.SqlType.{SqlType}
 use Rattle.qgm_core.specs.Boxes.{QueryGraph, numbers, width}
-use Rattle.list_laws.specs.Lists.{EachOnce, In}
+use Rattle.list_laws.specs.Lists.{EachOnce}
 use Rattle.qgm_core.specs.declared.kinds.BoxKind.TheVariants.{SetOp}
 use Rattle.qgm_core.specs.declared.kinds.SetOperator.{SetOperator}
 use Rattle.qgm_core.specs.declared.node.Node.{Node}
-use Rattle.qgm_core.specs.declared.owned.OwnedQuant.{OwnedQuant}
 use Rattle.qgm_edit_laws.specs.Graph.{Sound}
 use Rattle.qgm_edit_laws.specs.Reforms.{types_at}
 use Rattle.qgm_edit_laws.specs.Shaped.{Typed}
 use Rattle.qgm_edit_laws.proofs.Follow.{settled-types}
-use Rattle.qgm_edit_laws.proofs.Reformed.{wide-types}
-use Rattle.qgm_edit_laws.proofs.TypedKept.{found-under}
-use Rattle.qgm_edit_laws.proofs.TypesBy.{agrees-as, arms_by, found_by, looked}
+use Rattle.qgm_edit_laws.proofs.TypesBy.{agrees-as, arms_by}
 use Rattle.qgm_meaning.specs.Tags.{columns_from}
 use Rattle.qgm_props.specs.Inferred.{Facts}
 use Rattle.qgm_props.specs.Laws.{Tells}
@@ -27,7 +24,8 @@ use Rattle.rule_magic.specs.AbsorbSetSteps.{known_types, put_known}
 use Rattle.rule_magic.specs.Places.{MayAbsorb}
 use Rattle.rule_magic.proofs.AbsorbFacts as fed
 use Rattle.rule_magic.proofs.AbsorbSelectFormed as made
-use Rattle.rule_magic.proofs.AbsorbSelectFormed.{columns-types, found-suc, map-append}
+use Rattle.rule_magic.proofs.AbsorbSelectFormed.{map-append}
+use Rattle.rule_magic.proofs.TypesUnder.{types-under}
 
 -- where all types are known, these are all
 all-known : (at : Lookup) (xs : List Term) → list_all (λ x. is_known (term_type at x)) xs ≡ true → types.known (known_types at xs) ≡ map (term_type at) xs
@@ -51,17 +49,12 @@ module _ (g : QueryGraph) (once : EachOnce (numbers g.boxes)) (wf : WellFormed g
   w : Sound g.boxes g.root
   w = made.w g once wf known tells d may
 
-  -- columns of a quantifier of d have the types of its box
-  columns-of : (r : OwnedQuant) (n : Node) → In r d.quants → In n g.boxes → n.id ≡ r.over → map (term_type L) (columns_from r.id 1 (width n)) ≡ types_at g.boxes n.id
-  columns-of r n j i e =
-      ap (λ z. map (term_type L) (columns_from r.id 1 z)) (sym (wide-types g.boxes g.root w n i))
-      ∙ columns-types L r.id [] (types_at g.boxes n.id) (λ k. looked g.boxes r.id (suc k) ∙ ap (found_by (types_at g.boxes) (suc k)) (found-under g.boxes g.root w r.id (record { owner = d; quant = r; box = n; owner_in = may.in_d; quant_in = j; is_q = refl; box_in = i; is_over = e })) ∙ found-suc (types_at g.boxes) k n)
-
   pub types-d : map (term_type L) d.parts.head ≡ types_at g.boxes m.id ++ types_at g.boxes c.id
   types-d =
       ap (map (term_type L)) (fed.head-is g once wf known tells d may)
       ∙ map-append (term_type L) (columns_from may.a.id 1 (width m)) (columns_from may.r.id 1 (width c))
-      ∙ ap₂ (λ (v z : List (Option SqlType)). v ++ z) (columns-of may.a m (made.in-a g once wf known tells d may) may.in_m may.over_m) (columns-of may.r c (made.in-r g once wf known tells d may) may.in_c may.over_c)
+      ∙ ap₂ (λ (v z : List (Option SqlType)). v ++ z) (types-under g.boxes g.root w d m may.a may.in_d (made.in-a g once wf known tells d may) may.in_m may.over_m)
+      (types-under g.boxes g.root w d c may.r may.in_d (made.in-r g once wf known tells d may) may.in_c may.over_c)
 
   -- over a set operation they are those of the magic box before its own
   pub set-types : (form : SetOperator) (ts : List SqlType) → c.parts.kind ≡ SetOp form ts → types.known (known_types L d.parts.head) ≡ types_at g.boxes m.id ++ types.known ts

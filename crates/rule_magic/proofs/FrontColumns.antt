@@ -1,5 +1,5 @@
 -- A box with columns of a quantifier before the head of another box, and conditions behind its own that columns are the same.
-use Rattle.std.proofs.Common.{ℕ, zero, suc, ◌==◌, ◌≡◌, ◌≤◌, ◌<◌, ◌+◌, ◌&&◌, ◌||◌, not, Bool, true, false, List, [], ◌∷◌, ◌++◌, map, length, Option, None, Some, refl, sym, ap, ap₂, subst, ◌∙◌, eqb-true, ◌⊎◌, inl, inr, arith}
+use Rattle.std.proofs.Common.{ℕ, zero, suc, ◌==◌, ◌≡◌, ◌≤◌, ◌<◌, ◌+◌, ◌&&◌, ◌||◌, not, Bool, true, false, List, [], ◌∷◌, ◌++◌, length, Option, None, Some, refl, sym, ap, ap₂, subst, ◌∙◌, eqb-true, ◌⊎◌, inl, inr, arith}
 use Rattle.std.specs.Prelude.{slice_get}
 use Rattle.std.specs.List.{list_all, list_any}
 use Rattle.std.proofs.lemmas.Bool.{and_from, and_parts, or_cases}
@@ -13,7 +13,7 @@ use Rattle.qgm_terms.specs.Terms as t
 use Rattle.qgm_terms.specs.Terms.{Cond, Term}
 use Rattle.qgm_terms.specs.Wanted.{has_aggregate, has_aggregate_cond, reads, reads_at, reads_at_cond, reads_cond}
 use Rattle.qgm_wellformed.specs.Shapes.{is_column, is_unfolded}
-use Rattle.qgm_wellformed.specs.Types.{Lookup, agree, cond_fits, is_known, joined_column, term_type}
+use Rattle.qgm_wellformed.specs.Types.{Lookup, agree, cond_fits, is_known, joined_column}
 use Rattle.qgm_edit_laws.specs.Graph.{nodes_in, reads_in}
 use Rattle.qgm_edit_laws.proofs.AllColumns.{length-one}
 use Rattle.qgm_edit_laws.proofs.Read.{any-both}

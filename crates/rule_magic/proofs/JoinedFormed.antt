@@ -1,5 +1,5 @@
 -- The outer join of the magic box and groups: what is asked of it where it is made.
-use Rattle.std.proofs.Common.{ℕ, suc, ◌==◌, ◌≡◌, ◌≤◌, ◌+◌, ◌&&◌, ◌||◌, nat_lt, not, Bool, true, false, List, [], ◌∷◌, ◌++◌, map, length, Option, refl, sym, ap, ap₂, subst, ◌∙◌, inr, arith}
+use Rattle.std.proofs.Common.{ℕ, suc, ◌≡◌, ◌≤◌, ◌+◌, ◌&&◌, ◌||◌, nat_lt, not, Bool, true, false, List, [], ◌∷◌, ◌++◌, map, length, Option, refl, sym, ap, ap₂, subst, ◌∙◌, inr, arith}
 use Rattle.std.specs.Prelude.{slice_get}
 use Rattle.std.specs.List.{list_all, list_any}
 use Rattle.sql_value.specs.declared.order_key.SqlType.{SqlType}
@@ -7,7 +7,7 @@ use Rattle.qgm_core.specs.Boxes.{Ordered, ids_in, width}
 use Rattle.qgm_core.specs.Kinds.{is_permit}
 use Rattle.list_laws.specs.Lists.{In, times}
 use Rattle.qgm_core.specs.declared.node.Node.{Node}
-use Rattle.qgm_wellformed.specs.Shapes.{is_column, is_scalar}
+use Rattle.qgm_wellformed.specs.Shapes.{is_scalar}
 use Rattle.qgm_wellformed.specs.Types.{Lookup, cond_fits, is_known, joined_column, term_type}
 use Rattle.qgm_edit_laws.specs.Graph.{Sound}
 use Rattle.qgm_edit_laws.specs.Rebuilds.{HasForm, MadeIn}
@@ -15,7 +15,7 @@ use Rattle.qgm_edit_laws.proofs.ShapedPut.{all-joined}
 use Rattle.qgm_edit_laws.proofs.TypesBy.{found_by, via}
 use Rattle.qgm_meaning.specs.Tags.{columns_from}
 use Rattle.qgm_terms.specs.Terms.{Term}
-use Rattle.qgm_terms.specs.Wanted.{has_aggregate, reads, reads_at}
+use Rattle.qgm_terms.specs.Wanted.{reads, reads_at}
 use Rattle.rule_magic.specs.Boxes.{joined_box, later, same_each}
 use Rattle.rule_magic.proofs.AbsorbFacts.{read-columns}
 use Rattle.rule_magic.proofs.AbsorbSelectFormed.{columns-long, found-suc, length-append, map-append, none-aggregate, none-names}

@@ -1,7 +1,7 @@
 -- What an outer join names where its left arm begins with the columns of the magic box, and its right one too.
-use Rattle.std.proofs.Common.{ℕ, zero, suc, ◌==◌, ◌≡◌, ◌≤◌, ◌<◌, ◌+◌, ◌||◌, cond, Bool, true, false, List, ◌∷◌, map, refl, sym, ap, ap₂, subst, ◌∙◌, eqb-true, ◌⊎◌, inl, inr, arith}
-use Rattle.std.specs.List.{flat_map, list_all, list_any}
-use Rattle.std.proofs.lemmas.Bool.{cases_Bool, eq-eqb, or_cases}
+use Rattle.std.proofs.Common.{ℕ, zero, suc, ◌==◌, ◌≡◌, ◌≤◌, ◌+◌, cond, true, false, ◌∷◌, map, refl, sym, ap, ap₂, subst, ◌∙◌, eqb-true, ◌⊎◌, inl, inr, arith}
+use Rattle.std.specs.List.{flat_map, list_all}
+use Rattle.std.proofs.lemmas.Bool.{eq-eqb, or_cases}
 use Rattle.list_laws.specs.Lists.{In, holds}
 use Rattle.qgm_core.specs.Free.{named_by}
 use Rattle.qgm_core.specs.declared.node.Node.{Node}
@@ -9,7 +9,6 @@ use Rattle.qgm_meaning.specs.Scope.{put_node, read_by}
 use Rattle.qgm_meaning.specs.Tags.{columns_from}
 use Rattle.qgm_terms.specs.Named.{names_in, names_in_cond}
 use Rattle.qgm_terms.specs.Substitution.{substituted, substituted_cond}
-use Rattle.qgm_terms.specs.Terms as t
 use Rattle.qgm_terms.specs.Terms.{Cond, Term}
 use Rattle.qgm_wellformed.specs.Shapes.{is_column, is_unfolded}
 use Rattle.qgm_wellformed.specs.Types.{Lookup, cond_fits, term_type}
@@ -17,7 +16,7 @@ use Rattle.qgm_edit_laws.specs.Graph.{nodes_in, reads_in}
 use Rattle.qgm_edit_laws.proofs.PutTypes.{mixed}
 use Rattle.qgm_edit_laws.proofs.Read.{named-split}
 use Rattle.qgm_edit_laws.proofs.Settled.{cond-local, term-local}
-use Rattle.rule_magic.specs.Boxes.{both_cond, both_term, later, led_cond, led_term}
+use Rattle.rule_magic.specs.Boxes.{both_cond, both_term, led_cond, led_term}
 use Rattle.rule_magic.proofs.PutColumns as put
 use Rattle.list_laws.proofs.Booleans.{clash}
 use Rattle.list_laws.proofs.Membership.{all-from, eq-false-sym, eq-itself, flat-in, in-holds, in-left, in-right, map-in}

@@ -28,6 +28,7 @@ pub mod Amid
 pub mod AbsorbSelectActs
 pub mod PairFormed
 pub mod BehindColumns
+pub mod TypesUnder
 pub mod AbsorbGroupFormed
 pub mod AbsorbGroupKeeps
 pub mod KeyedFormed

@@ -1,8 +1,7 @@
 -- An outer join over two closed boxes: what is asked of it where it is made.
-use Rattle.std.proofs.Common.{ℕ, ◌==◌, ◌≡◌, ◌≤◌, ◌&&◌, ◌||◌, nat_le, nat_lt, Bool, true, false, List, [], ◌∷◌, map, Option, Some, refl, sym, ap, subst, ◌∙◌, eqb-true, ◌⊎◌, inl, inr, take, arith}
+use Rattle.std.proofs.Common.{ℕ, ◌==◌, ◌≡◌, ◌≤◌, ◌&&◌, ◌||◌, nat_le, nat_lt, Bool, true, false, List, [], ◌∷◌, map, Some, refl, sym, ap, subst, ◌∙◌, eqb-true, ◌⊎◌, inl, inr, take, arith}
 use Rattle.std.specs.List.{flat_map, list_all, list_any}
 use Rattle.std.proofs.lemmas.Bool.{and_from, cases_Bool, or_cases, or_from, or_left, or_right}
-use Rattle.sql_value.specs.declared.order_key.SqlType.{SqlType}
 use Rattle.qgm_core.specs.Boxes.{Ordered, ids_in, is_quant, owns, width}
 use Rattle.qgm_core.specs.Edits.{range}
 use Rattle.qgm_core.specs.Free.{named_by}
@@ -19,7 +18,7 @@ use Rattle.qgm_wellformed.specs.Types.{cond_fits, is_known, term_type, types_by}
 use Rattle.qgm_edit_laws.specs.Checked.{own_seen}
 use Rattle.qgm_edit_laws.specs.Graph.{ArmsBy, BareBy, Sound, nodes_in, reads_in}
 use Rattle.qgm_edit_laws.specs.Rebuilds.{HasForm, MadeIn}
-use Rattle.qgm_edit_laws.specs.TypesBy.{Types, agrees_by, arms_by, via}
+use Rattle.qgm_edit_laws.specs.TypesBy.{Types, arms_by, via}
 use Rattle.qgm_edit_laws.proofs.AnyPut.{conds-names, heads-names}
 use Rattle.qgm_edit_laws.proofs.OwnShapes.{rows-placed}
 use Rattle.qgm_edit_laws.proofs.Ranks.{same-box}

@@ -1,7 +1,7 @@
 -- Columns of one quantifier in the place of those of another, in all cells and conditions of a box without nodes.
-use Rattle.std.proofs.Common.{ℕ, zero, suc, ◌==◌, ◌≡◌, ◌≤◌, ◌<◌, ◌+◌, ◌&&◌, ◌||◌, cond, not, get_or, Bool, true, false, List, [], ◌∷◌, map, refl, sym, ap, ap₂, subst, ◌∙◌, eqb-true, ◌⊎◌, inl, inr, arith}
+use Rattle.std.proofs.Common.{ℕ, zero, suc, ◌==◌, ◌≡◌, ◌≤◌, ◌<◌, ◌+◌, ◌&&◌, cond, not, get_or, true, false, List, [], ◌∷◌, map, refl, ap, ap₂, subst, ◌∙◌, eqb-true, ◌⊎◌, inl, inr, arith}
 use Rattle.std.specs.List.{list_all, list_any}
-use Rattle.std.proofs.lemmas.Bool.{and_from, and_parts, cases_Bool, or_left, or_parts, or_right}
+use Rattle.std.proofs.lemmas.Bool.{and_from, cases_Bool, or_left, or_parts, or_right}
 use Rattle.list_laws.specs.Lists.{In}
 use Rattle.qgm_core.specs.declared.node.Node.{Node}
 use Rattle.qgm_meaning.specs.Scope.{put_node, read_by}

@@ -1,5 +1,5 @@
 -- The places of G5 are exactly those where it may fire.
-use Rattle.std.proofs.Common.{ℕ, ◌≡◌, ◌&&◌, true, false, length, refl, sym, ap, subst, ◌∙◌}
+use Rattle.std.proofs.Common.{ℕ, ◌≡◌, ◌&&◌, true, length, refl, sym, ap, subst, ◌∙◌}
 use Rattle.std.specs.Prelude.{◌↔◌}
 use Rattle.std.proofs.lemmas.Bool.{and_from, and_parts, le-leb, leb-true}
 use Rattle.qgm_core.specs.Boxes.{Ordered, QueryGraph, numbers}

@@ -127,8 +127,8 @@ AbsorbsOuter p g h = (d : Node) × (AbsorbsLeftAt p g h d ⊎ AbsorbsArmsAt p g 
 -- ---- what it keeps
 
 -- G5 with an open right arm
-abbrev pub AbsorbsArms : Type 0
-AbsorbsArms =
+abbrev pub OuterArmsBags : Type 0
+OuterArmsBags =
     (tables : List Table) (g h : QueryGraph) (d m c x y : Node) (a r l1 r1 : OwnedQuant) (p q1 q2 s : ℕ) (marked : ℕ → Bool) (left right : Role)
     → IsFedAt tables g d m c a r → HasArms g d m c x y a l1 r1 marked → Renames g a.id p marked → c.parts.kind ≡ OuterJoin → IsOuter a.id l1.id r1.id c → Ordered h.boxes
     → (q1 == a.id) ≡ false → (q2 == p) ≡ false → has_box g.boxes s ≡ false → marked s ≡ false
@@ -138,8 +138,8 @@ AbsorbsArms =
     → (b : ℕ) → has_box g.boxes b ≡ true → has_box h.boxes b ≡ true → (b == c.id) ≡ false → (marked b && loose g.boxes b a.id) ≡ false → (e : Environment) → Agree same_cells (bag tables h b e) (bag tables g b e)
 
 -- G5 with a closed right arm; s is any number that no box has
-abbrev pub AbsorbsLeft : Type 0
-AbsorbsLeft =
+abbrev pub OuterLeftBags : Type 0
+OuterLeftBags =
     (tables : List Table) (g h : QueryGraph) (d m c x y : Node) (a r l1 r1 : OwnedQuant) (q1 s : ℕ) (left : Role)
     → IsFedAt tables g d m c a r → HasArms g d m c x y a l1 r1 (λ n. false) → c.parts.kind ≡ OuterJoin → IsOuter a.id l1.id r1.id c → ((q : ℕ) → loose g.boxes y.id q ≡ false)
     → Ordered h.boxes → (q1 == a.id) ≡ false → has_box g.boxes s ≡ false

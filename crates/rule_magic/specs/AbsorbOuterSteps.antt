@@ -1,5 +1,5 @@
 -- The steps of G5's action.
-use Rattle.std.specs.Prelude.{ℕ, ◌≡◌, ◌==◌, ◌++◌, map, false, List, Some}
+use Rattle.std.specs.Prelude.{◌≡◌, ◌==◌, ◌++◌, map, false, List, Some}
 use Rattle.qgm_core.specs.Boxes.{HasBox, HasQuant, QueryGraph, bare_box, width}
 use Rattle.qgm_core.specs.Edits.{compact, move_below, move_quant, put_box, range, redirect, set_distinct, with_box, with_quant}
 use Rattle.qgm_core.specs.declared.kinds.BoxKind.TheVariants.{OuterJoin, Select}

@@ -1,7 +1,7 @@
 // The laws, as theorems.
 ghost use Rattle.rule_magic.specs.AbsorbGroup.{GroupBags, KeylessBags, GroupLowers, GroupPreserves, KeylessLowers, KeylessPreserves};
 ghost use Rattle.rule_magic.specs.AbsorbMeasure.{CompactLowers, FeedFiringLowers, GroupFiringLowers, OuterFiringLowers, ScalarFiringLowers, SelectFiringLowers, SetFiringLowers};
-ghost use Rattle.rule_magic.specs.AbsorbOuterJoin.{AbsorbsArms, AbsorbsLeft, OuterArmsLowers, OuterArmsPreserves, OuterLeftLowers, OuterLeftPreserves};
+ghost use Rattle.rule_magic.specs.AbsorbOuterJoin.{OuterArmsBags, OuterArmsLowers, OuterArmsPreserves, OuterLeftBags, OuterLeftLowers, OuterLeftPreserves};
 ghost use Rattle.rule_magic.specs.AbsorbSelect.{SelectBags, SelectLowers, SelectPreserves};
 ghost use Rattle.rule_magic.specs.AbsorbSetOperation.{SetBags, SetLowers, SetOpenLowers, SetOpenPreserves, SetOpenSound, SetPreserves, SetsGiven};
 ghost use Rattle.rule_magic.specs.CalmFires.{CalmFires};
@@ -39,9 +39,9 @@ pub fn absorbing_laws()
     ensures region_forms { RegionForms }
     ensures renamed { RenamedIsMade }
     ensures renamed_types { RenamedIsTyped }
-    ensures outer_left { AbsorbsLeft }
+    ensures outer_left { OuterLeftBags }
     ensures outer_left_preserves { OuterLeftPreserves }
-    ensures outer_arms { AbsorbsArms }
+    ensures outer_arms { OuterArmsBags }
     ensures outer_arms_preserves { OuterArmsPreserves }
 {}
 
