@@ -1,5 +1,5 @@
 -- What is made once of a box: kept rows, indexes of them, and plans from the last box.
-use Rattle.std.proofs.Common.{ℕ, suc, zero, ◌≡◌, ◌<◌, ◌≤◌, ◌+◌, ◌++◌, ◌==◌, ◌||◌, All, Bool, true, false, cond, List, [], ◌∷◌, drop, get_or, length, map, position, slice_get, Option, Some, None, add-one, refl, sym, ◌∙◌, ap, ap₂, subst, arith, inl, inr}
+use Rattle.std.proofs.Common.{ℕ, suc, zero, ◌≡◌, ◌<◌, ◌≤◌, ◌+◌, ◌++◌, ◌==◌, ◌||◌, All, Bool, true, false, cond, List, [], ◌∷◌, drop, get_or, length, position, slice_get, Option, Some, None, add-one, refl, sym, ◌∙◌, ap, ap₂, subst, arith, inl, inr}
 use Rattle.std.proofs.lemmas.Bool.{cases_Bool}
 use Rattle.std.proofs.lemmas.List.Quantifiers.{position-Some}
 use Rattle.qgm_core.specs.Boxes.{has_box, is_box, is_quant}

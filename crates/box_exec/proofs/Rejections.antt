@@ -1,5 +1,5 @@
 -- Nothing is given where a condition rejects before all quantifiers are bound.
-use Rattle.std.proofs.Common.{ℕ, suc, zero, ◌≡◌, ◌<◌, ◌==◌, ◌&&◌, ◌||◌, ◌++◌, Bool, true, false, cond, All, List, [], ◌∷◌, Some, append-nil, drop, get_or, length, map, refl, sym, ap, ap₂, subst, ◌∙◌, eqb-true, inl, inr, arith}
+use Rattle.std.proofs.Common.{ℕ, suc, zero, ◌≡◌, ◌<◌, ◌==◌, ◌&&◌, ◌++◌, Bool, true, false, cond, All, List, [], ◌∷◌, Some, append-nil, drop, get_or, length, map, refl, sym, ap, subst, ◌∙◌, eqb-true, inl, inr, arith}
 use Rattle.std.specs.List.{list_any}
 use Rattle.std.proofs.lemmas.Bool.{and_parts, cases_Bool, or_left, or_right}
 use Rattle.row_bag.specs.Bags.{Alike, bind, keep, unit}

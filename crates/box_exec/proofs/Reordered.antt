@@ -1,5 +1,5 @@
 -- A select over kept rows gives the same where its quantifiers are bound in another order.
-use Rattle.std.proofs.Common.{ℕ, suc, zero, ◌≡◌, ◌<◌, ◌==◌, All, Bool, true, false, List, [], ◌∷◌, Option, Some, get_or, length, refl, sym, ap, subst, ◌∙◌, ◌⊎◌, inl, inr, arith, eqb-true}
+use Rattle.std.proofs.Common.{ℕ, suc, zero, ◌≡◌, ◌<◌, ◌==◌, All, false, List, [], ◌∷◌, Some, get_or, length, refl, sym, ap, subst, ◌∙◌, ◌⊎◌, inl, inr, arith, eqb-true}
 use Rattle.std.proofs.lemmas.Bool.{cases_Bool}
 use Rattle.std.proofs.lemmas.List.{get_or_default}
 use Rattle.row_bag.specs.Bags.{Alike}
@@ -7,7 +7,7 @@ use Rattle.row_bag.proofs.Agreement.{alike-same, alike-sym, alike-trans}
 use Rattle.qgm_core.specs.Boxes.{is_quant}
 use Rattle.qgm_core.specs.declared.owned.OwnedQuant.{OwnedQuant}
 use Rattle.list_laws.specs.Lists.{In, first}
-use Rattle.qgm_meaning.specs.Meaning.{Family, bag_in, given_by, quant_rows}
+use Rattle.qgm_meaning.specs.Meaning.{given_by, quant_rows}
 use Rattle.qgm_meaning.specs.Scope.{loose}
 use Rattle.qgm_meaning.specs.Values.{Environment}
 use Rattle.qgm_meaning.proofs.Frames.{any-framed, bag-framed, over_each-framed}

@@ -405,6 +405,106 @@ evaluated-of_kind-requires-2 g t c κs l =
     c.in_ok-plan.ensures c.requires.plans.1 c.requires.ready in
     (grind (arith, common_steps), (grind (arith, common_steps), planned))
 
+pub groups-returns-clause-counted : goal.groups-returns-clause-counted
+groups-returns-clause-counted t c = grind (arith, common_steps)
+
+pub groups-returns-in_default-clause-rows : goal.groups-returns-in_default-clause-rows
+groups-returns-in_default-clause-rows t c = grind (arith, common_steps)
+
+pub joined-returns-in_default-clause-rows : goal.joined-returns-in_default-clause-rows
+joined-returns-in_default-clause-rows t c = grind (arith, common_steps)
+
+pub joined-rows_under-xs-requires : goal.joined-rows_under-xs-requires
+joined-rows_under-xs-requires t c = grind (arith, common_steps)
+
+pub joined-rows_under-ys-requires : goal.joined-rows_under-ys-requires
+joined-rows_under-ys-requires t c = grind (arith, common_steps)
+
+pub put_together-returns-in_default-clause-rows : goal.put_together-returns-in_default-clause-rows
+put_together-returns-in_default-clause-rows t c = grind (arith, common_steps)
+
+pub put_together-rows_under-xs-requires : goal.put_together-rows_under-xs-requires
+put_together-rows_under-xs-requires t c = grind (arith, common_steps)
+
+pub put_together-rows_under-ys-requires : goal.put_together-rows_under-ys-requires
+put_together-rows_under-ys-requires t c = grind (arith, common_steps)
+
+pub subs-rows_under-rows-requires : goal.subs-rows_under-rows-requires
+subs-rows_under-rows-requires t c = grind (arith, common_steps)
+
+pub subs-loop-l-init : goal.subs-loop-l-init
+subs-loop-l-init g t c = grind (arith, common_steps)
+
+pub joined-bounds-p-0 : goal.joined-bounds-p-0
+joined-bounds-p-0 g t c = grind (arith, common_steps)
+
+pub evaluated-returns-clause-rows : goal.evaluated-returns-clause-rows
+evaluated-returns-clause-rows g t c = grind (arith, common_steps)
+
+pub add_head-returns-clause-counted : goal.add_head-returns-clause-counted
+add_head-returns-clause-counted g t c = grind (arith, common_steps)
+
+pub each-add_head-requires : goal.each-add_head-requires
+each-add_head-requires g t c = grind (arith, common_steps)
+
+pub each-returns-then-is_no-clause-took : goal.each-returns-then-is_no-clause-took
+each-returns-then-is_no-clause-took g t c = grind (arith, common_steps)
+
+pub put_together-bounds-p-0 : goal.put_together-bounds-p-0
+put_together-bounds-p-0 g t c = grind (arith, common_steps)
+
+pub evaluated-returns-clause-counted : goal.evaluated-returns-clause-counted
+evaluated-returns-clause-counted g t c = grind (arith, common_steps)
+
+pub rows_under-returns-in-Kept-clause-took : goal.rows_under-returns-in-Kept-clause-took
+rows_under-returns-in-Kept-clause-took g t c = grind (arith, common_steps)
+
+pub each-overflow_add-k : goal.each-overflow_add-k
+each-overflow_add-k g t c = grind (arith, common_steps)
+
+pub of_kind-put_together-requires : goal.of_kind-put_together-requires
+of_kind-put_together-requires g t c = grind (arith, common_steps)
+
+pub rows_under-returns-in-Kept-clause-rows : goal.rows_under-returns-in-Kept-clause-rows
+rows_under-returns-in-Kept-clause-rows g t c = grind (arith, common_steps)
+
+pub each-returns-then-branch-clause-took : goal.each-returns-then-branch-clause-took
+each-returns-then-branch-clause-took g t c = grind (arith, common_steps)
+
+pub put_together-returns-clause-counted : goal.put_together-returns-clause-counted
+put_together-returns-clause-counted g t c = grind (arith, common_steps)
+
+pub rows_under-returns-in-Nothing-clause-rows : goal.rows_under-returns-in-Nothing-clause-rows
+rows_under-returns-in-Nothing-clause-rows g t c = grind (arith, common_steps)
+
+pub each-rows_under-requires : goal.each-rows_under-requires
+each-rows_under-requires g t c = grind (arith, common_steps)
+
+pub subs-returns-clause-counted : goal.subs-returns-clause-counted
+subs-returns-clause-counted g t c = grind (arith, common_steps)
+
+pub each-each-requires : goal.each-each-requires
+each-each-requires g t c = grind (arith, common_steps)
+
+pub subs-returns-clause-rows : goal.subs-returns-clause-rows
+subs-returns-clause-rows g t c = grind (arith, common_steps)
+
+pub joined-returns-clause-counted : goal.joined-returns-clause-counted
+joined-returns-clause-counted g t c = grind (arith, common_steps)
+
+pub put_together-bounds-q-1 : goal.put_together-bounds-q-1
+put_together-bounds-q-1 g t c = grind (arith, common_steps)
+
+pub each-returns-clause-counted : goal.each-returns-clause-counted
+each-returns-clause-counted g t c = grind (arith, common_steps)
+
+pub each-returns-in_default-clause-rows : goal.each-returns-in_default-clause-rows
+each-returns-in_default-clause-rows g t c =
+    let at = c.args.at.now in
+    let past : length at.loops.now ≤ c.args.k = search rules in
+    subst (λ (b : Bag). OnOk c.add_head.result (Alike c.add_head.new.out (c.args.out.now ++ keep c.args.level b)))
+    (sym (ap (λ (rs : List OwnedQuant). over_left (tables_of at) at.node.now at.below.now rs (env_of c.args.env.now)) (past-ranges at.loops.now c.args.k past))) c.add_head.ensures.rows
+
 pub rows_under-evaluated-requires : goal.rows_under-evaluated-requires
 rows_under-evaluated-requires g t c κs lives =
     let at = c.args.at.now in

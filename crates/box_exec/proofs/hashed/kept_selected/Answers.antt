@@ -1,4 +1,4 @@
-use Rattle.std.proofs.Common.{List, ◌≡◌, arith, filter, get_or, subst, sym}
+use Rattle.std.proofs.Common.{List, arith, filter, subst, sym}
 use Rattle.std.proofs.lemmas.Result.{IfOk-weaker}
 use Rattle.row_bag.specs.Bags.{Alike}
 use Rattle.qgm_core.specs.Kinds.{is_enforce}

@@ -1,11 +1,9 @@
-use Rattle.std.proofs.Common.{List, ◌≡◌, ◌∙◌, ap, subst, sym}
+use Rattle.std.proofs.Common.{List, ◌≡◌, ◌∙◌, ap, sym}
 use Rattle.std.proofs.lemmas.Result.{IfOk-weaker}
 use Rattle.row_bag.specs.Bags.{Alike}
 use Rattle.row_bag.proofs.Agreement.{alike-same, alike-trans}
 use Rattle.qgm_core.specs.Kinds.{is_enforce}
 use Rattle.qgm_core.specs.declared.owned.OwnedQuant.{OwnedQuant}
-use Rattle.qgm_meaning.specs.Meaning.{once_if}
-use Rattle.qgm_meaning.specs.Values.{Bag}
 use Rattle.qgm_meaning.proofs.Alikes.{once_if-alike}
 use Rattle.box_exec.specs.Bound.{env_of}
 use Rattle.box_exec.specs.Plans.{ranges, tables_of}

@@ -1,4 +1,4 @@
-use Rattle.std.proofs.Common.{List, ◌≡◌, ◌++◌, [], ap, rules, subst, sym, ◌∙◌}
+use Rattle.std.proofs.Common.{List, ◌≡◌, ◌++◌, ap, rules, subst, sym, ◌∙◌}
 use Rattle.qgm_core.specs.declared.owned.OwnedQuant.{OwnedQuant}
 use Rattle.box_exec.specs.Lasting.{Reorders}
 use Rattle.box_exec.proofs.Orders.{reorders-itself}

@@ -1,4 +1,4 @@
-use Rattle.std.proofs.Common.{All, List, [], subst, sym, ◌∙◌, arith}
+use Rattle.std.proofs.Common.{All, List, subst, sym, ◌∙◌, arith}
 use Rattle.qgm_core.specs.declared.owned.OwnedQuant.{OwnedQuant}
 use Rattle.box_exec.specs.Early.{IsEarly}
 use Rattle.box_exec.specs.Lasting.{AllHashed, IsOrder, Reorders, rows_stored}
