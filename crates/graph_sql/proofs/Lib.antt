@@ -1,0 +1,4 @@
+mod Levels
+mod Comparisons
+mod RowTests
+mod Read

@@ -1,0 +1,130 @@
+-- The text of the statement that a graph is.
+use Rattle.std.specs.Prelude.{ℕ, zero, suc, ◌==◌, ◌++◌, ◌&&◌, nat_le, not, if◌then◌else◌, Bool, true, false, List, [], ◌∷◌, Option, Some, None, codes, decimal, filter, length, map, reverse}
+use Rattle.std.specs.List.{flat_map}
+use Rattle.list_laws.specs.Lists.{first, holds, times}
+use Rattle.graph_print.specs.GraphText.{box_order, quant_order, quoted}
+use Rattle.graph_print.specs.Places.{place_in}
+use Rattle.qgm_core.specs.Boxes.{QueryGraph, is_quant, width}
+use Rattle.qgm_core.specs.Free.{free_in}
+use Rattle.qgm_core.specs.Kinds.{is_base}
+use Rattle.qgm_core.specs.Walk.{under}
+use Rattle.qgm_core.specs.declared.node.Node.{Node}
+use Rattle.qgm_core.specs.declared.owned.OwnedQuant.{OwnedQuant}
+use Rattle.qgm_meaning.specs.Ranks.{by_rank}
+use Rattle.qgm_wellformed.specs.WellFormed.{is_empty}
+use Rattle.sql_value.specs.declared.order_key.OrderKey.{OrderKey}
+use Rattle.graph_sql.specs.Bodies.{body_sql}
+use Rattle.graph_sql.specs.BodyText.{body_text, columns_text, numbered}
+use Rattle.graph_sql.specs.Readings.{Names}
+use Rattle.graph_sql.specs.Statement.{column}
+use Rattle.graph_sql.specs.declared.tables.TableNames.{TableNames}
+
+-- ---- what all boxes share
+
+-- the tables with the names of their columns; quantifiers and boxes in the order of their numbers; the boxes that are entries of WITH; columns that are known to hold no null
+pub record Setting : Type 0 where
+  pub tables : List TableNames
+  pub quants : List ℕ
+  pub boxes : List ℕ
+  pub entries : List ℕ
+  pub not_null : ℕ → ℕ → Bool
+
+-- what is made of a box: how many columns it has, and its text
+pub record Made : Type 0 where
+  pub columns : ℕ
+  pub text : List ℕ
+
+abbrev pub nothing_made : Made
+nothing_made = record { columns = 0; text = [] }
+
+-- a box without columns has one that nobody names
+abbrev pub at_least_one : ℕ → ℕ
+at_least_one zero = 1
+at_least_one (suc n) = suc n
+
+abbrev pub box_name : List ℕ → ℕ → List ℕ
+box_name boxes b = codes "b$" ++ decimal (place_in boxes b)
+
+-- ---- boxes
+
+-- an item of FROM: an entry by its name, and else the SELECT itself, which sees what stands before it
+unfoldable pub item_text : Setting → (ℕ → Made) → OwnedQuant → List ℕ
+item_text s below r =
+    if holds r.over s.entries
+    then box_name s.boxes r.over ++ codes " AS q" ++ decimal (place_in s.quants r.id)
+    else codes "LATERAL (" ++ (below r.over).text ++ codes ") AS q" ++ decimal (place_in s.quants r.id) ++ columns_text (below r.over).columns
+
+abbrev pub item_found : Setting → (ℕ → Made) → Option OwnedQuant → List ℕ
+item_found s below None = []
+item_found s below (Some r) = item_text s below r
+
+-- the names that a box with these quantifiers has for them
+abbrev pub names_by : Setting → (ℕ → Made) → List OwnedQuant → Names (List ℕ)
+names_by s below rs = record {
+  range = λ q. item_found s below (first (is_quant q) rs);
+  source = λ q. item_found s below (first (is_quant q) rs) ++ codes " WHERE ";
+  column = λ q k. column q k;
+  not_null = s.not_null;
+}
+
+abbrev pub made_of : Setting → Node → (ℕ → Made) → Made
+made_of s n below = record {
+  columns = at_least_one (width n);
+  text = body_text (place_in s.quants) (body_sql (names_by s below n.quants) s.tables n);
+}
+
+-- of each box, by those of the boxes behind it
+abbrev pub made_in : Setting → List Node → ℕ → Made
+made_in s boxes = by_rank nothing_made (made_of s) boxes
+
+-- ---- entries of WITH: closed boxes, bases apart, that are named twice or more; each stands before those that name it
+
+abbrev pub is_entry : QueryGraph → Node → Bool
+is_entry g n = not (is_base n.parts.kind) && (nat_le 2 (times n.id (under g.boxes (box_order g))) && is_empty (free_in g.boxes n.id))
+
+abbrev pub entries_of : QueryGraph → List ℕ
+entries_of g = reverse (map (λ n. n.id) (filter (is_entry g) g.boxes))
+
+abbrev pub setting_of : List TableNames → (ℕ → ℕ → Bool) → QueryGraph → Setting
+setting_of tables not_null g = record { tables = tables; quants = quant_order g; boxes = box_order g; entries = entries_of g; not_null = not_null }
+
+unfoldable pub entry_text : Setting → (ℕ → Made) → ℕ → List ℕ
+entry_text s made b = box_name s.boxes b ++ columns_text (made b).columns ++ codes " AS (" ++ (made b).text ++ codes ")"
+
+abbrev pub with_text : Setting → (ℕ → Made) → List ℕ → List ℕ
+with_text s made [] = []
+with_text s made (b ∷ bs) = codes "WITH " ++ entry_text s made b ++ flat_map (λ c. codes ", " ++ entry_text s made c) bs ++ codes " "
+
+-- ---- the root
+
+abbrev pub out_name : ℕ → Option (List ℕ) → List ℕ
+out_name k None = codes "\"COL" ++ decimal k ++ codes "\""
+out_name k (Some name) = quoted name
+
+-- the columns behind so many
+abbrev pub outs_text : ℕ → List (Option (List ℕ)) → List ℕ
+outs_text k [] = []
+outs_text k (name ∷ names) = (if k == 0 then codes " " else codes ", ") ++ codes "q0.c" ++ decimal (suc k) ++ codes " AS " ++ out_name (suc k) name ++ outs_text (suc k) names
+
+abbrev pub ascending : ℕ → List ℕ
+ascending k = codes "q0.c" ++ decimal k ++ codes " ASC NULLS FIRST"
+
+unfoldable pub key_text : OrderKey → List ℕ
+key_text key = if key.descending then codes "q0.c" ++ decimal key.column ++ codes " DESC NULLS LAST" else ascending key.column
+
+-- by the keys, and then by all columns
+abbrev pub order_text : List OrderKey → ℕ → List ℕ
+order_text keys zero = []
+order_text keys (suc n) = codes " ORDER BY " ++ flat_map (λ key. key_text key ++ codes ", ") keys ++ numbered ascending (suc n)
+
+abbrev pub root_text : QueryGraph → Made → List ℕ
+root_text g root = codes "SELECT" ++ outs_text 0 g.names ++ codes " FROM (" ++ root.text ++ codes ") AS q0" ++ columns_text root.columns ++ order_text g.order (length g.names)
+
+-- ---- all
+
+abbrev pub text_by : Setting → QueryGraph → (ℕ → Made) → List ℕ
+text_by s g made = with_text s made s.entries ++ root_text g (made g.root)
+
+-- the statement of a graph
+abbrev pub text_of : List TableNames → (ℕ → ℕ → Bool) → QueryGraph → List ℕ
+text_of tables not_null g = text_by (setting_of tables not_null g) g (made_in (setting_of tables not_null g) g.boxes)

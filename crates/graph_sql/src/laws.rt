@@ -1,0 +1,11 @@
+// What the tests of a statement mean.
+ghost use Rattle.graph_sql.specs.ReadingLaw.{Cells, Conditions, Filters};
+
+/// Over an environment in which nothing that is reached is an error, an expression has the cell that
+/// the graph gives it, each of the four readings of a condition is true just where it asks what is so,
+/// and a row passes the first reading of all conditions just where they are all true. It does nothing.
+pub fn readings()
+    ensures cells { Cells }
+    ensures conditions { Conditions }
+    ensures filters { Filters }
+{}
