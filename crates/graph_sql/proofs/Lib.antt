@@ -2,3 +2,4 @@ mod Levels
 mod Comparisons
 mod RowTests
 mod Read
+mod Nests

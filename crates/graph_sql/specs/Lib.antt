@@ -3,6 +3,7 @@ pub mod Readings
 pub mod Logic
 pub mod ReadingLaw
 pub mod Text
+pub mod Scoped
 pub mod Bodies
 pub mod BodyText
 pub mod StatementText
