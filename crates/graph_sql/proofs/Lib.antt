@@ -3,3 +3,4 @@ mod Comparisons
 mod RowTests
 mod Read
 mod Nests
+mod BodyLists

@@ -1,13 +1,17 @@
 -- The text of chains, CASE, AND and OR by their lists.
-use Rattle.std.proofs.Common.{◌≡◌, refl, ℕ, List, [], ◌∷◌, ◌++◌, Option, Some, None, Bool, ◌&&◌, true, false, ap, ap₂, sym, ◌∙◌, length, codes, append_assoc, arith}
+use Rattle.std.proofs.Common.{◌≡◌, refl, ℕ, List, [], ◌∷◌, ◌++◌, Option, Some, None, Bool, ◌&&◌, true, false, ap, ap₂, sym, ◌∙◌, length, codes, append_assoc, arith, min, drop, ◌≤◌, ◌⊎◌, inl, inr}
 use Rattle.std.proofs.lemmas.Grind.{common_steps}
-use Rattle.std.proofs.lemmas.List.{append-nil}
+use Rattle.std.proofs.lemmas.List.{append-nil, drop_all}
+use Rattle.std.proofs.lemmas.Bool.{cases_lt}
+use Rattle.std.proofs.Math.Nat.{min-eq_left, min-eq_right}
 use Rattle.qgm_props.specs.Lists.{is_none}
+use Rattle.sql_value.specs.declared.order_key.SqlType.{SqlType}
 use Rattle.qgm_terms.specs.Terms.{Sign, Term, Link, both, Cond, compare, and, or, linked, anded, ored, Choice, armed, choose}
 use Rattle.graph_print.specs.TermText.{repeated}
-use Rattle.graph_sql.specs.Readings.{arms_sql, cell_sql, compare_sql, cond_sql, holds_value, of_and, of_or}
+use Rattle.graph_sql.specs.Readings.{Names, arms_sql, cell_sql, compare_sql, cond_sql, holds_value, of_and, of_or}
 use Rattle.graph_sql.specs.Scoped.{chain_text, close_form, close_wrap, formed, open_form, open_wrap, wrapped, choice_text, choices_text, cond_text, links_text, names_in, next_cond, next_conds, number_in, term_text}
 use Rattle.graph_sql.specs.Text.{close_chain, close_comparison, comparison_word, connective_word, expression_text, op_word, open_chain, open_comparison, test_text, whens_text}
+use Rattle.graph_sql.specs.Bodies.{cell, group_cell, stored_columns}
 use Rattle.graph_sql.specs.Statement.{Expression, compared}
 use Rattle.graph_sql.specs.declared.form.Form.{Form}
 use Rattle.graph_sql.specs.declared.form.Wrap.{Wrap}
@@ -25,6 +29,20 @@ value_linked not_null x (l ∷ ls) = value_linked not_null (both l.op x l.right)
     by : (b : Bool) → (b && false) ≡ false
     by true = refl
     by false = refl
+
+-- a term that is alone, and one that isn't
+pub linked_alone : (x : Term) (ls : List Link) → is_none ls ≡ true → linked x ls ≡ x
+linked_alone x [] h = refl
+linked_alone x (l ∷ ls) h = absurd (let z : ⊥ = cc in z)
+
+-- what isn't an aggregate is a cell
+more_linked : (n : Names (List ℕ)) (x : Term) (ls : List Link) → cell (cell_sql n x) ≡ group_cell n x → cell (cell_sql n (linked x ls)) ≡ group_cell n (linked x ls)
+more_linked n x [] h = h
+more_linked n x (l ∷ ls) h = more_linked n (both l.op x l.right) ls refl
+
+pub group_linked : (n : Names (List ℕ)) (x : Term) (ls : List Link) → is_none ls ≡ false → cell (cell_sql n (linked x ls)) ≡ group_cell n (linked x ls)
+group_linked n x [] h = absurd (let z : ⊥ = cc in z)
+group_linked n x (l ∷ ls) h = more_linked n (both l.op x l.right) ls refl
 
 own-open : (k : Connective) → open_chain (Some k) k ≡ []
 own-open And = refl
@@ -94,3 +112,21 @@ module _ (s : Scope) where
         text_ored chain (or p c) (d ∷ ds)
         ∙ more (open_chain chain (of_or r)) (open_chain (Some (of_or r)) (of_or r)) (cond_text s (Some (of_or r)) r p) (connective_word (of_or r)) (cond_text s None r c) (close_chain (Some (of_or r)) (of_or r))
         (next_conds s r (of_or r) (d ∷ ds)) (close_chain chain (of_or r)) (own-open (of_or r)) (own-close (of_or r))
+
+-- ---- the columns of a table, as far as there are names and types
+
+below-min : (a b i : ℕ) → min a b ≤ i → (a ≤ i) ⊎ (b ≤ i)
+below-min a b i h = elim (cases_lt a b) [
+  | inl l ↦ let k : a ≤ b = omega arith in let e : min a b ≡ a = min-eq_left k in inl (omega arith)
+  | inr l ↦ let e : min a b ≡ b = min-eq_right l in inr (omega arith)
+]
+
+no-types : (names : List (List ℕ)) → stored_columns names [] ≡ []
+no-types [] = refl
+no-types (n ∷ ns) = refl
+
+pub stored-end : (names : List (List ℕ)) (types : List SqlType) (i : ℕ) → min (length names) (length types) ≤ i → stored_columns (drop i names) (drop i types) ≡ []
+stored-end names types i h = elim (below-min (length names) (length types) i h) [
+  | inl e ↦ ap (λ (ns : List (List ℕ)). stored_columns ns (drop i types)) (drop_all i names e)
+  | inr e ↦ ap (stored_columns (drop i names)) (drop_all i types e) ∙ no-types (drop i names)
+]

@@ -57,6 +57,13 @@ stored_columns (name ∷ names) (type ∷ types) = (record { name = name; type =
 
 -- ---- boxes
 
+-- the numbers of the F quantifiers, and of the first ones
+abbrev pub each_id : List OwnedQuant → List ℕ
+each_id rs = map (λ r. r.id) (filter (λ r. is_F r.kind) rs)
+
+abbrev pub first_ids : ℕ → List OwnedQuant → List ℕ
+first_ids k rs = map (λ r. r.id) (take k rs)
+
 module _ {R : Type 0} (n : Names R) where
   abbrev pub group_cell : Term → GroupCell R
   group_cell count_all = counted_all
@@ -72,15 +79,11 @@ module _ {R : Type 0} (n : Names R) where
   group_cell (choose s x) = cell (cell_sql n (choose s x))
 
   -- what stands for the rows of each of these
-  abbrev pub ranges : List OwnedQuant → List R
-  ranges rs = map (λ r. n.range r.id) rs
+  abbrev pub ranges : List ℕ → List R
+  ranges qs = map n.range qs
 
-  -- of the F quantifiers
-  abbrev pub each_range : List OwnedQuant → List R
-  each_range rs = ranges (filter (λ r. is_F r.kind) rs)
-
-  abbrev pub arms : List OwnedQuant → List (Arm R)
-  arms rs = map (λ r. record { quant = r.id; range = n.range r.id }) rs
+  abbrev pub arms : List ℕ → List (Arm R)
+  arms qs = map (λ q. record { quant = q; range = n.range q }) qs
 
   -- conditions that are true
   abbrev pub tests : List Cond → List (Test R)
@@ -88,10 +91,10 @@ module _ {R : Type 0} (n : Names R) where
 
   abbrev pub body_by : BoxKind → List TableNames → Node → Body R
   body_by (Base table) tables b = stored table.name (stored_columns (columns_named tables table.name) table.types)
-  body_by Select tables b = selected (is_enforce b.parts.distinct) (map (cell_sql n) b.parts.head) (each_range b.quants) (tests b.parts.conds.items)
-  body_by (Group keys) tables b = grouped keys (map group_cell b.parts.head) (ranges (take 1 b.quants))
-  body_by (SetOp operator types) tables b = combined operator (length types) (arms (take 2 b.quants))
-  body_by OuterJoin tables b = outer_joined (map (cell_sql n) b.parts.head) (ranges (take 2 b.quants)) (tests b.parts.conds.items)
+  body_by Select tables b = selected (is_enforce b.parts.distinct) (map (cell_sql n) b.parts.head) (ranges (each_id b.quants)) (tests b.parts.conds.items)
+  body_by (Group keys) tables b = grouped keys (map group_cell b.parts.head) (ranges (first_ids 1 b.quants))
+  body_by (SetOp operator types) tables b = combined operator (length types) (arms (first_ids 2 b.quants))
+  body_by OuterJoin tables b = outer_joined (map (cell_sql n) b.parts.head) (ranges (first_ids 2 b.quants)) (tests b.parts.conds.items)
 
   abbrev pub body_sql : List TableNames → Node → Body R
   body_sql tables b = body_by b.parts.kind tables b

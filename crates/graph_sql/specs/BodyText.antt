@@ -1,5 +1,6 @@
 -- How the SELECT of a box is written.
-use Rattle.std.specs.Prelude.{ℕ, zero, suc, ◌+◌, ◌==◌, ◌++◌, ◌&&◌, ◌||◌, nat_le, if◌then◌else◌, Bool, true, false, List, [], ◌∷◌, None, codes, decimal, length, map}
+use Rattle.std.specs.Prelude.{ℕ, zero, suc, ◌==◌, ◌++◌, ◌&&◌, ◌||◌, if◌then◌else◌, Bool, true, false, List, [], ◌∷◌, None, codes, decimal, length, map}
+use Rattle.std.specs.Char.{is_ascii_digit, is_ascii_uppercase, to_ascii_lowercase}
 use Rattle.std.specs.List.{flat_map, list_all, list_any}
 use Rattle.graph_print.specs.GraphText.{quoted}
 use Rattle.qgm_core.specs.declared.kinds.SetOperator.{SetOperator}
@@ -13,22 +14,16 @@ use Rattle.graph_sql.specs.Text.{column_text, expression_text, test_text}
 
 -- ---- names: what the schema writes without quotes has capitals here, and small letters in PostgreSQL
 
-abbrev pub is_capital : ℕ → Bool
-is_capital c = nat_le 65 c && nat_le c 90
-
 -- a capital, a digit or `_`
 abbrev pub in_regular : ℕ → Bool
-in_regular c = is_capital c || (nat_le 48 c && nat_le c 57) || (c == 95)
+in_regular c = is_ascii_uppercase c || (is_ascii_digit c || (c == 95))
 
 abbrev pub is_regular : List ℕ → Bool
 is_regular [] = false
-is_regular (c ∷ cs) = is_capital c && list_all in_regular cs
-
-abbrev pub small : ℕ → ℕ
-small c = if is_capital c then c + 32 else c
+is_regular (c ∷ cs) = is_ascii_uppercase c && list_all in_regular cs
 
 unfoldable pub name_text : List ℕ → List ℕ
-name_text name = quoted (if is_regular name then map small name else name)
+name_text name = quoted (if is_regular name then map to_ascii_lowercase name else name)
 
 -- ---- lists
 
@@ -49,28 +44,27 @@ abbrev pub list_text : {X : Type 0} → (X → List ℕ) → List X → List ℕ
 list_text f [] = codes "1"
 list_text f (x ∷ xs) = f x ++ flat_map (next_text f) xs
 
-abbrev pub from_text : List (List ℕ) → List ℕ
-from_text [] = []
-from_text (r ∷ rs) = codes " FROM " ++ r ++ flat_map (next_text (λ s. s)) rs
+-- FROM, with a word between its items
+abbrev pub from_text : List ℕ → List (List ℕ) → List ℕ
+from_text word [] = []
+from_text word (r ∷ rs) = codes " FROM " ++ r ++ flat_map (λ s. word ++ s) rs
 
 abbrev pub and_text : (ℕ → ℕ) → Test (List ℕ) → List ℕ
 and_text at p = codes " AND " ++ test_text at None p
 
-abbrev pub all_text : (ℕ → ℕ) → Test (List ℕ) → List (Test (List ℕ)) → List ℕ
-all_text at p ps = test_text at None p ++ flat_map (and_text at) ps
-
-abbrev pub where_text : (ℕ → ℕ) → List (Test (List ℕ)) → List ℕ
-where_text at [] = []
-where_text at (p ∷ ps) = codes " WHERE " ++ all_text at p ps
+-- a word and tests; another word where there are none
+abbrev pub tests_text : (ℕ → ℕ) → List ℕ → List ℕ → List (Test (List ℕ)) → List ℕ
+tests_text at word none [] = none
+tests_text at word none (p ∷ ps) = word ++ test_text at None p ++ flat_map (and_text at) ps
 
 -- ---- stored tables
 
+abbrev pub cast_text : SqlType → List ℕ
+cast_text Integer = codes " AS bigint)"
+cast_text Varchar = codes " AS text) COLLATE \"C\""
+
 unfoldable pub stored_text : Stored → List ℕ
-stored_text c = codes "CAST(t." ++ name_text c.name ++ type_text c.type
-  where
-    type_text : SqlType → List ℕ
-    type_text Integer = codes " AS bigint)"
-    type_text Varchar = codes " AS text) COLLATE \"C\""
+stored_text c = codes "CAST(t." ++ name_text c.name ++ cast_text c.type
 
 -- ---- groups
 
@@ -128,14 +122,17 @@ abbrev pub overs_text : ℕ → List (GroupCell (List ℕ)) → List ℕ
 overs_text k [] = []
 overs_text k (x ∷ xs) = (if k == 0 then [] else codes ", ") ++ over_text (suc k) x ++ overs_text (suc k) xs
 
+-- one group, which has no cell
+abbrev pub having_text : {X : Type 0} → List X → List ℕ
+having_text [] = codes " HAVING TRUE"
+having_text (x ∷ xs) = []
+
 -- keys by their places
-abbrev pub by_text : ℕ → List (GroupCell (List ℕ)) → List ℕ
-by_text zero [] = codes " HAVING TRUE"
-by_text zero (x ∷ xs) = []
-by_text (suc k) xs = codes " GROUP BY " ++ numbered decimal (suc k)
+abbrev pub by_text : {X : Type 0} → ℕ → List X → List ℕ
+by_text keys xs = if keys == 0 then having_text xs else codes " GROUP BY " ++ numbered decimal keys
 
 unfoldable pub inner_text : (ℕ → ℕ) → ℕ → List (GroupCell (List ℕ)) → List (List ℕ) → List ℕ
-inner_text at keys xs from = codes "SELECT " ++ list_text (group_text at) xs ++ from_text from ++ by_text keys xs
+inner_text at keys xs from = codes "SELECT " ++ list_text (group_text at) xs ++ from_text (codes ", ") from ++ by_text keys xs
 
 abbrev pub wrapped_text : List (GroupCell (List ℕ)) → List ℕ → List ℕ
 wrapped_text xs inner = codes "SELECT " ++ overs_text 0 xs ++ codes " FROM (" ++ inner ++ codes ") AS g" ++ columns_text (length xs)
@@ -151,8 +148,7 @@ operator_word Except = codes " EXCEPT "
 operator_word ExceptAll = codes " EXCEPT ALL "
 
 abbrev pub arm_cells : (ℕ → ℕ) → ℕ → ℕ → List ℕ
-arm_cells at zero q = codes "1"
-arm_cells at (suc n) q = numbered (column_text at q) (suc n)
+arm_cells at n q = if n == 0 then codes "1" else numbered (column_text at q) n
 
 abbrev pub arm_text : (ℕ → ℕ) → ℕ → Arm (List ℕ) → List ℕ
 arm_text at width a = codes "SELECT " ++ arm_cells at width a.quant ++ codes " FROM " ++ a.range
@@ -161,21 +157,11 @@ abbrev pub arms_text : (ℕ → ℕ) → SetOperator → ℕ → List (Arm (List
 arms_text at operator width [] = []
 arms_text at operator width (a ∷ rest) = arm_text at width a ++ flat_map (λ b. operator_word operator ++ arm_text at width b) rest
 
--- ---- outer joins
-
-abbrev pub join_text : List (List ℕ) → List ℕ
-join_text [] = []
-join_text (r ∷ rs) = codes " FROM " ++ r ++ flat_map (λ s. codes " LEFT JOIN " ++ s) rs
-
-abbrev pub on_text : (ℕ → ℕ) → List (Test (List ℕ)) → List ℕ
-on_text at [] = codes " ON TRUE"
-on_text at (p ∷ ps) = codes " ON " ++ all_text at p ps
-
 -- ---- all
 
 unfoldable pub body_text : (ℕ → ℕ) → Body (List ℕ) → List ℕ
 body_text at (stored name columns) = codes "SELECT " ++ list_text stored_text columns ++ codes " FROM " ++ name_text name ++ codes " AS t"
-body_text at (selected distinct cells from tests) = codes "SELECT " ++ (if distinct then codes "DISTINCT " else []) ++ list_text (expression_text at) cells ++ from_text from ++ where_text at tests
+body_text at (selected distinct cells from tests) = codes "SELECT " ++ (if distinct then codes "DISTINCT " else []) ++ list_text (expression_text at) cells ++ from_text (codes ", ") from ++ tests_text at (codes " WHERE ") [] tests
 body_text at (grouped keys cells from) = if list_any is_wrapped cells then wrapped_text cells (inner_text at keys cells from) else inner_text at keys cells from
 body_text at (combined operator width arms) = arms_text at operator width arms
-body_text at (outer_joined cells from tests) = codes "SELECT " ++ list_text (expression_text at) cells ++ join_text from ++ on_text at tests
+body_text at (outer_joined cells from tests) = codes "SELECT " ++ list_text (expression_text at) cells ++ from_text (codes " LEFT JOIN ") from ++ tests_text at (codes " ON ") (codes " ON TRUE") tests

@@ -6,4 +6,5 @@ pub mod Text
 pub mod Scoped
 pub mod Bodies
 pub mod BodyText
+pub mod Lists
 pub mod StatementText

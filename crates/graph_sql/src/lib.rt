@@ -1,10 +1,15 @@
 //! A query graph as one statement of SQL for PostgreSQL.
 #![tactic(auto)]
 
+mod bodies;
 mod form;
+mod groups;
 mod laws;
+mod names;
+mod numbered;
 mod reading;
 mod scope;
+mod selects;
 mod tables;
 mod terms;
 mod words;

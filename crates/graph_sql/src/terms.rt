@@ -19,8 +19,8 @@ use qgm_terms::{Arm, Gc, Gx, Link, QuantId, both};
 use shared_types::{OutOfMemory, Text};
 use sql_value::SqlType;
 
-// Whether no operand stands behind the first one.
-fn is_alone(list: &[Link]) -> bool
+/// Whether no operand stands behind the first one.
+pub fn is_alone(list: &[Link]) -> bool
     ensures { result ≡ is_none (links list.now) }
 {
     match list {
