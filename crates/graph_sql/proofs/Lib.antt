@@ -3,4 +3,5 @@ mod Comparisons
 mod RowTests
 mod Read
 mod Nests
+mod Items
 mod BodyLists

@@ -8,3 +8,4 @@ pub mod Bodies
 pub mod BodyText
 pub mod Lists
 pub mod StatementText
+pub mod Settings

@@ -1,5 +1,5 @@
 -- The text of the statement that a graph is.
-use Rattle.std.specs.Prelude.{ℕ, zero, suc, ◌==◌, ◌++◌, ◌&&◌, nat_le, not, if◌then◌else◌, Bool, true, false, List, [], ◌∷◌, Option, Some, None, codes, decimal, filter, length, map, reverse}
+use Rattle.std.specs.Prelude.{ℕ, suc, ◌==◌, ◌++◌, ◌&&◌, nat_le, not, if◌then◌else◌, Bool, true, false, List, [], ◌∷◌, Option, Some, None, codes, decimal, filter, length, map, reverse}
 use Rattle.std.specs.List.{flat_map}
 use Rattle.list_laws.specs.Lists.{first, holds, times}
 use Rattle.graph_print.specs.GraphText.{box_order, quant_order, quoted}
@@ -17,6 +17,7 @@ use Rattle.graph_sql.specs.Bodies.{body_sql}
 use Rattle.graph_sql.specs.BodyText.{body_text, columns_text, numbered}
 use Rattle.graph_sql.specs.Readings.{Names}
 use Rattle.graph_sql.specs.Statement.{column}
+use Rattle.graph_sql.specs.declared.made.Made.{Made}
 use Rattle.graph_sql.specs.declared.tables.TableNames.{TableNames}
 
 -- ---- what all boxes share
@@ -29,30 +30,30 @@ pub record Setting : Type 0 where
   pub entries : List ℕ
   pub not_null : ℕ → ℕ → Bool
 
--- what is made of a box: how many columns it has, and its text
-pub record Made : Type 0 where
-  pub columns : ℕ
-  pub text : List ℕ
-
+-- what is made of no box
 abbrev pub nothing_made : Made
 nothing_made = record { columns = 0; text = [] }
 
 -- a box without columns has one that nobody names
 abbrev pub at_least_one : ℕ → ℕ
-at_least_one zero = 1
-at_least_one (suc n) = suc n
+at_least_one n = if n == 0 then 1 else n
 
 abbrev pub box_name : List ℕ → ℕ → List ℕ
 box_name boxes b = codes "b$" ++ decimal (place_in boxes b)
 
 -- ---- boxes
 
--- an item of FROM: an entry by its name, and else the SELECT itself, which sees what stands before it
+-- an entry of WITH by its name
+abbrev pub named_text : Setting → OwnedQuant → List ℕ
+named_text s r = box_name s.boxes r.over ++ codes " AS q" ++ decimal (place_in s.quants r.id)
+
+-- a SELECT in place, which sees what stands before it in FROM
+abbrev pub inline_text : Setting → (ℕ → Made) → OwnedQuant → List ℕ
+inline_text s below r = codes "LATERAL (" ++ (below r.over).text ++ codes ") AS q" ++ decimal (place_in s.quants r.id) ++ columns_text (below r.over).columns
+
+-- an item of FROM
 unfoldable pub item_text : Setting → (ℕ → Made) → OwnedQuant → List ℕ
-item_text s below r =
-    if holds r.over s.entries
-    then box_name s.boxes r.over ++ codes " AS q" ++ decimal (place_in s.quants r.id)
-    else codes "LATERAL (" ++ (below r.over).text ++ codes ") AS q" ++ decimal (place_in s.quants r.id) ++ columns_text (below r.over).columns
+item_text s below r = if holds r.over s.entries then named_text s r else inline_text s below r
 
 abbrev pub item_found : Setting → (ℕ → Made) → Option OwnedQuant → List ℕ
 item_found s below None = []
@@ -114,8 +115,7 @@ key_text key = if key.descending then codes "q0.c" ++ decimal key.column ++ code
 
 -- by the keys, and then by all columns
 abbrev pub order_text : List OrderKey → ℕ → List ℕ
-order_text keys zero = []
-order_text keys (suc n) = codes " ORDER BY " ++ flat_map (λ key. key_text key ++ codes ", ") keys ++ numbered ascending (suc n)
+order_text keys n = if n == 0 then [] else codes " ORDER BY " ++ flat_map (λ key. key_text key ++ codes ", ") keys ++ numbered ascending n
 
 abbrev pub root_text : QueryGraph → Made → List ℕ
 root_text g root = codes "SELECT" ++ outs_text 0 g.names ++ codes " FROM (" ++ root.text ++ codes ") AS q0" ++ columns_text root.columns ++ order_text g.order (length g.names)

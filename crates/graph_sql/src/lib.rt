@@ -2,14 +2,17 @@
 #![tactic(auto)]
 
 mod bodies;
+mod boxes;
 mod form;
 mod groups;
 mod laws;
+mod made;
 mod names;
 mod numbered;
 mod reading;
 mod scope;
 mod selects;
+mod setting;
 mod tables;
 mod terms;
 mod words;

@@ -28,6 +28,7 @@ pub struct Sure<'a> {
 
 /// What the expressions and conditions of a box look up: the numbers of quantifiers, the FROM items of
 /// the box, and columns without nulls.
+#[derive(Drop)]
 pub struct Scope<'a> {
     pub at: &'a Places,
     pub items: &'a [Item],
