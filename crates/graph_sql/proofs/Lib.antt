@@ -5,3 +5,4 @@ mod Read
 mod Nests
 mod Items
 mod BodyLists
+mod Under

@@ -1,17 +1,15 @@
 -- What the code holds of a graph, as the definition of the statement has it.
-use Rattle.std.specs.Prelude.{ℕ, ◌==◌, nat_eq, ◌++◌, if◌then◌else◌, Bool, false, List, Option, Some, None, codes}
+use Rattle.std.specs.Prelude.{ℕ, nat_eq, List, Option, Some, None}
 use Rattle.std.specs.HashMap.{HashMap, get}
-use Rattle.std.specs.List.{flat_map}
 use Rattle.list_laws.specs.Lists.{first}
 use Rattle.qgm_core.specs.Boxes.{owns, range_in}
 use Rattle.qgm_core.specs.declared.node.Node.{Node}
 use Rattle.qgm_core.specs.declared.owned.OwnedQuant.{OwnedQuant}
 use Rattle.graph_sql.specs.Scoped.{is_sure}
-use Rattle.graph_sql.specs.StatementText.{Setting, entry_text, item_text, key_text, nothing_made}
+use Rattle.graph_sql.specs.StatementText.{Setting, item_text, nothing_made}
 use Rattle.graph_sql.specs.declared.made.Made.{Made}
 use Rattle.graph_sql.specs.declared.scope.Item.{Item}
 use Rattle.graph_sql.specs.declared.setting.Sheet.{Sheet}
-use Rattle.sql_value.specs.declared.order_key.OrderKey.{OrderKey}
 
 abbrev pub setting_in : Sheet → Setting
 setting_in s = record { tables = s.tables.now; quants = s.quants.now; boxes = s.boxes.now; entries = s.entries; not_null = is_sure s.sure }
@@ -35,8 +33,7 @@ over_in (Some r) = Some r.over
 abbrev pub over_of : List Node → ℕ → Option ℕ
 over_of boxes q = over_in (range_in q (first (owns q) boxes))
 
-abbrev pub next_entry : Setting → (ℕ → Made) → ℕ → List ℕ
-next_entry s made b = codes ", " ++ entry_text s made b
-
-abbrev pub next_key : OrderKey → List ℕ
-next_key key = key_text key ++ codes ", "
+-- a quantifier's box, or else another one
+abbrev pub over_or : Option OwnedQuant → Option ℕ → Option ℕ
+over_or None other = other
+over_or (Some r) other = Some r.over

@@ -1,5 +1,5 @@
 -- The text of the statement that a graph is.
-use Rattle.std.specs.Prelude.{ℕ, suc, ◌==◌, ◌++◌, ◌&&◌, nat_le, not, if◌then◌else◌, Bool, true, false, List, [], ◌∷◌, Option, Some, None, codes, decimal, filter, length, map, reverse}
+use Rattle.std.specs.Prelude.{ℕ, suc, ◌==◌, ◌++◌, ◌&&◌, nat_le, not, if◌then◌else◌, Bool, true, false, List, [], ◌∷◌, Option, Some, None, codes, decimal, length}
 use Rattle.std.specs.List.{flat_map}
 use Rattle.list_laws.specs.Lists.{first, holds, times}
 use Rattle.graph_print.specs.GraphText.{box_order, quant_order, quoted}
@@ -80,11 +80,17 @@ made_in s boxes = by_rank nothing_made (made_of s) boxes
 
 -- ---- entries of WITH: closed boxes, bases apart, that are named twice or more; each stands before those that name it
 
-abbrev pub is_entry : QueryGraph → Node → Bool
-is_entry g n = not (is_base n.parts.kind) && (nat_le 2 (times n.id (under g.boxes (box_order g))) && is_empty (free_in g.boxes n.id))
+-- of boxes of which these are named
+abbrev pub entry_by : List Node → List ℕ → Node → Bool
+entry_by boxes named n = not (is_base n.parts.kind) && (nat_le 2 (times n.id named) && is_empty (free_in boxes n.id))
+
+-- those that pass, from the last box to the first
+abbrev pub from_last : (Node → Bool) → List Node → List ℕ
+from_last test [] = []
+from_last test (n ∷ ns) = if test n then from_last test ns ++ n.id ∷ [] else from_last test ns
 
 abbrev pub entries_of : QueryGraph → List ℕ
-entries_of g = reverse (map (λ n. n.id) (filter (is_entry g) g.boxes))
+entries_of g = from_last (entry_by g.boxes (under g.boxes (box_order g))) g.boxes
 
 abbrev pub setting_of : List TableNames → (ℕ → ℕ → Bool) → QueryGraph → Setting
 setting_of tables not_null g = record { tables = tables; quants = quant_order g; boxes = box_order g; entries = entries_of g; not_null = not_null }
@@ -92,9 +98,12 @@ setting_of tables not_null g = record { tables = tables; quants = quant_order g;
 unfoldable pub entry_text : Setting → (ℕ → Made) → ℕ → List ℕ
 entry_text s made b = box_name s.boxes b ++ columns_text (made b).columns ++ codes " AS (" ++ (made b).text ++ codes ")"
 
+abbrev pub next_entry : Setting → (ℕ → Made) → ℕ → List ℕ
+next_entry s made b = codes ", " ++ entry_text s made b
+
 abbrev pub with_text : Setting → (ℕ → Made) → List ℕ → List ℕ
 with_text s made [] = []
-with_text s made (b ∷ bs) = codes "WITH " ++ entry_text s made b ++ flat_map (λ c. codes ", " ++ entry_text s made c) bs ++ codes " "
+with_text s made (b ∷ bs) = codes "WITH " ++ entry_text s made b ++ flat_map (next_entry s made) bs ++ codes " "
 
 -- ---- the root
 
@@ -102,23 +111,40 @@ abbrev pub out_name : ℕ → Option (List ℕ) → List ℕ
 out_name k None = codes "\"COL" ++ decimal k ++ codes "\""
 out_name k (Some name) = quoted name
 
+abbrev pub gap_text : ℕ → List ℕ
+gap_text k = if k == 0 then codes " " else codes ", "
+
+-- a column behind so many
+abbrev pub out_text : ℕ → Option (List ℕ) → List ℕ
+out_text k name = gap_text k ++ codes "q0.c" ++ decimal (suc k) ++ codes " AS " ++ out_name (suc k) name
+
 -- the columns behind so many
 abbrev pub outs_text : ℕ → List (Option (List ℕ)) → List ℕ
 outs_text k [] = []
-outs_text k (name ∷ names) = (if k == 0 then codes " " else codes ", ") ++ codes "q0.c" ++ decimal (suc k) ++ codes " AS " ++ out_name (suc k) name ++ outs_text (suc k) names
+outs_text k (name ∷ names) = out_text k name ++ outs_text (suc k) names
 
 abbrev pub ascending : ℕ → List ℕ
 ascending k = codes "q0.c" ++ decimal k ++ codes " ASC NULLS FIRST"
 
+abbrev pub direction_text : Bool → List ℕ
+direction_text true = codes " DESC NULLS LAST"
+direction_text false = codes " ASC NULLS FIRST"
+
 unfoldable pub key_text : OrderKey → List ℕ
-key_text key = if key.descending then codes "q0.c" ++ decimal key.column ++ codes " DESC NULLS LAST" else ascending key.column
+key_text key = codes "q0.c" ++ decimal key.column ++ direction_text key.descending
+
+abbrev pub next_key : OrderKey → List ℕ
+next_key key = key_text key ++ codes ", "
 
 -- by the keys, and then by all columns
 abbrev pub order_text : List OrderKey → ℕ → List ℕ
-order_text keys n = if n == 0 then [] else codes " ORDER BY " ++ flat_map (λ key. key_text key ++ codes ", ") keys ++ numbered ascending n
+order_text keys n = if n == 0 then [] else codes " ORDER BY " ++ flat_map next_key keys ++ numbered ascending n
+
+abbrev pub root_item : Made → List ℕ
+root_item root = codes " FROM (" ++ root.text ++ codes ") AS q0" ++ columns_text root.columns
 
 abbrev pub root_text : QueryGraph → Made → List ℕ
-root_text g root = codes "SELECT" ++ outs_text 0 g.names ++ codes " FROM (" ++ root.text ++ codes ") AS q0" ++ columns_text root.columns ++ order_text g.order (length g.names)
+root_text g root = codes "SELECT" ++ outs_text 0 g.names ++ root_item root ++ order_text g.order (length g.names)
 
 -- ---- all
 

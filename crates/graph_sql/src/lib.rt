@@ -3,20 +3,25 @@
 
 mod bodies;
 mod boxes;
+mod entries;
 mod form;
 mod groups;
 mod laws;
 mod made;
 mod names;
 mod numbered;
+mod overs;
 mod reading;
+mod root;
 mod scope;
 mod selects;
 mod setting;
 mod tables;
 mod terms;
+mod text;
 mod words;
 
 pub use laws::readings;
 pub use reading::{Comparison, Connective, Reading};
 pub use tables::TableNames;
+pub use text::statement;
