@@ -9,3 +9,4 @@ pub mod BodyText
 pub mod Lists
 pub mod StatementText
 pub mod Settings
+pub mod Examples

@@ -1,4 +1,5 @@
 // What the tests of a statement mean.
+ghost use Rattle.graph_sql.specs.Examples.{OfGraphs, OfGroups, OfReadings};
 ghost use Rattle.graph_sql.specs.ReadingLaw.{Cells, Conditions, Filters};
 
 /// Over an environment in which nothing that is reached is an error, an expression has the cell that
@@ -8,4 +9,11 @@ pub fn readings()
     ensures cells { Cells }
     ensures conditions { Conditions }
     ensures filters { Filters }
+{}
+
+/// Graphs, conditions and groups have these statements. It does nothing.
+pub fn examples()
+    ensures graphs { OfGraphs }
+    ensures readings { OfReadings }
+    ensures groups { OfGroups }
 {}

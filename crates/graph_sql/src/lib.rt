@@ -21,7 +21,7 @@ mod terms;
 mod text;
 mod words;
 
-pub use laws::readings;
+pub use laws::{examples, readings};
 pub use reading::{Comparison, Connective, Reading};
 pub use tables::TableNames;
 pub use text::statement;
