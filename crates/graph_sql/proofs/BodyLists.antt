@@ -1,9 +1,8 @@
 -- The text of a box by its lists.
-use Rattle.std.proofs.Common.{◌≡◌, ◌==◌, refl, ℕ, List, [], ◌∷◌, ◌++◌, None, Bool, true, false, cond, ap, ap₂, sym, ◌∙◌, length, map, codes, decimal, append_assoc, arith}
+use Rattle.std.proofs.Common.{◌≡◌, ◌==◌, refl, ℕ, List, [], ◌∷◌, ◌++◌, None, cond, ap, ap₂, ◌∙◌, length, map, codes, decimal, arith}
 use Rattle.std.proofs.lemmas.Grind.{common_steps}
 use Rattle.std.proofs.lemmas.List.{length-map}
 use Rattle.std.proofs.lemmas.List.Folds.{flat_map-map}
-use Rattle.std.specs.List.{flat_map}
 use Rattle.qgm_core.specs.Kinds.{is_enforce}
 use Rattle.qgm_core.specs.declared.kinds.BoxKind.{BoxKind}
 use Rattle.qgm_core.specs.declared.kinds.BoxKind.TheVariants.{Base, Select, Group, SetOp, OuterJoin}
@@ -15,7 +14,7 @@ use Rattle.graph_sql.specs.BodyText as text
 use Rattle.graph_sql.specs.BodyText.{and_text, body_text, by_text, columns_text, group_text, having_text, inner_text, list_text, next_text, numbered, operator_word, overs_text}
 use Rattle.graph_sql.specs.Lists as lists
 use Rattle.graph_sql.specs.Readings.{cell_sql, cond_sql}
-use Rattle.graph_sql.specs.Scoped.{cond_text, names_in, number_in, term_text}
+use Rattle.graph_sql.specs.Scoped.{cond_text, names_in, number_in}
 use Rattle.graph_sql.specs.Text.{expression_text}
 use Rattle.graph_sql.specs.declared.reading.Reading.TheVariants.{True}
 use Rattle.graph_sql.specs.declared.scope.Scope.{Scope}

@@ -1,5 +1,5 @@
 -- Comparisons of two cells that are no errors: the truth of the graph, and the truth value of a test.
-use Rattle.std.proofs.Common.{◌≡◌, ◌≢◌, ◌&&◌, ◌||◌, not, Bool, true, false, Option, Some, None, List, ℕ, refl, ap, ap₂, sym, ◌∙◌, ◌⊎◌, inl, inr}
+use Rattle.std.proofs.Common.{◌≡◌, ◌≢◌, ◌&&◌, ◌||◌, not, Bool, true, false, Option, Some, None, refl, ap, sym, ◌∙◌, ◌⊎◌, inl, inr}
 use Rattle.std.proofs.lemmas.Bool.{and_parts, or_cases}
 use Rattle.std.specs.Prelude.{option_map}
 use Rattle.std.specs.Cmp.Lexicographic.{slice_cmp}
@@ -20,7 +20,6 @@ use Rattle.sql_value.specs.Truths as t
 use Rattle.sql_value.specs.declared.cell.Cell.{Cell}
 use Rattle.sql_value.specs.declared.cell.Cell.TheVariants.{Int, Text, Null, Err}
 use Rattle.sql_value.specs.declared.cell.Kind.{Kind}
-use Rattle.sql_value.specs.declared.level.Level.TheVariants.{No, Yes}
 use Rattle.sql_value.specs.declared.truth.Truth.{Truth}
 use Rattle.graph_sql.specs.Logic.{Logic, is_null, Rows, cell_in, comparison, is_false, is_true, logic_in, logic_of, negation, unknown, valued}
 use Rattle.graph_sql.specs.ReadingLaw.{asked, comparable, is_no_number, of_one_type}
@@ -99,7 +98,7 @@ mapped op (Some o) h = λ e. (let z : ⊥ = cc in z)
 -- ---- a comparison, where this is what it gives
 
 module _ (env : Environment) (x y : Expression Rows) (sign : Sign) (o : Option Bool) (graph : compared sign (cell_in x env) (cell_in y env) ≡ truth_by o)
-         (own : comparison (is sign) (cell_in x env) (cell_in y env) ≡ logic_by o) (other : comparison (is_not sign) (cell_in x env) (cell_in y env) ≡ negation (logic_by o)) where
+    (own : comparison (is sign) (cell_in x env) (cell_in y env) ≡ logic_by o) (other : comparison (is_not sign) (cell_in x env) (cell_in y env) ≡ negation (logic_by o)) where
   yes-by : (o : Option Bool) → is_true (logic_by o) ≡ is_yes (truth_by o).t
   yes-by None = refl
   yes-by (Some true) = refl

@@ -1,5 +1,5 @@
 -- The names of a box by its items, and the table of what is made of boxes.
-use Rattle.std.proofs.Common.{◌≡◌, refl, ℕ, ◌==◌, ◌++◌, List, [], ◌∷◌, Bool, true, false, Some, cond, map, ap, ap₂, sym, ◌∙◌, codes}
+use Rattle.std.proofs.Common.{◌≡◌, refl, ℕ, ◌==◌, ◌++◌, List, [], ◌∷◌, Bool, true, false, Some, cond, map, ap, ap₂, ◌∙◌, codes}
 use mathlib.Core.Path.{fun_ext}
 use Rattle.list_laws.specs.Lists.{first}
 use Rattle.qgm_core.specs.Boxes.{is_quant}
@@ -12,7 +12,7 @@ use Rattle.graph_sql.specs.Readings.{Names}
 use Rattle.graph_sql.specs.Scoped.{is_item, is_sure, names_in, number_in, text_found}
 use Rattle.graph_sql.specs.Settings.{item_of}
 use Rattle.graph_sql.specs.Statement.{column}
-use Rattle.graph_sql.specs.StatementText.{Setting, item_found, item_text, made_in, made_of, names_by}
+use Rattle.graph_sql.specs.StatementText.{Setting, item_found, made_in, made_of, names_by}
 use Rattle.graph_sql.specs.declared.made.Made.{Made}
 use Rattle.graph_sql.specs.declared.scope.Item.{Item}
 use Rattle.graph_sql.specs.declared.scope.Scope.{Scope}

@@ -1,5 +1,5 @@
 -- The text of chains, CASE, AND and OR by their lists.
-use Rattle.std.proofs.Common.{◌≡◌, refl, ℕ, List, [], ◌∷◌, ◌++◌, Option, Some, None, Bool, ◌&&◌, true, false, ap, ap₂, sym, ◌∙◌, length, codes, append_assoc, arith, min, drop, ◌≤◌, ◌⊎◌, inl, inr}
+use Rattle.std.proofs.Common.{◌≡◌, refl, ℕ, List, [], ◌∷◌, ◌++◌, Option, Some, None, Bool, ◌&&◌, true, false, ap, ap₂, sym, ◌∙◌, length, codes, arith, min, drop, ◌≤◌, ◌⊎◌, inl, inr}
 use Rattle.std.proofs.lemmas.Grind.{common_steps}
 use Rattle.std.proofs.lemmas.List.{append-nil, drop_all}
 use Rattle.std.proofs.lemmas.Bool.{cases_lt}
@@ -8,8 +8,8 @@ use Rattle.qgm_props.specs.Lists.{is_none}
 use Rattle.sql_value.specs.declared.order_key.SqlType.{SqlType}
 use Rattle.qgm_terms.specs.Terms.{Sign, Term, Link, both, Cond, compare, and, or, linked, anded, ored, Choice, armed, choose}
 use Rattle.graph_print.specs.TermText.{repeated}
-use Rattle.graph_sql.specs.Readings.{Names, arms_sql, cell_sql, compare_sql, cond_sql, holds_value, of_and, of_or}
-use Rattle.graph_sql.specs.Scoped.{chain_text, close_form, close_wrap, formed, open_form, open_wrap, wrapped, choice_text, choices_text, cond_text, links_text, names_in, next_cond, next_conds, number_in, term_text}
+use Rattle.graph_sql.specs.Readings.{Names, arms_sql, cell_sql, compare_sql, holds_value, of_and, of_or}
+use Rattle.graph_sql.specs.Scoped.{chain_text, close_form, close_wrap, formed, open_form, open_wrap, wrapped, choice_text, choices_text, cond_text, links_text, names_in, next_conds, number_in, term_text}
 use Rattle.graph_sql.specs.Text.{close_chain, close_comparison, comparison_word, connective_word, expression_text, op_word, open_chain, open_comparison, test_text, whens_text}
 use Rattle.graph_sql.specs.Bodies.{cell, group_cell, stored_columns}
 use Rattle.graph_sql.specs.Statement.{Expression, compared}

@@ -1,6 +1,5 @@
 -- The readings of conditions, by induction.
-use Rattle.std.proofs.Common.{◌≡◌, ◌≢◌, ◌&&◌, ◌||◌, not, Bool, true, false, List, [], ◌∷◌, ℕ, None, cond, refl, ap, ap₂, sym, subst, ◌∙◌, inl, inr}
-use Rattle.std.proofs.lemmas.Bool.{and_parts}
+use Rattle.std.proofs.Common.{◌≡◌, ◌≢◌, ◌&&◌, ◌||◌, not, Bool, true, false, List, [], ◌∷◌, ℕ, None, cond, refl, ap, ap₂, sym, ◌∙◌}
 use Rattle.std.specs.List.{list_all, list_any}
 use Rattle.list_laws.specs.Lists.{In}
 use Rattle.qgm_terms.specs.Terms.{Term, int, text, null_int, null_text, col, scalar, both, minus_of, choose, count_all, fold, Arms, no_arm, arm}
@@ -20,9 +19,9 @@ use Rattle.sql_value.specs.declared.level.Level.{Level}
 use Rattle.sql_value.specs.declared.level.Level.TheVariants.{No, Cardinality, Division, Overflow, Yes}
 use Rattle.sql_value.specs.declared.truth.Truth.{Truth}
 use Rattle.graph_sql.specs.Statement.{Expression, Test}
-use Rattle.graph_sql.specs.Logic.{Logic, yes, no, unknown, Rows, cell_in, cell_of_rows, first_when, is_true, join, logic_in, logic_of}
+use Rattle.graph_sql.specs.Logic.{Logic, yes, no, unknown, Rows, cell_in, first_when, is_true, join, logic_in}
 use Rattle.graph_sql.specs.Readings.{Names, always_sql, arms_sql, cell_sql, compare_sql, cond_sql, every_sql, holds_value, null_sql, of_and, of_every, of_or, of_some, some_sql, turned}
-use Rattle.graph_sql.specs.ReadingLaw.{AllCalm, CalmArms, CalmCell, CalmCond, Cells, Conditions, Filters, asked, comparable, own_names, rows_there}
+use Rattle.graph_sql.specs.ReadingLaw.{AllCalm, CalmArms, CalmCell, CalmCond, Filters, asked, comparable, own_names, rows_there}
 use Rattle.graph_sql.specs.declared.reading.Connective.TheVariants.{And, Or}
 use Rattle.graph_sql.specs.declared.reading.Reading.{Reading}
 use Rattle.graph_sql.specs.declared.reading.Reading.TheVariants.{True, False, NotTrue, NotFalse}

@@ -9,7 +9,6 @@ use Rattle.row_bag.specs.Errors.{error_at}
 use Rattle.row_bag.specs.Verdict.{those_there}
 use Rattle.row_bag.specs.Subqueries as subquery
 use Rattle.row_bag.specs.Subqueries.{every, only_cell, some}
-use Rattle.row_bag.specs.declared.row.Row.{Row}
 use Rattle.qgm_meaning.specs.Satisfies.{is_yes}
 use Rattle.qgm_meaning.specs.Values.{Bag}
 use Rattle.sql_value.specs.Level.{greatest, least}
@@ -124,10 +123,10 @@ module _ (test : List Cell → Truth) where
   some-settled-by c Division rs h p e = absurd (let z : ⊥ = cc in z)
   some-settled-by c Overflow rs h p e = absurd (let z : ⊥ = cc in z)
   some-settled-by c Yes rs h p e =
-      let k = p c (inl refl) in
-      (
-      decided-greatest (least Yes (test c).t) (some test rs).t (decided-least Yes (test c).t refl k.0) e.0,
-      decided-least (greatest No (test c).f) (some test rs).f (decided-greatest No (test c).f refl k.1) e.1)
+      let k = p c (inl refl) in (
+        decided-greatest (least Yes (test c).t) (some test rs).t (decided-least Yes (test c).t refl k.0) e.0,
+        decided-least (greatest No (test c).f) (some test rs).f (decided-greatest No (test c).f refl k.1) e.1,
+      )
 
   pub some-settled : (rows : Bag) → is_clean rows ≡ true → ((d : List Cell) → In d (rows_there rows) → Settled (test d)) → Settled (some test rows)
   some-settled [] h p = (refl, refl)
@@ -141,10 +140,10 @@ module _ (test : List Cell → Truth) where
   every-settled-by c Division rs h p e = absurd (let z : ⊥ = cc in z)
   every-settled-by c Overflow rs h p e = absurd (let z : ⊥ = cc in z)
   every-settled-by c Yes rs h p e =
-      let k = p c (inl refl) in
-      (
-      decided-least (greatest No (test c).t) (every test rs).t (decided-greatest No (test c).t refl k.0) e.0,
-      decided-greatest (least Yes (test c).f) (every test rs).f (decided-least Yes (test c).f refl k.1) e.1)
+      let k = p c (inl refl) in (
+        decided-least (greatest No (test c).t) (every test rs).t (decided-greatest No (test c).t refl k.0) e.0,
+        decided-greatest (least Yes (test c).f) (every test rs).f (decided-least Yes (test c).f refl k.1) e.1,
+      )
 
   pub every-settled : (rows : Bag) → is_clean rows ≡ true → ((d : List Cell) → In d (rows_there rows) → Settled (test d)) → Settled (every test rows)
   every-settled [] h p = (refl, refl)

@@ -1,5 +1,5 @@
 -- A box as a SELECT over what stands for the rows of its quantifiers.
-use Rattle.std.specs.Prelude.{ℕ, Bool, true, false, List, [], ◌∷◌, filter, if◌then◌else◌, length, map, nat_eq, take}
+use Rattle.std.specs.Prelude.{ℕ, Bool, true, List, [], ◌∷◌, filter, if◌then◌else◌, length, map, nat_eq, take}
 use Rattle.std.specs.Cmp.Lexicographic.{pointwise}
 use Rattle.qgm_core.specs.Kinds.{is_F, is_enforce}
 use Rattle.qgm_core.specs.declared.kinds.BoxKind.{BoxKind}

@@ -9,7 +9,7 @@ use Rattle.qgm_terms.specs.Terms.{Aggregate, single, count, sum, avg, least, gre
 use Rattle.sql_value.specs.declared.order_key.SqlType.{SqlType}
 use Rattle.sql_value.specs.declared.order_key.SqlType.TheVariants.{Integer, Varchar}
 use Rattle.graph_sql.specs.Bodies.{Arm, Body, GroupCell, Stored, cell, combined, counted_all, folded, grouped, outer_joined, selected, stored}
-use Rattle.graph_sql.specs.Statement.{Expression, Test}
+use Rattle.graph_sql.specs.Statement.{Test}
 use Rattle.graph_sql.specs.Text.{column_text, expression_text, test_text}
 
 -- ---- names: what the schema writes without quotes has capitals here, and small letters in PostgreSQL

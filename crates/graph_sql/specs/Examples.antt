@@ -6,7 +6,6 @@ use Rattle.qgm_core.specs.declared.kinds.BoxKind.TheVariants.{Select, Group, Out
 use Rattle.qgm_core.specs.declared.kinds.Distinct.TheVariants.{Enforce}
 use Rattle.qgm_core.specs.declared.kinds.QuantKind.TheVariants.{F}
 use Rattle.qgm_core.specs.declared.node.Node.{Node}
-
 use Rattle.qgm_terms.specs.Terms.{Cond, and, compare, below, above, equal, same, every, is_null, col, choose, arm, no_arm, count_all, fold, sum, single, all_of, each_once, text}
 use Rattle.graph_print.specs.Examples.{box, counted, n, over, stored}
 use Rattle.graph_sql.specs.Bodies.{group_cell, grouped}

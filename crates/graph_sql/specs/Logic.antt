@@ -1,5 +1,5 @@
 -- What expressions and tests of a statement mean, where each quantifier's rows are given: tests have three truth values, and an error is a cell.
-use Rattle.std.specs.Prelude.{ℕ, not, if◌then◌else◌, Bool, true, false, List, [], ◌∷◌}
+use Rattle.std.specs.Prelude.{not, if◌then◌else◌, Bool, true, false, List, [], ◌∷◌}
 use Rattle.std.specs.List.{list_any}
 use Rattle.std.specs.Ordering.{is_eq}
 use Rattle.shared_types.specs.declared.compare.CmpOp.TheVariants as op

@@ -1,6 +1,6 @@
 -- How expressions and tests are written. R is text: that of a FROM item for the rows of a quantifier, and for EXISTS all between FROM and the test.
 -- `at` gives the number of a quantifier.
-use Rattle.std.specs.Prelude.{ℕ, ◌++◌, Bool, true, false, List, [], ◌∷◌, Option, Some, None, codes, decimal}
+use Rattle.std.specs.Prelude.{ℕ, ◌++◌, Bool, true, false, List, [], Option, Some, None, codes, decimal}
 use Rattle.std.specs.Fmt.{signed_decimal}
 use Rattle.graph_print.specs.TermText.{doubled}
 use Rattle.qgm_terms.specs.declared.tree.Op.{Op}

@@ -86,19 +86,11 @@ fn put_stored_list(names: &[Text], types: &[SqlType], out: &mut Text) -> Result<
 
 // The SELECT of a stored table.
 #[tactic(auto, unfolding(crate::specs::BodyText::body_text))]
-fn put_base(
-    tables: &[TableNames],
-    table: &BaseTable,
-    out: &mut Text,
-) -> Result<(), OutOfMemory>
+fn put_base(tables: &[TableNames], table: &BaseTable, out: &mut Text) -> Result<(), OutOfMemory>
     ensures { OnOk result (out.new ≡ out.old ++ lists.base_text tables.now table.now) }
 {
     put_word(b"SELECT ", out)?;
-    put_stored_list(
-        columns_of(tables, &table.name),
-        table.types.as_slice(),
-        out,
-    )?;
+    put_stored_list(columns_of(tables, &table.name), table.types.as_slice(), out)?;
     put_word(b" FROM ", out)?;
     put_name(&table.name, out)?;
     put_word(b" AS t", out)

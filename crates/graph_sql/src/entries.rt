@@ -67,11 +67,7 @@ fn is_entry(
 }
 
 /// The boxes that are entries, from the last to the first.
-pub fn entries_of(
-    alloc: Global,
-    nodes: &[Node],
-    counts: &Counts,
-) -> Result<Vec<BoxId>, OutOfMemory>
+pub fn entries_of(alloc: Global, nodes: &[Node], counts: &Counts) -> Result<Vec<BoxId>, OutOfMemory>
     ensures { IfOk result (λ v. v.items ≡ from_last (entry_by nodes.now counts.now) nodes.now) }
 {
     let mut list = Vec::new(alloc);

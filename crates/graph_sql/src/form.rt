@@ -1,5 +1,5 @@
 // The form that a comparison has in a reading.
-ghost use Rattle.std.specs.Prelude.{◌≡◌, ◌&&◌, ◌||◌, ◌++◌, List, OnOk, ℕ};
+ghost use Rattle.std.specs.Prelude.{◌≡◌, ◌++◌, List, OnOk, ℕ};
 ghost use Rattle.qgm_terms.specs.Shown.{sign};
 ghost use Rattle.graph_sql.specs.Readings as reading_spec;
 ghost use Rattle.graph_sql.specs.Scoped as spec;
@@ -77,9 +77,9 @@ fn plain_form(reading: Reading, s: Sign, sure: bool) -> Form
         Reading::NotTrue => {
             if sure {
                 Form {
-            comparison: is_not(s),
-            wrap: Wrap::Bare,
-        }
+                    comparison: is_not(s),
+                    wrap: Wrap::Bare,
+                }
             } else {
                 Form {
                     comparison: is(s),
@@ -90,9 +90,9 @@ fn plain_form(reading: Reading, s: Sign, sure: bool) -> Form
         Reading::NotFalse => {
             if sure {
                 Form {
-            comparison: is(s),
-            wrap: Wrap::Bare,
-        }
+                    comparison: is(s),
+                    wrap: Wrap::Bare,
+                }
             } else {
                 Form {
                     comparison: is(s),

@@ -1,6 +1,5 @@
 // The cells of a group.
 ghost use Rattle.std.specs.Prelude.{◌≡◌, ◌++◌, decimal, List, ℕ, OnOk};
-ghost use Rattle.std.specs.List.{list_any};
 ghost use Rattle.graph_sql.specs.Bodies.{group_cell};
 ghost use Rattle.graph_sql.specs.BodyText as text;
 ghost use Rattle.graph_sql.specs.Lists as lists;

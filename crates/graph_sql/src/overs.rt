@@ -25,10 +25,7 @@ fn add_over(overs: &mut HashMap<QuantId, BoxId>, q: QuantId, b: BoxId) -> Result
 }
 
 // The quantifiers of a box, of which the first of a number counts.
-fn add_overs(
-    overs: &mut HashMap<QuantId, BoxId>,
-    ranges: &[OwnedQuant],
-) -> Result<(), OutOfMemory>
+fn add_overs(overs: &mut HashMap<QuantId, BoxId>, ranges: &[OwnedQuant]) -> Result<(), OutOfMemory>
     ensures { OnOk result ((q : ℕ) → get nat_eq overs.new q ≡ over_or (first (is_quant q) ranges.now) (get nat_eq overs.old q)) }
 {
     let mut i = ranges.len();
@@ -53,11 +50,7 @@ fn overs_of(alloc: Global, nodes: &[Node]) -> Result<HashMap<QuantId, BoxId>, Ou
 }
 
 /// Which columns of quantifiers are known to hold no null.
-pub fn sure_of<'a>(
-    alloc: Global,
-    facts: &'a Props,
-    nodes: &[Node],
-) -> Result<Sure<'a>, OutOfMemory>
+pub fn sure_of<'a>(alloc: Global, facts: &'a Props, nodes: &[Node]) -> Result<Sure<'a>, OutOfMemory>
     ensures { IfOk result (λ s. is_sure s ≡ not_null_under nodes.now (facts_of facts.now)) }
 {
     let overs = overs_of(alloc, nodes)?;

@@ -76,7 +76,12 @@ pub fn put_source(scope: &Scope<'_>, q: QuantId, out: &mut Text) -> Result<(), O
 }
 
 /// Adds a column of a quantifier.
-pub fn put_column(scope: &Scope<'_>, q: QuantId, k: usize, out: &mut Text) -> Result<(), OutOfMemory>
+pub fn put_column(
+    scope: &Scope<'_>,
+    q: QuantId,
+    k: usize,
+    out: &mut Text,
+) -> Result<(), OutOfMemory>
     ensures { OnOk result (out.new ≡ out.old ++ column_text (spec.number_in scope.now) q k) }
 {
     put_word(b"q", out)?;

@@ -19,11 +19,13 @@ use std::alloc::Global;
 pub fn each_id(alloc: Global, ranges: &[OwnedQuant]) -> Result<Vec<QuantId>, OutOfMemory>
     ensures { IfOk result (λ v. v.items ≡ map (λ r. r.id) (filter (λ r. is_F r.kind) ranges.now)) }
 {
-    Ok(ranges
-        .iter()
-        .filter(|r| r.kind.is_f())
-        .map(|r| r.id)
-        .collect(alloc)?)
+    Ok(
+        ranges
+            .iter()
+            .filter(|r| r.kind.is_f())
+            .map(|r| r.id)
+            .collect(alloc)?,
+    )
 }
 
 /// The numbers of the first quantifiers, so many at most.

@@ -4,7 +4,6 @@ ghost use Rattle.graph_print.specs.GraphText.{box_order, quant_order};
 ghost use Rattle.graph_print.specs.Indexed.{IsIndex};
 ghost use Rattle.graph_sql.specs.Settings.{setting_in};
 ghost use Rattle.graph_sql.specs.StatementText as spec;
-ghost use Rattle.qgm_core.specs.Walk.{under};
 ghost use Rattle.qgm_props.specs.Inferred.{not_null_under};
 ghost use Rattle.qgm_props.specs.Table.{facts_of};
 

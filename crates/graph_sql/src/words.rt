@@ -23,12 +23,7 @@ pub fn put_number_cell(n: i64, out: &mut Text) -> Result<(), OutOfMemory>
 }
 
 // A text between two words, each quote twice.
-fn put_between(
-    before: &[u8],
-    text: &Text,
-    behind: &[u8],
-    out: &mut Text,
-) -> Result<(), OutOfMemory>
+fn put_between(before: &[u8], text: &Text, behind: &[u8], out: &mut Text) -> Result<(), OutOfMemory>
     ensures { OnOk result (out.new ≡ out.old ++ (before.now ++ doubled 39 text.now ++ behind.now)) }
 {
     put_word(before, out)?;

@@ -1,4 +1,4 @@
-use Rattle.std.proofs.Common.{◌≡◌, ◌≤◌, ◌++◌, drop, length}
+use Rattle.std.proofs.Common.{◌≡◌, ◌++◌, drop}
 use Rattle.graph_sql.specs.Lists.{more_stored}
 use Rattle.graph_sql.proofs.bodies.put_more_stored.Given as goal
 

@@ -1,5 +1,4 @@
-use Rattle.std.proofs.Common.{ℕ, ◌≡◌, ◌-◌, ◌∷◌, nat_eq, drop, ◌∙◌, sym, ap, List, Option, arith}
-use Rattle.std.specs.HashMap.{get}
+use Rattle.std.proofs.Common.{◌≡◌, ◌-◌, ◌∷◌, drop, ◌∙◌, sym, ap, List, arith}
 use Rattle.std.proofs.lemmas.Grind.{common_steps}
 use Rattle.list_laws.specs.Lists.{first}
 use Rattle.qgm_core.specs.Boxes.{is_quant}

@@ -28,8 +28,9 @@ pub put_cond-returns-in_ok-put_term-in-Compare : goal.put_cond-returns-in_ok-put
 put_cond-returns-in_ok-put_term-in-Compare t c =
     let a = c.holds_value.ensures ∙ ap (λ (x : Gx). holds_value (is_sure c.args.scope.now.sure.now) (shown.term x)) c.deref.ensures in
     let b = c.holds_value-in-Compare.ensures ∙ ap (λ (x : Gx). holds_value (is_sure c.args.scope.now.sure.now) (shown.term x)) c.deref-in-Compare.ensures in
-    rw
-    (c.in-Compare.is,
-    laws.text_compared c.args.scope.now c.args.chain c.args.reading (shown.sign c.in-Compare.s) (shown.term c.in-Compare.a.value) (shown.term c.in-Compare.b.value) c.form_of-form.result c.holds_value.result
-    c.holds_value-in-Compare.result c.form_of-form.ensures a b)
+    rw (
+      c.in-Compare.is,
+      laws.text_compared c.args.scope.now c.args.chain c.args.reading (shown.sign c.in-Compare.s) (shown.term c.in-Compare.a.value) (shown.term c.in-Compare.b.value) c.form_of-form.result c.holds_value.result
+          c.holds_value-in-Compare.result c.form_of-form.ensures a b,
+    )
     (grind (arith, common_steps))
