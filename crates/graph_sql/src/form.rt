@@ -12,7 +12,7 @@ use qgm_terms::{Sign, both, either};
 use shared_types::{OutOfMemory, Text};
 
 /// What is asked of a comparison.
-#[derive(Clone, Copy, PartialEq, Eq)]
+#[derive(Clone, Copy)]
 pub enum Wrap {
     /// Whether it is true.
     Bare,
@@ -23,7 +23,7 @@ pub enum Wrap {
 }
 
 /// A comparison, and what is asked of it.
-#[derive(Clone, Copy, PartialEq, Eq)]
+#[derive(Clone, Copy)]
 pub struct Form {
     pub comparison: Comparison,
     pub wrap: Wrap,

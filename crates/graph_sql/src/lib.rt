@@ -22,6 +22,5 @@ mod text;
 mod words;
 
 pub use laws::{examples, readings};
-pub use reading::{Comparison, Connective, Reading};
 pub use tables::TableNames;
 pub use text::statement;

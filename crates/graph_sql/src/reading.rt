@@ -3,7 +3,7 @@ ghost use Rattle.std.specs.Prelude.{◌≡◌};
 ghost use Rattle.graph_sql.specs.Readings as spec;
 
 /// What is asked of a condition.
-#[derive(Clone, Copy, PartialEq, Eq)]
+#[derive(Clone, Copy)]
 pub enum Reading {
     /// Whether it is true.
     True,
@@ -16,14 +16,14 @@ pub enum Reading {
 }
 
 /// What joins two tests.
-#[derive(Clone, Copy, PartialEq, Eq)]
+#[derive(Clone, Copy)]
 pub enum Connective {
     And,
     Or,
 }
 
 /// A comparison of two cells. The last two are of arrays of one cell, in which two nulls are the same.
-#[derive(Clone, Copy, PartialEq, Eq)]
+#[derive(Clone, Copy)]
 pub enum Comparison {
     Equal,
     Unequal,
