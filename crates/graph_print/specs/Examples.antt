@@ -18,16 +18,16 @@ use Rattle.qgm_terms.specs.declared.tree.Op.TheVariants.{Add, Sub}
 use Rattle.graph_print.specs.GraphText.{text_of}
 use Rattle.graph_print.specs.TermText.{cond_text, term_text}
 
-abbrev n : ℕ → Term
+abbrev pub n : ℕ → Term
 n k = int (pos k)
 
-abbrev box : ℕ → BoxKind → List Cond → List Term → List OwnedQuant → Node
+abbrev pub box : ℕ → BoxKind → List Cond → List Term → List OwnedQuant → Node
 box b k conds head quants = record { id = b; parts = record { kind = k; distinct = Preserve; role = Plain; conds = record { items = conds; spare = 0 }; head = head }; quants = quants }
 
-abbrev stored : ℕ → List ℕ → List SqlType → Node
+abbrev pub stored : ℕ → List ℕ → List SqlType → Node
 stored b name types = box b (Base (record { name = name; types = types; keys = []; not_null = [] })) [] [] []
 
-abbrev over : ℕ → QuantKind → ℕ → OwnedQuant
+abbrev pub over : ℕ → QuantKind → ℕ → OwnedQuant
 over q kind b = record { id = q; kind = kind; over = b }
 
 abbrev lines : List (List ℕ) → List ℕ
@@ -43,7 +43,7 @@ plain = record {
 }
 
 -- SELECT D.DNO FROM DEPT D WHERE D.BUDGET > 4 AND (SELECT COUNT(*) FROM EMP E WHERE E.BLDG = D.BLDG) = 0, its boxes ranked in another order than they are walked
-abbrev counted : QueryGraph
+abbrev pub counted : QueryGraph
 counted = record {
   boxes =
       box 5 Select (compare above (col 0 3) (n 4) ∷ compare equal (scalar 4) (n 0) ∷ []) (col 0 1 ∷ []) (over 0 F 0 ∷ over 4 S 4 ∷ [])

@@ -14,7 +14,8 @@ use qgm_wellformed::{KnownTypes, cell_type};
 use shared_types::{OutOfMemory, Text};
 use sql_value::{OrderKey, SqlType};
 
-fn put_quoted(name: &Text, out: &mut Text) -> Result<(), OutOfMemory>
+/// Adds a name in quotes. It fails only for want of memory.
+pub fn put_quoted(name: &Text, out: &mut Text) -> Result<(), OutOfMemory>
     ensures { OnOk result (out.new ≡ out.old ++ spec.quoted name.now) }
 {
     put_word(b"\"", out)?;

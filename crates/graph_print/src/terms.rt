@@ -114,8 +114,8 @@ fn put_open_links(list: &[Link], out: &mut Text) -> Result<(), OutOfMemory>
     Ok(())
 }
 
-// A word so often.
-fn put_repeated(word: &[u8], n: usize, out: &mut Text) -> Result<(), OutOfMemory>
+/// Adds a word so often. It fails only for want of memory.
+pub fn put_repeated(word: &[u8], n: usize, out: &mut Text) -> Result<(), OutOfMemory>
     ensures { OnOk result (out.new ≡ out.old ++ spec.repeated word.now n) }
 {
     for _again in 0..n {

@@ -1,0 +1,12 @@
+pub mod Statement
+pub mod Readings
+pub mod Logic
+pub mod ReadingLaw
+pub mod Text
+pub mod Scoped
+pub mod Bodies
+pub mod BodyText
+pub mod Lists
+pub mod StatementText
+pub mod Settings
+pub mod Examples
