@@ -1,5 +1,5 @@
 -- What the program knows of a query that it has checked.
-use Rattle.std.specs.Prelude.{◌≡◌, ⊤, true, List, [], None, map}
+use Rattle.std.specs.Prelude.{ℕ, ◌≡◌, ⊤, true, List, [], Option, None, Some, map}
 use Rattle.csv_tables.specs.Fits.{FitsSchema}
 use Rattle.row_bag.specs.declared.tables.Table.{Table}
 use Rattle.sql_ast.specs.Declarations.{Declared}
@@ -39,6 +39,11 @@ pub record IsChecked (catalog : Declared) (views : Views) (text : s.QueryText) (
   pub order : x.order ≡ map (order_key x.names) text.order
   pub answer : (tables : List Table) → IsFilled catalog tables → answer_of views x tables ≡ answer (known_of catalog tables) text
 
+-- the query of a question is checked
+pub record IsSound (q : Question) : Type 0 where
+  pub views : AreReady (catalogs.catalog q.catalog) q.views
+  pub checked : IsChecked (catalogs.catalog q.catalog) q.views (written.query_text q.valid.query) q.valid.checked
+
 -- a question may be answered: its query is checked, and its tables fit the catalog
 pub record IsReady (q : Question) : Type 0 where
   pub views : AreReady (catalogs.catalog q.catalog) q.views
@@ -49,3 +54,13 @@ pub record IsReady (q : Question) : Type 0 where
 abbrev pub IsRequestReady : Request → Type 0
 IsRequestReady (Asked q) = IsReady q
 IsRequestReady (Refused report) = ⊤
+
+-- the query of a question that was found is checked
+abbrev pub IsRequestSound : Request → Type 0
+IsRequestSound (Asked q) = IsSound q
+IsRequestSound (Refused report) = ⊤
+
+-- a question that was found may be answered where there is a folder of tables, else its query is checked
+abbrev pub IsRequestReadyOver : Option (List ℕ) → Request → Type 0
+IsRequestReadyOver None found = IsRequestSound found
+IsRequestReadyOver (Some dir) found = IsRequestReady found

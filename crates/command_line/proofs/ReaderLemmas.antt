@@ -13,7 +13,7 @@ use Rattle.clap.specs.declared.parser.matches.SubCommand.{SubCommand}
 use Rattle.clap.specs.declared.parser.matches.ArgMatches.TheViews.{out-SubCommand}
 use Rattle.clap.specs.declared.error.Error.{Error}
 use Rattle.clap.specs.declared.error.ErrorKind.TheVariants.{OutOfMemory}
-use Rattle.command_line.specs.Command.{gen_app, line_app, table_app}
+use Rattle.command_line.specs.Command.{gen_app, line_app, sql_app, table_app}
 use Rattle.command_line.specs.Reading.{command_at, is_number, known_line, number}
 
 -- ---- a number
@@ -55,7 +55,7 @@ unwrap_now (Some s) d = refl
 -- ---- the line
 
 pub simple_line : is_simple_and_free line_app ≡ true
-unfolding line_app table_app gen_app
+unfolding line_app table_app sql_app gen_app
 simple_line = refl
 
 pub is_simple_of : (a : App) → is_simple_and_free a ≡ true → is_simple a ≡ true

@@ -46,6 +46,12 @@ table_app name = with_option_rules
     (with_rule (with_rule (with_rule (new_app name) (place_rule (codes "schema")))
     (place_rule (codes "query"))) (place_rule (codes "dir")))
 
+-- `sql`
+unfoldable pub sql_app : App
+sql_app = with_rule (with_option_rules
+    (with_rule (with_rule (new_app (codes "sql")) (place_rule (codes "schema")))
+    (place_rule (codes "query")))) (option_rule (codes "dialect") (codes "postgres"))
+
 unfoldable pub gen_app : App
 gen_app = with_option_rules
     (with_rule (with_rule (new_app (codes "gen")) (number_place_rule (codes "start") greatest_seed))
@@ -65,6 +71,6 @@ top_app = record { top = bare_top; subs = [] }
 
 -- the whole command
 unfoldable pub line_app : App
-line_app = with_subcommand (with_subcommand (with_subcommand
+line_app = with_subcommand (with_subcommand (with_subcommand (with_subcommand
     top_app
-    (table_app (codes "run")).top) (table_app (codes "explain")).top) gen_app.top
+    (table_app (codes "run")).top) (table_app (codes "explain")).top) sql_app.top) gen_app.top

@@ -13,7 +13,7 @@ use Rattle.shared_types.specs.declared.walk.Walk.{Walk}
 use Rattle.shared_types.specs.declared.walk.Walk.TheVariants.{Depth, Breadth}
 use Rattle.command_line.specs.Classes.{classes_named}
 use Rattle.command_line.specs.Command.{line_app}
-use Rattle.command_line.specs.Line.{LineText, TaskText, run, explain, gen, is_taken}
+use Rattle.command_line.specs.Line.{LineText, TaskText, run, explain, sql, gen, is_taken}
 use Rattle.command_line.specs.Named.{◌>>=◌, named}
 
 abbrev pub order_named : Text → Option Order
@@ -50,6 +50,11 @@ plan_at rows = do
     budget = number (text_at (codes "budget") rows);
   })
 
+-- `sql`, whose dialect must be the one that there is
+abbrev pub sql_at : List Row → Option TaskText
+sql_at rows = if bytes_eq (text_at (codes "dialect") rows) (codes "postgres")
+    then Some (sql (text_at (codes "schema") rows) (text_at (codes "query") rows)) else None
+
 unfoldable pub task_at : Text → List Row → Option TaskText
 task_at name rows = if bytes_eq name (codes "run")
     then Some (run (text_at (codes "schema") rows) (text_at (codes "query") rows)
@@ -57,9 +62,11 @@ task_at name rows = if bytes_eq name (codes "run")
     else (if bytes_eq name (codes "explain")
     then Some (explain (text_at (codes "schema") rows) (text_at (codes "query") rows)
     (text_at (codes "dir") rows))
+    else (if bytes_eq name (codes "sql")
+    then sql_at rows
     else (if bytes_eq name (codes "gen")
     then Some (gen (number (text_at (codes "start") rows)) (number (text_at (codes "rows") rows)))
-    else None))
+    else None)))
 
 -- what a subcommand with its matches says
 unfoldable pub command_at : Text × List Row → Option LineText
@@ -73,7 +80,7 @@ no_fault [] = true
 no_fault (k ∷ ks) = false
 
 -- what the words say, whose command may not be taken; none where `clap` doesn't take them, they
--- hold no command, or an order, a walk or a class isn't one of those listed
+-- hold no command, or an order, a walk, a class or a dialect isn't one of those listed
 unfoldable pub known_line : List Text → Option LineText
 known_line words = if no_fault (fault_of line_app words)
     then option_and_then command_at (subcommand_of line_app words) else None

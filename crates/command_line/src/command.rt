@@ -2,7 +2,7 @@
 ghost use Rattle.std.specs.Prelude.{◌≡◌, IfOk, false};
 ghost use Rattle.clap.specs.Words.{app_of, new_app, rule_of, with_rule, with_subcommand};
 ghost use Rattle.clap.specs.declared.builder.command.Command.TheViews.{out-Command as fields_of};
-ghost use Rattle.command_line.specs.Command.{gen_app, line_app, number_place_rule, number_rule};
+ghost use Rattle.command_line.specs.Command.{gen_app, line_app, number_place_rule, number_rule, sql_app};
 ghost use Rattle.command_line.specs.Command.{option_rule, place_rule, table_app, top_app, with_option_rules};
 
 use clap::builder::ValueParser;
@@ -110,6 +110,18 @@ fn table_command<'a>(alloc: Global, name: &'a str) -> Result<Box<Command<'a>>, A
     with_options(alloc, third)
 }
 
+// `sql`.
+fn sql_command<'a>(alloc: Global) -> Result<Box<Command<'a>>, AllocError>
+    ensures local { IfOk result (λ c. (fields_of c.value).has_globals ≡ false) }
+    ensures shape { IfOk result (λ c. app_of c.value ≡ sql_app) }
+{
+    let bare = bare_command(alloc, "sql")?;
+    let first = with_arg(alloc, bare, text_place(alloc, "schema"))?;
+    let second = with_arg(alloc, first, text_place(alloc, "query"))?;
+    let third = with_options(alloc, second)?;
+    with_arg(alloc, third, text_option(alloc, "dialect", "postgres"))
+}
+
 // `gen`.
 fn gen_command<'a>(alloc: Global) -> Result<Box<Command<'a>>, AllocError>
     ensures local { IfOk result (λ c. (fields_of c.value).has_globals ≡ false) }
@@ -161,6 +173,8 @@ pub(crate) fn line_command<'a>(alloc: Global) -> Result<Box<Command<'a>>, AllocE
     let first = with_command(alloc, top, run)?;
     let explain = table_command(alloc, "explain")?;
     let second = with_command(alloc, first, explain)?;
+    let sql = sql_command(alloc)?;
+    let third = with_command(alloc, second, sql)?;
     let generate = gen_command(alloc)?;
-    with_command(alloc, second, generate)
+    with_command(alloc, third, generate)
 }

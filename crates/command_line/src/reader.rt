@@ -4,7 +4,7 @@ ghost use Rattle.std.specs.Prelude.{string_bytes};
 ghost use Rattle.clap.specs.Words.{found_of, rows_of, subcommand_rows_of};
 ghost use Rattle.command_line.specs.Line.{is_taken, line_text, task_text};
 ghost use Rattle.command_line.specs.Reading.{command_at, known_line, line, number, order_named};
-ghost use Rattle.command_line.specs.Reading.{plan_at, task_at, text_at, walk_named};
+ghost use Rattle.command_line.specs.Reading.{plan_at, sql_at, task_at, text_at, walk_named};
 
 use crate::classes::classes_named;
 use crate::command::line_command;
@@ -74,6 +74,18 @@ fn plan_at(alloc: Global, matches: &ArgMatches) -> Result<Plan, WordsRefusal>
     })
 }
 
+fn sql_at<'a>(matches: &ArgMatches<'a>) -> Option<Task<'a>>
+    ensures { option_map task_text result ≡ sql_at (rows_of (found_of matches.now)) }
+{
+    match text_at(matches, "dialect") {
+        "postgres" => Some(Task::Sql {
+            schema: text_at(matches, "schema"),
+            query: text_at(matches, "query"),
+        }),
+        _ => None,
+    }
+}
+
 #[tactic(auto, unfolding(crate::specs::Reading::task_at))]
 fn task_at<'a>(name: &str, matches: &ArgMatches<'a>) -> Option<Task<'a>>
     ensures { option_map task_text result ≡ task_at name.now (rows_of (found_of matches.now)) }
@@ -89,6 +101,7 @@ fn task_at<'a>(name: &str, matches: &ArgMatches<'a>) -> Option<Task<'a>>
             query: text_at(matches, "query"),
             dir: text_at(matches, "dir"),
         }),
+        "sql" => sql_at(matches),
         "gen" => Some(Task::Gen {
             seed: number(text_at(matches, "start")),
             rows: number(text_at(matches, "rows")),
@@ -148,8 +161,8 @@ fn known_line<'a>(alloc: Global, words: &'a [String]) -> Result<Line<'a>, WordsR
 }
 
 /// The command line that the words are (those after the program's name). It answers `Usage` where
-/// they are none: where `clap` doesn't take them, they hold no command, an order, a walk or a class
-/// isn't one of those listed, a class stands twice, or the command isn't taken.
+/// they are none: where `clap` doesn't take them, they hold no command, an order, a walk, a class
+/// or a dialect isn't one of those listed, a class stands twice, or the command isn't taken.
 pub fn read_line<'a>(alloc: Global, words: &'a [String]) -> Result<Line<'a>, WordsRefusal>
     ensures ok { IfOk result (λ l. line (map (λ w. string_bytes w) words.now) ≡ Some (line_text l)) }
     ensures usage { IsErrOf result WordsRefusal.Usage → line (map (λ w. string_bytes w) words.now) ≡ None }

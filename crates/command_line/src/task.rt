@@ -25,6 +25,13 @@ pub enum Task<'a> {
         /// The name of the folder of tables.
         dir: &'a str,
     },
+    /// Writes the rewritten query as SQL for PostgreSQL.
+    Sql {
+        /// The name of the schema's file.
+        schema: &'a str,
+        /// The name of the query's file.
+        query: &'a str,
+    },
     /// Makes a schema, its tables and a query.
     Gen {
         /// What they are drawn by, 0 to 2147483647.
@@ -48,7 +55,7 @@ pub(crate) fn is_taken(task: &Task) -> bool
     ensures { result ≡ is_taken (task_text task.now) }
 {
     match task {
-        Task::Run { .. } | Task::Explain { .. } => true,
+        Task::Run { .. } | Task::Explain { .. } | Task::Sql { .. } => true,
         Task::Gen { seed, rows } => *seed <= 2_147_483_647 && *rows <= 100_000,
     }
 }

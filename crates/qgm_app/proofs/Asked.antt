@@ -20,12 +20,16 @@ use Rattle.rule_plan.specs.declared.plan.Plan.{Plan}
 use Rattle.sql_check.specs.Checked.{IsFilled, answer_of}
 use Rattle.command_input.specs.Questions.{answer_to, question_of}
 use Rattle.command_input.specs.Questions as asked
-use Rattle.command_input.specs.Ready.{IsReady}
+use Rattle.command_input.specs.Ready.{IsReady, IsSound}
 use Rattle.command_input.specs.declared.question.Question.{Question}
 use Rattle.qgm_app.specs.Rewriting.{IsBuilt, IsExplanation, IsRun, names_of, order_of}
 
+-- its query is checked
+pub sound-of : (q : Question) → IsReady q → IsSound q
+sound-of q ready = record { views = ready.views; checked = ready.checked }
+
 -- its query is one of the grammar over a schema, both valid
-is-valid : (q : Question) → IsReady q → ValidQuery (catalogs.catalog q.catalog) (written.query_text q.valid.query)
+is-valid : (q : Question) → IsSound q → ValidQuery (catalogs.catalog q.catalog) (written.query_text q.valid.query)
 is-valid q ready = record {
   schema = record { accepted = ready.views.valid; views = ready.views.of_catalog.valid; queries = ready.views.queries };
   grammar = ready.checked.grammar;
@@ -33,10 +37,10 @@ is-valid q ready = record {
 }
 
 -- with its names resolved
-of-text : (q : Question) → IsReady q → IsOfText (catalogs.catalog q.catalog) q.valid.checked (written.query_text q.valid.query)
+of-text : (q : Question) → IsSound q → IsOfText (catalogs.catalog q.catalog) q.valid.checked (written.query_text q.valid.query)
 of-text q ready = record { valid = is-valid q ready; query = ready.checked.query }
 
-pub is-query : (q : Question) → IsReady q → IsQueryOf (catalogs.catalog q.catalog) q.views q.valid.checked
+pub is-query : (q : Question) → IsSound q → IsQueryOf (catalogs.catalog q.catalog) q.views q.valid.checked
 is-query q ready = record { views = ready.views.of_catalog; text = written.query_text q.valid.query; is = of-text q ready }
 
 -- its tables are of the schema
@@ -53,14 +57,14 @@ has-answer law q ready = ready.checked.answer q.tables (filled (catalogs.catalog
 
 -- ---- its graph
 
-names-are : (q : Question) → IsReady q → q.valid.checked.names ≡ names_of (question_of q)
+names-are : (q : Question) → IsSound q → q.valid.checked.names ≡ names_of (question_of q)
 names-are q ready = ready.checked.names ∙ ap column_names ready.checked.columns
 
-order-is : (q : Question) → IsReady q → q.valid.checked.order ≡ order_of (question_of q)
+order-is : (q : Question) → IsSound q → q.valid.checked.order ≡ order_of (question_of q)
 order-is q ready = ready.checked.order ∙ ap (λ (names : List (Option (List ℕ))). map (order_key names) (written.query_text q.valid.query).order) (names-are q ready)
 
 -- the graph of the checked query is the question's
-pub is-built : (q : Question) → IsReady q → (g : QueryGraph) → IsItsGraph (catalogs.catalog q.catalog) q.valid.checked g → IsBuilt (question_of q) g
+pub is-built : (q : Question) → IsSound q → (g : QueryGraph) → IsItsGraph (catalogs.catalog q.catalog) q.valid.checked g → IsBuilt (question_of q) g
 is-built q ready g h =
     let catalog = catalogs.catalog q.catalog in
     let text = written.query_text q.valid.query in
@@ -71,7 +75,7 @@ is-built q ready g h =
 pub satisfies : LoadedSatisfies → (q : Question) → IsReady q → (g : QueryGraph) → IsItsGraph (catalogs.catalog q.catalog) q.valid.checked g → Satisfies q.tables g.boxes
 satisfies law q ready g h =
     law (catalogs.catalog q.catalog) (written.query_text q.valid.query) q.valid.checked.names q.valid.checked.order g q.tables
-    (is-valid q ready) (h (written.query_text q.valid.query) (of-text q ready)) ready.tables
+    (is-valid q (sound-of q ready)) (h (written.query_text q.valid.query) (of-text q (sound-of q ready))) ready.tables
 
 -- ---- what its rows take
 

@@ -1,7 +1,7 @@
 -- What the calls that settle and tell an answer give, where memory suffices.
 use Rattle.std.specs.Prelude.{IfOk, ◌≢◌}
 use Rattle.std.proofs.Common.{ℕ, ◌≡◌, ◌∙◌, List, Option, Some, None, Result, Ok, Err, arith, ap, inl, inr, refl, subst, sym, encode_utf8_all}
-use Rattle.command_line.specs.Line.{TaskText, explain, gen, run}
+use Rattle.command_line.specs.Line.{TaskText, explain, gen, run, sql}
 use Rattle.generated_input.specs.Made.{depts}
 use Rattle.io_edge.specs.Outcome.{Outcome}
 use Rattle.io_edge.specs.Outside.{Ask, File, Told, written_after}
@@ -27,7 +27,8 @@ use Rattle.qgm_app.specs.Outcome.{End}
 use Rattle.qgm_app.specs.Held.{held_answer}
 use Rattle.qgm_app.specs.Rewriting.{IsBuilt, IsExplanation, IsRun}
 use Rattle.qgm_app.specs.Runs.{ComesTo, IsSaid, Prepares}
-use Rattle.qgm_app.specs.Telling.{CountsBy, IsErrorReport, IsReported, TellsBy, report_behind, report_of, row_number, summary}
+use Rattle.qgm_app.specs.Stated.{IsStated}
+use Rattle.qgm_app.specs.Telling.{CountsBy, IsErrorReport, IsReported, TellsBy, report_behind, report_of, row_number, statement_line, summary}
 use Rattle.qgm_app.specs.declared.answers.Answered.{Answered}
 use Rattle.qgm_app.proofs.Asked.{is-run}
 
@@ -88,6 +89,11 @@ pub tells-answer : (r : Result Report OutOfMemory) (t : TaskText) (schema query 
 tells-answer (Ok report) t schema query dir plan q answer task is same = tells-by t (run schema query dir) plan q report task (is ∙ ap (λ (a : Answer). report_of a) same)
 tells-answer (Err e) t schema query dir plan q answer task is same = tt
 
+pub tells-statement : (r : Result Report OutOfMemory) (t : TaskText) (schema query : List ℕ) (plan : Plan) (q : Question) (text : List ℕ)
+    → t ≡ sql schema query → IfOk r (λ report. report ≡ Rows (statement_line text)) → IsStated plan q text → IfOk r (λ report. TellsBy t plan q report)
+tells-statement (Ok report) t schema query plan q text task is h = tells-by t (sql schema query) plan q report task (record { text = text; stated = h; reported = is })
+tells-statement (Err e) t schema query plan q text task is h = tt
+
 -- and the steps of what they tell of
 counts-by : (t u : TaskText) (plan : Plan) (q : Question) (report : Report) (before after : ℕ) → t ≡ u → CountsBy u plan q report before after → CountsBy t plan q report before after
 counts-by t u plan q report before after is h = subst (λ (x : TaskText). CountsBy x plan q report before after) (sym is) h
@@ -111,6 +117,12 @@ pub counts-answer : (r : Result Report OutOfMemory) (t : TaskText) (schema query
 counts-answer (Ok report) t schema query dir plan q answer firings before after task is same h =
     counts-by t (run schema query dir) plan q report before after task (firings, h, is ∙ ap (λ (a : Answer). report_of a) same)
 counts-answer (Err e) t schema query dir plan q answer firings before after task is same h = tt
+
+pub counts-statement : (r : Result Report OutOfMemory) (t : TaskText) (schema query : List ℕ) (plan : Plan) (q : Question) (text : List ℕ) (steps : ℕ)
+    → t ≡ sql schema query → IfOk r (λ report. report ≡ Rows (statement_line text)) → IsStated plan q text → IfOk r (λ report. CountsBy t plan q report steps steps)
+counts-statement (Ok report) t schema query plan q text steps task is h =
+    counts-by t (sql schema query) plan q report steps steps task (refl, record { text = text; stated = h; reported = is })
+counts-statement (Err e) t schema query plan q text steps task is h = tt
 
 -- none of these says that the words are no command
 rows-are-none : (bytes : List ℕ) → Rows bytes ≢ Usage

@@ -3,7 +3,7 @@
 use Rattle.std.specs.Prelude.{ℕ, List, Option, Some, None, Ok, Err}
 use Rattle.io_edge.specs.Outcome.{Outcome, done, ◌>>=◌}
 use Rattle.io_edge.specs.Outside.{File}
-use Rattle.command_line.specs.Line.{LineText, TaskText, explain, gen, run}
+use Rattle.command_line.specs.Line.{LineText, TaskText, explain, gen, run, sql}
 use Rattle.command_line.specs.Reading.{line}
 use Rattle.command_input.specs.Generated.{generated}
 use Rattle.command_input.specs.Questions.{Question, Request}
@@ -11,10 +11,11 @@ use Rattle.command_input.specs.Stages.{from_schema}
 use Rattle.command_input.specs.declared.report.Report.{Report}
 use Rattle.command_input.specs.declared.report.Report.TheVariants.{Usage}
 
--- the question of a command
+-- the question of a command; `sql` reads no table
 abbrev pub with_task : TaskText → List File → Outcome Request
-with_task (run schema query dir) files = from_schema schema query dir files
-with_task (explain schema query dir) files = from_schema schema query dir files
+with_task (run schema query dir) files = from_schema schema query (Some dir) files
+with_task (explain schema query dir) files = from_schema schema query (Some dir) files
+with_task (sql schema query) files = from_schema schema query None files
 with_task (gen seed rows) files = done (generated seed rows)
 
 -- what comes of a command line: this report, or a report on the answer to this question

@@ -5,7 +5,7 @@ use Rattle.io_edge.specs.Outside.{Ask, File, StopsShort, Told, with_asked, writt
 use Rattle.io_edge.specs.declared.fetch.Interruption.{Interruption}
 use Rattle.io_edge.specs.declared.fetch.Interruption.TheVariants.{ReadFault, Memory}
 use Rattle.shared_types.specs.declared.memory.OutOfMemory.{OutOfMemory}
-use Rattle.command_line.specs.Line.{TaskText, explain, gen, run}
+use Rattle.command_line.specs.Line.{TaskText, explain, gen, run, sql}
 use Rattle.command_input.specs.Printed.{read_failed, said_of, status_of}
 use Rattle.command_input.specs.declared.question.Request.{Request}
 use Rattle.command_input.specs.declared.question.Request.TheVariants.{Asked, Refused}
@@ -54,6 +54,7 @@ Runs (Some t) (Some u) o old new status = (asks : List Ask) × (u ≡ with_asked
 abbrev pub IsMade : TaskText → Type 0
 IsMade (run schema query dir) = ⊥
 IsMade (explain schema query dir) = ⊥
+IsMade (sql schema query) = ⊥
 IsMade (gen seed rows) = ⊤
 
 -- a question was found

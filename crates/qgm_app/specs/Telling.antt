@@ -8,12 +8,13 @@ use Rattle.io_edge.specs.Outside.{File, Told}
 use Rattle.rule_plan.specs.declared.plan.Plan.{Plan}
 use Rattle.sql_value.specs.declared.cell.Kind.{Kind}
 use Rattle.sql_meaning.specs.Meaning.{Answer, answer_error, answer_rows}
-use Rattle.command_line.specs.Line.{LineText, TaskText, explain, gen, run}
+use Rattle.command_line.specs.Line.{LineText, TaskText, explain, gen, run, sql}
 use Rattle.command_input.specs.Questions.{Question, answer_to}
 use Rattle.command_input.specs.declared.report.Report.{Report}
 use Rattle.command_input.specs.declared.report.Report.TheVariants.{Rows, Error, ExplainedError}
 use Rattle.qgm_app.specs.Outcome.{End, answering, refusing}
 use Rattle.qgm_app.specs.Rewriting.{IsExplanation, IsRun}
+use Rattle.qgm_app.specs.Stated.{IsStated}
 
 -- `run`: the rows in CSV, or the error
 abbrev pub report_of : Answer → Report
@@ -32,6 +33,16 @@ pub record IsExplained (plan : Plan) (q : Question) (report : Report) : Type 0 w
   pub after : ℕ
   pub explanation : IsExplanation plan q before after text
   pub reported : report ≡ report_behind (encode_utf8_all text) (answer_to q)
+
+-- `sql`: the statement, and a line feed
+abbrev pub statement_line : List ℕ → List ℕ
+statement_line text = encode_utf8_all text ++ codes "\n"
+
+-- a report of the statement of a question's query
+pub record IsStatementReport (plan : Plan) (q : Question) (report : Report) : Type 0 where
+  pub text : List ℕ
+  pub stated : IsStated plan q text
+  pub reported : report ≡ Rows (statement_line text)
 
 -- how many rows an answer has
 abbrev pub row_number : Answer → ℕ
@@ -55,6 +66,7 @@ pub record IsSummary (plan : Plan) (q : Question) (rows : ℕ) (report : Report)
 abbrev pub TellsBy : TaskText → Plan → Question → Report → Type 0
 TellsBy (run schema query dir) plan question report = report ≡ report_of (answer_to question)
 TellsBy (explain schema query dir) plan question report = IsExplained plan question report
+TellsBy (sql schema query) plan question report = IsStatementReport plan question report
 TellsBy (gen seed rows) plan question report = IsSummary plan question rows report
 
 abbrev pub Tells : LineText → Question → Report → Type 0
@@ -75,11 +87,12 @@ IsErrorReport kind report = (report ≡ Error kind) ⊎ ((told : List ℕ) × (r
 
 -- ---- steps
 
--- a report of a command, by a plan, on the answer to a question, and the steps of the execution that it tells of
+-- a report of a command, by a plan, on the answer to a question, and the steps of the execution that it tells of; `sql` executes nothing
 abbrev pub CountsBy : TaskText → Plan → Question → Report → ℕ → ℕ → Type 0
 CountsBy (run schema query dir) plan question report before after = (firings : ℕ) × IsRun plan question firings before after × (report ≡ report_of (answer_to question))
 CountsBy (explain schema query dir) plan question report before after =
     (text : List ℕ) × IsExplanation plan question before after text × (report ≡ report_behind (encode_utf8_all text) (answer_to question))
+CountsBy (sql schema query) plan question report before after = (after ≡ before) × IsStatementReport plan question report
 CountsBy (gen seed rows) plan question report before after =
     (firings : ℕ) × IsRun plan question firings before after × (report ≡ Rows (summary (depts rows) rows (row_number (answer_to question)) firings))
 

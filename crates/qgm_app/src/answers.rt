@@ -3,14 +3,18 @@ ghost use Rattle.std.specs.Prelude.{◌≡◌, IfOk, List};
 ghost use Rattle.qgm_wellformed.specs.Sentences.{WellFormed};
 ghost use Rattle.qgm_meaning.specs.Meaning.{root_bag};
 ghost use Rattle.qgm_meaning.specs.Satisfies.{Satisfies};
+ghost use Rattle.qgm_build.specs.Valid.{IsItsGraph};
+ghost use Rattle.qgm_translation_laws.specs.Joined.{AreTablesOf};
 ghost use Rattle.row_bag.specs.Bags.{Agree};
 ghost use Rattle.row_bag.specs.Sets.{same_cells};
 ghost use Rattle.row_bag.specs.Verdict.{verdict};
 ghost use Rattle.row_bag.specs.declared.row.Row.{Row};
+ghost use Rattle.row_bag.specs.declared.tables.Table.{Table};
+ghost use Rattle.sql_catalog.specs.Shown as catalogs;
 ghost use Rattle.sql_check.specs.Checked.{rows_of};
 ghost use Rattle.sql_meaning.specs.Meaning.{answer_of};
 ghost use Rattle.sql_value.specs.declared.cell.Cell.{Cell};
-ghost use Rattle.command_input.specs.Ready.{IsReady};
+ghost use Rattle.command_input.specs.Ready.{IsReady, IsSound};
 ghost use Rattle.command_input.specs.Questions.{answer_to, question_of};
 ghost use Rattle.qgm_app.specs.Alike.{AnswersAlike};
 ghost use Rattle.qgm_app.specs.Held.{answer_as, held_answer};
@@ -54,16 +58,15 @@ fn answer_laws()
     bag_laws();
 }
 
-// The graph of a question's query.
-fn graph_of(alloc: Global, question: &Question) -> Result<Graph, OutOfMemory>
-    requires ready { IsReady question.now }
+/// The graph of a question's query, whatever its tables are.
+pub fn built_graph(alloc: Global, question: &Question) -> Result<Graph, OutOfMemory>
+    requires { IsSound question.now }
+    ensures its { IfOk result (λ g. IsItsGraph (catalogs.catalog question.now.catalog) question.now.valid.checked g) }
     ensures built { IfOk result (λ g. IsBuilt (question_of question.now) g) }
     ensures formed { IfOk result (λ g. WellFormed g) }
-    ensures satisfied { IfOk result (λ g. Satisfies question.now.tables g.boxes) }
-    ensures rows { IfOk result (λ g. root_bag question.now.tables g ≡ rows_of question.now.views question.now.valid.checked question.now.tables) }
+    ensures rows { IfOk result (λ g. (tables : List Table) → AreTablesOf (catalogs.catalog question.now.catalog) tables → root_bag tables g ≡ rows_of question.now.views question.now.valid.checked tables) }
 {
     fault_laws();
-    loaded_laws();
     let graph = build(
         alloc,
         &question.valid.checked,
@@ -71,6 +74,19 @@ fn graph_of(alloc: Global, question: &Question) -> Result<Graph, OutOfMemory>
         &question.views,
     )?;
     graph.each_number_once();
+    Ok(graph)
+}
+
+// The graph of a question's query, over its tables.
+fn graph_of(alloc: Global, question: &Question) -> Result<Graph, OutOfMemory>
+    requires ready { IsReady question.now }
+    ensures built { IfOk result (λ g. IsBuilt (question_of question.now) g) }
+    ensures formed { IfOk result (λ g. WellFormed g) }
+    ensures satisfied { IfOk result (λ g. Satisfies question.now.tables g.boxes) }
+    ensures rows { IfOk result (λ g. root_bag question.now.tables g ≡ rows_of question.now.views question.now.valid.checked question.now.tables) }
+{
+    loaded_laws();
+    let graph = built_graph(alloc, question)?;
     Ok(graph)
 }
 

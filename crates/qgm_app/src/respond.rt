@@ -8,9 +8,9 @@ ghost use Rattle.command_line.specs.Reading.{line};
 ghost use Rattle.command_input.specs.declared.question.Request.TheVariants.{Refused};
 ghost use Rattle.command_input.specs.declared.report.Report.{Report};
 ghost use Rattle.command_input.specs.declared.report.Report.TheVariants.{Usage};
-ghost use Rattle.command_input.specs.Ready.{IsRequestReady};
 ghost use Rattle.command_input.specs.Printed.{said_of};
 ghost use Rattle.command_input.specs.Stages.{request_end};
+ghost use Rattle.qgm_app.specs.Fit.{IsFitRequest};
 ghost use Rattle.qgm_app.specs.Outcome.{outcome, with_line, with_task};
 ghost use Rattle.qgm_app.specs.Telling.{CountsOf};
 ghost use Rattle.qgm_app.specs.Runs.{ComesTold, IsMade, IsMadeReport, IsMadeRequest, IsUsage, Prepares};
@@ -29,16 +29,20 @@ fn find<F: Files>(alloc: Global, task: &Task, files: &mut F) -> Result<Request, 
     requires taken { is_taken (task_text task.now) ≡ true }
     ensures comes { Comes (F.told files.old) (F.told files.new) (λ fs. with_task (task_text task.now) fs) (request_end result) }
     ensures line { IfOk result (λ found. found ≢ Refused Usage) }
-    ensures ready { IfOk result (λ found. IsRequestReady found) }
+    ensures ready { IfOk result (λ found. IsFitRequest (task_text task.now) found) }
     ensures unread { IsMade (task_text task.now) → files.new ≡ files.old }
     ensures made { IsMade (task_text task.now) → IsMadeRequest result }
     ensures later { F.faults files.old ≤ F.faults files.new }
     ensures failed { RoseIfFault result (F.faults files.old) (F.faults files.new) }
 {
     match task {
-        Task::Run { schema, query, dir } | Task::Explain { schema, query, dir } => {
-            find_question(alloc, schema, query, dir, files)
+        Task::Run { schema, query, dir } => {
+            find_question(alloc, schema, query, Some(*dir), files)
         }
+        Task::Explain { schema, query, dir } => {
+            find_question(alloc, schema, query, Some(*dir), files)
+        }
+        Task::Sql { schema, query } => find_question(alloc, schema, query, None, files),
         Task::Gen { seed, rows } => Ok(generated(alloc, *seed, *rows)?),
     }
 }

@@ -27,7 +27,7 @@ const NO_MEMORY: u8 = 8;
 /// Runs the command that the words are (those after the program's name): reads the files that it
 /// names, and writes its report to the sink. Answers the status:
 ///
-/// - 0: the answer, as a header and rows in CSV
+/// - 0: the answer, as a header and rows in CSV; of `sql`, the statement
 /// - 1: the answer is a runtime error, whose SQLSTATE was written
 /// - 2: the words are no command
 /// - 3: a read failed, and its name was written

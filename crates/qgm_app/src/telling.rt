@@ -2,17 +2,18 @@
 ghost use Rattle.std.specs.Prelude.{◌≡◌, ◌≢◌, IfOk, encode_utf8_all};
 ghost use Rattle.command_line.specs.Line.{line_text, task_text};
 ghost use Rattle.generated_input.specs.Made.{depts};
-ghost use Rattle.command_input.specs.Ready.{IsReady};
 ghost use Rattle.command_input.specs.Questions.{question_of};
 ghost use Rattle.command_input.specs.declared.report.Report.TheVariants.{Rows, Usage};
+ghost use Rattle.qgm_app.specs.Fit.{IsFit};
 ghost use Rattle.qgm_app.specs.Held.{held_answer};
 ghost use Rattle.qgm_app.specs.Rewriting.{IsRun};
-ghost use Rattle.qgm_app.specs.Telling.{Counts, IsExplained, IsSummary, Tells, report_behind, report_of, row_number, summary};
+ghost use Rattle.qgm_app.specs.Telling.{Counts, IsExplained, IsSummary, Tells, report_behind, report_of, row_number, statement_line, summary};
 ghost use Rattle.qgm_app.specs.Outcome.{answering};
 ghost use Rattle.qgm_app.specs.Runs.{IsMade};
 ghost use Rattle.command_input.specs.Printed.{status_of};
 
 use crate::answers::{Answered, Explained, answer, explain};
+use crate::statement::state;
 use command_input::{Question, Report};
 use command_line::{Line, Task};
 use csv_tables::write_rows;
@@ -59,6 +60,15 @@ fn tell_explained(alloc: Global, explained: &Explained) -> Result<Report, OutOfM
     }
 }
 
+// A statement, and a line feed.
+fn tell_statement(alloc: Global, text: &Text) -> Result<Report, OutOfMemory>
+    ensures { IfOk result (λ report. report ≡ Rows (statement_line text.now)) }
+{
+    let mut line = bytes_of(alloc, text)?;
+    line.push(b'\n')?;
+    Ok(Report::Rows(line))
+}
+
 // How many rows an answer has.
 fn row_number(answer: &Answered) -> usize
     ensures { result ≡ row_number (held_answer answer.now) }
@@ -87,7 +97,7 @@ pub fn tell<L: Ledger>(
     question: Question,
     steps: &mut Steps<L>,
 ) -> Result<Report, OutOfMemory>
-    requires ready { IsReady question }
+    requires { IsFit (task_text line.now.task) question }
     ensures tells { IfOk result (λ report. Tells (line_text line.now) (question_of question) report) }
     ensures counts { IfOk result (λ report. Counts (answering (line_text line.now) (question_of question)) report steps.old steps.new) }
     ensures line { IfOk result (λ report. report ≢ Usage) }
@@ -101,6 +111,10 @@ pub fn tell<L: Ledger>(
         Task::Explain { .. } => {
             let explained = explain(alloc, question, &line.plan, steps)?;
             tell_explained(alloc, &explained)
+        }
+        Task::Sql { .. } => {
+            let text = state(alloc, &question, &line.plan)?;
+            tell_statement(alloc, &text)
         }
         Task::Gen { rows, .. } => {
             let answered = answer(alloc, question, &line.plan, steps)?;

@@ -1,5 +1,6 @@
 use Rattle.std.proofs.lemmas.Grind.{common_steps}
 use Rattle.std.proofs.Common.{Err, arith}
+use Rattle.std.specs.Option.{option_map}
 use Rattle.std.proofs.lemmas.Result.{err_from_is_err_and}
 use Rattle.io_edge.specs.Outcome.{answered, read, starved}
 use Rattle.io_edge.proofs.Order.{comes-starved}
@@ -15,22 +16,22 @@ pub returns-in_err-text-clause-comes : goal.returns-in_err-text-clause-comes
 returns-in_err-text-clause-comes g c =
     let p = err_from_is_err_and c.from_residual.result c.from_residual.ensures.1 in
     rw (p.1, p.2) (find-interrupted _ _ (λ fs. read fs c.args.query.now 65536)
-    (λ x fs. with_query c.args.dir.now (catalogs.catalog c.args.catalog) fs (valid_query (catalogs.catalog c.args.catalog) x)) c.in_err-text.field-0.0 c.in_err-text.ensures.comes)
+    (λ x fs. with_query (option_map (λ d. d.now) c.args.dir) (catalogs.catalog c.args.catalog) fs (valid_query (catalogs.catalog c.args.catalog) x)) c.in_err-text.field-0.0 c.in_err-text.ensures.comes)
 
 pub returns-in-Ok-clause-comes : goal.returns-in-Ok-clause-comes
 returns-in-Ok-clause-comes g c =
-    text-of-query _ _ _ c.args.query.now c.args.dir.now (catalogs.catalog c.args.catalog) c.in_ok-text.text (request_end c.find_tables.result) c.in_ok-text.ensures.comes
-    (query-taken _ _ c.args.dir.now (catalogs.catalog c.args.catalog) c.in_ok-text.text (shown.query_text c.in-Ok.valid.query) (request_end c.find_tables.result) c.in-Ok.ensures.gives c.find_tables.ensures.comes)
+    text-of-query _ _ _ c.args.query.now (option_map (λ d. d.now) c.args.dir) (catalogs.catalog c.args.catalog) c.in_ok-text.text (request_end c.find_folder.result) c.in_ok-text.ensures.comes
+    (query-taken _ _ (option_map (λ d. d.now) c.args.dir) (catalogs.catalog c.args.catalog) c.in_ok-text.text (shown.query_text c.in-Ok.valid.query) (request_end c.find_folder.result) c.in-Ok.ensures.gives c.find_folder.ensures.comes)
 
 pub returns-in-Err-Number-clause-comes : goal.returns-in-Err-Number-clause-comes
 returns-in-Err-Number-clause-comes g c =
     rw c.in-Err-Number.field-0-is
-    (text-of-query _ _ _ c.args.query.now c.args.dir.now (catalogs.catalog c.args.catalog) c.in_ok-text.text (answered (Err (QueryRefused c.in-Err-Number.number))) c.in_ok-text.ensures.comes
-    (query-refused _ c.args.dir.now (catalogs.catalog c.args.catalog) c.in_ok-text.text c.in-Err-Number.number (rw c.in-Err-Number.field-0-is at c.in-Err-Number.ensures.gives)))
+    (text-of-query _ _ _ c.args.query.now (option_map (λ d. d.now) c.args.dir) (catalogs.catalog c.args.catalog) c.in_ok-text.text (answered (Err (QueryRefused c.in-Err-Number.number))) c.in_ok-text.ensures.comes
+    (query-refused _ (option_map (λ d. d.now) c.args.dir) (catalogs.catalog c.args.catalog) c.in_ok-text.text c.in-Err-Number.number (rw c.in-Err-Number.field-0-is at c.in-Err-Number.ensures.gives)))
 
 pub returns-clause-comes : goal.returns-clause-comes
 returns-clause-comes g c =
-    text-of-query _ _ _ c.args.query.now c.args.dir.now (catalogs.catalog c.args.catalog) c.in_ok-text.text starved c.in_ok-text.ensures.comes (comes-starved _ _)
+    text-of-query _ _ _ c.args.query.now (option_map (λ d. d.now) c.args.dir) (catalogs.catalog c.args.catalog) c.in_ok-text.text starved c.in_ok-text.ensures.comes (comes-starved _ _)
 
 pub returns-in-Err-Number-clause-failed : goal.returns-in-Err-Number-clause-failed
 returns-in-Err-Number-clause-failed g c = grind (arith, common_steps)
@@ -38,8 +39,8 @@ returns-in-Err-Number-clause-failed g c = grind (arith, common_steps)
 pub returns-in-Ok-clause-ready : goal.returns-in-Ok-clause-ready
 returns-in-Ok-clause-ready g c = grind (arith, common_steps)
 
-pub find_tables-requires-clause-checked : goal.find_tables-requires-clause-checked
-find_tables-requires-clause-checked g c = grind (arith, common_steps)
+pub find_folder-requires-clause-checked : goal.find_folder-requires-clause-checked
+find_folder-requires-clause-checked g c = grind (arith, common_steps)
 
 pub returns-in-Ok-clause-line : goal.returns-in-Ok-clause-line
 returns-in-Ok-clause-line g c = grind (arith, common_steps)
@@ -50,8 +51,8 @@ returns-in-Err-Number-clause-later g c = grind (arith, common_steps)
 pub returns-in-Err-Number-clause-line : goal.returns-in-Err-Number-clause-line
 returns-in-Err-Number-clause-line g c = grind (arith, common_steps)
 
-pub find_tables-requires-clause-ready : goal.find_tables-requires-clause-ready
-find_tables-requires-clause-ready g c = grind (arith, common_steps)
+pub find_folder-requires-clause-ready : goal.find_folder-requires-clause-ready
+find_folder-requires-clause-ready g c = grind (arith, common_steps)
 
 pub returns-clause-line : goal.returns-clause-line
 returns-clause-line g c = grind (arith, common_steps)

@@ -1,4 +1,5 @@
 use Rattle.std.proofs.Common.{arith}
+use Rattle.std.specs.Option.{option_map}
 use Rattle.std.proofs.lemmas.Grind.{common_steps}
 use Rattle.sql_catalog.specs.Shown as catalogs
 use Rattle.command_input.specs.Stages.{request_end}
@@ -7,12 +8,12 @@ use Rattle.command_input.proofs.stages.find_views.Goals as goal
 
 pub returns-in-Ok-clause-comes : goal.returns-in-Ok-clause-comes
 returns-in-Ok-clause-comes g c =
-    views-taken _ _ c.args.query.now c.args.dir.now (catalogs.catalog c.args.catalog) (request_end c.find_query.result) c.in-Ok.ensures.valid c.find_query.ensures.comes
+    views-taken _ _ c.args.query.now (option_map (λ d. d.now) c.args.dir) (catalogs.catalog c.args.catalog) (request_end c.find_query.result) c.in-Ok.ensures.valid c.find_query.ensures.comes
 
 pub returns-in-Err-Refused-clause-comes : goal.returns-in-Err-Refused-clause-comes
 returns-in-Err-Refused-clause-comes g c =
     rw c.in-Err-Refused.field-0-is
-    (view-refused _ c.args.query.now c.args.dir.now (catalogs.catalog c.args.catalog) c.in-Err-Refused.view c.in-Err-Refused.number
+    (view-refused _ c.args.query.now (option_map (λ d. d.now) c.args.dir) (catalogs.catalog c.args.catalog) c.in-Err-Refused.view c.in-Err-Refused.number
     (c.in-Err-Refused.ensures.refused c.in-Err-Refused.view c.in-Err-Refused.number c.in-Err-Refused.field-0-is))
 
 pub find_query-requires : goal.find_query-requires

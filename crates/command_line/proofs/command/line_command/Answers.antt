@@ -10,4 +10,5 @@ returns c =
     let top_of : App → Shape = λ a. a.top in
     let a1 = c.in_ok-first.ensures ∙ ap₂ with_subcommand c.in_ok-top.ensures (ap top_of c.in_ok-run.ensures.shape) in
     let a2 = c.in_ok-second.ensures ∙ ap₂ with_subcommand a1 (ap top_of c.in_ok-explain.ensures.shape) in
-    IfOk-weaker c.with_command-3.result _ _ (λ r h. h ∙ ap₂ with_subcommand a2 (ap top_of c.in_ok-generate.ensures.shape)) c.with_command-3.ensures
+    let a3 = c.in_ok-third.ensures ∙ ap₂ with_subcommand a2 (ap top_of c.in_ok-sql.ensures.shape) in
+    IfOk-weaker c.with_command-4.result _ _ (λ r h. h ∙ ap₂ with_subcommand a3 (ap top_of c.in_ok-generate.ensures.shape)) c.with_command-4.ensures

@@ -1,8 +1,9 @@
 use Rattle.std.proofs.lemmas.Grind.{common_steps}
 use Rattle.std.proofs.Common.{refl, arith}
 use Rattle.std.proofs.lemmas.Result.{err_from_is_err_and}
-use Rattle.command_line.specs.Line.{line_text}
+use Rattle.command_line.specs.Line.{line_text, task_text}
 use Rattle.command_input.specs.Questions.{request_of}
+use Rattle.qgm_app.proofs.Fitting.{fit-asked}
 use Rattle.qgm_app.proofs.Made.{interrupted, not-refused}
 use Rattle.qgm_app.proofs.Steps.{line-counts, line-interrupted, line-starved, line-told}
 use Rattle.qgm_app.proofs.respond.run_line.Goals as goal
@@ -71,3 +72,6 @@ returns-in_err-tell-in-Asked-clause-made g c =
 
 pub returns-in-Refused-clause-made : goal.returns-in-Refused-clause-made
 returns-in-Refused-clause-made g c = λ m. absurd (not-refused c.in_ok-question.field-0 c.in-Refused.report c.in-Refused.is (c.in_ok-question.ensures.made m))
+
+pub tell-requires : goal.tell-requires
+tell-requires g c = fit-asked (task_text c.args.line.now.task) c.in_ok-question.field-0 c.in-Asked.question c.in-Asked.is c.in_ok-question.ensures.ready

@@ -4,7 +4,7 @@ use Rattle.command_line.specs.Line.{task_text}
 use Rattle.command_line.specs.declared.task.Task.{Task}
 use Rattle.command_input.specs.Questions.{question_of}
 use Rattle.qgm_app.specs.Held.{held_answer}
-use Rattle.qgm_app.proofs.Reported.{answer-isnt-usage, explained-isnt-usage, of-each, rows-isnt-usage, tells-answer, tells-explained, tells-summary, counts-answer, counts-explained, counts-summary}
+use Rattle.qgm_app.proofs.Reported.{answer-isnt-usage, explained-isnt-usage, of-each, rows-isnt-usage, tells-answer, tells-explained, tells-statement, tells-summary, counts-answer, counts-explained, counts-statement, counts-summary}
 use Rattle.qgm_app.proofs.telling.tell.Goals as goal
 
 pub returns-in_ok-answered-in-Run-clause-counts : goal.returns-in_ok-answered-in-Run-clause-counts
@@ -38,13 +38,13 @@ returns-in_ok-answered-in-Gen-clause-counts g c =
     (ap (λ (t : Task). task_text t) c.in-Gen.is) c.tell_summary.ensures a.ensures.answer a.ensures.run
 
 pub answer-requires : goal.answer-requires
-answer-requires g c = grind (arith, common_steps)
+answer-requires g c = let fit = rw c.in-Run.is at c.requires in fit
 
 pub answer-requires-in-Gen : goal.answer-requires-in-Gen
-answer-requires-in-Gen g c = grind (arith, common_steps)
+answer-requires-in-Gen g c = let fit = rw c.in-Gen.is at c.requires in fit
 
 pub explain-requires : goal.explain-requires
-explain-requires g c = grind (arith, common_steps)
+explain-requires g c = let fit = rw c.in-Explain.is at c.requires in fit
 
 pub returns-in_ok-answered-in-Run-clause-tells : goal.returns-in_ok-answered-in-Run-clause-tells
 returns-in_ok-answered-in-Run-clause-tells g c =
@@ -62,3 +62,21 @@ returns-in_ok-explained-in-Explain-clause-line g c =
 
 pub returns-in_ok-answered-in-Gen-clause-line : goal.returns-in_ok-answered-in-Gen-clause-line
 returns-in_ok-answered-in-Gen-clause-line g c = rows-isnt-usage c.tell_summary.result _ c.tell_summary.ensures
+
+pub state-requires : goal.state-requires
+state-requires g c = let fit = rw c.in-Sql.is at c.requires in fit
+
+pub returns-in_ok-text-in-Sql-clause-tells : goal.returns-in_ok-text-in-Sql-clause-tells
+returns-in_ok-text-in-Sql-clause-tells g c =
+    let x = c.in_ok-text-in-Sql in
+    tells-statement c.tell_statement.result (task_text c.args.line.now.task) c.in-Sql.schema.now c.in-Sql.query.now c.args.line.now.plan (question_of c.args.question) x.text
+    (ap (λ (t : Task). task_text t) c.in-Sql.is) c.tell_statement.ensures x.ensures
+
+pub returns-in_ok-text-in-Sql-clause-counts : goal.returns-in_ok-text-in-Sql-clause-counts
+returns-in_ok-text-in-Sql-clause-counts g c =
+    let x = c.in_ok-text-in-Sql in
+    counts-statement c.tell_statement.result (task_text c.args.line.now.task) c.in-Sql.schema.now c.in-Sql.query.now c.args.line.now.plan (question_of c.args.question) x.text _
+    (ap (λ (t : Task). task_text t) c.in-Sql.is) c.tell_statement.ensures x.ensures
+
+pub returns-in_ok-text-in-Sql-clause-line : goal.returns-in_ok-text-in-Sql-clause-line
+returns-in_ok-text-in-Sql-clause-line g c = rows-isnt-usage c.tell_statement.result _ c.tell_statement.ensures
