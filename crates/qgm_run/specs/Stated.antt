@@ -4,7 +4,7 @@ use Rattle.graph_sql.specs.StatementText.{text_of}
 use Rattle.graph_sql.specs.declared.tables.TableNames.{TableNames}
 use Rattle.qgm_core.specs.Boxes.{QueryGraph}
 use Rattle.qgm_props.specs.Inferred.{Facts, not_null_under}
-use Rattle.qgm_props.specs.Sentences.{Tells}
+use Rattle.qgm_props.specs.Laws.{Tells}
 use Rattle.rule_plan.specs.declared.plan.Plan.{Plan}
 use Rattle.rule_api.specs.declared.place.Firing.{Firing}
 use Rattle.rule_set.specs.Rewriting.{Rewrites}

@@ -3,4 +3,4 @@ use Rattle.qgm_app.specs.Stated.{named_table}
 use Rattle.qgm_app.proofs.statement.tables_named.Given as goal
 
 abbrev pub invariant-loop-table : goal.invariant-loop-table
-invariant-loop-table l = l.names ≡ map named_table (take l.table-index l.table-items)
+invariant-loop-table l = l.names ≡ map named_table (take l.table-index l.tables)
