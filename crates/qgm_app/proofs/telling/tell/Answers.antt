@@ -38,13 +38,13 @@ returns-in_ok-answered-in-Gen-clause-counts g c =
     (ap (λ (t : Task). task_text t) c.in-Gen.is) c.tell_summary.ensures a.ensures.answer a.ensures.run
 
 pub answer-requires : goal.answer-requires
-answer-requires g c = let fit = rw c.in-Run.is at c.requires in fit
+answer-requires g c = let fit = rw c.in-Run.is at c.requires in record { ready = fit }
 
 pub answer-requires-in-Gen : goal.answer-requires-in-Gen
-answer-requires-in-Gen g c = let fit = rw c.in-Gen.is at c.requires in fit
+answer-requires-in-Gen g c = let fit = rw c.in-Gen.is at c.requires in record { ready = fit }
 
 pub explain-requires : goal.explain-requires
-explain-requires g c = let fit = rw c.in-Explain.is at c.requires in fit
+explain-requires g c = let fit = rw c.in-Explain.is at c.requires in record { ready = fit }
 
 pub returns-in_ok-answered-in-Run-clause-tells : goal.returns-in_ok-answered-in-Run-clause-tells
 returns-in_ok-answered-in-Run-clause-tells g c =
