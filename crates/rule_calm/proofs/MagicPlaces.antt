@@ -83,21 +83,32 @@ module _ (g : QueryGraph) (once : EachOnce (numbers g.boxes)) (wf : WellFormed g
   scalar-may : (b : Node) (r : OwnedQuant) → told.MaySingleAt bs known b r → (i : ℕ) × MayScalarToGroup (record { at = b.id; i = i; j = 0 }) g
   unfolding MayScalarToGroup
   scalar-may b r m =
-      let x = split-in r b.quants m.owned in
-      (
+      let x = split-in r b.quants m.owned in (
         suc (length x.0),
-        (b, (x.0, (r, (x.1.0, record {
-          no_second = refl;
-          at = found b m.in_b;
-          nth = refl;
-          select = m.a_select;
-          plain = m.plain;
-          split = x.1.1;
-          is_s = s-is r.kind m.is_s;
-          not_one = λ i. clash (known.exactly_one r.over) ((tells (exactly_one r.over)).1 i) m.not_one;
-          safe = elim (or_cases (known.error_free r.over 1) (known.at_most_one r.over) m.safe) [ inl e ↦ inl ((tells (error_free r.over 1)).0 e) | inr e ↦ inr ((tells (at_most_one r.over)).0 e) ];
-          few = m.few;
-        })))),
+        (
+          b,
+          (
+            x.0,
+            (
+              r,
+              (
+                x.1.0,
+                record {
+                  no_second = refl;
+                  at = found b m.in_b;
+                  nth = refl;
+                  select = m.a_select;
+                  plain = m.plain;
+                  split = x.1.1;
+                  is_s = s-is r.kind m.is_s;
+                  not_one = λ i. clash (known.exactly_one r.over) ((tells (exactly_one r.over)).1 i) m.not_one;
+                  safe = elim (or_cases (known.error_free r.over 1) (known.at_most_one r.over) m.safe) [ inl e ↦ inl ((tells (error_free r.over 1)).0 e) | inr e ↦ inr ((tells (at_most_one r.over)).0 e) ];
+                  few = m.few;
+                },
+              ),
+            ),
+          ),
+        ),
       )
 
   -- ---- G1
@@ -105,28 +116,39 @@ module _ (g : QueryGraph) (once : EachOnce (numbers g.boxes)) (wf : WellFormed g
   feed-may : (b : Node) (r : OwnedQuant) → told.MayFeed bs known b r → (i : ℕ) × MayFeed (record { at = b.id; i = i; j = 0 }) g
   unfolding MayFeed
   feed-may b r m =
-      let x = split-in r b.quants m.owned in
-      (
+      let x = split-in r b.quants m.owned in (
         suc (length x.0),
-        (b, (x.0, (r, (x.1.0, record {
-          no_second = refl;
-          at = found b m.in_b;
-          nth = refl;
-          select = m.a_select;
-          plain = m.plain;
-          split = x.1.1;
-          few = m.few;
-          closed = closed-to b.id m.closed;
-          opened = held-some m.opened.0 (free_in bs r.over) ((free-free bs w.ordered r.over m.opened.0).1 m.opened.1);
-          scalar = λ s. (let k = m.scalar s in ((tells (clean r.over)).0 k.0, (tells (exactly_one r.over)).0 k.1));
-          fed = λ q i. (
-              let y = feeder q i in
-              let k = m.fed q y.0 y.1.0 ((free-free bs w.ordered r.over q.id).0 y.1.1).0 in
-              (closed-to q.over k.0, (tells (clean q.over)).0 k.1));
-          named = λ q i k h. (
-              let y = feeder q i in
-              (tells (error_free q.over k)).0 (column-free q k y.0 y.1.0 h));
-        })))),
+        (
+          b,
+          (
+            x.0,
+            (
+              r,
+              (
+                x.1.0,
+                record {
+                  no_second = refl;
+                  at = found b m.in_b;
+                  nth = refl;
+                  select = m.a_select;
+                  plain = m.plain;
+                  split = x.1.1;
+                  few = m.few;
+                  closed = closed-to b.id m.closed;
+                  opened = held-some m.opened.0 (free_in bs r.over) ((free-free bs w.ordered r.over m.opened.0).1 m.opened.1);
+                  scalar = λ s. (let k = m.scalar s in ((tells (clean r.over)).0 k.0, (tells (exactly_one r.over)).0 k.1));
+                  fed = λ q i. (
+                      let y = feeder q i in
+                      let k = m.fed q y.0 y.1.0 ((free-free bs w.ordered r.over q.id).0 y.1.1).0 in
+                      (closed-to q.over k.0, (tells (clean q.over)).0 k.1));
+                  named = λ q i k h. (
+                      let y = feeder q i in
+                      (tells (error_free q.over k)).0 (column-free q k y.0 y.1.0 h));
+                },
+              ),
+            ),
+          ),
+        ),
       )
     where
       feeder : (q : OwnedQuant) → In q (feeders bs r.over b.quants) → In q b.quants × ((is_F q.kind ≡ true) × (holds q.id (free_in bs r.over) ≡ true))
