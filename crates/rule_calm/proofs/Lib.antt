@@ -1,0 +1,2 @@
+pub mod MagicPlaces
+pub mod CalmCloses
