@@ -10,7 +10,8 @@ use Rattle.qgm_app.proofs.statement.state.Goals as goal
 pub returns : goal.returns
 returns c =
     let tables : c.as_slice.result.now ≡ c.args.question.now.catalog.tables = grind (arith, common_steps) in
-    let names = c.in_ok-names.ensures ∙ ap (λ (ts : List TableDecl). map named_table ts) tables in
+    let own : c.as_slice-2.result.now ≡ c.in_ok-names.names = grind (arith, common_steps) in
+    let names = own ∙ (c.in_ok-names.ensures ∙ ap (λ (ts : List TableDecl). map named_table ts) tables) in
     IfOk-weaker c.rewritten_statement.result _ _
     (λ text h. record {
       graph = c.in_ok-graph.graph;
