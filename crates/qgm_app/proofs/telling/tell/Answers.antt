@@ -1,5 +1,4 @@
-use Rattle.std.proofs.lemmas.Grind.{common_steps}
-use Rattle.std.proofs.Common.{ap, arith, encode_utf8_all}
+use Rattle.std.proofs.Common.{ap, encode_utf8_all}
 use Rattle.command_line.specs.Line.{task_text}
 use Rattle.command_line.specs.declared.task.Task.{Task}
 use Rattle.command_input.specs.Questions.{question_of}
