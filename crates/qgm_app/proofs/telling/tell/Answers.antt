@@ -3,7 +3,7 @@ use Rattle.command_line.specs.Line.{task_text}
 use Rattle.command_line.specs.declared.task.Task.{Task}
 use Rattle.command_input.specs.Questions.{question_of}
 use Rattle.qgm_app.specs.Held.{held_answer}
-use Rattle.qgm_app.proofs.Reported.{answer-isnt-usage, explained-isnt-usage, of-each, rows-isnt-usage, tells-answer, tells-explained, tells-statement, tells-summary, counts-answer, counts-explained, counts-statement, counts-summary}
+use Rattle.qgm_app.proofs.Reported.{answer-isnt-usage, explained-isnt-usage, rows-isnt-usage, tells-answer, tells-explained, tells-statement, tells-summary, counts-answer, counts-explained, counts-statement, counts-summary}
 use Rattle.qgm_app.proofs.telling.tell.Goals as goal
 
 pub returns-in_ok-answered-in-Run-clause-counts : goal.returns-in_ok-answered-in-Run-clause-counts
