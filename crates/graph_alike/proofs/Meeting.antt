@@ -75,7 +75,7 @@ module _ (g h : QueryGraph) (w : Both g h) where
 
   -- ---- boxes that are found
 
-  pub record Found (a b : ℕ) : Type 0 where
+  pub record MetBoxes (a b : ℕ) : Type 0 where
     pub n : Node
     pub m : Node
     pub in_g : In n g.boxes
@@ -83,7 +83,7 @@ module _ (g h : QueryGraph) (w : Both g h) where
     pub first_id : n.id ≡ a
     pub second_id : m.id ≡ b
 
-  pub found : (a b : ℕ) → M a b → Found a b
+  pub found : (a b : ℕ) → M a b → MetBoxes a b
   found _ _ k.roots =
       let x = has-in g.root g.boxes w.first_sound.rooted in
       let y = has-in h.root h.boxes w.second_sound.rooted in
@@ -94,7 +94,7 @@ module _ (g h : QueryGraph) (w : Both g h) where
       record { n = x.0; m = y.0; in_g = x.1.0; in_h = y.1.0; first_id = x.1.1; second_id = y.1.1 }
 
   module _ (a b : ℕ) (c : M a b) where
-    abbrev f : Found a b
+    abbrev f : MetBoxes a b
     f = found a b c
 
     pub met-ids : M f.n.id f.m.id

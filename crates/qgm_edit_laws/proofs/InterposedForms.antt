@@ -44,7 +44,7 @@ use Rattle.qgm_edit_laws.proofs.Scope.{in-first}
 use Rattle.qgm_edit_laws.proofs.Scoped.{bounded}
 use Rattle.qgm_edit_laws.proofs.ShapeParts.{fed-parts, shape-moved, shape-parts, two-parts}
 use Rattle.qgm_edit_laws.proofs.Turns.{first-own}
-use Rattle.qgm_edit_laws.proofs.TypedKept.{Found, found, found-under}
+use Rattle.qgm_edit_laws.proofs.TypedKept.{Ranging, found, found-under}
 use Rattle.qgm_edit_laws.proofs.TypesBy.{Types, agrees-alike, agrees_by, arms_by, found-as, found_by, head-alike, looked, typed-by, via}
 use Rattle.qgm_edit_laws.proofs.WellFormedKept.{numbers-once}
 use Rattle.qgm_core.proofs.Reaching.{in-has, overs-held}
@@ -145,7 +145,7 @@ module _ (xs ys : List Node) (root : ℕ) (w : Sound (xs ++ ys) root) (t : Typed
         | inr z ↦ elim (quant-from z.0 f.quant z.1.0 (subst (λ (z : Node). In f.quant z.quants) (sym z.1.1) f.quant_in)) [
           | inl a ↦ (
               let u = has-in f.quant.over bs (overs-held bs z.0 f.quant w.ordered z.1.0 a) in
-              let was : Found bs q = record { owner = z.0; quant = f.quant; box = u.0; owner_in = z.1.0; quant_in = a; is_q = f.is_q; box_in = u.1.0; is_over = u.1.1 } in
+              let was : Ranging bs q = record { owner = z.0; quant = f.quant; box = u.0; owner_in = z.1.0; quant_in = a; is_q = f.is_q; box_in = u.1.0; is_over = u.1.1 } in
               let same : f.box ≡ g u.0 = same-box hs f.box (g u.0) v.ordered f.box_in (to u.0 u.1.0) (f.is_over ∙ sym u.1.1 ∙ sym (same-id u.0)) in
               inl (u.0, (u.1.0, (found-under bs root w q was, after ∙ ap (λ (z : Node). Some z) same))))
           | inr a ↦ (

@@ -31,7 +31,7 @@ use Rattle.qgm_edit_laws.proofs.Reformed.{columns-moved}
 use Rattle.qgm_edit_laws.proofs.Scope.{in-first}
 use Rattle.qgm_edit_laws.proofs.Scoped.{bounded, few-ids, scoped-of, sound-by}
 use Rattle.qgm_edit_laws.proofs.ShapeParts.{fed-parts, shape-moved, shape-parts, two-parts}
-use Rattle.qgm_edit_laws.proofs.TypedKept.{Found, found, found-under}
+use Rattle.qgm_edit_laws.proofs.TypedKept.{Ranging, found, found-under}
 use Rattle.qgm_edit_laws.proofs.TypesBy.{Types, agrees-alike, agrees-as, arms_by, found_by, head-alike, looked, typed-by, via}
 use Rattle.qgm_edit_laws.proofs.WellFormedKept.{numbers-once}
 use Rattle.qgm_edit_laws.specs.Rebuilds.{HasForm, IsOwned, Rebuilds, RebuiltLooks, RebuiltSound, RebuiltWellFormed, StaysIn}
@@ -69,7 +69,7 @@ one-quant hs once a b x y e =
 module _ (bs hs : List Node) (root : ℕ) (kept : ℕ → Bool) (look : ℕ → ℕ → Bool) (fresh : ℕ → Bool) (w : Sound bs root) (m : Rebuilds bs hs root kept look fresh) where
   -- the box under a quantifier that a box which stays names, before and after
   pub record Under (q : ℕ) : Type 0 where
-    pub was : Found bs q
+    pub was : Ranging bs q
     pub stays : kept was.quant.over ≡ true
     pub quant : OwnedQuant
     pub owned : IsOwned hs quant
@@ -167,7 +167,7 @@ module _ (bs hs : List Node) (root : ℕ) (kept : ℕ → Bool) (look : ℕ → 
     abbrev v : Sound hs root
     v = rebuilt
 
-    abbrev after-found : (q : ℕ) (x : Under q) → Found hs q
+    abbrev after-found : (q : ℕ) (x : Under q) → Ranging hs q
     after-found q x = record { owner = x.owned.0; quant = x.quant; box = x.box; owner_in = x.owned.1.0; quant_in = x.owned.1.1; is_q = x.is_q; box_in = x.box_in; is_over = x.is_over }
 
     alike : (n : Node) → StaysIn bs hs kept look n → (q : ℕ) → holds q (named_by n) ≡ true → (k : ℕ) → via T hs q k ≡ lookup_of bs q k

@@ -22,7 +22,7 @@ use Rattle.qgm_edit_laws.proofs.Ranks.{has-in}
 use Rattle.qgm_edit_laws.proofs.Read.{column-named, is_at}
 use Rattle.qgm_edit_laws.proofs.Scope.{in-first}
 use Rattle.qgm_edit_laws.proofs.ShapeParts.{shape-moved}
-use Rattle.qgm_edit_laws.proofs.TypedKept.{Found, found, found-under}
+use Rattle.qgm_edit_laws.proofs.TypedKept.{Ranging, found, found-under}
 use Rattle.qgm_edit_laws.proofs.HeadTypes.{types-width}
 use Rattle.qgm_edit_laws.proofs.TypesBy.{agrees-alike, agrees-as, agrees_by, found_by, head-alike, looked, typed-by, via}
 use Rattle.qgm_core.proofs.Reaching.{overs-held}
@@ -61,7 +61,7 @@ module _ (bs hs : List Node) (root : ℕ) (g : Node → Node) (w : Sound bs root
       let named : holds f.quant.id (named_by (g z.0)) ≡ true = subst (λ k. holds k (named_by (g z.0)) ≡ true) (sym f.is_q) (subst (λ (y : Node). holds q (named_by y) ≡ true) (sym z.1.1) h) in
       let s = m.stood o.0 z.0 f.quant o.1.0 (subst (λ (y : Node). In f.quant y.quants) (sym o.1.1) f.quant_in) z.1.0 named in
       let u = has-in s.1.1.0.over bs (overs-held bs s.0 s.1.1.0 w.ordered s.1.0 s.1.1.1.0) in
-      let was : Found bs q = record { owner = s.0; quant = s.1.1.0; box = u.0; owner_in = s.1.0; quant_in = s.1.1.1.0; is_q = s.1.1.1.1.0 ∙ f.is_q; box_in = u.1.0; is_over = u.1.1 } in
+      let was : Ranging bs q = record { owner = s.0; quant = s.1.1.0; box = u.0; owner_in = s.1.0; quant_in = s.1.1.1.0; is_q = s.1.1.1.1.0 ∙ f.is_q; box_in = u.1.0; is_over = u.1.1 } in
       let types : types_at bs f.box.id ≡ types_at bs u.0.id = ap (types_at bs) f.is_over ∙ sym s.1.1.1.1.1 ∙ ap (types_at bs) (sym u.1.1) in
       let id : x.0.id ≡ f.box.id = sym (m.id x.0) ∙ ap (λ (y : Node). y.id) x.1.1 in
       let wide : width f.box ≡ width u.0 = sym (ap width x.1.1) ∙ width-g x.0 x.1.0 ∙ sym (wide-types bs root w x.0 x.1.0) ∙ ap (λ k. length (types_at bs k)) id ∙ ap length types ∙ wide-types bs root w u.0 u.1.0 in

@@ -22,7 +22,7 @@ use Rattle.qgm_core.proofs.Reaching.{overs-held}
 use Rattle.list_laws.proofs.Membership.{any-from, any-in}
 
 -- the owner of what is named, its quantifier, and the box under it
-pub record Found (bs : List Node) (q : ℕ) : Type 0 where
+pub record Ranging (bs : List Node) (q : ℕ) : Type 0 where
   pub owner : Node
   pub quant : OwnedQuant
   pub box : Node
@@ -33,7 +33,7 @@ pub record Found (bs : List Node) (q : ℕ) : Type 0 where
   pub is_over : box.id ≡ quant.over
 
 module _ (bs : List Node) (root : ℕ) (w : Sound bs root) where
-  pub found : (n : Node) → In n bs → (q : ℕ) → holds q (named_by n) ≡ true → Found bs q
+  pub found : (n : Node) → In n bs → (q : ℕ) → holds q (named_by n) ≡ true → Ranging bs q
   found n i q h =
       let held : list_any (owns q) bs ≡ true = (elim (or_cases (read_by n q) (nodes_in q n) (named-split q n h)) [
         | inl a ↦ read-owned bs root w n q i a
@@ -44,7 +44,7 @@ module _ (bs : List Node) (root : ℕ) (w : Sound bs root) where
       let m = has-in r.0.over bs (overs-held bs o.0 r.0 w.ordered o.1.0 r.1.0) in
       record { owner = o.0; quant = r.0; box = m.0; owner_in = o.1.0; quant_in = r.1.0; is_q = eqb-true r.0.id q r.1.1; box_in = m.1.0; is_over = m.1.1 }
 
-  pub found-under : (q : ℕ) (x : Found bs q) → box_under bs q ≡ Some x.box
+  pub found-under : (q : ℕ) (x : Ranging bs q) → box_under bs q ≡ Some x.box
   found-under q x = subst (λ k. box_under bs k ≡ Some x.box) x.is_q (
       ap (over_box bs) (levels.owner-of bs w.once x.owner x.quant x.owner_in x.quant_in) ∙ subst (λ k. first (is_box k) bs ≡ Some x.box) x.is_over (in-first x.box bs w.ordered x.box_in))
 
@@ -70,7 +70,7 @@ module _ (bs : List Node) (root : ℕ) (w : Sound bs root) where
       let x = found ks root sound y i q h in
       let o = in-kept keep x.owner bs x.owner_in in
       let m = in-kept keep x.box bs x.box_in in
-      let was : Found bs q = record { owner = x.owner; quant = x.quant; box = x.box; owner_in = o.0; quant_in = x.quant_in; is_q = x.is_q; box_in = m.0; is_over = x.is_over } in
+      let was : Ranging bs q = record { owner = x.owner; quant = x.quant; box = x.box; owner_in = o.0; quant_in = x.quant_in; is_q = x.is_q; box_in = m.0; is_over = x.is_over } in
       (x.box, (x.box, (found-under bs root w q was, (found-under ks root sound q x, (refl, x.box_in)))))
 
   follows : Follows bs root w ks Same

@@ -37,7 +37,7 @@ use Rattle.qgm_edit_laws.proofs.Reformed.{wide-types}
 use Rattle.qgm_edit_laws.proofs.Scope.{touched}
 use Rattle.qgm_edit_laws.proofs.ShapedPut.{all-joined}
 use Rattle.qgm_edit_laws.proofs.Turns.{first-own}
-use Rattle.qgm_edit_laws.proofs.TypedKept.{Found, found, found-under}
+use Rattle.qgm_edit_laws.proofs.TypedKept.{Ranging, found, found-under}
 use Rattle.qgm_edit_laws.proofs.PutTypes.{all-put, cond-mixed, term-mixed, types-put}
 use Rattle.qgm_edit_laws.proofs.HeadTypes.{type-of}
 use Rattle.qgm_edit_laws.proofs.TypesBy.{Types, agrees_by, arms_by, found_by, looked, typed-by, via}
@@ -137,7 +137,7 @@ module _ (xs ys : List Node) (root : ℕ) (w : Sound (xs ++ ys) root) (ty : Type
 
   -- ---- the box under a quantifier
 
-  pub under-old : (q : ℕ) → (q == i) ≡ false → (f : Found bs q) → box_under hs q ≡ Some (g f.box)
+  pub under-old : (q : ℕ) → (q == i) ≡ false → (f : Ranging bs q) → box_under hs q ≡ Some (g f.box)
   under-old q nob f = found-under hs root after q (record { owner = g f.owner; quant = f.quant; box = g f.box; owner_in = g-in f.owner f.owner_in; quant_in = held; is_q = f.is_q; box_in = g-in f.box f.box_in; is_over = id f.box ∙ f.is_over })
     where
       held : In f.quant (g f.owner).quants
@@ -170,10 +170,10 @@ module _ (xs ys : List Node) (root : ℕ) (w : Sound (xs ++ ys) root) (ty : Type
   pub under-mq : box_under hs x.mq ≡ Some (g s)
   under-mq = found-under hs root after x.mq (record { owner = m'; quant = range x.mq F s.id; box = g s; owner_in = m-in; quant_in = inl refl; is_q = refl; box_in = g-in s in-s; is_over = id s })
 
-  abbrev pub found-p : Found bs p
+  abbrev pub found-p : Ranging bs p
   found-p = record { owner = b; quant = rp; box = s; owner_in = in-b; quant_in = m.owned_p; is_q = refl; box_in = in-s; is_over = sym m.over_s }
 
-  abbrev pub found-i : Found bs i
+  abbrev pub found-i : Ranging bs i
   found-i = record { owner = b; quant = ri; box = c; owner_in = in-b; quant_in = m.owned_i; is_q = refl; box_in = in-c; is_over = sym m.over_c }
 
   -- ---- the types of the columns of each box
@@ -221,10 +221,10 @@ module _ (xs ys : List Node) (root : ℕ) (w : Sound (xs ++ ys) root) (ty : Type
   N-by : (q k : ℕ) (z : Node) (ts : Ts) → box_under hs q ≡ Some z → T z.id ≡ ts → N q k ≡ entry ts k
   N-by q k z ts e f = ap (found_by T k) e ∙ ap (λ t. entry t k) f
 
-  L-by : (q k : ℕ) (f : Found bs q) → L q k ≡ entry (types_at bs f.box.id) k
+  L-by : (q k : ℕ) (f : Ranging bs q) → L q k ≡ entry (types_at bs f.box.id) k
   L-by q k f = looked bs q k ∙ ap (found_by (types_at bs) k) (found-under bs root w q f)
 
-  N-old : (q k : ℕ) → (q == i) ≡ false → Found bs q → N q k ≡ L q k
+  N-old : (q k : ℕ) → (q == i) ≡ false → Ranging bs q → N q k ≡ L q k
   N-old q k nob f = N-by q k (g f.box) (types_at bs f.box.id) (under-old q nob f) (ap T (id f.box) ∙ T-old f.box f.box_in) ∙ sym (L-by q k f)
 
   N-i : (k : ℕ) → N i k ≡ entry TD k
@@ -314,7 +314,7 @@ module _ (xs ys : List Node) (root : ℕ) (w : Sound (xs ++ ys) root) (ty : Type
         (ap₂ (λ a b. a && b) (all-put (cond_fits N) (cond_fits L) (substituted_cond q cells) y.parts.conds.items cond-same) (arms-T y.parts.kind y.quants (over-old y j)))
         ∙ ty y j
 
-  pub asked-found : (y : Node) → In y bs → (r k : ℕ) → types_asked r k y ≡ true → Found bs r
+  pub asked-found : (y : Node) → In y bs → (r k : ℕ) → types_asked r k y ≡ true → Ranging bs r
   asked-found y j r k h = found bs root w y j r (asked-named r k y h)
 
   -- below c

@@ -31,7 +31,7 @@ use Rattle.qgm_edit_laws.proofs.Ranks.{has-in, same-box}
 use Rattle.qgm_edit_laws.proofs.Read.{column-named, columns-found, is_at, unbound-reads}
 use Rattle.qgm_edit_laws.proofs.Reformed.{wide-types}
 use Rattle.qgm_edit_laws.proofs.ShapedPut.{all-joined, all-parts}
-use Rattle.qgm_edit_laws.proofs.TypedKept.{Found, found, found-under}
+use Rattle.qgm_edit_laws.proofs.TypedKept.{Ranging, found, found-under}
 use Rattle.qgm_edit_laws.proofs.PutTypes.{all-put}
 use Rattle.qgm_edit_laws.proofs.HeadTypes.{type-of}
 use Rattle.qgm_edit_laws.proofs.TypesBy.{Types, agrees_by, arms_by, found_by, looked, typed-by, via}
@@ -197,7 +197,7 @@ module _ (xs ys : List Node) (root : ℕ) (b : Node) (wide : OwnedQuant → ℕ)
         ])
   ]
 
-  pub under-old : (k : ℕ) → (u : Found bs k) → box_under hs k ≡ Some (g u.box)
+  pub under-old : (k : ℕ) → (u : Ranging bs k) → box_under hs k ≡ Some (g u.box)
   under-old k u =
       let o = owner-of u.owner u.owner_in u.quant u.quant_in in
       found-under hs root after k (record { owner = o.0; quant = u.quant; box = g u.box; owner_in = o.1.0; quant_in = o.1.1; is_q = u.is_q; box_in = g-in u.box u.box_in; is_over = id u.box ∙ u.is_over })
@@ -231,16 +231,16 @@ module _ (xs ys : List Node) (root : ℕ) (b : Node) (wide : OwnedQuant → ℕ)
   entry-suc : (ts : Ts) (k : ℕ) → entry ts (suc k) ≡ joined_column (slice_get ts k)
   entry-suc ts k = type-of k (Some (record { id = 0; types = ts }))
 
-  L-by : (k l : ℕ) (u : Found bs k) → L k l ≡ entry (types_at bs u.box.id) l
+  L-by : (k l : ℕ) (u : Ranging bs k) → L k l ≡ entry (types_at bs u.box.id) l
   L-by k l u = looked bs k l ∙ ap (found_by (types_at bs) l) (found-under bs root w k u)
 
-  N-old : (k l : ℕ) → Found bs k → N k l ≡ L k l
+  N-old : (k l : ℕ) → Ranging bs k → N k l ≡ L k l
   N-old k l u = ap (found_by T l) (under-old k u) ∙ ap (λ t. entry t l) (ap T (id u.box) ∙ T-old u.box u.box_in) ∙ sym (L-by k l u)
 
   N-q : (l : ℕ) → N q l ≡ entry TS l
   N-q l = ap (found_by T l) under-q ∙ ap (λ t. entry t l) T-s
 
-  pub found-P : (r : OwnedQuant) → In r ps → Found bs r.id
+  pub found-P : (r : OwnedQuant) → In r ps → Ranging bs r.id
   found-P r j =
       let o = has-in r.over ys (m.below r j) in
       record { owner = b; quant = r; box = o.0; owner_in = in-b; quant_in = split.old-quant xs ys root b wide q s us ps vs rest taken w m r (inr (inl j)); is_q = refl; box_in = in-right o.0 xs ys o.1.0; is_over = o.1.1 }

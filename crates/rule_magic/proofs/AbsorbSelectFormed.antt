@@ -37,7 +37,7 @@ use Rattle.qgm_edit_laws.proofs.Scope.{bound-owned, climb, one-owner, parent, to
 use Rattle.qgm_edit_laws.proofs.Scoped.{scoped-of}
 use Rattle.qgm_edit_laws.proofs.ShapeParts.{ShapeParts, shape-from, shape-parts}
 use Rattle.qgm_edit_laws.proofs.OwnShapes.{select-placed}
-use Rattle.qgm_edit_laws.proofs.TypedKept.{Found, found, found-under}
+use Rattle.qgm_edit_laws.proofs.TypedKept.{Ranging, found, found-under}
 use Rattle.qgm_edit_laws.proofs.TypesBy.{agrees-alike, agrees-as, agrees_by, arms_by, found_by, head-alike, looked, via}
 use Rattle.qgm_meaning.specs.Scope.{loose, read_by}
 use Rattle.qgm_meaning.specs.Searches.{names, names_cond}
@@ -627,7 +627,7 @@ module _ (g : QueryGraph) (once : EachOnce (numbers g.boxes)) (wf : WellFormed g
 
       module _ (v : Sound hs g.root) where
         -- what is found of a quantifier but r is found after it
-        after : (q : ℕ) → (x : Found g.boxes q) → (q == r.id) ≡ false → (y : Found hs q) × (x.box.id ≡ y.box.id)
+        after : (q : ℕ) → (x : Ranging g.boxes q) → (q == r.id) ≡ false → (y : Ranging hs q) × (x.box.id ≡ y.box.id)
         after q x f =
             let o = elim (cases_Bool (x.owner.id == d.id)) as (λ z. (o : Node) × (In o hs × In x.quant o.quants)) [
               | inl e ↦ (
@@ -645,7 +645,7 @@ module _ (g : QueryGraph) (once : EachOnce (numbers g.boxes)) (wf : WellFormed g
             (record { owner = o.0; quant = x.quant; box = b.0; owner_in = o.1.0; quant_in = o.1.1; is_q = x.is_q; box_in = b.1.0; is_over = b.1.1 }, x.is_over ∙ sym b.1.1)
 
         -- what the box that is made names
-        found-new : (q : ℕ) → holds q (named_by d') ≡ true → Found g.boxes q × ((q == r.id) ≡ false)
+        found-new : (q : ℕ) → holds q (named_by d') ≡ true → Ranging g.boxes q × ((q == r.id) ≡ false)
         found-new q h = elim (or_cases (list_any (says q) (cols ++ c.parts.head)) (list_any (says_cond q) c.parts.conds.items) (sym (named-any q d') ∙ h)) [
           | inl x ↦ elim (or_cases (list_any (says q) cols) (list_any (says q) c.parts.head) (sym (any-both (says q) cols c.parts.head) ∙ x)) [
             | inl y ↦ by-a (eqb-true a.id q (says-columns q a.id 1 (width m) y))
@@ -654,13 +654,13 @@ module _ (g : QueryGraph) (once : EachOnce (numbers g.boxes)) (wf : WellFormed g
           | inr x ↦ by-c (named-any q c ∙ or_right (list_any (says q) c.parts.head) (list_any (says_cond q) c.parts.conds.items) x)
         ]
           where
-            by-a : a.id ≡ q → Found g.boxes q × ((q == r.id) ≡ false)
+            by-a : a.id ≡ q → Ranging g.boxes q × ((q == r.id) ≡ false)
             by-a e = (
               record { owner = d; quant = a; box = m; owner_in = may.in_d; quant_in = in-a; is_q = e; box_in = may.in_m; is_over = may.over_m },
               subst (λ z. (z == r.id) ≡ false) e (eq-false-sym r.id a.id (fed.apart g once wf known tells d may)),
             )
 
-            by-c : holds q (named_by c) ≡ true → Found g.boxes q × ((q == r.id) ≡ false)
+            by-c : holds q (named_by c) ≡ true → Ranging g.boxes q × ((q == r.id) ≡ false)
             by-c k = (
               found g.boxes g.root w c may.in_c q k,
               elim (cases_Bool (q == r.id)) [

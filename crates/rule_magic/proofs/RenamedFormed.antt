@@ -28,7 +28,7 @@ use Rattle.qgm_edit_laws.proofs.Ranks.{has-in, same-box}
 use Rattle.qgm_edit_laws.proofs.Read.{named-split}
 use Rattle.qgm_edit_laws.proofs.Scope.{in-first, touched}
 use Rattle.qgm_edit_laws.proofs.ShapeParts.{fed-parts, shape-moved, shape-parts, two-parts}
-use Rattle.qgm_edit_laws.proofs.TypedKept.{Found, found-under}
+use Rattle.qgm_edit_laws.proofs.TypedKept.{Ranging, found-under}
 use Rattle.qgm_edit_laws.proofs.TypesBy.{looked}
 use Rattle.rule_magic.specs.Region.{IsArm, IsRegion, RegionForms, RenamesBelow, RetypesBelow, is_below}
 use Rattle.rule_magic.specs.Renamed.{IsRetyped, MayRetype}
@@ -81,8 +81,8 @@ module _ (bs hs : List Node) (root : ℕ) (o : Node) (r : OwnedQuant) (a p w : �
 
   -- a quantifier of one of these, with the box under it before and after
   pub record IsFound (q : ℕ) : Type 0 where
-    pub was : Found bs q
-    pub after : Found hs q
+    pub was : Ranging bs q
+    pub after : Ranging hs q
     pub below : is_below bs r.over was.box.id ≡ true
     pub same : after.box ≡ put_node a (columns_from p 1 w) was.box
 

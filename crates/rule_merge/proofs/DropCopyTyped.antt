@@ -23,7 +23,7 @@ use Rattle.rule_merge.proofs.DropCopyMeans.{in-m, moved-sound}
 use Rattle.qgm_edit_laws.proofs.Ranks.{has-in, place-under}
 use Rattle.rule_merge.proofs.DropCopyKeeps.{copies}
 use Rattle.qgm_edit_laws.proofs.Scope.{in-first}
-use Rattle.qgm_edit_laws.proofs.TypedKept.{Found, found, found-under, typed-compact}
+use Rattle.qgm_edit_laws.proofs.TypedKept.{Ranging, found, found-under, typed-compact}
 use Rattle.qgm_core.proofs.Reaching.{overs-held}
 use Rattle.list_laws.proofs.Membership.{in-map, map-in}
 use Rattle.qgm_edit_laws.proofs.HeadTypes.{columns-typed, no-length, type-of, types-width}
@@ -86,8 +86,8 @@ module _ (g : QueryGraph) (w : Sound g.boxes g.root) (b c : Node) (r : OwnedQuan
       let p = in-map mr x.quant o.0.quants (subst (λ (z : Node). In x.quant z.quants) (sym o.1.1.1) x.quant_in) in
       let e = ranges o.0 o.1.0 o.1.1.0 p.0 p.1.0 in
       let is : p.0.id ≡ q = ap (λ (z : OwnedQuant). z.id) p.1.1 ∙ x.is_q in
-      let was : Found bs q = record { owner = o.0; quant = p.0; box = e.0; owner_in = o.1.0; quant_in = p.1.0; is_q = is; box_in = e.1.1.0.1; is_over = e.1.1.0.0 } in
-      let now : Found hm q = record { owner = mv o.0; quant = mr p.0; box = e.1.0; owner_in = to o.0 o.1.0 o.1.1.0; quant_in = map-in mr p.0 o.0.quants p.1.0; is_q = is; box_in = e.1.1.1.0.1; is_over = e.1.1.1.0.0 } in
+      let was : Ranging bs q = record { owner = o.0; quant = p.0; box = e.0; owner_in = o.1.0; quant_in = p.1.0; is_q = is; box_in = e.1.1.0.1; is_over = e.1.1.0.0 } in
+      let now : Ranging hm q = record { owner = mv o.0; quant = mr p.0; box = e.1.0; owner_in = to o.0 o.1.0 o.1.1.0; quant_in = map-in mr p.0 o.0.quants p.1.0; is_q = is; box_in = e.1.1.1.0.1; is_over = e.1.1.1.0.0 } in
       (e.0, (e.1.0, (found-under bs g.root w q was, (found-under hm g.root sound q now, e.1.1.1.1))))
 
   -- b has the types of c

@@ -39,7 +39,7 @@ use Rattle.qgm_edit_laws.proofs.Read.{named-split}
 use Rattle.qgm_edit_laws.proofs.Scope.{in-first, one-parent}
 use Rattle.qgm_edit_laws.proofs.Settled.{cond-local, kinds-local, term-local}
 use Rattle.qgm_edit_laws.proofs.ShapedPut.{all-joined}
-use Rattle.qgm_edit_laws.proofs.TypedKept.{Found, found, found-under, typed-compact}
+use Rattle.qgm_edit_laws.proofs.TypedKept.{Ranging, found, found-under, typed-compact}
 use Rattle.qgm_edit_laws.proofs.HeadTypes.{type-of}
 use Rattle.qgm_edit_laws.proofs.CondTypes.{cell-type}
 use Rattle.qgm_core.proofs.Reaching.{overs-held}
@@ -135,12 +135,12 @@ module _ (bs : List Node) (root : ℕ) (w : Sound bs root) (b c : Node) (us : Li
     pub was : box_under bs p ≡ Some box
     pub is : box_under hm p ≡ Some (g box)
 
-  pub under : (p : ℕ) → Found bs p → (p == q) ≡ false → Under p
+  pub under : (p : ℕ) → Ranging bs p → (p == q) ≡ false → Under p
   under p x n =
       let f : (x.quant.id == q) ≡ false = ap (λ z. z == q) x.is_q ∙ n in
       let u : (x.box.id == c.id) ≡ false = ap (λ z. z == c.id) x.is_over ∙ apart x.owner x.quant x.owner_in x.quant_in f in
       let o = owner-after x.owner x.quant x.owner_in x.quant_in f in
-      let y : Found hm p = record { owner = o.0; quant = x.quant; box = g x.box; owner_in = o.1.0; quant_in = o.1.1; is_q = x.is_q; box_in = to x.box x.box_in u; is_over = g-id x.box ∙ x.is_over } in
+      let y : Ranging hm p = record { owner = o.0; quant = x.quant; box = g x.box; owner_in = o.1.0; quant_in = o.1.1; is_q = x.is_q; box_in = to x.box x.box_in u; is_over = g-id x.box ∙ x.is_over } in
       record { box = x.box; within = x.box_in; not_c = u; was = found-under bs root w p x; is = found-under hm root sound p y }
 
   looks : (p : ℕ) (x : Under p) → types_at hm x.box.id ≡ types_at bs x.box.id → (k : ℕ) → now p k ≡ at p k

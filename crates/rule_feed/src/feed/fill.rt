@@ -44,7 +44,7 @@ pub struct Magic {
 /// What is read of the graph: which columns are named, and how many; the boxes that are reached, and
 /// those beside; how many columns the box has that is fed, and its distinctness after.
 #[derive(Drop)]
-pub struct Found {
+pub struct Gathered {
     pub flags: Vec<bool>,
     pub many: usize,
     pub reached: Vec<BoxId>,
@@ -108,9 +108,9 @@ fn find(
     b: BoxId,
     split: Split,
     i: OwnedQuant,
-) -> Result<Found, OutOfMemory>
+) -> Result<Gathered, OutOfMemory>
     requires { HasBox i.over graph.now }
-    ensures { IfOk result (λ x. code.IsFound graph.now b split.s split.q i x) }
+    ensures { IfOk result (λ x. code.IsGathered graph.now b split.s split.q i x) }
 {
     graph.each_number_once();
     let nodes = graph.nodes();
@@ -120,7 +120,7 @@ fn find(
     let many = count(&flags);
     let reached = reached_ids(alloc, nodes, &marks)?;
     let beside = beside_ids(alloc, nodes, &marks, b)?;
-    Ok(Found {
+    Ok(Gathered {
         flags,
         many,
         reached,
@@ -243,7 +243,7 @@ fn add_fed(
 fn put_names(
     alloc: Global,
     graph: &mut Graph,
-    x: &Found,
+    x: &Gathered,
     q: QuantId,
     i: QuantId,
     dm: QuantId,
