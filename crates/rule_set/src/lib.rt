@@ -5,4 +5,4 @@ mod built;
 mod laws;
 
 pub use built::{BuiltRules, rewrite_built};
-pub use laws::magic_laws;
+pub use laws::{box_limit_laws, magic_laws};
