@@ -1,17 +1,12 @@
 -- What the code of G1's condition asks is the condition.
-use Rattle.std.proofs.Common.{ℕ, suc, ◌≡◌, ◌<◌, ◌+◌, ◌-◌, ◌&&◌, ◌||◌, cond, not, Bool, true, false, List, [], ◌∷◌, refl, sym, ap, ap₂, subst, ◌∙◌, arith}
+use Rattle.std.proofs.Common.{ℕ, suc, ◌≡◌, ◌<◌, ◌+◌, ◌-◌, ◌&&◌, ◌||◌, cond, not, Bool, true, false, List, [], ◌∷◌, refl, sym, ap, subst, ◌∙◌, arith}
 use Rattle.std.specs.List.{list_all}
 use Rattle.qgm_core.specs.Free.{free_in}
-use Rattle.qgm_core.specs.Kinds.{is_F}
-use Rattle.list_laws.specs.Lists.{holds}
-use Rattle.list_laws.proofs.Booleans.{same-truth}
 use Rattle.qgm_core.specs.declared.node.Node.{Node}
 use Rattle.qgm_core.specs.declared.owned.OwnedQuant.{OwnedQuant}
-use Rattle.qgm_props.specs.FreeTables.{TellsFree, free_of}
 use Rattle.qgm_props.specs.Inferred.{Facts}
 use Rattle.qgm_props.specs.Under.{all_places}
 use Rattle.qgm_wellformed.specs.WellFormed.{is_empty}
-use Rattle.qgm_wellformed.proofs.Kept.{empty-none, none-empty}
 use Rattle.rule_feed.specs.FeedCode as code
 use Rattle.rule_feed.specs.FeedCode.{all_ready, feeds_by}
 use Rattle.rule_feed.specs.FeedMay.{feeders, is_ready, is_single, may_feed}
@@ -35,14 +30,3 @@ may-feed ns n r = elim (is_empty (free_in ns r.over)) as (λ t. code.told_if t (
   | true ↦ refl
   | false ↦ ap (λ b. is_single ns (facts_in ns) r.over r && b) (all-ready ns (facts_in ns) r.over n.quants)
 ]
-
--- ---- what is free, by the table of it
-
-pub closed-same : (table : List (List ℕ)) (ns : List Node) → TellsFree table ns → (b : ℕ) → is_empty (free_of table b) ≡ is_empty (free_in ns b)
-closed-same table ns t b = same-truth (is_empty (free_of table b)) (is_empty (free_in ns b))
-    (λ e. none-empty (free_in ns b) (λ q h. empty-none (free_of table b) e q (t b q ∙ h)))
-    (λ e. none-empty (free_of table b) (λ q h. empty-none (free_in ns b) e q (sym (t b q) ∙ h)))
-
-pub ready-same : (ns : List Node) (known : Facts) (c : ℕ) (xs ys : List ℕ) → ((q : ℕ) → holds q xs ≡ holds q ys) → (rs : List OwnedQuant) → all_ready ns known c xs rs ≡ all_ready ns known c ys rs
-ready-same ns known c xs ys h [] = refl
-ready-same ns known c xs ys h (r ∷ rs) = ap₂ (λ (a b : Bool). (not (is_F r.kind && a) || is_ready ns known c r) && b) (h r.id) (ready-same ns known c xs ys h rs)

@@ -57,15 +57,14 @@ impl Rule for Feed {
         let Some(node) = box_at(graph.nodes(), b) else {
             return Ok(out);
         };
-        let table = known.take_free(alloc, graph)?;
-        if may_own(graph.nodes(), &table, node) {
-            let list = node.quants.as_slice();
-            for k in 0..list.len() {
-                let passes = may_feed(alloc, graph, known, &table, node, list[k])?;
-                add_if(&mut out, passes, b, k + 1, 0)?;
-            }
+        if !may_own(alloc, graph.nodes(), node)? {
+            return Ok(out);
         }
-        known.put_free(table);
+        let list = node.quants.as_slice();
+        for k in 0..list.len() {
+            let passes = may_feed(alloc, graph, known, node, list[k])?;
+            add_if(&mut out, passes, b, k + 1, 0)?;
+        }
         Ok(out)
     }
 
