@@ -12,14 +12,14 @@ use Rattle.row_index.specs.declared.ways.Way.{Way}
 use Rattle.box_exec.specs.declared.under.Loop.{Loop}
 use Rattle.box_exec.specs.declared.under.Under.{Under}
 
--- ---- kept rows that are found
+-- ---- kept rows with indexes
 
--- rows that are found, if they are, are those that are kept
-abbrev pub FoundAt : List (Option Bag) → ℕ → Under → Type 0
-FoundAt fs i under = (f : Bag) → slice_get fs i ≡ Some (Some f) → f ≡ rows_kept under
+-- rows with an index, if there is one, are those that are kept
+abbrev pub IndexedRowsAt : List (Option Bag) → ℕ → Under → Type 0
+IndexedRowsAt fs i under = (f : Bag) → slice_get fs i ≡ Some (Some f) → f ≡ rows_kept under
 
-abbrev pub AllFound : List Loop → List (Option Bag) → Type 0
-AllFound ls fs = (i : ℕ) (l : Loop) → i < length ls → l ≡ get_or ls i l → FoundAt fs i l.under
+abbrev pub AllIndexedRows : List Loop → List (Option Bag) → Type 0
+AllIndexedRows ls fs = (i : ℕ) (l : Loop) → i < length ls → l ≡ get_or ls i l → IndexedRowsAt fs i l.under
 
 -- a way through its rows passes over such alone as one of these conditions rejects
 abbrev pub LeadsAt : At → ℕ → Loop → Environment → Way → Type 0

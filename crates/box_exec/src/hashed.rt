@@ -17,7 +17,7 @@ ghost use Rattle.row_bag.specs.Bags.{Alike, keep};
 use crate::bindings::Bindings;
 use crate::boxes::At;
 use crate::early::{is_none, is_open, rejected};
-use crate::found::{Found, found_in};
+use crate::indexed_rows::{IndexedRows, indexed_in};
 use crate::heads::{add_given, once_added};
 use crate::lookup::{Hashed, all_rows, way_through};
 use crate::order::Order;
@@ -117,15 +117,15 @@ fn over_kept<'x>(
     Ok(())
 }
 
-// The rows of an E or A quantifier, found by hashes if this is asked for and they can be.
-fn found_if<'a>(wanted: bool, at: &At<'a>, l: &Loop<'a>) -> Result<Option<Found<'a>>, OutOfMemory>
+// The rows of an E or A quantifier, with an index if this is asked for and there can be one.
+fn indexed_if<'a>(wanted: bool, at: &At<'a>, l: &Loop<'a>) -> Result<Option<IndexedRows<'a>>, OutOfMemory>
     ensures { IfOk result (λ o. IfSome o (λ f. f ≡ spec.rows_kept l.now.under)) }
 {
     if !wanted || !at.run.indexed {
         return Ok(None);
     }
     let list = at.node.parts.conds.as_slice();
-    found_in(at.run.alloc, list, l.range.id, kept_rows(l))
+    indexed_in(at.run.alloc, list, l.range.id, kept_rows(l))
 }
 
 // Whether a quantifier binds several rows.
@@ -133,53 +133,53 @@ fn has_several(l: &Loop<'_>) -> bool {
     l.range.kind.is_f() && kept_rows(l).len() > 1
 }
 
-// The rows of the quantifiers of a box that bind none, where they are found by hashes: for several
+// The rows of the quantifiers of a box that bind none, with indexes: for several
 // combinations of rows of the others.
-fn all_found<'a>(at: &At<'a>) -> Result<Vec<Option<Found<'a>>>, OutOfMemory>
-    ensures { IfOk result (λ made. spec.AllFound at.now.loops.now made.items) }
+fn all_indexed<'a>(at: &At<'a>) -> Result<Vec<Option<IndexedRows<'a>>>, OutOfMemory>
+    ensures { IfOk result (λ made. spec.AllIndexedRows at.now.loops.now made.items) }
 {
     let mut made = Vec::with_capacity(at.run.alloc, at.loops.len())?;
     let several = at.loops.iter().any(|l| has_several(l));
     for i in 0..at.loops.len() {
         let l = &at.loops[i];
-        let found = found_if(several && !l.range.kind.is_f(), at, l)?;
-        made.push(found)?;
+        let rows = indexed_if(several && !l.range.kind.is_f(), at, l)?;
+        made.push(rows)?;
     }
     Ok(made)
 }
 
 // The rows of the quantifier at a place.
-fn sub_rows<'a>(found: &'a [Option<Found<'a>>], i: usize, l: &Loop<'a>) -> SubRows<'a>
-    requires { spec.FoundAt found.now i l.now.under }
+fn sub_rows<'a>(indexes: &'a [Option<IndexedRows<'a>>], i: usize, l: &Loop<'a>) -> SubRows<'a>
+    requires { spec.IndexedRowsAt indexes.now i l.now.under }
     ensures { rows_held result ≡ spec.rows_kept l.now.under }
 {
-    match found.get(i) {
-        Some(Some(rows)) => SubRows::Found(rows),
+    match indexes.get(i) {
+        Some(Some(rows)) => SubRows::Indexed(rows),
         Some(None) | None => SubRows::Plain(Source::Borrowed(kept_rows(l))),
     }
 }
 
 /// A select whose quantifiers all stand on kept rows, and the rows of those that bind none, where they are
-/// found by hashes.
+/// indexed.
 #[derive(Clone, Copy)]
-pub(crate) struct Finding<'a> {
+pub(crate) struct Indexing<'a> {
     pub at: &'a At<'a>,
-    pub found: &'a [Option<Found<'a>>],
+    pub indexes: &'a [Option<IndexedRows<'a>>],
 }
 
 // The rows of the quantifiers that bind none.
-fn kept_subs<'a>(finding: &Finding<'a>) -> Result<Vec<Sub<'a>>, OutOfMemory>
-    requires planned { plan.Planned finding.now.at.now }
-    requires kept { spec.AllKept finding.now.at.now.loops.now }
-    requires found { spec.AllFound finding.now.at.now.loops.now finding.now.found.now }
-    ensures { IfOk result (λ subs. (env : Environment) → SubsOf (plan.family finding.now.at.now) env (filter isnt_F (plan.ranges finding.now.at.now.loops.now)) subs.items) }
+fn kept_subs<'a>(indexing: &Indexing<'a>) -> Result<Vec<Sub<'a>>, OutOfMemory>
+    requires planned { plan.Planned indexing.now.at.now }
+    requires kept { spec.AllKept indexing.now.at.now.loops.now }
+    requires indexes { spec.AllIndexedRows indexing.now.at.now.loops.now indexing.now.indexes.now }
+    ensures { IfOk result (λ subs. (env : Environment) → SubsOf (plan.family indexing.now.at.now) env (filter isnt_F (plan.ranges indexing.now.at.now.loops.now)) subs.items) }
 {
-    let at = finding.at;
+    let at = indexing.at;
     let mut subs = Vec::new(at.run.alloc);
     for i in 0..at.loops.len() {
         let l = &at.loops[i];
         if !l.range.kind.is_f() {
-            let rows = sub_rows(finding.found, i, l);
+            let rows = sub_rows(indexing.indexes, i, l);
             subs.push(Sub {
                 quant: l.range.id,
                 rows,
@@ -249,12 +249,12 @@ pub(crate) fn kept_selected(at: &At<'_>, env: &Bindings) -> Result<Bag, OutOfMem
     requires kept { spec.AllKept at.now.loops.now }
     ensures { IfOk result (λ bag. Alike bag (m.rows_by kind.Select (plan.tables_of at.now) at.now.node.now (m.quant_rows at.now.node.now (plan.family at.now)) (env_of env.now))) }
 {
-    let found = all_found(at)?;
-    let finding = Finding {
+    let indexes = all_indexed(at)?;
+    let indexing = Indexing {
         at: &*at,
-        found: &found,
+        indexes: &indexes,
     };
-    let subs = kept_subs(&finding)?;
+    let subs = kept_subs(&indexing)?;
     match at.orders {
         [order, ..] => reordered_selected(at, order, &subs, env),
         [] => bound_in_order(at, &subs, env),

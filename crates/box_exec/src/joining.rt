@@ -3,7 +3,7 @@
 ghost use Rattle.std.specs.Prelude.{◌≡◌, [], All, IfOk, IfSome, IsOkAnd, OnOk};
 ghost use Rattle.box_exec.specs.Bound.{env_of};
 ghost use Rattle.box_exec.specs.Lookup.{Hashes, Leads, RejectsBy};
-ghost use Rattle.box_exec.specs.Outer.{Found, joined_rows, null_row, partner_rows, rejects_on};
+ghost use Rattle.box_exec.specs.Outer.{HashedOn, joined_rows, null_row, partner_rows, rejects_on};
 ghost use Rattle.box_exec.specs.Sources.{held};
 ghost use Rattle.row_bag.specs.Bags.{Alike};
 ghost use Rattle.row_bag.specs.Joins.{or_else};
@@ -73,7 +73,7 @@ fn way_of<'r>(
     right: &Right<'r, '_>,
     outer: &Bindings,
 ) -> Result<Way<'r>, OutOfMemory>
-    requires { Found join.now right.now }
+    requires { HashedOn join.now right.now }
     ensures { IfOk result (λ way. Leads (rejects_on join.now.node.now) join.now.right right.now.rows.now (env_of outer.now) way) }
 {
     way_through(alloc, right.hashed.as_ref(), right.rows.len(), outer)
@@ -87,7 +87,7 @@ fn partners(
     right: &Right<'_, '_>,
     env: &Bindings,
 ) -> Result<Bag, OutOfMemory>
-    requires { Found join.now right.now }
+    requires { HashedOn join.now right.now }
     ensures { IfOk result (λ made. Alike made (partner_rows join.now.node.now join.now.left join.now.right left.now right.now.rows.now (env_of env.now))) }
 {
     let mut made = Bag::new(alloc);
@@ -134,7 +134,7 @@ fn joined(
     right: &Right<'_, '_>,
     env: &Bindings,
 ) -> Result<Bag, OutOfMemory>
-    requires { Found join.now right.now }
+    requires { HashedOn join.now right.now }
     ensures { IfOk result (λ made. Alike made (or_else (partner_rows join.now.node.now join.now.left join.now.right left.now right.now.rows.now (env_of env.now)) (null_row join.now.node.now join.now.left join.now.right left.now (env_of env.now)))) }
 {
     let made = partners(alloc, join, left, right, env)?;
@@ -152,7 +152,7 @@ fn each_joined(
     right: &Right<'_, '_>,
     env: &Bindings,
 ) -> Result<Bag, OutOfMemory>
-    requires { Found join.now right.now }
+    requires { HashedOn join.now right.now }
     ensures { IfOk result (λ made. Alike made (joined_rows join.now.node.now join.now.left join.now.right xs.now right.now.rows.now (env_of env.now))) }
 {
     let mut made = Bag::new(alloc);

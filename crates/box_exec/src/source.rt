@@ -7,7 +7,7 @@ ghost use Rattle.box_exec.specs.declared.source.SubRows.TheVariants as kind;
 ghost use Rattle.qgm_terms.specs.Shown.{cond};
 
 use crate::bindings::Bindings;
-use crate::found::Found;
+use crate::indexed_rows::IndexedRows;
 use crate::lookup::all_rows;
 use qgm_terms::{Gc, QuantId};
 use row_bag::{Bag, Row, copied_rows};
@@ -65,7 +65,7 @@ pub(crate) fn bag_of(
 #[derive(Drop)]
 pub enum SubRows<'a> {
     Plain(Source<'a>),
-    Found(&'a Found<'a>),
+    Indexed(&'a IndexedRows<'a>),
 }
 
 impl<'a> SubRows<'a> {
@@ -75,7 +75,7 @@ impl<'a> SubRows<'a> {
     {
         match self {
             SubRows::Plain(source) => source.rows(),
-            SubRows::Found(found) => found.rows(),
+            SubRows::Indexed(indexed) => indexed.rows(),
         }
     }
 
@@ -92,7 +92,7 @@ impl<'a> SubRows<'a> {
     {
         match self {
             SubRows::Plain(source) => Ok(all_rows(source.rows().len())),
-            SubRows::Found(found) => found.way(alloc, holds, q, c, env),
+            SubRows::Indexed(indexed) => indexed.way(alloc, holds, q, c, env),
         }
     }
 }

@@ -17,7 +17,7 @@ use Rattle.box_exec.proofs.hashed.kept_subs.Goals as goal
 
 pub loop-i-preserved : goal.loop-i-preserved
 loop-i-preserved c = λ env.
-    let at = c.args.finding.now.at.now in
+    let at = c.args.indexing.now.at.now in
     let l = c.index-at-i.result in
     let r = l.range in
     let i = c.loop-i.i in
@@ -44,5 +44,5 @@ loop-i-preserved c = λ env.
 
 pub returns : goal.returns
 returns c = λ env.
-    let rs = ranges c.args.finding.now.at.now.loops.now in
-    subst (λ (xs : List OwnedQuant). SubsOf (family c.args.finding.now.at.now) env (filter isnt_F xs) c.loop-i.subs.items) (take_all c.loop-i.i rs (range-past c.args.finding.now.at.now.loops.now c.loop-i.i c.loop-i-test.false)) (c.loop-i.invariant env)
+    let rs = ranges c.args.indexing.now.at.now.loops.now in
+    subst (λ (xs : List OwnedQuant). SubsOf (family c.args.indexing.now.at.now) env (filter isnt_F xs) c.loop-i.subs.items) (take_all c.loop-i.i rs (range-past c.args.indexing.now.at.now.loops.now c.loop-i.i c.loop-i-test.false)) (c.loop-i.invariant env)

@@ -3,7 +3,7 @@ use Rattle.box_exec.specs.Idle.{is_idle}
 use Rattle.box_exec.specs.Lookup.{Hashes}
 use Rattle.box_exec.specs.declared.lookup.Hashed.{Hashed}
 use Rattle.box_exec.proofs.Lookups.{some-is}
-use Rattle.box_exec.proofs.found.found_by.Goals as goal
+use Rattle.box_exec.proofs.indexed_rows.indexed_by.Goals as goal
 
 pub invariant_of-result : goal.invariant_of-result
 invariant_of-result c = λ s.

@@ -1,4 +1,4 @@
-// Rows of E and A quantifiers, found by the hashes of the cells that their conditions compare.
+// Rows of E and A quantifiers, with an index by the hashes of the cells that their conditions compare.
 ghost use Rattle.std.specs.Prelude.{◌≡◌, IfOk, IfSome};
 ghost use Rattle.box_exec.specs.Bound.{env_of};
 ghost use Rattle.box_exec.specs.Idle.{LeadsIdle};
@@ -23,7 +23,7 @@ use std::marker::Model;
 /// Rows of an E or A quantifier, and an index of them by which rows are passed over that count for nothing
 /// in a some or every of it: one of this condition. Contracts see the rows.
 #[derive(Drop)]
-pub struct Found<'a> {
+pub struct IndexedRows<'a> {
     quant: QuantId,
     holds: bool,
     condition: &'a Gc,
@@ -31,7 +31,7 @@ pub struct Found<'a> {
     hashed: Hashed<'a>,
 }
 
-impl<'a> Model for Found<'a> {
+impl<'a> Model for IndexedRows<'a> {
     ghost use Rattle.std.specs.Prelude.{List};
     ghost use Rattle.box_exec.specs.Idle.{HashesIdle};
     ghost use Rattle.qgm_terms.specs.Shown.{cond};
@@ -63,7 +63,7 @@ fn hash_at(keys: &[Key<'_>], env: &Bindings) -> Option<u64>
     Some(hasher.finish())
 }
 
-impl<'a> Found<'a> {
+impl<'a> IndexedRows<'a> {
     /// The rows.
     pub(crate) fn rows(&self) -> &'a [Row]
         ensures { result.now ≡ self.now }
@@ -98,19 +98,19 @@ impl<'a> Found<'a> {
     }
 }
 
-// Rows that are found for a condition of some, or else of every, if it has keys.
-fn found_by<'a>(
+// Rows with an index for a condition of some, or else of every, if it has keys.
+fn indexed_by<'a>(
     alloc: Global,
     c: &'a Gc,
     holds: bool,
     q: QuantId,
     rows: &'a [Row],
-) -> Result<Option<Found<'a>>, OutOfMemory>
+) -> Result<Option<IndexedRows<'a>>, OutOfMemory>
     ensures { IfOk result (λ o. IfSome o (λ f. f ≡ rows.now)) }
 {
     let keys = idle_keys(alloc, c, holds, q, rows)?;
     match hashed_by(alloc, keys, q, rows)? {
-        Some(hashed) => Ok(Some(Found {
+        Some(hashed) => Ok(Some(IndexedRows {
             quant: q,
             holds,
             condition: c,
@@ -127,7 +127,7 @@ fn node_of<'a>(c: &'a Gc, q: QuantId) -> Option<&'a Gc> {
     match c {
         Gc::Some(r, a) | Gc::Every(r, a) => { if *r == q { Some(c) } else { node_of(a, q) } }
         Gc::All(a, list) | Gc::Any(a, list) => match node_of(a, q) {
-            Some(found) => Some(found),
+            Some(node) => Some(node),
             None => node_among(list, q),
         },
         Gc::Not(a) => node_of(a, q),
@@ -139,26 +139,26 @@ fn node_of<'a>(c: &'a Gc, q: QuantId) -> Option<&'a Gc> {
 #[cycle(node_of)]
 fn node_among<'a>(list: &'a [Gc], q: QuantId) -> Option<&'a Gc> {
     for c in list {
-        if let Some(found) = node_of(c, q) {
-            return Some(found);
+        if let Some(node) = node_of(c, q) {
+            return Some(node);
         }
     }
     None
 }
 
-/// Rows of an E or A quantifier that are found for the first some or every of it in these conditions, if
-/// that has keys. It fails only for want of memory.
-pub(crate) fn found_in<'a>(
+/// Rows of an E or A quantifier with an index for the first some or every of it in these conditions, if that
+/// has keys. It fails only for want of memory.
+pub(crate) fn indexed_in<'a>(
     alloc: Global,
     list: &'a [Gc],
     q: QuantId,
     rows: &'a [Row],
-) -> Result<Option<Found<'a>>, OutOfMemory>
+) -> Result<Option<IndexedRows<'a>>, OutOfMemory>
     ensures { IfOk result (λ o. IfSome o (λ f. f ≡ rows.now)) }
 {
     match node_among(list, q) {
-        Some(Gc::Some(_, c)) => found_by(alloc, c, false, q, rows),
-        Some(Gc::Every(_, c)) => found_by(alloc, c, true, q, rows),
+        Some(Gc::Some(_, c)) => indexed_by(alloc, c, false, q, rows),
+        Some(Gc::Every(_, c)) => indexed_by(alloc, c, true, q, rows),
         Some(
             Gc::True
             | Gc::Compare(_, _, _)

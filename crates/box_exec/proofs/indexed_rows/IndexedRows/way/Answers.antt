@@ -9,7 +9,7 @@ use Rattle.box_exec.specs.declared.lookup.Aim.TheVariants.{Hash}
 use Rattle.box_exec.proofs.Counts.{idle-alike}
 use Rattle.box_exec.proofs.Lookups.{leads-hash}
 use Rattle.std.proofs.Common.{subst, List}
-use Rattle.box_exec.proofs.found.Found.way.Goals as goal
+use Rattle.box_exec.proofs.indexed_rows.IndexedRows.way.Goals as goal
 
 pub returns-in-Some : goal.returns-in-Some
 returns-in-Some c = λ s.
