@@ -14,7 +14,7 @@ held (Made bag) = bag
 -- of an E, A or S quantifier
 abbrev pub rows_held : SubRows → Bag
 rows_held (Plain source) = held source
-rows_held (Indexed rows) = rows.now
+rows_held (Indexed rows) = rows
 
 -- the rows of the first of this number
 abbrev pub held_by : List Sub → ℕ → Bag
