@@ -4,7 +4,7 @@ use Rattle.row_bag.specs.Hashes.{fed_with}
 use Rattle.box_exec.specs.Bound.{env_of}
 use Rattle.box_exec.specs.Equalities.{others}
 use Rattle.box_exec.specs.Lookup.{others_plain}
-use Rattle.box_exec.proofs.found.hash_at.Given as goal
+use Rattle.box_exec.proofs.indexed_rows.hash_at.Given as goal
 
 abbrev pub invariant-loop-key : goal.invariant-loop-key
 invariant-loop-key l = record {
