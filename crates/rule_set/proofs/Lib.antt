@@ -1,1 +1,2 @@
 pub mod MagicEnds
+mod Filters

@@ -1,3 +1,4 @@
 pub mod Built
 pub mod Rewriting
+pub mod Elsewhere
 pub mod MagicEnds
