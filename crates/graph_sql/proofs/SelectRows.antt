@@ -149,13 +149,13 @@ module _ (s : Family) (not_null : ℕ → ℕ → Bool) where
         CalmWays s (CalmAt s not_null n) (map (λ r. r.id) (cond b (r ∷ filter (λ r. is_F r.kind) rs) (filter (λ r. is_F r.kind) rs))) env
         → rows_there (cond b (bind (s r.id env) (λ cells. over_each rs s (given_by s n) (bound r.id cells env))) (over_each rs s (given_by s n) env))
         ≡ selected (ways (map (λ r. r.id) (cond b (r ∷ filter (λ r. is_F r.kind) rs) (filter (λ r. is_F r.kind) rs))) (λ q e. rows_there (s q e)) env)) [
-      | true ↦ λ c.
-          bound-rows (s r.id env) (λ cells. over_each rs s (given_by s n) (bound r.id cells env)) c.0
-          ∙ flat-same (λ cells. rows_there (over_each rs s (given_by s n) (bound r.id cells env))) (λ cells. selected (ways (each_id rs) (λ q e. rows_there (s q e)) (bound r.id cells env))) (rows_there (s r.id env))
-          (λ cells i. each-way rs (bound r.id cells env) (c.1 cells i))
-          ∙ sym (selected-flat (λ cells. ways (each_id rs) (λ q e. rows_there (s q e)) (bound r.id cells env)) (rows_there (s r.id env)))
-      | false ↦ λ c. each-way rs env c
-    ] c
+          | true ↦ λ c.
+              bound-rows (s r.id env) (λ cells. over_each rs s (given_by s n) (bound r.id cells env)) c.0
+              ∙ flat-same (λ cells. rows_there (over_each rs s (given_by s n) (bound r.id cells env))) (λ cells. selected (ways (each_id rs) (λ q e. rows_there (s q e)) (bound r.id cells env))) (rows_there (s r.id env))
+              (λ cells i. each-way rs (bound r.id cells env) (c.1 cells i))
+              ∙ sym (selected-flat (λ cells. ways (each_id rs) (λ q e. rows_there (s q e)) (bound r.id cells env)) (rows_there (s r.id env)))
+          | false ↦ λ c. each-way rs env c
+        ] c
 
 pub selects : Selects
 selects s not_null n env c = each-way s not_null n n.quants env c

@@ -50,11 +50,7 @@ pub fn put_made(made: &HashMap<BoxId, Made>, b: BoxId, out: &mut Text) -> Result
 }
 
 // Adds, for EXISTS, what stands before the name of the item that has the cells of a box.
-fn put_made_source(
-    made: &HashMap<BoxId, Made>,
-    b: BoxId,
-    out: &mut Text,
-) -> Result<(), OutOfMemory>
+fn put_made_source(made: &HashMap<BoxId, Made>, b: BoxId, out: &mut Text) -> Result<(), OutOfMemory>
     ensures { OnOk result (out.new ≡ out.old ++ (made_at made.now b).source) }
 {
     match made.get(&b) {

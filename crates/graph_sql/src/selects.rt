@@ -182,11 +182,7 @@ fn put_leading_test(scope: &Scope<'_>, c: &Gc, out: &mut Text) -> Result<(), Out
 }
 
 /// Adds conditions that are true, each with AND behind it.
-pub fn put_leading_tests(
-    scope: &Scope<'_>,
-    list: &[Gc],
-    out: &mut Text,
-) -> Result<(), OutOfMemory>
+pub fn put_leading_tests(scope: &Scope<'_>, list: &[Gc], out: &mut Text) -> Result<(), OutOfMemory>
     ensures { OnOk result (out.new ≡ out.old ++ lists.leading_tests scope.now (conds list.now)) }
 {
     for c in list {

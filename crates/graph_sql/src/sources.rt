@@ -63,11 +63,7 @@ pub fn put_source_of(
 }
 
 /// Adds what stands behind the columns of that item.
-pub fn put_conditions_of(
-    scope: &Scope<'_>,
-    node: &Node,
-    out: &mut Text,
-) -> Result<(), OutOfMemory>
+pub fn put_conditions_of(scope: &Scope<'_>, node: &Node, out: &mut Text) -> Result<(), OutOfMemory>
     ensures { OnOk result (out.new ≡ out.old ++ lists.node_conditions scope.now node.now) }
 {
     put_word(b" WHERE ", out)?;

@@ -11,7 +11,7 @@ pub returns-clause-list : goal.returns-clause-list
 returns-clause-list c =
     IfOk-weaker c.others.result _ _
     (λ v is.
-        is
-        ∙ ap (filter (λ (p : Place). not (feeds_asked c.args.rule c.args.graph.now p))) (c.deref.ensures.value ∙ c.in_ok-places.ensures.list)
-        ∙ filter-map (place_at c.args.b) (λ (p : Place). not (feeds_asked c.args.rule c.args.graph.now p)) (built_pairs c.args.rule c.args.graph.now c.args.b))
+    is
+    ∙ ap (filter (λ (p : Place). not (feeds_asked c.args.rule c.args.graph.now p))) (c.deref.ensures.value ∙ c.in_ok-places.ensures.list)
+    ∙ filter-map (place_at c.args.b) (λ (p : Place). not (feeds_asked c.args.rule c.args.graph.now p)) (built_pairs c.args.rule c.args.graph.now c.args.b))
     c.others.ensures
