@@ -1,2 +1,3 @@
 pub mod MagicEnds
 mod BoxLimit
+mod Filters
