@@ -1,2 +1,9 @@
-pub mod MagicPlaces
-pub mod CalmCloses
+mod MagicPlaces
+mod CalmCloses
+mod FreeTerms
+mod SameFacts
+mod Framed
+mod Shut
+mod RebuiltSettled
+mod PartFacts
+mod CompactSettled

@@ -1,1 +1,2 @@
 pub mod CalmCloses
+pub mod Settled

@@ -1,0 +1,309 @@
+-- Settled graphs of which a few boxes change: what is inferred of the others still is, and they stay settled.
+use Rattle.std.proofs.Common.{ℕ, ◌==◌, ◌≡◌, ◌&&◌, ◌||◌, nat_le, nat_lt, cond, not, Bool, true, false, List, [], ◌∷◌, Option, Some, None, refl, sym, ap, subst, ◌∙◌, eqb-true, ◌⊎◌, inl, inr}
+use Rattle.std.specs.List.{list_all}
+use Rattle.std.proofs.lemmas.Bool.{and_from, and_parts, cases_Bool, or_cases, or_left, or_right}
+use Rattle.list_laws.specs.Lists.{In, first, holds}
+use Rattle.list_laws.proofs.Membership.{all-from, all-in, any-from, any-in, eq-itself}
+use Rattle.qgm_core.specs.Boxes.{Ordered, is_box, is_quant, owns, width}
+use Rattle.qgm_core.specs.Free.{named_by}
+use Rattle.qgm_core.specs.Kinds.{is_A, is_E, is_F, is_S, is_magic}
+use Rattle.qgm_core.specs.declared.kinds.BoxKind.{BoxKind}
+use Rattle.qgm_core.specs.declared.kinds.QuantKind.{QuantKind}
+use Rattle.qgm_core.specs.declared.node.Node.{Node}
+use Rattle.qgm_core.specs.declared.owned.OwnedQuant.{OwnedQuant}
+use Rattle.qgm_terms.specs.declared.named.Column.{Column}
+use Rattle.qgm_terms.specs.declared.named.QuantNode.{QuantNode}
+use Rattle.qgm_terms.specs.declared.named.QuantNode.TheVariants as node
+use Rattle.qgm_wellformed.specs.Columns.{columns_of}
+use Rattle.qgm_wellformed.specs.Shapes.{is_among, node_fits, nodes_of}
+use Rattle.qgm_edit_laws.specs.Graph.{Sound}
+use Rattle.qgm_edit_laws.specs.Rebuilds.{IsOwned}
+use Rattle.qgm_edit_laws.proofs.Levels.{owner-of, some-in}
+use Rattle.qgm_edit_laws.proofs.Read.{column-named, is_at}
+use Rattle.qgm_edit_laws.proofs.Scope.{in-first}
+use Rattle.qgm_edit_laws.proofs.TypedKept.{found}
+use Rattle.qgm_props.specs.Calm.{calm_column, calm_magic, calm_scalar, clean_below, is_closed}
+use Rattle.qgm_props.specs.Laws.{Tells}
+use Rattle.qgm_props.specs.Inferred.{Closed, Facts, Inferred, all_places, all_under, all_under_F, at_most_one, at_most_one_by, clean, clean_by, error_free, error_free_under, exactly_one, exactly_one_by, free_by, no_cond, not_null, of_box, of_over, of_quant, under_first}
+use Rattle.qgm_props.proofs.Monotone.{least}
+use Rattle.rule_calm.specs.Settled.{IsFirm, SettledBox, grouped, has_no_single, joined}
+use Rattle.rule_calm.proofs.FreeTerms.{SameNode, SameNodes, cl_of, ef_of, one_of}
+use Rattle.rule_calm.proofs.SameFacts.{OfOvers, clean-same, free-same, places-of}
+
+-- ---- facts to which no sentence adds
+
+module _ (hs : List Node) (o : Ordered hs) (known : Facts) (closed : Closed hs known) where
+  at-box : {X : Type 0} (none : X) (said : Node → X) (n : Node) → In n hs → of_box none said (first (is_box n.id) hs) ≡ said n
+  at-box none said n i = ap (of_box none said) (in-first n hs o i)
+
+  pub known-clean : (n : Node) → In n hs → clean_by hs known n.parts.kind n ≡ true → known.clean n.id ≡ true
+  known-clean n i h = closed (clean n.id) (at-box false (λ m. clean_by hs known m.parts.kind m) n i ∙ h)
+
+  pub known-free : (n : Node) → In n hs → (k : ℕ) → (nat_lt 0 k && nat_le k (width n)) ≡ true → free_by hs known n.parts.kind n k ≡ true → known.error_free n.id k ≡ true
+  known-free n i k w h = closed (error_free n.id k) (at-box false (λ m. (nat_lt 0 k && nat_le k (width m)) && free_by hs known m.parts.kind m k) n i ∙ and_from (nat_lt 0 k && nat_le k (width n)) (free_by hs known n.parts.kind n k) w h)
+
+  pub known-exactly : (n : Node) → In n hs → exactly_one_by hs known n.parts.kind n ≡ true → known.exactly_one n.id ≡ true
+  known-exactly n i h = closed (exactly_one n.id) (at-box false (λ m. exactly_one_by hs known m.parts.kind m) n i ∙ h)
+
+  -- a firm box has exactly one row
+  pub firm-exactly : (b : ℕ) → IsFirm hs b → known.exactly_one b ≡ true
+  firm-exactly _ (grouped n r i j k) = known-exactly n i (subst (λ (z : BoxKind). exactly_one_by hs known z n ≡ true) (sym k) (some n.quants j))
+    where
+      some : (rs : List OwnedQuant) → In r rs → ((0 == 0) && under_first (λ b. true) rs) ≡ true
+      some [] j = elim j [ ]
+      some (s ∷ rs) j = refl
+  firm-exactly _ (joined n i k p c under shut) = known-exactly n i (subst (λ (z : BoxKind). exactly_one_by hs known z n ≡ true) (sym k)
+      (and_from (all_under_F known.exactly_one n.quants) (no_cond n.parts.conds.items) (each n.quants (λ r j f. firm-exactly r.over (under r j f))) (ap no_cond c)))
+    where
+      each : (rs : List OwnedQuant) → ((r : OwnedQuant) → In r rs → is_F r.kind ≡ true → known.exactly_one r.over ≡ true) → all_under_F known.exactly_one rs ≡ true
+      each [] h = refl
+      each (r ∷ rs) h = one (is_F r.kind) refl (each rs (λ s j. h s (inr j)))
+        where
+          one : (b : Bool) → is_F r.kind ≡ b → all_under_F known.exactly_one rs ≡ true → cond b (known.exactly_one r.over && all_under_F known.exactly_one rs) (all_under_F known.exactly_one rs) ≡ true
+          one true e i = and_from (known.exactly_one r.over) (all_under_F known.exactly_one rs) (h r (inl refl) e) i
+          one false e i = i
+
+  pub firm-single : (b : ℕ) → IsFirm hs b → known.at_most_one b ≡ true
+  firm-single b f = at-most b (firm-exactly b f) (held b f)
+    where
+      held : (b : ℕ) → IsFirm hs b → (n : Node) × (In n hs × (n.id ≡ b))
+      held _ (grouped n r i j k) = (n, (i, refl))
+      held _ (joined n i k p c under shut) = (n, (i, refl))
+
+      at-most : (b : ℕ) → known.exactly_one b ≡ true → (n : Node) × (In n hs × (n.id ≡ b)) → known.at_most_one b ≡ true
+      at-most b e m = subst (λ z. known.at_most_one z ≡ true) m.1.1 (closed (at_most_one m.0.id) (at-box false (λ x. known.exactly_one m.0.id || at_most_one_by hs known x.parts.kind x) m.0 m.1.0 ∙ or_left (known.exactly_one m.0.id) (at_most_one_by hs known m.0.parts.kind m.0) (subst (λ z. known.exactly_one z ≡ true) (sym m.1.1) e)))
+
+-- ---- facts of before by facts of after
+
+-- all is clean and no column holds an error
+abbrev pub nothing_bad : Facts
+nothing_bad = record { clean = λ b. true; error_free = λ b k. true; not_null = λ b k. true; at_most_one = λ b. true; exactly_one = λ b. true }
+
+-- to what is told of boxes no sentence adds
+pub told-closed : (ns : List Node) (known : Facts) → Tells known ns → Closed ns known
+told-closed ns known tells fact h = (tells fact).1 (least ns known (λ x s. (tells x).0 s) fact h)
+
+module _ (bs hs : List Node) (known : Facts) (kept : ℕ → Bool) (other : Facts) where
+  -- what is known after of the boxes that are kept, and what is told of the others; rows aren't counted
+  abbrev pub back : Facts
+  back = record {
+    clean = λ b. cond (kept b) (known.clean b) (other.clean b);
+    error_free = λ b k. cond (kept b) (known.error_free b k) (other.error_free b k);
+    not_null = λ b k. true;
+    at_most_one = λ b. true;
+    exactly_one = λ b. true;
+  }
+
+  -- no sentence adds to what is told of this box
+  pub record Covers (n : Node) : Type 0 where
+    pub clean : clean_by bs back n.parts.kind n ≡ true → back.clean n.id ≡ true
+    pub error_free : (k : ℕ) → (nat_lt 0 k && nat_le k (width n)) ≡ true → free_by bs back n.parts.kind n k ≡ true → back.error_free n.id k ≡ true
+
+  module _ (o : Ordered bs) (covers : (n : Node) → In n bs → Covers n) where
+    is-there : (b : ℕ) (n : Node) → first (is_box b) bs ≡ Some n → In n bs × (n.id ≡ b)
+    is-there b n e = let x = some-in (is_box b) bs n e in (x.0, eqb-true n.id b x.1)
+
+    back-closed : Closed bs back
+    back-closed (clean b) h = go (first (is_box b) bs) refl h
+      where
+        go : (f : Option Node) → first (is_box b) bs ≡ f → of_box false (λ n. clean_by bs back n.parts.kind n) f ≡ true → back.clean b ≡ true
+        go None e h = absurd (let z : ⊥ = cc in z)
+        go (Some n) e h = let x = is-there b n e in subst (λ z. back.clean z ≡ true) x.1 ((covers n x.0).clean h)
+    back-closed (error_free b k) h = go (first (is_box b) bs) refl h
+      where
+        go : (f : Option Node) → first (is_box b) bs ≡ f → of_box false (λ n. (nat_lt 0 k && nat_le k (width n)) && free_by bs back n.parts.kind n k) f ≡ true → back.error_free b k ≡ true
+        go None e h = absurd (let z : ⊥ = cc in z)
+        go (Some n) e h =
+            let x = is-there b n e in
+            let p = and_parts (nat_lt 0 k && nat_le k (width n)) (free_by bs back n.parts.kind n k) h in
+            subst (λ z. back.error_free z k ≡ true) x.1 ((covers n x.0).error_free k p.0 p.1)
+    back-closed (not_null b k) h = refl
+    back-closed (at_most_one b) h = refl
+    back-closed (exactly_one b) h = refl
+
+    pub kept-clean : (b : ℕ) → kept b ≡ true → Inferred bs (clean b) → known.clean b ≡ true
+    kept-clean b k i = sym (ap (λ z. cond z (known.clean b) (other.clean b)) k) ∙ i back back-closed
+
+    pub kept-free : (b c : ℕ) → kept b ≡ true → Inferred bs (error_free b c) → known.error_free b c ≡ true
+    kept-free b c k i = sym (ap (λ z. cond z (known.error_free b c) (other.error_free b c)) k) ∙ i back back-closed
+
+-- ---- boxes that stay
+
+-- a box that stays as it was, over kept boxes: what it names ranges over the same kept box as before, and it and the boxes under it are open as before
+pub record Still (bs hs : List Node) (kept : ℕ → Bool) (n : Node) : Type 0 where
+  pub before : In n bs
+  pub after : In n hs
+  pub number : kept n.id ≡ true
+  pub over : (r : OwnedQuant) → In r n.quants → kept r.over ≡ true
+  pub named : (r : OwnedQuant) → holds r.id (named_by n) ≡ true → IsOwned bs r → (kept r.over ≡ true) × ((s : OwnedQuant) × (IsOwned hs s × ((s.id ≡ r.id) × (s.over ≡ r.over))))
+  pub shut : is_closed hs n.id ≡ is_closed bs n.id
+  pub shut_over : (r : OwnedQuant) → In r n.quants → is_closed hs r.over ≡ is_closed bs r.over
+
+-- facts of kept boxes, of the first set and of the second
+pub record Carried (f g : Facts) (kept : ℕ → Bool) : Type 0 where
+  pub clean : (b : ℕ) → kept b ≡ true → f.clean b ≡ true → g.clean b ≡ true
+  pub error_free : (b k : ℕ) → kept b ≡ true → f.error_free b k ≡ true → g.error_free b k ≡ true
+
+module _ (bs hs : List Node) (root : ℕ) (w : Sound bs root) (v : Sound hs root) (kept : ℕ → Bool) where
+  -- a quantifier of some boxes, by its number
+  range-is : (xs : List Node) → Sound xs root → (known : ℕ → Bool) (r : OwnedQuant) → IsOwned xs r → of_quant xs known r.id ≡ known r.over
+  range-is xs x known r o = ap (of_over false known) (owner-of xs x.once o.0 r o.1.0 o.1.1)
+
+  module _ (f g : Facts) (c : Carried f g kept) (n : Node) (s : Still bs hs kept n) where
+    pub overs-clean : OfOvers n.quants f.clean g.clean
+    overs-clean r i h = c.clean r.over (s.over r i) h
+
+    pub overs-free : (k : ℕ) → OfOvers n.quants (λ b. f.error_free b k) (λ b. g.error_free b k)
+    overs-free k r i h = c.error_free r.over k (s.over r i) h
+
+    -- a column that it names
+    pub column-still : (x : Column) → In x (columns_of n) → ef_of bs f x.quant x.place ≡ true → ef_of hs g x.quant x.place ≡ true
+    column-still x i h =
+        let m = column-named x.quant x.place n (any-from (is_at x.quant x.place) x (columns_of n) i (and_from (x.quant == x.quant) (x.place == x.place) (eq-itself x.quant) (eq-itself x.place))) in
+        let o = found bs root w n s.before x.quant m in
+        let own : IsOwned bs o.quant = (o.owner, (o.owner_in, o.quant_in)) in
+        let t = s.named o.quant (subst (λ q. holds q (named_by n) ≡ true) (sym o.is_q) m) own in
+        let was : f.error_free o.quant.over x.place ≡ true = sym (range-is bs w (λ b. f.error_free b x.place) o.quant own) ∙ ap (λ q. error_free_under bs f q x.place) o.is_q ∙ h in
+        subst (λ q. error_free_under hs g q x.place ≡ true) (t.1.1.1.0 ∙ o.is_q)
+        (range-is hs v (λ b. g.error_free b x.place) t.1.0 t.1.1.0 ∙ subst (λ b. g.error_free b x.place ≡ true) (sym t.1.1.1.1) (c.error_free o.quant.over x.place t.0 was))
+
+    module _ (fit : list_all (node_fits n.quants) (nodes_of n) ≡ true) (single : (r : OwnedQuant) → In r n.quants → is_S r.kind ≡ true → g.at_most_one r.over ≡ true) where
+      -- what is known of the box under an own quantifier
+      own-before : (known : ℕ → Bool) (r : OwnedQuant) (q : ℕ) → In r n.quants → r.id ≡ q → of_quant bs known q ≡ true → known r.over ≡ true
+      own-before known r q i e h = sym (range-is bs w known r (n, (s.before, i))) ∙ ap (of_quant bs known) e ∙ h
+
+      own-after : (known : ℕ → Bool) (r : OwnedQuant) (q : ℕ) → In r n.quants → r.id ≡ q → known r.over ≡ true → of_quant hs known q ≡ true
+      own-after known r q i e h = sym (ap (of_quant hs known) e) ∙ range-is hs v known r (n, (s.after, i)) ∙ h
+
+      own-clean : (r : OwnedQuant) (q : ℕ) → In r n.quants → r.id ≡ q → cl_of bs f q ≡ true → cl_of hs g q ≡ true
+      own-clean r q i e h = own-after g.clean r q i e (c.clean r.over (s.over r i) (own-before f.clean r q i e h))
+
+      -- a quantifier of one of its nodes
+      among : (p : QuantKind → Bool) (q : ℕ) → is_among p q n.quants ≡ true → (r : OwnedQuant) × (In r n.quants × ((r.id ≡ q) × (p r.kind ≡ true)))
+      among p q h =
+          let x = any-in (λ (r : OwnedQuant). is_quant q r && p r.kind) n.quants h in
+          let t = and_parts (is_quant q x.0) (p x.0.kind) x.1.1 in
+          (x.0, (x.1.0, (eqb-true x.0.id q t.0, t.1)))
+
+      node-still : (z : QuantNode) → node_fits n.quants z ≡ true → SameNode (ef_of bs f) (ef_of hs g) (cl_of bs f) (cl_of hs g) (one_of bs f) (one_of hs g) z
+      node-still (node.Scalar q) h =
+          let x = among is_S q h in (
+            own-clean x.0 q x.1.0 x.1.1.0,
+            (
+              own-after g.at_most_one x.0 q x.1.0 x.1.1.0 (single x.0 x.1.0 x.1.1.1),
+              λ t. own-after (λ b. g.error_free b 1) x.0 q x.1.0 x.1.1.0 (c.error_free x.0.over 1 (s.over x.0 x.1.0) (own-before (λ b. f.error_free b 1) x.0 q x.1.0 x.1.1.0 t)),
+            ),
+          )
+      node-still (node.Some q) h = let x = among is_E q h in own-clean x.0 q x.1.0 x.1.1.0
+      node-still (node.Every q) h = let x = among is_A q h in own-clean x.0 q x.1.0 x.1.1.0
+
+      pub nodes-still : SameNodes (ef_of bs f) (ef_of hs g) (cl_of bs f) (cl_of hs g) (one_of bs f) (one_of hs g) (nodes_of n)
+      nodes-still z i = node-still z (all-in (node_fits n.quants) z (nodes_of n) fit i)
+
+      module _ (ns : has_no_single n ≡ true) where
+        pub clean-still : clean_by bs f n.parts.kind n ≡ true → clean_by hs g n.parts.kind n ≡ true
+        clean-still = clean-same bs hs f g n column-still nodes-still ns overs-clean overs-free n.parts.kind
+
+        pub free-still : (k : ℕ) → free_by bs f n.parts.kind n k ≡ true → free_by hs g n.parts.kind n k ≡ true
+        free-still = free-same bs hs f g n column-still nodes-still ns overs-clean overs-free (c.clean n.id s.number) n.parts.kind
+
+-- ---- firm boxes stay firm
+
+-- a box that may be firm is there after with its kind, role and quantifiers, without conditions if it had none, and as open as before over boxes as open as before
+pub record FirmStays (bs hs : List Node) (kept : ℕ → Bool) (u : Node) : Type 0 where
+  pub n : Node
+  pub after : In n hs
+  pub id : n.id ≡ u.id
+  pub kind : n.parts.kind ≡ u.parts.kind
+  pub role : n.parts.role ≡ u.parts.role
+  pub conds : u.parts.conds.items ≡ [] → n.parts.conds.items ≡ []
+  pub quants : n.quants ≡ u.quants
+  pub over : (r : OwnedQuant) → In r u.quants → kept r.over ≡ true
+  pub shut : is_closed hs u.id ≡ is_closed bs u.id
+  pub shut_over : (r : OwnedQuant) → In r u.quants → is_closed hs r.over ≡ is_closed bs r.over
+
+pub still-firm : (bs hs : List Node) (kept : ℕ → Bool) (n : Node) → Still bs hs kept n → FirmStays bs hs kept n
+still-firm bs hs kept n s = record {
+  n = n;
+  after = s.after;
+  id = refl;
+  kind = refl;
+  role = refl;
+  conds = λ e. e;
+  quants = refl;
+  over = s.over;
+  shut = s.shut;
+  shut_over = s.shut_over;
+}
+
+module _ (bs hs : List Node) (kept : ℕ → Bool) (each : (u : Node) → In u bs → kept u.id ≡ true → FirmStays bs hs kept u ⊎ (IsFirm bs u.id → ⊥)) where
+  pub firm-stays : (b : ℕ) → IsFirm bs b → kept b ≡ true → IsFirm hs b
+  firm-stays _ (grouped u r i j e) k = elim (each u i k) [
+    | inr z ↦ absurd (z (grouped u r i j e))
+    | inl x ↦ subst (IsFirm hs) x.id (grouped x.n r x.after (subst (λ (rs : List OwnedQuant). In r rs) (sym x.quants) j) (x.kind ∙ e))
+  ]
+  firm-stays _ (joined u i e p c under shut) k = elim (each u i k) [
+    | inr z ↦ absurd (z (joined u i e p c under shut))
+    | inl x ↦ subst (IsFirm hs) x.id (
+        joined x.n x.after (x.kind ∙ e) (x.role ∙ p) (x.conds c)
+        (λ r j f. (let y = subst (λ (rs : List OwnedQuant). In r rs) x.quants j in firm-stays r.over (under r y f) (x.over r y)))
+        (λ t r j f. (
+        let y = subst (λ (rs : List OwnedQuant). In r rs) x.quants j in
+        x.shut_over r y ∙ shut (sym x.shut ∙ ap (is_closed hs) (sym x.id) ∙ t) r y f)))
+  ]
+
+-- ---- what makes a box settled
+
+pub settled-from : (hs : List Node) (g : Facts) (root : ℕ) (n : Node) → clean_below hs g root n ≡ true → list_all (calm_column hs g n) (columns_of n) ≡ true → (not (is_magic n.parts.role) || calm_magic hs g n) ≡ true → has_no_single n ≡ true
+    → ((r : OwnedQuant) → In r n.quants → is_S r.kind ≡ true → IsFirm hs r.over) → ((b : ℕ) → IsFirm hs b → g.at_most_one b ≡ true) → SettledBox hs g root n
+settled-from hs g root n below columns magic ns firm single = record {
+  calm = and_from (clean_below hs g root n && list_all (calm_column hs g n) (columns_of n)) (list_all (calm_scalar hs g) n.quants && (not (is_magic n.parts.role) || calm_magic hs g n))
+      (and_from (clean_below hs g root n) (list_all (calm_column hs g n) (columns_of n)) below columns)
+      (and_from (list_all (calm_scalar hs g) n.quants) (not (is_magic n.parts.role) || calm_magic hs g n) (all-from (calm_scalar hs g) n.quants each) magic);
+  no_single = ns;
+  scalars = firm;
+}
+  where
+    each : (r : OwnedQuant) → In r n.quants → calm_scalar hs g r ≡ true
+    each r i = elim (cases_Bool (is_S r.kind)) [
+      | inr e ↦ or_left (not (is_S r.kind)) (is_closed hs r.over || (g.at_most_one r.over || g.error_free r.over 1)) (ap not e)
+      | inl t ↦ or_right (not (is_S r.kind)) (is_closed hs r.over || (g.at_most_one r.over || g.error_free r.over 1)) (or_right (is_closed hs r.over) (g.at_most_one r.over || g.error_free r.over 1) (or_left (g.at_most_one r.over) (g.error_free r.over 1) (single r.over (firm r i t))))
+    ]
+
+-- ---- boxes that stay are settled after
+
+module _ (bs hs : List Node) (root : ℕ) (w : Sound bs root) (v : Sound hs root) (kept : ℕ → Bool) (f g : Facts) (c : Carried f g kept) (n : Node) (s : Still bs hs kept n) (x : SettledBox bs f root n)
+    (firm : (r : OwnedQuant) → In r n.quants → is_S r.kind ≡ true → IsFirm hs r.over) (single : (b : ℕ) → IsFirm hs b → g.at_most_one b ≡ true) where
+  was : (clean_below bs f root n && list_all (calm_column bs f n) (columns_of n)) ≡ true
+  was = (and_parts (clean_below bs f root n && list_all (calm_column bs f n) (columns_of n)) (list_all (calm_scalar bs f) n.quants && (not (is_magic n.parts.role) || calm_magic bs f n)) x.calm).0
+
+  was-magic : (not (is_magic n.parts.role) || calm_magic bs f n) ≡ true
+  was-magic = (and_parts (list_all (calm_scalar bs f) n.quants) (not (is_magic n.parts.role) || calm_magic bs f n) (and_parts (clean_below bs f root n && list_all (calm_column bs f n) (columns_of n)) (list_all (calm_scalar bs f) n.quants && (not (is_magic n.parts.role) || calm_magic bs f n)) x.calm).1).1
+
+  now-clean : clean_below hs g root n ≡ true
+  now-clean = elim (or_cases (n.id == root) (f.clean n.id) (and_parts (clean_below bs f root n) (list_all (calm_column bs f n) (columns_of n)) was).0) [
+    | inl t ↦ or_left (n.id == root) (g.clean n.id) t
+    | inr t ↦ or_right (n.id == root) (g.clean n.id) (c.clean n.id s.number t)
+  ]
+
+  now-columns : list_all (calm_column hs g n) (columns_of n) ≡ true
+  now-columns = all-from (calm_column hs g n) (columns_of n) (λ y i. (
+      elim (or_cases (owns y.quant n) (error_free_under bs f y.quant y.place) (all-in (calm_column bs f n) y (columns_of n) (and_parts (clean_below bs f root n) (list_all (calm_column bs f n) (columns_of n)) was).1 i)) [
+        | inl t ↦ or_left (owns y.quant n) (error_free_under hs g y.quant y.place) t
+        | inr t ↦ or_right (owns y.quant n) (error_free_under hs g y.quant y.place) (column-still bs hs root w v kept f g c n s y i t)
+      ]))
+
+  now-magic : (not (is_magic n.parts.role) || calm_magic hs g n) ≡ true
+  now-magic = elim (or_cases (not (is_magic n.parts.role)) (calm_magic bs f n) was-magic) [
+    | inl t ↦ or_left (not (is_magic n.parts.role)) (calm_magic hs g n) t
+    | inr t ↦ or_right (not (is_magic n.parts.role)) (calm_magic hs g n) (
+        let a = and_parts (is_closed bs n.id) (all_under (is_closed bs) n.quants && all_places (width n) (f.error_free n.id)) t in
+        let b = and_parts (all_under (is_closed bs) n.quants) (all_places (width n) (f.error_free n.id)) a.1 in
+        and_from (is_closed hs n.id) (all_under (is_closed hs) n.quants && all_places (width n) (g.error_free n.id)) (s.shut ∙ a.0)
+        (and_from (all_under (is_closed hs) n.quants) (all_places (width n) (g.error_free n.id))
+        (all-from (λ r. is_closed hs r.over) n.quants (λ r i. s.shut_over r i ∙ all-in (λ r. is_closed bs r.over) r n.quants b.0 i))
+        (places-of (width n) (f.error_free n.id) (g.error_free n.id) (λ k. c.error_free n.id k s.number) b.1)))
+  ]
+
+  pub still-settled : SettledBox hs g root n
+  still-settled = settled-from hs g root n now-clean now-columns now-magic x.no_single firm single
