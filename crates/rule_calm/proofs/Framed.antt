@@ -11,6 +11,7 @@ use Rattle.qgm_core.specs.declared.kinds.BoxKind.{BoxKind}
 use Rattle.qgm_core.specs.declared.kinds.QuantKind.{QuantKind}
 use Rattle.qgm_core.specs.declared.node.Node.{Node}
 use Rattle.qgm_core.specs.declared.owned.OwnedQuant.{OwnedQuant}
+use Rattle.qgm_terms.specs.Terms.{Cond, Term}
 use Rattle.qgm_terms.specs.declared.named.Column.{Column}
 use Rattle.qgm_terms.specs.declared.named.QuantNode.{QuantNode}
 use Rattle.qgm_terms.specs.declared.named.QuantNode.TheVariants as node
@@ -24,11 +25,11 @@ use Rattle.qgm_edit_laws.proofs.Scope.{in-first}
 use Rattle.qgm_edit_laws.proofs.TypedKept.{found}
 use Rattle.qgm_props.specs.Calm.{calm_column, calm_magic, calm_scalar, clean_below, is_closed}
 use Rattle.qgm_props.specs.Laws.{Tells}
-use Rattle.qgm_props.specs.Inferred.{Closed, Facts, Inferred, all_places, all_under, all_under_F, at_most_one, at_most_one_by, clean, clean_by, error_free, error_free_under, exactly_one, exactly_one_by, free_by, no_cond, not_null, of_box, of_over, of_quant, under_first}
+use Rattle.qgm_props.specs.Inferred.{Closed, Facts, Inferred, all_places, all_under, all_under_F, at_most_one, at_most_one_by, clean, clean_by, cond_free, error_free, error_free_under, exactly_one, exactly_one_by, free_by, is_free, no_cond, not_null, of_box, of_over, of_quant, under_first}
 use Rattle.qgm_props.proofs.Monotone.{least}
 use Rattle.rule_calm.specs.Settled.{IsFirm, SettledBox, grouped, has_no_single, joined}
 use Rattle.rule_calm.proofs.FreeTerms.{SameNode, SameNodes, cl_of, ef_of, one_of}
-use Rattle.rule_calm.proofs.SameFacts.{OfOvers, clean-same, free-same, places-of}
+use Rattle.rule_calm.proofs.SameFacts.{OfOvers, cell-same, clean-same, cond-same, free-same, places-of}
 
 -- ---- facts to which no sentence adds
 
@@ -139,6 +140,16 @@ pub record Still (bs hs : List Node) (kept : ℕ → Bool) (n : Node) : Type 0 w
   pub shut : is_closed hs n.id ≡ is_closed bs n.id
   pub shut_over : (r : OwnedQuant) → In r n.quants → is_closed hs r.over ≡ is_closed bs r.over
 
+-- a box over kept boxes, of which the quantifiers are there after, over the same kept boxes; so are those that it names
+pub record Names (bs hs : List Node) (kept : ℕ → Bool) (n : Node) : Type 0 where
+  pub before : In n bs
+  pub over : (r : OwnedQuant) → In r n.quants → kept r.over ≡ true
+  pub owned : (r : OwnedQuant) → In r n.quants → IsOwned hs r
+  pub named : (r : OwnedQuant) → holds r.id (named_by n) ≡ true → IsOwned bs r → (kept r.over ≡ true) × ((s : OwnedQuant) × (IsOwned hs s × ((s.id ≡ r.id) × (s.over ≡ r.over))))
+
+pub still-names : (bs hs : List Node) (kept : ℕ → Bool) (n : Node) → Still bs hs kept n → Names bs hs kept n
+still-names bs hs kept n s = record { before = s.before; over = s.over; owned = λ r i. (n, (s.after, i)); named = s.named }
+
 -- facts of kept boxes, of the first set and of the second
 pub record Carried (f g : Facts) (kept : ℕ → Bool) : Type 0 where
   pub clean : (b : ℕ) → kept b ≡ true → f.clean b ≡ true → g.clean b ≡ true
@@ -149,7 +160,7 @@ module _ (bs hs : List Node) (root : ℕ) (w : Sound bs root) (v : Sound hs root
   range-is : (xs : List Node) → Sound xs root → (known : ℕ → Bool) (r : OwnedQuant) → IsOwned xs r → of_quant xs known r.id ≡ known r.over
   range-is xs x known r o = ap (of_over false known) (owner-of xs x.once o.0 r o.1.0 o.1.1)
 
-  module _ (f g : Facts) (c : Carried f g kept) (n : Node) (s : Still bs hs kept n) where
+  module _ (f g : Facts) (c : Carried f g kept) (n : Node) (s : Names bs hs kept n) where
     pub overs-clean : OfOvers n.quants f.clean g.clean
     overs-clean r i h = c.clean r.over (s.over r i) h
 
@@ -173,7 +184,7 @@ module _ (bs hs : List Node) (root : ℕ) (w : Sound bs root) (v : Sound hs root
       own-before known r q i e h = sym (range-is bs w known r (n, (s.before, i))) ∙ ap (of_quant bs known) e ∙ h
 
       own-after : (known : ℕ → Bool) (r : OwnedQuant) (q : ℕ) → In r n.quants → r.id ≡ q → known r.over ≡ true → of_quant hs known q ≡ true
-      own-after known r q i e h = sym (ap (of_quant hs known) e) ∙ range-is hs v known r (n, (s.after, i)) ∙ h
+      own-after known r q i e h = sym (ap (of_quant hs known) e) ∙ range-is hs v known r (s.owned r i) ∙ h
 
       own-clean : (r : OwnedQuant) (q : ℕ) → In r n.quants → r.id ≡ q → cl_of bs f q ≡ true → cl_of hs g q ≡ true
       own-clean r q i e h = own-after g.clean r q i e (c.clean r.over (s.over r i) (own-before f.clean r q i e h))
@@ -204,8 +215,15 @@ module _ (bs hs : List Node) (root : ℕ) (w : Sound bs root) (v : Sound hs root
         pub clean-still : clean_by bs f n.parts.kind n ≡ true → clean_by hs g n.parts.kind n ≡ true
         clean-still = clean-same bs hs f g n column-still nodes-still ns overs-clean overs-free n.parts.kind
 
-        pub free-still : (k : ℕ) → free_by bs f n.parts.kind n k ≡ true → free_by hs g n.parts.kind n k ≡ true
-        free-still = free-same bs hs f g n column-still nodes-still ns overs-clean overs-free (c.clean n.id s.number) n.parts.kind
+        pub free-still : (f.clean n.id ≡ true → g.clean n.id ≡ true) → (k : ℕ) → free_by bs f n.parts.kind n k ≡ true → free_by hs g n.parts.kind n k ≡ true
+        free-still here = free-same bs hs f g n column-still nodes-still ns overs-clean overs-free here n.parts.kind
+
+        -- a cell, and a condition
+        pub cell-still : (x : Term) (s two : Bool) → In x n.parts.head → is_free bs f s x ≡ true → is_free hs g two x ≡ true
+        cell-still x s two i h = cell-same bs hs f g n column-still nodes-still ns s two x i h
+
+        pub cond-still : (p : Cond) (s two : Bool) → In p n.parts.conds.items → cond_free bs f s p ≡ true → cond_free hs g two p ≡ true
+        cond-still p s two i h = cond-same bs hs f g n column-still nodes-still ns s two p i h
 
 -- ---- firm boxes stay firm
 
@@ -290,7 +308,7 @@ module _ (bs hs : List Node) (root : ℕ) (w : Sound bs root) (v : Sound hs root
   now-columns = all-from (calm_column hs g n) (columns_of n) (λ y i. (
       elim (or_cases (owns y.quant n) (error_free_under bs f y.quant y.place) (all-in (calm_column bs f n) y (columns_of n) (and_parts (clean_below bs f root n) (list_all (calm_column bs f n) (columns_of n)) was).1 i)) [
         | inl t ↦ or_left (owns y.quant n) (error_free_under hs g y.quant y.place) t
-        | inr t ↦ or_right (owns y.quant n) (error_free_under hs g y.quant y.place) (column-still bs hs root w v kept f g c n s y i t)
+        | inr t ↦ or_right (owns y.quant n) (error_free_under hs g y.quant y.place) (column-still bs hs root w v kept f g c n (still-names bs hs kept n s) y i t)
       ]))
 
   now-magic : (not (is_magic n.parts.role) || calm_magic hs g n) ≡ true

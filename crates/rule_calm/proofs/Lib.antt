@@ -1,5 +1,5 @@
-mod MagicPlaces
-mod CalmCloses
+pub mod MagicPlaces
+pub mod CalmCloses
 mod FreeTerms
 mod SameFacts
 mod Framed
@@ -7,3 +7,4 @@ mod Shut
 mod RebuiltSettled
 mod PartFacts
 mod CompactSettled
+mod HeadPlaces

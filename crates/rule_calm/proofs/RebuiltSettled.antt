@@ -17,7 +17,7 @@ use Rattle.qgm_edit_laws.proofs.ShapeParts.{shape-parts}
 use Rattle.qgm_props.specs.Inferred.{Closed, Facts, clean, error_free}
 use Rattle.qgm_props.specs.Laws.{Tells}
 use Rattle.rule_calm.specs.Settled.{IsFirm, SettledBox, has_no_single}
-use Rattle.rule_calm.proofs.Framed.{Carried, Covers, Still, back, clean-still, firm-single, free-still, kept-clean, kept-free, known-clean, known-free, still-settled}
+use Rattle.rule_calm.proofs.Framed.{Carried, Covers, Still, back, clean-still, firm-single, free-still, kept-clean, kept-free, known-clean, known-free, still-names, still-settled}
 use Rattle.rule_calm.proofs.Shut.{shut-same}
 
 -- the nodes of a box are of its own quantifiers
@@ -33,8 +33,8 @@ module _ (bs hs : List Node) (root : ℕ) (w : Sound bs root) (v : Sound hs root
   -- so it stands, with what is told of the boxes that aren't kept
   pub still-covers : (other : Facts) → (n : Node) → Still bs hs kept n → Covers bs hs g kept other n
   still-covers other n s = record {
-    clean = λ h. to-clean (known-clean hs v.ordered g closed n s.after (clean-still bs hs root w v kept (back bs hs g kept other) g carried n s fit single ns h));
-    error_free = λ k l h. to-free k (known-free hs v.ordered g closed n s.after k l (free-still bs hs root w v kept (back bs hs g kept other) g carried n s fit single ns k h));
+    clean = λ h. to-clean (known-clean hs v.ordered g closed n s.after (clean-still bs hs root w v kept (back bs hs g kept other) g carried n (still-names bs hs kept n s) fit single ns h));
+    error_free = λ k l h. to-free k (known-free hs v.ordered g closed n s.after k l (free-still bs hs root w v kept (back bs hs g kept other) g carried n (still-names bs hs kept n s) fit single ns (carried.clean n.id s.number) k h));
   }
     where
       fit : list_all (node_fits n.quants) (nodes_of n) ≡ true
