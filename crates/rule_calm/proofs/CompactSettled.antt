@@ -1,5 +1,5 @@
 -- A settled graph stays settled without the boxes that the root doesn't reach.
-use Rattle.std.proofs.Common.{ℕ, ◌≡◌, Bool, true, List, [], ◌∷◌, cond, sym, ap, subst, inl, inr}
+use Rattle.std.proofs.Common.{ℕ, ◌≡◌, Bool, true, List, [], ◌∷◌, sym, ap, subst, inl, inr}
 use Rattle.std.proofs.lemmas.Bool.{cases_Bool}
 use Rattle.list_laws.specs.Lists.{In, holds}
 use Rattle.qgm_core.specs.Boxes.{QueryGraph, has_box}
@@ -19,7 +19,7 @@ use Rattle.qgm_props.specs.Inferred.{Facts}
 use Rattle.qgm_props.specs.Laws.{Tells}
 use Rattle.qgm_props.proofs.Settled.{all-told}
 use Rattle.rule_calm.specs.Settled.{IsFirm, IsSettled}
-use Rattle.rule_calm.proofs.Framed.{Carried, Still, firm-stays, nothing_bad, still-firm, told-closed}
+use Rattle.rule_calm.proofs.Framed.{Carried, Still, firm-stays, gone-covers, still-firm, told-closed}
 use Rattle.rule_calm.proofs.RebuiltSettled.{carries, still-is-settled}
 use Rattle.rule_calm.proofs.Shut.{shut-same}
 
@@ -66,12 +66,9 @@ module _ (g : QueryGraph) (w : Sound g.boxes g.root) (sh : Shaped g.boxes g.root
   tells = (all-told ks).1
 
   carried : Carried s.known known keep
-  carried = carries g.boxes ks g.root w v sh keep s.known known (told-closed ks known tells) s.each firm nothing_bad s.tells (λ n i. elim (cases_Bool (keep n.id)) [
+  carried = carries g.boxes ks g.root w v sh keep s.known known (told-closed ks known tells) s.each firm s.tells (λ n i. elim (cases_Bool (keep n.id)) [
     | inl k ↦ inl (stays n i k)
-    | inr e ↦ inr (record {
-        clean = λ h. ap (λ z. cond z (known.clean n.id) true) e;
-        error_free = λ k l h. ap (λ z. cond z (known.error_free n.id k) true) e;
-      })
+    | inr e ↦ inr (gone-covers g.boxes ks s.known known keep n e)
   ])
 
   pub compact-settled : IsSettled (compact g)

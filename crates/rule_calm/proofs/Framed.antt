@@ -3,6 +3,7 @@ use Rattle.std.proofs.Common.{ℕ, ◌==◌, ◌≡◌, ◌&&◌, ◌||◌, nat_
 use Rattle.std.specs.List.{list_all}
 use Rattle.std.proofs.lemmas.Bool.{and_from, and_parts, cases_Bool, or_cases, or_left, or_right}
 use Rattle.list_laws.specs.Lists.{In, first, holds}
+use Rattle.list_laws.proofs.Booleans.{clash}
 use Rattle.list_laws.proofs.Membership.{all-from, all-in, any-from, any-in, eq-itself}
 use Rattle.qgm_core.specs.Boxes.{Ordered, is_box, is_quant, owns, width}
 use Rattle.qgm_core.specs.Free.{named_by}
@@ -25,8 +26,8 @@ use Rattle.qgm_edit_laws.proofs.Scope.{in-first}
 use Rattle.qgm_edit_laws.proofs.TypedKept.{found}
 use Rattle.qgm_props.specs.Calm.{calm_column, calm_magic, calm_scalar, clean_below, is_closed}
 use Rattle.qgm_props.specs.Laws.{Tells}
-use Rattle.qgm_props.specs.Inferred.{Closed, Facts, Inferred, all_places, all_under, all_under_F, at_most_one, at_most_one_by, clean, clean_by, cond_free, error_free, error_free_under, exactly_one, exactly_one_by, free_by, is_free, no_cond, not_null, of_box, of_over, of_quant, under_first}
-use Rattle.qgm_props.proofs.Monotone.{least}
+use Rattle.qgm_props.specs.Inferred.{Closed, Fact, Facts, all_places, all_under, all_under_F, at_most_one, at_most_one_by, clean, clean_by, cond_free, error_free, error_free_under, exactly_one, exactly_one_by, free_by, inferred_once, is_free, no_cond, not_null, of_box, of_over, of_quant, says, under_first}
+use Rattle.qgm_props.proofs.Monotone.{least, once-below}
 use Rattle.rule_calm.specs.Settled.{IsFirm, SettledBox, grouped, has_no_single, joined}
 use Rattle.rule_calm.proofs.FreeTerms.{SameNode, SameNodes, cl_of, ef_of, one_of}
 use Rattle.rule_calm.proofs.SameFacts.{OfOvers, cell-same, clean-same, cond-same, free-same, places-of}
@@ -76,59 +77,83 @@ module _ (hs : List Node) (o : Ordered hs) (known : Facts) (closed : Closed hs k
 
 -- ---- facts of before by facts of after
 
--- all is clean and no column holds an error
-abbrev pub nothing_bad : Facts
-nothing_bad = record { clean = λ b. true; error_free = λ b k. true; not_null = λ b k. true; at_most_one = λ b. true; exactly_one = λ b. true }
-
 -- to what is told of boxes no sentence adds
 pub told-closed : (ns : List Node) (known : Facts) → Tells known ns → Closed ns known
 told-closed ns known tells fact h = (tells fact).1 (least ns known (λ x s. (tells x).0 s) fact h)
 
-module _ (bs hs : List Node) (known : Facts) (kept : ℕ → Bool) (other : Facts) where
-  -- what is known after of the boxes that are kept, and what is told of the others; rows aren't counted
+module _ (bs hs : List Node) (f g : Facts) (kept : ℕ → Bool) where
+  -- what is known before, where it is known after too of the boxes that are kept
   abbrev pub back : Facts
   back = record {
-    clean = λ b. cond (kept b) (known.clean b) (other.clean b);
-    error_free = λ b k. cond (kept b) (known.error_free b k) (other.error_free b k);
-    not_null = λ b k. true;
-    at_most_one = λ b. true;
-    exactly_one = λ b. true;
+    clean = λ b. f.clean b && cond (kept b) (g.clean b) true;
+    error_free = λ b k. f.error_free b k && cond (kept b) (g.error_free b k) true;
+    not_null = f.not_null;
+    at_most_one = f.at_most_one;
+    exactly_one = f.exactly_one;
   }
 
-  -- no sentence adds to what is told of this box
+  -- no sentence adds to what is known of this box before and after
   pub record Covers (n : Node) : Type 0 where
-    pub clean : clean_by bs back n.parts.kind n ≡ true → back.clean n.id ≡ true
-    pub error_free : (k : ℕ) → (nat_lt 0 k && nat_le k (width n)) ≡ true → free_by bs back n.parts.kind n k ≡ true → back.error_free n.id k ≡ true
+    pub clean : kept n.id ≡ true → f.clean n.id ≡ true → clean_by bs back n.parts.kind n ≡ true → g.clean n.id ≡ true
+    pub error_free : (k : ℕ) → kept n.id ≡ true → f.error_free n.id k ≡ true → (nat_lt 0 k && nat_le k (width n)) ≡ true → free_by bs back n.parts.kind n k ≡ true → g.error_free n.id k ≡ true
 
-  module _ (o : Ordered bs) (covers : (n : Node) → In n bs → Covers n) where
+  -- of a box that isn't kept nothing is asked
+  pub gone-covers : (n : Node) → kept n.id ≡ false → Covers n
+  gone-covers n e = record { clean = λ k x h. absurd (clash (kept n.id) k e); error_free = λ c k x l h. absurd (clash (kept n.id) k e) }
+
+  less : (fact : Fact) → says back fact ≡ true → says f fact ≡ true
+  less (clean b) h = (and_parts (f.clean b) (cond (kept b) (g.clean b) true) h).0
+  less (error_free b k) h = (and_parts (f.error_free b k) (cond (kept b) (g.error_free b k) true) h).0
+  less (not_null b k) h = h
+  less (at_most_one b) h = h
+  less (exactly_one b) h = h
+
+  both-known : (k x y : Bool) → x ≡ true → (k ≡ true → y ≡ true) → (x && cond k y true) ≡ true
+  both-known true x y h w = and_from x y h (w refl)
+  both-known false x y h w = and_from x true h refl
+
+  module _ (o : Ordered bs) (tells : Tells f bs) (covers : (n : Node) → In n bs → Covers n) where
     is-there : (b : ℕ) (n : Node) → first (is_box b) bs ≡ Some n → In n bs × (n.id ≡ b)
     is-there b n e = let x = some-in (is_box b) bs n e in (x.0, eqb-true n.id b x.1)
 
+    known-before : (fact : Fact) → says (inferred_once bs back) fact ≡ true → says f fact ≡ true
+    known-before fact h = told-closed bs f tells fact (once-below bs back f less fact h)
+
     back-closed : Closed bs back
-    back-closed (clean b) h = go (first (is_box b) bs) refl h
+    back-closed (clean b) h = both-known (kept b) (f.clean b) (g.clean b) (known-before (clean b) h) (λ k. go (first (is_box b) bs) refl k (known-before (clean b) h) h)
       where
-        go : (f : Option Node) → first (is_box b) bs ≡ f → of_box false (λ n. clean_by bs back n.parts.kind n) f ≡ true → back.clean b ≡ true
-        go None e h = absurd (let z : ⊥ = cc in z)
-        go (Some n) e h = let x = is-there b n e in subst (λ z. back.clean z ≡ true) x.1 ((covers n x.0).clean h)
-    back-closed (error_free b k) h = go (first (is_box b) bs) refl h
-      where
-        go : (f : Option Node) → first (is_box b) bs ≡ f → of_box false (λ n. (nat_lt 0 k && nat_le k (width n)) && free_by bs back n.parts.kind n k) f ≡ true → back.error_free b k ≡ true
-        go None e h = absurd (let z : ⊥ = cc in z)
-        go (Some n) e h =
+        go : (x : Option Node) → first (is_box b) bs ≡ x → kept b ≡ true → f.clean b ≡ true → of_box false (λ n. clean_by bs back n.parts.kind n) x ≡ true → g.clean b ≡ true
+        go None e k y h = absurd (let z : ⊥ = cc in z)
+        go (Some n) e k y h =
             let x = is-there b n e in
-            let p = and_parts (nat_lt 0 k && nat_le k (width n)) (free_by bs back n.parts.kind n k) h in
-            subst (λ z. back.error_free z k ≡ true) x.1 ((covers n x.0).error_free k p.0 p.1)
-    back-closed (not_null b k) h = refl
-    back-closed (at_most_one b) h = refl
-    back-closed (exactly_one b) h = refl
+            subst (λ z. g.clean z ≡ true) x.1 ((covers n x.0).clean (ap kept x.1 ∙ k) (ap f.clean x.1 ∙ y) h)
+    back-closed (error_free b c) h = both-known (kept b) (f.error_free b c) (g.error_free b c) (known-before (error_free b c) h) (λ k. go (first (is_box b) bs) refl k (known-before (error_free b c) h) h)
+      where
+        go : (x : Option Node) → first (is_box b) bs ≡ x → kept b ≡ true → f.error_free b c ≡ true → of_box false (λ n. (nat_lt 0 c && nat_le c (width n)) && free_by bs back n.parts.kind n c) x ≡ true → g.error_free b c ≡ true
+        go None e k y h = absurd (let z : ⊥ = cc in z)
+        go (Some n) e k y h =
+            let x = is-there b n e in
+            let p = and_parts (nat_lt 0 c && nat_le c (width n)) (free_by bs back n.parts.kind n c) h in
+            subst (λ z. g.error_free z c ≡ true) x.1 ((covers n x.0).error_free c (ap kept x.1 ∙ k) (ap (λ z. f.error_free z c) x.1 ∙ y) p.0 p.1)
+    back-closed (not_null b k) h = known-before (not_null b k) h
+    back-closed (at_most_one b) h = known-before (at_most_one b) h
+    back-closed (exactly_one b) h = known-before (exactly_one b) h
 
-    pub kept-clean : (b : ℕ) → kept b ≡ true → Inferred bs (clean b) → known.clean b ≡ true
-    kept-clean b k i = sym (ap (λ z. cond z (known.clean b) (other.clean b)) k) ∙ i back back-closed
+    pub kept-clean : (b : ℕ) → kept b ≡ true → f.clean b ≡ true → g.clean b ≡ true
+    kept-clean b k x =
+        let y = (and_parts (f.clean b) (cond (kept b) (g.clean b) true) ((tells (clean b)).0 x back back-closed)).1 in
+        sym (ap (λ z. cond z (g.clean b) true) k) ∙ y
 
-    pub kept-free : (b c : ℕ) → kept b ≡ true → Inferred bs (error_free b c) → known.error_free b c ≡ true
-    kept-free b c k i = sym (ap (λ z. cond z (known.error_free b c) (other.error_free b c)) k) ∙ i back back-closed
+    pub kept-free : (b c : ℕ) → kept b ≡ true → f.error_free b c ≡ true → g.error_free b c ≡ true
+    kept-free b c k x =
+        let y = (and_parts (f.error_free b c) (cond (kept b) (g.error_free b c) true) ((tells (error_free b c)).0 x back back-closed)).1 in
+        sym (ap (λ z. cond z (g.error_free b c) true) k) ∙ y
 
 -- ---- boxes that stay
+
+-- after there is a quantifier of this number over the same box
+abbrev pub OwnedAs : List Node → OwnedQuant → Type 0
+OwnedAs hs r = (s : OwnedQuant) × (IsOwned hs s × ((s.id ≡ r.id) × (s.over ≡ r.over)))
 
 -- a box that stays as it was, over kept boxes: what it names ranges over the same kept box as before, and it and the boxes under it are open as before
 pub record Still (bs hs : List Node) (kept : ℕ → Bool) (n : Node) : Type 0 where
@@ -136,7 +161,7 @@ pub record Still (bs hs : List Node) (kept : ℕ → Bool) (n : Node) : Type 0 w
   pub after : In n hs
   pub number : kept n.id ≡ true
   pub over : (r : OwnedQuant) → In r n.quants → kept r.over ≡ true
-  pub named : (r : OwnedQuant) → holds r.id (named_by n) ≡ true → IsOwned bs r → (kept r.over ≡ true) × ((s : OwnedQuant) × (IsOwned hs s × ((s.id ≡ r.id) × (s.over ≡ r.over))))
+  pub named : (r : OwnedQuant) → holds r.id (named_by n) ≡ true → IsOwned bs r → (kept r.over ≡ true) × OwnedAs hs r
   pub shut : is_closed hs n.id ≡ is_closed bs n.id
   pub shut_over : (r : OwnedQuant) → In r n.quants → is_closed hs r.over ≡ is_closed bs r.over
 
@@ -144,16 +169,23 @@ pub record Still (bs hs : List Node) (kept : ℕ → Bool) (n : Node) : Type 0 w
 pub record Names (bs hs : List Node) (kept : ℕ → Bool) (n : Node) : Type 0 where
   pub before : In n bs
   pub over : (r : OwnedQuant) → In r n.quants → kept r.over ≡ true
-  pub owned : (r : OwnedQuant) → In r n.quants → IsOwned hs r
-  pub named : (r : OwnedQuant) → holds r.id (named_by n) ≡ true → IsOwned bs r → (kept r.over ≡ true) × ((s : OwnedQuant) × (IsOwned hs s × ((s.id ≡ r.id) × (s.over ≡ r.over))))
+  pub owned : (r : OwnedQuant) → In r n.quants → OwnedAs hs r
+  pub named : (r : OwnedQuant) → holds r.id (named_by n) ≡ true → IsOwned bs r → (kept r.over ≡ true) × OwnedAs hs r
 
 pub still-names : (bs hs : List Node) (kept : ℕ → Bool) (n : Node) → Still bs hs kept n → Names bs hs kept n
-still-names bs hs kept n s = record { before = s.before; over = s.over; owned = λ r i. (n, (s.after, i)); named = s.named }
+still-names bs hs kept n s = record { before = s.before; over = s.over; owned = λ r i. (r, ((n, (s.after, i)), (refl, refl))); named = s.named }
 
 -- facts of kept boxes, of the first set and of the second
 pub record Carried (f g : Facts) (kept : ℕ → Bool) : Type 0 where
   pub clean : (b : ℕ) → kept b ≡ true → f.clean b ≡ true → g.clean b ≡ true
   pub error_free : (b k : ℕ) → kept b ≡ true → f.error_free b k ≡ true → g.error_free b k ≡ true
+
+-- what is known of both is carried
+pub back-carried : (bs hs : List Node) (f g : Facts) (kept : ℕ → Bool) → Carried (back bs hs f g kept) g kept
+back-carried bs hs f g kept = record {
+  clean = λ b k h. sym (ap (λ z. cond z (g.clean b) true) k) ∙ (and_parts (f.clean b) (cond (kept b) (g.clean b) true) h).1;
+  error_free = λ b c k h. sym (ap (λ z. cond z (g.error_free b c) true) k) ∙ (and_parts (f.error_free b c) (cond (kept b) (g.error_free b c) true) h).1;
+}
 
 module _ (bs hs : List Node) (root : ℕ) (w : Sound bs root) (v : Sound hs root) (kept : ℕ → Bool) where
   -- a quantifier of some boxes, by its number
@@ -184,7 +216,9 @@ module _ (bs hs : List Node) (root : ℕ) (w : Sound bs root) (v : Sound hs root
       own-before known r q i e h = sym (range-is bs w known r (n, (s.before, i))) ∙ ap (of_quant bs known) e ∙ h
 
       own-after : (known : ℕ → Bool) (r : OwnedQuant) (q : ℕ) → In r n.quants → r.id ≡ q → known r.over ≡ true → of_quant hs known q ≡ true
-      own-after known r q i e h = sym (ap (of_quant hs known) e) ∙ range-is hs v known r (s.owned r i) ∙ h
+      own-after known r q i e h =
+          let t = s.owned r i in
+          subst (λ z. of_quant hs known z ≡ true) (t.1.1.0 ∙ e) (range-is hs v known t.0 t.1.0 ∙ subst (λ z. known z ≡ true) (sym t.1.1.1) h)
 
       own-clean : (r : OwnedQuant) (q : ℕ) → In r n.quants → r.id ≡ q → cl_of bs f q ≡ true → cl_of hs g q ≡ true
       own-clean r q i e h = own-after g.clean r q i e (c.clean r.over (s.over r i) (own-before f.clean r q i e h))

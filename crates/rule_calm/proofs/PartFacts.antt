@@ -1,22 +1,24 @@
 -- Facts of a part of a graph: of boxes that stay, over which and by which alone they range and name.
-use Rattle.std.proofs.Common.{ℕ, ◌≡◌, Bool, true, List, [], ◌∷◌, cond, ◌⊎◌, refl, ap, subst, inl, inr}
+use Rattle.std.proofs.Common.{ℕ, ◌≡◌, ◌≤◌, ◌<◌, Bool, true, List, [], ◌∷◌, ◌⊎◌, refl, subst, inl, inr, arith}
 use Rattle.std.proofs.lemmas.Bool.{cases_Bool}
 use Rattle.list_laws.specs.Lists.{In, holds}
 use Rattle.list_laws.proofs.Booleans.{clash}
 use Rattle.list_laws.proofs.Membership.{any-from, eq-itself, holds-in, in-holds}
 use Rattle.qgm_core.specs.Boxes.{is_quant, owns}
-use Rattle.qgm_core.specs.Free.{IsFree, named_by, reached}
+use Rattle.qgm_core.specs.Free.{IsFree, Reaches, itself, named_by, reached, through}
 use Rattle.qgm_core.specs.declared.node.Node.{Node}
 use Rattle.qgm_core.specs.declared.owned.OwnedQuant.{OwnedQuant}
 use Rattle.qgm_core.proofs.Reaching.{closes, reached-reaches, stays}
 use Rattle.qgm_edit_laws.specs.Graph.{Sound}
 use Rattle.qgm_edit_laws.specs.Rebuilds.{IsOwned}
 use Rattle.qgm_edit_laws.specs.Shaped.{Shaped}
+use Rattle.qgm_edit_laws.specs.Placed.{place}
+use Rattle.qgm_edit_laws.proofs.Ranks.{place-under}
 use Rattle.qgm_edit_laws.proofs.Scope.{one-owner}
 use Rattle.qgm_props.specs.Inferred.{Closed, Facts}
 use Rattle.qgm_props.specs.Laws.{Tells}
 use Rattle.rule_calm.specs.Settled.{IsFirm, SettledBox}
-use Rattle.rule_calm.proofs.Framed.{Carried, Still, nothing_bad}
+use Rattle.rule_calm.proofs.Framed.{Carried, Covers, Still, gone-covers}
 use Rattle.rule_calm.proofs.RebuiltSettled.{carries}
 
 -- what box b reaches
@@ -30,10 +32,10 @@ module _ (bs : List Node) (root : ℕ) (w : Sound bs root) where
   pub under-over : (b : ℕ) (n : Node) (r : OwnedQuant) → In n bs → In r n.quants → under bs b n.id ≡ true → under bs b r.over ≡ true
   under-over b n r i j h = in-holds r.over (reached (b ∷ []) bs) (closes (b ∷ []) bs w.ordered n r i (holds-in n.id (reached (b ∷ []) bs) h) j)
 
-  -- what is named there is free in b, or ranges over a box there
-  pub under-named : (b : ℕ) (n : Node) (r : OwnedQuant) → In n bs → under bs b n.id ≡ true → holds r.id (named_by n) ≡ true → IsOwned bs r → IsFree bs b r.id ⊎ (under bs b r.over ≡ true)
+  -- what is named there is free in b, or owned by a box there
+  pub under-named : (b : ℕ) (n : Node) (r : OwnedQuant) → In n bs → under bs b n.id ≡ true → holds r.id (named_by n) ≡ true → (o : IsOwned bs r) → IsFree bs b r.id ⊎ (under bs b o.0.id ≡ true)
   under-named b n r i h m o = elim (cases_Bool (under bs b o.0.id)) [
-    | inl t ↦ inr (under-over b o.0 r o.1.0 o.1.1 t)
+    | inl t ↦ inr t
     | inr e ↦ inl (
         (n, (i, ((reached-reaches bs w.ordered b n.id).0 h, m))),
         λ x j k. elim (cases_Bool (owns r.id x)) [
@@ -45,27 +47,33 @@ module _ (bs : List Node) (root : ℕ) (w : Sound bs root) where
       )
   ]
 
-module _ (bs hs : List Node) (root : ℕ) (w : Sound bs root) (v : Sound hs root) (sh : Shaped bs root) (f g : Facts) (tells : Tells f bs) (closed : Closed hs g)
-    (settled : (n : Node) → In n bs → SettledBox bs f root n) (kept : ℕ → Bool) (firm : (b : ℕ) → IsFirm bs b → kept b ≡ true → IsFirm hs b) (part : ℕ → Bool)
-    (still : (n : Node) → In n bs → part n.id ≡ true → Still bs hs kept n)
-    (over : (n : Node) (r : OwnedQuant) → In n bs → part n.id ≡ true → In r n.quants → part r.over ≡ true)
-    (named : (n : Node) (r : OwnedQuant) → In n bs → part n.id ≡ true → holds r.id (named_by n) ≡ true → IsOwned bs r → part r.over ≡ true)
-    (here : (b : ℕ) → part b ≡ true → kept b ≡ true) where
-  in-part : (n : Node) → In n bs → part n.id ≡ true → Still bs hs part n
-  in-part n i p =
-      let s = still n i p in
-      record {
-        before = s.before;
-        after = s.after;
-        number = p;
-        over = λ r j. over n r i p j;
-        named = λ r h o. (named n r i p h o, (s.named r h o).1);
-        shut = s.shut;
-        shut_over = s.shut_over;
-      }
+  -- a box that ranges over b isn't there
+  pub above-not-under : (b : ℕ) (n : Node) (r : OwnedQuant) → In n bs → In r n.quants → r.over ≡ b → under bs b n.id ≡ true → ⊥
+  above-not-under b n r i j e h =
+      let up : place bs n.id < place bs b = subst (λ z. place bs n.id < place bs z) e (place-under bs n r w.ordered i j) in
+      let down = reach-place b n.id ((reached-reaches bs w.ordered b n.id).0 h) in
+      omega (arith, up, down)
+    where
+      reach-place : (b c : ℕ) → Reaches bs b c → place bs b ≤ place bs c
+      reach-place b c (itself x) = omega arith
+      reach-place b c (through n r x i j k) = let l = place-under bs n r w.ordered i j in let h = reach-place r.over c k in omega (arith, l, h)
 
-  pub part-carried : Carried f g part
-  part-carried = carries bs hs root w v sh part f g closed settled (λ b x p. firm b x (here b p)) nothing_bad tells (λ n i. elim (cases_Bool (part n.id)) [
-    | inl p ↦ inl (in-part n i p)
-    | inr e ↦ inr (record { clean = λ h. ap (λ z. cond z (g.clean n.id) true) e; error_free = λ k l h. ap (λ z. cond z (g.error_free n.id k) true) e })
+module _ (bs hs : List Node) (root : ℕ) (w : Sound bs root) (v : Sound hs root) (sh : Shaped bs root) (f g : Facts) (tells : Tells f bs) (closed : Closed hs g)
+    (settled : (n : Node) → In n bs → SettledBox bs f root n) (kept : ℕ → Bool) (firm : (b : ℕ) → IsFirm bs b → kept b ≡ true → IsFirm hs b) (part : ℕ → Bool) (here : (b : ℕ) → part b ≡ true → kept b ≡ true) where
+  -- a box of the part stays, over the part, and names the part
+  pub still-in-part : (n : Node) → Still bs hs kept n → part n.id ≡ true → ((r : OwnedQuant) → In r n.quants → part r.over ≡ true) → ((r : OwnedQuant) → holds r.id (named_by n) ≡ true → IsOwned bs r → part r.over ≡ true) → Still bs hs part n
+  still-in-part n s p over named = record {
+    before = s.before;
+    after = s.after;
+    number = p;
+    over = over;
+    named = λ r h o. (named r h o, (s.named r h o).1);
+    shut = s.shut;
+    shut_over = s.shut_over;
+  }
+
+  pub part-carried : ((n : Node) → In n bs → part n.id ≡ true → Still bs hs part n ⊎ Covers bs hs f g part n) → Carried f g part
+  part-carried each = carries bs hs root w v sh part f g closed settled (λ b x p. firm b x (here b p)) tells (λ n i. elim (cases_Bool (part n.id)) [
+    | inl p ↦ each n i p
+    | inr e ↦ inr (gone-covers bs hs f g part n e)
   ])

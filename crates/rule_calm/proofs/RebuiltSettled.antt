@@ -1,5 +1,5 @@
 -- A settled graph of which a few boxes are made anew stays settled where these are, and where no more is inferred of them before than after.
-use Rattle.std.proofs.Common.{ℕ, ◌≡◌, Bool, true, false, List, cond, ◌⊎◌, sym, ap, subst, ◌∙◌, inl, inr}
+use Rattle.std.proofs.Common.{ℕ, ◌≡◌, Bool, true, false, List, ◌⊎◌, ap, subst, ◌∙◌, inl, inr}
 use Rattle.std.specs.List.{list_all}
 use Rattle.list_laws.specs.Lists.{In}
 use Rattle.list_laws.proofs.Booleans.{clash}
@@ -14,10 +14,10 @@ use Rattle.qgm_edit_laws.specs.Shaped.{Shaped}
 use Rattle.qgm_edit_laws.proofs.Ranks.{has-in, same-box}
 use Rattle.qgm_edit_laws.proofs.Rebuilt.{looks-exact, rebuilt}
 use Rattle.qgm_edit_laws.proofs.ShapeParts.{shape-parts}
-use Rattle.qgm_props.specs.Inferred.{Closed, Facts, clean, error_free}
+use Rattle.qgm_props.specs.Inferred.{Closed, Facts}
 use Rattle.qgm_props.specs.Laws.{Tells}
 use Rattle.rule_calm.specs.Settled.{IsFirm, SettledBox, has_no_single}
-use Rattle.rule_calm.proofs.Framed.{Carried, Covers, Still, back, clean-still, firm-single, free-still, kept-clean, kept-free, known-clean, known-free, still-names, still-settled}
+use Rattle.rule_calm.proofs.Framed.{Carried, Covers, Still, back, back-carried, clean-still, firm-single, free-still, kept-clean, kept-free, known-clean, known-free, still-names, still-settled}
 use Rattle.rule_calm.proofs.Shut.{shut-same}
 
 -- the nodes of a box are of its own quantifiers
@@ -30,11 +30,11 @@ module _ (bs hs : List Node) (root : ℕ) (w : Sound bs root) (v : Sound hs root
   one-under : (n : Node) → Still bs hs kept n → (r : OwnedQuant) → In r n.quants → is_S r.kind ≡ true → g.at_most_one r.over ≡ true
   one-under n s r i t = firm-single hs v.ordered g closed r.over (firm r.over ((settled n s.before).scalars r i t) (s.over r i))
 
-  -- so it stands, with what is told of the boxes that aren't kept
-  pub still-covers : (other : Facts) → (n : Node) → Still bs hs kept n → Covers bs hs g kept other n
-  still-covers other n s = record {
-    clean = λ h. to-clean (known-clean hs v.ordered g closed n s.after (clean-still bs hs root w v kept (back bs hs g kept other) g carried n (still-names bs hs kept n s) fit single ns h));
-    error_free = λ k l h. to-free k (known-free hs v.ordered g closed n s.after k l (free-still bs hs root w v kept (back bs hs g kept other) g carried n (still-names bs hs kept n s) fit single ns (carried.clean n.id s.number) k h));
+  -- so it is covered
+  pub still-covers : (n : Node) → Still bs hs kept n → Covers bs hs f g kept n
+  still-covers n s = record {
+    clean = λ k x h. known-clean hs v.ordered g closed n s.after (clean-still bs hs root w v kept (back bs hs f g kept) g carried n (still-names bs hs kept n s) fit single ns h);
+    error_free = λ c k x l h. known-free hs v.ordered g closed n s.after c l (free-still bs hs root w v kept (back bs hs f g kept) g carried n (still-names bs hs kept n s) fit single ns (carried.clean n.id s.number) c h);
   }
     where
       fit : list_all (node_fits n.quants) (nodes_of n) ≡ true
@@ -46,24 +46,15 @@ module _ (bs hs : List Node) (root : ℕ) (w : Sound bs root) (v : Sound hs root
       single : (r : OwnedQuant) → In r n.quants → is_S r.kind ≡ true → g.at_most_one r.over ≡ true
       single = one-under n s
 
-      carried : Carried (back bs hs g kept other) g kept
-      carried = record {
-        clean = λ b k h. sym (ap (λ z. cond z (g.clean b) (other.clean b)) k) ∙ h;
-        error_free = λ b c k h. sym (ap (λ z. cond z (g.error_free b c) (other.error_free b c)) k) ∙ h;
-      }
-
-      to-clean : g.clean n.id ≡ true → (back bs hs g kept other).clean n.id ≡ true
-      to-clean h = ap (λ z. cond z (g.clean n.id) (other.clean n.id)) s.number ∙ h
-
-      to-free : (k : ℕ) → g.error_free n.id k ≡ true → (back bs hs g kept other).error_free n.id k ≡ true
-      to-free k h = ap (λ z. cond z (g.error_free n.id k) (other.error_free n.id k)) s.number ∙ h
+      carried : Carried (back bs hs f g kept) g kept
+      carried = back-carried bs hs f g kept
 
   -- so the facts of kept boxes are carried, where the other boxes are covered
-  pub carries : (other : Facts) → Tells f bs → ((n : Node) → In n bs → Still bs hs kept n ⊎ Covers bs hs g kept other n) → Carried f g kept
-  carries other tells each = record { clean = λ b k h. kept-clean bs hs g kept other w.ordered covers b k ((tells (clean b)).0 h); error_free = λ b c k h. kept-free bs hs g kept other w.ordered covers b c k ((tells (error_free b c)).0 h) }
+  pub carries : Tells f bs → ((n : Node) → In n bs → Still bs hs kept n ⊎ Covers bs hs f g kept n) → Carried f g kept
+  carries tells each = record { clean = kept-clean bs hs f g kept w.ordered tells covers; error_free = kept-free bs hs f g kept w.ordered tells covers }
     where
-      covers : (n : Node) → In n bs → Covers bs hs g kept other n
-      covers n i = elim (each n i) [ inl s ↦ still-covers other n s | inr x ↦ x ]
+      covers : (n : Node) → In n bs → Covers bs hs f g kept n
+      covers n i = elim (each n i) [ inl s ↦ still-covers n s | inr x ↦ x ]
 
   -- and boxes that stay are settled
   pub still-is-settled : Carried f g kept → (n : Node) → Still bs hs kept n → SettledBox hs g root n
