@@ -187,11 +187,11 @@ back-carried bs hs f g kept = record {
   error_free = λ b c k h. sym (ap (λ z. cond z (g.error_free b c) true) k) ∙ (and_parts (f.error_free b c) (cond (kept b) (g.error_free b c) true) h).1;
 }
 
-module _ (bs hs : List Node) (root : ℕ) (w : Sound bs root) (v : Sound hs root) (kept : ℕ → Bool) where
-  -- a quantifier of some boxes, by its number
-  range-is : (xs : List Node) → Sound xs root → (known : ℕ → Bool) (r : OwnedQuant) → IsOwned xs r → of_quant xs known r.id ≡ known r.over
-  range-is xs x known r o = ap (of_over false known) (owner-of xs x.once o.0 r o.1.0 o.1.1)
+-- what is known of the box under a quantifier of some boxes
+pub range-is : (xs : List Node) (root : ℕ) → Sound xs root → (known : ℕ → Bool) (r : OwnedQuant) → IsOwned xs r → of_quant xs known r.id ≡ known r.over
+range-is xs root x known r o = ap (of_over false known) (owner-of xs x.once o.0 r o.1.0 o.1.1)
 
+module _ (bs hs : List Node) (root : ℕ) (w : Sound bs root) (v : Sound hs root) (kept : ℕ → Bool) where
   module _ (f g : Facts) (c : Carried f g kept) (n : Node) (s : Names bs hs kept n) where
     pub overs-clean : OfOvers n.quants f.clean g.clean
     overs-clean r i h = c.clean r.over (s.over r i) h
@@ -206,19 +206,19 @@ module _ (bs hs : List Node) (root : ℕ) (w : Sound bs root) (v : Sound hs root
         let o = found bs root w n s.before x.quant m in
         let own : IsOwned bs o.quant = (o.owner, (o.owner_in, o.quant_in)) in
         let t = s.named o.quant (subst (λ q. holds q (named_by n) ≡ true) (sym o.is_q) m) own in
-        let was : f.error_free o.quant.over x.place ≡ true = sym (range-is bs w (λ b. f.error_free b x.place) o.quant own) ∙ ap (λ q. error_free_under bs f q x.place) o.is_q ∙ h in
+        let was : f.error_free o.quant.over x.place ≡ true = sym (range-is bs root w (λ b. f.error_free b x.place) o.quant own) ∙ ap (λ q. error_free_under bs f q x.place) o.is_q ∙ h in
         subst (λ q. error_free_under hs g q x.place ≡ true) (t.1.1.1.0 ∙ o.is_q)
-        (range-is hs v (λ b. g.error_free b x.place) t.1.0 t.1.1.0 ∙ subst (λ b. g.error_free b x.place ≡ true) (sym t.1.1.1.1) (c.error_free o.quant.over x.place t.0 was))
+        (range-is hs root v (λ b. g.error_free b x.place) t.1.0 t.1.1.0 ∙ subst (λ b. g.error_free b x.place ≡ true) (sym t.1.1.1.1) (c.error_free o.quant.over x.place t.0 was))
 
     module _ (fit : list_all (node_fits n.quants) (nodes_of n) ≡ true) (single : (r : OwnedQuant) → In r n.quants → is_S r.kind ≡ true → g.at_most_one r.over ≡ true) where
       -- what is known of the box under an own quantifier
       own-before : (known : ℕ → Bool) (r : OwnedQuant) (q : ℕ) → In r n.quants → r.id ≡ q → of_quant bs known q ≡ true → known r.over ≡ true
-      own-before known r q i e h = sym (range-is bs w known r (n, (s.before, i))) ∙ ap (of_quant bs known) e ∙ h
+      own-before known r q i e h = sym (range-is bs root w known r (n, (s.before, i))) ∙ ap (of_quant bs known) e ∙ h
 
       own-after : (known : ℕ → Bool) (r : OwnedQuant) (q : ℕ) → In r n.quants → r.id ≡ q → known r.over ≡ true → of_quant hs known q ≡ true
       own-after known r q i e h =
           let t = s.owned r i in
-          subst (λ z. of_quant hs known z ≡ true) (t.1.1.0 ∙ e) (range-is hs v known t.0 t.1.0 ∙ subst (λ z. known z ≡ true) (sym t.1.1.1) h)
+          subst (λ z. of_quant hs known z ≡ true) (t.1.1.0 ∙ e) (range-is hs root v known t.0 t.1.0 ∙ subst (λ z. known z ≡ true) (sym t.1.1.1) h)
 
       own-clean : (r : OwnedQuant) (q : ℕ) → In r n.quants → r.id ≡ q → cl_of bs f q ≡ true → cl_of hs g q ≡ true
       own-clean r q i e h = own-after g.clean r q i e (c.clean r.over (s.over r i) (own-before f.clean r q i e h))

@@ -2,6 +2,7 @@
 use Rattle.std.proofs.Common.{ℕ, zero, suc, ◌≡◌, ◌≤◌, ◌<◌, ◌+◌, ◌&&◌, nat_le, nat_lt, Bool, true, List, [], ◌∷◌, ◌++◌, length, Some, slice_get, ◌⊎◌, refl, sym, ap, subst, ◌∙◌, inl, inr, arith}
 use Rattle.std.specs.List.{flat_map, list_all}
 use Rattle.std.proofs.lemmas.Bool.{and_from, cases_Bool, le-leb, lt-ltb, ltb-false, ltb-true}
+use Rattle.std.proofs.lemmas.List.{append-nil}
 use Rattle.list_laws.specs.Lists.{In}
 use Rattle.list_laws.proofs.Membership.{in-append, in-flat, flat-in}
 use Rattle.qgm_meaning.specs.Tags.{columns_from}
@@ -50,6 +51,17 @@ module _ (p : Term → Bool) (q w : ℕ) (ys : List Term) where
   place-right zero k e h = absurd (let z : ⊥ = cc in z)
   place-right (suc j) zero e h = absurd (let z : ⊥ = omega (arith, e) in z)
   place-right (suc j) (suc k) e h = ap (of_cell p) (get-out q 1 w ys j k (omega (arith, e))) ∙ h
+
+-- all cells are columns
+pub place-only : (p : Term → Bool) (q w k : ℕ) → at_place p (columns_from q 1 w) k ≡ true → p (col q k) ≡ true
+place-only p q w k h = elim (place-split p q w [] k (subst (λ (z : List Term). at_place p z k ≡ true) (sym (append-nil (columns_from q 1 w))) h)) [ inl x ↦ x.1 | inr x ↦ absurd (none x.0 x.1.1) ]
+  where
+    none : (i : ℕ) → at_place p [] i ≡ true → ⊥
+    none zero h = let z : ⊥ = cc in z
+    none (suc i) h = let z : ⊥ = cc in z
+
+pub place-alone : (p : Term → Bool) (q w k : ℕ) → 1 ≤ k → k ≤ w → p (col q k) ≡ true → at_place p (columns_from q 1 w) k ≡ true
+place-alone p q w k m l h = subst (λ (z : List Term). at_place p z k ≡ true) (append-nil (columns_from q 1 w)) (place-left p q w [] k m l h)
 
 pub place-range : (p : Term → Bool) (head : List Term) (k : ℕ) → at_place p head k ≡ true → (nat_lt 0 k && nat_le k (length head)) ≡ true
 place-range p head zero h = absurd (let z : ⊥ = cc in z)

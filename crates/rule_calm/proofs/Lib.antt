@@ -8,3 +8,9 @@ mod RebuiltSettled
 mod PartFacts
 mod CompactSettled
 mod HeadPlaces
+mod OperatorFacts
+mod BehindFacts
+mod FedSettled
+mod PairSettled
+mod SelectSettled
+mod SetSettled
