@@ -14,3 +14,5 @@ mod FedSettled
 mod PairSettled
 mod SelectSettled
 mod SetSettled
+mod KeyedSettled
+mod GroupSettled
