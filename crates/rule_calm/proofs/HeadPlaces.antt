@@ -63,6 +63,12 @@ place-only p q w k h = elim (place-split p q w [] k (subst (λ (z : List Term). 
 pub place-alone : (p : Term → Bool) (q w k : ℕ) → 1 ≤ k → k ≤ w → p (col q k) ≡ true → at_place p (columns_from q 1 w) k ≡ true
 place-alone p q w k m l h = subst (λ (z : List Term). at_place p z k ≡ true) (append-nil (columns_from q 1 w)) (place-left p q w [] k m l h)
 
+-- columns from the place behind the first w on
+pub place-later : (p : Term → Bool) (q w len j : ℕ) → 1 ≤ j → j ≤ len → p (col q (w + j)) ≡ true → at_place p (columns_from q (suc w) len) j ≡ true
+place-later p q w len zero m l h = absurd (let z : ⊥ = omega (arith, m) in z)
+place-later p q w len (suc j) m l h =
+    ap (of_cell p) (ap (λ (z : List Term). slice_get z j) (sym (append-nil (columns_from q (suc w) len))) ∙ get-in q (suc w) len [] j (omega (arith, l))) ∙ ap (λ n. p (col q n)) (let z : suc w + j ≡ w + suc j = omega arith in z) ∙ h
+
 pub place-range : (p : Term → Bool) (head : List Term) (k : ℕ) → at_place p head k ≡ true → (nat_lt 0 k && nat_le k (length head)) ≡ true
 place-range p head zero h = absurd (let z : ⊥ = cc in z)
 place-range p head (suc k) h = and_from (nat_lt 0 (suc k)) (nat_le (suc k) (length head)) (lt-ltb 0 (suc k) (omega arith)) (le-leb (suc k) (length head) (there head k h))

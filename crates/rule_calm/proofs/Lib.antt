@@ -16,3 +16,5 @@ mod SelectSettled
 mod SetSettled
 mod KeyedSettled
 mod GroupSettled
+mod JoinedSettled
+mod KeylessSettled
