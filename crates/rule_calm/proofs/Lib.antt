@@ -18,3 +18,4 @@ mod KeyedSettled
 mod GroupSettled
 mod JoinedSettled
 mod KeylessSettled
+mod FiringSettled
