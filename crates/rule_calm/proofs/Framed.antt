@@ -299,9 +299,9 @@ module _ (bs hs : List Node) (kept : ℕ → Bool) (each : (u : Node) → In u b
     | inl x ↦ subst (IsFirm hs) x.id (
         joined x.n x.after (x.kind ∙ e) (x.role ∙ p) (x.conds c)
         (λ r j f. (let y = subst (λ (rs : List OwnedQuant). In r rs) x.quants j in firm-stays r.over (under r y f) (x.over r y)))
-        (λ t r j f. (
+        (λ t r j. (
         let y = subst (λ (rs : List OwnedQuant). In r rs) x.quants j in
-        x.shut_over r y ∙ shut (sym x.shut ∙ ap (is_closed hs) (sym x.id) ∙ t) r y f)))
+        x.shut_over r y ∙ shut (sym x.shut ∙ ap (is_closed hs) (sym x.id) ∙ t) r y)))
   ]
 
 -- ---- what makes a box settled

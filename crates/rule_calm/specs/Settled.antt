@@ -5,7 +5,7 @@ use Rattle.list_laws.specs.Lists.{In}
 use Rattle.qgm_terms.specs.Terms as t
 use Rattle.qgm_terms.specs.Terms.{Term, int, text, null_int, null_text, col, scalar, both, minus_of, choose, count_all, fold, Arms, no_arm, arm, Cond, always, compare, is_null, and, or, not, some, every}
 use Rattle.qgm_core.specs.Boxes.{QueryGraph}
-use Rattle.qgm_core.specs.Kinds.{is_F, is_F_or_S, is_S}
+use Rattle.qgm_core.specs.Kinds.{is_F, is_S}
 use Rattle.qgm_core.specs.declared.kinds.BoxKind.TheVariants.{Group, Select}
 use Rattle.qgm_core.specs.declared.kinds.Role.TheVariants.{Plain}
 use Rattle.qgm_core.specs.declared.node.Node.{Node}
@@ -58,13 +58,13 @@ has_no_single n = list_all single_free n.parts.head && list_all single_free_cond
 
 -- ---- firm boxes
 
--- a box of exactly one row, whatever class magic does: a group without keys; a plain select without conditions over firm boxes, of which no F or S quantifier ranges over an open box where it is closed itself
+-- a box of exactly one row, whatever class magic does: a group without keys; a plain select without conditions over firm boxes, which ranges over closed boxes alone where it is closed itself
 pub data IsFirm (boxes : List Node) : ℕ → Type 0 where
   grouped : (n : Node) (r : OwnedQuant) → In n boxes → In r n.quants → n.parts.kind ≡ Group 0 → IsFirm boxes n.id
   joined :
       (n : Node) → In n boxes → n.parts.kind ≡ Select → n.parts.role ≡ Plain → n.parts.conds.items ≡ []
       → ((r : OwnedQuant) → In r n.quants → is_F r.kind ≡ true → IsFirm boxes r.over)
-      → (is_closed boxes n.id ≡ true → (r : OwnedQuant) → In r n.quants → is_F_or_S r.kind ≡ true → is_closed boxes r.over ≡ true)
+      → (is_closed boxes n.id ≡ true → (r : OwnedQuant) → In r n.quants → is_closed boxes r.over ≡ true)
       → IsFirm boxes n.id
 
 -- ---- settled graphs
