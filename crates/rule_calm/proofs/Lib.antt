@@ -19,3 +19,4 @@ mod GroupSettled
 mod JoinedSettled
 mod KeylessSettled
 mod FiringSettled
+mod MovedTerms
