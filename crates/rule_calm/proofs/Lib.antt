@@ -20,3 +20,4 @@ mod JoinedSettled
 mod KeylessSettled
 mod FiringSettled
 mod MovedTerms
+mod MovedFacts
