@@ -24,7 +24,7 @@ use Rattle.rule_feed.specs.Split.{renamed, renamed_cond}
 use Rattle.rule_magic.proofs.BehindColumns.{take-map}
 use Rattle.rule_calm.specs.Settled.{IsFirm, SettledBox, has_no_single, single_free, single_free_cond}
 use Rattle.rule_calm.proofs.BehindFacts.{all-map, place-map}
-use Rattle.rule_calm.proofs.FedSettled.{below-calm, columns-calm}
+use Rattle.rule_calm.proofs.FedSettled.{below-calm, columns-calm, magic-calm}
 use Rattle.rule_calm.proofs.Framed.{Carried, Covers, Owning, back, back-carried, known-clean, known-free, nodes-still, overs-clean, overs-free, settled-from}
 use Rattle.rule_calm.proofs.FreeTerms.{cl_of, cond-is, ef_of, free-is, free_with, one_of}
 use Rattle.rule_calm.proofs.MovedTerms.{renamed-columns, renamed-columns_cond, renamed-cond, renamed-free, renamed-single, renamed-single-cond}
@@ -135,3 +135,71 @@ module _ (bs hs : List Node) (root : ℕ) (w : Sound bs root) (v : Sound hs root
         now-clean (place-moved (under_first f.at_most_one n.quants) (under_first g.at_most_one z.quants) k) h
     free-moved (SetOp form types) k h = subst (λ (q : List OwnedQuant). free_op hs g form z.id q k ≡ true) (sym m.quants) (op-column-moved form k h)
     free-moved OuterJoin k h = place-moved false false k h
+
+module _ (bs hs : List Node) (root : ℕ) (w : Sound bs root) (v : Sound hs root) (kept : ℕ → Bool) (f g : Facts) (closed : Closed hs g) (φ : ℕ → ℕ → Term) (n z : Node) (m : Moved bs hs φ n z) (over : (r : OwnedQuant) → In r n.quants → kept r.over ≡ true)
+    (fit : list_all (node_fits n.quants) (nodes_of n) ≡ true) (single : (r : OwnedQuant) → In r n.quants → is_S r.kind ≡ true → g.at_most_one r.over ≡ true) (number : kept n.id ≡ true) where
+  -- it is covered
+  pub moved-covers : has_no_single n ≡ true → ColumnsMoved bs hs (back bs hs f g kept) g φ n → Covers bs hs f g kept n
+  moved-covers ns cols = record {
+    clean = λ k x h. subst (λ b. g.clean b ≡ true) m.id (known-clean hs v.ordered g closed z m.after (subst (λ (k : BoxKind). clean_by hs g k z ≡ true) (sym m.kind) (clean-moved bs hs root w v kept (back bs hs f g kept) g c φ n z m over fit single ns cols n.parts.kind h)));
+    error_free = λ j k x l h. subst (λ b. g.error_free b j ≡ true) m.id (known-free hs v.ordered g closed z m.after j (subst (λ o. (nat_lt 0 j && nat_le j o) ≡ true) (sym m.wide) l)
+        (subst (λ (k : BoxKind). free_by hs g k z j ≡ true) (sym m.kind) (free-moved bs hs root w v kept (back bs hs f g kept) g c φ n z m over fit single ns cols (c.clean n.id number) n.parts.kind j h)));
+  }
+    where
+      c : Carried (back bs hs f g kept) g kept
+      c = back-carried bs hs f g kept
+
+  -- and settled
+  module _ (c : Carried f g kept) (x : SettledBox bs f root n) (firm : (r : OwnedQuant) → In r n.quants → is_S r.kind ≡ true → IsFirm hs r.over) (ones : (b : ℕ) → IsFirm hs b → g.at_most_one b ≡ true)
+      (named : (y : Column) → In y (columns_of n) → (owns y.quant n || error_free_under bs f y.quant y.place) ≡ true → (o : Column) → In o (columns_in (φ y.quant y.place)) → calm_column hs g z o ≡ true) where
+    from-head : (y : Column) → In y (flat_map columns_in z.parts.head) → calm_column hs g z y ≡ true
+    from-head y i =
+        let j : In y (flat_map columns_in (map (renamed φ) n.parts.head)) = subst (λ (t : List Term). In y (flat_map columns_in t)) m.head i in
+        let t = in-flat columns_in y (map (renamed φ) n.parts.head) j in
+        let s = in-map (renamed φ) t.0 n.parts.head t.1.0 in
+        let o = renamed-columns φ y s.0 (subst (λ (e : Term). In y (columns_in e)) (sym s.1.1) t.1.1) in
+        let there : In o.0 (columns_of n) = in-left o.0 (flat_map columns_in n.parts.head) (flat_map columns_in_cond n.parts.conds.items) (flat-in columns_in s.0 o.0 n.parts.head s.1.0 o.1.0) in
+        named o.0 there (all-in (calm_column bs f n) o.0 (columns_of n) (columns-calm bs f root n x) there) y o.1.1
+
+    from-conds : (y : Column) → In y (flat_map columns_in_cond z.parts.conds.items) → calm_column hs g z y ≡ true
+    from-conds y i =
+        let j : In y (flat_map columns_in_cond (map (renamed_cond φ) n.parts.conds.items)) = subst (λ (t : List Cond). In y (flat_map columns_in_cond t)) m.conds i in
+        let t = in-flat columns_in_cond y (map (renamed_cond φ) n.parts.conds.items) j in
+        let s = in-map (renamed_cond φ) t.0 n.parts.conds.items t.1.0 in
+        let o = renamed-columns_cond φ y s.0 (subst (λ (e : Cond). In y (columns_in_cond e)) (sym s.1.1) t.1.1) in
+        let there : In o.0 (columns_of n) = in-right o.0 (flat_map columns_in n.parts.head) (flat_map columns_in_cond n.parts.conds.items) (flat-in columns_in_cond s.0 o.0 n.parts.conds.items s.1.0 o.1.0) in
+        named o.0 there (all-in (calm_column bs f n) o.0 (columns_of n) (columns-calm bs f root n x) there) y o.1.1
+
+    below : clean_below hs g root z ≡ true
+    below = subst (λ b. (b == root || g.clean b) ≡ true) (sym m.id) (elim (or_cases (n.id == root) (f.clean n.id) (below-calm bs f root n x)) [
+      | inl t ↦ or_left (n.id == root) (g.clean n.id) t
+      | inr t ↦ or_right (n.id == root) (g.clean n.id) (c.clean n.id number t)
+    ])
+
+    magic : (not (is_magic z.parts.role) || calm_magic hs g z) ≡ true
+    magic = subst (λ r. (not (is_magic r) || calm_magic hs g z) ≡ true) (sym m.role) (elim (or_cases (not (is_magic n.parts.role)) (calm_magic bs f n) (magic-calm bs f root n x)) [
+      | inl t ↦ or_left (not (is_magic n.parts.role)) (calm_magic hs g z) t
+      | inr t ↦ or_right (not (is_magic n.parts.role)) (calm_magic hs g z) (
+          let a = and_parts (is_closed bs n.id) (all_under (is_closed bs) n.quants && all_places (width n) (f.error_free n.id)) t in
+          let b = and_parts (all_under (is_closed bs) n.quants) (all_places (width n) (f.error_free n.id)) a.1 in
+          and_from (is_closed hs z.id) (all_under (is_closed hs) z.quants && all_places (width z) (g.error_free z.id)) (ap (is_closed hs) m.id ∙ m.shut ∙ a.0)
+          (and_from (all_under (is_closed hs) z.quants) (all_places (width z) (g.error_free z.id))
+          (subst (λ (q : List OwnedQuant). all_under (is_closed hs) q ≡ true) (sym m.quants) (all-from (λ r. is_closed hs r.over) n.quants (λ r i. m.shut_over r i ∙ all-in (λ r. is_closed bs r.over) r n.quants b.0 i)))
+          (subst (λ k. all_places k (g.error_free z.id) ≡ true) (sym m.wide) (places-of (width n) (f.error_free n.id) (g.error_free z.id) (λ k e. subst (λ b. g.error_free b k ≡ true) (sym m.id) (c.error_free n.id k number e)) b.1))))
+    ])
+
+    no-single : has_no_single z ≡ true
+    no-single =
+        let p = and_parts (list_all single_free n.parts.head) (list_all single_free_cond n.parts.conds.items) x.no_single in
+        and_from (list_all single_free z.parts.head) (list_all single_free_cond z.parts.conds.items)
+        (subst (λ (t : List Term). list_all single_free t ≡ true) (sym m.head) (all-map (renamed φ) single_free single_free n.parts.head (λ t i. renamed-single φ m.single t) p.0))
+        (subst (λ (t : List Cond). list_all single_free_cond t ≡ true) (sym m.conds) (all-conds n.parts.conds.items p.1))
+      where
+        all-conds : (ps : List Cond) → list_all single_free_cond ps ≡ true → list_all single_free_cond (map (renamed_cond φ) ps) ≡ true
+        all-conds [] h = refl
+        all-conds (p ∷ ps) h = both-of (single_free_cond p) (list_all single_free_cond ps) (single_free_cond (renamed_cond φ p)) (list_all single_free_cond (map (renamed_cond φ) ps)) (renamed-single-cond φ m.single p) (all-conds ps) h
+
+    pub moved-settled : SettledBox hs g root z
+    moved-settled = settled-from hs g root z below
+        (all-from (calm_column hs g z) (columns_of z) (λ y i. elim (in-append y (flat_map columns_in z.parts.head) (flat_map columns_in_cond z.parts.conds.items) i) [ inl j ↦ from-head y j | inr j ↦ from-conds y j ]))
+        magic no-single (λ r i t. firm r (subst (λ (q : List OwnedQuant). In r q) m.quants i) t) ones
