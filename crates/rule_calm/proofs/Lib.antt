@@ -21,3 +21,5 @@ mod KeylessSettled
 mod FiringSettled
 mod MovedTerms
 mod MovedFacts
+mod ClosedParts
+mod TurnSettled
