@@ -23,3 +23,4 @@ mod MovedTerms
 mod MovedFacts
 mod ClosedParts
 mod TurnSettled
+mod SplitSettled

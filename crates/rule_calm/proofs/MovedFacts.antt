@@ -25,7 +25,7 @@ use Rattle.rule_magic.proofs.BehindColumns.{take-map}
 use Rattle.rule_calm.specs.Settled.{IsFirm, SettledBox, has_no_single, single_free, single_free_cond}
 use Rattle.rule_calm.proofs.BehindFacts.{all-map, place-map}
 use Rattle.rule_calm.proofs.FedSettled.{below-calm, columns-calm, magic-calm}
-use Rattle.rule_calm.proofs.Framed.{Carried, Covers, Owning, back, back-carried, known-clean, known-free, nodes-still, overs-clean, overs-free, settled-from}
+use Rattle.rule_calm.proofs.Framed.{Carried, Covers, FirmStays, Owning, back, back-carried, known-clean, known-free, nodes-still, overs-clean, overs-free, settled-from}
 use Rattle.rule_calm.proofs.FreeTerms.{cl_of, cond-is, ef_of, free-is, free_with, one_of}
 use Rattle.rule_calm.proofs.MovedTerms.{renamed-columns, renamed-columns_cond, renamed-cond, renamed-free, renamed-single, renamed-single-cond}
 use Rattle.rule_calm.proofs.OperatorFacts.{op-moved}
@@ -203,3 +203,18 @@ module _ (bs hs : List Node) (root : ℕ) (w : Sound bs root) (v : Sound hs root
     moved-settled = settled-from hs g root z below
         (all-from (calm_column hs g z) (columns_of z) (λ y i. elim (in-append y (flat_map columns_in z.parts.head) (flat_map columns_in_cond z.parts.conds.items) i) [ inl j ↦ from-head y j | inr j ↦ from-conds y j ]))
         magic no-single (λ r i t. firm r (subst (λ (q : List OwnedQuant). In r q) m.quants i) t) ones
+
+-- it may be firm as before
+pub moved-firm : (bs hs : List Node) (φ : ℕ → ℕ → Term) (kept : ℕ → Bool) (n z : Node) → Moved bs hs φ n z → ((r : OwnedQuant) → In r n.quants → kept r.over ≡ true) → FirmStays bs hs kept n
+moved-firm bs hs φ kept n z m over = record {
+  n = z;
+  after = m.after;
+  id = m.id;
+  kind = m.kind;
+  role = m.role;
+  conds = λ e. m.conds ∙ ap (λ (ps : List Cond). map (renamed_cond φ) ps) e;
+  quants = m.quants;
+  over = over;
+  shut = m.shut;
+  shut_over = m.shut_over;
+}
