@@ -24,3 +24,4 @@ mod MovedFacts
 mod ClosedParts
 mod TurnSettled
 mod SplitSettled
+mod FedPieces

@@ -5,7 +5,7 @@ use Rattle.std.proofs.lemmas.Bool.{and_from, and_parts, cases_Bool, eq-eqb, not-
 use Rattle.list_laws.specs.Lists.{EachOnce, In, holds}
 use Rattle.list_laws.proofs.Booleans.{clash}
 use Rattle.list_laws.proofs.Membership.{all-from, all-in, any-none, flat-in, in-append, in-filter, in-left, in-map, in-right}
-use Rattle.qgm_core.specs.Boxes.{QueryGraph, numbers, owns, width}
+use Rattle.qgm_core.specs.Boxes.{QueryGraph, numbers, owns}
 use Rattle.qgm_core.specs.Free.{IsFree, named_by}
 use Rattle.qgm_core.specs.Kinds.{is_F, is_S, is_magic, width_by}
 use Rattle.qgm_core.specs.declared.kinds.BoxKind.{BoxKind}
@@ -30,7 +30,6 @@ use Rattle.qgm_edit_laws.proofs.Ranks.{same-box}
 use Rattle.qgm_edit_laws.proofs.ShapeParts.{shape-parts}
 use Rattle.qgm_props.specs.Calm.{calm_column, calm_magic, clean_below, is_closed}
 use Rattle.qgm_props.specs.Inferred.{Closed, Facts, all_under_F, at_place, clean_by, cond_free, error_free_under, free_by, is_free}
-use Rattle.qgm_props.specs.Laws.{Tells}
 use Rattle.qgm_props.proofs.Settled.{all-told}
 use Rattle.rule_api.specs.declared.place.Place.{Place}
 use Rattle.rule_magic.proofs.AbsorbShared.{closed-looks}
@@ -43,14 +42,14 @@ use Rattle.rule_feed.proofs.FeedSettled as feeding
 use Rattle.rule_feed.proofs.TurnLists.{in-turned, turned-in}
 use Rattle.rule_subquery.specs.ScalarToJoin.{column_box}
 use Rattle.rule_calm.specs.Settled.{IsFirm, IsSettled, SettledBox, has_no_single, single_free, single_free_cond}
-use Rattle.rule_calm.proofs.BehindFacts.{all-map, place-map}
-use Rattle.rule_calm.proofs.ClosedParts.{closed-own, open-not-firm, over-clean, strict-named, strict-over, strictly}
+use Rattle.rule_calm.proofs.BehindFacts.{place-map}
+use Rattle.rule_calm.proofs.ClosedParts.{closed-own, open-not-firm, over-clean, strict-named, strict-over}
 use Rattle.rule_calm.proofs.FedSettled.{below-calm, clean-by, free-by}
 use Rattle.rule_calm.proofs.Framed.{Carried, Names, OwnedAs, Still, column-still, firm-single, firm-stays, known-clean, known-free, names-owning, nodes-still, settled-from, still-firm, told-closed}
 use Rattle.rule_calm.proofs.FreeTerms.{SameColumns, SameNodes, cl_of, cond-is, ef_of, free-is, one_of, same-cond, same-free}
 use Rattle.rule_calm.proofs.HeadPlaces.{place-range}
 use Rattle.rule_calm.proofs.MovedTerms.{bare-single, bare-single-cond, column-cond, column-free}
-use Rattle.rule_calm.proofs.PartFacts.{part-carried, still-in-part, under, under-itself}
+use Rattle.rule_calm.proofs.PartFacts.{part-carried, under, under-itself}
 use Rattle.rule_calm.proofs.RebuiltSettled.{carries, nodes-fit, still-is-settled}
 use Rattle.rule_calm.proofs.SameFacts.{place-of}
 use Rattle.rule_calm.proofs.Shut.{shut-same}
