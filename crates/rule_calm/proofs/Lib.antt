@@ -14,6 +14,8 @@ mod FedSettled
 mod PairSettled
 mod SelectSettled
 mod SetSettled
+mod OuterFacts
+mod LeftSettled
 mod KeyedSettled
 mod GroupSettled
 mod JoinedSettled
