@@ -16,6 +16,10 @@ mod SelectSettled
 mod SetSettled
 mod OuterFacts
 mod LeftSettled
+mod RenamedFacts
+mod BelowSettled
+mod ArmsSettled
+mod OuterSettled
 mod KeyedSettled
 mod GroupSettled
 mod JoinedSettled
