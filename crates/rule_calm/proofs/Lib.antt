@@ -19,7 +19,9 @@ mod LeftSettled
 mod RenamedFacts
 mod BelowSettled
 mod ArmsSettled
+mod OpenSetSettled
 mod OuterSettled
+mod OperationSettled
 mod KeyedSettled
 mod GroupSettled
 mod JoinedSettled
