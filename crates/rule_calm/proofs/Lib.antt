@@ -14,6 +14,14 @@ mod FedSettled
 mod PairSettled
 mod SelectSettled
 mod SetSettled
+mod OuterFacts
+mod LeftSettled
+mod RenamedFacts
+mod BelowSettled
+mod ArmsSettled
+mod OpenSetSettled
+mod OuterSettled
+mod OperationSettled
 mod KeyedSettled
 mod GroupSettled
 mod JoinedSettled
