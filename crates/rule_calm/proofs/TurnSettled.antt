@@ -250,9 +250,9 @@ module _ (g : QueryGraph) (u : EachOnce (numbers g.boxes)) (f : fault g ≡ None
       let e = sym (free-is bs fs false x) ∙ h in
       let n = all-in single_free x b.parts.head no-single.0 j in (
         free-is hs gs false x ∙ same-free (ef_of bs fs) (ef_of hs gs) (cl_of bs fs) (cl_of hs gs) (one_of bs fs) (one_of hs gs) false false x
-        (λ y k. same-columns y (head-columns x j y k)) (λ y k. same-nodes y (in-left y (flat_map nodes_in b.parts.head) (flat_map nodes_in_cond b.parts.conds.items) (flat-in nodes_in x y b.parts.head j k))) n e,
+            (λ y k. same-columns y (head-columns x j y k)) (λ y k. same-nodes y (in-left y (flat_map nodes_in b.parts.head) (flat_map nodes_in_cond b.parts.conds.items) (flat-in nodes_in x y b.parts.head j k))) n e,
         free-is hs gs false (as_column r.id x) ∙ column-free (ef_of bs fs) (ef_of hs gs) (cl_of bs fs) (cl_of hs gs) (one_of bs fs) (one_of hs gs) r.id false false x
-        (λ y k. same-columns y (head-columns x j y k)) (λ y k. same-nodes y (in-left y (flat_map nodes_in b.parts.head) (flat_map nodes_in_cond b.parts.conds.items) (flat-in nodes_in x y b.parts.head j k))) n e,
+            (λ y k. same-columns y (head-columns x j y k)) (λ y k. same-nodes y (in-left y (flat_map nodes_in b.parts.head) (flat_map nodes_in_cond b.parts.conds.items) (flat-in nodes_in x y b.parts.head j k))) n e,
       )
 
   cond-now : (x : Cond) → In x b.parts.conds.items → cond_free bs fs false x ≡ true → (cond_free hs gs false x ≡ true) × (cond_free hs gs false (as_column_cond r.id x) ≡ true)
@@ -260,9 +260,9 @@ module _ (g : QueryGraph) (u : EachOnce (numbers g.boxes)) (f : fault g ≡ None
       let e = sym (cond-is bs fs false x) ∙ h in
       let n = all-in single_free_cond x b.parts.conds.items no-single.1 j in (
         cond-is hs gs false x ∙ same-cond (ef_of bs fs) (ef_of hs gs) (cl_of bs fs) (cl_of hs gs) (one_of bs fs) (one_of hs gs) false false x
-        (λ y k. same-columns y (cond-columns x j y k)) (λ y k. same-nodes y (in-right y (flat_map nodes_in b.parts.head) (flat_map nodes_in_cond b.parts.conds.items) (flat-in nodes_in_cond x y b.parts.conds.items j k))) n e,
+            (λ y k. same-columns y (cond-columns x j y k)) (λ y k. same-nodes y (in-right y (flat_map nodes_in b.parts.head) (flat_map nodes_in_cond b.parts.conds.items) (flat-in nodes_in_cond x y b.parts.conds.items j k))) n e,
         cond-is hs gs false (as_column_cond r.id x) ∙ column-cond (ef_of bs fs) (ef_of hs gs) (cl_of bs fs) (cl_of hs gs) (one_of bs fs) (one_of hs gs) r.id false false x
-        (λ y k. same-columns y (cond-columns x j y k)) (λ y k. same-nodes y (in-right y (flat_map nodes_in b.parts.head) (flat_map nodes_in_cond b.parts.conds.items) (flat-in nodes_in_cond x y b.parts.conds.items j k))) n e,
+            (λ y k. same-columns y (cond-columns x j y k)) (λ y k. same-nodes y (in-right y (flat_map nodes_in b.parts.head) (flat_map nodes_in_cond b.parts.conds.items) (flat-in nodes_in_cond x y b.parts.conds.items j k))) n e,
       )
 
   cond-1 : list_all (cond_free bs fs false) b.parts.conds.items ≡ true → (d : Cond) → In d b1.parts.conds.items → cond_free hs gs false d ≡ true
