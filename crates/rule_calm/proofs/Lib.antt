@@ -33,3 +33,4 @@ mod ClosedParts
 mod TurnSettled
 mod SplitSettled
 mod FedPieces
+mod SplitTurned

@@ -335,15 +335,14 @@ module _ (g : QueryGraph) (u : EachOnce (numbers g.boxes)) (f : fault g ≡ None
         | inl k ↦ absurd (clash (is_S i.kind) (ap (λ (y : OwnedQuant). is_S y.kind) (sym k) ∙ e) e1.not_scalar)
       ]
 
+  pub turn-each : (n : Node) → In n hs → SettledBox hs gs g.root n
+  turn-each n j = elim (from-hs n j) [
+    | inl e ↦ subst (SettledBox hs gs g.root) (sym e) settled-2
+    | inr k ↦ elim (cases_Bool (n.id == b.id)) [
+      | inr e ↦ still-is-settled bs hs g.root w v sh always fs gs closed settled.each (λ z x k. firm z x) turn-carried n (still n k e)
+      | inl e ↦ subst (SettledBox hs gs g.root) (same-box hs b2 n v.ordered in-b2 j (e1.id b ∙ sym (eqb-true n.id b.id e))) settled-2
+    ]
+  ]
+
   pub turn-settled : IsSettled h2
-  turn-settled = record {
-    known = gs;
-    tells = (all-told hs).1;
-    each = λ n j. elim (from-hs n j) [
-      | inl e ↦ subst (SettledBox hs gs g.root) (sym e) settled-2
-      | inr k ↦ elim (cases_Bool (n.id == b.id)) [
-        | inr e ↦ still-is-settled bs hs g.root w v sh always fs gs closed settled.each (λ z x k. firm z x) turn-carried n (still n k e)
-        | inl e ↦ subst (SettledBox hs gs g.root) (same-box hs b2 n v.ordered in-b2 j (e1.id b ∙ sym (eqb-true n.id b.id e))) settled-2
-      ]
-    ];
-  }
+  turn-settled = record { known = gs; tells = (all-told hs).1; each = turn-each }
