@@ -1,1 +1,3 @@
 pub mod CalmCloses
+pub mod Settled
+pub mod SettledKept

@@ -3,4 +3,4 @@
 
 mod laws;
 
-pub use laws::calm_graph_laws;
+pub use laws::{calm_graph_laws, settled_graph_laws};
