@@ -8,6 +8,7 @@ mod RebuiltSettled
 mod PartFacts
 mod CompactSettled
 mod HeadPlaces
+mod MappedTerms
 mod OperatorFacts
 mod BehindFacts
 mod FedSettled
