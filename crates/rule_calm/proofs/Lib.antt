@@ -12,6 +12,7 @@ mod MappedTerms
 mod OperatorFacts
 mod BehindFacts
 mod FedSettled
+mod MappedBox
 mod PairSettled
 mod SelectSettled
 mod SetSettled
