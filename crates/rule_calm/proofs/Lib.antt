@@ -13,6 +13,8 @@ mod OperatorFacts
 mod BehindFacts
 mod FedSettled
 mod MappedBox
+mod StepFacts
+mod SplitSettled
 mod PairSettled
 mod SelectSettled
 mod SetSettled
