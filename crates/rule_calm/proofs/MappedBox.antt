@@ -45,7 +45,7 @@ pub all-made : {X Y : Type 0} (f : X → Y) (q : Y → Bool) (xs : List X) → (
 all-made f q [] w = refl
 all-made f q (x ∷ xs) w = and_from (q (f x)) (list_all q (map f xs)) (w x (inl refl)) (all-made f q xs (λ y i. w y (inr i)))
 
-S-not-F : (k : QuantKind) → is_S k ≡ true → is_F k ≡ false
+pub S-not-F : (k : QuantKind) → is_S k ≡ true → is_F k ≡ false
 S-not-F quant.F h = absurd (let z : ⊥ = cc in z)
 S-not-F quant.E h = absurd (let z : ⊥ = cc in z)
 S-not-F quant.A h = absurd (let z : ⊥ = cc in z)

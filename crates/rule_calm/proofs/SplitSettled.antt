@@ -17,18 +17,19 @@ use Rattle.qgm_core.specs.declared.kinds.Role.TheVariants.{Plain}
 use Rattle.qgm_core.specs.declared.node.Node.{Node}
 use Rattle.qgm_core.specs.declared.owned.OwnedQuant.{OwnedQuant}
 use Rattle.qgm_core.proofs.Reaching.{in-has, overs-held}
-use Rattle.qgm_meaning.specs.Scope.{loose}
+use Rattle.qgm_meaning.specs.Scope.{loose, read_by}
 use Rattle.qgm_meaning.specs.Tags.{columns_from}
 use Rattle.qgm_terms.specs.Named.{columns_in, columns_in_cond, nodes_in, nodes_in_cond}
 use Rattle.qgm_terms.specs.Terms.{Cond, Term, col}
 use Rattle.qgm_terms.specs.declared.named.Column.{Column}
 use Rattle.qgm_wellformed.specs.Columns.{columns_of}
 use Rattle.qgm_wellformed.specs.Shapes.{node_fits, nodes_of}
+use Rattle.qgm_edit_laws.specs.Graph as graph
 use Rattle.qgm_edit_laws.specs.Graph.{Sound}
 use Rattle.qgm_edit_laws.specs.Rebuilds.{IsOwned}
 use Rattle.qgm_edit_laws.specs.Shaped.{Shaped, Typed}
 use Rattle.qgm_edit_laws.proofs.Adds.{loose-owned}
-use Rattle.qgm_edit_laws.proofs.Ranks.{has-in}
+use Rattle.qgm_edit_laws.proofs.Ranks.{has-in, same-box}
 use Rattle.qgm_edit_laws.proofs.Rebuilt.{one-quant}
 use Rattle.qgm_edit_laws.proofs.Read.{column-named, is_at, named-split}
 use Rattle.qgm_edit_laws.proofs.TypedKept.{found}
@@ -313,3 +314,174 @@ module _ (xs ys : List Node) (root : ℕ) (b : Node) (wide : OwnedQuant → ℕ)
       where
         width-of-kind : BoxKind → ℕ
         width-of-kind z = width_by z (length (map (renamed F') b.parts.head))
+
+  -- ---- all that was known is known
+
+  abbrev all : ℕ → Bool
+  all k = true
+
+  abbrev bk : Facts
+  bk = back bs hs f g (λ k. true)
+
+  image : (y : Node) → Image F' y (renamed_node F' y)
+  image y = record {
+    id = refl;
+    kind = refl;
+    role = refl;
+    head = map-same (renamed F') (terms.mapped F' as_it_is as_it_is) y.parts.head (λ x i. renamed-mapped F' x);
+    conds = map-same (renamed_cond F') (mapped_cond F' as_it_is as_it_is) y.parts.conds.items (λ x i. renamed-mapped-cond F' x);
+    quants = refl;
+  }
+
+  was-clean : (z : ℕ) → bk.clean z ≡ true → g.clean z ≡ true
+  was-clean z h = (back-carried bs hs f g (λ k. true)).clean z refl h
+
+  was-free : (z k : ℕ) → bk.error_free z k ≡ true → g.error_free z k ≡ true
+  was-free z k h = (back-carried bs hs f g (λ k. true)).error_free z k refl h
+
+  less-free : (z k : ℕ) → bk.error_free z k ≡ true → f.error_free z k ≡ true
+  less-free z k h = (and_parts (f.error_free z k) (g.error_free z k) h).0
+
+  other-in : (y : Node) → In y bs → (y.id == b.id) ≡ false → In (renamed_node F' y) hs
+  other-in y i e = subst (λ n. In n hs) (t-other y e) (t-in y i)
+
+  covers : (n : Node) → In n bs → Covers bs hs f g (λ k. true) n
+  covers n i = elim (cases_Bool (n.id == b.id)) [
+    | inl e ↦ subst (Covers bs hs f g (λ k. true)) (same-box bs b n w.ordered in-b i (sym (eqb-true n.id b.id e))) (record {
+      clean = λ k x h. clean-b bk less-free was-free was-clean (subst (λ (z : BoxKind). clean_by bs bk z b ≡ true) m.a_select h);
+      error_free = λ q k x l h. free-b bk less-free was-free was-clean q (subst (λ (z : BoxKind). free_by bs bk z b q ≡ true) m.a_select h);
+    })
+    | inr e ↦ image-covers bs hs root w v F' n (renamed_node F' n) i (other-in n i e) (image n) (nodes-fit bs root sh n i) (settled n i).no_single f g closed (λ k. true) refl (λ r j. refl) (single n i) (becomes-with bk less-free was-free n i)
+  ]
+
+  now-clean : (z : ℕ) → f.clean z ≡ true → g.clean z ≡ true
+  now-clean z h = kept-clean bs hs f g (λ k. true) w.ordered tells covers z refl h
+
+  now-free : (z k : ℕ) → f.error_free z k ≡ true → g.error_free z k ≡ true
+  now-free z k h = kept-free bs hs f g (λ k. true) w.ordered tells covers z k refl h
+
+  -- ---- each box is settled
+
+  -- a column of another box is one of its own, or error-free
+  was : (y : Node) → In y bs → (x : Column) → In x (columns_of y) → (owns x.quant y ≡ true) ⊎ (error_free_under bs f x.quant x.place ≡ true)
+  was y i x j = or_cases (owns x.quant y) (error_free_under bs f x.quant x.place) (all-in (calm_column bs f y) x (columns_of y) (columns-calm bs f root y (settled y i)) j)
+
+  new-single : (r k : ℕ) → single_free (F' r k) ≡ true
+  new-single r k = one-of (list_any (λ (p : ℕ × ℕ). p.0 == r) ws)
+    where
+      one-of : (e : Bool) → single_free (cond e (col q (start ws r + k)) (col r k)) ≡ true
+      one-of true = refl
+      one-of false = refl
+
+  -- the term that stands for a column names one column
+  names-one : (r k : ℕ) (d : Column) → In d (columns_in (F' r k)) → ((P r ≡ true) × (d ≡ record { quant = q; place = start ws r + k })) ⊎ ((P r ≡ false) × (d ≡ record { quant = r; place = k }))
+  names-one r k d i = elim (cases_Bool (P r)) [
+    | inl e ↦ inl (e, elim (subst (λ (z : Bool). In d (columns_in (cond z (col q (start ws r + k)) (col r k)))) (in-sizes wide ps r ∙ e) i) [ inl y ↦ sym y | inr n ↦ elim n [ ] ])
+    | inr e ↦ inr (e, elim (subst (λ (z : Bool). In d (columns_in (cond z (col q (start ws r + k)) (col r k)))) (in-sizes wide ps r ∙ e) i) [ inl y ↦ sym y | inr n ↦ elim n [ ] ])
+  ]
+
+  other-settled : (y : Node) → In y bs → (y.id == b.id) ≡ false → SettledBox hs g root (renamed_node F' y)
+  other-settled y i e = image-settled bs hs root w v F' y (renamed_node F' y) i (other-in y i e) (image y) (nodes-fit bs root sh y i) (settled y i).no_single f g (now-clean y.id) (now-free y.id) (settled y i) columns new-single (shut y.id (in-has y bs i))
+      (λ r j. shut r.over (overs-held bs y r w.ordered i j)) (λ r j k. firm r.over ((settled y i).scalars r j k)) one
+    where
+      columns : (x : Column) → In x (columns_of y) → (d : Column) → In d (columns_in (F' x.quant x.place)) → calm_column hs g (renamed_node F' y) d ≡ true
+      columns x j d k = elim (was y i x j) [
+        | inl o ↦ (
+            let n : P x.quant ≡ false = elim (cases_Bool (P x.quant)) [
+              | inr n ↦ n
+              | inl p ↦ absurd (clash (owns x.quant y) o (split.not-own xs ys root b wide q s us ps vs rest taken w m x.quant (split.own-P xs ys root b wide q s us ps vs rest taken w m x.quant p) y i e))
+            ] in
+            elim (names-one x.quant x.place d k) [
+              | inl z ↦ absurd (clash (P x.quant) z.0 n)
+              | inr z ↦ or_left (owns d.quant y) (error_free_under hs g d.quant d.place) (ap (λ (c : Column). owns c.quant y) z.1 ∙ o)
+            ])
+        | inr h ↦ (
+            let t = becomes f (λ z k h. h) now-free y i x j h in
+            elim (names-one x.quant x.place d k) [
+              | inl z ↦ or_right (owns d.quant y) (error_free_under hs g d.quant d.place) (ap (λ (c : Column). error_free_under hs g c.quant c.place) z.1 ∙ (sym (ap (λ (e : Bool). is_free hs g true (cond e (col q (start ws x.quant + x.place)) (col x.quant x.place))) (in-sizes wide ps x.quant ∙ z.0)) ∙ t))
+              | inr z ↦ or_right (owns d.quant y) (error_free_under hs g d.quant d.place) (ap (λ (c : Column). error_free_under hs g c.quant c.place) z.1 ∙ (sym (ap (λ (e : Bool). is_free hs g true (cond e (col q (start ws x.quant + x.place)) (col x.quant x.place))) (in-sizes wide ps x.quant ∙ z.0)) ∙ t))
+            ])
+      ]
+
+  owner-settled : SettledBox hs g root b'
+  owner-settled = settled-from hs g root b' below columns (or_left (not (is_magic b.parts.role)) (calm_magic hs g b') (ap (λ (z : Role). not (is_magic z)) plain)) no-single scalars one
+    where
+      below : clean_below hs g root b' ≡ true
+      below = elim (or_cases (b.id == root) (f.clean b.id) (below-calm bs f root b (settled b in-b))) [ inl e ↦ or_left (b.id == root) (g.clean b.id) e | inr e ↦ or_right (b.id == root) (g.clean b.id) (now-clean b.id e) ]
+
+      own-now : (k : ℕ) → owns k b ≡ true → P k ≡ false → owns k b' ≡ true
+      own-now k o e = let r = any-in (is_quant k) b.quants o in any-from (is_quant k) r.0 (us ++ rq ∷ vs) (in-us-vs r.0 r.1.0 (ap P (eqb-true r.0.id k r.1.1) ∙ e)) r.1.1
+
+      calm : (x : Column) → In x (columns_of b) → (d : Column) → In d (columns_in (F' x.quant x.place)) → calm_column hs g b' d ≡ true
+      calm x j d k = elim (names-one x.quant x.place d k) [
+        | inl z ↦ or_left (owns d.quant b') (error_free_under hs g d.quant d.place) (ap (λ (c : Column). owns c.quant b') z.1 ∙ any-from (is_quant q) rq (us ++ rq ∷ vs) (in-right rq us (rq ∷ vs) (inl refl)) (eq-itself q))
+        | inr z ↦ elim (was b in-b x j) [
+          | inl o ↦ or_left (owns d.quant b') (error_free_under hs g d.quant d.place) (ap (λ (c : Column). owns c.quant b') z.1 ∙ own-now x.quant o z.0)
+          | inr h ↦ or_right (owns d.quant b') (error_free_under hs g d.quant d.place) (ap (λ (c : Column). error_free_under hs g c.quant c.place) z.1 ∙ still f (λ z k h. h) now-free true x j h)
+        ]
+      ]
+
+      columns : list_all (calm_column hs g b') (columns_of b') ≡ true
+      columns = all-from (calm_column hs g b') (columns_of b') (λ d i. elim (in-append d (flat_map columns_in (map (renamed F') b.parts.head)) (flat_map columns_in_cond (map (renamed_cond F') rest)) i) [
+        | inl j ↦ (
+            let y = in-flat columns_in d (map (renamed F') b.parts.head) j in
+            let z = in-map (renamed F') y.0 b.parts.head y.1.0 in
+            come F' as_it_is as_it_is (λ c. calm_column hs g b' c ≡ true) (λ r d h. (h, h)) z.0 (λ c k. calm c (head-column b z.0 c z.1.0 k)) d (subst (λ (t : Term). In d (columns_in t)) (sym z.1.1 ∙ renamed-mapped F' z.0) y.1.1))
+        | inr j ↦ (
+            let y = in-flat columns_in_cond d (map (renamed_cond F') rest) j in
+            let z = in-map (renamed_cond F') y.0 rest y.1.0 in
+            come-cond F' as_it_is as_it_is (λ c. calm_column hs g b' c ≡ true) (λ r d h. (h, h)) z.0 (λ c k. calm c (conds-column b z.0 c (in-rest z.0 z.1.0) k)) d (subst (λ (t : Cond). In d (columns_in_cond t)) (sym z.1.1 ∙ renamed-mapped-cond F' z.0) y.1.1))
+      ])
+
+      no-single : has_no_single b' ≡ true
+      no-single = and_from (list_all single_free (map (renamed F') b.parts.head)) (list_all single_free_cond (map (renamed_cond F') rest))
+          (all-made (renamed F') single_free b.parts.head (λ y i. ap single_free (renamed-mapped F' y) ∙ single-mapped F' as_it_is as_it_is new-single (λ r d h. (h, h)) y (head-single b ns-b y i)))
+          (all-made (renamed_cond F') single_free_cond rest (λ y i. ap single_free_cond (renamed-mapped-cond F' y) ∙ single-mapped-cond F' as_it_is as_it_is new-single (λ r d h. (h, h)) y (conds-single b ns-b y (in-rest y i))))
+
+      scalars : (r : OwnedQuant) → In r (us ++ rq ∷ vs) → is_S r.kind ≡ true → IsFirm hs r.over
+      scalars r i k = elim (in-append r us (rq ∷ vs) i) [
+        | inl a ↦ firm r.over ((settled b in-b).scalars r (split.old-quant xs ys root b wide q s us ps vs rest taken w m r (inl a)) k)
+        | inr a ↦ elim a [
+          | inl y ↦ absurd (clash (is_S r.kind) k (ap (λ (z : OwnedQuant). is_S z.kind) (sym y)))
+          | inr j ↦ firm r.over ((settled b in-b).scalars r (split.old-quant xs ys root b wide q s us ps vs rest taken w m r (inr (inr j))) k)
+        ]
+      ]
+
+  -- the boxes of those that go are clean
+  rows-clean : (r : OwnedQuant) → In r ps → f.clean r.over ≡ true
+  rows-clean r j =
+      let in-r : In r b.quants = split.old-quant xs ys root b wide q s us ps vs rest taken w m r (inr (inl j)) in
+      let o = has-in r.over bs (overs-held bs b r w.ordered in-b in-r) in
+      elim (or_cases (o.0.id == root) (f.clean o.0.id) (below-calm bs f root o.0 (settled o.0 o.1.0))) [
+        | inl e ↦ absurd (clash (r.over == root) (sym (ap (λ z. z == root) o.1.1) ∙ e) (not-top bs root w b r in-b in-r))
+        | inr e ↦ subst (λ z. f.clean z ≡ true) o.1.1 e
+      ]
+
+  select-settled : SettledBox hs g root s'
+  select-settled = settled-from hs g root s' (or_right (s == root) (g.clean s) (clean-s f (λ z k h. h) now-free now-clean rows-clean taken_free)) columns refl no-single scalars one
+    where
+      columns : list_all (calm_column hs g s') (columns_of s') ≡ true
+      columns = all-from (calm_column hs g s') (columns_of s') (λ d i. (
+          let n = column-named d.quant d.place s' (any-from (is_at d.quant d.place) d (columns_of s') i (and_from (d.quant == d.quant) (d.place == d.place) (eq-itself d.quant) (eq-itself d.place))) in
+          or_left (owns d.quant s') (error_free_under hs g d.quant d.place) (elim (or_cases (read_by s' d.quant) (graph.nodes_in d.quant s') (named-split d.quant s' n)) [
+            | inl e ↦ split.s-read xs ys root b wide q s us ps vs rest taken w m d.quant e
+            | inr e ↦ (v.own_nodes s' s-in d.quant e).0
+          ])))
+
+      no-single : has_no_single s' ≡ true
+      no-single = and_from (list_all single_free (heads ws)) (list_all single_free_cond taken) (heads-single ws) (all-from single_free_cond taken (λ d i. conds-single b ns-b d (in-taken d i)))
+
+      scalars : (r : OwnedQuant) → In r ps → is_S r.kind ≡ true → IsFirm hs r.over
+      scalars r i k = absurd (clash (is_F r.kind) (m.rows r i) (mapped.S-not-F r.kind k))
+
+  pub split-settled : (n : Node) → In n hs → SettledBox hs g root n
+  split-settled = split.each xs ys root b wide q s us ps vs rest taken w m (SettledBox hs g root) owner-settled other-settled select-settled
+
+-- a graph after such a split
+pub split-is-settled : (xs ys : List Node) (root : ℕ) (b : Node) (wide : OwnedQuant → ℕ) (q s : ℕ) (us ps vs : List OwnedQuant) (rest taken : List Cond) (w : Sound (xs ++ ys) root) (ty : Typed (xs ++ ys)) (sh : Shaped (xs ++ ys) root) (m : MaySplitSound xs ys b wide q s us ps vs rest taken) (plain : b.parts.role ≡ Plain)
+    (f : Facts) (tells : Tells f (xs ++ ys)) (settled : (n : Node) → In n (xs ++ ys) → SettledBox (xs ++ ys) f root n) (closed_b : is_closed (xs ++ ys) b.id ≡ true) (c : OwnedQuant) (in_c : In c b.quants) (open_c : is_closed (xs ++ ys) c.over ≡ false)
+    (taken_free : (d : Cond) → In d taken → cond_free (xs ++ ys) f false d ≡ true)
+    → (g : Facts) × (Tells g (split_boxes xs ys (sizes_of wide ps) b.id q s us ps vs rest taken)
+    × ((n : Node) → In n (split_boxes xs ys (sizes_of wide ps) b.id q s us ps vs rest taken) → SettledBox (split_boxes xs ys (sizes_of wide ps) b.id q s us ps vs rest taken) g root n))
+split-is-settled xs ys root b wide q s us ps vs rest taken w ty sh m plain f tells settled closed_b c in_c open_c taken_free =
+    ((all-told (split_boxes xs ys (sizes_of wide ps) b.id q s us ps vs rest taken)).0, ((all-told (split_boxes xs ys (sizes_of wide ps) b.id q s us ps vs rest taken)).1, split-settled xs ys root b wide q s us ps vs rest taken w ty sh m plain f tells settled closed_b c in_c open_c taken_free))
