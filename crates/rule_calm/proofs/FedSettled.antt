@@ -38,6 +38,9 @@ module _ (bs : List Node) (f : Facts) (root : ℕ) (n : Node) (x : SettledBox bs
   pub below-calm : clean_below bs f root n ≡ true
   below-calm = (and_parts (clean_below bs f root n) (list_all (calm_column bs f n) (columns_of n)) both-calm).0
 
+  pub magic-calm : (not (is_magic n.parts.role) || calm_magic bs f n) ≡ true
+  magic-calm = (and_parts (list_all (calm_scalar bs f) n.quants) (not (is_magic n.parts.role) || calm_magic bs f n) (and_parts (clean_below bs f root n && list_all (calm_column bs f n) (columns_of n)) (list_all (calm_scalar bs f) n.quants && (not (is_magic n.parts.role) || calm_magic bs f n)) x.calm).1).1
+
   pub columns-calm : list_all (calm_column bs f n) (columns_of n) ≡ true
   columns-calm = (and_parts (clean_below bs f root n) (list_all (calm_column bs f n) (columns_of n)) both-calm).1
 

@@ -172,6 +172,15 @@ pub record Names (bs hs : List Node) (kept : ℕ → Bool) (n : Node) : Type 0 w
   pub owned : (r : OwnedQuant) → In r n.quants → OwnedAs hs r
   pub named : (r : OwnedQuant) → holds r.id (named_by n) ≡ true → IsOwned bs r → (kept r.over ≡ true) × OwnedAs hs r
 
+-- of which its own alone are asked
+pub record Owning (bs hs : List Node) (kept : ℕ → Bool) (n : Node) : Type 0 where
+  pub before : In n bs
+  pub over : (r : OwnedQuant) → In r n.quants → kept r.over ≡ true
+  pub owned : (r : OwnedQuant) → In r n.quants → OwnedAs hs r
+
+pub names-owning : (bs hs : List Node) (kept : ℕ → Bool) (n : Node) → Names bs hs kept n → Owning bs hs kept n
+names-owning bs hs kept n s = record { before = s.before; over = s.over; owned = s.owned }
+
 pub still-names : (bs hs : List Node) (kept : ℕ → Bool) (n : Node) → Still bs hs kept n → Names bs hs kept n
 still-names bs hs kept n s = record { before = s.before; over = s.over; owned = λ r i. (r, ((n, (s.after, i)), (refl, refl))); named = s.named }
 
@@ -192,23 +201,12 @@ pub range-is : (xs : List Node) (root : ℕ) → Sound xs root → (known : ℕ 
 range-is xs root x known r o = ap (of_over false known) (owner-of xs x.once o.0 r o.1.0 o.1.1)
 
 module _ (bs hs : List Node) (root : ℕ) (w : Sound bs root) (v : Sound hs root) (kept : ℕ → Bool) where
-  module _ (f g : Facts) (c : Carried f g kept) (n : Node) (s : Names bs hs kept n) where
+  module _ (f g : Facts) (c : Carried f g kept) (n : Node) (s : Owning bs hs kept n) where
     pub overs-clean : OfOvers n.quants f.clean g.clean
     overs-clean r i h = c.clean r.over (s.over r i) h
 
     pub overs-free : (k : ℕ) → OfOvers n.quants (λ b. f.error_free b k) (λ b. g.error_free b k)
     overs-free k r i h = c.error_free r.over k (s.over r i) h
-
-    -- a column that it names
-    pub column-still : (x : Column) → In x (columns_of n) → ef_of bs f x.quant x.place ≡ true → ef_of hs g x.quant x.place ≡ true
-    column-still x i h =
-        let m = column-named x.quant x.place n (any-from (is_at x.quant x.place) x (columns_of n) i (and_from (x.quant == x.quant) (x.place == x.place) (eq-itself x.quant) (eq-itself x.place))) in
-        let o = found bs root w n s.before x.quant m in
-        let own : IsOwned bs o.quant = (o.owner, (o.owner_in, o.quant_in)) in
-        let t = s.named o.quant (subst (λ q. holds q (named_by n) ≡ true) (sym o.is_q) m) own in
-        let was : f.error_free o.quant.over x.place ≡ true = sym (range-is bs root w (λ b. f.error_free b x.place) o.quant own) ∙ ap (λ q. error_free_under bs f q x.place) o.is_q ∙ h in
-        subst (λ q. error_free_under hs g q x.place ≡ true) (t.1.1.1.0 ∙ o.is_q)
-        (range-is hs root v (λ b. g.error_free b x.place) t.1.0 t.1.1.0 ∙ subst (λ b. g.error_free b x.place ≡ true) (sym t.1.1.1.1) (c.error_free o.quant.over x.place t.0 was))
 
     module _ (fit : list_all (node_fits n.quants) (nodes_of n) ≡ true) (single : (r : OwnedQuant) → In r n.quants → is_S r.kind ≡ true → g.at_most_one r.over ≡ true) where
       -- what is known of the box under an own quantifier
@@ -245,19 +243,35 @@ module _ (bs hs : List Node) (root : ℕ) (w : Sound bs root) (v : Sound hs root
       pub nodes-still : SameNodes (ef_of bs f) (ef_of hs g) (cl_of bs f) (cl_of hs g) (one_of bs f) (one_of hs g) (nodes_of n)
       nodes-still z i = node-still z (all-in (node_fits n.quants) z (nodes_of n) fit i)
 
+  module _ (f g : Facts) (c : Carried f g kept) (n : Node) (s : Names bs hs kept n) where
+    abbrev o : Owning bs hs kept n
+    o = names-owning bs hs kept n s
+
+    -- a column that it names
+    pub column-still : (x : Column) → In x (columns_of n) → ef_of bs f x.quant x.place ≡ true → ef_of hs g x.quant x.place ≡ true
+    column-still x i h =
+        let m = column-named x.quant x.place n (any-from (is_at x.quant x.place) x (columns_of n) i (and_from (x.quant == x.quant) (x.place == x.place) (eq-itself x.quant) (eq-itself x.place))) in
+        let z = found bs root w n s.before x.quant m in
+        let own : IsOwned bs z.quant = (z.owner, (z.owner_in, z.quant_in)) in
+        let t = s.named z.quant (subst (λ q. holds q (named_by n) ≡ true) (sym z.is_q) m) own in
+        let was : f.error_free z.quant.over x.place ≡ true = sym (range-is bs root w (λ b. f.error_free b x.place) z.quant own) ∙ ap (λ q. error_free_under bs f q x.place) z.is_q ∙ h in
+        subst (λ q. error_free_under hs g q x.place ≡ true) (t.1.1.1.0 ∙ z.is_q)
+        (range-is hs root v (λ b. g.error_free b x.place) t.1.0 t.1.1.0 ∙ subst (λ b. g.error_free b x.place ≡ true) (sym t.1.1.1.1) (c.error_free z.quant.over x.place t.0 was))
+
+    module _ (fit : list_all (node_fits n.quants) (nodes_of n) ≡ true) (single : (r : OwnedQuant) → In r n.quants → is_S r.kind ≡ true → g.at_most_one r.over ≡ true) where
       module _ (ns : has_no_single n ≡ true) where
         pub clean-still : clean_by bs f n.parts.kind n ≡ true → clean_by hs g n.parts.kind n ≡ true
-        clean-still = clean-same bs hs f g n column-still nodes-still ns overs-clean overs-free n.parts.kind
+        clean-still = clean-same bs hs f g n column-still (nodes-still f g c n o fit single) ns (overs-clean f g c n o) (overs-free f g c n o) n.parts.kind
 
         pub free-still : (f.clean n.id ≡ true → g.clean n.id ≡ true) → (k : ℕ) → free_by bs f n.parts.kind n k ≡ true → free_by hs g n.parts.kind n k ≡ true
-        free-still here = free-same bs hs f g n column-still nodes-still ns overs-clean overs-free here n.parts.kind
+        free-still here = free-same bs hs f g n column-still (nodes-still f g c n o fit single) ns (overs-clean f g c n o) (overs-free f g c n o) here n.parts.kind
 
         -- a cell, and a condition
         pub cell-still : (x : Term) (s two : Bool) → In x n.parts.head → is_free bs f s x ≡ true → is_free hs g two x ≡ true
-        cell-still x s two i h = cell-same bs hs f g n column-still nodes-still ns s two x i h
+        cell-still x s two i h = cell-same bs hs f g n column-still (nodes-still f g c n o fit single) ns s two x i h
 
         pub cond-still : (p : Cond) (s two : Bool) → In p n.parts.conds.items → cond_free bs f s p ≡ true → cond_free hs g two p ≡ true
-        cond-still p s two i h = cond-same bs hs f g n column-still nodes-still ns s two p i h
+        cond-still p s two i h = cond-same bs hs f g n column-still (nodes-still f g c n o fit single) ns s two p i h
 
 -- ---- firm boxes stay firm
 

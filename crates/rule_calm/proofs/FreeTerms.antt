@@ -91,7 +91,7 @@ module _ (boxes : List Node) (known : Facts) where
 pair : (a b c d : Bool) → (a ≡ true → c ≡ true) → (b ≡ true → d ≡ true) → (a && b) ≡ true → (c && d) ≡ true
 pair a b c d f g h = let p = and_parts a b h in and_from c d (f p.0) (g p.1)
 
-fold-any : (s two : Bool) (f : t.Aggregate) → not_single f ≡ true → fold_free s f ≡ true → fold_free two f ≡ true
+pub fold-any : (s two : Bool) (f : t.Aggregate) → not_single f ≡ true → fold_free s f ≡ true → fold_free two f ≡ true
 fold-any s two t.single n h = absurd (let z : ⊥ = cc in z)
 fold-any s two t.count n h = refl
 fold-any s two t.sum n h = h

@@ -14,7 +14,6 @@ mod BehindFacts
 mod FedSettled
 mod MappedBox
 mod StepFacts
-mod SplitSettled
 mod PairSettled
 mod SelectSettled
 mod SetSettled
@@ -23,3 +22,8 @@ mod GroupSettled
 mod JoinedSettled
 mod KeylessSettled
 mod FiringSettled
+mod MovedTerms
+mod MovedFacts
+mod ClosedParts
+mod TurnSettled
+mod SplitSettled
