@@ -27,3 +27,4 @@ mod MovedFacts
 mod ClosedParts
 mod TurnSettled
 mod SplitSettled
+mod FeedSettled

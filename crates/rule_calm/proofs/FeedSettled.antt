@@ -1,0 +1,349 @@
+-- A settled graph stays settled where a box that looks up one quantifier alone is fed with it.
+use Rattle.std.proofs.Common.{ℕ, zero, suc, ◌==◌, ◌≡◌, ◌≤◌, ◌<◌, ◌+◌, ◌++◌, ◌&&◌, ◌||◌, cond, nat_le, nat_lt, map, not, Bool, true, false, List, [], ◌∷◌, length, ◌⊎◌, refl, sym, ap, ap₂, subst, ◌∙◌, eqb-true, inl, inr, arith}
+use Rattle.std.specs.List.{flat_map, list_all, list_any}
+use Rattle.std.proofs.lemmas.Bool.{and_from, and_parts, cases_Bool, eq-eqb, le-leb, leb-true, lt-ltb, ltb-true, or_cases, or_left, or_right}
+use Rattle.list_laws.specs.Lists.{In, holds, first}
+use Rattle.list_laws.proofs.Booleans.{clash, neither-left, neither-right}
+use Rattle.list_laws.proofs.Membership.{all-from, all-in, any-from, any-in, any-none, eq-itself, in-append, in-left, in-right}
+use Rattle.qgm_core.specs.Boxes.{has_box, is_quant, owns, width}
+use Rattle.qgm_core.specs.Edits.{range}
+use Rattle.qgm_core.specs.Free.{named_by}
+use Rattle.qgm_core.specs.Kinds.{is_F, is_S, is_magic, width_by}
+use Rattle.qgm_core.specs.declared.kinds.BoxKind.{BoxKind}
+use Rattle.qgm_core.specs.declared.kinds.BoxKind.TheVariants.{Select}
+use Rattle.qgm_core.specs.declared.kinds.QuantKind.TheVariants.{F}
+use Rattle.qgm_core.specs.declared.kinds.Role.{Role}
+use Rattle.qgm_core.specs.declared.kinds.Role.TheVariants.{Plain}
+use Rattle.qgm_core.specs.declared.node.Node.{Node}
+use Rattle.qgm_core.specs.declared.owned.OwnedQuant.{OwnedQuant}
+use Rattle.qgm_core.proofs.Reaching.{in-has, overs-held}
+use Rattle.qgm_meaning.specs.Scope.{loose, put_node}
+use Rattle.qgm_meaning.specs.Searches.{names, names_cond}
+use Rattle.qgm_meaning.specs.Tags.{columns_from}
+use Rattle.qgm_terms.specs.Named.{columns_in, columns_in_cond}
+use Rattle.qgm_terms.specs.Substitution.{cell_at, column_substituted, substituted, substituted_cond}
+use Rattle.qgm_terms.specs.Terms as t
+use Rattle.qgm_terms.specs.Terms.{Cond, Term, always, and, col, compare, null_int, or, same}
+use Rattle.qgm_terms.specs.declared.named.Column.{Column}
+use Rattle.qgm_wellformed.specs.Columns.{columns_of}
+use Rattle.qgm_wellformed.specs.Shapes.{node_fits, nodes_of}
+use Rattle.qgm_edit_laws.specs.Graph as graph
+use Rattle.qgm_edit_laws.specs.Graph.{Sound, reads_in}
+use Rattle.qgm_edit_laws.specs.Rebuilds.{IsOwned}
+use Rattle.qgm_edit_laws.specs.Shaped.{Shaped, Typed}
+use Rattle.qgm_edit_laws.proofs.Adds.{loose-owned}
+use Rattle.qgm_edit_laws.proofs.Edits.{length-map}
+use Rattle.qgm_edit_laws.proofs.FreeLoose.{free-looks}
+use Rattle.qgm_edit_laws.proofs.Interposed.{over_now, turned}
+use Rattle.qgm_edit_laws.proofs.Ranks.{has-in, same-box}
+use Rattle.qgm_edit_laws.proofs.Read.{column-named, columns-listed, is_at}
+use Rattle.qgm_edit_laws.proofs.Rebuilt.{one-quant}
+use Rattle.qgm_edit_laws.proofs.Scope.{one-owner}
+use Rattle.qgm_edit_laws.proofs.Turns.{first-own}
+use Rattle.qgm_edit_laws.proofs.TypedKept.{Ranging, found}
+use Rattle.qgm_props.specs.Calm.{calm_column, calm_magic, clean_below, is_closed}
+use Rattle.qgm_props.specs.Inferred.{Closed, Facts, all_places, all_under, all_under_F, at_place, clean_by, cond_free, error_free_under, free_by, is_free, of_cell}
+use Rattle.qgm_props.specs.Laws.{Tells}
+use Rattle.qgm_props.proofs.Settled.{all-told}
+use Rattle.rule_feed.specs.Feed.{Numbers, all_of, conj, fed_below, fed_box, fed_boxes, fed_cond, fed_node, fed_owner, fed_term, how_many, inside, joins, magic_box, named_below, new_fed, new_magic, picked, put_cells, up}
+use Rattle.rule_feed.specs.FeedLaws.{FeedsOne}
+use Rattle.rule_feed.proofs.FeedLooks as looks
+use Rattle.rule_feed.proofs.FeedReads.{columns-cell, length-picked, put-cell}
+use Rattle.rule_feed.proofs.FeedRegion as region
+use Rattle.rule_feed.proofs.FeedScope as feed_scope
+use Rattle.rule_feed.proofs.FeedSound as fed
+use Rattle.rule_feed.proofs.FeedTyped as typed
+use Rattle.rule_feed.proofs.FeedTyped.{turned-has, turned-stays}
+use Rattle.rule_calm.specs.Settled.{IsFirm, SettledBox, has_no_single, single_free}
+use Rattle.rule_calm.proofs.BehindFacts.{place-map}
+use Rattle.rule_calm.proofs.ClosedParts.{closed-own, open-not-firm, over-clean}
+use Rattle.rule_calm.proofs.FedSettled.{below-calm, columns-calm, free-by}
+use Rattle.rule_calm.proofs.Framed.{Carried, Covers, FirmStays, back, back-carried, firm-single, firm-stays, kept-clean, kept-free, known-clean, known-free, range-is, settled-from, told-closed}
+use Rattle.rule_calm.proofs.FreeTerms.{SameNodes, cl_of, cond-is, cond_with, ef_of, free_with, one_of}
+use Rattle.rule_calm.proofs.HeadPlaces.{columns-single, place-alone, place-left, place-range, place-right}
+use Rattle.rule_calm.proofs.MappedBox.{Image, Match, S-not-F, all-made, cell-mapped, cond-mapped, image-covers, image-settled, own-nodes}
+use Rattle.rule_calm.proofs.MappedTerms.{as_it_is, behind_i, every_i, fed-mapped, fed-mapped-cond, mapped_cond, put-mapped, put-mapped-cond, some_i}
+use Rattle.rule_calm.proofs.MappedTerms as terms
+use Rattle.rule_calm.proofs.PartFacts.{above-not-under, part-carried, under, under-itself, under-named, under-over}
+use Rattle.rule_calm.proofs.RebuiltSettled.{nodes-fit}
+use Rattle.rule_calm.proofs.StepFacts.{F-from, F-in, closed-looks, looks-closed, map-same, shut-looks}
+use Rattle.rule_calm.proofs.TurnSettled.{select-single}
+
+-- ---- lists of the new boxes
+
+picked-all : (P : Term → Bool) (named : ℕ → Bool) (q w k : ℕ) → ((z : ℕ) → named z ≡ true → P (col q z) ≡ true) → list_all P (picked named q k w) ≡ true
+picked-all P named q zero k h = refl
+picked-all P named q (suc w) k h = at (named k) refl (picked-all P named q w (suc k) h)
+  where
+    at : (b : Bool) → named k ≡ b → list_all P (picked named q (suc k) w) ≡ true → list_all P (cond b (col q k ∷ picked named q (suc k) w) (picked named q (suc k) w)) ≡ true
+    at true e rec = and_from (P (col q k)) (list_all P (picked named q (suc k) w)) (h k e) rec
+    at false e rec = rec
+
+place-all : (P : Term → Bool) (xs : List Term) (k : ℕ) → list_all P xs ≡ true → 1 ≤ k → k ≤ length xs → at_place P xs k ≡ true
+place-all P xs zero h a o = absurd (let z : ⊥ = omega (arith, a) in z)
+place-all P [] (suc k) h a o = absurd (let e : length {A = Term} [] ≡ 0 = refl in let z : ⊥ = omega (arith, o, e) in z)
+place-all P (x ∷ xs) (suc zero) h a o = (and_parts (P x) (list_all P xs) h).0
+place-all P (x ∷ xs) (suc (suc k)) h a o = place-all P xs (suc k) (and_parts (P x) (list_all P xs) h).1 (omega arith) (let e : length (x ∷ xs) ≡ suc (length xs) = refl in omega (arith, o, e))
+
+joins-all : (P : Cond → Bool) (named : ℕ → Bool) (p i w k j n : ℕ) → ((z l : ℕ) → named z ≡ true → 1 ≤ l → l ≤ n → P (compare same (col p z) (col i l)) ≡ true) → 1 ≤ j → j + how_many named k w ≤ suc n → list_all P (joins named p i k j w) ≡ true
+joins-all P named p i zero k j n h a o = refl
+joins-all P named p i (suc w) k j n h a o = at (named k) refl o (λ e l. joins-all P named p i w (suc k) (suc j) n h (omega (arith, a)) l) (λ e l. joins-all P named p i w (suc k) j n h a l)
+  where
+    at : (b : Bool) → named k ≡ b → j + cond b (suc (how_many named (suc k) w)) (how_many named (suc k) w) ≤ suc n → (named k ≡ true → suc j + how_many named (suc k) w ≤ suc n → list_all P (joins named p i (suc k) (suc j) w) ≡ true)
+        → (named k ≡ false → j + how_many named (suc k) w ≤ suc n → list_all P (joins named p i (suc k) j w) ≡ true)
+        → list_all P (cond b (compare same (col p k) (col i j) ∷ joins named p i (suc k) (suc j) w) (joins named p i (suc k) j w)) ≡ true
+    at true e o more others = and_from (P (compare same (col p k) (col i j))) (list_all P (joins named p i (suc k) (suc j) w)) (h k j e a (omega (arith, o))) (more e (omega (arith, o)))
+    at false e o more others = others e o
+
+module _ (ef : ℕ → ℕ → Bool) (cl one : ℕ → Bool) (two : Bool) where
+  conj-free : (x : Cond) (ys : List Cond) → cond_with ef cl one two x ≡ true → list_all (cond_with ef cl one two) ys ≡ true → cond_with ef cl one two (conj x ys) ≡ true
+  conj-free x [] h k = h
+  conj-free x (y ∷ ys) h k =
+      let z = and_parts (cond_with ef cl one two y) (list_all (cond_with ef cl one two) ys) k in
+      conj-free (and x y) ys (and_from (cond_with ef cl one two x) (cond_with ef cl one two y) h z.0) z.1
+
+  all_of-free : (ys : List Cond) → list_all (cond_with ef cl one two) ys ≡ true → cond_with ef cl one two (all_of ys) ≡ true
+  all_of-free [] k = refl
+  all_of-free (y ∷ ys) k = let z = and_parts (cond_with ef cl one two y) (list_all (cond_with ef cl one two) ys) k in conj-free y ys z.0 z.1
+
+put-single : (named : ℕ → Bool) (q w k j : ℕ) → list_all single_free (put_cells named q k j w) ≡ true
+put-single named q zero k j = refl
+put-single named q (suc w) k j = at (named k) (put-single named q w (suc k) (suc j)) (put-single named q w (suc k) j)
+  where
+    at : (b : Bool) → list_all single_free (put_cells named q (suc k) (suc j) w) ≡ true → list_all single_free (put_cells named q (suc k) j w) ≡ true → list_all single_free (cond b (col q j ∷ put_cells named q (suc k) (suc j) w) (null_int ∷ put_cells named q (suc k) j w)) ≡ true
+    at true x y = x
+    at false x y = y
+
+-- places up to w
+places-from : (w : ℕ) (f : ℕ → Bool) → ((k : ℕ) → 1 ≤ k → k ≤ w → f k ≡ true) → all_places w f ≡ true
+places-from zero f h = refl
+places-from (suc w) f h = and_from (f (suc w)) (all_places w f) (h (suc w) (omega arith) (omega arith)) (places-from w f (λ k a o. h k a (omega (arith, o))))
+
+module _ (xs ys : List Node) (root : ℕ) (w : Sound (xs ++ ys) root) (ty : Typed (xs ++ ys)) (sh : Shaped (xs ++ ys) root) (b s c : Node) (rp ri : OwnedQuant) (x : Numbers) (m : FeedsOne xs ys root b s c rp ri x) (shh : Shaped (fed_boxes xs ys b s c rp ri x) root) (plain : b.parts.role ≡ Plain)
+    (f : Facts) (tells : Tells f (xs ++ ys)) (settled : (n : Node) → In n (xs ++ ys) → SettledBox (xs ++ ys) f root n) (closed_b : is_closed (xs ++ ys) b.id ≡ true) where
+  abbrev bs : List Node
+  bs = xs ++ ys
+
+  abbrev hs : List Node
+  hs = fed_boxes xs ys b s c rp ri x
+
+  abbrev p : ℕ
+  p = rp.id
+
+  abbrev i : ℕ
+  i = ri.id
+
+  abbrev named : ℕ → Bool
+  named = named_below (xs ++ ys) c.id rp.id
+
+  abbrev ins : ℕ → Bool
+  ins = inside (xs ++ ys) c.id
+
+  abbrev W : ℕ
+  W = width s
+
+  abbrev N : ℕ
+  N = how_many (named_below (xs ++ ys) c.id rp.id) 1 (width s)
+
+  abbrev V : ℕ
+  V = width c
+
+  abbrev ks : List Cond
+  ks = joins (named_below (xs ++ ys) c.id rp.id) rp.id ri.id 1 1 (width s)
+
+  abbrev K : Cond
+  K = all_of (joins (named_below (xs ++ ys) c.id rp.id) rp.id ri.id 1 1 (width s))
+
+  abbrev G : Node → Node
+  G = fed_node (xs ++ ys) b s c rp ri x
+
+  abbrev b' : Node
+  b' = fed_owner (named_below (xs ++ ys) c.id rp.id) rp.id ri x.d (width s) b
+
+  abbrev d' : Node
+  d' = new_fed (xs ++ ys) b s c rp ri x
+
+  abbrev m' : Node
+  m' = new_magic (xs ++ ys) b s c rp ri x
+
+  abbrev pcells : List Term
+  pcells = put_cells (named_below (xs ++ ys) c.id rp.id) x.dm 1 1 (width s)
+
+  abbrev icells : List Term
+  icells = columns_from ri.id (suc (how_many (named_below (xs ++ ys) c.id rp.id) 1 (width s))) (width c)
+
+  v : Sound hs root
+  v = fed.sound-after xs ys root w b s c rp ri x m
+
+  in-b : In b bs
+  in-b = feed_scope.in-b xs ys root w b s c rp ri x m
+
+  in-s : In s bs
+  in-s = feed_scope.in-s xs ys root w b s c rp ri x m
+
+  in-c : In c bs
+  in-c = feed_scope.in-c xs ys root w b s c rp ri x m
+
+  g-in : (y : Node) → In y bs → In (G y) hs
+  g-in = typed.g-in xs ys root w ty b s c rp ri x m
+
+  d-in : In d' hs
+  d-in = typed.d-in xs ys root w ty b s c rp ri x m
+
+  m-in : In m' hs
+  m-in = typed.m-in xs ys root w ty b s c rp ri x m
+
+  g-b : G b ≡ b'
+  g-b = region.g-b xs ys root w b s c rp ri x m b (eq-itself b.id)
+
+  b-in : In b' hs
+  b-in = subst (λ (z : Node). In z hs) g-b (g-in b in-b)
+
+  -- ---- what is looked up
+
+  held : (z : ℕ) → has_box bs z ≡ true → has_box hs z ≡ true
+  held z h = let y = has-in z bs h in subst (λ k. has_box hs k ≡ true) (feed_scope.id xs ys root w b s c rp ri x m y.0 ∙ y.1.1) (in-has (G y.0) hs (g-in y.0 y.1.0))
+
+  more : (z q : ℕ) → has_box bs z ≡ true → looks.look xs ys root w b s c rp ri x m z q ≡ true → loose hs z q ≡ true
+  more z q h = looks.more xs ys root w b s c rp ri x m z q (held z h)
+
+  shut : (z : ℕ) → has_box bs z ≡ true → is_closed hs z ≡ is_closed bs z
+  shut z h = shut-looks bs hs root w v z
+      (λ k l. feed_scope.look-some xs ys root w b s c rp ri x m z k (looks.less xs ys root w b s c rp ri x m z k l))
+      (λ k l. elim (cases_Bool (ins z)) [
+        | inr o ↦ (k, more z k h (feed_scope.look-out xs ys root w b s c rp ri x m z k o ∙ l))
+        | inl o ↦ elim (cases_Bool (k == p)) [
+          | inl e ↦ (x.dm, more z x.dm h (feed_scope.look-dm xs ys root w b s c rp ri x m z o ∙ subst (λ q. loose bs z q ≡ true) (eqb-true k p e) l))
+          | inr e ↦ (k, more z k h (feed_scope.look-else xs ys root w b s c rp ri x m z k o (not-dm k l) e ∙ l))
+        ]
+      ])
+    where
+      not-dm : (k : ℕ) → loose bs z k ≡ true → (k == x.dm) ≡ false
+      not-dm k l = elim (cases_Bool (k == x.dm)) [
+        | inr e ↦ e
+        | inl e ↦ absurd (clash (list_any (owns x.dm) bs) (subst (λ q. list_any (owns q) bs ≡ true) (eqb-true k x.dm e) (loose-owned bs root w z k l)) m.new_dm)
+      ]
+
+  open-c : is_closed bs ri.over ≡ false
+  open-c = elim (cases_Bool (is_closed bs ri.over)) [ inr e ↦ e | inl e ↦ absurd (clash (loose bs c.id p) m.opened (subst (λ z. loose bs z p ≡ false) m.over_c (closed-looks bs root w ri.over e p))) ]
+
+  closed-b' : (q : ℕ) → loose hs b'.id q ≡ false
+  closed-b' = closed-looks hs root v b.id (shut b.id (in-has b bs in-b) ∙ closed_b)
+
+  new-closed : (z : ℕ) → has_box bs z ≡ false → (q : ℕ) → loose hs z q ≡ false
+  new-closed z h q = elim (cases_Bool (loose hs z q)) [
+    | inr e ↦ e
+    | inl e ↦ absurd (clash (looks.look xs ys root w b s c rp ri x m z q) (looks.less xs ys root w b s c rp ri x m z q e) (feed_scope.look-none xs ys root w b s c rp ri x m z q (feed_scope.new-none xs ys root w b s c rp ri x m z h)))
+  ]
+
+  -- ---- the other boxes
+
+  abbrev F1 : ℕ → ℕ → Term
+  F1 = column_substituted rp.id (put_cells (named_below (xs ++ ys) c.id rp.id) x.dm 1 1 (width s))
+
+  abbrev F2 : ℕ → ℕ → Term
+  F2 = column_substituted ri.id (columns_from ri.id (suc (how_many (named_below (xs ++ ys) c.id rp.id) 1 (width s))) (width c))
+
+  bare-head : (q : ℕ) (y : Node) → graph.nodes_in q y ≡ false → (e : Term) → In e y.parts.head → names q e ≡ false
+  bare-head q y h e j = any-none (names q) e y.parts.head (neither-left (list_any (names q) y.parts.head) (list_any (names_cond q) y.parts.conds.items) h) j
+
+  bare-conds : (q : ℕ) (y : Node) → graph.nodes_in q y ≡ false → (e : Cond) → In e y.parts.conds.items → names_cond q e ≡ false
+  bare-conds q y h e j = any-none (names_cond q) e y.parts.conds.items (neither-right (list_any (names q) y.parts.head) (list_any (names_cond q) y.parts.conds.items) h) j
+
+  image-in : (y : Node) → In y bs → Image F1 y (fed_below named c.id p x.dm W y)
+  image-in y j = record {
+    id = refl;
+    kind = refl;
+    role = refl;
+    head = map-same (substituted p pcells) (terms.mapped F1 as_it_is as_it_is) y.parts.head (λ e k. put-mapped p pcells e (bare-head p y (feed_scope.not-node-p xs ys root w b s c rp ri x m y j) e k));
+    conds = map-same (substituted_cond p pcells) (mapped_cond F1 as_it_is as_it_is) y.parts.conds.items (λ e k. put-mapped-cond p pcells e (bare-conds p y (feed_scope.not-node-p xs ys root w b s c rp ri x m y j) e k));
+    quants = refl;
+  }
+
+  image-out : (y : Node) → In y bs → (y.id == b.id) ≡ false → Image F2 y (put_node i icells y)
+  image-out y j nob = record {
+    id = refl;
+    kind = refl;
+    role = refl;
+    head = map-same (substituted i icells) (terms.mapped F2 as_it_is as_it_is) y.parts.head (λ e k. put-mapped i icells e (bare-head i y (feed_scope.not-node-i xs ys root w b s c rp ri x m y j nob) e k));
+    conds = map-same (substituted_cond i icells) (mapped_cond F2 as_it_is as_it_is) y.parts.conds.items (λ e k. put-mapped-cond i icells e (bare-conds i y (feed_scope.not-node-i xs ys root w b s c rp ri x m y j nob) e k));
+    quants = refl;
+  }
+
+  in-apart : (y : Node) → ins y.id ≡ true → (y.id == b.id) ≡ false
+  in-apart = feed_scope.in-apart xs ys root w b s c rp ri x m
+
+  below-in : (y : Node) → In y bs → ins y.id ≡ true → In (fed_below named c.id p x.dm W y) hs
+  below-in y j t = subst (λ (z : Node). In z hs) (region.g-in xs ys root w b s c rp ri x m y (in-apart y t) t) (g-in y j)
+
+  beside-in : (y : Node) → In y bs → (y.id == b.id) ≡ false → ins y.id ≡ false → In (put_node i icells y) hs
+  beside-in y j nob t = subst (λ (z : Node). In z hs) (region.g-out xs ys root w b s c rp ri x m y nob t) (g-in y j)
+
+  -- ---- firm boxes
+
+  image-firm : (φ : ℕ → ℕ → Term) (y z : Node) → Image φ y z → In y bs → In z hs → FirmStays bs hs (λ k. true) y
+  image-firm φ y z e j k = record {
+    n = z;
+    after = k;
+    id = e.id;
+    kind = e.kind;
+    role = e.role;
+    conds = λ h. e.conds ∙ ap (map (mapped_cond φ as_it_is as_it_is)) h;
+    quants = e.quants;
+    over = λ r l. refl;
+    shut = shut y.id (in-has y bs j);
+    shut_over = λ r l. shut r.over (overs-held bs y r w.ordered j l);
+  }
+
+  firm : (z : ℕ) → IsFirm bs z → IsFirm hs z
+  firm z h = firm-stays bs hs (λ k. true) (λ u j k. elim (cases_Bool (u.id == b.id)) [
+    | inl e ↦ inr (λ y. open-not-firm bs root w b in-b m.a_select closed_b ri m.owned_i open-c (subst (IsFirm bs) (eqb-true u.id b.id e) y))
+    | inr e ↦ elim (cases_Bool (ins u.id)) [
+      | inl t ↦ inl (image-firm F1 u (fed_below named c.id p x.dm W u) (image-in u j) j (below-in u j t))
+      | inr t ↦ inl (image-firm F2 u (put_node i icells u) (image-out u j e) j (beside-in u j e t))
+    ]
+  ]) z h refl
+
+  abbrev g : Facts
+  g = (all-told hs).0
+
+  closed : Closed hs g
+  closed = told-closed hs g (all-told hs).1
+
+  one : (z : ℕ) → IsFirm hs z → g.at_most_one z ≡ true
+  one = firm-single hs v.ordered g closed
+
+  single : (n : Node) → In n bs → (r : OwnedQuant) → In r n.quants → is_S r.kind ≡ true → g.at_most_one r.over ≡ true
+  single n j r k h = one r.over (firm r.over ((settled n j).scalars r k h))
+
+  -- ---- quantifiers
+
+  -- one that isn't i ranges over the same box after
+  owner-now : (y : Node) → In y bs → (r : OwnedQuant) → In r y.quants → (r.id == i) ≡ false → IsOwned hs r
+  owner-now y j r k h = elim (cases_Bool (y.id == b.id)) [
+    | inr e ↦ (G y, (g-in y j, subst (λ (z : List OwnedQuant). In r z) (sym (fed.quants-same xs ys root w b s c rp ri x m y j e)) k))
+    | inl e ↦ (
+        let o : b ≡ y = same-box bs b y w.ordered in-b j (sym (eqb-true y.id b.id e)) in
+        (G b, (g-in b in-b, subst (λ (z : List OwnedQuant). In r z) (sym (fed.quants-b xs ys root w b s c rp ri x m)) (turned-stays i x.d b.quants r (subst (λ (z : Node). In r z.quants) (sym o) k) h))))
+  ]
+
+  abbrev ri' : OwnedQuant
+  ri' = over_now x.d ri
+
+  i-in : In ri' b'.quants
+  i-in = turned-has i x.d b.quants ri (first-own ri b.quants (feed_scope.few-b xs ys root w b s c rp ri x m i) m.owned_i)
+
+  i-owned : IsOwned hs ri'
+  i-owned = (b', (b-in, i-in))
+
+  found-column : (y : Node) → In y bs → (e : Column) → In e (columns_of y) → Ranging bs e.quant
+  found-column y j e k = found bs root w y j e.quant (column-named e.quant e.place y (any-from (is_at e.quant e.place) e (columns_of y) k (and_from (e.quant == e.quant) (e.place == e.place) (eq-itself e.quant) (eq-itself e.place))))
+
+  column-holds : (y : Node) (e : Column) → In e (columns_of y) → holds e.quant (named_by y) ≡ true
+  column-holds y e k = column-named e.quant e.place y (any-from (is_at e.quant e.place) e (columns_of y) k (and_from (e.quant == e.quant) (e.place == e.place) (eq-itself e.quant) (eq-itself e.place)))
+
+  -- a column of another quantifier than i
+  column-now : (f' : Facts) (q k : ℕ) → (o : Ranging bs q) → (f'.error_free o.quant.over k ≡ true → g.error_free o.quant.over k ≡ true) → (q == i) ≡ false → error_free_under bs f' q k ≡ true → error_free_under hs g q k ≡ true
+  column-now f' q k o up e h =
+      subst (λ z. error_free_under hs g z k ≡ true) o.is_q (range-is hs root v (λ z. g.error_free z k) o.quant (owner-now o.owner o.owner_in o.quant o.quant_in (ap (λ z. z == i) o.is_q ∙ e))
+        ∙ up (sym (range-is bs root w (λ z. f'.error_free z k) o.quant (o.owner, (o.owner_in, o.quant_in))) ∙ ap (λ z. error_free_under bs f' z k) o.is_q ∙ h))
