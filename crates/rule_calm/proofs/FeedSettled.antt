@@ -4,7 +4,7 @@ use Rattle.std.specs.List.{flat_map, list_all, list_any}
 use Rattle.std.proofs.lemmas.Bool.{and_from, and_parts, cases_Bool, eq-eqb, le-leb, leb-true, lt-ltb, ltb-true, or_cases, or_left, or_right}
 use Rattle.list_laws.specs.Lists.{In, holds, first}
 use Rattle.list_laws.proofs.Booleans.{clash, neither-left, neither-right}
-use Rattle.list_laws.proofs.Membership.{all-from, all-in, any-from, any-in, any-none, eq-itself, in-append, in-left, in-right}
+use Rattle.list_laws.proofs.Membership.{all-from, all-in, any-from, any-in, any-none, eq-false-sym, eq-itself, in-append, in-left, in-right}
 use Rattle.qgm_core.specs.Boxes.{has_box, is_quant, owns, width}
 use Rattle.qgm_core.specs.Edits.{range}
 use Rattle.qgm_core.specs.Free.{named_by}
@@ -347,3 +347,115 @@ module _ (xs ys : List Node) (root : ℕ) (w : Sound (xs ++ ys) root) (ty : Type
   column-now f' q k o up e h =
       subst (λ z. error_free_under hs g z k ≡ true) o.is_q (range-is hs root v (λ z. g.error_free z k) o.quant (owner-now o.owner o.owner_in o.quant o.quant_in (ap (λ z. z == i) o.is_q ∙ e))
         ∙ up (sym (range-is bs root w (λ z. f'.error_free z k) o.quant (o.owner, (o.owner_in, o.quant_in))) ∙ ap (λ z. error_free_under bs f' z k) o.is_q ∙ h))
+
+  -- ---- what s reaches
+
+  abbrev part : ℕ → Bool
+  part = under (xs ++ ys) s.id
+
+  part-not-b : (y : Node) → part y.id ≡ true → (y.id == b.id) ≡ false
+  part-not-b y h = elim (cases_Bool (y.id == b.id)) [ inr e ↦ e | inl e ↦ absurd (above-not-under bs root w s.id b rp in-b m.owned_p m.over_s (subst (λ z. part z ≡ true) (eqb-true y.id b.id e) h)) ]
+
+  part-over : (y : Node) → In y bs → part y.id ≡ true → (r : OwnedQuant) → In r y.quants → part r.over ≡ true
+  part-over y j h r k = under-over bs root w s.id y r j k h
+
+  part-named : (y : Node) → In y bs → part y.id ≡ true → (e : Column) → In e (columns_of y) → (o : Ranging bs e.quant) → part o.owner.id ≡ true
+  part-named y j h e k o = elim (under-named bs root w s.id y o.quant j h (subst (λ q. holds q (named_by y) ≡ true) (sym o.is_q) (column-holds y e k)) (o.owner, (o.owner_in, o.quant_in))) [
+    | inr u ↦ u
+    | inl u ↦ absurd (clash (loose bs s.id o.quant.id) (free-looks bs root w s.id o.quant.id u) (m.closed o.quant.id))
+  ]
+
+  not-of-b : (q k : ℕ) (o : Ranging bs k) → part o.owner.id ≡ true → owns q b ≡ true → (k == q) ≡ false
+  not-of-b q k o h own = elim (cases_Bool (k == q)) [
+    | inr e ↦ e
+    | inl e ↦ absurd (
+        let y : o.owner ≡ b = one-owner bs root w q o.owner b o.owner_in in-b (any-from (is_quant q) o.quant o.owner.quants o.quant_in (eq-eqb o.quant.id q (o.is_q ∙ eqb-true k q e))) own in
+        clash (o.owner.id == b.id) (eq-eqb o.owner.id b.id (ap (λ (z : Node). z.id) y)) (part-not-b o.owner h))
+  ]
+
+  part-free : (y : Node) → In y bs → part y.id ≡ true → (e : Column) → In e (columns_of y) → ((e.quant == p) ≡ false) × (((e.quant == i) ≡ false) × (error_free_under bs (back bs hs f g part) e.quant e.place ≡ true → error_free_under hs g e.quant e.place ≡ true))
+  part-free y j h e k =
+      let o = found-column y j e k in
+      let u = part-named y j h e k o in
+      let not-i = not-of-b i e.quant o u (feed_scope.own-i xs ys root w b s c rp ri x m) in
+      (
+        not-of-b p e.quant o u (feed_scope.own-p xs ys root w b s c rp ri x m),
+        (not-i, λ z. column-now (back bs hs f g part) e.quant e.place o (λ a. (back-carried bs hs f g part).error_free o.quant.over e.place (part-over o.owner o.owner_in u o.quant o.quant_in) a) not-i z),
+      )
+
+  part-covers : (y : Node) → In y bs → part y.id ≡ true → Covers bs hs f g part y
+  part-covers y j h = elim (cases_Bool (ins y.id)) [
+    | inl t ↦ image-covers bs hs root w v F1 y (fed_below named c.id p x.dm W y) j (below-in y j t) (image-in y j) (nodes-fit bs root sh y j) (settled y j).no_single f g closed part h (part-over y j h) (single y j)
+        (λ two e k z. (let q = part-free y j h e k in ap (λ a. free_with (ef_of hs g) (cl_of hs g) (one_of hs g) two (cond a (cell_at e.place pcells) (col e.quant e.place))) q.0 ∙ q.1.1 z))
+    | inr t ↦ image-covers bs hs root w v F2 y (put_node i icells y) j (beside-in y j (part-not-b y h) t) (image-out y j (part-not-b y h)) (nodes-fit bs root sh y j) (settled y j).no_single f g closed part h (part-over y j h) (single y j)
+        (λ two e k z. (let q = part-free y j h e k in ap (λ a. free_with (ef_of hs g) (cl_of hs g) (one_of hs g) two (cond a (cell_at e.place icells) (col e.quant e.place))) q.1.0 ∙ q.1.1 z))
+  ]
+
+  s-carried : Carried f g part
+  s-carried = part-carried bs hs root w v sh f g tells closed settled (λ z. true) (λ z h k. firm z h) part (λ z h. refl) (λ n j h. inr (part-covers n j h))
+
+  s-clean : g.clean s.id ≡ true
+  s-clean = s-carried.clean s.id (under-itself bs root w s.id) (subst (λ z. f.clean z ≡ true) m.over_s (over-clean bs root w f settled b rp in-b m.owned_p))
+
+  -- ---- columns that are named below
+
+  was : (y : Node) → In y bs → (e : Column) → In e (columns_of y) → (owns e.quant y ≡ true) ⊎ (error_free_under bs f e.quant e.place ≡ true)
+  was y j e k = or_cases (owns e.quant y) (error_free_under bs f e.quant e.place) (all-in (calm_column bs f y) e (columns_of y) (columns-calm bs f root y (settled y j)) k)
+
+  named-free : (k : ℕ) → named k ≡ true → g.error_free s.id k ≡ true
+  named-free k h =
+      let y = any-in (λ (y : Node). inside bs c.id y.id && reads_in p k y) bs h in
+      let z = and_parts (inside bs c.id y.0.id) (reads_in p k y.0) y.1.1 in
+      let e = any-in (is_at p k) (columns_of y.0) (columns-listed p k y.0 z.1) in
+      let at = and_parts (e.0.quant == p) (e.0.place == k) e.1.1 in
+      let is-p = eqb-true e.0.quant p at.0 in
+      let is-k = eqb-true e.0.place k at.1 in
+      s-carried.error_free s.id k (under-itself bs root w s.id) (elim (was y.0 y.1.0 e.0 e.1.0) [
+        | inl o ↦ absurd (clash (owns p y.0) (subst (λ q. owns q y.0 ≡ true) is-p o) (feed_scope.not-own xs ys root w b s c rp ri x m p (feed_scope.own-p xs ys root w b s c rp ri x m) y.0 y.1.0 (in-apart y.0 z.0)))
+        | inr o ↦ subst (λ a. f.error_free a k ≡ true) m.over_s (sym (range-is bs root w (λ a. f.error_free a k) rp (b, (in-b, m.owned_p))) ∙ subst (λ a. error_free_under bs f p a ≡ true) is-k (subst (λ q. error_free_under bs f q e.0.place ≡ true) is-p o))
+      ])
+
+  -- ---- the magic box and the fed one
+
+  m-clean : g.clean x.m ≡ true
+  m-clean = known-clean hs v.ordered g closed m' m-in (and_from (g.clean s.id && true) true (and_from (g.clean s.id) true s-clean refl) refl)
+
+  picked-free : list_all (is_free hs g false) (picked named x.mq 1 W) ≡ true
+  picked-free = picked-all (is_free hs g false) named x.mq W 1 (λ z h. range-is hs root v (λ a. g.error_free a z) (range x.mq F s.id) (m', (m-in, inl refl)) ∙ named-free z h)
+
+  m-free : (l : ℕ) → 1 ≤ l → l ≤ N → g.error_free x.m l ≡ true
+  m-free l a o =
+      let at = place-all (is_free hs g false) (picked named x.mq 1 W) l picked-free a (subst (λ z. l ≤ z) (sym (length-picked named x.mq W 1)) o) in
+      known-free hs v.ordered g closed m' m-in l (place-range (is_free hs g false) (picked named x.mq 1 W) l at) at
+
+  dm-free : (l : ℕ) → 1 ≤ l → l ≤ N → error_free_under hs g x.dm l ≡ true
+  dm-free l a o = range-is hs root v (λ z. g.error_free z l) (range x.dm F x.m) (d', (d-in, inl refl)) ∙ m-free l a o
+
+  d-clean : g.clean c.id ≡ true → g.clean x.d ≡ true
+  d-clean h = known-clean hs v.ordered g closed d' d-in (and_from (g.clean x.m && (g.clean c.id && true)) true (and_from (g.clean x.m) (g.clean c.id && true) m-clean (and_from (g.clean c.id) true h refl)) refl)
+
+  d-at : (l : ℕ) → at_place (is_free hs g false) (columns_from x.dm 1 N ++ columns_from x.dc 1 V) l ≡ true → g.error_free x.d l ≡ true
+  d-at l at = known-free hs v.ordered g closed d' d-in l (place-range (is_free hs g false) (columns_from x.dm 1 N ++ columns_from x.dc 1 V) l at) at
+
+  d-left : (l : ℕ) → 1 ≤ l → l ≤ N → g.error_free x.d l ≡ true
+  d-left l a o = d-at l (place-left (is_free hs g false) x.dm N (columns_from x.dc 1 V) l a o (dm-free l a o))
+
+  d-right : (k : ℕ) → g.error_free c.id k ≡ true → 1 ≤ k → k ≤ V → g.error_free x.d (N + k) ≡ true
+  d-right k h a o = d-at (N + k) (place-right (is_free hs g false) x.dm N (columns_from x.dc 1 V) k (N + k) refl (place-alone (is_free hs g false) x.dc V k a o (range-is hs root v (λ z. g.error_free z k) (range x.dc F c.id) (d', (d-in, inr (inl refl))) ∙ h)))
+
+  -- ---- the join back
+
+  p-not-i : (p == i) ≡ false
+  p-not-i = eq-false-sym i p (region.apart-ids xs ys root w b s c rp ri x m)
+
+  of-p : (k : ℕ) → named k ≡ true → error_free_under hs g p k ≡ true
+  of-p k h = range-is hs root v (λ z. g.error_free z k) rp (owner-now b in-b rp m.owned_p p-not-i) ∙ subst (λ z. g.error_free z k ≡ true) (sym m.over_s) (named-free k h)
+
+  of-i : (l : ℕ) → g.error_free x.d l ≡ true → error_free_under hs g i l ≡ true
+  of-i l h = range-is hs root v (λ z. g.error_free z l) ri' i-owned ∙ h
+
+  join-free : (two : Bool) → list_all (cond_with (ef_of hs g) (cl_of hs g) (one_of hs g) two) ks ≡ true
+  join-free two = joins-all (cond_with (ef_of hs g) (cl_of hs g) (one_of hs g) two) named p i W 1 1 N (λ z l h a o. and_from (error_free_under hs g p z) (error_free_under hs g i l) (of-p z h) (of-i l (d-left l a o))) (omega arith) (omega arith)
+
+  K-free : (two : Bool) → cond_with (ef_of hs g) (cl_of hs g) (one_of hs g) two K ≡ true
+  K-free two = all_of-free (ef_of hs g) (cl_of hs g) (one_of hs g) two ks (join-free two)
