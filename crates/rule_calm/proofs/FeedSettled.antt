@@ -459,3 +459,181 @@ module _ (xs ys : List Node) (root : ℕ) (w : Sound (xs ++ ys) root) (ty : Type
 
   K-free : (two : Bool) → cond_with (ef_of hs g) (cl_of hs g) (one_of hs g) two K ≡ true
   K-free two = all_of-free (ef_of hs g) (cl_of hs g) (one_of hs g) two ks (join-free two)
+
+  -- ---- what stands for a column
+
+  opposite : (a : Bool) → not a ≡ true → a ≡ true → ⊥
+  opposite true h k = let z : ⊥ = cc in z
+  opposite false h k = let z : ⊥ = cc in z
+
+  put-free-p : (two : Bool) (k : ℕ) → free_with (ef_of hs g) (cl_of hs g) (one_of hs g) two (cell_at k pcells) ≡ true
+  put-free-p two k = elim (cases_Bool (free_with (ef_of hs g) (cl_of hs g) (one_of hs g) two (cell_at k pcells))) [
+    | inl e ↦ e
+    | inr e ↦ absurd (
+        let z = put-cell (λ a. not (free_with (ef_of hs g) (cl_of hs g) (one_of hs g) two a)) named x.dm W k refl (ap not e) in
+        opposite (error_free_under hs g x.dm z.0) z.1.0 (dm-free z.0 z.1.1.0 z.1.1.1))
+  ]
+
+  -- by facts of before that are carried
+  module _ (f' : Facts) (less : (z k : ℕ) → f'.error_free z k ≡ true → f.error_free z k ≡ true) (up-free : (z k : ℕ) → f'.error_free z k ≡ true → g.error_free z k ≡ true) where
+    of-c : (k : ℕ) → error_free_under bs f' i k ≡ true → f'.error_free c.id k ≡ true
+    of-c k h = subst (λ z. f'.error_free z k ≡ true) m.over_c (sym (range-is bs root w (λ z. f'.error_free z k) ri (b, (in-b, m.owned_i))) ∙ h)
+
+    behind : (k : ℕ) → error_free_under bs f' i k ≡ true → 1 ≤ k → k ≤ V → error_free_under hs g i (N + k) ≡ true
+    behind k h a o = of-i (N + k) (d-right k (up-free c.id k (of-c k h)) a o)
+
+    put-free-i : (two : Bool) (k : ℕ) → error_free_under bs f' i k ≡ true → free_with (ef_of hs g) (cl_of hs g) (one_of hs g) two (cell_at k icells) ≡ true
+    put-free-i two k h = elim (cases_Bool (free_with (ef_of hs g) (cl_of hs g) (one_of hs g) two (cell_at k icells))) [
+      | inl e ↦ e
+      | inr e ↦ absurd (
+          let z = columns-cell (λ a. not (free_with (ef_of hs g) (cl_of hs g) (one_of hs g) two a)) i V N k refl (ap not e) in
+          opposite (error_free_under hs g i (N + k)) z.0 (behind k h z.1.0 z.1.1))
+    ]
+
+    now : (y : Node) → In y bs → (e : Column) → In e (columns_of y) → (e.quant == i) ≡ false → error_free_under bs f' e.quant e.place ≡ true → error_free_under hs g e.quant e.place ≡ true
+    now y j e k n h = let o = found-column y j e k in column-now f' e.quant e.place o (up-free o.quant.over e.place) n h
+
+    columns-in-c : (y : Node) → In y bs → ins y.id ≡ true → (two : Bool) (e : Column) → In e (columns_of y) → ef_of bs f' e.quant e.place ≡ true → free_with (ef_of hs g) (cl_of hs g) (one_of hs g) two (F1 e.quant e.place) ≡ true
+    columns-in-c y j t two e k h = elim (cases_Bool (e.quant == p)) [
+      | inl q ↦ ap (λ a. free_with (ef_of hs g) (cl_of hs g) (one_of hs g) two (cond a (cell_at e.place pcells) (col e.quant e.place))) q ∙ put-free-p two e.place
+      | inr q ↦ ap (λ a. free_with (ef_of hs g) (cl_of hs g) (one_of hs g) two (cond a (cell_at e.place pcells) (col e.quant e.place))) q ∙ now y j e k (typed.not-i xs ys root w ty b s c rp ri x m y j t e.quant (column-holds y e k)) h
+    ]
+
+    columns-out-c : (y : Node) → In y bs → (two : Bool) (e : Column) → In e (columns_of y) → ef_of bs f' e.quant e.place ≡ true → free_with (ef_of hs g) (cl_of hs g) (one_of hs g) two (F2 e.quant e.place) ≡ true
+    columns-out-c y j two e k h = elim (cases_Bool (e.quant == i)) [
+      | inl q ↦ ap (λ a. free_with (ef_of hs g) (cl_of hs g) (one_of hs g) two (cond a (cell_at e.place icells) (col e.quant e.place))) q ∙ put-free-i two e.place (subst (λ z. error_free_under bs f' z e.place ≡ true) (eqb-true e.quant i q) h)
+      | inr q ↦ ap (λ a. free_with (ef_of hs g) (cl_of hs g) (one_of hs g) two (cond a (cell_at e.place icells) (col e.quant e.place))) q ∙ now y j e k q h
+    ]
+
+    up-free-i : (k : ℕ) → error_free_under bs f' i k ≡ true → error_free_under hs g i (up N k) ≡ true
+    up-free-i k h = at k h (free-by bs f tells root w c in-c k (less c.id k (of-c k h))).0
+      where
+        at : (k : ℕ) → error_free_under bs f' i k ≡ true → (nat_lt 0 k && nat_le k (width c)) ≡ true → error_free_under hs g i (up N k) ≡ true
+        at zero h l = absurd (let z : ⊥ = cc in z)
+        at (suc k) h l = behind (suc k) h (omega arith) (leb-true (suc k) (width c) (and_parts (nat_lt 0 (suc k)) (nat_le (suc k) (width c)) l).1)
+
+    columns-b : (two : Bool) (e : Column) → In e (columns_of b) → ef_of bs f' e.quant e.place ≡ true → free_with (ef_of hs g) (cl_of hs g) (one_of hs g) two (behind_i i N K e.quant e.place) ≡ true
+    columns-b two e k h = elim (cases_Bool (e.quant == i)) [
+      | inl q ↦ ap (λ a. free_with (ef_of hs g) (cl_of hs g) (one_of hs g) two (cond a (col e.quant (up N e.place)) (col e.quant e.place))) q
+          ∙ subst (λ z. error_free_under hs g z (up N e.place) ≡ true) (sym (eqb-true e.quant i q)) (up-free-i e.place (subst (λ z. error_free_under bs f' z e.place ≡ true) (eqb-true e.quant i q) h))
+      | inr q ↦ ap (λ a. free_with (ef_of hs g) (cl_of hs g) (one_of hs g) two (cond a (col e.quant (up N e.place)) (col e.quant e.place))) q ∙ now b in-b e k q h
+    ]
+
+    -- ---- the owner
+
+    module _ (up-clean : (z : ℕ) → f'.clean z ≡ true → g.clean z ≡ true) where
+      is-i : (r : OwnedQuant) → In r b.quants → (r.id == i) ≡ true → r ≡ ri
+      is-i r j e = one-quant bs w.once r ri (b, (in-b, j)) (b, (in-b, m.owned_i)) (eqb-true r.id i e)
+
+      match : (r : OwnedQuant) → In r b.quants → is_F r.kind ≡ false → Match bs hs root w v f' g b b' in-b b-in r
+      match r j k = elim (cases_Bool (r.id == i)) [
+        | inl e ↦ (
+            let same = is-i r j e in
+            record {
+              now = ri';
+              owned = i-in;
+              same = sym (eqb-true r.id i e);
+              clean = λ h. d-clean (up-clean c.id (subst (λ z. f'.clean z ≡ true) (ap (λ (z : OwnedQuant). z.over) same ∙ m.over_c) h));
+              column = λ t. absurd (clash (is_S r.kind) t (ap (λ (z : OwnedQuant). is_S z.kind) same ∙ m.not_scalar));
+            })
+        | inr e ↦ record {
+          now = r;
+          owned = turned-stays i x.d b.quants r j e;
+          same = refl;
+          clean = up-clean r.over;
+          column = λ t. (single b in-b r j t, up-free r.over 1);
+        }
+      ]
+
+      nodes-b : SameNodes (ef_of bs f') (ef_of hs g) (cl_of bs f') (cl_of hs g) (one_of bs f') (one_of hs g) (nodes_of b)
+      nodes-b = own-nodes bs hs root w v f' g b b' in-b b-in match (nodes-fit bs root sh b in-b)
+
+      wraps : (two : Bool) (r : ℕ) (d : Cond) → cond_with (ef_of hs g) (cl_of hs g) (one_of hs g) two d ≡ true
+          → (cond_with (ef_of hs g) (cl_of hs g) (one_of hs g) two (some_i i N K r d) ≡ true) × (cond_with (ef_of hs g) (cl_of hs g) (one_of hs g) two (every_i i N K r d) ≡ true)
+      wraps two r d h = by (r == i)
+        where
+          both : (cond_with (ef_of hs g) (cl_of hs g) (one_of hs g) two K && cond_with (ef_of hs g) (cl_of hs g) (one_of hs g) two d) ≡ true
+          both = and_from (cond_with (ef_of hs g) (cl_of hs g) (one_of hs g) two K) (cond_with (ef_of hs g) (cl_of hs g) (one_of hs g) two d) (K-free two) h
+
+          by : (a : Bool) → (cond_with (ef_of hs g) (cl_of hs g) (one_of hs g) two (cond a (and K d) d) ≡ true) × (cond_with (ef_of hs g) (cl_of hs g) (one_of hs g) two (cond a (or (t.not K) d) d) ≡ true)
+          by true = (both, both)
+          by false = (h, h)
+
+      ns-b : has_no_single b ≡ true
+      ns-b = (settled b in-b).no_single
+
+      cell-b : (e : Term) → In e b.parts.head → is_free bs f' false e ≡ true → is_free hs g false (fed_term i N K e) ≡ true
+      cell-b e j h = ap (is_free hs g false) (fed-mapped i N K e) ∙ cell-mapped bs hs f' g b (behind_i i N K) (some_i i N K) (every_i i N K) ns-b columns-b nodes-b wraps false false e j h
+
+      on-b : (d : Cond) → In d b.parts.conds.items → cond_free bs f' false d ≡ true → cond_free hs g false (fed_cond i N K d) ≡ true
+      on-b d j h = ap (cond_free hs g false) (fed-mapped-cond i N K d) ∙ cond-mapped bs hs f' g b (behind_i i N K) (some_i i N K) (every_i i N K) ns-b columns-b nodes-b wraps d j h
+
+      joins-free : list_all (cond_free hs g false) (cond (is_F ri.kind) ks []) ≡ true
+      joins-free = by (is_F ri.kind)
+        where
+          by : (a : Bool) → list_all (cond_free hs g false) (cond a ks []) ≡ true
+          by true = all-from (cond_free hs g false) ks (λ d j. cond-is hs g false d ∙ all-in (cond_with (ef_of hs g) (cl_of hs g) (one_of hs g) false) d ks (join-free false) j)
+          by false = refl
+
+      conds-b : list_all (cond_free bs f' false) b.parts.conds.items ≡ true → list_all (cond_free hs g false) b'.parts.conds.items ≡ true
+      conds-b h = all-from (cond_free hs g false) (map (fed_cond i N K) b.parts.conds.items ++ cond (is_F ri.kind) ks []) (λ d j. elim (in-append d (map (fed_cond i N K) b.parts.conds.items) (cond (is_F ri.kind) ks []) j) [
+        | inl k ↦ all-in (cond_free hs g false) d (map (fed_cond i N K) b.parts.conds.items) (all-made (fed_cond i N K) (cond_free hs g false) b.parts.conds.items (λ e l. on-b e l (all-in (cond_free bs f' false) e b.parts.conds.items h l))) k
+        | inr k ↦ all-in (cond_free hs g false) d (cond (is_F ri.kind) ks []) joins-free k
+      ])
+
+      rows-b : all_under_F f'.clean b.quants ≡ true → all_under_F g.clean b'.quants ≡ true
+      rows-b h = F-from g.clean b'.quants (λ r j k. elim (cases_Bool (r.id == i)) [
+        | inl e ↦ (
+            let same : r ≡ ri' = one-quant hs v.once r ri' (b', (b-in, j)) i-owned (eqb-true r.id i e) in
+            let kind : is_F ri.kind ≡ true = sym (ap (λ (z : OwnedQuant). is_F z.kind) same) ∙ k in
+            subst (λ (z : OwnedQuant). g.clean z.over ≡ true) (sym same) (d-clean (up-clean c.id (subst (λ z. f'.clean z ≡ true) m.over_c (F-in f'.clean b.quants ri m.owned_i kind h)))))
+        | inr e ↦ elim (fed.in-old xs ys root w b s c rp ri x m b' r b in-b g-b j) [
+          | inl l ↦ up-clean r.over (F-in f'.clean b.quants r l k h)
+          | inr l ↦ absurd (clash (r.id == i) (eq-eqb r.id i l.1.1) e)
+        ]
+      ])
+
+      clean-b : clean_by bs f' Select b ≡ true → g.clean b.id ≡ true
+      clean-b h =
+          let z = and_parts (all_under_F f'.clean b.quants) (list_all (cond_free bs f' false) b.parts.conds.items) h in
+          known-clean hs v.ordered g closed b' b-in (subst (λ (z : BoxKind). clean_by hs g z b' ≡ true) (sym m.a_select) (and_from (all_under_F g.clean b'.quants) (list_all (cond_free hs g false) b'.parts.conds.items) (rows-b z.0) (conds-b z.1)))
+
+      free-b : (k : ℕ) → free_by bs f' Select b k ≡ true → g.error_free b.id k ≡ true
+      free-b k h =
+          let at = place-map (fed_term i N K) (is_free bs f' false) (is_free hs g false) b.parts.head k cell-b h in
+          known-free hs v.ordered g closed b' b-in k (subst (λ (z : BoxKind). (nat_lt 0 k && nat_le k (width_by z (length (map (fed_term i N K) b.parts.head)))) ≡ true) (sym m.a_select) (place-range (is_free hs g false) (map (fed_term i N K) b.parts.head) k at)) (subst (λ (z : BoxKind). free_by hs g z b' k ≡ true) (sym m.a_select) at)
+
+  -- ---- all that was known is known
+
+  abbrev bk : Facts
+  bk = back bs hs f g (λ k. true)
+
+  was-clean : (z : ℕ) → bk.clean z ≡ true → g.clean z ≡ true
+  was-clean z h = (back-carried bs hs f g (λ k. true)).clean z refl h
+
+  was-free : (z k : ℕ) → bk.error_free z k ≡ true → g.error_free z k ≡ true
+  was-free z k h = (back-carried bs hs f g (λ k. true)).error_free z k refl h
+
+  less-free : (z k : ℕ) → bk.error_free z k ≡ true → f.error_free z k ≡ true
+  less-free z k h = (and_parts (f.error_free z k) (g.error_free z k) h).0
+
+  covers : (n : Node) → In n bs → Covers bs hs f g (λ k. true) n
+  covers n j = elim (cases_Bool (n.id == b.id)) [
+    | inl e ↦ subst (Covers bs hs f g (λ k. true)) (same-box bs b n w.ordered in-b j (sym (eqb-true n.id b.id e))) (record {
+      clean = λ k y h. clean-b bk less-free was-free was-clean (subst (λ (z : BoxKind). clean_by bs bk z b ≡ true) m.a_select h);
+      error_free = λ q k y l h. free-b bk less-free was-free was-clean q (subst (λ (z : BoxKind). free_by bs bk z b q ≡ true) m.a_select h);
+    })
+    | inr e ↦ elim (cases_Bool (ins n.id)) [
+      | inl t ↦ image-covers bs hs root w v F1 n (fed_below named c.id p x.dm W n) j (below-in n j t) (image-in n j) (nodes-fit bs root sh n j) (settled n j).no_single f g closed (λ k. true) refl (λ r k. refl) (single n j) (columns-in-c bk less-free was-free n j t)
+      | inr t ↦ image-covers bs hs root w v F2 n (put_node i icells n) j (beside-in n j e t) (image-out n j e) (nodes-fit bs root sh n j) (settled n j).no_single f g closed (λ k. true) refl (λ r k. refl) (single n j) (columns-out-c bk less-free was-free n j)
+    ]
+  ]
+
+  now-clean : (z : ℕ) → f.clean z ≡ true → g.clean z ≡ true
+  now-clean z h = kept-clean bs hs f g (λ k. true) w.ordered tells covers z refl h
+
+  now-free : (z k : ℕ) → f.error_free z k ≡ true → g.error_free z k ≡ true
+  now-free z k h = kept-free bs hs f g (λ k. true) w.ordered tells covers z k refl h
+
+  pub feed-carried : Carried f g (λ k. true)
+  feed-carried = record { clean = λ z k h. now-clean z h; error_free = λ z l k h. now-free z l h }
