@@ -55,7 +55,7 @@ use Rattle.rule_feed.proofs.FeedSound as fed
 use Rattle.rule_feed.proofs.FeedTyped as typed
 use Rattle.rule_feed.proofs.FeedTyped.{turned-has, turned-stays}
 use Rattle.rule_calm.specs.Settled.{IsFirm, SettledBox, has_no_single, single_free}
-use Rattle.rule_calm.proofs.BehindFacts.{place-map}
+use Rattle.rule_calm.proofs.BehindFacts.{place-map, single-put}
 use Rattle.rule_calm.proofs.ClosedParts.{closed-own, open-not-firm, over-clean}
 use Rattle.rule_calm.proofs.FedSettled.{below-calm, columns-calm, free-by}
 use Rattle.rule_calm.proofs.Framed.{Carried, Covers, FirmStays, back, back-carried, firm-single, firm-stays, kept-clean, kept-free, known-clean, known-free, range-is, settled-from, told-closed}
@@ -637,3 +637,100 @@ module _ (xs ys : List Node) (root : ℕ) (w : Sound (xs ++ ys) root) (ty : Type
 
   pub feed-carried : Carried f g (λ k. true)
   feed-carried = record { clean = λ z k h. now-clean z h; error_free = λ z l k h. now-free z l h }
+
+  -- ---- each box is settled
+
+  below-settled : (y : Node) → In y bs → ins y.id ≡ true → SettledBox hs g root (fed_below named c.id p x.dm W y)
+  below-settled y j t = image-settled bs hs root w v F1 y (fed_below named c.id p x.dm W y) j (below-in y j t) (image-in y j) (nodes-fit bs root sh y j) (settled y j).no_single f g (now-clean y.id) (now-free y.id) (settled y j) columns
+      (λ r k. single-put p pcells (put-single named x.dm W 1 1) (col r k) refl) (shut y.id (in-has y bs j)) (λ r k. shut r.over (overs-held bs y r w.ordered j k)) (λ r k h. firm r.over ((settled y j).scalars r k h)) one
+    where
+      columns : (e : Column) → In e (columns_of y) → (d : Column) → In d (columns_in (F1 e.quant e.place)) → calm_column hs g (fed_below named c.id p x.dm W y) d ≡ true
+      columns e k d l = elim (cases_Bool (e.quant == p)) [
+        | inl q ↦ elim (cases_Bool (calm_column hs g (fed_below named c.id p x.dm W y) d)) [
+          | inl h ↦ h
+          | inr h ↦ absurd (
+              let o : In d (columns_in (cell_at e.place pcells)) = subst (λ (a : Bool). In d (columns_in (cond a (cell_at e.place pcells) (col e.quant e.place)))) q l in
+              let z = put-cell (λ a. list_any (λ (b : Column). not (calm_column hs g (fed_below named c.id p x.dm W y) b)) (columns_in a)) named x.dm W e.place refl
+              (any-from (λ (b : Column). not (calm_column hs g (fed_below named c.id p x.dm W y) b)) d (columns_in (cell_at e.place pcells)) o (ap not h)) in
+              let u = any-in (λ (b : Column). not (calm_column hs g (fed_below named c.id p x.dm W y) b)) (columns_in (col x.dm z.0)) z.1.0 in
+              opposite (calm_column hs g (fed_below named c.id p x.dm W y) u.0) u.1.1 (elim u.1.0 [
+                | inl is ↦ or_right (owns u.0.quant y) (error_free_under hs g u.0.quant u.0.place) (ap (λ (b : Column). error_free_under hs g b.quant b.place) (sym is) ∙ dm-free z.0 z.1.1.0 z.1.1.1)
+                | inr n ↦ elim n [ ]
+              ]))
+        ]
+        | inr q ↦ (
+            let o : In d (columns_in (col e.quant e.place)) = subst (λ (a : Bool). In d (columns_in (cond a (cell_at e.place pcells) (col e.quant e.place)))) q l in
+            elim o [
+              | inr n ↦ elim n [ ]
+              | inl is ↦ subst (λ (b : Column). calm_column hs g (fed_below named c.id p x.dm W y) b ≡ true) is (elim (was y j e k) [
+                | inl h ↦ or_left (owns e.quant y) (error_free_under hs g e.quant e.place) h
+                | inr h ↦ or_right (owns e.quant y) (error_free_under hs g e.quant e.place) (now f (λ z k h. h) now-free y j e k (typed.not-i xs ys root w ty b s c rp ri x m y j t e.quant (column-holds y e k)) h)
+              ])
+            ])
+      ]
+
+  beside-settled : (y : Node) → In y bs → ins y.id ≡ false → (y.id == b.id) ≡ false → SettledBox hs g root (put_node i icells y)
+  beside-settled y j t nob = image-settled bs hs root w v F2 y (put_node i icells y) j (beside-in y j nob t) (image-out y j nob) (nodes-fit bs root sh y j) (settled y j).no_single f g (now-clean y.id) (now-free y.id) (settled y j) columns
+      (λ r k. single-put i icells (columns-single i (suc N) V) (col r k) refl) (shut y.id (in-has y bs j)) (λ r k. shut r.over (overs-held bs y r w.ordered j k)) (λ r k h. firm r.over ((settled y j).scalars r k h)) one
+    where
+      columns : (e : Column) → In e (columns_of y) → (d : Column) → In d (columns_in (F2 e.quant e.place)) → calm_column hs g (put_node i icells y) d ≡ true
+      columns e k d l = elim (cases_Bool (e.quant == i)) [
+        | inl q ↦ elim (cases_Bool (calm_column hs g (put_node i icells y) d)) [
+          | inl h ↦ h
+          | inr h ↦ absurd (
+              let known : error_free_under bs f i e.place ≡ true = elim (was y j e k) [
+                | inl o ↦ absurd (clash (owns i y) (subst (λ z. owns z y ≡ true) (eqb-true e.quant i q) o) (feed_scope.not-own xs ys root w b s c rp ri x m i (feed_scope.own-i xs ys root w b s c rp ri x m) y j nob))
+                | inr o ↦ subst (λ z. error_free_under bs f z e.place ≡ true) (eqb-true e.quant i q) o
+              ] in
+              let o : In d (columns_in (cell_at e.place icells)) = subst (λ (a : Bool). In d (columns_in (cond a (cell_at e.place icells) (col e.quant e.place)))) q l in
+              let z = columns-cell (λ a. list_any (λ (b : Column). not (calm_column hs g (put_node i icells y) b)) (columns_in a)) i V N e.place refl
+              (any-from (λ (b : Column). not (calm_column hs g (put_node i icells y) b)) d (columns_in (cell_at e.place icells)) o (ap not h)) in
+              let u = any-in (λ (b : Column). not (calm_column hs g (put_node i icells y) b)) (columns_in (col i (N + e.place))) z.0 in
+              opposite (calm_column hs g (put_node i icells y) u.0) u.1.1 (elim u.1.0 [
+                | inl is ↦ or_right (owns u.0.quant y) (error_free_under hs g u.0.quant u.0.place) (ap (λ (b : Column). error_free_under hs g b.quant b.place) (sym is) ∙ behind f (λ z k h. h) now-free e.place known z.1.0 z.1.1)
+                | inr n ↦ elim n [ ]
+              ]))
+        ]
+        | inr q ↦ (
+            let o : In d (columns_in (col e.quant e.place)) = subst (λ (a : Bool). In d (columns_in (cond a (cell_at e.place icells) (col e.quant e.place)))) q l in
+            elim o [
+              | inr n ↦ elim n [ ]
+              | inl is ↦ subst (λ (b : Column). calm_column hs g (put_node i icells y) b ≡ true) is (elim (was y j e k) [
+                | inl h ↦ or_left (owns e.quant y) (error_free_under hs g e.quant e.place) h
+                | inr h ↦ or_right (owns e.quant y) (error_free_under hs g e.quant e.place) (now f (λ z k h. h) now-free y j e k q h)
+              ])
+            ])
+      ]
+
+  -- a closed select has columns of its own alone
+  own-columns : (n : Node) → In n hs → ((q : ℕ) → loose hs n.id q ≡ false) → list_all (calm_column hs g n) (columns_of n) ≡ true
+  own-columns n j h = all-from (calm_column hs g n) (columns_of n) (λ e k. or_left (owns e.quant n) (error_free_under hs g e.quant e.place) (closed-own hs root v n j h e k))
+
+  owner-settled : SettledBox hs g root b'
+  owner-settled = settled-from hs g root b' below (own-columns b' b-in closed-b') (or_left (not (is_magic b.parts.role)) (calm_magic hs g b') (ap (λ (z : Role). not (is_magic z)) plain)) (select-single hs root shh b' b-in m.a_select) scalars one
+    where
+      below : clean_below hs g root b' ≡ true
+      below = elim (or_cases (b.id == root) (f.clean b.id) (below-calm bs f root b (settled b in-b))) [ inl e ↦ or_left (b.id == root) (g.clean b.id) e | inr e ↦ or_right (b.id == root) (g.clean b.id) (now-clean b.id e) ]
+
+      scalars : (r : OwnedQuant) → In r b'.quants → is_S r.kind ≡ true → IsFirm hs r.over
+      scalars r j k = elim (fed.in-old xs ys root w b s c rp ri x m b' r b in-b g-b j) [
+        | inl l ↦ firm r.over ((settled b in-b).scalars r l k)
+        | inr l ↦ absurd (clash (is_S r.kind) k (ap (λ (z : OwnedQuant). is_S z.kind) (one-quant hs v.once r ri' (b', (b-in, j)) i-owned l.1.1) ∙ m.not_scalar))
+      ]
+
+  no-S : (r : OwnedQuant) → is_F r.kind ≡ true → is_S r.kind ≡ true → IsFirm hs r.over
+  no-S r h k = absurd (clash (is_F r.kind) h (S-not-F r.kind k))
+
+  fed-settled : SettledBox hs g root d'
+  fed-settled = settled-from hs g root d' (or_right (x.d == root) (g.clean x.d) (d-clean (now-clean c.id (subst (λ z. f.clean z ≡ true) m.over_c (over-clean bs root w f settled b ri in-b m.owned_i))))) (own-columns d' d-in (new-closed x.d m.new_d)) refl
+      (select-single hs root shh d' d-in refl) (λ r j k. elim j [ inl e ↦ no-S r (ap (λ (z : OwnedQuant). is_F z.kind) (sym e)) k | inr l ↦ elim l [ inl e ↦ no-S r (ap (λ (z : OwnedQuant). is_F z.kind) (sym e)) k | inr n ↦ elim n [ ] ] ]) one
+
+  magic-settled : SettledBox hs g root m'
+  magic-settled = settled-from hs g root m' (or_right (x.m == root) (g.clean x.m) m-clean) (own-columns m' m-in (new-closed x.m m.new_m))
+      (and_from (is_closed hs x.m) ((is_closed hs s.id && true) && all_places (width m') (g.error_free x.m)) (looks-closed hs root v x.m (new-closed x.m m.new_m))
+      (and_from (is_closed hs s.id && true) (all_places (width m') (g.error_free x.m)) (and_from (is_closed hs s.id) true (shut s.id (in-has s bs in-s) ∙ looks-closed bs root w s.id m.closed) refl)
+      (subst (λ z. all_places z (g.error_free x.m) ≡ true) (sym (fed.width-m xs ys root w b s c rp ri x m)) (places-from N (g.error_free x.m) m-free))))
+      (select-single hs root shh m' m-in refl) (λ r j k. elim j [ inl e ↦ no-S r (ap (λ (z : OwnedQuant). is_F z.kind) (sym e)) k | inr n ↦ elim n [ ] ]) one
+
+  pub feed-settled : (n : Node) → In n hs → SettledBox hs g root n
+  feed-settled = feed_scope.each xs ys root w b s c rp ri x m (SettledBox hs g root) owner-settled below-settled beside-settled fed-settled magic-settled
