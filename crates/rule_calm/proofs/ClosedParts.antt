@@ -1,14 +1,12 @@
 -- What a closed box reaches below itself, what it names, and boxes under quantifiers of a settled graph.
-use Rattle.std.proofs.Common.{ℕ, ◌==◌, ◌≡◌, ◌≤◌, ◌<◌, ◌&&◌, ◌||◌, not, Bool, true, false, List, [], ◌∷◌, ◌⊎◌, refl, sym, ap, subst, ◌∙◌, eqb-true, inl, inr, arith}
-use Rattle.std.specs.List.{list_all}
-use Rattle.std.proofs.lemmas.Bool.{and_from, and_parts, cases_Bool, or_cases, or_left}
+use Rattle.std.proofs.Common.{ℕ, ◌==◌, ◌≡◌, ◌≤◌, ◌&&◌, not, Bool, true, false, List, refl, sym, ap, subst, ◌∙◌, eqb-true, inl, inr, arith}
+use Rattle.std.proofs.lemmas.Bool.{and_from, cases_Bool, or_cases, or_left}
 use Rattle.list_laws.specs.Lists.{In, holds, times}
 use Rattle.list_laws.proofs.Booleans.{clash}
 use Rattle.list_laws.proofs.Counting.{in-times, times-in}
 use Rattle.list_laws.proofs.Membership.{any-from, eq-itself}
-use Rattle.qgm_core.specs.Boxes.{overs_in, overs_of, owns}
+use Rattle.qgm_core.specs.Boxes.{overs_of, owns}
 use Rattle.qgm_core.specs.Free.{IsFree, named_by}
-use Rattle.qgm_core.specs.declared.kinds.BoxKind.{BoxKind}
 use Rattle.qgm_core.specs.declared.kinds.BoxKind.TheVariants.{Group, Select}
 use Rattle.qgm_core.specs.declared.node.Node.{Node}
 use Rattle.qgm_core.specs.declared.owned.OwnedQuant.{OwnedQuant}

@@ -17,6 +17,14 @@ mod StepFacts
 mod PairSettled
 mod SelectSettled
 mod SetSettled
+mod OuterFacts
+mod LeftSettled
+mod RenamedFacts
+mod BelowSettled
+mod ArmsSettled
+mod OpenSetSettled
+mod OuterSettled
+mod OperationSettled
 mod KeyedSettled
 mod GroupSettled
 mod JoinedSettled
@@ -27,4 +35,7 @@ mod MovedFacts
 mod ClosedParts
 mod TurnSettled
 mod SplitSettled
+mod FedPieces
+mod SplitTurned
 mod FeedSettled
+mod FeedFiring

@@ -1,6 +1,6 @@
 -- Error-free expressions whose columns are renamed, whose scalars become columns, or that are fed; and what renamed expressions name.
-use Rattle.std.proofs.Common.{ℕ, ◌==◌, ◌≡◌, ◌&&◌, ◌||◌, cond, Bool, true, false, List, [], ◌∷◌, ◌++◌, map, refl, sym, ap, ap₂, subst, ◌∙◌, eqb-true, inl, inr}
-use Rattle.std.specs.List.{flat_map, list_all, list_any}
+use Rattle.std.proofs.Common.{ℕ, ◌==◌, ◌≡◌, ◌&&◌, ◌||◌, cond, Bool, true, false, List, [], ◌∷◌, ◌++◌, map, refl, ap, ap₂, subst, ◌∙◌, eqb-true, inl, inr}
+use Rattle.std.specs.List.{list_any}
 use Rattle.std.proofs.lemmas.Bool.{and_from, and_parts, cases_Bool, or_parts}
 use Rattle.list_laws.specs.Lists.{In}
 use Rattle.list_laws.proofs.Membership.{in-append, in-left, in-right}
@@ -9,12 +9,10 @@ use Rattle.qgm_terms.specs.Gathered.{listed_arms}
 use Rattle.qgm_terms.specs.Named as named
 use Rattle.qgm_terms.specs.Named.{columns_in, columns_in_cond, nodes_in, nodes_in_cond}
 use Rattle.qgm_terms.specs.Substitution.{column_substituted, substituted, substituted_arms, substituted_cond}
-use Rattle.qgm_terms.specs.Terms as t
 use Rattle.qgm_terms.specs.Terms.{Term, int, text, null_int, null_text, col, scalar, both, minus_of, choose, count_all, fold, Arms, no_arm, arm, Cond, always, compare, is_null, and, or, not, some, every}
 use Rattle.qgm_terms.specs.Wanted.{any_in_arms, has_aggregate, has_aggregate_cond, wanted}
 use Rattle.qgm_terms.specs.declared.sought.Sought.TheVariants.{Aggregate}
 use Rattle.qgm_terms.specs.declared.named.Column.{Column}
-use Rattle.qgm_terms.specs.declared.named.QuantNode.{QuantNode}
 use Rattle.qgm_terms.specs.declared.named.QuantNode.TheVariants as node
 use Rattle.qgm_terms.specs.declared.tree.Op.{Op}
 use Rattle.qgm_terms.specs.declared.tree.Op.TheVariants.{Add, Sub, Mul, Div, Cat}
@@ -22,7 +20,7 @@ use Rattle.qgm_props.specs.Inferred.{divides, fold_free, keeps_free}
 use Rattle.rule_feed.specs.Feed.{fed_arms, fed_cond, fed_term, up}
 use Rattle.rule_feed.specs.Split.{renamed, renamed_arms, renamed_cond}
 use Rattle.rule_calm.specs.Settled.{not_single, single_free, single_free_arms, single_free_cond}
-use Rattle.rule_calm.proofs.FreeTerms.{SameColumns, SameNode, SameNodes, arms_with, cond_with, fold-any, free_with}
+use Rattle.rule_calm.proofs.FreeTerms.{SameNodes, arms_with, cond_with, fold-any, free_with}
 use Rattle.rule_calm.proofs.SameFacts.{both-of}
 
 -- ---- columns renamed

@@ -37,14 +37,14 @@ module _ (bs : List Node) (root : ℕ) (w : Sound bs root) where
   under-named b n r i h m o = elim (cases_Bool (under bs b o.0.id)) [
     | inl t ↦ inr t
     | inr e ↦ inl (
-        (n, (i, ((reached-reaches bs w.ordered b n.id).0 h, m))),
-        λ x j k. elim (cases_Bool (owns r.id x)) [
-          | inr f ↦ f
-          | inl y ↦ absurd (
-              let same : x ≡ o.0 = one-owner bs root w r.id x o.0 j o.1.0 y (any-from (is_quant r.id) r o.0.quants o.1.1 (eq-itself r.id)) in
-              clash (under bs b o.0.id) (subst (λ (z : Node). under bs b z.id ≡ true) same ((reached-reaches bs w.ordered b x.id).1 k)) e)
-        ],
-      )
+      (n, (i, ((reached-reaches bs w.ordered b n.id).0 h, m))),
+      λ x j k. elim (cases_Bool (owns r.id x)) [
+        | inr f ↦ f
+        | inl y ↦ absurd (
+            let same : x ≡ o.0 = one-owner bs root w r.id x o.0 j o.1.0 y (any-from (is_quant r.id) r o.0.quants o.1.1 (eq-itself r.id)) in
+            clash (under bs b o.0.id) (subst (λ (z : Node). under bs b z.id ≡ true) same ((reached-reaches bs w.ordered b x.id).1 k)) e)
+      ],
+    )
   ]
 
   -- a box that ranges over b isn't there

@@ -111,16 +111,22 @@ module _ (g : QueryGraph) (known : Facts) (d : Node) (may : MayAbsorb g.boxes kn
 
   -- a quantifier but r is there after
   owned-after : (s : OwnedQuant) → (o : IsOwned bs s) → (s ≡ r → ⊥) → OwnedAs hs s
-  owned-after s x n = (s, (elim (cases_Bool (x.0.id == d.id)) [
-    | inl e ↦ elim (made.of-d g at.once at.formed known at.tells d may s (subst (λ (z : Node). In s z.quants) (same-box g.boxes x.0 d w.ordered x.1.0 may.in_d (eqb-true x.0.id d.id e)) x.1.1)) [
-      | inl y ↦ (d', (new-in, subst (λ (z : OwnedQuant). In z (a ∷ c.quants)) (sym y) (inl refl)))
-      | inr y ↦ absurd (n y)
-    ]
-    | inr f ↦ elim (cases_Bool (x.0.id == c.id)) [
-      | inl e ↦ (d', (new-in, inr (subst (λ (z : Node). In s z.quants) (same-box g.boxes x.0 c w.ordered x.1.0 may.in_c (eqb-true x.0.id c.id e)) x.1.1)))
-      | inr k ↦ (x.0, (made.to-hs g at.once at.formed known at.tells d may up l1 l2 at.before at.a_select at.plain x.0 x.1.0 f k, x.1.1))
-    ]
-  ], (refl, refl)))
+  owned-after s x n = (
+    s,
+    (
+      elim (cases_Bool (x.0.id == d.id)) [
+        | inl e ↦ elim (made.of-d g at.once at.formed known at.tells d may s (subst (λ (z : Node). In s z.quants) (same-box g.boxes x.0 d w.ordered x.1.0 may.in_d (eqb-true x.0.id d.id e)) x.1.1)) [
+          | inl y ↦ (d', (new-in, subst (λ (z : OwnedQuant). In z (a ∷ c.quants)) (sym y) (inl refl)))
+          | inr y ↦ absurd (n y)
+        ]
+        | inr f ↦ elim (cases_Bool (x.0.id == c.id)) [
+          | inl e ↦ (d', (new-in, inr (subst (λ (z : Node). In s z.quants) (same-box g.boxes x.0 c w.ordered x.1.0 may.in_c (eqb-true x.0.id c.id e)) x.1.1)))
+          | inr k ↦ (x.0, (made.to-hs g at.once at.formed known at.tells d may up l1 l2 at.before at.a_select at.plain x.0 x.1.0 f k, x.1.1))
+        ]
+      ],
+      (refl, refl),
+    ),
+  )
 
   abbrev low : ℕ → Bool
   low = of_fed.low g at.once at.formed known at.tells d may

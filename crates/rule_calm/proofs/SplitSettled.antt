@@ -1,5 +1,5 @@
 -- G1, its second step: where quantifiers of a select go into one of their own a graph stays settled.
-use Rattle.std.proofs.Common.{ℕ, zero, suc, ◌==◌, ◌≡◌, ◌≤◌, ◌+◌, ◌&&◌, ◌||◌, cond, nat_le, nat_lt, not, Bool, true, false, List, [], ◌∷◌, ◌++◌, map, length, Some, ◌⊎◌, refl, sym, ap, subst, ◌∙◌, eqb-true, inl, inr, arith}
+use Rattle.std.proofs.Common.{ℕ, ◌==◌, ◌≡◌, ◌≤◌, ◌+◌, ◌&&◌, ◌||◌, cond, nat_le, nat_lt, not, Bool, true, false, List, [], ◌∷◌, ◌++◌, map, length, ◌⊎◌, refl, sym, ap, subst, ◌∙◌, eqb-true, inl, inr, arith}
 use Rattle.std.specs.List.{flat_map, list_all, list_any}
 use Rattle.std.proofs.lemmas.Bool.{and_from, and_parts, cases_Bool, eq-eqb, leb-true, ltb-true, or_cases, or_left, or_right}
 use Rattle.list_laws.specs.Lists.{In}
@@ -9,7 +9,6 @@ use Rattle.qgm_core.specs.Boxes.{has_box, is_quant, owns, width}
 use Rattle.qgm_core.specs.Edits.{range}
 use Rattle.qgm_core.specs.Kinds.{is_F, is_S, is_magic, width_by}
 use Rattle.qgm_core.specs.declared.kinds.BoxKind.{BoxKind}
-use Rattle.qgm_core.specs.declared.kinds.BoxKind.TheVariants.{Select}
 use Rattle.qgm_core.specs.declared.kinds.QuantKind.{QuantKind}
 use Rattle.qgm_core.specs.declared.kinds.QuantKind.TheVariants as kinds
 use Rattle.qgm_core.specs.declared.kinds.QuantKind.TheVariants.{F}
@@ -23,8 +22,8 @@ use Rattle.qgm_terms.specs.Named.{columns_in, columns_in_cond, nodes_in, nodes_i
 use Rattle.qgm_terms.specs.Terms.{Cond, Term, col}
 use Rattle.qgm_terms.specs.declared.named.Column.{Column}
 use Rattle.qgm_terms.specs.declared.named.QuantNode.{QuantNode}
-use Rattle.qgm_wellformed.specs.Columns.{box_under, columns_fit, columns_of, fits, places_fit}
-use Rattle.qgm_wellformed.specs.Shapes.{node_fits, nodes_of}
+use Rattle.qgm_wellformed.specs.Columns.{box_under, columns_of, fits, places_fit}
+use Rattle.qgm_wellformed.specs.Shapes.{nodes_of}
 use Rattle.qgm_edit_laws.specs.Graph.{Sound}
 use Rattle.qgm_edit_laws.specs.Rebuilds.{IsOwned}
 use Rattle.qgm_edit_laws.specs.Shaped.{Shaped}

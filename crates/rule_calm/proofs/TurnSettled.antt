@@ -5,7 +5,7 @@ use Rattle.std.proofs.lemmas.Bool.{and_from, and_parts, cases_Bool, eq-eqb, not-
 use Rattle.list_laws.specs.Lists.{EachOnce, In, holds}
 use Rattle.list_laws.proofs.Booleans.{clash}
 use Rattle.list_laws.proofs.Membership.{all-from, all-in, any-none, flat-in, in-append, in-filter, in-left, in-map, in-right}
-use Rattle.qgm_core.specs.Boxes.{QueryGraph, numbers, owns, width}
+use Rattle.qgm_core.specs.Boxes.{QueryGraph, numbers, owns}
 use Rattle.qgm_core.specs.Free.{IsFree, named_by}
 use Rattle.qgm_core.specs.Kinds.{is_F, is_S, is_magic, width_by}
 use Rattle.qgm_core.specs.declared.kinds.BoxKind.{BoxKind}
@@ -30,7 +30,6 @@ use Rattle.qgm_edit_laws.proofs.Ranks.{same-box}
 use Rattle.qgm_edit_laws.proofs.ShapeParts.{shape-parts}
 use Rattle.qgm_props.specs.Calm.{calm_column, calm_magic, clean_below, is_closed}
 use Rattle.qgm_props.specs.Inferred.{Closed, Facts, all_under_F, at_place, clean_by, cond_free, error_free_under, free_by, is_free}
-use Rattle.qgm_props.specs.Laws.{Tells}
 use Rattle.qgm_props.proofs.Settled.{all-told}
 use Rattle.rule_api.specs.declared.place.Place.{Place}
 use Rattle.rule_magic.proofs.AbsorbShared.{closed-looks}
@@ -43,14 +42,14 @@ use Rattle.rule_feed.proofs.FeedSettled as feeding
 use Rattle.rule_feed.proofs.TurnLists.{in-turned, turned-in}
 use Rattle.rule_subquery.specs.ScalarToJoin.{column_box}
 use Rattle.rule_calm.specs.Settled.{IsFirm, IsSettled, SettledBox, has_no_single, single_free, single_free_cond}
-use Rattle.rule_calm.proofs.BehindFacts.{all-map, place-map}
-use Rattle.rule_calm.proofs.ClosedParts.{closed-own, open-not-firm, over-clean, strict-named, strict-over, strictly}
+use Rattle.rule_calm.proofs.BehindFacts.{place-map}
+use Rattle.rule_calm.proofs.ClosedParts.{closed-own, open-not-firm, over-clean, strict-named, strict-over}
 use Rattle.rule_calm.proofs.FedSettled.{below-calm, clean-by, free-by}
 use Rattle.rule_calm.proofs.Framed.{Carried, Names, OwnedAs, Still, column-still, firm-single, firm-stays, known-clean, known-free, names-owning, nodes-still, settled-from, still-firm, told-closed}
 use Rattle.rule_calm.proofs.FreeTerms.{SameColumns, SameNodes, cl_of, cond-is, ef_of, free-is, one_of, same-cond, same-free}
 use Rattle.rule_calm.proofs.HeadPlaces.{place-range}
 use Rattle.rule_calm.proofs.MovedTerms.{bare-single, bare-single-cond, column-cond, column-free}
-use Rattle.rule_calm.proofs.PartFacts.{part-carried, still-in-part, under, under-itself}
+use Rattle.rule_calm.proofs.PartFacts.{part-carried, under, under-itself}
 use Rattle.rule_calm.proofs.RebuiltSettled.{carries, nodes-fit, still-is-settled}
 use Rattle.rule_calm.proofs.SameFacts.{place-of}
 use Rattle.rule_calm.proofs.Shut.{shut-same}
@@ -251,9 +250,9 @@ module _ (g : QueryGraph) (u : EachOnce (numbers g.boxes)) (f : fault g ≡ None
       let e = sym (free-is bs fs false x) ∙ h in
       let n = all-in single_free x b.parts.head no-single.0 j in (
         free-is hs gs false x ∙ same-free (ef_of bs fs) (ef_of hs gs) (cl_of bs fs) (cl_of hs gs) (one_of bs fs) (one_of hs gs) false false x
-        (λ y k. same-columns y (head-columns x j y k)) (λ y k. same-nodes y (in-left y (flat_map nodes_in b.parts.head) (flat_map nodes_in_cond b.parts.conds.items) (flat-in nodes_in x y b.parts.head j k))) n e,
+            (λ y k. same-columns y (head-columns x j y k)) (λ y k. same-nodes y (in-left y (flat_map nodes_in b.parts.head) (flat_map nodes_in_cond b.parts.conds.items) (flat-in nodes_in x y b.parts.head j k))) n e,
         free-is hs gs false (as_column r.id x) ∙ column-free (ef_of bs fs) (ef_of hs gs) (cl_of bs fs) (cl_of hs gs) (one_of bs fs) (one_of hs gs) r.id false false x
-        (λ y k. same-columns y (head-columns x j y k)) (λ y k. same-nodes y (in-left y (flat_map nodes_in b.parts.head) (flat_map nodes_in_cond b.parts.conds.items) (flat-in nodes_in x y b.parts.head j k))) n e,
+            (λ y k. same-columns y (head-columns x j y k)) (λ y k. same-nodes y (in-left y (flat_map nodes_in b.parts.head) (flat_map nodes_in_cond b.parts.conds.items) (flat-in nodes_in x y b.parts.head j k))) n e,
       )
 
   cond-now : (x : Cond) → In x b.parts.conds.items → cond_free bs fs false x ≡ true → (cond_free hs gs false x ≡ true) × (cond_free hs gs false (as_column_cond r.id x) ≡ true)
@@ -261,9 +260,9 @@ module _ (g : QueryGraph) (u : EachOnce (numbers g.boxes)) (f : fault g ≡ None
       let e = sym (cond-is bs fs false x) ∙ h in
       let n = all-in single_free_cond x b.parts.conds.items no-single.1 j in (
         cond-is hs gs false x ∙ same-cond (ef_of bs fs) (ef_of hs gs) (cl_of bs fs) (cl_of hs gs) (one_of bs fs) (one_of hs gs) false false x
-        (λ y k. same-columns y (cond-columns x j y k)) (λ y k. same-nodes y (in-right y (flat_map nodes_in b.parts.head) (flat_map nodes_in_cond b.parts.conds.items) (flat-in nodes_in_cond x y b.parts.conds.items j k))) n e,
+            (λ y k. same-columns y (cond-columns x j y k)) (λ y k. same-nodes y (in-right y (flat_map nodes_in b.parts.head) (flat_map nodes_in_cond b.parts.conds.items) (flat-in nodes_in_cond x y b.parts.conds.items j k))) n e,
         cond-is hs gs false (as_column_cond r.id x) ∙ column-cond (ef_of bs fs) (ef_of hs gs) (cl_of bs fs) (cl_of hs gs) (one_of bs fs) (one_of hs gs) r.id false false x
-        (λ y k. same-columns y (cond-columns x j y k)) (λ y k. same-nodes y (in-right y (flat_map nodes_in b.parts.head) (flat_map nodes_in_cond b.parts.conds.items) (flat-in nodes_in_cond x y b.parts.conds.items j k))) n e,
+            (λ y k. same-columns y (cond-columns x j y k)) (λ y k. same-nodes y (in-right y (flat_map nodes_in b.parts.head) (flat_map nodes_in_cond b.parts.conds.items) (flat-in nodes_in_cond x y b.parts.conds.items j k))) n e,
       )
 
   cond-1 : list_all (cond_free bs fs false) b.parts.conds.items ≡ true → (d : Cond) → In d b1.parts.conds.items → cond_free hs gs false d ≡ true
@@ -336,15 +335,14 @@ module _ (g : QueryGraph) (u : EachOnce (numbers g.boxes)) (f : fault g ≡ None
         | inl k ↦ absurd (clash (is_S i.kind) (ap (λ (y : OwnedQuant). is_S y.kind) (sym k) ∙ e) e1.not_scalar)
       ]
 
+  pub turn-each : (n : Node) → In n hs → SettledBox hs gs g.root n
+  turn-each n j = elim (from-hs n j) [
+    | inl e ↦ subst (SettledBox hs gs g.root) (sym e) settled-2
+    | inr k ↦ elim (cases_Bool (n.id == b.id)) [
+      | inr e ↦ still-is-settled bs hs g.root w v sh always fs gs closed settled.each (λ z x k. firm z x) turn-carried n (still n k e)
+      | inl e ↦ subst (SettledBox hs gs g.root) (same-box hs b2 n v.ordered in-b2 j (e1.id b ∙ sym (eqb-true n.id b.id e))) settled-2
+    ]
+  ]
+
   pub turn-settled : IsSettled h2
-  turn-settled = record {
-    known = gs;
-    tells = (all-told hs).1;
-    each = λ n j. elim (from-hs n j) [
-      | inl e ↦ subst (SettledBox hs gs g.root) (sym e) settled-2
-      | inr k ↦ elim (cases_Bool (n.id == b.id)) [
-        | inr e ↦ still-is-settled bs hs g.root w v sh always fs gs closed settled.each (λ z x k. firm z x) turn-carried n (still n k e)
-        | inl e ↦ subst (SettledBox hs gs g.root) (same-box hs b2 n v.ordered in-b2 j (e1.id b ∙ sym (eqb-true n.id b.id e))) settled-2
-      ]
-    ];
-  }
+  turn-settled = record { known = gs; tells = (all-told hs).1; each = turn-each }

@@ -1,4 +1,6 @@
 use Rattle.rule_calm.proofs.FiringSettled.{group-keeps, scalar-keeps, select-keeps}
+use Rattle.rule_calm.proofs.OperationSettled.{set-keeps}
+use Rattle.rule_calm.proofs.OuterSettled.{outer-keeps}
 use Rattle.rule_calm.proofs.laws.settled_graph_laws.Goals as goal
 
 pub returns-clause-scalar : goal.returns-clause-scalar
@@ -9,3 +11,9 @@ returns-clause-select c = select-keeps
 
 pub returns-clause-group : goal.returns-clause-group
 returns-clause-group c = group-keeps
+
+pub returns-clause-set : goal.returns-clause-set
+returns-clause-set c = set-keeps
+
+pub returns-clause-outer : goal.returns-clause-outer
+returns-clause-outer c = outer-keeps
