@@ -1,7 +1,7 @@
 -- A firing of G1 keeps a graph settled.
-use Rattle.std.proofs.Common.{ℕ, ◌≡◌, Bool, true, false, List, [], ◌∷◌, ◌++◌, map, None, sym, ap, subst, ◌∙◌, inl, inr}
+use Rattle.std.proofs.Common.{ℕ, ◌≡◌, true, List, [], ◌∷◌, ◌++◌, map, None, sym, ap, subst, ◌∙◌, inl, inr}
 use Rattle.std.proofs.lemmas.Bool.{cases_Bool}
-use Rattle.list_laws.specs.Lists.{EachOnce, In}
+use Rattle.list_laws.specs.Lists.{EachOnce}
 use Rattle.list_laws.proofs.Booleans.{clash}
 use Rattle.qgm_core.specs.Boxes.{QueryGraph, numbers}
 use Rattle.qgm_core.specs.Edits.{compact, range}
@@ -23,7 +23,7 @@ use Rattle.rule_feed.specs.Feed.{fed_boxes}
 use Rattle.rule_feed.specs.FeedActs as act
 use Rattle.rule_feed.specs.FeedActs.{Feeds, FeedsAt, settled_node}
 use Rattle.rule_feed.specs.FeedLaws.{FeedsOne}
-use Rattle.rule_feed.specs.Split.{MaySplitSound, sizes_of, split_boxes, split_owner}
+use Rattle.rule_feed.specs.Split.{MaySplitSound, sizes_of, split_boxes}
 use Rattle.rule_feed.proofs.FeedKeeps as keeps
 use Rattle.rule_feed.proofs.FeedPlaced as placed
 use Rattle.rule_feed.proofs.FeedSettled as feeding

@@ -1,10 +1,10 @@
 -- A settled graph stays settled where a box that looks up one quantifier alone is fed with it.
-use Rattle.std.proofs.Common.{ℕ, zero, suc, ◌==◌, ◌≡◌, ◌≤◌, ◌<◌, ◌+◌, ◌++◌, ◌&&◌, ◌||◌, cond, nat_le, nat_lt, map, not, Bool, true, false, List, [], ◌∷◌, length, ◌⊎◌, refl, sym, ap, ap₂, subst, ◌∙◌, eqb-true, inl, inr, arith}
-use Rattle.std.specs.List.{flat_map, list_all, list_any}
-use Rattle.std.proofs.lemmas.Bool.{and_from, and_parts, cases_Bool, eq-eqb, le-leb, leb-true, lt-ltb, ltb-true, or_cases, or_left, or_right}
-use Rattle.list_laws.specs.Lists.{In, holds, first}
+use Rattle.std.proofs.Common.{ℕ, zero, suc, ◌==◌, ◌≡◌, ◌≤◌, ◌+◌, ◌++◌, ◌&&◌, cond, nat_le, nat_lt, map, not, Bool, true, false, List, [], ◌∷◌, length, ◌⊎◌, refl, sym, ap, subst, ◌∙◌, eqb-true, inl, inr, arith}
+use Rattle.std.specs.List.{list_all, list_any}
+use Rattle.std.proofs.lemmas.Bool.{and_from, and_parts, cases_Bool, eq-eqb, leb-true, or_cases, or_left, or_right}
+use Rattle.list_laws.specs.Lists.{In, holds}
 use Rattle.list_laws.proofs.Booleans.{clash, neither-left, neither-right}
-use Rattle.list_laws.proofs.Membership.{all-from, all-in, any-from, any-in, any-none, eq-false-sym, eq-itself, in-append, in-left, in-right}
+use Rattle.list_laws.proofs.Membership.{all-from, all-in, any-from, any-in, any-none, eq-false-sym, eq-itself, in-append}
 use Rattle.qgm_core.specs.Boxes.{has_box, is_quant, owns, width}
 use Rattle.qgm_core.specs.Edits.{range}
 use Rattle.qgm_core.specs.Free.{named_by}
@@ -20,21 +20,20 @@ use Rattle.qgm_core.proofs.Reaching.{in-has, overs-held}
 use Rattle.qgm_meaning.specs.Scope.{loose, put_node}
 use Rattle.qgm_meaning.specs.Searches.{names, names_cond}
 use Rattle.qgm_meaning.specs.Tags.{columns_from}
-use Rattle.qgm_terms.specs.Named.{columns_in, columns_in_cond}
+use Rattle.qgm_terms.specs.Named.{columns_in}
 use Rattle.qgm_terms.specs.Substitution.{cell_at, column_substituted, substituted, substituted_cond}
 use Rattle.qgm_terms.specs.Terms as t
 use Rattle.qgm_terms.specs.Terms.{Cond, Term, always, and, col, compare, null_int, or, same}
 use Rattle.qgm_terms.specs.declared.named.Column.{Column}
 use Rattle.qgm_wellformed.specs.Columns.{columns_of}
-use Rattle.qgm_wellformed.specs.Shapes.{node_fits, nodes_of}
+use Rattle.qgm_wellformed.specs.Shapes.{nodes_of}
 use Rattle.qgm_edit_laws.specs.Graph as graph
 use Rattle.qgm_edit_laws.specs.Graph.{Sound, reads_in}
 use Rattle.qgm_edit_laws.specs.Rebuilds.{IsOwned}
 use Rattle.qgm_edit_laws.specs.Shaped.{Shaped, Typed}
 use Rattle.qgm_edit_laws.proofs.Adds.{loose-owned}
-use Rattle.qgm_edit_laws.proofs.Edits.{length-map}
 use Rattle.qgm_edit_laws.proofs.FreeLoose.{free-looks}
-use Rattle.qgm_edit_laws.proofs.Interposed.{over_now, turned}
+use Rattle.qgm_edit_laws.proofs.Interposed.{over_now}
 use Rattle.qgm_edit_laws.proofs.Ranks.{has-in, same-box}
 use Rattle.qgm_edit_laws.proofs.Read.{column-named, columns-listed, is_at}
 use Rattle.qgm_edit_laws.proofs.Rebuilt.{one-quant}
@@ -42,10 +41,10 @@ use Rattle.qgm_edit_laws.proofs.Scope.{one-owner}
 use Rattle.qgm_edit_laws.proofs.Turns.{first-own}
 use Rattle.qgm_edit_laws.proofs.TypedKept.{Ranging, found}
 use Rattle.qgm_props.specs.Calm.{calm_column, calm_magic, clean_below, is_closed}
-use Rattle.qgm_props.specs.Inferred.{Closed, Facts, all_places, all_under, all_under_F, at_place, clean_by, cond_free, error_free_under, free_by, is_free, of_cell}
+use Rattle.qgm_props.specs.Inferred.{Closed, Facts, all_places, all_under_F, at_place, clean_by, cond_free, error_free_under, free_by, is_free}
 use Rattle.qgm_props.specs.Laws.{Tells}
 use Rattle.qgm_props.proofs.Settled.{all-told}
-use Rattle.rule_feed.specs.Feed.{Numbers, all_of, conj, fed_below, fed_box, fed_boxes, fed_cond, fed_node, fed_owner, fed_term, how_many, inside, joins, magic_box, named_below, new_fed, new_magic, picked, put_cells, up}
+use Rattle.rule_feed.specs.Feed.{Numbers, all_of, conj, fed_below, fed_boxes, fed_cond, fed_node, fed_owner, fed_term, how_many, inside, joins, named_below, new_fed, new_magic, picked, put_cells, up}
 use Rattle.rule_feed.specs.FeedLaws.{FeedsOne}
 use Rattle.rule_feed.proofs.FeedLooks as looks
 use Rattle.rule_feed.proofs.FeedReads.{columns-cell, length-picked, put-cell}

@@ -1,11 +1,10 @@
 -- A box of which the columns become terms: what is inferred of it, and that it is settled.
-use Rattle.std.proofs.Common.{ℕ, zero, suc, ◌==◌, ◌≡◌, ◌&&◌, ◌||◌, nat_le, nat_lt, map, not, Bool, true, false, List, [], ◌∷◌, length, take, ◌⊎◌, refl, sym, ap, ap₂, subst, ◌∙◌, eqb-true, inl, inr}
+use Rattle.std.proofs.Common.{ℕ, zero, suc, ◌==◌, ◌≡◌, ◌&&◌, ◌||◌, nat_le, nat_lt, map, not, Bool, true, false, List, [], ◌∷◌, length, take, refl, sym, ap, ap₂, subst, ◌∙◌, eqb-true, inl, inr}
 use Rattle.std.specs.List.{flat_map, list_all}
-use Rattle.std.proofs.lemmas.Bool.{and_from, and_parts, cases_Bool, or_cases, or_left, or_right}
+use Rattle.std.proofs.lemmas.Bool.{and_from, and_parts, or_cases, or_left, or_right}
 use Rattle.list_laws.specs.Lists.{In}
-use Rattle.list_laws.proofs.Booleans.{clash}
 use Rattle.list_laws.proofs.Membership.{all-from, all-in, any-in, flat-in, in-append, in-flat, in-left, in-map, in-right}
-use Rattle.qgm_core.specs.Boxes.{is_quant, owns, width}
+use Rattle.qgm_core.specs.Boxes.{is_quant, width}
 use Rattle.qgm_core.specs.Kinds.{is_A, is_E, is_F, is_S, is_magic, width_by}
 use Rattle.qgm_core.specs.declared.kinds.BoxKind.{BoxKind}
 use Rattle.qgm_core.specs.declared.kinds.BoxKind.TheVariants.{Base, Select, Group, SetOp, OuterJoin}
@@ -25,16 +24,16 @@ use Rattle.qgm_wellformed.specs.Shapes.{is_among, node_fits, nodes_of}
 use Rattle.qgm_edit_laws.specs.Graph.{Sound}
 use Rattle.qgm_edit_laws.proofs.Edits.{length-map}
 use Rattle.qgm_props.specs.Calm.{calm_column, calm_magic, calm_scalar, clean_below, is_closed}
-use Rattle.qgm_props.specs.Inferred.{Closed, Facts, all_places, all_under, all_under_F, arms_error_free, at_place, clean_by, clean_op, cond_free, free_by, free_op, is_free, under_first, under_two}
+use Rattle.qgm_props.specs.Inferred.{Closed, Facts, all_places, all_under, all_under_F, at_place, clean_by, clean_op, cond_free, free_by, free_op, is_free, under_first, under_two}
 use Rattle.qgm_props.specs.Under.{of_quant}
 use Rattle.rule_calm.specs.Settled.{IsFirm, SettledBox, has_no_single, single_free, single_free_cond}
-use Rattle.rule_calm.proofs.BehindFacts.{all-map, place-map}
-use Rattle.rule_calm.proofs.FedSettled.{below-calm, columns-calm}
+use Rattle.rule_calm.proofs.BehindFacts.{place-map}
+use Rattle.rule_calm.proofs.FedSettled.{below-calm}
 use Rattle.rule_calm.proofs.Framed.{Carried, Covers, back, back-carried, known-clean, known-free, range-is, settled-from}
 use Rattle.rule_calm.proofs.FreeTerms.{SameNode, SameNodes, cl_of, cond-is, cond_with, ef_of, free-is, free_with, one_of}
 use Rattle.rule_calm.proofs.MappedTerms.{as_it_is, come, come-cond, map-cond, map-free, mapped, mapped_cond, single-mapped, single-mapped-cond}
 use Rattle.rule_calm.proofs.OperatorFacts.{op-moved}
-use Rattle.rule_calm.proofs.SameFacts.{OfOvers, all-F-of, both-of, first-of, list-of, places-of, two-of}
+use Rattle.rule_calm.proofs.SameFacts.{OfOvers, all-F-of, both-of, first-of, places-of, two-of}
 
 take-mapped : {X Y : Type 0} (f : X → Y) (p : X → Bool) (q : Y → Bool) (k : ℕ) (xs : List X) → ((x : X) → In x xs → p x ≡ true → q (f x) ≡ true) → list_all p (take k xs) ≡ true → list_all q (take k (map f xs)) ≡ true
 take-mapped f p q zero xs w h = refl

@@ -1,18 +1,16 @@
 -- Terms in which columns become terms, and what stands within a some or every becomes another condition.
-use Rattle.std.proofs.Common.{ℕ, ◌==◌, ◌≡◌, ◌&&◌, cond, Bool, true, false, List, [], ◌∷◌, ◌++◌, map, ◌⊎◌, refl, sym, ap, ap₂, subst, ◌∙◌, inl, inr}
-use Rattle.std.specs.List.{list_all, list_any}
+use Rattle.std.proofs.Common.{ℕ, ◌==◌, ◌≡◌, ◌&&◌, cond, Bool, true, false, List, ◌++◌, refl, sym, ap, ap₂, ◌∙◌, inl, inr}
 use Rattle.std.proofs.lemmas.Bool.{and_from, and_parts}
 use Rattle.list_laws.specs.Lists.{In}
 use Rattle.list_laws.proofs.Membership.{in-append, in-left, in-right}
-use Rattle.qgm_meaning.specs.Searches.{names, names_arms, names_cond}
+use Rattle.qgm_meaning.specs.Searches.{names, names_cond}
 use Rattle.qgm_terms.specs.Gathered.{listed_arms}
 use Rattle.qgm_terms.specs.Named as named
 use Rattle.qgm_terms.specs.Named.{columns_in, columns_in_cond, nodes_in, nodes_in_cond}
-use Rattle.qgm_terms.specs.Substitution.{column_substituted, substituted, substituted_arms, substituted_cond}
+use Rattle.qgm_terms.specs.Substitution.{column_substituted, substituted, substituted_cond}
 use Rattle.qgm_terms.specs.Terms as t
 use Rattle.qgm_terms.specs.Terms.{Term, int, text, null_int, null_text, col, scalar, both, minus_of, choose, count_all, fold, Arms, no_arm, arm, Cond, always, compare, is_null, and, or, not, some, every}
 use Rattle.qgm_terms.specs.declared.named.Column.{Column}
-use Rattle.qgm_terms.specs.declared.named.QuantNode.{QuantNode}
 use Rattle.qgm_terms.specs.declared.named.QuantNode.TheVariants as node
 use Rattle.qgm_terms.specs.declared.tree.Op.{Op}
 use Rattle.qgm_terms.specs.declared.tree.Op.TheVariants.{Add, Sub, Mul, Div, Cat}

@@ -1,13 +1,10 @@
 -- Small facts of a step that changes the select whose open box is fed.
-use Rattle.std.proofs.Common.{ℕ, ◌==◌, ◌≡◌, ◌≤◌, ◌&&◌, cond, Bool, true, false, List, [], ◌∷◌, map, ◌⊎◌, refl, sym, ap, ap₂, subst, ◌∙◌, eqb-true, inl, inr, arith}
+use Rattle.std.proofs.Common.{ℕ, ◌≡◌, ◌&&◌, cond, Bool, true, false, List, [], ◌∷◌, map, refl, sym, ap, ap₂, subst, ◌∙◌, inl, inr}
 use Rattle.std.proofs.lemmas.Bool.{and_from, and_parts, cases_Bool}
-use Rattle.list_laws.specs.Lists.{In, holds, times}
+use Rattle.list_laws.specs.Lists.{In, holds}
 use Rattle.list_laws.proofs.Booleans.{clash}
-use Rattle.list_laws.proofs.Counting.{in-times, times-in}
-use Rattle.qgm_core.specs.Boxes.{overs_in, overs_of}
 use Rattle.qgm_core.specs.Free.{free_in}
 use Rattle.qgm_core.specs.Kinds.{is_F}
-use Rattle.qgm_core.specs.declared.kinds.BoxKind.TheVariants.{Group, Select}
 use Rattle.qgm_core.specs.declared.node.Node.{Node}
 use Rattle.qgm_core.specs.declared.owned.OwnedQuant.{OwnedQuant}
 use Rattle.qgm_meaning.specs.Scope.{loose}
@@ -15,10 +12,8 @@ use Rattle.qgm_wellformed.specs.WellFormed.{is_empty}
 use Rattle.qgm_wellformed.proofs.Below.{free-free}
 use Rattle.qgm_edit_laws.specs.Graph.{Sound}
 use Rattle.qgm_edit_laws.proofs.FreeLoose.{looks-free, open-looks}
-use Rattle.qgm_edit_laws.proofs.Ranks.{same-box}
 use Rattle.qgm_props.specs.Calm.{is_closed}
 use Rattle.qgm_props.specs.Inferred.{all_under_F}
-use Rattle.rule_calm.specs.Settled.{IsFirm, grouped, joined}
 
 -- ---- boxes that look nothing up
 
@@ -45,33 +40,6 @@ shut-looks bs hs root w v b down up = elim (cases_Bool (is_closed hs b)) [
   where
     none : (xs ys : List Node) → Sound ys root → ((q : ℕ) → loose xs b q ≡ true → (k : ℕ) × (loose ys b k ≡ true)) → (q : ℕ) → is_closed ys b ≡ true → loose xs b q ≡ false
     none xs ys y h q t = elim (cases_Bool (loose xs b q)) [ inr e ↦ e | inl e ↦ absurd (let x = h q e in clash (loose ys b x.0) x.1 (closed-looks ys root y b t x.0)) ]
-
--- ---- the root is under no quantifier
-
-pub not-top : (bs : List Node) (root : ℕ) → Sound bs root → (b : Node) (r : OwnedQuant) → In b bs → In r b.quants → (r.over == root) ≡ false
-not-top bs root w b r i j = elim (cases_Bool (r.over == root)) [
-  | inr e ↦ e
-  | inl t ↦ absurd (
-      let x : 1 ≤ times r.over (overs_of b) = in-times (λ (r : OwnedQuant). r.over) r b.quants j in
-      let y : times r.over (overs_of b) ≤ times r.over (overs_in bs) = times-in overs_of r.over b bs i in
-      let z : times r.over (overs_in bs) ≡ 0 = ap (λ k. times k (overs_in bs)) (eqb-true r.over root t) ∙ w.top in
-      omega (arith, x, y, z))
-]
-
--- ---- a closed select with an open box isn't firm
-
-select-group : (k : ℕ) → Select ≡ Group k → ⊥
-select-group k e = cc e
-
-module _ (bs : List Node) (root : ℕ) (w : Sound bs root) (b : Node) (r : OwnedQuant) (in_b : In b bs) (in_r : In r b.quants) (select : b.parts.kind ≡ Select) (closed : is_closed bs b.id ≡ true) (opened : is_closed bs r.over ≡ false) where
-  not-firm-by : (z : ℕ) → IsFirm bs z → z ≡ b.id → ⊥
-  not-firm-by _ (grouped n s i j k) e = select-group 0 (sym select ∙ ap (λ (z : Node). z.parts.kind) (sym (same-box bs n b w.ordered i in_b e)) ∙ k)
-  not-firm-by _ (joined n i k p c under shut) e =
-      let same : n ≡ b = same-box bs n b w.ordered i in_b e in
-      clash (is_closed bs r.over) (shut (ap (is_closed bs) e ∙ closed) r (subst (λ (z : Node). In r z.quants) (sym same) in_r)) opened
-
-  pub not-firm : IsFirm bs b.id → ⊥
-  not-firm x = not-firm-by b.id x refl
 
 -- ---- lists
 
