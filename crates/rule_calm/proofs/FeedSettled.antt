@@ -345,7 +345,7 @@ module _ (xs ys : List Node) (root : ℕ) (w : Sound (xs ++ ys) root) (ty : Type
   column-now : (f' : Facts) (q k : ℕ) → (o : Ranging bs q) → (f'.error_free o.quant.over k ≡ true → g.error_free o.quant.over k ≡ true) → (q == i) ≡ false → error_free_under bs f' q k ≡ true → error_free_under hs g q k ≡ true
   column-now f' q k o up e h =
       subst (λ z. error_free_under hs g z k ≡ true) o.is_q (range-is hs root v (λ z. g.error_free z k) o.quant (owner-now o.owner o.owner_in o.quant o.quant_in (ap (λ z. z == i) o.is_q ∙ e))
-        ∙ up (sym (range-is bs root w (λ z. f'.error_free z k) o.quant (o.owner, (o.owner_in, o.quant_in))) ∙ ap (λ z. error_free_under bs f' z k) o.is_q ∙ h))
+      ∙ up (sym (range-is bs root w (λ z. f'.error_free z k) o.quant (o.owner, (o.owner_in, o.quant_in))) ∙ ap (λ z. error_free_under bs f' z k) o.is_q ∙ h))
 
   -- ---- what s reaches
 
@@ -376,8 +376,7 @@ module _ (xs ys : List Node) (root : ℕ) (w : Sound (xs ++ ys) root) (ty : Type
   part-free y j h e k =
       let o = found-column y j e k in
       let u = part-named y j h e k o in
-      let not-i = not-of-b i e.quant o u (feed_scope.own-i xs ys root w b s c rp ri x m) in
-      (
+      let not-i = not-of-b i e.quant o u (feed_scope.own-i xs ys root w b s c rp ri x m) in (
         not-of-b p e.quant o u (feed_scope.own-p xs ys root w b s c rp ri x m),
         (not-i, λ z. column-now (back bs hs f g part) e.quant e.place o (λ a. (back-carried bs hs f g part).error_free o.quant.over e.place (part-over o.owner o.owner_in u o.quant o.quant_in) a) not-i z),
       )
