@@ -3,7 +3,7 @@ ghost use Rattle.std.specs.Prelude.{◌≡◌, ◌<◌, OnOk};
 ghost use Rattle.box_exec.specs.Ready.{AllFit};
 
 use crate::faults::LineError;
-use box_exec::{execute, execution_laws};
+use box_exec::{execute, execute_plain, execute_taken, execution_laws};
 use qgm_check::{IllFormed, check_graph};
 use qgm_core::Graph;
 use qgm_edit_laws::checked_laws;
@@ -46,16 +46,83 @@ fn counted<L: Ledger>(
     Ok(execute(alloc, graph, tables, &mut steps)?)
 }
 
+// The rows of a graph without indexes, by a new count of steps.
+fn plain_rows<L: Ledger>(
+    alloc: Global,
+    graph: &Graph,
+    tables: &Tables,
+    blank: Blank,
+) -> Result<Bag, LineError>
+    requires name { blank.name ≡ L.name }
+    requires parts { blank.parts ≡ L.parts }
+    requires some { 0 < blank.parts }
+{
+    need_fit(alloc, graph)?;
+    let mut steps = Steps::<L>::new(blank);
+    let (bag, _count) = execute_plain(alloc, graph, tables, &mut steps)?;
+    Ok(bag)
+}
+
+// How many rows a graph takes, by a new count.
+fn taken_by<L: Ledger, M: Ledger>(
+    alloc: Global,
+    graph: &Graph,
+    tables: &Tables,
+    steps: &mut Steps<L>,
+    blank: Blank,
+) -> Result<u64, LineError>
+    requires name { blank.name ≡ M.name }
+    requires parts { blank.parts ≡ M.parts }
+    requires some { 0 < blank.parts }
+{
+    need_fit(alloc, graph)?;
+    let mut taken = Steps::<M>::new(blank);
+    let (_bag, _count, many) = execute_taken(alloc, graph, tables, steps, &mut taken)?;
+    Ok(many)
+}
+
+// How many rows a graph takes, by new counts.
+fn taken_beside<L: Ledger>(
+    alloc: Global,
+    graph: &Graph,
+    tables: &Tables,
+    blank: Blank,
+) -> Result<u64, LineError>
+    requires name { blank.name ≡ L.name }
+    requires parts { blank.parts ≡ L.parts }
+    requires some { 0 < blank.parts }
+{
+    let mut steps = Steps::<L>::new(blank);
+    taken_by::<L, Brand>(alloc, graph, tables, &mut steps, Blank::new(1))
+}
+
 /// How many evaluations of boxes the rows of a graph take.
 pub fn count(alloc: Global, graph: &Graph, tables: &Tables) -> Result<String, LineError> {
     let (_bag, count) = counted::<Brand>(alloc, graph, tables, Blank::new(1))?;
     Ok(format!(in alloc; "{count}")?)
 }
 
+/// How many rows its selects take for their F quantifiers.
+pub fn taken(alloc: Global, graph: &Graph, tables: &Tables) -> Result<String, LineError> {
+    let many = taken_beside::<Brand>(alloc, graph, tables, Blank::new(1))?;
+    Ok(format!(in alloc; "{many}")?)
+}
+
 /// What a graph gives: its rows by the keys of its order and then by all columns, parted by `|`, or
-/// `none`; or the error, as `ERROR 22012`.
+/// `none`; or the error, as `ERROR 22012`. Where it gives otherwise without indexes, both.
 pub fn rows(alloc: Global, graph: &Graph, tables: &Tables) -> Result<String, LineError> {
     let (bag, _count) = counted::<Brand>(alloc, graph, tables, Blank::new(1))?;
+    let text = text_of(alloc, graph, bag)?;
+    let bag = plain_rows::<Brand>(alloc, graph, tables, Blank::new(1))?;
+    let plain = text_of(alloc, graph, bag)?;
+    if text.as_str() == plain.as_str() {
+        return Ok(text);
+    }
+    Ok(format!(in alloc; "{text}, and without indexes {plain}")?)
+}
+
+// Rows, or the error.
+fn text_of(alloc: Global, graph: &Graph, bag: Bag) -> Result<String, LineError> {
     let mut text = String::new(alloc);
     match verdict(bag) {
         Verdict::Rows(bag) => add_rows(alloc, &mut text, sorted(bag, graph.order())?.rows())?,

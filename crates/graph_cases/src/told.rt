@@ -1,5 +1,5 @@
 // What a script asks of the rows of a graph, of what is inferred of it, and of what it is rewritten to.
-use crate::executed::{count, rows};
+use crate::executed::{count, rows, taken};
 use crate::faults::LineError;
 use crate::inferred::{calm, facts, has_key};
 use crate::items::number;
@@ -46,6 +46,7 @@ fn told_by(
 ///
 /// - `rows`: what the graph gives over the tables, its rows as `1 'a' | 2 \N`, or `ERROR 22012`.
 /// - `count`: how many evaluations of boxes that takes.
+/// - `taken`: how many rows its selects take for their F quantifiers.
 /// - `facts B`: what is inferred of a box, as `clean at-most-one error-free 1 2 not-null 1`.
 /// - `has-key B K ..`: `yes` where the columns hold a key of a box, else `no`.
 /// - `calm`: `yes` or `no`.
@@ -61,6 +62,7 @@ pub fn told(
     match asked {
         "rows" => Ok(Some(rows(alloc, graph, tables)?)),
         "count" => Ok(Some(count(alloc, graph, tables)?)),
+        "taken" => Ok(Some(taken(alloc, graph, tables)?)),
         "calm" => Ok(Some(calm(alloc, graph)?)),
         asked => match asked.split_once(" ") {
             Some((word, behind)) => told_by(alloc, graph, tables, word, behind),
