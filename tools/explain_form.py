@@ -101,14 +101,14 @@ def faults_of_term(step, quants, box, tree, at):
 
 
 def faults_of(text, plan):
-    """Returns what is wrong with a text of explain under a plan, the answer behind it, and the number of firings."""
+    """Returns what is wrong with a text of explain under a plan, the answer behind it, and the rules that fired."""
     try:
         steps, firings, evals, answer = explain_text.read(text)
     except (explain_text.Wrong, ValueError, IndexError) as why:
-        return [f"it can't be read: {why}"], "", 0
+        return [f"it can't be read: {why}"], "", []
     faults = [it for at, step in enumerate(steps) for it in faults_of_step(step, at)]
     for at, step in enumerate(steps[:-1]):
-        rule, box, i, j = step.firing
+        rule = step.firing[0]
         classes = explain_text.RULES[rule][0].split(" and ") if rule in explain_text.RULES else []
         if not any(it in plan["classes"] for it in classes):
             faults.append(f"FIRE {at + 1} is of rule {rule}, which isn't of the plan's classes")
@@ -118,4 +118,4 @@ def faults_of(text, plan):
         faults.append(f"EVALS is {evals}, and the last graph has {len(steps[-1].boxes)} boxes, all closed")
     if evals < 1:
         faults.append("EVALS is 0")
-    return faults, answer, firings
+    return faults, answer, [step.firing[0] for step in steps[:-1]]
