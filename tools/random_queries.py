@@ -459,5 +459,6 @@ def file_of(columns, rows):
 
 
 def printed(row):
-    """Returns a row as the program prints it."""
-    return ",".join("\\N" if it is None else str(it) if isinstance(it, int) else ("\\" + it if it.startswith("\\") else it or '""') for it in row)
+    """Returns a row as the program prints it. (A record of one empty field has quotes.)"""
+    fields = ["\\N" if it is None else str(it) if isinstance(it, int) else "\\" + it if it.startswith("\\") else it for it in row]
+    return ",".join(fields) if fields != [""] else '""'
