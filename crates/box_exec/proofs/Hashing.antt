@@ -14,7 +14,9 @@ use Rattle.qgm_meaning.specs.Meaning.{bag_in, given, given_by, over_each, quant_
 use Rattle.qgm_meaning.specs.Values.{Bag, Environment, bound, truth}
 use Rattle.qgm_terms.specs.Shown as shown
 use Rattle.box_exec.specs.Early.{is_none, is_open, rejects}
-use Rattle.box_exec.specs.Hashed.{AllFound, AllKept, KeptPlan, LeadsAt, rows_kept}
+use Rattle.box_exec.specs.Hashed.{AllIdleUnder, AllKept, KeptPlan, LeadsAt, rows_kept}
+use Rattle.box_exec.specs.Indexed.{IsIdleIndex}
+use Rattle.box_exec.specs.declared.idle_index.IdleIndex.{IdleIndex}
 use Rattle.box_exec.specs.Lasting.{AllHashed, HashesAt}
 use Rattle.box_exec.specs.Equalities.{IsKey, other_of, own_of}
 use Rattle.box_exec.specs.Lookup.{Leads, RejectsBy}
@@ -102,10 +104,10 @@ pub hashed-more : (es : List Early) (ls : List Loop) (hs new : List (Option Hash
     → IfSome o (λ h. HashesAt es i l h) → AllHashed es ls hs → AllHashed es ls new
 hashed-more es ls hs new o i l long inside is en made all = made-more (λ i l h. HashesAt es i l h) ls hs new o i l long inside is en made all
 
-pub found-more : (ls : List Loop) (fs new : List (Option Bag)) (o : Option Bag) (i : ℕ) (l : Loop) → length fs ≡ i → i < length ls → l ≡ get_or ls i l → new ≡ fs ++ o ∷ []
-    → IfSome o (λ f. f ≡ rows_kept l.under) → AllFound ls fs → AllFound ls new
-found-more ls fs new o i l long inside is en made all j m within it h found =
-    made-more (λ i l f. f ≡ rows_kept l.under) ls fs new o i l long inside is en made (λ k x f u v g. all k x u v f g) j m h within it found
+pub idle-more : (ls : List Loop) (xs new : List (Option IdleIndex)) (o : Option IdleIndex) (i : ℕ) (l : Loop) → length xs ≡ i → i < length ls → l ≡ get_or ls i l → new ≡ xs ++ o ∷ []
+    → IfSome o (λ x. IsIdleIndex (rows_kept l.under) x) → AllIdleUnder ls xs → AllIdleUnder ls new
+idle-more ls xs new o i l long inside is en made all j m within it x at =
+    made-more (λ i l x. IsIdleIndex (rows_kept l.under) x) ls xs new o i l long inside is en made (λ k n y u v g. all k n u v y g) j m x within it at
 
 pub one-longer : {X : Type 0} (hs new : List (Option X)) (o : Option X) (i : ℕ) → length hs ≡ i → new ≡ hs ++ o ∷ [] → length new ≡ i + 1
 one-longer {X = X} hs new o i long en = ap (λ (xs : List (Option X)). length xs) en ∙ length_push hs o ∙ ap (λ n. n + 1) long

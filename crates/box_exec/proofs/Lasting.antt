@@ -7,11 +7,17 @@ use Rattle.qgm_core.specs.declared.node.Node.{Node}
 use Rattle.qgm_core.specs.declared.owned.OwnedQuant.{OwnedQuant}
 use Rattle.qgm_meaning.specs.Values.{Bag}
 use Rattle.box_exec.specs.Costs.{is_held}
-use Rattle.box_exec.specs.Early.{IsEarly, rejects}
-use Rattle.box_exec.specs.Lasting.{AllHashed, AllIndexed, AllPlanned, FitsPlan, HashesAt, IsOrder, IsPlan, PlanFits, rows_in, rows_kept, rows_stored}
+use Rattle.box_exec.specs.Early.{IsEarly, is_open, rejects}
+use Rattle.box_exec.specs.Hashed.{AllIdleUnder, HashesRight, IdleUnder}
+use Rattle.box_exec.specs.Indexed.{AllIdle, IsIdleIndex}
+use Rattle.box_exec.specs.Outer.{rejects_on}
+use Rattle.box_exec.specs.declared.idle_index.IdleIndex.{IdleIndex}
+use Rattle.box_exec.specs.Lasting.{AllHashed, AllIndexed, AllPlanned, FitsPlan, HashesAt, IsOrder, IsPlan, PlanFits, RightIndexed, rows_in, rows_kept, rows_stored}
 use Rattle.box_exec.specs.Lookup.{Hashes}
 use Rattle.box_exec.specs.Plans.{Bound, Planned, StandsAt, ranges, stored, tables_of}
-use Rattle.box_exec.specs.Ready.{Fit, Held, Ready}
+use Rattle.box_exec.specs.Ready.{Fit, Held, Ready, Stands, weight, weight_under}
+use Rattle.box_exec.specs.declared.under.Under.{Under}
+use Rattle.box_exec.specs.declared.under.Under.TheVariants.{Kept, Open, Nothing}
 use Rattle.box_exec.specs.declared.boxes.At.{At}
 use Rattle.box_exec.specs.declared.early.Early.{Early}
 use Rattle.box_exec.specs.declared.lookup.Hashed.{Hashed}
@@ -96,6 +102,67 @@ hashed-at at b i l inside is h found =
     let same : rows_kept l.under ≡ stored at l.range.over = subst (λ (y : Loop). rows_kept y.under ≡ stored at y.range.over) (sym is) (b.rows i l inside) in
     subst (λ (rs : Bag). Hashes (rejects at.early.now (i + 1)) l.range.id rs h) (sym same) (b.plan.indexed i l.range h (range-within ls i inside) (range-at ls i l inside is) found)
 
+-- ---- indexes of the rows of E and A quantifiers, and of the right rows of an outer join
+
+all-idle : (rows : ℕ → Bag) (ls : List Loop) (xs : List (Option IdleIndex)) → All (λ l. rows_kept l.under ≡ rows l.range.over) ls → AllIdleUnder ls xs → AllIdle (ranges ls) rows xs
+all-idle rows ls xs kept idle i r h l at is =
+    let x = loop-at ls i r l at in
+    let m = x.0 in
+    let same : rows_kept m.under ≡ rows m.range.over = subst (λ (y : Loop). rows_kept y.under ≡ rows y.range.over) (sym x.1.1) (kept i m x.1.0) in
+    subst (λ (q : OwnedQuant). IsIdleIndex (rows q.over) h) x.1.2
+    (subst (λ (b : Bag). IsIdleIndex b h) same (idle i m x.1.0 x.1.1 h is))
+
+pub idle-of : (rs : List OwnedQuant) (rows : ℕ → Bag) (ls : List Loop) (xs : List (Option IdleIndex)) → ranges ls ≡ rs → All (λ l. rows_kept l.under ≡ rows l.range.over) ls → AllIdleUnder ls xs → AllIdle rs rows xs
+idle-of rs rows ls xs e kept idle = subst (λ (ys : List OwnedQuant). AllIdle ys rows xs) e (all-idle rows ls xs kept idle)
+
+-- what stands under a quantifier of a box
+pub stands-at : (at : At) → Planned at → (i : ℕ) (l : Loop) → i < length at.loops.now → l ≡ get_or at.loops.now i l → StandsAt at l
+stands-at at p i l inside is = subst (λ (x : Loop). StandsAt at x) (sym is) (p.stand i l inside)
+
+-- the index of a quantifier of a box
+pub idle-at : (at : At) → Planned at → (i : ℕ) (l : Loop) → i < length at.loops.now → l ≡ get_or at.loops.now i l → IdleUnder at.idle.now i l.under
+idle-at at p i l inside is x here =
+    let ls = at.loops.now in
+    let same : rows_kept l.under ≡ stored at l.range.over = subst (λ (y : Loop). rows_kept y.under ≡ stored at y.range.over) (sym is) (p.rows i l inside) in
+    subst (λ (rs : Bag). IsIdleIndex rs x) (sym same) (p.idle i l.range x (range-within ls i inside) (range-at ls i l inside is) here)
+
+right-of : (n : Node) (rows : ℕ → Bag) (ls : List Loop) (h : Hashed) → ranges ls ≡ n.quants → All (λ l. rows_kept l.under ≡ rows l.range.over) ls → HashesRight n ls h → RightIndexed n rows h
+right-of n rows ls h e kept right = subst (λ (rs : List OwnedQuant). (q : OwnedQuant) → 1 < length rs → q ≡ get_or rs 1 q → Hashes (rejects_on n) q.id (rows q.over) h) e
+    (λ q l at.
+    let x = loop-at ls 1 q l at in
+    let m = x.0 in
+    let same : rows_kept m.under ≡ rows m.range.over = subst (λ (y : Loop). rows_kept y.under ≡ rows y.range.over) (sym x.1.1) (kept 1 m x.1.0) in
+    subst (λ (r : OwnedQuant). Hashes (rejects_on n) r.id (rows r.over) h) x.1.2
+    (subst (λ (b : Bag). Hashes (rejects_on n) m.range.id b h) same (right m x.1.0 x.1.1)))
+
+pub rights-of : (n : Node) (rows : ℕ → Bag) (ls : List Loop) (hs : List Hashed) → ranges ls ≡ n.quants → All (λ l. rows_kept l.under ≡ rows l.range.over) ls → All (λ h. HashesRight n ls h) hs → All (λ h. RightIndexed n rows h) hs
+rights-of n rows ls hs e kept all k d inside = right-of n rows ls (get_or hs k d) e kept (all k d inside)
+
+pub right-at : (at : At) → Planned at → (q : Loop) → 1 < length at.loops.now → q ≡ get_or at.loops.now 1 q → (h : Hashed) → RightIndexed at.node.now (stored at) h → Hashes (rejects_on at.node.now) q.range.id (rows_kept q.under) h
+right-at at p q inside is h right =
+    let ls = at.loops.now in
+    let same : rows_kept q.under ≡ stored at q.range.over = subst (λ (y : Loop). rows_kept y.under ≡ stored at y.range.over) (sym is) (p.rows 1 q inside) in
+    subst (λ (rs : Bag). Hashes (rejects_on at.node.now) q.range.id rs h) (sym same)
+    (subst (λ (rs : List OwnedQuant). 1 < length rs → q.range ≡ get_or rs 1 q.range → Hashes (rejects_on at.node.now) q.range.id (stored at q.range.over) h) (sym p.ranged) (right q.range) (range-within ls 1 inside) (range-at ls 1 q inside is))
+
+pub one-all : {X : Type 0} (P : X → Type 0) (xs : List X) (x : X) → xs ≡ x ∷ [] → P x → All P xs
+one-all {X = X} P xs x e p = subst (All P) (sym e) (λ k d l. one k d l)
+  where
+    one : (k : ℕ) (d : X) → k < length (x ∷ []) → P (get_or (x ∷ []) k d)
+    one zero d l = p
+    one (suc k) d l = absurd (omega (arith, l))
+
+-- how much there is to go through under a quantifier
+pub open-weight : (u : Under) → is_open u ≡ true → 0 < weight_under u
+open-weight (Kept rows) h = absurd (let z : ⊥ = cc in z)
+open-weight (Open n behind) h = omega arith
+open-weight Nothing h = absurd (let z : ⊥ = cc in z)
+
+pub under-weight : (at : At) (b : ℕ) (u : Under) → Stands (tables_of at) at.run.now.memo.now at.below.now b u → weight_under u ≤ weight at.below.now
+under-weight at b (Kept rows) s = omega arith
+under-weight at b (Open n behind) s = s.less
+under-weight at b Nothing s = omega arith
+
 -- ---- plans
 
 nothing-at : (i : ℕ) (h : Hashed) → slice_get [] i ≡ Some (Some h) → ⊥
@@ -121,10 +188,10 @@ bound-by at ls o el ee eh ranged own stand rows plan = record {
 }
 
 -- a box that is evaluated by a plan
-pub planned-by : (at : At) (ls : List Loop) (p : Plan) → at.loops.now ≡ ls → at.early.now ≡ p.early.items → at.hashed.now ≡ p.hashed.items → at.orders.now ≡ p.orders.items → ranges ls ≡ at.node.now.quants
+pub planned-by : (at : At) (ls : List Loop) (p : Plan) → at.loops.now ≡ ls → at.early.now ≡ p.early.items → at.hashed.now ≡ p.hashed.items → at.orders.now ≡ p.orders.items → at.idle.now ≡ p.idle.items → at.right.now ≡ p.right.items → ranges ls ≡ at.node.now.quants
     → All (λ l. StandsAt at l) ls → All (λ l. rows_kept l.under ≡ stored at l.range.over) ls → Fit at.node.now at.below.now → FitsPlan at.node.now (stored at) p
     → AllPlanned at.run.now.memo.now at.run.now.plans.now at.below.now → Ready (tables_of at) at.run.now.memo.now at.below.now → Planned at
-planned-by at ls p el ee eh eo ranged stand rows fit plan plans ready =
+planned-by at ls p el ee eh eo ei er ranged stand rows fit plan plans ready =
     let text : ranges at.loops.now ≡ at.node.now.quants = ap ranges el ∙ ranged in
     record {
       ranged = text;
@@ -134,6 +201,8 @@ planned-by at ls p el ee eh eo ranged stand rows fit plan plans ready =
       plan = subst (λ (rs : List OwnedQuant). IsPlan at.node.now rs (stored at) at.early.now at.hashed.now) (sym text)
           (subst (λ (xs : List Early). IsPlan at.node.now at.node.now.quants (stored at) xs at.hashed.now) (sym ee) (subst (IsPlan at.node.now at.node.now.quants (stored at) p.early.items) (sym eh) plan.text));
       orders = subst (All (λ o. IsOrder at.node.now (stored at) o)) (sym eo) plan.orders;
+      idle = subst (λ (rs : List OwnedQuant). AllIdle rs (stored at) at.idle.now) (sym text) (subst (AllIdle at.node.now.quants (stored at)) (sym ei) plan.idle);
+      right = subst (All (λ h. RightIndexed at.node.now (stored at) h)) (sym er) plan.right;
       ready = ready;
       plans = plans;
     }
@@ -156,6 +225,8 @@ plan-longer memo o n ns (Some (Some p)) l h =
           let x = get_or p.orders.items k d in
           let it = h.orders k d inside in
           record { reordered = it.reordered; plan = plan-same n x.ranges.items (rows_stored memo ns) (rows_stored (memo ++ o ∷ []) ns) x.early.items x.hashed.items same it.plan };
+      idle = λ i r x inside at is. subst (λ (b : Bag). IsIdleIndex b x) (same r.over) (h.idle i r x inside at is);
+      right = λ k d inside. λ q within at. subst (λ (b : Bag). Hashes (rejects_on n) q.id b (get_or p.right.items k d)) (same q.over) (h.right k d inside q within at);
     }
 
 plans-longer : (memo : List (Option Source)) (o : Option Source) (plans : List (Option Plan)) (p : Option Plan) (ns : List Node) → length ns ≤ length memo → length ns ≤ length plans → AllPlanned memo plans ns → AllPlanned (memo ++ o ∷ []) (plans ++ p ∷ []) ns

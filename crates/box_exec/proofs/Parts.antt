@@ -6,10 +6,9 @@ use Rattle.qgm_meaning.specs.Meaning.{Family}
 use Rattle.qgm_meaning.specs.Values.{Environment}
 use Rattle.row_bag.specs.Bags.{Alike}
 use Rattle.box_exec.specs.Ready.{SubsOf}
-use Rattle.box_exec.specs.Sources.{held}
-use Rattle.box_exec.specs.declared.source.Source.{Source}
+use Rattle.box_exec.specs.Sources.{rows_held}
 use Rattle.box_exec.specs.declared.source.Sub.{Sub}
-use Rattle.box_exec.specs.declared.source.SubRows.TheVariants.{Plain}
+use Rattle.box_exec.specs.declared.source.SubRows.{SubRows}
 use Rattle.box_exec.proofs.Quantifiers.{subs-more}
 
 -- of one part
@@ -33,6 +32,6 @@ is_there (Ok x) P A T h a f = f x h a
 is_there (Err e) P A T h a f = absurd h
 
 -- one more quantifier has been gone through
-pub subs_pushed : (f : Family) (env : Environment) (rs : List OwnedQuant) (ss ts : List Sub) (r : OwnedQuant) (s : Source)
-    → ts ≡ ss ++ record { quant = r.id; rows = Plain s } ∷ [] → Alike (held s) (f r.over env) → SubsOf f env rs ss → SubsOf f env (rs ++ r ∷ []) ts
-subs_pushed f env rs ss ts r s e h k = subst (λ (us : List Sub). SubsOf f env (rs ++ r ∷ []) us) (sym e) (subs-more f env rs ss r (record { quant = r.id; rows = Plain s }) refl h k)
+pub subs_pushed : (f : Family) (env : Environment) (rs : List OwnedQuant) (ss ts : List Sub) (r : OwnedQuant) (s : SubRows)
+    → ts ≡ ss ++ record { quant = r.id; rows = s } ∷ [] → Alike (rows_held s) (f r.over env) → SubsOf f env rs ss → SubsOf f env (rs ++ r ∷ []) ts
+subs_pushed f env rs ss ts r s e h k = subst (λ (us : List Sub). SubsOf f env (rs ++ r ∷ []) us) (sym e) (subs-more f env rs ss r (record { quant = r.id; rows = s }) refl h k)

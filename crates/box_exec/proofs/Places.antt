@@ -80,10 +80,10 @@ weight-drop ns zero = omega arith
 weight-drop [] (suc i) = omega arith
 weight-drop (n ∷ ns) (suc i) = let h = weight-drop ns i in omega (arith, h)
 
-weight-at : (ns : List Node) (i : ℕ) (n : Node) → i < length ns → n ≡ get_or ns i n → length n.quants + 7 + weight (drop (i + 1) ns) ≤ weight ns
+weight-at : (ns : List Node) (i : ℕ) (n : Node) → i < length ns → n ≡ get_or ns i n → length n.quants + 8 + weight (drop (i + 1) ns) ≤ weight ns
 weight-at ns i n l at =
     let h = weight-drop ns i in
-    let k : weight (drop i ns) ≡ length n.quants + 7 + weight (drop (i + 1) ns) = ap weight (from ns i n l ∙ ap (λ (m : Node). m ∷ drop (i + 1) ns) (sym at)) in
+    let k : weight (drop i ns) ≡ length n.quants + 8 + weight (drop (i + 1) ns) = ap weight (from ns i n l ∙ ap (λ (m : Node). m ∷ drop (i + 1) ns) (sym at)) in
     omega (arith, h, k)
 
 -- ---- what stands under a quantifier

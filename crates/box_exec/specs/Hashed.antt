@@ -1,25 +1,34 @@
 -- Rows of selects over kept boxes, found by the hashes of the cells that equalities ask for.
 use Rattle.std.specs.Prelude.{ℕ, ◌≡◌, ◌<◌, ◌+◌, false, All, List, get_or, length, filter, slice_get, Option, Some}
+use Rattle.qgm_core.specs.declared.node.Node.{Node}
 use Rattle.qgm_meaning.specs.Values.{Bag, Environment}
 use Rattle.box_exec.specs.Early.{is_open, rejects}
 pub use Rattle.box_exec.specs.Lasting.{rows_kept}
-use Rattle.box_exec.specs.Lookup.{Leads}
+use Rattle.box_exec.specs.Indexed.{IsIdleIndex}
+use Rattle.box_exec.specs.Lookup.{Hashes, Leads}
+use Rattle.box_exec.specs.Outer.{rejects_on}
 use Rattle.box_exec.specs.Plans.{Bound, family}
 use Rattle.box_exec.specs.Ready.{Fit, SubsOf, isnt_F}
 use Rattle.box_exec.specs.declared.boxes.At.{At}
 use Rattle.box_exec.specs.declared.hashed.Whole.{Whole}
+use Rattle.box_exec.specs.declared.idle_index.IdleIndex.{IdleIndex}
+use Rattle.box_exec.specs.declared.lookup.Hashed.{Hashed}
 use Rattle.row_index.specs.declared.ways.Way.{Way}
 use Rattle.box_exec.specs.declared.under.Loop.{Loop}
 use Rattle.box_exec.specs.declared.under.Under.{Under}
 
--- ---- kept rows that are found
+-- ---- kept rows with indexes
 
--- rows that are found, if they are, are those that are kept
-abbrev pub FoundAt : List (Option Bag) → ℕ → Under → Type 0
-FoundAt fs i under = (f : Bag) → slice_get fs i ≡ Some (Some f) → f ≡ rows_kept under
+-- the index at a place, if there is one, is of the rows that are kept
+abbrev pub IdleUnder : List (Option IdleIndex) → ℕ → Under → Type 0
+IdleUnder xs i under = (x : IdleIndex) → slice_get xs i ≡ Some (Some x) → IsIdleIndex (rows_kept under) x
 
-abbrev pub AllFound : List Loop → List (Option Bag) → Type 0
-AllFound ls fs = (i : ℕ) (l : Loop) → i < length ls → l ≡ get_or ls i l → FoundAt fs i l.under
+abbrev pub AllIdleUnder : List Loop → List (Option IdleIndex) → Type 0
+AllIdleUnder ls xs = (i : ℕ) (l : Loop) → i < length ls → l ≡ get_or ls i l → IdleUnder xs i l.under
+
+-- of the rows that are kept under the second quantifier of an outer join, by keys among its conditions
+abbrev pub HashesRight : Node → List Loop → Hashed → Type 0
+HashesRight n ls h = (q : Loop) → 1 < length ls → q ≡ get_or ls 1 q → Hashes (rejects_on n) q.range.id (rows_kept q.under) h
 
 -- a way through its rows passes over such alone as one of these conditions rejects
 abbrev pub LeadsAt : At → ℕ → Loop → Environment → Way → Type 0

@@ -4,7 +4,9 @@ use Rattle.qgm_core.specs.declared.node.Node.{Node}
 use Rattle.qgm_core.specs.declared.owned.OwnedQuant.{OwnedQuant}
 use Rattle.qgm_meaning.specs.Values.{Bag}
 use Rattle.box_exec.specs.Early.{IsEarly, rejects}
+use Rattle.box_exec.specs.Indexed.{AllIdle}
 use Rattle.box_exec.specs.Lookup.{Hashes}
+use Rattle.box_exec.specs.Outer.{rejects_on}
 use Rattle.box_exec.specs.Sources.{held}
 use Rattle.box_exec.specs.declared.early.Early.{Early}
 use Rattle.box_exec.specs.declared.lookup.Hashed.{Hashed}
@@ -47,6 +49,10 @@ AllHashed es ls hs = (i : ℕ) (l : Loop) (h : Hashed) → i < length ls → l �
 abbrev pub AllIndexed : List Early → List OwnedQuant → (ℕ → Bag) → List (Option Hashed) → Type 0
 AllIndexed es rs rows hs = (i : ℕ) (r : OwnedQuant) (h : Hashed) → i < length rs → r ≡ get_or rs i r → slice_get hs i ≡ Some (Some h) → Hashes (rejects es (i + 1)) r.id (rows r.over) h
 
+-- of the rows of the box that the second quantifier of an outer join ranges over, by keys among its conditions
+abbrev pub RightIndexed : Node → (ℕ → Bag) → Hashed → Type 0
+RightIndexed n rows h = (q : OwnedQuant) → 1 < length n.quants → q ≡ get_or n.quants 1 q → Hashes (rejects_on n) q.id (rows q.over) h
+
 -- ---- plans
 
 -- early conditions of a box, and indexes of the rows of the boxes that it ranges over, where its quantifiers are bound in this order
@@ -64,10 +70,12 @@ pub record IsOrder (n : Node) (rows : ℕ → Bag) (o : Order) : Type 0 where
   pub reordered : Reorders n.quants o.ranges.items
   pub plan : IsPlan n o.ranges.items rows o.early.items o.hashed.items
 
--- the plan of a box: for the order of its quantifiers, and for others, if there are any
+-- the plan of a box: for the order of its quantifiers, and for others, if there are any; with indexes of the rows of E and A quantifiers, and of the right rows of an outer join
 pub record FitsPlan (n : Node) (rows : ℕ → Bag) (p : Plan) : Type 0 where
   pub text : IsPlan n n.quants rows p.early.items p.hashed.items
   pub orders : All (λ o. IsOrder n rows o) p.orders.items
+  pub idle : AllIdle n.quants rows p.idle.items
+  pub right : All (λ h. RightIndexed n rows h) p.right.items
 
 -- the plan of a box, if there is one, is of the rows that are kept
 abbrev pub PlanFits : List (Option Source) → Node → List Node → Option (Option Plan) → Type 0

@@ -14,6 +14,7 @@ pub mod Lasting
 pub mod Hashed
 pub mod HandedOn
 pub mod Idle
+pub mod Indexed
 pub mod Equalities
 pub mod Plans
 pub mod Beyond

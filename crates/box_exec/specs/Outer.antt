@@ -27,5 +27,5 @@ abbrev pub rejects_on : Node → Environment → Bool
 rejects_on n env = is_none (all_true nothing n.parts.conds.items env).t
 
 -- hashes of right rows, if there are any, are those of keys among the conditions
-abbrev pub Found : Join → Right → Type 0
-Found join right = IfSome right.hashed.now (λ h. Hashes (rejects_on join.node.now) join.right right.rows.now h)
+abbrev pub HashedOn : Join → Right → Type 0
+HashedOn join right = IfSome right.hashed (λ h. Hashes (rejects_on join.node.now) join.right right.rows.now h.now)

@@ -8,7 +8,8 @@ use Rattle.qgm_core.specs.declared.owned.OwnedQuant.{OwnedQuant}
 use Rattle.qgm_meaning.specs.Meaning.{Family, bag_in, rows_of}
 use Rattle.qgm_meaning.specs.Values.{Bag, Environment}
 use Rattle.row_bag.specs.declared.tables.Table.{Table}
-use Rattle.box_exec.specs.Lasting.{AllPlanned, IsOrder, IsPlan, rows_kept, rows_stored}
+use Rattle.box_exec.specs.Indexed.{AllIdle}
+use Rattle.box_exec.specs.Lasting.{AllPlanned, IsOrder, IsPlan, RightIndexed, rows_kept, rows_stored}
 use Rattle.box_exec.specs.Ready.{Fit, Ready, Stands, over_left}
 use Rattle.box_exec.specs.declared.boxes.At.{At}
 use Rattle.box_exec.specs.declared.under.Loop.{Loop}
@@ -35,6 +36,8 @@ pub record Planned (at : At) : Type 0 where
   pub rows : All (λ l. rows_kept l.under ≡ stored at l.range.over) at.loops.now
   pub plan : IsPlan at.node.now (ranges at.loops.now) (stored at) at.early.now at.hashed.now
   pub orders : All (λ o. IsOrder at.node.now (stored at) o) at.orders.now
+  pub idle : AllIdle (ranges at.loops.now) (stored at) at.idle.now
+  pub right : All (λ h. RightIndexed at.node.now (stored at) h) at.right.now
   pub ready : Ready (tables_of at) at.run.now.memo.now at.below.now
   pub plans : AllPlanned at.run.now.memo.now at.run.now.plans.now at.below.now
 

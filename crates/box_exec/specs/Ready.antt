@@ -69,11 +69,11 @@ Ready tables memo (n ∷ ns) = Fit n ns × Entry tables n ns (slice_get memo (le
 -- how much there is to go through in these boxes
 abbrev pub weight : List Node → ℕ
 weight [] = 0
-weight (n ∷ ns) = length n.quants + 7 + weight ns
+weight (n ∷ ns) = length n.quants + 8 + weight ns
 
 abbrev pub weight_under : Under → ℕ
 weight_under (Kept rows) = 0
-weight_under (Open n behind) = length n.now.quants + 7 + weight behind.now
+weight_under (Open n behind) = length n.now.quants + 8 + weight behind.now
 weight_under Nothing = 0
 
 -- the box of this number is n, over those behind it
@@ -81,7 +81,7 @@ pub record IsOpen (tables : List Table) (memo : List (Option Source)) (below : L
   pub bag : (env : Environment) → bag_in tables below b env ≡ rows_of tables n (bag_in tables behind) env
   pub fit : Fit n behind
   pub ready : Ready tables memo behind
-  pub less : length n.quants + 7 + weight behind ≤ weight below
+  pub less : length n.quants + 8 + weight behind ≤ weight below
   pub plans : (ps : List (Option Plan)) → AllPlanned memo ps below → AllPlanned memo ps (n ∷ behind)
   pub keeps : (kept : ℕ → Bool) → Keeps memo kept below → Keeps memo kept behind × ((env : Environment) → asked tables kept below b env ≡ counted_by n.parts.kind n (bag_in tables behind) (asked tables kept behind) env)
 

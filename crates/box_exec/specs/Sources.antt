@@ -5,7 +5,7 @@ use Rattle.box_exec.specs.declared.source.Source.{Source}
 use Rattle.box_exec.specs.declared.source.Source.TheVariants.{Borrowed, Made}
 use Rattle.box_exec.specs.declared.source.Sub.{Sub}
 use Rattle.box_exec.specs.declared.source.SubRows.{SubRows}
-use Rattle.box_exec.specs.declared.source.SubRows.TheVariants.{Plain, Found}
+use Rattle.box_exec.specs.declared.source.SubRows.TheVariants.{Plain, Indexed}
 
 abbrev pub held : Source → Bag
 held (Borrowed rows) = rows.now
@@ -14,7 +14,7 @@ held (Made bag) = bag
 -- of an E, A or S quantifier
 abbrev pub rows_held : SubRows → Bag
 rows_held (Plain source) = held source
-rows_held (Found rows) = rows.now
+rows_held (Indexed rows) = rows
 
 -- the rows of the first of this number
 abbrev pub held_by : List Sub → ℕ → Bag

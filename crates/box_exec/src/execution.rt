@@ -1,5 +1,5 @@
 // The execution of a graph.
-ghost use Rattle.std.specs.Prelude.{◌≡◌, ◌≤◌, ◌+◌, ◌-◌, IfOk, min};
+ghost use Rattle.std.specs.Prelude.{◌≡◌, ◌<◌, ◌≤◌, ◌+◌, ◌-◌, IfOk, min};
 ghost use Rattle.box_exec.specs.Closed.{AllClosed, NamesBound, closed_number, reached_number};
 ghost use Rattle.box_exec.specs.Kept.{Took};
 ghost use Rattle.box_exec.specs.Ready.{AllFit};
@@ -10,25 +10,28 @@ ghost use Rattle.row_bag.specs.Sets.{same_cells};
 
 use crate::handed_on::root_rows;
 use crate::memo::memo_of;
+use crate::tally::Tally;
 use crate::under::{BoxOver, behind, place_of};
 use qgm_core::{Graph, reached};
 use row_bag::{Bag, Tables};
 use shared_types::OutOfMemory;
 use std::alloc::Global;
-use std::sync::ledger::Ledger;
+use std::marker::Brand;
+use std::sync::ledger::{Blank, Ledger};
 use step_count::Steps;
 
-// The rows of a graph over tables, looked up in indexes or not, and how many evaluations they took.
+// The rows of a graph over tables, looked up in indexes or not, how many evaluations they took, and how
+// many rows were taken.
 fn executed<L: Ledger>(
     alloc: Global,
     graph: &Graph,
     tables: &Tables,
     indexed: bool,
     steps: &mut Steps<L>,
-) -> Result<(Bag, u64), OutOfMemory>
+) -> Result<(Bag, Tally), OutOfMemory>
     requires fit { AllFit graph.now.boxes }
     ensures rows { IfOk result (λ r. Agree same_cells r.0 (root_bag tables.now graph.now)) }
-    ensures counted { IfOk result (λ r. r.1 ≡ min (steps.new - steps.old) 18446744073709551615) }
+    ensures counted { IfOk result (λ r. r.1.count ≡ min (steps.new - steps.old) 18446744073709551615) }
     ensures never_less { steps.old ≤ steps.new }
     ensures took { IfOk result (λ r. Took tables.now graph.now steps.old steps.new) }
     ensures exact { IfOk result (λ r. NamesBound graph.now → AllClosed graph.now → steps.new ≡ steps.old + reached_number graph.now) }
@@ -37,20 +40,80 @@ fn executed<L: Ledger>(
 {
     let nodes = graph.nodes();
     let root = graph.root();
-    let mut count = 0;
+    let mut tally = Tally { count: 0, taken: 0 };
     let Some(i) = place_of(nodes, root) else {
-        return Ok((Bag::new(alloc), count));
+        return Ok((Bag::new(alloc), tally));
     };
     let below = behind(nodes, i);
     let marks = reached(alloc, nodes, root)?;
-    let (memo, plans) = memo_of(alloc, below, tables, &marks, indexed, steps, &mut count)?;
+    let (memo, plans) = memo_of(alloc, below, tables, &marks, indexed, steps, &mut tally)?;
     let place = BoxOver {
         node: &nodes[i],
         below,
         plans: &plans,
         indexed,
     };
-    let rows = root_rows(alloc, tables, memo, &place, steps, &mut count)?;
+    let rows = root_rows(alloc, tables, memo, &place, steps, &mut tally)?;
+    Ok((rows, tally))
+}
+
+// So many steps more.
+fn tick_all<M: Ledger>(many: u64, taken: &mut Steps<M>)
+    ensures { taken.new ≡ taken.old + many }
+{
+    for i in 0..many {
+        taken.tick();
+    }
+}
+
+/// As `execute`. One step of `taken` is one row taken for an F quantifier of a select, by a look-up or,
+/// without an index, by the loop. The third part of the answer is how many steps were added to `taken`, or
+/// the greatest 64-bit number where these are more.
+pub fn execute_taken<L: Ledger, M: Ledger>(
+    alloc: Global,
+    graph: &Graph,
+    tables: &Tables,
+    steps: &mut Steps<L>,
+    taken: &mut Steps<M>,
+) -> Result<(Bag, u64, u64), OutOfMemory>
+    requires fit { AllFit graph.now.boxes }
+    ensures rows { IfOk result (λ r. Agree same_cells r.0 (root_bag tables.now graph.now)) }
+    ensures counted { IfOk result (λ r. r.1 ≡ min (steps.new - steps.old) 18446744073709551615) }
+    ensures never_less { steps.old ≤ steps.new }
+    ensures took { IfOk result (λ r. Took tables.now graph.now steps.old steps.new) }
+    ensures exact { IfOk result (λ r. NamesBound graph.now → AllClosed graph.now → steps.new ≡ steps.old + reached_number graph.now) }
+    ensures at_least_closed { IfOk result (λ r. NamesBound graph.now → steps.old + closed_number graph.now ≤ steps.new) }
+    ensures at_most_plain { IfOk result (λ r. NamesBound graph.now → steps.new ≤ steps.old + plain tables.now graph.now) }
+    ensures taken { IfOk result (λ r. r.2 ≡ min (taken.new - taken.old) 18446744073709551615) }
+    ensures taken_never_less { taken.old ≤ taken.new }
+{
+    let (rows, tally) = executed(alloc, graph, tables, true, steps)?;
+    tick_all(tally.taken, taken);
+    Ok((rows, tally.count, tally.taken))
+}
+
+// As `execute_taken`, by a new count of rows, which is not told.
+fn uncounted<L: Ledger, M: Ledger>(
+    alloc: Global,
+    graph: &Graph,
+    tables: &Tables,
+    steps: &mut Steps<L>,
+    blank: Blank,
+) -> Result<(Bag, u64), OutOfMemory>
+    requires fit { AllFit graph.now.boxes }
+    requires name { blank.name ≡ M.name }
+    requires parts { blank.parts ≡ M.parts }
+    requires some { 0 < blank.parts }
+    ensures rows { IfOk result (λ r. Agree same_cells r.0 (root_bag tables.now graph.now)) }
+    ensures counted { IfOk result (λ r. r.1 ≡ min (steps.new - steps.old) 18446744073709551615) }
+    ensures never_less { steps.old ≤ steps.new }
+    ensures took { IfOk result (λ r. Took tables.now graph.now steps.old steps.new) }
+    ensures exact { IfOk result (λ r. NamesBound graph.now → AllClosed graph.now → steps.new ≡ steps.old + reached_number graph.now) }
+    ensures at_least_closed { IfOk result (λ r. NamesBound graph.now → steps.old + closed_number graph.now ≤ steps.new) }
+    ensures at_most_plain { IfOk result (λ r. NamesBound graph.now → steps.new ≤ steps.old + plain tables.now graph.now) }
+{
+    let mut taken = Steps::<M>::new(blank);
+    let (rows, count, _taken) = execute_taken(alloc, graph, tables, steps, &mut taken)?;
     Ok((rows, count))
 }
 
@@ -73,7 +136,7 @@ pub fn execute<L: Ledger>(
     ensures at_least_closed { IfOk result (λ r. NamesBound graph.now → steps.old + closed_number graph.now ≤ steps.new) }
     ensures at_most_plain { IfOk result (λ r. NamesBound graph.now → steps.new ≤ steps.old + plain tables.now graph.now) }
 {
-    executed(alloc, graph, tables, true, steps)
+    uncounted::<L, Brand>(alloc, graph, tables, steps, Blank::new(1))
 }
 
 /// As `execute`, with rows that are gone through and not looked up in indexes: by this the rows and counts
@@ -93,5 +156,6 @@ pub fn execute_plain<L: Ledger>(
     ensures at_least_closed { IfOk result (λ r. NamesBound graph.now → steps.old + closed_number graph.now ≤ steps.new) }
     ensures at_most_plain { IfOk result (λ r. NamesBound graph.now → steps.new ≤ steps.old + plain tables.now graph.now) }
 {
-    executed(alloc, graph, tables, false, steps)
+    let (rows, tally) = executed(alloc, graph, tables, false, steps)?;
+    Ok((rows, tally.count))
 }

@@ -1,89 +1,27 @@
 // The groups of a box (SQL-92, 7.7 and 6.5).
-ghost use Rattle.std.specs.Prelude.{◌≡◌, ◌≤◌, ◌∷◌, [], ◌++◌, drop, length, map, take, IfOk, IsOkAnd};
+ghost use Rattle.std.specs.Prelude.{◌≡◌, ◌≤◌, [], ◌++◌, drop, length, map, take, IfOk, IsOkAnd, OnOk};
 ghost use Rattle.box_exec.specs.Bound.{env_of};
 ghost use Rattle.box_exec.specs.Groups as spec;
 ghost use Rattle.box_exec.specs.Sources.{held};
+ghost use Rattle.group_states.specs.Groups.{HasRows};
 ghost use Rattle.qgm_meaning.specs.Aggregated as a;
 ghost use Rattle.qgm_meaning.specs.Meaning as m;
-ghost use Rattle.qgm_meaning.specs.Values as v;
 ghost use Rattle.qgm_terms.specs.Shown.{aggregate, taken, term, terms};
-ghost use Rattle.row_bag.specs.Aggregates.{folded};
-ghost use Rattle.row_bag.specs.Bags.{Alike, at_yes, bind, row, unit};
+ghost use Rattle.row_bag.specs.Bags.{Alike};
 ghost use Rattle.row_bag.specs.Errors.{error_among, error_in};
-ghost use Rattle.row_bag.specs.Groups.{key, key_error};
-ghost use Rattle.sql_value.specs.declared.cell.Cell.TheVariants.{Null};
+ghost use Rattle.row_bag.specs.Groups.{key_error};
 
 use crate::bindings::Bindings;
 use crate::evaluation::value;
 use crate::heads::append_head;
 use crate::source::Source;
+use group_states::{Fold, GroupTable, append_values, states_of, take_row};
 use qgm_core::{Gx, QuantId};
-use row_bag::{
-    Bag, Group, Row, append_cells, count_rows, error_at, failed_row, folded, groups_of,
-    key_error_of, worst_of,
-};
+use row_bag::{Bag, Row, error_at, failed_row, key_error_of, worst_of};
 use shared_types::OutOfMemory;
 use sql_value::{Aggregate, Cell, Kind, Level, Taken};
 use sqlite_items::Items;
 use std::alloc::Global;
-
-/// Rows of a quantifier, of which so many first cells are a key that is no cell of them, and what is
-/// bound beside it.
-#[derive(Clone, Copy)]
-pub(crate) struct Members<'a> {
-    pub quant: QuantId,
-    pub keys: usize,
-    pub rows: &'a [Row],
-    pub env: &'a Bindings<'a>,
-}
-
-// The cells past the first ones, so many.
-fn past(cells: &[Cell], keys: usize) -> &[Cell]
-    ensures { result.now ≡ drop keys cells.now }
-{
-    if keys < cells.len() {
-        &cells[keys..]
-    } else {
-        &[]
-    }
-}
-
-// The argument of an aggregate in a row.
-fn argument(alloc: Global, x: &Gx, over: &Members<'_>, row: &Row) -> Result<Row<Cell>, OutOfMemory>
-    ensures { IfOk result (λ made. made ≡ spec.argument over.now.quant over.now.keys (term x.now) (env_of over.now.env.now) row.now) }
-{
-    let cells = past(row.cells.as_slice(), over.keys);
-    let inside = Bindings::Row(over.quant, cells, over.env);
-    Ok(Row {
-        cells: value(alloc, x, &[], &inside)?,
-        level: row.level,
-    })
-}
-
-// The argument of an aggregate in each row.
-fn arguments(alloc: Global, x: &Gx, over: &Members<'_>) -> Result<Vec<Row<Cell>>, OutOfMemory>
-    ensures { IfOk result (λ made. made.items ≡ map (spec.argument over.now.quant over.now.keys (term x.now) (env_of over.now.env.now)) over.now.rows.now) }
-{
-    let mut made = Vec::with_capacity(alloc, over.rows.len())?;
-    for row in over.rows {
-        made.push(argument(alloc, x, over, row)?)?;
-    }
-    Ok(made)
-}
-
-// An aggregate of the rows.
-fn folded_over(
-    alloc: Global,
-    f: Aggregate,
-    each: Taken,
-    x: &Gx,
-    over: &Members<'_>,
-) -> Result<Cell, OutOfMemory>
-    ensures { IfOk result (λ cell. cell ≡ folded f each (bind (spec.without_keys over.now.keys over.now.rows.now) (λ cells. unit (v.value m.nothing (term x.now) (v.bound over.now.quant cells (env_of over.now.env.now)))))) }
-{
-    let arguments = arguments(alloc, x, over)?;
-    folded(alloc, f, each, arguments)
-}
 
 // An aggregate of an expression, as one of cells.
 fn aggregate_of(f: qgm_terms::Aggregate) -> Aggregate
@@ -109,22 +47,56 @@ fn taken_of(each: qgm_terms::Taken) -> Taken
     }
 }
 
-// A cell of a group that isn't of its key.
-fn fold_cell(alloc: Global, x: &Gx, over: &Members<'_>) -> Result<Cell, OutOfMemory>
-    ensures { IfOk result (λ cell. cell ≡ m.fold_cell over.now.quant (env_of over.now.env.now) (spec.without_keys over.now.keys over.now.rows.now) (term x.now)) }
+// The cell of a group that a term of a head is.
+fn fold_of(x: &Gx) -> Fold
+    ensures { result ≡ spec.fold_of (term x.now) }
 {
     match x {
-        Gx::CountAll => Ok(count_rows(over.rows)),
-        Gx::Fold(f, each, a) => folded_over(alloc, aggregate_of(*f), taken_of(*each), a, over),
+        Gx::CountAll => Fold::Rows,
+        Gx::Fold(f, each, _) => Fold::Of(aggregate_of(*f), taken_of(*each)),
+        Gx::Chain(a, list) => if list.is_empty() {
+            fold_of(a)
+        } else {
+            Fold::Nothing
+        },
+        // A group has no other cell.
+        Gx::Int(_)
+        | Gx::Text(_)
+        | Gx::NullInt
+        | Gx::NullText
+        | Gx::Col(_, _)
+        | Gx::Scalar(_)
+        | Gx::Neg(_)
+        | Gx::Case(_, _) => Fold::Nothing,
+    }
+}
+
+// The cells of a group that the terms of a head are.
+fn folds_of(alloc: Global, folds: &[Gx]) -> Result<Vec<Fold>, OutOfMemory>
+    ensures { IfOk result (λ made. made.items ≡ map spec.fold_of (terms folds.now)) }
+{
+    let mut made = Vec::with_capacity(alloc, folds.len())?;
+    for x in folds {
+        made.push(fold_of(x))?;
+    }
+    Ok(made)
+}
+
+// What such a cell takes of a row; null where it is no aggregate.
+fn argument(alloc: Global, x: &Gx, inside: &Bindings) -> Result<Cell, OutOfMemory>
+    ensures { IfOk result (λ cell. cell ≡ spec.argument_of (term x.now) (env_of inside.now)) }
+{
+    match x {
+        Gx::Fold(_, _, a) => value(alloc, a, &[], inside),
         Gx::Chain(a, list) => {
             if list.is_empty() {
-                fold_cell(alloc, a, over)
+                argument(alloc, a, inside)
             } else {
                 Ok(Cell::Null)
             }
         }
-        // A group has no other cell.
-        Gx::Int(_)
+        Gx::CountAll
+        | Gx::Int(_)
         | Gx::Text(_)
         | Gx::NullInt
         | Gx::NullText
@@ -135,101 +107,69 @@ fn fold_cell(alloc: Global, x: &Gx, over: &Members<'_>) -> Result<Cell, OutOfMem
     }
 }
 
-// A group: its key, and then its other cells.
-fn group_cells(
+// Adds what each such cell takes of a row.
+fn append_arguments(
     alloc: Global,
-    key: &[Cell],
     folds: &[Gx],
-    over: &Members<'_>,
-) -> Result<Items<Cell>, OutOfMemory>
-    ensures { IfOk result (λ cells. cells ≡ key.now ++ map (m.fold_cell over.now.quant (env_of over.now.env.now) (spec.without_keys over.now.keys over.now.rows.now)) (terms folds.now)) }
+    inside: &Bindings,
+    out: &mut Vec<Cell>,
+) -> Result<(), OutOfMemory>
+    ensures { OnOk result (out.new.items ≡ out.old.items ++ spec.arguments_in (terms folds.now) (env_of inside.now)) }
 {
-    let mut cells = Vec::with_capacity(alloc, key.len().saturating_add(folds.len()))?;
-    append_cells(alloc, &mut cells, key)?;
     for x in folds {
-        cells.push(fold_cell(alloc, x, over)?)?;
+        out.push(argument(alloc, x, inside)?)?;
     }
-    Ok(Items::from_vec(cells))
+    Ok(())
 }
 
-// The key of a row, and then its cells, at its level.
-fn keyed(
+// The key of a row, and then what each other cell of its group takes of it, at its level.
+fn asked(
     alloc: Global,
     keys: &[Gx],
+    folds: &[Gx],
     quant: QuantId,
     row: &Row,
     env: &Bindings,
 ) -> Result<Row, OutOfMemory>
-    ensures { IfOk result (λ made. made ≡ spec.keyed (spec.key_of (terms keys.now) quant (env_of env.now)) row.now) }
+    ensures { IfOk result (λ made. made ≡ spec.asked (terms keys.now) (terms folds.now) quant (env_of env.now) row.now) }
 {
-    let old = row.cells.as_slice();
-    let inside = Bindings::Row(quant, old, &*env);
-    let mut cells = Vec::with_capacity(alloc, keys.len().saturating_add(old.len()))?;
+    let inside = Bindings::Row(quant, row.cells.as_slice(), &*env);
+    let mut cells = Vec::with_capacity(alloc, keys.len().saturating_add(folds.len()))?;
     append_head(alloc, keys, &[], &inside, &mut cells)?;
-    append_cells(alloc, &mut cells, old)?;
+    append_arguments(alloc, folds, &inside, &mut cells)?;
     Ok(Row {
         cells: Items::from_vec(cells),
         level: row.level,
     })
 }
 
-/// Rows behind their keys, and the greatest error among their levels and keys.
+/// Groups of rows, and the greatest error among the levels and keys of the rows.
 #[derive(Drop)]
-struct KeyedRows {
-    rows: Bag,
+struct KeyedGroups {
+    table: GroupTable,
     error: Option<Kind>,
 }
 
-// Each row behind its key, and the greatest error among their levels and keys.
-fn keyed_rows(
+// The groups of rows by their keys.
+fn groups_of(
     alloc: Global,
     keys: &[Gx],
+    folds: &[Gx],
     quant: QuantId,
     rows: &[Row],
     env: &Bindings,
-) -> Result<KeyedRows, OutOfMemory>
-    ensures rows { IfOk result (λ made. made.rows ≡ map (spec.keyed (spec.key_of (terms keys.now) quant (env_of env.now))) rows.now) }
-    ensures error { IfOk result (λ made. made.error ≡ key_error (length keys.now) made.rows) }
+) -> Result<KeyedGroups, OutOfMemory>
+    ensures table { IfOk result (λ made. HasRows (length keys.now) (map spec.fold_of (terms folds.now)) (map (spec.asked (terms keys.now) (terms folds.now) quant (env_of env.now)) rows.now) made.table) }
+    ensures error { IfOk result (λ made. made.error ≡ key_error (length keys.now) (map (spec.asked (terms keys.now) (terms folds.now) quant (env_of env.now)) rows.now)) }
 {
-    let mut made = Vec::with_capacity(alloc, rows.len())?;
+    let mut table = GroupTable::new(alloc, keys.len(), folds_of(alloc, folds)?)?;
     let mut error = None;
     for row in rows {
-        let behind = keyed(alloc, keys, quant, row, env)?;
-        error = worst_of(error, key_error_of(&behind, keys.len()));
-        made.push(behind)?;
+        let made = asked(alloc, keys, folds, quant, row, env)?;
+        error = worst_of(error, key_error_of(&made, keys.len()));
+        table = table.taken(alloc, &made)?;
     }
-    Ok(KeyedRows {
-        rows: Bag::from_rows(made),
-        error,
-    })
-}
-
-// What the groups give: of each its key, and then its other cells. A group is let go once its row is
-// made.
-fn group_rows(
-    alloc: Global,
-    folds: &[Gx],
-    quant: QuantId,
-    keys: usize,
-    groups: Vec<Group>,
-    env: &Bindings,
-) -> Result<Bag, OutOfMemory>
-    ensures { IfOk result (λ made. made ≡ at_yes (map (λ g. spec.group_of keys (terms folds.now) quant (env_of env.now) (key g) g.rows) groups.items)) }
-{
-    let mut made = Vec::with_capacity(alloc, groups.len())?;
-    for group in groups {
-        let over = Members {
-            quant,
-            keys,
-            rows: group.rows.rows(),
-            env: &*env,
-        };
-        made.push(Row {
-            cells: group_cells(alloc, group.key(), folds, &over)?,
-            level: Level::Yes,
-        })?;
-    }
-    Ok(Bag::from_rows(made))
+    Ok(KeyedGroups { table, error })
 }
 
 // One row for each tuple of these first cells of a head.
@@ -243,13 +183,10 @@ fn by_keys(
 ) -> Result<Bag, OutOfMemory>
     ensures { IfOk result (λ made. Alike made (spec.by_keys (terms keys.now) (terms folds.now) quant (env_of env.now) rows.now)) }
 {
-    let KeyedRows { rows: made, error } = keyed_rows(alloc, keys, quant, rows, env)?;
+    let KeyedGroups { table, error } = groups_of(alloc, keys, folds, quant, rows, env)?;
     match error {
         Some(kind) => failed_row(alloc, keys.len() + folds.len(), kind),
-        None => {
-            let groups = groups_of(alloc, made, keys.len())?;
-            group_rows(alloc, folds, quant, keys.len(), groups, env)
-        }
+        None => table.into_rows(alloc),
     }
 }
 
@@ -271,6 +208,27 @@ fn level_error(rows: &[Row]) -> Option<Kind>
     found
 }
 
+// The cells of one group of all rows.
+fn whole_cells(
+    alloc: Global,
+    folds: &[Gx],
+    quant: QuantId,
+    rows: &[Row],
+    env: &Bindings,
+) -> Result<Vec<Cell>, OutOfMemory>
+    ensures { IfOk result (λ cells. cells.items ≡ map (m.fold_cell quant (env_of env.now) rows.now) (terms folds.now)) }
+{
+    let asked_for = folds_of(alloc, folds)?;
+    let mut states = states_of(alloc, &asked_for)?;
+    for row in rows {
+        let made = asked(alloc, &[], folds, quant, row, env)?;
+        take_row(alloc, &mut states, 0, &made)?;
+    }
+    let mut cells = Vec::with_capacity(alloc, folds.len())?;
+    append_values(alloc, states, &mut cells)?;
+    Ok(cells)
+}
+
 // All rows as one group.
 fn whole(
     alloc: Global,
@@ -284,15 +242,10 @@ fn whole(
     if let Some(kind) = level_error(rows) {
         return failed_row(alloc, folds.len(), kind);
     }
-    let over = Members {
-        quant,
-        keys: 0,
-        rows,
-        env: &*env,
-    };
+    let cells = whole_cells(alloc, folds, quant, rows, env)?;
     let mut made = Bag::new(alloc);
     made.push(Row {
-        cells: group_cells(alloc, &[], folds, &over)?,
+        cells: Items::from_vec(cells),
         level: Level::Yes,
     })?;
     Ok(made)

@@ -19,6 +19,7 @@ ghost use Rattle.row_bag.specs.declared.tables.Table.{Table};
 use crate::bindings::Bindings;
 use crate::boxes::{evaluated, step};
 use crate::source::Source;
+use crate::tally::Tally;
 use crate::under::{BoxOver, Run, behind, kept, place_of};
 use qgm_core::{BoxKind, Node, OwnedQuant};
 use qgm_terms::{Gx, QuantId};
@@ -144,13 +145,13 @@ pub(crate) fn root_rows<L: Ledger>(
     memo: Vec<Option<Source<'_>>>,
     root: &BoxOver<'_>,
     steps: &mut Steps<L>,
-    count: &mut u64,
+    tally: &mut Tally,
 ) -> Result<Bag, OutOfMemory>
     requires ready { Ready tables.now memo.items root.now.below.now }
     requires fit { Fit root.now.node.now root.now.below.now }
     requires plans { AllPlanned memo.items root.now.plans.now (root.now.node.now ∷ root.now.below.now) }
     ensures rows { IfOk result (λ bag. Alike bag (rows_of tables.now root.now.node.now (bag_in tables.now root.now.below.now) [])) }
-    ensures counted { (start : ℕ) → Counted start steps.old count.old → Counted start steps.new count.new }
+    ensures counted { (start : ℕ) → Counted start steps.old tally.old.count → Counted start steps.new tally.new.count }
     ensures took { (kept : ℕ → Bool) → Keeps memo.entry.items kept root.now.below.now → IfOk result (λ bag. Between 1 (counted_by root.now.node.now.parts.kind root.now.node.now (bag_in tables.now root.now.below.now) (asked tables.now kept root.now.below.now) []) steps.old steps.new) }
 {
     let Some(k) = handed_place(&memo, root) else {
@@ -161,8 +162,8 @@ pub(crate) fn root_rows<L: Ledger>(
             plans: root.plans,
             indexed: root.indexed,
         };
-        return evaluated(&run, root.node, root.below, &Bindings::Empty, steps, count);
+        return evaluated(&run, root.node, root.below, &Bindings::Empty, steps, tally);
     };
-    step(steps, count);
+    step(steps, tally);
     taken(memo, k).into_bag(alloc)
 }

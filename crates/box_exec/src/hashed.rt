@@ -1,4 +1,4 @@
-// Rows of selects over kept boxes, found by the hashes of the cells that equalities ask for.
+// Rows of selects over kept boxes, looked up by the hashes of the cells that equalities ask for.
 ghost use Rattle.std.specs.Prelude.{◌≡◌, ◌<◌, ◌+◌, ◌++◌, IfOk, IfSome, OnOk, Some, false, get_or, length, filter, slice_get, true};
 ghost use Rattle.box_exec.specs.Bound.{env_of};
 ghost use Rattle.box_exec.specs.Early.{is_open, rejects};
@@ -17,11 +17,13 @@ ghost use Rattle.row_bag.specs.Bags.{Alike, keep};
 use crate::bindings::Bindings;
 use crate::boxes::At;
 use crate::early::{is_none, is_open, rejected};
-use crate::found::{Found, found_in};
 use crate::heads::{add_given, once_added};
+use crate::idle_index::IdleIndex;
+use crate::indexed_rows::IndexedRows;
 use crate::lookup::{Hashed, all_rows, way_through};
 use crate::order::Order;
 use crate::source::{Source, Sub, SubRows};
+use crate::tally::take;
 use crate::under::{Loop, kept_rows, loops};
 use row_bag::{Bag, Row};
 use row_index::{Way, first_of, next_of};
@@ -85,6 +87,7 @@ fn over_kept<'x>(
     level: Level,
     env: &'x Bindings<'x>,
     out: &mut Bag,
+    taken: &mut u64,
 ) -> Result<(), OutOfMemory>
     requires { spec.KeptPlan whole.now }
     ensures { OnOk result (Alike out.new (out.old ++ keep level (plan.left_at whole.now.at.now place (env_of env.now)))) }
@@ -100,7 +103,7 @@ fn over_kept<'x>(
         return add_given(at.run.alloc, at.node, whole.subs, level, env, out);
     };
     if !l.range.kind.is_f() {
-        return over_kept(whole, place + 1, level, env, out);
+        return over_kept(whole, place + 1, level, env, out, taken);
     }
     let rows = kept_rows(l);
     let way = way_of(at, place, l, env)?;
@@ -109,77 +112,47 @@ fn over_kept<'x>(
     while i < way.end {
         let row = &rows[i];
         let level = least(level, row.level);
+        take(level, taken);
         let inside = Bindings::Row(l.range.id, row.cells.as_slice(), &*env);
-        over_kept(whole, place + 1, level, &inside, out)?;
+        over_kept(whole, place + 1, level, &inside, out, taken)?;
         c = next_of(&way, c);
         i = c.place();
     }
     Ok(())
 }
 
-// The rows of an E or A quantifier, found by hashes if this is asked for and they can be.
-fn found_if<'a>(wanted: bool, at: &At<'a>, l: &Loop<'a>) -> Result<Option<Found<'a>>, OutOfMemory>
-    ensures { IfOk result (λ o. IfSome o (λ f. f ≡ spec.rows_kept l.now.under)) }
+// The index of the rows of an E or A quantifier at a place, if there is one.
+fn index_at<'a>(idle: &'a [Option<IdleIndex<'a>>], i: usize) -> Option<&'a IdleIndex<'a>>
+    ensures { IfSome result (λ x. slice_get idle.now i ≡ Some (Some x.now)) }
 {
-    if !wanted || !at.run.indexed {
-        return Ok(None);
+    match idle.get(i) {
+        Some(Some(index)) => Some(index),
+        Some(None) | None => None,
     }
-    let list = at.node.parts.conds.as_slice();
-    found_in(at.run.alloc, list, l.range.id, kept_rows(l))
 }
 
-// Whether a quantifier binds several rows.
-fn has_several(l: &Loop<'_>) -> bool {
-    l.range.kind.is_f() && kept_rows(l).len() > 1
-}
-
-// The rows of the quantifiers of a box that bind none, where they are found by hashes: for several
-// combinations of rows of the others.
-fn all_found<'a>(at: &At<'a>) -> Result<Vec<Option<Found<'a>>>, OutOfMemory>
-    ensures { IfOk result (λ made. spec.AllFound at.now.loops.now made.items) }
-{
-    let mut made = Vec::with_capacity(at.run.alloc, at.loops.len())?;
-    let several = at.loops.iter().any(|l| has_several(l));
-    for i in 0..at.loops.len() {
-        let l = &at.loops[i];
-        let found = found_if(several && !l.range.kind.is_f(), at, l)?;
-        made.push(found)?;
-    }
-    Ok(made)
-}
-
-// The rows of the quantifier at a place.
-fn sub_rows<'a>(found: &'a [Option<Found<'a>>], i: usize, l: &Loop<'a>) -> SubRows<'a>
-    requires { spec.FoundAt found.now i l.now.under }
+/// The rows that are kept under the quantifier at a place, with their index if there is one.
+pub(crate) fn sub_rows<'a>(at: &At<'a>, i: usize, l: &Loop<'a>) -> SubRows<'a>
+    requires { spec.IdleUnder at.now.idle.now i l.now.under }
     ensures { rows_held result ≡ spec.rows_kept l.now.under }
 {
-    match found.get(i) {
-        Some(Some(rows)) => SubRows::Found(rows),
-        Some(None) | None => SubRows::Plain(Source::Borrowed(kept_rows(l))),
+    match index_at(at.idle, i) {
+        Some(index) => SubRows::Indexed(IndexedRows::new(kept_rows(l), index)),
+        None => SubRows::Plain(Source::Borrowed(kept_rows(l))),
     }
-}
-
-/// A select whose quantifiers all stand on kept rows, and the rows of those that bind none, where they are
-/// found by hashes.
-#[derive(Clone, Copy)]
-pub(crate) struct Finding<'a> {
-    pub at: &'a At<'a>,
-    pub found: &'a [Option<Found<'a>>],
 }
 
 // The rows of the quantifiers that bind none.
-fn kept_subs<'a>(finding: &Finding<'a>) -> Result<Vec<Sub<'a>>, OutOfMemory>
-    requires planned { plan.Planned finding.now.at.now }
-    requires kept { spec.AllKept finding.now.at.now.loops.now }
-    requires found { spec.AllFound finding.now.at.now.loops.now finding.now.found.now }
-    ensures { IfOk result (λ subs. (env : Environment) → SubsOf (plan.family finding.now.at.now) env (filter isnt_F (plan.ranges finding.now.at.now.loops.now)) subs.items) }
+fn kept_subs<'a>(at: &At<'a>) -> Result<Vec<Sub<'a>>, OutOfMemory>
+    requires planned { plan.Planned at.now }
+    requires kept { spec.AllKept at.now.loops.now }
+    ensures { IfOk result (λ subs. (env : Environment) → SubsOf (plan.family at.now) env (filter isnt_F (plan.ranges at.now.loops.now)) subs.items) }
 {
-    let at = finding.at;
     let mut subs = Vec::new(at.run.alloc);
     for i in 0..at.loops.len() {
         let l = &at.loops[i];
         if !l.range.kind.is_f() {
-            let rows = sub_rows(finding.found, i, l);
+            let rows = sub_rows(at, i, l);
             subs.push(Sub {
                 quant: l.range.id,
                 rows,
@@ -197,7 +170,12 @@ pub(crate) fn all_kept(loops: &[Loop<'_>]) -> bool
 }
 
 // The rows of a select whose quantifiers are bound in this order, over the rows of those that bind none.
-fn bound_in_order(at: &At<'_>, subs: &[Sub<'_>], env: &Bindings) -> Result<Bag, OutOfMemory>
+fn bound_in_order(
+    at: &At<'_>,
+    subs: &[Sub<'_>],
+    env: &Bindings,
+    taken: &mut u64,
+) -> Result<Bag, OutOfMemory>
     requires bound { plan.Bound at.now }
     requires fit { Fit at.now.node.now at.now.below.now }
     requires kept { spec.AllKept at.now.loops.now }
@@ -209,7 +187,7 @@ fn bound_in_order(at: &At<'_>, subs: &[Sub<'_>], env: &Bindings) -> Result<Bag, 
         subs: &*subs,
     };
     let mut out = Bag::new(at.run.alloc);
-    let added = over_kept(&whole, 0, Level::Yes, &*env, &mut out);
+    let added = over_kept(&whole, 0, Level::Yes, &*env, &mut out, taken);
     once_added(at.node.parts.distinct, added, out)
 }
 
@@ -219,6 +197,7 @@ fn reordered_selected(
     order: &Order<'_>,
     subs: &[Sub<'_>],
     env: &Bindings,
+    taken: &mut u64,
 ) -> Result<Bag, OutOfMemory>
     requires planned { plan.Planned at.now }
     requires kept { spec.AllKept at.now.loops.now }
@@ -228,7 +207,7 @@ fn reordered_selected(
 {
     let loops = loops(at.run, &order.ranges, at.below)?;
     if !all_kept(&loops) {
-        return bound_in_order(at, subs, env);
+        return bound_in_order(at, subs, env, taken);
     }
     let other = At {
         run: &*at.run,
@@ -238,25 +217,26 @@ fn reordered_selected(
         early: &order.early,
         hashed: &order.hashed,
         orders: &[],
+        idle: at.idle,
+        right: at.right,
     };
-    bound_in_order(&other, subs, env)
+    bound_in_order(&other, subs, env, taken)
 }
 
 /// The rows of a select whose quantifiers all stand on kept rows. It fails only for want of memory.
 #[inline(never)]
-pub(crate) fn kept_selected(at: &At<'_>, env: &Bindings) -> Result<Bag, OutOfMemory>
+pub(crate) fn kept_selected(
+    at: &At<'_>,
+    env: &Bindings,
+    taken: &mut u64,
+) -> Result<Bag, OutOfMemory>
     requires planned { plan.Planned at.now }
     requires kept { spec.AllKept at.now.loops.now }
     ensures { IfOk result (λ bag. Alike bag (m.rows_by kind.Select (plan.tables_of at.now) at.now.node.now (m.quant_rows at.now.node.now (plan.family at.now)) (env_of env.now))) }
 {
-    let found = all_found(at)?;
-    let finding = Finding {
-        at: &*at,
-        found: &found,
-    };
-    let subs = kept_subs(&finding)?;
+    let subs = kept_subs(at)?;
     match at.orders {
-        [order, ..] => reordered_selected(at, order, &subs, env),
-        [] => bound_in_order(at, &subs, env),
+        [order, ..] => reordered_selected(at, order, &subs, env, taken),
+        [] => bound_in_order(at, &subs, env, taken),
     }
 }

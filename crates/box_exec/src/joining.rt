@@ -3,7 +3,7 @@
 ghost use Rattle.std.specs.Prelude.{◌≡◌, [], All, IfOk, IfSome, IsOkAnd, OnOk};
 ghost use Rattle.box_exec.specs.Bound.{env_of};
 ghost use Rattle.box_exec.specs.Lookup.{Hashes, Leads, RejectsBy};
-ghost use Rattle.box_exec.specs.Outer.{Found, joined_rows, null_row, partner_rows, rejects_on};
+ghost use Rattle.box_exec.specs.Outer.{HashedOn, joined_rows, null_row, partner_rows, rejects_on};
 ghost use Rattle.box_exec.specs.Sources.{held};
 ghost use Rattle.row_bag.specs.Bags.{Alike};
 ghost use Rattle.row_bag.specs.Joins.{or_else};
@@ -21,20 +21,22 @@ use sql_value::{Cell, Level};
 use sqlite_items::Items;
 use std::alloc::Global;
 
-/// An outer join: its box, its left and its right quantifier, and whether rows are looked up in an index.
+/// An outer join: its box, its left and its right quantifier, whether rows are looked up in an index, and
+/// the index of the right rows, if it is made already.
 #[derive(Clone, Copy)]
 pub(crate) struct Join<'a> {
     pub node: &'a Node,
     pub left: QuantId,
     pub right: QuantId,
     pub indexed: bool,
+    pub made: Option<&'a Hashed<'a>>,
 }
 
 /// Right rows, and their index if there is one.
 #[derive(Clone, Copy)]
-pub(crate) struct Right<'r, 'k> {
+pub(crate) struct Right<'r, 'h, 'k> {
     pub rows: &'r [Row],
-    pub hashed: &'r Option<Hashed<'k>>,
+    pub hashed: Option<&'h Hashed<'k>>,
 }
 
 // What the equalities among the conditions of an outer join ask of rows of its right quantifier.
@@ -50,6 +52,20 @@ fn keys_on<'a>(alloc: Global, node: &'a Node, right: QuantId) -> Result<Vec<Key<
     Ok(made)
 }
 
+/// The index of right rows by the equalities among the conditions of an outer join. It fails only for want
+/// of memory.
+pub(crate) fn hashed_right<'a>(
+    alloc: Global,
+    node: &'a Node,
+    right: QuantId,
+    ys: &[Row],
+) -> Result<Option<Hashed<'a>>, OutOfMemory>
+    ensures { IfOk result (λ o. IfSome o (λ h. Hashes (rejects_on node.now) right ys.now h)) }
+{
+    let keys = keys_on(alloc, node, right)?;
+    hashed_by(alloc, keys, right, ys)
+}
+
 // The index of the right rows, where several left rows look for theirs.
 fn hashed_on<'a>(
     alloc: Global,
@@ -62,21 +78,20 @@ fn hashed_on<'a>(
     if !join.indexed || xs.len() < 2 {
         return Ok(None);
     }
-    let keys = keys_on(alloc, join.node, join.right)?;
-    hashed_by(alloc, keys, join.right, ys)
+    hashed_right(alloc, join.node, join.right, ys)
 }
 
 // The way through the right rows, where the left quantifier is bound.
-fn way_of<'r>(
+fn way_of<'h>(
     alloc: Global,
     join: &Join<'_>,
-    right: &Right<'r, '_>,
+    right: &Right<'_, 'h, '_>,
     outer: &Bindings,
-) -> Result<Way<'r>, OutOfMemory>
-    requires { Found join.now right.now }
+) -> Result<Way<'h>, OutOfMemory>
+    requires { HashedOn join.now right.now }
     ensures { IfOk result (λ way. Leads (rejects_on join.now.node.now) join.now.right right.now.rows.now (env_of outer.now) way) }
 {
-    way_through(alloc, right.hashed.as_ref(), right.rows.len(), outer)
+    way_through(alloc, right.hashed, right.rows.len(), outer)
 }
 
 // What the box gives of a left row beside the right rows.
@@ -84,10 +99,10 @@ fn partners(
     alloc: Global,
     join: &Join<'_>,
     left: &[Cell],
-    right: &Right<'_, '_>,
+    right: &Right<'_, '_, '_>,
     env: &Bindings,
 ) -> Result<Bag, OutOfMemory>
-    requires { Found join.now right.now }
+    requires { HashedOn join.now right.now }
     ensures { IfOk result (λ made. Alike made (partner_rows join.now.node.now join.now.left join.now.right left.now right.now.rows.now (env_of env.now))) }
 {
     let mut made = Bag::new(alloc);
@@ -131,10 +146,10 @@ fn joined(
     alloc: Global,
     join: &Join<'_>,
     left: &[Cell],
-    right: &Right<'_, '_>,
+    right: &Right<'_, '_, '_>,
     env: &Bindings,
 ) -> Result<Bag, OutOfMemory>
-    requires { Found join.now right.now }
+    requires { HashedOn join.now right.now }
     ensures { IfOk result (λ made. Alike made (or_else (partner_rows join.now.node.now join.now.left join.now.right left.now right.now.rows.now (env_of env.now)) (null_row join.now.node.now join.now.left join.now.right left.now (env_of env.now)))) }
 {
     let made = partners(alloc, join, left, right, env)?;
@@ -149,10 +164,10 @@ fn each_joined(
     alloc: Global,
     join: &Join<'_>,
     xs: &[Row],
-    right: &Right<'_, '_>,
+    right: &Right<'_, '_, '_>,
     env: &Bindings,
 ) -> Result<Bag, OutOfMemory>
-    requires { Found join.now right.now }
+    requires { HashedOn join.now right.now }
     ensures { IfOk result (λ made. Alike made (joined_rows join.now.node.now join.now.left join.now.right xs.now right.now.rows.now (env_of env.now))) }
 {
     let mut made = Bag::new(alloc);
@@ -171,12 +186,20 @@ fn all_joined(
     ys: &[Row],
     env: &Bindings,
 ) -> Result<Bag, OutOfMemory>
+    requires { IfSome join.now.made (λ h. Hashes (rejects_on join.now.node.now) join.now.right ys.now h.now) }
     ensures { IfOk result (λ made. Alike made (joined_rows join.now.node.now join.now.left join.now.right xs.now ys.now (env_of env.now))) }
 {
+    if let Some(made) = join.made {
+        let right = Right {
+            rows: &*ys,
+            hashed: Some(made),
+        };
+        return each_joined(alloc, join, xs, &right, env);
+    }
     let hashed = hashed_on(alloc, join, xs, ys)?;
     let right = Right {
         rows: &*ys,
-        hashed: &hashed,
+        hashed: hashed.as_ref(),
     };
     each_joined(alloc, join, xs, &right, env)
 }
@@ -190,6 +213,7 @@ pub(crate) fn outer_joined(
     ys: Result<Source<'_>, OutOfMemory>,
     env: &Bindings,
 ) -> Result<Bag, OutOfMemory>
+    requires { IfSome join.now.made (λ h. IfOk ys (λ t. Hashes (rejects_on join.now.node.now) join.now.right (held t) h.now)) }
     ensures { IfOk result (λ made. IsOkAnd xs.entry (λ s. IsOkAnd ys.entry (λ t. Alike made (joined_rows join.now.node.now join.now.left join.now.right (held s) (held t) (env_of env.now))))) }
 {
     let xs = xs?;

@@ -17,6 +17,7 @@ use crate::boxes::{evaluated, step};
 use crate::handed_on::lent;
 use crate::plan::{Plan, plan_of};
 use crate::source::Source;
+use crate::tally::Tally;
 use crate::under::{BoxOver, Run, behind, loops, table_rows};
 use qgm_core::{BoxId, BoxKind, Marks, Node, QuantId};
 use row_bag::Tables;
@@ -33,24 +34,24 @@ fn entry<'t, L: Ledger>(
     memo: &[Option<Source<'t>>],
     place: &BoxOver<'_>,
     steps: &mut Steps<L>,
-    count: &mut u64,
+    tally: &mut Tally,
 ) -> Result<Source<'t>, OutOfMemory>
     requires ready { Ready tables.now memo.now place.now.below.now }
     requires fit { Fit place.now.node.now place.now.below.now }
     requires closed { LooksNowhere place.now.node.now place.now.below.now }
     requires plans { AllPlanned memo.now place.now.plans.now (place.now.node.now ∷ place.now.below.now) }
     ensures rows { IfOk result (λ s. Holds tables.now place.now.node.now place.now.below.now s) }
-    ensures counted { (start : ℕ) → Counted start steps.old count.old → Counted start steps.new count.new }
+    ensures counted { (start : ℕ) → Counted start steps.old tally.old.count → Counted start steps.new tally.new.count }
     ensures took { (kept : ℕ → Bool) → Keeps memo.now kept place.now.below.now → IfOk result (λ s. Between 1 (counted_by place.now.node.now.parts.kind place.now.node.now (bag_in tables.now place.now.below.now) (asked tables.now kept place.now.below.now) []) steps.old steps.new) }
 {
     match &place.node.parts.kind {
         BoxKind::Base(table) => {
-            step(steps, count);
+            step(steps, tally);
             Ok(Source::Borrowed(table_rows(tables, &table.name)))
         }
         BoxKind::Select | BoxKind::Group(_) | BoxKind::SetOp(_, _) | BoxKind::OuterJoin => {
             if let Some(rows) = lent(memo, place) {
-                step(steps, count);
+                step(steps, tally);
                 return Ok(Source::Borrowed(rows));
             }
             let run = Run {
@@ -66,7 +67,7 @@ fn entry<'t, L: Ledger>(
                 place.below,
                 &Bindings::Empty,
                 steps,
-                count,
+                tally,
             )?;
             Ok(Source::Made(rows))
         }
@@ -81,19 +82,19 @@ fn entry_if<'t, L: Ledger>(
     memo: &[Option<Source<'t>>],
     place: &BoxOver<'_>,
     steps: &mut Steps<L>,
-    count: &mut u64,
+    tally: &mut Tally,
 ) -> Result<Option<Source<'t>>, OutOfMemory>
     requires ready { Ready tables.now memo.now place.now.below.now }
     requires fit { Fit place.now.node.now place.now.below.now }
     requires closed { keep ≡ true → LooksNowhere place.now.node.now place.now.below.now }
     requires plans { AllPlanned memo.now place.now.plans.now (place.now.node.now ∷ place.now.below.now) }
     ensures rows { IfOk result (λ o. Entry tables.now place.now.node.now place.now.below.now (Some o)) }
-    ensures counted { (start : ℕ) → Counted start steps.old count.old → Counted start steps.new count.new }
+    ensures counted { (start : ℕ) → Counted start steps.old tally.old.count → Counted start steps.new tally.new.count }
     ensures held { IfOk result (λ o. is_held (Some o) ≡ keep) }
     ensures took { (kept : ℕ → Bool) → Keeps memo.now kept place.now.below.now → IfOk result (λ o. Between (if keep then 1 else 0) (if keep then counted_by place.now.node.now.parts.kind place.now.node.now (bag_in tables.now place.now.below.now) (asked tables.now kept place.now.below.now) [] else 0) steps.old steps.new) }
 {
     if keep {
-        let rows = entry(alloc, tables, memo, place, steps, count)?;
+        let rows = entry(alloc, tables, memo, place, steps, tally)?;
         Ok(Some(rows))
     } else {
         Ok(None)
@@ -138,12 +139,12 @@ pub(crate) fn memo_of<'t, 'n, L: Ledger>(
     marks: &Marks,
     indexed: bool,
     steps: &mut Steps<L>,
-    count: &mut u64,
+    tally: &mut Tally,
 ) -> Result<(Vec<Option<Source<'t>>>, Vec<Option<Plan<'n>>>), OutOfMemory>
     requires { AllFit nodes.now }
     ensures ready { IfOk result (λ made. Ready tables.now made.0.items nodes.now) }
     ensures plans { (n : Node) → IfOk result (λ made. AllPlanned made.0.items made.1.items (n ∷ nodes.now)) }
-    ensures counted { (start : ℕ) → Counted start steps.old count.old → Counted start steps.new count.new }
+    ensures counted { (start : ℕ) → Counted start steps.old tally.old.count → Counted start steps.new tally.new.count }
     ensures keeps { (kept : ℕ → Bool) → KeptAs kept marks.now nodes.now → IfOk result (λ made. Keeps made.0.items kept nodes.now) }
     ensures took { (kept : ℕ → Bool) → KeptAs kept marks.now nodes.now → IfOk result (λ made. Between (kept_number kept nodes.now) (kept_costs tables.now kept nodes.now) steps.old steps.new) }
 {
@@ -163,7 +164,7 @@ pub(crate) fn memo_of<'t, 'n, L: Ledger>(
         };
         let names = beyond(alloc, node, below, &named)?;
         let keep = is_kept(&names, marks, node.id);
-        let rows = entry_if(keep, alloc, tables, &memo, &place, steps, count)?;
+        let rows = entry_if(keep, alloc, tables, &memo, &place, steps, tally)?;
         let run = Run {
             alloc,
             tables,

@@ -1,27 +1,34 @@
 // What is made once of a box: the conditions that are tested early, and the indexes of rows that are kept.
-ghost use Rattle.std.specs.Prelude.{◌≡◌, All, IfOk, IfSome, map};
+ghost use Rattle.std.specs.Prelude.{◌≡◌, ◌∷◌, [], All, IfOk, IfSome, map};
 ghost use Rattle.box_exec.specs.Early.{rejects};
+ghost use Rattle.box_exec.specs.Hashed as hashed;
+ghost use Rattle.box_exec.specs.Indexed.{IsIdleIndex};
 ghost use Rattle.box_exec.specs.Lasting as spec;
 ghost use Rattle.box_exec.specs.Lookup.{RejectsBy};
 ghost use Rattle.box_exec.specs.Ready.{Ready};
 
 use crate::early::{Early, early_conds, is_open};
 use crate::hashed::all_kept;
+use crate::idle_index::{IdleIndex, indexed_in};
+use crate::joining::hashed_right;
 use crate::key::{Key, key_in};
 use crate::lookup::{Hashed, hashed_by};
 use crate::order::{Order, is_in_order, places_of, reordered};
 use crate::under::{Loop, Run, kept_rows, loops};
-use qgm_core::{Node, QuantId};
+use qgm_core::{BoxKind, Node, QuantId};
 use shared_types::OutOfMemory;
 use std::alloc::Global;
 
 /// The conditions of a box that are tested before all its quantifiers are bound, and the indexes of rows
-/// of its quantifiers; or a better order of these.
+/// of its quantifiers, or a better order of these; the indexes of rows of its E and A quantifiers, and of the
+/// right rows of an outer join.
 #[derive(Drop)]
 pub(crate) struct Plan<'a> {
     pub early: Vec<Early<'a>>,
     pub hashed: Vec<Option<Hashed<'a>>>,
     pub orders: Vec<Order<'a>>,
+    pub idle: Vec<Option<IdleIndex<'a>>>,
+    pub right: Vec<Hashed<'a>>,
 }
 
 // What the equalities among the conditions that are tested at a place ask of rows of the last quantifier
@@ -93,6 +100,83 @@ fn all_hashed<'a>(
     Ok(made)
 }
 
+// The index of the rows of an E or A quantifier, if it is asked for and there can be one.
+fn idle_if<'a>(
+    wanted: bool,
+    alloc: Global,
+    node: &'a Node,
+    l: &Loop<'_>,
+) -> Result<Option<IdleIndex<'a>>, OutOfMemory>
+    ensures { IfOk result (λ o. IfSome o (λ x. IsIdleIndex (spec.rows_kept l.now.under) x)) }
+{
+    if !wanted {
+        return Ok(None);
+    }
+    let list = node.parts.conds.as_slice();
+    indexed_in(alloc, list, l.range.id, kept_rows(l))
+}
+
+// The index of the rows of each E and A quantifier of a select, where several combinations of rows of the
+// others ask for them.
+fn all_idle<'a>(
+    run: &Run<'_>,
+    node: &'a Node,
+    over: &[Loop<'_>],
+    again: bool,
+) -> Result<Vec<Option<IdleIndex<'a>>>, OutOfMemory>
+    ensures { IfOk result (λ made. hashed.AllIdleUnder over.now made.items) }
+{
+    if !run.indexed || !node.parts.kind.is_select() {
+        return Ok(Vec::new(run.alloc));
+    }
+    let mut made = Vec::with_capacity(run.alloc, over.len())?;
+    let several = again || over.iter().any(|l| may_bind_several(l));
+    for i in 0..over.len() {
+        let l = &over[i];
+        let index = idle_if(several && !l.range.kind.is_f(), run.alloc, node, l)?;
+        made.push(index)?;
+    }
+    Ok(made)
+}
+
+// An index alone.
+fn one<'a>(alloc: Global, h: Hashed<'a>) -> Result<Vec<Hashed<'a>>, OutOfMemory>
+    ensures { IfOk result (λ made. made.items ≡ h.entry ∷ []) }
+{
+    let mut made = Vec::new(alloc);
+    made.push(h)?;
+    Ok(made)
+}
+
+// The index of the right rows of an outer join that is evaluated again and again, if it has one.
+fn right_of<'a>(
+    run: &Run<'_>,
+    node: &'a Node,
+    over: &[Loop<'_>],
+    again: bool,
+) -> Result<Vec<Hashed<'a>>, OutOfMemory>
+    ensures { IfOk result (λ made. All (λ h. hashed.HashesRight node.now over.now h) made.items) }
+{
+    let [_, q, ..] = over else {
+        return Ok(Vec::new(run.alloc));
+    };
+    if !again || !run.indexed || !is_outer_join(&node.parts.kind) {
+        return Ok(Vec::new(run.alloc));
+    }
+    match hashed_right(run.alloc, node, q.range.id, kept_rows(q))? {
+        Some(h) => one(run.alloc, h),
+        None => Ok(Vec::new(run.alloc)),
+    }
+}
+
+// Whether a box is an outer join.
+fn is_outer_join(kind: &BoxKind) -> bool {
+    match kind {
+        BoxKind::OuterJoin => true,
+        BoxKind::Base(_) | BoxKind::Select | BoxKind::Group(_) | BoxKind::SetOp(_, _) => false,
+    }
+}
+
 // A better order of the quantifiers of a select over kept boxes than that of its text, if there is one.
 fn orders_of<'a>(
     run: &Run<'_>,
@@ -139,11 +223,15 @@ pub(crate) fn plan_of<'a>(
     ensures { IfOk result (λ p. spec.FitsPlan node.now (spec.rows_stored run.now.memo.now below.now) p) }
 {
     let orders = orders_of(run, node, below, over, again)?;
+    let idle = all_idle(run, node, over, again)?;
+    let right = right_of(run, node, over, again)?;
     if !orders.is_empty() {
         return Ok(Plan {
             early: Vec::new(run.alloc),
             hashed: Vec::new(run.alloc),
             orders,
+            idle,
+            right,
         });
     }
     let early = early_conds(run.alloc, node, node.quants.as_slice())?;
@@ -152,5 +240,7 @@ pub(crate) fn plan_of<'a>(
         early,
         hashed,
         orders,
+        idle,
+        right,
     })
 }

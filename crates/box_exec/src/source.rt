@@ -3,11 +3,10 @@ ghost use Rattle.std.specs.Prelude.{◌≡◌, ◌++◌, ◌∷◌, [], IfOk, Is
 ghost use Rattle.box_exec.specs.Bound.{env_of};
 ghost use Rattle.box_exec.specs.Idle.{LeadsIdle};
 ghost use Rattle.box_exec.specs.Sources.{held, held_by, rows_held};
-ghost use Rattle.box_exec.specs.declared.source.SubRows.TheVariants as kind;
 ghost use Rattle.qgm_terms.specs.Shown.{cond};
 
 use crate::bindings::Bindings;
-use crate::found::Found;
+use crate::indexed_rows::IndexedRows;
 use crate::lookup::all_rows;
 use qgm_terms::{Gc, QuantId};
 use row_bag::{Bag, Row, copied_rows};
@@ -65,7 +64,7 @@ pub(crate) fn bag_of(
 #[derive(Drop)]
 pub enum SubRows<'a> {
     Plain(Source<'a>),
-    Found(&'a Found<'a>),
+    Indexed(IndexedRows<'a>),
 }
 
 impl<'a> SubRows<'a> {
@@ -75,7 +74,7 @@ impl<'a> SubRows<'a> {
     {
         match self {
             SubRows::Plain(source) => source.rows(),
-            SubRows::Found(found) => found.rows(),
+            SubRows::Indexed(indexed) => indexed.rows(),
         }
     }
 
@@ -92,7 +91,7 @@ impl<'a> SubRows<'a> {
     {
         match self {
             SubRows::Plain(source) => Ok(all_rows(source.rows().len())),
-            SubRows::Found(found) => found.way(alloc, holds, q, c, env),
+            SubRows::Indexed(indexed) => indexed.way(alloc, holds, q, c, env),
         }
     }
 }
@@ -136,18 +135,24 @@ pub(crate) fn way_of<'a>(
     Ok(all_rows(0))
 }
 
+/// Rows without an index. It fails where these do.
+pub(crate) fn unindexed<'a>(
+    rows: Result<Source<'a>, OutOfMemory>,
+) -> Result<SubRows<'a>, OutOfMemory>
+    ensures { IfOk result (λ s. IsOkAnd rows.entry (λ t. rows_held s ≡ held t)) }
+{
+    Ok(SubRows::Plain(rows?))
+}
+
 /// Adds the rows of a quantifier. It fails where these do, or for want of memory.
 pub(crate) fn push_sub<'a>(
     subs: &mut Vec<Sub<'a>>,
     quant: QuantId,
-    rows: Result<Source<'a>, OutOfMemory>,
+    rows: Result<SubRows<'a>, OutOfMemory>,
 ) -> Result<(), OutOfMemory>
-    ensures { OnOk result (IsOkAnd rows.entry (λ s. subs.new.items ≡ subs.old.items ++ record { quant = quant; rows = kind.Plain s } ∷ [])) }
+    ensures { OnOk result (IsOkAnd rows.entry (λ s. subs.new.items ≡ subs.old.items ++ record { quant = quant; rows = s } ∷ [])) }
 {
     let rows = rows?;
-    subs.push(Sub {
-        quant,
-        rows: SubRows::Plain(rows),
-    })?;
+    subs.push(Sub { quant, rows })?;
     Ok(())
 }

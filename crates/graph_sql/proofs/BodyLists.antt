@@ -11,7 +11,7 @@ use Rattle.qgm_core.specs.declared.node.Node.{Node}
 use Rattle.qgm_terms.specs.Terms.{Cond, Term}
 use Rattle.graph_sql.specs.Bodies.{Arm, arms, body_by, body_sql, each_id, first_ids, group_cell}
 use Rattle.graph_sql.specs.BodyText as text
-use Rattle.graph_sql.specs.BodyText.{and_text, body_text, by_text, columns_text, group_text, having_text, inner_text, list_text, next_text, numbered, operator_word, overs_text}
+use Rattle.graph_sql.specs.BodyText.{alone_text, and_text, body_text, by_text, columns_text, group_text, having_text, inner_text, list_text, next_text, numbered, operator_word, overs_text, source_text, where_text}
 use Rattle.graph_sql.specs.Lists as lists
 use Rattle.graph_sql.specs.Readings.{cell_sql, cond_sql}
 use Rattle.graph_sql.specs.Scoped.{cond_text, names_in, number_in}
@@ -71,3 +71,26 @@ module _ (s : Scope) where
 
 pub node_written : (tables : List TableNames) (s : Scope) (n : Node) → body_text (number_in s) (body_sql (names_in s) tables n) ≡ lists.node_text tables s n
 node_written tables s n = kind_written s tables n.parts.kind n
+
+-- ---- for EXISTS
+
+module _ (s : Scope) where
+  source-by : (tables : List TableNames) (text : List ℕ) (kind : BoxKind) (n : Node) → source_text (number_in s) text (body_by (names_in s) kind tables n) ≡ lists.source_by kind s text n
+  source-by tables text (Base table) n = refl
+  source-by tables text Select n = ap (λ (t : List ℕ). lists.leading_ranges s (each_id n.quants) ++ alone_text (codes "SELECT " ++ t)) (cells-map s n.parts.head)
+  source-by tables text (Group keys) n = refl
+  source-by tables text (SetOp operator types) n = refl
+  source-by tables text OuterJoin n = refl
+
+  conditions-by : (tables : List TableNames) (kind : BoxKind) (n : Node) → where_text (number_in s) (body_by (names_in s) kind tables n) ≡ lists.conditions_by kind s n
+  conditions-by tables (Base table) n = refl
+  conditions-by tables Select n = ap (λ (t : List ℕ). codes " WHERE " ++ t) (flat_map-map (text.leading_test (number_in s)) (cond_sql (names_in s) True) n.parts.conds.items)
+  conditions-by tables (Group keys) n = refl
+  conditions-by tables (SetOp operator types) n = refl
+  conditions-by tables OuterJoin n = refl
+
+pub source_written : (tables : List TableNames) (s : Scope) (t : List ℕ) (n : Node) → source_text (number_in s) t (body_sql (names_in s) tables n) ≡ lists.node_source s t n
+source_written tables s t n = source-by s tables t n.parts.kind n
+
+pub conditions_written : (tables : List TableNames) (s : Scope) (n : Node) → where_text (number_in s) (body_sql (names_in s) tables n) ≡ lists.node_conditions s n
+conditions_written tables s n = conditions-by s tables n.parts.kind n

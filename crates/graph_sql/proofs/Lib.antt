@@ -2,6 +2,7 @@ mod Levels
 mod Comparisons
 mod RowTests
 mod Read
+mod SelectRows
 mod Nests
 mod Items
 mod BodyLists

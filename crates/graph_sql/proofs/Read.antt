@@ -181,9 +181,19 @@ module _ (rows : ℕ → Bag) (not_null : ℕ → ℕ → Bool) where
     conds r (some q p) env c = some-read r q (cond_sql n (of_some r) p) (truth rows p) env c.0 (λ d i. conds (of_some r) p (bound q d env) (c.1 d i))
     conds r (every q p) env c = every-read r q (cond_sql n (of_every r) p) (truth rows p) env c.0 (λ d i. conds (of_every r) p (bound q d env) (c.1 d i))
 
+  all-settled-by : (ps : List Cond) (env : Environment) → AllCalm rows not_null ps env → Settled (all_true rows ps env)
+  all-settled-by [] env c = (refl, refl)
+  all-settled-by (p ∷ ps) env c =
+      let h = settled p env c.0 in
+      let g = all-settled-by ps env c.1 in
+      (decided-least (truth rows p env).t (all_true rows ps env).t h.0 g.0, decided-greatest (truth rows p env).f (all_true rows ps env).f h.1 g.1)
+
   filtered : (ps : List Cond) (env : Environment) → AllCalm rows not_null ps env → list_all (λ p. is_true (logic_in (cond_sql n True p) env)) ps ≡ is_yes (all_true rows ps env).t
   filtered [] env c = refl
   filtered (p ∷ ps) env c = ap₂ (λ (x y : Bool). x && y) (conds True p env c.0) (filtered ps env c.1) ∙ sym (yes-least (truth rows p env).t (all_true rows ps env).t)
+
+pub all-settled : (rows : ℕ → Bag) (not_null : ℕ → ℕ → Bool) (ps : List Cond) (env : Environment) → AllCalm rows not_null ps env → Settled (all_true rows ps env)
+all-settled rows not_null ps env c = all-settled-by rows not_null ps env c
 
 pub filters : Filters
 filters rows not_null ps env c = filtered rows not_null ps env c

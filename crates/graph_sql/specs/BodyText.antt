@@ -165,3 +165,30 @@ body_text at (selected distinct cells from tests) = codes "SELECT " ++ (if disti
 body_text at (grouped keys cells from) = if list_any is_wrapped cells then wrapped_text cells (inner_text at keys cells from) else inner_text at keys cells from
 body_text at (combined operator width arms) = arms_text at operator width arms
 body_text at (outer_joined cells from tests) = codes "SELECT " ++ list_text (expression_text at) cells ++ from_text (codes " LEFT JOIN ") from ++ tests_text at (codes " ON ") (codes " ON TRUE") tests
+
+-- ---- for EXISTS, which asks whether there is a row: a select's own FROM items, its cells as one more, and its conditions before the test of a row; any other box as one item
+
+abbrev pub alone_text : List ℕ → List ℕ
+alone_text text = codes "LATERAL (" ++ text ++ codes ")"
+
+abbrev pub leading_range : List ℕ → List ℕ
+leading_range r = r ++ codes ", "
+
+abbrev pub leading_test : (ℕ → ℕ) → Test (List ℕ) → List ℕ
+leading_test at p = test_text at None p ++ codes " AND "
+
+-- of a box of this text: what stands before the name of the item that has its cells
+abbrev pub source_text : (ℕ → ℕ) → List ℕ → Body (List ℕ) → List ℕ
+source_text at text (stored name columns) = alone_text text
+source_text at text (selected distinct cells from tests) = flat_map leading_range from ++ alone_text (codes "SELECT " ++ list_text (expression_text at) cells)
+source_text at text (grouped keys cells from) = alone_text text
+source_text at text (combined operator width arms) = alone_text text
+source_text at text (outer_joined cells from tests) = alone_text text
+
+-- and what stands behind the columns of that item
+abbrev pub where_text : (ℕ → ℕ) → Body (List ℕ) → List ℕ
+where_text at (stored name columns) = codes " WHERE "
+where_text at (selected distinct cells from tests) = codes " WHERE " ++ flat_map (leading_test at) tests
+where_text at (grouped keys cells from) = codes " WHERE "
+where_text at (combined operator width arms) = codes " WHERE "
+where_text at (outer_joined cells from tests) = codes " WHERE "

@@ -4,9 +4,9 @@ use Rattle.sql_value.specs.declared.order_key.SqlType.TheVariants.{Integer, Varc
 use Rattle.qgm_core.specs.Boxes.{QueryGraph}
 use Rattle.qgm_core.specs.declared.kinds.BoxKind.TheVariants.{Select, Group, OuterJoin}
 use Rattle.qgm_core.specs.declared.kinds.Distinct.TheVariants.{Enforce}
-use Rattle.qgm_core.specs.declared.kinds.QuantKind.TheVariants.{F}
+use Rattle.qgm_core.specs.declared.kinds.QuantKind.TheVariants.{A, F}
 use Rattle.qgm_core.specs.declared.node.Node.{Node}
-use Rattle.qgm_terms.specs.Terms.{Cond, and, compare, below, above, equal, same, every, is_null, col, choose, arm, no_arm, count_all, fold, sum, single, all_of, each_once, text}
+use Rattle.qgm_terms.specs.Terms.{Cond, and, compare, below, above, equal, unequal, same, every, is_null, col, choose, arm, no_arm, count_all, fold, sum, single, all_of, each_once, text}
 use Rattle.graph_print.specs.Examples.{box, counted, n, over, stored}
 use Rattle.graph_sql.specs.Bodies.{group_cell, grouped}
 use Rattle.graph_sql.specs.BodyText.{body_text}
@@ -48,6 +48,20 @@ joined = record {
   order = [];
 }
 
+-- SELECT D.DNO FROM DEPT D WHERE D.DNO NOT IN (SELECT E.DNO FROM EMP E WHERE E.BLDG = D.BLDG)
+abbrev asked : QueryGraph
+asked = record {
+  boxes =
+      box 1 Select (every 2 (compare unequal (col 1 1) (col 2 1)) ∷ []) (col 1 1 ∷ []) (over 1 F 3 ∷ over 2 A 2 ∷ [])
+      ∷ box 2 Select (compare equal (col 3 3) (col 1 2) ∷ []) (col 3 2 ∷ []) (over 3 F 8 ∷ [])
+      ∷ stored 3 (codes "DEPT") (Integer ∷ Varchar ∷ Integer ∷ [])
+      ∷ stored 8 (codes "EMP") (Integer ∷ Integer ∷ Varchar ∷ Integer ∷ [])
+      ∷ [];
+  root = 1;
+  names = Some (codes "DNO") ∷ [];
+  order = [];
+}
+
 abbrev dept : ℕ → List ℕ
 dept q = codes "LATERAL (SELECT CAST(t.\"dno\" AS bigint), CAST(t.\"bldg\" AS text) COLLATE \"C\", CAST(t.\"budget\" AS bigint) FROM \"dept\" AS t) AS q" ++ decimal q ++ codes " (c1, c2, c3)"
 
@@ -57,6 +71,10 @@ emp q =
     ++ decimal q ++ codes " (c1, c2, c3, c4)"
 
 pub record OfGraphs : Type 0 where
+  -- the select under A gives its FROM item, its cell as one more, and its condition
+  pub asked : text_of tables nullable asked
+      ≡ codes "SELECT q0.c1 AS \"DNO\" FROM (SELECT q1.c1 FROM " ++ dept 1 ++ codes " WHERE (NOT EXISTS (SELECT 1 FROM " ++ emp 3
+      ++ codes ", LATERAL (SELECT q3.c2) AS q2 (c1) WHERE (q3.c3 = q1.c2) AND ((q1.c1 <> q2.c1) IS NOT TRUE)))) AS q0 (c1) ORDER BY q0.c1 ASC NULLS FIRST"
   pub counted : text_of tables nullable counted
       ≡ codes "SELECT q0.c1 AS \"DNO\" FROM (SELECT q1.c1 FROM " ++ dept 1
       ++ codes " WHERE (q1.c3 > BIGINT '4') AND ((SELECT q2.c1 FROM LATERAL (SELECT q3.c1 FROM LATERAL (SELECT COUNT(*) FROM LATERAL (SELECT BIGINT '1' FROM "

@@ -2,6 +2,7 @@ pub mod Statement
 pub mod Readings
 pub mod Logic
 pub mod ReadingLaw
+pub mod SelectLaw
 pub mod Text
 pub mod Scoped
 pub mod Bodies

@@ -11,7 +11,7 @@ use Rattle.sql_value.specs.declared.order_key.SqlType.{SqlType}
 use Rattle.qgm_terms.specs.Shown.{aggregate, taken, term}
 use Rattle.qgm_terms.specs.Terms.{Cond, Term}
 use Rattle.graph_sql.specs.Bodies.{GroupCell, cell, counted_all, folded, columns_named, each_id, first_ids, group_cell, stored_columns}
-use Rattle.graph_sql.specs.BodyText.{arm_cells, by_text, columns_text, from_text, group_text, is_wrapped, list_text, name_text, next_text, operator_word, overs_text, stored_text}
+use Rattle.graph_sql.specs.BodyText.{alone_text, arm_cells, by_text, columns_text, from_text, group_text, is_wrapped, leading_range, list_text, name_text, next_text, operator_word, overs_text, stored_text}
 use Rattle.graph_sql.specs.Readings.{Names, cell_sql}
 use Rattle.graph_sql.specs.Scoped.{cond_text, names_in, number_in, term_text}
 use Rattle.graph_sql.specs.declared.groups.Grouped.{Grouped}
@@ -112,6 +112,41 @@ more_stored names types = flat_map (next_text stored_text) (stored_columns names
 
 abbrev pub base_text : List TableNames → BaseTable → List ℕ
 base_text tables table = codes "SELECT " ++ list_text stored_text (stored_columns (columns_named tables table.name) table.types) ++ codes " FROM " ++ name_text table.name ++ codes " AS t"
+
+-- ---- EXISTS
+
+abbrev pub leading_ranges : Scope → List ℕ → List ℕ
+leading_ranges s qs = flat_map leading_range (map (names_in s).range qs)
+
+abbrev pub leading_test : Scope → Cond → List ℕ
+leading_test s p = cond_text s None True p ++ codes " AND "
+
+abbrev pub leading_tests : Scope → List Cond → List ℕ
+leading_tests s ps = flat_map (leading_test s) ps
+
+abbrev pub select_source : Scope → Node → List ℕ
+select_source s n = leading_ranges s (each_id n.quants) ++ alone_text (codes "SELECT " ++ cells_text s n.parts.head)
+
+-- what stands before the name of the item that has the cells of a box of this text, and what stands behind its columns
+abbrev pub source_by : BoxKind → Scope → List ℕ → Node → List ℕ
+source_by (Base table) s text n = alone_text text
+source_by Select s text n = select_source s n
+source_by (Group keys) s text n = alone_text text
+source_by (SetOp operator types) s text n = alone_text text
+source_by OuterJoin s text n = alone_text text
+
+abbrev pub node_source : Scope → List ℕ → Node → List ℕ
+node_source s text n = source_by n.parts.kind s text n
+
+abbrev pub conditions_by : BoxKind → Scope → Node → List ℕ
+conditions_by (Base table) s n = codes " WHERE "
+conditions_by Select s n = codes " WHERE " ++ leading_tests s n.parts.conds.items
+conditions_by (Group keys) s n = codes " WHERE "
+conditions_by (SetOp operator types) s n = codes " WHERE "
+conditions_by OuterJoin s n = codes " WHERE "
+
+abbrev pub node_conditions : Scope → Node → List ℕ
+node_conditions s n = conditions_by n.parts.kind s n
 
 -- ---- boxes
 

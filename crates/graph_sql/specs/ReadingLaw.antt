@@ -11,7 +11,7 @@ use Rattle.qgm_meaning.specs.Values.{Bag, Environment, all_true, bound, truth, v
 use Rattle.list_laws.specs.Lists.{In}
 use Rattle.sql_value.specs.Cells.{error_of}
 use Rattle.sql_value.specs.declared.cell.Cell.{Cell}
-use Rattle.sql_value.specs.declared.cell.Cell.TheVariants.{Int, Text, Null}
+use Rattle.sql_value.specs.declared.cell.Cell.TheVariants.{Int, Text, Null, Err}
 use Rattle.sql_value.specs.declared.truth.Truth.{Truth}
 use Rattle.graph_sql.specs.Statement.{column}
 use Rattle.graph_sql.specs.Readings.{Names, cell_sql, cond_sql, holds_value}
@@ -32,13 +32,22 @@ asked NotFalse p = not (is_yes p.f)
 
 -- cells of one type; null is of each
 abbrev pub of_one_type : Cell → Cell → Bool
+of_one_type (Int m) (Int n) = true
 of_one_type (Int m) (Text s) = false
+of_one_type (Int m) Null = true
+of_one_type (Int m) (Err k) = true
 of_one_type (Text s) (Int n) = false
-of_one_type _ _ = true
+of_one_type (Text s) (Text t) = true
+of_one_type (Text s) Null = true
+of_one_type (Text s) (Err k) = true
+of_one_type Null b = true
+of_one_type (Err k) b = true
 
 abbrev pub is_no_number : Cell → Bool
 is_no_number (Int n) = false
-is_no_number _ = true
+is_no_number (Text s) = true
+is_no_number Null = true
+is_no_number (Err k) = true
 
 -- cells that are compared have one type; LIKE is of texts
 abbrev pub comparable : Sign → Cell → Cell → Bool

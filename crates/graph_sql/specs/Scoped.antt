@@ -29,6 +29,10 @@ abbrev pub text_found : Option Item → List ℕ
 text_found None = []
 text_found (Some i) = i.text
 
+abbrev pub source_found : Option Item → List ℕ
+source_found None = []
+source_found (Some i) = i.source
+
 -- a column of the box that is found is known to hold no null
 abbrev pub sure_found : List BoxFacts → Option ℕ → ℕ → Bool
 sure_found facts None k = false
@@ -40,7 +44,7 @@ is_sure s q k = sure_found s.facts.now (get nat_eq s.overs q) k
 abbrev pub names_in : Scope → Names (List ℕ)
 names_in s = record {
   range = λ q. text_found (first (is_item q) s.items.now);
-  source = λ q. text_found (first (is_item q) s.items.now) ++ codes " WHERE ";
+  source = λ q. source_found (first (is_item q) s.items.now);
   column = λ q k. column q k;
   not_null = is_sure s.sure.now;
 }

@@ -6,7 +6,7 @@ use Rattle.qgm_core.specs.Boxes.{owns, range_in}
 use Rattle.qgm_core.specs.declared.node.Node.{Node}
 use Rattle.qgm_core.specs.declared.owned.OwnedQuant.{OwnedQuant}
 use Rattle.graph_sql.specs.Scoped.{is_sure}
-use Rattle.graph_sql.specs.StatementText.{Setting, item_text, nothing_made}
+use Rattle.graph_sql.specs.StatementText.{Setting, item_text, nothing_made, source_of}
 use Rattle.graph_sql.specs.declared.made.Made.{Made}
 use Rattle.graph_sql.specs.declared.scope.Item.{Item}
 use Rattle.graph_sql.specs.declared.setting.Sheet.{Sheet}
@@ -23,7 +23,7 @@ abbrev pub made_at : {S : Type 0} → HashMap ℕ Made S → ℕ → Made
 made_at made b = made_or (get nat_eq made b)
 
 abbrev pub item_of : Setting → (ℕ → Made) → OwnedQuant → Item
-item_of s below r = record { id = r.id; text = item_text s below r }
+item_of s below r = record { id = r.id; text = item_text s below r; source = source_of s below r }
 
 -- the box under a quantifier
 abbrev pub over_in : Option OwnedQuant → Option ℕ

@@ -13,8 +13,8 @@ use Rattle.qgm_core.specs.declared.owned.OwnedQuant.{OwnedQuant}
 use Rattle.qgm_meaning.specs.Ranks.{by_rank}
 use Rattle.qgm_wellformed.specs.WellFormed.{is_empty}
 use Rattle.sql_value.specs.declared.order_key.OrderKey.{OrderKey}
-use Rattle.graph_sql.specs.Bodies.{body_sql}
-use Rattle.graph_sql.specs.BodyText.{body_text, columns_text, numbered}
+use Rattle.graph_sql.specs.Bodies.{Body, body_sql}
+use Rattle.graph_sql.specs.BodyText.{body_text, columns_text, numbered, source_text, where_text}
 use Rattle.graph_sql.specs.Readings.{Names}
 use Rattle.graph_sql.specs.Statement.{column}
 use Rattle.graph_sql.specs.declared.made.Made.{Made}
@@ -32,7 +32,7 @@ pub record Setting : Type 0 where
 
 -- what is made of no box
 abbrev pub nothing_made : Made
-nothing_made = record { columns = 0; text = [] }
+nothing_made = record { columns = 0; text = []; source = []; conditions = [] }
 
 -- a box without columns has one that nobody names
 abbrev pub at_least_one : ℕ → ℕ
@@ -59,20 +59,31 @@ abbrev pub item_found : Setting → (ℕ → Made) → Option OwnedQuant → Lis
 item_found s below None = []
 item_found s below (Some r) = item_text s below r
 
+-- what stands between FROM and the test of a row, for EXISTS
+abbrev pub inline_source : Setting → (ℕ → Made) → OwnedQuant → List ℕ
+inline_source s below r = (below r.over).source ++ codes " AS q" ++ decimal (place_in s.quants r.id) ++ columns_text (below r.over).columns ++ (below r.over).conditions
+
+unfoldable pub source_of : Setting → (ℕ → Made) → OwnedQuant → List ℕ
+source_of s below r = if holds r.over s.entries then named_text s r ++ codes " WHERE " else inline_source s below r
+
+abbrev pub source_found : Setting → (ℕ → Made) → Option OwnedQuant → List ℕ
+source_found s below None = []
+source_found s below (Some r) = source_of s below r
+
 -- the names that a box with these quantifiers has for them
 abbrev pub names_by : Setting → (ℕ → Made) → List OwnedQuant → Names (List ℕ)
 names_by s below rs = record {
   range = λ q. item_found s below (first (is_quant q) rs);
-  source = λ q. item_found s below (first (is_quant q) rs) ++ codes " WHERE ";
+  source = λ q. source_found s below (first (is_quant q) rs);
   column = λ q k. column q k;
   not_null = s.not_null;
 }
 
+abbrev pub made_by : (ℕ → ℕ) → ℕ → Body (List ℕ) → Made
+made_by at columns body = record { columns = columns; text = body_text at body; source = source_text at (body_text at body) body; conditions = where_text at body }
+
 abbrev pub made_of : Setting → Node → (ℕ → Made) → Made
-made_of s n below = record {
-  columns = at_least_one (width n);
-  text = body_text (place_in s.quants) (body_sql (names_by s below n.quants) s.tables n);
-}
+made_of s n below = made_by (place_in s.quants) (at_least_one (width n)) (body_sql (names_by s below n.quants) s.tables n)
 
 -- of each box, by those of the boxes behind it
 abbrev pub made_in : Setting → List Node → ℕ → Made

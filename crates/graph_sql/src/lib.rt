@@ -16,11 +16,12 @@ mod root;
 mod scope;
 mod selects;
 mod setting;
+mod sources;
 mod tables;
 mod terms;
 mod text;
 mod words;
 
-pub use laws::{examples, readings};
+pub use laws::{examples, readings, select_laws};
 pub use tables::TableNames;
 pub use text::statement;

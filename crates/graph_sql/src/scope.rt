@@ -11,11 +11,13 @@ use qgm_terms::QuantId;
 use shared_types::{OutOfMemory, Text};
 use std::collections::HashMap;
 
-/// A quantifier of a box, and the text of its FROM item.
+/// A quantifier of a box, the text of its FROM item, and that of what stands between FROM and the test
+/// of an EXISTS.
 #[derive(Drop)]
 pub struct Item {
     pub id: QuantId,
     pub text: Text,
+    pub source: Text,
 }
 
 /// Which columns of quantifiers are known to hold no null: the box that each ranges over, and what is
@@ -71,8 +73,10 @@ pub fn put_range(scope: &Scope<'_>, q: QuantId, out: &mut Text) -> Result<(), Ou
 pub fn put_source(scope: &Scope<'_>, q: QuantId, out: &mut Text) -> Result<(), OutOfMemory>
     ensures { OnOk result (out.new ≡ out.old ++ (spec.names_in scope.now).source q) }
 {
-    put_range(scope, q, out)?;
-    put_word(b" WHERE ", out)
+    match find_item(scope.items, q) {
+        Some(item) => put_text(&item.source, out),
+        None => Ok(()),
+    }
 }
 
 /// Adds a column of a quantifier.

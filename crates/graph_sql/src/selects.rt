@@ -1,5 +1,6 @@
 // Lists of cells, FROM and WHERE.
 ghost use Rattle.std.specs.Prelude.{◌≡◌, ◌++◌, map, take, filter, IfOk, None, OnOk};
+ghost use Rattle.graph_sql.specs.BodyText.{leading_range};
 ghost use Rattle.graph_sql.specs.Lists as lists;
 ghost use Rattle.graph_sql.specs.Scoped as spec;
 ghost use Rattle.graph_sql.specs.declared.reading.Reading.TheVariants as reading;
@@ -148,4 +149,44 @@ pub fn put_tests(
             put_all(scope, first, rest, out)
         }
     }
+}
+
+// A FROM item, and a comma.
+fn put_leading_range(scope: &Scope<'_>, q: QuantId, out: &mut Text) -> Result<(), OutOfMemory>
+    ensures { OnOk result (out.new ≡ out.old ++ leading_range ((spec.names_in scope.now).range q)) }
+{
+    put_range(scope, q, out)?;
+    put_word(b", ", out)
+}
+
+/// Adds FROM items, each with a comma behind it.
+pub fn put_leading_ranges(
+    scope: &Scope<'_>,
+    list: &[QuantId],
+    out: &mut Text,
+) -> Result<(), OutOfMemory>
+    ensures { OnOk result (out.new ≡ out.old ++ lists.leading_ranges scope.now list.now) }
+{
+    for q in list {
+        put_leading_range(scope, *q, out)?;
+    }
+    Ok(())
+}
+
+// A condition, and AND.
+fn put_leading_test(scope: &Scope<'_>, c: &Gc, out: &mut Text) -> Result<(), OutOfMemory>
+    ensures { OnOk result (out.new ≡ out.old ++ lists.leading_test scope.now (cond c.now)) }
+{
+    put_cond(scope, None, Reading::True, c, out)?;
+    put_word(b" AND ", out)
+}
+
+/// Adds conditions that are true, each with AND behind it.
+pub fn put_leading_tests(scope: &Scope<'_>, list: &[Gc], out: &mut Text) -> Result<(), OutOfMemory>
+    ensures { OnOk result (out.new ≡ out.old ++ lists.leading_tests scope.now (conds list.now)) }
+{
+    for c in list {
+        put_leading_test(scope, c, out)?;
+    }
+    Ok(())
 }

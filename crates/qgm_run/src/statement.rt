@@ -7,11 +7,11 @@ use graph_sql::{TableNames, statement};
 use qgm_core::Graph;
 use qgm_props::props;
 use rule_plan::Plan;
-use rule_set::rewrite_built;
+use rule_set::rewrite_elsewhere;
 use shared_types::{OutOfMemory, Text};
 use std::alloc::Global;
 
-/// Rewrites a graph by the rules that are built, and writes the graph that the rewriting ends in as
+/// Rewrites a graph by the rules for another engine, and writes the graph that the rewriting ends in as
 /// one statement of SQL for PostgreSQL, with these names of tables and their columns. It fails only
 /// where there is no memory.
 pub fn rewritten_statement(
@@ -23,7 +23,7 @@ pub fn rewritten_statement(
     requires { WellFormed graph }
     ensures { IfOk result (λ text. IsStatement tables.now plan.now graph text) }
 {
-    let (last, _trace) = rewrite_built(alloc, graph, plan)?;
+    let (last, _trace) = rewrite_elsewhere(alloc, graph, plan)?;
     let facts = props(alloc, &last)?;
     statement(alloc, tables, &facts, &last)
 }

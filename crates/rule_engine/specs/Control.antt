@@ -1,5 +1,5 @@
 -- The candidates in order, and which of them is next.
-use Rattle.std.specs.Prelude.{ℕ, zero, suc, ◌+◌, ◌*◌, ◌/◌, ◌%◌, ◌==◌, ◌++◌, nat_le, if◌then◌else◌, Bool, false, List, [], ◌∷◌, map, length, Option, Some, None, slice_get, filter}
+use Rattle.std.specs.Prelude.{ℕ, zero, suc, ◌+◌, ◌*◌, ◌/◌, ◌%◌, ◌++◌, nat_le, if◌then◌else◌, Bool, false, List, [], ◌∷◌, map, length, Option, Some, None, slice_get, filter}
 use Rattle.std.specs.List.{flat_map, list_all, list_any}
 use Rattle.qgm_core.specs.Boxes.{QueryGraph}
 use Rattle.list_laws.specs.Lists.{first}

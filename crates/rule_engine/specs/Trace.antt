@@ -40,3 +40,18 @@ pub record Traces (pairs : Pairs) (may : May) (act : Act) (plan : Plan) (g : Que
   pub within : length fs ≤ plan.budget
   pub ends : length fs < plan.budget → candidates pairs plan h ≡ []
   pub preserves : Preserves g h
+
+-- ---- a plan for each step
+
+-- after k steps a step by each of these plans leads from g to h: what is next fires, or there is no candidate and the graph stays
+abbrev pub LeadsEach : Pairs → May → Act → ℕ → QueryGraph → List Plan → List (Option Firing) → QueryGraph → Type 0
+LeadsEach pairs may act k g [] [] h = g ≡ h
+LeadsEach pairs may act k g [] (f ∷ fs) h = ⊥
+LeadsEach pairs may act k g (plan ∷ plans) [] h = ⊥
+LeadsEach pairs may act k g (plan ∷ plans) (None ∷ fs) h = (candidates pairs plan g ≡ []) × LeadsEach pairs may act (k + 1) g plans fs h
+LeadsEach pairs may act k g (plan ∷ plans) (Some f ∷ fs) h = (m : QueryGraph) × (Fires pairs may act plan k g f m × LeadsEach pairs may act (k + 1) m plans fs h)
+
+-- a rewriting of g to h by a plan for each step: the steps lead there, and h preserves what g gives
+pub record TracesEach (pairs : Pairs) (may : May) (act : Act) (plans : List Plan) (g : QueryGraph) (fs : List (Option Firing)) (h : QueryGraph) : Type 0 where
+  pub leads : LeadsEach pairs may act 0 g plans fs h
+  pub preserves : Preserves g h

@@ -13,5 +13,5 @@ pub use choice::{draw, next};
 pub use control::candidates;
 pub use laws::{control_examples, control_laws};
 pub use rules::Rules;
-pub use steps::{rewrite, step};
+pub use steps::{rewrite, rewrite_each, step};
 pub use trace::Trace;

@@ -1,7 +1,7 @@
 // A step, and a whole rewriting.
 ghost use Rattle.std.specs.Prelude.{◌≡◌, IfOk, OnErr};
 ghost use Rattle.qgm_wellformed.specs.Sentences.{WellFormed};
-ghost use Rattle.rule_engine.specs.Trace.{Stepped, Traces};
+ghost use Rattle.rule_engine.specs.Trace.{Stepped, Traces, TracesEach};
 
 use crate::rules::Rules;
 use crate::selection::chosen;
@@ -53,4 +53,25 @@ pub fn rewrite<T: Rules>(
         trace.push(f)?;
     }
     Ok((graph, trace))
+}
+
+/// Takes a step by each of these plans, the first being step 0, and says of each what fired, or that
+/// there was no candidate. Budgets don't count. Where there is no memory it fails, and the graph is given
+/// up.
+pub fn rewrite_each<T: Rules>(
+    alloc: Global,
+    table: &T,
+    graph: Graph,
+    plans: &[Plan],
+) -> Result<(Graph, Vec<Option<Firing>>), OutOfMemory>
+    requires { WellFormed graph }
+    ensures { IfOk result (λ r. TracesEach (T.pairs table.now) (T.may table.now) (T.act table.now) plans.now graph r.1.items r.0) }
+{
+    let mut graph = graph;
+    let mut fired = Vec::new(alloc);
+    for k in 0..plans.len() {
+        let f = step(alloc, table, &mut graph, &plans[k], k as u64)?;
+        fired.push(f)?;
+    }
+    Ok((graph, fired))
 }

@@ -1,1 +1,3 @@
 pub mod MagicEnds
+mod BoxLimit
+mod Filters

@@ -1,5 +1,5 @@
 -- Class magic ends.
-use Rattle.std.proofs.Common.{ℕ, ◌≡◌, ◌≤◌, ◌+◌, List, [], ◌∷◌, length, refl, sym, ap, subst, inl, inr, arith}
+use Rattle.std.proofs.Common.{ℕ, ◌≡◌, ◌≤◌, ◌+◌, List, [], ◌∷◌, length, sym, subst, inl, inr, arith}
 use Rattle.list_laws.specs.Lists.{EachOnce, In}
 use Rattle.qgm_core.specs.Boxes.{QueryGraph, numbers}
 use Rattle.qgm_wellformed.specs.Sentences.{WellFormed}
@@ -9,14 +9,12 @@ use Rattle.rule_plan.specs.declared.classes.Class.{Class}
 use Rattle.rule_plan.specs.declared.classes.Class.TheVariants.{Magic}
 use Rattle.rule_plan.specs.declared.plan.Plan.{Plan}
 use Rattle.rule_api.specs.declared.place.Firing.{Firing}
-use Rattle.rule_api.specs.declared.place.Place.{Place}
 use Rattle.rule_api.specs.declared.rule_id.RuleId.{RuleId}
 use Rattle.rule_api.specs.declared.rule_id.RuleId.TheVariants.{U2, G1, G2, G3, G4, G5}
-use Rattle.rule_engine.specs.Control.{candidates, enabled, rules_of}
+use Rattle.rule_engine.specs.Control.{candidates, rules_of}
 use Rattle.rule_engine.specs.Trace.{Leads}
 use Rattle.rule_engine.proofs.Chosen.{candidates-exact, next-in}
 use Rattle.rule_engine.proofs.Enabled.{enabled-exact}
-use Rattle.rule_magic.specs.AbsorbMeasure.{IsLower}
 use Rattle.rule_magic.proofs.FiringMeasure.{feed-firing-lowers, group-firing-lowers, outer-firing-lowers, scalar-firing-lowers, select-firing-lowers, set-firing-lowers}
 use Rattle.rule_set.specs.Built.{built_act, built_may, built_pairs}
 use Rattle.rule_set.specs.MagicEnds.{MagicEnds, MagicLowers}

@@ -1,5 +1,5 @@
 -- Class magic ends: each firing of a rule of the class lowers the measure, so the boxes and quantifiers of a graph bound how many fire by that class alone.
-use Rattle.std.specs.Prelude.{ℕ, ◌≡◌, ◌≤◌, ◌+◌, ◌*◌, List, [], ◌∷◌, length}
+use Rattle.std.specs.Prelude.{◌≡◌, ◌≤◌, ◌+◌, ◌*◌, List, [], ◌∷◌, length}
 use Rattle.list_laws.specs.Lists.{EachOnce, In}
 use Rattle.qgm_core.specs.Boxes.{QueryGraph, ids_in, numbers}
 use Rattle.qgm_wellformed.specs.Sentences.{WellFormed}

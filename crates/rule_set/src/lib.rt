@@ -2,7 +2,9 @@
 #![tactic(auto)]
 
 mod built;
+mod elsewhere;
 mod laws;
 
 pub use built::{BuiltRules, rewrite_built};
-pub use laws::magic_laws;
+pub use elsewhere::{ElsewhereRules, rewrite_elsewhere};
+pub use laws::{box_limit_laws, magic_laws};

@@ -1,4 +1,4 @@
-use Rattle.std.proofs.Common.{ℕ, All, Bool, Some, cond, slice_get, append-nil, ◌≡◌, ◌≤◌, ◌<◌, ◌+◌, ◌++◌, true, false, List, length, drop, filter, take, sym, ap, ◌∙◌, subst, arith, rules}
+use Rattle.std.proofs.Common.{ℕ, All, Bool, Some, cond, slice_get, append-nil, ◌≡◌, ◌≤◌, ◌<◌, ◌+◌, ◌++◌, true, false, List, length, drop, filter, get_or, take, sym, ap, ◌∙◌, subst, arith, rules}
 use Rattle.std.proofs.lemmas.Result.{IfOk-weaker, on_ok_weaker}
 use Rattle.std.specs.Result.{OnOk}
 use Rattle.row_bag.specs.Bags.{Alike, keep}
@@ -22,7 +22,12 @@ use Rattle.box_exec.proofs.Parts.{is_there, of_part, of_parts, subs_pushed}
 use Rattle.box_exec.specs.Sources.{held}
 use Rattle.box_exec.proofs.Loops.{each-all, each-more, rows-once}
 use Rattle.box_exec.proofs.Lookups.{some-is, stepped}
-use Rattle.box_exec.proofs.Lasting.{planned-by}
+use Rattle.std.proofs.lemmas.Option.{IfSome_then}
+use Rattle.box_exec.specs.Early.{is_open}
+use Rattle.box_exec.specs.Lookup.{Hashes}
+use Rattle.box_exec.specs.Outer.{rejects_on}
+use Rattle.box_exec.proofs.Hashing.{kept-alike}
+use Rattle.box_exec.proofs.Lasting.{idle-at, open-weight, planned-by, stands-at, under-weight}
 use Rattle.box_exec.specs.Lasting.{PlanFits, rows_kept, rows_stored}
 use Rattle.box_exec.specs.declared.plan.Plan.{Plan}
 use Rattle.box_exec.specs.declared.under.Loop.{Loop}
@@ -175,48 +180,51 @@ selected-returns-clause-rows g t c =
     (λ bag _ h added. subst (λ (rs : List OwnedQuant). Alike bag (once_if (is_enforce at.node.now.parts.distinct) (over_left (tables_of at) at.node.now at.below.now rs (env_of c.args.env.now)))) c.requires.planned.ranged
     (rows-once (is_enforce at.node.now.parts.distinct) c.new-out.result c.each-added.new.out (left_at at 0 (env_of c.args.env.now)) bag c.new-out.ensures added h))
 
-pub subs-loop-l-preserved : goal.subs-loop-l-preserved
-subs-loop-l-preserved g t c =
+pub subs-loop-i-preserved : goal.subs-loop-i-preserved
+subs-loop-i-preserved g t c =
     let at = c.args.at.now in
-    let l = c.l-item.result in
+    let i = c.loop-i.i in
+    let l = get_or at.loops.now i c.index-at-i.result in
+    let is : l ≡ get_or at.loops.now i l = subst (λ (x : Loop). x ≡ get_or at.loops.now i x) c.index-at-i.is c.index-at-i.is in
     let r = l.range in
-    let i = c.loop-l.l-index in
     let rs = ranges at.loops.now in
     let f = family at in
     let env = env_of c.args.env.now in
-    let inside = range-within at.loops.now i c.loop-l-test.true in
-    let here = range-at at.loops.now i l c.loop-l-test.true c.l-item.is in
+    let inside = range-within at.loops.now i c.loop-i-test.true in
+    let here = range-at at.loops.now i l c.loop-i-test.true is in
     elim c.if-not-is_f.branch [
       | subs-then-not-is_f+in_ok-push_sub w ↦
-          let free : is_F r.kind ≡ false = search rules in
+          let none : is_F c.index-at-i.result.range.kind ≡ false = search rules in
+          let free : is_F r.kind ≡ false = subst (λ (x : Loop). is_F x.range.kind ≡ false) c.index-at-i.is none in
           let more : SubsOf f env (filter isnt_F (take (i + 1) rs)) w.push_sub.new.subs.items =
           subst (λ (xs : List OwnedQuant). SubsOf f env xs w.push_sub.new.subs.items) (sym (free-more rs i r inside here free))
-          (is_there w.rows_under-rows.result _ _ _ w.in_ok-push_sub.ensures w.rows_under-rows.ensures.rows (λ s e h. subs_pushed f env (filter isnt_F (take i rs)) c.loop-l.subs.items w.push_sub.new.subs.items r s e h c.loop-l.invariant.rows)) in
+          (is_there w.sub_under-rows.result _ _ _ w.in_ok-push_sub.ensures w.sub_under-rows.ensures.rows (λ s e h. subs_pushed f env (filter isnt_F (take i rs)) c.loop-i.subs.items w.push_sub.new.subs.items r s e h c.loop-i.invariant.rows)) in
           let put : w.push_sub.new.subs.items ≡ c.if-not-is_f.subs.items = search rules in
           record {
             rows = subst (λ (ss : _). SubsOf f env (filter isnt_F (take (i + 1) rs)) ss) put more;
             took = λ kept keeps.
                 let more = others-more rs (asked_at at kept) env i r inside here in
                 let one : cond (is_F r.kind) 0 (asked_at at kept r.over env) ≡ asked_at at kept r.over env = ap (λ (b : Bool). cond b 0 (asked_at at kept r.over env)) free in
-                let so = c.loop-l.invariant.took kept keeps in
-                let now : Between 0 (asked_at at kept r.over env) c.loop-l.steps w.rows_under-rows.new.steps =
-                is_there w.rows_under-rows.result _ _ _ w.in_ok-push_sub.ensures (w.rows_under-rows.ensures.took kept keeps) (λ s e h. h) in
-                let steps : w.rows_under-rows.new.steps ≡ c.if-not-is_f.steps = search rules in
+                let so = c.loop-i.invariant.took kept keeps in
+                let now : Between 0 (asked_at at kept r.over env) c.loop-i.steps w.sub_under-rows.new.steps =
+                is_there w.sub_under-rows.result _ _ _ w.in_ok-push_sub.ensures (w.sub_under-rows.ensures.took kept keeps) (λ s e h. h) in
+                let steps : w.sub_under-rows.new.steps ≡ c.if-not-is_f.steps = search rules in
                 (omega (arith, so.0, now.0, steps), omega (arith, so.1, now.1, steps, more, one));
-            counted = λ start h. search (rules, w.rows_under-rows.ensures.counted start (c.loop-l.invariant.counted start h));
+            counted = λ start h. search (rules, w.sub_under-rows.ensures.counted start (c.loop-i.invariant.counted start h));
           }
       | subs-else-not-is_f w ↦
-          let bound_to : is_F r.kind ≡ true = search rules in
-          let kept : c.loop-l.subs.items ≡ c.if-not-is_f.subs.items = search rules in
+          let some : is_F c.index-at-i.result.range.kind ≡ true = search rules in
+          let bound_to : is_F r.kind ≡ true = subst (λ (x : Loop). is_F x.range.kind ≡ true) c.index-at-i.is some in
+          let kept : c.loop-i.subs.items ≡ c.if-not-is_f.subs.items = search rules in
           record {
-            rows = subst (λ (ss : _). SubsOf f env (filter isnt_F (take (i + 1) rs)) ss) kept (subst (λ (xs : List OwnedQuant). SubsOf f env xs c.loop-l.subs.items) (sym (free-same rs i r inside here bound_to)) c.loop-l.invariant.rows);
+            rows = subst (λ (ss : _). SubsOf f env (filter isnt_F (take (i + 1) rs)) ss) kept (subst (λ (xs : List OwnedQuant). SubsOf f env xs c.loop-i.subs.items) (sym (free-same rs i r inside here bound_to)) c.loop-i.invariant.rows);
             took = λ kept keeps.
                 let more = others-more rs (asked_at at kept) env i r inside here in
                 let none : cond (is_F r.kind) 0 (asked_at at kept r.over env) ≡ 0 = ap (λ (b : Bool). cond b 0 (asked_at at kept r.over env)) bound_to in
-                let so = c.loop-l.invariant.took kept keeps in
-                let steps : c.loop-l.steps ≡ c.if-not-is_f.steps = search rules in
+                let so = c.loop-i.invariant.took kept keeps in
+                let steps : c.loop-i.steps ≡ c.if-not-is_f.steps = search rules in
                 (omega (arith, so.0, steps), omega (arith, so.1, steps, more, none));
-            counted = λ start h. search (rules, c.loop-l.invariant.counted start h);
+            counted = λ start h. search (rules, c.loop-i.invariant.counted start h);
           }
     ]
 
@@ -363,12 +371,59 @@ rows_under-returns-in-Open-clause-took g t c = λ kept keeps.
     of_part c.made.result c.evaluated.result _ _ _ c.made.ensures (c.evaluated.ensures.took kept below.0)
     (λ s bag h took. (omega (arith, took.0), omega (arith, took.1, e)))
 
+pub sub_under-sub_rows-requires : goal.sub_under-sub_rows-requires
+sub_under-sub_rows-requires g t c = idle-at c.args.at.now c.requires.planned c.args.i c.args.l.now c.requires.within c.requires.at
+
+pub sub_under-rows_under-requires : goal.sub_under-rows_under-requires
+sub_under-rows_under-requires g t c κs lives =
+    let l = c.args.l.now in
+    let anew : is_open l.under ≡ true = search rules in
+    let some = open-weight l.under anew in
+    (grind (arith, common_steps, some), (grind (arith, common_steps, some), (stands-at c.args.at.now c.requires.planned c.args.i l c.requires.within c.requires.at, c.requires.planned.plans)))
+
+pub subs-sub_under-rows-requires : goal.subs-sub_under-rows-requires
+subs-sub_under-rows-requires g t c κs lives =
+    let at = c.args.at.now in
+    let i = c.loop-i.i in
+    let l = get_or at.loops.now i c.index-at-i.result in
+    let is : l ≡ get_or at.loops.now i l = subst (λ (x : Loop). x ≡ get_or at.loops.now i x) c.index-at-i.is c.index-at-i.is in
+    let less = under-weight at l.range.over l.under (stands-at at c.requires.planned i l c.loop-i-test.true is) in
+    (grind (arith, common_steps, less), (grind (arith, common_steps, less), (c.requires.planned, (c.loop-i-test.true, is))))
+
+pub sub_under-returns-clause-took : goal.sub_under-returns-clause-took
+sub_under-returns-clause-took g t c = λ kept keeps. (omega arith, omega arith)
+
+pub sub_under-returns-then-is_open-clause-rows : goal.sub_under-returns-then-is_open-clause-rows
+sub_under-returns-then-is_open-clause-rows g t c =
+    let at = c.args.at.now in
+    of_part c.unindexed.result c.rows_under.result _ _ _ c.unindexed.ensures c.rows_under.ensures.rows
+    (λ s source e h. subst (λ (b : Bag). Alike b (family at c.args.l.now.range.over (env_of c.args.env.now))) (sym e) h)
+
+pub sub_under-returns-then-is_open-clause-took : goal.sub_under-returns-then-is_open-clause-took
+sub_under-returns-then-is_open-clause-took g t c = λ kept keeps.
+    of_part c.unindexed.result c.rows_under.result _ _ _ c.unindexed.ensures (c.rows_under.ensures.took kept keeps) (λ s source e h. h)
+
+pub sub_under-returns-clause-rows : goal.sub_under-returns-clause-rows
+sub_under-returns-clause-rows g t c =
+    let at = c.args.at.now in
+    let l = c.args.l.now in
+    let closed : is_open l.under ≡ false = search rules in
+    subst (λ (b : Bag). Alike b (family at l.range.over (env_of c.args.env.now))) (sym c.sub_rows.ensures)
+    (kept-alike (tables_of at) at.run.now.memo.now at.below.now l.range.over l.under (stands-at at c.requires.planned c.args.i l c.requires.within c.requires.at) closed (env_of c.args.env.now))
+
+pub joined-outer_joined-requires : goal.joined-outer_joined-requires
+joined-outer_joined-requires g t c =
+    let at = c.args.at.now in
+    let q = c.q-item.result in
+    IfSome_then c.made_right.result c.made_right.ensures
+    (λ h f. IfOk-weaker c.rows_under-ys.result _ _ (λ s e. subst (λ (b : Bag). Hashes (rejects_on at.node.now) q.range.id b h.now) (sym e) f.1) (c.rows_under-ys.ensures.kept f.0))
+
 pub subs-returns-clause-took : goal.subs-returns-clause-took
 subs-returns-clause-took g t c = λ kept keeps.
     let at = c.args.at.now in
     let rs = ranges at.loops.now in
-    subst (λ (xs : List OwnedQuant). Between 0 (under_others xs (asked_at at kept) (env_of c.args.env.now)) c.args.steps.now c.loop-l.steps)
-    (take_all c.loop-l.l-index rs (range-past at.loops.now c.loop-l.l-index c.loop-l-test.false)) (c.loop-l.invariant.took kept keeps)
+    subst (λ (xs : List OwnedQuant). Between 0 (under_others xs (asked_at at kept) (env_of c.args.env.now)) c.args.steps.now c.loop-i.steps)
+    (take_all c.loop-i.i rs (range-past at.loops.now c.loop-i.i c.loop-i-test.false)) (c.loop-i.invariant.took kept keeps)
 
 pub each-returns-then-branch-clause-rows : goal.each-returns-then-branch-clause-rows
 each-returns-then-branch-clause-rows g t c =
@@ -383,7 +438,7 @@ evaluated-of_kind-requires g t c κs l =
     let below = c.args.below.now in
     let plan = c.in-Some.plan.now in
     let found : slice_get run.plans.now (length below) ≡ Some (Some plan) = some-is (λ (p : Bor Plan). slice_get run.plans.now (length below) ≡ Some (Some p.now)) c.plan_at.result c.in-Some.plan c.in-Some.is c.plan_at.ensures in
-    let planned = planned-by _ c.in_ok-loops.loops.items plan c.deref.ensures.value c.deref-in-Some.ensures.value c.deref-in-Some-2.ensures.value c.deref-in-Some-3.ensures.value
+    let planned = planned-by _ c.in_ok-loops.loops.items plan c.deref.ensures.value c.deref-in-Some.ensures.value c.deref-in-Some-2.ensures.value c.deref-in-Some-3.ensures.value c.deref-in-Some-4.ensures.value c.deref-in-Some-5.ensures.value
     (c.in_ok-loops.ensures.ranges ∙ c.as_slice.ensures) c.in_ok-loops.ensures.stand c.in_ok-loops.ensures.kept c.requires.fit
     (subst (PlanFits run.memo.now n below) found c.requires.plans.0) c.requires.plans.1 c.requires.ready in
     (grind (arith, common_steps), (grind (arith, common_steps), planned))
@@ -400,7 +455,7 @@ evaluated-plan_of-requires g t c =
 
 pub evaluated-of_kind-requires-2 : goal.evaluated-of_kind-requires-2
 evaluated-of_kind-requires-2 g t c κs l =
-    let planned = planned-by _ c.in_ok-loops.loops.items c.in_ok-plan.plan c.deref-3.ensures.value c.deref-4.ensures.value c.deref-5.ensures.value c.deref-6.ensures.value
+    let planned = planned-by _ c.in_ok-loops.loops.items c.in_ok-plan.plan c.deref-3.ensures.value c.deref-4.ensures.value c.deref-5.ensures.value c.deref-6.ensures.value c.deref-7.ensures.value c.deref-8.ensures.value
     (c.in_ok-loops.ensures.ranges ∙ c.as_slice.ensures) c.in_ok-loops.ensures.stand c.in_ok-loops.ensures.kept c.requires.fit
     c.in_ok-plan.ensures c.requires.plans.1 c.requires.ready in
     (grind (arith, common_steps), (grind (arith, common_steps), planned))
@@ -429,11 +484,8 @@ put_together-rows_under-xs-requires t c = grind (arith, common_steps)
 pub put_together-rows_under-ys-requires : goal.put_together-rows_under-ys-requires
 put_together-rows_under-ys-requires t c = grind (arith, common_steps)
 
-pub subs-rows_under-rows-requires : goal.subs-rows_under-rows-requires
-subs-rows_under-rows-requires t c = grind (arith, common_steps)
-
-pub subs-loop-l-init : goal.subs-loop-l-init
-subs-loop-l-init g t c = grind (arith, common_steps)
+pub subs-loop-i-init : goal.subs-loop-i-init
+subs-loop-i-init g t c = grind (arith, common_steps)
 
 pub joined-bounds-p-0 : goal.joined-bounds-p-0
 joined-bounds-p-0 g t c = grind (arith, common_steps)
@@ -454,7 +506,7 @@ pub put_together-bounds-p-0 : goal.put_together-bounds-p-0
 put_together-bounds-p-0 g t c = grind (arith, common_steps)
 
 pub evaluated-returns-clause-counted : goal.evaluated-returns-clause-counted
-evaluated-returns-clause-counted g t c = grind (arith, common_steps)
+evaluated-returns-clause-counted g t c = λ start h. c.of_kind-2.ensures.counted start (c.step.ensures.counted start h)
 
 pub rows_under-returns-in-Kept-clause-took : goal.rows_under-returns-in-Kept-clause-took
 rows_under-returns-in-Kept-clause-took g t c = grind (arith, common_steps)

@@ -40,7 +40,10 @@ abbrev pub decreases-subs : goal.decreases-subs
 decreases-subs g l = weight l.at.now.below.now + 1
 
 abbrev pub decreases-rows_under : goal.decreases-rows_under
-decreases-rows_under g l = weight_under l.l.now.under
+decreases-rows_under g l = weight_under l.l.now.under - 1
+
+abbrev pub decreases-sub_under : goal.decreases-sub_under
+decreases-sub_under g l = weight_under l.l.now.under
 
 abbrev pub decreases-each-loop-i : goal.decreases-each-loop-i
 decreases-each-loop-i g l = l.way.end - l.i
@@ -51,12 +54,12 @@ invariant-each-loop-i g l = record {
   took : (kept : ℕ → Bool) → KeepsAt l.at kept → Between 0 (each_row (λ (cells : List Cell). cost_left l.at kept (l.k + 1) (bound l.l.range.id cells (env_of l.env))) (take l.i l.rows)) l.initial.steps l.steps;
   stands : StandsFrom l.way (place l.c) l.c;
   at : l.i ≡ place l.c;
-  counted : (start : ℕ) → Counted start l.initial.steps l.initial.count → Counted start l.steps l.count;
+  counted : (start : ℕ) → Counted start l.initial.steps l.initial.tally.count → Counted start l.steps l.tally.count;
 }
 
-abbrev pub invariant-subs-loop-l : goal.invariant-subs-loop-l
-invariant-subs-loop-l g l = record {
-  rows : SubsOf (family l.at) (env_of l.env) (filter isnt_F (take l.l-index (ranges l.at.loops.now))) l.subs.items;
-  took : (kept : ℕ → Bool) → KeepsAt l.at kept → Between 0 (under_others (take l.l-index (ranges l.at.loops.now)) (asked_at l.at kept) (env_of l.env)) l.initial.steps l.steps;
-  counted : (start : ℕ) → Counted start l.initial.steps l.initial.count → Counted start l.steps l.count;
+abbrev pub invariant-subs-loop-i : goal.invariant-subs-loop-i
+invariant-subs-loop-i g l = record {
+  rows : SubsOf (family l.at) (env_of l.env) (filter isnt_F (take l.i (ranges l.at.loops.now))) l.subs.items;
+  took : (kept : ℕ → Bool) → KeepsAt l.at kept → Between 0 (under_others (take l.i (ranges l.at.loops.now)) (asked_at l.at kept) (env_of l.env)) l.initial.steps l.steps;
+  counted : (start : ℕ) → Counted start l.initial.steps l.initial.tally.count → Counted start l.steps l.tally.count;
 }

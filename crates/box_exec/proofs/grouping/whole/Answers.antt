@@ -14,7 +14,7 @@ pub returns : goal.returns
 returns c =
     let none : error_among (λ cells. error_in []) c.args.rows.now ≡ None = search rules in
     c.in_ok-push.ensures.ok
-    ∙ ap₂ (λ (b : Bag) (cells : List Cell). b ++ row cells Yes ∷ []) c.new-made.ensures c.in_ok-group_cells.ensures
+    ∙ ap₂ (λ (b : Bag) (cells : List Cell). b ++ row cells Yes ∷ []) c.new-made.ensures (c.from_vec.ensures ∙ c.in_ok-cells.ensures)
     ∙ whole-group (terms c.args.folds.now) c.args.quant (env_of c.args.env.now) c.args.rows.now none
 
 pub returns-in-Some : goal.returns-in-Some

@@ -19,7 +19,7 @@ bound_in_order-requires-clause-bound c = bound-of c.args.at.now c.requires.plann
 pub bound_in_order-requires-clause-subs : goal.bound_in_order-requires-clause-subs
 bound_in_order-requires-clause-subs c = λ e.
     let at = c.args.at.now in
-    subst (λ (ss : List Sub). SubsOf (family at) e (filter isnt_F at.node.now.quants) ss) (sym c.deref-in-empty.ensures.value)
+    subst (λ (ss : List Sub). SubsOf (family at) e (filter isnt_F at.node.now.quants) ss) (sym c.deref.ensures.value)
     (subst (λ (rs : List OwnedQuant). SubsOf (family at) e (filter isnt_F rs) c.in_ok-subs.subs.items) c.requires.planned.ranged (c.in_ok-subs.ensures e))
 
 pub reordered_selected-requires-clause-subs : goal.reordered_selected-requires-clause-subs

@@ -4,20 +4,26 @@ use Rattle.row_bag.specs.Bags.{Alike}
 use Rattle.qgm_core.specs.Kinds.{is_F}
 use Rattle.qgm_core.specs.declared.owned.OwnedQuant.{OwnedQuant}
 use Rattle.qgm_meaning.specs.Values.{Bag}
-use Rattle.box_exec.specs.Hashed.{rows_kept}
+use Rattle.box_exec.specs.Hashed.{IdleUnder, rows_kept}
 use Rattle.box_exec.specs.Plans.{family, ranges}
 use Rattle.box_exec.specs.declared.under.Loop.{Loop}
 use Rattle.box_exec.specs.Ready.{SubsOf, isnt_F}
 use Rattle.box_exec.specs.Sources.{rows_held}
 use Rattle.box_exec.specs.declared.source.Sub.{Sub}
 use Rattle.box_exec.proofs.Hashing.{kept-at}
+use Rattle.box_exec.proofs.Lasting.{idle-at}
 use Rattle.box_exec.proofs.Quantifiers.{bound-of, free-more, free-same, range-at, range-past, range-within, subs-more}
 use Rattle.box_exec.proofs.hashed.kept_subs.Goals.{then-not-is_f+in_ok-push, else-not-is_f}
 use Rattle.box_exec.proofs.hashed.kept_subs.Goals as goal
 
+pub sub_rows-rows-requires : goal.sub_rows-rows-requires
+sub_rows-rows-requires c =
+    subst (λ (x : Loop). IdleUnder c.args.at.now.idle.now c.loop-i.i x.under) c.index-at-i.is
+    (idle-at c.args.at.now c.requires.planned c.loop-i.i c.index-at-i.result c.loop-i-test.true c.index-at-i.is)
+
 pub loop-i-preserved : goal.loop-i-preserved
 loop-i-preserved c = λ env.
-    let at = c.args.finding.now.at.now in
+    let at = c.args.at.now in
     let l = c.index-at-i.result in
     let r = l.range in
     let i = c.loop-i.i in
@@ -44,5 +50,5 @@ loop-i-preserved c = λ env.
 
 pub returns : goal.returns
 returns c = λ env.
-    let rs = ranges c.args.finding.now.at.now.loops.now in
-    subst (λ (xs : List OwnedQuant). SubsOf (family c.args.finding.now.at.now) env (filter isnt_F xs) c.loop-i.subs.items) (take_all c.loop-i.i rs (range-past c.args.finding.now.at.now.loops.now c.loop-i.i c.loop-i-test.false)) (c.loop-i.invariant env)
+    let rs = ranges c.args.at.now.loops.now in
+    subst (λ (xs : List OwnedQuant). SubsOf (family c.args.at.now) env (filter isnt_F xs) c.loop-i.subs.items) (take_all c.loop-i.i rs (range-past c.args.at.now.loops.now c.loop-i.i c.loop-i-test.false)) (c.loop-i.invariant env)

@@ -20,5 +20,5 @@ invariant-boxes g l = record {
   names : map (λ v. v.items) l.named.items ≡ beyonds (drop l.i l.nodes);
   keeps : (kept : ℕ → Bool) → KeptAs kept l.marks l.nodes → Keeps l.memo.items kept (drop l.i l.nodes);
   took : (kept : ℕ → Bool) → KeptAs kept l.marks l.nodes → Between (kept_number kept (drop l.i l.nodes)) (kept_costs l.tables kept (drop l.i l.nodes)) l.initial.steps l.steps;
-  counted : (start : ℕ) → Counted start l.initial.steps l.initial.count → Counted start l.steps l.count;
+  counted : (start : ℕ) → Counted start l.initial.steps l.initial.tally.count → Counted start l.steps l.tally.count;
 }

@@ -2,7 +2,7 @@ use Rattle.std.proofs.Common.{All, List, subst}
 use Rattle.qgm_core.specs.declared.owned.OwnedQuant.{OwnedQuant}
 use Rattle.box_exec.specs.Early.{IsEarly}
 use Rattle.box_exec.specs.Lasting.{AllHashed, rows_stored}
-use Rattle.box_exec.proofs.Lasting.{indexed-of, none-planned}
+use Rattle.box_exec.proofs.Lasting.{idle-of, indexed-of, none-planned, rights-of}
 use Rattle.box_exec.specs.declared.early.Early.{Early}
 use Rattle.box_exec.proofs.plan.plan_of.Goals as goal
 
@@ -12,6 +12,8 @@ returns-then-not-is_empty c =
     record {
       text = none-planned n n.quants (rows_stored c.args.run.now.memo.now c.args.below.now) c.new.result.items c.new-then-not-is_empty.result.items c.new.ensures.items c.new-then-not-is_empty.ensures.items;
       orders = c.in_ok-orders.ensures;
+      idle = idle-of n.quants (rows_stored c.args.run.now.memo.now c.args.below.now) c.args.over.now c.in_ok-idle.idle.items c.requires.ranged c.requires.kept c.in_ok-idle.ensures;
+      right = rights-of n (rows_stored c.args.run.now.memo.now c.args.below.now) c.args.over.now c.in_ok-right.right.items c.requires.ranged c.requires.kept c.in_ok-right.ensures;
     }
 
 pub returns : goal.returns
@@ -26,4 +28,6 @@ returns c =
             (subst (λ (xs : List Early). AllHashed xs c.args.over.now hs) c.deref.ensures.value c.in_ok-hashed.ensures);
       };
       orders = c.in_ok-orders.ensures;
+      idle = idle-of n.quants (rows_stored c.args.run.now.memo.now c.args.below.now) c.args.over.now c.in_ok-idle.idle.items c.requires.ranged c.requires.kept c.in_ok-idle.ensures;
+      right = rights-of n (rows_stored c.args.run.now.memo.now c.args.below.now) c.args.over.now c.in_ok-right.right.items c.requires.ranged c.requires.kept c.in_ok-right.ensures;
     }

@@ -1,5 +1,4 @@
-use Rattle.std.proofs.Common.{arith, subst, sym}
-use Rattle.std.proofs.lemmas.Grind.{common_steps}
+use Rattle.std.proofs.Common.{subst, sym}
 use Rattle.std.specs.Result.{OnOk}
 use Rattle.rule_api.specs.declared.rule_id.RuleId.{RuleId}
 use Rattle.rule_set.specs.Built.{built}

@@ -1,0 +1,4 @@
+pub mod After
+pub mod Entries
+pub mod Rows
+pub mod Taking

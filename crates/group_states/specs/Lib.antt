@@ -1,0 +1,4 @@
+pub mod Folds
+pub mod Groups
+pub mod Running
+pub mod States
