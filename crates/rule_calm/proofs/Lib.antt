@@ -34,3 +34,5 @@ mod TurnSettled
 mod SplitSettled
 mod FedPieces
 mod SplitTurned
+mod MagicGrows
+mod MagicSettled
