@@ -8,9 +8,12 @@ mod RebuiltSettled
 mod PartFacts
 mod CompactSettled
 mod HeadPlaces
+mod MappedTerms
 mod OperatorFacts
 mod BehindFacts
 mod FedSettled
+mod MappedBox
+mod StepFacts
 mod PairSettled
 mod SelectSettled
 mod SetSettled
@@ -34,5 +37,7 @@ mod TurnSettled
 mod SplitSettled
 mod FedPieces
 mod SplitTurned
+mod FeedSettled
+mod FeedFiring
 mod MagicGrows
 mod MagicSettled

@@ -1,5 +1,5 @@
 // The laws, as theorems.
-ghost use Rattle.rule_api.specs.declared.rule_id.RuleId.TheVariants.{U2, G2, G3, G4, G5};
+ghost use Rattle.rule_api.specs.declared.rule_id.RuleId.TheVariants.{U2, G1, G2, G3, G4, G5};
 ghost use Rattle.rule_calm.specs.CalmCloses.{CalmCloses, CalmRewritesClose};
 ghost use Rattle.rule_calm.specs.SettledKept.{KeepsSettled};
 
@@ -9,9 +9,10 @@ pub fn calm_graph_laws()
     ensures rewrites { CalmRewritesClose }
 {}
 
-/// A firing on a settled graph leaves a settled graph: of U2, which has no place there (`scalar`), of G2 (`select`), G3 (`group`), G4 (`set`) and G5 (`outer`). It does nothing.
+/// A firing on a settled graph leaves a settled graph: of U2, which has no place there (`scalar`), of G1 (`feed`), G2 (`select`), G3 (`group`), G4 (`set`) and G5 (`outer`). It does nothing.
 pub fn settled_graph_laws()
     ensures scalar { KeepsSettled U2 }
+    ensures feed { KeepsSettled G1 }
     ensures select { KeepsSettled G2 }
     ensures group { KeepsSettled G3 }
     ensures set { KeepsSettled G4 }

@@ -1,3 +1,4 @@
+use Rattle.rule_calm.proofs.FeedFiring.{feed-keeps}
 use Rattle.rule_calm.proofs.FiringSettled.{group-keeps, scalar-keeps, select-keeps}
 use Rattle.rule_calm.proofs.OperationSettled.{set-keeps}
 use Rattle.rule_calm.proofs.OuterSettled.{outer-keeps}
@@ -5,6 +6,9 @@ use Rattle.rule_calm.proofs.laws.settled_graph_laws.Goals as goal
 
 pub returns-clause-scalar : goal.returns-clause-scalar
 returns-clause-scalar c = scalar-keeps
+
+pub returns-clause-feed : goal.returns-clause-feed
+returns-clause-feed c = feed-keeps
 
 pub returns-clause-select : goal.returns-clause-select
 returns-clause-select c = select-keeps
