@@ -49,6 +49,7 @@ mod inferred;
 mod items;
 mod known;
 mod made;
+mod rewriting;
 mod run;
 mod script;
 mod sketch;
