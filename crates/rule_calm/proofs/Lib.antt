@@ -39,3 +39,4 @@ mod FedPieces
 mod SplitTurned
 mod FeedSettled
 mod FeedFiring
+mod SettledCloses

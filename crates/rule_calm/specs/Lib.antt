@@ -1,3 +1,4 @@
 pub mod CalmCloses
 pub mod Settled
 pub mod SettledKept
+pub mod SettledCloses

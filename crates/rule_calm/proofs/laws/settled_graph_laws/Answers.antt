@@ -2,6 +2,7 @@ use Rattle.rule_calm.proofs.FeedFiring.{feed-keeps}
 use Rattle.rule_calm.proofs.FiringSettled.{group-keeps, scalar-keeps, select-keeps}
 use Rattle.rule_calm.proofs.OperationSettled.{set-keeps}
 use Rattle.rule_calm.proofs.OuterSettled.{outer-keeps}
+use Rattle.rule_calm.proofs.SettledCloses.{settled-closes}
 use Rattle.rule_calm.proofs.laws.settled_graph_laws.Goals as goal
 
 pub returns-clause-scalar : goal.returns-clause-scalar
@@ -21,3 +22,6 @@ returns-clause-set c = set-keeps
 
 pub returns-clause-outer : goal.returns-clause-outer
 returns-clause-outer c = outer-keeps
+
+pub returns-clause-closes : goal.returns-clause-closes
+returns-clause-closes c = settled-closes
