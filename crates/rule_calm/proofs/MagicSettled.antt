@@ -13,7 +13,6 @@ use Rattle.rule_plan.specs.declared.classes.Class.{Class}
 use Rattle.rule_plan.specs.declared.classes.Class.TheVariants.{Magic}
 use Rattle.rule_plan.specs.declared.plan.Plan.{Plan}
 use Rattle.rule_api.specs.declared.place.Firing.{Firing}
-use Rattle.rule_api.specs.declared.rule_id.RuleId.TheVariants.{G1}
 use Rattle.rule_engine.specs.Control.{candidates, rules_of}
 use Rattle.rule_engine.specs.Trace.{Leads}
 use Rattle.rule_engine.proofs.Chosen.{candidates-exact, next-in}
@@ -23,8 +22,10 @@ use Rattle.rule_set.proofs.MagicEnds.{magic-lowers}
 use Rattle.rule_calm.specs.CalmCloses.{AllClosed, IsCalm}
 use Rattle.rule_calm.specs.Decorrelated.{MagicDecorrelates, MagicKeepsSettled}
 use Rattle.rule_calm.specs.Settled.{IsSettled}
+use Rattle.rule_calm.specs.SettledCloses.{SettledCloses}
 use Rattle.rule_calm.specs.SettledKept.{KeepsSettled}
 use Rattle.rule_calm.proofs.CalmCloses.{calm-rewrites-close}
+use Rattle.rule_calm.proofs.FeedFiring.{feed-keeps}
 use Rattle.rule_calm.proofs.FiringSettled.{group-keeps, scalar-keeps, select-keeps}
 use Rattle.rule_calm.proofs.MagicGrows.{each-magic, magic-adds-few}
 use Rattle.rule_calm.proofs.OperationSettled.{set-keeps}
@@ -45,7 +46,7 @@ fired plan alone g f i =
     ]
 
 -- a settled graph is calm
-pub settled-calm : (g : QueryGraph) → IsSettled g → length g.boxes ≤ 65530 → IsCalm g
+settled-calm : (g : QueryGraph) → IsSettled g → length g.boxes ≤ 65530 → IsCalm g
 settled-calm g s few = record {
   known = s.known;
   tells = s.tells;
@@ -83,34 +84,39 @@ record After (g : QueryGraph) (fs : List Firing) (h : QueryGraph) : Type 0 where
   pub paid : length fs + measure h ≤ measure g
   pub few : length h.boxes ≤ length g.boxes + 3 * length fs
 
--- where G1 keeps a graph settled
-module _ (feed-keeps : KeepsSettled G1) where
-  pub magic-keeps : MagicKeepsSettled
-  magic-keeps = each-magic KeepsSettled scalar-keeps feed-keeps select-keeps group-keeps set-keeps outer-keeps
+pub magic-keeps : MagicKeepsSettled
+magic-keeps = each-magic KeepsSettled scalar-keeps feed-keeps select-keeps group-keeps set-keeps outer-keeps
 
-  module _ (plan : Plan) (alone : plan.classes ≡ Magic ∷ []) where
-    after : (fs : List Firing) (k : ℕ) (g h : QueryGraph) → EachOnce (numbers g.boxes) → WellFormed g → IsSettled g → Leads built_pairs built_may built_act plan k g fs h → After g fs h
-    after [] k g h once wf s leads = subst (λ (z : QueryGraph). After g [] z) leads (record { once = once; formed = wf; settled = s; paid = omega arith; few = omega arith })
-    after (f ∷ fs) k g h once wf s leads =
-        let m = leads.0 in
-        let fires = leads.1.0 in
-        let magic = fired plan alone g f (next-in plan (candidates built_pairs plan g) k f fires.is_next) in
-        let lower = magic-lowers f.rule magic f.place g m once wf fires.acts in
-        let grows = magic-adds-few f.rule magic f.place g m fires.acts in
-        let a = after fs (k + 1) m h lower.once fires.formed (magic-keeps f.rule magic f.place g m once wf s fires.acts) leads.1.1 in
-        let less = lower.lower in
-        let paid = a.paid in
-        let few = a.few in
-        record { once = a.once; formed = a.formed; settled = a.settled; paid = omega (arith, less, paid); few = omega (arith, grows, few) }
-
-  pub magic-decorrelates : MagicDecorrelates
-  magic-decorrelates = λ plan g h fs alone budget once wf s room traces. (
-      let a = after plan alone fs 0 g h once wf s traces.leads in
-      let bound = measure-bound g in
+module _ (plan : Plan) (alone : plan.classes ≡ Magic ∷ []) where
+  after : (fs : List Firing) (k : ℕ) (g h : QueryGraph) → EachOnce (numbers g.boxes) → WellFormed g → IsSettled g → Leads built_pairs built_may built_act plan k g fs h → After g fs h
+  after [] k g h once wf s leads = subst (λ (z : QueryGraph). After g [] z) leads (record { once = once; formed = wf; settled = s; paid = omega arith; few = omega arith })
+  after (f ∷ fs) k g h once wf s leads =
+      let m = leads.0 in
+      let fires = leads.1.0 in
+      let magic = fired plan alone g f (next-in plan (candidates built_pairs plan g) k f fires.is_next) in
+      let lower = magic-lowers f.rule magic f.place g m once wf fires.acts in
+      let grows = magic-adds-few f.rule magic f.place g m fires.acts in
+      let a = after fs (k + 1) m h lower.once fires.formed (magic-keeps f.rule magic f.place g m once wf s fires.acts) leads.1.1 in
+      let less = lower.lower in
       let paid = a.paid in
       let few = a.few in
-      elim (le-or plan.budget (length fs)) [
-        | inl spent ↦ nothing-open h a.once a.formed (omega (arith, bound, paid, budget, spent))
-        | inr left ↦ calm-rewrites-close plan g h fs (subst (λ (cs : List Class). In Magic cs) (sym alone) (inl refl)) traces left a.once a.formed
-            (settled-calm h a.settled (omega (arith, bound, paid, few, room)))
-      ])
+      record { once = a.once; formed = a.formed; settled = a.settled; paid = omega (arith, less, paid); few = omega (arith, grows, few) }
+
+-- where the whole budget is spent, nothing is left of the measure
+pub settled-closes : SettledCloses
+settled-closes = λ plan g h fs alone once wf s budget traces few. (
+    let a = after plan alone fs 0 g h once wf s traces.leads in
+    let bound = measure-bound g in
+    let paid = a.paid in
+    elim (le-or plan.budget (length fs)) [
+      | inl spent ↦ nothing-open h a.once a.formed (omega (arith, bound, paid, budget, spent))
+      | inr left ↦ calm-rewrites-close plan g h fs (subst (λ (cs : List Class). In Magic cs) (sym alone) (inl refl)) traces left a.once a.formed (settled-calm h a.settled few)
+    ])
+
+pub magic-decorrelates : MagicDecorrelates
+magic-decorrelates = λ plan g h fs alone once wf s room budget traces. (
+    let a = after plan alone fs 0 g h once wf s traces.leads in
+    let bound = measure-bound g in
+    let paid = a.paid in
+    let few = a.few in
+    settled-closes plan g h fs alone once wf s budget traces (omega (arith, bound, paid, few, room)))
