@@ -39,3 +39,5 @@ mod FedPieces
 mod SplitTurned
 mod FeedSettled
 mod FeedFiring
+mod MagicGrows
+mod MagicSettled
