@@ -3,3 +3,4 @@ pub mod Settled
 pub mod SettledKept
 pub mod SettledCloses
 pub mod Decorrelated
+pub mod SettledSample

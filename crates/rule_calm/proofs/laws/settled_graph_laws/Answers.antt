@@ -4,6 +4,7 @@ use Rattle.rule_calm.proofs.MagicGrows.{magic-adds-few}
 use Rattle.rule_calm.proofs.MagicSettled.{magic-decorrelates, magic-keeps, settled-closes}
 use Rattle.rule_calm.proofs.OperationSettled.{set-keeps}
 use Rattle.rule_calm.proofs.OuterSettled.{outer-keeps}
+use Rattle.rule_calm.proofs.SettledSample.{settled-sample}
 use Rattle.rule_calm.proofs.laws.settled_graph_laws.Goals as goal
 
 pub returns-clause-scalar : goal.returns-clause-scalar
@@ -35,3 +36,6 @@ returns-clause-grows c = magic-adds-few
 
 pub returns-clause-decorrelates : goal.returns-clause-decorrelates
 returns-clause-decorrelates c = magic-decorrelates
+
+pub returns-clause-sample : goal.returns-clause-sample
+returns-clause-sample c = settled-sample
