@@ -35,7 +35,9 @@ mod MovedFacts
 mod ClosedParts
 mod TurnSettled
 mod SplitSettled
-mod FedPieces
 mod SplitTurned
 mod FeedSettled
 mod FeedFiring
+mod MagicGrows
+mod MagicSettled
+mod SettledSample

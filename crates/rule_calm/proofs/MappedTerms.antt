@@ -1,5 +1,5 @@
 -- Terms in which columns become terms, and what stands within a some or every becomes another condition.
-use Rattle.std.proofs.Common.{ℕ, ◌==◌, ◌≡◌, ◌&&◌, cond, Bool, true, false, List, ◌++◌, refl, sym, ap, ap₂, ◌∙◌, inl, inr}
+use Rattle.std.proofs.Common.{ℕ, ◌==◌, ◌≡◌, ◌&&◌, cond, Bool, true, false, List, ◌++◌, refl, ap, ap₂, ◌∙◌, inl, inr}
 use Rattle.std.proofs.lemmas.Bool.{and_from, and_parts}
 use Rattle.list_laws.specs.Lists.{In}
 use Rattle.list_laws.proofs.Membership.{in-append, in-left, in-right}
@@ -17,9 +17,9 @@ use Rattle.qgm_terms.specs.declared.tree.Op.TheVariants.{Add, Sub, Mul, Div, Cat
 use Rattle.qgm_props.specs.Inferred.{divides, fold_free, keeps_free}
 use Rattle.rule_feed.specs.Feed.{fed_arms, fed_cond, fed_term, up}
 use Rattle.rule_feed.specs.Split.{renamed, renamed_arms, renamed_cond}
-use Rattle.rule_feed.proofs.SplitNames.{put-renamed, put-renamed_cond}
 use Rattle.rule_calm.specs.Settled.{not_single, single_free, single_free_arms, single_free_cond}
 use Rattle.rule_calm.proofs.FreeTerms.{SameNodes, arms_with, cond_with, free_with}
+use Rattle.rule_calm.proofs.MovedTerms.{put-renamed, put-renamed-cond}
 use Rattle.rule_calm.proofs.SameFacts.{both-of}
 
 -- column r k becomes f r k; condition d within a some of r becomes w r d, within an every e r d
@@ -243,42 +243,13 @@ module _ (f : ℕ → ℕ → Term) where
     renamed-mapped-cond (some r p) = ap (some r) (renamed-mapped-cond p)
     renamed-mapped-cond (every r p) = ap (every r) (renamed-mapped-cond p)
 
--- those that are their own
-mutual
-  own-renamed : (x : Term) → renamed col x ≡ x
-  own-renamed (int n) = refl
-  own-renamed (text s) = refl
-  own-renamed null_int = refl
-  own-renamed null_text = refl
-  own-renamed (col r k) = refl
-  own-renamed (scalar r) = refl
-  own-renamed (both o x y) = ap₂ (both o) (own-renamed x) (own-renamed y)
-  own-renamed (minus_of x) = ap minus_of (own-renamed x)
-  own-renamed (choose s x) = ap₂ choose (own-renamed-arms s) (own-renamed x)
-  own-renamed count_all = refl
-  own-renamed (fold g d x) = ap (fold g d) (own-renamed x)
-
-  own-renamed-arms : (s : Arms) → renamed_arms col s ≡ s
-  own-renamed-arms no_arm = refl
-  own-renamed-arms (arm p x s) = ap (λ p. arm p (renamed col x) (renamed_arms col s)) (own-renamed-cond p) ∙ ap₂ (arm p) (own-renamed x) (own-renamed-arms s)
-
-  own-renamed-cond : (p : Cond) → renamed_cond col p ≡ p
-  own-renamed-cond always = refl
-  own-renamed-cond (compare sign x y) = ap₂ (compare sign) (own-renamed x) (own-renamed y)
-  own-renamed-cond (is_null x) = ap is_null (own-renamed x)
-  own-renamed-cond (and p r) = ap₂ and (own-renamed-cond p) (own-renamed-cond r)
-  own-renamed-cond (or p r) = ap₂ or (own-renamed-cond p) (own-renamed-cond r)
-  own-renamed-cond (not p) = ap not (own-renamed-cond p)
-  own-renamed-cond (some r p) = ap (some r) (own-renamed-cond p)
-  own-renamed-cond (every r p) = ap (every r) (own-renamed-cond p)
-
 -- cells put in for the columns of q, of which no node stands there
 module _ (q : ℕ) (cells : List Term) where
   pub put-mapped : (x : Term) → names q x ≡ false → substituted q cells x ≡ mapped (column_substituted q cells) as_it_is as_it_is x
-  put-mapped x n = ap (substituted q cells) (sym (own-renamed x)) ∙ (put-renamed q cells col x n ∙ renamed-mapped (column_substituted q cells) x)
+  put-mapped x n = put-renamed q cells x n ∙ renamed-mapped (column_substituted q cells) x
 
   pub put-mapped-cond : (p : Cond) → names_cond q p ≡ false → substituted_cond q cells p ≡ mapped_cond (column_substituted q cells) as_it_is as_it_is p
-  put-mapped-cond p n = ap (substituted_cond q cells) (sym (own-renamed-cond p)) ∙ (put-renamed_cond q cells col p n ∙ renamed-mapped-cond (column_substituted q cells) p)
+  put-mapped-cond p n = put-renamed-cond q cells p n ∙ renamed-mapped-cond (column_substituted q cells) p
 
 -- what becomes of the box that owns a fed one
 module _ (i n : ℕ) (k : Cond) where

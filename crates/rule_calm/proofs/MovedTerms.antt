@@ -1,4 +1,4 @@
--- Error-free expressions whose columns are renamed, whose scalars become columns, or that are fed; and what renamed expressions name.
+-- Error-free expressions whose columns are renamed, or whose scalars become columns; and what renamed expressions name.
 use Rattle.std.proofs.Common.{ℕ, ◌==◌, ◌≡◌, ◌&&◌, ◌||◌, cond, Bool, true, false, List, [], ◌∷◌, ◌++◌, map, refl, ap, ap₂, subst, ◌∙◌, eqb-true, inl, inr}
 use Rattle.std.specs.List.{list_any}
 use Rattle.std.proofs.lemmas.Bool.{and_from, and_parts, cases_Bool, or_parts}
@@ -17,7 +17,6 @@ use Rattle.qgm_terms.specs.declared.named.QuantNode.TheVariants as node
 use Rattle.qgm_terms.specs.declared.tree.Op.{Op}
 use Rattle.qgm_terms.specs.declared.tree.Op.TheVariants.{Add, Sub, Mul, Div, Cat}
 use Rattle.qgm_props.specs.Inferred.{divides, fold_free, keeps_free}
-use Rattle.rule_feed.specs.Feed.{fed_arms, fed_cond, fed_term, up}
 use Rattle.rule_feed.specs.Split.{renamed, renamed_arms, renamed_cond}
 use Rattle.rule_calm.specs.Settled.{not_single, single_free, single_free_arms, single_free_cond}
 use Rattle.rule_calm.proofs.FreeTerms.{SameNodes, arms_with, cond_with, fold-any, free_with}
@@ -175,87 +174,6 @@ module _ (ef ef' : ℕ → ℕ → Bool) (cl cl' one one' : ℕ → Bool) (q : �
     column-cond (not p) hc hn v h = column-cond p hc hn v h
     column-cond (some r p) hc hn v h = both-of (cl r) (cond_with ef cl one s p) (cl' r) (cond_with ef' cl' one' two (as_column_cond q p)) (hn (node.Some r) (inl refl)) (column-cond p hc (λ c i. hn c (inr i)) v) h
     column-cond (every r p) hc hn v h = both-of (cl r) (cond_with ef cl one s p) (cl' r) (cond_with ef' cl' one' two (as_column_cond q p)) (hn (node.Every r) (inl refl)) (column-cond p hc (λ c i. hn c (inr i)) v) h
-
--- ---- fed expressions
-
-fed-divides : (i n : ℕ) (k : Cond) (y : Term) → divides y ≡ true → divides (fed_term i n k y) ≡ true
-fed-divides i n k (int v) h = h
-fed-divides i n k (text s) h = h
-fed-divides i n k null_int h = h
-fed-divides i n k null_text h = h
-fed-divides i n k (col r j) h = absurd (let z : ⊥ = cc in z)
-fed-divides i n k (scalar r) h = absurd (let z : ⊥ = cc in z)
-fed-divides i n k (both o x y) h = h
-fed-divides i n k (minus_of x) h = h
-fed-divides i n k (choose s x) h = h
-fed-divides i n k count_all h = h
-fed-divides i n k (fold f d x) h = h
-
-fed-keeps : (i n : ℕ) (k : Cond) (o : Op) (y : Term) → keeps_free o y ≡ true → keeps_free o (fed_term i n k y) ≡ true
-fed-keeps i n k Add y h = h
-fed-keeps i n k Sub y h = h
-fed-keeps i n k Mul y h = h
-fed-keeps i n k Div y h = fed-divides i n k y h
-fed-keeps i n k Cat y h = refl
-
-module _ (ef ef' : ℕ → ℕ → Bool) (cl cl' one one' : ℕ → Bool) (i n : ℕ) (k : Cond) (s two : Bool) (hk : cond_with ef' cl' one' two k ≡ true) where
-  -- what is asked of columns
-  abbrev fedColumns : List Column → Type 0
-  fedColumns cs = (c : Column) → In c cs → ef c.quant c.place ≡ true → free_with ef' cl' one' two (cond (c.quant == i) (col c.quant (up n c.place)) (col c.quant c.place)) ≡ true
-
-  mutual
-    pub fed-free : (x : Term) → fedColumns (columns_in x) → SameNodes ef ef' cl cl' one one' (nodes_in x) → single_free x ≡ true → free_with ef cl one s x ≡ true → free_with ef' cl' one' two (fed_term i n k x) ≡ true
-    fed-free (int u) hc hn v h = h
-    fed-free (text x) hc hn v h = refl
-    fed-free null_int hc hn v h = refl
-    fed-free null_text hc hn v h = refl
-    fed-free (col r j) hc hn v h = hc (record { quant = r; place = j }) (inl refl) h
-    fed-free (scalar r) hc hn v h = let n = hn (node.Scalar r) (inl refl) in let p = and_parts (cl r) (one r && ef r 1) h in and_from (cl' r) (one' r && ef' r 1) (n.0 p.0) (and_from (one' r) (ef' r 1) n.1.0 (n.1.1 (and_parts (one r) (ef r 1) p.1).1))
-    fed-free (both o x y) hc hn v h =
-        let u = and_parts (single_free x) (single_free y) v in
-        both-of (keeps_free o y) (free_with ef cl one s x && free_with ef cl one s y) (keeps_free o (fed_term i n k y)) (free_with ef' cl' one' two (fed_term i n k x) && free_with ef' cl' one' two (fed_term i n k y)) (fed-keeps i n k o y)
-        (both-of (free_with ef cl one s x) (free_with ef cl one s y) (free_with ef' cl' one' two (fed_term i n k x)) (free_with ef' cl' one' two (fed_term i n k y)) (fed-free x (λ c i. hc c (in-left c (columns_in x) (columns_in y) i)) (λ c i. hn c (in-left c (nodes_in x) (nodes_in y) i)) u.0) (fed-free y (λ c i. hc c (in-right c (columns_in x) (columns_in y) i)) (λ c i. hn c (in-right c (nodes_in x) (nodes_in y) i)) u.1)) h
-    fed-free (minus_of x) hc hn v h = h
-    fed-free (choose a x) hc hn v h =
-        let u = and_parts (single_free_arms a) (single_free x) v in
-        both-of (arms_with ef cl one s a) (free_with ef cl one s x) (arms_with ef' cl' one' two (fed_arms i n k a)) (free_with ef' cl' one' two (fed_term i n k x)) (fed-arms a (λ c i. hc c (in-left c (listed_arms named.columns a) (columns_in x) i)) (λ c i. hn c (in-left c (listed_arms named.nodes a) (nodes_in x) i)) u.0) (fed-free x (λ c i. hc c (in-right c (listed_arms named.columns a) (columns_in x) i)) (λ c i. hn c (in-right c (listed_arms named.nodes a) (nodes_in x) i)) u.1) h
-    fed-free count_all hc hn v h = refl
-    fed-free (fold f d x) hc hn v h = let u = and_parts (not_single f) (single_free x) v in both-of (fold_free s f) (free_with ef cl one s x) (fold_free two f) (free_with ef' cl' one' two (fed_term i n k x)) (fold-any s two f u.0) (fed-free x hc hn u.1) h
-
-    fed-arms : (a : Arms) → fedColumns (listed_arms named.columns a) → SameNodes ef ef' cl cl' one one' (listed_arms named.nodes a) → single_free_arms a ≡ true → arms_with ef cl one s a ≡ true → arms_with ef' cl' one' two (fed_arms i n k a) ≡ true
-    fed-arms no_arm hc hn v h = refl
-    fed-arms (arm p x a) hc hn v h =
-        let u = and_parts (single_free_cond p) (single_free x && single_free_arms a) v in
-        let z = and_parts (single_free x) (single_free_arms a) u.1 in
-        both-of (cond_with ef cl one s p) (free_with ef cl one s x && arms_with ef cl one s a) (cond_with ef' cl' one' two (fed_cond i n k p)) (free_with ef' cl' one' two (fed_term i n k x) && arms_with ef' cl' one' two (fed_arms i n k a))
-        (fed-cond p (λ c i. hc c (in-left c (columns_in_cond p) (columns_in x ++ listed_arms named.columns a) i)) (λ c i. hn c (in-left c (nodes_in_cond p) (nodes_in x ++ listed_arms named.nodes a) i)) u.0)
-        (both-of (free_with ef cl one s x) (arms_with ef cl one s a) (free_with ef' cl' one' two (fed_term i n k x)) (arms_with ef' cl' one' two (fed_arms i n k a))
-        (fed-free x (λ c i. hc c (in-right c (columns_in_cond p) (columns_in x ++ listed_arms named.columns a) (in-left c (columns_in x) (listed_arms named.columns a) i))) (λ c i. hn c (in-right c (nodes_in_cond p) (nodes_in x ++ listed_arms named.nodes a) (in-left c (nodes_in x) (listed_arms named.nodes a) i))) z.0)
-        (fed-arms a (λ c i. hc c (in-right c (columns_in_cond p) (columns_in x ++ listed_arms named.columns a) (in-right c (columns_in x) (listed_arms named.columns a) i))) (λ c i. hn c (in-right c (nodes_in_cond p) (nodes_in x ++ listed_arms named.nodes a) (in-right c (nodes_in x) (listed_arms named.nodes a) i))) z.1)) h
-
-    pub fed-cond : (p : Cond) → fedColumns (columns_in_cond p) → SameNodes ef ef' cl cl' one one' (nodes_in_cond p) → single_free_cond p ≡ true → cond_with ef cl one s p ≡ true → cond_with ef' cl' one' two (fed_cond i n k p) ≡ true
-    fed-cond always hc hn v h = refl
-    fed-cond (compare sign x y) hc hn v h =
-        let u = and_parts (single_free x) (single_free y) v in
-        both-of (free_with ef cl one s x) (free_with ef cl one s y) (free_with ef' cl' one' two (fed_term i n k x)) (free_with ef' cl' one' two (fed_term i n k y)) (fed-free x (λ c i. hc c (in-left c (columns_in x) (columns_in y) i)) (λ c i. hn c (in-left c (nodes_in x) (nodes_in y) i)) u.0) (fed-free y (λ c i. hc c (in-right c (columns_in x) (columns_in y) i)) (λ c i. hn c (in-right c (nodes_in x) (nodes_in y) i)) u.1) h
-    fed-cond (is_null x) hc hn v h = fed-free x hc hn v h
-    fed-cond (and p r) hc hn v h =
-        let u = and_parts (single_free_cond p) (single_free_cond r) v in
-        both-of (cond_with ef cl one s p) (cond_with ef cl one s r) (cond_with ef' cl' one' two (fed_cond i n k p)) (cond_with ef' cl' one' two (fed_cond i n k r)) (fed-cond p (λ c i. hc c (in-left c (columns_in_cond p) (columns_in_cond r) i)) (λ c i. hn c (in-left c (nodes_in_cond p) (nodes_in_cond r) i)) u.0) (fed-cond r (λ c i. hc c (in-right c (columns_in_cond p) (columns_in_cond r) i)) (λ c i. hn c (in-right c (nodes_in_cond p) (nodes_in_cond r) i)) u.1) h
-    fed-cond (or p r) hc hn v h =
-        let u = and_parts (single_free_cond p) (single_free_cond r) v in
-        both-of (cond_with ef cl one s p) (cond_with ef cl one s r) (cond_with ef' cl' one' two (fed_cond i n k p)) (cond_with ef' cl' one' two (fed_cond i n k r)) (fed-cond p (λ c i. hc c (in-left c (columns_in_cond p) (columns_in_cond r) i)) (λ c i. hn c (in-left c (nodes_in_cond p) (nodes_in_cond r) i)) u.0) (fed-cond r (λ c i. hc c (in-right c (columns_in_cond p) (columns_in_cond r) i)) (λ c i. hn c (in-right c (nodes_in_cond p) (nodes_in_cond r) i)) u.1) h
-    fed-cond (not p) hc hn v h = fed-cond p hc hn v h
-    fed-cond (some r p) hc hn v h =
-        let x = and_parts (cl r) (cond_with ef cl one s p) h in
-        let y : cond_with ef' cl' one' two (fed_cond i n k p) ≡ true = fed-cond p hc (λ c i. hn c (inr i)) v x.1 in
-        and_from (cl' r) (cond_with ef' cl' one' two (cond (r == i) (and k (fed_cond i n k p)) (fed_cond i n k p))) (hn (node.Some r) (inl refl) x.0)
-        (elim (r == i) as (λ b. cond_with ef' cl' one' two (cond b (and k (fed_cond i n k p)) (fed_cond i n k p)) ≡ true) [ true ↦ and_from (cond_with ef' cl' one' two k) (cond_with ef' cl' one' two (fed_cond i n k p)) hk y | false ↦ y ])
-    fed-cond (every r p) hc hn v h =
-        let x = and_parts (cl r) (cond_with ef cl one s p) h in
-        let y : cond_with ef' cl' one' two (fed_cond i n k p) ≡ true = fed-cond p hc (λ c i. hn c (inr i)) v x.1 in
-        and_from (cl' r) (cond_with ef' cl' one' two (cond (r == i) (or (not k) (fed_cond i n k p)) (fed_cond i n k p))) (hn (node.Every r) (inl refl) x.0)
-        (elim (r == i) as (λ b. cond_with ef' cl' one' two (cond b (or (not k) (fed_cond i n k p)) (fed_cond i n k p)) ≡ true) [ true ↦ and_from (cond_with ef' cl' one' two k) (cond_with ef' cl' one' two (fed_cond i n k p)) hk y | false ↦ y ])
 
 -- ---- what renamed expressions name
 
