@@ -1,4 +1,5 @@
 """What `qgm explain` prints, read: the graphs, the firings, and cells and conditions in words."""
+import functools
 import os
 import re
 import unicodedata
@@ -61,7 +62,10 @@ def lines_of(text):
     """Yields each line with its number; a line goes on after a line feed that stands within quotes."""
     at, number = 0, 1
     while at < len(text):
-        end, quote = at, None
+        end, quote = text.find("\n", at), None
+        end = len(text) if end < 0 else end
+        if '"' in text[at:end] or "'" in text[at:end]:
+            end = at
         while end < len(text) and (quote or text[end] != "\n"):
             if quote:
                 quote = None if text[end] == quote else quote
@@ -88,7 +92,7 @@ def tokens_of(text):
             raise Wrong(f"this can't be read: {text[at:at + 40]}")
         found.append(it[0].lstrip(" "))
         at = it.end()
-    return found
+    return tuple(found)
 
 
 def tree_of(tokens):
@@ -114,7 +118,7 @@ def tree_of(tokens):
 
 
 def number(word):
-    if not re.fullmatch(r"[0-9]{1,20}", word):
+    if not (word.isascii() and word.isdigit() and len(word) <= 20):
         raise Wrong(f"a number is wanted in place of {word}")
     return int(word)
 
@@ -133,9 +137,18 @@ def box_of(words, text):
     return Box(number(words[1]), kind, own, words[-1] == "open", text)
 
 
+# (most lines of a graph are those of the graph before)
+@functools.lru_cache(maxsize=4096)
+def line_of(text):
+    """Returns the tokens of a line of a graph, and its expression or condition, or None."""
+    words = tokens_of(text)
+    first = {"on": 1, "where": 1, "head": 2}.get(words[0] if words else "")
+    return words, tree_of(words[first:]) if first and len(words) > first else None
+
+
 def add_line(step, text):
     """Adds a line of a graph to it."""
-    words = tokens_of(text)
+    words, tree = line_of(text)
     first = words[0] if words else ""
     if not step.boxes and first in ("out", "order"):
         if len(step.preamble) != ("out", "order").index(first):
@@ -154,10 +167,10 @@ def add_line(step, text):
         box.text.append(text)
         if first == "quant" and len(words) == 4 and words[2] in QUANTIFIERS:
             box.quants.append((number(words[1]), words[2], number(words[3])))
-        elif first in ("on", "where"):
-            box.conds.append(tree_of(words[1:]))
-        elif first == "head" and words[1:2] in (["int"], ["text"]):
-            box.head.append((words[1], tree_of(words[2:]) if len(words) > 2 else None))
+        elif first in ("on", "where") and tree is not None:
+            box.conds.append(tree)
+        elif first == "head" and words[1:2] in (("int",), ("text",)):
+            box.head.append((words[1], tree))
         else:
             raise Wrong("this is no line of a box")
     else:
@@ -181,7 +194,7 @@ def read(text):
     steps, firings = [], None
     for line, it, behind in lines_of(text):
         try:
-            words = it.split(" ")
+            words = it.split(" ") if it[:1] in ("G", "F", "E") else [""]
             if words[0] == "GRAPH" and len(words) == 2 and number(words[1]) == len(steps) and (not steps or steps[-1].firing):
                 steps.append(Step())
             elif not steps:

@@ -38,7 +38,7 @@ costs-at tables kept ns b i n env e at =
     ∙ ap (λ (m : Node). counted_by m.parts.kind m (bag_in tables (drop (suc i) ns)) (asked tables kept (drop (suc i) ns)) env) (sym at)
     ∙ ap (λ (k : ℕ). counted_by n.parts.kind n (bag_in tables (drop k ns)) (asked tables kept (drop k ns)) env) (sym (add-one i))
 
-keeps-drop : (memo : List (Option Source)) (kept : ℕ → Bool) (ns : List Node) (i : ℕ) → Keeps memo kept ns → Keeps memo kept (drop i ns)
+pub keeps-drop : (memo : List (Option Source)) (kept : ℕ → Bool) (ns : List Node) (i : ℕ) → Keeps memo kept ns → Keeps memo kept (drop i ns)
 keeps-drop memo kept ns zero h = h
 keeps-drop memo kept [] (suc i) h = h
 keeps-drop memo kept (n ∷ ns) (suc i) h = keeps-drop memo kept ns i h.1

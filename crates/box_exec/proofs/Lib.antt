@@ -27,3 +27,5 @@ mod Orders
 mod Reordered
 mod Quantified
 mod Units
+mod Asking
+mod Seeking

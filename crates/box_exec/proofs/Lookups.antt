@@ -1,6 +1,7 @@
 -- Rows found by hashes: those that are passed over give nothing.
-use Rattle.std.proofs.Common.{ℕ, suc, zero, ◌≡◌, ◌<◌, ◌≤◌, ◌+◌, ◌-◌, ◌++◌, ◌∷◌, ◌||◌, not, cond, Bool, true, false, List, [], Option, Some, None, get_or, length, map, option_map, take, refl, sym, ap, ap₂, subst, ◌∙◌, inl, inr, arith}
+use Rattle.std.proofs.Common.{ℕ, suc, zero, ◌≡◌, ◌<◌, ◌≤◌, ◌+◌, ◌-◌, ◌++◌, ◌∷◌, ◌||◌, ◌&&◌, not, cond, Bool, true, false, List, [], Option, Some, None, get_or, length, map, option_map, take, refl, sym, ap, ap₂, subst, ◌∙◌, inl, inr, arith}
 use Rattle.std.specs.Borrow.{Bor}
+use Rattle.std.specs.List.{list_all}
 use Rattle.std.specs.Ordering.{is_eq}
 use Rattle.std.specs.Prelude.{IfSome}
 use Rattle.std.proofs.lemmas.Bool.{and_parts, cases_Bool, cases_lt, eqb-false, or_left, or_right}
@@ -55,6 +56,9 @@ nowhere-plain Texts y h = absurd (let z : ⊥ = cc in z)
 unequal-apart : (b c : Bool) → c ≡ false → (b || not c) ≡ true
 unequal-apart b c e = or_right b (not c) (ap not e)
 
+abbrev are-equal : ℕ → List Key → List Cell → Environment → Bool
+are-equal q keys cells env = list_all (λ k. is_eq (cell_compare (own_of q (shown.term k.own.now) cells) (other_of (shown.term k.other.now) env))) keys
+
 -- of keys whose cells aren't all equal, one has cells that are apart
 differs : (q : ℕ) (keys : List Key) (cells : List Cell) (env : Environment) → all_plain q keys cells ≡ true → others_plain keys env ≡ true → (owns q keys cells ≡ others keys env → ⊥)
     → (key : Key)
@@ -76,9 +80,23 @@ differs q (key ∷ keys) cells env h k n =
       | inr f ↦ (key, (inl refl, own.0, other.0, unequal-apart (is_nowhere key.by y) (is_eq (cell_compare x y)) f))
     ]
 
+-- of plain cells that aren't all equal, one key rejects
+pub differ-rejects : (test : Environment → Bool) (q : ℕ) (keys : List Key) (cells : List Cell) (env : Environment) → ((k : Key) → In k keys → RejectsBy test q k) → all_plain q keys cells ≡ true → others_plain keys env ≡ true
+    → list_all (λ k. is_eq (cell_compare (own_of q (shown.term k.own.now) cells) (other_of (shown.term k.other.now) env))) keys ≡ false → test (bound q cells env) ≡ true
+differ-rejects test q [] cells env rejects h k n = absurd (let z : ⊥ = cc in z)
+differ-rejects test q (key ∷ keys) cells env rejects h k n =
+    let x = own_of q (shown.term key.own.now) cells in
+    let y = other_of (shown.term key.other.now) env in
+    let own = and_parts (is_plain key.by x) (all_plain q keys cells) h in
+    let other = and_parts (is_plain key.by y) (others_plain keys env) k in
+    elim (cases_Bool (is_eq (cell_compare x y))) [
+      | inl t ↦ differ-rejects test q keys cells env (λ d i. rejects d (inr i)) own.1 other.1 (sym (ap (λ (b : Bool). b && are-equal q keys cells env) t) ∙ n)
+      | inr f ↦ rejects key (inl refl) cells env own.0 other.0 (unequal-apart (is_nowhere key.by y) (is_eq (cell_compare x y)) f)
+    ]
+
 -- ---- rows that an index knows
 
-row-at : (f : Row (List Cell) → Option ℕ) (rows : Bag) (k : ℕ) (r : Row (List Cell)) → k < length rows → r ≡ get_or rows k r → f r ≡ get_or (map f rows) k (f r)
+pub row-at : (f : Row (List Cell) → Option ℕ) (rows : Bag) (k : ℕ) (r : Row (List Cell)) → k < length rows → r ≡ get_or rows k r → f r ≡ get_or (map f rows) k (f r)
 row-at f [] k r l e = absurd (omega (arith, l))
 row-at f (x ∷ rows) zero r l e = ap f e
 row-at f (x ∷ rows) (suc k) r l e = row-at f rows k r (omega (arith, l)) e
@@ -88,7 +106,7 @@ unmarked : (q : ℕ) (keys : List Key) (ix : RowIndex) (k : ℕ) (cells : List C
     → (all_plain q keys cells ≡ true) × (get_or ix.hashes k 0 ≡ hash_of (owns q keys cells))
 unmarked q keys ix k cells stands free =
     elim (all_plain q keys cells) as (λ b. StandsAs ix k (cond b (Some (hash_of (owns q keys cells))) None) → (b ≡ true) × (get_or ix.hashes k 0 ≡ hash_of (owns q keys cells))) [
-      | true ↦ λ h. (refl, h)
+      | true ↦ λ h. (refl, h.0)
       | false ↦ λ h. absurd (let z : ⊥ = cc in z)
     ] stands
 
@@ -209,3 +227,6 @@ module _ (test : Environment → Bool) (q : ℕ) (rows : Bag) (env : Environment
 pub some-is : {X : Type 0} (P : X → Type 0) (o : Option X) (x : X) → o ≡ Some x → IfSome o P → P x
 some-is P None x e p = absurd (let z : ⊥ = cc in z)
 some-is P (Some y) x e p = let is : y ≡ x = cc in subst P is p
+
+pub is-some : {X : Type 0} (P : X → Type 0) (o : Option X) (x : X) → o ≡ Some x → P x → IfSome o P
+is-some P o x e p = subst (λ y. IfSome y P) (sym e) p

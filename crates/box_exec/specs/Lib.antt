@@ -21,3 +21,6 @@ pub mod Beyond
 pub mod Kept
 pub mod Closed
 pub mod Settled
+pub mod Taken
+pub mod Asked
+pub mod Sought

@@ -1,6 +1,6 @@
 -- Rows of a quantifier, found by the hashes of the cells that equalities ask for.
 use Rattle.std.specs.Prelude.{ℕ, ◌≡◌, ◌<◌, Bool, true, false, All, List, get_or, if◌then◌else◌, length, map, Option, Some, None, ⊤}
-use Rattle.std.specs.List.{list_all}
+use Rattle.std.specs.List.{list_all, list_any}
 use Rattle.list_laws.specs.Lists.{In}
 use Rattle.qgm_meaning.specs.Values.{Environment, bound}
 use Rattle.qgm_terms.specs.Shown.{term}
@@ -45,11 +45,20 @@ Hashes test q rows h = All (λ k. RejectsBy test q k) h.keys.items × Indexes (r
 abbrev pub others_plain : List Key → Environment → Bool
 others_plain keys env = list_all (λ k. is_plain k.by (other_of (term k.other.now) env)) keys
 
+abbrev pub any_nowhere : List Key → Environment → Bool
+any_nowhere keys env = list_any (λ k. is_nowhere k.by (other_of (term k.other.now) env)) keys
+
 -- what the other sides of keys come to: a hash where all are plain, anything, or one of which an equality is nowhere true
 abbrev pub Aims : List Key → Environment → Aim → Type 0
 Aims keys env (Hash h) = (others_plain keys env ≡ true) × (h ≡ hash_of (others keys env))
 Aims keys env Anywhere = ⊤
 Aims keys env Nowhere = (key : Key) × (In key keys × (is_nowhere key.by (other_of (term key.other.now) env) ≡ true))
+
+-- anything where one isn't plain; neither a hash nor anything where an equality is nowhere true
+abbrev pub AimsOnly : List Key → Environment → Aim → Type 0
+AimsOnly keys env (Hash h) = any_nowhere keys env ≡ false
+AimsOnly keys env Anywhere = (others_plain keys env ≡ false) × (any_nowhere keys env ≡ false)
+AimsOnly keys env Nowhere = ⊤
 
 -- a row at this place is rejected
 abbrev pub Skipped : (Environment → Bool) → ℕ → List (Row (List Cell)) → Environment → ℕ → Type 0

@@ -1,5 +1,6 @@
 -- A box that is evaluated, and what its quantifiers give.
-use Rattle.std.specs.Prelude.{ℕ, ◌≡◌, All, Bool, List, Some, drop, map}
+use Rattle.std.specs.Prelude.{ℕ, ◌≡◌, ◌||◌, not, All, Bool, List, Some, drop, map, take}
+use Rattle.std.specs.List.{list_any}
 use Rattle.qgm_meaning.specs.Plain.{Counts, counted_by, under_rows}
 use Rattle.box_exec.specs.Costs.{Keeps, asked}
 use Rattle.list_laws.specs.Lists.{first}
@@ -11,6 +12,8 @@ use Rattle.row_bag.specs.declared.tables.Table.{Table}
 use Rattle.box_exec.specs.Indexed.{AllIdle}
 use Rattle.box_exec.specs.Lasting.{AllPlanned, IsOrder, IsPlan, RightIndexed, rows_kept, rows_stored}
 use Rattle.box_exec.specs.Ready.{Fit, Ready, Stands, over_left}
+use Rattle.box_exec.specs.Sought.{AllSought}
+use Rattle.box_exec.specs.Taken.{binds_several, ways}
 use Rattle.box_exec.specs.declared.boxes.At.{At}
 use Rattle.box_exec.specs.declared.under.Loop.{Loop}
 
@@ -75,3 +78,17 @@ cost_at at kept env = counted_by at.node.now.parts.kind at.node.now (family at) 
 -- for each combination of rows of its quantifiers from a place on
 abbrev pub cost_left : At → (ℕ → Bool) → ℕ → Environment → ℕ
 cost_left at kept k env = under_rows (drop k at.node.now.quants) at.node.now.quants (family at) (asked_at at kept) env
+
+-- ---- rows that are taken
+
+-- rows are looked up again and again from a place on
+abbrev pub asked_again : At → (ℕ → Bool) → ℕ → Bool
+asked_again at closed k = not (closed at.node.now.id) || list_any (binds_several closed (family at)) (take k (ranges at.loops.now))
+
+-- the ways to choose rows for its quantifiers from a place on
+abbrev pub ways_left : At → (ℕ → Bool) → ℕ → Environment → ℕ
+ways_left at closed k env = ways closed at.node.now (asked_again at closed k) (drop k (ranges at.loops.now)) (family at) env
+
+-- the indexes that are asked for in this order are there
+abbrev pub SoughtAt : At → (ℕ → Bool) → Type 0
+SoughtAt at closed = AllSought closed at.node.now (not (closed at.node.now.id)) (ranges at.loops.now) (family at) at.hashed.now

@@ -20,7 +20,7 @@ use crate::bindings::Bindings;
 use crate::combining::combined;
 use crate::early::{Early, is_open, rejected};
 use crate::grouping::grouped;
-use crate::hashed::{all_kept, kept_selected, sub_rows, way_under};
+use crate::hashed::{all_kept, is_taken, kept_selected, sub_rows, way_under};
 use crate::heads::{add_given, once_added};
 use crate::idle_index::IdleIndex;
 use crate::joining::{Join, outer_joined};
@@ -236,10 +236,13 @@ fn each<'x, L: Ledger>(
     let mut i = c.place();
     while i < way.end {
         let row = &rows[i];
-        let level = least(level, row.level);
-        take(level, &mut tally.taken);
-        let inside = Bindings::Row(l.range.id, row.cells.as_slice(), &*env);
-        each(at, k + 1, level, &inside, out, steps, tally)?;
+        let cells = row.cells.as_slice();
+        if is_taken(at, k, l, &way, cells, env)? {
+            let level = least(level, row.level);
+            take(level, &mut tally.taken);
+            let inside = Bindings::Row(l.range.id, cells, &*env);
+            each(at, k + 1, level, &inside, out, steps, tally)?;
+        }
         c = next_of(&way, c);
         i = c.place();
     }

@@ -1,32 +1,43 @@
 // The rows of two boxes put together (SQL-92, 7.10).
-ghost use Rattle.std.specs.Prelude.{IfOk, IsOkAnd};
+ghost use Rattle.std.specs.Prelude.{◌≡◌, IfOk, IsOkAnd};
 ghost use Rattle.qgm_meaning.specs.Meaning as m;
 ghost use Rattle.box_exec.specs.Sources.{held};
 ghost use Rattle.row_bag.specs.Bags.{Alike};
+ghost use Rattle.row_bag.specs.Operands as rows;
 
-use crate::source::{Source, bag_of};
+use crate::source::Source;
 use qgm_core::SetOperator;
-use row_bag::{Bag, except, intersect, union};
+use row_bag::{Bag, Operand, except, intersect, union};
 use shared_types::OutOfMemory;
 use std::alloc::Global;
 
+// The rows, where they stand.
+fn operand(source: Source<'_>) -> Operand<'_>
+    ensures { rows.held result ≡ held source.entry }
+{
+    match source {
+        Source::Borrowed(rows) => Operand::Borrowed(rows),
+        Source::Made(bag) => Operand::Made(bag),
+    }
+}
+
 // The rows of both, as the operator puts them together, of so many columns.
-fn of_bags(
+fn of_sources(
     alloc: Global,
     operator: SetOperator,
     width: usize,
-    xs: Bag,
-    ys: Bag,
+    xs: Source<'_>,
+    ys: Source<'_>,
 ) -> Result<Bag, OutOfMemory>
-    ensures { IfOk result (λ bag. Alike bag (m.combined operator width xs ys)) }
+    ensures { IfOk result (λ bag. Alike bag (m.combined operator width (held xs.entry) (held ys.entry))) }
 {
     match operator {
-        SetOperator::UnionAll => union(xs, ys, true),
-        SetOperator::Union => union(xs, ys, false),
-        SetOperator::IntersectAll => intersect(alloc, xs, ys, true, width),
-        SetOperator::Intersect => intersect(alloc, xs, ys, false, width),
-        SetOperator::ExceptAll => except(alloc, xs, ys, true, width),
-        SetOperator::Except => except(alloc, xs, ys, false, width),
+        SetOperator::UnionAll => union(alloc, operand(xs), operand(ys), true),
+        SetOperator::Union => union(alloc, operand(xs), operand(ys), false),
+        SetOperator::IntersectAll => intersect(alloc, xs.rows(), ys.rows(), true, width),
+        SetOperator::Intersect => intersect(alloc, xs.rows(), ys.rows(), false, width),
+        SetOperator::ExceptAll => except(alloc, xs.rows(), ys.rows(), true, width),
+        SetOperator::Except => except(alloc, xs.rows(), ys.rows(), false, width),
     }
 }
 
@@ -41,7 +52,5 @@ pub(crate) fn combined(
 ) -> Result<Bag, OutOfMemory>
     ensures { IfOk result (λ bag. IsOkAnd xs.entry (λ s. IsOkAnd ys.entry (λ t. Alike bag (m.combined operator width (held s) (held t))))) }
 {
-    let xs = bag_of(alloc, xs);
-    let ys = bag_of(alloc, ys)?;
-    of_bags(alloc, operator, width, xs?, ys)
+    of_sources(alloc, operator, width, xs?, ys?)
 }

@@ -1,7 +1,9 @@
 // Conditions that are tested as soon as what they read is bound.
 ghost use Rattle.std.specs.Prelude.{◌≡◌, All, IfOk, drop, false};
+ghost use Rattle.box_exec.specs.Asked.{AreEarly, place_in};
 ghost use Rattle.box_exec.specs.Bound.{env_of};
 ghost use Rattle.box_exec.specs.Early.{IsEarly, is_none, is_open, names_any, reads_any, rejects};
+ghost use Rattle.qgm_core.specs.declared.kinds.BoxKind.TheVariants as kind;
 ghost use Rattle.qgm_terms.specs.Shown.{cond};
 
 use crate::bindings::Bindings;
@@ -42,7 +44,8 @@ fn names_any(c: &Gc, ranges: &[OwnedQuant]) -> bool
 
 // The first place from which on a condition reads no quantifier.
 fn place_from(c: &Gc, ranges: &[OwnedQuant]) -> usize
-    ensures { reads_any (cond c.now) (drop result ranges.now) ≡ false }
+    ensures unread { reads_any (cond c.now) (drop result ranges.now) ≡ false }
+    ensures exact { result ≡ place_in (cond c.now) ranges.now }
 {
     let mut place = ranges.len();
     while place > 0 {
@@ -62,7 +65,8 @@ pub(crate) fn early_conds<'a>(
     node: &'a Node,
     ranges: &[OwnedQuant],
 ) -> Result<Vec<Early<'a>>, OutOfMemory>
-    ensures { IfOk result (λ made. All (λ e. IsEarly node.now ranges.now e) made.items) }
+    ensures early { IfOk result (λ made. All (λ e. IsEarly node.now ranges.now e) made.items) }
+    ensures exact { node.now.parts.kind ≡ kind.Select → IfOk result (λ made. AreEarly node.now ranges.now made.items) }
 {
     let mut made = Vec::new(alloc);
     if !node.parts.kind.is_select() {

@@ -1,6 +1,8 @@
 // Rows of selects over kept boxes, looked up by the hashes of the cells that equalities ask for.
-ghost use Rattle.std.specs.Prelude.{◌≡◌, ◌<◌, ◌+◌, ◌++◌, IfOk, IfSome, OnOk, Some, false, get_or, length, filter, slice_get, true};
+ghost use Rattle.std.specs.Prelude.{◌≡◌, ◌<◌, ◌+◌, ◌++◌, ℕ, Bool, List, IfOk, IfSome, OnOk, Some, false, get_or, length, filter, option_map, slice_get, true};
+ghost use Rattle.box_exec.specs.Asked.{keys_at, made_at};
 ghost use Rattle.box_exec.specs.Bound.{env_of};
+ghost use Rattle.box_exec.specs.Costs.{Between, at_level};
 ghost use Rattle.box_exec.specs.Early.{is_open, rejects};
 ghost use Rattle.box_exec.specs.Hashed as spec;
 ghost use Rattle.box_exec.specs.Lasting.{IsOrder};
@@ -8,11 +10,16 @@ ghost use Rattle.box_exec.specs.Lookup as lookup;
 ghost use Rattle.box_exec.specs.Plans as plan;
 ghost use Rattle.box_exec.specs.Ready.{Fit, SubsOf, isnt_F};
 ghost use Rattle.box_exec.specs.Sources.{rows_held};
+ghost use Rattle.box_exec.specs.Sought.{PicksAt};
+ghost use Rattle.box_exec.specs.Taken.{takes};
 ghost use Rattle.qgm_core.specs.Kinds.{is_enforce};
 ghost use Rattle.qgm_core.specs.declared.kinds.BoxKind.TheVariants as kind;
 ghost use Rattle.qgm_meaning.specs.Meaning as m;
-ghost use Rattle.qgm_meaning.specs.Values.{Environment};
+ghost use Rattle.qgm_meaning.specs.Values.{Bag, Environment, bound};
 ghost use Rattle.row_bag.specs.Bags.{Alike, keep};
+ghost use Rattle.row_bag.specs.declared.row.Row.{Row};
+ghost use Rattle.row_index.specs.Ways.{sees};
+ghost use Rattle.sql_value.specs.declared.cell.Cell.{Cell};
 
 use crate::bindings::Bindings;
 use crate::boxes::At;
@@ -20,7 +27,7 @@ use crate::early::{is_none, is_open, rejected};
 use crate::heads::{add_given, once_added};
 use crate::idle_index::IdleIndex;
 use crate::indexed_rows::IndexedRows;
-use crate::lookup::{Hashed, all_rows, way_through};
+use crate::lookup::{Hashed, all_rows, is_found, way_through};
 use crate::order::Order;
 use crate::source::{Source, Sub, SubRows};
 use crate::tally::take;
@@ -28,7 +35,7 @@ use crate::under::{Loop, kept_rows, loops};
 use row_bag::{Bag, Row};
 use row_index::{Way, first_of, next_of};
 use shared_types::OutOfMemory;
-use sql_value::{Level, least};
+use sql_value::{Cell, Level, least};
 
 /// A select whose quantifiers all stand on kept rows, and the rows of those that bind none.
 #[derive(Clone, Copy)]
@@ -39,7 +46,8 @@ pub(crate) struct Whole<'a> {
 
 // The index of the quantifier at a place, if there is one.
 fn hashed_at<'a>(hashed: &'a [Option<Hashed<'a>>], i: usize) -> Option<&'a Hashed<'a>>
-    ensures { IfSome result (λ h. slice_get hashed.now i ≡ Some (Some h.now)) }
+    ensures there { IfSome result (λ h. slice_get hashed.now i ≡ Some (Some h.now)) }
+    ensures same { option_map (λ h. h.now) result ≡ made_at (slice_get hashed.now i) }
 {
     match hashed.get(i) {
         Some(Some(h)) => Some(h),
@@ -52,7 +60,8 @@ fn way_of<'a>(at: &At<'a>, i: usize, l: &Loop<'_>, env: &Bindings) -> Result<Way
     requires bound { plan.Bound at.now }
     requires within { i < length at.now.loops.now }
     requires at { l.now ≡ get_or at.now.loops.now i l.now }
-    ensures { IfOk result (λ way. spec.LeadsAt at.now i l.now (env_of env.now) way) }
+    ensures leads { IfOk result (λ way. spec.LeadsAt at.now i l.now (env_of env.now) way) }
+    ensures picks { IfOk result (λ way. PicksAt at.now.hashed.now i l.now.range.id (spec.rows_kept l.now.under) (env_of env.now) way) }
 {
     let end = kept_rows(l).len();
     way_through(at.run.alloc, hashed_at(at.hashed, i), end, env)
@@ -71,12 +80,35 @@ pub(crate) fn way_under<'a>(
     requires within { i < length at.now.loops.now }
     requires at { l.now ≡ get_or at.now.loops.now i l.now }
     requires kept { is_open l.now.under ≡ false → rows.now ≡ spec.rows_kept l.now.under }
-    ensures { IfOk result (λ way. lookup.Leads (rejects at.now.early.now (i + 1)) l.now.range.id rows.now (env_of env.now) way) }
+    ensures leads { IfOk result (λ way. lookup.Leads (rejects at.now.early.now (i + 1)) l.now.range.id rows.now (env_of env.now) way) }
+    ensures picks { is_open l.now.under ≡ false → IfOk result (λ way. PicksAt at.now.hashed.now i l.now.range.id rows.now (env_of env.now) way) }
 {
     if is_open(l.under) {
         return Ok(all_rows(rows.len()));
     }
     way_of(at, i, l, env)
+}
+
+/// Whether a row on the way through the rows of the quantifier at a place is taken. It fails only for want of
+/// memory.
+pub(crate) fn is_taken(
+    at: &At<'_>,
+    i: usize,
+    l: &Loop<'_>,
+    way: &Way<'_>,
+    cells: &[Cell],
+    env: &Bindings,
+) -> Result<bool, OutOfMemory>
+    requires bound { plan.Bound at.now }
+    requires within { i < length at.now.loops.now }
+    requires at { l.now ≡ get_or at.now.loops.now i l.now }
+    ensures passed { IfOk result (λ b. b ≡ false → rejects at.now.early.now (i + 1) (bound l.now.range.id cells.now (env_of env.now)) ≡ true) }
+    ensures taken { (rows : Bag) (k : ℕ) (r : Row (List Cell)) → PicksAt at.now.hashed.now i l.now.range.id rows (env_of env.now) way.now → k < length rows → r ≡ get_or rows k r → r.cells ≡ cells.now → sees way.now k ≡ true → IfOk result (λ b. b ≡ true → takes (keys_at (slice_get at.now.hashed.now i)) l.now.range.id (env_of env.now) cells.now ≡ true) }
+{
+    match hashed_at(at.hashed, i) {
+        Some(h) => is_found(at.run.alloc, h, way, l.range.id, cells, env),
+        None => Ok(true),
+    }
 }
 
 // Adds what a select gives for each combination of rows of its F quantifiers from a place on, each
@@ -90,7 +122,8 @@ fn over_kept<'x>(
     taken: &mut u64,
 ) -> Result<(), OutOfMemory>
     requires { spec.KeptPlan whole.now }
-    ensures { OnOk result (Alike out.new (out.old ++ keep level (plan.left_at whole.now.at.now place (env_of env.now)))) }
+    ensures rows { OnOk result (Alike out.new (out.old ++ keep level (plan.left_at whole.now.at.now place (env_of env.now)))) }
+    ensures took { (closed : ℕ → Bool) → plan.SoughtAt whole.now.at.now closed → OnOk result (Between 0 (at_level level (plan.ways_left whole.now.at.now closed place (env_of env.now))) taken.old taken.new) }
 {
     let at = whole.at;
     if is_none(level) {
@@ -111,10 +144,13 @@ fn over_kept<'x>(
     let mut i = c.place();
     while i < way.end {
         let row = &rows[i];
-        let level = least(level, row.level);
-        take(level, taken);
-        let inside = Bindings::Row(l.range.id, row.cells.as_slice(), &*env);
-        over_kept(whole, place + 1, level, &inside, out, taken)?;
+        let cells = row.cells.as_slice();
+        if is_taken(at, place, l, &way, cells, env)? {
+            let level = least(level, row.level);
+            take(level, taken);
+            let inside = Bindings::Row(l.range.id, cells, &*env);
+            over_kept(whole, place + 1, level, &inside, out, taken)?;
+        }
         c = next_of(&way, c);
         i = c.place();
     }

@@ -1,9 +1,12 @@
 // Equalities by which rows of a quantifier are found.
-ghost use Rattle.std.specs.Prelude.{◌≡◌, ◌==◌, IfOk, IfSome, true};
+ghost use Rattle.std.specs.Prelude.{◌≡◌, ◌==◌, ◌++◌, ℕ, IfOk, IfSome, true};
 ghost use Rattle.std.specs.List.{list_all};
+ghost use Rattle.box_exec.specs.Asked.{either_way, shown_if};
 ghost use Rattle.box_exec.specs.Equalities as spec;
+ghost use Rattle.box_exec.specs.Taken as taken;
 ghost use Rattle.qgm_meaning.specs.Values.{compared};
 ghost use Rattle.qgm_terms.specs.Shown.{cond, sign, term};
+ghost use Rattle.qgm_terms.specs.Terms.{Term, compare};
 ghost use Rattle.sql_value.specs.declared.cell.Cell.{Cell};
 
 use qgm_core::{Gc, Gx, QuantId};
@@ -63,7 +66,8 @@ fn are_of(columns: &[Column], q: QuantId) -> bool
 
 // Whether an expression names no E, A or S quantifier, and reads a quantifier and no other.
 fn is_own(alloc: Global, x: &Gx, q: QuantId) -> Result<bool, OutOfMemory>
-    ensures { IfOk result (λ b. b ≡ true → spec.IsOwn q (term x.now)) }
+    ensures own { IfOk result (λ b. b ≡ true → spec.IsOwn q (term x.now)) }
+    ensures exact { IfOk result (λ b. b ≡ taken.is_own q (term x.now)) }
 {
     if !is_node_free(x) || !stands_in(x, Sought::Row(q)) {
         return Ok(false);
@@ -75,7 +79,8 @@ fn is_own(alloc: Global, x: &Gx, q: QuantId) -> Result<bool, OutOfMemory>
 
 // Whether an expression names no E, A or S quantifier, and doesn't read a quantifier.
 fn is_other(x: &Gx, q: QuantId) -> bool
-    ensures { result ≡ true → spec.IsOther q (term x.now) }
+    ensures other { result ≡ true → spec.IsOther q (term x.now) }
+    ensures exact { result ≡ taken.is_other q (term x.now) }
 {
     is_node_free(x) && !stands_in(x, Sought::Row(q))
 }
@@ -88,7 +93,8 @@ fn key_of<'a>(
     q: QuantId,
     by: Equality,
 ) -> Result<Option<Key<'a>>, OutOfMemory>
-    ensures { IfOk result (λ o. IfSome o (λ k. (k.by ≡ by) × spec.AreSides q (term own.now) (term other.now) k)) }
+    ensures sides { IfOk result (λ o. IfSome o (λ k. (k.by ≡ by) × spec.AreSides q (term own.now) (term other.now) k)) }
+    ensures exact { IfOk result (λ o. shown_if o ≡ taken.one_way q by (term own.now) (term other.now)) }
 {
     if is_other(other, q) && is_own(alloc, own, q)? {
         return Ok(Some(Key { own, other, by }));
@@ -105,7 +111,8 @@ pub(crate) fn sided<'a>(
     q: QuantId,
     by: Equality,
 ) -> Result<Option<Key<'a>>, OutOfMemory>
-    ensures { IfOk result (λ o. IfSome o (λ k. (k.by ≡ by) × spec.AreEither q (term a.now) (term b.now) k)) }
+    ensures sides { IfOk result (λ o. IfSome o (λ k. (k.by ≡ by) × spec.AreEither q (term a.now) (term b.now) k)) }
+    ensures exact { IfOk result (λ o. shown_if o ≡ taken.one_way q by (term a.now) (term b.now) ++ taken.one_way q by (term b.now) (term a.now)) }
 {
     match key_of(alloc, a, b, q, by)? {
         Some(key) => Ok(Some(key)),
@@ -115,12 +122,30 @@ pub(crate) fn sided<'a>(
 
 // The equality of a comparison, if it is one.
 fn equating(s: Sign) -> Option<Equality>
-    ensures { IfSome result (λ by. (x y : Cell) → compared (sign s) x y ≡ spec.equated by x y) }
+    ensures equated { IfSome result (λ by. (x y : Cell) → compared (sign s) x y ≡ spec.equated by x y) }
+    ensures exact { (q : ℕ) (a b : Term) → taken.matched_by q (sign s) a b ≡ either_way q result a b }
 {
     match s {
         Sign::Eq => Some(Equality::Equal),
         Sign::Same => Some(Equality::Same),
         Sign::Ne | Sign::Lt | Sign::Le | Sign::Gt | Sign::Ge | Sign::Like => None,
+    }
+}
+
+// What a comparison asks of a row of a quantifier, if it is an equality of a key.
+fn compared_key<'a>(
+    alloc: Global,
+    s: Sign,
+    a: &'a Gx,
+    b: &'a Gx,
+    q: QuantId,
+) -> Result<Option<Key<'a>>, OutOfMemory>
+    ensures key { IfOk result (λ o. IfSome o (λ k. spec.IsKey q (compare (sign s) (term a.now) (term b.now)) k)) }
+    ensures exact { IfOk result (λ o. shown_if o ≡ taken.matched_by q (sign s) (term a.now) (term b.now)) }
+{
+    match equating(s) {
+        Some(by) => sided(alloc, a, b, q, by),
+        None => Ok(None),
     }
 }
 
@@ -131,13 +156,25 @@ pub(crate) fn key_in<'a>(
     c: &'a Gc,
     q: QuantId,
 ) -> Result<Option<Key<'a>>, OutOfMemory>
-    ensures { IfOk result (λ o. IfSome o (λ k. spec.IsKey q (cond c.now) k)) }
+    ensures key { IfOk result (λ o. IfSome o (λ k. spec.IsKey q (cond c.now) k)) }
+    ensures exact { IfOk result (λ o. shown_if o ≡ taken.matched q (cond c.now)) }
 {
-    let Gc::Compare(s, a, b) = c else {
-        return Ok(None);
-    };
-    let Some(by) = equating(*s) else {
-        return Ok(None);
-    };
-    sided(alloc, a, b, q, by)
+    match c {
+        Gc::Compare(s, a, b) => compared_key(alloc, *s, a, b, q),
+        Gc::All(a, list) => {
+            if list.is_empty() {
+                key_in(alloc, a, q)
+            } else {
+                Ok(None)
+            }
+        }
+        Gc::Any(a, list) => {
+            if list.is_empty() {
+                key_in(alloc, a, q)
+            } else {
+                Ok(None)
+            }
+        }
+        Gc::True | Gc::IsNull(_) | Gc::Not(_) | Gc::Some(_, _) | Gc::Every(_, _) => Ok(None),
+    }
 }

@@ -1,10 +1,11 @@
 // What is made once of a box: the conditions that are tested early, and the indexes of rows that are kept.
-ghost use Rattle.std.specs.Prelude.{◌≡◌, ◌∷◌, [], All, IfOk, IfSome, map};
+ghost use Rattle.std.specs.Prelude.{◌≡◌, ◌∷◌, [], All, IfOk, IfSome, map, true};
+ghost use Rattle.box_exec.specs.Asked as asked;
 ghost use Rattle.box_exec.specs.Early.{rejects};
 ghost use Rattle.box_exec.specs.Hashed as hashed;
 ghost use Rattle.box_exec.specs.Indexed.{IsIdleIndex};
 ghost use Rattle.box_exec.specs.Lasting as spec;
-ghost use Rattle.box_exec.specs.Lookup.{RejectsBy};
+ghost use Rattle.box_exec.specs.Lookup.{Hashes, RejectsBy};
 ghost use Rattle.box_exec.specs.Ready.{Ready};
 
 use crate::early::{Early, early_conds, is_open};
@@ -39,7 +40,8 @@ fn keys_of<'a>(
     place: usize,
     q: QuantId,
 ) -> Result<Vec<Key<'a>>, OutOfMemory>
-    ensures { IfOk result (λ made. All (λ k. RejectsBy (rejects early.now place) q k) made.items) }
+    ensures rejects { IfOk result (λ made. All (λ k. RejectsBy (rejects early.now place) q k) made.items) }
+    ensures exact { IfOk result (λ made. asked.shown_keys made.items ≡ asked.tested_at early.now place q) }
 {
     let mut made = Vec::new(alloc);
     for e in early {
@@ -52,25 +54,28 @@ fn keys_of<'a>(
     Ok(made)
 }
 
-// The index of the rows of the quantifier at a place, if it is asked for.
+// The index of the rows of the quantifier before a place, if it is asked for.
 fn hashed_if<'a>(
     wanted: bool,
     alloc: Global,
     early: &[Early<'a>],
-    i: usize,
+    place: usize,
     l: &Loop<'_>,
 ) -> Result<Option<Hashed<'a>>, OutOfMemory>
-    ensures { IfOk result (λ o. IfSome o (λ h. spec.HashesAt early.now i l.now h)) }
+    ensures hashes { IfOk result (λ o. IfSome o (λ h. Hashes (rejects early.now place) l.now.range.id (spec.rows_kept l.now.under) h)) }
+    ensures made { wanted ≡ true → IfOk result (λ o. asked.keys_made o ≡ asked.tested_at early.now place l.now.range.id) }
 {
-    if !wanted || i == usize::MAX {
+    if !wanted {
         return Ok(None);
     }
-    let keys = keys_of(alloc, early, i + 1, l.range.id)?;
+    let keys = keys_of(alloc, early, place, l.range.id)?;
     hashed_by(alloc, keys, l.range.id, kept_rows(l))
 }
 
 // Whether a quantifier may bind several rows.
-fn may_bind_several(l: &Loop<'_>) -> bool {
+fn may_bind_several(l: &Loop<'_>) -> bool
+    ensures { result ≡ asked.may_bind_several l.now }
+{
     l.range.kind.is_f() && (is_open(l.under) || kept_rows(l).len() > 1)
 }
 
@@ -83,7 +88,8 @@ fn all_hashed<'a>(
     indexed: bool,
     again: bool,
 ) -> Result<Vec<Option<Hashed<'a>>>, OutOfMemory>
-    ensures { IfOk result (λ made. spec.AllHashed early.now loops.now made.items) }
+    ensures hashed { IfOk result (λ made. spec.AllHashed early.now loops.now made.items) }
+    ensures asked { indexed ≡ true → IfOk result (λ made. asked.AllAsked again early.now loops.now made.items) }
 {
     if !indexed {
         return Ok(Vec::new(alloc));
@@ -93,7 +99,7 @@ fn all_hashed<'a>(
     for i in 0..loops.len() {
         let l = &loops[i];
         let wanted = several && l.range.kind.is_f();
-        let hashed = hashed_if(wanted, alloc, early, i, l)?;
+        let hashed = hashed_if(wanted, alloc, early, i + 1, l)?;
         made.push(hashed)?;
         several = several || may_bind_several(l);
     }

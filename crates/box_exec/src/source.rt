@@ -50,16 +50,6 @@ pub(crate) fn made<'a>(rows: Result<Bag, OutOfMemory>) -> Result<Source<'a>, Out
     Ok(Source::Made(rows?))
 }
 
-/// Rows as a bag of their own. It fails where these do, or for want of memory.
-pub(crate) fn bag_of(
-    alloc: Global,
-    rows: Result<Source<'_>, OutOfMemory>,
-) -> Result<Bag, OutOfMemory>
-    ensures { IfOk result (λ bag. IsOkAnd rows.entry (λ s. bag ≡ held s)) }
-{
-    rows?.into_bag(alloc)
-}
-
 /// Rows of an E, A or S quantifier, some of which have an index.
 #[derive(Drop)]
 pub enum SubRows<'a> {

@@ -1,6 +1,6 @@
 // What an execution counts beside its rows.
 ghost use Rattle.std.specs.Prelude.{◌≡◌, ◌+◌, min};
-ghost use Rattle.box_exec.specs.Costs.{at_level};
+ghost use Rattle.box_exec.specs.Costs.{Between, at_level};
 
 use sql_value::Level;
 
@@ -14,7 +14,8 @@ pub(crate) struct Tally {
 
 /// One row more is taken, if it is there.
 pub(crate) fn take(level: Level, taken: &mut u64)
-    ensures { taken.new ≡ min (taken.old + at_level level 1) 18446744073709551615 }
+    ensures counted { taken.new ≡ min (taken.old + at_level level 1) 18446744073709551615 }
+    ensures took { Between 0 (at_level level 1) taken.old taken.new }
 {
     let before = *taken;
     match level {

@@ -3,6 +3,7 @@ ghost use Rattle.std.specs.Prelude.{◌≡◌, ◌+◌, ◌<◌, All, None, fals
 ghost use Rattle.box_exec.specs.Costs.{is_held};
 ghost use Rattle.box_exec.specs.Lasting.{rows_kept, rows_stored};
 ghost use Rattle.box_exec.specs.Ready.{Held, Ready, Stands};
+ghost use Rattle.box_exec.specs.Sought.{OpensAs};
 ghost use Rattle.qgm_core.specs.Boxes.{is_box};
 ghost use Rattle.qgm_meaning.specs.Meaning.{rows_or_none};
 ghost use Rattle.row_bag.specs.Tables.{bag_named};
@@ -91,6 +92,7 @@ fn find_under<'a>(run: &'a Run<'a>, below: &'a [Node], b: BoxId) -> Under<'a>
     requires { Ready run.now.tables.now run.now.memo.now below.now }
     ensures stands { Stands run.now.tables.now run.now.memo.now below.now b result }
     ensures kept { rows_kept result ≡ rows_stored run.now.memo.now below.now b }
+    ensures opens { OpensAs run.now.memo.now below.now b result }
 {
     let Some(i) = place_of(below, b) else {
         return Under::Nothing;
@@ -112,6 +114,7 @@ pub(crate) fn loops<'a>(
     ensures ranges { IfOk result (λ made. map (λ l. l.range) made.items ≡ ranges.now) }
     ensures stand { IfOk result (λ made. All (λ l. Stands run.now.tables.now run.now.memo.now below.now l.range.over l.under) made.items) }
     ensures kept { IfOk result (λ made. All (λ l. rows_kept l.under ≡ rows_stored run.now.memo.now below.now l.range.over) made.items) }
+    ensures opens { IfOk result (λ made. All (λ l. OpensAs run.now.memo.now below.now l.range.over l.under) made.items) }
 {
     let mut made = Vec::with_capacity(run.alloc, ranges.len())?;
     for range in ranges {

@@ -36,3 +36,4 @@ pub mod Lowering
 pub mod NeverNegative
 pub mod MeasureLaws
 pub mod SettledFacts
+pub mod FreeTables

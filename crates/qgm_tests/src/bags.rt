@@ -2,8 +2,8 @@
 use Level::{No, Yes};
 use Sample::{E, I, N, S};
 use row_bag::{
-    Bag, Row, Table, Tables, Verdict, distinct, except, groups_of, intersect, key_error, row_order,
-    sorted, union, verdict,
+    Bag, Operand, Row, Table, Tables, Verdict, distinct, except, groups_of, intersect, key_error,
+    row_order, sorted, union, verdict,
 };
 use shared_types::{OutOfMemory, Text};
 use sql_value::{Cell, Kind, Level, OrderKey};
@@ -191,7 +191,13 @@ fn each_tuple_once_at_its_greatest_level(rt: HostRuntime) -> Result<(), Fail> {
     let once: Rows = &[(&[N], Yes), (&[I(1)], Yes), (&[I(2)], Yes)];
     let both: Rows = &[(&[N], Yes), (&[I(1)], Yes), (&[I(2)], Yes), (&[I(4)], Yes)];
     assert!(rt; has(alloc, distinct(bag(alloc, LEFT)?)?, once)?);
-    let made = union(bag(alloc, LEFT)?, bag(alloc, RIGHT)?, false)?;
+    let right = bag(alloc, RIGHT)?;
+    let made = union(
+        alloc,
+        Operand::Made(bag(alloc, LEFT)?),
+        Operand::Borrowed(right.rows()),
+        false,
+    )?;
     assert!(rt; has(alloc, made, both)?);
     Ok(())
 }
@@ -202,10 +208,11 @@ fn each_tuple_as_often_as_it_is_to_stand(rt: HostRuntime) -> Result<(), Fail> {
     let common: Rows = &[(&[N], Yes), (&[I(1)], Yes)];
     let rest: Rows = &[(&[I(2)], Yes)];
     let rest_all: Rows = &[(&[N], Yes), (&[I(1)], Yes), (&[I(2)], Yes)];
+    let (a, b) = (bag(alloc, SOUND)?, bag(alloc, RIGHT)?);
     for (all, rest) in [(false, rest), (true, rest_all)] {
-        let made = intersect(alloc, bag(alloc, SOUND)?, bag(alloc, RIGHT)?, all, 1)?;
+        let made = intersect(alloc, a.rows(), b.rows(), all, 1)?;
         assert!(rt; has(alloc, made, common)?);
-        let made = except(alloc, bag(alloc, SOUND)?, bag(alloc, RIGHT)?, all, 1)?;
+        let made = except(alloc, a.rows(), b.rows(), all, 1)?;
         assert!(rt; has(alloc, made, rest)?);
     }
     Ok(())
@@ -217,7 +224,8 @@ fn an_error_stands_in_every_column(rt: HostRuntime) -> Result<(), Fail> {
     let a: Rows = &[(&[I(1), E(Kind::Cardinality)], Yes)];
     let b: Rows = &[(&[N, S("x")], Level::Division)];
     let one: Rows = &[(&[E(Kind::Division), E(Kind::Division)], Level::Division)];
-    let made = except(alloc, bag(alloc, a)?, bag(alloc, b)?, true, 2)?;
+    let (a, b) = (bag(alloc, a)?, bag(alloc, b)?);
+    let made = except(alloc, a.rows(), b.rows(), true, 2)?;
     assert!(rt; has(alloc, made, one)?);
     Ok(())
 }

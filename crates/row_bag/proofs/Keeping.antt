@@ -122,10 +122,22 @@ keep-more kept new from rest bag r first now so = record {
       ∙ so.levels c;
 }
 
+pub levels-end : (kept none bag : List (Row Tuple)) → none ≡ [] → SameLevels same_cells (kept ++ none) bag → SameLevels same_cells kept bag
+levels-end kept none bag is so = record { levels = λ c. ap (level_in same_cells c) (sym (append-nil kept) ∙ ap (λ t. kept ++ t) (sym is)) ∙ so.levels c }
+
+-- those of one operand, and then those of the other
+pub levels-both : (kept both xs ys : List (Row Tuple)) → SameLevels same_cells kept xs → SameLevels same_cells both (kept ++ ys) → SameLevels same_cells both (xs ++ ys)
+levels-both kept both xs ys one two = record {
+  levels = λ c.
+      two.levels c
+      ∙ level_in-append same_cells c kept ys
+      ∙ ap (λ l. greatest l (level_in same_cells c ys)) (one.levels c)
+      ∙ sym (level_in-append same_cells c xs ys);
+}
+
 -- what is kept at the end
-pub kept-whole : (kept none bag : List (Row Tuple)) → none ≡ [] → SameLevels same_cells (kept ++ none) bag → AreDifferent (tuples_of kept) → Agree same_cells (those_there kept) (distinct same_cells bag)
-kept-whole kept none bag is so once =
-    let levels : SameLevels same_cells kept bag = record { levels = λ c. ap (level_in same_cells c) (sym (append-nil kept) ∙ ap (λ t. kept ++ t) (sym is)) ∙ so.levels c } in
+pub kept-whole : (kept bag : List (Row Tuple)) → SameLevels same_cells kept bag → AreDifferent (tuples_of kept) → Agree same_cells (those_there kept) (distinct same_cells bag)
+kept-whole kept bag levels once =
     agree-from_alike same_cells
     (alike-trans (alike-sym (alike-there kept))
     (alike-trans (alike-sym (distinct-once same_cells same_cells-decides kept (λ c. let low = there-at_most c kept in let one = once c in omega (arith, low, one))))

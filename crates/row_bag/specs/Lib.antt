@@ -13,6 +13,7 @@ pub mod Joins
 pub mod Keys
 pub mod Laws
 pub mod Matched
+pub mod Operands
 pub mod Order
 pub mod Sets
 pub mod Sorted

@@ -37,3 +37,7 @@ HasCounted tuple left cells old new = (c : List Cell) → left_of tuple left c n
 -- one of a tuple is taken, where that is so, and all others are left
 abbrev pub HasTaken : {L : Type 0} → (L → List Cell) → (L → ℕ) → Bool → List Cell → List L → List L → Type 0
 HasTaken tuple left taken cells old new = (c : List Cell) → left_of tuple left c old ≡ (if taken && same_cells cells c then 1 else 0) + left_of tuple left c new
+
+-- a tuple stands among these where it stood before, or is the one that is added
+abbrev pub HasAdded : List Cell → List (List Cell) → List (List Cell) → Type 0
+HasAdded cells old new = (c : List Cell) → min 1 (often c new) ≡ min 1 (often c old + (if same_cells cells c then 1 else 0))

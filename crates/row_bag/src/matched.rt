@@ -1,71 +1,69 @@
 // The tuples of one bag that those of another match.
-ghost use Rattle.std.specs.Prelude.{◌≡◌, ◌+◌, ◌^◌, [], List, IfOk, OnOk, Some, if◌then◌else◌, false, map, slice_get, ◌<◌};
-ghost use Rattle.row_bag.specs.Bags.{count, same_level};
+ghost use Rattle.std.specs.Prelude.{◌≡◌, ◌+◌, ◌++◌, ◌∷◌, ◌^◌, [], List, IfOk, OnOk, Some, if◌then◌else◌, false, map, min, slice_get, ◌<◌};
+ghost use Rattle.row_bag.specs.Bags.{count, row, same_level};
 ghost use Rattle.row_bag.specs.Hashes.{AreDifferent, hash_of, hashes_of};
 ghost use Rattle.row_bag.specs.Matched as spec;
 ghost use Rattle.row_bag.specs.Sets.{multiplicity, same_cells};
-ghost use Rattle.row_bag.specs.Verdict.{those_there};
 ghost use Rattle.sql_value.specs.declared.cell.Cell.{Cell};
 ghost use Rattle.sql_value.specs.declared.level.Level.{Level};
 
-use crate::answer::those_there;
+use crate::answer::is_there;
 use crate::bag::Bag;
 use crate::row::Row;
-use crate::sets::distinct;
 use crate::tuple_index::{HasTuple, TupleIndex, hash_of};
+use crate::tuples::copied;
 use shared_types::OutOfMemory;
 use sql_value::{Cell, Level};
-use sqlite_items::Items;
 use std::alloc::Global;
 
-/// A tuple, and how many equal ones are left to be matched.
+/// A tuple that stands elsewhere, and how many equal ones are left to be matched.
 #[derive(Drop)]
-struct Left {
-    cells: Items<Cell>,
+struct Left<'a> {
+    cells: &'a [Cell],
     count: usize,
 }
 
-impl HasTuple for Left {
-    ghost tuple = { λ l. l.cells };
+impl<'a> HasTuple for Left<'a> {
+    ghost tuple = { λ l. l.cells.now };
 
     fn tuple(&self) -> &[Cell] {
-        self.cells.as_slice()
+        self.cells
+    }
+}
+
+impl<'a> HasTuple for &'a [Cell] {
+    ghost tuple = { λ cells. cells.now };
+
+    fn tuple(&self) -> &[Cell] {
+        self
     }
 }
 
 // Different tuples, found by hash, and how many of each are left to be matched.
 #[derive(Drop)]
-struct Lefts {
+struct Lefts<'a> {
     index: TupleIndex,
-    items: Vec<Left>,
-}
-
-// The tuples of the rows that are there.
-fn tuples_there(alloc: Global, bag: Bag) -> Result<Vec<Items<Cell>>, OutOfMemory>
-    ensures { IfOk result (λ tuples. tuples.items ≡ map (λ r. r.cells) (those_there bag)) }
-{
-    let rows = those_there(bag).into_rows();
-    Ok(rows.into_iter().map(|row| row.cells).collect(alloc)?)
+    items: Vec<Left<'a>>,
 }
 
 // Counts one more of the tuple at a place.
-fn count_one(items: &mut Vec<Left>, place: usize, cells: &[Cell])
-    requires place { slice_get (map (λ l. l.cells) items.old.items) place ≡ Some cells.now }
-    requires once { AreDifferent (map (λ l. l.cells) items.old.items) }
-    requires room { spec.left_of (λ l. l.cells) (λ l. l.count) cells.now items.old.items + 1 < 2 ^ 64 }
-    ensures tuples { map (λ l. l.cells) items.new.items ≡ map (λ l. l.cells) items.old.items }
-    ensures counts { spec.HasCounted (λ l. l.cells) (λ l. l.count) cells.now items.old.items items.new.items }
+fn count_one(items: &mut Vec<Left<'_>>, place: usize, cells: &[Cell])
+    requires place { slice_get (map (λ l. l.cells.now) items.old.items) place ≡ Some cells.now }
+    requires once { AreDifferent (map (λ l. l.cells.now) items.old.items) }
+    requires room { spec.left_of (λ l. l.cells.now) (λ l. l.count) cells.now items.old.items + 1 < 2 ^ 64 }
+    ensures tuples { map (λ l. l.cells.now) items.new.items ≡ map (λ l. l.cells.now) items.old.items }
+    ensures counts { spec.HasCounted (λ l. l.cells.now) (λ l. l.count) cells.now items.old.items items.new.items }
 {
     items[place].count += 1;
 }
 
 // Takes one of the tuple at a place, where one is left.
-fn take_one(items: &mut Vec<Left>, place: usize, cells: &[Cell]) -> bool
-    requires place { slice_get (map (λ l. l.cells) items.old.items) place ≡ Some cells.now }
-    requires once { AreDifferent (map (λ l. l.cells) items.old.items) }
-    ensures tuples { map (λ l. l.cells) items.new.items ≡ map (λ l. l.cells) items.old.items }
-    ensures rest { spec.HasTaken (λ l. l.cells) (λ l. l.count) result cells.now items.old.items items.new.items }
-    ensures none { result ≡ false → spec.left_of (λ l. l.cells) (λ l. l.count) cells.now items.new.items ≡ 0 }
+fn take_one(items: &mut Vec<Left<'_>>, place: usize, cells: &[Cell]) -> bool
+    requires place { slice_get (map (λ l. l.cells.now) items.old.items) place ≡ Some cells.now }
+    requires once { AreDifferent (map (λ l. l.cells.now) items.old.items) }
+    ensures tuples { map (λ l. l.cells.now) items.new.items ≡ map (λ l. l.cells.now) items.old.items }
+    ensures rest { spec.HasTaken (λ l. l.cells.now) (λ l. l.count) result cells.now items.old.items items.new.items }
+    ensures none { result ≡ false → spec.left_of (λ l. l.cells.now) (λ l. l.count) cells.now items.new.items ≡ 0 }
 {
     let count = items[place].count;
     if count == 0 {
@@ -76,12 +74,12 @@ fn take_one(items: &mut Vec<Left>, place: usize, cells: &[Cell]) -> bool
 }
 
 // Takes one of a tuple, where one is left.
-fn take(index: &TupleIndex, items: &mut Vec<Left>, cells: &[Cell]) -> bool
-    requires index { index.now ≡ hashes_of (map (λ l. l.cells) items.old.items) }
-    requires once { AreDifferent (map (λ l. l.cells) items.old.items) }
-    ensures tuples { map (λ l. l.cells) items.new.items ≡ map (λ l. l.cells) items.old.items }
-    ensures rest { spec.HasTaken (λ l. l.cells) (λ l. l.count) result cells.now items.old.items items.new.items }
-    ensures none { result ≡ false → spec.left_of (λ l. l.cells) (λ l. l.count) cells.now items.new.items ≡ 0 }
+fn take(index: &TupleIndex, items: &mut Vec<Left<'_>>, cells: &[Cell]) -> bool
+    requires index { index.now ≡ hashes_of (map (λ l. l.cells.now) items.old.items) }
+    requires once { AreDifferent (map (λ l. l.cells.now) items.old.items) }
+    ensures tuples { map (λ l. l.cells.now) items.new.items ≡ map (λ l. l.cells.now) items.old.items }
+    ensures rest { spec.HasTaken (λ l. l.cells.now) (λ l. l.count) result cells.now items.old.items items.new.items }
+    ensures none { result ≡ false → spec.left_of (λ l. l.cells.now) (λ l. l.count) cells.now items.new.items ≡ 0 }
 {
     match index.find(items.as_slice(), hash_of(cells), cells) {
         Some(place) => take_one(items, place, cells),
@@ -90,19 +88,19 @@ fn take(index: &TupleIndex, items: &mut Vec<Left>, cells: &[Cell]) -> bool
 }
 
 // Adds a tuple, of this hash, that isn't among them.
-fn add_tuple(
+fn add_tuple<'a>(
     index: &mut TupleIndex,
-    items: &mut Vec<Left>,
+    items: &mut Vec<Left<'a>>,
     hash: u64,
-    cells: Items<Cell>,
+    cells: &'a [Cell],
 ) -> Result<(), OutOfMemory>
-    requires index { index.old ≡ hashes_of (map (λ l. l.cells) items.old.items) }
-    requires once { AreDifferent (map (λ l. l.cells) items.old.items) }
-    requires hash { hash ≡ hash_of cells }
-    requires none { spec.often cells (map (λ l. l.cells) items.old.items) ≡ 0 }
-    ensures index { OnOk result (index.new ≡ hashes_of (map (λ l. l.cells) items.new.items)) }
-    ensures once { OnOk result (AreDifferent (map (λ l. l.cells) items.new.items)) }
-    ensures counts { OnOk result (spec.HasCounted (λ l. l.cells) (λ l. l.count) cells items.old.items items.new.items) }
+    requires index { index.old ≡ hashes_of (map (λ l. l.cells.now) items.old.items) }
+    requires once { AreDifferent (map (λ l. l.cells.now) items.old.items) }
+    requires hash { hash ≡ hash_of cells.now }
+    requires none { spec.often cells.now (map (λ l. l.cells.now) items.old.items) ≡ 0 }
+    ensures index { OnOk result (index.new ≡ hashes_of (map (λ l. l.cells.now) items.new.items)) }
+    ensures once { OnOk result (AreDifferent (map (λ l. l.cells.now) items.new.items)) }
+    ensures counts { OnOk result (spec.HasCounted (λ l. l.cells.now) (λ l. l.count) cells.now items.old.items items.new.items) }
 {
     index.push(hash)?;
     items.push(Left { cells, count: 1 })?;
@@ -110,22 +108,22 @@ fn add_tuple(
 }
 
 // Counts one more of a tuple.
-fn count_tuple(
+fn count_tuple<'a>(
     index: &mut TupleIndex,
-    items: &mut Vec<Left>,
-    cells: Items<Cell>,
+    items: &mut Vec<Left<'a>>,
+    cells: &'a [Cell],
 ) -> Result<(), OutOfMemory>
-    requires index { index.old ≡ hashes_of (map (λ l. l.cells) items.old.items) }
-    requires once { AreDifferent (map (λ l. l.cells) items.old.items) }
-    requires room { spec.left_of (λ l. l.cells) (λ l. l.count) cells items.old.items + 1 < 2 ^ 64 }
-    ensures index { OnOk result (index.new ≡ hashes_of (map (λ l. l.cells) items.new.items)) }
-    ensures once { OnOk result (AreDifferent (map (λ l. l.cells) items.new.items)) }
-    ensures counts { OnOk result (spec.HasCounted (λ l. l.cells) (λ l. l.count) cells items.old.items items.new.items) }
+    requires index { index.old ≡ hashes_of (map (λ l. l.cells.now) items.old.items) }
+    requires once { AreDifferent (map (λ l. l.cells.now) items.old.items) }
+    requires room { spec.left_of (λ l. l.cells.now) (λ l. l.count) cells.now items.old.items + 1 < 2 ^ 64 }
+    ensures index { OnOk result (index.new ≡ hashes_of (map (λ l. l.cells.now) items.new.items)) }
+    ensures once { OnOk result (AreDifferent (map (λ l. l.cells.now) items.new.items)) }
+    ensures counts { OnOk result (spec.HasCounted (λ l. l.cells.now) (λ l. l.count) cells.now items.old.items items.new.items) }
 {
-    let hash = hash_of(cells.as_slice());
-    match index.find(items.as_slice(), hash, cells.as_slice()) {
+    let hash = hash_of(cells);
+    match index.find(items.as_slice(), hash, cells) {
         Some(place) => {
-            count_one(items, place, cells.as_slice());
+            count_one(items, place, cells);
             Ok(())
         }
         None => {
@@ -135,65 +133,198 @@ fn count_tuple(
     }
 }
 
-// The different tuples among these, each with how often it stands there.
-fn counted(alloc: Global, tuples: Vec<Items<Cell>>) -> Result<Lefts, OutOfMemory>
-    ensures index { IfOk result (λ made. made.index ≡ hashes_of (map (λ l. l.cells) made.items.items)) }
-    ensures once { IfOk result (λ made. AreDifferent (map (λ l. l.cells) made.items.items)) }
-    ensures counts { IfOk result (λ made. (c : List Cell) → spec.left_of (λ l. l.cells) (λ l. l.count) c made.items.items ≡ spec.often c tuples.items) }
+// Counts one more of the tuple of a row, where the row is there.
+fn count_row<'a>(
+    index: &mut TupleIndex,
+    items: &mut Vec<Left<'a>>,
+    row: &'a Row,
+) -> Result<(), OutOfMemory>
+    requires index { index.old ≡ hashes_of (map (λ l. l.cells.now) items.old.items) }
+    requires once { AreDifferent (map (λ l. l.cells.now) items.old.items) }
+    requires room { spec.left_of (λ l. l.cells.now) (λ l. l.count) row.now.cells items.old.items + multiplicity same_cells row.now.cells (row.now ∷ []) < 2 ^ 64 }
+    ensures index { OnOk result (index.new ≡ hashes_of (map (λ l. l.cells.now) items.new.items)) }
+    ensures once { OnOk result (AreDifferent (map (λ l. l.cells.now) items.new.items)) }
+    ensures counts { OnOk result ((c : List Cell) → spec.left_of (λ l. l.cells.now) (λ l. l.count) c items.new.items ≡ spec.left_of (λ l. l.cells.now) (λ l. l.count) c items.old.items + multiplicity same_cells c (row.now ∷ [])) }
 {
-    let mut index = TupleIndex::with_chains(alloc, tuples.len())?;
+    if is_there(row) {
+        count_tuple(index, items, row.cells.as_slice())?;
+        Ok(())
+    } else {
+        Ok(())
+    }
+}
+
+// The different tuples of the rows that are there, each with how often it stands there.
+fn counted<'a>(alloc: Global, rows: &'a [Row]) -> Result<Lefts<'a>, OutOfMemory>
+    ensures index { IfOk result (λ made. made.index ≡ hashes_of (map (λ l. l.cells.now) made.items.items)) }
+    ensures once { IfOk result (λ made. AreDifferent (map (λ l. l.cells.now) made.items.items)) }
+    ensures counts { IfOk result (λ made. (c : List Cell) → spec.left_of (λ l. l.cells.now) (λ l. l.count) c made.items.items ≡ multiplicity same_cells c rows.now) }
+{
+    let mut index = TupleIndex::with_chains(alloc, rows.len())?;
     let mut items = Vec::new(alloc);
-    for cells in tuples {
-        count_tuple(&mut index, &mut items, cells)?;
+    for row in rows {
+        count_row(&mut index, &mut items, row)?;
     }
     Ok(Lefts { index, items })
 }
 
+// Adds the tuple of a row, where the row is there.
+fn add_there<'a>(tuples: &mut Vec<&'a [Cell]>, row: &'a Row) -> Result<(), OutOfMemory>
+    ensures { OnOk result ((c : List Cell) → spec.often c (map (λ t. t.now) tuples.new.items) ≡ spec.often c (map (λ t. t.now) tuples.old.items) + multiplicity same_cells c (row.now ∷ [])) }
+{
+    if is_there(row) {
+        tuples.push(row.cells.as_slice())?;
+        Ok(())
+    } else {
+        Ok(())
+    }
+}
+
+// The tuples of the rows that are there.
+fn tuples_there<'a>(alloc: Global, rows: &'a [Row]) -> Result<Vec<&'a [Cell]>, OutOfMemory>
+    ensures { IfOk result (λ tuples. (c : List Cell) → spec.often c (map (λ t. t.now) tuples.items) ≡ multiplicity same_cells c rows.now) }
+{
+    let mut tuples = Vec::new(alloc);
+    for row in rows {
+        add_there(&mut tuples, row)?;
+    }
+    Ok(tuples)
+}
+
+// Adds a tuple of this hash.
+fn push_tuple<'a>(
+    index: &mut TupleIndex,
+    tuples: &mut Vec<&'a [Cell]>,
+    hash: u64,
+    cells: &'a [Cell],
+) -> Result<(), OutOfMemory>
+    requires index { index.old ≡ hashes_of (map (λ t. t.now) tuples.old.items) }
+    requires hash { hash ≡ hash_of cells.now }
+    ensures index { OnOk result (index.new ≡ hashes_of (map (λ t. t.now) tuples.new.items)) }
+    ensures tuples { OnOk result (map (λ t. t.now) tuples.new.items ≡ map (λ t. t.now) tuples.old.items ++ cells.now ∷ []) }
+{
+    index.push(hash)?;
+    tuples.push(cells)?;
+    Ok(())
+}
+
+// Adds a tuple to different ones, where it isn't one of them.
+fn add_once<'a>(
+    index: &mut TupleIndex,
+    tuples: &mut Vec<&'a [Cell]>,
+    cells: &'a [Cell],
+) -> Result<(), OutOfMemory>
+    requires index { index.old ≡ hashes_of (map (λ t. t.now) tuples.old.items) }
+    ensures index { OnOk result (index.new ≡ hashes_of (map (λ t. t.now) tuples.new.items)) }
+    ensures once { OnOk result (AreDifferent (map (λ t. t.now) tuples.old.items) → AreDifferent (map (λ t. t.now) tuples.new.items)) }
+    ensures counts { OnOk result (spec.HasAdded cells.now (map (λ t. t.now) tuples.old.items) (map (λ t. t.now) tuples.new.items)) }
+{
+    let hash = hash_of(cells);
+    match index.find(tuples.as_slice(), hash, cells) {
+        Some(_place) => Ok(()),
+        None => {
+            push_tuple(index, tuples, hash, cells)?;
+            Ok(())
+        }
+    }
+}
+
+// Adds the tuple of a row to different ones, where the row is there and its tuple isn't one of them.
+fn enter<'a>(
+    index: &mut TupleIndex,
+    tuples: &mut Vec<&'a [Cell]>,
+    row: &'a Row,
+) -> Result<(), OutOfMemory>
+    requires index { index.old ≡ hashes_of (map (λ t. t.now) tuples.old.items) }
+    requires once { AreDifferent (map (λ t. t.now) tuples.old.items) }
+    ensures index { OnOk result (index.new ≡ hashes_of (map (λ t. t.now) tuples.new.items)) }
+    ensures once { OnOk result (AreDifferent (map (λ t. t.now) tuples.new.items)) }
+    ensures counts { OnOk result ((c : List Cell) → min 1 (spec.often c (map (λ t. t.now) tuples.new.items)) ≡ min 1 (spec.often c (map (λ t. t.now) tuples.old.items) + multiplicity same_cells c (row.now ∷ []))) }
+{
+    if is_there(row) {
+        add_once(index, tuples, row.cells.as_slice())?;
+        Ok(())
+    } else {
+        Ok(())
+    }
+}
+
+// The tuples of the rows that are there, each once.
+fn tuples_once<'a>(alloc: Global, rows: &'a [Row]) -> Result<Vec<&'a [Cell]>, OutOfMemory>
+    ensures { IfOk result (λ tuples. (c : List Cell) → spec.often c (map (λ t. t.now) tuples.items) ≡ min 1 (multiplicity same_cells c rows.now)) }
+{
+    let mut index = TupleIndex::with_chains(alloc, rows.len())?;
+    let mut tuples = Vec::new(alloc);
+    for row in rows {
+        enter(&mut index, &mut tuples, row)?;
+    }
+    Ok(tuples)
+}
+
+// The tuples of the rows that are there, all or once each.
+fn all_or_once<'a>(
+    alloc: Global,
+    rows: &'a [Row],
+    all: bool,
+) -> Result<Vec<&'a [Cell]>, OutOfMemory>
+    ensures { IfOk result (λ tuples. (c : List Cell) → spec.often c (map (λ t. t.now) tuples.items) ≡ spec.all_or_once all (multiplicity same_cells c rows.now)) }
+{
+    if all {
+        tuples_there(alloc, rows)
+    } else {
+        tuples_once(alloc, rows)
+    }
+}
+
+// Adds a copy of a tuple, as a row at yes, where it is wanted.
+fn keep_copy(alloc: Global, kept: &mut Bag, cells: &[Cell], wanted: bool) -> Result<(), OutOfMemory>
+    ensures { OnOk result (kept.new ≡ (if wanted then kept.old ++ row cells.now Level.Yes ∷ [] else kept.old)) }
+{
+    if wanted {
+        kept.push(Row {
+            cells: copied(alloc, cells)?,
+            level: Level::Yes,
+        })?;
+        Ok(())
+    } else {
+        Ok(())
+    }
+}
+
 // Of tuples those that others match, each of which matches at most one, or those that none matches;
-// as rows at yes.
+// copied, as rows at yes.
 fn parted(
     alloc: Global,
-    xs: Vec<Items<Cell>>,
+    xs: &[&[Cell]],
     index: &TupleIndex,
-    items: Vec<Left>,
+    items: &mut Vec<Left<'_>>,
     matched: bool,
 ) -> Result<Bag, OutOfMemory>
-    requires index { index.now ≡ hashes_of (map (λ l. l.cells) items.items) }
-    requires once { AreDifferent (map (λ l. l.cells) items.items) }
-    ensures { IfOk result (λ rows. (c : List Cell) → (l : Level) → count same_cells c l rows ≡ (if same_level Level.Yes l then spec.part matched (spec.often c xs.items) (spec.left_of (λ l. l.cells) (λ l. l.count) c items.items) else 0)) }
+    requires index { index.now ≡ hashes_of (map (λ l. l.cells.now) items.old.items) }
+    requires once { AreDifferent (map (λ l. l.cells.now) items.old.items) }
+    ensures { IfOk result (λ rows. (c : List Cell) → (l : Level) → count same_cells c l rows ≡ (if same_level Level.Yes l then spec.part matched (spec.often c (map (λ t. t.now) xs.now)) (spec.left_of (λ l. l.cells.now) (λ l. l.count) c items.old.items) else 0)) }
 {
-    let mut items = items;
     let mut kept = Bag::new(alloc);
     for cells in xs {
-        if take(index, &mut items, cells.as_slice()) == matched {
-            kept.push(Row {
-                cells,
-                level: Level::Yes,
-            })?;
-        }
+        let wanted = take(index, items, cells) == matched;
+        keep_copy(alloc, &mut kept, cells, wanted)?;
     }
     Ok(kept)
 }
 
-// The rows of the first bag, or each of its tuples once.
-fn all_or_once(bag: Bag, all: bool) -> Result<Bag, OutOfMemory>
-    ensures { IfOk result (λ rows. (c : List Cell) → multiplicity same_cells c rows ≡ spec.all_or_once all (multiplicity same_cells c bag)) }
-{
-    if all { Ok(bag) } else { distinct(bag) }
-}
-
-// The tuples of the first bag that those of the second match, or that are left; each as often as
+// The tuples of the first rows that those of the second match, or that are left; each as often as
 // that, or at most once.
 pub(crate) fn matching(
     alloc: Global,
-    a: Bag,
-    b: Bag,
+    a: &[Row],
+    b: &[Row],
     all: bool,
     matched: bool,
 ) -> Result<Bag, OutOfMemory>
-    ensures { IfOk result (λ rows. spec.AreMatched all matched a b rows) }
+    ensures { IfOk result (λ rows. spec.AreMatched all matched a.now b.now rows) }
 {
-    let xs = tuples_there(alloc, all_or_once(a, all)?)?;
-    let Lefts { index, items } = counted(alloc, tuples_there(alloc, b)?)?;
-    parted(alloc, xs, &index, items, matched)
+    let xs = all_or_once(alloc, a, all)?;
+    let Lefts { index, items } = counted(alloc, b)?;
+    let mut items = items;
+    parted(alloc, xs.as_slice(), &index, &mut items, matched)
 }

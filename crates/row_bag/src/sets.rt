@@ -3,14 +3,17 @@ ghost use Rattle.std.specs.Prelude.{◌≡◌, ◌++◌, ◌∷◌, [], IfOk, On
 ghost use Rattle.row_bag.specs.Bags.{Agree, row};
 ghost use Rattle.row_bag.specs.Errors as errors;
 ghost use Rattle.row_bag.specs.Hashes.{AreDifferent, hash_of, hashes_of, tuples_of};
+ghost use Rattle.row_bag.specs.Operands.{held};
 ghost use Rattle.row_bag.specs.Sets as spec;
 ghost use Rattle.sql_value.specs.Level.{level_of};
 
 use crate::answer::{error_among, those_there, worst_of};
 use crate::bag::Bag;
 use crate::matched::matching;
+use crate::operand::Operand;
 use crate::row::Row;
 use crate::tuple_index::{TupleIndex, hash_of};
+use crate::tuples::copied_row;
 use shared_types::OutOfMemory;
 use sql_value::{Cell, Kind, greatest, level_of};
 use sqlite_items::Items;
@@ -64,6 +67,80 @@ fn keep(index: &mut TupleIndex, kept: &mut Vec<Row>, row: Row) -> Result<(), Out
     }
 }
 
+// Adds a copy of a row to rows of different tuples, as [`keep`] adds a row.
+fn keep_copied(
+    alloc: Global,
+    index: &mut TupleIndex,
+    kept: &mut Vec<Row>,
+    row: &Row,
+) -> Result<(), OutOfMemory>
+    requires { index.old ≡ hashes_of (tuples_of kept.old.items) }
+    ensures index { OnOk result (index.new ≡ hashes_of (tuples_of kept.new.items)) }
+    ensures levels { OnOk result (spec.SameLevels spec.same_cells kept.new.items (kept.old.items ++ row.now ∷ [])) }
+    ensures once { OnOk result (AreDifferent (tuples_of kept.old.items) → AreDifferent (tuples_of kept.new.items)) }
+{
+    let hash = hash_of(row.cells.as_slice());
+    match index.find(kept.as_slice(), hash, row.cells.as_slice()) {
+        Some(place) => {
+            raise(kept, place, row);
+            Ok(())
+        }
+        None => {
+            keep_new(index, kept, hash, copied_row(alloc, row)?)?;
+            Ok(())
+        }
+    }
+}
+
+// Adds rows to rows of different tuples, as [`keep`] does.
+fn keep_each(index: &mut TupleIndex, kept: &mut Vec<Row>, rows: Vec<Row>) -> Result<(), OutOfMemory>
+    requires { index.old ≡ hashes_of (tuples_of kept.old.items) }
+    ensures index { OnOk result (index.new ≡ hashes_of (tuples_of kept.new.items)) }
+    ensures levels { OnOk result (spec.SameLevels spec.same_cells kept.new.items (kept.old.items ++ rows.items)) }
+    ensures once { OnOk result (AreDifferent (tuples_of kept.old.items) → AreDifferent (tuples_of kept.new.items)) }
+{
+    for row in rows {
+        keep(index, kept, row)?;
+    }
+    Ok(())
+}
+
+// Adds copies of rows to rows of different tuples, as [`keep`] does.
+fn keep_each_copied(
+    alloc: Global,
+    index: &mut TupleIndex,
+    kept: &mut Vec<Row>,
+    rows: &[Row],
+) -> Result<(), OutOfMemory>
+    requires { index.old ≡ hashes_of (tuples_of kept.old.items) }
+    ensures index { OnOk result (index.new ≡ hashes_of (tuples_of kept.new.items)) }
+    ensures levels { OnOk result (spec.SameLevels spec.same_cells kept.new.items (kept.old.items ++ rows.now)) }
+    ensures once { OnOk result (AreDifferent (tuples_of kept.old.items) → AreDifferent (tuples_of kept.new.items)) }
+{
+    for row in rows {
+        keep_copied(alloc, index, kept, row)?;
+    }
+    Ok(())
+}
+
+// Adds the rows of an operand to rows of different tuples, as [`keep`] does; of borrowed ones copies.
+fn keep_operand(
+    alloc: Global,
+    index: &mut TupleIndex,
+    kept: &mut Vec<Row>,
+    operand: Operand<'_>,
+) -> Result<(), OutOfMemory>
+    requires { index.old ≡ hashes_of (tuples_of kept.old.items) }
+    ensures index { OnOk result (index.new ≡ hashes_of (tuples_of kept.new.items)) }
+    ensures levels { OnOk result (spec.SameLevels spec.same_cells kept.new.items (kept.old.items ++ held operand.entry)) }
+    ensures once { OnOk result (AreDifferent (tuples_of kept.old.items) → AreDifferent (tuples_of kept.new.items)) }
+{
+    match operand {
+        Operand::Borrowed(rows) => keep_each_copied(alloc, index, kept, rows),
+        Operand::Made(bag) => keep_each(index, kept, bag.into_rows()),
+    }
+}
+
 /// DISTINCT: each tuple once, at its greatest level. Tuples are equal where their cells are the
 /// same data, nulls and errors of one kind too (SQL-92 3.1, "distinct"). It fails only for want of
 /// memory.
@@ -74,36 +151,50 @@ pub fn distinct(bag: Bag) -> Result<Bag, OutOfMemory>
     let alloc = *rows.allocator();
     let mut index = TupleIndex::with_chains(alloc, rows.len())?;
     let mut kept = Vec::new(alloc);
-    for row in rows {
-        keep(&mut index, &mut kept, row)?;
-    }
+    keep_each(&mut index, &mut kept, rows)?;
     Ok(those_there(Bag::from_rows(kept)))
 }
 
 // The rows of both, one after the other.
-fn appended(a: Bag, b: Bag) -> Result<Bag, OutOfMemory>
-    ensures { IfOk result (λ rows. rows ≡ a ++ b) }
+fn appended(alloc: Global, a: Operand<'_>, b: Operand<'_>) -> Result<Bag, OutOfMemory>
+    ensures { IfOk result (λ rows. rows ≡ held a.entry ++ held b.entry) }
 {
-    let mut rows = a.into_rows();
-    let mut more = b.into_rows();
+    let mut rows = a.into_bag(alloc)?.into_rows();
+    let mut more = b.into_bag(alloc)?.into_rows();
     rows.append(&mut more)?;
     Ok(Bag::from_rows(rows))
 }
 
-/// UNION: each tuple of both once, at its greatest level; with `all` UNION ALL, the rows of both
-/// (SQL-92 7.10). It fails only for want of memory.
-pub fn union(a: Bag, b: Bag, all: bool) -> Result<Bag, OutOfMemory>
-    ensures { IfOk result (λ rows. Agree spec.same_cells rows (if all then a ++ b else spec.union spec.same_cells a b)) }
+// Each tuple of both once, at its greatest level.
+fn union_once(alloc: Global, a: Operand<'_>, b: Operand<'_>) -> Result<Bag, OutOfMemory>
+    ensures { IfOk result (λ rows. Agree spec.same_cells rows (spec.union spec.same_cells (held a.entry) (held b.entry))) }
 {
-    let rows = appended(a, b)?;
-    if all { Ok(rows) } else { distinct(rows) }
+    let most = a.rows().len().saturating_add(b.rows().len());
+    let mut index = TupleIndex::with_chains(alloc, most)?;
+    let mut kept = Vec::new(alloc);
+    keep_operand(alloc, &mut index, &mut kept, a)?;
+    keep_operand(alloc, &mut index, &mut kept, b)?;
+    Ok(those_there(Bag::from_rows(kept)))
 }
 
-// The greatest error among the levels and the cells of the rows of both bags.
-fn error_of_both(a: &Bag, b: &Bag) -> Option<Kind>
+/// UNION: each tuple of both once, at its greatest level; with `all` UNION ALL, the rows of both
+/// (SQL-92 7.10). Rows that are borrowed are copied where they are kept. It fails only for want of
+/// memory.
+pub fn union(alloc: Global, a: Operand<'_>, b: Operand<'_>, all: bool) -> Result<Bag, OutOfMemory>
+    ensures { IfOk result (λ rows. Agree spec.same_cells rows (if all then held a.entry ++ held b.entry else spec.union spec.same_cells (held a.entry) (held b.entry))) }
+{
+    if all {
+        appended(alloc, a, b)
+    } else {
+        union_once(alloc, a, b)
+    }
+}
+
+// The greatest error among the levels and the cells of both rows.
+fn error_of_both(a: &[Row], b: &[Row]) -> Option<Kind>
     ensures { result ≡ errors.error_among errors.error_in (a.now ++ b.now) }
 {
-    worst_of(error_among(a.rows()), error_among(b.rows()))
+    worst_of(error_among(a), error_among(b))
 }
 
 /// A tuple that is an error in so many columns. It fails only for want of memory.
@@ -137,14 +228,14 @@ pub fn failed_row(alloc: Global, columns: usize, kind: Kind) -> Result<Bag, OutO
 /// many columns. It fails only for want of memory.
 pub fn intersect(
     alloc: Global,
-    a: Bag,
-    b: Bag,
+    a: &[Row],
+    b: &[Row],
     all: bool,
     columns: usize,
 ) -> Result<Bag, OutOfMemory>
-    ensures { IfOk result (λ rows. Agree spec.same_cells rows (spec.collapsed errors.error_in (spec.failed_cells columns) (a ++ b) (if all then spec.intersect_all spec.same_cells a b else spec.intersect spec.same_cells a b))) }
+    ensures { IfOk result (λ rows. Agree spec.same_cells rows (spec.collapsed errors.error_in (spec.failed_cells columns) (a.now ++ b.now) (if all then spec.intersect_all spec.same_cells a.now b.now else spec.intersect spec.same_cells a.now b.now))) }
 {
-    match error_of_both(&a, &b) {
+    match error_of_both(a, b) {
         Some(kind) => failed_row(alloc, columns, kind),
         None => matching(alloc, a, b, all, true),
     }
@@ -154,10 +245,16 @@ pub fn intersect(
 /// ALL, as often as it occurs more often in the first (SQL-92 7.10). Where a row of either is at an
 /// error level or has an error cell, it is one row, as in [`intersect`]. It fails only for want of
 /// memory.
-pub fn except(alloc: Global, a: Bag, b: Bag, all: bool, columns: usize) -> Result<Bag, OutOfMemory>
-    ensures { IfOk result (λ rows. Agree spec.same_cells rows (spec.collapsed errors.error_in (spec.failed_cells columns) (a ++ b) (if all then spec.except_all spec.same_cells a b else spec.except spec.same_cells a b))) }
+pub fn except(
+    alloc: Global,
+    a: &[Row],
+    b: &[Row],
+    all: bool,
+    columns: usize,
+) -> Result<Bag, OutOfMemory>
+    ensures { IfOk result (λ rows. Agree spec.same_cells rows (spec.collapsed errors.error_in (spec.failed_cells columns) (a.now ++ b.now) (if all then spec.except_all spec.same_cells a.now b.now else spec.except spec.same_cells a.now b.now))) }
 {
-    match error_of_both(&a, &b) {
+    match error_of_both(a, b) {
         Some(kind) => failed_row(alloc, columns, kind),
         None => matching(alloc, a, b, all, false),
     }

@@ -27,8 +27,8 @@ pub fn copied(alloc: Global, cells: &[Cell]) -> Result<Items<Cell>, OutOfMemory>
     Ok(Items::from_vec(made))
 }
 
-// An equal row.
-fn copied_row(alloc: Global, row: &Row) -> Result<Row, OutOfMemory>
+/// An equal row. It fails only for want of memory.
+pub(crate) fn copied_row(alloc: Global, row: &Row) -> Result<Row, OutOfMemory>
     ensures { IfOk result (λ made. made ≡ row.now) }
 {
     Ok(Row {

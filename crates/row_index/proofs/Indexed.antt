@@ -1,5 +1,5 @@
 -- Indexes of rows, some of which have no hash.
-use Rattle.std.proofs.Common.{◌≡◌, ◌<◌, ◌==◌, ◌∙◌, ℕ, zero, suc, true, List, [], ◌∷◌, Option, Some, None, map, get_or, length, unwrap_or, sym, ap, arith}
+use Rattle.std.proofs.Common.{◌≡◌, ◌<◌, ◌==◌, ◌∙◌, ℕ, zero, suc, true, false, List, [], ◌∷◌, Option, Some, None, map, get_or, length, unwrap_or, refl, sym, ap, arith}
 use Rattle.std.specs.List.{list_all}
 use Rattle.std.proofs.lemmas.List.{length-map}
 use Rattle.row_index.specs.Ways.{AreAsMany, AreMarks, Indexes, StandsAs, is_marked, mark}
@@ -21,6 +21,10 @@ marked keys None k m l e = absurd (none-at keys k m l e)
     none-at (Some h ∷ keys) (suc k) m l e = none-at keys k m (omega (arith, l)) e
 marked keys (Some marks) k m l e = ap (λ (xs : List ℕ). get_or xs k 0 == 1) m ∙ ap (λ (n : ℕ). n == 1) (map-at mark keys k None l e)
 
+unmarked : (keys : List (Option ℕ)) (marks : Option (List ℕ)) (k x : ℕ) → AreMarks keys marks → k < length keys → Some x ≡ get_or keys k (Some x) → is_marked marks k ≡ false
+unmarked keys None k x m l e = refl
+unmarked keys (Some marks) k x m l e = ap (λ (xs : List ℕ). get_or xs k 0 == 1) m ∙ ap (λ (n : ℕ). n == 1) (map-at mark keys k (Some x) l e)
+
 many : (keys : List (Option ℕ)) (marks : Option (List ℕ)) → AreMarks keys marks → AreAsMany marks (length keys)
 many keys None m = tt
 many keys (Some marks) m = ap (λ (xs : List ℕ). length xs) m ∙ length-map keys mark
@@ -34,4 +38,4 @@ indexed keys ix h m = record {
   where
     at : (k : ℕ) (o : Option ℕ) → k < length keys → o ≡ get_or keys k o → StandsAs ix k o
     at k None l e = marked keys ix.marks k m l e
-    at k (Some x) l e = ap (λ (xs : List ℕ). get_or xs k 0) h ∙ map-at (λ o. unwrap_or o 0) keys k (Some x) l e
+    at k (Some x) l e = (ap (λ (xs : List ℕ). get_or xs k 0) h ∙ map-at (λ o. unwrap_or o 0) keys k (Some x) l e, unmarked keys ix.marks k x m l e)

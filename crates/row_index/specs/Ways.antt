@@ -17,7 +17,7 @@ is_marked (Some marks) k = get_or marks k 0 == 1
 -- the row at this place has this hash; or it has none, and every look-up sees it
 abbrev pub StandsAs : RowIndex → ℕ → Option ℕ → Type 0
 StandsAs ix k None = is_marked ix.marks k ≡ true
-StandsAs ix k (Some h) = get_or ix.hashes k 0 ≡ h
+StandsAs ix k (Some h) = (get_or ix.hashes k 0 ≡ h) × (is_marked ix.marks k ≡ false)
 
 abbrev pub AreAsMany : Option (List ℕ) → ℕ → Type 0
 AreAsMany None n = ⊤

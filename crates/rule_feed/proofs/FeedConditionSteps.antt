@@ -1,15 +1,23 @@
 -- What the code of G1's condition asks is the condition.
-use Rattle.std.proofs.Common.{ℕ, suc, ◌≡◌, ◌<◌, ◌+◌, ◌-◌, ◌&&◌, ◌||◌, cond, not, Bool, true, false, List, [], ◌∷◌, refl, sym, ap, subst, ◌∙◌, arith}
+use Rattle.std.proofs.Common.{ℕ, zero, suc, ◌≡◌, ◌<◌, ◌+◌, ◌-◌, ◌==◌, ◌&&◌, ◌||◌, cond, nat_le, not, Bool, true, false, List, [], ◌∷◌, refl, sym, ap, ap₂, length, subst, ◌∙◌, inl, inr, arith}
 use Rattle.std.specs.List.{list_all}
+use Rattle.std.proofs.lemmas.Bool.{and_from, and_parts, cases_Bool, or_right}
+use Rattle.std.proofs.Math.Dec.{eqb-suc-zero}
 use Rattle.qgm_core.specs.Free.{free_in}
+use Rattle.qgm_core.specs.Kinds.{is_F}
+use Rattle.list_laws.specs.Lists.{holds}
+use Rattle.list_laws.proofs.Booleans.{same-truth}
 use Rattle.qgm_core.specs.declared.node.Node.{Node}
 use Rattle.qgm_core.specs.declared.owned.OwnedQuant.{OwnedQuant}
+use Rattle.qgm_props.specs.FreeTables.{TellsFree, free_of}
 use Rattle.qgm_props.specs.Inferred.{Facts}
 use Rattle.qgm_props.specs.Under.{all_places}
 use Rattle.qgm_wellformed.specs.WellFormed.{is_empty}
+use Rattle.qgm_wellformed.proofs.Kept.{empty-none, none-empty}
+use Rattle.rule_facts.specs.Places.{is_plain_select}
 use Rattle.rule_feed.specs.FeedCode as code
-use Rattle.rule_feed.specs.FeedCode.{all_ready, feeds_by}
-use Rattle.rule_feed.specs.FeedMay.{feeders, is_ready, is_single, may_feed}
+use Rattle.rule_feed.specs.FeedCode.{all_ready, feeds_by, fs, may_grow}
+use Rattle.rule_feed.specs.FeedMay.{feeders, is_ready, is_single, may_feed, may_own, most_boxes}
 use Rattle.rule_feed.specs.Knowing.{facts_in}
 
 places-at : (n : ℕ) (t : ℕ → Bool) → 0 < n → all_places n t ≡ (t n && all_places (n - 1) t)
@@ -25,8 +33,69 @@ all-ready ns known c (q ∷ qs) = elim (feeds_by (free_in ns c) q) as (λ t. ((n
   | false ↦ all-ready ns known c qs
 ]
 
-pub may-feed : (ns : List Node) (n : Node) (r : OwnedQuant) → code.may_feed ns n r ≡ may_feed ns (facts_in ns) n r
-may-feed ns n r = elim (is_empty (free_in ns r.over)) as (λ t. code.told_if t (code.told ns n r (free_in ns r.over)) ≡ (not t && (is_single ns (facts_in ns) r.over r && list_all (is_ready ns (facts_in ns) r.over) (feeders ns r.over n.quants)))) [
+pub may-feed : (ns : List Node) (n : Node) (r : OwnedQuant) → code.may_feed ns n.quants r ≡ may_feed ns (facts_in ns) n r
+may-feed ns n r = elim (is_empty (free_in ns r.over)) as (λ t. code.told_if t (code.told ns n.quants r (free_in ns r.over)) ≡ (not t && (is_single ns (facts_in ns) r.over r && list_all (is_ready ns (facts_in ns) r.over) (feeders ns r.over n.quants)))) [
   | true ↦ refl
   | false ↦ ap (λ b. is_single ns (facts_in ns) r.over r && b) (all-ready ns (facts_in ns) r.over n.quants)
 ]
+
+-- ---- what is free, by the table of it
+
+empty-len : (xs : List ℕ) → (length xs == 0) ≡ is_empty xs
+empty-len [] = refl
+empty-len (x ∷ xs) = let e : length (x ∷ xs) ≡ suc (length xs) = refl in ap (λ n. n == 0) e ∙ never (length xs)
+  where
+    never : (n : ℕ) → (suc n == 0) ≡ false
+    never n = eqb-suc-zero n
+
+-- that nothing stands in a table at a box
+pub closed-by : (table : List (List ℕ)) (b : ℕ) (xs : List ℕ) → xs ≡ free_of table b → (length xs == 0) ≡ is_empty (free_of table b)
+closed-by table b xs e = empty-len xs ∙ ap is_empty e
+
+pub closed-same : (table : List (List ℕ)) (ns : List Node) → TellsFree table ns → (b : ℕ) → is_empty (free_of table b) ≡ is_empty (free_in ns b)
+closed-same table ns t b = same-truth (is_empty (free_of table b)) (is_empty (free_in ns b))
+    (λ e. none-empty (free_in ns b) (λ q h. empty-none (free_of table b) e q (t b q ∙ h)))
+    (λ e. none-empty (free_of table b) (λ q h. empty-none (free_in ns b) e q (sym (t b q) ∙ h)))
+
+-- a list of the same numbers tells the same
+pub ready-same : (ns : List Node) (known : Facts) (c : ℕ) (xs ys : List ℕ) → ((q : ℕ) → holds q xs ≡ holds q ys) → (rs : List OwnedQuant) → all_ready ns known c xs rs ≡ all_ready ns known c ys rs
+ready-same ns known c xs ys h [] = refl
+ready-same ns known c xs ys h (r ∷ rs) = ap₂ (λ (a b : Bool). (not (is_F r.kind && a) || is_ready ns known c r) && b) (h r.id) (ready-same ns known c xs ys h rs)
+
+-- what the code asks of the table is what is asked of the graph
+pub told-same : (table : List (List ℕ)) (ns : List Node) → TellsFree table ns → (qs : List OwnedQuant) (r : OwnedQuant) → code.told ns qs r (free_of table r.over) ≡ code.told ns qs r (free_in ns r.over)
+told-same table ns t qs r = ap (λ b. is_single [] (facts_in ns) r.over r && b) (ready-same ns (facts_in ns) r.over (free_of table r.over) (free_in ns r.over) (t r.over) qs)
+
+pub may-feed-by : (table : List (List ℕ)) (ns : List Node) → TellsFree table ns → (qs : List OwnedQuant) (r : OwnedQuant) → is_empty (free_in ns r.over) ≡ false → code.told ns qs r (free_of table r.over) ≡ code.may_feed ns qs r
+may-feed-by table ns t qs r e = told-same table ns t qs r ∙ sym (ap (λ b. code.told_if b (code.told ns qs r (free_in ns r.over))) e)
+
+pub not-open : (ns : List Node) (qs : List OwnedQuant) (r : OwnedQuant) → is_empty (free_in ns r.over) ≡ true → false ≡ code.may_feed ns qs r
+not-open ns qs r e = sym (ap (λ b. code.told_if b (code.told ns qs r (free_in ns r.over))) e)
+
+-- a plain select that may own is closed
+pub own-closed : (ns : List Node) (n : Node) → may_grow ns n ≡ true → may_own ns n ≡ is_empty (free_in ns n.id)
+own-closed ns n h =
+    let a = and_parts (is_plain_select n) (nat_le (length ns) most_boxes) h in
+    ap (λ b. b && (nat_le (length ns) most_boxes && is_empty (free_in ns n.id))) a.0 ∙ ap (λ b. b && is_empty (free_in ns n.id)) a.1
+
+pub none-grows : (ns : List Node) (n : Node) → may_grow ns n ≡ false → may_own ns n ≡ false
+none-grows ns n h = elim (cases_Bool (is_plain_select n)) [
+  | inl p ↦ ap (λ b. b && (nat_le (length ns) most_boxes && is_empty (free_in ns n.id))) p ∙ ap (λ b. b && is_empty (free_in ns n.id)) (sym (ap (λ b. b && nat_le (length ns) most_boxes) p) ∙ h)
+  | inr p ↦ ap (λ b. b && (nat_le (length ns) most_boxes && is_empty (free_in ns n.id))) p
+]
+
+-- where no column may be an error, those that are named are none
+pub all-free : (w : ℕ) (free named : ℕ → Bool) → all_places w free ≡ true → all_places w (λ k. not (named k) || free k) ≡ true
+all-free zero free named h = refl
+all-free (suc w) free named h = let x = and_parts (free (suc w)) (all_places w free) h in and_from (not (named (suc w)) || free (suc w)) (all_places w (λ k. not (named k) || free k)) (or_right (not (named (suc w))) (free (suc w)) x.0) (all-free w free named x.1)
+
+-- only the F feed
+fs-ready : (ns : List Node) (known : Facts) (c : ℕ) (free : List ℕ) (rs : List OwnedQuant) → all_ready ns known c free (fs rs) ≡ all_ready ns known c free rs
+fs-ready ns known c free [] = refl
+fs-ready ns known c free (q ∷ qs) = elim (cases_Bool (is_F q.kind)) [
+  | inl t ↦ ap (λ b. all_ready ns known c free (cond b (q ∷ fs qs) (fs qs))) t ∙ ap (λ b. (not (feeds_by free q) || is_ready ns known c q) && b) (fs-ready ns known c free qs)
+  | inr f ↦ ap (λ b. all_ready ns known c free (cond b (q ∷ fs qs) (fs qs))) f ∙ fs-ready ns known c free qs ∙ sym (ap (λ b. (not (b && holds q.id free) || is_ready ns known c q) && all_ready ns known c free qs) f)
+]
+
+pub fs-feed : (ns : List Node) (n : Node) (r : OwnedQuant) → code.may_feed ns (fs n.quants) r ≡ may_feed ns (facts_in ns) n r
+fs-feed ns n r = ap (λ b. code.told_if (is_empty (free_in ns r.over)) (is_single [] (facts_in ns) r.over r && b)) (fs-ready ns (facts_in ns) r.over (free_in ns r.over) n.quants) ∙ may-feed ns n r

@@ -8,14 +8,15 @@ use Rattle.rule_api.specs.Rules.{Pair, place_at}
 use Rattle.rule_api.specs.declared.place.Place.{Place}
 use Rattle.rule_facts.specs.Places.{in_owner}
 use Rattle.rule_feed.specs.FeedCode as code
+use Rattle.rule_feed.specs.FeedCode.{fs, may_grow}
 use Rattle.rule_feed.specs.FeedMay.{feed_pairs, may_feed, may_fire, may_own}
 use Rattle.rule_feed.specs.Knowing.{facts_in}
-use Rattle.rule_feed.proofs.FeedConditionSteps.{may-feed}
-use Rattle.rule_subquery.proofs.QuantPlaces.{none-passes}
+use Rattle.rule_feed.proofs.FeedConditionSteps.{fs-feed, none-grows}
 
--- a box of which no quantifier passes
-pub none_owned : (g : QueryGraph) (b : ℕ) (n : Node) → box_of b g ≡ Some n → may_own g.boxes n ≡ false → picks (in_owner (may_fire g.boxes) (box_of b g)) 1 (quants_of b g) ≡ []
-none_owned g b n e h = none-passes (may_fire g.boxes) g b n e (λ r i. ap (λ t. t && may_feed g.boxes (facts_in g.boxes) n r) h)
+-- a box that may own none
+pub none-picked : (ns : List Node) (n : Node) → may_own ns n ≡ false → (first : ℕ) (rs : List OwnedQuant) → picks (may_fire ns n) first rs ≡ []
+none-picked ns n h first [] = refl
+none-picked ns n h first (r ∷ rs) = ap₂ (λ (t : Bool) (l : List Pair). picked t first 0 ++ l) (ap (λ t. t && may_feed ns (facts_in ns) n r) h) (none-picked ns n h (first + 1) rs)
 
 same-picks : {X : Type 0} (p q : X → Bool) → ((x : X) → p x ≡ q x) → (first : ℕ) (xs : List X) → picks p first xs ≡ picks q first xs
 same-picks p q h first [] = refl
@@ -28,12 +29,18 @@ none-left zero (r ∷ rs) l = absurd (let e : length (r ∷ rs) ≡ suc (length 
 none-left (suc k) (r ∷ rs) l = none-left k rs (let e : length (r ∷ rs) ≡ suc (length rs) = refl in omega (arith, e))
 
 -- where the code has picked all of a box that may own them, these are the places
-pub all-picked : (g : QueryGraph) (b : ℕ) (n : Node) → box_of b g ≡ Some n → may_own g.boxes n ≡ true → (out : List Place) (k : ℕ) (list : List OwnedQuant) → list ≡ n.quants → length list ≤ k
-    → out ++ map (place_at b) (picks (code.may_feed g.boxes n) (k + 1) (drop k list)) ≡ map (place_at b) (picks (code.may_feed g.boxes n) 1 list) → out ≡ map (place_at b) (feed_pairs g b)
+pub all-picked : (ns : List Node) (b : ℕ) (n : Node) → may_own ns n ≡ true → (out : List Place) (k : ℕ) (list : List OwnedQuant) → list ≡ n.quants → length list ≤ k
+    → out ++ map (place_at b) (picks (code.may_feed ns (fs n.quants)) (k + 1) (drop k list)) ≡ map (place_at b) (picks (code.may_feed ns (fs n.quants)) 1 list) → out ≡ map (place_at b) (picks (may_fire ns n) 1 n.quants)
+all-picked ns b n h out k list same l so =
+    sym (append-nil out) ∙ sym (ap (λ rs. out ++ map (place_at b) (picks (code.may_feed ns (fs n.quants)) (k + 1) rs)) (none-left k list l)) ∙ so
+    ∙ ap (λ rs. map (place_at b) (picks (code.may_feed ns (fs n.quants)) 1 rs)) same
+    ∙ ap (map (place_at b)) (same-picks (code.may_feed ns (fs n.quants)) (may_fire ns n) (λ r. fs-feed ns n r ∙ ap (λ t. t && may_feed ns (facts_in ns) n r) (sym h)) 1 n.quants)
+
+-- the places of a box that stands there
+pub places-of : (g : QueryGraph) (b : ℕ) (n : Node) → box_of b g ≡ Some n → map (place_at b) (picks (may_fire g.boxes n) 1 n.quants) ≡ map (place_at b) (feed_pairs g b)
 unfolding feed_pairs
-all-picked g b n e h out k list same l so =
-    sym (append-nil out) ∙ sym (ap (λ rs. out ++ map (place_at b) (picks (code.may_feed g.boxes n) (k + 1) rs)) (none-left k list l)) ∙ so
-    ∙ ap (λ rs. map (place_at b) (picks (code.may_feed g.boxes n) 1 rs)) same
-    ∙ ap (map (place_at b)) (
-    same-picks (code.may_feed g.boxes n) (may_fire g.boxes n) (λ r. may-feed g.boxes n r ∙ ap (λ t. t && may_feed g.boxes (facts_in g.boxes) n r) (sym h)) 1 n.quants
-    ∙ sym (ap (λ z. picks (in_owner (may_fire g.boxes) z) 1 (quants_in z)) e))
+places-of g b n e = sym (ap (λ z. map (place_at b) (picks (in_owner (may_fire g.boxes) z) 1 (quants_in z))) e)
+
+-- a box to which none may be added has none
+pub none_grown : (g : QueryGraph) (b : ℕ) (n : Node) → box_of b g ≡ Some n → may_grow g.boxes n ≡ false → picks (in_owner (may_fire g.boxes) (box_of b g)) 1 (quants_of b g) ≡ []
+none_grown g b n e h = ap (λ z. picks (in_owner (may_fire g.boxes) z) 1 (quants_in z)) e ∙ none-picked g.boxes n (none-grows g.boxes n h) 1 n.quants

@@ -31,6 +31,7 @@ pub mod FillFound
 pub mod FillMade
 pub mod NamedSteps
 pub mod NodesListed
+pub mod PutReaders
 pub mod SettleMade
 pub mod SplitBag
 pub mod SplitEdits

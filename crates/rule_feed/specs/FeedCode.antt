@@ -1,25 +1,31 @@
 -- What the code of G1 asks, step by step.
-use Rattle.std.proofs.Common.{ℕ, ◌≡◌, ◌&&◌, ◌||◌, not, Bool, true, false, List, [], ◌∷◌, ◌++◌, filter, None, refl}
+use Rattle.std.proofs.Common.{ℕ, ◌≡◌, ◌&&◌, ◌||◌, nat_le, not, Bool, true, false, List, [], ◌∷◌, ◌++◌, filter, length, None, refl}
 use Rattle.std.specs.List.{list_any}
 use Rattle.qgm_terms.specs.Terms.{Cond}
 use Rattle.qgm_core.specs.Boxes.{QueryGraph, has_box, numbers, owns}
 use Rattle.qgm_core.specs.Free.{free_in}
 use Rattle.qgm_core.specs.Kinds.{is_F}
-use Rattle.list_laws.specs.Lists.{EachOnce, holds}
+use Rattle.list_laws.specs.Lists.{EachOnce, In, holds}
 use Rattle.qgm_core.specs.declared.node.Node.{Node}
 use Rattle.qgm_core.specs.declared.owned.OwnedQuant.{OwnedQuant}
 use Rattle.qgm_edit_laws.specs.Graph.{reads_in}
 use Rattle.qgm_props.specs.Inferred.{Facts}
 use Rattle.qgm_wellformed.specs.WellFormed.{fault, is_empty}
 use Rattle.rule_api.specs.declared.place.Place.{Place}
+use Rattle.rule_facts.specs.Places.{is_plain_select}
+use Rattle.rule_merge.specs.MergeSelectSteps.{reads_any}
 use Rattle.rule_feed.specs.FeedActs as act
 use Rattle.rule_feed.specs.FeedActs.{settled_node, takes}
 use Rattle.rule_feed.specs.FeedMay as may
-use Rattle.rule_feed.specs.FeedMay.{is_ready}
+use Rattle.rule_feed.specs.FeedMay.{is_ready, most_boxes}
 use Rattle.rule_feed.specs.FeedSteps as steps
 use Rattle.rule_feed.specs.Knowing.{facts_in}
 use Rattle.rule_feed.specs.Turn.{failing}
 use Rattle.rule_feed.specs.declared.feed.split.Parts.{Parts}
+
+-- a plain select, of a graph to which boxes may be added
+abbrev pub may_grow : List Node → Node → Bool
+may_grow ns n = is_plain_select n && nat_le (length ns) most_boxes
 
 -- an F of which the number is among those that are free
 abbrev pub feeds_by : List ℕ → OwnedQuant → Bool
@@ -37,17 +43,29 @@ abbrev pub all_ready : List Node → Facts → ℕ → List ℕ → List OwnedQu
 all_ready ns known c free [] = true
 all_ready ns known c free (q ∷ qs) = (not (feeds_by free q) || is_ready ns known c q) && all_ready ns known c free qs
 
--- the box under r, in which these are free, may be fed by what is inferred
-abbrev pub told : List Node → Node → OwnedQuant → List ℕ → Bool
-told ns n r free = may.is_single [] (facts_in ns) r.over r && all_ready ns (facts_in ns) r.over free n.quants
+-- the F of these
+abbrev pub fs : List OwnedQuant → List OwnedQuant
+fs rs = filter (λ r. is_F r.kind) rs
+
+-- the box under r, in which these are free, may be fed by the quantifiers qs, by what is inferred
+abbrev pub told : List Node → List OwnedQuant → OwnedQuant → List ℕ → Bool
+told ns qs r free = may.is_single [] (facts_in ns) r.over r && all_ready ns (facts_in ns) r.over free qs
 
 -- and something is free in it
 abbrev pub told_if : Bool → Bool → Bool
 told_if true passes = false
 told_if false passes = passes
 
-abbrev pub may_feed : List Node → Node → OwnedQuant → Bool
-may_feed ns n r = told_if (is_empty (free_in ns r.over)) (told ns n r (free_in ns r.over))
+abbrev pub may_feed : List Node → List OwnedQuant → OwnedQuant → Bool
+may_feed ns qs r = told_if (is_empty (free_in ns r.over)) (told ns qs r (free_in ns r.over))
+
+-- the boxes that read a column of q
+abbrev pub readers : ℕ → List Node → List ℕ
+readers q ns = numbers (filter (λ n. reads_any q n.parts) ns)
+
+-- each box that does is one of these
+abbrev pub AreReaders : List ℕ → ℕ → List Node → Type 0
+AreReaders ids q ns = (n : Node) → In n ns → holds n.id ids ≡ false → reads_any q n.parts ≡ false
 
 -- these are the parts of b, over box c
 abbrev pub IsParted : List Node → Node → ℕ → Parts → Type 0

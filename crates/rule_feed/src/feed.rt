@@ -1,8 +1,13 @@
 // G1.
-ghost use Rattle.std.specs.Prelude.{◌≡◌};
+ghost use Rattle.std.specs.Prelude.{◌≡◌, map, true, IfOk};
+ghost use Rattle.qgm_props.specs.FreeTables.{TellsFree};
+ghost use Rattle.qgm_props.specs.Laws.{KeptOf};
+ghost use Rattle.rule_api.specs.Picks.{picks};
+ghost use Rattle.rule_api.specs.Rules.{place_at};
 ghost use Rattle.rule_api.specs.declared.rule_id.RuleId.TheVariants.{G1};
 ghost use Rattle.rule_feed.specs.FeedActs.{Feeds};
-ghost use Rattle.rule_feed.specs.FeedMay.{MayFeed, feed_pairs};
+ghost use Rattle.rule_feed.specs.FeedCode.{may_grow};
+ghost use Rattle.rule_feed.specs.FeedMay.{MayFeed, feed_pairs, may_fire};
 ghost use Rattle.rule_feed.specs.FeedMayExact.{feed_exact};
 
 mod action;
@@ -15,9 +20,9 @@ mod split;
 mod terms;
 
 use crate::feed::action::fed_at;
-use crate::feed::condition::{may_feed, may_own};
-use qgm_core::{BoxId, Graph};
-use qgm_props::Inference;
+use crate::feed::condition::{fs_of, is_closed, may_feed, may_grow};
+use qgm_core::{BoxId, Graph, Node};
+use qgm_props::{FreeTable, Inference};
 use rule_api::{Place, Rule, RuleId, add_if};
 use rule_facts::box_at;
 use shared_types::OutOfMemory;
@@ -28,6 +33,34 @@ use std::alloc::Global;
 /// 1996, 4).
 #[derive(Clone, Copy)]
 pub struct Feed;
+
+// The places at a plain select, of a graph to which boxes may be added.
+fn places_in(
+    alloc: Global,
+    graph: &Graph,
+    known: &mut Inference,
+    free: &FreeTable,
+    node: &Node,
+    b: BoxId,
+) -> Result<Vec<Place>, OutOfMemory>
+    requires known { KeptOf known.old graph.now.boxes }
+    requires free { TellsFree free.now graph.now.boxes }
+    requires grow { may_grow graph.now.boxes node.now ≡ true }
+    ensures list { IfOk result (λ v. v.items ≡ map (place_at b) (picks (may_fire graph.now.boxes node.now) 1 node.now.quants)) }
+    ensures known { KeptOf known.new graph.now.boxes }
+{
+    let mut out = Vec::new(alloc);
+    if !is_closed(free, node.id) {
+        return Ok(out);
+    }
+    let list = node.quants.as_slice();
+    let fs = fs_of(alloc, list)?;
+    for k in 0..list.len() {
+        let passes = may_feed(alloc, graph, known, free, &fs, list[k])?;
+        add_if(&mut out, passes, b, k + 1, 0)?;
+    }
+    Ok(out)
+}
 
 impl Rule for Feed {
     ghost pairs = { λ _. feed_pairs };
@@ -44,7 +77,7 @@ impl Rule for Feed {
         RuleId::G1
     }
 
-    #[tactic(auto, using(crate::proofs::FeedPlaces::none_owned), unfolding(crate::specs::FeedMay::feed_pairs))]
+    #[tactic(auto, using(crate::proofs::FeedPlaces::none_grown), unfolding(crate::specs::FeedMay::feed_pairs))]
     fn places(
         &self,
         alloc: Global,
@@ -52,20 +85,17 @@ impl Rule for Feed {
         known: &mut Inference,
         b: BoxId,
     ) -> Result<Vec<Place>, OutOfMemory> {
-        let mut out = Vec::new(alloc);
         graph.each_number_once();
         let Some(node) = box_at(graph.nodes(), b) else {
-            return Ok(out);
+            return Ok(Vec::new(alloc));
         };
-        if !may_own(alloc, graph.nodes(), node)? {
-            return Ok(out);
+        if !may_grow(graph.nodes(), node) {
+            return Ok(Vec::new(alloc));
         }
-        let list = node.quants.as_slice();
-        for k in 0..list.len() {
-            let passes = may_feed(alloc, graph, known, node, list[k])?;
-            add_if(&mut out, passes, b, k + 1, 0)?;
-        }
-        Ok(out)
+        let free = known.take_free(alloc, graph)?;
+        let places = places_in(alloc, graph, known, &free, node, b)?;
+        known.put_free(free);
+        Ok(places)
     }
 
     fn apply(&self, alloc: Global, graph: &mut Graph, place: Place) -> Result<(), OutOfMemory> {

@@ -1,6 +1,5 @@
 -- What the loops over conjuncts have made so far.
-use Rattle.std.proofs.Common.{ℕ, zero, suc, ◌+◌, ◌++◌, ◌<◌, ◌≡◌, ◌||◌, ◌&&◌, Bool, true, false, List, [], ◌∷◌, Option, Some, None, cond, drop, inl, inr, length, map, refl, sym, ap, ap₂, ◌∙◌, arith}
-use Rattle.std.specs.Prelude.{slice_get}
+use Rattle.std.proofs.Common.{ℕ, ◌+◌, ◌++◌, ◌≡◌, ◌||◌, ◌&&◌, Bool, true, false, List, [], ◌∷◌, Option, Some, None, cond, inl, inr, map, refl, sym, ap, ap₂, ◌∙◌}
 use Rattle.std.specs.List.{list_any}
 use Rattle.qgm_core.specs.Boxes.{QueryGraph, is_box, owns, range_in}
 use Rattle.list_laws.specs.Lists.{In, first}
@@ -10,34 +9,19 @@ use Rattle.qgm_core.specs.declared.owned.OwnedQuant.{OwnedQuant}
 use Rattle.qgm_props.specs.Inferred.{Facts}
 use Rattle.qgm_props.specs.Laws.{Tells}
 use Rattle.qgm_props.specs.Under.{of_over}
-use Rattle.qgm_terms.specs.Shown.{conds}
-use Rattle.qgm_terms.specs.Shown as shown
 use Rattle.qgm_terms.specs.Terms.{Cond}
 use Rattle.qgm_terms.specs.declared.named.Column.{Column}
-use Rattle.qgm_terms.specs.declared.tree.Gc.{Gc}
 use Rattle.rule_api.specs.Picks.{grid, picked, row}
-use Rattle.rule_api.specs.Rules.{Pair, place_at}
+use Rattle.rule_api.specs.Rules.{Pair}
 use Rattle.rule_api.specs.declared.place.Place.{Place}
 use Rattle.rule_trans.specs.EqualColumnsExact.{free-told}
 use Rattle.rule_trans.specs.Equalities.{equated, has_two, is_equality, is_some}
 use Rattle.rule_trans.specs.declared.equalities.Equality.{Equality}
-use Rattle.rule_trans.specs.EqualColumnsPlaces.{equal_columns_pairs, implied_of, infers_free, may_have, pairs_in, passes, row_from, takes}
+use Rattle.rule_trans.specs.EqualColumnsPlaces.{equal_columns_pairs, implied_of, infers_free, may_have, pairs_in, passes, takes}
 
 pub map-two : (f : Pair → Place) (xs ys : List Pair) → map f (xs ++ ys) ≡ map f xs ++ map f ys
 map-two f [] ys = refl
 map-two f (x ∷ xs) ys = ap (λ zs. f x ∷ zs) (map-two f xs ys)
-
-grid-next : (g : QueryGraph) (n : Node) (first : ℕ) (xs : List Gc) (i : ℕ) → i < length xs → grid (passes g n) first (conds (drop i xs)) ≡ row_from g n first (conds (drop i xs)) ++ grid (passes g n) (first + 1) (conds (drop (i + 1) xs))
-grid-next g n first [] i h = absurd (omega (arith, h))
-grid-next g n first (x ∷ xs) zero h = refl
-grid-next g n first (x ∷ xs) (suc i) h =
-    let e : suc (i + 1) ≡ suc i + 1 = omega arith in
-    let l : length (x ∷ xs) ≡ suc (length xs) = refl in
-    grid-next g n first xs i (omega (arith, h, l)) ∙ ap (λ k. row_from g n first (conds (drop i xs)) ++ grid (passes g n) (first + 1) (conds (drop k (x ∷ xs)))) e
-
-pub grid_more : (g : QueryGraph) (n : Node) (b : ℕ) (first : ℕ) (xs : List Gc) (i : ℕ) → i < length xs
-    → map (place_at b) (grid (passes g n) first (conds (drop i xs))) ≡ map (place_at b) (row_from g n first (conds (drop i xs))) ++ map (place_at b) (grid (passes g n) (first + 1) (conds (drop (i + 1) xs)))
-grid_more g n b first xs i h = ap (map (place_at b)) (grid-next g n first xs i h) ∙ map-two (place_at b) (row_from g n first (conds (drop i xs))) (grid (passes g n) (first + 1) (conds (drop (i + 1) xs)))
 
 -- where there aren't two equalities, none follows
 pub row-none : (p : Cond → Bool) (i first : ℕ) (cs : List Cond) → ((d : Cond) → In d cs → p d ≡ false) → row p i first cs ≡ []
@@ -81,12 +65,6 @@ no-pairs g n h = elim (takes n) as (λ t. (t && has_two n.parts.conds.items) ≡
 pub none_found : (g : QueryGraph) (b : ℕ) (n : Node) → Some n ≡ first (is_box b) g.boxes → may_have n ≡ false → equal_columns_pairs g b ≡ []
 unfolding equal_columns_pairs
 none_found g b n e h = ap (pairs_in g) (sym e) ∙ no-pairs g n h
-
--- the row of the conjunct at a place
-pub row_here : (g : QueryGraph) (n : Node) (first : ℕ) (xs : List Gc) (i : ℕ) (c : Gc) → slice_get xs i ≡ Some c → row_from g n first (conds (drop i xs)) ≡ row (passes g n (shown.cond c)) first (first + 1) (conds (drop (i + 1) xs))
-row_here g n first [] i c h = absurd (let z : ⊥ = cc in z)
-row_here g n first (x ∷ xs) zero c h = let e : x ≡ c = cc in ap (λ (y : Gc). row (passes g n (shown.cond y)) first (first + 1) (conds xs)) e
-row_here g n first (x ∷ xs) (suc i) c h = let e : suc (i + 1) ≡ suc i + 1 = omega arith in row_here g n first xs i c h ∙ ap (λ k. row (passes g n (shown.cond c)) first (first + 1) (conds (drop k (x ∷ xs)))) e
 
 -- ---- what is told of a column
 

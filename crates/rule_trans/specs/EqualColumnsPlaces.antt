@@ -1,5 +1,5 @@
 -- J1: its places, by a test of two conjuncts.
-use Rattle.std.specs.Prelude.{ℕ, ◌+◌, ◌==◌, ◌&&◌, ◌||◌, not, if◌then◌else◌, Bool, true, false, List, [], ◌∷◌, Option, Some, None}
+use Rattle.std.specs.Prelude.{ℕ, ◌==◌, ◌&&◌, ◌||◌, not, if◌then◌else◌, Bool, true, false, List, [], Option, Some, None}
 use Rattle.qgm_core.specs.Boxes.{QueryGraph, box_of}
 use Rattle.qgm_core.specs.Kinds.{is_fed, is_select}
 use Rattle.qgm_core.specs.declared.kinds.BoxKind.{BoxKind}
@@ -10,7 +10,7 @@ use Rattle.qgm_props.specs.Inferred.{error_free_under}
 use Rattle.qgm_props.proofs.Settled.{all-told}
 use Rattle.qgm_terms.specs.Terms.{Cond, col, compare, equal}
 use Rattle.qgm_terms.specs.declared.named.Column.{Column}
-use Rattle.rule_api.specs.Picks.{grid, row}
+use Rattle.rule_api.specs.Picks.{grid}
 use Rattle.rule_api.specs.Rules.{Pair}
 use Rattle.rule_trans.specs.Equalities.{equated, has_two, is_same, is_some, is_there}
 use Rattle.rule_trans.specs.declared.equalities.Equality.{Equality}
@@ -65,11 +65,6 @@ implied g n c d = implied_of g n (equated c) (equated d)
 
 abbrev pub passes : QueryGraph → Node → Cond → Cond → Bool
 passes g n c d = is_some (implied g n c d)
-
--- the places of the first of these conjuncts, whose number is first, with those behind it
-abbrev pub row_from : QueryGraph → Node → ℕ → List Cond → List Pair
-row_from g n first [] = []
-row_from g n first (c ∷ cs) = row (passes g n c) first (first + 1) cs
 
 abbrev pub pairs_in : QueryGraph → Option Node → List Pair
 pairs_in g None = []

@@ -3,10 +3,13 @@ pub mod EqualColumns
 pub mod EqualLiteral
 pub mod Laws
 pub mod Equalities
+pub mod ColumnPairs
+pub mod Joints
 pub mod EqualColumnsPlaces
 pub mod EqualColumnsExact
 pub mod Adding
 pub mod Literals
 pub mod Numbered
 pub mod EqualLiteralPlaces
+pub mod FixedRows
 pub mod EqualLiteralExact

@@ -1,5 +1,5 @@
 -- The column and the literal that a condition equates.
-use Rattle.std.specs.Prelude.{ℕ, ℤ, ◌&&◌, Bool, true, false, List, Option, Some, None, nat_eq}
+use Rattle.std.specs.Prelude.{ℕ, ℤ, ◌+◌, ◌&&◌, Bool, true, false, List, [], ◌∷◌, Option, Some, None, nat_eq}
 use Rattle.std.specs.Cmp.Lexicographic.{pointwise}
 use Rattle.std.specs.List.{list_any}
 use Rattle.std.specs.Ordering.{int_eq}
@@ -7,6 +7,7 @@ use Rattle.qgm_terms.specs.Terms.{Cond, Term, both, choose, col, count_all, fold
 use Rattle.qgm_terms.specs.declared.named.Column.{Column}
 use Rattle.rule_trans.specs.Equalities.{column_of, is_same, sides}
 use Rattle.rule_trans.specs.declared.literals.FixedColumn.{FixedColumn}
+use Rattle.rule_trans.specs.declared.literals.FixedConjunct.{FixedConjunct}
 use Rattle.rule_trans.specs.declared.literals.Literal.{Literal}
 use Rattle.rule_trans.specs.declared.literals.Literal.TheVariants as code
 
@@ -77,6 +78,23 @@ is_of a l (Some f) = is_same a f.0 && same_literal l f.1
 abbrev pub is_there : Column → LiteralValue → List Cond → Bool
 is_there a l cs = list_any (λ e. is_of a l (fixed e)) cs
 
+-- a conjunct that equates a column and a literal, by its number
+abbrev pub NumberedPair : Type 0
+NumberedPair = ℕ × FixedPair
+
+abbrev pub numbered_if : ℕ → Option FixedPair → List NumberedPair → List NumberedPair
+numbered_if i None fs = fs
+numbered_if i (Some f) fs = (i, f) ∷ fs
+
+-- those of these, numbered from first on
+abbrev pub numbered : ℕ → List Cond → List NumberedPair
+numbered first [] = []
+numbered first (c ∷ cs) = numbered_if first (fixed c) (numbered (first + 1) cs)
+
+-- one of these equates a and l
+abbrev pub has_literal : Column → LiteralValue → List NumberedPair → Bool
+has_literal a l fs = list_any (λ f. is_of a l (Some f.1)) fs
+
 -- ---- as the code has them
 
 abbrev pub shown : Literal → LiteralValue
@@ -85,3 +103,6 @@ shown (code.Text s) = of_text s.now
 
 abbrev pub shown_fixed : FixedColumn → FixedPair
 shown_fixed f = (f.column, shown f.literal)
+
+abbrev pub shown_conjunct : FixedConjunct → NumberedPair
+shown_conjunct f = (f.place, shown_fixed f.fixed)

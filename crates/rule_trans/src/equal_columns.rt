@@ -1,23 +1,24 @@
 // J1.
 ghost use Rattle.std.specs.Prelude.{◌≡◌, ◌+◌, ◌<◌, ◌++◌, IfOk, OnOk, drop, length, map};
 ghost use Rattle.list_laws.specs.Lists.{In};
-ghost use Rattle.qgm_core.specs.Kinds.{is_select};
-ghost use Rattle.qgm_edit_laws.specs.Graph.{binds_row};
 ghost use Rattle.qgm_props.specs.Laws.{Tells};
 ghost use Rattle.qgm_props.specs.Table.{facts_of};
-ghost use Rattle.qgm_terms.specs.Shown.{cond, conds};
+ghost use Rattle.qgm_terms.specs.Shown.{cond};
 ghost use Rattle.qgm_wellformed.specs.Sentences.{WellFormed};
 ghost use Rattle.rule_api.specs.Picks.{grid};
 ghost use Rattle.rule_api.specs.Rules.{place_at};
 ghost use Rattle.rule_api.specs.declared.rule_id.RuleId.TheVariants.{J1};
+ghost use Rattle.rule_trans.specs.ColumnPairs.{has};
 ghost use Rattle.rule_trans.specs.EqualColumns.{AddsEqualColumns, MayEqualColumns};
 ghost use Rattle.rule_trans.specs.EqualColumnsPlaces as spec;
 ghost use Rattle.rule_trans.specs.EqualColumnsExact.{PlansAt, equal_columns_exact};
+ghost use Rattle.rule_trans.specs.Joints as told;
 
 use crate::adding::{AddPlan, add, plan_add};
-use crate::equalities::{Equality, equated, has_two, is_same, is_there};
-use crate::known::infers_free;
-use qgm_core::{BoxId, BoxKind, Column, Gc, Graph, Gx, Node, OwnedQuant, QuantId};
+use crate::column_pairs::{ColumnPairs, pairs_of};
+use crate::equalities::{Equality, has_two};
+use crate::joints::{Joint, implied, joint_of, joints_of, passes};
+use qgm_core::{BoxId, BoxKind, Gc, Graph, Gx, Node};
 use qgm_props::{Inference, Props, props};
 use qgm_terms::Sign;
 use rule_api::{Place, Rule, RuleId, add_if};
@@ -54,138 +55,56 @@ fn may_have(node: &Node) -> bool
     takes(node) && has_two(node.parts.conds.as_slice())
 }
 
-// Whether a quantifier is an F among these.
-fn binds_row(q: QuantId, ranges: &[OwnedQuant]) -> bool
-    ensures { result ≡ binds_row q ranges.now }
-{
-    ranges.iter().any(|r| r.kind.is_f() && r.id == q)
-}
-
-// Whether b is m, no other two columns are one, and a and c are of two F quantifiers of a box.
-fn are_three(node: &Node, a: Column, b: Column, m: Column, c: Column) -> bool
-    ensures { result ≡ spec.are_three node.now a b m c }
-{
-    let ranges = node.quants.as_slice();
-    is_same(b, m)
-        && !is_same(a, b)
-        && !is_same(m, c)
-        && a.quant != c.quant
-        && binds_row(a.quant, ranges)
-        && binds_row(c.quant, ranges)
-}
-
-// Whether it follows of a = b and m = c that a = c, which isn't there yet.
-fn joins(
-    graph: &Graph,
-    known: &Props,
-    node: &Node,
-    a: Column,
-    b: Column,
-    m: Column,
-    c: Column,
-) -> bool
-    requires { Tells (facts_of known.now) graph.now.boxes }
-    ensures { result ≡ spec.joins graph.now node.now a b m c }
-{
-    are_three(node, a, b, m, c)
-        && !is_there(a, c, node.parts.conds.as_slice())
-        && infers_free(graph, known, b)
-}
-
-// What follows of two equalities, the first column from the first of them.
-fn implied_by(
-    graph: &Graph,
-    known: &Props,
-    node: &Node,
-    e: Equality,
-    f: Equality,
-) -> Option<Equality>
-    requires { Tells (facts_of known.now) graph.now.boxes }
-    ensures { result ≡ spec.implied_by graph.now node.now e f }
-{
-    if joins(graph, known, node, e.left, e.right, f.left, f.right) {
-        return Some(Equality {
-            left: e.left,
-            right: f.right,
-        });
-    }
-    if joins(graph, known, node, e.left, e.right, f.right, f.left) {
-        return Some(Equality {
-            left: e.left,
-            right: f.left,
-        });
-    }
-    if joins(graph, known, node, e.right, e.left, f.left, f.right) {
-        return Some(Equality {
-            left: e.right,
-            right: f.right,
-        });
-    }
-    if joins(graph, known, node, e.right, e.left, f.right, f.left) {
-        return Some(Equality {
-            left: e.right,
-            right: f.left,
-        });
-    }
-    None
-}
-
-// What follows of two conjuncts of a box.
-fn implied(graph: &Graph, known: &Props, node: &Node, c: &Gc, d: &Gc) -> Option<Equality>
-    requires { Tells (facts_of known.now) graph.now.boxes }
-    ensures { result ≡ spec.implied graph.now node.now (cond c.now) (cond d.now) }
-{
-    let e = equated(c)?;
-    let f = equated(d)?;
-    implied_by(graph, known, node, e, f)
-}
-
-// Whether an equality follows of two conjuncts of a box.
-fn passes(graph: &Graph, known: &Props, node: &Node, c: &Gc, d: &Gc) -> bool
-    requires { Tells (facts_of known.now) graph.now.boxes }
-    ensures { result ≡ spec.passes graph.now node.now (cond c.now) (cond d.now) }
-{
-    implied(graph, known, node, c, d).is_some()
-}
-
 // Adds a place for each conjunct behind conjunct i, from 0, with which it passes.
 fn add_row(
-    graph: &Graph,
-    known: &Props,
-    node: &Node,
+    pairs: &ColumnPairs,
     b: BoxId,
     i: usize,
-    list: &[Gc],
+    joints: &[Option<Joint>],
     out: &mut Vec<Place>,
 ) -> Result<(), OutOfMemory>
-    requires facts { Tells (facts_of known.now) graph.now.boxes }
-    requires within { i < length list.now }
-    ensures { OnOk result (out.new.items ≡ out.old.items ++ map (place_at b) (spec.row_from graph.now node.now (i + 1) (conds (drop i list.now)))) }
+    requires { i < length joints.now }
+    ensures { OnOk result (out.new.items ≡ out.old.items ++ map (place_at b) (told.row_from (has pairs.now) (i + 1) (drop i joints.now))) }
 {
-    let c = &list[i];
-    for j in i + 1..list.len() {
-        let passes = passes(graph, known, node, c, &list[j]);
-        add_if(out, passes, b, i + 1, j + 1)?;
+    let e = &joints[i];
+    for j in i + 1..joints.len() {
+        if passes(pairs, e, &joints[j]) {
+            add_if(out, true, b, i + 1, j + 1)?;
+        }
     }
     Ok(())
 }
 
 // Adds a place for each two conjuncts that pass, the first before the second.
 fn add_grid(
+    pairs: &ColumnPairs,
+    b: BoxId,
+    joints: &[Option<Joint>],
+    out: &mut Vec<Place>,
+) -> Result<(), OutOfMemory>
+    ensures { OnOk result (out.new.items ≡ out.old.items ++ map (place_at b) (grid (told.passes (has pairs.now)) 1 joints.now)) }
+{
+    for i in 0..joints.len() {
+        add_row(pairs, b, i, joints, out)?;
+    }
+    Ok(())
+}
+
+// Adds the places at a box, by what is inferred.
+fn add_places(
+    alloc: Global,
     graph: &Graph,
     known: &Props,
     node: &Node,
     b: BoxId,
     out: &mut Vec<Place>,
 ) -> Result<(), OutOfMemory>
-    requires facts { Tells (facts_of known.now) graph.now.boxes }
+    requires { Tells (facts_of known.now) graph.now.boxes }
     ensures { OnOk result (out.new.items ≡ out.old.items ++ map (place_at b) (grid (spec.passes graph.now node.now) 1 node.now.parts.conds.items)) }
 {
-    let list = node.parts.conds.as_slice();
-    for i in 0..list.len() {
-        add_row(graph, known, node, b, i, list, out)?;
-    }
-    Ok(())
+    let pairs = pairs_of(alloc, node.parts.conds.as_slice())?;
+    let joints = joints_of(alloc, graph, known, node)?;
+    add_grid(&pairs, b, &joints, out)
 }
 
 // The condition that two columns are equal.
@@ -208,12 +127,15 @@ fn plan_at(alloc: Global, graph: &Graph, place: Place) -> Result<AddPlan, OutOfM
         unreachable!()
     };
     let known = props(alloc, graph)?;
+    let pairs = pairs_of(alloc, node.parts.conds.as_slice())?;
     let c = node.parts.conds.at(place.i);
     let d = node.parts.conds.at(place.j);
-    let Some(e) = implied(graph, &known, node, c, d) else {
+    let e = joint_of(graph, &known, node, c);
+    let f = joint_of(graph, &known, node, d);
+    let Some(x) = implied(&pairs, &e, &f) else {
         unreachable!()
     };
-    let p = equality(alloc, e)?;
+    let p = equality(alloc, x)?;
     plan_add(alloc, node, p)
 }
 
@@ -249,7 +171,7 @@ impl Rule for EqualColumns {
             return Ok(out);
         }
         let facts = known.take(alloc, graph)?;
-        add_grid(graph, &facts, node, b, &mut out)?;
+        add_places(alloc, graph, &facts, node, b, &mut out)?;
         known.put(facts);
         Ok(out)
     }

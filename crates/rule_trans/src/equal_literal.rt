@@ -6,20 +6,25 @@ ghost use Rattle.qgm_props.specs.Laws.{Tells};
 ghost use Rattle.qgm_props.specs.Table.{facts_of};
 ghost use Rattle.qgm_terms.specs.Shown.{cond, conds};
 ghost use Rattle.qgm_wellformed.specs.Sentences.{WellFormed};
-ghost use Rattle.rule_api.specs.Picks.{cross, row};
+ghost use Rattle.rule_api.specs.Picks.{cross};
 ghost use Rattle.rule_api.specs.Rules.{place_at};
 ghost use Rattle.rule_api.specs.declared.rule_id.RuleId.TheVariants.{J2};
 ghost use Rattle.rule_trans.specs.EqualLiteral.{AddsEqualLiteral, MayEqualLiteral};
 ghost use Rattle.rule_trans.specs.EqualLiteralExact.{PlansAt, equal_literal_exact};
 ghost use Rattle.rule_trans.specs.EqualLiteralPlaces as spec;
 ghost use Rattle.rule_trans.specs.Equalities.{is_equality};
-ghost use Rattle.rule_trans.specs.Literals.{shown_fixed};
+ghost use Rattle.rule_trans.specs.Equalities as columns;
+ghost use Rattle.rule_trans.specs.FixedRows as rows;
+ghost use Rattle.rule_trans.specs.Literals.{shown_conjunct, shown_fixed};
+ghost use Rattle.rule_trans.specs.Literals as literals;
 
 use crate::adding::{AddPlan, add, plan_add};
 use crate::equal_columns::takes;
 use crate::equalities::{Equality, equated, is_equality, is_same};
 use crate::known::{infers_free, ranges_over_base};
-use crate::literals::{FixedColumn, expression, fixed, has_fixed, is_there};
+use crate::literals::{
+    FixedColumn, FixedConjunct, expression, fixed, fixed_conjuncts, has_fixed, is_there,
+};
 use qgm_core::{BoxId, Column, Gc, Graph, Gx, Node};
 use qgm_props::{Inference, Props, props};
 use qgm_terms::Sign;
@@ -60,16 +65,16 @@ fn may_have(node: &Node) -> bool
 fn joins(
     graph: &Graph,
     known: &Props,
-    node: &Node,
+    all: &[FixedConjunct<'_>],
     a: Column,
     b: Column,
     f: FixedColumn<'_>,
 ) -> bool
     requires { Tells (facts_of known.now) graph.now.boxes }
-    ensures { result ≡ spec.joins graph.now node.now a b (shown_fixed f.entry) }
+    ensures { result ≡ rows.joins graph.now (map shown_conjunct all.now) a b (shown_fixed f.entry) }
 {
     is_same(b, f.column)
-        && !is_there(a, f.literal, node.parts.conds.as_slice())
+        && !is_there(a, f.literal, all)
         && ranges_over_base(graph, a.quant)
         && infers_free(graph, known, b)
 }
@@ -78,20 +83,20 @@ fn joins(
 fn implied_by<'a>(
     graph: &Graph,
     known: &Props,
-    node: &Node,
+    all: &[FixedConjunct<'_>],
     e: Equality,
     f: FixedColumn<'a>,
 ) -> Option<FixedColumn<'a>>
     requires { Tells (facts_of known.now) graph.now.boxes }
-    ensures { option_map shown_fixed result ≡ spec.implied_by graph.now node.now e (shown_fixed f.entry) }
+    ensures { option_map shown_fixed result ≡ rows.implied_by graph.now (map shown_conjunct all.now) e (shown_fixed f.entry) }
 {
-    if joins(graph, known, node, e.left, e.right, f) {
+    if joins(graph, known, all, e.left, e.right, f) {
         return Some(FixedColumn {
             column: e.left,
             literal: f.literal,
         });
     }
-    if joins(graph, known, node, e.right, e.left, f) {
+    if joins(graph, known, all, e.right, e.left, f) {
         return Some(FixedColumn {
             column: e.right,
             literal: f.literal,
@@ -104,49 +109,42 @@ fn implied_by<'a>(
 fn implied<'a>(
     graph: &Graph,
     known: &Props,
-    node: &Node,
+    all: &[FixedConjunct<'_>],
     c: &Gc,
     d: &'a Gc,
 ) -> Option<FixedColumn<'a>>
     requires { Tells (facts_of known.now) graph.now.boxes }
-    ensures { option_map shown_fixed result ≡ spec.implied graph.now node.now (cond c.now) (cond d.now) }
+    ensures { option_map shown_fixed result ≡ rows.implied_of graph.now (map shown_conjunct all.now) (columns.equated (cond c.now)) (literals.fixed (cond d.now)) }
 {
     let e = equated(c)?;
     let f = fixed(d)?;
-    implied_by(graph, known, node, e, f)
+    implied_by(graph, known, all, e, f)
 }
 
-// Whether an equality with a literal follows of two conjuncts of a box.
-fn passes(graph: &Graph, known: &Props, node: &Node, c: &Gc, d: &Gc) -> bool
-    requires { Tells (facts_of known.now) graph.now.boxes }
-    ensures { result ≡ spec.passes graph.now node.now (cond c.now) (cond d.now) }
-{
-    implied(graph, known, node, c, d).is_some()
-}
-
-// Adds a place for each conjunct with which conjunct i, from 1, passes.
+// Adds a place for each conjunct with a literal with which an equality passes, which is conjunct i,
+// from 1.
 fn add_row(
     graph: &Graph,
     known: &Props,
-    node: &Node,
+    all: &[FixedConjunct<'_>],
     b: BoxId,
     i: usize,
-    c: &Gc,
+    e: Equality,
     out: &mut Vec<Place>,
 ) -> Result<(), OutOfMemory>
     requires { Tells (facts_of known.now) graph.now.boxes }
-    ensures { OnOk result (out.new.items ≡ out.old.items ++ map (place_at b) (row (spec.passes graph.now node.now (cond c.now)) i 1 node.now.parts.conds.items)) }
+    ensures { OnOk result (out.new.items ≡ out.old.items ++ map (place_at b) (rows.row_in graph.now (map shown_conjunct all.now) e i (map shown_conjunct all.now))) }
 {
-    let list = node.parts.conds.as_slice();
-    for j in 0..list.len() {
-        let passes = passes(graph, known, node, c, &list[j]);
-        add_if(out, passes, b, i, j + 1)?;
+    for f in all {
+        let passes = implied_by(graph, known, all, e, f.fixed).is_some();
+        add_if(out, passes, b, i, f.place)?;
     }
     Ok(())
 }
 
 // Adds a place for each two conjuncts that pass, of whichever order.
 fn add_cross(
+    alloc: Global,
     graph: &Graph,
     known: &Props,
     node: &Node,
@@ -157,10 +155,11 @@ fn add_cross(
     ensures { OnOk result (out.new.items ≡ out.old.items ++ map (place_at b) (cross (spec.passes graph.now node.now) node.now.parts.conds.items 1 node.now.parts.conds.items)) }
 {
     let list = node.parts.conds.as_slice();
+    let all = fixed_conjuncts(alloc, list)?;
     for i in 0..list.len() {
         let c = &list[i];
-        if is_equality(c) {
-            add_row(graph, known, node, b, i + 1, c, out)?;
+        if let Some(e) = equated(c) {
+            add_row(graph, known, &all, b, i + 1, e, out)?;
         }
     }
     Ok(())
@@ -186,9 +185,10 @@ fn plan_at(alloc: Global, graph: &Graph, place: Place) -> Result<AddPlan, OutOfM
         unreachable!()
     };
     let known = props(alloc, graph)?;
+    let all = fixed_conjuncts(alloc, node.parts.conds.as_slice())?;
     let c = node.parts.conds.at(place.i);
     let d = node.parts.conds.at(place.j);
-    let Some(f) = implied(graph, &known, node, c, d) else {
+    let Some(f) = implied(graph, &known, &all, c, d) else {
         unreachable!()
     };
     let p = equality(alloc, f)?;
@@ -227,7 +227,7 @@ impl Rule for EqualLiteral {
             return Ok(out);
         }
         let facts = known.take(alloc, graph)?;
-        add_cross(graph, &facts, node, b, &mut out)?;
+        add_cross(alloc, graph, &facts, node, b, &mut out)?;
         known.put(facts);
         Ok(out)
     }

@@ -119,32 +119,3 @@ pub fn is_same(a: Column, b: Column) -> bool
 {
     a.quant == b.quant && a.place == b.place
 }
-
-// Whether it is the equality of two columns, in either order.
-fn is_of(a: Column, c: Column, e: Equality) -> bool
-    ensures { result ≡ spec.is_of a c e }
-{
-    (is_same(a, e.left) && is_same(c, e.right)) || (is_same(c, e.left) && is_same(a, e.right))
-}
-
-// Whether a condition equates two columns.
-fn equates(a: Column, c: Column, e: &Gc) -> bool
-    ensures { result ≡ spec.equates a c (spec.equated (cond e.now)) }
-{
-    match equated(e) {
-        Some(e) => is_of(a, c, e),
-        None => false,
-    }
-}
-
-/// Whether one of these conditions equates two columns.
-pub fn is_there(a: Column, c: Column, list: &[Gc]) -> bool
-    ensures { result ≡ spec.is_there a c (conds list.now) }
-{
-    for e in list {
-        if equates(a, c, e) {
-            return true;
-        }
-    }
-    false
-}

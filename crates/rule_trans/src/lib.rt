@@ -3,9 +3,11 @@
 #![tactic(auto)]
 
 mod adding;
+mod column_pairs;
 mod equal_columns;
 mod equal_literal;
 mod equalities;
+mod joints;
 mod known;
 mod laws;
 mod literals;

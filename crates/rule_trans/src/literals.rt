@@ -1,5 +1,5 @@
 // The column and the literal that a condition equates.
-ghost use Rattle.std.specs.Prelude.{◌≡◌, IfOk, option_map};
+ghost use Rattle.std.specs.Prelude.{◌≡◌, IfOk, Some, map, option_map};
 ghost use Rattle.qgm_terms.specs.Shown.{cond, conds, term};
 ghost use Rattle.rule_trans.specs.Equalities as equalities;
 ghost use Rattle.rule_trans.specs.Literals as spec;
@@ -91,22 +91,43 @@ fn is_same_literal(x: Literal<'_>, y: Literal<'_>) -> bool
     }
 }
 
-// Whether a condition equates a column and a literal.
-fn equates(a: Column, x: Literal<'_>, c: &Gc) -> bool
-    ensures { result ≡ spec.is_of a (spec.shown x.entry) (spec.fixed (cond c.now)) }
-{
-    match fixed(c) {
-        Some(f) => is_same(a, f.column) && is_same_literal(x, f.literal),
-        None => false,
-    }
+/// A conjunct that equates a column and a literal, by its place from 1.
+#[derive(Clone, Copy)]
+pub struct FixedConjunct<'a> {
+    pub place: usize,
+    pub fixed: FixedColumn<'a>,
 }
 
-/// Whether one of these conditions equates a column and a literal.
-pub fn is_there(a: Column, x: Literal<'_>, list: &[Gc]) -> bool
-    ensures { result ≡ spec.is_there a (spec.shown x.entry) (conds list.now) }
+/// The conjuncts that equate a column and a literal. It fails only for want of memory.
+pub fn fixed_conjuncts(alloc: Global, list: &[Gc]) -> Result<Vec<FixedConjunct<'_>>, OutOfMemory>
+    ensures { IfOk result (λ all. map spec.shown_conjunct all.items ≡ spec.numbered 1 (conds list.now)) }
 {
-    for c in list {
-        if equates(a, x, c) {
+    let mut all = Vec::new(alloc);
+    for i in 0..list.len() {
+        let c = &list[i];
+        if let Some(fixed) = fixed(c) {
+            all.push(FixedConjunct {
+                place: i + 1,
+                fixed,
+            })?;
+        }
+    }
+    Ok(all)
+}
+
+// Whether it is the equality of a column and a literal.
+fn is_of(a: Column, x: Literal<'_>, f: FixedColumn<'_>) -> bool
+    ensures { result ≡ spec.is_of a (spec.shown x.entry) (Some (spec.shown_fixed f.entry)) }
+{
+    is_same(a, f.column) && is_same_literal(x, f.literal)
+}
+
+/// Whether one of these conjuncts equates a column and a literal.
+pub fn is_there(a: Column, x: Literal<'_>, all: &[FixedConjunct<'_>]) -> bool
+    ensures { result ≡ spec.has_literal a (spec.shown x.entry) (map spec.shown_conjunct all.now) }
+{
+    for f in all {
+        if is_of(a, x, f.fixed) {
             return true;
         }
     }

@@ -1,8 +1,10 @@
 // Where G1 may fire.
-ghost use Rattle.std.specs.Prelude.{◌≡◌, ◌&&◌, [], IfOk};
+ghost use Rattle.std.specs.Prelude.{◌≡◌, ◌&&◌, [], IfOk, List};
 ghost use Rattle.qgm_core.specs.Boxes.{width};
 ghost use Rattle.qgm_core.specs.Free.{free_in};
 ghost use Rattle.qgm_edit_laws.specs.Graph.{reads_in};
+ghost use Rattle.qgm_core.specs.declared.node.Node.{Node};
+ghost use Rattle.qgm_props.specs.FreeTables.{TellsFree, free_of};
 ghost use Rattle.qgm_props.specs.Laws.{KeptOf};
 ghost use Rattle.qgm_props.specs.Table.{facts_of};
 ghost use Rattle.qgm_props.specs.Under.{all_places};
@@ -12,8 +14,8 @@ ghost use Rattle.rule_feed.specs.FeedCode as code;
 ghost use Rattle.list_laws.specs.Lists.{EachOnce};
 ghost use Rattle.qgm_core.specs.Boxes.{numbers};
 
-use qgm_core::{BoxId, BoxKind, Graph, Marks, Node, OwnedQuant, QuantId, free_in, reached};
-use qgm_props::{Inference, Props};
+use qgm_core::{BoxId, BoxKind, Graph, Marks, Node, OwnedQuant, QuantId, reached};
+use qgm_props::{FreeTable, Inference, Props};
 use qgm_term_search::{stands_in_cells, stands_in_conds};
 use qgm_terms::Sought;
 use rule_facts::box_at;
@@ -45,22 +47,18 @@ pub fn width_of(nodes: &[Node], b: BoxId) -> usize
     }
 }
 
-// Whether nothing is free in a box.
-fn is_closed(alloc: Global, nodes: &[Node], b: BoxId) -> Result<bool, OutOfMemory>
-    ensures { IfOk result (λ v. v ≡ is_empty (free_in nodes.now b)) }
+/// Whether nothing is free in a box.
+pub fn is_closed(table: &FreeTable, b: BoxId) -> bool
+    ensures { (ns : List Node) → TellsFree table.now ns → result ≡ is_empty (free_in ns b) }
 {
-    let free = free_in(alloc, nodes, b)?;
-    Ok(free.is_empty())
+    table.free_in(b).is_empty()
 }
 
-/// Whether a box is a closed plain select, of a graph to which boxes may be added.
-pub fn may_own(alloc: Global, nodes: &[Node], node: &Node) -> Result<bool, OutOfMemory>
-    ensures { IfOk result (λ v. v ≡ spec.may_own nodes.now node.now) }
+/// Whether a box is a plain select, of a graph to which boxes may be added.
+pub fn may_grow(nodes: &[Node], node: &Node) -> bool
+    ensures { result ≡ code.may_grow nodes.now node.now }
 {
-    if !(node.parts.kind.is_select() && node.parts.role.is_plain() && nodes.len() <= MOST_BOXES) {
-        return Ok(false);
-    }
-    is_closed(alloc, nodes, node.id)
+    node.parts.kind.is_select() && node.parts.role.is_plain() && nodes.len() <= MOST_BOXES
 }
 
 /// Whether a quantifier is an F among those that are free in a box.
@@ -109,6 +107,18 @@ fn are_columns_ready(nodes: &[Node], marks: &Marks, facts: &Props, q: OwnedQuant
     true
 }
 
+// Whether no column of q, of w columns, may be an error.
+fn are_error_free(facts: &Props, q: OwnedQuant, w: usize) -> bool
+    ensures { result ≡ all_places w ((facts_of facts.now).error_free q.over) }
+{
+    for j in 0..w {
+        if !facts.error_free(q.over, w - j) {
+            return false;
+        }
+    }
+    true
+}
+
 // Whether the columns of q that are named in box c or below are no errors.
 fn are_all_ready(
     alloc: Global,
@@ -120,8 +130,11 @@ fn are_all_ready(
     requires { EachOnce (numbers nodes.now) }
     ensures { IfOk result (λ v. v ≡ all_places (spec.width_of nodes.now q.over) (spec.is_column_ready nodes.now (facts_of facts.now) c q)) }
 {
-    let marks = reached(alloc, nodes, c)?;
     let w = width_of(nodes, q.over);
+    if are_error_free(facts, q, w) {
+        return Ok(true);
+    }
+    let marks = reached(alloc, nodes, c)?;
     Ok(are_columns_ready(nodes, &marks, facts, q, w))
 }
 
@@ -130,13 +143,15 @@ fn is_ready(
     alloc: Global,
     nodes: &[Node],
     facts: &Props,
+    table: &FreeTable,
     c: BoxId,
     q: OwnedQuant,
 ) -> Result<bool, OutOfMemory>
-    requires { EachOnce (numbers nodes.now) }
+    requires once { EachOnce (numbers nodes.now) }
+    requires free { TellsFree table.now nodes.now }
     ensures { IfOk result (λ v. v ≡ spec.is_ready nodes.now (facts_of facts.now) c q) }
 {
-    if !is_closed(alloc, nodes, q.over)? || !facts.clean(q.over) {
+    if !is_closed(table, q.over) || !facts.clean(q.over) {
         return Ok(false);
     }
     are_all_ready(alloc, nodes, facts, c, q)
@@ -147,15 +162,17 @@ fn are_ready(
     alloc: Global,
     nodes: &[Node],
     facts: &Props,
+    table: &FreeTable,
     c: BoxId,
-    free: &[QuantId],
     list: &[OwnedQuant],
 ) -> Result<bool, OutOfMemory>
     requires once { EachOnce (numbers nodes.now) }
-    ensures { IfOk result (λ v. v ≡ code.all_ready nodes.now (facts_of facts.now) c free.now list.now) }
+    requires free { TellsFree table.now nodes.now }
+    ensures { IfOk result (λ v. v ≡ code.all_ready nodes.now (facts_of facts.now) c (free_of table.now c) list.now) }
 {
+    let free = table.free_in(c);
     for q in list {
-        if feeds(free, *q) && !is_ready(alloc, nodes, facts, c, *q)? {
+        if feeds(free, *q) && !is_ready(alloc, nodes, facts, table, c, *q)? {
             return Ok(false);
         }
     }
@@ -169,60 +186,75 @@ fn is_single(facts: &Props, c: BoxId, r: OwnedQuant) -> bool
     !r.kind.is_s() || (facts.clean(c) && facts.exactly_one(c))
 }
 
-// Whether the box under r may be fed, by these facts, where those are free in it.
+/// The F of these quantifiers.
+pub fn fs_of(alloc: Global, list: &[OwnedQuant]) -> Result<Vec<OwnedQuant>, OutOfMemory>
+    ensures { IfOk result (λ v. v.items ≡ code.fs list.now) }
+{
+    let mut out = Vec::new(alloc);
+    for q in list {
+        if q.kind.is_f() {
+            out.push(*q)?;
+        }
+    }
+    Ok(out)
+}
+
+// Whether the box under r may be fed by these quantifiers, by these facts.
 fn passes(
     alloc: Global,
     nodes: &[Node],
     facts: &Props,
-    node: &Node,
+    table: &FreeTable,
+    fs: &[OwnedQuant],
     r: OwnedQuant,
-    free: &[QuantId],
 ) -> Result<bool, OutOfMemory>
     requires once { EachOnce (numbers nodes.now) }
-    ensures { IfOk result (λ v. v ≡ (spec.is_single [] (facts_of facts.now) r.over r && code.all_ready nodes.now (facts_of facts.now) r.over free.now node.now.quants)) }
+    requires free { TellsFree table.now nodes.now }
+    ensures { IfOk result (λ v. v ≡ (spec.is_single [] (facts_of facts.now) r.over r && code.all_ready nodes.now (facts_of facts.now) r.over (free_of table.now r.over) fs.now)) }
 {
     if !is_single(facts, r.over, r) {
         return Ok(false);
     }
-    are_ready(alloc, nodes, facts, r.over, free, node.quants.as_slice())
+    are_ready(alloc, nodes, facts, table, r.over, fs)
 }
 
-// Whether it may be fed by what is inferred, where those are free in it.
+// Whether it may be, by what is inferred.
 fn told(
     alloc: Global,
     graph: &Graph,
     known: &mut Inference,
-    node: &Node,
+    table: &FreeTable,
+    fs: &[OwnedQuant],
     r: OwnedQuant,
-    free: &[QuantId],
 ) -> Result<bool, OutOfMemory>
-    requires { KeptOf known.old graph.now.boxes }
+    requires known { KeptOf known.old graph.now.boxes }
+    requires free { TellsFree table.now graph.now.boxes }
     ensures known { KeptOf known.new graph.now.boxes }
-    ensures test { IfOk result (λ v. v ≡ code.told graph.now.boxes node.now r free.now) }
+    ensures test { IfOk result (λ v. v ≡ code.told graph.now.boxes fs.now r (free_of table.now r.over)) }
 {
     graph.each_number_once();
     let facts = known.take(alloc, graph)?;
-    let passes = passes(alloc, graph.nodes(), &facts, node, r, free)?;
+    let passes = passes(alloc, graph.nodes(), &facts, table, fs, r)?;
     known.put(facts);
     Ok(passes)
 }
 
-/// Whether the box under r, a quantifier of the box, may be fed.
+/// Whether the box under r may be fed by these quantifiers: the F of the box that owns r are enough.
 pub fn may_feed(
     alloc: Global,
     graph: &Graph,
     known: &mut Inference,
-    node: &Node,
+    table: &FreeTable,
+    fs: &[OwnedQuant],
     r: OwnedQuant,
 ) -> Result<bool, OutOfMemory>
-    requires { KeptOf known.old graph.now.boxes }
+    requires known { KeptOf known.old graph.now.boxes }
+    requires free { TellsFree table.now graph.now.boxes }
     ensures known { KeptOf known.new graph.now.boxes }
-    ensures test { IfOk result (λ v. v ≡ code.may_feed graph.now.boxes node.now r) }
+    ensures test { IfOk result (λ v. v ≡ code.may_feed graph.now.boxes fs.now r) }
 {
-    graph.each_number_once();
-    let free = free_in(alloc, graph.nodes(), r.over)?;
-    if free.is_empty() {
+    if is_closed(table, r.over) {
         return Ok(false);
     }
-    told(alloc, graph, known, node, r, &free)
+    told(alloc, graph, known, table, fs, r)
 }

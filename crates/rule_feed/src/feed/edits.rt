@@ -2,15 +2,19 @@
 ghost use Rattle.std.specs.Prelude.{ℕ, ◌≡◌, ◌++◌, suc, IfOk, OnOk};
 ghost use Rattle.list_laws.specs.Lists.{EachOnce, In};
 ghost use Rattle.qgm_core.specs.Boxes.{HasBox, HasQuant, numbers};
+ghost use Rattle.qgm_core.specs.Edits.{substitute};
 ghost use Rattle.qgm_core.specs.Held.{HasAll};
 ghost use Rattle.qgm_core.specs.declared.owned.OwnedQuant.{OwnedQuant};
 ghost use Rattle.qgm_meaning.specs.Tags.{columns_from};
+ghost use Rattle.rule_merge.specs.MergeSelectSteps.{reads_any};
+ghost use Rattle.rule_feed.specs.FeedCode as code;
 ghost use Rattle.rule_feed.specs.FeedSteps as spec;
 ghost use Rattle.rule_feed.specs.Split.{heads};
 
 use crate::feed::condition::width_of;
-use qgm_core::{BoxId, Graph, Node, OwnedQuant};
-use qgm_terms::{Gx, Head, QuantId};
+use qgm_core::{BoxId, BoxParts, Graph, Marks, Node, OwnedQuant};
+use qgm_term_search::{stands_in_cells, stands_in_conds};
+use qgm_terms::{Gx, Head, QuantId, Sought};
 use shared_types::OutOfMemory;
 use std::alloc::Global;
 
@@ -63,7 +67,50 @@ pub fn move_all(graph: &mut Graph, list: &[OwnedQuant], s: BoxId) -> Result<(), 
     Ok(())
 }
 
-/// Puts cells for a quantifier's columns in these boxes, one after the other.
+// Whether a box reads a column of q.
+fn reads_any(parts: &BoxParts, q: QuantId) -> bool
+    ensures { result ≡ reads_any q parts.now }
+{
+    stands_in_cells(parts.head.as_slice(), Sought::Row(q))
+        || stands_in_conds(parts.conds.as_slice(), Sought::Row(q))
+}
+
+// The boxes that do.
+fn readers(alloc: Global, nodes: &[Node], q: QuantId) -> Result<Marks, OutOfMemory>
+    ensures { IfOk result (λ m. m ≡ code.readers q nodes.now) }
+{
+    let mut marks = Marks::new(alloc);
+    for node in nodes {
+        if reads_any(&node.parts, q) {
+            marks.push(node.id)?;
+        }
+    }
+    Ok(marks)
+}
+
+// Puts cells for a quantifier's columns in a box, where it is one of those that read them.
+fn put_one(
+    alloc: Global,
+    graph: &mut Graph,
+    readers: &Marks,
+    b: BoxId,
+    q: QuantId,
+    cells: &Head,
+) -> Result<(), OutOfMemory>
+    requires held { HasBox b graph.old }
+    requires readers { code.AreReaders readers.now q graph.old.boxes }
+    ensures ok { OnOk result (graph.new ≡ substitute b q cells.now graph.old) }
+    ensures readers { OnOk result (code.AreReaders readers.now q graph.new.boxes) }
+    ensures kept { HasAll graph.old graph.new }
+{
+    if !readers.has(b) {
+        return Ok(());
+    }
+    graph.substitute(alloc, b, q, cells)
+}
+
+/// Puts cells for a quantifier's columns in these boxes, one after the other. Boxes that read none
+/// stay, and are not copied.
 pub fn put_each(
     alloc: Global,
     graph: &mut Graph,
@@ -75,8 +122,9 @@ pub fn put_each(
     ensures ok { OnOk result (graph.new ≡ spec.put_each ids.now q cells.now graph.old) }
     ensures kept { HasAll graph.old graph.new }
 {
+    let readers = readers(alloc, graph.nodes(), q)?;
     for b in ids {
-        graph.substitute(alloc, *b, q, cells)?;
+        put_one(alloc, graph, &readers, *b, q, cells)?;
     }
     Ok(())
 }

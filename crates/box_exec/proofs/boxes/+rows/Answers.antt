@@ -38,7 +38,8 @@ use Rattle.row_bag.proofs.Agreement.{alike-same}
 use Rattle.row_index.specs.Ways.{StandsFrom, place}
 use Rattle.row_index.proofs.Passed.{seen-again, seen-low}
 use Rattle.box_exec.proofs.Quantifiers.{bound-of, combined-rows, free-more, free-same, given-at, group-rows, left-bound, left-over, level-none, outer-rows, past-all, past-ranges, placed, range-at, range-past, range-within, stood, two-at}
-use Rattle.box_exec.proofs.boxes.+rows.Goals.{subs-then-not-is_f+in_ok-push_sub, subs-else-not-is_f}
+use Rattle.box_exec.proofs.boxes.+rows.Goals.{each-then-branch-2+in_ok-each, each-else-branch-2, subs-then-not-is_f+in_ok-push_sub, subs-else-not-is_f}
+use Rattle.sql_value.specs.Level.{least}
 use Rattle.box_exec.proofs.Rejections.{nothing-added, rejects-all}
 use Rattle.std.proofs.lemmas.Grind.{common_steps}
 use Rattle.box_exec.proofs.boxes.+rows.Goals as goal
@@ -73,13 +74,16 @@ each-loop-i-init g t c =
     let f = λ (cells : List Cell). left_at at (k + 1) (bound l.range.id cells env) in
     record {
       rows = subst (λ (n : ℕ). Alike c.args.out.now (c.args.out.now ++ keep c.args.level (bind (take n rows) f))) (sym c.place-i.ensures)
-          (stepped (rejects at.early.now (k + 1)) l.range.id rows env way c.in_ok-way.ensures f (λ cells h. rejects-all at (bound-of at c.requires.planned) (k + 1) (bound l.range.id cells env) h)
+          (stepped (rejects at.early.now (k + 1)) l.range.id rows env way c.in_ok-way.ensures.leads f (λ cells h. rejects-all at (bound-of at c.requires.planned) (k + 1) (bound l.range.id cells env) h)
           c.args.level c.args.out.now c.args.out.now 0 cursor (omega arith) c.first_of-c.ensures (alike-same (sym (append-nil c.args.out.now))));
       took = λ kept keeps. (omega arith, omega arith);
-      stands = seen-again way 0 cursor c.in_ok-way.ensures.spans (omega arith) c.first_of-c.ensures;
+      stands = seen-again way 0 cursor c.in_ok-way.ensures.leads.spans (omega arith) c.first_of-c.ensures;
       at = c.place-i.ensures;
       counted = λ start h. h;
     }
+
+pub each-is_taken-requires : goal.each-is_taken-requires
+each-is_taken-requires g t c = record { bound = bound-of c.args.at.now c.requires.planned; within = c.in-Some.ensures.lookup.3.0; at = c.in-Some.ensures.lookup.1 }
 
 pub each-loop-i-preserved : goal.each-loop-i-preserved
 each-loop-i-preserved g t c =
@@ -89,10 +93,10 @@ each-loop-i-preserved g t c =
     let k = c.args.k in
     let rows = c.rows-rows.result.now in
     let way = c.in_ok-way.way in
-    let leads = c.in_ok-way.ensures in
+    let leads = c.in_ok-way.ensures.leads in
     let i = c.loop-i.i in
     let r = c.index-rows-i.result in
-    let new = c.each-in-loop-i.new.out in
+    let level = c.args.level in
     let cursor = c.next_of-c.result in
     let f = λ (cells : List Cell). left_at at (k + 1) (bound l.range.id cells env) in
     let cost = λ (kept : ℕ → Bool) (cells : List Cell). cost_left at kept (k + 1) (bound l.range.id cells env) in
@@ -102,30 +106,56 @@ each-loop-i-preserved g t c =
     let next : i + 1 ≤ way.end = omega (arith, test) in
     let stands : StandsFrom way (i + 1) cursor = subst (λ (n : ℕ). StandsFrom way (n + 1) cursor) (sym c.loop-i.invariant.at) c.next_of-c.ensures in
     let low : i + 1 ≤ place cursor = seen-low way (i + 1) cursor leads.spans next stands in
-    let added : Alike new (c.loop-i.out ++ keep c.least-level.result (f r.cells)) =
-    subst (λ (cells : List Cell). Alike new (c.loop-i.out ++ keep c.least-level.result (f cells))) c.as_slice.ensures c.in_ok-each.ensures.rows in
-    let done = each-more c.args.level rows i r f c.args.out.now c.loop-i.out new inside c.index-rows-i.is c.loop-i.invariant.rows
-    (subst (λ (x : Level). Alike new (c.loop-i.out ++ keep x (f r.cells))) c.least-level.ensures added) in
-    record {
-      rows = subst (λ (n : ℕ). Alike new (c.args.out.now ++ keep c.args.level (bind (take n rows) f))) (sym c.place-i-in-loop-i.ensures)
-          (stepped (rejects at.early.now (k + 1)) l.range.id rows env way leads f (λ cells h. rejects-all at (bound-of at c.requires.planned) (k + 1) (bound l.range.id cells env) h)
-          c.args.level c.args.out.now new (i + 1) cursor next stands done);
-      took = λ kept keeps.
-          subst (λ (n : ℕ). Between 0 (each_row (cost kept) (take n rows)) c.rows_under.new.steps c.each-in-loop-i.new.steps) (sym c.place-i-in-loop-i.ensures)
-          (rows-past (cost kept) rows (i + 1) (place cursor) c.rows_under.new.steps c.each-in-loop-i.new.steps low
-          (rows-took (cost kept) rows i r c.args.level (cost kept c.as_slice.result.now) c.rows_under.new.steps c.loop-i.steps c.each-in-loop-i.new.steps inside c.index-rows-i.is (ap (cost kept) c.as_slice.ensures) (c.loop-i.invariant.took kept keeps)
-          (subst (λ (x : Level). Between 0 (at_level x (cost kept c.as_slice.result.now)) c.loop-i.steps c.each-in-loop-i.new.steps) c.least-level.ensures (c.in_ok-each.ensures.took kept keeps))));
-      stands = seen-again way (i + 1) cursor leads.spans next stands;
-      at = c.place-i-in-loop-i.ensures;
-      counted = λ start h. c.in_ok-each.ensures.counted start (c.loop-i.invariant.counted start h);
-    }
+    let rejected = λ (cells : List Cell) (h : rejects at.early.now (k + 1) (bound l.range.id cells env) ≡ true). rejects-all at (bound-of at c.requires.planned) (k + 1) (bound l.range.id cells env) h in
+    elim c.if-branch-2.branch [
+      | each-then-branch-2+in_ok-each w ↦
+          let new = w.each-then-branch-2.new.out in
+          let added : Alike new (c.loop-i.out ++ keep w.least-level.result (f r.cells)) =
+          subst (λ (cells : List Cell). Alike new (c.loop-i.out ++ keep w.least-level.result (f cells))) c.as_slice-cells.ensures w.in_ok-each.ensures.rows in
+          let done = each-more level rows i r f c.args.out.now c.loop-i.out new inside c.index-rows-i.is c.loop-i.invariant.rows
+          (subst (λ (x : Level). Alike new (c.loop-i.out ++ keep x (f r.cells))) w.least-level.ensures added) in
+          let put : new ≡ c.if-branch-2.out = search rules in
+          let put-steps : w.each-then-branch-2.new.steps ≡ c.if-branch-2.steps = search rules in
+          record {
+            rows = subst (λ (o : Bag). Alike o (c.args.out.now ++ keep level (bind (take c.place-i-in-loop-i.result rows) f))) put
+                (subst (λ (n : ℕ). Alike new (c.args.out.now ++ keep level (bind (take n rows) f))) (sym c.place-i-in-loop-i.ensures)
+                (stepped (rejects at.early.now (k + 1)) l.range.id rows env way leads f rejected level c.args.out.now new (i + 1) cursor next stands done));
+            took = λ kept keeps.
+                subst (λ (n : ℕ). Between 0 (each_row (cost kept) (take n rows)) c.rows_under.new.steps c.if-branch-2.steps) (sym c.place-i-in-loop-i.ensures)
+                (subst (λ (u : ℕ). Between 0 (each_row (cost kept) (take (place cursor) rows)) c.rows_under.new.steps u) put-steps
+                (rows-past (cost kept) rows (i + 1) (place cursor) c.rows_under.new.steps w.each-then-branch-2.new.steps low
+                (rows-took (cost kept) rows i r level (cost kept c.as_slice-cells.result.now) c.rows_under.new.steps c.loop-i.steps w.each-then-branch-2.new.steps inside c.index-rows-i.is (ap (cost kept) c.as_slice-cells.ensures) (c.loop-i.invariant.took kept keeps)
+                (subst (λ (x : Level). Between 0 (at_level x (cost kept c.as_slice-cells.result.now)) c.loop-i.steps w.each-then-branch-2.new.steps) w.least-level.ensures (w.in_ok-each.ensures.took kept keeps)))));
+            stands = seen-again way (i + 1) cursor leads.spans next stands;
+            at = c.place-i-in-loop-i.ensures;
+            counted = λ start h. search (rules, w.in_ok-each.ensures.counted start (c.loop-i.invariant.counted start h));
+          }
+      | each-else-branch-2 w ↦
+          let missed : c.in_ok-is_taken.field-0 ≡ false = search rules in
+          let gone = rejected r.cells (subst (λ (cells : List Cell). rejects at.early.now (k + 1) (bound l.range.id cells env) ≡ true) c.as_slice-cells.ensures (c.in_ok-is_taken.ensures.passed missed)) in
+          let done = each-more level rows i r f c.args.out.now c.loop-i.out c.loop-i.out inside c.index-rows-i.is c.loop-i.invariant.rows (nothing-added (least level r.level) c.loop-i.out (f r.cells) gone) in
+          let put : c.loop-i.out ≡ c.if-branch-2.out = search rules in
+          let put-steps : c.loop-i.steps ≡ c.if-branch-2.steps = search rules in
+          record {
+            rows = subst (λ (o : Bag). Alike o (c.args.out.now ++ keep level (bind (take c.place-i-in-loop-i.result rows) f))) put
+                (subst (λ (n : ℕ). Alike c.loop-i.out (c.args.out.now ++ keep level (bind (take n rows) f))) (sym c.place-i-in-loop-i.ensures)
+                (stepped (rejects at.early.now (k + 1)) l.range.id rows env way leads f rejected level c.args.out.now c.loop-i.out (i + 1) cursor next stands done));
+            took = λ kept keeps.
+                subst (λ (n : ℕ). Between 0 (each_row (cost kept) (take n rows)) c.rows_under.new.steps c.if-branch-2.steps) (sym c.place-i-in-loop-i.ensures)
+                (subst (λ (u : ℕ). Between 0 (each_row (cost kept) (take (place cursor) rows)) c.rows_under.new.steps u) put-steps
+                (rows-past (cost kept) rows i (place cursor) c.rows_under.new.steps c.loop-i.steps (omega (arith, low)) (c.loop-i.invariant.took kept keeps)));
+            stands = seen-again way (i + 1) cursor leads.spans next stands;
+            at = c.place-i-in-loop-i.ensures;
+            counted = λ start h. search (rules, c.loop-i.invariant.counted start h);
+          }
+    ]
 
 pub each-next_of-c-requires : goal.each-next_of-c-requires
 each-next_of-c-requires g t c =
     let at = c.loop-i.invariant.at in
     let test = c.loop-i-test.true in
     record {
-      spans = c.in_ok-way.ensures.spans;
+      spans = c.in_ok-way.ensures.leads.spans;
       stands = c.loop-i.invariant.stands;
       within = omega (arith, at, test);
     }
@@ -138,7 +168,7 @@ each-returns-clause-rows g t c =
     let env = env_of c.args.env.now in
     let bound_to : is_F l.range.kind ≡ true = search rules in
     let here = stood at (bound-of at c.requires.planned) k l c.in-Some.ensures.lookup.3.0 c.in-Some.ensures.lookup.1 in
-    let end = c.in_ok-way.ensures.end in
+    let end = c.in_ok-way.ensures.leads.end in
     let over : c.in_ok-way.way.end ≤ c.loop-i.i = search rules in
     each-all c.args.level c.rows-rows.result.now (family at l.range.over env) c.loop-i.i
     (λ (cells : List Cell). left_at at (k + 1) (bound l.range.id cells env)) c.args.out.now c.loop-i.out (left_at at k env) (omega (arith, end, over))
@@ -325,7 +355,7 @@ each-returns-clause-took g t c = λ kept keeps.
     let whole : ℕ = cost_left at kept k env in
     let bound_to : is_F l.range.kind ≡ true = search rules in
     let here = placed at c.requires.planned k l c.in-Some.ensures.lookup.3.0 c.in-Some.ensures.lookup.1 in
-    let end = c.in_ok-way.ensures.end in
+    let end = c.in_ok-way.ensures.leads.end in
     let over : c.in_ok-way.way.end ≤ c.loop-i.i = search rules in
     let there : at_level c.args.level whole ≡ whole = c.is_no.ensures.there whole ∙ ap (λ (b : Bool). cond b 0 whole) c.if-is_no.false in
     subst (λ (n : ℕ). Between 0 n c.args.steps.now c.loop-i.steps) (sym there)

@@ -38,7 +38,7 @@ idle_keys-returns-in-Compare t c =
     let a = c.in-Compare.a.value in
     let b = c.in-Compare.b.value in
     rw c.in-Compare.is
-    (of_part c.idle_sides.result c.sided-found.result _ _ _ c.idle_sides.ensures c.sided-found.ensures
+    (of_part c.idle_sides.result c.sided-found.result _ _ _ c.idle_sides.ensures c.sided-found.ensures.sides
     (λ made o h found. h (term a) (term b)
     (IfSome_then o found
     (λ k s. subst (λ (x : Gx). AreEither q (term a) (term x) k) c.deref-in-Compare.ensures (subst (λ (x : Gx). AreEither q (term x) (term c.deref-in-Compare.result.now) k) c.deref.ensures s.1)))))

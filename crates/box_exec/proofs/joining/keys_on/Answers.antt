@@ -24,7 +24,7 @@ loop-c-preserved c =
           subst (All P) put
           (all-more P c.loop-c.made.items w.push.new.self.items w.in_ok-push.ensures.items c.loop-c.invariant
           (on-rejects node (cond c.c-item.result) c.args.right w.in-Some.key stands
-          (some-is (λ (k : Key). IsKey c.args.right (cond c.c-item.result) k) c.in_ok-key.field-0 w.in-Some.key w.in-Some.is c.in_ok-key.ensures)))
+          (some-is (λ (k : Key). IsKey c.args.right (cond c.c-item.result) k) c.in_ok-key.field-0 w.in-Some.key w.in-Some.is c.in_ok-key.ensures.key)))
       | in_default w ↦
           let same : c.loop-c.made.items ≡ c.match-branch-2.made.items = search rules in
           subst (All P) same c.loop-c.invariant

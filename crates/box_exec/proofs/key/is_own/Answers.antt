@@ -6,8 +6,8 @@ use Rattle.qgm_terms.specs.declared.named.Column.{Column}
 use Rattle.box_exec.proofs.Alone.{own-is}
 use Rattle.box_exec.proofs.key.is_own.Goals as goal
 
-pub returns : goal.returns
-returns c = λ h.
+pub returns-clause-own : goal.returns-clause-own
+returns-clause-own c = λ h.
     let x = term c.args.x.now in
     let q = c.args.q in
     let free : c.is_node_free.result ≡ true = search rules in

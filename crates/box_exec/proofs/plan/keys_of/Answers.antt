@@ -1,4 +1,6 @@
-use Rattle.std.proofs.Common.{◌≡◌, All, rules, subst}
+use Rattle.std.proofs.Common.{◌≡◌, ◌==◌, ◌+◌, ◌++◌, ◌∙◌, All, List, None, ap, drop, false, rules, subst, sym}
+use Rattle.box_exec.specs.Asked.{shown_if, shown_keys, tested_at}
+use Rattle.box_exec.proofs.Asking.{key-more, none-more, other-more}
 use Rattle.box_exec.specs.Early.{rejects}
 use Rattle.qgm_terms.specs.Shown.{cond}
 use Rattle.box_exec.specs.Equalities.{IsKey}
@@ -17,14 +19,31 @@ loop-e-preserved c =
       | then-e-place+in_ok-key+in-Some+in_ok-push w ↦
           let here : c.e-item.result.place ≡ c.args.place = search rules in
           let put : w.push.new.self.items ≡ c.if-e-place.made.items = search rules in
-          subst (All P) put
-          (all-more P c.loop-e.made.items w.push.new.self.items w.in_ok-push.ensures.items c.loop-e.invariant
-          (key-rejects c.args.early.now c.loop-e.e-index c.e-item.result c.args.place c.args.q w.in-Some.key c.loop-e-test.true c.e-item.is here
-          (some-is (λ (k : Key). IsKey c.args.q (cond c.e-item.result.cond.now) k) w.in_ok-key.field-0 w.in-Some.key w.in-Some.is w.in_ok-key.ensures)))
+          record {
+            rejects = subst (All P) put
+                (all-more P c.loop-e.made.items w.push.new.self.items w.in_ok-push.ensures.items c.loop-e.invariant.rejects
+                (key-rejects c.args.early.now c.loop-e.e-index c.e-item.result c.args.place c.args.q w.in-Some.key c.loop-e-test.true c.e-item.is here
+                (some-is (λ (k : Key). IsKey c.args.q (cond c.e-item.result.cond.now) k) w.in_ok-key.field-0 w.in-Some.key w.in-Some.is w.in_ok-key.ensures.key)));
+            exact = subst (λ (ks : List Key). shown_keys ks ++ tested_at (drop (c.loop-e.e-index + 1) c.args.early.now) c.args.place c.args.q ≡ tested_at c.args.early.now c.args.place c.args.q) (sym w.in_ok-push.ensures.items ∙ put)
+                (key-more c.args.early.now c.loop-e.e-index c.e-item.result c.args.place c.args.q c.loop-e.made.items c.loop-e-test.true c.e-item.is w.in-Some.key here
+                (sym (ap shown_if w.in-Some.is) ∙ w.in_ok-key.ensures.exact) c.loop-e.invariant.exact);
+          }
       | then-e-place+in_ok-key+in_default w ↦
+          let here : c.e-item.result.place ≡ c.args.place = search rules in
+          let none : w.in_ok-key.field-0 ≡ None = search rules in
           let same : c.loop-e.made.items ≡ c.if-e-place.made.items = search rules in
-          subst (All P) same c.loop-e.invariant
+          record {
+            rejects = subst (All P) same c.loop-e.invariant.rejects;
+            exact = subst (λ (ks : List Key). shown_keys ks ++ tested_at (drop (c.loop-e.e-index + 1) c.args.early.now) c.args.place c.args.q ≡ tested_at c.args.early.now c.args.place c.args.q) same
+                (none-more c.args.early.now c.loop-e.e-index c.e-item.result c.args.place c.args.q c.loop-e.made.items c.loop-e-test.true c.e-item.is here
+                (sym (ap shown_if none) ∙ w.in_ok-key.ensures.exact) c.loop-e.invariant.exact);
+          }
       | else-e-place w ↦
+          let away : (c.e-item.result.place == c.args.place) ≡ false = search rules in
           let same : c.loop-e.made.items ≡ c.if-e-place.made.items = search rules in
-          subst (All P) same c.loop-e.invariant
+          record {
+            rejects = subst (All P) same c.loop-e.invariant.rejects;
+            exact = subst (λ (ks : List Key). shown_keys ks ++ tested_at (drop (c.loop-e.e-index + 1) c.args.early.now) c.args.place c.args.q ≡ tested_at c.args.early.now c.args.place c.args.q) same
+                (other-more c.args.early.now c.loop-e.e-index c.e-item.result c.args.place c.args.q c.loop-e.made.items c.loop-e-test.true c.e-item.is away c.loop-e.invariant.exact);
+          }
     ]

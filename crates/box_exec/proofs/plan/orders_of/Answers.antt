@@ -22,8 +22,8 @@ returns c =
     (record {
       reordered = subst (λ (qs : List OwnedQuant). Reorders qs rs) c.as_slice.ensures c.in_ok-ranges.ensures;
       plan = record {
-        early = subst (λ (qs : List OwnedQuant). All (λ (e : Early). IsEarly n qs e) es) c.deref-4.ensures.value c.in_ok-early.ensures;
+        early = subst (λ (qs : List OwnedQuant). All (λ (e : Early). IsEarly n qs e) es) c.deref-4.ensures.value c.in_ok-early.ensures.early;
         indexed = indexed-of rs rows ls es hs (c.in_ok-loops.ensures.ranges ∙ c.deref-3.ensures.value) c.in_ok-loops.ensures.kept
-            (subst (λ (xs : List Early). AllHashed xs ls hs) c.deref-5.ensures.value (subst (λ (ms : List Loop). AllHashed c.deref-5.result.now ms hs) c.deref-6.ensures.value c.in_ok-hashed.ensures));
+            (subst (λ (xs : List Early). AllHashed xs ls hs) c.deref-5.ensures.value (subst (λ (ms : List Loop). AllHashed c.deref-5.result.now ms hs) c.deref-6.ensures.value c.in_ok-hashed.ensures.hashed));
       };
     })

@@ -23,9 +23,9 @@ returns c =
     let hs = c.in_ok-hashed.hashed.items in
     record {
       text = record {
-        early = subst (λ (rs : List OwnedQuant). All (λ (e : Early). IsEarly n rs e) es) c.as_slice.ensures c.in_ok-early.ensures;
+        early = subst (λ (rs : List OwnedQuant). All (λ (e : Early). IsEarly n rs e) es) c.as_slice.ensures c.in_ok-early.ensures.early;
         indexed = indexed-of n.quants (rows_stored c.args.run.now.memo.now c.args.below.now) c.args.over.now es hs c.requires.ranged c.requires.kept
-            (subst (λ (xs : List Early). AllHashed xs c.args.over.now hs) c.deref.ensures.value c.in_ok-hashed.ensures);
+            (subst (λ (xs : List Early). AllHashed xs c.args.over.now hs) c.deref.ensures.value c.in_ok-hashed.ensures.hashed);
       };
       orders = c.in_ok-orders.ensures;
       idle = idle-of n.quants (rows_stored c.args.run.now.memo.now c.args.below.now) c.args.over.now c.in_ok-idle.idle.items c.requires.ranged c.requires.kept c.in_ok-idle.ensures;

@@ -2,6 +2,8 @@ use Rattle.std.proofs.lemmas.Grind.{common_steps}
 use Rattle.std.proofs.Common.{sym, ◌∙◌, arith, length, slice_get}
 use Rattle.box_exec.proofs.Lasting.{held-in, none-in, stored-at, stored-none}
 use Rattle.box_exec.proofs.Places.{kept-under, nothing-under, open-under}
+use Rattle.box_exec.specs.declared.under.Under.TheVariants.{Nothing}
+use Rattle.box_exec.proofs.Seeking.{absent-opens, held-is, held-opens, unheld-opens}
 use Rattle.box_exec.proofs.under.find_under.Goals as goal
 
 pub returns-in_default-clause-stands : goal.returns-in_default-clause-stands
@@ -36,3 +38,16 @@ bounds-below-i c = grind (arith, common_steps)
 
 pub behind-behind-requires : goal.behind-behind-requires
 behind-behind-requires c = grind (arith, common_steps)
+
+pub returns-in_default-clause-opens : goal.returns-in_default-clause-opens
+returns-in_default-clause-opens c = absent-opens c.args.run.now.memo.now c.args.below.now c.args.b Nothing (sym c.place_of.ensures ∙ c.in_default.is)
+
+pub returns-in-Some-kept-clause-opens : goal.returns-in-Some-kept-clause-opens
+returns-in-Some-kept-clause-opens c = λ kept keeps there.
+    held-opens c.args.run.now.memo.now c.args.below.now c.behind-behind.result.now c.args.b c.in-Some.i (sym c.place_of.ensures ∙ c.in-Some.is) c.behind-behind.ensures
+    (held-is (slice_get c.args.run.now.memo.now (length c.behind-behind.result.now)) c.in-Some-kept.rows.now c.in-Some-kept.ensures.some) kept keeps
+
+pub returns-in-None-clause-opens : goal.returns-in-None-clause-opens
+returns-in-None-clause-opens c = λ kept keeps there.
+    unheld-opens c.args.run.now.memo.now c.args.below.now c.behind-behind.result.now c.args.b c.in-Some.i (sym c.place_of.ensures ∙ c.in-Some.is) c.behind-behind.ensures
+    (c.kept.ensures.none c.in-None.is) kept keeps

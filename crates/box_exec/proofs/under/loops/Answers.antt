@@ -14,5 +14,8 @@ loop-range-init c = grind (arith, common_steps)
 pub returns-clause-stand : goal.returns-clause-stand
 returns-clause-stand c = grind (arith, common_steps)
 
+pub returns-clause-opens : goal.returns-clause-opens
+returns-clause-opens c = grind (arith, common_steps)
+
 pub returns-clause-kept : goal.returns-clause-kept
 returns-clause-kept c = grind (arith, common_steps)

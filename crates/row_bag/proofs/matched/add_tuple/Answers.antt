@@ -10,12 +10,12 @@ pub returns-clause-once : goal.returns-clause-once
 returns-clause-once c = λ t.
     let items = c.args.items.now.items in
     let new : Left = record { cells = c.args.cells; count = 1 } in
-    rw (c.in_ok-push-2.ensures.items, map_push (λ (l : Left). l.cells) items new) (different-push (map (λ (l : Left). l.cells) items) c.args.cells c.requires.none c.requires.once t)
+    rw (c.in_ok-push-2.ensures.items, map_push (λ (l : Left). l.cells.now) items new) (different-push (map (λ (l : Left). l.cells.now) items) c.args.cells.now c.requires.none c.requires.once t)
 
 pub returns-clause-counts : goal.returns-clause-counts
 returns-clause-counts c = λ t.
     let new : Left = record { cells = c.args.cells; count = 1 } in
-    rw c.in_ok-push-2.ensures.items (left-push (λ (l : Left). l.cells) (λ (l : Left). l.count) t c.args.items.now.items new)
+    rw c.in_ok-push-2.ensures.items (left-push (λ (l : Left). l.cells.now) (λ (l : Left). l.count) t c.args.items.now.items new)
 
 pub returns-clause-index : goal.returns-clause-index
 returns-clause-index c = grind (arith, common_steps)

@@ -1,5 +1,4 @@
-use Rattle.std.proofs.Common.{◌≡◌, ◌+◌, List, cond, length, map}
-use Rattle.std.specs.Vec.Iter.{into_iter_items, into_iter_len}
+use Rattle.std.proofs.Common.{◌≡◌, ◌+◌, List, cond, drop, map}
 use Rattle.sql_value.specs.declared.cell.Cell.{Cell}
 use Rattle.sql_value.specs.declared.level.Level.{Level}
 use Rattle.sql_value.specs.declared.level.Level.TheVariants.{Yes}
@@ -12,9 +11,8 @@ use Rattle.row_bag.proofs.matched.parted.Given as goal
 
 abbrev pub invariant-loop-cells : goal.invariant-loop-cells
 invariant-loop-cells l = record {
-  index : l.index ≡ hashes_of (map (λ (x : Left). x.cells) l.items.items);
-  once : AreDifferent (map (λ (x : Left). x.cells) l.items.items);
-  counts : (c : List Cell) (m : Level) → count same_cells c m l.kept + cond (same_level Yes m) (part l.matched (often c (into_iter_items l.cells-iterator)) (left_of (λ (x : Left). x.cells) (λ (x : Left). x.count) c l.items.items)) 0
-      ≡ cond (same_level Yes m) (part l.matched (often c l.fn.xs.items) (left_of (λ (x : Left). x.cells) (λ (x : Left). x.count) c l.fn.items.items)) 0;
-  left : into_iter_len l.cells-iterator ≡ length (into_iter_items l.cells-iterator);
+  index : l.index ≡ hashes_of (map (λ (x : Left). x.cells.now) l.items.items);
+  once : AreDifferent (map (λ (x : Left). x.cells.now) l.items.items);
+  counts : (c : List Cell) (m : Level) → count same_cells c m l.kept + cond (same_level Yes m) (part l.matched (often c (map (λ x. x.now) (drop l.cells-index l.xs))) (left_of (λ (x : Left). x.cells.now) (λ (x : Left). x.count) c l.items.items)) 0
+      ≡ cond (same_level Yes m) (part l.matched (often c (map (λ x. x.now) l.xs)) (left_of (λ (x : Left). x.cells.now) (λ (x : Left). x.count) c l.fn.items.items)) 0;
 }

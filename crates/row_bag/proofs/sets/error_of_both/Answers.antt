@@ -1,9 +1,7 @@
-use Rattle.std.proofs.Common.{◌∙◌, sym, ap, ap₂}
+use Rattle.std.proofs.Common.{◌∙◌, sym, ap₂}
 use Rattle.sql_value.specs.Cells.{worst_of}
-use Rattle.row_bag.specs.Errors.{error_among, error_in}
 use Rattle.row_bag.proofs.Copies.{errors-append}
 use Rattle.row_bag.proofs.sets.error_of_both.Goals as goal
 
 pub returns : goal.returns
-returns c = c.worst_of.ensures ∙ ap₂ worst_of (c.error_among.ensures ∙ ap (error_among error_in) c.rows.ensures) (c.error_among-2.ensures ∙ ap (error_among error_in) c.rows-2.ensures)
-    ∙ sym (errors-append c.args.a.now c.args.b.now)
+returns c = c.worst_of.ensures ∙ ap₂ worst_of c.error_among.ensures c.error_among-2.ensures ∙ sym (errors-append c.args.a.now c.args.b.now)

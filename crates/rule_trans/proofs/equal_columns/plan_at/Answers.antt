@@ -1,9 +1,14 @@
-use Rattle.std.proofs.Common.{◌∙◌, sym, ap}
+use Rattle.std.proofs.Common.{◌∙◌, Option, ap, ap₂, sym}
 use Rattle.std.proofs.lemmas.Result.{IfOk-weaker}
 use Rattle.qgm_core.specs.Boxes.{is_box}
 use Rattle.list_laws.specs.Lists.{first}
 use Rattle.qgm_terms.specs.Shown.{cond}
 use Rattle.rule_trans.specs.Adding.{add_plan}
+use Rattle.rule_trans.specs.ColumnPairs.{has}
+use Rattle.rule_trans.specs.Equalities.{is_there}
+use Rattle.rule_trans.specs.Joints.{implied}
+use Rattle.rule_trans.specs.declared.joints.Joint.{Joint}
+use Rattle.rule_trans.proofs.JointRows.{implied_told}
 use Rattle.rule_trans.proofs.EqualColumnsPlans.{from_one, from_one_second, no_box, planned, some_implied, within, within_second}
 use Rattle.rule_trans.proofs.equal_columns.plan_at.Goals as goal
 
@@ -24,12 +29,16 @@ at-d-requires-clause-within c = within_second c.args.graph.now c.args.place c.re
 
 pub unreachable-requires-in_default-implied : goal.unreachable-requires-in_default-implied
 unreachable-requires-in_default-implied c =
+    let same = implied_told c.args.graph.now c.in-Some.node.now (has c.in_ok-pairs.pairs) (λ a z. c.in_ok-pairs.ensures a z ∙ ap (is_there a z) c.as_slice.ensures) (cond c.at-c.result.now) (cond c.at-d.result.now) in
     some_implied c.args.graph.now c.args.place c.requires.given c.in-Some.node.now (sym (c.in-Some.ensures ∙ ap (first (is_box c.args.place.at)) c.nodes.ensures))
-    (cond c.at-c.result.now) (cond c.at-d.result.now) c.at-c.ensures c.at-d.ensures c.in_default-implied.ensures
+    (cond c.at-c.result.now) (cond c.at-d.result.now) c.at-c.ensures c.at-d.ensures
+    (c.in_default-implied.ensures ∙ ap₂ (λ (e f : Option Joint). implied (has c.in_ok-pairs.pairs) e f) c.joint_of-e.ensures c.joint_of-f.ensures ∙ same)
 
 pub returns : goal.returns
 returns c =
+    let same = implied_told c.args.graph.now c.in-Some.node.now (has c.in_ok-pairs.pairs) (λ a z. c.in_ok-pairs.ensures a z ∙ ap (is_there a z) c.as_slice.ensures) (cond c.at-c.result.now) (cond c.at-d.result.now) in
     IfOk-weaker c.plan_add.result _ _ (λ m e.
     planned c.args.graph.now c.args.place c.requires.given c.in-Some.node.now (sym (c.in-Some.ensures ∙ ap (first (is_box c.args.place.at)) c.nodes.ensures))
-    (cond c.at-c.result.now) (cond c.at-d.result.now) c.at-c.ensures c.at-d.ensures c.in-Some-implied.e c.in-Some-implied.ensures m
+    (cond c.at-c.result.now) (cond c.at-d.result.now) c.at-c.ensures c.at-d.ensures c.in-Some-implied.x
+    (c.in-Some-implied.ensures ∙ ap₂ (λ (e f : Option Joint). implied (has c.in_ok-pairs.pairs) e f) c.joint_of-e.ensures c.joint_of-f.ensures ∙ same) m
     (e ∙ ap (add_plan c.in-Some.node.now) c.in_ok-p.ensures)) c.plan_add.ensures

@@ -1,8 +1,7 @@
-use Rattle.std.proofs.Common.{◌≡◌, drop}
-use Rattle.qgm_terms.specs.Shown.{conds}
-use Rattle.rule_trans.specs.Literals.{is_there, shown}
+use Rattle.std.proofs.Common.{◌≡◌, drop, map}
+use Rattle.rule_trans.specs.Literals.{has_literal, shown, shown_conjunct}
 use Rattle.rule_trans.proofs.literals.is_there.Given as goal
 
 -- what is left decides
-abbrev pub invariant-loop-c : goal.invariant-loop-c
-invariant-loop-c l = is_there l.a (shown l.x) (conds l.list) ≡ is_there l.a (shown l.x) (conds (drop l.c-index l.list))
+abbrev pub invariant-loop-f : goal.invariant-loop-f
+invariant-loop-f l = has_literal l.a (shown l.x) (map shown_conjunct l.all) ≡ has_literal l.a (shown l.x) (map shown_conjunct (drop l.f-index l.all))

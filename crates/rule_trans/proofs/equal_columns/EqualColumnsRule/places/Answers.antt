@@ -13,8 +13,8 @@ returns-then-not-may_have-clause-order c = equal_columns_ascending c.args.graph.
 pub returns-in_err-facts-clause-order : goal.returns-in_err-facts-clause-order
 returns-in_err-facts-clause-order c = equal_columns_ascending c.args.graph.now c.args.b
 
-pub returns-in_err-add_grid-clause-order : goal.returns-in_err-add_grid-clause-order
-returns-in_err-add_grid-clause-order c = equal_columns_ascending c.args.graph.now c.args.b
+pub returns-in_err-add_places-clause-order : goal.returns-in_err-add_places-clause-order
+returns-in_err-add_places-clause-order c = equal_columns_ascending c.args.graph.now c.args.b
 
 pub returns-clause-order : goal.returns-clause-order
 returns-clause-order c = equal_columns_ascending c.args.graph.now c.args.b

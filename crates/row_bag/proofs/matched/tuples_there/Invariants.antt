@@ -1,0 +1,8 @@
+use Rattle.std.proofs.Common.{◌≡◌, ◌+◌, List, drop, map}
+use Rattle.sql_value.specs.declared.cell.Cell.{Cell}
+use Rattle.row_bag.specs.Matched.{often}
+use Rattle.row_bag.specs.Sets.{multiplicity, same_cells}
+use Rattle.row_bag.proofs.matched.tuples_there.Given as goal
+
+abbrev pub invariant-loop-row : goal.invariant-loop-row
+invariant-loop-row l = (c : List Cell) → often c (map (λ x. x.now) l.tuples.items) + multiplicity same_cells c (drop l.row-index l.rows) ≡ multiplicity same_cells c l.rows
