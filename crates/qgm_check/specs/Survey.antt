@@ -1,12 +1,19 @@
--- What is looked up once for all boxes.
-use Rattle.std.specs.Prelude.{◌≡◌, List}
-use Rattle.qgm_core.specs.Boxes.{ids_in, overs_in}
+-- What is looked up once for all boxes, and boxes that need no look.
+use Rattle.std.specs.Prelude.{◌≡◌, [], List}
+use Rattle.list_laws.specs.Lists.{EachOnce}
+use Rattle.qgm_core.specs.Boxes.{ids_in, numbers, overs_in}
+use Rattle.qgm_core.specs.Free.{named_by}
 use Rattle.qgm_core.specs.declared.node.Node.{Node}
 use Rattle.qgm_wellformed.specs.Types.{Knows}
 use Rattle.qgm_check.specs.declared.check.Survey.{Survey}
 
--- the types of all columns, the quantifiers that the boxes own, and the boxes that these range over
+-- the types of all columns, the quantifiers that the boxes own, and the boxes that these range over; no two boxes have one number
 pub record IsSurvey (boxes : List Node) (survey : Survey) : Type 0 where
   pub types : Knows boxes survey.types
   pub ids : survey.ids.items ≡ ids_in boxes
   pub overs : survey.overs.items ≡ overs_in boxes
+  pub once : EachOnce (numbers boxes)
+
+-- a box owns no quantifier and names none
+abbrev pub IsApart : Node → Type 0
+IsApart n = (n.quants ≡ []) × (named_by n ≡ [])

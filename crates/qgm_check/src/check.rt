@@ -1,12 +1,14 @@
 // Where a graph is ill-formed.
-ghost use Rattle.std.specs.Prelude.{◌≡◌, ◌++◌, [], Some, None, false, map, OnOk, IfOk, IsErrOf};
+ghost use Rattle.std.specs.Prelude.{◌≡◌, ◌++◌, [], Some, None, false, map, true, OnOk, IfOk, IsErrOf};
 ghost use Rattle.std.specs.List.{list_any, list_all};
-ghost use Rattle.qgm_core.specs.Boxes.{all_over, ids_in, ids_of, overs_in, owns};
-ghost use Rattle.qgm_core.specs.Free.{named_by};
+ghost use Rattle.list_laws.specs.Lists.{EachOnce, In};
+ghost use Rattle.qgm_core.specs.Boxes.{all_over, ids_in, ids_of, numbers, overs_in, owns};
+ghost use Rattle.qgm_core.specs.Free.{free_in, named_by};
 ghost use Rattle.qgm_wellformed.specs.View.{in_view};
 ghost use Rattle.qgm_wellformed.specs.Sentences.{IsFault, WellFormed};
-ghost use Rattle.qgm_check.specs.Survey.{IsSurvey};
+ghost use Rattle.qgm_check.specs.Survey.{IsApart, IsSurvey};
 ghost use Rattle.qgm_wellformed.specs.WellFormed as spec;
+ghost use Rattle.qgm_wellformed.specs.WellFormed.{is_empty};
 ghost use Rattle.qgm_wellformed.specs.declared.clause.Fault.{Fault};
 ghost use Rattle.qgm_check.specs.declared.check.IllFormed.TheVariants.{Fails, Memory};
 
@@ -120,6 +122,7 @@ struct Survey {
 }
 
 fn survey_of(alloc: Global, nodes: &[Node]) -> Result<Survey, OutOfMemory>
+    requires { EachOnce (numbers nodes.now) }
     ensures { IfOk result (λ survey. IsSurvey nodes.now survey) }
 {
     Ok(Survey {
@@ -181,6 +184,30 @@ fn names_in_view(
     Ok(seen && closed)
 }
 
+// Whether a box owns no quantifier and names none.
+fn is_apart(alloc: Global, node: &Node) -> Result<bool, OutOfMemory>
+    ensures { IfOk result (λ a. a ≡ true → IsApart node.now) }
+{
+    if !node.quants.as_slice().is_empty() {
+        return Ok(false);
+    }
+    let names = names_of(alloc, node)?;
+    Ok(names.is_empty())
+}
+
+// Whether nothing is free in a box of these: at once where it owns no quantifier and names none.
+#[tactic(auto, using(crate::proofs::Apart::apart_closed))]
+fn is_closed_among(alloc: Global, nodes: &[Node], node: &Node) -> Result<bool, OutOfMemory>
+    requires once { EachOnce (numbers nodes.now) }
+    requires among { In node.now nodes.now }
+    ensures { IfOk result (λ c. c ≡ is_empty (free_in nodes.now node.now.id)) }
+{
+    if is_apart(alloc, node)? {
+        return Ok(true);
+    }
+    is_closed(alloc, nodes, node.id)
+}
+
 #[tactic(auto, using(crate::proofs::Disjunctions::or_true, crate::proofs::Disjunctions::or_none))]
 fn opened_once(
     alloc: Global,
@@ -189,7 +216,9 @@ fn opened_once(
     overs: &[BoxId],
     node: &Node,
 ) -> Result<bool, OutOfMemory>
-    requires { overs.now ≡ overs_in nodes.now }
+    requires overs { overs.now ≡ overs_in nodes.now }
+    requires once { EachOnce (numbers nodes.now) }
+    requires among { In node.now nodes.now }
     ensures { IfOk result (λ k. k ≡ spec.opened_once root nodes.now node.now) }
 {
     if node.id == root {
@@ -198,7 +227,7 @@ fn opened_once(
     if once(node.id, overs) {
         return Ok(true);
     }
-    is_closed(alloc, nodes, node.id)
+    is_closed_among(alloc, nodes, node)
 }
 
 // Whether a box keeps a clause; `below` are the boxes of lower rank.
@@ -211,7 +240,8 @@ fn keeps(
     below: &[Node],
     node: &Node,
 ) -> Result<bool, OutOfMemory>
-    requires { IsSurvey nodes.now survey.now }
+    requires survey { IsSurvey nodes.now survey.now }
+    requires among { In node.now nodes.now }
     ensures { IfOk result (λ k. k ≡ spec.keeps clause root nodes.now below.now node.now) }
 {
     match clause {
@@ -320,6 +350,7 @@ fn find_fault(alloc: Global, graph: &Graph) -> Result<Option<Fault>, OutOfMemory
         Clause::I8,
         Clause::I9,
     ];
+    graph.each_number_once();
     let nodes = graph.nodes();
     let survey = survey_of(alloc, nodes)?;
     first_fault(alloc, &clauses, graph.root(), nodes, &survey)
