@@ -1,12 +1,13 @@
 // Where a graph is ill-formed.
-ghost use Rattle.std.specs.Prelude.{◌≡◌, ◌++◌, [], Some, None, false, map, true, OnOk, IfOk, IsErrOf};
+ghost use Rattle.std.specs.Prelude.{◌≡◌, ◌++◌, [], Some, None, false, filter, map, true, OnOk, IfOk, IsErrOf};
 ghost use Rattle.std.specs.List.{list_any, list_all};
 ghost use Rattle.list_laws.specs.Lists.{EachOnce, In};
 ghost use Rattle.qgm_core.specs.Boxes.{all_over, ids_in, ids_of, numbers, overs_in, owns};
 ghost use Rattle.qgm_core.specs.Free.{free_in, named_by};
+ghost use Rattle.qgm_core.specs.Kinds.{is_F_or_S};
 ghost use Rattle.qgm_wellformed.specs.View.{in_view};
 ghost use Rattle.qgm_wellformed.specs.Sentences.{IsFault, WellFormed};
-ghost use Rattle.qgm_check.specs.Survey.{IsApart, IsSurvey};
+ghost use Rattle.qgm_check.specs.Survey.{IsApart, IsSurvey, counted_in};
 ghost use Rattle.qgm_wellformed.specs.WellFormed as spec;
 ghost use Rattle.qgm_wellformed.specs.WellFormed.{is_empty};
 ghost use Rattle.qgm_wellformed.specs.declared.clause.Fault.{Fault};
@@ -15,7 +16,9 @@ ghost use Rattle.qgm_check.specs.declared.check.IllFormed.TheVariants.{Fails, Me
 use crate::columns_fit::columns_fit;
 use crate::shapes::shape_fits;
 use crate::view::in_view;
-use qgm_core::{BoxId, Graph, Node, OwnedQuant, QuantId, has_box, has_quant, is_marked, mark_each};
+use qgm_core::{
+    BoxId, Graph, Marks, Node, OwnedQuant, QuantId, has_box, has_quant, is_marked, mark_each,
+};
 use qgm_wellformed::{Clause, Fault, KnownTypes, is_closed, known_of, names_of, types_agree};
 use shared_types::OutOfMemory;
 use std::alloc::Global;
@@ -112,13 +115,37 @@ fn owned_once(ids: &[QuantId], node: &Node) -> bool
     node.quants.as_slice().iter().all(|r| once(r.id, ids))
 }
 
-// What is looked up once for all boxes: types, the quantifiers that boxes own, and the boxes that
-// these range over.
+// Marks the boxes that F and S quantifiers among these range over.
+fn mark_counted(ranges: &[OwnedQuant], marks: &mut Marks) -> Result<(), OutOfMemory>
+    ensures { OnOk result (marks.new ≡ marks.old ++ map (λ r. r.over) (filter (λ r. is_F_or_S r.kind) ranges.now)) }
+{
+    for range in ranges {
+        if range.kind.is_f_or_s() {
+            marks.push(range.over)?;
+        }
+    }
+    Ok(())
+}
+
+// The boxes that F and S quantifiers range over.
+fn counted_in(alloc: Global, nodes: &[Node]) -> Result<Marks, OutOfMemory>
+    ensures { IfOk result (λ marks. marks ≡ counted_in nodes.now) }
+{
+    let mut marks = Marks::new(alloc);
+    for node in nodes {
+        mark_counted(node.quants.as_slice(), &mut marks)?;
+    }
+    Ok(marks)
+}
+
+// What is looked up once for all boxes: types, the quantifiers that boxes own, the boxes that these
+// range over, and those that F and S range over.
 #[derive(Drop)]
 struct Survey {
     types: KnownTypes,
     ids: Vec<QuantId>,
     overs: Vec<BoxId>,
+    counted: Marks,
 }
 
 fn survey_of(alloc: Global, nodes: &[Node]) -> Result<Survey, OutOfMemory>
@@ -129,26 +156,17 @@ fn survey_of(alloc: Global, nodes: &[Node]) -> Result<Survey, OutOfMemory>
         types: known_of(alloc, nodes)?,
         ids: ids_in(alloc, nodes)?,
         overs: overs_in(alloc, nodes)?,
+        counted: counted_in(alloc, nodes)?,
     })
 }
 
-// Whether an F or S quantifier ranges over the box.
-fn is_counted(nodes: &[Node], b: BoxId) -> bool
-    ensures { result ≡ spec.is_counted nodes.now b }
-{
-    nodes.iter().any(|n| is_counted_in(n.quants.as_slice(), b))
-}
-
-fn is_counted_in(ranges: &[OwnedQuant], b: BoxId) -> bool
-    ensures { result ≡ spec.is_counted_in ranges.now b }
-{
-    ranges.iter().any(|r| r.over == b && r.kind.is_f_or_s())
-}
-
-fn permit_unseen(root: BoxId, nodes: &[Node], node: &Node) -> bool
+// Whether a PERMIT box isn't the root, nor one of those that F and S quantifiers range over.
+#[tactic(auto, using(crate::proofs::Counted::counted_marked))]
+fn permit_unseen(root: BoxId, nodes: &[Node], counted: &Marks, node: &Node) -> bool
+    requires { counted.now ≡ counted_in nodes.now }
     ensures { result ≡ spec.permit_unseen root nodes.now node.now }
 {
-    !node.parts.distinct.is_permit() || !(node.id == root || is_counted(nodes, node.id))
+    !node.parts.distinct.is_permit() || !(node.id == root || counted.has(node.id))
 }
 
 fn all_in_view(
@@ -252,7 +270,7 @@ fn keeps(
         Clause::I5 => Ok(types_agree(&survey.types, node)),
         Clause::I6 => names_in_view(alloc, root, nodes, node),
         Clause::I7 => opened_once(alloc, root, nodes, &survey.overs, node),
-        Clause::I8 => Ok(permit_unseen(root, nodes, node)),
+        Clause::I8 => Ok(permit_unseen(root, nodes, &survey.counted, node)),
         Clause::I9 => shape_fits(alloc, root, nodes, node),
     }
 }
