@@ -34,6 +34,14 @@ class Range:
         return Range(self.name, [(name, kind, (self.name, place) in keys) for place, (name, kind, _) in enumerate(self.columns)], self.rows)
 
 
+class Joined(list):
+    """The tables that an ON may name, and the list of all of its FROM."""
+
+    def __init__(self, own, ranges):
+        super().__init__(own)
+        self.ranges = ranges
+
+
 class Case:
     """A schema's text, the files of its tables, a query, and whether SQLite gives it the same meaning."""
 
@@ -59,6 +67,8 @@ class Maker:
         # whether what SQLite lacks, or gives another meaning, is left out
         self.for_sqlite = self.chance(0.35)
         self.size = 0
+        # outer tables that are named within an ON: each with the list of the FROM
+        self.outer_names = []
 
     def chance(self, part):
         return self.draw.random() < part
@@ -133,7 +143,9 @@ class Maker:
         order = ""
         if self.chance(0.2):
             order = " ORDER BY " + ", ".join(f"{self.draw.randrange(len(columns)) + 1}{self.draw.choice(['', ' ASC', ' DESC'])}" for _ in range(self.draw.choice([1, 1, 2])))
-        return Case("\n".join(statements), tables, query + order, self.for_sqlite)
+        # (in an ON SQLite sees the other tables of the FROM too, before those of outer blocks)
+        is_hidden = any(it.name == name for ranges, name in self.outer_names for it in ranges)
+        return Case("\n".join(statements), tables, query + order, self.for_sqlite and not is_hidden)
 
     # Queries
 
@@ -283,7 +295,7 @@ class Maker:
             if not self.for_sqlite and self.chance(0.12):
                 more, other = self.primary_table(scopes, depth, ranges)
                 last, third = self.primary_table(scopes, depth, ranges)
-                condition = self.condition([other + third] + scopes, 0, None, 1)[0]
+                condition = self.condition([Joined(other + third, ranges)] + scopes, 0, None, 1)[0]
                 more, other = f"({more} JOIN {last} ON {condition})", other + third
             else:
                 more, other = self.primary_table(scopes, depth, ranges)
@@ -293,7 +305,7 @@ class Maker:
             if word != "CROSS JOIN":
                 # (no subquery stands in an ON that is of a LEFT JOIN)
                 can_nest = word in ("JOIN", "INNER JOIN") and self.chance(0.2)
-                text += f" ON {self.condition([own] + scopes, depth if can_nest else 0, None)[0]}"
+                text += f" ON {self.condition([Joined(own, ranges)] + scopes, depth if can_nest else 0, None)[0]}"
         return text, own
 
     # (names)
@@ -317,7 +329,9 @@ class Maker:
         # (of the names many are of an outer scope, where there is one)
         outer = [it for it in found if it[0] > 0]
         inner = [it for it in found if it[0] == 0]
-        return self.draw.choice(outer if outer and (not inner or self.chance(0.4)) else inner)[1]
+        level, text = self.draw.choice(outer if outer and (not inner or self.chance(0.4)) else inner)
+        self.outer_names += [(it.ranges, text.split(".")[0]) for it in scopes[:level] if isinstance(it, Joined)]
+        return text
 
     # Expressions
 

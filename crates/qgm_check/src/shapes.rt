@@ -429,5 +429,5 @@ pub fn shape_fits(
 {
     let kind = kind_fits(alloc, root, nodes, node)?;
     let own = nodes_fit(alloc, node)?;
-    Ok(kind && own && columns_placed(node) && (!is_scalar(nodes, node.id) || 0 < width(node)))
+    Ok(kind && own && columns_placed(node) && (0 < width(node) || !is_scalar(nodes, node.id)))
 }

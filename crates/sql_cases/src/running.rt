@@ -8,7 +8,7 @@ use std::sync::ledger::{Blank, Ledger};
 use step_count::Steps;
 
 // How many bytes a case may print.
-const ROOM: usize = 1_000_000;
+const ROOM: usize = 16_000_000;
 
 /// What cases are run over: the text of a schema, and files of tables.
 #[derive(Drop)]
