@@ -1,7 +1,7 @@
 // The cells of a box, and its conditions.
 ghost use Rattle.std.specs.Prelude.{◌≡◌, ◌≤◌, ◌+◌, ◌-◌, ◌++◌, ◌∷◌, [], length, map, slice_get, Some, OnOk, OnErr, max};
 ghost use Rattle.std.specs.List.{remove};
-ghost use Rattle.qgm_terms.specs.Depth.{depth_cond, room};
+ghost use Rattle.qgm_terms.specs.Depth.{depth, depth_cond, room};
 ghost use Rattle.qgm_terms.specs.Shift.{shifted, shifted_cond};
 ghost use Rattle.qgm_terms.specs.Shown.{cond, conds, term, terms};
 
@@ -77,6 +77,7 @@ impl Head {
     /// than `ROOM`.
     pub fn push(&mut self, x: Gx) -> Result<(), OutOfMemory>
         ensures ok { OnOk result (self.new ≡ self.old ++ term x ∷ []) }
+        ensures levels { OnOk result (depth x ≤ room) }
         ensures err { OnErr result (self.new ≡ self.old) }
     {
         if !fits(&x, ROOM) {
@@ -189,6 +190,7 @@ impl Conds {
     /// than `ROOM`.
     pub fn add(&mut self, c: Gc) -> Result<(), OutOfMemory>
         ensures ok { OnOk result (self.new.items ≡ self.old.items ++ cond c ∷ []) }
+        ensures levels { OnOk result (depth_cond c ≤ room) }
         ensures err { OnErr result (self.new.items ≡ self.old.items) }
         ensures spare { self.new.spare ≡ self.old.spare }
     {
