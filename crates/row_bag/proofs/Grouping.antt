@@ -48,7 +48,6 @@ none-weight n k c Division h = ap (λ b. cond b 1 0) h
 none-weight n k c Overflow h = ap (λ b. cond b 1 0) h
 none-weight n k c Yes h = ap (λ b. cond b 1 0) h
 
-
 pub count-yes : (c : Tuple) (l : Level) (ts : List Tuple) → count same_cells c l (at_yes ts) ≡ cond (same_level Yes l) (often c ts) 0
 count-yes c l [] = elim (same_level Yes l) as (λ b. ◌≡◌ {A = ℕ} 0 (cond b 0 0)) [ true ↦ refl | false ↦ refl ]
 count-yes c l (t ∷ ts) = ap (λ m. cond (same_cells t c && same_level Yes l) 1 0 + m) (count-yes c l ts) ∙ each (same_cells t c) (same_level Yes l)

@@ -31,6 +31,7 @@ pub mod Onlys
 pub mod Order
 pub mod Places
 pub mod Products
+pub mod Ranking
 pub mod Scalars
 pub mod SetLaws
 pub mod Setting

@@ -262,11 +262,7 @@ fn tuples_once<'a>(alloc: Global, rows: &'a Bag) -> Result<Vec<&'a [Cell]>, OutO
 }
 
 // The tuples of the rows that are there, all or once each.
-fn all_or_once<'a>(
-    alloc: Global,
-    rows: &'a Bag,
-    all: bool,
-) -> Result<Vec<&'a [Cell]>, OutOfMemory>
+fn all_or_once<'a>(alloc: Global, rows: &'a Bag, all: bool) -> Result<Vec<&'a [Cell]>, OutOfMemory>
     ensures { IfOk result (λ tuples. (c : List Cell) → spec.often c (map (λ t. t.now) tuples.items) ≡ spec.all_or_once all (multiplicity same_cells c rows.now)) }
 {
     if all {

@@ -84,8 +84,8 @@ pub fn row_order(a: RowRef<'_>, b: RowRef<'_>) -> Ordering
     }
 }
 
-// The cell of a column, counted from 1, or this null where the row has no such column.
-fn cell_of<'a>(column: usize, cells: &'a [Cell], null: &'a Cell) -> &'a Cell
+/// The cell of a column, counted from 1, or this null where the row has no such column.
+pub(crate) fn cell_of<'a>(column: usize, cells: &'a [Cell], null: &'a Cell) -> &'a Cell
     requires { null.now ≡ Cell.Null }
     ensures { result.now ≡ spec.cell_of column cells.now }
 {

@@ -30,12 +30,7 @@ fn raise(kept: &mut Bag, place: usize, row: RowRef<'_>)
 }
 
 // Adds a row of a tuple, of this hash, that doesn't stand among the rows.
-fn keep_new(
-    index: &mut TupleIndex,
-    kept: &mut Bag,
-    hash: u64,
-    row: Row,
-) -> Result<(), OutOfMemory>
+fn keep_new(index: &mut TupleIndex, kept: &mut Bag, hash: u64, row: Row) -> Result<(), OutOfMemory>
     requires index { index.old ≡ hashes_of (tuples_of kept.old) }
     requires hash { hash ≡ hash_of row.cells }
     ensures index { OnOk result (index.new ≡ hashes_of (tuples_of kept.new)) }
