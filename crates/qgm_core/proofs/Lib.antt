@@ -16,3 +16,6 @@ pub mod Owning
 pub mod KindTests
 pub mod PutOnce
 pub mod Reaching
+pub mod Flagged
+pub mod Untouched
+pub mod Slotted

@@ -1,0 +1,16 @@
+use Rattle.std.proofs.Common.{ℕ, ◌≡◌, ◌≤◌, false, drop, get_or, length}
+use Rattle.qgm_core.specs.Boxes.{numbers}
+use Rattle.qgm_core.specs.Numbered.{Under}
+use Rattle.list_laws.specs.Lists.{holds}
+use Rattle.qgm_core.proofs.Flagged.{reaching}
+use Rattle.qgm_core.proofs.flags.flag_reaching.Given as goal
+
+abbrev pub decreases-boxes : goal.decreases-boxes
+decreases-boxes l = l.i
+
+abbrev pub invariant-boxes : goal.invariant-boxes
+invariant-boxes l = record {
+  within : l.i ≤ length l.nodes;
+  long : length l.flags.items ≡ length l.fn.flags.items;
+  flags : (x : ℕ) → get_or l.flags.items x false ≡ holds x (reaching l.c (drop l.i l.nodes));
+}
