@@ -3,7 +3,7 @@ use Rattle.std.proofs.Common.{ℕ, zero, suc, ◌==◌, ◌≡◌, ◌||◌, ◌
 use Rattle.std.specs.List.{list_any, flat_map}
 use Rattle.std.proofs.lemmas.Bool.{cases_Bool, eq-eqb}
 use Rattle.qgm_core.specs.Boxes.{is_box, overs_of, owns}
-use Rattle.qgm_core.specs.Free.{free_among, free_in, is_owned, marked, named_where, put_each, reached}
+use Rattle.qgm_core.specs.Free.{free_among, free_in, is_owned, marked, named_by, named_where, put_each, reached}
 use Rattle.list_laws.specs.Lists.{change, first, holds, put_below, without}
 use Rattle.qgm_core.specs.declared.node.Node.{Node}
 use Rattle.list_laws.proofs.Booleans.{clash}
@@ -54,7 +54,7 @@ named-others c marks (n ∷ ns) h =
     ] refl
   where
     none : (n : Node) → n.id ≡ c → named_where marks n ≡ []
-    none n e = subst (λ (t : Bool). cond t (named_where (n.id ∷ []) n) [] ≡ []) (sym (ap (λ (b : ℕ). holds b marks) e ∙ h)) refl
+    none n e = subst (λ (t : Bool). cond t (named_by n) [] ≡ []) (sym (ap (λ (b : ℕ). holds b marks) e ∙ h)) refl
 
 owned-others : (c : ℕ) (marks : List ℕ) (ns : List Node) (q : ℕ) → holds c marks ≡ false → is_owned marks ns q ≡ is_owned marks (others c ns) q
 owned-others c marks [] q h = refl

@@ -194,6 +194,19 @@ impl Slots {
     {
         let _ = self.vacant.push(b);
     }
+
+    /// The slots of the boxes that aren't marked become vacant. It takes no memory.
+    pub fn give_back_unmarked(&mut self, nodes: &[Node], marks: &Marks)
+        requires { spec.EachSlotOnce self.old nodes.now }
+        ensures vacant { self.new.vacant ≡ self.old.vacant ++ numbers (filter (λ n. not (holds n.id marks.now)) nodes.now) }
+        ensures rest { (self.new.uses ≡ self.old.uses) × (self.new.lists ≡ self.old.lists) }
+    {
+        for node in nodes {
+            if !marks.has(node.id) {
+                self.give_back(node.id);
+            }
+        }
+    }
 }
 
 // So many boxes without list.
