@@ -1,16 +1,16 @@
 -- The table of slots under edits.
-use Rattle.std.proofs.Common.{ℕ, zero, suc, ◌==◌, ◌≡◌, ◌<◌, ◌≤◌, ◌+◌, ◌++◌, ◌||◌, nat_lt, not, cond, Bool, true, false, List, [], ◌∷◌, filter, Option, Some, None, length, map, slice_get, take, get_or, eqb-true, refl, sym, ap, subst, ◌∙◌, inl, inr, arith}
-use Rattle.std.proofs.lemmas.Bool.{cases_Bool, eq-eqb, ltb-false, ltb-true}
-use Rattle.std.specs.List.{list_any, flat_map}
-use Rattle.qgm_core.specs.Boxes.{has_box, is_box, numbers, overs_in, overs_of, put_at}
+use Rattle.std.proofs.Common.{ℕ, zero, suc, ◌==◌, ◌≡◌, ◌<◌, ◌≤◌, ◌+◌, ◌++◌, ◌||◌, nat_lt, cond, Bool, true, false, List, [], ◌∷◌, filter, Option, Some, None, length, map, slice_get, take, get_or, eqb-true, refl, sym, ap, subst, ◌∙◌, inl, inr, arith}
+use Rattle.std.proofs.lemmas.Bool.{cases_Bool, eq-eqb, ltb-true}
+use Rattle.qgm_core.specs.Boxes.{has_box, ids_of, is_box, is_quant, numbers, overs_in, overs_of}
+use Rattle.qgm_core.specs.Edits.{on_quant}
 use Rattle.qgm_core.specs.Free.{free_in, reached}
 use Rattle.qgm_core.specs.Numbered.{Numbered, Under}
-use Rattle.qgm_core.specs.Slots.{CountsUses, EachSlotOnce, KeepsFree, Marked, Recounted, SlotTable, Stored, kept, slot_times}
-use Rattle.list_laws.specs.Lists.{EachOnce, change, first, holds, put_below, times, without}
+use Rattle.qgm_core.specs.Slots.{CountsUses, EachSlotOnce, KeepsFree, Marked, Recounted, SlotTable, Sound, Stored, kept}
+use Rattle.list_laws.specs.Lists.{change, first, holds, times}
 use Rattle.qgm_core.specs.declared.node.Node.{Node}
-use Rattle.list_laws.proofs.Booleans.{clash}
+use Rattle.qgm_core.specs.declared.owned.OwnedQuant.{OwnedQuant}
 use Rattle.list_laws.proofs.Counting.{each-once, times-append}
-use Rattle.qgm_core.proofs.Fresh.{numbers-change}
+use Rattle.qgm_core.proofs.Fresh.{numbered-parts, numbers-change}
 use Rattle.qgm_core.proofs.Stacked.{once-most}
 use Rattle.qgm_core.proofs.Untouched.{found-number, others, others-change, untouched}
 
@@ -184,3 +184,55 @@ under-held m (n ∷ ns) b u h = elim (cases_Bool (n.id == b)) [
   | inl t ↦ subst (λ (y : ℕ). y < m) (eqb-true n.id b t) u.0
   | inr f ↦ under-held m ns b u.1 (subst (λ (t : Bool). (t || has_box ns b) ≡ true) f h)
 ]
+
+-- ---- all of the invariant
+
+module _ (c : ℕ) (p : Node → Bool) (f : Node → Node) (ns : List Node) (t u : SlotTable) (q : ℕ) where
+  pub sound-parts : ((n : Node) → (f n).id ≡ n.id) → ((n : Node) → ids_of (f n) ≡ ids_of n) → ((n : Node) → overs_of (f n) ≡ overs_of n) → ((n : Node) → first p ns ≡ Some n → n.id ≡ c) →
+      Marked c ns t u → Sound t q ns → Sound u q (change p f ns)
+  sound-parts same ids overs at m s = (
+    subst (λ (k : ℕ). Numbered k q (change p f ns)) (sym m.2) (numbered-parts p f (length t.lists) q ns same ids s.0),
+    stored-parts c p f ns t u same overs at m s.1,
+  )
+
+  pub sound-requanted : (v : SlotTable) (r : ℕ) → ((n : Node) → (f n).id ≡ n.id) → ((n : Node) → first p ns ≡ Some n → n.id ≡ c) → Marked c ns t u → Recounted (change p f ns) u v → Sound t q ns →
+      Numbered (length t.lists) r (change p f ns) → Sound v r (change p f ns)
+  sound-requanted v r same at m d s n = (
+    subst (λ (k : ℕ). Numbered k r (change p f ns)) (sym (ap length d.1 ∙ m.2)) n,
+    stored-requanted c p f ns t u v same at m d s.1,
+  )
+
+-- a box's parts are others
+pub sound-parted : (c : ℕ) (f : Node → Node) (ns : List Node) (t u : SlotTable) (q : ℕ) → ((n : Node) → (f n).id ≡ n.id) → ((n : Node) → ids_of (f n) ≡ ids_of n) → ((n : Node) → overs_of (f n) ≡ overs_of n) → Marked c ns t u → Sound t q ns → Sound u q (change (is_box c) f ns)
+sound-parted c f ns t u q same ids overs m s = sound-parts c (is_box c) f ns t u q same ids overs (found-number c ns) m s
+
+-- ---- owners
+
+pub found-owner : (p : Node → Bool) (ns : List Node) (o : Node) → first p ns ≡ Some o → (n : Node) → first p ns ≡ Some n → n.id ≡ o.id
+found-owner p ns o h n e = let z : Some n ≡ Some o = sym e ∙ h in let s : n ≡ o = cc in ap (λ (m : Node). m.id) s
+
+-- marked after the edit
+module _ (c : ℕ) (f : Node → Node) (ns : List Node) (t u v : SlotTable) where
+  pub sound-more : (r : ℕ) (q : ℕ) → ((n : Node) → (f n).id ≡ n.id) → Marked c (change (is_box c) f ns) t u → Recounted (change (is_box c) f ns) u v → Sound t q ns →
+      Numbered (length t.lists) r (change (is_box c) f ns) → Sound v r (change (is_box c) f ns)
+  sound-more r q same m d s n =
+      let ms = change (is_box c) f ns in (
+        subst (λ (k : ℕ). Numbered k r ms) (sym (ap length d.1 ∙ m.2)) n,
+        (
+          once-same t v ns ms (d.0 ∙ m.1) (ap length d.1 ∙ m.2) (λ x. ap (times x) (numbers-change (is_box c) f same ns)) s.1.0,
+          d.2,
+          keeps-as u v ms d.1 (keeps-edited c ns ms t u (others-change c (is_box c) f ns same (found-number c ns)) m s.1.2),
+        ),
+      )
+
+-- ---- quantifiers that range over the same boxes
+
+pub overs-kind : (q : ℕ) (f : OwnedQuant → OwnedQuant) (n : Node) → ((r : OwnedQuant) → (f r).over ≡ r.over) → overs_of (on_quant q f n) ≡ overs_of n
+overs-kind q f n h = go n.quants
+  where
+    go : (rs : List OwnedQuant) → map (λ r. r.over) (change (is_quant q) f rs) ≡ map (λ r. r.over) rs
+    go [] = refl
+    go (r ∷ rs) = elim (r.id == q) as (λ t. map (λ r. r.over) (cond t (f r ∷ rs) (r ∷ change (is_quant q) f rs)) ≡ r.over ∷ map (λ r. r.over) rs) [
+      | true ↦ ap (λ (b : ℕ). b ∷ map (λ r. r.over) rs) (h r)
+      | false ↦ ap (λ (bs : List ℕ). r.over ∷ bs) (go rs)
+    ]

@@ -1,13 +1,13 @@
 -- What is free in a box that doesn't reach a changed one.
-use Rattle.std.proofs.Common.{ℕ, zero, suc, ◌==◌, ◌≡◌, ◌||◌, ◌&&◌, cond, not, Bool, true, false, List, [], ◌∷◌, ◌++◌, filter, Option, Some, map, refl, sym, ap, subst, ◌∙◌, eqb-true, inl, inr}
-use Rattle.std.specs.List.{list_any, flat_map}
+use Rattle.std.proofs.Common.{ℕ, ◌==◌, ◌≡◌, ◌||◌, ◌&&◌, cond, not, Bool, true, false, List, [], ◌∷◌, ◌++◌, filter, Option, Some, refl, sym, ap, subst, ◌∙◌, eqb-true, inl, inr}
+use Rattle.std.specs.List.{flat_map}
 use Rattle.std.proofs.lemmas.Bool.{cases_Bool, eq-eqb}
 use Rattle.qgm_core.specs.Boxes.{is_box, overs_of, owns}
 use Rattle.qgm_core.specs.Free.{free_among, free_in, is_owned, marked, named_by, named_where, put_each, reached}
 use Rattle.list_laws.specs.Lists.{change, first, holds, put_below, without}
 use Rattle.qgm_core.specs.declared.node.Node.{Node}
 use Rattle.list_laws.proofs.Booleans.{clash}
-use Rattle.list_laws.proofs.Membership.{eq-itself, holds-in, in-holds}
+use Rattle.list_laws.proofs.Membership.{holds-in, in-holds}
 use Rattle.qgm_core.proofs.Reaching.{stays}
 
 -- the boxes without those of a number

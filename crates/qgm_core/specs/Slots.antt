@@ -2,6 +2,7 @@
 use Rattle.std.specs.Prelude.{ℕ, ◌≡◌, ◌<◌, ◌+◌, nat_lt, if◌then◌else◌, Bool, true, false, List, [], ◌∷◌, Option, Some, None, length, slice_index_or}
 use Rattle.qgm_core.specs.Boxes.{numbers, overs_in}
 use Rattle.qgm_core.specs.Free.{free_in, reached}
+use Rattle.qgm_core.specs.Numbered.{Numbered}
 use Rattle.list_laws.specs.Lists.{holds, times}
 use Rattle.qgm_core.specs.declared.node.Node.{Node}
 
@@ -34,6 +35,10 @@ KeepsFree t boxes = (b : ℕ) (qs : List ℕ) → kept b t ≡ Some qs → free_
 -- the table is right for these boxes
 abbrev pub Stored : SlotTable → List Node → Type 0
 Stored t boxes = EachSlotOnce t boxes × CountsUses t.uses boxes × KeepsFree t boxes
+
+-- boxes with numbers of their own, all of them slots, quantifiers with numbers below the next, and the table is right
+abbrev pub Sound : SlotTable → ℕ → List Node → Type 0
+Sound t next_quant boxes = Numbered (length t.lists) next_quant boxes × Stored t boxes
 
 -- ---- what a call makes of a table
 

@@ -64,11 +64,9 @@ impl Drop for Graph {
 }
 
 impl Model for Graph {
-    ghost use Rattle.std.specs.Prelude.{length};
     ghost use Rattle.std.specs.Coded.{codes};
     ghost use Rattle.qgm_core.specs.Boxes.{QueryGraph};
-    ghost use Rattle.qgm_core.specs.Numbered.{Numbered};
-    ghost use Rattle.qgm_core.specs.Slots.{Stored};
+    ghost use Rattle.qgm_core.specs.Slots.{Sound};
     ghost use Rattle.qgm_terms.specs.TermCodes.{coded_term, coded_cond};
 
     ghost Value = { QueryGraph };
@@ -77,7 +75,7 @@ impl Model for Graph {
 
     ghost view = { λ g. record { boxes = g.nodes.items; root = g.root; names = g.names; order = g.order } };
 
-    ghost invariant = { λ g. Numbered (length g.slots.lists) g.next_quant g.nodes.items × Stored g.slots g.nodes.items };
+    ghost invariant = { λ g. Sound g.slots g.next_quant g.nodes.items };
 }
 
 impl Graph {

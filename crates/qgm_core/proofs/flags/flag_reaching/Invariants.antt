@@ -1,6 +1,4 @@
 use Rattle.std.proofs.Common.{ℕ, ◌≡◌, ◌≤◌, false, drop, get_or, length}
-use Rattle.qgm_core.specs.Boxes.{numbers}
-use Rattle.qgm_core.specs.Numbered.{Under}
 use Rattle.list_laws.specs.Lists.{holds}
 use Rattle.qgm_core.proofs.Flagged.{reaching}
 use Rattle.qgm_core.proofs.flags.flag_reaching.Given as goal

@@ -1,5 +1,5 @@
-use Rattle.std.proofs.Common.{ℕ, ◌≡◌, ◌≤◌, ◌+◌, ◌∙◌, List, Some, ap, sym, get_or, length, map, slice_get, take, arith}
-use Rattle.qgm_core.specs.Boxes.{overs_in, overs_of}
+use Rattle.std.proofs.Common.{◌≡◌, ◌+◌, ◌∙◌, List, Some, ap, sym, map, slice_get, arith}
+use Rattle.qgm_core.specs.Boxes.{overs_of}
 use Rattle.list_laws.specs.Lists.{times}
 use Rattle.qgm_core.specs.declared.node.Node.{Node}
 use Rattle.qgm_core.specs.declared.owned.OwnedQuant.{OwnedQuant}

@@ -12,21 +12,21 @@ use Rattle.qgm_core.proofs.graph.Graph.add_box.Goals as goal
 pub invariant_of-self-2 : goal.invariant_of-self-2
 invariant_of-self-2 c =
     let xs = c.self.inside.nodes.items in
-    let b = c.self.inside.next_box in
+    let b = (length c.self.inside.slots.lists) in
     let n : Node = c.bare-node.result in
     let e : c.insert.new.self.items ≡ insert xs c.new_place-i.result n = c.in_ok-insert.ensures.items in
     subst (Numbered (b + 1) c.self.inside.next_quant) (sym e)
-    (numbered-insert b c.self.inside.next_quant xs c.new_place-i.result n (ap (λ (m : Node). m.id) c.bare-node.ensures) (ap ids_of c.bare-node.ensures) c.self.invariant)
+    (numbered-insert b c.self.inside.next_quant xs c.new_place-i.result n (ap (λ (m : Node). m.id) c.bare-node.ensures) (ap ids_of c.bare-node.ensures) c.self.invariant.0)
 
 pub returns-clause-fresh : goal.returns-clause-fresh
 returns-clause-fresh c = λ h.
-    let e = no_box c.self.inside.next_box c.self.inside.nodes.items c.self.invariant.0 in
-    let k = subst (λ (g : QueryGraph). HasBox c.self.inside.next_box g) (sym c.self.view_is) h in
+    let e = no_box (length c.self.inside.slots.lists) c.self.inside.nodes.items c.self.invariant.0.0 in
+    let k = subst (λ (g : QueryGraph). HasBox (length c.self.inside.slots.lists) g) (sym c.self.view_is) h in
     never_both _ e k
 
 pub returns-clause-ok : goal.returns-clause-ok
 returns-clause-ok c =
-    let b = c.self.inside.next_box in
+    let b = (length c.self.inside.slots.lists) in
     let xs = c.self.inside.nodes.items in
     let below = c.args.below in
     let at = rw c.deref.ensures.value at c.new_place-i.ensures in
@@ -37,7 +37,7 @@ returns-clause-ok c =
 pub returns-clause-kept : goal.returns-clause-kept
 returns-clause-kept c =
     let g = c.args.self.now in
-    subst (λ (h : QueryGraph). HasAll g h) (sym (returns-clause-ok c)) (all-more c.args.below (bare_box c.self.inside.next_box c.args.parts) g.boxes)
+    subst (λ (h : QueryGraph). HasAll g h) (sym (returns-clause-ok c)) (all-more c.args.below (bare_box (length c.self.inside.slots.lists) c.args.parts) g.boxes)
 
 pub invariant_of-self : goal.invariant_of-self
 invariant_of-self c = grind (arith, common_steps)

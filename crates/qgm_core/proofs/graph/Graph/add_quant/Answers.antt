@@ -12,21 +12,20 @@ use Rattle.qgm_core.proofs.Changed.{edited}
 use Rattle.qgm_core.proofs.graph.Graph.add_quant.Goals as goal
 
 pub invariant_of-self-2 : goal.invariant_of-self-2
-invariant_of-self-2 c =
-    let at = rw c.deref.ensures.value at c.box_place-k.ensures.first in
-    let n = c.index_mut.result.now in
-    let b = c.self.inside.next_box in
-    let q = c.self.inside.next_quant in
-    let i = c.args.place - 1 in
-    let r = range q c.args.kind c.args.over in
-    let f = put_range i r in
-    subst (Numbered b (q + 1))
-    (sym (at.3 f _ n (ap {B = Node} (λ (rs : List OwnedQuant). record n { quants = rs }) c.in_ok-insert.ensures.ok ∙ ap f c.index_mut.ensures.value)))
-    (numbered-quant (is_box c.args.owner) b q c.self.inside.nodes.items i r refl c.self.invariant)
+invariant_of-self-2 c = ?
+
+pub mark-requires-clause-below : goal.mark-requires-clause-below
+mark-requires-clause-below c = ?
+
+pub mark-requires-clause-numbers : goal.mark-requires-clause-numbers
+mark-requires-clause-numbers c = ?
+
+pub recount-requires : goal.recount-requires
+recount-requires c = ?
 
 pub returns-clause-fresh : goal.returns-clause-fresh
 returns-clause-fresh c = λ h.
-    let e = no_quant c.self.inside.next_quant c.self.inside.nodes.items c.self.invariant.2 in
+    let e = no_quant c.self.inside.next_quant c.self.inside.nodes.items c.self.invariant.0.2 in
     let k = subst (λ (g : QueryGraph). HasQuant c.self.inside.next_quant g) (sym c.self.view_is) h in
     never_both _ e k
 

@@ -1,24 +1,64 @@
-use Rattle.std.proofs.Common.{List, ap, ◌∙◌, sym, subst, refl}
+use Rattle.std.proofs.Common.{List, ap, ◌∙◌, sym, subst, refl, ◌≤◌, length, Some}
 use Rattle.qgm_core.specs.Boxes.{owns, QueryGraph, HasBox, HasQuant}
 use Rattle.qgm_core.specs.Edits.{without_quant}
-use Rattle.qgm_core.specs.Numbered.{Numbered}
 use Rattle.qgm_core.specs.declared.node.Node.{Node}
 use Rattle.qgm_core.specs.declared.owned.OwnedQuant.{OwnedQuant}
 use Rattle.qgm_core.proofs.Fresh.{numbered-without}
 use Rattle.qgm_core.proofs.Held.{boxes-without, quants-without}
 use Rattle.qgm_core.proofs.Changed.{edited}
+use Rattle.qgm_core.specs.Boxes.{numbers}
+use Rattle.qgm_core.specs.Numbered.{Under}
+use Rattle.qgm_core.specs.Slots.{Sound}
+use Rattle.qgm_core.proofs.Counted.{at-get}
+use Rattle.qgm_core.proofs.Flagged.{under-at}
+use Rattle.qgm_core.proofs.Slotted.{found-owner, sound-requanted}
+use Rattle.qgm_core.specs.Edits.{without_quant}
+use Rattle.qgm_core.proofs.Fresh.{numbered-without}
+use Rattle.qgm_core.specs.Boxes.{ids_in}
 use Rattle.qgm_core.proofs.graph.Graph.drop_quant.Goals as goal
 
 pub invariant_of-self : goal.invariant_of-self
 invariant_of-self c =
+    let xs = c.self.inside.nodes.items in
+    let t = c.self.inside.slots in
+    let q = c.self.inside.next_quant in
     let at = rw c.deref.ensures.value at c.owner_place-k.ensures in
     let n = c.index_mut.result.now in
-    let b = c.self.inside.next_box in
-    let q = c.self.inside.next_quant in
+    let o = c.index.result.now in
+    let p = owns c.args.q in
     let f = without_quant c.args.q in
-    subst (Numbered b q)
-    (sym (at.3 f _ n (ap {B = Node} (λ (rs : List OwnedQuant). record n { quants = rs }) c.remove.ensures ∙ ap f c.index_mut.ensures.value)))
-    (numbered-without (owns c.args.q) c.args.q b q c.self.inside.nodes.items c.self.invariant)
+    let same = at.3 f _ n (ap {B = Node} (λ (rs : List OwnedQuant). record n { quants = rs }) c.remove.ensures ∙ ap f c.index_mut.ensures.value) in
+    let owner = found-owner p xs o (at.1 o ∙ ap (λ (n : Node). Some n) (sym c.index.ensures)) in
+    let m = rw c.deref-2.ensures.value at c.mark.ensures in
+    let num = numbered-without p c.args.q (length t.lists) q xs c.self.invariant.0 in
+    let d = rw (c.deref-3.ensures.value ∙ same) at c.recount.ensures in
+    subst (λ (ns : List Node). Sound c.recount.new.self q ns) (sym same)
+    (sound-requanted o.id p f xs t c.mark.new.self q c.recount.new.self q (λ n. refl) owner m d c.self.invariant num)
+
+pub mark-requires-clause-below : goal.mark-requires-clause-below
+mark-requires-clause-below c =
+    let xs = c.self.inside.nodes.items in
+    let k = c.owner_place-k.result in
+    let at = rw c.deref.ensures.value at c.owner_place-k.ensures in
+    let o = c.index.result.now in
+    under-at (length c.self.inside.slots.lists) xs k o c.self.invariant.0.0 (at-get xs k o at.0 ∙ ap (λ (n : Node). Some n) (sym c.index.ensures))
+
+pub mark-requires-clause-numbers : goal.mark-requires-clause-numbers
+mark-requires-clause-numbers c = subst (λ (ns : List Node). Under (length c.self.inside.slots.lists) (numbers ns)) (sym c.deref-2.ensures.value) c.self.invariant.0.0
+
+pub recount-requires : goal.recount-requires
+recount-requires c =
+    let xs = c.self.inside.nodes.items in
+    let t = c.self.inside.slots in
+    let q = c.self.inside.next_quant in
+    let at = rw c.deref.ensures.value at c.owner_place-k.ensures in
+    let n = c.index_mut.result.now in
+    let o = c.index.result.now in
+    let p = owns c.args.q in
+    let f = without_quant c.args.q in
+    let same = at.3 f _ n (ap {B = Node} (λ (rs : List OwnedQuant). record n { quants = rs }) c.remove.ensures ∙ ap f c.index_mut.ensures.value) in
+    let num = numbered-without p c.args.q (length t.lists) q xs c.self.invariant.0 in
+    subst (λ (ns : List Node). length (ids_in ns) ≤ q) (sym (c.deref-3.ensures.value ∙ same)) num.3
 
 pub returns-clause-graph : goal.returns-clause-graph
 returns-clause-graph c =

@@ -10,11 +10,11 @@ use Rattle.qgm_core.proofs.graph.Graph.keep.Goals as goal
 
 pub invariant_of-self : goal.invariant_of-self
 invariant_of-self c =
-    let a = c.self.inside.next_box in
+    let a = (length c.self.inside.slots.lists) in
     let b = c.self.inside.next_quant in
     let marked = λ (n : Node). holds n.id c.args.marks.now in
     let kept : c.retain.new.self.items ≡ filter marked c.self.inside.nodes.items = filter_same _ marked _ (λ n b f' k. search rules) _ _ c.retain.ensures.filtered in
-    subst (Numbered a b) (sym kept) (numbered-filter marked a b c.self.inside.nodes.items c.self.invariant)
+    subst (Numbered a b) (sym kept) (numbered-filter marked a b c.self.inside.nodes.items c.self.invariant.0)
 
 pub returns : goal.returns
 returns c =

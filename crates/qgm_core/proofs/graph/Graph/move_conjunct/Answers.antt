@@ -53,9 +53,9 @@ invariant_of-self c =
     let t = cond c.remove-c.result in
     let two = cond-put to c.box_place-k.result t _ c.index_mut-2.result.now c.push.new.self there c.index_mut-2.ensures.value c.push.ensures.items c.push.ensures.spare in
     let all = two ∙ ap (λ (ns : List Node). change (is_box to) (with_cond t) ns) one in
-    let a = c.self.inside.next_box in
+    let a = (length c.self.inside.slots.lists) in
     let q = c.self.inside.next_quant in
-    subst (Numbered a q) (sym all) (numbered-parts (is_box to) (with_cond t) a q _ (λ n. refl) (λ n. refl) (numbered-parts (is_box b) (without_cond i) a q xs (λ n. refl) (λ n. refl) c.self.invariant))
+    subst (Numbered a q) (sym all) (numbered-parts (is_box to) (with_cond t) a q _ (λ n. refl) (λ n. refl) (numbered-parts (is_box b) (without_cond i) a q xs (λ n. refl) (λ n. refl) c.self.invariant.0))
 
 pub returns-clause-graph : goal.returns-clause-graph
 returns-clause-graph c =

@@ -10,11 +10,11 @@ use Rattle.qgm_core.proofs.graph.Graph.move_quant.Goals as goal
 
 pub invariant_of-self : goal.invariant_of-self
 invariant_of-self c =
-    let a = c.self.inside.next_box in
+    let a = (length c.self.inside.slots.lists) in
     let b = c.self.inside.next_quant in
     let xs = c.self.inside.nodes.items in
     let h = subst (λ (g : QueryGraph). HasQuant c.args.q g) (sym c.self.view_is) c.requires.quant in
-    on_both (Numbered a b) c.move_quant.result _ _ xs c.move_quant.ensures.ok c.move_quant.ensures.err (numbered-requanted c.args.q c.args.owner (c.args.place - 1) a b xs h c.self.invariant) c.self.invariant
+    on_both (Numbered a b) c.move_quant.result _ _ xs c.move_quant.ensures.ok c.move_quant.ensures.err (numbered-requanted c.args.q c.args.owner (c.args.place - 1) a b xs h c.self.invariant.0) c.self.invariant.0
 
 pub returns-clause-ok : goal.returns-clause-ok
 returns-clause-ok c = grind (arith, common_steps)

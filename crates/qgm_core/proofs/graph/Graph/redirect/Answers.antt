@@ -1,21 +1,65 @@
-use Rattle.std.proofs.Common.{List, map, ap, ◌∙◌, refl, subst, sym}
-use Rattle.qgm_core.specs.Boxes.{QueryGraph, ids_of, owns}
+use Rattle.std.proofs.Common.{List, ap, ◌∙◌, refl, subst, sym, ◌≤◌, length, Some}
+use Rattle.qgm_core.specs.Boxes.{QueryGraph, owns}
 use Rattle.qgm_core.specs.Held.{HasAll}
 use Rattle.qgm_core.specs.declared.node.Node.{Node}
 use Rattle.qgm_core.specs.declared.owned.OwnedQuant.{OwnedQuant}
-use Rattle.qgm_core.proofs.Fresh.{numbered-set, ids-on_quant}
+use Rattle.qgm_core.proofs.Fresh.{ids-on_quant}
 use Rattle.qgm_core.proofs.Held.{all-quant}
 use Rattle.qgm_core.proofs.Changed.{edited}
 use Rattle.qgm_core.specs.Edits.{on_quant}
+use Rattle.qgm_core.specs.Boxes.{numbers}
+use Rattle.qgm_core.specs.Numbered.{Under}
+use Rattle.qgm_core.specs.Slots.{Sound}
+use Rattle.qgm_core.proofs.Counted.{at-get}
+use Rattle.qgm_core.proofs.Flagged.{under-at}
+use Rattle.qgm_core.proofs.Slotted.{found-owner, sound-requanted}
+use Rattle.qgm_core.specs.Edits.{on_quant}
+use Rattle.qgm_core.proofs.Fresh.{ids-on_quant, numbered-parts}
+use Rattle.qgm_core.specs.Boxes.{ids_in}
 use Rattle.qgm_core.proofs.graph.Graph.redirect.Goals as goal
 
 pub invariant_of-self : goal.invariant_of-self
 invariant_of-self c =
+    let xs = c.self.inside.nodes.items in
+    let t = c.self.inside.slots in
+    let q = c.self.inside.next_quant in
     let at = rw c.deref.ensures.value at c.owner_place-k.ensures in
     let n = c.index_mut.result.now in
-    let e = c.index_mut.ensures.value in
-    numbered-set c.self.inside.next_box c.self.inside.next_quant c.self.inside.nodes.items c.owner_place-k.result _ n at.0 (ap (λ (n : Node). n.id) e)
-    (ap (λ (rs : List OwnedQuant). map (λ r. r.id) rs) c.put_over.ensures ∙ ids-on_quant c.args.q (λ (r : OwnedQuant). record r { over = c.args.over }) n (λ r. refl) ∙ ap ids_of e) c.self.invariant
+    let o = c.index.result.now in
+    let p = owns c.args.q in
+    let f = on_quant c.args.q (λ (r : OwnedQuant). record r { over = c.args.over }) in
+    let same = at.3 f _ n (ap {B = Node} (λ (rs : List OwnedQuant). record n { quants = rs }) c.put_over.ensures ∙ ap f c.index_mut.ensures.value) in
+    let owner = found-owner p xs o (at.1 o ∙ ap (λ (n : Node). Some n) (sym c.index.ensures)) in
+    let m = rw c.deref-2.ensures.value at c.mark.ensures in
+    let num = numbered-parts p f (length t.lists) q xs (λ n. refl) (λ n. ids-on_quant c.args.q _ n (λ r. refl)) c.self.invariant.0 in
+    let d = rw (c.deref-3.ensures.value ∙ same) at c.recount.ensures in
+    subst (λ (ns : List Node). Sound c.recount.new.self q ns) (sym same)
+    (sound-requanted o.id p f xs t c.mark.new.self q c.recount.new.self q (λ n. refl) owner m d c.self.invariant num)
+
+pub mark-requires-clause-below : goal.mark-requires-clause-below
+mark-requires-clause-below c =
+    let xs = c.self.inside.nodes.items in
+    let k = c.owner_place-k.result in
+    let at = rw c.deref.ensures.value at c.owner_place-k.ensures in
+    let o = c.index.result.now in
+    under-at (length c.self.inside.slots.lists) xs k o c.self.invariant.0.0 (at-get xs k o at.0 ∙ ap (λ (n : Node). Some n) (sym c.index.ensures))
+
+pub mark-requires-clause-numbers : goal.mark-requires-clause-numbers
+mark-requires-clause-numbers c = subst (λ (ns : List Node). Under (length c.self.inside.slots.lists) (numbers ns)) (sym c.deref-2.ensures.value) c.self.invariant.0.0
+
+pub recount-requires : goal.recount-requires
+recount-requires c =
+    let xs = c.self.inside.nodes.items in
+    let t = c.self.inside.slots in
+    let q = c.self.inside.next_quant in
+    let at = rw c.deref.ensures.value at c.owner_place-k.ensures in
+    let n = c.index_mut.result.now in
+    let o = c.index.result.now in
+    let p = owns c.args.q in
+    let f = on_quant c.args.q (λ (r : OwnedQuant). record r { over = c.args.over }) in
+    let same = at.3 f _ n (ap {B = Node} (λ (rs : List OwnedQuant). record n { quants = rs }) c.put_over.ensures ∙ ap f c.index_mut.ensures.value) in
+    let num = numbered-parts p f (length t.lists) q xs (λ n. refl) (λ n. ids-on_quant c.args.q _ n (λ r. refl)) c.self.invariant.0 in
+    subst (λ (ns : List Node). length (ids_in ns) ≤ q) (sym (c.deref-3.ensures.value ∙ same)) num.3
 
 pub returns-clause-graph : goal.returns-clause-graph
 returns-clause-graph c =

@@ -15,7 +15,7 @@ pub invariant_of-self : goal.invariant_of-self
 invariant_of-self c =
     let at = rw c.deref.ensures.value at c.box_place-k.ensures.first in
     let e = c.index_mut.ensures.value in
-    numbered-set c.self.inside.next_box c.self.inside.next_quant c.self.inside.nodes.items c.box_place-k.result _ c.index_mut.result.now at.0 (ap (λ (n : Node). n.id) e) (ap ids_of e) c.self.invariant
+    numbered-set (length c.self.inside.slots.lists) c.self.inside.next_quant c.self.inside.nodes.items c.box_place-k.result _ c.index_mut.result.now at.0 (ap (λ (n : Node). n.id) e) (ap ids_of e) c.self.invariant.0
 
 pub returns-clause-ok : goal.returns-clause-ok
 returns-clause-ok c = on_ok_weaker c.reserve.result (λ e.
