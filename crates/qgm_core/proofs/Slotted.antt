@@ -236,3 +236,21 @@ overs-kind q f n h = go n.quants
       | true ↦ ap (λ (b : ℕ). b ∷ map (λ r. r.over) rs) (h r)
       | false ↦ ap (λ (bs : List ℕ). r.over ∷ bs) (go rs)
     ]
+
+-- ---- two boxes changed
+
+pub sound-both : (b c : ℕ) (f h : Node → Node) (ns : List Node) (t u v : SlotTable) (q : ℕ) → ((n : Node) → (f n).id ≡ n.id) → ((n : Node) → (h n).id ≡ n.id) → ((n : Node) → ids_of (f n) ≡ ids_of n) → ((n : Node) → ids_of (h n) ≡ ids_of n) →
+    ((n : Node) → overs_of (f n) ≡ overs_of n) → ((n : Node) → overs_of (h n) ≡ overs_of n) → Marked b ns t u → Marked c ns u v → Sound t q ns → Sound v q (change (is_box c) h (change (is_box b) f ns))
+sound-both b c f h ns t u v q same-f same-h ids-f ids-h overs-f overs-h m l s =
+    let mid = change (is_box b) f ns in
+    let ms = change (is_box c) h mid in (
+      subst (λ (k : ℕ). Numbered k q ms) (sym (l.2 ∙ m.2)) (numbered-parts (is_box c) h (length t.lists) q mid same-h ids-h (numbered-parts (is_box b) f (length t.lists) q ns same-f ids-f s.0)),
+      (
+        once-same t v ns ms (l.1 ∙ m.1) (l.2 ∙ m.2) (λ x. ap (times x) (numbers-change (is_box c) h same-h mid ∙ numbers-change (is_box b) f same-f ns)) s.1.0,
+        counts-as t.uses v.uses ns ms (l.0 ∙ m.0) (λ x. ap (times x) (overs-change (is_box c) h overs-h mid ∙ overs-change (is_box b) f overs-f ns)) s.1.1,
+        keeps-two b c ns mid ms t u v (others-change b (is_box b) f ns same-f (found-number b ns)) (others-change c (is_box c) h mid same-h (found-number c mid)) m l s.1.2,
+      ),
+    )
+
+pub marked-below : (m : ℕ) (t u : SlotTable) (b : ℕ) → length u.lists ≡ length t.lists → b < length t.lists → b < length u.lists
+marked-below m t u b e l = omega (arith, e, l)

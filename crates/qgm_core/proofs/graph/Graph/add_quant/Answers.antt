@@ -1,7 +1,7 @@
-use Rattle.std.proofs.Common.{List, ◌-◌, ◌+◌, ap, ◌∙◌, refl, sym, subst, arith}
-use Rattle.qgm_core.specs.Boxes.{QueryGraph, HasQuant, is_box}
+use Rattle.std.proofs.Common.{List, ◌-◌, ◌+◌, ap, ◌∙◌, refl, sym, subst, arith, ◌≤◌, length}
+use Rattle.qgm_core.specs.Boxes.{QueryGraph, HasQuant, is_box, HasBox, ids_in, numbers}
 use Rattle.qgm_core.specs.Edits.{put_range, range}
-use Rattle.qgm_core.specs.Numbered.{Numbered}
+use Rattle.qgm_core.specs.Numbered.{Numbered, Under}
 use Rattle.qgm_core.specs.declared.node.Node.{Node}
 use Rattle.qgm_core.specs.declared.owned.OwnedQuant.{OwnedQuant}
 use Rattle.qgm_core.proofs.Fresh.{never_both, no_quant, numbered-quant}
@@ -9,19 +9,57 @@ use Rattle.qgm_core.specs.Held.{HasAll}
 use Rattle.qgm_core.proofs.Held.{all-range, range-held}
 use Rattle.std.proofs.lemmas.Grind.{common_steps}
 use Rattle.qgm_core.proofs.Changed.{edited}
+use Rattle.qgm_core.specs.Slots.{Sound}
+use Rattle.qgm_core.proofs.Slotted.{sound-more, under-held}
 use Rattle.qgm_core.proofs.graph.Graph.add_quant.Goals as goal
 
 pub invariant_of-self-2 : goal.invariant_of-self-2
-invariant_of-self-2 c = ?
+invariant_of-self-2 c =
+    let xs = c.self.inside.nodes.items in
+    let t = c.self.inside.slots in
+    let q = c.self.inside.next_quant in
+    let at = rw c.deref.ensures.value at c.box_place-k.ensures.first in
+    let n = c.index_mut.result.now in
+    let i = c.args.place - 1 in
+    let r = range q c.args.kind c.args.over in
+    let f = put_range i r in
+    let same = at.3 f _ n (ap {B = Node} (λ (rs : List OwnedQuant). record n { quants = rs }) c.in_ok-insert.ensures.ok ∙ ap f c.index_mut.ensures.value) in
+    let num = numbered-quant (is_box c.args.owner) (length t.lists) q xs i r refl c.self.invariant.0 in
+    let m = rw (c.deref-2.ensures.value ∙ same) at c.mark.ensures in
+    let d = rw (c.deref-3.ensures.value ∙ same) at c.recount.ensures in
+    subst (λ (ns : List Node). Sound c.recount.new.self (q + 1) ns) (sym same)
+    (sound-more c.args.owner f xs t c.mark.new.self c.recount.new.self (q + 1) q (λ n. refl) m d c.self.invariant num)
 
 pub mark-requires-clause-below : goal.mark-requires-clause-below
-mark-requires-clause-below c = ?
+mark-requires-clause-below c = under-held (length c.self.inside.slots.lists) c.self.inside.nodes.items c.args.owner c.self.invariant.0.0 (subst (λ (g : QueryGraph). HasBox c.args.owner g) (sym c.self.view_is) c.requires.owner)
 
 pub mark-requires-clause-numbers : goal.mark-requires-clause-numbers
-mark-requires-clause-numbers c = ?
+mark-requires-clause-numbers c =
+    let xs = c.self.inside.nodes.items in
+    let t = c.self.inside.slots in
+    let q = c.self.inside.next_quant in
+    let at = rw c.deref.ensures.value at c.box_place-k.ensures.first in
+    let n = c.index_mut.result.now in
+    let i = c.args.place - 1 in
+    let r = range q c.args.kind c.args.over in
+    let f = put_range i r in
+    let same = at.3 f _ n (ap {B = Node} (λ (rs : List OwnedQuant). record n { quants = rs }) c.in_ok-insert.ensures.ok ∙ ap f c.index_mut.ensures.value) in
+    let num = numbered-quant (is_box c.args.owner) (length t.lists) q xs i r refl c.self.invariant.0 in
+    subst (λ (ns : List Node). Under (length t.lists) (numbers ns)) (sym (c.deref-2.ensures.value ∙ same)) num.0
 
 pub recount-requires : goal.recount-requires
-recount-requires c = ?
+recount-requires c =
+    let xs = c.self.inside.nodes.items in
+    let t = c.self.inside.slots in
+    let q = c.self.inside.next_quant in
+    let at = rw c.deref.ensures.value at c.box_place-k.ensures.first in
+    let n = c.index_mut.result.now in
+    let i = c.args.place - 1 in
+    let r = range q c.args.kind c.args.over in
+    let f = put_range i r in
+    let same = at.3 f _ n (ap {B = Node} (λ (rs : List OwnedQuant). record n { quants = rs }) c.in_ok-insert.ensures.ok ∙ ap f c.index_mut.ensures.value) in
+    let num = numbered-quant (is_box c.args.owner) (length t.lists) q xs i r refl c.self.invariant.0 in
+    subst (λ (ns : List Node). length (ids_in ns) ≤ q + 1) (sym (c.deref-3.ensures.value ∙ same)) num.3
 
 pub returns-clause-fresh : goal.returns-clause-fresh
 returns-clause-fresh c = λ h.
