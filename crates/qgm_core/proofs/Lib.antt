@@ -19,3 +19,5 @@ pub mod Reaching
 pub mod Flagged
 pub mod Untouched
 pub mod Slotted
+pub mod Totals
+pub mod SlotEdits

@@ -251,6 +251,3 @@ sound-both b c f h ns t u v q same-f same-h ids-f ids-h overs-f overs-h m l s =
         keeps-two b c ns mid ms t u v (others-change b (is_box b) f ns same-f (found-number b ns)) (others-change c (is_box c) h mid same-h (found-number c mid)) m l s.1.2,
       ),
     )
-
-pub marked-below : (m : ℕ) (t u : SlotTable) (b : ℕ) → length u.lists ≡ length t.lists → b < length t.lists → b < length u.lists
-marked-below m t u b e l = omega (arith, e, l)
