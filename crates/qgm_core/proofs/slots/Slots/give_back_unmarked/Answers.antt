@@ -1,4 +1,4 @@
-use Rattle.std.proofs.Common.{ℕ, ◌≡◌, ◌+◌, ◌++◌, ◌∷◌, [], ◌∙◌, List, Option, Some, ap, sym, filter, length, map, not, slice_get, take, arith}
+use Rattle.std.proofs.Common.{ℕ, ◌≡◌, ◌+◌, ◌∙◌, List, Option, Some, ap, sym, filter, length, not, slice_get, take, arith}
 use Rattle.qgm_core.specs.Boxes.{numbers}
 use Rattle.list_laws.specs.Lists.{holds, times}
 use Rattle.list_laws.proofs.Counting.{times-append}
