@@ -36,7 +36,7 @@ last-slot vacant now b n m e h =
 
 -- ---- room for a vacant slot
 
-under-counted : (n : ℕ) (xs : List ℕ) → ((x : ℕ) → 1 ≤ times x xs → x < n) → Under n xs
+pub under-counted : (n : ℕ) (xs : List ℕ) → ((x : ℕ) → 1 ≤ times x xs → x < n) → Under n xs
 under-counted n [] h = tt
 under-counted n (x ∷ xs) h = (
   h x (let e : times x (x ∷ xs) ≡ 1 + times x xs = ap (λ (b : Bool). cond b 1 0 + times x xs) (eq-eqb x x refl) in omega (arith, e)),
