@@ -21,3 +21,4 @@ pub mod Untouched
 pub mod Slotted
 pub mod Totals
 pub mod SlotEdits
+pub mod Refreshed

@@ -251,3 +251,16 @@ sound-both b c f h ns t u v q same-f same-h ids-f ids-h overs-f overs-h m l s =
         keeps-two b c ns mid ms t u v (others-change b (is_box b) f ns same-f (found-number b ns)) (others-change c (is_box c) h mid same-h (found-number c mid)) m l s.1.2,
       ),
     )
+
+-- a box's parts are others, and it is marked then
+pub sound-parted_then : (c : ℕ) (f : Node → Node) (ns : List Node) (t u : SlotTable) (q : ℕ) → ((n : Node) → (f n).id ≡ n.id) → ((n : Node) → ids_of (f n) ≡ ids_of n) → ((n : Node) → overs_of (f n) ≡ overs_of n) → Marked c (change (is_box c) f ns) t u → Sound t q ns →
+    Sound u q (change (is_box c) f ns)
+sound-parted_then c f ns t u q same ids overs m s =
+    let ms = change (is_box c) f ns in (
+      subst (λ (k : ℕ). Numbered k q ms) (sym m.2) (numbered-parts (is_box c) f (length t.lists) q ns same ids s.0),
+      (
+        once-same t u ns ms m.1 m.2 (λ x. ap (times x) (numbers-change (is_box c) f same ns)) s.1.0,
+        counts-as t.uses u.uses ns ms m.0 (λ x. ap (times x) (overs-change (is_box c) f overs ns)) s.1.1,
+        keeps-edited c ns ms t u (others-change c (is_box c) f ns same (found-number c ns)) m s.1.2,
+      ),
+    )

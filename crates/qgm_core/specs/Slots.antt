@@ -69,3 +69,12 @@ is_stale (Some qs) = false
 abbrev pub stale_in : SlotTable → List Node → ℕ
 stale_in t [] = 0
 stale_in t (n ∷ ns) = (if is_stale (kept n.id t) then 1 else 0) + stale_in t ns
+
+-- the list that is kept, else this one
+abbrev pub list_or : List ℕ → Option (List ℕ) → List ℕ
+list_or qs None = qs
+list_or qs (Some rs) = rs
+
+-- no slot is another, and no list is lost
+abbrev pub Refreshed : SlotTable → SlotTable → Type 0
+Refreshed t u = (u.uses ≡ t.uses) × (u.vacant ≡ t.vacant) × (length u.lists ≡ length t.lists) × ((b : ℕ) (qs : List ℕ) → kept b t ≡ Some qs → kept b u ≡ Some qs)

@@ -1,5 +1,5 @@
 // The graph: its boxes in one list, each with the quantifiers that it owns.
-ghost use Rattle.std.specs.Prelude.{ℕ, ◌≡◌, ◌≤◌, ◌+◌, ◌-◌, [], OnOk, OnErr, IfOk, IfSome, length, map, position, slice_get, Some, option_map, false, ◌==◌, IsTrue, ◌↔◌};
+ghost use Rattle.std.specs.Prelude.{ℕ, ◌≡◌, ◌≤◌, ◌<◌, ◌+◌, ◌-◌, [], OnOk, OnErr, IfOk, IfSome, length, map, position, slice_get, Some, option_map, false, ◌==◌, IsTrue, ◌↔◌};
 ghost use Rattle.qgm_core.specs.Boxes as spec;
 ghost use Rattle.qgm_core.specs.Edits as edits;
 ghost use Rattle.qgm_core.specs.Free.{free};
@@ -30,6 +30,8 @@ use shared_types::{OutOfMemory, Walk};
 use sql_value::{OrderKeys, OutNames};
 use std::alloc::Global;
 use std::marker::Model;
+use std::sync::ledger::Ledger;
+use step_count::Steps;
 
 /// A query as a graph of boxes (Pirahesh, Hellerstein and Hasan 1992, 2). Contracts see it as the
 /// list of its boxes by rank, each with its quantifiers by place, the number of its root, the names
@@ -267,6 +269,29 @@ impl Graph {
             Some(uses) => uses,
             None => uses_in(&self.nodes, b, self.next_quant),
         }
+    }
+
+    /// How many slots there are for boxes. Each box's number is one of them, and those that `compact`
+    /// and other calls free serve new boxes. It takes no memory.
+    pub fn slots(&self) -> usize
+        ensures boxes { length self.now.boxes ≤ result }
+        ensures numbers { (b : ℕ) → spec.HasBox b self.now → b < result }
+    {
+        self.slots.len()
+    }
+
+    /// Computes the free quantifiers of each box for which they aren't kept, by rank, and adds a step for
+    /// each. Where there is no memory, what was computed is kept.
+    pub fn refresh<L: Ledger>(
+        &mut self,
+        alloc: Global,
+        steps: &mut Steps<L>,
+    ) -> Result<(), OutOfMemory>
+        ensures same { self.new ≡ self.old }
+        ensures never_less { steps.old ≤ steps.new }
+        ensures most { steps.new ≤ steps.old + length self.old.boxes }
+    {
+        self.slots.refresh(alloc, &self.nodes, steps)
     }
 
     /// The quantifiers that are named in the box or below it, and owned neither there nor below, in

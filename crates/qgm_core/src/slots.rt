@@ -1,5 +1,5 @@
 // The slots of boxes: a box's number is its slot.
-ghost use Rattle.std.specs.Prelude.{◌≡◌, ◌<◌, ◌≤◌, ◌+◌, ◌++◌, ◌∷◌, [], ℕ, List, Some, None, length, map, filter, not, option_map, replicate, slice_get, OnOk, OnErr, IfOk};
+ghost use Rattle.std.specs.Prelude.{◌≡◌, ◌==◌, false, if◌then◌else◌, ◌<◌, ◌≤◌, ◌+◌, ◌++◌, ◌∷◌, [], ℕ, List, Some, None, length, map, filter, not, option_map, replicate, slice_get, OnOk, OnErr, IfOk};
 ghost use Rattle.qgm_core.specs.Boxes.{ids_in, numbers, overs_in};
 ghost use Rattle.qgm_core.specs.Free.{free_in};
 ghost use Rattle.qgm_core.specs.Numbered.{Under};
@@ -7,6 +7,7 @@ ghost use Rattle.qgm_core.specs.Slots as spec;
 ghost use Rattle.list_laws.specs.Lists.{EachOnce, holds, times};
 
 use crate::flags::{drop_flagged, flag_reaching};
+use crate::free::free_in;
 use crate::kinds::BoxId;
 use crate::marks::Marks;
 use crate::node::Node;
@@ -16,6 +17,8 @@ use shared_types::OutOfMemory;
 use sqlite_items::Items;
 use std::alloc::Global;
 use std::marker::Model;
+use std::sync::ledger::Ledger;
+use step_count::Steps;
 
 /// By slot, how many quantifiers range over the box, and its free quantifiers where they are kept; and
 /// the slots that no box has.
@@ -145,6 +148,54 @@ impl Slots {
     {
         self.flags.fill(true);
         drop_flagged(&mut self.lists, &self.flags);
+    }
+
+    /// Computes the stale lists of these boxes, by rank, and adds a step for each that is computed. Where
+    /// there is no memory, those that were computed stay.
+    pub fn refresh<L: Ledger>(
+        &mut self,
+        alloc: Global,
+        nodes: &[Node],
+        steps: &mut Steps<L>,
+    ) -> Result<(), OutOfMemory>
+        requires right { spec.KeepsFree self.old nodes.now }
+        requires numbers { Under (length self.old.lists) (numbers nodes.now) }
+        requires once { EachOnce (numbers nodes.now) }
+        ensures rest { spec.Refreshed self.old self.new }
+        ensures right { spec.KeepsFree self.new nodes.now }
+        ensures fresh { OnOk result (spec.stale_in self.new nodes.now ≡ 0) }
+        ensures exact { OnOk result (steps.new ≡ steps.old + spec.stale_in self.old nodes.now) }
+        ensures counted { steps.new + spec.stale_in self.new nodes.now ≡ steps.old + spec.stale_in self.old nodes.now }
+    {
+        for node in nodes {
+            self.refresh_box(alloc, nodes, node.id, steps)?;
+        }
+        Ok(())
+    }
+
+    // Computes the list of a box, if it is stale.
+    fn refresh_box<L: Ledger>(
+        &mut self,
+        alloc: Global,
+        nodes: &[Node],
+        b: BoxId,
+        steps: &mut Steps<L>,
+    ) -> Result<(), OutOfMemory>
+        requires { b < length self.old.lists }
+        ensures rest { spec.Refreshed self.old self.new }
+        ensures others { (x : ℕ) → (b == x) ≡ false → spec.kept x self.new ≡ spec.kept x self.old }
+        ensures ok { OnOk result (spec.kept b self.new ≡ Some (spec.list_or (free_in nodes.now b) (spec.kept b self.old))) }
+        ensures steps_ok { OnOk result (steps.new ≡ steps.old + (if spec.is_stale (spec.kept b self.old) then 1 else 0)) }
+        ensures err { OnErr result (self.new ≡ self.old) }
+        ensures steps_err { OnErr result (steps.new ≡ steps.old) }
+    {
+        if self.lists[b].is_some() {
+            return Ok(());
+        }
+        let qs = free_in(alloc, nodes, b)?;
+        self.lists[b] = Some(Items::from_vec(qs));
+        steps.tick();
+        Ok(())
     }
 
     /// A slot for a new box: the last vacant one, and where there is none a new one, behind all others.
