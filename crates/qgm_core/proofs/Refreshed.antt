@@ -1,5 +1,5 @@
 -- Lists that are computed, one after the other.
-use Rattle.std.proofs.Common.{ℕ, zero, suc, ◌==◌, ◌≡◌, ◌≤◌, ◌+◌, ◌||◌, cond, Bool, true, false, List, [], ◌∷◌, Option, Some, None, length, slice_get, take, eqb-true, add-one, refl, sym, ap, subst, ◌∙◌, inl, inr, arith}
+use Rattle.std.proofs.Common.{ℕ, zero, suc, ◌==◌, ◌≡◌, ◌≤◌, ◌+◌, ◌||◌, cond, Bool, true, false, List, [], ◌∷◌, Option, Some, None, length, slice_get, take, eqb-true, refl, sym, ap, subst, ◌∙◌, inl, inr, arith}
 use Rattle.std.proofs.lemmas.Bool.{cases_Bool, eq-eqb, ne_eqb, or_left, or_parts, or_right}
 use Rattle.qgm_core.specs.Boxes.{numbers}
 use Rattle.qgm_core.specs.Free.{free_in}

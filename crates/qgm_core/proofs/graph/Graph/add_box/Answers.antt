@@ -1,9 +1,8 @@
-use Rattle.std.proofs.Common.{◌≡◌, ◌+◌, List, sym, subst, insert, ap, ◌∙◌, arith, refl}
-use Rattle.qgm_core.specs.Boxes.{QueryGraph, HasBox, bare_box, ids_of, put_at, ids_in}
+use Rattle.std.proofs.Common.{◌≡◌, List, sym, subst, insert, ap, ◌∙◌, arith, refl}
+use Rattle.qgm_core.specs.Boxes.{QueryGraph, HasBox, bare_box, put_at, ids_in}
 use Rattle.qgm_core.specs.Edits.{with_box}
-use Rattle.qgm_core.specs.Numbered.{Numbered}
 use Rattle.qgm_core.specs.declared.node.Node.{Node}
-use Rattle.qgm_core.proofs.Fresh.{never_both, no_box, numbered-insert, ids-insert, if_ok}
+use Rattle.qgm_core.proofs.Fresh.{ids-insert, if_ok}
 use Rattle.qgm_core.specs.Held.{HasAll}
 use Rattle.qgm_core.proofs.Held.{all-more}
 use Rattle.std.proofs.lemmas.Grind.{common_steps}

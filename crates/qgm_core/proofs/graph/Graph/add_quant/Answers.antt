@@ -1,7 +1,7 @@
 use Rattle.std.proofs.Common.{List, ◌-◌, ◌+◌, ap, ◌∙◌, refl, sym, subst, arith, ◌≤◌, length}
 use Rattle.qgm_core.specs.Boxes.{QueryGraph, HasQuant, is_box, HasBox, ids_in, numbers}
 use Rattle.qgm_core.specs.Edits.{put_range, range}
-use Rattle.qgm_core.specs.Numbered.{Numbered, Under}
+use Rattle.qgm_core.specs.Numbered.{Under}
 use Rattle.qgm_core.specs.declared.node.Node.{Node}
 use Rattle.qgm_core.specs.declared.owned.OwnedQuant.{OwnedQuant}
 use Rattle.qgm_core.proofs.Fresh.{never_both, no_quant, numbered-quant}

@@ -2,11 +2,10 @@ use Rattle.std.proofs.Common.{◌≡◌, ◌-◌, ◌≤◌, ℕ, List, Option, 
 use Rattle.qgm_core.specs.Boxes.{QueryGraph, has_box, is_box, HasBox, numbers}
 use Rattle.qgm_core.specs.Edits.{cond_at, conds_in, move_conjunct, put_cond_found, spare_in, with_cond, without_cond}
 use Rattle.list_laws.specs.Lists.{first, change}
-use Rattle.qgm_core.specs.Numbered.{Numbered, Under}
+use Rattle.qgm_core.specs.Numbered.{Under}
 use Rattle.qgm_core.specs.declared.node.Node.{Node}
 use Rattle.qgm_terms.specs.Terms.{Cond}
 use Rattle.qgm_core.proofs.Changed.{cond-put, cond-taken, has-change, spare-without}
-use Rattle.qgm_core.proofs.Fresh.{numbered-parts}
 use Rattle.qgm_core.specs.Held.{HasAll}
 use Rattle.qgm_terms.specs.Shown.{cond}
 use Rattle.qgm_core.proofs.Held.{all-parts, all-then}

@@ -1,5 +1,4 @@
 use Rattle.std.proofs.Common.{◌≡◌, length, arith, subst, sym, ◌∙◌}
-use Rattle.qgm_core.specs.Numbered.{Numbered}
 use Rattle.qgm_core.proofs.Stacked.{numbered-made}
 use Rattle.std.proofs.lemmas.Grind.{common_steps}
 use Rattle.qgm_core.specs.Slots.{Sound}

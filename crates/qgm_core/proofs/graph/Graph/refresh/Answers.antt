@@ -1,6 +1,5 @@
-use Rattle.std.proofs.Common.{◌≡◌, ◌+◌, List, ap, length, arith}
+use Rattle.std.proofs.Common.{◌≡◌, List, ap, length, arith}
 use Rattle.qgm_core.specs.Boxes.{QueryGraph}
-use Rattle.qgm_core.specs.Slots.{stale_in}
 use Rattle.qgm_core.specs.declared.node.Node.{Node}
 use Rattle.qgm_core.proofs.Refreshed.{stale-fewer, stale-most}
 use Rattle.qgm_core.proofs.graph.Graph.refresh.Goals as goal

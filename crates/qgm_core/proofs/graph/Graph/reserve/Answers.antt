@@ -1,14 +1,13 @@
-use Rattle.std.proofs.Common.{List, get_or, length, ◌≡◌, ◌∙◌, ap, refl, subst, sym}
+use Rattle.std.proofs.Common.{List, length, ◌≡◌, ◌∙◌, ap, refl, subst, sym}
 use Rattle.std.proofs.Math.ListN.{set}
 use Rattle.std.proofs.lemmas.List.{set-get_or}
-use Rattle.qgm_core.specs.Boxes.{HasBox, QueryGraph, is_box, numbers}
+use Rattle.qgm_core.specs.Boxes.{HasBox, QueryGraph, is_box}
 use Rattle.qgm_core.specs.declared.node.Node.{Node}
 use Rattle.qgm_core.proofs.Changed.{edited, same_conds}
 use Rattle.qgm_core.proofs.Fresh.{numbered-parts}
 use Rattle.qgm_core.proofs.Slotted.{sound-parted_then, under-held}
 use Rattle.qgm_core.specs.Held.{HasAll}
 use Rattle.qgm_core.specs.Edits.{with_conds, with_room}
-use Rattle.qgm_core.specs.Numbered.{Under}
 use Rattle.qgm_core.specs.Slots.{Sound}
 use Rattle.qgm_terms.specs.Conjuncts.{Conjuncts}
 use Rattle.qgm_core.proofs.Held.{all-parts}

@@ -1,6 +1,5 @@
-use Rattle.std.proofs.Common.{◌≡◌, ◌+◌, ◌<◌, ◌∙◌, ap, sym, subst, ℕ, List, Some, length, slice_get, take, add-one, refl, arith}
-use Rattle.qgm_core.specs.Boxes.{numbers}
-use Rattle.qgm_core.specs.Slots.{kept, list_or, stale_in}
+use Rattle.std.proofs.Common.{◌≡◌, ◌+◌, ◌∙◌, ap, sym, ℕ, Some, length, slice_get, take, add-one, refl, arith}
+use Rattle.qgm_core.specs.Slots.{stale_in}
 use Rattle.qgm_core.specs.declared.node.Node.{Node}
 use Rattle.qgm_core.proofs.Counted.{at-get}
 use Rattle.qgm_core.proofs.Flagged.{under-at}

@@ -1,4 +1,4 @@
-use Rattle.std.proofs.Common.{◌≡◌, ◌+◌, ◌++◌, ◌∷◌, [], ◌∙◌, ap, sym, subst, length, arith}
+use Rattle.std.proofs.Common.{◌≡◌, ◌+◌, ◌∷◌, [], ◌∙◌, ap, sym, subst, length, arith}
 use Rattle.qgm_core.specs.Boxes.{numbers}
 use Rattle.qgm_core.specs.Slots.{EachSlotOnce, SlotTable, slot_times}
 use Rattle.list_laws.specs.Lists.{times}
