@@ -1,9 +1,11 @@
 -- The boxes from which a box is reached, from the last rank to the first.
-use Rattle.std.proofs.Common.{ℕ, zero, suc, ◌==◌, ◌≡◌, ◌<◌, ◌-◌, ◌||◌, cond, Some, drop, get_or, length, arith, Bool, true, false, List, [], ◌∷◌, ◌++◌, map, refl, sym, ap, subst, ◌∙◌, eqb-true, inl, inr}
+use Rattle.std.proofs.lemmas.List.{get_or-replicate, length-replicate}
+use Rattle.qgm_core.specs.Slots.{meets}
+use Rattle.std.proofs.Common.{ℕ, zero, suc, ◌==◌, ◌≡◌, ◌<◌, ◌-◌, ◌||◌, cond, Some, drop, get_or, length, arith, Bool, true, false, List, [], ◌∷◌, ◌++◌, map, refl, sym, ap, subst, ◌∙◌, eqb-true, inl, inr, replicate, filter, take}
 use Rattle.std.proofs.Math.ListN.{set}
 use Rattle.std.specs.Prelude.{slice_get}
 use Rattle.std.specs.List.{list_any}
-use Rattle.std.proofs.lemmas.Bool.{cases_Bool, or_parts}
+use Rattle.std.proofs.lemmas.Bool.{cases_Bool, or_parts, cases_lt}
 use Rattle.std.proofs.lemmas.List.Folds.{list_any-append}
 use Rattle.qgm_core.specs.Boxes.{numbers, overs_of}
 use Rattle.qgm_core.specs.Free.{marked, reached}
@@ -14,21 +16,17 @@ use Rattle.qgm_core.specs.declared.owned.OwnedQuant.{OwnedQuant}
 use Rattle.list_laws.proofs.Booleans.{or-false, or-true, same-truth}
 use Rattle.list_laws.proofs.Indexed.{drop-more}
 use Rattle.list_laws.proofs.Membership.{eq-itself}
-use Rattle.qgm_core.proofs.ByNumber.{read-set}
+use Rattle.qgm_core.proofs.ByNumber.{read-set, read-behind}
 
--- one of these stands among those
-abbrev pub meets : List ℕ → List ℕ → Bool
-meets cs marks = list_any (λ m. holds m cs) marks
-
--- c, and each box one of whose quantifiers ranges over one of them behind it
-abbrev pub reaching : ℕ → List Node → List ℕ
-reaching c [] = c ∷ []
-reaching c (n ∷ ns) = cond (meets (reaching c ns) (overs_of n)) (n.id ∷ reaching c ns) (reaching c ns)
+-- these, and each box one of whose quantifiers ranges over one of them behind it
+abbrev pub reaching : List ℕ → List Node → List ℕ
+reaching cs [] = cs
+reaching cs (n ∷ ns) = cond (meets (reaching cs ns) (overs_of n)) (n.id ∷ reaching cs ns) (reaching cs ns)
 
 same-other : (a b : ℕ) → (a == b) ≡ (b == a)
 same-other a b = same-truth (a == b) (b == a) (λ t. subst (λ (z : ℕ). (z == a) ≡ true) (eqb-true a b t) (eq-itself a)) (λ t. subst (λ (z : ℕ). (z == b) ≡ true) (eqb-true b a t) (eq-itself b))
 
-meets-one : (c : ℕ) (marks : List ℕ) → holds c marks ≡ meets (c ∷ []) marks
+pub meets-one : (c : ℕ) (marks : List ℕ) → holds c marks ≡ meets (c ∷ []) marks
 meets-one c [] = refl
 meets-one c (m ∷ marks) =
     ap (λ (t : Bool). t || holds c marks) (same-other m c ∙ sym (or-false (c == m)))
@@ -51,31 +49,48 @@ meets-it x cs (m ∷ marks) h =
       | false ↦ λ e h. ap (λ (t : Bool). holds m (x ∷ cs) || t) (meets-it x cs marks h) ∙ or-true (holds m (x ∷ cs))
     ] refl h
 
--- what is marked reaches c where one of the marks does
-pub reaches-some : (c : ℕ) (ns : List Node) (marks : List ℕ) → holds c (reached marks ns) ≡ meets (reaching c ns) marks
-reaches-some c [] marks = meets-one c marks
-reaches-some c (n ∷ ns) marks =
-    let cs = reaching c ns in
-    reaches-some c ns (marked marks n)
+-- what is marked reaches one of these where one of the marks does
+pub reaches-some : (cs : List ℕ) (ns : List Node) (marks : List ℕ) → meets cs (reached marks ns) ≡ meets (reaching cs ns) marks
+reaches-some cs [] marks = refl
+reaches-some cs (n ∷ ns) marks =
+    let ds = reaching cs ns in
+    reaches-some cs ns (marked marks n)
     ∙ elim (cases_Bool (holds n.id marks)) [
       | inl t ↦ (
-          ap (λ (b : Bool). meets cs (cond b (marks ++ overs_of n) marks)) t
-          ∙ list_any-append (λ m. holds m cs) marks (overs_of n)
-          ∙ elim (meets cs (overs_of n)) as (λ b. (meets cs marks || b) ≡ meets (cond b (n.id ∷ cs) cs) marks) [
-            | true ↦ or-true (meets cs marks) ∙ sym (meets-it n.id cs marks t)
-            | false ↦ or-false (meets cs marks)
+          ap (λ (b : Bool). meets ds (cond b (marks ++ overs_of n) marks)) t
+          ∙ list_any-append (λ m. holds m ds) marks (overs_of n)
+          ∙ elim (meets ds (overs_of n)) as (λ b. (meets ds marks || b) ≡ meets (cond b (n.id ∷ ds) ds) marks) [
+            | true ↦ or-true (meets ds marks) ∙ sym (meets-it n.id ds marks t)
+            | false ↦ or-false (meets ds marks)
           ])
       | inr f ↦ (
-          ap (λ (b : Bool). meets cs (cond b (marks ++ overs_of n) marks)) f
-          ∙ elim (meets cs (overs_of n)) as (λ b. meets cs marks ≡ meets (cond b (n.id ∷ cs) cs) marks) [
-            | true ↦ sym (meets-more n.id cs marks f)
+          ap (λ (b : Bool). meets ds (cond b (marks ++ overs_of n) marks)) f
+          ∙ elim (meets ds (overs_of n)) as (λ b. meets ds marks ≡ meets (cond b (n.id ∷ ds) ds) marks) [
+            | true ↦ sym (meets-more n.id ds marks f)
             | false ↦ refl
           ])
     ]
 
--- the numbers that reach c
-pub reaches-it : (c : ℕ) (ns : List Node) (x : ℕ) → holds c (reached (x ∷ []) ns) ≡ holds x (reaching c ns)
-reaches-it c ns x = reaches-some c ns (x ∷ []) ∙ or-false (holds x (reaching c ns))
+-- the numbers that reach one of these
+pub reaches-them : (cs : List ℕ) (ns : List Node) (x : ℕ) → meets cs (reached (x ∷ []) ns) ≡ holds x (reaching cs ns)
+reaches-them cs ns x = reaches-some cs ns (x ∷ []) ∙ or-false (holds x (reaching cs ns))
+
+-- ---- flags
+
+-- one flag more
+pub flag-put : (flags : List Bool) (c : ℕ) (cs : List ℕ) → c < length flags → ((x : ℕ) → get_or flags x false ≡ holds x cs) → (x : ℕ) → get_or (set flags c true) x false ≡ holds x (c ∷ cs)
+flag-put flags c cs l h x =
+    read-set flags c true false x l
+    ∙ elim (c == x) as (λ t. cond t true (get_or flags x false) ≡ (t || holds x cs)) [
+      | true ↦ refl
+      | false ↦ h x
+    ]
+
+pub no-flags : (m x : ℕ) → get_or (replicate m false) x false ≡ false
+no-flags m x = elim (cases_lt x m) [
+  | inl l ↦ get_or-replicate m x false false l
+  | inr g ↦ read-behind (replicate m false) x false (let e = length-replicate m false in omega (arith, e, g))
+]
 
 -- ---- one more box
 
@@ -96,16 +111,16 @@ from-it ns i n l e =
     let s : suc (i - 1) ≡ i = omega (arith, l) in
     drop-more (i - 1) ns n e ∙ ap (λ (k : ℕ). n ∷ drop k ns) s
 
-module _ (c : ℕ) (ns : List Node) (i : ℕ) (n : Node) (flags : List Bool) (l : 0 < i) (at : slice_get ns (i - 1) ≡ Some n) (h : (x : ℕ) → get_or flags x false ≡ holds x (reaching c (drop i ns))) where
+module _ (start : List ℕ) (ns : List Node) (i : ℕ) (n : Node) (flags : List Bool) (l : 0 < i) (at : slice_get ns (i - 1) ≡ Some n) (h : (x : ℕ) → get_or flags x false ≡ holds x (reaching start (drop i ns))) where
   abbrev cs : List ℕ
-  cs = reaching c (drop i ns)
+  cs = reaching start (drop i ns)
 
-  unfolded : (b : Bool) → list_any (λ r. get_or flags r.over false) n.quants ≡ b → reaching c (drop (i - 1) ns) ≡ cond b (n.id ∷ cs) cs
+  unfolded : (b : Bool) → list_any (λ r. get_or flags r.over false) n.quants ≡ b → reaching start (drop (i - 1) ns) ≡ cond b (n.id ∷ cs) cs
   unfolded b e =
-      ap (λ (ms : List Node). reaching c ms) (from-it ns i n l at)
+      ap (λ (ms : List Node). reaching start ms) (from-it ns i n l at)
       ∙ ap (λ (t : Bool). cond t (n.id ∷ cs) cs) (sym (any-flagged flags cs h n.quants) ∙ e)
 
-  pub flags-more : n.id < length flags → list_any (λ r. get_or flags r.over false) n.quants ≡ true → (x : ℕ) → get_or (set flags n.id true) x false ≡ holds x (reaching c (drop (i - 1) ns))
+  pub flags-more : n.id < length flags → list_any (λ r. get_or flags r.over false) n.quants ≡ true → (x : ℕ) → get_or (set flags n.id true) x false ≡ holds x (reaching start (drop (i - 1) ns))
   flags-more within e x =
       read-set flags n.id true false x within
       ∙ elim (n.id == x) as (λ t. cond t true (get_or flags x false) ≡ (t || holds x cs)) [
@@ -114,5 +129,30 @@ module _ (c : ℕ) (ns : List Node) (i : ℕ) (n : Node) (flags : List Bool) (l 
       ]
       ∙ ap (λ (ms : List ℕ). holds x ms) (sym (unfolded true e))
 
-  pub flags-same : list_any (λ r. get_or flags r.over false) n.quants ≡ false → (x : ℕ) → get_or flags x false ≡ holds x (reaching c (drop (i - 1) ns))
+  pub flags-same : list_any (λ r. get_or flags r.over false) n.quants ≡ false → (x : ℕ) → get_or flags x false ≡ holds x (reaching start (drop (i - 1) ns))
   flags-same e x = h x ∙ ap (λ (ms : List ℕ). holds x ms) (sym (unfolded false e))
+
+-- ---- those that pass, by number
+
+swap-or : (a b c : Bool) → (a || (b || c)) ≡ (b || (a || c))
+swap-or true true c = refl
+swap-or true false c = refl
+swap-or false true c = refl
+swap-or false false c = refl
+
+pub held-more : (p : Node → Bool) (x : ℕ) (ns : List Node) (i : ℕ) (n : Node) → slice_get ns i ≡ Some n → holds x (numbers (filter p (take (suc i) ns))) ≡ holds x (cond (p n) (n.id ∷ numbers (filter p (take i ns))) (numbers (filter p (take i ns))))
+held-more p x [] i n e = absurd (let z : ⊥ = cc in z)
+held-more p x (m ∷ ns) zero n e =
+    let s : m ≡ n = cc in
+    ap (λ (z : Node). holds x (numbers (cond (p z) (z ∷ []) []))) s
+    ∙ elim (p n) as (λ t. holds x (numbers (cond t (n ∷ []) [])) ≡ holds x (cond t (n.id ∷ []) [])) [ true ↦ refl | false ↦ refl ]
+held-more p x (m ∷ ns) (suc i) n e =
+    let h = held-more p x ns i n e in
+    let old = numbers (filter p (take i ns)) in
+    elim (p m) as (λ t. holds x (numbers (cond t (m ∷ filter p (take (suc i) ns)) (filter p (take (suc i) ns)))) ≡ holds x (cond (p n) (n.id ∷ numbers (cond t (m ∷ filter p (take i ns)) (filter p (take i ns)))) (numbers (cond t (m ∷ filter p (take i ns)) (filter p (take i ns)))))) [
+      | true ↦ ap (λ (t : Bool). (m.id == x) || t) h ∙ elim (p n) as (λ t. ((m.id == x) || holds x (cond t (n.id ∷ old) old)) ≡ holds x (cond t (n.id ∷ (m.id ∷ old)) (m.id ∷ old))) [
+        | true ↦ swap-or (m.id == x) (n.id == x) (holds x old)
+        | false ↦ refl
+      ]
+      | false ↦ h
+    ]

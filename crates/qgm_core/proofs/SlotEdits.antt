@@ -1,4 +1,5 @@
 -- The table of slots where boxes come and go.
+use Rattle.qgm_core.specs.Free.{reached}
 use Rattle.list_laws.proofs.Indexed.{get-less, index-get}
 use Rattle.qgm_core.proofs.Stacked.{numbered-made}
 use Rattle.std.proofs.Common.{ℕ, ◌≡◌, ◌<◌, ◌+◌, ◌++◌, not, Bool, true, List, [], ◌∷◌, Option, Some, filter, length, refl, sym, ap, subst, ◌∙◌, arith, suc, ◌==◌, ◌≤◌, nat_lt, cond, false, None, inl, inr, slice_get, get_or}
@@ -8,7 +9,7 @@ use Rattle.qgm_core.specs.Boxes.{bare_box, has_box, ids_in, ids_of, is_box, is_q
 use Rattle.qgm_core.specs.Edits.{absorbed, put_range, put_range_found, quant_moved, quants_over, shift_boxes, shifted_over, spliced_at, with_quants, without_quant}
 use Rattle.qgm_core.specs.Made.{boxes_of, made_box, on_top}
 use Rattle.qgm_core.specs.Numbered.{Numbered, Under}
-use Rattle.qgm_core.specs.Slots.{AllStale, Cleared, CountsUses, EachSlotOnce, Marked, Recounted, SlotTable, Sound, Stored, kept, slot_times}
+use Rattle.qgm_core.specs.Slots.{AllStale, Cleared, CountsUses, EachSlotOnce, Marked, Recounted, SlotTable, Sound, Stored, kept, slot_times, EachMarked, meets}
 use Rattle.list_laws.specs.Lists.{change, each, first, put_below, times, without}
 use Rattle.qgm_core.specs.declared.made.NewBox.{NewBox}
 use Rattle.qgm_core.specs.declared.node.Node.{Node}
@@ -20,10 +21,10 @@ use Rattle.qgm_core.proofs.Kept.{numbered-filter}
 use Rattle.qgm_core.proofs.Moved.{numbered-moved}
 use Rattle.qgm_core.proofs.Requanted.{numbered-requanted}
 use Rattle.qgm_core.proofs.Shifts.{numbered-shifted, shift-numbers}
-use Rattle.qgm_core.proofs.Slotted.{counts-as, found-owner, is-slot, keeps-as, keeps-edit, keeps-edited, keeps-none, keeps-twice, number-counted, once-as, once-same, overs-change, room, times-itself, times-last, under-counted}
+use Rattle.qgm_core.proofs.Slotted.{counts-as, found-owner, is-slot, keeps-as, keeps-edit, keeps-edited, keeps-none, keeps-twice, number-counted, once-as, once-same, overs-change, room, times-itself, times-last, under-counted, unmarked}
 use Rattle.qgm_core.proofs.Spliced.{numbered-absorbed, numbered-dropped}
 use Rattle.qgm_core.proofs.Totals.{numbers-filter, numbers-moved, numbers-put, numbers-without, overs-moved, overs-put, requanted-overs}
-use Rattle.qgm_core.proofs.Untouched.{found-number, others, others-below, others-change, others-last, others-without}
+use Rattle.qgm_core.proofs.Untouched.{found-number, others, others-below, others-change, others-last, others-without, free-kept, gone}
 
 -- a box goes below another one
 pub sound-moved : (c d : ℕ) (n : Node) (ns : List Node) (t u : SlotTable) (q : ℕ) → first (is_box c) ns ≡ Some n → Marked c ns t u → Sound t q ns → Sound u q (put_below (is_box d) n (without (is_box c) ns))
@@ -97,19 +98,21 @@ sound-moved_quant q b i ns n m r t u v k h own range there one two s =
     )
 
 -- the boxes that pass stay
-pub sound-kept : (p : Node → Bool) (ns : List Node) (t u v w : SlotTable) (q : ℕ) → AllStale t u → v.vacant ≡ u.vacant ++ numbers (filter (λ n. not (p n)) ns) → v.lists ≡ u.lists → Recounted (filter p ns) v w → Sound t q ns → Sound w q (filter p ns)
+pub sound-kept : (p : Node → Bool) (ns : List Node) (t u v w : SlotTable) (q : ℕ) → EachMarked (gone p ns) ns t u → v.vacant ≡ u.vacant ++ gone p ns → v.lists ≡ u.lists → Recounted (filter p ns) v w → Sound t q ns → Sound w q (filter p ns)
 sound-kept p ns t u v w q a vacant lists d s =
     let ms = filter p ns in
-    let gone = numbers (filter (λ n. not (p n)) ns) in
+    let cs = gone p ns in
     let long : length w.lists ≡ length t.lists = ap length (d.1 ∙ lists) ∙ a.2 in (
       subst (λ (k : ℕ). Numbered k q ms) (sym long) (numbered-filter p _ q ns s.0),
       (
         once-as t w ns ms (λ x. (
-          let e : times x w.vacant ≡ times x t.vacant + times x gone = ap (times x) (d.0 ∙ vacant) ∙ times-append x u.vacant gone ∙ ap (λ (ys : List ℕ). times x ys + times x gone) a.1 in
+          let e : times x w.vacant ≡ times x t.vacant + times x cs = ap (times x) (d.0 ∙ vacant) ∙ times-append x u.vacant cs ∙ ap (λ (ys : List ℕ). times x ys + times x cs) a.1 in
           let k = numbers-filter x p ns in
           omega (arith, e, k))) long s.1.0,
         d.2,
-        keeps-as u w ms (d.1 ∙ lists) (keeps-none u ms a.3),
+        keeps-as u w ms (d.1 ∙ lists) (λ b qs e. (
+          let h = unmarked (meets cs (reached (b ∷ []) ns)) (kept b t) qs (sym (a.3 b) ∙ e) in
+          free-kept p ns b h.0 ∙ s.1.2 b qs h.1)),
       ),
     )
 

@@ -80,7 +80,7 @@ given-back p x (m ∷ ns) (suc i) n e =
 
 -- ---- lists that are kept
 
-unmarked : (b : Bool) (o : Option (List ℕ)) (qs : List ℕ) → cond b None o ≡ Some qs → (b ≡ false) × (o ≡ Some qs)
+pub unmarked : (b : Bool) (o : Option (List ℕ)) (qs : List ℕ) → cond b None o ≡ Some qs → (b ≡ false) × (o ≡ Some qs)
 unmarked true o qs e = absurd (let z : ⊥ = cc in z)
 unmarked false o qs e = (refl, e)
 

@@ -1,8 +1,9 @@
 -- What is free in a box that doesn't reach a changed one.
+use Rattle.qgm_core.specs.Slots.{meets}
 use Rattle.std.proofs.Common.{ℕ, ◌==◌, ◌≡◌, ◌||◌, ◌&&◌, cond, not, Bool, true, false, List, [], ◌∷◌, ◌++◌, filter, Option, Some, refl, sym, ap, subst, ◌∙◌, eqb-true, inl, inr}
 use Rattle.std.specs.List.{flat_map}
-use Rattle.std.proofs.lemmas.Bool.{cases_Bool, eq-eqb}
-use Rattle.qgm_core.specs.Boxes.{is_box, overs_of, owns}
+use Rattle.std.proofs.lemmas.Bool.{cases_Bool, eq-eqb, or_parts, or_from, ne_eqb}
+use Rattle.qgm_core.specs.Boxes.{is_box, overs_of, owns, numbers}
 use Rattle.qgm_core.specs.Free.{free_among, free_in, is_owned, marked, named_by, named_where, put_each, reached}
 use Rattle.list_laws.specs.Lists.{change, first, holds, put_below, without}
 use Rattle.qgm_core.specs.declared.node.Node.{Node}
@@ -133,3 +134,61 @@ others-below c p m (n ∷ ns) e =
 pub others-last : (c : ℕ) (m : Node) (ns : List Node) → m.id ≡ c → others c (ns ++ m ∷ []) ≡ others c ns
 others-last c m [] e = ap (λ (t : Bool). cond (not t) (m ∷ []) []) (eq-eqb m.id c e)
 others-last c m (n ∷ ns) e = ap (λ (os : List Node). cond (not (n.id == c)) (n ∷ os) os) (others-last c m ns e)
+
+-- ---- boxes that go
+
+-- the numbers of those that don't pass
+abbrev pub gone : (Node → Bool) → List Node → List ℕ
+gone p ns = numbers (filter (λ n. not (p n)) ns)
+
+meets-parts : (x : ℕ) (cs marks : List ℕ) → meets (x ∷ cs) marks ≡ false → (holds x marks ≡ false) × (meets cs marks ≡ false)
+meets-parts x cs [] h = (refl, refl)
+meets-parts x cs (m ∷ marks) h =
+    let s = or_parts (holds m (x ∷ cs)) (meets (x ∷ cs) marks) h in
+    let t = or_parts (x == m) (holds m cs) s.0 in
+    let k = meets-parts x cs marks s.1 in
+    (or_from (m == x) (holds x marks) (ne_eqb m x (λ e. clash (x == m) (eq-eqb x m (sym e)) t.0)) k.0, or_from (holds m cs) (meets cs marks) t.1 k.1)
+
+-- the same is reached without them, where none of them is
+reached-kept : (p : Node → Bool) (ns : List Node) (marks : List ℕ) → meets (gone p ns) (reached marks ns) ≡ false → reached marks (filter p ns) ≡ reached marks ns
+reached-kept p [] marks h = refl
+reached-kept p (n ∷ ns) marks h =
+    elim (p n) as (λ t. meets (numbers (cond (not t) (n ∷ filter (λ n. not (p n)) ns) (filter (λ n. not (p n)) ns))) (reached (marked marks n) ns) ≡ false → reached marks (cond t (n ∷ filter p ns) (filter p ns)) ≡ reached (marked marks n) ns) [
+      | true ↦ λ h. reached-kept p ns (marked marks n) h
+      | false ↦ λ h. (
+          let s = meets-parts n.id (gone p ns) (reached (marked marks n) ns) h in
+          let e = marks-none n.id marks n refl (before n.id marks (n ∷ ns) s.0) in
+          reached-kept p ns marks (subst (λ (ms : List ℕ). meets (gone p ns) (reached ms ns) ≡ false) e s.1) ∙ ap (λ (ms : List ℕ). reached ms ns) (sym e))
+    ] h
+
+unnamed : (marks : List ℕ) (n : Node) → holds n.id marks ≡ false → named_where marks n ≡ []
+unnamed marks n h = ap (λ (t : Bool). cond t (named_by n) []) h
+
+named-kept : (p : Node → Bool) (marks : List ℕ) (ns : List Node) → meets (gone p ns) marks ≡ false → flat_map (named_where marks) (filter p ns) ≡ flat_map (named_where marks) ns
+named-kept p marks [] h = refl
+named-kept p marks (n ∷ ns) h =
+    elim (p n) as (λ t. meets (numbers (cond (not t) (n ∷ filter (λ n. not (p n)) ns) (filter (λ n. not (p n)) ns))) marks ≡ false → flat_map (named_where marks) (cond t (n ∷ filter p ns) (filter p ns)) ≡ named_where marks n ++ flat_map (named_where marks) ns) [
+      | true ↦ λ h. ap (λ (qs : List ℕ). named_where marks n ++ qs) (named-kept p marks ns h)
+      | false ↦ λ h. (
+          let s = meets-parts n.id (gone p ns) marks h in
+          named-kept p marks ns s.1 ∙ ap (λ (qs : List ℕ). qs ++ flat_map (named_where marks) ns) (sym (unnamed marks n s.0)))
+    ] h
+
+owned-kept : (p : Node → Bool) (marks : List ℕ) (ns : List Node) (q : ℕ) → meets (gone p ns) marks ≡ false → is_owned marks (filter p ns) q ≡ is_owned marks ns q
+owned-kept p marks [] q h = refl
+owned-kept p marks (n ∷ ns) q h =
+    elim (p n) as (λ t. meets (numbers (cond (not t) (n ∷ filter (λ n. not (p n)) ns) (filter (λ n. not (p n)) ns))) marks ≡ false → is_owned marks (cond t (n ∷ filter p ns) (filter p ns)) q ≡ ((holds n.id marks && owns q n) || is_owned marks ns q)) [
+      | true ↦ λ h. ap (λ (t : Bool). (holds n.id marks && owns q n) || t) (owned-kept p marks ns q h)
+      | false ↦ λ h. (
+          let s = meets-parts n.id (gone p ns) marks h in
+          owned-kept p marks ns q s.1 ∙ ap (λ (t : Bool). (t && owns q n) || is_owned marks ns q) (sym s.0))
+    ] h
+
+-- the same is free in a box that reaches none of those that go
+pub free-kept : (p : Node → Bool) (ns : List Node) (b : ℕ) → meets (gone p ns) (reached (b ∷ []) ns) ≡ false → free_in (filter p ns) b ≡ free_in ns b
+free-kept p ns b h =
+    let marks = reached (b ∷ []) ns in
+    ap (λ (ms : List ℕ). free_among ms (filter p ns)) (reached-kept p ns (b ∷ []) h)
+    ∙ ap (put_each []) (
+      filter-alike (λ q. not (is_owned marks (filter p ns) q)) (λ q. not (is_owned marks ns q)) (flat_map (named_where marks) (filter p ns)) (λ q. ap not (owned-kept p marks ns q h))
+      ∙ ap (λ (qs : List ℕ). filter (λ q. not (is_owned marks ns q)) qs) (named-kept p marks ns h))

@@ -1,5 +1,6 @@
 -- The slots of boxes: a box's number is its slot.
 use Rattle.std.specs.Prelude.{ℕ, ◌≡◌, ◌<◌, ◌+◌, nat_lt, if◌then◌else◌, Bool, true, false, List, [], ◌∷◌, Option, Some, None, length, slice_index_or}
+use Rattle.std.specs.List.{list_any}
 use Rattle.qgm_core.specs.Boxes.{numbers, overs_in}
 use Rattle.qgm_core.specs.Free.{free_in, reached}
 use Rattle.qgm_core.specs.Numbered.{Numbered}
@@ -42,10 +43,19 @@ Sound t next_quant boxes = Numbered (length t.lists) next_quant boxes × Stored 
 
 -- ---- what a call makes of a table
 
+-- one of these stands among those
+abbrev pub meets : List ℕ → List ℕ → Bool
+meets cs marks = list_any (λ m. holds m cs) marks
+
 -- the lists of all that reach box c are stale, and no other
 abbrev pub Marked : ℕ → List Node → SlotTable → SlotTable → Type 0
 Marked c boxes t u = (u.uses ≡ t.uses) × (u.vacant ≡ t.vacant) × (length u.lists ≡ length t.lists)
     × ((b : ℕ) → kept b u ≡ (if holds c (reached (b ∷ []) boxes) then None else kept b t))
+
+-- the lists of all that reach one of these boxes are stale, and no other
+abbrev pub EachMarked : List ℕ → List Node → SlotTable → SlotTable → Type 0
+EachMarked cs boxes t u = (u.uses ≡ t.uses) × (u.vacant ≡ t.vacant) × (length u.lists ≡ length t.lists)
+    × ((b : ℕ) → kept b u ≡ (if meets cs (reached (b ∷ []) boxes) then None else kept b t))
 
 -- the uses are those of these boxes
 abbrev pub Recounted : List Node → SlotTable → SlotTable → Type 0

@@ -1,12 +1,14 @@
-// The boxes from which a box is reached.
-ghost use Rattle.std.specs.Prelude.{◌≡◌, ◌<◌, ◌∷◌, [], ℕ, None, false, if◌then◌else◌, length, slice_index_or};
+// Boxes that are flagged, and those from which they are reached.
+ghost use Rattle.std.specs.Prelude.{◌≡◌, ◌<◌, ◌∷◌, [], ℕ, List, None, false, if◌then◌else◌, filter, not, length, slice_index_or};
 ghost use Rattle.std.specs.List.{list_any};
 ghost use Rattle.qgm_core.specs.Boxes.{numbers};
 ghost use Rattle.qgm_core.specs.Free.{reached};
 ghost use Rattle.qgm_core.specs.Numbered.{Under};
+ghost use Rattle.qgm_core.specs.Slots.{meets};
 ghost use Rattle.list_laws.specs.Lists.{holds};
 
 use crate::kinds::BoxId;
+use crate::marks::Marks;
 use crate::node::Node;
 use crate::owned::OwnedQuant;
 use qgm_terms::QuantId;
@@ -31,8 +33,24 @@ fn ranges_over(flags: &[bool], ranges: &[OwnedQuant]) -> bool
     false
 }
 
-// Flags the boxes from which box c is reached, and no other, by one pass from the last rank to the
-// first. It takes no memory.
+// Flags also each box from which a flagged one is reached, and no other, by one pass from the last rank
+// to the first. It takes no memory.
+pub fn spread(flags: &mut Vec<bool>, nodes: &[Node])
+    requires { Under (length flags.old.items) (numbers nodes.now) }
+    ensures long { length flags.new.items ≡ length flags.old.items }
+    ensures flags { (cs : List ℕ) → ((x : ℕ) → slice_index_or flags.old.items x false ≡ holds x cs) → (x : ℕ) → slice_index_or flags.new.items x false ≡ meets cs (reached (x ∷ []) nodes.now) }
+{
+    let mut i = nodes.len();
+    'boxes: while i > 0 {
+        i -= 1;
+        let node = &nodes[i];
+        if ranges_over(flags, node.quants.as_slice()) {
+            flags[node.id] = true;
+        }
+    }
+}
+
+// Flags the boxes from which box c is reached, and no other. It takes no memory.
 pub fn flag_reaching(flags: &mut Vec<bool>, nodes: &[Node], c: BoxId)
     requires below { c < length flags.old.items }
     requires numbers { Under (length flags.old.items) (numbers nodes.now) }
@@ -41,11 +59,18 @@ pub fn flag_reaching(flags: &mut Vec<bool>, nodes: &[Node], c: BoxId)
 {
     flags.fill(false);
     flags[c] = true;
-    let mut i = nodes.len();
-    'boxes: while i > 0 {
-        i -= 1;
-        let node = &nodes[i];
-        if ranges_over(flags, node.quants.as_slice()) {
+    spread(flags, nodes);
+}
+
+// Flags the boxes that aren't marked, and no other. It takes no memory.
+pub fn flag_unmarked(flags: &mut Vec<bool>, nodes: &[Node], marks: &Marks)
+    requires { Under (length flags.old.items) (numbers nodes.now) }
+    ensures long { length flags.new.items ≡ length flags.old.items }
+    ensures flags { (x : ℕ) → slice_index_or flags.new.items x false ≡ holds x (numbers (filter (λ n. not (holds n.id marks.now)) nodes.now)) }
+{
+    flags.fill(false);
+    for node in nodes {
+        if !marks.has(node.id) {
             flags[node.id] = true;
         }
     }

@@ -399,7 +399,7 @@ impl Graph {
     pub fn keep(&mut self, marks: &Marks)
         ensures { self.new ≡ edits.keep marks.now self.old }
     {
-        self.slots.mark_all();
+        self.slots.mark_unmarked(&self.nodes, marks);
         self.slots.give_back_unmarked(&self.nodes, marks);
         self.nodes.retain(|n| marks.has(n.id));
         self.slots.recount(&self.nodes, self.next_quant);

@@ -6,7 +6,7 @@ ghost use Rattle.qgm_core.specs.Numbered.{Under};
 ghost use Rattle.qgm_core.specs.Slots as spec;
 ghost use Rattle.list_laws.specs.Lists.{EachOnce, holds, times};
 
-use crate::flags::{drop_flagged, flag_reaching};
+use crate::flags::{drop_flagged, flag_reaching, flag_unmarked, spread};
 use crate::free::free_in;
 use crate::kinds::BoxId;
 use crate::marks::Marks;
@@ -139,6 +139,16 @@ impl Slots {
         ensures { spec.Marked c nodes.now self.old self.new }
     {
         flag_reaching(&mut self.flags, nodes, c);
+        drop_flagged(&mut self.lists, &self.flags);
+    }
+
+    /// Drops the lists of all boxes from which one is reached that isn't marked. It takes no memory.
+    pub fn mark_unmarked(&mut self, nodes: &[Node], marks: &Marks)
+        requires { Under (length self.old.lists) (numbers nodes.now) }
+        ensures { spec.EachMarked (numbers (filter (λ n. not (holds n.id marks.now)) nodes.now)) nodes.now self.old self.new }
+    {
+        flag_unmarked(&mut self.flags, nodes, marks);
+        spread(&mut self.flags, nodes);
         drop_flagged(&mut self.lists, &self.flags);
     }
 

@@ -1,7 +1,7 @@
-use Rattle.std.proofs.Common.{ℕ, ◌≡◌, ◌≤◌, false, drop, get_or, length}
+use Rattle.std.proofs.Common.{ℕ, List, ◌≡◌, ◌≤◌, false, drop, get_or, length}
 use Rattle.list_laws.specs.Lists.{holds}
 use Rattle.qgm_core.proofs.Flagged.{reaching}
-use Rattle.qgm_core.proofs.flags.flag_reaching.Given as goal
+use Rattle.qgm_core.proofs.flags.spread.Given as goal
 
 abbrev pub decreases-boxes : goal.decreases-boxes
 decreases-boxes l = l.i
@@ -10,5 +10,5 @@ abbrev pub invariant-boxes : goal.invariant-boxes
 invariant-boxes l = record {
   within : l.i ≤ length l.nodes;
   long : length l.flags.items ≡ length l.fn.flags.items;
-  flags : (x : ℕ) → get_or l.flags.items x false ≡ holds x (reaching l.c (drop l.i l.nodes));
+  flags : (cs : List ℕ) → ((x : ℕ) → get_or l.fn.flags.items x false ≡ holds x cs) → (x : ℕ) → get_or l.flags.items x false ≡ holds x (reaching cs (drop l.i l.nodes));
 }
