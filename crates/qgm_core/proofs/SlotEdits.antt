@@ -2,7 +2,7 @@
 use Rattle.qgm_core.specs.Free.{reached}
 use Rattle.list_laws.proofs.Indexed.{get-less, index-get}
 use Rattle.qgm_core.proofs.Stacked.{numbered-made}
-use Rattle.std.proofs.Common.{ℕ, ◌≡◌, ◌<◌, ◌+◌, ◌++◌, not, Bool, true, List, [], ◌∷◌, Option, Some, filter, length, refl, sym, ap, subst, ◌∙◌, arith, suc, ◌==◌, ◌≤◌, nat_lt, cond, false, None, inl, inr, slice_get, get_or}
+use Rattle.std.proofs.Common.{ℕ, ◌≡◌, ◌<◌, ◌+◌, ◌++◌, Bool, true, List, [], ◌∷◌, Option, Some, filter, length, refl, sym, ap, subst, ◌∙◌, arith, suc, ◌==◌, ◌≤◌, nat_lt, cond, false, None, inl, inr, slice_get, get_or}
 use Rattle.std.specs.List.{list_any}
 use Rattle.std.proofs.lemmas.Bool.{cases_order, eq-eqb, le-ltb, lt-ltb, ne_eqb}
 use Rattle.qgm_core.specs.Boxes.{bare_box, has_box, ids_in, ids_of, is_box, is_quant, numbers, overs_in, overs_of, owns, put_at, quants_in, range_in}

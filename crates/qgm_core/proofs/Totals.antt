@@ -1,7 +1,11 @@
 -- Sums over boxes, by which numbers and uses are counted.
-use Rattle.std.proofs.Common.{ℕ, zero, suc, ◌≡◌, ◌+◌, ◌++◌, cond, not, Bool, true, false, List, [], ◌∷◌, Option, Some, None, filter, map, insert, refl, ap, ◌∙◌, arith}
-use Rattle.qgm_core.specs.Boxes.{is_box, is_quant, numbers, overs_in, overs_of, owns, put_at, range_in}
-use Rattle.qgm_core.specs.Edits.{put_range, put_range_found, quant_moved, without_quant}
+use Rattle.std.proofs.lemmas.Bool.{eq-eqb}
+use Rattle.std.proofs.lemmas.List.{take_all}
+use Rattle.qgm_core.proofs.Counted.{uses-most}
+use Rattle.qgm_core.specs.Slots.{CountsUses}
+use Rattle.std.proofs.Common.{ℕ, zero, suc, ◌≡◌, ◌+◌, ◌++◌, cond, not, Bool, true, false, List, [], ◌∷◌, Option, Some, None, filter, map, insert, refl, ap, ◌∙◌, arith, ◌<◌, ◌≤◌, get_or, length, take}
+use Rattle.qgm_core.specs.Boxes.{is_box, is_quant, numbers, overs_in, overs_of, owns, put_at, range_in, ids_in}
+use Rattle.qgm_core.specs.Edits.{put_range, put_range_found, quant_moved, without_quant, on_quant}
 use Rattle.list_laws.specs.Lists.{change, first, put_below, times, without}
 use Rattle.qgm_core.specs.declared.node.Node.{Node}
 use Rattle.qgm_core.specs.declared.owned.OwnedQuant.{OwnedQuant}
@@ -147,3 +151,81 @@ requanted-overs x q b i ns n m r own range there =
     let j = overs-without_quant x q n r range in
     let k = overs-put_range x i r m in
     omega (arith, u, s, t, c, d, j, k)
+
+-- ---- uses by one box that is changed
+
+pub overs-changed : (x : ℕ) (p : Node → Bool) (f : Node → Node) (ns : List Node) (n : Node) (k l : ℕ) → first p ns ≡ Some n → over_times x n + k ≡ over_times x (f n) + l → times x (overs_in ns) + k ≡ times x (overs_in (change p f ns)) + l
+overs-changed x p f ns n k l e h =
+    let a = overs-total x ns in
+    let b = overs-total x (change p f ns) in
+    let c = total-change (over_times x) p f ns n e in
+    omega (arith, a, b, c, h)
+
+pub overs-put_quant : (x q : ℕ) (f : OwnedQuant → OwnedQuant) (n : Node) (r : OwnedQuant) → first (is_quant q) n.quants ≡ Some r → over_times x n + times x ((f r).over ∷ []) ≡ over_times x (on_quant q f n) + times x (r.over ∷ [])
+overs-put_quant x q f n r e =
+    let a = ranges-total x n.quants in
+    let b = ranges-total x (change (is_quant q) f n.quants) in
+    let c = total-change (λ (r : OwnedQuant). times x (r.over ∷ [])) (is_quant q) f n.quants r e in
+    omega (arith, a, b, c)
+
+-- ---- kept numbers
+
+module _ (old new : List ℕ) (ns ms : List Node) (long : length new ≡ length old) (h : CountsUses old ns) where
+  pub used-more : (b : ℕ) → ((x : ℕ) → x < length old → get_or new x 0 ≡ get_or old x 0 + times x (b ∷ [])) → ((x : ℕ) → times x (overs_in ms) ≡ times x (overs_in ns) + times x (b ∷ [])) → CountsUses new ms
+  used-more b k e x l =
+      let j : x < length old = omega (arith, l, long) in
+      let a = h x j in
+      let c = k x j in
+      let d = e x in
+      omega (arith, a, c, d)
+
+  pub used-less : (b : ℕ) → ((x : ℕ) → x < length old → get_or new x 0 + times x (b ∷ []) ≡ get_or old x 0) → ((x : ℕ) → times x (overs_in ns) ≡ times x (overs_in ms) + times x (b ∷ [])) → CountsUses new ms
+  used-less b k e x l =
+      let j : x < length old = omega (arith, l, long) in
+      let a = h x j in
+      let c = k x j in
+      let d = e x in
+      omega (arith, a, c, d)
+
+pub uses-all : (b : ℕ) (ns : List Node) → times b (overs_in ns) ≤ length (ids_in ns)
+uses-all b ns =
+    let h = uses-most b ns (length ns) in
+    let e : times b (overs_in (take (length ns) ns)) ≡ times b (overs_in ns) = ap (λ (ms : List Node). times b (overs_in ms)) (take_all (length ns) ns (omega arith)) in
+    omega (arith, h, e)
+
+-- a quantifier's box is used
+pub used-once : (q : ℕ) (p : Node → Bool) (ns : List Node) (n : Node) (r : OwnedQuant) → first p ns ≡ Some n → first (is_quant q) n.quants ≡ Some r → 1 ≤ times r.over (overs_in ns)
+used-once q p ns n r own range =
+    let b = r.over in
+    let a = overs-without b ns n p own in
+    let c = overs-without_quant b q n r range in
+    let d : times b (b ∷ []) ≡ 1 = ap (λ (t : Bool). cond t 1 0 + 0) (eq-eqb b b refl) in
+    omega (arith, a, c, d)
+
+-- one quantifier ranges over another box
+module _ (x q : ℕ) (p : Node → Bool) (over : ℕ) (ns : List Node) (n : Node) (r : OwnedQuant) (own : first p ns ≡ Some n) (range : first (is_quant q) n.quants ≡ Some r) where
+  pub overs-redirected : times x (overs_in ns) + times x (over ∷ []) ≡ times x (overs_in (change p (on_quant q (λ r. record r { over = over })) ns)) + times x (r.over ∷ [])
+  overs-redirected = overs-changed x p (on_quant q (λ r. record r { over = over })) ns n (times x (over ∷ [])) (times x (r.over ∷ [])) own (overs-put_quant x q (λ r. record r { over = over }) n r range)
+
+  pub overs-less : times x (overs_in ns) ≡ times x (overs_in (change p (without_quant q) ns)) + times x (r.over ∷ [])
+  overs-less =
+      let k = overs-without_quant x q n r range in
+      let h = overs-changed x p (without_quant q) ns n 0 (times x (r.over ∷ [])) own (omega (arith, k)) in
+      omega (arith, h)
+
+pub overs-more : (x i : ℕ) (p : Node → Bool) (r : OwnedQuant) (ns : List Node) (n : Node) → first p ns ≡ Some n → times x (overs_in (change p (put_range i r) ns)) ≡ times x (overs_in ns) + times x (r.over ∷ [])
+overs-more x i p r ns n own =
+    let k = overs-put_range x i r n in
+    let h = overs-changed x p (put_range i r) ns n (times x (r.over ∷ [])) 0 own (omega (arith, k)) in
+    omega (arith, h)
+
+-- one quantifier less over w, and one more over b
+pub used-moved : (old mid new : List ℕ) (ns ms : List Node) → length new ≡ length old → CountsUses old ns → (w b : ℕ) → ((x : ℕ) → x < length old → get_or mid x 0 + times x (w ∷ []) ≡ get_or old x 0) → ((x : ℕ) → x < length old → get_or new x 0 ≡ get_or mid x 0 + times x (b ∷ [])) →
+    ((x : ℕ) → times x (overs_in ns) + times x (b ∷ []) ≡ times x (overs_in ms) + times x (w ∷ [])) → CountsUses new ms
+used-moved old mid new ns ms long h w b less more e x l =
+    let j : x < length old = omega (arith, l, long) in
+    let a = h x j in
+    let c = less x j in
+    let d = more x j in
+    let k = e x in
+    omega (arith, a, c, d, k)

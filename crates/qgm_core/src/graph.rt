@@ -380,7 +380,7 @@ impl Graph {
             .insert(place - 1, OwnedQuant { id, kind, over })?;
         self.next_quant = id + 1;
         self.slots.mark(&self.nodes, owner);
-        self.slots.recount(&self.nodes, self.next_quant);
+        self.slots.add_use(over);
         Ok(id)
     }
 
@@ -509,9 +509,10 @@ impl Graph {
     {
         let k = owner_place(&self.nodes, q);
         let owner = self.nodes[k].id;
+        let was = range_of(self.nodes[k].quants.as_slice(), q).over;
         self.slots.mark(&self.nodes, owner);
         self.nodes[k].quants.remove(q);
-        self.slots.recount(&self.nodes, self.next_quant);
+        self.slots.drop_use(was);
     }
 
     /// Moves a quantifier to a box, at a place, from 1, among those that the box then owns beside it.
@@ -554,9 +555,11 @@ impl Graph {
     {
         let k = owner_place(&self.nodes, q);
         let owner = self.nodes[k].id;
+        let before = range_of(self.nodes[k].quants.as_slice(), q).over;
         self.slots.mark(&self.nodes, owner);
         self.nodes[k].quants.put_over(q, over);
-        self.slots.recount(&self.nodes, self.next_quant);
+        self.slots.drop_use(before);
+        self.slots.add_use(over);
     }
 
     /// Moves a condition, by its place from 1, to the end of those of another box, where there is

@@ -1,5 +1,5 @@
 // The slots of boxes: a box's number is its slot.
-ghost use Rattle.std.specs.Prelude.{◌≡◌, ◌==◌, false, if◌then◌else◌, ◌<◌, ◌≤◌, ◌+◌, ◌++◌, ◌∷◌, [], ℕ, List, Some, None, length, map, filter, not, option_map, replicate, slice_get, OnOk, OnErr, IfOk};
+ghost use Rattle.std.specs.Prelude.{◌≡◌, ◌==◌, false, if◌then◌else◌, ◌<◌, ◌≤◌, ◌+◌, ◌++◌, ◌∷◌, [], ℕ, List, Some, None, length, map, filter, not, option_map, replicate, slice_get, slice_index_or, OnOk, OnErr, IfOk};
 ghost use Rattle.qgm_core.specs.Boxes.{ids_in, numbers, overs_in};
 ghost use Rattle.qgm_core.specs.Free.{free_in};
 ghost use Rattle.qgm_core.specs.Numbered.{Under};
@@ -11,7 +11,7 @@ use crate::free::free_in;
 use crate::kinds::BoxId;
 use crate::marks::Marks;
 use crate::node::Node;
-use crate::uses::{recount, uses_in};
+use crate::uses::{add_use, drop_use, recount, uses_in};
 use qgm_terms::QuantId;
 use shared_types::OutOfMemory;
 use sqlite_items::Items;
@@ -122,6 +122,24 @@ impl Slots {
             Some(list) => list.as_ref(),
             None => None,
         }
+    }
+
+    /// One more quantifier ranges over a box. It takes no memory.
+    pub fn add_use(&mut self, b: BoxId)
+        requires { b < length self.old.uses → slice_index_or self.old.uses b 0 < 18446744073709551615 }
+        ensures rest { (self.new.vacant ≡ self.old.vacant) × (self.new.lists ≡ self.old.lists) × (length self.new.uses ≡ length self.old.uses) }
+        ensures counted { (x : ℕ) → x < length self.old.uses → slice_index_or self.new.uses x 0 ≡ slice_index_or self.old.uses x 0 + times x (b ∷ []) }
+    {
+        add_use(&mut self.uses, b);
+    }
+
+    /// One less does. It takes no memory.
+    pub fn drop_use(&mut self, b: BoxId)
+        requires { b < length self.old.uses → 1 ≤ slice_index_or self.old.uses b 0 }
+        ensures rest { (self.new.vacant ≡ self.old.vacant) × (self.new.lists ≡ self.old.lists) × (length self.new.uses ≡ length self.old.uses) }
+        ensures counted { (x : ℕ) → x < length self.old.uses → slice_index_or self.new.uses x 0 + times x (b ∷ []) ≡ slice_index_or self.old.uses x 0 }
+    {
+        drop_use(&mut self.uses, b);
     }
 
     /// Counts the uses anew, where there are so many at most. It takes no memory.

@@ -1,5 +1,5 @@
 use Rattle.std.proofs.lemmas.Grind.{common_steps}
-use Rattle.std.proofs.Common.{◌≡◌, ◌<◌, ◌+◌, ◌∷◌, ◌∙◌, ap, sym, subst, ℕ, List, Bool, true, false, Some, cond, filter, not, length, slice_get, take, add-one, arith}
+use Rattle.std.proofs.Common.{◌≡◌, ◌+◌, ◌∷◌, ◌∙◌, ap, sym, ℕ, Bool, true, false, Some, cond, filter, not, length, slice_get, take, add-one, arith}
 use Rattle.std.proofs.Math.ListN.{length-set}
 use Rattle.qgm_core.specs.Boxes.{numbers}
 use Rattle.list_laws.specs.Lists.{holds}

@@ -1,5 +1,5 @@
 use Rattle.std.proofs.Common.{List, ap, ◌∙◌, refl, subst, sym, length, Some}
-use Rattle.qgm_core.specs.Boxes.{QueryGraph, owns}
+use Rattle.qgm_core.specs.Boxes.{QueryGraph, owns, numbers}
 use Rattle.qgm_core.specs.declared.node.Node.{Node}
 use Rattle.qgm_core.specs.declared.owned.OwnedQuant.{OwnedQuant}
 use Rattle.qgm_core.proofs.Fresh.{ids-on_quant}
@@ -7,14 +7,11 @@ use Rattle.qgm_core.specs.Held.{HasAll}
 use Rattle.qgm_core.proofs.Held.{all-quant}
 use Rattle.qgm_core.proofs.Changed.{edited}
 use Rattle.qgm_core.specs.Edits.{on_quant}
-use Rattle.qgm_core.specs.Boxes.{numbers}
 use Rattle.qgm_core.specs.Numbered.{Under}
 use Rattle.qgm_core.specs.Slots.{Sound}
 use Rattle.qgm_core.proofs.Counted.{at-get}
 use Rattle.qgm_core.proofs.Flagged.{under-at}
 use Rattle.qgm_core.proofs.Slotted.{found-owner, overs-kind, sound-parts}
-use Rattle.qgm_core.specs.Edits.{on_quant}
-use Rattle.qgm_core.proofs.Fresh.{ids-on_quant}
 use Rattle.qgm_core.proofs.graph.Graph.put_quant.Goals as goal
 
 pub invariant_of-self : goal.invariant_of-self
