@@ -165,7 +165,7 @@ numbered-set a b ns i y d l e f m =
 
 -- ---- a box more
 
-ids-insert : (ns : List Node) (i : ℕ) (n : Node) → ids_of n ≡ [] → ids_in (insert ns i n) ≡ ids_in ns
+pub ids-insert : (ns : List Node) (i : ℕ) (n : Node) → ids_of n ≡ [] → ids_in (insert ns i n) ≡ ids_in ns
 ids-insert [] zero n e = ap (λ (qs : List ℕ). qs ++ []) e
 ids-insert [] (suc i) n e = ap (λ (qs : List ℕ). qs ++ []) e
 ids-insert (m ∷ ns) zero n e = ap (λ (qs : List ℕ). qs ++ ids_in (m ∷ ns)) e

@@ -16,3 +16,9 @@ pub mod Owning
 pub mod KindTests
 pub mod PutOnce
 pub mod Reaching
+pub mod Flagged
+pub mod Untouched
+pub mod Slotted
+pub mod Totals
+pub mod SlotEdits
+pub mod Refreshed

@@ -132,7 +132,7 @@ over-done b k i start now l h =
 
 -- ---- numbers
 
-shift-numbers : (k q : ℕ) (ns : List Node) → numbers (shift_boxes k q ns) ≡ numbers ns
+pub shift-numbers : (k q : ℕ) (ns : List Node) → numbers (shift_boxes k q ns) ≡ numbers ns
 shift-numbers k q [] = refl
 shift-numbers k q (n ∷ ns) = ap (λ (bs : List ℕ). n.id ∷ bs) (shift-numbers k q ns)
 

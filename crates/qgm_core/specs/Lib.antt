@@ -6,3 +6,4 @@ pub mod Held
 pub mod Edits
 pub mod Free
 pub mod Walk
+pub mod Slots

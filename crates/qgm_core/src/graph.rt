@@ -1,5 +1,5 @@
 // The graph: its boxes in one list, each with the quantifiers that it owns.
-ghost use Rattle.std.specs.Prelude.{ℕ, ◌≡◌, ◌≤◌, ◌+◌, ◌-◌, [], OnOk, OnErr, IfOk, IfSome, length, map, position, slice_get, Some, option_map, false, ◌==◌, IsTrue, ◌↔◌};
+ghost use Rattle.std.specs.Prelude.{ℕ, ◌≡◌, ◌≤◌, ◌<◌, ◌+◌, ◌-◌, [], OnOk, OnErr, IfOk, IfSome, length, map, position, slice_get, Some, option_map, false, ◌==◌, IsTrue, ◌↔◌};
 ghost use Rattle.qgm_core.specs.Boxes as spec;
 ghost use Rattle.qgm_core.specs.Edits as edits;
 ghost use Rattle.qgm_core.specs.Free.{free};
@@ -22,6 +22,7 @@ use crate::parts::BoxParts;
 use crate::places::{box_place, new_place, owner_place};
 use crate::quants::Quants;
 use crate::shifted::shift_over;
+use crate::slots::Slots;
 use crate::uses::uses_in;
 use crate::walks::{by_levels, depth_first};
 use qgm_terms::{Conds, Head, QuantId, ROOM, substitute_conds, substitute_head};
@@ -29,6 +30,8 @@ use shared_types::{OutOfMemory, Walk};
 use sql_value::{OrderKeys, OutNames};
 use std::alloc::Global;
 use std::marker::Model;
+use std::sync::ledger::Ledger;
+use step_count::Steps;
 
 /// A query as a graph of boxes (Pirahesh, Hellerstein and Hasan 1992, 2). Contracts see it as the
 /// list of its boxes by rank, each with its quantifiers by place, the number of its root, the names
@@ -38,8 +41,7 @@ pub struct Graph {
     root: BoxId,
     names: OutNames,
     order: OrderKeys,
-    // Above the numbers of all boxes.
-    next_box: BoxId,
+    slots: Slots,
     // Above the numbers of all quantifiers.
     next_quant: QuantId,
 }
@@ -53,19 +55,20 @@ impl Drop for Graph {
             root: _,
             names,
             order,
-            next_box: _,
+            slots,
             next_quant: _,
         } = self;
         drop(nodes);
         drop(names);
         drop(order);
+        drop(slots);
     }
 }
 
 impl Model for Graph {
     ghost use Rattle.std.specs.Coded.{codes};
     ghost use Rattle.qgm_core.specs.Boxes.{QueryGraph};
-    ghost use Rattle.qgm_core.specs.Numbered.{Numbered};
+    ghost use Rattle.qgm_core.specs.Slots.{Sound};
     ghost use Rattle.qgm_terms.specs.TermCodes.{coded_term, coded_cond};
 
     ghost Value = { QueryGraph };
@@ -74,7 +77,7 @@ impl Model for Graph {
 
     ghost view = { λ g. record { boxes = g.nodes.items; root = g.root; names = g.names; order = g.order } };
 
-    ghost invariant = { λ g. Numbered g.next_box g.next_quant g.nodes.items };
+    ghost invariant = { λ g. Sound g.slots g.next_quant g.nodes.items };
 }
 
 impl Graph {
@@ -90,12 +93,14 @@ impl Graph {
     {
         let mut nodes = Vec::new(alloc);
         nodes.push(bare(alloc, 0, root))?;
+        let mut slots = Slots::new(alloc, 1)?;
+        slots.recount(&nodes, 0);
         Ok(Graph {
             nodes,
             root: 0,
             names,
             order,
-            next_box: 1,
+            slots,
             next_quant: 0,
         })
     }
@@ -117,12 +122,14 @@ impl Graph {
     {
         let next_box = made.len();
         let nodes = numbered(alloc, made)?;
+        let mut slots = Slots::new(alloc, next_box)?;
+        slots.recount(&nodes, next_quant);
         Ok(Graph {
             nodes,
             root,
             names,
             order,
-            next_box,
+            slots,
             next_quant,
         })
     }
@@ -134,12 +141,13 @@ impl Graph {
         let nodes = copy_nodes(alloc, &self.nodes)?;
         let names = copy_names(alloc, self.names.as_slice())?;
         let order = copy_order(alloc, &self.order)?;
+        let slots = self.slots.copy(alloc)?;
         Ok(Graph {
             nodes,
             root: self.root,
             names,
             order,
-            next_box: self.next_box,
+            slots,
             next_quant: self.next_quant,
         })
     }
@@ -257,7 +265,33 @@ impl Graph {
     pub fn uses(&self, b: BoxId) -> usize
         ensures { result ≡ times b (spec.overs_in self.now.boxes) }
     {
-        uses_in(&self.nodes, b, self.next_quant)
+        match self.slots.uses(b) {
+            Some(uses) => uses,
+            None => uses_in(&self.nodes, b, self.next_quant),
+        }
+    }
+
+    /// How many slots there are for boxes. Each box's number is one of them, and those that `compact`
+    /// and other calls free serve new boxes. It takes no memory.
+    pub fn slots(&self) -> usize
+        ensures boxes { length self.now.boxes ≤ result }
+        ensures numbers { (b : ℕ) → spec.HasBox b self.now → b < result }
+    {
+        self.slots.len()
+    }
+
+    /// Computes the free quantifiers of each box for which they aren't kept, by rank, and adds a step for
+    /// each. Where there is no memory, what was computed is kept.
+    pub fn refresh<L: Ledger>(
+        &mut self,
+        alloc: Global,
+        steps: &mut Steps<L>,
+    ) -> Result<(), OutOfMemory>
+        ensures same { self.new ≡ self.old }
+        ensures never_less { steps.old ≤ steps.new }
+        ensures most { steps.new ≤ steps.old + length self.old.boxes }
+    {
+        self.slots.refresh(alloc, &self.nodes, steps)
     }
 
     /// The quantifiers that are named in the box or below it, and owned neither there nor below, in
@@ -266,7 +300,10 @@ impl Graph {
         requires { spec.HasBox b self.now }
         ensures { IfOk result (λ qs. qs.items ≡ free b self.now) }
     {
-        free_in(alloc, &self.nodes, b)
+        match self.slots.kept(b) {
+            Some(qs) => Ok(Vec::from_slice(alloc, qs.as_slice())?),
+            None => free_in(alloc, &self.nodes, b),
+        }
     }
 
     /// Whether no quantifier is free in the box.
@@ -274,7 +311,10 @@ impl Graph {
         requires { spec.HasBox b self.now }
         ensures { IfOk result (λ closed. IsTrue closed ↔ (free b self.now ≡ [])) }
     {
-        let free = self.free(alloc, b)?;
+        if let Some(qs) = self.slots.kept(b) {
+            return Ok(qs.is_empty());
+        }
+        let free = free_in(alloc, &self.nodes, b)?;
         Ok(free.is_empty())
     }
 
@@ -303,14 +343,12 @@ impl Graph {
         ensures held { IfOk result (λ b. spec.HasBox b self.new) }
         ensures kept { HasAll self.old self.new }
     {
-        let id = self.next_box;
+        self.nodes.reserve(1)?;
+        let id = self.slots.take(&self.nodes, self.next_quant)?;
         let node = bare(alloc, id, parts);
-        if id == usize::MAX {
-            return Err(OutOfMemory);
-        }
         let i = new_place(&self.nodes, below);
-        self.nodes.insert(i, node)?;
-        self.next_box = id + 1;
+        let _ = self.nodes.insert(i, node);
+        self.slots.mark(&self.nodes, id);
         Ok(id)
     }
 
@@ -341,6 +379,8 @@ impl Graph {
             .quants
             .insert(place - 1, OwnedQuant { id, kind, over })?;
         self.next_quant = id + 1;
+        self.slots.mark(&self.nodes, owner);
+        self.slots.add_use(over);
         Ok(id)
     }
 
@@ -359,7 +399,10 @@ impl Graph {
     pub fn keep(&mut self, marks: &Marks)
         ensures { self.new ≡ edits.keep marks.now self.old }
     {
+        self.slots.mark_unmarked(&self.nodes, marks);
+        self.slots.give_back_unmarked(&self.nodes, marks);
         self.nodes.retain(|n| marks.has(n.id));
+        self.slots.recount(&self.nodes, self.next_quant);
     }
 
     /// Moves a box just below another one. It takes no memory.
@@ -370,6 +413,7 @@ impl Graph {
         ensures graph { self.new ≡ edits.move_below c d self.old }
         ensures kept { HasAll self.old self.new }
     {
+        self.slots.mark(&self.nodes, c);
         move_below(&mut self.nodes, c, d);
     }
 
@@ -379,6 +423,7 @@ impl Graph {
         ensures graph { self.new ≡ edits.put_box b kind role conds head self.old }
         ensures kept { HasAll self.old self.new }
     {
+        self.slots.mark(&self.nodes, b);
         let k = box_place(&self.nodes, b);
         let parts = &mut self.nodes[k].parts;
         parts.kind = kind;
@@ -393,6 +438,7 @@ impl Graph {
         ensures graph { self.new ≡ edits.put_terms b conds head self.old }
         ensures kept { HasAll self.old self.new }
     {
+        self.slots.mark(&self.nodes, b);
         let k = box_place(&self.nodes, b);
         let parts = &mut self.nodes[k].parts;
         parts.conds = conds;
@@ -404,8 +450,11 @@ impl Graph {
         requires { spec.HasBox b self.old }
         ensures { self.new ≡ edits.drop_box b self.old }
     {
+        self.slots.mark(&self.nodes, b);
         let k = box_place(&self.nodes, b);
         let _dropped = self.nodes.remove(k);
+        self.slots.give_back(b);
+        self.slots.recount(&self.nodes, self.next_quant);
     }
 
     /// Puts the quantifiers of box c into box b, in the place, from 1, of one of b's, and drops box c.
@@ -419,7 +468,12 @@ impl Graph {
         ensures ok { OnOk result (self.new ≡ edits.absorb b (place - 1) c self.old) }
         ensures err { OnErr result (self.new ≡ self.old) }
     {
-        absorb_box(&mut self.nodes, b, place - 1, c)
+        absorb_box(&mut self.nodes, b, place - 1, c)?;
+        self.slots.give_back(c);
+        self.slots.mark(&self.nodes, c);
+        self.slots.mark(&self.nodes, b);
+        self.slots.recount(&self.nodes, self.next_quant);
+        Ok(())
     }
 
     /// Sets whether a box gives rows more than once. It takes no memory.
@@ -428,6 +482,7 @@ impl Graph {
         ensures graph { self.new ≡ edits.set_distinct b distinct self.old }
         ensures kept { HasAll self.old self.new }
     {
+        self.slots.mark(&self.nodes, b);
         let k = box_place(&self.nodes, b);
         self.nodes[k].parts.distinct = distinct;
     }
@@ -440,7 +495,9 @@ impl Graph {
         ensures kept { HasAll self.old self.new }
     {
         let k = box_place(&self.nodes, b);
-        self.nodes[k].parts.conds.reserve(n)
+        self.nodes[k].parts.conds.reserve(n)?;
+        self.slots.mark(&self.nodes, b);
+        Ok(())
     }
 
     /// Drops a quantifier. It takes no memory.
@@ -451,7 +508,11 @@ impl Graph {
         ensures others { (r : ℕ) → (r == q) ≡ false → spec.HasQuant r self.old → spec.HasQuant r self.new }
     {
         let k = owner_place(&self.nodes, q);
+        let owner = self.nodes[k].id;
+        let was = range_of(self.nodes[k].quants.as_slice(), q).over;
+        self.slots.mark(&self.nodes, owner);
         self.nodes[k].quants.remove(q);
+        self.slots.drop_use(was);
     }
 
     /// Moves a quantifier to a box, at a place, from 1, among those that the box then owns beside it.
@@ -465,7 +526,12 @@ impl Graph {
         ensures err { OnErr result (self.new ≡ self.old) }
         ensures kept { HasAll self.old self.new }
     {
-        move_quant(&mut self.nodes, q, owner, place - 1)
+        let k = owner_place(&self.nodes, q);
+        let from = self.nodes[k].id;
+        move_quant(&mut self.nodes, q, owner, place - 1)?;
+        self.slots.mark(&self.nodes, from);
+        self.slots.mark(&self.nodes, owner);
+        Ok(())
     }
 
     /// Sets what a quantifier ranges for. It takes no memory.
@@ -475,6 +541,8 @@ impl Graph {
         ensures kept { HasAll self.old self.new }
     {
         let k = owner_place(&self.nodes, q);
+        let owner = self.nodes[k].id;
+        self.slots.mark(&self.nodes, owner);
         self.nodes[k].quants.put_kind(q, kind);
     }
 
@@ -486,7 +554,12 @@ impl Graph {
         ensures kept { HasAll self.old self.new }
     {
         let k = owner_place(&self.nodes, q);
+        let owner = self.nodes[k].id;
+        let before = range_of(self.nodes[k].quants.as_slice(), q).over;
+        self.slots.mark(&self.nodes, owner);
         self.nodes[k].quants.put_over(q, over);
+        self.slots.drop_use(before);
+        self.slots.add_use(over);
     }
 
     /// Moves a condition, by its place from 1, to the end of those of another box, where there is
@@ -500,6 +573,8 @@ impl Graph {
         ensures graph { self.new ≡ edits.move_conjunct b (i - 1) to self.old }
         ensures kept { HasAll self.old self.new }
     {
+        self.slots.mark(&self.nodes, b);
+        self.slots.mark(&self.nodes, to);
         let from = box_place(&self.nodes, b);
         let c = self.nodes[from].parts.conds.remove(i);
         let k = box_place(&self.nodes, to);
@@ -515,6 +590,7 @@ impl Graph {
         ensures graph { self.new ≡ edits.drop_column b k self.old }
         ensures kept { HasAll self.old self.new }
     {
+        self.slots.mark_all();
         let i = box_place(&self.nodes, b);
         self.nodes[i].parts.head.remove(k);
         shift_over(&mut self.nodes, b, k);

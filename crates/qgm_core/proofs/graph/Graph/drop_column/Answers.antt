@@ -1,28 +1,29 @@
 use Rattle.std.proofs.lemmas.Grind.{common_steps}
 use Rattle.std.proofs.Common.{List, ap, sym, subst, refl, ◌≡◌, ◌-◌, ◌∙◌, arith}
-use Rattle.qgm_core.specs.Boxes.{ids_of, QueryGraph, is_box}
+use Rattle.qgm_core.specs.Boxes.{QueryGraph, is_box}
 use Rattle.qgm_core.specs.Edits.{drop_column, quants_over, shifted_over, without_cell}
-use Rattle.qgm_core.specs.Numbered.{Numbered}
 use Rattle.qgm_core.specs.declared.node.Node.{Node}
-use Rattle.qgm_core.proofs.Fresh.{numbered-set}
-use Rattle.qgm_core.proofs.Shifts.{numbered-shifted}
 use Rattle.std.proofs.Math.ListN.{set}
 use Rattle.qgm_terms.specs.Terms.{Term}
 use Rattle.qgm_core.specs.Held.{HasAll}
 use Rattle.list_laws.specs.Lists.{change}
 use Rattle.qgm_core.proofs.Held.{all-parts, all-shifted, all-then}
+use Rattle.qgm_core.specs.Slots.{Sound}
+use Rattle.qgm_core.proofs.SlotEdits.{sound-shifted}
 use Rattle.qgm_core.proofs.graph.Graph.drop_column.Goals as goal
 
 pub invariant_of-self : goal.invariant_of-self
 invariant_of-self c =
     let at = rw c.deref.ensures.value at c.box_place-i.ensures.first in
-    let e = c.index_mut.ensures.value in
-    let a = c.self.inside.next_box in
-    let b = c.self.inside.next_quant in
-    let ns : List Node = _ in
-    subst (Numbered a b) (sym c.shift_over.ensures)
-    (numbered-shifted c.args.k a b (quants_over c.args.b ns) ns
-    (numbered-set a b c.self.inside.nodes.items c.box_place-i.result _ c.index_mut.result.now at.0 (ap (λ (n : Node). n.id) e) (ap ids_of e) c.self.invariant))
+    let n = c.index_mut.result.now in
+    let b = c.args.b in
+    let k = c.args.k in
+    let q = c.self.inside.next_quant in
+    let f = without_cell (k - 1) in
+    let xs = c.self.inside.nodes.items in
+    let same : set xs c.box_place-i.result (record n { parts = record n.parts { head = c.remove.new.self } }) ≡ change (is_box b) f xs = at.3 f _ n (ap {B = Node} (λ (cells : List Term). record n { parts = record n.parts { head = cells } }) c.remove.ensures ∙ ap f c.index_mut.ensures.value) in
+    subst (λ (ns : List Node). Sound c.mark_all.new.self q ns) (sym (c.shift_over.ensures ∙ ap (λ (ns : List Node). shifted_over b k ns) same))
+    (sound-shifted k b f xs c.self.inside.slots c.mark_all.new.self q (λ n. refl) (λ n. refl) (λ n. refl) c.mark_all.ensures c.self.invariant)
 
 pub returns-clause-graph : goal.returns-clause-graph
 returns-clause-graph c =

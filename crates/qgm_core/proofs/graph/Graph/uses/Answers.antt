@@ -6,5 +6,5 @@ use Rattle.qgm_core.proofs.graph.Graph.uses.Goals as goal
 pub uses_in-requires : goal.uses_in-requires
 uses_in-requires c =
     let e = ap (λ (ns : List Node). length (ids_in ns)) c.deref.ensures.value in
-    let f = c.self.invariant.3 in
+    let f = c.self.invariant.0.3 in
     omega (arith, e, f)

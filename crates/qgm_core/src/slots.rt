@@ -1,0 +1,300 @@
+// The slots of boxes: a box's number is its slot.
+ghost use Rattle.std.specs.Prelude.{◌≡◌, ◌==◌, false, if◌then◌else◌, ◌<◌, ◌≤◌, ◌+◌, ◌++◌, ◌∷◌, [], ℕ, List, Some, None, length, map, filter, not, option_map, replicate, slice_get, slice_index_or, OnOk, OnErr, IfOk};
+ghost use Rattle.qgm_core.specs.Boxes.{ids_in, numbers, overs_in};
+ghost use Rattle.qgm_core.specs.Free.{free_in};
+ghost use Rattle.qgm_core.specs.Numbered.{Under};
+ghost use Rattle.qgm_core.specs.Slots as spec;
+ghost use Rattle.list_laws.specs.Lists.{EachOnce, holds, times};
+
+use crate::flags::{drop_flagged, flag_reaching, flag_unmarked, spread};
+use crate::free::free_in;
+use crate::kinds::BoxId;
+use crate::marks::Marks;
+use crate::node::Node;
+use crate::uses::{add_use, drop_use, recount, uses_in};
+use qgm_terms::QuantId;
+use shared_types::OutOfMemory;
+use sqlite_items::Items;
+use std::alloc::Global;
+use std::marker::Model;
+use std::sync::ledger::Ledger;
+use step_count::Steps;
+
+/// By slot, how many quantifiers range over the box, and its free quantifiers where they are kept; and
+/// the slots that no box has.
+pub struct Slots {
+    uses: Vec<usize>,
+    lists: Vec<Option<Items<QuantId>>>,
+    // What a pass over the boxes marks.
+    flags: Vec<bool>,
+    // It has room for all slots.
+    vacant: Vec<BoxId>,
+}
+
+// By hand, so that what lets slots go cites this function.
+impl Drop for Slots {
+    fn drop(self) {
+        let Slots {
+            uses,
+            lists,
+            flags,
+            vacant,
+        } = self;
+        drop(uses);
+        drop(lists);
+        drop(flags);
+        drop(vacant);
+    }
+}
+
+impl Model for Slots {
+    ghost use Rattle.std.specs.Prelude.{◌≡◌, ◌≤◌, length, vec_capacity};
+    ghost use Rattle.qgm_core.specs.Slots.{SlotTable};
+
+    ghost Value = { SlotTable };
+
+    ghost view = { λ s. record { uses = s.uses.items; lists = s.lists.items; vacant = s.vacant.items } };
+
+    ghost invariant = { λ s. (length s.uses.items ≡ length s.lists.items) × (length s.flags.items ≡ length s.lists.items) × (length s.lists.items ≤ vec_capacity s.vacant) };
+}
+
+impl Slots {
+    /// So many slots, each used by no quantifier, without lists.
+    pub fn new(alloc: Global, n: usize) -> Result<Slots, OutOfMemory>
+        ensures { IfOk result (λ s. spec.Cleared n s) }
+    {
+        let mut uses = Vec::new(alloc);
+        uses.resize(n, 0)?;
+        let mut flags = Vec::new(alloc);
+        flags.resize(n, false)?;
+        let mut vacant = Vec::new(alloc);
+        vacant.reserve(n)?;
+        Ok(Slots {
+            uses,
+            lists: no_lists(alloc, n)?,
+            flags,
+            vacant,
+        })
+    }
+
+    /// The same slots, without lists.
+    pub fn copy(&self, alloc: Global) -> Result<Slots, OutOfMemory>
+        ensures { IfOk result (λ s. spec.AllStale self.now s) }
+    {
+        let n = self.lists.len();
+        let uses = Vec::from_slice(alloc, &self.uses)?;
+        let mut flags = Vec::new(alloc);
+        flags.resize(n, false)?;
+        let mut vacant = Vec::new(alloc);
+        vacant.reserve(n)?;
+        vacant.extend_from_slice(&self.vacant)?;
+        Ok(Slots {
+            uses,
+            lists: no_lists(alloc, n)?,
+            flags,
+            vacant,
+        })
+    }
+
+    /// How many slots there are.
+    pub fn len(&self) -> usize
+        ensures { result ≡ length self.now.lists }
+    {
+        self.lists.len()
+    }
+
+    /// How many quantifiers range over the box of a slot, if there is such a slot.
+    pub fn uses(&self, b: BoxId) -> Option<usize>
+        ensures { result ≡ slice_get self.now.uses b }
+    {
+        if b < self.uses.len() {
+            Some(self.uses[b])
+        } else {
+            None
+        }
+    }
+
+    /// The free quantifiers of a box, where they are kept.
+    pub fn kept(&self, b: BoxId) -> Option<&Items<QuantId>>
+        ensures { option_map (λ qs. qs.now) result ≡ spec.kept b self.now }
+    {
+        match self.lists.get(b) {
+            Some(list) => list.as_ref(),
+            None => None,
+        }
+    }
+
+    /// One more quantifier ranges over a box. It takes no memory.
+    pub fn add_use(&mut self, b: BoxId)
+        requires { b < length self.old.uses → slice_index_or self.old.uses b 0 < 18446744073709551615 }
+        ensures rest { (self.new.vacant ≡ self.old.vacant) × (self.new.lists ≡ self.old.lists) × (length self.new.uses ≡ length self.old.uses) }
+        ensures counted { (x : ℕ) → x < length self.old.uses → slice_index_or self.new.uses x 0 ≡ slice_index_or self.old.uses x 0 + times x (b ∷ []) }
+    {
+        add_use(&mut self.uses, b);
+    }
+
+    /// One less does. It takes no memory.
+    pub fn drop_use(&mut self, b: BoxId)
+        requires { b < length self.old.uses → 1 ≤ slice_index_or self.old.uses b 0 }
+        ensures rest { (self.new.vacant ≡ self.old.vacant) × (self.new.lists ≡ self.old.lists) × (length self.new.uses ≡ length self.old.uses) }
+        ensures counted { (x : ℕ) → x < length self.old.uses → slice_index_or self.new.uses x 0 + times x (b ∷ []) ≡ slice_index_or self.old.uses x 0 }
+    {
+        drop_use(&mut self.uses, b);
+    }
+
+    /// Counts the uses anew, where there are so many at most. It takes no memory.
+    pub fn recount(&mut self, nodes: &[Node], most: usize)
+        requires { length (ids_in nodes.now) ≤ most }
+        ensures { spec.Recounted nodes.now self.old self.new }
+    {
+        recount(&mut self.uses, nodes, most);
+    }
+
+    /// Drops the lists of all boxes from which box c is reached. It takes no memory.
+    pub fn mark(&mut self, nodes: &[Node], c: BoxId)
+        requires below { c < length self.old.lists }
+        requires numbers { Under (length self.old.lists) (numbers nodes.now) }
+        ensures { spec.Marked c nodes.now self.old self.new }
+    {
+        flag_reaching(&mut self.flags, nodes, c);
+        drop_flagged(&mut self.lists, &self.flags);
+    }
+
+    /// Drops the lists of all boxes from which one is reached that isn't marked. It takes no memory.
+    pub fn mark_unmarked(&mut self, nodes: &[Node], marks: &Marks)
+        requires { Under (length self.old.lists) (numbers nodes.now) }
+        ensures { spec.EachMarked (numbers (filter (λ n. not (holds n.id marks.now)) nodes.now)) nodes.now self.old self.new }
+    {
+        flag_unmarked(&mut self.flags, nodes, marks);
+        spread(&mut self.flags, nodes);
+        drop_flagged(&mut self.lists, &self.flags);
+    }
+
+    /// Drops all lists. It takes no memory.
+    pub fn mark_all(&mut self)
+        ensures { spec.AllStale self.old self.new }
+    {
+        self.flags.fill(true);
+        drop_flagged(&mut self.lists, &self.flags);
+    }
+
+    /// Computes the stale lists of these boxes, by rank, and adds a step for each that is computed. Where
+    /// there is no memory, those that were computed stay.
+    pub fn refresh<L: Ledger>(
+        &mut self,
+        alloc: Global,
+        nodes: &[Node],
+        steps: &mut Steps<L>,
+    ) -> Result<(), OutOfMemory>
+        requires right { spec.KeepsFree self.old nodes.now }
+        requires numbers { Under (length self.old.lists) (numbers nodes.now) }
+        requires once { EachOnce (numbers nodes.now) }
+        ensures rest { spec.Refreshed self.old self.new }
+        ensures right { spec.KeepsFree self.new nodes.now }
+        ensures fresh { OnOk result (spec.stale_in self.new nodes.now ≡ 0) }
+        ensures exact { OnOk result (steps.new ≡ steps.old + spec.stale_in self.old nodes.now) }
+        ensures counted { steps.new + spec.stale_in self.new nodes.now ≡ steps.old + spec.stale_in self.old nodes.now }
+    {
+        for node in nodes {
+            self.refresh_box(alloc, nodes, node.id, steps)?;
+        }
+        Ok(())
+    }
+
+    // Computes the list of a box, if it is stale.
+    fn refresh_box<L: Ledger>(
+        &mut self,
+        alloc: Global,
+        nodes: &[Node],
+        b: BoxId,
+        steps: &mut Steps<L>,
+    ) -> Result<(), OutOfMemory>
+        requires { b < length self.old.lists }
+        ensures rest { spec.Refreshed self.old self.new }
+        ensures others { (x : ℕ) → (b == x) ≡ false → spec.kept x self.new ≡ spec.kept x self.old }
+        ensures ok { OnOk result (spec.kept b self.new ≡ Some (spec.list_or (free_in nodes.now b) (spec.kept b self.old))) }
+        ensures steps_ok { OnOk result (steps.new ≡ steps.old + (if spec.is_stale (spec.kept b self.old) then 1 else 0)) }
+        ensures err { OnErr result (self.new ≡ self.old) }
+        ensures steps_err { OnErr result (steps.new ≡ steps.old) }
+    {
+        if self.lists[b].is_some() {
+            return Ok(());
+        }
+        let qs = free_in(alloc, nodes, b)?;
+        self.lists[b] = Some(Items::from_vec(qs));
+        steps.tick();
+        Ok(())
+    }
+
+    /// A slot for a new box: the last vacant one, and where there is none a new one, behind all others.
+    pub fn take(&mut self, nodes: &[Node], most: usize) -> Result<BoxId, OutOfMemory>
+        requires most { length (ids_in nodes.now) ≤ most }
+        requires once { spec.EachSlotOnce self.old nodes.now }
+        ensures within { IfOk result (λ b. b < length self.new.lists) }
+        ensures vacant { (x : ℕ) → IfOk result (λ b. times x self.old.vacant + spec.slot_times x self.new ≡ times x (b ∷ []) + (times x self.new.vacant + spec.slot_times x self.old)) }
+        ensures uses { OnOk result (spec.CountsUses self.old.uses nodes.now → spec.CountsUses self.new.uses nodes.now) }
+        ensures lists { (x : ℕ) → OnOk result (spec.kept x self.new ≡ spec.kept x self.old) }
+        ensures more { OnOk result (length self.old.lists ≤ length self.new.lists) }
+        ensures reused { OnOk result (0 < length self.old.vacant → length self.new.lists ≡ length self.old.lists) }
+        ensures err { OnErr result (self.new ≡ self.old) }
+    {
+        if let Some(b) = self.vacant.pop() {
+            return Ok(b);
+        }
+        let uses = uses_in(nodes, self.lists.len(), most);
+        self.grow(uses)
+    }
+
+    // A new slot, behind all others, over whose number so many quantifiers range.
+    fn grow(&mut self, uses: usize) -> Result<BoxId, OutOfMemory>
+        ensures number { IfOk result (λ b. b ≡ length self.old.lists) }
+        ensures uses { OnOk result (self.new.uses ≡ self.old.uses ++ uses ∷ []) }
+        ensures lists { OnOk result (self.new.lists ≡ self.old.lists ++ None ∷ []) }
+        ensures vacant { self.new.vacant ≡ self.old.vacant }
+        ensures long { length self.old.uses ≡ length self.old.lists }
+        ensures err { OnErr result (self.new ≡ self.old) }
+    {
+        let n = self.lists.len();
+        self.uses.reserve(1)?;
+        self.lists.reserve(1)?;
+        self.flags.reserve(1)?;
+        self.vacant.reserve(n + 1)?;
+        let _ = self.uses.push(uses);
+        let _ = self.lists.push(None);
+        let _ = self.flags.push(false);
+        Ok(n)
+    }
+
+    /// A slot becomes vacant. It takes no memory.
+    pub fn give_back(&mut self, b: BoxId)
+        requires { length self.old.vacant < length self.old.lists }
+        ensures vacant { self.new.vacant ≡ self.old.vacant ++ b ∷ [] }
+        ensures rest { (self.new.uses ≡ self.old.uses) × (self.new.lists ≡ self.old.lists) }
+    {
+        let _ = self.vacant.push(b);
+    }
+
+    /// The slots of the boxes that aren't marked become vacant. It takes no memory.
+    pub fn give_back_unmarked(&mut self, nodes: &[Node], marks: &Marks)
+        requires { spec.EachSlotOnce self.old nodes.now }
+        ensures vacant { self.new.vacant ≡ self.old.vacant ++ numbers (filter (λ n. not (holds n.id marks.now)) nodes.now) }
+        ensures rest { (self.new.uses ≡ self.old.uses) × (self.new.lists ≡ self.old.lists) }
+    {
+        for node in nodes {
+            if !marks.has(node.id) {
+                self.give_back(node.id);
+            }
+        }
+    }
+}
+
+// So many boxes without list.
+fn no_lists(alloc: Global, n: usize) -> Result<Vec<Option<Items<QuantId>>>, OutOfMemory>
+    ensures { IfOk result (λ all. all.items ≡ replicate n None) }
+{
+    let mut all = Vec::new(alloc);
+    for _slot in 0..n {
+        all.push(None)?;
+    }
+    Ok(all)
+}
