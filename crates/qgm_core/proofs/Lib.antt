@@ -1,4 +1,5 @@
 pub mod First
+pub mod Enclosed
 pub mod Fresh
 pub mod Ascending
 pub mod Changed
