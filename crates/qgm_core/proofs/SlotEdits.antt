@@ -106,13 +106,13 @@ sound-kept p ns t u v w q a vacant lists d s =
       subst (λ (k : ℕ). Numbered k q ms) (sym long) (numbered-filter p _ q ns s.0),
       (
         once-as t w ns ms (λ x. (
-          let e : times x w.vacant ≡ times x t.vacant + times x cs = ap (times x) (d.0 ∙ vacant) ∙ times-append x u.vacant cs ∙ ap (λ (ys : List ℕ). times x ys + times x cs) a.1 in
-          let k = numbers-filter x p ns in
-          omega (arith, e, k))) long s.1.0,
+            let e : times x w.vacant ≡ times x t.vacant + times x cs = ap (times x) (d.0 ∙ vacant) ∙ times-append x u.vacant cs ∙ ap (λ (ys : List ℕ). times x ys + times x cs) a.1 in
+            let k = numbers-filter x p ns in
+            omega (arith, e, k))) long s.1.0,
         d.2,
         keeps-as u w ms (d.1 ∙ lists) (λ b qs e. (
-          let h = unmarked (meets cs (reached (b ∷ []) ns)) (kept b t) qs (sym (a.3 b) ∙ e) in
-          free-kept p ns b h.0 ∙ s.1.2 b qs h.1)),
+            let h = unmarked (meets cs (reached (b ∷ []) ns)) (kept b t) qs (sym (a.3 b) ∙ e) in
+            free-kept p ns b h.0 ∙ s.1.2 b qs h.1)),
       ),
     )
 
@@ -231,10 +231,10 @@ made-times x b (n ∷ made) below h =
 pub stored-cleared : (m : ℕ) (ns : List Node) (t u : SlotTable) → Cleared m t → Recounted ns t u → ((x : ℕ) → times x (numbers ns) ≡ cond (nat_lt x m) 1 0) → Stored u ns
 stored-cleared m ns t u k d h = (
   (λ x. (
-    let v : times x u.vacant ≡ 0 = ap (times x) (d.0 ∙ k.0) in
-    let e : slot_times x u ≡ cond (nat_lt x m) 1 0 = ap (λ (l : ℕ). cond (nat_lt x l) 1 0) (ap length d.1 ∙ k.1) in
-    let n = h x in
-    omega (arith, v, e, n))),
+      let v : times x u.vacant ≡ 0 = ap (times x) (d.0 ∙ k.0) in
+      let e : slot_times x u ≡ cond (nat_lt x m) 1 0 = ap (λ (l : ℕ). cond (nat_lt x l) 1 0) (ap length d.1 ∙ k.1) in
+      let n = h x in
+      omega (arith, v, e, n))),
   d.2,
   keeps-as t u ns d.1 (keeps-none t ns k.2),
 )

@@ -32,14 +32,14 @@ loop-node-preserved g c =
       rest = refreshed-then c.args.self.now t u c.loop-node.invariant.rest rest;
       right = right-one n.id t u c.refresh_box.ensures.others ns done c.loop-node.invariant.right;
       fresh = (
-        let e : stale_in u (take (i + 1) ns) ≡ stale_in u (take i ns) + stale n.id u = ap (λ (k : ℕ). stale_in u (take k ns)) (add-one i) ∙ stale-more u ns i n at in
-        let z : stale n.id u ≡ 0 = rw done refl in
-        let f = stale-fewer t u rest (take i ns) in
-        let h = c.loop-node.invariant.fresh in
-        omega (arith, e, z, f, h));
+          let e : stale_in u (take (i + 1) ns) ≡ stale_in u (take i ns) + stale n.id u = ap (λ (k : ℕ). stale_in u (take k ns)) (add-one i) ∙ stale-more u ns i n at in
+          let z : stale n.id u ≡ 0 = rw done refl in
+          let f = stale-fewer t u rest (take i ns) in
+          let h = c.loop-node.invariant.fresh in
+          omega (arith, e, z, f, h));
       counted = (
-        let one = stale-one n.id t u c.refresh_box.ensures.others _ done ns c.requires.once (at-held ns i n at) in
-        let s = c.in_ok-refresh_box.ensures.steps_ok in
-        let h = c.loop-node.invariant.counted in
-        omega (arith, one, s, h));
+          let one = stale-one n.id t u c.refresh_box.ensures.others _ done ns c.requires.once (at-held ns i n at) in
+          let s = c.in_ok-refresh_box.ensures.steps_ok in
+          let h = c.loop-node.invariant.counted in
+          omega (arith, one, s, h));
     }
