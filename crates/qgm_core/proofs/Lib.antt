@@ -22,3 +22,4 @@ pub mod Slotted
 pub mod Totals
 pub mod SlotEdits
 pub mod Refreshed
+pub mod ShiftedNames

@@ -1,4 +1,5 @@
 -- The table of slots where boxes come and go.
+use Rattle.qgm_core.proofs.ShiftedNames.{free-shifted}
 use Rattle.qgm_core.specs.Free.{reached}
 use Rattle.list_laws.proofs.Indexed.{get-less, index-get}
 use Rattle.qgm_core.proofs.Stacked.{numbered-made}
@@ -130,17 +131,18 @@ each-numbers : (k : ℕ) (qs : List ℕ) (ns : List Node) → numbers (each (shi
 each-numbers k [] ns = refl
 each-numbers k (q ∷ qs) ns = each-numbers k qs (shift_boxes k q ns) ∙ shift-numbers k q ns
 
-pub sound-shifted : (k b : ℕ) (f : Node → Node) (ns : List Node) (t u : SlotTable) (q : ℕ) → ((n : Node) → (f n).id ≡ n.id) → ((n : Node) → ids_of (f n) ≡ ids_of n) → ((n : Node) → overs_of (f n) ≡ overs_of n) → AllStale t u → Sound t q ns →
+-- the box that loses a column is marked, and what is free in others stays
+pub sound-shifted : (k b : ℕ) (f : Node → Node) (ns : List Node) (t u : SlotTable) (q : ℕ) → ((n : Node) → (f n).id ≡ n.id) → ((n : Node) → ids_of (f n) ≡ ids_of n) → ((n : Node) → overs_of (f n) ≡ overs_of n) → Marked b ns t u → Sound t q ns →
     Sound u q (shifted_over b k (change (is_box b) f ns))
-sound-shifted k b f ns t u q same ids overs a s =
+sound-shifted k b f ns t u q same ids overs m s =
     let mid = change (is_box b) f ns in
     let qs = quants_over b mid in
     let ms = shifted_over b k mid in (
-      subst (λ (l : ℕ). Numbered l q ms) (sym a.2) (numbered-shifted k _ q qs mid (numbered-parts (is_box b) f _ q ns same ids s.0)),
+      subst (λ (l : ℕ). Numbered l q ms) (sym m.2) (numbered-shifted k _ q qs mid (numbered-parts (is_box b) f _ q ns same ids s.0)),
       (
-        once-same t u ns ms a.1 a.2 (λ x. ap (times x) (each-numbers k qs mid ∙ numbers-change (is_box b) f same ns)) s.1.0,
-        counts-as t.uses u.uses ns ms a.0 (λ x. ap (times x) (each-overs k qs mid ∙ overs-change (is_box b) f overs ns)) s.1.1,
-        keeps-none u ms a.3,
+        once-same t u ns ms m.1 m.2 (λ x. ap (times x) (each-numbers k qs mid ∙ numbers-change (is_box b) f same ns)) s.1.0,
+        counts-as t.uses u.uses ns ms m.0 (λ x. ap (times x) (each-overs k qs mid ∙ overs-change (is_box b) f overs ns)) s.1.1,
+        λ x rs e. free-shifted k qs mid x ∙ keeps-edit b ns mid t u (others-change b (is_box b) f ns same (found-number b ns)) m s.1.2 x rs e,
       ),
     )
 

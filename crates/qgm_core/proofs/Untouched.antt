@@ -65,7 +65,7 @@ owned-others c marks (n ∷ ns) q h =
       | false ↦ λ e. ap (λ (t : Bool). (holds n.id marks && owns q n) || t) (owned-others c marks ns q h)
     ] refl
 
-filter-alike : (p r : ℕ → Bool) (qs : List ℕ) → ((q : ℕ) → p q ≡ r q) → filter p qs ≡ filter r qs
+pub filter-alike : (p r : ℕ → Bool) (qs : List ℕ) → ((q : ℕ) → p q ≡ r q) → filter p qs ≡ filter r qs
 filter-alike p r [] h = refl
 filter-alike p r (q ∷ qs) h = ap (λ (t : Bool). cond t (q ∷ filter p qs) (filter p qs)) (h q) ∙ ap (λ (ps : List ℕ). cond (r q) (q ∷ ps) ps) (filter-alike p r qs h)
 

@@ -170,14 +170,6 @@ impl Slots {
         drop_flagged(&mut self.lists, &self.flags);
     }
 
-    /// Drops all lists. It takes no memory.
-    pub fn mark_all(&mut self)
-        ensures { spec.AllStale self.old self.new }
-    {
-        self.flags.fill(true);
-        drop_flagged(&mut self.lists, &self.flags);
-    }
-
     /// Computes the stale lists of these boxes, by rank, and adds a step for each that is computed. Where
     /// there is no memory, those that were computed stay.
     pub fn refresh<L: Ledger>(
