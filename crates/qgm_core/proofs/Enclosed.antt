@@ -1,14 +1,16 @@
 -- Nothing is free in a box that names its own quantifiers alone, and ranges over boxes behind it in which nothing is free.
-use Rattle.std.proofs.Common.{ℕ, ◌==◌, ◌≡◌, ◌∙◌, ◌||◌, ◌&&◌, ◌⊎◌, ◌++◌, cond, not, Bool, true, false, List, [], ◌∷◌, ap, filter, inl, inr, map, refl, subst, sym}
-use Rattle.std.specs.List.{flat_map, list_any}
+use Rattle.std.proofs.Common.{ℕ, suc, ◌==◌, ◌≡◌, ◌<◌, ◌-◌, ◌∙◌, arith, drop, take, Option, None, Some, ◌||◌, ◌&&◌, ◌⊎◌, ◌++◌, cond, not, Bool, true, false, List, [], ◌∷◌, ap, filter, inl, inr, map, refl, subst, sym}
+use Rattle.std.specs.Prelude.{slice_get}
+use Rattle.std.specs.List.{flat_map, list_all, list_any}
 use Rattle.std.proofs.lemmas.Bool.{and_from, and_parts, cases_Bool, eqb-true, not-true, or_right}
 use Rattle.std.proofs.lemmas.List.Folds.{list_any-append}
 use Rattle.list_laws.specs.Lists.{EachOnce, In, holds}
 use Rattle.list_laws.proofs.Booleans.{clash, or-false}
-use Rattle.list_laws.proofs.Membership.{any-from, any-in, eq-false-sym, eq-itself, filter-in, flat-in, holds-in, in-filter, in-flat, in-holds, in-left, in-map, in-right, map-in}
+use Rattle.list_laws.proofs.Indexed.{drop-more, split-at}
+use Rattle.list_laws.proofs.Membership.{all-in, any-from, any-in, eq-false-sym, eq-itself, filter-in, flat-in, holds-in, in-filter, in-flat, in-holds, in-left, in-map, in-right, map-in}
 use Rattle.qgm_core.specs.Boxes.{numbers, overs_of, owns}
 use Rattle.qgm_core.specs.Free.{free_in, is_owned, marked, named_by, named_where, reached}
-use Rattle.qgm_core.specs.Slots.{meets}
+use Rattle.qgm_core.specs.Slots.{KeepsFree, SlotTable, is_enclosed, keeps_none, kept, meets}
 use Rattle.qgm_core.specs.declared.node.Node.{Node}
 use Rattle.qgm_core.specs.declared.owned.OwnedQuant.{OwnedQuant}
 use Rattle.qgm_core.proofs.Flagged.{meets-one, reaches-some, reaches-them, reaching}
@@ -32,6 +34,20 @@ earlier-not (u ∷ us) ws c once h = elim (cases_Bool (u.id == c)) [
 later-once : (us ws : List Node) → EachOnce (numbers (us ++ ws)) → EachOnce (numbers ws)
 later-once [] ws once = once
 later-once (u ∷ us) ws once = later-once us ws once.1
+
+-- the box of a number is the one that stands here
+pub same-box : (ns : List Node) → EachOnce (numbers ns) → (n m : Node) → In n ns → In m ns → m.id ≡ n.id → m ≡ n
+same-box [] once n m i j e = elim i [ ]
+same-box (x ∷ xs) once n m i j e = elim i [
+  | inl here ↦ elim j [
+    | inl there ↦ sym there ∙ here
+    | inr there ↦ absurd (clash (holds x.id (numbers xs)) (in-holds x.id (numbers xs) (subst (λ (k : ℕ). In k (numbers xs)) (e ∙ ap (λ (y : Node). y.id) (sym here)) (map-in (λ (y : Node). y.id) m xs there))) once.0)
+  ]
+  | inr later ↦ elim j [
+    | inl there ↦ absurd (clash (holds x.id (numbers xs)) (in-holds x.id (numbers xs) (subst (λ (k : ℕ). In k (numbers xs)) (sym e ∙ ap (λ (y : Node). y.id) (sym there)) (map-in (λ (y : Node). y.id) n xs later))) once.0)
+    | inr there ↦ same-box xs once.1 n m later there e
+  ]
+]
 
 -- ---- a pass over boxes none of which is marked
 
@@ -93,10 +109,13 @@ module _ (us vs : List Node) (n : Node) where
     behind-reaches c h =
         reached-append (c ∷ []) us (n ∷ vs)
         ∙ ap (λ (ms : List ℕ). reached ms (n ∷ vs)) (passed c us (earlier-not us (n ∷ vs) c once (or_right (n.id == c) (holds c (numbers vs)) h)))
-        ∙ ap (λ (t : Bool). reached (cond (t || false) ((c ∷ []) ++ overs_of n) (c ∷ [])) vs) (elim (cases_Bool (c == n.id)) [
+        ∙ ap (λ (t : Bool). reached (cond (t || false) ((c ∷ []) ++ overs_of n) (c ∷ [])) vs) other
+      where
+        other : (c == n.id) ≡ false
+        other = elim (cases_Bool (c == n.id)) [
           | inl t ↦ absurd (clash (holds n.id (numbers vs)) (subst (λ (k : ℕ). holds k (numbers vs) ≡ true) (eqb-true c n.id t) h) not-behind)
           | inr f ↦ f
-        ])
+        ]
 
     own-reaches : from n.id ≡ reached (n.id ∷ overs_of n) vs
     own-reaches =
@@ -142,18 +161,18 @@ module _ (us vs : List Node) (n : Node) where
             (ap not f))))) [ ]
       ]
 
-      module _ (own : (q : ℕ) → In q (named_by n) → owns q n ≡ true) (same : (m : Node) → In m ns → m.id ≡ n.id → m ≡ n) where
+      module _ (own : (q : ℕ) → In q (named_by n) → owns q n ≡ true) where
         name-owned : (q : ℕ) (m : Node) → In m ns → holds m.id (from n.id) ≡ true → In q (named_by m) → is_owned (from n.id) ns q ≡ true
         name-owned q m i t j = elim (reached-then m.id (holds-in m.id (from n.id) t)) [
           | inl e ↦ (
-              let is = same m i e in
+              let is = same-box ns once n m (in-right n us (n ∷ vs) (inl refl)) i e in
               any-from (λ (m : Node). holds m.id (from n.id) && owns q m) m ns i
               (and_from (holds m.id (from n.id)) (owns q m) t (subst (λ (z : Node). owns q z ≡ true) (sym is) (own q (subst (λ (z : Node). In q (named_by z)) is j)))))
           | inr c ↦ owned-then q c.0 c.1.0 (closed-owns q c.0 m (under c.0 c.1.0).1 i (in-holds m.id (from c.0) c.1.1) j)
         ]
 
-        enclosed : free_in ns n.id ≡ []
-        enclosed = no-element (free_in ns n.id) (λ q i. elim (in-each q [] (filter (unowned n.id) (flat_map (named_where (from n.id)) ns)) i) [
+        pub closed : free_in ns n.id ≡ []
+        closed = no-element (free_in ns n.id) (λ q i. elim (in-each q [] (filter (unowned n.id) (flat_map (named_where (from n.id)) ns)) i) [
           | inl z ↦ elim z [ ]
           | inr k ↦ (
               let f = in-filter (unowned n.id) q (flat_map (named_where (from n.id)) ns) k in
@@ -164,5 +183,36 @@ module _ (us vs : List Node) (n : Node) where
             named : (q : ℕ) (m : Node) → In m ns → In q (named_where (from n.id) m) → is_owned (from n.id) ns q ≡ false → ⊥
             named q m i j f = elim (cases_Bool (holds m.id (from n.id))) [
               | inl t ↦ clash (is_owned (from n.id) ns q) (name-owned q m i t (subst (λ (b : Bool). In q (cond b (named_by m) [])) t j)) f
-              | inr no ↦ elim (subst (λ (b : Bool). In q (cond b (named_by m) [])) no j) [ ]
+              | inr h ↦ elim (subst (λ (b : Bool). In q (cond b (named_by m) [])) h j) [ ]
             ]
+
+-- ---- by lists that are kept
+
+none-kept : (o : Option (List ℕ)) → keeps_none o ≡ true → o ≡ Some []
+none-kept None h = absurd (let z : ⊥ = cc in z)
+none-kept (Some []) h = refl
+none-kept (Some (q ∷ qs)) h = absurd (let z : ⊥ = cc in z)
+
+pub enclosed : (t : SlotTable) (ns : List Node) (k : ℕ) (n : Node) (marks : List ℕ) → slice_get ns k ≡ Some n → EachOnce (numbers ns) → KeepsFree t ns
+    → ((x : ℕ) → holds x marks ≡ true → holds x (numbers (drop (suc k) ns)) ≡ true) → is_enclosed t marks n ≡ true → free_in ns n.id ≡ []
+enclosed t ns k n marks at once right behind h =
+    let split : ns ≡ take k ns ++ n ∷ drop (suc k) ns = split-at k ns n at in
+    subst (λ (zs : List Node). free_in zs n.id ≡ []) (sym split)
+    (closed (take k ns) (drop (suc k) ns) n (subst (λ (zs : List Node). EachOnce (numbers zs)) split once)
+    (λ r i. (let ps = and_parts (holds r.over marks) (keeps_none (kept r.over t)) (all-in (λ (r : OwnedQuant). holds r.over marks && keeps_none (kept r.over t)) r n.quants both.0 i) in
+    (behind r.over ps.0, subst (λ (zs : List Node). free_in zs r.over ≡ []) split (right r.over [] (none-kept (kept r.over t) ps.1)))))
+    (λ q i. all-in (λ q. owns q n) q (named_by n) both.1 i))
+  where
+    both : (list_all (λ (r : OwnedQuant). holds r.over marks && keeps_none (kept r.over t)) n.quants ≡ true) × (list_all (λ q. owns q n) (named_by n) ≡ true)
+    both = and_parts (list_all (λ (r : OwnedQuant). holds r.over marks && keeps_none (kept r.over t)) n.quants) (list_all (λ q. owns q n) (named_by n)) h
+
+-- ---- one box more, from the last
+
+pub drop-back : (ms : List Node) (i : ℕ) (n : Node) → 0 < i → slice_get ms (i - 1) ≡ Some n → drop (i - 1) ms ≡ n ∷ drop i ms
+drop-back ms i n l e = let s : suc (i - 1) ≡ i = omega (arith, l) in drop-more (i - 1) ms n e ∙ ap (λ (k : ℕ). n ∷ drop k ms) s
+
+pub behind-more : (x k : ℕ) (marks xs : List ℕ) → ((y : ℕ) → holds y marks ≡ true → holds y xs ≡ true) → holds x (marks ++ k ∷ []) ≡ true → holds x (k ∷ xs) ≡ true
+behind-more x k marks xs h t = elim (cases_Bool (k == x)) [
+  | inl y ↦ ap (λ (b : Bool). b || holds x xs) y
+  | inr f ↦ or_right (k == x) (holds x xs) (h x (sym (list_any-append (λ m. m == x) marks (k ∷ []) ∙ ap (λ (b : Bool). holds x marks || (b || false)) f ∙ or-false (holds x marks)) ∙ t))
+]

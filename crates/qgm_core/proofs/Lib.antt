@@ -23,3 +23,4 @@ pub mod Slotted
 pub mod Totals
 pub mod SlotEdits
 pub mod Refreshed
+pub mod ShiftedNames

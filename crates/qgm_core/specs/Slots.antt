@@ -61,10 +61,6 @@ EachMarked cs boxes t u = (u.uses ≡ t.uses) × (u.vacant ≡ t.vacant) × (len
 abbrev pub Recounted : List Node → SlotTable → SlotTable → Type 0
 Recounted boxes t u = (u.vacant ≡ t.vacant) × (u.lists ≡ t.lists) × CountsUses u.uses boxes
 
--- all lists are stale
-abbrev pub AllStale : SlotTable → SlotTable → Type 0
-AllStale t u = (u.uses ≡ t.uses) × (u.vacant ≡ t.vacant) × (length u.lists ≡ length t.lists) × ((b : ℕ) → kept b u ≡ None)
-
 -- so many slots, with no list
 abbrev pub Cleared : ℕ → SlotTable → Type 0
 Cleared m t = (t.vacant ≡ []) × (length t.lists ≡ m) × ((b : ℕ) → kept b t ≡ None)

@@ -79,12 +79,13 @@ impl Slots {
         })
     }
 
-    /// The same slots, without lists.
+    /// A copy.
     pub fn copy(&self, alloc: Global) -> Result<Slots, OutOfMemory>
-        ensures { IfOk result (λ s. spec.AllStale self.now s) }
+        ensures { IfOk result (λ s. s ≡ self.now) }
     {
         let n = self.lists.len();
         let uses = Vec::from_slice(alloc, &self.uses)?;
+        let lists = copy_lists(alloc, &self.lists)?;
         let mut flags = Vec::new(alloc);
         flags.resize(n, false)?;
         let mut vacant = Vec::new(alloc);
@@ -92,7 +93,7 @@ impl Slots {
         vacant.extend_from_slice(&self.vacant)?;
         Ok(Slots {
             uses,
-            lists: no_lists(alloc, n)?,
+            lists,
             flags,
             vacant,
         })
@@ -172,14 +173,6 @@ impl Slots {
         drop_flagged(&mut self.lists, &self.flags);
     }
 
-    /// Drops all lists. It takes no memory.
-    pub fn mark_all(&mut self)
-        ensures { spec.AllStale self.old self.new }
-    {
-        self.flags.fill(true);
-        drop_flagged(&mut self.lists, &self.flags);
-    }
-
     // Whether an empty list of a box is kept.
     fn keeps_none(&self, b: BoxId) -> bool
         ensures { result ≡ spec.keeps_none (spec.kept b self.now) }
@@ -204,12 +197,7 @@ impl Slots {
 
     // Whether a box without a list ranges over marked boxes of which an empty list is kept, and names its
     // own quantifiers alone.
-    fn is_enclosed(
-        &self,
-        alloc: Global,
-        node: &Node,
-        marks: &Marks,
-    ) -> Result<bool, OutOfMemory>
+    fn is_enclosed(&self, alloc: Global, node: &Node, marks: &Marks) -> Result<bool, OutOfMemory>
         ensures { IfOk result (λ e. e ≡ true → spec.is_enclosed self.now marks.now node.now ≡ true) }
     {
         if self.kept(node.id).is_some() || !self.keep_none(node.quants.as_slice(), marks) {
@@ -241,8 +229,8 @@ impl Slots {
             i -= 1;
             let node = &nodes[i];
             let closed = self.is_enclosed(alloc, node, &behind)?;
-            self.refresh_box(alloc, nodes, node.id, closed, steps)?;
             behind.push(node.id)?;
+            self.refresh_box(alloc, nodes, node.id, closed, steps)?;
         }
         Ok(())
     }
@@ -352,6 +340,37 @@ fn names_own(alloc: Global, node: &Node) -> Result<bool, OutOfMemory>
         }
     }
     Ok(true)
+}
+
+// A copy of a list, if it is kept.
+fn copy_list(
+    alloc: Global,
+    list: &Option<Items<QuantId>>,
+) -> Result<Option<Items<QuantId>>, OutOfMemory>
+    ensures { IfOk result (λ o. o ≡ list.now) }
+{
+    match list {
+        Some(qs) => match Items::from_slice(alloc, qs.as_slice()) {
+            Ok(copied) => Ok(Some(copied)),
+            Err(_) => Err(OutOfMemory),
+        },
+        None => Ok(None),
+    }
+}
+
+// Copies of lists.
+fn copy_lists(
+    alloc: Global,
+    lists: &[Option<Items<QuantId>>],
+) -> Result<Vec<Option<Items<QuantId>>>, OutOfMemory>
+    ensures { IfOk result (λ all. all.items ≡ lists.now) }
+{
+    let mut all = Vec::with_capacity(alloc, lists.len())?;
+    for list in lists {
+        let copied = copy_list(alloc, list)?;
+        all.push(copied)?;
+    }
+    Ok(all)
 }
 
 // So many boxes without list.
