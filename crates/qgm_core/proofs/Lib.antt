@@ -1,4 +1,5 @@
 pub mod First
+pub mod Enclosed
 pub mod Fresh
 pub mod Ascending
 pub mod Changed
@@ -22,3 +23,4 @@ pub mod Slotted
 pub mod Totals
 pub mod SlotEdits
 pub mod Refreshed
+pub mod ShiftedNames

@@ -1,4 +1,5 @@
 -- The table of slots where boxes come and go.
+use Rattle.qgm_core.proofs.ShiftedNames.{free-shifted}
 use Rattle.qgm_core.specs.Free.{reached}
 use Rattle.list_laws.proofs.Indexed.{get-less, index-get}
 use Rattle.qgm_core.proofs.Stacked.{numbered-made}
@@ -9,7 +10,7 @@ use Rattle.qgm_core.specs.Boxes.{bare_box, has_box, ids_in, ids_of, is_box, is_q
 use Rattle.qgm_core.specs.Edits.{absorbed, put_range, put_range_found, quant_moved, quants_over, shift_boxes, shifted_over, spliced_at, with_quants, without_quant}
 use Rattle.qgm_core.specs.Made.{boxes_of, made_box, on_top}
 use Rattle.qgm_core.specs.Numbered.{Numbered, Under}
-use Rattle.qgm_core.specs.Slots.{AllStale, Cleared, CountsUses, EachSlotOnce, Marked, Recounted, SlotTable, Sound, Stored, kept, slot_times, EachMarked, meets}
+use Rattle.qgm_core.specs.Slots.{Cleared, CountsUses, EachSlotOnce, Marked, Recounted, SlotTable, Sound, Stored, kept, slot_times, EachMarked, meets}
 use Rattle.list_laws.specs.Lists.{change, each, first, put_below, times, without}
 use Rattle.qgm_core.specs.declared.made.NewBox.{NewBox}
 use Rattle.qgm_core.specs.declared.node.Node.{Node}
@@ -106,13 +107,13 @@ sound-kept p ns t u v w q a vacant lists d s =
       subst (λ (k : ℕ). Numbered k q ms) (sym long) (numbered-filter p _ q ns s.0),
       (
         once-as t w ns ms (λ x. (
-          let e : times x w.vacant ≡ times x t.vacant + times x cs = ap (times x) (d.0 ∙ vacant) ∙ times-append x u.vacant cs ∙ ap (λ (ys : List ℕ). times x ys + times x cs) a.1 in
-          let k = numbers-filter x p ns in
-          omega (arith, e, k))) long s.1.0,
+            let e : times x w.vacant ≡ times x t.vacant + times x cs = ap (times x) (d.0 ∙ vacant) ∙ times-append x u.vacant cs ∙ ap (λ (ys : List ℕ). times x ys + times x cs) a.1 in
+            let k = numbers-filter x p ns in
+            omega (arith, e, k))) long s.1.0,
         d.2,
         keeps-as u w ms (d.1 ∙ lists) (λ b qs e. (
-          let h = unmarked (meets cs (reached (b ∷ []) ns)) (kept b t) qs (sym (a.3 b) ∙ e) in
-          free-kept p ns b h.0 ∙ s.1.2 b qs h.1)),
+            let h = unmarked (meets cs (reached (b ∷ []) ns)) (kept b t) qs (sym (a.3 b) ∙ e) in
+            free-kept p ns b h.0 ∙ s.1.2 b qs h.1)),
       ),
     )
 
@@ -130,17 +131,18 @@ each-numbers : (k : ℕ) (qs : List ℕ) (ns : List Node) → numbers (each (shi
 each-numbers k [] ns = refl
 each-numbers k (q ∷ qs) ns = each-numbers k qs (shift_boxes k q ns) ∙ shift-numbers k q ns
 
-pub sound-shifted : (k b : ℕ) (f : Node → Node) (ns : List Node) (t u : SlotTable) (q : ℕ) → ((n : Node) → (f n).id ≡ n.id) → ((n : Node) → ids_of (f n) ≡ ids_of n) → ((n : Node) → overs_of (f n) ≡ overs_of n) → AllStale t u → Sound t q ns →
+-- the box that loses a column is marked, and what is free in others stays
+pub sound-shifted : (k b : ℕ) (f : Node → Node) (ns : List Node) (t u : SlotTable) (q : ℕ) → ((n : Node) → (f n).id ≡ n.id) → ((n : Node) → ids_of (f n) ≡ ids_of n) → ((n : Node) → overs_of (f n) ≡ overs_of n) → Marked b ns t u → Sound t q ns →
     Sound u q (shifted_over b k (change (is_box b) f ns))
-sound-shifted k b f ns t u q same ids overs a s =
+sound-shifted k b f ns t u q same ids overs m s =
     let mid = change (is_box b) f ns in
     let qs = quants_over b mid in
     let ms = shifted_over b k mid in (
-      subst (λ (l : ℕ). Numbered l q ms) (sym a.2) (numbered-shifted k _ q qs mid (numbered-parts (is_box b) f _ q ns same ids s.0)),
+      subst (λ (l : ℕ). Numbered l q ms) (sym m.2) (numbered-shifted k _ q qs mid (numbered-parts (is_box b) f _ q ns same ids s.0)),
       (
-        once-same t u ns ms a.1 a.2 (λ x. ap (times x) (each-numbers k qs mid ∙ numbers-change (is_box b) f same ns)) s.1.0,
-        counts-as t.uses u.uses ns ms a.0 (λ x. ap (times x) (each-overs k qs mid ∙ overs-change (is_box b) f overs ns)) s.1.1,
-        keeps-none u ms a.3,
+        once-same t u ns ms m.1 m.2 (λ x. ap (times x) (each-numbers k qs mid ∙ numbers-change (is_box b) f same ns)) s.1.0,
+        counts-as t.uses u.uses ns ms m.0 (λ x. ap (times x) (each-overs k qs mid ∙ overs-change (is_box b) f overs ns)) s.1.1,
+        λ x rs e. free-shifted k qs mid x ∙ keeps-edit b ns mid t u (others-change b (is_box b) f ns same (found-number b ns)) m s.1.2 x rs e,
       ),
     )
 
@@ -231,10 +233,10 @@ made-times x b (n ∷ made) below h =
 pub stored-cleared : (m : ℕ) (ns : List Node) (t u : SlotTable) → Cleared m t → Recounted ns t u → ((x : ℕ) → times x (numbers ns) ≡ cond (nat_lt x m) 1 0) → Stored u ns
 stored-cleared m ns t u k d h = (
   (λ x. (
-    let v : times x u.vacant ≡ 0 = ap (times x) (d.0 ∙ k.0) in
-    let e : slot_times x u ≡ cond (nat_lt x m) 1 0 = ap (λ (l : ℕ). cond (nat_lt x l) 1 0) (ap length d.1 ∙ k.1) in
-    let n = h x in
-    omega (arith, v, e, n))),
+      let v : times x u.vacant ≡ 0 = ap (times x) (d.0 ∙ k.0) in
+      let e : slot_times x u ≡ cond (nat_lt x m) 1 0 = ap (λ (l : ℕ). cond (nat_lt x l) 1 0) (ap length d.1 ∙ k.1) in
+      let n = h x in
+      omega (arith, v, e, n))),
   d.2,
   keeps-as t u ns d.1 (keeps-none t ns k.2),
 )
@@ -243,13 +245,6 @@ pub sound-made : (m q : ℕ) (made : List NewBox) (t u : SlotTable) → m ≡ le
 sound-made m q made t u e k d n = (
   subst (λ (l : ℕ). Numbered l q (boxes_of made)) (sym (ap length d.1 ∙ k.1)) n,
   stored-cleared m (boxes_of made) t u k d (λ x. made-times x 0 made [] (λ y. sym (ap (λ (t : Bool). cond t 1 0) (le-ltb y 0 (omega arith)))) ∙ ap (λ (l : ℕ). cond (nat_lt x l) 1 0) (omega (arith, e))),
-)
-
--- a copy
-pub sound-copied : (t u : SlotTable) (q : ℕ) (ns : List Node) → AllStale t u → Sound t q ns → Sound u q ns
-sound-copied t u q ns a s = (
-  subst (λ (k : ℕ). Numbered k q ns) (sym a.2) s.0,
-  (once-same t u ns ns a.1 a.2 (λ x. refl) s.1.0, counts-as t.uses u.uses ns ns a.0 (λ x. refl) s.1.1, keeps-none u ns a.3),
 )
 
 -- one box

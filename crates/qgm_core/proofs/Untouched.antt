@@ -65,15 +65,15 @@ owned-others c marks (n ∷ ns) q h =
       | false ↦ λ e. ap (λ (t : Bool). (holds n.id marks && owns q n) || t) (owned-others c marks ns q h)
     ] refl
 
-filter-alike : (p r : ℕ → Bool) (qs : List ℕ) → ((q : ℕ) → p q ≡ r q) → filter p qs ≡ filter r qs
+pub filter-alike : (p r : ℕ → Bool) (qs : List ℕ) → ((q : ℕ) → p q ≡ r q) → filter p qs ≡ filter r qs
 filter-alike p r [] h = refl
 filter-alike p r (q ∷ qs) h = ap (λ (t : Bool). cond t (q ∷ filter p qs) (filter p qs)) (h q) ∙ ap (λ (ps : List ℕ). cond (r q) (q ∷ ps) ps) (filter-alike p r qs h)
 
 among-others : (c : ℕ) (marks : List ℕ) (ns : List Node) → holds c marks ≡ false → free_among marks ns ≡ free_among marks (others c ns)
 among-others c marks ns h =
     ap (put_each []) (
-      filter-alike (λ q. not (is_owned marks ns q)) (λ q. not (is_owned marks (others c ns) q)) (flat_map (named_where marks) ns) (λ q. ap not (owned-others c marks ns q h))
-      ∙ ap (λ (qs : List ℕ). filter (λ q. not (is_owned marks (others c ns) q)) qs) (named-others c marks ns h))
+    filter-alike (λ q. not (is_owned marks ns q)) (λ q. not (is_owned marks (others c ns) q)) (flat_map (named_where marks) ns) (λ q. ap not (owned-others c marks ns q h))
+    ∙ ap (λ (qs : List ℕ). filter (λ q. not (is_owned marks (others c ns) q)) qs) (named-others c marks ns h))
 
 -- ---- boxes that differ in those of one number
 
@@ -85,12 +85,13 @@ untouched c b ns ms e h =
     let gone-ms : holds c (reached marks (others c ms)) ≡ false = subst (λ (os : List Node). holds c (reached marks os) ≡ false) (sym e) gone in
     let same-ns = reached-others c ns marks gone in
     let same-ms = reached-others c ms marks gone-ms in
-    let same : reached marks ms ≡ reached marks ns = same-ms ∙ ap (λ (os : List Node). reached marks os) e ∙ sym same-ns in
-    (same,
-     ap (λ (rs : List ℕ). free_among rs ms) same
-     ∙ among-others c (reached marks ns) ms h
-     ∙ ap (λ (os : List Node). free_among (reached marks ns) os) e
-     ∙ sym (among-others c (reached marks ns) ns h))
+    let same : reached marks ms ≡ reached marks ns = same-ms ∙ ap (λ (os : List Node). reached marks os) e ∙ sym same-ns in (
+      same,
+      ap (λ (rs : List ℕ). free_among rs ms) same
+          ∙ among-others c (reached marks ns) ms h
+          ∙ ap (λ (os : List Node). free_among (reached marks ns) os) e
+          ∙ sym (among-others c (reached marks ns) ns h),
+    )
 
 -- ---- edits that leave all others
 
@@ -190,5 +191,5 @@ free-kept p ns b h =
     let marks = reached (b ∷ []) ns in
     ap (λ (ms : List ℕ). free_among ms (filter p ns)) (reached-kept p ns (b ∷ []) h)
     ∙ ap (put_each []) (
-      filter-alike (λ q. not (is_owned marks (filter p ns) q)) (λ q. not (is_owned marks ns q)) (flat_map (named_where marks) (filter p ns)) (λ q. ap not (owned-kept p marks ns q h))
-      ∙ ap (λ (qs : List ℕ). filter (λ q. not (is_owned marks ns q)) qs) (named-kept p marks ns h))
+    filter-alike (λ q. not (is_owned marks (filter p ns) q)) (λ q. not (is_owned marks ns q)) (flat_map (named_where marks) (filter p ns)) (λ q. ap not (owned-kept p marks ns q h))
+    ∙ ap (λ (qs : List ℕ). filter (λ q. not (is_owned marks ns q)) qs) (named-kept p marks ns h))

@@ -1,8 +1,8 @@
 -- The slots of boxes: a box's number is its slot.
-use Rattle.std.specs.Prelude.{ℕ, ◌≡◌, ◌<◌, ◌+◌, nat_lt, if◌then◌else◌, Bool, true, false, List, [], ◌∷◌, Option, Some, None, length, slice_index_or}
-use Rattle.std.specs.List.{list_any}
-use Rattle.qgm_core.specs.Boxes.{numbers, overs_in}
-use Rattle.qgm_core.specs.Free.{free_in, reached}
+use Rattle.std.specs.Prelude.{ℕ, ◌≡◌, ◌<◌, ◌+◌, ◌&&◌, nat_lt, if◌then◌else◌, Bool, true, false, List, [], ◌∷◌, Option, Some, None, length, slice_index_or}
+use Rattle.std.specs.List.{list_all, list_any}
+use Rattle.qgm_core.specs.Boxes.{numbers, overs_in, owns}
+use Rattle.qgm_core.specs.Free.{free_in, named_by, reached}
 use Rattle.qgm_core.specs.Numbered.{Numbered}
 use Rattle.list_laws.specs.Lists.{holds, times}
 use Rattle.qgm_core.specs.declared.node.Node.{Node}
@@ -61,10 +61,6 @@ EachMarked cs boxes t u = (u.uses ≡ t.uses) × (u.vacant ≡ t.vacant) × (len
 abbrev pub Recounted : List Node → SlotTable → SlotTable → Type 0
 Recounted boxes t u = (u.vacant ≡ t.vacant) × (u.lists ≡ t.lists) × CountsUses u.uses boxes
 
--- all lists are stale
-abbrev pub AllStale : SlotTable → SlotTable → Type 0
-AllStale t u = (u.uses ≡ t.uses) × (u.vacant ≡ t.vacant) × (length u.lists ≡ length t.lists) × ((b : ℕ) → kept b u ≡ None)
-
 -- so many slots, with no list
 abbrev pub Cleared : ℕ → SlotTable → Type 0
 Cleared m t = (t.vacant ≡ []) × (length t.lists ≡ m) × ((b : ℕ) → kept b t ≡ None)
@@ -79,6 +75,16 @@ is_stale (Some qs) = false
 abbrev pub stale_in : SlotTable → List Node → ℕ
 stale_in t [] = 0
 stale_in t (n ∷ ns) = (if is_stale (kept n.id t) then 1 else 0) + stale_in t ns
+
+-- an empty list is kept
+abbrev pub keeps_none : Option (List ℕ) → Bool
+keeps_none None = false
+keeps_none (Some []) = true
+keeps_none (Some (q ∷ qs)) = false
+
+-- a box ranges over marked boxes of which an empty list is kept, and names its own quantifiers alone
+abbrev pub is_enclosed : SlotTable → List ℕ → Node → Bool
+is_enclosed t marks n = list_all (λ r. holds r.over marks && keeps_none (kept r.over t)) n.quants && list_all (λ q. owns q n) (named_by n)
 
 -- the list that is kept, else this one
 abbrev pub list_or : List ℕ → Option (List ℕ) → List ℕ

@@ -590,7 +590,7 @@ impl Graph {
         ensures graph { self.new ≡ edits.drop_column b k self.old }
         ensures kept { HasAll self.old self.new }
     {
-        self.slots.mark_all();
+        self.slots.mark(&self.nodes, b);
         let i = box_place(&self.nodes, b);
         self.nodes[i].parts.head.remove(k);
         shift_over(&mut self.nodes, b, k);

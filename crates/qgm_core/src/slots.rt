@@ -1,16 +1,18 @@
 // The slots of boxes: a box's number is its slot.
-ghost use Rattle.std.specs.Prelude.{◌≡◌, ◌==◌, false, if◌then◌else◌, ◌<◌, ◌≤◌, ◌+◌, ◌++◌, ◌∷◌, [], ℕ, List, Some, None, length, map, filter, not, option_map, replicate, slice_get, slice_index_or, OnOk, OnErr, IfOk};
-ghost use Rattle.qgm_core.specs.Boxes.{ids_in, numbers, overs_in};
-ghost use Rattle.qgm_core.specs.Free.{free_in};
+ghost use Rattle.std.specs.Prelude.{◌≡◌, ◌==◌, ◌&&◌, false, true, if◌then◌else◌, ◌<◌, ◌≤◌, ◌+◌, ◌++◌, ◌∷◌, [], ℕ, List, Some, None, length, map, filter, not, option_map, replicate, slice_get, slice_index_or, OnOk, OnErr, IfOk};
+ghost use Rattle.std.specs.List.{list_all};
+ghost use Rattle.qgm_core.specs.Boxes.{ids_in, numbers, overs_in, owns};
+ghost use Rattle.qgm_core.specs.Free.{free_in, named_by};
 ghost use Rattle.qgm_core.specs.Numbered.{Under};
 ghost use Rattle.qgm_core.specs.Slots as spec;
 ghost use Rattle.list_laws.specs.Lists.{EachOnce, holds, times};
 
 use crate::flags::{drop_flagged, flag_reaching, flag_unmarked, spread};
-use crate::free::free_in;
+use crate::free::{add_names_of_node, free_in};
 use crate::kinds::BoxId;
 use crate::marks::Marks;
 use crate::node::Node;
+use crate::owned::{OwnedQuant, has_range};
 use crate::uses::{add_use, drop_use, recount, uses_in};
 use qgm_terms::QuantId;
 use shared_types::OutOfMemory;
@@ -77,12 +79,13 @@ impl Slots {
         })
     }
 
-    /// The same slots, without lists.
+    /// A copy.
     pub fn copy(&self, alloc: Global) -> Result<Slots, OutOfMemory>
-        ensures { IfOk result (λ s. spec.AllStale self.now s) }
+        ensures { IfOk result (λ s. s ≡ self.now) }
     {
         let n = self.lists.len();
         let uses = Vec::from_slice(alloc, &self.uses)?;
+        let lists = copy_lists(alloc, &self.lists)?;
         let mut flags = Vec::new(alloc);
         flags.resize(n, false)?;
         let mut vacant = Vec::new(alloc);
@@ -90,7 +93,7 @@ impl Slots {
         vacant.extend_from_slice(&self.vacant)?;
         Ok(Slots {
             uses,
-            lists: no_lists(alloc, n)?,
+            lists,
             flags,
             vacant,
         })
@@ -170,16 +173,41 @@ impl Slots {
         drop_flagged(&mut self.lists, &self.flags);
     }
 
-    /// Drops all lists. It takes no memory.
-    pub fn mark_all(&mut self)
-        ensures { spec.AllStale self.old self.new }
+    // Whether an empty list of a box is kept.
+    fn keeps_none(&self, b: BoxId) -> bool
+        ensures { result ≡ spec.keeps_none (spec.kept b self.now) }
     {
-        self.flags.fill(true);
-        drop_flagged(&mut self.lists, &self.flags);
+        match self.kept(b) {
+            Some(list) => list.as_slice().is_empty(),
+            None => false,
+        }
     }
 
-    /// Computes the stale lists of these boxes, by rank, and adds a step for each that is computed. Where
-    /// there is no memory, those that were computed stay.
+    // Whether quantifiers range over marked boxes of which an empty list is kept.
+    fn keep_none(&self, ranges: &[OwnedQuant], marks: &Marks) -> bool
+        ensures { result ≡ list_all (λ r. holds r.over marks.now && spec.keeps_none (spec.kept r.over self.now)) ranges.now }
+    {
+        for r in ranges {
+            if !marks.has(r.over) || !self.keeps_none(r.over) {
+                return false;
+            }
+        }
+        true
+    }
+
+    // Whether a box without a list ranges over marked boxes of which an empty list is kept, and names its
+    // own quantifiers alone.
+    fn is_enclosed(&self, alloc: Global, node: &Node, marks: &Marks) -> Result<bool, OutOfMemory>
+        ensures { IfOk result (λ e. e ≡ true → spec.is_enclosed self.now marks.now node.now ≡ true) }
+    {
+        if self.kept(node.id).is_some() || !self.keep_none(node.quants.as_slice(), marks) {
+            return Ok(false);
+        }
+        names_own(alloc, node)
+    }
+
+    /// Computes the stale lists of these boxes, by rank from the last, and adds a step for each that is
+    /// computed. Where there is no memory, those that were computed stay.
     pub fn refresh<L: Ledger>(
         &mut self,
         alloc: Global,
@@ -195,21 +223,29 @@ impl Slots {
         ensures exact { OnOk result (steps.new ≡ steps.old + spec.stale_in self.old nodes.now) }
         ensures counted { steps.new + spec.stale_in self.new nodes.now ≡ steps.old + spec.stale_in self.old nodes.now }
     {
-        for node in nodes {
-            self.refresh_box(alloc, nodes, node.id, steps)?;
+        let mut behind = Marks::new(alloc);
+        let mut i = nodes.len();
+        'boxes: while i > 0 {
+            i -= 1;
+            let node = &nodes[i];
+            let closed = self.is_enclosed(alloc, node, &behind)?;
+            behind.push(node.id)?;
+            self.refresh_box(alloc, nodes, node.id, closed, steps)?;
         }
         Ok(())
     }
 
-    // Computes the list of a box, if it is stale.
+    // Computes the list of a box, if it is stale; an empty one where nothing is known to be free.
     fn refresh_box<L: Ledger>(
         &mut self,
         alloc: Global,
         nodes: &[Node],
         b: BoxId,
+        closed: bool,
         steps: &mut Steps<L>,
     ) -> Result<(), OutOfMemory>
-        requires { b < length self.old.lists }
+        requires within { b < length self.old.lists }
+        requires closed { closed ≡ true → free_in nodes.now b ≡ [] }
         ensures rest { spec.Refreshed self.old self.new }
         ensures others { (x : ℕ) → (b == x) ≡ false → spec.kept x self.new ≡ spec.kept x self.old }
         ensures ok { OnOk result (spec.kept b self.new ≡ Some (spec.list_or (free_in nodes.now b) (spec.kept b self.old))) }
@@ -220,7 +256,11 @@ impl Slots {
         if self.lists[b].is_some() {
             return Ok(());
         }
-        let qs = free_in(alloc, nodes, b)?;
+        let qs = if closed {
+            Vec::new(alloc)
+        } else {
+            free_in(alloc, nodes, b)?
+        };
         self.lists[b] = Some(Items::from_vec(qs));
         steps.tick();
         Ok(())
@@ -286,6 +326,51 @@ impl Slots {
             }
         }
     }
+}
+
+// Whether a box names its own quantifiers alone.
+fn names_own(alloc: Global, node: &Node) -> Result<bool, OutOfMemory>
+    ensures { IfOk result (λ o. o ≡ list_all (λ q. owns q node.now) (named_by node.now)) }
+{
+    let mut names = Vec::new(alloc);
+    add_names_of_node(node, &mut names)?;
+    for q in &names {
+        if !has_range(node.quants.as_slice(), *q) {
+            return Ok(false);
+        }
+    }
+    Ok(true)
+}
+
+// A copy of a list, if it is kept.
+fn copy_list(
+    alloc: Global,
+    list: &Option<Items<QuantId>>,
+) -> Result<Option<Items<QuantId>>, OutOfMemory>
+    ensures { IfOk result (λ o. o ≡ list.now) }
+{
+    match list {
+        Some(qs) => match Items::from_slice(alloc, qs.as_slice()) {
+            Ok(copied) => Ok(Some(copied)),
+            Err(_) => Err(OutOfMemory),
+        },
+        None => Ok(None),
+    }
+}
+
+// Copies of lists.
+fn copy_lists(
+    alloc: Global,
+    lists: &[Option<Items<QuantId>>],
+) -> Result<Vec<Option<Items<QuantId>>>, OutOfMemory>
+    ensures { IfOk result (λ all. all.items ≡ lists.now) }
+{
+    let mut all = Vec::with_capacity(alloc, lists.len())?;
+    for list in lists {
+        let copied = copy_list(alloc, list)?;
+        all.push(copied)?;
+    }
+    Ok(all)
 }
 
 // So many boxes without list.

@@ -34,11 +34,7 @@ pub fn step<T: Rules>(
 }
 
 // Computes what is free in boxes, where the graph doesn't keep it.
-fn refresh<L: Ledger>(
-    alloc: Global,
-    graph: &mut Graph,
-    blank: Blank,
-) -> Result<(), OutOfMemory>
+fn refresh<L: Ledger>(alloc: Global, graph: &mut Graph, blank: Blank) -> Result<(), OutOfMemory>
     requires name { blank.name ≡ L.name }
     requires parts { blank.parts ≡ L.parts }
     requires some { 0 < blank.parts }

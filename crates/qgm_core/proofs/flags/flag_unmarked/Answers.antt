@@ -37,13 +37,13 @@ loop-node-preserved c =
       | then-not-has w ↦ record {
         long = rw w.flags-is (simp length-set long);
         flags = λ x. (
-          let t : p n ≡ true = grind (arith, common_steps) in
-          rw w.flags-is (flag-put c.loop-node.flags.items n.id old (omega (arith, k, long)) c.loop-node.invariant.flags x ∙ ap (λ (b : Bool). holds x (cond b (n.id ∷ old) old)) (sym t) ∙ sym (more x)));
+            let t : p n ≡ true = grind (arith, common_steps) in
+            rw w.flags-is (flag-put c.loop-node.flags.items n.id old (omega (arith, k, long)) c.loop-node.invariant.flags x ∙ ap (λ (b : Bool). holds x (cond b (n.id ∷ old) old)) (sym t) ∙ sym (more x)));
       }
       | else-not-has w ↦ record {
         long = rw w.flags-is long;
         flags = λ x. (
-          let t : p n ≡ false = grind (arith, common_steps) in
-          rw w.flags-is (c.loop-node.invariant.flags x ∙ ap (λ (b : Bool). holds x (cond b (n.id ∷ old) old)) (sym t) ∙ sym (more x)));
+            let t : p n ≡ false = grind (arith, common_steps) in
+            rw w.flags-is (c.loop-node.invariant.flags x ∙ ap (λ (b : Bool). holds x (cond b (n.id ∷ old) old)) (sym t) ∙ sym (more x)));
       }
     ]

@@ -28,8 +28,8 @@ loop-range-preserved c =
     record {
       long = omega (arith, same, long);
       counted = λ x k. (
-        let now = c.loop-range.invariant.counted x k in
-        let next = range-next x rs j none c.loop-range-test.true in
-        let one = c.add_use.ensures.counted x (omega (arith, k, long)) in
-        omega (arith, now, next, one));
+          let now = c.loop-range.invariant.counted x k in
+          let next = range-next x rs j none c.loop-range-test.true in
+          let one = c.add_use.ensures.counted x (omega (arith, k, long)) in
+          omega (arith, now, next, one));
     }

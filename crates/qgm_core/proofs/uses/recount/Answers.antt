@@ -33,9 +33,9 @@ loop-node-preserved c =
     record {
       long = omega (arith, kept, long);
       counted = λ x k. (
-        let step = uses-step x ns i n at in
-        let own : times x (map (λ r. r.over) c.as_slice.result.now) ≡ times x (overs_of n) = ap (λ (rs : List OwnedQuant). times x (map (λ r. r.over) rs)) c.as_slice.ensures in
-        let now = c.loop-node.invariant.counted x k in
-        let new = c.count_each.ensures.counted x (omega (arith, k, long)) in
-        omega (arith, step, own, now, new));
+          let step = uses-step x ns i n at in
+          let own : times x (map (λ r. r.over) c.as_slice.result.now) ≡ times x (overs_of n) = ap (λ (rs : List OwnedQuant). times x (map (λ r. r.over) rs)) c.as_slice.ensures in
+          let now = c.loop-node.invariant.counted x k in
+          let new = c.count_each.ensures.counted x (omega (arith, k, long)) in
+          omega (arith, step, own, now, new));
     }

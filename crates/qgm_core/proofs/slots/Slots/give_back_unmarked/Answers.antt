@@ -18,8 +18,8 @@ give_back-requires c =
     let given = numbers (filter p (take i ns)) in
     let lists : length c.loop-node.self.lists ≡ length c.args.self.now.lists = ap (λ (ls : List (Option (List ℕ))). length ls) c.loop-node.invariant.lists in
     let k = room c.loop-node.self.vacant n.id (length c.args.self.now.lists) (λ x. (
-      let e : times x c.loop-node.self.vacant ≡ times x c.args.self.now.vacant + times x given = ap (times x) c.loop-node.invariant.vacant ∙ times-append x c.args.self.now.vacant given in
-      let g = given-back p x ns i n at in
-      let o = c.requires x in
-      omega (arith, e, g, o))) in
+    let e : times x c.loop-node.self.vacant ≡ times x c.args.self.now.vacant + times x given = ap (times x) c.loop-node.invariant.vacant ∙ times-append x c.args.self.now.vacant given in
+    let g = given-back p x ns i n at in
+    let o = c.requires x in
+    omega (arith, e, g, o))) in
     omega (arith, k, lists)

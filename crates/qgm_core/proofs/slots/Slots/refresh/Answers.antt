@@ -1,45 +1,68 @@
-use Rattle.std.proofs.Common.{◌≡◌, ◌+◌, ◌∙◌, ap, sym, ℕ, Some, length, slice_get, take, add-one, refl, arith}
+use Rattle.std.proofs.Common.{◌≡◌, ◌+◌, ◌-◌, ◌∙◌, ◌∷◌, ap, sym, subst, ℕ, suc, List, Some, drop, length, slice_get, arith, refl, true}
+use Rattle.list_laws.specs.Lists.{holds}
+use Rattle.qgm_core.specs.Boxes.{numbers}
 use Rattle.qgm_core.specs.Slots.{stale_in}
 use Rattle.qgm_core.specs.declared.node.Node.{Node}
 use Rattle.qgm_core.proofs.Counted.{at-get}
+use Rattle.qgm_core.proofs.Enclosed.{behind-more, drop-back, enclosed}
 use Rattle.qgm_core.proofs.Flagged.{under-at}
-use Rattle.qgm_core.proofs.Refreshed.{at-held, refreshed-then, right-one, stale, stale-fewer, stale-more, stale-one}
+use Rattle.qgm_core.proofs.Refreshed.{at-held, refreshed-then, right-one, stale, stale-fewer, stale-one}
 use Rattle.qgm_core.proofs.slots.Slots.refresh.Goals as goal
 
-pub refresh_box-requires : goal.refresh_box-requires
-refresh_box-requires g c =
+pub refresh_box-requires-clause-within : goal.refresh_box-requires-clause-within
+refresh_box-requires-clause-within g c =
     let ns = c.args.nodes.now in
-    let i = c.loop-node.node-index in
-    let n = c.node-item.result in
-    let l = c.loop-node-test.true in
-    let at : slice_get ns i ≡ Some n = at-get ns i n (omega (arith, l)) ∙ ap (λ (n : Node). Some n) (sym c.node-item.is) in
-    let long = c.loop-node.invariant.rest.2 in
-    let k = under-at (length c.args.self.now.lists) ns i n c.requires.numbers at in
+    let i = c.boxes.i in
+    let n = c.index-nodes-i.result in
+    let l = c.boxes-test.true in
+    let w = c.boxes.invariant.within in
+    let at : slice_get ns (i - 1) ≡ Some n = at-get ns (i - 1) n (omega (arith, l, w)) ∙ ap (λ (n : Node). Some n) (sym c.index-nodes-i.is) in
+    let long = c.boxes.invariant.rest.2 in
+    let k = under-at (length c.args.self.now.lists) ns (i - 1) n c.requires.numbers at in
     omega (arith, k, long)
 
-pub loop-node-preserved : goal.loop-node-preserved
-loop-node-preserved g c =
+pub refresh_box-requires-clause-closed : goal.refresh_box-requires-clause-closed
+refresh_box-requires-clause-closed g c = λ h.
     let ns = c.args.nodes.now in
-    let i = c.loop-node.node-index in
-    let n = c.node-item.result in
-    let t = c.loop-node.self in
+    let i = c.boxes.i in
+    let n = c.index-nodes-i.result in
+    let l = c.boxes-test.true in
+    let w = c.boxes.invariant.within in
+    let at : slice_get ns (i - 1) ≡ Some n = at-get ns (i - 1) n (omega (arith, l, w)) ∙ ap (λ (n : Node). Some n) (sym c.index-nodes-i.is) in
+    let back : i ≡ suc (i - 1) = omega (arith, l) in
+    enclosed c.boxes.self ns (i - 1) n c.boxes.behind at c.requires.once c.boxes.invariant.right
+    (λ x t. subst (λ (k : ℕ). holds x (numbers (drop k ns)) ≡ true) back (c.boxes.invariant.behind x t))
+    (c.in_ok-closed.ensures h)
+
+pub boxes-preserved : goal.boxes-preserved
+boxes-preserved g c =
+    let ns = c.args.nodes.now in
+    let i = c.boxes.i in
+    let n = c.index-nodes-i.result in
+    let l = c.boxes-test.true in
+    let w = c.boxes.invariant.within in
+    let at : slice_get ns (i - 1) ≡ Some n = at-get ns (i - 1) n (omega (arith, l, w)) ∙ ap (λ (n : Node). Some n) (sym c.index-nodes-i.is) in
+    let t = c.boxes.self in
     let u = c.refresh_box.new.self in
-    let l = c.loop-node-test.true in
-    let at : slice_get ns i ≡ Some n = at-get ns i n (omega (arith, l)) ∙ ap (λ (n : Node). Some n) (sym c.node-item.is) in
     let done = c.in_ok-refresh_box.ensures.ok in
     let rest = c.refresh_box.ensures.rest in
+    let more : drop (i - 1) ns ≡ n ∷ drop i ns = drop-back ns i n l at in
     record {
-      rest = refreshed-then c.args.self.now t u c.loop-node.invariant.rest rest;
-      right = right-one n.id t u c.refresh_box.ensures.others ns done c.loop-node.invariant.right;
+      within = omega (arith, l, w);
+      rest = refreshed-then c.args.self.now t u c.boxes.invariant.rest rest;
+      right = right-one n.id t u c.refresh_box.ensures.others ns done c.boxes.invariant.right;
       fresh = (
-        let e : stale_in u (take (i + 1) ns) ≡ stale_in u (take i ns) + stale n.id u = ap (λ (k : ℕ). stale_in u (take k ns)) (add-one i) ∙ stale-more u ns i n at in
-        let z : stale n.id u ≡ 0 = rw done refl in
-        let f = stale-fewer t u rest (take i ns) in
-        let h = c.loop-node.invariant.fresh in
-        omega (arith, e, z, f, h));
+          let e : stale_in u (drop (i - 1) ns) ≡ stale n.id u + stale_in u (drop i ns) = ap (λ (zs : List Node). stale_in u zs) more in
+          let z : stale n.id u ≡ 0 = rw done refl in
+          let f = stale-fewer t u rest (drop i ns) in
+          let h = c.boxes.invariant.fresh in
+          omega (arith, e, z, f, h));
       counted = (
-        let one = stale-one n.id t u c.refresh_box.ensures.others _ done ns c.requires.once (at-held ns i n at) in
-        let s = c.in_ok-refresh_box.ensures.steps_ok in
-        let h = c.loop-node.invariant.counted in
-        omega (arith, one, s, h));
+          let one = stale-one n.id t u c.refresh_box.ensures.others _ done ns c.requires.once (at-held ns (i - 1) n at) in
+          let s = c.in_ok-refresh_box.ensures.steps_ok in
+          let h = c.boxes.invariant.counted in
+          omega (arith, one, s, h));
+      behind = λ x t.
+          subst (λ (zs : List Node). holds x (numbers zs) ≡ true) (sym more)
+          (behind-more x n.id c.boxes.behind (numbers (drop i ns)) c.boxes.invariant.behind (subst (λ (ms : List ℕ). holds x ms ≡ true) c.in_ok-push.ensures t));
     }
