@@ -3,9 +3,10 @@ ghost use Rattle.std.specs.Prelude.{◌≡◌, ◌||◌, [], true, not, IfOk, Is
 ghost use Rattle.std.specs.List.Sorted.{IsStrictlyIncreasing};
 ghost use Rattle.csv_tables.specs.Differ as spec;
 ghost use Rattle.csv_tables.specs.KeyCells.{contents_in, is_null_cell, key_cells, keys_in};
+ghost use Rattle.row_bag.specs.RowRefs.{lent};
 
 use crate::seen::ReadRecord;
-use row_bag::Row;
+use row_bag::{Bag, RowRef};
 use shared_types::OutOfMemory;
 use sql_catalog::KeyDescriptor;
 use sql_value::Cell;
@@ -32,8 +33,8 @@ fn counts(primary: bool, cell: &Cell) -> bool
 }
 
 // The hash of the cells of a key in a row, where they count.
-fn hash_of(key: &KeyDescriptor, row: &Row) -> Option<u64>
-    ensures { result ≡ option_map spec.hash_of (key_cells key.now (contents_in row.now)) }
+fn hash_of(key: &KeyDescriptor, row: RowRef<'_>) -> Option<u64>
+    ensures { result ≡ option_map spec.hash_of (key_cells key.now (contents_in (lent row.entry))) }
 {
     let places = key.places.as_slice();
     let mut hasher = FoldHasher::default();
@@ -50,12 +51,12 @@ fn hash_of(key: &KeyDescriptor, row: &Row) -> Option<u64>
 }
 
 // The hashes of the cells of a key in the rows where they count, in the rows' order.
-fn hashes(alloc: Global, key: &KeyDescriptor, rows: &[Row]) -> Result<Vec<u64>, OutOfMemory>
+fn hashes(alloc: Global, key: &KeyDescriptor, rows: &Bag) -> Result<Vec<u64>, OutOfMemory>
     ensures { IfOk result (λ v. v.items ≡ map spec.hash_of (keys_in key.now rows.now)) }
 {
     let mut hashes = Vec::with_capacity(alloc, rows.len())?;
     for i in 0..rows.len() {
-        if let Some(hash) = hash_of(key, &rows[i]) {
+        if let Some(hash) = hash_of(key, rows.at(i)) {
             hashes.push(hash)?;
         }
     }
@@ -75,7 +76,7 @@ fn rise(numbers: &[u64]) -> bool
 }
 
 // Whether the hashes of a key's cells differ, so that the rows differ in the key.
-fn rows_differ(alloc: Global, key: &KeyDescriptor, rows: &[Row]) -> Result<bool, OutOfMemory>
+fn rows_differ(alloc: Global, key: &KeyDescriptor, rows: &Bag) -> Result<bool, OutOfMemory>
     ensures { IfOk result (λ b. b ≡ true → spec.rows_differ key.now [] rows.now ≡ true) }
 {
     let mut hashes = hashes(alloc, key, rows)?;
@@ -85,7 +86,7 @@ fn rows_differ(alloc: Global, key: &KeyDescriptor, rows: &[Row]) -> Result<bool,
 
 /// Whether the rows differ in each key, as far as hashes tell: where two rows' cells of a key have
 /// one hash, it is false.
-pub fn keys_differ(alloc: Global, keys: &[KeyDescriptor], rows: &[Row]) -> Result<bool, OutOfMemory>
+pub fn keys_differ(alloc: Global, keys: &[KeyDescriptor], rows: &Bag) -> Result<bool, OutOfMemory>
     ensures { IfOk result (λ b. b ≡ true → spec.keys_differ keys.now rows.now ≡ true) }
 {
     for key in keys {

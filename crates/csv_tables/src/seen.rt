@@ -4,10 +4,11 @@ ghost use Rattle.std.specs.List.{list_any};
 ghost use Rattle.csv_tables.specs.declared.content.Content.{Content};
 ghost use Rattle.csv_tables.specs.KeyCells.{cells_at, contents_in, held, if_counted, key_cells};
 ghost use Rattle.csv_tables.specs.Seen as spec;
+ghost use Rattle.row_bag.specs.RowRefs.{lent};
 
 use crate::content::Content;
 use crate::key_cells::{KeyCells, SeenCells};
-use row_bag::Row;
+use row_bag::RowRef;
 use shared_types::OutOfMemory;
 use sql_catalog::KeyDescriptor;
 use sql_value::Cell;
@@ -42,11 +43,11 @@ impl<'a> ReadRecord for &'a [Content] {
     }
 }
 
-impl ReadRecord for Row {
-    ghost contents = { contents_in };
+impl<'a> ReadRecord for RowRef<'a> {
+    ghost contents = { λ r. contents_in (lent r) };
 
     fn held(&self, place: usize) -> Option<&Cell> {
-        self.cells.as_slice().get(place)
+        self.cells.get(place)
     }
 }
 

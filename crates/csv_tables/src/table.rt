@@ -123,7 +123,7 @@ fn has_refused_null(columns: &[ColumnDescriptor], contents: &[Content]) -> bool
 fn repeats_key(
     alloc: Global,
     table: &TableDescriptor,
-    before: &[Row],
+    before: &Bag,
     seen: &mut Vec<SeenKey>,
     contents: &[Content],
 ) -> Result<bool, OutOfMemory>
@@ -140,7 +140,7 @@ fn repeats_key(
 fn broken_by(
     alloc: Global,
     table: &TableDescriptor,
-    before: &[Row],
+    before: &Bag,
     seen: &mut Vec<SeenKey>,
     contents: &[Content],
 ) -> Result<Option<Rule>, OutOfMemory>
@@ -180,7 +180,7 @@ fn refusal(before: usize, rule: Rule) -> TableRefusal
 fn row_after(
     alloc: Global,
     table: &TableDescriptor,
-    before: &[Row],
+    before: &Bag,
     seen: &mut Vec<SeenKey>,
     fields: &ByteRecord,
 ) -> Result<Row, TableRefusal>
@@ -220,7 +220,7 @@ fn take_rows(
 {
     let mut seen = Vec::new(alloc);
     while records.next(fields)? {
-        match row_after(alloc, keyless, rows.rows(), &mut seen, fields) {
+        match row_after(alloc, keyless, &*rows, &mut seen, fields) {
             Ok(row) => rows.push(row)?,
             Err(TableRefusal::Broken { .. }) => return Ok(true),
             Err(TableRefusal::Memory) => return Err(OutOfMemory),
@@ -234,7 +234,7 @@ fn take_rows(
 fn seen_after(
     alloc: Global,
     keys: &[KeyDescriptor],
-    rows: &[Row],
+    rows: &Bag,
 ) -> Result<Vec<SeenKey>, TableRefusal>
     requires { length rows.now ≤ 1000000 }
     ensures seen { IfOk result (λ v. checked.keys_checked keys.now [] rows.now ≡ Ok v.items) }
@@ -242,7 +242,7 @@ fn seen_after(
 {
     let mut seen = nothing_seen(alloc, keys, rows.len())?;
     for i in 0..rows.len() {
-        if repeats(alloc, &mut seen, &rows[i])? {
+        if repeats(alloc, &mut seen, &rows.at(i))? {
             return Err(refusal(i, Rule::DuplicateKey));
         }
     }
@@ -262,10 +262,10 @@ fn rows(alloc: Global, table: TableDescriptor, records: &mut Records) -> Result<
     let mut fields = ByteRecord::new(alloc);
     let mut rows = Bag::new(alloc);
     let stopped = take_rows(alloc, &keyless, records, &mut fields, &mut rows)?;
-    if !stopped && keys_differ(alloc, keys.as_slice(), rows.rows())? {
+    if !stopped && keys_differ(alloc, keys.as_slice(), &rows)? {
         return Ok(rows);
     }
-    let mut seen = seen_after(alloc, keys.as_slice(), rows.rows())?;
+    let mut seen = seen_after(alloc, keys.as_slice(), &rows)?;
     if !stopped {
         return Ok(rows);
     }
@@ -273,7 +273,7 @@ fn rows(alloc: Global, table: TableDescriptor, records: &mut Records) -> Result<
         columns: keyless.columns,
         keys,
     };
-    match row_after(alloc, &table, rows.rows(), &mut seen, &fields) {
+    match row_after(alloc, &table, &rows, &mut seen, &fields) {
         Ok(_) => unreachable!(),
         Err(refusal) => Err(refusal),
     }

@@ -130,8 +130,8 @@ pub fn write_rows(alloc: Global, names: &OutNames, bag: &Bag) -> Result<Vec<u8>,
     if writer.write_byte_record(&fields).is_err() {
         return Err(OutOfMemory);
     }
-    for row in bag.rows() {
-        put_cells(alloc, row.cells.as_slice(), &mut fields)?;
+    for i in 0..bag.len() {
+        put_cells(alloc, bag.at(i).cells, &mut fields)?;
         if writer.write_byte_record(&fields).is_err() {
             return Err(OutOfMemory);
         }

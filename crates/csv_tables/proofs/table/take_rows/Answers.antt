@@ -15,8 +15,8 @@ loop-seen-init c = record {
 pub loop-seen-preserved : goal.loop-seen-preserved
 loop-seen-preserved c =
     let taken = rw c.if-branch.true at c.in_ok-next.ensures in
-    let made = rw c.rows.ensures at c.in-Ok.ensures.row in
-    let few = rw c.rows.ensures at c.in-Ok.ensures.few in
+    let made = c.in-Ok.ensures.row in
+    let few = c.in-Ok.ensures.few in
     record {
       rows = λ keys. rw c.in_ok-push-in-Ok.ensures.ok (taken-more c.args.keyless.now keys (fields_of c.next.new.row) c.next.new.self c.in-Ok.row c.loop-seen.rows _ made (rw taken at (c.loop-seen.invariant.rows keys)));
       few = rw (c.in_ok-push-in-Ok.ensures.ok, length-append c.loop-seen.rows) (omega (arith, few));
