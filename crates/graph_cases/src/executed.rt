@@ -8,7 +8,7 @@ use qgm_check::{IllFormed, check_graph};
 use qgm_core::Graph;
 use qgm_edit_laws::checked_laws;
 use qgm_wellformed::fault_laws;
-use row_bag::{Bag, Row, Tables, Verdict, sorted, verdict};
+use row_bag::{Bag, Tables, Verdict, sorted, verdict};
 use sql_value::{Cell, Kind};
 use std::alloc::Global;
 use std::marker::Brand;
@@ -125,7 +125,7 @@ pub fn rows(alloc: Global, graph: &Graph, tables: &Tables) -> Result<String, Lin
 fn text_of(alloc: Global, graph: &Graph, bag: Bag) -> Result<String, LineError> {
     let mut text = String::new(alloc);
     match verdict(bag) {
-        Verdict::Rows(bag) => add_rows(alloc, &mut text, sorted(bag, graph.order())?.rows())?,
+        Verdict::Rows(bag) => add_rows(alloc, &mut text, &sorted(bag, graph.order())?)?,
         Verdict::Error(kind) => text.push_str(error_text(kind))?,
     }
     Ok(text)
@@ -140,15 +140,15 @@ fn error_text(kind: Kind) -> &'static str {
 }
 
 // Appends rows.
-fn add_rows(alloc: Global, text: &mut String, rows: &[Row]) -> Result<(), LineError> {
-    if rows.is_empty() {
+fn add_rows(alloc: Global, text: &mut String, rows: &Bag) -> Result<(), LineError> {
+    if rows.len() == 0 {
         text.push_str("none")?;
     }
-    for row in rows {
+    for i in 0..rows.len() {
         if !text.is_empty() {
             text.push_str(" | ")?;
         }
-        add_cells(alloc, text, row.cells.as_slice())?;
+        add_cells(alloc, text, rows.at(i).cells)?;
     }
     Ok(())
 }

@@ -74,7 +74,7 @@ fn row_number(answer: &Answered) -> usize
     ensures { result ≡ row_number (held_answer answer.now) }
 {
     match &answer.verdict {
-        Verdict::Rows(bag) => bag.rows().len(),
+        Verdict::Rows(bag) => bag.len(),
         Verdict::Error(_) => 0,
     }
 }

@@ -1,4 +1,4 @@
--- Groups by a function of the rows are groups of keyed rows by their first cells, as row_bag's `groups_of` takes them.
+-- Groups by a function of the rows are groups of keyed rows by their first cells.
 use Rattle.std.proofs.Common.{ℕ, ◌≡◌, cond, Bool, true, false, List, [], ◌∷◌, ◌++◌, take, drop, length, refl, sym, ap, ◌∙◌}
 use mathlib.Core.Path.{fun_ext}
 use Rattle.row_bag.specs.Bags.{bind, unit}

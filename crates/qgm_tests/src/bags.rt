@@ -1,9 +1,9 @@
-// Bags of rows: their order, the sets made of them, and their groups.
+// Bags of rows: their order, and the sets made of them.
 use Level::{No, Yes};
 use Sample::{E, I, N, S};
 use row_bag::{
-    Bag, Operand, Row, Table, Tables, Verdict, distinct, except, groups_of, intersect, key_error,
-    row_order, sorted, union, verdict,
+    Bag, Operand, Row, Table, Tables, Verdict, distinct, except, intersect, row_order, sorted,
+    union, verdict,
 };
 use shared_types::{OutOfMemory, Text};
 use sql_value::{Cell, Kind, Level, OrderKey};
@@ -50,12 +50,7 @@ fn bag(alloc: Global, rows: Rows) -> Result<Bag, OutOfMemory> {
 }
 
 fn equal(a: &Bag, b: &Bag) -> bool {
-    let rows = b.rows();
-    a.rows().len() == rows.len()
-        && a.rows()
-            .iter()
-            .enumerate()
-            .all(|(i, row)| row_order(row, &rows[i]).is_eq())
+    a.len() == b.len() && (0..a.len()).all(|i| row_order(a.at(i), b.at(i)).is_eq())
 }
 
 // Whether a bag has these rows, which stand in their order.
@@ -195,7 +190,7 @@ fn each_tuple_once_at_its_greatest_level(rt: HostRuntime) -> Result<(), Fail> {
     let made = union(
         alloc,
         Operand::Made(bag(alloc, LEFT)?),
-        Operand::Borrowed(right.rows()),
+        Operand::Borrowed(&right),
         false,
     )?;
     assert!(rt; has(alloc, made, both)?);
@@ -210,9 +205,9 @@ fn each_tuple_as_often_as_it_is_to_stand(rt: HostRuntime) -> Result<(), Fail> {
     let rest_all: Rows = &[(&[N], Yes), (&[I(1)], Yes), (&[I(2)], Yes)];
     let (a, b) = (bag(alloc, SOUND)?, bag(alloc, RIGHT)?);
     for (all, rest) in [(false, rest), (true, rest_all)] {
-        let made = intersect(alloc, a.rows(), b.rows(), all, 1)?;
+        let made = intersect(alloc, &a, &b, all, 1)?;
         assert!(rt; has(alloc, made, common)?);
-        let made = except(alloc, a.rows(), b.rows(), all, 1)?;
+        let made = except(alloc, &a, &b, all, 1)?;
         assert!(rt; has(alloc, made, rest)?);
     }
     Ok(())
@@ -225,7 +220,7 @@ fn an_error_stands_in_every_column(rt: HostRuntime) -> Result<(), Fail> {
     let b: Rows = &[(&[N, S("x")], Level::Division)];
     let one: Rows = &[(&[E(Kind::Division), E(Kind::Division)], Level::Division)];
     let (a, b) = (bag(alloc, a)?, bag(alloc, b)?);
-    let made = except(alloc, a.rows(), b.rows(), true, 2)?;
+    let made = except(alloc, &a, &b, true, 2)?;
     assert!(rt; has(alloc, made, one)?);
     Ok(())
 }
@@ -239,51 +234,6 @@ const ROWS: Rows = &[
     (&[I(1), S("f")], No),
 ];
 
-// The rows of the groups by the first cell; 2 is the key of none, since its row isn't there.
-const GROUPS: &[Rows] = &[
-    &[(&[N, S("b")], Yes), (&[N, S("e")], Level::Overflow)],
-    &[
-        (&[I(1), S("a")], Yes),
-        (&[I(1), S("d")], Yes),
-        (&[I(1), S("f")], No),
-    ],
-];
-
-#[test]
-fn each_key_has_one_group(rt: HostRuntime) -> Result<(), Fail> {
-    let alloc = rt.alloc();
-    let groups = groups_of(alloc, bag(alloc, ROWS)?, 1)?;
-    assert_eq!(rt; groups.len(), GROUPS.len());
-    for rows in GROUPS {
-        let wanted = bag(alloc, rows)?;
-        assert!(rt; groups.iter().any(|group| equal(&group.rows, &wanted)));
-    }
-    let whole = groups_of(alloc, bag(alloc, ROWS)?, 0)?;
-    assert_eq!(rt; whole.len(), 1);
-    Ok(())
-}
-
-// Rows, so many cells of the key, and the greatest error of the grouping.
-const KEY_ERRORS: &[(Rows, usize, Option<Kind>)] = &[
-    (ROWS, 1, Some(Kind::Overflow)),
-    (&[(&[I(1), E(Kind::Overflow)], Yes)], 1, None),
-    (
-        &[(&[I(1), E(Kind::Overflow)], Yes)],
-        2,
-        Some(Kind::Overflow),
-    ),
-    (&[(&[E(Kind::Overflow)], No)], 1, None),
-];
-
-#[test]
-fn the_greatest_error_among_keys(rt: HostRuntime) -> Result<(), Fail> {
-    let alloc = rt.alloc();
-    for (rows, keys, error) in KEY_ERRORS {
-        assert_eq!(rt; key_error(&bag(alloc, rows)?, *keys), *error);
-    }
-    Ok(())
-}
-
 #[test]
 fn a_table_gives_its_rows_once(rt: HostRuntime) -> Result<(), Fail> {
     let alloc = rt.alloc();
@@ -293,20 +243,16 @@ fn a_table_gives_its_rows_once(rt: HostRuntime) -> Result<(), Fail> {
         bag: bag(alloc, ROWS)?,
     })?;
     let name = Text::from_utf8(alloc, "T")?;
+    assert!(rt; tables.find(&name).is_some_and(|rows| rows.len() == 6));
     assert!(rt;
         tables
-            .find(&name)
-            .is_some_and(|rows| rows.rows().len() == 6)
+            .take(alloc, &name)
+            .is_some_and(|rows| rows.len() == 6)
     );
     assert!(rt;
         tables
             .take(alloc, &name)
-            .is_some_and(|rows| rows.rows().len() == 6)
-    );
-    assert!(rt;
-        tables
-            .take(alloc, &name)
-            .is_some_and(|rows| rows.rows().is_empty())
+            .is_some_and(|rows| rows.len() == 0)
     );
     assert!(rt; tables.take(alloc, &Text::from_utf8(alloc, "R")?).is_none());
     Ok(())
