@@ -1,19 +1,16 @@
 -- Keys of rows.
-use Rattle.std.proofs.Common.{◌≡◌, ℕ, suc, ◌+◌, Bool, true, false, cond, ◌&&◌, ◌<◌, List, [], ◌∷◌, ◌++◌, length, map, take, All, refl, ap, ap₂, ◌∙◌, arith}
+use Rattle.std.proofs.Common.{◌≡◌, ℕ, ◌+◌, Bool, true, false, cond, ◌&&◌, List, [], ◌∷◌, ◌++◌, take, refl, ap, ap₂, ◌∙◌}
 use Rattle.sql_value.specs.declared.cell.Cell.{Cell}
 use Rattle.sql_value.specs.declared.level.Level.{Level}
 use Rattle.sql_value.specs.declared.level.Level.TheVariants.{No, Cardinality, Division, Overflow, Yes}
-use Rattle.row_bag.specs.Bags.{Agree, Alike, at_yes, bind, count, if_there, row, same_level, total, unit}
+use Rattle.row_bag.specs.Bags.{at_yes, bind, count, if_there, same_level, total, unit}
 use Rattle.row_bag.specs.Groups.{key_error, key_error_of}
 use Rattle.row_bag.specs.Matched.{often}
-use Rattle.row_bag.specs.Sets.{grouped, multiplicity, same_cells}
+use Rattle.row_bag.specs.Sets.{multiplicity, same_cells}
 use Rattle.row_bag.specs.declared.row.Row.{Row}
-use Rattle.row_bag.proofs.Agreement.{alike-bind, alike-refl, alike-same, alike-trans}
 use Rattle.row_bag.proofs.Chains.{worst_none}
-use Rattle.row_bag.proofs.Counts.{agree-from_alike, alike-from_agree}
 use Rattle.row_bag.proofs.Folds.{fold_map-append}
 use Rattle.row_bag.proofs.Levels.{least-yes}
-use Rattle.row_bag.proofs.TupleBags.{same_cells-decides}
 use Rattle.row_bag.proofs.Worst.{worst-monoid}
 use Rattle.sql_value.specs.Cells.{worst_of}
 

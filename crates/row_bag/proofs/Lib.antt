@@ -1,5 +1,6 @@
 pub mod Agreement
 pub mod Answered
+pub mod Arranging
 pub mod BagLaws
 pub mod Binds
 pub mod Chains
@@ -40,6 +41,7 @@ pub mod SortedOnce
 pub mod Standing
 pub mod Tagging
 mod Taken
+pub mod Swapping
 pub mod TupleBags
 pub mod Values
 pub mod Worst

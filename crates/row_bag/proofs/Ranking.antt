@@ -1,12 +1,15 @@
 -- Ranks keep the order of rows by keys.
-use Rattle.std.proofs.Common.{ℕ, ◌+◌, ◌<◌, ◌≡◌, ◌≢◌, min, ℤ, pos, negsuc, neg_ℤ, ◌<ℤ◌, ◌≤ℤ◌, Bool, true, false, if◌then◌else◌, List, [], ◌∷◌, get_or, length, refl, sym, ap, ap₂, ◌∙◌, arith, inl, inr}
-use Rattle.std.proofs.lemmas.Bool.{cases_Bool}
+use Rattle.std.proofs.Common.{ℕ, ◌+◌, ◌<◌, ◌≡◌, min, ℤ, pos, neg_ℤ, ◌<ℤ◌, Bool, true, false, if◌then◌else◌, All, List, [], ◌∷◌, ◌++◌, get_or, length, length-append, map, nat_eq, refl, sym, ap, ap₂, ◌∙◌, arith, inl, inr}
+use Rattle.std.proofs.Math.Seq.{get_or-append_seam}
+use Rattle.std.proofs.lemmas.Bool.{cases_eq, cases_lt}
 use Rattle.std.proofs.lemmas.Int.{clamps, ints}
 use Rattle.std.proofs.lemmas.Cmp.{int_cmp_total}
-use Rattle.std.proofs.lemmas.List.{get_or-map, length-map}
-use Rattle.std.proofs.lemmas.List.Sorted.{ranks_by}
+use Rattle.std.proofs.lemmas.List.{ext_get_or, get_or-map, get_or_append_left, get_or_default, length-map}
+use Rattle.std.proofs.lemmas.List.Sorted.{All-permutation, IsPermutation-map, ranks_by}
+use Rattle.std.proofs.lemmas.Map.Keys.{IsDistinct-IsPermutation, IsDistinct-from_apart}
+use Rattle.std.specs.List.{IsDistinct}
 use Rattle.std.specs.Cmp.{IsStrictWeakOrder, IsTotalOrder, int_cmp_is, int_ranks, nat_cmp_is, on_total, then_total}
-use Rattle.std.specs.List.Sorted.{IsSortedBy}
+use Rattle.std.specs.List.Sorted.{IsPermutation, IsSortedBy}
 use Rattle.std.specs.Cmp.Lexicographic.{slice_cmp}
 use Rattle.std.specs.Ordering.{MatchOrdering, int_cmp, is_lt, nat_cmp, ordering_reverse, ordering_then}
 use Rattle.std.specs.declared.cmp.Ordering.{Ordering}
@@ -17,10 +20,14 @@ use Rattle.sql_value.specs.declared.cell.Cell.{Cell}
 use Rattle.sql_value.specs.declared.cell.Cell.TheVariants.{Int, Text, Null, Err}
 use Rattle.sql_value.specs.declared.order_key.OrderKey.{OrderKey}
 use Rattle.row_bag.specs.Order.{cell_of, compare_by, row_less}
-use Rattle.row_bag.specs.Ranks.{AreRanks, compare_ranked, key_rank, rank, row_at, rows_at}
+use Rattle.row_bag.specs.Places.{row_at, rows_at}
+use Rattle.row_bag.specs.Ranks.{AreRanks, compare_ranked, key_rank, places_of, rank}
 use Rattle.row_bag.specs.declared.row.Row.{Row}
 use Rattle.row_bag.specs.declared.sort.Ranked.{Ranked}
+use Rattle.sql_value.specs.declared.level.Level.TheVariants.{Yes}
+use Rattle.row_bag.specs.Bags.{row}
 use Rattle.row_bag.proofs.Order.{by-total}
+use Rattle.row_bag.proofs.Swapping.{other}
 
 first-less : (s t : List ℕ) → min (get_or s 0 0) 1114111 < min (get_or t 0 0) 1114111 → slice_cmp nat_cmp s t ≡ Less
 first-less [] [] low = absurd (omega (arith, low))
@@ -94,14 +101,73 @@ as-ranked : (keys : List OrderKey) (rows : List (Row (List Cell))) (a b : Ranked
 as-ranked keys rows a b one other =
     ap₂ (λ x y. ordering_then (int_cmp x y) (compare_by keys (row_at rows a.place) (row_at rows b.place))) one other ∙ ranked-compare keys (row_at rows a.place) (row_at rows b.place)
 
+rows-ranked : (rows : List (Row (List Cell))) (ranked : List Ranked) → rows_at rows (places_of ranked) ≡ map (λ p. row_at rows p.place) ranked
+rows-ranked rows [] = refl
+rows-ranked rows (p ∷ ranked) = ap (λ t. row_at rows p.place ∷ t) (rows-ranked rows ranked)
+
 -- the rows at places that ascend
-pub places-ascend : (keys : List OrderKey) (rows : List (Row (List Cell))) (places : List Ranked) → AreRanks keys rows places → IsSortedBy (place_less keys rows) places → IsSortedBy (row_less keys) (rows_at rows places)
-places-ascend keys rows places ranks up k d low within =
-    let none : Ranked = record { rank = pos 0; place = 0 } in
-    let at = λ (p : Ranked). row_at rows p.place in
-    let size = length-map places at in
-    let here : k + 1 < length places = omega (arith, size, within) in
-    let first = get_or-map at places k none d (omega (arith, here)) in
-    let second = get_or-map at places (k + 1) none d here in
-    let same = as-ranked keys rows (get_or places (k + 1) none) (get_or places k none) (ranks (k + 1) none here) (ranks k none (omega (arith, here))) in
-    ap₂ (row_less keys) second first ∙ ap is_lt (sym same) ∙ up k none low here
+pub places-ascend : (keys : List OrderKey) (rows : List (Row (List Cell))) (ranked : List Ranked) → AreRanks keys rows ranked → IsSortedBy (place_less keys rows) ranked → IsSortedBy (row_less keys) (rows_at rows (places_of ranked))
+places-ascend keys rows ranked ranks up = rw rows-ranked ascend
+  where
+    ascend : IsSortedBy (row_less keys) (map (λ p. row_at rows p.place) ranked)
+    ascend k d low within =
+        let none : Ranked = record { rank = pos 0; place = 0 } in
+        let at = λ (p : Ranked). row_at rows p.place in
+        let size = length-map ranked at in
+        let here : k + 1 < length ranked = omega (arith, size, within) in
+        let first = get_or-map at ranked k none d (omega (arith, here)) in
+        let second = get_or-map at ranked (k + 1) none d here in
+        let same = as-ranked keys rows (get_or ranked (k + 1) none) (get_or ranked k none) (ranks (k + 1) none here) (ranks k none (omega (arith, here))) in
+        ap₂ (row_less keys) second first ∙ ap is_lt (sym same) ∙ up k none low here
+
+-- ---- the places of all rows
+
+abbrev pub AreOwn : List Ranked → Type 0
+AreOwn ranked = (k : ℕ) (d : Ranked) → k < length ranked → (get_or ranked k d).place ≡ k
+
+pub own-push : (ranked : List Ranked) (p : Ranked) → AreOwn ranked → p.place ≡ length ranked → AreOwn (ranked ++ p ∷ [])
+own-push ranked p own last k d low = elim (cases_lt k (length ranked)) [
+  | inl before ↦ ap (λ (q : Ranked). q.place) (get_or_append_left ranked (p ∷ []) d k before) ∙ own k d before
+  | inr past ↦
+      let more = length-append ranked (p ∷ []) in
+      let is : k ≡ length ranked = omega (arith, low, past, more) in
+      ap (λ (n : ℕ). (get_or (ranked ++ p ∷ []) n d).place) is ∙ ap (λ (q : Ranked). q.place) (get_or-append_seam ranked p [] d) ∙ last ∙ sym is
+]
+
+own-at : (ranked : List Ranked) (k : ℕ) → AreOwn ranked → k < length ranked → get_or (places_of ranked) k 0 ≡ k
+own-at ranked k own low = let none : Ranked = record { rank = pos 0; place = 0 } in get_or-map (λ (p : Ranked). p.place) ranked k none 0 low ∙ own k none low
+
+-- the rows at their own places
+pub own-rows : (rows : List (Row (List Cell))) (ranked : List Ranked) → AreOwn ranked → length ranked ≡ length rows → rows_at rows (places_of ranked) ≡ rows
+own-rows rows ranked own count =
+    let size = length-map ranked (λ (p : Ranked). p.place) in
+    ext_get_or (row [] Yes) (rows_at rows (places_of ranked)) rows (length-map (places_of ranked) (row_at rows) ∙ size ∙ count) (λ k low.
+    let many = length-map (places_of ranked) (row_at rows) in
+    let inside : k < length ranked = omega (arith, low, many, size) in
+    get_or-map (row_at rows) (places_of ranked) k 0 (row [] Yes) (omega (arith, low, many)) ∙ ap (row_at rows) (own-at ranked k own inside))
+
+pub own-moved : (rows : List (Row (List Cell))) (ranked moved : List Ranked) → AreOwn ranked → length ranked ≡ length rows → IsPermutation ranked moved → IsPermutation rows (rows_at rows (places_of moved))
+own-moved rows ranked moved own count permuted =
+    let changed = IsPermutation-map (row_at rows) (places_of ranked) (places_of moved) (IsPermutation-map (λ (p : Ranked). p.place) ranked moved permuted) in
+    rw (own-rows rows ranked own count) at changed
+
+turned : (x y : ℕ) → nat_eq x y ≡ nat_eq y x
+turned x y = elim (cases_eq x y) [ inl is ↦ rw is refl | inr differ ↦ other x y differ ∙ sym (other y x (λ e. differ (sym e))) ]
+
+-- places that are moved stay within, and each once
+pub own-within : (n : ℕ) (ranked moved : List Ranked) → AreOwn ranked → length ranked ≡ n → IsPermutation ranked moved → All (λ p. p < n) (places_of moved)
+own-within n ranked moved own count permuted =
+    All-permutation (λ p. p < n) (places_of ranked) (places_of moved) (IsPermutation-map (λ (p : Ranked). p.place) ranked moved permuted) (λ k d low.
+    let size = length-map ranked (λ (p : Ranked). p.place) in
+    let inside : k < length ranked = omega (arith, low, size) in
+    let is : get_or (places_of ranked) k d ≡ k = get_or_default (places_of ranked) k d 0 low ∙ own-at ranked k own inside in
+    omega (arith, is, inside, count))
+
+pub own-once : (ranked moved : List Ranked) → AreOwn ranked → IsPermutation ranked moved → IsDistinct nat_eq (places_of moved)
+own-once ranked moved own permuted =
+    IsDistinct-IsPermutation nat_eq turned (places_of ranked) (places_of moved) (IsPermutation-map (λ (p : Ranked). p.place) ranked moved permuted)
+    (IsDistinct-from_apart nat_eq (places_of ranked) (λ i j d below low.
+    let size = length-map ranked (λ (p : Ranked). p.place) in
+    let one : get_or (places_of ranked) i d ≡ i = get_or_default (places_of ranked) i d 0 (omega (arith, below, low)) ∙ own-at ranked i own (omega (arith, below, low, size)) in
+    let two : get_or (places_of ranked) j d ≡ j = get_or_default (places_of ranked) j d 0 low ∙ own-at ranked j own (omega (arith, low, size)) in
+    other (get_or (places_of ranked) i d) (get_or (places_of ranked) j d) (λ e. omega (arith, one, two, below, e))))

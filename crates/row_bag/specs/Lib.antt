@@ -16,6 +16,7 @@ pub mod Laws
 pub mod Matched
 pub mod Operands
 pub mod Order
+pub mod Places
 pub mod Ranks
 pub mod RowRefs
 pub mod Sets

@@ -6,9 +6,8 @@ use Rattle.std.specs.declared.cmp.Ordering.{Ordering}
 use Rattle.sql_value.specs.declared.cell.Cell.{Cell}
 use Rattle.sql_value.specs.declared.cell.Cell.TheVariants.{Int, Text, Null, Err}
 use Rattle.sql_value.specs.declared.order_key.OrderKey.{OrderKey}
-use Rattle.sql_value.specs.declared.level.Level.TheVariants.{Yes}
-use Rattle.row_bag.specs.Bags.{row}
 use Rattle.row_bag.specs.Order.{cell_of, compare_by}
+use Rattle.row_bag.specs.Places.{row_at}
 use Rattle.row_bag.specs.declared.row.Row.{Row}
 use Rattle.row_bag.specs.declared.sort.Ranked.{Ranked}
 
@@ -24,13 +23,9 @@ abbrev pub key_rank : List OrderKey → Row (List Cell) → ℤ
 key_rank [] r = rank (cell_of 1 r.cells)
 key_rank (key ∷ keys) r = if key.descending then neg_ℤ (rank (cell_of key.column r.cells)) else rank (cell_of key.column r.cells)
 
--- the row at a place; one of no cells past the end
-abbrev pub row_at : List (Row (List Cell)) → ℕ → Row (List Cell)
-row_at rows place = get_or rows place (row [] Yes)
-
--- the rows at places, in the order of these
-abbrev pub rows_at : List (Row (List Cell)) → List Ranked → List (Row (List Cell))
-rows_at rows places = map (λ p. row_at rows p.place) places
+-- the places
+abbrev pub places_of : List Ranked → List ℕ
+places_of ranked = map (λ p. p.place) ranked
 
 -- by ranks, and where these tie by the keys
 abbrev pub compare_ranked : List OrderKey → List (Row (List Cell)) → Ranked → Ranked → Ordering

@@ -1,6 +1,8 @@
 // The rows of a table or of a query's result.
-ghost use Rattle.std.specs.Prelude.{◌≡◌, ◌<◌, ◌++◌, ◌∷◌, [], List, IfOk, OnErr, OnOk, Some, length, slice_get, slice_set};
+ghost use Rattle.std.specs.Prelude.{◌≡◌, ◌<◌, ◌++◌, ◌∷◌, [], All, List, IfOk, OnErr, OnOk, Some, length, nat_eq, slice_get, slice_set};
+ghost use Rattle.std.specs.List.{IsDistinct};
 ghost use Rattle.row_bag.specs.Bags.{row};
+ghost use Rattle.row_bag.specs.Places.{rows_at};
 ghost use Rattle.row_bag.specs.RowRefs.{lent};
 ghost use Rattle.row_bag.specs.Verdict.{those_there};
 ghost use Rattle.row_bag.specs.declared.row.Row.{Row};
@@ -8,8 +10,10 @@ ghost use Rattle.sql_value.specs.Level.{greatest};
 ghost use Rattle.sql_value.specs.declared.cell.Cell.{Cell};
 
 use crate::answer::is_there;
+use crate::arranged::arrange;
 use crate::grid::Grid;
 use crate::row::{Row, RowRef};
+use crate::tuples::copied_row;
 use shared_types::OutOfMemory;
 use sql_value::{Level, greatest};
 use std::alloc::Global;
@@ -105,5 +109,33 @@ impl Bag {
         ensures { self.new ≡ those_there self.old }
     {
         self.mixed.retain(|row| is_there(row));
+    }
+
+    // Copies of the rows at places, in the order of these.
+    fn gathered(&self, order: &[usize]) -> Result<Bag, OutOfMemory>
+        requires { All (λ p. p < length self.now) order.now }
+        ensures { IfOk result (λ made. made ≡ rows_at self.now order.now) }
+    {
+        let alloc = self.allocator();
+        let mut made = Bag::new(alloc);
+        for place in order {
+            made.push(copied_row(alloc, self.at(*place))?)?;
+        }
+        Ok(made)
+    }
+
+    /// The rows at places, in the order of these, where each place occurs once. Even rows are moved.
+    pub(crate) fn arranged(self, order: &[usize]) -> Result<Bag, OutOfMemory>
+        requires count { length order.now ≡ length self }
+        requires within { All (λ p. p < length self) order.now }
+        requires once { IsDistinct nat_eq order.now }
+        ensures { IfOk result (λ made. made ≡ rows_at self order.now) }
+    {
+        if !self.mixed.is_empty() {
+            return self.gathered(order);
+        }
+        let Bag { mut even, mixed } = self;
+        arrange(&mut even, order)?;
+        Ok(Bag { even, mixed })
     }
 }

@@ -1,6 +1,6 @@
 // Tuples of one width, cell after cell.
-ghost use Rattle.std.specs.Prelude.{◌≡◌, ◌<◌, ◌++◌, ◌∷◌, ◌^◌, [], IfOk, IsTrue, OnErr, OnOk, Some, length, slice_get};
-ghost use Rattle.row_bag.specs.Grids.{AreWide};
+ghost use Rattle.std.specs.Prelude.{◌≡◌, ◌≤◌, ◌<◌, ◌+◌, ◌*◌, ◌++◌, ◌∷◌, ◌^◌, ℕ, [], IfOk, IsTrue, OnErr, OnOk, Some, length, slice_get};
+ghost use Rattle.row_bag.specs.Grids.{AreSwapped, AreWide, swapped};
 
 use shared_types::OutOfMemory;
 use sql_value::Cell;
@@ -19,6 +19,18 @@ fn moved(alloc: Global, tuple: Items<Cell>) -> Result<Vec<Cell>, OutOfMemory>
     }
     cells.reverse();
     Ok(cells)
+}
+
+// Puts the cells of two tuples of a width in each other's place.
+fn swap_cells(cells: &mut Vec<Cell>, width: usize, i: usize, j: usize)
+    requires first { i * width + width ≤ length cells.old.items }
+    requires second { j * width + width ≤ length cells.old.items }
+    ensures count { length cells.new.items ≡ length cells.old.items }
+    ensures swapped { AreSwapped width width i j cells.old.items cells.new.items }
+{
+    for c in 0..width {
+        cells.swap(i * width + c, j * width + c);
+    }
 }
 
 /// Tuples of one width, in one piece of memory. Contracts see it as the list of the tuples.
@@ -94,5 +106,15 @@ impl Grid {
         self.width = width;
         self.count += 1;
         Ok(())
+    }
+
+    /// Puts two tuples in each other's place.
+    pub(crate) fn swap(&mut self, i: usize, j: usize)
+        requires first { i < length self.old }
+        requires second { j < length self.old }
+        ensures count { length self.new ≡ length self.old }
+        ensures swapped { (k : ℕ) → slice_get self.new k ≡ slice_get self.old (swapped i j k) }
+    {
+        swap_cells(&mut self.cells, self.width, i, j);
     }
 }

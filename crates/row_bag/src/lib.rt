@@ -3,6 +3,7 @@
 
 mod aggregates;
 mod answer;
+mod arranged;
 mod bag;
 mod grid;
 mod groups;

@@ -1,18 +1,20 @@
 // The rows of a bag in the order of keys: their places are sorted, by ranks of the first key, and where
 // these tie by the whole order.
-ghost use Rattle.std.specs.Prelude.{◌≡◌, ◌^◌, ◌≤ℤ◌, IfOk, List, get_or, map, negsuc};
+ghost use Rattle.std.specs.Prelude.{◌≡◌, ◌<◌, ◌^◌, ◌≤ℤ◌, ℕ, All, IfOk, get_or, length, nat_eq, negsuc};
+ghost use Rattle.std.specs.List.{IsDistinct};
 ghost use Rattle.std.specs.List.Sorted.{IsPermutation, IsSortedBy};
-ghost use Rattle.std.specs.Ordering.{int_cmp, ordering_then};
-ghost use Rattle.row_bag.specs.Order.{cell_of, compare_by, row_less};
+ghost use Rattle.row_bag.specs.Order.{row_less};
+ghost use Rattle.row_bag.specs.Places.{row_at, rows_at};
 ghost use Rattle.row_bag.specs.Ranks as spec;
 ghost use Rattle.row_bag.specs.RowRefs.{lent};
 ghost use Rattle.row_bag.specs.Sorted.{sorted_rows};
+ghost use Rattle.row_bag.specs.declared.sort.Ranked.{Ranked};
 
 use crate::bag::Bag;
 use crate::row::{RowRef, cell_of, order_by};
-use crate::tuples::copied_row;
 use shared_types::OutOfMemory;
 use sql_value::{Cell, Level, OrderKey, OrderKeys};
+use std::alloc::Global;
 use std::cmp::Ordering;
 
 /// Numbers from minus this to this have ranks of their own.
@@ -57,7 +59,7 @@ struct Ranked {
 
 // The row at a place; one of no cells past the end.
 fn row_at(bag: &Bag, place: usize) -> RowRef<'_>
-    ensures { lent result ≡ spec.row_at bag.now place }
+    ensures { lent result ≡ row_at bag.now place }
 {
     if place < bag.len() {
         bag.at(place)
@@ -79,10 +81,11 @@ fn compared(bag: &Bag, keys: &[OrderKey], a: Ranked, b: Ranked) -> Ordering
     }
 }
 
-// The places of all rows, in their order.
+// The places of all rows, ascending.
 fn places(bag: &Bag, keys: &[OrderKey]) -> Result<Vec<Ranked>, OutOfMemory>
-    ensures rows { IfOk result (λ places. spec.rows_at bag.now places.items ≡ bag.now) }
-    ensures ranks { IfOk result (λ places. spec.AreRanks keys.now bag.now places.items) }
+    ensures count { IfOk result (λ ranked. length ranked.items ≡ length bag.now) }
+    ensures own { IfOk result (λ ranked. (k : ℕ) → (d : Ranked) → k < length ranked.items → (get_or ranked.items k d).place ≡ k) }
+    ensures ranks { IfOk result (λ ranked. spec.AreRanks keys.now bag.now ranked.items) }
 {
     let mut places = Vec::with_capacity(bag.allocator(), bag.len())?;
     for place in 0..bag.len() {
@@ -92,26 +95,24 @@ fn places(bag: &Bag, keys: &[OrderKey]) -> Result<Vec<Ranked>, OutOfMemory>
     Ok(places)
 }
 
-// Copies of the rows at places, in the order of these.
-fn gathered(bag: &Bag, places: &[Ranked]) -> Result<Bag, OutOfMemory>
-    ensures { IfOk result (λ made. made ≡ spec.rows_at bag.now places.now) }
+// The places, without the ranks.
+fn places_of(alloc: Global, ranked: &[Ranked]) -> Result<Vec<usize>, OutOfMemory>
+    ensures { IfOk result (λ order. order.items ≡ spec.places_of ranked.now) }
 {
-    let alloc = bag.allocator();
-    let mut made = Bag::new(alloc);
-    for ranked in places {
-        made.push(copied_row(alloc, row_at(bag, ranked.place))?)?;
-    }
-    Ok(made)
+    Ok(ranked.iter().map(|ranked| ranked.place).collect(alloc)?)
 }
 
-// The rows in the order of the keys.
-fn in_order(bag: &Bag, keys: &[OrderKey]) -> Result<Bag, OutOfMemory>
-    ensures ascending { IfOk result (λ b. IsSortedBy (row_less keys.now) b) }
-    ensures same_rows { IfOk result (λ b. IsPermutation bag.now b) }
+// The places of all rows, in the order of the keys.
+fn in_order(bag: &Bag, keys: &[OrderKey]) -> Result<Vec<usize>, OutOfMemory>
+    ensures ascending { IfOk result (λ order. IsSortedBy (row_less keys.now) (rows_at bag.now order.items)) }
+    ensures same_rows { IfOk result (λ order. IsPermutation bag.now (rows_at bag.now order.items)) }
+    ensures count { IfOk result (λ order. length order.items ≡ length bag.now) }
+    ensures within { IfOk result (λ order. All (λ p. p < length bag.now) order.items) }
+    ensures once { IfOk result (λ order. IsDistinct nat_eq order.items) }
 {
-    let mut places = places(bag, keys)?;
-    places.sort_by(|a, b| compared(bag, keys, *a, *b))?;
-    Ok(gathered(bag, &places)?)
+    let mut ranked = places(bag, keys)?;
+    ranked.sort_by(|a, b| compared(bag, keys, *a, *b))?;
+    Ok(places_of(bag.allocator(), &ranked)?)
 }
 
 /// The rows by the keys, as `order_by` compares them, and so where the keys tie in ascending
@@ -122,5 +123,6 @@ pub fn sorted(bag: Bag, keys: &OrderKeys) -> Result<Bag, OutOfMemory>
     ensures ascending { IfOk result (λ b. IsSortedBy (row_less keys.now) b) }
     ensures same_rows { IfOk result (λ b. IsPermutation bag b) }
 {
-    Ok(in_order(&bag, keys.as_slice())?)
+    let order = in_order(&bag, keys.as_slice())?;
+    Ok(bag.arranged(&order)?)
 }

@@ -1,4 +1,4 @@
-use Rattle.std.proofs.Common.{◌≡◌, ◌∙◌, ◌∷◌, [], ap, arith, cond, map, sym}
+use Rattle.std.proofs.Common.{◌≡◌, ◌∙◌, ◌∷◌, [], arith, cond, map, sym}
 use Rattle.std.proofs.lemmas.List.{map_push}
 use Rattle.row_bag.specs.RowRefs.{lent}
 use Rattle.row_bag.specs.Sets.{multiplicity, same_cells}

@@ -1,4 +1,4 @@
-use Rattle.std.proofs.Common.{◌≡◌, ◌∙◌, ◌∷◌, [], ap, arith, cond, sym}
+use Rattle.std.proofs.Common.{◌≡◌, ◌∙◌, ◌∷◌, [], arith, cond, sym}
 use Rattle.row_bag.specs.RowRefs.{lent}
 use Rattle.row_bag.specs.Sets.{multiplicity, same_cells}
 use Rattle.row_bag.proofs.Matching.{one-not_there, one-there, own-there}

@@ -1,4 +1,4 @@
-use Rattle.std.proofs.Common.{◌∙◌, ap, arith, set, sym}
+use Rattle.std.proofs.Common.{◌∙◌, ap, arith, set}
 use Rattle.sql_value.specs.Level.{greatest}
 use Rattle.row_bag.specs.Bags.{row}
 use Rattle.row_bag.proofs.EvenRows.{raised-high, raised-low}
