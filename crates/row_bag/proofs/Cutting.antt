@@ -1,5 +1,5 @@
 -- Tuples of one width, cut from the front of a list.
-use Rattle.std.proofs.Common.{◌-◌, ◌≡◌, ℕ, zero, suc, ◌+◌, ◌*◌, ◌<◌, ◌≤◌, List, [], ◌∷◌, ◌++◌, zero-add, drop, length, take, Some, refl, sym, ap, ◌∙◌, arith, length-drop}
+use Rattle.std.proofs.Common.{◌-◌, ◌≡◌, ℕ, zero, suc, ◌+◌, ◌*◌, ◌<◌, ◌≤◌, List, [], ◌∷◌, ◌++◌, zero-add, drop, length, take, Some, refl, sym, ap, ap₂, ◌⊎◌, inl, inr, ◌∙◌, arith, length-append, length-drop}
 use Rattle.std.specs.Prelude.{All, slice_get}
 use Rattle.std.proofs.lemmas.List.{drop-append-le, drop-drop, length-take-le, take-append-le}
 use Rattle.std.proofs.Math.Nat.{suc-add, zero-mul}
@@ -73,3 +73,31 @@ stands w n i xs ys tuples is low same =
 -- a tuple of the width may be added
 pub wide-as : {X : Type 0} (w v n : ℕ) (xs : List X) (tuples : List (List X)) → cut w n xs ≡ tuples → length xs ≡ n * w → w ≡ v → 0 < v → AreWide v tuples
 wide-as {X} w v n xs tuples is size same some = (some, rw same at (rw is at (cut-wide w n xs size)))
+
+-- ---- tuples behind tuples of one width
+
+one-width : {X : Type 0} (w v n : ℕ) (xs : List X) → AreWide v (cut w n xs) → length xs ≡ n * w → (n ≡ 0) ⊎ (w ≡ v)
+one-width w v zero xs wide size = inl refl
+one-width w v (suc n) xs wide size =
+    let more = next w n in
+    inr (sym (length-take-le w xs (omega (arith, size, more))) ∙ All-head (λ t. length t ≡ v) (take w xs) (cut w n (drop w xs)) wide.1)
+
+as-wide : {X : Type 0} (w v n : ℕ) (xs : List X) → AreWide v (cut w n xs) → length xs ≡ n * w → length xs ≡ n * v
+as-wide w v n xs wide size = elim (one-width w v n xs wide size) [
+  | inl none ↦ size ∙ ap (λ k. k * w) none ∙ zero-mul w ∙ sym (zero-mul v) ∙ ap (λ k. k * v) (sym none)
+  | inr same ↦ size ∙ ap (λ k. n * k) same
+]
+
+cut-as : {X : Type 0} (w v n : ℕ) (xs : List X) → AreWide v (cut w n xs) → length xs ≡ n * w → cut v n xs ≡ cut w n xs
+cut-as w v n xs wide size = elim (one-width w v n xs wide size) [
+  | inl none ↦ ap (λ k. cut v k xs) none ∙ ap (λ k. cut w k xs) (sym none)
+  | inr same ↦ ap (λ k. cut k n xs) (sym same)
+]
+
+pub both-cut : {X : Type 0} (w u v n m : ℕ) (xs ys whole : List X) → whole ≡ xs ++ ys → AreWide v (cut w n xs) → length xs ≡ n * w → AreWide v (cut u m ys) → length ys ≡ m * u → cut v (n + m) whole ≡ cut w n xs ++ cut u m ys
+both-cut w u v n m xs ys whole is wide-x size-x wide-y size-y =
+    ap (cut v (n + m)) is ∙ cut-append v n m xs ys (as-wide w v n xs wide-x size-x) ∙ ap₂ (λ s t. s ++ t) (cut-as w v n xs wide-x size-x) (cut-as u v m ys wide-y size-y)
+
+pub both-size : {X : Type 0} (w u v n m : ℕ) (xs ys whole : List X) → whole ≡ xs ++ ys → AreWide v (cut w n xs) → length xs ≡ n * w → AreWide v (cut u m ys) → length ys ≡ m * u → length whole ≡ (n + m) * v
+both-size w u v n m xs ys whole is wide-x size-x wide-y size-y =
+    ap length is ∙ length-append xs ys ∙ ap₂ (λ a b. a + b) (as-wide w v n xs wide-x size-x) (as-wide u v m ys wide-y size-y) ∙ grind arith

@@ -13,7 +13,7 @@ use crate::answer::is_there;
 use crate::arranged::arrange;
 use crate::grid::Grid;
 use crate::row::{Row, RowRef};
-use crate::tuples::copied_row;
+use crate::tuples::{append_copied, copied_row};
 use shared_types::OutOfMemory;
 use sql_value::{Level, greatest};
 use std::alloc::Global;
@@ -90,6 +90,30 @@ impl Bag {
             self.mixed.push(Row { cells, level })?;
             Ok(())
         }
+    }
+
+    /// Moves rows to the end, if all of both are even and of this width, and else copies them there.
+    fn append_even(&mut self, width: usize, rows: Bag) -> Result<(), OutOfMemory>
+        ensures { OnOk result (self.new ≡ self.old ++ rows) }
+    {
+        if self.mixed.is_empty()
+            && rows.mixed.is_empty()
+            && self.even.fits(width)
+            && rows.even.fits(width)
+        {
+            let Bag { even, mixed: _ } = rows;
+            self.even.append(width, even)
+        } else {
+            append_copied(self.allocator(), self, &rows)
+        }
+    }
+
+    /// Adds rows at the end. It fails only for want of memory.
+    pub(crate) fn append(&mut self, rows: Bag) -> Result<(), OutOfMemory>
+        ensures { OnOk result (self.new ≡ self.old ++ rows) }
+    {
+        let width = rows.even.width();
+        self.append_even(width, rows)
     }
 
     /// Raises the row at a place to a level, if that is above its own.

@@ -8,17 +8,19 @@ use sqlite_items::Items;
 use std::alloc::Global;
 use std::marker::Model;
 
-// The cells of a tuple, which are moved.
-fn moved(alloc: Global, tuple: Items<Cell>) -> Result<Vec<Cell>, OutOfMemory>
-    ensures { IfOk result (λ cells. cells.items ≡ tuple) }
+// Moves the cells of a tuple to the end.
+fn append_moved(cells: &mut Vec<Cell>, tuple: Items<Cell>) -> Result<(), OutOfMemory>
+    ensures ok { OnOk result (cells.new.items ≡ cells.old.items ++ tuple) }
+    ensures err { OnErr result (cells.new.items ≡ cells.old.items) }
 {
     let mut tuple = tuple;
-    let mut cells = Vec::with_capacity(alloc, tuple.len())?;
+    cells.reserve(tuple.len())?;
+    let start = cells.len();
     while let Some(cell) = tuple.pop() {
         cells.push(cell)?;
     }
-    cells.reverse();
-    Ok(cells)
+    cells[start..].reverse();
+    Ok(())
 }
 
 // Puts the cells of two tuples of a width in each other's place.
@@ -100,11 +102,32 @@ impl Grid {
         ensures ok { OnOk result (self.new ≡ self.old ++ tuple ∷ []) }
         ensures err { OnErr result (self.new ≡ self.old) }
     {
-        let mut cells = moved(self.allocator(), tuple)?;
-        let width = cells.len();
-        self.cells.append(&mut cells)?;
+        let width = tuple.len();
+        append_moved(&mut self.cells, tuple)?;
         self.width = width;
         self.count += 1;
+        Ok(())
+    }
+
+    /// How many cells the tuples have, where there are any.
+    pub(crate) fn width(&self) -> usize {
+        self.width
+    }
+
+    /// Moves tuples of this width to the end.
+    pub(crate) fn append(&mut self, width: usize, more: Grid) -> Result<(), OutOfMemory>
+        requires own { AreWide width self.old }
+        requires others { AreWide width more }
+        ensures { OnOk result (self.new ≡ self.old ++ more) }
+    {
+        let Grid {
+            width: _,
+            count,
+            mut cells,
+        } = more;
+        self.cells.append(&mut cells)?;
+        self.width = width;
+        self.count += count;
         Ok(())
     }
 

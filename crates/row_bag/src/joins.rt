@@ -86,7 +86,12 @@ fn append_each(alloc: Global, out: &mut Bag, level: Level, rows: &Bag) -> Result
 pub fn append_kept(out: &mut Bag, level: Level, rows: Bag) -> Result<(), OutOfMemory>
     ensures { OnOk result (out.new ≡ out.old ++ keep level rows) }
 {
-    append_each(out.allocator(), out, level, &rows)
+    match level {
+        Level::Yes => out.append(rows),
+        Level::No | Level::Cardinality | Level::Division | Level::Overflow => {
+            append_each(out.allocator(), out, level, &rows)
+        }
+    }
 }
 
 // Cells beside each row.

@@ -103,7 +103,10 @@ fn appended(alloc: Global, a: Operand<'_>, b: Operand<'_>) -> Result<Bag, OutOfM
     ensures { IfOk result (λ rows. rows ≡ held a.entry ++ held b.entry) }
 {
     let mut rows = a.into_bag(alloc)?;
-    append_copied(alloc, &mut rows, b.rows())?;
+    match b {
+        Operand::Borrowed(more) => append_copied(alloc, &mut rows, more)?,
+        Operand::Made(more) => rows.append(more)?,
+    }
     Ok(rows)
 }
 
