@@ -17,7 +17,7 @@ use Rattle.box_exec.specs.Early.{is_none, is_open, rejects}
 use Rattle.box_exec.specs.Hashed.{AllIdleUnder, AllKept, KeptPlan, LeadsAt, rows_kept}
 use Rattle.box_exec.specs.Indexed.{IsIdleIndex}
 use Rattle.box_exec.specs.declared.idle_index.IdleIndex.{IdleIndex}
-use Rattle.box_exec.specs.Lasting.{AllHashed, HashesAt}
+use Rattle.box_exec.specs.Lasting.{AllKeyed, KeyedAt}
 use Rattle.box_exec.specs.Equalities.{IsKey, other_of, own_of}
 use Rattle.box_exec.specs.Lookup.{Leads, RejectsBy}
 use Rattle.box_exec.specs.Plans.{Bound, family, left_at, tables_of}
@@ -25,7 +25,7 @@ use Rattle.box_exec.specs.Ready.{Stands as Under_stands}
 use Rattle.box_exec.specs.Sources.{held_by}
 use Rattle.box_exec.specs.declared.boxes.At.{At}
 use Rattle.box_exec.specs.declared.early.Early.{Early}
-use Rattle.box_exec.specs.declared.lookup.Hashed.{Hashed}
+use Rattle.box_exec.specs.declared.lookup.Keyed.{Keyed}
 use Rattle.box_exec.specs.declared.key.Key.{Key}
 use Rattle.row_index.specs.declared.ways.Way.{Way}
 use Rattle.box_exec.specs.declared.hashed.Whole.{Whole}
@@ -100,9 +100,9 @@ made-more {X = X} P ls hs new o i l long inside is en made all j m h within it f
           (some-is (λ h. P i l h) o h last.1 made)))
     ]
 
-pub hashed-more : (es : List Early) (ls : List Loop) (hs new : List (Option Hashed)) (o : Option Hashed) (i : ℕ) (l : Loop) → length hs ≡ i → i < length ls → l ≡ get_or ls i l → new ≡ hs ++ o ∷ []
-    → IfSome o (λ h. HashesAt es i l h) → AllHashed es ls hs → AllHashed es ls new
-hashed-more es ls hs new o i l long inside is en made all = made-more (λ i l h. HashesAt es i l h) ls hs new o i l long inside is en made all
+pub keyed-more : (es : List Early) (ls : List Loop) (hs new : List (Option Keyed)) (o : Option Keyed) (i : ℕ) (l : Loop) → length hs ≡ i → i < length ls → l ≡ get_or ls i l → new ≡ hs ++ o ∷ []
+    → IfSome o (λ h. KeyedAt es i l h) → AllKeyed es ls hs → AllKeyed es ls new
+keyed-more es ls hs new o i l long inside is en made all = made-more (λ i l h. KeyedAt es i l h) ls hs new o i l long inside is en made all
 
 pub idle-more : (ls : List Loop) (xs new : List (Option IdleIndex)) (o : Option IdleIndex) (i : ℕ) (l : Loop) → length xs ≡ i → i < length ls → l ≡ get_or ls i l → new ≡ xs ++ o ∷ []
     → IfSome o (λ x. IsIdleIndex (rows_kept l.under) x) → AllIdleUnder ls xs → AllIdleUnder ls new

@@ -29,3 +29,4 @@ mod Quantified
 mod Units
 mod Asking
 mod Seeking
+mod Takings

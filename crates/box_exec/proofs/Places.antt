@@ -16,6 +16,7 @@ use Rattle.box_exec.specs.declared.plan.Plan.{Plan}
 use Rattle.box_exec.specs.declared.source.Source.{Source}
 use Rattle.box_exec.specs.Costs.{is_held}
 use Rattle.box_exec.proofs.Evaluations.{keeps-under}
+use Rattle.box_exec.proofs.Takings.{ordered-at, seek-at, takes-under}
 use Rattle.box_exec.proofs.Loops.{from}
 
 pub not-there : (ns : List Node) (b : ℕ) → position (is_box b) ns ≡ None → has_box ns b ≡ false
@@ -100,7 +101,7 @@ open-under tables memo ns behind b i n e at is unheld ready =
     let free : is_held (slice_get memo (length (drop (i + 1) ns))) ≡ false = subst (λ (ms : List Node). is_held (slice_get memo (length ms)) ≡ false) is unheld in
     let l = inside ns b i n e in
     let h = ready-at tables memo ns i n l at ready in
-    subst (IsOpen tables memo ns b n) (sym is) (record { bag = bag-at tables ns b i n e at; fit = h.0; ready = h.2; less = weight-at ns i n l at; plans = λ ps. plans-at memo ps ns i n l at; keeps = keeps-under tables memo ns b i n e at free })
+    subst (IsOpen tables memo ns b n) (sym is) (record { bag = bag-at tables ns b i n e at; fit = h.0; ready = h.2; less = weight-at ns i n l at; plans = λ ps. plans-at memo ps ns i n l at; keeps = keeps-under tables memo ns b i n e at free; seeks = λ kept ps. seek-at kept ps ns i n l at; takes = takes-under tables memo ns b i n e at free; ordered = ordered-at ns i n l at })
 
 pub entry-holds : (tables : List Table) (n : Node) (ns : List Node) (o : Option (Option Source)) (rows : Bag) (env : Environment) → Entry tables n ns o → Held o rows → Alike rows (rows_of tables n (bag_in tables ns) env)
 entry-holds tables n ns None rows env h e = absurd e

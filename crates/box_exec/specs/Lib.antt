@@ -24,3 +24,4 @@ pub mod Settled
 pub mod Taken
 pub mod Asked
 pub mod Sought
+pub mod Takings

@@ -1,7 +1,7 @@
 -- What is made so far, and what a graph owes to its execution.
 use Rattle.std.specs.Prelude.{ℕ, ◌≡◌, ◌≤◌, ◌+◌, ◌||◌, Bool, true, false, not, All, List, [], ◌∷◌, length, slice_get, Option, Some, None, ⊤}
 use Rattle.std.specs.List.{list_any}
-use Rattle.qgm_core.specs.Boxes.{is_quant, owns}
+use Rattle.qgm_core.specs.Boxes.{Ordered, is_quant, owns}
 use Rattle.qgm_core.specs.Kinds.{is_F}
 use Rattle.list_laws.specs.Lists.{first}
 use Rattle.qgm_core.specs.declared.node.Node.{Node}
@@ -16,6 +16,8 @@ use Rattle.box_exec.specs.Costs.{Keeps, asked}
 use Rattle.box_exec.specs.Lasting.{AllPlanned}
 use Rattle.qgm_meaning.specs.Plain.{counted_by}
 use Rattle.box_exec.specs.Sources.{held, rows_held}
+use Rattle.box_exec.specs.Taken.{taken_by}
+use Rattle.box_exec.specs.Takings.{AllSeek, asked_takings}
 use Rattle.box_exec.specs.declared.plan.Plan.{Plan}
 use Rattle.box_exec.specs.declared.source.Source.{Source}
 use Rattle.box_exec.specs.declared.source.Sub.{Sub}
@@ -84,6 +86,9 @@ pub record IsOpen (tables : List Table) (memo : List (Option Source)) (below : L
   pub less : length n.quants + 8 + weight behind ≤ weight below
   pub plans : (ps : List (Option Plan)) → AllPlanned memo ps below → AllPlanned memo ps (n ∷ behind)
   pub keeps : (kept : ℕ → Bool) → Keeps memo kept below → Keeps memo kept behind × ((env : Environment) → asked tables kept below b env ≡ counted_by n.parts.kind n (bag_in tables behind) (asked tables kept behind) env)
+  pub seeks : (kept : ℕ → Bool) (ps : List (Option Plan)) → AllSeek kept ps below → AllSeek kept ps (n ∷ behind)
+  pub takes : (kept : ℕ → Bool) → Keeps memo kept below → (env : Environment) → asked_takings tables kept below b env ≡ taken_by kept n.parts.kind n (bag_in tables behind) (asked_takings tables kept behind) env
+  pub ordered : Ordered below → Ordered (n ∷ behind)
 
 -- what stands under a quantifier over box b
 abbrev pub Stands : List Table → List (Option Source) → List Node → ℕ → Under → Type 0

@@ -4,8 +4,11 @@ ghost use Rattle.box_exec.specs.Costs.{Between, Keeps, asked, is_held};
 ghost use Rattle.box_exec.specs.Counted.{Counted};
 ghost use Rattle.box_exec.specs.HandedOn.{HandsOn, InOrder, is_wide};
 ghost use Rattle.box_exec.specs.Lasting.{AllPlanned};
+ghost use Rattle.box_exec.specs.Plans.{SeeksIn};
 ghost use Rattle.box_exec.specs.Ready.{Entry, Fit, Held, Ready};
 ghost use Rattle.box_exec.specs.Sources.{held};
+ghost use Rattle.box_exec.specs.Taken.{taken_by};
+ghost use Rattle.box_exec.specs.Takings.{asked_takings};
 ghost use Rattle.qgm_core.specs.Kinds as kinds;
 ghost use Rattle.qgm_core.specs.declared.kinds.BoxKind.TheVariants as kind;
 ghost use Rattle.qgm_meaning.specs.Meaning.{bag_in, rows_of};
@@ -153,6 +156,7 @@ pub(crate) fn root_rows<L: Ledger>(
     ensures rows { IfOk result (λ bag. Alike bag (rows_of tables.now root.now.node.now (bag_in tables.now root.now.below.now) [])) }
     ensures counted { (start : ℕ) → Counted start steps.old tally.old.count → Counted start steps.new tally.new.count }
     ensures took { (kept : ℕ → Bool) → Keeps memo.entry.items kept root.now.below.now → IfOk result (λ bag. Between 1 (counted_by root.now.node.now.parts.kind root.now.node.now (bag_in tables.now root.now.below.now) (asked tables.now kept root.now.below.now) []) steps.old steps.new) }
+    ensures taken { (kept : ℕ → Bool) → SeeksIn root.now.indexed memo.entry.items root.now.plans.now kept root.now.node.now root.now.below.now → IfOk result (λ bag. Between 0 (taken_by kept root.now.node.now.parts.kind root.now.node.now (bag_in tables.now root.now.below.now) (asked_takings tables.now kept root.now.below.now) []) tally.old.taken tally.new.taken) }
 {
     let Some(k) = handed_place(&memo, root) else {
         let run = Run {
