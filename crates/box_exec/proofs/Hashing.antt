@@ -1,5 +1,5 @@
 -- Selects of kept rows, some of which are found by hashes.
-use Rattle.std.proofs.Common.{ℕ, suc, zero, ◌≡◌, ◌<◌, ◌≤◌, ◌+◌, ◌++◌, ◌∷◌, ◌&&◌, ◌==◌, Bool, true, false, All, List, [], Option, Some, get_or, length, slice_get, refl, sym, ap, ap₂, subst, ◌∙◌, ◌⊎◌, inl, inr, arith}
+use Rattle.std.proofs.Common.{ℕ, suc, zero, ◌≡◌, ◌<◌, ◌≤◌, ◌+◌, ◌++◌, ◌∷◌, ◌&&◌, ◌==◌, not, Bool, true, false, All, List, [], Option, Some, get_or, length, slice_get, refl, sym, ap, ap₂, subst, ◌∙◌, ◌⊎◌, inl, inr, arith}
 use Rattle.std.specs.List.{list_any}
 use Rattle.std.proofs.lemmas.Bool.{eq-eqb}
 use Rattle.std.specs.Prelude.{IfSome}
@@ -50,6 +50,10 @@ pub none-all : (p : Loop → Bool) (ls : List Loop) → list_any p ls ≡ false 
 none-all p [] h k d l = absurd (omega (arith, l))
 none-all p (x ∷ ls) h zero d l = neither-left (p x) (list_any p ls) h
 none-all p (x ∷ ls) h (suc k) d l = none-all p ls (neither-right (p x) (list_any p ls) h) k d (omega (arith, l))
+
+pub not-true : (b : Bool) → not b ≡ true → b ≡ false
+not-true true h = absurd (let z : ⊥ = cc in z)
+not-true false h = refl
 
 -- ---- a select of kept rows
 

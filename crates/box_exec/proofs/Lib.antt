@@ -30,3 +30,4 @@ mod Units
 mod Asking
 mod Seeking
 mod Takings
+mod Turns

@@ -5,6 +5,7 @@ use Rattle.std.proofs.lemmas.Bool.{or_left, or_right}
 use Rattle.std.proofs.lemmas.List.Quantifiers.{position-Some}
 use Rattle.list_laws.specs.Lists.{In}
 use Rattle.list_laws.proofs.Booleans.{clash}
+use Rattle.list_laws.proofs.Membership.{all-in}
 use Rattle.sql_value.specs.declared.cell.Cell.{Cell}
 use Rattle.sql_value.specs.declared.level.Level.{Level}
 use Rattle.sql_value.specs.declared.level.Level.TheVariants.{No, Cardinality, Division, Overflow, Yes}
@@ -17,6 +18,7 @@ use Rattle.qgm_meaning.specs.Values.{Bag, Environment, bound}
 use Rattle.box_exec.specs.Asked.{keys_at}
 use Rattle.box_exec.specs.Costs.{Between, Keeps, at_level, is_held}
 use Rattle.box_exec.specs.Early.{is_none, is_open}
+use Rattle.box_exec.specs.Hashed.{AllKept}
 use Rattle.box_exec.specs.Ready.{Held}
 use Rattle.box_exec.specs.Sought.{AllSought, OpensAs}
 use Rattle.box_exec.specs.Taken.{Match, is_taken, matches, takes, ways}
@@ -54,7 +56,7 @@ unheld-opens memo ns behind b i e is held kept keeps = ap not (sym held ∙ kept
 pub absent-opens : (memo : List (Option Source)) (ns : List Node) (b : ℕ) (u : Under) → position (is_box b) ns ≡ None → OpensAs memo ns b u
 absent-opens memo ns b u e kept keeps there = absurd (clash (has_box ns b) there (not-there ns b e))
 
--- where one of the boxes under these quantifiers isn't kept, something under them is open, and nothing else is
+-- something under these quantifiers is open where they range over a box that isn't kept
 pub any-open : (memo : List (Option Source)) (below : List Node) (kept : ℕ → Bool) (ls : List Loop) → Keeps memo kept below → All (λ l. OpensAs memo below l.range.over l.under) ls → ((r : OwnedQuant) → In r (map (λ (l : Loop). l.range) ls) → has_box below r.over ≡ true)
     → list_any (λ (l : Loop). is_open l.under) ls ≡ not (list_all (λ (r : OwnedQuant). kept r.over) (map (λ (l : Loop). l.range) ls))
 any-open memo below kept [] keeps opens there = refl
@@ -66,6 +68,25 @@ any-open memo below kept (l ∷ ls) keeps opens there =
     either : (a b : Bool) → (not a || not b) ≡ not (a && b)
     either true b = refl
     either false b = refl
+
+pub all-shut : (ls : List Loop) → AllKept ls → list_any (λ (l : Loop). is_open l.under) ls ≡ false
+all-shut [] h = refl
+all-shut (l ∷ ls) h = ap₂ (λ (x y : Bool). x || y) (h zero l (omega arith)) (all-shut ls (λ k d m. h (suc k) d (omega (arith, m))))
+
+not-false : (b : Bool) → not b ≡ false → b ≡ true
+not-false true h = refl
+not-false false h = absurd (let z : ⊥ = cc in z)
+
+-- where nothing under these is open, nothing is under others over the same boxes
+pub still-shut : (memo : List (Option Source)) (below : List Node) (kept : ℕ → Bool) (ls ms : List Loop) → Keeps memo kept below → All (λ l. OpensAs memo below l.range.over l.under) ls → All (λ l. OpensAs memo below l.range.over l.under) ms
+    → ((r : OwnedQuant) → In r (map (λ (l : Loop). l.range) ls) → has_box below r.over ≡ true) → ((r : OwnedQuant) → In r (map (λ (l : Loop). l.range) ms) → In r (map (λ (l : Loop). l.range) ls))
+    → list_any (λ (l : Loop). is_open l.under) ls ≡ false → list_any (λ (l : Loop). is_open l.under) ms ≡ false
+still-shut memo below kept ls [] keeps opens others there among shut = refl
+still-shut memo below kept ls (m ∷ ms) keeps opens others there among shut =
+    let all : list_all (λ (r : OwnedQuant). kept r.over) (map (λ (l : Loop). l.range) ls) ≡ true = not-false (list_all (λ (r : OwnedQuant). kept r.over) (map (λ (l : Loop). l.range) ls)) (sym (any-open memo below kept ls keeps opens there) ∙ shut) in
+    let i = among m.range (inl refl) in
+    let here : is_open m.under ≡ false = others zero m (omega arith) kept keeps (there m.range i) ∙ ap not (all-in (λ (r : OwnedQuant). kept r.over) m.range (map (λ (l : Loop). l.range) ls) all i) in
+    ap₂ (λ (x y : Bool). x || y) here (still-shut memo below kept ls ms keeps opens (λ k d l. others (suc k) d (omega (arith, l))) there (λ r j. among r (inr j)) shut)
 
 -- ---- ways, row by row
 
@@ -114,10 +135,18 @@ module _ (closed : ℕ → Bool) (n : Node) (rs : List OwnedQuant) (bags : Famil
     pub taken-open : (env : Environment) (cells : List Cell) → closed r.over ≡ false → is_taken closed n r (drop (k + 1) rs) env cells ≡ true
     taken-open env cells h = or_left (not (closed r.over)) (takes (matches n r (drop (k + 1) rs)) r.id env cells) (ap not h)
 
-    -- one row is taken, and then those of the quantifiers behind, and some more
-    pub row-counts : (more : ℕ) (level : Level) (env : Environment) (cells : List Cell) (s t u : ℕ) → is_taken closed n r (drop (k + 1) rs) env cells ≡ true
+    -- one row is taken, and then those of the quantifiers behind
+    pub row-counts : (level : Level) (env : Environment) (cells : List Cell) (s t u : ℕ) → is_taken closed n r (drop (k + 1) rs) env cells ≡ true
+        → Between 0 (at_level level 1) s t → Between 0 (at_level level (left-from (k + 1) (bound r.id cells env))) t u → Between 0 (at_level level (row_ways k r env cells)) s u
+    row-counts level env cells s t u is one rest =
+        let e : row_ways k r env cells ≡ 1 + left-from (k + 1) (bound r.id cells env) = ap (λ (b : Bool). cond b (1 + left-from (k + 1) (bound r.id cells env)) 0) is in
+        let sum = one-and level (left-from (k + 1) (bound r.id cells env)) in
+        subst (λ (m : ℕ). Between 0 (at_level level m) s u) (sym e) (omega (arith, one.0, rest.0), omega (arith, one.1, rest.1, sum))
+
+    -- and some more
+    pub row-counts-more : (more : ℕ) (level : Level) (env : Environment) (cells : List Cell) (s t u : ℕ) → is_taken closed n r (drop (k + 1) rs) env cells ≡ true
         → Between 0 (at_level level 1) s t → Between 0 (at_level level (left-from (k + 1) (bound r.id cells env) + more)) t u → Between 0 (at_level level (row_ways k r env cells + more)) s u
-    row-counts more level env cells s t u is one rest =
+    row-counts-more more level env cells s t u is one rest =
         let e : row_ways k r env cells + more ≡ 1 + (left-from (k + 1) (bound r.id cells env) + more) = ap (λ (b : Bool). cond b (1 + left-from (k + 1) (bound r.id cells env)) 0 + more) is ∙ omega arith in
         let sum = one-and level (left-from (k + 1) (bound r.id cells env) + more) in
         subst (λ (m : ℕ). Between 0 (at_level level m) s u) (sym e) (omega (arith, one.0, rest.0), omega (arith, one.1, rest.1, sum))

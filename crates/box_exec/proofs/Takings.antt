@@ -1,5 +1,5 @@
 -- How many rows boxes take, over boxes that are kept.
-use Rattle.std.proofs.Common.{ℕ, suc, zero, ◌≡◌, ◌<◌, ◌+◌, ◌++◌, Bool, true, false, cond, List, [], ◌∷◌, drop, get_or, length, position, slice_get, Option, Some, None, add-one, sym, ◌∙◌, ap, subst, arith, eqb-true}
+use Rattle.std.proofs.Common.{ℕ, suc, zero, ◌≡◌, ◌<◌, ◌+◌, ◌++◌, Bool, true, false, cond, List, [], ◌∷◌, drop, get_or, length, position, slice_get, Option, Some, None, add-one, refl, sym, ◌∙◌, ap, subst, arith, eqb-true}
 use Rattle.std.proofs.lemmas.List.Quantifiers.{position-Some}
 use Rattle.row_bag.specs.Bags.{if_there}
 use Rattle.row_bag.specs.declared.tables.Table.{Table}
@@ -12,7 +12,9 @@ use Rattle.qgm_meaning.specs.Meaning.{bag_in}
 use Rattle.qgm_meaning.specs.Values.{Bag, Environment}
 use Rattle.box_exec.specs.Costs.{Keeps, is_held}
 use Rattle.box_exec.specs.Taken.{taken_by}
-use Rattle.box_exec.specs.Takings.{AllSeek, asked_takings, takings}
+use Rattle.box_exec.specs.Takings.{AllSeek, asked_takings, keys_by, order_by, takings}
+use Rattle.box_exec.specs.declared.lookup.Keyed.{Keyed}
+use Rattle.box_exec.specs.declared.order.Order.{Order}
 use Rattle.box_exec.specs.declared.plan.Plan.{Plan}
 use Rattle.box_exec.specs.declared.source.Source.{Source}
 use Rattle.box_exec.proofs.Evaluations.{each_row, keeps-drop}
@@ -76,3 +78,13 @@ there-sum f g c Yes = omega arith
 pub each-sum : (f g : List Cell → ℕ) (rows : Bag) → each_row f rows + each_row g rows ≡ each_row (λ cells. f cells + g cells) rows
 each-sum f g [] = omega arith
 each-sum f g (r ∷ rows) = let h = each-sum f g rows in let k = there-sum f g r.cells r.level in omega (arith, h, k)
+
+-- ---- the order of a plan
+
+pub order-none : (n : Node) (ks : List (Option Keyed)) (os : List Order) → length os < 1 → (order_by n os ≡ n.quants) × (keys_by ks os ≡ ks)
+order-none n ks [] l = (refl, refl)
+order-none n ks (o ∷ os) l = absurd (omega (arith, l))
+
+pub order-some : (n : Node) (ks : List (Option Keyed)) (os : List Order) (o : Order) → 0 < length os → o ≡ get_or os 0 o → (order_by n os ≡ o.ranges.items) × (keys_by ks os ≡ o.keyed.items)
+order-some n ks [] o l at = absurd (omega (arith, l))
+order-some n ks (p ∷ os) o l at = (ap (λ (x : Order). x.ranges.items) (sym at), ap (λ (x : Order). x.keyed.items) (sym at))

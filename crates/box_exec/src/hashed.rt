@@ -199,12 +199,19 @@ fn kept_subs<'a>(at: &At<'a>) -> Result<Vec<Sub<'a>>, OutOfMemory>
     Ok(subs)
 }
 
+// Whether a box under these quantifiers is evaluated anew.
+fn any_open(loops: &[Loop<'_>]) -> bool
+    ensures { result ≡ list_any (λ l. is_open l.under) loops.now }
+{
+    loops.iter().any(|l| is_open(l.under))
+}
+
 /// Whether no box under these quantifiers is evaluated anew.
 pub(crate) fn all_kept(loops: &[Loop<'_>]) -> bool
     ensures kept { result ≡ true → spec.AllKept loops.now }
     ensures exact { result ≡ not (list_any (λ l. is_open l.under) loops.now) }
 {
-    !loops.iter().any(|l| is_open(l.under))
+    !any_open(loops)
 }
 
 // The rows of a select whose quantifiers are bound in this order, over the rows of those that bind none.

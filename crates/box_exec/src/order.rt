@@ -106,7 +106,7 @@ pub(crate) fn in_turn(alloc: Global, node: &Node) -> Result<Vec<OwnedQuant>, Out
     let mut left = Vec::with_capacity(alloc, ranges.len())?;
     left.extend_from_slice(ranges)?;
     let mut made = Vec::with_capacity(alloc, ranges.len())?;
-    while left.len() > 0 {
+    'turns: while left.len() > 0 {
         let i = next_place(alloc, node, &left)?;
         let r = left.remove(i);
         made.push(r)?;

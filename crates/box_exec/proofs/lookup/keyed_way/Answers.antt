@@ -14,9 +14,9 @@ returns-in-Some c =
     let k = c.args.k.now in
     IfOk-weaker c.way_by.result _ _
     (λ way f. λ test q rows e fits.
-    let is = some-is (λ (ix : RowIndex). Indexes (row_hashes q k.keys.items rows) ix) k.index c.in-Some.index.now c.in-Some.is fits.1 in
+    let is = some-is (λ (ix : RowIndex). Indexes (row_hashes q k.keys.items rows) ix) k.index c.in-Some.index c.in-Some.is fits.1 in
     f test q rows e (subst (λ (ks : List Key). All (λ (k : Key). RejectsBy test q k) ks) (sym c.deref.ensures.value) fits.0)
-    (subst (λ (ks : List Key). Indexes (row_hashes q ks rows) c.in-Some.index.now) (sym c.deref.ensures.value) is))
+    (subst (λ (ks : List Key). Indexes (row_hashes q ks rows) c.in-Some.index) (sym c.deref.ensures.value) is))
     c.way_by.ensures
 
 pub returns-in-None : goal.returns-in-None
