@@ -1,7 +1,7 @@
 -- Rows that are taken are those that the definition of ways takes.
 use Rattle.std.proofs.Common.{ℕ, suc, zero, ◌≡◌, ◌<◌, ◌+◌, ◌∷◌, ◌||◌, ◌&&◌, not, cond, All, Bool, true, false, List, [], Option, Some, None, drop, get_or, length, map, position, slice_get, refl, sym, ap, ap₂, subst, ◌∙◌, eqb-true, inl, inr, arith}
 use Rattle.std.specs.List.{list_all, list_any}
-use Rattle.std.proofs.lemmas.Bool.{or_left, or_right}
+use Rattle.std.proofs.lemmas.Bool.{cases_Bool, or_left, or_right}
 use Rattle.std.proofs.lemmas.List.Quantifiers.{position-Some}
 use Rattle.list_laws.specs.Lists.{In}
 use Rattle.list_laws.proofs.Booleans.{clash}
@@ -9,7 +9,7 @@ use Rattle.list_laws.proofs.Membership.{all-in}
 use Rattle.sql_value.specs.declared.cell.Cell.{Cell}
 use Rattle.sql_value.specs.declared.level.Level.{Level}
 use Rattle.sql_value.specs.declared.level.Level.TheVariants.{No, Cardinality, Division, Overflow, Yes}
-use Rattle.qgm_core.specs.Boxes.{has_box, is_box}
+use Rattle.qgm_core.specs.Boxes.{Ordered, has_box, is_box}
 use Rattle.qgm_core.specs.Kinds.{is_F}
 use Rattle.qgm_core.specs.declared.node.Node.{Node}
 use Rattle.qgm_core.specs.declared.owned.OwnedQuant.{OwnedQuant}
@@ -21,14 +21,17 @@ use Rattle.box_exec.specs.Early.{is_none, is_open}
 use Rattle.box_exec.specs.Hashed.{AllKept}
 use Rattle.box_exec.specs.Ready.{Held}
 use Rattle.box_exec.specs.Sought.{AllSought, OpensAs}
-use Rattle.box_exec.specs.Taken.{Match, is_taken, matches, takes, ways}
+use Rattle.box_exec.specs.Taken.{Match, in_turn, is_taken, matches, takes, ways}
+use Rattle.box_exec.specs.Takings.{Seeks, keys_by, order_by}
 use Rattle.box_exec.specs.declared.lookup.Keyed.{Keyed}
+use Rattle.box_exec.specs.declared.order.Order.{Order}
 use Rattle.box_exec.specs.declared.source.Source.{Source}
 use Rattle.box_exec.specs.declared.under.Loop.{Loop}
 use Rattle.box_exec.specs.declared.under.Under.{Under}
 use Rattle.box_exec.proofs.Evaluations.{each_row, keeps-drop}
 use Rattle.box_exec.proofs.Loops.{from}
 use Rattle.box_exec.proofs.Places.{not-there}
+use Rattle.box_exec.proofs.Tails.{overs-here}
 
 -- ---- what is open
 
@@ -87,6 +90,43 @@ still-shut memo below kept ls (m ∷ ms) keeps opens others there among shut =
     let i = among m.range (inl refl) in
     let here : is_open m.under ≡ false = others zero m (omega arith) kept keeps (there m.range i) ∙ ap not (all-in (λ (r : OwnedQuant). kept r.over) m.range (map (λ (l : Loop). l.range) ls) all i) in
     ap₂ (λ (x y : Bool). x || y) here (still-shut memo below kept ls ms keeps opens (λ k d l. others (suc k) d (omega (arith, l))) there (λ r j. among r (inr j)) shut)
+
+-- ---- the order and the keys of a plan
+
+pub keys-either : (n : Node) (ks : List (Option Keyed)) (os : List Order) → All (λ o. AllSought n o.ranges.items o.keyed.items) os → AllSought n n.quants ks → AllSought n (order_by n os) (keys_by ks os)
+keys-either n ks [] all text = text
+keys-either n ks (o ∷ os) all text = all zero o (omega arith)
+
+pub keys-some : (n : Node) (ks : List (Option Keyed)) (os : List Order) → 0 < length os → All (λ o. AllSought n o.ranges.items o.keyed.items) os → AllSought n (order_by n os) (keys_by ks os)
+keys-some n ks [] l all = absurd (omega (arith, l))
+keys-some n ks (o ∷ os) l all = all zero o (omega arith)
+
+module _ (n : Node) (memo : List (Option Source)) (below : List Node) (kept : ℕ → Bool) (ls : List Loop) (ks : List (Option Keyed)) (os : List Order) (ranged : map (λ (l : Loop). l.range) ls ≡ n.quants) (keeps : Keeps memo kept below) (ordered : Ordered (n ∷ below))
+    (opens : All (λ l. OpensAs memo below l.range.over l.under) ls) where
+  abbrev opened : Bool
+  opened = list_any (λ (l : Loop). is_open l.under) ls
+
+  abbrev all-kept : Bool
+  all-kept = list_all (λ (r : OwnedQuant). kept r.over) n.quants
+
+  opened-is : opened ≡ not all-kept
+  opened-is =
+      any-open memo below kept ls keeps opens (λ r i. overs-here below n r ordered (subst (In r) ranged i))
+      ∙ ap (λ (rs : List OwnedQuant). not (list_all (λ (r : OwnedQuant). kept r.over) rs)) ranged
+
+  not-true : (b : Bool) → not b ≡ true → b ≡ false
+  not-true true h = absurd (let z : ⊥ = cc in z)
+  not-true false h = refl
+
+  pub seeks-of : (opened ≡ true → os ≡ []) → (opened ≡ false → order_by n os ≡ in_turn n (length n.quants) n.quants) → AllSought n (order_by n os) (keys_by ks os) → Seeks kept n ks os
+  seeks-of text turn keys = record {
+    order = elim (cases_Bool opened) [
+      | inl h ↦ ap (order_by n) (text h) ∙ sym (ap (λ (b : Bool). cond b (in_turn n (length n.quants) n.quants) n.quants) (not-true all-kept (sym opened-is ∙ h)))
+      | inr h ↦ turn h ∙ sym (ap (λ (b : Bool). cond b (in_turn n (length n.quants) n.quants) n.quants) (not-false all-kept (sym opened-is ∙ h)))
+    ];
+    keys = keys;
+    text = λ h. text (opened-is ∙ ap not h);
+  }
 
 -- ---- ways, row by row
 
