@@ -31,3 +31,4 @@ mod Asking
 mod Seeking
 mod Takings
 mod Turns
+mod Rows

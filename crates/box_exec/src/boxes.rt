@@ -60,6 +60,7 @@ pub(crate) struct At<'a> {
 pub(crate) fn step<L: Ledger>(steps: &mut Steps<L>, tally: &mut Tally)
     ensures counted { (start : ℕ) → Counted start steps.old tally.old.count → Counted start steps.new tally.new.count }
     ensures ticked { steps.new ≡ steps.old + 1 }
+    ensures taken { tally.new.taken ≡ tally.old.taken }
 {
     steps.tick();
     tally.count = tally.count.saturating_add(1);

@@ -7,4 +7,4 @@ pub returns : goal.returns
 returns c =
     let join = c.args.join.now in
     let right = c.args.right.now in
-    IfOk-weaker c.way_through.result _ _ (λ way f. f (rejects_on join.node.now) join.right right.rows.now refl c.requires) c.way_through.ensures.leads
+    IfOk-weaker c.way_through.result _ _ (λ way f. f (rejects_on join.node.now) join.right right.rows.now refl c.requires) c.way_through.ensures
