@@ -32,3 +32,5 @@ mod Seeking
 mod Takings
 mod Turns
 mod Rows
+mod Planned
+mod Ways

@@ -22,7 +22,7 @@ use Rattle.box_exec.proofs.Loops.{from}
 
 -- ---- the boxes behind a box
 
-ordered-drop : (ns : List Node) (i : ℕ) → Ordered ns → Ordered (drop i ns)
+pub ordered-drop : (ns : List Node) (i : ℕ) → Ordered ns → Ordered (drop i ns)
 ordered-drop ns zero h = h
 ordered-drop [] (suc i) h = h
 ordered-drop (n ∷ ns) (suc i) h = ordered-drop ns i h.2
