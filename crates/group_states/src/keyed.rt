@@ -15,7 +15,7 @@ use crate::fold::Fold;
 use crate::index::{GrowingIndex, HasTuple, hash_of};
 use crate::state::State;
 use crate::states::{append_values, states_of, take_row};
-use row_bag::{Row, append_cells};
+use row_bag::{Bag, Row, append_cells};
 use shared_types::OutOfMemory;
 use sql_value::{Cell, Level};
 use sqlite_items::Items;
@@ -140,10 +140,10 @@ fn group_row(alloc: Global, group: KeyedStates) -> Result<Row, OutOfMemory>
 }
 
 /// The row of each group. A group is let go once its row is made.
-pub(crate) fn group_rows(alloc: Global, groups: Vec<KeyedStates>) -> Result<Vec<Row>, OutOfMemory>
-    ensures { IfOk result (λ made. (n : ℕ) → (folds : List Fold) → (rows : List (Row (List Cell))) → All (spec.IsGroup n folds rows) groups.items → made.items ≡ at_yes (map (λ g. spec.group_of n folds g.key.items (rows_of n g.key.items rows)) groups.items)) }
+pub(crate) fn group_rows(alloc: Global, groups: Vec<KeyedStates>) -> Result<Bag, OutOfMemory>
+    ensures { IfOk result (λ made. (n : ℕ) → (folds : List Fold) → (rows : List (Row (List Cell))) → All (spec.IsGroup n folds rows) groups.items → made ≡ at_yes (map (λ g. spec.group_of n folds g.key.items (rows_of n g.key.items rows)) groups.items)) }
 {
-    let mut made = Vec::with_capacity(alloc, groups.len())?;
+    let mut made = Bag::new(alloc);
     for group in groups {
         made.push(group_row(alloc, group)?)?;
     }

@@ -65,7 +65,6 @@ impl GroupTable {
     pub fn into_rows(self, alloc: Global) -> Result<Bag, OutOfMemory>
         ensures { IfOk result (λ made. (n : ℕ) → (folds : List Fold) → (rows : List (Row (List Cell))) → spec.HasRows n folds rows self → Alike made (spec.groups_of n folds rows)) }
     {
-        let rows = group_rows(alloc, self.groups)?;
-        Ok(Bag::from_rows(rows))
+        Ok(group_rows(alloc, self.groups)?)
     }
 }

@@ -1,13 +1,12 @@
--- Keys of rows, and what is made of the groups of the keys.
+-- Keys of rows.
 use Rattle.std.proofs.Common.{◌≡◌, ℕ, suc, ◌+◌, Bool, true, false, cond, ◌&&◌, ◌<◌, List, [], ◌∷◌, ◌++◌, length, map, take, All, refl, ap, ap₂, ◌∙◌, arith}
 use Rattle.sql_value.specs.declared.cell.Cell.{Cell}
 use Rattle.sql_value.specs.declared.level.Level.{Level}
 use Rattle.sql_value.specs.declared.level.Level.TheVariants.{No, Cardinality, Division, Overflow, Yes}
 use Rattle.row_bag.specs.Bags.{Agree, Alike, at_yes, bind, count, if_there, row, same_level, total, unit}
-use Rattle.row_bag.specs.Groups.{key, key_error, key_error_of, key_in, keys_of, rows_of}
+use Rattle.row_bag.specs.Groups.{key_error, key_error_of}
 use Rattle.row_bag.specs.Matched.{often}
 use Rattle.row_bag.specs.Sets.{grouped, multiplicity, same_cells}
-use Rattle.row_bag.specs.declared.groups.Group.{Group}
 use Rattle.row_bag.specs.declared.row.Row.{Row}
 use Rattle.row_bag.proofs.Agreement.{alike-bind, alike-refl, alike-same, alike-trans}
 use Rattle.row_bag.proofs.Chains.{worst_none}
@@ -49,15 +48,6 @@ none-weight n k c Division h = ap (λ b. cond b 1 0) h
 none-weight n k c Overflow h = ap (λ b. cond b 1 0) h
 none-weight n k c Yes h = ap (λ b. cond b 1 0) h
 
-pub own-weight : (n : ℕ) (k c : Tuple) (l : Level) → same_cells (take n c) k ≡ true → ◌≡◌ {A = ℕ} (if_there 0 (λ c l. cond (same_cells (take n c) k) 1 0) c l) (cond (if_there false (λ c l. true) c l) 1 0)
-own-weight n k c No h = refl
-own-weight n k c Cardinality h = ap (λ b. cond b 1 0) h
-own-weight n k c Division h = ap (λ b. cond b 1 0) h
-own-weight n k c Overflow h = ap (λ b. cond b 1 0) h
-own-weight n k c Yes h = ap (λ b. cond b 1 0) h
-
--- ---- all groups
-
 pub count-yes : (c : Tuple) (l : Level) (ts : List Tuple) → count same_cells c l (at_yes ts) ≡ cond (same_level Yes l) (often c ts) 0
 count-yes c l [] = elim (same_level Yes l) as (λ b. ◌≡◌ {A = ℕ} 0 (cond b 0 0)) [ true ↦ refl | false ↦ refl ]
 count-yes c l (t ∷ ts) = ap (λ m. cond (same_cells t c && same_level Yes l) 1 0 + m) (count-yes c l ts) ∙ each (same_cells t c) (same_level Yes l)
@@ -67,34 +57,6 @@ count-yes c l (t ∷ ts) = ap (λ m. cond (same_cells t c && same_level Yes l) 1
     each true false = refl
     each false true = refl
     each false false = refl
-
--- what is made of each group, over the keys
-over-groups : {U : Type 0} (n : ℕ) (f : Tuple → Rows → U) (bag : Rows) (groups : List Group) → All (λ g. g.rows ≡ rows_of n (key g) bag) groups
-    → at_yes (map (λ (g : Group). f (key g) g.rows) groups) ≡ bind (at_yes (map key groups)) (λ k. unit (f k (rows_of n k bag)))
-over-groups n f bag [] members = refl
-over-groups n f bag (g ∷ groups) members =
-    ap₂ (λ u t. row u Yes ∷ t) (ap (f (key g)) (members 0 g (omega arith))) (over-groups n f bag groups (λ k d h. members (suc k) d (omega arith)))
-
--- what is made of each group is what grouping makes
-pub groups-alike : {U : Type 0} (n : ℕ) (f : Tuple → Rows → U) (bag : Rows) (groups : List Group)
-    → Agree same_cells (at_yes (map key groups)) (keys_of n bag)
-    → All (λ g. g.rows ≡ rows_of n (key g) bag) groups
-    → Alike (at_yes (map (λ (g : Group). f (key g) g.rows) groups)) (grouped same_cells (take n) f bag)
-groups-alike n f bag groups keys members =
-    alike-trans (alike-same (over-groups n f bag groups members)) (alike-bind (alike-from_agree same_cells same_cells-decides keys) (λ k. alike-refl (unit (f k (rows_of n k bag)))))
-
-pub groups-agree : (n : ℕ) (f : Tuple → Rows → Tuple) (bag : Rows) (groups : List Group)
-    → Agree same_cells (at_yes (map key groups)) (keys_of n bag)
-    → All (λ g. g.rows ≡ rows_of n (key g) bag) groups
-    → Agree same_cells (at_yes (map (λ (g : Group). f (key g) g.rows) groups)) (grouped same_cells (take n) f bag)
-groups-agree n f bag groups keys members = agree-from_alike same_cells (groups-alike n f bag groups keys members)
-
--- ---- the key of a group
-
--- a row more leaves the key of a group that has rows
-pub key-more : (n : ℕ) (rows : Rows) (r : Row Tuple) → 0 < length rows → key_in n (rows ++ r ∷ []) ≡ key_in n rows
-key-more n [] r some = absurd (omega (arith, some))
-key-more n (first ∷ rows) r some = refl
 
 -- the greatest error of a row more
 pub key_error-push : (n : ℕ) (rows : Rows) (r : Row Tuple) → key_error n (rows ++ r ∷ []) ≡ worst_of (key_error n rows) (key_error_of n r)

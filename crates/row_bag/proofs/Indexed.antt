@@ -167,25 +167,39 @@ walk-ends n hashes tuples cells place e done w =
 pub some-same : (t u : Tuple) → Some t ≡ Some u → t ≡ u
 some-same t u e = cc e
 
--- as many tuples as hashes
+-- as many tuples as links with their hashes
+pub as-many : {L : Type 0} (hash : L → ℕ) (links : List L) (tuples : List Tuple) → map hash links ≡ hashes_of tuples → length links ≡ length tuples
+as-many hash links tuples e = sym (length-map links hash) ∙ sizes (map hash links) tuples e
+
+-- the tuple at a place is these cells, or isn't
+pub is-there : (tuples : List Tuple) (at : ℕ) (t cells : Tuple) (b : Bool) → slice_get tuples at ≡ Some t → b ≡ same_cells t cells → (b ≡ true → slice_get tuples at ≡ Some cells) × (slice_get tuples at ≡ Some cells → b ≡ true)
+is-there tuples at t cells b here eb = (
+  λ yes. here ∙ ap (λ (u : Tuple). Some u) ((same_cells-decides t cells).0 (sym eb ∙ yes)),
+  λ found. eb ∙ (same_cells-decides t cells).1 (some-same t cells (sym here ∙ found)),
+)
+
+-- a place whose hash is another isn't that of the cells
+pub not-there : {L : Type 0} (hash : L → ℕ) (links : List L) (tuples : List Tuple) (at : ℕ) (d : L) (h : ℕ) (cells : Tuple) → at < length links → map hash links ≡ hashes_of tuples → h ≡ hash_of cells → (hash (get_or links at d) ≡ h → ⊥)
+    → (nat_eq (hash (get_or links at d)) h ≡ true → slice_get tuples at ≡ Some cells) × (slice_get tuples at ≡ Some cells → nat_eq (hash (get_or links at d)) h ≡ true)
+not-there hash links tuples at d h cells within e eh differ =
+    let size = length-map links hash in (
+      λ yes. absurd (differ (eqb-true (hash (get_or links at d)) h yes)),
+      λ found.
+          absurd (differ (sym (get_or-map hash links at d 0 within) ∙ hash-at (map hash links) tuples at cells e (omega (arith, size, within)) found ∙ sym eh)),
+    )
+
+-- ---- the tuple of an item at a place
+
 pub long : {L G : Type 0} (hash : L → ℕ) (tuple : G → Tuple) (links : List L) (items : List G) → map hash links ≡ hashes_of (map tuple items) → length links ≡ length items
-long hash tuple links items e = sym (length-map links hash) ∙ sizes (map hash links) (map tuple items) e ∙ length-map items tuple
+long hash tuple links items e = as-many hash links (map tuple items) e ∙ length-map items tuple
 
 pub stands : {G : Type 0} (tuple : G → Tuple) (items : List G) (at : ℕ) (x : G) (t cells : Tuple) (b : Bool) → at < length items → x ≡ get_or items at x → t ≡ tuple x → b ≡ same_cells t cells
     → (b ≡ true → slice_get (map tuple items) at ≡ Some cells) × (slice_get (map tuple items) at ≡ Some cells → b ≡ true)
 stands tuple items at x t cells b within is et eb =
-    let here : slice_get (map tuple items) at ≡ Some t = slice_get-map tuple items at ∙ ap (option_map tuple) (slice_get-get_or items at x within) ∙ ap (λ y. Some (tuple y)) (sym is) ∙ ap (λ (u : Tuple). Some u) (sym et) in (
-      λ yes. here ∙ ap (λ (u : Tuple). Some u) ((same_cells-decides t cells).0 (sym eb ∙ yes)),
-      λ found. eb ∙ (same_cells-decides t cells).1 (some-same t cells (sym here ∙ found)),
-    )
+    is-there (map tuple items) at t cells b
+    (slice_get-map tuple items at ∙ ap (option_map tuple) (slice_get-get_or items at x within) ∙ ap (λ y. Some (tuple y)) (sym is) ∙ ap (λ (u : Tuple). Some u) (sym et)) eb
 
--- a place whose hash is another isn't that of the cells
 pub other-hash : {L G : Type 0} (hash : L → ℕ) (tuple : G → Tuple) (links : List L) (items : List G) (at : ℕ) (d : L) (h : ℕ) (cells : Tuple) → at < length links → map hash links ≡ hashes_of (map tuple items) → h ≡ hash_of cells
     → (hash (get_or links at d) ≡ h → ⊥)
     → (nat_eq (hash (get_or links at d)) h ≡ true → slice_get (map tuple items) at ≡ Some cells) × (slice_get (map tuple items) at ≡ Some cells → nat_eq (hash (get_or links at d)) h ≡ true)
-other-hash hash tuple links items at d h cells within e eh differ =
-    let size = length-map links hash in (
-      λ yes. absurd (differ (eqb-true (hash (get_or links at d)) h yes)),
-      λ found.
-          absurd (differ (sym (get_or-map hash links at d 0 within) ∙ hash-at (map hash links) (map tuple items) at cells e (omega (arith, size, within)) found ∙ sym eh)),
-    )
+other-hash hash tuple links items at d h cells within e eh differ = not-there hash links (map tuple items) at d h cells within e eh differ

@@ -1,8 +1,10 @@
 -- Rows of different tuples, to which rows are added: an equal tuple is raised, another is kept too.
-use Rattle.std.proofs.Common.{◌≡◌, ℕ, zero, suc, ◌+◌, ◌≤◌, add-zero, zero-add, add_assoc, append_assoc, append-nil, Bool, true, false, cond, List, [], ◌∷◌, ◌++◌, length, get_or, set, Some, refl, sym, ap, ap₂, ◌∙◌, arith, inl, inr}
+use Rattle.std.proofs.Common.{◌≡◌, ℕ, zero, suc, ◌+◌, ◌<◌, ◌≤◌, add-zero, zero-add, add_assoc, append_assoc, append-nil, Bool, true, false, cond, List, [], ◌∷◌, ◌++◌, length, get_or, set, Some, refl, sym, ap, ap₂, ◌∙◌, arith, inl, inr}
 use Rattle.std.specs.Prelude.{slice_get}
+use Rattle.std.proofs.Math.Seq.{map-set_same}
 use Rattle.std.proofs.lemmas.Bool.{cases_Bool}
-use Rattle.std.proofs.lemmas.List.{get_or_default, length-map}
+use Rattle.std.proofs.lemmas.List.{length-map}
+use Rattle.std.proofs.lemmas.Option.{get_or_from_slice_get, slice_get-get_or, slice_get_within}
 use Rattle.sql_value.specs.Level.{greatest}
 use Rattle.sql_value.specs.declared.cell.Cell.{Cell}
 use Rattle.sql_value.specs.declared.level.Level.{Level}
@@ -102,12 +104,31 @@ raised-levels rows new k r old found is made = record {
       ∙ sym (level_in-append same_cells c rows (r ∷ []));
 }
 
--- what is read at the place of a tuple
-pub read-once : (rows : List (Row Tuple)) (k : ℕ) (cells : Tuple) (a b : Row Tuple) → slice_get (tuples_of rows) k ≡ Some cells → a ≡ get_or rows k a → b ≡ get_or rows k b → a ≡ b
-read-once rows k cells a b found ea eb =
-    let size = length-map rows (λ (r : Row Tuple). r.cells) in
-    let within = past-end (tuples_of rows) k cells found in
-    ea ∙ get_or_default rows k a b (omega (arith, size, within)) ∙ sym eb
+-- a row that is raised at the place of a tuple
+abbrev pub IsRaised : List (Row Tuple) → List (Row Tuple) → ℕ → Level → Type 0
+IsRaised rows new k l = (x : Row Tuple) → slice_get rows k ≡ Some x → new ≡ set rows k (row x.cells (greatest x.level l))
+
+read : (rows : List (Row Tuple)) (k : ℕ) (r : Row Tuple) → slice_get (tuples_of rows) k ≡ Some r.cells → (x : Row Tuple) × (slice_get rows k ≡ Some x) × (x ≡ get_or rows k x)
+read rows k r found =
+    let size = length-map rows (λ (x : Row Tuple). x.cells) in
+    let within = past-end (tuples_of rows) k r.cells found in
+    let there = slice_get-get_or rows k r (omega (arith, size, within)) in
+    (get_or rows k r, there, sym (get_or_from_slice_get rows k (get_or rows k r) (get_or rows k r) there))
+
+pub raised-within : (rows : List (Row Tuple)) (k : ℕ) (r : Row Tuple) → slice_get (tuples_of rows) k ≡ Some r.cells → k < length rows
+raised-within rows k r found =
+    let (x, there, is) = read rows k r found in
+    slice_get_within rows k x there
+
+pub raised-tuples : (rows new : List (Row Tuple)) (k : ℕ) (r : Row Tuple) → slice_get (tuples_of rows) k ≡ Some r.cells → IsRaised rows new k r.level → tuples_of new ≡ tuples_of rows
+raised-tuples rows new k r found made =
+    let (x, there, is) = read rows k r found in
+    ap tuples_of (made x there) ∙ map-set_same (λ (y : Row Tuple). y.cells) rows k (row x.cells (greatest x.level r.level)) x (ap (λ (y : Row Tuple). y.cells) is)
+
+pub raised-at : (rows new : List (Row Tuple)) (k : ℕ) (r : Row Tuple) → slice_get (tuples_of rows) k ≡ Some r.cells → IsRaised rows new k r.level → SameLevels same_cells new (rows ++ r ∷ [])
+raised-at rows new k r found made =
+    let (x, there, is) = read rows k r found in
+    raised-levels rows new k r x found is (made x there)
 
 -- ---- row by row
 

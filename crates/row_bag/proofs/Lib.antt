@@ -5,10 +5,12 @@ pub mod Binds
 pub mod Chains
 pub mod Copies
 pub mod Counts
+pub mod Cutting
 pub mod Deciding
 pub mod Filtering
 pub mod Entering
 pub mod FirstCells
+pub mod EvenRows
 pub mod FoldLaws
 pub mod Folds
 pub mod GreatestLevels
@@ -27,7 +29,9 @@ pub mod Means
 pub mod OneRow
 pub mod Onlys
 pub mod Order
+pub mod Places
 pub mod Products
+pub mod Ranking
 pub mod Scalars
 pub mod SetLaws
 pub mod Setting

@@ -1,5 +1,5 @@
 -- Rows beside rows, row by row.
-use Rattle.std.proofs.Common.{◌≡◌, ℕ, ◌+◌, arith, nat_eq, Bool, true, false, cond, not, List, [], ◌∷◌, ◌++◌, map, refl, ap, ap₂, ◌∙◌}
+use Rattle.std.proofs.Common.{◌≡◌, ℕ, ◌+◌, arith, nat_eq, Bool, true, false, cond, not, List, [], ◌∷◌, ◌++◌, map, refl, append_assoc, sym, ap, ap₂, ◌∙◌}
 use Rattle.std.proofs.Math.Dec.{eqb-suc-zero}
 use Rattle.std.proofs.Math.Numerals.{one-add}
 use Rattle.std.proofs.lemmas.Grind.{common_steps}
@@ -23,12 +23,32 @@ beside_all left (y ∷ ys) = ap₂ (λ l rows. row (left ++ y.cells) l ∷ rows)
 pub product_one : (x : Row (List Cell)) (xs ys : List (Row (List Cell))) → product (x ∷ xs) ys ≡ keep x.level (map (beside x.cells) ys) ++ product xs ys
 product_one x xs ys = ap (λ rows. keep x.level rows ++ product xs ys) (beside_all x.cells ys)
 
-pub ruleset product_steps = (common_steps, product_one)
+-- a product of one row more
+pub product-more : (made new row xs rest ys whole : List (Row (List Cell))) (x : Row (List Cell)) → xs ≡ x ∷ rest → row ≡ map (beside x.cells) ys → new ≡ made ++ keep x.level row → made ++ product xs ys ≡ whole
+    → new ++ product rest ys ≡ whole
+product-more made new row xs rest ys whole x first beside_it more so =
+    ap (λ t. t ++ product rest ys) (more ∙ ap (λ r. made ++ keep x.level r) beside_it)
+    ∙ append_assoc made (keep x.level (map (beside x.cells) ys)) (product rest ys)
+    ∙ ap (λ t. made ++ t) (sym (product_one x rest ys))
+    ∙ ap (λ t. made ++ product t ys) (sym first)
+    ∙ so
 
 pub keep_append : {T : Type 0} (l : Level) (xs ys : List (Row T)) → keep l (xs ++ ys) ≡ keep l xs ++ keep l ys
 keep_append l xs ys = keep-append l xs ys
 
 pub ruleset keep_steps = (common_steps, keep_append)
+
+-- ---- how many rows there are
+
+counts-one : {T : Type 0} (c : T) (l : Level) (rows : List (Row T)) → how_many (row c l ∷ rows) ≡ cond (is_there (row c l)) 1 0 + how_many rows
+counts-one c No rows = refl
+counts-one c Cardinality rows = refl
+counts-one c Division rows = refl
+counts-one c Overflow rows = refl
+counts-one c Yes rows = refl
+
+pub counts-row : {T : Type 0} (r : Row T) (rows : List (Row T)) → how_many (r ∷ rows) ≡ cond (is_there r) 1 0 + how_many rows
+counts-row r rows = counts-one r.cells r.level rows
 
 -- ---- these rows or others
 

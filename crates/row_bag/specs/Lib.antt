@@ -7,6 +7,7 @@ pub mod Errors
 pub mod ExistsJoins
 pub mod Filters
 pub mod FoldLaws
+pub mod Grids
 pub mod Groups
 pub mod Hashes
 pub mod Joins
@@ -15,6 +16,8 @@ pub mod Laws
 pub mod Matched
 pub mod Operands
 pub mod Order
+pub mod Ranks
+pub mod RowRefs
 pub mod Sets
 pub mod Sorted
 pub mod Subqueries

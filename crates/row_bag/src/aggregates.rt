@@ -13,8 +13,9 @@ ghost use Rattle.sql_value.specs.Cells as cells;
 ghost use Rattle.sql_value.specs.declared.cell.Cell.TheVariants.{Null};
 
 use crate::answer::{error_at, error_of, worst_of};
+use crate::bag::Bag;
 use crate::row::Row;
-use crate::tuple_index::{HasTuple, TupleIndex, hash_of};
+use crate::tuple_index::{HasTuples, TupleIndex, hash_of};
 use shared_types::OutOfMemory;
 use sql_value::{Aggregate, Cell, Kind, Level, Taken, cell_order, copy};
 use std::alloc::Global;
@@ -62,11 +63,11 @@ fn without_nulls(rows: Vec<Row<Cell>>) -> Vec<Row<Cell>>
     rows
 }
 
-impl HasTuple for Row<Cell> {
-    ghost tuple = { λ r. r.cells ∷ [] };
+impl HasTuples for Vec<Row<Cell>> {
+    ghost tuples = { λ v. map (λ r. r.cells ∷ []) v.items };
 
-    fn tuple(&self) -> &[Cell] {
-        slice::from_ref(&self.cells)
+    fn tuple(&self, place: usize) -> &[Cell] {
+        slice::from_ref(&self[place].cells)
     }
 }
 
@@ -83,7 +84,7 @@ fn keep_cell(
 {
     let tuple = slice::from_ref(cell);
     let hash = hash_of(tuple);
-    if index.find(kept.as_slice(), hash, tuple).is_none() {
+    if index.find(&*kept, hash, tuple).is_none() {
         index.push(hash)?;
         kept.push(Row {
             cells: copy(alloc, cell)?,
@@ -237,10 +238,16 @@ pub fn count_cell(count: usize) -> Cell
 }
 
 /// `COUNT(*)`: the number of rows (SQL-92 6.5).
-pub fn count_rows(rows: &[Row]) -> Cell
+pub fn count_rows(rows: &Bag) -> Cell
     ensures { result ≡ spec.count_rows rows.now }
 {
-    count_cell(how_many(rows))
+    let mut count = 0;
+    for i in 0..rows.len() {
+        if rows.at(i).is_there() {
+            count += 1;
+        }
+    }
+    count_cell(count)
 }
 
 // The lesser of two cells, of which null is none.

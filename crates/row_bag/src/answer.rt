@@ -2,11 +2,12 @@
 ghost use Rattle.std.specs.Prelude.{◌≡◌};
 ghost use Rattle.sql_value.specs.Cells.{error_of, worst_of};
 ghost use Rattle.row_bag.specs.Errors as errors;
+ghost use Rattle.row_bag.specs.RowRefs.{lent};
 ghost use Rattle.row_bag.specs.Verdict as spec;
 
 use crate::bag::Bag;
 use crate::outcome::Verdict;
-use crate::row::Row;
+use crate::row::{Row, RowRef};
 use sql_value::{Cell, Kind, Level};
 
 /// The greatest one of the errors that there are.
@@ -57,30 +58,27 @@ pub fn error_in(cells: &[Cell]) -> Option<Kind>
 pub fn is_there(row: &Row) -> bool
     ensures { result ≡ spec.is_there row.now }
 {
-    match row.level {
-        Level::No => false,
-        Level::Cardinality | Level::Division | Level::Overflow | Level::Yes => true,
-    }
+    row.lent().is_there()
 }
 
 // The greatest error of a row that is there; none of a row that isn't.
-fn error_of_row(row: &Row) -> Option<Kind>
-    ensures { result ≡ spec.error_of_row row.now }
+fn error_of_row(row: RowRef<'_>) -> Option<Kind>
+    ensures { result ≡ spec.error_of_row (lent row.entry) }
 {
-    if is_there(row) {
-        worst_of(error_at(row.level), error_in(row.cells.as_slice()))
+    if row.is_there() {
+        worst_of(error_at(row.level), error_in(row.cells))
     } else {
         None
     }
 }
 
 /// The greatest error among the levels and the cells of the rows that are there.
-pub fn error_among(rows: &[Row]) -> Option<Kind>
+pub fn error_among(rows: &Bag) -> Option<Kind>
     ensures { result ≡ errors.error_among errors.error_in rows.now }
 {
     let mut found = None;
-    for row in rows {
-        found = worst_of(found, error_of_row(row));
+    for i in 0..rows.len() {
+        found = worst_of(found, error_of_row(rows.at(i)));
     }
     found
 }
@@ -89,9 +87,9 @@ pub fn error_among(rows: &[Row]) -> Option<Kind>
 pub fn those_there(bag: Bag) -> Bag
     ensures { result ≡ spec.those_there bag }
 {
-    let mut rows = bag.into_rows();
-    rows.retain(|row| is_there(row));
-    Bag::from_rows(rows)
+    let mut bag = bag;
+    bag.keep_there();
+    bag
 }
 
 /// The answer of a query with these rows: where a row is at an error level or has an error cell,
@@ -100,7 +98,7 @@ pub fn those_there(bag: Bag) -> Bag
 pub fn verdict(bag: Bag) -> Verdict
     ensures { result ≡ spec.verdict bag }
 {
-    match error_among(bag.rows()) {
+    match error_among(&bag) {
         Some(kind) => Verdict::Error(kind),
         None => Verdict::Rows(those_there(bag)),
     }

@@ -3,12 +3,13 @@ ghost use Rattle.std.specs.Prelude.{◌≡◌, ◌++◌, ◌∷◌, [], map, rep
 ghost use Rattle.row_bag.specs.Bags.{keep};
 ghost use Rattle.row_bag.specs.Joins as joins;
 ghost use Rattle.row_bag.specs.Beside as spec;
+ghost use Rattle.row_bag.specs.RowRefs.{lent};
 ghost use Rattle.sql_value.specs.declared.cell.Cell.TheVariants.{Null};
 
 use crate::bag::Bag;
-use crate::row::Row;
+use crate::row::{Row, RowRef};
 use crate::subqueries::any_there;
-use crate::tuples::append_cells;
+use crate::tuples::{append_cells, copied};
 use shared_types::OutOfMemory;
 use sql_value::{Cell, Level, least};
 use sqlite_items::Items;
@@ -29,11 +30,11 @@ pub fn cells_beside(
 }
 
 /// Cells, and then those of a row, at its level. It fails only for want of memory.
-pub fn beside(alloc: Global, left: &[Cell], right: &Row) -> Result<Row, OutOfMemory>
-    ensures { IfOk result (λ made. made ≡ spec.beside left.now right.now) }
+pub fn beside(alloc: Global, left: &[Cell], right: RowRef<'_>) -> Result<Row, OutOfMemory>
+    ensures { IfOk result (λ made. made ≡ spec.beside left.now (lent right.entry)) }
 {
     Ok(Row {
-        cells: cells_beside(alloc, left, right.cells.as_slice())?,
+        cells: cells_beside(alloc, left, right.cells)?,
         level: right.level,
     })
 }
@@ -60,15 +61,22 @@ pub fn with_nulls(alloc: Global, left: &[Cell], width: usize) -> Result<Row, Out
     })
 }
 
-// Adds rows at the end, each at the lower one of its level and this one.
-fn append_each(out: &mut Bag, level: Level, rows: Vec<Row>) -> Result<(), OutOfMemory>
-    ensures { OnOk result (out.new ≡ out.old ++ keep level rows.items) }
+// Adds a copy of a row at the end, at the lower one of its level and this one.
+fn push_kept(alloc: Global, out: &mut Bag, level: Level, row: RowRef<'_>) -> Result<(), OutOfMemory>
+    ensures { OnOk result (out.new ≡ out.old ++ keep level (lent row.entry ∷ [])) }
 {
-    for row in rows {
-        out.push(Row {
-            cells: row.cells,
-            level: least(level, row.level),
-        })?;
+    out.push(Row {
+        cells: copied(alloc, row.cells)?,
+        level: least(level, row.level),
+    })
+}
+
+// Adds copies of rows at the end, each at the lower one of its level and this one.
+fn append_each(alloc: Global, out: &mut Bag, level: Level, rows: &Bag) -> Result<(), OutOfMemory>
+    ensures { OnOk result (out.new ≡ out.old ++ keep level rows.now) }
+{
+    for i in 0..rows.len() {
+        push_kept(alloc, out, level, rows.at(i))?;
     }
     Ok(())
 }
@@ -78,28 +86,29 @@ fn append_each(out: &mut Bag, level: Level, rows: Vec<Row>) -> Result<(), OutOfM
 pub fn append_kept(out: &mut Bag, level: Level, rows: Bag) -> Result<(), OutOfMemory>
     ensures { OnOk result (out.new ≡ out.old ++ keep level rows) }
 {
-    append_each(out, level, rows.into_rows())
+    append_each(out.allocator(), out, level, &rows)
 }
 
 // Cells beside each row.
-fn beside_each(alloc: Global, left: &[Cell], ys: &[Row]) -> Result<Bag, OutOfMemory>
+fn beside_each(alloc: Global, left: &[Cell], ys: &Bag) -> Result<Bag, OutOfMemory>
     ensures { IfOk result (λ made. made ≡ map (spec.beside left.now) ys.now) }
 {
     let mut made = Bag::new(alloc);
-    for y in ys {
-        made.push(beside(alloc, left, y)?)?;
+    for i in 0..ys.len() {
+        made.push(beside(alloc, left, ys.at(i))?)?;
     }
     Ok(made)
 }
 
 /// A product: each row of the first beside each of the second, at the lower one of both levels
 /// (SQL-92 7.4). It fails only for want of memory.
-pub fn product(alloc: Global, xs: &[Row], ys: &[Row]) -> Result<Bag, OutOfMemory>
+pub fn product(alloc: Global, xs: &Bag, ys: &Bag) -> Result<Bag, OutOfMemory>
     ensures { IfOk result (λ made. made ≡ joins.product xs.now ys.now) }
 {
     let mut made = Bag::new(alloc);
-    for x in xs {
-        let row = beside_each(alloc, x.cells.as_slice(), ys)?;
+    for i in 0..xs.len() {
+        let x = xs.at(i);
+        let row = beside_each(alloc, x.cells, ys)?;
         append_kept(&mut made, x.level, row)?;
     }
     Ok(made)
@@ -115,7 +124,7 @@ pub fn or_with_nulls(
 ) -> Result<Bag, OutOfMemory>
     ensures { IfOk result (λ made. made ≡ joins.or_else partners (spec.with_nulls left.now width ∷ [])) }
 {
-    if any_there(partners.rows()) {
+    if any_there(&partners) {
         return Ok(partners);
     }
     let mut made = Bag::new(alloc);

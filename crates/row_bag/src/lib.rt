@@ -4,6 +4,7 @@
 mod aggregates;
 mod answer;
 mod bag;
+mod grid;
 mod groups;
 mod joins;
 mod laws;
@@ -23,12 +24,12 @@ pub use answer::{
     error_among, error_at, error_in, error_of, is_there, those_there, verdict, worst_of,
 };
 pub use bag::Bag;
-pub use groups::{Group, groups_of, key_error, key_error_of};
+pub use groups::key_error_of;
 pub use joins::{append_kept, beside, cells_beside, nulls, or_with_nulls, product, with_nulls};
 pub use laws::{bag_laws, filter_laws, fold_laws, join_laws, key_laws, set_laws, tag_laws};
 pub use operand::Operand;
 pub use outcome::Verdict;
-pub use row::{Row, order_by, row_order, same_cells};
+pub use row::{Row, RowRef, order_by, row_order, same_cells};
 pub use sets::{distinct, except, failed_cells, failed_row, intersect, union};
 pub use sort::sorted;
 pub use subqueries::{any_there, compare_all, compare_any, exists, presence, scalar};

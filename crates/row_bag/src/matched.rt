@@ -3,14 +3,14 @@ ghost use Rattle.std.specs.Prelude.{◌≡◌, ◌+◌, ◌++◌, ◌∷◌, ◌
 ghost use Rattle.row_bag.specs.Bags.{count, row, same_level};
 ghost use Rattle.row_bag.specs.Hashes.{AreDifferent, hash_of, hashes_of};
 ghost use Rattle.row_bag.specs.Matched as spec;
+ghost use Rattle.row_bag.specs.RowRefs.{lent};
 ghost use Rattle.row_bag.specs.Sets.{multiplicity, same_cells};
 ghost use Rattle.sql_value.specs.declared.cell.Cell.{Cell};
 ghost use Rattle.sql_value.specs.declared.level.Level.{Level};
 
-use crate::answer::is_there;
 use crate::bag::Bag;
-use crate::row::Row;
-use crate::tuple_index::{HasTuple, TupleIndex, hash_of};
+use crate::row::{Row, RowRef};
+use crate::tuple_index::{HasTuples, TupleIndex, hash_of};
 use crate::tuples::copied;
 use shared_types::OutOfMemory;
 use sql_value::{Cell, Level};
@@ -23,19 +23,19 @@ struct Left<'a> {
     count: usize,
 }
 
-impl<'a> HasTuple for Left<'a> {
-    ghost tuple = { λ l. l.cells.now };
+impl<'a> HasTuples for Vec<Left<'a>> {
+    ghost tuples = { λ v. map (λ l. l.cells.now) v.items };
 
-    fn tuple(&self) -> &[Cell] {
-        self.cells
+    fn tuple(&self, place: usize) -> &[Cell] {
+        self[place].cells
     }
 }
 
-impl<'a> HasTuple for &'a [Cell] {
-    ghost tuple = { λ cells. cells.now };
+impl<'a> HasTuples for Vec<&'a [Cell]> {
+    ghost tuples = { λ v. map (λ t. t.now) v.items };
 
-    fn tuple(&self) -> &[Cell] {
-        self
+    fn tuple(&self, place: usize) -> &[Cell] {
+        self[place]
     }
 }
 
@@ -81,7 +81,7 @@ fn take(index: &TupleIndex, items: &mut Vec<Left<'_>>, cells: &[Cell]) -> bool
     ensures rest { spec.HasTaken (λ l. l.cells.now) (λ l. l.count) result cells.now items.old.items items.new.items }
     ensures none { result ≡ false → spec.left_of (λ l. l.cells.now) (λ l. l.count) cells.now items.new.items ≡ 0 }
 {
-    match index.find(items.as_slice(), hash_of(cells), cells) {
+    match index.find(&*items, hash_of(cells), cells) {
         Some(place) => take_one(items, place, cells),
         None => false,
     }
@@ -121,7 +121,7 @@ fn count_tuple<'a>(
     ensures counts { OnOk result (spec.HasCounted (λ l. l.cells.now) (λ l. l.count) cells.now items.old.items items.new.items) }
 {
     let hash = hash_of(cells);
-    match index.find(items.as_slice(), hash, cells) {
+    match index.find(&*items, hash, cells) {
         Some(place) => {
             count_one(items, place, cells);
             Ok(())
@@ -137,17 +137,17 @@ fn count_tuple<'a>(
 fn count_row<'a>(
     index: &mut TupleIndex,
     items: &mut Vec<Left<'a>>,
-    row: &'a Row,
+    row: RowRef<'a>,
 ) -> Result<(), OutOfMemory>
     requires index { index.old ≡ hashes_of (map (λ l. l.cells.now) items.old.items) }
     requires once { AreDifferent (map (λ l. l.cells.now) items.old.items) }
-    requires room { spec.left_of (λ l. l.cells.now) (λ l. l.count) row.now.cells items.old.items + multiplicity same_cells row.now.cells (row.now ∷ []) < 2 ^ 64 }
+    requires room { spec.left_of (λ l. l.cells.now) (λ l. l.count) (lent row).cells items.old.items + multiplicity same_cells (lent row).cells (lent row ∷ []) < 2 ^ 64 }
     ensures index { OnOk result (index.new ≡ hashes_of (map (λ l. l.cells.now) items.new.items)) }
     ensures once { OnOk result (AreDifferent (map (λ l. l.cells.now) items.new.items)) }
-    ensures counts { OnOk result ((c : List Cell) → spec.left_of (λ l. l.cells.now) (λ l. l.count) c items.new.items ≡ spec.left_of (λ l. l.cells.now) (λ l. l.count) c items.old.items + multiplicity same_cells c (row.now ∷ [])) }
+    ensures counts { OnOk result ((c : List Cell) → spec.left_of (λ l. l.cells.now) (λ l. l.count) c items.new.items ≡ spec.left_of (λ l. l.cells.now) (λ l. l.count) c items.old.items + multiplicity same_cells c (lent row.entry ∷ [])) }
 {
-    if is_there(row) {
-        count_tuple(index, items, row.cells.as_slice())?;
+    if row.is_there() {
+        count_tuple(index, items, row.cells)?;
         Ok(())
     } else {
         Ok(())
@@ -155,25 +155,25 @@ fn count_row<'a>(
 }
 
 // The different tuples of the rows that are there, each with how often it stands there.
-fn counted<'a>(alloc: Global, rows: &'a [Row]) -> Result<Lefts<'a>, OutOfMemory>
+fn counted<'a>(alloc: Global, rows: &'a Bag) -> Result<Lefts<'a>, OutOfMemory>
     ensures index { IfOk result (λ made. made.index ≡ hashes_of (map (λ l. l.cells.now) made.items.items)) }
     ensures once { IfOk result (λ made. AreDifferent (map (λ l. l.cells.now) made.items.items)) }
     ensures counts { IfOk result (λ made. (c : List Cell) → spec.left_of (λ l. l.cells.now) (λ l. l.count) c made.items.items ≡ multiplicity same_cells c rows.now) }
 {
     let mut index = TupleIndex::with_chains(alloc, rows.len())?;
     let mut items = Vec::new(alloc);
-    for row in rows {
-        count_row(&mut index, &mut items, row)?;
+    for i in 0..rows.len() {
+        count_row(&mut index, &mut items, rows.at(i))?;
     }
     Ok(Lefts { index, items })
 }
 
 // Adds the tuple of a row, where the row is there.
-fn add_there<'a>(tuples: &mut Vec<&'a [Cell]>, row: &'a Row) -> Result<(), OutOfMemory>
-    ensures { OnOk result ((c : List Cell) → spec.often c (map (λ t. t.now) tuples.new.items) ≡ spec.often c (map (λ t. t.now) tuples.old.items) + multiplicity same_cells c (row.now ∷ [])) }
+fn add_there<'a>(tuples: &mut Vec<&'a [Cell]>, row: RowRef<'a>) -> Result<(), OutOfMemory>
+    ensures { OnOk result ((c : List Cell) → spec.often c (map (λ t. t.now) tuples.new.items) ≡ spec.often c (map (λ t. t.now) tuples.old.items) + multiplicity same_cells c (lent row.entry ∷ [])) }
 {
-    if is_there(row) {
-        tuples.push(row.cells.as_slice())?;
+    if row.is_there() {
+        tuples.push(row.cells)?;
         Ok(())
     } else {
         Ok(())
@@ -181,12 +181,12 @@ fn add_there<'a>(tuples: &mut Vec<&'a [Cell]>, row: &'a Row) -> Result<(), OutOf
 }
 
 // The tuples of the rows that are there.
-fn tuples_there<'a>(alloc: Global, rows: &'a [Row]) -> Result<Vec<&'a [Cell]>, OutOfMemory>
+fn tuples_there<'a>(alloc: Global, rows: &'a Bag) -> Result<Vec<&'a [Cell]>, OutOfMemory>
     ensures { IfOk result (λ tuples. (c : List Cell) → spec.often c (map (λ t. t.now) tuples.items) ≡ multiplicity same_cells c rows.now) }
 {
     let mut tuples = Vec::new(alloc);
-    for row in rows {
-        add_there(&mut tuples, row)?;
+    for i in 0..rows.len() {
+        add_there(&mut tuples, rows.at(i))?;
     }
     Ok(tuples)
 }
@@ -220,7 +220,7 @@ fn add_once<'a>(
     ensures counts { OnOk result (spec.HasAdded cells.now (map (λ t. t.now) tuples.old.items) (map (λ t. t.now) tuples.new.items)) }
 {
     let hash = hash_of(cells);
-    match index.find(tuples.as_slice(), hash, cells) {
+    match index.find(&*tuples, hash, cells) {
         Some(_place) => Ok(()),
         None => {
             push_tuple(index, tuples, hash, cells)?;
@@ -233,16 +233,16 @@ fn add_once<'a>(
 fn enter<'a>(
     index: &mut TupleIndex,
     tuples: &mut Vec<&'a [Cell]>,
-    row: &'a Row,
+    row: RowRef<'a>,
 ) -> Result<(), OutOfMemory>
     requires index { index.old ≡ hashes_of (map (λ t. t.now) tuples.old.items) }
     requires once { AreDifferent (map (λ t. t.now) tuples.old.items) }
     ensures index { OnOk result (index.new ≡ hashes_of (map (λ t. t.now) tuples.new.items)) }
     ensures once { OnOk result (AreDifferent (map (λ t. t.now) tuples.new.items)) }
-    ensures counts { OnOk result ((c : List Cell) → min 1 (spec.often c (map (λ t. t.now) tuples.new.items)) ≡ min 1 (spec.often c (map (λ t. t.now) tuples.old.items) + multiplicity same_cells c (row.now ∷ []))) }
+    ensures counts { OnOk result ((c : List Cell) → min 1 (spec.often c (map (λ t. t.now) tuples.new.items)) ≡ min 1 (spec.often c (map (λ t. t.now) tuples.old.items) + multiplicity same_cells c (lent row.entry ∷ []))) }
 {
-    if is_there(row) {
-        add_once(index, tuples, row.cells.as_slice())?;
+    if row.is_there() {
+        add_once(index, tuples, row.cells)?;
         Ok(())
     } else {
         Ok(())
@@ -250,23 +250,19 @@ fn enter<'a>(
 }
 
 // The tuples of the rows that are there, each once.
-fn tuples_once<'a>(alloc: Global, rows: &'a [Row]) -> Result<Vec<&'a [Cell]>, OutOfMemory>
+fn tuples_once<'a>(alloc: Global, rows: &'a Bag) -> Result<Vec<&'a [Cell]>, OutOfMemory>
     ensures { IfOk result (λ tuples. (c : List Cell) → spec.often c (map (λ t. t.now) tuples.items) ≡ min 1 (multiplicity same_cells c rows.now)) }
 {
     let mut index = TupleIndex::with_chains(alloc, rows.len())?;
     let mut tuples = Vec::new(alloc);
-    for row in rows {
-        enter(&mut index, &mut tuples, row)?;
+    for i in 0..rows.len() {
+        enter(&mut index, &mut tuples, rows.at(i))?;
     }
     Ok(tuples)
 }
 
 // The tuples of the rows that are there, all or once each.
-fn all_or_once<'a>(
-    alloc: Global,
-    rows: &'a [Row],
-    all: bool,
-) -> Result<Vec<&'a [Cell]>, OutOfMemory>
+fn all_or_once<'a>(alloc: Global, rows: &'a Bag, all: bool) -> Result<Vec<&'a [Cell]>, OutOfMemory>
     ensures { IfOk result (λ tuples. (c : List Cell) → spec.often c (map (λ t. t.now) tuples.items) ≡ spec.all_or_once all (multiplicity same_cells c rows.now)) }
 {
     if all {
@@ -316,8 +312,8 @@ fn parted(
 // that, or at most once.
 pub(crate) fn matching(
     alloc: Global,
-    a: &[Row],
-    b: &[Row],
+    a: &Bag,
+    b: &Bag,
     all: bool,
     matched: bool,
 ) -> Result<Bag, OutOfMemory>

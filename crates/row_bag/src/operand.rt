@@ -3,7 +3,6 @@ ghost use Rattle.std.specs.Prelude.{◌≡◌, IfOk};
 ghost use Rattle.row_bag.specs.Operands.{held};
 
 use crate::bag::Bag;
-use crate::row::Row;
 use crate::tuples::copied_rows;
 use shared_types::OutOfMemory;
 use std::alloc::Global;
@@ -11,18 +10,18 @@ use std::alloc::Global;
 /// Rows that stand elsewhere, or rows of their own.
 #[derive(Drop)]
 pub enum Operand<'a> {
-    Borrowed(&'a [Row]),
+    Borrowed(&'a Bag),
     Made(Bag),
 }
 
 impl<'a> Operand<'a> {
     /// The rows.
-    pub fn rows(&self) -> &[Row]
+    pub fn rows(&self) -> &Bag
         ensures { result.now ≡ held self.now }
     {
         match self {
             Operand::Borrowed(rows) => rows,
-            Operand::Made(bag) => bag.rows(),
+            Operand::Made(bag) => bag,
         }
     }
 

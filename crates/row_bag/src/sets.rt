@@ -4,6 +4,7 @@ ghost use Rattle.row_bag.specs.Bags.{Agree, row};
 ghost use Rattle.row_bag.specs.Errors as errors;
 ghost use Rattle.row_bag.specs.Hashes.{AreDifferent, hash_of, hashes_of, tuples_of};
 ghost use Rattle.row_bag.specs.Operands.{held};
+ghost use Rattle.row_bag.specs.RowRefs.{lent};
 ghost use Rattle.row_bag.specs.Sets as spec;
 ghost use Rattle.sql_value.specs.Level.{level_of};
 
@@ -11,76 +12,50 @@ use crate::answer::{error_among, those_there, worst_of};
 use crate::bag::Bag;
 use crate::matched::matching;
 use crate::operand::Operand;
-use crate::row::Row;
+use crate::row::{Row, RowRef};
 use crate::tuple_index::{TupleIndex, hash_of};
-use crate::tuples::copied_row;
+use crate::tuples::{append_copied, copied_row};
 use shared_types::OutOfMemory;
 use sql_value::{Cell, Kind, greatest, level_of};
 use sqlite_items::Items;
 use std::alloc::Global;
 
 // Raises the level of the row at a place to that of a row of an equal tuple.
-fn raise(kept: &mut Vec<Row>, place: usize, row: &Row)
-    requires { slice_get (tuples_of kept.old.items) place ≡ Some row.now.cells }
-    ensures tuples { tuples_of kept.new.items ≡ tuples_of kept.old.items }
-    ensures levels { spec.SameLevels spec.same_cells kept.new.items (kept.old.items ++ row.now ∷ []) }
+fn raise(kept: &mut Bag, place: usize, row: RowRef<'_>)
+    requires { slice_get (tuples_of kept.old) place ≡ Some (lent row).cells }
+    ensures tuples { tuples_of kept.new ≡ tuples_of kept.old }
+    ensures levels { spec.SameLevels spec.same_cells kept.new (kept.old ++ lent row.entry ∷ []) }
 {
-    let level = greatest(kept[place].level, row.level);
-    kept[place].level = level;
+    kept.raise(place, row.level);
 }
 
 // Adds a row of a tuple, of this hash, that doesn't stand among the rows.
-fn keep_new(
-    index: &mut TupleIndex,
-    kept: &mut Vec<Row>,
-    hash: u64,
-    row: Row,
-) -> Result<(), OutOfMemory>
-    requires index { index.old ≡ hashes_of (tuples_of kept.old.items) }
+fn keep_new(index: &mut TupleIndex, kept: &mut Bag, hash: u64, row: Row) -> Result<(), OutOfMemory>
+    requires index { index.old ≡ hashes_of (tuples_of kept.old) }
     requires hash { hash ≡ hash_of row.cells }
-    ensures index { OnOk result (index.new ≡ hashes_of (tuples_of kept.new.items)) }
-    ensures kept { OnOk result (kept.new.items ≡ kept.old.items ++ row ∷ []) }
+    ensures index { OnOk result (index.new ≡ hashes_of (tuples_of kept.new)) }
+    ensures kept { OnOk result (kept.new ≡ kept.old ++ row ∷ []) }
 {
     index.push(hash)?;
     kept.push(row)?;
     Ok(())
 }
 
-// Adds a row to rows of different tuples: the one of an equal tuple is raised to its level, and
-// where there is none, it is kept too.
-fn keep(index: &mut TupleIndex, kept: &mut Vec<Row>, row: Row) -> Result<(), OutOfMemory>
-    requires { index.old ≡ hashes_of (tuples_of kept.old.items) }
-    ensures index { OnOk result (index.new ≡ hashes_of (tuples_of kept.new.items)) }
-    ensures levels { OnOk result (spec.SameLevels spec.same_cells kept.new.items (kept.old.items ++ row ∷ [])) }
-    ensures once { OnOk result (AreDifferent (tuples_of kept.old.items) → AreDifferent (tuples_of kept.new.items)) }
-{
-    let hash = hash_of(row.cells.as_slice());
-    match index.find(kept.as_slice(), hash, row.cells.as_slice()) {
-        Some(place) => {
-            raise(kept, place, &row);
-            Ok(())
-        }
-        None => {
-            keep_new(index, kept, hash, row)?;
-            Ok(())
-        }
-    }
-}
-
-// Adds a copy of a row to rows of different tuples, as [`keep`] adds a row.
-fn keep_copied(
+// Adds a copy of a row to rows of different tuples: the one of an equal tuple is raised to its level,
+// and where there is none, it is kept too.
+fn keep(
     alloc: Global,
     index: &mut TupleIndex,
-    kept: &mut Vec<Row>,
-    row: &Row,
+    kept: &mut Bag,
+    row: RowRef<'_>,
 ) -> Result<(), OutOfMemory>
-    requires { index.old ≡ hashes_of (tuples_of kept.old.items) }
-    ensures index { OnOk result (index.new ≡ hashes_of (tuples_of kept.new.items)) }
-    ensures levels { OnOk result (spec.SameLevels spec.same_cells kept.new.items (kept.old.items ++ row.now ∷ [])) }
-    ensures once { OnOk result (AreDifferent (tuples_of kept.old.items) → AreDifferent (tuples_of kept.new.items)) }
+    requires { index.old ≡ hashes_of (tuples_of kept.old) }
+    ensures index { OnOk result (index.new ≡ hashes_of (tuples_of kept.new)) }
+    ensures levels { OnOk result (spec.SameLevels spec.same_cells kept.new (kept.old ++ lent row.entry ∷ [])) }
+    ensures once { OnOk result (AreDifferent (tuples_of kept.old) → AreDifferent (tuples_of kept.new)) }
 {
-    let hash = hash_of(row.cells.as_slice());
-    match index.find(kept.as_slice(), hash, row.cells.as_slice()) {
+    let hash = hash_of(row.cells);
+    match index.find(&*kept, hash, row.cells) {
         Some(place) => {
             raise(kept, place, row);
             Ok(())
@@ -92,53 +67,22 @@ fn keep_copied(
     }
 }
 
-// Adds rows to rows of different tuples, as [`keep`] does.
-fn keep_each(index: &mut TupleIndex, kept: &mut Vec<Row>, rows: Vec<Row>) -> Result<(), OutOfMemory>
-    requires { index.old ≡ hashes_of (tuples_of kept.old.items) }
-    ensures index { OnOk result (index.new ≡ hashes_of (tuples_of kept.new.items)) }
-    ensures levels { OnOk result (spec.SameLevels spec.same_cells kept.new.items (kept.old.items ++ rows.items)) }
-    ensures once { OnOk result (AreDifferent (tuples_of kept.old.items) → AreDifferent (tuples_of kept.new.items)) }
-{
-    for row in rows {
-        keep(index, kept, row)?;
-    }
-    Ok(())
-}
-
 // Adds copies of rows to rows of different tuples, as [`keep`] does.
-fn keep_each_copied(
+fn keep_each(
     alloc: Global,
     index: &mut TupleIndex,
-    kept: &mut Vec<Row>,
-    rows: &[Row],
+    kept: &mut Bag,
+    rows: &Bag,
 ) -> Result<(), OutOfMemory>
-    requires { index.old ≡ hashes_of (tuples_of kept.old.items) }
-    ensures index { OnOk result (index.new ≡ hashes_of (tuples_of kept.new.items)) }
-    ensures levels { OnOk result (spec.SameLevels spec.same_cells kept.new.items (kept.old.items ++ rows.now)) }
-    ensures once { OnOk result (AreDifferent (tuples_of kept.old.items) → AreDifferent (tuples_of kept.new.items)) }
+    requires { index.old ≡ hashes_of (tuples_of kept.old) }
+    ensures index { OnOk result (index.new ≡ hashes_of (tuples_of kept.new)) }
+    ensures levels { OnOk result (spec.SameLevels spec.same_cells kept.new (kept.old ++ rows.now)) }
+    ensures once { OnOk result (AreDifferent (tuples_of kept.old) → AreDifferent (tuples_of kept.new)) }
 {
-    for row in rows {
-        keep_copied(alloc, index, kept, row)?;
+    for i in 0..rows.len() {
+        keep(alloc, index, kept, rows.at(i))?;
     }
     Ok(())
-}
-
-// Adds the rows of an operand to rows of different tuples, as [`keep`] does; of borrowed ones copies.
-fn keep_operand(
-    alloc: Global,
-    index: &mut TupleIndex,
-    kept: &mut Vec<Row>,
-    operand: Operand<'_>,
-) -> Result<(), OutOfMemory>
-    requires { index.old ≡ hashes_of (tuples_of kept.old.items) }
-    ensures index { OnOk result (index.new ≡ hashes_of (tuples_of kept.new.items)) }
-    ensures levels { OnOk result (spec.SameLevels spec.same_cells kept.new.items (kept.old.items ++ held operand.entry)) }
-    ensures once { OnOk result (AreDifferent (tuples_of kept.old.items) → AreDifferent (tuples_of kept.new.items)) }
-{
-    match operand {
-        Operand::Borrowed(rows) => keep_each_copied(alloc, index, kept, rows),
-        Operand::Made(bag) => keep_each(index, kept, bag.into_rows()),
-    }
 }
 
 /// DISTINCT: each tuple once, at its greatest level. Tuples are equal where their cells are the
@@ -147,22 +91,20 @@ fn keep_operand(
 pub fn distinct(bag: Bag) -> Result<Bag, OutOfMemory>
     ensures { IfOk result (λ b. Agree spec.same_cells b (spec.distinct spec.same_cells bag)) }
 {
-    let rows = bag.into_rows();
-    let alloc = *rows.allocator();
-    let mut index = TupleIndex::with_chains(alloc, rows.len())?;
-    let mut kept = Vec::new(alloc);
-    keep_each(&mut index, &mut kept, rows)?;
-    Ok(those_there(Bag::from_rows(kept)))
+    let alloc = bag.allocator();
+    let mut index = TupleIndex::with_chains(alloc, bag.len())?;
+    let mut kept = Bag::new(alloc);
+    keep_each(alloc, &mut index, &mut kept, &bag)?;
+    Ok(those_there(kept))
 }
 
 // The rows of both, one after the other.
 fn appended(alloc: Global, a: Operand<'_>, b: Operand<'_>) -> Result<Bag, OutOfMemory>
     ensures { IfOk result (λ rows. rows ≡ held a.entry ++ held b.entry) }
 {
-    let mut rows = a.into_bag(alloc)?.into_rows();
-    let mut more = b.into_bag(alloc)?.into_rows();
-    rows.append(&mut more)?;
-    Ok(Bag::from_rows(rows))
+    let mut rows = a.into_bag(alloc)?;
+    append_copied(alloc, &mut rows, b.rows())?;
+    Ok(rows)
 }
 
 // Each tuple of both once, at its greatest level.
@@ -171,15 +113,14 @@ fn union_once(alloc: Global, a: Operand<'_>, b: Operand<'_>) -> Result<Bag, OutO
 {
     let most = a.rows().len().saturating_add(b.rows().len());
     let mut index = TupleIndex::with_chains(alloc, most)?;
-    let mut kept = Vec::new(alloc);
-    keep_operand(alloc, &mut index, &mut kept, a)?;
-    keep_operand(alloc, &mut index, &mut kept, b)?;
-    Ok(those_there(Bag::from_rows(kept)))
+    let mut kept = Bag::new(alloc);
+    keep_each(alloc, &mut index, &mut kept, a.rows())?;
+    keep_each(alloc, &mut index, &mut kept, b.rows())?;
+    Ok(those_there(kept))
 }
 
 /// UNION: each tuple of both once, at its greatest level; with `all` UNION ALL, the rows of both
-/// (SQL-92 7.10). Rows that are borrowed are copied where they are kept. It fails only for want of
-/// memory.
+/// (SQL-92 7.10). Rows are copied where they are kept. It fails only for want of memory.
 pub fn union(alloc: Global, a: Operand<'_>, b: Operand<'_>, all: bool) -> Result<Bag, OutOfMemory>
     ensures { IfOk result (λ rows. Agree spec.same_cells rows (if all then held a.entry ++ held b.entry else spec.union spec.same_cells (held a.entry) (held b.entry))) }
 {
@@ -191,7 +132,7 @@ pub fn union(alloc: Global, a: Operand<'_>, b: Operand<'_>, all: bool) -> Result
 }
 
 // The greatest error among the levels and the cells of both rows.
-fn error_of_both(a: &[Row], b: &[Row]) -> Option<Kind>
+fn error_of_both(a: &Bag, b: &Bag) -> Option<Kind>
     ensures { result ≡ errors.error_among errors.error_in (a.now ++ b.now) }
 {
     worst_of(error_among(a), error_among(b))
@@ -228,8 +169,8 @@ pub fn failed_row(alloc: Global, columns: usize, kind: Kind) -> Result<Bag, OutO
 /// many columns. It fails only for want of memory.
 pub fn intersect(
     alloc: Global,
-    a: &[Row],
-    b: &[Row],
+    a: &Bag,
+    b: &Bag,
     all: bool,
     columns: usize,
 ) -> Result<Bag, OutOfMemory>
@@ -247,8 +188,8 @@ pub fn intersect(
 /// memory.
 pub fn except(
     alloc: Global,
-    a: &[Row],
-    b: &[Row],
+    a: &Bag,
+    b: &Bag,
     all: bool,
     columns: usize,
 ) -> Result<Bag, OutOfMemory>

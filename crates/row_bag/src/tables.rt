@@ -20,12 +20,19 @@ pub struct Table {
 #[derive(Drop)]
 pub struct Tables {
     tables: Vec<Table>,
+    // No row, which is lent where no table has a name.
+    none: Bag,
 }
 
 impl Model for Tables {
+    ghost use Rattle.std.specs.Prelude.{◌≡◌, [], List};
+    ghost use Rattle.row_bag.specs.declared.tables.Table.{Table};
+
     ghost Value = { List Table };
 
     ghost view = { λ t. t.tables.items };
+
+    ghost invariant = { λ t. t.none ≡ [] };
 }
 
 // The place of the first table of a name.
@@ -42,6 +49,7 @@ impl Tables {
     {
         Tables {
             tables: Vec::new(alloc),
+            none: Bag::new(alloc),
         }
     }
 
@@ -50,6 +58,13 @@ impl Tables {
         ensures { result.now ≡ self.now }
     {
         &self.tables
+    }
+
+    /// No row.
+    pub fn none(&self) -> &Bag
+        ensures { result.now ≡ [] }
+    {
+        &self.none
     }
 
     /// Adds a table at the end.

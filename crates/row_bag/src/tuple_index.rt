@@ -4,28 +4,30 @@ ghost use Rattle.row_bag.specs.Hashes as spec;
 ghost use Rattle.row_bag.specs.Matched.{often};
 ghost use Rattle.sql_value.specs.declared.cell.Cell.{Cell};
 
-use crate::row::{Row, same_cells};
+use crate::bag::Bag;
+use crate::row::same_cells;
 use shared_types::OutOfMemory;
 use sql_value::Cell;
 use std::alloc::Global;
 use std::hash::{FoldHasher, Hash, Hasher};
 use std::marker::Model;
 
-/// What has a tuple of cells.
-pub(crate) trait HasTuple {
-    /// The tuple.
-    ghost tuple: { Self → List Cell };
+/// What has tuples of cells, at places.
+pub(crate) trait HasTuples {
+    /// The tuples.
+    ghost tuples: { Self → List (List Cell) };
 
-    /// The tuple.
-    fn tuple(&self) -> &[Cell]
-        ensures { result.now ≡ tuple self.now };
+    /// The tuple at a place.
+    fn tuple(&self, place: usize) -> &[Cell]
+        requires { place < length (tuples self.now) }
+        ensures { slice_get (tuples self.now) place ≡ Some result.now };
 }
 
-impl HasTuple for Row {
-    ghost tuple = { λ r. r.cells };
+impl HasTuples for Bag {
+    ghost tuples = { spec.tuples_of };
 
-    fn tuple(&self) -> &[Cell] {
-        self.cells.as_slice()
+    fn tuple(&self, place: usize) -> &[Cell] {
+        self.at(place).cells
     }
 }
 
@@ -71,28 +73,28 @@ struct Link {
 }
 
 // The tuple at a place is these cells.
-fn is_it<T: HasTuple>(links: &[Link], items: &[T], at: usize, hash: u64, cells: &[Cell]) -> bool
+fn is_it<T: HasTuples>(links: &[Link], items: &T, at: usize, hash: u64, cells: &[Cell]) -> bool
     requires within { at < length links.now }
-    requires hashes { map (λ l. l.hash) links.now ≡ spec.hashes_of (map T.tuple items.now) }
+    requires hashes { map (λ l. l.hash) links.now ≡ spec.hashes_of (T.tuples items.now) }
     requires hash { hash ≡ spec.hash_of cells.now }
-    ensures { IsTrue result ↔ (slice_get (map T.tuple items.now) at ≡ Some cells.now) }
+    ensures { IsTrue result ↔ (slice_get (T.tuples items.now) at ≡ Some cells.now) }
 {
-    links[at].hash == hash && same_cells(items[at].tuple(), cells)
+    links[at].hash == hash && same_cells(items.tuple(at), cells)
 }
 
 // A place of these cells among tuples, along the chain of their hash.
-fn find_in<T: HasTuple>(
+fn find_in<T: HasTuples>(
     heads: &[usize],
     links: &[Link],
-    items: &[T],
+    items: &T,
     hash: u64,
     cells: &[Cell],
 ) -> Option<usize>
     requires chained { spec.AreChained heads.now (map (λ l. l.before) links.now) (map (λ l. l.hash) links.now) }
-    requires hashes { map (λ l. l.hash) links.now ≡ spec.hashes_of (map T.tuple items.now) }
+    requires hashes { map (λ l. l.hash) links.now ≡ spec.hashes_of (T.tuples items.now) }
     requires hash { hash ≡ spec.hash_of cells.now }
-    ensures found { IfSome result (λ k. slice_get (map T.tuple items.now) k ≡ Some cells.now) }
-    ensures none { result ≡ None → often cells.now (map T.tuple items.now) ≡ 0 }
+    ensures found { IfSome result (λ k. slice_get (T.tuples items.now) k ≡ Some cells.now) }
+    ensures none { result ≡ None → often cells.now (T.tuples items.now) ≡ 0 }
 {
     let mut place = heads[chain_of(hash, heads.len())];
     while place > 0 {
@@ -158,11 +160,11 @@ impl TupleIndex {
 
     /// A place of these cells, of this hash, among the tuples; none exactly where they don't stand
     /// among them.
-    pub(crate) fn find<T: HasTuple>(&self, items: &[T], hash: u64, cells: &[Cell]) -> Option<usize>
-        requires hashes { self.now ≡ spec.hashes_of (map T.tuple items.now) }
+    pub(crate) fn find<T: HasTuples>(&self, items: &T, hash: u64, cells: &[Cell]) -> Option<usize>
+        requires hashes { self.now ≡ spec.hashes_of (T.tuples items.now) }
         requires hash { hash ≡ spec.hash_of cells.now }
-        ensures found { IfSome result (λ k. slice_get (map T.tuple items.now) k ≡ Some cells.now) }
-        ensures none { result ≡ None → often cells.now (map T.tuple items.now) ≡ 0 }
+        ensures found { IfSome result (λ k. slice_get (T.tuples items.now) k ≡ Some cells.now) }
+        ensures none { result ≡ None → often cells.now (T.tuples items.now) ≡ 0 }
     {
         find_in(&self.heads, &self.links, items, hash, cells)
     }

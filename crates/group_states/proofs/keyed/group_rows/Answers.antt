@@ -12,7 +12,7 @@ pub loop-group-init : goal.loop-group-init
 loop-group-init c =
     let same = c.into_iter-group-iterator.ensures.into_iter_gives.0 in
     rw same (record {
-      rows = λ n folds rows all. c.in_ok-made.ensures.items;
+      rows = λ n folds rows all. c.new-made.ensures;
       whole = search rules;
       left = search rules;
     })
@@ -22,7 +22,7 @@ loop-group-preserved c =
     let steps = c.in-Some.ensures.steps in
     record {
       rows = λ n folds rows all.
-          made-more n folds rows c.loop-group.yielded c.in-Some.group c.loop-group.made.items c.push.new.self.items c.in_ok-group_row.field-0 c.in_ok-push.ensures.items c.in_ok-group_row.ensures.level c.in_ok-group_row.ensures.cells
+          made-more n folds rows c.loop-group.yielded c.in-Some.group c.loop-group.made c.push.new.self c.in_ok-group_row.field-0 c.in_ok-push.ensures.ok c.in_ok-group_row.ensures.level c.in_ok-group_row.ensures.cells
           (c.loop-group.invariant.rows n folds rows) all;
       whole = append_assoc c.loop-group.yielded (c.in-Some.group ∷ []) (into_iter_items c.next.new.self) ∙ ap (λ (gs : List KeyedStates). c.loop-group.yielded ++ gs) (sym steps.0) ∙ c.loop-group.invariant.whole;
       left = one_less c.in-Some.group (into_iter_items c.loop-group.group-iterator) (into_iter_items c.next.new.self) _ _ steps.0 steps.1 c.loop-group.invariant.left;

@@ -5,7 +5,7 @@ use Rattle.row_bag.proofs.aggregates.keep_cell.Goals as goal
 
 pub returns-else-is_none-clause-kept : goal.returns-else-is_none-clause-kept
 returns-else-is_none-clause-kept c =
-    kept-already c.find.result c.is_none.result c.args.cell.now c.args.kept.now.items c.is_none.ensures c.if-is_none.false (rw (c.as_slice.ensures.value, c.from_ref-tuple.ensures.value) at c.find.ensures.found)
+    kept-already c.find.result c.is_none.result c.args.cell.now c.args.kept.now.items c.is_none.ensures c.if-is_none.false (rw c.from_ref-tuple.ensures.value at c.find.ensures.found)
 
 pub returns-in_ok-push-2-clause-index : goal.returns-in_ok-push-2-clause-index
 returns-in_ok-push-2-clause-index c = grind (arith, common_steps)

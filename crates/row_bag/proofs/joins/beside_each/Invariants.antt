@@ -2,5 +2,5 @@ use Rattle.std.proofs.Common.{◌≡◌, ◌++◌, drop, map}
 use Rattle.row_bag.specs.Beside.{beside}
 use Rattle.row_bag.proofs.joins.beside_each.Given as goal
 
-abbrev pub invariant-loop-y : goal.invariant-loop-y
-invariant-loop-y l = l.made ++ map (beside l.left) (drop l.y-index l.ys) ≡ map (beside l.left) l.ys
+abbrev pub invariant-loop-i : goal.invariant-loop-i
+invariant-loop-i l = l.made ++ map (beside l.left) (drop l.i l.ys) ≡ map (beside l.left) l.ys

@@ -6,7 +6,7 @@ use Rattle.row_bag.proofs.matched.add_once.Goals as goal
 
 pub returns-in_ok-push_tuple-in-None-clause-once : goal.returns-in_ok-push_tuple-in-None-clause-once
 returns-in_ok-push_tuple-in-None-clause-once c = λ once t.
-    let none : often c.args.cells.now (map (λ x. x.now) c.args.tuples.now.items) ≡ 0 = rw c.as_slice.ensures.value at (c.in-None.ensures.none refl) in
+    let none : often c.args.cells.now (map (λ x. x.now) c.args.tuples.now.items) ≡ 0 = c.in-None.ensures.none refl in
     rw c.in_ok-push_tuple-in-None.ensures.tuples (different-push (map (λ x. x.now) c.args.tuples.now.items) c.args.cells.now none once t)
 
 pub returns-in_ok-push_tuple-in-None-clause-counts : goal.returns-in_ok-push_tuple-in-None-clause-counts
@@ -15,4 +15,4 @@ returns-in_ok-push_tuple-in-None-clause-counts c = λ t.
 
 pub returns-in-Some-clause-counts : goal.returns-in-Some-clause-counts
 returns-in-Some-clause-counts c = λ t.
-    added-found c.args.cells.now (map (λ x. x.now) c.args.tuples.now.items) _ (rw c.as_slice.ensures.value at c.in-Some.ensures.found) t
+    added-found c.args.cells.now (map (λ x. x.now) c.args.tuples.now.items) _ c.in-Some.ensures.found t

@@ -5,4 +5,4 @@ use Rattle.row_bag.proofs.matched.take.Goals as goal
 
 pub returns-in-None-clause-none : goal.returns-in-None-clause-none
 returns-in-None-clause-none c = λ none.
-    left-none (λ (l : Left). l.cells.now) (λ (l : Left). l.count) c.args.cells.now c.args.items.now.items (rw c.as_slice.ensures.value at (c.in-None.ensures.none refl))
+    left-none (λ (l : Left). l.cells.now) (λ (l : Left). l.count) c.args.cells.now c.args.items.now.items (c.in-None.ensures.none refl)

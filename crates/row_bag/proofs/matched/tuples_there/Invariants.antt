@@ -4,5 +4,5 @@ use Rattle.row_bag.specs.Matched.{often}
 use Rattle.row_bag.specs.Sets.{multiplicity, same_cells}
 use Rattle.row_bag.proofs.matched.tuples_there.Given as goal
 
-abbrev pub invariant-loop-row : goal.invariant-loop-row
-invariant-loop-row l = (c : List Cell) → often c (map (λ x. x.now) l.tuples.items) + multiplicity same_cells c (drop l.row-index l.rows) ≡ multiplicity same_cells c l.rows
+abbrev pub invariant-loop-i : goal.invariant-loop-i
+invariant-loop-i l = (c : List Cell) → often c (map (λ x. x.now) l.tuples.items) + multiplicity same_cells c (drop l.i l.rows) ≡ multiplicity same_cells c l.rows

@@ -4,6 +4,6 @@ use Rattle.row_bag.proofs.sets.distinct.Goals as goal
 
 pub returns : goal.returns
 returns c =
-    let levels = rw (c.new-kept.ensures.items, c.into_rows-rows.ensures) at c.in_ok-keep_each.ensures.levels in
-    let once = rw c.new-kept.ensures.items at c.in_ok-keep_each.ensures.once in
-    rw (c.those_there.ensures, c.from_rows.ensures) (kept-whole c.keep_each.new.kept.items c.args.bag levels (once (λ t. omega arith)))
+    let levels = rw c.new-kept.ensures at c.in_ok-keep_each.ensures.levels in
+    let once = rw c.new-kept.ensures at c.in_ok-keep_each.ensures.once in
+    rw c.those_there.ensures (kept-whole c.keep_each.new.kept c.args.bag levels (once (λ t. omega arith)))

@@ -3,5 +3,5 @@ use Rattle.row_bag.specs.Subqueries as u
 use Rattle.sql_value.specs.Truths.{or}
 use Rattle.row_bag.proofs.subqueries.compare_any.Given as goal
 
-abbrev pub invariant-loop-row : goal.invariant-loop-row
-invariant-loop-row l = or l.truth (u.compare_any l.op l.x (drop l.row-index l.rows)) ≡ u.compare_any l.op l.x l.rows
+abbrev pub invariant-loop-i : goal.invariant-loop-i
+invariant-loop-i l = or l.truth (u.compare_any l.op l.x (drop l.i l.rows)) ≡ u.compare_any l.op l.x l.rows

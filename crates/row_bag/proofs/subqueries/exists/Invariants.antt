@@ -3,5 +3,5 @@ use Rattle.row_bag.specs.Subqueries as u
 use Rattle.sql_value.specs.Truths.{or}
 use Rattle.row_bag.proofs.subqueries.exists.Given as goal
 
-abbrev pub invariant-loop-row : goal.invariant-loop-row
-invariant-loop-row l = or l.truth (u.exists (drop l.row-index l.rows)) ≡ u.exists l.rows
+abbrev pub invariant-loop-i : goal.invariant-loop-i
+invariant-loop-i l = or l.truth (u.exists (drop l.i l.rows)) ≡ u.exists l.rows

@@ -1,0 +1,10 @@
+use Rattle.std.proofs.Common.{◌+◌, arith, drop}
+use Rattle.std.proofs.lemmas.Grind.{common_steps}
+use Rattle.row_bag.specs.RowRefs.{lent}
+use Rattle.row_bag.proofs.Places.{from-place}
+use Rattle.row_bag.proofs.Products.{counts-row}
+use Rattle.row_bag.proofs.aggregates.count_rows.Goals as goal
+
+pub loop-i-preserved : goal.loop-i-preserved
+loop-i-preserved c =
+    grind (arith, common_steps, from-place c.args.rows.now c.loop-i.i (lent c.at.result) c.at.ensures, counts-row (lent c.at.result) (drop (c.loop-i.i + 1) c.args.rows.now))

@@ -1,0 +1,11 @@
+use Rattle.std.proofs.Common.{arith}
+use Rattle.std.proofs.lemmas.Grind.{common_steps}
+use Rattle.row_bag.specs.RowRefs.{lent}
+use Rattle.row_bag.proofs.Places.{from-place}
+use Rattle.row_bag.proofs.subqueries.any_there_from.Goals as goal
+
+pub loop-i-preserved : goal.loop-i-preserved
+loop-i-preserved c = grind (arith, common_steps, from-place c.args.rows.now c.loop-i.i (lent c.at.result) c.at.ensures)
+
+pub returns-then-is_there : goal.returns-then-is_there
+returns-then-is_there c = grind (arith, common_steps, from-place c.args.rows.now c.loop-i.i (lent c.at.result) c.at.ensures)
